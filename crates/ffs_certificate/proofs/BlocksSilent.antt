@@ -1,0 +1,118 @@
+-- Phases 1 and 1b tell nothing exactly where every fragment has one owner at most.
+use Rattle.std.proofs.Common.{inl, inr, ◌≡◌, ℕ, ◌+◌, ◌≤◌, Bool, true, false, arith, refl, sym, ap, ◌∙◌, List, [], ◌∷◌, ◌++◌, length, ◌↔◌}
+use Rattle.std.specs.Prelude.{nat_lt, ◌&&◌, map, replicate}
+use Rattle.std.specs.List.{list_all, range_with_len}
+use Rattle.std.proofs.lemmas.Bool.{and_parts, and_from, cases_lt, lt-ltb, le-ltb}
+use Rattle.std.proofs.lemmas.List.{length-replicate, get_or-replicate, get_or_past}
+use Rattle.std.proofs.lemmas.List.FromFn.{get_or-map-range_with_len, length-map-range_with_len}
+use Rattle.std.proofs.lemmas.List.Folds.{list_all-append}
+use Rattle.ffs_volume.specs.declared.Layout.{Layout}
+use Rattle.ffs_volume.specs.declared.Step.{Step}
+use Rattle.ffs_volume.specs.declared.Step.TheVariants.{Run, Tail, Gap}
+use Rattle.ffs_volume.specs.Areas.{is_ok, is_reserved}
+use Rattle.ffs_volume.specs.Owners.{Owner, fragments_of, all_steps}
+use Rattle.ffs_volume.specs.Claims.{is_set, reserved_map, no_claims}
+use Rattle.ffs_volume.specs.BlockCheck.{Offer, first_offers, owners_kept, phase1_lines, phase1b_lines}
+use Rattle.ffs_volume.specs.BlocksRight.{run_in_range, times, BlocksRight}
+use Rattle.ffs_certificate.proofs.BlockLaws.{is_nil, nil_append, run_ok}
+use Rattle.ffs_certificate.proofs.OwnerLaws.{owners_say, owners_claim, Quiet, owners_parts, owners_from}
+use Rattle.ffs_certificate.proofs.FreshLaws.{bit, are_below, fresh_new, new_fresh, times_past}
+
+pub nil_is : {X : Type 0} (xs : List X) → is_nil xs ≡ true → xs ≡ []
+nil_is [] e = refl
+nil_is (x ∷ xs) e = absurd (cc)
+
+pub is_nil_from : {X : Type 0} (xs : List X) → xs ≡ [] → is_nil xs ≡ true
+is_nil_from xs e = ap is_nil e
+
+ok_below : (v : Layout) (fs : List ℕ) → list_all (is_ok v) fs ≡ true → are_below v.size fs ≡ true
+unfolding is_ok
+ok_below v [] e = refl
+ok_below v (f ∷ fs) e =
+    let a = and_parts (is_ok v f) (list_all (is_ok v) fs) e in
+    and_from (nat_lt f v.size) _ (and_parts (nat_lt f v.size) _ a.0).0 (ok_below v fs a.1)
+
+-- the fragments of Runs in range are below the size
+pub runs_below : (v : Layout) (steps : List Step) → list_all (run_in_range v) steps ≡ true → are_below v.size (fragments_of steps) ≡ true
+runs_below v [] e = refl
+runs_below v (Run start len block ∷ steps) e =
+    let a = and_parts (run_in_range v (Run start len block)) (list_all (run_in_range v) steps) e in
+    list_all-append (λ f. nat_lt f v.size) (range_with_len start len) (fragments_of steps)
+    ∙ and_from _ _ (ok_below v (range_with_len start len) (run_ok v start len a.0)) (runs_below v steps a.1)
+runs_below v (Tail ∷ steps) e = runs_below v steps e
+runs_below v (Gap ∷ steps) e = runs_below v steps e
+
+pub reserved_length : (v : Layout) → length (reserved_map v) ≡ v.size
+unfolding reserved_map
+reserved_length v = length-map-range_with_len (is_reserved v) 0 v.size
+
+pub reserved_bit : (v : Layout) (f : ℕ) → is_set (reserved_map v) f ≡ (nat_lt f v.size && is_reserved v f)
+unfolding reserved_map
+reserved_bit v f = elim (cases_lt f v.size) [
+    inl below ↦ rw (get_or-map-range_with_len (is_reserved v) 0 v.size f f false below (omega arith), lt-ltb f v.size below) refl
+  | inr past ↦ rw (get_or_past (map (is_reserved v) (range_with_len 0 v.size)) f false (rw (length-map-range_with_len (is_reserved v) 0 v.size) past), le-ltb f v.size past) refl
+  ]
+
+-- no bit of a list of unset bits is set
+pub unset : (n f : ℕ) → is_set (replicate n false) f ≡ false
+unset n f = elim (cases_lt f n) [
+    inl below ↦ get_or-replicate n f false false below
+  | inr past ↦ get_or_past (replicate n false) f false (rw (length-replicate n false) past)
+  ]
+
+-- where no fragment is marked, no offer is told
+none_first : (dup : List Bool) (os : List Offer) → ((f : ℕ) → is_set dup f ≡ false) → first_offers dup os ≡ []
+none_first dup [] h = refl
+none_first dup (o ∷ os) h = rw (h o.fragment) (none_first dup os h)
+
+pub quiet_right : (v : Layout) (os : List Owner) → Quiet v (reserved_map v) os → BlocksRight v os
+quiet_right v os q =
+    let below = runs_below v (all_steps os) q.in_range in
+    let long = reserved_length v in
+    let new = fresh_new (reserved_map v) (fragments_of (all_steps os)) (rw long below) q.new in
+    record {
+      classes = q.classes; in_range = q.in_range; no_tail = q.no_tail;
+      alone = λ f. omega (arith, new f);
+      unreserved = λ f e. elim (cases_lt f v.size) [
+          inl low ↦
+            let set : bit (is_set (reserved_map v) f) ≡ 1 = ap bit (reserved_bit v f ∙ and_from _ _ (lt-ltb f v.size low) e) in
+            omega (arith, new f)
+        | inr past ↦ times_past v.size f _ below past
+        ];
+      counted = q.counted
+    }
+
+pub right_quiet : (v : Layout) (os : List Owner) → BlocksRight v os → Quiet v (reserved_map v) os
+right_quiet v os r =
+    let below = runs_below v (all_steps os) r.in_range in
+    let long = reserved_length v in
+    record {
+      classes = r.classes; in_range = r.in_range; no_tail = r.no_tail;
+      new = new_fresh (reserved_map v) (fragments_of (all_steps os)) (rw long below) (λ f. one f (is_set (reserved_map v) f) refl);
+      counted = r.counted
+    }
+  where
+    one : (f : ℕ) (b : Bool) → is_set (reserved_map v) f ≡ b → times f (fragments_of (all_steps os)) + bit b ≤ 1
+    one f false e = omega (arith, r.alone f)
+    one f true e =
+        let held = and_parts (nat_lt f v.size) (is_reserved v f) (sym (reserved_bit v f) ∙ e) in
+        omega (arith, r.unreserved f held.1)
+
+-- no line of phase 1, or of phases 1 and 1b
+pub phase1_silent : (v : Layout) (os : List Owner) → (phase1_lines v os ≡ []) ↔ BlocksRight v os
+unfolding phase1_lines no_claims
+phase1_silent v os = (
+    (λ e. quiet_right v os (owners_parts v (reserved_map v) os (sym (owners_say v (no_claims v) os) ∙ ap is_nil e))),
+    (λ r. nil_is _ (owners_say v (no_claims v) os ∙ owners_from v (reserved_map v) os (right_quiet v os r))))
+
+pub phase1b_silent : (v : Layout) (os : List Owner) → BlocksRight v os → phase1b_lines v os ≡ []
+unfolding phase1b_lines no_claims
+phase1b_silent v os r =
+    let left = owners_claim v (no_claims v) os (owners_from v (reserved_map v) os (right_quiet v os r)) in
+    none_first _ (owners_kept v (no_claims v) os) (λ f. ap (λ d. is_set d f) left.1 ∙ unset v.size f)
+
+pub blocks_silent : (v : Layout) (os : List Owner) → (phase1_lines v os ++ phase1b_lines v os ≡ []) ↔ BlocksRight v os
+blocks_silent v os = (
+    (λ e. let parts = and_parts (is_nil (phase1_lines v os)) (is_nil (phase1b_lines v os)) (sym (nil_append (phase1_lines v os) (phase1b_lines v os)) ∙ ap is_nil e) in
+      (phase1_silent v os).0 (nil_is _ parts.0)),
+    (λ r. let first = (phase1_silent v os).1 r in let second = phase1b_silent v os r in rw (first, second) refl))

@@ -1,0 +1,69 @@
+-- When the messages on connectivity and on references are silent.
+use Rattle.std.specs.Prelude.{◌≡◌, ◌≢◌, ℕ, zero, suc, ◌+◌, ◌<◌, ◌≤◌, ◌==◌, Bool, true, false, not, ◌&&◌, nat_lt, nat_le, refl, ℤ, pos, negsuc, List, [], ◌∷◌, ◌++◌, if◌then◌else◌}
+use Rattle.std.proofs.Common.{arith, sym, ◌∙◌, ap, subst, inl, inr}
+use Rattle.std.proofs.lemmas.Bool.{both_ways, cases_Bool, eqb-true, eqb-false, eq-eqb, ne_eqb, ltb-true, and_parts, and_from, not-true, not-false, not_from_true, not_from_false, false_from_ne_true}
+use Rattle.ffs_volume.specs.declared.Attr.{Attr}
+use Rattle.ffs_volume.specs.Roles.{Volume, is_dir, is_inode, is_allocated, is_some_inode, is_suspect, references}
+use Rattle.ffs_volume.specs.Messages.{NameMessage, told, lines_below, unref_dir, dead_marked, dead_zero, unref, unref_zero, link_count}
+use Rattle.ffs_volume.specs.PathnameCheck.{attributes, label_of}
+use Rattle.ffs_volume.specs.Connectivity.{is_dead, is_cut_off, connectivity_lines}
+use Rattle.ffs_volume.specs.Numbers.{is_count}
+use Rattle.ffs_volume.specs.ReferenceCheck.{dead_told, unref_told, inode_lines, counted_lines, reference_lines}
+use Rattle.ffs_certificate.proofs.Silence.{nil-left, nil-right, nil-both, told-quiet, told-silent, if-quiet, if-silent, then-quiet, then-silent, lines-quiet, lines-silent}
+
+pub connectivity-quiet : (v : Volume) → connectivity_lines v ≡ [] → (d : ℕ) → d < v.count → is_cut_off v d ≡ false
+unfolding connectivity_lines
+connectivity-quiet v h d l = told-quiet _ (unref_dir (attributes v d)) (lines-quiet (λ d. told (is_cut_off v d) (unref_dir (attributes v d))) v.count h d l)
+
+pub connectivity-silent : (v : Volume) → ((d : ℕ) → is_cut_off v d ≡ false) → connectivity_lines v ≡ []
+unfolding connectivity_lines
+connectivity-silent v h = lines-silent (λ d. told (is_cut_off v d) (unref_dir (attributes v d))) v.count (λ d l. told-silent _ (unref_dir (attributes v d)) (h d))
+
+-- an inode that is allocated
+pub record IsCountQuiet (v : Volume) (i : ℕ) : Type 0 where
+  pub alive : is_dead v i ≡ false
+  pub some : references v i ≢ 0
+  pub same : is_count (v.inode i).nlink (references v i) ≡ true
+
+either-some : (b : Bool) (m n : NameMessage) → (if b then m ∷ [] else n ∷ []) ≡ [] → ⊥
+either-some true m n h = absurd (cc)
+either-some false m n h = absurd (cc)
+
+-- the first of two is never silent
+first-quiet : (b : Bool) (xs ys : List NameMessage) → (xs ≡ [] → ⊥) → (if b then xs else ys) ≡ [] → (b ≡ false) × (ys ≡ [])
+first-quiet true xs ys n h = absurd (n h)
+first-quiet false xs ys n h = (refl, h)
+
+count-quiet : (v : Volume) (i : ℕ) → inode_lines v i ≡ [] → IsCountQuiet v i
+unfolding inode_lines
+count-quiet v i h =
+  let m = link_count (label_of (v.class i)) (attributes v i) (v.inode i).nlink (references v i) in
+  let a = first-quiet (is_dead v i) (dead_told v i) _ (either-some (v.marked i) (dead_marked (label_of (v.class i)) (attributes v i)) (dead_zero (attributes v i))) h in
+  let b = first-quiet (references v i == 0) (unref_told v i) _ (either-some (is_count (v.inode i).nlink 0) (unref_zero (label_of (v.class i)) (attributes v i)) (unref (label_of (v.class i)) (attributes v i))) a.1 in
+  record { alive = a.0; some = eqb-false (references v i) 0 b.0; same = not-false _ (told-quiet _ m b.1) }
+
+count-silent : (v : Volume) (i : ℕ) → IsCountQuiet v i → inode_lines v i ≡ []
+unfolding inode_lines
+count-silent v i q =
+  let m = link_count (label_of (v.class i)) (attributes v i) (v.inode i).nlink (references v i) in
+  if-silent (is_dead v i) (dead_told v i) _ q.alive
+    (if-silent (references v i == 0) (unref_told v i) _ (ne_eqb (references v i) 0 q.some) (told-silent _ m (not_from_true _ q.same)))
+
+pub some-below : (v : Volume) (i : ℕ) → is_some_inode v i ≡ true → i < v.count
+some-below v i h = ltb-true i v.count (and_parts (nat_le 2 i) (nat_lt i v.count) (and_parts (is_inode v i) (is_allocated (v.class i)) h).0).1
+
+pub reference-quiet : (v : Volume) → reference_lines v ≡ [] → (i : ℕ) → is_some_inode v i ≡ true → IsCountQuiet v i
+unfolding reference_lines
+reference-quiet v h i k = count-quiet v i (then-quiet (is_some_inode v i) (inode_lines v i) (lines-quiet (counted_lines v) v.count h i (some-below v i k)) k)
+
+pub reference-silent : (v : Volume) → ((i : ℕ) → is_some_inode v i ≡ true → IsCountQuiet v i) → reference_lines v ≡ []
+unfolding reference_lines
+reference-silent v h = lines-silent (counted_lines v) v.count (λ i l. then-silent (is_some_inode v i) (inode_lines v i) (λ k. count-silent v i (h i k)))
+
+-- a count and a number
+pub count-true : (z : ℤ) (n : ℕ) → is_count z n ≡ true → z ≡ pos n
+count-true (pos k) n h = ap pos (eqb-true k n h)
+count-true (negsuc k) n h = absurd (cc)
+
+pub count-from : (z : ℤ) (n : ℕ) → z ≡ pos n → is_count z n ≡ true
+count-from z n h = subst (λ x. is_count x n ≡ true) (sym h) (eq-eqb n n refl)

@@ -1,0 +1,23 @@
+-- The certificate of the checks of directories.
+use Rattle.std.specs.Prelude.{◌≡◌, ◌↔◌, List, []}
+use Rattle.ffs_volume.specs.Roles.{Volume}
+use Rattle.ffs_volume.specs.PathnameCheck.{pathname_lines}
+use Rattle.ffs_volume.specs.Connectivity.{connectivity_lines}
+use Rattle.ffs_volume.specs.ReferenceCheck.{reference_lines}
+use Rattle.ffs_volume.specs.DirectoriesRight.{AreDirsRight, AreLinksRight, AreCountsRight, IsVolume, IsUnmarked}
+
+-- the three checks tell nothing
+pub record IsSilent (v : Volume) : Type 0 where
+  pub pathnames : pathname_lines v ≡ []
+  pub connectivity : connectivity_lines v ≡ []
+  pub references : reference_lines v ≡ []
+
+-- the directories are consistent
+pub record AreDirectoriesRight (v : Volume) : Type 0 where
+  pub dirs : AreDirsRight v
+  pub links : AreLinksRight v
+  pub counts : AreCountsRight v
+
+-- with nothing marked, the checks are silent exactly where the directories are consistent
+abbrev pub SilentIsRight : Type 0
+SilentIsRight = (v : Volume) → IsVolume v → IsUnmarked v → IsSilent v ↔ AreDirectoriesRight v

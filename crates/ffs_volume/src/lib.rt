@@ -1,0 +1,185 @@
+//! What a UFS1 volume is: definitions that contracts cite (`specs/`), and the types that they share with code.
+#![tactic(auto)]
+
+/// The order of the bytes in the numbers of an image.
+#[derive(Clone, Copy, Debug, PartialEq, Eq)]
+pub enum Order {
+    Little,
+    Big,
+}
+
+/// Why a superblock is refused.
+#[derive(Clone, Copy, Debug, PartialEq, Eq)]
+pub enum SuperFault {
+    CannotRead { sector: u64 },
+    Magic,
+    InodeFormat,
+    Ncg,
+    Cpg,
+    Ncyl,
+    TooLarge,
+    Shape,
+    Short,
+    Disagree,
+}
+
+/// The numbers of a superblock that say where a volume's parts lie.
+#[derive(Clone, Copy, Debug, PartialEq, Eq)]
+pub struct Layout {
+    pub order: Order,
+    pub sblkno: u32,
+    pub cblkno: u32,
+    pub iblkno: u32,
+    pub dblkno: u32,
+    pub cgoffset: i32,
+    pub cgmask: u32,
+    pub size: u32,
+    pub dsize: u32,
+    pub ncg: u32,
+    pub bsize: u32,
+    pub fsize: u32,
+    pub frag: u32,
+    pub sbsize: u32,
+    pub nindir: u32,
+    pub inopb: u32,
+    pub csaddr: u32,
+    pub cssize: u32,
+    pub cgsize: u32,
+    pub ncyl: u32,
+    pub cpg: u32,
+    pub ipg: u32,
+    pub fpg: u32,
+    pub maxsymlinklen: u32,
+    pub inodefmt: u32,
+    pub postblformat: u32,
+}
+
+/// The places of the numbers in which the last copy of a superblock has to agree.
+pub const LAYOUT_PLACES: [u16; 25] = [
+    8, 12, 16, 20, 24, 28, 36, 40, 44, 48, 52, 56, 104, 116, 120, 152, 156, 160, 176, 180, 184, 188,
+    1324, 1356, 1372,
+];
+
+/// One step of a walk over the addresses of an inode.
+#[derive(Clone, Copy, Debug, PartialEq, Eq)]
+pub enum Step {
+    Run {
+        start: u32,
+        len: u32,
+        block: Option<u64>,
+    },
+    Tail,
+    Gap,
+}
+
+/// What the types of inodes come to.
+#[derive(Clone, Copy, Debug, PartialEq, Eq)]
+pub enum Class {
+    Free,
+    Partial,
+    Unknown,
+    File,
+    Dir,
+}
+
+/// The numbers of an inode.
+#[derive(Clone, Copy, Debug)]
+pub struct Inode {
+    pub mode: u16,
+    pub nlink: i16,
+    pub size: u64,
+    pub mtime: i32,
+    pub addresses: [u32; 15],
+    pub blocks: u32,
+    pub uid: u32,
+}
+
+/// How a run ends.
+#[derive(Clone, Copy, Debug, PartialEq, Eq)]
+pub enum End {
+    /// No defect was told.
+    Consistent,
+    /// A defect was told.
+    Defects,
+    /// The superblock is refused.
+    Refused(SuperFault),
+    /// Inode 2 is no directory, and the run stopped behind the pathname check.
+    RootStop,
+    /// A read at this sector failed.
+    ReadFault(u64),
+    /// A write failed.
+    WriteFault,
+    /// The memory of the check was refused.
+    NoMemory,
+}
+
+impl End {
+    ghost use Rattle.ffs_volume.specs.Report.{status_of};
+    ghost use Rattle.std.specs.Prelude.{◌≡◌};
+
+    /// The exit status of a run that ends so: 0 consistent, 1 defects, 8 for a run that isn't completed (fsck(8)).
+    pub fn status(&self) -> u8
+        ensures { result ≡ status_of self.now }
+    {
+        match self {
+            End::Consistent => 0,
+            End::Defects => 1,
+            _ => 8,
+        }
+    }
+}
+
+/// A message of the block check or of the check of cylinder groups.
+#[derive(Clone, Copy, Debug)]
+pub enum BlockMessage {
+    PartAlloc { inode: u32 },
+    UnknownType { inode: u32 },
+    Bad { fragment: u32, inode: u32 },
+    Dup { fragment: u32, inode: u32 },
+    ManyBad { inode: u32 },
+    ManyDup { inode: u32 },
+    PartTrunc { inode: u32 },
+    BlockCount { inode: u32, found: u32, right: u64 },
+    GroupMagic { group: u32 },
+    FreeCounts,
+    MapsWrong,
+    GroupSums,
+}
+
+/// What messages show of an inode.
+#[derive(Clone, Copy, Debug, PartialEq, Eq)]
+pub struct Attr {
+    pub number: u32,
+    pub uid: u32,
+    pub mode: u16,
+    /// In bytes.
+    pub size: u64,
+    /// In seconds.
+    pub mtime: i32,
+}
+
+/// What an entry of a directory is there for.
+#[derive(Clone, Copy, Debug, PartialEq, Eq)]
+pub enum Role {
+    Empty,
+    Dot,
+    Dotdot,
+    Extra,
+    Plain,
+}
+
+/// How a message calls an inode.
+#[derive(Clone, Copy, Debug, PartialEq, Eq)]
+pub enum Label {
+    Dir,
+    File,
+    Name,
+}
+
+ghost use Rattle.ffs_volume.specs.Directory.{AreLongest};
+
+/// The entries of a chunk are the longest list of well formed entries from its start.
+pub fn entries_are_longest()
+    ensures { AreLongest }
+{
+}
