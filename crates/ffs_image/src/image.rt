@@ -1,0 +1,37 @@
+// What an image is, by the reads that it answers.
+ghost use Rattle.std.specs.Prelude.{◌≡◌, ◌+◌, ◌/◌, ◌≤◌, length, OnOk, IfErr};
+ghost use Rattle.ffs_image.specs.Device.{Device, Faulted, IsAt, IsSized};
+
+/// The sector of the read that failed.
+#[derive(Clone, Copy, Debug, PartialEq, Eq, thiserror::Error)]
+#[error("the read at sector {sector} failed")]
+pub struct ImageFault {
+    pub sector: u64,
+}
+
+/// An image that is read at a place. It is never written.
+pub trait Image {
+    ghost device: { Self → Device };
+
+    /// Its size in bytes.
+    fn size(&self) -> u64
+        ensures { result ≡ (device self.now).size };
+
+    /// How many reads have failed, up to the last u64.
+    fn failures(&self) -> u64
+        ensures { result ≡ (device self.now).failures };
+
+    /// The sector of the last read that failed, and 0 before one.
+    fn failed(&self) -> u64
+        ensures { result ≡ (device self.now).failed };
+
+    /// Fills the buffer with the bytes at a place. After an `Err` the buffer's content is open.
+    fn read_at(&mut self, at: u64, buf: &mut [u8]) -> Result<(), ImageFault>
+        requires { at + length buf.old ≤ (device self.old).size }
+        ensures bytes { OnOk result (IsAt (device self.old) at buf.new) }
+        ensures ok { OnOk result (device self.new ≡ device self.old) }
+        ensures err { IfErr result (λ fault. Faulted (device self.old) (device self.new) fault.sector) }
+        ensures sector { IfErr result (λ fault. fault.sector ≡ at / 512) };
+
+    ghost sized: { (image : Self) → IsSized (device image) };
+}
