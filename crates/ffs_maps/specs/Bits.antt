@@ -1,0 +1,25 @@
+use Rattle.std.specs.Prelude.{◌≡◌, ℕ, zero, suc, ◌+◌, ◌/◌, ◌%◌, ◌<◌, Bool, true, false, List, map, nat_eq, slice_index, slice_set}
+use Rattle.std.specs.List.{range_with_len, slice_index_or}
+use Rattle.std.specs.Int.{bit_at}
+use Rattle.ffs_maps.specs.declared.FragmentMap.{FragmentMap}
+
+-- the bit of a fragment, in words of 64 bits
+abbrev pub is_bit : List ℕ → ℕ → Bool
+is_bit words f = nat_eq (bit_at (slice_index words (f / 64)) (f % 64)) 1
+
+-- the first bits of some words
+unfoldable pub bits_of_words : List ℕ → ℕ → List Bool
+bits_of_words words size = map (is_bit words) (range_with_len 0 size)
+
+-- a map's bits, one for each fragment
+abbrev pub bits_of : FragmentMap → List Bool
+bits_of m = bits_of_words m.words.items m.size
+
+-- so many bits from a place on are set
+abbrev pub set_run : List Bool → ℕ → ℕ → List Bool
+set_run bits start zero = bits
+set_run bits start (suc len) = set_run (slice_set bits start true) (start + 1) len
+
+-- so many bits from a place on are clear
+abbrev pub AreClear : List Bool → ℕ → ℕ → Type 0
+AreClear bits start len = (k : ℕ) → k < len → slice_index_or bits (start + k) false ≡ false

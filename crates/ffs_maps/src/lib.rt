@@ -1,0 +1,103 @@
+//! A bit for each fragment of a volume, in words of 64.
+#![tactic(auto)]
+
+ghost use Rattle.std.specs.Prelude.{◌≡◌, ◌+◌, ◌*◌, ◌<◌, ◌≤◌, vec_len, length, IfOk, IsTrue, true, false, slice_set, replicate};
+ghost use Rattle.std.specs.List.{slice_index_or};
+ghost use Rattle.std.specs.Int.{div_ceil};
+
+use std::alloc::{AllocError, Global};
+
+/// A bit for each fragment, in words of 64.
+#[derive(Drop)]
+pub struct FragmentMap {
+    words: Vec<u64>,
+    /// How many fragments.
+    pub size: u32,
+    ghost enough: { vec_len words ≡ div_ceil size 64 },
+}
+
+impl FragmentMap {
+    ghost use Rattle.ffs_maps.specs.Bits.{bits_of, set_run, AreClear};
+
+    /// A map with no bit set.
+    pub fn new(alloc: Global, size: u32) -> Result<FragmentMap, AllocError>
+        ensures size { IfOk result (λ m. m.size ≡ size) }
+        ensures bits { IfOk result (λ m. bits_of m ≡ replicate size false) }
+    {
+        let words = vec![in alloc; 0u64; size.div_ceil(64) as usize]?;
+        Ok(FragmentMap { words, size })
+    }
+
+    /// How many bytes its words take.
+    pub fn held(&self) -> u64
+        ensures { result ≡ 8 * div_ceil self.now.size 64 }
+    {
+        8 * self.words.len() as u64
+    }
+
+    /// Whether the bit of a fragment is set.
+    pub fn get(&self, fragment: u32) -> bool
+        requires { fragment < self.now.size }
+        ensures { result ≡ slice_index_or (bits_of self.now) fragment false }
+    {
+        let words = self.words.as_slice();
+        let word = words[fragment as usize / 64];
+        word >> (fragment % 64) & 1 == 1
+    }
+
+    /// Sets the bit of a fragment.
+    pub fn set(&mut self, fragment: u32)
+        requires { fragment < self.old.size }
+        ensures size { self.new.size ≡ self.old.size }
+        ensures bits { bits_of self.new ≡ slice_set (bits_of self.old) fragment true }
+    {
+        let index = fragment as usize / 64;
+        let word = self.words[index];
+        self.words[index] = word | 1 << (fragment % 64);
+    }
+
+    /// Clears the bit of a fragment.
+    pub fn clear(&mut self, fragment: u32)
+        requires { fragment < self.old.size }
+        ensures size { self.new.size ≡ self.old.size }
+        ensures bits { bits_of self.new ≡ slice_set (bits_of self.old) fragment false }
+    {
+        let index = fragment as usize / 64;
+        let word = self.words[index];
+        self.words[index] = word & !(1 << (fragment % 64));
+    }
+
+    /// Sets the bits of a run.
+    pub fn set_run(&mut self, start: u32, len: u32)
+        requires { start + len ≤ self.old.size }
+        ensures size { self.new.size ≡ self.old.size }
+        ensures bits { bits_of self.new ≡ set_run (bits_of self.old) start len }
+    {
+        for place in 0..len {
+            self.set(start + place);
+        }
+    }
+
+    /// Sets the bits of a run that lies in one word, where none of them is set.
+    pub fn claim(&mut self, start: u32, len: u32) -> bool
+        requires some { 0 < len }
+        requires below { start + len ≤ self.old.size }
+        ensures size { self.new.size ≡ self.old.size }
+        ensures clear { IsTrue result → AreClear (bits_of self.old) start len }
+        ensures claimed { IsTrue result → bits_of self.new ≡ set_run (bits_of self.old) start len }
+        ensures kept { result ≡ false → self.new ≡ self.old }
+    {
+        let low = start % 64;
+        if len > 64 - low {
+            return false;
+        }
+        let index = start as usize / 64;
+        let mask = (u64::MAX >> (64 - len)) << low;
+        let word = self.words[index];
+        if word & mask != 0 {
+            return false;
+        }
+        self.words[index] = word | mask;
+        true
+    }
+}
