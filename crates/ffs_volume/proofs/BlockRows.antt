@@ -22,9 +22,32 @@ use Rattle.ffs_volume.specs.GroupCheck.{phase5_lines}
 
 volume : Layout
 volume = record {
-  order = Little; sblkno = 16; cblkno = 24; iblkno = 28; dblkno = 32; cgoffset = pos 0; cgmask = 4294967295; size = 128; dsize = 95; ncg = 1;
-  bsize = 4096; fsize = 1024; frag = 4; sbsize = 2048; nindir = 1024; inopb = 32; csaddr = 32; cssize = 1024; cgsize = 1024; ncyl = 1; cpg = 1;
-  ipg = 32; fpg = 128; maxsymlinklen = 60; inodefmt = 2; postblformat = 1
+  order = Little;
+  sblkno = 16;
+  cblkno = 24;
+  iblkno = 28;
+  dblkno = 32;
+  cgoffset = pos 0;
+  cgmask = 4294967295;
+  size = 128;
+  dsize = 95;
+  ncg = 1;
+  bsize = 4096;
+  fsize = 1024;
+  frag = 4;
+  sbsize = 2048;
+  nindir = 1024;
+  inopb = 32;
+  csaddr = 32;
+  cssize = 1024;
+  cgsize = 1024;
+  ncyl = 1;
+  cpg = 1;
+  ipg = 32;
+  fpg = 128;
+  maxsymlinklen = 60;
+  inodefmt = 2;
+  postblformat = 1;
 }
 
 root : Owner
@@ -84,7 +107,7 @@ z n = replicate n 0
 -- the base image without its superblocks and its root chunk
 abbrev group : List ℕ
 group = z 4 ++ (w 590421 ++ (z 4 ++ (w 0 ++ (z 4 ++ (w 128 ++ (w 1 ++ (w 22 ++ (w 29 ++ (w 6 ++ (z 12 ++ (w 0 ++ (w 0 ++ (w 0 ++ (w 2 ++ (z 16 ++ (z 8 ++ (w 168 ++ (w 172
-  ++ (z 68 ++ ((7 ∷ 0 ∷ 0 ∷ 0 ∷ 0 ∷ 0 ∷ 0 ∷ 0 ∷ 238 ∷ []) ++ replicate 11 255))))))))))))))))))))
+    ++ (z 68 ++ ((7 ∷ 0 ∷ 0 ∷ 0 ∷ 0 ∷ 0 ∷ 0 ∷ 0 ∷ 238 ∷ []) ++ replicate 11 255))))))))))))))))))))
 
 abbrev inode2 : List ℕ
 inode2 = (237 ∷ 65 ∷ 2 ∷ 0 ∷ []) ++ (z 4 ++ (w 512 ++ (w 0 ++ (z 24 ++ (w 36 ++ (z 60 ++ (w 2 ++ z 20)))))))
@@ -121,7 +144,7 @@ totals5 = refl
 
 -- eleven dup offers: the eleventh is told and kept, and nothing behind it; no block count
 many_dup : phase1_lines volume (root ∷ file 3 (Run 5 4 (Some 0) ∷ Run 5 4 (Some 1) ∷ Run 5 4 (Some 2) ∷ Tail ∷ Run 200 4 (Some 3) ∷ []) 7 ∷ [])
-  ≡ Dup 5 3 ∷ Dup 6 3 ∷ Dup 7 3 ∷ Dup 8 3 ∷ Dup 5 3 ∷ Dup 6 3 ∷ Dup 7 3 ∷ Dup 8 3 ∷ Dup 5 3 ∷ Dup 6 3 ∷ Dup 7 3 ∷ ManyDup 3 ∷ []
+    ≡ Dup 5 3 ∷ Dup 6 3 ∷ Dup 7 3 ∷ Dup 8 3 ∷ Dup 5 3 ∷ Dup 6 3 ∷ Dup 7 3 ∷ Dup 8 3 ∷ Dup 5 3 ∷ Dup 6 3 ∷ Dup 7 3 ∷ ManyDup 3 ∷ []
 unfolding volume root file phase1_lines no_claims reserved_map is_reserved is_ok is_in_range is_kept any_below all_below shift cgbase cgstart
 many_dup = refl
 

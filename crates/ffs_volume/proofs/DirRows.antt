@@ -90,8 +90,14 @@ class_in n i = if nat_lt i 2 then Free else (if nat_lt i n then Dir else Free)
 
 -- directories 2 to n - 1, of 512 bytes each, with these link counts and entries
 volume : ℕ → (ℕ → ℕ) → (ℕ → List Entry) → Volume
-volume n links es = record { count = n; class = class_in n; inode = λ i. record { mode = 16877; nlink = pos (links i); size = 512; uid = 0; mtime = pos 0; addresses = []; blocks = 0 };
-  gap = λ i. false; chunks = λ i. whole (es i); marked = λ i. false }
+volume n links es = record {
+  count = n;
+  class = class_in n;
+  inode = λ i. record { mode = 16877; nlink = pos (links i); size = 512; uid = 0; mtime = pos 0; addresses = []; blocks = 0 };
+  gap = λ i. false;
+  chunks = λ i. whole (es i);
+  marked = λ i. false;
+}
 
 -- the base image's root alone
 base : Volume
@@ -186,8 +192,14 @@ no_root : pathname_lines (record base { class = λ i. Free }) ≡ root_none ∷ 
 unfolding volume base root_lines pathname_lines
 no_root = refl
 
-empty_dir : reference_lines (record { count = 4; class = class_in 4; inode = λ i. record { mode = 16877; nlink = pos (if nat_eq i 2 then 2 else 0); size = if nat_eq i 2 then 512 else 0; uid = 0; mtime = pos 0; addresses = []; blocks = 0 };
-  gap = λ i. false; chunks = λ i. if nat_eq i 2 then whole (dots 2 2 []) else []; marked = λ i. false })
-  ≡ dead_zero (record { number = 3; uid = 0; mode = 16877; size = 0; mtime = pos 0 }) ∷ []
+empty_dir : reference_lines (record {
+  count = 4;
+  class = class_in 4;
+  inode = λ i. record { mode = 16877; nlink = pos (if nat_eq i 2 then 2 else 0); size = if nat_eq i 2 then 512 else 0; uid = 0; mtime = pos 0; addresses = []; blocks = 0 };
+  gap = λ i. false;
+  chunks = λ i. if nat_eq i 2 then whole (dots 2 2 []) else [];
+  marked = λ i. false;
+})
+    ≡ dead_zero (record { number = 3; uid = 0; mode = 16877; size = 0; mtime = pos 0 }) ∷ []
 unfolding entry dots whole class_in role_of seen_from seen_in references_below first_below earliest lines_below attributes inode_lines reference_lines
 empty_dir = refl

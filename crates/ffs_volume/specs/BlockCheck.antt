@@ -26,9 +26,9 @@ sectors v fragments = fragments * (v.fsize / 512)
 -- the blocks field of a file or directory that wasn't cut, against its kept offers
 abbrev pub count_lines : Layout → Owner → Claims → List BlockMessage
 count_lines v o end =
-  if is_settled o.class && (is_open end && not (o.blocks == sectors v end.kept))
-  then BlockCount o.number o.blocks (sectors v end.kept) ∷ []
-  else []
+    if is_settled o.class && (is_open end && not (o.blocks == sectors v end.kept))
+    then BlockCount o.number o.blocks (sectors v end.kept) ∷ []
+    else []
 
 abbrev pub owner_lines : Layout → Claims → Owner → List BlockMessage
 owner_lines v s o = class_lines o.number o.class ++ (steps_lines v o.number (next_inode s) o.steps ++ count_lines v o (after_owner v s o))
@@ -45,13 +45,13 @@ pub record Offer : Type 0 where
 abbrev pub offers_kept : Layout → ℕ → Claims → List ℕ → List Offer
 offers_kept v inode s [] = []
 offers_kept v inode s (f ∷ fs) =
-  (if nat_lt s.dups 11 then record { inode = inode; fragment = f } ∷ [] else []) ++ offers_kept v inode (after_offer v s f) fs
+    (if nat_lt s.dups 11 then record { inode = inode; fragment = f } ∷ [] else []) ++ offers_kept v inode (after_offer v s f) fs
 
 abbrev pub run_kept : Layout → ℕ → Claims → ℕ → ℕ → List Offer
 run_kept v inode s start len =
-  if is_in_range v start len
-  then offers_kept v inode (record s { runs = s.runs + 1 }) (range_with_len start len)
-  else (if s.bad == 10 then []
+    if is_in_range v start len
+    then offers_kept v inode (record s { runs = s.runs + 1 }) (range_with_len start len)
+    else (if s.bad == 10 then []
     else offers_kept v inode (record s { runs = s.runs + 1; bad = s.bad + 1 }) (range_with_len start len))
 
 abbrev pub step_kept : Layout → ℕ → Claims → Step → List Offer
@@ -71,7 +71,7 @@ owners_kept v s (o ∷ os) = steps_kept v o.number (next_inode s) o.steps ++ own
 abbrev pub first_offers : List Bool → List Offer → List BlockMessage
 first_offers dup [] = []
 first_offers dup (o ∷ os) =
-  if is_set dup o.fragment then Dup o.fragment o.inode ∷ first_offers (slice_set dup o.fragment false) os else first_offers dup os
+    if is_set dup o.fragment then Dup o.fragment o.inode ∷ first_offers (slice_set dup o.fragment false) os else first_offers dup os
 
 unfoldable pub phase1_lines : Layout → List Owner → List BlockMessage
 phase1_lines v os = owners_lines v (no_claims v) os
@@ -99,5 +99,5 @@ is_unknown_class _ = false
 
 unfoldable pub is_marked : Layout → List ℕ → ℕ → Bool
 is_marked v image x =
-  is_unknown_class (class_of v (inode_of v image x))
-  || list_any (blames x) (phase1_lines v (owners_of v image) ++ phase1b_lines v (owners_of v image))
+    is_unknown_class (class_of v (inode_of v image x))
+    || list_any (blames x) (phase1_lines v (owners_of v image) ++ phase1b_lines v (owners_of v image))

@@ -42,19 +42,19 @@ is_open s = nat_lt s.bad 11 && nat_lt s.dups 11
 -- one offer, which is kept unless eleven were dup before it
 abbrev pub after_offer : Layout → Claims → ℕ → Claims
 after_offer v s f =
-  if nat_lt s.dups 11
-  then (if is_ok v f
+    if nat_lt s.dups 11
+    then (if is_ok v f
     then (if is_set s.used f
-      then record s { kept = s.kept + 1; dups = s.dups + 1; dup = slice_set s.dup f true }
-      else record s { kept = s.kept + 1; used = slice_set s.used f true })
+    then record s { kept = s.kept + 1; dups = s.dups + 1; dup = slice_set s.dup f true }
+    else record s { kept = s.kept + 1; used = slice_set s.used f true })
     else record s { kept = s.kept + 1 })
-  else s
+    else s
 
 abbrev pub offer_lines : Layout → ℕ → Claims → ℕ → List BlockMessage
 offer_lines v inode s f =
-  if nat_lt s.dups 11 && (is_ok v f && is_set s.used f)
-  then Dup f inode ∷ (if s.dups == 10 then ManyDup inode ∷ [] else [])
-  else []
+    if nat_lt s.dups 11 && (is_ok v f && is_set s.used f)
+    then Dup f inode ∷ (if s.dups == 10 then ManyDup inode ∷ [] else [])
+    else []
 
 abbrev pub after_offers : Layout → Claims → List ℕ → Claims
 after_offers v s [] = s
@@ -67,17 +67,17 @@ offers_lines v inode s (f ∷ fs) = offer_lines v inode s f ++ offers_lines v in
 -- a Run is seen; it is bad unless it is in range; the eleventh bad Run offers nothing
 abbrev pub after_run : Layout → Claims → ℕ → ℕ → Claims
 after_run v s start len =
-  if is_in_range v start len
-  then after_offers v (record s { runs = s.runs + 1 }) (range_with_len start len)
-  else (if s.bad == 10
+    if is_in_range v start len
+    then after_offers v (record s { runs = s.runs + 1 }) (range_with_len start len)
+    else (if s.bad == 10
     then record s { runs = s.runs + 1; bad = s.bad + 1 }
     else after_offers v (record s { runs = s.runs + 1; bad = s.bad + 1 }) (range_with_len start len))
 
 abbrev pub run_lines : Layout → ℕ → Claims → ℕ → ℕ → List BlockMessage
 run_lines v inode s start len =
-  if is_in_range v start len
-  then offers_lines v inode (record s { runs = s.runs + 1 }) (range_with_len start len)
-  else Bad start inode ∷ (if s.bad == 10 then ManyBad inode ∷ []
+    if is_in_range v start len
+    then offers_lines v inode (record s { runs = s.runs + 1 }) (range_with_len start len)
+    else Bad start inode ∷ (if s.bad == 10 then ManyBad inode ∷ []
     else offers_lines v inode (record s { runs = s.runs + 1; bad = s.bad + 1 }) (range_with_len start len))
 
 abbrev pub after_step : Layout → Claims → Step → Claims

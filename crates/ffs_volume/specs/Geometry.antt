@@ -60,10 +60,19 @@ sizes_hold v e =
     let ff = fragment_size v.fsize f in
     let kk = fragment_count v.frag k in
     record {
-      bsize_low = bb.0; bsize_high = bb.1; fsize_low = ff.0; fsize_high = ff.1; frag_low = kk.0; frag_high = kk.1;
-      block = grind (arith, nat_tests); nindir = grind (arith, nat_tests); inopb = grind (arith, nat_tests);
-      some_inodes = grind (arith, nat_tests); inode_blocks = grind (arith, nat_tests);
-      some_fragments = grind (arith, nat_tests); whole_blocks = grind (arith, nat_tests)
+      bsize_low = bb.0;
+      bsize_high = bb.1;
+      fsize_low = ff.0;
+      fsize_high = ff.1;
+      frag_low = kk.0;
+      frag_high = kk.1;
+      block = grind (arith, nat_tests);
+      nindir = grind (arith, nat_tests);
+      inopb = grind (arith, nat_tests);
+      some_inodes = grind (arith, nat_tests);
+      inode_blocks = grind (arith, nat_tests);
+      some_fragments = grind (arith, nat_tests);
+      whole_blocks = grind (arith, nat_tests);
     }
 
 -- the facts of the numbers that stand alone
@@ -79,8 +88,13 @@ pub record HasNumbers (v : Layout) : Type 0 where
 pub numbers_hold : (v : Layout) → are_numbers v ≡ true → HasNumbers v
 unfolding are_numbers
 numbers_hold v e = record {
-  some_data = grind (arith, nat_tests); short_links = grind (arith, nat_tests); sbsize_low = grind (arith, nat_tests);
-  size_above = grind (arith, nat_tests); size_within = grind (arith, nat_tests); size_below = grind (arith, nat_tests); inodes_below = grind (arith, nat_tests)
+  some_data = grind (arith, nat_tests);
+  short_links = grind (arith, nat_tests);
+  sbsize_low = grind (arith, nat_tests);
+  size_above = grind (arith, nat_tests);
+  size_within = grind (arith, nat_tests);
+  size_below = grind (arith, nat_tests);
+  inodes_below = grind (arith, nat_tests);
 }
 
 -- the parts of a group, one after the other
@@ -95,8 +109,12 @@ pub record HasParts (v : Layout) : Type 0 where
 pub parts_hold : (v : Layout) → are_parts v ≡ true → HasParts v
 unfolding are_parts
 parts_hold v e = record {
-  super_above = grind (arith, nat_tests); super_fits = grind (arith, nat_tests); block_fits = grind (arith, nat_tests);
-  inodes_fit = grind (arith, nat_tests); cgsize_low = grind (arith, nat_tests); cgsize_high = grind (arith, nat_tests)
+  super_above = grind (arith, nat_tests);
+  super_fits = grind (arith, nat_tests);
+  block_fits = grind (arith, nat_tests);
+  inodes_fit = grind (arith, nat_tests);
+  cgsize_low = grind (arith, nat_tests);
+  cgsize_high = grind (arith, nat_tests);
 }
 
 -- a group begins at its base or above, and its data before its end
@@ -125,8 +143,10 @@ pub record HasSummary (v : Layout) : Type 0 where
 pub summary_holds : (v : Layout) → is_summary v ≡ true → HasSummary v
 unfolding is_summary
 summary_holds v e = record {
-  csaddr = grind (arith, nat_tests); room = grind (arith, nat_tests);
-  summary_in_group = grind (arith, nat_tests); summary_in_size = grind (arith, nat_tests)
+  csaddr = grind (arith, nat_tests);
+  room = grind (arith, nat_tests);
+  summary_in_group = grind (arith, nat_tests);
+  summary_in_size = grind (arith, nat_tests);
 }
 
 -- what passes below n passes at each
@@ -136,8 +156,8 @@ all_below-at zero i test all h = absurd (omega arith)
 all_below-at (suc n) i test all h =
     let both = and_parts (test n) (all_below n test) all in
     elim (cases_lt i n) [
-      inl less ↦ all_below-at n i test both.1 less
-    | inr more ↦ let same : n ≡ i = omega arith in rw (← same) both.0
+      | inl less ↦ all_below-at n i test both.1 less
+      | inr more ↦ let same : n ≡ i = omega arith in rw (← same) both.0
     ]
 
 -- an accepted layout
@@ -174,13 +194,19 @@ geometry_holds v n e =
     let g = no_fault_if (nat_lt 8192 v.sbsize) _ _ f.1 in
     let h = no_fault (is_shaped v) _ _ g.1 in
     let k = no_fault_if (nat_lt n (v.size * v.fsize)) _ _ h.1 in
-    let s = shape_holds v h.0 in
-    (record {
-      shaped = h.0;
-      some_groups = grind (arith, nat_tests, b.0); some_cylinders = grind (arith, nat_tests, d.0);
-      ncyl_within = grind (arith, nat_tests, f.0); ncyl_above = grind (arith, nat_tests, f.0);
-      sbsize_high = grind (arith, nat_tests, g.0);
-      sizes = sizes_hold v s.0; numbers = numbers_hold v s.1; parts = parts_hold v s.2;
-      groups = λ c lt. group_holds v c (all_below-at v.ncg c (is_group v) s.3 lt);
-      summary = summary_holds v s.4
-    }, grind (arith, nat_tests, k.0))
+    let s = shape_holds v h.0 in (
+      record {
+        shaped = h.0;
+        some_groups = grind (arith, nat_tests, b.0);
+        some_cylinders = grind (arith, nat_tests, d.0);
+        ncyl_within = grind (arith, nat_tests, f.0);
+        ncyl_above = grind (arith, nat_tests, f.0);
+        sbsize_high = grind (arith, nat_tests, g.0);
+        sizes = sizes_hold v s.0;
+        numbers = numbers_hold v s.1;
+        parts = parts_hold v s.2;
+        groups = λ c lt. group_holds v c (all_below-at v.ncg c (is_group v) s.3 lt);
+        summary = summary_holds v s.4;
+      },
+      grind (arith, nat_tests, k.0),
+    )

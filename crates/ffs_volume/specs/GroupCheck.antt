@@ -17,19 +17,19 @@ unless false m = m ∷ []
 
 abbrev pub whole_group_lines : Layout → List ℕ → (ℕ → Bool) → (ℕ → Class) → ℕ → List BlockMessage
 whole_group_lines v image free class c =
-  unless (is_record v free class c (summary_record v image c)) FreeCounts
-  ++ (unless (are_places v (group_block v image c) && are_maps v free class c (group_block v image c)) MapsWrong
-  ++ unless (are_sums v free class c (group_block v image c)) GroupSums)
+    unless (is_record v free class c (summary_record v image c)) FreeCounts
+    ++ (unless (are_places v (group_block v image c) && are_maps v free class c (group_block v image c)) MapsWrong
+    ++ unless (are_sums v free class c (group_block v image c)) GroupSums)
 
 -- what a group's records say, all of it
 abbrev pub group_lines : Layout → List ℕ → (ℕ → Bool) → (ℕ → Class) → ℕ → List BlockMessage
 group_lines v image free class c =
-  if is_magic v (group_block v image c) then whole_group_lines v image free class c
-  else GroupMagic c ∷ unless (is_record v free class c (summary_record v image c)) FreeCounts
+    if is_magic v (group_block v image c) then whole_group_lines v image free class c
+    else GroupMagic c ∷ unless (is_record v free class c (summary_record v image c)) FreeCounts
 
 abbrev pub all_group_lines : Layout → List ℕ → List ℤ → (ℕ → Bool) → (ℕ → Class) → List BlockMessage
 all_group_lines v image totals free class =
-  flat_map (group_lines v image free class) (group_numbers v) ++ unless (is_total v free class totals) FreeCounts
+    flat_map (group_lines v image free class) (group_numbers v) ++ unless (is_total v free class totals) FreeCounts
 
 -- which of the messages that come once were told
 pub record Told : Type 0 where

@@ -62,12 +62,12 @@ right_summary v free class c = record {
   dirs = count_by (is_dir class) (group_inodes v c);
   blocks = count_by (λ b. is_whole (block_bits v free c b)) (block_numbers v);
   inodes = count_by (λ x. not (is_used_inode class x)) (group_inodes v c);
-  fragments = sum_by (λ b. if is_whole (block_bits v free c b) then 0 else count_by (λ f. f) (block_bits v free c b)) (block_numbers v)
+  fragments = sum_by (λ b. if is_whole (block_bits v free c b) then 0 else count_by (λ f. f) (block_bits v free c b)) (block_numbers v);
 }
 
 unfoldable pub right_frsum : Layout → (ℕ → Bool) → ℕ → ℕ → ℕ
 right_frsum v free c k =
-  sum_by (λ b. if is_whole (block_bits v free c b) then 0 else count_by (λ n. n == k) (free_runs 0 (block_bits v free c b))) (block_numbers v)
+    sum_by (λ b. if is_whole (block_bits v free c b) then 0 else count_by (λ n. n == k) (free_runs 0 (block_bits v free c b))) (block_numbers v)
 
 abbrev pub group_numbers : Layout → List ℕ
 group_numbers v = range_with_len 0 v.ncg
@@ -77,7 +77,7 @@ right_total v free class = record {
   dirs = sum_by (λ c. (right_summary v free class c).dirs) (group_numbers v);
   blocks = sum_by (λ c. (right_summary v free class c).blocks) (group_numbers v);
   inodes = sum_by (λ c. (right_summary v free class c).inodes) (group_numbers v);
-  fragments = sum_by (λ c. (right_summary v free class c).fragments) (group_numbers v)
+  fragments = sum_by (λ c. (right_summary v free class c).fragments) (group_numbers v);
 }
 
 -- what the image has: a group block, its summary record, a summary, bits of a map
@@ -90,8 +90,8 @@ summary_record v image c = piece (summary_place v c) 16 image
 -- the counts are below 2^31, so that the bytes of a count are those of the signed number
 abbrev pub has_summary : Layout → ℕ → List ℕ → Summary → Bool
 has_summary v place bytes s =
-  u32_at v.order place bytes == s.dirs && (u32_at v.order (place + 4) bytes == s.blocks
-  && (u32_at v.order (place + 8) bytes == s.inodes && u32_at v.order (place + 12) bytes == s.fragments))
+    u32_at v.order place bytes == s.dirs && (u32_at v.order (place + 4) bytes == s.blocks
+    && (u32_at v.order (place + 8) bytes == s.inodes && u32_at v.order (place + 12) bytes == s.fragments))
 
 abbrev pub bit_at : List ℕ → ℕ → ℕ → Bool
 bit_at block place k = (slice_index block (place + k / 8) / 2 ^ (k % 8)) % 2 == 1
@@ -112,21 +112,21 @@ fragment_map_place v block = u32_at v.order 96 block
 -- the maps end within the group block
 unfoldable pub are_places : Layout → List ℕ → Bool
 are_places v block =
-  nat_le (inode_map_place v block + div_ceil v.ipg 8) v.cgsize && nat_le (fragment_map_place v block + div_ceil v.fpg 8) v.cgsize
+    nat_le (inode_map_place v block + div_ceil v.ipg 8) v.cgsize && nat_le (fragment_map_place v block + div_ceil v.fpg 8) v.cgsize
 
 unfoldable pub is_magic : Layout → List ℕ → Bool
 is_magic v block = u32_at v.order 4 block == 590421
 
 unfoldable pub are_maps : Layout → (ℕ → Bool) → (ℕ → Class) → ℕ → List ℕ → Bool
 are_maps v free class c block =
-  has_bits block (inode_map_place v block) v.ipg (λ k. is_used_inode class (c * v.ipg + k))
-  && has_bits block (fragment_map_place v block) (group_size v c) (λ k. free (cgbase v c + k))
+    has_bits block (inode_map_place v block) v.ipg (λ k. is_used_inode class (c * v.ipg + k))
+    && has_bits block (fragment_map_place v block) (group_size v c) (λ k. free (cgbase v c + k))
 
 unfoldable pub are_sums : Layout → (ℕ → Bool) → (ℕ → Class) → ℕ → List ℕ → Bool
 are_sums v free class c block =
-  u32_at v.order 12 block == c && (u32_at v.order 20 block == group_size v c
-  && (has_summary v 24 block (right_summary v free class c)
-  && all_below 8 (λ k. u32_at v.order (52 + 4 * k) block == right_frsum v free c k)))
+    u32_at v.order 12 block == c && (u32_at v.order 20 block == group_size v c
+    && (has_summary v 24 block (right_summary v free class c)
+    && all_below 8 (λ k. u32_at v.order (52 + 4 * k) block == right_frsum v free c k)))
 
 unfoldable pub is_record : Layout → (ℕ → Bool) → (ℕ → Class) → ℕ → List ℕ → Bool
 is_record v free class c bytes = has_summary v 0 bytes (right_summary v free class c)
@@ -134,8 +134,8 @@ is_record v free class c bytes = has_summary v 0 bytes (right_summary v free cla
 -- the totals of a superblock, in the order of a summary
 abbrev pub has_totals : List ℤ → Summary → Bool
 has_totals total s =
-  is_count (slice_index_or total 0 (pos 0)) s.dirs && (is_count (slice_index_or total 1 (pos 0)) s.blocks
-  && (is_count (slice_index_or total 2 (pos 0)) s.inodes && is_count (slice_index_or total 3 (pos 0)) s.fragments))
+    is_count (slice_index_or total 0 (pos 0)) s.dirs && (is_count (slice_index_or total 1 (pos 0)) s.blocks
+    && (is_count (slice_index_or total 2 (pos 0)) s.inodes && is_count (slice_index_or total 3 (pos 0)) s.fragments))
 
 unfoldable pub is_total : Layout → (ℕ → Bool) → (ℕ → Class) → List ℤ → Bool
 is_total v free class total = has_totals total (right_total v free class)

@@ -31,7 +31,7 @@ unless_message false message = message ∷ []
 -- the defects of the settings
 unfoldable pub setting_lines : Superblock → List Message
 setting_lines s =
-  unless_message (is_optimization s) optimization ++ unless_message (is_minfree s) (minfree s.minfree)
+    unless_message (is_optimization s) optimization ++ unless_message (is_minfree s) (minfree s.minfree)
 
 -- what is told of an accepted superblock
 abbrev pub super_lines : Superblock → List Message

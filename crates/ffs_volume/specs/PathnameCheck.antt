@@ -52,22 +52,22 @@ are_sound chunks = list_all (λ c. c.sound) chunks
 
 unfoldable pub shape_lines : Volume → ℕ → List NameMessage
 shape_lines v d =
-  told (is_short v d) (dir_short (attributes v d) (dir_path (graph_of v) d))
-  ++ (told (is_broken v d) (dir_length (dir_path (graph_of v) d) (v.inode d).size)
-  ++ (told (v.gap d) (dir_empty (dir_path (graph_of v) d))
-  ++ told (not (are_sound (v.chunks d))) (dir_corrupt (attributes v d) (dir_path (graph_of v) d))))
+    told (is_short v d) (dir_short (attributes v d) (dir_path (graph_of v) d))
+    ++ (told (is_broken v d) (dir_length (dir_path (graph_of v) d) (v.inode d).size)
+    ++ (told (v.gap d) (dir_empty (dir_path (graph_of v) d))
+    ++ told (not (are_sound (v.chunks d))) (dir_corrupt (attributes v d) (dir_path (graph_of v) d))))
 
 -- where `.` isn't there: the message by the entry that stands first
 abbrev pub missing_dot_told : Attr → List ℕ → Option Entry → List NameMessage
 missing_dot_told about path None = missing_dot about path ∷ []
 missing_dot_told about path (Some e) =
-  if is_live e && not (is_two_dots e.name) then missing_dot_first about path e.name ∷ [] else missing_dot about path ∷ []
+    if is_live e && not (is_two_dots e.name) then missing_dot_first about path e.name ∷ [] else missing_dot about path ∷ []
 
 abbrev pub dot_told : Volume → ℕ → Option Entry → List NameMessage
 dot_told v d None = missing_dot_told (attributes v d) (dir_path (graph_of v) d) (start_entry v d 0)
 dot_told v d (Some e) =
-  told (not (e.number == d)) (number_dot (attributes v d) (dir_path (graph_of v) d))
-  ++ told (not (e.kind == 4)) (kind_dot (attributes v d) (dir_path (graph_of v) d))
+    told (not (e.number == d)) (number_dot (attributes v d) (dir_path (graph_of v) d))
+    ++ told (not (e.kind == 4)) (kind_dot (attributes v d) (dir_path (graph_of v) d))
 
 unfoldable pub dot_lines : Volume → ℕ → List NameMessage
 dot_lines v d = dot_told v d (dot v d)
@@ -76,7 +76,7 @@ dot_lines v d = dot_told v d (dot v d)
 abbrev pub missing_dotdot_told : Attr → List ℕ → Option Entry → List NameMessage
 missing_dotdot_told about path None = missing_dotdot about path ∷ []
 missing_dotdot_told about path (Some e) =
-  if is_live e && not (is_one_dot e.name) then missing_dotdot_second about path e.name ∷ [] else missing_dotdot about path ∷ []
+    if is_live e && not (is_one_dot e.name) then missing_dotdot_second about path e.name ∷ [] else missing_dotdot about path ∷ []
 
 -- a directory has a parent, and the number isn't it
 abbrev pub is_other : Option ℕ → ℕ → Bool
@@ -86,8 +86,8 @@ is_other (Some s) n = not (s == n)
 abbrev pub dotdot_told : Volume → ℕ → Option Entry → List NameMessage
 dotdot_told v d None = missing_dotdot_told (attributes v d) (dir_path (graph_of v) d) (start_entry v d 1)
 dotdot_told v d (Some e) =
-  told (is_other (parent (graph_of v) d) e.number) (number_dotdot (attributes v d) (dir_path (graph_of v) d))
-  ++ told (not (e.kind == 4)) (kind_dotdot (attributes v d) (dir_path (graph_of v) d))
+    told (is_other (parent (graph_of v) d) e.number) (number_dotdot (attributes v d) (dir_path (graph_of v) d))
+    ++ told (not (e.kind == 4)) (kind_dotdot (attributes v d) (dir_path (graph_of v) d))
 
 unfoldable pub dotdot_lines : Volume → ℕ → List NameMessage
 dotdot_lines v d = dotdot_told v d (dotdot v d)
@@ -115,17 +115,17 @@ is_other_kind v e = not (is_unknown (v.class e.number)) && not (e.kind == (v.ino
 
 unfoldable pub named_lines : Volume → ℕ → ℕ → Entry → List NameMessage
 named_lines v s j e =
-  told (tells_suspect v s j e.number) (suspect_told v e.number (entry_path (graph_of v) s e.name))
-  ++ (told (is_extraneous v s j e.number) (extraneous (entry_path (graph_of v) s e.name) (dir_path (graph_of v) e.number))
-  ++ told (is_other_kind v e) (kind_entry (attributes v e.number) (label_of (v.class e.number)) (entry_path (graph_of v) s e.name)))
+    told (tells_suspect v s j e.number) (suspect_told v e.number (entry_path (graph_of v) s e.name))
+    ++ (told (is_extraneous v s j e.number) (extraneous (entry_path (graph_of v) s e.name) (dir_path (graph_of v) e.number))
+    ++ told (is_other_kind v e) (kind_entry (attributes v e.number) (label_of (v.class e.number)) (entry_path (graph_of v) s e.name)))
 
 unfoldable pub plain_lines : Volume → ℕ → ℕ → Entry → List NameMessage
 plain_lines v s j e =
-  if not (nat_lt e.number v.count) then out_of_range e.number (entry_path (graph_of v) s e.name) ∷ []
-  else (if is_bad_whiteout e then whiteout e.number (entry_path (graph_of v) s e.name) ∷ []
-  else (if e.number == 1 then []
-  else (if not (is_allocated (v.class e.number)) then unallocated (attributes v e.number) (entry_path (graph_of v) s e.name) ∷ []
-  else named_lines v s j e)))
+    if not (nat_lt e.number v.count) then out_of_range e.number (entry_path (graph_of v) s e.name) ∷ []
+    else (if is_bad_whiteout e then whiteout e.number (entry_path (graph_of v) s e.name) ∷ []
+    else (if e.number == 1 then []
+    else (if not (is_allocated (v.class e.number)) then unallocated (attributes v e.number) (entry_path (graph_of v) s e.name) ∷ []
+    else named_lines v s j e)))
 
 abbrev pub seen_told : Volume → ℕ → ℕ → Role → Entry → List NameMessage
 seen_told v s j Empty e = []

@@ -11,14 +11,14 @@ dead_told v i = if v.marked i then dead_marked (label_of (v.class i)) (attribute
 
 abbrev pub unref_told : Volume → ℕ → List NameMessage
 unref_told v i =
-  if is_count (v.inode i).nlink 0 then unref_zero (label_of (v.class i)) (attributes v i) ∷ []
-  else unref (label_of (v.class i)) (attributes v i) ∷ []
+    if is_count (v.inode i).nlink 0 then unref_zero (label_of (v.class i)) (attributes v i) ∷ []
+    else unref (label_of (v.class i)) (attributes v i) ∷ []
 
 unfoldable pub inode_lines : Volume → ℕ → List NameMessage
 inode_lines v i =
-  if is_dead v i then dead_told v i
-  else (if references v i == 0 then unref_told v i
-  else told (not (is_count (v.inode i).nlink (references v i))) (link_count (label_of (v.class i)) (attributes v i) (v.inode i).nlink (references v i)))
+    if is_dead v i then dead_told v i
+    else (if references v i == 0 then unref_told v i
+    else told (not (is_count (v.inode i).nlink (references v i))) (link_count (label_of (v.class i)) (attributes v i) (v.inode i).nlink (references v i)))
 
 abbrev pub counted_lines : Volume → ℕ → List NameMessage
 counted_lines v i = if is_some_inode v i then inode_lines v i else []

@@ -31,7 +31,7 @@ claim_count v image = (after_owners v (no_claims v) (owners_of v image)).runs
 -- how many fragments are claimed beside the reserved ones
 unfoldable pub used_count : Layout → List ℕ → ℕ
 used_count v image =
-  count_by (λ f. is_set (after_owners v (no_claims v) (owners_of v image)).used f && not (is_reserved v f)) (range_with_len 0 v.size)
+    count_by (λ f. is_set (after_owners v (no_claims v) (owners_of v image)).used f && not (is_reserved v f)) (range_with_len 0 v.size)
 
 -- the superblock's own counts of free fragments and of free blocks
 abbrev pub free_frags : Superblock → ℤ
@@ -43,7 +43,7 @@ free_blocks s = slice_index_or s.cstotal 1 (pos 0)
 -- the summary: free fragments in all, and the share of the loose ones in tenths of a percent, rounded toward zero
 abbrev pub summary_of : Superblock → ℕ → ℕ → Message
 summary_of s files used =
-  summary files used (free_frags s +ℤ pos s.layout.frag *ℤ free_blocks s) (free_frags s) (free_blocks s)
+    summary files used (free_frags s +ℤ pos s.layout.frag *ℤ free_blocks s) (free_frags s) (free_blocks s)
     (int_div (free_frags s *ℤ pos 1000) (pos s.layout.dsize))
 
 -- the second look at the blocks
@@ -53,23 +53,23 @@ rescan_lines v image = if has_rescan v (owners_of v image) then phase1b ∷ map 
 -- the group check, of the fragments that no kept offer claims
 abbrev pub group_check_lines : List ℕ → Superblock → List Message
 group_check_lines image s =
-  map of_blocks (phase5_lines s.layout image s.cstotal (is_free_of_kept s.layout (owners_of s.layout image)) (class_at s.layout image))
+    map of_blocks (phase5_lines s.layout image s.cstotal (is_free_of_kept s.layout (owners_of s.layout image)) (class_at s.layout image))
 
 -- phases 3 to 5 and the summary
 unfoldable pub later_lines : List ℕ → Superblock → List Message
 later_lines image s =
-  phase3 ∷ (map of_names (connectivity_lines (volume_of s.layout image))
-  ++ (phase4 ∷ (map of_names (reference_lines (volume_of s.layout image))
-  ++ (phase5 ∷ (group_check_lines image s
-  ++ (summary_of s (file_count s.layout image) (used_count s.layout image) ∷ []))))))
+    phase3 ∷ (map of_names (connectivity_lines (volume_of s.layout image))
+    ++ (phase4 ∷ (map of_names (reference_lines (volume_of s.layout image))
+    ++ (phase5 ∷ (group_check_lines image s
+    ++ (summary_of s (file_count s.layout image) (used_count s.layout image) ∷ []))))))
 
 -- all that follows the opening; the run stops behind phase 2 where inode 2 isn't a directory
 unfoldable pub text_lines : List ℕ → Superblock → List Message
 text_lines image s =
-  phase1 ∷ (map of_blocks (phase1_lines s.layout (owners_of s.layout image))
-  ++ (rescan_lines s.layout image
-  ++ (phase2 ∷ (map of_names (pathname_lines (volume_of s.layout image))
-  ++ (if goes_on (volume_of s.layout image) then later_lines image s else [])))))
+    phase1 ∷ (map of_blocks (phase1_lines s.layout (owners_of s.layout image))
+    ++ (rescan_lines s.layout image
+    ++ (phase2 ∷ (map of_names (pathname_lines (volume_of s.layout image))
+    ++ (if goes_on (volume_of s.layout image) then later_lines image s else [])))))
 
 -- the report on an accepted superblock, behind the opening line
 unfoldable pub report_lines : List ℕ → Superblock → List Message

@@ -67,10 +67,10 @@ is_two_dots (a ∷ b ∷ c ∷ rest) = false
 -- the role of an entry at an index of its chunk; `first` says that the chunk stands at the start of the file
 unfoldable pub role_of : Bool → ℕ → Entry → Role
 role_of first index e =
-  if not (is_live e) then Empty
-  else (if is_one_dot e.name then (if first && (index == 0) then Dot else Extra)
-  else (if is_two_dots e.name then (if first && (index == 1) then Dotdot else Extra)
-  else Plain))
+    if not (is_live e) then Empty
+    else (if is_one_dot e.name then (if first && (index == 0) then Dot else Extra)
+    else (if is_two_dots e.name then (if first && (index == 1) then Dotdot else Extra)
+    else Plain))
 
 abbrev pub is_plain : Role → Bool
 is_plain Plain = true

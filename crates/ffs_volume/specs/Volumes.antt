@@ -40,7 +40,7 @@ volume_with v image steps marked = record {
   inode = inode_of v image;
   gap = λ d. has_gap (steps d);
   chunks = λ d. chunks_of (reading_of v image d) (is_in_range v) (steps d);
-  marked = marked
+  marked = marked;
 }
 
 -- the volume that the checks see: of the kept steps

@@ -56,8 +56,8 @@ pub struct Layout {
 
 /// The places of the numbers in which the last copy of a superblock has to agree.
 pub const LAYOUT_PLACES: [u16; 25] = [
-    8, 12, 16, 20, 24, 28, 36, 40, 44, 48, 52, 56, 104, 116, 120, 152, 156, 160, 176, 180, 184, 188,
-    1324, 1356, 1372,
+    8, 12, 16, 20, 24, 28, 36, 40, 44, 48, 52, 56, 104, 116, 120, 152, 156, 160, 176, 180, 184,
+    188, 1324, 1356, 1372,
 ];
 
 /// One step of a walk over the addresses of an inode.
@@ -181,5 +181,4 @@ ghost use Rattle.ffs_volume.specs.Directory.{AreLongest};
 /// The entries of a chunk are the longest list of well formed entries from its start.
 pub fn entries_are_longest()
     ensures { AreLongest }
-{
-}
+{}
