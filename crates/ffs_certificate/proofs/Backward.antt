@@ -1,25 +1,25 @@
 -- Where the directories are consistent, the checks are silent.
-use Rattle.std.specs.Prelude.{◌≡◌, ◌≢◌, ℕ, zero, suc, ◌+◌, ◌<◌, ◌≤◌, ◌==◌, ◌/◌, ◌%◌, Bool, true, false, not, ◌&&◌, ◌||◌, nat_lt, nat_le, refl, List, [], ◌∷◌, Option, Some, None, IsSomeAnd}
-use Rattle.std.proofs.Common.{arith, sym, ◌∙◌, ap, subst, inl, inr, ◌⊎◌}
-use Rattle.std.proofs.lemmas.Bool.{both_ways, cases_Bool, cases_eq, eqb-true, eqb-false, eq-eqb, ne_eqb, leb-true, ltb-true, lt-ltb, le-ltb, le-leb, and_parts, and_from, or_cases, or_parts, or_from, or_right, not-true, not-false, not_from_true, not_from_false, false_from_ne_true}
-use Rattle.ffs_volume.specs.declared.Role.TheVariants.{Empty, Dot, Dotdot, Extra, Plain}
+use Rattle.std.specs.Prelude.{◌≡◌, ◌≢◌, ℕ, ◌==◌, ◌/◌, ◌%◌, true, false, not, ◌&&◌, nat_lt, nat_le, refl, Option, Some, None, IsSomeAnd}
+use Rattle.std.proofs.Common.{arith, sym, ◌∙◌, ap, subst, inl, inr}
+use Rattle.std.proofs.lemmas.Bool.{both_ways, cases_eq, eqb-true, eq-eqb, leb-true, lt-ltb, le-ltb, and_parts, and_from, or_from, not_from_true}
+use Rattle.ffs_volume.specs.declared.Role.TheVariants.{Plain}
 use Rattle.ffs_volume.specs.Directory.{Entry}
-use Rattle.ffs_volume.specs.Roles.{Volume, Seen, is_dir, is_inode, is_allocated, is_some_inode, is_unknown, is_suspect, seen_in, dot, dotdot, references}
+use Rattle.ffs_volume.specs.Roles.{Volume, Seen, is_dir, is_inode, is_allocated, is_some_inode, is_unknown, is_suspect, seen_in, dotdot, references}
 use Rattle.ffs_volume.specs.Climb.{is_value, is_value-from}
-use Rattle.ffs_volume.specs.Graph.{Graph, parent, parent_entry, names_at, lost, dead, reached, unref_dir, AllReached, NoExtraneous, LinksRight}
+use Rattle.ffs_volume.specs.Graph.{parent, parent_entry, reached, AllReached, NoExtraneous}
 use Rattle.ffs_volume.specs.Levels.{reached-root}
 use Rattle.ffs_certificate.proofs.Lost.{silent-reached}
 use Rattle.ffs_certificate.proofs.Links.{links-right}
-use Rattle.ffs_volume.specs.Parents.{graph_of, seen_at, is_from_parent}
-use Rattle.ffs_volume.specs.PathnameCheck.{is_short, is_broken, is_bad_whiteout, is_other, is_extraneous, is_other_kind, tells_suspect}
-use Rattle.ffs_volume.specs.Connectivity.{is_cut_off, is_dead}
-use Rattle.ffs_volume.specs.DirectoriesRight.{IsVolume, IsUnmarked, IsWhole, IsPlainRight, IsDirRight, AreDirsRight, IsLinked, AreLinksRight, IsCountRight, AreCountsRight}
-use Rattle.ffs_certificate.proofs.Silence.{and_false-right, and_false-from}
-use Rattle.ffs_certificate.proofs.Entries.{IsNamer, names_at-from, IsPlainQuiet, IsNamedQuiet, IsSeenQuiet}
-use Rattle.ffs_certificate.proofs.Dirs.{IsShapeQuiet, IsDirQuiet, IsPathnameQuiet, dir-below, IsDotdotQuiet}
+use Rattle.ffs_volume.specs.Parents.{graph_of, seen_at}
+use Rattle.ffs_volume.specs.PathnameCheck.{is_short, is_bad_whiteout, is_other}
+use Rattle.ffs_volume.specs.Connectivity.{is_cut_off}
+use Rattle.ffs_volume.specs.DirectoriesRight.{IsVolume, IsUnmarked, IsPlainRight, IsDirRight, AreDirsRight, AreLinksRight, AreCountsRight}
+use Rattle.ffs_certificate.proofs.Silence.{and_false-from}
+use Rattle.ffs_certificate.proofs.Entries.{names_at-from, IsPlainQuiet}
+use Rattle.ffs_certificate.proofs.Dirs.{IsShapeQuiet, IsPathnameQuiet, IsDotdotQuiet}
 use Rattle.ffs_certificate.proofs.Counts.{IsCountQuiet, count-from}
 use Rattle.ffs_certificate.proofs.Suspects.{is_sane, none_suspect, none_dead}
-use Rattle.ffs_certificate.proofs.Forward.{IsQuiet, root_is_dir, parent_once, parent_root}
+use Rattle.ffs_certificate.proofs.Forward.{root_is_dir, parent_once, parent_root}
 
 some-both : (P Q R : Entry → Type 0) (o : Option Entry) → ((e : Entry) → P e → Q e → R e) → IsSomeAnd o P → IsSomeAnd o Q → IsSomeAnd o R
 some-both P Q R None f h k = h
@@ -28,12 +28,14 @@ some-both P Q R (Some e) f h k = f e h k
 -- SIZE
 shape_quiet : (v : Volume) (d : ℕ) → IsDirRight v d → IsShapeQuiet v d
 shape_quiet v d r =
-  let some = r.size.some in
-  let whole = r.size.whole in
-  record {
-    short = le-ltb (v.inode d).size 24 (omega arith);
-    broken = and_false-from (not (is_short v d)) (not ((v.inode d).size % 512 == 0)) (λ h. not_from_true _ (eq-eqb ((v.inode d).size % 512) 0 whole));
-    gap = r.gap; sound = r.sound }
+    let some = r.size.some in
+    let whole = r.size.whole in
+    record {
+      short = le-ltb (v.inode d).size 24 (omega arith);
+      broken = and_false-from (not (is_short v d)) (not ((v.inode d).size % 512 == 0)) (λ h. not_from_true _ (eq-eqb ((v.inode d).size % 512) 0 whole));
+      gap = r.gap;
+      sound = r.sound;
+    }
 
 -- what is used of a volume whose directories are right
 pub record IsSettled (v : Volume) : Type 0 where
@@ -48,79 +50,90 @@ calm v t = none_suspect v t.unmarked (λ d h z. let some = (t.dirs.each d h).siz
 
 all_reached : (v : Volume) → IsSettled v → AllReached (graph_of v)
 all_reached v t d h =
-  elim (cases_eq d 2) [
-    inl e ↦ subst (λ x. reached (graph_of v) x ≡ true) (sym e) (reached-root (graph_of v) t.volume.some)
-  | inr n ↦ (t.links.each d h n).reached_from_root ]
+    elim (cases_eq d 2) [
+      | inl e ↦ subst (λ x. reached (graph_of v) x ≡ true) (sym e) (reached-root (graph_of v) t.volume.some)
+      | inr n ↦ (t.links.each d h n).reached_from_root
+    ]
 
 parent_entries : (v : Volume) → IsSettled v → NoExtraneous (graph_of v)
 parent_entries v t =
-  (links-right (graph_of v) (root_is_dir v t.volume t.dirs.root) (all_reached v t)).1 (record { once = λ d h n. (t.links.each d h n).once; root = t.links.root })
+    (links-right (graph_of v) (root_is_dir v t.volume t.dirs.root) (all_reached v t)).1 (record { once = λ d h n. (t.links.each d h n).once; root = t.links.root })
 
 -- ENTRIES
 whiteout_good : (e : Entry) → e.number ≡ 1 → e.kind ≡ 14 → is_bad_whiteout e ≡ false
 whiteout_good e n k =
-  or_from ((e.number == 1) && not (e.kind == 14)) ((e.kind == 14) && not (e.number == 1))
+    or_from ((e.number == 1) && not (e.kind == 14)) ((e.kind == 14) && not (e.number == 1))
     (and_false-from (e.number == 1) (not (e.kind == 14)) (λ h. not_from_true _ (eq-eqb e.kind 14 k)))
     (and_false-from (e.kind == 14) (not (e.number == 1)) (λ h. not_from_true _ (eq-eqb e.number 1 n)))
 
 other_good : (e : Entry) → e.number ≢ 1 → e.kind ≢ 14 → is_bad_whiteout e ≡ false
 other_good e n k =
-  or_from ((e.number == 1) && not (e.kind == 14)) ((e.kind == 14) && not (e.number == 1))
+    or_from ((e.number == 1) && not (e.kind == 14)) ((e.kind == 14) && not (e.number == 1))
     (and_false-from (e.number == 1) (not (e.kind == 14)) (λ h. absurd (n (eqb-true e.number 1 h))))
     (and_false-from (e.kind == 14) (not (e.number == 1)) (λ h. absurd (k (eqb-true e.kind 14 h))))
 
 plain_quiet : (v : Volume) → IsSettled v → (s j : ℕ) (e : Seen) → is_dir v s ≡ true → seen_at (seen_in v s) j ≡ Some e → e.role ≡ Plain → IsPlainRight v e.entry → IsPlainQuiet v s j e.entry
 plain_quiet v t s j e d there role r =
-  elim r [
-    inl w ↦ (let some = t.volume.some in let n = w.0 in record {
-      below = lt-ltb e.entry.number v.count (omega arith);
-      no_whiteout = whiteout_good e.entry w.0 w.1;
-      named = λ m. absurd (both_ways (e.entry.number == 1) m (eq-eqb e.entry.number 1 w.0)) })
-  | inr w ↦
-      (let p = and_parts (is_inode v e.entry.number) (is_allocated (v.class e.entry.number)) w.0 in
-      let q = and_parts (nat_le 2 e.entry.number) (nat_lt e.entry.number v.count) p.0 in
-      let two = leb-true 2 e.entry.number q.0 in
-      let known = t.unmarked.known e.entry.number in
-      record {
-        below = q.1;
-        no_whiteout = other_good e.entry (omega arith) (λ k. t.volume.kinds e.entry.number known w.0 (sym w.1 ∙ k));
-        named = λ m. record {
-          allocated = p.1;
-          suspect = and_false-from (is_suspect v e.entry.number) _ (λ h. absurd (both_ways (is_suspect v e.entry.number) (calm v t e.entry.number) h));
-          link = and_false-from (is_dir v e.entry.number) _ (λ h.
-            let at = names_at-from v s j e.entry.number (record { dir = d; entry = e; there = there; role = role; number = refl }) in
-            let b = parent_entries v t s j e.entry.number at h in
-            not_from_true _ (and_from (is_value (parent (graph_of v) e.entry.number) s) (is_value (parent_entry (graph_of v) e.entry.number) j)
-              (is_value-from (parent (graph_of v) e.entry.number) s b.0) (is_value-from (parent_entry (graph_of v) e.entry.number) j b.1)));
-          kind = and_false-from (not (is_unknown (v.class e.entry.number))) _ (λ h. not_from_true _ (eq-eqb e.entry.kind ((v.inode e.entry.number).mode / 4096) w.1)) } }) ]
+    elim r [
+      | inl w ↦ (let some = t.volume.some in let n = w.0 in record {
+        below = lt-ltb e.entry.number v.count (omega arith);
+        no_whiteout = whiteout_good e.entry w.0 w.1;
+        named = λ m. absurd (both_ways (e.entry.number == 1) m (eq-eqb e.entry.number 1 w.0));
+      })
+      | inr w ↦
+          (let p = and_parts (is_inode v e.entry.number) (is_allocated (v.class e.entry.number)) w.0 in
+          let q = and_parts (nat_le 2 e.entry.number) (nat_lt e.entry.number v.count) p.0 in
+          let two = leb-true 2 e.entry.number q.0 in
+          let known = t.unmarked.known e.entry.number in
+          record {
+            below = q.1;
+            no_whiteout = other_good e.entry (omega arith) (λ k. t.volume.kinds e.entry.number known w.0 (sym w.1 ∙ k));
+            named = λ m. record {
+              allocated = p.1;
+              suspect = and_false-from (is_suspect v e.entry.number) _ (λ h. absurd (both_ways (is_suspect v e.entry.number) (calm v t e.entry.number) h));
+              link = and_false-from (is_dir v e.entry.number) _ (λ h.
+                  let at = names_at-from v s j e.entry.number (record { dir = d; entry = e; there = there; role = role; number = refl }) in
+                  let b = parent_entries v t s j e.entry.number at h in
+                  not_from_true _ (and_from (is_value (parent (graph_of v) e.entry.number) s) (is_value (parent_entry (graph_of v) e.entry.number) j)
+                  (is_value-from (parent (graph_of v) e.entry.number) s b.0) (is_value-from (parent_entry (graph_of v) e.entry.number) j b.1)));
+              kind = and_false-from (not (is_unknown (v.class e.entry.number))) _ (λ h. not_from_true _ (eq-eqb e.entry.kind ((v.inode e.entry.number).mode / 4096) w.1));
+            };
+          })
+    ]
 
 -- `..`
 dotdot_from : (v : Volume) (d s : ℕ) → parent (graph_of v) d ≡ Some s → IsSomeAnd (dotdot v d) (λ e. e.number ≡ s) → IsSomeAnd (dotdot v d) (λ e. e.kind ≡ 4) → IsDotdotQuiet v d (dotdot v d)
 dotdot_from v d s p n k =
-  some-both _ _ _ (dotdot v d) (λ e a b. (ap (λ o. is_other o e.number) p ∙ not_from_true _ (eq-eqb s e.number (sym a)), b)) n k
+    some-both _ _ _ (dotdot v d) (λ e a b. (ap (λ o. is_other o e.number) p ∙ not_from_true _ (eq-eqb s e.number (sym a)), b)) n k
 
 dotdot_quiet : (v : Volume) → IsSettled v → (d : ℕ) → is_dir v d ≡ true → IsDotdotQuiet v d (dotdot v d)
 dotdot_quiet v t d h =
-  elim (cases_eq d 2) [
-    inl e ↦ dotdot_from v d 2 (ap (parent (graph_of v)) e ∙ parent_root (graph_of v)) (subst (λ x. IsSomeAnd (dotdot v x) (λ e. e.number ≡ 2)) (sym e) t.links.root_dotdot) (t.dirs.each d h).dotdot_there
-  | inr n ↦
-      let l = t.links.each d h n in
-      dotdot_from v d l.once.in_dir (parent_once v d n l.reached_from_root l.once) l.dotdot_right (t.dirs.each d h).dotdot_there ]
+    elim (cases_eq d 2) [
+      | inl e ↦ dotdot_from v d 2 (ap (parent (graph_of v)) e ∙ parent_root (graph_of v)) (subst (λ x. IsSomeAnd (dotdot v x) (λ e. e.number ≡ 2)) (sym e) t.links.root_dotdot) (t.dirs.each d h).dotdot_there
+      | inr n ↦
+          let l = t.links.each d h n in
+          dotdot_from v d l.once.in_dir (parent_once v d n l.reached_from_root l.once) l.dotdot_right (t.dirs.each d h).dotdot_there
+    ]
 
 pub quiet_pathnames : (v : Volume) → IsSettled v → IsPathnameQuiet v
 quiet_pathnames v t = record {
   root = t.dirs.root;
   suspect = calm v t 2;
   each = λ d h n.
-    let r = t.dirs.each d h in
-    record { shape = shape_quiet v d r; dot_there = r.dot_there; dotdot_there = dotdot_quiet v t d h;
-      entries = λ j e there. record { no_extra = r.no_extra j e there; plain = λ role. plain_quiet v t d j e h there role (r.plain j e there role) } } }
+      let r = t.dirs.each d h in
+      record {
+        shape = shape_quiet v d r;
+        dot_there = r.dot_there;
+        dotdot_there = dotdot_quiet v t d h;
+        entries = λ j e there. record { no_extra = r.no_extra j e there; plain = λ role. plain_quiet v t d j e h there role (r.plain j e there role) };
+      };
+}
 
 pub quiet_connectivity : (v : Volume) → IsSettled v → (d : ℕ) → is_cut_off v d ≡ false
 quiet_connectivity v t = (silent-reached (graph_of v) (is_suspect v) (is_sane v t.volume) (none_dead v (calm v t))).1 (all_reached v t)
 
 pub quiet_references : (v : Volume) → IsSettled v → (i : ℕ) → is_some_inode v i ≡ true → IsCountQuiet v i
 quiet_references v t i h =
-  let c = t.counts i h in
-  let some = c.some in
-  record { alive = none_dead v (calm v t) i; some = omega arith; same = count-from (v.inode i).nlink (references v i) c.same }
+    let c = t.counts i h in
+    let some = c.some in
+    record { alive = none_dead v (calm v t) i; some = omega arith; same = count-from (v.inode i).nlink (references v i) c.same }

@@ -49,16 +49,16 @@ reserved_length v = length-map-range_with_len (is_reserved v) 0 v.size
 pub reserved_bit : (v : Layout) (f : ℕ) → is_set (reserved_map v) f ≡ (nat_lt f v.size && is_reserved v f)
 unfolding reserved_map
 reserved_bit v f = elim (cases_lt f v.size) [
-    inl below ↦ rw (get_or-map-range_with_len (is_reserved v) 0 v.size f f false below (omega arith), lt-ltb f v.size below) refl
+  | inl below ↦ rw (get_or-map-range_with_len (is_reserved v) 0 v.size f f false below (omega arith), lt-ltb f v.size below) refl
   | inr past ↦ rw (get_or_past (map (is_reserved v) (range_with_len 0 v.size)) f false (rw (length-map-range_with_len (is_reserved v) 0 v.size) past), le-ltb f v.size past) refl
-  ]
+]
 
 -- no bit of a list of unset bits is set
 pub unset : (n f : ℕ) → is_set (replicate n false) f ≡ false
 unset n f = elim (cases_lt f n) [
-    inl below ↦ get_or-replicate n f false false below
+  | inl below ↦ get_or-replicate n f false false below
   | inr past ↦ get_or_past (replicate n false) f false (rw (length-replicate n false) past)
-  ]
+]
 
 -- where no fragment is marked, no offer is told
 none_first : (dup : List Bool) (os : List Offer) → ((f : ℕ) → is_set dup f ≡ false) → first_offers dup os ≡ []
@@ -71,15 +71,17 @@ quiet_right v os q =
     let long = reserved_length v in
     let new = fresh_new (reserved_map v) (fragments_of (all_steps os)) (rw long below) q.new in
     record {
-      classes = q.classes; in_range = q.in_range; no_tail = q.no_tail;
+      classes = q.classes;
+      in_range = q.in_range;
+      no_tail = q.no_tail;
       alone = λ f. omega (arith, new f);
       unreserved = λ f e. elim (cases_lt f v.size) [
-          inl low ↦
+        | inl low ↦
             let set : bit (is_set (reserved_map v) f) ≡ 1 = ap bit (reserved_bit v f ∙ and_from _ _ (lt-ltb f v.size low) e) in
             omega (arith, new f)
         | inr past ↦ times_past v.size f _ below past
-        ];
-      counted = q.counted
+      ];
+      counted = q.counted;
     }
 
 pub right_quiet : (v : Layout) (os : List Owner) → BlocksRight v os → Quiet v (reserved_map v) os
@@ -87,9 +89,11 @@ right_quiet v os r =
     let below = runs_below v (all_steps os) r.in_range in
     let long = reserved_length v in
     record {
-      classes = r.classes; in_range = r.in_range; no_tail = r.no_tail;
+      classes = r.classes;
+      in_range = r.in_range;
+      no_tail = r.no_tail;
       new = new_fresh (reserved_map v) (fragments_of (all_steps os)) (rw long below) (λ f. one f (is_set (reserved_map v) f) refl);
-      counted = r.counted
+      counted = r.counted;
     }
   where
     one : (f : ℕ) (b : Bool) → is_set (reserved_map v) f ≡ b → times f (fragments_of (all_steps os)) + bit b ≤ 1
@@ -102,8 +106,9 @@ right_quiet v os r =
 pub phase1_silent : (v : Layout) (os : List Owner) → (phase1_lines v os ≡ []) ↔ BlocksRight v os
 unfolding phase1_lines no_claims
 phase1_silent v os = (
-    (λ e. quiet_right v os (owners_parts v (reserved_map v) os (sym (owners_say v (no_claims v) os) ∙ ap is_nil e))),
-    (λ r. nil_is _ (owners_say v (no_claims v) os ∙ owners_from v (reserved_map v) os (right_quiet v os r))))
+  (λ e. quiet_right v os (owners_parts v (reserved_map v) os (sym (owners_say v (no_claims v) os) ∙ ap is_nil e))),
+  (λ r. nil_is _ (owners_say v (no_claims v) os ∙ owners_from v (reserved_map v) os (right_quiet v os r))),
+)
 
 pub phase1b_silent : (v : Layout) (os : List Owner) → BlocksRight v os → phase1b_lines v os ≡ []
 unfolding phase1b_lines no_claims
@@ -113,6 +118,7 @@ phase1b_silent v os r =
 
 pub blocks_silent : (v : Layout) (os : List Owner) → (phase1_lines v os ++ phase1b_lines v os ≡ []) ↔ BlocksRight v os
 blocks_silent v os = (
-    (λ e. let parts = and_parts (is_nil (phase1_lines v os)) (is_nil (phase1b_lines v os)) (sym (nil_append (phase1_lines v os) (phase1b_lines v os)) ∙ ap is_nil e) in
+  (λ e. let parts = and_parts (is_nil (phase1_lines v os)) (is_nil (phase1b_lines v os)) (sym (nil_append (phase1_lines v os) (phase1b_lines v os)) ∙ ap is_nil e) in
       (phase1_silent v os).0 (nil_is _ parts.0)),
-    (λ r. let first = (phase1_silent v os).1 r in let second = phase1b_silent v os r in rw (first, second) refl))
+  (λ r. let first = (phase1_silent v os).1 r in let second = phase1b_silent v os r in rw (first, second) refl),
+)

@@ -1,15 +1,14 @@
 -- When the messages on connectivity and on references are silent.
-use Rattle.std.specs.Prelude.{◌≡◌, ◌≢◌, ℕ, zero, suc, ◌+◌, ◌<◌, ◌≤◌, ◌==◌, Bool, true, false, not, ◌&&◌, nat_lt, nat_le, refl, ℤ, pos, negsuc, List, [], ◌∷◌, ◌++◌, if◌then◌else◌}
-use Rattle.std.proofs.Common.{arith, sym, ◌∙◌, ap, subst, inl, inr}
-use Rattle.std.proofs.lemmas.Bool.{both_ways, cases_Bool, eqb-true, eqb-false, eq-eqb, ne_eqb, ltb-true, and_parts, and_from, not-true, not-false, not_from_true, not_from_false, false_from_ne_true}
-use Rattle.ffs_volume.specs.declared.Attr.{Attr}
-use Rattle.ffs_volume.specs.Roles.{Volume, is_dir, is_inode, is_allocated, is_some_inode, is_suspect, references}
-use Rattle.ffs_volume.specs.Messages.{NameMessage, told, lines_below, unref_dir, dead_marked, dead_zero, unref, unref_zero, link_count}
+use Rattle.std.specs.Prelude.{◌≡◌, ◌≢◌, ℕ, ◌<◌, ◌==◌, Bool, true, false, nat_lt, nat_le, refl, ℤ, pos, negsuc, List, [], ◌∷◌, if◌then◌else◌}
+use Rattle.std.proofs.Common.{sym, ap, subst}
+use Rattle.std.proofs.lemmas.Bool.{eqb-true, eqb-false, eq-eqb, ne_eqb, ltb-true, and_parts, not-false, not_from_true}
+use Rattle.ffs_volume.specs.Roles.{Volume, is_inode, is_allocated, is_some_inode, references}
+use Rattle.ffs_volume.specs.Messages.{NameMessage, told, unref_dir, dead_marked, dead_zero, unref, unref_zero, link_count}
 use Rattle.ffs_volume.specs.PathnameCheck.{attributes, label_of}
 use Rattle.ffs_volume.specs.Connectivity.{is_dead, is_cut_off, connectivity_lines}
 use Rattle.ffs_volume.specs.Numbers.{is_count}
 use Rattle.ffs_volume.specs.ReferenceCheck.{dead_told, unref_told, inode_lines, counted_lines, reference_lines}
-use Rattle.ffs_certificate.proofs.Silence.{nil-left, nil-right, nil-both, told-quiet, told-silent, if-quiet, if-silent, then-quiet, then-silent, lines-quiet, lines-silent}
+use Rattle.ffs_certificate.proofs.Silence.{told-quiet, told-silent, if-silent, then-quiet, then-silent, lines-quiet, lines-silent}
 
 pub connectivity-quiet : (v : Volume) → connectivity_lines v ≡ [] → (d : ℕ) → d < v.count → is_cut_off v d ≡ false
 unfolding connectivity_lines
@@ -37,16 +36,16 @@ first-quiet false xs ys n h = (refl, h)
 count-quiet : (v : Volume) (i : ℕ) → inode_lines v i ≡ [] → IsCountQuiet v i
 unfolding inode_lines
 count-quiet v i h =
-  let m = link_count (label_of (v.class i)) (attributes v i) (v.inode i).nlink (references v i) in
-  let a = first-quiet (is_dead v i) (dead_told v i) _ (either-some (v.marked i) (dead_marked (label_of (v.class i)) (attributes v i)) (dead_zero (attributes v i))) h in
-  let b = first-quiet (references v i == 0) (unref_told v i) _ (either-some (is_count (v.inode i).nlink 0) (unref_zero (label_of (v.class i)) (attributes v i)) (unref (label_of (v.class i)) (attributes v i))) a.1 in
-  record { alive = a.0; some = eqb-false (references v i) 0 b.0; same = not-false _ (told-quiet _ m b.1) }
+    let m = link_count (label_of (v.class i)) (attributes v i) (v.inode i).nlink (references v i) in
+    let a = first-quiet (is_dead v i) (dead_told v i) _ (either-some (v.marked i) (dead_marked (label_of (v.class i)) (attributes v i)) (dead_zero (attributes v i))) h in
+    let b = first-quiet (references v i == 0) (unref_told v i) _ (either-some (is_count (v.inode i).nlink 0) (unref_zero (label_of (v.class i)) (attributes v i)) (unref (label_of (v.class i)) (attributes v i))) a.1 in
+    record { alive = a.0; some = eqb-false (references v i) 0 b.0; same = not-false _ (told-quiet _ m b.1) }
 
 count-silent : (v : Volume) (i : ℕ) → IsCountQuiet v i → inode_lines v i ≡ []
 unfolding inode_lines
 count-silent v i q =
-  let m = link_count (label_of (v.class i)) (attributes v i) (v.inode i).nlink (references v i) in
-  if-silent (is_dead v i) (dead_told v i) _ q.alive
+    let m = link_count (label_of (v.class i)) (attributes v i) (v.inode i).nlink (references v i) in
+    if-silent (is_dead v i) (dead_told v i) _ q.alive
     (if-silent (references v i == 0) (unref_told v i) _ (ne_eqb (references v i) 0 q.some) (told-silent _ m (not_from_true _ q.same)))
 
 pub some-below : (v : Volume) (i : ℕ) → is_some_inode v i ≡ true → i < v.count

@@ -1,7 +1,7 @@
 -- When the messages on directories are silent.
-use Rattle.std.specs.Prelude.{◌≡◌, ◌≢◌, ℕ, zero, suc, ◌+◌, ◌<◌, ◌≤◌, ◌==◌, ◌/◌, ◌%◌, Bool, true, false, not, ◌&&◌, ◌||◌, nat_lt, nat_le, refl, List, [], ◌∷◌, ◌++◌, Option, Some, None, if◌then◌else◌, IsSomeAnd}
-use Rattle.std.proofs.Common.{arith, sym, ◌∙◌, ap, subst, inl, inr}
-use Rattle.std.proofs.lemmas.Bool.{both_ways, cases_Bool, cases_eq, eqb-true, eqb-false, eq-eqb, ne_eqb, ltb-true, lt-ltb, and_parts, and_from, not-true, not-false, not_from_true, not_from_false}
+use Rattle.std.specs.Prelude.{◌≡◌, ◌≢◌, ℕ, ◌+◌, ◌<◌, ◌==◌, Bool, true, false, not, ◌&&◌, nat_lt, nat_le, refl, List, [], ◌∷◌, Option, Some, None, if◌then◌else◌, IsSomeAnd}
+use Rattle.std.proofs.Common.{arith, ◌∙◌, ap, subst}
+use Rattle.std.proofs.lemmas.Bool.{eqb-true, eqb-false, eq-eqb, ne_eqb, ltb-true, and_parts, and_from, not-true, not-false, not_from_true, not_from_false}
 use Rattle.ffs_volume.specs.declared.Attr.{Attr}
 use Rattle.ffs_volume.specs.declared.Class.{Class}
 use Rattle.ffs_volume.specs.declared.Class.TheVariants.{Free, Partial, Unknown, File, Dir}
@@ -10,7 +10,7 @@ use Rattle.ffs_volume.specs.Roles.{Volume, Seen, is_dir, is_inode, is_directory,
 use Rattle.ffs_volume.specs.Graph.{parent}
 use Rattle.ffs_volume.specs.Parents.{graph_of, seen_at}
 use Rattle.ffs_volume.specs.Paths.{dir_path}
-use Rattle.ffs_volume.specs.Messages.{NameMessage, told, lines_below, root_suspect, dir_short, dir_length, dir_empty, dir_corrupt, missing_dot, missing_dot_first, number_dot, kind_dot, missing_dotdot, missing_dotdot_second, number_dotdot, kind_dotdot}
+use Rattle.ffs_volume.specs.Messages.{told, lines_below, root_suspect, dir_short, dir_length, dir_empty, dir_corrupt, missing_dot, missing_dot_first, number_dot, kind_dot, missing_dotdot, missing_dotdot_second, number_dotdot, kind_dotdot}
 use Rattle.ffs_volume.specs.PathnameCheck.{attributes, root_lines, root_told, goes_on, is_short, is_broken, are_sound, shape_lines, dot_lines, dot_told, missing_dot_told, is_other, dotdot_lines, dotdot_told, missing_dotdot_told, entry_lines, dir_lines, is_looked_at, lines_of, pathname_lines}
 use Rattle.ffs_certificate.proofs.Silence.{nil-left, nil-right, nil-both, told-quiet, told-silent, then-quiet, then-silent, lines-quiet, lines-silent}
 use Rattle.ffs_certificate.proofs.Entries.{IsSeenQuiet, entries-quiet, entries-silent}
@@ -25,26 +25,28 @@ pub record IsShapeQuiet (v : Volume) (d : ℕ) : Type 0 where
 shape-quiet : (v : Volume) (d : ℕ) → shape_lines v d ≡ [] → IsShapeQuiet v d
 unfolding shape_lines
 shape-quiet v d h =
-  let p = dir_path (graph_of v) d in
-  let a = nil-left (told (is_short v d) (dir_short (attributes v d) p)) _ h in
-  let b = nil-right (told (is_short v d) (dir_short (attributes v d) p)) _ h in
-  let c = nil-left (told (is_broken v d) (dir_length p (v.inode d).size)) _ b in
-  let e = nil-right (told (is_broken v d) (dir_length p (v.inode d).size)) _ b in
-  let f = nil-left (told (v.gap d) (dir_empty p)) _ e in
-  let g = nil-right (told (v.gap d) (dir_empty p)) _ e in
-  record { short = told-quiet _ (dir_short (attributes v d) p) a;
-    broken = told-quiet _ (dir_length p (v.inode d).size) c;
-    gap = told-quiet _ (dir_empty p) f;
-    sound = not-false _ (told-quiet _ (dir_corrupt (attributes v d) p) g) }
+    let p = dir_path (graph_of v) d in
+    let a = nil-left (told (is_short v d) (dir_short (attributes v d) p)) _ h in
+    let b = nil-right (told (is_short v d) (dir_short (attributes v d) p)) _ h in
+    let c = nil-left (told (is_broken v d) (dir_length p (v.inode d).size)) _ b in
+    let e = nil-right (told (is_broken v d) (dir_length p (v.inode d).size)) _ b in
+    let f = nil-left (told (v.gap d) (dir_empty p)) _ e in
+    let g = nil-right (told (v.gap d) (dir_empty p)) _ e in
+    record {
+      short = told-quiet _ (dir_short (attributes v d) p) a;
+      broken = told-quiet _ (dir_length p (v.inode d).size) c;
+      gap = told-quiet _ (dir_empty p) f;
+      sound = not-false _ (told-quiet _ (dir_corrupt (attributes v d) p) g);
+    }
 
 shape-silent : (v : Volume) (d : ℕ) → IsShapeQuiet v d → shape_lines v d ≡ []
 unfolding shape_lines
 shape-silent v d q =
-  let p = dir_path (graph_of v) d in
-  nil-both (told (is_short v d) (dir_short (attributes v d) p)) _ (told-silent _ (dir_short (attributes v d) p) q.short)
+    let p = dir_path (graph_of v) d in
+    nil-both (told (is_short v d) (dir_short (attributes v d) p)) _ (told-silent _ (dir_short (attributes v d) p) q.short)
     (nil-both (told (is_broken v d) (dir_length p (v.inode d).size)) _ (told-silent _ (dir_length p (v.inode d).size) q.broken)
-      (nil-both (told (v.gap d) (dir_empty p)) _ (told-silent _ (dir_empty p) q.gap)
-        (told-silent _ (dir_corrupt (attributes v d) p) (not_from_true _ q.sound))))
+    (nil-both (told (v.gap d) (dir_empty p)) _ (told-silent _ (dir_empty p) q.gap)
+    (told-silent _ (dir_corrupt (attributes v d) p) (not_from_true _ q.sound))))
 
 -- where `.` or `..` isn't there, something is told
 missing_dot-some : (about : Attr) (path : List ℕ) (o : Option Entry) → missing_dot_told about path o ≡ [] → ⊥
@@ -70,17 +72,18 @@ IsDotQuiet d o = IsSomeAnd o (λ e. (e.number ≡ d) × (e.kind ≡ 4))
 dot-quiet : (v : Volume) (d : ℕ) (o : Option Entry) → dot_told v d o ≡ [] → IsDotQuiet d o
 dot-quiet v d None h = absurd (missing_dot-some (attributes v d) (dir_path (graph_of v) d) (start_entry v d 0) h)
 dot-quiet v d (Some e) h =
-  let m = number_dot (attributes v d) (dir_path (graph_of v) d) in
-  let k = kind_dot (attributes v d) (dir_path (graph_of v) d) in
-  (eqb-true e.number d (not-false _ (told-quiet _ m (nil-left (told (not (e.number == d)) m) (told (not (e.kind == 4)) k) h))),
-   eqb-true e.kind 4 (not-false _ (told-quiet _ k (nil-right (told (not (e.number == d)) m) (told (not (e.kind == 4)) k) h))))
+    let m = number_dot (attributes v d) (dir_path (graph_of v) d) in
+    let k = kind_dot (attributes v d) (dir_path (graph_of v) d) in (
+      eqb-true e.number d (not-false _ (told-quiet _ m (nil-left (told (not (e.number == d)) m) (told (not (e.kind == 4)) k) h))),
+      eqb-true e.kind 4 (not-false _ (told-quiet _ k (nil-right (told (not (e.number == d)) m) (told (not (e.kind == 4)) k) h))),
+    )
 
 dot-silent : (v : Volume) (d : ℕ) (o : Option Entry) → IsDotQuiet d o → dot_told v d o ≡ []
 dot-silent v d None q = absurd q
 dot-silent v d (Some e) q =
-  let m = number_dot (attributes v d) (dir_path (graph_of v) d) in
-  let k = kind_dot (attributes v d) (dir_path (graph_of v) d) in
-  nil-both (told (not (e.number == d)) m) (told (not (e.kind == 4)) k)
+    let m = number_dot (attributes v d) (dir_path (graph_of v) d) in
+    let k = kind_dot (attributes v d) (dir_path (graph_of v) d) in
+    nil-both (told (not (e.number == d)) m) (told (not (e.kind == 4)) k)
     (told-silent _ m (not_from_true _ (eq-eqb e.number d q.0))) (told-silent _ k (not_from_true _ (eq-eqb e.kind 4 q.1)))
 
 -- `..` is there, with its type, and it is the parent if there is one
@@ -90,17 +93,18 @@ IsDotdotQuiet v d o = IsSomeAnd o (λ e. (is_other (parent (graph_of v) d) e.num
 dotdot-quiet : (v : Volume) (d : ℕ) (o : Option Entry) → dotdot_told v d o ≡ [] → IsDotdotQuiet v d o
 dotdot-quiet v d None h = absurd (missing_dotdot-some (attributes v d) (dir_path (graph_of v) d) (start_entry v d 1) h)
 dotdot-quiet v d (Some e) h =
-  let m = number_dotdot (attributes v d) (dir_path (graph_of v) d) in
-  let k = kind_dotdot (attributes v d) (dir_path (graph_of v) d) in
-  (told-quiet _ m (nil-left (told (is_other (parent (graph_of v) d) e.number) m) (told (not (e.kind == 4)) k) h),
-   eqb-true e.kind 4 (not-false _ (told-quiet _ k (nil-right (told (is_other (parent (graph_of v) d) e.number) m) (told (not (e.kind == 4)) k) h))))
+    let m = number_dotdot (attributes v d) (dir_path (graph_of v) d) in
+    let k = kind_dotdot (attributes v d) (dir_path (graph_of v) d) in (
+      told-quiet _ m (nil-left (told (is_other (parent (graph_of v) d) e.number) m) (told (not (e.kind == 4)) k) h),
+      eqb-true e.kind 4 (not-false _ (told-quiet _ k (nil-right (told (is_other (parent (graph_of v) d) e.number) m) (told (not (e.kind == 4)) k) h))),
+    )
 
 dotdot-silent : (v : Volume) (d : ℕ) (o : Option Entry) → IsDotdotQuiet v d o → dotdot_told v d o ≡ []
 dotdot-silent v d None q = absurd q
 dotdot-silent v d (Some e) q =
-  let m = number_dotdot (attributes v d) (dir_path (graph_of v) d) in
-  let k = kind_dotdot (attributes v d) (dir_path (graph_of v) d) in
-  nil-both (told (is_other (parent (graph_of v) d) e.number) m) (told (not (e.kind == 4)) k)
+    let m = number_dotdot (attributes v d) (dir_path (graph_of v) d) in
+    let k = kind_dotdot (attributes v d) (dir_path (graph_of v) d) in
+    nil-both (told (is_other (parent (graph_of v) d) e.number) m) (told (not (e.kind == 4)) k)
     (told-silent _ m q.0) (told-silent _ k (not_from_true _ (eq-eqb e.kind 4 q.1)))
 
 -- a directory
@@ -113,22 +117,26 @@ pub record IsDirQuiet (v : Volume) (d : ℕ) : Type 0 where
 dir-quiet : (v : Volume) (d : ℕ) → dir_lines v d ≡ [] → IsDirQuiet v d
 unfolding dir_lines dot_lines dotdot_lines
 dir-quiet v d h =
-  let a = nil-left (shape_lines v d) _ h in
-  let b = nil-right (shape_lines v d) _ h in
-  let c = nil-left (dot_lines v d) _ b in
-  let e = nil-right (dot_lines v d) _ b in
-  let f = nil-left (dotdot_lines v d) (entry_lines v d 0 (seen_in v d)) e in
-  let g = nil-right (dotdot_lines v d) (entry_lines v d 0 (seen_in v d)) e in
-  record { shape = shape-quiet v d a; dot_there = dot-quiet v d (dot v d) c; dotdot_there = dotdot-quiet v d (dotdot v d) f;
-    entries = λ j x t. let z : 0 + j ≡ j = omega arith in subst (λ n. IsSeenQuiet v d n x) z (entries-quiet v d 0 (seen_in v d) g j x t) }
+    let a = nil-left (shape_lines v d) _ h in
+    let b = nil-right (shape_lines v d) _ h in
+    let c = nil-left (dot_lines v d) _ b in
+    let e = nil-right (dot_lines v d) _ b in
+    let f = nil-left (dotdot_lines v d) (entry_lines v d 0 (seen_in v d)) e in
+    let g = nil-right (dotdot_lines v d) (entry_lines v d 0 (seen_in v d)) e in
+    record {
+      shape = shape-quiet v d a;
+      dot_there = dot-quiet v d (dot v d) c;
+      dotdot_there = dotdot-quiet v d (dotdot v d) f;
+      entries = λ j x t. let z : 0 + j ≡ j = omega arith in subst (λ n. IsSeenQuiet v d n x) z (entries-quiet v d 0 (seen_in v d) g j x t);
+    }
 
 dir-silent : (v : Volume) (d : ℕ) → IsDirQuiet v d → dir_lines v d ≡ []
 unfolding dir_lines dot_lines dotdot_lines
 dir-silent v d q =
-  nil-both (shape_lines v d) _ (shape-silent v d q.shape)
+    nil-both (shape_lines v d) _ (shape-silent v d q.shape)
     (nil-both (dot_lines v d) _ (dot-silent v d (dot v d) q.dot_there)
-      (nil-both (dotdot_lines v d) (entry_lines v d 0 (seen_in v d)) (dotdot-silent v d (dotdot v d) q.dotdot_there)
-        (entries-silent v d 0 (seen_in v d) (λ j x t. let z : j ≡ 0 + j = omega arith in subst (λ n. IsSeenQuiet v d n x) z (q.entries j x t)))))
+    (nil-both (dotdot_lines v d) (entry_lines v d 0 (seen_in v d)) (dotdot-silent v d (dotdot v d) q.dotdot_there)
+    (entries-silent v d 0 (seen_in v d) (λ j x t. let z : j ≡ 0 + j = omega arith in subst (λ n. IsSeenQuiet v d n x) z (q.entries j x t)))))
 
 -- the whole check: the root, and each directory that isn't empty
 pub record IsPathnameQuiet (v : Volume) : Type 0 where
@@ -149,17 +157,21 @@ dir-below v d h = ltb-true d v.count (and_parts (nat_le 2 d) (nat_lt d v.count) 
 pub pathname-quiet : (v : Volume) → pathname_lines v ≡ [] → IsPathnameQuiet v
 unfolding pathname_lines root_lines
 pathname-quiet v h =
-  let r = root-quiet v (v.class 2) (nil-left (root_lines v) _ h) in
-  let a = then-quiet (goes_on v) (lines_below (lines_of v) v.count) (nil-right (root_lines v) _ h) (ap is_directory r.0) in
-  record { root = r.0; suspect = r.1; each = λ d k n.
-    dir-quiet v d (then-quiet (is_looked_at v d) (dir_lines v d) (lines-quiet (lines_of v) v.count a d (dir-below v d k))
-      (and_from (is_dir v d) (not ((v.inode d).size == 0)) k (not_from_false _ (ne_eqb (v.inode d).size 0 n)))) }
+    let r = root-quiet v (v.class 2) (nil-left (root_lines v) _ h) in
+    let a = then-quiet (goes_on v) (lines_below (lines_of v) v.count) (nil-right (root_lines v) _ h) (ap is_directory r.0) in
+    record {
+      root = r.0;
+      suspect = r.1;
+      each = λ d k n.
+          dir-quiet v d (then-quiet (is_looked_at v d) (dir_lines v d) (lines-quiet (lines_of v) v.count a d (dir-below v d k))
+          (and_from (is_dir v d) (not ((v.inode d).size == 0)) k (not_from_false _ (ne_eqb (v.inode d).size 0 n))));
+    }
 
 pub pathname-silent : (v : Volume) → IsPathnameQuiet v → pathname_lines v ≡ []
 unfolding pathname_lines root_lines
 pathname-silent v q =
-  nil-both (root_lines v) _ (ap (root_told v) q.root ∙ told-silent _ root_suspect q.suspect)
+    nil-both (root_lines v) _ (ap (root_told v) q.root ∙ told-silent _ root_suspect q.suspect)
     (then-silent (goes_on v) (lines_below (lines_of v) v.count) (λ g.
-      lines-silent (lines_of v) v.count (λ d l. then-silent (is_looked_at v d) (dir_lines v d) (λ k.
-        let p = and_parts (is_dir v d) (not ((v.inode d).size == 0)) k in
-        dir-silent v d (q.each d p.0 (eqb-false (v.inode d).size 0 (not-true _ p.1)))))))
+    lines-silent (lines_of v) v.count (λ d l. then-silent (is_looked_at v d) (dir_lines v d) (λ k.
+    let p = and_parts (is_dir v d) (not ((v.inode d).size == 0)) k in
+    dir-silent v d (q.each d p.0 (eqb-false (v.inode d).size 0 (not-true _ p.1)))))))

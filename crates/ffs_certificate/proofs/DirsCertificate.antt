@@ -1,8 +1,8 @@
 -- The certificate of the checks of directories.
-use Rattle.std.specs.Prelude.{◌≡◌, ◌↔◌}
+use Rattle.std.specs.Prelude.{◌↔◌}
 use Rattle.ffs_volume.specs.Roles.{Volume}
 use Rattle.ffs_volume.specs.DirectoriesRight.{IsVolume, IsUnmarked}
-use Rattle.ffs_certificate.specs.DirsCertificate.{IsSilent, AreDirectoriesRight, SilentIsRight}
+use Rattle.ffs_certificate.specs.DirsCertificate.{IsSilent, AreDirectoriesRight}
 use Rattle.ffs_certificate.proofs.Dirs.{pathname-quiet, pathname-silent}
 use Rattle.ffs_certificate.proofs.Counts.{connectivity-quiet, connectivity-silent, reference-quiet, reference-silent}
 use Rattle.ffs_certificate.proofs.Forward.{IsQuiet, dirs_right, links_right, counts_right}
@@ -15,6 +15,10 @@ pub silent_right : (v : Volume) → IsVolume v → IsUnmarked v → IsSilent v �
 silent_right v vol un = (
   (λ s. let q = quiet v s in record { dirs = dirs_right v vol un q; links = links_right v vol un q; counts = counts_right v q }),
   (λ r.
-    let t : IsSettled v = record { volume = vol; unmarked = un; dirs = r.dirs; links = r.links; counts = r.counts } in
-    record { pathnames = pathname-silent v (quiet_pathnames v t); connectivity = connectivity-silent v (quiet_connectivity v t);
-      references = reference-silent v (quiet_references v t) }))
+      let t : IsSettled v = record { volume = vol; unmarked = un; dirs = r.dirs; links = r.links; counts = r.counts } in
+      record {
+        pathnames = pathname-silent v (quiet_pathnames v t);
+        connectivity = connectivity-silent v (quiet_connectivity v t);
+        references = reference-silent v (quiet_references v t);
+      }),
+)

@@ -66,7 +66,7 @@ one_line true false f i = refl
 one_line false ten f i = refl
 
 offers_told : (v : Layout) (i b : ℕ) (s : Claims) (e : List Judged) (fs : List ℕ) → b ≤ 10 → OfferTie v i s e →
-  told_dups (offers_lines v i s fs) ≡ kept_dups v e (map (place_of i b) fs)
+    told_dups (offers_lines v i s fs) ≡ kept_dups v e (map (place_of i b) fs)
 offers_told v i b s e [] few t = refl
 offers_told v i b s e (f ∷ fs) few t =
     let one = offer_tied v i b f s e few t in
@@ -108,7 +108,7 @@ step_told v i b s e (Run start len block) t = one (is_open s) refl (is_in_range 
     one false q r qr z qz =
         let none : step_lines v i s (Run start len block) ≡ [] = rw q refl in
         ap told_dups none ∙ sym (none_told v i (bads_after v b (Run start len block)) e (range_with_len start len)
-          (closed_more i b (bads_after v b (Run start len block)) e (bads_more v b (Run start len block)) (shut_closed i b e (sym t.ready ∙ q))))
+        (closed_more i b (bads_after v b (Run start len block)) e (bads_more v b (Run start len block)) (shut_closed i b e (sym t.ready ∙ q))))
     one true q true qr z qz =
         let same = t.same q in
         let lows = and_parts (nat_lt s.bad 11) (nat_lt s.dups 11) q in
@@ -117,8 +117,8 @@ step_told v i b s e (Run start len block) t = one (is_open s) refl (is_in_range 
         let some : step_lines v i s (Run start len block) ≡ offers_lines v i (record s { runs = s.runs + 1 }) (range_with_len start len) = rw (q, qr) refl in
         let still : bads_after v b (Run start len block) ≡ b = rw qr refl in
         ap told_dups some ∙ (offers_told v i b (record s { runs = s.runs + 1 }) e (range_with_len start len) (omega (arith, same.0, low))
-            (record { used = t.held.used; long = t.held.long; kept = t.held.kept; capped = omega (arith, same.1, high) })
-          ∙ ap (λ n. kept_dups v e (map (place_of i n) (range_with_len start len))) (sym still))
+        (record { used = t.held.used; long = t.held.long; kept = t.held.kept; capped = omega (arith, same.1, high) })
+        ∙ ap (λ n. kept_dups v e (map (place_of i n) (range_with_len start len))) (sym still))
     one true q false qr true qz =
         let same = t.same q in
         let ten = eqb-true s.bad 10 qz in
@@ -134,11 +134,11 @@ step_told v i b s e (Run start len block) t = one (is_open s) refl (is_in_range 
         let some : step_lines v i s (Run start len block) ≡ Bad start i ∷ offers_lines v i (record s { runs = s.runs + 1; bad = s.bad + 1 }) (range_with_len start len) = rw (q, qr, qz) refl in
         let up : bads_after v b (Run start len block) ≡ b + 1 = rw qr refl in
         ap told_dups some ∙ (offers_told v i (b + 1) (record s { runs = s.runs + 1; bad = s.bad + 1 }) e (range_with_len start len) few
-            (record { used = t.held.used; long = t.held.long; kept = t.held.kept; capped = omega (arith, same.1, high) })
-          ∙ ap (λ n. kept_dups v e (map (place_of i n) (range_with_len start len))) (sym up))
+        (record { used = t.held.used; long = t.held.long; kept = t.held.kept; capped = omega (arith, same.1, high) })
+        ∙ ap (λ n. kept_dups v e (map (place_of i n) (range_with_len start len))) (sym up))
 
 steps_told : (v : Layout) (i b : ℕ) (s : Claims) (e : List Judged) (steps : List Step) → Tie v i b s e →
-  told_dups (steps_lines v i s steps) ≡ kept_dups v e (steps_offers v i b steps)
+    told_dups (steps_lines v i s steps) ≡ kept_dups v e (steps_offers v i b steps)
 steps_told v i b s e [] t = refl
 steps_told v i b s e (step ∷ steps) t =
     let next = step_tied v i b s e step t in
@@ -166,7 +166,7 @@ append_none [] ys e = e
 append_none (x ∷ xs) ys e = ap (λ z. x ∷ z) (append_none xs ys e)
 
 owner_told : (v : Layout) (s : Claims) (e : List Judged) (o : Owner) → Tie v o.number 0 (next_inode s) e →
-  told_dups (owner_lines v s o) ≡ kept_dups v e (steps_offers v o.number 0 o.steps)
+    told_dups (owner_lines v s o) ≡ kept_dups v e (steps_offers v o.number 0 o.steps)
 owner_told v s e o t =
     told_append (class_lines o.number o.class) (steps_lines v o.number (next_inode s) o.steps ++ count_lines v o (after_owner v s o))
     ∙ (ap (λ z. z ++ told_dups (steps_lines v o.number (next_inode s) o.steps ++ count_lines v o (after_owner v s o))) (class_told o.number o.class)
@@ -175,14 +175,14 @@ owner_told v s e o t =
     ∙ steps_told v o.number 0 (next_inode s) e o.steps t)))
 
 owners_told : (v : Layout) (n : ℕ) (s : Claims) (e : List Judged) (os : List Owner) → Agrees v s e → are_before n e ≡ true → Rising n os →
-  told_dups (owners_lines v s os) ≡ kept_dups v e (all_offers v os)
+    told_dups (owners_lines v s os) ≡ kept_dups v e (all_offers v os)
 owners_told v n s e [] a h r = refl
 owners_told v n s e (o ∷ os) a h r =
     let first = before_more n o.number e r.0 h in
     let one = owner_tied v s e o a first in
     let after = judged_before v (o.number + 1) e (steps_offers v o.number 0 o.steps) (before_more n (o.number + 1) e (omega (arith, r.0)) h) (steps_before v o.number 0 o.steps) in
     let rest = owners_told v (o.number + 1) (after_owner v s o) (judged v e (steps_offers v o.number 0 o.steps)) os
-      (record { used = one.0.held.used; long = one.0.held.long }) after r.1 in
+    (record { used = one.0.held.used; long = one.0.held.long }) after r.1 in
     told_append (owner_lines v s o) (owners_lines v (after_owner v s o) os)
     ∙ (ap (λ z. z ++ told_dups (owners_lines v (after_owner v s o) os)) (owner_told v s e o (begins v s e o a first))
     ∙ (ap (λ z. kept_dups v e (steps_offers v o.number 0 o.steps) ++ z) rest

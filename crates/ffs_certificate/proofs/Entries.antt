@@ -1,16 +1,16 @@
 -- When the messages on the entries of directories are silent.
-use Rattle.std.specs.Prelude.{◌≡◌, ◌≢◌, ℕ, zero, suc, ◌+◌, ◌<◌, ◌≤◌, ◌==◌, ◌/◌, Bool, true, false, not, ◌&&◌, ◌||◌, nat_lt, nat_le, refl, List, [], ◌∷◌, ◌++◌, Option, Some, None, if◌then◌else◌}
-use Rattle.std.proofs.Common.{arith, sym, ◌∙◌, ap, subst, inl, inr}
-use Rattle.std.proofs.lemmas.Bool.{both_ways, cases_Bool, cases_eq, eqb-true, eqb-false, eq-eqb, ne_eqb, and_parts, and_from, not-true, not-false, not_from_true, not_from_false}
+use Rattle.std.specs.Prelude.{◌≡◌, ◌≢◌, ℕ, zero, suc, ◌+◌, ◌==◌, Bool, true, false, not, nat_lt, refl, List, [], ◌∷◌, Some, if◌then◌else◌}
+use Rattle.std.proofs.Common.{arith, sym, ◌∙◌, ap, subst}
+use Rattle.std.proofs.lemmas.Bool.{eqb-true, eq-eqb, and_parts, and_from, not-false, not_from_true}
 use Rattle.ffs_volume.specs.declared.Attr.{Attr}
 use Rattle.ffs_volume.specs.declared.Role.{Role}
 use Rattle.ffs_volume.specs.declared.Role.TheVariants.{Empty, Dot, Dotdot, Extra, Plain}
 use Rattle.ffs_volume.specs.Directory.{Entry}
-use Rattle.ffs_volume.specs.Roles.{Volume, Seen, is_dir, is_plain, is_allocated, is_one_dot, is_unknown, seen_in}
-use Rattle.ffs_volume.specs.Graph.{Graph, names, names_at, test_at}
+use Rattle.ffs_volume.specs.Roles.{Volume, Seen, is_dir, is_plain, is_allocated, is_one_dot, seen_in}
+use Rattle.ffs_volume.specs.Graph.{names, names_at, test_at}
 use Rattle.ffs_volume.specs.Parents.{graph_of, seen_at}
 use Rattle.ffs_volume.specs.Paths.{dir_path, entry_path}
-use Rattle.ffs_volume.specs.Messages.{NameMessage, told, out_of_range, whiteout, unallocated, extraneous, kind_entry, extra_dot, extra_dotdot}
+use Rattle.ffs_volume.specs.Messages.{told, out_of_range, whiteout, unallocated, extraneous, kind_entry, extra_dot, extra_dotdot}
 use Rattle.ffs_volume.specs.PathnameCheck.{attributes, label_of, seen_lines, seen_told, entry_lines, plain_lines, named_lines, is_bad_whiteout, tells_suspect, suspect_told, is_extraneous, is_other_kind, extra_told}
 use Rattle.ffs_certificate.proofs.Silence.{nil-left, nil-right, nil-both, told-quiet, told-silent, if-quiet, if-silent, else-quiet, else-silent}
 
@@ -30,41 +30,47 @@ pub record IsPlainQuiet (v : Volume) (s j : ℕ) (e : Entry) : Type 0 where
 named-quiet : (v : Volume) (s j : ℕ) (e : Entry) → is_allocated (v.class e.number) ≡ true → named_lines v s j e ≡ [] → IsNamedQuiet v s j e
 unfolding named_lines
 named-quiet v s j e a h =
-  let one = nil-left (told (tells_suspect v s j e.number) (suspect_told v e.number (entry_path (graph_of v) s e.name))) _ h in
-  let rest = nil-right (told (tells_suspect v s j e.number) (suspect_told v e.number (entry_path (graph_of v) s e.name))) _ h in
-  let two = nil-left (told (is_extraneous v s j e.number) (extraneous (entry_path (graph_of v) s e.name) (dir_path (graph_of v) e.number))) _ rest in
-  let three = nil-right (told (is_extraneous v s j e.number) (extraneous (entry_path (graph_of v) s e.name) (dir_path (graph_of v) e.number))) _ rest in
-  record { allocated = a;
-    suspect = told-quiet _ (suspect_told v e.number (entry_path (graph_of v) s e.name)) one;
-    link = told-quiet _ (extraneous (entry_path (graph_of v) s e.name) (dir_path (graph_of v) e.number)) two;
-    kind = told-quiet _ (kind_entry (attributes v e.number) (label_of (v.class e.number)) (entry_path (graph_of v) s e.name)) three }
+    let one = nil-left (told (tells_suspect v s j e.number) (suspect_told v e.number (entry_path (graph_of v) s e.name))) _ h in
+    let rest = nil-right (told (tells_suspect v s j e.number) (suspect_told v e.number (entry_path (graph_of v) s e.name))) _ h in
+    let two = nil-left (told (is_extraneous v s j e.number) (extraneous (entry_path (graph_of v) s e.name) (dir_path (graph_of v) e.number))) _ rest in
+    let three = nil-right (told (is_extraneous v s j e.number) (extraneous (entry_path (graph_of v) s e.name) (dir_path (graph_of v) e.number))) _ rest in
+    record {
+      allocated = a;
+      suspect = told-quiet _ (suspect_told v e.number (entry_path (graph_of v) s e.name)) one;
+      link = told-quiet _ (extraneous (entry_path (graph_of v) s e.name) (dir_path (graph_of v) e.number)) two;
+      kind = told-quiet _ (kind_entry (attributes v e.number) (label_of (v.class e.number)) (entry_path (graph_of v) s e.name)) three;
+    }
 
 named-silent : (v : Volume) (s j : ℕ) (e : Entry) → IsNamedQuiet v s j e → named_lines v s j e ≡ []
 unfolding named_lines
 named-silent v s j e q =
-  nil-both (told (tells_suspect v s j e.number) (suspect_told v e.number (entry_path (graph_of v) s e.name))) _
+    nil-both (told (tells_suspect v s j e.number) (suspect_told v e.number (entry_path (graph_of v) s e.name))) _
     (told-silent _ (suspect_told v e.number (entry_path (graph_of v) s e.name)) q.suspect)
     (nil-both (told (is_extraneous v s j e.number) (extraneous (entry_path (graph_of v) s e.name) (dir_path (graph_of v) e.number))) _
-      (told-silent _ (extraneous (entry_path (graph_of v) s e.name) (dir_path (graph_of v) e.number)) q.link)
-      (told-silent _ (kind_entry (attributes v e.number) (label_of (v.class e.number)) (entry_path (graph_of v) s e.name)) q.kind))
+    (told-silent _ (extraneous (entry_path (graph_of v) s e.name) (dir_path (graph_of v) e.number)) q.link)
+    (told-silent _ (kind_entry (attributes v e.number) (label_of (v.class e.number)) (entry_path (graph_of v) s e.name)) q.kind))
 
 pub plain-quiet : (v : Volume) (s j : ℕ) (e : Entry) → plain_lines v s j e ≡ [] → IsPlainQuiet v s j e
 unfolding plain_lines
 plain-quiet v s j e h =
-  let a = if-quiet (not (nat_lt e.number v.count)) (out_of_range e.number (entry_path (graph_of v) s e.name)) [] _ h in
-  let b = if-quiet (is_bad_whiteout e) (whiteout e.number (entry_path (graph_of v) s e.name)) [] _ a.1 in
-  record { below = not-false _ a.0; no_whiteout = b.0; named = λ n.
-    let c = else-quiet (e.number == 1) _ b.1 n in
-    let d = if-quiet (not (is_allocated (v.class e.number))) (unallocated (attributes v e.number) (entry_path (graph_of v) s e.name)) [] _ c in
-    named-quiet v s j e (not-false _ d.0) d.1 }
+    let a = if-quiet (not (nat_lt e.number v.count)) (out_of_range e.number (entry_path (graph_of v) s e.name)) [] _ h in
+    let b = if-quiet (is_bad_whiteout e) (whiteout e.number (entry_path (graph_of v) s e.name)) [] _ a.1 in
+    record {
+      below = not-false _ a.0;
+      no_whiteout = b.0;
+      named = λ n.
+          let c = else-quiet (e.number == 1) _ b.1 n in
+          let d = if-quiet (not (is_allocated (v.class e.number))) (unallocated (attributes v e.number) (entry_path (graph_of v) s e.name)) [] _ c in
+          named-quiet v s j e (not-false _ d.0) d.1;
+    }
 
 pub plain-silent : (v : Volume) (s j : ℕ) (e : Entry) → IsPlainQuiet v s j e → plain_lines v s j e ≡ []
 unfolding plain_lines
 plain-silent v s j e q =
-  if-silent (not (nat_lt e.number v.count)) _ _ (not_from_true _ q.below)
+    if-silent (not (nat_lt e.number v.count)) _ _ (not_from_true _ q.below)
     (if-silent (is_bad_whiteout e) _ _ q.no_whiteout
-      (else-silent (e.number == 1) _ (λ n.
-        if-silent (not (is_allocated (v.class e.number))) _ _ (not_from_true _ (q.named n).allocated) (named-silent v s j e (q.named n)))))
+    (else-silent (e.number == 1) _ (λ n.
+    if-silent (not (is_allocated (v.class e.number))) _ _ (not_from_true _ (q.named n).allocated) (named-silent v s j e (q.named n)))))
 
 -- an entry: not extra, and quiet if it is plain
 pub record IsSeenQuiet (v : Volume) (s j : ℕ) (e : Seen) : Type 0 where
@@ -82,7 +88,8 @@ pub seen-quiet : (v : Volume) (s j : ℕ) (e : Seen) → seen_lines v s j e ≡ 
 unfolding seen_lines
 seen-quiet v s j e h = record {
   no_extra = λ x. extra_told-some (attributes v s) (dir_path (graph_of v) s) e.entry (sym (ap (λ r. seen_told v s j r e.entry) x) ∙ h);
-  plain = λ x. plain-quiet v s j e.entry (sym (ap (λ r. seen_told v s j r e.entry) x) ∙ h) }
+  plain = λ x. plain-quiet v s j e.entry (sym (ap (λ r. seen_told v s j r e.entry) x) ∙ h);
+}
 
 pub seen-silent : (v : Volume) (s j : ℕ) (e : Seen) → IsSeenQuiet v s j e → seen_lines v s j e ≡ []
 unfolding seen_lines
@@ -100,23 +107,23 @@ pub entries-quiet : (v : Volume) (s j : ℕ) (es : List Seen) → entry_lines v 
 unfolding entry_lines
 entries-quiet v s j [] h k e x = absurd (cc)
 entries-quiet v s j (f ∷ es) h zero e x =
-  let q : f ≡ e = cc in
-  let z : j ≡ j + 0 = omega arith in
-  subst (λ n. IsSeenQuiet v s n e) z (subst (λ y. IsSeenQuiet v s j y) q (seen-quiet v s j f (nil-left (seen_lines v s j f) _ h)))
+    let q : f ≡ e = cc in
+    let z : j ≡ j + 0 = omega arith in
+    subst (λ n. IsSeenQuiet v s n e) z (subst (λ y. IsSeenQuiet v s j y) q (seen-quiet v s j f (nil-left (seen_lines v s j f) _ h)))
 entries-quiet v s j (f ∷ es) h (suc k) e x =
-  let z : suc j + k ≡ j + suc k = omega arith in
-  subst (λ n. IsSeenQuiet v s n e) z (entries-quiet v s (suc j) es (nil-right (seen_lines v s j f) _ h) k e x)
+    let z : suc j + k ≡ j + suc k = omega arith in
+    subst (λ n. IsSeenQuiet v s n e) z (entries-quiet v s (suc j) es (nil-right (seen_lines v s j f) _ h) k e x)
 
 pub entries-silent : (v : Volume) (s j : ℕ) (es : List Seen) → ((k : ℕ) (e : Seen) → seen_at es k ≡ Some e → IsSeenQuiet v s (j + k) e) → entry_lines v s j es ≡ []
 unfolding entry_lines
 entries-silent v s j [] h = refl
 entries-silent v s j (f ∷ es) h =
-  let z : j + 0 ≡ j = omega arith in
-  nil-both (seen_lines v s j f) _
+    let z : j + 0 ≡ j = omega arith in
+    nil-both (seen_lines v s j f) _
     (seen-silent v s j f (subst (λ n. IsSeenQuiet v s n f) z (h 0 f refl)))
     (entries-silent v s (suc j) es (λ k e x.
-      let y : j + suc k ≡ suc j + k = omega arith in
-      subst (λ n. IsSeenQuiet v s n e) y (h (suc k) e x)))
+    let y : j + suc k ≡ suc j + k = omega arith in
+    subst (λ n. IsSeenQuiet v s n e) y (h (suc k) e x)))
 
 -- an entry as the graph sees it
 plain-true : (r : Role) → is_plain r ≡ true → r ≡ Plain
@@ -146,14 +153,14 @@ pub record IsNamer (v : Volume) (s j x : ℕ) : Type 0 where
 
 pub names_at-gives : (v : Volume) (s j x : ℕ) → names_at (graph_of v) s j x ≡ true → IsNamer v s j x
 names_at-gives v s j x h =
-  let p = and_parts (is_dir v s) (test_at (names x) j (seen_in v s)) h in
-  let t = test-gives (names x) j (seen_in v s) p.1 in
-  let e = t.0 in
-  let q = and_parts (is_plain e.role) (e.entry.number == x) t.2 in
-  record { dir = p.0; entry = e; there = t.1; role = plain-true e.role q.0; number = eqb-true e.entry.number x q.1 }
+    let p = and_parts (is_dir v s) (test_at (names x) j (seen_in v s)) h in
+    let t = test-gives (names x) j (seen_in v s) p.1 in
+    let e = t.0 in
+    let q = and_parts (is_plain e.role) (e.entry.number == x) t.2 in
+    record { dir = p.0; entry = e; there = t.1; role = plain-true e.role q.0; number = eqb-true e.entry.number x q.1 }
 
 pub names_at-from : (v : Volume) (s j x : ℕ) → IsNamer v s j x → names_at (graph_of v) s j x ≡ true
 names_at-from v s j x n =
-  and_from (is_dir v s) (test_at (names x) j (seen_in v s)) n.dir
+    and_from (is_dir v s) (test_at (names x) j (seen_in v s)) n.dir
     (test-from (names x) j (seen_in v s) n.entry n.there
-      (and_from (is_plain n.entry.role) (n.entry.entry.number == x) (ap is_plain n.role) (eq-eqb n.entry.entry.number x n.number)))
+    (and_from (is_plain n.entry.role) (n.entry.entry.number == x) (ap is_plain n.role) (eq-eqb n.entry.entry.number x n.number)))

@@ -1,24 +1,23 @@
 -- Where the checks are silent, the directories are consistent: one law for each condition.
-use Rattle.std.specs.Prelude.{◌≡◌, ◌≢◌, ℕ, zero, suc, ◌+◌, ◌<◌, ◌≤◌, ◌==◌, ◌/◌, ◌%◌, Bool, true, false, not, ◌&&◌, ◌||◌, nat_lt, nat_le, refl, List, [], ◌∷◌, Option, Some, None, IsSomeAnd}
-use Rattle.std.proofs.Common.{arith, sym, ◌∙◌, ap, subst, inl, inr, ◌⊎◌}
-use Rattle.std.proofs.lemmas.Bool.{both_ways, cases_Bool, cases_eq, eqb-true, eqb-false, eq-eqb, ne_eqb, ltb-true, lt-ltb, le-leb, and_parts, and_from, or_cases, or_parts, or_from, or_right, not-true, not-false, not_from_true, not_from_false, false_from_ne_true}
+use Rattle.std.specs.Prelude.{◌≡◌, ◌≢◌, ℕ, ◌<◌, ◌==◌, ◌/◌, ◌%◌, true, false, not, ◌&&◌, nat_lt, nat_le, refl, Option, Some, None, IsSomeAnd}
+use Rattle.std.proofs.Common.{arith, sym, ◌∙◌, ap, subst, inl, inr}
+use Rattle.std.proofs.lemmas.Bool.{both_ways, cases_eq, eqb-true, eq-eqb, ne_eqb, lt-ltb, le-leb, and_parts, and_from, or_parts, not-false, not_from_false, false_from_ne_true}
 use Rattle.ffs_volume.specs.declared.Class.{Class}
 use Rattle.ffs_volume.specs.declared.Class.TheVariants.{Free, Partial, Unknown, File, Dir}
-use Rattle.ffs_volume.specs.declared.Role.TheVariants.{Empty, Dot, Dotdot, Extra, Plain}
 use Rattle.ffs_volume.specs.Directory.{Entry}
-use Rattle.ffs_volume.specs.Roles.{Volume, Seen, is_dir, is_inode, is_directory, is_allocated, is_some_inode, is_unknown, is_suspect, seen_in, dot, dotdot, references}
+use Rattle.ffs_volume.specs.Roles.{Volume, is_dir, is_inode, is_directory, is_allocated, is_some_inode, is_unknown, is_suspect, dotdot, references}
 use Rattle.ffs_volume.specs.Climb.{is_value, is_value-true}
-use Rattle.ffs_volume.specs.Graph.{Graph, parent, parent_entry, names_at, lost, dead, reached, unref_dir, is_parent_entry, IsSane, NoneDead, NoUnrefDir, AllReached, NoExtraneous, NamedOnce, LinksRight}
+use Rattle.ffs_volume.specs.Graph.{Graph, parent, parent_entry, lost, reached, AllReached, NoExtraneous, NamedOnce}
 use Rattle.ffs_certificate.proofs.Lost.{lost-true, silent-reached}
 use Rattle.ffs_certificate.proofs.Links.{links-right, has_parent_entry}
-use Rattle.ffs_volume.specs.Parents.{graph_of, seen_at, is_from_parent}
-use Rattle.ffs_volume.specs.PathnameCheck.{is_short, is_broken, is_bad_whiteout, is_other, is_extraneous, is_other_kind}
+use Rattle.ffs_volume.specs.Parents.{graph_of, is_from_parent}
+use Rattle.ffs_volume.specs.PathnameCheck.{is_short, is_bad_whiteout, is_other, is_extraneous, is_other_kind}
 use Rattle.ffs_volume.specs.Connectivity.{is_cut_off}
-use Rattle.ffs_volume.specs.DirectoriesRight.{IsVolume, IsUnmarked, IsWhole, IsPlainRight, IsDirRight, AreDirsRight, IsLinked, AreLinksRight, IsCountRight, AreCountsRight}
-use Rattle.ffs_certificate.proofs.Silence.{and_false-right, and_false-from}
+use Rattle.ffs_volume.specs.DirectoriesRight.{IsVolume, IsUnmarked, IsWhole, IsPlainRight, AreDirsRight, AreLinksRight, AreCountsRight}
+use Rattle.ffs_certificate.proofs.Silence.{and_false-right}
 use Rattle.ffs_certificate.proofs.Live.{plain-live}
-use Rattle.ffs_certificate.proofs.Entries.{IsNamer, names_at-gives, IsPlainQuiet, IsNamedQuiet, IsSeenQuiet}
-use Rattle.ffs_certificate.proofs.Dirs.{IsShapeQuiet, IsDirQuiet, IsPathnameQuiet, dir-below, IsDotdotQuiet}
+use Rattle.ffs_certificate.proofs.Entries.{names_at-gives, IsPlainQuiet}
+use Rattle.ffs_certificate.proofs.Dirs.{IsShapeQuiet, IsPathnameQuiet, dir-below, IsDotdotQuiet}
 use Rattle.ffs_certificate.proofs.Counts.{IsCountQuiet, count-true}
 use Rattle.ffs_certificate.proofs.Suspects.{is_sane, dir-from_two, none_empty, none_suspect, none_dead}
 
@@ -34,7 +33,7 @@ some-map P Q (Some e) f h = f e h
 
 pub root_is_dir : (v : Volume) → IsVolume v → v.class 2 ≡ Dir → is_dir v 2 ≡ true
 root_is_dir v vol h =
-  and_from (nat_le 2 2 && nat_lt 2 v.count) (is_directory (v.class 2)) (and_from (nat_le 2 2) (nat_lt 2 v.count) refl (lt-ltb 2 v.count vol.some)) (ap is_directory h)
+    and_from (nat_le 2 2 && nat_lt 2 v.count) (is_directory (v.class 2)) (and_from (nat_le 2 2) (nat_lt 2 v.count) refl (lt-ltb 2 v.count vol.some)) (ap is_directory h)
 
 known-false : (c : Class) → c ≢ Unknown → is_unknown c ≡ false
 known-false Unknown h = absurd (h refl)
@@ -47,66 +46,72 @@ known-false Free h = refl
 whole : (v : Volume) (d : ℕ) → (v.inode d).size ≢ 0 → IsShapeQuiet v d → IsWhole (v.inode d).size
 whole v d n q = record {
   some = omega arith;
-  whole = eqb-true ((v.inode d).size % 512) 0 (not-false _ (and_false-right (not (is_short v d)) (not ((v.inode d).size % 512 == 0)) q.broken (not_from_false _ q.short))) }
+  whole = eqb-true ((v.inode d).size % 512) 0 (not-false _ (and_false-right (not (is_short v d)) (not ((v.inode d).size % 512 == 0)) q.broken (not_from_false _ q.short)));
+}
 
 -- ENTRIES: a plain entry is a whiteout, or names an inode with the type of its mode
 whiteout_kind : (e : Entry) → is_bad_whiteout e ≡ false → e.number ≡ 1 → e.kind ≡ 14
 whiteout_kind e h n =
-  eqb-true e.kind 14 (not-false _ (and_false-right (e.number == 1) (not (e.kind == 14)) (or_parts ((e.number == 1) && not (e.kind == 14)) ((e.kind == 14) && not (e.number == 1)) h).0 (eq-eqb e.number 1 n)))
+    eqb-true e.kind 14 (not-false _ (and_false-right (e.number == 1) (not (e.kind == 14)) (or_parts ((e.number == 1) && not (e.kind == 14)) ((e.kind == 14) && not (e.number == 1)) h).0 (eq-eqb e.number 1 n)))
 
 plain_right : (v : Volume) (s j : ℕ) (e : Entry) → IsUnmarked v → e.number ≢ 0 → IsPlainQuiet v s j e → IsPlainRight v e
 plain_right v s j e un live q =
-  elim (cases_eq e.number 1) [
-    inl y ↦ inl (y, whiteout_kind e q.no_whiteout y)
-  | inr n ↦
-      let m = q.named (ne_eqb e.number 1 n) in
-      let k : is_other_kind v e ≡ false = m.kind in
-      let u = known-false (v.class e.number) (un.known e.number) in
-      inr (and_from (is_inode v e.number) (is_allocated (v.class e.number)) (and_from (nat_le 2 e.number) (nat_lt e.number v.count) (le-leb 2 e.number (let a : e.number ≢ 1 = n in omega arith)) q.below) m.allocated,
-        eqb-true e.kind ((v.inode e.number).mode / 4096) (not-false _ (and_false-right (not (is_unknown (v.class e.number))) (not (e.kind == (v.inode e.number).mode / 4096)) k (not_from_false _ u)))) ]
+    elim (cases_eq e.number 1) [
+      | inl y ↦ inl (y, whiteout_kind e q.no_whiteout y)
+      | inr n ↦
+          let m = q.named (ne_eqb e.number 1 n) in
+          let k : is_other_kind v e ≡ false = m.kind in
+          let u = known-false (v.class e.number) (un.known e.number) in
+          inr (
+            and_from (is_inode v e.number) (is_allocated (v.class e.number)) (and_from (nat_le 2 e.number) (nat_lt e.number v.count) (le-leb 2 e.number (let a : e.number ≢ 1 = n in omega arith)) q.below) m.allocated,
+            eqb-true e.kind ((v.inode e.number).mode / 4096) (not-false _ (and_false-right (not (is_unknown (v.class e.number))) (not (e.kind == (v.inode e.number).mode / 4096)) k (not_from_false _ u))),
+          )
+    ]
 
 -- each directory holds what it should
 pub dirs_right : (v : Volume) → IsVolume v → IsUnmarked v → IsQuiet v → AreDirsRight v
 dirs_right v vol un q = record {
   root = q.pathnames.root;
   each = λ d h.
-    let n = none_empty v vol q.pathnames q.references d h in
-    let p = q.pathnames.each d h n in
-    record {
-      size = whole v d n p.shape;
-      gap = p.shape.gap;
-      sound = p.shape.sound;
-      dot_there = p.dot_there;
-      dotdot_there = some-map _ _ (dotdot v d) (λ e b. b.1) p.dotdot_there;
-      no_extra = λ j s t. (p.entries j s t).no_extra;
-      plain = λ j s t r. plain_right v d j s.entry un (plain-live v d j s t r) ((p.entries j s t).plain r) } }
+      let n = none_empty v vol q.pathnames q.references d h in
+      let p = q.pathnames.each d h n in
+      record {
+        size = whole v d n p.shape;
+        gap = p.shape.gap;
+        sound = p.shape.sound;
+        dot_there = p.dot_there;
+        dotdot_there = some-map _ _ (dotdot v d) (λ e b. b.1) p.dotdot_there;
+        no_extra = λ j s t. (p.entries j s t).no_extra;
+        plain = λ j s t r. plain_right v d j s.entry un (plain-live v d j s t r) ((p.entries j s t).plain r);
+      };
+}
 
 -- each directory is reached
 pub all_reached : (v : Volume) → IsVolume v → IsUnmarked v → IsQuiet v → AllReached (graph_of v)
 all_reached v vol un q =
-  let quiet = none_suspect v un (none_empty v vol q.pathnames q.references) in
-  (silent-reached (graph_of v) (is_suspect v) (is_sane v vol) (none_dead v quiet)).0 (λ d. false_from_ne_true (is_cut_off v d) (λ t.
+    let quiet = none_suspect v un (none_empty v vol q.pathnames q.references) in
+    (silent-reached (graph_of v) (is_suspect v) (is_sane v vol) (none_dead v quiet)).0 (λ d. false_from_ne_true (is_cut_off v d) (λ t.
     let l = lost-true (graph_of v) (is_suspect v) d (and_parts (lost (graph_of v) (is_suspect v) d) _ t).0 in
     both_ways (is_cut_off v d) (q.connectivity d (dir-below v d l.dir)) t))
 
 -- each plain entry that names a directory is its parent entry
 pub no_extraneous : (v : Volume) → IsVolume v → IsUnmarked v → IsQuiet v → NoExtraneous (graph_of v)
 no_extraneous v vol un q s j d t h =
-  let m = names_at-gives v s j d t in
-  let p = (((q.pathnames.each s m.dir (none_empty v vol q.pathnames q.references s m.dir)).entries j m.entry m.there).plain m.role) in
-  let two = dir-from_two v d h in
-  let number = m.number in
-  let not_one : (m.entry.entry.number == 1) ≡ false = ne_eqb m.entry.entry.number 1 (omega arith) in
-  let link : is_extraneous v s j d ≡ false = subst (λ x. is_extraneous v s j x ≡ false) number (p.named not_one).link in
-  let from = not-false _ (and_false-right (is_dir v d) (not (is_from_parent (graph_of v) s j d)) link h) in
-  let both = and_parts (is_value (parent (graph_of v) d) s) (is_value (parent_entry (graph_of v) d) j) from in
-  (is_value-true (parent (graph_of v) d) s both.0, is_value-true (parent_entry (graph_of v) d) j both.1)
+    let m = names_at-gives v s j d t in
+    let p = (((q.pathnames.each s m.dir (none_empty v vol q.pathnames q.references s m.dir)).entries j m.entry m.there).plain m.role) in
+    let two = dir-from_two v d h in
+    let number = m.number in
+    let not_one : (m.entry.entry.number == 1) ≡ false = ne_eqb m.entry.entry.number 1 (omega arith) in
+    let link : is_extraneous v s j d ≡ false = subst (λ x. is_extraneous v s j x ≡ false) number (p.named not_one).link in
+    let from = not-false _ (and_false-right (is_dir v d) (not (is_from_parent (graph_of v) s j d)) link h) in
+    let both = and_parts (is_value (parent (graph_of v) d) s) (is_value (parent_entry (graph_of v) d) j) from in
+    (is_value-true (parent (graph_of v) d) s both.0, is_value-true (parent_entry (graph_of v) d) j both.1)
 
 -- the parent of a directory that is named once is where that name is
 pub parent_once : (v : Volume) (d : ℕ) → d ≢ 2 → reached (graph_of v) d ≡ true → (o : NamedOnce (graph_of v) d) → parent (graph_of v) d ≡ Some o.in_dir
 parent_once v d n r o =
-  let e = has_parent_entry (graph_of v) d n r in
-  e.2.0 ∙ ap Some (o.only e.0 e.1 e.3).0
+    let e = has_parent_entry (graph_of v) d n r in
+    e.2.0 ∙ ap Some (o.only e.0 e.1 e.3).0
 
 pub parent_root : (g : Graph) → parent g 2 ≡ Some 2
 unfolding parent
@@ -119,21 +124,25 @@ dotdot_is v d s p q = some-map _ _ (dotdot v d) (λ e b. sym (eqb-true s e.numbe
 -- the links between directories are right
 pub links_right : (v : Volume) → IsVolume v → IsUnmarked v → IsQuiet v → AreLinksRight v
 links_right v vol un q =
-  let all = all_reached v vol un q in
-  let sizes = none_empty v vol q.pathnames q.references in
-  let root = root_is_dir v vol q.pathnames.root in
-  let links = (links-right (graph_of v) root all).0 (no_extraneous v vol un q) in
-  record {
-    each = λ d h n.
-      let o = links.once d h n in
-      record { once = o; reached_from_root = all d h;
-        dotdot_right = dotdot_is v d o.in_dir (parent_once v d n (all d h) o) (q.pathnames.each d h (sizes d h)).dotdot_there };
-    root = links.root;
-    root_dotdot = dotdot_is v 2 2 (parent_root (graph_of v)) (q.pathnames.each 2 root (sizes 2 root)).dotdot_there }
+    let all = all_reached v vol un q in
+    let sizes = none_empty v vol q.pathnames q.references in
+    let root = root_is_dir v vol q.pathnames.root in
+    let links = (links-right (graph_of v) root all).0 (no_extraneous v vol un q) in
+    record {
+      each = λ d h n.
+          let o = links.once d h n in
+          record {
+            once = o;
+            reached_from_root = all d h;
+            dotdot_right = dotdot_is v d o.in_dir (parent_once v d n (all d h) o) (q.pathnames.each d h (sizes d h)).dotdot_there;
+          };
+      root = links.root;
+      root_dotdot = dotdot_is v 2 2 (parent_root (graph_of v)) (q.pathnames.each 2 root (sizes 2 root)).dotdot_there;
+    }
 
 -- the counts of links are right
 pub counts_right : (v : Volume) → IsQuiet v → AreCountsRight v
 counts_right v q i h =
-  let c = q.references i h in
-  let n = c.some in
-  record { same = count-true (v.inode i).nlink (references v i) c.same; some = omega arith }
+    let c = q.references i h in
+    let n = c.some in
+    record { same = count-true (v.inode i).nlink (references v i) c.same; some = omega arith }

@@ -18,11 +18,11 @@ times_cons f g fs = sum_by-cons (λ h. cond (h == f) 1 0) g fs
 
 -- a bit that is set where it wasn't
 pub bit_set : (used : List Bool) (g f : ℕ) → g < length used → is_set used g ≡ false →
-  bit (is_set (slice_set used g true) f) ≡ bit (g == f) + bit (is_set used f)
+    bit (is_set (slice_set used g true) f) ≡ bit (g == f) + bit (is_set used f)
 bit_set used g f below free = elim (cases_eq g f) [
-    inl same ↦ rw (← same) (rw (get_or-set_same used g true false below, free, eq-eqb g g refl) refl)
+  | inl same ↦ rw (← same) (rw (get_or-set_same used g true false below, free, eq-eqb g g refl) refl)
   | inr other ↦ rw (get_or-set_other used g f true false (λ e. other (sym e)), ne_eqb g f other) (omega arith)
-  ]
+]
 
 -- each number of the list stands in one place, and isn't used
 abbrev pub IsNew : List Bool → List ℕ → Type 0
@@ -50,7 +50,7 @@ new_fresh used (g ∷ fs) below new =
     let a = and_parts (nat_lt g (length used)) (are_below (length used) fs) below in
     let free : is_set used g ≡ false = one (is_set used g) refl in
     let rest = new_fresh (slice_set used g true) fs (ap (λ n. are_below n fs) (length-set used g true) ∙ a.1)
-      (λ f. omega (arith, new f, times_cons f g fs, bit_set used g f (ltb-true g (length used) a.0) free)) in
+    (λ f. omega (arith, new f, times_cons f g fs, bit_set used g f (ltb-true g (length used) a.0) free)) in
     rw free rest
   where
     one : (b : Bool) → is_set used g ≡ b → b ≡ false
@@ -64,7 +64,7 @@ new_fresh used (g ∷ fs) below new =
 
 -- after the marks of new numbers
 pub marked_bit : (used : List Bool) (fs : List ℕ) → are_below (length used) fs ≡ true → fresh used fs ≡ true → (f : ℕ) →
-  bit (is_set (mark used fs) f) ≡ times f fs + bit (is_set used f)
+    bit (is_set (mark used fs) f) ≡ times f fs + bit (is_set used f)
 marked_bit used [] below e f = omega arith
 marked_bit used (g ∷ fs) below e f =
     let a = and_parts (nat_lt g (length used)) (are_below (length used) fs) below in

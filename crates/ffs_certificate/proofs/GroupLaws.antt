@@ -1,6 +1,6 @@
 -- Phase 5 tells nothing exactly where all groups are right.
 use Rattle.std.proofs.Common.{zero, suc, inl, inr, ◌≡◌, ℕ, ◌+◌, ◌<◌, ◌≤◌, Bool, true, false, arith, refl, sym, ap, subst, ◌∙◌, List, [], ◌∷◌, ◌++◌, ◌↔◌}
-use Rattle.std.specs.Prelude.{nat_lt, ◌&&◌, ◌||◌, ◌==◌, not, if◌then◌else◌}
+use Rattle.std.specs.Prelude.{nat_lt, ◌&&◌, ◌||◌, ◌==◌, not, if◌then◌else◌, ℤ}
 use Rattle.std.specs.List.{list_all, list_any, flat_map, range_with_len}
 use Rattle.std.proofs.Math.Path.{fun_ext}
 use Rattle.std.proofs.lemmas.Bool.{and_parts, and_from, cases_eq}
@@ -30,8 +30,8 @@ all_at p a zero c e low high = absurd (omega arith)
 all_at p a (suc n) c e low high =
     let parts = and_parts (p a) (list_all p (range_with_len (a + 1) n)) e in
     elim (cases_eq a c) [
-      inl same ↦ subst (λ k. p k ≡ true) same parts.0
-    | inr other ↦ all_at p (a + 1) n c parts.1 (omega arith) (omega arith)
+      | inl same ↦ subst (λ k. p k ≡ true) same parts.0
+      | inr other ↦ all_at p (a + 1) n c parts.1 (omega arith) (omega arith)
     ]
 
 all_from : (p : ℕ → Bool) (a n : ℕ) → ((c : ℕ) → a ≤ c → c < a + n → p c ≡ true) → list_all p (range_with_len a n) ≡ true
@@ -62,7 +62,7 @@ nil_unless true m = refl
 nil_unless false m = refl
 
 shape : (a b d e : Bool) (m : BlockMessage) →
-  is_nil (if a then unless b FreeCounts ++ (unless d MapsWrong ++ unless e GroupSums) else m ∷ unless b FreeCounts) ≡ (a && (b && (d && e)))
+    is_nil (if a then unless b FreeCounts ++ (unless d MapsWrong ++ unless e GroupSums) else m ∷ unless b FreeCounts) ≡ (a && (b && (d && e)))
 shape true true true true m = refl
 shape true true true false m = refl
 shape true true false e m = refl
@@ -71,14 +71,14 @@ shape false b d e m = refl
 
 abbrev pub is_group_right : Layout → List ℕ → (ℕ → Bool) → (ℕ → Class) → ℕ → Bool
 is_group_right v image free class c =
-  is_magic v (group_block v image c)
-  && (is_record v free class c (summary_record v image c)
-  && ((are_places v (group_block v image c) && are_maps v free class c (group_block v image c)) && are_sums v free class c (group_block v image c)))
+    is_magic v (group_block v image c)
+    && (is_record v free class c (summary_record v image c)
+    && ((are_places v (group_block v image c) && are_maps v free class c (group_block v image c)) && are_sums v free class c (group_block v image c)))
 
-module _ (v : Layout) (image super : List ℕ) (free : ℕ → Bool) (class : ℕ → Class) where
+module _ (v : Layout) (image : List ℕ) (totals : List ℤ) (free : ℕ → Bool) (class : ℕ → Class) where
   group_says : (c : ℕ) → is_nil (group_lines v image free class c) ≡ is_group_right v image free class c
   group_says c = shape (is_magic v (group_block v image c)) (is_record v free class c (summary_record v image c))
-    (are_places v (group_block v image c) && are_maps v free class c (group_block v image c)) (are_sums v free class c (group_block v image c)) (GroupMagic c)
+      (are_places v (group_block v image c) && are_maps v free class c (group_block v image c)) (are_sums v free class c (group_block v image c)) (GroupMagic c)
 
   group_facts : (c : ℕ) → is_group_right v image free class c ≡ true → GroupRight v image free class c
   group_facts c e =
@@ -91,22 +91,23 @@ module _ (v : Layout) (image super : List ℕ) (free : ℕ → Bool) (class : �
   group_test : (c : ℕ) → GroupRight v image free class c → is_group_right v image free class c ≡ true
   group_test c g = and_from _ _ g.magic (and_from _ _ g.record_is (and_from _ _ (and_from _ _ g.places g.maps) g.sums))
 
-  all_say : is_nil (phase5_lines v image super free class) ≡ (list_all (λ c. is_nil (group_lines v image free class c)) (group_numbers v) && is_total v free class super)
+  all_say : is_nil (phase5_lines v image totals free class) ≡ (list_all (λ c. is_nil (group_lines v image free class c)) (group_numbers v) && is_total v free class totals)
   unfolding phase5_lines
   all_say =
-      once_nil (all_group_lines v image super free class)
-      ∙ (nil_append (flat_map (group_lines v image free class) (group_numbers v)) (unless (is_total v free class super) FreeCounts)
-      ∙ rw (nil_flat (group_lines v image free class) (group_numbers v), nil_unless (is_total v free class super) FreeCounts) refl)
+      once_nil (all_group_lines v image totals free class)
+      ∙ (nil_append (flat_map (group_lines v image free class) (group_numbers v)) (unless (is_total v free class totals) FreeCounts)
+      ∙ rw (nil_flat (group_lines v image free class) (group_numbers v), nil_unless (is_total v free class totals) FreeCounts) refl)
 
-  pub phase5_silent : (phase5_lines v image super free class ≡ []) ↔ GroupsRight v image super free class
+  pub phase5_silent : (phase5_lines v image totals free class ≡ []) ↔ GroupsRight v image totals free class
   phase5_silent = (
-      (λ e.
-        let parts = and_parts (list_all (λ c. is_nil (group_lines v image free class c)) (group_numbers v)) (is_total v free class super) (sym all_say ∙ ap is_nil e) in
+    (λ e.
+        let parts = and_parts (list_all (λ c. is_nil (group_lines v image free class c)) (group_numbers v)) (is_total v free class totals) (sym all_say ∙ ap is_nil e) in
         record {
           groups = λ c lt. group_facts c (sym (group_says c) ∙ all_at (λ k. is_nil (group_lines v image free class k)) 0 v.ncg c parts.0 (omega arith) (omega arith));
-          total = parts.1
+          total = parts.1;
         }),
-      (λ g. nil_is _ (all_say ∙ and_from _ _ (all_from (λ k. is_nil (group_lines v image free class k)) 0 v.ncg (λ c low high. group_says c ∙ group_test c (g.groups c (omega arith)))) g.total)))
+    (λ g. nil_is _ (all_say ∙ and_from _ _ (all_from (λ k. is_nil (group_lines v image free class k)) 0 v.ncg (λ c low high. group_says c ∙ group_test c (g.groups c (omega arith)))) g.total)),
+  )
 
 -- whether a number stands in a list, and how often
 any_times : (f : ℕ) (fs : List ℕ) → list_any (λ g. g == f) fs ≡ true → 1 ≤ times f fs
@@ -159,7 +160,7 @@ same_free v os r = fun_ext (λ f. one f (nat_lt f v.size) refl)
     held f low a ea = ap bit (reserved_bit v f ∙ rw (low, ea) refl)
 
     two : (f : ℕ) → nat_lt f v.size ≡ true → (a : Bool) → is_reserved v f ≡ a → (b : Bool) → list_any (λ g. g == f) (fragments_of (all_steps os)) ≡ b →
-      is_set (after_owners v (no_claims v) os).used f ≡ (a || b)
+        is_set (after_owners v (no_claims v) os).used f ≡ (a || b)
     two f low true ea b eb = bit_one _ (omega (arith, set_bit f, held f low true ea, r.unreserved f ea))
     two f low false ea true eb = bit_one _ (omega (arith, set_bit f, held f low false ea, any_times f (fragments_of (all_steps os)) eb, r.alone f))
     two f low false ea false eb = bit_zero _ (omega (arith, set_bit f, held f low false ea, none_times f (fragments_of (all_steps os)) eb))
@@ -169,20 +170,21 @@ same_free v os r = fun_ext (λ f. one f (nat_lt f v.size) refl)
     one f true e = ap (λ b. nat_lt f v.size && not b) (two f e (is_reserved v f) refl (list_any (λ g. g == f) (fragments_of (all_steps os))) refl)
 
 -- the lines of the blocks and of the groups, together
-abbrev pub block_and_group_lines : Layout → List ℕ → List ℕ → List Owner → (ℕ → Class) → List BlockMessage
-block_and_group_lines v image super os class =
-  (phase1_lines v os ++ phase1b_lines v os) ++ phase5_lines v image super (is_free_of_kept v os) class
+abbrev pub block_and_group_lines : Layout → List ℕ → List ℤ → List Owner → (ℕ → Class) → List BlockMessage
+block_and_group_lines v image totals os class =
+    (phase1_lines v os ++ phase1b_lines v os) ++ phase5_lines v image totals (is_free_of_kept v os) class
 
-pub blocks_and_groups : (v : Layout) (image super : List ℕ) (os : List Owner) (class : ℕ → Class) →
-  (block_and_group_lines v image super os class ≡ []) ↔ (BlocksRight v os × GroupsRight v image super (is_free_of_runs v os) class)
-blocks_and_groups v image super os class = (
-    (λ e.
-      let parts = and_parts (is_nil (phase1_lines v os ++ phase1b_lines v os)) (is_nil (phase5_lines v image super (is_free_of_kept v os) class))
-        (sym (nil_append (phase1_lines v os ++ phase1b_lines v os) (phase5_lines v image super (is_free_of_kept v os) class)) ∙ ap is_nil e) in
+pub blocks_and_groups : (v : Layout) (image : List ℕ) (totals : List ℤ) (os : List Owner) (class : ℕ → Class) →
+    (block_and_group_lines v image totals os class ≡ []) ↔ (BlocksRight v os × GroupsRight v image totals (is_free_of_runs v os) class)
+blocks_and_groups v image totals os class = (
+  (λ e.
+      let parts = and_parts (is_nil (phase1_lines v os ++ phase1b_lines v os)) (is_nil (phase5_lines v image totals (is_free_of_kept v os) class))
+      (sym (nil_append (phase1_lines v os ++ phase1b_lines v os) (phase5_lines v image totals (is_free_of_kept v os) class)) ∙ ap is_nil e) in
       let right = (blocks_silent v os).0 (nil_is _ parts.0) in
-      (right, subst (λ free. GroupsRight v image super free class) (same_free v os right) ((phase5_silent v image super (is_free_of_kept v os) class).0 (nil_is _ parts.1)))),
-    (λ r.
+      (right, subst (λ free. GroupsRight v image totals free class) (same_free v os right) ((phase5_silent v image totals (is_free_of_kept v os) class).0 (nil_is _ parts.1)))),
+  (λ r.
       let first = (blocks_silent v os).1 r.0 in
-      let groups = subst (λ free. GroupsRight v image super free class) (sym (same_free v os r.0)) r.1 in
-      let last = (phase5_silent v image super (is_free_of_kept v os) class).1 groups in
-      rw (first, last) refl))
+      let groups = subst (λ free. GroupsRight v image totals free class) (sym (same_free v os r.0)) r.1 in
+      let last = (phase5_silent v image totals (is_free_of_kept v os) class).1 groups in
+      rw (first, last) refl),
+)

@@ -54,7 +54,7 @@ module _ (v : Layout) (i : ℕ) (s : Claims) (e : List Judged) (j : Judged) (t :
     used = λ f ok. t.used f ok ∙ ap (λ b. is_reserved v f || b) (sym (not_taken j e f k));
     long = t.long;
     kept = t.kept ∙ sym (kept_cons j e i ∙ rw k (omega arith));
-    capped = omega (arith, t.capped, dups_cons j e i)
+    capped = omega (arith, t.capped, dups_cons j e i);
   }
 
   kept_more : j.kept ≡ true → s.kept + 1 ≡ kept_of (j ∷ e) i
@@ -70,41 +70,41 @@ module _ (v : Layout) (i : ℕ) (s : Claims) (e : List Judged) (j : Judged) (t :
         used = λ f ok. t.used f ok ∙ ap (λ b. is_reserved v f || b) (sym (taken_other j e f (λ q. both_ways (is_ok v f) (subst (λ x. is_ok v x ≡ false) q bad) ok)));
         long = t.long;
         kept = kept_more k;
-        capped = omega (arith, t.capped, dups_cons j e i)
+        capped = omega (arith, t.capped, dups_cons j e i);
       }
 
   -- a kept one that is dup
   tie_dup : j.kept ≡ true → j.dup ≡ true → is_set s.used j.fragment ≡ true → s.dups < 11 → (dup' : List Bool) →
-    OfferTie v i (record s { kept = s.kept + 1; dups = s.dups + 1; dup = dup' }) (j ∷ e)
+      OfferTie v i (record s { kept = s.kept + 1; dups = s.dups + 1; dup = dup' }) (j ∷ e)
   tie_dup k d set low dup' =
       let one : bit (j.dup && j.inode == i) ≡ 1 = rw (d, here) refl in
       record {
         used = λ f ok. elim (cases_eq j.fragment f) [
-            inl same ↦ subst (λ x. is_set s.used x ≡ (is_reserved v x || is_taken (j ∷ e) x)) same
+          | inl same ↦ subst (λ x. is_set s.used x ≡ (is_reserved v x || is_taken (j ∷ e) x)) same
               (set ∙ sym (ap (λ b. is_reserved v j.fragment || b) (taken_here j e k) ∙ or_true (is_reserved v j.fragment)))
           | inr other ↦ t.used f ok ∙ ap (λ b. is_reserved v f || b) (sym (taken_other j e f other))
-          ];
+        ];
         long = t.long;
         kept = kept_more k;
-        capped = omega (arith, t.capped, dups_cons j e i)
+        capped = omega (arith, t.capped, dups_cons j e i);
       }
 
   -- a kept one that is the first of its fragment
   tie_new : j.kept ≡ true → j.dup ≡ false → j.fragment < v.size →
-    OfferTie v i (record s { kept = s.kept + 1; used = slice_set s.used j.fragment true }) (j ∷ e)
+      OfferTie v i (record s { kept = s.kept + 1; used = slice_set s.used j.fragment true }) (j ∷ e)
   tie_new k d low =
       let none : bit (j.dup && j.inode == i) ≡ 0 = rw d refl in
       let long = t.long in
       record {
         used = λ f ok. elim (cases_eq j.fragment f) [
-            inl same ↦ subst (λ x. is_set (slice_set s.used j.fragment true) x ≡ (is_reserved v x || is_taken (j ∷ e) x)) same
+          | inl same ↦ subst (λ x. is_set (slice_set s.used j.fragment true) x ≡ (is_reserved v x || is_taken (j ∷ e) x)) same
               (get_or-set_same s.used j.fragment true false (omega arith)
               ∙ sym (ap (λ b. is_reserved v j.fragment || b) (taken_here j e k) ∙ or_true (is_reserved v j.fragment)))
           | inr other ↦ get_or-set_other s.used j.fragment f true false (λ q. other (sym q)) ∙ (t.used f ok ∙ ap (λ b. is_reserved v f || b) (sym (taken_other j e f other)))
-          ];
+        ];
         long = length-set s.used j.fragment true ∙ long;
         kept = kept_more k;
-        capped = omega (arith, t.capped, dups_cons j e i)
+        capped = omega (arith, t.capped, dups_cons j e i);
       }
 
 pub ok_low : (v : Layout) (f : ℕ) → is_ok v f ≡ true → f < v.size
@@ -113,7 +113,7 @@ ok_low v f e = ltb-true f v.size (and_parts (nat_lt f v.size) _ e).0
 
 -- one offer of a Run behind at most ten bad Runs
 pub offer_tied : (v : Layout) (i b f : ℕ) (s : Claims) (e : List Judged) → b ≤ 10 → OfferTie v i s e →
-  OfferTie v i (after_offer v s f) (judge v e (place_of i b f) ∷ e) × ((judge v e (place_of i b f)).kept ≡ nat_lt s.dups 11)
+    OfferTie v i (after_offer v s f) (judge v e (place_of i b f) ∷ e) × ((judge v e (place_of i b f)).kept ≡ nat_lt s.dups 11)
 unfolding judge
 offer_tied v i b f s e few t = go (nat_lt s.dups 11) refl (is_ok v f) refl (is_set s.used f) refl
   where
@@ -128,23 +128,29 @@ offer_tied v i b f s e few t = go (nat_lt s.dups 11) refl (is_ok v f) refl (is_s
     kept_is false q = let ge = ltb-false s.dups 11 q in rw low (lt-leb (dups_of e i) 10 (omega (arith, t.capped, ge)))
 
     go : (a : Bool) → nat_lt s.dups 11 ≡ a → (o : Bool) → is_ok v f ≡ o → (u : Bool) → is_set s.used f ≡ u →
-      OfferTie v i (after_offer v s f) (judge v e (place_of i b f) ∷ e) × ((nat_le b 10 && nat_le (dups_of e i) 10) ≡ nat_lt s.dups 11)
+        OfferTie v i (after_offer v s f) (judge v e (place_of i b f) ∷ e) × ((nat_le b 10 && nat_le (dups_of e i) 10) ≡ nat_lt s.dups 11)
     go false qa o qo u qu =
         let ge = ltb-false s.dups 11 qa in
-        let stay : after_offer v s f ≡ s = rw qa refl in
-        (subst (λ x. OfferTie v i x (judge v e (place_of i b f) ∷ e)) (sym stay)
-          (tie_skip v i s e (judge v e (place_of i b f)) t refl (kept_is false qa) (omega (arith, t.capped, ge))), kept_is false qa ∙ sym qa)
+        let stay : after_offer v s f ≡ s = rw qa refl in (
+          subst (λ x. OfferTie v i x (judge v e (place_of i b f) ∷ e)) (sym stay)
+              (tie_skip v i s e (judge v e (place_of i b f)) t refl (kept_is false qa) (omega (arith, t.capped, ge))),
+          kept_is false qa ∙ sym qa,
+        )
     go true qa false qo u qu =
-        let stay : after_offer v s f ≡ record s { kept = s.kept + 1 } = rw (qa, qo) refl in
-        (subst (λ x. OfferTie v i x (judge v e (place_of i b f) ∷ e)) (sym stay)
-          (tie_past v i s e (judge v e (place_of i b f)) t refl (kept_is true qa) (rw qo refl) qo), kept_is true qa ∙ sym qa)
+        let stay : after_offer v s f ≡ record s { kept = s.kept + 1 } = rw (qa, qo) refl in (
+          subst (λ x. OfferTie v i x (judge v e (place_of i b f) ∷ e)) (sym stay)
+              (tie_past v i s e (judge v e (place_of i b f)) t refl (kept_is true qa) (rw qo refl) qo),
+          kept_is true qa ∙ sym qa,
+        )
     go true qa true qo true qu =
-        let stay : after_offer v s f ≡ record s { kept = s.kept + 1; dups = s.dups + 1; dup = slice_set s.dup f true } = rw (qa, qo, qu) refl in
-        (subst (λ x. OfferTie v i x (judge v e (place_of i b f) ∷ e)) (sym stay)
-          (tie_dup v i s e (judge v e (place_of i b f)) t refl (kept_is true qa) (rw qo (sym (t.used f qo) ∙ qu)) qu (ltb-true s.dups 11 qa) (slice_set s.dup f true)),
-         kept_is true qa ∙ sym qa)
+        let stay : after_offer v s f ≡ record s { kept = s.kept + 1; dups = s.dups + 1; dup = slice_set s.dup f true } = rw (qa, qo, qu) refl in (
+          subst (λ x. OfferTie v i x (judge v e (place_of i b f) ∷ e)) (sym stay)
+              (tie_dup v i s e (judge v e (place_of i b f)) t refl (kept_is true qa) (rw qo (sym (t.used f qo) ∙ qu)) qu (ltb-true s.dups 11 qa) (slice_set s.dup f true)),
+          kept_is true qa ∙ sym qa,
+        )
     go true qa true qo false qu =
-        let stay : after_offer v s f ≡ record s { kept = s.kept + 1; used = slice_set s.used f true } = rw (qa, qo, qu) refl in
-        (subst (λ x. OfferTie v i x (judge v e (place_of i b f) ∷ e)) (sym stay)
-          (tie_new v i s e (judge v e (place_of i b f)) t refl (kept_is true qa) (rw qo (sym (t.used f qo) ∙ qu)) (ok_low v f qo)),
-         kept_is true qa ∙ sym qa)
+        let stay : after_offer v s f ≡ record s { kept = s.kept + 1; used = slice_set s.used f true } = rw (qa, qo, qu) refl in (
+          subst (λ x. OfferTie v i x (judge v e (place_of i b f) ∷ e)) (sym stay)
+              (tie_new v i s e (judge v e (place_of i b f)) t refl (kept_is true qa) (rw qo (sym (t.used f qo) ∙ qu)) (ok_low v f qo)),
+          kept_is true qa ∙ sym qa,
+        )

@@ -24,13 +24,15 @@ kept_append v e (p ∷ ps) qs =
 
 -- the offers of a Run behind at most ten bad ones
 offers_tied : (v : Layout) (i b : ℕ) (s : Claims) (e : List Judged) (fs : List ℕ) → b ≤ 10 → OfferTie v i s e →
-  OfferTie v i (after_offers v s fs) (judged v e (map (place_of i b) fs)) × (offers_kept v i s fs ≡ kept_offers v e (map (place_of i b) fs))
+    OfferTie v i (after_offers v s fs) (judged v e (map (place_of i b) fs)) × (offers_kept v i s fs ≡ kept_offers v e (map (place_of i b) fs))
 offers_tied v i b s e [] few t = (t, refl)
 offers_tied v i b s e (f ∷ fs) few t =
     let one = offer_tied v i b f s e few t in
-    let rest = offers_tied v i b (after_offer v s f) (judge v e (place_of i b f) ∷ e) fs few one.0 in
-    (rest.0, (ap (λ z. (if nat_lt s.dups 11 then record { inode = i; fragment = f } ∷ [] else []) ++ z) rest.1
-      ∙ ap (λ k. (if k then offer_of (place_of i b f) ∷ [] else []) ++ kept_offers v (judge v e (place_of i b f) ∷ e) (map (place_of i b) fs)) (sym one.1)))
+    let rest = offers_tied v i b (after_offer v s f) (judge v e (place_of i b f) ∷ e) fs few one.0 in (
+      rest.0,
+      (ap (λ z. (if nat_lt s.dups 11 then record { inode = i; fragment = f } ∷ [] else []) ++ z) rest.1
+          ∙ ap (λ k. (if k then offer_of (place_of i b f) ∷ [] else []) ++ kept_offers v (judge v e (place_of i b f) ∷ e) (map (place_of i b) fs)) (sym one.1)),
+    )
 
 offer_bad : (v : Layout) (s : Claims) (f : ℕ) → (after_offer v s f).bad ≡ s.bad
 offer_bad v s f = one (nat_lt s.dups 11) refl (is_ok v f) refl (is_set s.used f) refl
@@ -69,7 +71,7 @@ still_closed i b j e (inl many) = inl many
 still_closed i b j e (inr many) = inr (omega (arith, many, dups_cons j e i))
 
 skip_offers : (v : Layout) (i b : ℕ) (s : Claims) (e : List Judged) (fs : List ℕ) → Closed i b e → Held v i s e →
-  Held v i s (judged v e (map (place_of i b) fs)) × Closed i b (judged v e (map (place_of i b) fs)) × (kept_offers v e (map (place_of i b) fs) ≡ [])
+    Held v i s (judged v e (map (place_of i b) fs)) × Closed i b (judged v e (map (place_of i b) fs)) × (kept_offers v e (map (place_of i b) fs) ≡ [])
 skip_offers v i b s e [] c h = (h, c, refl)
 skip_offers v i b s e (f ∷ fs) c h =
     let j = judge v e (place_of i b f) in
@@ -77,7 +79,8 @@ skip_offers v i b s e (f ∷ fs) c h =
     let rest = skip_offers v i b s (judge v e (place_of i b f) ∷ e) fs (still_closed i b (judge v e (place_of i b f)) e c) (record {
       used = λ g ok. h.used g ok ∙ ap (λ x. is_reserved v g || x) (sym (not_taken (judge v e (place_of i b f)) e g no_keep));
       long = h.long;
-      kept = h.kept ∙ sym (kept_cons (judge v e (place_of i b f)) e i ∙ rw no_keep (omega arith)) }) in
+      kept = h.kept ∙ sym (kept_cons (judge v e (place_of i b f)) e i ∙ rw no_keep (omega arith));
+    }) in
     (rest.0, rest.1, ap (λ k. (if k then offer_of (place_of i b f) ∷ [] else []) ++ kept_offers v (judge v e (place_of i b f) ∷ e) (map (place_of i b) fs)) no_keep ∙ rest.2)
 
 -- the fold's state between steps, and what was judged
@@ -99,10 +102,10 @@ closed_tie v i b s e shut c h = record { held = h; ready = shut ∙ sym (closed_
 
 open_tie : (v : Layout) (i b : ℕ) (s : Claims) (e : List Judged) → s.bad ≡ b → OfferTie v i s e → Tie v i b s e
 open_tie v i b s e q t = record {
-    held = record { used = t.used; long = t.long; kept = t.kept };
-    ready = rw (q, t.capped) (ap (λ x. nat_lt b 11 && x) (one (dups_of e i)));
-    same = λ r. let low = ltb-true s.dups 11 (and_parts (nat_lt s.bad 11) (nat_lt s.dups 11) r).1 in (q, omega (arith, t.capped, low))
-  }
+  held = record { used = t.used; long = t.long; kept = t.kept };
+  ready = rw (q, t.capped) (ap (λ x. nat_lt b 11 && x) (one (dups_of e i)));
+  same = λ r. let low = ltb-true s.dups 11 (and_parts (nat_lt s.bad 11) (nat_lt s.dups 11) r).1 in (q, omega (arith, t.capped, low));
+}
   where
     one : (n : ℕ) → nat_lt (min 11 n) 11 ≡ nat_lt n 11
     one n = elim (cases_lt n 11) [ inl l ↦ lt-ltb (min 11 n) 11 (omega arith) ∙ sym (lt-ltb n 11 l) | inr g ↦ le-ltb (min 11 n) 11 (omega arith) ∙ sym (le-ltb n 11 g) ]
@@ -146,9 +149,11 @@ step_tied v i b s e (Run start len block) t = one (is_open s) refl (is_in_range 
         let none : step_kept v i s (Run start len block) ≡ [] = rw q refl in
         let b' = bads_after v b (Run start len block) in
         let c = closed_more i b (bads_after v b (Run start len block)) e more (shut_closed i b e (sym t.ready ∙ q)) in
-        let done = skip_offers v i (bads_after v b (Run start len block)) s e (range_with_len start len) c t.held in
-        (subst (λ x. Tie v i (bads_after v b (Run start len block)) x (judged v e (step_offers v i b (Run start len block)))) (sym next)
-          (closed_tie v i (bads_after v b (Run start len block)) s _ q done.1 done.0), none ∙ sym done.2)
+        let done = skip_offers v i (bads_after v b (Run start len block)) s e (range_with_len start len) c t.held in (
+          subst (λ x. Tie v i (bads_after v b (Run start len block)) x (judged v e (step_offers v i b (Run start len block)))) (sym next)
+              (closed_tie v i (bads_after v b (Run start len block)) s _ q done.1 done.0),
+          none ∙ sym done.2,
+        )
     one true q true qr =
         let same = t.same q in
         let lows = and_parts (nat_lt s.bad 11) (nat_lt s.dups 11) q in
@@ -158,11 +163,13 @@ step_tied v i b s e (Run start len block) t = one (is_open s) refl (is_in_range 
         let some : step_kept v i s (Run start len block) ≡ offers_kept v i (record s { runs = s.runs + 1 }) (range_with_len start len) = rw (q, qr) refl in
         let still : bads_after v b (Run start len block) ≡ b = rw qr refl in
         let done = offers_tied v i b (record s { runs = s.runs + 1 }) e (range_with_len start len) (omega (arith, same.0, low))
-          (record { used = t.held.used; long = t.held.long; kept = t.held.kept; capped = omega (arith, same.1, high) }) in
+        (record { used = t.held.used; long = t.held.long; kept = t.held.kept; capped = omega (arith, same.1, high) }) in
         subst (λ n. Tie v i n (after_step v s (Run start len block)) (judged v e (map (place_of i n) (range_with_len start len)))
-            × (step_kept v i s (Run start len block) ≡ kept_offers v e (map (place_of i n) (range_with_len start len)))) (sym still)
-          (subst (λ x. Tie v i b x (judged v e (map (place_of i b) (range_with_len start len)))) (sym next)
-            (open_tie v i b _ _ (offers_bad v (record s { runs = s.runs + 1 }) (range_with_len start len) ∙ same.0) done.0), some ∙ done.1)
+        × (step_kept v i s (Run start len block) ≡ kept_offers v e (map (place_of i n) (range_with_len start len)))) (sym still) (
+          subst (λ x. Tie v i b x (judged v e (map (place_of i b) (range_with_len start len)))) (sym next)
+              (open_tie v i b _ _ (offers_bad v (record s { runs = s.runs + 1 }) (range_with_len start len) ∙ same.0) done.0),
+          some ∙ done.1,
+        )
     one true q false qr = two (s.bad == 10) refl
       where
         same : (s.bad ≡ b) × (s.dups ≡ dups_of e i)
@@ -183,19 +190,23 @@ step_tied v i b s e (Run start len block) t = one (is_open s) refl (is_in_range 
             let next : after_step v s (Run start len block) ≡ record s { runs = s.runs + 1; bad = s.bad + 1 } = rw (q, qr, qz) refl in
             let none : step_kept v i s (Run start len block) ≡ [] = rw (q, qr, qz) refl in
             let done = skip_offers v i (b + 1) (record s { runs = s.runs + 1; bad = s.bad + 1 }) e (range_with_len start len) (inl (omega (arith, same.0, ten)))
-              (record { used = t.held.used; long = t.held.long; kept = t.held.kept }) in
+            (record { used = t.held.used; long = t.held.long; kept = t.held.kept }) in
             let shut : is_open (record s { runs = s.runs + 1; bad = s.bad + 1 }) ≡ false = rw ten refl in
             subst (λ n. Tie v i n (after_step v s (Run start len block)) (judged v e (map (place_of i n) (range_with_len start len)))
-                × (step_kept v i s (Run start len block) ≡ kept_offers v e (map (place_of i n) (range_with_len start len)))) (sym up)
-              (subst (λ x. Tie v i (b + 1) x (judged v e (map (place_of i (b + 1)) (range_with_len start len)))) (sym next)
-                (closed_tie v i (b + 1) _ _ shut done.1 done.0), none ∙ sym done.2)
+            × (step_kept v i s (Run start len block) ≡ kept_offers v e (map (place_of i n) (range_with_len start len)))) (sym up) (
+              subst (λ x. Tie v i (b + 1) x (judged v e (map (place_of i (b + 1)) (range_with_len start len)))) (sym next)
+                  (closed_tie v i (b + 1) _ _ shut done.1 done.0),
+              none ∙ sym done.2,
+            )
         two false qz =
             let next : after_step v s (Run start len block) ≡ after_offers v (record s { runs = s.runs + 1; bad = s.bad + 1 }) (range_with_len start len) = rw (q, qr, qz) refl in
             let some : step_kept v i s (Run start len block) ≡ offers_kept v i (record s { runs = s.runs + 1; bad = s.bad + 1 }) (range_with_len start len) = rw (q, qr, qz) refl in
             let few : b + 1 ≤ 10 = elim (cases_eq s.bad 10) [ inl ten ↦ absurd (eqb-false s.bad 10 qz ten) | inr other ↦ omega (arith, same.0, low) ] in
             let done = offers_tied v i (b + 1) (record s { runs = s.runs + 1; bad = s.bad + 1 }) e (range_with_len start len) few
-              (record { used = t.held.used; long = t.held.long; kept = t.held.kept; capped = omega (arith, same.1, high) }) in
+            (record { used = t.held.used; long = t.held.long; kept = t.held.kept; capped = omega (arith, same.1, high) }) in
             subst (λ n. Tie v i n (after_step v s (Run start len block)) (judged v e (map (place_of i n) (range_with_len start len)))
-                × (step_kept v i s (Run start len block) ≡ kept_offers v e (map (place_of i n) (range_with_len start len)))) (sym up)
-              (subst (λ x. Tie v i (b + 1) x (judged v e (map (place_of i (b + 1)) (range_with_len start len)))) (sym next)
-                (open_tie v i (b + 1) _ _ (offers_bad v (record s { runs = s.runs + 1; bad = s.bad + 1 }) (range_with_len start len) ∙ omega (arith, same.0)) done.0), some ∙ done.1)
+            × (step_kept v i s (Run start len block) ≡ kept_offers v e (map (place_of i n) (range_with_len start len)))) (sym up) (
+              subst (λ x. Tie v i (b + 1) x (judged v e (map (place_of i (b + 1)) (range_with_len start len)))) (sym next)
+                  (open_tie v i (b + 1) _ _ (offers_bad v (record s { runs = s.runs + 1; bad = s.bad + 1 }) (range_with_len start len) ∙ omega (arith, same.0)) done.0),
+              some ∙ done.1,
+            )

@@ -13,6 +13,7 @@ use Rattle.ffs_volume.specs.BlockCheck.{steps_kept, owners_kept}
 use Rattle.ffs_certificate.proofs.FreshLaws.{bit}
 use Rattle.ffs_certificate.proofs.BlocksSilent.{reserved_length, reserved_bit}
 use Rattle.ffs_volume.specs.Keeping.{Place, bads_after, place_of, step_offers, steps_offers, all_offers, Judged, is_taken, dups_of, kept_of, judge, judged, kept_offers}
+use Rattle.ffs_certificate.specs.Certificate.{KeepsByRule}
 use Rattle.ffs_certificate.proofs.KeepingLaws.{dups_cons, kept_cons, ok_low}
 use Rattle.ffs_certificate.proofs.KeepingOwners.{Tie, step_tied, judged_append, kept_append}
 
@@ -22,17 +23,18 @@ bads_of v bads [] = bads
 bads_of v bads (step ∷ steps) = bads_of v (bads_after v bads step) steps
 
 pub steps_tied : (v : Layout) (i b : ℕ) (s : Claims) (e : List Judged) (steps : List Step) → Tie v i b s e →
-  Tie v i (bads_of v b steps) (after_steps v s steps) (judged v e (steps_offers v i b steps))
-  × (steps_kept v i s steps ≡ kept_offers v e (steps_offers v i b steps))
+    Tie v i (bads_of v b steps) (after_steps v s steps) (judged v e (steps_offers v i b steps))
+    × (steps_kept v i s steps ≡ kept_offers v e (steps_offers v i b steps))
 steps_tied v i b s e [] t = (t, refl)
 steps_tied v i b s e (step ∷ steps) t =
     let one = step_tied v i b s e step t in
-    let rest = steps_tied v i (bads_after v b step) (after_step v s step) (judged v e (step_offers v i b step)) steps one.0 in
-    (subst (λ x. Tie v i (bads_of v (bads_after v b step) steps) (after_steps v (after_step v s step) steps) x)
-        (sym (judged_append v e (step_offers v i b step) (steps_offers v i (bads_after v b step) steps))) rest.0,
-     ap (λ z. z ++ steps_kept v i (after_step v s step) steps) one.1
-       ∙ (ap (λ z. kept_offers v e (step_offers v i b step) ++ z) rest.1
-       ∙ sym (kept_append v e (step_offers v i b step) (steps_offers v i (bads_after v b step) steps))))
+    let rest = steps_tied v i (bads_after v b step) (after_step v s step) (judged v e (step_offers v i b step)) steps one.0 in (
+      subst (λ x. Tie v i (bads_of v (bads_after v b step) steps) (after_steps v (after_step v s step) steps) x)
+          (sym (judged_append v e (step_offers v i b step) (steps_offers v i (bads_after v b step) steps))) rest.0,
+      ap (λ z. z ++ steps_kept v i (after_step v s step) steps) one.1
+          ∙ (ap (λ z. kept_offers v e (step_offers v i b step) ++ z) rest.1
+          ∙ sym (kept_append v e (step_offers v i b step) (steps_offers v i (bads_after v b step) steps))),
+    )
 
 -- the fold between inodes, and what was judged
 pub record Agrees (v : Layout) (s : Claims) (e : List Judged) : Type 0 where
@@ -98,12 +100,13 @@ begins v s e o a h =
     record {
       held = record { used = a.used; long = a.long; kept = sym none.1 };
       ready = sym (rw none.0 refl);
-      same = λ q. (refl, sym none.0) }
+      same = λ q. (refl, sym none.0);
+    }
 
 -- the state and the judged offers at the end of an inode
 pub owner_tied : (v : Layout) (s : Claims) (e : List Judged) (o : Owner) → Agrees v s e → are_before o.number e ≡ true →
-  Tie v o.number (bads_of v 0 o.steps) (after_owner v s o) (judged v e (steps_offers v o.number 0 o.steps))
-  × (steps_kept v o.number (next_inode s) o.steps ≡ kept_offers v e (steps_offers v o.number 0 o.steps))
+    Tie v o.number (bads_of v 0 o.steps) (after_owner v s o) (judged v e (steps_offers v o.number 0 o.steps))
+    × (steps_kept v o.number (next_inode s) o.steps ≡ kept_offers v e (steps_offers v o.number 0 o.steps))
 owner_tied v s e o a h = steps_tied v o.number 0 (next_inode s) e o.steps (begins v s e o a h)
 
 -- the numbers of inodes rise
@@ -112,24 +115,25 @@ Rising n [] = Unit {0}
 Rising n (o ∷ os) = (n ≤ o.number) × Rising (o.number + 1) os
 
 pub owners_tied : (v : Layout) (n : ℕ) (s : Claims) (e : List Judged) (os : List Owner) → Agrees v s e → are_before n e ≡ true → Rising n os →
-  Agrees v (after_owners v s os) (judged v e (all_offers v os)) × (owners_kept v s os ≡ kept_offers v e (all_offers v os))
+    Agrees v (after_owners v s os) (judged v e (all_offers v os)) × (owners_kept v s os ≡ kept_offers v e (all_offers v os))
 owners_tied v n s e [] a h r = (a, refl)
 owners_tied v n s e (o ∷ os) a h r =
     let one = owner_tied v s e o a (before_more n o.number e r.0 h) in
     let after = judged_before v (o.number + 1) e (steps_offers v o.number 0 o.steps) (before_more n (o.number + 1) e (omega (arith, r.0)) h) (steps_before v o.number 0 o.steps) in
     let rest = owners_tied v (o.number + 1) (after_owner v s o) (judged v e (steps_offers v o.number 0 o.steps)) os
-      (record { used = one.0.held.used; long = one.0.held.long }) after r.1 in
-    (subst (λ x. Agrees v (after_owners v (after_owner v s o) os) x) (sym (judged_append v e (steps_offers v o.number 0 o.steps) (all_offers v os))) rest.0,
-     ap (λ z. z ++ owners_kept v (after_owner v s o) os) one.1
-       ∙ (ap (λ z. kept_offers v e (steps_offers v o.number 0 o.steps) ++ z) rest.1
-       ∙ sym (kept_append v e (steps_offers v o.number 0 o.steps) (all_offers v os))))
+    (record { used = one.0.held.used; long = one.0.held.long }) after r.1 in (
+      subst (λ x. Agrees v (after_owners v (after_owner v s o) os) x) (sym (judged_append v e (steps_offers v o.number 0 o.steps) (all_offers v os))) rest.0,
+      ap (λ z. z ++ owners_kept v (after_owner v s o) os) one.1
+          ∙ (ap (λ z. kept_offers v e (steps_offers v o.number 0 o.steps) ++ z) rest.1
+          ∙ sym (kept_append v e (steps_offers v o.number 0 o.steps) (all_offers v os))),
+    )
 
 pub start_agrees : (v : Layout) → Agrees v (no_claims v) []
 unfolding no_claims is_ok
 start_agrees v = record {
-    used = λ f ok. reserved_bit v f ∙ (rw (lt-ltb f v.size (ok_low v f ok)) (one (is_reserved v f)));
-    long = reserved_length v
-  }
+  used = λ f ok. reserved_bit v f ∙ (rw (lt-ltb f v.size (ok_low v f ok)) (one (is_reserved v f)));
+  long = reserved_length v;
+}
   where
     one : (b : Bool) → b ≡ (b || false)
     one true = refl
@@ -139,12 +143,6 @@ pub rising_range : (v : Layout) (image : List ℕ) (n k : ℕ) → Rising n (map
 unfolding owner_of
 rising_range v image n zero = tt
 rising_range v image n (suc k) = (omega arith, rising_range v image (n + 1) k)
-
--- the fold keeps what the rule keeps: the offers in order, and so the fragments
-pub record KeepsByRule (v : Layout) (os : List Owner) : Type 0 where
-  pub offers : owners_kept v (no_claims v) os ≡ kept_offers v [] (all_offers v os)
-  pub used : (f : ℕ) → is_ok v f ≡ true →
-    is_set (after_owners v (no_claims v) os).used f ≡ (is_reserved v f || is_taken (judged v [] (all_offers v os)) f)
 
 pub keeps_by_rule : (v : Layout) (image : List ℕ) → KeepsByRule v (owners_of v image)
 unfolding owners_of

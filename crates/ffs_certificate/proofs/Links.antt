@@ -1,68 +1,79 @@
 -- With all directories reached, no line EXTRANEOUS HARD LINK means that each directory but 2 has exactly one plain entry.
-use Rattle.std.specs.Prelude.{◌≡◌, ◌≢◌, ℕ, zero, suc, ◌+◌, ◌<◌, ◌≤◌, ◌==◌, Bool, true, false, not, cond, ◌&&◌, ◌||◌, List, [], ◌∷◌, length, Option, None, Some, is_some, refl, if◌then◌else◌, ◌↔◌, option_map}
+use Rattle.std.specs.Prelude.{◌≡◌, ◌≢◌, ℕ, zero, suc, ◌==◌, Bool, true, ◌||◌, List, [], ◌∷◌, None, Some, ◌↔◌, option_map}
 use Rattle.std.specs.List.{list_any}
-use Rattle.std.proofs.Common.{arith, sym, ◌∙◌, ap, subst, inl, inr, ◌⊎◌}
-use Rattle.std.proofs.lemmas.Bool.{cases_eq, cases_Bool, and_parts, and_from, both_ways, cond-true, cond-false, eq-eqb, ne_eqb, or_cases, or_left, or_right, eqb-true, false_from_ne_true}
-use Rattle.ffs_volume.specs.Search.{first_below, first_below-some, some_below-from, some_below-gives, first_below-is}
+use Rattle.std.proofs.Common.{sym, ◌∙◌, ap, subst, inl, inr}
+use Rattle.std.proofs.lemmas.Bool.{cases_eq, cases_Bool, and_parts, and_from, both_ways, cond-true, cond-false, ne_eqb, eqb-true, false_from_ne_true}
+use Rattle.ffs_volume.specs.Search.{some_below-from, some_below-gives, first_below-is}
 use Rattle.ffs_volume.specs.Climb.{is_value, is_value-from}
-use Rattle.ffs_volume.specs.Graph.{Graph, IsSane, AllReached, edge, names, names_in, parent, parent_by, level, level_edge, reached, parent_entry, entry_place, first_place, test_at, names_at, is_parent_entry, NoExtraneous, NamedOnce, LinksRight}
-use Rattle.ffs_volume.specs.Levels.{within-zero, level-some, level-before, level-is, reached-level, IsLevel}
-use Rattle.ffs_certificate.proofs.Lost.{edge-parts}
+use Rattle.ffs_volume.specs.Graph.{Graph, AllReached, edge, names, names_in, parent, parent_by, level, level_edge, reached, entry_place, first_place, test_at, names_at, is_parent_entry, NoExtraneous, LinksRight}
+use Rattle.ffs_volume.specs.Levels.{within-zero, level-some, level-before, level-is, reached-level}
 use Rattle.ffs_volume.specs.Roles.{Seen}
 
 -- a reached directory has a parent, with an edge
 pub parent_edge : (v : Graph) (d : ℕ) → d ≢ 2 → reached v d ≡ true → (s : ℕ) × (parent v d ≡ Some s) × (edge v s d ≡ true)
 unfolding parent
 parent_edge v d n r =
-  let k = reached-level v d r in
-  let start = cond-false (d == 2) (Some 2) (parent_by v d (level v d)) (ne_eqb d 2 n) in
-  go k.0 k.1 start
+    let k = reached-level v d r in
+    let start = cond-false (d == 2) (Some 2) (parent_by v d (level v d)) (ne_eqb d 2 n) in
+    go k.0 k.1 start
   where
     go : (k : ℕ) → level v d ≡ Some k → parent v d ≡ parent_by v d (level v d) → (s : ℕ) × (parent v d ≡ Some s) × (edge v s d ≡ true)
     go zero e start = absurd (n (eqb-true d 2 (sym (within-zero v d) ∙ (level-some v 0 d e).0.within_k)))
     go (suc k) e start =
-      let l = level-some v (suc k) d e in
-      let b = level-before v k d l.0 in
-      let lev = level-is v k b.0 b.1 b.2 in
-      let w = some_below-gives (level_edge v k d) v.count (some_below-from (level_edge v k d) v.count b.0 b.1 (and_from (is_value (level v b.0) k) (edge v b.0 d) (is_value-from (level v b.0) k lev) b.3)) in
-      (w.0, start ∙ (ap (parent_by v d) e ∙ first_below-is (level_edge v k d) v.count w.0 w.1), (and_parts (is_value (level v w.0) k) (edge v w.0 d) w.1.passes).1)
+        let l = level-some v (suc k) d e in
+        let b = level-before v k d l.0 in
+        let lev = level-is v k b.0 b.1 b.2 in
+        let w = some_below-gives (level_edge v k d) v.count (some_below-from (level_edge v k d) v.count b.0 b.1 (and_from (is_value (level v b.0) k) (edge v b.0 d) (is_value-from (level v b.0) k lev) b.3)) in
+        (w.0, start ∙ (ap (parent_by v d) e ∙ first_below-is (level_edge v k d) v.count w.0 w.1), (and_parts (is_value (level v w.0) k) (edge v w.0 d) w.1.passes).1)
 
 pub place_of : (p : Seen → Bool) (es : List Seen) → list_any p es ≡ true → (j : ℕ) × (first_place p es ≡ Some j) × (test_at p j es ≡ true)
 place_of p [] h = absurd (cc)
 place_of p (e ∷ es) h =
-  elim (cases_Bool (p e)) [
-    inl y ↦ (0, cond-true (p e) (Some 0) _ y, y)
-  | inr n ↦
-      let rest : list_any p es ≡ true = sym (ap (λ b. b || list_any p es) n) ∙ h in
-      let r = place_of p es rest in
-      (suc r.0, cond-false (p e) (Some 0) (option_map suc (first_place p es)) n ∙ ap (option_map suc) r.1, r.2) ]
+    elim (cases_Bool (p e)) [
+      | inl y ↦ (0, cond-true (p e) (Some 0) _ y, y)
+      | inr n ↦
+          let rest : list_any p es ≡ true = sym (ap (λ b. b || list_any p es) n) ∙ h in
+          let r = place_of p es rest in
+          (suc r.0, cond-false (p e) (Some 0) (option_map suc (first_place p es)) n ∙ ap (option_map suc) r.1, r.2)
+    ]
 
 -- a reached directory has a parent entry, which names it
 pub has_parent_entry : (v : Graph) (d : ℕ) → d ≢ 2 → reached v d ≡ true → (s : ℕ) × (j : ℕ) × is_parent_entry v s j d × (names_at v s j d ≡ true)
 has_parent_entry v d n r =
-  let e = parent_edge v d n r in
-  let a = and_parts (v.is_dir d) (names_in v e.0 d) e.2 in
-  let b = and_parts (v.is_dir e.0) (list_any (names d) (v.entries e.0)) a.1 in
-  let p = place_of (names d) (v.entries e.0) b.1 in
-  (e.0, p.0, (e.1, cond-false (d == 2) None (entry_place v d (parent v d)) (ne_eqb d 2 n) ∙ (ap (entry_place v d) e.1 ∙ p.1)),
-   and_from (v.is_dir e.0) (test_at (names d) p.0 (v.entries e.0)) b.0 p.2)
+    let e = parent_edge v d n r in
+    let a = and_parts (v.is_dir d) (names_in v e.0 d) e.2 in
+    let b = and_parts (v.is_dir e.0) (list_any (names d) (v.entries e.0)) a.1 in
+    let p = place_of (names d) (v.entries e.0) b.1 in (
+      e.0,
+      p.0,
+      (e.1, cond-false (d == 2) None (entry_place v d (parent v d)) (ne_eqb d 2 n) ∙ (ap (entry_place v d) e.1 ∙ p.1)),
+      and_from (v.is_dir e.0) (test_at (names d) p.0 (v.entries e.0)) b.0 p.2,
+    )
 
 pub links-right : (v : Graph) → v.is_dir 2 ≡ true → AllReached v → NoExtraneous v ↔ LinksRight v
 links-right v two all = (
   (λ none. record {
     once = λ d h n.
-      let e = has_parent_entry v d n (all d h) in
-      record { in_dir = e.0; place = e.1; there = e.3; only = λ s j t.
-        let q = none s j d t h in
-        let a : Some s ≡ Some e.0 = sym q.0 ∙ e.2.0 in
-        let b : Some j ≡ Some e.1 = sym q.1 ∙ e.2.1 in
-        (cc, cc) };
-    root = λ s j. false_from_ne_true (names_at v s j 2) (λ t. let q = none s j 2 t two in let z : None ≡ Some j = q.1 in cc) }),
+        let e = has_parent_entry v d n (all d h) in
+        record {
+          in_dir = e.0;
+          place = e.1;
+          there = e.3;
+          only = λ s j t.
+              let q = none s j d t h in
+              let a : Some s ≡ Some e.0 = sym q.0 ∙ e.2.0 in
+              let b : Some j ≡ Some e.1 = sym q.1 ∙ e.2.1 in
+              (cc, cc);
+        };
+    root = λ s j. false_from_ne_true (names_at v s j 2) (λ t. let q = none s j 2 t two in let z : None ≡ Some j = q.1 in cc);
+  }),
   (λ right s j d t h. elim (cases_eq d 2) [
-      inl y ↦ absurd (both_ways (names_at v s j 2) (right.root s j) (subst (λ x. names_at v s j x ≡ true) y t))
+    | inl y ↦ absurd (both_ways (names_at v s j 2) (right.root s j) (subst (λ x. names_at v s j x ≡ true) y t))
     | inr n ↦
         let e = has_parent_entry v d n (all d h) in
         let o = right.once d h n in
         let here = o.only s j t in
         let there = o.only e.0 e.1 e.3 in
-        (e.2.0 ∙ ap Some (there.0 ∙ sym here.0), e.2.1 ∙ ap Some (there.1 ∙ sym here.1)) ]))
+        (e.2.0 ∙ ap Some (there.0 ∙ sym here.0), e.2.1 ∙ ap Some (there.1 ∙ sym here.1))
+  ]),
+)

@@ -49,7 +49,7 @@ owner_says v s o =
     nil_append (class_lines o.number o.class) _
     ∙ (ap (λ b. is_nil (class_lines o.number o.class) && b) (nil_append (steps_lines v o.number (next_inode s) o.steps) (count_lines v o (after_owner v s o)))
     ∙ rw (class_says o.number o.class, steps_say v o.number (next_inode s) o.steps (start_calm s))
-        (ap (λ b. is_whole_class o.class && b) (one (steps_quiet v s.used o.steps) refl)))
+    (ap (λ b. is_whole_class o.class && b) (one (steps_quiet v s.used o.steps) refl)))
   where
     one : (b : Bool) → steps_quiet v s.used o.steps ≡ b → (steps_quiet v s.used o.steps && is_nil (count_lines v o (after_owner v s o))) ≡ (steps_quiet v s.used o.steps && is_counted v o)
     one true e = ap (λ b. steps_quiet v s.used o.steps && b) (count_says v s (after_owner v s o) o (steps_claim v (next_inode s) o.steps (start_calm s) e))
@@ -64,11 +64,11 @@ pub owners_say : (v : Layout) (s : Claims) (os : List Owner) → is_nil (owners_
 owners_say v s [] = refl
 owners_say v s (o ∷ os) =
     nil_append (owner_lines v s o) (owners_lines v (after_owner v s o) os) ∙ one (owner_quiet v s.used o) refl (owner_says v s o)
-      (λ e. owners_say v (after_owner v s o) os ∙ ap (λ u. owners_quiet v u os) (owner_claims v s o e).used)
+    (λ e. owners_say v (after_owner v s o) os ∙ ap (λ u. owners_quiet v u os) (owner_claims v s o e).used)
   where
     one : (b : Bool) → owner_quiet v s.used o ≡ b → is_nil (owner_lines v s o) ≡ owner_quiet v s.used o →
-      (owner_quiet v s.used o ≡ true → is_nil (owners_lines v (after_owner v s o) os) ≡ owners_quiet v (mark s.used (fragments_of o.steps)) os) →
-      (is_nil (owner_lines v s o) && is_nil (owners_lines v (after_owner v s o) os)) ≡ owners_quiet v s.used (o ∷ os)
+        (owner_quiet v s.used o ≡ true → is_nil (owners_lines v (after_owner v s o) os) ≡ owners_quiet v (mark s.used (fragments_of o.steps)) os) →
+        (is_nil (owner_lines v s o) && is_nil (owners_lines v (after_owner v s o) os)) ≡ owners_quiet v s.used (o ∷ os)
     one true e says rest = rw (says, e) (rest e)
     one false e says rest = rw (says, e) refl
 
@@ -78,30 +78,33 @@ fragments_append (x ∷ xs) ys = ap (λ z. step_fragments x ++ z) (fragments_app
 
 -- what quiet owners leave: all their fragments are used, and no fragment is told
 pub owners_claim : (v : Layout) (s : Claims) (os : List Owner) → owners_quiet v s.used os ≡ true →
-  ((after_owners v s os).used ≡ mark s.used (fragments_of (all_steps os))) × ((after_owners v s os).dup ≡ s.dup)
+    ((after_owners v s os).used ≡ mark s.used (fragments_of (all_steps os))) × ((after_owners v s os).dup ≡ s.dup)
 owners_claim v s [] e = (refl, refl)
 owners_claim v s (o ∷ os) e =
     let parts = and_parts (owner_quiet v s.used o) (owners_quiet v (mark s.used (fragments_of o.steps)) os) e in
     let done = owner_claims v s o parts.0 in
-    let rest = owners_claim v (after_owner v s o) os (ap (λ u. owners_quiet v u os) done.used ∙ parts.1) in
-    (rest.0 ∙ (ap (λ u. mark u (fragments_of (all_steps os))) done.used
-      ∙ (sym (mark_append s.used (fragments_of o.steps) (fragments_of (all_steps os))) ∙ ap (mark s.used) (sym (fragments_append o.steps (all_steps os))))),
-     rest.1 ∙ done.dup)
+    let rest = owners_claim v (after_owner v s o) os (ap (λ u. owners_quiet v u os) done.used ∙ parts.1) in (
+      rest.0 ∙ (ap (λ u. mark u (fragments_of (all_steps os))) done.used
+          ∙ (sym (mark_append s.used (fragments_of o.steps) (fragments_of (all_steps os))) ∙ ap (mark s.used) (sym (fragments_append o.steps (all_steps os))))),
+      rest.1 ∙ done.dup,
+    )
 
 -- the parts of quietness
 steps_parts : (v : Layout) (used : List Bool) (steps : List Step) → steps_quiet v used steps ≡ true →
-  (list_all (run_in_range v) steps ≡ true) × (list_all is_no_tail steps ≡ true) × (fresh used (fragments_of steps) ≡ true)
+    (list_all (run_in_range v) steps ≡ true) × (list_all is_no_tail steps ≡ true) × (fresh used (fragments_of steps) ≡ true)
 steps_parts v used [] e = (refl, refl, refl)
 steps_parts v used (x ∷ xs) e =
     let a = and_parts (step_quiet v used x) (steps_quiet v (mark used (step_fragments x)) xs) e in
     let b = and_parts (fits v x) (fresh used (step_fragments x)) a.0 in
     let c = and_parts (run_in_range v x) (is_no_tail x) b.0 in
-    let rest = steps_parts v (mark used (step_fragments x)) xs a.1 in
-    (and_from (run_in_range v x) _ c.0 rest.0, and_from (is_no_tail x) _ c.1 rest.1,
-     fresh_append used (step_fragments x) (fragments_of xs) ∙ and_from _ _ b.1 rest.2)
+    let rest = steps_parts v (mark used (step_fragments x)) xs a.1 in (
+      and_from (run_in_range v x) _ c.0 rest.0,
+      and_from (is_no_tail x) _ c.1 rest.1,
+      fresh_append used (step_fragments x) (fragments_of xs) ∙ and_from _ _ b.1 rest.2,
+    )
 
 steps_from : (v : Layout) (used : List Bool) (steps : List Step) → list_all (run_in_range v) steps ≡ true → list_all is_no_tail steps ≡ true →
-  fresh used (fragments_of steps) ≡ true → steps_quiet v used steps ≡ true
+    fresh used (fragments_of steps) ≡ true → steps_quiet v used steps ≡ true
 steps_from v used [] r t f = refl
 steps_from v used (x ∷ xs) r t f =
     let a = and_parts (run_in_range v x) (list_all (run_in_range v) xs) r in
@@ -129,7 +132,7 @@ owners_parts v used (o ∷ os) e =
       in_range = list_all-append (run_in_range v) o.steps (all_steps os) ∙ and_from _ _ d.0 rest.in_range;
       no_tail = list_all-append is_no_tail o.steps (all_steps os) ∙ and_from _ _ d.1 rest.no_tail;
       new = ap (fresh used) (fragments_append o.steps (all_steps os)) ∙ (fresh_append used (fragments_of o.steps) (fragments_of (all_steps os)) ∙ and_from _ _ d.2 rest.new);
-      counted = and_from (is_counted v o) _ c.1 rest.counted
+      counted = and_from (is_counted v o) _ c.1 rest.counted;
     }
 
 pub owners_from : (v : Layout) (used : List Bool) (os : List Owner) → Quiet v used os → owners_quiet v used os ≡ true
@@ -139,7 +142,7 @@ owners_from v used (o ∷ os) q =
     let b = and_parts (list_all (run_in_range v) o.steps) (list_all (run_in_range v) (all_steps os)) (sym (list_all-append (run_in_range v) o.steps (all_steps os)) ∙ q.in_range) in
     let c = and_parts (list_all is_no_tail o.steps) (list_all is_no_tail (all_steps os)) (sym (list_all-append is_no_tail o.steps (all_steps os)) ∙ q.no_tail) in
     let d = and_parts (fresh used (fragments_of o.steps)) (fresh (mark used (fragments_of o.steps)) (fragments_of (all_steps os)))
-      (sym (fresh_append used (fragments_of o.steps) (fragments_of (all_steps os))) ∙ (ap (fresh used) (sym (fragments_append o.steps (all_steps os))) ∙ q.new)) in
+    (sym (fresh_append used (fragments_of o.steps) (fragments_of (all_steps os))) ∙ (ap (fresh used) (sym (fragments_append o.steps (all_steps os))) ∙ q.new)) in
     let k = and_parts (is_counted v o) (list_all (is_counted v) os) q.counted in
     and_from _ _ (and_from _ _ a.0 (and_from _ _ (steps_from v used o.steps b.0 c.0 d.0) k.0))
-      (owners_from v (mark used (fragments_of o.steps)) os (record { classes = a.1; in_range = b.1; no_tail = c.1; new = d.1; counted = k.1 }))
+    (owners_from v (mark used (fragments_of o.steps)) os (record { classes = a.1; in_range = b.1; no_tail = c.1; new = d.1; counted = k.1 }))

@@ -1,6 +1,5 @@
 -- A report has no defect exactly where the volume is consistent.
-use Rattle.std.specs.Prelude.{◌≡◌, ◌↔◌, ℕ, Bool, true, false, ◌&&◌, ◌||◌, refl, if◌then◌else◌, List, [], ◌∷◌, ◌++◌, map, length, cond, Option, Some, None, Result, Ok, Err, ℤ}
-use Rattle.std.specs.List.{list_any, list_all}
+use Rattle.std.specs.Prelude.{◌≡◌, ℕ, Bool, true, false, refl, if◌then◌else◌, List, [], ◌∷◌, ◌++◌, map, length, Option, Some, None, Result, Ok, Err}
 use Rattle.std.proofs.Common.{sym, ◌∙◌, ap, subst}
 use Rattle.std.proofs.lemmas.Bool.{or_parts, or_from, true_from_ne_false}
 use Rattle.std.proofs.lemmas.List.Folds.{list_any-append}
@@ -10,10 +9,8 @@ use Rattle.ffs_volume.specs.declared.Class.TheVariants.{Free, Partial, Unknown, 
 use Rattle.ffs_volume.specs.declared.BlockMessage.{BlockMessage}
 use Rattle.ffs_volume.specs.declared.Order.{Order}
 use Rattle.ffs_volume.specs.declared.SuperFault.{SuperFault}
-use Rattle.ffs_volume.specs.declared.End.{End}
-use Rattle.ffs_volume.specs.declared.End.TheVariants.{Consistent, Defects, RootStop}
-use Rattle.ffs_volume.specs.declared.SuperFault.TheVariants.{CannotRead, Magic, Disagree}
-use Rattle.ffs_volume.specs.Numbers.{i32_at}
+use Rattle.ffs_volume.specs.declared.End.TheVariants.{Consistent}
+use Rattle.ffs_volume.specs.declared.SuperFault.TheVariants.{CannotRead}
 use Rattle.ffs_volume.specs.Superblock.{Superblock, layout_of, superblock_of, order_of}
 use Rattle.ffs_volume.specs.Outcome.{super_sector, super_bytes, layout_fault, copy_agrees, judged, outcome_in, outcome_of, outcome}
 use Rattle.ffs_volume.specs.Geometry.{IsGeometry, geometry_holds}
@@ -22,17 +19,19 @@ use Rattle.ffs_volume.specs.BlockCheck.{phase1_lines, phase1b_lines, has_rescan}
 use Rattle.ffs_volume.specs.BlocksRight.{BlocksRight}
 use Rattle.ffs_certificate.proofs.BlocksSilent.{phase1_silent, phase1b_silent}
 use Rattle.ffs_volume.specs.Groups.{GroupsRight}
-use Rattle.ffs_volume.specs.GroupCheck.{phase5_lines, is_free_of_kept, is_free_of_runs}
+use Rattle.ffs_volume.specs.GroupCheck.{phase5_lines, is_free_of_kept}
 use Rattle.ffs_certificate.proofs.GroupLaws.{phase5_silent, same_free}
-use Rattle.ffs_volume.specs.Messages.{NameMessage, told}
+use Rattle.ffs_volume.specs.Messages.{Message, NameMessage, optimization, minfree, mounted, phase1b, of_blocks, of_names, is_defect, has_defect}
+use Rattle.ffs_volume.specs.Opening.{before_nul, is_optimization, is_minfree, unless_message, setting_lines, super_lines}
 use Rattle.ffs_volume.specs.Roles.{Volume, is_directory}
-use Rattle.ffs_volume.specs.PathnameCheck.{root_told, root_lines, lines_of, pathname_lines, goes_on}
+use Rattle.ffs_volume.specs.PathnameCheck.{root_told, root_lines, pathname_lines, goes_on}
 use Rattle.ffs_volume.specs.Connectivity.{connectivity_lines}
 use Rattle.ffs_volume.specs.ReferenceCheck.{reference_lines}
 use Rattle.ffs_certificate.specs.DirsCertificate.{IsSilent, AreDirectoriesRight}
 use Rattle.ffs_volume.specs.Volumes.{class_at, volume_of, whole_volume}
-use Rattle.ffs_volume.specs.Report.{Message, optimization, minfree, mounted, phase1, phase1b, phase2, phase3, phase4, phase5, of_blocks, of_names, summary, is_defect, has_defect, is_optimization, is_minfree, unless_line, opening_lines, rescan_lines, later_lines, text_lines, report_lines, totals_of, end_by, end_of}
-use Rattle.ffs_certificate.specs.ReportRight.{AreSettingsRight, AreRunsRight, IsConsistent, IsCertified, ReportIsRight}
+use Rattle.ffs_volume.specs.Consistent.{AreSettingsRight, AreRunsRight, IsConsistent}
+use Rattle.ffs_volume.specs.Report.{rescan_lines, later_lines, text_lines, report_lines, end_by, end_of}
+use Rattle.ffs_certificate.specs.ReportRight.{IsCertified, ReportIsRight}
 use Rattle.ffs_certificate.proofs.Silence.{nil-left}
 use Rattle.ffs_certificate.proofs.DirsCertificate.{silent_right}
 use Rattle.ffs_certificate.proofs.VolumeLaws.{whole_is_volume, whole_unmarked, same_whole}
@@ -58,25 +57,27 @@ quiet_blocks ms e = ap (λ ms. has_defect (map of_blocks ms)) e
 quiet_names : (ms : List NameMessage) → ms ≡ [] → has_defect (map of_names ms) ≡ false
 quiet_names ms e = ap (λ ms. has_defect (map of_names ms)) e
 
-kept_line : (b : Bool) (line : Message) → is_defect line ≡ true → has_defect (unless_line b line) ≡ false → b ≡ true
+kept_line : (b : Bool) (line : Message) → is_defect line ≡ true → has_defect (unless_message b line) ≡ false → b ≡ true
 kept_line true line d h = refl
 kept_line false line d h = (let r : true ≡ false = sym d ∙ (or_parts (is_defect line) false h).0 in absurd (cc))
 
-no_line : (b : Bool) (line : Message) → b ≡ true → has_defect (unless_line b line) ≡ false
-no_line b line e = ap (λ b. has_defect (unless_line b line)) e
+no_line : (b : Bool) (line : Message) → b ≡ true → has_defect (unless_message b line) ≡ false
+no_line b line e = ap (λ b. has_defect (unless_message b line)) e
 
 -- THE SETTINGS
-settings_say : (v : Layout) (super : List ℕ) → has_defect (opening_lines v super) ≡ false → AreSettingsRight v super
-unfolding opening_lines
-settings_say v super h =
-    let p = quiet_parts (unless_line (is_optimization v super) optimization) (unless_line (is_minfree v super) (minfree (i32_at v.order 60 super))) h in
-    record { optimization = kept_line (is_optimization v super) optimization refl p.0; minfree = kept_line (is_minfree v super) (minfree (i32_at v.order 60 super)) refl p.1 }
+settings_say : (super : Superblock) → has_defect (super_lines super) ≡ false → AreSettingsRight super
+unfolding setting_lines
+settings_say super h =
+    let a = quiet_parts (setting_lines super) (mounted (before_nul super.mount) ∷ []) h in
+    let p = quiet_parts (unless_message (is_optimization super) optimization) (unless_message (is_minfree super) (minfree super.minfree)) a.0 in
+    record { optimization = kept_line (is_optimization super) optimization refl p.0; minfree = kept_line (is_minfree super) (minfree super.minfree) refl p.1 }
 
-settings_quiet : (v : Layout) (super : List ℕ) → AreSettingsRight v super → has_defect (opening_lines v super) ≡ false
-unfolding opening_lines
-settings_quiet v super s =
-    quiet_from (unless_line (is_optimization v super) optimization) (unless_line (is_minfree v super) (minfree (i32_at v.order 60 super)))
-      (no_line (is_optimization v super) optimization s.optimization) (no_line (is_minfree v super) (minfree (i32_at v.order 60 super)) s.minfree)
+settings_quiet : (super : Superblock) → AreSettingsRight super → has_defect (super_lines super) ≡ false
+unfolding setting_lines
+settings_quiet super s =
+    quiet_from (setting_lines super) (mounted (before_nul super.mount) ∷ [])
+    (quiet_from (unless_message (is_optimization super) optimization) (unless_message (is_minfree super) (minfree super.minfree))
+    (no_line (is_optimization super) optimization s.optimization) (no_line (is_minfree super) (minfree super.minfree) s.minfree)) refl
 
 -- THE ROOT: a run that stops behind it has told so
 told_root : (v : Volume) (c : Class) → root_told v c ≡ [] → is_directory c ≡ true
@@ -91,49 +92,58 @@ unfolding pathname_lines root_lines
 root_there v h = told_root v (v.class 2) (nil-left (root_told v (v.class 2)) _ h)
 
 -- CONDITIONS 2 AND 3
-blocks_of_parts : (v : Layout) (image super : List ℕ) → IsConsistent v image super → BlocksRight v (owners_of v image)
-blocks_of_parts v image super c = record {
-  classes = c.classes; in_range = c.runs.in_range; no_tail = c.runs.no_tail; alone = c.runs.alone; unreserved = c.runs.unreserved; counted = c.runs.counted }
+blocks_of_parts : (image : List ℕ) (super : Superblock) → IsConsistent image super → BlocksRight super.layout (owners_of super.layout image)
+blocks_of_parts image super c = record {
+  classes = c.classes;
+  in_range = c.runs.in_range;
+  no_tail = c.runs.no_tail;
+  alone = c.runs.alone;
+  unreserved = c.runs.unreserved;
+  counted = c.runs.counted;
+}
 
 runs_of : (v : Layout) (os : List Owner) → BlocksRight v os → AreRunsRight v os
 runs_of v os r = record { in_range = r.in_range; no_tail = r.no_tail; alone = r.alone; unreserved = r.unreserved; counted = r.counted }
 
 -- PHASES 3 TO 5
-record AreLaterSilent (v : Layout) (image super : List ℕ) : Type 0 where
-  connectivity : connectivity_lines (volume_of v image) ≡ []
-  references : reference_lines (volume_of v image) ≡ []
-  groups : phase5_lines v image super (is_free_of_kept v (owners_of v image)) (class_at v image) ≡ []
+record AreLaterSilent (image : List ℕ) (super : Superblock) : Type 0 where
+  connectivity : connectivity_lines (volume_of super.layout image) ≡ []
+  references : reference_lines (volume_of super.layout image) ≡ []
+  groups : phase5_lines super.layout image super.cstotal (is_free_of_kept super.layout (owners_of super.layout image)) (class_at super.layout image) ≡ []
 
-later_say : (v : Layout) (image super : List ℕ) → has_defect (later_lines v image super) ≡ false → AreLaterSilent v image super
+later_say : (image : List ℕ) (super : Superblock) → has_defect (later_lines image super) ≡ false → AreLaterSilent image super
 unfolding later_lines
-later_say v image super h =
-    let p = quiet_parts (map of_names (connectivity_lines (volume_of v image))) _ h in
-    let q = quiet_parts (map of_names (reference_lines (volume_of v image))) _ p.1 in
-    let r = quiet_parts (map of_blocks (phase5_lines v image super (is_free_of_kept v (owners_of v image)) (class_at v image))) _ q.1 in
+later_say image super h =
+    let p = quiet_parts (map of_names (connectivity_lines (volume_of super.layout image))) _ h in
+    let q = quiet_parts (map of_names (reference_lines (volume_of super.layout image))) _ p.1 in
+    let r = quiet_parts (map of_blocks (phase5_lines super.layout image super.cstotal (is_free_of_kept super.layout (owners_of super.layout image)) (class_at super.layout image))) _ q.1 in
     record { connectivity = silent_names _ p.0; references = silent_names _ q.0; groups = silent_blocks _ r.0 }
 
-later_quiet : (v : Layout) (image super : List ℕ) → AreLaterSilent v image super → has_defect (later_lines v image super) ≡ false
+later_quiet : (image : List ℕ) (super : Superblock) → AreLaterSilent image super → has_defect (later_lines image super) ≡ false
 unfolding later_lines
-later_quiet v image super s =
-    quiet_from (map of_names (connectivity_lines (volume_of v image))) _ (quiet_names _ s.connectivity)
-      (quiet_from (map of_names (reference_lines (volume_of v image))) _ (quiet_names _ s.references)
-        (quiet_from (map of_blocks (phase5_lines v image super (is_free_of_kept v (owners_of v image)) (class_at v image))) _ (quiet_blocks _ s.groups) refl))
+later_quiet image super s =
+    quiet_from (map of_names (connectivity_lines (volume_of super.layout image))) _ (quiet_names _ s.connectivity)
+    (quiet_from (map of_names (reference_lines (volume_of super.layout image))) _ (quiet_names _ s.references)
+    (quiet_from (map of_blocks (phase5_lines super.layout image super.cstotal (is_free_of_kept super.layout (owners_of super.layout image)) (class_at super.layout image))) _ (quiet_blocks _ s.groups) refl))
 
 -- THE WHOLE
-record IsWholeSilent (v : Layout) (image super : List ℕ) : Type 0 where
-  blocks : phase1_lines v (owners_of v image) ≡ []
-  pathnames : pathname_lines (volume_of v image) ≡ []
-  later : AreLaterSilent v image super
+record IsWholeSilent (image : List ℕ) (super : Superblock) : Type 0 where
+  blocks : phase1_lines super.layout (owners_of super.layout image) ≡ []
+  pathnames : pathname_lines (volume_of super.layout image) ≡ []
+  later : AreLaterSilent image super
 
-text_say : (v : Layout) (image super : List ℕ) → has_defect (text_lines v image super) ≡ false → IsWholeSilent v image super
+text_say : (image : List ℕ) (super : Superblock) → has_defect (text_lines image super) ≡ false → IsWholeSilent image super
 unfolding text_lines
-text_say v image super h =
-    let p = quiet_parts (map of_blocks (phase1_lines v (owners_of v image))) _ h in
-    let q = quiet_parts (rescan_lines v image) _ p.1 in
-    let r = quiet_parts (map of_names (pathname_lines (volume_of v image))) _ q.1 in
-    let names = silent_names (pathname_lines (volume_of v image)) r.0 in
-    record { blocks = silent_blocks _ p.0; pathnames = names;
-      later = later_say v image super (sym (ap (λ b. has_defect (if b then later_lines v image super else [])) (root_there (volume_of v image) names)) ∙ r.1) }
+text_say image super h =
+    let p = quiet_parts (map of_blocks (phase1_lines super.layout (owners_of super.layout image))) _ h in
+    let q = quiet_parts (rescan_lines super.layout image) _ p.1 in
+    let r = quiet_parts (map of_names (pathname_lines (volume_of super.layout image))) _ q.1 in
+    let names = silent_names (pathname_lines (volume_of super.layout image)) r.0 in
+    record {
+      blocks = silent_blocks _ p.0;
+      pathnames = names;
+      later = later_say image super (sym (ap (λ b. has_defect (if b then later_lines image super else [])) (root_there (volume_of super.layout image) names)) ∙ r.1);
+    }
 
 rescan_quiet : (v : Layout) (image : List ℕ) → phase1b_lines v (owners_of v image) ≡ [] → has_defect (rescan_lines v image) ≡ false
 rescan_quiet v image e = one (has_rescan v (owners_of v image))
@@ -142,40 +152,48 @@ rescan_quiet v image e = one (has_rescan v (owners_of v image))
     one true = quiet_blocks (phase1b_lines v (owners_of v image)) e
     one false = refl
 
-text_quiet : (v : Layout) (image super : List ℕ) → phase1b_lines v (owners_of v image) ≡ [] → IsWholeSilent v image super → has_defect (text_lines v image super) ≡ false
+text_quiet : (image : List ℕ) (super : Superblock) → phase1b_lines super.layout (owners_of super.layout image) ≡ [] → IsWholeSilent image super → has_defect (text_lines image super) ≡ false
 unfolding text_lines
-text_quiet v image super again s =
-    quiet_from (map of_blocks (phase1_lines v (owners_of v image))) _ (quiet_blocks _ s.blocks)
-      (quiet_from (rescan_lines v image) _ (rescan_quiet v image again)
-        (quiet_from (map of_names (pathname_lines (volume_of v image))) _ (quiet_names _ s.pathnames)
-          (ap (λ b. has_defect (if b then later_lines v image super else [])) (root_there (volume_of v image) s.pathnames) ∙ later_quiet v image super s.later)))
+text_quiet image super again s =
+    quiet_from (map of_blocks (phase1_lines super.layout (owners_of super.layout image))) _ (quiet_blocks _ s.blocks)
+    (quiet_from (rescan_lines super.layout image) _ (rescan_quiet super.layout image again)
+    (quiet_from (map of_names (pathname_lines (volume_of super.layout image))) _ (quiet_names _ s.pathnames)
+    (ap (λ b. has_defect (if b then later_lines image super else [])) (root_there (volume_of super.layout image) s.pathnames) ∙ later_quiet image super s.later)))
 
-forward : (v : Layout) (image super : List ℕ) → IsGeometry v → has_defect (report_lines v image super) ≡ false → IsConsistent v image super
+forward : (image : List ℕ) (super : Superblock) → IsGeometry super.layout → has_defect (report_lines image super) ≡ false → IsConsistent image super
 unfolding report_lines
-forward v image super g h =
-    let p = quiet_parts (opening_lines v super) _ h in
-    let s = text_say v image super p.1 in
-    let blocks = (phase1_silent v (owners_of v image)).0 s.blocks in
-    let silent : IsSilent (volume_of v image) = record { pathnames = s.pathnames; connectivity = s.later.connectivity; references = s.later.references } in
-    let dirs = (silent_right (whole_volume v image) (whole_is_volume v image g) (whole_unmarked v image blocks)).0 (subst IsSilent (same_whole v image blocks) silent) in
+forward image super g h =
+    let p = quiet_parts (super_lines super) _ h in
+    let s = text_say image super p.1 in
+    let blocks = (phase1_silent super.layout (owners_of super.layout image)).0 s.blocks in
+    let silent : IsSilent (volume_of super.layout image) = record { pathnames = s.pathnames; connectivity = s.later.connectivity; references = s.later.references } in
+    let dirs = (silent_right (whole_volume super.layout image) (whole_is_volume super.layout image g) (whole_unmarked super.layout image blocks)).0 (subst IsSilent (same_whole super.layout image blocks) silent) in
     record {
-      settings = settings_say v super p.0; classes = blocks.classes; runs = runs_of v (owners_of v image) blocks;
-      dirs = dirs.dirs; links = dirs.links; counts = dirs.counts;
-      groups = subst (λ free. GroupsRight v image super free (class_at v image)) (same_free v (owners_of v image) blocks)
-        ((phase5_silent v image super (is_free_of_kept v (owners_of v image)) (class_at v image)).0 s.later.groups) }
+      settings = settings_say super p.0;
+      classes = blocks.classes;
+      runs = runs_of super.layout (owners_of super.layout image) blocks;
+      dirs = dirs.dirs;
+      links = dirs.links;
+      counts = dirs.counts;
+      groups = subst (λ free. GroupsRight super.layout image super.cstotal free (class_at super.layout image)) (same_free super.layout (owners_of super.layout image) blocks)
+          ((phase5_silent super.layout image super.cstotal (is_free_of_kept super.layout (owners_of super.layout image)) (class_at super.layout image)).0 s.later.groups);
+    }
 
-backward : (v : Layout) (image super : List ℕ) → IsGeometry v → IsConsistent v image super → has_defect (report_lines v image super) ≡ false
+backward : (image : List ℕ) (super : Superblock) → IsGeometry super.layout → IsConsistent image super → has_defect (report_lines image super) ≡ false
 unfolding report_lines
-backward v image super g c =
-    let blocks = blocks_of_parts v image super c in
-    let right : AreDirectoriesRight (whole_volume v image) = record { dirs = c.dirs; links = c.links; counts = c.counts } in
-    let silent = subst IsSilent (sym (same_whole v image blocks)) ((silent_right (whole_volume v image) (whole_is_volume v image g) (whole_unmarked v image blocks)).1 right) in
-    let groups = (phase5_silent v image super (is_free_of_kept v (owners_of v image)) (class_at v image)).1
-      (subst (λ free. GroupsRight v image super free (class_at v image)) (sym (same_free v (owners_of v image) blocks)) c.groups) in
-    quiet_from (opening_lines v super) _ (settings_quiet v super c.settings)
-      (text_quiet v image super (phase1b_silent v (owners_of v image) blocks)
-        (record { blocks = (phase1_silent v (owners_of v image)).1 blocks; pathnames = silent.pathnames;
-          later = record { connectivity = silent.connectivity; references = silent.references; groups = groups } }))
+backward image super g c =
+    let blocks = blocks_of_parts image super c in
+    let right : AreDirectoriesRight (whole_volume super.layout image) = record { dirs = c.dirs; links = c.links; counts = c.counts } in
+    let silent = subst IsSilent (sym (same_whole super.layout image blocks)) ((silent_right (whole_volume super.layout image) (whole_is_volume super.layout image g) (whole_unmarked super.layout image blocks)).1 right) in
+    let groups = (phase5_silent super.layout image super.cstotal (is_free_of_kept super.layout (owners_of super.layout image)) (class_at super.layout image)).1
+    (subst (λ free. GroupsRight super.layout image super.cstotal free (class_at super.layout image)) (sym (same_free super.layout (owners_of super.layout image) blocks)) c.groups) in
+    quiet_from (super_lines super) _ (settings_quiet super c.settings)
+    (text_quiet image super (phase1b_silent super.layout (owners_of super.layout image) blocks)
+    (record {
+      blocks = (phase1_silent super.layout (owners_of super.layout image)).1 blocks;
+      pathnames = silent.pathnames;
+      later = record { connectivity = silent.connectivity; references = silent.references; groups = groups };
+    }))
 
 -- THE END
 end_quiet : (on defect : Bool) → end_by on defect ≡ Consistent → defect ≡ false
@@ -183,28 +201,28 @@ end_quiet true true e = absurd (cc)
 end_quiet true false e = refl
 end_quiet false defect e = absurd (cc)
 
-goes_on_quiet : (v : Layout) (image super : List ℕ) → has_defect (report_lines v image super) ≡ false → goes_on (volume_of v image) ≡ true
+goes_on_quiet : (image : List ℕ) (super : Superblock) → has_defect (report_lines image super) ≡ false → goes_on (volume_of super.layout image) ≡ true
 unfolding report_lines
-goes_on_quiet v image super h =
-    root_there (volume_of v image) (text_say v image super (quiet_parts (opening_lines v super) _ h).1).pathnames
+goes_on_quiet image super h =
+    root_there (volume_of super.layout image) (text_say image super (quiet_parts (super_lines super) _ h).1).pathnames
 
-end_consistent : (v : Layout) (image super : List ℕ) → has_defect (report_lines v image super) ≡ false → end_of v image super ≡ Consistent
+end_consistent : (image : List ℕ) (super : Superblock) → has_defect (report_lines image super) ≡ false → end_of image super ≡ Consistent
 unfolding end_of
-end_consistent v image super h = ap (end_by (goes_on (volume_of v image))) h ∙ ap (λ b. end_by b false) (goes_on_quiet v image super h)
+end_consistent image super h = ap (end_by (goes_on (volume_of super.layout image))) h ∙ ap (λ b. end_by b false) (goes_on_quiet image super h)
 
-consistent_end : (v : Layout) (image super : List ℕ) → end_of v image super ≡ Consistent → has_defect (report_lines v image super) ≡ false
+consistent_end : (image : List ℕ) (super : Superblock) → end_of image super ≡ Consistent → has_defect (report_lines image super) ≡ false
 unfolding end_of
-consistent_end v image super e = end_quiet (goes_on (volume_of v image)) (has_defect (report_lines v image super)) e
+consistent_end image super e = end_quiet (goes_on (volume_of super.layout image)) (has_defect (report_lines image super)) e
 
 -- a run that stops behind the root has told a defect
-pub stop_told : (v : Layout) (image super : List ℕ) → goes_on (volume_of v image) ≡ false → has_defect (report_lines v image super) ≡ true
-stop_told v image super h =
-    true_from_ne_false _ (λ q. (let w : true ≡ false = sym (goes_on_quiet v image super q) ∙ h in cc))
+pub stop_told : (image : List ℕ) (super : Superblock) → goes_on (volume_of super.layout image) ≡ false → has_defect (report_lines image super) ≡ true
+stop_told image super h =
+    true_from_ne_false _ (λ q. (let w : true ≡ false = sym (goes_on_quiet image super q) ∙ h in cc))
 
-pub report_right : (v : Layout) (image super : List ℕ) → IsGeometry v → IsCertified v image super
-report_right v image super g = record {
-  silent = (forward v image super g, backward v image super g);
-  end_is = ((λ e. forward v image super g (consistent_end v image super e)), (λ c. end_consistent v image super (backward v image super g c)))
+pub report_right : (image : List ℕ) (super : Superblock) → IsGeometry super.layout → IsCertified image super
+report_right image super g = record {
+  silent = (forward image super g, backward image super g);
+  end_is = ((λ e. forward image super g (consistent_end image super e)), (λ c. end_consistent image super (backward image super g c)));
 }
 
 -- AN ACCEPTED SUPERBLOCK
@@ -229,7 +247,7 @@ accepted_layout : (image : List ℕ) (sector : Option ℕ) (s : Superblock) → 
 unfolding outcome
 accepted_layout image sector s e =
     super_layout image sector (super_bytes image sector) (order_of (super_bytes image sector)) s
-      (in_image _ (CannotRead (super_sector sector)) (outcome_of image sector (super_bytes image sector) (order_of (super_bytes image sector))) s e)
+    (in_image _ (CannotRead (super_sector sector)) (outcome_of image sector (super_bytes image sector) (order_of (super_bytes image sector))) s e)
 
 pub certified : ReportIsRight
-certified image sector s e = report_right s.layout image (super_bytes image sector) (accepted_layout image sector s e)
+certified image sector s e = report_right image s (accepted_layout image sector s e)

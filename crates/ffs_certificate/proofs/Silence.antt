@@ -1,7 +1,7 @@
 -- When a list of messages is empty.
-use Rattle.std.specs.Prelude.{◌≡◌, ◌≢◌, ℕ, zero, suc, ◌+◌, ◌<◌, ◌≤◌, ◌==◌, Bool, true, false, not, ◌&&◌, refl, List, [], ◌∷◌, ◌++◌, Option, Some, None, if◌then◌else◌}
-use Rattle.std.proofs.Common.{arith, sym, ◌∙◌, ap, subst, inl, inr}
-use Rattle.std.proofs.lemmas.Bool.{both_ways, cases_Bool, cases_eq, cases_order, not-true, not-false}
+use Rattle.std.specs.Prelude.{◌≡◌, ◌≢◌, ℕ, zero, suc, ◌<◌, Bool, true, false, ◌&&◌, refl, List, [], ◌∷◌, ◌++◌, if◌then◌else◌}
+use Rattle.std.proofs.Common.{arith, sym, ◌∙◌, ap, inl, inr}
+use Rattle.std.proofs.lemmas.Bool.{cases_eq}
 use Rattle.ffs_volume.specs.Messages.{NameMessage, told, lines_below}
 
 pub nil-left : (xs ys : List NameMessage) → xs ++ ys ≡ [] → xs ≡ []
@@ -50,9 +50,10 @@ pub lines-quiet : (f : ℕ → List NameMessage) (n : ℕ) → lines_below f n �
 unfolding lines_below
 lines-quiet f zero h i l = absurd (omega arith)
 lines-quiet f (suc n) h i l =
-  elim (cases_eq i n) [
-    inl e ↦ ap f e ∙ nil-right (lines_below f n) (f n) h
-  | inr e ↦ lines-quiet f n (nil-left (lines_below f n) (f n) h) i (let q : i ≢ n = e in omega arith) ]
+    elim (cases_eq i n) [
+      | inl e ↦ ap f e ∙ nil-right (lines_below f n) (f n) h
+      | inr e ↦ lines-quiet f n (nil-left (lines_below f n) (f n) h) i (let q : i ≢ n = e in omega arith)
+    ]
 
 pub lines-silent : (f : ℕ → List NameMessage) (n : ℕ) → ((i : ℕ) → i < n → f i ≡ []) → lines_below f n ≡ []
 unfolding lines_below

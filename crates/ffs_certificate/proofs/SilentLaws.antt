@@ -26,7 +26,7 @@ step_kept_quiet : (v : Layout) (s : Claims) (step : Step) → Calm s → step_qu
 step_kept_quiet v s (Run start len block) c e =
     let done = step_claims v s (Run start len block) c e in
     and_from (is_open s) _ (calm_open s c)
-      (eq-eqb (after_step v s (Run start len block)).kept (s.kept + len) (done.kept ∙ ap (λ n. s.kept + n) (length-range_with_len start len)))
+    (eq-eqb (after_step v s (Run start len block)).kept (s.kept + len) (done.kept ∙ ap (λ n. s.kept + n) (length-range_with_len start len)))
 step_kept_quiet v s Tail c e = calm_open s c
 step_kept_quiet v s Gap c e = calm_open s c
 
@@ -39,8 +39,8 @@ steps_kept_quiet v s (step ∷ steps) c e =
     ap (λ b. (if b then step ∷ [] else []) ++ kept_steps v (after_step v s step) steps) (step_kept_quiet v s step c parts.0) ∙ ap (λ z. step ∷ z) rest
 
 kept_at : (v : Layout) (image : List ℕ) (s : Claims) (a k d x : ℕ) → a + d ≡ x → d < k →
-  owners_quiet v s.used (map (owner_of v image) (range_with_len a k)) ≡ true →
-  kept_steps v (next_inode (after_owners v s (map (owner_of v image) (range_with_len a d)))) (steps_of v (inode_of v image x) image) ≡ steps_of v (inode_of v image x) image
+    owners_quiet v s.used (map (owner_of v image) (range_with_len a k)) ≡ true →
+    kept_steps v (next_inode (after_owners v s (map (owner_of v image) (range_with_len a d)))) (steps_of v (inode_of v image x) image) ≡ steps_of v (inode_of v image x) image
 unfolding owner_of
 kept_at v image s a zero d x e lt q = absurd (omega arith)
 kept_at v image s a (suc k) zero x e lt q =
@@ -48,19 +48,19 @@ kept_at v image s a (suc k) zero x e lt q =
     let whole = and_parts (is_whole_class (class_of v (inode_of v image a))) _ parts.0 in
     let same : a ≡ x = omega arith in
     subst (λ y. kept_steps v (next_inode s) (steps_of v (inode_of v image y) image) ≡ steps_of v (inode_of v image y) image) same
-      (steps_kept_quiet v (next_inode s) (steps_of v (inode_of v image a) image) (start_calm s) (and_parts (steps_quiet v s.used (steps_of v (inode_of v image a) image)) _ whole.1).0)
+    (steps_kept_quiet v (next_inode s) (steps_of v (inode_of v image a) image) (start_calm s) (and_parts (steps_quiet v s.used (steps_of v (inode_of v image a) image)) _ whole.1).0)
 kept_at v image s a (suc k) (suc d) x e lt q =
     let parts = and_parts (owner_quiet v s.used (owner_of v image a)) _ q in
     kept_at v image (after_owner v s (owner_of v image a)) (a + 1) k d x (omega (arith, e)) (omega arith)
-      (ap (λ u. owners_quiet v u (map (owner_of v image) (range_with_len (a + 1) k))) (owner_claims v s (owner_of v image a) parts.0).used ∙ parts.1)
+    (ap (λ u. owners_quiet v u (map (owner_of v image) (range_with_len (a + 1) k))) (owner_claims v s (owner_of v image a) parts.0).used ∙ parts.1)
 
 -- each step of each inode is kept
 pub all_kept : (v : Layout) (image : List ℕ) → BlocksRight v (owners_of v image) → (x : ℕ) → 2 ≤ x → x < v.ncg * v.ipg →
-  kept_steps_of v image x ≡ steps_of v (inode_of v image x) image
+    kept_steps_of v image x ≡ steps_of v (inode_of v image x) image
 unfolding kept_steps_of claims_before owners_of no_claims
 all_kept v image r x low high =
     kept_at v image (no_claims v) 2 (v.ncg * v.ipg - 2) (x - 2) x (omega arith) (omega arith)
-      (owners_from v (reserved_map v) (owners_of v image) (right_quiet v (owners_of v image) r))
+    (owners_from v (reserved_map v) (owners_of v image) (right_quiet v (owners_of v image) r))
 
 whole_known : (c : Class) → is_whole_class c ≡ true → is_unknown_class c ≡ false
 whole_known Free e = refl
@@ -75,6 +75,6 @@ unfolding is_marked owners_of owner_of
 none_marked v image r x low high =
     let none = (blocks_silent v (owners_of v image)).1 r in
     let whole = all_at (λ y. is_whole_class (class_of v (inode_of v image y))) 2 (v.ncg * v.ipg - 2) x
-      (sym (list_all-map (λ o. is_whole_class o.class) (owner_of v image) (range_with_len 2 (v.ncg * v.ipg - 2))) ∙ r.classes) low (omega arith) in
+    (sym (list_all-map (λ o. is_whole_class o.class) (owner_of v image) (range_with_len 2 (v.ncg * v.ipg - 2))) ∙ r.classes) low (omega arith) in
     let known = whole_known (class_of v (inode_of v image x)) whole in
     ap (λ b. b || list_any (blames x) (phase1_lines v (owners_of v image) ++ phase1b_lines v (owners_of v image))) known ∙ ap (list_any (blames x)) none

@@ -1,15 +1,14 @@
 -- What is known of an image's volume, and that keeping is nothing where the block check is silent.
-use Rattle.std.specs.Prelude.{◌≡◌, ◌≢◌, ℕ, zero, suc, ◌+◌, ◌-◌, ◌*◌, ◌/◌, ◌%◌, ◌<◌, ◌≤◌, ◌==◌, min, Bool, true, false, not, ◌&&◌, ◌||◌, nat_lt, nat_le, refl, if◌then◌else◌, List, [], ◌∷◌, ◌++◌, map, drop}
-use Rattle.std.specs.List.{flat_map, list_any, list_all, range_with_len}
+use Rattle.std.specs.Prelude.{◌≡◌, ◌≢◌, ℕ, ◌+◌, ◌-◌, ◌*◌, ◌%◌, ◌<◌, ◌≤◌, ◌==◌, min, Bool, true, false, not, ◌||◌, nat_lt, nat_le, refl, if◌then◌else◌, List, [], drop}
+use Rattle.std.specs.List.{flat_map, range_with_len}
 use Rattle.std.specs.Int.{div_ceil}
-use Rattle.std.proofs.Common.{arith, sym, ◌∙◌, ap, subst, inl, inr}
+use Rattle.std.proofs.Common.{arith, sym, ◌∙◌, ap, inl, inr}
 use Rattle.std.proofs.Math.Path.{fun_ext}
 use Rattle.std.proofs.Math.Nat.{mod-eq_of_lt, zero-div, zero-mod, mul-le-mul_right}
-use Rattle.std.proofs.lemmas.Bool.{cases_lt, leb-true, ltb-true, and_parts, and_from}
+use Rattle.std.proofs.lemmas.Bool.{cases_lt, leb-true, ltb-true, and_parts}
 use Rattle.std.proofs.lemmas.List.Folds.{list_all-map}
 use Rattle.ffs_volume.specs.declared.Layout.{Layout}
-use Rattle.ffs_volume.specs.declared.Class.{Class}
-use Rattle.ffs_volume.specs.declared.Class.TheVariants.{Free, Partial, Unknown, File, Dir}
+use Rattle.ffs_volume.specs.declared.Class.TheVariants.{Free, Unknown}
 use Rattle.ffs_volume.specs.declared.Step.{Step}
 use Rattle.ffs_volume.specs.declared.Inode.{Inode}
 use Rattle.ffs_volume.specs.Areas.{is_in_range}
@@ -24,7 +23,7 @@ use Rattle.ffs_volume.specs.Claims.{next_inode}
 use Rattle.ffs_volume.specs.KeptSteps.{kept_steps, kept_steps_of, claims_before}
 use Rattle.ffs_certificate.proofs.SilentLaws.{all_kept, none_marked}
 use Rattle.ffs_volume.specs.Directory.{chunks_of}
-use Rattle.ffs_volume.specs.Roles.{Volume, chunk_seen, is_directory, is_allocated, is_inode, is_dir, is_some_inode, seen_in}
+use Rattle.ffs_volume.specs.Roles.{chunk_seen, is_directory, is_allocated, seen_in}
 use Rattle.ffs_volume.specs.DirectoriesRight.{IsVolume, IsUnmarked}
 use Rattle.ffs_volume.specs.Volumes.{is_number, class_at, marked_at, steps_at_number, kept_at_number, reading_of, volume_with, volume_of, whole_volume}
 
@@ -37,8 +36,9 @@ some_inodes v g =
     let groups = g.some_groups in
     let many : 32 ≤ v.inopb = omega arith in
     elim (cases_lt v.ipg v.inopb) [
-      inl small ↦ (let none : v.ipg ≡ 0 = sym (mod-eq_of_lt small) ∙ g.sizes.inode_blocks in absurd (omega arith))
-    | inr large ↦ (let more : 1 * v.ipg ≤ v.ncg * v.ipg = mul-le-mul_right v.ipg groups in omega arith) ]
+      | inl small ↦ (let none : v.ipg ≡ 0 = sym (mod-eq_of_lt small) ∙ g.sizes.inode_blocks in absurd (omega arith))
+      | inr large ↦ (let more : 1 * v.ipg ≤ v.ncg * v.ipg = mul-le-mul_right v.ipg groups in omega arith)
+    ]
 
 -- no steps where the size is 0
 no_blocks : (n b : ℕ) → 0 < b → n ≡ 0 → div_ceil n b ≡ 0
@@ -59,7 +59,7 @@ unfolding class_of
 kind_known v i known e =
     let some : (type_of i.mode == 0) ≡ false = ap (λ k. k == 0) e in
     let other : (not (is_known_type (type_of i.mode)) || (is_too_large v i || is_any_set (drop (addresses_used v i) i.addresses))) ≡ true =
-      ap (λ k. not (is_known_type k) || (is_too_large v i || is_any_set (drop (addresses_used v i) i.addresses))) e in
+    ap (λ k. not (is_known_type k) || (is_too_large v i || is_any_set (drop (addresses_used v i) i.addresses))) e in
     known (rw (some, other) refl)
 
 class_number : (v : Layout) (image : List ℕ) (x : ℕ) → is_number v x ≡ true → class_at v image x ≡ class_of v (inode_of v image x)
@@ -67,16 +67,16 @@ class_number v image x h = ap (λ b. if b then class_of v (inode_of v image x) e
 
 -- each volume of an image is one of those that the laws on directories speak of
 volume_is : (v : Layout) (image : List ℕ) (steps : ℕ → List Step) (marked : ℕ → Bool) → IsGeometry v →
-  ((d : ℕ) → is_number v d ≡ true → (inode_of v image d).size ≡ 0 → steps d ≡ []) → IsVolume (volume_with v image steps marked)
+    ((d : ℕ) → is_number v d ≡ true → (inode_of v image d).size ≡ 0 → steps d ≡ []) → IsVolume (volume_with v image steps marked)
 unfolding volume_with seen_in
 volume_is v image steps marked g none = record {
   some = some_inodes v g;
   empty = λ d h z.
-    let number = (and_parts (is_number v d) (is_directory (class_at v image d)) h).0 in
-    ap (λ ss. flat_map chunk_seen (chunks_of (reading_of v image d) (is_in_range v) ss)) (none d number z);
+      let number = (and_parts (is_number v d) (is_directory (class_at v image d)) h).0 in
+      ap (λ ss. flat_map chunk_seen (chunks_of (reading_of v image d) (is_in_range v) ss)) (none d number z);
   kinds = λ x known h.
-    let number = (and_parts (is_number v x) (is_allocated (class_at v image x)) h).0 in
-    kind_known v (inode_of v image x) (λ e. known (class_number v image x number ∙ e))
+      let number = (and_parts (is_number v x) (is_allocated (class_at v image x)) h).0 in
+      kind_known v (inode_of v image x) (λ e. known (class_number v image x number ∙ e));
 }
 
 steps_none : (v : Layout) (image : List ℕ) → IsGeometry v → (d : ℕ) → is_number v d ≡ true → (inode_of v image d).size ≡ 0 → steps_of v (inode_of v image d) image ≡ []
@@ -86,14 +86,14 @@ pub whole_is_volume : (v : Layout) (image : List ℕ) → IsGeometry v → IsVol
 unfolding whole_volume
 whole_is_volume v image g =
     volume_is v image (steps_at_number v image) (λ x. false) g
-      (λ d number z. ap (λ b. if b then steps_of v (inode_of v image d) image else []) number ∙ steps_none v image g d number z)
+    (λ d number z. ap (λ b. if b then steps_of v (inode_of v image d) image else []) number ∙ steps_none v image g d number z)
 
 pub kept_is_volume : (v : Layout) (image : List ℕ) → IsGeometry v → IsVolume (volume_of v image)
 unfolding volume_of kept_steps_of
 kept_is_volume v image g =
     volume_is v image (kept_at_number v image) (marked_at v image) g
-      (λ d number z. ap (λ b. if b then kept_steps_of v image d else []) number
-        ∙ ap (kept_steps v (next_inode (claims_before v image d))) (steps_none v image g d number z))
+    (λ d number z. ap (λ b. if b then kept_steps_of v image d else []) number
+    ∙ ap (kept_steps v (next_inode (claims_before v image d))) (steps_none v image g d number z))
 
 -- where the blocks are right, each inode is free, a file or a directory
 number_bounds : (v : Layout) (x : ℕ) → is_number v x ≡ true → (2 ≤ x) × (x < v.ncg * v.ipg)
@@ -106,7 +106,7 @@ whole_number v image r x h =
     let low = b.0 in
     let high = b.1 in
     all_at (λ y. is_whole_class (class_of v (inode_of v image y))) 2 (v.ncg * v.ipg - 2) x
-      (sym (list_all-map (λ o. is_whole_class o.class) (owner_of v image) (range_with_len 2 (v.ncg * v.ipg - 2))) ∙ r.classes) low (omega arith)
+    (sym (list_all-map (λ o. is_whole_class o.class) (owner_of v image) (range_with_len 2 (v.ncg * v.ipg - 2))) ∙ r.classes) low (omega arith)
 
 whole_class : (v : Layout) (image : List ℕ) → BlocksRight v (owners_of v image) → (x : ℕ) → is_whole_class (class_at v image x) ≡ true
 whole_class v image r x = one (is_number v x) refl
@@ -120,7 +120,7 @@ unfolding whole_volume volume_with
 whole_unmarked v image r = record {
   marked = λ x. refl;
   known = λ x e. (let w : false ≡ true = sym (ap is_whole_class e) ∙ whole_class v image r x in cc);
-  whole = λ x e. (let w : false ≡ true = sym (ap is_whole_class e) ∙ whole_class v image r x in cc)
+  whole = λ x e. (let w : false ≡ true = sym (ap is_whole_class e) ∙ whole_class v image r x in cc);
 }
 
 -- where the blocks are right, the volume of the kept steps is that of all steps

@@ -1,20 +1,28 @@
 -- What the laws on blocks and groups say, for an image.
-use Rattle.std.specs.Prelude.{◌≡◌, ℕ, List, [], ◌++◌}
-use Rattle.std.proofs.Common.{◌↔◌}
+use Rattle.std.specs.Prelude.{◌≡◌, ◌↔◌, ℕ, ℤ, true, ◌||◌, List, [], ◌++◌}
 use Rattle.ffs_volume.specs.declared.Layout.{Layout}
-use Rattle.ffs_volume.specs.Owners.{owners_of}
-use Rattle.ffs_volume.specs.BlockCheck.{phase1_lines, phase1b_lines}
+use Rattle.ffs_volume.specs.Areas.{is_ok, is_reserved}
+use Rattle.ffs_volume.specs.Owners.{Owner, owners_of}
+use Rattle.ffs_volume.specs.Claims.{is_set, no_claims, after_owners}
+use Rattle.ffs_volume.specs.BlockCheck.{phase1_lines, phase1b_lines, owners_kept}
 use Rattle.ffs_volume.specs.BlocksRight.{BlocksRight}
 use Rattle.ffs_volume.specs.Groups.{GroupsRight}
-use Rattle.ffs_volume.specs.GroupCheck.{phase5_lines, is_free_of_kept, is_free_of_runs, classes_of}
-use Rattle.ffs_certificate.proofs.KeepingWhole.{KeepsByRule}
+use Rattle.ffs_volume.specs.GroupCheck.{phase5_lines, is_free_of_kept, is_free_of_runs}
+use Rattle.ffs_volume.specs.Keeping.{all_offers, is_taken, judged, kept_offers}
+use Rattle.ffs_volume.specs.Volumes.{class_at}
 
 -- no line of phases 1, 1b and 5 exactly where blocks and groups are right
 abbrev pub BlocksAndGroups : Type 0
-BlocksAndGroups = (v : Layout) (image super : List ℕ) →
-  ((phase1_lines v (owners_of v image) ++ phase1b_lines v (owners_of v image))
-    ++ phase5_lines v image super (is_free_of_kept v (owners_of v image)) (classes_of v image) ≡ [])
-  ↔ (BlocksRight v (owners_of v image) × GroupsRight v image super (is_free_of_runs v (owners_of v image)) (classes_of v image))
+BlocksAndGroups = (v : Layout) (image : List ℕ) (totals : List ℤ) →
+    ((phase1_lines v (owners_of v image) ++ phase1b_lines v (owners_of v image))
+    ++ phase5_lines v image totals (is_free_of_kept v (owners_of v image)) (class_at v image) ≡ [])
+    ↔ (BlocksRight v (owners_of v image) × GroupsRight v image totals (is_free_of_runs v (owners_of v image)) (class_at v image))
+
+-- the fold keeps what the rule keeps: the offers in order, and so the fragments
+pub record KeepsByRule (v : Layout) (os : List Owner) : Type 0 where
+  pub offers : owners_kept v (no_claims v) os ≡ kept_offers v [] (all_offers v os)
+  pub used : (f : ℕ) → is_ok v f ≡ true →
+      is_set (after_owners v (no_claims v) os).used f ≡ (is_reserved v f || is_taken (judged v [] (all_offers v os)) f)
 
 -- the fold's keeping is the rule's
 abbrev pub KeepingByRule : Type 0

@@ -1,5 +1,5 @@
 -- The certificate of the checks of directories.
-use Rattle.std.specs.Prelude.{◌≡◌, ◌↔◌, List, []}
+use Rattle.std.specs.Prelude.{◌≡◌, ◌↔◌, []}
 use Rattle.ffs_volume.specs.Roles.{Volume}
 use Rattle.ffs_volume.specs.PathnameCheck.{pathname_lines}
 use Rattle.ffs_volume.specs.Connectivity.{connectivity_lines}

@@ -1,5 +1,5 @@
 -- The certificate: what a report without a defect says of the volume.
-use Rattle.std.specs.Prelude.{◌≡◌, ◌↔◌, ℕ, false, true, List, Option, Result, Ok}
+use Rattle.std.specs.Prelude.{◌≡◌, ◌↔◌, ℕ, false, List, Option, Ok}
 use Rattle.ffs_volume.specs.declared.End.TheVariants.{Consistent}
 use Rattle.ffs_volume.specs.Superblock.{Superblock}
 use Rattle.ffs_volume.specs.Outcome.{outcome}

@@ -8,23 +8,19 @@ ghost use Rattle.ffs_certificate.specs.ReportRight.{ReportIsRight};
 /// A law of the definitions: a silent check of blocks and groups certifies them.
 pub fn blocks_and_groups_are_certified()
     ensures { BlocksAndGroups }
-{
-}
+{}
 
 /// A law of the definitions: the fold over steps keeps what the rule of keeping says.
 pub fn keeping_is_by_rule()
     ensures { KeepingByRule }
-{
-}
+{}
 
 /// With nothing marked, the three checks of directories tell nothing exactly where the directories are consistent.
 pub fn silent_is_right()
     ensures { SilentIsRight }
-{
-}
+{}
 
 /// The certificate: a report on an accepted superblock has no defect exactly where the image is consistent.
 pub fn report_is_right()
     ensures { ReportIsRight }
-{
-}
+{}
