@@ -3,6 +3,7 @@ pub mod Superblock
 pub mod Areas
 pub mod Outcome
 pub mod Geometry
+pub mod OutcomeLaws
 pub mod AreaLaws
 pub mod RunLaws
 pub mod Inodes

@@ -1,0 +1,19 @@
+use Rattle.std.proofs.Common.{sym, rules, arith, refl, ◌≡◌, true, false}
+use Rattle.ffs_volume.specs.Outcome.{is_group}
+use Rattle.ffs_volume.specs.Numbers.{all_below}
+use Rattle.ffs_layout.proofs.Below.{all_below-more, all_below-fails}
+use Rattle.ffs_layout.proofs.groups.groups_fit.Goals as goal
+
+pub loop-group-init : goal.loop-group-init
+unfolding all_below
+loop-group-init c = refl
+
+pub returns-then-not-group_fits : goal.returns-then-not-group_fits
+returns-then-not-group_fits c =
+    let fails : is_group c.args.v.now c.loop-group.group ≡ false = search rules in
+    sym (all_below-fails c.args.v.now.ncg c.loop-group.group (is_group c.args.v.now) (omega arith) fails)
+
+pub loop-group-preserved : goal.loop-group-preserved
+loop-group-preserved c =
+    let passes : is_group c.args.v.now c.loop-group.group ≡ true = search rules in
+    all_below-more c.loop-group.group (is_group c.args.v.now) c.loop-group.invariant passes

@@ -1,0 +1,35 @@
+-- What a superblock in memory stands for.
+use Rattle.std.specs.Prelude.{◌≡◌, ℕ, ◌+◌, ◌*◌, ◌<◌, ◌/◌, ◌⊎◌, List, Option, IsSomeAnd, Some, None, Result, Ok, Err}
+use Rattle.ffs_volume.specs.declared.SuperFault.{SuperFault}
+use Rattle.ffs_volume.specs.Outcome.{super_sector, super_bytes, copy_place, outcome}
+use Rattle.ffs_image.specs.Device.{Device, Faulted}
+use Rattle.ffs_layout.specs.Reads.{ReadFailed}
+use Rattle.ffs_layout.specs.declared.superblock.Super.{Super}
+use Rattle.ffs_volume.specs.Superblock.{Superblock, order_of, layout_of}
+
+abbrev pub seen : Super → Superblock
+seen s = record { layout = s.geometry.layout; optim = s.optim; minfree = s.minfree; cstotal = s.cstotal; mount = s.mount }
+
+-- The superblock that an answer stands for, or its fault.
+abbrev pub found_of : Result Super SuperFault → Result Superblock SuperFault
+found_of (Ok super) = Ok (seen super)
+found_of (Err fault) = Err fault
+
+-- The sector of the last copy, for these bytes of the superblock.
+abbrev pub IsCopySector : List ℕ → ℕ → Type 0
+IsCopySector bytes failed = IsSomeAnd (order_of bytes) (λ order. failed ≡ copy_place (layout_of order bytes) / 512)
+
+-- The sector that a failed read may have: the superblock's, and with no sector asked for the last copy's.
+abbrev pub IsSuperSector : List ℕ → Option ℕ → ℕ → Type 0
+IsSuperSector image sector failed =
+    (failed ≡ super_sector sector) ⊎ ((sector ≡ None) × IsCopySector (super_bytes image sector) failed)
+
+-- What may be found: the fault of a failed read, or, where the image tells its bytes, their outcome.
+abbrev pub Answers : Device → Device → Option ℕ → Result Superblock SuperFault → Type 0
+Answers old new sector found =
+    (ReadFailed found old new × ((b : List ℕ) → old.told ≡ Some b → IsSuperSector b sector new.failed))
+    ⊎ ((new ≡ old) × ((b : List ℕ) → old.told ≡ Some b → found ≡ outcome b sector))
+
+-- Why the superblock at a sector can't be read: a read failed there, or it lies past the end.
+abbrev pub IsUnread : Device → Device → Option ℕ → ℕ → Type 0
+IsUnread old new sector at = Faulted old new at ⊎ ((new ≡ old) × (at ≡ super_sector sector) × (old.size < at * 512 + 1376))

@@ -1,0 +1,150 @@
+//! An accepted layout, and where the parts of its volume lie.
+
+ghost use Rattle.std.specs.Prelude.{IsTrue, MatchResult, ◌≡◌, ◌<◌, ◌≤◌, ◌+◌, ◌-◌, ◌*◌, ◌^◌};
+ghost use Rattle.ffs_volume.specs.Outcome.{layout_fault};
+ghost use Rattle.ffs_volume.specs.Areas.{cgbase, cgdmin, cgsblock, cgstart, group_place, inode_place, is_in_range, is_kept, is_ok, is_reserved, summary_place};
+ghost use Rattle.ffs_volume.specs.Geometry.{IsGeometry};
+
+use crate::groups::start_of;
+use crate::shape::fault_of;
+use ffs_volume::{Layout, Order, SuperFault};
+
+/// A layout that is accepted: each value of this type meets the rules of a superblock (fs(5)).
+///
+/// Fragments are numbered from the start of the volume. A group is a cylinder group, numbered from 0.
+#[derive(Clone, Copy, Debug)]
+pub struct Geometry {
+    pub layout: Layout,
+    pub ghost sound: { IsGeometry layout },
+}
+
+impl Geometry {
+    /// The layout as a geometry, in an image of `image_size` bytes.
+    ///
+    /// Errors: the first rule that refuses it.
+    #[tactic(auto, using(ffs_volume::specs::Geometry::geometry_holds))]
+    pub fn new(layout: Layout, image_size: u64) -> Result<Geometry, SuperFault>
+        ensures fault { MatchResult result (λ _. layout_fault layout image_size ≡ None) (λ e. layout_fault layout image_size ≡ Some e) }
+        ensures layout { MatchResult result (λ g. g.layout ≡ layout) (λ _. Unit {0}) }
+        ensures in_image { MatchResult result (λ g. g.layout.size * g.layout.fsize ≤ image_size) (λ _. Unit {0}) }
+    {
+        match fault_of(&layout, image_size) {
+            Some(fault) => Err(fault),
+            None => Ok(Geometry { layout }),
+        }
+    }
+
+    /// The order of the bytes in the volume's numbers.
+    pub fn order(&self) -> Order
+        ensures { result ≡ self.now.layout.order }
+    {
+        self.layout.order
+    }
+
+    /// The first fragment of the group (fs(5), `cgbase`).
+    #[tactic(auto, unfolding(ffs_volume::specs::Areas::cgbase))]
+    pub fn cgbase(&self, group: u32) -> u32
+        requires { group < self.now.layout.ncg }
+        ensures value { result ≡ cgbase self.now.layout group }
+        ensures below { result < self.now.layout.size }
+    {
+        self.layout.fpg * group
+    }
+
+    /// The fragment from which the places of the group's parts are counted (fs(5), `cgstart`).
+    pub fn cgstart(&self, group: u32) -> u32
+        requires { group < self.now.layout.ncg }
+        ensures { result ≡ cgstart self.now.layout group }
+    {
+        start_of(&self.layout, group)
+    }
+
+    /// The first fragment of the group's copy of the superblock (fs(5), `cgsblock`).
+    pub fn cgsblock(&self, group: u32) -> u32
+        requires { group < self.now.layout.ncg }
+        ensures { result ≡ cgsblock self.now.layout group }
+    {
+        self.cgstart(group) + self.layout.sblkno
+    }
+
+    /// The first fragment of the group's data (fs(5), `cgdmin`).
+    pub fn cgdmin(&self, group: u32) -> u32
+        requires { group < self.now.layout.ncg }
+        ensures value { result ≡ cgdmin self.now.layout group }
+        ensures below { result ≤ self.now.layout.size }
+    {
+        self.cgstart(group) + self.layout.dblkno
+    }
+
+    /// Where the group block of the group begins, in bytes (fs(5), `cgtod`).
+    pub fn group_place(&self, group: u32) -> u64
+        requires { group < self.now.layout.ncg }
+        ensures { result ≡ group_place self.now.layout group }
+    {
+        u64::from(self.cgstart(group) + self.layout.cblkno) * u64::from(self.layout.fsize)
+    }
+
+    /// Where the group's record of 16 bytes in the summary area begins, in bytes (fs(5), `fs_cs`).
+    pub fn summary_place(&self, group: u32) -> u64
+        requires { group < self.now.layout.ncg }
+        ensures { result ≡ summary_place self.now.layout group }
+    {
+        u64::from(self.layout.csaddr) * u64::from(self.layout.fsize) + 16 * u64::from(group)
+    }
+
+    /// Where the inode's 128 bytes begin, in bytes (fs(5), `ino_to_fsba`).
+    #[tactic(auto, using(ffs_volume::specs::AreaLaws::inode_group))]
+    pub fn inode_place(&self, inode: u32) -> u64
+        requires { inode < self.now.layout.ncg * self.now.layout.ipg }
+        ensures { result ≡ inode_place self.now.layout inode }
+    {
+        let group = self.cgstart(inode / self.layout.ipg);
+        u64::from(group + self.layout.iblkno) * u64::from(self.layout.fsize)
+            + 128 * u64::from(inode % self.layout.ipg)
+    }
+
+    // Whether the fragment lies in the part that its group keeps for itself.
+    #[tactic(auto, using(ffs_volume::specs::AreaLaws::is_kept_group, ffs_volume::specs::AreaLaws::group_below))]
+    fn is_kept(&self, fragment: u32) -> bool
+        requires { fragment < self.now.layout.size }
+        ensures { result ≡ is_kept self.now.layout fragment }
+    {
+        let group = fragment / self.layout.fpg;
+        self.cgsblock(group) <= fragment && fragment < self.cgdmin(group)
+    }
+
+    /// Whether the fragment can belong to a file: it is in the volume, and no group keeps it for itself.
+    #[tactic(auto, unfolding(ffs_volume::specs::Areas::is_ok))]
+    pub fn ok(&self, fragment: u64) -> bool
+        ensures { result ≡ is_ok self.now.layout fragment }
+    {
+        fragment < u64::from(self.layout.size) && !self.is_kept(fragment as u32)
+    }
+
+    /// Whether all fragments of the run can belong to a file, and are of one group.
+    #[tactic(auto, using(ffs_volume::specs::RunLaws::in_range_is, ffs_volume::specs::AreaLaws::group_below), unfolding(ffs_volume::specs::Areas::cgbase))]
+    pub fn in_range(&self, start: u32, len: u32) -> bool
+        requires { 0 < len }
+        ensures { result ≡ is_in_range self.now.layout start len }
+    {
+        let end = u64::from(start) + u64::from(len);
+        if end > u64::from(self.layout.size) {
+            return false;
+        }
+        let group = start / self.layout.fpg;
+        let limit = u64::from(self.cgbase(group)) + u64::from(self.layout.fpg);
+        end <= limit && (end <= u64::from(self.cgsblock(group)) || self.cgdmin(group) <= start)
+    }
+
+    /// Whether the fragment is in use before any file is: boot area, summary area, or kept by a group.
+    #[tactic(auto, using(ffs_volume::specs::AreaLaws::kept_below), unfolding(ffs_volume::specs::Areas::is_reserved))]
+    pub fn reserved(&self, fragment: u64) -> bool
+        ensures { result ≡ is_reserved self.now.layout fragment }
+    {
+        let summary = u64::from(self.layout.csaddr);
+        let fragments = self.layout.cssize.div_ceil(self.layout.fsize);
+        fragment < u64::from(self.cgdmin(0))
+            || (summary <= fragment && fragment < summary + u64::from(fragments))
+            || (fragment < u64::from(self.layout.size) && self.is_kept(fragment as u32))
+    }
+}

@@ -1,0 +1,143 @@
+//! The rules that a layout has to meet.
+
+ghost use Rattle.std.specs.Prelude.{IsTrue, ◌≡◌, ◌<◌, ◌≤◌, ◌-◌, ◌*◌, ◌^◌};
+ghost use Rattle.ffs_volume.specs.Outcome.{are_cylinders, are_numbers, are_parts, are_sizes, is_block_size, is_fragment_count, is_fragment_size, is_shaped, is_summary, layout_fault};
+
+use crate::groups::groups_fit;
+use ffs_volume::{Layout, SuperFault};
+
+#[tactic(auto, unfolding(ffs_volume::specs::Outcome::is_block_size))]
+fn can_be_block_size(n: u32) -> bool
+    ensures value { result ≡ is_block_size n }
+    ensures above { IsTrue result → 4096 ≤ n }
+{
+    matches!(n, 4096 | 8192 | 16384 | 32768 | 65536)
+}
+
+#[tactic(auto, unfolding(ffs_volume::specs::Outcome::is_fragment_size))]
+fn can_be_fragment_size(n: u32) -> bool
+    ensures value { result ≡ is_fragment_size n }
+    ensures above { IsTrue result → 512 ≤ n }
+{
+    matches!(n, 512 | 1024 | 2048 | 4096 | 8192 | 16384 | 32768 | 65536)
+}
+
+#[tactic(auto, unfolding(ffs_volume::specs::Outcome::is_fragment_count))]
+fn can_be_fragment_count(n: u32) -> bool
+    ensures value { result ≡ is_fragment_count n }
+    ensures above { IsTrue result → 1 ≤ n }
+{
+    matches!(n, 1 | 2 | 4 | 8)
+}
+
+#[tactic(auto, unfolding(ffs_volume::specs::Outcome::are_sizes))]
+fn has_sizes(v: &Layout) -> bool
+    ensures value { result ≡ are_sizes v.now }
+    ensures above { IsTrue result → 512 ≤ v.now.fsize }
+{
+    can_be_block_size(v.bsize)
+        && can_be_fragment_size(v.fsize)
+        && can_be_fragment_count(v.frag)
+        && u64::from(v.bsize) == u64::from(v.frag) * u64::from(v.fsize)
+        && v.nindir == v.bsize / 4
+        && v.inopb == v.bsize / 128
+        && v.ipg > 0
+        && v.ipg % v.inopb == 0
+        && v.fpg > 0
+        && v.fpg % v.frag == 0
+}
+
+#[tactic(auto, unfolding(ffs_volume::specs::Outcome::are_numbers))]
+fn has_numbers(v: &Layout) -> bool
+    requires { 0 < v.now.ncg }
+    ensures value { result ≡ are_numbers v.now }
+    ensures below { IsTrue result → (v.now.ncg - 1) * v.now.fpg < 2 ^ 31 }
+{
+    let ncg = u64::from(v.ncg);
+    let fpg = u64::from(v.fpg);
+    let size = u64::from(v.size);
+    v.dsize >= 1
+        && v.maxsymlinklen <= 60
+        && v.postblformat == 1
+        && v.sbsize >= 1376
+        && (ncg - 1) * fpg < size
+        && size <= ncg * fpg
+        && size < 1 << 31
+        && ncg * u64::from(v.ipg) < 1 << 31
+}
+
+#[tactic(auto, unfolding(ffs_volume::specs::Outcome::are_parts))]
+fn has_parts(v: &Layout) -> bool
+    requires { 0 < v.now.fsize }
+    ensures { result ≡ are_parts v.now }
+{
+    let fsize = u64::from(v.fsize);
+    let sblkno = u64::from(v.sblkno);
+    let cblkno = u64::from(v.cblkno);
+    let iblkno = u64::from(v.iblkno);
+    sblkno > 0
+        && sblkno + u64::from(v.sbsize).div_ceil(fsize) <= cblkno
+        && cblkno + u64::from(v.cgsize).div_ceil(fsize) <= iblkno
+        && iblkno + u64::from(v.ipg) * 128 / fsize <= u64::from(v.dblkno)
+        && v.cgsize >= 168
+        && v.cgsize <= v.bsize
+}
+
+#[tactic(auto, using(crate::proofs::Starts::data_start), unfolding(ffs_volume::specs::Outcome::is_summary, ffs_volume::specs::Areas::cgbase))]
+fn has_summary(v: &Layout) -> bool
+    requires { 0 < v.now.fsize }
+    ensures { result ≡ is_summary v.now }
+{
+    let end = u64::from(v.csaddr) + u64::from(v.cssize).div_ceil(u64::from(v.fsize));
+    v.csaddr == v.dblkno
+        && 16 * u64::from(v.ncg) <= u64::from(v.cssize)
+        && end <= u64::from(v.fpg.min(v.size))
+}
+
+#[tactic(auto, unfolding(ffs_volume::specs::Outcome::is_shaped))]
+fn has_shape(v: &Layout) -> bool
+    requires { 0 < v.now.ncg }
+    ensures { result ≡ is_shaped v.now }
+{
+    has_sizes(v) && has_numbers(v) && has_parts(v) && groups_fit(v) && has_summary(v)
+}
+
+/// The first fault that the layout shows, in an image of this size in bytes.
+#[tactic(auto, unfolding(ffs_volume::specs::Outcome::layout_fault))]
+pub fn fault_of(v: &Layout, image_size: u64) -> Option<SuperFault>
+    ensures { result ≡ layout_fault v.now image_size }
+{
+    if v.inodefmt != 2 {
+        return Some(SuperFault::InodeFormat);
+    }
+    if v.ncg < 1 {
+        return Some(SuperFault::Ncg);
+    }
+    if v.cpg < 1 {
+        return Some(SuperFault::Cpg);
+    }
+    if !has_cylinders(v) {
+        return Some(SuperFault::Ncyl);
+    }
+    if v.sbsize > 8192 {
+        return Some(SuperFault::TooLarge);
+    }
+    if !has_shape(v) {
+        return Some(SuperFault::Shape);
+    }
+    if u64::from(v.size) * u64::from(v.fsize) > image_size {
+        return Some(SuperFault::Short);
+    }
+    None
+}
+
+#[tactic(auto, unfolding(ffs_volume::specs::Outcome::are_cylinders))]
+fn has_cylinders(v: &Layout) -> bool
+    requires { 0 < v.now.ncg }
+    ensures { result ≡ are_cylinders v.now }
+{
+    let ncg = u64::from(v.ncg);
+    let cpg = u64::from(v.cpg);
+    let ncyl = u64::from(v.ncyl);
+    ncyl <= ncg * cpg && (ncg - 1) * cpg < ncyl
+}

@@ -1,0 +1,180 @@
+//! The superblock of an image.
+
+ghost use Rattle.ffs_layout.specs.Reads.{ReadFailed};
+ghost use Rattle.std.specs.Prelude.{true, false, IsErrAnd, OnOk, OnErr, IfErr, ℕ, ◌^◌, IsTrue, nat_le, ◌==◌, ◌≡◌, ◌+◌, ◌*◌, ◌/◌, ◌<◌, ◌≤◌, ◌⊎◌, length, List, IfOk, Option, Some, None, MatchResult};
+ghost use Rattle.ffs_volume.specs.Outcome.{agree, copy_agrees, copy_place, outcome, super_sector};
+ghost use Rattle.ffs_volume.specs.Numbers.{piece, u32_at};
+ghost use Rattle.std.specs.List.{list_all};
+ghost use Rattle.ffs_volume.specs.Superblock.{layout_of, order_of, superblock_of};
+ghost use Rattle.ffs_layout.specs.Super.{Answers, IsUnread, found_of, seen};
+
+use crate::geometry::Geometry;
+use crate::layout::decode;
+use crate::numbers::{i32_at, u32_at};
+use ffs_image::Image;
+use ffs_volume::{LAYOUT_PLACES, Order, SuperFault};
+
+const MAGIC: u32 = 72020;
+
+// The order in which the magic number reads right.
+#[tactic(auto, unfolding(ffs_volume::specs::Superblock::order_of))]
+fn order_of_magic(bytes: &[u8; 1376]) -> Option<Order>
+    ensures { result ≡ order_of bytes.now }
+{
+    if u32_at(Order::Little, 1372, bytes) == MAGIC {
+        Some(Order::Little)
+    } else if u32_at(Order::Big, 1372, bytes) == MAGIC {
+        Some(Order::Big)
+    } else {
+        None
+    }
+}
+
+// Whether the two agree in the numbers at these places.
+fn agree_at(order: Order, places: &[u16], bytes: &[u8; 1376], copy: &[u8; 1376]) -> bool
+    requires { IsTrue (list_all (λ place. nat_le (place + 4) 1376) places.now) }
+    ensures { result ≡ list_all (λ place. u32_at order place bytes.now == u32_at order place copy.now) places.now }
+{
+    for place in places {
+        let place = usize::from(*place);
+        if u32_at(order, place, bytes) != u32_at(order, place, copy) {
+            return false;
+        }
+    }
+    true
+}
+
+// Whether the copy agrees in each number of the layout.
+#[tactic(auto, unfolding(ffs_volume::specs::Outcome::agree))]
+fn layouts_agree(order: Order, bytes: &[u8; 1376], copy: &[u8; 1376]) -> bool
+    ensures { result ≡ agree order bytes.now copy.now }
+{
+    agree_at(order, &LAYOUT_PLACES, bytes, copy)
+}
+
+// Reads a superblock.
+fn read_copy<I: Image>(image: &mut I, at: u64, out: &mut [u8; 1376]) -> Result<(), SuperFault>
+    requires { at < 2 ^ 63 }
+    ensures length { length out.new ≡ 1376 }
+    ensures ok { OnOk result (I.device image.new ≡ I.device image.old) }
+    ensures inside { OnOk result (at + 1376 ≤ (I.device image.old).size) }
+    ensures told { OnOk result ((b : List ℕ) → (I.device image.old).told ≡ Some b → out.new ≡ piece at 1376 b) }
+    ensures fault { IfErr result (λ fault. fault ≡ SuperFault.CannotRead (at / 512)) }
+    ensures failed { OnErr result (ReadFailed result (I.device image.old) (I.device image.new)
+        ⊎ ((I.device image.new ≡ I.device image.old) × ((I.device image.old).size < at + 1376))) }
+{
+    if image.size() < at + 1376 {
+        return Err(SuperFault::CannotRead { sector: at / 512 });
+    }
+    match image.read_at(at, out) {
+        Ok(()) => Ok(()),
+        Err(fault) => Err(SuperFault::CannotRead {
+            sector: fault.sector,
+        }),
+    }
+}
+
+/// A superblock that is accepted.
+#[derive(Clone, Copy)]
+pub struct Super {
+    pub geometry: Geometry,
+    pub optim: i32,
+    pub minfree: i32,
+    pub cstotal: [i32; 4],
+    pub mount: [u8; 512],
+}
+
+// The superblock in the bytes, whose layout is accepted.
+#[tactic(auto, unfolding(ffs_volume::specs::Superblock::superblock_of))]
+fn make_super(order: Order, bytes: &[u8; 1376], geometry: Geometry) -> Super
+    requires { geometry.layout ≡ layout_of order bytes.now }
+    ensures seen { seen result ≡ superblock_of order bytes.now }
+    ensures geometry { result.geometry.layout ≡ geometry.layout }
+{
+    let mut mount = [0; 512];
+    mount.copy_from_slice(&bytes[212..724]);
+    Super {
+        geometry,
+        optim: i32_at(order, 128, bytes),
+        minfree: i32_at(order, 60, bytes),
+        cstotal: [
+            i32_at(order, 192, bytes),
+            i32_at(order, 196, bytes),
+            i32_at(order, 200, bytes),
+            i32_at(order, 204, bytes),
+        ],
+        mount,
+    }
+}
+
+// Compares the last copy, where no sector was asked for.
+#[tactic(auto, using(ffs_volume::specs::AreaLaws::copy_inside), unfolding(ffs_volume::specs::Outcome::copy_agrees))]
+fn check_copy<I: Image>(
+    image: &mut I,
+    sector: Option<u32>,
+    order: Order,
+    bytes: &[u8; 1376],
+    geometry: &Geometry,
+) -> Result<(), SuperFault>
+    requires layout { geometry.now.layout ≡ layout_of order bytes.now }
+    requires in_image { geometry.now.layout.size * geometry.now.layout.fsize ≤ (I.device image.old).size }
+    ensures ok { OnOk result (I.device image.new ≡ I.device image.old) }
+    ensures sector { IfErr result (λ fault. (sector ≡ None) × ((at : ℕ) → fault ≡ SuperFault.CannotRead at → at ≡ copy_place geometry.now.layout / 512)) }
+    ensures agrees { OnOk result ((b : List ℕ) → (I.device image.old).told ≡ Some b → copy_agrees b sector order bytes.now ≡ true) }
+    ensures failed { OnErr result (ReadFailed result (I.device image.old) (I.device image.new)
+        ⊎ ((I.device image.new ≡ I.device image.old)
+        × IsErrAnd result (λ fault. fault ≡ SuperFault.Disagree)
+        × ((b : List ℕ) → (I.device image.old).told ≡ Some b → copy_agrees b sector order bytes.now ≡ false))) }
+{
+    if sector.is_some() {
+        return Ok(());
+    }
+    let group = geometry.layout.ncg - 1;
+    let at = u64::from(geometry.cgsblock(group)) * u64::from(geometry.layout.fsize);
+    let mut copy = [0; 1376];
+    read_copy(image, at, &mut copy)?;
+    if layouts_agree(order, bytes, &copy) {
+        Ok(())
+    } else {
+        Err(SuperFault::Disagree)
+    }
+}
+
+fn first_sector(sector: Option<u32>) -> u64
+    ensures value { result ≡ super_sector sector }
+    ensures small { result < 2 ^ 32 }
+{
+    match sector {
+        Some(sector) => u64::from(sector),
+        None => 16,
+    }
+}
+
+/// The superblock at a sector, or the primary one.
+pub fn read_super<I: Image>(image: &mut I, sector: Option<u32>) -> Result<Super, SuperFault>
+    // An accepted volume lies within the image.
+    ensures in_image { IfOk result (λ s. s.geometry.layout.size * s.geometry.layout.fsize ≤ (I.device image.old).size) }
+
+    // What can't be read is a failed read, or lies past the image's end.
+    ensures unread { IfErr result (λ fault. (at : ℕ) → fault ≡ SuperFault.CannotRead at → IsUnread (I.device image.old) (I.device image.new) sector at) }
+
+    // A failed read is answered, by its sector. With none, the answer is the outcome, where the bytes are told.
+    ensures answer { Answers (I.device image.old) (I.device image.new) sector (found_of result) }
+{
+    let start = first_sector(sector);
+    let mut bytes = [0; 1376];
+    if let Err(fault) = read_copy(image, start * 512, &mut bytes) {
+        return Err(fault);
+    }
+    let Some(order) = order_of_magic(&bytes) else {
+        return Err(SuperFault::Magic);
+    };
+    let geometry = match Geometry::new(decode(order, &bytes), image.size()) {
+        Ok(geometry) => geometry,
+        Err(fault) => return Err(fault),
+    };
+    if let Err(fault) = check_copy(image, sector, order, &bytes, &geometry) {
+        return Err(fault);
+    }
+    Ok(make_super(order, &bytes, geometry))
+}
