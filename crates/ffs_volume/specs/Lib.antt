@@ -33,6 +33,7 @@ pub mod Connectivity
 pub mod ReferenceCheck
 pub mod DirectoriesRight
 pub mod Volumes
+pub mod Replay
 pub mod Opening
 pub mod Report
 pub mod Consistent
