@@ -1,4 +1,4 @@
-use Rattle.std.specs.Prelude.{◌≡◌, ℕ, zero, suc, ◌+◌, ◌/◌, ◌%◌, ◌<◌, Bool, true, false, List, map, nat_eq, slice_index, slice_set}
+use Rattle.std.specs.Prelude.{◌≡◌, ℕ, zero, suc, ◌+◌, ◌/◌, ◌%◌, ◌<◌, Bool, true, false, not, ◌&&◌, List, map, nat_eq, nat_lt, slice_index, slice_set}
 use Rattle.std.specs.List.{range_with_len, slice_index_or}
 use Rattle.std.specs.Int.{bit_at}
 use Rattle.ffs_maps.specs.declared.FragmentMap.{FragmentMap}
@@ -23,3 +23,7 @@ set_run bits start (suc len) = set_run (slice_set bits start true) (start + 1) l
 -- so many bits from a place on are clear
 abbrev pub AreClear : List Bool → ℕ → ℕ → Type 0
 AreClear bits start len = (k : ℕ) → k < len → slice_index_or bits (start + k) false ≡ false
+
+-- a fragment is of the map, and its bit is clear
+abbrev pub is_clear : List Bool → ℕ → ℕ → Bool
+is_clear bits size f = nat_lt f size && not (slice_index_or bits f false)

@@ -1,9 +1,9 @@
 //! A bit for each fragment of a volume, in words of 64.
 #![tactic(auto)]
 
-ghost use Rattle.std.specs.Prelude.{◌≡◌, ◌+◌, ◌*◌, ◌<◌, ◌≤◌, vec_len, length, IfOk, IsTrue, true, false, slice_set, replicate};
+ghost use Rattle.std.specs.Prelude.{ℕ, nat_eq, ◌≡◌, ◌+◌, ◌*◌, ◌<◌, ◌≤◌, vec_len, length, IfOk, IsTrue, true, false, slice_set, replicate};
 ghost use Rattle.std.specs.List.{slice_index_or};
-ghost use Rattle.std.specs.Int.{div_ceil};
+ghost use Rattle.std.specs.Int.{div_ceil, bit_at};
 
 use std::alloc::{AllocError, Global};
 
@@ -17,7 +17,7 @@ pub struct FragmentMap {
 }
 
 impl FragmentMap {
-    ghost use Rattle.ffs_maps.specs.Bits.{bits_of, set_run, AreClear};
+    ghost use Rattle.ffs_maps.specs.Bits.{bits_of, set_run, is_clear, AreClear};
 
     /// A map with no bit set.
     pub fn new(alloc: Global, size: u32) -> Result<FragmentMap, AllocError>
@@ -43,6 +43,36 @@ impl FragmentMap {
         let words = self.words.as_slice();
         let word = words[fragment as usize / 64];
         word >> (fragment % 64) & 1 == 1
+    }
+
+    /// Which of the 64 fragments from one on are of the map and have a clear bit, the first one lowest.
+    pub fn clear_bits(&self, start: u32) -> u64
+        ensures { (k : ℕ) → k < 64 → nat_eq (bit_at result k) 1 ≡ is_clear (bits_of self.now) self.now.size (start + k) }
+    {
+        let index = start as usize / 64;
+        let low = start % 64;
+        let first = self.clear_word(index) >> low;
+        if low == 0 {
+            return first;
+        }
+        first | self.clear_word(index + 1) << (64 - low)
+    }
+
+    /// Which fragments of a word are of the map and have a clear bit.
+    fn clear_word(&self, index: usize) -> u64
+        ensures { (k : ℕ) → k < 64 → nat_eq (bit_at result k) 1 ≡ is_clear (bits_of self.now) self.now.size (64 * index + k) }
+    {
+        let words = self.words.as_slice();
+        if index >= words.len() {
+            return 0;
+        }
+        let word = words[index];
+        let clear = !word;
+        let left = self.size as usize - 64 * index;
+        if left >= 64 {
+            return clear;
+        }
+        clear & ((1 << left) - 1)
     }
 
     /// Sets the bit of a fragment.
