@@ -25,3 +25,5 @@ pub mod Forward
 pub mod DirsCertificate
 pub mod Dirs
 pub mod Backward
+pub mod RunLengths
+pub mod Weights

@@ -31,7 +31,7 @@ use Rattle.ffs_certificate.specs.DirsCertificate.{IsSilent, AreDirectoriesRight}
 use Rattle.ffs_volume.specs.Volumes.{class_at, volume_of, whole_volume}
 use Rattle.ffs_volume.specs.Consistent.{AreSettingsRight, AreRunsRight, IsConsistent}
 use Rattle.ffs_volume.specs.Report.{rescan_lines, later_lines, text_lines, report_lines, end_by, end_of}
-use Rattle.ffs_certificate.specs.ReportRight.{IsCertified, ReportIsRight}
+use Rattle.ffs_certificate.specs.ReportRight.{IsCertified, ReportIsRight, StopIsTold}
 use Rattle.ffs_certificate.proofs.Silence.{nil-left}
 use Rattle.ffs_certificate.proofs.DirsCertificate.{silent_right}
 use Rattle.ffs_certificate.proofs.VolumeLaws.{whole_is_volume, whole_unmarked, same_whole}
@@ -215,9 +215,13 @@ unfolding end_of
 consistent_end image super e = end_quiet (goes_on (volume_of super.layout image)) (has_defect (report_lines image super)) e
 
 -- a run that stops behind the root has told a defect
-pub stop_told : (image : List ℕ) (super : Superblock) → goes_on (volume_of super.layout image) ≡ false → has_defect (report_lines image super) ≡ true
-stop_told image super h =
-    true_from_ne_false _ (λ q. (let w : true ≡ false = sym (goes_on_quiet image super q) ∙ h in cc))
+pub stop_told : StopIsTold
+unfolding end_of
+stop_told image super h = record {
+  told = true_from_ne_false _
+      (λ q. (let w : true ≡ false = sym (root_there (volume_of super.layout image) (text_say image super q).pathnames) ∙ h in cc));
+  end_is = ap (λ on. end_by on (has_defect (report_lines image super))) h;
+}
 
 pub report_right : (image : List ℕ) (super : Superblock) → IsGeometry super.layout → IsCertified image super
 report_right image super g = record {

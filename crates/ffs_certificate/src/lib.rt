@@ -1,9 +1,10 @@
 //! Laws of the definitions of `ffs_volume`: status 0 is a certificate.
 #![tactic(auto)]
 
+ghost use Rattle.ffs_certificate.specs.Bounded.{ClaimsAreBounded};
 ghost use Rattle.ffs_certificate.specs.Certificate.{BlocksAndGroups, KeepingByRule};
 ghost use Rattle.ffs_certificate.specs.DirsCertificate.{SilentIsRight};
-ghost use Rattle.ffs_certificate.specs.ReportRight.{ReportIsRight};
+ghost use Rattle.ffs_certificate.specs.ReportRight.{ReportIsRight, StopIsTold};
 
 /// A law of the definitions: a silent check of blocks and groups certifies them.
 pub fn blocks_and_groups_are_certified()
@@ -23,4 +24,15 @@ pub fn silent_is_right()
 /// The certificate: a report on an accepted superblock has no defect exactly where the image is consistent.
 pub fn report_is_right()
     ensures { ReportIsRight }
+{}
+
+/// However the addresses of a volume point to one another, the block check sees no more Runs than one for each
+/// fragment and 22 for each inode.
+pub fn claims_are_bounded()
+    ensures { ClaimsAreBounded }
+{}
+
+/// Where inode 2 is no directory the run stops behind the pathname check, and a defect was told by then.
+pub fn stop_is_told()
+    ensures { StopIsTold }
 {}
