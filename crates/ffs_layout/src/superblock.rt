@@ -74,14 +74,44 @@ fn read_copy<I: Image>(image: &mut I, at: u64, out: &mut [u8; 1376]) -> Result<(
     }
 }
 
-/// A superblock that is accepted.
-#[derive(Clone, Copy)]
+/// A superblock that is accepted (fs(5), `struct fs`).
+#[derive(Clone, Copy, Debug)]
 pub struct Super {
     pub geometry: Geometry,
+    /// What a write is to save: 0 time, 1 space.
     pub optim: i32,
+    /// How many per cent of the volume are to stay free.
     pub minfree: i32,
+    /// Directories, free blocks, free inodes and free fragments of the volume.
     pub cstotal: [i32; 4],
+    /// Where the volume was mounted last, up to the first NUL.
     pub mount: [u8; 512],
+}
+
+impl Super {
+    ghost use Rattle.std.specs.Prelude.{◌&&◌, not};
+    ghost use Rattle.ffs_volume.specs.Opening.{is_minfree, is_optimization};
+
+    /// Whether `optim` is 0 (time) or 1 (space).
+    pub fn has_optimization(&self) -> bool
+        ensures { result ≡ is_optimization (seen self.now) }
+    {
+        0 <= self.optim && self.optim <= 1
+    }
+
+    /// Whether `minfree` is a percentage from 0 to 99.
+    pub fn has_minfree(&self) -> bool
+        ensures { result ≡ is_minfree (seen self.now) }
+    {
+        0 <= self.minfree && self.minfree <= 99
+    }
+
+    /// Whether a setting is not one that it may be, which the opening tells as a defect.
+    pub fn opening_defects(&self) -> bool
+        ensures { result ≡ not (is_optimization (seen self.now) && is_minfree (seen self.now)) }
+    {
+        !(self.has_optimization() && self.has_minfree())
+    }
 }
 
 // The superblock in the bytes, whose layout is accepted.

@@ -1,0 +1,91 @@
+//! One entry of a directory.
+
+ghost use Rattle.std.specs.Prelude.{◌≡◌, ◌+◌, ◌≤◌, length, option_map, slice_index, IfSome, Some};
+ghost use Rattle.ffs_volume.specs.Numbers.{piece};
+ghost use Rattle.ffs_volume.specs.Directory.{entry_at as entry_in, is_held as held, is_length as fits, is_name as named};
+ghost use Rattle.ffs_layout.specs.Entry.{seen_entry};
+
+use crate::numbers::{u16_at, u32_at};
+use ffs_volume::Order;
+
+/// An entry of a directory (dir(5), `struct direct`). Its name lies in the chunk; an entry with the number 0 has none.
+#[derive(Clone, Copy, Debug)]
+pub struct Entry<'a> {
+    /// The inode that it names, or 0.
+    pub number: u32,
+    /// The length of its record, in bytes.
+    pub length: u16,
+    /// The type of the inode, as the upper four bits of a mode.
+    pub kind: u8,
+    pub name: &'a [u8],
+}
+
+// Whether a record of this length may stand at the place.
+fn is_length(place: usize, len: u16) -> bool
+    requires { place ≤ 512 }
+    ensures { result ≡ fits place len }
+{
+    len % 4 == 0 && 8 <= len && place + usize::from(len) <= 512
+}
+
+// Whether the record at the place has a name.
+fn is_name(chunk: &[u8; 512], place: usize) -> bool
+    requires { place + (8 + slice_index chunk.now (place + 7)) + 1 ≤ 512 }
+    ensures { result ≡ named chunk.now place }
+{
+    let len = usize::from(chunk[place + 7]);
+    let name = &chunk[place + 8..][..len];
+    len != 0 && !(name.contains(&0) || name.contains(&b'/')) && chunk[place + 8 + len] == 0
+}
+
+// Whether the record at the place holds its name, and has a type.
+fn is_held(chunk: &[u8; 512], place: usize, len: u16) -> bool
+    requires room { place + len ≤ 512 }
+    requires header { 8 ≤ len }
+    ensures { result ≡ held chunk.now place len }
+{
+    8 + (usize::from(chunk[place + 7]) + 4) / 4 * 4 <= usize::from(len)
+        && chunk[place + 6] <= 15
+        && is_name(chunk, place)
+}
+
+/// The well formed entry at a place of a chunk, and None where none stands there (dir(5)).
+///
+/// At byte 0 of its record stands the number (u32), at 4 the record's length (u16), at 6 the type (u8), at 7 the name's
+/// length (u8), from 8 on the name and a NUL. The name of an entry with the number 0 is empty.
+#[tactic(auto, unfolding(ffs_volume::specs::Directory::entry_at, ffs_volume::specs::Directory::is_well_formed, ffs_volume::specs::Directory::entry_there))]
+pub fn entry_at(order: Order, chunk: &[u8; 512], place: usize) -> Option<Entry<'_>>
+    requires { place ≤ 512 }
+    ensures value { option_map seen_entry result ≡ entry_in order chunk.now place }
+    ensures some { IfSome result (λ e. entry_in order chunk.now place ≡ Some (seen_entry e)) }
+    ensures room { IfSome result (λ e. (8 ≤ e.length) × (place + e.length ≤ 512)) }
+    ensures name { IfSome result (λ e. (e.name.now ≡ piece (place + 8) (length e.name.now) chunk.now) × (place + 8 + length e.name.now ≤ 512)) }
+{
+    if place > 504 {
+        return None;
+    }
+    let length = u16_at(order, place + 4, chunk);
+    if !is_length(place, length) {
+        return None;
+    }
+    let number = u32_at(order, place, chunk);
+    let kind = chunk[place + 6];
+    if number == 0 {
+        return Some(Entry {
+            number,
+            length,
+            kind,
+            name: &[],
+        });
+    }
+    if !is_held(chunk, place, length) {
+        return None;
+    }
+    let name = &chunk[place + 8..][..usize::from(chunk[place + 7])];
+    Some(Entry {
+        number,
+        length,
+        kind,
+        name,
+    })
+}

@@ -1,0 +1,54 @@
+//! The numbers of an inode.
+
+ghost use Rattle.std.specs.Prelude.{◌≡◌, ◌≤◌, ◌+◌, ◌*◌, length, map};
+ghost use Rattle.std.specs.List.{range_with_len};
+ghost use Rattle.ffs_volume.specs.Inodes.{decoded};
+ghost use Rattle.ffs_volume.specs.Numbers.{u32_at as u32_in};
+
+use crate::numbers::{i16_at, i32_at, u16_at, u32_at, u64_at};
+use ffs_volume::{Inode, Order};
+
+/// The inode in the first 128 bytes (fs(5), `struct dinode`).
+///
+/// At byte 0 stands the mode (u16), at 2 the link count (i16), at 8 the size in bytes (u64), at 24 the time of
+/// modification in seconds (i32), from 40 on twelve direct and three indirect addresses (u32 each), at 104
+/// the blocks in sectors of 512 bytes (u32), at 112 the owner (u32).
+#[tactic(auto, unfolding(ffs_volume::specs::Inodes::decoded))]
+pub fn decode_inode(order: Order, bytes: &[u8]) -> Inode
+    requires { 128 ≤ length bytes.now }
+    ensures { result ≡ decoded order bytes.now }
+{
+    Inode {
+        mode: u16_at(order, 0, bytes),
+        nlink: i16_at(order, 2, bytes),
+        size: u64_at(order, 8, bytes),
+        mtime: i32_at(order, 24, bytes),
+        addresses: addresses_of(order, bytes),
+        blocks: u32_at(order, 104, bytes),
+        uid: u32_at(order, 112, bytes),
+    }
+}
+
+// The fifteen addresses, in their order.
+fn addresses_of(order: Order, bytes: &[u8]) -> [u32; 15]
+    requires { 128 ≤ length bytes.now }
+    ensures { result ≡ map (λ j. u32_in order (40 + 4 * j) bytes.now) (range_with_len 0 15) }
+{
+    [
+        u32_at(order, 40, bytes),
+        u32_at(order, 44, bytes),
+        u32_at(order, 48, bytes),
+        u32_at(order, 52, bytes),
+        u32_at(order, 56, bytes),
+        u32_at(order, 60, bytes),
+        u32_at(order, 64, bytes),
+        u32_at(order, 68, bytes),
+        u32_at(order, 72, bytes),
+        u32_at(order, 76, bytes),
+        u32_at(order, 80, bytes),
+        u32_at(order, 84, bytes),
+        u32_at(order, 88, bytes),
+        u32_at(order, 92, bytes),
+        u32_at(order, 96, bytes),
+    ]
+}
