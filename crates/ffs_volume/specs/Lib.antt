@@ -28,6 +28,7 @@ pub mod Parents
 pub mod Paths
 pub mod Shown
 pub mod Messages
+pub mod Texts
 pub mod PathnameCheck
 pub mod Connectivity
 pub mod ReferenceCheck

@@ -1,0 +1,70 @@
+-- How a report goes on. (For the layers above.)
+use Rattle.std.proofs.Common.{◌≡◌, ◌⊎◌, inl, inr, refl, ◌∙◌, ◌+◌, ◌<◌, ℕ, suc, sym, ap, subst, List, [], ◌∷◌, ◌++◌, length, take, drop, get_or, map, append_assoc, Bool, true, false, ◌||◌, Result, Ok, Err}
+use Rattle.std.proofs.Math.Seq.{drop-cons}
+use Rattle.std.proofs.lemmas.List.{take-append-drop, map-append, map_more}
+use Rattle.std.proofs.lemmas.List.Concat.{flat_map-append}
+use Rattle.std.specs.List.{flat_map, list_any}
+use Rattle.ffs_report.specs.Sink.{Sink, Took, Rose}
+use Rattle.ffs_volume.specs.Messages.{Message, is_defect, has_defect}
+use Rattle.ffs_volume.specs.Texts.{text_of, texts_of}
+use Rattle.ffs_report.specs.Progress.{Progress, Said, Stopped, Says}
+use Rattle.ffs_report.proofs.Sinks.{Appends-nil, Appends-then, took_nil, took_then}
+
+or_false : (a : Bool) → (a || false) ≡ a
+or_false true = refl
+or_false false = refl
+
+or_assoc : (a b c : Bool) → ((a || b) || c) ≡ (a || (b || c))
+or_assoc true b c = refl
+or_assoc false b c = refl
+
+pub has_defect-append : (xs ys : List Message) → has_defect (xs ++ ys) ≡ (has_defect xs || has_defect ys)
+has_defect-append [] ys = refl
+has_defect-append (x ∷ xs) ys = ap (λ b. is_defect x || b) (has_defect-append xs ys) ∙ sym (or_assoc (is_defect x) (has_defect xs) (has_defect ys))
+
+pub said_none : (a : Progress) → Said a a []
+said_none a = record { took = took_nil a.sink; failed = refl; defect = sym (or_false a.defect) }
+
+pub said_then : (a b c : Progress) (xs ys : List Message) → Said a b xs → Said b c ys → Said a c (xs ++ ys)
+said_then a b c xs ys p q = record {
+  took = rw (flat_map-append text_of xs ys) (took_then a.sink b.sink c.sink (texts_of xs) (texts_of ys) p.took q.took);
+  failed = q.failed ∙ p.failed;
+  defect = q.defect ∙ ap (λ d. d || has_defect ys) p.defect ∙ or_assoc a.defect (has_defect xs) (has_defect ys)
+      ∙ ap (λ d. a.defect || d) (sym (has_defect-append xs ys));
+}
+
+pub stopped_after : (a b c : Progress) (xs ys : List Message) → Said a b xs → Stopped b c ys → Stopped a c (xs ++ ys)
+stopped_after a b c xs ys p q = record {
+  front = texts_of xs ++ q.front;
+  rest = q.rest;
+  whole = flat_map-append text_of xs ys ∙ ap (λ z. texts_of xs ++ z) q.whole ∙ sym (append_assoc (texts_of xs) q.front q.rest);
+  taken = Appends-then a.sink.taken b.sink.taken c.sink.taken (texts_of xs) q.front p.took.taken q.taken;
+  failed = q.failed;
+  cause = elim q.cause [ inl f ↦ inl (sym p.failed ∙ f) | inr r ↦ inr (rw p.took.failures at r) ];
+}
+
+pub stopped_more : (a b : Progress) (xs ys : List Message) → Stopped a b xs → Stopped a b (xs ++ ys)
+stopped_more a b xs ys p = record {
+  front = p.front;
+  rest = p.rest ++ texts_of ys;
+  whole = flat_map-append text_of xs ys ∙ ap (λ z. z ++ texts_of ys) p.whole ∙ append_assoc p.front p.rest (texts_of ys);
+  taken = p.taken;
+  failed = p.failed;
+  cause = p.cause;
+}
+
+-- messages that were said, and then the outcome of more
+pub says_then : {T E : Type 0} (a b c : Progress) (xs ys : List Message) (r : Result T E) → Said a b xs → Says b c ys r → Says a c (xs ++ ys) r
+says_then a b c xs ys (Ok x) p q = said_then a b c xs ys p q
+says_then a b c xs ys (Err e) p q = stopped_after a b c xs ys p q
+
+-- a loop that says a message for each item: one more
+pub said_item : {X : Type 0} (f : X → Message) (a b c : Progress) (xs : List X) (i : ℕ) (d : X) → i < length xs → Said a b (map f (take i xs)) → Said b c (f (get_or xs i d) ∷ []) → Said a c (map f (take (i + 1) xs))
+said_item f a b c xs i d h p q = rw (map_more f xs i d h) (said_then a b c (map f (take i xs)) (f (get_or xs i d) ∷ []) p q)
+
+-- it stopped at one
+pub stopped_item : {X : Type 0} (f : X → Message) (a b c : Progress) (xs : List X) (i : ℕ) (d : X) → i < length xs → Said a b (map f (take i xs)) → Stopped b c (f (get_or xs i d) ∷ []) → Stopped a c (map f xs)
+stopped_item f a b c xs i d h p q =
+    subst (Stopped a c) (sym (ap (map f) (sym (take-append-drop i xs) ∙ ap (λ ys. take i xs ++ ys) (drop-cons xs i d h)) ∙ map-append f (take i xs) (get_or xs i d ∷ drop (suc i) xs)))
+    (stopped_after a b c (map f (take i xs)) (f (get_or xs i d) ∷ map f (drop (suc i) xs)) p
+    (stopped_more b c (f (get_or xs i d) ∷ []) (map f (drop (suc i) xs)) q))

@@ -1,0 +1,41 @@
+-- How far a report has come.
+use Rattle.std.specs.Prelude.{◌≡◌, ◌⊎◌, ℕ, List, ◌++◌, Bool, true, ◌||◌, Result, MatchResult, Option}
+use Rattle.std.specs.Borrow.{GName}
+use Rattle.std.specs.Io.KnownBytes.{Appends}
+use Rattle.ffs_report.specs.Sink.{Sink, Took, Rose}
+use Rattle.ffs_volume.specs.Messages.{Message, has_defect}
+use Rattle.ffs_volume.specs.Texts.{texts_of}
+use Rattle.ffs_report.specs.declared.report.Report.{Report}
+
+-- its output, whether a line has failed, and whether a defect was said
+pub record Progress : Type 0 where
+  pub sink : Sink
+  pub failed : Bool
+  pub defect : Bool
+
+-- how far a report over an output has come
+abbrev pub progress : {W : Type 0} → (W → Sink) → Report W → Progress
+progress sink report = record { sink = sink report.out.now; failed = report.failed; defect = report.defect }
+
+-- the reference to its output, and the one that the output holds
+abbrev pub kept : {W : Type 0} → (W → Option GName) → Report W → GName × Option GName
+kept lent report = (report.out.ghost_name, lent report.out.now)
+
+-- these messages were said, and nothing failed
+pub record Said (old new : Progress) (messages : List Message) : Type 0 where
+  pub took : Took old.sink new.sink (texts_of messages)
+  pub failed : new.failed ≡ old.failed
+  pub defect : new.defect ≡ (old.defect || has_defect messages)
+
+-- a front of these messages' bytes went out, and then the output failed, or it had failed before
+pub record Stopped (old new : Progress) (messages : List Message) : Type 0 where
+  pub front : List ℕ
+  pub rest : List ℕ
+  pub whole : texts_of messages ≡ front ++ rest
+  pub taken : Appends old.sink.taken new.sink.taken front
+  pub failed : new.failed ≡ true
+  pub cause : (old.failed ≡ true) ⊎ Rose old.sink.failures new.sink.failures
+
+-- the outcome of saying these messages
+abbrev pub Says : {T E : Type 0} → Progress → Progress → List Message → Result T E → Type 0
+Says old new messages result = MatchResult result (λ _. Said old new messages) (λ _. Stopped old new messages)

@@ -1,0 +1,448 @@
+// Prints what is wrong with directories, their entries and the references to inodes.
+ghost use Rattle.std.specs.Prelude.{◌≡◌};
+ghost use Rattle.ffs_report.specs.Sink.{Prints};
+ghost use Rattle.ffs_report.specs.Piece.{pieces_text};
+ghost use Rattle.ffs_report.specs.Lines.{directory_message, entry_message, reference_message};
+ghost use Rattle.ffs_volume.specs.Texts.{path_label, file_label, attr_text, inode_text, kind_text, path_text, name_in_the_way, length_text, empty_text, entry_text, extraneous_text, links_text, name_text};
+
+use crate::line::{DirectoryLine, EntryLine, ReferenceLine};
+use crate::output::{OutFault, Output};
+use crate::piece::Piece;
+use crate::print::{print, print_pieces};
+use ffs_volume::{Attr, Label};
+
+fn file_label(label: Label) -> &'static [u8]
+    ensures { result.now ≡ file_label label }
+{
+    match label {
+        Label::Dir => b"DIR ",
+        Label::File | Label::Name => b"FILE ",
+    }
+}
+
+fn path_label(label: Label) -> &'static [u8]
+    ensures { result.now ≡ path_label label }
+{
+    match label {
+        Label::Dir => b"\nDIR=",
+        Label::File => b"\nFILE=",
+        Label::Name => b"\nNAME=",
+    }
+}
+
+fn print_attr<W: Output>(out: &mut W, attr: &Attr) -> Result<(), OutFault>
+    ensures lent { W.lent out.new ≡ W.lent out.old }
+    ensures printed { Prints (W.sink out.old) (W.sink out.new) (attr_text attr.now) result }
+{
+    print_pieces(
+        out,
+        &[
+            Piece::Text(b"I="),
+            Piece::Number(attr.number as u64),
+            Piece::Text(b" OWNER="),
+            Piece::Number(attr.uid as u64),
+            Piece::Text(b" MODE="),
+            Piece::Octal(attr.mode),
+            Piece::Text(b"\nSIZE="),
+            Piece::Number(attr.size),
+            Piece::Text(b" MTIME="),
+            Piece::Signed(attr.mtime as i64),
+        ],
+    )
+}
+
+/// What a line says before an inode's attributes, these, and what it says after them.
+fn print_inode<W: Output>(
+    out: &mut W,
+    head: &[u8],
+    attr: &Attr,
+    tail: &[Piece<'_>],
+) -> Result<(), OutFault>
+    ensures lent { W.lent out.new ≡ W.lent out.old }
+    ensures printed { Prints (W.sink out.old) (W.sink out.new) (inode_text head.now attr.now (pieces_text tail.now)) result }
+{
+    print(out, head)?;
+    print_attr(out, attr)?;
+    print_pieces(out, tail)
+}
+
+/// The same, of an inode that is called a directory or a file.
+fn print_kind<W: Output>(
+    out: &mut W,
+    head: &[u8],
+    label: Label,
+    attr: &Attr,
+    tail: &[Piece<'_>],
+) -> Result<(), OutFault>
+    ensures lent { W.lent out.new ≡ W.lent out.old }
+    ensures printed { Prints (W.sink out.old) (W.sink out.new) (kind_text head.now label attr.now (pieces_text tail.now)) result }
+{
+    print(out, head)?;
+    print_inode(out, file_label(label), attr, tail)
+}
+
+/// An inode with its attributes and its path.
+fn print_path<'x, W: Output>(
+    out: &mut W,
+    head: &'x [u8],
+    attr: &Attr,
+    label: Label,
+    path: &'x [u8],
+    tail: &'x [u8],
+) -> Result<(), OutFault>
+    ensures lent { W.lent out.new ≡ W.lent out.old }
+    ensures printed { Prints (W.sink out.old) (W.sink out.new) (path_text head.now attr.now label path.now tail.now) result }
+{
+    print_inode(
+        out,
+        head,
+        attr,
+        &[
+            Piece::Text(path_label(label)),
+            Piece::Shown(path),
+            Piece::Text(tail),
+        ],
+    )
+}
+
+/// A directory, and the entry that stands in the way of `.` or `..`.
+fn print_in_the_way<'x, W: Output>(
+    out: &mut W,
+    head: &'x [u8],
+    attr: &Attr,
+    path: &'x [u8],
+    why: &'x [u8],
+    name: &'x [u8],
+) -> Result<(), OutFault>
+    ensures lent { W.lent out.new ≡ W.lent out.old }
+    ensures printed { Prints (W.sink out.old) (W.sink out.new) (name_in_the_way head.now attr.now path.now why.now name.now) result }
+{
+    print_inode(
+        out,
+        head,
+        attr,
+        &[
+            Piece::Text(b"\nDIR="),
+            Piece::Shown(path),
+            Piece::Text(why),
+            Piece::Shown(name),
+            Piece::Text(b"\n"),
+        ],
+    )
+}
+
+fn print_length<W: Output>(out: &mut W, path: &[u8], size: u64) -> Result<(), OutFault>
+    ensures lent { W.lent out.new ≡ W.lent out.old }
+    ensures printed { Prints (W.sink out.old) (W.sink out.new) (length_text path.now size) result }
+{
+    print_pieces(
+        out,
+        &[
+            Piece::Text(b"DIRECTORY "),
+            Piece::Shown(path),
+            Piece::Text(b": LENGTH "),
+            Piece::Number(size),
+            Piece::Text(b" NOT MULTIPLE OF 512\nADJUST? no\n\n"),
+        ],
+    )
+}
+
+fn print_empty<W: Output>(out: &mut W, path: &[u8]) -> Result<(), OutFault>
+    ensures lent { W.lent out.new ≡ W.lent out.old }
+    ensures printed { Prints (W.sink out.old) (W.sink out.new) (empty_text path.now) result }
+{
+    print_pieces(
+        out,
+        &[
+            Piece::Text(b"DIRECTORY "),
+            Piece::Shown(path),
+            Piece::Text(b": CONTAINS EMPTY BLOCKS\nADJUST LENGTH? no\n\n"),
+        ],
+    )
+}
+
+fn print_numbered<'x, W: Output>(
+    out: &mut W,
+    head: &'x [u8],
+    number: u32,
+    path: &'x [u8],
+    tail: &'x [u8],
+) -> Result<(), OutFault>
+    ensures lent { W.lent out.new ≡ W.lent out.old }
+    ensures printed { Prints (W.sink out.old) (W.sink out.new) (entry_text head.now number path.now tail.now) result }
+{
+    print_pieces(
+        out,
+        &[
+            Piece::Text(head),
+            Piece::Number(number as u64),
+            Piece::Text(b"\nNAME="),
+            Piece::Shown(path),
+            Piece::Text(tail),
+        ],
+    )
+}
+
+fn print_extraneous<'x, W: Output>(
+    out: &mut W,
+    path: &'x [u8],
+    dir: &'x [u8],
+) -> Result<(), OutFault>
+    ensures lent { W.lent out.new ≡ W.lent out.old }
+    ensures printed { Prints (W.sink out.old) (W.sink out.new) (extraneous_text path.now dir.now) result }
+{
+    print_pieces(
+        out,
+        &[
+            Piece::Shown(path),
+            Piece::Text(b" IS AN EXTRANEOUS HARD LINK TO DIRECTORY "),
+            Piece::Shown(dir),
+            Piece::Text(b"\nREMOVE? no\n\n"),
+        ],
+    )
+}
+
+fn print_links<W: Output>(
+    out: &mut W,
+    label: Label,
+    attr: &Attr,
+    count: i16,
+    right: u64,
+) -> Result<(), OutFault>
+    ensures lent { W.lent out.new ≡ W.lent out.old }
+    ensures printed { Prints (W.sink out.old) (W.sink out.new) (links_text label attr.now count right) result }
+{
+    print_kind(
+        out,
+        b"LINK COUNT ",
+        label,
+        attr,
+        &[
+            Piece::Text(b"\nCOUNT="),
+            Piece::Signed(count as i64),
+            Piece::Text(b" SHOULD BE "),
+            Piece::Number(right),
+            Piece::Text(b"\nADJUST? no\n\n"),
+        ],
+    )
+}
+
+/// What is wrong with a directory.
+pub fn print_directory<W: Output>(out: &mut W, line: &DirectoryLine<'_>) -> Result<(), OutFault>
+    ensures lent { W.lent out.new ≡ W.lent out.old }
+    ensures printed { Prints (W.sink out.old) (W.sink out.new) (name_text (directory_message line.now)) result }
+{
+    match *line {
+        DirectoryLine::RootNone => print(out, b"ROOT INODE UNALLOCATED\nALLOCATE? no\n\n"),
+        DirectoryLine::RootNotDir => print(
+            out,
+            b"ROOT INODE NOT DIRECTORY\nREALLOCATE? no\n\nFIX? no\n\n",
+        ),
+        DirectoryLine::RootSuspect => print(
+            out,
+            b"DUPS/BAD IN ROOT INODE\nREALLOCATE? no\n\nCONTINUE? yes\n\n",
+        ),
+        DirectoryLine::DirLength { path, size } => print_length(out, path, size),
+        DirectoryLine::DirEmpty { path } => print_empty(out, path),
+        DirectoryLine::DirShort { attr, path } => print_path(
+            out,
+            b"DIRECTORY TOO SHORT ",
+            &attr,
+            Label::Dir,
+            path,
+            b"\nFIX? no\n\n",
+        ),
+        DirectoryLine::DirCorrupt { attr, path } => print_path(
+            out,
+            b"DIRECTORY CORRUPTED ",
+            &attr,
+            Label::Dir,
+            path,
+            b"\nSALVAGE? no\n\n",
+        ),
+        DirectoryLine::MissingDot { attr, path } => print_path(
+            out,
+            b"MISSING '.' ",
+            &attr,
+            Label::Dir,
+            path,
+            b"\nFIX? no\n\n",
+        ),
+        DirectoryLine::MissingDotFirst { attr, path, name } => print_in_the_way(
+            out,
+            b"MISSING '.' ",
+            &attr,
+            path,
+            b"\nCANNOT FIX, FIRST ENTRY IN DIRECTORY CONTAINS ",
+            name,
+        ),
+        DirectoryLine::NumberDot { attr, path } => print_path(
+            out,
+            b"BAD INODE NUMBER FOR '.' ",
+            &attr,
+            Label::Dir,
+            path,
+            b"\nFIX? no\n\n",
+        ),
+        DirectoryLine::KindDot { attr, path } => print_path(
+            out,
+            b"BAD TYPE VALUE FOR '.' ",
+            &attr,
+            Label::Dir,
+            path,
+            b"\nFIX? no\n\n",
+        ),
+        DirectoryLine::MissingDotdot { attr, path } => print_path(
+            out,
+            b"MISSING '..' ",
+            &attr,
+            Label::Dir,
+            path,
+            b"\nFIX? no\n\n",
+        ),
+        DirectoryLine::MissingDotdotSecond { attr, path, name } => print_in_the_way(
+            out,
+            b"MISSING '..' ",
+            &attr,
+            path,
+            b"\nCANNOT FIX, SECOND ENTRY IN DIRECTORY CONTAINS ",
+            name,
+        ),
+        DirectoryLine::NumberDotdot { attr, path } => print_path(
+            out,
+            b"BAD INODE NUMBER FOR '..' ",
+            &attr,
+            Label::Dir,
+            path,
+            b"\nFIX? no\n\n",
+        ),
+        DirectoryLine::KindDotdot { attr, path } => print_path(
+            out,
+            b"BAD TYPE VALUE FOR '..' ",
+            &attr,
+            Label::Dir,
+            path,
+            b"\nFIX? no\n\n",
+        ),
+        DirectoryLine::ExtraDot { attr, path } => print_path(
+            out,
+            b"EXTRA '.' ENTRY ",
+            &attr,
+            Label::Dir,
+            path,
+            b"\nFIX? no\n\n",
+        ),
+        DirectoryLine::ExtraDotdot { attr, path } => print_path(
+            out,
+            b"EXTRA '..' ENTRY ",
+            &attr,
+            Label::Dir,
+            path,
+            b"\nFIX? no\n\n",
+        ),
+    }
+}
+
+/// What is wrong with an entry of a directory.
+pub fn print_entry<W: Output>(out: &mut W, line: &EntryLine<'_>) -> Result<(), OutFault>
+    ensures lent { W.lent out.new ≡ W.lent out.old }
+    ensures printed { Prints (W.sink out.old) (W.sink out.new) (name_text (entry_message line.now)) result }
+{
+    match *line {
+        EntryLine::OutOfRange { number, path } => print_numbered(
+            out,
+            b"I OUT OF RANGE I=",
+            number,
+            path,
+            b"\nREMOVE? no\n\n",
+        ),
+        EntryLine::Whiteout { number, path } => print_numbered(
+            out,
+            b"BAD WHITEOUT ENTRY I=",
+            number,
+            path,
+            b"\nFIX? no\n\n",
+        ),
+        EntryLine::Unallocated { attr, path } => print_path(
+            out,
+            b"UNALLOCATED ",
+            &attr,
+            Label::Name,
+            path,
+            b"\nREMOVE? no\n\n",
+        ),
+        EntryLine::DupBad { label, attr, path } => print_path(
+            out,
+            b"DUP/BAD ",
+            &attr,
+            label,
+            path,
+            b"\nREMOVE? no\n\n",
+        ),
+        EntryLine::ZeroDir { attr, path } => print_path(
+            out,
+            b"ZERO LENGTH DIRECTORY ",
+            &attr,
+            Label::Dir,
+            path,
+            b"\nREMOVE? no\n\n",
+        ),
+        EntryLine::Extraneous { path, dir } => print_extraneous(out, path, dir),
+        EntryLine::KindEntry { label, attr, path } => print_path(
+            out,
+            b"BAD TYPE VALUE ",
+            &attr,
+            label,
+            path,
+            b"\nFIX? no\n\n",
+        ),
+    }
+}
+
+/// What is wrong with an inode by the entries that name it.
+pub fn print_reference<W: Output>(out: &mut W, line: &ReferenceLine) -> Result<(), OutFault>
+    ensures lent { W.lent out.new ≡ W.lent out.old }
+    ensures printed { Prints (W.sink out.old) (W.sink out.new) (name_text (reference_message line.now)) result }
+{
+    match *line {
+        ReferenceLine::UnrefDir { attr } => print_inode(
+            out,
+            b"UNREF DIR ",
+            &attr,
+            &[Piece::Text(b"\nRECONNECT? no\n\n")],
+        ),
+        ReferenceLine::DeadMarked { label, attr } => print_kind(
+            out,
+            b"BAD/DUP ",
+            label,
+            &attr,
+            &[Piece::Text(b"\nCLEAR? no\n\n")],
+        ),
+        ReferenceLine::DeadZero { attr } => print_inode(
+            out,
+            b"ZERO LENGTH DIR ",
+            &attr,
+            &[Piece::Text(b"\nCLEAR? no\n\n")],
+        ),
+        ReferenceLine::Unref { label, attr } => print_kind(
+            out,
+            b"UNREF ",
+            label,
+            &attr,
+            &[Piece::Text(b"\nRECONNECT? no\n\nCLEAR? no\n\n")],
+        ),
+        ReferenceLine::UnrefZero { label, attr } => print_kind(
+            out,
+            b"UNREF ",
+            label,
+            &attr,
+            &[Piece::Text(b"\nCLEAR? no\n\n")],
+        ),
+        ReferenceLine::LinkCount {
+            label,
+            attr,
+            count,
+            right,
+        } => print_links(out, label, &attr, count, right),
+    }
+}

@@ -1,0 +1,20 @@
+// The pieces that a line is made of.
+
+/// A piece of a line.
+#[derive(Clone, Copy)]
+pub enum Piece<'a> {
+    /// Bytes as they are.
+    Text(&'a [u8]),
+    /// Bytes with a question mark for each control byte.
+    Shown(&'a [u8]),
+    Number(u64),
+    Signed(i64),
+    Small(i32),
+    /// A number, and what stands after it.
+    Count(u64, &'a [u8]),
+    /// A signed number, and what stands after it.
+    Total(i64, &'a [u8]),
+    /// The minus of a number below zero.
+    Sign(i64),
+    Octal(u16),
+}

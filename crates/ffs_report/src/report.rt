@@ -1,0 +1,76 @@
+// A report over an output.
+ghost use Rattle.std.specs.Prelude.{◌≡◌, [], ◌∷◌, true, false, IsErr, OnErr};
+ghost use Rattle.std.specs.Bool.{OnTrue};
+ghost use Rattle.ffs_volume.specs.Messages.{is_defect};
+ghost use Rattle.ffs_report.specs.Lines.{message_of};
+ghost use Rattle.ffs_report.specs.Progress.{progress, kept, Says};
+
+use crate::line::Line;
+use crate::output::{OutFault, Output};
+use crate::say::print_line;
+
+#[derive(Drop)]
+pub struct Report<'a, W> {
+    out: &'a mut W,
+    failed: bool,
+    defect: bool,
+}
+
+fn is_defect(line: &Line<'_>) -> bool
+    ensures { result ≡ is_defect (message_of line.now) }
+{
+    match line {
+        Line::Optimization | Line::Minfree { .. } => true,
+        Line::Block(_) | Line::Directory(_) | Line::Entry(_) | Line::Reference(_) => true,
+        Line::Location { .. }
+        | Line::Opening { .. }
+        | Line::BadSuper(_)
+        | Line::CannotRead { .. }
+        | Line::CannotAlloc
+        | Line::Mounted { .. }
+        | Line::Heading(_)
+        | Line::Summary { .. } => false,
+    }
+}
+
+impl<'a, W: Output> Report<'a, W> {
+    pub fn new(out: &'a mut W) -> Report<'a, W>
+        ensures same { kept W.lent result ≡ (out.entry.ghost_name, W.lent out.old) }
+        ensures start { progress W.sink result ≡ record { sink = W.sink out.old; failed = false; defect = false } }
+    {
+        Report {
+            out,
+            failed: false,
+            defect: false,
+        }
+    }
+
+    /// Whether a defect was said.
+    pub fn any_defect(&self) -> bool
+        ensures { result ≡ (progress W.sink self.now).defect }
+    {
+        self.defect
+    }
+
+    /// Says a line. After an `Err` each later call answers `Err` and writes nothing.
+    pub fn say(&mut self, line: &Line<'_>) -> Result<(), OutFault>
+        ensures same { kept W.lent self.new ≡ kept W.lent self.old }
+        ensures said { Says (progress W.sink self.old) (progress W.sink self.new) (message_of line.now ∷ []) result }
+        ensures defect { OnErr result ((progress W.sink self.new).defect ≡ (progress W.sink self.old).defect) }
+        ensures over { OnTrue (progress W.sink self.old).failed (IsErr result × (progress W.sink self.new ≡ progress W.sink self.old)) }
+    {
+        if self.failed {
+            return Err(OutFault);
+        }
+        match print_line(self.out, line) {
+            Ok(()) => {
+                self.defect = self.defect || is_defect(line);
+                Ok(())
+            }
+            Err(fault) => {
+                self.failed = true;
+                Err(fault)
+            }
+        }
+    }
+}

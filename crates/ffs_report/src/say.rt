@@ -1,0 +1,267 @@
+// Prints a line.
+ghost use Rattle.std.specs.Prelude.{◌≡◌};
+ghost use Rattle.ffs_report.specs.Sink.{Prints};
+ghost use Rattle.ffs_report.specs.Lines.{message_of, heading_message};
+ghost use Rattle.ffs_volume.specs.Texts.{text_of, number_text, fault_text, opening_text, mounted_text, minfree_text, claim_text, block_count_text, block_text, summary_text};
+
+use crate::line::{Heading, Line};
+use crate::names::{print_directory, print_entry, print_reference};
+use crate::output::{OutFault, Output};
+use crate::piece::Piece;
+use crate::print::{print, print_pieces};
+use ffs_volume::{BlockMessage, SuperFault};
+
+/// Prints a line and its questions.
+pub fn print_line<W: Output>(out: &mut W, line: &Line<'_>) -> Result<(), OutFault>
+    ensures lent { W.lent out.new ≡ W.lent out.old }
+    ensures printed { Prints (W.sink out.old) (W.sink out.new) (text_of (message_of line.now)) result }
+{
+    match *line {
+        Line::Location { sector } => {
+            print_number(
+                out,
+                b"Alternate super block location: ",
+                sector as u64,
+                b"\n",
+            )
+        }
+        Line::Opening { name } => print_opening(out, name.as_bytes()),
+        Line::BadSuper(fault) => print_fault(out, fault),
+        Line::CannotRead { sector } => print_number(out, b"CAN NOT READ: BLK ", sector, b"\n"),
+        Line::CannotAlloc => print(out, b"cannot alloc maps\n"),
+        Line::Optimization => print(
+            out,
+            b"UNDEFINED OPTIMIZATION IN SUPERBLOCK\nSET TO DEFAULT? no\n\n",
+        ),
+        Line::Minfree { value } => print_minfree(out, value),
+        Line::Mounted { mount } => print_mounted(out, mount),
+        Line::Heading(heading) => print_heading(out, heading),
+        Line::Block(message) => print_block(out, message),
+        Line::Directory(line) => print_directory(out, &line),
+        Line::Entry(line) => print_entry(out, &line),
+        Line::Reference(line) => print_reference(out, &line),
+        Line::Summary {
+            files,
+            used,
+            free,
+            frags,
+            blocks,
+            tenths,
+        } => print_summary(out, files, used, free, frags, blocks, tenths),
+    }
+}
+
+/// A number between two texts.
+fn print_number<'x, W: Output>(
+    out: &mut W,
+    head: &'x [u8],
+    number: u64,
+    tail: &'x [u8],
+) -> Result<(), OutFault>
+    ensures lent { W.lent out.new ≡ W.lent out.old }
+    ensures printed { Prints (W.sink out.old) (W.sink out.new) (number_text head.now number tail.now) result }
+{
+    print_pieces(
+        out,
+        &[Piece::Text(head), Piece::Number(number), Piece::Text(tail)],
+    )
+}
+
+fn print_opening<W: Output>(out: &mut W, name: &[u8]) -> Result<(), OutFault>
+    ensures lent { W.lent out.new ≡ W.lent out.old }
+    ensures printed { Prints (W.sink out.old) (W.sink out.new) (opening_text name.now) result }
+{
+    print_pieces(
+        out,
+        &[
+            Piece::Text(b"** "),
+            Piece::Text(name),
+            Piece::Text(b" (NO WRITE)\n"),
+        ],
+    )
+}
+
+fn print_mounted<W: Output>(out: &mut W, mount: &[u8]) -> Result<(), OutFault>
+    ensures lent { W.lent out.new ≡ W.lent out.old }
+    ensures printed { Prints (W.sink out.old) (W.sink out.new) (mounted_text mount.now) result }
+{
+    print_pieces(
+        out,
+        &[
+            Piece::Text(b"** Last Mounted on "),
+            Piece::Shown(mount),
+            Piece::Text(b"\n"),
+        ],
+    )
+}
+
+fn print_minfree<W: Output>(out: &mut W, value: i32) -> Result<(), OutFault>
+    ensures lent { W.lent out.new ≡ W.lent out.old }
+    ensures printed { Prints (W.sink out.old) (W.sink out.new) (minfree_text value) result }
+{
+    print_pieces(
+        out,
+        &[
+            Piece::Text(b"IMPOSSIBLE MINFREE="),
+            Piece::Small(value),
+            Piece::Text(b" IN SUPERBLOCK\nSET TO DEFAULT? no\n\n"),
+        ],
+    )
+}
+
+fn print_fault<W: Output>(out: &mut W, fault: SuperFault) -> Result<(), OutFault>
+    ensures lent { W.lent out.new ≡ W.lent out.old }
+    ensures printed { Prints (W.sink out.old) (W.sink out.new) (fault_text fault) result }
+{
+    match fault {
+        SuperFault::CannotRead { sector } => {
+            print_number(out, b"CAN NOT READ: BLK ", sector, b"\n")
+        }
+        SuperFault::Magic => print(out, b"BAD SUPER BLOCK: MAGIC NUMBER WRONG\n"),
+        SuperFault::InodeFormat => print(out, b"BAD SUPER BLOCK: INODE FORMAT NOT SUPPORTED\n"),
+        SuperFault::Ncg => print(out, b"BAD SUPER BLOCK: NCG OUT OF RANGE\n"),
+        SuperFault::Cpg => print(out, b"BAD SUPER BLOCK: CPG OUT OF RANGE\n"),
+        SuperFault::Ncyl => print(out, b"BAD SUPER BLOCK: NCYL DOES NOT JIVE WITH NCG*CPG\n"),
+        SuperFault::TooLarge => print(out, b"BAD SUPER BLOCK: SIZE PREPOSTEROUSLY LARGE\n"),
+        SuperFault::Shape => print(out, b"BAD SUPER BLOCK: GEOMETRY OUT OF RANGE\n"),
+        SuperFault::Short => print(out, b"BAD SUPER BLOCK: SIZE LARGER THAN IMAGE\n"),
+        SuperFault::Disagree => print(
+            out,
+            b"BAD SUPER BLOCK: VALUES DISAGREE WITH LAST ALTERNATE\n",
+        ),
+    }
+}
+
+fn print_heading<W: Output>(out: &mut W, heading: Heading) -> Result<(), OutFault>
+    ensures lent { W.lent out.new ≡ W.lent out.old }
+    ensures printed { Prints (W.sink out.old) (W.sink out.new) (text_of (heading_message heading)) result }
+{
+    match heading {
+        Heading::Phase1 => print(out, b"** Phase 1 - Check Blocks and Sizes\n"),
+        Heading::Phase1b => print(out, b"** Phase 1b - Rescan For More DUPS\n"),
+        Heading::Phase2 => print(out, b"** Phase 2 - Check Pathnames\n"),
+        Heading::Phase3 => print(out, b"** Phase 3 - Check Connectivity\n"),
+        Heading::Phase4 => print(out, b"** Phase 4 - Check Reference Counts\n"),
+        Heading::Phase5 => print(out, b"** Phase 5 - Check Cyl groups\n"),
+    }
+}
+
+fn print_claim<W: Output>(
+    out: &mut W,
+    fragment: u32,
+    what: &[u8],
+    inode: u32,
+) -> Result<(), OutFault>
+    ensures lent { W.lent out.new ≡ W.lent out.old }
+    ensures printed { Prints (W.sink out.old) (W.sink out.new) (claim_text fragment what.now inode) result }
+{
+    print_pieces(
+        out,
+        &[
+            Piece::Number(fragment as u64),
+            Piece::Text(what),
+            Piece::Number(inode as u64),
+            Piece::Text(b"\n"),
+        ],
+    )
+}
+
+fn print_count<W: Output>(out: &mut W, inode: u32, found: u32, right: u64) -> Result<(), OutFault>
+    ensures lent { W.lent out.new ≡ W.lent out.old }
+    ensures printed { Prints (W.sink out.old) (W.sink out.new) (block_count_text inode found right) result }
+{
+    print_pieces(
+        out,
+        &[
+            Piece::Text(b"INCORRECT BLOCK COUNT I="),
+            Piece::Number(inode as u64),
+            Piece::Text(b" ("),
+            Piece::Number(found as u64),
+            Piece::Text(b" should be "),
+            Piece::Number(right),
+            Piece::Text(b")\nCORRECT? no\n\n"),
+        ],
+    )
+}
+
+fn print_block<W: Output>(out: &mut W, message: BlockMessage) -> Result<(), OutFault>
+    ensures lent { W.lent out.new ≡ W.lent out.old }
+    ensures printed { Prints (W.sink out.old) (W.sink out.new) (block_text message) result }
+{
+    match message {
+        BlockMessage::PartAlloc { inode } => print_number(
+            out,
+            b"PARTIALLY ALLOCATED INODE I=",
+            inode as u64,
+            b"\nCLEAR? no\n\n",
+        ),
+        BlockMessage::UnknownType { inode } => print_number(
+            out,
+            b"UNKNOWN FILE TYPE I=",
+            inode as u64,
+            b"\nCLEAR? no\n\n",
+        ),
+        BlockMessage::Bad { fragment, inode } => print_claim(out, fragment, b" BAD I=", inode),
+        BlockMessage::Dup { fragment, inode } => print_claim(out, fragment, b" DUP I=", inode),
+        BlockMessage::ManyBad { inode } => print_number(
+            out,
+            b"EXCESSIVE BAD BLKS I=",
+            inode as u64,
+            b"\nCONTINUE? yes\n\n",
+        ),
+        BlockMessage::ManyDup { inode } => print_number(
+            out,
+            b"EXCESSIVE DUP BLKS I=",
+            inode as u64,
+            b"\nCONTINUE? yes\n\n",
+        ),
+        BlockMessage::PartTrunc { inode } => print_number(
+            out,
+            b"PARTIALLY TRUNCATED INODE I=",
+            inode as u64,
+            b"\nSALVAGE? no\n\n",
+        ),
+        BlockMessage::BlockCount {
+            inode,
+            found,
+            right,
+        } => print_count(out, inode, found, right),
+        BlockMessage::GroupMagic { group } => {
+            print_number(out, b"CG ", group as u64, b": BAD MAGIC NUMBER\n")
+        }
+        BlockMessage::FreeCounts => print(
+            out,
+            b"FREE BLK COUNT(S) WRONG IN SUPERBLK\nSALVAGE? no\n\n",
+        ),
+        BlockMessage::MapsWrong => { print(out, b"BLK(S) MISSING IN BIT MAPS\nSALVAGE? no\n\n") }
+        BlockMessage::GroupSums => print(out, b"SUMMARY INFORMATION BAD\nSALVAGE? no\n\n"),
+    }
+}
+
+fn print_summary<W: Output>(
+    out: &mut W,
+    files: u32,
+    used: u32,
+    free: i64,
+    frags: i32,
+    blocks: i32,
+    tenths: i64,
+) -> Result<(), OutFault>
+    ensures lent { W.lent out.new ≡ W.lent out.old }
+    ensures printed { Prints (W.sink out.old) (W.sink out.new) (summary_text files used free frags blocks tenths) result }
+{
+    let size = tenths.unsigned_abs();
+    print_pieces(
+        out,
+        &[
+            Piece::Count(files as u64, b" files, "),
+            Piece::Count(used as u64, b" used, "),
+            Piece::Total(free, b" free ("),
+            Piece::Total(frags as i64, b" frags, "),
+            Piece::Total(blocks as i64, b" blocks, "),
+            Piece::Sign(tenths),
+            Piece::Count(size / 10, b"."),
+            Piece::Count(size % 10, b"% fragmentation)\n"),
+        ],
+    )
+}
