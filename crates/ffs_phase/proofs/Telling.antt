@@ -1,0 +1,161 @@
+-- How a phase goes on and ends. (For each phase.)
+use Rattle.std.proofs.Common.{◌≡◌, refl, ◌∙◌, sym, ap, subst, ℕ, List, [], ◌++◌, append_assoc, append-nil, Result, Ok, Err}
+use Rattle.ffs_volume.specs.Messages.{Message}
+use Rattle.ffs_report.specs.Progress.{Progress, Said, Stopped, Says}
+use Rattle.ffs_report.proofs.Reports.{said_none, said_then, stopped_after, stopped_more}
+use Rattle.ffs_phase.specs.Known.{Where}
+use Rattle.ffs_phase.specs.Runs.{SaidTo, SaidOf, SaidFrontOf, StoppedOf, TellsOf}
+use Rattle.ffs_phase.specs.declared.fault.RunFault.{RunFault}
+use Rattle.ffs_phase.specs.declared.fault.RunFault.TheVariants.{Read, Out}
+
+-- ---- messages that are known
+pub to_begins : (all : List Message) (a : Progress) → SaidTo all all a a
+to_begins all a = record { messages = []; right = refl; said = said_none a }
+
+pub to_says : (rest rest' all ms : List Message) (a b c : Progress) → SaidTo rest all a b → rest ≡ ms ++ rest' → Said b c ms → SaidTo rest' all a c
+to_says rest rest' all ms a b c p e q = record {
+  messages = p.messages ++ ms;
+  right = append_assoc p.messages ms rest' ∙ ap (λ (xs : List Message). p.messages ++ xs) (sym e) ∙ p.right;
+  said = said_then a b c p.messages ms p.said q;
+}
+
+pub to_stops : (rest rest' all ms : List Message) (a b c : Progress) → SaidTo rest all a b → rest ≡ ms ++ rest' → Stopped b c ms → Stopped a c all
+to_stops rest rest' all ms a b c p e q =
+    subst (Stopped a c) (append_assoc p.messages ms rest' ∙ ap (λ (xs : List Message). p.messages ++ xs) (sym e) ∙ p.right)
+    (stopped_more a c (p.messages ++ ms) rest' (stopped_after a b c p.messages ms p.said q))
+
+pub to_ends : (rest all : List Message) (a b : Progress) → SaidTo rest all a b → rest ≡ [] → Said a b all
+to_ends rest all a b p e = subst (Said a b) (sym (append-nil p.messages) ∙ ap (λ (xs : List Message). p.messages ++ xs) (sym e) ∙ p.right) p.said
+
+-- the outcome of the last ones
+pub to_last : {T E : Type 0} (rest all : List Message) (a b c : Progress) (r : Result T E) → SaidTo rest all a b → Says b c rest r → Says a c all r
+to_last rest all a b c (Ok x) p q = subst (Said a c) p.right (said_then a b c p.messages rest p.said q)
+to_last rest all a b c (Err e) p q = subst (Stopped a c) p.right (stopped_after a b c p.messages rest p.said q)
+
+-- ---- messages of an image's bytes
+pub of_begins : (knows : List ℕ → Type 0) (all : List ℕ → List Message) (a : Progress) → SaidOf knows all all a a
+of_begins knows all a = record { messages = []; right = λ bytes k. refl; said = said_none a }
+
+pub of_says : (knows : List ℕ → Type 0) (rest rest' all : List ℕ → List Message) (ms : List Message) (a b c : Progress) →
+    SaidOf knows rest all a b → Where knows (λ bytes. rest bytes ≡ ms ++ rest' bytes) → Said b c ms → SaidOf knows rest' all a c
+of_says knows rest rest' all ms a b c p e q = record {
+  messages = p.messages ++ ms;
+  right = λ bytes k. append_assoc p.messages ms (rest' bytes) ∙ ap (λ (xs : List Message). p.messages ++ xs) (sym (e bytes k)) ∙ p.right bytes k;
+  said = said_then a b c p.messages ms p.said q;
+}
+
+pub of_stops : (knows : List ℕ → Type 0) (rest rest' all : List ℕ → List Message) (ms : List Message) (a b c : Progress) →
+    SaidOf knows rest all a b → Where knows (λ bytes. rest bytes ≡ ms ++ rest' bytes) → Stopped b c ms → StoppedOf knows all a c
+of_stops knows rest rest' all ms a b c p e q = record {
+  messages = p.messages ++ ms;
+  rest = rest';
+  right = λ bytes k. append_assoc p.messages ms (rest' bytes) ∙ ap (λ (xs : List Message). p.messages ++ xs) (sym (e bytes k)) ∙ p.right bytes k;
+  stopped = stopped_after a b c p.messages ms p.said q;
+}
+
+pub of_reads : (knows : List ℕ → Type 0) (rest all : List ℕ → List Message) (a b : Progress) → SaidOf knows rest all a b → SaidFrontOf knows all a b
+of_reads knows rest all a b p = record { rest = rest; front = p }
+
+-- what is to come has changed its form
+pub of_same : (knows : List ℕ → Type 0) (rest rest' all : List ℕ → List Message) (a b : Progress) →
+    SaidOf knows rest all a b → Where knows (λ bytes. rest bytes ≡ rest' bytes) → SaidOf knows rest' all a b
+of_same knows rest rest' all a b p e = record {
+  messages = p.messages;
+  right = λ bytes k. ap (λ (xs : List Message). p.messages ++ xs) (sym (e bytes k)) ∙ p.right bytes k;
+  said = p.said;
+}
+
+-- a part of a phase answered Ok, or a fault
+pub of_part : (knows : List ℕ → Type 0) (rest part rest' all : List ℕ → List Message) (a b c : Progress) →
+    SaidOf knows rest all a b → Where knows (λ bytes. rest bytes ≡ part bytes ++ rest' bytes) → SaidOf knows (λ bytes. []) part b c → SaidOf knows rest' all a c
+of_part knows rest part rest' all a b c p e q = record {
+  messages = p.messages ++ q.messages;
+  right = λ bytes k. append_assoc p.messages q.messages (rest' bytes)
+      ∙ ap (λ (xs : List Message). p.messages ++ (xs ++ rest' bytes)) (sym (append-nil q.messages) ∙ q.right bytes k)
+      ∙ ap (λ (xs : List Message). p.messages ++ xs) (sym (e bytes k)) ∙ p.right bytes k;
+  said = said_then a b c p.messages q.messages p.said q.said;
+}
+
+part_right : (knows : List ℕ → Type 0) (rest part rest' all more : List ℕ → List Message) (xs ys : List Message) →
+    Where knows (λ bytes. xs ++ rest bytes ≡ all bytes) → Where knows (λ bytes. rest bytes ≡ part bytes ++ rest' bytes) →
+    Where knows (λ bytes. ys ++ more bytes ≡ part bytes) → Where knows (λ bytes. (xs ++ ys) ++ (more bytes ++ rest' bytes) ≡ all bytes)
+part_right knows rest part rest' all more xs ys p e q = λ bytes k.
+    append_assoc xs ys (more bytes ++ rest' bytes)
+    ∙ ap (λ (zs : List Message). xs ++ zs) (sym (append_assoc ys (more bytes) (rest' bytes)) ∙ ap (λ (zs : List Message). zs ++ rest' bytes) (q bytes k) ∙ sym (e bytes k))
+    ∙ p bytes k
+
+pub of_fault : (T E : Type 0) (knows : List ℕ → Type 0) (rest part rest' all : List ℕ → List Message) (a b c : Progress) (fault : RunFault) →
+    SaidOf knows rest all a b → Where knows (λ bytes. rest bytes ≡ part bytes ++ rest' bytes) →
+    TellsOf {T = T} knows part b c (Err fault) → TellsOf {T = E} knows all a c (Err fault)
+of_fault T E knows rest part rest' all a b c (Read fault) p e q = record {
+  rest = λ bytes. q.rest bytes ++ rest' bytes;
+  front = record {
+    messages = p.messages ++ q.front.messages;
+    right = part_right knows rest part rest' all q.rest p.messages q.front.messages p.right e q.front.right;
+    said = said_then a b c p.messages q.front.messages p.said q.front.said;
+  };
+}
+of_fault T E knows rest part rest' all a b c (Out fault) p e q = record {
+  messages = p.messages ++ q.messages;
+  rest = λ bytes. q.rest bytes ++ rest' bytes;
+  right = part_right knows rest part rest' all q.rest p.messages q.messages p.right e q.right;
+  stopped = stopped_after a b c p.messages q.messages p.said q.stopped;
+}
+
+-- the outcome of a phase's last part
+pub of_last : (T : Type 0) (knows : List ℕ → Type 0) (rest part all : List ℕ → List Message) (a b c : Progress) (r : Result T RunFault) →
+    SaidOf knows rest all a b → Where knows (λ bytes. rest bytes ≡ part bytes) → TellsOf knows part b c r → TellsOf knows all a c r
+of_last T knows rest part all a b c (Ok x) p e q =
+    of_part knows rest part (λ bytes. []) all a b c p (λ bytes k. e bytes k ∙ sym (append-nil (part bytes))) q
+of_last T knows rest part all a b c (Err fault) p e q =
+    of_fault T T knows rest part (λ bytes. []) all a b c fault p (λ bytes k. e bytes k ∙ sym (append-nil (part bytes))) q
+
+-- ---- where more is known than was wanted
+pub said_knows : (knows knows' : List ℕ → Type 0) (rest all : List ℕ → List Message) (a b : Progress) →
+    Where knows' knows → SaidOf knows rest all a b → SaidOf knows' rest all a b
+said_knows knows knows' rest all a b more p = record {
+  messages = p.messages;
+  right = λ bytes k. p.right bytes (more bytes k);
+  said = p.said;
+}
+
+pub stopped_knows : (knows knows' : List ℕ → Type 0) (all : List ℕ → List Message) (a b : Progress) →
+    Where knows' knows → StoppedOf knows all a b → StoppedOf knows' all a b
+stopped_knows knows knows' all a b more p = record {
+  messages = p.messages;
+  rest = p.rest;
+  right = λ bytes k. p.right bytes (more bytes k);
+  stopped = p.stopped;
+}
+
+pub tells_knows : (T : Type 0) (knows knows' : List ℕ → Type 0) (all : List ℕ → List Message) (a b : Progress) (r : Result T RunFault) →
+    Where knows' knows → TellsOf knows all a b r → TellsOf knows' all a b r
+tells_knows T knows knows' all a b (Ok x) more p = said_knows knows knows' (λ bytes. []) all a b more p
+tells_knows T knows knows' all a b (Err (Read fault)) more p = record {
+  rest = p.rest;
+  front = said_knows knows knows' p.rest all a b more p.front;
+}
+tells_knows T knows knows' all a b (Err (Out fault)) more p = stopped_knows knows knows' all a b more p
+
+-- ---- where all has changed its form
+pub tells_same : (T : Type 0) (knows : List ℕ → Type 0) (all all' : List ℕ → List Message) (a b : Progress) (r : Result T RunFault) →
+    Where knows (λ bytes. all bytes ≡ all' bytes) → TellsOf knows all a b r → TellsOf knows all' a b r
+tells_same T knows all all' a b (Ok x) e p = record {
+  messages = p.messages;
+  right = λ bytes k. p.right bytes k ∙ e bytes k;
+  said = p.said;
+}
+tells_same T knows all all' a b (Err (Read fault)) e p = record {
+  rest = p.rest;
+  front = record {
+    messages = p.front.messages;
+    right = λ bytes k. p.front.right bytes k ∙ e bytes k;
+    said = p.front.said;
+  };
+}
+tells_same T knows all all' a b (Err (Out fault)) e p = record {
+  messages = p.messages;
+  rest = p.rest;
+  right = λ bytes k. p.right bytes k ∙ e bytes k;
+  stopped = p.stopped;
+}

@@ -1,0 +1,33 @@
+// What ends a run.
+ghost use Rattle.ffs_phase.specs.declared.fault.RunFault.TheVariants.{Read, Out};
+ghost use Rattle.std.specs.Prelude.{◌≡◌};
+
+use ffs_image::ImageFault;
+use ffs_report::OutFault;
+
+/// What ends a run before its report is complete: a read of the image that failed, or a write of the report.
+#[derive(Clone, Copy, Debug, PartialEq, Eq, thiserror::Error)]
+pub enum RunFault {
+    /// A read of the image failed, at this sector.
+    #[error("the image can't be read")]
+    Read(ImageFault),
+    /// The output failed.
+    #[error("the report can't be written")]
+    Out(OutFault),
+}
+
+impl From<ImageFault> for RunFault {
+    ghost from_gives = { λ fault run. run ≡ Read fault };
+
+    fn from(fault: ImageFault) -> Self {
+        RunFault::Read(fault)
+    }
+}
+
+impl From<OutFault> for RunFault {
+    ghost from_gives = { λ fault run. run ≡ Out fault };
+
+    fn from(fault: OutFault) -> Self {
+        RunFault::Out(fault)
+    }
+}
