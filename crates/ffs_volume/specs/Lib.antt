@@ -8,6 +8,7 @@ pub mod AreaLaws
 pub mod RunLaws
 pub mod Inodes
 pub mod Steps
+pub mod StepLaws
 pub mod Owners
 pub mod Claims
 pub mod BlockCheck
@@ -34,7 +35,10 @@ pub mod Connectivity
 pub mod ReferenceCheck
 pub mod DirectoriesRight
 pub mod Volumes
+pub mod ChunkLaws
 pub mod Replay
+pub mod ReplayLaws
+pub mod CutLaws
 pub mod Opening
 pub mod Report
 pub mod Consistent

@@ -221,14 +221,14 @@ run_replays v s t start len steps k d few =
     let a = m.kept_low in let b = m.kept_high in let r = m.rise in
     taken_is s.kept u.kept u.dups e.kept e.dups len (omega arith) (omega arith) (λ x. let y = m.whole x in omega arith) g.kept_low g.dups_low g.rise (omega arith) (full_ends v u steps)
 
-seen_replays : (v : Layout) (s : Claims) (steps : List Step) → s.dups ≤ s.kept → is_seen (cut_of (after_steps v s steps)) (replay_of s) ≡ is_open s
+pub seen_replays : (v : Layout) (s : Claims) (steps : List Step) → s.dups ≤ s.kept → is_seen (cut_of (after_steps v s steps)) (replay_of s) ≡ is_open s
 seen_replays v s steps few =
     let e = after_steps v s steps in
     let g = steps_grow v s steps in
     seen_is s.bad s.kept s.dups e.kept e.dups g.dups_low g.rise few (full_ends v s steps)
 
 -- a step does in the replay what it did
-step_replays : (v : Layout) (s : Claims) (step : Step) (steps : List Step) → s.dups ≤ s.kept
+pub step_replays : (v : Layout) (s : Claims) (step : Step) (steps : List Step) → s.dups ≤ s.kept
     → replay_step v (cut_of (after_steps v s (step ∷ steps))) (replay_of s) step ≡ replay_of (after_step v s step)
 step_replays v s Gap steps few = refl
 step_replays v s Tail steps few = one (is_open s) refl
@@ -265,7 +265,7 @@ step_replays v s (Run start len block) steps few =
         (rw (r, z) (ap (λ x. record { bad = s.bad + 1; kept = x }) k ∙ ap (λ x. record { bad = x; kept = (after_offers v t (range_with_len start len)).kept }) (sym m.bad)))
 
 -- a step keeps its counts in order
-step_few : (v : Layout) (s : Claims) (step : Step) → s.dups ≤ s.kept → (after_step v s step).dups ≤ (after_step v s step).kept
+pub step_few : (v : Layout) (s : Claims) (step : Step) → s.dups ≤ s.kept → (after_step v s step).dups ≤ (after_step v s step).kept
 step_few v s step few =
     let g = step_grows v s step in
     let r = g.rise in let l = g.kept_low in omega arith
