@@ -1,0 +1,87 @@
+use Rattle.std.proofs.Common.{◌≡◌, ℕ, ◌+◌, ◌-◌, ◌*◌, ◌<◌, ◌≤◌, ◌^◌, Bool, true, false, if◌then◌else◌, List, [], ◌∷◌, ◌++◌, Option, arith, rules, refl, ap, ◌∙◌, sym}
+use Rattle.ffs_volume.specs.declared.Layout.{Layout}
+use Rattle.ffs_volume.specs.declared.Step.{Step}
+use Rattle.ffs_walk.specs.declared.frame.Frame.{Frame}
+use Rattle.ffs_volume.specs.Steps.{block_bytes}
+use Rattle.ffs_image.specs.Device.{WhereTold}
+use Rattle.ffs_walk.specs.Frames.{frame_rest, frame_left, item_left}
+use Rattle.ffs_volume.specs.Steps.{word_of}
+use Rattle.ffs_volume.specs.Steps.{tail_of, any_word_from, steps_under, word_at}
+use Rattle.ffs_walk.specs.declared.frame.Item.{Item}
+use Rattle.ffs_walk.specs.declared.frame.Item.TheVariants.{Missing, Word}
+use Rattle.ffs_walk.specs.Fits.{FrameFits, IsBelow}
+use Rattle.ffs_walk.specs.Frames.{IsFrom}
+use Rattle.ffs_volume.specs.Steps.{used_words}
+use Rattle.std.specs.Int.{div_ceil}
+use Rattle.std.proofs.lemmas.Grind.{div_ceil_times}
+use Rattle.std.proofs.Math.Nat.{mul-le-mul_right}
+use Rattle.ffs_walk.proofs.Ranges.{flat_map_step}
+
+-- the steps under the words from `next` on are those at the next word and then the rest
+pub next_word : (g : Layout) (bytes : List ℕ) (child : ℕ → ℕ → List Step) (span address first next used : ℕ) →
+    next < used →
+    steps_under g bytes child span address first next (used - next)
+    ≡ child (word_at g bytes address next) (first + next * span) ++ steps_under g bytes child span address first (next + 1) (used - (next + 1))
+next_word g bytes child span address first next used h =
+    flat_map_step (λ j. child (word_at g bytes address j) (first + j * span)) next used h
+
+-- no Tail comes where the unused words aren't set, or it is known already
+pub no_tail : (fresh found : Bool) (xs : List Step) → (fresh ≡ true → found ≡ false) → (if fresh then tail_of found else []) ++ xs ≡ xs
+no_tail true found xs h = rw (h refl) refl
+no_tail false found xs h = refl
+
+-- a frame's rest is the steps at its next word and then the rest after it
+pub word_taken : (g : Layout) (told : Option (List ℕ)) (span : ℕ) (f : Frame) (block : List ℕ) (address : ℕ) →
+    f.next < f.used →
+    WhereTold told (λ bytes. block ≡ block_bytes g bytes f.address) →
+    (f.fresh ≡ true → any_word_from g block f.used ≡ false) →
+    address ≡ word_of g block f.next →
+    WhereTold told (λ bytes. (child : ℕ → ℕ → List Step) →
+    frame_rest g bytes child span f
+    ≡ child address (f.first + f.next * span) ++ steps_under g bytes child span f.address f.first (f.next + 1) (f.used - (f.next + 1)))
+word_taken g told span f block address h held none is = λ bytes e child.
+    no_tail f.fresh (any_word_from g (block_bytes g bytes f.address) f.used) _ (rw (held bytes e) at none)
+    ∙ next_word g bytes child span f.address f.first f.next f.used h
+    ∙ rw (is, held bytes e) refl
+
+-- one word less is left
+pub less_left : (most : ℕ) (f : Frame) → f.next < f.used → most + (0 + (f.used - (f.next + 1)) * most) ≤ frame_left most f
+less_left most f h =
+    let e : f.used - f.next ≡ f.used - (f.next + 1) + 1 = omega arith in
+    rw e (omega arith)
+
+-- a used word has logical blocks of the inode under it
+pub word_below : (words blocks first span used j : ℕ) → 0 < span → used ≤ used_words words blocks first span → j < used → first + j * span < blocks
+word_below words blocks first span used j some fits h =
+    let n = blocks - first in
+    let counted : j + 1 ≤ div_ceil n span = omega arith in
+    let scaled : (j + 1) * span ≤ div_ceil n span * span = mul-le-mul_right span counted in
+    let above : div_ceil n span * span < n + span = (div_ceil_times n span some).1 in
+    omega (arith, scaled, above)
+
+pub item_below : (g : Layout) (blocks span : ℕ) (f : Frame) (item : Item) → 0 < span → FrameFits g blocks span f → IsFrom f span item → IsBelow blocks item
+item_below g blocks span f Missing some fits from = tt
+item_below g blocks span f (Word address block) some fits from =
+    let e : block ≡ f.first + f.next * span = from.1 in
+    let below : f.first + f.next * span < blocks = word_below g.nindir blocks f.first span f.used f.next some fits.words from.0 in
+    omega (arith, e, below)
+
+pub word_fits : (g : Layout) (blocks span : ℕ) (f : Frame) → 0 < span → FrameFits g blocks span f → blocks < 2 ^ 53 → f.next < f.used → f.first + f.next * span < 2 ^ 64
+word_fits g blocks span f some fits small h =
+    let below : f.first + f.next * span < blocks = word_below g.nindir blocks f.first span f.used f.next some fits.words h in
+    omega (arith, below)
+
+-- what is left in a frame that is new
+pub entered_left : (most used words : ℕ) → used ≤ words → 1 + (used - 0) * most ≤ 1 + words * most
+entered_left most used words h =
+    let scaled : used * most ≤ words * most = mul-le-mul_right most h in
+    let e : used - 0 ≡ used = omega arith in
+    rw e (omega (arith, scaled))
+
+-- an item of the lowest level is one step
+pub item_one : (item : Item) → item_left 1 item ≡ 1
+item_one Missing = refl
+item_one (Word address block) = refl
+
+pub falls_by : (i s' s r : ℕ) → i + s' ≤ s → i ≡ 1 → s' + r < s + r
+falls_by i s' s r h e = omega arith

@@ -1,0 +1,6 @@
+pub mod Areas
+pub mod FrameSteps
+pub mod Ranges
+pub mod WalkSteps
+pub mod Sizes
+pub mod Splices

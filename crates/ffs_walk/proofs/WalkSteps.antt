@@ -1,0 +1,254 @@
+use Rattle.std.proofs.Common.{◌≡◌, ℕ, ◌+◌, ◌-◌, ◌*◌, ◌<◌, ◌≤◌, Bool, true, false, List, [], ◌∷◌, ◌++◌, slice_index, append_assoc, Option, arith, rules, refl, ap, ◌∙◌, sym}
+use Rattle.ffs_volume.specs.declared.Layout.{Layout}
+use Rattle.ffs_image.specs.Device.{WhereTold}
+use Rattle.ffs_volume.specs.Geometry.{IsGeometry}
+use Rattle.ffs_volume.specs.declared.Step.{Step}
+use Rattle.ffs_walk.specs.declared.frame.Frame.{Frame}
+use Rattle.ffs_walk.specs.declared.walk.Walk.{Walk}
+use Rattle.ffs_walk.specs.Fits.{IsSpent}
+use Rattle.ffs_walk.specs.declared.frame.Item.{Item}
+use Rattle.ffs_walk.specs.Frames.{frame_rest, frame_left, item_steps}
+use Rattle.ffs_walk.specs.Rests.{extent_of, rest, single_rest, double_rest, triple_rest, top_rest, most_at, left}
+use Rattle.ffs_volume.specs.Steps.{Extent, data_step, indirect_steps, steps_at, steps_of_addresses, level_of, first_block, span_of}
+use Rattle.std.proofs.lemmas.Bool.Decides.{nat_tests}
+use Rattle.std.proofs.Math.Nat.{mul-le-mul_right}
+use Rattle.ffs_walk.proofs.Ranges.{flat_map_step}
+
+pub steps_zero : (t : Extent) (bytes : List ℕ) (a f : ℕ) → steps_at t bytes 0 a f ≡ data_step t a f ∷ []
+unfolding steps_at
+steps_zero t bytes a f = refl
+
+pub steps_one : (t : Extent) (bytes : List ℕ) (a f : ℕ) → steps_at t bytes 1 a f ≡ indirect_steps t bytes (steps_at t bytes 0) 1 a f
+unfolding steps_at
+steps_one t bytes a f = refl
+
+pub steps_two : (t : Extent) (bytes : List ℕ) (a f : ℕ) →
+    steps_at t bytes 2 a f ≡ indirect_steps t bytes (steps_at t bytes 1) t.geometry.nindir a f
+unfolding steps_at
+steps_two t bytes a f = refl
+
+pub steps_three : (t : Extent) (bytes : List ℕ) (a f : ℕ) →
+    steps_at t bytes 3 a f ≡ indirect_steps t bytes (steps_at t bytes 2) (t.geometry.nindir * t.geometry.nindir) a f
+unfolding steps_at
+steps_three t bytes a f = refl
+
+-- nothing is left in a frame that is spent
+pub spent_rest : (g : Layout) (bytes : List ℕ) (child : ℕ → ℕ → List Step) (span : ℕ) (f : Frame) → IsSpent f → frame_rest g bytes child span f ≡ []
+spent_rest g bytes child span f h =
+    let none : f.used - f.next ≡ 0 = omega (arith, h.0) in
+    rw (h.1, none) refl
+
+pub spent_left : (most : ℕ) (f : Frame) → IsSpent f → frame_left most f ≡ 0
+spent_left most f h =
+    let none : f.used - f.next ≡ 0 = omega (arith, h.0) in
+    rw (h.1, none) (omega arith)
+
+-- the first step at a level goes out, and the frame below has the others
+pub in_double : (w : Walk) (bytes : List ℕ) (span address first : ℕ) (s : Step) (f : Frame) →
+    span ≡ 1 →
+    IsSpent w.single →
+    indirect_steps (extent_of w) bytes (steps_at (extent_of w) bytes 0) span address first ≡ s ∷ frame_rest w.geometry.layout bytes (steps_at (extent_of w) bytes 0) span f →
+    steps_at (extent_of w) bytes 1 address first ++ rest bytes w
+    ≡ s ∷ (frame_rest w.geometry.layout bytes (steps_at (extent_of w) bytes 0) 1 f ++ (double_rest bytes w ++ (triple_rest bytes w ++ top_rest bytes w)))
+in_double w bytes span address first s f is_one spent e =
+    rw (
+      steps_one (extent_of w) bytes address first,
+      rw is_one at e,
+      spent_rest w.geometry.layout bytes (steps_at (extent_of w) bytes 0) 1 w.single spent,
+    ) refl
+
+pub in_triple : (w : Walk) (bytes : List ℕ) (span address first : ℕ) (s : Step) (f : Frame) →
+    span ≡ w.geometry.layout.nindir →
+    IsSpent w.single → IsSpent w.double →
+    indirect_steps (extent_of w) bytes (steps_at (extent_of w) bytes 1) span address first ≡ s ∷ frame_rest w.geometry.layout bytes (steps_at (extent_of w) bytes 1) span f →
+    steps_at (extent_of w) bytes 2 address first ++ rest bytes w
+    ≡ s ∷ (single_rest bytes w ++ (frame_rest w.geometry.layout bytes (steps_at (extent_of w) bytes 1) w.geometry.layout.nindir f ++ (triple_rest bytes w ++ top_rest bytes w)))
+in_triple w bytes span address first s f is_words spent spent' e =
+    rw (
+      steps_two (extent_of w) bytes address first,
+      rw is_words at e,
+      spent_rest w.geometry.layout bytes (steps_at (extent_of w) bytes 0) 1 w.single spent,
+      spent_rest w.geometry.layout bytes (steps_at (extent_of w) bytes 1) w.geometry.layout.nindir w.double spent',
+    ) refl
+
+-- where the frames are spent, the rest is that of the addresses
+pub rest_at_top : (bytes : List ℕ) (w : Walk) → IsSpent w.single → IsSpent w.double → IsSpent w.triple → rest bytes w ≡ top_rest bytes w
+rest_at_top bytes w s d t =
+    rw (
+      spent_rest w.geometry.layout bytes (steps_at (extent_of w) bytes 0) 1 w.single s,
+      spent_rest w.geometry.layout bytes (steps_at (extent_of w) bytes 1) w.geometry.layout.nindir w.double d,
+      spent_rest w.geometry.layout bytes (steps_at (extent_of w) bytes 2) (w.geometry.layout.nindir * w.geometry.layout.nindir) w.triple t,
+    ) refl
+
+pub next_address : (t : Extent) (bytes addresses : List ℕ) (next used : ℕ) → next < used →
+    steps_of_addresses t bytes addresses next (used - next)
+    ≡ steps_at t bytes (level_of next) (slice_index addresses next) (first_block t.geometry.nindir next)
+    ++ steps_of_addresses t bytes addresses (next + 1) (used - (next + 1))
+next_address t bytes addresses next used h =
+    flat_map_step (λ i. steps_at t bytes (level_of i) (slice_index addresses i) (first_block t.geometry.nindir i)) next used h
+
+-- the steps of the addresses after the next one
+abbrev pub later_rest : List ℕ → Walk → List Step
+later_rest bytes w = steps_of_addresses (extent_of w) bytes w.addresses (w.next + 1) (w.used - (w.next + 1))
+
+pub at_top : (bytes : List ℕ) (w : Walk) → w.next < w.used → IsSpent w.single → IsSpent w.double → IsSpent w.triple →
+    rest bytes w ≡ steps_at (extent_of w) bytes (level_of w.next) (slice_index w.addresses w.next) (first_block w.geometry.layout.nindir w.next) ++ later_rest bytes w
+at_top bytes w h s d t = rest_at_top bytes w s d t ∙ next_address (extent_of w) bytes w.addresses w.next w.used h
+
+pub top_ends : (bytes : List ℕ) (w : Walk) → w.used ≤ w.next → IsSpent w.single → IsSpent w.double → IsSpent w.triple → rest bytes w ≡ []
+top_ends bytes w h s d t =
+    let none : w.used - w.next ≡ 0 = omega arith in
+    rest_at_top bytes w s d t ∙ rw none refl
+
+pub top_data : (bytes : List ℕ) (w : Walk) (address first : ℕ) (step : Step) →
+    w.next < w.used → w.next < 12 → IsSpent w.single → IsSpent w.double → IsSpent w.triple →
+    address ≡ slice_index w.addresses w.next → first ≡ w.next →
+    step ≡ data_step (extent_of w) address first →
+    rest bytes w ≡ step ∷ (single_rest bytes w ++ (double_rest bytes w ++ (triple_rest bytes w ++ later_rest bytes w)))
+top_data bytes w address first step h low s d t is_address is_first e =
+    let level : level_of w.next ≡ 0 = omega arith in
+    let place : first_block w.geometry.layout.nindir w.next ≡ w.next = grind (arith, nat_tests) in
+    at_top bytes w h s d t
+    ∙ rw (
+      level,
+      place,
+      steps_zero (extent_of w) bytes (slice_index w.addresses w.next) w.next,
+      ← is_address,
+      ← is_first,
+      ← e,
+      spent_rest w.geometry.layout bytes (steps_at (extent_of w) bytes 0) 1 w.single s,
+      spent_rest w.geometry.layout bytes (steps_at (extent_of w) bytes 1) w.geometry.layout.nindir w.double d,
+      spent_rest w.geometry.layout bytes (steps_at (extent_of w) bytes 2) (w.geometry.layout.nindir * w.geometry.layout.nindir) w.triple t,
+    ) refl
+
+-- an indirect address goes out, and its frame has what is under it
+pub top_single : (bytes : List ℕ) (w : Walk) (step : Step) (f : Frame) →
+    w.next < w.used → w.next ≡ 12 → IsSpent w.single → IsSpent w.double → IsSpent w.triple →
+    indirect_steps (extent_of w) bytes (steps_at (extent_of w) bytes 0) 1 (slice_index w.addresses w.next) 12
+    ≡ step ∷ frame_rest w.geometry.layout bytes (steps_at (extent_of w) bytes 0) 1 f →
+    rest bytes w ≡ step ∷ (frame_rest w.geometry.layout bytes (steps_at (extent_of w) bytes 0) 1 f ++ (double_rest bytes w ++ (triple_rest bytes w ++ later_rest bytes w)))
+top_single bytes w step f h is s d t e =
+    let level : level_of w.next ≡ 1 = omega arith in
+    let place : first_block w.geometry.layout.nindir w.next ≡ 12 = grind (arith, nat_tests) in
+    at_top bytes w h s d t
+    ∙ rw (
+      level,
+      place,
+      steps_one (extent_of w) bytes (slice_index w.addresses w.next) 12,
+      e,
+      spent_rest w.geometry.layout bytes (steps_at (extent_of w) bytes 1) w.geometry.layout.nindir w.double d,
+      spent_rest w.geometry.layout bytes (steps_at (extent_of w) bytes 2) (w.geometry.layout.nindir * w.geometry.layout.nindir) w.triple t,
+    ) refl
+
+pub top_double : (bytes : List ℕ) (w : Walk) (words : ℕ) (step : Step) (f : Frame) →
+    w.next < w.used → w.next ≡ 13 → words ≡ w.geometry.layout.nindir → IsSpent w.single → IsSpent w.double → IsSpent w.triple →
+    indirect_steps (extent_of w) bytes (steps_at (extent_of w) bytes 1) words (slice_index w.addresses w.next) (12 + words)
+    ≡ step ∷ frame_rest w.geometry.layout bytes (steps_at (extent_of w) bytes 1) words f →
+    rest bytes w ≡ step ∷ (single_rest bytes w ++ (frame_rest w.geometry.layout bytes (steps_at (extent_of w) bytes 1) w.geometry.layout.nindir f ++ (triple_rest bytes w ++ later_rest bytes w)))
+top_double bytes w words step f h is is_words s d t e =
+    let level : level_of w.next ≡ 2 = omega arith in
+    let place : first_block w.geometry.layout.nindir w.next ≡ 12 + w.geometry.layout.nindir = rw is refl in
+    at_top bytes w h s d t
+    ∙ rw (
+      level,
+      place,
+      steps_two (extent_of w) bytes (slice_index w.addresses w.next) (12 + w.geometry.layout.nindir),
+      rw is_words at e,
+      spent_rest w.geometry.layout bytes (steps_at (extent_of w) bytes 0) 1 w.single s,
+      spent_rest w.geometry.layout bytes (steps_at (extent_of w) bytes 2) (w.geometry.layout.nindir * w.geometry.layout.nindir) w.triple t,
+    ) refl
+
+pub top_triple : (bytes : List ℕ) (w : Walk) (words : ℕ) (step : Step) (f : Frame) →
+    w.next < w.used → w.next ≡ 14 → words ≡ w.geometry.layout.nindir → IsSpent w.single → IsSpent w.double → IsSpent w.triple →
+    indirect_steps (extent_of w) bytes (steps_at (extent_of w) bytes 2) (words * words) (slice_index w.addresses w.next) (12 + words + words * words)
+    ≡ step ∷ frame_rest w.geometry.layout bytes (steps_at (extent_of w) bytes 2) (words * words) f →
+    rest bytes w ≡ step ∷ (single_rest bytes w ++ (double_rest bytes w ++ (frame_rest w.geometry.layout bytes (steps_at (extent_of w) bytes 2) (w.geometry.layout.nindir * w.geometry.layout.nindir) f ++ later_rest bytes w)))
+top_triple bytes w words step f h is is_words s d t e =
+    let level : level_of w.next ≡ 3 = omega arith in
+    let place : first_block w.geometry.layout.nindir w.next ≡ 12 + w.geometry.layout.nindir + w.geometry.layout.nindir * w.geometry.layout.nindir = rw is refl in
+    at_top bytes w h s d t
+    ∙ rw (
+      level,
+      place,
+      steps_three (extent_of w) bytes (slice_index w.addresses w.next) (12 + w.geometry.layout.nindir + w.geometry.layout.nindir * w.geometry.layout.nindir),
+      rw is_words at e,
+      spent_rest w.geometry.layout bytes (steps_at (extent_of w) bytes 0) 1 w.single s,
+      spent_rest w.geometry.layout bytes (steps_at (extent_of w) bytes 1) w.geometry.layout.nindir w.double d,
+    ) refl
+
+-- a level of indirection more is a step more, at least
+pub most_grows : (words m : ℕ) → 0 < words → m + 1 ≤ 2 + words * m
+most_grows words m h =
+    let scaled : 1 * m ≤ words * m = mul-le-mul_right m h in
+    omega (arith, scaled)
+
+-- what an address has at most is below what a triple indirect one has
+pub most_below : (words : ℕ) → 0 < words →
+    (1 ≤ most_at words 3) × (2 + words * most_at words 0 ≤ most_at words 3) × (2 + words * most_at words 1 ≤ most_at words 3)
+most_below words h =
+    let a : most_at words 0 + 1 ≤ most_at words 1 = most_grows words (most_at words 0) h in
+    let b : most_at words 1 + 1 ≤ most_at words 2 = most_grows words (most_at words 1) h in
+    let c : most_at words 2 + 1 ≤ most_at words 3 = most_grows words (most_at words 2) h in
+    (omega (arith, a, b, c), omega (arith, a, b, c), omega (arith, a, b, c))
+
+-- the next address takes out more than goes into a frame
+pub top_falls : (next used m s' d' t' s d t : ℕ) → next < used → s' + (d' + t') + 1 ≤ s + (d + t) + m →
+    s' + (d' + (t' + (used - (next + 1)) * m)) < s + (d + (t + (used - next) * m))
+top_falls next used m s' d' t' s d t h le =
+    let e : used - next ≡ used - (next + 1) + 1 = omega arith in
+    rw e (omega arith)
+
+pub joined_two : (S D I F X Z : List Step) → S ≡ [] → D ≡ I ++ F → I ++ (S ++ (F ++ X)) ≡ Z → S ++ (D ++ X) ≡ Z
+joined_two S D I F X Z none split made = rw (none, split, append_assoc) (rw none at made)
+
+pub joined_three : (S D T I F X Z : List Step) → S ≡ [] → D ≡ [] → T ≡ I ++ F → I ++ (S ++ (D ++ (F ++ X))) ≡ Z → S ++ (D ++ (T ++ X)) ≡ Z
+joined_three S D T I F X Z none none' split made = rw (none, none', split, append_assoc) (rw (none, none') at made)
+
+-- where an item of a frame stands for a step and what is left then, the walk's rest is that step and what is left
+pub double_told : (told : Option (List ℕ)) (w : Walk) (words : ℕ) (f : Frame) (item : Item) (step : Step) (R : List ℕ → List Step) →
+    words ≡ w.geometry.layout.nindir → IsSpent w.single →
+    WhereTold told (λ bytes. (child : ℕ → ℕ → List Step) →
+    frame_rest w.geometry.layout bytes child words w.double ≡ item_steps child item ++ frame_rest w.geometry.layout bytes child words f) →
+    ((bytes : List ℕ) → item_steps (steps_at (extent_of w) bytes 1) item
+    ++ (single_rest bytes w ++ (frame_rest w.geometry.layout bytes (steps_at (extent_of w) bytes 1) w.geometry.layout.nindir f ++ (triple_rest bytes w ++ top_rest bytes w)))
+    ≡ step ∷ R bytes) →
+    WhereTold told (λ bytes. rest bytes w ≡ step ∷ R bytes)
+double_told told w words f item step R is s taken made = λ bytes e.
+    let split : double_rest bytes w
+    ≡ item_steps (steps_at (extent_of w) bytes 1) item ++ frame_rest w.geometry.layout bytes (steps_at (extent_of w) bytes 1) w.geometry.layout.nindir f =
+    rw is at (taken bytes e (steps_at (extent_of w) bytes 1)) in
+    let none : single_rest bytes w ≡ [] = spent_rest w.geometry.layout bytes (steps_at (extent_of w) bytes 0) 1 w.single s in
+    joined_two _ _ _ _ _ _ none split (made bytes)
+
+pub triple_told : (told : Option (List ℕ)) (w : Walk) (words : ℕ) (f : Frame) (item : Item) (step : Step) (R : List ℕ → List Step) →
+    words ≡ w.geometry.layout.nindir → IsSpent w.single → IsSpent w.double →
+    WhereTold told (λ bytes. (child : ℕ → ℕ → List Step) →
+    frame_rest w.geometry.layout bytes child (words * words) w.triple ≡ item_steps child item ++ frame_rest w.geometry.layout bytes child (words * words) f) →
+    ((bytes : List ℕ) → item_steps (steps_at (extent_of w) bytes 2) item
+    ++ (single_rest bytes w ++ (double_rest bytes w
+    ++ (frame_rest w.geometry.layout bytes (steps_at (extent_of w) bytes 2) (w.geometry.layout.nindir * w.geometry.layout.nindir) f ++ top_rest bytes w)))
+    ≡ step ∷ R bytes) →
+    WhereTold told (λ bytes. rest bytes w ≡ step ∷ R bytes)
+triple_told told w words f item step R is s d taken made = λ bytes e.
+    let split : triple_rest bytes w
+    ≡ item_steps (steps_at (extent_of w) bytes 2) item ++ frame_rest w.geometry.layout bytes (steps_at (extent_of w) bytes 2) (w.geometry.layout.nindir * w.geometry.layout.nindir) f =
+    rw is at (taken bytes e (steps_at (extent_of w) bytes 2)) in
+    let none : single_rest bytes w ≡ [] = spent_rest w.geometry.layout bytes (steps_at (extent_of w) bytes 0) 1 w.single s in
+    let none' : double_rest bytes w ≡ [] = spent_rest w.geometry.layout bytes (steps_at (extent_of w) bytes 1) w.geometry.layout.nindir w.double d in
+    joined_three _ _ _ _ _ _ _ none none' split (made bytes)
+
+pub square_some : (n : ℕ) → 0 < n → 0 < n * n
+square_some n h =
+    let scaled : 1 * n ≤ n * n = mul-le-mul_right n h in
+    omega (arith, scaled)
+
+-- a block has words
+pub some_words : (v : Layout) → IsGeometry v → 0 < v.nindir
+some_words v sound = omega (arith, sound.sizes.nindir, sound.sizes.bsize_low)
+
+-- nothing is left at the end
+pub top_over : (w : Walk) → w.used ≤ w.next → IsSpent w.single → IsSpent w.double → IsSpent w.triple → left w ≡ 0
+top_over w h s d t =
+    let words = w.geometry.layout.nindir in
+    let none : w.used - w.next ≡ 0 = omega arith in
+    rw (spent_left (most_at words 0) w.single s, spent_left (most_at words 1) w.double d, spent_left (most_at words 2) w.triple t, none) (omega arith)

@@ -1,0 +1,72 @@
+use Rattle.std.proofs.Common.{rules, arith, ◌≡◌, ◌∙◌, ◌<◌, sym, ap, refl}
+use Rattle.ffs_walk.specs.Frames.{frame_left}
+use Rattle.ffs_walk.specs.Rests.{extent_of, most_at, left}
+use Rattle.ffs_volume.specs.Steps.{steps_at}
+use Rattle.ffs_walk.proofs.WalkSteps.{top_ends, top_data, top_single, top_double, top_triple, most_below, top_falls, top_over, some_words}
+use Rattle.ffs_walk.proofs.walk.Walk.step_at_top.Goals as goal
+
+pub returns-then-self-clause-steps : goal.returns-then-self-clause-steps
+returns-then-self-clause-steps c = λ bytes. top_ends bytes c.args.self.now c.if-self.true c.requires.single_spent c.requires.double_spent c.requires.triple_spent
+
+pub returns-then-index-lt12-clause-steps : goal.returns-then-index-lt12-clause-steps
+returns-then-index-lt12-clause-steps c =
+    λ bytes. top_data bytes c.args.self.now _ c.from.result c.data.result c.if-self.false c.if-index-lt12.true
+    c.requires.single_spent c.requires.double_spent c.requires.triple_spent refl c.from.ensures c.data.ensures.step
+
+pub returns-in-12-clause-steps : goal.returns-in-12-clause-steps
+returns-in-12-clause-steps c =
+    λ bytes. top_single bytes c.args.self.now c.enter-step.result.0 c.enter-step.result.1 c.if-self.false c.in-12.is
+    c.requires.single_spent c.requires.double_spent c.requires.triple_spent
+    (c.enter-step.ensures.steps bytes (steps_at (extent_of c.args.self.now) bytes 0))
+
+pub returns-in-13-clause-steps : goal.returns-in-13-clause-steps
+returns-in-13-clause-steps c =
+    λ bytes. top_double bytes c.args.self.now c.from-words.result c.enter-step-in-13.result.0 c.enter-step-in-13.result.1 c.if-self.false c.in-13.is
+    c.from-words.ensures c.requires.single_spent c.requires.double_spent c.requires.triple_spent
+    (c.enter-step-in-13.ensures.steps bytes (steps_at (extent_of c.args.self.now) bytes 1))
+
+pub returns-in_default-clause-steps : goal.returns-in_default-clause-steps
+returns-in_default-clause-steps c =
+    let last : c.args.self.now.next ≡ 14 = omega (arith, c.args.self.now.in_array) in
+    λ bytes. top_triple bytes c.args.self.now c.from-words.result c.enter-step-in_default.result.0 c.enter-step-in_default.result.1 c.if-self.false last
+    c.from-words.ensures c.requires.single_spent c.requires.double_spent c.requires.triple_spent
+    (c.enter-step-in_default.ensures.steps bytes (steps_at (extent_of c.args.self.now) bytes 2))
+
+pub returns-then-index-lt12-clause-left : goal.returns-then-index-lt12-clause-left
+returns-then-index-lt12-clause-left c =
+    let words = c.args.self.now.geometry.layout.nindir in
+    let s = frame_left (most_at words 0) c.args.self.now.single in
+    let d = frame_left (most_at words 1) c.args.self.now.double in
+    let t = frame_left (most_at words 2) c.args.self.now.triple in
+    top_falls c.args.self.now.next c.args.self.now.used (most_at words 3) s d t s d t c.if-self.false
+    (omega (arith, most_below words (some_words c.args.self.now.geometry.layout c.args.self.now.geometry.sound)))
+
+pub returns-in-12-clause-left : goal.returns-in-12-clause-left
+returns-in-12-clause-left c =
+    let words = c.args.self.now.geometry.layout.nindir in
+    let s = frame_left (most_at words 0) c.args.self.now.single in
+    let d = frame_left (most_at words 1) c.args.self.now.double in
+    let t = frame_left (most_at words 2) c.args.self.now.triple in
+    top_falls c.args.self.now.next c.args.self.now.used (most_at words 3) (frame_left (most_at words 0) c.enter-step.result.1) d t s d t c.if-self.false
+    (omega (arith, most_below words (some_words c.args.self.now.geometry.layout c.args.self.now.geometry.sound), c.enter-step.ensures.left (most_at words 0)))
+
+pub returns-in-13-clause-left : goal.returns-in-13-clause-left
+returns-in-13-clause-left c =
+    let words = c.args.self.now.geometry.layout.nindir in
+    let s = frame_left (most_at words 0) c.args.self.now.single in
+    let d = frame_left (most_at words 1) c.args.self.now.double in
+    let t = frame_left (most_at words 2) c.args.self.now.triple in
+    top_falls c.args.self.now.next c.args.self.now.used (most_at words 3) s (frame_left (most_at words 1) c.enter-step-in-13.result.1) t s d t c.if-self.false
+    (omega (arith, most_below words (some_words c.args.self.now.geometry.layout c.args.self.now.geometry.sound), c.enter-step-in-13.ensures.left (most_at words 1)))
+
+pub returns-in_default-clause-left : goal.returns-in_default-clause-left
+returns-in_default-clause-left c =
+    let words = c.args.self.now.geometry.layout.nindir in
+    let s = frame_left (most_at words 0) c.args.self.now.single in
+    let d = frame_left (most_at words 1) c.args.self.now.double in
+    let t = frame_left (most_at words 2) c.args.self.now.triple in
+    top_falls c.args.self.now.next c.args.self.now.used (most_at words 3) s d (frame_left (most_at words 2) c.enter-step-in_default.result.1) s d t c.if-self.false
+    (omega (arith, most_below words (some_words c.args.self.now.geometry.layout c.args.self.now.geometry.sound), c.enter-step-in_default.ensures.left (most_at words 2)))
+
+pub returns-then-self-clause-left : goal.returns-then-self-clause-left
+returns-then-self-clause-left c = top_over c.args.self.now c.if-self.true c.requires.single_spent c.requires.double_spent c.requires.triple_spent

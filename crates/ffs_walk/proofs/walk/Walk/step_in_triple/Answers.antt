@@ -1,0 +1,12 @@
+use Rattle.std.proofs.Common.{rules, arith, ◌≡◌, ◌∙◌, sym, ap, refl}
+use Rattle.ffs_walk.specs.Rests.{extent_of}
+use Rattle.ffs_volume.specs.Steps.{steps_at}
+use Rattle.ffs_walk.proofs.WalkSteps.{in_triple}
+use Rattle.ffs_walk.proofs.walk.Walk.step_in_triple.Goals as goal
+
+pub returns-in-Word-clause-steps : goal.returns-in-Word-clause-steps
+returns-in-Word-clause-steps c =
+    λ bytes. rw c.in-Word.is
+    (in_triple c.args.self.now bytes c.from-words.result c.in-Word.address c.in-Word.block c.enter-step.result.0 c.enter-step.result.1
+    c.from-words.ensures c.requires.single_spent c.requires.double_spent
+    (c.enter-step.ensures.steps bytes (steps_at (extent_of c.args.self.now) bytes 1)))

@@ -1,0 +1,22 @@
+-- How a frame fits into a walk.
+use Rattle.std.specs.Prelude.{ℕ, ◌<◌, ◌≤◌, ◌≡◌, false, IsTrue}
+use Rattle.ffs_volume.specs.declared.Layout.{Layout}
+use Rattle.ffs_volume.specs.Areas.{is_in_range}
+use Rattle.ffs_volume.specs.Steps.{used_words}
+use Rattle.ffs_walk.specs.declared.frame.Frame.{Frame}
+use Rattle.ffs_walk.specs.declared.frame.Item.{Item}
+use Rattle.ffs_walk.specs.declared.frame.Item.TheVariants.{Missing, Word}
+
+-- the frame is in a block in range, and counts only words that are used
+pub record FrameFits (g : Layout) (blocks span : ℕ) (f : Frame) : Type 0 where
+  pub words : f.used ≤ used_words g.nindir blocks f.first span
+  pub in_range_there : f.next < f.used → IsTrue (is_in_range g f.address g.frag)
+
+-- nothing is left in the frame
+abbrev pub IsSpent : Frame → Type 0
+IsSpent f = (f.next ≡ f.used) × (f.fresh ≡ false)
+
+-- the item's logical block is one of the inode
+abbrev pub IsBelow : ℕ → Item → Type 0
+IsBelow blocks Missing = Unit {0}
+IsBelow blocks (Word address block) = block < blocks

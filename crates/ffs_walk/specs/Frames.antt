@@ -1,0 +1,34 @@
+-- What is left in an indirect block that a walk is in.
+use Rattle.std.specs.Prelude.{ℕ, Bool, true, false, ◌+◌, ◌-◌, ◌*◌, ◌<◌, ◌≡◌, List, [], ◌∷◌, ◌++◌, if◌then◌else◌}
+use Rattle.ffs_volume.specs.declared.Layout.{Layout}
+use Rattle.ffs_volume.specs.declared.Step.{Step}
+use Rattle.ffs_volume.specs.declared.Step.TheVariants.{Tail}
+use Rattle.ffs_volume.specs.Steps.{block_bytes, tail_of, any_word_from, steps_under}
+use Rattle.ffs_walk.specs.declared.frame.Frame.{Frame}
+use Rattle.ffs_walk.specs.declared.frame.Item.{Item}
+use Rattle.ffs_walk.specs.declared.frame.Item.TheVariants.{Missing, Word}
+
+-- the steps that a frame has left, where `child` has the steps at an address
+abbrev pub frame_rest : Layout → List ℕ → (ℕ → ℕ → List Step) → ℕ → Frame → List Step
+frame_rest g bytes child span f =
+    (if f.fresh then tail_of (any_word_from g (block_bytes g bytes f.address) f.used) else [])
+    ++ steps_under g bytes child span f.address f.first f.next (f.used - f.next)
+
+-- the steps that an item of a frame stands for
+abbrev pub item_steps : (ℕ → ℕ → List Step) → Item → List Step
+item_steps child Missing = Tail ∷ []
+item_steps child (Word address block) = child address block
+
+-- at most how many steps a frame has left, where a word has at most `most`
+abbrev pub frame_left : ℕ → Frame → ℕ
+frame_left most f = (if f.fresh then 1 else 0) + (f.used - f.next) * most
+
+-- at most how many steps an item stands for
+abbrev pub item_left : ℕ → Item → ℕ
+item_left most Missing = 1
+item_left most (Word address block) = most
+
+-- the item is the frame's next word, or a word that isn't used stands in it
+abbrev pub IsFrom : Frame → ℕ → Item → Type 0
+IsFrom f span Missing = f.fresh ≡ true
+IsFrom f span (Word address block) = (f.next < f.used) × (block ≡ f.first + f.next * span)

@@ -1,0 +1,5 @@
+pub mod Windows
+pub mod Frames
+pub mod Fits
+pub mod Lengths
+pub mod Rests

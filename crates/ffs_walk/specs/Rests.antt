@@ -1,0 +1,47 @@
+-- What is left of a walk.
+use Rattle.std.specs.Prelude.{◌≡◌, ℕ, zero, suc, ◌+◌, ◌-◌, ◌*◌, List, ◌++◌}
+use Rattle.ffs_volume.specs.declared.Step.{Step}
+use Rattle.ffs_volume.specs.Steps.{Extent, steps_at, steps_of_addresses}
+use Rattle.ffs_walk.specs.declared.walk.Walk.{Walk}
+use Rattle.ffs_walk.specs.Frames.{frame_rest, frame_left}
+use Rattle.ffs_walk.specs.Fits.{IsSpent}
+
+abbrev pub extent_of : Walk → Extent
+extent_of w = record { geometry = w.geometry.layout; blocks = w.blocks; last = w.last }
+
+-- the steps that the frames of a walk have left
+abbrev pub single_rest : List ℕ → Walk → List Step
+single_rest bytes w = frame_rest w.geometry.layout bytes (steps_at (extent_of w) bytes 0) 1 w.single
+
+abbrev pub double_rest : List ℕ → Walk → List Step
+double_rest bytes w = frame_rest w.geometry.layout bytes (steps_at (extent_of w) bytes 1) w.geometry.layout.nindir w.double
+
+abbrev pub triple_rest : List ℕ → Walk → List Step
+triple_rest bytes w = frame_rest w.geometry.layout bytes (steps_at (extent_of w) bytes 2) (w.geometry.layout.nindir * w.geometry.layout.nindir) w.triple
+
+abbrev pub top_rest : List ℕ → Walk → List Step
+top_rest bytes w = steps_of_addresses (extent_of w) bytes w.addresses w.next (w.used - w.next)
+
+-- the steps that a walk has left, in an image of these bytes
+abbrev pub rest : List ℕ → Walk → List Step
+rest bytes w = single_rest bytes w ++ (double_rest bytes w ++ (triple_rest bytes w ++ top_rest bytes w))
+
+-- at most how many steps there are at an address of a level of indirection
+abbrev pub most_at : ℕ → ℕ → ℕ
+most_at words zero = 1
+most_at words (suc level) = 2 + words * most_at words level
+
+-- at most how many steps a walk has left, whatever its image holds
+abbrev pub left : Walk → ℕ
+left w =
+    frame_left (most_at w.geometry.layout.nindir 0) w.single
+    + (frame_left (most_at w.geometry.layout.nindir 1) w.double
+    + (frame_left (most_at w.geometry.layout.nindir 2) w.triple
+    + (w.used - w.next) * most_at w.geometry.layout.nindir 3))
+
+-- the walk has no step left
+pub record IsOver (w : Walk) : Type 0 where
+  pub single : IsSpent w.single
+  pub double : IsSpent w.double
+  pub triple : IsSpent w.triple
+  pub top : w.next ≡ w.used

@@ -1,0 +1,77 @@
+//! The indirect blocks that a walk is in.
+
+ghost use Rattle.std.specs.Prelude.{◌≡◌, ◌-◌, ◌*◌, ◌+◌, ◌<◌, ◌≤◌, ℕ, List, Option, length, vec_len, OnOk, IfErr, IsTrue};
+ghost use Rattle.ffs_image.specs.Device.{Faulted, WhereTold};
+ghost use Rattle.ffs_volume.specs.Areas.{is_in_range};
+ghost use Rattle.ffs_volume.specs.Steps.{block_bytes};
+ghost use Rattle.ffs_volume.specs.declared.Layout.{Layout};
+
+use ffs_image::{Image, ImageFault};
+use ffs_layout::Geometry;
+
+/// The indirect blocks that a walk is in, one of each level, in one buffer. They are of one image.
+#[derive(Drop)]
+pub struct Blocks {
+    pub buffer: Vec<u8>,
+    /// The addresses of the blocks that are held.
+    pub held: [Option<u32>; 3],
+}
+
+impl Blocks {
+    ghost use Rattle.ffs_walk.specs.Windows.{BlocksHold, HasRoom, level_bytes};
+
+    /// Blocks that hold nothing, over a buffer of at least three blocks' bytes. It takes no memory.
+    pub fn over(buffer: Vec<u8>) -> Blocks
+        ensures buffer { result.buffer ≡ buffer }
+        ensures holds { (layout : Layout) (told : Option (List ℕ)) → BlocksHold layout told result }
+    {
+        Blocks {
+            buffer,
+            held: [None; 3],
+        }
+    }
+
+    /// Reads the block at an address for a level of indirection, unless it is held there.
+    #[tactic(auto, using(crate::proofs::Areas::block_fits))]
+    pub fn fill<I: Image>(
+        &mut self,
+        geometry: &Geometry,
+        level: usize,
+        address: u32,
+        image: &mut I,
+    ) -> Result<(), ImageFault>
+        requires level { level < 3 }
+        requires in_range { IsTrue (is_in_range geometry.now.layout address geometry.now.layout.frag) }
+        requires volume { geometry.now.layout.size * geometry.now.layout.fsize ≤ (I.device image.old).size }
+        requires room { HasRoom geometry.now.layout self.old }
+        requires holds { BlocksHold geometry.now.layout (I.device image.old).told self.old }
+        ensures size { vec_len self.new.buffer ≡ vec_len self.old.buffer }
+        ensures holds { BlocksHold geometry.now.layout (I.device image.new).told self.new }
+        ensures bytes { OnOk result (WhereTold (I.device image.old).told (λ b. level_bytes geometry.now.layout level self.new ≡ block_bytes geometry.now.layout b address)) }
+        ensures ok { OnOk result (I.device image.new ≡ I.device image.old) }
+        ensures err { IfErr result (λ fault. Faulted (I.device image.old) (I.device image.new) fault.sector) }
+    {
+        if self.held[level] == Some(address) {
+            return Ok(());
+        }
+        self.held[level] = None;
+        let size = geometry.layout.bsize as usize;
+        let start = level * size;
+        let place = u64::from(address) * u64::from(geometry.layout.fsize);
+        image.read_at(place, &mut self.buffer[start..start + size])?;
+        self.held[level] = Some(address);
+        Ok(())
+    }
+
+    /// The bytes for a level of indirection.
+    pub fn bytes(&self, geometry: &Geometry, level: usize) -> &[u8]
+        requires level { level < 3 }
+        requires room { HasRoom geometry.now.layout self.now }
+        ensures bytes { result.now ≡ level_bytes geometry.now.layout level self.now }
+        ensures length { length result.now ≡ geometry.now.layout.bsize }
+    {
+        let size = geometry.layout.bsize as usize;
+        let start = level * size;
+        &self.buffer[start..start + size]
+    }
+}

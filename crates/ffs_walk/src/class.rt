@@ -1,0 +1,148 @@
+//! What an inode is, and which of its addresses it uses.
+
+ghost use Rattle.std.specs.Prelude.{◌≡◌, ◌*◌, ◌+◌, ◌<◌, ◌≤◌, ◌^◌, if◌then◌else◌};
+ghost use Rattle.ffs_volume.specs.Inodes as inodes;
+ghost use Rattle.ffs_volume.specs.Steps as steps;
+
+use ffs_layout::Geometry;
+use ffs_volume::{Class, Inode};
+
+/// How many of the fifteen addresses are used by so many logical blocks.
+pub fn used_addresses(words: u64, blocks: u64) -> u32
+    requires { words ≤ 16384 }
+    ensures value { result ≡ inodes.used_addresses words blocks }
+    ensures bound { result ≤ 15 }
+{
+    if blocks < 13 {
+        blocks as u32
+    } else if 12 + words < blocks {
+        if 12 + words + words * words < blocks {
+            15
+        } else {
+            14
+        }
+    } else {
+        13
+    }
+}
+
+/// How many fragments the last logical block has, where it is direct.
+pub fn last_length(geometry: &Geometry, inode: &Inode) -> u32
+    ensures value { result ≡ steps.last_of geometry.now.layout inode.now }
+    ensures some { 0 < result }
+    ensures small { result ≤ geometry.now.layout.frag }
+{
+    let over = inode.size % u64::from(geometry.layout.bsize);
+    if over == 0 {
+        geometry.layout.frag
+    } else {
+        over.div_ceil(u64::from(geometry.layout.fsize)) as u32
+    }
+}
+
+fn is_short_symlink(geometry: &Geometry, inode: &Inode) -> bool
+    ensures { result ≡ inodes.is_short_symlink geometry.now.layout inode.now }
+{
+    inode.mode / 4096 == 10 && inode.size < u64::from(geometry.layout.maxsymlinklen)
+}
+
+fn is_any_set(addresses: &[u32]) -> bool
+    ensures { result ≡ inodes.is_any_set addresses.now }
+{
+    addresses.iter().any(|a| *a != 0)
+}
+
+/// Whether an inode has steps.
+fn has_steps(geometry: &Geometry, inode: &Inode) -> bool
+    ensures { result ≡ steps.walks geometry.now.layout inode.now }
+{
+    let kind = inode.mode / 4096;
+    let walks = match class_of(geometry, inode) {
+        Class::File | Class::Dir => true,
+        _ => false,
+    };
+    walks && !(kind == 2 || kind == 6 || is_short_symlink(geometry, inode))
+}
+
+/// The greatest size that the addresses can serve.
+#[tactic(auto, using(crate::proofs::Sizes::products_small))]
+fn greatest_size(geometry: &Geometry) -> u64
+    ensures { result ≡ (12 + geometry.now.layout.nindir + geometry.now.layout.nindir * geometry.now.layout.nindir + geometry.now.layout.nindir * geometry.now.layout.nindir * geometry.now.layout.nindir) * geometry.now.layout.bsize }
+{
+    let words = u64::from(geometry.layout.nindir);
+    let squared = words * words;
+    let cubed = squared * words;
+    (12 + words + squared + cubed) * u64::from(geometry.layout.bsize)
+}
+
+/// How many logical blocks an inode's size comes to.
+#[tactic(auto, using(crate::proofs::Sizes::blocks_small))]
+fn blocks_of(geometry: &Geometry, inode: &Inode) -> u64
+    ensures value { result ≡ inodes.blocks_of geometry.now.layout inode.now }
+    ensures small { result < 2 ^ 53 }
+{
+    inode.size.div_ceil(u64::from(geometry.layout.bsize))
+}
+
+/// How many logical blocks of an inode a walk goes over.
+pub fn walked_blocks(geometry: &Geometry, inode: &Inode) -> u64
+    ensures value { result ≡ (if steps.walks geometry.now.layout inode.now then inodes.blocks_of geometry.now.layout inode.now else 0) }
+    ensures small { result < 2 ^ 53 }
+{
+    if has_steps(geometry, inode) {
+        blocks_of(geometry, inode)
+    } else {
+        0
+    }
+}
+
+/// How many of its fifteen addresses an inode may use.
+fn addresses_used(geometry: &Geometry, inode: &Inode) -> usize
+    ensures value { result ≡ inodes.addresses_used geometry.now.layout inode.now }
+    ensures bound { result ≤ 15 }
+{
+    let kind = inode.mode / 4096;
+    if is_short_symlink(geometry, inode) {
+        return inode.size.div_ceil(4) as usize;
+    }
+    let blocks = blocks_of(geometry, inode);
+    let counted = if kind == 2 || kind == 6 {
+        blocks + 1
+    } else {
+        blocks
+    };
+    used_addresses(u64::from(geometry.layout.nindir), counted) as usize
+}
+
+fn is_known_type(kind: u16) -> bool
+    ensures { result ≡ inodes.is_known_type kind }
+{
+    kind == 1
+        || (kind == 2 || (kind == 4 || (kind == 6 || (kind == 8 || (kind == 10 || kind == 12)))))
+}
+
+/// The class of an inode.
+#[tactic(auto, unfolding(ffs_volume::specs::Inodes::class_of))]
+pub fn class_of(geometry: &Geometry, inode: &Inode) -> Class
+    ensures { result ≡ inodes.class_of geometry.now.layout inode.now }
+{
+    let kind = inode.mode / 4096;
+    if kind == 0 {
+        return if inode.mode == 0 && inode.size == 0 && !is_any_set(&inode.addresses) {
+            Class::Free
+        } else {
+            Class::Partial
+        };
+    }
+    if !is_known_type(kind) {
+        return Class::Unknown;
+    }
+    if greatest_size(geometry) < inode.size || kind == 4 && 2147483647 < inode.size {
+        return Class::Unknown;
+    }
+    let used = addresses_used(geometry, inode);
+    if is_any_set(&inode.addresses[used..]) {
+        return Class::Unknown;
+    }
+    if kind == 4 { Class::Dir } else { Class::File }
+}

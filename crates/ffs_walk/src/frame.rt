@@ -1,0 +1,107 @@
+//! Where a walk stands in an indirect block.
+
+ghost use Rattle.std.specs.Prelude.{◌≡◌, ◌-◌, ◌*◌, ◌+◌, ◌<◌, ◌≤◌, ◌^◌, ◌++◌, ◌∷◌, ℕ, List, [], length, vec_len, Ok, None, OnOk, IfOk, IfErr, IfSome, MatchOption, IsTrue, false, not, ◌||◌, nat_lt, ◌↔◌};
+
+use crate::blocks::Blocks;
+use crate::words::{any_from, word};
+use ffs_image::{Image, ImageFault};
+use ffs_layout::Geometry;
+
+/// Where a walk stands in an indirect block.
+#[derive(Clone, Copy, Debug)]
+pub struct Frame {
+    /// The block's address.
+    pub address: u32,
+    /// The first logical block under it.
+    pub first: u64,
+    /// The index of the next word, and how many words are used.
+    pub next: u32,
+    pub used: u32,
+    /// Whether it isn't known yet that no other word is set.
+    pub fresh: bool,
+    ghost in_order: { next ≤ used },
+    ghost some: { IsTrue (not fresh || nat_lt next used) },
+}
+
+/// What comes next in an indirect block.
+#[derive(Clone, Copy, Debug)]
+pub enum Item {
+    /// A word that isn't used is set.
+    Missing,
+    /// A used word, and the first logical block under it.
+    Word { address: u32, block: u64 },
+}
+
+impl Frame {
+    ghost use Rattle.std.specs.Prelude.{MatchResult};
+    ghost use Rattle.ffs_image.specs.Device.{Faulted, WhereTold};
+    ghost use Rattle.ffs_volume.specs.Areas.{is_in_range};
+    ghost use Rattle.ffs_volume.specs.declared.Step.{Step};
+    ghost use Rattle.ffs_walk.specs.Fits.{IsSpent};
+    ghost use Rattle.ffs_walk.specs.Windows.{BlocksHold, HasRoom};
+    ghost use Rattle.ffs_walk.specs.declared.frame.Item.TheVariants.{Missing, Word};
+    ghost use Rattle.ffs_walk.specs.Frames.{frame_rest, frame_left, item_steps, item_left, IsFrom};
+
+    /// A frame of no words.
+    pub fn spent() -> Frame
+        ensures next { result.next ≡ 0 }
+        ensures used { result.used ≡ 0 }
+        ensures fresh { result.fresh ≡ false }
+    {
+        Frame {
+            address: 0,
+            first: 0,
+            next: 0,
+            used: 0,
+            fresh: false,
+        }
+    }
+
+    /// Whether an item is left.
+    pub fn is_left(&self) -> bool
+        ensures left { IsTrue result ↔ (self.now.next < self.now.used) }
+        ensures spent { result ≡ false → IsSpent self.now }
+    {
+        self.next < self.used
+    }
+
+    /// Takes the next item of the block, and reads the block unless it is held for the level.
+    pub fn take<I: Image>(
+        &mut self,
+        geometry: &Geometry,
+        span: u64,
+        level: usize,
+        image: &mut I,
+        blocks: &mut Blocks,
+    ) -> Result<Item, ImageFault>
+        requires left { self.old.next < self.old.used }
+        requires in_range { IsTrue (is_in_range geometry.now.layout self.old.address geometry.now.layout.frag) }
+        requires words { self.old.used ≤ geometry.now.layout.nindir }
+        requires fits { self.old.first + self.old.next * span < 2 ^ 64 }
+        requires level { level < 3 }
+        requires volume { geometry.now.layout.size * geometry.now.layout.fsize ≤ (I.device image.old).size }
+        requires room { HasRoom geometry.now.layout blocks.old }
+        requires holds { BlocksHold geometry.now.layout (I.device image.old).told blocks.old }
+        ensures size { vec_len blocks.new.buffer ≡ vec_len blocks.old.buffer }
+        ensures holds { BlocksHold geometry.now.layout (I.device image.new).told blocks.new }
+        ensures item { IfOk result (λ item. IsFrom self.old span item) }
+        ensures steps { IfOk result (λ item. WhereTold (I.device image.old).told (λ bytes. (child : ℕ → ℕ → List Step) →
+            frame_rest geometry.now.layout bytes child span self.old ≡ item_steps child item ++ frame_rest geometry.now.layout bytes child span self.new)) }
+        ensures falls { IfOk result (λ item. (most : ℕ) → item_left most item + frame_left most self.new ≤ frame_left most self.old) }
+        ensures place { (self.new.address ≡ self.old.address) × (self.new.first ≡ self.old.first) × (self.new.used ≡ self.old.used) }
+        ensures ok { OnOk result (I.device image.new ≡ I.device image.old) }
+        ensures err { IfErr result (λ fault. Faulted (I.device image.old) (I.device image.new) fault.sector) }
+    {
+        blocks.fill(geometry, level, self.address, image)?;
+        let block = blocks.bytes(geometry, level);
+        let fresh = self.fresh;
+        self.fresh = false;
+        if fresh && any_from(geometry, block, self.used) {
+            return Ok(Item::Missing);
+        }
+        let address = word(geometry, block, self.next);
+        let block = self.first + u64::from(self.next) * span;
+        self.next += 1;
+        Ok(Item::Word { address, block })
+    }
+}

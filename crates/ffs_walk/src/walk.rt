@@ -1,0 +1,296 @@
+//! The walk over the blocks of an inode.
+
+ghost use Rattle.std.specs.Prelude.{◌≡◌, ◌-◌, ◌*◌, ◌+◌, ◌<◌, ◌≤◌, ◌^◌, ◌++◌, ◌∷◌, [], ℕ, List, length, vec_len, Ok, Err, None, OnOk, OnErr, IfOk, IfErr, IfSome, MatchOption, OnSome, IsTrue, false, ◌↔◌, MatchResult};
+ghost use Rattle.ffs_volume.specs.Inodes.{used_addresses};
+ghost use Rattle.ffs_walk.specs.Fits.{FrameFits};
+
+use crate::blocks::Blocks;
+use crate::class::{last_length, used_addresses, walked_blocks};
+use crate::frame::{Frame, Item};
+use ffs_image::{Image, ImageFault};
+use ffs_layout::Geometry;
+use ffs_volume::{Inode, Step};
+
+/// A walk over the blocks of an inode.
+#[derive(Clone, Copy, Debug)]
+pub struct Walk {
+    pub geometry: Geometry,
+    pub addresses: [u32; 15],
+    pub blocks: u64,
+    pub last: u32,
+    pub next: u32,
+    pub used: u32,
+    pub single: Frame,
+    pub double: Frame,
+    pub triple: Frame,
+    ghost in_order: { next ≤ used },
+    ghost in_array: { used ≤ 15 },
+    ghost used_fits: { used ≤ used_addresses geometry.layout.nindir blocks },
+    ghost last_some: { 0 < last },
+    ghost last_small: { last ≤ geometry.layout.frag },
+    ghost blocks_small: { blocks < 2 ^ 53 },
+    ghost single_fits: { FrameFits geometry.layout blocks 1 single },
+    ghost double_fits: { FrameFits geometry.layout blocks geometry.layout.nindir double },
+    ghost triple_fits: { FrameFits geometry.layout blocks (geometry.layout.nindir * geometry.layout.nindir) triple },
+}
+
+impl Walk {
+    ghost use Rattle.ffs_image.specs.Device.{Faulted, WhereTold};
+    ghost use Rattle.ffs_volume.specs.Steps.{data_step, indirect_steps, steps_at, steps_of};
+    ghost use Rattle.ffs_volume.specs.declared.Step.{Step};
+    ghost use Rattle.ffs_walk.specs.Fits.{IsSpent, IsBelow};
+    ghost use Rattle.ffs_walk.specs.Lengths.{HasLength};
+    ghost use Rattle.ffs_walk.specs.Frames.{frame_rest, frame_left, item_steps, item_left};
+    ghost use Rattle.ffs_walk.specs.Rests.{rest, left, most_at, extent_of, IsOver};
+    ghost use Rattle.ffs_walk.specs.Windows.{BlocksHold, HasRoom};
+
+    /// The step at the address of a data block.
+    fn data(&self, address: u32, block: u64) -> Step
+        ensures step { result ≡ data_step (extent_of self.now) address block }
+        ensures length { HasLength self.now.geometry.layout.frag result }
+    {
+        if address == 0 {
+            return Step::Gap;
+        }
+        let len = if block < 12 && block + 1 == self.blocks {
+            self.last
+        } else {
+            self.geometry.layout.frag
+        };
+        Step::Run {
+            start: address,
+            len,
+            block: Some(block),
+        }
+    }
+
+    /// The first step at the address of an indirect block, and the frame for the others.
+    fn enter(&self, span: u64, address: u32, first: u64) -> (Step, Frame)
+        requires span { 0 < span }
+        requires first { first < self.now.blocks }
+        ensures steps { (bytes : List ℕ) (child : ℕ → ℕ → List Step) →
+            indirect_steps (extent_of self.now) bytes child span address first
+            ≡ result.0 ∷ frame_rest self.now.geometry.layout bytes child span result.1 }
+        ensures length { HasLength self.now.geometry.layout.frag result.0 }
+        ensures left { (most : ℕ) → frame_left most result.1 ≤ 1 + self.now.geometry.layout.nindir * most }
+        ensures fits { FrameFits self.now.geometry.layout self.now.blocks span result.1 }
+    {
+        if address == 0 {
+            return (Step::Gap, Frame::spent());
+        }
+        let geometry = self.geometry;
+        let run = Step::Run {
+            start: address,
+            len: geometry.layout.frag,
+            block: None,
+        };
+        if !geometry.in_range(address, geometry.layout.frag) {
+            return (run, Frame::spent());
+        }
+        let used = u64::from(geometry.layout.nindir).min((self.blocks - first).div_ceil(span));
+        (
+            run,
+            Frame {
+                address,
+                first,
+                next: 0,
+                used: used as u32,
+                fresh: true,
+            },
+        )
+    }
+
+    /// The step that an item of the single frame stands for.
+    fn step_in_single(&self, item: Item) -> Step
+        ensures steps { (bytes : List ℕ) → item_steps (steps_at (extent_of self.now) bytes 0) item ≡ result ∷ [] }
+        ensures length { HasLength self.now.geometry.layout.frag result }
+    {
+        match item {
+            Item::Missing => Step::Tail,
+            Item::Word { address, block } => self.data(address, block),
+        }
+    }
+
+    /// The first step that an item of the double frame stands for; the others go into the single frame.
+    fn step_in_double(&mut self, item: Item) -> Step
+        requires spent { IsSpent self.old.single }
+        requires below { IsBelow self.old.blocks item }
+        ensures steps { (bytes : List ℕ) → item_steps (steps_at (extent_of self.old) bytes 1) item ++ rest bytes self.old ≡ result ∷ rest bytes self.new }
+        ensures length { HasLength self.old.geometry.layout.frag result }
+        ensures left { 1 + left self.new ≤ item_left (most_at self.old.geometry.layout.nindir 1) item + left self.old }
+        ensures geometry { self.new.geometry ≡ self.old.geometry }
+    {
+        match item {
+            Item::Missing => Step::Tail,
+            Item::Word { address, block } => {
+                let (step, frame) = self.enter(1, address, block);
+                self.single = frame;
+                step
+            }
+        }
+    }
+
+    /// The first step that an item of the triple frame stands for; the others go into the double frame.
+    fn step_in_triple(&mut self, item: Item) -> Step
+        requires single_spent { IsSpent self.old.single }
+        requires double_spent { IsSpent self.old.double }
+        requires below { IsBelow self.old.blocks item }
+        ensures steps { (bytes : List ℕ) → item_steps (steps_at (extent_of self.old) bytes 2) item ++ rest bytes self.old ≡ result ∷ rest bytes self.new }
+        ensures length { HasLength self.old.geometry.layout.frag result }
+        ensures left { 1 + left self.new ≤ item_left (most_at self.old.geometry.layout.nindir 2) item + left self.old }
+        ensures geometry { self.new.geometry ≡ self.old.geometry }
+    {
+        match item {
+            Item::Missing => Step::Tail,
+            Item::Word { address, block } => {
+                let words = u64::from(self.geometry.layout.nindir);
+                let (step, frame) = self.enter(words, address, block);
+                self.double = frame;
+                step
+            }
+        }
+    }
+
+    /// The first step at the next of the inode's own addresses; the others go into a frame.
+    fn step_at_top(&mut self) -> Option<Step>
+        requires single_spent { IsSpent self.old.single }
+        requires double_spent { IsSpent self.old.double }
+        requires triple_spent { IsSpent self.old.triple }
+        ensures steps { (bytes : List ℕ) → MatchOption result (rest bytes self.old ≡ []) (λ step. rest bytes self.old ≡ step ∷ rest bytes self.new) }
+        ensures length { IfSome result (λ step. HasLength self.old.geometry.layout.frag step) }
+        ensures left { MatchOption result (left self.old ≡ 0) (λ _. left self.new < left self.old) }
+        ensures none { result ≡ None → self.new ≡ self.old }
+        ensures over { (self.old.next ≡ self.old.used) ↔ (result ≡ None) }
+        ensures geometry { self.new.geometry ≡ self.old.geometry }
+    {
+        if self.next >= self.used {
+            return None;
+        }
+        let index = self.next;
+        let address = self.addresses[index as usize];
+        self.next += 1;
+        if index < 12 {
+            return Some(self.data(address, u64::from(index)));
+        }
+        let words = u64::from(self.geometry.layout.nindir);
+        match index {
+            12 => {
+                let (step, frame) = self.enter(1, address, 12);
+                self.single = frame;
+                Some(step)
+            }
+            13 => {
+                let (step, frame) = self.enter(words, address, 12 + words);
+                self.double = frame;
+                Some(step)
+            }
+            _ => {
+                let (step, frame) = self.enter(words * words, address, 12 + words + words * words);
+                self.triple = frame;
+                Some(step)
+            }
+        }
+    }
+
+    /// The next step, where no read fails.
+    fn advance<I: Image>(
+        &mut self,
+        image: &mut I,
+        blocks: &mut Blocks,
+    ) -> Result<Option<Step>, ImageFault>
+        requires volume { self.old.geometry.layout.size * self.old.geometry.layout.fsize ≤ (I.device image.old).size }
+        requires room { HasRoom self.old.geometry.layout blocks.old }
+        requires holds { BlocksHold self.old.geometry.layout (I.device image.old).told blocks.old }
+        ensures steps { IfOk result (λ o. WhereTold (I.device image.old).told (λ bytes.
+            MatchOption o (rest bytes self.old ≡ []) (λ step. rest bytes self.old ≡ step ∷ rest bytes self.new))) }
+        ensures length { IfOk result (λ o. IfSome o (λ step. HasLength self.old.geometry.layout.frag step)) }
+        ensures left { IfOk result (λ o. IfSome o (λ _. left self.new < left self.old)) }
+        ensures none { result ≡ Ok None → IsOver self.new }
+        ensures over { IsOver self.old → (result ≡ Ok None) × (self.new ≡ self.old) }
+        ensures geometry { self.new.geometry ≡ self.old.geometry }
+        ensures size { vec_len blocks.new.buffer ≡ vec_len blocks.old.buffer }
+        ensures holds { BlocksHold self.old.geometry.layout (I.device image.new).told blocks.new }
+        ensures ok { OnOk result (I.device image.new ≡ I.device image.old) }
+        ensures err { IfErr result (λ fault. Faulted (I.device image.old) (I.device image.new) fault.sector) }
+    {
+        let geometry = self.geometry;
+        let words = u64::from(geometry.layout.nindir);
+        if self.single.is_left() {
+            let item = self.single.take(&geometry, 1, 0, image, blocks)?;
+            return Ok(Some(self.step_in_single(item)));
+        }
+        if self.double.is_left() {
+            let item = self.double.take(&geometry, words, 1, image, blocks)?;
+            return Ok(Some(self.step_in_double(item)));
+        }
+        if self.triple.is_left() {
+            let item = self
+                .triple
+                .take(&geometry, words * words, 2, image, blocks)?;
+            return Ok(Some(self.step_in_triple(item)));
+        }
+        Ok(self.step_at_top())
+    }
+
+    /// Ends the walk.
+    fn stop(&mut self)
+        ensures over { IsOver self.new }
+        ensures geometry { self.new.geometry ≡ self.old.geometry }
+    {
+        self.single = Frame::spent();
+        self.double = Frame::spent();
+        self.triple = Frame::spent();
+        self.next = self.used;
+    }
+
+    /// The next step. After a read that failed the walk is over.
+    pub fn next<I: Image>(
+        &mut self,
+        image: &mut I,
+        blocks: &mut Blocks,
+    ) -> Result<Option<Step>, ImageFault>
+        requires volume { self.old.geometry.layout.size * self.old.geometry.layout.fsize ≤ (I.device image.old).size }
+        requires room { HasRoom self.old.geometry.layout blocks.old }
+        requires holds { BlocksHold self.old.geometry.layout (I.device image.old).told blocks.old }
+        ensures steps { IfOk result (λ o. WhereTold (I.device image.old).told (λ bytes.
+            MatchOption o (rest bytes self.old ≡ []) (λ step. rest bytes self.old ≡ step ∷ rest bytes self.new))) }
+        ensures length { IfOk result (λ o. IfSome o (λ step. HasLength self.old.geometry.layout.frag step)) }
+        ensures falls { IfOk result (λ o. IfSome o (λ _. left self.new < left self.old)) }
+        ensures none { result ≡ Ok None → IsOver self.new }
+        ensures over { IsOver self.old → result ≡ Ok None }
+        ensures fault { OnErr result (IsOver self.new) }
+        ensures geometry { self.new.geometry ≡ self.old.geometry }
+        ensures size { vec_len blocks.new.buffer ≡ vec_len blocks.old.buffer }
+        ensures holds { BlocksHold self.old.geometry.layout (I.device image.new).told blocks.new }
+        ensures ok { OnOk result (I.device image.new ≡ I.device image.old) }
+        ensures err { IfErr result (λ fault. Faulted (I.device image.old) (I.device image.new) fault.sector) }
+    {
+        match self.advance(image, blocks) {
+            Ok(step) => Ok(step),
+            Err(fault) => {
+                self.stop();
+                Err(fault)
+            }
+        }
+    }
+
+    /// A walk over the blocks of an inode.
+    #[tactic(auto, unfolding(ffs_volume::specs::Steps::steps_of))]
+    pub fn start(geometry: &Geometry, inode: &Inode) -> Walk
+        ensures steps { (bytes : List ℕ) → rest bytes result ≡ steps_of geometry.now.layout inode.now bytes }
+        ensures geometry { result.geometry ≡ geometry.now }
+    {
+        let blocks = walked_blocks(geometry, inode);
+        Walk {
+            geometry: *geometry,
+            addresses: inode.addresses,
+            blocks,
+            last: last_length(geometry, inode),
+            next: 0,
+            used: used_addresses(u64::from(geometry.layout.nindir), blocks),
+            single: Frame::spent(),
+            double: Frame::spent(),
+            triple: Frame::spent(),
+        }
+    }
+}

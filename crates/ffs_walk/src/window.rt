@@ -1,0 +1,79 @@
+//! A window on an image.
+
+ghost use Rattle.std.specs.Prelude.{◌≡◌, ◌+◌, ◌≤◌, ℕ, true, List, Option, length, vec_len, OnOk, OnErr, IfErr};
+ghost use Rattle.ffs_image.specs.Device.{Faulted, WhereTold};
+ghost use Rattle.ffs_volume.specs.Numbers.{piece};
+
+use ffs_image::{Image, ImageFault};
+
+/// A piece of an image that is kept between reads: bytes of one place, and of one image.
+#[derive(Drop)]
+pub struct Window {
+    pub buffer: Vec<u8>,
+    /// Where the bytes stand in the image.
+    pub place: u64,
+    /// How many bytes are held, at the buffer's front.
+    pub length: usize,
+}
+
+impl Window {
+    ghost use Rattle.ffs_walk.specs.Windows.{held_bytes, WindowHolds};
+
+    /// A window that holds nothing. It takes no memory.
+    pub fn over(buffer: Vec<u8>) -> Window
+        ensures buffer { result.buffer ≡ buffer }
+        ensures empty { result.length ≡ 0 }
+        ensures holds { (told : Option (List ℕ)) → WindowHolds told result }
+    {
+        Window {
+            buffer,
+            place: 0,
+            length: 0,
+        }
+    }
+
+    // Whether it holds just these bytes.
+    fn is_at(&self, place: u64, length: usize) -> bool
+        ensures place { result ≡ true → self.now.place ≡ place }
+        ensures length { result ≡ true → self.now.length ≡ length }
+    {
+        self.place == place && self.length == length
+    }
+
+    /// Reads `length` bytes at a place, in bytes, unless the window holds just these. After an `Err` it holds nothing.
+    pub fn fill<I: Image>(
+        &mut self,
+        image: &mut I,
+        place: u64,
+        length: usize,
+    ) -> Result<(), ImageFault>
+        requires room { length ≤ vec_len self.old.buffer }
+        requires inside { place + length ≤ (I.device image.old).size }
+        requires holds { WindowHolds (I.device image.old).told self.old }
+        ensures bytes { OnOk result (WhereTold (I.device image.old).told (λ b. held_bytes self.new ≡ piece place length b)) }
+        ensures length { OnOk result (self.new.length ≡ length) }
+        ensures place { OnOk result (self.new.place ≡ place) }
+        ensures empty { OnErr result (self.new.length ≡ 0) }
+        ensures room { vec_len self.new.buffer ≡ vec_len self.old.buffer }
+        ensures holds { WindowHolds (I.device image.new).told self.new }
+        ensures ok { OnOk result (I.device image.new ≡ I.device image.old) }
+        ensures err { IfErr result (λ fault. Faulted (I.device image.old) (I.device image.new) fault.sector) }
+    {
+        if self.is_at(place, length) {
+            return Ok(());
+        }
+        self.length = 0;
+        image.read_at(place, &mut self.buffer[0..length])?;
+        self.place = place;
+        self.length = length;
+        Ok(())
+    }
+
+    /// The bytes that it holds.
+    pub fn bytes(&self) -> &[u8]
+        requires { self.now.length ≤ vec_len self.now.buffer }
+        ensures { result.now ≡ held_bytes self.now }
+    {
+        &self.buffer[..self.length]
+    }
+}

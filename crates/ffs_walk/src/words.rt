@@ -1,0 +1,35 @@
+//! The words of an indirect block.
+
+ghost use Rattle.std.specs.Prelude.{◌≡◌, ◌*◌, ◌+◌, ◌≤◌, length};
+ghost use Rattle.ffs_volume.specs.Steps.{any_word_from, word_of};
+
+use byteorder::{BigEndian, ByteOrder, LittleEndian};
+use ffs_layout::Geometry;
+use ffs_volume::Order;
+
+/// The word at an index of a block.
+#[tactic(auto, unfolding(ffs_volume::specs::Numbers::number, ffs_volume::specs::Numbers::u32_at))]
+pub fn word(geometry: &Geometry, block: &[u8], index: u32) -> u32
+    requires { 4 * index + 4 ≤ length block.now }
+    ensures { result ≡ word_of geometry.now.layout block.now index }
+{
+    let place = 4 * index as usize;
+    match geometry.layout.order {
+        Order::Little => LittleEndian::read_u32(&block[place..]),
+        Order::Big => BigEndian::read_u32(&block[place..]),
+    }
+}
+
+/// Whether a word of a block from an index on isn't zero.
+pub fn any_from(geometry: &Geometry, block: &[u8], used: u32) -> bool
+    requires { length block.now ≡ geometry.now.layout.bsize }
+    ensures { result ≡ any_word_from geometry.now.layout block.now used }
+{
+    let words = geometry.layout.nindir;
+    for j in used..words {
+        if word(geometry, block, j) != 0 {
+            return true;
+        }
+    }
+    false
+}
