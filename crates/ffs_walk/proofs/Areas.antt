@@ -1,8 +1,7 @@
-use Rattle.std.proofs.Common.{◌≡◌, ℕ, ◌+◌, ◌-◌, ◌*◌, ◌<◌, ◌≤◌, Bool, true, IsTrue, arith}
+use Rattle.std.proofs.Common.{◌≡◌, ℕ, ◌+◌, ◌*◌, ◌<◌, ◌≤◌, true, IsTrue, arith}
 use Rattle.std.proofs.Math.Nat.{mul-le-mul_right}
-use Rattle.std.specs.Prelude.{nat_le, nat_lt, ◌&&◌, ◌||◌, ◌==◌}
 use Rattle.std.proofs.lemmas.Bool.Decides.{nat_tests}
-use Rattle.ffs_volume.specs.Areas.{is_in_range, cgbase, cgsblock, cgdmin}
+use Rattle.ffs_volume.specs.Areas.{is_in_range}
 use Rattle.ffs_volume.specs.RunLaws.{is_apart, in_range_is}
 use Rattle.ffs_volume.specs.Geometry.{IsGeometry}
 use Rattle.ffs_volume.specs.declared.Layout.{Layout}

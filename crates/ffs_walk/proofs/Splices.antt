@@ -1,6 +1,6 @@
 -- Blocks of which one is read anew.
 use Rattle.std.proofs.Common.{◌≡◌, ◌≢◌, ℕ, ◌+◌, ◌-◌, ◌*◌, ◌<◌, ◌≤◌, List, length, take, drop, Option, Some, None, ◌⊎◌, inl, inr, arith, sym, ap, ◌∙◌, slice_set}
-use Rattle.std.specs.Prelude.{Vec, get_or, refl, vec_len}
+use Rattle.std.specs.Prelude.{Vec, get_or, vec_len}
 use Rattle.std.specs.Vec.{with_items}
 use Rattle.std.proofs.Math.Nat.{mul-le-mul_right}
 use Rattle.std.proofs.lemmas.Bool.{cases_lt}

@@ -1,4 +1,4 @@
-use Rattle.std.proofs.Common.{◌≡◌, ℕ, ◌+◌, ◌-◌, ◌*◌, ◌<◌, ◌≤◌, Bool, true, false, List, [], ◌∷◌, ◌++◌, slice_index, append_assoc, Option, arith, rules, refl, ap, ◌∙◌, sym}
+use Rattle.std.proofs.Common.{◌≡◌, ℕ, ◌+◌, ◌-◌, ◌*◌, ◌<◌, ◌≤◌, List, [], ◌∷◌, ◌++◌, slice_index, append_assoc, Option, arith, refl, ◌∙◌}
 use Rattle.ffs_volume.specs.declared.Layout.{Layout}
 use Rattle.ffs_image.specs.Device.{WhereTold}
 use Rattle.ffs_volume.specs.Geometry.{IsGeometry}
@@ -9,7 +9,7 @@ use Rattle.ffs_walk.specs.Fits.{IsSpent}
 use Rattle.ffs_walk.specs.declared.frame.Item.{Item}
 use Rattle.ffs_walk.specs.Frames.{frame_rest, frame_left, item_steps}
 use Rattle.ffs_walk.specs.Rests.{extent_of, rest, single_rest, double_rest, triple_rest, top_rest, most_at, left}
-use Rattle.ffs_volume.specs.Steps.{Extent, data_step, indirect_steps, steps_at, steps_of_addresses, level_of, first_block, span_of}
+use Rattle.ffs_volume.specs.Steps.{Extent, data_step, indirect_steps, steps_at, steps_of_addresses, level_of, first_block}
 use Rattle.std.proofs.lemmas.Bool.Decides.{nat_tests}
 use Rattle.std.proofs.Math.Nat.{mul-le-mul_right}
 use Rattle.ffs_walk.proofs.Ranges.{flat_map_step}

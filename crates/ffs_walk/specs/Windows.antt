@@ -1,5 +1,5 @@
 -- What is kept of an image between reads.
-use Rattle.std.specs.Prelude.{◌≡◌, ◌+◌, ◌*◌, ◌<◌, ◌≤◌, ℕ, List, take, Option, Some, None, vec_len, get_or}
+use Rattle.std.specs.Prelude.{◌≡◌, ◌*◌, ◌<◌, ◌≤◌, ℕ, List, take, Option, Some, None, vec_len, get_or}
 use Rattle.ffs_image.specs.Device.{WhereTold}
 use Rattle.ffs_volume.specs.declared.Layout.{Layout}
 use Rattle.ffs_volume.specs.Numbers.{piece}

@@ -1,6 +1,6 @@
 //! The walk over the blocks of an inode.
 
-ghost use Rattle.std.specs.Prelude.{◌≡◌, ◌-◌, ◌*◌, ◌+◌, ◌<◌, ◌≤◌, ◌^◌, ◌++◌, ◌∷◌, [], ℕ, List, length, vec_len, Ok, Err, None, OnOk, OnErr, IfOk, IfErr, IfSome, MatchOption, OnSome, IsTrue, false, ◌↔◌, MatchResult};
+ghost use Rattle.std.specs.Prelude.{◌≡◌, ◌-◌, ◌*◌, ◌+◌, ◌<◌, ◌≤◌, ◌^◌, ◌++◌, ◌∷◌, [], ℕ, List, length, vec_len, Ok, Err, None, OnOk, OnErr, IfOk, IfErr, IfSome, MatchOption, OnSome, IsTrue, false, ◌↔◌, if◌then◌else◌};
 ghost use Rattle.ffs_volume.specs.Inodes.{used_addresses};
 ghost use Rattle.ffs_walk.specs.Fits.{FrameFits};
 
@@ -36,18 +36,21 @@ pub struct Walk {
 
 impl Walk {
     ghost use Rattle.ffs_image.specs.Device.{Faulted, WhereTold};
-    ghost use Rattle.ffs_volume.specs.Steps.{data_step, indirect_steps, steps_at, steps_of};
+    ghost use Rattle.ffs_volume.specs.Steps.{data_step, indirect_steps, steps_at, steps_of, walks};
+    ghost use Rattle.ffs_volume.specs.Inodes.{blocks_of};
     ghost use Rattle.ffs_volume.specs.declared.Step.{Step};
     ghost use Rattle.ffs_walk.specs.Fits.{IsSpent, IsBelow};
-    ghost use Rattle.ffs_walk.specs.Lengths.{HasLength};
+    ghost use Rattle.ffs_walk.specs.Lengths.{HasLength, IsWithin};
     ghost use Rattle.ffs_walk.specs.Frames.{frame_rest, frame_left, item_steps, item_left};
     ghost use Rattle.ffs_walk.specs.Rests.{rest, left, most_at, extent_of, IsOver};
     ghost use Rattle.ffs_walk.specs.Windows.{BlocksHold, HasRoom};
 
     /// The step at the address of a data block.
     fn data(&self, address: u32, block: u64) -> Step
+        requires { block < self.now.blocks }
         ensures step { result ≡ data_step (extent_of self.now) address block }
         ensures length { HasLength self.now.geometry.layout.frag result }
+        ensures within { IsWithin self.now.blocks result }
     {
         if address == 0 {
             return Step::Gap;
@@ -72,6 +75,7 @@ impl Walk {
             indirect_steps (extent_of self.now) bytes child span address first
             ≡ result.0 ∷ frame_rest self.now.geometry.layout bytes child span result.1 }
         ensures length { HasLength self.now.geometry.layout.frag result.0 }
+        ensures within { IsWithin self.now.blocks result.0 }
         ensures left { (most : ℕ) → frame_left most result.1 ≤ 1 + self.now.geometry.layout.nindir * most }
         ensures fits { FrameFits self.now.geometry.layout self.now.blocks span result.1 }
     {
@@ -102,8 +106,10 @@ impl Walk {
 
     /// The step that an item of the single frame stands for.
     fn step_in_single(&self, item: Item) -> Step
+        requires { IsBelow self.now.blocks item }
         ensures steps { (bytes : List ℕ) → item_steps (steps_at (extent_of self.now) bytes 0) item ≡ result ∷ [] }
         ensures length { HasLength self.now.geometry.layout.frag result }
+        ensures within { IsWithin self.now.blocks result }
     {
         match item {
             Item::Missing => Step::Tail,
@@ -117,8 +123,10 @@ impl Walk {
         requires below { IsBelow self.old.blocks item }
         ensures steps { (bytes : List ℕ) → item_steps (steps_at (extent_of self.old) bytes 1) item ++ rest bytes self.old ≡ result ∷ rest bytes self.new }
         ensures length { HasLength self.old.geometry.layout.frag result }
+        ensures within { IsWithin self.old.blocks result }
         ensures left { 1 + left self.new ≤ item_left (most_at self.old.geometry.layout.nindir 1) item + left self.old }
         ensures geometry { self.new.geometry ≡ self.old.geometry }
+        ensures blocks { self.new.blocks ≡ self.old.blocks }
     {
         match item {
             Item::Missing => Step::Tail,
@@ -137,8 +145,10 @@ impl Walk {
         requires below { IsBelow self.old.blocks item }
         ensures steps { (bytes : List ℕ) → item_steps (steps_at (extent_of self.old) bytes 2) item ++ rest bytes self.old ≡ result ∷ rest bytes self.new }
         ensures length { HasLength self.old.geometry.layout.frag result }
+        ensures within { IsWithin self.old.blocks result }
         ensures left { 1 + left self.new ≤ item_left (most_at self.old.geometry.layout.nindir 2) item + left self.old }
         ensures geometry { self.new.geometry ≡ self.old.geometry }
+        ensures blocks { self.new.blocks ≡ self.old.blocks }
     {
         match item {
             Item::Missing => Step::Tail,
@@ -158,10 +168,12 @@ impl Walk {
         requires triple_spent { IsSpent self.old.triple }
         ensures steps { (bytes : List ℕ) → MatchOption result (rest bytes self.old ≡ []) (λ step. rest bytes self.old ≡ step ∷ rest bytes self.new) }
         ensures length { IfSome result (λ step. HasLength self.old.geometry.layout.frag step) }
+        ensures within { IfSome result (λ step. IsWithin self.old.blocks step) }
         ensures left { MatchOption result (left self.old ≡ 0) (λ _. left self.new < left self.old) }
         ensures none { result ≡ None → self.new ≡ self.old }
         ensures over { (self.old.next ≡ self.old.used) ↔ (result ≡ None) }
         ensures geometry { self.new.geometry ≡ self.old.geometry }
+        ensures blocks { self.new.blocks ≡ self.old.blocks }
     {
         if self.next >= self.used {
             return None;
@@ -204,10 +216,12 @@ impl Walk {
         ensures steps { IfOk result (λ o. WhereTold (I.device image.old).told (λ bytes.
             MatchOption o (rest bytes self.old ≡ []) (λ step. rest bytes self.old ≡ step ∷ rest bytes self.new))) }
         ensures length { IfOk result (λ o. IfSome o (λ step. HasLength self.old.geometry.layout.frag step)) }
+        ensures within { IfOk result (λ o. IfSome o (λ step. IsWithin self.old.blocks step)) }
         ensures left { IfOk result (λ o. IfSome o (λ _. left self.new < left self.old)) }
         ensures none { result ≡ Ok None → IsOver self.new }
         ensures over { IsOver self.old → (result ≡ Ok None) × (self.new ≡ self.old) }
         ensures geometry { self.new.geometry ≡ self.old.geometry }
+        ensures blocks { self.new.blocks ≡ self.old.blocks }
         ensures size { vec_len blocks.new.buffer ≡ vec_len blocks.old.buffer }
         ensures holds { BlocksHold self.old.geometry.layout (I.device image.new).told blocks.new }
         ensures ok { OnOk result (I.device image.new ≡ I.device image.old) }
@@ -236,6 +250,7 @@ impl Walk {
     fn stop(&mut self)
         ensures over { IsOver self.new }
         ensures geometry { self.new.geometry ≡ self.old.geometry }
+        ensures blocks { self.new.blocks ≡ self.old.blocks }
     {
         self.single = Frame::spent();
         self.double = Frame::spent();
@@ -255,11 +270,13 @@ impl Walk {
         ensures steps { IfOk result (λ o. WhereTold (I.device image.old).told (λ bytes.
             MatchOption o (rest bytes self.old ≡ []) (λ step. rest bytes self.old ≡ step ∷ rest bytes self.new))) }
         ensures length { IfOk result (λ o. IfSome o (λ step. HasLength self.old.geometry.layout.frag step)) }
+        ensures within { IfOk result (λ o. IfSome o (λ step. IsWithin self.old.blocks step)) }
         ensures falls { IfOk result (λ o. IfSome o (λ _. left self.new < left self.old)) }
         ensures none { result ≡ Ok None → IsOver self.new }
         ensures over { IsOver self.old → result ≡ Ok None }
         ensures fault { OnErr result (IsOver self.new) }
         ensures geometry { self.new.geometry ≡ self.old.geometry }
+        ensures blocks { self.new.blocks ≡ self.old.blocks }
         ensures size { vec_len blocks.new.buffer ≡ vec_len blocks.old.buffer }
         ensures holds { BlocksHold self.old.geometry.layout (I.device image.new).told blocks.new }
         ensures ok { OnOk result (I.device image.new ≡ I.device image.old) }
@@ -279,6 +296,7 @@ impl Walk {
     pub fn start(geometry: &Geometry, inode: &Inode) -> Walk
         ensures steps { (bytes : List ℕ) → rest bytes result ≡ steps_of geometry.now.layout inode.now bytes }
         ensures geometry { result.geometry ≡ geometry.now }
+        ensures blocks { result.blocks ≡ (if walks geometry.now.layout inode.now then blocks_of geometry.now.layout inode.now else 0) }
     {
         let blocks = walked_blocks(geometry, inode);
         Walk {

@@ -1,4 +1,4 @@
-use Rattle.std.proofs.Common.{arith, rules, ◌+◌, ◌*◌, ◌<◌}
+use Rattle.std.proofs.Common.{arith}
 use Rattle.ffs_walk.proofs.Sizes.{size_small}
 use Rattle.ffs_walk.proofs.class.greatest_size.Goals as goal
 

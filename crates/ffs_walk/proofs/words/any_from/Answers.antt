@@ -1,4 +1,4 @@
-use Rattle.std.proofs.Common.{rules, arith, ◌∙◌, sym, ap, refl}
+use Rattle.std.proofs.Common.{◌∙◌, sym}
 use Rattle.ffs_volume.specs.Steps.{word_of}
 use Rattle.ffs_walk.proofs.Ranges.{any_word_step, any_word_here}
 use Rattle.ffs_walk.proofs.words.any_from.Goals as goal

@@ -1,4 +1,4 @@
-use Rattle.std.proofs.Common.{rules, arith, ◌≡◌, ◌-◌, ◌*◌, ◌+◌, ◌<◌, ◌≤◌, ◌∙◌, sym, ap, refl, length}
+use Rattle.std.proofs.Common.{rules, arith, ◌≡◌, ◌∙◌, ap, refl, length}
 use Rattle.ffs_walk.proofs.Splices.{held_without, held_with}
 use Rattle.ffs_walk.proofs.blocks.Blocks.fill.Goals as goal
 

@@ -1,4 +1,4 @@
-use Rattle.std.proofs.Common.{rules, arith, ◌≡◌, ◌∙◌, ◌<◌, ◌*◌, ◌+◌, ◌-◌, sym, ap, refl}
+use Rattle.std.proofs.Common.{arith, ◌*◌, ◌+◌, ◌-◌, refl}
 use Rattle.ffs_walk.specs.Frames.{frame_left, item_left}
 use Rattle.ffs_walk.specs.Rests.{rest, most_at}
 use Rattle.ffs_walk.proofs.FrameSteps.{item_below, word_fits, item_one, falls_by}
@@ -55,3 +55,8 @@ take-requires-then-is_left-2-clause-fits g c =
 
 pub returns-clause-steps : goal.returns-clause-steps
 returns-clause-steps g c = λ bytes tells. c.step_at_top.ensures.steps bytes
+
+pub step_in_single-requires : goal.step_in_single-requires
+step_in_single-requires g c =
+    let w = c.args.self.now in
+    item_below w.geometry.layout w.blocks 1 w.single c.in_ok-item.item (omega arith) w.single_fits c.in_ok-item.ensures.item

@@ -1,4 +1,4 @@
-use Rattle.std.proofs.Common.{rules, arith}
+use Rattle.std.proofs.Common.{arith}
 use Rattle.ffs_walk.proofs.FrameSteps.{entered_left}
 use Rattle.ffs_walk.proofs.walk.Walk.enter.Goals as goal
 

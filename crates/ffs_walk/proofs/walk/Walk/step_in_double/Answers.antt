@@ -1,4 +1,4 @@
-use Rattle.std.proofs.Common.{rules, arith, ◌≡◌, ◌∙◌, sym, ap, refl}
+use Rattle.std.proofs.Common.{refl}
 use Rattle.ffs_walk.specs.Rests.{extent_of}
 use Rattle.ffs_volume.specs.Steps.{steps_at}
 use Rattle.ffs_walk.proofs.WalkSteps.{in_double}

@@ -1,4 +1,3 @@
-use Rattle.std.proofs.Common.{rules, arith, ◌≡◌, ◌∙◌, sym, ap, refl}
 use Rattle.ffs_walk.proofs.WalkSteps.{steps_zero}
 use Rattle.ffs_walk.proofs.walk.Walk.step_in_single.Goals as goal
 

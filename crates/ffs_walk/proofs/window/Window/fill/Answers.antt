@@ -1,4 +1,4 @@
-use Rattle.std.proofs.Common.{rules, arith, ◌≡◌, ◌∙◌, ◌-◌, ap, refl, length}
+use Rattle.std.proofs.Common.{rules, arith, ◌≡◌, ◌∙◌, ◌-◌, refl, length}
 use Rattle.ffs_walk.proofs.Splices.{window_with}
 use Rattle.ffs_walk.proofs.window.Window.fill.Goals as goal
 
