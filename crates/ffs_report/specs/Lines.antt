@@ -1,11 +1,13 @@
 -- The message of a line.
 use Rattle.ffs_volume.specs.Messages.{Message, location, opening, bad_super, cannot_read, cannot_alloc, optimization, minfree, mounted, phase1, phase1b, phase2, phase3, phase4, phase5, of_blocks, of_names, summary, NameMessage, root_none, root_not_dir, root_suspect, dir_short, dir_length, dir_empty, dir_corrupt, missing_dot, missing_dot_first, number_dot, kind_dot, missing_dotdot, missing_dotdot_second, number_dotdot, kind_dotdot, extra_dot, extra_dotdot, out_of_range, whiteout, unallocated, dup_bad, zero_dir, extraneous, kind_entry, unref_dir, dead_marked, dead_zero, unref, unref_zero, link_count}
 use Rattle.ffs_report.specs.declared.line.Line.{Line}
-use Rattle.ffs_report.specs.declared.line.Line.TheVariants.{Location, Opening, BadSuper, CannotRead, CannotAlloc, Optimization, Minfree, Mounted, Heading, Block, Directory, Entry, Reference, Summary}
+use Rattle.ffs_report.specs.declared.line.Line.TheVariants.{Location, Opening, BadSuper, CannotRead, CannotAlloc, Optimization, Minfree, Mounted, Heading, Block, Directory, Dot, Entry, Reference, Summary}
 use Rattle.ffs_report.specs.declared.line.Heading.{Heading as HeadingLine}
 use Rattle.ffs_report.specs.declared.line.Heading.TheVariants.{Phase1, Phase1b, Phase2, Phase3, Phase4, Phase5}
 use Rattle.ffs_report.specs.declared.line.DirectoryLine.{DirectoryLine}
-use Rattle.ffs_report.specs.declared.line.DirectoryLine.TheVariants.{RootNone, RootNotDir, RootSuspect, DirShort, DirLength, DirEmpty, DirCorrupt, MissingDot, MissingDotFirst, NumberDot, KindDot, MissingDotdot, MissingDotdotSecond, NumberDotdot, KindDotdot, ExtraDot, ExtraDotdot}
+use Rattle.ffs_report.specs.declared.line.DirectoryLine.TheVariants.{RootNone, RootNotDir, RootSuspect, DirShort, DirLength, DirEmpty, DirCorrupt}
+use Rattle.ffs_report.specs.declared.line.DotLine.{DotLine}
+use Rattle.ffs_report.specs.declared.line.DotLine.TheVariants.{MissingDot, MissingDotFirst, NumberDot, KindDot, MissingDotdot, MissingDotdotSecond, NumberDotdot, KindDotdot, ExtraDot, ExtraDotdot}
 use Rattle.ffs_report.specs.declared.line.EntryLine.{EntryLine}
 use Rattle.ffs_report.specs.declared.line.EntryLine.TheVariants.{OutOfRange, Whiteout, Unallocated, DupBad, ZeroDir, Extraneous, KindEntry}
 use Rattle.ffs_report.specs.declared.line.ReferenceLine.{ReferenceLine}
@@ -27,16 +29,18 @@ directory_message (DirShort attr path) = dir_short attr path.now
 directory_message (DirLength path size) = dir_length path.now size
 directory_message (DirEmpty path) = dir_empty path.now
 directory_message (DirCorrupt attr path) = dir_corrupt attr path.now
-directory_message (MissingDot attr path) = missing_dot attr path.now
-directory_message (MissingDotFirst attr path name) = missing_dot_first attr path.now name.now
-directory_message (NumberDot attr path) = number_dot attr path.now
-directory_message (KindDot attr path) = kind_dot attr path.now
-directory_message (MissingDotdot attr path) = missing_dotdot attr path.now
-directory_message (MissingDotdotSecond attr path name) = missing_dotdot_second attr path.now name.now
-directory_message (NumberDotdot attr path) = number_dotdot attr path.now
-directory_message (KindDotdot attr path) = kind_dotdot attr path.now
-directory_message (ExtraDot attr path) = extra_dot attr path.now
-directory_message (ExtraDotdot attr path) = extra_dotdot attr path.now
+
+abbrev pub dot_message : DotLine → NameMessage
+dot_message (MissingDot attr path) = missing_dot attr path.now
+dot_message (MissingDotFirst attr path name) = missing_dot_first attr path.now name.now
+dot_message (NumberDot attr path) = number_dot attr path.now
+dot_message (KindDot attr path) = kind_dot attr path.now
+dot_message (MissingDotdot attr path) = missing_dotdot attr path.now
+dot_message (MissingDotdotSecond attr path name) = missing_dotdot_second attr path.now name.now
+dot_message (NumberDotdot attr path) = number_dotdot attr path.now
+dot_message (KindDotdot attr path) = kind_dotdot attr path.now
+dot_message (ExtraDot attr path) = extra_dot attr path.now
+dot_message (ExtraDotdot attr path) = extra_dotdot attr path.now
 
 abbrev pub entry_message : EntryLine → NameMessage
 entry_message (OutOfRange number path) = out_of_range number path.now
@@ -67,6 +71,7 @@ message_of (Mounted mount) = mounted mount.now
 message_of (Heading heading) = heading_message heading
 message_of (Block message) = of_blocks message
 message_of (Directory line) = of_names (directory_message line)
+message_of (Dot line) = of_names (dot_message line)
 message_of (Entry line) = of_names (entry_message line)
 message_of (Reference line) = of_names (reference_message line)
 message_of (Summary files used free frags blocks tenths) = summary files used free frags blocks tenths

@@ -8,11 +8,12 @@ pub mod names;
 pub mod output;
 pub mod piece;
 pub mod print;
+pub mod questions;
 pub mod report;
 pub mod say;
 
 pub use counted::Counted;
 pub use fuse::FuseWriter;
-pub use line::{DirectoryLine, EntryLine, Heading, Line, ReferenceLine};
+pub use line::{DirectoryLine, DotLine, EntryLine, Heading, Line, ReferenceLine};
 pub use output::{OutFault, Output};
 pub use report::Report;

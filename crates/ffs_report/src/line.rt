@@ -34,9 +34,11 @@ pub enum Line<'a> {
     Heading(Heading),
     /// The block check, or the check of cylinder groups.
     Block(BlockMessage),
-    /// A directory.
+    /// A directory as a whole.
     Directory(DirectoryLine<'a>),
-    /// An entry of a directory.
+    /// The entries `.` and `..` of a directory.
+    Dot(DotLine<'a>),
+    /// A further entry of a directory.
     Entry(EntryLine<'a>),
     /// An inode by the entries that name it.
     Reference(ReferenceLine),
@@ -63,28 +65,22 @@ pub enum Heading {
     Phase5,
 }
 
-/// What is wrong with a directory: its own attributes and its path (dir(5)).
+/// What is wrong with a directory as a whole: its own attributes and its path (dir(5)).
 #[derive(Clone, Copy, Debug)]
 pub enum DirectoryLine<'a> {
     RootNone,
     RootNotDir,
     RootSuspect,
-    DirShort {
-        attr: Attr,
-        path: &'a [u8],
-    },
+    DirShort { attr: Attr, path: &'a [u8] },
     /// The size in bytes.
-    DirLength {
-        path: &'a [u8],
-        size: u64,
-    },
-    DirEmpty {
-        path: &'a [u8],
-    },
-    DirCorrupt {
-        attr: Attr,
-        path: &'a [u8],
-    },
+    DirLength { path: &'a [u8], size: u64 },
+    DirEmpty { path: &'a [u8] },
+    DirCorrupt { attr: Attr, path: &'a [u8] },
+}
+
+/// What is wrong with the entries `.` and `..` of a directory: its attributes and its path (dir(5)).
+#[derive(Clone, Copy, Debug)]
+pub enum DotLine<'a> {
     MissingDot {
         attr: Attr,
         path: &'a [u8],

@@ -2,14 +2,25 @@
 ghost use Rattle.std.specs.Prelude.{◌≡◌};
 ghost use Rattle.ffs_report.specs.Sink.{Prints};
 ghost use Rattle.ffs_report.specs.Piece.{pieces_text};
-ghost use Rattle.ffs_report.specs.Lines.{directory_message, entry_message, reference_message};
+ghost use Rattle.ffs_report.specs.Lines.{directory_message, dot_message, entry_message, reference_message};
+ghost use Rattle.ffs_volume.specs.declared.Label.TheVariants.{Dir};
 ghost use Rattle.ffs_volume.specs.Texts.{path_label, file_label, attr_text, inode_text, kind_text, path_text, name_in_the_way, length_text, empty_text, entry_text, extraneous_text, links_text, name_text};
 
-use crate::line::{DirectoryLine, EntryLine, ReferenceLine};
+use crate::line::{DirectoryLine, DotLine, EntryLine, ReferenceLine};
 use crate::output::{OutFault, Output};
 use crate::piece::Piece;
 use crate::print::{print, print_pieces};
+use crate::questions::{CLEAR, FIX, RECONNECT, REMOVE, SALVAGE};
 use ffs_volume::{Attr, Label};
+
+/// The entry in the way is the first one.
+const FIRST_ENTRY: &[u8] = b"\nCANNOT FIX, FIRST ENTRY IN DIRECTORY CONTAINS ";
+
+/// The entry in the way is the second one.
+const SECOND_ENTRY: &[u8] = b"\nCANNOT FIX, SECOND ENTRY IN DIRECTORY CONTAINS ";
+
+/// Two questions.
+const RECONNECT_OR_CLEAR: &[u8] = b"\nRECONNECT? no\n\nCLEAR? no\n\n";
 
 fn file_label(label: Label) -> &'static [u8]
     ensures { result.now ≡ file_label label }
@@ -227,7 +238,21 @@ fn print_links<W: Output>(
     )
 }
 
-/// What is wrong with a directory.
+/// A directory with its attributes and its path.
+fn print_dir<'x, W: Output>(
+    out: &mut W,
+    head: &'x [u8],
+    attr: &Attr,
+    path: &'x [u8],
+    tail: &'x [u8],
+) -> Result<(), OutFault>
+    ensures lent { W.lent out.new ≡ W.lent out.old }
+    ensures printed { Prints (W.sink out.old) (W.sink out.new) (path_text head.now attr.now Dir path.now tail.now) result }
+{
+    print_path(out, head, attr, Label::Dir, path, tail)
+}
+
+/// What is wrong with a directory as a whole.
 pub fn print_directory<W: Output>(out: &mut W, line: &DirectoryLine<'_>) -> Result<(), OutFault>
     ensures lent { W.lent out.new ≡ W.lent out.old }
     ensures printed { Prints (W.sink out.old) (W.sink out.new) (name_text (directory_message line.now)) result }
@@ -242,108 +267,89 @@ pub fn print_directory<W: Output>(out: &mut W, line: &DirectoryLine<'_>) -> Resu
             out,
             b"DUPS/BAD IN ROOT INODE\nREALLOCATE? no\n\nCONTINUE? yes\n\n",
         ),
-        DirectoryLine::DirLength { path, size } => print_length(out, path, size),
-        DirectoryLine::DirEmpty { path } => print_empty(out, path),
-        DirectoryLine::DirShort { attr, path } => print_path(
+        DirectoryLine::DirShort { attr, path } => print_dir(
             out,
             b"DIRECTORY TOO SHORT ",
             &attr,
-            Label::Dir,
             path,
-            b"\nFIX? no\n\n",
+            FIX,
         ),
-        DirectoryLine::DirCorrupt { attr, path } => print_path(
+        DirectoryLine::DirLength { path, size } => print_length(out, path, size),
+        DirectoryLine::DirEmpty { path } => print_empty(out, path),
+        DirectoryLine::DirCorrupt { attr, path } => print_dir(
             out,
             b"DIRECTORY CORRUPTED ",
             &attr,
-            Label::Dir,
             path,
-            b"\nSALVAGE? no\n\n",
-        ),
-        DirectoryLine::MissingDot { attr, path } => print_path(
-            out,
-            b"MISSING '.' ",
-            &attr,
-            Label::Dir,
-            path,
-            b"\nFIX? no\n\n",
-        ),
-        DirectoryLine::MissingDotFirst { attr, path, name } => print_in_the_way(
-            out,
-            b"MISSING '.' ",
-            &attr,
-            path,
-            b"\nCANNOT FIX, FIRST ENTRY IN DIRECTORY CONTAINS ",
-            name,
-        ),
-        DirectoryLine::NumberDot { attr, path } => print_path(
-            out,
-            b"BAD INODE NUMBER FOR '.' ",
-            &attr,
-            Label::Dir,
-            path,
-            b"\nFIX? no\n\n",
-        ),
-        DirectoryLine::KindDot { attr, path } => print_path(
-            out,
-            b"BAD TYPE VALUE FOR '.' ",
-            &attr,
-            Label::Dir,
-            path,
-            b"\nFIX? no\n\n",
-        ),
-        DirectoryLine::MissingDotdot { attr, path } => print_path(
-            out,
-            b"MISSING '..' ",
-            &attr,
-            Label::Dir,
-            path,
-            b"\nFIX? no\n\n",
-        ),
-        DirectoryLine::MissingDotdotSecond { attr, path, name } => print_in_the_way(
-            out,
-            b"MISSING '..' ",
-            &attr,
-            path,
-            b"\nCANNOT FIX, SECOND ENTRY IN DIRECTORY CONTAINS ",
-            name,
-        ),
-        DirectoryLine::NumberDotdot { attr, path } => print_path(
-            out,
-            b"BAD INODE NUMBER FOR '..' ",
-            &attr,
-            Label::Dir,
-            path,
-            b"\nFIX? no\n\n",
-        ),
-        DirectoryLine::KindDotdot { attr, path } => print_path(
-            out,
-            b"BAD TYPE VALUE FOR '..' ",
-            &attr,
-            Label::Dir,
-            path,
-            b"\nFIX? no\n\n",
-        ),
-        DirectoryLine::ExtraDot { attr, path } => print_path(
-            out,
-            b"EXTRA '.' ENTRY ",
-            &attr,
-            Label::Dir,
-            path,
-            b"\nFIX? no\n\n",
-        ),
-        DirectoryLine::ExtraDotdot { attr, path } => print_path(
-            out,
-            b"EXTRA '..' ENTRY ",
-            &attr,
-            Label::Dir,
-            path,
-            b"\nFIX? no\n\n",
+            SALVAGE,
         ),
     }
 }
 
-/// What is wrong with an entry of a directory.
+/// What is wrong with the entries `.` and `..` of a directory.
+pub fn print_dot<W: Output>(out: &mut W, line: &DotLine<'_>) -> Result<(), OutFault>
+    ensures lent { W.lent out.new ≡ W.lent out.old }
+    ensures printed { Prints (W.sink out.old) (W.sink out.new) (name_text (dot_message line.now)) result }
+{
+    match *line {
+        DotLine::MissingDot { attr, path } => print_dir(out, b"MISSING '.' ", &attr, path, FIX),
+        DotLine::MissingDotFirst { attr, path, name } => print_in_the_way(
+            out,
+            b"MISSING '.' ",
+            &attr,
+            path,
+            FIRST_ENTRY,
+            name,
+        ),
+        DotLine::NumberDot { attr, path } => print_dir(
+            out,
+            b"BAD INODE NUMBER FOR '.' ",
+            &attr,
+            path,
+            FIX,
+        ),
+        DotLine::KindDot { attr, path } => print_dir(
+            out,
+            b"BAD TYPE VALUE FOR '.' ",
+            &attr,
+            path,
+            FIX,
+        ),
+        DotLine::MissingDotdot { attr, path } => print_dir(out, b"MISSING '..' ", &attr, path, FIX),
+        DotLine::MissingDotdotSecond { attr, path, name } => print_in_the_way(
+            out,
+            b"MISSING '..' ",
+            &attr,
+            path,
+            SECOND_ENTRY,
+            name,
+        ),
+        DotLine::NumberDotdot { attr, path } => print_dir(
+            out,
+            b"BAD INODE NUMBER FOR '..' ",
+            &attr,
+            path,
+            FIX,
+        ),
+        DotLine::KindDotdot { attr, path } => print_dir(
+            out,
+            b"BAD TYPE VALUE FOR '..' ",
+            &attr,
+            path,
+            FIX,
+        ),
+        DotLine::ExtraDot { attr, path } => print_dir(out, b"EXTRA '.' ENTRY ", &attr, path, FIX),
+        DotLine::ExtraDotdot { attr, path } => print_dir(
+            out,
+            b"EXTRA '..' ENTRY ",
+            &attr,
+            path,
+            FIX,
+        ),
+    }
+}
+
+/// What is wrong with a further entry of a directory.
 pub fn print_entry<W: Output>(out: &mut W, line: &EntryLine<'_>) -> Result<(), OutFault>
     ensures lent { W.lent out.new ≡ W.lent out.old }
     ensures printed { Prints (W.sink out.old) (W.sink out.new) (name_text (entry_message line.now)) result }
@@ -354,14 +360,14 @@ pub fn print_entry<W: Output>(out: &mut W, line: &EntryLine<'_>) -> Result<(), O
             b"I OUT OF RANGE I=",
             number,
             path,
-            b"\nREMOVE? no\n\n",
+            REMOVE,
         ),
         EntryLine::Whiteout { number, path } => print_numbered(
             out,
             b"BAD WHITEOUT ENTRY I=",
             number,
             path,
-            b"\nFIX? no\n\n",
+            FIX,
         ),
         EntryLine::Unallocated { attr, path } => print_path(
             out,
@@ -369,7 +375,7 @@ pub fn print_entry<W: Output>(out: &mut W, line: &EntryLine<'_>) -> Result<(), O
             &attr,
             Label::Name,
             path,
-            b"\nREMOVE? no\n\n",
+            REMOVE,
         ),
         EntryLine::DupBad { label, attr, path } => print_path(
             out,
@@ -377,15 +383,14 @@ pub fn print_entry<W: Output>(out: &mut W, line: &EntryLine<'_>) -> Result<(), O
             &attr,
             label,
             path,
-            b"\nREMOVE? no\n\n",
+            REMOVE,
         ),
-        EntryLine::ZeroDir { attr, path } => print_path(
+        EntryLine::ZeroDir { attr, path } => print_dir(
             out,
             b"ZERO LENGTH DIRECTORY ",
             &attr,
-            Label::Dir,
             path,
-            b"\nREMOVE? no\n\n",
+            REMOVE,
         ),
         EntryLine::Extraneous { path, dir } => print_extraneous(out, path, dir),
         EntryLine::KindEntry { label, attr, path } => print_path(
@@ -394,7 +399,7 @@ pub fn print_entry<W: Output>(out: &mut W, line: &EntryLine<'_>) -> Result<(), O
             &attr,
             label,
             path,
-            b"\nFIX? no\n\n",
+            FIX,
         ),
     }
 }
@@ -409,34 +414,34 @@ pub fn print_reference<W: Output>(out: &mut W, line: &ReferenceLine) -> Result<(
             out,
             b"UNREF DIR ",
             &attr,
-            &[Piece::Text(b"\nRECONNECT? no\n\n")],
+            &[Piece::Text(RECONNECT)],
         ),
         ReferenceLine::DeadMarked { label, attr } => print_kind(
             out,
             b"BAD/DUP ",
             label,
             &attr,
-            &[Piece::Text(b"\nCLEAR? no\n\n")],
+            &[Piece::Text(CLEAR)],
         ),
         ReferenceLine::DeadZero { attr } => print_inode(
             out,
             b"ZERO LENGTH DIR ",
             &attr,
-            &[Piece::Text(b"\nCLEAR? no\n\n")],
+            &[Piece::Text(CLEAR)],
         ),
         ReferenceLine::Unref { label, attr } => print_kind(
             out,
             b"UNREF ",
             label,
             &attr,
-            &[Piece::Text(b"\nRECONNECT? no\n\nCLEAR? no\n\n")],
+            &[Piece::Text(RECONNECT_OR_CLEAR)],
         ),
         ReferenceLine::UnrefZero { label, attr } => print_kind(
             out,
             b"UNREF ",
             label,
             &attr,
-            &[Piece::Text(b"\nCLEAR? no\n\n")],
+            &[Piece::Text(CLEAR)],
         ),
         ReferenceLine::LinkCount {
             label,

@@ -21,7 +21,8 @@ fn is_defect(line: &Line<'_>) -> bool
 {
     match line {
         Line::Optimization | Line::Minfree { .. } => true,
-        Line::Block(_) | Line::Directory(_) | Line::Entry(_) | Line::Reference(_) => true,
+        Line::Block(_) | Line::Directory(_) | Line::Dot(_) | Line::Entry(_) | Line::Reference(_) =>
+            true,
         Line::Location { .. }
         | Line::Opening { .. }
         | Line::BadSuper(_)

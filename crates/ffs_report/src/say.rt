@@ -5,10 +5,11 @@ ghost use Rattle.ffs_report.specs.Lines.{message_of, heading_message};
 ghost use Rattle.ffs_volume.specs.Texts.{text_of, number_text, fault_text, opening_text, mounted_text, minfree_text, claim_text, block_count_text, block_text, summary_text};
 
 use crate::line::{Heading, Line};
-use crate::names::{print_directory, print_entry, print_reference};
+use crate::names::{print_directory, print_dot, print_entry, print_reference};
 use crate::output::{OutFault, Output};
 use crate::piece::Piece;
-use crate::print::{print, print_pieces};
+use crate::print::{print, print_both, print_pieces};
+use crate::questions::{CLEAR, CONTINUE, SALVAGE};
 use ffs_volume::{BlockMessage, SuperFault};
 
 /// Prints a line and its questions.
@@ -38,6 +39,7 @@ pub fn print_line<W: Output>(out: &mut W, line: &Line<'_>) -> Result<(), OutFaul
         Line::Heading(heading) => print_heading(out, heading),
         Line::Block(message) => print_block(out, message),
         Line::Directory(line) => print_directory(out, &line),
+        Line::Dot(line) => print_dot(out, &line),
         Line::Entry(line) => print_entry(out, &line),
         Line::Reference(line) => print_reference(out, &line),
         Line::Summary {
@@ -193,13 +195,13 @@ fn print_block<W: Output>(out: &mut W, message: BlockMessage) -> Result<(), OutF
             out,
             b"PARTIALLY ALLOCATED INODE I=",
             inode as u64,
-            b"\nCLEAR? no\n\n",
+            CLEAR,
         ),
         BlockMessage::UnknownType { inode } => print_number(
             out,
             b"UNKNOWN FILE TYPE I=",
             inode as u64,
-            b"\nCLEAR? no\n\n",
+            CLEAR,
         ),
         BlockMessage::Bad { fragment, inode } => print_claim(out, fragment, b" BAD I=", inode),
         BlockMessage::Dup { fragment, inode } => print_claim(out, fragment, b" DUP I=", inode),
@@ -207,34 +209,38 @@ fn print_block<W: Output>(out: &mut W, message: BlockMessage) -> Result<(), OutF
             out,
             b"EXCESSIVE BAD BLKS I=",
             inode as u64,
-            b"\nCONTINUE? yes\n\n",
+            CONTINUE,
         ),
         BlockMessage::ManyDup { inode } => print_number(
             out,
             b"EXCESSIVE DUP BLKS I=",
             inode as u64,
-            b"\nCONTINUE? yes\n\n",
+            CONTINUE,
         ),
         BlockMessage::PartTrunc { inode } => print_number(
             out,
             b"PARTIALLY TRUNCATED INODE I=",
             inode as u64,
-            b"\nSALVAGE? no\n\n",
+            SALVAGE,
         ),
         BlockMessage::BlockCount {
             inode,
             found,
             right,
         } => print_count(out, inode, found, right),
-        BlockMessage::GroupMagic { group } => {
-            print_number(out, b"CG ", group as u64, b": BAD MAGIC NUMBER\n")
-        }
-        BlockMessage::FreeCounts => print(
+        BlockMessage::GroupMagic { group } => print_number(
             out,
-            b"FREE BLK COUNT(S) WRONG IN SUPERBLK\nSALVAGE? no\n\n",
+            b"CG ",
+            group as u64,
+            b": BAD MAGIC NUMBER\n",
         ),
-        BlockMessage::MapsWrong => { print(out, b"BLK(S) MISSING IN BIT MAPS\nSALVAGE? no\n\n") }
-        BlockMessage::GroupSums => print(out, b"SUMMARY INFORMATION BAD\nSALVAGE? no\n\n"),
+        BlockMessage::FreeCounts => print_both(
+            out,
+            b"FREE BLK COUNT(S) WRONG IN SUPERBLK",
+            SALVAGE,
+        ),
+        BlockMessage::MapsWrong => print_both(out, b"BLK(S) MISSING IN BIT MAPS", SALVAGE),
+        BlockMessage::GroupSums => print_both(out, b"SUMMARY INFORMATION BAD", SALVAGE),
     }
 }
 

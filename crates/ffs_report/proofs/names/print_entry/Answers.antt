@@ -13,4 +13,4 @@ pub returns-in-DupBad-clause-printed : goal.returns-in-DupBad-clause-printed
 returns-in-DupBad-clause-printed g c = rw (c.in-DupBad.is) c.print_path-in-DupBad.ensures.printed
 
 pub returns-in-ZeroDir-clause-printed : goal.returns-in-ZeroDir-clause-printed
-returns-in-ZeroDir-clause-printed g c = rw (c.in-ZeroDir.is) c.print_path-in-ZeroDir.ensures.printed
+returns-in-ZeroDir-clause-printed g c = rw (c.in-ZeroDir.is) c.print_dir.ensures.printed
