@@ -1,0 +1,118 @@
+-- Where inodes stand in the blocks of their tables.
+use Rattle.std.proofs.Common.{◌≡◌, ℕ, suc, ◌+◌, ◌-◌, ◌*◌, ◌/◌, ◌%◌, ◌<◌, ◌≤◌, true, List, take, drop, arith, ap, ◌∙◌, sym}
+use Rattle.std.proofs.Math.Nat.{mul-le-mul_right, mul-div_cancel, mul_comm, mul_assoc, div-add-mod', mod-lt}
+use Rattle.std.proofs.lemmas.Nat.{div_below}
+use Rattle.std.proofs.lemmas.List.{drop-take, take-take, drop-drop}
+use Rattle.std.proofs.lemmas.Bool.Decides.{nat_tests}
+use Rattle.ffs_volume.specs.declared.Layout.{Layout}
+use Rattle.std.specs.List.{slice_range}
+use Rattle.ffs_volume.specs.declared.Inode.{Inode}
+use Rattle.ffs_volume.specs.Inodes.{decoded, inode_of}
+use Rattle.ffs_volume.specs.Numbers.{piece}
+use Rattle.ffs_volume.specs.Areas.{cgstart, cgdmin, inode_place}
+use Rattle.ffs_volume.specs.Outcome.{is_block_size, are_sizes, is_shaped}
+use Rattle.ffs_volume.specs.Geometry.{IsGeometry}
+
+-- a block holds whole inodes
+block_whole : (n : ℕ) → is_block_size n ≡ true → 128 * (n / 128) ≡ n
+unfolding is_block_size
+block_whole n h = grind (arith, nat_tests)
+
+sizes_are : (v : Layout) → is_shaped v ≡ true → are_sizes v ≡ true
+unfolding is_shaped
+sizes_are v h = grind (arith, nat_tests)
+
+block_is : (v : Layout) → are_sizes v ≡ true → is_block_size v.bsize ≡ true
+unfolding are_sizes
+block_is v h = grind (arith, nat_tests)
+
+pub inodes_whole : (v : Layout) → IsGeometry v → 128 * v.inopb ≡ v.bsize
+inodes_whole v g =
+    let size : is_block_size v.bsize ≡ true = block_is v (sizes_are v g.shaped) in
+    let same : v.inopb ≡ v.bsize / 128 = g.sizes.inopb in
+    let whole : 128 * (v.bsize / 128) ≡ v.bsize = block_whole v.bsize size in
+    rw same whole
+
+-- a place in a table, by its block
+split : (i n b : ℕ) → 128 * n ≡ b → i / n * b + 128 * (i % n) ≡ 128 * i
+split i n b e =
+    let whole : n * (i / n) + i % n ≡ i = grind (arith, div-add-mod' i n) in
+    rw (← e) (grind (arith, whole))
+
+-- a whole number of blocks
+whole_blocks : (ipg n : ℕ) → ipg % n ≡ 0 → n * (ipg / n) ≡ ipg
+whole_blocks ipg n e = grind (arith, div-add-mod' ipg n)
+
+-- the blocks of a table end where it ends
+block_ends : (i ipg n b : ℕ) → 0 < n → i < ipg → ipg % n ≡ 0 → 128 * n ≡ b → i / n * b + b ≤ ipg / n * b
+block_ends i ipg n b some below e same =
+    let all : n * (ipg / n) ≡ ipg = whole_blocks ipg n e in
+    let less : i / n < ipg / n = div_below i n (ipg / n) some (omega (arith, mul_comm n (ipg / n))) in
+    let more : suc (i / n) * b ≤ ipg / n * b = mul-le-mul_right b less in
+    grind arith
+
+-- and the table ends before the data of its group
+table_fits : (v : Layout) → IsGeometry v → v.iblkno * v.fsize + v.ipg / v.inopb * v.bsize ≤ v.dblkno * v.fsize
+table_fits v g =
+    let all : v.inopb * (v.ipg / v.inopb) ≡ v.ipg = whole_blocks v.ipg v.inopb g.sizes.inode_blocks in
+    let same : 128 * v.inopb ≡ v.bsize = inodes_whole v g in
+    let block : v.bsize ≡ v.frag * v.fsize = g.sizes.block in
+    fits (v.ipg / v.inopb) v.inopb v.ipg v.bsize v.frag v.fsize v.iblkno v.dblkno all same block (omega arith) g.parts.inodes_fit
+  where
+    fits : (m n ipg b frag f low high : ℕ) → n * m ≡ ipg → 128 * n ≡ b → b ≡ frag * f → 0 < f → low + ipg * 128 / f ≤ high → low * f + m * b ≤ high * f
+    fits m n ipg b frag f low high all same block some room =
+        let bytes : ipg * 128 ≡ m * frag * f = grind (arith, mul_comm, mul_assoc) in
+        let blocks : ipg * 128 / f ≡ m * frag = rw bytes (mul-div_cancel (m * frag) some) in
+        let scaled : (low + m * frag) * f ≤ high * f = mul-le-mul_right f (omega arith) in
+        let spread : m * b ≡ m * frag * f = ap (λ (k : ℕ). m * k) block ∙ sym (mul_assoc m frag f) in
+        grind (arith, spread, scaled)
+
+-- the block of an inode ends in the volume
+pub block_inside : (v : Layout) (x : ℕ) → IsGeometry v → x / v.ipg < v.ncg →
+    (cgstart v (x / v.ipg) + v.iblkno) * v.fsize + x % v.ipg / v.inopb * v.bsize + v.bsize ≤ v.size * v.fsize
+block_inside v x g group =
+    let parts = g.groups (x / v.ipg) group in
+    let same : 128 * v.inopb ≡ v.bsize = inodes_whole v g in
+    let some : 0 < v.inopb = omega arith in
+    let low : x % v.ipg < v.ipg = mod-lt x g.sizes.some_inodes in
+    let ends = block_ends (x % v.ipg) v.ipg v.inopb v.bsize some low g.sizes.inode_blocks same in
+    let fits = table_fits v g in
+    let within : cgdmin v (x / v.ipg) ≤ v.size = parts.within_size in
+    let scaled : cgdmin v (x / v.ipg) * v.fsize ≤ v.size * v.fsize = mul-le-mul_right v.fsize within in
+    grind (arith)
+
+-- where the inode stands in it
+pub block_of : (v : Layout) (x : ℕ) → IsGeometry v →
+    (cgstart v (x / v.ipg) + v.iblkno) * v.fsize + x % v.ipg / v.inopb * v.bsize + 128 * (x % v.ipg % v.inopb) ≡ inode_place v x
+block_of v x g =
+    let place = split (x % v.ipg) v.inopb v.bsize (inodes_whole v g) in
+    omega arith
+
+pub inside_block : (v : Layout) (x : ℕ) → IsGeometry v → 128 * (x % v.ipg % v.inopb) + 128 ≤ v.bsize
+inside_block v x g =
+    let same : 128 * v.inopb ≡ v.bsize = inodes_whole v g in
+    let low : x % v.ipg % v.inopb < v.inopb = mod-lt (x % v.ipg) (omega arith) in
+    omega arith
+
+-- a piece of a piece
+pub piece_of : (place length at n : ℕ) (bytes : List ℕ) → at + n ≤ length → piece at n (piece place length bytes) ≡ piece (place + at) n bytes
+piece_of place length at n bytes h =
+    let more : length ≡ at + (length - at) = omega arith in
+    ap (λ (k : ℕ). take n (drop at (take k (drop place bytes)))) more
+    ∙ ap (λ (xs : List ℕ). take n xs) (drop-take at (length - at) (drop place bytes))
+    ∙ take-take n (length - at) (drop at (drop place bytes)) (omega arith)
+    ∙ ap (λ (xs : List ℕ). take n xs) (drop-drop at place bytes)
+
+-- an inode is read from its block
+pub inode_there : (v : Layout) (x place at : ℕ) (bytes held : List ℕ) (i : Inode) → IsGeometry v → at ≡ 128 * (x % v.ipg % v.inopb) →
+    place + 128 * (x % v.ipg % v.inopb) ≡ inode_place v x → held ≡ piece place v.bsize bytes → i ≡ decoded v.order (slice_range held at (at + 128)) →
+    i ≡ inode_of v bytes x
+unfolding inode_of
+inode_there v x place at bytes held i g is_at is_place is_held is =
+    let inside : at + 128 ≤ v.bsize = omega (arith, inside_block v x g) in
+    let same : place + at ≡ inode_place v x = omega arith in
+    let many : at + 128 - at ≡ 128 = omega arith in
+    is
+    ∙ ap (λ (xs : List ℕ). decoded v.order (slice_range xs at (at + 128))) is_held
+    ∙ ap (λ (n : ℕ). decoded v.order (take n (drop at (piece place v.bsize bytes)))) many
+    ∙ ap (decoded v.order) (piece_of place v.bsize at 128 bytes inside ∙ ap (λ (n : ℕ). piece n 128 bytes) same)

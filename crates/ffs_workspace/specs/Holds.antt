@@ -1,0 +1,83 @@
+-- What a workspace holds between the phases.
+use Rattle.std.specs.Prelude.{◌≡◌, ◌<◌, ℕ, Bool, false, not, ◌&&◌, ◌||◌, ◌==◌, List, if◌then◌else◌, replicate, slice_index}
+use Rattle.std.specs.List.{slice_index_or}
+use Rattle.std.specs.Option.{unwrap_or}
+use Rattle.ffs_volume.specs.declared.Layout.{Layout}
+use Rattle.ffs_volume.specs.Inodes.{inode_of, class_of}
+use Rattle.ffs_volume.specs.Owners.{owner_of, owners_of}
+use Rattle.ffs_volume.specs.Claims.{Claims, no_claims, after_owner, after_owners}
+use Rattle.ffs_volume.specs.BlockCheck.{is_unknown_class}
+use Rattle.ffs_volume.specs.KeptSteps.{claims_before}
+use Rattle.ffs_volume.specs.Graph.{named, reached, parent}
+use Rattle.ffs_volume.specs.Roles.{references}
+use Rattle.ffs_volume.specs.Parents.{graph_of}
+use Rattle.ffs_volume.specs.Volumes.{is_number, marked_at, volume_of}
+use Rattle.ffs_volume.specs.Replay.{cut_at}
+use Rattle.ffs_maps.specs.Bits.{bits_of}
+use Rattle.ffs_workspace.specs.declared.workspace.Workspace.{Workspace}
+use Rattle.ffs_workspace.specs.Kinds.{kind_at}
+use Rattle.ffs_workspace.specs.Lengths.{inodes_of}
+
+abbrev pub bool_at : List Bool → ℕ → Bool
+bool_at xs i = slice_index_or xs i false
+
+-- the claims that a workspace holds
+abbrev pub claims_of : Workspace → Claims
+claims_of w = record {
+  used = bits_of w.claimed;
+  dup = bits_of w.doubled;
+  runs = w.runs_seen;
+  bad = w.bad;
+  dups = w.dups;
+  kept = w.kept;
+  tail = w.tail;
+}
+
+-- nothing was claimed, doubled, found or marked yet
+pub record IsFresh (v : Layout) (w : Workspace) : Type 0 where
+  pub claimed : bits_of w.claimed ≡ replicate v.size false
+  pub doubled : bits_of w.doubled ≡ replicate v.size false
+  pub kinds : w.kinds.items ≡ replicate (inodes_of v) 0
+  pub marked : w.marked.items ≡ replicate (inodes_of v) false
+  pub cut : w.cut.items ≡ replicate (inodes_of v) 0
+
+-- a bad Run or a dup offer was seen
+abbrev pub has_blame : Claims → Bool
+has_blame s = not (s.bad == 0 && s.dups == 0)
+
+-- the inode x is of an unknown type, or has a bad Run or a dup offer
+unfoldable pub first_marked_at : Layout → List ℕ → ℕ → Bool
+first_marked_at v image x =
+    if is_number v x
+    then is_unknown_class (class_of v (inode_of v image x)) || has_blame (after_owner v (claims_before v image x) (owner_of v image x))
+    else false
+
+-- the claims of all inodes
+unfoldable pub all_claims : Layout → List ℕ → Claims
+all_claims v image = after_owners v (no_claims v) (owners_of v image)
+
+-- what phase 1 leaves: the fragments that are reserved or claimed and those with a Dup line, and for each inode its kind,
+-- whether it is marked so far, and where dup offers cut it
+pub record HoldsPhase1 (v : Layout) (image : List ℕ) (w : Workspace) : Type 0 where
+  pub used : bits_of w.claimed ≡ (all_claims v image).used
+  pub dup : bits_of w.doubled ≡ (all_claims v image).dup
+  pub runs : w.runs_seen ≡ (all_claims v image).runs
+  pub kinds : (x : ℕ) → slice_index w.kinds.items x ≡ kind_at v image x
+  pub marked : (x : ℕ) → bool_at w.marked.items x ≡ first_marked_at v image x
+  pub cut : (x : ℕ) → slice_index w.cut.items x ≡ cut_at v image x
+
+-- what phases 1 and 1b leave: the fragments that are reserved or claimed, and for each inode its kind, whether it is marked,
+-- and where dup offers cut it
+pub record HoldsClaims (v : Layout) (image : List ℕ) (w : Workspace) : Type 0 where
+  pub used : bits_of w.claimed ≡ (after_owners v (no_claims v) (owners_of v image)).used
+  pub kinds : (x : ℕ) → slice_index w.kinds.items x ≡ kind_at v image x
+  pub marked : (x : ℕ) → bool_at w.marked.items x ≡ marked_at v image x
+  pub cut : (x : ℕ) → slice_index w.cut.items x ≡ cut_at v image x
+
+-- what the survey leaves: how often each inode is referred to, whether an entry names it, whether it is reached from the root,
+-- and its parent, or 0 for none
+pub record HoldsSurvey (v : Layout) (image : List ℕ) (w : Workspace) : Type 0 where
+  pub references : (x : ℕ) → x < inodes_of v → slice_index w.references.items x ≡ references (volume_of v image) x
+  pub named : (x : ℕ) → x < inodes_of v → bool_at w.named.items x ≡ named (graph_of (volume_of v image)) x
+  pub reached : (x : ℕ) → bool_at w.reached.items x ≡ reached (graph_of (volume_of v image)) x
+  pub parents : (x : ℕ) → slice_index w.parents.items x ≡ unwrap_or (parent (graph_of (volume_of v image)) x) 0

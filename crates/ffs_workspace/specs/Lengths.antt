@@ -1,0 +1,43 @@
+-- The lengths of the lists of a workspace, and its windows.
+use Rattle.std.specs.Prelude.{◌≡◌, ◌+◌, ◌*◌, ℕ, Bool, List, Option, vec_len, count_by}
+use Rattle.std.specs.Int.{div_ceil}
+use Rattle.ffs_volume.specs.declared.Layout.{Layout}
+use Rattle.ffs_maps.specs.Bits.{bits_of}
+use Rattle.ffs_walk.specs.Windows.{WindowHolds, BlocksHold}
+use Rattle.ffs_workspace.specs.declared.workspace.Workspace.{Workspace}
+
+-- how many inodes a volume has
+abbrev pub inodes_of : Layout → ℕ
+inodes_of v = v.ncg * v.ipg
+
+-- how many bits of a map are set
+abbrev pub set_count : List Bool → ℕ
+set_count bits = count_by (λ b. b) bits
+
+-- the workspace was made for the volume: all its lists have the lengths that it asks for
+pub record IsFor (v : Layout) (w : Workspace) : Type 0 where
+  pub claimed : w.claimed.size ≡ v.size
+  pub doubled : w.doubled.size ≡ v.size
+  pub untold : w.untold ≡ set_count (bits_of w.doubled)
+  pub kinds : vec_len w.kinds ≡ inodes_of v
+  pub marked : vec_len w.marked ≡ inodes_of v
+  pub named : vec_len w.named ≡ inodes_of v
+  pub reached : vec_len w.reached ≡ inodes_of v
+  pub leaders : vec_len w.leaders ≡ inodes_of v
+  pub references : vec_len w.references ≡ inodes_of v
+  pub cut : vec_len w.cut ≡ inodes_of v
+  pub parents : vec_len w.parents ≡ inodes_of v
+  pub queue : vec_len w.queue ≡ inodes_of v
+  pub table : vec_len w.windows.table.window.buffer ≡ v.bsize
+  pub blocks : vec_len w.windows.blocks.buffer ≡ 3 * v.bsize
+  pub chunk : vec_len w.windows.chunk.buffer ≡ v.bsize
+
+-- the windows hold what the image tells
+pub record HoldWindows (v : Layout) (told : Option (List ℕ)) (w : Workspace) : Type 0 where
+  pub table : WindowHolds told w.windows.table.window
+  pub blocks : BlocksHold v told w.windows.blocks
+  pub chunk : WindowHolds told w.windows.chunk
+
+-- how many bytes its lists and buffers take: two maps, 25 bytes an inode, five blocks
+abbrev pub held_of : Layout → ℕ
+held_of v = 2 * (8 * div_ceil v.size 64) + 25 * inodes_of v + 5 * v.bsize

@@ -1,0 +1,3 @@
+pub mod Kinds
+pub mod Lengths
+pub mod Holds
