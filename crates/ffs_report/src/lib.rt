@@ -4,13 +4,13 @@
 pub mod counted;
 pub mod fuse;
 pub mod line;
-pub mod names;
+mod names;
 pub mod output;
-pub mod piece;
-pub mod print;
-pub mod questions;
+mod piece;
+mod print;
 pub mod report;
-pub mod say;
+mod say;
+mod words;
 
 pub use counted::Counted;
 pub use fuse::FuseWriter;

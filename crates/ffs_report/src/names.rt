@@ -10,17 +10,13 @@ use crate::line::{DirectoryLine, DotLine, EntryLine, ReferenceLine};
 use crate::output::{OutFault, Output};
 use crate::piece::Piece;
 use crate::print::{print, print_pieces};
-use crate::questions::{CLEAR, FIX, RECONNECT, REMOVE, SALVAGE};
+use crate::words::{
+    CLEAR, DEAD_MARKED, DEAD_ZERO, DIR_CORRUPT, DIR_SHORT, DUP_BAD, EXTRA_DOT, EXTRA_DOTDOT,
+    FIRST_ENTRY, FIX, KIND_DOT, KIND_DOTDOT, KIND_ENTRY, MISSING_DOT, MISSING_DOTDOT, NUMBER_DOT,
+    NUMBER_DOTDOT, OUT_OF_RANGE, RECONNECT, RECONNECT_OR_CLEAR, REMOVE, ROOT_NONE, ROOT_NOT_DIR,
+    ROOT_SUSPECT, SALVAGE, SECOND_ENTRY, UNALLOCATED, UNREF, UNREF_DIR, WHITEOUT, ZERO_DIR,
+};
 use ffs_volume::{Attr, Label};
-
-/// The entry in the way is the first one.
-const FIRST_ENTRY: &[u8] = b"\nCANNOT FIX, FIRST ENTRY IN DIRECTORY CONTAINS ";
-
-/// The entry in the way is the second one.
-const SECOND_ENTRY: &[u8] = b"\nCANNOT FIX, SECOND ENTRY IN DIRECTORY CONTAINS ";
-
-/// Two questions.
-const RECONNECT_OR_CLEAR: &[u8] = b"\nRECONNECT? no\n\nCLEAR? no\n\n";
 
 fn file_label(label: Label) -> &'static [u8]
     ensures { result.now ≡ file_label label }
@@ -258,27 +254,15 @@ pub fn print_directory<W: Output>(out: &mut W, line: &DirectoryLine<'_>) -> Resu
     ensures printed { Prints (W.sink out.old) (W.sink out.new) (name_text (directory_message line.now)) result }
 {
     match *line {
-        DirectoryLine::RootNone => print(out, b"ROOT INODE UNALLOCATED\nALLOCATE? no\n\n"),
-        DirectoryLine::RootNotDir => print(
-            out,
-            b"ROOT INODE NOT DIRECTORY\nREALLOCATE? no\n\nFIX? no\n\n",
-        ),
-        DirectoryLine::RootSuspect => print(
-            out,
-            b"DUPS/BAD IN ROOT INODE\nREALLOCATE? no\n\nCONTINUE? yes\n\n",
-        ),
-        DirectoryLine::DirShort { attr, path } => print_dir(
-            out,
-            b"DIRECTORY TOO SHORT ",
-            &attr,
-            path,
-            FIX,
-        ),
+        DirectoryLine::RootNone => print(out, ROOT_NONE),
+        DirectoryLine::RootNotDir => print(out, ROOT_NOT_DIR),
+        DirectoryLine::RootSuspect => print(out, ROOT_SUSPECT),
+        DirectoryLine::DirShort { attr, path } => print_dir(out, DIR_SHORT, &attr, path, FIX),
         DirectoryLine::DirLength { path, size } => print_length(out, path, size),
         DirectoryLine::DirEmpty { path } => print_empty(out, path),
         DirectoryLine::DirCorrupt { attr, path } => print_dir(
             out,
-            b"DIRECTORY CORRUPTED ",
+            DIR_CORRUPT,
             &attr,
             path,
             SALVAGE,
@@ -292,60 +276,30 @@ pub fn print_dot<W: Output>(out: &mut W, line: &DotLine<'_>) -> Result<(), OutFa
     ensures printed { Prints (W.sink out.old) (W.sink out.new) (name_text (dot_message line.now)) result }
 {
     match *line {
-        DotLine::MissingDot { attr, path } => print_dir(out, b"MISSING '.' ", &attr, path, FIX),
+        DotLine::MissingDot { attr, path } => print_dir(out, MISSING_DOT, &attr, path, FIX),
         DotLine::MissingDotFirst { attr, path, name } => print_in_the_way(
             out,
-            b"MISSING '.' ",
+            MISSING_DOT,
             &attr,
             path,
             FIRST_ENTRY,
             name,
         ),
-        DotLine::NumberDot { attr, path } => print_dir(
-            out,
-            b"BAD INODE NUMBER FOR '.' ",
-            &attr,
-            path,
-            FIX,
-        ),
-        DotLine::KindDot { attr, path } => print_dir(
-            out,
-            b"BAD TYPE VALUE FOR '.' ",
-            &attr,
-            path,
-            FIX,
-        ),
-        DotLine::MissingDotdot { attr, path } => print_dir(out, b"MISSING '..' ", &attr, path, FIX),
+        DotLine::NumberDot { attr, path } => print_dir(out, NUMBER_DOT, &attr, path, FIX),
+        DotLine::KindDot { attr, path } => print_dir(out, KIND_DOT, &attr, path, FIX),
+        DotLine::MissingDotdot { attr, path } => print_dir(out, MISSING_DOTDOT, &attr, path, FIX),
         DotLine::MissingDotdotSecond { attr, path, name } => print_in_the_way(
             out,
-            b"MISSING '..' ",
+            MISSING_DOTDOT,
             &attr,
             path,
             SECOND_ENTRY,
             name,
         ),
-        DotLine::NumberDotdot { attr, path } => print_dir(
-            out,
-            b"BAD INODE NUMBER FOR '..' ",
-            &attr,
-            path,
-            FIX,
-        ),
-        DotLine::KindDotdot { attr, path } => print_dir(
-            out,
-            b"BAD TYPE VALUE FOR '..' ",
-            &attr,
-            path,
-            FIX,
-        ),
-        DotLine::ExtraDot { attr, path } => print_dir(out, b"EXTRA '.' ENTRY ", &attr, path, FIX),
-        DotLine::ExtraDotdot { attr, path } => print_dir(
-            out,
-            b"EXTRA '..' ENTRY ",
-            &attr,
-            path,
-            FIX,
-        ),
+        DotLine::NumberDotdot { attr, path } => print_dir(out, NUMBER_DOTDOT, &attr, path, FIX),
+        DotLine::KindDotdot { attr, path } => print_dir(out, KIND_DOTDOT, &attr, path, FIX),
+        DotLine::ExtraDot { attr, path } => print_dir(out, EXTRA_DOT, &attr, path, FIX),
+        DotLine::ExtraDotdot { attr, path } => print_dir(out, EXTRA_DOTDOT, &attr, path, FIX),
     }
 }
 
@@ -357,49 +311,27 @@ pub fn print_entry<W: Output>(out: &mut W, line: &EntryLine<'_>) -> Result<(), O
     match *line {
         EntryLine::OutOfRange { number, path } => print_numbered(
             out,
-            b"I OUT OF RANGE I=",
+            OUT_OF_RANGE,
             number,
             path,
             REMOVE,
         ),
-        EntryLine::Whiteout { number, path } => print_numbered(
-            out,
-            b"BAD WHITEOUT ENTRY I=",
-            number,
-            path,
-            FIX,
-        ),
+        EntryLine::Whiteout { number, path } => print_numbered(out, WHITEOUT, number, path, FIX),
         EntryLine::Unallocated { attr, path } => print_path(
             out,
-            b"UNALLOCATED ",
+            UNALLOCATED,
             &attr,
             Label::Name,
             path,
             REMOVE,
         ),
         EntryLine::DupBad { label, attr, path } => print_path(
-            out,
-            b"DUP/BAD ",
-            &attr,
-            label,
-            path,
-            REMOVE,
+            out, DUP_BAD, &attr, label, path, REMOVE,
         ),
-        EntryLine::ZeroDir { attr, path } => print_dir(
-            out,
-            b"ZERO LENGTH DIRECTORY ",
-            &attr,
-            path,
-            REMOVE,
-        ),
+        EntryLine::ZeroDir { attr, path } => print_dir(out, ZERO_DIR, &attr, path, REMOVE),
         EntryLine::Extraneous { path, dir } => print_extraneous(out, path, dir),
         EntryLine::KindEntry { label, attr, path } => print_path(
-            out,
-            b"BAD TYPE VALUE ",
-            &attr,
-            label,
-            path,
-            FIX,
+            out, KIND_ENTRY, &attr, label, path, FIX,
         ),
     }
 }
@@ -412,33 +344,33 @@ pub fn print_reference<W: Output>(out: &mut W, line: &ReferenceLine) -> Result<(
     match *line {
         ReferenceLine::UnrefDir { attr } => print_inode(
             out,
-            b"UNREF DIR ",
+            UNREF_DIR,
             &attr,
             &[Piece::Text(RECONNECT)],
         ),
         ReferenceLine::DeadMarked { label, attr } => print_kind(
             out,
-            b"BAD/DUP ",
+            DEAD_MARKED,
             label,
             &attr,
             &[Piece::Text(CLEAR)],
         ),
         ReferenceLine::DeadZero { attr } => print_inode(
             out,
-            b"ZERO LENGTH DIR ",
+            DEAD_ZERO,
             &attr,
             &[Piece::Text(CLEAR)],
         ),
         ReferenceLine::Unref { label, attr } => print_kind(
             out,
-            b"UNREF ",
+            UNREF,
             label,
             &attr,
             &[Piece::Text(RECONNECT_OR_CLEAR)],
         ),
         ReferenceLine::UnrefZero { label, attr } => print_kind(
             out,
-            b"UNREF ",
+            UNREF,
             label,
             &attr,
             &[Piece::Text(CLEAR)],

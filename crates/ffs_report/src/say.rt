@@ -9,7 +9,10 @@ use crate::names::{print_directory, print_dot, print_entry, print_reference};
 use crate::output::{OutFault, Output};
 use crate::piece::Piece;
 use crate::print::{print, print_both, print_pieces};
-use crate::questions::{CLEAR, CONTINUE, SALVAGE};
+use crate::words::{
+    CLEAR, CONTINUE, FREE_COUNTS, GROUP_SUMS, MANY_BAD, MANY_DUP, MAPS_WRONG, PART_ALLOC,
+    PART_TRUNC, SALVAGE, UNKNOWN_TYPE,
+};
 use ffs_volume::{BlockMessage, SuperFault};
 
 /// Prints a line and its questions.
@@ -191,38 +194,13 @@ fn print_block<W: Output>(out: &mut W, message: BlockMessage) -> Result<(), OutF
     ensures printed { Prints (W.sink out.old) (W.sink out.new) (block_text message) result }
 {
     match message {
-        BlockMessage::PartAlloc { inode } => print_number(
-            out,
-            b"PARTIALLY ALLOCATED INODE I=",
-            inode as u64,
-            CLEAR,
-        ),
-        BlockMessage::UnknownType { inode } => print_number(
-            out,
-            b"UNKNOWN FILE TYPE I=",
-            inode as u64,
-            CLEAR,
-        ),
+        BlockMessage::PartAlloc { inode } => print_number(out, PART_ALLOC, inode as u64, CLEAR),
+        BlockMessage::UnknownType { inode } => print_number(out, UNKNOWN_TYPE, inode as u64, CLEAR),
         BlockMessage::Bad { fragment, inode } => print_claim(out, fragment, b" BAD I=", inode),
         BlockMessage::Dup { fragment, inode } => print_claim(out, fragment, b" DUP I=", inode),
-        BlockMessage::ManyBad { inode } => print_number(
-            out,
-            b"EXCESSIVE BAD BLKS I=",
-            inode as u64,
-            CONTINUE,
-        ),
-        BlockMessage::ManyDup { inode } => print_number(
-            out,
-            b"EXCESSIVE DUP BLKS I=",
-            inode as u64,
-            CONTINUE,
-        ),
-        BlockMessage::PartTrunc { inode } => print_number(
-            out,
-            b"PARTIALLY TRUNCATED INODE I=",
-            inode as u64,
-            SALVAGE,
-        ),
+        BlockMessage::ManyBad { inode } => print_number(out, MANY_BAD, inode as u64, CONTINUE),
+        BlockMessage::ManyDup { inode } => print_number(out, MANY_DUP, inode as u64, CONTINUE),
+        BlockMessage::PartTrunc { inode } => print_number(out, PART_TRUNC, inode as u64, SALVAGE),
         BlockMessage::BlockCount {
             inode,
             found,
@@ -234,13 +212,9 @@ fn print_block<W: Output>(out: &mut W, message: BlockMessage) -> Result<(), OutF
             group as u64,
             b": BAD MAGIC NUMBER\n",
         ),
-        BlockMessage::FreeCounts => print_both(
-            out,
-            b"FREE BLK COUNT(S) WRONG IN SUPERBLK",
-            SALVAGE,
-        ),
-        BlockMessage::MapsWrong => print_both(out, b"BLK(S) MISSING IN BIT MAPS", SALVAGE),
-        BlockMessage::GroupSums => print_both(out, b"SUMMARY INFORMATION BAD", SALVAGE),
+        BlockMessage::FreeCounts => print_both(out, FREE_COUNTS, SALVAGE),
+        BlockMessage::MapsWrong => print_both(out, MAPS_WRONG, SALVAGE),
+        BlockMessage::GroupSums => print_both(out, GROUP_SUMS, SALVAGE),
     }
 }
 
