@@ -1,0 +1,37 @@
+-- What is not reached, and what is lost.
+use Rattle.std.specs.Prelude.{◌≡◌, ◌≢◌, ℕ, ◌==◌, Bool, true, false, not, ◌&&◌, ◌||◌, refl, Option, None, Some, is_some, if◌then◌else◌}
+use Rattle.std.proofs.Common.{sym, ◌∙◌, ap}
+use Rattle.std.proofs.lemmas.Bool.{and_parts, and_from, ne_eqb, not_from_false, cond-false}
+use Rattle.ffs_volume.specs.Search.{first_below}
+use Rattle.ffs_volume.specs.Graph.{Graph, level, edge, reached, parent, parent_by, lost, dead, names_in}
+
+pub edge-parts : (v : Graph) (s d : ℕ) → edge v s d ≡ true → (v.is_dir d ≡ true) × (v.is_dir s ≡ true)
+edge-parts v s d h =
+    let p = and_parts (v.is_dir d) (names_in v s d) h in
+    (p.0, (and_parts (v.is_dir s) _ p.1).0)
+
+-- what makes a directory lost
+pub record IsLost (v : Graph) (suspect : ℕ → Bool) (d : ℕ) : Type 0 where
+  pub dir : v.is_dir d ≡ true
+  pub not_root : d ≢ 2
+  pub unreached : reached v d ≡ false
+  pub alive : dead v suspect d ≡ false
+
+pub lost-from : (v : Graph) (suspect : ℕ → Bool) (d : ℕ) → IsLost v suspect d → lost v suspect d ≡ true
+lost-from v suspect d h =
+    and_from (v.is_dir d) (not (d == 2) && (not (reached v d) && not (dead v suspect d))) h.dir
+    (and_from (not (d == 2)) (not (reached v d) && not (dead v suspect d)) (not_from_false _ (ne_eqb d 2 h.not_root))
+    (and_from (not (reached v d)) (not (dead v suspect d)) (not_from_false _ h.unreached) (not_from_false _ h.alive)))
+
+unreached-level : (v : Graph) (d : ℕ) → reached v d ≡ false → level v d ≡ None
+unreached-level v d h = go (level v d) h
+  where
+    go : (o : Option ℕ) → is_some o ≡ false → o ≡ None
+    go None e = refl
+    go (Some k) e = absurd (cc)
+
+-- the parent of an unreached directory is the least with an edge to it
+pub parent-unreached : (v : Graph) (d : ℕ) → d ≢ 2 → reached v d ≡ false → parent v d ≡ first_below (λ s. edge v s d) v.count
+unfolding parent
+parent-unreached v d n h =
+    cond-false (d == 2) (Some 2) (parent_by v d (level v d)) (ne_eqb d 2 n) ∙ ap (parent_by v d) (unreached-level v d h)

@@ -1,0 +1,25 @@
+use Rattle.std.proofs.Common.{arith, rules, ◌≡◌, ◌<◌, ◌≤◌, ◌+◌, ◌*◌, ◌^◌, List, ℕ, take, length}
+use Rattle.ffs_survey.specs.Survey.{number_at}
+use Rattle.ffs_survey.specs.Discover.{unset}
+use Rattle.ffs_survey.proofs.Discovered.{level_step}
+use Rattle.ffs_survey.proofs.Tally.{dir_counted}
+use Rattle.ffs_survey.proofs.discover.read_level.Goals as goal
+
+pub loop-s-preserved : goal.loop-s-preserved
+loop-s-preserved g c =
+    let inv = c.loop-s.invariant in
+    let done = c.in_ok-top.ensures in
+    let comes = rw inv.base at done.comes in
+    let counts = rw inv.base at done.counts in
+    record {
+      base = search rules;
+      device = search rules;
+      grown = λ x l. let old = inv.grown x l in let new = done.grown x l in omega (arith, old, new);
+      top = let t = done.top in let i = inv.top in omega (arith, t, i);
+      comes = λ b k.
+          level_step _ c.args.kinds.now (g.D.Directories.entries (g.D.Directories.base c.args.directories.now) b) c.args.front.now c.loop-s.s-index _ _ _ _ _ _ _ _ _
+          c.loop-s-test.true (c.requires.front b k c.loop-s.s-index 0 c.loop-s-test.true) (inv.comes b k) (comes b k);
+      counts = λ b k.
+          dir_counted (length c.args.kinds.now) _ _ c.args.kinds.now (g.D.Directories.entries (g.D.Directories.base c.args.directories.now) b) c.args.front.now c.loop-s.s-index _ _ _ _ _ _
+          c.loop-s-test.true (c.requires.front b k c.loop-s.s-index 0 c.loop-s-test.true) (inv.counts b k) (counts b k);
+    }

@@ -1,0 +1,14 @@
+use Rattle.std.proofs.Common.{◌≡◌, ℕ, ◌+◌, ◌*◌, ◌<◌, ◌≤◌, ◌^◌, List, length, take, drop, []}
+use Rattle.ffs_survey.specs.Survey.{number_at, graph_with}
+use Rattle.ffs_survey.specs.Discover.{Comes, Counts, from_dirs, unset, count_of, any_of}
+use Rattle.ffs_survey.proofs.discover.read_level.Given as goal
+
+abbrev pub invariant-loop-s : goal.invariant-loop-s
+invariant-loop-s g l = record {
+  base : g.D.Directories.base l.directories ≡ g.D.Directories.base l.fn.directories;
+  device : g.D.Directories.device l.directories ≡ g.D.Directories.device l.fn.directories;
+  grown : (x : ℕ) → x < length l.kinds → number_at l.references x ≤ number_at l.fn.references x + l.s-index * 2 ^ 28;
+  top : l.top + unset l.reached ≡ unset l.fn.reached;
+  comes : (b : List ℕ) → g.D.Directories.knows (g.D.Directories.base l.fn.directories) b → Comes (from_dirs (graph_with l.kinds (g.D.Directories.entries (g.D.Directories.base l.fn.directories) b)) l.front) l.fn.reached l.fn.parents [] (from_dirs (graph_with l.kinds (g.D.Directories.entries (g.D.Directories.base l.fn.directories) b)) (drop l.s-index l.front)) l.reached l.parents (take l.top l.queue);
+  counts : (b : List ℕ) → g.D.Directories.knows (g.D.Directories.base l.fn.directories) b → Counts (length l.kinds) (count_of (graph_with l.kinds (g.D.Directories.entries (g.D.Directories.base l.fn.directories) b)) l.front) (any_of (graph_with l.kinds (g.D.Directories.entries (g.D.Directories.base l.fn.directories) b)) l.front) l.fn.references l.fn.named (count_of (graph_with l.kinds (g.D.Directories.entries (g.D.Directories.base l.fn.directories) b)) (drop l.s-index l.front)) (any_of (graph_with l.kinds (g.D.Directories.entries (g.D.Directories.base l.fn.directories) b)) (drop l.s-index l.front)) l.references l.named;
+}

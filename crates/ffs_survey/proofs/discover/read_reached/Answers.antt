@@ -1,0 +1,34 @@
+use Rattle.std.proofs.Common.{arith, rules, ◌≡◌, ◌∷◌, ◌<◌, ◌≤◌, ◌+◌, ◌^◌, List, ℕ, take, length}
+use Rattle.ffs_volume.specs.Roles.{Seen, refers}
+use Rattle.ffs_survey.specs.Reading.{seen_of}
+use Rattle.ffs_survey.specs.Survey.{number_at}
+use Rattle.ffs_survey.specs.Discover.{bit, unset, from_entries, count_in, any_in}
+use Rattle.ffs_survey.proofs.Discovered.{entry_step}
+use Rattle.ffs_survey.proofs.Tally.{entry_counted, bit-le}
+use Rattle.ffs_survey.proofs.discover.read_reached.Goals as goal
+
+pub loop-entry-preserved : goal.loop-entry-preserved
+loop-entry-preserved g c =
+    let inv = c.loop-entry.invariant in
+    let fell : g.D.Directories.left c.next.new.self < g.D.Directories.left c.loop-entry.directories = rw c.in-Some.is at c.in_ok-entry.ensures.left in
+    let e : Seen = seen_of c.in-Some.entry (g.D.Directories.name c.next.new.self) in
+    let told = rw inv.base at c.in_ok-entry.ensures.rest in
+    let cut = λ (b : List ℕ) (k : g.D.Directories.knows (g.D.Directories.base c.args.directories.now) b).
+    let q : g.D.Directories.rest c.loop-entry.directories b ≡ e ∷ g.D.Directories.rest c.next.new.self b = rw c.in-Some.is at (told b k) in q in
+    record {
+      base = search rules;
+      device = search rules;
+      left = let l = inv.left in omega (arith, l, fell);
+      grown = λ x l.
+          let old = inv.grown x l in
+          let new = c.count_reference.ensures x (omega (arith, l)) in
+          let one = bit-le (refers x e) in
+          omega (arith, old, new, one, fell);
+      high = let h = c.visit-high.ensures.top in let i = inv.high in omega (arith, h, i);
+      comes = λ b k.
+          entry_step _ c.args.kinds.now c.args.from e (g.D.Directories.rest c.next.new.self b) c.args.reached.now c.loop-entry.reached _ c.args.parents.now c.loop-entry.parents _ (take c.args.top c.args.queue.now) (take c.loop-entry.high c.loop-entry.queue) _
+          (rw (cut b k) at (inv.comes b k)) c.visit-high.ensures.comes;
+      counts = λ b k.
+          entry_counted (length c.args.kinds.now) _ _ e (g.D.Directories.rest c.next.new.self b) c.args.references.now c.loop-entry.references _ c.args.named.now c.loop-entry.named _
+          (rw (cut b k) at (inv.counts b k)) (λ x l. c.count_reference.ensures x (omega (arith, l))) (λ x l. c.mark_named.ensures x (omega (arith, l)));
+    }

@@ -1,0 +1,18 @@
+use Rattle.std.proofs.Common.{◌≡◌, ℕ, ◌+◌, ◌<◌, ◌≤◌, ◌^◌, List, length, take}
+use Rattle.ffs_survey.specs.Survey.{number_at}
+use Rattle.ffs_survey.specs.Discover.{Comes, Counts, from_entries, unset, count_in, any_in}
+use Rattle.ffs_survey.proofs.discover.read_reached.Given as goal
+
+abbrev pub invariant-loop-entry : goal.invariant-loop-entry
+invariant-loop-entry g l = record {
+  base : g.D.Directories.base l.directories ≡ g.D.Directories.base l.fn.directories;
+  device : g.D.Directories.device l.directories ≡ g.D.Directories.device l.fn.directories;
+  left : g.D.Directories.left l.directories ≤ 2 ^ 28;
+  grown : (x : ℕ) → x < length l.kinds → number_at l.references x + g.D.Directories.left l.directories ≤ number_at l.fn.references x + 2 ^ 28;
+  high : l.high + unset l.reached ≡ l.top + unset l.fn.reached;
+  comes : (b : List ℕ) → g.D.Directories.knows (g.D.Directories.base l.fn.directories) b → Comes (from_entries l.kinds l.from (g.D.Directories.entries (g.D.Directories.base l.fn.directories) b l.from)) l.fn.reached l.fn.parents (take l.top l.fn.queue) (from_entries l.kinds l.from (g.D.Directories.rest l.directories b)) l.reached l.parents (take l.high l.queue);
+  counts : (b : List ℕ) → g.D.Directories.knows (g.D.Directories.base l.fn.directories) b → Counts (length l.kinds) (count_in (g.D.Directories.entries (g.D.Directories.base l.fn.directories) b l.from)) (any_in (g.D.Directories.entries (g.D.Directories.base l.fn.directories) b l.from)) l.fn.references l.fn.named (count_in (g.D.Directories.rest l.directories b)) (any_in (g.D.Directories.rest l.directories b)) l.references l.named;
+}
+
+abbrev pub decreases-loop-entry : goal.decreases-loop-entry
+decreases-loop-entry g l = g.D.Directories.left l.directories

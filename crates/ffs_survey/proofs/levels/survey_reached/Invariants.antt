@@ -1,0 +1,21 @@
+use Rattle.std.proofs.Common.{◌≡◌, ℕ, ◌+◌, ◌-◌, ◌*◌, ◌<◌, ◌≤◌, ◌^◌, List, length, take, drop}
+use Rattle.ffs_survey.specs.Survey.{number_at, graph_with}
+use Rattle.ffs_survey.specs.Discover.{unset, IsFront, Knows, IsCount}
+use Rattle.ffs_survey.proofs.levels.survey_reached.Given as goal
+
+abbrev pub invariant-loop-low : goal.invariant-loop-low
+invariant-loop-low g l = record {
+  base : g.D.Directories.base l.directories ≡ g.D.Directories.base l.fn.directories;
+  device : g.D.Directories.device l.directories ≡ g.D.Directories.device l.fn.directories;
+  lengths : length l.reached ≡ length l.kinds;
+  ordered : l.low ≤ l.high;
+  deep : l.depth ≤ l.low;
+  room : l.high + unset l.reached ≤ length l.queue;
+  counted : (x : ℕ) → x < length l.kinds → number_at l.references x ≤ l.low * 2 ^ 28;
+  front : (b : List ℕ) → g.D.Directories.knows (g.D.Directories.base l.fn.directories) b → IsFront (graph_with l.kinds (g.D.Directories.entries (g.D.Directories.base l.fn.directories) b)) l.depth (drop l.low (take l.high l.queue));
+  levels : (b : List ℕ) → g.D.Directories.knows (g.D.Directories.base l.fn.directories) b → Knows (graph_with l.kinds (g.D.Directories.entries (g.D.Directories.base l.fn.directories) b)) l.depth l.reached l.parents (take l.high l.queue);
+  counts : (b : List ℕ) → g.D.Directories.knows (g.D.Directories.base l.fn.directories) b → IsCount (graph_with l.kinds (g.D.Directories.entries (g.D.Directories.base l.fn.directories) b)) (take l.low l.queue) l.references l.named;
+}
+
+abbrev pub decreases-loop-low : goal.decreases-loop-low
+decreases-loop-low g l = length l.queue - l.low

@@ -1,0 +1,38 @@
+use Rattle.std.proofs.Common.{rules, ◌≡◌, ℕ, ◌+◌, ◌*◌, ◌<◌, ◌≤◌, ◌^◌, List, length, arith, sym, ◌∙◌}
+use Rattle.ffs_survey.specs.Survey.{number_at, graph_with}
+use Rattle.ffs_survey.specs.Discover.{IsBlank, IsRead}
+use Rattle.ffs_survey.proofs.Whole.{read_start, read_on, read_skip}
+use Rattle.ffs_survey.proofs.levels.survey_unreached.Goals as goal
+
+pub loop-s-init : goal.loop-s-init
+loop-s-init g c = record {
+  base = search rules;
+  device = search rules;
+  grown = λ x l. omega arith;
+  read = λ b k z. read_start (graph_with c.args.kinds.now (g.D.Directories.entries (g.D.Directories.base c.args.directories.now) b)) c.args.kinds.now c.args.reached.now c.args.references.now c.args.named.now c.args.parents.now;
+}
+
+pub loop-s-preserved-then-not-is_free : goal.loop-s-preserved-then-not-is_free
+loop-s-preserved-then-not-is_free g c =
+    let inv = c.loop-s.invariant in
+    record {
+      base = inv.base;
+      device = inv.device;
+      grown = λ x l. let o = inv.grown x l in omega (arith, o);
+      read = λ b k z. read_skip c.args.kinds.now (g.D.Directories.entries (g.D.Directories.base c.args.directories.now) b) c.args.reached.now c.loop-s.s _ _ _ _ _ _ (sym c.is_free.ensures ∙ c.if-not-is_free.true) (inv.read b k z);
+    }
+
+pub loop-s-preserved : goal.loop-s-preserved
+loop-s-preserved g c =
+    let inv = c.loop-s.invariant in
+    let done = c.in_ok-read_unreached.ensures in
+    let counts = rw inv.base at done.counts in
+    let parents = rw inv.base at done.parents in
+    record {
+      base = search rules;
+      device = search rules;
+      grown = λ x l. let o = inv.grown x l in let n = done.grown x l in omega (arith, o, n);
+      read = λ b k z.
+          read_on c.args.kinds.now (g.D.Directories.entries (g.D.Directories.base c.args.directories.now) b) c.args.reached.now c.loop-s.s _ _ _ _ _ _ _ _ _
+          (sym c.is_free.ensures ∙ c.if-not-is_free.false) z (inv.read b k z) (counts b k) (parents b k);
+    }

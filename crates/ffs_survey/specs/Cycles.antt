@@ -1,0 +1,48 @@
+-- Walks along parents that mark where they have been.
+use Rattle.std.specs.Prelude.{◌≡◌, ◌≢◌, ℕ, zero, suc, ◌+◌, ◌<◌, ◌≤◌, ◌==◌, ◌||◌, nat_le, Bool, true, false, cond, List, length, Option, None, Some}
+use Rattle.std.specs.List.{sum_by}
+use Rattle.ffs_volume.specs.Climb.{climb, OnCycle, IsLeader, leads_cycle}
+use Rattle.ffs_survey.specs.Survey.{number_at, bool_at}
+use Rattle.ffs_survey.specs.Discover.{bit}
+
+-- the parents that a list holds: 0 and numbers past the list are none
+abbrev pub up_of : List ℕ → ℕ → Option ℕ
+up_of parents x = cond ((number_at parents x == 0) || nat_le (length parents) (number_at parents x)) None (Some (number_at parents x))
+
+-- how many are 0
+unfoldable pub zeros : List ℕ → ℕ
+zeros xs = sum_by (λ y. bit (y == 0)) xs
+
+-- what is above a stamped number is stamped
+pub record IsClosed (f : ℕ → Option ℕ) (stamp : List ℕ) : Type 0 where
+  pub above : (x y : ℕ) → number_at stamp x ≢ 0 → f x ≡ Some y → number_at stamp y ≢ 0
+
+-- x got its stamp between the two
+pub record IsNew (old new : List ℕ) (x : ℕ) : Type 0 where
+  pub was : number_at old x ≡ 0
+  pub is : number_at new x ≢ 0
+
+-- what a walk from `start` with this stamp leaves
+pub record Walked (f : ℕ → Option ℕ) (start mark : ℕ) (old new : List ℕ) : Type 0 where
+  pub kept : (x : ℕ) → number_at old x ≢ 0 → number_at new x ≡ number_at old x
+  pub fresh : (x : ℕ) → number_at old x ≡ 0 → number_at new x ≢ 0 → number_at new x ≡ mark
+  pub begun : number_at new start ≢ 0
+  pub closed : IsClosed f new
+
+-- `found` is on a cycle, and each newly stamped number on a cycle is on that one
+pub record FindsCycle (f : ℕ → Option ℕ) (n : ℕ) (old new : List ℕ) (found : ℕ) : Type 0 where
+  pub fresh : IsNew old new found
+  pub cycle : OnCycle f found
+  pub short : cycle.length < n
+  pub only : (x : ℕ) → IsNew old new x → OnCycle f x → (k : ℕ) × (climb f k found ≡ Some x)
+
+-- e is the least number on the cycle of `found`
+pub record IsLeastOn (f : ℕ → Option ℕ) (n found e : ℕ) : Type 0 where
+  pub leader : IsLeader f e
+  pub short : leader.cycle.length < n
+  pub on : (k : ℕ) × (climb f k found ≡ Some e)
+
+-- the marks of leaders, where all that is stamped is known
+pub record Marks (f : ℕ → Option ℕ) (n : ℕ) (stamp : List ℕ) (leader : List Bool) : Type 0 where
+  pub known : (x : ℕ) → number_at stamp x ≢ 0 → bool_at leader x ≡ leads_cycle f n x
+  pub blank : (x : ℕ) → number_at stamp x ≡ 0 → bool_at leader x ≡ false

@@ -1,0 +1,120 @@
+-- What a walk over directories discovers and counts, said by what is still to go.
+use Rattle.std.specs.Prelude.{◌≡◌, ℕ, zero, suc, ◌+◌, ◌<◌, ◌≤◌, ◌==◌, Bool, true, false, not, cond, ◌&&◌, ◌||◌, if◌then◌else◌, List, [], ◌∷◌, length, Option, None, Some, is_some, unwrap_or, find, count_by}
+use Rattle.std.specs.List.{list_any, sum_by}
+use Rattle.ffs_volume.specs.Roles.{Seen, refers}
+use Rattle.ffs_volume.specs.Search.{first_below}
+use Rattle.ffs_volume.specs.Climb.{is_value}
+use Rattle.ffs_volume.specs.Graph.{Graph, names, names_in, edge, within, level, parent}
+use Rattle.ffs_survey.specs.Survey.{bool_at, number_at, dir_at, counted_in}
+
+-- 1 for true
+abbrev pub bit : Bool → ℕ
+bit true = 1
+bit false = 0
+
+-- how often x stands in a list
+unfoldable pub times : ℕ → List ℕ → ℕ
+times x q = sum_by (λ y. bit (y == x)) q
+
+-- how many are false
+unfoldable pub unset : List Bool → ℕ
+unset flags = sum_by (λ b. bit (not b)) flags
+
+-- the parent that x gets from the directory s with these entries to go
+abbrev pub from_entries : List ℕ → ℕ → List Seen → ℕ → Option ℕ
+from_entries kinds s rest x = cond (dir_at kinds x && list_any (names x) rest) (Some s) None
+
+-- the parent that x gets from these directories, one after another
+abbrev pub from_dirs : Graph → List ℕ → ℕ → Option ℕ
+from_dirs g ss x = find (λ s. edge g s x) ss
+
+-- nothing is to go
+abbrev pub nothing : ℕ → Option ℕ
+nothing x = None
+
+-- With a to go, the marks r, the parents p and the queue q come to what r', p' and q' come to with c to go.
+pub record Comes (a : ℕ → Option ℕ) (r : List Bool) (p q : List ℕ) (c : ℕ → Option ℕ) (r' : List Bool) (p' q' : List ℕ) : Type 0 where
+  pub reached : (x : ℕ) → (bool_at r' x || is_some (c x)) ≡ (bool_at r x || is_some (a x))
+  pub parent : (x : ℕ) → cond (bool_at r' x) (number_at p' x) (unwrap_or (c x) (number_at p' x)) ≡ cond (bool_at r x) (number_at p x) (unwrap_or (a x) (number_at p x))
+  pub queue : (x : ℕ) → times x q' + bit (is_some (c x) && not (bool_at r' x)) ≡ times x q + bit (is_some (a x) && not (bool_at r x))
+
+-- how many of these entries that count name x, and whether a plain one does
+abbrev pub count_in : List Seen → ℕ → ℕ
+count_in rest x = count_by (refers x) rest
+
+abbrev pub any_in : List Seen → ℕ → Bool
+any_in rest x = list_any (names x) rest
+
+-- the same of the entries of these directories
+abbrev pub count_of : Graph → List ℕ → ℕ → ℕ
+count_of g ss x = sum_by (λ s. counted_in g s x) ss
+
+abbrev pub any_of : Graph → List ℕ → ℕ → Bool
+any_of g ss x = list_any (λ s. names_in g s x) ss
+
+-- none is to go
+abbrev pub none : ℕ → ℕ
+none x = 0
+
+abbrev pub never : ℕ → Bool
+never x = false
+
+-- With c and a to go, the counts f and the flags m of the numbers below n come to what f' and m' come to with c' and a' to go.
+pub record Counts (n : ℕ) (c : ℕ → ℕ) (a : ℕ → Bool) (f : List ℕ) (m : List Bool) (c' : ℕ → ℕ) (a' : ℕ → Bool) (f' : List ℕ) (m' : List Bool) : Type 0 where
+  pub references : (x : ℕ) → x < n → number_at f' x + c' x ≡ number_at f x + c x
+  pub named : (x : ℕ) → x < n → (bool_at m' x || a' x) ≡ (bool_at m x || a x)
+
+-- counts and flags of exactly the entries of these directories
+pub record IsCount (g : Graph) (ss : List ℕ) (f : List ℕ) (m : List Bool) : Type 0 where
+  pub references : (x : ℕ) → x < g.count → number_at f x ≡ count_of g ss x
+  pub named : (x : ℕ) → x < g.count → bool_at m x ≡ any_of g ss x
+
+-- each number of an ascending list stands before no smaller one
+abbrev pub Rising : List ℕ → Type 0
+Rising [] = Unit {0}
+Rising (x ∷ xs) = ((t : ℕ) → 1 ≤ times t xs → x ≤ t) × Rising xs
+
+-- the directories of level k, each once, ascending
+pub record IsFront (g : Graph) (k : ℕ) (xs : List ℕ) : Type 0 where
+  pub members : (x : ℕ) → times x xs ≡ bit (is_value (level g x) k)
+  pub rising : Rising xs
+
+-- the parents when all levels up to k are known
+abbrev pub parent_at : Graph → ℕ → ℕ → Option ℕ
+parent_at g k x = cond (within g k x) (parent g x) None
+
+-- what is known when all levels up to k are known: the marks, the parents, and that each that is marked was queued once
+pub record Knows (g : Graph) (k : ℕ) (r : List Bool) (p q : List ℕ) : Type 0 where
+  pub reached : (x : ℕ) → bool_at r x ≡ within g k x
+  pub parent : (x : ℕ) → number_at p x ≡ unwrap_or (parent_at g k x) 0
+  pub queue : (x : ℕ) → times x q ≡ bit (bool_at r x)
+
+-- how many entries of those directories below n that pass name x
+unfoldable pub counted_by : (ℕ → Bool) → Graph → ℕ → ℕ → ℕ
+counted_by r g x zero = 0
+counted_by r g x (suc s) = counted_by r g x s + (if r s then counted_in g s x else 0)
+
+-- what is known when all reached directories are read
+pub record IsReachedPart (g : Graph) (f : List ℕ) (m r : List Bool) (p : List ℕ) : Type 0 where
+  pub references : (x : ℕ) → x < g.count → number_at f x ≡ counted_by (bool_at r) g x g.count
+  pub named : (x : ℕ) → x < g.count → bool_at m x ≡ is_some (first_below (λ s. bool_at r s && names_in g s x) g.count)
+  pub reached : (x : ℕ) → bool_at r x ≡ is_some (level g x)
+  pub parent : (x : ℕ) → number_at p x ≡ unwrap_or (cond (is_some (level g x)) (parent g x) None) 0
+
+-- x is a directory without a mark
+abbrev pub is_free : List ℕ → List Bool → ℕ → Bool
+is_free kinds r x = dir_at kinds x && not (bool_at r x)
+
+-- the directory s, which has no mark, names x, which has none
+abbrev pub is_free_edge : Graph → List ℕ → List Bool → ℕ → ℕ → Bool
+is_free_edge g kinds r x s = is_free kinds r x && (not (bool_at r s) && names_in g s x)
+
+-- no directory without a mark has a parent
+abbrev pub IsBlank : List ℕ → List Bool → List ℕ → Type 0
+IsBlank kinds r p = (x : ℕ) → is_free kinds r x ≡ true → number_at p x ≡ 0
+
+-- what the directories below n without a mark add to counts and flags, and which parents they give
+pub record IsRead (g : Graph) (kinds : List ℕ) (r : List Bool) (n : ℕ) (f : List ℕ) (m : List Bool) (p f' : List ℕ) (m' : List Bool) (p' : List ℕ) : Type 0 where
+  pub references : (x : ℕ) → x < g.count → number_at f' x ≡ number_at f x + counted_by (λ s. not (bool_at r s)) g x n
+  pub named : (x : ℕ) → x < g.count → bool_at m' x ≡ (bool_at m x || is_some (first_below (λ s. not (bool_at r s) && names_in g s x) n))
+  pub parents : (x : ℕ) → x < g.count → number_at p' x ≡ unwrap_or (first_below (is_free_edge g kinds r x) n) (number_at p x)

@@ -1,0 +1,4 @@
+pub mod Survey
+pub mod Reading
+pub mod Discover
+pub mod Cycles

@@ -1,0 +1,49 @@
+-- What a survey of directories finds of each inode, and the graph that it goes over.
+use Rattle.std.specs.Prelude.{◌≡◌, ℕ, zero, suc, ◌+◌, ◌<◌, ◌==◌, Bool, true, false, ◌&&◌, ◌||◌, nat_le, if◌then◌else◌, List, length, count_by, unwrap_or, slice_index}
+use Rattle.std.specs.List.{slice_index_or}
+use Rattle.ffs_volume.specs.Roles.{Seen, refers}
+use Rattle.ffs_volume.specs.Graph.{Graph, named, reached, parent}
+
+-- the flag at a place of a list, false past its end
+abbrev pub bool_at : List Bool → ℕ → Bool
+bool_at flags x = slice_index_or flags x false
+
+-- the number at a place of a list, 0 past its end
+abbrev pub number_at : List ℕ → ℕ → ℕ
+number_at ns x = slice_index ns x
+
+-- the kinds of directories: 4 with a size, and 5 of size 0
+abbrev pub is_dir_kind : ℕ → Bool
+is_dir_kind kind = (kind == 4) || (kind == 5)
+
+-- x is a directory, by a list with a kind for each inode
+abbrev pub dir_at : List ℕ → ℕ → Bool
+dir_at kinds x = nat_le 2 x && is_dir_kind (number_at kinds x)
+
+-- x is suspect: marked, or a directory of size 0
+abbrev pub suspect_at : List ℕ → List Bool → ℕ → Bool
+suspect_at kinds marked x = bool_at marked x || (nat_le 2 x && (number_at kinds x == 5))
+
+-- the graph of the directories of a list of kinds, with these entries
+abbrev pub graph_with : List ℕ → (ℕ → List Seen) → Graph
+graph_with kinds entries = record { count = length kinds; is_dir = dir_at kinds; entries = entries }
+
+-- how many entries of s that count name x, where s is a directory
+abbrev pub counted_in : Graph → ℕ → ℕ → ℕ
+counted_in g s x = if g.is_dir s then count_by (refers x) (g.entries s) else 0
+
+unfoldable pub references_below : Graph → ℕ → ℕ → ℕ
+references_below g x zero = 0
+references_below g x (suc s) = references_below g x s + counted_in g s x
+
+-- how many entries that count name x
+abbrev pub references_to : Graph → ℕ → ℕ
+references_to g x = references_below g x g.count
+
+-- these lists hold of each inode how many entries that count name it, whether a plain one does, whether it is
+-- reached from inode 2, and its parent, 0 for none
+pub record IsSurvey (g : Graph) (references : List ℕ) (flags marks : List Bool) (parents : List ℕ) : Type 0 where
+  pub counts : (x : ℕ) → x < g.count → number_at references x ≡ references_to g x
+  pub names : (x : ℕ) → x < g.count → bool_at flags x ≡ named g x
+  pub reaches : (x : ℕ) → bool_at marks x ≡ reached g x
+  pub ups : (x : ℕ) → number_at parents x ≡ unwrap_or (parent g x) 0

@@ -1,0 +1,54 @@
+//! What a reader of directories is.
+use crate::named::Named;
+use ffs_image::ImageFault;
+
+/// Directories that are read one entry at a time.
+///
+/// A reader is over something that no reading changes, its `base`. What the entries of directories are is said of each
+/// list of bytes that the base knows to be the image's; without such knowledge a reader hands out some entries, and
+/// still no more of a directory than `left` allows.
+pub trait Directories {
+    ghost use Rattle.std.specs.Prelude.{ℕ, List, ◌≡◌, ◌<◌, ◌≤◌, ◌^◌, [], ◌∷◌, MatchOption, IfSome, IfOk, OnOk, IfErr};
+    ghost use Rattle.ffs_image.specs.Device.{Device, Faulted};
+    ghost use Rattle.ffs_volume.specs.Roles.{Seen};
+    ghost use Rattle.ffs_survey.specs.declared.named.Named.{Named};
+    ghost use Rattle.ffs_survey.specs.Reading.{seen_of};
+
+    ghost Base: { Type 0 };
+
+    ghost base: { Self → Base };
+
+    ghost knows: { Base → List ℕ → Type 0 };
+
+    ghost entries: { Base → List ℕ → ℕ → List Seen };
+
+    ghost device: { Self → Device };
+
+    ghost rest: { Self → List ℕ → List Seen };
+
+    ghost left: { Self → ℕ };
+
+    ghost name: { Self → List ℕ };
+
+    /// Begins a directory.
+    ///
+    /// # Errors
+    /// A read of the image that failed.
+    fn start(&mut self, dir: u32) -> Result<(), ImageFault>
+        ensures rest { OnOk result ((b : List ℕ) → knows (base self.old) b → rest self.new b ≡ entries (base self.old) b dir) }
+        ensures left { OnOk result (left self.new ≤ 2 ^ 28) }
+        ensures base { base self.new ≡ base self.old }
+        ensures device { OnOk result (device self.new ≡ device self.old) }
+        ensures fault { IfErr result (λ fault. Faulted (device self.old) (device self.new) fault.sector) };
+
+    /// The next entry of the directory that was begun, if there is one.
+    ///
+    /// # Errors
+    /// A read of the image that failed.
+    fn next(&mut self) -> Result<Option<Named>, ImageFault>
+        ensures rest { IfOk result (λ o. (b : List ℕ) → knows (base self.old) b → MatchOption o (rest self.old b ≡ []) (λ e. rest self.old b ≡ seen_of e (name self.new) ∷ rest self.new b)) }
+        ensures left { IfOk result (λ o. IfSome o (λ e. left self.new < left self.old)) }
+        ensures base { base self.new ≡ base self.old }
+        ensures device { OnOk result (device self.new ≡ device self.old) }
+        ensures fault { IfErr result (λ fault. Faulted (device self.old) (device self.new) fault.sector) };
+}

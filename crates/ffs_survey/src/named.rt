@@ -1,0 +1,50 @@
+//! An entry of a directory, and the kinds of inodes.
+ghost use Rattle.std.specs.Prelude.{◌≡◌};
+ghost use Rattle.ffs_volume.specs.Roles.{is_plain as is_plain_role, is_counted as is_counted_role};
+ghost use Rattle.ffs_survey.specs.Survey.{dir_at};
+
+use ffs_volume::Role;
+
+/// An entry of a directory without its name: what it is there for, the inode that it names, its length in bytes and
+/// its type (dir(5)).
+#[derive(Clone, Copy, Debug)]
+pub struct Named {
+    pub role: Role,
+    pub number: u32,
+    pub length: u16,
+    pub kind: u8,
+}
+
+/// Whether an entry names an inode in the directory tree: one with a name other than `.` and `..`.
+pub fn is_plain(role: Role) -> bool
+    ensures { result ≡ is_plain_role role }
+{
+    match role {
+        Role::Plain => true,
+        Role::Dot => false,
+        Role::Dotdot => false,
+        Role::Extra => false,
+        Role::Empty => false,
+    }
+}
+
+/// Whether an entry counts as a reference to the inode that it names.
+pub fn is_counted(role: Role) -> bool
+    ensures { result ≡ is_counted_role role }
+{
+    match role {
+        Role::Plain => true,
+        Role::Dot => true,
+        Role::Dotdot => true,
+        Role::Extra => false,
+        Role::Empty => false,
+    }
+}
+
+/// Whether a number is that of a directory, by a list with a kind for each inode: 4 for a directory with a size, 5 for
+/// one of size 0. Inodes 0 and 1 are none.
+pub fn is_dir(kinds: &[u8], number: usize) -> bool
+    ensures { result ≡ dir_at kinds.now number }
+{
+    number >= 2 && number < kinds.len() && (kinds[number] == 4 || kinds[number] == 5)
+}
