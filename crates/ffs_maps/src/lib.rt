@@ -46,7 +46,7 @@ impl FragmentMap {
     }
 
     /// Which of the 64 fragments from one on are of the map and have a clear bit, the first one lowest.
-    pub fn clear_bits(&self, start: u32) -> u64
+    pub fn clear_bits(&self, start: u64) -> u64
         ensures { (k : ℕ) → k < 64 → nat_eq (bit_at result k) 1 ≡ is_clear (bits_of self.now) self.now.size (start + k) }
     {
         let index = start as usize / 64;

@@ -1,0 +1,4 @@
+pub mod Sums
+pub mod Runs
+pub mod Whole
+pub mod Adding

@@ -1,0 +1,16 @@
+use Rattle.std.proofs.Common.{◌≡◌, ◌+◌, ◌-◌, ◌/◌, ◌≤◌, ◌*◌}
+use Rattle.std.specs.List.{range_with_len}
+use Rattle.ffs_volume.specs.Areas.{cgbase}
+use Rattle.ffs_volume.specs.Groups.{block_bits}
+use Rattle.ffs_maps.specs.Bits.{bits_of}
+use Rattle.ffs_groups.specs.Free.{free_in, Added}
+use Rattle.ffs_groups.proofs.free.free_counts.Given as goal
+
+abbrev pub invariant-loop-block : goal.invariant-loop-block
+invariant-loop-block l = record {
+  added : Added (block_bits l.geometry.layout (free_in (bits_of l.used) l.geometry.layout.size) l.group) 0 l.block l.initial.counts l.counts;
+  within : l.block ≤ l.blocks;
+}
+
+abbrev pub decreases-loop-block : goal.decreases-loop-block
+decreases-loop-block l = l.blocks - l.block

@@ -1,0 +1,44 @@
+-- What the free fragments of blocks add to the counts of a group.
+use Rattle.std.specs.Prelude.{ℕ, ◌≡◌, ◌+◌, ◌*◌, ◌/◌, ◌^◌, ◌<◌, Bool, true, false, not, ◌&&◌, List, map, nat_eq, nat_lt, ◌==◌, if◌then◌else◌, slice_index, count_by}
+use Rattle.std.specs.List.{range_with_len, sum_by, slice_index_or}
+use Rattle.std.specs.Int.{bit_at}
+use Rattle.ffs_volume.specs.Groups.{is_whole, free_runs, block_bits, block_numbers, right_frsum}
+use Rattle.ffs_volume.specs.declared.Layout.{Layout}
+use Rattle.ffs_volume.specs.Claims.{is_set}
+use Rattle.ffs_groups.specs.declared.free.FreeCounts.{FreeCounts}
+
+-- the fragments below the size whose bit in a map of used ones is clear
+abbrev pub free_in : List Bool → ℕ → ℕ → Bool
+free_in used size f = nat_lt f size && not (is_set used f)
+
+-- the bits of a word from a place on, so many of them
+abbrev pub word_bits : ℕ → ℕ → ℕ → List Bool
+word_bits word place n = map (λ k. nat_eq (bit_at word k) 1) (range_with_len place n)
+
+-- what a block adds to the free blocks, to the free fragments of other blocks, and to their runs of length k
+abbrev pub whole_in : List Bool → ℕ
+whole_in bits = if is_whole bits then 1 else 0
+
+abbrev pub loose_in : List Bool → ℕ
+loose_in bits = if is_whole bits then 0 else count_by (λ f. f) bits
+
+abbrev pub runs_in : ℕ → List Bool → ℕ
+runs_in k bits = if is_whole bits then 0 else count_by (λ n. n == k) (free_runs 0 bits)
+
+-- each count is below a limit
+pub record AreBelow (limit : ℕ) (counts : FreeCounts) : Type 0 where
+  pub blocks : counts.blocks < limit
+  pub fragments : counts.fragments < limit
+  pub runs : (k : ℕ) → slice_index counts.runs k < limit
+
+-- n blocks from one on are added
+pub record Added (bits : ℕ → List Bool) (from n : ℕ) (old new : FreeCounts) : Type 0 where
+  pub blocks : new.blocks ≡ old.blocks + sum_by (λ b. whole_in (bits b)) (range_with_len from n)
+  pub fragments : new.fragments ≡ old.fragments + sum_by (λ b. loose_in (bits b)) (range_with_len from n)
+  pub runs : (k : ℕ) → slice_index new.runs k ≡ slice_index old.runs k + sum_by (λ b. runs_in k (bits b)) (range_with_len from n)
+
+-- what is free in group c is counted
+pub record AreFree (v : Layout) (free : ℕ → Bool) (c : ℕ) (counts : FreeCounts) : Type 0 where
+  pub blocks : counts.blocks ≡ sum_by (λ b. whole_in (block_bits v free c b)) (block_numbers v)
+  pub fragments : counts.fragments ≡ sum_by (λ b. loose_in (block_bits v free c b)) (block_numbers v)
+  pub runs : (k : ℕ) → slice_index counts.runs k ≡ right_frsum v free c k

@@ -1,0 +1,4 @@
+//! What the records of a cylinder group should be, counted from a map of used fragments and the kinds of inodes.
+#![tactic(auto)]
+
+pub mod free;
