@@ -1,5 +1,5 @@
 -- Blocks are added one after the other, and word after word.
-use Rattle.std.proofs.Common.{◌≡◌, ℕ, zero, suc, ◌+◌, ◌-◌, ◌*◌, ◌/◌, ◌^◌, ◌<◌, ◌≤◌, Bool, true, false, List, [], ◌∷◌, map, length, cond, arith, refl, ap, ◌∙◌, sym, count_by, nat_eq, slice_index}
+use Rattle.std.proofs.Common.{◌≡◌, ℕ, zero, suc, ◌+◌, ◌*◌, ◌/◌, ◌^◌, ◌<◌, ◌≤◌, Bool, true, false, List, [], ◌∷◌, map, length, cond, arith, refl, ap, ◌∙◌, sym, count_by, nat_eq, slice_index}
 use Rattle.std.specs.Prelude.{◌==◌}
 use Rattle.std.specs.List.{range_with_len, sum_by}
 use Rattle.std.specs.Int.{bit_at}
@@ -11,25 +11,25 @@ use Rattle.ffs_volume.specs.Groups.{is_whole, free_runs}
 use Rattle.ffs_groups.specs.declared.free.FreeCounts.{FreeCounts}
 use Rattle.ffs_groups.specs.Free.{word_bits, whole_in, loose_in, runs_in, AreBelow, Added, free_in}
 use Rattle.ffs_groups.proofs.Sums.{sum_split, sum_more, sum_same, sum_within, map_same}
-use Rattle.ffs_groups.proofs.Runs.{runs_few, length_bits}
+use Rattle.ffs_groups.proofs.Runs.{runs_few}
 
 from_zero : (f : ℕ → ℕ) (n m : ℕ) → sum_by f (range_with_len 0 (n + m)) ≡ sum_by f (range_with_len 0 n) + sum_by f (range_with_len n m)
 from_zero f n m =
-  let at : 0 + n ≡ n = omega arith in
-  sum_split f 0 n m (n + m) refl ∙ ap (λ j. sum_by f (range_with_len 0 n) + sum_by f (range_with_len j m)) at
+    let at : 0 + n ≡ n = omega arith in
+    sum_split f 0 n m (n + m) refl ∙ ap (λ j. sum_by f (range_with_len 0 n) + sum_by f (range_with_len j m)) at
 
 one_from_zero : (f : ℕ → ℕ) (n : ℕ) → sum_by f (range_with_len 0 (n + 1)) ≡ sum_by f (range_with_len 0 n) + f n
 one_from_zero f n =
-  let at : 0 + n ≡ n = omega arith in
-  sum_more f 0 n ∙ ap (λ j. sum_by f (range_with_len 0 n) + f j) at
+    let at : 0 + n ≡ n = omega arith in
+    sum_more f 0 n ∙ ap (λ j. sum_by f (range_with_len 0 n) + f j) at
 
 add_up : (new mid old a b s : ℕ) → mid ≡ old + a → new ≡ mid + b → s ≡ a + b → new ≡ old + s
 add_up new mid old a b s e f g = omega (arith, e, f, g)
 
 -- one block more
 pub added_more : (bits : ℕ → List Bool) (n : ℕ) (old mid new : FreeCounts) → Added bits 0 n old mid →
-  new.blocks ≡ mid.blocks + whole_in (bits n) → new.fragments ≡ mid.fragments + loose_in (bits n) →
-  ((k : ℕ) → slice_index new.runs k ≡ slice_index mid.runs k + runs_in k (bits n)) → Added bits 0 (n + 1) old new
+    new.blocks ≡ mid.blocks + whole_in (bits n) → new.fragments ≡ mid.fragments + loose_in (bits n) →
+    ((k : ℕ) → slice_index new.runs k ≡ slice_index mid.runs k + runs_in k (bits n)) → Added bits 0 (n + 1) old new
 added_more bits n old mid new a blocks fragments runs = record {
   blocks = add_up new.blocks mid.blocks old.blocks _ (whole_in (bits n)) _ a.blocks blocks (one_from_zero (λ b. whole_in (bits b)) n);
   fragments = add_up new.fragments mid.fragments old.fragments _ (loose_in (bits n)) _ a.fragments fragments (one_from_zero (λ b. loose_in (bits b)) n);
@@ -37,15 +37,15 @@ added_more bits n old mid new a blocks fragments runs = record {
 }
 
 joined_sums : (f : List Bool → ℕ) (bits other : ℕ → List Bool) (n m : ℕ) → ((k : ℕ) → k < m → other k ≡ bits (n + k)) →
-  sum_by (λ b. f (bits b)) (range_with_len 0 (n + m)) ≡ sum_by (λ b. f (bits b)) (range_with_len 0 n) + sum_by (λ b. f (other b)) (range_with_len 0 m)
+    sum_by (λ b. f (bits b)) (range_with_len 0 (n + m)) ≡ sum_by (λ b. f (bits b)) (range_with_len 0 n) + sum_by (λ b. f (other b)) (range_with_len 0 m)
 joined_sums f bits other n m same =
-  from_zero (λ b. f (bits b)) n m
-  ∙ ap (λ x. sum_by (λ b. f (bits b)) (range_with_len 0 n) + x)
+    from_zero (λ b. f (bits b)) n m
+    ∙ ap (λ x. sum_by (λ b. f (bits b)) (range_with_len 0 n) + x)
     (sum_same (λ b. f (bits b)) (λ b. f (other b)) n 0 m (λ k h. let at : 0 + k ≡ k = omega arith in sym (ap (λ j. f (other j)) at ∙ ap f (same k h))))
 
 -- the blocks of a word more
 pub added_join : (bits other : ℕ → List Bool) (n m : ℕ) (old mid new : FreeCounts) → Added bits 0 n old mid → Added other 0 m mid new →
-  ((k : ℕ) → k < m → other k ≡ bits (n + k)) → Added bits 0 (n + m) old new
+    ((k : ℕ) → k < m → other k ≡ bits (n + k)) → Added bits 0 (n + m) old new
 added_join bits other n m old mid new a b same = record {
   blocks = add_up new.blocks mid.blocks old.blocks _ _ _ a.blocks b.blocks (joined_sums whole_in bits other n m same);
   fragments = add_up new.fragments mid.fragments old.fragments _ _ _ a.fragments b.fragments (joined_sums loose_in bits other n m same);
@@ -78,7 +78,7 @@ below_more new old s n limit low e h l fits = omega arith
 
 -- n blocks add at most 8 times n to any count
 pub added_below : (bits : ℕ → List Bool) (n low limit : ℕ) (old new : FreeCounts) → Added bits 0 n old new → ((b : ℕ) → length (bits b) ≤ 8) →
-  AreBelow low old → low + 8 * n ≤ limit → AreBelow limit new
+    AreBelow low old → low + 8 * n ≤ limit → AreBelow limit new
 added_below bits n low limit old new a short l fits = record {
   blocks = below_more new.blocks old.blocks _ n limit low a.blocks (sum_within (λ b. whole_in (bits b)) 8 0 n (λ k. whole_few (bits k))) l.blocks fits;
   fragments = below_more new.fragments old.fragments _ n limit low a.fragments (sum_within (λ b. loose_in (bits b)) 8 0 n (λ k. loose_few (bits k) (short k))) l.fragments fits;
@@ -87,9 +87,9 @@ added_below bits n low limit old new a short l fits = record {
 
 -- a block of a word, in the numbers of the volume
 pub word_block : (free : ℕ → Bool) (word start frag block k some : ℕ) → ((j : ℕ) → j < 64 → nat_eq (bit_at word j) 1 ≡ free (start + block * frag + j)) →
-  k < some → some * frag ≤ 64 → word_bits (word / 2 ^ (k * frag)) 0 frag ≡ map free (range_with_len (start + (block + k) * frag) frag)
+    k < some → some * frag ≤ 64 → word_bits (word / 2 ^ (k * frag)) 0 frag ≡ map free (range_with_len (start + (block + k) * frag) frag)
 word_block free word start frag block k some has low fits =
-  map_same (λ j. nat_eq (bit_at (word / 2 ^ (k * frag)) j) 1) free 0 (start + (block + k) * frag) frag (λ j h.
+    map_same (λ j. nat_eq (bit_at (word / 2 ^ (k * frag)) j) 1) free 0 (start + (block + k) * frag) frag (λ j h.
     let at : 0 + j ≡ j = omega arith in
     let inside : j + k * frag < 64 = omega (arith, mul-add-lt k frag j some low h) in
     let place : start + block * frag + (j + k * frag) ≡ start + (block + k) * frag + j = omega arith in
@@ -112,8 +112,8 @@ no_runs (suc (suc (suc (suc (suc (suc (suc (suc (suc k))))))))) = refl
 
 pub count_start : (f : ℕ → ℕ) (n m z : ℕ) → z ≡ 0 → n ≡ m → z + sum_by f (range_with_len 0 n) ≡ sum_by f (range_with_len 0 m)
 count_start f n m z e same =
-  let last : sum_by f (range_with_len 0 n) ≡ sum_by f (range_with_len 0 m) = ap (λ j. sum_by f (range_with_len 0 j)) same in
-  omega (arith, e, last)
+    let last : sum_by f (range_with_len 0 n) ≡ sum_by f (range_with_len 0 m) = ap (λ j. sum_by f (range_with_len 0 j)) same in
+    omega (arith, e, last)
 
 pub clear_as_free : (used : List Bool) (size size' f g : ℕ) → size ≡ size' → f ≡ g → is_clear used size f ≡ free_in used size' g
 clear_as_free used size size' f g e at = rw (e, at) refl

@@ -2,3 +2,4 @@ pub mod Sums
 pub mod Runs
 pub mod Whole
 pub mod Adding
+pub mod MapWords

@@ -1,6 +1,6 @@
 -- What the free fragments of blocks add to the counts of a group.
-use Rattle.std.specs.Prelude.{ℕ, ◌≡◌, ◌+◌, ◌*◌, ◌/◌, ◌^◌, ◌<◌, Bool, true, false, not, ◌&&◌, List, map, nat_eq, nat_lt, ◌==◌, if◌then◌else◌, slice_index, count_by}
-use Rattle.std.specs.List.{range_with_len, sum_by, slice_index_or}
+use Rattle.std.specs.Prelude.{ℕ, ◌≡◌, ◌+◌, ◌<◌, Bool, not, ◌&&◌, List, map, nat_eq, nat_lt, ◌==◌, if◌then◌else◌, slice_index, count_by}
+use Rattle.std.specs.List.{range_with_len, sum_by}
 use Rattle.std.specs.Int.{bit_at}
 use Rattle.ffs_volume.specs.Groups.{is_whole, free_runs, block_bits, block_numbers, right_frsum}
 use Rattle.ffs_volume.specs.declared.Layout.{Layout}

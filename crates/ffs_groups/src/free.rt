@@ -93,7 +93,11 @@ pub fn free_counts(geometry: &Geometry, used: &FragmentMap, group: u32) -> FreeC
     let frag = geometry.layout.frag;
     let base = u64::from(geometry.cgbase(group));
     let blocks = geometry.layout.fpg / frag;
-    let mut counts = FreeCounts { blocks: 0, fragments: 0, runs: [0; 9] };
+    let mut counts = FreeCounts {
+        blocks: 0,
+        fragments: 0,
+        runs: [0; 9],
+    };
     let mut block = 0;
     while block < blocks {
         let some = (64 / frag).min(blocks - block);

@@ -2,3 +2,5 @@
 #![tactic(auto)]
 
 pub mod free;
+pub mod inodes;
+pub mod maps;

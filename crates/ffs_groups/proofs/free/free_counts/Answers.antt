@@ -1,35 +1,33 @@
-use Rattle.std.proofs.Common.{arith, rules, refl, ap, sym, ◌∙◌, ◌≡◌, ◌+◌, ◌-◌, ◌*◌, ◌/◌, ◌^◌, ◌≤◌, ◌<◌, ℕ, length, nat_eq}
-use Rattle.std.specs.Int.{bit_at}
-use Rattle.std.specs.List.{range_with_len, sum_by}
+use Rattle.std.proofs.Common.{arith, refl, ◌∙◌, ◌≡◌, ◌+◌, ◌*◌, ◌/◌, ◌^◌}
 use Rattle.std.proofs.lemmas.List.FromFn.{length-map-range_with_len}
 use Rattle.ffs_volume.specs.Areas.{cgbase}
-use Rattle.ffs_volume.specs.Groups.{block_bits, block_numbers, right_frsum}
-use Rattle.ffs_maps.specs.Bits.{bits_of, is_clear}
-use Rattle.ffs_groups.specs.Free.{word_bits, free_in, Added, AreBelow, whole_in, loose_in, runs_in}
+use Rattle.ffs_volume.specs.Groups.{block_bits, right_frsum}
+use Rattle.ffs_maps.specs.Bits.{bits_of}
+use Rattle.ffs_groups.specs.Free.{word_bits, free_in, whole_in, loose_in, runs_in}
 use Rattle.ffs_groups.proofs.Adding.{added_join, added_below, word_block, no_runs, count_start, clear_as_free, place_is, word_fits}
 use Rattle.ffs_groups.proofs.free.free_counts.Goals as goal
 
 pub add_word-requires-clause-below : goal.add_word-requires-clause-below
 add_word-requires-clause-below c =
     added_below (block_bits c.args.geometry.now.layout (free_in (bits_of c.args.used.now) c.args.geometry.now.layout.size) c.args.group) c.loop-block.block 1 (2 ^ 62) _ c.loop-block.counts c.loop-block.invariant.added
-      (λ b. omega (arith, length-map-range_with_len (free_in (bits_of c.args.used.now) c.args.geometry.now.layout.size) (cgbase c.args.geometry.now.layout c.args.group + b * c.args.geometry.now.layout.frag) c.args.geometry.now.layout.frag, c.args.geometry.now.sound.sizes.frag_high))
-      (record { blocks = omega arith; fragments = omega arith; runs = λ k. omega (arith, no_runs k) })
-      (omega (arith, c.loop-block.auto.block-fits))
+    (λ b. omega (arith, length-map-range_with_len (free_in (bits_of c.args.used.now) c.args.geometry.now.layout.size) (cgbase c.args.geometry.now.layout c.args.group + b * c.args.geometry.now.layout.frag) c.args.geometry.now.layout.frag, c.args.geometry.now.sound.sizes.frag_high))
+    (record { blocks = omega arith; fragments = omega arith; runs = λ k. omega (arith, no_runs k) })
+    (omega (arith, c.loop-block.auto.block-fits))
 
 pub loop-block-preserved : goal.loop-block-preserved
 loop-block-preserved c = record {
-    added = added_join (block_bits c.args.geometry.now.layout (free_in (bits_of c.args.used.now) c.args.geometry.now.layout.size) c.args.group)
+  added = added_join (block_bits c.args.geometry.now.layout (free_in (bits_of c.args.used.now) c.args.geometry.now.layout.size) c.args.group)
       (λ b. word_bits (c.clear_bits-word.result / 2 ^ (b * c.args.geometry.now.layout.frag)) 0 c.args.geometry.now.layout.frag)
       c.loop-block.block c.min-some.result _ c.loop-block.counts c.add_word.new.self c.loop-block.invariant.added c.add_word.ensures
       (λ k h. word_block (free_in (bits_of c.args.used.now) c.args.geometry.now.layout.size) c.clear_bits-word.result (cgbase c.args.geometry.now.layout c.args.group) c.args.geometry.now.layout.frag
-        c.loop-block.block k c.min-some.result
-        (λ j low. c.clear_bits-word.ensures j low
-          ∙ clear_as_free (bits_of c.args.used.now) c.args.used.now.size c.args.geometry.now.layout.size _ _ c.requires.size
-            (place_is c.from-base.result c.from.result c.from-in-loop-block.result (cgbase c.args.geometry.now.layout c.args.group) c.loop-block.block c.args.geometry.now.layout.frag j
-              (c.from-base.ensures ∙ c.cgbase.ensures.value) c.from.ensures c.from-in-loop-block.ensures))
-        h (word_fits c.min-some.result c.args.geometry.now.layout.frag (omega (arith, c.min-some.ensures))));
-    within = omega (arith, c.min-some.ensures);
-  }
+      c.loop-block.block k c.min-some.result
+      (λ j low. c.clear_bits-word.ensures j low
+      ∙ clear_as_free (bits_of c.args.used.now) c.args.used.now.size c.args.geometry.now.layout.size _ _ c.requires.size
+      (place_is c.from-base.result c.from.result c.from-in-loop-block.result (cgbase c.args.geometry.now.layout c.args.group) c.loop-block.block c.args.geometry.now.layout.frag j
+      (c.from-base.ensures ∙ c.cgbase.ensures.value) c.from.ensures c.from-in-loop-block.ensures))
+      h (word_fits c.min-some.result c.args.geometry.now.layout.frag (omega (arith, c.min-some.ensures))));
+  within = omega (arith, c.min-some.ensures);
+}
 
 pub returns : goal.returns
 unfolding right_frsum

@@ -1,6 +1,4 @@
-use Rattle.std.proofs.Common.{◌≡◌, ◌+◌, ◌-◌, ◌/◌, ◌≤◌, ◌*◌}
-use Rattle.std.specs.List.{range_with_len}
-use Rattle.ffs_volume.specs.Areas.{cgbase}
+use Rattle.std.proofs.Common.{◌-◌, ◌≤◌}
 use Rattle.ffs_volume.specs.Groups.{block_bits}
 use Rattle.ffs_maps.specs.Bits.{bits_of}
 use Rattle.ffs_groups.specs.Free.{free_in, Added}

@@ -1,7 +1,4 @@
-use Rattle.std.proofs.Common.{arith, rules, ◌≡◌, true, false, ◌∙◌, sym, ap, cond, slice_index, count_by, ◌+◌}
-use Rattle.std.specs.Prelude.{◌==◌}
-use Rattle.ffs_volume.specs.Groups.{is_whole, free_runs}
-use Rattle.ffs_groups.specs.Free.{word_bits}
+use Rattle.std.proofs.Common.{arith}
 use Rattle.ffs_groups.proofs.Whole.{whole_by_mask, not_whole_by_mask}
 use Rattle.ffs_groups.proofs.free.FreeCounts.add_block.Goals as goal
 

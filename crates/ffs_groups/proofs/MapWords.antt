@@ -1,0 +1,199 @@
+-- The words of a map.
+use Rattle.std.proofs.Common.{◌≡◌, inl, inr, ℕ, zero, suc, ◌+◌, ◌-◌, ◌*◌, ◌/◌, ◌%◌, ◌^◌, ◌<◌, ◌≤◌, Bool, true, false, List, arith, refl, ap, ◌∙◌, sym, nat_eq, min, max, bit_and, bit_or, slice_index}
+use Rattle.std.specs.Prelude.{◌&&◌}
+use Rattle.std.specs.Int.{bit_at, w64}
+use Rattle.std.specs.Int.RustNames.{bit_xor}
+use Rattle.std.proofs.lemmas.Bool.{cases_lt, true≢false}
+use Rattle.std.proofs.lemmas.Nat.Bits.{bit_at_and, bit_at_or, bit_at_xor, bit_at-lt, bit_at-zero, bit_at_ones, bit_at_ones_above, bit_at_above, same_from_bits, ones_shr, bit_at_set_same}
+use Rattle.ffs_maps.proofs.Words.{bit_mod, bit_shl_low, bit_shl_high}
+use Rattle.ffs_volume.specs.Numbers.{all_below}
+use Rattle.ffs_volume.specs.Groups.{bit_at as map_bit, same_bit}
+
+max_low : (a b : ℕ) → b ≡ 0 → max a b ≡ a
+max_low a b e = omega arith
+
+max_high : (a b : ℕ) → a ≡ 0 → max a b ≡ b
+max_high a b e = omega arith
+
+mod_small : (x : ℕ) → x % 2 ^ 64 < 2 ^ 64
+mod_small x = omega arith
+
+-- a byte is put into a word
+pub byte_low : (bytes : List ℕ) (place byte word b : ℕ) → byte < 8 → b ≡ slice_index bytes (place + byte) →
+    ((k : ℕ) → k < 8 * byte → nat_eq (bit_at word k) 1 ≡ map_bit bytes place k) → ((k : ℕ) → 8 * byte ≤ k → bit_at word k ≡ 0) →
+    (k : ℕ) → k < 8 * (byte + 1) → nat_eq (bit_at (bit_or word (b * 2 ^ (8 * byte) % 2 ^ 64)) k) 1 ≡ map_bit bytes place k
+byte_low bytes place byte word b h is low high k below =
+    ap (λ x. nat_eq x 1) (bit_at_or word (b * 2 ^ (8 * byte) % 2 ^ 64) k)
+    ∙ elim (cases_lt k (8 * byte)) [
+      | inl inside ↦ ap (λ x. nat_eq x 1) (max_low _ _ (bit_mod (b * 2 ^ (8 * byte)) 64 k (omega arith) ∙ bit_shl_low b (8 * byte) k inside)) ∙ low k inside
+      | inr above ↦
+          let at : k / 8 ≡ byte = omega arith in
+          let bit : k - 8 * byte ≡ k % 8 = omega arith in
+          ap (λ x. nat_eq x 1) (max_high _ _ (high k above) ∙ bit_mod (b * 2 ^ (8 * byte)) 64 k (omega arith) ∙ bit_shl_high b (8 * byte) k above)
+          ∙ ap (λ x. nat_eq (bit_at x (k - 8 * byte)) 1) is
+          ∙ ap (λ j. nat_eq (bit_at (slice_index bytes (place + byte)) j) 1) bit
+          ∙ ap (λ j. nat_eq (bit_at (slice_index bytes (place + j)) (k % 8)) 1) (sym at)
+    ]
+
+pub byte_high : (byte word b : ℕ) → byte < 8 → b < 256 → ((k : ℕ) → 8 * byte ≤ k → bit_at word k ≡ 0) →
+    (k : ℕ) → 8 * (byte + 1) ≤ k → bit_at (bit_or word (b * 2 ^ (8 * byte) % 2 ^ 64)) k ≡ 0
+byte_high byte word b h fits high k above =
+    bit_at_or word (b * 2 ^ (8 * byte) % 2 ^ 64) k
+    ∙ max_high _ _ (high k (omega arith))
+    ∙ elim (cases_lt k 64) [
+      | inl inside ↦ bit_mod (b * 2 ^ (8 * byte)) 64 k inside ∙ bit_shl_high b (8 * byte) k (omega arith) ∙ bit_at_above b 8 (k - 8 * byte) fits (omega arith)
+      | inr past ↦ bit_at_above (b * 2 ^ (8 * byte) % 2 ^ 64) 64 k (mod_small (b * 2 ^ (8 * byte))) past
+    ]
+
+-- ---- two words with the same bits
+all_true : (n : ℕ) (test : ℕ → Bool) → ((k : ℕ) → k < n → test k ≡ true) → all_below n test ≡ true
+unfolding all_below
+all_true zero test e = refl
+all_true (suc n) test e = ap (λ b. b && all_below n test) (e n (omega arith)) ∙ all_true n test (λ k h. e k (omega arith))
+
+and_true : (a b : Bool) → (a && b) ≡ true → (a ≡ true) × (b ≡ true)
+and_true true b e = (refl, e)
+and_true false b e = absurd (true≢false (sym e))
+
+pub true_at : (n k : ℕ) (test : ℕ → Bool) → all_below n test ≡ true → k < n → test k ≡ true
+unfolding all_below
+true_at zero k test all h = absurd (omega arith)
+true_at (suc n) k test all h = elim (cases_lt k n) [
+  | inl low ↦ true_at n k test (and_true (test n) (all_below n test) all).1 low
+  | inr past ↦ let same : k ≡ n = omega arith in ap test same ∙ (and_true (test n) (all_below n test) all).0
+]
+
+pub same_below : (n : ℕ) (f g : ℕ → Bool) → ((k : ℕ) → k < n → f k ≡ g k) → all_below n f ≡ all_below n g
+unfolding all_below
+same_below zero f g e = refl
+same_below (suc n) f g e = ap (λ b. b && all_below n f) (e n (omega arith)) ∙ ap (λ b. g n && b) (same_below n f g (λ k h. e k (omega arith)))
+
+and_end : (a : Bool) → a ≡ (a && true)
+and_end true = refl
+and_end false = refl
+
+and_swap : (t a b : Bool) → (t && (a && b)) ≡ (a && (t && b))
+and_swap true true b = refl
+and_swap true false b = refl
+and_swap false true b = refl
+and_swap false false b = refl
+
+-- the first n, and those after them
+pub all_join : (n m t : ℕ) (test : ℕ → Bool) → t ≡ n + m → all_below t test ≡ (all_below n test && all_below m (λ k. test (n + k)))
+unfolding all_below
+all_join n zero t test e = let same : t ≡ n = omega (arith, e) in ap (λ j. all_below j test) same ∙ and_end (all_below n test)
+all_join n (suc m) zero test e = absurd (omega arith)
+all_join n (suc m) (suc t) test e =
+    let same : t ≡ n + m = omega (arith, e) in
+    ap (λ b. test t && b) (all_join n m t test same)
+    ∙ ap (λ j. test j && (all_below n test && all_below m (λ k. test (n + k)))) same
+    ∙ and_swap (test (n + m)) (all_below n test) (all_below m (λ k. test (n + k)))
+
+small_bits : (a b : ℕ) → a < 2 → b < 2 → (a + b) % 2 ≡ 0 → same_bit (nat_eq a 1) (nat_eq b 1) ≡ true
+small_bits zero zero h g e = refl
+small_bits zero (suc zero) h g e = absurd (omega arith)
+small_bits (suc zero) zero h g e = absurd (omega arith)
+small_bits (suc zero) (suc zero) h g e = refl
+small_bits (suc (suc a)) b h g e = absurd (omega arith)
+small_bits a (suc (suc b)) h g e = absurd (omega arith)
+
+no_difference : (a b : ℕ) → a < 2 → b < 2 → same_bit (nat_eq a 1) (nat_eq b 1) ≡ true → (a + b) % 2 ≡ 0
+no_difference zero zero h g e = refl
+no_difference zero (suc zero) h g e = absurd (true≢false (sym e))
+no_difference (suc zero) zero h g e = absurd (true≢false (sym e))
+no_difference (suc zero) (suc zero) h g e = refl
+no_difference (suc (suc a)) b h g e = absurd (omega arith)
+no_difference a (suc (suc b)) h g e = absurd (omega arith)
+
+zero_of_min : (a b : ℕ) → a < 2 → b ≡ 1 → min a b ≡ 0 → a ≡ 0
+zero_of_min a b h e f = omega arith
+
+min_low : (a b : ℕ) → a ≡ 0 → min a b ≡ 0
+min_low a b e = omega arith
+
+min_high : (a b : ℕ) → b ≡ 0 → min a b ≡ 0
+min_high a b e = omega arith
+
+same_from_zero : (a b n : ℕ) → bit_and (bit_xor a b) (2 ^ n - 1) ≡ 0 → (k : ℕ) → k < n → same_bit (nat_eq (bit_at a k) 1) (nat_eq (bit_at b k) 1) ≡ true
+same_from_zero a b n e k h =
+    let none : bit_at (bit_xor a b) k ≡ 0 = zero_of_min _ _ (bit_at-lt (bit_xor a b) k) (bit_at_ones n k h) (sym (bit_at_and (bit_xor a b) (2 ^ n - 1) k) ∙ ap (λ x. bit_at x k) e ∙ bit_at-zero k) in
+    small_bits (bit_at a k) (bit_at b k) (bit_at-lt a k) (bit_at-lt b k) (sym (bit_at_xor a b k) ∙ none)
+
+zero_from_same : (a b n : ℕ) → ((k : ℕ) → k < n → same_bit (nat_eq (bit_at a k) 1) (nat_eq (bit_at b k) 1) ≡ true) → bit_and (bit_xor a b) (2 ^ n - 1) ≡ 0
+zero_from_same a b n same = same_from_bits (bit_and (bit_xor a b) (2 ^ n - 1)) 0 (λ k. bit_at_and (bit_xor a b) (2 ^ n - 1) k ∙ elim (cases_lt k n) [
+  | inl low ↦ min_low _ _ (bit_at_xor a b k ∙ no_difference (bit_at a k) (bit_at b k) (bit_at-lt a k) (bit_at-lt b k) (same k low)) ∙ sym (bit_at-zero k)
+  | inr past ↦ min_high _ _ (bit_at_ones_above n k past) ∙ sym (bit_at-zero k)
+])
+
+zero_test : (x : ℕ) → x ≡ 0 → nat_eq x 0 ≡ true
+zero_test x e = rw e refl
+
+suc_not_zero : (x : ℕ) → suc x ≡ 0 → ⊥
+suc_not_zero x e = omega arith
+
+one_test : (x : ℕ) → nat_eq (suc x) 0 ≡ false
+one_test x = grind arith
+
+pub is_same_word : (a b n : ℕ) → nat_eq (bit_and (bit_xor a b) (2 ^ n - 1)) 0 ≡ all_below n (λ k. same_bit (nat_eq (bit_at a k) 1) (nat_eq (bit_at b k) 1))
+is_same_word a b n = go (bit_and (bit_xor a b) (2 ^ n - 1)) refl
+  where
+    other : (x : Bool) → (all_below n (λ k. same_bit (nat_eq (bit_at a k) 1) (nat_eq (bit_at b k) 1))) ≡ x → (bit_and (bit_xor a b) (2 ^ n - 1) ≡ 0 → ⊥) → false ≡ x
+    other true e apart = absurd (apart (zero_from_same a b n (λ k h. true_at n k (λ k. same_bit (nat_eq (bit_at a k) 1) (nat_eq (bit_at b k) 1)) e h)))
+    other false e apart = refl
+
+    go : (x : ℕ) → bit_and (bit_xor a b) (2 ^ n - 1) ≡ x → nat_eq (bit_and (bit_xor a b) (2 ^ n - 1)) 0 ≡ all_below n (λ k. same_bit (nat_eq (bit_at a k) 1) (nat_eq (bit_at b k) 1))
+    go zero e = zero_test _ e ∙ sym (all_true n (λ k. same_bit (nat_eq (bit_at a k) 1) (nat_eq (bit_at b k) 1)) (same_from_zero a b n e))
+    go (suc x) e = ap (λ y. nat_eq y 0) e ∙ one_test x ∙ other _ refl (λ z. suc_not_zero x (sym e ∙ z))
+
+pub set_same : (word k : ℕ) → k < 64 → nat_eq (bit_at (bit_or word (1 * 2 ^ k % 2 ^ 64)) k) 1 ≡ true
+set_same word k h = ap (λ x. nat_eq x 1) (bit_at_set_same w64 word k h)
+
+-- by the mask that the code computes
+pub same_by_mask : (a b n : ℕ) → n ≤ 64 → nat_eq (bit_and (bit_xor a b) ((2 ^ 64 - 1) / 2 ^ (64 - n))) 0 ≡ all_below n (λ k. same_bit (nat_eq (bit_at a k) 1) (nat_eq (bit_at b k) 1))
+same_by_mask a b n h =
+    let twice : 64 - (64 - n) ≡ n = omega arith in
+    let mask : (2 ^ 64 - 1) / 2 ^ (64 - n) ≡ 2 ^ n - 1 = ones_shr 64 (64 - n) (omega arith) ∙ ap (λ k. 2 ^ k - 1) twice in
+    ap (λ m. nat_eq (bit_and (bit_xor a b) m) 0) mask ∙ is_same_word a b n
+
+-- ---- a map, word after word
+moved_bit : (block : List ℕ) (place word k : ℕ) → map_bit block (place + 8 * word) k ≡ map_bit block place (64 * word + k)
+moved_bit block place word k =
+    let byte : place + 8 * word + k / 8 ≡ place + (64 * word + k) / 8 = omega arith in
+    let bit : k % 8 ≡ (64 * word + k) % 8 = omega arith in
+    ap (λ j. nat_eq (bit_at (slice_index block j) (k % 8)) 1) byte ∙ ap (λ j. nat_eq (bit_at (slice_index block (place + (64 * word + k) / 8)) j) 1) bit
+
+-- the words before this one are right: then the map up to this word's end is as the word is
+pub word_is : (block : List ℕ) (place n word count found right : ℕ) (bits : ℕ → Bool) → 64 * word < n →
+    all_below (min (64 * word) n) (λ k. same_bit (map_bit block place k) (bits k)) ≡ true →
+    ((k : ℕ) → k < count → nat_eq (bit_at found k) 1 ≡ map_bit block (place + 8 * word) k) →
+    ((k : ℕ) → k < count → nat_eq (bit_at right k) 1 ≡ bits (64 * word + k)) →
+    all_below (64 * word + count) (λ k. same_bit (map_bit block place k) (bits k))
+    ≡ all_below count (λ k. same_bit (nat_eq (bit_at found k) 1) (nat_eq (bit_at right k) 1))
+word_is block place n word count found right bits h before is_found is_right =
+    let low : 64 * word ≡ min (64 * word) n = omega (arith, h) in
+    all_join (64 * word) count (64 * word + count) (λ k. same_bit (map_bit block place k) (bits k)) refl
+    ∙ ap (λ b. b && all_below count (λ k. same_bit (map_bit block place (64 * word + k)) (bits (64 * word + k))))
+    (ap (λ j. all_below j (λ k. same_bit (map_bit block place k) (bits k))) low ∙ before)
+    ∙ same_below count (λ k. same_bit (map_bit block place (64 * word + k)) (bits (64 * word + k))) (λ k. same_bit (nat_eq (bit_at found k) 1) (nat_eq (bit_at right k) 1))
+    (λ k l. sym (ap (λ b. same_bit b (nat_eq (bit_at right k) 1)) (is_found k l ∙ moved_bit block place word k)
+    ∙ ap (λ b. same_bit (map_bit block place (64 * word + k)) b) (is_right k l)))
+
+pub map_goes_on : (n word count : ℕ) (test : ℕ → Bool) → count ≡ min (n - 64 * word) 64 → 64 * word < n →
+    all_below (64 * word + count) test ≡ true → all_below (min (64 * (word + 1)) n) test ≡ true
+map_goes_on n word count test e h now =
+    let at : min (64 * (word + 1)) n ≡ 64 * word + count = omega (arith, e, h) in
+    ap (λ j. all_below j test) at ∙ now
+
+pub map_fails : (n word count : ℕ) (test : ℕ → Bool) → count ≡ min (n - 64 * word) 64 → 64 * word < n →
+    all_below (64 * word + count) test ≡ false → all_below n test ≡ false
+map_fails n word count test e h now =
+    let at : n ≡ 64 * word + count + (n - (64 * word + count)) = omega (arith, e, h) in
+    all_join (64 * word + count) (n - (64 * word + count)) n test at
+    ∙ ap (λ b. b && all_below (n - (64 * word + count)) (λ k. test (64 * word + count + k))) now
+
+pub map_begins : (n : ℕ) (test : ℕ → Bool) → all_below (min 0 n) test ≡ true
+unfolding all_below
+map_begins n test = let e : min 0 n ≡ 0 = omega arith in ap (λ j. all_below j test) e
+
+pub moved_in : (bits : ℕ → Bool) (first word k : ℕ) → bits (first + 64 * word + k) ≡ bits (first + (64 * word + k))
+moved_in bits first word k = let e : first + 64 * word + k ≡ first + (64 * word + k) = omega arith in ap bits e

@@ -1,0 +1,11 @@
+use Rattle.std.proofs.Common.{ℕ, ◌≡◌, ◌+◌, ◌<◌, ◌≤◌, nat_eq}
+use Rattle.std.specs.Int.{bit_at}
+use Rattle.ffs_volume.specs.Groups.{is_used_inode}
+use Rattle.ffs_groups.specs.Inodes.{class_in}
+use Rattle.ffs_groups.proofs.maps.used_word.Given as goal
+
+abbrev pub invariant-loop-place : goal.invariant-loop-place
+invariant-loop-place l = record {
+  low : (k : ℕ) → k < l.place → nat_eq (bit_at l.word k) 1 ≡ is_used_inode (class_in l.kinds) (l.first + k);
+  high : (k : ℕ) → l.place ≤ k → bit_at l.word k ≡ 0;
+}

@@ -1,0 +1,65 @@
+//! The inodes of a cylinder group.
+
+ghost use Rattle.std.specs.Prelude.{◌≡◌, ◌+◌, ◌*◌, ◌<◌, length, count_by, not, if◌then◌else◌};
+ghost use Rattle.ffs_volume.specs.Inodes.{is_dir_class};
+ghost use Rattle.ffs_volume.specs.Groups.{is_used_class, is_used_inode, is_dir, group_inodes};
+ghost use Rattle.ffs_groups.specs.Inodes.{class_of_kind, class_in};
+
+use ffs_layout::Geometry;
+
+/// How many inodes of a group are directories, and how many are free.
+#[derive(Clone, Copy, Debug)]
+pub struct InodeCounts {
+    pub dirs: u32,
+    pub free: u32,
+}
+
+fn is_dir_kind(kind: u8) -> bool
+    ensures { result ≡ is_dir_class (class_of_kind kind) }
+{
+    kind == 4 || kind == 5
+}
+
+fn is_used_kind(kind: u8) -> bool
+    ensures { result ≡ is_used_class (class_of_kind kind) }
+{
+    kind != 0
+}
+
+fn is_dir_at(kinds: &[u8], inode: usize) -> bool
+    requires { inode < length kinds.now }
+    ensures { result ≡ is_dir (class_in kinds.now) inode }
+{
+    inode >= 2 && is_dir_kind(kinds[inode])
+}
+
+/// Whether an inode is in use: 0, 1, and each that has a type.
+pub fn is_used_at(kinds: &[u8], inode: usize) -> bool
+    requires { inode < length kinds.now }
+    ensures { result ≡ is_used_inode (class_in kinds.now) inode }
+{
+    inode < 2 || is_used_kind(kinds[inode])
+}
+
+fn one_if(holds: bool) -> u32
+    ensures { result ≡ (if holds then 1 else 0) }
+{
+    u32::from(holds)
+}
+
+/// The directories and the free inodes of a group.
+pub fn inode_counts(geometry: &Geometry, kinds: &[u8], group: u32) -> InodeCounts
+    requires group { group < geometry.now.layout.ncg }
+    requires kinds { length kinds.now ≡ geometry.now.layout.ncg * geometry.now.layout.ipg }
+    ensures dirs { result.dirs ≡ count_by (is_dir (class_in kinds.now)) (group_inodes geometry.now.layout group) }
+    ensures free { result.free ≡ count_by (λ x. not (is_used_inode (class_in kinds.now) x)) (group_inodes geometry.now.layout group) }
+{
+    let first = group as usize * geometry.layout.ipg as usize;
+    let mut counts = InodeCounts { dirs: 0, free: 0 };
+    for place in 0..geometry.layout.ipg {
+        let inode = first + place as usize;
+        counts.dirs += one_if(is_dir_at(kinds, inode));
+        counts.free += one_if(!is_used_at(kinds, inode));
+    }
+    counts
+}

@@ -1,0 +1,134 @@
+//! The maps of a group block, compared with what they should be by words of 64 bits.
+//!
+//! A map's first bit is the lowest of its first byte, in both orders of bytes.
+
+ghost use Rattle.std.specs.Prelude.{ℕ, ◌≡◌, ◌≢◌, ◌+◌, ◌*◌, ◌<◌, ◌≤◌, length, nat_eq};
+ghost use Rattle.std.specs.Int.{bit_at, div_ceil};
+ghost use Rattle.ffs_volume.specs.Numbers.{all_below};
+ghost use Rattle.ffs_volume.specs.Areas.{cgbase};
+ghost use Rattle.ffs_volume.specs.Groups.{bit_at as map_bit, same_bit, has_bits, is_used_inode, group_size};
+ghost use Rattle.ffs_maps.specs.Bits.{bits_of};
+ghost use Rattle.ffs_groups.specs.Free.{free_in};
+ghost use Rattle.ffs_groups.specs.Inodes.{class_in};
+
+use crate::inodes::is_used_at;
+use ffs_layout::Geometry;
+use ffs_maps::FragmentMap;
+
+// The bits in some bytes of a map, the first one lowest.
+fn word_at(map: &[u8], place: usize, bytes: usize) -> u64
+    requires bytes { bytes ≤ 8 }
+    requires inside { place + bytes ≤ length map.now }
+    ensures { (k : ℕ) → k < 8 * bytes → nat_eq (bit_at result k) 1 ≡ map_bit map.now place k }
+{
+    let mut word = 0;
+    for byte in 0..bytes {
+        word |= u64::from(map[place + byte]) << (8 * byte);
+    }
+    word
+}
+
+// A word with one bit more.
+fn with_bit(word: u64, place: u32, bit: bool) -> u64
+    requires place { place < 64 }
+    requires clear { bit_at word place ≡ 0 }
+    ensures bit { nat_eq (bit_at result place) 1 ≡ bit }
+    ensures other { (k : ℕ) → k ≢ place → bit_at result k ≡ bit_at word k }
+{
+    if bit { word | 1 << place } else { word }
+}
+
+// Which of some inodes are in use, the first one lowest.
+fn used_word(kinds: &[u8], first: usize, count: u32) -> u64
+    requires count { count ≤ 64 }
+    requires inside { first + count ≤ length kinds.now }
+    ensures { (k : ℕ) → k < count → nat_eq (bit_at result k) 1 ≡ is_used_inode (class_in kinds.now) (first + k) }
+{
+    let mut word = 0;
+    for place in 0..count {
+        word = with_bit(word, place, is_used_at(kinds, first + place as usize));
+    }
+    word
+}
+
+// Whether two words have the same lowest bits.
+fn same_bits(found: u64, right: u64, count: u32) -> bool
+    requires some { 0 < count }
+    requires count { count ≤ 64 }
+    ensures { result ≡ all_below count (λ k. same_bit (nat_eq (bit_at found k) 1) (nat_eq (bit_at right k) 1)) }
+{
+    (found ^ right) & (u64::MAX >> (64 - count)) == 0
+}
+
+/// Whether the map of inodes at a byte of a group block has the bits of the inodes that are in use.
+pub fn same_inode_map(
+    geometry: &Geometry,
+    kinds: &[u8],
+    group: u32,
+    block: &[u8],
+    place: u32,
+) -> bool
+    requires group { group < geometry.now.layout.ncg }
+    requires kinds { length kinds.now ≡ geometry.now.layout.ncg * geometry.now.layout.ipg }
+    requires inside { place + div_ceil geometry.now.layout.ipg 8 ≤ length block.now }
+    ensures { result ≡ has_bits block.now place geometry.now.layout.ipg (λ k. is_used_inode (class_in kinds.now) (group * geometry.now.layout.ipg + k)) }
+{
+    let inodes = geometry.layout.ipg;
+    let first = group as usize * inodes as usize;
+    for word in 0..inodes.div_ceil(64) {
+        let count = (inodes - 64 * word).min(64);
+        let found = word_at(
+            block,
+            place as usize + 8 * word as usize,
+            count.div_ceil(8) as usize,
+        );
+        let right = used_word(kinds, first + 64 * word as usize, count);
+        if !same_bits(found, right, count) {
+            return false;
+        }
+    }
+    true
+}
+
+/// How many fragments a group has.
+#[tactic(auto, unfolding(ffs_volume::specs::Areas::cgbase))]
+pub fn group_fragments(geometry: &Geometry, group: u32) -> u32
+    requires { group < geometry.now.layout.ncg }
+    ensures value { result ≡ group_size geometry.now.layout group }
+    ensures within { result ≤ geometry.now.layout.fpg }
+{
+    geometry
+        .layout
+        .fpg
+        .min(geometry.layout.size - geometry.cgbase(group))
+}
+
+/// Whether the map of fragments at a byte of a group block has the bits of the fragments that are free.
+pub fn same_fragment_map(
+    geometry: &Geometry,
+    used: &FragmentMap,
+    group: u32,
+    block: &[u8],
+    place: u32,
+) -> bool
+    requires group { group < geometry.now.layout.ncg }
+    requires size { used.now.size ≡ geometry.now.layout.size }
+    requires inside { place + div_ceil geometry.now.layout.fpg 8 ≤ length block.now }
+    ensures { result ≡ has_bits block.now place (group_size geometry.now.layout group) (λ k. free_in (bits_of used.now) geometry.now.layout.size (cgbase geometry.now.layout group + k)) }
+{
+    let fragments = group_fragments(geometry, group);
+    let base = u64::from(geometry.cgbase(group));
+    for word in 0..fragments.div_ceil(64) {
+        let count = (fragments - 64 * word).min(64);
+        let found = word_at(
+            block,
+            place as usize + 8 * word as usize,
+            count.div_ceil(8) as usize,
+        );
+        let right = used.clear_bits(base + 64 * u64::from(word));
+        if !same_bits(found, right, count) {
+            return false;
+        }
+    }
+    true
+}
