@@ -1,5 +1,7 @@
 pub mod Longest
 pub mod Reading
 pub mod PathBound
-pub mod DirRows
-pub mod BlockRows
+pub mod DirectoryExamples
+pub mod BlockExamples
+pub mod OpeningExamples
+pub mod LawsHold

@@ -43,3 +43,9 @@ pub mod Opening
 pub mod Report
 pub mod Consistent
 pub mod Memory
+pub mod Examples
+pub mod OpeningExamples
+pub mod BlockExamples
+pub mod DirectoryExamples
+pub mod AcceptedLaws
+pub mod Laws

@@ -1,6 +1,8 @@
 //! What a UFS1 volume is: definitions that contracts cite (`specs/`), and the types that they share with code.
 #![tactic(auto)]
 
+pub mod laws;
+
 /// The order of the bytes in the numbers of an image.
 #[derive(Clone, Copy, Debug, PartialEq, Eq)]
 pub enum Order {

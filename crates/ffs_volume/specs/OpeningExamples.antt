@@ -1,0 +1,66 @@
+-- Which superblocks are accepted, the first fault of those that aren't, and what is told of them.
+use Rattle.std.specs.Prelude.{◌≡◌, ℕ, List, [], ◌∷◌, ◌++◌, ℤ, pos, negsuc, Option, Some, None, Ok, Err, take, length, map, Bool, true, false}
+use Rattle.std.specs.List.{range_with_len}
+use Rattle.ffs_volume.specs.declared.Order.TheVariants.{Little, Big}
+use Rattle.ffs_volume.specs.declared.SuperFault.TheVariants.{CannotRead, Magic, InodeFormat, Ncg, Cpg, Ncyl, TooLarge, Shape, Short, Disagree}
+use Rattle.ffs_volume.specs.Areas.{cgstart, cgsblock, cgdmin, group_place, summary_place, inode_place, is_ok, is_in_range, is_reserved}
+use Rattle.ffs_volume.specs.Outcome.{outcome}
+use Rattle.ffs_volume.specs.Messages.{Message, location, opening, mounted, bad_super, cannot_read, optimization, minfree, summary}
+use Rattle.ffs_volume.specs.Opening.{setting_lines, super_lines, opening_lines}
+use Rattle.ffs_volume.specs.Report.{summary_of}
+use Rattle.ffs_volume.specs.Shown.{shown, octal}
+use Rattle.ffs_volume.specs.Examples.{zeros, base_layout, base_superblock, base_super, base_image, changed, image_of, fault_of, fault_with, two_groups}
+
+pub record SuperblockExamples : Type 0 where
+  -- the base image in both orders, and its copy where the primary is no superblock
+  pub accepted : outcome (base_image Little) None ≡ Ok (base_superblock Little)
+  pub accepted_big : outcome (base_image Big) None ≡ Ok (base_superblock Big)
+  pub asked : outcome (image_of (changed Little 1372 0 (base_super Little)) (base_super Little)) (Some 32) ≡ Ok (base_superblock Little)
+  -- each fault
+  pub empty : outcome [] None ≡ Err (CannotRead 16)
+  pub past_end : fault_of (base_image Little) (Some 254) ≡ Some (CannotRead 254)
+  pub magic : fault_with (changed Little 1372 0 (base_super Little)) (base_super Little) ≡ Some Magic
+  pub old_inodes : fault_with (changed Little 1324 1 (base_super Little)) (base_super Little) ≡ Some InodeFormat
+  pub no_groups : fault_with (changed Little 44 0 (base_super Little)) (base_super Little) ≡ Some Ncg
+  pub minus_groups : fault_with (changed Little 44 4294967295 (base_super Little)) (base_super Little) ≡ Some Ncg
+  pub no_cylinders : fault_with (changed Little 180 0 (base_super Little)) (base_super Little) ≡ Some Cpg
+  pub few_cylinders : fault_with (changed Big 176 0 (base_super Big)) (base_super Big) ≡ Some Ncyl
+  pub many_cylinders : fault_with (changed Big 176 2 (base_super Big)) (base_super Big) ≡ Some Ncyl
+  pub too_large : fault_with (changed Little 104 8193 (base_super Little)) (base_super Little) ≡ Some TooLarge
+  pub block_size : fault_with (changed Little 48 4095 (base_super Little)) (base_super Little) ≡ Some Shape
+  pub inode_area : fault_with (changed Little 20 31 (changed Little 152 31 (base_super Little))) (base_super Little) ≡ Some Shape
+  pub minus_links : fault_with (changed Little 1320 4294967295 (base_super Little)) (base_super Little) ≡ Some Shape
+  pub short : fault_of (take 131071 (base_image Little)) None ≡ Some Short
+  pub disagree : fault_with (base_super Little) (changed Little 40 94 (base_super Little)) ≡ Some Disagree
+  pub other_order : fault_with (base_super Little) (base_super Big) ≡ Some Disagree
+  -- a copy is compared only where none is asked for, and not in what is no part of the layout
+  pub not_asked : fault_of (image_of (base_super Little) (changed Little 40 94 (base_super Little))) (Some 16) ≡ None
+  pub free_part : fault_with (base_super Little) (changed Little 60 99 (base_super Little)) ≡ None
+
+pub record AreaExamples : Type 0 where
+  -- fragments that are ok, and the first of the data
+  pub ok : map (is_ok (base_layout Little)) (0 ∷ 15 ∷ 16 ∷ 31 ∷ 32 ∷ 127 ∷ 128 ∷ []) ≡ true ∷ true ∷ false ∷ false ∷ true ∷ true ∷ false ∷ []
+  pub reserved : map (is_reserved (base_layout Little)) (0 ∷ 31 ∷ 32 ∷ 33 ∷ 127 ∷ []) ≡ true ∷ true ∷ true ∷ false ∷ false ∷ []
+  pub in_range : (is_in_range (base_layout Little) 124 4 ≡ true) × (is_in_range (base_layout Little) 126 4 ≡ false) × (is_in_range (base_layout Little) 13 4 ≡ false)
+  -- two groups: the second one's parts, and a run that crosses into it
+  pub second : (cgstart (two_groups Little) 1 ≡ 132) × (cgsblock (two_groups Little) 1 ≡ 148) × (cgdmin (two_groups Little) 1 ≡ 164)
+  pub second_places : (group_place (two_groups Little) 1 ≡ 159744) × (summary_place (two_groups Little) 1 ≡ 32784) × (inode_place (two_groups Little) 33 ≡ 163968)
+  pub crosses : (map (is_ok (two_groups Little)) (range_with_len 126 4) ≡ true ∷ true ∷ true ∷ true ∷ []) × (is_in_range (two_groups Little) 126 4 ≡ false)
+  pub base_inode : inode_place (base_layout Little) 2 ≡ 28928
+
+pub record OpeningExamples : Type 0 where
+  -- what is told of the base image, of one at a sector, and of one that is refused. The image is called `t`
+  pub told : opening_lines (116 ∷ []) None (outcome (base_image Little) None) ≡ opening (116 ∷ []) ∷ mounted (47 ∷ 109 ∷ 110 ∷ 116 ∷ []) ∷ []
+  pub unreadable : opening_lines (116 ∷ []) (Some 1) (outcome [] (Some 1)) ≡ location 1 ∷ opening (116 ∷ []) ∷ cannot_read 1 ∷ []
+  pub refused : opening_lines (116 ∷ []) None (outcome (zeros 9568) None) ≡ opening (116 ∷ []) ∷ bad_super Magic ∷ []
+  -- settings that can't be
+  pub settings : setting_lines (record { layout = base_layout Little; optim = pos 2; minfree = pos 100; cstotal = []; mount = [] }) ≡ optimization ∷ minfree (pos 100) ∷ []
+  pub minus_settings : setting_lines (record { layout = base_layout Little; optim = negsuc 0; minfree = negsuc 0; cstotal = []; mount = [] }) ≡ optimization ∷ minfree (negsuc 0) ∷ []
+  pub last_settings : setting_lines (record { layout = base_layout Little; optim = pos 1; minfree = pos 99; cstotal = []; mount = [] }) ≡ []
+  -- the summary: 6 loose fragments of 95 are 6.3 percent; -1 of 95 is -1.0 and -1 of 201 is -0.4, rounded toward zero
+  pub summary_base : summary_of (base_superblock Little) 1 1 ≡ summary 1 1 (pos 94) (pos 6) (pos 22) (pos 63)
+  pub summary_minus : summary_of (record { layout = base_layout Little; optim = pos 0; minfree = pos 0; cstotal = pos 0 ∷ pos 1 ∷ pos 0 ∷ negsuc 0 ∷ []; mount = [] }) 0 0 ≡ summary 0 0 (pos 3) (negsuc 0) (pos 1) (negsuc 9)
+  pub summary_small : summary_of (record { layout = two_groups Little; optim = pos 0; minfree = pos 0; cstotal = pos 0 ∷ pos 0 ∷ pos 0 ∷ negsuc 0 ∷ []; mount = [] }) 0 0 ≡ summary 0 0 (negsuc 0) (negsuc 0) (pos 0) (negsuc 3)
+  -- bytes and modes as they are shown
+  pub bytes_shown : map shown (10 ∷ 31 ∷ 32 ∷ 126 ∷ 127 ∷ 200 ∷ []) ≡ 63 ∷ 63 ∷ 32 ∷ 126 ∷ 63 ∷ 200 ∷ []
+  pub modes_shown : (octal 0 ≡ 48 ∷ []) × (octal 16877 ≡ 52 ∷ 48 ∷ 55 ∷ 53 ∷ 53 ∷ []) × (octal 65535 ≡ 49 ∷ 55 ∷ 55 ∷ 55 ∷ 55 ∷ 55 ∷ [])

@@ -1,0 +1,46 @@
+//! Laws and worked examples of the definitions. Nothing runs here: each function is there for its contract.
+
+ghost use Rattle.ffs_volume.specs.AcceptedLaws.{AcceptedAreSound};
+ghost use Rattle.ffs_volume.specs.BlockExamples.{ClassExamples, ClaimExamples, GroupExamples, StepExamples};
+ghost use Rattle.ffs_volume.specs.DirectoryExamples.{EntryExamples, PathnameExamples, ReferenceExamples};
+ghost use Rattle.ffs_volume.specs.Laws.{AllPathsFit, KeptAreFirst, LevelsAreLeast, SumsAreWhole};
+ghost use Rattle.ffs_volume.specs.OpeningExamples.{AreaExamples, OpeningExamples, SuperblockExamples};
+
+/// An accepted superblock's layout has every condition of a sound one, and its fragments lie in the image.
+pub fn accepted_are_sound()
+    ensures { AcceptedAreSound }
+{}
+
+/// The fragments that an inode keeps are the first of those that its addresses offer, and all of them unless it is cut.
+pub fn kept_are_first()
+    ensures { KeptAreFirst }
+{}
+
+/// The level of a directory is the least number of edges from inode 2, and is below the number of inodes.
+pub fn levels_are_least()
+    ensures { LevelsAreLeast }
+{}
+
+/// A path that is printed has at most 1,024 bytes.
+pub fn paths_fit()
+    ensures { AllPathsFit }
+{}
+
+/// The free blocks and the loose fragments that are counted for a group are all its free fragments.
+pub fn sums_are_whole()
+    ensures { SumsAreWhole }
+{}
+
+/// What the definitions say of worked examples, most of them in both orders of bytes.
+pub fn examples_hold()
+    ensures superblocks { SuperblockExamples }
+    ensures areas { AreaExamples }
+    ensures opening { OpeningExamples }
+    ensures classes { ClassExamples }
+    ensures steps { StepExamples }
+    ensures claims { ClaimExamples }
+    ensures groups { GroupExamples }
+    ensures entries { EntryExamples }
+    ensures pathnames { PathnameExamples }
+    ensures references { ReferenceExamples }
+{}
