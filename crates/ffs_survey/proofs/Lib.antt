@@ -6,3 +6,5 @@ mod Ends
 mod Totals
 mod Queues
 mod Whole
+mod Walks
+mod Told

@@ -47,3 +47,16 @@ pub record IsSurvey (g : Graph) (references : List ℕ) (flags marks : List Bool
   pub names : (x : ℕ) → x < g.count → bool_at flags x ≡ named g x
   pub reaches : (x : ℕ) → bool_at marks x ≡ reached g x
   pub ups : (x : ℕ) → number_at parents x ≡ unwrap_or (parent g x) 0
+
+-- these flags hold of each inode of a graph whether a plain entry names it
+pub record AreNamed (g : Graph) (kinds : List ℕ) (flags : List Bool) : Type 0 where
+  pub count : g.count ≡ length kinds
+  pub names : (x : ℕ) → x < g.count → bool_at flags x ≡ named g x
+
+-- a graph over these directories, with these marks of what is reached, and these parents, 0 for none
+pub record IsTree (g : Graph) (kinds : List ℕ) (marks : List Bool) (parents : List ℕ) : Type 0 where
+  pub some : 2 < g.count
+  pub count : g.count ≡ length kinds
+  pub dirs : (x : ℕ) → g.is_dir x ≡ dir_at kinds x
+  pub reaches : (x : ℕ) → bool_at marks x ≡ reached g x
+  pub ups : (x : ℕ) → number_at parents x ≡ unwrap_or (parent g x) 0

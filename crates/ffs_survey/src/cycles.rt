@@ -1,0 +1,99 @@
+//! Cycles of parents.
+ghost use Rattle.std.specs.Prelude.{◌≡◌, ◌≢◌, ℕ, ◌+◌, ◌-◌, ◌<◌, ◌≤◌, ◌^◌, length, All, MatchOption, IfSome, false};
+ghost use Rattle.ffs_volume.specs.Climb.{OnCycle, leads_cycle};
+ghost use Rattle.ffs_survey.specs.Survey.{bool_at, number_at};
+ghost use Rattle.ffs_survey.specs.Cycles.{up_of, IsClosed, IsNew, Walked, FindsCycle, IsLeastOn, Marks};
+
+/// Walks up from `start` and stamps what it passes, until there is nothing above or a stamp. Answers a number on the
+/// cycle that it closed, if it closed one.
+fn walk(start: u32, parents: &[u32], stamp: &mut [u32]) -> Option<u32>
+    requires few { length parents.now < 2 ^ 31 }
+    requires stamps { length stamp.old ≡ length parents.now }
+    requires start { start < length parents.now }
+    requires free { number_at stamp.old start ≡ 0 }
+    requires older { All (λ s. s ≤ start) stamp.old }
+    requires closed { IsClosed (up_of parents.now) stamp.old }
+    ensures walked { Walked (up_of parents.now) start (start + 1) stamp.old stamp.new }
+    ensures bound { IfSome result (λ found. found < length parents.now) }
+    ensures cycle { MatchOption result ((x : ℕ) → IsNew stamp.old stamp.new x → OnCycle (up_of parents.now) x → ⊥) (λ found. FindsCycle (up_of parents.now) (length parents.now) stamp.old stamp.new found) }
+{
+    let mut place = start;
+    let mut steps = 0u32;
+    'up: loop {
+        stamp[place as usize] = start + 1;
+        let next = parents[place as usize];
+        if next == 0 {
+            return None;
+        }
+        if next as usize >= parents.len() {
+            return None;
+        }
+        let seen = stamp[next as usize];
+        if seen == start + 1 {
+            return Some(next);
+        }
+        if seen != 0 {
+            return None;
+        }
+        place = next;
+        steps += 1;
+    }
+}
+
+/// The least number on the cycle of `found`.
+fn least_on(found: u32, parents: &[u32]) -> u32
+    requires few { length parents.now < 2 ^ 31 }
+    requires found { found < length parents.now }
+    requires cycle { (c : OnCycle (up_of parents.now) found) × (c.length < length parents.now) }
+    ensures least { IsLeastOn (up_of parents.now) (length parents.now) found result }
+    ensures bound { result < length parents.now }
+{
+    let mut least = found;
+    let mut place = parents[found as usize];
+    let mut steps = 1u32;
+    'round: while place != found {
+        if place < least {
+            least = place;
+        }
+        place = parents[place as usize];
+        steps += 1;
+    }
+    least
+}
+
+/// Walks up from `start`, and marks the least number of the cycle that the walk closes, if it closes one.
+fn mark_from(start: u32, parents: &[u32], stamp: &mut [u32], leaders: &mut [bool])
+    requires few { length parents.now < 2 ^ 31 }
+    requires stamps { length stamp.old ≡ length parents.now }
+    requires leaders { length leaders.old ≡ length parents.now }
+    requires start { start < length parents.now }
+    requires free { number_at stamp.old start ≡ 0 }
+    requires older { All (λ s. s ≤ start) stamp.old }
+    requires closed { IsClosed (up_of parents.now) stamp.old }
+    requires marks { Marks (up_of parents.now) (length parents.now) stamp.old leaders.old }
+    ensures walked { Walked (up_of parents.now) start (start + 1) stamp.old stamp.new }
+    ensures marks { Marks (up_of parents.now) (length parents.now) stamp.new leaders.new }
+{
+    let Some(found) = walk(start, parents, stamp) else {
+        return;
+    };
+    let least = least_on(found, parents);
+    leaders[least as usize] = true;
+}
+
+/// Marks each number that is the least on a cycle of parents, in time linear in their number. A parent of 0, or past
+/// the list, is none. What `stamp` and `leaders` held before is forgotten.
+pub fn mark_leaders(parents: &[u32], stamp: &mut [u32], leaders: &mut [bool])
+    requires few { length parents.now < 2 ^ 31 }
+    requires stamps { length stamp.old ≡ length parents.now }
+    requires leaders { length leaders.old ≡ length parents.now }
+    ensures { (x : ℕ) → bool_at leaders.new x ≡ leads_cycle (up_of parents.now) (length parents.now) x }
+{
+    stamp.fill(0);
+    leaders.fill(false);
+    for start in 0..parents.len() as u32 {
+        if stamp[start as usize] == 0 {
+            mark_from(start, parents, stamp, leaders);
+        }
+    }
+}

@@ -1,0 +1,71 @@
+//! Directories that hang below nothing.
+ghost use Rattle.std.specs.Prelude.{◌≡◌, ℕ, ◌<◌, ◌^◌, length, unwrap_or};
+ghost use Rattle.ffs_volume.specs.Graph.{Graph, named as is_named, reached as is_reached, parent as parent_of, dead, unref_dir};
+ghost use Rattle.ffs_volume.specs.Climb.{leads_cycle};
+ghost use Rattle.ffs_survey.specs.Survey.{bool_at, number_at, suspect_at, dir_at, IsTree, AreNamed};
+ghost use Rattle.ffs_survey.specs.Cycles.{up_of};
+
+use crate::named::is_dir;
+
+/// Whether an inode is suspect: marked, or a directory of size 0.
+pub fn is_suspect(kinds: &[u8], marked: &[bool], number: usize) -> bool
+    requires { length marked.now ≡ length kinds.now }
+    ensures { result ≡ suspect_at kinds.now marked.now number }
+{
+    number < kinds.len() && (marked[number] || (number >= 2 && kinds[number] == 5))
+}
+
+/// Whether an inode is dead: suspect, and named by no plain entry.
+pub fn is_dead(number: u32, kinds: &[u8], marked: &[bool], named: &[bool]) -> bool
+    requires number { number < length kinds.now }
+    requires marked { length marked.now ≡ length kinds.now }
+    requires named { length named.now ≡ length kinds.now }
+    ensures { (graph : Graph) → AreNamed graph kinds.now named.now → result ≡ dead graph (suspect_at kinds.now marked.now) number }
+{
+    is_suspect(kinds, marked, number as usize) && number != 2 && !named[number as usize]
+}
+
+/// Whether a directory is told as unreferenced: neither reached nor dead, and without a parent, with a dead one, or
+/// the least number on a cycle of parents.
+pub fn is_unref(
+    dir: u32,
+    kinds: &[u8],
+    marked: &[bool],
+    named: &[bool],
+    reached: &[bool],
+    parents: &[u32],
+    leaders: &[bool],
+) -> bool
+    requires dir { dir < length kinds.now }
+    requires marked { length marked.now ≡ length kinds.now }
+    requires named { length named.now ≡ length kinds.now }
+    requires reached { length reached.now ≡ length kinds.now }
+    requires parents { length parents.now ≡ length kinds.now }
+    requires leaders { length leaders.now ≡ length kinds.now }
+    requires cycles { (x : ℕ) → bool_at leaders.now x ≡ leads_cycle (up_of parents.now) (length parents.now) x }
+    ensures { (graph : Graph) → AreNamed graph kinds.now named.now → IsTree graph kinds.now reached.now parents.now → result ≡ unref_dir graph (suspect_at kinds.now marked.now) dir }
+{
+    if !is_dir(kinds, dir as usize) {
+        return false;
+    }
+    if dir == 2 {
+        return false;
+    }
+    if reached[dir as usize] {
+        return false;
+    }
+    if is_dead(dir, kinds, marked, named) {
+        return false;
+    }
+    let above = parents[dir as usize];
+    if above == 0 {
+        return true;
+    }
+    if above as usize >= kinds.len() {
+        return true;
+    }
+    if is_dead(above, kinds, marked, named) {
+        return true;
+    }
+    leaders[dir as usize]
+}
