@@ -1,8 +1,8 @@
 -- What an entry, a directory and a level discover.
-use Rattle.std.specs.Prelude.{◌≡◌, ℕ, zero, suc, ◌+◌, ◌<◌, ◌≤◌, ◌==◌, Bool, true, false, not, cond, ◌&&◌, ◌||◌, nat_le, List, [], ◌∷◌, length, Option, None, Some, is_some, unwrap_or, find, refl}
+use Rattle.std.specs.Prelude.{◌≡◌, ℕ, ◌+◌, ◌<◌, ◌==◌, Bool, true, false, not, cond, ◌&&◌, ◌||◌, nat_le, List, [], ◌∷◌, length, Option, None, Some, is_some, unwrap_or, refl}
 use Rattle.std.specs.List.{list_any, sum_by}
 use Rattle.std.specs.Option.{option_or}
-use Rattle.std.proofs.Common.{arith, sym, ◌∙◌, ap, subst, inl, inr, set, take, drop, get_or, add-one, drop-cons, ◌<◌, length-take, length-set, add-zero, get_or-set_same, get_or-set_other, ◌⊎◌}
+use Rattle.std.proofs.Common.{arith, sym, ◌∙◌, ap, subst, inl, inr, set, take, drop, get_or, add-one, drop-cons, ◌<◌, add-zero, get_or-set_same, get_or-set_other, ◌⊎◌}
 use Rattle.std.proofs.lemmas.Bool.{cases_eq, cases_lt, and_parts, not-true, eq-eqb, ne_eqb, and_from, and_right, or_left, or_from, cond-true, cond-false}
 use Rattle.std.proofs.lemmas.List.{take_more_set, get_or_past}
 use Rattle.std.proofs.lemmas.List.Sums.{sum_by-set, sum_by_push}

@@ -1,14 +1,14 @@
 -- How the levels begin and end.
-use Rattle.std.specs.Prelude.{◌≡◌, ◌≢◌, ℕ, zero, suc, ◌+◌, ◌<◌, ◌≤◌, ◌==◌, Bool, true, false, not, cond, ◌&&◌, ◌||◌, List, [], ◌∷◌, length, Option, None, Some, is_some, unwrap_or, refl, if◌then◌else◌}
-use Rattle.std.specs.List.{sum_by, list_any}
-use Rattle.std.proofs.Common.{arith, sym, ◌∙◌, ap, subst, inl, inr, get_or, set, take, ◌⊎◌, get_or-set_same, get_or-set_other, add-zero}
+use Rattle.std.specs.Prelude.{◌≡◌, ℕ, ◌<◌, ◌≤◌, ◌==◌, Bool, true, false, not, cond, List, [], ◌∷◌, length, None, Some, is_some, unwrap_or, refl}
+use Rattle.std.specs.List.{list_any}
+use Rattle.std.proofs.Common.{arith, sym, ◌∙◌, ap, inl, inr, set, take, get_or-set_same, get_or-set_other, add-zero}
 use Rattle.std.proofs.lemmas.Bool.{both_ways, cases_Bool, cases_eq, cases_lt, eqb-true, eq-eqb, ne_eqb, cond-true, cond-false, false_from_ne_true, and_left, and_right}
 use Rattle.std.proofs.lemmas.List.Sums.{sum_by-cons}
 use Rattle.ffs_volume.specs.Climb.{is_value, is_value-true, is_value-from}
 use Rattle.ffs_volume.specs.Graph.{Graph, IsSane, names, names_in, edge, within, level, parent, reached}
-use Rattle.ffs_volume.specs.Levels.{within-zero, within-grows, level-is, level-some, level-each, reached-from, reached-level, IsLevel}
-use Rattle.ffs_survey.specs.Survey.{bool_at, number_at, graph_with}
-use Rattle.ffs_survey.specs.Discover.{bit, times, unset, Rising, IsFront, parent_at, Knows, from_dirs, nothing, Comes}
+use Rattle.ffs_volume.specs.Levels.{within-zero, within-grows, level-is, level-some, level-each, reached-from, reached-level}
+use Rattle.ffs_survey.specs.Survey.{bool_at, number_at}
+use Rattle.ffs_survey.specs.Discover.{bit, times, unset, IsFront, Knows, from_dirs, nothing, Comes}
 use Rattle.ffs_survey.proofs.Discovered.{comes-to, comes-refl}
 use Rattle.ffs_survey.proofs.Fronts.{within-bound, next_level, IsNext}
 

@@ -1,18 +1,17 @@
 -- One level after another.
-use Rattle.std.specs.Prelude.{◌≡◌, ◌≢◌, ℕ, zero, suc, ◌+◌, ◌<◌, ◌≤◌, ◌==◌, Bool, true, false, not, cond, ◌&&◌, ◌||◌, List, [], ◌∷◌, ◌++◌, length, Option, None, Some, is_some, unwrap_or, find, refl, if◌then◌else◌}
-use Rattle.std.specs.List.{list_any, sum_by}
+use Rattle.std.specs.Prelude.{◌≡◌, ℕ, zero, suc, ◌+◌, ◌<◌, ◌≤◌, ◌==◌, Bool, true, false, not, cond, ◌&&◌, ◌||◌, List, [], ◌∷◌, ◌++◌, length, Option, None, Some, is_some, unwrap_or, find, refl}
 use Rattle.std.specs.List.Sorted.{IsNonDecreasing, IsPermutation}
 use Rattle.std.proofs.lemmas.List.Sorted.{sum_by-IsPermutation}
 use Rattle.ffs_volume.specs.Roles.{Seen}
 use Rattle.std.proofs.Common.{arith, sym, ◌∙◌, ap, subst, inl, inr, get_or, ◌⊎◌, add-zero, zero-add}
-use Rattle.std.proofs.lemmas.Bool.{both_ways, cases_Bool, cases_eq, cases_lt, eqb-true, eqb-false, eq-eqb, ne_eqb, and_parts, and_from, and_left, and_right, or_cases, or_left, or_right, or_parts, or_from, not-true, not_from_false, not_from_true, cond-true, cond-false, false_from_ne_true, true_from_ne_false}
+use Rattle.std.proofs.lemmas.Bool.{both_ways, cases_Bool, cases_eq, cases_lt, eqb-true, eq-eqb, ne_eqb, and_parts, and_from, and_left, and_right, or_cases, or_left, or_right, or_from, not-true, not_from_false, cond-true, cond-false, false_from_ne_true}
 use Rattle.std.proofs.lemmas.List.Sums.{sum_by-cons, sum_by-append}
-use Rattle.ffs_volume.specs.Search.{first_below, first_below-tells, first_below-is, first_below-is_none, first_below-some, FirstTells, IsFirst, some_below, some_below-gives, some_below-from, some_below-none}
+use Rattle.ffs_volume.specs.Search.{first_below, first_below-is, first_below-is_none, first_below-some, some_below, some_below-gives, some_below-from, some_below-none}
 use Rattle.ffs_volume.specs.Climb.{is_value, is_value-true, is_value-from}
-use Rattle.ffs_volume.specs.Graph.{Graph, IsSane, level_edge, edge, within, level, parent, parent_by, reached}
-use Rattle.ffs_volume.specs.Levels.{within-suc, within-zero, within-grows, within-step, within-more, level-is, level-some, level-from, IsLevel}
+use Rattle.ffs_volume.specs.Graph.{Graph, IsSane, level_edge, edge, within, level, parent, parent_by}
+use Rattle.ffs_volume.specs.Levels.{within-suc, within-zero, within-grows, within-step, within-more, level-some, level-from}
 use Rattle.ffs_survey.proofs.Unreached.{edge-parts}
-use Rattle.ffs_survey.specs.Survey.{bool_at, number_at, dir_at, graph_with}
+use Rattle.ffs_survey.specs.Survey.{bool_at, number_at, graph_with}
 use Rattle.ffs_survey.specs.Discover.{bit, times, from_dirs, nothing, Comes, Rising, IsFront, parent_at, Knows}
 use Rattle.ffs_survey.proofs.Discovered.{dir_below}
 

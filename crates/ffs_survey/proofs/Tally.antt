@@ -1,12 +1,10 @@
 -- Steps of the count over entries and directories.
-use Rattle.std.specs.Prelude.{◌≡◌, ℕ, zero, suc, ◌+◌, ◌*◌, ◌<◌, ◌≤◌, ◌==◌, Bool, true, false, not, cond, ◌&&◌, ◌||◌, List, [], ◌∷◌, ◌++◌, length, Option, None, Some, is_some, unwrap_or, count_by, refl, if◌then◌else◌}
-use Rattle.std.proofs.Common.{arith, sym, ◌∙◌, ap, subst, inl, inr, ◌⊎◌, add-zero, get_or, drop, add-one, drop-cons}
-use Rattle.std.proofs.lemmas.Bool.{cases_eq, cases_Bool, eq-eqb, ne_eqb, cond-true, cond-false, and_left, and_right, both_ways}
+use Rattle.std.specs.Prelude.{◌≡◌, ℕ, ◌+◌, ◌<◌, ◌≤◌, ◌==◌, Bool, true, false, not, cond, ◌&&◌, ◌||◌, List, ◌∷◌, length, count_by, refl}
+use Rattle.std.proofs.Common.{arith, sym, ◌∙◌, ap, get_or, drop, add-one, drop-cons}
+use Rattle.std.proofs.lemmas.Bool.{ne_eqb, cond-true, cond-false}
 use Rattle.std.proofs.lemmas.List.Sums.{sum_by-cons}
-use Rattle.std.specs.List.{list_any, sum_by}
 use Rattle.ffs_volume.specs.Roles.{Seen, refers}
-use Rattle.ffs_volume.specs.Search.{first_below, earliest, some_below, some_below-suc, first_below-some}
-use Rattle.ffs_volume.specs.Graph.{Graph, edge, names, names_in}
+use Rattle.ffs_volume.specs.Graph.{names, names_in}
 use Rattle.ffs_survey.specs.Survey.{number_at, bool_at, counted_in, graph_with, dir_at}
 use Rattle.ffs_survey.specs.Discover.{bit, Counts, count_in, any_in, count_of, any_of, none, never}
 

@@ -1,12 +1,12 @@
 -- The test of an unreferenced directory, from what is kept of each inode.
-use Rattle.std.specs.Prelude.{◌≡◌, ◌≢◌, ℕ, zero, suc, ◌+◌, ◌<◌, ◌≤◌, ◌==◌, Bool, true, false, not, cond, ◌&&◌, ◌||◌, List, length, Option, None, Some, unwrap_or, refl, if◌then◌else◌}
-use Rattle.std.proofs.Common.{arith, sym, ◌∙◌, ap, subst, inl, inr, ◌⊎◌}
-use Rattle.std.proofs.lemmas.Bool.{cases_eq, cases_Bool, and_parts, both_ways, cond-true, cond-false, eq-eqb, ne_eqb, and_left}
+use Rattle.std.specs.Prelude.{◌≡◌, ◌≢◌, ℕ, zero, suc, ◌<◌, ◌==◌, Bool, true, false, cond, ◌&&◌, ◌||◌, List, length, Option, None, Some, unwrap_or, refl}
+use Rattle.std.proofs.Common.{arith, sym, ◌∙◌, ap, subst, inl, inr}
+use Rattle.std.proofs.lemmas.Bool.{cases_eq, and_parts, both_ways, cond-true, cond-false, eq-eqb, ne_eqb, and_left}
 use mathlib.Core.Path.{fun_ext}
-use Rattle.ffs_volume.specs.Search.{first_below, first_below-some, IsFirst}
+use Rattle.ffs_volume.specs.Search.{first_below-some}
 use Rattle.ffs_volume.specs.Climb.{leads_cycle, is_value}
-use Rattle.ffs_volume.specs.Graph.{Graph, IsSane, edge, parent, parent_by, level, dead, lost, none_or_dead, unref_dir, reached, named}
-use Rattle.ffs_survey.specs.Survey.{number_at, bool_at, dir_at, suspect_at, IsTree, AreNamed}
+use Rattle.ffs_volume.specs.Graph.{Graph, IsSane, edge, parent, parent_by, level, dead, lost, none_or_dead, unref_dir}
+use Rattle.ffs_survey.specs.Survey.{number_at, IsTree}
 use Rattle.ffs_survey.specs.Cycles.{up_of}
 use Rattle.ffs_survey.proofs.Discovered.{dir_below}
 use Rattle.ffs_survey.proofs.Unreached.{edge-parts, IsLost, lost-from}
@@ -19,20 +19,21 @@ pub record IsParent (v : Graph) (s : ℕ) : Type 0 where
 
 parent_by-dir : (v : Graph) (x s : ℕ) (o : Option ℕ) → v.is_dir 0 ≡ false → parent_by v x o ≡ Some s → IsParent v s
 parent_by-dir v x s None z h =
-  let f = first_below-some (λ s. edge v s x) v.count s h in
-  record { some = (λ e. both_ways (v.is_dir 0) z (subst (λ y. v.is_dir y ≡ true) e (edge-parts v s x f.passes).1)); below = f.below }
+    let f = first_below-some (λ s. edge v s x) v.count s h in
+    record { some = (λ e. both_ways (v.is_dir 0) z (subst (λ y. v.is_dir y ≡ true) e (edge-parts v s x f.passes).1)); below = f.below }
 parent_by-dir v x s (Some zero) z h = absurd (cc)
 parent_by-dir v x s (Some (suc k)) z h =
-  let f = first_below-some (λ s. is_value (level v s) k && edge v s x) v.count s h in
-  record { some = (λ e. both_ways (v.is_dir 0) z (subst (λ y. v.is_dir y ≡ true) e (edge-parts v s x (and_parts (is_value (level v s) k) (edge v s x) f.passes).1).1)); below = f.below }
+    let f = first_below-some (λ s. is_value (level v s) k && edge v s x) v.count s h in
+    record { some = (λ e. both_ways (v.is_dir 0) z (subst (λ y. v.is_dir y ≡ true) e (edge-parts v s x (and_parts (is_value (level v s) k) (edge v s x) f.passes).1).1)); below = f.below }
 
 pub parent-some : (v : Graph) (x s : ℕ) → IsSane v → v.is_dir 0 ≡ false → parent v x ≡ Some s → IsParent v s
 unfolding parent
 parent-some v x s sane z h =
-  elim (cases_eq x 2) [
-    inl y ↦ (let q : Some 2 ≡ Some s = sym (cond-true (x == 2) (Some 2) (parent_by v x (level v x)) (eq-eqb x 2 y)) ∙ h in let p : 2 ≡ s = cc in let b = sane.some in
-      record { some = (λ e. absurd (omega arith)); below = omega arith })
-  | inr n ↦ parent_by-dir v x s (level v x) z (sym (cond-false (x == 2) (Some 2) (parent_by v x (level v x)) (ne_eqb x 2 n)) ∙ h) ]
+    elim (cases_eq x 2) [
+      | inl y ↦ (let q : Some 2 ≡ Some s = sym (cond-true (x == 2) (Some 2) (parent_by v x (level v x)) (eq-eqb x 2 y)) ∙ h in let p : 2 ≡ s = cc in let b = sane.some in
+          record { some = (λ e. absurd (omega arith)); below = omega arith })
+      | inr n ↦ parent_by-dir v x s (level v x) z (sym (cond-false (x == 2) (Some 2) (parent_by v x (level v x)) (ne_eqb x 2 n)) ∙ h)
+    ]
 
 pub up_is_parent : (v : Graph) (p : List ℕ) (x : ℕ) → IsSane v → v.is_dir 0 ≡ false → length p ≡ v.count → number_at p x ≡ unwrap_or (parent v x) 0 → up_of p x ≡ parent v x
 up_is_parent v p x sane z l h = go (parent v x) refl
@@ -40,11 +41,11 @@ up_is_parent v p x sane z l h = go (parent v x) refl
     go : (o : Option ℕ) → parent v x ≡ o → up_of p x ≡ parent v x
     go None e = up_of-none p x (inl (h ∙ ap (λ o. unwrap_or o 0) e)) ∙ sym e
     go (Some s) e =
-      let i = parent-some v x s sane z e in
-      let n = i.some in
-      let b = i.below in
-      let q : number_at p x ≡ s = h ∙ ap (λ o. unwrap_or o 0) e in
-      up_of-some p x (λ y. n (sym q ∙ y)) (omega arith) ∙ (ap Some q ∙ sym e)
+        let i = parent-some v x s sane z e in
+        let n = i.some in
+        let b = i.below in
+        let q : number_at p x ≡ s = h ∙ ap (λ o. unwrap_or o 0) e in
+        up_of-some p x (λ y. n (sym q ∙ y)) (omega arith) ∙ (ap Some q ∙ sym e)
 
 pub leads_is : (v : Graph) (p : List ℕ) (n d : ℕ) → IsSane v → v.is_dir 0 ≡ false → length p ≡ v.count → ((x : ℕ) → number_at p x ≡ unwrap_or (parent v x) 0) → leads_cycle (up_of p) n d ≡ leads_cycle (parent v) n d
 leads_is v p n d sane z l h = ap (λ f. leads_cycle f n d) (fun_ext (λ x. up_is_parent v p x sane z l (h x)))
@@ -56,9 +57,9 @@ none_or_dead_is v suspect p d sane z h = go (parent v d) refl
     go : (o : Option ℕ) → parent v d ≡ o → none_or_dead v suspect o ≡ cond (number_at p d == 0) true (dead v suspect (number_at p d))
     go None e = sym (cond-true (number_at p d == 0) true _ (eq-eqb (number_at p d) 0 (h ∙ ap (λ o. unwrap_or o 0) e)))
     go (Some s) e =
-      let n = (parent-some v d s sane z e).some in
-      let q : number_at p d ≡ s = h ∙ ap (λ o. unwrap_or o 0) e in
-      sym (cond-false (number_at p d == 0) true (dead v suspect (number_at p d)) (ne_eqb (number_at p d) 0 (λ y. n (sym q ∙ y))) ∙ ap (dead v suspect) q)
+        let n = (parent-some v d s sane z e).some in
+        let q : number_at p d ≡ s = h ∙ ap (λ o. unwrap_or o 0) e in
+        sym (cond-false (number_at p d == 0) true (dead v suspect (number_at p d)) (ne_eqb (number_at p d) 0 (λ y. n (sym q ∙ y))) ∙ ap (dead v suspect) q)
 
 -- what is kept, with a parent list of full length
 pub tree-sane : (v : Graph) (kinds : List ℕ) (r : List Bool) (p : List ℕ) → IsTree v kinds r p → IsSane v
@@ -76,15 +77,15 @@ parent-below v kinds r p d t = go (parent v d) refl
     go (Some s) e = let q : number_at p d ≡ s = t.ups d ∙ ap (λ o. unwrap_or o 0) e in let b = (parent-some v d s (tree-sane v kinds r p t) (tree-zero v kinds r p t) e).below in let c = t.count in omega arith
 
 pub unref_is : (v : Graph) (suspect : ℕ → Bool) (kinds : List ℕ) (r : List Bool) (p : List ℕ) (d : ℕ) → length p ≡ length kinds → IsTree v kinds r p → IsLost v suspect d
-  → unref_dir v suspect d ≡ (cond (number_at p d == 0) true (dead v suspect (number_at p d)) || leads_cycle (up_of p) (length p) d)
+    → unref_dir v suspect d ≡ (cond (number_at p d == 0) true (dead v suspect (number_at p d)) || leads_cycle (up_of p) (length p) d)
 unref_is v suspect kinds r p d lp t l =
-  let sane = tree-sane v kinds r p t in
-  let z = tree-zero v kinds r p t in
-  let full : length p ≡ v.count = lp ∙ sym t.count in
-  ap (λ b. b && (none_or_dead v suspect (parent v d) || leads_cycle (parent v) v.count d)) (lost-from v suspect d l)
-  ∙ (ap (λ b. b || leads_cycle (parent v) v.count d) (none_or_dead_is v suspect p d sane z (t.ups d))
-  ∙ (ap (λ b. cond (number_at p d == 0) true (dead v suspect (number_at p d)) || b) (sym (leads_is v p v.count d sane z full t.ups))
-  ∙ ap (λ n. cond (number_at p d == 0) true (dead v suspect (number_at p d)) || leads_cycle (up_of p) n d) (sym full)))
+    let sane = tree-sane v kinds r p t in
+    let z = tree-zero v kinds r p t in
+    let full : length p ≡ v.count = lp ∙ sym t.count in
+    ap (λ b. b && (none_or_dead v suspect (parent v d) || leads_cycle (parent v) v.count d)) (lost-from v suspect d l)
+    ∙ (ap (λ b. b || leads_cycle (parent v) v.count d) (none_or_dead_is v suspect p d sane z (t.ups d))
+    ∙ (ap (λ b. cond (number_at p d == 0) true (dead v suspect (number_at p d)) || b) (sym (leads_is v p v.count d sane z full t.ups))
+    ∙ ap (λ n. cond (number_at p d == 0) true (dead v suspect (number_at p d)) || leads_cycle (up_of p) n d) (sym full)))
 
 -- what makes a directory not lost
 pub not_lost : (v : Graph) (suspect : ℕ → Bool) (d : ℕ) → lost v suspect d ≡ false → unref_dir v suspect d ≡ false

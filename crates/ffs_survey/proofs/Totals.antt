@@ -1,10 +1,10 @@
 -- The sums over a list of directories, and over all of them.
-use Rattle.std.specs.Prelude.{◌≡◌, ℕ, zero, suc, ◌+◌, ◌<◌, ◌≤◌, ◌==◌, nat_lt, Bool, true, false, not, cond, ◌&&◌, ◌||◌, List, [], ◌∷◌, ◌++◌, length, Option, None, Some, is_some, refl, if◌then◌else◌}
+use Rattle.std.specs.Prelude.{◌≡◌, ℕ, zero, suc, ◌+◌, ◌<◌, ◌≤◌, ◌==◌, nat_lt, Bool, true, false, not, cond, ◌&&◌, ◌||◌, List, [], ◌∷◌, ◌++◌, refl}
 use Rattle.std.specs.List.{list_any, sum_by}
-use Rattle.std.proofs.Common.{arith, sym, ◌∙◌, ap, subst, inl, inr, ◌⊎◌, add-zero}
+use Rattle.std.proofs.Common.{arith, sym, ◌∙◌, ap, inl, inr, add-zero}
 use Rattle.std.proofs.lemmas.Bool.{both_ways, cases_Bool, cases_eq, cases_lt, eq-eqb, ne_eqb, cond-true, cond-false, and_parts, and_from, or_left, or_right, or_cases, lt-ltb, le-ltb, false_from_ne_true}
 use Rattle.std.proofs.lemmas.List.Sums.{sum_by-cons}
-use Rattle.ffs_volume.specs.Search.{some_below, some_below-suc, some_below-gives, some_below-from, some_below-none, first_below}
+use Rattle.ffs_volume.specs.Search.{some_below, some_below-suc, some_below-from, some_below-none, first_below}
 use Rattle.ffs_volume.specs.Graph.{Graph, names_in}
 use Rattle.ffs_survey.specs.Survey.{counted_in, references_below}
 use Rattle.ffs_survey.specs.Discover.{bit, times, count_of, any_of, counted_by}

@@ -1,6 +1,6 @@
 -- What is not reached, and what is lost.
-use Rattle.std.specs.Prelude.{◌≡◌, ◌≢◌, ℕ, ◌==◌, Bool, true, false, not, ◌&&◌, ◌||◌, refl, Option, None, Some, is_some, if◌then◌else◌}
-use Rattle.std.proofs.Common.{sym, ◌∙◌, ap}
+use Rattle.std.specs.Prelude.{◌≡◌, ◌≢◌, ℕ, ◌==◌, Bool, true, false, not, ◌&&◌, refl, Option, None, Some, is_some}
+use Rattle.std.proofs.Common.{◌∙◌, ap}
 use Rattle.std.proofs.lemmas.Bool.{and_parts, and_from, ne_eqb, not_from_false, cond-false}
 use Rattle.ffs_volume.specs.Search.{first_below}
 use Rattle.ffs_volume.specs.Graph.{Graph, level, edge, reached, parent, parent_by, lost, dead, names_in}

@@ -1,17 +1,16 @@
 -- The two parts of a survey make it whole.
-use Rattle.std.specs.Prelude.{◌≡◌, ◌≢◌, ℕ, zero, suc, ◌+◌, ◌<◌, ◌≤◌, ◌==◌, nat_le, Bool, true, false, not, cond, ◌&&◌, ◌||◌, List, [], ◌∷◌, length, Option, None, Some, is_some, unwrap_or, count_by, refl, if◌then◌else◌}
+use Rattle.std.specs.Prelude.{◌≡◌, ◌≢◌, ℕ, zero, suc, ◌+◌, ◌<◌, ◌≤◌, ◌==◌, nat_le, Bool, true, false, not, cond, ◌&&◌, ◌||◌, List, length, Option, None, Some, is_some, unwrap_or, refl}
 use Rattle.std.specs.List.{list_any}
-use Rattle.std.proofs.Common.{arith, sym, ◌∙◌, ap, subst, inl, inr, ◌⊎◌, add-zero}
-use Rattle.std.proofs.lemmas.Bool.{both_ways, cases_Bool, cases_eq, cases_lt, and_left, and_right, and_from, and_parts, cond-true, cond-false, eq-eqb, ne_eqb, not-true, not_from_false, false_from_ne_true}
+use Rattle.std.proofs.Common.{arith, sym, ◌∙◌, ap, subst, inl, inr, add-zero}
+use Rattle.std.proofs.lemmas.Bool.{both_ways, cases_Bool, cases_lt, and_left, and_right, and_from, and_parts, cond-true, cond-false, eq-eqb, ne_eqb, not-true, false_from_ne_true}
 use Rattle.std.proofs.lemmas.List.{get_or_past}
-use Rattle.ffs_volume.specs.Roles.{Seen, Volume, refers, seen_in, is_dir, references as references_of, references_below as references_of_below}
-use Rattle.ffs_volume.specs.Parents.{graph_of}
+use Rattle.ffs_volume.specs.Roles.{Seen}
 use Rattle.ffs_volume.specs.Search.{first_below, earliest, some_below, some_below-suc, first_below-some, first_below-is_none}
 use Rattle.ffs_volume.specs.Graph.{Graph, IsSane, names, names_in, edge, level, reached, parent}
 use Rattle.ffs_volume.specs.Levels.{reached-edge, reached-root}
-use Rattle.ffs_survey.specs.Survey.{bool_at, number_at, dir_at, is_dir_kind, graph_with, counted_in, references_below, references_to, IsSurvey}
+use Rattle.ffs_survey.specs.Survey.{bool_at, number_at, dir_at, is_dir_kind, graph_with, counted_in, IsSurvey}
 use Rattle.ffs_survey.specs.Discover.{Counts, count_in, any_in, none, never, counted_by, IsReachedPart, is_free, is_free_edge, IsRead}
-use Rattle.ffs_survey.proofs.Unreached.{edge-parts, parent-unreached}
+use Rattle.ffs_survey.proofs.Unreached.{parent-unreached}
 use Rattle.ffs_survey.proofs.Totals.{counted_both, some_both}
 use Rattle.ffs_survey.proofs.Discovered.{dir_below}
 

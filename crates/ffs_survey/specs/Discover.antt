@@ -1,5 +1,5 @@
 -- What a walk over directories discovers and counts, said by what is still to go.
-use Rattle.std.specs.Prelude.{◌≡◌, ℕ, zero, suc, ◌+◌, ◌<◌, ◌≤◌, ◌==◌, Bool, true, false, not, cond, ◌&&◌, ◌||◌, if◌then◌else◌, List, [], ◌∷◌, length, Option, None, Some, is_some, unwrap_or, find, count_by}
+use Rattle.std.specs.Prelude.{◌≡◌, ℕ, zero, suc, ◌+◌, ◌<◌, ◌≤◌, ◌==◌, Bool, true, false, not, cond, ◌&&◌, ◌||◌, if◌then◌else◌, List, [], ◌∷◌, Option, None, Some, is_some, unwrap_or, find, count_by}
 use Rattle.std.specs.List.{list_any, sum_by}
 use Rattle.ffs_volume.specs.Roles.{Seen, refers}
 use Rattle.ffs_volume.specs.Search.{first_below}

@@ -1,4 +1,4 @@
-use Rattle.std.proofs.Common.{◌≡◌, ℕ, ◌+◌, ◌-◌, ◌<◌, length}
+use Rattle.std.proofs.Common.{◌-◌, ◌<◌, length}
 use Rattle.ffs_survey.specs.Cycles.{up_of}
 use Rattle.ffs_survey.proofs.Walks.{Rounding}
 use Rattle.ffs_survey.proofs.cycles.least_on.Given as goal
@@ -7,7 +7,8 @@ abbrev pub invariant-round : goal.invariant-round
 invariant-round l = record {
   bound : l.place < length l.parents;
   low : l.least < length l.parents;
-  rounding : Rounding (up_of l.parents) l.found l.steps l.place l.least }
+  rounding : Rounding (up_of l.parents) l.found l.steps l.place l.least;
+}
 
 abbrev pub decreases-round : goal.decreases-round
 decreases-round l = length l.parents - l.steps

@@ -1,13 +1,13 @@
-use Rattle.std.proofs.Common.{◌≡◌, ◌≢◌, ℕ, ◌+◌, ◌<◌, ◌≤◌, length, arith, sym, ◌∙◌, inl, inr, ◌⊎◌}
+use Rattle.std.proofs.Common.{length, arith, sym, ◌∙◌, inl, inr}
 use Rattle.std.proofs.lemmas.Bool.{cases_lt}
 use Rattle.std.proofs.lemmas.List.{get_or_past}
-use Rattle.ffs_survey.specs.Cycles.{up_of, Marks}
 use Rattle.ffs_survey.proofs.Walks.{past_leader}
 use Rattle.ffs_survey.proofs.cycles.mark_leaders.Goals as goal
 
 pub returns : goal.returns
 returns c = λ x.
-  let inv = c.loop-start.invariant in
-  elim (cases_lt x (length c.args.parents.now)) [
-    inl l ↦ inv.marks.known x (inv.begun x (omega arith))
-  | inr b ↦ get_or_past c.loop-start.leaders x _ (omega arith) ∙ sym (past_leader c.args.parents.now (length c.args.parents.now) x b) ]
+    let inv = c.loop-start.invariant in
+    elim (cases_lt x (length c.args.parents.now)) [
+      | inl l ↦ inv.marks.known x (inv.begun x (omega arith))
+      | inr b ↦ get_or_past c.loop-start.leaders x _ (omega arith) ∙ sym (past_leader c.args.parents.now (length c.args.parents.now) x b)
+    ]

@@ -1,4 +1,4 @@
-use Rattle.std.proofs.Common.{◌≡◌, ◌≢◌, ℕ, ◌+◌, ◌-◌, ◌<◌, ◌≤◌, length, All}
+use Rattle.std.proofs.Common.{◌≢◌, ℕ, ◌<◌, ◌≤◌, length, All}
 use Rattle.ffs_survey.specs.Survey.{number_at}
 use Rattle.ffs_survey.specs.Cycles.{up_of, IsClosed, Marks}
 use Rattle.ffs_survey.proofs.cycles.mark_leaders.Given as goal
@@ -8,4 +8,5 @@ invariant-loop-start l = record {
   closed : IsClosed (up_of l.parents) l.stamp;
   older : All (λ s. s ≤ l.start) l.stamp;
   begun : (x : ℕ) → x < l.start → number_at l.stamp x ≢ 0;
-  marks : Marks (up_of l.parents) (length l.parents) l.stamp l.leaders }
+  marks : Marks (up_of l.parents) (length l.parents) l.stamp l.leaders;
+}

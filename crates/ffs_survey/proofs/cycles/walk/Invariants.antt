@@ -1,4 +1,4 @@
-use Rattle.std.proofs.Common.{◌≡◌, ℕ, ◌+◌, ◌<◌, length}
+use Rattle.std.proofs.Common.{◌+◌, ◌<◌, length}
 use Rattle.ffs_survey.specs.Cycles.{up_of, zeros}
 use Rattle.ffs_survey.proofs.Walks.{Walking}
 use Rattle.ffs_survey.proofs.cycles.walk.Given as goal
@@ -6,7 +6,8 @@ use Rattle.ffs_survey.proofs.cycles.walk.Given as goal
 abbrev pub invariant-up : goal.invariant-up
 invariant-up l = record {
   bound : l.place < length l.parents;
-  walking : Walking (up_of l.parents) l.start (l.start + 1) l.steps l.place l.fn.stamp l.stamp }
+  walking : Walking (up_of l.parents) l.start (l.start + 1) l.steps l.place l.fn.stamp l.stamp;
+}
 
 abbrev pub decreases-up : goal.decreases-up
 decreases-up l = zeros l.stamp

@@ -1,6 +1,4 @@
-use Rattle.std.proofs.Common.{arith, rules, ◌≡◌, ◌<◌, ◌≤◌, ◌+◌, ◌*◌, ◌^◌, List, ℕ, take, length}
-use Rattle.ffs_survey.specs.Survey.{number_at}
-use Rattle.ffs_survey.specs.Discover.{unset}
+use Rattle.std.proofs.Common.{arith, rules, length}
 use Rattle.ffs_survey.proofs.Discovered.{level_step}
 use Rattle.ffs_survey.proofs.Tally.{dir_counted}
 use Rattle.ffs_survey.proofs.discover.read_level.Goals as goal

@@ -1,8 +1,6 @@
-use Rattle.std.proofs.Common.{arith, rules, ◌≡◌, ◌∷◌, ◌<◌, ◌≤◌, ◌+◌, ◌^◌, List, ℕ, take, length}
+use Rattle.std.proofs.Common.{arith, rules, ◌≡◌, ◌∷◌, ◌<◌, List, ℕ, take, length}
 use Rattle.ffs_volume.specs.Roles.{Seen, refers}
 use Rattle.ffs_survey.specs.Reading.{seen_of}
-use Rattle.ffs_survey.specs.Survey.{number_at}
-use Rattle.ffs_survey.specs.Discover.{bit, unset, from_entries, count_in, any_in}
 use Rattle.ffs_survey.proofs.Discovered.{entry_step}
 use Rattle.ffs_survey.proofs.Tally.{entry_counted, bit-le}
 use Rattle.ffs_survey.proofs.discover.read_reached.Goals as goal

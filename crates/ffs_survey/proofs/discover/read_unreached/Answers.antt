@@ -1,9 +1,9 @@
-use Rattle.std.proofs.Common.{arith, rules, ◌≡◌, ◌∷◌, ◌<◌, ◌≤◌, ◌+◌, ◌^◌, List, ℕ, take, length}
+use Rattle.std.proofs.Common.{arith, rules, ◌≡◌, ◌∷◌, ◌<◌, List, ℕ, length}
 use Rattle.ffs_volume.specs.Roles.{Seen, refers}
 use Rattle.ffs_volume.specs.Graph.{names}
 use Rattle.ffs_survey.specs.Reading.{seen_of}
 use Rattle.ffs_survey.specs.Survey.{number_at}
-use Rattle.ffs_survey.specs.Discover.{bit, count_in, any_in, is_free}
+use Rattle.ffs_survey.specs.Discover.{any_in, is_free}
 use Rattle.ffs_survey.proofs.Tally.{entry_counted, bit-le, parent_step}
 use Rattle.ffs_survey.proofs.discover.read_unreached.Goals as goal
 

@@ -1,5 +1,4 @@
-use Rattle.std.proofs.Common.{arith, length, ◌<◌, ◌≤◌, ◌+◌, ◌≡◌, ◌∙◌, sym, [], take}
-use Rattle.ffs_survey.specs.Discover.{unset}
+use Rattle.std.proofs.Common.{arith, ◌∙◌, sym, [], take}
 use Rattle.ffs_survey.specs.Reading.{seen_of}
 use Rattle.ffs_survey.proofs.Discovered.{visit_hit, visit_miss, unset-set, new_entry}
 use Rattle.ffs_survey.proofs.discover.visit.Goals as goal

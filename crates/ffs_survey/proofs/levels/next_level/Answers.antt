@@ -1,6 +1,5 @@
-use Rattle.std.proofs.Common.{rules, ◌≡◌, ℕ, ◌+◌, ◌-◌, ◌<◌, ◌≤◌, List, [], ◌++◌, length, take, drop, arith, sym, ◌∙◌, ap, subst, All, true, length-take}
+use Rattle.std.proofs.Common.{◌≡◌, ℕ, ◌+◌, List, [], ◌++◌, take, drop, arith, sym, ◌∙◌, ap, subst, All, true, length-take}
 use Rattle.std.proofs.lemmas.List.Sorted.{IsNonDecreasingBy-from_sort}
-use Rattle.ffs_volume.specs.Graph.{Graph, IsSane}
 use Rattle.ffs_survey.specs.Survey.{dir_at, graph_with}
 use Rattle.ffs_survey.specs.Discover.{Comes, IsFront, Knows, from_dirs, nothing}
 use Rattle.ffs_survey.proofs.Fronts.{front_dirs, sane_of}

@@ -1,6 +1,6 @@
-use Rattle.std.proofs.Common.{rules, ◌≡◌, ℕ, ◌+◌, ◌-◌, ◌*◌, ◌<◌, ◌≤◌, ◌^◌, List, [], ◌∷◌, length, take, drop, set, arith, sym, ◌∙◌, ap, subst, length-set, true}
-use Rattle.ffs_survey.specs.Survey.{number_at, bool_at, graph_with, dir_at}
-use Rattle.ffs_survey.specs.Discover.{IsFront, Knows, IsCount, unset}
+use Rattle.std.proofs.Common.{rules, ◌≡◌, ℕ, List, take, set, arith, sym, ◌∙◌, subst, length-set, true}
+use Rattle.ffs_survey.specs.Survey.{graph_with}
+use Rattle.ffs_survey.specs.Discover.{IsFront, Knows, IsCount}
 use Rattle.ffs_survey.proofs.Discovered.{unset-set}
 use Rattle.ffs_survey.proofs.Fronts.{sane_of}
 use Rattle.ffs_survey.proofs.Ends.{knows_start, front_start, queue_start, unset-le}

@@ -1,6 +1,5 @@
-use Rattle.std.proofs.Common.{rules, ◌≡◌, ℕ, ◌+◌, ◌*◌, ◌<◌, ◌≤◌, ◌^◌, List, length, arith, sym, ◌∙◌}
-use Rattle.ffs_survey.specs.Survey.{number_at, graph_with}
-use Rattle.ffs_survey.specs.Discover.{IsBlank, IsRead}
+use Rattle.std.proofs.Common.{rules, arith, sym, ◌∙◌}
+use Rattle.ffs_survey.specs.Survey.{graph_with}
 use Rattle.ffs_survey.proofs.Whole.{read_start, read_on, read_skip}
 use Rattle.ffs_survey.proofs.levels.survey_unreached.Goals as goal
 
