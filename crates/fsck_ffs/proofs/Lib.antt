@@ -1,0 +1,2 @@
+pub mod Mounts
+pub mod Openings

@@ -1,0 +1,41 @@
+-- The bytes before the first NUL.
+use Rattle.std.proofs.Common.{◌≡◌, ◌≤◌, ◌<◌, ◌+◌, ℕ, Bool, true, false, List, length, take, get_or, arith, sym, ap, ◌∙◌, inl, inr}
+use Rattle.std.specs.Prelude.{nat_lt}
+use Rattle.std.specs.List.{prefix_len}
+use Rattle.std.proofs.lemmas.Bool.{cases_lt}
+use Rattle.std.proofs.Math.Seq.{take-length}
+use Rattle.std.proofs.lemmas.List.Sums.{prefix_len-le-length, prefix_len_passes, prefix_len_stops}
+use Rattle.std.proofs.lemmas.Bool.Decides.{nat_tests}
+use Rattle.ffs_volume.specs.Opening.{before_nul}
+
+-- a byte that isn't NUL
+abbrev pub is_set : ℕ → Bool
+is_set byte = nat_lt 0 byte
+
+-- one byte more that isn't NUL
+pub goes_on : (xs : List ℕ) (i : ℕ) → i ≤ prefix_len is_set xs → i < length xs → 0 < get_or xs i 0 → i + 1 ≤ prefix_len is_set xs
+goes_on xs i h inside set = elim (cases_lt i (prefix_len is_set xs)) [
+  | inl less ↦ omega arith
+  | inr more ↦
+      let same : prefix_len is_set xs ≡ i = omega arith in
+      let stops : is_set (get_or xs (prefix_len is_set xs) 0) ≡ false = prefix_len_stops is_set xs 0 (omega arith) in
+      let here : nat_lt 0 (get_or xs i 0) ≡ false = rw same at stops in
+      absurd (grind (arith, nat_tests))
+]
+
+-- the first NUL stands here
+pub stops : (xs : List ℕ) (i : ℕ) → i ≤ prefix_len is_set xs → get_or xs i 0 ≡ 0 → take i xs ≡ before_nul xs
+stops xs i h nul = elim (cases_lt i (prefix_len is_set xs)) [
+  | inl less ↦
+      let passes : nat_lt 0 (get_or xs i 0) ≡ true = prefix_len_passes is_set xs i 0 less in
+      absurd (grind (arith, nat_tests))
+  | inr more ↦
+      let same : i ≡ prefix_len is_set xs = omega arith in
+      ap (λ n. take n xs) same
+]
+
+-- there is none
+pub no_stop : (xs : List ℕ) → length xs ≤ prefix_len is_set xs → xs ≡ before_nul xs
+no_stop xs h =
+    let same : prefix_len is_set xs ≡ length xs = omega (arith, prefix_len-le-length is_set xs) in
+    sym (ap (λ n. take n xs) same ∙ take-length xs)
