@@ -123,3 +123,24 @@ place_is a b f a' b' f' j e g h = rw (e, g, h) refl
 
 pub word_fits : (some frag : ℕ) → some ≤ 64 / frag → some * frag ≤ 64
 word_fits some frag h = omega (arith, mul-le some frag (64 / frag) frag h (omega arith), div-add-mod' 64 frag)
+
+loose_length : (bits : List Bool) → loose_in bits ≤ length bits
+loose_length bits = go (is_whole bits)
+  where
+    go : (b : Bool) → cond b 0 (count_by (λ f. f) bits) ≤ length bits
+    go true = omega arith
+    go false = count_by-le-length (λ f. f) bits
+
+whole_one : (bits : List Bool) → whole_in bits ≤ 1
+whole_one bits = go (is_whole bits)
+  where
+    go : (b : Bool) → cond b 1 0 ≤ 1
+    go true = omega arith
+    go false = omega arith
+
+pub loose_fits : (bits : ℕ → List Bool) (frag fpg : ℕ) → ((b : ℕ) → length (bits b) ≡ frag) → sum_by (λ b. loose_in (bits b)) (range_with_len 0 (fpg / frag)) ≤ fpg
+loose_fits bits frag fpg len =
+    omega (arith, sum_within (λ b. loose_in (bits b)) frag 0 (fpg / frag) (λ k. omega (arith, loose_length (bits k), len k)), div-add-mod' fpg frag)
+
+pub whole_fits : (bits : ℕ → List Bool) (n : ℕ) → sum_by (λ b. whole_in (bits b)) (range_with_len 0 n) ≤ n
+whole_fits bits n = omega (arith, sum_within (λ b. whole_in (bits b)) 1 0 n (λ k. whole_one (bits k)))

@@ -3,3 +3,4 @@ pub mod Runs
 pub mod Whole
 pub mod Adding
 pub mod MapWords
+pub mod Checks

@@ -197,3 +197,17 @@ map_begins n test = let e : min 0 n ≡ 0 = omega arith in ap (λ j. all_below j
 
 pub moved_in : (bits : ℕ → Bool) (first word k : ℕ) → bits (first + 64 * word + k) ≡ bits (first + (64 * word + k))
 moved_in bits first word k = let e : first + 64 * word + k ≡ first + (64 * word + k) = omega arith in ap bits e
+
+-- ---- a test that fails at a number
+pub fails_at : (n k : ℕ) (test : ℕ → Bool) → k < n → test k ≡ false → all_below n test ≡ false
+fails_at n k test h e = go (all_below n test) refl
+  where
+    go : (b : Bool) → all_below n test ≡ b → all_below n test ≡ false
+    go true f = absurd (true≢false (sym (true_at n k test f h) ∙ e))
+    go false f = f
+
+pub one_more : (n : ℕ) (test : ℕ → Bool) → all_below n test ≡ true → test n ≡ true → all_below (n + 1) test ≡ true
+one_more n test all e = all_true (n + 1) test (λ k h. elim (cases_lt k n) [
+  | inl low ↦ true_at n k test all low
+  | inr past ↦ let same : k ≡ n = omega arith in ap test same ∙ e
+])

@@ -1,2 +1,3 @@
+pub mod Check
 pub mod Free
 pub mod Inodes

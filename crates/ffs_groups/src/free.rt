@@ -88,7 +88,9 @@ impl FreeCounts {
 pub fn free_counts(geometry: &Geometry, used: &FragmentMap, group: u32) -> FreeCounts
     requires group { group < geometry.now.layout.ncg }
     requires size { used.now.size ≡ geometry.now.layout.size }
-    ensures { AreFree geometry.now.layout (free_in (bits_of used.now) geometry.now.layout.size) group result }
+    ensures blocks_fit { result.blocks < 2 ^ 32 }
+    ensures fragments_fit { result.fragments < 2 ^ 32 }
+    ensures right { AreFree geometry.now.layout (free_in (bits_of used.now) geometry.now.layout.size) group result }
 {
     let frag = geometry.layout.frag;
     let base = u64::from(geometry.cgbase(group));

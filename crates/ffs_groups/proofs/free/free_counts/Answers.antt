@@ -1,10 +1,11 @@
-use Rattle.std.proofs.Common.{arith, refl, ◌∙◌, ◌≡◌, ◌+◌, ◌*◌, ◌/◌, ◌^◌}
+use Rattle.std.proofs.Common.{arith, rules, refl, ◌∙◌, ◌≡◌, ◌<◌, ◌+◌, ◌*◌, ◌/◌, ◌^◌}
 use Rattle.std.proofs.lemmas.List.FromFn.{length-map-range_with_len}
 use Rattle.ffs_volume.specs.Areas.{cgbase}
 use Rattle.ffs_volume.specs.Groups.{block_bits, right_frsum}
 use Rattle.ffs_maps.specs.Bits.{bits_of}
 use Rattle.ffs_groups.specs.Free.{word_bits, free_in, whole_in, loose_in, runs_in}
-use Rattle.ffs_groups.proofs.Adding.{added_join, added_below, word_block, no_runs, count_start, clear_as_free, place_is, word_fits}
+use Rattle.ffs_groups.proofs.Checks.{fits_below, fits_within}
+use Rattle.ffs_groups.proofs.Adding.{whole_fits, loose_fits, added_join, added_below, word_block, no_runs, count_start, clear_as_free, place_is, word_fits}
 use Rattle.ffs_groups.proofs.free.free_counts.Goals as goal
 
 pub add_word-requires-clause-below : goal.add_word-requires-clause-below
@@ -29,12 +30,29 @@ loop-block-preserved c = record {
   within = omega (arith, c.min-some.ensures);
 }
 
-pub returns : goal.returns
+pub returns-clause-right : goal.returns-clause-right
 unfolding right_frsum
-returns c =
+returns-clause-right c =
     let same : c.loop-block.block ≡ c.args.geometry.now.layout.fpg / c.args.geometry.now.layout.frag = omega (arith, c.loop-block.invariant.within) in
     record {
       blocks = c.loop-block.invariant.added.blocks ∙ count_start (λ b. whole_in (block_bits c.args.geometry.now.layout (free_in (bits_of c.args.used.now) c.args.geometry.now.layout.size) c.args.group b)) c.loop-block.block (c.args.geometry.now.layout.fpg / c.args.geometry.now.layout.frag) 0 refl same;
       fragments = c.loop-block.invariant.added.fragments ∙ count_start (λ b. loose_in (block_bits c.args.geometry.now.layout (free_in (bits_of c.args.used.now) c.args.geometry.now.layout.size) c.args.group b)) c.loop-block.block (c.args.geometry.now.layout.fpg / c.args.geometry.now.layout.frag) 0 refl same;
       runs = λ k. c.loop-block.invariant.added.runs k ∙ count_start (λ b. runs_in k (block_bits c.args.geometry.now.layout (free_in (bits_of c.args.used.now) c.args.geometry.now.layout.size) c.args.group b)) c.loop-block.block (c.args.geometry.now.layout.fpg / c.args.geometry.now.layout.frag) _ (no_runs k) same;
     }
+
+pub returns-clause-blocks_fit : goal.returns-clause-blocks_fit
+returns-clause-blocks_fit c =
+    let low : c.args.geometry.now.layout.fpg < 2 ^ 32 = search (rules, arith) in
+    let same : c.loop-block.block ≡ c.args.geometry.now.layout.fpg / c.args.geometry.now.layout.frag = omega (arith, c.loop-block.invariant.within) in
+    fits_below c.loop-block.counts.blocks c.args.geometry.now.layout.fpg c.args.geometry.now.layout.frag _
+    (c.loop-block.invariant.added.blocks ∙ count_start (λ b. whole_in (block_bits c.args.geometry.now.layout (free_in (bits_of c.args.used.now) c.args.geometry.now.layout.size) c.args.group b)) c.loop-block.block (c.args.geometry.now.layout.fpg / c.args.geometry.now.layout.frag) 0 refl same)
+    (whole_fits (block_bits c.args.geometry.now.layout (free_in (bits_of c.args.used.now) c.args.geometry.now.layout.size) c.args.group) (c.args.geometry.now.layout.fpg / c.args.geometry.now.layout.frag)) low
+
+pub returns-clause-fragments_fit : goal.returns-clause-fragments_fit
+returns-clause-fragments_fit c =
+    let low : c.args.geometry.now.layout.fpg < 2 ^ 32 = search (rules, arith) in
+    let same : c.loop-block.block ≡ c.args.geometry.now.layout.fpg / c.args.geometry.now.layout.frag = omega (arith, c.loop-block.invariant.within) in
+    fits_within c.loop-block.counts.fragments c.args.geometry.now.layout.fpg _
+    (c.loop-block.invariant.added.fragments ∙ count_start (λ b. loose_in (block_bits c.args.geometry.now.layout (free_in (bits_of c.args.used.now) c.args.geometry.now.layout.size) c.args.group b)) c.loop-block.block (c.args.geometry.now.layout.fpg / c.args.geometry.now.layout.frag) 0 refl same)
+    (loose_fits (block_bits c.args.geometry.now.layout (free_in (bits_of c.args.used.now) c.args.geometry.now.layout.size) c.args.group) c.args.geometry.now.layout.frag c.args.geometry.now.layout.fpg
+    (λ b. length-map-range_with_len (free_in (bits_of c.args.used.now) c.args.geometry.now.layout.size) (cgbase c.args.geometry.now.layout c.args.group + b * c.args.geometry.now.layout.frag) c.args.geometry.now.layout.frag)) low

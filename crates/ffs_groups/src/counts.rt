@@ -1,0 +1,41 @@
+//! The right counts of a cylinder group.
+
+ghost use Rattle.std.specs.Prelude.{◌≡◌, ◌*◌, ◌<◌, ◌≤◌, length};
+ghost use Rattle.ffs_maps.specs.Bits.{bits_of};
+ghost use Rattle.ffs_groups.specs.Check.{AreCounts};
+ghost use Rattle.ffs_groups.specs.Free.{free_in};
+ghost use Rattle.ffs_groups.specs.Inodes.{class_in};
+
+use crate::free::free_counts;
+use crate::inodes::inode_counts;
+use ffs_layout::{Geometry, GroupSummary};
+use ffs_maps::FragmentMap;
+
+/// What a group's summary and its counts of runs should be.
+#[derive(Clone, Copy, Debug)]
+pub struct Counts {
+    pub summary: GroupSummary,
+    /// How many runs of so many free fragments there are, within blocks that are not all free, by length.
+    pub runs: [u64; 9],
+}
+
+/// The right counts of a group: of the fragments that are not used, and of the inodes' kinds.
+pub fn group_counts(geometry: &Geometry, used: &FragmentMap, kinds: &[u8], group: u32) -> Counts
+    requires group { group < geometry.now.layout.ncg }
+    requires size { used.now.size ≡ geometry.now.layout.size }
+    requires kinds { length kinds.now ≡ geometry.now.layout.ncg * geometry.now.layout.ipg }
+    ensures { AreCounts geometry.now.layout (free_in (bits_of used.now) geometry.now.layout.size) (class_in kinds.now) group result }
+{
+    let free = free_counts(geometry, used, group);
+    let inodes = inode_counts(geometry, kinds, group);
+    let runs = free.runs;
+    Counts {
+        summary: GroupSummary {
+            dirs: inodes.dirs,
+            blocks: free.blocks as u32,
+            inodes: inodes.free,
+            fragments: free.fragments as u32,
+        },
+        runs,
+    }
+}
