@@ -2,3 +2,4 @@ pub mod Survey
 pub mod Reading
 pub mod Discover
 pub mod Cycles
+pub mod SurveyLaws

@@ -1,0 +1,119 @@
+-- A survey of a volume's directories, from kinds and marks that the volume gives.
+use Rattle.std.specs.Prelude.{◌≡◌, ℕ, zero, suc, ◌+◌, ◌*◌, ◌/◌, ◌<◌, ◌==◌, Bool, true, false, not, cond, ◌&&◌, ◌||◌, nat_le, nat_lt, if◌then◌else◌, List, length, refl, count_by, unwrap_or}
+use Rattle.std.proofs.Common.{arith, sym, ◌∙◌, ap, subst, inl, inr, ◌⊎◌}
+use Rattle.std.proofs.lemmas.Bool.{cases_Bool, or_cases, eqb-true, or_parts, false_from_ne_true, cond-true, cond-false, and_left}
+use mathlib.Core.Path.{fun_ext}
+use Rattle.ffs_volume.specs.declared.Layout.{Layout}
+use Rattle.ffs_volume.specs.declared.Inode.{Inode}
+use Rattle.ffs_volume.specs.declared.Class.{Class}
+use Rattle.ffs_volume.specs.declared.Class.TheVariants.{Free, Partial, Unknown, File, Dir}
+use Rattle.ffs_volume.specs.Inodes.{inode_of, class_of, type_of, is_known_type, is_any_set, is_too_large, addresses_used}
+use Rattle.ffs_volume.specs.Roles.{Volume, Seen, seen_in, is_dir, is_directory, is_suspect, refers, references, references_below as volume_references_below}
+use Rattle.ffs_volume.specs.Volumes.{is_number, class_at, marked_at, volume_of, volume_with}
+use Rattle.ffs_volume.specs.Graph.{Graph}
+use Rattle.ffs_volume.specs.Parents.{graph_of}
+use Rattle.ffs_survey.specs.Survey.{bool_at, number_at, is_dir_kind, dir_at, suspect_at, graph_with, references_below, references_to, IsSurvey, IsTree, AreNamed}
+
+-- the graph of a volume's directories, from kinds and entries
+pub graph_is : (v : Volume) (kinds : List ℕ) (entries : ℕ → List Seen) → length kinds ≡ v.count → ((x : ℕ) → dir_at kinds x ≡ is_dir v x) → ((d : ℕ) → entries d ≡ seen_in v d) → graph_with kinds entries ≡ graph_of v
+graph_is v kinds entries n d e = ap (λ z. with_count z (dir_at kinds) entries) n ∙ (ap (λ z. with_count v.count z entries) (fun_ext d) ∙ ap (λ z. with_count v.count (is_dir v) z) (fun_ext e))
+  where
+    with_count : ℕ → (ℕ → Bool) → (ℕ → List Seen) → Graph
+    with_count n d e = record { count = n; is_dir = d; entries = e }
+
+-- the survey of that graph is one of the volume
+pub survey_is : (v : Volume) (kinds : List ℕ) (entries : ℕ → List Seen) (f : List ℕ) (m r : List Bool) (p : List ℕ) → length kinds ≡ v.count → ((x : ℕ) → dir_at kinds x ≡ is_dir v x) → ((d : ℕ) → entries d ≡ seen_in v d)
+  → IsSurvey (graph_with kinds entries) f m r p → IsSurvey (graph_of v) f m r p
+survey_is v kinds entries f m r p n d e s = subst (λ g. IsSurvey g f m r p) (graph_is v kinds entries n d e) s
+
+-- the references of the graph are the volume's
+pub references_is : (v : Volume) (x : ℕ) → references_to (graph_of v) x ≡ references v x
+unfolding references_below volume_references_below
+references_is v x = go v.count
+  where
+    go : (n : ℕ) → references_below (graph_of v) x n ≡ volume_references_below v x n
+    go zero = refl
+    go (suc n) = ap (λ k. k + (if is_dir v n then count_by (refers x) (seen_in v n) else 0)) (go n)
+
+-- what a survey leaves is what the test of an unreferenced directory asks for
+pub named_of : (g : Graph) (kinds f : List ℕ) (m r : List Bool) (p : List ℕ) → g.count ≡ length kinds → IsSurvey g f m r p → AreNamed g kinds m
+named_of g kinds f m r p n s = record { count = n; names = s.names }
+
+pub tree_of : (g : Graph) (kinds f : List ℕ) (m r : List Bool) (p : List ℕ) → 2 < g.count → g.count ≡ length kinds → ((x : ℕ) → g.is_dir x ≡ dir_at kinds x) → IsSurvey g f m r p → IsTree g kinds r p
+tree_of g kinds f m r p l n d s = record { some = l; count = n; dirs = d; reaches = s.reaches; ups = s.ups }
+
+-- the kind of an inode: 0 for an unallocated one, 15 for an unknown one, 4 for a directory with a size, 5 for one of size 0,
+-- and else the type of its mode
+abbrev pub kind_by : Class → Inode → ℕ
+kind_by Free i = 0
+kind_by Partial i = 0
+kind_by Unknown i = 15
+kind_by Dir i = if i.size == 0 then 5 else 4
+kind_by File i = type_of i.mode
+
+class_by : ℕ → Bool → Bool → Class
+class_by kind free bad =
+  if kind == 0 then (if free then Free else Partial)
+  else (if not (is_known_type kind) || bad then Unknown else (if kind == 4 then Dir else File))
+
+four_no_file : (kind : ℕ) (free bad : Bool) → kind ≡ 4 → class_by kind free bad ≡ File → ⊥
+unfolding class_by
+four_no_file kind free bad e h = go bad (subst (λ k. class_by k free bad ≡ File) e h)
+  where
+    go : (b : Bool) → class_by 4 free b ≡ File → ⊥
+    go true q = cc
+    go false q = cc
+
+five_no_file : (kind : ℕ) (free bad : Bool) → kind ≡ 5 → class_by kind free bad ≡ File → ⊥
+unfolding class_by
+five_no_file kind free bad e h = let q : Unknown ≡ File = subst (λ k. class_by k free bad ≡ File) e h in cc
+
+file_kind : (v : Layout) (i : Inode) → class_of v i ≡ File → is_dir_kind (type_of i.mode) ≡ false
+unfolding class_of class_by
+file_kind v i h =
+  let free = i.mode == 0 && (i.size == 0 && not (is_any_set i.addresses)) in
+  false_from_ne_true (is_dir_kind (type_of i.mode)) (λ t. elim (or_cases (type_of i.mode == 4) (type_of i.mode == 5) t) [
+    inl four ↦ four_no_file (type_of i.mode) _ _ (eqb-true (type_of i.mode) 4 four) h
+  | inr five ↦ five_no_file (type_of i.mode) _ _ (eqb-true (type_of i.mode) 5 five) h ])
+
+empty_kind : (b : Bool) → is_dir_kind (if b then 5 else 4) ≡ true
+empty_kind true = refl
+empty_kind false = refl
+
+kind_is_dir : (v : Layout) (i : Inode) (c : Class) → class_of v i ≡ c → is_dir_kind (kind_by c i) ≡ is_directory c
+kind_is_dir v i Free e = refl
+kind_is_dir v i Partial e = refl
+kind_is_dir v i Unknown e = refl
+kind_is_dir v i Dir e = empty_kind (i.size == 0)
+kind_is_dir v i File e = file_kind v i e
+
+-- kinds that the volume gives say which inodes are directories
+pub dirs_of_kinds : (v : Layout) (image : List ℕ) (kinds : List ℕ) (x : ℕ) → number_at kinds x ≡ kind_by (class_at v image x) (inode_of v image x) → dir_at kinds x ≡ is_dir (volume_of v image) x
+unfolding volume_of volume_with
+dirs_of_kinds v image kinds x h = ap (λ k. nat_le 2 x && is_dir_kind k) h ∙ go (nat_le 2 x) (nat_lt x (v.ncg * v.ipg))
+  where
+    go : (a b : Bool) → (a && is_dir_kind (kind_by (if a && b then class_of v (inode_of v image x) else Free) (inode_of v image x))) ≡ ((a && b) && is_directory (if a && b then class_of v (inode_of v image x) else Free))
+    go false b = refl
+    go true false = refl
+    go true true = kind_is_dir v (inode_of v image x) (class_of v (inode_of v image x)) refl
+
+kind_is_empty : (v : Layout) (i : Inode) (c : Class) → class_of v i ≡ c → (kind_by c i == 5) ≡ (is_directory c && (i.size == 0))
+kind_is_empty v i Free e = refl
+kind_is_empty v i Partial e = refl
+kind_is_empty v i Unknown e = refl
+kind_is_empty v i Dir e = go (i.size == 0)
+  where
+    go : (b : Bool) → ((if b then 5 else 4) == 5) ≡ b
+    go true = refl
+    go false = refl
+kind_is_empty v i File e = (or_parts (type_of i.mode == 4) (type_of i.mode == 5) (file_kind v i e)).1
+
+-- kinds and marks that the volume gives say which inodes are suspect
+pub suspects_of_kinds : (v : Layout) (image : List ℕ) (kinds : List ℕ) (marked : List Bool) (x : ℕ) → number_at kinds x ≡ kind_by (class_at v image x) (inode_of v image x) → bool_at marked x ≡ marked_at v image x → suspect_at kinds marked x ≡ is_suspect (volume_of v image) x
+unfolding volume_of volume_with
+suspects_of_kinds v image kinds marked x h m = ap (λ b. b || (nat_le 2 x && (number_at kinds x == 5))) m ∙ (ap (λ k. marked_at v image x || (nat_le 2 x && (k == 5))) h ∙ ap (λ b. marked_at v image x || b) (go (nat_le 2 x) (nat_lt x (v.ncg * v.ipg))))
+  where
+    go : (a b : Bool) → (a && (kind_by (if a && b then class_of v (inode_of v image x) else Free) (inode_of v image x) == 5)) ≡ (((a && b) && is_directory (if a && b then class_of v (inode_of v image x) else Free)) && ((inode_of v image x).size == 0))
+    go false b = refl
+    go true false = refl
+    go true true = kind_is_empty v (inode_of v image x) (class_of v (inode_of v image x)) refl
