@@ -1,0 +1,5 @@
+pub mod RunChunks
+pub mod Seen
+pub mod Advances
+pub mod Pieces
+pub mod Begins

@@ -1,0 +1,4 @@
+pub mod Keepings
+pub mod Fits
+pub mod Hands
+pub mod Readings

@@ -1,0 +1,65 @@
+//! Which steps of an inode are kept, told again.
+
+ghost use Rattle.std.specs.Prelude.{◌≡◌, ◌<◌, ◌≤◌, ℕ, true, Option};
+ghost use Rattle.ffs_volume.specs.declared.Step.TheVariants.{Run};
+ghost use Rattle.ffs_volume.specs.Replay.{is_seen as is_seen_in, is_replayed, fresh_replay};
+ghost use Rattle.ffs_volume.specs.ReplayLaws.{counted_step};
+
+use ffs_layout::Geometry;
+
+/// What is known of an inode that is walked again: the number of offers that it keeps where its eleventh dup offer cut
+/// it, else 0, and its bad Runs and kept offers so far. Kept offers are counted only where there is a cut.
+#[derive(Clone, Copy, Debug)]
+pub struct Keeping {
+    pub cut: u32,
+    pub bad: u32,
+    pub kept: u32,
+    ghost few: { bad ≤ 11 },
+    ghost within: { kept ≤ cut },
+}
+
+impl Keeping {
+    ghost use Rattle.ffs_names.specs.Keepings.{replay_in};
+
+    /// An inode begins.
+    pub fn start(cut: u32) -> Keeping
+        ensures cut { result.cut ≡ cut }
+        ensures fresh { replay_in result ≡ fresh_replay }
+    {
+        Keeping {
+            cut,
+            bad: 0,
+            kept: 0,
+        }
+    }
+
+    /// Whether the next step is seen.
+    pub fn is_seen(&self) -> bool
+        ensures { result ≡ is_seen_in self.now.cut (replay_in self.now) }
+    {
+        self.bad < 11 && (self.cut == 0 || self.kept < self.cut)
+    }
+
+    /// A Run is seen; the answer tells whether it is kept.
+    pub fn take(&mut self, geometry: &Geometry, start: u32, len: u32) -> bool
+        requires some { 0 < len }
+        requires seen { is_seen_in self.old.cut (replay_in self.old) ≡ true }
+        ensures kept { (block : Option ℕ) → result ≡ is_replayed geometry.now.layout self.old.cut (replay_in self.old) (Run start len block) }
+        ensures after { (block : Option ℕ) → replay_in self.new ≡ counted_step geometry.now.layout self.old.cut (replay_in self.old) (Run start len block) }
+        ensures cut { self.new.cut ≡ self.old.cut }
+    {
+        if !geometry.in_range(start, len) {
+            let last = self.bad == 10;
+            self.bad += 1;
+            if last {
+                return false;
+            }
+        }
+        if self.cut == 0 {
+            return true;
+        }
+        let taken = len.min(self.cut - self.kept);
+        self.kept += taken;
+        taken == len
+    }
+}

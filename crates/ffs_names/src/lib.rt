@@ -1,0 +1,11 @@
+//! The directories of a volume: their chunks and entries, which of them are reached from the root, and the paths of
+//! their entries.
+#![tactic(auto)]
+
+pub mod chunks;
+pub mod hand;
+pub mod keeping;
+pub mod role;
+
+pub use chunks::Chunks;
+pub use role::role_of;
