@@ -11,7 +11,7 @@ use Rattle.ffs_volume.specs.Levels.{reached-root}
 use Rattle.ffs_certificate.proofs.Lost.{silent-reached}
 use Rattle.ffs_certificate.proofs.Links.{links-right}
 use Rattle.ffs_volume.specs.Parents.{graph_of, seen_at}
-use Rattle.ffs_volume.specs.PathnameCheck.{is_short, is_bad_whiteout, is_other}
+use Rattle.ffs_volume.specs.PathnameCheck.{is_short, is_bad_whiteout, is_extraneous, is_other}
 use Rattle.ffs_volume.specs.Connectivity.{is_cut_off}
 use Rattle.ffs_volume.specs.DirectoriesRight.{IsVolume, IsUnmarked, IsPlainRight, IsDirRight, AreDirsRight, AreLinksRight, AreCountsRight}
 use Rattle.ffs_certificate.proofs.Silence.{and_false-from}
@@ -26,7 +26,7 @@ some-both P Q R None f h k = h
 some-both P Q R (Some e) f h k = f e h k
 
 -- SIZE
-shape_quiet : (v : Volume) (d : ℕ) → IsDirRight v d → IsShapeQuiet v d
+pub shape_quiet : (v : Volume) (d : ℕ) → IsDirRight v d → IsShapeQuiet v d
 shape_quiet v d r =
     let some = r.size.some in
     let whole = r.size.whole in
@@ -43,7 +43,6 @@ pub record IsSettled (v : Volume) : Type 0 where
   pub unmarked : IsUnmarked v
   pub dirs : AreDirsRight v
   pub links : AreLinksRight v
-  pub counts : AreCountsRight v
 
 calm : (v : Volume) → IsSettled v → (x : ℕ) → is_suspect v x ≡ false
 calm v t = none_suspect v t.unmarked (λ d h z. let some = (t.dirs.each d h).size.some in omega arith)
@@ -60,13 +59,13 @@ parent_entries v t =
     (links-right (graph_of v) (root_is_dir v t.volume t.dirs.root) (all_reached v t)).1 (record { once = λ d h n. (t.links.each d h n).once; root = t.links.root })
 
 -- ENTRIES
-whiteout_good : (e : Entry) → e.number ≡ 1 → e.kind ≡ 14 → is_bad_whiteout e ≡ false
+pub whiteout_good : (e : Entry) → e.number ≡ 1 → e.kind ≡ 14 → is_bad_whiteout e ≡ false
 whiteout_good e n k =
     or_from ((e.number == 1) && not (e.kind == 14)) ((e.kind == 14) && not (e.number == 1))
     (and_false-from (e.number == 1) (not (e.kind == 14)) (λ h. not_from_true _ (eq-eqb e.kind 14 k)))
     (and_false-from (e.kind == 14) (not (e.number == 1)) (λ h. not_from_true _ (eq-eqb e.number 1 n)))
 
-other_good : (e : Entry) → e.number ≢ 1 → e.kind ≢ 14 → is_bad_whiteout e ≡ false
+pub other_good : (e : Entry) → e.number ≢ 1 → e.kind ≢ 14 → is_bad_whiteout e ≡ false
 other_good e n k =
     or_from ((e.number == 1) && not (e.kind == 14)) ((e.kind == 14) && not (e.number == 1))
     (and_false-from (e.number == 1) (not (e.kind == 14)) (λ h. absurd (n (eqb-true e.number 1 h))))
@@ -101,12 +100,20 @@ plain_quiet v t s j e d there role r =
           })
     ]
 
+pub link_quiet : (v : Volume) → IsSettled v → (s j : ℕ) (e : Seen) → is_dir v s ≡ true → seen_at (seen_in v s) j ≡ Some e → e.role ≡ Plain → IsPlainRight v e.entry → is_extraneous v s j e.entry.number ≡ false
+link_quiet v t s j e d there role r =
+    and_false-from (is_dir v e.entry.number) _ (λ h.
+    let at = names_at-from v s j e.entry.number (record { dir = d; entry = e; there = there; role = role; number = refl }) in
+    let b = parent_entries v t s j e.entry.number at h in
+    not_from_true _ (and_from (is_value (parent (graph_of v) e.entry.number) s) (is_value (parent_entry (graph_of v) e.entry.number) j)
+    (is_value-from (parent (graph_of v) e.entry.number) s b.0) (is_value-from (parent_entry (graph_of v) e.entry.number) j b.1)))
+
 -- `..`
 dotdot_from : (v : Volume) (d s : ℕ) → parent (graph_of v) d ≡ Some s → IsSomeAnd (dotdot v d) (λ e. e.number ≡ s) → IsSomeAnd (dotdot v d) (λ e. e.kind ≡ 4) → IsDotdotQuiet v d (dotdot v d)
 dotdot_from v d s p n k =
     some-both _ _ _ (dotdot v d) (λ e a b. (ap (λ o. is_other o e.number) p ∙ not_from_true _ (eq-eqb s e.number (sym a)), b)) n k
 
-dotdot_quiet : (v : Volume) → IsSettled v → (d : ℕ) → is_dir v d ≡ true → IsDotdotQuiet v d (dotdot v d)
+pub dotdot_quiet : (v : Volume) → IsSettled v → (d : ℕ) → is_dir v d ≡ true → IsDotdotQuiet v d (dotdot v d)
 dotdot_quiet v t d h =
     elim (cases_eq d 2) [
       | inl e ↦ dotdot_from v d 2 (ap (parent (graph_of v)) e ∙ parent_root (graph_of v)) (subst (λ x. IsSomeAnd (dotdot v x) (λ e. e.number ≡ 2)) (sym e) t.links.root_dotdot) (t.dirs.each d h).dotdot_there
@@ -132,8 +139,8 @@ quiet_pathnames v t = record {
 pub quiet_connectivity : (v : Volume) → IsSettled v → (d : ℕ) → is_cut_off v d ≡ false
 quiet_connectivity v t = (silent-reached (graph_of v) (is_suspect v) (is_sane v t.volume) (none_dead v (calm v t))).1 (all_reached v t)
 
-pub quiet_references : (v : Volume) → IsSettled v → (i : ℕ) → is_some_inode v i ≡ true → IsCountQuiet v i
-quiet_references v t i h =
-    let c = t.counts i h in
+pub quiet_references : (v : Volume) → IsSettled v → AreCountsRight v → (i : ℕ) → is_some_inode v i ≡ true → IsCountQuiet v i
+quiet_references v t counts i h =
+    let c = counts i h in
     let some = c.some in
     record { alive = none_dead v (calm v t) i; some = omega arith; same = count-from (v.inode i).nlink (references v i) c.same }

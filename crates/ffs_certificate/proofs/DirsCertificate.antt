@@ -15,10 +15,10 @@ pub silent_right : (v : Volume) → IsVolume v → IsUnmarked v → IsSilent v �
 silent_right v vol un = (
   (λ s. let q = quiet v s in record { dirs = dirs_right v vol un q; links = links_right v vol un q; counts = counts_right v q }),
   (λ r.
-      let t : IsSettled v = record { volume = vol; unmarked = un; dirs = r.dirs; links = r.links; counts = r.counts } in
+      let t : IsSettled v = record { volume = vol; unmarked = un; dirs = r.dirs; links = r.links } in
       record {
         pathnames = pathname-silent v (quiet_pathnames v t);
         connectivity = connectivity-silent v (quiet_connectivity v t);
-        references = reference-silent v (quiet_references v t);
+        references = reference-silent v (quiet_references v t r.counts);
       }),
 )

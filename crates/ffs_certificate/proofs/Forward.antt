@@ -35,7 +35,7 @@ pub root_is_dir : (v : Volume) → IsVolume v → v.class 2 ≡ Dir → is_dir v
 root_is_dir v vol h =
     and_from (nat_le 2 2 && nat_lt 2 v.count) (is_directory (v.class 2)) (and_from (nat_le 2 2) (nat_lt 2 v.count) refl (lt-ltb 2 v.count vol.some)) (ap is_directory h)
 
-known-false : (c : Class) → c ≢ Unknown → is_unknown c ≡ false
+pub known-false : (c : Class) → c ≢ Unknown → is_unknown c ≡ false
 known-false Unknown h = absurd (h refl)
 known-false Dir h = refl
 known-false File h = refl
@@ -43,14 +43,14 @@ known-false Partial h = refl
 known-false Free h = refl
 
 -- SIZE: a directory's size is a positive multiple of 512
-whole : (v : Volume) (d : ℕ) → (v.inode d).size ≢ 0 → IsShapeQuiet v d → IsWhole (v.inode d).size
+pub whole : (v : Volume) (d : ℕ) → (v.inode d).size ≢ 0 → IsShapeQuiet v d → IsWhole (v.inode d).size
 whole v d n q = record {
   some = omega arith;
   whole = eqb-true ((v.inode d).size % 512) 0 (not-false _ (and_false-right (not (is_short v d)) (not ((v.inode d).size % 512 == 0)) q.broken (not_from_false _ q.short)));
 }
 
 -- ENTRIES: a plain entry is a whiteout, or names an inode with the type of its mode
-whiteout_kind : (e : Entry) → is_bad_whiteout e ≡ false → e.number ≡ 1 → e.kind ≡ 14
+pub whiteout_kind : (e : Entry) → is_bad_whiteout e ≡ false → e.number ≡ 1 → e.kind ≡ 14
 whiteout_kind e h n =
     eqb-true e.kind 14 (not-false _ (and_false-right (e.number == 1) (not (e.kind == 14)) (or_parts ((e.number == 1) && not (e.kind == 14)) ((e.kind == 14) && not (e.number == 1)) h).0 (eq-eqb e.number 1 n)))
 

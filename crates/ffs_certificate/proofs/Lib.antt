@@ -27,3 +27,5 @@ pub mod Dirs
 pub mod Backward
 pub mod RunLengths
 pub mod Weights
+pub mod ClassLines
+pub mod ConditionLaws

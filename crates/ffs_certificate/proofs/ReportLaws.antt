@@ -1,5 +1,5 @@
 -- A report has no defect exactly where the volume is consistent.
-use Rattle.std.specs.Prelude.{◌≡◌, ℕ, Bool, true, false, refl, if◌then◌else◌, List, [], ◌∷◌, ◌++◌, map, length, Option, Some, None, Result, Ok, Err}
+use Rattle.std.specs.Prelude.{◌≡◌, ◌↔◌, ℕ, Bool, true, false, refl, if◌then◌else◌, List, [], ◌∷◌, ◌++◌, map, length, Option, Some, None, Result, Ok, Err}
 use Rattle.std.proofs.Common.{sym, ◌∙◌, ap, subst}
 use Rattle.std.proofs.lemmas.Bool.{or_parts, or_from, true_from_ne_false}
 use Rattle.std.proofs.lemmas.List.Folds.{list_any-append}
@@ -14,6 +14,7 @@ use Rattle.ffs_volume.specs.declared.SuperFault.TheVariants.{CannotRead}
 use Rattle.ffs_volume.specs.Superblock.{Superblock, layout_of, superblock_of, order_of}
 use Rattle.ffs_volume.specs.Outcome.{super_sector, super_bytes, layout_fault, copy_agrees, judged, outcome_in, outcome_of, outcome}
 use Rattle.ffs_volume.specs.Geometry.{IsGeometry, geometry_holds}
+use Rattle.ffs_volume.specs.AcceptedLaws.{accepted_sound}
 use Rattle.ffs_volume.specs.Owners.{Owner, owners_of}
 use Rattle.ffs_volume.specs.BlockCheck.{phase1_lines, phase1b_lines, has_rescan}
 use Rattle.ffs_volume.specs.BlocksRight.{BlocksRight}
@@ -79,6 +80,24 @@ settings_quiet super s =
     (quiet_from (unless_message (is_optimization super) optimization) (unless_message (is_minfree super) (minfree super.minfree))
     (no_line (is_optimization super) optimization s.optimization) (no_line (is_minfree super) (minfree super.minfree) s.minfree)) refl
 
+nil_message : (b : Bool) (message : Message) → unless_message b message ≡ [] → b ≡ true
+nil_message true message h = refl
+nil_message false message h = absurd (cc)
+
+nil_parts : (xs ys : List Message) → xs ++ ys ≡ [] → (xs ≡ []) × (ys ≡ [])
+nil_parts [] ys h = (refl, h)
+nil_parts (x ∷ xs) ys h = absurd (cc)
+
+-- nothing is told of the settings exactly where they are right
+pub settings_told : (super : Superblock) → (setting_lines super ≡ []) ↔ AreSettingsRight super
+unfolding setting_lines
+settings_told super = (
+  (λ h.
+      let p = nil_parts (unless_message (is_optimization super) optimization) (unless_message (is_minfree super) (minfree super.minfree)) h in
+      record { optimization = nil_message (is_optimization super) optimization p.0; minfree = nil_message (is_minfree super) (minfree super.minfree) p.1 }),
+  (λ r. ap (λ b. unless_message b optimization ++ unless_message (is_minfree super) (minfree super.minfree)) r.optimization ∙ ap (λ b. unless_message b (minfree super.minfree)) r.minfree),
+)
+
 -- THE ROOT: a run that stops behind it has told so
 told_root : (v : Volume) (c : Class) → root_told v c ≡ [] → is_directory c ≡ true
 told_root v Free h = absurd (cc)
@@ -102,7 +121,7 @@ blocks_of_parts image super c = record {
   counted = c.runs.counted;
 }
 
-runs_of : (v : Layout) (os : List Owner) → BlocksRight v os → AreRunsRight v os
+pub runs_of : (v : Layout) (os : List Owner) → BlocksRight v os → AreRunsRight v os
 runs_of v os r = record { in_range = r.in_range; no_tail = r.no_tail; alone = r.alone; unreserved = r.unreserved; counted = r.counted }
 
 -- PHASES 3 TO 5
@@ -229,29 +248,5 @@ report_right image super g = record {
   end_is = ((λ e. forward image super g (consistent_end image super e)), (λ c. end_consistent image super (backward image super g c)));
 }
 
--- AN ACCEPTED SUPERBLOCK
-judged_ok : (fault : Option SuperFault) (agrees : Bool) (super s : Superblock) → judged fault agrees super ≡ Ok s → (fault ≡ None) × (super ≡ s)
-unfolding judged
-judged_ok (Some fault) agrees super s e = absurd (cc)
-judged_ok None true super s e = (refl, cc)
-judged_ok None false super s e = absurd (cc)
-
-super_layout : (image : List ℕ) (sector : Option ℕ) (bytes : List ℕ) (order : Option Order) (s : Superblock) → outcome_of image sector bytes order ≡ Ok s → IsGeometry s.layout
-unfolding outcome_of outcome_in superblock_of
-super_layout image sector bytes None s e = absurd (cc)
-super_layout image sector bytes (Some order) s e =
-    let p = judged_ok (layout_fault (layout_of order bytes) (length image)) (copy_agrees image sector order bytes) (superblock_of order bytes) s e in
-    subst IsGeometry (ap (λ q. q.layout) p.1) (geometry_holds (layout_of order bytes) (length image) p.0).0
-
-in_image : (b : Bool) (fault : SuperFault) (r : Result Superblock SuperFault) (s : Superblock) → (if b then Err fault else r) ≡ Ok s → r ≡ Ok s
-in_image true fault r s e = absurd (cc)
-in_image false fault r s e = e
-
-accepted_layout : (image : List ℕ) (sector : Option ℕ) (s : Superblock) → outcome image sector ≡ Ok s → IsGeometry s.layout
-unfolding outcome
-accepted_layout image sector s e =
-    super_layout image sector (super_bytes image sector) (order_of (super_bytes image sector)) s
-    (in_image _ (CannotRead (super_sector sector)) (outcome_of image sector (super_bytes image sector) (order_of (super_bytes image sector))) s e)
-
 pub certified : ReportIsRight
-certified image sector s e = report_right image s (accepted_layout image sector s e)
+certified image sector s e = report_right image s (accepted_sound image sector s e).geometry

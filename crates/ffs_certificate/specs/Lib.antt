@@ -2,3 +2,4 @@ pub mod Certificate
 pub mod DirsCertificate
 pub mod ReportRight
 pub mod Bounded
+pub mod Conditions

@@ -3,6 +3,7 @@
 
 ghost use Rattle.ffs_certificate.specs.Bounded.{ClaimsAreBounded};
 ghost use Rattle.ffs_certificate.specs.Certificate.{BlocksAndGroups, KeepingByRule};
+ghost use Rattle.ffs_certificate.specs.Conditions.{ConditionsAreTold};
 ghost use Rattle.ffs_certificate.specs.DirsCertificate.{SilentIsRight};
 ghost use Rattle.ffs_certificate.specs.ReportRight.{ReportIsRight, StopIsTold};
 
@@ -35,4 +36,9 @@ pub fn claims_are_bounded()
 /// Where inode 2 is no directory the run stops behind the pathname check, and a defect was told by then.
 pub fn stop_is_told()
     ensures { StopIsTold }
+{}
+
+/// Each of the seven conditions of a consistent volume holds exactly where none of the messages that speak for it is told.
+pub fn conditions_are_told()
+    ensures { ConditionsAreTold }
 {}
