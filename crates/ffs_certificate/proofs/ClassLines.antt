@@ -38,7 +38,7 @@ run_none : (v : Layout) (i : ℕ) (s : Claims) (start len : ℕ) → list_any is
 run_none v i s start len = one (is_in_range v start len) (s.bad == 10)
   where
     one : (a b : Bool) → list_any is_class_message (if a then offers_lines v i (record s { runs = s.runs + 1 }) (range_with_len start len)
-      else Bad start i ∷ (if b then ManyBad i ∷ [] else offers_lines v i (record s { runs = s.runs + 1; bad = s.bad + 1 }) (range_with_len start len))) ≡ false
+        else Bad start i ∷ (if b then ManyBad i ∷ [] else offers_lines v i (record s { runs = s.runs + 1; bad = s.bad + 1 }) (range_with_len start len))) ≡ false
     one true b = offers_none v i (record s { runs = s.runs + 1 }) (range_with_len start len)
     one false true = refl
     one false false = offers_none v i (record s { runs = s.runs + 1; bad = s.bad + 1 }) (range_with_len start len)
@@ -77,9 +77,11 @@ class_some i Dir = refl
 owner_some : (v : Layout) (s : Claims) (o : Owner) → list_any is_class_message (owner_lines v s o) ≡ not (is_whole_class o.class)
 owner_some v s o =
     list_any-append is_class_message (class_lines o.number o.class) (steps_lines v o.number (next_inode s) o.steps ++ count_lines v o (after_owner v s o))
-    ∙ rw (class_some o.number o.class,
-        none_append (steps_lines v o.number (next_inode s) o.steps) (count_lines v o (after_owner v s o)) (steps_none v o.number (next_inode s) o.steps) (count_none v o (after_owner v s o)))
-      (or_false (not (is_whole_class o.class)))
+    ∙ rw (
+      class_some o.number o.class,
+      none_append (steps_lines v o.number (next_inode s) o.steps) (count_lines v o (after_owner v s o)) (steps_none v o.number (next_inode s) o.steps) (count_none v o (after_owner v s o)),
+    )
+    (or_false (not (is_whole_class o.class)))
   where
     or_false : (a : Bool) → (a || false) ≡ a
     or_false true = refl

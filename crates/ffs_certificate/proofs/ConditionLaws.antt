@@ -197,7 +197,7 @@ conditions image s g =
       links = λ b r. (links_right w (whole_is_volume v image g) (whole_unmarked v image b) r, links_untold w (whole_is_volume v image g) (whole_unmarked v image b) r);
       counts = counts_told w;
       groups = λ b. subst (λ free. (phase5_lines v image s.cstotal (is_free_of_kept v os) (class_at v image) ≡ []) ↔ GroupsRight v image s.cstotal free (class_at v image))
-        (same_free v os b) (phase5_silent v image s.cstotal (is_free_of_kept v os) (class_at v image));
+          (same_free v os b) (phase5_silent v image s.cstotal (is_free_of_kept v os) (class_at v image));
     }
 
 pub conditions_told : ConditionsAreTold

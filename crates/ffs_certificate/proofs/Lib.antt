@@ -11,16 +11,13 @@ pub mod DupLines
 pub mod DupMap
 pub mod Lost
 pub mod Links
-pub mod SubRows
 pub mod Silence
-pub mod CutRows
 pub mod ReportLaws
 pub mod Live
 pub mod VolumeLaws
 pub mod Suspects
 pub mod Entries
 pub mod Counts
-pub mod WholeRows
 pub mod Forward
 pub mod DirsCertificate
 pub mod Dirs
@@ -29,3 +26,7 @@ pub mod RunLengths
 pub mod Weights
 pub mod ClassLines
 pub mod ConditionLaws
+pub mod BaseReport
+pub mod DirReport
+pub mod ReportExamples
+pub mod SharedReport

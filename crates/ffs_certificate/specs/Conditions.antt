@@ -80,19 +80,19 @@ AreCountsUntold v = (i : ℕ) → is_some_inode v i ≡ true → IsCountUntold v
 pub record ConditionsTold (image : List ℕ) (s : Superblock) : Type 0 where
   pub settings : (setting_lines s ≡ []) ↔ AreSettingsRight s
   pub classes : (list_any is_class_message (phase1_lines s.layout (owners_of s.layout image)) ≡ false)
-    ↔ (list_all (λ o. is_whole_class o.class) (owners_of s.layout image) ≡ true)
+      ↔ (list_all (λ o. is_whole_class o.class) (owners_of s.layout image) ≡ true)
   pub runs : list_all (λ o. is_whole_class o.class) (owners_of s.layout image) ≡ true →
-    (phase1_lines s.layout (owners_of s.layout image) ≡ []) ↔ AreRunsRight s.layout (owners_of s.layout image)
+      (phase1_lines s.layout (owners_of s.layout image) ≡ []) ↔ AreRunsRight s.layout (owners_of s.layout image)
   pub whole : BlocksRight s.layout (owners_of s.layout image) → volume_of s.layout image ≡ whole_volume s.layout image
   pub checks : BlocksRight s.layout (owners_of s.layout image) → IsSilent (whole_volume s.layout image)
-    ↔ (AreDirsUntold (whole_volume s.layout image) × AreLinksUntold (whole_volume s.layout image) × AreCountsUntold (whole_volume s.layout image))
+      ↔ (AreDirsUntold (whole_volume s.layout image) × AreLinksUntold (whole_volume s.layout image) × AreCountsUntold (whole_volume s.layout image))
   pub dirs : BlocksRight s.layout (owners_of s.layout image) → AreDirsUntold (whole_volume s.layout image) ↔ AreDirsRight (whole_volume s.layout image)
   pub links : BlocksRight s.layout (owners_of s.layout image) → AreDirsRight (whole_volume s.layout image) →
-    AreLinksUntold (whole_volume s.layout image) ↔ AreLinksRight (whole_volume s.layout image)
+      AreLinksUntold (whole_volume s.layout image) ↔ AreLinksRight (whole_volume s.layout image)
   pub counts : AreCountsUntold (whole_volume s.layout image) ↔ AreCountsRight (whole_volume s.layout image)
   pub groups : BlocksRight s.layout (owners_of s.layout image) →
-    (phase5_lines s.layout image s.cstotal (is_free_of_kept s.layout (owners_of s.layout image)) (class_at s.layout image) ≡ [])
-    ↔ GroupsRight s.layout image s.cstotal (is_free_of_runs s.layout (owners_of s.layout image)) (class_at s.layout image)
+      (phase5_lines s.layout image s.cstotal (is_free_of_kept s.layout (owners_of s.layout image)) (class_at s.layout image) ≡ [])
+      ↔ GroupsRight s.layout image s.cstotal (is_free_of_runs s.layout (owners_of s.layout image)) (class_at s.layout image)
 
 -- for each accepted superblock
 abbrev pub ConditionsAreTold : Type 0

@@ -3,3 +3,4 @@ pub mod DirsCertificate
 pub mod ReportRight
 pub mod Bounded
 pub mod Conditions
+pub mod ReportExamples

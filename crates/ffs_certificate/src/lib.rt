@@ -5,6 +5,7 @@ ghost use Rattle.ffs_certificate.specs.Bounded.{ClaimsAreBounded};
 ghost use Rattle.ffs_certificate.specs.Certificate.{BlocksAndGroups, KeepingByRule};
 ghost use Rattle.ffs_certificate.specs.Conditions.{ConditionsAreTold};
 ghost use Rattle.ffs_certificate.specs.DirsCertificate.{SilentIsRight};
+ghost use Rattle.ffs_certificate.specs.ReportExamples.{ReportExamples};
 ghost use Rattle.ffs_certificate.specs.ReportRight.{ReportIsRight, StopIsTold};
 
 /// A law of the definitions: a silent check of blocks and groups certifies them.
@@ -41,4 +42,9 @@ pub fn stop_is_told()
 /// Each of the seven conditions of a consistent volume holds exactly where none of the messages that speak for it is told.
 pub fn conditions_are_told()
     ensures { ConditionsAreTold }
+{}
+
+/// Whole reports of small images: the base image in both orders, which is so consistent, and images with a defect.
+pub fn examples_hold()
+    ensures { ReportExamples }
 {}
