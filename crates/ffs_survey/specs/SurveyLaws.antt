@@ -23,7 +23,7 @@ graph_is v kinds entries n d e = ap (λ z. with_count z (dir_at kinds) entries) 
 
 -- the survey of that graph is one of the volume
 pub survey_is : (v : Volume) (kinds : List ℕ) (entries : ℕ → List Seen) (f : List ℕ) (m r : List Bool) (p : List ℕ) → length kinds ≡ v.count → ((x : ℕ) → dir_at kinds x ≡ is_dir v x) → ((d : ℕ) → entries d ≡ seen_in v d)
-  → IsSurvey (graph_with kinds entries) f m r p → IsSurvey (graph_of v) f m r p
+    → IsSurvey (graph_with kinds entries) f m r p → IsSurvey (graph_of v) f m r p
 survey_is v kinds entries f m r p n d e s = subst (λ g. IsSurvey g f m r p) (graph_is v kinds entries n d e) s
 
 -- the references of the graph are the volume's
@@ -53,8 +53,8 @@ kind_by File i = type_of i.mode
 
 class_by : ℕ → Bool → Bool → Class
 class_by kind free bad =
-  if kind == 0 then (if free then Free else Partial)
-  else (if not (is_known_type kind) || bad then Unknown else (if kind == 4 then Dir else File))
+    if kind == 0 then (if free then Free else Partial)
+    else (if not (is_known_type kind) || bad then Unknown else (if kind == 4 then Dir else File))
 
 four_no_file : (kind : ℕ) (free bad : Bool) → kind ≡ 4 → class_by kind free bad ≡ File → ⊥
 unfolding class_by
@@ -71,10 +71,11 @@ five_no_file kind free bad e h = let q : Unknown ≡ File = subst (λ k. class_b
 file_kind : (v : Layout) (i : Inode) → class_of v i ≡ File → is_dir_kind (type_of i.mode) ≡ false
 unfolding class_of class_by
 file_kind v i h =
-  let free = i.mode == 0 && (i.size == 0 && not (is_any_set i.addresses)) in
-  false_from_ne_true (is_dir_kind (type_of i.mode)) (λ t. elim (or_cases (type_of i.mode == 4) (type_of i.mode == 5) t) [
-    inl four ↦ four_no_file (type_of i.mode) _ _ (eqb-true (type_of i.mode) 4 four) h
-  | inr five ↦ five_no_file (type_of i.mode) _ _ (eqb-true (type_of i.mode) 5 five) h ])
+    let free = i.mode == 0 && (i.size == 0 && not (is_any_set i.addresses)) in
+    false_from_ne_true (is_dir_kind (type_of i.mode)) (λ t. elim (or_cases (type_of i.mode == 4) (type_of i.mode == 5) t) [
+      | inl four ↦ four_no_file (type_of i.mode) _ _ (eqb-true (type_of i.mode) 4 four) h
+      | inr five ↦ five_no_file (type_of i.mode) _ _ (eqb-true (type_of i.mode) 5 five) h
+    ])
 
 empty_kind : (b : Bool) → is_dir_kind (if b then 5 else 4) ≡ true
 empty_kind true = refl

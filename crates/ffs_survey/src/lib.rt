@@ -4,7 +4,7 @@
 
 pub mod cycles;
 pub mod directories;
-pub mod discover;
+mod discover;
 pub mod levels;
 pub mod named;
 pub mod unref;
@@ -14,3 +14,6 @@ pub use directories::Directories;
 pub use levels::survey;
 pub use named::{Named, is_dir};
 pub use unref::{is_dead, is_suspect, is_unref};
+
+#[cfg(test)]
+mod tests;
