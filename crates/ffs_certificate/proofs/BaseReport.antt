@@ -1,5 +1,5 @@
 -- The report of the base image in both orders, by computation.
-use Rattle.std.proofs.Common.{refl, ap, ◌∙◌, ◌∷◌, ◌++◌, None}
+use Rattle.std.proofs.Common.{refl}
 use Rattle.ffs_volume.specs.Numbers.{number, all_below, any_below, u16_at, i16_at, u32_at, u64_at, i32_at}
 use Rattle.ffs_volume.specs.Areas.{shift, cgbase, cgstart, is_kept, is_ok, is_in_range, is_reserved}
 use Rattle.ffs_volume.specs.Inodes.{decoded, inode_of, class_of}
@@ -13,7 +13,7 @@ use Rattle.ffs_volume.specs.Roles.{role_of, seen_from, seen_in, start_entry, dot
 use Rattle.ffs_volume.specs.Search.{first_below, earliest}
 use Rattle.ffs_volume.specs.Climb.{climb}
 use Rattle.ffs_volume.specs.Graph.{within, level, parent}
-use Rattle.ffs_volume.specs.Messages.{lines_below, has_defect}
+use Rattle.ffs_volume.specs.Messages.{lines_below}
 use Rattle.ffs_volume.specs.PathnameCheck.{attributes, root_lines, shape_lines, dot_lines, dotdot_lines, named_lines, plain_lines, seen_lines, entry_lines, dir_lines, pathname_lines}
 use Rattle.ffs_volume.specs.Connectivity.{connectivity_lines}
 use Rattle.ffs_volume.specs.ReferenceCheck.{inode_lines, reference_lines}
@@ -21,11 +21,10 @@ use Rattle.ffs_volume.specs.Groups.{right_summary, right_frsum, right_total, are
 use Rattle.ffs_volume.specs.GroupCheck.{phase5_lines}
 use Rattle.ffs_volume.specs.Volumes.{reading_of, volume_with, volume_of}
 use Rattle.ffs_volume.specs.Opening.{setting_lines}
-use Rattle.ffs_volume.specs.Report.{file_count, used_count, later_lines, text_lines, report_lines, end_of, report_of, report_end}
+use Rattle.ffs_volume.specs.Report.{file_count, used_count, later_lines, text_lines, report_lines}
 use Rattle.ffs_volume.specs.Examples.{bytes_in, word, zeros, base_layout, base_superblock, base_super, base_summary, base_group, root_inode, root_chunk, base_image}
-use Rattle.ffs_volume.specs.DirectoryExamples.{entry_bytes}
-use Rattle.ffs_certificate.specs.ReportExamples.{ReportExamples, inode_bytes, dir_chunk, two_dirs, named_dir, unnamed_dir, shared_summary, shared_group, shared_image, shared_superblock, clean_lines, about_file}
-use Rattle.std.specs.Prelude.{◌≡◌, List}
+use Rattle.ffs_certificate.specs.ReportExamples.{clean_lines}
+use Rattle.std.specs.Prelude.{◌≡◌}
 use Rattle.ffs_volume.specs.declared.Order.TheVariants.{Little, Big}
 
 pub base_lines : report_lines (base_image Little) (base_superblock Little) ≡ clean_lines

@@ -1,41 +1,36 @@
 -- Each condition of a consistent volume holds exactly where nothing is told for it.
-use Rattle.std.specs.Prelude.{◌≡◌, ◌≢◌, ◌↔◌, ℕ, ◌<◌, ◌==◌, ◌/◌, ◌%◌, Bool, true, false, not, ◌&&◌, nat_lt, nat_le, refl, List, [], Some, IsSomeAnd, Option, Ok}
-use Rattle.std.specs.List.{list_all, list_any}
+use Rattle.std.specs.Prelude.{◌≡◌, ◌≢◌, ◌↔◌, ℕ, ◌==◌, ◌/◌, true, false, not, nat_lt, nat_le, refl, List, [], Some, IsSomeAnd}
+use Rattle.std.specs.List.{list_all}
 use Rattle.std.proofs.Common.{arith, sym, ◌∙◌, ap, subst, inl, inr}
-use Rattle.std.proofs.lemmas.Bool.{both_ways, cases_eq, eqb-true, eq-eqb, ne_eqb, lt-ltb, le-leb, leb-true, and_parts, and_from, not-true, not-false, not_from_true, not_from_false}
+use Rattle.std.proofs.lemmas.Bool.{both_ways, cases_eq, eqb-true, eq-eqb, ne_eqb, lt-ltb, le-leb, leb-true, and_parts, and_from, not-false, not_from_true, not_from_false}
 use Rattle.ffs_volume.specs.declared.Layout.{Layout}
 use Rattle.ffs_volume.specs.declared.Class.{Class}
 use Rattle.ffs_volume.specs.declared.Class.TheVariants.{Free, Partial, Unknown, File, Dir}
-use Rattle.ffs_volume.specs.declared.Role.TheVariants.{Plain}
 use Rattle.ffs_volume.specs.Superblock.{Superblock}
-use Rattle.ffs_volume.specs.Outcome.{outcome}
 use Rattle.ffs_volume.specs.Geometry.{IsGeometry}
 use Rattle.ffs_volume.specs.AcceptedLaws.{accepted_sound}
 use Rattle.ffs_volume.specs.Owners.{Owner, owners_of}
-use Rattle.ffs_volume.specs.BlockCheck.{phase1_lines}
 use Rattle.ffs_volume.specs.BlocksRight.{is_whole_class, BlocksRight}
 use Rattle.ffs_volume.specs.Groups.{GroupsRight}
-use Rattle.ffs_volume.specs.GroupCheck.{phase5_lines, is_free_of_kept, is_free_of_runs}
+use Rattle.ffs_volume.specs.GroupCheck.{phase5_lines, is_free_of_kept}
 use Rattle.ffs_volume.specs.Directory.{Entry}
-use Rattle.ffs_volume.specs.Roles.{Volume, Seen, is_dir, is_inode, is_directory, is_allocated, is_unknown, is_some_inode, is_suspect, seen_in, dotdot, references}
+use Rattle.ffs_volume.specs.Roles.{Volume, is_dir, is_inode, is_directory, is_allocated, is_unknown, is_suspect, dotdot, references}
 use Rattle.ffs_volume.specs.Climb.{is_value, is_value-true}
-use Rattle.ffs_volume.specs.Graph.{parent, parent_entry, reached, AllReached, NoExtraneous}
-use Rattle.ffs_volume.specs.Parents.{graph_of, seen_at, is_from_parent}
-use Rattle.ffs_volume.specs.PathnameCheck.{goes_on, is_short, is_other, is_bad_whiteout, is_extraneous, is_other_kind}
-use Rattle.ffs_volume.specs.Connectivity.{is_cut_off}
-use Rattle.ffs_volume.specs.DirectoriesRight.{IsVolume, IsUnmarked, IsPlainRight, IsDirRight, AreDirsRight, AreLinksRight, AreCountsRight}
-use Rattle.ffs_volume.specs.Volumes.{class_at, volume_of, whole_volume}
+use Rattle.ffs_volume.specs.Graph.{parent, parent_entry, NoExtraneous}
+use Rattle.ffs_volume.specs.Parents.{graph_of, is_from_parent}
+use Rattle.ffs_volume.specs.PathnameCheck.{is_other, is_extraneous}
+use Rattle.ffs_volume.specs.DirectoriesRight.{IsVolume, IsUnmarked, IsPlainRight, AreDirsRight, AreLinksRight, AreCountsRight}
+use Rattle.ffs_volume.specs.Volumes.{class_at, whole_volume}
 use Rattle.ffs_volume.specs.Consistent.{AreRunsRight}
 use Rattle.ffs_certificate.specs.DirsCertificate.{IsSilent}
-use Rattle.ffs_certificate.specs.Conditions.{is_class_message, IsNameUntold, IsPlainUntold, IsDirUntold, AreDirsUntold, AreLinksUntold, IsCountUntold, AreCountsUntold, ConditionsTold, ConditionsAreTold}
+use Rattle.ffs_certificate.specs.Conditions.{IsPlainUntold, AreDirsUntold, AreLinksUntold, AreCountsUntold, ConditionsTold, ConditionsAreTold}
 use Rattle.ffs_certificate.proofs.Silence.{and_false-right, and_false-from}
 use Rattle.ffs_certificate.proofs.Live.{plain-live}
 use Rattle.ffs_certificate.proofs.Lost.{silent-reached}
 use Rattle.ffs_certificate.proofs.Links.{links-right}
-use Rattle.ffs_certificate.proofs.Entries.{names_at-gives, IsPlainQuiet}
-use Rattle.ffs_certificate.proofs.Dirs.{IsShapeQuiet}
+use Rattle.ffs_certificate.proofs.Entries.{names_at-gives}
 use Rattle.ffs_certificate.proofs.Counts.{count-true, count-from}
-use Rattle.ffs_certificate.proofs.Suspects.{is_sane, dir-from_two, none_suspect, none_dead}
+use Rattle.ffs_certificate.proofs.Suspects.{is_sane, none_suspect, none_dead}
 use Rattle.ffs_certificate.proofs.Forward.{some-map, root_is_dir, whole, whiteout_kind, known-false, parent_once, parent_root}
 use Rattle.ffs_certificate.proofs.Backward.{IsSettled, shape_quiet, whiteout_good, other_good, link_quiet, dotdot_quiet, quiet_connectivity}
 use Rattle.ffs_certificate.proofs.DirsCertificate.{silent_right}

@@ -30,3 +30,4 @@ pub mod BaseReport
 pub mod DirReport
 pub mod ReportExamples
 pub mod SharedReport
+pub mod Rising

@@ -21,16 +21,12 @@ use Rattle.ffs_volume.specs.Groups.{right_summary, right_frsum, right_total, are
 use Rattle.ffs_volume.specs.GroupCheck.{phase5_lines}
 use Rattle.ffs_volume.specs.Volumes.{reading_of, volume_with, volume_of}
 use Rattle.ffs_volume.specs.Opening.{setting_lines}
-use Rattle.ffs_volume.specs.Report.{file_count, used_count, later_lines, text_lines, report_lines, end_of, report_of, report_end}
+use Rattle.ffs_volume.specs.Report.{file_count, used_count, later_lines, text_lines, report_lines, report_of, report_end}
 use Rattle.ffs_volume.specs.Examples.{bytes_in, word, zeros, base_layout, base_superblock, base_super, base_summary, base_group, root_inode, root_chunk, base_image}
 use Rattle.ffs_volume.specs.DirectoryExamples.{entry_bytes}
-use Rattle.ffs_certificate.specs.ReportExamples.{ReportExamples, inode_bytes, dir_chunk, two_dirs, named_dir, unnamed_dir, shared_summary, shared_group, shared_image, shared_superblock, clean_lines, about_file}
+use Rattle.ffs_certificate.specs.ReportExamples.{ReportExamples, inode_bytes, dir_chunk, two_dirs, named_dir, unnamed_dir, shared_summary, shared_group, shared_image, shared_superblock}
 use Rattle.ffs_volume.specs.declared.Order.TheVariants.{Little, Big}
-use Rattle.std.specs.Prelude.{◌≡◌, List}
-use Rattle.ffs_volume.specs.declared.End.TheVariants.{Consistent}
-use Rattle.ffs_volume.specs.Consistent.{IsConsistent}
-use Rattle.ffs_volume.specs.Messages.{Message, opening, mounted, phase1, phase1b, phase2, phase3, phase4, phase5, of_blocks, of_names, summary, dup_bad}
-use Rattle.ffs_volume.specs.Outcome.{outcome}
+use Rattle.ffs_volume.specs.Messages.{opening}
 use Rattle.ffs_volume.specs.Opening.{head_lines}
 use Rattle.ffs_volume.specs.Report.{told_of, ends_of}
 use Rattle.ffs_certificate.proofs.ReportLaws.{certified}

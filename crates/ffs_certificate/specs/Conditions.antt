@@ -1,7 +1,6 @@
 -- What is told for each condition of a consistent volume.
 use Rattle.std.specs.Prelude.{◌≡◌, ◌≢◌, ◌↔◌, ℕ, ◌==◌, Bool, true, false, nat_lt, List, [], Some, IsSomeAnd, Option, Ok}
 use Rattle.std.specs.List.{list_all, list_any}
-use Rattle.ffs_volume.specs.declared.Layout.{Layout}
 use Rattle.ffs_volume.specs.declared.BlockMessage.{BlockMessage}
 use Rattle.ffs_volume.specs.declared.BlockMessage.TheVariants.{PartAlloc, UnknownType}
 use Rattle.ffs_volume.specs.declared.Role.TheVariants.{Extra, Plain}

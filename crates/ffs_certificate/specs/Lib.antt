@@ -4,3 +4,4 @@ pub mod ReportRight
 pub mod Bounded
 pub mod Conditions
 pub mod ReportExamples
+pub mod BlocksRise

@@ -1,10 +1,10 @@
 -- Whole reports of small images.
-use Rattle.std.specs.Prelude.{◌≡◌, ℕ, List, [], ◌∷◌, ◌++◌, ℤ, pos, None, replicate}
+use Rattle.std.specs.Prelude.{◌≡◌, ℕ, List, [], ◌∷◌, ◌++◌, pos, None, replicate}
 use Rattle.ffs_volume.specs.declared.Order.{Order}
 use Rattle.ffs_volume.specs.declared.Order.TheVariants.{Little, Big}
 use Rattle.ffs_volume.specs.declared.Attr.{Attr}
 use Rattle.ffs_volume.specs.declared.BlockMessage.TheVariants.{Dup}
-use Rattle.ffs_volume.specs.declared.End.TheVariants.{Consistent, Defects, RootStop}
+use Rattle.ffs_volume.specs.declared.End.TheVariants.{Consistent}
 use Rattle.ffs_volume.specs.declared.Label.TheVariants.{File as FileLabel}
 use Rattle.ffs_volume.specs.Superblock.{Superblock}
 use Rattle.ffs_volume.specs.Messages.{Message, opening, mounted, phase1, phase1b, phase2, phase3, phase4, phase5, of_blocks, of_names, summary, dup_bad, root_none, unref_dir}
@@ -12,7 +12,7 @@ use Rattle.ffs_volume.specs.PathnameCheck.{pathname_lines}
 use Rattle.ffs_volume.specs.Connectivity.{connectivity_lines}
 use Rattle.ffs_volume.specs.ReferenceCheck.{reference_lines}
 use Rattle.ffs_volume.specs.Volumes.{volume_of}
-use Rattle.ffs_volume.specs.Report.{text_lines, report_lines, end_of, report_of, report_end}
+use Rattle.ffs_volume.specs.Report.{text_lines, report_lines, report_of, report_end}
 use Rattle.ffs_volume.specs.Consistent.{IsConsistent}
 use Rattle.ffs_volume.specs.Examples.{bytes_in, word, zeros, mount_bytes, base_layout, base_superblock, base_image, root_chunk}
 use Rattle.ffs_volume.specs.DirectoryExamples.{entry_bytes, one_dot, two_dots}

@@ -1,6 +1,7 @@
 //! Laws of the definitions of `ffs_volume`: status 0 is a certificate.
 #![tactic(auto)]
 
+ghost use Rattle.ffs_certificate.specs.BlocksRise.{AllBlocksRise};
 ghost use Rattle.ffs_certificate.specs.Bounded.{ClaimsAreBounded};
 ghost use Rattle.ffs_certificate.specs.Certificate.{BlocksAndGroups, KeepingByRule};
 ghost use Rattle.ffs_certificate.specs.Conditions.{ConditionsAreTold};
@@ -47,4 +48,9 @@ pub fn conditions_are_told()
 /// Whole reports of small images: the base image in both orders, which is so consistent, and images with a defect.
 pub fn examples_hold()
     ensures { ReportExamples }
+{}
+
+/// The Runs of an inode hold each logical block once at most, in order, and none past its size.
+pub fn blocks_rise()
+    ensures { AllBlocksRise }
 {}

@@ -1,0 +1,265 @@
+-- The logical blocks of an inode's Runs rise, and are below the number that its size comes to.
+use Rattle.std.proofs.Common.{zero, suc, inl, inr, ◌≡◌, ℕ, ◌+◌, ◌-◌, ◌*◌, ◌<◌, ◌≤◌, Bool, true, false, arith, refl, sym, ap, subst, ◌∙◌, List, [], ◌∷◌, ◌++◌, Some, None}
+use Rattle.std.specs.Prelude.{nat_lt, nat_eq, if◌then◌else◌, slice_index}
+use Rattle.std.specs.List.{list_all, flat_map, range_with_len}
+use Rattle.std.specs.Int.{div_ceil}
+use Rattle.std.proofs.Math.Nat.{mul-one, suc-mul, mul-le-mul_right}
+use Rattle.std.proofs.lemmas.Bool.{and_parts, and_from, lt-ltb, ltb-true, ltb-false, cases_lt}
+use Rattle.std.proofs.Common.{append_assoc}
+use Rattle.std.proofs.lemmas.Grind.{div_ceil_times}
+use Rattle.std.proofs.lemmas.List.Folds.{list_all-append}
+use Rattle.ffs_volume.specs.declared.Step.{Step}
+use Rattle.ffs_volume.specs.declared.Step.TheVariants.{Run, Gap}
+use Rattle.ffs_volume.specs.Areas.{is_in_range}
+use Rattle.ffs_volume.specs.Inodes.{blocks_of, used_addresses}
+use Rattle.ffs_volume.specs.Steps.{Extent, word_at, block_bytes, any_word_from, used_words, tail_of, data_length, span_of, steps_at, level_of, first_block, steps_of_addresses, walks, last_of, steps_of}
+use Rattle.ffs_certificate.specs.BlocksRise.{step_blocks, blocks_in, AreRising, AllBlocksRise}
+
+-- numbers that rise from `low` on, below `high`, and all below a bound
+abbrev Rises : ℕ → ℕ → List ℕ → Type 0
+Rises low high [] = low ≤ high
+Rises low high (b ∷ bs) = (low ≤ b) × Rises (b + 1) high bs
+
+rise_lower : (a b c : ℕ) (xs : List ℕ) → a ≤ b → Rises b c xs → Rises a c xs
+rise_lower a b c [] le r = omega (arith, le, r)
+rise_lower a b c (x ∷ xs) le r = (let first = r.0 in omega (arith, le, first), r.1)
+
+rise_upper : (a b c : ℕ) (xs : List ℕ) → b ≤ c → Rises a b xs → Rises a c xs
+rise_upper a b c [] le r = omega (arith, le, r)
+rise_upper a b c (x ∷ xs) le r = (r.0, rise_upper (x + 1) b c xs le r.1)
+
+rise_join : (a b c : ℕ) (xs ys : List ℕ) → Rises a b xs → Rises b c ys → Rises a c (xs ++ ys)
+rise_join a b c [] ys r s = rise_lower a b c ys r s
+rise_join a b c (x ∷ xs) ys r s = (r.0, rise_join (x + 1) b c xs ys r.1 s)
+
+rising_lower : (a b : ℕ) (xs : List ℕ) → a ≤ b → AreRising b xs → AreRising a xs
+rising_lower a b [] le r = tt
+rising_lower a b (x ∷ xs) le r = (let first = r.0 in omega (arith, le, first), r.1)
+
+rising_join : (a b : ℕ) (xs ys : List ℕ) → Rises a b xs → AreRising b ys → AreRising a (xs ++ ys)
+rising_join a b [] ys r s = rising_lower a b ys r s
+rising_join a b (x ∷ xs) ys r s = (r.0, rising_join (x + 1) b xs ys r.1 s)
+
+blocks_append : (xs ys : List Step) → blocks_in (xs ++ ys) ≡ blocks_in xs ++ blocks_in ys
+blocks_append [] ys = refl
+blocks_append (x ∷ xs) ys = ap (λ z. step_blocks x ++ z) (blocks_append xs ys) ∙ sym (append_assoc (step_blocks x) (blocks_in xs) (blocks_in ys))
+
+-- what some steps have: blocks from low to high, all below the number of blocks
+record Within (nb low high : ℕ) (steps : List Step) : Type 0 where
+  rises : Rises low high (blocks_in steps)
+  below : list_all (λ b. nat_lt b nb) (blocks_in steps) ≡ true
+
+within_join : (nb a b c : ℕ) (xs ys : List Step) → Within nb a b xs → Within nb b c ys → Within nb a c (xs ++ ys)
+within_join nb a b c xs ys x y = record {
+  rises = subst (Rises a c) (sym (blocks_append xs ys)) (rise_join a b c (blocks_in xs) (blocks_in ys) x.rises y.rises);
+  below = ap (list_all (λ b. nat_lt b nb)) (blocks_append xs ys)
+      ∙ (list_all-append (λ b. nat_lt b nb) (blocks_in xs) (blocks_in ys) ∙ and_from _ _ x.below y.below);
+}
+
+within_none : (nb a b : ℕ) → a ≤ b → Within nb a b []
+within_none nb a b le = record { rises = le; below = refl }
+
+-- spans
+span_suc : (words level : ℕ) → span_of words (suc level) ≡ words * span_of words level
+span_suc words zero = sym (mul-one words)
+span_suc words (suc level) = refl
+
+span_some : (words level : ℕ) → 0 < words → 0 < span_of words level
+span_some words zero some = omega arith
+span_some words (suc level) some =
+    let rest = span_some words level some in
+    let more : 1 * span_of words level ≤ words * span_of words level = mul-le-mul_right (span_of words level) some in
+    let whole = span_suc words level in
+    omega (arith, rest, more, whole)
+
+-- the logical blocks under a word that is used
+word_below : (words nb first span j : ℕ) → 0 < span → j < used_words words nb first span → first + j * span < nb
+word_below words nb first span j some lt =
+    let few : j + 1 ≤ div_ceil (nb - first) span = omega (arith, lt) in
+    let bound = (div_ceil_times (nb - first) span some).1 in
+    let more : (j + 1) * span ≤ div_ceil (nb - first) span * span = mul-le-mul_right span few in
+    let next : (j + 1) * span ≡ j * span + span = (let s : j + 1 ≡ suc j = omega arith in ap (λ k. k * span) s ∙ suc-mul j span) in
+    omega (arith, bound, more, next)
+
+under_within : (nb span first : ℕ) (f : ℕ → List Step) (next count : ℕ) →
+    ((j : ℕ) → next ≤ j → j < next + count → Within nb (first + j * span) (first + j * span + span) (f j)) →
+    Within nb (first + next * span) (first + (next + count) * span) (flat_map f (range_with_len next count))
+under_within nb span first f next zero h =
+    let same : next + zero ≡ next = omega arith in
+    within_none nb (first + next * span) (first + (next + zero) * span) (let e = ap (λ k. first + k * span) same in omega (arith, e))
+under_within nb span first f next (suc count) h =
+    let here = h next (omega arith) (omega arith) in
+    let rest = under_within nb span first f (next + 1) count (λ j low high. h j (omega arith) (omega arith)) in
+    let step : first + next * span + span ≡ first + (next + 1) * span =
+    (let s : next + 1 ≡ suc next = omega arith in let m = ap (λ k. k * span) s ∙ suc-mul next span in omega (arith, m)) in
+    let end : next + 1 + count ≡ next + suc count = omega arith in
+    within_join nb (first + next * span) (first + (next + 1) * span) (first + (next + suc count) * span) (f next) (flat_map f (range_with_len (next + 1) count))
+    (subst (λ b. Within nb (first + next * span) b (f next)) step here)
+    (subst (λ k. Within nb (first + (next + 1) * span) (first + k * span) (flat_map f (range_with_len (next + 1) count))) end rest)
+
+-- a level of indirection
+at_within : (t : Extent) (bytes : List ℕ) (level address first : ℕ) → first < t.blocks →
+    Within t.blocks first (first + span_of t.geometry.nindir level) (steps_at t bytes level address first)
+unfolding steps_at
+at_within t bytes zero address first lt = one (nat_eq address 0)
+  where
+    one : (b : Bool) → Within t.blocks first (first + 1) ((if b then Gap else Run address (data_length t first) (Some first)) ∷ [])
+    one true = record { rises = omega arith; below = refl }
+    one false = record { rises = (omega arith, omega arith); below = and_from _ _ (lt-ltb first t.blocks lt) refl }
+at_within t bytes (suc level) address first lt = one (nat_eq address 0) (λ a b le. at_within t bytes level a b le)
+  where
+    words : ℕ
+    words = t.geometry.nindir
+
+    span : ℕ
+    span = span_of t.geometry.nindir level
+
+    used : ℕ
+    used = used_words t.geometry.nindir t.blocks first (span_of t.geometry.nindir level)
+
+    found : Bool
+    found = any_word_from t.geometry (block_bytes t.geometry bytes address) (used_words t.geometry.nindir t.blocks first (span_of t.geometry.nindir level))
+
+    f : ℕ → List Step
+    f = λ j. steps_at t bytes level (word_at t.geometry bytes address j) (first + j * span_of t.geometry.nindir level)
+
+    high : ℕ
+    high = first + span_of t.geometry.nindir (suc level)
+
+    wide : first ≤ high
+    wide = omega arith
+
+    tail_within : (b : Bool) → Within t.blocks first first (tail_of b)
+    tail_within true = record { rises = omega arith; below = refl }
+    tail_within false = record { rises = omega arith; below = refl }
+
+    under : ((a b : ℕ) → b < t.blocks → Within t.blocks b (b + span) (steps_at t bytes level a b)) → Within t.blocks first high (flat_map f (range_with_len 0 used))
+    under child =
+        let all = under_within t.blocks span first f 0 used (λ j low lt_used.
+        let enough : 0 < words = omega (arith, lt_used) in
+        child (word_at t.geometry bytes address j) (first + j * span) (word_below words t.blocks first span j (span_some words level enough) (omega (arith, lt_used)))) in
+        let most : used * span ≤ words * span = mul-le-mul_right span (let u : used ≤ words = omega arith in u) in
+        let whole = span_suc words level in
+        let start : first + 0 * span ≡ first = omega arith in
+        let end : first + (0 + used) * span ≤ high = (let z : 0 + used ≡ used = omega arith in let e = ap (λ k. k * span) z in omega (arith, most, whole, e)) in
+        record {
+          rises = rise_upper first (first + (0 + used) * span) high (blocks_in (flat_map f (range_with_len 0 used))) end
+              (subst (λ a. Rises a (first + (0 + used) * span) (blocks_in (flat_map f (range_with_len 0 used)))) start all.rises);
+          below = all.below;
+        }
+
+    below : (b : Bool) → ((a b : ℕ) → b < t.blocks → Within t.blocks b (b + span) (steps_at t bytes level a b)) →
+        Within t.blocks first high (if b then tail_of found ++ flat_map f (range_with_len 0 used) else [])
+    below true child = within_join t.blocks first first high (tail_of found) (flat_map f (range_with_len 0 used)) (tail_within found) (under child)
+    below false child = within_none t.blocks first high wide
+
+    one : (b : Bool) → ((a b : ℕ) → b < t.blocks → Within t.blocks b (b + span) (steps_at t bytes level a b)) →
+        Within t.blocks first high (if b then Gap ∷ [] else Run address t.geometry.frag None ∷ (if is_in_range t.geometry address t.geometry.frag then tail_of found ++ flat_map f (range_with_len 0 used) else []))
+    one true child = record { rises = wide; below = refl }
+    one false child = let r = below (is_in_range t.geometry address t.geometry.frag) child in record { rises = r.rises; below = r.below }
+
+-- the fifteen addresses: where one ends, the next begins
+low_first : (words i : ℕ) → i < 13 → first_block words i ≡ i
+low_first words i h = ap (λ b. if b then i else (if nat_eq i 13 then 12 + words else 12 + words + words * words)) (lt-ltb i 13 h)
+
+next_first : (words i : ℕ) → i < 14 → first_block words i + span_of words (level_of i) ≡ first_block words (i + 1)
+next_first words i h = elim (cases_lt i 12) [
+  | inl small ↦
+      (let direct : level_of i ≡ 0 = omega arith in
+      let one = ap (span_of words) direct in
+      omega (arith, low_first words i (omega arith), low_first words (i + 1) (omega arith), one))
+  | inr large ↦ elim (cases_lt i 13) [
+    | inl single ↦ (let is : 12 ≡ i = omega arith in subst (λ k. first_block words k + span_of words (level_of k) ≡ first_block words (k + 1)) is refl)
+    | inr double ↦ (let is : 13 ≡ i = omega arith in subst (λ k. first_block words k + span_of words (level_of k) ≡ first_block words (k + 1)) is refl)
+  ]
+]
+
+first_below : (words blocks i : ℕ) → i < used_addresses words blocks → first_block words i < blocks
+first_below words blocks i h = one (nat_lt blocks 13) refl h
+  where
+    top : (c : Bool) → nat_lt (12 + words + words * words) blocks ≡ c → nat_lt (12 + words) blocks ≡ true → 13 ≤ blocks → i < (if c then 15 else 14) → first_block words i < blocks
+    top c e two low lt = elim (cases_lt i 13) [
+      | inl small ↦ omega (arith, low_first words i small, low)
+      | inr large ↦ elim (cases_lt i 14) [
+        | inl single ↦ (let is : 13 ≡ i = omega arith in subst (λ k. first_block words k < blocks) is (ltb-true (12 + words) blocks two))
+        | inr last ↦ triple c e lt last
+      ]
+    ]
+      where
+        triple : (c : Bool) → nat_lt (12 + words + words * words) blocks ≡ c → i < (if c then 15 else 14) → 14 ≤ i → first_block words i < blocks
+        triple true e lt last = let is : 14 ≡ i = omega arith in subst (λ k. first_block words k < blocks) is (ltb-true (12 + words + words * words) blocks e)
+        triple false e lt last = absurd (omega arith)
+
+    middle : (b : Bool) → nat_lt (12 + words) blocks ≡ b → 13 ≤ blocks → i < (if b then (if nat_lt (12 + words + words * words) blocks then 15 else 14) else 13) → first_block words i < blocks
+    middle true e low lt = top (nat_lt (12 + words + words * words) blocks) refl e low lt
+    middle false e low lt = omega (arith, low_first words i lt, low, lt)
+
+    one : (a : Bool) → nat_lt blocks 13 ≡ a → i < (if a then blocks else (if nat_lt (12 + words) blocks then (if nat_lt (12 + words + words * words) blocks then 15 else 14) else 13)) → first_block words i < blocks
+    one true e lt = (let few = ltb-true blocks 13 e in let small : i < 13 = omega (arith, few, lt) in omega (arith, low_first words i small, lt))
+    one false e lt = middle (nat_lt (12 + words) blocks) refl (ltb-false blocks 13 e) lt
+
+-- all addresses from one on
+record Goes (t : Extent) (low : ℕ) (steps : List Step) : Type 0 where
+  rising : AreRising low (blocks_in steps)
+  below : list_all (λ b. nat_lt b t.blocks) (blocks_in steps) ≡ true
+
+after : (t : Extent) (bytes addresses : List ℕ) (next n : ℕ) → next + suc n ≤ 15 →
+    AreRising (first_block t.geometry.nindir (next + 1)) (blocks_in (steps_of_addresses t bytes addresses (next + 1) n)) →
+    AreRising (first_block t.geometry.nindir next + span_of t.geometry.nindir (level_of next)) (blocks_in (steps_of_addresses t bytes addresses (next + 1) n))
+after t bytes addresses next zero le r = tt
+after t bytes addresses next (suc n) le r =
+    subst (λ a. AreRising a (blocks_in (steps_of_addresses t bytes addresses (next + 1) (suc n)))) (sym (next_first t.geometry.nindir next (omega (arith, le)))) r
+
+addresses_go : (t : Extent) (bytes addresses : List ℕ) (next count : ℕ) → next + count ≤ 15 → next + count ≤ used_addresses t.geometry.nindir t.blocks →
+    Goes t (first_block t.geometry.nindir next) (steps_of_addresses t bytes addresses next count)
+addresses_go t bytes addresses next zero le used = record { rising = tt; below = refl }
+addresses_go t bytes addresses next (suc count) le used =
+    let words = t.geometry.nindir in
+    let here = at_within t bytes (level_of next) (slice_index addresses next) (first_block words next) (first_below words t.blocks next (omega (arith, used))) in
+    let rest = addresses_go t bytes addresses (next + 1) count (omega (arith, le)) (omega (arith, used)) in
+    let xs = steps_at t bytes (level_of next) (slice_index addresses next) (first_block words next) in
+    let ys = steps_of_addresses t bytes addresses (next + 1) count in
+    record {
+      rising = subst (AreRising (first_block words next)) (sym (blocks_append xs ys))
+          (rising_join (first_block words next) (first_block words next + span_of words (level_of next)) (blocks_in xs) (blocks_in ys) here.rises (after t bytes addresses next count le rest.rising));
+      below = ap (list_all (λ b. nat_lt b t.blocks)) (blocks_append xs ys)
+          ∙ (list_all-append (λ b. nat_lt b t.blocks) (blocks_in xs) (blocks_in ys) ∙ and_from _ _ here.below rest.below);
+    }
+
+used_most : (words blocks : ℕ) → used_addresses words blocks ≤ 15
+used_most words blocks = one (nat_lt blocks 13) refl
+  where
+    two : (b c : Bool) → (if b then (if c then 15 else 14) else 13) ≤ 15
+    two true true = omega arith
+    two true false = omega arith
+    two false c = omega arith
+
+    one : (a : Bool) → nat_lt blocks 13 ≡ a → (if a then blocks else (if nat_lt (12 + words) blocks then (if nat_lt (12 + words + words * words) blocks then 15 else 14) else 13)) ≤ 15
+    one true e = (let few = ltb-true blocks 13 e in omega (arith, few))
+    one false e = two (nat_lt (12 + words) blocks) (nat_lt (12 + words + words * words) blocks)
+
+below_more : (n m : ℕ) (xs : List ℕ) → n ≤ m → list_all (λ b. nat_lt b n) xs ≡ true → list_all (λ b. nat_lt b m) xs ≡ true
+below_more n m [] le h = refl
+below_more n m (x ∷ xs) le h =
+    let p = and_parts (nat_lt x n) (list_all (λ b. nat_lt b n) xs) h in
+    let low = ltb-true x n p.0 in
+    and_from (nat_lt x m) _ (lt-ltb x m (omega (arith, low, le))) (below_more n m xs le p.1)
+
+pub all_blocks_rise : AllBlocksRise
+unfolding steps_of
+all_blocks_rise v i image = record { rising = steps.rising; below = below_more nb (blocks_of v i) _ (most (walks v i)) steps.below }
+  where
+    nb : ℕ
+    nb = if walks v i then blocks_of v i else 0
+
+    t : Extent
+    t = record { geometry = v; blocks = nb; last = last_of v i }
+
+    most : (b : Bool) → (if b then blocks_of v i else 0) ≤ blocks_of v i
+    most true = omega arith
+    most false = omega arith
+
+    steps : Goes t 0 (steps_of_addresses t image i.addresses 0 (used_addresses v.nindir nb))
+    steps =
+        let few = used_most v.nindir nb in
+        addresses_go t image i.addresses 0 (used_addresses v.nindir nb) (omega (arith, few)) (omega arith)
