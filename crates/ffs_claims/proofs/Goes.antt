@@ -1,0 +1,122 @@
+-- How offers, steps and inodes go on.
+use Rattle.std.proofs.Common.{◌≡◌, ℕ, zero, suc, ◌+◌, ◌-◌, ◌<◌, Bool, true, false, ◌==◌, List, [], ◌∷◌, ◌++◌, arith, rules, refl, ap, ◌∙◌, sym, Result, slice_set}
+use Rattle.std.specs.List.{range_with_len, slice_index_or}
+use Rattle.ffs_volume.specs.declared.Layout.{Layout}
+use Rattle.ffs_volume.specs.declared.Step.{Step}
+use Rattle.ffs_volume.specs.declared.Step.TheVariants.{Run, Tail, Gap}
+use Rattle.ffs_volume.specs.declared.BlockMessage.{BlockMessage}
+use Rattle.ffs_volume.specs.Areas.{is_in_range}
+use Rattle.ffs_volume.specs.Claims.{Claims, is_open, after_offer, after_offers, after_step, after_steps, offer_lines, offers_lines, step_lines, steps_lines, run_lines}
+use Rattle.ffs_volume.specs.Messages.{Message, of_blocks}
+use Rattle.ffs_report.specs.Progress.{Progress, Said, Stopped, Says}
+use Rattle.ffs_report.proofs.Reports.{stopped_more, says_then}
+use Rattle.ffs_phase.specs.Known.{Where}
+use Rattle.ffs_phase.specs.Runs.{SaidTo}
+use Rattle.ffs_claims.specs.Lines.{of_lines, bad_lines}
+
+pub lines_append : (xs ys : List BlockMessage) → of_lines (xs ++ ys) ≡ of_lines xs ++ of_lines ys
+lines_append [] ys = refl
+lines_append (x ∷ xs) ys = ap (λ z. of_blocks x ∷ z) (lines_append xs ys)
+
+-- setting a bit that is set changes nothing
+pub set_again : (bits : List Bool) (f : ℕ) → slice_index_or bits f false ≡ true → slice_set bits f true ≡ bits
+set_again [] f e = refl
+set_again (b ∷ bits) zero e = ap (λ (x : Bool). x ∷ bits) (sym e)
+set_again (b ∷ bits) (suc f) e = ap (λ (xs : List Bool). b ∷ xs) (set_again bits f e)
+
+pub range_more : (j n m : ℕ) → n ≡ m + 1 → range_with_len j n ≡ j ∷ range_with_len (j + 1) m
+range_more j n m e = rw e (search rules)
+
+-- the next offer of a Run is taken
+pub offers_after : (v : Layout) (s s' : Claims) (start len place f : ℕ) → place < len → f ≡ start + place →
+    s' ≡ after_offer v s f →
+    after_offers v s (range_with_len (start + place) (len - place)) ≡ after_offers v s' (range_with_len (start + (place + 1)) (len - (place + 1)))
+offers_after v s s' start len place f h is_place now =
+    let k : start + (place + 1) ≡ start + place + 1 = omega arith in
+    rw (range_more (start + place) (len - place) (len - (place + 1)) (omega arith), k, now, is_place) refl
+
+-- and told
+pub offers_more : (v : Layout) (inode : ℕ) (s s' : Claims) (start len place f : ℕ) → place < len → f ≡ start + place →
+    s' ≡ after_offer v s f →
+    of_lines (offers_lines v inode s (range_with_len (start + place) (len - place)))
+    ≡ of_lines (offer_lines v inode s f) ++ of_lines (offers_lines v inode s' (range_with_len (start + (place + 1)) (len - (place + 1))))
+offers_more v inode s s' start len place f h is_place now =
+    let k : start + (place + 1) ≡ start + place + 1 = omega arith in
+    let lines : offers_lines v inode s (range_with_len (start + place) (len - place)) ≡ offer_lines v inode s f ++ offers_lines v inode s' (range_with_len (start + (place + 1)) (len - (place + 1))) =
+    rw (range_more (start + place) (len - place) (len - (place + 1)) (omega arith), k, now, is_place) refl in
+    ap of_lines lines ∙ lines_append (offer_lines v inode s f) (offers_lines v inode s' (range_with_len (start + (place + 1)) (len - (place + 1))))
+
+-- once an inode is cut its steps change nothing, and nothing is told of them
+pub cut_stays : (v : Layout) (s : Claims) (steps : List Step) → is_open s ≡ false → after_steps v s steps ≡ s
+cut_stays v s [] h = refl
+cut_stays v s (Run start len block ∷ steps) h = rw h (cut_stays v s steps h)
+cut_stays v s (Tail ∷ steps) h = rw h (cut_stays v s steps h)
+cut_stays v s (Gap ∷ steps) h = cut_stays v s steps h
+
+pub cut_silent : (v : Layout) (inode : ℕ) (s : Claims) (steps : List Step) → is_open s ≡ false → steps_lines v inode s steps ≡ []
+cut_silent v inode s [] h = refl
+cut_silent v inode s (Run start len block ∷ steps) h = rw h (cut_silent v inode s steps h)
+cut_silent v inode s (Tail ∷ steps) h = rw h (cut_silent v inode s steps h)
+cut_silent v inode s (Gap ∷ steps) h = cut_silent v inode s steps h
+
+-- the lines of a Run that is bad: the first ones, and those of its offers
+abbrev bad_rest : Layout → ℕ → Claims → ℕ → ℕ → List BlockMessage
+bad_rest v inode s start len = offers_lines v inode (record s { runs = s.runs + 1; bad = s.bad + 1 }) (range_with_len start len)
+
+eleventh : (v : Layout) (inode : ℕ) (s : Claims) (start len : ℕ) → is_in_range v start len ≡ false → (s.bad == 10) ≡ true →
+    run_lines v inode s start len ≡ bad_lines inode start true
+eleventh v inode s start len h e = rw (h, e) refl
+
+further : (v : Layout) (inode : ℕ) (s : Claims) (start len : ℕ) → is_in_range v start len ≡ false → (s.bad == 10) ≡ false →
+    run_lines v inode s start len ≡ bad_lines inode start false ++ bad_rest v inode s start len
+further v inode s start len h e = rw (h, e) refl
+
+pub run_stops : (v : Layout) (inode : ℕ) (s : Claims) (start len : ℕ) (a b : Progress) → is_in_range v start len ≡ false →
+    Stopped a b (of_lines (bad_lines inode start (s.bad == 10))) → Stopped a b (of_lines (run_lines v inode s start len))
+run_stops v inode s start len a b h p = one (s.bad == 10) refl p
+  where
+    one : (z : Bool) → (s.bad == 10) ≡ z → Stopped a b (of_lines (bad_lines inode start z)) → Stopped a b (of_lines (run_lines v inode s start len))
+    one true e q = rw (eleventh v inode s start len h e) q
+    one false e q = rw (further v inode s start len h e) (stopped_more a b (of_lines (bad_lines inode start false)) (of_lines (bad_rest v inode s start len)) q)
+
+pub run_says : {T E : Type 0} (v : Layout) (inode : ℕ) (s : Claims) (start len : ℕ) (a b c : Progress) (r : Result T E) →
+    is_in_range v start len ≡ false → (s.bad == 10) ≡ false → Said a b (of_lines (bad_lines inode start (s.bad == 10))) →
+    Says b c (of_lines (bad_rest v inode s start len)) r → Says a c (of_lines (run_lines v inode s start len)) r
+run_says v inode s start len a b c r h few p q =
+    rw (further v inode s start len h few)
+    (says_then a b c (of_lines (bad_lines inode start false)) (of_lines (bad_rest v inode s start len)) r (rw few at p) q)
+
+pub run_ends : (v : Layout) (inode : ℕ) (s : Claims) (start len : ℕ) (a b : Progress) → is_in_range v start len ≡ false → (s.bad == 10) ≡ true →
+    Said a b (of_lines (bad_lines inode start (s.bad == 10))) → Said a b (of_lines (run_lines v inode s start len))
+run_ends v inode s start len a b h e p = rw (eleventh v inode s start len h e) (rw e at p)
+
+-- the next step of a walk is taken
+pub claims_on : (knows : List ℕ → Type 0) (v : Layout) (s s' : Claims) (R R' : List ℕ → List Step) (end : List ℕ → Claims) (step : Step) →
+    Where knows (λ bytes. R bytes ≡ step ∷ R' bytes) → s' ≡ after_step v s step →
+    Where knows (λ bytes. after_steps v s (R bytes) ≡ end bytes) →
+    Where knows (λ bytes. after_steps v s' (R' bytes) ≡ end bytes)
+claims_on knows v s s' R R' end step next now before = λ bytes t. rw now (rw (next bytes t) at (before bytes t))
+
+-- and told
+pub lines_on : (knows : List ℕ → Type 0) (v : Layout) (inode : ℕ) (s s' : Claims) (R R' : List ℕ → List Step) (step : Step) →
+    Where knows (λ bytes. R bytes ≡ step ∷ R' bytes) → s' ≡ after_step v s step →
+    Where knows (λ bytes. of_lines (steps_lines v inode s (R bytes)) ≡ of_lines (step_lines v inode s step) ++ of_lines (steps_lines v inode s' (R' bytes)))
+lines_on knows v inode s s' R R' step next now = λ bytes t.
+    ap (λ (xs : List Step). of_lines (steps_lines v inode s xs)) (next bytes t)
+    ∙ lines_append (step_lines v inode s step) (steps_lines v inode (after_step v s step) (R' bytes))
+    ∙ ap (λ (x : Claims). of_lines (step_lines v inode s step) ++ of_lines (steps_lines v inode x (R' bytes))) (sym now)
+
+-- what is to come has changed its form
+pub to_same : (rest rest' all : List Message) (a b : Progress) → SaidTo rest all a b → rest ≡ rest' → SaidTo rest' all a b
+to_same rest rest' all a b p e = record {
+  messages = p.messages;
+  right = ap (λ (xs : List Message). p.messages ++ xs) (sym e) ∙ p.right;
+  said = p.said;
+}
+
+-- a Run from its first fragment on
+pub from_start : (start len : ℕ) → range_with_len start len ≡ range_with_len (start + 0) (len - 0)
+from_start start len =
+    let a : start + 0 ≡ start = omega arith in
+    let b : len - 0 ≡ len = omega arith in
+    rw (a, b) refl

@@ -1,0 +1,184 @@
+use Rattle.std.proofs.Common.{arith, refl, ◌≡◌, ◌∙◌, ap, sym, List, ◌∷◌, [], true}
+use Rattle.std.proofs.lemmas.Result.{err_from_is_err_and}
+use Rattle.ffs_walk.specs.Rests.{rest}
+use Rattle.ffs_maps.proofs.Bits.{length_bits}
+use Rattle.ffs_volume.specs.declared.Step.{Step}
+use Rattle.ffs_volume.specs.Steps.{steps_of}
+use Rattle.ffs_volume.specs.Claims.{after_steps, after_step, steps_lines, step_lines, is_open}
+use Rattle.ffs_phase.specs.Known.{Where, Tells}
+use Rattle.ffs_phase.proofs.Telling.{of_begins, of_says, of_stops, of_reads, of_same}
+use Rattle.ffs_workspace.specs.Holds.{claims_of}
+use Rattle.ffs_claims.specs.Lines.{of_lines}
+use Rattle.ffs_claims.proofs.Weights.{stays, moves_on, bound_open, kept_bound}
+use Rattle.ffs_claims.proofs.Goes.{claims_on, lines_on, cut_stays, cut_silent}
+use Rattle.ffs_claims.proofs.claim.claim.Goals as goal
+
+pub loop-next-init : goal.loop-next-init
+loop-next-init g c =
+    let v = c.args.geometry.now.layout in
+    let begun : is_open (claims_of c.args.workspace.now) ≡ true = rw (c.requires.bad, c.requires.dups) refl in
+    record {
+      made = c.requires.made;
+      open_still = begun;
+      geometry = c.start-walk.ensures.geometry;
+      device = refl;
+      windows = c.requires.windows;
+      found = record { kinds = refl; marked = refl; cut = refl };
+      same = refl;
+      moves = stays (claims_of c.args.workspace.now);
+      claims = λ bytes t. ap (after_steps v (claims_of c.args.workspace.now)) (c.start-walk.ensures.steps bytes);
+      said = of_same _ _ _ _ _ _ (of_begins _ (λ bytes. of_lines (steps_lines v c.args.number (claims_of c.args.workspace.now) (steps_of v c.args.inode.now bytes))) _)
+          (λ bytes t. ap (λ (xs : List Step). of_lines (steps_lines v c.args.number (claims_of c.args.workspace.now) xs)) (sym (c.start-walk.ensures.steps bytes)));
+    }
+
+pub returns-in_err-next-clause-text : goal.returns-in_err-next-clause-text
+returns-in_err-next-clause-text g c =
+    let p = err_from_is_err_and c.from_residual.result c.from_residual.ensures.1 in
+    rw (p.1, p.2) (of_reads _ _ _ _ _ c.loop-next.invariant.said)
+
+pub returns-in_err-next-clause-bound : goal.returns-in_err-next-clause-bound
+returns-in_err-next-clause-bound g c =
+    let inv = c.loop-next.invariant in
+    omega (
+      arith,
+      bound_open (claims_of c.args.workspace.now) (claims_of c.loop-next.workspace) c.args.geometry.now.layout.size
+          (length_bits _ _ ∙ inv.made.claimed) inv.open_still inv.moves,
+    )
+
+pub step-requires-clause-room : goal.step-requires-clause-room
+step-requires-clause-room g c =
+    let inv = c.loop-next.invariant in
+    omega (
+      arith,
+      c.args.geometry.now.sound.numbers.size_below,
+      kept_bound (claims_of c.args.workspace.now) (claims_of c.loop-next.workspace) c.args.geometry.now.layout.size
+          (length_bits _ _ ∙ inv.made.claimed) (omega (arith, c.requires.bad)) (omega (arith, c.requires.dups)) c.requires.kept inv.moves,
+    )
+
+pub step-requires-clause-runs : goal.step-requires-clause-runs
+step-requires-clause-runs g c =
+    let inv = c.loop-next.invariant in
+    omega (
+      arith,
+      c.args.geometry.now.sound.numbers.size_below,
+      bound_open (claims_of c.args.workspace.now) (claims_of c.loop-next.workspace) c.args.geometry.now.layout.size
+          (length_bits _ _ ∙ inv.made.claimed) inv.open_still inv.moves,
+    )
+
+pub returns-in_err-step-clause-text : goal.returns-in_err-step-clause-text
+returns-in_err-step-clause-text g c =
+    let p = err_from_is_err_and c.from_residual-in_err-step.result c.from_residual-in_err-step.ensures.1 in
+    let inv = c.loop-next.invariant in
+    let v = c.args.geometry.now.layout in
+    let next : Where (Tells (g.I.Image.device c.args.image.now).told) (λ bytes. rest bytes c.loop-next.walk ≡ c.in-Some.next ∷ rest bytes c.next.new.self) =
+    rw (inv.device, c.in-Some.is) at c.in_ok-next.ensures.steps in
+    rw (p.1, p.2) (of_stops _ _ _ _ (of_lines (step_lines v c.args.number (claims_of c.loop-next.workspace) c.in-Some.next)) _ _ _ inv.said
+    (lines_on _ v c.args.number (claims_of c.loop-next.workspace) (after_step v (claims_of c.loop-next.workspace) c.in-Some.next)
+    (λ bytes. rest bytes c.loop-next.walk) (λ bytes. rest bytes c.next.new.self) c.in-Some.next next refl)
+    c.in_err-step.ensures.said)
+
+pub returns-in_err-step-clause-bound : goal.returns-in_err-step-clause-bound
+returns-in_err-step-clause-bound g c =
+    let inv = c.loop-next.invariant in
+    omega (
+      arith,
+      c.step.ensures.runs,
+      bound_open (claims_of c.args.workspace.now) (claims_of c.loop-next.workspace) c.args.geometry.now.layout.size
+          (length_bits _ _ ∙ inv.made.claimed) inv.open_still inv.moves,
+    )
+
+pub loop-next-preserved : goal.loop-next-preserved
+loop-next-preserved g c =
+    let inv = c.loop-next.invariant in
+    let v = c.args.geometry.now.layout in
+    let next : Where (Tells (g.I.Image.device c.args.image.now).told) (λ bytes. rest bytes c.loop-next.walk ≡ c.in-Some.next ∷ rest bytes c.next.new.self) =
+    rw (inv.device, c.in-Some.is) at c.in_ok-next.ensures.steps in
+    record {
+      made = c.step.ensures.made;
+      open_still = sym c.is_open.ensures ∙ c.if-not-is_open.false;
+      geometry = c.in_ok-next.ensures.geometry ∙ inv.geometry;
+      device = c.in_ok-next.ensures.ok ∙ inv.device;
+      windows = record {
+        table = rw c.step.ensures.windows inv.windows.table;
+        blocks = rw c.step.ensures.windows (rw (inv.geometry, c.in_ok-next.ensures.ok, inv.device) at c.in_ok-next.ensures.holds);
+        chunk = rw c.step.ensures.windows inv.windows.chunk;
+      };
+      found = record { kinds = c.step.ensures.found.kinds ∙ inv.found.kinds; marked = c.step.ensures.found.marked ∙ inv.found.marked; cut = c.step.ensures.found.cut ∙ inv.found.cut };
+      same = c.step.ensures.same ∙ inv.same;
+      moves = moves_on v (claims_of c.args.workspace.now) (claims_of c.loop-next.workspace) (claims_of c.step.new.workspace) c.in-Some.next
+          (length_bits _ _ ∙ inv.made.claimed) c.args.geometry.now.sound.sizes.frag_high (rw (inv.geometry, c.in-Some.is) at c.in_ok-next.ensures.length) c.in_ok-step.ensures.claims inv.moves;
+      claims = claims_on _ v (claims_of c.loop-next.workspace) (claims_of c.step.new.workspace)
+          (λ bytes. rest bytes c.loop-next.walk) (λ bytes. rest bytes c.next.new.self)
+          (λ bytes. after_steps v (claims_of c.args.workspace.now) (steps_of v c.args.inode.now bytes))
+          c.in-Some.next next c.in_ok-step.ensures.claims inv.claims;
+      said = of_says _ _ _ _ (of_lines (step_lines v c.args.number (claims_of c.loop-next.workspace) c.in-Some.next)) _ _ _ inv.said
+          (lines_on _ v c.args.number (claims_of c.loop-next.workspace) (claims_of c.step.new.workspace)
+          (λ bytes. rest bytes c.loop-next.walk) (λ bytes. rest bytes c.next.new.self) c.in-Some.next next c.in_ok-step.ensures.claims)
+          c.in_ok-step.ensures.said;
+    }
+
+pub returns-then-not-is_open-clause-text : goal.returns-then-not-is_open-clause-text
+returns-then-not-is_open-clause-text g c =
+    let inv = c.loop-next.invariant in
+    let v = c.args.geometry.now.layout in
+    let next : Where (Tells (g.I.Image.device c.args.image.now).told) (λ bytes. rest bytes c.loop-next.walk ≡ c.in-Some.next ∷ rest bytes c.next.new.self) =
+    rw (inv.device, c.in-Some.is) at c.in_ok-next.ensures.steps in
+    of_same _ _ _ _ _ _
+    (of_says _ _ (λ bytes. of_lines (steps_lines v c.args.number (claims_of c.step.new.workspace) (rest bytes c.next.new.self))) _
+    (of_lines (step_lines v c.args.number (claims_of c.loop-next.workspace) c.in-Some.next)) _ _ _ inv.said
+    (lines_on _ v c.args.number (claims_of c.loop-next.workspace) (claims_of c.step.new.workspace)
+    (λ bytes. rest bytes c.loop-next.walk) (λ bytes. rest bytes c.next.new.self) c.in-Some.next next c.in_ok-step.ensures.claims)
+    c.in_ok-step.ensures.said)
+    (λ bytes t. ap of_lines (cut_silent v c.args.number (claims_of c.step.new.workspace) (rest bytes c.next.new.self) (sym c.is_open.ensures ∙ c.if-not-is_open.true)))
+
+pub returns-then-not-is_open-clause-claims : goal.returns-then-not-is_open-clause-claims
+returns-then-not-is_open-clause-claims g c =
+    let inv = c.loop-next.invariant in
+    let v = c.args.geometry.now.layout in
+    let next : Where (Tells (g.I.Image.device c.args.image.now).told) (λ bytes. rest bytes c.loop-next.walk ≡ c.in-Some.next ∷ rest bytes c.next.new.self) =
+    rw (inv.device, c.in-Some.is) at c.in_ok-next.ensures.steps in
+    λ bytes t. sym (cut_stays v (claims_of c.step.new.workspace) (rest bytes c.next.new.self) (sym c.is_open.ensures ∙ c.if-not-is_open.true))
+    ∙ claims_on _ v (claims_of c.loop-next.workspace) (claims_of c.step.new.workspace)
+    (λ bytes. rest bytes c.loop-next.walk) (λ bytes. rest bytes c.next.new.self)
+    (λ bytes. after_steps v (claims_of c.args.workspace.now) (steps_of v c.args.inode.now bytes))
+    c.in-Some.next next c.in_ok-step.ensures.claims inv.claims bytes t
+
+pub returns-then-not-is_open-clause-moves : goal.returns-then-not-is_open-clause-moves
+returns-then-not-is_open-clause-moves g c =
+    let inv = c.loop-next.invariant in
+    moves_on c.args.geometry.now.layout (claims_of c.args.workspace.now) (claims_of c.loop-next.workspace) (claims_of c.step.new.workspace) c.in-Some.next
+    (length_bits _ _ ∙ inv.made.claimed) c.args.geometry.now.sound.sizes.frag_high (rw (inv.geometry, c.in-Some.is) at c.in_ok-next.ensures.length) c.in_ok-step.ensures.claims inv.moves
+
+pub returns-then-not-is_open-clause-bound : goal.returns-then-not-is_open-clause-bound
+returns-then-not-is_open-clause-bound g c =
+    let inv = c.loop-next.invariant in
+    omega (
+      arith,
+      c.step.ensures.runs,
+      bound_open (claims_of c.args.workspace.now) (claims_of c.loop-next.workspace) c.args.geometry.now.layout.size
+          (length_bits _ _ ∙ inv.made.claimed) inv.open_still inv.moves,
+    )
+
+pub returns-in_default-clause-text : goal.returns-in_default-clause-text
+returns-in_default-clause-text g c =
+    let inv = c.loop-next.invariant in
+    let over : Where (Tells (g.I.Image.device c.args.image.now).told) (λ bytes. rest bytes c.loop-next.walk ≡ []) =
+    rw (inv.device, c.in_default.is) at c.in_ok-next.ensures.steps in
+    of_same _ _ _ _ _ _ inv.said
+    (λ bytes t. ap (λ (xs : List Step). of_lines (steps_lines c.args.geometry.now.layout c.args.number (claims_of c.loop-next.workspace) xs)) (over bytes t))
+
+pub returns-in_default-clause-claims : goal.returns-in_default-clause-claims
+returns-in_default-clause-claims g c =
+    let inv = c.loop-next.invariant in
+    let over : Where (Tells (g.I.Image.device c.args.image.now).told) (λ bytes. rest bytes c.loop-next.walk ≡ []) =
+    rw (inv.device, c.in_default.is) at c.in_ok-next.ensures.steps in
+    λ bytes t. sym (ap (after_steps c.args.geometry.now.layout (claims_of c.loop-next.workspace)) (over bytes t)) ∙ inv.claims bytes t
+
+pub returns-in_default-clause-bound : goal.returns-in_default-clause-bound
+returns-in_default-clause-bound g c =
+    let inv = c.loop-next.invariant in
+    omega (
+      arith,
+      bound_open (claims_of c.args.workspace.now) (claims_of c.loop-next.workspace) c.args.geometry.now.layout.size
+          (length_bits _ _ ∙ inv.made.claimed) inv.open_still inv.moves,
+    )

@@ -1,0 +1,35 @@
+use Rattle.std.proofs.Common.{◌≡◌, true}
+use Rattle.ffs_report.specs.Progress.{progress, kept}
+use Rattle.ffs_phase.specs.Known.{Where, Tells}
+use Rattle.ffs_phase.specs.Runs.{SaidOf}
+use Rattle.ffs_volume.specs.Steps.{steps_of}
+use Rattle.ffs_volume.specs.Claims.{after_steps, steps_lines, is_open}
+use Rattle.ffs_walk.specs.Rests.{rest, left}
+use Rattle.ffs_workspace.specs.Holds.{claims_of}
+use Rattle.ffs_workspace.specs.Lengths.{IsFor, HoldWindows}
+use Rattle.ffs_claims.specs.Leaves.{SameFound}
+use Rattle.ffs_claims.specs.Lines.{of_lines}
+use Rattle.ffs_claims.specs.Moving.{Moves}
+use Rattle.ffs_claims.proofs.claim.claim.Given as goal
+
+abbrev pub invariant-loop-next : goal.invariant-loop-next
+invariant-loop-next g l = record {
+  made : IsFor l.geometry.layout l.workspace;
+  open_still : is_open (claims_of l.workspace) ≡ true;
+  geometry : l.walk.geometry ≡ l.geometry;
+  device : g.I.Image.device l.image ≡ g.I.Image.device l.initial.image;
+  windows : HoldWindows l.geometry.layout (g.I.Image.device l.initial.image).told l.workspace;
+  found : SameFound l.initial.workspace l.workspace;
+  same : kept g.W.Output.lent l.report ≡ kept g.W.Output.lent l.initial.report;
+  moves : Moves (claims_of l.initial.workspace) (claims_of l.workspace);
+  claims : Where (Tells (g.I.Image.device l.initial.image).told) (λ bytes.
+      after_steps l.geometry.layout (claims_of l.workspace) (rest bytes l.walk)
+      ≡ after_steps l.geometry.layout (claims_of l.initial.workspace) (steps_of l.geometry.layout l.inode bytes));
+  said : SaidOf (Tells (g.I.Image.device l.initial.image).told)
+      (λ bytes. of_lines (steps_lines l.geometry.layout l.number (claims_of l.workspace) (rest bytes l.walk)))
+      (λ bytes. of_lines (steps_lines l.geometry.layout l.number (claims_of l.initial.workspace) (steps_of l.geometry.layout l.inode bytes)))
+      (progress g.W.Output.sink l.initial.report) (progress g.W.Output.sink l.report);
+}
+
+abbrev pub decreases-loop-next : goal.decreases-loop-next
+decreases-loop-next g l = left l.walk

@@ -1,0 +1,147 @@
+use Rattle.std.proofs.Common.{inl, inr, arith, refl, sym, ◌∷◌, ◌+◌, ◌≤◌, ◌<◌, [], List, ap, ◌∙◌, Err, false}
+use Rattle.std.proofs.lemmas.Bool.{cases_lt}
+use Rattle.std.proofs.lemmas.Result.{err_from_is_err_and}
+use Rattle.std.proofs.lemmas.List.Sums.{count_by-le-length}
+use Rattle.ffs_maps.proofs.Bits.{length_bits}
+use Rattle.ffs_phase.proofs.Telling.{of_begins, of_says, of_part, of_fault, of_stops, of_same, tells_knows, said_knows}
+use Rattle.ffs_volume.specs.BlockCheck.{owner_lines, owners_lines, phase1_lines}
+use Rattle.ffs_volume.specs.Claims.{Claims, after_owner}
+use Rattle.ffs_volume.specs.Messages.{Message, phase1}
+use Rattle.ffs_volume.specs.Owners.{owner_of, owners_of}
+use Rattle.ffs_volume.specs.Replay.{cut_at}
+use Rattle.ffs_workspace.specs.Holds.{claims_of, first_marked_at}
+use Rattle.ffs_workspace.specs.Kinds.{kind_at}
+use Rattle.ffs_workspace.specs.Lengths.{inodes_of}
+use Rattle.ffs_claims.specs.Lines.{of_lines, owners_from}
+use Rattle.ffs_claims.proofs.Numbers.{before_next, before_first, before_end, lines_next, lines_end, filled_next, filled_end, filled_begin, is_inside, is_outside, kind_out, kind_in, mark_out, mark_in, cut_out, cut_in, first_lines}
+use Rattle.ffs_claims.proofs.first.phase1.Goals as goal
+
+pub returns-in_err-say-clause-text : goal.returns-in_err-say-clause-text
+returns-in_err-say-clause-text g c =
+    let p = err_from_is_err_and c.from_residual.result c.from_residual.ensures.1 in
+    let v = c.args.geometry.now.layout in
+    rw (p.1, p.2) (of_stops _ (λ bytes. phase1 ∷ of_lines (phase1_lines v (owners_of v bytes))) (λ bytes. of_lines (phase1_lines v (owners_of v bytes))) _ (phase1 ∷ []) _ _ _
+    (of_begins _ (λ bytes. phase1 ∷ of_lines (phase1_lines v (owners_of v bytes))) _) (λ bytes t. refl) c.in_err-say.ensures.said)
+
+pub loop-number-init : goal.loop-number-init
+loop-number-init g c =
+    let v = c.args.geometry.now.layout in
+    let s = claims_of c.reserve.new.workspace in
+    let same = c.reserve.ensures.windows in
+    let found = c.reserve.ensures.found in
+    record {
+      made = c.reserve.ensures.made;
+      device = refl;
+      windows = record { table = rw same c.requires.windows.table; blocks = rw same c.requires.windows.blocks; chunk = rw same c.requires.windows.chunk };
+      same = c.in_ok-say.ensures.same;
+      low = omega arith;
+      high = λ h. omega arith;
+      runs = omega (arith, c.reserve.ensures.runs);
+      claims = λ bytes k. c.reserve.ensures.claims k.1 ∙ sym (before_first v bytes);
+      kinds = λ bytes k. filled_begin 0 (kind_at v bytes) c.reserve.new.workspace.kinds.items (inodes_of v) (ap (λ w. w.items) found.kinds ∙ k.1.kinds) (λ x low. kind_out v bytes x (is_outside v x (inl low)));
+      marked = λ bytes k. filled_begin false (first_marked_at v bytes) c.reserve.new.workspace.marked.items (inodes_of v) (ap (λ w. w.items) found.marked ∙ k.1.marked) (λ x low. mark_out v bytes x (is_outside v x (inl low)));
+      cut = λ bytes k. filled_begin 0 (cut_at v bytes) c.reserve.new.workspace.cut.items (inodes_of v) (ap (λ w. w.items) found.cut ∙ k.1.cut) (λ x low. cut_out v bytes x (is_outside v x (inl low)));
+      said = of_says _ (λ bytes. phase1 ∷ of_lines (phase1_lines v (owners_of v bytes))) (λ bytes. of_lines (owners_lines v s (owners_from v bytes 2))) _ (phase1 ∷ []) _ _ _
+          (of_begins _ (λ bytes. phase1 ∷ of_lines (phase1_lines v (owners_of v bytes))) _)
+          (λ bytes k. ap (λ (xs : List Message). phase1 ∷ xs) (first_lines v bytes s (c.reserve.ensures.claims k.1)))
+          c.in_ok-say.ensures.said;
+    }
+
+pub numbered-requires-clause-runs : goal.numbered-requires-clause-runs
+numbered-requires-clause-runs g c =
+    let inv = c.loop-number.invariant in
+    omega (
+      arith,
+      inv.runs,
+      c.args.geometry.now.sound.numbers.inodes_below,
+      c.args.geometry.now.sound.numbers.size_below,
+      c.loop-number-test.true,
+      count_by-le-length (λ b. b) (claims_of c.loop-number.workspace).used,
+      length_bits c.loop-number.workspace.claimed.words.items c.loop-number.workspace.claimed.size ∙ inv.made.claimed,
+    )
+
+pub returns-in_err-numbered-clause-text : goal.returns-in_err-numbered-clause-text
+returns-in_err-numbered-clause-text g c =
+    let p = err_from_is_err_and c.from_residual-in_err-numbered.result c.from_residual-in_err-numbered.ensures.1 in
+    let v = c.args.geometry.now.layout in
+    let inv = c.loop-number.invariant in
+    let s = claims_of c.loop-number.workspace in
+    let n = c.loop-number.number in
+    rw (p.1, p.2) (of_fault (Unit {0}) (Unit {0}) _ (λ bytes. of_lines (owners_lines v s (owners_from v bytes n))) (λ bytes. of_lines (owner_lines v s (owner_of v bytes n)))
+    (λ bytes. of_lines (owners_lines v (after_owner v s (owner_of v bytes n)) (owners_from v bytes (n + 1)))) _ _ _ _ c.in_err-numbered.field-0.0
+    inv.said (λ bytes t. lines_next v bytes s (after_owner v s (owner_of v bytes n)) n (omega arith) refl)
+    (tells_knows (Unit {0}) _ _ _ _ _ (Err c.in_err-numbered.field-0.0) (λ bytes k. ap (λ d. d.told) inv.device ∙ k.0) c.in_err-numbered.ensures.text))
+
+pub returns-in_err-numbered-clause-runs : goal.returns-in_err-numbered-clause-runs
+returns-in_err-numbered-clause-runs g c =
+    let inv = c.loop-number.invariant in
+    omega (arith, inv.runs, inv.low, c.numbered.ensures.bound, c.loop-number-test.true)
+
+pub loop-number-preserved : goal.loop-number-preserved
+loop-number-preserved g c =
+    let v = c.args.geometry.now.layout in
+    let inv = c.loop-number.invariant in
+    let s = claims_of c.loop-number.workspace in
+    let s' = claims_of c.numbered.new.workspace in
+    let n = c.loop-number.number in
+    let told = ap (λ d. d.told) inv.device in
+    let lt : n < inodes_of v = omega arith in
+    let inside = is_inside v n inv.low lt in
+    let now = c.in_ok-numbered.ensures.claims in
+    let stored = c.in_ok-numbered.ensures.stored in
+    record {
+      made = c.numbered.ensures.made;
+      device = c.in_ok-numbered.ensures.image ∙ inv.device;
+      windows = rw (c.in_ok-numbered.ensures.image, inv.device) at c.numbered.ensures.windows;
+      same = c.numbered.ensures.same ∙ inv.same;
+      low = omega arith;
+      high = λ h. omega arith;
+      runs = omega (arith, inv.runs, inv.low, c.in_ok-numbered.ensures.moves);
+      claims = λ bytes k. now bytes (told ∙ k.0) ∙ ap (λ (t : Claims). after_owner v t (owner_of v bytes n)) (inv.claims bytes k) ∙ sym (before_next v bytes n inv.low);
+      kinds = λ bytes k. filled_next 0 (kind_at v bytes) c.loop-number.workspace.kinds.items c.numbered.new.workspace.kinds.items n _
+          (omega (arith, inv.made.kinds)) (stored bytes (told ∙ k.0)).kinds (kind_in v bytes n inside) (inv.kinds bytes k);
+      marked = λ bytes k. filled_next false (first_marked_at v bytes) c.loop-number.workspace.marked.items c.numbered.new.workspace.marked.items n _
+          (omega (arith, inv.made.marked)) (stored bytes (told ∙ k.0)).marked (mark_in v bytes n s s' inside (inv.claims bytes k) (now bytes (told ∙ k.0))) (inv.marked bytes k);
+      cut = λ bytes k. filled_next 0 (cut_at v bytes) c.loop-number.workspace.cut.items c.numbered.new.workspace.cut.items n _
+          (omega (arith, inv.made.cut)) (stored bytes (told ∙ k.0)).cut (cut_in v bytes n s s' inside (inv.claims bytes k) (now bytes (told ∙ k.0))) (inv.cut bytes k);
+      said = of_same _ (λ bytes. of_lines (owners_lines v (after_owner v s (owner_of v bytes n)) (owners_from v bytes (n + 1)))) (λ bytes. of_lines (owners_lines v s' (owners_from v bytes (n + 1)))) _ _ _
+          (of_part _ (λ bytes. of_lines (owners_lines v s (owners_from v bytes n))) (λ bytes. of_lines (owner_lines v s (owner_of v bytes n)))
+          (λ bytes. of_lines (owners_lines v (after_owner v s (owner_of v bytes n)) (owners_from v bytes (n + 1)))) _ _ _ _ inv.said
+          (λ bytes k. lines_next v bytes s (after_owner v s (owner_of v bytes n)) n lt refl)
+          (said_knows _ _ _ _ _ _ (λ bytes k. told ∙ k.0) c.in_ok-numbered.ensures.text))
+          (λ bytes k. ap (λ (t : Claims). of_lines (owners_lines v t (owners_from v bytes (n + 1)))) (sym (now bytes (told ∙ k.0))));
+    }
+
+pub returns-clause-text : goal.returns-clause-text
+returns-clause-text g c =
+    let v = c.args.geometry.now.layout in
+    let inv = c.loop-number.invariant in
+    let s = claims_of c.loop-number.workspace in
+    of_same _ (λ bytes. of_lines (owners_lines v s (owners_from v bytes c.loop-number.number))) (λ bytes. []) _ _ _ inv.said
+    (λ bytes k. lines_end v bytes s c.loop-number.number (omega arith))
+
+pub returns-clause-holds : goal.returns-clause-holds
+returns-clause-holds g c = λ bytes k.
+    let v = c.args.geometry.now.layout in
+    let inv = c.loop-number.invariant in
+    let n = c.loop-number.number in
+    let past : inodes_of v ≤ n = omega arith in
+    let all = inv.claims bytes k ∙ before_end v bytes n past inv.high inv.low in
+    record {
+      used = ap (λ s. s.used) all;
+      dup = ap (λ s. s.dup) all;
+      runs = ap (λ s. s.runs) all;
+      kinds = filled_end 0 (kind_at v bytes) _ n (inodes_of v) past (λ x high. kind_out v bytes x (is_outside v x (inr high))) (inv.kinds bytes k);
+      marked = filled_end false (first_marked_at v bytes) _ n (inodes_of v) past (λ x high. mark_out v bytes x (is_outside v x (inr high))) (inv.marked bytes k);
+      cut = filled_end 0 (cut_at v bytes) _ n (inodes_of v) past (λ x high. cut_out v bytes x (is_outside v x (inr high))) (inv.cut bytes k);
+    }
+
+pub returns-clause-runs : goal.returns-clause-runs
+returns-clause-runs g c =
+    let inv = c.loop-number.invariant in
+    let used = count_by-le-length (λ b. b) (claims_of c.loop-number.workspace).used in
+    let size = length_bits c.loop-number.workspace.claimed.words.items c.loop-number.workspace.claimed.size ∙ inv.made.claimed in
+    elim (cases_lt 2 c.loop-number.number) [
+      | inl h ↦ let most : c.loop-number.number ≤ inodes_of c.args.geometry.now.layout = inv.high h in omega (arith, inv.runs, most, used, size)
+      | inr h ↦ omega (arith, inv.runs, used, size)
+    ]

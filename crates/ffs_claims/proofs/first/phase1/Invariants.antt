@@ -1,0 +1,39 @@
+use Rattle.std.proofs.Common.{◌≡◌, ◌+◌, ◌-◌, ◌*◌, ◌<◌, ◌≤◌, ◌∷◌, false}
+use Rattle.ffs_report.specs.Progress.{progress, kept}
+use Rattle.ffs_phase.specs.Known.{Where, Tells}
+use Rattle.ffs_phase.specs.Runs.{SaidOf}
+use Rattle.ffs_volume.specs.BlockCheck.{owners_lines, phase1_lines}
+use Rattle.ffs_volume.specs.KeptSteps.{claims_before}
+use Rattle.ffs_volume.specs.Messages.{phase1}
+use Rattle.ffs_volume.specs.Owners.{owners_of}
+use Rattle.ffs_volume.specs.Replay.{cut_at}
+use Rattle.ffs_workspace.specs.Holds.{claims_of, IsFresh, first_marked_at}
+use Rattle.ffs_workspace.specs.Kinds.{kind_at}
+use Rattle.ffs_workspace.specs.Lengths.{IsFor, HoldWindows, inodes_of}
+use Rattle.ffs_claims.specs.Lines.{of_lines, owners_from}
+use Rattle.ffs_claims.specs.Moving.{used_count}
+use Rattle.ffs_claims.proofs.Numbers.{FilledTo}
+use Rattle.ffs_claims.proofs.first.phase1.Given as goal
+
+abbrev pub invariant-loop-number : goal.invariant-loop-number
+invariant-loop-number g l = record {
+  made : IsFor l.geometry.layout l.workspace;
+  device : g.I.Image.device l.image ≡ g.I.Image.device l.fn.image;
+  windows : HoldWindows l.geometry.layout (g.I.Image.device l.fn.image).told l.workspace;
+  same : kept g.W.Output.lent l.report ≡ kept g.W.Output.lent l.fn.report;
+  low : 2 ≤ l.number;
+  high : 2 < l.number → l.number ≤ inodes_of l.geometry.layout;
+  runs : l.workspace.runs_seen ≤ used_count (claims_of l.workspace) + 22 * (l.number - 2);
+  claims : Where (λ bytes. Tells (g.I.Image.device l.fn.image).told bytes × IsFresh l.geometry.layout l.fn.workspace) (λ bytes.
+      claims_of l.workspace ≡ claims_before l.geometry.layout bytes l.number);
+  kinds : Where (λ bytes. Tells (g.I.Image.device l.fn.image).told bytes × IsFresh l.geometry.layout l.fn.workspace) (λ bytes.
+      FilledTo 0 (kind_at l.geometry.layout bytes) l.workspace.kinds.items l.number);
+  marked : Where (λ bytes. Tells (g.I.Image.device l.fn.image).told bytes × IsFresh l.geometry.layout l.fn.workspace) (λ bytes.
+      FilledTo false (first_marked_at l.geometry.layout bytes) l.workspace.marked.items l.number);
+  cut : Where (λ bytes. Tells (g.I.Image.device l.fn.image).told bytes × IsFresh l.geometry.layout l.fn.workspace) (λ bytes.
+      FilledTo 0 (cut_at l.geometry.layout bytes) l.workspace.cut.items l.number);
+  said : SaidOf (λ bytes. Tells (g.I.Image.device l.fn.image).told bytes × IsFresh l.geometry.layout l.fn.workspace)
+      (λ bytes. of_lines (owners_lines l.geometry.layout (claims_of l.workspace) (owners_from l.geometry.layout bytes l.number)))
+      (λ bytes. phase1 ∷ of_lines (phase1_lines l.geometry.layout (owners_of l.geometry.layout bytes)))
+      (progress g.W.Output.sink l.fn.report) (progress g.W.Output.sink l.report);
+}

@@ -1,0 +1,53 @@
+use Rattle.std.proofs.Common.{arith, refl, ap, ◌+◌, ◌∙◌, List, ℕ}
+use Rattle.std.specs.List.{range_with_len}
+use Rattle.std.proofs.lemmas.Result.{err_from_is_err_and}
+use Rattle.ffs_volume.specs.Claims.{offer_lines, offers_lines, after_offers}
+use Rattle.ffs_workspace.specs.Holds.{claims_of}
+use Rattle.ffs_phase.proofs.Telling.{to_begins, to_says, to_stops}
+use Rattle.ffs_claims.specs.Lines.{of_lines}
+use Rattle.ffs_claims.proofs.Goes.{offers_after, offers_more, to_same, from_start}
+use Rattle.ffs_claims.proofs.offer.offers.Goals as goal
+
+pub returns-in_err-offer-clause-said : goal.returns-in_err-offer-clause-said
+returns-in_err-offer-clause-said g c =
+    let p = err_from_is_err_and c.from_residual.result c.from_residual.ensures.1 in
+    let f = c.from.result + c.from-in-loop-place.result in
+    rw (p.1) (to_stops _ _ _ (of_lines (offer_lines c.args.geometry.now.layout c.args.number (claims_of c.loop-place.workspace) f)) _ _ _ c.loop-place.invariant.said
+    (offers_more c.args.geometry.now.layout c.args.number (claims_of c.loop-place.workspace) (claims_of c.offer.new.workspace) c.args.start c.args.len c.loop-place.place f
+    c.loop-place-test.true (omega arith) c.offer.ensures.claims)
+    c.in_err-offer.ensures.said)
+
+pub loop-place-preserved : goal.loop-place-preserved
+loop-place-preserved g c =
+    let inv = c.loop-place.invariant in
+    let f = c.from.result + c.from-in-loop-place.result in
+    record {
+      made = c.offer.ensures.made;
+      windows = c.offer.ensures.windows ∙ inv.windows;
+      found = record { kinds = c.offer.ensures.found.kinds ∙ inv.found.kinds; marked = c.offer.ensures.found.marked ∙ inv.found.marked; cut = c.offer.ensures.found.cut ∙ inv.found.cut };
+      same = c.offer.ensures.same ∙ inv.same;
+      runs = c.offer.ensures.runs ∙ inv.runs;
+      kept = omega arith;
+      claims = inv.claims ∙ offers_after c.args.geometry.now.layout (claims_of c.loop-place.workspace) (claims_of c.offer.new.workspace) c.args.start c.args.len c.loop-place.place f
+          c.loop-place-test.true (omega arith) c.offer.ensures.claims;
+      said = to_says _ _ _ (of_lines (offer_lines c.args.geometry.now.layout c.args.number (claims_of c.loop-place.workspace) f)) _ _ _ inv.said
+          (offers_more c.args.geometry.now.layout c.args.number (claims_of c.loop-place.workspace) (claims_of c.offer.new.workspace) c.args.start c.args.len c.loop-place.place f
+          c.loop-place-test.true (omega arith) c.offer.ensures.claims)
+          c.in_ok-offer.ensures.said;
+    }
+
+pub loop-place-init : goal.loop-place-init
+loop-place-init g c =
+    let v = c.args.geometry.now.layout in
+    let s = claims_of c.args.workspace.now in
+    record {
+      made = c.requires.made;
+      windows = refl;
+      found = record { kinds = refl; marked = refl; cut = refl };
+      same = refl;
+      runs = refl;
+      kept = omega arith;
+      claims = ap (after_offers v s) (from_start c.args.start c.args.len);
+      said = to_same _ _ _ _ _ (to_begins (of_lines (offers_lines v c.args.number s (range_with_len c.args.start c.args.len))) _)
+          (ap (λ (fs : List ℕ). of_lines (offers_lines v c.args.number s fs)) (from_start c.args.start c.args.len));
+    }

@@ -1,0 +1,25 @@
+use Rattle.std.proofs.Common.{◌≡◌, ◌+◌, ◌≤◌, ◌-◌}
+use Rattle.std.specs.List.{range_with_len}
+use Rattle.ffs_report.specs.Progress.{progress, kept}
+use Rattle.ffs_phase.specs.Runs.{SaidTo}
+use Rattle.ffs_volume.specs.Claims.{after_offers, offers_lines}
+use Rattle.ffs_workspace.specs.Holds.{claims_of}
+use Rattle.ffs_workspace.specs.Lengths.{IsFor}
+use Rattle.ffs_claims.specs.Leaves.{SameWindows, SameFound}
+use Rattle.ffs_claims.specs.Lines.{of_lines}
+use Rattle.ffs_claims.proofs.offer.offers.Given as goal
+
+abbrev pub invariant-loop-place : goal.invariant-loop-place
+invariant-loop-place g l = record {
+  made : IsFor l.geometry.layout l.workspace;
+  windows : SameWindows l.initial.workspace l.workspace;
+  found : SameFound l.initial.workspace l.workspace;
+  same : kept g.W.Output.lent l.report ≡ kept g.W.Output.lent l.initial.report;
+  runs : l.workspace.runs_seen ≡ l.initial.workspace.runs_seen;
+  kept : l.workspace.kept ≤ l.initial.workspace.kept + l.place;
+  claims : after_offers l.geometry.layout (claims_of l.initial.workspace) (range_with_len l.start l.len)
+      ≡ after_offers l.geometry.layout (claims_of l.workspace) (range_with_len (l.start + l.place) (l.len - l.place));
+  said : SaidTo (of_lines (offers_lines l.geometry.layout l.number (claims_of l.workspace) (range_with_len (l.start + l.place) (l.len - l.place))))
+      (of_lines (offers_lines l.geometry.layout l.number (claims_of l.initial.workspace) (range_with_len l.start l.len)))
+      (progress g.W.Output.sink l.initial.report) (progress g.W.Output.sink l.report);
+}

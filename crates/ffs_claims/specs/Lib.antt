@@ -1,0 +1,4 @@
+pub mod Moving
+pub mod Rescan
+pub mod Lines
+pub mod Leaves

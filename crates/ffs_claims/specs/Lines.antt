@@ -1,0 +1,42 @@
+-- The lines of the block check, as messages of a report.
+use Rattle.std.specs.Prelude.{ℕ, ◌-◌, Bool, ◌&&◌, nat_lt, if◌then◌else◌, List, [], ◌∷◌, map}
+use Rattle.std.specs.List.{range_with_len}
+use Rattle.ffs_volume.specs.declared.Layout.{Layout}
+use Rattle.ffs_volume.specs.declared.Inode.{Inode}
+use Rattle.ffs_volume.specs.declared.Class.{Class}
+use Rattle.ffs_volume.specs.declared.BlockMessage.{BlockMessage}
+use Rattle.ffs_volume.specs.declared.BlockMessage.TheVariants.{Bad, Dup, ManyBad, ManyDup}
+use Rattle.ffs_volume.specs.Areas.{is_ok}
+use Rattle.ffs_volume.specs.Inodes.{class_of}
+use Rattle.ffs_volume.specs.Steps.{steps_of}
+use Rattle.ffs_volume.specs.Owners.{Owner, owner_of}
+use Rattle.ffs_volume.specs.Claims.{Claims, is_set}
+use Rattle.ffs_volume.specs.Messages.{Message, of_blocks}
+use Rattle.ffs_workspace.specs.Lengths.{inodes_of}
+
+-- the messages of a report
+abbrev pub of_lines : List BlockMessage → List Message
+of_lines lines = map of_blocks lines
+
+-- an offer is dup
+abbrev pub is_dup : Layout → Claims → ℕ → Bool
+is_dup v s f = nat_lt s.dups 11 && (is_ok v f && is_set s.used f)
+
+-- what is told of a dup offer and of a bad Run, the eleventh one or not
+abbrev pub dup_lines : ℕ → ℕ → Bool → List BlockMessage
+dup_lines inode f many = Dup f inode ∷ (if many then ManyDup inode ∷ [] else [])
+
+abbrev pub bad_lines : ℕ → ℕ → Bool → List BlockMessage
+bad_lines inode start many = Bad start inode ∷ (if many then ManyBad inode ∷ [] else [])
+
+-- an inode by its number, as one that may own fragments
+abbrev pub owner_with : Layout → List ℕ → ℕ → Inode → Owner
+owner_with v image number i = record { number = number; class = class_of v i; steps = steps_of v i image; blocks = i.blocks }
+
+-- the inodes from one on
+abbrev pub owners_from : Layout → List ℕ → ℕ → List Owner
+owners_from v image number = map (owner_of v image) (range_with_len number (inodes_of v - number))
+
+-- what an inode's count of sectors is told by
+abbrev pub counted_owner : ℕ → Class → ℕ → Owner
+counted_owner number class blocks = record { number = number; class = class; steps = []; blocks = blocks }

@@ -1,0 +1,24 @@
+-- What the Runs that are seen use up.
+use Rattle.std.specs.Prelude.{◌≡◌, ◌+◌, ◌*◌, ◌≤◌, ℕ, length, count_by}
+use Rattle.ffs_volume.specs.Claims.{Claims}
+
+-- how many fragments are reserved or claimed
+abbrev pub used_count : Claims → ℕ
+used_count s = count_by (λ b. b) s.used
+
+-- what a Run uses up: a claim, a bad Run or a dup offer
+abbrev pub weight : Claims → ℕ
+weight s = used_count s + s.bad + s.dups
+
+-- what an offer uses up: a claim, an eighth of a bad Run or a dup offer
+abbrev pub offers_weight : Claims → ℕ
+offers_weight s = used_count s + 8 * s.bad + s.dups
+
+-- a step uses up as much as it counts Runs, and as much as it keeps offers, and keeps the caps
+pub record Moves (s s' : Claims) : Type 0 where
+  pub weighs : s'.runs + weight s ≤ s.runs + weight s'
+  pub keeps : s'.kept + offers_weight s ≤ s.kept + offers_weight s'
+  pub used_length : length s'.used ≡ length s.used
+  pub dup_length : length s'.dup ≡ length s.dup
+  pub bad_cap : s.bad ≤ 11 → s'.bad ≤ 11
+  pub dups_cap : s.dups ≤ 11 → s'.dups ≤ 11

@@ -1,0 +1,134 @@
+//! What an inode claims, and what is told of it.
+
+ghost use Rattle.std.specs.Prelude.{◌≡◌, ◌+◌, ◌-◌, ◌*◌, ◌<◌, ◌≤◌, ◌^◌, OnOk, true, ℕ, List};
+ghost use Rattle.ffs_report.specs.Progress.{progress, kept};
+ghost use Rattle.ffs_phase.specs.Known.{Where, Tells};
+ghost use Rattle.ffs_phase.specs.Runs.{Reads, TellsOf};
+ghost use Rattle.ffs_volume.specs.Inodes as inodes;
+ghost use Rattle.ffs_volume.specs.Inodes.{inode_of};
+ghost use Rattle.ffs_volume.specs.Steps.{steps_of};
+ghost use Rattle.ffs_volume.specs.Owners.{owner_of};
+ghost use Rattle.ffs_volume.specs.Claims as claims;
+ghost use Rattle.ffs_volume.specs.Claims.{after_owner, after_steps, steps_lines};
+ghost use Rattle.ffs_volume.specs.BlockCheck.{owner_lines};
+ghost use Rattle.ffs_workspace.specs.Holds.{claims_of};
+ghost use Rattle.ffs_workspace.specs.Lengths.{IsFor, HoldWindows, inodes_of};
+ghost use Rattle.ffs_claims.specs.Leaves.{SameFound, Stored};
+ghost use Rattle.ffs_claims.specs.Lines.{of_lines, owner_with};
+ghost use Rattle.ffs_claims.specs.Moving.{Moves, used_count};
+
+use crate::offer::{is_open, step};
+use crate::store::{begin, say_class, say_count, store};
+use ffs_image::Image;
+use ffs_layout::Geometry;
+use ffs_phase::RunFault;
+use ffs_report::{Output, Report};
+use ffs_volume::Inode;
+use ffs_walk::{Walk, class_of};
+use ffs_workspace::Workspace;
+
+/// Walks over an inode's blocks, claims what its steps offer, and tells what is wrong with them.
+fn claim<I: Image, W: Output>(
+    workspace: &mut Workspace,
+    geometry: &Geometry,
+    number: u32,
+    inode: &Inode,
+    image: &mut I,
+    report: &mut Report<'_, W>,
+) -> Result<(), RunFault>
+    requires made { IsFor geometry.now.layout workspace.old }
+    requires bad { workspace.old.bad ≡ 0 }
+    requires dups { workspace.old.dups ≡ 0 }
+    requires kept { workspace.old.kept ≡ 0 }
+    requires runs { workspace.old.runs_seen < 2 ^ 61 }
+    requires volume { geometry.now.layout.size * geometry.now.layout.fsize ≤ (I.device image.old).size }
+    requires windows { HoldWindows geometry.now.layout (I.device image.old).told workspace.old }
+    ensures same { kept W.lent report.new ≡ kept W.lent report.old }
+    ensures image { Reads (I.device image.old) (I.device image.new) result }
+    ensures text { TellsOf (Tells (I.device image.old).told)
+        (λ bytes. of_lines (steps_lines geometry.now.layout number (claims_of workspace.old) (steps_of geometry.now.layout inode.now bytes)))
+        (progress W.sink report.old) (progress W.sink report.new) result }
+    ensures claims { OnOk result (Where (Tells (I.device image.old).told) (λ bytes.
+        claims_of workspace.new ≡ after_steps geometry.now.layout (claims_of workspace.old) (steps_of geometry.now.layout inode.now bytes))) }
+    ensures moves { OnOk result (Moves (claims_of workspace.old) (claims_of workspace.new)) }
+    ensures bound { workspace.new.runs_seen + used_count (claims_of workspace.old) ≤ workspace.old.runs_seen + geometry.now.layout.size + 22 }
+    ensures made { IsFor geometry.now.layout workspace.new }
+    ensures windows { HoldWindows geometry.now.layout (I.device image.new).told workspace.new }
+    ensures found { SameFound workspace.old workspace.new }
+{
+    let mut walk = Walk::start(geometry, inode);
+    while let Some(next) = walk.next(image, &mut workspace.windows.blocks)? {
+        step(workspace, geometry, number, next, report)?;
+        if !is_open(workspace) {
+            break;
+        }
+    }
+    Ok(())
+}
+
+/// An inode that was read: what is told of it, and what it claims.
+fn known<I: Image, W: Output>(
+    workspace: &mut Workspace,
+    geometry: &Geometry,
+    number: u32,
+    inode: &Inode,
+    image: &mut I,
+    report: &mut Report<'_, W>,
+) -> Result<(), RunFault>
+    requires made { IsFor geometry.now.layout workspace.old }
+    requires number { number < inodes_of geometry.now.layout }
+    requires runs { workspace.old.runs_seen < 2 ^ 40 }
+    requires volume { geometry.now.layout.size * geometry.now.layout.fsize ≤ (I.device image.old).size }
+    requires windows { HoldWindows geometry.now.layout (I.device image.old).told workspace.old }
+    ensures same { kept W.lent report.new ≡ kept W.lent report.old }
+    ensures image { Reads (I.device image.old) (I.device image.new) result }
+    ensures text { TellsOf (Tells (I.device image.old).told)
+        (λ bytes. of_lines (owner_lines geometry.now.layout (claims_of workspace.old) (owner_with geometry.now.layout bytes number inode.now)))
+        (progress W.sink report.old) (progress W.sink report.new) result }
+    ensures claims { OnOk result (Where (Tells (I.device image.old).told) (λ bytes.
+        claims_of workspace.new ≡ after_owner geometry.now.layout (claims_of workspace.old) (owner_with geometry.now.layout bytes number inode.now))) }
+    ensures stored { OnOk result (Stored number (inodes.class_of geometry.now.layout inode.now) inode.now workspace.old workspace.new) }
+    ensures moves { OnOk result (workspace.new.runs_seen + used_count (claims_of workspace.old) ≤ workspace.old.runs_seen + used_count (claims_of workspace.new) + 22) }
+    ensures bound { workspace.new.runs_seen + used_count (claims_of workspace.old) ≤ workspace.old.runs_seen + geometry.now.layout.size + 22 }
+    ensures made { IsFor geometry.now.layout workspace.new }
+    ensures windows { HoldWindows geometry.now.layout (I.device image.new).told workspace.new }
+{
+    let class = class_of(geometry, inode);
+    begin(workspace, geometry);
+    say_class(report, number, class)?;
+    claim(workspace, geometry, number, inode, image, report)?;
+    say_count(workspace, geometry, number, class, inode.blocks, report)?;
+    store(workspace, geometry, number, class, inode);
+    Ok(())
+}
+
+/// An inode by its number: what is told of it, and what it claims.
+pub fn numbered<I: Image, W: Output>(
+    workspace: &mut Workspace,
+    geometry: &Geometry,
+    number: u32,
+    image: &mut I,
+    report: &mut Report<'_, W>,
+) -> Result<(), RunFault>
+    requires made { IsFor geometry.now.layout workspace.old }
+    requires number { number < inodes_of geometry.now.layout }
+    requires runs { workspace.old.runs_seen < 2 ^ 40 }
+    requires volume { geometry.now.layout.size * geometry.now.layout.fsize ≤ (I.device image.old).size }
+    requires windows { HoldWindows geometry.now.layout (I.device image.old).told workspace.old }
+    ensures same { kept W.lent report.new ≡ kept W.lent report.old }
+    ensures image { Reads (I.device image.old) (I.device image.new) result }
+    ensures text { TellsOf (Tells (I.device image.old).told)
+        (λ bytes. of_lines (owner_lines geometry.now.layout (claims_of workspace.old) (owner_of geometry.now.layout bytes number)))
+        (progress W.sink report.old) (progress W.sink report.new) result }
+    ensures claims { OnOk result (Where (Tells (I.device image.old).told) (λ bytes.
+        claims_of workspace.new ≡ after_owner geometry.now.layout (claims_of workspace.old) (owner_of geometry.now.layout bytes number))) }
+    ensures stored { OnOk result (Where (Tells (I.device image.old).told) (λ bytes.
+        Stored number (inodes.class_of geometry.now.layout (inode_of geometry.now.layout bytes number)) (inode_of geometry.now.layout bytes number) workspace.old workspace.new)) }
+    ensures moves { OnOk result (workspace.new.runs_seen + used_count (claims_of workspace.old) ≤ workspace.old.runs_seen + used_count (claims_of workspace.new) + 22) }
+    ensures bound { workspace.new.runs_seen + used_count (claims_of workspace.old) ≤ workspace.old.runs_seen + geometry.now.layout.size + 22 }
+    ensures made { IsFor geometry.now.layout workspace.new }
+    ensures windows { HoldWindows geometry.now.layout (I.device image.new).told workspace.new }
+{
+    let inode = workspace.windows.table.inode(geometry, number, image)?;
+    known(workspace, geometry, number, &inode, image, report)
+}

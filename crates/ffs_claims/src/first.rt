@@ -1,0 +1,53 @@
+//! Phase 1: blocks and sizes (fsck(8)).
+
+ghost use Rattle.std.specs.Prelude.{◌≡◌, ◌+◌, ◌*◌, ◌≤◌, ◌∷◌, OnOk, ℕ, List};
+ghost use Rattle.ffs_report.specs.Progress.{progress, kept};
+ghost use Rattle.ffs_phase.specs.Known.{Where, Tells};
+ghost use Rattle.ffs_phase.specs.Runs.{Reads, TellsOf};
+ghost use Rattle.ffs_volume.specs.BlockCheck.{phase1_lines};
+ghost use Rattle.ffs_volume.specs.Memory.{runs_limit};
+ghost use Rattle.ffs_volume.specs.Messages as messages;
+ghost use Rattle.ffs_volume.specs.Owners.{owners_of};
+ghost use Rattle.ffs_workspace.specs.Holds.{IsFresh, HoldsPhase1};
+ghost use Rattle.ffs_workspace.specs.Lengths.{IsFor, HoldWindows};
+ghost use Rattle.ffs_claims.specs.Lines.{of_lines};
+
+use crate::claim::numbered;
+use crate::reserve::reserve;
+use ffs_image::Image;
+use ffs_layout::Geometry;
+use ffs_phase::RunFault;
+use ffs_report::{Heading, Line, Output, Report};
+use ffs_workspace::Workspace;
+
+/// Walks over the blocks of all inodes, claims the fragments that they offer, and tells what is wrong: inodes of an
+/// unknown type, addresses out of range, fragments that are claimed twice, and wrong counts of sectors.
+///
+/// The text is that of a workspace as it was made.
+pub fn phase1<I: Image, W: Output>(
+    geometry: &Geometry,
+    image: &mut I,
+    workspace: &mut Workspace,
+    report: &mut Report<'_, W>,
+) -> Result<(), RunFault>
+    requires made { IsFor geometry.now.layout workspace.old }
+    requires volume { geometry.now.layout.size * geometry.now.layout.fsize ≤ (I.device image.old).size }
+    requires windows { HoldWindows geometry.now.layout (I.device image.old).told workspace.old }
+    ensures same { kept W.lent report.new ≡ kept W.lent report.old }
+    ensures image { Reads (I.device image.old) (I.device image.new) result }
+    ensures text { TellsOf (λ bytes. Tells (I.device image.old).told bytes × IsFresh geometry.now.layout workspace.old)
+        (λ bytes. messages.phase1 ∷ of_lines (phase1_lines geometry.now.layout (owners_of geometry.now.layout bytes)))
+        (progress W.sink report.old) (progress W.sink report.new) result }
+    ensures holds { OnOk result (Where (λ bytes. Tells (I.device image.old).told bytes × IsFresh geometry.now.layout workspace.old)
+        (λ bytes. HoldsPhase1 geometry.now.layout bytes workspace.new)) }
+    ensures runs { workspace.new.runs_seen ≤ runs_limit geometry.now.layout }
+    ensures made { IsFor geometry.now.layout workspace.new }
+    ensures windows { HoldWindows geometry.now.layout (I.device image.new).told workspace.new }
+{
+    reserve(workspace, geometry);
+    report.say(&Line::Heading(Heading::Phase1))?;
+    for number in 2..geometry.layout.ncg * geometry.layout.ipg {
+        numbered(workspace, geometry, number, image, report)?;
+    }
+    Ok(())
+}

@@ -1,0 +1,11 @@
+//! The block check: which fragments inodes claim, and what is wrong with their claims (phases 1 and 1b of fsck(8)).
+#![tactic(auto)]
+
+mod claim;
+mod first;
+mod offer;
+mod rescan;
+mod reserve;
+mod store;
+
+pub use first::phase1;

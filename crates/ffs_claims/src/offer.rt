@@ -1,0 +1,242 @@
+//! The offers of Runs, and what is told of them.
+
+ghost use Rattle.std.specs.Prelude.{◌≡◌, ◌+◌, ◌<◌, ◌≤◌, ◌^◌, OnOk, IsTrue, true, slice_set};
+ghost use Rattle.std.specs.List.{range_with_len};
+ghost use Rattle.ffs_volume.specs.Areas.{is_ok};
+ghost use Rattle.ffs_volume.specs.Claims as claims;
+ghost use Rattle.ffs_volume.specs.Claims.{after_offer, after_offers, after_run, after_step, offer_lines, offers_lines, run_lines, step_lines};
+ghost use Rattle.ffs_report.specs.Progress.{progress, kept, Says};
+ghost use Rattle.ffs_maps.specs.Bits.{bits_of};
+ghost use Rattle.ffs_walk.specs.Lengths.{HasLength};
+ghost use Rattle.ffs_workspace.specs.Holds.{claims_of};
+ghost use Rattle.ffs_workspace.specs.Lengths.{IsFor};
+ghost use Rattle.ffs_claims.specs.Leaves.{SameWindows, SameFound};
+ghost use Rattle.ffs_claims.specs.Lines.{of_lines, is_dup, dup_lines, bad_lines};
+
+use ffs_layout::Geometry;
+use ffs_report::{Line, OutFault, Output, Report};
+use ffs_volume::{BlockMessage, Step};
+use ffs_workspace::Workspace;
+
+/// Whether the next step of the inode in hand is seen.
+pub fn is_open(workspace: &Workspace) -> bool
+    ensures { result ≡ claims.is_open (claims_of workspace.now) }
+{
+    workspace.bad < 11 && workspace.dups < 11
+}
+
+#[tactic(auto, using(crate::proofs::Weights::ok_below))]
+fn is_ok(geometry: &Geometry, fragment: u64) -> bool
+    ensures value { result ≡ is_ok geometry.now.layout fragment }
+    ensures small { IsTrue result → fragment < geometry.now.layout.size }
+{
+    geometry.ok(fragment)
+}
+
+fn say_dup<W: Output>(
+    report: &mut Report<'_, W>,
+    inode: u32,
+    fragment: u32,
+    many: bool,
+) -> Result<(), OutFault>
+    ensures same { kept W.lent report.new ≡ kept W.lent report.old }
+    ensures said { Says (progress W.sink report.old) (progress W.sink report.new) (of_lines (dup_lines inode fragment many)) result }
+{
+    report.say(&Line::Block(BlockMessage::Dup { fragment, inode }))?;
+    if many {
+        return report.say(&Line::Block(BlockMessage::ManyDup { inode }));
+    }
+    Ok(())
+}
+
+fn say_bad<W: Output>(
+    report: &mut Report<'_, W>,
+    inode: u32,
+    fragment: u32,
+    many: bool,
+) -> Result<(), OutFault>
+    ensures same { kept W.lent report.new ≡ kept W.lent report.old }
+    ensures said { Says (progress W.sink report.old) (progress W.sink report.new) (of_lines (bad_lines inode fragment many)) result }
+{
+    report.say(&Line::Block(BlockMessage::Bad { fragment, inode }))?;
+    if many {
+        return report.say(&Line::Block(BlockMessage::ManyBad { inode }));
+    }
+    Ok(())
+}
+
+/// Notes that a fragment has a DUP line.
+fn double(workspace: &mut Workspace, geometry: &Geometry, fragment: u32)
+    requires made { IsFor geometry.now.layout workspace.old }
+    requires inside { fragment < geometry.now.layout.size }
+    ensures dup { bits_of workspace.new.doubled ≡ slice_set (bits_of workspace.old.doubled) fragment true }
+    ensures made { IsFor geometry.now.layout workspace.new }
+    ensures rest { workspace.new ≡ record workspace.old { doubled = workspace.new.doubled; untold = workspace.new.untold } }
+{
+    if workspace.doubled.get(fragment) {
+        return;
+    }
+    workspace.doubled.set(fragment);
+    workspace.untold += 1;
+}
+
+/// Takes an offer, and says whether it is dup.
+fn take(workspace: &mut Workspace, geometry: &Geometry, fragment: u64) -> bool
+    requires made { IsFor geometry.now.layout workspace.old }
+    requires room { workspace.old.kept < 2 ^ 63 }
+    ensures claims { claims_of workspace.new ≡ after_offer geometry.now.layout (claims_of workspace.old) fragment }
+    ensures dup { result ≡ is_dup geometry.now.layout (claims_of workspace.old) fragment }
+    ensures small { IsTrue result → fragment < geometry.now.layout.size }
+    ensures kept { workspace.new.kept ≤ workspace.old.kept + 1 }
+    ensures runs { workspace.new.runs_seen ≡ workspace.old.runs_seen }
+    ensures made { IsFor geometry.now.layout workspace.new }
+    ensures windows { SameWindows workspace.old workspace.new }
+    ensures found { SameFound workspace.old workspace.new }
+{
+    if workspace.dups >= 11 {
+        return false;
+    }
+    workspace.kept += 1;
+    if !is_ok(geometry, fragment) {
+        return false;
+    }
+    let index = fragment as u32;
+    if workspace.claimed.get(index) {
+        workspace.dups += 1;
+        double(workspace, geometry, index);
+        return true;
+    }
+    workspace.claimed.set(index);
+    false
+}
+
+/// One offer, and what is told of it.
+fn offer<W: Output>(
+    workspace: &mut Workspace,
+    geometry: &Geometry,
+    number: u32,
+    fragment: u64,
+    report: &mut Report<'_, W>,
+) -> Result<(), OutFault>
+    requires made { IsFor geometry.now.layout workspace.old }
+    requires room { workspace.old.kept < 2 ^ 63 }
+    ensures same { kept W.lent report.new ≡ kept W.lent report.old }
+    ensures said { Says (progress W.sink report.old) (progress W.sink report.new)
+        (of_lines (offer_lines geometry.now.layout number (claims_of workspace.old) fragment)) result }
+    ensures claims { claims_of workspace.new ≡ after_offer geometry.now.layout (claims_of workspace.old) fragment }
+    ensures kept { workspace.new.kept ≤ workspace.old.kept + 1 }
+    ensures runs { workspace.new.runs_seen ≡ workspace.old.runs_seen }
+    ensures made { IsFor geometry.now.layout workspace.new }
+    ensures windows { SameWindows workspace.old workspace.new }
+    ensures found { SameFound workspace.old workspace.new }
+{
+    let many = workspace.dups == 10;
+    if !take(workspace, geometry, fragment) {
+        return Ok(());
+    }
+    say_dup(report, number, fragment as u32, many)
+}
+
+/// The offers of a Run one after the other, and what is told of them.
+fn offers<W: Output>(
+    workspace: &mut Workspace,
+    geometry: &Geometry,
+    number: u32,
+    start: u32,
+    len: u32,
+    report: &mut Report<'_, W>,
+) -> Result<(), OutFault>
+    requires made { IsFor geometry.now.layout workspace.old }
+    requires room { workspace.old.kept + len < 2 ^ 63 }
+    ensures same { kept W.lent report.new ≡ kept W.lent report.old }
+    ensures said { Says (progress W.sink report.old) (progress W.sink report.new)
+        (of_lines (offers_lines geometry.now.layout number (claims_of workspace.old) (range_with_len start len))) result }
+    ensures claims { OnOk result (claims_of workspace.new ≡ after_offers geometry.now.layout (claims_of workspace.old) (range_with_len start len)) }
+    ensures runs { workspace.new.runs_seen ≡ workspace.old.runs_seen }
+    ensures made { IsFor geometry.now.layout workspace.new }
+    ensures windows { SameWindows workspace.old workspace.new }
+    ensures found { SameFound workspace.old workspace.new }
+{
+    for place in 0..len {
+        offer(
+            workspace,
+            geometry,
+            number,
+            u64::from(start) + u64::from(place),
+            report,
+        )?;
+    }
+    Ok(())
+}
+
+/// A Run of the inode in hand.
+fn run<W: Output>(
+    workspace: &mut Workspace,
+    geometry: &Geometry,
+    number: u32,
+    start: u32,
+    len: u32,
+    report: &mut Report<'_, W>,
+) -> Result<(), OutFault>
+    requires made { IsFor geometry.now.layout workspace.old }
+    requires some { 0 < len }
+    requires few { len ≤ 8 }
+    requires room { workspace.old.kept < 2 ^ 62 }
+    requires runs { workspace.old.runs_seen < 2 ^ 62 }
+    requires bad { workspace.old.bad < 11 }
+    ensures same { kept W.lent report.new ≡ kept W.lent report.old }
+    ensures said { Says (progress W.sink report.old) (progress W.sink report.new)
+        (of_lines (run_lines geometry.now.layout number (claims_of workspace.old) start len)) result }
+    ensures claims { OnOk result (claims_of workspace.new ≡ after_run geometry.now.layout (claims_of workspace.old) start len) }
+    ensures runs { workspace.new.runs_seen ≡ workspace.old.runs_seen + 1 }
+    ensures made { IsFor geometry.now.layout workspace.new }
+    ensures windows { SameWindows workspace.old workspace.new }
+    ensures found { SameFound workspace.old workspace.new }
+{
+    workspace.runs_seen += 1;
+    if geometry.in_range(start, len) {
+        return offers(workspace, geometry, number, start, len, report);
+    }
+    let many = workspace.bad == 10;
+    workspace.bad += 1;
+    say_bad(report, number, start, many)?;
+    if many {
+        return Ok(());
+    }
+    offers(workspace, geometry, number, start, len, report)
+}
+
+/// A step of the inode in hand, which isn't cut.
+pub fn step<W: Output>(
+    workspace: &mut Workspace,
+    geometry: &Geometry,
+    number: u32,
+    step: Step,
+    report: &mut Report<'_, W>,
+) -> Result<(), OutFault>
+    requires made { IsFor geometry.now.layout workspace.old }
+    requires open { claims.is_open (claims_of workspace.old) ≡ true }
+    requires length { HasLength geometry.now.layout.frag step }
+    requires room { workspace.old.kept < 2 ^ 62 }
+    requires runs { workspace.old.runs_seen < 2 ^ 62 }
+    ensures same { kept W.lent report.new ≡ kept W.lent report.old }
+    ensures said { Says (progress W.sink report.old) (progress W.sink report.new)
+        (of_lines (step_lines geometry.now.layout number (claims_of workspace.old) step)) result }
+    ensures claims { OnOk result (claims_of workspace.new ≡ after_step geometry.now.layout (claims_of workspace.old) step) }
+    ensures runs { workspace.new.runs_seen ≤ workspace.old.runs_seen + 1 }
+    ensures made { IsFor geometry.now.layout workspace.new }
+    ensures windows { SameWindows workspace.old workspace.new }
+    ensures found { SameFound workspace.old workspace.new }
+{
+    match step {
+        Step::Run { start, len, .. } => run(workspace, geometry, number, start, len, report),
+        Step::Tail => {
+            if workspace.tail {
+                return Ok(());
+            }
+            workspace.tail = true;
+            report.say(&Line::Block(BlockMessage::PartTrunc { inode: number }))
+        }
+        Step::Gap => Ok(()),
+    }
+}

@@ -1,0 +1,42 @@
+//! The fragments that no inode may claim.
+
+ghost use Rattle.std.specs.Prelude.{◌≡◌, ◌≤◌, ◌<◌, false, replicate};
+ghost use Rattle.ffs_volume.specs.Claims.{no_claims, reserved_map};
+ghost use Rattle.ffs_maps.specs.Bits.{bits_of};
+ghost use Rattle.ffs_workspace.specs.Holds.{claims_of, IsFresh};
+ghost use Rattle.ffs_workspace.specs.Lengths.{IsFor};
+ghost use Rattle.ffs_claims.specs.Leaves.{SameWindows, SameFound};
+
+use crate::store::begin;
+use ffs_layout::Geometry;
+use ffs_maps::FragmentMap;
+use ffs_workspace::Workspace;
+
+/// Sets the bits of the reserved fragments: up to the data of the first group, the summary area, and what each group keeps.
+fn set_reserved(map: &mut FragmentMap, geometry: &Geometry)
+    requires size { map.old.size ≡ geometry.now.layout.size }
+    ensures size { map.new.size ≡ geometry.now.layout.size }
+    ensures bits { bits_of map.old ≡ replicate geometry.now.layout.size false → bits_of map.new ≡ reserved_map geometry.now.layout }
+{
+    map.set_run(0, geometry.cgdmin(0));
+    let summary = geometry.layout.cssize.div_ceil(geometry.layout.fsize);
+    map.set_run(geometry.layout.csaddr, summary);
+    for group in 0..geometry.layout.ncg {
+        let first = geometry.cgsblock(group);
+        map.set_run(first, geometry.cgdmin(group) - first);
+    }
+}
+
+/// Claims the reserved fragments, and begins to count Runs.
+pub fn reserve(workspace: &mut Workspace, geometry: &Geometry)
+    requires made { IsFor geometry.now.layout workspace.old }
+    ensures claims { IsFresh geometry.now.layout workspace.old → claims_of workspace.new ≡ no_claims geometry.now.layout }
+    ensures runs { workspace.new.runs_seen ≡ 0 }
+    ensures made { IsFor geometry.now.layout workspace.new }
+    ensures windows { SameWindows workspace.old workspace.new }
+    ensures found { SameFound workspace.old workspace.new }
+{
+    begin(workspace, geometry);
+    workspace.runs_seen = 0;
+    set_reserved(&mut workspace.claimed, geometry);
+}

@@ -1,0 +1,136 @@
+//! What is kept of each inode.
+
+ghost use Rattle.std.specs.Prelude.{◌≡◌, ◌+◌, ◌<◌, ◌*◌, ◌^◌, ◌||◌, min};
+ghost use Rattle.ffs_volume.specs.BlockCheck.{class_lines, count_lines, is_unknown_class};
+ghost use Rattle.ffs_volume.specs.Claims.{next_inode};
+ghost use Rattle.ffs_volume.specs.Inodes.{is_settled};
+ghost use Rattle.ffs_volume.specs.Replay.{cut_of};
+ghost use Rattle.ffs_report.specs.Progress.{progress, kept, Says};
+ghost use Rattle.ffs_workspace.specs.Holds.{claims_of, has_blame};
+ghost use Rattle.ffs_workspace.specs.Kinds.{kind_of};
+ghost use Rattle.ffs_workspace.specs.Lengths.{IsFor};
+ghost use Rattle.ffs_claims.specs.Leaves.{SameWindows, SameFound, Stored};
+ghost use Rattle.ffs_claims.specs.Lines.{of_lines, counted_owner};
+
+use crate::offer::is_open;
+use ffs_layout::Geometry;
+use ffs_report::{Line, OutFault, Output, Report};
+use ffs_volume::{BlockMessage, Class, Inode};
+use ffs_workspace::Workspace;
+
+/// The next inode is in hand.
+pub fn begin(workspace: &mut Workspace, geometry: &Geometry)
+    requires made { IsFor geometry.now.layout workspace.old }
+    ensures claims { claims_of workspace.new ≡ next_inode (claims_of workspace.old) }
+    ensures made { IsFor geometry.now.layout workspace.new }
+    ensures windows { SameWindows workspace.old workspace.new }
+    ensures found { SameFound workspace.old workspace.new }
+{
+    workspace.bad = 0;
+    workspace.dups = 0;
+    workspace.kept = 0;
+    workspace.tail = false;
+}
+
+/// What is told of an inode by its class.
+pub fn say_class<W: Output>(
+    report: &mut Report<'_, W>,
+    number: u32,
+    class: Class,
+) -> Result<(), OutFault>
+    ensures same { kept W.lent report.new ≡ kept W.lent report.old }
+    ensures said { Says (progress W.sink report.old) (progress W.sink report.new) (of_lines (class_lines number class)) result }
+{
+    match class {
+        Class::Partial => report.say(&Line::Block(BlockMessage::PartAlloc { inode: number })),
+        Class::Unknown => report.say(&Line::Block(BlockMessage::UnknownType { inode: number })),
+        Class::Free | Class::File | Class::Dir => Ok(()),
+    }
+}
+
+fn is_settled(class: Class) -> bool
+    ensures { result ≡ is_settled class }
+{
+    match class {
+        Class::File | Class::Dir => true,
+        Class::Free | Class::Partial | Class::Unknown => false,
+    }
+}
+
+/// Tells where an inode's count of sectors is wrong.
+pub fn say_count<W: Output>(
+    workspace: &Workspace,
+    geometry: &Geometry,
+    number: u32,
+    class: Class,
+    found: u32,
+    report: &mut Report<'_, W>,
+) -> Result<(), OutFault>
+    requires { workspace.now.kept < 2 ^ 40 }
+    ensures same { kept W.lent report.new ≡ kept W.lent report.old }
+    ensures said { Says (progress W.sink report.old) (progress W.sink report.new)
+        (of_lines (count_lines geometry.now.layout (counted_owner number class found) (claims_of workspace.now))) result }
+{
+    let right = workspace.kept * u64::from(geometry.layout.fsize / 512);
+    if is_settled(class) && is_open(workspace) && u64::from(found) != right {
+        return report.say(&Line::Block(BlockMessage::BlockCount {
+            inode: number,
+            found,
+            right,
+        }));
+    }
+    Ok(())
+}
+
+fn kind_of(class: Class, inode: &Inode) -> u8
+    ensures { result ≡ kind_of class inode.now }
+{
+    match class {
+        Class::Free | Class::Partial => 0,
+        Class::Unknown => 15,
+        Class::Dir => if inode.size == 0 { 5 } else { 4 },
+        Class::File => (inode.mode / 4096) as u8,
+    }
+}
+
+fn is_marked(workspace: &Workspace, class: Class) -> bool
+    ensures { result ≡ (is_unknown_class class || has_blame (claims_of workspace.now)) }
+{
+    match class {
+        Class::Unknown => true,
+        Class::Free | Class::Partial | Class::File | Class::Dir => workspace.bad != 0
+            || workspace.dups != 0,
+    }
+}
+
+fn cut_of(workspace: &Workspace) -> u32
+    ensures { result ≡ min (cut_of (claims_of workspace.now)) 4294967295 }
+{
+    if workspace.dups < 11 {
+        return 0;
+    }
+    workspace.kept.min(4294967295) as u32
+}
+
+/// Keeps what later phases want of the inode in hand.
+pub fn store(
+    workspace: &mut Workspace,
+    geometry: &Geometry,
+    number: u32,
+    class: Class,
+    inode: &Inode,
+)
+    requires made { IsFor geometry.now.layout workspace.old }
+    requires number { number < geometry.now.layout.ncg * geometry.now.layout.ipg }
+    ensures claims { claims_of workspace.new ≡ claims_of workspace.old }
+    ensures stored { Stored number class inode.now workspace.old workspace.new }
+    ensures made { IsFor geometry.now.layout workspace.new }
+    ensures windows { SameWindows workspace.old workspace.new }
+{
+    let kind = kind_of(class, inode);
+    let marked = is_marked(workspace, class);
+    let cut = cut_of(workspace);
+    workspace.kinds[number as usize] = kind;
+    workspace.marked[number as usize] = marked;
+    workspace.cut[number as usize] = cut;
+}
