@@ -3,3 +3,4 @@ pub mod Seen
 pub mod Advances
 pub mod Pieces
 pub mod Begins
+pub mod Entered

@@ -2,3 +2,4 @@ pub mod Keepings
 pub mod Fits
 pub mod Hands
 pub mod Readings
+pub mod Entering

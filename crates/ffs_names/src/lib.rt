@@ -3,9 +3,11 @@
 #![tactic(auto)]
 
 pub mod chunks;
+pub mod entries;
 pub mod hand;
 pub mod keeping;
 pub mod role;
 
 pub use chunks::Chunks;
+pub use entries::Entries;
 pub use role::role_of;

@@ -1,0 +1,176 @@
+//! The entries of a directory.
+
+ghost use Rattle.std.specs.Prelude.{◌≡◌, ◌+◌, ◌*◌, ◌<◌, ◌≤◌, ◌^◌, ◌∷◌, ◌++◌, ℕ, List, [], true, false, vec_len, length, IfOk, OnOk, IfErr, IfSome, IsSome, is_some, MatchOption};
+ghost use Rattle.std.specs.List.{flat_map};
+ghost use Rattle.ffs_image.specs.Device.{Faulted, WhereTold};
+ghost use Rattle.ffs_volume.specs.Areas.{is_in_range};
+ghost use Rattle.ffs_volume.specs.Steps.{steps_of};
+ghost use Rattle.ffs_volume.specs.Directory.{Chunk, chunks_of, entry_at as entry_in, size_taken};
+ghost use Rattle.ffs_volume.specs.Roles.{chunk_seen};
+ghost use Rattle.ffs_volume.specs.Replay.{fresh_replay, replayed_steps};
+ghost use Rattle.ffs_walk.specs.Windows.{BlocksHold, HasRoom, WindowHolds};
+ghost use Rattle.ffs_names.specs.Hands.{reading_by};
+ghost use Rattle.ffs_names.specs.Readings.{rest};
+
+use crate::chunks::Chunks;
+use crate::role::role_of;
+use ffs_image::{Image, ImageFault};
+use ffs_layout::{Geometry, entry_at};
+use ffs_survey::Named;
+use ffs_volume::{Inode, Order};
+use ffs_walk::{Blocks, Window};
+
+/// A reading of the entries of a directory (dir(5)), chunk after chunk.
+#[derive(Drop)]
+pub struct Entries {
+    pub order: Order,
+    pub chunks: Chunks,
+    /// The chunk in hand.
+    pub chunk: [u8; 512],
+    /// Where the next entry of the chunk would stand, and how many stand before it.
+    pub place: usize,
+    pub index: usize,
+    /// Whether the chunk stands at the start of the file.
+    pub first: bool,
+    /// Where the name of the last entry stands in the chunk.
+    pub name_place: usize,
+    pub name_len: usize,
+    ghost in_chunk: { place ≤ 512 },
+    ghost counted: { index ≤ place },
+    ghost name_in_chunk: { name_place + name_len ≤ 512 },
+    ghost same_order: { order ≡ chunks.walk.geometry.layout.order },
+}
+
+impl Entries {
+    ghost use Rattle.ffs_survey.specs.Reading.{seen_of};
+    ghost use Rattle.ffs_names.specs.Entering.{to_come, left, last_name};
+
+    /// A reading of the directory with this inode, of which no offer is kept behind the cut (0 for none).
+    pub fn start(geometry: &Geometry, inode: &Inode, cut: u32) -> Entries
+        ensures entries { (b : List ℕ) → inode.now.size < 2 ^ 31 → to_come b result ≡ flat_map chunk_seen (chunks_of (reading_by geometry.now.layout b (size_taken inode.now.size)) (is_in_range geometry.now.layout) (replayed_steps geometry.now.layout cut fresh_replay (steps_of geometry.now.layout inode.now b))) }
+        ensures left { left result ≤ 2 ^ 28 }
+        ensures geometry { result.chunks.walk.geometry ≡ geometry.now }
+    {
+        let chunks = Chunks::start(geometry, inode, cut);
+        Entries {
+            order: chunks.walk.geometry.layout.order,
+            chunks,
+            chunk: [0; 512],
+            place: 512,
+            index: 0,
+            first: false,
+            name_place: 0,
+            name_len: 0,
+        }
+    }
+
+    /// Whether an entry stands at `place`.
+    fn is_left(&self) -> bool
+        ensures { result ≡ is_some (entry_in self.now.order self.now.chunk self.now.place) }
+    {
+        entry_at(self.order, &self.chunk, self.place).is_some()
+    }
+
+    /// Goes on to a chunk with an entry at `place`, if this one has none. The answer tells whether there is one.
+    fn advance<I: Image>(
+        &mut self,
+        image: &mut I,
+        blocks: &mut Blocks,
+        data: &mut Window,
+    ) -> Result<bool, ImageFault>
+        requires volume { self.old.chunks.walk.geometry.layout.size * self.old.chunks.walk.geometry.layout.fsize ≤ (I.device image.old).size }
+        requires room { HasRoom self.old.chunks.walk.geometry.layout blocks.old }
+        requires holds { BlocksHold self.old.chunks.walk.geometry.layout (I.device image.old).told blocks.old }
+        requires data_room { self.old.chunks.walk.geometry.layout.bsize ≤ vec_len data.old.buffer }
+        requires data_holds { WindowHolds (I.device image.old).told data.old }
+        ensures entries { OnOk result (WhereTold (I.device image.old).told (λ b. to_come b self.new ≡ to_come b self.old)) }
+        ensures some { IfOk result (λ found. found ≡ true → IsSome (entry_in self.new.order self.new.chunk self.new.place)) }
+        ensures none { IfOk result (λ found. found ≡ false → WhereTold (I.device image.old).told (λ b. to_come b self.old ≡ [])) }
+        ensures left { left self.new ≤ left self.old }
+        ensures geometry { self.new.chunks.walk.geometry ≡ self.old.chunks.walk.geometry }
+        ensures size { vec_len blocks.new.buffer ≡ vec_len blocks.old.buffer }
+        ensures holds { BlocksHold self.old.chunks.walk.geometry.layout (I.device image.new).told blocks.new }
+        ensures data_size { vec_len data.new.buffer ≡ vec_len data.old.buffer }
+        ensures data_holds { WindowHolds (I.device image.new).told data.new }
+        ensures ok { OnOk result (I.device image.new ≡ I.device image.old) }
+        ensures err { IfErr result (λ fault. Faulted (I.device image.old) (I.device image.new) fault.sector) }
+    {
+        'chunks: loop {
+            if self.is_left() {
+                return Ok(true);
+            }
+            self.place = 512;
+            match self.chunks.next(image, blocks, data, &mut self.chunk)? {
+                None => return Ok(false),
+                Some(offset) => {
+                    self.first = offset == 0;
+                    self.index = 0;
+                    self.place = 0;
+                }
+            }
+        }
+    }
+
+    /// Takes the entry at `place`.
+    fn take(&mut self) -> Named
+        requires { IsSome (entry_in self.old.order self.old.chunk self.old.place) }
+        ensures entries { (b : List ℕ) → to_come b self.old ≡ seen_of result (last_name self.new) ∷ to_come b self.new }
+        ensures left { left self.new < left self.old }
+        ensures geometry { self.new.chunks.walk.geometry ≡ self.old.chunks.walk.geometry }
+    {
+        let entry = entry_at(self.order, &self.chunk, self.place).unwrap();
+        let role = role_of(self.first, self.index, &entry);
+        let named = Named {
+            role,
+            number: entry.number,
+            length: entry.length,
+            kind: entry.kind,
+        };
+        self.name_len = 0;
+        self.name_place = self.place + 8;
+        self.name_len = entry.name.len();
+        self.place += entry.length as usize;
+        self.index += 1;
+        named
+    }
+
+    /// The next entry, if there is one. `name` is its name.
+    ///
+    /// # Errors
+    /// A read of the image that failed.
+    pub fn next<I: Image>(
+        &mut self,
+        image: &mut I,
+        blocks: &mut Blocks,
+        data: &mut Window,
+    ) -> Result<Option<Named>, ImageFault>
+        requires volume { self.old.chunks.walk.geometry.layout.size * self.old.chunks.walk.geometry.layout.fsize ≤ (I.device image.old).size }
+        requires room { HasRoom self.old.chunks.walk.geometry.layout blocks.old }
+        requires holds { BlocksHold self.old.chunks.walk.geometry.layout (I.device image.old).told blocks.old }
+        requires data_room { self.old.chunks.walk.geometry.layout.bsize ≤ vec_len data.old.buffer }
+        requires data_holds { WindowHolds (I.device image.old).told data.old }
+        ensures entries { IfOk result (λ o. WhereTold (I.device image.old).told (λ b. MatchOption o (to_come b self.old ≡ [])
+            (λ named. to_come b self.old ≡ seen_of named (last_name self.new) ∷ to_come b self.new))) }
+        ensures left { IfOk result (λ o. IfSome o (λ _. left self.new < left self.old)) }
+        ensures geometry { self.new.chunks.walk.geometry ≡ self.old.chunks.walk.geometry }
+        ensures size { vec_len blocks.new.buffer ≡ vec_len blocks.old.buffer }
+        ensures holds { BlocksHold self.old.chunks.walk.geometry.layout (I.device image.new).told blocks.new }
+        ensures data_size { vec_len data.new.buffer ≡ vec_len data.old.buffer }
+        ensures data_holds { WindowHolds (I.device image.new).told data.new }
+        ensures ok { OnOk result (I.device image.new ≡ I.device image.old) }
+        ensures err { IfErr result (λ fault. Faulted (I.device image.old) (I.device image.new) fault.sector) }
+    {
+        if self.advance(image, blocks, data)? {
+            Ok(Some(self.take()))
+        } else {
+            Ok(None)
+        }
+    }
+
+    /// The name of the last entry.
+    pub fn name(&self) -> &[u8]
+        ensures { result.now ≡ last_name self.now }
+    {
+        &self.chunk[self.name_place..][..self.name_len]
+    }
+}
