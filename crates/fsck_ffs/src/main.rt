@@ -4,6 +4,8 @@
 pub mod args;
 pub mod opening;
 pub mod run;
+#[cfg(test)]
+mod tests;
 mod words;
 
 use run::run;
