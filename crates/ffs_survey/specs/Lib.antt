@@ -3,3 +3,4 @@ pub mod Reading
 pub mod Discover
 pub mod Cycles
 pub mod SurveyLaws
+pub mod ParentLaws

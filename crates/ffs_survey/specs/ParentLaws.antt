@@ -1,0 +1,39 @@
+-- The parent of a reached directory is one level nearer to inode 2.
+use Rattle.std.specs.Prelude.{◌≡◌, ◌≢◌, ℕ, suc, ◌<◌, ◌==◌, Bool, true, false, ◌&&◌, Option, Some, None, refl, if◌then◌else◌}
+use Rattle.std.proofs.Common.{arith, sym, ◌∙◌, ap, subst, inl, inr, ◌⊎◌}
+use Rattle.std.proofs.lemmas.Bool.{both_ways, and_parts, and_from, ne_eqb, cond-false, eq-eqb, eqb-true}
+use Rattle.ffs_volume.specs.Search.{first_below, first_below-some, first_below-none, IsFirst}
+use Rattle.ffs_volume.specs.Climb.{is_value, is_value-true, is_value-from}
+use Rattle.ffs_volume.specs.Graph.{Graph, IsSane, level, level_edge, edge, parent, parent_by}
+use Rattle.ffs_volume.specs.Levels.{level-some, level-is, level-before, within-zero}
+
+-- the parent of a directory of level k + 1 is the least one of level k with an edge to it
+pub record IsAbove (g : Graph) (k d s : ℕ) : Type 0 where
+  pub is : parent g d ≡ Some s
+  pub below : s < g.count
+  pub near : level g s ≡ Some k
+  pub linked : edge g s d ≡ true
+
+pub parent_above : (g : Graph) (k d : ℕ) → level g d ≡ Some (suc k) → (s : ℕ) × IsAbove g k d s
+unfolding parent
+parent_above g k d h = go (first_below (level_edge g k d) g.count) refl
+  where
+    not_root : d ≢ 2
+    not_root = λ e. let l = level-some g (suc k) d h in both_ways _ (l.0.least 0 (omega arith)) (within-zero g d ∙ eq-eqb d 2 e)
+
+    is_by : parent g d ≡ first_below (level_edge g k d) g.count
+    is_by = cond-false (d == 2) (Some 2) (parent_by g d (level g d)) (ne_eqb d 2 not_root) ∙ ap (parent_by g d) h
+
+    go : (o : Option ℕ) → first_below (level_edge g k d) g.count ≡ o → (s : ℕ) × IsAbove g k d s
+    go (Some s) e =
+        let f = first_below-some (level_edge g k d) g.count s e in
+        let p = and_parts (is_value (level g s) k) (edge g s d) f.passes in
+        (s, record { is = is_by ∙ e; below = f.below; near = is_value-true (level g s) k p.0; linked = p.1 })
+    go None e =
+        let b = level-before g k d (level-some g (suc k) d h).0 in
+        absurd (both_ways (level_edge g k d b.0) (first_below-none (level_edge g k d) g.count e b.0 b.1)
+        (and_from (is_value (level g b.0) k) (edge g b.0 d) (is_value-from (level g b.0) k (level-is g k b.0 b.1 b.2)) b.3))
+
+-- level 0 is inode 2 alone
+pub root_level : (g : Graph) (d : ℕ) → level g d ≡ Some 0 → d ≡ 2
+root_level g d h = eqb-true d 2 (sym (within-zero g d) ∙ (level-some g 0 d h).0.within_k)
