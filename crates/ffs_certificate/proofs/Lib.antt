@@ -31,3 +31,4 @@ pub mod DirReport
 pub mod ReportExamples
 pub mod SharedReport
 pub mod Rising
+pub mod MessageExamples

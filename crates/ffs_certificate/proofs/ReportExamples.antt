@@ -30,7 +30,7 @@ use Rattle.ffs_volume.specs.Messages.{opening}
 use Rattle.ffs_volume.specs.Opening.{head_lines}
 use Rattle.ffs_volume.specs.Report.{told_of, ends_of}
 use Rattle.ffs_certificate.proofs.ReportLaws.{certified}
-use Rattle.std.specs.Prelude.{[]}
+use Rattle.std.specs.Prelude.{codes}
 use Rattle.ffs_volume.proofs.OpeningExamples.{superblock_examples}
 use Rattle.ffs_certificate.proofs.BaseReport.{base_lines, base_big_lines}
 use Rattle.ffs_certificate.proofs.SharedReport.{shared_lines}
@@ -45,8 +45,8 @@ report_examples =
     let right_big = (certified (base_image Big) None (base_superblock Big) accepted_big) in
     let silent = right.silent.0 (ap has_defect base_lines) in
     record {
-      base = ap (λ r. head_lines (116 ∷ []) None ++ told_of (base_image Little) r) accepted ∙ ap (λ ls. opening (116 ∷ []) ∷ ls) base_lines;
-      base_big = ap (λ r. head_lines (116 ∷ []) None ++ told_of (base_image Big) r) accepted_big ∙ ap (λ ls. opening (116 ∷ []) ∷ ls) base_big_lines;
+      base = ap (λ r. head_lines (codes "t.img") None ++ told_of (base_image Little) r) accepted ∙ ap (λ ls. opening (codes "t.img") ∷ ls) base_lines;
+      base_big = ap (λ r. head_lines (codes "t.img") None ++ told_of (base_image Big) r) accepted_big ∙ ap (λ ls. opening (codes "t.img") ∷ ls) base_big_lines;
       base_end = ap (ends_of (base_image Little)) accepted ∙ right.end_is.1 silent;
       base_right = silent;
       base_big_right = right_big.silent.0 (ap has_defect base_big_lines);

@@ -5,3 +5,4 @@ pub mod Bounded
 pub mod Conditions
 pub mod ReportExamples
 pub mod BlocksRise
+pub mod MessageExamples

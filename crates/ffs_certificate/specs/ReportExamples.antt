@@ -1,5 +1,5 @@
 -- Whole reports of small images.
-use Rattle.std.specs.Prelude.{◌≡◌, ℕ, List, [], ◌∷◌, ◌++◌, pos, None, replicate}
+use Rattle.std.specs.Prelude.{codes, ◌≡◌, ℕ, List, [], ◌∷◌, ◌++◌, pos, None, replicate}
 use Rattle.ffs_volume.specs.declared.Order.{Order}
 use Rattle.ffs_volume.specs.declared.Order.TheVariants.{Little, Big}
 use Rattle.ffs_volume.specs.declared.Attr.{Attr}
@@ -70,9 +70,9 @@ abbrev pub clean_lines : List Message
 clean_lines = mounted mount_bytes ∷ phase1 ∷ phase2 ∷ phase3 ∷ phase4 ∷ phase5 ∷ summary 1 1 (pos 94) (pos 6) (pos 22) (pos 63) ∷ []
 
 pub record ReportExamples : Type 0 where
-  -- the base image, called `t`, in both orders: its report and its end, and so it is consistent
-  pub base : report_of (base_image Little) (116 ∷ []) None ≡ opening (116 ∷ []) ∷ clean_lines
-  pub base_big : report_of (base_image Big) (116 ∷ []) None ≡ opening (116 ∷ []) ∷ clean_lines
+  -- the base image, called t.img, in both orders: its report and its end, and so it is consistent
+  pub base : report_of (base_image Little) (codes "t.img") None ≡ opening (codes "t.img") ∷ clean_lines
+  pub base_big : report_of (base_image Big) (codes "t.img") None ≡ opening (codes "t.img") ∷ clean_lines
   pub base_end : report_end (base_image Little) None ≡ Consistent
   pub base_right : IsConsistent (base_image Little) (base_superblock Little)
   pub base_big_right : IsConsistent (base_image Big) (base_superblock Big)

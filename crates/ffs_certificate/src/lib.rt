@@ -6,6 +6,7 @@ ghost use Rattle.ffs_certificate.specs.Bounded.{ClaimsAreBounded};
 ghost use Rattle.ffs_certificate.specs.Certificate.{BlocksAndGroups, KeepingByRule};
 ghost use Rattle.ffs_certificate.specs.Conditions.{ConditionsAreTold};
 ghost use Rattle.ffs_certificate.specs.DirsCertificate.{SilentIsRight};
+ghost use Rattle.ffs_certificate.specs.MessageExamples.{MessageExamples};
 ghost use Rattle.ffs_certificate.specs.ReportExamples.{ReportExamples};
 ghost use Rattle.ffs_certificate.specs.ReportRight.{ReportIsRight, StopIsTold};
 
@@ -45,9 +46,11 @@ pub fn conditions_are_told()
     ensures { ConditionsAreTold }
 {}
 
-/// Whole reports of small images: the base image in both orders, which is so consistent, and images with a defect.
+/// Whole reports of small images: the base image in both orders, which is so consistent, and images with a defect;
+/// and the bytes of messages.
 pub fn examples_hold()
-    ensures { ReportExamples }
+    ensures reports { ReportExamples }
+    ensures messages { MessageExamples }
 {}
 
 /// The Runs of an inode hold each logical block once at most, in order, and none past its size.

@@ -1,5 +1,9 @@
+use Rattle.ffs_certificate.proofs.MessageExamples.{message_examples}
 use Rattle.ffs_certificate.proofs.ReportExamples.{report_examples}
 use Rattle.ffs_certificate.proofs.examples_hold.Goals as goal
 
-pub returns : goal.returns
-returns c = report_examples
+pub returns-clause-reports : goal.returns-clause-reports
+returns-clause-reports c = report_examples
+
+pub returns-clause-messages : goal.returns-clause-messages
+returns-clause-messages c = message_examples
