@@ -24,6 +24,8 @@ pub trait Directories {
 
     ghost device: { Self → Device };
 
+    ghost ready: { Self → Type 0 };
+
     ghost rest: { Self → List ℕ → List Seen };
 
     ghost left: { Self → ℕ };
@@ -35,6 +37,8 @@ pub trait Directories {
     /// # Errors
     /// A read of the image that failed.
     fn start(&mut self, dir: u32) -> Result<(), ImageFault>
+        requires ready { ready self.old }
+        ensures ready { ready self.new }
         ensures rest { OnOk result ((b : List ℕ) → knows (base self.old) b → rest self.new b ≡ entries (base self.old) b dir) }
         ensures left { OnOk result (left self.new ≤ 2 ^ 28) }
         ensures base { base self.new ≡ base self.old }
@@ -46,6 +50,8 @@ pub trait Directories {
     /// # Errors
     /// A read of the image that failed.
     fn next(&mut self) -> Result<Option<Named>, ImageFault>
+        requires ready { ready self.old }
+        ensures ready { ready self.new }
         ensures rest { IfOk result (λ o. (b : List ℕ) → knows (base self.old) b → MatchOption o (rest self.old b ≡ []) (λ e. rest self.old b ≡ seen_of e (name self.new) ∷ rest self.new b)) }
         ensures left { IfOk result (λ o. IfSome o (λ e. left self.new < left self.old)) }
         ensures base { base self.new ≡ base self.old }

@@ -88,6 +88,7 @@ fn read_reached<D: Directories>(
     queue: &mut [u32],
     top: usize,
 ) -> Result<usize, ImageFault>
+    requires ready { D.ready directories.old }
     requires references { length references.old ≡ length kinds.now }
     requires named { length named.old ≡ length kinds.now }
     requires reached { length reached.old ≡ length kinds.now }
@@ -98,6 +99,7 @@ fn read_reached<D: Directories>(
     ensures top { IfOk result (λ n. n + unset reached.new ≡ top + unset reached.old) }
     ensures comes { IfOk result (λ n. (b : List ℕ) → D.knows (D.base directories.old) b → Comes (from_entries kinds.now from (D.entries (D.base directories.old) b from)) reached.old parents.old (take top queue.old) nothing reached.new parents.new (take n queue.new)) }
     ensures counts { OnOk result ((b : List ℕ) → D.knows (D.base directories.old) b → Counts (length kinds.now) (count_in (D.entries (D.base directories.old) b from)) (any_in (D.entries (D.base directories.old) b from)) references.old named.old none never references.new named.new) }
+    ensures ready { D.ready directories.new }
     ensures base { D.base directories.new ≡ D.base directories.old }
     ensures device { OnOk result (D.device directories.new ≡ D.device directories.old) }
     ensures fault { IfErr result (λ fault. Faulted (D.device directories.old) (D.device directories.new) fault.sector) }
@@ -123,6 +125,7 @@ pub fn read_level<D: Directories>(
     parents: &mut [u32],
     queue: &mut [u32],
 ) -> Result<usize, ImageFault>
+    requires ready { D.ready directories.old }
     requires references { length references.old ≡ length kinds.now }
     requires named { length named.old ≡ length kinds.now }
     requires reached { length reached.old ≡ length kinds.now }
@@ -135,6 +138,7 @@ pub fn read_level<D: Directories>(
     ensures top { IfOk result (λ n. n + unset reached.new ≡ unset reached.old) }
     ensures comes { IfOk result (λ n. (b : List ℕ) → D.knows (D.base directories.old) b → Comes (from_dirs (graph_with kinds.now (D.entries (D.base directories.old) b)) front.now) reached.old parents.old [] nothing reached.new parents.new (take n queue.new)) }
     ensures counts { OnOk result ((b : List ℕ) → D.knows (D.base directories.old) b → Counts (length kinds.now) (count_of (graph_with kinds.now (D.entries (D.base directories.old) b)) front.now) (any_of (graph_with kinds.now (D.entries (D.base directories.old) b)) front.now) references.old named.old none never references.new named.new) }
+    ensures ready { D.ready directories.new }
     ensures base { D.base directories.new ≡ D.base directories.old }
     ensures device { OnOk result (D.device directories.new ≡ D.device directories.old) }
     ensures fault { IfErr result (λ fault. Faulted (D.device directories.old) (D.device directories.new) fault.sector) }
@@ -182,6 +186,7 @@ pub fn read_unreached<D: Directories>(
     reached: &[bool],
     parents: &mut [u32],
 ) -> Result<(), ImageFault>
+    requires ready { D.ready directories.old }
     requires references { length references.old ≡ length kinds.now }
     requires named { length named.old ≡ length kinds.now }
     requires reached { length reached.now ≡ length kinds.now }
@@ -191,6 +196,7 @@ pub fn read_unreached<D: Directories>(
     ensures grown { OnOk result ((x : ℕ) → x < length kinds.now → number_at references.new x ≤ number_at references.old x + 2 ^ 28) }
     ensures counts { OnOk result ((b : List ℕ) → D.knows (D.base directories.old) b → Counts (length kinds.now) (count_in (D.entries (D.base directories.old) b from)) (any_in (D.entries (D.base directories.old) b from)) references.old named.old none never references.new named.new) }
     ensures parents { OnOk result ((b : List ℕ) → D.knows (D.base directories.old) b → (x : ℕ) → x < length kinds.now → number_at parents.new x ≡ cond ((number_at parents.old x == 0) && (is_free_at kinds.now reached.now x && any_in (D.entries (D.base directories.old) b from) x)) from (number_at parents.old x)) }
+    ensures ready { D.ready directories.new }
     ensures base { D.base directories.new ≡ D.base directories.old }
     ensures device { OnOk result (D.device directories.new ≡ D.device directories.old) }
     ensures fault { IfErr result (λ fault. Faulted (D.device directories.old) (D.device directories.new) fault.sector) }

@@ -25,6 +25,7 @@ fn next_level<D: Directories>(
     high: usize,
     depth: u32,
 ) -> Result<usize, ImageFault>
+    requires ready { D.ready directories.old }
     requires some { 2 < length kinds.now }
     requires few { length kinds.now < 2 ^ 31 }
     requires root { dir_at kinds.now 2 ≡ true }
@@ -45,6 +46,7 @@ fn next_level<D: Directories>(
     ensures front { IfOk result (λ n. (b : List ℕ) → D.knows (D.base directories.old) b → IsFront (graph_with kinds.now (D.entries (D.base directories.old) b)) (depth + 1) (drop high (take n queue.new))) }
     ensures levels { IfOk result (λ n. (b : List ℕ) → D.knows (D.base directories.old) b → Knows (graph_with kinds.now (D.entries (D.base directories.old) b)) (depth + 1) reached.new parents.new (take n queue.new)) }
     ensures counts { OnOk result ((b : List ℕ) → D.knows (D.base directories.old) b → Counts (length kinds.now) (count_of (graph_with kinds.now (D.entries (D.base directories.old) b)) (drop low (take high queue.old))) (any_of (graph_with kinds.now (D.entries (D.base directories.old) b)) (drop low (take high queue.old))) references.old named.old none never references.new named.new) }
+    ensures ready { D.ready directories.new }
     ensures base { D.base directories.new ≡ D.base directories.old }
     ensures device { OnOk result (D.device directories.new ≡ D.device directories.old) }
     ensures fault { IfErr result (λ fault. Faulted (D.device directories.old) (D.device directories.new) fault.sector) }
@@ -74,6 +76,7 @@ fn survey_reached<D: Directories>(
     parents: &mut [u32],
     queue: &mut [u32],
 ) -> Result<(), ImageFault>
+    requires ready { D.ready directories.old }
     requires some { 2 < length kinds.now }
     requires few { length kinds.now < 2 ^ 31 }
     requires references { length references.old ≡ length kinds.now }
@@ -87,6 +90,7 @@ fn survey_reached<D: Directories>(
     requires no_parents { (x : ℕ) → number_at parents.old x ≡ 0 }
     ensures counted { OnOk result ((x : ℕ) → x < length kinds.now → number_at references.new x ≤ 2 ^ 59) }
     ensures part { OnOk result ((b : List ℕ) → D.knows (D.base directories.old) b → IsReachedPart (graph_with kinds.now (D.entries (D.base directories.old) b)) references.new named.new reached.new parents.new) }
+    ensures ready { D.ready directories.new }
     ensures base { D.base directories.new ≡ D.base directories.old }
     ensures device { OnOk result (D.device directories.new ≡ D.device directories.old) }
     ensures fault { IfErr result (λ fault. Faulted (D.device directories.old) (D.device directories.new) fault.sector) }
@@ -129,6 +133,7 @@ fn survey_unreached<D: Directories>(
     reached: &[bool],
     parents: &mut [u32],
 ) -> Result<(), ImageFault>
+    requires ready { D.ready directories.old }
     requires few { length kinds.now < 2 ^ 31 }
     requires references { length references.old ≡ length kinds.now }
     requires named { length named.old ≡ length kinds.now }
@@ -136,6 +141,7 @@ fn survey_unreached<D: Directories>(
     requires parents { length parents.old ≡ length kinds.now }
     requires counted { (x : ℕ) → x < length kinds.now → number_at references.old x ≤ 2 ^ 59 }
     ensures read { OnOk result ((b : List ℕ) → D.knows (D.base directories.old) b → IsBlank kinds.now reached.now parents.old → IsRead (graph_with kinds.now (D.entries (D.base directories.old) b)) kinds.now reached.now (length kinds.now) references.old named.old parents.old references.new named.new parents.new) }
+    ensures ready { D.ready directories.new }
     ensures base { D.base directories.new ≡ D.base directories.old }
     ensures device { OnOk result (D.device directories.new ≡ D.device directories.old) }
     ensures fault { IfErr result (λ fault. Faulted (D.device directories.old) (D.device directories.new) fault.sector) }
@@ -163,6 +169,7 @@ pub fn survey<D: Directories>(
     parents: &mut [u32],
     queue: &mut [u32],
 ) -> Result<(), ImageFault>
+    requires ready { D.ready directories.old }
     requires some { 2 < length kinds.now }
     requires few { length kinds.now < 2 ^ 31 }
     requires references { length references.old ≡ length kinds.now }
@@ -171,6 +178,7 @@ pub fn survey<D: Directories>(
     requires parents { length parents.old ≡ length kinds.now }
     requires queue { length queue.old ≡ length kinds.now }
     ensures survey { OnOk result ((b : List ℕ) → D.knows (D.base directories.old) b → IsSurvey (graph_with kinds.now (D.entries (D.base directories.old) b)) references.new named.new reached.new parents.new) }
+    ensures ready { D.ready directories.new }
     ensures base { D.base directories.new ≡ D.base directories.old }
     ensures device { OnOk result (D.device directories.new ≡ D.device directories.old) }
     ensures fault { IfErr result (λ fault. Faulted (D.device directories.old) (D.device directories.new) fault.sector) }

@@ -28,6 +28,8 @@ impl Directories for Listed {
 
     ghost device = { λ _. record { told = None; size = 0; failures = 0; failed = 0 } };
 
+    ghost ready = { λ _. Unit {0} };
+
     ghost rest = { λ _ _. [] };
 
     ghost left = { λ listed. 4 - listed.place };

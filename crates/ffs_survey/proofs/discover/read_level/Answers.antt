@@ -10,6 +10,7 @@ loop-s-preserved g c =
     let comes = rw inv.base at done.comes in
     let counts = rw inv.base at done.counts in
     record {
+      ready = search rules;
       base = search rules;
       device = search rules;
       grown = λ x l. let old = inv.grown x l in let new = done.grown x l in omega (arith, old, new);

@@ -16,6 +16,7 @@ loop-entry-preserved g c =
     let cut = λ (b : List ℕ) (k : g.D.Directories.knows (g.D.Directories.base c.args.directories.now) b).
     let q : g.D.Directories.rest c.loop-entry.directories b ≡ e ∷ g.D.Directories.rest c.next.new.self b = rw c.in-Some.is at (told b k) in q in
     record {
+      ready = search rules;
       base = search rules;
       device = search rules;
       left = let l = inv.left in omega (arith, l, fell);

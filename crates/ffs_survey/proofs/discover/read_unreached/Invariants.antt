@@ -5,6 +5,7 @@ use Rattle.ffs_survey.proofs.discover.read_unreached.Given as goal
 
 abbrev pub invariant-loop-entry : goal.invariant-loop-entry
 invariant-loop-entry g l = record {
+  ready : g.D.Directories.ready l.directories;
   base : g.D.Directories.base l.directories ≡ g.D.Directories.base l.fn.directories;
   device : g.D.Directories.device l.directories ≡ g.D.Directories.device l.fn.directories;
   left : g.D.Directories.left l.directories ≤ 2 ^ 28;

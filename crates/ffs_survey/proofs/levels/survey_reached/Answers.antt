@@ -9,6 +9,7 @@ use Rattle.ffs_survey.proofs.levels.survey_reached.Goals as goal
 
 pub loop-low-init : goal.loop-low-init
 loop-low-init g c = record {
+  ready = search rules;
   base = search rules;
   device = search rules;
   lengths = omega (arith, length-set c.args.reached.now 2 true);
@@ -35,6 +36,7 @@ loop-low-preserved g c =
     let counts = rw inv.base at done.counts in
     let test = c.loop-low-test.true in
     record {
+      ready = search rules;
       base = search rules;
       device = search rules;
       lengths = let l = inv.lengths in omega (arith, l);

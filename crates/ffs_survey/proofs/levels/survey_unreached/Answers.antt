@@ -5,6 +5,7 @@ use Rattle.ffs_survey.proofs.levels.survey_unreached.Goals as goal
 
 pub loop-s-init : goal.loop-s-init
 loop-s-init g c = record {
+  ready = search rules;
   base = search rules;
   device = search rules;
   grown = λ x l. omega arith;
@@ -15,6 +16,7 @@ pub loop-s-preserved-then-not-is_free : goal.loop-s-preserved-then-not-is_free
 loop-s-preserved-then-not-is_free g c =
     let inv = c.loop-s.invariant in
     record {
+      ready = search rules;
       base = inv.base;
       device = inv.device;
       grown = λ x l. let o = inv.grown x l in omega (arith, o);
@@ -28,6 +30,7 @@ loop-s-preserved g c =
     let counts = rw inv.base at done.counts in
     let parents = rw inv.base at done.parents in
     record {
+      ready = search rules;
       base = search rules;
       device = search rules;
       grown = λ x l. let o = inv.grown x l in let n = done.grown x l in omega (arith, o, n);

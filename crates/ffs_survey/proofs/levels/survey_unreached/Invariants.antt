@@ -5,6 +5,7 @@ use Rattle.ffs_survey.proofs.levels.survey_unreached.Given as goal
 
 abbrev pub invariant-loop-s : goal.invariant-loop-s
 invariant-loop-s g l = record {
+  ready : g.D.Directories.ready l.directories;
   base : g.D.Directories.base l.directories ≡ g.D.Directories.base l.fn.directories;
   device : g.D.Directories.device l.directories ≡ g.D.Directories.device l.fn.directories;
   grown : (x : ℕ) → x < length l.kinds → number_at l.references x ≤ number_at l.fn.references x + l.s * 2 ^ 28;
