@@ -32,3 +32,4 @@ pub mod ReportExamples
 pub mod SharedReport
 pub mod Rising
 pub mod MessageExamples
+pub mod KeptExamples

@@ -6,3 +6,4 @@ pub mod Conditions
 pub mod ReportExamples
 pub mod BlocksRise
 pub mod MessageExamples
+pub mod KeptExamples

@@ -6,6 +6,7 @@ ghost use Rattle.ffs_certificate.specs.Bounded.{ClaimsAreBounded};
 ghost use Rattle.ffs_certificate.specs.Certificate.{BlocksAndGroups, KeepingByRule};
 ghost use Rattle.ffs_certificate.specs.Conditions.{ConditionsAreTold};
 ghost use Rattle.ffs_certificate.specs.DirsCertificate.{SilentIsRight};
+ghost use Rattle.ffs_certificate.specs.KeptExamples.{KeptExamples};
 ghost use Rattle.ffs_certificate.specs.MessageExamples.{MessageExamples};
 ghost use Rattle.ffs_certificate.specs.ReportExamples.{ReportExamples};
 ghost use Rattle.ffs_certificate.specs.ReportRight.{ReportIsRight, StopIsTold};
@@ -47,8 +48,9 @@ pub fn conditions_are_told()
 {}
 
 /// Whole reports of small images: the base image in both orders, which is so consistent, and images with a defect;
-/// and the bytes of messages.
+/// the bytes of messages; and the steps that an inode keeps.
 pub fn examples_hold()
+    ensures kept { KeptExamples }
     ensures reports { ReportExamples }
     ensures messages { MessageExamples }
 {}

@@ -1,3 +1,4 @@
+use Rattle.ffs_certificate.proofs.KeptExamples.{kept_examples}
 use Rattle.ffs_certificate.proofs.MessageExamples.{message_examples}
 use Rattle.ffs_certificate.proofs.ReportExamples.{report_examples}
 use Rattle.ffs_certificate.proofs.examples_hold.Goals as goal
@@ -7,3 +8,6 @@ returns-clause-reports c = report_examples
 
 pub returns-clause-messages : goal.returns-clause-messages
 returns-clause-messages c = message_examples
+
+pub returns-clause-kept : goal.returns-clause-kept
+returns-clause-kept c = kept_examples
