@@ -31,7 +31,9 @@ impl Blocks {
         }
     }
 
-    /// Reads the block at an address for a level of indirection, unless it is held there.
+    /// Reads the block at an address, a fragment, for a level of indirection, unless it is held there.
+    ///
+    /// Errors: the read failed. The level holds nothing then.
     #[tactic(auto, using(crate::proofs::Areas::block_fits))]
     pub fn fill<I: Image>(
         &mut self,

@@ -121,7 +121,7 @@ fn is_known_type(kind: u16) -> bool
         || (kind == 2 || (kind == 4 || (kind == 6 || (kind == 8 || (kind == 10 || kind == 12)))))
 }
 
-/// The class of an inode.
+/// The class of an inode, by its mode, its size and its addresses (fs(5)).
 #[tactic(auto, unfolding(ffs_volume::specs::Inodes::class_of))]
 pub fn class_of(geometry: &Geometry, inode: &Inode) -> Class
     ensures { result ≡ inodes.class_of geometry.now.layout inode.now }

@@ -11,15 +11,20 @@ use ffs_image::{Image, ImageFault};
 use ffs_layout::Geometry;
 use ffs_volume::{Inode, Step};
 
-/// A walk over the blocks of an inode.
+/// A walk over the blocks of an inode: where it stands in the inode's own addresses, and in one indirect block of each level.
 #[derive(Clone, Copy, Debug)]
 pub struct Walk {
     pub geometry: Geometry,
+    /// The inode's addresses: twelve direct ones, and a single, a double and a triple indirect one (fs(5)).
     pub addresses: [u32; 15],
+    /// How many logical blocks the walk goes over.
     pub blocks: u64,
+    /// How many fragments the last logical block has, where it is direct.
     pub last: u32,
+    /// The index of the next address, and how many addresses are used.
     pub next: u32,
     pub used: u32,
+    /// The indirect blocks that the walk is in, by their levels.
     pub single: Frame,
     pub double: Frame,
     pub triple: Frame,
@@ -258,7 +263,9 @@ impl Walk {
         self.next = self.used;
     }
 
-    /// The next step. After a read that failed the walk is over.
+    /// The next step, and `None` behind the last one. It reads an indirect block when it comes to the first word in it, whole and once.
+    ///
+    /// Errors: the read of an indirect block failed. The walk is over then.
     pub fn next<I: Image>(
         &mut self,
         image: &mut I,
@@ -291,7 +298,7 @@ impl Walk {
         }
     }
 
-    /// A walk over the blocks of an inode.
+    /// A walk over the blocks of an inode. Only a file or a directory has steps, and no device or short symlink.
     #[tactic(auto, unfolding(ffs_volume::specs::Steps::steps_of))]
     pub fn start(geometry: &Geometry, inode: &Inode) -> Walk
         ensures steps { (bytes : List ℕ) → rest bytes result ≡ steps_of geometry.now.layout inode.now bytes }

@@ -40,7 +40,9 @@ impl Window {
         self.place == place && self.length == length
     }
 
-    /// Reads `length` bytes at a place, in bytes, unless the window holds just these. After an `Err` it holds nothing.
+    /// Reads `length` bytes at a place, in bytes, unless the window holds just these.
+    ///
+    /// Errors: the read failed. The window holds nothing then.
     pub fn fill<I: Image>(
         &mut self,
         image: &mut I,
