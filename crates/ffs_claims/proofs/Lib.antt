@@ -4,3 +4,7 @@ pub mod Goes
 pub mod Inodes
 pub mod Reserved
 pub mod Numbers
+pub mod Marks
+pub mod Cuts
+pub mod Doubles
+pub mod Tellings

@@ -2,3 +2,4 @@ pub mod Moving
 pub mod Rescan
 pub mod Lines
 pub mod Leaves
+pub mod Telling

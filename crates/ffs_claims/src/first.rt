@@ -1,10 +1,10 @@
 //! Phase 1: blocks and sizes (fsck(8)).
 
-ghost use Rattle.std.specs.Prelude.{◌≡◌, ◌+◌, ◌*◌, ◌≤◌, ◌∷◌, OnOk, ℕ, List};
+ghost use Rattle.std.specs.Prelude.{◌≡◌, ◌+◌, ◌*◌, ◌≤◌, ◌∷◌, ◌==◌, not, OnOk, ℕ, List};
 ghost use Rattle.ffs_report.specs.Progress.{progress, kept};
 ghost use Rattle.ffs_phase.specs.Known.{Where, Tells};
 ghost use Rattle.ffs_phase.specs.Runs.{Reads, TellsOf};
-ghost use Rattle.ffs_volume.specs.BlockCheck.{phase1_lines};
+ghost use Rattle.ffs_volume.specs.BlockCheck.{has_rescan, phase1_lines};
 ghost use Rattle.ffs_volume.specs.Memory.{runs_limit};
 ghost use Rattle.ffs_volume.specs.Messages as messages;
 ghost use Rattle.ffs_volume.specs.Owners.{owners_of};
@@ -40,6 +40,8 @@ pub fn phase1<I: Image, W: Output>(
         (progress W.sink report.old) (progress W.sink report.new) result }
     ensures holds { OnOk result (Where (λ bytes. Tells (I.device image.old).told bytes × IsFresh geometry.now.layout workspace.old)
         (λ bytes. HoldsPhase1 geometry.now.layout bytes workspace.new)) }
+    ensures dups { OnOk result (Where (λ bytes. Tells (I.device image.old).told bytes × IsFresh geometry.now.layout workspace.old)
+        (λ bytes. not (workspace.new.untold == 0) ≡ has_rescan geometry.now.layout (owners_of geometry.now.layout bytes))) }
     ensures runs { workspace.new.runs_seen ≤ runs_limit geometry.now.layout }
     ensures made { IsFor geometry.now.layout workspace.new }
     ensures windows { HoldWindows geometry.now.layout (I.device image.new).told workspace.new }

@@ -7,5 +7,6 @@ mod offer;
 mod rescan;
 mod reserve;
 mod store;
+mod tell;
 
 pub use first::phase1;

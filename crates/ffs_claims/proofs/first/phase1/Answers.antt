@@ -13,6 +13,7 @@ use Rattle.ffs_workspace.specs.Holds.{claims_of, first_marked_at}
 use Rattle.ffs_workspace.specs.Kinds.{kind_at}
 use Rattle.ffs_workspace.specs.Lengths.{inodes_of}
 use Rattle.ffs_claims.specs.Lines.{of_lines, owners_from}
+use Rattle.ffs_claims.proofs.Doubles.{dups_are}
 use Rattle.ffs_claims.proofs.Numbers.{before_next, before_first, before_end, lines_next, lines_end, filled_next, filled_end, filled_begin, is_inside, is_outside, kind_out, kind_in, mark_out, mark_in, cut_out, cut_in, first_lines}
 use Rattle.ffs_claims.proofs.first.phase1.Goals as goal
 
@@ -145,3 +146,7 @@ returns-clause-runs g c =
       | inl h ↦ let most : c.loop-number.number ≤ inodes_of c.args.geometry.now.layout = inv.high h in omega (arith, inv.runs, most, used, size)
       | inr h ↦ omega (arith, inv.runs, used, size)
     ]
+
+pub returns-clause-dups : goal.returns-clause-dups
+returns-clause-dups g c = λ bytes k.
+    dups_are c.args.geometry.now.layout bytes c.loop-number.workspace c.loop-number.invariant.made.untold (returns-clause-holds g c bytes k)
