@@ -1,0 +1,106 @@
+-- The lines of groups, by the kinds of inodes in place of their classes.
+use Rattle.std.proofs.Common.{◌≡◌, ℕ, ◌+◌, ◌*◌, Bool, true, false, List, ◌++◌, refl, ap, ◌∙◌, sym, slice_index, count_by, ℤ}
+use Rattle.std.specs.Prelude.{◌&&◌, ◌||◌, ◌==◌, not, nat_le, nat_lt}
+use Rattle.std.specs.List.{flat_map, sum_by}
+use Rattle.std.proofs.Math.Path.{fun_ext}
+use Rattle.std.proofs.lemmas.Bool.{true≢false}
+use Rattle.ffs_volume.specs.declared.Layout.{Layout}
+use Rattle.ffs_volume.specs.declared.Inode.{Inode}
+use Rattle.ffs_volume.specs.declared.Class.{Class}
+use Rattle.ffs_volume.specs.declared.Class.TheVariants.{Free, Partial, Unknown, File, Dir}
+use Rattle.ffs_volume.specs.declared.BlockMessage.{BlockMessage}
+use Rattle.ffs_volume.specs.declared.BlockMessage.TheVariants.{FreeCounts}
+use Rattle.ffs_volume.specs.Numbers.{u32_at, all_below}
+use Rattle.ffs_volume.specs.Areas.{cgbase}
+use Rattle.ffs_volume.specs.Inodes.{is_dir_class, inode_of}
+use Rattle.ffs_volume.specs.Volumes.{class_at}
+use Rattle.ffs_volume.specs.Groups.{Summary, is_used_class, is_used_inode, is_dir, is_whole, block_bits, block_numbers, group_inodes, group_numbers, group_size, right_summary, right_frsum, right_total, has_summary, has_totals, has_bits, inode_map_place, fragment_map_place, is_record, are_maps, are_sums, is_total, summary_record, group_block}
+use Rattle.ffs_volume.specs.GroupCheck.{group_lines, told_once, untold, unless, phase5_lines}
+use Rattle.ffs_workspace.specs.Kinds.{kind_at, kind_of, class_of_kind}
+use Rattle.ffs_workspace.proofs.KindLaws.{class_is}
+use Rattle.ffs_groups.specs.Inodes.{class_in}
+
+abbrev is_part : Class → Bool
+is_part Partial = true
+is_part Free = false
+is_part Unknown = false
+is_part File = false
+is_part Dir = false
+
+of_part : (test : Class → Bool) → test Free ≡ test Partial → (c : Class) (i : Inode) → is_part c ≡ true → test (class_of_kind (kind_of c i)) ≡ test c
+of_part test e Partial i p = e
+of_part test e Free i p = absurd (true≢false (sym p))
+of_part test e Unknown i p = absurd (true≢false (sym p))
+of_part test e File i p = absurd (true≢false (sym p))
+of_part test e Dir i p = absurd (true≢false (sym p))
+
+same_test : (test : Class → Bool) → test Free ≡ test Partial → (v : Layout) (image : List ℕ) (x : ℕ) → test (class_of_kind (kind_at v image x)) ≡ test (class_at v image x)
+unfolding kind_at
+same_test test e v image x = go (is_part (class_at v image x)) refl (λ p. ap test (class_is v image x p))
+  where
+    go : (b : Bool) → is_part (class_at v image x) ≡ b → ((class_at v image x ≡ Partial → ⊥) → test (class_of_kind (kind_of (class_at v image x) (inode_of v image x))) ≡ test (class_at v image x)) →
+        test (class_of_kind (kind_of (class_at v image x) (inode_of v image x))) ≡ test (class_at v image x)
+    go true p other = of_part test e (class_at v image x) (inode_of v image x) p
+    go false p other = other (λ q. true≢false (sym (ap is_part q) ∙ p))
+
+dirs_same : (v : Layout) (image kinds : List ℕ) → ((x : ℕ) → slice_index kinds x ≡ kind_at v image x) → is_dir (class_in kinds) ≡ is_dir (class_at v image)
+dirs_same v image kinds e = fun_ext (λ x. ap (λ k. nat_le 2 x && is_dir_class (class_of_kind k)) (e x) ∙ ap (λ t. nat_le 2 x && t) (same_test is_dir_class refl v image x))
+
+used_same : (v : Layout) (image kinds : List ℕ) → ((x : ℕ) → slice_index kinds x ≡ kind_at v image x) → is_used_inode (class_in kinds) ≡ is_used_inode (class_at v image)
+used_same v image kinds e = fun_ext (λ x. ap (λ k. nat_lt x 2 || is_used_class (class_of_kind k)) (e x) ∙ ap (λ t. nat_lt x 2 || t) (same_test is_used_class refl v image x))
+
+same_right : (v : Layout) (free : ℕ → Bool) (a b : ℕ → Class) → is_dir a ≡ is_dir b → is_used_inode a ≡ is_used_inode b → (c : ℕ) → right_summary v free a c ≡ right_summary v free b c
+unfolding right_summary
+same_right v free a b d u c =
+    ap (λ (p : ℕ → Bool). summary_by v free p (is_used_inode a) c) d ∙ ap (λ (q : ℕ → Bool). summary_by v free (is_dir b) q c) u
+  where
+    summary_by : Layout → (ℕ → Bool) → (ℕ → Bool) → (ℕ → Bool) → ℕ → Summary
+    summary_by v free p q c = record {
+      dirs = count_by p (group_inodes v c);
+      blocks = count_by (λ b. is_whole (block_bits v free c b)) (block_numbers v);
+      inodes = count_by (λ x. not (q x)) (group_inodes v c);
+      fragments = (right_summary v free a c).fragments;
+    }
+
+same_record : (v : Layout) (free : ℕ → Bool) (a b : ℕ → Class) → ((c : ℕ) → right_summary v free a c ≡ right_summary v free b c) → (c : ℕ) (bytes : List ℕ) → is_record v free a c bytes ≡ is_record v free b c bytes
+unfolding is_record
+same_record v free a b s c bytes = ap (λ (x : Summary). has_summary v 0 bytes x) (s c)
+
+same_maps : (v : Layout) (free : ℕ → Bool) (a b : ℕ → Class) → is_used_inode a ≡ is_used_inode b → (c : ℕ) (block : List ℕ) → are_maps v free a c block ≡ are_maps v free b c block
+unfolding are_maps
+same_maps v free a b u c block = ap (λ (q : ℕ → Bool). has_bits block (inode_map_place v block) v.ipg (λ k. q (c * v.ipg + k))
+    && has_bits block (fragment_map_place v block) (group_size v c) (λ k. free (cgbase v c + k))) u
+
+same_sums : (v : Layout) (free : ℕ → Bool) (a b : ℕ → Class) → ((c : ℕ) → right_summary v free a c ≡ right_summary v free b c) → (c : ℕ) (block : List ℕ) → are_sums v free a c block ≡ are_sums v free b c block
+unfolding are_sums
+same_sums v free a b s c block = ap (λ (x : Summary). u32_at v.order 12 block == c && (u32_at v.order 20 block == group_size v c
+    && (has_summary v 24 block x && all_below 8 (λ k. u32_at v.order (52 + 4 * k) block == right_frsum v free c k)))) (s c)
+
+same_group : (v : Layout) (image : List ℕ) (free : ℕ → Bool) (a b : ℕ → Class) → ((c : ℕ) → right_summary v free a c ≡ right_summary v free b c) → is_used_inode a ≡ is_used_inode b →
+    (c : ℕ) → group_lines v image free a c ≡ group_lines v image free b c
+same_group v image free a b s u c = rw (same_record v free a b s c (summary_record v image c), same_maps v free a b u c (group_block v image c), same_sums v free a b s c (group_block v image c)) refl
+
+total_by : Layout → (ℕ → Summary) → Summary
+total_by v right = record {
+  dirs = sum_by (λ c. (right c).dirs) (group_numbers v);
+  blocks = sum_by (λ c. (right c).blocks) (group_numbers v);
+  inodes = sum_by (λ c. (right c).inodes) (group_numbers v);
+  fragments = sum_by (λ c. (right c).fragments) (group_numbers v);
+}
+
+same_total : (v : Layout) (free : ℕ → Bool) (a b : ℕ → Class) (totals : List ℤ) → ((c : ℕ) → right_summary v free a c ≡ right_summary v free b c) → is_total v free a totals ≡ is_total v free b totals
+unfolding is_total right_total total_by
+same_total v free a b totals s = ap (λ (f : ℕ → Summary). has_totals totals (total_by v f)) (fun_ext s)
+
+same_phase5 : (v : Layout) (image : List ℕ) (totals : List ℤ) (free : ℕ → Bool) (a b : ℕ → Class) → is_dir a ≡ is_dir b → is_used_inode a ≡ is_used_inode b →
+    phase5_lines v image totals free a ≡ phase5_lines v image totals free b
+unfolding phase5_lines
+same_phase5 v image totals free a b d u =
+    ap (λ (f : ℕ → List BlockMessage). told_once untold (flat_map f (group_numbers v) ++ unless (is_total v free a totals) FreeCounts))
+    (fun_ext (same_group v image free a b (same_right v free a b d u) u))
+    ∙ ap (λ (t : Bool). told_once untold (flat_map (group_lines v image free b) (group_numbers v) ++ unless t FreeCounts)) (same_total v free a b totals (same_right v free a b d u))
+
+-- the lines of phase 5, by the kinds that a workspace holds
+pub by_kinds : (v : Layout) (image : List ℕ) (totals : List ℤ) (free : ℕ → Bool) (kinds : List ℕ) → ((x : ℕ) → slice_index kinds x ≡ kind_at v image x) →
+    phase5_lines v image totals free (class_in kinds) ≡ phase5_lines v image totals free (class_at v image)
+by_kinds v image totals free kinds e = same_phase5 v image totals free (class_in kinds) (class_at v image) (dirs_same v image kinds e) (used_same v image kinds e)

@@ -1,0 +1,72 @@
+-- The lines of phase 5, group after group.
+use Rattle.std.proofs.Common.{◌≡◌, ℕ, suc, ◌+◌, Bool, List, [], ◌++◌, map, refl, ap, ◌∙◌, sym, append_assoc, append-nil, arith, slice_index, ℤ}
+use Rattle.std.specs.List.{range_with_len, flat_map, sum_by}
+use Rattle.ffs_volume.specs.declared.Layout.{Layout}
+use Rattle.ffs_volume.specs.declared.Class.{Class}
+use Rattle.ffs_volume.specs.declared.BlockMessage.{BlockMessage}
+use Rattle.ffs_volume.specs.declared.BlockMessage.TheVariants.{FreeCounts}
+use Rattle.ffs_volume.specs.Messages.{Message, of_blocks}
+use Rattle.ffs_volume.specs.Volumes.{class_at}
+use Rattle.ffs_volume.specs.Owners.{owners_of}
+use Rattle.ffs_volume.specs.Claims.{no_claims, after_owners}
+use Rattle.ffs_volume.specs.Groups.{right_summary, right_total, is_total, has_totals}
+use Rattle.ffs_volume.specs.GroupCheck.{Told, group_lines, told_once, untold, unless, phase5_lines, is_free_of_kept}
+use Rattle.ffs_groups.specs.Free.{free_in}
+use Rattle.ffs_groups.specs.Inodes.{class_in}
+use Rattle.ffs_groups.proofs.Sums.{sum_more}
+use Rattle.ffs_workspace.specs.Kinds.{kind_at}
+use Rattle.ffs_counts.specs.declared.totals.Totals.{Totals}
+use Rattle.ffs_counts.specs.Once.{told_after}
+use Rattle.ffs_counts.specs.Totals.{AreTotals, AreAdded, total_of}
+use Rattle.ffs_counts.proofs.Sifting.{sifted_append}
+use Rattle.ffs_counts.proofs.Classes.{by_kinds}
+
+-- the lines of n groups from c on, and of the totals, where some were told before
+abbrev pub rest_lines : Layout → List ℕ → List ℤ → (ℕ → Bool) → (ℕ → Class) → Told → ℕ → ℕ → List Message
+rest_lines v image totals free class t c n =
+    map of_blocks (told_once t (flat_map (group_lines v image free class) (range_with_len c n) ++ unless (is_total v free class totals) FreeCounts))
+
+pub groups_begin : (v : Layout) (image : List ℕ) (totals : List ℤ) (free : ℕ → Bool) (class : ℕ → Class) (t : Told) (n : ℕ) → t ≡ untold → n ≡ v.ncg →
+    map of_blocks (phase5_lines v image totals free class) ≡ rest_lines v image totals free class t 0 n
+unfolding phase5_lines
+groups_begin v image totals free class t n e f = rw (e, f) refl
+
+pub groups_go_on : (v : Layout) (image : List ℕ) (totals : List ℤ) (free : ℕ → Bool) (class : ℕ → Class) (t t' : Told) (c n m : ℕ) → n ≡ m + 1 → t' ≡ told_after t (group_lines v image free class c) →
+    rest_lines v image totals free class t c n ≡ map of_blocks (told_once t (group_lines v image free class c)) ++ rest_lines v image totals free class t' (c + 1) m
+groups_go_on v image totals free class t t' c n m e f =
+    let s : n ≡ suc m = omega (arith, e) in
+    ap (λ j. rest_lines v image totals free class t c j) s
+    ∙ ap (λ (ms : List BlockMessage). map of_blocks (told_once t ms))
+    (append_assoc (group_lines v image free class c) (flat_map (group_lines v image free class) (range_with_len (c + 1) m)) (unless (is_total v free class totals) FreeCounts))
+    ∙ sifted_append t t' (group_lines v image free class c) (flat_map (group_lines v image free class) (range_with_len (c + 1) m) ++ unless (is_total v free class totals) FreeCounts) f
+
+pub groups_end : (v : Layout) (image : List ℕ) (totals : List ℤ) (free : ℕ → Bool) (class : ℕ → Class) (t : Told) (c n : ℕ) (right : Bool) → n ≡ 0 → right ≡ is_total v free class totals →
+    rest_lines v image totals free class t c n ≡ map of_blocks (told_once t (unless right FreeCounts)) ++ []
+groups_end v image totals free class t c n right e f =
+    rw (e, f) (sym (append-nil (map of_blocks (told_once t (unless (is_total v free class totals) FreeCounts)))))
+
+next_sum : (f : ℕ → ℕ) (n old new : ℕ) → old ≡ sum_by f (range_with_len 0 n) → new ≡ old + f n → new ≡ sum_by f (range_with_len 0 (n + 1))
+next_sum f n old new e g =
+    let at : f (0 + n) ≡ f n = let z : 0 + n ≡ n = omega arith in ap f z in
+    omega (arith, e, g, at, sum_more f 0 n)
+
+pub totals_next : (v : Layout) (free : ℕ → Bool) (class : ℕ → Class) (n : ℕ) (old new : Totals) → AreTotals v free class n old → AreAdded v free class n old new → AreTotals v free class (n + 1) new
+totals_next v free class n old new a b = record {
+  dirs = next_sum (λ c. (right_summary v free class c).dirs) n old.dirs new.dirs a.dirs b.dirs;
+  blocks = next_sum (λ c. (right_summary v free class c).blocks) n old.blocks new.blocks a.blocks b.blocks;
+  inodes = next_sum (λ c. (right_summary v free class c).inodes) n old.inodes new.inodes a.inodes b.inodes;
+  fragments = next_sum (λ c. (right_summary v free class c).fragments) n old.fragments new.fragments a.fragments b.fragments;
+}
+
+pub totals_right : (v : Layout) (free : ℕ → Bool) (class : ℕ → Class) (totals : List ℤ) (n : ℕ) (t : Totals) → AreTotals v free class n t → n ≡ v.ncg →
+    has_totals totals (total_of t) ≡ is_total v free class totals
+unfolding is_total right_total
+totals_right v free class totals n t a e = rw (a.dirs, a.blocks, a.inodes, a.fragments, e) refl
+
+-- the check of groups, by what a workspace holds
+pub check_is : (v : Layout) (image : List ℕ) (totals : List ℤ) (used : List Bool) (kinds : List ℕ) → used ≡ (after_owners v (no_claims v) (owners_of v image)).used →
+    ((x : ℕ) → slice_index kinds x ≡ kind_at v image x) →
+    map of_blocks (phase5_lines v image totals (is_free_of_kept v (owners_of v image)) (class_at v image)) ≡ map of_blocks (phase5_lines v image totals (free_in used v.size) (class_in kinds))
+check_is v image totals used kinds e ks =
+    ap (λ (ms : List BlockMessage). map of_blocks ms)
+    (sym (ap (λ (u : List Bool). phase5_lines v image totals (free_in u v.size) (class_in kinds)) e ∙ by_kinds v image totals (is_free_of_kept v (owners_of v image)) kinds ks))

@@ -1,0 +1,5 @@
+pub mod Places
+pub mod Sifting
+pub mod Findings
+pub mod Classes
+pub mod GroupText

@@ -1,0 +1,3 @@
+pub mod Once
+pub mod Ready
+pub mod Totals

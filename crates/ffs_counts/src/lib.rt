@@ -1,0 +1,9 @@
+//! Phases 4 and 5 of the check, and the summary.
+#![tactic(auto)]
+
+mod group_check;
+mod groups;
+mod once;
+mod totals;
+
+pub use group_check::phase5;

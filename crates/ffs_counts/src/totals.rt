@@ -1,0 +1,67 @@
+//! The totals of a superblock.
+
+ghost use Rattle.std.specs.Prelude.{◌≡◌, ◌+◌, ◌<◌, ◌^◌};
+ghost use Rattle.ffs_volume.specs.Numbers.{is_count};
+ghost use Rattle.ffs_volume.specs.Groups.{has_totals};
+ghost use Rattle.ffs_counts.specs.Totals.{AreUpTo, total_of};
+
+use ffs_layout::GroupSummary;
+
+/// The sums of the counts of groups.
+#[derive(Clone, Copy, Debug)]
+pub struct Totals {
+    pub dirs: u64,
+    pub blocks: u64,
+    pub inodes: u64,
+    pub fragments: u64,
+}
+
+// Whether a number of the superblock is this count.
+fn is_count_of(found: i32, right: u64) -> bool
+    ensures { result ≡ is_count found right }
+{
+    if found < 0 {
+        false
+    } else {
+        u64::from(found as u32) == right
+    }
+}
+
+impl Totals {
+    /// All are 0.
+    pub fn new() -> Totals
+        ensures { result ≡ record { dirs = 0; blocks = 0; inodes = 0; fragments = 0 } }
+    {
+        Totals {
+            dirs: 0,
+            blocks: 0,
+            inodes: 0,
+            fragments: 0,
+        }
+    }
+
+    /// Adds the counts of a group.
+    pub fn add(&mut self, group: u32, summary: &GroupSummary)
+        requires { AreUpTo group self.old }
+        ensures dirs { self.new.dirs ≡ self.old.dirs + summary.now.dirs }
+        ensures blocks { self.new.blocks ≡ self.old.blocks + summary.now.blocks }
+        ensures inodes { self.new.inodes ≡ self.old.inodes + summary.now.inodes }
+        ensures fragments { self.new.fragments ≡ self.old.fragments + summary.now.fragments }
+        ensures up { AreUpTo (group + 1) self.new }
+    {
+        self.dirs += u64::from(summary.dirs);
+        self.blocks += u64::from(summary.blocks);
+        self.inodes += u64::from(summary.inodes);
+        self.fragments += u64::from(summary.fragments);
+    }
+
+    /// Whether a superblock has these totals: directories, free blocks, free inodes, free fragments.
+    pub fn are(&self, found: &[i32; 4]) -> bool
+        ensures { result ≡ has_totals found.now (total_of self.now) }
+    {
+        is_count_of(found[0], self.dirs)
+            && is_count_of(found[1], self.blocks)
+            && is_count_of(found[2], self.inodes)
+            && is_count_of(found[3], self.fragments)
+    }
+}
