@@ -9,6 +9,7 @@ use crate::line::Line;
 use crate::output::{OutFault, Output};
 use crate::say::print_line;
 
+/// The lines that are said on an output, up to the first one that fails.
 #[derive(Drop)]
 pub struct Report<'a, W> {
     out: &'a mut W,
@@ -16,6 +17,7 @@ pub struct Report<'a, W> {
     defect: bool,
 }
 
+/// Whether a line tells a defect of the volume.
 fn is_defect(line: &Line<'_>) -> bool
     ensures { result ≡ is_defect (message_of line.now) }
 {
@@ -35,6 +37,7 @@ fn is_defect(line: &Line<'_>) -> bool
 }
 
 impl<'a, W: Output> Report<'a, W> {
+    /// A report of which nothing is said yet.
     pub fn new(out: &'a mut W) -> Report<'a, W>
         ensures same { kept W.lent result ≡ (out.entry.ghost_name, W.lent out.old) }
         ensures start { progress W.sink result ≡ record { sink = W.sink out.old; failed = false; defect = false } }
@@ -46,14 +49,15 @@ impl<'a, W: Output> Report<'a, W> {
         }
     }
 
-    /// Whether a defect was said.
+    /// Whether a line that tells a defect was said by a call that answered `Ok`.
     pub fn any_defect(&self) -> bool
         ensures { result ≡ (progress W.sink self.now).defect }
     {
         self.defect
     }
 
-    /// Says a line. After an `Err` each later call answers `Err` and writes nothing.
+    /// Says a line and its questions. After an `Err`, when a front of their bytes may have gone out, each later call
+    /// answers `Err` and writes nothing.
     pub fn say(&mut self, line: &Line<'_>) -> Result<(), OutFault>
         ensures same { kept W.lent self.new ≡ kept W.lent self.old }
         ensures said { Says (progress W.sink self.old) (progress W.sink self.new) (message_of line.now ∷ []) result }
