@@ -1,12 +1,12 @@
 -- How a reading of a directory goes on.
-use Rattle.std.specs.Prelude.{◌≡◌, ℕ, suc, ◌+◌, ◌==◌, ◌≤◌, refl, Bool, List, [], ◌∷◌, ◌++◌, Option, Some, None, is_some, IfSome, false, length}
+use Rattle.std.specs.Prelude.{◌≡◌, ℕ, suc, ◌+◌, ◌==◌, refl, Bool, List, [], ◌∷◌, ◌++◌, Option, Some, None, is_some, IfSome, false, length}
 use Rattle.std.specs.List.{flat_map}
 use Rattle.std.proofs.Common.{arith, sym, ◌∙◌, ap, subst}
 use Rattle.ffs_volume.specs.declared.Order.{Order}
 use Rattle.ffs_volume.specs.declared.Role.{Role}
 use Rattle.ffs_volume.specs.Numbers.{piece}
 use Rattle.ffs_volume.specs.Directory.{Entry, Chunk, chunk_of, entry_at, entries_from}
-use Rattle.ffs_volume.specs.Roles.{Seen, role_of, seen_from, chunk_seen}
+use Rattle.ffs_volume.specs.Roles.{role_of, seen_from, chunk_seen}
 use Rattle.ffs_walk.specs.declared.window.Window.{Window}
 use Rattle.ffs_walk.specs.Windows.{WindowHolds}
 use Rattle.ffs_volume.proofs.Longest.{entry-length}

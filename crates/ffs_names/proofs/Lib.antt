@@ -4,3 +4,6 @@ pub mod Advances
 pub mod Pieces
 pub mod Begins
 pub mod Entered
+pub mod DirLaws
+pub mod SameGraphs
+pub mod SurveyHolds

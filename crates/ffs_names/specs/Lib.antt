@@ -3,3 +3,5 @@ pub mod Fits
 pub mod Hands
 pub mod Readings
 pub mod Entering
+pub mod Trees
+pub mod Surveys

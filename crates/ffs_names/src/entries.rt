@@ -64,6 +64,32 @@ impl Entries {
         }
     }
 
+    /// A reading of no entries.
+    pub fn none(geometry: &Geometry) -> Entries
+        ensures geometry { result.chunks.walk.geometry ≡ geometry.now }
+    {
+        let inode = Inode {
+            mode: 0,
+            nlink: 0,
+            size: 0,
+            mtime: 0,
+            addresses: [0; 15],
+            blocks: 0,
+            uid: 0,
+        };
+        Entries::start(geometry, &inode, 0)
+    }
+
+    /// No entry comes any more.
+    pub fn stop(&mut self)
+        ensures entries { (b : List ℕ) → to_come b self.new ≡ [] }
+        ensures left { left self.new ≤ 2 ^ 28 }
+        ensures geometry { self.new.chunks.walk.geometry ≡ self.old.chunks.walk.geometry }
+    {
+        self.place = 512;
+        self.chunks.budget = 0;
+    }
+
     /// Whether an entry stands at `place`.
     fn is_left(&self) -> bool
         ensures { result ≡ is_some (entry_in self.now.order self.now.chunk self.now.place) }

@@ -7,7 +7,10 @@ pub mod entries;
 pub mod hand;
 pub mod keeping;
 pub mod role;
+pub mod survey;
+pub mod tree;
 
 pub use chunks::Chunks;
 pub use entries::Entries;
 pub use role::role_of;
+pub use survey::survey;

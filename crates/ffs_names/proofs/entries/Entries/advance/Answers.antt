@@ -1,4 +1,4 @@
-use Rattle.std.proofs.Common.{◌≡◌, ◌∙◌, ap, sym, arith}
+use Rattle.std.proofs.Common.{◌∙◌, ap, sym, arith}
 use Rattle.ffs_names.specs.Readings.{rest}
 use Rattle.ffs_names.proofs.Advances.{holds_on}
 use Rattle.ffs_names.proofs.Entered.{end_came, none_came, chunk_came, data_on}

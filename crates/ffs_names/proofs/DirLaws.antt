@@ -1,0 +1,75 @@
+-- A reading of a directory gives the entries that the volume has there.
+use Rattle.std.proofs.Common.{◌≡◌, ℕ, ◌+◌, ◌*◌, ◌<◌, ◌^◌, Bool, true, false, List, arith, refl, ap, ◌∙◌}
+use Rattle.std.specs.Prelude.{slice_index, drop, nat_lt, ◌&&◌, ◌||◌, ◌==◌, not, if◌then◌else◌}
+use Rattle.std.specs.List.{flat_map}
+use Rattle.std.proofs.lemmas.Bool.{or_parts}
+use Rattle.std.proofs.lemmas.Bool.Decides.{nat_tests}
+use Rattle.ffs_volume.specs.declared.Layout.{Layout}
+use Rattle.ffs_volume.specs.declared.Inode.{Inode}
+use Rattle.ffs_volume.specs.declared.Class.{Class}
+use Rattle.ffs_volume.specs.declared.Class.TheVariants.{Free, Partial, Unknown, File, Dir}
+use Rattle.ffs_volume.specs.Areas.{is_in_range}
+use Rattle.ffs_volume.specs.Geometry.{IsGeometry}
+use Rattle.ffs_volume.specs.Inodes.{inode_of, class_of, type_of, is_known_type, is_any_set, is_too_large, addresses_used}
+use Rattle.ffs_volume.specs.Steps.{steps_of}
+use Rattle.ffs_volume.specs.Directory.{chunks_of, size_taken}
+use Rattle.ffs_volume.specs.Roles.{is_dir, is_directory, chunk_seen, seen_in}
+use Rattle.ffs_volume.specs.Volumes.{is_number, volume_of, volume_with, reading_of}
+use Rattle.ffs_volume.specs.Replay.{cut_at, fresh_replay, replayed_steps}
+use Rattle.ffs_volume.specs.CutLaws.{replay_at}
+use Rattle.ffs_workspace.specs.Kinds.{kind_at}
+use Rattle.ffs_survey.specs.Survey.{dir_at}
+use Rattle.ffs_survey.specs.SurveyLaws.{dirs_of_kinds}
+use Rattle.ffs_names.specs.Hands.{reading_by}
+
+class_by : Bool → Bool → Bool → Bool → Class
+class_by none free bad four = if none then (if free then Free else Partial) else (if bad then Unknown else (if four then Dir else File))
+
+dir_by : (none free bad four : Bool) → class_by none free bad four ≡ Dir → (bad ≡ false) × (four ≡ true)
+unfolding class_by
+dir_by true true bad four h = cc
+dir_by true false bad four h = cc
+dir_by false free true four h = cc
+dir_by false free false true h = (refl, refl)
+dir_by false free false false h = cc
+
+below : (four : Bool) (size : ℕ) → four ≡ true → (four && nat_lt 2147483647 size) ≡ false → size < 2147483648
+below true size e h = grind (arith, nat_tests)
+below false size e h = absurd (cc)
+
+-- a directory has less than 2^31 bytes
+pub dir_size : (v : Layout) (i : Inode) → class_of v i ≡ Dir → i.size < 2 ^ 31
+unfolding class_of class_by
+dir_size v i h =
+    let d = dir_by (type_of i.mode == 0) (i.mode == 0 && (i.size == 0 && not (is_any_set i.addresses)))
+    (not (is_known_type (type_of i.mode)) || (is_too_large v i || is_any_set (drop (addresses_used v i) i.addresses))) (type_of i.mode == 4) h in
+    let a = or_parts (not (is_known_type (type_of i.mode))) (is_too_large v i || is_any_set (drop (addresses_used v i) i.addresses)) d.0 in
+    let e = or_parts (is_too_large v i) (is_any_set (drop (addresses_used v i) i.addresses)) a.1 in
+    let f = or_parts (nat_lt ((12 + v.nindir + v.nindir * v.nindir + v.nindir * v.nindir * v.nindir) * v.bsize) i.size) (type_of i.mode == 4 && nat_lt 2147483647 i.size) e.0 in
+    below (type_of i.mode == 4) i.size d.1 f.1
+
+dir_number : (a : Bool) (c : Class) → (a && is_directory (if a then c else Free)) ≡ true → (a ≡ true) × (c ≡ Dir)
+dir_number true Dir h = (refl, refl)
+dir_number true File h = cc
+dir_number true Unknown h = cc
+dir_number true Partial h = cc
+dir_number true Free h = cc
+dir_number false c h = cc
+
+pub dir_is : (v : Layout) (b : List ℕ) (d : ℕ) → is_dir (volume_of v b) d ≡ true → (is_number v d ≡ true) × (class_of v (inode_of v b d) ≡ Dir)
+unfolding volume_of volume_with
+dir_is v b d h = dir_number (is_number v d) (class_of v (inode_of v b d)) h
+
+-- the entries of a directory
+pub dir_seen : (v : Layout) (b : List ℕ) (d : ℕ) (i : Inode) (cut : ℕ) → IsGeometry v → is_number v d ≡ true → i ≡ inode_of v b d → cut ≡ cut_at v b d
+    → flat_map chunk_seen (chunks_of (reading_by v b (size_taken i.size)) (is_in_range v) (replayed_steps v cut fresh_replay (steps_of v i b))) ≡ seen_in (volume_of v b) d
+unfolding volume_of volume_with reading_of seen_in
+dir_seen v b d i cut g n e c =
+    ap (λ (x : Inode). flat_map chunk_seen (chunks_of (reading_by v b (size_taken x.size)) (is_in_range v) (replayed_steps v cut fresh_replay (steps_of v x b)))) e
+    ∙ (ap (λ x. flat_map chunk_seen (chunks_of (reading_by v b (size_taken (inode_of v b d).size)) (is_in_range v) (replayed_steps v x fresh_replay (steps_of v (inode_of v b d) b)))) c
+    ∙ ap (λ xs. flat_map chunk_seen (chunks_of (reading_by v b (size_taken (inode_of v b d).size)) (is_in_range v) xs)) (replay_at v b d g n))
+
+-- kinds tell which inodes are directories
+pub kind_dirs : (v : Layout) (b kinds : List ℕ) (x : ℕ) → slice_index kinds x ≡ kind_at v b x → dir_at kinds x ≡ is_dir (volume_of v b) x
+unfolding kind_at
+kind_dirs v b kinds x h = dirs_of_kinds v b kinds x h

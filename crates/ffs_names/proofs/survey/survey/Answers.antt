@@ -1,0 +1,47 @@
+use Rattle.std.proofs.Common.{◌∙◌, ap, sym, rules, arith}
+use Rattle.std.specs.Prelude.{slice_index}
+use Rattle.std.proofs.lemmas.List.{with_items_is}
+use Rattle.ffs_names.proofs.SurveyHolds.{on_ok, blocks_in, volume_survey, holds_survey, some_inodes}
+use Rattle.ffs_names.proofs.survey.survey.Goals as goal
+
+pub returns-clause-ok : goal.returns-clause-ok
+returns-clause-ok g c = rw (c.image-1.given.1 (sym (ap (λ x. x.image_lent) c.survey.ensures.base))) c.survey.ensures.device
+
+pub returns-clause-err : goal.returns-clause-err
+returns-clause-err g c = rw (c.image-1.given.1 (sym (ap (λ x. x.image_lent) c.survey.ensures.base))) c.survey.ensures.fault
+
+pub returns-clause-windows : goal.returns-clause-windows
+returns-clause-windows g c =
+    let image = c.image-1.given.1 (sym (ap (λ x. x.image_lent) c.survey.ensures.base)) in
+    let r = c.survey.ensures.ready.0 in
+    record {
+      table = rw image r.table_holds;
+      blocks = blocks_in c.args.geometry.now.layout c.survey.new.directories.geometry.layout (g.I.Image.device c.image-1.given.0).told (g.I.Image.device c.survey.new.directories.image.now).told c.survey.new.directories.windows.now.blocks
+          (ap (λ x. x.layout) c.survey.ensures.base) (ap (λ x. (g.I.Image.device x).told) image) r.blocks_hold;
+      chunk = rw image r.chunk_holds;
+    }
+
+pub returns-clause-survey : goal.returns-clause-survey
+returns-clause-survey g c = on_ok c.survey.result _ _ (λ s b t h.
+    let w = c.args.workspace.now in
+    let n = c.survey.new in
+    let found = s b (record {
+      bytes = t;
+      kinds = λ x. ap (λ ks. slice_index ks x) c.deref.ensures.value ∙ h.kinds x;
+      cut = λ x. ap (λ ks. slice_index ks x) c.deref-2.ensures.value ∙ h.cut x;
+    }) in
+    let survey = volume_survey (record {
+      layout = c.args.geometry.now.layout;
+      told = (g.I.Image.device c.args.image.now).told;
+      kinds = c.deref.result.now;
+      cut = c.deref-2.result.now;
+      image_lent = c.tree-2-1.given;
+      windows_lent = c.tree-3-1.given.0;
+    }) b c.deref-3.result.now n.references n.named n.reached n.parents (search rules)
+    (λ x. ap (λ ks. slice_index ks x) c.deref-3.ensures.value ∙ h.kinds x) found in
+    holds_survey c.args.geometry.now.layout b _ n.references n.named n.reached n.parents
+    (with_items_is w.references n.references (search rules)) (with_items_is w.named n.named (search rules)) (with_items_is w.reached n.reached (search rules)) (with_items_is w.parents n.parents (search rules)) survey)
+    c.survey.ensures.survey
+
+pub survey-requires-clause-some : goal.survey-requires-clause-some
+survey-requires-clause-some g c = let k = some_inodes c.args.geometry.now.layout c.args.geometry.now.sound in omega (arith, c.deref-3.ensures.len, c.requires.made.kinds, k)

@@ -1,0 +1,42 @@
+use Rattle.std.proofs.Common.{◌∙◌, ◌<◌, ap, sym, subst, []}
+use Rattle.std.specs.Prelude.{if◌then◌else◌, slice_index}
+use Rattle.ffs_volume.specs.declared.Inode.{Inode}
+use Rattle.ffs_volume.specs.Inodes.{inode_of}
+use Rattle.ffs_volume.specs.Roles.{seen_in}
+use Rattle.ffs_volume.specs.Volumes.{volume_of}
+use Rattle.ffs_names.proofs.DirLaws.{dir_is, dir_size, dir_seen, kind_dirs}
+use Rattle.ffs_names.proofs.tree.TreeDirectories.start.Goals as goal
+
+pub returns-then-not-is_dir-clause-rest : goal.returns-then-not-is_dir-clause-rest
+returns-then-not-is_dir-clause-rest g c = λ b k.
+    let v = c.args.self.now.geometry.layout in
+    let none = sym (kind_dirs v b c.args.self.now.kinds.now c.args.dir (k.kinds c.args.dir)) ∙ (sym c.is_dir.ensures ∙ c.if-not-is_dir.true) in
+    c.stop.ensures.entries b ∙ sym (ap (λ x. if x then seen_in (volume_of v b) c.args.dir else []) none)
+
+pub returns-clause-ready : goal.returns-clause-ready
+returns-clause-ready g c =
+    let r = c.requires.ready.0 in
+    let device = c.in_ok-inode.ensures.ok in (
+      record {
+        volume = rw device r.volume;
+        table = c.inode.ensures.room;
+        blocks = r.blocks;
+        chunk = r.chunk;
+        table_holds = c.inode.ensures.holds;
+        blocks_hold = rw device r.blocks_hold;
+        chunk_holds = rw device r.chunk_holds;
+        kinds_long = r.kinds_long;
+        cut_long = r.cut_long;
+      },
+      c.start-self.ensures.geometry,
+    )
+
+pub returns-clause-rest : goal.returns-clause-rest
+returns-clause-rest g c = λ b k.
+    let t = c.args.self.now in
+    let v = t.geometry.layout in
+    let dir = sym (kind_dirs v b t.kinds.now c.args.dir (k.kinds c.args.dir)) ∙ (sym c.is_dir.ensures ∙ c.if-not-is_dir.false) in
+    let is = dir_is v b c.args.dir dir in
+    let inode = c.in_ok-inode.ensures.inode b k.bytes in
+    c.start-self.ensures.entries b (subst (λ (x : Inode). x.size < 2147483648) (sym inode) (dir_size v (inode_of v b c.args.dir) is.1))
+    ∙ (dir_seen v b c.args.dir c.in_ok-inode.inode (slice_index t.cut.now c.args.dir) t.geometry.sound is.0 inode (k.cut c.args.dir) ∙ sym (ap (λ x. if x then seen_in (volume_of v b) c.args.dir else []) dir))

@@ -1,0 +1,52 @@
+//! The survey of a volume's directories.
+
+ghost use Rattle.std.specs.Prelude.{◌≡◌, ◌*◌, ◌≤◌, ℕ, List, OnOk, IfErr};
+ghost use Rattle.ffs_image.specs.Device.{Faulted, WhereTold};
+ghost use Rattle.ffs_workspace.specs.Lengths.{IsFor, HoldWindows};
+ghost use Rattle.ffs_workspace.specs.Holds.{HoldsClaims, HoldsSurvey};
+ghost use Rattle.ffs_names.specs.Surveys.{IsUntouched};
+
+use crate::entries::Entries;
+use crate::tree::Tree;
+use ffs_image::{Image, ImageFault};
+use ffs_layout::Geometry;
+use ffs_workspace::Workspace;
+
+/// Finds how often each inode is referred to, which inodes an entry names, which directories are reached from the root,
+/// and their parents. Each directory is read once. The rest of the workspace stays as it was.
+///
+/// # Errors
+/// A read of the image that failed.
+pub fn survey<I: Image>(
+    geometry: &Geometry,
+    image: &mut I,
+    workspace: &mut Workspace,
+) -> Result<(), ImageFault>
+    requires made { IsFor geometry.now.layout workspace.old }
+    requires volume { geometry.now.layout.size * geometry.now.layout.fsize ≤ (I.device image.old).size }
+    requires windows { HoldWindows geometry.now.layout (I.device image.old).told workspace.old }
+    ensures survey { OnOk result (WhereTold (I.device image.old).told (λ b. HoldsClaims geometry.now.layout b workspace.old → HoldsSurvey geometry.now.layout b workspace.new)) }
+    ensures same { IsUntouched workspace.old workspace.new }
+    ensures made { IsFor geometry.now.layout workspace.new }
+    ensures windows { HoldWindows geometry.now.layout (I.device image.new).told workspace.new }
+    ensures ok { OnOk result (I.device image.new ≡ I.device image.old) }
+    ensures err { IfErr result (λ fault. Faulted (I.device image.old) (I.device image.new) fault.sector) }
+{
+    let mut tree = Tree {
+        geometry: *geometry,
+        image,
+        windows: &mut workspace.windows,
+        kinds: &workspace.kinds,
+        cut: &workspace.cut,
+        entries: Entries::none(geometry),
+    };
+    ffs_survey::survey(
+        &mut tree,
+        &workspace.kinds,
+        &mut workspace.references,
+        &mut workspace.named,
+        &mut workspace.reached,
+        &mut workspace.parents,
+        &mut workspace.queue,
+    )
+}

@@ -1,0 +1,63 @@
+//! The directories of a volume, as a survey reads them.
+
+ghost use Rattle.std.specs.Prelude.{◌≡◌};
+
+use crate::entries::Entries;
+use ffs_image::{Image, ImageFault};
+use ffs_layout::Geometry;
+use ffs_survey::{Directories, Named, is_dir};
+use ffs_workspace::Windows;
+
+/// The directories of a volume: those that the kinds of inodes name, with what is kept of them.
+#[derive(Drop)]
+pub struct Tree<'a, I> {
+    pub geometry: Geometry,
+    pub image: &'a mut I,
+    pub windows: &'a mut Windows,
+    /// What each inode is.
+    pub kinds: &'a [u8],
+    /// How many offers each inode keeps where dup offers cut it.
+    pub cut: &'a [u32],
+    /// The directory in hand.
+    pub entries: Entries,
+}
+
+impl<I: Image> Directories for Tree<'_, I> {
+    ghost use Rattle.ffs_names.specs.Trees.{Base as TreeBase, KnowsTree, dir_entries, IsReady};
+    ghost use Rattle.ffs_names.specs.Entering.{to_come, left as entries_left, last_name};
+
+    ghost Base = { TreeBase };
+
+    ghost base = { λ t. record { layout = t.geometry.layout; told = (I.device t.image.now).told; kinds = t.kinds.now; cut = t.cut.now; image_lent = t.image.ghost_name; windows_lent = t.windows.ghost_name } };
+
+    ghost knows = { KnowsTree };
+
+    ghost entries = { dir_entries };
+
+    ghost device = { λ t. I.device t.image.now };
+
+    ghost ready = { λ t. IsReady t.geometry.layout (I.device t.image.now) t.windows.now t.kinds.now t.cut.now × (t.entries.chunks.walk.geometry ≡ t.geometry) };
+
+    ghost rest = { λ t b. to_come b t.entries };
+
+    ghost left = { λ t. entries_left t.entries };
+
+    ghost name = { λ t. last_name t.entries };
+
+    fn start(&mut self, dir: u32) -> Result<(), ImageFault> {
+        if !is_dir(self.kinds, dir as usize) {
+            self.entries.stop();
+            return Ok(());
+        }
+        let cut = self.cut[dir as usize];
+        let inode = self.windows.table.inode(&self.geometry, dir, self.image)?;
+        self.entries = Entries::start(&self.geometry, &inode, cut);
+        Ok(())
+    }
+
+    fn next(&mut self) -> Result<Option<Named>, ImageFault> {
+        let windows = &mut *self.windows;
+        self.entries
+            .next(self.image, &mut windows.blocks, &mut windows.chunk)
+    }
+}
