@@ -1,14 +1,12 @@
 -- How a report goes on. (For the layers above.)
-use Rattle.std.proofs.Common.{◌≡◌, ◌⊎◌, inl, inr, refl, ◌∙◌, ◌+◌, ◌<◌, ℕ, suc, sym, ap, subst, List, [], ◌∷◌, ◌++◌, length, take, drop, get_or, map, append_assoc, Bool, true, false, ◌||◌, Result, Ok, Err}
+use Rattle.std.proofs.Common.{◌≡◌, inl, inr, refl, ◌∙◌, ◌+◌, ◌<◌, ℕ, suc, sym, ap, subst, List, [], ◌∷◌, ◌++◌, length, take, drop, get_or, map, append_assoc, Bool, true, false, ◌||◌, Result, Ok, Err}
 use Rattle.std.proofs.Math.Seq.{drop-cons}
 use Rattle.std.proofs.lemmas.List.{take-append-drop, map-append, map_more}
 use Rattle.std.proofs.lemmas.List.Concat.{flat_map-append}
-use Rattle.std.specs.List.{flat_map, list_any}
-use Rattle.ffs_report.specs.Sink.{Sink, Took, Rose}
 use Rattle.ffs_volume.specs.Messages.{Message, is_defect, has_defect}
 use Rattle.ffs_volume.specs.Texts.{text_of, texts_of}
 use Rattle.ffs_report.specs.Progress.{Progress, Said, Stopped, Says}
-use Rattle.ffs_report.proofs.Sinks.{Appends-nil, Appends-then, took_nil, took_then}
+use Rattle.ffs_report.proofs.Sinks.{Appends-then, took_nil, took_then}
 
 or_false : (a : Bool) → (a || false) ≡ a
 or_false true = refl

@@ -1,4 +1,3 @@
-use Rattle.std.proofs.Common.{◌++◌}
 use Rattle.std.proofs.lemmas.Result.{err_from_is_err_and}
 use Rattle.ffs_report.specs.Piece.{pieces_text}
 use Rattle.ffs_volume.specs.Texts.{file_label, inode_text}
