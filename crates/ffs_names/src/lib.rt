@@ -4,13 +4,13 @@
 
 pub mod chunks;
 pub mod entries;
+pub mod graph;
 pub mod hand;
 pub mod keeping;
 pub mod role;
-pub mod survey;
 pub mod tree;
 
 pub use chunks::Chunks;
 pub use entries::Entries;
+pub use graph::survey;
 pub use role::role_of;
-pub use survey::survey;

@@ -2,7 +2,7 @@ use Rattle.std.proofs.Common.{◌∙◌, ap, sym, rules, arith}
 use Rattle.std.specs.Prelude.{slice_index}
 use Rattle.std.proofs.lemmas.List.{with_items_is}
 use Rattle.ffs_names.proofs.SurveyHolds.{on_ok, blocks_in, volume_survey, holds_survey, some_inodes}
-use Rattle.ffs_names.proofs.survey.survey.Goals as goal
+use Rattle.ffs_names.proofs.graph.survey.Goals as goal
 
 pub returns-clause-ok : goal.returns-clause-ok
 returns-clause-ok g c = rw (c.image-1.given.1 (sym (ap (λ x. x.image_lent) c.survey.ensures.base))) c.survey.ensures.device
