@@ -1,0 +1,3 @@
+pub mod CutOff
+pub mod Lines
+pub mod Leaving

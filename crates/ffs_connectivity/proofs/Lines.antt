@@ -1,0 +1,45 @@
+-- How the lines of numbers in ascending order go on.
+use Rattle.std.proofs.Common.{◌≡◌, ℕ, zero, suc, ◌+◌, ◌-◌, ◌<◌, ◌≤◌, List, [], ◌∷◌, ◌++◌, map, append_assoc, append-nil, refl, ap, ◌∙◌, sym, arith}
+use Rattle.ffs_volume.specs.Messages.{Message, NameMessage, of_names, lines_below}
+use Rattle.ffs_connectivity.specs.Lines.{lines_from}
+
+pub names_append : (xs ys : List NameMessage) → map of_names (xs ++ ys) ≡ map of_names xs ++ map of_names ys
+names_append [] ys = refl
+names_append (x ∷ xs) ys = ap (λ (zs : List Message). of_names x ∷ zs) (names_append xs ys)
+
+-- those below d + k are those below d and the k from d on
+pub below_and_from : (lines : ℕ → List NameMessage) (k d : ℕ) → lines_below lines (d + k) ≡ lines_below lines d ++ lines_from lines d k
+unfolding lines_below lines_from
+below_and_from lines zero d = let q : d + 0 ≡ d = omega arith in ap (lines_below lines) q ∙ sym (append-nil (lines_below lines d))
+below_and_from lines (suc k) d =
+    let q : d + suc k ≡ suc d + k = omega arith in
+    ap (lines_below lines) q ∙ below_and_from lines k (suc d) ∙ append_assoc (lines_below lines d) (lines d) (lines_from lines (suc d) k)
+
+-- of numbers from 2 on, where those below it have no line
+pub all_from : (lines : ℕ → List NameMessage) (n : ℕ) → lines 0 ≡ [] → lines 1 ≡ [] → lines_below lines n ≡ lines_from lines 2 (n - 2)
+unfolding lines_below lines_from
+all_from lines zero zeroth first = refl
+all_from lines (suc zero) zeroth first = zeroth
+all_from lines (suc (suc n)) zeroth first =
+    let q : suc (suc n) ≡ 2 + n = omega arith in
+    let r : suc (suc n) - 2 ≡ n = omega arith in
+    let two : lines_below lines 2 ≡ [] = rw (zeroth, first) refl in
+    ap (lines_below lines) q ∙ below_and_from lines n 2 ∙ ap (λ (xs : List NameMessage). xs ++ lines_from lines 2 n) two ∙ ap (lines_from lines 2) (sym r)
+
+-- the next number's lines
+pub from_next : (lines : ℕ → List NameMessage) (d n : ℕ) → d < n →
+    map of_names (lines_from lines d (n - d)) ≡ map of_names (lines d) ++ map of_names (lines_from lines (d + 1) (n - (d + 1)))
+unfolding lines_from
+from_next lines d n h =
+    let q : n - d ≡ suc (n - (d + 1)) = omega arith in
+    let r : suc d ≡ d + 1 = omega arith in
+    ap (λ (k : ℕ). map of_names (lines_from lines d k)) q
+    ∙ names_append (lines d) (lines_from lines (suc d) (n - (d + 1)))
+    ∙ ap (λ (e : ℕ). map of_names (lines d) ++ map of_names (lines_from lines e (n - (d + 1)))) r
+
+-- at the end there are none
+pub from_end : (lines : ℕ → List NameMessage) (d n : ℕ) → n ≤ d → map of_names (lines_from lines d (n - d)) ≡ []
+unfolding lines_from
+from_end lines d n h =
+    let q : n - d ≡ 0 = omega arith in
+    ap (λ (k : ℕ). map of_names (lines_from lines d k)) q

@@ -1,0 +1,80 @@
+use Rattle.std.proofs.Common.{◌+◌, ◌-◌, ◌∷◌, [], List, map, refl, ap, ◌∙◌, arith, rules, Err}
+use Rattle.std.proofs.lemmas.Result.{err_from_is_err_and}
+use Rattle.ffs_volume.specs.Connectivity.{connectivity_lines}
+use Rattle.ffs_volume.specs.Messages.{Message, of_names, phase3}
+use Rattle.ffs_volume.specs.Volumes.{volume_of}
+use Rattle.ffs_phase.proofs.Telling.{of_begins, of_says, of_stops, of_same, of_part, of_fault, said_knows, tells_knows}
+use Rattle.ffs_workspace.specs.Lengths.{inodes_of}
+use Rattle.ffs_connectivity.specs.Lines.{cut_off_lines, lines_from}
+use Rattle.ffs_connectivity.proofs.Leaving.{claims_left, survey_left, leaves_more, leaders_left, lines_begin}
+use Rattle.ffs_connectivity.proofs.Lines.{from_next, from_end}
+use Rattle.ffs_connectivity.proofs.phase.phase3.Goals as goal
+
+pub returns-in_err-say-clause-text : goal.returns-in_err-say-clause-text
+returns-in_err-say-clause-text g c =
+    let p = err_from_is_err_and c.from_residual.result c.from_residual.ensures.1 in
+    let v = c.args.geometry.now.layout in
+    rw (p.1, p.2) (of_stops _ (λ bytes. phase3 ∷ map of_names (connectivity_lines (volume_of v bytes))) (λ bytes. map of_names (connectivity_lines (volume_of v bytes))) _ (phase3 ∷ []) _ _ _
+    (of_begins _ (λ bytes. phase3 ∷ map of_names (connectivity_lines (volume_of v bytes))) _) (λ bytes t. refl) c.in_err-say.ensures.said)
+
+pub loop-number-init : goal.loop-number-init
+loop-number-init g c =
+    let v = c.args.geometry.now.layout in
+    let same = c.mark.ensures.windows in
+    record {
+      made = c.mark.ensures.made;
+      device = refl;
+      windows = record { table = rw same c.requires.windows.table; blocks = rw same c.requires.windows.blocks; chunk = rw same c.requires.windows.chunk };
+      same = c.in_ok-say.ensures.same;
+      low = omega arith;
+      survey = c.mark.ensures.survey;
+      leaders = c.mark.ensures.leaders;
+      said = of_says _ (λ bytes. phase3 ∷ map of_names (connectivity_lines (volume_of v bytes)))
+          (λ bytes. map of_names (lines_from (cut_off_lines (volume_of v bytes)) 2 (inodes_of v - 2))) _ (phase3 ∷ []) _ _ _
+          (of_begins _ (λ bytes. phase3 ∷ map of_names (connectivity_lines (volume_of v bytes))) _)
+          (λ bytes k. ap (λ (xs : List Message). phase3 ∷ xs) (lines_begin v bytes))
+          c.in_ok-say.ensures.said;
+    }
+
+pub returns-in_err-numbered-clause-text : goal.returns-in_err-numbered-clause-text
+returns-in_err-numbered-clause-text g c =
+    let p = err_from_is_err_and c.from_residual-in_err-numbered.result c.from_residual-in_err-numbered.ensures.1 in
+    let v = c.args.geometry.now.layout in
+    let inv = c.loop-number.invariant in
+    let n = c.loop-number.number in
+    rw (p.1, p.2) (of_fault (Unit {0}) (Unit {0}) _ (λ bytes. map of_names (lines_from (cut_off_lines (volume_of v bytes)) n (inodes_of v - n)))
+    (λ bytes. map of_names (cut_off_lines (volume_of v bytes) n))
+    (λ bytes. map of_names (lines_from (cut_off_lines (volume_of v bytes)) (n + 1) (inodes_of v - (n + 1)))) _ _ _ _ c.in_err-numbered.field-0.0
+    inv.said (λ bytes k. from_next (cut_off_lines (volume_of v bytes)) n (inodes_of v) (omega arith))
+    (tells_knows (Unit {0}) _ _ _ _ _ (Err c.in_err-numbered.field-0.0)
+    (λ bytes k. (ap (λ d. d.told) inv.device ∙ k.0, claims_left v bytes _ _ inv.survey k.1, survey_left v bytes _ _ inv.survey k.2)) c.in_err-numbered.ensures.text))
+
+pub loop-number-preserved : goal.loop-number-preserved
+loop-number-preserved g c =
+    let v = c.args.geometry.now.layout in
+    let inv = c.loop-number.invariant in
+    let n = c.loop-number.number in
+    let ok = c.in_ok-numbered.ensures in
+    record {
+      made = ok.made;
+      device = search rules;
+      windows = search rules;
+      same = search rules;
+      low = omega arith;
+      survey = leaves_more _ _ _ inv.survey ok.survey;
+      leaders = leaders_left _ _ ok.survey ok.leaders inv.leaders;
+      said = of_part _ (λ bytes. map of_names (lines_from (cut_off_lines (volume_of v bytes)) n (inodes_of v - n)))
+          (λ bytes. map of_names (cut_off_lines (volume_of v bytes) n))
+          (λ bytes. map of_names (lines_from (cut_off_lines (volume_of v bytes)) (n + 1) (inodes_of v - (n + 1)))) _ _ _ _ inv.said
+          (λ bytes k. from_next (cut_off_lines (volume_of v bytes)) n (inodes_of v) (omega arith))
+          (said_knows _ _ _ _ _ _
+          (λ bytes k. (ap (λ d. d.told) inv.device ∙ k.0, claims_left v bytes _ _ inv.survey k.1, survey_left v bytes _ _ inv.survey k.2)) ok.text);
+    }
+
+pub returns-clause-text : goal.returns-clause-text
+returns-clause-text g c =
+    let v = c.args.geometry.now.layout in
+    let inv = c.loop-number.invariant in
+    let n = c.loop-number.number in
+    of_same _ (λ bytes. map of_names (lines_from (cut_off_lines (volume_of v bytes)) n (inodes_of v - n))) (λ bytes. []) _ _ _ inv.said
+    (λ bytes k. from_end (cut_off_lines (volume_of v bytes)) n (inodes_of v) (omega arith))
