@@ -1,16 +1,14 @@
 //! Whether a directory is cut off, and what is told of it.
 
-ghost use Rattle.std.specs.Prelude.{◌≡◌, ◌*◌, ◌<◌, ◌≤◌, ◌∷◌, [], OnOk, ℕ, List, length, map};
+ghost use Rattle.std.specs.Prelude.{◌≡◌, ◌*◌, ◌<◌, ◌≤◌, ◌∷◌, [], ℕ, List, map};
 ghost use Rattle.ffs_report.specs.Progress.{progress, kept};
 ghost use Rattle.ffs_phase.specs.Known.{Tells};
 ghost use Rattle.ffs_phase.specs.Runs.{Reads, TellsOf};
-ghost use Rattle.ffs_volume.specs.Climb.{leads_cycle};
 ghost use Rattle.ffs_volume.specs.Connectivity as connectivity;
 ghost use Rattle.ffs_volume.specs.Messages.{of_names, unref_dir};
 ghost use Rattle.ffs_volume.specs.PathnameCheck.{attributes};
 ghost use Rattle.ffs_volume.specs.Volumes.{volume_of};
-ghost use Rattle.ffs_survey.specs.Cycles.{up_of};
-ghost use Rattle.ffs_workspace.specs.Holds.{bool_at, HoldsClaims, HoldsSurvey};
+ghost use Rattle.ffs_workspace.specs.Holds.{HoldsClaims, HoldsSurvey};
 ghost use Rattle.ffs_workspace.specs.Lengths.{IsFor, HoldWindows, inodes_of};
 ghost use Rattle.ffs_connectivity.specs.Leaves.{LeavesSurvey, HasLeaders};
 ghost use Rattle.ffs_connectivity.specs.Lines.{cut_off_lines};
