@@ -1,6 +1,13 @@
 -- The lines of groups, by the kinds of inodes in place of their classes.
 use Rattle.std.proofs.Common.{◌≡◌, ℕ, ◌+◌, ◌*◌, Bool, true, false, List, ◌++◌, refl, ap, ◌∙◌, sym, slice_index, count_by, ℤ}
 use Rattle.std.specs.Prelude.{◌&&◌, ◌||◌, ◌==◌, not, nat_le, nat_lt}
+use Rattle.ffs_volume.specs.Areas.{is_reserved}
+use Rattle.ffs_volume.specs.Owners.{owners_of}
+use Rattle.ffs_volume.specs.Claims.{is_set, no_claims, after_owners}
+use Rattle.ffs_volume.specs.Report.{file_count, used_count}
+use Rattle.ffs_volume.specs.Inodes.{is_settled}
+use Rattle.std.proofs.Common.{◌-◌}
+use Rattle.std.specs.List.{range_with_len}
 use Rattle.std.specs.List.{flat_map, sum_by}
 use Rattle.std.proofs.Math.Path.{fun_ext}
 use Rattle.std.proofs.lemmas.Bool.{true≢false}
@@ -104,3 +111,16 @@ same_phase5 v image totals free a b d u =
 pub by_kinds : (v : Layout) (image : List ℕ) (totals : List ℤ) (free : ℕ → Bool) (kinds : List ℕ) → ((x : ℕ) → slice_index kinds x ≡ kind_at v image x) →
     phase5_lines v image totals free (class_in kinds) ≡ phase5_lines v image totals free (class_at v image)
 by_kinds v image totals free kinds e = same_phase5 v image totals free (class_in kinds) (class_at v image) (dirs_same v image kinds e) (used_same v image kinds e)
+
+-- how many files and directories there are, by the kinds that a workspace holds
+pub files_are : (v : Layout) (image kinds : List ℕ) (files n : ℕ) → files ≡ count_by (λ x. is_settled (class_in kinds x)) (range_with_len 2 (n - 2)) → n ≡ v.ncg * v.ipg →
+    ((x : ℕ) → slice_index kinds x ≡ kind_at v image x) → files ≡ file_count v image
+unfolding file_count
+files_are v image kinds files n e len ks =
+    e ∙ ap (λ j. count_by (λ x. is_settled (class_in kinds x)) (range_with_len 2 (j - 2))) len
+    ∙ ap (λ (p : ℕ → Bool). count_by p (range_with_len 2 (v.ncg * v.ipg - 2))) (fun_ext (λ x. ap (λ k. is_settled (class_of_kind k)) (ks x) ∙ same_test is_settled refl v image x))
+
+pub used_are : (v : Layout) (image : List ℕ) (used : List Bool) (n : ℕ) → n ≡ count_by (λ f. is_set used f && not (is_reserved v f)) (range_with_len 0 v.size) →
+    used ≡ (after_owners v (no_claims v) (owners_of v image)).used → n ≡ used_count v image
+unfolding used_count
+used_are v image used n e same = e ∙ ap (λ (u : List Bool). count_by (λ f. is_set u f && not (is_reserved v f)) (range_with_len 0 v.size)) same

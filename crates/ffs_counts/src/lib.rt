@@ -4,6 +4,9 @@
 mod group_check;
 mod groups;
 mod once;
+mod one;
+mod summing;
 mod totals;
 
 pub use group_check::phase5;
+pub use summing::summary;

@@ -1,0 +1,113 @@
+//! The summary of a check.
+
+ghost use Rattle.std.specs.Prelude.{◌≡◌, ◌∷◌, [], ◌-◌, ◌<◌, ◌^◌, List, ℕ, length, count_by, not, ◌&&◌, pos, ◌+ℤ◌, ◌*ℤ◌, int_div};
+ghost use Rattle.std.specs.List.{range_with_len};
+ghost use Rattle.ffs_volume.specs.Areas.{is_reserved};
+ghost use Rattle.ffs_volume.specs.Claims.{is_set};
+ghost use Rattle.ffs_volume.specs.Inodes.{is_settled};
+ghost use Rattle.ffs_volume.specs.Report.{summary_of, file_count as files_of, used_count as used_of};
+ghost use Rattle.ffs_layout.specs.Super.{seen};
+ghost use Rattle.ffs_maps.specs.Bits.{bits_of};
+ghost use Rattle.ffs_report.specs.Lines.{message_of};
+ghost use Rattle.ffs_report.specs.Progress.{progress, kept};
+ghost use Rattle.ffs_phase.specs.Runs.{TellsOf};
+ghost use Rattle.ffs_groups.specs.Inodes.{class_of_kind, class_in};
+ghost use Rattle.ffs_workspace.specs.Holds.{HoldsClaims};
+ghost use Rattle.ffs_workspace.specs.Lengths.{IsFor};
+
+use crate::one::one_if;
+use ffs_layout::{Geometry, Super};
+use ffs_maps::FragmentMap;
+use ffs_phase::RunFault;
+use ffs_report::{Line, Output, Report};
+use ffs_workspace::Workspace;
+
+fn is_settled_kind(kind: u8) -> bool
+    ensures { result ≡ is_settled (class_of_kind kind) }
+{
+    kind != 0 && kind != 15
+}
+
+// How many files and directories there are.
+fn file_count(kinds: &[u8]) -> u32
+    requires { length kinds.now < 2 ^ 32 }
+    ensures { result ≡ count_by (λ x. is_settled (class_in kinds.now x)) (range_with_len 2 (length kinds.now - 2)) }
+{
+    let mut files = 0;
+    for inode in 2..kinds.len() {
+        files += one_if(is_settled_kind(kinds[inode]));
+    }
+    files
+}
+
+// Whether a fragment is claimed beside the reserved ones.
+fn is_used(geometry: &Geometry, used: &FragmentMap, fragment: u32) -> bool
+    requires { fragment < used.now.size }
+    ensures { result ≡ (is_set (bits_of used.now) fragment && not (is_reserved geometry.now.layout fragment)) }
+{
+    used.get(fragment) && !geometry.reserved(u64::from(fragment))
+}
+
+// How many fragments are claimed beside the reserved ones.
+fn used_count(geometry: &Geometry, used: &FragmentMap) -> u32
+    requires { used.now.size ≡ geometry.now.layout.size }
+    ensures { result ≡ count_by (λ f. is_set (bits_of used.now) f && not (is_reserved geometry.now.layout f)) (range_with_len 0 geometry.now.layout.size) }
+{
+    let mut count = 0;
+    for fragment in 0..geometry.layout.size {
+        count += one_if(is_used(geometry, used, fragment));
+    }
+    count
+}
+
+// Free fragments in all: the loose ones, and those of free blocks.
+fn free_in_all(frags: i32, frag: u8, blocks: i32) -> i64
+    ensures { result ≡ frags +ℤ pos frag *ℤ blocks }
+{
+    i64::from(frags) + i64::from(frag) * i64::from(blocks)
+}
+
+// Tenths of a percent, rounded toward zero.
+fn tenths_of(frags: i32, dsize: u32) -> i64
+    requires { 0 < dsize }
+    ensures { result ≡ int_div (frags *ℤ pos 1000) (pos dsize) }
+{
+    i64::from(frags) * 1000 / i64::from(dsize)
+}
+
+fn summary_line(superblock: &Super, files: u32, used: u32) -> Line<'static>
+    ensures { message_of result ≡ summary_of (seen superblock.now) files used }
+{
+    let blocks = superblock.cstotal[1];
+    let frags = superblock.cstotal[3];
+    let layout = &superblock.geometry.layout;
+    Line::Summary {
+        files,
+        used,
+        free: free_in_all(frags, layout.frag as u8, blocks),
+        frags,
+        blocks,
+        tenths: tenths_of(frags, layout.dsize),
+    }
+}
+
+/// The summary (fsck(8)): files, fragments in use, and what is free by the superblock's own counts.
+///
+/// Errors: a write of the report that failed.
+pub fn summary<W: Output>(
+    superblock: &Super,
+    workspace: &mut Workspace,
+    report: &mut Report<'_, W>,
+) -> Result<(), RunFault>
+    requires { IsFor superblock.now.geometry.layout workspace.old }
+    ensures same { kept W.lent report.new ≡ kept W.lent report.old }
+    ensures text { TellsOf (λ bytes. HoldsClaims superblock.now.geometry.layout bytes workspace.old)
+        (λ bytes. summary_of (seen superblock.now) (files_of superblock.now.geometry.layout bytes) (used_of superblock.now.geometry.layout bytes) ∷ [])
+        (progress W.sink report.old) (progress W.sink report.new) result }
+    ensures held { workspace.new ≡ workspace.old }
+{
+    let files = file_count(&workspace.kinds);
+    let used = used_count(&superblock.geometry, &workspace.claimed);
+    report.say(&summary_line(superblock, files, used))?;
+    Ok(())
+}
