@@ -8,3 +8,5 @@ pub mod Marks
 pub mod Cuts
 pub mod Doubles
 pub mod Tellings
+pub mod Rewalks
+pub mod Rescanned

@@ -164,3 +164,17 @@ none_told w os e = record {
     none : (b : Bool) → b ≡ (b || false)
     none true = refl
     none false = refl
+
+-- what is told is of the map and the marks alone
+pub told_from : (offers : List Offer) (u u' w : Workspace) → Told offers u' w → u'.doubled ≡ u.doubled → u'.marked ≡ u.marked → Told offers u w
+told_from offers u u' w t d m = record {
+  dup = t.dup ∙ ap (λ z. after_first (bits_of z) offers) d;
+  marked = λ x. t.marked x ∙ ap (λ z. bool_at z.items x || list_any (blames x) (first_offers (bits_of u'.doubled) offers)) m
+      ∙ ap (λ z. bool_at u.marked.items x || list_any (blames x) (first_offers (bits_of z) offers)) d;
+}
+
+pub told_to : (offers : List Offer) (u w w' : Workspace) → Told offers u w → w'.doubled ≡ w.doubled → w'.marked ≡ w.marked → Told offers u w'
+told_to offers u w w' t d m = record {
+  dup = ap bits_of d ∙ t.dup;
+  marked = λ x. ap (λ z. bool_at z.items x) m ∙ t.marked x;
+}

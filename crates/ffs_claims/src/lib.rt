@@ -6,7 +6,9 @@ mod first;
 mod offer;
 mod rescan;
 mod reserve;
+mod second;
 mod store;
 mod tell;
 
 pub use first::phase1;
+pub use second::phase1b;

@@ -1,0 +1,169 @@
+use Rattle.std.proofs.Common.{◌≡◌, ◌+◌, ◌<◌, ◌∷◌, [], arith, refl, sym, ap, ◌∙◌, List, Err}
+use Rattle.std.specs.Prelude.{slice_index}
+use Rattle.std.proofs.lemmas.Result.{err_from_is_err_and}
+use Rattle.ffs_maps.specs.Bits.{bits_of}
+use Rattle.ffs_phase.proofs.Telling.{of_begins, of_says, of_part, of_fault, of_stops, of_same, tells_knows, said_knows}
+use Rattle.ffs_volume.specs.BlockCheck.{Offer, first_offers, owners_kept, phase1b_lines}
+use Rattle.ffs_volume.specs.Claims.{no_claims}
+use Rattle.ffs_volume.specs.Inodes.{inode_of}
+use Rattle.ffs_volume.specs.KeptSteps.{claims_before}
+use Rattle.ffs_volume.specs.Messages.{Message, phase1b}
+use Rattle.ffs_volume.specs.Owners.{owners_of}
+use Rattle.ffs_volume.specs.Steps.{steps_of}
+use Rattle.ffs_workspace.specs.Lengths.{inodes_of, set_count}
+use Rattle.ffs_claims.specs.Lines.{of_lines, owners_from}
+use Rattle.ffs_claims.specs.Rescan.{rescan, offers_again}
+use Rattle.ffs_claims.specs.Telling.{after_first}
+use Rattle.ffs_claims.proofs.Numbers.{is_inside}
+use Rattle.ffs_claims.proofs.Rescanned.{kept_next, kept_end, runs_on, runs_most, claims_hold, told_same, all_lines, all_kept, lines_split}
+use Rattle.ffs_claims.proofs.Rewalks.{telling_over, lines_over}
+use Rattle.ffs_claims.proofs.Tellings.{telling_more, telling_ends, telling_same}
+use Rattle.ffs_claims.proofs.second.phase1b.Goals as goal
+
+pub returns-in_err-say-clause-text : goal.returns-in_err-say-clause-text
+returns-in_err-say-clause-text g c =
+    let p = err_from_is_err_and c.from_residual.result c.from_residual.ensures.1 in
+    let v = c.args.geometry.now.layout in
+    rw (p.1, p.2) (of_stops _ (λ bytes. phase1b ∷ of_lines (phase1b_lines v (owners_of v bytes))) (λ bytes. of_lines (phase1b_lines v (owners_of v bytes))) _ (phase1b ∷ []) _ _ _
+    (of_begins _ (λ bytes. phase1b ∷ of_lines (phase1b_lines v (owners_of v bytes))) _) (λ bytes t. refl) c.in_err-say.ensures.said)
+
+pub loop-number-init : goal.loop-number-init
+loop-number-init g c =
+    let v = c.args.geometry.now.layout in
+    let d = bits_of c.args.workspace.now.doubled in
+    record {
+      made = record {
+        claimed = c.requires.made.claimed;
+        doubled = c.requires.made.doubled;
+        untold = c.requires.made.untold;
+        kinds = c.requires.made.kinds;
+        marked = c.requires.made.marked;
+        named = c.requires.made.named;
+        reached = c.requires.made.reached;
+        leaders = c.requires.made.leaders;
+        references = c.requires.made.references;
+        cut = c.requires.made.cut;
+        parents = c.requires.made.parents;
+        queue = c.requires.made.queue;
+        table = c.requires.made.table;
+        blocks = c.requires.made.blocks;
+        chunk = c.requires.made.chunk;
+      };
+      device = refl;
+      windows = record { table = c.requires.windows.table; blocks = c.requires.windows.blocks; chunk = c.requires.windows.chunk };
+      same = c.in_ok-say.ensures.same;
+      claims = record { claimed = refl; kinds = refl; cut = refl };
+      low = omega arith;
+      high = λ h. omega arith;
+      runs = λ bytes k. omega arith;
+      told = λ bytes k. telling_same _ _ _ _ _ (told_same c.args.workspace.now _ (owners_kept v (no_claims v) (owners_of v bytes)) refl refl) (sym (all_kept v bytes));
+      said = of_says _ (λ bytes. phase1b ∷ of_lines (phase1b_lines v (owners_of v bytes))) (λ bytes. of_lines (first_offers d (owners_kept v (claims_before v bytes 2) (owners_from v bytes 2)))) _ (phase1b ∷ []) _ _ _
+          (of_begins _ (λ bytes. phase1b ∷ of_lines (phase1b_lines v (owners_of v bytes))) _)
+          (λ bytes k. ap (λ (xs : List Message). phase1b ∷ xs) (all_lines v bytes d k.1.dup))
+          c.in_ok-say.ensures.said;
+    }
+
+pub returns-then-is_told-clause-text : goal.returns-then-is_told-clause-text
+returns-then-is_told-clause-text g c =
+    let v = c.args.geometry.now.layout in
+    let inv = c.loop-number.invariant in
+    let none : set_count (bits_of c.loop-number.workspace.doubled) ≡ 0 = sym inv.made.untold ∙ c.is_told.ensures c.if-is_told.true in
+    of_same _ _ (λ bytes. []) _ _ _ inv.said
+    (λ bytes k. lines_over (bits_of c.loop-number.workspace.doubled) (owners_kept v (claims_before v bytes c.loop-number.number) (owners_from v bytes c.loop-number.number)) none)
+
+pub returns-then-is_told-clause-holds : goal.returns-then-is_told-clause-holds
+returns-then-is_told-clause-holds g c = λ bytes k.
+    let v = c.args.geometry.now.layout in
+    let inv = c.loop-number.invariant in
+    let none : set_count (bits_of c.loop-number.workspace.doubled) ≡ 0 = sym inv.made.untold ∙ c.is_told.ensures c.if-is_told.true in
+    claims_hold v bytes c.args.workspace.now c.loop-number.workspace k.1 inv.claims (telling_over _ _ _ _ none (inv.told bytes k))
+
+pub returns-then-is_told-clause-runs : goal.returns-then-is_told-clause-runs
+returns-then-is_told-clause-runs g c = λ bytes k.
+    let inv = c.loop-number.invariant in
+    omega (arith, inv.runs bytes k, runs_most c.args.geometry.now.layout bytes c.loop-number.number inv.low inv.high)
+
+pub returns-in_err-renumbered-clause-text : goal.returns-in_err-renumbered-clause-text
+returns-in_err-renumbered-clause-text g c =
+    let p = err_from_is_err_and c.from_residual-in_err-renumbered.result c.from_residual-in_err-renumbered.ensures.1 in
+    let v = c.args.geometry.now.layout in
+    let inv = c.loop-number.invariant in
+    let n = c.loop-number.number in
+    let d = bits_of c.loop-number.workspace.doubled in
+    let cuts = c.loop-number.workspace.cut.items in
+    let lt : n < inodes_of v = omega arith in
+    let inside = is_inside v n inv.low lt in
+    let cut = ap (λ z. slice_index z.items n) inv.claims.cut in
+    rw (p.1, p.2) (of_fault (Unit {0}) (Unit {0}) _ (λ bytes. of_lines (first_offers d (owners_kept v (claims_before v bytes n) (owners_from v bytes n))))
+    (λ bytes. of_lines (first_offers d (offers_again v n (rescan (slice_index cuts n)) (steps_of v (inode_of v bytes n) bytes))))
+    (λ bytes. of_lines (first_offers (after_first d (offers_again v n (rescan (slice_index cuts n)) (steps_of v (inode_of v bytes n) bytes))) (owners_kept v (claims_before v bytes (n + 1)) (owners_from v bytes (n + 1)))))
+    _ _ _ _ c.in_err-renumbered.field-0.0
+    inv.said
+    (λ bytes k. lines_split d _ _ _ _ (kept_next v bytes cuts n c.args.geometry.now.sound inv.low lt inside (cut ∙ k.1.cut n)) refl)
+    (tells_knows (Unit {0}) _ _ _ _ _ (Err c.in_err-renumbered.field-0.0) (λ bytes k. ap (λ d. d.told) inv.device ∙ k.0) c.in_err-renumbered.ensures.text))
+
+pub returns-in_err-renumbered-clause-runs : goal.returns-in_err-renumbered-clause-runs
+returns-in_err-renumbered-clause-runs g c = λ bytes k.
+    let v = c.args.geometry.now.layout in
+    let inv = c.loop-number.invariant in
+    let n = c.loop-number.number in
+    let cuts = c.loop-number.workspace.cut.items in
+    let lt : n < inodes_of v = omega arith in
+    let inside = is_inside v n inv.low lt in
+    let cut = ap (λ z. slice_index z.items n) inv.claims.cut in
+    omega (
+      arith,
+      inv.runs bytes k,
+      c.renumbered.ensures.runs bytes (ap (λ d. d.told) inv.device ∙ k.0),
+      runs_on v bytes cuts n c.args.geometry.now.sound inv.low inside (cut ∙ k.1.cut n),
+      runs_most v bytes (n + 1) (omega arith) (λ h. omega arith),
+    )
+
+pub loop-number-preserved : goal.loop-number-preserved
+loop-number-preserved g c =
+    let v = c.args.geometry.now.layout in
+    let inv = c.loop-number.invariant in
+    let n = c.loop-number.number in
+    let d = bits_of c.loop-number.workspace.doubled in
+    let d' = bits_of c.renumbered.new.workspace.doubled in
+    let cuts = c.loop-number.workspace.cut.items in
+    let lt : n < inodes_of v = omega arith in
+    let inside = is_inside v n inv.low lt in
+    let cut = ap (λ z. slice_index z.items n) inv.claims.cut in
+    let image = ap (λ d. d.told) inv.device in
+    record {
+      made = c.renumbered.ensures.made;
+      device = c.in_ok-renumbered.ensures.image ∙ inv.device;
+      windows = rw (c.in_ok-renumbered.ensures.image, inv.device) at c.renumbered.ensures.windows;
+      same = c.renumbered.ensures.same ∙ inv.same;
+      claims = record { claimed = c.renumbered.ensures.claims.claimed ∙ inv.claims.claimed; kinds = c.renumbered.ensures.claims.kinds ∙ inv.claims.kinds; cut = c.renumbered.ensures.claims.cut ∙ inv.claims.cut };
+      low = omega arith;
+      high = λ h. omega arith;
+      runs = λ bytes k. omega (arith, inv.runs bytes k, c.renumbered.ensures.runs bytes (image ∙ k.0), runs_on v bytes cuts n c.args.geometry.now.sound inv.low inside (cut ∙ k.1.cut n));
+      told = λ bytes k. telling_more _ (offers_again v n (rescan (slice_index cuts n)) (steps_of v (inode_of v bytes n) bytes)) (owners_kept v (claims_before v bytes (n + 1)) (owners_from v bytes (n + 1))) _ _ _ _
+          (inv.told bytes k) (kept_next v bytes cuts n c.args.geometry.now.sound inv.low lt inside (cut ∙ k.1.cut n)) (c.in_ok-renumbered.ensures.told bytes (image ∙ k.0));
+      said = of_part _ (λ bytes. of_lines (first_offers d (owners_kept v (claims_before v bytes n) (owners_from v bytes n))))
+          (λ bytes. of_lines (first_offers d (offers_again v n (rescan (slice_index cuts n)) (steps_of v (inode_of v bytes n) bytes))))
+          (λ bytes. of_lines (first_offers d' (owners_kept v (claims_before v bytes (n + 1)) (owners_from v bytes (n + 1))))) _ _ _ _ inv.said
+          (λ bytes k. lines_split d d' _ _ _ (kept_next v bytes cuts n c.args.geometry.now.sound inv.low lt inside (cut ∙ k.1.cut n)) (c.in_ok-renumbered.ensures.told bytes (image ∙ k.0)).dup)
+          (said_knows _ _ _ _ _ _ (λ bytes k. image ∙ k.0) c.in_ok-renumbered.ensures.text);
+    }
+
+pub returns-after-loop-number-clause-text : goal.returns-after-loop-number-clause-text
+returns-after-loop-number-clause-text g c =
+    let v = c.args.geometry.now.layout in
+    let inv = c.loop-number.invariant in
+    of_same _ _ (λ bytes. []) _ _ _ inv.said
+    (λ bytes k. ap (λ (os : List Offer). of_lines (first_offers (bits_of c.loop-number.workspace.doubled) os)) (kept_end v bytes (claims_before v bytes c.loop-number.number) c.loop-number.number (omega arith)))
+
+pub returns-after-loop-number-clause-holds : goal.returns-after-loop-number-clause-holds
+returns-after-loop-number-clause-holds g c = λ bytes k.
+    let v = c.args.geometry.now.layout in
+    let inv = c.loop-number.invariant in
+    claims_hold v bytes c.args.workspace.now c.loop-number.workspace k.1 inv.claims
+    (telling_ends _ _ _ _ (inv.told bytes k) (kept_end v bytes (claims_before v bytes c.loop-number.number) c.loop-number.number (omega arith)))
+
+pub returns-after-loop-number-clause-runs : goal.returns-after-loop-number-clause-runs
+returns-after-loop-number-clause-runs g c = λ bytes k.
+    let inv = c.loop-number.invariant in
+    omega (arith, inv.runs bytes k, runs_most c.args.geometry.now.layout bytes c.loop-number.number inv.low inv.high)

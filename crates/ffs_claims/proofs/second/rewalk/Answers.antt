@@ -1,0 +1,253 @@
+use Rattle.std.proofs.Common.{◌≡◌, ◌∷◌, [], arith, refl, ap, ◌∙◌, sym, List, ℕ}
+use Rattle.std.proofs.lemmas.Result.{err_from_is_err_and}
+use Rattle.ffs_volume.specs.BlockCheck.{Offer, first_offers}
+use Rattle.ffs_volume.specs.Steps.{steps_of}
+use Rattle.ffs_maps.specs.Bits.{bits_of}
+use Rattle.ffs_walk.specs.Rests.{rest}
+use Rattle.ffs_phase.specs.Known.{Where, Tells}
+use Rattle.ffs_phase.proofs.Telling.{of_begins, of_says, of_stops, of_reads, of_same}
+use Rattle.ffs_workspace.specs.Lengths.{set_count}
+use Rattle.ffs_claims.specs.declared.rescan.Rescan.{Rescan}
+use Rattle.ffs_claims.specs.Lines.{of_lines}
+use Rattle.ffs_claims.specs.Rescan.{rescan, again, step_offers_again, offers_again, runs_again}
+use Rattle.ffs_claims.specs.Telling.{after_first}
+use Rattle.ffs_claims.proofs.Tellings.{telling_begins, telling_ends, telling_same, told_from, told_to}
+use Rattle.ffs_claims.proofs.Rewalks.{going_first, runs_next, offers_none, offers_stopped, telling_on, lines_step, telling_over, lines_over}
+use Rattle.ffs_claims.proofs.second.rewalk.Goals as goal
+
+pub loop-next-init : goal.loop-next-init
+loop-next-init g c =
+    let v = c.args.geometry.now.layout in
+    let n = c.args.number in
+    let w = c.args.workspace.now in
+    let r = c.start-rescan.result in
+    let begun : c.start-rescan.result ≡ rescan c.args.cut = c.start-rescan.ensures in
+    let same : (bytes : List ℕ) → offers_again v n (rescan c.args.cut) (steps_of v c.args.inode.now bytes) ≡ offers_again v n c.start-rescan.result (rest bytes c.start-walk.result) =
+    λ bytes. ap (λ (x : Rescan). offers_again v n x (steps_of v c.args.inode.now bytes)) (sym begun) ∙ ap (offers_again v n c.start-rescan.result) (sym (c.start-walk.ensures.steps bytes)) in
+    record {
+      made = c.requires.made;
+      going = rw begun (going_first c.args.cut);
+      geometry = c.start-walk.ensures.geometry;
+      device = refl;
+      windows = c.requires.windows;
+      claims = record { claimed = refl; kinds = refl; cut = refl };
+      same = refl;
+      told = λ bytes t. telling_same _ _ _ _ _ (telling_begins (offers_again v n (rescan c.args.cut) (steps_of v c.args.inode.now bytes)) w) (same bytes);
+      runs = λ bytes t.
+          let runs : runs_again v c.start-rescan.result (rest bytes c.start-walk.result) ≡ runs_again v (rescan c.args.cut) (steps_of v c.args.inode.now bytes) =
+          ap (runs_again v c.start-rescan.result) (c.start-walk.ensures.steps bytes) ∙ ap (λ (x : Rescan). runs_again v x (steps_of v c.args.inode.now bytes)) begun in
+          omega (arith, runs);
+      said = of_same _ _ _ _ _ _ (of_begins _ (λ bytes. of_lines (first_offers (bits_of w.doubled) (offers_again v n (rescan c.args.cut) (steps_of v c.args.inode.now bytes)))) _)
+          (λ bytes t. ap (λ (os : List Offer). of_lines (first_offers (bits_of w.doubled) os)) (same bytes));
+    }
+
+pub returns-in_err-next-clause-text : goal.returns-in_err-next-clause-text
+returns-in_err-next-clause-text g c =
+    let p = err_from_is_err_and c.from_residual.result c.from_residual.ensures.1 in
+    rw (p.1, p.2) (of_reads _ _ _ _ _ c.loop-next.invariant.said)
+
+pub returns-in_err-next-clause-runs : goal.returns-in_err-next-clause-runs
+returns-in_err-next-clause-runs g c = λ bytes t. omega (arith, c.loop-next.invariant.runs bytes t)
+
+pub returns-in_err-retell-clause-text : goal.returns-in_err-retell-clause-text
+returns-in_err-retell-clause-text g c =
+    let p = err_from_is_err_and c.from_residual-in_err-retell.result c.from_residual-in_err-retell.ensures.1 in
+    let inv = c.loop-next.invariant in
+    let v = c.args.geometry.now.layout in
+    let n = c.args.number in
+    let d = bits_of c.loop-next.workspace.doubled in
+    let r = c.loop-next.rescan in
+    let step = c.in-Some.next in
+    let next : Where (Tells (g.I.Image.device c.args.image.now).told) (λ bytes. rest bytes c.loop-next.walk ≡ c.in-Some.next ∷ rest bytes c.next.new.self) =
+    rw (inv.device, c.in-Some.is) at c.in_ok-next.ensures.steps in
+    rw (p.1, p.2) (of_stops _ _ (λ bytes. of_lines (first_offers (after_first d (step_offers_again v n r step)) (offers_again v n (again v r step) (rest bytes c.next.new.self)))) _
+    (of_lines (first_offers d (step_offers_again v n r step))) _ _ _ inv.said
+    (λ bytes t. lines_step v n r (again v r step) step (rest bytes c.loop-next.walk) (rest bytes c.next.new.self) d (after_first d (step_offers_again v n r step)) (next bytes t) refl refl)
+    c.in_err-retell.ensures.said)
+
+pub returns-in_err-retell-clause-runs : goal.returns-in_err-retell-clause-runs
+returns-in_err-retell-clause-runs g c =
+    let inv = c.loop-next.invariant in
+    let v = c.args.geometry.now.layout in
+    let r = c.loop-next.rescan in
+    let step = c.in-Some.next in
+    let next : Where (Tells (g.I.Image.device c.args.image.now).told) (λ bytes. rest bytes c.loop-next.walk ≡ c.in-Some.next ∷ rest bytes c.next.new.self) =
+    rw (inv.device, c.in-Some.is) at c.in_ok-next.ensures.steps in
+    λ bytes t. omega (arith, inv.runs bytes t, c.retell.ensures.runs, runs_next v r (again v r step) step (rest bytes c.loop-next.walk) (rest bytes c.next.new.self) (next bytes t) refl)
+
+pub loop-next-preserved : goal.loop-next-preserved
+loop-next-preserved g c =
+    let inv = c.loop-next.invariant in
+    let v = c.args.geometry.now.layout in
+    let n = c.args.number in
+    let d = bits_of c.loop-next.workspace.doubled in
+    let d' = bits_of c.retell.new.workspace.doubled in
+    let r = c.loop-next.rescan in
+    let r' = c.retell.new.rescan in
+    let step = c.in-Some.next in
+    let now = c.in_ok-retell.ensures.again in
+    let next : Where (Tells (g.I.Image.device c.args.image.now).told) (λ bytes. rest bytes c.loop-next.walk ≡ c.in-Some.next ∷ rest bytes c.next.new.self) =
+    rw (inv.device, c.in-Some.is) at c.in_ok-next.ensures.steps in
+    record {
+      made = c.retell.ensures.made;
+      going = sym c.is_going.ensures ∙ c.if-not-is_going.false;
+      geometry = c.in_ok-next.ensures.geometry ∙ inv.geometry;
+      device = c.in_ok-next.ensures.ok ∙ inv.device;
+      windows = record {
+        table = rw c.retell.ensures.windows inv.windows.table;
+        blocks = rw c.retell.ensures.windows (rw (inv.geometry, c.in_ok-next.ensures.ok, inv.device) at c.in_ok-next.ensures.holds);
+        chunk = rw c.retell.ensures.windows inv.windows.chunk;
+      };
+      claims = record { claimed = c.retell.ensures.claims.claimed ∙ inv.claims.claimed; kinds = c.retell.ensures.claims.kinds ∙ inv.claims.kinds; cut = c.retell.ensures.claims.cut ∙ inv.claims.cut };
+      same = c.retell.ensures.same ∙ inv.same;
+      told = λ bytes t. telling_on v n r r' step (rest bytes c.loop-next.walk) (rest bytes c.next.new.self) _ _ c.loop-next.workspace c.retell.new.workspace
+          (next bytes t) now (inv.told bytes t) (told_from _ c.loop-next.workspace _ c.retell.new.workspace c.in_ok-retell.ensures.told refl refl);
+      runs = λ bytes t. omega (arith, inv.runs bytes t, c.retell.ensures.runs, runs_next v r r' step (rest bytes c.loop-next.walk) (rest bytes c.next.new.self) (next bytes t) now);
+      said = of_says _ _ (λ bytes. of_lines (first_offers d' (offers_again v n r' (rest bytes c.next.new.self)))) _
+          (of_lines (first_offers d (step_offers_again v n r step))) _ _ _ inv.said
+          (λ bytes t. lines_step v n r r' step (rest bytes c.loop-next.walk) (rest bytes c.next.new.self) d d' (next bytes t) now c.in_ok-retell.ensures.told.dup)
+          c.in_ok-retell.ensures.said;
+    }
+
+pub returns-then-not-is_going-clause-text : goal.returns-then-not-is_going-clause-text
+returns-then-not-is_going-clause-text g c =
+    let inv = c.loop-next.invariant in
+    let v = c.args.geometry.now.layout in
+    let n = c.args.number in
+    let d = bits_of c.loop-next.workspace.doubled in
+    let d' = bits_of c.retell.new.workspace.doubled in
+    let r = c.loop-next.rescan in
+    let r' = c.retell.new.rescan in
+    let step = c.in-Some.next in
+    let next : Where (Tells (g.I.Image.device c.args.image.now).told) (λ bytes. rest bytes c.loop-next.walk ≡ c.in-Some.next ∷ rest bytes c.next.new.self) =
+    rw (inv.device, c.in-Some.is) at c.in_ok-next.ensures.steps in
+    of_same _ _ _ _ _ _
+    (of_says _ _ (λ bytes. of_lines (first_offers d' (offers_again v n r' (rest bytes c.next.new.self)))) _
+    (of_lines (first_offers d (step_offers_again v n r step))) _ _ _ inv.said
+    (λ bytes t. lines_step v n r r' step (rest bytes c.loop-next.walk) (rest bytes c.next.new.self) d d' (next bytes t) c.in_ok-retell.ensures.again c.in_ok-retell.ensures.told.dup)
+    c.in_ok-retell.ensures.said)
+    (λ bytes t. ap (λ (os : List Offer). of_lines (first_offers d' os)) (offers_stopped v n r' (rest bytes c.next.new.self) (sym c.is_going.ensures ∙ c.if-not-is_going.true)))
+
+pub returns-then-not-is_going-clause-told : goal.returns-then-not-is_going-clause-told
+returns-then-not-is_going-clause-told g c =
+    let inv = c.loop-next.invariant in
+    let v = c.args.geometry.now.layout in
+    let n = c.args.number in
+    let r = c.loop-next.rescan in
+    let r' = c.retell.new.rescan in
+    let step = c.in-Some.next in
+    let next : Where (Tells (g.I.Image.device c.args.image.now).told) (λ bytes. rest bytes c.loop-next.walk ≡ c.in-Some.next ∷ rest bytes c.next.new.self) =
+    rw (inv.device, c.in-Some.is) at c.in_ok-next.ensures.steps in
+    λ bytes t. telling_ends _ _ _ _
+    (telling_on v n r r' step (rest bytes c.loop-next.walk) (rest bytes c.next.new.self) _ _ c.loop-next.workspace c.retell.new.workspace
+    (next bytes t) c.in_ok-retell.ensures.again (inv.told bytes t) (told_from _ c.loop-next.workspace _ c.retell.new.workspace c.in_ok-retell.ensures.told refl refl))
+    (offers_stopped v n r' (rest bytes c.next.new.self) (sym c.is_going.ensures ∙ c.if-not-is_going.true))
+
+pub returns-then-not-is_going-clause-runs : goal.returns-then-not-is_going-clause-runs
+returns-then-not-is_going-clause-runs g c =
+    let inv = c.loop-next.invariant in
+    let v = c.args.geometry.now.layout in
+    let r = c.loop-next.rescan in
+    let step = c.in-Some.next in
+    let next : Where (Tells (g.I.Image.device c.args.image.now).told) (λ bytes. rest bytes c.loop-next.walk ≡ c.in-Some.next ∷ rest bytes c.next.new.self) =
+    rw (inv.device, c.in-Some.is) at c.in_ok-next.ensures.steps in
+    λ bytes t. omega (arith, inv.runs bytes t, c.retell.ensures.runs, runs_next v r (again v r step) step (rest bytes c.loop-next.walk) (rest bytes c.next.new.self) (next bytes t) refl)
+
+pub returns-then-is_told-clause-text : goal.returns-then-is_told-clause-text
+returns-then-is_told-clause-text g c =
+    let inv = c.loop-next.invariant in
+    let v = c.args.geometry.now.layout in
+    let n = c.args.number in
+    let d = bits_of c.loop-next.workspace.doubled in
+    let d' = bits_of c.retell.new.workspace.doubled in
+    let r = c.loop-next.rescan in
+    let r' = c.retell.new.rescan in
+    let step = c.in-Some.next in
+    let none : set_count (bits_of c.retell.new.workspace.doubled) ≡ 0 = sym c.retell.ensures.made.untold ∙ c.is_told.ensures c.if-is_told.true in
+    let next : Where (Tells (g.I.Image.device c.args.image.now).told) (λ bytes. rest bytes c.loop-next.walk ≡ c.in-Some.next ∷ rest bytes c.next.new.self) =
+    rw (inv.device, c.in-Some.is) at c.in_ok-next.ensures.steps in
+    of_same _ _ _ _ _ _
+    (of_says _ _ (λ bytes. of_lines (first_offers d' (offers_again v n r' (rest bytes c.next.new.self)))) _
+    (of_lines (first_offers d (step_offers_again v n r step))) _ _ _ inv.said
+    (λ bytes t. lines_step v n r r' step (rest bytes c.loop-next.walk) (rest bytes c.next.new.self) d d' (next bytes t) c.in_ok-retell.ensures.again c.in_ok-retell.ensures.told.dup)
+    c.in_ok-retell.ensures.said)
+    (λ bytes t. lines_over d' (offers_again v n r' (rest bytes c.next.new.self)) none)
+
+pub returns-then-is_told-clause-told : goal.returns-then-is_told-clause-told
+returns-then-is_told-clause-told g c =
+    let inv = c.loop-next.invariant in
+    let v = c.args.geometry.now.layout in
+    let n = c.args.number in
+    let r = c.loop-next.rescan in
+    let r' = c.retell.new.rescan in
+    let step = c.in-Some.next in
+    let none : set_count (bits_of c.retell.new.workspace.doubled) ≡ 0 = sym c.retell.ensures.made.untold ∙ c.is_told.ensures c.if-is_told.true in
+    let next : Where (Tells (g.I.Image.device c.args.image.now).told) (λ bytes. rest bytes c.loop-next.walk ≡ c.in-Some.next ∷ rest bytes c.next.new.self) =
+    rw (inv.device, c.in-Some.is) at c.in_ok-next.ensures.steps in
+    λ bytes t. telling_over _ _ _ _ none
+    (telling_on v n r r' step (rest bytes c.loop-next.walk) (rest bytes c.next.new.self) _ _ c.loop-next.workspace c.retell.new.workspace
+    (next bytes t) c.in_ok-retell.ensures.again (inv.told bytes t) (told_from _ c.loop-next.workspace _ c.retell.new.workspace c.in_ok-retell.ensures.told refl refl))
+
+pub returns-then-is_told-clause-runs : goal.returns-then-is_told-clause-runs
+returns-then-is_told-clause-runs g c =
+    let inv = c.loop-next.invariant in
+    let v = c.args.geometry.now.layout in
+    let r = c.loop-next.rescan in
+    let step = c.in-Some.next in
+    let next : Where (Tells (g.I.Image.device c.args.image.now).told) (λ bytes. rest bytes c.loop-next.walk ≡ c.in-Some.next ∷ rest bytes c.next.new.self) =
+    rw (inv.device, c.in-Some.is) at c.in_ok-next.ensures.steps in
+    λ bytes t. omega (arith, inv.runs bytes t, c.retell.ensures.runs, runs_next v r (again v r step) step (rest bytes c.loop-next.walk) (rest bytes c.next.new.self) (next bytes t) refl)
+
+pub returns-in_default-clause-text : goal.returns-in_default-clause-text
+returns-in_default-clause-text g c =
+    let inv = c.loop-next.invariant in
+    let over : Where (Tells (g.I.Image.device c.args.image.now).told) (λ bytes. rest bytes c.loop-next.walk ≡ []) =
+    rw (inv.device, c.in_default.is) at c.in_ok-next.ensures.steps in
+    of_same _ _ _ _ _ _ inv.said
+    (λ bytes t. ap (λ (os : List Offer). of_lines (first_offers (bits_of c.loop-next.workspace.doubled) os)) (offers_none c.args.geometry.now.layout c.args.number c.loop-next.rescan (rest bytes c.loop-next.walk) (over bytes t)))
+
+pub returns-in_default-clause-told : goal.returns-in_default-clause-told
+returns-in_default-clause-told g c =
+    let inv = c.loop-next.invariant in
+    let over : Where (Tells (g.I.Image.device c.args.image.now).told) (λ bytes. rest bytes c.loop-next.walk ≡ []) =
+    rw (inv.device, c.in_default.is) at c.in_ok-next.ensures.steps in
+    λ bytes t. told_to _ _ c.loop-next.workspace _ (telling_ends _ _ _ _ (inv.told bytes t) (offers_none c.args.geometry.now.layout c.args.number c.loop-next.rescan (rest bytes c.loop-next.walk) (over bytes t))) refl refl
+
+pub returns-in_default-clause-runs : goal.returns-in_default-clause-runs
+returns-in_default-clause-runs g c = λ bytes t. omega (arith, c.loop-next.invariant.runs bytes t)
+
+pub returns-in_err-retell-clause-windows : goal.returns-in_err-retell-clause-windows
+returns-in_err-retell-clause-windows g c =
+    let inv = c.loop-next.invariant in
+    rw (c.in_ok-next.ensures.ok, inv.device) (record {
+      table = rw c.retell.ensures.windows inv.windows.table;
+      blocks = rw c.retell.ensures.windows (rw (inv.geometry, c.in_ok-next.ensures.ok, inv.device) at c.in_ok-next.ensures.holds);
+      chunk = rw c.retell.ensures.windows inv.windows.chunk;
+    })
+
+pub returns-then-not-is_going-clause-windows : goal.returns-then-not-is_going-clause-windows
+returns-then-not-is_going-clause-windows g c =
+    let inv = c.loop-next.invariant in
+    rw (c.in_ok-next.ensures.ok, inv.device) (record {
+      table = rw c.retell.ensures.windows inv.windows.table;
+      blocks = rw c.retell.ensures.windows (rw (inv.geometry, c.in_ok-next.ensures.ok, inv.device) at c.in_ok-next.ensures.holds);
+      chunk = rw c.retell.ensures.windows inv.windows.chunk;
+    })
+
+pub returns-then-is_told-clause-windows : goal.returns-then-is_told-clause-windows
+returns-then-is_told-clause-windows g c =
+    let inv = c.loop-next.invariant in
+    rw (c.in_ok-next.ensures.ok, inv.device) (record {
+      table = rw c.retell.ensures.windows inv.windows.table;
+      blocks = rw c.retell.ensures.windows (rw (inv.geometry, c.in_ok-next.ensures.ok, inv.device) at c.in_ok-next.ensures.holds);
+      chunk = rw c.retell.ensures.windows inv.windows.chunk;
+    })
+
+pub returns-in_default-clause-windows : goal.returns-in_default-clause-windows
+returns-in_default-clause-windows g c =
+    let inv = c.loop-next.invariant in
+    rw (c.in_ok-next.ensures.ok, inv.device) (record {
+      table = inv.windows.table;
+      blocks = rw (inv.geometry, c.in_ok-next.ensures.ok, inv.device) at c.in_ok-next.ensures.holds;
+      chunk = inv.windows.chunk;
+    })
