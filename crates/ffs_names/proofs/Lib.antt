@@ -7,3 +7,4 @@ pub mod Entered
 pub mod DirLaws
 pub mod SameGraphs
 pub mod SurveyHolds
+pub mod RunsSeen

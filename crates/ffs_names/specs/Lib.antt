@@ -5,3 +5,4 @@ pub mod Readings
 pub mod Entering
 pub mod Trees
 pub mod Surveys
+pub mod SeenRuns

@@ -10,6 +10,7 @@ ghost use Rattle.ffs_volume.specs.declared.Step.TheVariants.{Run};
 ghost use Rattle.ffs_volume.specs.Replay.{is_seen as is_seen_in, fresh_replay, replayed_steps};
 ghost use Rattle.ffs_volume.specs.ReplayLaws.{replayed_runs};
 ghost use Rattle.ffs_names.specs.Fits.{HandFits};
+ghost use Rattle.ffs_names.specs.SeenRuns.{RunsAreSeen};
 ghost use Rattle.ffs_walk.specs.Windows.{BlocksHold, HasRoom, WindowHolds};
 
 use crate::hand::Hand;
@@ -215,3 +216,9 @@ fn taken_of(size: u64) -> u64
     }
     size.div_ceil(512) * 512
 }
+
+/// A reading of a directory looks at no more Runs than the block check sees in it: `Chunks::start` and `Chunks::next`
+/// bound its count by the Runs of the replay, and these are as many.
+pub fn runs_are_seen()
+    ensures { RunsAreSeen }
+{}

@@ -1,0 +1,5 @@
+use Rattle.ffs_names.proofs.RunsSeen.{runs_seen_by}
+use Rattle.ffs_names.proofs.chunks.runs_are_seen.Goals as goal
+
+pub returns : goal.returns
+returns c = runs_seen_by
