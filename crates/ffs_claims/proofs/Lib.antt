@@ -10,3 +10,4 @@ pub mod Doubles
 pub mod Tellings
 pub mod Rewalks
 pub mod Rescanned
+pub mod Whole

@@ -3,3 +3,4 @@ pub mod Rescan
 pub mod Lines
 pub mod Leaves
 pub mod Telling
+pub mod Whole

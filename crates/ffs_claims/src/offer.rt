@@ -1,8 +1,8 @@
 //! The offers of Runs, and what is told of them.
 
-ghost use Rattle.std.specs.Prelude.{◌≡◌, ◌+◌, ◌<◌, ◌≤◌, ◌^◌, OnOk, IsTrue, true, slice_set};
+ghost use Rattle.std.specs.Prelude.{◌≡◌, ◌+◌, ◌<◌, ◌≤◌, ◌^◌, OnOk, IsTrue, true, false, slice_set};
 ghost use Rattle.std.specs.List.{range_with_len};
-ghost use Rattle.ffs_volume.specs.Areas.{is_ok};
+ghost use Rattle.ffs_volume.specs.Areas.{is_in_range, is_ok};
 ghost use Rattle.ffs_volume.specs.Claims as claims;
 ghost use Rattle.ffs_volume.specs.Claims.{after_offer, after_offers, after_run, after_step, offer_lines, offers_lines, run_lines, step_lines};
 ghost use Rattle.ffs_report.specs.Progress.{progress, kept, Says};
@@ -12,6 +12,7 @@ ghost use Rattle.ffs_workspace.specs.Holds.{claims_of};
 ghost use Rattle.ffs_workspace.specs.Lengths.{IsFor};
 ghost use Rattle.ffs_claims.specs.Leaves.{SameWindows, SameFound};
 ghost use Rattle.ffs_claims.specs.Lines.{of_lines, is_dup, dup_lines, bad_lines};
+ghost use Rattle.ffs_claims.specs.Whole.{IsWhole};
 
 use ffs_layout::Geometry;
 use ffs_report::{Line, OutFault, Output, Report};
@@ -169,6 +170,59 @@ fn offers<W: Output>(
     Ok(())
 }
 
+/// Claims a Run in range at once, where its fragments are all unclaimed and lie in one word of the map.
+fn claim_whole(workspace: &mut Workspace, geometry: &Geometry, start: u32, len: u32) -> bool
+    requires made { IsFor geometry.now.layout workspace.old }
+    requires some { 0 < len }
+    requires few { len ≤ 8 }
+    requires in_range { is_in_range geometry.now.layout start len ≡ true }
+    requires room { workspace.old.kept < 2 ^ 62 }
+    requires dups { workspace.old.dups < 11 }
+    ensures whole { IsTrue result → IsWhole geometry.now.layout (claims_of workspace.old) start len }
+    ensures claims { IsTrue result → claims_of workspace.new ≡ after_offers geometry.now.layout (claims_of workspace.old) (range_with_len start len) }
+    ensures kept { result ≡ false → workspace.new ≡ workspace.old }
+    ensures runs { workspace.new.runs_seen ≡ workspace.old.runs_seen }
+    ensures made { IsFor geometry.now.layout workspace.new }
+    ensures windows { SameWindows workspace.old workspace.new }
+    ensures found { SameFound workspace.old workspace.new }
+{
+    if !workspace.claimed.claim(start, len) {
+        return false;
+    }
+    workspace.kept += u64::from(len);
+    true
+}
+
+/// A Run in range of the inode in hand.
+fn run_in_range<W: Output>(
+    workspace: &mut Workspace,
+    geometry: &Geometry,
+    number: u32,
+    start: u32,
+    len: u32,
+    report: &mut Report<'_, W>,
+) -> Result<(), OutFault>
+    requires made { IsFor geometry.now.layout workspace.old }
+    requires some { 0 < len }
+    requires few { len ≤ 8 }
+    requires in_range { is_in_range geometry.now.layout start len ≡ true }
+    requires room { workspace.old.kept < 2 ^ 62 }
+    requires dups { workspace.old.dups < 11 }
+    ensures same { kept W.lent report.new ≡ kept W.lent report.old }
+    ensures said { Says (progress W.sink report.old) (progress W.sink report.new)
+        (of_lines (offers_lines geometry.now.layout number (claims_of workspace.old) (range_with_len start len))) result }
+    ensures claims { OnOk result (claims_of workspace.new ≡ after_offers geometry.now.layout (claims_of workspace.old) (range_with_len start len)) }
+    ensures runs { workspace.new.runs_seen ≡ workspace.old.runs_seen }
+    ensures made { IsFor geometry.now.layout workspace.new }
+    ensures windows { SameWindows workspace.old workspace.new }
+    ensures found { SameFound workspace.old workspace.new }
+{
+    if claim_whole(workspace, geometry, start, len) {
+        return Ok(());
+    }
+    offers(workspace, geometry, number, start, len, report)
+}
+
 /// A Run of the inode in hand.
 fn run<W: Output>(
     workspace: &mut Workspace,
@@ -184,6 +238,7 @@ fn run<W: Output>(
     requires room { workspace.old.kept < 2 ^ 62 }
     requires runs { workspace.old.runs_seen < 2 ^ 62 }
     requires bad { workspace.old.bad < 11 }
+    requires dups { workspace.old.dups < 11 }
     ensures same { kept W.lent report.new ≡ kept W.lent report.old }
     ensures said { Says (progress W.sink report.old) (progress W.sink report.new)
         (of_lines (run_lines geometry.now.layout number (claims_of workspace.old) start len)) result }
@@ -195,7 +250,7 @@ fn run<W: Output>(
 {
     workspace.runs_seen += 1;
     if geometry.in_range(start, len) {
-        return offers(workspace, geometry, number, start, len, report);
+        return run_in_range(workspace, geometry, number, start, len, report);
     }
     let many = workspace.bad == 10;
     workspace.bad += 1;

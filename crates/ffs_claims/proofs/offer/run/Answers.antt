@@ -14,4 +14,4 @@ returns-in_err-say_bad-clause-said g c =
 pub returns-clause-said : goal.returns-clause-said
 returns-clause-said g c =
     run_says c.args.geometry.now.layout c.args.number (claims_of c.args.workspace.now) c.args.start c.args.len _ _ _ _
-    (sym c.in_range.ensures ∙ c.if-in_range.false) (grind (arith, nat_tests)) c.in_ok-say_bad.ensures.said c.offers-2.ensures.said
+    (sym c.in_range.ensures ∙ c.if-in_range.false) (grind (arith, nat_tests)) c.in_ok-say_bad.ensures.said c.offers.ensures.said
