@@ -34,14 +34,14 @@ is_part Unknown = false
 is_part File = false
 is_part Dir = false
 
-of_part : (test : Class → Bool) → test Free ≡ test Partial → (c : Class) (i : Inode) → is_part c ≡ true → test (class_of_kind (kind_of c i)) ≡ test c
+of_part : {T : Type 0} (test : Class → T) → test Free ≡ test Partial → (c : Class) (i : Inode) → is_part c ≡ true → test (class_of_kind (kind_of c i)) ≡ test c
 of_part test e Partial i p = e
 of_part test e Free i p = absurd (true≢false (sym p))
 of_part test e Unknown i p = absurd (true≢false (sym p))
 of_part test e File i p = absurd (true≢false (sym p))
 of_part test e Dir i p = absurd (true≢false (sym p))
 
-same_test : (test : Class → Bool) → test Free ≡ test Partial → (v : Layout) (image : List ℕ) (x : ℕ) → test (class_of_kind (kind_at v image x)) ≡ test (class_at v image x)
+pub same_test : {T : Type 0} (test : Class → T) → test Free ≡ test Partial → (v : Layout) (image : List ℕ) (x : ℕ) → test (class_of_kind (kind_at v image x)) ≡ test (class_at v image x)
 unfolding kind_at
 same_test test e v image x = go (is_part (class_at v image x)) refl (λ p. ap test (class_is v image x p))
   where

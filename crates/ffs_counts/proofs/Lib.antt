@@ -3,3 +3,5 @@ pub mod Sifting
 pub mod Findings
 pub mod Classes
 pub mod GroupText
+pub mod Numbers
+pub mod Holding

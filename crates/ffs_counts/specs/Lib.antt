@@ -1,3 +1,4 @@
 pub mod Once
 pub mod Ready
+pub mod References
 pub mod Totals

@@ -5,8 +5,11 @@ mod group_check;
 mod groups;
 mod once;
 mod one;
+mod reference;
+mod reference_check;
 mod summing;
 mod totals;
 
 pub use group_check::phase5;
+pub use reference_check::phase4;
 pub use summing::summary;

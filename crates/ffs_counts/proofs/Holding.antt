@@ -1,0 +1,66 @@
+-- What a workspace holds where only its windows have changed, and what is told of an inode by it.
+use Rattle.std.proofs.Common.{◌≡◌, ℕ, ◌<◌, Bool, true, false, List, [], map, refl, ap, ◌∙◌, sym, subst, slice_index, arith}
+use Rattle.std.specs.Prelude.{◌&&◌, ◌||◌, ◌==◌, not, if◌then◌else◌}
+use Rattle.ffs_volume.specs.declared.Layout.{Layout}
+use Rattle.std.proofs.Common.{ℤ, ◌-◌}
+use Rattle.ffs_volume.specs.declared.Attr.{Attr}
+use Rattle.ffs_volume.specs.declared.Inode.{Inode}
+use Rattle.ffs_volume.specs.Messages.{NameMessage, of_names}
+use Rattle.ffs_volume.specs.Graph.{named}
+use Rattle.ffs_volume.specs.Parents.{graph_of}
+use Rattle.ffs_volume.specs.Inodes.{inode_of}
+use Rattle.ffs_volume.specs.Roles.{references, is_some_inode, is_suspect}
+use Rattle.ffs_volume.specs.PathnameCheck.{label_of, attributes}
+use Rattle.ffs_volume.specs.Volumes.{class_at, marked_at, volume_of, volume_with}
+use Rattle.ffs_volume.specs.ReferenceCheck.{inode_lines, counted_lines, reference_lines}
+use Rattle.ffs_volume.specs.Connectivity.{is_dead}
+use Rattle.ffs_workspace.specs.declared.workspace.Workspace.{Workspace}
+use Rattle.ffs_workspace.specs.Holds.{HoldsClaims, HoldsSurvey, bool_at}
+use Rattle.ffs_workspace.specs.Kinds.{kind_at, class_of_kind, is_empty_dir_kind, is_allocated_kind}
+use Rattle.ffs_workspace.specs.Lengths.{inodes_of}
+use Rattle.ffs_workspace.proofs.KindLaws.{suspect_is, some_is}
+use Rattle.ffs_counts.specs.References.{reference_told, attr_with, lines_from}
+use Rattle.ffs_counts.proofs.Numbers.{all_from}
+use Rattle.ffs_counts.proofs.Classes.{same_test}
+
+pub claims_held : (v : Layout) (b : List ℕ) (old new : Workspace) → new ≡ record old { windows = new.windows } → HoldsClaims v b old → HoldsClaims v b new
+claims_held v b old new e k = subst (HoldsClaims v b) (sym e) (record { used = k.used; kinds = k.kinds; marked = k.marked; cut = k.cut })
+
+pub survey_held : (v : Layout) (b : List ℕ) (old new : Workspace) → new ≡ record old { windows = new.windows } → HoldsSurvey v b old → HoldsSurvey v b new
+survey_held v b old new e k = subst (HoldsSurvey v b) (sym e) (record { references = k.references; named = k.named; reached = k.reached; parents = k.parents })
+
+pub held_on : (old mid new : Workspace) → mid ≡ record old { windows = mid.windows } → new ≡ record mid { windows = new.windows } → new ≡ record old { windows = new.windows }
+held_on old mid new e f = f ∙ ap (λ (w : Workspace). record w { windows = new.windows }) e
+
+pub inode_lines_are : (v : Layout) (b : List ℕ) (w : Workspace) (i : ℕ) (inode : Inode) (dead : Bool) → i < inodes_of v → HoldsClaims v b w → HoldsSurvey v b w → inode ≡ inode_of v b i →
+    dead ≡ ((bool_at w.marked.items i || is_empty_dir_kind (slice_index w.kinds.items i)) && (not (i == 2) && not (bool_at w.named.items i))) →
+    inode_lines (volume_of v b) i ≡ reference_told dead (bool_at w.marked.items i) (label_of (class_of_kind (slice_index w.kinds.items i))) (attr_with i inode) inode.nlink (slice_index w.references.items i)
+unfolding inode_lines attributes volume_of volume_with
+inode_lines_are v b w i inode dead low h s is e =
+    let suspect : (bool_at w.marked.items i || is_empty_dir_kind (slice_index w.kinds.items i)) ≡ (marked_at v b i || is_empty_dir_kind (kind_at v b i)) =
+    ap (λ m. m || is_empty_dir_kind (slice_index w.kinds.items i)) (h.marked i) ∙ ap (λ k. marked_at v b i || is_empty_dir_kind k) (h.kinds i) in
+    let is_dead_is : dead ≡ is_dead (volume_of v b) i = e ∙ ap (λ t. t && (not (i == 2) && not (bool_at w.named.items i))) (suspect ∙ sym (suspect_is v b i))
+    ∙ ap (λ n. is_suspect (volume_of v b) i && (not (i == 2) && not n)) (s.named i low) in
+    let label : label_of (class_of_kind (slice_index w.kinds.items i)) ≡ label_of (class_at v b i) = ap (λ k. label_of (class_of_kind k)) (h.kinds i) ∙ same_test label_of refl v b i in
+    rw (is_dead_is, h.marked i, label, is, s.references i low) refl
+
+pub no_lines : (v : Layout) (b : List ℕ) (w : Workspace) (i kind : ℕ) → HoldsClaims v b w → kind ≡ slice_index w.kinds.items i → kind ≡ 0 → counted_lines (volume_of v b) i ≡ []
+no_lines v b w i kind h is e =
+    let none : is_some_inode (volume_of v b) i ≡ false = some_is v b i ∙ ap is_allocated_kind (sym (h.kinds i) ∙ sym is ∙ e) in
+    ap (λ t. if t then inode_lines (volume_of v b) i else []) none
+
+not_zero : (k : ℕ) → (k ≡ 0 → ⊥) → (k == 0) ≡ false
+not_zero k apart = grind (arith, apart)
+
+pub some_lines : (v : Layout) (b : List ℕ) (w : Workspace) (i kind : ℕ) → HoldsClaims v b w → kind ≡ slice_index w.kinds.items i → (kind ≡ 0 → ⊥) → inode_lines (volume_of v b) i ≡ counted_lines (volume_of v b) i
+some_lines v b w i kind h is apart =
+    let some : is_some_inode (volume_of v b) i ≡ true = some_is v b i ∙ ap is_allocated_kind (sym (h.kinds i) ∙ sym is) ∙ ap not (not_zero kind apart) in
+    ap (λ t. if t then inode_lines (volume_of v b) i else []) (sym some)
+
+pub same_told : (dead m m' : Bool) (k k' : ℕ) (attr : Attr) (nlink : ℤ) (r r' : ℕ) → m ≡ m' → k ≡ k' → r ≡ r' →
+    reference_told dead m' (label_of (class_of_kind k')) attr nlink r' ≡ reference_told dead m (label_of (class_of_kind k)) attr nlink r
+same_told dead m m' k k' attr nlink r r' e f g = rw (e, f, g) refl
+
+pub lines_begin : (v : Layout) (b : List ℕ) → map of_names (reference_lines (volume_of v b)) ≡ map of_names (lines_from (counted_lines (volume_of v b)) 0 (inodes_of v - 0))
+unfolding reference_lines volume_of volume_with
+lines_begin v b = ap (λ (ls : List NameMessage). map of_names ls) (all_from (counted_lines (volume_of v b)) (inodes_of v))

@@ -1,0 +1,70 @@
+use Rattle.std.proofs.Common.{arith, rules, refl, sym, ap, ◌∙◌, ◌++◌, ◌∷◌, [], List, ℕ, Bool, ◌≡◌, ◌+◌, ◌-◌, ◌*◌, ◌<◌, ◌≤◌, map, Err, slice_index, length, append-nil}
+use Rattle.std.proofs.lemmas.Result.{err_from_is_err_and}
+use Rattle.std.proofs.lemmas.List.{get_or_read}
+use Rattle.ffs_volume.specs.Messages.{Message, NameMessage, of_names, phase4}
+use Rattle.ffs_volume.specs.ReferenceCheck.{counted_lines, inode_lines, reference_lines}
+use Rattle.ffs_volume.specs.Volumes.{volume_of}
+use Rattle.ffs_phase.proofs.Telling.{of_begins, of_says, of_stops, of_same, of_reads, of_part, of_fault, said_knows, tells_knows, tells_same}
+use Rattle.ffs_workspace.specs.Holds.{bool_at}
+use Rattle.ffs_workspace.specs.Lengths.{inodes_of}
+use Rattle.ffs_counts.specs.References.{attr_with, lines_as, lines_from}
+use Rattle.ffs_counts.proofs.Holding.{claims_held, survey_held, held_on, inode_lines_are, no_lines, some_lines, same_told, lines_begin}
+use Rattle.ffs_counts.proofs.Numbers.{from_next, from_end}
+use Rattle.ffs_counts.proofs.reference_check.phase4.Goals as goal
+
+pub returns-in_err-say-clause-text : goal.returns-in_err-say-clause-text
+returns-in_err-say-clause-text g c =
+    let p = err_from_is_err_and c.from_residual.result c.from_residual.ensures.1 in
+    let v = c.args.geometry.now.layout in
+    rw (p.1, p.2) (of_stops _ (λ bytes. phase4 ∷ map of_names (reference_lines (volume_of v bytes))) (λ bytes. map of_names (reference_lines (volume_of v bytes))) _ (phase4 ∷ []) _ _ _
+    (of_begins _ (λ bytes. phase4 ∷ map of_names (reference_lines (volume_of v bytes))) _) (λ bytes t. refl) c.in_err-say.ensures.said)
+
+pub loop-number-init : goal.loop-number-init
+loop-number-init g c =
+    let v = c.args.geometry.now.layout in
+    record {
+      made = c.requires.made;
+      device = refl;
+      windows = c.requires.windows;
+      same = c.in_ok-say.ensures.same;
+      held = refl;
+      said = of_says _ (λ bytes. phase4 ∷ map of_names (reference_lines (volume_of v bytes))) (λ bytes. map of_names (lines_from (counted_lines (volume_of v bytes)) 0 (inodes_of v - 0))) _ (phase4 ∷ []) _ _ _
+          (of_begins _ (λ bytes. phase4 ∷ map of_names (reference_lines (volume_of v bytes))) _)
+          (λ bytes k. ap (λ (xs : List Message). phase4 ∷ xs) (lines_begin v bytes))
+          c.in_ok-say.ensures.said;
+    }
+
+pub returns-in_err-numbered-clause-text : goal.returns-in_err-numbered-clause-text
+returns-in_err-numbered-clause-text g c =
+    let p = err_from_is_err_and c.from_residual-in_err-numbered.result c.from_residual-in_err-numbered.ensures.1 in
+    let v = c.args.geometry.now.layout in
+    let inv = c.loop-number.invariant in
+    let n = c.loop-number.number in
+    rw (p.1, p.2) (of_fault (Unit {0}) (Unit {0}) _ (λ bytes. map of_names (lines_from (counted_lines (volume_of v bytes)) n (inodes_of v - n))) (λ bytes. map of_names (counted_lines (volume_of v bytes) n)) (λ bytes. map of_names (lines_from (counted_lines (volume_of v bytes)) (n + 1) (inodes_of v - (n + 1)))) _ _ _ _ c.in_err-numbered.field-0.0
+    inv.said (λ bytes k. from_next (counted_lines (volume_of v bytes)) n (inodes_of v) (omega (arith, c.loop-number-test.true)))
+    (tells_knows (Unit {0}) _ _ _ _ _ (Err c.in_err-numbered.field-0.0) (λ bytes k. (ap (λ d. d.told) inv.device ∙ k.0, claims_held v bytes _ _ inv.held k.1, survey_held v bytes _ _ inv.held k.2)) c.in_err-numbered.ensures.text))
+
+pub loop-number-preserved : goal.loop-number-preserved
+loop-number-preserved g c =
+    let v = c.args.geometry.now.layout in
+    let inv = c.loop-number.invariant in
+    let n = c.loop-number.number in
+    let ok = c.in_ok-numbered.ensures in
+    record {
+      made = ok.made;
+      device = search rules;
+      windows = search rules;
+      same = search rules;
+      held = held_on c.args.workspace.now c.loop-number.workspace c.numbered.new.workspace inv.held ok.held;
+      said = of_part _ (λ bytes. map of_names (lines_from (counted_lines (volume_of v bytes)) n (inodes_of v - n))) (λ bytes. map of_names (counted_lines (volume_of v bytes) n)) (λ bytes. map of_names (lines_from (counted_lines (volume_of v bytes)) (n + 1) (inodes_of v - (n + 1)))) _ _ _ _ inv.said
+          (λ bytes k. from_next (counted_lines (volume_of v bytes)) n (inodes_of v) (omega (arith, c.loop-number-test.true)))
+          (said_knows _ _ _ _ _ _ (λ bytes k. (ap (λ d. d.told) inv.device ∙ k.0, claims_held v bytes _ _ inv.held k.1, survey_held v bytes _ _ inv.held k.2)) ok.text);
+    }
+
+pub returns-clause-text : goal.returns-clause-text
+returns-clause-text g c =
+    let v = c.args.geometry.now.layout in
+    let inv = c.loop-number.invariant in
+    let n = c.loop-number.number in
+    of_same _ (λ bytes. map of_names (lines_from (counted_lines (volume_of v bytes)) n (inodes_of v - n))) (λ bytes. []) _ _ _ inv.said
+    (λ bytes k. from_end (counted_lines (volume_of v bytes)) n (inodes_of v) (omega (arith, c.loop-number-test.false)))

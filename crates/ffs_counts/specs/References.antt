@@ -1,0 +1,30 @@
+-- What is told of an inode by its references, and of numbers in their order.
+use Rattle.std.specs.Prelude.{ℕ, zero, suc, ◌==◌, Bool, not, ◌&&◌, ◌||◌, List, [], ◌∷◌, ◌++◌, Option, Some, None, if◌then◌else◌, ℤ}
+use Rattle.ffs_volume.specs.declared.Attr.{Attr}
+use Rattle.ffs_volume.specs.declared.Inode.{Inode}
+use Rattle.ffs_volume.specs.declared.Label.{Label}
+use Rattle.ffs_volume.specs.Numbers.{is_count}
+use Rattle.ffs_volume.specs.Messages.{NameMessage, told, dead_marked, dead_zero, unref, unref_zero, link_count}
+use Rattle.ffs_report.specs.Lines.{reference_message}
+use Rattle.ffs_report.specs.declared.line.ReferenceLine.{ReferenceLine}
+
+-- by whether it is dead and marked, what messages show of it, its count of links and how often it is referred to
+abbrev pub reference_told : Bool → Bool → Label → Attr → ℤ → ℕ → List NameMessage
+reference_told dead marked label attr nlink refs =
+    if dead then (if marked then dead_marked label attr ∷ [] else dead_zero attr ∷ [])
+    else (if refs == 0 then (if is_count nlink 0 then unref_zero label attr ∷ [] else unref label attr ∷ [])
+    else told (not (is_count nlink refs)) (link_count label attr nlink refs))
+
+-- what messages show of an inode
+abbrev pub attr_with : ℕ → Inode → Attr
+attr_with number inode = record { number = number; uid = inode.uid; mode = inode.mode; size = inode.size; mtime = inode.mtime }
+
+-- a line, if there is one
+abbrev pub lines_as : Option ReferenceLine → List NameMessage
+lines_as None = []
+lines_as (Some line) = reference_message line ∷ []
+
+-- what is told for that many numbers from d on, ascending
+unfoldable pub lines_from : (ℕ → List NameMessage) → ℕ → ℕ → List NameMessage
+lines_from lines d zero = []
+lines_from lines d (suc k) = lines d ++ lines_from lines (suc d) k

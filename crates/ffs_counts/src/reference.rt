@@ -1,0 +1,96 @@
+//! What is told of an inode by the entries that refer to it.
+
+ghost use Rattle.std.specs.Prelude.{◌≡◌, ◌==◌, ◌||◌, ◌&&◌, not, map};
+ghost use Rattle.ffs_volume.specs.Messages.{of_names};
+ghost use Rattle.ffs_volume.specs.Numbers.{is_count};
+ghost use Rattle.ffs_volume.specs.PathnameCheck.{label_of};
+ghost use Rattle.ffs_report.specs.Progress.{progress, kept, Says};
+ghost use Rattle.ffs_workspace.specs.Kinds.{class_of_kind};
+ghost use Rattle.ffs_counts.specs.References.{attr_with, lines_as, reference_told};
+
+use ffs_report::{Line, OutFault, Output, ReferenceLine, Report};
+use ffs_volume::{Attr, Inode, Label};
+
+fn label_for(kind: u8) -> Label
+    ensures { result ≡ label_of (class_of_kind kind) }
+{
+    match kind {
+        4 | 5 => Label::Dir,
+        0 | 15 => Label::Name,
+        _ => Label::File,
+    }
+}
+
+fn attr_for(number: u32, inode: &Inode) -> Attr
+    ensures { result ≡ attr_with number inode.now }
+{
+    Attr {
+        number,
+        uid: inode.uid,
+        mode: inode.mode,
+        size: inode.size,
+        mtime: inode.mtime,
+    }
+}
+
+// Whether a count of links is this number.
+fn is_links(nlink: i16, references: u64) -> bool
+    ensures { result ≡ is_count nlink references }
+{
+    if nlink < 0 {
+        false
+    } else {
+        u64::from(nlink as u16) == references
+    }
+}
+
+/// The line of an inode that is allocated, if it has one.
+pub fn line_for(
+    dead: bool,
+    marked: bool,
+    kind: u8,
+    references: u64,
+    number: u32,
+    inode: &Inode,
+) -> Option<ReferenceLine>
+    ensures { lines_as result ≡ reference_told dead marked (label_of (class_of_kind kind)) (attr_with number inode.now) inode.now.nlink references }
+{
+    let attr = attr_for(number, inode);
+    let label = label_for(kind);
+    let count = inode.nlink;
+    if dead {
+        if marked {
+            return Some(ReferenceLine::DeadMarked { label, attr });
+        }
+        return Some(ReferenceLine::DeadZero { attr });
+    }
+    if references == 0 {
+        if is_links(count, 0) {
+            return Some(ReferenceLine::UnrefZero { label, attr });
+        }
+        return Some(ReferenceLine::Unref { label, attr });
+    }
+    if is_links(count, references) {
+        return None;
+    }
+    Some(ReferenceLine::LinkCount {
+        label,
+        attr,
+        count,
+        right: references,
+    })
+}
+
+/// Says a line, if there is one.
+pub fn say_line<W: Output>(
+    report: &mut Report<'_, W>,
+    line: Option<ReferenceLine>,
+) -> Result<(), OutFault>
+    ensures same { kept W.lent report.new ≡ kept W.lent report.old }
+    ensures said { Says (progress W.sink report.old) (progress W.sink report.new) (map of_names (lines_as line)) result }
+{
+    match line {
+        Some(line) => report.say(&Line::Reference(line)),
+        None => Ok(()),
+    }
+}

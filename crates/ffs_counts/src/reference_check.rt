@@ -1,0 +1,144 @@
+//! Phase 4: how often inodes are referred to.
+
+ghost use Rattle.std.specs.Prelude.{◌≡◌, ◌≤◌, ◌<◌, ◌*◌, ◌∷◌, ◌==◌, ◌||◌, ◌&&◌, not, List, ℕ, map, slice_index};
+ghost use Rattle.ffs_volume.specs.Messages.{of_names, phase4 as phase4_heading};
+ghost use Rattle.ffs_volume.specs.ReferenceCheck.{counted_lines, inode_lines, reference_lines};
+ghost use Rattle.ffs_volume.specs.Volumes.{volume_of};
+ghost use Rattle.ffs_report.specs.Progress.{progress, kept};
+ghost use Rattle.ffs_phase.specs.Known.{Tells};
+ghost use Rattle.ffs_phase.specs.Runs.{Reads, TellsOf};
+ghost use Rattle.ffs_workspace.specs.Holds.{HoldsClaims, HoldsSurvey, bool_at};
+ghost use Rattle.ffs_workspace.specs.Kinds.{is_empty_dir_kind};
+ghost use Rattle.ffs_workspace.specs.Lengths.{IsFor, HoldWindows, inodes_of};
+
+use crate::reference::{line_for, say_line};
+use ffs_image::Image;
+use ffs_layout::Geometry;
+use ffs_phase::RunFault;
+use ffs_report::{Heading, Line, Output, Report};
+use ffs_workspace::Workspace;
+
+fn kind_held(workspace: &Workspace, geometry: &Geometry, number: u32) -> u8
+    requires made { IsFor geometry.now.layout workspace.now }
+    requires number { number < inodes_of geometry.now.layout }
+    ensures { result ≡ slice_index workspace.now.kinds.items number }
+{
+    workspace.kinds[number as usize]
+}
+
+fn is_marked(workspace: &Workspace, geometry: &Geometry, number: u32) -> bool
+    requires made { IsFor geometry.now.layout workspace.now }
+    requires number { number < inodes_of geometry.now.layout }
+    ensures { result ≡ bool_at workspace.now.marked.items number }
+{
+    workspace.marked[number as usize]
+}
+
+fn references_to(workspace: &Workspace, geometry: &Geometry, number: u32) -> u64
+    requires made { IsFor geometry.now.layout workspace.now }
+    requires number { number < inodes_of geometry.now.layout }
+    ensures { result ≡ slice_index workspace.now.references.items number }
+{
+    workspace.references[number as usize]
+}
+
+// Whether an inode is marked or a directory of size 0, and no entry names it.
+fn is_dead(workspace: &Workspace, geometry: &Geometry, number: u32) -> bool
+    requires made { IsFor geometry.now.layout workspace.now }
+    requires number { number < inodes_of geometry.now.layout }
+    ensures { result ≡ ((bool_at workspace.now.marked.items number || is_empty_dir_kind (slice_index workspace.now.kinds.items number))
+        && (not (number == 2) && not (bool_at workspace.now.named.items number))) }
+{
+    let place = number as usize;
+    let suspect = workspace.marked[place] || workspace.kinds[place] == 5;
+    suspect && number != 2 && !workspace.named[place]
+}
+
+// What is told of an inode that is allocated.
+fn tell<I: Image, W: Output>(
+    workspace: &mut Workspace,
+    geometry: &Geometry,
+    number: u32,
+    image: &mut I,
+    report: &mut Report<'_, W>,
+) -> Result<(), RunFault>
+    requires made { IsFor geometry.now.layout workspace.old }
+    requires number { number < inodes_of geometry.now.layout }
+    requires volume { geometry.now.layout.size * geometry.now.layout.fsize ≤ (I.device image.old).size }
+    requires windows { HoldWindows geometry.now.layout (I.device image.old).told workspace.old }
+    ensures same { kept W.lent report.new ≡ kept W.lent report.old }
+    ensures image { Reads (I.device image.old) (I.device image.new) result }
+    ensures text { TellsOf (λ bytes. Tells (I.device image.old).told bytes × HoldsClaims geometry.now.layout bytes workspace.old × HoldsSurvey geometry.now.layout bytes workspace.old)
+        (λ bytes. map of_names (inode_lines (volume_of geometry.now.layout bytes) number))
+        (progress W.sink report.old) (progress W.sink report.new) result }
+    ensures held { workspace.new ≡ record workspace.old { windows = workspace.new.windows } }
+    ensures made { IsFor geometry.now.layout workspace.new }
+    ensures windows { HoldWindows geometry.now.layout (I.device image.new).told workspace.new }
+{
+    let dead = is_dead(workspace, geometry, number);
+    let marked = is_marked(workspace, geometry, number);
+    let kind = kind_held(workspace, geometry, number);
+    let references = references_to(workspace, geometry, number);
+    let inode = workspace.windows.table.inode(geometry, number, image)?;
+    let line = line_for(dead, marked, kind, references, number, &inode);
+    say_line(report, line)?;
+    Ok(())
+}
+
+// What is told of an inode.
+fn numbered<I: Image, W: Output>(
+    workspace: &mut Workspace,
+    geometry: &Geometry,
+    number: u32,
+    image: &mut I,
+    report: &mut Report<'_, W>,
+) -> Result<(), RunFault>
+    requires made { IsFor geometry.now.layout workspace.old }
+    requires number { number < inodes_of geometry.now.layout }
+    requires volume { geometry.now.layout.size * geometry.now.layout.fsize ≤ (I.device image.old).size }
+    requires windows { HoldWindows geometry.now.layout (I.device image.old).told workspace.old }
+    ensures same { kept W.lent report.new ≡ kept W.lent report.old }
+    ensures image { Reads (I.device image.old) (I.device image.new) result }
+    ensures text { TellsOf (λ bytes. Tells (I.device image.old).told bytes × HoldsClaims geometry.now.layout bytes workspace.old × HoldsSurvey geometry.now.layout bytes workspace.old)
+        (λ bytes. map of_names (counted_lines (volume_of geometry.now.layout bytes) number))
+        (progress W.sink report.old) (progress W.sink report.new) result }
+    ensures held { workspace.new ≡ record workspace.old { windows = workspace.new.windows } }
+    ensures made { IsFor geometry.now.layout workspace.new }
+    ensures windows { HoldWindows geometry.now.layout (I.device image.new).told workspace.new }
+{
+    let kind = kind_held(workspace, geometry, number);
+    if kind == 0 {
+        return Ok(());
+    }
+    tell(workspace, geometry, number, image, report)
+}
+
+/// Phase 4 (fsck(8)): tells of each inode that is allocated whether it is dead, not referred to, or has a wrong count of links.
+///
+/// The text is that of a workspace that holds what the block check and the survey of directories found.
+///
+/// Errors: a read of the image or a write of the report that failed.
+pub fn phase4<I: Image, W: Output>(
+    geometry: &Geometry,
+    image: &mut I,
+    workspace: &mut Workspace,
+    report: &mut Report<'_, W>,
+) -> Result<(), RunFault>
+    requires made { IsFor geometry.now.layout workspace.old }
+    requires volume { geometry.now.layout.size * geometry.now.layout.fsize ≤ (I.device image.old).size }
+    requires windows { HoldWindows geometry.now.layout (I.device image.old).told workspace.old }
+    ensures same { kept W.lent report.new ≡ kept W.lent report.old }
+    ensures image { Reads (I.device image.old) (I.device image.new) result }
+    ensures text { TellsOf (λ bytes. Tells (I.device image.old).told bytes × HoldsClaims geometry.now.layout bytes workspace.old × HoldsSurvey geometry.now.layout bytes workspace.old)
+        (λ bytes. phase4_heading ∷ map of_names (reference_lines (volume_of geometry.now.layout bytes)))
+        (progress W.sink report.old) (progress W.sink report.new) result }
+    ensures held { workspace.new ≡ record workspace.old { windows = workspace.new.windows } }
+    ensures made { IsFor geometry.now.layout workspace.new }
+    ensures windows { HoldWindows geometry.now.layout (I.device image.new).told workspace.new }
+{
+    report.say(&Line::Heading(Heading::Phase4))?;
+    for number in 0..geometry.layout.ncg * geometry.layout.ipg {
+        numbered(workspace, geometry, number, image, report)?;
+    }
+    Ok(())
+}
