@@ -5,3 +5,6 @@ mod phase;
 mod told;
 
 pub use phase::phase3;
+
+#[cfg(test)]
+mod tests;
