@@ -1,0 +1,164 @@
+-- The way from a directory up to the root.
+use Rattle.std.proofs.Common.{◌≡◌, ◌≢◌, ℕ, zero, suc, ◌+◌, ◌<◌, ◌==◌, true, false, List, [], ◌∷◌, ◌++◌, drop, Option, Some, None, refl, sym, ap, subst, ◌∙◌, arith}
+use Rattle.std.specs.Prelude.{◌*◌, is_some, cond, option_map, option_and_then}
+use Rattle.std.specs.List.{list_any}
+use Rattle.std.proofs.lemmas.List.{drop_all}
+use Rattle.std.proofs.lemmas.Bool.{both_ways, and_parts, ne_eqb, cond-false, eq-eqb}
+use Rattle.ffs_volume.specs.declared.Layout.{Layout}
+use Rattle.ffs_volume.specs.Roles.{Seen}
+use Rattle.ffs_volume.specs.Volumes.{volume_of, volume_with}
+use Rattle.ffs_volume.specs.Graph.{Graph, level, reached, names, names_in, parent, parent_entry, entry_place, first_place}
+use Rattle.ffs_volume.specs.Levels.{level-some, within-zero}
+use Rattle.ffs_volume.specs.Parents.{seen_at, graph_of}
+use Rattle.ffs_volume.specs.Paths.{joined, names_down, names_above, name_of, dir_path, entry_path, dir_text, entry_text, path_text}
+use Rattle.ffs_survey.specs.ParentLaws.{parent_above, root_level}
+use Rattle.ffs_paths.specs.declared.buffer.PathBuffer.{PathBuffer}
+use Rattle.ffs_paths.specs.Buffers.{HoldsNames}
+use Rattle.ffs_paths.specs.Climbing.{name_in, path_in, lost_path, given_names}
+use Rattle.ffs_paths.proofs.Ends.{cut-more, end-none}
+
+-- the first name, by the first entry
+pub name_in-here : (d : ℕ) (e : Seen) (es : List Seen) → names d e ≡ true → name_in d (e ∷ es) ≡ e.entry.name
+name_in-here d e es h = ap (λ b. name_of (option_and_then (seen_at (e ∷ es)) (cond b (Some 0) (option_map suc (first_place (names d) es))))) h
+
+past : (e : Seen) (es : List Seen) (o : Option ℕ) → name_of (option_and_then (seen_at (e ∷ es)) (option_map suc o)) ≡ name_of (option_and_then (seen_at es) o)
+past e es None = refl
+past e es (Some i) = refl
+
+pub name_in-past : (d : ℕ) (e : Seen) (es : List Seen) → names d e ≡ false → name_in d (e ∷ es) ≡ name_in d es
+name_in-past d e es h =
+    ap (λ b. name_of (option_and_then (seen_at (e ∷ es)) (cond b (Some 0) (option_map suc (first_place (names d) es))))) h ∙ past e es (first_place (names d) es)
+
+-- the climb from d, of level k, has come to a directory with what is behind it
+pub record IsOnWay (g : Graph) (k d at step : ℕ) (names : List (List ℕ)) (p : PathBuffer) : Type 0 where
+  pub left : ℕ
+  pub level : level g at ≡ Some left
+  pub steps : left + step ≡ k
+  pub behind : List (List ℕ)
+  pub held : HoldsNames p behind
+  pub whole : names_down g left at ++ behind ≡ names_down g k d ++ names
+
+-- a path that is cut holds any names above, too
+pub cut_holds : (p : PathBuffer) (above names : List (List ℕ)) → p.cut ≡ true → HoldsNames p names → HoldsNames p (above ++ names)
+cut_holds p [] names c h = h
+cut_holds p (name ∷ above) names c h =
+    let r = cut_holds p above names c h in
+    let m = cut-more name (above ++ names) (sym r.cut ∙ c) in
+    record { whole = λ e. absurd (cc); short = r.short ∙ ap joined (sym m.1); cut = c ∙ sym m.0 }
+
+pub way_starts : (g : Graph) (k d : ℕ) (names : List (List ℕ)) (p : PathBuffer) → level g d ≡ Some k → HoldsNames p names → IsOnWay g k d d 0 names p
+way_starts g k d names p l h = record { left = k; level = l; steps = omega arith; behind = names; held = h; whole = refl }
+
+pub way_cut : (g : Graph) (k d at step : ℕ) (names : List (List ℕ)) (p : PathBuffer) → IsOnWay g k d at step names p → p.cut ≡ true → HoldsNames p (names_down g k d ++ names)
+way_cut g k d at step names p w c = subst (HoldsNames p) w.whole (cut_holds p (names_down g w.left at) w.behind c w.held)
+
+names_root : (g : Graph) (k : ℕ) → level g 2 ≡ Some k → names_down g k 2 ≡ []
+unfolding names_down
+names_root g zero h = refl
+names_root g (suc k) h = absurd (both_ways _ ((level-some g (suc k) 2 h).0.least 0 (omega arith)) (within-zero g 2 ∙ eq-eqb 2 2 refl))
+
+pub way_root : (g : Graph) (k d at step : ℕ) (names : List (List ℕ)) (p : PathBuffer) → IsOnWay g k d at step names p → at ≡ 2 → HoldsNames p (names_down g k d ++ names)
+way_root g k d at step names p w e =
+    let n = names_root g w.left (subst (λ x. level g x ≡ Some w.left) e w.level) in
+    let m : names_down g w.left at ++ w.behind ≡ w.behind = ap (λ x. names_down g w.left x ++ w.behind) e ∙ ap (λ xs. xs ++ w.behind) n in
+    subst (HoldsNames p) (sym m ∙ w.whole) w.held
+
+-- a level is below the number of inodes
+pub way_long : (g : Graph) (k d at step : ℕ) (names : List (List ℕ)) (p : PathBuffer) → IsOnWay g k d at step names p → level g d ≡ Some k → step < g.count
+way_long g k d at step names p w h = let l = (level-some g k d h).1 in let s = w.steps in omega arith
+
+-- what stands above a directory other than the root
+pub record HasParent (g : Graph) (k d at step : ℕ) (ends : List (List ℕ)) (p : PathBuffer) (s : ℕ) : Type 0 where
+  pub is : parent g at ≡ Some s
+  pub below : s < g.count
+  pub dir : g.is_dir s ≡ true
+  pub on : (q : PathBuffer) → ((behind : List (List ℕ)) → HoldsNames p behind → HoldsNames q (name_in at (g.entries s) ∷ behind)) → IsOnWay g k d s (step + 1) ends q
+
+on_front : (xs : List (List ℕ)) (n : List ℕ) (ys : List (List ℕ)) → (xs ++ n ∷ []) ++ ys ≡ xs ++ (n ∷ ys)
+on_front [] n ys = refl
+on_front (x ∷ xs) n ys = ap (λ zs. x ∷ zs) (on_front xs n ys)
+
+down_is : (g : Graph) (j at s : ℕ) → at ≢ 2 → parent g at ≡ Some s → names_down g (suc j) at ≡ names_down g j s ++ name_in at (g.entries s) ∷ []
+unfolding names_down
+down_is g j at s n e =
+    let place : parent_entry g at ≡ first_place (names at) (g.entries s) = cond-false (at == 2) None (entry_place g at (parent g at)) (ne_eqb at 2 n) ∙ ap (entry_place g at) e in
+    ap (names_above g (names_down g j) at) e ∙ ap (λ o. names_down g j s ++ name_of (option_and_then (seen_at (g.entries s)) o) ∷ []) place
+
+pub way_up : (g : Graph) (k d at step : ℕ) (ends : List (List ℕ)) (p : PathBuffer) → IsOnWay g k d at step ends p → at ≢ 2 → (s : ℕ) × HasParent g k d at step ends p s
+way_up g k d at step ends p w n = go w.left w.level w.steps w.whole
+  where
+    go : (left : ℕ) → level g at ≡ Some left → left + step ≡ k → names_down g left at ++ w.behind ≡ names_down g k d ++ ends → (s : ℕ) × HasParent g k d at step ends p s
+    go zero l e h = absurd (n (root_level g at l))
+    go (suc j) l e h =
+        let a = parent_above g j at l in
+        let s = a.0 in
+        let linked = and_parts (g.is_dir at) (names_in g s at) a.1.linked in
+        let dir = and_parts (g.is_dir s) (list_any (names at) (g.entries s)) linked.1 in
+        let name = name_in at (g.entries s) in
+        let down = down_is g j at s n a.1.is in (
+          s,
+          record {
+            is = a.1.is;
+            below = a.1.below;
+            dir = dir.0;
+            on = λ q f. record {
+              left = j;
+              level = a.1.near;
+              steps = omega arith;
+              behind = name ∷ w.behind;
+              held = f w.behind w.held;
+              whole = sym (on_front (names_down g j s) name w.behind) ∙ (sym (ap (λ xs. xs ++ w.behind) down) ∙ h);
+            };
+          },
+        )
+
+-- no names are held by a buffer that begins at its end
+pub new_holds : (p : PathBuffer) → p.start ≡ 1024 → p.short ≡ 1024 → p.cut ≡ false → HoldsNames p []
+new_holds p start short cut =
+    let l = p.long in
+    let all : drop 1024 p.bytes ≡ [] = drop_all 1024 p.bytes (omega arith) in
+    record { whole = λ _. ap (λ i. drop i p.bytes) start ∙ all; short = ap (λ i. drop i p.bytes) short ∙ (all ∙ end-none); cut = cut }
+
+-- the numbers of the graph are those of the inodes
+pub count_is : (v : Layout) (b : List ℕ) → (graph_of (volume_of v b)).count ≡ v.ncg * v.ipg
+unfolding volume_of volume_with
+count_is v b = refl
+
+-- the path by the level
+abbrev at_level : Graph → ℕ → Option ℕ → Option (List ℕ) → List ℕ
+at_level g d o None = dir_text (option_map (λ k. names_down g k d) o)
+at_level g d o (Some name) = entry_text name (option_map (λ k. names_down g k d) o)
+
+append_none : (xs : List (List ℕ)) → xs ++ [] ≡ xs
+append_none [] = refl
+append_none (x ∷ xs) = ap (λ ys. x ∷ ys) (append_none xs)
+
+by_level : (g : Graph) (d : ℕ) (name : Option (List ℕ)) → path_in g d name ≡ at_level g d (level g d) name
+unfolding dir_path entry_path
+by_level g d None = refl
+by_level g d (Some name) = refl
+
+-- the path of a directory that is not reached, or of an entry of it
+pub lost_is : (g : Graph) (d : ℕ) (name : Option (List ℕ)) → reached g d ≡ false → path_in g d name ≡ lost_path name
+lost_is g d name h = by_level g d name ∙ go (level g d) h name
+  where
+    go : (o : Option ℕ) → is_some o ≡ false → (name : Option (List ℕ)) → at_level g d o name ≡ lost_path name
+    go (Some k) e name = absurd (cc)
+    go None e None = refl
+    go None e (Some n) = refl
+
+text_of : (xs : List (List ℕ)) (n : List ℕ) → dir_text (Some (xs ++ n ∷ [])) ≡ path_text (xs ++ n ∷ [])
+text_of [] n = refl
+text_of (x ∷ xs) n = refl
+
+-- the path of one of this level, or of an entry of it
+pub path_is : (g : Graph) (d k : ℕ) (name : Option (List ℕ)) → level g d ≡ Some k → dir_text (Some (names_down g k d ++ given_names name)) ≡ path_in g d name
+path_is g d k None h = ap (λ xs. dir_text (Some xs)) (append_none (names_down g k d)) ∙ sym (by_level g d None ∙ ap (λ o. at_level g d o None) h)
+path_is g d k (Some n) h = text_of (names_down g k d) n ∙ sym (by_level g d (Some n) ∙ ap (λ o. at_level g d o (Some n)) h)
+
+pub level_of : (g : Graph) (d : ℕ) → reached g d ≡ true → (k : ℕ) × (level g d ≡ Some k)
+level_of g d h = go (level g d) refl h
+  where
+    go : (o : Option ℕ) → level g d ≡ o → is_some o ≡ true → (k : ℕ) × (level g d ≡ Some k)
+    go (Some k) e s = (k, e)
+    go None e s = absurd (cc)

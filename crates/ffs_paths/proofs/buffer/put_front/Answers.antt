@@ -1,0 +1,15 @@
+use Rattle.std.proofs.Common.{◌+◌, ◌-◌, ◌∙◌, ap, length, arith, set}
+use Rattle.std.proofs.lemmas.Slice.{drop-put_mid}
+use Rattle.std.proofs.lemmas.List.{drop-set-lt, length-set}
+use Rattle.ffs_paths.proofs.buffer.put_front.Goals as goal
+
+pub returns-clause-behind : goal.returns-clause-behind
+returns-clause-behind c = λ k l.
+    let room = c.requires.room in
+    let long = c.told-bytes in
+    let e = c.requires.end in
+    let start = c.args.end - length c.args.name.now - 1 in
+    let a = length-set c.args.bytes.now start 47 in
+    let m = ap length c.copy_from_slice.ensures.after in
+    drop-put_mid (start + 1) (c.args.end - (start + 1)) (set c.args.bytes.now start 47) c.copy_from_slice.new.self k (omega arith) (omega arith) (omega arith)
+    ∙ drop-set-lt k c.args.bytes.now start 47 (omega arith)

@@ -1,0 +1,45 @@
+-- What a climb to the root reads, and the path that it gives.
+use Rattle.std.specs.Prelude.{◌≡◌, ◌*◌, ℕ, List, [], ◌∷◌, Option, Some, None, option_and_then, vec_len, slice_index}
+use Rattle.std.specs.Option.{unwrap_or}
+use Rattle.ffs_volume.specs.declared.Layout.{Layout}
+use Rattle.ffs_volume.specs.Graph.{Graph, names, first_place, parent}
+use Rattle.ffs_volume.specs.Parents.{graph_of, seen_at}
+use Rattle.ffs_volume.specs.Paths.{name_of, dir_path, entry_path}
+use Rattle.ffs_volume.specs.Replay.{cut_at}
+use Rattle.ffs_volume.specs.Roles.{Seen}
+use Rattle.ffs_volume.specs.Volumes.{volume_of}
+use Rattle.ffs_walk.specs.Windows.{BlocksHold, WindowHolds}
+use Rattle.ffs_workspace.specs.declared.workspace.Windows.{Windows}
+
+-- the name of the first plain entry that names an inode, empty if there is none
+abbrev pub name_in : ℕ → List Seen → List ℕ
+name_in d es = name_of (option_and_then (seen_at es) (first_place (names d) es))
+
+-- the windows are a block's, and hold what the image tells
+pub record AreOpen (v : Layout) (told : Option (List ℕ)) (w : Windows) : Type 0 where
+  pub table : vec_len w.table.window.buffer ≡ v.bsize
+  pub blocks : vec_len w.blocks.buffer ≡ 3 * v.bsize
+  pub chunk : vec_len w.chunk.buffer ≡ v.bsize
+  pub table_holds : WindowHolds told w.table.window
+  pub blocks_hold : BlocksHold v told w.blocks
+  pub chunk_holds : WindowHolds told w.chunk
+
+-- these are the cuts of the inodes, and the parents of the directories, or 0
+pub record LeadUp (v : Layout) (b cut parents : List ℕ) : Type 0 where
+  pub cuts : (x : ℕ) → slice_index cut x ≡ cut_at v b x
+  pub above : (x : ℕ) → slice_index parents x ≡ unwrap_or (parent (graph_of (volume_of v b)) x) 0
+
+-- the path of a directory, or of an entry of it
+abbrev pub path_in : Graph → ℕ → Option (List ℕ) → List ℕ
+path_in g d None = dir_path g d
+path_in g d (Some name) = entry_path g d name
+
+-- the same where it is not reached
+abbrev pub lost_path : Option (List ℕ) → List ℕ
+lost_path None = 63 ∷ []
+lost_path (Some name) = 63 ∷ 47 ∷ name
+
+-- the name of an entry, as a list
+abbrev pub given_names : Option (List ℕ) → List (List ℕ)
+given_names None = []
+given_names (Some name) = name ∷ []

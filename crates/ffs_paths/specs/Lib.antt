@@ -1,0 +1,3 @@
+pub mod Buffers
+pub mod Climbing
+pub mod SameLists

@@ -1,0 +1,93 @@
+//! A path that is put together from its end.
+
+ghost use Rattle.std.specs.Prelude.{◌≡◌, ◌+◌, ◌<◌, ◌≤◌, ℕ, List, [], ◌∷◌, ◌++◌, length, drop, Some};
+
+use arrayvec::ArrayVec;
+
+/// The text of a path.
+pub type PathText = ArrayVec<u8, 1024>;
+
+/// The names of a path, each behind a `/`, as far as they are known: from the last one to the front.
+///
+/// Where they take more than 1,024 bytes it keeps the longest end of whole names of at most 1,023 bytes.
+#[derive(Drop)]
+pub struct PathBuffer {
+    pub bytes: [u8; 1024],
+    /// Where the names begin, if all have room.
+    pub start: usize,
+    /// Where the longest end of at most 1,023 bytes begins.
+    pub short: usize,
+    /// Whether they take more than 1,024 bytes.
+    pub cut: bool,
+    ghost ordered: { start ≤ short },
+    ghost in_buffer: { short ≤ 1024 },
+    ghost has_room: { 0 < short },
+    ghost long: { length bytes ≡ 1024 },
+}
+
+/// Puts `/` and a name in front of what stands from `end` on. The answer is where they begin.
+fn put_front(bytes: &mut [u8; 1024], end: usize, name: &[u8]) -> usize
+    requires room { length name.now < end }
+    requires end { end ≤ 1024 }
+    ensures start { result + length name.now + 1 ≡ end }
+    ensures len { length bytes.new ≡ 1024 }
+    ensures bytes { drop result bytes.new ≡ 47 ∷ name.now ++ drop end bytes.old }
+    ensures behind { (k : ℕ) → end ≤ k → drop k bytes.new ≡ drop k bytes.old }
+{
+    let start = end - name.len() - 1;
+    bytes[start] = b'/';
+    bytes[start + 1..end].copy_from_slice(name);
+    start
+}
+
+impl PathBuffer {
+    ghost use Rattle.ffs_volume.specs.Paths.{dir_text};
+    ghost use Rattle.ffs_paths.specs.Buffers.{HoldsNames};
+
+    /// No names.
+    pub fn new() -> PathBuffer
+        ensures { HoldsNames result [] }
+    {
+        PathBuffer {
+            bytes: [0; 1024],
+            start: 1024,
+            short: 1024,
+            cut: false,
+        }
+    }
+
+    /// Puts a name in front.
+    pub fn push_front(&mut self, name: &[u8])
+        ensures { (names : List (List ℕ)) → HoldsNames self.old names → HoldsNames self.new (name.now ∷ names) }
+    {
+        if self.cut {
+            return;
+        }
+        if name.len() >= self.start {
+            self.cut = true;
+            return;
+        }
+        let start = put_front(&mut self.bytes, self.start, name);
+        self.start = start;
+        if start > 0 {
+            self.short = start;
+        }
+    }
+
+    /// Writes the path: `/` where it has no names, and `?` before its end where it is cut.
+    pub fn put(&self, text: &mut PathText)
+        requires { text.old.items ≡ [] }
+        ensures { (names : List (List ℕ)) → HoldsNames self.now names → text.new.items ≡ dir_text (Some names) }
+    {
+        if self.cut {
+            text.push(b'?');
+            text.try_extend_from_slice(&self.bytes[self.short..])
+                .unwrap();
+        } else if self.start == 1024 {
+            text.push(b'/');
+        } else {
+            text.try_extend_from_slice(&self.bytes[self.start..])
+                .unwrap();
+        }
+    }
+}
