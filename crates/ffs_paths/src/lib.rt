@@ -7,3 +7,6 @@ pub mod path;
 
 pub use buffer::{PathBuffer, PathText};
 pub use path::path_of;
+
+#[cfg(test)]
+mod tests;
