@@ -10,7 +10,8 @@ ghost use Rattle.ffs_layout.specs.Super.{seen};
 ghost use Rattle.ffs_maps.specs.Bits.{bits_of};
 ghost use Rattle.ffs_report.specs.Lines.{message_of};
 ghost use Rattle.ffs_report.specs.Progress.{progress, kept};
-ghost use Rattle.ffs_phase.specs.Runs.{TellsOf};
+ghost use Rattle.ffs_phase.specs.Runs.{Reads, TellsOf};
+ghost use Rattle.ffs_image.specs.Device.{Device};
 ghost use Rattle.ffs_groups.specs.Inodes.{class_of_kind, class_in};
 ghost use Rattle.ffs_workspace.specs.Holds.{HoldsClaims};
 ghost use Rattle.ffs_workspace.specs.Lengths.{IsFor};
@@ -104,6 +105,7 @@ pub fn summary<W: Output>(
     ensures text { TellsOf (λ bytes. HoldsClaims superblock.now.geometry.layout bytes workspace.old)
         (λ bytes. summary_of (seen superblock.now) (files_of superblock.now.geometry.layout bytes) (used_of superblock.now.geometry.layout bytes) ∷ [])
         (progress W.sink report.old) (progress W.sink report.new) result }
+    ensures unread { (device : Device) → Reads device device result }
     ensures held { workspace.new ≡ workspace.old }
 {
     let files = file_count(&workspace.kinds);
