@@ -1,0 +1,138 @@
+-- A directory that is begun, and how its lines go on.
+use Rattle.std.proofs.Common.{◌≡◌, ◌≤◌, ◌<◌, suc, Result, Ok, refl, sym, ap, subst, ◌∙◌, ℕ, Bool, true, false, ◌==◌, ◌&&◌, List, [], ◌++◌, map, Option, Err, arith, nat_le, nat_lt, append-nil}
+use Rattle.std.specs.Prelude.{option_and_then, OnOk}
+use Rattle.std.proofs.lemmas.List.{map-append}
+use Rattle.std.proofs.lemmas.Bool.{and_parts, ltb-true, ne_eqb}
+use Rattle.ffs_volume.specs.declared.Layout.{Layout}
+use Rattle.ffs_volume.specs.Directory.{Entry}
+use Rattle.ffs_volume.specs.Graph.{parent}
+use Rattle.ffs_volume.specs.Inodes.{inode_of}
+use Rattle.ffs_volume.specs.Messages.{Message, NameMessage, of_names}
+use Rattle.ffs_volume.specs.Parents.{graph_of}
+use Rattle.ffs_volume.specs.PathnameCheck.{attributes, are_sound, dir_lines, entry_lines}
+use Rattle.ffs_volume.specs.Paths.{dir_path}
+use Rattle.ffs_volume.specs.Roles.{Volume, entry_number, is_dir, is_inode, is_directory, seen_in, start_entry}
+use Rattle.ffs_volume.specs.Volumes.{volume_of, volume_with}
+use Rattle.ffs_phase.specs.Known.{Where}
+use Rattle.ffs_phase.specs.Runs.{SaidOf, TellsOf}
+use Rattle.ffs_phase.specs.declared.fault.RunFault.{RunFault}
+use Rattle.ffs_phase.specs.declared.fault.RunFault.TheVariants.{Read, Out}
+use Rattle.ffs_report.specs.Progress.{Progress}
+use Rattle.ffs_workspace.specs.declared.workspace.Workspace.{Workspace}
+use Rattle.ffs_pathnames.specs.declared.examine.Examined.{Examined}
+use Rattle.ffs_pathnames.specs.Begins.{dir_starts, started_entry, IsBegun}
+use Rattle.ffs_pathnames.specs.Examines.{AreFound, LeavesQueue, LeavesMarks}
+use Rattle.ffs_pathnames.specs.Gathers.{marks_of}
+use Rattle.ffs_pathnames.specs.Marks.{Marks, are_quiet, belongs, entries_told, after_entries}
+use Rattle.ffs_pathnames.specs.MarksRight.{AreRightBefore}
+use Rattle.ffs_pathnames.specs.Starts.{starts_told}
+use Rattle.ffs_pathnames.proofs.Places.{size_of}
+use Rattle.ffs_pathnames.proofs.MarkLaws.{IsDirectory, and_false, right_told}
+use Rattle.ffs_pathnames.proofs.LookLaws.{AreStamped, quiet_silent}
+use Rattle.ffs_pathnames.proofs.BetweenLaws.{looked, looked_right, quiet_next, told_next}
+use Rattle.ffs_pathnames.proofs.StartLaws.{dir_parts}
+
+-- what is said of what is known, where more is known and it has another form
+pub said_same : (knows knows' : List ℕ → Type 0) (all all' : List ℕ → List Message) (a b : Progress) →
+    Where knows' knows → Where knows' (λ bytes. all bytes ≡ all' bytes) → SaidOf knows (λ bytes. []) all a b → SaidOf knows' (λ bytes. []) all' a b
+said_same knows knows' all all' a b more e p = record {
+  messages = p.messages;
+  right = λ bytes k. p.right bytes (more bytes k) ∙ e bytes k;
+  said = p.said;
+}
+
+pub fault_same : (T E : Type 0) (knows knows' : List ℕ → Type 0) (all all' : List ℕ → List Message) (a b : Progress) (fault : RunFault) →
+    Where knows' knows → Where knows' (λ bytes. all bytes ≡ all' bytes) → TellsOf {T = T} knows all a b (Err fault) → TellsOf {T = E} knows' all' a b (Err fault)
+fault_same T E knows knows' all all' a b (Read fault) more e p = record {
+  rest = p.rest;
+  front = record {
+    messages = p.front.messages;
+    right = λ bytes k. p.front.right bytes (more bytes k) ∙ e bytes k;
+    said = p.front.said;
+  };
+}
+fault_same T E knows knows' all all' a b (Out fault) more e p = record {
+  messages = p.messages;
+  rest = p.rest;
+  right = λ bytes k. p.right bytes (more bytes k) ∙ e bytes k;
+  stopped = p.stopped;
+}
+
+-- a size as messages show it
+pub attr_size : (v : Layout) (b : List ℕ) (d : ℕ) → (attributes (volume_of v b) d).size ≡ (inode_of v b d).size
+unfolding attributes volume_of volume_with
+attr_size v b d = refl
+
+-- what was found is the volume's
+pub starts_are : (v : Layout) (b : List ℕ) (d : ℕ) (old new : Workspace) (e : Examined) (start : List ℕ) (above : Option ℕ) (first second : Option Entry) →
+    AreFound v b d old e new start → above ≡ parent (graph_of (volume_of v b)) d →
+    first ≡ started_entry 0 e.found.started v.order start → second ≡ started_entry 1 e.found.started v.order start →
+    starts_told (attributes (volume_of v b) d) (dir_path (graph_of (volume_of v b)) d) d above e.gap e.found.sound first second ≡ dir_starts (volume_of v b) d
+unfolding dir_starts start_entry
+starts_are v b d old new e start above first second f p q r =
+    let V = volume_of v b in
+    let A = attributes (volume_of v b) d in
+    let P = dir_path (graph_of (volume_of v b)) d in
+    ap (λ x. starts_told A P d x e.gap e.found.sound first second) p
+    ∙ (ap (λ x. starts_told A P d (parent (graph_of V) d) x e.found.sound first second) f.gap
+    ∙ (ap (λ x. starts_told A P d (parent (graph_of V) d) (V.gap d) x first second) f.sound
+    ∙ (ap (λ x. starts_told A P d (parent (graph_of V) d) (V.gap d) (are_sound (V.chunks d)) x second) (q ∙ sym (ap (option_and_then (λ c. entry_number 0 c.entries)) f.started))
+    ∙ ap (λ x. starts_told A P d (parent (graph_of V) d) (V.gap d) (are_sound (V.chunks d)) (start_entry V d 0) x) (r ∙ sym (ap (option_and_then (λ c. entry_number 1 c.entries)) f.started)))))
+
+abbrev marks_with : List Bool → List ℕ → Marks
+marks_with passed stamps = record { passed = passed; stamps = stamps }
+
+pub begun_is : (v : Layout) (b : List ℕ) (d : ℕ) (old new more : Workspace) (e : Examined) (start : List ℕ) →
+    AreFound v b d old e new start → LeavesQueue old new → LeavesMarks new more → IsBegun v b d old e more
+begun_is v b d old new more e start f q m = record {
+  inode = f.inode;
+  quiet = f.quiet;
+  marks = ap (λ l. marks_with l.items more.queue.items) (m.leaders ∙ q.leaders) ∙ ap (λ s. marks_with old.leaders.items s) (ap (λ k. k.items) m.queue ∙ f.stamps);
+}
+
+-- a directory among the inodes
+pub directory_is : (v : Volume) (d : ℕ) → 2 ≤ d → is_dir v d ≡ true → IsDirectory v d
+directory_is v d two h =
+    let a = and_parts (is_inode v d) (is_directory (v.class d)) h in
+    let b = and_parts (nat_le 2 d) (nat_lt d v.count) a.0 in
+    record { dir = h; below = ltb-true d v.count b.1; from_two = two }
+
+-- its lines: first those before its entries, then those of its entries
+pub lines_parts : (v : Volume) (d : ℕ) (ms : List NameMessage) → entry_lines v d 0 (seen_in v d) ≡ ms →
+    map of_names (dir_lines v d) ≡ map of_names (dir_starts v d) ++ map of_names ms
+unfolding dir_starts
+lines_parts v d ms e =
+    ap (map of_names) (dir_parts v d ∙ ap (λ l. starts_told (attributes v d) (dir_path (graph_of v) d) d (parent (graph_of v) d) (v.gap d) (are_sound (v.chunks d)) (start_entry v d 0) (start_entry v d 1) ++ l) e)
+    ∙ map-append of_names (starts_told (attributes v d) (dir_path (graph_of v) d) d (parent (graph_of v) d) (v.gap d) (are_sound (v.chunks d)) (start_entry v d 0) (start_entry v d 1)) ms
+
+unstamped : (v : Volume) (s : ℕ) (m : Marks) → AreRightBefore v s m → AreStamped v s [] m.stamps
+unstamped v s m r x h =
+    let low = r.stamps x h in
+    ne_eqb _ s (λ z. absurd (omega (arith, z))) ∙ sym (and_false (belongs v s x))
+
+pub quiet_lines : (v : Volume) (d : ℕ) (m : Marks) → IsDirectory v d → AreRightBefore v d m → are_quiet v d m.stamps (seen_in v d) ≡ true → entry_lines v d 0 (seen_in v d) ≡ []
+unfolding size_of
+quiet_lines v d m dir r h = quiet_silent v d [] (seen_in v d) m.stamps dir refl r.stamps_length (unstamped v d m r) h
+
+pub told_lines : (v : Volume) (d : ℕ) (m : Marks) → IsDirectory v d → AreRightBefore v d m → entry_lines v d 0 (seen_in v d) ≡ entries_told v d (looked v d m) (seen_in v d)
+unfolding size_of
+told_lines v d m dir r = right_told v d [] (seen_in v d) (looked v d m) dir refl (looked_right v d m r)
+
+pub quiet_parts : (v : Volume) (d : ℕ) (m : Marks) → IsDirectory v d → AreRightBefore v d m → are_quiet v d m.stamps (seen_in v d) ≡ true →
+    map of_names (dir_starts v d) ≡ map of_names (dir_lines v d)
+quiet_parts v d m dir r h = sym (lines_parts v d [] (quiet_lines v d m dir r h) ∙ append-nil (map of_names (dir_starts v d)))
+
+pub told_parts : (v : Volume) (d : ℕ) (m m' : Marks) → IsDirectory v d → AreRightBefore v d m → m' ≡ looked v d m →
+    map of_names (dir_lines v d) ≡ map of_names (dir_starts v d) ++ map of_names (entries_told v d m' (seen_in v d))
+told_parts v d m m' dir r e = lines_parts v d (entries_told v d m' (seen_in v d)) (told_lines v d m dir r ∙ sym (ap (λ k. entries_told v d k (seen_in v d)) e))
+
+-- the marks behind it
+pub quiet_after : (v : Volume) (d : ℕ) (m m' : Marks) → IsDirectory v d → AreRightBefore v d m → are_quiet v d m.stamps (seen_in v d) ≡ true → m' ≡ looked v d m → AreRightBefore v (suc d) m'
+quiet_after v d m m' dir r h e = subst (AreRightBefore v (suc d)) (sym e) (quiet_next v d m dir r h)
+
+pub told_after : (v : Volume) (d : ℕ) (m m' m'' : Marks) → IsDirectory v d → AreRightBefore v d m → m' ≡ looked v d m → after_entries v d m' (seen_in v d) ≡ m'' → AreRightBefore v (suc d) m''
+told_after v d m m' m'' dir r e q = subst (AreRightBefore v (suc d)) (sym (ap (λ k. after_entries v d k (seen_in v d)) e) ∙ q) (told_next v d m dir r)
+
+pub on_ok : {T E : Type 0} (r : Result T E) (P Q : Type 0) → (P → Q) → OnOk r P → OnOk r Q
+on_ok (Ok x) P Q f p = f p
+on_ok (Err e) P Q f p = p

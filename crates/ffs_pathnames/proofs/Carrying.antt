@@ -1,0 +1,174 @@
+-- What is known between two directories, carried from one to the next.
+use Rattle.std.proofs.Common.{◌≡◌, ◌<◌, ◌-◌, ◌==◌, refl, sym, ap, ◌∙◌, ℕ, zero, suc, Bool, true, false, not, ◌&&◌, ◌||◌, if◌then◌else◌, List, [], ◌∷◌, ◌++◌, map, Option, Some, arith}
+use Rattle.std.specs.Prelude.{slice_index, Result, Ok, Err, OnOk, IfOk}
+use Rattle.std.specs.List.{list_any}
+use Rattle.ffs_volume.specs.declared.Layout.{Layout}
+use Rattle.ffs_volume.specs.declared.Class.{Class}
+use Rattle.ffs_volume.specs.declared.Class.TheVariants.{Free, Partial, Unknown, File, Dir}
+use Rattle.ffs_volume.specs.Geometry.{IsGeometry}
+use Rattle.ffs_volume.specs.Graph.{names, names_in}
+use Rattle.ffs_volume.specs.Messages.{NameMessage, of_names, lines_below, told, root_none, root_not_dir, root_suspect}
+use Rattle.ffs_volume.specs.Parents.{graph_of}
+use Rattle.ffs_volume.specs.PathnameCheck.{dir_lines, goes_on, lines_of, pathname_lines, root_lines, root_told}
+use Rattle.ffs_volume.specs.Roles.{Volume, is_dir, is_directory, is_allocated, is_suspect, seen_in}
+use Rattle.ffs_volume.specs.Search.{some_below-none}
+use Rattle.ffs_volume.specs.Volumes.{class_at, marked_at, volume_of, volume_with}
+use Rattle.ffs_connectivity.specs.Lines.{lines_from}
+use Rattle.ffs_connectivity.proofs.Lines.{all_from, names_append}
+use Rattle.ffs_names.specs.Surveys.{IsUntouched}
+use Rattle.ffs_workspace.specs.declared.workspace.Workspace.{Workspace}
+use Rattle.ffs_workspace.specs.Holds.{bool_at, HoldsClaims, HoldsSurvey}
+use Rattle.ffs_workspace.specs.Kinds.{kind_at, is_dir_kind, is_empty_dir_kind, is_allocated_kind}
+use Rattle.ffs_workspace.specs.Lengths.{IsFor, inodes_of}
+use Rattle.ffs_workspace.proofs.KindLaws.{tells_at, suspect_is}
+use Rattle.ffs_maps.specs.Bits.{bits_of}
+use Rattle.ffs_pathnames.specs.Before.{AreClear, IsBefore, root_said}
+use Rattle.ffs_pathnames.specs.Examines.{LeavesSurvey}
+use Rattle.ffs_pathnames.specs.Gathers.{marks_of}
+use Rattle.ffs_pathnames.specs.Knows.{Knows}
+use Rattle.ffs_pathnames.specs.MarksRight.{AreRightBefore}
+use Rattle.ffs_pathnames.proofs.BetweenLaws.{other_next}
+use Rattle.ffs_pathnames.proofs.EmptyLaws.{looked_is, looked_dir, names_none}
+use Rattle.ffs_pathnames.proofs.Holding.{claims_stay, survey_stays}
+
+-- a fact of every answer, and of each value that is answered
+pub on_all : {T E : Type 0} (r : Result T E) (P : Type 0) → P → OnOk r P
+on_all (Ok x) P h = h
+on_all (Err e) P h = tt
+
+pub if_ok : {T E : Type 0} (r : Result T E) (P Q : T → Type 0) → ((x : T) → P x → Q x) → IfOk r P → IfOk r Q
+if_ok (Ok x) P Q f h = f x h
+if_ok (Err e) P Q f h = tt
+
+pub leaves_all : (a : Workspace) → LeavesSurvey a a
+leaves_all a = record { claimed = refl; kinds = refl; marked = refl; cut = refl; references = refl; named = refl; reached = refl; parents = refl }
+
+pub leaves_more : (a b c : Workspace) → LeavesSurvey a b → LeavesSurvey b c → LeavesSurvey a c
+leaves_more a b c s t = record {
+  claimed = t.claimed ∙ s.claimed;
+  kinds = t.kinds ∙ s.kinds;
+  marked = t.marked ∙ s.marked;
+  cut = t.cut ∙ s.cut;
+  references = t.references ∙ s.references;
+  named = t.named ∙ s.named;
+  reached = t.reached ∙ s.reached;
+  parents = t.parents ∙ s.parents;
+}
+
+-- a survey leaves what the block check found
+pub claims_untouched : (v : Layout) (b : List ℕ) (old new : Workspace) → IsUntouched old new → HoldsClaims v b old → HoldsClaims v b new
+claims_untouched v b old new s h = record {
+  used = ap bits_of s.claimed ∙ h.used;
+  kinds = λ x. ap (λ k. slice_index k.items x) s.kinds ∙ h.kinds x;
+  marked = λ x. ap (λ k. bool_at k.items x) s.marked ∙ h.marked x;
+  cut = λ x. ap (λ k. slice_index k.items x) s.cut ∙ h.cut x;
+}
+
+-- numbers below 2 are no directories
+low_dir : (v : Volume) (d : ℕ) → d < 2 → is_dir v d ≡ false
+low_dir v zero h = refl
+low_dir v (suc zero) h = refl
+low_dir v (suc (suc d)) h = absurd (omega arith)
+
+-- without marks all is right before the first directory
+clear_right : (v : Layout) (b : List ℕ) (w : Workspace) → IsFor v w → AreClear w → AreRightBefore (volume_of v b) 2 (marks_of w)
+unfolding volume_of volume_with
+clear_right v b w m c = record {
+  passed = λ x h q n o. c.passed x ∙ sym (some_below-none (λ t. names_in (graph_of (volume_of v b)) t x) 2
+      (λ t l. ap (λ d. d && list_any (names x) (seen_in (volume_of v b) t)) (low_dir (volume_of v b) t l)));
+  stamps = λ x h. let none = c.stamps x in omega arith;
+  passed_length = sym w.leaders.ok.0 ∙ m.leaders;
+  stamps_length = sym w.queue.ok.0 ∙ m.queue;
+}
+
+pub before_first : (v : Layout) (told : Option (List ℕ)) (b : List ℕ) (w : Workspace) → told ≡ Some b → HoldsClaims v b w → HoldsSurvey v b w → IsFor v w → AreClear w →
+    IsBefore v told w 2 b
+before_first v told b w t h s m c = record { told_is = t; claims = h; survey = s; marks = clear_right v b w m c }
+
+-- what is known of a directory that is looked at
+kind_known : (v : Layout) (b : List ℕ) (w : Workspace) (d : ℕ) (looked : Bool) → HoldsClaims v b w → (slice_index w.kinds.items d == 4) ≡ looked → (kind_at v b d == 4) ≡ looked
+kind_known v b w d looked h e = ap (λ k. k == 4) (sym (h.kinds d)) ∙ e
+
+pub knows_directory : (v : Layout) (told : Option (List ℕ)) (w : Workspace) (d : ℕ) (b : List ℕ) → (slice_index w.kinds.items d == 4) ≡ true → IsBefore v told w d b → Knows v told w d b
+knows_directory v told w d b e k = record { told_is = k.told_is; claims = k.claims; survey = k.survey; dir = looked_dir v b d (kind_known v b w d true k.claims e) }
+
+pub lines_looked : (v : Layout) (told : Option (List ℕ)) (w : Workspace) (d : ℕ) (b : List ℕ) → (slice_index w.kinds.items d == 4) ≡ true → IsBefore v told w d b →
+    lines_of (volume_of v b) d ≡ dir_lines (volume_of v b) d
+lines_looked v told w d b e k = ap (λ l. if l then dir_lines (volume_of v b) d else []) (looked_is v b d ∙ kind_known v b w d true k.claims e)
+
+pub lines_other : (v : Layout) (told : Option (List ℕ)) (w : Workspace) (d : ℕ) (b : List ℕ) → (slice_index w.kinds.items d == 4) ≡ false → IsBefore v told w d b →
+    lines_of (volume_of v b) d ≡ []
+lines_other v told w d b e k = ap (λ l. if l then dir_lines (volume_of v b) d else []) (looked_is v b d ∙ kind_known v b w d false k.claims e)
+
+-- the next inode
+pub before_next : (v : Layout) (told : Option (List ℕ)) (old new : Workspace) (d : ℕ) (b : List ℕ) → LeavesSurvey old new → AreRightBefore (volume_of v b) (suc d) (marks_of new) →
+    IsBefore v told old d b → IsBefore v told new (suc d) b
+before_next v told old new d b s r k = record { told_is = k.told_is; claims = claims_stay v b old new s k.claims; survey = survey_stays v b old new s k.survey; marks = r }
+
+pub before_other : (v : Layout) (told : Option (List ℕ)) (w : Workspace) (d : ℕ) (b : List ℕ) → IsGeometry v → (slice_index w.kinds.items d == 4) ≡ false → IsBefore v told w d b →
+    IsBefore v told w (suc d) b
+before_other v told w d b g e k = record {
+  told_is = k.told_is;
+  claims = k.claims;
+  survey = k.survey;
+  marks = other_next (volume_of v b) d (marks_of w) (names_none v b d g (kind_known v b w d false k.claims e)) k.marks;
+}
+
+-- an image that tells the same
+pub before_told : (v : Layout) (told told' : Option (List ℕ)) (w : Workspace) (d : ℕ) (b : List ℕ) → told' ≡ told → IsBefore v told w d b → IsBefore v told' w d b
+before_told v told told' w d b e k = record { told_is = e ∙ k.told_is; claims = k.claims; survey = k.survey; marks = k.marks }
+
+-- what is told of the root
+root_by : (v : Volume) (c : Class) (k : ℕ) (m : Bool) → is_directory c ≡ is_dir_kind k → is_allocated c ≡ is_allocated_kind k → is_suspect v 2 ≡ (m || is_empty_dir_kind k) →
+    root_said k m ≡ root_told v c
+unfolding root_said
+root_by v c k m d a s = go c (k == 0) (is_dir_kind k) refl d a
+  where
+    tell : Bool → Bool → List NameMessage
+    tell none dir = if none then root_none ∷ [] else (if not dir then root_not_dir ∷ [] else told (m || is_empty_dir_kind k) root_suspect)
+
+    go : (c : Class) (none dir : Bool) → (k == 0) ≡ none → is_directory c ≡ dir → is_allocated c ≡ not none → tell none dir ≡ root_told v c
+    go Free true dir e d a = refl
+    go Free false dir e d a = absurd (cc)
+    go Partial true dir e d a = refl
+    go Partial false dir e d a = absurd (cc)
+    go File true dir e d a = absurd (cc)
+    go File false false e d a = refl
+    go File false true e d a = absurd (cc)
+    go Unknown true dir e d a = absurd (cc)
+    go Unknown false false e d a = refl
+    go Unknown false true e d a = absurd (cc)
+    go Dir true dir e d a = absurd (cc)
+    go Dir false true e d a = ap (λ b. told b root_suspect) (sym s)
+    go Dir false false e d a = absurd (cc)
+
+pub root_is : (v : Layout) (b : List ℕ) (w : Workspace) (k : ℕ) (m : Bool) → k ≡ slice_index w.kinds.items 2 → m ≡ bool_at w.marked.items 2 → HoldsClaims v b w →
+    root_said k m ≡ root_lines (volume_of v b)
+unfolding root_lines volume_of volume_with
+root_is v b w k m e f h =
+    let t = tells_at v b 2 in
+    ap (λ k. root_said k m) (e ∙ h.kinds 2)
+    ∙ (ap (root_said (kind_at v b 2)) (f ∙ h.marked 2)
+    ∙ root_by (volume_of v b) (class_at v b 2) (kind_at v b 2) (marked_at v b 2) t.dir t.allocated (suspect_is v b 2))
+
+pub goes_is : (v : Layout) (b : List ℕ) (w : Workspace) (k : ℕ) → k ≡ slice_index w.kinds.items 2 → HoldsClaims v b w → is_dir_kind k ≡ goes_on (volume_of v b)
+unfolding volume_of volume_with
+goes_is v b w k e h = ap is_dir_kind (e ∙ h.kinds 2) ∙ sym (tells_at v b 2).dir
+
+-- all that is told
+abbrev pub tree_lines : Layout → List ℕ → Bool → List NameMessage
+tree_lines v b goes = if goes then lines_from (lines_of (volume_of v b)) 2 (inodes_of v - 2) else []
+
+lines_begin : (v : Layout) (b : List ℕ) → lines_below (lines_of (volume_of v b)) (volume_of v b).count ≡ lines_from (lines_of (volume_of v b)) 2 (inodes_of v - 2)
+unfolding volume_of volume_with
+lines_begin v b = all_from (lines_of (volume_of v b)) (inodes_of v) refl refl
+
+pub tree_is : (v : Layout) (b : List ℕ) (w : Workspace) (k : ℕ) (m goes : Bool) → k ≡ slice_index w.kinds.items 2 → m ≡ bool_at w.marked.items 2 → HoldsClaims v b w → goes ≡ is_dir_kind k →
+    map of_names (pathname_lines (volume_of v b)) ≡ map of_names (root_said k m) ++ map of_names (tree_lines v b goes)
+unfolding pathname_lines
+tree_is v b w k m goes e f h q =
+    let lines = lines_of (volume_of v b) in
+    ap (λ r. map of_names (r ++ (if goes_on (volume_of v b) then lines_below lines (volume_of v b).count else []))) (sym (root_is v b w k m e f h))
+    ∙ (ap (λ g. map of_names (root_said k m ++ (if g then lines_below lines (volume_of v b).count else []))) (sym (q ∙ goes_is v b w k e h))
+    ∙ (ap (λ l. map of_names (root_said k m ++ (if goes then l else []))) (lines_begin v b)
+    ∙ names_append (root_said k m) (tree_lines v b goes)))

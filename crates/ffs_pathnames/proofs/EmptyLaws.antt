@@ -1,0 +1,80 @@
+-- What isn't looked at: inodes that are no directories, and directories of size 0, which have no entries.
+use Rattle.std.proofs.Common.{◌≡◌, ◌<◌, ◌+◌, ◌%◌, ◌==◌, refl, ap, ◌∙◌, ℕ, Bool, true, false, not, ◌&&◌, if◌then◌else◌, List, [], arith}
+use Rattle.std.specs.Prelude.{min}
+use Rattle.std.specs.Int.{div_ceil}
+use Rattle.std.specs.List.{flat_map, list_any}
+use Rattle.std.proofs.Math.Nat.{zero-div, zero-mod}
+use Rattle.std.proofs.lemmas.Bool.{eqb-true}
+use Rattle.std.proofs.lemmas.Bool.Decides.{nat_tests}
+use Rattle.ffs_volume.specs.declared.Layout.{Layout}
+use Rattle.ffs_volume.specs.declared.Inode.{Inode}
+use Rattle.ffs_volume.specs.Areas.{is_in_range}
+use Rattle.ffs_volume.specs.Geometry.{IsGeometry}
+use Rattle.ffs_volume.specs.Inodes.{inode_of, blocks_of, used_addresses}
+use Rattle.ffs_volume.specs.Steps.{steps_of, steps_of_addresses, walks, last_of}
+use Rattle.ffs_volume.specs.Claims.{next_inode}
+use Rattle.ffs_volume.specs.KeptSteps.{kept_steps, kept_steps_of, claims_before}
+use Rattle.ffs_volume.specs.Directory.{chunks_of}
+use Rattle.ffs_volume.specs.Roles.{is_dir, chunk_seen, seen_in}
+use Rattle.ffs_volume.specs.Graph.{names, names_in}
+use Rattle.ffs_volume.specs.Parents.{graph_of}
+use Rattle.ffs_volume.specs.PathnameCheck.{is_looked_at}
+use Rattle.ffs_volume.specs.Volumes.{is_number, kept_at_number, reading_of, volume_with, volume_of}
+use Rattle.ffs_workspace.specs.Kinds.{kind_at, is_dir_kind, is_empty_dir_kind}
+use Rattle.ffs_workspace.proofs.KindLaws.{dir_is, empty_is}
+
+no_blocks : (n b : ℕ) → 0 < b → n ≡ 0 → div_ceil n b ≡ 0
+no_blocks n b h e = ap (λ k. div_ceil k b) e ∙ ap (λ q. q + min 1 (0 % b)) (zero-div b) ∙ ap (λ r. 0 + min 1 r) (zero-mod b)
+
+-- no steps where the size is 0
+no_steps : (v : Layout) (image : List ℕ) (i : Inode) → 0 < v.bsize → i.size ≡ 0 → steps_of v i image ≡ []
+unfolding steps_of
+no_steps v image i h e =
+    ap (λ b. steps_of_addresses (record { geometry = v; blocks = b; last = last_of v i }) image i.addresses 0 (used_addresses v.nindir b)) (one (walks v i))
+  where
+    one : (w : Bool) → (if w then blocks_of v i else 0) ≡ 0
+    one true = no_blocks i.size v.bsize h e
+    one false = refl
+
+none_kept : (v : Layout) (b : List ℕ) (d : ℕ) → 0 < v.bsize → (inode_of v b d).size ≡ 0 → kept_at_number v b d ≡ []
+unfolding kept_steps_of
+none_kept v b d h z = one (is_number v d)
+  where
+    one : (n : Bool) → (if n then kept_steps_of v b d else []) ≡ []
+    one true = ap (kept_steps v (next_inode (claims_before v b d))) (no_steps v b (inode_of v b d) h z)
+    one false = refl
+
+-- no entries where the size is 0
+none_seen : (v : Layout) (b : List ℕ) (d : ℕ) → IsGeometry v → ((volume_of v b).inode d).size ≡ 0 → seen_in (volume_of v b) d ≡ []
+unfolding volume_of volume_with seen_in
+none_seen v b d g z =
+    let low = g.sizes.bsize_low in
+    ap (λ ss. flat_map chunk_seen (chunks_of (reading_of v b d) (is_in_range v) ss)) (none_kept v b d (omega arith) z)
+
+-- of two tests of a directory and its kind
+kind_looked : (dir empty : Bool) (k : ℕ) → dir ≡ is_dir_kind k → (dir && empty) ≡ is_empty_dir_kind k → (dir && not empty) ≡ (k == 4)
+kind_looked true true k e f = grind (arith, nat_tests)
+kind_looked true false k e f = grind (arith, nat_tests)
+kind_looked false empty k e f = grind (arith, nat_tests)
+
+-- the inodes of the kind 4 are looked at
+pub looked_is : (v : Layout) (b : List ℕ) (d : ℕ) → is_looked_at (volume_of v b) d ≡ (kind_at v b d == 4)
+looked_is v b d =
+    kind_looked (is_dir (volume_of v b) d) (((volume_of v b).inode d).size == 0) (kind_at v b d) (dir_is v b d) (empty_is v b d)
+
+looked_parts : (dir empty : Bool) → (dir && not empty) ≡ true → dir ≡ true
+looked_parts true empty h = refl
+looked_parts false empty h = h
+
+pub looked_dir : (v : Layout) (b : List ℕ) (d : ℕ) → (kind_at v b d == 4) ≡ true → is_dir (volume_of v b) d ≡ true
+looked_dir v b d h = looked_parts (is_dir (volume_of v b) d) (((volume_of v b).inode d).size == 0) (looked_is v b d ∙ h)
+
+-- an inode that isn't looked at names nothing
+pub names_none : (v : Layout) (b : List ℕ) (d : ℕ) → IsGeometry v → (kind_at v b d == 4) ≡ false → (x : ℕ) → names_in (graph_of (volume_of v b)) d x ≡ false
+names_none v b d g h x =
+    go (is_dir (volume_of v b) d) (((volume_of v b).inode d).size == 0) refl (looked_is v b d ∙ h)
+  where
+    go : (dir empty : Bool) → (((volume_of v b).inode d).size == 0) ≡ empty → (dir && not empty) ≡ false → (dir && list_any (names x) (seen_in (volume_of v b) d)) ≡ false
+    go false empty e f = refl
+    go true true e f = ap (list_any (names x)) (none_seen v b d g (eqb-true _ 0 e))
+    go true false e f = let no_way : true ≡ false = f in absurd (cc)

@@ -1,0 +1,81 @@
+-- The first two entries of a directory, and its parent, as they are found.
+use Rattle.std.proofs.Common.{◌≡◌, ◌≢◌, refl, sym, ap, ◌∙◌, ℕ, zero, suc, ◌+◌, ◌==◌, Bool, true, false, ◌&&◌, List, [], ◌∷◌, Option, None, Some}
+use Rattle.std.specs.Prelude.{cond, if◌then◌else◌, ◌⊎◌}
+use Rattle.std.specs.Option.{unwrap_or}
+use Rattle.std.proofs.Common.{inl, inr, arith}
+use Rattle.std.proofs.lemmas.Bool.{cases_eq, ne_eqb, eq-eqb, and_parts, both_ways, cond-false, cond-true}
+use Rattle.ffs_volume.specs.declared.Order.{Order}
+use Rattle.ffs_volume.specs.Climb.{is_value}
+use Rattle.ffs_volume.specs.Directory.{Entry, entry_at, entries_of, entries_from}
+use Rattle.ffs_volume.specs.Graph.{Graph, names_in, edge, level, level_edge, parent, parent_by}
+use Rattle.ffs_volume.specs.Parents.{graph_of}
+use Rattle.ffs_volume.specs.Roles.{Volume, entry_number}
+use Rattle.ffs_volume.specs.Search.{first_below, first_below-some}
+use Rattle.ffs_volume.proofs.Reading.{entries_next, entries_end}
+use Rattle.ffs_pathnames.specs.Begins.{number_if, started_entry}
+
+-- where no entry stands at the start, there is none
+pub none_first : (order : Order) (chunk : List ℕ) (i : ℕ) → entry_at order chunk 0 ≡ None → entry_number i (entries_of order chunk) ≡ None
+none_first order chunk i h = ap (entry_number i) (entries_end order chunk 0 h)
+
+pub first_is : (order : Order) (chunk : List ℕ) (e : Entry) → entry_at order chunk 0 ≡ Some e → entry_number 0 (entries_of order chunk) ≡ Some e
+first_is order chunk e h = ap (entry_number 0) (entries_next order chunk 0 e h)
+
+-- the second stands behind the first
+pub second_is : (order : Order) (chunk : List ℕ) (e : Entry) → entry_at order chunk 0 ≡ Some e → entry_number 1 (entries_of order chunk) ≡ entry_at order chunk e.length
+second_is order chunk e h = ap (entry_number 1) (entries_next order chunk 0 e h) ∙ (one (0 + e.length) (entry_at order chunk (0 + e.length)) refl ∙ ap (entry_at order chunk) (from_zero e.length))
+  where
+    from_zero : (n : ℕ) → 0 + n ≡ n
+    from_zero n = omega arith
+
+    one : (place : ℕ) (o : Option Entry) → entry_at order chunk place ≡ o → entry_number 1 (e ∷ entries_from order chunk 64 place) ≡ entry_at order chunk place
+    one place None q = ap (λ es. entry_number 1 (e ∷ es)) (entries_end order chunk place q) ∙ sym q
+    one place (Some f) q = ap (λ es. entry_number 1 (e ∷ es)) (entries_next order chunk place f q) ∙ sym q
+
+-- a parent is a directory
+parent_dir : (g : Graph) (x s : ℕ) → x ≢ 2 → parent g x ≡ Some s → g.is_dir s ≡ true
+unfolding parent
+parent_dir g x s n e = go (level g x) (sym (cond-false (x == 2) (Some 2) (parent_by g x (level g x)) (ne_eqb x 2 n)) ∙ e)
+  where
+    inside : edge g s x ≡ true → g.is_dir s ≡ true
+    inside h = (and_parts (g.is_dir s) _ (and_parts (g.is_dir x) (names_in g s x) h).1).0
+
+    go : (o : Option ℕ) → parent_by g x o ≡ Some s → g.is_dir s ≡ true
+    go None h = inside (first_below-some (λ s. edge g s x) g.count s h).passes
+    go (Some zero) h = absurd (cc)
+    go (Some (suc k)) h = inside (and_parts (is_value (level g s) k) (edge g s x) (first_below-some (level_edge g k x) g.count s h).passes).1
+
+root_parent : (g : Graph) (x : ℕ) → x ≡ 2 → parent g x ≡ Some 2
+unfolding parent
+root_parent g x e = cond-true (x == 2) (Some 2) (parent_by g x (level g x)) (eq-eqb x 2 e)
+
+-- inode 0 is no directory, so 0 can stand for no parent
+pub parent_back : (v : Volume) (x : ℕ) → number_if (unwrap_or (parent (graph_of v) x) 0) ≡ parent (graph_of v) x
+parent_back v x = one (parent (graph_of v) x) refl
+  where
+    no_zero : parent (graph_of v) x ≡ Some 0 → ⊥
+    no_zero e = elim (cases_eq x 2) [
+      | inl z ↦ let wrong : 2 ≡ 0 = ap (λ o. unwrap_or o 0) (sym (root_parent (graph_of v) x z) ∙ e) in absurd (omega (arith, wrong))
+      | inr n ↦ both_ways ((graph_of v).is_dir 0) refl (parent_dir (graph_of v) x 0 n e)
+    ]
+
+    one : (o : Option ℕ) → parent (graph_of v) x ≡ o → number_if (unwrap_or o 0) ≡ o
+    one None e = refl
+    one (Some s) e = elim (cases_eq s 0) [
+      | inl z ↦ absurd (no_zero (e ∙ ap Some z))
+      | inr n ↦ ap (λ t. if t then None else Some s) (ne_eqb s 0 n)
+    ]
+
+-- in terms of the chunk that was found
+pub none_found : (order : Order) (start : List ℕ) (i : ℕ) (started : Bool) → entry_at order start 0 ≡ None → None ≡ started_entry i started order start
+none_found order start i true h = sym (none_first order start i h)
+none_found order start i false h = refl
+
+pub first_found : (order : Order) (start : List ℕ) (started : Bool) (e : Entry) → started ≡ true → entry_at order start 0 ≡ Some e → Some e ≡ started_entry 0 started order start
+first_found order start true e s h = sym (first_is order start e h)
+first_found order start false e s h = absurd (cc)
+
+pub second_found : (order : Order) (start : List ℕ) (started : Bool) (e : Entry) (o : Option Entry) → started ≡ true → entry_at order start 0 ≡ Some e → o ≡ entry_at order start e.length →
+    o ≡ started_entry 1 started order start
+second_found order start true e o s h q = q ∙ sym (second_is order start e h)
+second_found order start false e o s h q = absurd (cc)

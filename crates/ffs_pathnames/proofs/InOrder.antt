@@ -1,0 +1,62 @@
+-- Nothing is told of a directory that is in order.
+use Rattle.std.proofs.Common.{◌≡◌, refl, sym, ap, ◌∙◌, ℕ, ◌==◌, ◌%◌, Bool, true, false, not, ◌&&◌, List, [], ◌++◌, Option, None, Some, nat_lt}
+use Rattle.std.specs.Prelude.{cond}
+use Rattle.std.proofs.lemmas.Bool.{and_parts}
+use Rattle.ffs_pathnames.proofs.MarkLaws.{and_false}
+use Rattle.ffs_volume.specs.declared.Attr.{Attr}
+use Rattle.ffs_volume.specs.Directory.{Entry, is_live}
+use Rattle.ffs_volume.specs.Roles.{is_one_dot, is_two_dots}
+use Rattle.ffs_volume.specs.Messages.{NameMessage, told}
+use Rattle.ffs_volume.specs.PathnameCheck.{is_other}
+use Rattle.ffs_pathnames.specs.Starts.{size_told, chunks_told, shape_told, dot_in, dotdot_in, there_told, above_told, dot_said, dotdot_said, dots_told, starts_told}
+
+silent : (b : Bool) (m : NameMessage) → b ≡ false → told b m ≡ []
+silent b m e = ap (λ t. told t m) e
+
+two : (xs ys : List NameMessage) → xs ≡ [] → ys ≡ [] → xs ++ ys ≡ []
+two xs ys p q = ap (λ l. l ++ ys) p ∙ q
+
+-- `.`
+pub dot_right : (about : Attr) (path : List ℕ) (d : ℕ) (e : Entry) → is_live e ≡ true → is_one_dot e.name ≡ true → (e.number == d) ≡ true → (e.kind == 4) ≡ true →
+    dot_said about path d (Some e) (dot_in (Some e)) ≡ []
+dot_right about path d e live name number kind =
+    ap (λ t. dot_said about path d (Some e) (cond t (Some e) None)) (ap (λ t. t && is_one_dot e.name) live ∙ name)
+    ∙ two _ _ (silent _ _ (ap not number)) (silent _ _ (ap not kind))
+
+-- `..`
+pub dotdot_right : (about : Attr) (path : List ℕ) (parent : Option ℕ) (e : Entry) → is_live e ≡ true → is_two_dots e.name ≡ true → is_other parent e.number ≡ false → (e.kind == 4) ≡ true →
+    dotdot_said about path parent (Some e) (dotdot_in (Some e)) ≡ []
+dotdot_right about path parent e live name number kind =
+    ap (λ t. dotdot_said about path parent (Some e) (cond t (Some e) None)) (ap (λ t. t && is_two_dots e.name) live ∙ name)
+    ∙ two _ _ (silent _ _ number) (silent _ _ (ap not kind))
+
+-- all of it
+pub all_right : (about : Attr) (path : List ℕ) (d : ℕ) (parent : Option ℕ) (gap sound : Bool) (first second : Option Entry) →
+    nat_lt about.size 24 ≡ false → (about.size % 512 == 0) ≡ true → gap ≡ false → sound ≡ true →
+    dot_said about path d first (dot_in first) ≡ [] → dotdot_said about path parent second (dotdot_in second) ≡ [] →
+    starts_told about path d parent gap sound first second ≡ []
+unfolding starts_told
+all_right about path d parent gap sound first second long even none all dot dotdot =
+    two _ _
+    (two _ _
+    (two _ _ (silent _ _ long) (silent _ _ (ap (λ t. not (nat_lt about.size 24) && not t) even ∙ and_false (not (nat_lt about.size 24)))))
+    (two _ _ (silent _ _ none) (silent _ _ (ap not all))))
+    (two _ _ dot dotdot)
+
+-- the same from one test of the size, the Gaps and the chunks
+pub in_order : (about : Attr) (path : List ℕ) (d size : ℕ) (parent : Option ℕ) (gap sound : Bool) (first second : Option Entry) → about.size ≡ size →
+    (not (nat_lt size 24) && ((size % 512 == 0) && (not gap && sound))) ≡ true →
+    dot_said about path d first (dot_in first) ≡ [] → dotdot_said about path parent second (dotdot_in second) ≡ [] →
+    starts_told about path d parent gap sound first second ≡ []
+in_order about path d size parent gap sound first second e h dot dotdot =
+    let a = and_parts (not (nat_lt size 24)) ((size % 512 == 0) && (not gap && sound)) h in
+    let b = and_parts (size % 512 == 0) (not gap && sound) a.1 in
+    let c = and_parts (not gap) sound b.1 in
+    all_right about path d parent gap sound first second
+    (ap (λ n. nat_lt n 24) e ∙ not_true (nat_lt size 24) a.0)
+    (ap (λ n. n % 512 == 0) e ∙ b.0)
+    (not_true gap c.0) c.1 dot dotdot
+  where
+    not_true : (b : Bool) → not b ≡ true → b ≡ false
+    not_true true h = absurd (cc)
+    not_true false h = refl

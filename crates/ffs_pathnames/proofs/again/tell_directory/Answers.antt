@@ -1,0 +1,174 @@
+use Rattle.std.proofs.Common.{◌≡◌, ◌<◌, refl, sym, ap, subst, ◌∙◌, ℕ, List, [], ◌∷◌, map, Err}
+use Rattle.std.specs.List.{flat_map}
+use Rattle.std.proofs.lemmas.List.{get_or_read_under}
+use Rattle.std.proofs.lemmas.Result.{err_from_is_err_and}
+use Rattle.ffs_volume.specs.Directory.{Chunk, chunk_of}
+use Rattle.ffs_volume.specs.Inodes.{inode_of}
+use Rattle.ffs_volume.specs.Messages.{of_names}
+use Rattle.ffs_volume.specs.Roles.{chunk_seen, seen_in}
+use Rattle.ffs_volume.specs.Volumes.{volume_of}
+use Rattle.ffs_walk.specs.Windows.{WindowHolds}
+use Rattle.ffs_names.specs.Readings.{rest}
+use Rattle.ffs_phase.proofs.Telling.{of_begins, of_reads, of_same, of_part, of_fault, said_knows, tells_knows}
+use Rattle.ffs_workspace.specs.declared.workspace.Workspace.{Workspace}
+use Rattle.ffs_workspace.specs.Lengths.{HoldWindows}
+use Rattle.ffs_pathnames.specs.Examines.{LeavesSurvey}
+use Rattle.ffs_pathnames.specs.Gathers.{marks_of}
+use Rattle.ffs_pathnames.specs.Knows.{Knows}
+use Rattle.ffs_pathnames.specs.Marks.{after_entries, entries_told}
+use Rattle.ffs_pathnames.proofs.Passing.{chunk_told, chunk_passed, knows_on, all_read}
+use Rattle.ffs_pathnames.proofs.again.tell_directory.Goals as goal
+
+pub chunks-init : goal.chunks-init
+chunks-init g c =
+    let v = c.args.geometry.now.layout in
+    let m = marks_of c.args.workspace.now in
+    let all = λ (b : List ℕ). map of_names (entries_told (volume_of v b) c.args.dir m (seen_in (volume_of v b) c.args.dir)) in
+    let seen = λ (b : List ℕ) (k : Knows v (g.I.Image.device c.args.image.now).told c.args.workspace.now c.args.dir b × (c.args.inode.now ≡ inode_of v b c.args.dir)).
+    all_read v b c.args.dir c.args.inode.now c.index-cut.result.now (rest b c.start-chunks.result) c.args.geometry.now.sound k.0.dir k.1
+    (get_or_read_under c.args.workspace.now.cut.items c.args.dir _ c.index-cut.result.now 0 c.index-cut.ensures (subst (λ n. c.args.dir < n) (sym c.requires.made.cut) c.requires.dir)
+    c.args.workspace.now.cut.ok.0 ∙ k.0.claims.cut c.args.dir)
+    (c.start-chunks.ensures.chunks b) in
+    record {
+      made = c.requires.made;
+      device = refl;
+      geometry = c.start-chunks.ensures.geometry;
+      windows = c.requires.windows;
+      same = refl;
+      survey = record { claimed = refl; kinds = refl; marked = refl; cut = refl; references = refl; named = refl; reached = refl; parents = refl };
+      marks = λ b k. ap (after_entries (volume_of v b) c.args.dir m) (sym (seen b k));
+      said = of_same _ all (λ (b : List ℕ). map of_names (entries_told (volume_of v b) c.args.dir m (flat_map chunk_seen (rest b c.start-chunks.result)))) all _ _ (of_begins _ all _)
+          (λ b k. ap (λ es. map of_names (entries_told (volume_of v b) c.args.dir m es)) (sym (seen b k)));
+    }
+
+pub returns-in_err-offset-clause-text : goal.returns-in_err-offset-clause-text
+returns-in_err-offset-clause-text g c =
+    let p = err_from_is_err_and c.from_residual.result c.from_residual.ensures.1 in
+    rw (p.1, p.2) (of_reads _ _ _ _ _ c.chunks.invariant.said)
+
+pub returns-in_err-offset-clause-windows : goal.returns-in_err-offset-clause-windows
+returns-in_err-offset-clause-windows g c =
+    let inv = c.chunks.invariant in
+    let told = c.in_err-offset.ensures.err.told ∙ ap (λ d. d.told) inv.device in
+    record {
+      table = subst (λ t. WindowHolds t c.chunks.workspace.windows.table.window) (sym told) inv.windows.table;
+      blocks = rw inv.geometry at c.in_err-offset.ensures.holds;
+      chunk = c.in_err-offset.ensures.data_holds;
+    }
+
+pub tell_chunk-requires-clause-windows : goal.tell_chunk-requires-clause-windows
+tell_chunk-requires-clause-windows g c =
+    let inv = c.chunks.invariant in
+    let read = c.in_ok-offset.ensures in
+    record {
+      table = subst (λ d. WindowHolds d.told c.chunks.workspace.windows.table.window) (sym (read.ok ∙ inv.device)) inv.windows.table;
+      blocks = rw inv.geometry at read.holds;
+      chunk = read.data_holds;
+    }
+
+pub chunks-preserved : goal.chunks-preserved
+chunks-preserved g c =
+    let v = c.args.geometry.now.layout in
+    let inv = c.chunks.invariant in
+    let read = c.in_ok-offset.ensures in
+    let ok = c.in_ok-tell_chunk.ensures in
+    let m = marks_of c.chunks.workspace in
+    let m' = marks_of c.tell_chunk.new.workspace in
+    let same = ok.image ∙ (read.ok ∙ inv.device) in
+    let between : Workspace = record c.chunks.workspace { windows = record c.chunks.workspace.windows { blocks = c.next.new.blocks; chunk = c.next.new.data } } in
+    let kept : LeavesSurvey c.args.workspace.now between = record {
+      claimed = inv.survey.claimed;
+      kinds = inv.survey.kinds;
+      marked = inv.survey.marked;
+      cut = inv.survey.cut;
+      references = inv.survey.references;
+      named = inv.survey.named;
+      reached = inv.survey.reached;
+      parents = inv.survey.parents;
+    } in
+    let know = λ (b : List ℕ) (k : Knows v (g.I.Image.device c.args.image.now).told c.args.workspace.now c.args.dir b × (c.args.inode.now ≡ inode_of v b c.args.dir)).
+    knows_on v (g.I.Image.device c.args.image.now).told (g.I.Image.device c.next.new.image).told c.args.workspace.now between c.args.dir b (ap (λ d. d.told) (read.ok ∙ inv.device)) kept k.0 in
+    let here : Chunk = chunk_of v.order c.in-Some.offset c.next.new.chunk in
+    let came = rw c.in-Some.is at read.chunks in
+    let next = λ (b : List ℕ) (k : Knows v (g.I.Image.device c.args.image.now).told c.args.workspace.now c.args.dir b × (c.args.inode.now ≡ inode_of v b c.args.dir)).
+    came b (ap (λ d. d.told) inv.device ∙ k.0.told_is) ∙ ap (λ q. chunk_of q.layout.order c.in-Some.offset c.next.new.chunk ∷ rest b c.next.new.self) inv.geometry in
+    record {
+      made = ok.made;
+      device = same;
+      geometry = read.geometry ∙ inv.geometry;
+      windows = subst (λ d. HoldWindows v d.told c.tell_chunk.new.workspace) same ok.windows;
+      same = ok.same ∙ inv.same;
+      survey = record {
+        claimed = ok.survey.claimed ∙ inv.survey.claimed;
+        kinds = ok.survey.kinds ∙ inv.survey.kinds;
+        marked = ok.survey.marked ∙ inv.survey.marked;
+        cut = ok.survey.cut ∙ inv.survey.cut;
+        references = ok.survey.references ∙ inv.survey.references;
+        named = ok.survey.named ∙ inv.survey.named;
+        reached = ok.survey.reached ∙ inv.survey.reached;
+        parents = ok.survey.parents ∙ inv.survey.parents;
+      };
+      marks = λ b k. chunk_passed (volume_of v b) c.args.dir _ m m' here (rest b c.chunks.chunks) (rest b c.next.new.self) (next b k) (ok.marks b (know b k)) (inv.marks b k);
+      said = of_part _ (λ (b : List ℕ). map of_names (entries_told (volume_of v b) c.args.dir m (flat_map chunk_seen (rest b c.chunks.chunks))))
+          (λ (b : List ℕ). map of_names (entries_told (volume_of v b) c.args.dir m (chunk_seen here)))
+          (λ (b : List ℕ). map of_names (entries_told (volume_of v b) c.args.dir m' (flat_map chunk_seen (rest b c.next.new.self)))) _ _ _ _ inv.said
+          (λ b k. chunk_told (volume_of v b) c.args.dir m m' here (rest b c.chunks.chunks) (rest b c.next.new.self) (next b k) (ok.marks b (know b k)))
+          (said_knows _ _ _ _ _ _ know ok.text);
+    }
+
+pub returns-in_err-tell_chunk-clause-text : goal.returns-in_err-tell_chunk-clause-text
+returns-in_err-tell_chunk-clause-text g c =
+    let v = c.args.geometry.now.layout in
+    let inv = c.chunks.invariant in
+    let read = c.in_ok-offset.ensures in
+    let m = marks_of c.chunks.workspace in
+    let between : Workspace = record c.chunks.workspace { windows = record c.chunks.workspace.windows { blocks = c.next.new.blocks; chunk = c.next.new.data } } in
+    let kept : LeavesSurvey c.args.workspace.now between = record {
+      claimed = inv.survey.claimed;
+      kinds = inv.survey.kinds;
+      marked = inv.survey.marked;
+      cut = inv.survey.cut;
+      references = inv.survey.references;
+      named = inv.survey.named;
+      reached = inv.survey.reached;
+      parents = inv.survey.parents;
+    } in
+    let know = λ (b : List ℕ) (k : Knows v (g.I.Image.device c.args.image.now).told c.args.workspace.now c.args.dir b × (c.args.inode.now ≡ inode_of v b c.args.dir)).
+    knows_on v (g.I.Image.device c.args.image.now).told (g.I.Image.device c.next.new.image).told c.args.workspace.now between c.args.dir b (ap (λ d. d.told) (read.ok ∙ inv.device)) kept k.0 in
+    let here : Chunk = chunk_of v.order c.in-Some.offset c.next.new.chunk in
+    let came = rw c.in-Some.is at read.chunks in
+    let next = λ (b : List ℕ) (k : Knows v (g.I.Image.device c.args.image.now).told c.args.workspace.now c.args.dir b × (c.args.inode.now ≡ inode_of v b c.args.dir)).
+    came b (ap (λ d. d.told) inv.device ∙ k.0.told_is) ∙ ap (λ q. chunk_of q.layout.order c.in-Some.offset c.next.new.chunk ∷ rest b c.next.new.self) inv.geometry in
+    let p = err_from_is_err_and c.from_residual-in_err-tell_chunk.result c.from_residual-in_err-tell_chunk.ensures.1 in
+    rw (p.1, p.2) (of_fault (Unit {0}) (Unit {0}) _ (λ (b : List ℕ). map of_names (entries_told (volume_of v b) c.args.dir m (flat_map chunk_seen (rest b c.chunks.chunks))))
+    (λ (b : List ℕ). map of_names (entries_told (volume_of v b) c.args.dir m (chunk_seen here)))
+    (λ (b : List ℕ). map of_names (entries_told (volume_of v b) c.args.dir (after_entries (volume_of v b) c.args.dir m (chunk_seen here)) (flat_map chunk_seen (rest b c.next.new.self)))) _ _ _ _
+    c.in_err-tell_chunk.field-0.0 inv.said
+    (λ b k. chunk_told (volume_of v b) c.args.dir m (after_entries (volume_of v b) c.args.dir m (chunk_seen here)) here (rest b c.chunks.chunks) (rest b c.next.new.self) (next b k) refl)
+    (tells_knows (Unit {0}) _ _ _ _ _ (Err c.in_err-tell_chunk.field-0.0) know c.in_err-tell_chunk.ensures.text))
+
+pub returns-clause-text : goal.returns-clause-text
+returns-clause-text g c =
+    let v = c.args.geometry.now.layout in
+    let inv = c.chunks.invariant in
+    let m = marks_of c.chunks.workspace in
+    let came = rw c.in_default.is at c.in_ok-offset.ensures.chunks in
+    of_same _ (λ (b : List ℕ). map of_names (entries_told (volume_of v b) c.args.dir m (flat_map chunk_seen (rest b c.chunks.chunks)))) (λ b. []) _ _ _ inv.said
+    (λ b k. ap (λ cs. map of_names (entries_told (volume_of v b) c.args.dir m (flat_map chunk_seen cs))) (came b (ap (λ d. d.told) inv.device ∙ k.0.told_is)))
+
+pub returns-clause-marks : goal.returns-clause-marks
+returns-clause-marks g c = λ b k.
+    let v = c.args.geometry.now.layout in
+    let inv = c.chunks.invariant in
+    let came = rw c.in_default.is at c.in_ok-offset.ensures.chunks in
+    inv.marks b k ∙ ap (λ cs. after_entries (volume_of v b) c.args.dir (marks_of c.chunks.workspace) (flat_map chunk_seen cs)) (came b (ap (λ d. d.told) inv.device ∙ k.0.told_is))
+
+pub returns-clause-windows : goal.returns-clause-windows
+returns-clause-windows g c =
+    let inv = c.chunks.invariant in
+    let read = c.in_ok-offset.ensures in
+    record {
+      table = subst (λ d. WindowHolds d.told c.chunks.workspace.windows.table.window) (sym (read.ok ∙ inv.device)) inv.windows.table;
+      blocks = rw inv.geometry at read.holds;
+      chunk = read.data_holds;
+    }

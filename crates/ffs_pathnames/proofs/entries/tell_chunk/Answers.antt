@@ -1,0 +1,101 @@
+use Rattle.std.proofs.Common.{◌+◌, refl, ap, subst, ◌∙◌, arith, ℕ, List, [], map, Err}
+use Rattle.std.proofs.lemmas.Result.{err_from_is_err_and}
+use Rattle.ffs_volume.specs.Directory.{entries_of}
+use Rattle.ffs_volume.specs.Messages.{of_names}
+use Rattle.ffs_volume.specs.Roles.{Seen, seen_from}
+use Rattle.ffs_volume.specs.Volumes.{volume_of}
+use Rattle.ffs_layout.specs.Entry.{seen_entry}
+use Rattle.ffs_phase.proofs.Telling.{of_begins, of_same, of_part, of_fault, said_knows, tells_knows}
+use Rattle.ffs_workspace.specs.Lengths.{HoldWindows}
+use Rattle.ffs_pathnames.specs.Gathers.{marks_of}
+use Rattle.ffs_pathnames.specs.Knows.{Knows}
+use Rattle.ffs_pathnames.specs.Marks.{after_seen, after_entries, seen_told, entries_told}
+use Rattle.ffs_pathnames.proofs.Looking.{seen_at_place, seen_next, none}
+use Rattle.ffs_pathnames.proofs.Passing.{entry_told, entry_passed, leaves_more, name_short, none_left, knows_on}
+use Rattle.ffs_pathnames.proofs.entries.tell_chunk.Goals as goal
+
+pub entries-init : goal.entries-init
+entries-init g c =
+    let v = c.args.geometry.now.layout in
+    record {
+      place = omega arith;
+      index = omega arith;
+      made = c.requires.made;
+      device = refl;
+      windows = c.requires.windows;
+      same = refl;
+      survey = record { claimed = refl; kinds = refl; marked = refl; cut = refl; references = refl; named = refl; reached = refl; parents = refl };
+      marks = λ b k. refl;
+      said = of_begins _ (λ (b : List ℕ). map of_names (entries_told (volume_of v b) c.args.dir (marks_of c.args.workspace.now) (seen_from c.args.first 0 (entries_of v.order c.args.chunk.now)))) _;
+    }
+
+pub tell_entry-requires-clause-name : goal.tell_entry-requires-clause-name
+tell_entry-requires-clause-name g c =
+    name_short c.args.geometry.now.layout.order c.args.chunk.now c.entries.place (seen_entry c.in-Some.entry) c.name_length.ensures.short c.in-Some.ensures.some
+
+pub returns-in_err-tell_entry-clause-text : goal.returns-in_err-tell_entry-clause-text
+returns-in_err-tell_entry-clause-text g c =
+    let v = c.args.geometry.now.layout in
+    let inv = c.entries.invariant in
+    let e = seen_entry c.in-Some.entry in
+    let seen : Seen = record { role = c.role_of-role.result; entry = e } in
+    let m = marks_of c.entries.workspace in
+    let here = seen_at_place v.order c.args.chunk.now c.args.first c.entries.index c.entries.place in
+    let there = seen_at_place v.order c.args.chunk.now c.args.first (c.entries.index + 1) (c.entries.place + c.in-Some.entry.length) in
+    let next = seen_next v.order c.args.chunk.now c.args.first c.entries.index c.entries.place e c.role_of-role.result c.in-Some.ensures.some c.role_of-role.ensures in
+    let p = err_from_is_err_and c.from_residual.result c.from_residual.ensures.1 in
+    rw (p.1, p.2) (of_fault (Unit {0}) (Unit {0}) _ (λ (b : List ℕ). map of_names (entries_told (volume_of v b) c.args.dir m here))
+    (λ (b : List ℕ). map of_names (seen_told (volume_of v b) c.args.dir m seen))
+    (λ (b : List ℕ). map of_names (entries_told (volume_of v b) c.args.dir (after_seen (volume_of v b) c.args.dir m seen) there)) _ _ _ _ c.in_err-tell_entry.field-0.0
+    inv.said (λ b k. entry_told (volume_of v b) c.args.dir m (after_seen (volume_of v b) c.args.dir m seen) seen here there next refl)
+    (tells_knows (Unit {0}) _ _ _ _ _ (Err c.in_err-tell_entry.field-0.0)
+    (λ b k. knows_on v _ _ c.args.workspace.now c.entries.workspace c.args.dir b (ap (λ d. d.told) inv.device) inv.survey k) c.in_err-tell_entry.ensures.text))
+
+pub entries-preserved : goal.entries-preserved
+entries-preserved g c =
+    let v = c.args.geometry.now.layout in
+    let inv = c.entries.invariant in
+    let ok = c.in_ok-tell_entry.ensures in
+    let e = seen_entry c.in-Some.entry in
+    let seen : Seen = record { role = c.role_of-role.result; entry = e } in
+    let m = marks_of c.entries.workspace in
+    let m' = marks_of c.tell_entry.new.workspace in
+    let here = seen_at_place v.order c.args.chunk.now c.args.first c.entries.index c.entries.place in
+    let there = seen_at_place v.order c.args.chunk.now c.args.first (c.entries.index + 1) (c.entries.place + c.in-Some.entry.length) in
+    let next = seen_next v.order c.args.chunk.now c.args.first c.entries.index c.entries.place e c.role_of-role.result c.in-Some.ensures.some c.role_of-role.ensures in
+    let low = c.in-Some.ensures.room.0 in
+    let high = c.in-Some.ensures.room.1 in
+    let know = λ (b : List ℕ) (k : Knows v (g.I.Image.device c.args.image.now).told c.args.workspace.now c.args.dir b).
+    knows_on v (g.I.Image.device c.args.image.now).told (g.I.Image.device c.entries.image).told c.args.workspace.now c.entries.workspace c.args.dir b (ap (λ d. d.told) inv.device) inv.survey k in
+    rw c.from-place.ensures (record {
+      place = omega arith;
+      index = omega arith;
+      made = ok.made;
+      device = ok.image ∙ inv.device;
+      windows = subst (λ d. HoldWindows v d.told c.tell_entry.new.workspace) (ok.image ∙ inv.device) ok.windows;
+      same = ok.same ∙ inv.same;
+      survey = leaves_more _ _ _ inv.survey ok.survey;
+      marks = λ b k. entry_passed (volume_of v b) c.args.dir _ m m' seen here there next (ok.marks b (know b k)) (inv.marks b k);
+      said = of_part _ (λ (b : List ℕ). map of_names (entries_told (volume_of v b) c.args.dir m here))
+          (λ (b : List ℕ). map of_names (seen_told (volume_of v b) c.args.dir m seen))
+          (λ (b : List ℕ). map of_names (entries_told (volume_of v b) c.args.dir m' there)) _ _ _ _ inv.said
+          (λ b k. entry_told (volume_of v b) c.args.dir m m' seen here there next (ok.marks b (know b k)))
+          (said_knows _ _ _ _ _ _ know ok.text);
+    })
+
+pub returns-clause-text : goal.returns-clause-text
+returns-clause-text g c =
+    let v = c.args.geometry.now.layout in
+    let inv = c.entries.invariant in
+    let m = marks_of c.entries.workspace in
+    let end = none_left v.order c.args.chunk.now c.args.first c.entries.index c.entries.place
+    (none v.order c.args.chunk.now c.entries.place c.entry_at.result c.in_default.is c.entry_at.ensures.value) in
+    of_same _ (λ (b : List ℕ). map of_names (entries_told (volume_of v b) c.args.dir m (seen_at_place v.order c.args.chunk.now c.args.first c.entries.index c.entries.place))) (λ b. []) _ _ _ inv.said
+    (λ b k. ap (λ es. map of_names (entries_told (volume_of v b) c.args.dir m es)) end)
+
+pub returns-clause-marks : goal.returns-clause-marks
+returns-clause-marks g c = λ b k.
+    let v = c.args.geometry.now.layout in
+    let end = none_left v.order c.args.chunk.now c.args.first c.entries.index c.entries.place
+    (none v.order c.args.chunk.now c.entries.place c.entry_at.result c.in_default.is c.entry_at.ensures.value) in
+    c.entries.invariant.marks b k ∙ ap (after_entries (volume_of v b) c.args.dir (marks_of c.entries.workspace)) end

@@ -1,0 +1,47 @@
+use Rattle.std.proofs.Common.{◌≡◌, ◌+◌, ◌≤◌, sym, ap, ◌∙◌, arith, ℕ, List, Bool, ◌∷◌, ◌&&◌, length, Some}
+use Rattle.std.specs.Prelude.{◌==◌, sum_by}
+use Rattle.ffs_volume.specs.Directory.{entries_from, entry_at}
+use Rattle.ffs_volume.specs.Roles.{Volume, Seen, seen_from}
+use Rattle.ffs_volume.proofs.Reading.{entries_end}
+use Rattle.ffs_layout.specs.Entry.{seen_entry}
+use Rattle.ffs_pathnames.specs.Marks.{are_quiet, after_looks}
+use Rattle.ffs_pathnames.proofs.Looking.{seen_at_place, seen_next, quiet_on, stamps_on, length_on, quiet_ends, stamps_end, length_ends, none}
+use Rattle.ffs_pathnames.proofs.look.look_chunk.Goals as goal
+
+pub entries-preserved : goal.entries-preserved
+entries-preserved c =
+    let e = seen_entry c.in-Some.entry in
+    let there = c.in-Some.ensures.some in
+    let room = c.in-Some.ensures.room in
+    let low = room.0 in
+    let high = room.1 in
+    let next = seen_next c.args.order c.args.chunk.now c.args.first c.entries.index c.entries.place e c.role_of-role.result there c.role_of-role.ensures in
+    let seen : Seen = record { role = c.role_of-role.result; entry = e } in
+    rw (c.from-place.ensures, c.both-quiet.ensures) (record {
+      place = omega arith;
+      index = omega arith;
+      stamps_long = omega arith;
+      quiet = λ v s. quiet_on v c.args.dir c.entries.stamps c.look_at-here.new.stamps seen
+        (seen_at_place c.args.order c.args.chunk.now c.args.first c.entries.index c.entries.place)
+        (seen_at_place c.args.order c.args.chunk.now c.args.first (c.entries.index + 1) (c.entries.place + c.in-Some.entry.length))
+        _ c.entries.quiet c.look_at-here.result next (c.look_at-here.ensures.quiet v s) (c.look_at-here.ensures.stamps v s) (c.entries.invariant.quiet v s);
+      stamps = λ v s. stamps_on v c.args.dir c.entries.stamps c.look_at-here.new.stamps _ seen
+        (seen_at_place c.args.order c.args.chunk.now c.args.first c.entries.index c.entries.place)
+        (seen_at_place c.args.order c.args.chunk.now c.args.first (c.entries.index + 1) (c.entries.place + c.in-Some.entry.length))
+        next (c.look_at-here.ensures.stamps v s) (c.entries.invariant.stamps v s);
+      sound = length_on c.args.order c.args.chunk.now c.entries.place _ e there c.entries.invariant.sound
+    })
+
+pub returns-clause-quiet : goal.returns-clause-quiet
+returns-clause-quiet c = λ v s.
+    quiet_ends v c.args.dir c.entries.stamps c.args.first c.entries.index c.args.order c.args.chunk.now c.entries.place _ c.entries.quiet
+      (none c.args.order c.args.chunk.now c.entries.place c.entry_at.result c.in_default.is c.entry_at.ensures.value) (c.entries.invariant.quiet v s)
+
+pub returns-clause-stamps : goal.returns-clause-stamps
+returns-clause-stamps c = λ v s.
+    stamps_end v c.args.dir c.entries.stamps _ c.args.first c.entries.index c.args.order c.args.chunk.now c.entries.place
+      (none c.args.order c.args.chunk.now c.entries.place c.entry_at.result c.in_default.is c.entry_at.ensures.value) (c.entries.invariant.stamps v s)
+
+pub returns-clause-sound : goal.returns-clause-sound
+returns-clause-sound c =
+    length_ends c.args.order c.args.chunk.now c.entries.place _ (none c.args.order c.args.chunk.now c.entries.place c.entry_at.result c.in_default.is c.entry_at.ensures.value) c.entries.invariant.sound

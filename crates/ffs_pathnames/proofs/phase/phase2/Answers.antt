@@ -1,0 +1,65 @@
+use Rattle.std.proofs.Common.{[], ◌∷◌, List, ℕ, map, refl, ap, ◌∙◌}
+use Rattle.std.proofs.lemmas.Result.{err_from_is_err_and}
+use Rattle.ffs_phase.proofs.Telling.{of_begins, of_says, of_stops, of_reads, of_last, tells_knows}
+use Rattle.ffs_volume.specs.Messages.{of_names, phase2}
+use Rattle.ffs_volume.specs.PathnameCheck.{pathname_lines}
+use Rattle.ffs_volume.specs.Volumes.{volume_of}
+use Rattle.ffs_pathnames.specs.declared.phase.Root.{Root}
+use Rattle.ffs_pathnames.proofs.Carrying.{on_all, if_ok, claims_untouched, before_first}
+use Rattle.ffs_pathnames.proofs.Holding.{claims_stay, survey_stays}
+use Rattle.ffs_pathnames.proofs.phase.phase2.Goals as goal
+
+pub returns-in_err-say-clause-text : goal.returns-in_err-say-clause-text
+returns-in_err-say-clause-text g c =
+    let p = err_from_is_err_and c.from_residual.result c.from_residual.ensures.1 in
+    let v = c.args.geometry.now.layout in
+    let lines = λ (b : List ℕ). map of_names (pathname_lines (volume_of v b)) in
+    let all = λ (b : List ℕ). phase2 ∷ map of_names (pathname_lines (volume_of v b)) in
+    rw (p.1, p.2) (of_stops _ all lines _ (phase2 ∷ []) _ _ _ (of_begins _ all _) (λ b k. refl) c.in_err-say.ensures.said)
+
+pub returns-in_err-survey-clause-text : goal.returns-in_err-survey-clause-text
+returns-in_err-survey-clause-text g c =
+    let p = err_from_is_err_and c.from_residual-in_err-survey.result c.from_residual-in_err-survey.ensures.1 in
+    let v = c.args.geometry.now.layout in
+    let lines = λ (b : List ℕ). map of_names (pathname_lines (volume_of v b)) in
+    let all = λ (b : List ℕ). phase2 ∷ map of_names (pathname_lines (volume_of v b)) in
+    rw (p.1, p.2) (of_reads _ lines _ _ _ (of_says _ all lines _ (phase2 ∷ []) _ _ _ (of_begins _ all _) (λ b k. refl) c.in_ok-say.ensures.said))
+
+pub returns-clause-text : goal.returns-clause-text
+returns-clause-text g c =
+    let v = c.args.geometry.now.layout in
+    let lines = λ (b : List ℕ). map of_names (pathname_lines (volume_of v b)) in
+    let all = λ (b : List ℕ). phase2 ∷ map of_names (pathname_lines (volume_of v b)) in
+    let found = c.in_ok-survey.ensures in
+    let clear = c.clear_marks.ensures in
+    of_last Root _ lines lines all _ _ _ c.check_tree.result
+    (of_says _ all lines _ (phase2 ∷ []) _ _ _ (of_begins _ all _) (λ b k. refl) c.in_ok-say.ensures.said)
+    (λ b k. refl)
+    (tells_knows Root _ _ lines _ _ c.check_tree.result
+    (λ b k. before_first v _ b _ (ap (λ d. d.told) found.ok ∙ k.0)
+    (claims_stay v b _ _ clear.survey (claims_untouched v b _ _ found.same k.1))
+    (survey_stays v b _ _ clear.survey (found.survey b k.0 k.1)) clear.made clear.clear)
+    c.check_tree.ensures.text)
+
+pub returns-clause-goes : goal.returns-clause-goes
+returns-clause-goes g c =
+    let v = c.args.geometry.now.layout in
+    let found = c.in_ok-survey.ensures in
+    let clear = c.clear_marks.ensures in
+    if_ok c.check_tree.result _ _
+    (λ root h b k. h b (before_first v _ b _ (ap (λ d. d.told) found.ok ∙ k.0)
+    (claims_stay v b _ _ clear.survey (claims_untouched v b _ _ found.same k.1))
+    (survey_stays v b _ _ clear.survey (found.survey b k.0 k.1)) clear.made clear.clear))
+    c.check_tree.ensures.goes
+
+pub returns-clause-holds : goal.returns-clause-holds
+returns-clause-holds g c =
+    let v = c.args.geometry.now.layout in
+    let found = c.in_ok-survey.ensures in
+    let clear = c.clear_marks.ensures in
+    let last = c.check_tree.ensures.survey in
+    on_all c.check_tree.result _
+    (λ b k. (
+      claims_stay v b _ _ last (claims_stay v b _ _ clear.survey (claims_untouched v b _ _ found.same k.1)),
+      survey_stays v b _ _ last (survey_stays v b _ _ clear.survey (found.survey b k.0 k.1)),
+    ))

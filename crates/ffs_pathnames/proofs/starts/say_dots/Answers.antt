@@ -1,0 +1,16 @@
+use Rattle.std.proofs.Common.{◌++◌, ◌&&◌, not, ◌==◌, ◌%◌, nat_lt, option_map}
+use Rattle.ffs_volume.specs.Messages.{told, dir_short, dir_length, dir_empty, dir_corrupt}
+use Rattle.ffs_layout.specs.Entry.{seen_entry}
+use Rattle.ffs_pathnames.specs.Starts.{shape_told, dot_in, dotdot_in, dot_said, dotdot_said, dots_told, starts_told}
+use Rattle.ffs_pathnames.proofs.Saying.{names_then, first_stops}
+use Rattle.ffs_pathnames.proofs.starts.say_dots.Goals as goal
+
+pub returns-in_err-say_dot-clause-said : goal.returns-in_err-say_dot-clause-said
+returns-in_err-say_dot-clause-said g c =
+    first_stops _ _ (dot_said c.args.attr c.args.path.now c.args.number (option_map seen_entry c.args.first) (dot_in (option_map seen_entry c.args.first))) (dotdot_said c.args.attr c.args.path.now c.args.parent (option_map seen_entry c.args.second) (dotdot_in (option_map seen_entry c.args.second)))
+      c.from_residual.result c.from_residual.ensures.0 c.in_err-say_dot.ensures.said
+
+pub returns-clause-said : goal.returns-clause-said
+returns-clause-said g c =
+    names_then _ _ _ (dot_said c.args.attr c.args.path.now c.args.number (option_map seen_entry c.args.first) (dot_in (option_map seen_entry c.args.first))) (dotdot_said c.args.attr c.args.path.now c.args.parent (option_map seen_entry c.args.second) (dotdot_in (option_map seen_entry c.args.second)))
+      _ c.in_ok-say_dot.ensures.said c.say_dotdot.ensures.said

@@ -1,0 +1,18 @@
+use Rattle.std.proofs.Common.{◌++◌, ◌&&◌, not, ◌==◌, ◌%◌, nat_lt, option_map}
+use Rattle.ffs_volume.specs.Messages.{told, dir_short, dir_length, dir_empty, dir_corrupt}
+use Rattle.ffs_layout.specs.Entry.{seen_entry}
+use Rattle.ffs_pathnames.specs.Starts.{shape_told, dot_in, dotdot_in, dot_said, dotdot_said, dots_told, starts_told}
+use Rattle.ffs_pathnames.proofs.Saying.{names_then, first_stops}
+use Rattle.ffs_pathnames.proofs.starts.say_starts.Goals as goal
+
+pub returns-in_err-say_shape-clause-said : goal.returns-in_err-say_shape-clause-said
+unfolding starts_told
+returns-in_err-say_shape-clause-said g c =
+    first_stops _ _ (shape_told c.args.attr c.args.path.now c.args.shape.gap c.args.shape.sound) (dots_told c.args.attr c.args.path.now c.args.number c.args.parent (option_map seen_entry c.args.shape.first) (option_map seen_entry c.args.shape.second))
+      c.from_residual.result c.from_residual.ensures.0 c.in_err-say_shape.ensures.said
+
+pub returns-clause-said : goal.returns-clause-said
+unfolding starts_told
+returns-clause-said g c =
+    names_then _ _ _ (shape_told c.args.attr c.args.path.now c.args.shape.gap c.args.shape.sound) (dots_told c.args.attr c.args.path.now c.args.number c.args.parent (option_map seen_entry c.args.shape.first) (option_map seen_entry c.args.shape.second))
+      _ c.in_ok-say_shape.ensures.said c.say_dots.ensures.said

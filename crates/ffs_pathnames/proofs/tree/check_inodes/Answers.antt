@@ -1,0 +1,70 @@
+use Rattle.std.proofs.Common.{◌+◌, ◌-◌, [], map, refl, sym, ap, subst, ◌≡◌, suc, arith, rules, Err}
+use Rattle.std.proofs.lemmas.Result.{err_from_is_err_and}
+use Rattle.ffs_connectivity.specs.Lines.{lines_from}
+use Rattle.ffs_connectivity.proofs.Lines.{from_next, from_end}
+use Rattle.ffs_phase.proofs.Telling.{of_begins, of_same, of_part, of_fault, said_knows, tells_knows}
+use Rattle.ffs_volume.specs.Messages.{of_names}
+use Rattle.ffs_volume.specs.PathnameCheck.{lines_of}
+use Rattle.ffs_volume.specs.Volumes.{volume_of}
+use Rattle.ffs_workspace.specs.Lengths.{inodes_of}
+use Rattle.ffs_pathnames.specs.Before.{IsBefore}
+use Rattle.ffs_pathnames.proofs.Carrying.{leaves_all, leaves_more, before_told}
+use Rattle.ffs_pathnames.proofs.tree.check_inodes.Goals as goal
+
+pub loop-number-init : goal.loop-number-init
+loop-number-init g c =
+    record {
+      made = c.requires.made;
+      device = refl;
+      windows = c.requires.windows;
+      same = refl;
+      low = omega arith;
+      survey = leaves_all _;
+      before = λ b k. k;
+      said = of_begins _ (λ b. map of_names (lines_from (lines_of (volume_of c.args.geometry.now.layout b)) 2 (inodes_of c.args.geometry.now.layout - 2))) _;
+    }
+
+pub returns-in_err-check_inode-clause-text : goal.returns-in_err-check_inode-clause-text
+returns-in_err-check_inode-clause-text g c =
+    let p = err_from_is_err_and c.from_residual.result c.from_residual.ensures.1 in
+    let v = c.args.geometry.now.layout in
+    let inv = c.loop-number.invariant in
+    let n = c.loop-number.number in
+    rw (p.1, p.2) (of_fault (Unit {0}) (Unit {0}) _ (λ b. map of_names (lines_from (lines_of (volume_of v b)) n (inodes_of v - n)))
+    (λ b. map of_names (lines_of (volume_of v b) n))
+    (λ b. map of_names (lines_from (lines_of (volume_of v b)) (n + 1) (inodes_of v - (n + 1)))) _ _ _ _ c.in_err-check_inode.field-0.0
+    inv.said (λ b k. from_next (lines_of (volume_of v b)) n (inodes_of v) (omega arith))
+    (tells_knows (Unit {0}) _ _ _ _ _ (Err c.in_err-check_inode.field-0.0)
+    (λ b k. before_told v _ _ _ n b (ap (λ d. d.told) inv.device) (inv.before b k)) c.in_err-check_inode.ensures.text))
+
+pub loop-number-preserved : goal.loop-number-preserved
+loop-number-preserved g c =
+    let v = c.args.geometry.now.layout in
+    let inv = c.loop-number.invariant in
+    let n = c.loop-number.number in
+    let ok = c.in_ok-check_inode.ensures in
+    let q : suc n ≡ n + 1 = omega arith in
+    record {
+      made = ok.made;
+      device = search rules;
+      windows = search rules;
+      same = search rules;
+      low = omega arith;
+      survey = leaves_more _ _ _ inv.survey ok.survey;
+      before = λ b k. subst (λ d. IsBefore v (g.I.Image.device c.args.image.now).told c.check_inode.new.workspace d b) q
+          (before_told v _ _ _ (suc n) b (sym (ap (λ d. d.told) inv.device)) (ok.before b (before_told v _ _ _ n b (ap (λ d. d.told) inv.device) (inv.before b k))));
+      said = of_part _ (λ b. map of_names (lines_from (lines_of (volume_of v b)) n (inodes_of v - n)))
+          (λ b. map of_names (lines_of (volume_of v b) n))
+          (λ b. map of_names (lines_from (lines_of (volume_of v b)) (n + 1) (inodes_of v - (n + 1)))) _ _ _ _ inv.said
+          (λ b k. from_next (lines_of (volume_of v b)) n (inodes_of v) (omega arith))
+          (said_knows _ _ _ _ _ _
+          (λ b k. before_told v _ _ _ n b (ap (λ d. d.told) inv.device) (inv.before b k)) ok.text);
+    }
+
+pub returns-clause-text : goal.returns-clause-text
+returns-clause-text g c =
+    let v = c.args.geometry.now.layout in
+    let inv = c.loop-number.invariant in
+    let n = c.loop-number.number in
+    of_same _ (λ b. map of_names (lines_from (lines_of (volume_of v b)) n (inodes_of v - n))) (λ b. []) _ _ _ inv.said
+    (λ b k. from_end (lines_of (volume_of v b)) n (inodes_of v) (omega arith))

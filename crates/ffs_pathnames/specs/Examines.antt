@@ -1,0 +1,44 @@
+-- What of a workspace stays, and what is found of a directory.
+use Rattle.std.specs.Prelude.{◌≡◌, ℕ, ◌==◌, List, []}
+use Rattle.std.specs.List.{find}
+use Rattle.ffs_volume.specs.declared.Layout.{Layout}
+use Rattle.ffs_volume.specs.Inodes.{inode_of}
+use Rattle.ffs_volume.specs.Roles.{seen_in}
+use Rattle.ffs_volume.specs.PathnameCheck.{are_sound}
+use Rattle.ffs_volume.specs.Volumes.{volume_of}
+use Rattle.ffs_pathnames.specs.declared.examine.Examined.{Examined}
+use Rattle.ffs_pathnames.specs.Marks.{are_quiet, after_looks}
+use Rattle.ffs_pathnames.specs.Reads.{start_of}
+use Rattle.ffs_workspace.specs.declared.workspace.Workspace.{Workspace}
+
+-- all that the phases before the pathname check left
+pub record LeavesSurvey (old new : Workspace) : Type 0 where
+  pub claimed : new.claimed ≡ old.claimed
+  pub kinds : new.kinds ≡ old.kinds
+  pub marked : new.marked ≡ old.marked
+  pub cut : new.cut ≡ old.cut
+  pub references : new.references ≡ old.references
+  pub named : new.named ≡ old.named
+  pub reached : new.reached ≡ old.reached
+  pub parents : new.parents ≡ old.parents
+
+-- and the list of leaders
+pub record LeavesQueue (old new : Workspace) : Type 0 where
+  pub survey : LeavesSurvey old new
+  pub leaders : new.leaders ≡ old.leaders
+
+-- its inode, whether a Gap of it is kept, whether its chunks are sound, the chunk at the start of the file, whether nothing may be
+-- told of its entries; and each inode that belongs to it is stamped
+pub record AreFound (v : Layout) (b : List ℕ) (d : ℕ) (old : Workspace) (e : Examined) (new : Workspace) (start : List ℕ) : Type 0 where
+  pub inode : e.inode ≡ inode_of v b d
+  pub gap : e.gap ≡ (volume_of v b).gap d
+  pub sound : e.found.sound ≡ are_sound ((volume_of v b).chunks d)
+  pub started : find (λ c. c.offset == 0) ((volume_of v b).chunks d) ≡ start_of [] e.found.started v.order start
+  pub quiet : e.found.quiet ≡ are_quiet (volume_of v b) d old.queue.items (seen_in (volume_of v b) d)
+  pub stamps : new.queue.items ≡ after_looks (volume_of v b) d old.queue.items (seen_in (volume_of v b) d)
+
+-- all lists
+pub record LeavesMarks (old new : Workspace) : Type 0 where
+  pub survey : LeavesSurvey old new
+  pub leaders : new.leaders ≡ old.leaders
+  pub queue : new.queue ≡ old.queue

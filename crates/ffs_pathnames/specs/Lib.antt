@@ -1,0 +1,14 @@
+pub mod Marks
+pub mod MarksRight
+pub mod SaysNames
+pub mod NameLines
+pub mod Starts
+pub mod Sees
+pub mod Verdicts
+pub mod Reads
+pub mod Examines
+pub mod Gathers
+pub mod Knows
+pub mod GoesOn
+pub mod Begins
+pub mod Before

@@ -1,0 +1,16 @@
+-- The messages of lines on directories and their entries.
+use Rattle.std.specs.Prelude.{List, ◌++◌}
+use Rattle.ffs_volume.specs.Messages.{NameMessage, told}
+use Rattle.ffs_report.specs.Lines.{directory_message, dot_message, entry_message}
+use Rattle.ffs_pathnames.specs.declared.say.NameLine.{NameLine}
+use Rattle.ffs_pathnames.specs.declared.say.NameLine.TheVariants.{Directory, Dot, Entry}
+use Rattle.ffs_pathnames.specs.declared.say.Check.{Check}
+
+abbrev pub name_message : NameLine → NameMessage
+name_message (Directory line) = directory_message line
+name_message (Dot line) = dot_message line
+name_message (Entry line) = entry_message line
+
+-- two messages, each where its test holds
+abbrev pub two_told : Check → Check → List NameMessage
+two_told a b = told a.holds (name_message a.line) ++ told b.holds (name_message b.line)

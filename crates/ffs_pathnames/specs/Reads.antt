@@ -1,0 +1,19 @@
+-- The chunks of a directory, as they are read again.
+use Rattle.std.specs.Prelude.{ℕ, ◌==◌, Bool, true, false, if◌then◌else◌, List, Option, Some, None}
+use Rattle.std.specs.List.{find}
+use Rattle.ffs_volume.specs.declared.Layout.{Layout}
+use Rattle.ffs_volume.specs.declared.Order.{Order}
+use Rattle.ffs_volume.specs.declared.Inode.{Inode}
+use Rattle.ffs_volume.specs.Areas.{is_in_range}
+use Rattle.ffs_volume.specs.Directory.{Chunk, chunk_of, chunks_of, size_taken}
+use Rattle.ffs_volume.specs.Steps.{steps_of}
+use Rattle.ffs_volume.specs.Replay.{fresh_replay, replayed_steps}
+use Rattle.ffs_names.specs.Hands.{reading_by}
+
+-- the chunks of an inode that keeps `cut` offers, or all if that is 0
+unfoldable pub chunks_read : Layout → Inode → ℕ → List ℕ → List Chunk
+chunks_read v i cut b = chunks_of (reading_by v b (size_taken i.size)) (is_in_range v) (replayed_steps v cut fresh_replay (steps_of v i b))
+
+-- the chunk at the start of the file: the one that was found, or else the first of those to come
+abbrev pub start_of : List Chunk → Bool → Order → List ℕ → Option Chunk
+start_of cs started order start = if started then Some (chunk_of order 0 start) else find (λ c. c.offset == 0) cs

@@ -1,0 +1,21 @@
+-- What the lists of a workspace show of a volume.
+use Rattle.std.specs.Prelude.{◌≡◌, ℕ, ◌≤◌, ◌/◌, ◌==◌, Bool, true, false, ◌||◌, List, length, slice_index}
+use Rattle.ffs_volume.specs.Roles.{Volume, is_dir, is_allocated, is_unknown, is_suspect}
+use Rattle.ffs_volume.specs.Climb.{is_value}
+use Rattle.ffs_volume.specs.Graph.{parent}
+use Rattle.ffs_volume.specs.Parents.{graph_of}
+use Rattle.ffs_workspace.specs.Kinds.{is_dir_kind, is_empty_dir_kind, is_allocated_kind, is_unknown_kind, type_of_kind, class_of_kind}
+use Rattle.ffs_workspace.specs.Holds.{bool_at}
+use Rattle.ffs_pathnames.specs.declared.inodes.Inodes.{Inodes}
+
+-- of each inode its kind, whether it is marked, and its parent
+pub record Sees (v : Volume) (i : Inodes) : Type 0 where
+  pub count : v.count ≡ length i.kinds.now
+  pub dir : (x : ℕ) → is_dir v x ≡ is_dir_kind (slice_index i.kinds.now x)
+  pub allocated : (x : ℕ) → is_allocated (v.class x) ≡ is_allocated_kind (slice_index i.kinds.now x)
+  pub unknown : (x : ℕ) → is_unknown (v.class x) ≡ is_unknown_kind (slice_index i.kinds.now x)
+  pub suspect : (x : ℕ) → is_suspect v x ≡ (bool_at i.marked.now x || is_empty_dir_kind (slice_index i.kinds.now x))
+  pub marked : (x : ℕ) → v.marked x ≡ bool_at i.marked.now x
+  pub kind : (x : ℕ) → is_allocated (v.class x) ≡ true → is_unknown (v.class x) ≡ false → type_of_kind (slice_index i.kinds.now x) ≡ (v.inode x).mode / 4096
+  pub class : (x : ℕ) → is_allocated (v.class x) ≡ true → v.class x ≡ class_of_kind (slice_index i.kinds.now x)
+  pub parent_is : (x s : ℕ) → 2 ≤ s → is_value (parent (graph_of v) x) s ≡ (slice_index i.parents.now x == s)

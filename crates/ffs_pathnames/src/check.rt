@@ -1,0 +1,187 @@
+// The pathname check of one directory.
+ghost use Rattle.std.specs.Prelude.{suc, ◌≡◌, ◌+◌, ◌*◌, ◌<◌, ◌≤◌, ℕ, List, OnOk, IfOk, map, option_map};
+ghost use Rattle.ffs_volume.specs.Messages.{of_names};
+ghost use Rattle.ffs_volume.specs.PathnameCheck.{dir_lines};
+ghost use Rattle.ffs_volume.specs.Volumes.{volume_of};
+ghost use Rattle.ffs_phase.specs.Known.{Where};
+ghost use Rattle.ffs_phase.specs.Runs.{Reads, TellsOf};
+ghost use Rattle.ffs_report.specs.Progress.{progress, kept};
+ghost use Rattle.ffs_workspace.specs.Lengths.{IsFor, HoldWindows};
+ghost use Rattle.ffs_volume.specs.Graph.{parent};
+ghost use Rattle.ffs_volume.specs.Inodes.{inode_of};
+ghost use Rattle.ffs_volume.specs.Parents.{graph_of};
+ghost use Rattle.ffs_volume.specs.PathnameCheck.{attributes};
+ghost use Rattle.ffs_volume.specs.Paths.{dir_path};
+ghost use Rattle.ffs_layout.specs.Entry.{seen_entry};
+ghost use Rattle.ffs_workspace.specs.Holds.{HoldsSurvey};
+ghost use Rattle.ffs_pathnames.specs.Begins.{dir_starts, number_if, started_entry, IsBegun};
+ghost use Rattle.ffs_pathnames.specs.Examines.{LeavesSurvey, LeavesMarks};
+ghost use Rattle.ffs_pathnames.specs.Starts.{starts_told};
+ghost use Rattle.ffs_pathnames.specs.Gathers.{marks_of};
+ghost use Rattle.ffs_pathnames.specs.Knows.{Knows};
+ghost use Rattle.ffs_pathnames.specs.MarksRight.{AreRightBefore};
+
+use crate::again::tell_directory;
+use crate::examine::{Examined, examine};
+use crate::starts::{Shape, is_in_order, say_starts};
+use crate::tell::gather_dir;
+use ffs_image::Image;
+use ffs_layout::{Entry, Geometry, entry_at};
+use ffs_paths::PathText;
+use ffs_phase::RunFault;
+use ffs_report::{Output, Report};
+use ffs_volume::Order;
+use ffs_workspace::Workspace;
+
+/// A number, if it isn't 0.
+fn number_if(number: u32) -> Option<u32>
+    ensures { result ≡ number_if number }
+{
+    if number == 0 {
+        return None;
+    }
+    Some(number)
+}
+
+/// The parent of a directory, as the survey found it.
+fn parent_of(geometry: &Geometry, workspace: &Workspace, dir: u32) -> Option<u32>
+    requires made { IsFor geometry.now.layout workspace.now }
+    requires number { dir < geometry.now.layout.ncg * geometry.now.layout.ipg }
+    ensures { (b : List ℕ) → HoldsSurvey geometry.now.layout b workspace.now → result ≡ parent (graph_of (volume_of geometry.now.layout b)) dir }
+{
+    let parent = workspace.parents[dir as usize];
+    number_if(parent)
+}
+
+/// The first two entries of the chunk at the start of a directory, if that was found.
+fn first_two<'a>(
+    order: Order,
+    start: &'a [u8; 512],
+    started: bool,
+) -> (Option<Entry<'a>>, Option<Entry<'a>>)
+    ensures first { option_map seen_entry result.0 ≡ started_entry 0 started order start.now }
+    ensures second { option_map seen_entry result.1 ≡ started_entry 1 started order start.now }
+{
+    if !started {
+        return (None, None);
+    }
+    match entry_at(order, start, 0) {
+        None => (None, None),
+        Some(entry) => {
+            let second = entry_at(order, start, usize::from(entry.length));
+            (Some(entry), second)
+        }
+    }
+}
+
+/// Tells what is told of a directory of a size before its entries.
+fn tell_starts<I: Image, W: Output>(
+    geometry: &Geometry,
+    image: &mut I,
+    workspace: &mut Workspace,
+    report: &mut Report<'_, W>,
+    dir: u32,
+    parent: Option<u32>,
+    size: u64,
+    shape: Shape<'_>,
+) -> Result<(), RunFault>
+    requires made { IsFor geometry.now.layout workspace.old }
+    requires volume { geometry.now.layout.size * geometry.now.layout.fsize ≤ (I.device image.old).size }
+    requires windows { HoldWindows geometry.now.layout (I.device image.old).told workspace.old }
+    requires number { dir < geometry.now.layout.ncg * geometry.now.layout.ipg }
+    ensures same { kept W.lent report.new ≡ kept W.lent report.old }
+    ensures image { Reads (I.device image.old) (I.device image.new) result }
+    ensures text { TellsOf (λ b. Knows geometry.now.layout (I.device image.old).told workspace.old dir b × (size ≡ (inode_of geometry.now.layout b dir).size))
+        (λ b. map of_names (starts_told (attributes (volume_of geometry.now.layout b) dir) (dir_path (graph_of (volume_of geometry.now.layout b)) dir) dir parent
+        shape.entry.gap shape.entry.sound (option_map seen_entry shape.entry.first) (option_map seen_entry shape.entry.second)))
+        (progress W.sink report.old) (progress W.sink report.new) result }
+    ensures lists { LeavesMarks workspace.old workspace.new }
+    ensures made { IsFor geometry.now.layout workspace.new }
+    ensures windows { HoldWindows geometry.now.layout (I.device image.new).told workspace.new }
+{
+    if is_in_order(dir, parent, size, shape) {
+        return Ok(());
+    }
+    let mut path = PathText::new();
+    let attr = gather_dir(geometry, image, workspace, dir, &mut path)?;
+    say_starts(report, dir, parent, attr, path.as_slice(), shape)?;
+    Ok(())
+}
+
+/// Looks at a directory, and tells what is told of it before its entries.
+fn begin_directory<I: Image, W: Output>(
+    geometry: &Geometry,
+    image: &mut I,
+    workspace: &mut Workspace,
+    report: &mut Report<'_, W>,
+    dir: u32,
+) -> Result<Examined, RunFault>
+    requires made { IsFor geometry.now.layout workspace.old }
+    requires volume { geometry.now.layout.size * geometry.now.layout.fsize ≤ (I.device image.old).size }
+    requires windows { HoldWindows geometry.now.layout (I.device image.old).told workspace.old }
+    requires number { dir < geometry.now.layout.ncg * geometry.now.layout.ipg }
+    requires dir { 2 ≤ dir }
+    ensures same { kept W.lent report.new ≡ kept W.lent report.old }
+    ensures image { Reads (I.device image.old) (I.device image.new) result }
+    ensures text { TellsOf (Knows geometry.now.layout (I.device image.old).told workspace.old dir)
+        (λ b. map of_names (dir_starts (volume_of geometry.now.layout b) dir))
+        (progress W.sink report.old) (progress W.sink report.new) result }
+    ensures begun { IfOk result (λ e. Where (Knows geometry.now.layout (I.device image.old).told workspace.old dir)
+        (λ b. IsBegun geometry.now.layout b dir workspace.old e workspace.new)) }
+    ensures survey { LeavesSurvey workspace.old workspace.new }
+    ensures made { IsFor geometry.now.layout workspace.new }
+    ensures windows { HoldWindows geometry.now.layout (I.device image.new).told workspace.new }
+{
+    let mut start = [0u8; 512];
+    let examined = examine(geometry, image, workspace, dir, &mut start)?;
+    let parent = parent_of(geometry, workspace, dir);
+    let (first, second) = first_two(geometry.layout.order, &start, examined.found.started);
+    let shape = Shape {
+        gap: examined.gap,
+        sound: examined.found.sound,
+        first,
+        second,
+    };
+    tell_starts(
+        geometry,
+        image,
+        workspace,
+        report,
+        dir,
+        parent,
+        examined.inode.size,
+        shape,
+    )?;
+    Ok(examined)
+}
+
+/// Tells what is told of a directory that isn't of size 0: of its size, its chunks, its first two entries, and all its entries.
+pub fn check_directory<I: Image, W: Output>(
+    geometry: &Geometry,
+    image: &mut I,
+    workspace: &mut Workspace,
+    report: &mut Report<'_, W>,
+    dir: u32,
+) -> Result<(), RunFault>
+    requires made { IsFor geometry.now.layout workspace.old }
+    requires volume { geometry.now.layout.size * geometry.now.layout.fsize ≤ (I.device image.old).size }
+    requires windows { HoldWindows geometry.now.layout (I.device image.old).told workspace.old }
+    requires number { dir < geometry.now.layout.ncg * geometry.now.layout.ipg }
+    requires dir { 2 ≤ dir }
+    ensures same { kept W.lent report.new ≡ kept W.lent report.old }
+    ensures image { Reads (I.device image.old) (I.device image.new) result }
+    ensures text { TellsOf (λ b. Knows geometry.now.layout (I.device image.old).told workspace.old dir b × AreRightBefore (volume_of geometry.now.layout b) dir (marks_of workspace.old))
+        (λ b. map of_names (dir_lines (volume_of geometry.now.layout b) dir))
+        (progress W.sink report.old) (progress W.sink report.new) result }
+    ensures marks { OnOk result (Where (λ b. Knows geometry.now.layout (I.device image.old).told workspace.old dir b × AreRightBefore (volume_of geometry.now.layout b) dir (marks_of workspace.old))
+        (λ b. AreRightBefore (volume_of geometry.now.layout b) (suc dir) (marks_of workspace.new))) }
+    ensures survey { LeavesSurvey workspace.old workspace.new }
+    ensures made { IsFor geometry.now.layout workspace.new }
+    ensures windows { HoldWindows geometry.now.layout (I.device image.new).told workspace.new }
+{
+    let examined = begin_directory(geometry, image, workspace, report, dir)?;
+    if examined.found.quiet {
+        return Ok(());
+    }
+    tell_directory(geometry, image, workspace, report, dir, &examined.inode)
+}

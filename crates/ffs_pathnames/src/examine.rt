@@ -1,0 +1,68 @@
+// What is found of a directory before anything is told of it.
+ghost use Rattle.std.specs.Prelude.{◌≡◌, ◌*◌, ◌<◌, ◌≤◌, ◌==◌, ℕ, List, true, Some, length, vec_len, Option, IfOk, OnOk, IfErr};
+ghost use Rattle.ffs_image.specs.Device.{Faulted};
+ghost use Rattle.ffs_volume.specs.Roles.{is_dir};
+ghost use Rattle.ffs_volume.specs.Volumes.{volume_of};
+ghost use Rattle.ffs_workspace.specs.Lengths.{IsFor, HoldWindows};
+ghost use Rattle.ffs_workspace.specs.Holds.{HoldsClaims, HoldsSurvey};
+ghost use Rattle.ffs_pathnames.specs.Examines.{LeavesQueue, AreFound};
+
+use crate::directory::{Found, look_directory};
+use crate::gap::gap_of;
+use crate::inodes::Inodes;
+use ffs_image::{Image, ImageFault};
+use ffs_layout::Geometry;
+use ffs_volume::Inode;
+use ffs_workspace::Workspace;
+
+/// A directory's inode, whether a hole of it is kept, and what a first look at its chunks finds.
+#[derive(Clone, Copy, Debug)]
+pub struct Examined {
+    pub inode: Inode,
+    pub gap: bool,
+    pub found: Found,
+}
+
+/// Examines a directory, and puts the chunk at the start of the file into `start`, if it is there.
+pub fn examine<I: Image>(
+    geometry: &Geometry,
+    image: &mut I,
+    workspace: &mut Workspace,
+    dir: u32,
+    start: &mut [u8; 512],
+) -> Result<Examined, ImageFault>
+    requires made { IsFor geometry.now.layout workspace.old }
+    requires volume { geometry.now.layout.size * geometry.now.layout.fsize ≤ (I.device image.old).size }
+    requires windows { HoldWindows geometry.now.layout (I.device image.old).told workspace.old }
+    requires number { dir < geometry.now.layout.ncg * geometry.now.layout.ipg }
+    requires dir { 2 ≤ dir }
+    ensures found { IfOk result (λ e. (b : List ℕ) → (I.device image.old).told ≡ Some b → HoldsClaims geometry.now.layout b workspace.old → HoldsSurvey geometry.now.layout b workspace.old →
+        is_dir (volume_of geometry.now.layout b) dir ≡ true → AreFound geometry.now.layout b dir workspace.old e workspace.new start.new) }
+    ensures lists { LeavesQueue workspace.old workspace.new }
+    ensures made { IsFor geometry.now.layout workspace.new }
+    ensures windows { HoldWindows geometry.now.layout (I.device image.new).told workspace.new }
+    ensures ok { OnOk result (I.device image.new ≡ I.device image.old) }
+    ensures err { IfErr result (λ fault. Faulted (I.device image.old) (I.device image.new) fault.sector) }
+{
+    let inode = workspace.windows.table.inode(geometry, dir, image)?;
+    let cut = workspace.cut[dir as usize];
+    let gap = gap_of(geometry, image, &mut workspace.windows.blocks, &inode, cut)?;
+    let inodes = Inodes {
+        kinds: workspace.kinds.as_slice(),
+        marked: workspace.marked.as_slice(),
+        parents: workspace.parents.as_slice(),
+    };
+    let found = look_directory(
+        geometry,
+        image,
+        &mut workspace.windows.blocks,
+        &mut workspace.windows.chunk,
+        &inodes,
+        workspace.queue.as_mut_slice(),
+        dir,
+        &inode,
+        cut,
+        start,
+    )?;
+    Ok(Examined { inode, gap, found })
+}

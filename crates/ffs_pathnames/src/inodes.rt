@@ -1,0 +1,71 @@
+// What is known of the inodes that entries name.
+ghost use Rattle.std.specs.Prelude.{◌≡◌, ◌<◌, ◌≤◌, length, slice_index, ◌==◌, ◌||◌, ◌&&◌, not};
+
+/// Of each inode its kind, whether it is marked, and its parent (or 0 for none).
+#[derive(Clone, Copy)]
+pub struct Inodes<'a> {
+    pub kinds: &'a [u8],
+    pub marked: &'a [bool],
+    pub parents: &'a [u32],
+    ghost marked_long: { length marked.now ≡ length kinds.now },
+    ghost parents_long: { length parents.now ≡ length kinds.now },
+    ghost few: { length kinds.now < 2147483648 },
+}
+
+impl<'a> Inodes<'a> {
+    ghost use Rattle.ffs_volume.specs.declared.Role.{Role};
+    ghost use Rattle.ffs_workspace.specs.Kinds.{is_dir_kind, is_empty_dir_kind, is_allocated_kind, is_unknown_kind, type_of_kind};
+    ghost use Rattle.ffs_workspace.specs.Holds.{bool_at};
+
+    /// How many inodes there are.
+    pub fn count(&self) -> u32
+        ensures { result ≡ length self.now.kinds.now }
+    {
+        self.kinds.len() as u32
+    }
+
+    /// Whether the inode is a directory.
+    pub fn is_dir(&self, inode: u32) -> bool
+        requires { inode < length self.now.kinds.now }
+        ensures { result ≡ is_dir_kind (slice_index self.now.kinds.now inode) }
+    {
+        let kind = self.kinds[inode as usize];
+        kind == 4 || kind == 5
+    }
+
+    /// Whether the inode is marked, or a directory of size 0.
+    pub fn is_suspect(&self, inode: u32) -> bool
+        requires { inode < length self.now.kinds.now }
+        ensures { result ≡ (bool_at self.now.marked.now inode || is_empty_dir_kind (slice_index self.now.kinds.now inode)) }
+    {
+        self.marked[inode as usize] || self.kinds[inode as usize] == 5
+    }
+
+    /// Whether the inode is allocated.
+    pub fn is_allocated(&self, inode: u32) -> bool
+        requires { inode < length self.now.kinds.now }
+        ensures { result ≡ is_allocated_kind (slice_index self.now.kinds.now inode) }
+    {
+        self.kinds[inode as usize] != 0
+    }
+
+    /// Whether the inode has a known type, which isn't this one.
+    pub fn is_other_kind(&self, inode: u32, kind: u8) -> bool
+        requires { inode < length self.now.kinds.now }
+        ensures { result ≡ (not (is_unknown_kind (slice_index self.now.kinds.now inode)) && not (kind == type_of_kind (slice_index self.now.kinds.now inode))) }
+    {
+        let own = self.kinds[inode as usize];
+        if own == 15 {
+            return false;
+        }
+        kind != if own == 4 || own == 5 { 4 } else { own }
+    }
+
+    /// Whether the inode is a directory other than the root, with this parent.
+    pub fn belongs(&self, inode: u32, parent: u32) -> bool
+        requires { inode < length self.now.kinds.now }
+        ensures { result ≡ (is_dir_kind (slice_index self.now.kinds.now inode) && (not (inode == 2) && slice_index self.now.parents.now inode == parent)) }
+    {
+        self.is_dir(inode) && inode != 2 && self.parents[inode as usize] == parent
+    }
+}

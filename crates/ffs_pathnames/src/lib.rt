@@ -1,0 +1,24 @@
+//! Phase 2: the pathname check (fsck(8)).
+#![tactic(auto)]
+
+pub mod again;
+pub mod check;
+pub mod clear;
+pub mod directory;
+pub mod entries;
+pub mod examine;
+pub mod gap;
+pub mod inodes;
+pub mod judge;
+pub mod look;
+pub mod paths;
+pub mod phase;
+pub mod root;
+pub mod say;
+pub mod starts;
+pub mod tell;
+pub mod told;
+pub mod tree;
+pub mod view;
+
+pub use phase::{Root, phase2};

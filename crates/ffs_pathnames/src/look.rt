@@ -1,0 +1,150 @@
+// A first look at the entries of a directory: whether anything may be told of them.
+ghost use Rattle.std.specs.Prelude.{◌≡◌, ◌+◌, ◌<◌, ◌≤◌, ◌==◌, ◌&&◌, ◌||◌, not, length, slice_index, true, IsTrue};
+ghost use Rattle.ffs_volume.specs.declared.Role.{Role};
+ghost use Rattle.ffs_volume.specs.Roles.{Volume, is_dir, seen_from};
+ghost use Rattle.ffs_volume.specs.Directory.{entries_of, is_sound};
+ghost use Rattle.ffs_volume.specs.declared.Order.{Order};
+ghost use Rattle.ffs_volume.specs.PathnameCheck.{is_bad_whiteout};
+ghost use Rattle.ffs_layout.specs.Entry.{seen_entry};
+ghost use Rattle.ffs_pathnames.specs.Marks as marks;
+ghost use Rattle.ffs_pathnames.specs.Sees.{Sees};
+
+use crate::inodes::Inodes;
+use ffs_names::role_of;
+use ffs_layout::{Entry, entry_at};
+use ffs_volume::{Order, Role};
+
+/// Whether an entry has the number or the type of a whiteout, and not both.
+pub fn is_bad_whiteout(entry: &Entry<'_>) -> bool
+    ensures { result ≡ is_bad_whiteout (seen_entry entry.now) }
+{
+    (entry.number == 1 && entry.kind != 14) || (entry.kind == 14 && entry.number != 1)
+}
+
+/// Whether a link to a directory is its parent's, and the first one.
+fn is_quiet_link(inodes: &Inodes<'_>, dir: u32, stamps: &[u32], inode: u32) -> bool
+    requires inode { inode < length inodes.now.kinds.now }
+    requires stamps { length stamps.now ≡ length inodes.now.kinds.now }
+    requires dir { 2 ≤ dir }
+    ensures { (v : Volume) → Sees v inodes.now → result ≡ (not (is_dir v inode) || (marks.belongs v dir inode && not (slice_index stamps.now inode == dir))) }
+{
+    !inodes.is_dir(inode) || (inodes.belongs(inode, dir) && stamps[inode as usize] != dir)
+}
+
+/// Whether nothing is told of an inode that a plain entry names.
+fn is_quiet_inode(inodes: &Inodes<'_>, dir: u32, stamps: &[u32], entry: &Entry<'_>) -> bool
+    requires inode { entry.now.number < length inodes.now.kinds.now }
+    requires stamps { length stamps.now ≡ length inodes.now.kinds.now }
+    requires dir { 2 ≤ dir }
+    ensures { (v : Volume) → Sees v inodes.now → result ≡ marks.is_inode_quiet v dir stamps.now (seen_entry entry.now) }
+{
+    if !inodes.is_allocated(entry.number) {
+        return false;
+    }
+    if inodes.is_suspect(entry.number) {
+        return false;
+    }
+    if !is_quiet_link(inodes, dir, stamps, entry.number) {
+        return false;
+    }
+    !inodes.is_other_kind(entry.number, entry.kind)
+}
+
+/// Whether nothing is told of a plain entry.
+fn is_quiet_plain(inodes: &Inodes<'_>, dir: u32, stamps: &[u32], entry: &Entry<'_>) -> bool
+    requires stamps { length stamps.now ≡ length inodes.now.kinds.now }
+    requires dir { 2 ≤ dir }
+    ensures { (v : Volume) → Sees v inodes.now → result ≡ marks.is_plain_quiet v dir stamps.now (seen_entry entry.now) }
+{
+    if entry.number >= inodes.count() {
+        return false;
+    }
+    if is_bad_whiteout(entry) {
+        return false;
+    }
+    entry.number == 1 || is_quiet_inode(inodes, dir, stamps, entry)
+}
+
+/// Whether nothing is told of an entry.
+#[tactic(auto, unfolding(crate::specs::Marks::is_quiet))]
+pub fn is_quiet(inodes: &Inodes<'_>, dir: u32, stamps: &[u32], role: Role, entry: &Entry<'_>) -> bool
+    requires stamps { length stamps.now ≡ length inodes.now.kinds.now }
+    requires dir { 2 ≤ dir }
+    ensures { (v : Volume) → Sees v inodes.now → result ≡ marks.is_quiet v dir stamps.now (record { role = role; entry = seen_entry entry.now }) }
+{
+    match role {
+        Role::Empty | Role::Dot | Role::Dotdot => true,
+        Role::Extra => false,
+        Role::Plain => is_quiet_plain(inodes, dir, stamps, entry),
+    }
+}
+
+/// Stamps the inode that an entry names, if it belongs to the directory.
+pub fn stamp(inodes: &Inodes<'_>, dir: u32, stamps: &mut [u32], role: Role, entry: &Entry<'_>)
+    requires stamps { length stamps.old ≡ length inodes.now.kinds.now }
+    requires dir { 2 ≤ dir }
+    ensures { (v : Volume) → Sees v inodes.now → stamps.new ≡ marks.after_look v dir stamps.old (record { role = role; entry = seen_entry entry.now }) }
+{
+    if role != Role::Plain {
+        return;
+    }
+    if entry.number >= inodes.count() {
+        return;
+    }
+    if inodes.belongs(entry.number, dir) {
+        stamps[entry.number as usize] = dir;
+    }
+}
+
+/// Looks at an entry: whether nothing is told of it, and the stamp of the inode that it names.
+fn look_at(inodes: &Inodes<'_>, dir: u32, stamps: &mut [u32], role: Role, entry: &Entry<'_>) -> bool
+    requires stamps { length stamps.old ≡ length inodes.now.kinds.now }
+    requires dir { 2 ≤ dir }
+    ensures quiet { (v : Volume) → Sees v inodes.now → result ≡ marks.is_quiet v dir stamps.old (record { role = role; entry = seen_entry entry.now }) }
+    ensures stamps { (v : Volume) → Sees v inodes.now → stamps.new ≡ marks.after_look v dir stamps.old (record { role = role; entry = seen_entry entry.now }) }
+{
+    let quiet = is_quiet(inodes, dir, stamps, role, entry);
+    stamp(inodes, dir, stamps, role, entry);
+    quiet
+}
+
+pub fn both(a: bool, b: bool) -> bool
+    ensures { result ≡ (a && b) }
+{
+    a && b
+}
+
+/// What a look at the entries of a chunk finds: whether nothing may be told of them, and whether they fill the chunk.
+#[derive(Clone, Copy, Debug)]
+pub struct Looked {
+    pub quiet: bool,
+    pub sound: bool,
+}
+
+/// Looks at the entries of a chunk; `first` says that it stands at the start of the file.
+pub fn look_chunk(
+    inodes: &Inodes<'_>,
+    dir: u32,
+    order: Order,
+    first: bool,
+    chunk: &[u8; 512],
+    stamps: &mut [u32],
+) -> Looked
+    requires stamps { length stamps.old ≡ length inodes.now.kinds.now }
+    requires dir { 2 ≤ dir }
+    ensures quiet { (v : Volume) → Sees v inodes.now → result.quiet ≡ marks.are_quiet v dir stamps.old (seen_from first 0 (entries_of order chunk.now)) }
+    ensures stamps { (v : Volume) → Sees v inodes.now → stamps.new ≡ marks.after_looks v dir stamps.old (seen_from first 0 (entries_of order chunk.now)) }
+    ensures sound { result.sound ≡ is_sound order chunk.now }
+{
+    let mut place = 0usize;
+    let mut index = 0usize;
+    let mut quiet = true;
+    'entries: while let Some(entry) = entry_at(order, chunk, place) {
+        let role = role_of(first, index, &entry);
+        let here = look_at(inodes, dir, stamps, role, &entry);
+        quiet = both(quiet, here);
+        place += usize::from(entry.length);
+        index += 1;
+    }
+    Looked { quiet, sound: place == 512 }
+}

@@ -1,0 +1,54 @@
+// What is told of the root.
+ghost use Rattle.std.specs.Prelude.{◌≡◌, ◌||◌};
+ghost use Rattle.ffs_report.specs.Progress.{progress, kept};
+ghost use Rattle.ffs_workspace.specs.Kinds.{is_dir_kind, is_empty_dir_kind};
+ghost use Rattle.ffs_pathnames.specs.Before.{root_said};
+ghost use Rattle.ffs_pathnames.specs.GoesOn.{is_go};
+ghost use Rattle.ffs_pathnames.specs.SaysNames.{SaysNames};
+
+use crate::phase::Root;
+use crate::say::{Check, NameLine, say_check, say_line};
+use ffs_report::{DirectoryLine, OutFault, Output, Report};
+
+/// Whether the kind is that of a directory.
+fn is_dir(kind: u8) -> bool
+    ensures { result ≡ is_dir_kind kind }
+{
+    kind == 4 || kind == 5
+}
+
+/// Whether a directory is marked or of size 0.
+fn is_suspect(kind: u8, marked: bool) -> bool
+    ensures { result ≡ (marked || is_empty_dir_kind kind) }
+{
+    marked || kind == 5
+}
+
+/// Whether the run goes on behind a root of this kind.
+pub fn root_of(kind: u8) -> Root
+    ensures { is_go result ≡ is_dir_kind kind }
+{
+    if is_dir(kind) { Root::Go } else { Root::Stop }
+}
+
+/// Tells that the root isn't allocated, or no directory, or marked or of size 0.
+pub fn tell_root<W: Output>(
+    report: &mut Report<'_, W>,
+    kind: u8,
+    marked: bool,
+) -> Result<(), OutFault>
+    ensures same { kept W.lent report.new ≡ kept W.lent report.old }
+    ensures said { SaysNames (progress W.sink report.old) (progress W.sink report.new) (root_said kind marked) result }
+{
+    if kind == 0 {
+        return say_line(report, &NameLine::Directory(DirectoryLine::RootNone));
+    }
+    if is_dir(kind) {
+        let suspect = Check {
+            holds: is_suspect(kind, marked),
+            line: NameLine::Directory(DirectoryLine::RootSuspect),
+        };
+        return say_check(report, &suspect);
+    }
+    say_line(report, &NameLine::Directory(DirectoryLine::RootNotDir))
+}

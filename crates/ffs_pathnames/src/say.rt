@@ -1,0 +1,55 @@
+// Messages on directories and their entries, told where a test holds.
+ghost use Rattle.std.specs.Prelude.{◌≡◌, true};
+ghost use Rattle.ffs_volume.specs.Messages.{told};
+ghost use Rattle.ffs_report.specs.Progress.{progress, kept};
+ghost use Rattle.ffs_pathnames.specs.NameLines.{name_message, two_told};
+ghost use Rattle.ffs_pathnames.specs.SaysNames.{SaysNames};
+
+use ffs_report::{DirectoryLine, DotLine, EntryLine, Line, OutFault, Output, Report};
+
+/// A line on a directory or on an entry of it.
+#[derive(Clone, Copy, Debug)]
+pub enum NameLine<'a> {
+    Directory(DirectoryLine<'a>),
+    Dot(DotLine<'a>),
+    Entry(EntryLine<'a>),
+}
+
+/// A line, and whether it is to be told.
+#[derive(Clone, Copy, Debug)]
+pub struct Check<'a> {
+    pub holds: bool,
+    pub line: NameLine<'a>,
+}
+
+/// Says a line.
+pub fn say_line<W: Output>(report: &mut Report<'_, W>, line: &NameLine<'_>) -> Result<(), OutFault>
+    ensures same { kept W.lent report.new ≡ kept W.lent report.old }
+    ensures said { SaysNames (progress W.sink report.old) (progress W.sink report.new) (told true (name_message line.now)) result }
+{
+    match *line {
+        NameLine::Directory(line) => report.say(&Line::Directory(line)),
+        NameLine::Dot(line) => report.say(&Line::Dot(line)),
+        NameLine::Entry(line) => report.say(&Line::Entry(line)),
+    }
+}
+
+/// Says a line where its test holds.
+pub fn say_check<W: Output>(report: &mut Report<'_, W>, check: &Check<'_>) -> Result<(), OutFault>
+    ensures same { kept W.lent report.new ≡ kept W.lent report.old }
+    ensures said { SaysNames (progress W.sink report.old) (progress W.sink report.new) (told check.now.holds (name_message check.now.line)) result }
+{
+    if check.holds {
+        return say_line(report, &check.line);
+    }
+    Ok(())
+}
+
+/// Says two lines, each where its test holds.
+pub fn say_two<W: Output>(report: &mut Report<'_, W>, first: &Check<'_>, second: &Check<'_>) -> Result<(), OutFault>
+    ensures same { kept W.lent report.new ≡ kept W.lent report.old }
+    ensures said { SaysNames (progress W.sink report.old) (progress W.sink report.new) (two_told first.now second.now) result }
+{
+    say_check(report, first)?;
+    say_check(report, second)
+}

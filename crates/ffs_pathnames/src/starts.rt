@@ -1,0 +1,238 @@
+// What is told of a directory before its entries.
+ghost use Rattle.std.specs.Prelude.{◌≡◌, ℕ, List, [], ◌%◌, ◌==◌, ◌&&◌, not, nat_lt, option_map, IsTrue};
+ghost use Rattle.ffs_volume.specs.declared.Attr as attrs;
+ghost use Rattle.ffs_volume.specs.Directory.{is_live};
+ghost use Rattle.ffs_volume.specs.PathnameCheck.{missing_dot_told, missing_dotdot_told, is_other};
+ghost use Rattle.ffs_volume.specs.Roles as roles;
+ghost use Rattle.ffs_layout.specs.Entry.{seen_entry};
+ghost use Rattle.ffs_report.specs.Progress.{progress, kept};
+ghost use Rattle.ffs_pathnames.specs.SaysNames.{SaysNames};
+ghost use Rattle.ffs_pathnames.specs.Starts.{size_told, chunks_told, shape_told, there_told, above_told, dot_in, dotdot_in, dot_said, dotdot_said, dots_told, starts_told};
+
+use crate::say::{Check, NameLine, say_two};
+use ffs_layout::Entry;
+use ffs_report::{DirectoryLine, DotLine, Line, OutFault, Output, Report};
+use ffs_volume::Attr;
+
+/// What a first look at a directory found: whether a hole is kept, whether all chunks are sound, and the first two
+/// entries at the start of the file.
+#[derive(Clone, Copy, Debug)]
+pub struct Shape<'a> {
+    pub gap: bool,
+    pub sound: bool,
+    pub first: Option<Entry<'a>>,
+    pub second: Option<Entry<'a>>,
+}
+
+/// Whether a size is no multiple of a chunk, and not too short.
+fn is_broken(size: u64) -> bool
+    ensures { result ≡ (not (nat_lt size 24) && not (size % 512 == 0)) }
+{
+    size >= 24 && size % 512 != 0
+}
+
+/// Whether a size can't hold `.` and `..`.
+fn is_short(size: u64) -> bool
+    ensures { result ≡ nat_lt size 24 }
+{
+    size < 24
+}
+
+/// Says that a directory's size is too short, or no multiple of a chunk.
+fn say_size<W: Output>(report: &mut Report<'_, W>, attr: Attr, path: &[u8]) -> Result<(), OutFault>
+    ensures same { kept W.lent report.new ≡ kept W.lent report.old }
+    ensures said { SaysNames (progress W.sink report.old) (progress W.sink report.new) (size_told attr path.now) result }
+{
+    let short = Check { holds: is_short(attr.size), line: NameLine::Directory(DirectoryLine::DirShort { attr, path }) };
+    let broken = Check { holds: is_broken(attr.size), line: NameLine::Directory(DirectoryLine::DirLength { path, size: attr.size }) };
+    say_two(report, &short, &broken)
+}
+
+/// Says that a directory has holes, or that a chunk isn't sound.
+fn say_chunks<W: Output>(report: &mut Report<'_, W>, attr: Attr, path: &[u8], gap: bool, sound: bool) -> Result<(), OutFault>
+    ensures same { kept W.lent report.new ≡ kept W.lent report.old }
+    ensures said { SaysNames (progress W.sink report.old) (progress W.sink report.new) (chunks_told attr path.now gap sound) result }
+{
+    let empty = Check { holds: gap, line: NameLine::Directory(DirectoryLine::DirEmpty { path }) };
+    let corrupt = Check { holds: !sound, line: NameLine::Directory(DirectoryLine::DirCorrupt { attr, path }) };
+    say_two(report, &empty, &corrupt)
+}
+
+/// Says what is wrong with a directory's size and chunks.
+fn say_shape<W: Output>(report: &mut Report<'_, W>, attr: Attr, path: &[u8], gap: bool, sound: bool) -> Result<(), OutFault>
+    ensures same { kept W.lent report.new ≡ kept W.lent report.old }
+    ensures said { SaysNames (progress W.sink report.old) (progress W.sink report.new) (shape_told attr path.now gap sound) result }
+{
+    say_size(report, attr, path)?;
+    say_chunks(report, attr, path, gap, sound)
+}
+
+/// Whether a name is `.`.
+pub fn is_one_dot(name: &[u8]) -> bool
+    ensures { result ≡ roles.is_one_dot name.now }
+{
+    matches!(name, [b'.'])
+}
+
+/// Whether a name is `..`.
+pub fn is_two_dots(name: &[u8]) -> bool
+    ensures { result ≡ roles.is_two_dots name.now }
+{
+    matches!(name, [b'.', b'.'])
+}
+
+/// Says what is wrong with `.`: another number than the directory's own, or another type than a directory's.
+fn say_there<W: Output>(report: &mut Report<'_, W>, number: u32, attr: Attr, path: &[u8], entry: &Entry<'_>) -> Result<(), OutFault>
+    ensures same { kept W.lent report.new ≡ kept W.lent report.old }
+    ensures said { SaysNames (progress W.sink report.old) (progress W.sink report.new) (there_told attr path.now number (seen_entry entry.now)) result }
+{
+    let other = Check { holds: entry.number != number, line: NameLine::Dot(DotLine::NumberDot { attr, path }) };
+    let kind = Check { holds: entry.kind != 4, line: NameLine::Dot(DotLine::KindDot { attr, path }) };
+    say_two(report, &other, &kind)
+}
+
+/// Says what is wrong with `.`, the first entry.
+fn say_dot<W: Output>(report: &mut Report<'_, W>, number: u32, attr: Attr, path: &[u8], first: Option<Entry<'_>>) -> Result<(), OutFault>
+    ensures same { kept W.lent report.new ≡ kept W.lent report.old }
+    ensures said { SaysNames (progress W.sink report.old) (progress W.sink report.new)
+        (dot_said attr path.now number (option_map seen_entry first.entry) (dot_in (option_map seen_entry first.entry))) result }
+{
+    match first {
+        None => report.say(&Line::Dot(DotLine::MissingDot { attr, path })),
+        Some(entry) => {
+            if entry.number == 0 {
+                return report.say(&Line::Dot(DotLine::MissingDot { attr, path }));
+            }
+            if is_one_dot(entry.name) {
+                return say_there(report, number, attr, path, &entry);
+            }
+            if is_two_dots(entry.name) {
+                return report.say(&Line::Dot(DotLine::MissingDot { attr, path }));
+            }
+            report.say(&Line::Dot(DotLine::MissingDotFirst { attr, path, name: entry.name }))
+        }
+    }
+}
+
+/// Says what is wrong with `..`: another number than the parent's, where there is a parent, or another type than a
+/// directory's.
+fn say_above<W: Output>(report: &mut Report<'_, W>, parent: Option<u32>, attr: Attr, path: &[u8], entry: &Entry<'_>) -> Result<(), OutFault>
+    ensures same { kept W.lent report.new ≡ kept W.lent report.old }
+    ensures said { SaysNames (progress W.sink report.old) (progress W.sink report.new) (above_told attr path.now parent (seen_entry entry.now)) result }
+{
+    let other = Check { holds: is_other(parent, entry.number), line: NameLine::Dot(DotLine::NumberDotdot { attr, path }) };
+    let kind = Check { holds: entry.kind != 4, line: NameLine::Dot(DotLine::KindDotdot { attr, path }) };
+    say_two(report, &other, &kind)
+}
+
+/// Whether there is a parent, and the number isn't its.
+fn is_other(parent: Option<u32>, number: u32) -> bool
+    ensures { result ≡ is_other parent number }
+{
+    match parent {
+        None => false,
+        Some(parent) => parent != number,
+    }
+}
+
+/// Says what is wrong with `..`, the second entry.
+fn say_dotdot<W: Output>(report: &mut Report<'_, W>, parent: Option<u32>, attr: Attr, path: &[u8], second: Option<Entry<'_>>) -> Result<(), OutFault>
+    ensures same { kept W.lent report.new ≡ kept W.lent report.old }
+    ensures said { SaysNames (progress W.sink report.old) (progress W.sink report.new)
+        (dotdot_said attr path.now parent (option_map seen_entry second.entry) (dotdot_in (option_map seen_entry second.entry))) result }
+{
+    match second {
+        None => report.say(&Line::Dot(DotLine::MissingDotdot { attr, path })),
+        Some(entry) => {
+            if entry.number == 0 {
+                return report.say(&Line::Dot(DotLine::MissingDotdot { attr, path }));
+            }
+            if is_two_dots(entry.name) {
+                return say_above(report, parent, attr, path, &entry);
+            }
+            if is_one_dot(entry.name) {
+                return report.say(&Line::Dot(DotLine::MissingDotdot { attr, path }));
+            }
+            report.say(&Line::Dot(DotLine::MissingDotdotSecond { attr, path, name: entry.name }))
+        }
+    }
+}
+
+/// Says what is wrong with the first two entries.
+fn say_dots<W: Output>(
+    report: &mut Report<'_, W>,
+    number: u32,
+    parent: Option<u32>,
+    attr: Attr,
+    path: &[u8],
+    first: Option<Entry<'_>>,
+    second: Option<Entry<'_>>,
+) -> Result<(), OutFault>
+    ensures same { kept W.lent report.new ≡ kept W.lent report.old }
+    ensures said { SaysNames (progress W.sink report.old) (progress W.sink report.new)
+        (dots_told attr path.now number parent (option_map seen_entry first.entry) (option_map seen_entry second.entry)) result }
+{
+    say_dot(report, number, attr, path, first)?;
+    say_dotdot(report, parent, attr, path, second)
+}
+
+/// Says all that is told of a directory before its entries.
+#[tactic(auto, unfolding(crate::specs::Starts::starts_told))]
+pub fn say_starts<W: Output>(
+    report: &mut Report<'_, W>,
+    number: u32,
+    parent: Option<u32>,
+    attr: Attr,
+    path: &[u8],
+    shape: Shape<'_>,
+) -> Result<(), OutFault>
+    ensures same { kept W.lent report.new ≡ kept W.lent report.old }
+    ensures said { SaysNames (progress W.sink report.old) (progress W.sink report.new)
+        (starts_told attr path.now number parent shape.entry.gap shape.entry.sound (option_map seen_entry shape.entry.first) (option_map seen_entry shape.entry.second)) result }
+{
+    say_shape(report, attr, path, shape.gap, shape.sound)?;
+    say_dots(report, number, parent, attr, path, shape.first, shape.second)
+}
+
+/// Whether nothing is wrong with `.`, the first entry.
+fn is_dot_right(number: u32, first: Option<Entry<'_>>) -> bool
+    ensures { IsTrue result → (about : attrs.Attr) (path : List ℕ) →
+        dot_said about path number (option_map seen_entry first.entry) (dot_in (option_map seen_entry first.entry)) ≡ [] }
+{
+    match first {
+        None => false,
+        Some(entry) => entry.number != 0 && is_one_dot(entry.name) && entry.number == number && entry.kind == 4,
+    }
+}
+
+/// Whether nothing is wrong with `..`, the second entry.
+fn is_dotdot_right(parent: Option<u32>, second: Option<Entry<'_>>) -> bool
+    ensures { IsTrue result → (about : attrs.Attr) (path : List ℕ) →
+        dotdot_said about path parent (option_map seen_entry second.entry) (dotdot_in (option_map seen_entry second.entry)) ≡ [] }
+{
+    match second {
+        None => false,
+        Some(entry) => entry.number != 0 && is_two_dots(entry.name) && !is_other(parent, entry.number) && entry.kind == 4,
+    }
+}
+
+/// Whether a directory has a good size, no hole is kept, and all chunks are sound.
+fn is_shape_right(size: u64, gap: bool, sound: bool) -> bool
+    ensures { result ≡ (not (nat_lt size 24) && ((size % 512 == 0) && (not gap && sound))) }
+{
+    size >= 24 && size % 512 == 0 && !gap && sound
+}
+
+/// Whether nothing is told of a directory of a size before its entries.
+pub fn is_in_order(number: u32, parent: Option<u32>, size: u64, shape: Shape<'_>) -> bool
+    ensures { IsTrue result → (about : attrs.Attr) (path : List ℕ) → about.size ≡ size →
+        starts_told about path number parent shape.entry.gap shape.entry.sound (option_map seen_entry shape.entry.first) (option_map seen_entry shape.entry.second) ≡ [] }
+{
+    if !is_shape_right(size, shape.gap, shape.sound) {
+        return false;
+    }
+    if !is_dot_right(number, shape.first) {
+        return false;
+    }
+    is_dotdot_right(parent, shape.second)
+}

@@ -1,0 +1,264 @@
+// Telling what a plain entry comes to.
+ghost use Rattle.std.specs.Prelude.{◌≡◌, ◌*◌, ◌<◌, ◌≤◌, ℕ, List, [], true, false, length, Some, OnOk, IfOk, IfErr, IsTrue, map};
+ghost use Rattle.ffs_image.specs.Device.{Faulted, WhereTold};
+ghost use Rattle.ffs_volume.specs.Inodes.{inode_of};
+ghost use Rattle.ffs_volume.specs.Messages.{of_names};
+ghost use Rattle.ffs_volume.specs.PathnameCheck.{attributes, extra_told};
+ghost use Rattle.ffs_pathnames.specs.SaysNames.{SaysNames};
+ghost use Rattle.ffs_volume.specs.Roles.{is_dir};
+ghost use Rattle.ffs_volume.specs.Parents.{graph_of};
+ghost use Rattle.ffs_volume.specs.Paths.{dir_path, entry_path};
+ghost use Rattle.ffs_volume.specs.Volumes.{volume_of};
+ghost use Rattle.ffs_layout.specs.Entry.{seen_entry};
+
+ghost use Rattle.ffs_phase.specs.Runs.{Reads, TellsOf};
+ghost use Rattle.ffs_report.specs.Progress.{progress, kept};
+ghost use Rattle.ffs_workspace.specs.Lengths.{IsFor, HoldWindows};
+ghost use Rattle.ffs_workspace.specs.Holds.{HoldsClaims, HoldsSurvey};
+ghost use Rattle.ffs_pathnames.specs.Examines.{LeavesMarks};
+ghost use Rattle.ffs_pathnames.specs.Gathers.{IsEnough, marks_of, asks_attr, asks_path, is_silent};
+ghost use Rattle.ffs_pathnames.specs.Knows.{Knows};
+ghost use Rattle.ffs_pathnames.specs.Marks.{plain_told};
+ghost use Rattle.ffs_pathnames.specs.Verdicts.{verdict_told};
+
+use crate::judge::{Verdict, judge};
+use crate::paths::path_text;
+use crate::told::say_verdict;
+use crate::view::view;
+use ffs_image::{Image, ImageFault};
+use ffs_layout::{Entry, Geometry};
+use ffs_paths::PathText;
+use ffs_phase::RunFault;
+use ffs_report::{DotLine, Line, OutFault, Output, Report};
+use crate::starts::is_one_dot;
+use ffs_volume::{Attr, Inode};
+use ffs_workspace::Workspace;
+
+/// What messages show of an inode.
+#[tactic(auto, unfolding(ffs_volume::specs::PathnameCheck::attributes, ffs_volume::specs::Volumes::volume_of, ffs_volume::specs::Volumes::volume_with))]
+fn attr_of(number: u32, inode: &Inode) -> Attr
+    ensures value { result ≡ record { number = number; uid = inode.now.uid; mode = inode.now.mode; size = inode.now.size; mtime = inode.now.mtime } }
+{
+    Attr { number, uid: inode.uid, mode: inode.mode, size: inode.size, mtime: inode.mtime }
+}
+
+/// What messages show of the inode of a number.
+#[tactic(auto, unfolding(ffs_volume::specs::PathnameCheck::attributes, ffs_volume::specs::Volumes::volume_of, ffs_volume::specs::Volumes::volume_with))]
+pub fn read_attr<I: Image>(geometry: &Geometry, image: &mut I, workspace: &mut Workspace, number: u32) -> Result<Attr, ImageFault>
+    requires made { IsFor geometry.now.layout workspace.old }
+    requires volume { geometry.now.layout.size * geometry.now.layout.fsize ≤ (I.device image.old).size }
+    requires windows { HoldWindows geometry.now.layout (I.device image.old).told workspace.old }
+    requires number { number < geometry.now.layout.ncg * geometry.now.layout.ipg }
+    ensures attr { IfOk result (λ a. WhereTold (I.device image.old).told (λ b. a ≡ attributes (volume_of geometry.now.layout b) number)) }
+    ensures lists { LeavesMarks workspace.old workspace.new }
+    ensures made { IsFor geometry.now.layout workspace.new }
+    ensures windows { HoldWindows geometry.now.layout (I.device image.new).told workspace.new }
+    ensures ok { OnOk result (I.device image.new ≡ I.device image.old) }
+    ensures err { IfErr result (λ fault. Faulted (I.device image.old) (I.device image.new) fault.sector) }
+{
+    let inode = workspace.windows.table.inode(geometry, number, image)?;
+    Ok(attr_of(number, &inode))
+}
+
+/// Whether a verdict asks for the attributes of the inode that the entry names, and whether for its path.
+fn asks(verdict: &Verdict) -> (bool, bool)
+    ensures attr { result.0 ≡ asks_attr verdict.now }
+    ensures directory { result.1 ≡ asks_path verdict.now }
+{
+    match verdict {
+        Verdict::OutOfRange | Verdict::Whiteout | Verdict::Fine => (false, false),
+        Verdict::Unallocated => (true, false),
+        Verdict::Named(faults) => (true, faults.extraneous),
+    }
+}
+
+/// The attributes for a verdict: those of the inode, where they are asked for.
+fn gather_attr<I: Image>(geometry: &Geometry, image: &mut I, workspace: &mut Workspace, wanted: bool, number: u32) -> Result<Attr, ImageFault>
+    requires made { IsFor geometry.now.layout workspace.old }
+    requires volume { geometry.now.layout.size * geometry.now.layout.fsize ≤ (I.device image.old).size }
+    requires windows { HoldWindows geometry.now.layout (I.device image.old).told workspace.old }
+    requires number { IsTrue wanted → number < geometry.now.layout.ncg * geometry.now.layout.ipg }
+    ensures attr { IfOk result (λ a. WhereTold (I.device image.old).told (λ b. IsTrue wanted → a ≡ attributes (volume_of geometry.now.layout b) number)) }
+    ensures lists { LeavesMarks workspace.old workspace.new }
+    ensures made { IsFor geometry.now.layout workspace.new }
+    ensures windows { HoldWindows geometry.now.layout (I.device image.new).told workspace.new }
+    ensures ok { OnOk result (I.device image.new ≡ I.device image.old) }
+    ensures err { IfErr result (λ fault. Faulted (I.device image.old) (I.device image.new) fault.sector) }
+{
+    if !wanted {
+        return Ok(Attr { number, uid: 0, mode: 0, size: 0, mtime: 0 });
+    }
+    read_attr(geometry, image, workspace, number)
+}
+
+/// The path of a directory, where it is asked for.
+fn gather_path<I: Image>(geometry: &Geometry, image: &mut I, workspace: &mut Workspace, wanted: bool, dir: u32, text: &mut PathText) -> Result<(), ImageFault>
+    requires made { IsFor geometry.now.layout workspace.old }
+    requires volume { geometry.now.layout.size * geometry.now.layout.fsize ≤ (I.device image.old).size }
+    requires windows { HoldWindows geometry.now.layout (I.device image.old).told workspace.old }
+    requires number { IsTrue wanted → dir < geometry.now.layout.ncg * geometry.now.layout.ipg }
+    ensures path { OnOk result ((b : List ℕ) → (I.device image.old).told ≡ Some b → HoldsClaims geometry.now.layout b workspace.old → HoldsSurvey geometry.now.layout b workspace.old →
+        IsTrue wanted → is_dir (volume_of geometry.now.layout b) dir ≡ true → text.new.items ≡ dir_path (graph_of (volume_of geometry.now.layout b)) dir) }
+    ensures lists { LeavesMarks workspace.old workspace.new }
+    ensures made { IsFor geometry.now.layout workspace.new }
+    ensures windows { HoldWindows geometry.now.layout (I.device image.new).told workspace.new }
+    ensures ok { OnOk result (I.device image.new ≡ I.device image.old) }
+    ensures err { IfErr result (λ fault. Faulted (I.device image.old) (I.device image.new) fault.sector) }
+{
+    if !wanted {
+        return Ok(());
+    }
+    path_text(geometry, image, workspace, dir, None, text)
+}
+
+/// Gathers what the messages on an entry show: the entry's path into `path`, the path of the directory that it names into
+/// `directory`, and the attributes of the inode that it names.
+fn gather<I: Image>(
+    geometry: &Geometry,
+    image: &mut I,
+    workspace: &mut Workspace,
+    dir: u32,
+    entry: &Entry<'_>,
+    verdict: &Verdict,
+    path: &mut PathText,
+    directory: &mut PathText,
+) -> Result<Attr, ImageFault>
+    requires made { IsFor geometry.now.layout workspace.old }
+    requires volume { geometry.now.layout.size * geometry.now.layout.fsize ≤ (I.device image.old).size }
+    requires windows { HoldWindows geometry.now.layout (I.device image.old).told workspace.old }
+    requires dir { dir < geometry.now.layout.ncg * geometry.now.layout.ipg }
+    requires number { IsTrue (asks_attr verdict.now) → entry.now.number < geometry.now.layout.ncg * geometry.now.layout.ipg }
+    requires name { length entry.now.name.now ≤ 255 }
+    ensures enough { IfOk result (λ a. (b : List ℕ) → (I.device image.old).told ≡ Some b → HoldsClaims geometry.now.layout b workspace.old → HoldsSurvey geometry.now.layout b workspace.old →
+        is_dir (volume_of geometry.now.layout b) dir ≡ true → (IsTrue (asks_path verdict.now) → is_dir (volume_of geometry.now.layout b) entry.now.number ≡ true) →
+        IsEnough (volume_of geometry.now.layout b) verdict.now dir entry.now.number entry.now.name.now a path.new.items directory.new.items) }
+    ensures lists { LeavesMarks workspace.old workspace.new }
+    ensures made { IsFor geometry.now.layout workspace.new }
+    ensures windows { HoldWindows geometry.now.layout (I.device image.new).told workspace.new }
+    ensures ok { OnOk result (I.device image.new ≡ I.device image.old) }
+    ensures err { IfErr result (λ fault. Faulted (I.device image.old) (I.device image.new) fault.sector) }
+{
+    let (wants_attr, wants_path) = asks(verdict);
+    path_text(geometry, image, workspace, dir, Some(entry.name), path)?;
+    gather_path(geometry, image, workspace, wants_path, entry.number, directory)?;
+    let attr = gather_attr(geometry, image, workspace, wants_attr, entry.number)?;
+    Ok(attr)
+}
+
+/// What a plain entry comes to, by what the workspace holds.
+fn verdict_of(geometry: &Geometry, workspace: &Workspace, dir: u32, entry: &Entry<'_>) -> Verdict
+    requires made { IsFor geometry.now.layout workspace.now }
+    ensures below { IsTrue (asks_attr result) → entry.now.number < geometry.now.layout.ncg * geometry.now.layout.ipg }
+    ensures linked { (b : List ℕ) → HoldsClaims geometry.now.layout b workspace.now → HoldsSurvey geometry.now.layout b workspace.now →
+        IsTrue (asks_path result) → is_dir (volume_of geometry.now.layout b) entry.now.number ≡ true }
+    ensures told { (b : List ℕ) → HoldsClaims geometry.now.layout b workspace.now → HoldsSurvey geometry.now.layout b workspace.now →
+        plain_told (volume_of geometry.now.layout b) dir (marks_of workspace.now) (seen_entry entry.now)
+        ≡ verdict_told result entry.now.number (attributes (volume_of geometry.now.layout b) entry.now.number)
+            (entry_path (graph_of (volume_of geometry.now.layout b)) dir entry.now.name.now) (dir_path (graph_of (volume_of geometry.now.layout b)) entry.now.number) }
+{
+    let inodes = view(geometry, workspace);
+    judge(&inodes, dir, workspace.leaders.as_slice(), workspace.queue.as_slice(), entry)
+}
+
+/// Whether a verdict tells nothing.
+fn is_silent(verdict: &Verdict) -> bool
+    ensures { result ≡ is_silent verdict.now }
+{
+    match verdict {
+        Verdict::Fine => true,
+        Verdict::OutOfRange | Verdict::Whiteout | Verdict::Unallocated => false,
+        Verdict::Named(faults) => !(faults.suspect || faults.extraneous || faults.kind),
+    }
+}
+
+/// Tells what a plain entry of a directory comes to.
+pub fn tell_plain<I: Image, W: Output>(
+    geometry: &Geometry,
+    image: &mut I,
+    workspace: &mut Workspace,
+    report: &mut Report<'_, W>,
+    dir: u32,
+    entry: &Entry<'_>,
+) -> Result<(), RunFault>
+    requires made { IsFor geometry.now.layout workspace.old }
+    requires volume { geometry.now.layout.size * geometry.now.layout.fsize ≤ (I.device image.old).size }
+    requires windows { HoldWindows geometry.now.layout (I.device image.old).told workspace.old }
+    requires dir { dir < geometry.now.layout.ncg * geometry.now.layout.ipg }
+    requires name { length entry.now.name.now ≤ 255 }
+    ensures same { kept W.lent report.new ≡ kept W.lent report.old }
+    ensures image { Reads (I.device image.old) (I.device image.new) result }
+    ensures text { TellsOf (Knows geometry.now.layout (I.device image.old).told workspace.old dir)
+        (λ b. map of_names (plain_told (volume_of geometry.now.layout b) dir (marks_of workspace.old) (seen_entry entry.now)))
+        (progress W.sink report.old) (progress W.sink report.new) result }
+    ensures lists { LeavesMarks workspace.old workspace.new }
+    ensures made { IsFor geometry.now.layout workspace.new }
+    ensures windows { HoldWindows geometry.now.layout (I.device image.new).told workspace.new }
+{
+    let verdict = verdict_of(geometry, workspace, dir, entry);
+    if is_silent(&verdict) {
+        return Ok(());
+    }
+    let mut path = PathText::new();
+    let mut directory = PathText::new();
+    let attr = gather(geometry, image, workspace, dir, entry, &verdict, &mut path, &mut directory)?;
+    say_verdict(report, &verdict, entry.number, attr, path.as_slice(), directory.as_slice())?;
+    Ok(())
+}
+
+/// Tells what is told of an extra entry: `.` or `..` at another place than the first two.
+pub fn tell_extra<I: Image, W: Output>(
+    geometry: &Geometry,
+    image: &mut I,
+    workspace: &mut Workspace,
+    report: &mut Report<'_, W>,
+    dir: u32,
+    entry: &Entry<'_>,
+) -> Result<(), RunFault>
+    requires made { IsFor geometry.now.layout workspace.old }
+    requires volume { geometry.now.layout.size * geometry.now.layout.fsize ≤ (I.device image.old).size }
+    requires windows { HoldWindows geometry.now.layout (I.device image.old).told workspace.old }
+    requires dir { dir < geometry.now.layout.ncg * geometry.now.layout.ipg }
+    ensures same { kept W.lent report.new ≡ kept W.lent report.old }
+    ensures image { Reads (I.device image.old) (I.device image.new) result }
+    ensures text { TellsOf (Knows geometry.now.layout (I.device image.old).told workspace.old dir)
+        (λ b. map of_names (extra_told (attributes (volume_of geometry.now.layout b) dir) (dir_path (graph_of (volume_of geometry.now.layout b)) dir) (seen_entry entry.now)))
+        (progress W.sink report.old) (progress W.sink report.new) result }
+    ensures lists { LeavesMarks workspace.old workspace.new }
+    ensures made { IsFor geometry.now.layout workspace.new }
+    ensures windows { HoldWindows geometry.now.layout (I.device image.new).told workspace.new }
+{
+    let mut path = PathText::new();
+    let attr = gather_dir(geometry, image, workspace, dir, &mut path)?;
+    say_extra(report, attr, path.as_slice(), entry)?;
+    Ok(())
+}
+
+/// Gathers what the messages on a directory show: its path into `path`, and its attributes.
+pub fn gather_dir<I: Image>(geometry: &Geometry, image: &mut I, workspace: &mut Workspace, dir: u32, path: &mut PathText) -> Result<Attr, ImageFault>
+    requires made { IsFor geometry.now.layout workspace.old }
+    requires volume { geometry.now.layout.size * geometry.now.layout.fsize ≤ (I.device image.old).size }
+    requires windows { HoldWindows geometry.now.layout (I.device image.old).told workspace.old }
+    requires dir { dir < geometry.now.layout.ncg * geometry.now.layout.ipg }
+    ensures attr { IfOk result (λ a. WhereTold (I.device image.old).told (λ b. a ≡ attributes (volume_of geometry.now.layout b) dir)) }
+    ensures path { OnOk result ((b : List ℕ) → Knows geometry.now.layout (I.device image.old).told workspace.old dir b → path.new.items ≡ dir_path (graph_of (volume_of geometry.now.layout b)) dir) }
+    ensures lists { LeavesMarks workspace.old workspace.new }
+    ensures made { IsFor geometry.now.layout workspace.new }
+    ensures windows { HoldWindows geometry.now.layout (I.device image.new).told workspace.new }
+    ensures ok { OnOk result (I.device image.new ≡ I.device image.old) }
+    ensures err { IfErr result (λ fault. Faulted (I.device image.old) (I.device image.new) fault.sector) }
+{
+    path_text(geometry, image, workspace, dir, None, path)?;
+    let attr = read_attr(geometry, image, workspace, dir)?;
+    Ok(attr)
+}
+
+/// Says that an entry is extra.
+fn say_extra<W: Output>(report: &mut Report<'_, W>, attr: Attr, path: &[u8], entry: &Entry<'_>) -> Result<(), OutFault>
+    ensures same { kept W.lent report.new ≡ kept W.lent report.old }
+    ensures said { SaysNames (progress W.sink report.old) (progress W.sink report.new) (extra_told attr path.now (seen_entry entry.now)) result }
+{
+    if is_one_dot(entry.name) {
+        return report.say(&Line::Dot(DotLine::ExtraDot { attr, path }));
+    }
+    report.say(&Line::Dot(DotLine::ExtraDotdot { attr, path }))
+}
