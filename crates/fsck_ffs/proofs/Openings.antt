@@ -70,7 +70,7 @@ abbrev pub begun : Sink → Progress
 begun sink = record { sink = sink; failed = false; defect = false }
 
 -- where it stops, the output broke off
-broke_off : (sink : Sink) (new : Progress) (messages : List Message) → Stopped (begun sink) new messages → BrokeOff sink new.sink (texts_of messages)
+pub broke_off : (sink : Sink) (new : Progress) (messages : List Message) → Stopped (begun sink) new messages → BrokeOff sink new.sink (texts_of messages)
 broke_off sink new messages s = record {
   front = s.front;
   rest = s.rest;

@@ -1,1 +1,6 @@
+pub mod Ends
+pub mod Found
+pub mod Headline
 pub mod Opening
+pub mod Rest
+pub mod Told

@@ -2,8 +2,12 @@
 #![tactic(auto)]
 
 pub mod args;
+pub mod check;
 pub mod opening;
+pub mod rest;
 pub mod run;
+#[cfg(test)]
+mod small;
 #[cfg(test)]
 mod tests;
 mod words;

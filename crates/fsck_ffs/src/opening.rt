@@ -100,8 +100,10 @@ fn say_super<W: Output>(report: &mut Report<'_, W>, found: &Super) -> Result<(),
     })
 }
 
-// Reads the superblock and says the opening to a report.
-fn say_opening<I: Image, W: Output>(
+/// Reads the superblock and says the opening to a report.
+///
+/// Errors: as those of `check_opening`.
+pub fn say_opening<I: Image, W: Output>(
     image: &mut I,
     args: &Args<'_>,
     report: &mut Report<'_, W>,

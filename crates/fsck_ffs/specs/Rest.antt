@@ -1,0 +1,57 @@
+-- The parts of the text behind the opening, as the calls that tell them are nested.
+use Rattle.std.specs.Prelude.{ℕ, Bool, if◌then◌else◌, List, [], ◌∷◌, ◌++◌, map}
+use Rattle.ffs_volume.specs.Superblock.{Superblock}
+use Rattle.ffs_volume.specs.Messages.{Message, phase1, phase2, phase3, phase4, phase5, of_blocks, of_names}
+use Rattle.ffs_volume.specs.BlockCheck.{phase1_lines}
+use Rattle.ffs_volume.specs.Owners.{owners_of}
+use Rattle.ffs_volume.specs.Volumes.{volume_of}
+use Rattle.ffs_volume.specs.PathnameCheck.{pathname_lines, goes_on}
+use Rattle.ffs_volume.specs.Connectivity.{connectivity_lines}
+use Rattle.ffs_volume.specs.ReferenceCheck.{reference_lines}
+use Rattle.ffs_volume.specs.Report.{rescan_lines, group_check_lines, summary_of, file_count, used_count}
+
+-- what each phase tells, with its heading
+abbrev pub first_part : List ℕ → Superblock → List Message
+first_part image s = phase1 ∷ map of_blocks (phase1_lines s.layout (owners_of s.layout image))
+
+abbrev pub again_part : List ℕ → Superblock → List Message
+again_part image s = rescan_lines s.layout image
+
+abbrev pub names_part : List ℕ → Superblock → List Message
+names_part image s = phase2 ∷ map of_names (pathname_lines (volume_of s.layout image))
+
+abbrev pub links_part : List ℕ → Superblock → List Message
+links_part image s = phase3 ∷ map of_names (connectivity_lines (volume_of s.layout image))
+
+abbrev pub counts_part : List ℕ → Superblock → List Message
+counts_part image s = phase4 ∷ map of_names (reference_lines (volume_of s.layout image))
+
+abbrev pub groups_part : List ℕ → Superblock → List Message
+groups_part image s = phase5 ∷ group_check_lines image s
+
+abbrev pub summary_part : List ℕ → Superblock → List Message
+summary_part image s = summary_of s (file_count s.layout image) (used_count s.layout image) ∷ []
+
+-- phase 5 and the summary
+abbrev pub ended_lines : List ℕ → Superblock → List Message
+ended_lines image s = groups_part image s ++ summary_part image s
+
+-- phases 4 and 5 and the summary
+abbrev pub counted_lines : List ℕ → Superblock → List Message
+counted_lines image s = counts_part image s ++ ended_lines image s
+
+-- phases 3 to 5 and the summary
+abbrev pub linked_lines : List ℕ → Superblock → List Message
+linked_lines image s = links_part image s ++ counted_lines image s
+
+-- the same, where the run goes on behind the root
+abbrev pub followed_lines : Bool → List ℕ → Superblock → List Message
+followed_lines goes image s = if goes then linked_lines image s else []
+
+-- phase 2 and what follows it
+abbrev pub named_lines : List ℕ → Superblock → List Message
+named_lines image s = names_part image s ++ followed_lines (goes_on (volume_of s.layout image)) image s
+
+-- the second look at the blocks and what follows it
+abbrev pub scanned_lines : List ℕ → Superblock → List Message
+scanned_lines image s = again_part image s ++ named_lines image s
