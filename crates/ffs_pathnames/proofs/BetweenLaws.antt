@@ -57,18 +57,18 @@ looked_right v s m r = record {
   passed = λ x h q n o. r.passed x h q n o ∙ sym (or_false (some_below (λ t. names_in (graph_of v) t x) s));
   due = λ x h. stamped_all v s [] (seen_in v s) m.stamps r.stamps_length (unstamped v s m r) x h ∙ due_is v s x;
   passed_length = r.passed_length;
-  stamps_length = looks_all_long v s (seen_in v s) m.stamps ∙ r.stamps_length
+  stamps_length = looks_all_long v s (seen_in v s) m.stamps ∙ r.stamps_length;
 }
 
 -- STAMPS STAY SMALL
 set_small : (s n a x : ℕ) (stamps : List ℕ) → a ≤ s → slice_index stamps x ≤ s → slice_index (slice_set stamps n a) x ≤ s
 set_small s n a x stamps la lx = elim (cases_eq x n) [
-    | inl z ↦ elim (cases_lt n (length stamps)) [
-        | inl inside ↦ subst (λ k. k ≤ s) (sym (ap (λ k. slice_index (slice_set stamps n a) k) z ∙ get_or-set_same stamps n a 0 inside)) la
-        | inr past ↦ subst (λ l. slice_index l x ≤ s) (sym (set_past stamps n a past)) lx
-      ]
-    | inr o ↦ subst (λ k. k ≤ s) (sym (get_or-set_other stamps n x a 0 o)) lx
+  | inl z ↦ elim (cases_lt n (length stamps)) [
+    | inl inside ↦ subst (λ k. k ≤ s) (sym (ap (λ k. slice_index (slice_set stamps n a) k) z ∙ get_or-set_same stamps n a 0 inside)) la
+    | inr past ↦ subst (λ l. slice_index l x ≤ s) (sym (set_past stamps n a past)) lx
   ]
+  | inr o ↦ subst (λ k. k ≤ s) (sym (get_or-set_other stamps n x a 0 o)) lx
+]
 
 pub looks_small : (v : Volume) (s : ℕ) (es : List Seen) (stamps : List ℕ) (x : ℕ) → slice_index stamps x ≤ s → slice_index (after_looks v s stamps es) x ≤ s
 looks_small v s [] stamps x h = h
@@ -85,6 +85,7 @@ entries_small v s (e ∷ es) m x h = entries_small v s es (after_seen v s m e) x
     two : (b : Bool) → slice_index (if b then slice_set m.stamps e.entry.number 0 else m.stamps) x ≤ s
     two true = set_small s e.entry.number 0 x m.stamps (omega arith) h
     two false = h
+
     one : (b : Bool) → slice_index (if b then after_name s m e.entry.number else m).stamps x ≤ s
     one true = two (slice_index m.stamps e.entry.number == s)
     one false = h
@@ -94,7 +95,7 @@ pub right_end : (v : Volume) (s : ℕ) (done es : List Seen) (m : Marks) → 2 �
 right_end v s done [] m two r = subst (λ l. AreRight v s l m) (sym (append-nil done)) r
 right_end v s done (e ∷ es) m two r =
     subst (λ l. AreRight v s l (after_entries v s (after_seen v s m e) es)) (append_assoc done (e ∷ []) es)
-      (right_end v s (done ++ e ∷ []) es (after_seen v s m e) two (right_after v s done e m two r))
+    (right_end v s (done ++ e ∷ []) es (after_seen v s m e) two (right_after v s done e m two r))
 
 small_next : (s k : ℕ) → k ≤ s → k < suc s
 small_next s k h = omega arith
@@ -105,10 +106,10 @@ told_next v s m d r =
     let whole = right_end v s [] (seen_in v s) (looked v s m) d.from_two (looked_right v s m r) in
     record {
       passed = λ x h q n o. whole.passed x h q n o
-        ∙ sym (some_below-suc (λ t. names_in (graph_of v) t x) s ∙ ap (λ b. some_below (λ t. names_in (graph_of v) t x) s || (b && list_any (names x) (seen_in v s))) d.dir);
+          ∙ sym (some_below-suc (λ t. names_in (graph_of v) t x) s ∙ ap (λ b. some_below (λ t. names_in (graph_of v) t x) s || (b && list_any (names x) (seen_in v s))) d.dir);
       stamps = λ x h. small_next s _ (entries_small v s (seen_in v s) (looked v s m) x (looks_small v s (seen_in v s) m.stamps x (small x (r.stamps x h))));
       passed_length = whole.passed_length;
-      stamps_length = whole.stamps_length
+      stamps_length = whole.stamps_length;
     }
   where
     small : (x : ℕ) → slice_index m.stamps x < s → slice_index m.stamps x ≤ s
@@ -118,12 +119,12 @@ told_next v s m d r =
 pub quiet_next : (v : Volume) (s : ℕ) (m : Marks) → IsDirectory v s → AreRightBefore v s m → are_quiet v s m.stamps (seen_in v s) ≡ true → AreRightBefore v (suc s) (looked v s m)
 quiet_next v s m d r h = record {
   passed = λ x l q n o. r.passed x l q n o
-    ∙ sym (some_below-suc (λ t. names_in (graph_of v) t x) s
+      ∙ sym (some_below-suc (λ t. names_in (graph_of v) t x) s
       ∙ (ap (λ b. some_below (λ t. names_in (graph_of v) t x) s || (is_dir v s && b)) (suspects_unnamed v s (seen_in v s) m.stamps x h q n)
       ∙ (ap (λ b. some_below (λ t. names_in (graph_of v) t x) s || b) (and_false (is_dir v s)) ∙ or_false (some_below (λ t. names_in (graph_of v) t x) s))));
   stamps = λ x l. small_next s _ (looks_small v s (seen_in v s) m.stamps x (small x (r.stamps x l)));
   passed_length = r.passed_length;
-  stamps_length = looks_all_long v s (seen_in v s) m.stamps ∙ r.stamps_length
+  stamps_length = looks_all_long v s (seen_in v s) m.stamps ∙ r.stamps_length;
 }
   where
     small : (x : ℕ) → slice_index m.stamps x < s → slice_index m.stamps x ≤ s
@@ -133,11 +134,11 @@ quiet_next v s m d r h = record {
 pub other_next : (v : Volume) (s : ℕ) (m : Marks) → ((x : ℕ) → names_in (graph_of v) s x ≡ false) → AreRightBefore v s m → AreRightBefore v (suc s) m
 other_next v s m none r = record {
   passed = λ x h q n o. r.passed x h q n o
-    ∙ sym (some_below-suc (λ t. names_in (graph_of v) t x) s
+      ∙ sym (some_below-suc (λ t. names_in (graph_of v) t x) s
       ∙ (ap (λ b. some_below (λ t. names_in (graph_of v) t x) s || b) (none x) ∙ or_false (some_below (λ t. names_in (graph_of v) t x) s)));
   stamps = λ x h. small_next s _ (small x (r.stamps x h));
   passed_length = r.passed_length;
-  stamps_length = r.stamps_length
+  stamps_length = r.stamps_length;
 }
   where
     small : (x : ℕ) → slice_index m.stamps x < s → slice_index m.stamps x ≤ s

@@ -16,7 +16,7 @@ use Rattle.ffs_names.specs.Hands.{reading_by}
 use Rattle.ffs_pathnames.specs.Reads.{chunks_read}
 
 pub chunks_are : (v : Layout) (b : List ℕ) (d : ℕ) (i : Inode) (cut : ℕ) → IsGeometry v → is_number v d ≡ true → i ≡ inode_of v b d → cut ≡ cut_at v b d →
-  chunks_read v i cut b ≡ (volume_of v b).chunks d
+    chunks_read v i cut b ≡ (volume_of v b).chunks d
 unfolding chunks_read volume_of volume_with reading_of
 chunks_are v b d i cut g n e c =
     ap (λ (x : Inode). chunks_of (reading_by v b (size_taken x.size)) (is_in_range v) (replayed_steps v cut fresh_replay (steps_of v x b))) e
@@ -24,7 +24,7 @@ chunks_are v b d i cut g n e c =
     ∙ ap (chunks_of (reading_by v b (size_taken (inode_of v b d).size)) (is_in_range v)) (replay_at v b d g n))
 
 pub gap_is : (v : Layout) (b : List ℕ) (d : ℕ) (i : Inode) (cut : ℕ) → IsGeometry v → is_number v d ≡ true → i ≡ inode_of v b d → cut ≡ cut_at v b d →
-  has_gap (replayed_steps v cut fresh_replay (steps_of v i b)) ≡ (volume_of v b).gap d
+    has_gap (replayed_steps v cut fresh_replay (steps_of v i b)) ≡ (volume_of v b).gap d
 unfolding volume_of volume_with
 gap_is v b d i cut g n e c =
     ap (λ (x : Inode). has_gap (replayed_steps v cut fresh_replay (steps_of v x b))) e

@@ -18,15 +18,15 @@ looks-append v s stamps [] ys = refl
 looks-append v s stamps (x ∷ xs) ys = looks-append v s (after_look v s stamps x) xs ys
 
 quiet-append : (v : Volume) (s : ℕ) (stamps : List ℕ) (xs ys : List Seen) →
-  are_quiet v s stamps (xs ++ ys) ≡ (are_quiet v s stamps xs && are_quiet v s (after_looks v s stamps xs) ys)
+    are_quiet v s stamps (xs ++ ys) ≡ (are_quiet v s stamps xs && are_quiet v s (after_looks v s stamps xs) ys)
 quiet-append v s stamps [] ys = refl
 quiet-append v s stamps (x ∷ xs) ys =
     ap (λ b. is_quiet v s stamps x && b) (quiet-append v s (after_look v s stamps x) xs ys)
     ∙ sym (and_assoc (is_quiet v s stamps x) (are_quiet v s (after_look v s stamps x) xs) (are_quiet v s (after_looks v s (after_look v s stamps x) xs) ys))
 
 pub chunk_quiet : (v : Volume) (s : ℕ) (stamps stamps' : List ℕ) (cs cs' : List Chunk) (c : Chunk) (all quiet here : Bool) → cs ≡ c ∷ cs' →
-  here ≡ are_quiet v s stamps (chunk_seen c) → stamps' ≡ after_looks v s stamps (chunk_seen c) → all ≡ (quiet && are_quiet v s stamps (flat_map chunk_seen cs)) →
-  all ≡ ((quiet && here) && are_quiet v s stamps' (flat_map chunk_seen cs'))
+    here ≡ are_quiet v s stamps (chunk_seen c) → stamps' ≡ after_looks v s stamps (chunk_seen c) → all ≡ (quiet && are_quiet v s stamps (flat_map chunk_seen cs)) →
+    all ≡ ((quiet && here) && are_quiet v s stamps' (flat_map chunk_seen cs'))
 chunk_quiet v s stamps stamps' cs cs' c all quiet here e h t q =
     q ∙ (ap (λ l. quiet && are_quiet v s stamps (flat_map chunk_seen l)) e
     ∙ (ap (λ b. quiet && b) (quiet-append v s stamps (chunk_seen c) (flat_map chunk_seen cs'))
@@ -35,7 +35,7 @@ chunk_quiet v s stamps stamps' cs cs' c all quiet here e h t q =
     ∙ ap (λ l. (quiet && here) && are_quiet v s l (flat_map chunk_seen cs')) (sym t)))))
 
 pub chunk_stamps : (v : Volume) (s : ℕ) (stamps stamps' all : List ℕ) (cs cs' : List Chunk) (c : Chunk) → cs ≡ c ∷ cs' →
-  stamps' ≡ after_looks v s stamps (chunk_seen c) → all ≡ after_looks v s stamps (flat_map chunk_seen cs) → all ≡ after_looks v s stamps' (flat_map chunk_seen cs')
+    stamps' ≡ after_looks v s stamps (chunk_seen c) → all ≡ after_looks v s stamps (flat_map chunk_seen cs) → all ≡ after_looks v s stamps' (flat_map chunk_seen cs')
 chunk_stamps v s stamps stamps' all cs cs' c e t q =
     q ∙ (ap (λ l. after_looks v s stamps (flat_map chunk_seen l)) e
     ∙ (looks-append v s stamps (chunk_seen c) (flat_map chunk_seen cs')

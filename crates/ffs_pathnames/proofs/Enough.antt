@@ -20,8 +20,8 @@ faults_same n about path directory right h = ap (λ l. told n.suspect (suspect_m
     one false k = refl
 
 pub enough : (v : Volume) (verdict : Verdict) (dir number : ℕ) (name : List ℕ) (about : Attr) (path directory : List ℕ) →
-  (asks_attr verdict ≡ true → about ≡ attributes v number) → path ≡ entry_path (graph_of v) dir name → (asks_path verdict ≡ true → directory ≡ dir_path (graph_of v) number) →
-  IsEnough v verdict dir number name about path directory
+    (asks_attr verdict ≡ true → about ≡ attributes v number) → path ≡ entry_path (graph_of v) dir name → (asks_path verdict ≡ true → directory ≡ dir_path (graph_of v) number) →
+    IsEnough v verdict dir number name about path directory
 enough v OutOfRange dir number name about path directory a p d = ap (λ q. verdict_told OutOfRange number about q directory) p
 enough v Whiteout dir number name about path directory a p d = ap (λ q. verdict_told Whiteout number about q directory) p
 enough v Fine dir number name about path directory a p d = refl

@@ -26,17 +26,17 @@ gap_found v cut r all old new seen e q =
     sym (q ∙ (ap (λ l. has_gap (replayed_steps v cut r l)) e ∙ ap (λ x. has_gap ((if x then Gap ∷ [] else []) ++ replayed_steps v cut r new)) seen))
 
 gap_run : (v : Layout) (cut : ℕ) (r : Replay) (start len : ℕ) (block : Option ℕ) (steps : List Step) →
-  has_gap (replayed_steps v cut r (Run start len block ∷ steps)) ≡ has_gap (replayed_steps v cut (counted_step v cut r (Run start len block)) steps)
+    has_gap (replayed_steps v cut r (Run start len block ∷ steps)) ≡ has_gap (replayed_steps v cut (counted_step v cut r (Run start len block)) steps)
 gap_run v cut r start len block steps =
     one (is_replayed v cut r (Run start len block)) ∙ ap has_gap (counted_same v 0 cut r (Run start len block) steps).steps_are
   where
     one : (x : Bool) → has_gap ((if x then Run start len block ∷ [] else []) ++ replayed_steps v cut (replay_step v cut r (Run start len block)) steps)
-      ≡ has_gap (replayed_steps v cut (replay_step v cut r (Run start len block)) steps)
+        ≡ has_gap (replayed_steps v cut (replay_step v cut r (Run start len block)) steps)
     one true = refl
     one false = refl
 
 pub run_on : (v : Layout) (cut : ℕ) (r r' : Replay) (start len : ℕ) (block : Option ℕ) (all : Bool) (old new : List Step) → old ≡ Run start len block ∷ new →
-  r' ≡ counted_step v cut r (Run start len block) → all ≡ has_gap (replayed_steps v cut r old) → all ≡ has_gap (replayed_steps v cut r' new)
+    r' ≡ counted_step v cut r (Run start len block) → all ≡ has_gap (replayed_steps v cut r old) → all ≡ has_gap (replayed_steps v cut r' new)
 run_on v cut r r' start len block all old new e n q =
     q ∙ (ap (λ l. has_gap (replayed_steps v cut r l)) e ∙ (gap_run v cut r start len block new ∙ ap (λ x. has_gap (replayed_steps v cut x new)) (sym n)))
 

@@ -13,8 +13,8 @@ lists_left old new s = record {
     references = s.references;
     named = s.named;
     reached = s.reached;
-    parents = s.parents
+    parents = s.parents;
   };
   leaders = s.leaders;
-  queue = s.queue
+  queue = s.queue;
 }

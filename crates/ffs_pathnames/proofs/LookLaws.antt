@@ -27,11 +27,11 @@ abbrev pub AreStamped : Volume → ℕ → List Seen → List ℕ → Type 0
 AreStamped v s done stamps = (x : ℕ) → x < v.count → (slice_index stamps x == s) ≡ (belongs v s x && list_any (names x) done)
 
 stamped_after : (v : Volume) (s : ℕ) (done : List Seen) (e : Seen) (stamps : List ℕ) → length stamps ≡ v.count → AreStamped v s done stamps →
-  AreStamped v s (done ++ e ∷ []) (after_look v s stamps e)
+    AreStamped v s (done ++ e ∷ []) (after_look v s stamps e)
 stamped_after v s done e stamps long r x h = one (is_plain e.role && belongs v s e.entry.number) refl (cases_eq x e.entry.number)
   where
     one : (b : Bool) → (is_plain e.role && belongs v s e.entry.number) ≡ b → (x ≡ e.entry.number) ⊎ (x ≢ e.entry.number) →
-      (slice_index (if b then slice_set stamps e.entry.number s else stamps) x == s) ≡ (belongs v s x && list_any (names x) (done ++ e ∷ []))
+        (slice_index (if b then slice_set stamps e.entry.number s else stamps) x == s) ≡ (belongs v s x && list_any (names x) (done ++ e ∷ []))
     one true t (inl z) =
         let q = and_parts (is_plain e.role) (belongs v s e.entry.number) t in
         let inside : e.entry.number < length stamps = subst (λ k. e.entry.number < k) (sym long) (subst (λ k. k < v.count) z h) in
@@ -39,7 +39,7 @@ stamped_after v s done e stamps long r x h = one (is_plain e.role && belongs v s
         ap (λ k. slice_index (slice_set stamps e.entry.number s) k == s) z
         ∙ (ap (λ k. k == s) (get_or-set_same stamps e.entry.number s 0 inside) ∙ (eq-eqb s s refl
         ∙ sym (ap (λ b. belongs v s x && b) (any_more (names x) done e ∙ (ap (λ b. list_any (names x) done || b) named ∙ or_true (list_any (names x) done)))
-          ∙ (ap (λ k. belongs v s k && true) z ∙ ap (λ b. b && true) q.1))))
+        ∙ (ap (λ k. belongs v s k && true) z ∙ ap (λ b. b && true) q.1))))
     one true t (inr o) =
         ap (λ k. k == s) (get_or-set_other stamps e.entry.number x s 0 o)
         ∙ (r x h ∙ sym (ap (λ b. belongs v s x && b) (any_more (names x) done e ∙ (ap (λ b. list_any (names x) done || b) (other_number x e o) ∙ or_false (list_any (names x) done)))))
@@ -47,7 +47,7 @@ stamped_after v s done e stamps long r x h = one (is_plain e.role && belongs v s
         r x h ∙ sym (ap (λ b. belongs v s x && b) (any_more (names x) done e ∙ (ap (λ b. list_any (names x) done || b) (other_number x e o) ∙ or_false (list_any (names x) done))))
     one false t (inl z) =
         r x h ∙ two (is_plain e.role) (belongs v s x) (ap (λ k. is_plain e.role && belongs v s k) z ∙ t) (e.entry.number == x) (list_any (names x) done)
-          ∙ sym (ap (λ b. belongs v s x && b) (any_more (names x) done e))
+        ∙ sym (ap (λ b. belongs v s x && b) (any_more (names x) done e))
       where
         two : (plain b : Bool) → (plain && b) ≡ false → (same any : Bool) → (b && any) ≡ (b && (any || (plain && same)))
         two plain false k same any = refl
@@ -63,11 +63,11 @@ looks_long v s stamps e = one (is_plain e.role && belongs v s e.entry.number)
     one false = refl
 
 pub stamped_all : (v : Volume) (s : ℕ) (done es : List Seen) (stamps : List ℕ) → length stamps ≡ v.count → AreStamped v s done stamps →
-  AreStamped v s (done ++ es) (after_looks v s stamps es)
+    AreStamped v s (done ++ es) (after_looks v s stamps es)
 stamped_all v s done [] stamps long r = subst (λ l. AreStamped v s l stamps) (sym (append-nil done)) r
 stamped_all v s done (e ∷ es) stamps long r =
     subst (λ l. AreStamped v s l (after_looks v s (after_look v s stamps e) es)) (append_assoc done (e ∷ []) es)
-      (stamped_all v s (done ++ e ∷ []) es (after_look v s stamps e) (looks_long v s stamps e ∙ long) (stamped_after v s done e stamps long r))
+    (stamped_all v s (done ++ e ∷ []) es (after_look v s stamps e) (looks_long v s stamps e ∙ long) (stamped_after v s done e stamps long r))
 
 pub looks_all_long : (v : Volume) (s : ℕ) (es : List Seen) (stamps : List ℕ) → length (after_looks v s stamps es) ≡ length stamps
 looks_all_long v s [] stamps = refl
@@ -98,13 +98,13 @@ quiet_parts v s stamps e h =
       below = ltb-true e.number v.count a.0;
       whiteout = not-true (is_bad_whiteout e) b.0;
       named = elim (or_cases (e.number == 1) _ b.1) [
-          | inl z ↦ inl (eqb-true e.number 1 z)
-          | inr q ↦
-              let c = and_parts (is_allocated (v.class e.number)) _ q.1 in
-              let d = and_parts (not (is_suspect v e.number)) _ c.1 in
-              let f = and_parts (not (is_dir v e.number) || (belongs v s e.number && not (slice_index stamps e.number == s))) (not (is_other_kind v e)) d.1 in
-              inr (record { allocated = c.0; suspect = not-true (is_suspect v e.number) d.0; link = f.0; kind = not-true (is_other_kind v e) f.1 })
-        ]
+        | inl z ↦ inl (eqb-true e.number 1 z)
+        | inr q ↦
+            let c = and_parts (is_allocated (v.class e.number)) _ q.1 in
+            let d = and_parts (not (is_suspect v e.number)) _ c.1 in
+            let f = and_parts (not (is_dir v e.number) || (belongs v s e.number && not (slice_index stamps e.number == s))) (not (is_other_kind v e)) d.1 in
+            inr (record { allocated = c.0; suspect = not-true (is_suspect v e.number) d.0; link = f.0; kind = not-true (is_other_kind v e) f.1 })
+      ];
     }
 
 told_nothing : (b : Bool) (m : NameMessage) → b ≡ false → told b m ≡ []
@@ -114,69 +114,70 @@ suspect_quiet : (v : Volume) (s j x : ℕ) → is_suspect v x ≡ false → tell
 suspect_quiet v s j x h = ap (λ b. b && (not (x == 2) && is_first_name (graph_of v) s j x)) h
 
 link_quiet : (v : Volume) (s : ℕ) (done es : List Seen) (e : Seen) (stamps : List ℕ) → IsEntry v s done e es → e.role ≡ Plain → e.entry.number < v.count → AreStamped v s done stamps →
-  (not (is_dir v e.entry.number) || (belongs v s e.entry.number && not (slice_index stamps e.entry.number == s))) ≡ true →
-  is_extraneous v s (size_of done) e.entry.number ≡ false
+    (not (is_dir v e.entry.number) || (belongs v s e.entry.number && not (slice_index stamps e.entry.number == s))) ≡ true →
+    is_extraneous v s (size_of done) e.entry.number ≡ false
 link_quiet v s done es e stamps i p h r q = one (is_dir v e.entry.number) refl
   where
     none : (b any : Bool) → (b && any) ≡ false → b ≡ true → any ≡ false
     none true any k z = k
     none false any k z = absurd (cc)
+
     one : (b : Bool) → is_dir v e.entry.number ≡ b → (b && not (is_from_parent (graph_of v) s (size_of done) e.entry.number)) ≡ false
     one false d = refl
     one true d =
         let due : (belongs v s e.entry.number && not (slice_index stamps e.entry.number == s)) ≡ true =
-          sym (ap (λ b. not b || (belongs v s e.entry.number && not (slice_index stamps e.entry.number == s))) d) ∙ q in
+        sym (ap (λ b. not b || (belongs v s e.entry.number && not (slice_index stamps e.entry.number == s))) d) ∙ q in
         let parts = and_parts (belongs v s e.entry.number) (not (slice_index stamps e.entry.number == s)) due in
         let unstamped = not-true (slice_index stamps e.entry.number == s) parts.1 in
         let first : list_any (names e.entry.number) done ≡ false =
-          none (belongs v s e.entry.number) (list_any (names e.entry.number) done) (sym (r e.entry.number h) ∙ unstamped) parts.0 in
+        none (belongs v s e.entry.number) (list_any (names e.entry.number) done) (sym (r e.entry.number h) ∙ unstamped) parts.0 in
         let mine = (and_parts (is_dir v e.entry.number) (not (e.entry.number == 2) && is_value (parent (graph_of v) e.entry.number) s) parts.0).1 in
         ap not (from_parent_is v s done es e i p ∙ (ap (λ b. b && not (list_any (names e.entry.number) done)) mine ∙ ap not first))
 
 named_quiet : (v : Volume) (s : ℕ) (done es : List Seen) (e : Seen) (stamps : List ℕ) → IsEntry v s done e es → e.role ≡ Plain → e.entry.number < v.count → AreStamped v s done stamps →
-  IsNamedQuiet v s stamps e.entry → named_lines v s (size_of done) e.entry ≡ []
+    IsNamedQuiet v s stamps e.entry → named_lines v s (size_of done) e.entry ≡ []
 unfolding named_lines
 named_quiet v s done es e stamps i p h r q =
     let a = told_nothing _ (suspect_told v e.entry.number (entry_path (graph_of v) s e.entry.name)) (suspect_quiet v s (size_of done) e.entry.number q.suspect) in
     let b = told_nothing _ (extraneous (entry_path (graph_of v) s e.entry.name) (dir_path (graph_of v) e.entry.number)) (link_quiet v s done es e stamps i p h r q.link) in
     let c = told_nothing _ (kind_entry (attributes v e.entry.number) (label_of (v.class e.entry.number)) (entry_path (graph_of v) s e.entry.name)) q.kind in
     ap (λ l. l ++ (told (is_extraneous v s (size_of done) e.entry.number) (extraneous (entry_path (graph_of v) s e.entry.name) (dir_path (graph_of v) e.entry.number))
-      ++ told (is_other_kind v e.entry) (kind_entry (attributes v e.entry.number) (label_of (v.class e.entry.number)) (entry_path (graph_of v) s e.entry.name)))) a
+    ++ told (is_other_kind v e.entry) (kind_entry (attributes v e.entry.number) (label_of (v.class e.entry.number)) (entry_path (graph_of v) s e.entry.name)))) a
     ∙ (ap (λ l. l ++ told (is_other_kind v e.entry) (kind_entry (attributes v e.entry.number) (label_of (v.class e.entry.number)) (entry_path (graph_of v) s e.entry.name))) b ∙ c)
 
 plain_quiet : (v : Volume) (s : ℕ) (done es : List Seen) (e : Seen) (stamps : List ℕ) → IsEntry v s done e es → e.role ≡ Plain → AreStamped v s done stamps →
-  is_plain_quiet v s stamps e.entry ≡ true → plain_lines v s (size_of done) e.entry ≡ []
+    is_plain_quiet v s stamps e.entry ≡ true → plain_lines v s (size_of done) e.entry ≡ []
 unfolding plain_lines
 plain_quiet v s done es e stamps i p r h =
     let q = quiet_parts v s stamps e.entry h in
     let low : nat_lt e.entry.number v.count ≡ true = lt-ltb e.entry.number v.count q.below in
     ap (λ b. if not b then out_of_range e.entry.number (entry_path (graph_of v) s e.entry.name) ∷ []
-        else (if is_bad_whiteout e.entry then whiteout e.entry.number (entry_path (graph_of v) s e.entry.name) ∷ []
-        else (if e.entry.number == 1 then []
-        else (if not (is_allocated (v.class e.entry.number)) then unallocated (attributes v e.entry.number) (entry_path (graph_of v) s e.entry.name) ∷ []
-        else named_lines v s (size_of done) e.entry)))) low
+    else (if is_bad_whiteout e.entry then whiteout e.entry.number (entry_path (graph_of v) s e.entry.name) ∷ []
+    else (if e.entry.number == 1 then []
+    else (if not (is_allocated (v.class e.entry.number)) then unallocated (attributes v e.entry.number) (entry_path (graph_of v) s e.entry.name) ∷ []
+    else named_lines v s (size_of done) e.entry)))) low
     ∙ (ap (λ b. if b then whiteout e.entry.number (entry_path (graph_of v) s e.entry.name) ∷ []
-        else (if e.entry.number == 1 then []
-        else (if not (is_allocated (v.class e.entry.number)) then unallocated (attributes v e.entry.number) (entry_path (graph_of v) s e.entry.name) ∷ []
-        else named_lines v s (size_of done) e.entry))) q.whiteout
+    else (if e.entry.number == 1 then []
+    else (if not (is_allocated (v.class e.entry.number)) then unallocated (attributes v e.entry.number) (entry_path (graph_of v) s e.entry.name) ∷ []
+    else named_lines v s (size_of done) e.entry))) q.whiteout
     ∙ elim q.named [
-        | inl z ↦ ap (λ b. if b then []
-            else (if not (is_allocated (v.class e.entry.number)) then unallocated (attributes v e.entry.number) (entry_path (graph_of v) s e.entry.name) ∷ []
-            else named_lines v s (size_of done) e.entry)) (eq-eqb e.entry.number 1 z)
-        | inr n ↦ rest (e.entry.number == 1)
-            (ap (λ b. if not b then unallocated (attributes v e.entry.number) (entry_path (graph_of v) s e.entry.name) ∷ [] else named_lines v s (size_of done) e.entry) n.allocated
-            ∙ named_quiet v s done es e stamps i p q.below r n)
-      ])
+      | inl z ↦ ap (λ b. if b then []
+          else (if not (is_allocated (v.class e.entry.number)) then unallocated (attributes v e.entry.number) (entry_path (graph_of v) s e.entry.name) ∷ []
+          else named_lines v s (size_of done) e.entry)) (eq-eqb e.entry.number 1 z)
+      | inr n ↦ rest (e.entry.number == 1)
+          (ap (λ b. if not b then unallocated (attributes v e.entry.number) (entry_path (graph_of v) s e.entry.name) ∷ [] else named_lines v s (size_of done) e.entry) n.allocated
+          ∙ named_quiet v s done es e stamps i p q.below r n)
+    ])
   where
     rest : (b : Bool) → (if not (is_allocated (v.class e.entry.number)) then unallocated (attributes v e.entry.number) (entry_path (graph_of v) s e.entry.name) ∷ []
         else named_lines v s (size_of done) e.entry) ≡ [] →
-      (if b then [] else (if not (is_allocated (v.class e.entry.number)) then unallocated (attributes v e.entry.number) (entry_path (graph_of v) s e.entry.name) ∷ []
+        (if b then [] else (if not (is_allocated (v.class e.entry.number)) then unallocated (attributes v e.entry.number) (entry_path (graph_of v) s e.entry.name) ∷ []
         else named_lines v s (size_of done) e.entry)) ≡ []
     rest true k = refl
     rest false k = k
 
 seen_quiet : (v : Volume) (s : ℕ) (done es : List Seen) (e : Seen) (stamps : List ℕ) → IsEntry v s done e es → AreStamped v s done stamps →
-  is_quiet v s stamps e ≡ true → seen_lines v s (size_of done) e ≡ []
+    is_quiet v s stamps e ≡ true → seen_lines v s (size_of done) e ≡ []
 unfolding seen_lines is_quiet
 seen_quiet v s done es e stamps i r h = one e.role refl h
   where
@@ -189,14 +190,14 @@ seen_quiet v s done es e stamps i r h = one e.role refl h
 
 -- where all entries are quiet, nothing is told of them
 pub quiet_silent : (v : Volume) (s : ℕ) (done es : List Seen) (stamps : List ℕ) → IsDirectory v s → seen_in v s ≡ done ++ es → length stamps ≡ v.count → AreStamped v s done stamps →
-  are_quiet v s stamps es ≡ true → entry_lines v s (size_of done) es ≡ []
+    are_quiet v s stamps es ≡ true → entry_lines v s (size_of done) es ≡ []
 unfolding entry_lines
 quiet_silent v s done [] stamps d whole long r h = refl
 quiet_silent v s done (e ∷ es) stamps d whole long r h =
     let q = and_parts (is_quiet v s stamps e) (are_quiet v s (after_look v s stamps e) es) h in
     let here = seen_quiet v s done es e stamps (record { dir = d.dir; below = d.below; from_two = d.from_two; whole = whole }) r q.0 in
     let rest = quiet_silent v s (done ++ e ∷ []) es (after_look v s stamps e) d (whole ∙ sym (append_assoc done (e ∷ []) es)) (looks_long v s stamps e ∙ long)
-      (stamped_after v s done e stamps long r) q.1 in
+    (stamped_after v s done e stamps long r) q.1 in
     ap (λ ls. ls ++ entry_lines v s (suc (size_of done)) es) here ∙ (ap (λ j. entry_lines v s j es) (sym (size_more done e)) ∙ rest)
 
 -- and no suspect is named
@@ -206,18 +207,19 @@ suspect_unnamed v s stamps e x h q n = one e.role h
   where
     wrong : (IsPlainQuiet v s stamps e.entry) → x ≡ e.entry.number → ⊥
     wrong k z = elim k.named [
-        | inl f ↦ n (z ∙ f)
-        | inr g ↦ both_ways (is_suspect v x) (ap (is_suspect v) z ∙ g.suspect) q
-      ]
+      | inl f ↦ n (z ∙ f)
+      | inr g ↦ both_ways (is_suspect v x) (ap (is_suspect v) z ∙ g.suspect) q
+    ]
+
     one : (role : Role) → is_role_quiet v s stamps role e.entry ≡ true → (is_plain role && (e.entry.number == x)) ≡ false
     one Empty k = refl
     one Dot k = refl
     one Dotdot k = refl
     one Extra k = refl
     one Plain k = elim (cases_eq x e.entry.number) [
-        | inl z ↦ absurd (wrong (quiet_parts v s stamps e.entry k) z)
-        | inr o ↦ ne_eqb e.entry.number x (λ z. o (sym z))
-      ]
+      | inl z ↦ absurd (wrong (quiet_parts v s stamps e.entry k) z)
+      | inr o ↦ ne_eqb e.entry.number x (λ z. o (sym z))
+    ]
 
 pub suspects_unnamed : (v : Volume) (s : ℕ) (es : List Seen) (stamps : List ℕ) (x : ℕ) → are_quiet v s stamps es ≡ true → is_suspect v x ≡ true → x ≢ 1 → list_any (names x) es ≡ false
 suspects_unnamed v s [] stamps x h q n = refl

@@ -20,7 +20,7 @@ abbrev pub seen_at_place : Order → List ℕ → Bool → ℕ → ℕ → List 
 seen_at_place order chunk first index place = seen_from first index (entries_from order chunk 64 place)
 
 pub seen_next : (order : Order) (chunk : List ℕ) (first : Bool) (index place : ℕ) (e : Entry) (role : Role) → entry_at order chunk place ≡ Some e → role ≡ role_of first index e →
-  seen_at_place order chunk first index place ≡ record { role = role; entry = e } ∷ seen_at_place order chunk first (index + 1) (place + e.length)
+    seen_at_place order chunk first index place ≡ record { role = role; entry = e } ∷ seen_at_place order chunk first (index + 1) (place + e.length)
 unfolding seen_from
 seen_next order chunk first index place e role there is =
     let next : suc index ≡ index + 1 = omega arith in
@@ -29,7 +29,7 @@ seen_next order chunk first index place e role there is =
     ∙ ap (λ k. record { role = role; entry = e } ∷ seen_from first k (entries_from order chunk 64 (place + e.length))) next)
 
 pub quiet_on : (v : Volume) (s : ℕ) (stamps stamps' : List ℕ) (seen : Seen) (es es' : List Seen) (all quiet here : Bool) → es ≡ seen ∷ es' →
-  here ≡ is_quiet v s stamps seen → stamps' ≡ after_look v s stamps seen → all ≡ (quiet && are_quiet v s stamps es) → all ≡ ((quiet && here) && are_quiet v s stamps' es')
+    here ≡ is_quiet v s stamps seen → stamps' ≡ after_look v s stamps seen → all ≡ (quiet && are_quiet v s stamps es) → all ≡ ((quiet && here) && are_quiet v s stamps' es')
 quiet_on v s stamps stamps' seen es es' all quiet here e h t q =
     q ∙ (ap (λ l. quiet && are_quiet v s stamps l) e
     ∙ (and_assoc quiet (is_quiet v s stamps seen) (are_quiet v s (after_look v s stamps seen) es')
@@ -37,11 +37,11 @@ quiet_on v s stamps stamps' seen es es' all quiet here e h t q =
     ∙ ap (λ l. (quiet && here) && are_quiet v s l es') (sym t))))
 
 pub stamps_on : (v : Volume) (s : ℕ) (stamps stamps' all : List ℕ) (seen : Seen) (es es' : List Seen) → es ≡ seen ∷ es' →
-  stamps' ≡ after_look v s stamps seen → all ≡ after_looks v s stamps es → all ≡ after_looks v s stamps' es'
+    stamps' ≡ after_look v s stamps seen → all ≡ after_looks v s stamps es → all ≡ after_looks v s stamps' es'
 stamps_on v s stamps stamps' all seen es es' e t q = q ∙ (ap (after_looks v s stamps) e ∙ ap (λ l. after_looks v s l es') (sym t))
 
 pub length_on : (order : Order) (chunk : List ℕ) (place all : ℕ) (e : Entry) → entry_at order chunk place ≡ Some e →
-  all ≡ place + sum_by (λ x. x.length) (entries_from order chunk 64 place) → all ≡ (place + e.length) + sum_by (λ x. x.length) (entries_from order chunk 64 (place + e.length))
+    all ≡ place + sum_by (λ x. x.length) (entries_from order chunk 64 place) → all ≡ (place + e.length) + sum_by (λ x. x.length) (entries_from order chunk 64 (place + e.length))
 length_on order chunk place all e there q =
     q ∙ (ap (λ es. place + sum_by (λ x. x.length) es) (entries_next order chunk place e there)
     ∙ (ap (λ n. place + n) (sum_by-cons (λ x. x.length) e (entries_from order chunk 64 (place + e.length)))
@@ -63,16 +63,16 @@ unfolding seen_from
 seen_end order chunk first index place h = ap (seen_from first index) (entries_end order chunk place h)
 
 pub quiet_ends : (v : Volume) (s : ℕ) (stamps : List ℕ) (first : Bool) (index : ℕ) (order : Order) (chunk : List ℕ) (place : ℕ) (all quiet : Bool) → entry_at order chunk place ≡ None →
-  all ≡ (quiet && are_quiet v s stamps (seen_at_place order chunk first index place)) → quiet ≡ all
+    all ≡ (quiet && are_quiet v s stamps (seen_at_place order chunk first index place)) → quiet ≡ all
 quiet_ends v s stamps first index order chunk place all quiet h q =
     sym (q ∙ (ap (λ l. quiet && are_quiet v s stamps l) (seen_end order chunk first index place h) ∙ and_true quiet))
 
 pub stamps_end : (v : Volume) (s : ℕ) (stamps all : List ℕ) (first : Bool) (index : ℕ) (order : Order) (chunk : List ℕ) (place : ℕ) → entry_at order chunk place ≡ None →
-  all ≡ after_looks v s stamps (seen_at_place order chunk first index place) → stamps ≡ all
+    all ≡ after_looks v s stamps (seen_at_place order chunk first index place) → stamps ≡ all
 stamps_end v s stamps all first index order chunk place h q = sym (q ∙ ap (after_looks v s stamps) (seen_end order chunk first index place h))
 
 pub length_ends : (order : Order) (chunk : List ℕ) (place all : ℕ) → entry_at order chunk place ≡ None →
-  all ≡ place + sum_by (λ x. x.length) (entries_from order chunk 64 place) → (place == 512) ≡ (all == 512)
+    all ≡ place + sum_by (λ x. x.length) (entries_from order chunk 64 place) → (place == 512) ≡ (all == 512)
 length_ends order chunk place all h q =
     let end : all ≡ place + 0 = q ∙ ap (λ es. place + sum_by (λ x. x.length) es) (entries_end order chunk place h) in
     let same : place ≡ all = omega arith in

@@ -60,33 +60,33 @@ names_in_it : (v : Volume) (s : ℕ) (done es : List Seen) (e : Seen) → IsEntr
 names_in_it v s done es e i p =
     let x = e.entry.number in
     let here : (list_any (names x) done || (names x e || list_any (names x) es)) ≡ true =
-      ap (λ b. list_any (names x) done || (b || list_any (names x) es)) (names_it e p) ∙ or_here (list_any (names x) done) (list_any (names x) es) in
+    ap (λ b. list_any (names x) done || (b || list_any (names x) es)) (names_it e p) ∙ or_here (list_any (names x) done) (list_any (names x) es) in
     and_from (is_dir v s) (list_any (names x) (seen_in v s)) i.dir
-      (ap (list_any (names x)) i.whole ∙ (list_any-append (names x) done (e ∷ es) ∙ here))
+    (ap (list_any (names x)) i.whole ∙ (list_any-append (names x) done (e ∷ es) ∙ here))
 
 place_is : (v : Volume) (s : ℕ) (done es : List Seen) (e : Seen) → IsEntry v s done e es → e.role ≡ Plain →
-  is_value (first_place (names e.entry.number) (seen_in v s)) (size_of done) ≡ not (list_any (names e.entry.number) done)
+    is_value (first_place (names e.entry.number) (seen_in v s)) (size_of done) ≡ not (list_any (names e.entry.number) done)
 place_is v s done es e i p =
     ap (λ l. is_value (first_place (names e.entry.number) l) (size_of done)) i.whole ∙ first_here (names e.entry.number) done e es (names_it e p)
 
 first_name_is : (v : Volume) (s : ℕ) (done es : List Seen) (e : Seen) → IsEntry v s done e es → e.role ≡ Plain →
-  is_first_name (graph_of v) s (size_of done) e.entry.number
+    is_first_name (graph_of v) s (size_of done) e.entry.number
     ≡ not (some_below (λ t. names_in (graph_of v) t e.entry.number) s || list_any (names e.entry.number) done)
 first_name_is v s done es e i p =
     let x = e.entry.number in
     let first : is_value (first_namer (graph_of v) x) s ≡ not (some_below (λ t. names_in (graph_of v) t x) s) =
-      first_in (λ t. names_in (graph_of v) t x) v.count s i.below (names_in_it v s done es e i p) in
+    first_in (λ t. names_in (graph_of v) t x) v.count s i.below (names_in_it v s done es e i p) in
     ap (λ b. b && is_value (first_place (names x) (seen_in v s)) (size_of done)) first
     ∙ (ap (λ b. not (some_below (λ t. names_in (graph_of v) t x) s) && b) (place_is v s done es e i p)
     ∙ not_or (some_below (λ t. names_in (graph_of v) t x) s) (list_any (names x) done))
 
 pub from_parent_is : (v : Volume) (s : ℕ) (done es : List Seen) (e : Seen) → IsEntry v s done e es → e.role ≡ Plain →
-  is_from_parent (graph_of v) s (size_of done) e.entry.number
+    is_from_parent (graph_of v) s (size_of done) e.entry.number
     ≡ ((not (e.entry.number == 2) && is_value (parent (graph_of v) e.entry.number) s) && not (list_any (names e.entry.number) done))
 from_parent_is v s done es e i p = one (e.entry.number == 2) refl (is_value (parent (graph_of v) e.entry.number) s) refl
   where
     one : (two : Bool) → (e.entry.number == 2) ≡ two → (b : Bool) → is_value (parent (graph_of v) e.entry.number) s ≡ b →
-      (b && is_value (if two then None else entry_place (graph_of v) e.entry.number (parent (graph_of v) e.entry.number)) (size_of done))
+        (b && is_value (if two then None else entry_place (graph_of v) e.entry.number (parent (graph_of v) e.entry.number)) (size_of done))
         ≡ ((not two && b) && not (list_any (names e.entry.number) done))
     one true q true r = refl
     one true q false r = refl
@@ -96,11 +96,11 @@ from_parent_is v s done es e i p = one (e.entry.number == 2) refl (is_value (par
     one false q false r = refl
 
 suspect_same : (v : Volume) (s : ℕ) (done es : List Seen) (e : Seen) (m : Marks) → IsEntry v s done e es → e.role ≡ Plain → e.entry.number < v.count → e.entry.number ≢ 1 → AreRight v s done m →
-  tells_suspect v s (size_of done) e.entry.number ≡ (is_suspect v e.entry.number && (not (e.entry.number == 2) && not (is_passed m e.entry.number)))
+    tells_suspect v s (size_of done) e.entry.number ≡ (is_suspect v e.entry.number && (not (e.entry.number == 2) && not (is_passed m e.entry.number)))
 suspect_same v s done es e m i p h other r = one (is_suspect v e.entry.number) refl (cases_eq e.entry.number 2)
   where
     one : (b : Bool) → is_suspect v e.entry.number ≡ b → (e.entry.number ≡ 2) ⊎ (e.entry.number ≢ 2) →
-      (b && (not (e.entry.number == 2) && is_first_name (graph_of v) s (size_of done) e.entry.number))
+        (b && (not (e.entry.number == 2) && is_first_name (graph_of v) s (size_of done) e.entry.number))
         ≡ (b && (not (e.entry.number == 2) && not (is_passed m e.entry.number)))
     one false q c = refl
     one true q (inl z) =
@@ -110,66 +110,66 @@ suspect_same v s done es e m i p h other r = one (is_suspect v e.entry.number) r
         ap (λ b. not (e.entry.number == 2) && b) (first_name_is v s done es e i p ∙ sym (ap not (r.passed e.entry.number h q other n)))
 
 extraneous_same : (v : Volume) (s : ℕ) (done es : List Seen) (e : Seen) (m : Marks) → IsEntry v s done e es → e.role ≡ Plain → e.entry.number < v.count → AreRight v s done m →
-  is_extraneous v s (size_of done) e.entry.number ≡ (is_dir v e.entry.number && not (is_due s m e.entry.number))
+    is_extraneous v s (size_of done) e.entry.number ≡ (is_dir v e.entry.number && not (is_due s m e.entry.number))
 extraneous_same v s done es e m i p h r = one (is_dir v e.entry.number) refl
   where
     one : (b : Bool) → is_dir v e.entry.number ≡ b →
-      (b && not (is_from_parent (graph_of v) s (size_of done) e.entry.number)) ≡ (b && not (is_due s m e.entry.number))
+        (b && not (is_from_parent (graph_of v) s (size_of done) e.entry.number)) ≡ (b && not (is_due s m e.entry.number))
     one false q = refl
     one true q = ap not (from_parent_is v s done es e i p
-      ∙ sym (r.due e.entry.number h ∙ ap (λ d. (d && (not (e.entry.number == 2) && is_value (parent (graph_of v) e.entry.number) s)) && not (list_any (names e.entry.number) done)) q))
+        ∙ sym (r.due e.entry.number h ∙ ap (λ d. (d && (not (e.entry.number == 2) && is_value (parent (graph_of v) e.entry.number) s)) && not (list_any (names e.entry.number) done)) q))
 
 named_same : (v : Volume) (s : ℕ) (done es : List Seen) (e : Seen) (m : Marks) → IsEntry v s done e es → e.role ≡ Plain → e.entry.number < v.count → e.entry.number ≢ 1 → AreRight v s done m →
-  named_lines v s (size_of done) e.entry ≡ named_told v s m e.entry
+    named_lines v s (size_of done) e.entry ≡ named_told v s m e.entry
 unfolding named_lines
 named_same v s done es e m i p h other r =
     ap (λ b. told b (suspect_told v e.entry.number (entry_path (graph_of v) s e.entry.name))
-        ++ (told (is_extraneous v s (size_of done) e.entry.number) (extraneous (entry_path (graph_of v) s e.entry.name) (dir_path (graph_of v) e.entry.number))
-        ++ told (is_other_kind v e.entry) (kind_entry (attributes v e.entry.number) (label_of (v.class e.entry.number)) (entry_path (graph_of v) s e.entry.name))))
-      (suspect_same v s done es e m i p h other r)
+    ++ (told (is_extraneous v s (size_of done) e.entry.number) (extraneous (entry_path (graph_of v) s e.entry.name) (dir_path (graph_of v) e.entry.number))
+    ++ told (is_other_kind v e.entry) (kind_entry (attributes v e.entry.number) (label_of (v.class e.entry.number)) (entry_path (graph_of v) s e.entry.name))))
+    (suspect_same v s done es e m i p h other r)
     ∙ ap (λ b. told (is_suspect v e.entry.number && (not (e.entry.number == 2) && not (is_passed m e.entry.number))) (suspect_told v e.entry.number (entry_path (graph_of v) s e.entry.name))
-        ++ (told b (extraneous (entry_path (graph_of v) s e.entry.name) (dir_path (graph_of v) e.entry.number))
-        ++ told (is_other_kind v e.entry) (kind_entry (attributes v e.entry.number) (label_of (v.class e.entry.number)) (entry_path (graph_of v) s e.entry.name))))
-      (extraneous_same v s done es e m i p h r)
+    ++ (told b (extraneous (entry_path (graph_of v) s e.entry.name) (dir_path (graph_of v) e.entry.number))
+    ++ told (is_other_kind v e.entry) (kind_entry (attributes v e.entry.number) (label_of (v.class e.entry.number)) (entry_path (graph_of v) s e.entry.name))))
+    (extraneous_same v s done es e m i p h r)
 
 plain_same : (v : Volume) (s : ℕ) (done es : List Seen) (e : Seen) (m : Marks) → IsEntry v s done e es → e.role ≡ Plain → AreRight v s done m →
-  plain_lines v s (size_of done) e.entry ≡ plain_told v s m e.entry
+    plain_lines v s (size_of done) e.entry ≡ plain_told v s m e.entry
 unfolding plain_lines
 plain_same v s done es e m i p r = one (nat_lt e.entry.number v.count) refl
   where
     one : (b : Bool) → nat_lt e.entry.number v.count ≡ b →
-      (if not b then out_of_range e.entry.number (entry_path (graph_of v) s e.entry.name) ∷ []
+        (if not b then out_of_range e.entry.number (entry_path (graph_of v) s e.entry.name) ∷ []
         else (if is_bad_whiteout e.entry then whiteout e.entry.number (entry_path (graph_of v) s e.entry.name) ∷ []
         else (if e.entry.number == 1 then []
         else (if not (is_allocated (v.class e.entry.number)) then unallocated (attributes v e.entry.number) (entry_path (graph_of v) s e.entry.name) ∷ []
         else named_lines v s (size_of done) e.entry))))
-      ≡ (if not b then out_of_range e.entry.number (entry_path (graph_of v) s e.entry.name) ∷ []
+        ≡ (if not b then out_of_range e.entry.number (entry_path (graph_of v) s e.entry.name) ∷ []
         else (if is_bad_whiteout e.entry then whiteout e.entry.number (entry_path (graph_of v) s e.entry.name) ∷ []
         else (if e.entry.number == 1 then []
         else (if not (is_allocated (v.class e.entry.number)) then unallocated (attributes v e.entry.number) (entry_path (graph_of v) s e.entry.name) ∷ []
         else named_told v s m e.entry))))
     one false q = refl
     one true q = elim (cases_eq e.entry.number 1) [
-        | inl z ↦
-            let first : (e.entry.number == 1) ≡ true = eq-eqb e.entry.number 1 z in
-            ap (λ b. if is_bad_whiteout e.entry then whiteout e.entry.number (entry_path (graph_of v) s e.entry.name) ∷ []
-              else (if b then []
-              else (if not (is_allocated (v.class e.entry.number)) then unallocated (attributes v e.entry.number) (entry_path (graph_of v) s e.entry.name) ∷ []
-              else named_lines v s (size_of done) e.entry))) first
-            ∙ sym (ap (λ b. if is_bad_whiteout e.entry then whiteout e.entry.number (entry_path (graph_of v) s e.entry.name) ∷ []
-              else (if b then []
-              else (if not (is_allocated (v.class e.entry.number)) then unallocated (attributes v e.entry.number) (entry_path (graph_of v) s e.entry.name) ∷ []
-              else named_told v s m e.entry))) first)
-        | inr n ↦
-            ap (λ lines. if is_bad_whiteout e.entry then whiteout e.entry.number (entry_path (graph_of v) s e.entry.name) ∷ []
-              else (if e.entry.number == 1 then []
-              else (if not (is_allocated (v.class e.entry.number)) then unallocated (attributes v e.entry.number) (entry_path (graph_of v) s e.entry.name) ∷ []
-              else lines)))
-              (named_same v s done es e m i p (ltb-true e.entry.number v.count q) n r)
-      ]
+      | inl z ↦
+          let first : (e.entry.number == 1) ≡ true = eq-eqb e.entry.number 1 z in
+          ap (λ b. if is_bad_whiteout e.entry then whiteout e.entry.number (entry_path (graph_of v) s e.entry.name) ∷ []
+          else (if b then []
+          else (if not (is_allocated (v.class e.entry.number)) then unallocated (attributes v e.entry.number) (entry_path (graph_of v) s e.entry.name) ∷ []
+          else named_lines v s (size_of done) e.entry))) first
+          ∙ sym (ap (λ b. if is_bad_whiteout e.entry then whiteout e.entry.number (entry_path (graph_of v) s e.entry.name) ∷ []
+          else (if b then []
+          else (if not (is_allocated (v.class e.entry.number)) then unallocated (attributes v e.entry.number) (entry_path (graph_of v) s e.entry.name) ∷ []
+          else named_told v s m e.entry))) first)
+      | inr n ↦
+          ap (λ lines. if is_bad_whiteout e.entry then whiteout e.entry.number (entry_path (graph_of v) s e.entry.name) ∷ []
+          else (if e.entry.number == 1 then []
+          else (if not (is_allocated (v.class e.entry.number)) then unallocated (attributes v e.entry.number) (entry_path (graph_of v) s e.entry.name) ∷ []
+          else lines)))
+          (named_same v s done es e m i p (ltb-true e.entry.number v.count q) n r)
+    ]
 
 seen_same : (v : Volume) (s : ℕ) (done es : List Seen) (e : Seen) (m : Marks) → IsEntry v s done e es → AreRight v s done m →
-  seen_lines v s (size_of done) e ≡ seen_told v s m e
+    seen_lines v s (size_of done) e ≡ seen_told v s m e
 unfolding seen_lines seen_told
 seen_same v s done es e m i r = one e.role refl
   where
@@ -212,37 +212,37 @@ other_number x e n = ap (λ b. is_plain e.role && b) (ne_eqb e.entry.number x (�
 
 not_counted : (v : Volume) (e : Seen) (x : ℕ) → (is_plain e.role && nat_lt e.entry.number v.count) ≡ false → x < v.count → names x e ≡ false
 not_counted v e x t h = elim (cases_eq x e.entry.number) [
-    | inl z ↦
-        let low : nat_lt e.entry.number v.count ≡ true = lt-ltb e.entry.number v.count (subst (λ k. k < v.count) z h) in
-        ap (λ b. is_plain e.role && b) (eq-eqb e.entry.number x (sym z)) ∙ (sym (ap (λ b. is_plain e.role && b) low) ∙ t)
-    | inr n ↦ other_number x e n
-  ]
+  | inl z ↦
+      let low : nat_lt e.entry.number v.count ≡ true = lt-ltb e.entry.number v.count (subst (λ k. k < v.count) z h) in
+      ap (λ b. is_plain e.role && b) (eq-eqb e.entry.number x (sym z)) ∙ (sym (ap (λ b. is_plain e.role && b) low) ∙ t)
+  | inr n ↦ other_number x e n
+]
 
 skips : (v : Volume) (s : ℕ) (done : List Seen) (e : Seen) (m : Marks) → (is_plain e.role && nat_lt e.entry.number v.count) ≡ false → AreRight v s done m → AreRight v s (done ++ e ∷ []) m
 skips v s done e m t r = record {
   passed = λ x h q o n. r.passed x h q o n ∙ ap (λ b. some_below (λ t. names_in (graph_of v) t x) s || b) (sym (not_named (names x) done e (not_counted v e x t h)));
   due = λ x h. r.due x h ∙ ap (λ b. belongs v s x && not b) (sym (not_named (names x) done e (not_counted v e x t h)));
   passed_length = r.passed_length;
-  stamps_length = r.stamps_length
+  stamps_length = r.stamps_length;
 }
 
 name_passed : (v : Volume) (s : ℕ) (done : List Seen) (e : Seen) (m : Marks) → e.role ≡ Plain → e.entry.number < v.count → AreRight v s done m →
-  (x : ℕ) → x < v.count → is_suspect v x ≡ true → x ≢ 1 → x ≢ 2 →
-  is_passed (after_name s m e.entry.number) x ≡ (some_below (λ t. names_in (graph_of v) t x) s || list_any (names x) (done ++ e ∷ []))
+    (x : ℕ) → x < v.count → is_suspect v x ≡ true → x ≢ 1 → x ≢ 2 →
+    is_passed (after_name s m e.entry.number) x ≡ (some_below (λ t. names_in (graph_of v) t x) s || list_any (names x) (done ++ e ∷ []))
 name_passed v s done e m p low r x h q u n = elim (cases_eq x e.entry.number) [
-    | inl z ↦
-        let inside : e.entry.number < length m.passed = subst (λ k. e.entry.number < k) (sym r.passed_length) low in
-        let named : names x e ≡ true = and_from (is_plain e.role) (e.entry.number == x) (ap is_plain p) (eq-eqb e.entry.number x (sym z)) in
-        ap (λ k. slice_index_or (slice_set m.passed e.entry.number true) k false) z
-        ∙ (get_or-set_same m.passed e.entry.number true false inside
-        ∙ sym (ap (λ b. some_below (λ t. names_in (graph_of v) t x) s || b) (is_named (names x) done e named) ∙ or_true (some_below (λ t. names_in (graph_of v) t x) s)))
-    | inr o ↦
-        get_or-set_other m.passed e.entry.number x true false o
-        ∙ (r.passed x h q u n ∙ ap (λ b. some_below (λ t. names_in (graph_of v) t x) s || b) (sym (not_named (names x) done e (other_number x e o))))
-  ]
+  | inl z ↦
+      let inside : e.entry.number < length m.passed = subst (λ k. e.entry.number < k) (sym r.passed_length) low in
+      let named : names x e ≡ true = and_from (is_plain e.role) (e.entry.number == x) (ap is_plain p) (eq-eqb e.entry.number x (sym z)) in
+      ap (λ k. slice_index_or (slice_set m.passed e.entry.number true) k false) z
+      ∙ (get_or-set_same m.passed e.entry.number true false inside
+      ∙ sym (ap (λ b. some_below (λ t. names_in (graph_of v) t x) s || b) (is_named (names x) done e named) ∙ or_true (some_below (λ t. names_in (graph_of v) t x) s)))
+  | inr o ↦
+      get_or-set_other m.passed e.entry.number x true false o
+      ∙ (r.passed x h q u n ∙ ap (λ b. some_below (λ t. names_in (graph_of v) t x) s || b) (sym (not_named (names x) done e (other_number x e o))))
+]
 
 cleared : (s n : ℕ) (stamps : List ℕ) → 2 ≤ s → n < length stamps →
-  (slice_index (if slice_index stamps n == s then slice_set stamps n 0 else stamps) n == s) ≡ false
+    (slice_index (if slice_index stamps n == s then slice_set stamps n 0 else stamps) n == s) ≡ false
 cleared s n stamps two low = one (slice_index stamps n == s) refl
   where
     one : (b : Bool) → (slice_index stamps n == s) ≡ b → (slice_index (if b then slice_set stamps n 0 else stamps) n == s) ≡ false
@@ -257,18 +257,18 @@ stays s n x stamps o = one (slice_index stamps n == s)
     one false = refl
 
 name_due : (v : Volume) (s : ℕ) (done : List Seen) (e : Seen) (m : Marks) → 2 ≤ s → e.role ≡ Plain → e.entry.number < v.count → AreRight v s done m →
-  (x : ℕ) → x < v.count → is_due s (after_name s m e.entry.number) x ≡ (belongs v s x && not (list_any (names x) (done ++ e ∷ [])))
+    (x : ℕ) → x < v.count → is_due s (after_name s m e.entry.number) x ≡ (belongs v s x && not (list_any (names x) (done ++ e ∷ [])))
 name_due v s done e m two p low r x h = elim (cases_eq x e.entry.number) [
-    | inl z ↦
-        let inside : e.entry.number < length m.stamps = subst (λ k. e.entry.number < k) (sym r.stamps_length) low in
-        let named : names x e ≡ true = and_from (is_plain e.role) (e.entry.number == x) (ap is_plain p) (eq-eqb e.entry.number x (sym z)) in
-        ap (λ k. slice_index (after_name s m e.entry.number).stamps k == s) z
-        ∙ (cleared s e.entry.number m.stamps two inside
-        ∙ sym (ap (λ b. belongs v s x && not b) (is_named (names x) done e named) ∙ and_false (belongs v s x)))
-    | inr o ↦
-        ap (λ k. k == s) (stays s e.entry.number x m.stamps o)
-        ∙ (r.due x h ∙ ap (λ b. belongs v s x && not b) (sym (not_named (names x) done e (other_number x e o))))
-  ]
+  | inl z ↦
+      let inside : e.entry.number < length m.stamps = subst (λ k. e.entry.number < k) (sym r.stamps_length) low in
+      let named : names x e ≡ true = and_from (is_plain e.role) (e.entry.number == x) (ap is_plain p) (eq-eqb e.entry.number x (sym z)) in
+      ap (λ k. slice_index (after_name s m e.entry.number).stamps k == s) z
+      ∙ (cleared s e.entry.number m.stamps two inside
+      ∙ sym (ap (λ b. belongs v s x && not b) (is_named (names x) done e named) ∙ and_false (belongs v s x)))
+  | inr o ↦
+      ap (λ k. k == s) (stays s e.entry.number x m.stamps o)
+      ∙ (r.due x h ∙ ap (λ b. belongs v s x && not b) (sym (not_named (names x) done e (other_number x e o))))
+]
 
 stamps_long : (s n : ℕ) (stamps : List ℕ) → length (if slice_index stamps n == s then slice_set stamps n 0 else stamps) ≡ length stamps
 stamps_long s n stamps = one (slice_index stamps n == s)
@@ -297,7 +297,7 @@ right_after v s done e m two r = one (is_plain e.role && nat_lt e.entry.number v
           passed = name_passed v s done e m p low r;
           due = name_due v s done e m two p low r;
           passed_length = length-set m.passed e.entry.number true ∙ r.passed_length;
-          stamps_length = stamps_long s e.entry.number m.stamps ∙ r.stamps_length
+          stamps_length = stamps_long s e.entry.number m.stamps ∙ r.stamps_length;
         }
 
 -- ALL ENTRIES
@@ -307,7 +307,7 @@ pub record IsDirectory (v : Volume) (s : ℕ) : Type 0 where
   pub from_two : 2 ≤ s
 
 pub right_told : (v : Volume) (s : ℕ) (done es : List Seen) (m : Marks) → IsDirectory v s → seen_in v s ≡ done ++ es → AreRight v s done m →
-  entry_lines v s (size_of done) es ≡ entries_told v s m es
+    entry_lines v s (size_of done) es ≡ entries_told v s m es
 unfolding entry_lines
 right_told v s done [] m d whole r = refl
 right_told v s done (e ∷ es) m d whole r =

@@ -19,9 +19,9 @@ size_more (d ∷ ds) e = ap suc (size_more ds e)
 
 same_suc : (j k : ℕ) → (suc j == suc k) ≡ (j == k)
 same_suc j k = elim (cases_eq j k) [
-    | inl e ↦ eq-eqb (suc j) (suc k) (ap suc e) ∙ sym (eq-eqb j k e)
-    | inr n ↦ ne_eqb (suc j) (suc k) (λ e. n (omega (arith, e))) ∙ sym (ne_eqb j k n)
-  ]
+  | inl e ↦ eq-eqb (suc j) (suc k) (ap suc e) ∙ sym (eq-eqb j k e)
+  | inr n ↦ ne_eqb (suc j) (suc k) (λ e. n (omega (arith, e))) ∙ sym (ne_eqb j k n)
+]
 
 value_suc : (o : Option ℕ) (k : ℕ) → is_value (option_map suc o) (suc k) ≡ is_value o k
 value_suc None k = refl
@@ -29,12 +29,12 @@ value_suc (Some j) k = same_suc j k
 
 -- an entry that passes stands at its first place exactly where none before it passes
 pub first_here : (p : Seen → Bool) (done : List Seen) (e : Seen) (es : List Seen) → p e ≡ true →
-  is_value (first_place p (done ++ e ∷ es)) (size_of done) ≡ not (list_any p done)
+    is_value (first_place p (done ++ e ∷ es)) (size_of done) ≡ not (list_any p done)
 unfolding size_of
 first_here p [] e es h = ap (λ b. is_value (cond b (Some 0) (option_map suc (first_place p es))) zero) h ∙ eq-eqb 0 zero refl
 first_here p (d ∷ ds) e es h = one (first_here p ds e es h) (p d) refl
   where
     one : is_value (first_place p (ds ++ e ∷ es)) (size_of ds) ≡ not (list_any p ds) → (b : Bool) → p d ≡ b →
-      is_value (cond b (Some 0) (option_map suc (first_place p (ds ++ e ∷ es)))) (suc (size_of ds)) ≡ not (b || list_any p ds)
+        is_value (cond b (Some 0) (option_map suc (first_place p (ds ++ e ∷ es)))) (suc (size_of ds)) ≡ not (b || list_any p ds)
     one more true q = ne_eqb 0 (suc (size_of ds)) (λ z. absurd (omega (arith, z)))
     one more false q = value_suc (first_place p (ds ++ e ∷ es)) (size_of ds) ∙ more

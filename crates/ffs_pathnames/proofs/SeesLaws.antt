@@ -56,5 +56,5 @@ sees v b w i s h r =
       marked = λ x. sym (mark x);
       kind = λ x a u. ap type_of_kind (kind x) ∙ type_is v b x (settled (class_at v b x) a u);
       class = λ x a. sym (ap class_of_kind (kind x) ∙ class_is v b x (whole (class_at v b x) a));
-      parent_is = λ x p two. parent_number (parent (graph_of (volume_of v b)) x) p two ∙ ap (λ n. n == p) (sym (ap (λ ps. slice_index ps x) s.parents ∙ r.parents x))
+      parent_is = λ x p two. parent_number (parent (graph_of (volume_of v b)) x) p two ∙ ap (λ n. n == p) (sym (ap (λ ps. slice_index ps x) s.parents ∙ r.parents x));
     }

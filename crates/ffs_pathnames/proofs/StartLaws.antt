@@ -34,16 +34,16 @@ dotdot_is v d = one (dotdot_in (start_entry v d 1))
 
 -- first what is told before the entries, then what is told of them
 pub dir_parts : (v : Volume) (d : ℕ) →
-  dir_lines v d ≡ starts_told (attributes v d) (dir_path (graph_of v) d) d (parent (graph_of v) d) (v.gap d) (are_sound (v.chunks d)) (start_entry v d 0) (start_entry v d 1)
+    dir_lines v d ≡ starts_told (attributes v d) (dir_path (graph_of v) d) d (parent (graph_of v) d) (v.gap d) (are_sound (v.chunks d)) (start_entry v d 0) (start_entry v d 1)
     ++ entry_lines v d 0 (seen_in v d)
 unfolding dir_lines starts_told
 dir_parts v d =
     ap (λ l. l ++ (dot_lines v d ++ (dotdot_lines v d ++ entry_lines v d 0 (seen_in v d)))) (shape_is v d)
     ∙ (ap (λ l. shape_told (attributes v d) (dir_path (graph_of v) d) (v.gap d) (are_sound (v.chunks d)) ++ (l ++ (dotdot_lines v d ++ entry_lines v d 0 (seen_in v d)))) (dot_is v d)
     ∙ (ap (λ l. shape_told (attributes v d) (dir_path (graph_of v) d) (v.gap d) (are_sound (v.chunks d))
-          ++ (dot_said (attributes v d) (dir_path (graph_of v) d) d (start_entry v d 0) (dot_in (start_entry v d 0)) ++ (l ++ entry_lines v d 0 (seen_in v d)))) (dotdot_is v d)
+    ++ (dot_said (attributes v d) (dir_path (graph_of v) d) d (start_entry v d 0) (dot_in (start_entry v d 0)) ++ (l ++ entry_lines v d 0 (seen_in v d)))) (dotdot_is v d)
     ∙ (ap (λ l. shape_told (attributes v d) (dir_path (graph_of v) d) (v.gap d) (are_sound (v.chunks d)) ++ l)
-          (sym (append_assoc (dot_said (attributes v d) (dir_path (graph_of v) d) d (start_entry v d 0) (dot_in (start_entry v d 0)))
-            (dotdot_said (attributes v d) (dir_path (graph_of v) d) (parent (graph_of v) d) (start_entry v d 1) (dotdot_in (start_entry v d 1))) (entry_lines v d 0 (seen_in v d))))
+    (sym (append_assoc (dot_said (attributes v d) (dir_path (graph_of v) d) d (start_entry v d 0) (dot_in (start_entry v d 0)))
+    (dotdot_said (attributes v d) (dir_path (graph_of v) d) (parent (graph_of v) d) (start_entry v d 1) (dotdot_in (start_entry v d 1))) (entry_lines v d 0 (seen_in v d))))
     ∙ sym (append_assoc (shape_told (attributes v d) (dir_path (graph_of v) d) (v.gap d) (are_sound (v.chunks d)))
-        (dots_told (attributes v d) (dir_path (graph_of v) d) d (parent (graph_of v) d) (start_entry v d 0) (start_entry v d 1)) (entry_lines v d 0 (seen_in v d))))))
+    (dots_told (attributes v d) (dir_path (graph_of v) d) d (parent (graph_of v) d) (start_entry v d 0) (start_entry v d 1)) (entry_lines v d 0 (seen_in v d))))))

@@ -10,7 +10,7 @@ use Rattle.ffs_pathnames.specs.Marks.{Marks, is_passed, is_due, belongs}
 -- within the directory s, behind the entries `done`
 pub record AreRight (v : Volume) (s : ℕ) (done : List Seen) (m : Marks) : Type 0 where
   pub passed : (x : ℕ) → x < v.count → is_suspect v x ≡ true → x ≢ 1 → x ≢ 2 →
-    is_passed m x ≡ (some_below (λ t. names_in (graph_of v) t x) s || list_any (names x) done)
+      is_passed m x ≡ (some_below (λ t. names_in (graph_of v) t x) s || list_any (names x) done)
   pub due : (x : ℕ) → x < v.count → is_due s m x ≡ (belongs v s x && not (list_any (names x) done))
   pub passed_length : length m.passed ≡ v.count
   pub stamps_length : length m.stamps ≡ v.count

@@ -89,5 +89,9 @@ pub fn look_directory<I: Image>(
         sound = both(sound, looked.sound);
         started = keep_start(offset, &chunk, started, start);
     }
-    Ok(Found { quiet, sound, started })
+    Ok(Found {
+        quiet,
+        sound,
+        started,
+    })
 }

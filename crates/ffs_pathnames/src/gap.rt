@@ -13,7 +13,13 @@ use ffs_volume::{Inode, Step};
 use ffs_walk::{Blocks, Walk};
 
 /// Whether a hole is among the steps of an inode that are kept.
-pub fn gap_of<I: Image>(geometry: &Geometry, image: &mut I, blocks: &mut Blocks, inode: &Inode, cut: u32) -> Result<bool, ImageFault>
+pub fn gap_of<I: Image>(
+    geometry: &Geometry,
+    image: &mut I,
+    blocks: &mut Blocks,
+    inode: &Inode,
+    cut: u32,
+) -> Result<bool, ImageFault>
     requires volume { geometry.now.layout.size * geometry.now.layout.fsize ≤ (I.device image.old).size }
     requires room { HasRoom geometry.now.layout blocks.old }
     requires holds { BlocksHold geometry.now.layout (I.device image.old).told blocks.old }
@@ -29,7 +35,13 @@ pub fn gap_of<I: Image>(geometry: &Geometry, image: &mut I, blocks: &mut Blocks,
     'steps: while keeping.is_seen() {
         match walk.next(image, blocks)? {
             None => return Ok(false),
-            Some(Step::Run { start, len, block: _block }) => {
+            Some(
+                Step::Run {
+                    start,
+                    len,
+                    block: _block,
+                },
+            ) => {
                 let _kept = keeping.take(geometry, start, len);
             }
             Some(Step::Tail) => {}

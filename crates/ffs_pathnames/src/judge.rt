@@ -50,7 +50,13 @@ fn label_of_kind(kind: u8) -> Label
 }
 
 /// What is wrong with an allocated inode that an entry names.
-fn faults_of(inodes: &Inodes<'_>, dir: u32, passed: &[bool], stamps: &[u32], entry: &Entry<'_>) -> Faults
+fn faults_of(
+    inodes: &Inodes<'_>,
+    dir: u32,
+    passed: &[bool],
+    stamps: &[u32],
+    entry: &Entry<'_>,
+) -> Faults
     requires inode { entry.now.number < length inodes.now.kinds.now }
     requires passed { length passed.now ≡ length inodes.now.kinds.now }
     requires stamps { length stamps.now ≡ length inodes.now.kinds.now }
@@ -73,7 +79,13 @@ fn faults_of(inodes: &Inodes<'_>, dir: u32, passed: &[bool], stamps: &[u32], ent
 }
 
 /// What a plain entry of a directory comes to.
-pub fn judge(inodes: &Inodes<'_>, dir: u32, passed: &[bool], stamps: &[u32], entry: &Entry<'_>) -> Verdict
+pub fn judge(
+    inodes: &Inodes<'_>,
+    dir: u32,
+    passed: &[bool],
+    stamps: &[u32],
+    entry: &Entry<'_>,
+) -> Verdict
     requires passed { length passed.now ≡ length inodes.now.kinds.now }
     requires stamps { length stamps.now ≡ length inodes.now.kinds.now }
     ensures below { IsTrue (asks_attr result) → entry.now.number < length inodes.now.kinds.now }
@@ -98,7 +110,14 @@ pub fn judge(inodes: &Inodes<'_>, dir: u32, passed: &[bool], stamps: &[u32], ent
 }
 
 /// A plain entry that names an inode is passed.
-pub fn pass(inodes: &Inodes<'_>, dir: u32, passed: &mut [bool], stamps: &mut [u32], role: Role, entry: &Entry<'_>)
+pub fn pass(
+    inodes: &Inodes<'_>,
+    dir: u32,
+    passed: &mut [bool],
+    stamps: &mut [u32],
+    role: Role,
+    entry: &Entry<'_>,
+)
     requires passed { length passed.old ≡ length inodes.now.kinds.now }
     requires stamps { length stamps.old ≡ length inodes.now.kinds.now }
     ensures { (v : Volume) → Sees v inodes.now →

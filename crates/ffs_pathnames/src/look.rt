@@ -10,8 +10,8 @@ ghost use Rattle.ffs_pathnames.specs.Marks as marks;
 ghost use Rattle.ffs_pathnames.specs.Sees.{Sees};
 
 use crate::inodes::Inodes;
-use ffs_names::role_of;
 use ffs_layout::{Entry, entry_at};
+use ffs_names::role_of;
 use ffs_volume::{Order, Role};
 
 /// Whether an entry has the number or the type of a whiteout, and not both.
@@ -67,7 +67,13 @@ fn is_quiet_plain(inodes: &Inodes<'_>, dir: u32, stamps: &[u32], entry: &Entry<'
 
 /// Whether nothing is told of an entry.
 #[tactic(auto, unfolding(crate::specs::Marks::is_quiet))]
-pub fn is_quiet(inodes: &Inodes<'_>, dir: u32, stamps: &[u32], role: Role, entry: &Entry<'_>) -> bool
+pub fn is_quiet(
+    inodes: &Inodes<'_>,
+    dir: u32,
+    stamps: &[u32],
+    role: Role,
+    entry: &Entry<'_>,
+) -> bool
     requires stamps { length stamps.now ≡ length inodes.now.kinds.now }
     requires dir { 2 ≤ dir }
     ensures { (v : Volume) → Sees v inodes.now → result ≡ marks.is_quiet v dir stamps.now (record { role = role; entry = seen_entry entry.now }) }
@@ -146,5 +152,8 @@ pub fn look_chunk(
         place += usize::from(entry.length);
         index += 1;
     }
-    Looked { quiet, sound: place == 512 }
+    Looked {
+        quiet,
+        sound: place == 512,
+    }
 }

@@ -46,7 +46,11 @@ pub fn say_check<W: Output>(report: &mut Report<'_, W>, check: &Check<'_>) -> Re
 }
 
 /// Says two lines, each where its test holds.
-pub fn say_two<W: Output>(report: &mut Report<'_, W>, first: &Check<'_>, second: &Check<'_>) -> Result<(), OutFault>
+pub fn say_two<W: Output>(
+    report: &mut Report<'_, W>,
+    first: &Check<'_>,
+    second: &Check<'_>,
+) -> Result<(), OutFault>
     ensures same { kept W.lent report.new ≡ kept W.lent report.old }
     ensures said { SaysNames (progress W.sink report.old) (progress W.sink report.new) (two_told first.now second.now) result }
 {

@@ -43,23 +43,50 @@ fn say_size<W: Output>(report: &mut Report<'_, W>, attr: Attr, path: &[u8]) -> R
     ensures same { kept W.lent report.new ≡ kept W.lent report.old }
     ensures said { SaysNames (progress W.sink report.old) (progress W.sink report.new) (size_told attr path.now) result }
 {
-    let short = Check { holds: is_short(attr.size), line: NameLine::Directory(DirectoryLine::DirShort { attr, path }) };
-    let broken = Check { holds: is_broken(attr.size), line: NameLine::Directory(DirectoryLine::DirLength { path, size: attr.size }) };
+    let short = Check {
+        holds: is_short(attr.size),
+        line: NameLine::Directory(DirectoryLine::DirShort { attr, path }),
+    };
+    let broken = Check {
+        holds: is_broken(attr.size),
+        line: NameLine::Directory(DirectoryLine::DirLength {
+            path,
+            size: attr.size,
+        }),
+    };
     say_two(report, &short, &broken)
 }
 
 /// Says that a directory has holes, or that a chunk isn't sound.
-fn say_chunks<W: Output>(report: &mut Report<'_, W>, attr: Attr, path: &[u8], gap: bool, sound: bool) -> Result<(), OutFault>
+fn say_chunks<W: Output>(
+    report: &mut Report<'_, W>,
+    attr: Attr,
+    path: &[u8],
+    gap: bool,
+    sound: bool,
+) -> Result<(), OutFault>
     ensures same { kept W.lent report.new ≡ kept W.lent report.old }
     ensures said { SaysNames (progress W.sink report.old) (progress W.sink report.new) (chunks_told attr path.now gap sound) result }
 {
-    let empty = Check { holds: gap, line: NameLine::Directory(DirectoryLine::DirEmpty { path }) };
-    let corrupt = Check { holds: !sound, line: NameLine::Directory(DirectoryLine::DirCorrupt { attr, path }) };
+    let empty = Check {
+        holds: gap,
+        line: NameLine::Directory(DirectoryLine::DirEmpty { path }),
+    };
+    let corrupt = Check {
+        holds: !sound,
+        line: NameLine::Directory(DirectoryLine::DirCorrupt { attr, path }),
+    };
     say_two(report, &empty, &corrupt)
 }
 
 /// Says what is wrong with a directory's size and chunks.
-fn say_shape<W: Output>(report: &mut Report<'_, W>, attr: Attr, path: &[u8], gap: bool, sound: bool) -> Result<(), OutFault>
+fn say_shape<W: Output>(
+    report: &mut Report<'_, W>,
+    attr: Attr,
+    path: &[u8],
+    gap: bool,
+    sound: bool,
+) -> Result<(), OutFault>
     ensures same { kept W.lent report.new ≡ kept W.lent report.old }
     ensures said { SaysNames (progress W.sink report.old) (progress W.sink report.new) (shape_told attr path.now gap sound) result }
 {
@@ -82,17 +109,35 @@ pub fn is_two_dots(name: &[u8]) -> bool
 }
 
 /// Says what is wrong with `.`: another number than the directory's own, or another type than a directory's.
-fn say_there<W: Output>(report: &mut Report<'_, W>, number: u32, attr: Attr, path: &[u8], entry: &Entry<'_>) -> Result<(), OutFault>
+fn say_there<W: Output>(
+    report: &mut Report<'_, W>,
+    number: u32,
+    attr: Attr,
+    path: &[u8],
+    entry: &Entry<'_>,
+) -> Result<(), OutFault>
     ensures same { kept W.lent report.new ≡ kept W.lent report.old }
     ensures said { SaysNames (progress W.sink report.old) (progress W.sink report.new) (there_told attr path.now number (seen_entry entry.now)) result }
 {
-    let other = Check { holds: entry.number != number, line: NameLine::Dot(DotLine::NumberDot { attr, path }) };
-    let kind = Check { holds: entry.kind != 4, line: NameLine::Dot(DotLine::KindDot { attr, path }) };
+    let other = Check {
+        holds: entry.number != number,
+        line: NameLine::Dot(DotLine::NumberDot { attr, path }),
+    };
+    let kind = Check {
+        holds: entry.kind != 4,
+        line: NameLine::Dot(DotLine::KindDot { attr, path }),
+    };
     say_two(report, &other, &kind)
 }
 
 /// Says what is wrong with `.`, the first entry.
-fn say_dot<W: Output>(report: &mut Report<'_, W>, number: u32, attr: Attr, path: &[u8], first: Option<Entry<'_>>) -> Result<(), OutFault>
+fn say_dot<W: Output>(
+    report: &mut Report<'_, W>,
+    number: u32,
+    attr: Attr,
+    path: &[u8],
+    first: Option<Entry<'_>>,
+) -> Result<(), OutFault>
     ensures same { kept W.lent report.new ≡ kept W.lent report.old }
     ensures said { SaysNames (progress W.sink report.old) (progress W.sink report.new)
         (dot_said attr path.now number (option_map seen_entry first.entry) (dot_in (option_map seen_entry first.entry))) result }
@@ -109,19 +154,35 @@ fn say_dot<W: Output>(report: &mut Report<'_, W>, number: u32, attr: Attr, path:
             if is_two_dots(entry.name) {
                 return report.say(&Line::Dot(DotLine::MissingDot { attr, path }));
             }
-            report.say(&Line::Dot(DotLine::MissingDotFirst { attr, path, name: entry.name }))
+            report.say(&Line::Dot(DotLine::MissingDotFirst {
+                attr,
+                path,
+                name: entry.name,
+            }))
         }
     }
 }
 
 /// Says what is wrong with `..`: another number than the parent's, where there is a parent, or another type than a
 /// directory's.
-fn say_above<W: Output>(report: &mut Report<'_, W>, parent: Option<u32>, attr: Attr, path: &[u8], entry: &Entry<'_>) -> Result<(), OutFault>
+fn say_above<W: Output>(
+    report: &mut Report<'_, W>,
+    parent: Option<u32>,
+    attr: Attr,
+    path: &[u8],
+    entry: &Entry<'_>,
+) -> Result<(), OutFault>
     ensures same { kept W.lent report.new ≡ kept W.lent report.old }
     ensures said { SaysNames (progress W.sink report.old) (progress W.sink report.new) (above_told attr path.now parent (seen_entry entry.now)) result }
 {
-    let other = Check { holds: is_other(parent, entry.number), line: NameLine::Dot(DotLine::NumberDotdot { attr, path }) };
-    let kind = Check { holds: entry.kind != 4, line: NameLine::Dot(DotLine::KindDotdot { attr, path }) };
+    let other = Check {
+        holds: is_other(parent, entry.number),
+        line: NameLine::Dot(DotLine::NumberDotdot { attr, path }),
+    };
+    let kind = Check {
+        holds: entry.kind != 4,
+        line: NameLine::Dot(DotLine::KindDotdot { attr, path }),
+    };
     say_two(report, &other, &kind)
 }
 
@@ -136,7 +197,13 @@ fn is_other(parent: Option<u32>, number: u32) -> bool
 }
 
 /// Says what is wrong with `..`, the second entry.
-fn say_dotdot<W: Output>(report: &mut Report<'_, W>, parent: Option<u32>, attr: Attr, path: &[u8], second: Option<Entry<'_>>) -> Result<(), OutFault>
+fn say_dotdot<W: Output>(
+    report: &mut Report<'_, W>,
+    parent: Option<u32>,
+    attr: Attr,
+    path: &[u8],
+    second: Option<Entry<'_>>,
+) -> Result<(), OutFault>
     ensures same { kept W.lent report.new ≡ kept W.lent report.old }
     ensures said { SaysNames (progress W.sink report.old) (progress W.sink report.new)
         (dotdot_said attr path.now parent (option_map seen_entry second.entry) (dotdot_in (option_map seen_entry second.entry))) result }
@@ -153,7 +220,11 @@ fn say_dotdot<W: Output>(report: &mut Report<'_, W>, parent: Option<u32>, attr: 
             if is_one_dot(entry.name) {
                 return report.say(&Line::Dot(DotLine::MissingDotdot { attr, path }));
             }
-            report.say(&Line::Dot(DotLine::MissingDotdotSecond { attr, path, name: entry.name }))
+            report.say(&Line::Dot(DotLine::MissingDotdotSecond {
+                attr,
+                path,
+                name: entry.name,
+            }))
         }
     }
 }
@@ -191,7 +262,15 @@ pub fn say_starts<W: Output>(
         (starts_told attr path.now number parent shape.entry.gap shape.entry.sound (option_map seen_entry shape.entry.first) (option_map seen_entry shape.entry.second)) result }
 {
     say_shape(report, attr, path, shape.gap, shape.sound)?;
-    say_dots(report, number, parent, attr, path, shape.first, shape.second)
+    say_dots(
+        report,
+        number,
+        parent,
+        attr,
+        path,
+        shape.first,
+        shape.second,
+    )
 }
 
 /// Whether nothing is wrong with `.`, the first entry.
@@ -201,7 +280,10 @@ fn is_dot_right(number: u32, first: Option<Entry<'_>>) -> bool
 {
     match first {
         None => false,
-        Some(entry) => entry.number != 0 && is_one_dot(entry.name) && entry.number == number && entry.kind == 4,
+        Some(entry) => entry.number != 0
+            && is_one_dot(entry.name)
+            && entry.number == number
+            && entry.kind == 4,
     }
 }
 
@@ -212,7 +294,10 @@ fn is_dotdot_right(parent: Option<u32>, second: Option<Entry<'_>>) -> bool
 {
     match second {
         None => false,
-        Some(entry) => entry.number != 0 && is_two_dots(entry.name) && !is_other(parent, entry.number) && entry.kind == 4,
+        Some(entry) => entry.number != 0
+            && is_two_dots(entry.name)
+            && !is_other(parent, entry.number)
+            && entry.kind == 4,
     }
 }
 

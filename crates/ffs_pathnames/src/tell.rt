@@ -10,7 +10,6 @@ ghost use Rattle.ffs_volume.specs.Parents.{graph_of};
 ghost use Rattle.ffs_volume.specs.Paths.{dir_path, entry_path};
 ghost use Rattle.ffs_volume.specs.Volumes.{volume_of};
 ghost use Rattle.ffs_layout.specs.Entry.{seen_entry};
-
 ghost use Rattle.ffs_phase.specs.Runs.{Reads, TellsOf};
 ghost use Rattle.ffs_report.specs.Progress.{progress, kept};
 ghost use Rattle.ffs_workspace.specs.Lengths.{IsFor, HoldWindows};
@@ -23,6 +22,7 @@ ghost use Rattle.ffs_pathnames.specs.Verdicts.{verdict_told};
 
 use crate::judge::{Verdict, judge};
 use crate::paths::path_text;
+use crate::starts::is_one_dot;
 use crate::told::say_verdict;
 use crate::view::view;
 use ffs_image::{Image, ImageFault};
@@ -30,7 +30,6 @@ use ffs_layout::{Entry, Geometry};
 use ffs_paths::PathText;
 use ffs_phase::RunFault;
 use ffs_report::{DotLine, Line, OutFault, Output, Report};
-use crate::starts::is_one_dot;
 use ffs_volume::{Attr, Inode};
 use ffs_workspace::Workspace;
 
@@ -39,12 +38,23 @@ use ffs_workspace::Workspace;
 fn attr_of(number: u32, inode: &Inode) -> Attr
     ensures value { result ≡ record { number = number; uid = inode.now.uid; mode = inode.now.mode; size = inode.now.size; mtime = inode.now.mtime } }
 {
-    Attr { number, uid: inode.uid, mode: inode.mode, size: inode.size, mtime: inode.mtime }
+    Attr {
+        number,
+        uid: inode.uid,
+        mode: inode.mode,
+        size: inode.size,
+        mtime: inode.mtime,
+    }
 }
 
 /// What messages show of the inode of a number.
 #[tactic(auto, unfolding(ffs_volume::specs::PathnameCheck::attributes, ffs_volume::specs::Volumes::volume_of, ffs_volume::specs::Volumes::volume_with))]
-pub fn read_attr<I: Image>(geometry: &Geometry, image: &mut I, workspace: &mut Workspace, number: u32) -> Result<Attr, ImageFault>
+pub fn read_attr<I: Image>(
+    geometry: &Geometry,
+    image: &mut I,
+    workspace: &mut Workspace,
+    number: u32,
+) -> Result<Attr, ImageFault>
     requires made { IsFor geometry.now.layout workspace.old }
     requires volume { geometry.now.layout.size * geometry.now.layout.fsize ≤ (I.device image.old).size }
     requires windows { HoldWindows geometry.now.layout (I.device image.old).told workspace.old }
@@ -73,7 +83,13 @@ fn asks(verdict: &Verdict) -> (bool, bool)
 }
 
 /// The attributes for a verdict: those of the inode, where they are asked for.
-fn gather_attr<I: Image>(geometry: &Geometry, image: &mut I, workspace: &mut Workspace, wanted: bool, number: u32) -> Result<Attr, ImageFault>
+fn gather_attr<I: Image>(
+    geometry: &Geometry,
+    image: &mut I,
+    workspace: &mut Workspace,
+    wanted: bool,
+    number: u32,
+) -> Result<Attr, ImageFault>
     requires made { IsFor geometry.now.layout workspace.old }
     requires volume { geometry.now.layout.size * geometry.now.layout.fsize ≤ (I.device image.old).size }
     requires windows { HoldWindows geometry.now.layout (I.device image.old).told workspace.old }
@@ -86,13 +102,26 @@ fn gather_attr<I: Image>(geometry: &Geometry, image: &mut I, workspace: &mut Wor
     ensures err { IfErr result (λ fault. Faulted (I.device image.old) (I.device image.new) fault.sector) }
 {
     if !wanted {
-        return Ok(Attr { number, uid: 0, mode: 0, size: 0, mtime: 0 });
+        return Ok(Attr {
+            number,
+            uid: 0,
+            mode: 0,
+            size: 0,
+            mtime: 0,
+        });
     }
     read_attr(geometry, image, workspace, number)
 }
 
 /// The path of a directory, where it is asked for.
-fn gather_path<I: Image>(geometry: &Geometry, image: &mut I, workspace: &mut Workspace, wanted: bool, dir: u32, text: &mut PathText) -> Result<(), ImageFault>
+fn gather_path<I: Image>(
+    geometry: &Geometry,
+    image: &mut I,
+    workspace: &mut Workspace,
+    wanted: bool,
+    dir: u32,
+    text: &mut PathText,
+) -> Result<(), ImageFault>
     requires made { IsFor geometry.now.layout workspace.old }
     requires volume { geometry.now.layout.size * geometry.now.layout.fsize ≤ (I.device image.old).size }
     requires windows { HoldWindows geometry.now.layout (I.device image.old).told workspace.old }
@@ -140,7 +169,14 @@ fn gather<I: Image>(
 {
     let (wants_attr, wants_path) = asks(verdict);
     path_text(geometry, image, workspace, dir, Some(entry.name), path)?;
-    gather_path(geometry, image, workspace, wants_path, entry.number, directory)?;
+    gather_path(
+        geometry,
+        image,
+        workspace,
+        wants_path,
+        entry.number,
+        directory,
+    )?;
     let attr = gather_attr(geometry, image, workspace, wants_attr, entry.number)?;
     Ok(attr)
 }
@@ -154,10 +190,16 @@ fn verdict_of(geometry: &Geometry, workspace: &Workspace, dir: u32, entry: &Entr
     ensures told { (b : List ℕ) → HoldsClaims geometry.now.layout b workspace.now → HoldsSurvey geometry.now.layout b workspace.now →
         plain_told (volume_of geometry.now.layout b) dir (marks_of workspace.now) (seen_entry entry.now)
         ≡ verdict_told result entry.now.number (attributes (volume_of geometry.now.layout b) entry.now.number)
-            (entry_path (graph_of (volume_of geometry.now.layout b)) dir entry.now.name.now) (dir_path (graph_of (volume_of geometry.now.layout b)) entry.now.number) }
+        (entry_path (graph_of (volume_of geometry.now.layout b)) dir entry.now.name.now) (dir_path (graph_of (volume_of geometry.now.layout b)) entry.now.number) }
 {
     let inodes = view(geometry, workspace);
-    judge(&inodes, dir, workspace.leaders.as_slice(), workspace.queue.as_slice(), entry)
+    judge(
+        &inodes,
+        dir,
+        workspace.leaders.as_slice(),
+        workspace.queue.as_slice(),
+        entry,
+    )
 }
 
 /// Whether a verdict tells nothing.
@@ -200,8 +242,24 @@ pub fn tell_plain<I: Image, W: Output>(
     }
     let mut path = PathText::new();
     let mut directory = PathText::new();
-    let attr = gather(geometry, image, workspace, dir, entry, &verdict, &mut path, &mut directory)?;
-    say_verdict(report, &verdict, entry.number, attr, path.as_slice(), directory.as_slice())?;
+    let attr = gather(
+        geometry,
+        image,
+        workspace,
+        dir,
+        entry,
+        &verdict,
+        &mut path,
+        &mut directory,
+    )?;
+    say_verdict(
+        report,
+        &verdict,
+        entry.number,
+        attr,
+        path.as_slice(),
+        directory.as_slice(),
+    )?;
     Ok(())
 }
 
@@ -234,7 +292,13 @@ pub fn tell_extra<I: Image, W: Output>(
 }
 
 /// Gathers what the messages on a directory show: its path into `path`, and its attributes.
-pub fn gather_dir<I: Image>(geometry: &Geometry, image: &mut I, workspace: &mut Workspace, dir: u32, path: &mut PathText) -> Result<Attr, ImageFault>
+pub fn gather_dir<I: Image>(
+    geometry: &Geometry,
+    image: &mut I,
+    workspace: &mut Workspace,
+    dir: u32,
+    path: &mut PathText,
+) -> Result<Attr, ImageFault>
     requires made { IsFor geometry.now.layout workspace.old }
     requires volume { geometry.now.layout.size * geometry.now.layout.fsize ≤ (I.device image.old).size }
     requires windows { HoldWindows geometry.now.layout (I.device image.old).told workspace.old }
@@ -253,7 +317,12 @@ pub fn gather_dir<I: Image>(geometry: &Geometry, image: &mut I, workspace: &mut 
 }
 
 /// Says that an entry is extra.
-fn say_extra<W: Output>(report: &mut Report<'_, W>, attr: Attr, path: &[u8], entry: &Entry<'_>) -> Result<(), OutFault>
+fn say_extra<W: Output>(
+    report: &mut Report<'_, W>,
+    attr: Attr,
+    path: &[u8],
+    entry: &Entry<'_>,
+) -> Result<(), OutFault>
     ensures same { kept W.lent report.new ≡ kept W.lent report.old }
     ensures said { SaysNames (progress W.sink report.old) (progress W.sink report.new) (extra_told attr path.now (seen_entry entry.now)) result }
 {

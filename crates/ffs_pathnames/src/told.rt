@@ -12,7 +12,12 @@ use ffs_report::{EntryLine, OutFault, Output, Report};
 use ffs_volume::Attr;
 
 /// Says that an inode is suspect, if it is.
-fn say_suspect<W: Output>(report: &mut Report<'_, W>, faults: &Faults, attr: Attr, path: &[u8]) -> Result<(), OutFault>
+fn say_suspect<W: Output>(
+    report: &mut Report<'_, W>,
+    faults: &Faults,
+    attr: Attr,
+    path: &[u8],
+) -> Result<(), OutFault>
     ensures same { kept W.lent report.new ≡ kept W.lent report.old }
     ensures said { SaysNames (progress W.sink report.old) (progress W.sink report.new) (told faults.now.suspect (suspect_message faults.now attr path.now)) result }
 {
@@ -20,23 +25,55 @@ fn say_suspect<W: Output>(report: &mut Report<'_, W>, faults: &Faults, attr: Att
         return Ok(());
     }
     if faults.marked {
-        return say_line(report, &NameLine::Entry(EntryLine::DupBad { label: faults.label, attr, path }));
+        return say_line(
+            report,
+            &NameLine::Entry(EntryLine::DupBad {
+                label: faults.label,
+                attr,
+                path,
+            }),
+        );
     }
     say_line(report, &NameLine::Entry(EntryLine::ZeroDir { attr, path }))
 }
 
 /// Says that a directory has another parent entry, and that an inode has another type.
-fn say_links<W: Output>(report: &mut Report<'_, W>, faults: &Faults, attr: Attr, path: &[u8], directory: &[u8]) -> Result<(), OutFault>
+fn say_links<W: Output>(
+    report: &mut Report<'_, W>,
+    faults: &Faults,
+    attr: Attr,
+    path: &[u8],
+    directory: &[u8],
+) -> Result<(), OutFault>
     ensures same { kept W.lent report.new ≡ kept W.lent report.old }
     ensures said { SaysNames (progress W.sink report.old) (progress W.sink report.new) (links_told faults.now attr path.now directory.now) result }
 {
-    let extraneous = Check { holds: faults.extraneous, line: NameLine::Entry(EntryLine::Extraneous { path, dir: directory }) };
-    let kind = Check { holds: faults.kind, line: NameLine::Entry(EntryLine::KindEntry { label: faults.label, attr, path }) };
+    let extraneous = Check {
+        holds: faults.extraneous,
+        line: NameLine::Entry(EntryLine::Extraneous {
+            path,
+            dir: directory,
+        }),
+    };
+    let kind = Check {
+        holds: faults.kind,
+        line: NameLine::Entry(EntryLine::KindEntry {
+            label: faults.label,
+            attr,
+            path,
+        }),
+    };
     say_two(report, &extraneous, &kind)
 }
 
 /// Says what is wrong with an allocated inode that an entry names.
-fn say_faults<W: Output>(report: &mut Report<'_, W>, faults: &Faults, attr: Attr, path: &[u8], directory: &[u8]) -> Result<(), OutFault>
+fn say_faults<W: Output>(
+    report: &mut Report<'_, W>,
+    faults: &Faults,
+    attr: Attr,
+    path: &[u8],
+    directory: &[u8],
+) -> Result<(), OutFault>
     ensures same { kept W.lent report.new ≡ kept W.lent report.old }
     ensures said { SaysNames (progress W.sink report.old) (progress W.sink report.new) (faults_told faults.now attr path.now directory.now) result }
 {
@@ -57,10 +94,19 @@ pub fn say_verdict<W: Output>(
     ensures said { SaysNames (progress W.sink report.old) (progress W.sink report.new) (verdict_told verdict.now number attr path.now directory.now) result }
 {
     match verdict {
-        Verdict::OutOfRange => say_line(report, &NameLine::Entry(EntryLine::OutOfRange { number, path })),
-        Verdict::Whiteout => say_line(report, &NameLine::Entry(EntryLine::Whiteout { number, path })),
+        Verdict::OutOfRange => say_line(
+            report,
+            &NameLine::Entry(EntryLine::OutOfRange { number, path }),
+        ),
+        Verdict::Whiteout => say_line(
+            report,
+            &NameLine::Entry(EntryLine::Whiteout { number, path }),
+        ),
         Verdict::Fine => Ok(()),
-        Verdict::Unallocated => say_line(report, &NameLine::Entry(EntryLine::Unallocated { attr, path })),
+        Verdict::Unallocated => say_line(
+            report,
+            &NameLine::Entry(EntryLine::Unallocated { attr, path }),
+        ),
         Verdict::Named(faults) => say_faults(report, faults, attr, path, directory),
     }
 }

@@ -23,7 +23,7 @@ chunks-init g c = record {
   quiet = λ b t v s h. ap (λ cs. are_quiet v c.args.dir c.args.stamps.now (flat_map chunk_seen cs)) (sym (c.start-chunks.ensures.chunks b h));
   stamps = λ b t v s h. ap (λ cs. after_looks v c.args.dir c.args.stamps.now (flat_map chunk_seen cs)) (sym (c.start-chunks.ensures.chunks b h));
   sound = λ b t h. ap are_sound (sym (c.start-chunks.ensures.chunks b h));
-  started = λ b t h. ap (find (λ x. x.offset == 0)) (sym (c.start-chunks.ensures.chunks b h))
+  started = λ b t h. ap (find (λ x. x.offset == 0)) (sym (c.start-chunks.ensures.chunks b h));
 }
 
 pub chunks-preserved : goal.chunks-preserved
@@ -34,7 +34,7 @@ chunks-preserved g c =
     let order = c.args.geometry.now.layout.order in
     let here : Chunk = chunk_of order c.in-Some.offset c.next.new.chunk in
     let next = λ (b : List ℕ) (t : (g.I.Image.device c.args.image.now).told ≡ Some b).
-      read b (now b t) ∙ ap (λ q. chunk_of q.layout.order c.in-Some.offset c.next.new.chunk ∷ rest b c.next.new.self) inv.geometry in
+    read b (now b t) ∙ ap (λ q. chunk_of q.layout.order c.in-Some.offset c.next.new.chunk ∷ rest b c.next.new.self) inv.geometry in
     rw (c.both-quiet.ensures, c.both-sound.ensures) (record {
       same = c.in_ok-offset.ensures.ok ∙ inv.same;
       geometry = c.in_ok-offset.ensures.geometry ∙ inv.geometry;
@@ -44,13 +44,13 @@ chunks-preserved g c =
       data_size = c.in_ok-offset.ensures.data_size ∙ inv.data_size;
       data_holds = c.in_ok-offset.ensures.data_holds;
       quiet = λ b t v s h. chunk_quiet v c.args.dir c.chunks.stamps c.look_chunk-looked.new.stamps (rest b c.chunks.chunks) (rest b c.next.new.self) here
-        _ c.chunks.quiet c.look_chunk-looked.result.quiet (next b t) (c.look_chunk-looked.ensures.quiet v s) (c.look_chunk-looked.ensures.stamps v s) (inv.quiet b t v s h);
+          _ c.chunks.quiet c.look_chunk-looked.result.quiet (next b t) (c.look_chunk-looked.ensures.quiet v s) (c.look_chunk-looked.ensures.stamps v s) (inv.quiet b t v s h);
       stamps = λ b t v s h. chunk_stamps v c.args.dir c.chunks.stamps c.look_chunk-looked.new.stamps _ (rest b c.chunks.chunks) (rest b c.next.new.self) here
-        (next b t) (c.look_chunk-looked.ensures.stamps v s) (inv.stamps b t v s h);
+          (next b t) (c.look_chunk-looked.ensures.stamps v s) (inv.stamps b t v s h);
       sound = λ b t h. chunk_sound (rest b c.chunks.chunks) (rest b c.next.new.self) here _ c.chunks.sound c.look_chunk-looked.result.sound
-        (next b t) c.look_chunk-looked.ensures.sound (inv.sound b t h);
+          (next b t) c.look_chunk-looked.ensures.sound (inv.sound b t h);
       started = λ b t h. inv.started b t h ∙ (ap (λ l. start_of l c.chunks.started order c.chunks.start) (next b t)
-        ∙ c.keep_start-started.ensures order (rest b c.next.new.self))
+          ∙ c.keep_start-started.ensures order (rest b c.next.new.self));
     })
 
 pub returns-clause-quiet : goal.returns-clause-quiet

@@ -21,15 +21,15 @@ invariant-chunks g l = let device = g.I.Image.device in record {
   data_size : vec_len l.data.buffer ≡ vec_len l.initial.data.buffer;
   data_holds : WindowHolds (device l.image).told l.data;
   quiet : WhereTold (device l.initial.image).told (λ b. (v : Volume) → Sees v l.inodes → l.inode.size < 2 ^ 31 →
-    are_quiet v l.dir l.initial.stamps (flat_map chunk_seen (chunks_read l.geometry.layout l.inode l.cut b))
+      are_quiet v l.dir l.initial.stamps (flat_map chunk_seen (chunks_read l.geometry.layout l.inode l.cut b))
       ≡ (l.quiet && are_quiet v l.dir l.stamps (flat_map chunk_seen (rest b l.chunks))));
   stamps : WhereTold (device l.initial.image).told (λ b. (v : Volume) → Sees v l.inodes → l.inode.size < 2 ^ 31 →
-    after_looks v l.dir l.initial.stamps (flat_map chunk_seen (chunks_read l.geometry.layout l.inode l.cut b))
+      after_looks v l.dir l.initial.stamps (flat_map chunk_seen (chunks_read l.geometry.layout l.inode l.cut b))
       ≡ after_looks v l.dir l.stamps (flat_map chunk_seen (rest b l.chunks)));
   sound : WhereTold (device l.initial.image).told (λ b. l.inode.size < 2 ^ 31 →
-    are_sound (chunks_read l.geometry.layout l.inode l.cut b) ≡ (l.sound && are_sound (rest b l.chunks)));
+      are_sound (chunks_read l.geometry.layout l.inode l.cut b) ≡ (l.sound && are_sound (rest b l.chunks)));
   started : WhereTold (device l.initial.image).told (λ b. l.inode.size < 2 ^ 31 →
-    find (λ c. c.offset == 0) (chunks_read l.geometry.layout l.inode l.cut b) ≡ start_of (rest b l.chunks) l.started l.order l.start)
+      find (λ c. c.offset == 0) (chunks_read l.geometry.layout l.inode l.cut b) ≡ start_of (rest b l.chunks) l.started l.order l.start);
 }
 
 abbrev pub decreases-chunks : goal.decreases-chunks

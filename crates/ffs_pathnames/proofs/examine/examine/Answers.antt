@@ -26,8 +26,11 @@ returns-clause-found g c = λ b t h r d.
     let cut = get_or_read_under c.args.workspace.now.cut.items c.args.dir _ c.index-cut.result.now 0 c.index-cut.ensures (subst (λ n. c.args.dir < n) (sym c.requires.made.cut) c.requires.number) c.args.workspace.now.cut.ok.0 ∙ h.cut c.args.dir in
     let chunks = chunks_are v b c.args.dir c.in_ok-inode.inode c.index-cut.result.now sound number inode cut in
     let shows = sees v b c.args.workspace.now _ (record {
-      kinds = c.as_slice.ensures.value; marked = c.as_slice-2.ensures.value; parents = c.as_slice-3.ensures.value;
-      count = c.as_slice.ensures.len ∙ c.requires.made.kinds }) h r in
+      kinds = c.as_slice.ensures.value;
+      marked = c.as_slice-2.ensures.value;
+      parents = c.as_slice-3.ensures.value;
+      count = c.as_slice.ensures.len ∙ c.requires.made.kinds;
+    }) h r in
     let long = c.look_directory.auto.stamps ∙ c.as_mut_slice.ensures.len in
     record {
       inode = inode;
@@ -35,10 +38,10 @@ returns-clause-found g c = λ b t h r d.
       sound = c.in_ok-found.ensures.sound b t2 small ∙ ap are_sound chunks;
       started = sym (ap (find (λ x. x.offset == 0)) chunks) ∙ c.in_ok-found.ensures.started b t2 small;
       quiet = c.in_ok-found.ensures.quiet b t2 (volume_of v b) shows small
-        ∙ (ap (λ q. are_quiet (volume_of v b) c.args.dir q (flat_map chunk_seen (chunks_read c.args.geometry.now.layout c.in_ok-inode.inode c.index-cut.result.now b))) c.as_mut_slice.ensures.value
-        ∙ ap (are_quiet (volume_of v b) c.args.dir c.args.workspace.now.queue.items) (seen_are v b c.args.dir _ chunks));
+          ∙ (ap (λ q. are_quiet (volume_of v b) c.args.dir q (flat_map chunk_seen (chunks_read c.args.geometry.now.layout c.in_ok-inode.inode c.index-cut.result.now b))) c.as_mut_slice.ensures.value
+          ∙ ap (are_quiet (volume_of v b) c.args.dir c.args.workspace.now.queue.items) (seen_are v b c.args.dir _ chunks));
       stamps = with_items_is c.args.workspace.now.queue c.look_directory.new.stamps long
-        ∙ (c.in_ok-found.ensures.stamps b t2 (volume_of v b) shows small
-        ∙ (ap (λ q. after_looks (volume_of v b) c.args.dir q (flat_map chunk_seen (chunks_read c.args.geometry.now.layout c.in_ok-inode.inode c.index-cut.result.now b))) c.as_mut_slice.ensures.value
-        ∙ ap (after_looks (volume_of v b) c.args.dir c.args.workspace.now.queue.items) (seen_are v b c.args.dir _ chunks)))
+          ∙ (c.in_ok-found.ensures.stamps b t2 (volume_of v b) shows small
+          ∙ (ap (λ q. after_looks (volume_of v b) c.args.dir q (flat_map chunk_seen (chunks_read c.args.geometry.now.layout c.in_ok-inode.inode c.index-cut.result.now b))) c.as_mut_slice.ensures.value
+          ∙ ap (after_looks (volume_of v b) c.args.dir c.args.workspace.now.queue.items) (seen_are v b c.args.dir _ chunks)));
     }

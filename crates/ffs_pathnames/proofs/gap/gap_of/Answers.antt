@@ -16,7 +16,7 @@ steps-preserved-in-Some-Run g c =
       size = c.next.ensures.size ∙ inv.size;
       holds = rw inv.geometry at c.next.ensures.holds;
       gap = λ b t. run_on c.args.geometry.now.layout c.args.cut (replay_in c.steps.keeping) (replay_in c.take-kept.new.self) r.start r.len r._block _ (rest b c.steps.walk) (rest b c.next.new.self)
-        (read b (ap (λ d. d.told) inv.same ∙ t)) (rw inv.cut at (c.take-kept.ensures.after r._block)) (inv.gap b t)
+          (read b (ap (λ d. d.told) inv.same ∙ t)) (rw inv.cut at (c.take-kept.ensures.after r._block)) (inv.gap b t);
     }
 
 pub steps-preserved : goal.steps-preserved
@@ -31,7 +31,7 @@ steps-preserved g c =
       size = c.next.ensures.size ∙ inv.size;
       holds = rw inv.geometry at c.next.ensures.holds;
       gap = λ b t. tail_on c.args.geometry.now.layout c.args.cut (replay_in c.steps.keeping) _ (rest b c.steps.walk) (rest b c.next.new.self)
-        (read b (ap (λ d. d.told) inv.same ∙ t)) (inv.gap b t)
+          (read b (ap (λ d. d.told) inv.same ∙ t)) (inv.gap b t);
     }
 
 pub returns-in-Some-Gap-clause-gap : goal.returns-in-Some-Gap-clause-gap
@@ -40,7 +40,7 @@ returns-in-Some-Gap-clause-gap g c = λ b t.
     let r = c.in-Some-Gap in
     let read = rw r.field-0-is at (rw r.is at c.in_ok-next.ensures.steps) in
     gap_found c.args.geometry.now.layout c.args.cut (replay_in c.steps.keeping) _ (rest b c.steps.walk) (rest b c.next.new.self)
-      (rw inv.cut at (sym c.is_seen.ensures ∙ c.steps-test.true)) (read b (ap (λ d. d.told) inv.same ∙ t)) (inv.gap b t)
+    (rw inv.cut at (sym c.is_seen.ensures ∙ c.steps-test.true)) (read b (ap (λ d. d.told) inv.same ∙ t)) (inv.gap b t)
 
 pub returns-clause-gap : goal.returns-clause-gap
 returns-clause-gap g c = λ b t.

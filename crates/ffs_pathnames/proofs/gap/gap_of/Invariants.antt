@@ -17,8 +17,8 @@ invariant-steps g l = let device = g.I.Image.device in record {
   size : vec_len l.blocks.buffer ≡ vec_len l.initial.blocks.buffer;
   holds : BlocksHold l.geometry.layout (device l.image).told l.blocks;
   gap : WhereTold (device l.initial.image).told (λ b.
-    has_gap (replayed_steps l.geometry.layout l.cut fresh_replay (steps_of l.geometry.layout l.inode b))
-      ≡ has_gap (replayed_steps l.geometry.layout l.cut (replay_in l.keeping) (rest b l.walk)))
+      has_gap (replayed_steps l.geometry.layout l.cut fresh_replay (steps_of l.geometry.layout l.inode b))
+      ≡ has_gap (replayed_steps l.geometry.layout l.cut (replay_in l.keeping) (rest b l.walk)));
 }
 
 abbrev pub decreases-steps : goal.decreases-steps

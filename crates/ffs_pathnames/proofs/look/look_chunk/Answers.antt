@@ -22,25 +22,25 @@ entries-preserved c =
       index = omega arith;
       stamps_long = omega arith;
       quiet = λ v s. quiet_on v c.args.dir c.entries.stamps c.look_at-here.new.stamps seen
-        (seen_at_place c.args.order c.args.chunk.now c.args.first c.entries.index c.entries.place)
-        (seen_at_place c.args.order c.args.chunk.now c.args.first (c.entries.index + 1) (c.entries.place + c.in-Some.entry.length))
-        _ c.entries.quiet c.look_at-here.result next (c.look_at-here.ensures.quiet v s) (c.look_at-here.ensures.stamps v s) (c.entries.invariant.quiet v s);
+          (seen_at_place c.args.order c.args.chunk.now c.args.first c.entries.index c.entries.place)
+          (seen_at_place c.args.order c.args.chunk.now c.args.first (c.entries.index + 1) (c.entries.place + c.in-Some.entry.length))
+          _ c.entries.quiet c.look_at-here.result next (c.look_at-here.ensures.quiet v s) (c.look_at-here.ensures.stamps v s) (c.entries.invariant.quiet v s);
       stamps = λ v s. stamps_on v c.args.dir c.entries.stamps c.look_at-here.new.stamps _ seen
-        (seen_at_place c.args.order c.args.chunk.now c.args.first c.entries.index c.entries.place)
-        (seen_at_place c.args.order c.args.chunk.now c.args.first (c.entries.index + 1) (c.entries.place + c.in-Some.entry.length))
-        next (c.look_at-here.ensures.stamps v s) (c.entries.invariant.stamps v s);
-      sound = length_on c.args.order c.args.chunk.now c.entries.place _ e there c.entries.invariant.sound
+          (seen_at_place c.args.order c.args.chunk.now c.args.first c.entries.index c.entries.place)
+          (seen_at_place c.args.order c.args.chunk.now c.args.first (c.entries.index + 1) (c.entries.place + c.in-Some.entry.length))
+          next (c.look_at-here.ensures.stamps v s) (c.entries.invariant.stamps v s);
+      sound = length_on c.args.order c.args.chunk.now c.entries.place _ e there c.entries.invariant.sound;
     })
 
 pub returns-clause-quiet : goal.returns-clause-quiet
 returns-clause-quiet c = λ v s.
     quiet_ends v c.args.dir c.entries.stamps c.args.first c.entries.index c.args.order c.args.chunk.now c.entries.place _ c.entries.quiet
-      (none c.args.order c.args.chunk.now c.entries.place c.entry_at.result c.in_default.is c.entry_at.ensures.value) (c.entries.invariant.quiet v s)
+    (none c.args.order c.args.chunk.now c.entries.place c.entry_at.result c.in_default.is c.entry_at.ensures.value) (c.entries.invariant.quiet v s)
 
 pub returns-clause-stamps : goal.returns-clause-stamps
 returns-clause-stamps c = λ v s.
     stamps_end v c.args.dir c.entries.stamps _ c.args.first c.entries.index c.args.order c.args.chunk.now c.entries.place
-      (none c.args.order c.args.chunk.now c.entries.place c.entry_at.result c.in_default.is c.entry_at.ensures.value) (c.entries.invariant.stamps v s)
+    (none c.args.order c.args.chunk.now c.entries.place c.entry_at.result c.in_default.is c.entry_at.ensures.value) (c.entries.invariant.stamps v s)
 
 pub returns-clause-sound : goal.returns-clause-sound
 returns-clause-sound c =

@@ -8,9 +8,9 @@ use Rattle.ffs_pathnames.proofs.starts.say_dots.Goals as goal
 pub returns-in_err-say_dot-clause-said : goal.returns-in_err-say_dot-clause-said
 returns-in_err-say_dot-clause-said g c =
     first_stops _ _ (dot_said c.args.attr c.args.path.now c.args.number (option_map seen_entry c.args.first) (dot_in (option_map seen_entry c.args.first))) (dotdot_said c.args.attr c.args.path.now c.args.parent (option_map seen_entry c.args.second) (dotdot_in (option_map seen_entry c.args.second)))
-      c.from_residual.result c.from_residual.ensures.0 c.in_err-say_dot.ensures.said
+    c.from_residual.result c.from_residual.ensures.0 c.in_err-say_dot.ensures.said
 
 pub returns-clause-said : goal.returns-clause-said
 returns-clause-said g c =
     names_then _ _ _ (dot_said c.args.attr c.args.path.now c.args.number (option_map seen_entry c.args.first) (dot_in (option_map seen_entry c.args.first))) (dotdot_said c.args.attr c.args.path.now c.args.parent (option_map seen_entry c.args.second) (dotdot_in (option_map seen_entry c.args.second)))
-      _ c.in_ok-say_dot.ensures.said c.say_dotdot.ensures.said
+    _ c.in_ok-say_dot.ensures.said c.say_dotdot.ensures.said

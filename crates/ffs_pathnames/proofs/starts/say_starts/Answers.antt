@@ -9,10 +9,10 @@ pub returns-in_err-say_shape-clause-said : goal.returns-in_err-say_shape-clause-
 unfolding starts_told
 returns-in_err-say_shape-clause-said g c =
     first_stops _ _ (shape_told c.args.attr c.args.path.now c.args.shape.gap c.args.shape.sound) (dots_told c.args.attr c.args.path.now c.args.number c.args.parent (option_map seen_entry c.args.shape.first) (option_map seen_entry c.args.shape.second))
-      c.from_residual.result c.from_residual.ensures.0 c.in_err-say_shape.ensures.said
+    c.from_residual.result c.from_residual.ensures.0 c.in_err-say_shape.ensures.said
 
 pub returns-clause-said : goal.returns-clause-said
 unfolding starts_told
 returns-clause-said g c =
     names_then _ _ _ (shape_told c.args.attr c.args.path.now c.args.shape.gap c.args.shape.sound) (dots_told c.args.attr c.args.path.now c.args.number c.args.parent (option_map seen_entry c.args.shape.first) (option_map seen_entry c.args.shape.second))
-      _ c.in_ok-say_shape.ensures.said c.say_dots.ensures.said
+    _ c.in_ok-say_shape.ensures.said c.say_dots.ensures.said

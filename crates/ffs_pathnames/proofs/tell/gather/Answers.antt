@@ -11,7 +11,7 @@ returns-clause-enough g c = λ b t h r d l.
     let t1 = ap (λ x. x.told) c.in_ok-path_text.ensures.ok ∙ t in
     let t2 = ap (λ x. x.told) (c.in_ok-gather_path.ensures.ok ∙ c.in_ok-path_text.ensures.ok) ∙ t in
     enough (volume_of v b) c.args.verdict.now c.args.dir c.args.entry.now.number c.args.entry.now.name.now c.in_ok-attr.attr c.path_text.new.text.items c.gather_path.new.text.items
-      (λ q. c.in_ok-attr.ensures.attr b t2 (c.asks-wants_attr.ensures.attr ∙ q))
-      (c.in_ok-path_text.ensures.path b t h r)
-      (λ q. c.in_ok-gather_path.ensures.path b t1 (claims_stay v b c.args.workspace.now c.path_text.new.workspace left h) (survey_stays v b c.args.workspace.now c.path_text.new.workspace left r)
-        (c.asks-wants_attr.ensures.directory ∙ q) (l q))
+    (λ q. c.in_ok-attr.ensures.attr b t2 (c.asks-wants_attr.ensures.attr ∙ q))
+    (c.in_ok-path_text.ensures.path b t h r)
+    (λ q. c.in_ok-gather_path.ensures.path b t1 (claims_stay v b c.args.workspace.now c.path_text.new.workspace left h) (survey_stays v b c.args.workspace.now c.path_text.new.workspace left r)
+    (c.asks-wants_attr.ensures.directory ∙ q) (l q))

@@ -9,7 +9,7 @@ pub returns-clause-linked : goal.returns-clause-linked
 returns-clause-linked c = λ b h r q.
     let e = c.view-inodes.ensures in
     c.judge.ensures.linked (volume_of c.args.geometry.now.layout b)
-      (sees c.args.geometry.now.layout b c.args.workspace.now c.view-inodes.result (record { kinds = e.kinds; marked = e.marked; parents = e.parents; count = e.count }) h r) q
+    (sees c.args.geometry.now.layout b c.args.workspace.now c.view-inodes.result (record { kinds = e.kinds; marked = e.marked; parents = e.parents; count = e.count }) h r) q
 
 pub returns-clause-told : goal.returns-clause-told
 returns-clause-told c = λ b h r.
@@ -18,4 +18,4 @@ returns-clause-told c = λ b h r.
     sym (ap (λ ms. plain_told (volume_of v b) c.args.dir (record { passed = ms; stamps = c.args.workspace.now.queue.items }) (seen_entry c.args.entry.now)) c.as_slice.ensures.value)
     ∙ (sym (ap (λ ms. plain_told (volume_of v b) c.args.dir (record { passed = c.as_slice.result.now; stamps = ms }) (seen_entry c.args.entry.now)) c.as_slice-2.ensures.value)
     ∙ c.judge.ensures.told (volume_of v b)
-      (sees v b c.args.workspace.now c.view-inodes.result (record { kinds = e.kinds; marked = e.marked; parents = e.parents; count = e.count }) h r))
+    (sees v b c.args.workspace.now c.view-inodes.result (record { kinds = e.kinds; marked = e.marked; parents = e.parents; count = e.count }) h r))
