@@ -7,8 +7,6 @@ pub mod opening;
 pub mod rest;
 pub mod run;
 #[cfg(test)]
-mod small;
-#[cfg(test)]
 mod tests;
 mod words;
 
