@@ -7,6 +7,8 @@ pub mod opening;
 pub mod rest;
 pub mod run;
 #[cfg(test)]
+mod small;
+#[cfg(test)]
 mod tests;
 mod words;
 
