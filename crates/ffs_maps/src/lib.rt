@@ -131,3 +131,6 @@ impl FragmentMap {
         true
     }
 }
+
+#[cfg(test)]
+mod tests;
