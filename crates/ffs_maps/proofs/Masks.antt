@@ -2,10 +2,10 @@
 use Rattle.std.proofs.Common.{◌≡◌, ◌⊎◌, inl, inr, ℕ, zero, suc, ◌+◌, ◌-◌, ◌*◌, ◌/◌, ◌%◌, ◌^◌, ◌<◌, ◌≤◌, Bool, true, false, List, length, get_or, nat_eq, slice_set, bit_or, bit_and, arith, refl, ap, ◌∙◌, sym, length-set, min, max}
 use Rattle.std.specs.Int.{bit_at}
 use Rattle.std.proofs.lemmas.List.{same_lists, get_or-set_other, get_or-set_same}
-use Rattle.std.proofs.lemmas.Bool.{cases_eq, cases_order}
+use Rattle.std.proofs.lemmas.Bool.{cases_eq, cases_lt, cases_order}
 use Rattle.std.proofs.lemmas.Nat.{pow-add, shl_below}
 use Rattle.std.proofs.Math.Nat.{one-le-pow, pow-le-pow_right}
-use Rattle.std.proofs.lemmas.Nat.Bits.{bit_at_or, bit_at_and, bit_at-zero, bit_at-lt, bit_at_mask_inside, bit_at_mask_below, bit_at_mask_above, ones_shr}
+use Rattle.std.proofs.lemmas.Nat.Bits.{bit_at_or, bit_at_and, bit_at-zero, bit_at-lt, bit_at_mask_inside, bit_at_mask_below, bit_at_mask_above, ones_shr, same_from_bits}
 use Rattle.ffs_maps.specs.Bits.{is_bit, bits_of_words, set_run, AreClear}
 use Rattle.ffs_maps.proofs.Bits.{length_bits, get_bits}
 
@@ -62,6 +62,40 @@ clear_run words size start len h below e = λ k low.
     ∙ ap (λ j. nat_eq (bit_at (get_or words j 0) ((start + k) % 64)) 1) place
     ∙ ap (λ j. nat_eq (bit_at (get_or words (start / 64) 0) j) 1) bit
     ∙ ap (λ x. nat_eq x 1) (min_one _ (bit_at-lt _ (start % 64 + k)) (rw (bit_at_mask_inside (start % 64) (start % 64 + len) (start % 64 + k) (omega arith) (omega arith)) at none))
+
+min_zero : (a b : ℕ) → b ≡ 0 → min a b ≡ 0
+min_zero a b e = omega arith
+
+zero_min : (a b : ℕ) → a ≡ 0 → min a b ≡ 0
+zero_min a b e = omega arith
+
+not_one : (b : ℕ) → b < 2 → nat_eq b 1 ≡ false → b ≡ 0
+not_one b h e = grind arith
+
+-- a run of clear bits has none in common with its mask
+pub run_clear : (words : List ℕ) (size start len : ℕ) → start % 64 + len ≤ 64 → start + len ≤ size → AreClear (bits_of_words words size) start len →
+    bit_and (get_or words (start / 64) 0) (2 ^ (start % 64 + len) - 2 ^ (start % 64)) ≡ 0
+run_clear words size start len h below clear =
+    same_from_bits _ 0 (λ i. bit_at_and _ (2 ^ (start % 64 + len) - 2 ^ (start % 64)) i ∙ at i ∙ sym (bit_at-zero i))
+  where
+    inside : (k : ℕ) → k < len → nat_eq (bit_at (get_or words (start / 64) 0) (start % 64 + k)) 1 ≡ false
+    inside k low =
+        let place : (start + k) / 64 ≡ start / 64 = omega arith in
+        let bit : (start + k) % 64 ≡ start % 64 + k = omega arith in
+        ap (λ j. nat_eq (bit_at (get_or words j 0) (start % 64 + k)) 1) (sym place)
+        ∙ ap (λ j. nat_eq (bit_at (get_or words ((start + k) / 64) 0) j) 1) (sym bit)
+        ∙ sym (get_bits words size (start + k) false (omega arith)) ∙ clear k low
+
+    at : (i : ℕ) → min (bit_at (get_or words (start / 64) 0) i) (bit_at (2 ^ (start % 64 + len) - 2 ^ (start % 64)) i) ≡ 0
+    at i = elim (cases_lt i (start % 64)) [
+      | inl low ↦ min_zero _ _ (bit_at_mask_below (start % 64) (start % 64 + len) i low)
+      | inr past ↦ elim (cases_lt i (start % 64 + len)) [
+        | inl within ↦
+            let k : start % 64 + (i - start % 64) ≡ i = omega arith in
+            zero_min _ _ (not_one _ (bit_at-lt _ i) (ap (λ j. nat_eq (bit_at (get_or words (start / 64) 0) j) 1) (sym k) ∙ inside (i - start % 64) (omega arith)))
+        | inr above ↦ min_zero _ _ (bit_at_mask_above (start % 64) (start % 64 + len) i above)
+      ]
+    ]
 
 or_zero : (a b : ℕ) → b ≡ 0 → max a b ≡ a
 or_zero a b e = omega arith

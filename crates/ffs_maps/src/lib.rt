@@ -1,7 +1,7 @@
 //! A bit for each fragment of a volume, in words of 64.
 #![tactic(auto)]
 
-ghost use Rattle.std.specs.Prelude.{ℕ, nat_eq, ◌≡◌, ◌+◌, ◌*◌, ◌<◌, ◌≤◌, vec_len, length, IfOk, IsTrue, true, false, slice_set, replicate};
+ghost use Rattle.std.specs.Prelude.{ℕ, nat_eq, ◌≡◌, ◌+◌, ◌*◌, ◌%◌, ◌<◌, ◌≤◌, vec_len, length, IfOk, IsTrue, true, false, slice_set, replicate};
 ghost use Rattle.std.specs.List.{slice_index_or};
 ghost use Rattle.std.specs.Int.{div_ceil, bit_at};
 
@@ -116,6 +116,7 @@ impl FragmentMap {
         ensures clear { IsTrue result → AreClear (bits_of self.old) start len }
         ensures claimed { IsTrue result → bits_of self.new ≡ set_run (bits_of self.old) start len }
         ensures kept { result ≡ false → self.new ≡ self.old }
+        ensures one_word { start % 64 + len ≤ 64 → AreClear (bits_of self.old) start len → IsTrue result }
     {
         let low = start % 64;
         if len > 64 - low {
