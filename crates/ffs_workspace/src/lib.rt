@@ -6,3 +6,6 @@ pub mod workspace;
 
 pub use table::Table;
 pub use workspace::{Windows, Workspace};
+
+#[cfg(test)]
+mod tests;

@@ -2,6 +2,7 @@
 
 ghost use Rattle.std.specs.Prelude.{◌≡◌, ◌+◌, ◌*◌, ◌≤◌, ◌==◌, not, ℕ, List, [], ◌∷◌, vec_len, IfOk, Option, replicate, false};
 ghost use Rattle.ffs_layout.specs.declared.geometry.Geometry.{Geometry};
+ghost use Rattle.ffs_volume.specs.declared.Layout.{Layout};
 ghost use Rattle.ffs_volume.specs.Memory.{held_limit};
 
 use crate::table::Table;
@@ -96,10 +97,9 @@ impl Workspace {
 
     /// How many bytes its lists and buffers take.
     pub fn held(&self) -> u64
-        ghost geometry: { Geometry }
-        requires { IsFor geometry.layout self.now }
-        ensures value { result ≡ held_of geometry.layout }
-        ensures bound { result ≤ held_limit geometry.layout }
+        requires { (geometry : Geometry) × IsFor geometry.layout self.now }
+        ensures value { (v : Layout) → IsFor v self.now → result ≡ held_of v }
+        ensures bound { (v : Layout) → IsFor v self.now → result ≤ held_limit v }
     {
         let maps = self.claimed.held() + self.doubled.held();
         let bytes = self.kinds.len()
