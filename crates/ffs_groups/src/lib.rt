@@ -10,3 +10,6 @@ pub mod maps;
 
 pub use check::{Findings, compare_group};
 pub use counts::{Counts, group_counts};
+
+#[cfg(test)]
+mod tests;
