@@ -1,5 +1,5 @@
 -- The Runs that a replay sees.
-use Rattle.std.proofs.Common.{◌≡◌, ℕ, ◌+◌, sym, ap, ◌∙◌}
+use Rattle.std.proofs.Common.{◌+◌, sym, ap, ◌∙◌}
 use Rattle.ffs_volume.specs.Inodes.{inode_of}
 use Rattle.ffs_volume.specs.Steps.{steps_of}
 use Rattle.ffs_volume.specs.Owners.{owner_of}
