@@ -1,18 +1,12 @@
 //! Checks an image of a UFS1 file system, and never writes it: `fsck_ffs -n [-b sector] image`, after fsck(8).
 #![tactic(auto)]
 
-pub mod args;
-pub mod check;
-pub mod opening;
-pub mod rest;
-pub mod run;
 #[cfg(test)]
 mod small;
 #[cfg(test)]
 mod tests;
-mod words;
 
-use run::run;
+use ffs_check::run::run;
 use std::env;
 use std::io::{BufWriter, ErrorKind, Write};
 use std::process::ExitCode;

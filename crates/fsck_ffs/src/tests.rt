@@ -1,10 +1,10 @@
 //! What the program writes, and how it ends.
 
-use crate::args::Args;
-use crate::check::check;
-use crate::opening::check_opening;
-use crate::run::run;
 use crate::small::{clean, shared_fragment};
+use ffs_check::args::Args;
+use ffs_check::check::check;
+use ffs_check::opening::check_opening;
+use ffs_check::run::run;
 use ffs_image::{FuseImage, Image, MemoryImage};
 use ffs_report::{Counted, FuseWriter};
 use ffs_volume::{End, SuperFault};

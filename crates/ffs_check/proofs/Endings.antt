@@ -1,0 +1,148 @@
+-- How what the phases answered is told, and how a run so ends.
+use Rattle.std.specs.Prelude.{IfOk}
+use Rattle.std.proofs.Common.{◌≡◌, ◌⊎◌, inl, inr, refl, ◌∙◌, sym, ap, subst, ℕ, Bool, true, false, not, ◌&&◌, ◌||◌, List, [], ◌∷◌, ◌++◌, append_assoc, append-nil, Option, Some, None, Result, Ok, Err}
+use Rattle.ffs_image.specs.Device.{Device, Faulted}
+use Rattle.ffs_volume.specs.declared.End.{End}
+use Rattle.ffs_volume.specs.declared.End.TheVariants.{ReadFault, WriteFault}
+use Rattle.ffs_volume.specs.Superblock.{Superblock}
+use Rattle.ffs_volume.specs.Messages.{Message, cannot_read, minfree, mounted, optimization, has_defect, is_defect}
+use Rattle.ffs_volume.specs.Opening.{before_nul, is_minfree, is_optimization, setting_lines, super_lines, unless_message}
+use Rattle.ffs_volume.specs.Report.{end_by}
+use Rattle.ffs_volume.specs.Texts.{texts_of}
+use Rattle.ffs_report.specs.Sink.{Sink, Took, BrokeOff}
+use Rattle.ffs_report.specs.Progress.{Progress, Said, Stopped}
+use Rattle.ffs_report.proofs.Reports.{has_defect-append, said_then, stopped_after, stopped_more}
+use Rattle.ffs_phase.specs.Known.{Where, Tells}
+use Rattle.ffs_phase.specs.Runs.{Reads, TellsOf}
+use Rattle.ffs_phase.specs.declared.fault.RunFault.{RunFault}
+use Rattle.ffs_phase.specs.declared.fault.RunFault.TheVariants.{Read, Out}
+use Rattle.ffs_pathnames.specs.declared.phase.Root.{Root}
+use Rattle.ffs_pathnames.specs.GoesOn.{is_go}
+use Rattle.ffs_check.specs.Ends.{IsCut, WouldSay, SaidWhole, SaidCut, SaidPart, Ran, PrintedWhole, PrintedCut, PrintedPart, RunsThrough}
+use Rattle.ffs_check.specs.Told.{FaultTold, EndsAs}
+use Rattle.ffs_check.proofs.Openings.{begun, broke_off}
+
+-- what an image's bytes determine, and nothing for an image that doesn't tell them
+abbrev pub at_told : Option (List ℕ) → (List ℕ → List Message) → List Message
+at_told None lines = []
+at_told (Some bytes) lines = lines bytes
+
+pub at_told_is : (told : Option (List ℕ)) (lines : List ℕ → List Message) (bytes : List ℕ) → told ≡ Some bytes → at_told told lines ≡ lines bytes
+at_told_is told lines bytes e = rw e refl
+
+-- the fault of a read, as the image tells it
+pub faulted_there : (image image' : Device) (sector : ℕ) → Faulted image image' sector → Faulted image image' image'.failed
+faulted_there image image' sector f = record { told = f.told; size = f.size; failed = refl; rose = f.rose }
+
+pub cut_there : (text front rest : List Message) (image image' : Device) (sector : ℕ) → Faulted image image' sector → front ++ rest ≡ text →
+    IsCut text (front ++ (cannot_read sector ∷ [])) image image' image'.failed
+cut_there text front rest image image' sector f e = record {
+  faulted = faulted_there image image' sector f;
+  front = front;
+  rest = rest;
+  whole = e;
+  line = ap (λ at. front ++ (cannot_read at ∷ [])) (sym f.failed);
+}
+
+module _ (before : Bool) (knows : List ℕ → Type 0) (lines : List ℕ → List Message) (goes : List ℕ → Bool) (image image' : Device) (tells : Where knows (Tells image.told)) (a b c : Progress) (end : End) where
+  -- all was said
+  whole : (root : Root) → TellsOf knows lines a b (Ok root) → image' ≡ image → Where knows (λ bytes. is_go root ≡ goes bytes) → EndsAs before b c (Ok root) end → Ran before knows lines goes image image' a c end
+  whole root p still went e = record {
+    text = p.messages;
+    right = λ bytes k. sym (append-nil p.messages) ∙ p.right bytes k;
+    ends = inl (record { unread = still; said = subst (λ to. Said a to p.messages) (sym e.0) p.said; on = is_go root; went = went; end_is = e.1 ∙ ap (λ to. end_by (is_go root) (before || to.defect)) (sym e.0) });
+  }
+
+  -- a read failed
+  cut : (sector : ℕ) (front : List Message) (rest : List ℕ → List Message) → Where knows (λ bytes. front ++ rest bytes ≡ lines bytes) → Said a b front → Faulted image image' sector →
+      FaultTold b c sector end → Ran before knows lines goes image image' a c end
+  cut sector front rest right said f (inl told) = record {
+    text = front ++ at_told image.told rest;
+    right = λ bytes k. ap (λ more. front ++ more) (at_told_is image.told rest bytes (tells bytes k)) ∙ right bytes k;
+    ends = inr (inl (record {
+      sector = sector;
+      messages = front ++ (cannot_read sector ∷ []);
+      cut = record { faulted = f; front = front; rest = at_told image.told rest; whole = refl; line = refl };
+      said = said_then a b c front (cannot_read sector ∷ []) said told.0;
+      end_is = told.1;
+    }));
+  }
+  cut sector front rest right said f (inr untold) = record {
+    text = front ++ at_told image.told rest;
+    right = λ bytes k. ap (λ more. front ++ more) (at_told_is image.told rest bytes (tells bytes k)) ∙ right bytes k;
+    ends = inr (inr (record {
+      messages = front ++ (cannot_read sector ∷ []);
+      would = inr (cut_there _ front (at_told image.told rest) image image' sector f refl);
+      stopped = stopped_after a b c front (cannot_read sector ∷ []) said untold.0;
+      end_is = untold.1;
+    }));
+  }
+
+  -- the output failed
+  part : (front : List Message) (rest : List ℕ → List Message) → Where knows (λ bytes. front ++ rest bytes ≡ lines bytes) → Stopped a b front → image' ≡ image →
+      c ≡ b → end ≡ WriteFault → Ran before knows lines goes image image' a c end
+  part front rest right stopped still same e = record {
+    text = front ++ at_told image.told rest;
+    right = λ bytes k. ap (λ more. front ++ more) (at_told_is image.told rest bytes (tells bytes k)) ∙ right bytes k;
+    ends = inr (inr (record {
+      messages = front ++ at_told image.told rest;
+      would = inl (still, refl);
+      stopped = subst (λ to. Stopped a to (front ++ at_told image.told rest)) (sym same) (stopped_more a b front (at_told image.told rest) stopped);
+      end_is = e;
+    }));
+  }
+
+  pub ran : (r : Result Root RunFault) → TellsOf knows lines a b r → Reads image image' r → IfOk r (λ root. Where knows (λ bytes. is_go root ≡ goes bytes)) → EndsAs before b c r end →
+      Ran before knows lines goes image image' a c end
+  ran (Ok root) p still went e = whole root p still went e
+  ran (Err (Read fault)) p f went e = cut fault.sector p.front.messages p.rest p.front.right p.front.said f e
+  ran (Err (Out fault)) p still went e = part p.messages p.rest p.right p.stopped still e.0 e.1
+
+-- what a report said that had just begun went to its output
+pub runs_through : (before : Bool) (told : List Message) → before ≡ has_defect told → (knows : List ℕ → Type 0) (lines : List ℕ → List Message) (goes : List ℕ → Bool) (image image' : Device) (sink : Sink) (new : Progress) (end : End) →
+    Ran before knows lines goes image image' (begun sink) new end → RunsThrough told knows lines goes image image' sink new.sink end
+runs_through before told e knows lines goes image image' sink new end ran = record {
+  text = ran.text;
+  right = ran.right;
+  ends = elim ran.ends [
+    | inl all ↦ inl (record {
+      unread = all.unread;
+      took = all.said.took;
+      on = all.on;
+      went = all.went;
+      end_is = all.end_is ∙ ap (λ defect. end_by all.on (before || defect)) all.said.defect ∙ ap (λ b. end_by all.on (b || has_defect ran.text)) e
+          ∙ ap (end_by all.on) (sym (has_defect-append told ran.text));
+    })
+    | inr rest ↦ elim rest [
+      | inl short ↦ inr (inl (record { sector = short.sector; messages = short.messages; cut = short.cut; took = short.said.took; end_is = short.end_is }))
+      | inr part ↦ inr (inr (record { messages = part.messages; would = part.would; broke_off = broke_off sink new part.messages part.stopped; end_is = part.end_is }))
+    ]
+  ];
+}
+
+-- where more is known
+pub ran_knows : (before : Bool) (knows known : List ℕ → Type 0) (lines : List ℕ → List Message) (goes : List ℕ → Bool) (image image' : Device) (a b : Progress) (end : End) → Where knows known →
+    Ran before known lines goes image image' a b end → Ran before knows lines goes image image' a b end
+ran_knows before knows known lines goes image image' a b end more ran = record {
+  text = ran.text;
+  right = λ bytes k. ran.right bytes (more bytes k);
+  ends = elim ran.ends [
+    | inl all ↦ inl (record { unread = all.unread; said = all.said; on = all.on; went = λ bytes k. all.went bytes (more bytes k); end_is = all.end_is })
+    | inr rest ↦ inr rest
+  ];
+}
+
+pub runs_at : (told : List Message) (knows : List ℕ → Type 0) (lines : List ℕ → List Message) (goes : List ℕ → Bool) (image image' : Device) (out at at' : Sink) (end : End) → at ≡ at' →
+    RunsThrough told knows lines goes image image' out at end → RunsThrough told knows lines goes image image' out at' end
+runs_at told knows lines goes image image' out at at' end e runs = subst (λ to. RunsThrough told knows lines goes image image' out to end) e runs
+
+-- the settings of an accepted superblock tell a defect where one of them isn't what it may be
+settings_defect : (a b : Bool) (x y : Message) → is_defect x ≡ true → is_defect y ≡ true → (xs : List Message) → has_defect xs ≡ false →
+    not (a && b) ≡ has_defect ((unless_message a x ++ unless_message b y) ++ xs)
+settings_defect true true x y dx dy xs e = sym e
+settings_defect true false x y dx dy xs e = sym (ap (λ d. d || has_defect xs) dy)
+settings_defect false b x y dx dy xs e = sym (ap (λ d. d || has_defect (unless_message b y ++ xs)) dx)
+
+pub opening_defect : (s : Superblock) → not (is_optimization s && is_minfree s) ≡ has_defect (super_lines s)
+unfolding setting_lines
+opening_defect s = settings_defect (is_optimization s) (is_minfree s) optimization (minfree s.minfree) refl refl (mounted (before_nul s.mount) ∷ []) refl

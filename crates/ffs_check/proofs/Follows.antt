@@ -1,0 +1,158 @@
+-- The headline, of a run behind an accepted superblock.
+use Rattle.std.proofs.Common.{◌≡◌, ◌⊎◌, inl, inr, refl, ◌∙◌, sym, ap, subst, ℕ, Bool, true, false, ◌||◌, List, [], ◌∷◌, ◌++◌, append_assoc, Option, Result, Ok, Err}
+use Rattle.ffs_image.specs.Device.{Device, Faulted, WhereTold}
+use Rattle.ffs_volume.specs.declared.SuperFault.{SuperFault}
+use Rattle.ffs_volume.specs.declared.End.{End}
+use Rattle.ffs_volume.specs.declared.End.TheVariants.{Refused, ReadFault, WriteFault, NoMemory}
+use Rattle.ffs_volume.specs.Superblock.{Superblock}
+use Rattle.ffs_volume.specs.Outcome.{outcome}
+use Rattle.ffs_volume.specs.Messages.{Message, cannot_read, cannot_alloc, has_defect}
+use Rattle.ffs_volume.specs.Opening.{opening_lines}
+use Rattle.ffs_volume.specs.PathnameCheck.{goes_on}
+use Rattle.ffs_volume.specs.Report.{text_lines, end_by, end_of, report_of, report_end}
+use Rattle.ffs_volume.specs.Texts.{texts_of}
+use Rattle.ffs_volume.specs.Volumes.{volume_of}
+use Rattle.ffs_report.specs.Sink.{Sink, Took}
+use Rattle.ffs_report.specs.Progress.{Progress, Said, Stopped}
+use Rattle.ffs_report.proofs.Reports.{said_then, stopped_after}
+use Rattle.ffs_layout.specs.declared.superblock.Super.{Super}
+use Rattle.ffs_layout.specs.Super.{Answers, seen}
+use Rattle.ffs_phase.specs.Known.{Tells}
+use Rattle.ffs_check.specs.Opening.{Opened}
+use Rattle.ffs_check.specs.Ends.{IsCut, SaidWhole, SaidCut, SaidPart, Ran}
+use Rattle.ffs_check.specs.Found.{RefusalTold, Followed}
+use Rattle.ffs_check.specs.Headline.{is_completed, opened_lines, Headline}
+use Rattle.ffs_check.proofs.Openings.{begun, broke_off}
+use Rattle.ffs_check.proofs.Endings.{at_told, at_told_is, faulted_there}
+use Rattle.ffs_check.proofs.Headlines.{whole_there, defect_there, end_of_there, end_there, completed_by, certifies}
+
+module _ (image : Device) (name : List ℕ) (sector : Option ℕ) (sink : Sink) (s : Superblock) (accepted : WhereTold image.told (λ bytes. Ok s ≡ outcome bytes sector))
+    (p : Progress) (opened : Said (begun sink) p (opened_lines name sector s)) (image' : Device) (new : Progress) where
+  -- the memory was refused
+  unstarted : (end : End) → image' ≡ image → RefusalTold p new end → Headline image image' name sector sink new.sink end
+  unstarted end still (inl told) = record {
+    text = opened_lines name sector s ++ at_told image.told (λ bytes. text_lines bytes s);
+    is_report = λ bytes t. whole_there bytes name sector s _ (accepted bytes t) (at_told_is image.told (λ bytes. text_lines bytes s) bytes t);
+    ends = inr (inr (inr (inl (record {
+      messages = opened_lines name sector s ++ (cannot_alloc ∷ []);
+      said = record { unread = still; found = s; accepted = λ bytes t. sym (accepted bytes t); lines = refl };
+      took = (said_then (begun sink) p new (opened_lines name sector s) (cannot_alloc ∷ []) opened told.0).took;
+      end_is = told.1;
+    }))));
+  }
+  unstarted end still (inr untold) = record {
+    text = opened_lines name sector s ++ at_told image.told (λ bytes. text_lines bytes s);
+    is_report = λ bytes t. whole_there bytes name sector s _ (accepted bytes t) (at_told_is image.told (λ bytes. text_lines bytes s) bytes t);
+    ends = inr (inr (inr (inr (record {
+      messages = opened_lines name sector s ++ (cannot_alloc ∷ []);
+      would = inr (inr (inr (record { unread = still; found = s; accepted = λ bytes t. sym (accepted bytes t); lines = refl })));
+      broke_off = broke_off sink new (opened_lines name sector s ++ (cannot_alloc ∷ [])) (stopped_after (begun sink) p new (opened_lines name sector s) (cannot_alloc ∷ []) opened untold.0);
+      end_is = untold.1;
+    }))));
+  }
+
+  module _ (end : End) (text : List Message) (right : WhereTold image.told (λ bytes. text ≡ text_lines bytes s)) where
+    report : WhereTold image.told (λ bytes. opened_lines name sector s ++ text ≡ report_of bytes name sector)
+    report bytes t = whole_there bytes name sector s text (accepted bytes t) (right bytes t)
+
+    whole : SaidWhole false (Tells image.told) (λ bytes. goes_on (volume_of s.layout bytes)) text image image' p new end → Headline image image' name sector sink new.sink end
+    whole all =
+        let said = said_then (begun sink) p new (opened_lines name sector s) text opened all.said in
+        let last : WhereTold image.told (λ bytes. end ≡ report_end bytes sector) = λ bytes t.
+        all.end_is ∙ end_of_there bytes s all.on new.defect (all.went bytes t) (said.defect ∙ defect_there bytes name sector s text (right bytes t))
+        ∙ end_there bytes sector (Ok s) (accepted bytes t) in
+        record {
+          text = opened_lines name sector s ++ text;
+          is_report = report;
+          ends = inl (record {
+            unread = all.unread;
+            took = said.took;
+            completed = ap is_completed all.end_is ∙ completed_by all.on new.defect;
+            end_is = last;
+            certifies = λ bytes t. certifies bytes name sector (opened_lines name sector s ++ text) end (report bytes t) (last bytes t);
+          });
+        }
+
+    cut : SaidCut text image image' p new end → Headline image image' name sector sink new.sink end
+    cut short =
+        let at = short.sector in
+        let here = short.cut.faulted.failed in
+        let line : short.messages ≡ short.cut.front ++ (cannot_read image'.failed ∷ []) = short.cut.line ∙ ap (λ at. short.cut.front ++ (cannot_read at ∷ [])) (sym here) in
+        record {
+          text = opened_lines name sector s ++ text;
+          is_report = report;
+          ends = inr (inr (inl (record {
+            messages = opened_lines name sector s ++ (short.cut.front ++ (cannot_read image'.failed ∷ []));
+            said = record {
+              faulted = faulted_there image image' at short.cut.faulted;
+              found = s;
+              accepted = λ bytes t. sym (accepted bytes t);
+              front = short.cut.front;
+              rest = short.cut.rest;
+              whole = ap (λ xs. opened_lines name sector s ++ xs) short.cut.whole;
+              lines = refl;
+            };
+            took = (said_then (begun sink) p new (opened_lines name sector s) _ opened (subst (Said p new) line short.said)).took;
+            end_is = short.end_is ∙ ap ReadFault (sym here);
+          })));
+        }
+
+    part : SaidPart text image image' p new end → Headline image image' name sector sink new.sink end
+    part stop = record {
+      text = opened_lines name sector s ++ text;
+      is_report = report;
+      ends = inr (inr (inr (inr (record {
+        messages = opened_lines name sector s ++ stop.messages;
+        would = elim stop.would [
+          | inl all ↦ inl (all.0, ap (λ xs. opened_lines name sector s ++ xs) all.1)
+          | inr short ↦ inr (inr (inl (record {
+            faulted = short.faulted;
+            found = s;
+            accepted = λ bytes t. sym (accepted bytes t);
+            front = short.front;
+            rest = short.rest;
+            whole = ap (λ xs. opened_lines name sector s ++ xs) short.whole;
+            lines = ap (λ xs. opened_lines name sector s ++ xs) short.line;
+          })))
+        ];
+        broke_off = broke_off sink new (opened_lines name sector s ++ stop.messages) (stopped_after (begun sink) p new (opened_lines name sector s) stop.messages opened stop.stopped);
+        end_is = stop.end_is;
+      }))));
+    }
+
+  pub follows : (end : End) → Followed s image image' p new end → Headline image image' name sector sink new.sink end
+  follows end (inl refusal) = unstarted end refusal.0 refusal.1
+  follows end (inr ran) = elim ran.ends [
+    | inl all ↦ whole end ran.text ran.right all
+    | inr rest ↦ elim rest [ inl short ↦ cut end ran.text ran.right short | inr stop ↦ part end ran.text ran.right stop ]
+  ]
+
+-- where a superblock was accepted, nothing was read in vain
+still_of : (image image' : Device) (sector : Option ℕ) (s : Superblock) → Answers image image' sector (Ok s) → image' ≡ image
+still_of image image' sector s (inl unread) = absurd unread.0.0
+still_of image image' sector s (inr read) = read.0
+
+accepted_of : (image image' : Device) (sector : Option ℕ) (s : Superblock) → Answers image image' sector (Ok s) → WhereTold image.told (λ bytes. Ok s ≡ outcome bytes sector)
+accepted_of image image' sector s (inl unread) = absurd unread.0.0
+accepted_of image image' sector s (inr read) = read.1
+
+pub found_ends : (image on image' : Device) (name : List ℕ) (sector : Option ℕ) (sink : Sink) (p new : Progress) (found : Super) (end : End) →
+    Opened image on (begun sink) p name sector (Ok found) → Followed (seen found) on image' p new end → Headline image image' name sector sink new.sink end
+found_ends image on image' name sector sink p new found end o f =
+    let answers = subst (λ r. Answers image on sector r) o.ends.1 o.answers in
+    follows image name sector sink (seen found) (accepted_of image on sector (seen found) answers) p
+    (subst (λ r. Said (begun sink) p (opening_lines name sector r)) o.ends.1 o.ends.0) image' new end
+    (subst (λ d. Followed (seen found) d image' p new end) (still_of image on sector (seen found) answers) f)
+
+-- a run behind an accepted superblock doesn't refuse it
+not_by : (on defect : Bool) (fault : SuperFault) → end_by on defect ≡ Refused fault → ⊥
+not_by true true fault e = absurd e
+not_by true false fault e = absurd e
+not_by false defect fault e = absurd e
+
+pub not_refused : (s : Superblock) (image image' : Device) (p new : Progress) (end : End) (fault : SuperFault) → Followed s image image' p new end → end ≡ Refused fault → ⊥
+not_refused s image image' p new end fault (inl refusal) e = elim refusal.1 [ inl told ↦ absurd (sym told.1 ∙ e) | inr untold ↦ absurd (sym untold.1 ∙ e) ]
+not_refused s image image' p new end fault (inr ran) e = elim ran.ends [
+  | inl all ↦ not_by all.on new.defect fault (sym all.end_is ∙ e)
+  | inr rest ↦ elim rest [ inl short ↦ absurd (sym short.end_is ∙ e) | inr part ↦ absurd (sym part.end_is ∙ e) ]
+]

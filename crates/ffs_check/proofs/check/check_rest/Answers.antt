@@ -1,0 +1,15 @@
+use Rattle.std.proofs.Common.{rules, ◌∙◌}
+use Rattle.ffs_layout.specs.Super.{seen}
+use Rattle.ffs_report.specs.Progress.{progress}
+use Rattle.ffs_volume.specs.PathnameCheck.{goes_on}
+use Rattle.ffs_volume.specs.Report.{text_lines}
+use Rattle.ffs_volume.specs.Volumes.{volume_of}
+use Rattle.ffs_check.proofs.Endings.{opening_defect, runs_through, runs_at}
+use Rattle.ffs_check.proofs.check.check_rest.Goals as goal
+
+pub returns-clause-runs : goal.returns-clause-runs
+returns-clause-runs g c =
+    let s = seen c.args.found.now in
+    runs_at _ _ (λ bytes. text_lines bytes s) (λ bytes. goes_on (volume_of s.layout bytes)) _ _ _ (g.W.Output.sink c.run_rest.new.report.out.now) _ _ (search rules)
+    (runs_through _ _ (c.opening_defects.ensures ∙ opening_defect s) _ (λ bytes. text_lines bytes s) (λ bytes. goes_on (volume_of s.layout bytes)) _ _
+    (g.W.Output.sink c.args.out.now) (progress g.W.Output.sink c.run_rest.new.report) _ (rw c.new-report.ensures.start at c.run_rest.ensures.ran))

@@ -1,0 +1,12 @@
+use Rattle.ffs_layout.specs.Super.{seen}
+use Rattle.ffs_volume.specs.PathnameCheck.{goes_on}
+use Rattle.ffs_volume.specs.Report.{text_lines}
+use Rattle.ffs_volume.specs.Volumes.{volume_of}
+use Rattle.ffs_check.proofs.Endings.{ran}
+use Rattle.ffs_check.proofs.check.run_rest.Goals as goal
+
+pub returns-clause-ran : goal.returns-clause-ran
+returns-clause-ran g c =
+    let s = seen c.args.found.now in
+    ran c.args.before _ (λ bytes. text_lines bytes s) (λ bytes. goes_on (volume_of s.layout bytes)) _ _ (λ bytes k. k.0) _ _ _ _
+    c.run_phases-answer.result c.run_phases-answer.ensures.text c.run_phases-answer.ensures.image c.run_phases-answer.ensures.goes c.end_run.ensures.ends

@@ -1,0 +1,17 @@
+use Rattle.std.proofs.Common.{◌∷◌, []}
+use Rattle.std.proofs.lemmas.Result.{err_from_is_err_and}
+use Rattle.ffs_volume.specs.Messages.{mounted}
+use Rattle.ffs_volume.specs.Opening.{before_nul, setting_lines}
+use Rattle.ffs_layout.specs.Super.{seen}
+use Rattle.ffs_report.proofs.Reports.{says_then, stopped_more}
+use Rattle.ffs_check.proofs.opening.say_super.Goals as goal
+
+pub returns-in_err-say_settings-clause-said : goal.returns-in_err-say_settings-clause-said
+returns-in_err-say_settings-clause-said g c =
+    let p = err_from_is_err_and c.from_residual.result c.from_residual.ensures.1 in
+    rw (p.1) (stopped_more _ _ (setting_lines (seen c.args.found.now)) (mounted (before_nul c.args.found.now.mount) ∷ []) c.in_err-say_settings.ensures.said)
+
+pub returns-clause-said : goal.returns-clause-said
+returns-clause-said g c =
+    says_then _ _ _ (setting_lines (seen c.args.found.now)) (mounted (before_nul c.args.found.now.mount) ∷ []) _
+    c.in_ok-say_settings.ensures.said (rw c.before_nul.ensures at c.say.ensures.said)

@@ -1,0 +1,84 @@
+-- How the phases of a run end, and what has been said or printed of their text by then. `knows` is what is known of the
+-- image's bytes, `lines` the text that they determine, and `goes` whether the run goes on behind the root. What was told
+-- before is `before`: of it, a report keeps whether it told a defect.
+use Rattle.std.specs.Prelude.{◌≡◌, ◌⊎◌, ℕ, Bool, ◌||◌, List, [], ◌∷◌, ◌++◌}
+use Rattle.ffs_image.specs.Device.{Device, Faulted}
+use Rattle.ffs_volume.specs.declared.End.{End}
+use Rattle.ffs_volume.specs.declared.End.TheVariants.{ReadFault, WriteFault}
+use Rattle.ffs_volume.specs.Messages.{Message, cannot_read, has_defect}
+use Rattle.ffs_volume.specs.Report.{end_by}
+use Rattle.ffs_volume.specs.Texts.{texts_of}
+use Rattle.ffs_report.specs.Sink.{Sink, Took, BrokeOff}
+use Rattle.ffs_report.specs.Progress.{Progress, Said, Stopped}
+use Rattle.ffs_phase.specs.Known.{Where}
+
+-- whole messages of a text, and then the line of the read that failed
+pub record IsCut (text messages : List Message) (image image' : Device) (sector : ℕ) : Type 0 where
+  pub faulted : Faulted image image' sector
+  pub front : List Message
+  pub rest : List Message
+  pub whole : front ++ rest ≡ text
+  pub line : messages ≡ front ++ (cannot_read sector ∷ [])
+
+-- what a run says whose output takes all: a text where no read failed, and else what the failed read leaves of it
+abbrev pub WouldSay : List Message → List Message → Device → Device → Type 0
+WouldSay text messages image image' = ((image' ≡ image) × (messages ≡ text)) ⊎ IsCut text messages image image' image'.failed
+
+-- all of a text was said; the end is by whether the run went on behind the root, and whether a defect was told before or said
+pub record SaidWhole (before : Bool) (knows : List ℕ → Type 0) (goes : List ℕ → Bool) (text : List Message) (image image' : Device) (old new : Progress) (end : End) : Type 0 where
+  pub unread : image' ≡ image
+  pub said : Said old new text
+  pub on : Bool
+  pub went : Where knows (λ bytes. on ≡ goes bytes)
+  pub end_is : end ≡ end_by on (before || new.defect)
+
+-- a read failed: its line was said behind whole messages of the text
+pub record SaidCut (text : List Message) (image image' : Device) (old new : Progress) (end : End) : Type 0 where
+  pub sector : ℕ
+  pub messages : List Message
+  pub cut : IsCut text messages image image' sector
+  pub said : Said old new messages
+  pub end_is : end ≡ ReadFault sector
+
+-- the output failed: a front of what the run would say went out
+pub record SaidPart (text : List Message) (image image' : Device) (old new : Progress) (end : End) : Type 0 where
+  pub messages : List Message
+  pub would : WouldSay text messages image image'
+  pub stopped : Stopped old new messages
+  pub end_is : end ≡ WriteFault
+
+-- the phases have run, and said what they say of the image's bytes
+pub record Ran (before : Bool) (knows : List ℕ → Type 0) (lines : List ℕ → List Message) (goes : List ℕ → Bool) (image image' : Device) (old new : Progress) (end : End) : Type 0 where
+  pub text : List Message
+  pub right : Where knows (λ bytes. text ≡ lines bytes)
+  pub ends : SaidWhole before knows goes text image image' old new end ⊎ (SaidCut text image image' old new end ⊎ SaidPart text image image' old new end)
+
+-- all of a text was printed; the end is by whether the run went on behind the root, and whether what was told before or the
+-- text tells a defect
+pub record PrintedWhole (before : List Message) (knows : List ℕ → Type 0) (goes : List ℕ → Bool) (text : List Message) (image image' : Device) (out out' : Sink) (end : End) : Type 0 where
+  pub unread : image' ≡ image
+  pub took : Took out out' (texts_of text)
+  pub on : Bool
+  pub went : Where knows (λ bytes. on ≡ goes bytes)
+  pub end_is : end ≡ end_by on (has_defect (before ++ text))
+
+-- a read failed: its line was printed behind whole messages of the text
+pub record PrintedCut (text : List Message) (image image' : Device) (out out' : Sink) (end : End) : Type 0 where
+  pub sector : ℕ
+  pub messages : List Message
+  pub cut : IsCut text messages image image' sector
+  pub took : Took out out' (texts_of messages)
+  pub end_is : end ≡ ReadFault sector
+
+-- the output failed: a front of the bytes that the run would print went out
+pub record PrintedPart (text : List Message) (image image' : Device) (out out' : Sink) (end : End) : Type 0 where
+  pub messages : List Message
+  pub would : WouldSay text messages image image'
+  pub broke_off : BrokeOff out out' (texts_of messages)
+  pub end_is : end ≡ WriteFault
+
+-- the phases have run, and printed what they tell of the image's bytes. There is no end for want of memory
+pub record RunsThrough (before : List Message) (knows : List ℕ → Type 0) (lines : List ℕ → List Message) (goes : List ℕ → Bool) (image image' : Device) (out out' : Sink) (end : End) : Type 0 where
+  pub text : List Message
+  pub right : Where knows (λ bytes. text ≡ lines bytes)
+  pub ends : PrintedWhole before knows goes text image image' out out' end ⊎ (PrintedCut text image image' out out' end ⊎ PrintedPart text image image' out out' end)

@@ -1,0 +1,75 @@
+//! Each read and each write of a check fails in turn.
+
+use crate::Tally;
+use crate::row::Row;
+use ffs_check::args::Args;
+use ffs_check::check::check;
+use ffs_image::{FuseImage, Image};
+use ffs_report::{Counted, FuseWriter};
+use ffs_volume::{End, SuperFault};
+use std::io;
+
+// The rows that are run so.
+const ROWS: [&str; 4] = [
+    "clean 0",
+    "shared_fragment 1",
+    "entry_length_zero 1",
+    "lost_cycle 1",
+];
+
+/// Compares each run with what a fault leaves of the row's report.
+pub fn compare(rt: &HostRuntime, tally: &mut Tally) -> io::Result<()> {
+    for line in ROWS {
+        let row = Row::read(rt, line)?;
+        fail_reads(rt, &row, tally)?;
+        fail_writes(rt, &row, tally)?;
+    }
+    Ok(())
+}
+
+// Each read fails in turn, until a run has no failure.
+fn fail_reads(rt: &HostRuntime, row: &Row, tally: &mut Tally) -> io::Result<()> {
+    for k in 1..u64::MAX {
+        let mut image = FuseImage::nth(row.in_memory(rt.alloc())?, k);
+        let (end, text) = row.checked(rt.alloc(), &mut image);
+        if image.failures() == 0 {
+            let agrees = end.status() == row.status && text == row.report;
+            return tally.count(rt, row.name.as_str(), "no read fails", agrees);
+        }
+        let failed = image.failed();
+        let is_told = end == End::ReadFault(failed)
+            || end == End::Refused(SuperFault::CannotRead { sector: failed });
+        let line = format!(in rt.alloc(); "CAN NOT READ: BLK {failed}\n")?;
+        let agrees = is_told && is_cut(text.as_slice(), row.report.as_slice(), line.as_bytes());
+        tally.count(rt, row.name.as_str(), "a read fails", agrees)?;
+    }
+    Ok(())
+}
+
+// Whether a text is a front of a report that ends with a whole line, and then a last line.
+fn is_cut(text: &[u8], report: &[u8], last: &[u8]) -> bool {
+    let (front, end) = text.split_at(text.len().saturating_sub(last.len()));
+    end == last && report.starts_with(front) && front.ends_with(b"\n".as_slice())
+}
+
+// The writer stops at each byte in turn.
+fn fail_writes(rt: &HostRuntime, row: &Row, tally: &mut Tally) -> io::Result<()> {
+    let args = Args {
+        name: "t.img",
+        sector: None,
+    };
+    for bytes in 0..row.report.len() {
+        let mut writer = FuseWriter::new(Vec::new(rt.alloc()), bytes as u64);
+        let mut image = row.in_memory(rt.alloc())?;
+        let end = check(
+            rt.alloc(),
+            &mut image,
+            &args,
+            &mut Counted::new(&mut writer),
+        );
+        let text = writer.into_inner();
+        let agrees = end == End::WriteFault && text.as_slice() == &row.report[..bytes];
+        tally.count(rt, row.name.as_str(), "a write fails", agrees)?;
+    }
+    Ok(())
+}

@@ -1,0 +1,87 @@
+//! A worked row.
+
+use crate::Tally;
+use ffs_check::args::Args;
+use ffs_check::check::check;
+use ffs_check::run::run;
+use ffs_image::{Image, MemoryImage};
+use ffs_report::Counted;
+use ffs_volume::End;
+use std::alloc::{AllocError, Global};
+use std::{fs, io};
+
+/// An image, what a check of it is asked, and what it must print and answer.
+pub struct Row {
+    pub name: String,
+    pub status: u8,
+    pub sector: Option<u32>,
+    pub image: Vec<u8>,
+    pub report: Vec<u8>,
+}
+
+impl Row {
+    /// Reads the row of a line of the list: its name, its status, and the sector that is asked for.
+    pub fn read(rt: &HostRuntime, line: &str) -> io::Result<Row> {
+        let mut words = line.split_whitespace();
+        let name = String::from_str(rt.alloc(), words.next().unwrap_or(""))?;
+        let status = words
+            .next()
+            .and_then(|word| word.parse().ok())
+            .unwrap_or(255);
+        let sector = words.next().and_then(|word| word.parse().ok());
+        let image = fs::read(rt, format!(in rt.alloc(); "{name}.img")?)?;
+        let report = fs::read(rt, format!(in rt.alloc(); "{name}.report")?)?;
+        Ok(Row {
+            name,
+            status,
+            sector,
+            image,
+            report,
+        })
+    }
+
+    /// The row's image in memory.
+    pub fn in_memory(&self, alloc: Global) -> Result<MemoryImage, AllocError> {
+        let mut bytes = Vec::new(alloc);
+        bytes.extend_from_slice(self.image.as_slice())?;
+        Ok(MemoryImage::new(bytes))
+    }
+
+    /// How a check of an image ends that is asked what the row asks, and what it prints.
+    pub fn checked<I: Image>(&self, alloc: Global, image: &mut I) -> (End, Vec<u8>) {
+        let args = Args {
+            name: "t.img",
+            sector: self.sector,
+        };
+        let mut text = Vec::new(alloc);
+        let end = check(alloc, image, &args, &mut Counted::new(&mut text));
+        (end, text)
+    }
+
+    // The status of the program's run over the row's image in a file, and what it prints.
+    fn run_over_file(&self, rt: &HostRuntime) -> io::Result<(u8, Vec<u8>)> {
+        fs::write(rt, "t.img", self.image.as_slice())?;
+        let mut text = Vec::new(rt.alloc());
+        let mut errors = Vec::new(rt.alloc());
+        let status = match self.sector {
+            None => run(rt, rt.alloc(), &["-n", "t.img"], &mut text, &mut errors),
+            Some(sector) => {
+                let sector = format!(in rt.alloc(); "{sector}")?;
+                let words = ["-n", "-b", sector.as_str(), "t.img"];
+                run(rt, rt.alloc(), &words, &mut text, &mut errors)
+            }
+        };
+        Ok((status, text))
+    }
+
+    /// Compares the row with a check of its image in memory, and with a run over it in a file.
+    pub fn compare(&self, rt: &HostRuntime, tally: &mut Tally) -> io::Result<()> {
+        let name = self.name.as_str();
+        let (end, text) = self.checked(rt.alloc(), &mut self.in_memory(rt.alloc())?);
+        let agrees = end.status() == self.status && text == self.report;
+        tally.count(rt, name, "in memory", agrees)?;
+        let (status, text) = self.run_over_file(rt)?;
+        let agrees = status == self.status && text == self.report;
+        tally.count(rt, name, "in a file", agrees)
+    }
+}
