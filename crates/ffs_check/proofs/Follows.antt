@@ -3,7 +3,7 @@ use Rattle.std.proofs.Common.{◌≡◌, ◌⊎◌, inl, inr, refl, ◌∙◌, s
 use Rattle.ffs_image.specs.Device.{Device, Faulted, WhereTold}
 use Rattle.ffs_volume.specs.declared.SuperFault.{SuperFault}
 use Rattle.ffs_volume.specs.declared.End.{End}
-use Rattle.ffs_volume.specs.declared.End.TheVariants.{Refused, ReadFault, WriteFault, NoMemory}
+use Rattle.ffs_volume.specs.declared.End.TheVariants.{Consistent, Defects, Refused, RootStop, ReadFault, WriteFault, NoMemory}
 use Rattle.ffs_volume.specs.Superblock.{Superblock}
 use Rattle.ffs_volume.specs.Outcome.{outcome}
 use Rattle.ffs_volume.specs.Messages.{Message, cannot_read, cannot_alloc, has_defect}
@@ -146,13 +146,20 @@ found_ends image on image' name sector sink p new found end o f =
 
 -- a run behind an accepted superblock doesn't refuse it
 not_by : (on defect : Bool) (fault : SuperFault) → end_by on defect ≡ Refused fault → ⊥
-not_by true true fault e = absurd e
-not_by true false fault e = absurd e
-not_by false defect fault e = absurd e
+not_by true true fault e = (let w : Defects ≡ Refused fault = e in cc)
+not_by true false fault e = (let w : Consistent ≡ Refused fault = e in cc)
+not_by false defect fault e = (let w : RootStop ≡ Refused fault = e in cc)
+
+not_told : (p new : Progress) (end : End) (fault : SuperFault) → RefusalTold p new end → end ≡ Refused fault → ⊥
+not_told p new end fault (inl told) e = (let w : NoMemory ≡ Refused fault = sym told.1 ∙ e in cc)
+not_told p new end fault (inr untold) e = (let w : WriteFault ≡ Refused fault = sym untold.1 ∙ e in cc)
 
 pub not_refused : (s : Superblock) (image image' : Device) (p new : Progress) (end : End) (fault : SuperFault) → Followed s image image' p new end → end ≡ Refused fault → ⊥
-not_refused s image image' p new end fault (inl refusal) e = elim refusal.1 [ inl told ↦ absurd (sym told.1 ∙ e) | inr untold ↦ absurd (sym untold.1 ∙ e) ]
+not_refused s image image' p new end fault (inl refusal) e = not_told p new end fault refusal.1 e
 not_refused s image image' p new end fault (inr ran) e = elim ran.ends [
   | inl all ↦ not_by all.on new.defect fault (sym all.end_is ∙ e)
-  | inr rest ↦ elim rest [ inl short ↦ absurd (sym short.end_is ∙ e) | inr part ↦ absurd (sym part.end_is ∙ e) ]
+  | inr rest ↦ elim rest [
+    | inl short ↦ (let w : ReadFault short.sector ≡ Refused fault = sym short.end_is ∙ e in cc)
+    | inr stop ↦ (let w : WriteFault ≡ Refused fault = sym stop.end_is ∙ e in cc)
+  ]
 ]
