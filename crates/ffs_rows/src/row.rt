@@ -11,6 +11,7 @@ use std::alloc::{AllocError, Global};
 use std::{fs, io};
 
 /// An image, what a check of it is asked, and what it must print and answer.
+#[derive(Drop)]
 pub struct Row {
     pub name: String,
     pub status: u8,
