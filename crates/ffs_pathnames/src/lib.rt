@@ -22,3 +22,6 @@ pub mod tree;
 pub mod view;
 
 pub use phase::{Root, phase2};
+
+#[cfg(test)]
+mod tests;
