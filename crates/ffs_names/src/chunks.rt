@@ -100,8 +100,8 @@ impl Chunks {
         requires volume { self.old.walk.geometry.layout.size * self.old.walk.geometry.layout.fsize ≤ (I.device image.old).size }
         requires room { HasRoom self.old.walk.geometry.layout blocks.old }
         requires holds { BlocksHold self.old.walk.geometry.layout (I.device image.old).told blocks.old }
-        requires data_room { self.old.walk.geometry.layout.bsize ≤ vec_len data.old.buffer }
-        requires data_holds { WindowHolds (I.device image.old).told data.old }
+        requires data_room { self.old.walk.geometry.layout.bsize ≤ vec_len «data».old.buffer }
+        requires data_holds { WindowHolds (I.device image.old).told «data».old }
         ensures chunks { IfOk result (λ o. WhereTold (I.device image.old).told (λ b. MatchOption o (all_chunks b self.old ≡ [])
             (λ offset. all_chunks b self.old ≡ chunk_of self.old.walk.geometry.layout.order offset chunk.new ∷ all_chunks b self.new))) }
         ensures none { IfOk result (λ o. IfNone o (WhereTold (I.device image.old).told (λ b. all_chunks b self.new ≡ []))) }
@@ -110,8 +110,8 @@ impl Chunks {
         ensures same { IsSame self.old self.new }
         ensures size { vec_len blocks.new.buffer ≡ vec_len blocks.old.buffer }
         ensures holds { BlocksHold self.old.walk.geometry.layout (I.device image.new).told blocks.new }
-        ensures data_size { vec_len data.new.buffer ≡ vec_len data.old.buffer }
-        ensures data_holds { WindowHolds (I.device image.new).told data.new }
+        ensures data_size { vec_len «data».new.buffer ≡ vec_len «data».old.buffer }
+        ensures data_holds { WindowHolds (I.device image.new).told «data».new }
         ensures ok { OnOk result (I.device image.new ≡ I.device image.old) }
         ensures err { IfErr result (λ fault. Faulted (I.device image.old) (I.device image.new) fault.sector) }
     {
@@ -160,8 +160,8 @@ impl Chunks {
         requires volume { self.old.walk.geometry.layout.size * self.old.walk.geometry.layout.fsize ≤ (I.device image.old).size }
         requires room { HasRoom self.old.walk.geometry.layout blocks.old }
         requires holds { BlocksHold self.old.walk.geometry.layout (I.device image.old).told blocks.old }
-        requires data_room { self.old.walk.geometry.layout.bsize ≤ vec_len data.old.buffer }
-        requires data_holds { WindowHolds (I.device image.old).told data.old }
+        requires data_room { self.old.walk.geometry.layout.bsize ≤ vec_len «data».old.buffer }
+        requires data_holds { WindowHolds (I.device image.old).told «data».old }
         ensures chunks { IfOk result (λ o. WhereTold (I.device image.old).told (λ b. MatchOption o (rest b self.old ≡ [])
             (λ offset. rest b self.old ≡ chunk_of self.old.walk.geometry.layout.order offset chunk.new ∷ rest b self.new))) }
         ensures none { IfOk result (λ o. IfNone o (WhereTold (I.device image.old).told (λ b. rest b self.new ≡ []))) }
@@ -174,8 +174,8 @@ impl Chunks {
         ensures geometry { self.new.walk.geometry ≡ self.old.walk.geometry }
         ensures size { vec_len blocks.new.buffer ≡ vec_len blocks.old.buffer }
         ensures holds { BlocksHold self.old.walk.geometry.layout (I.device image.new).told blocks.new }
-        ensures data_size { vec_len data.new.buffer ≡ vec_len data.old.buffer }
-        ensures data_holds { WindowHolds (I.device image.new).told data.new }
+        ensures data_size { vec_len «data».new.buffer ≡ vec_len «data».old.buffer }
+        ensures data_holds { WindowHolds (I.device image.new).told «data».new }
         ensures ok { OnOk result (I.device image.new ≡ I.device image.old) }
         ensures err { IfErr result (λ fault. Faulted (I.device image.old) (I.device image.new) fault.sector) }
     {

@@ -66,6 +66,8 @@ impl Entries {
 
     /// A reading of no entries.
     pub fn none(geometry: &Geometry) -> Entries
+        ensures entries { (b : List ℕ) → to_come b result ≡ [] }
+        ensures left { left result ≤ 2 ^ 28 }
         ensures geometry { result.chunks.walk.geometry ≡ geometry.now }
     {
         let inode = Inode {
@@ -77,7 +79,9 @@ impl Entries {
             blocks: 0,
             uid: 0,
         };
-        Entries::start(geometry, &inode, 0)
+        let mut entries = Entries::start(geometry, &inode, 0);
+        entries.stop();
+        entries
     }
 
     /// No entry comes any more.
@@ -102,13 +106,13 @@ impl Entries {
         &mut self,
         image: &mut I,
         blocks: &mut Blocks,
-        data: &mut Window,
+        window: &mut Window,
     ) -> Result<bool, ImageFault>
         requires volume { self.old.chunks.walk.geometry.layout.size * self.old.chunks.walk.geometry.layout.fsize ≤ (I.device image.old).size }
         requires room { HasRoom self.old.chunks.walk.geometry.layout blocks.old }
         requires holds { BlocksHold self.old.chunks.walk.geometry.layout (I.device image.old).told blocks.old }
-        requires data_room { self.old.chunks.walk.geometry.layout.bsize ≤ vec_len data.old.buffer }
-        requires data_holds { WindowHolds (I.device image.old).told data.old }
+        requires data_room { self.old.chunks.walk.geometry.layout.bsize ≤ vec_len window.old.buffer }
+        requires data_holds { WindowHolds (I.device image.old).told window.old }
         ensures entries { OnOk result (WhereTold (I.device image.old).told (λ b. to_come b self.new ≡ to_come b self.old)) }
         ensures some { IfOk result (λ found. found ≡ true → IsSome (entry_in self.new.order self.new.chunk self.new.place)) }
         ensures none { IfOk result (λ found. found ≡ false → WhereTold (I.device image.old).told (λ b. to_come b self.old ≡ [])) }
@@ -116,8 +120,8 @@ impl Entries {
         ensures geometry { self.new.chunks.walk.geometry ≡ self.old.chunks.walk.geometry }
         ensures size { vec_len blocks.new.buffer ≡ vec_len blocks.old.buffer }
         ensures holds { BlocksHold self.old.chunks.walk.geometry.layout (I.device image.new).told blocks.new }
-        ensures data_size { vec_len data.new.buffer ≡ vec_len data.old.buffer }
-        ensures data_holds { WindowHolds (I.device image.new).told data.new }
+        ensures data_size { vec_len window.new.buffer ≡ vec_len window.old.buffer }
+        ensures data_holds { WindowHolds (I.device image.new).told window.new }
         ensures ok { OnOk result (I.device image.new ≡ I.device image.old) }
         ensures err { IfErr result (λ fault. Faulted (I.device image.old) (I.device image.new) fault.sector) }
     {
@@ -126,7 +130,7 @@ impl Entries {
                 return Ok(true);
             }
             self.place = 512;
-            match self.chunks.next(image, blocks, data, &mut self.chunk)? {
+            match self.chunks.next(image, blocks, window, &mut self.chunk)? {
                 None => return Ok(false),
                 Some(offset) => {
                     self.first = offset == 0;
@@ -168,25 +172,25 @@ impl Entries {
         &mut self,
         image: &mut I,
         blocks: &mut Blocks,
-        data: &mut Window,
+        window: &mut Window,
     ) -> Result<Option<Named>, ImageFault>
         requires volume { self.old.chunks.walk.geometry.layout.size * self.old.chunks.walk.geometry.layout.fsize ≤ (I.device image.old).size }
         requires room { HasRoom self.old.chunks.walk.geometry.layout blocks.old }
         requires holds { BlocksHold self.old.chunks.walk.geometry.layout (I.device image.old).told blocks.old }
-        requires data_room { self.old.chunks.walk.geometry.layout.bsize ≤ vec_len data.old.buffer }
-        requires data_holds { WindowHolds (I.device image.old).told data.old }
+        requires data_room { self.old.chunks.walk.geometry.layout.bsize ≤ vec_len window.old.buffer }
+        requires data_holds { WindowHolds (I.device image.old).told window.old }
         ensures entries { IfOk result (λ o. WhereTold (I.device image.old).told (λ b. MatchOption o (to_come b self.old ≡ [])
             (λ named. to_come b self.old ≡ seen_of named (last_name self.new) ∷ to_come b self.new))) }
         ensures left { IfOk result (λ o. IfSome o (λ _. left self.new < left self.old)) }
         ensures geometry { self.new.chunks.walk.geometry ≡ self.old.chunks.walk.geometry }
         ensures size { vec_len blocks.new.buffer ≡ vec_len blocks.old.buffer }
         ensures holds { BlocksHold self.old.chunks.walk.geometry.layout (I.device image.new).told blocks.new }
-        ensures data_size { vec_len data.new.buffer ≡ vec_len data.old.buffer }
-        ensures data_holds { WindowHolds (I.device image.new).told data.new }
+        ensures data_size { vec_len window.new.buffer ≡ vec_len window.old.buffer }
+        ensures data_holds { WindowHolds (I.device image.new).told window.new }
         ensures ok { OnOk result (I.device image.new ≡ I.device image.old) }
         ensures err { IfErr result (λ fault. Faulted (I.device image.old) (I.device image.new) fault.sector) }
     {
-        if self.advance(image, blocks, data)? {
+        if self.advance(image, blocks, window)? {
             Ok(Some(self.take()))
         } else {
             Ok(None)

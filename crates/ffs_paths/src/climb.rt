@@ -41,23 +41,23 @@ fn find<I: Image>(
     entries: &mut Entries,
     image: &mut I,
     blocks: &mut Blocks,
-    data: &mut Window,
+    window: &mut Window,
     number: u32,
 ) -> Result<bool, ImageFault>
     requires volume { entries.old.chunks.walk.geometry.layout.size * entries.old.chunks.walk.geometry.layout.fsize ≤ (I.device image.old).size }
     requires room { HasRoom entries.old.chunks.walk.geometry.layout blocks.old }
     requires holds { BlocksHold entries.old.chunks.walk.geometry.layout (I.device image.old).told blocks.old }
-    requires data_room { entries.old.chunks.walk.geometry.layout.bsize ≤ vec_len data.old.buffer }
-    requires data_holds { WindowHolds (I.device image.old).told data.old }
+    requires data_room { entries.old.chunks.walk.geometry.layout.bsize ≤ vec_len window.old.buffer }
+    requires data_holds { WindowHolds (I.device image.old).told window.old }
     ensures name { IfOk result (λ found. WhereTold (I.device image.old).told (λ b. name_in number (to_come b entries.old) ≡ (if found then last_name entries.new else []))) }
     ensures size { vec_len blocks.new.buffer ≡ vec_len blocks.old.buffer }
     ensures holds { BlocksHold entries.old.chunks.walk.geometry.layout (I.device image.new).told blocks.new }
-    ensures data_size { vec_len data.new.buffer ≡ vec_len data.old.buffer }
-    ensures data_holds { WindowHolds (I.device image.new).told data.new }
+    ensures data_size { vec_len window.new.buffer ≡ vec_len window.old.buffer }
+    ensures data_holds { WindowHolds (I.device image.new).told window.new }
     ensures ok { OnOk result (I.device image.new ≡ I.device image.old) }
     ensures err { IfErr result (λ fault. Faulted (I.device image.old) (I.device image.new) fault.sector) }
 {
-    'entries: while let Some(entry) = entries.next(image, blocks, data)? {
+    'entries: while let Some(entry) = entries.next(image, blocks, window)? {
         if names(entry, number) {
             return Ok(true);
         }

@@ -35,6 +35,6 @@ entries-preserved g c =
       holds = holds_on c.args.entries.now.chunks.walk.geometry c.entries.entries.chunks.walk.geometry (g.I.Image.device c.args.image.now).told (g.I.Image.device c.next.new.image).told c.next.new.blocks
           i.geometry (ap (λ d. d.told) device) c.next.ensures.holds;
       data_size = c.next.ensures.data_size ∙ i.data_size;
-      data_holds = data_on (g.I.Image.device c.args.image.now).told (g.I.Image.device c.next.new.image).told c.next.new.data (ap (λ d. d.told) device) c.next.ensures.data_holds;
+      data_holds = data_on (g.I.Image.device c.args.image.now).told (g.I.Image.device c.next.new.image).told c.next.new.window (ap (λ d. d.told) device) c.next.ensures.data_holds;
       device = device;
     }

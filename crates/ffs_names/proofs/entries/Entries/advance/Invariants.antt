@@ -12,8 +12,8 @@ invariant-chunks g l = record {
   geometry : l.self.chunks.walk.geometry ≡ l.fn.self.chunks.walk.geometry;
   size : vec_len l.blocks.buffer ≡ vec_len l.fn.blocks.buffer;
   holds : BlocksHold l.fn.self.chunks.walk.geometry.layout (g.I.Image.device l.fn.image).told l.blocks;
-  data_size : vec_len l.data.buffer ≡ vec_len l.fn.data.buffer;
-  data_holds : WindowHolds (g.I.Image.device l.fn.image).told l.data;
+  data_size : vec_len l.window.buffer ≡ vec_len l.fn.window.buffer;
+  data_holds : WindowHolds (g.I.Image.device l.fn.image).told l.window;
   device : g.I.Image.device l.image ≡ g.I.Image.device l.fn.image;
 }
 
