@@ -59,8 +59,8 @@ pub fn look_directory<I: Image>(
     requires volume { geometry.now.layout.size * geometry.now.layout.fsize ≤ (I.device image.old).size }
     requires room { HasRoom geometry.now.layout blocks.old }
     requires holds { BlocksHold geometry.now.layout (I.device image.old).told blocks.old }
-    requires data_room { geometry.now.layout.bsize ≤ vec_len data.old.buffer }
-    requires data_holds { WindowHolds (I.device image.old).told data.old }
+    requires data_room { geometry.now.layout.bsize ≤ vec_len «data».old.buffer }
+    requires data_holds { WindowHolds (I.device image.old).told «data».old }
     requires stamps { length stamps.old ≡ length inodes.now.kinds.now }
     requires dir { 2 ≤ dir }
     ensures quiet { IfOk result (λ f. WhereTold (I.device image.old).told (λ b. (v : Volume) → Sees v inodes.now → inode.now.size < 2 ^ 31 →
@@ -72,8 +72,8 @@ pub fn look_directory<I: Image>(
         find (λ c. c.offset == 0) (chunks_read geometry.now.layout inode.now cut b) ≡ start_of [] f.started geometry.now.layout.order start.new)) }
     ensures size { vec_len blocks.new.buffer ≡ vec_len blocks.old.buffer }
     ensures holds { BlocksHold geometry.now.layout (I.device image.new).told blocks.new }
-    ensures data_size { vec_len data.new.buffer ≡ vec_len data.old.buffer }
-    ensures data_holds { WindowHolds (I.device image.new).told data.new }
+    ensures data_size { vec_len «data».new.buffer ≡ vec_len «data».old.buffer }
+    ensures data_holds { WindowHolds (I.device image.new).told «data».new }
     ensures ok { OnOk result (I.device image.new ≡ I.device image.old) }
     ensures err { IfErr result (λ fault. Faulted (I.device image.old) (I.device image.new) fault.sector) }
 {
