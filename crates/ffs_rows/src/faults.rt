@@ -17,6 +17,15 @@ const ROWS: [&str; 4] = [
     "lost_cycle 1",
 ];
 
+// The rows with trees of indirect blocks that point to themselves, and the most reads that a run over one may make.
+const TREES: [&str; 2] = ["triple_tree_self 1", "indirect_claims_itself 1"];
+
+const READS: u64 = 300;
+
+// What is printed of the clean image where the chunk of its root can't be read.
+const CUT_AT_ROOT: &[u8] =
+    b"** t.img (NO WRITE)\n** Last Mounted on /mnt\n** Phase 1 - Check Blocks and Sizes\n** Phase 2 - Check Pathnames\nCAN NOT READ: BLK 72\n";
+
 /// Compares each run with what a fault leaves of the row's report.
 pub fn compare(rt: &HostRuntime, tally: &mut Tally) -> io::Result<()> {
     for line in ROWS {
@@ -24,7 +33,28 @@ pub fn compare(rt: &HostRuntime, tally: &mut Tally) -> io::Result<()> {
         fail_reads(rt, &row, tally)?;
         fail_writes(rt, &row, tally)?;
     }
-    Ok(())
+    for line in TREES {
+        let row = Row::read(rt, line)?;
+        bound_reads(rt, &row, tally)?;
+    }
+    fail_root(rt, tally)
+}
+
+// The read of the root's chunk fails.
+fn fail_root(rt: &HostRuntime, tally: &mut Tally) -> io::Result<()> {
+    let row = Row::read(rt, "clean 8")?;
+    let mut image = FuseImage::touching(row.in_memory(rt.alloc())?, 72);
+    let (end, text) = row.checked(rt.alloc(), &mut image);
+    let agrees = end == End::ReadFault(72) && text.as_slice() == CUT_AT_ROOT;
+    tally.count(rt, row.name.as_str(), "its root fails", agrees)
+}
+
+// A run makes fewer reads than would blow a fuse.
+fn bound_reads(rt: &HostRuntime, row: &Row, tally: &mut Tally) -> io::Result<()> {
+    let mut image = FuseImage::nth(row.in_memory(rt.alloc())?, READS);
+    let (end, text) = row.checked(rt.alloc(), &mut image);
+    let agrees = image.failures() == 0 && end.status() == row.status && text == row.report;
+    tally.count(rt, row.name.as_str(), "few reads", agrees)
 }
 
 // Each read fails in turn, until a run has no failure.

@@ -2,8 +2,6 @@
 #![tactic(auto)]
 
 #[cfg(test)]
-mod small;
-#[cfg(test)]
 mod tests;
 
 use ffs_check::run::run;
