@@ -12,6 +12,3 @@ mod tell;
 
 pub use first::phase1;
 pub use second::phase1b;
-
-#[cfg(test)]
-mod tests;

@@ -5,6 +5,3 @@ mod phase;
 mod told;
 
 pub use phase::phase3;
-
-#[cfg(test)]
-mod tests;

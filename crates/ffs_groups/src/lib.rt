@@ -10,6 +10,3 @@ pub mod maps;
 
 pub use check::{Findings, compare_group};
 pub use counts::{Counts, group_counts};
-
-#[cfg(test)]
-mod tests;

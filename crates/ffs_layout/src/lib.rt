@@ -19,6 +19,3 @@ pub use geometry::Geometry;
 pub use group::{Group, GroupSummary};
 pub use inode::decode_inode;
 pub use superblock::{Super, read_super};
-
-#[cfg(test)]
-mod tests;

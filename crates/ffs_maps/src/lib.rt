@@ -132,6 +132,3 @@ impl FragmentMap {
         true
     }
 }
-
-#[cfg(test)]
-mod tests;

@@ -14,6 +14,3 @@ pub use chunks::Chunks;
 pub use entries::Entries;
 pub use graph::survey;
 pub use role::role_of;
-
-#[cfg(test)]
-mod tests;

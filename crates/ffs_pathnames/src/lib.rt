@@ -22,6 +22,3 @@ pub mod tree;
 pub mod view;
 
 pub use phase::{Root, phase2};
-
-#[cfg(test)]
-mod tests;

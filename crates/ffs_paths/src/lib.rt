@@ -7,6 +7,3 @@ pub mod path;
 
 pub use buffer::{PathBuffer, PathText};
 pub use path::path_of;
-
-#[cfg(test)]
-mod tests;

@@ -17,6 +17,3 @@ pub use fuse::FuseWriter;
 pub use line::{DirectoryLine, DotLine, EntryLine, Heading, Line, ReferenceLine};
 pub use output::{OutFault, Output};
 pub use report::Report;
-
-#[cfg(test)]
-mod tests;

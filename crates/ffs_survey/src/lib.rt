@@ -14,6 +14,3 @@ pub use directories::Directories;
 pub use levels::survey;
 pub use named::{Named, is_dir};
 pub use unref::{is_dead, is_suspect, is_unref};
-
-#[cfg(test)]
-mod tests;

@@ -12,6 +12,3 @@ pub use blocks::Blocks;
 pub use class::class_of;
 pub use walk::Walk;
 pub use window::Window;
-
-#[cfg(test)]
-mod tests;

@@ -6,6 +6,3 @@ pub mod workspace;
 
 pub use table::Table;
 pub use workspace::{Windows, Workspace};
-
-#[cfg(test)]
-mod tests;

@@ -1,4 +1,18 @@
-//! What the program writes, and how it ends.
+//! What the program writes and how it ends, and tests of the crates below it: they stand here so that none is proved twice for them.
+
+mod claims;
+mod connectivity;
+mod groups;
+mod image;
+mod layout;
+mod maps;
+mod names;
+mod pathnames;
+mod paths;
+mod report;
+mod survey;
+mod walk;
+mod workspace;
 
 use ffs_check::args::Args;
 use ffs_check::opening::check_opening;
