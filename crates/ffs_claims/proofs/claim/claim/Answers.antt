@@ -11,7 +11,32 @@ use Rattle.ffs_workspace.specs.Holds.{claims_of}
 use Rattle.ffs_claims.specs.Lines.{of_lines}
 use Rattle.ffs_claims.proofs.Weights.{stays, moves_on, bound_open, kept_bound}
 use Rattle.ffs_claims.proofs.Goes.{claims_on, lines_on, cut_stays, cut_silent}
+use Rattle.std.specs.Prelude.{vec_len}
+use Rattle.ffs_volume.specs.declared.Layout.{Layout}
+use Rattle.ffs_walk.specs.declared.blocks.Blocks.{Blocks}
+use Rattle.ffs_workspace.specs.declared.workspace.Workspace.{Workspace}
+use Rattle.ffs_workspace.specs.Lengths.{IsFor}
 use Rattle.ffs_claims.proofs.claim.claim.Goals as goal
+
+-- a read left the workspace as it was made
+blocks_read : (v : Layout) (w : Workspace) (b : Blocks) → vec_len b.buffer ≡ vec_len w.windows.blocks.buffer → IsFor v w → IsFor v (record w { windows = record w.windows { blocks = b } })
+blocks_read v w b same m = record {
+  claimed = m.claimed;
+  doubled = m.doubled;
+  untold = m.untold;
+  kinds = m.kinds;
+  marked = m.marked;
+  named = m.named;
+  reached = m.reached;
+  leaders = m.leaders;
+  references = m.references;
+  cut = m.cut;
+  parents = m.parents;
+  queue = m.queue;
+  table = m.table;
+  blocks = same ∙ m.blocks;
+  chunk = m.chunk;
+}
 
 pub loop-next-init : goal.loop-next-init
 loop-next-init g c =
@@ -182,3 +207,155 @@ returns-in_default-clause-bound g c =
       bound_open (claims_of c.args.workspace.now) (claims_of c.loop-next.workspace) c.args.geometry.now.layout.size
           (length_bits _ _ ∙ inv.made.claimed) inv.open_still inv.moves,
     )
+
+pub next-requires-clause-volume : goal.next-requires-clause-volume
+next-requires-clause-volume g c =
+    let inv = c.loop-next.invariant in
+    rw (inv.geometry, inv.device) c.requires.volume
+
+pub next-requires-clause-room : goal.next-requires-clause-room
+next-requires-clause-room g c =
+    let inv = c.loop-next.invariant in
+    record { blocks_fit = rw (inv.geometry, inv.made.blocks) (omega arith) }
+
+pub next-requires-clause-holds : goal.next-requires-clause-holds
+next-requires-clause-holds g c =
+    let inv = c.loop-next.invariant in
+    rw (inv.geometry, inv.device) inv.windows.blocks
+
+pub returns-in_err-next-clause-same : goal.returns-in_err-next-clause-same
+returns-in_err-next-clause-same g c = c.loop-next.invariant.same
+
+pub returns-in_err-next-clause-image : goal.returns-in_err-next-clause-image
+returns-in_err-next-clause-image g c =
+    let p = err_from_is_err_and c.from_residual.result c.from_residual.ensures.1 in
+    rw (p.1, p.2) (rw c.loop-next.invariant.device at c.in_err-next.ensures.err)
+
+pub returns-in_err-next-clause-claims : goal.returns-in_err-next-clause-claims
+returns-in_err-next-clause-claims g c =
+    let p = err_from_is_err_and c.from_residual.result c.from_residual.ensures.1 in
+    rw p.1 tt
+
+pub returns-in_err-next-clause-moves : goal.returns-in_err-next-clause-moves
+returns-in_err-next-clause-moves g c =
+    let p = err_from_is_err_and c.from_residual.result c.from_residual.ensures.1 in
+    rw p.1 tt
+
+pub returns-in_err-next-clause-made : goal.returns-in_err-next-clause-made
+returns-in_err-next-clause-made g c =
+    let inv = c.loop-next.invariant in
+    blocks_read c.args.geometry.now.layout c.loop-next.workspace c.next.new.blocks c.next.ensures.size inv.made
+
+pub returns-in_err-next-clause-windows : goal.returns-in_err-next-clause-windows
+returns-in_err-next-clause-windows g c =
+    let inv = c.loop-next.invariant in
+    let told = c.in_err-next.ensures.err.told ∙ ap (λ d. d.told) inv.device in
+    record { table = rw told inv.windows.table; blocks = rw inv.geometry at c.next.ensures.holds; chunk = rw told inv.windows.chunk }
+
+pub returns-in_err-next-clause-found : goal.returns-in_err-next-clause-found
+returns-in_err-next-clause-found g c =
+    let inv = c.loop-next.invariant in
+    record { kinds = inv.found.kinds; marked = inv.found.marked; cut = inv.found.cut }
+
+pub step-requires-clause-made : goal.step-requires-clause-made
+step-requires-clause-made g c =
+    let inv = c.loop-next.invariant in
+    blocks_read c.args.geometry.now.layout c.loop-next.workspace c.next.new.blocks c.next.ensures.size inv.made
+
+pub step-requires-clause-open : goal.step-requires-clause-open
+step-requires-clause-open g c = c.loop-next.invariant.open_still
+
+pub step-requires-clause-length : goal.step-requires-clause-length
+step-requires-clause-length g c =
+    let inv = c.loop-next.invariant in
+    rw (inv.geometry, c.in-Some.is) at c.in_ok-next.ensures.length
+
+pub returns-in_err-step-clause-same : goal.returns-in_err-step-clause-same
+returns-in_err-step-clause-same g c = c.step.ensures.same ∙ c.loop-next.invariant.same
+
+pub returns-in_err-step-clause-image : goal.returns-in_err-step-clause-image
+returns-in_err-step-clause-image g c =
+    let p = err_from_is_err_and c.from_residual-in_err-step.result c.from_residual-in_err-step.ensures.1 in
+    rw (p.1, p.2) (c.in_ok-next.ensures.ok ∙ c.loop-next.invariant.device)
+
+pub returns-in_err-step-clause-claims : goal.returns-in_err-step-clause-claims
+returns-in_err-step-clause-claims g c =
+    let p = err_from_is_err_and c.from_residual-in_err-step.result c.from_residual-in_err-step.ensures.1 in
+    rw p.1 tt
+
+pub returns-in_err-step-clause-moves : goal.returns-in_err-step-clause-moves
+returns-in_err-step-clause-moves g c =
+    let p = err_from_is_err_and c.from_residual-in_err-step.result c.from_residual-in_err-step.ensures.1 in
+    rw p.1 tt
+
+pub returns-in_err-step-clause-made : goal.returns-in_err-step-clause-made
+returns-in_err-step-clause-made g c = c.step.ensures.made
+
+pub returns-in_err-step-clause-windows : goal.returns-in_err-step-clause-windows
+returns-in_err-step-clause-windows g c =
+    let inv = c.loop-next.invariant in
+    let told = ap (λ d. d.told) (c.in_ok-next.ensures.ok ∙ inv.device) in
+    record {
+      table = rw (c.step.ensures.windows, told) inv.windows.table;
+      blocks = rw c.step.ensures.windows (rw inv.geometry at c.next.ensures.holds);
+      chunk = rw (c.step.ensures.windows, told) inv.windows.chunk;
+    }
+
+pub returns-in_err-step-clause-found : goal.returns-in_err-step-clause-found
+returns-in_err-step-clause-found g c =
+    let inv = c.loop-next.invariant in
+    let found = c.step.ensures.found in
+    record { kinds = found.kinds ∙ inv.found.kinds; marked = found.marked ∙ inv.found.marked; cut = found.cut ∙ inv.found.cut }
+
+pub loop-next-smaller : goal.loop-next-smaller
+loop-next-smaller g c = rw c.in-Some.is at c.in_ok-next.ensures.falls
+
+pub returns-then-not-is_open-clause-same : goal.returns-then-not-is_open-clause-same
+returns-then-not-is_open-clause-same g c = c.step.ensures.same ∙ c.loop-next.invariant.same
+
+pub returns-then-not-is_open-clause-image : goal.returns-then-not-is_open-clause-image
+returns-then-not-is_open-clause-image g c = c.in_ok-next.ensures.ok ∙ c.loop-next.invariant.device
+
+pub returns-then-not-is_open-clause-made : goal.returns-then-not-is_open-clause-made
+returns-then-not-is_open-clause-made g c = c.step.ensures.made
+
+pub returns-then-not-is_open-clause-windows : goal.returns-then-not-is_open-clause-windows
+returns-then-not-is_open-clause-windows g c =
+    let inv = c.loop-next.invariant in
+    let told = ap (λ d. d.told) (c.in_ok-next.ensures.ok ∙ inv.device) in
+    record {
+      table = rw (c.step.ensures.windows, told) inv.windows.table;
+      blocks = rw c.step.ensures.windows (rw inv.geometry at c.next.ensures.holds);
+      chunk = rw (c.step.ensures.windows, told) inv.windows.chunk;
+    }
+
+pub returns-then-not-is_open-clause-found : goal.returns-then-not-is_open-clause-found
+returns-then-not-is_open-clause-found g c =
+    let inv = c.loop-next.invariant in
+    let found = c.step.ensures.found in
+    record { kinds = found.kinds ∙ inv.found.kinds; marked = found.marked ∙ inv.found.marked; cut = found.cut ∙ inv.found.cut }
+
+pub returns-in_default-clause-same : goal.returns-in_default-clause-same
+returns-in_default-clause-same g c = c.loop-next.invariant.same
+
+pub returns-in_default-clause-image : goal.returns-in_default-clause-image
+returns-in_default-clause-image g c = c.in_ok-next.ensures.ok ∙ c.loop-next.invariant.device
+
+pub returns-in_default-clause-moves : goal.returns-in_default-clause-moves
+returns-in_default-clause-moves g c = c.loop-next.invariant.moves
+
+pub returns-in_default-clause-made : goal.returns-in_default-clause-made
+returns-in_default-clause-made g c =
+    let inv = c.loop-next.invariant in
+    blocks_read c.args.geometry.now.layout c.loop-next.workspace c.next.new.blocks c.next.ensures.size inv.made
+
+pub returns-in_default-clause-windows : goal.returns-in_default-clause-windows
+returns-in_default-clause-windows g c =
+    let inv = c.loop-next.invariant in
+    let told = ap (λ d. d.told) (c.in_ok-next.ensures.ok ∙ inv.device) in
+    record { table = rw told inv.windows.table; blocks = rw inv.geometry at c.next.ensures.holds; chunk = rw told inv.windows.chunk }
+
+pub returns-in_default-clause-found : goal.returns-in_default-clause-found
+returns-in_default-clause-found g c =
+    let inv = c.loop-next.invariant in
+    record { kinds = inv.found.kinds; marked = inv.found.marked; cut = inv.found.cut }
