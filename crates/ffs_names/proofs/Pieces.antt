@@ -44,3 +44,7 @@ some_taken (suc n) x old new some e =
 pub none_taken : (budget : ℕ) (old : List Chunk) → old ≡ [] → take budget old ≡ []
 none_taken zero old e = refl
 none_taken (suc n) old e = ap (take (suc n)) e
+
+-- a count of Runs that stays
+pub no_more : (n : ℕ) → n ≤ n
+no_more n = omega arith

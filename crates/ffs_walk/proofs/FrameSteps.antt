@@ -9,7 +9,7 @@ use Rattle.ffs_volume.specs.Steps.{word_of}
 use Rattle.ffs_volume.specs.Steps.{tail_of, any_word_from, steps_under, word_at}
 use Rattle.ffs_walk.specs.declared.frame.Item.{Item}
 use Rattle.ffs_walk.specs.declared.frame.Item.TheVariants.{Missing, Word}
-use Rattle.ffs_walk.specs.Fits.{FrameFits, IsBelow}
+use Rattle.ffs_walk.specs.Fits.{FrameFits, IsBelow, IsSpent}
 use Rattle.ffs_walk.specs.Frames.{IsFrom}
 use Rattle.ffs_volume.specs.Steps.{used_words}
 use Rattle.std.specs.Int.{div_ceil}
@@ -85,3 +85,26 @@ item_one (Word address block) = refl
 
 pub falls_by : (i s' s r : ℕ) → i + s' ≤ s → i ≡ 1 → s' + r < s + r
 falls_by i s' s r h e = omega arith
+
+-- a frame that takes an item still fits
+pub kept_fits : (g : Layout) (blocks span : ℕ) (f f' : Frame) → f.next < f.used → (f'.address ≡ f.address) × (f'.first ≡ f.first) × (f'.used ≡ f.used)
+    → FrameFits g blocks span f → FrameFits g blocks span f'
+kept_fits g blocks span f f' some same fits = record {
+  words = rw (same.2, same.1) fits.words;
+  in_range_there = λ _. rw same.0 (fits.in_range_there some);
+}
+
+-- a walk falls where its double or triple frame takes an item, and what the item stands for goes below
+pub falls_in_double : (i d' s d t u left : ℕ) → 1 + left ≤ i + (s + (d' + (t + u))) → i + d' ≤ d → left < s + (d + (t + u))
+falls_in_double i d' s d t u left l f = omega arith
+
+pub falls_in_triple : (i t' s d t u left : ℕ) → 1 + left ≤ i + (s + (d + (t' + u))) → i + t' ≤ t → left < s + (d + (t + u))
+falls_in_triple i t' s d t u left l f = omega arith
+
+-- a frame with a word left is not spent
+pub some_left : (f : Frame) → f.next < f.used → IsSpent f → ⊥
+some_left f some spent = omega (arith, spent.0)
+
+-- a frame uses no more words than a block has
+pub words_fit : (g : Layout) (blocks span : ℕ) (f : Frame) → FrameFits g blocks span f → f.used ≤ g.nindir
+words_fit g blocks span f fits = omega (arith, fits.words)

@@ -1,7 +1,9 @@
-use Rattle.std.proofs.Common.{◌∙◌, ap, sym, arith, Ok, ◌∷◌}
+use Rattle.std.proofs.Common.{◌∙◌, ◌+◌, ap, sym, refl, arith, Ok, ◌∷◌}
 use Rattle.ffs_volume.specs.declared.Step.TheVariants.{Run}
 use Rattle.ffs_walk.specs.Rests.{rest as steps_left}
 use Rattle.ffs_names.specs.Keepings.{replay_in}
+use Rattle.ffs_names.specs.Readings.{runs_left}
+use Rattle.ffs_names.proofs.Pieces.{no_more}
 use Rattle.ffs_names.proofs.Advances.{over_rest, unseen_none, end_on, end_none, tail_on, gap_on, run_on, runs_on, runs_tail, runs_gap, holds_on, walked, walked_runs}
 use Rattle.ffs_names.proofs.chunks.Chunks.advance.Goals as goal
 
@@ -104,3 +106,25 @@ steps-preserved-in-Some-Run g c = record {
       c.steps.invariant.same.geometry (ap (λ d. d.told) (c.in_ok-next.ensures.ok ∙ c.steps.invariant.device)) c.next.ensures.holds;
   device = c.in_ok-next.ensures.ok ∙ c.steps.invariant.device;
 }
+
+pub steps-init : goal.steps-init
+steps-init g c = record {
+  chunks = λ b t. refl;
+  runs = λ b t. no_more (c.args.self.now.runs + runs_left b c.args.self.now);
+  same = record { geometry = refl; cut = refl; taken = refl; budget = refl };
+  size = refl;
+  holds = c.requires.holds;
+  device = refl;
+}
+
+pub returns-then-not-is_seen-clause-chunks : goal.returns-then-not-is_seen-clause-chunks
+returns-then-not-is_seen-clause-chunks g c = c.steps.invariant.chunks
+
+pub returns-then-not-is_seen-clause-runs : goal.returns-then-not-is_seen-clause-runs
+returns-then-not-is_seen-clause-runs g c = c.steps.invariant.runs
+
+pub returns-clause-chunks : goal.returns-clause-chunks
+returns-clause-chunks g c = c.steps.invariant.chunks
+
+pub returns-clause-runs : goal.returns-clause-runs
+returns-clause-runs g c = c.steps.invariant.runs

@@ -1,4 +1,4 @@
-use Rattle.std.proofs.Common.{◌∙◌, ap, arith}
+use Rattle.std.proofs.Common.{◌∙◌, ap, sym, arith}
 use Rattle.ffs_walk.specs.Windows.{held_bytes}
 use Rattle.ffs_walk.specs.Rests.{rest as steps_left}
 use Rattle.ffs_names.specs.Readings.{all_chunks, chunks_behind}
@@ -16,3 +16,12 @@ returns-clause-chunks g c = λ b t.
     (c.in_ok-fill.ensures.bytes b (ap (λ d. d.told) c.in_ok-advance.ensures.ok ∙ t)) in
     hand_step s.walk.geometry.layout.order c.args.self.now.walk.geometry.layout.order b h.place h.offset h.next h.count c.copy_from_slice.new.self (chunks_behind b s (steps_left b s.walk)) (all_chunks b c.args.self.now) c.from.result
     order more chunk c.from.ensures (c.in_ok-advance.ensures.chunks b t)
+
+pub returns-then-not-branch-clause-chunks : goal.returns-then-not-branch-clause-chunks
+returns-then-not-branch-clause-chunks g c = λ b t. sym (c.in_ok-advance.ensures.chunks b t) ∙ c.in_ok-advance.ensures.none c.if-not-branch.true b t
+
+pub returns-then-not-branch-clause-none : goal.returns-then-not-branch-clause-none
+returns-then-not-branch-clause-none g c = c.in_ok-advance.ensures.none c.if-not-branch.true
+
+pub returns-then-not-branch-clause-runs : goal.returns-then-not-branch-clause-runs
+returns-then-not-branch-clause-runs g c = c.in_ok-advance.ensures.runs

@@ -1,8 +1,8 @@
-use Rattle.std.proofs.Common.{arith, ◌*◌, ◌+◌, ◌-◌, refl}
+use Rattle.std.proofs.Common.{arith, ◌*◌, ◌+◌, ◌-◌, Ok, ap, refl}
 use Rattle.ffs_walk.specs.Frames.{frame_left, item_left}
-use Rattle.ffs_walk.specs.Rests.{rest, most_at}
-use Rattle.ffs_walk.proofs.FrameSteps.{item_below, word_fits, item_one, falls_by}
-use Rattle.ffs_walk.proofs.WalkSteps.{double_told, triple_told, square_some, some_words}
+use Rattle.ffs_walk.specs.Rests.{rest, left, most_at}
+use Rattle.ffs_walk.proofs.FrameSteps.{item_below, word_fits, kept_fits, words_fit, some_left, item_one, falls_by, falls_in_double, falls_in_triple}
+use Rattle.ffs_walk.proofs.WalkSteps.{double_told, triple_told, one_some, square_some, some_words}
 use Rattle.ffs_walk.proofs.walk.Walk.advance.Goals as goal
 
 pub step_in_double-requires-clause-below : goal.step_in_double-requires-clause-below
@@ -60,3 +60,170 @@ pub step_in_single-requires : goal.step_in_single-requires
 step_in_single-requires g c =
     let w = c.args.self.now in
     item_below w.geometry.layout w.blocks 1 w.single c.in_ok-item.item (omega arith) w.single_fits c.in_ok-item.ensures.item
+
+pub invariant_of-self : goal.invariant_of-self
+invariant_of-self g c =
+    let w = c.args.self.now in
+    record {
+      in_order = w.in_order;
+      in_array = w.in_array;
+      used_fits = w.used_fits;
+      last_some = w.last_some;
+      last_small = w.last_small;
+      blocks_small = w.blocks_small;
+      single_fits = kept_fits w.geometry.layout w.blocks 1 w.single c.take.new.self (c.if-is_left.ensures.left.0 refl) c.take.ensures.place w.single_fits;
+      double_fits = w.double_fits;
+      triple_fits = w.triple_fits;
+    }
+
+pub returns-in_err-item-clause-over : goal.returns-in_err-item-clause-over
+returns-in_err-item-clause-over g c = λ o. absurd (some_left c.args.self.now.single (c.if-is_left.ensures.left.0 refl) o.single)
+
+pub returns-then-is_left-clause-over : goal.returns-then-is_left-clause-over
+returns-then-is_left-clause-over g c = λ o. absurd (some_left c.args.self.now.single (c.if-is_left.ensures.left.0 refl) o.single)
+
+pub invariant_of-self-then-is_left-2 : goal.invariant_of-self-then-is_left-2
+invariant_of-self-then-is_left-2 g c =
+    let w = c.args.self.now in
+    record {
+      in_order = w.in_order;
+      in_array = w.in_array;
+      used_fits = w.used_fits;
+      last_some = w.last_some;
+      last_small = w.last_small;
+      blocks_small = w.blocks_small;
+      single_fits = w.single_fits;
+      double_fits = kept_fits w.geometry.layout w.blocks w.geometry.layout.nindir w.double c.take-then-is_left-2.new.self (c.if-is_left-2.ensures.left.0 refl) c.take-then-is_left-2.ensures.place w.double_fits;
+      triple_fits = w.triple_fits;
+    }
+
+pub returns-in_err-item-2-clause-over : goal.returns-in_err-item-2-clause-over
+returns-in_err-item-2-clause-over g c = λ o. absurd (some_left c.args.self.now.double (c.if-is_left-2.ensures.left.0 refl) o.double)
+
+pub returns-then-is_left-2-clause-over : goal.returns-then-is_left-2-clause-over
+returns-then-is_left-2-clause-over g c = λ o. absurd (some_left c.args.self.now.double (c.if-is_left-2.ensures.left.0 refl) o.double)
+
+pub invariant_of-self-then-is_left-3 : goal.invariant_of-self-then-is_left-3
+invariant_of-self-then-is_left-3 g c =
+    let w = c.args.self.now in
+    record {
+      in_order = w.in_order;
+      in_array = w.in_array;
+      used_fits = w.used_fits;
+      last_some = w.last_some;
+      last_small = w.last_small;
+      blocks_small = w.blocks_small;
+      single_fits = w.single_fits;
+      double_fits = w.double_fits;
+      triple_fits = kept_fits w.geometry.layout w.blocks (w.geometry.layout.nindir * w.geometry.layout.nindir) w.triple c.take-then-is_left-3.new.self (c.if-is_left-3.ensures.left.0 refl) c.take-then-is_left-3.ensures.place w.triple_fits;
+    }
+
+pub returns-in_err-item-3-clause-over : goal.returns-in_err-item-3-clause-over
+returns-in_err-item-3-clause-over g c = λ o. absurd (some_left c.args.self.now.triple (c.if-is_left-3.ensures.left.0 refl) o.triple)
+
+pub returns-then-is_left-3-clause-over : goal.returns-then-is_left-3-clause-over
+returns-then-is_left-3-clause-over g c = λ o. absurd (some_left c.args.self.now.triple (c.if-is_left-3.ensures.left.0 refl) o.triple)
+
+pub returns-clause-over : goal.returns-clause-over
+returns-clause-over g c = λ o.
+    let none = c.step_at_top.ensures.over.0 o.top in
+    (ap (λ x. Ok x) none, c.step_at_top.ensures.none none)
+
+pub returns-then-is_left-2-clause-left : goal.returns-then-is_left-2-clause-left
+returns-then-is_left-2-clause-left g c =
+    let w = c.args.self.now in
+    let words = w.geometry.layout.nindir in
+    falls_in_double (item_left (most_at words 1) c.in_ok-item-2.item) (frame_left (most_at words 1) c.take-then-is_left-2.new.self)
+    (frame_left (most_at words 0) w.single) (frame_left (most_at words 1) w.double) (frame_left (most_at words 2) w.triple) ((w.used - w.next) * most_at words 3) (left c.step_in_double.new.self)
+    c.step_in_double.ensures.left (c.in_ok-item-2.ensures.falls (most_at words 1))
+
+pub returns-then-is_left-3-clause-left : goal.returns-then-is_left-3-clause-left
+returns-then-is_left-3-clause-left g c =
+    let w = c.args.self.now in
+    let words = w.geometry.layout.nindir in
+    falls_in_triple (item_left (most_at words 2) c.in_ok-item-3.item) (frame_left (most_at words 2) c.take-then-is_left-3.new.self)
+    (frame_left (most_at words 0) w.single) (frame_left (most_at words 1) w.double) (frame_left (most_at words 2) w.triple) ((w.used - w.next) * most_at words 3) (left c.step_in_triple.new.self)
+    c.step_in_triple.ensures.left (c.in_ok-item-3.ensures.falls (most_at words 2))
+
+pub take-requires-clause-left : goal.take-requires-clause-left
+take-requires-clause-left g c = c.if-is_left.ensures.left.0 refl
+
+pub take-requires-clause-in_range : goal.take-requires-clause-in_range
+take-requires-clause-in_range g c = c.args.self.now.single_fits.in_range_there (c.if-is_left.ensures.left.0 refl)
+
+pub take-requires-clause-words : goal.take-requires-clause-words
+take-requires-clause-words g c =
+    let w = c.args.self.now in
+    words_fit w.geometry.layout w.blocks 1 w.single w.single_fits
+
+pub take-requires-clause-volume : goal.take-requires-clause-volume
+take-requires-clause-volume g c = c.requires.volume
+
+pub take-requires-clause-room : goal.take-requires-clause-room
+take-requires-clause-room g c = c.requires.room
+
+pub take-requires-clause-holds : goal.take-requires-clause-holds
+take-requires-clause-holds g c = c.requires.holds
+
+pub take-requires-then-is_left-2-clause-left : goal.take-requires-then-is_left-2-clause-left
+take-requires-then-is_left-2-clause-left g c = c.if-is_left-2.ensures.left.0 refl
+
+pub take-requires-then-is_left-2-clause-in_range : goal.take-requires-then-is_left-2-clause-in_range
+take-requires-then-is_left-2-clause-in_range g c = c.args.self.now.double_fits.in_range_there (c.if-is_left-2.ensures.left.0 refl)
+
+pub take-requires-then-is_left-2-clause-words : goal.take-requires-then-is_left-2-clause-words
+take-requires-then-is_left-2-clause-words g c =
+    let w = c.args.self.now in
+    words_fit w.geometry.layout w.blocks w.geometry.layout.nindir w.double w.double_fits
+
+pub take-requires-then-is_left-2-clause-volume : goal.take-requires-then-is_left-2-clause-volume
+take-requires-then-is_left-2-clause-volume g c = c.requires.volume
+
+pub take-requires-then-is_left-2-clause-room : goal.take-requires-then-is_left-2-clause-room
+take-requires-then-is_left-2-clause-room g c = c.requires.room
+
+pub take-requires-then-is_left-2-clause-holds : goal.take-requires-then-is_left-2-clause-holds
+take-requires-then-is_left-2-clause-holds g c = c.requires.holds
+
+pub take-requires-then-is_left-3-clause-left : goal.take-requires-then-is_left-3-clause-left
+take-requires-then-is_left-3-clause-left g c = c.if-is_left-3.ensures.left.0 refl
+
+pub take-requires-then-is_left-3-clause-in_range : goal.take-requires-then-is_left-3-clause-in_range
+take-requires-then-is_left-3-clause-in_range g c = c.args.self.now.triple_fits.in_range_there (c.if-is_left-3.ensures.left.0 refl)
+
+pub take-requires-then-is_left-3-clause-words : goal.take-requires-then-is_left-3-clause-words
+take-requires-then-is_left-3-clause-words g c =
+    let w = c.args.self.now in
+    words_fit w.geometry.layout w.blocks (w.geometry.layout.nindir * w.geometry.layout.nindir) w.triple w.triple_fits
+
+pub take-requires-then-is_left-3-clause-volume : goal.take-requires-then-is_left-3-clause-volume
+take-requires-then-is_left-3-clause-volume g c = c.requires.volume
+
+pub take-requires-then-is_left-3-clause-room : goal.take-requires-then-is_left-3-clause-room
+take-requires-then-is_left-3-clause-room g c = c.requires.room
+
+pub take-requires-then-is_left-3-clause-holds : goal.take-requires-then-is_left-3-clause-holds
+take-requires-then-is_left-3-clause-holds g c = c.requires.holds
+
+pub take-requires-clause-fits : goal.take-requires-clause-fits
+take-requires-clause-fits g c =
+    let w = c.args.self.now in
+    word_fits w.geometry.layout w.blocks 1 w.single one_some w.single_fits w.blocks_small (c.if-is_left.ensures.left.0 refl)
+
+pub step_in_double-requires-clause-spent : goal.step_in_double-requires-clause-spent
+step_in_double-requires-clause-spent g c = c.is_left.ensures.spent c.if-is_left.false
+
+pub step_in_triple-requires-clause-single_spent : goal.step_in_triple-requires-clause-single_spent
+step_in_triple-requires-clause-single_spent g c = c.is_left.ensures.spent c.if-is_left.false
+
+pub step_in_triple-requires-clause-double_spent : goal.step_in_triple-requires-clause-double_spent
+step_in_triple-requires-clause-double_spent g c = c.is_left-2.ensures.spent c.if-is_left-2.false
+
+pub step_at_top-requires-clause-single_spent : goal.step_at_top-requires-clause-single_spent
+step_at_top-requires-clause-single_spent g c = c.is_left.ensures.spent c.if-is_left.false
+
+pub step_at_top-requires-clause-double_spent : goal.step_at_top-requires-clause-double_spent
+step_at_top-requires-clause-double_spent g c = c.is_left-2.ensures.spent c.if-is_left-2.false
+
+pub step_at_top-requires-clause-triple_spent : goal.step_at_top-requires-clause-triple_spent
+step_at_top-requires-clause-triple_spent g c = c.is_left-3.ensures.spent c.if-is_left-3.false
