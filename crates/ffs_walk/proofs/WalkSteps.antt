@@ -1,10 +1,12 @@
-use Rattle.std.proofs.Common.{◌≡◌, ℕ, ◌+◌, ◌-◌, ◌*◌, ◌<◌, ◌≤◌, List, [], ◌∷◌, ◌++◌, slice_index, append_assoc, Option, arith, refl, ◌∙◌}
+use Rattle.std.proofs.Common.{◌≡◌, ℕ, ◌+◌, ◌-◌, ◌*◌, ◌<◌, ◌≤◌, List, [], ◌∷◌, ◌++◌, slice_index, append_assoc, Option, Some, None, arith, refl, ◌∙◌}
+use Rattle.std.specs.Prelude.{◌↔◌}
 use Rattle.ffs_volume.specs.declared.Layout.{Layout}
 use Rattle.ffs_image.specs.Device.{WhereTold}
 use Rattle.ffs_volume.specs.Geometry.{IsGeometry}
 use Rattle.ffs_volume.specs.declared.Step.{Step}
 use Rattle.ffs_walk.specs.declared.frame.Frame.{Frame}
 use Rattle.ffs_walk.specs.declared.walk.Walk.{Walk}
+use Rattle.ffs_volume.specs.Inodes.{used_addresses}
 use Rattle.ffs_walk.specs.Fits.{IsSpent}
 use Rattle.ffs_walk.specs.declared.frame.Item.{Item}
 use Rattle.ffs_walk.specs.Frames.{frame_rest, frame_left, item_steps}
@@ -255,3 +257,23 @@ top_over w h s d t =
     let words = w.geometry.layout.nindir in
     let none : w.used - w.next ≡ 0 = omega arith in
     rw (spent_left (most_at words 0) w.single s, spent_left (most_at words 1) w.double d, spent_left (most_at words 2) w.triple t, none) (omega arith)
+
+-- a step is one, and where an address is left the walk is not over
+pub no_step : (step : Step) → Some step ≡ None → ⊥
+no_step step e = cc
+
+pub not_over : (next used : ℕ) (step : Step) → next < used → (next ≡ used) ↔ (Some step ≡ None)
+not_over next used step some = (λ e. absurd (omega (arith, e)), λ e. absurd (no_step step e))
+
+pub one_on : (next used : ℕ) → next < used → next + 1 ≤ used
+one_on next used some = omega arith
+
+-- the first logical block under an indirect address that is used is one of the inode
+pub single_below : (words blocks next used : ℕ) → next < used → used ≤ used_addresses words blocks → next ≡ 12 → 12 < blocks
+single_below words blocks next used some fits is = grind (arith, nat_tests)
+
+pub double_below : (words words' blocks next used : ℕ) → next < used → used ≤ used_addresses words blocks → next ≡ 13 → words' ≡ words → 12 + words' < blocks
+double_below words words' blocks next used some fits is same = rw same (grind (arith, nat_tests))
+
+pub triple_below : (words words' blocks next used : ℕ) → next < used → used ≤ used_addresses words blocks → next ≡ 14 → words' ≡ words → 12 + words' + words' * words' < blocks
+triple_below words words' blocks next used some fits is same = rw same (grind (arith, nat_tests))

@@ -2,7 +2,7 @@ use Rattle.std.proofs.Common.{arith, ◌≡◌, refl}
 use Rattle.ffs_walk.specs.Frames.{frame_left}
 use Rattle.ffs_walk.specs.Rests.{extent_of, most_at}
 use Rattle.ffs_volume.specs.Steps.{steps_at}
-use Rattle.ffs_walk.proofs.WalkSteps.{top_ends, top_data, top_single, top_double, top_triple, most_below, top_falls, top_over, some_words}
+use Rattle.ffs_walk.proofs.WalkSteps.{top_ends, top_data, top_single, top_double, top_triple, most_below, top_falls, top_over, some_words, no_step, not_over, one_on, single_below, double_below, triple_below}
 use Rattle.ffs_walk.proofs.walk.Walk.step_at_top.Goals as goal
 
 pub returns-then-self-clause-steps : goal.returns-then-self-clause-steps
@@ -70,3 +70,103 @@ returns-in_default-clause-left c =
 
 pub returns-then-self-clause-left : goal.returns-then-self-clause-left
 returns-then-self-clause-left c = top_over c.args.self.now c.if-self.true c.requires.single_spent c.requires.double_spent c.requires.triple_spent
+
+pub invariant_of-self : goal.invariant_of-self
+invariant_of-self c =
+    let w = c.args.self.now in
+    record {
+      in_order = one_on w.next w.used c.if-self.false;
+      in_array = w.in_array;
+      used_fits = w.used_fits;
+      last_some = w.last_some;
+      last_small = w.last_small;
+      blocks_small = w.blocks_small;
+      single_fits = w.single_fits;
+      double_fits = w.double_fits;
+      triple_fits = w.triple_fits;
+    }
+
+pub returns-then-index-lt12-clause-none : goal.returns-then-index-lt12-clause-none
+returns-then-index-lt12-clause-none c = λ e. absurd (no_step c.data.result e)
+
+pub returns-then-index-lt12-clause-over : goal.returns-then-index-lt12-clause-over
+returns-then-index-lt12-clause-over c = not_over c.args.self.now.next c.args.self.now.used c.data.result c.if-self.false
+
+pub invariant_of-self-in-12 : goal.invariant_of-self-in-12
+invariant_of-self-in-12 c =
+    let w = c.args.self.now in
+    record {
+      in_order = one_on w.next w.used c.if-self.false;
+      in_array = w.in_array;
+      used_fits = w.used_fits;
+      last_some = w.last_some;
+      last_small = w.last_small;
+      blocks_small = w.blocks_small;
+      single_fits = c.enter-step.ensures.fits;
+      double_fits = w.double_fits;
+      triple_fits = w.triple_fits;
+    }
+
+pub returns-in-12-clause-none : goal.returns-in-12-clause-none
+returns-in-12-clause-none c = λ e. absurd (no_step c.enter-step.result.0 e)
+
+pub returns-in-12-clause-over : goal.returns-in-12-clause-over
+returns-in-12-clause-over c = not_over c.args.self.now.next c.args.self.now.used c.enter-step.result.0 c.if-self.false
+
+pub invariant_of-self-in-13 : goal.invariant_of-self-in-13
+invariant_of-self-in-13 c =
+    let w = c.args.self.now in
+    record {
+      in_order = one_on w.next w.used c.if-self.false;
+      in_array = w.in_array;
+      used_fits = w.used_fits;
+      last_some = w.last_some;
+      last_small = w.last_small;
+      blocks_small = w.blocks_small;
+      single_fits = w.single_fits;
+      double_fits = rw c.from-words.ensures at c.enter-step-in-13.ensures.fits;
+      triple_fits = w.triple_fits;
+    }
+
+pub returns-in-13-clause-none : goal.returns-in-13-clause-none
+returns-in-13-clause-none c = λ e. absurd (no_step c.enter-step-in-13.result.0 e)
+
+pub returns-in-13-clause-over : goal.returns-in-13-clause-over
+returns-in-13-clause-over c = not_over c.args.self.now.next c.args.self.now.used c.enter-step-in-13.result.0 c.if-self.false
+
+pub invariant_of-self-in_default : goal.invariant_of-self-in_default
+invariant_of-self-in_default c =
+    let w = c.args.self.now in
+    record {
+      in_order = one_on w.next w.used c.if-self.false;
+      in_array = w.in_array;
+      used_fits = w.used_fits;
+      last_some = w.last_some;
+      last_small = w.last_small;
+      blocks_small = w.blocks_small;
+      single_fits = w.single_fits;
+      double_fits = w.double_fits;
+      triple_fits = rw c.from-words.ensures at c.enter-step-in_default.ensures.fits;
+    }
+
+pub returns-in_default-clause-none : goal.returns-in_default-clause-none
+returns-in_default-clause-none c = λ e. absurd (no_step c.enter-step-in_default.result.0 e)
+
+pub returns-in_default-clause-over : goal.returns-in_default-clause-over
+returns-in_default-clause-over c = not_over c.args.self.now.next c.args.self.now.used c.enter-step-in_default.result.0 c.if-self.false
+
+pub enter-step-requires-clause-first : goal.enter-step-requires-clause-first
+enter-step-requires-clause-first c =
+    let w = c.args.self.now in
+    single_below w.geometry.layout.nindir w.blocks w.next w.used c.if-self.false w.used_fits c.in-12.is
+
+pub enter-step-requires-in-13-clause-first : goal.enter-step-requires-in-13-clause-first
+enter-step-requires-in-13-clause-first c =
+    let w = c.args.self.now in
+    double_below w.geometry.layout.nindir c.from-words.result w.blocks w.next w.used c.if-self.false w.used_fits c.in-13.is c.from-words.ensures
+
+pub enter-step-requires-in_default-clause-first : goal.enter-step-requires-in_default-clause-first
+enter-step-requires-in_default-clause-first c =
+    let w = c.args.self.now in
+    let last : w.next ≡ 14 = omega (arith, w.in_array) in
+    triple_below w.geometry.layout.nindir c.from-words.result w.blocks w.next w.used c.if-self.false w.used_fits last c.from-words.ensures
