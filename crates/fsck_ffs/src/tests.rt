@@ -11,6 +11,7 @@ mod pathnames;
 mod paths;
 mod report;
 mod survey;
+mod volume;
 mod walk;
 mod workspace;
 

@@ -2,83 +2,24 @@
 
 ghost use Rattle.std.specs.Prelude.{◌≡◌, ◌*◌, ◌≤◌, IfOk, length};
 
+use super::volume::{Number, Watched, geometry, image_of};
 use ffs_claims::{phase1, phase1b};
-use ffs_image::{Image, ImageFault, MemoryImage};
-use ffs_layout::{Geometry, Layout, Order, SuperFault};
+use ffs_image::{Image, MemoryImage};
+use ffs_layout::{Geometry, Order};
 use ffs_report::{Counted, Report};
 use ffs_workspace::Workspace;
 use std::alloc::{AllocError, Global};
 use std::test::Fail;
 
-// One group of 128 fragments of 1024 bytes, whose inodes begin at byte 28,672 and whose data begin at fragment 33.
-fn geometry() -> Result<Geometry, SuperFault>
-    ensures { IfOk result (λ g. g.layout.size * g.layout.fsize ≤ 131072) }
-{
-    let layout = Layout {
-        order: Order::Little,
-        sblkno: 16,
-        cblkno: 24,
-        iblkno: 28,
-        dblkno: 32,
-        cgoffset: 0,
-        cgmask: 0xffff_ffff,
-        size: 128,
-        dsize: 95,
-        ncg: 1,
-        bsize: 4096,
-        fsize: 1024,
-        frag: 4,
-        sbsize: 2048,
-        nindir: 1024,
-        inopb: 32,
-        csaddr: 32,
-        cssize: 1024,
-        cgsize: 1024,
-        ncyl: 1,
-        cpg: 1,
-        ipg: 32,
-        fpg: 128,
-        maxsymlinklen: 60,
-        inodefmt: 2,
-        postblformat: 1,
-    };
-    Geometry::new(layout, 131072)
-}
-
 // Words that are the same, one behind the other: the place of the first one, how many they are, the word.
-type Words = (usize, usize, u32);
-
-fn put(bytes: &mut [u8], words: &[Words])
-    ensures { length bytes.new ≡ length bytes.old }
-{
-    for (place, count, word) in words {
-        for (i, byte) in word.to_le_bytes().iter().enumerate() {
-            for k in 0..*count {
-                let at = place.saturating_add(k.saturating_mul(4)).saturating_add(i);
-                if at < bytes.len() {
-                    bytes[at] = *byte;
-                }
-            }
-        }
-    }
-}
-
-// An image of 131,072 bytes: the root, these words, and zeros.
-fn image_of(words: &[Words], alloc: Global) -> Result<MemoryImage, AllocError>
-    ensures { IfOk result (λ m. length m ≡ 131072) }
-{
-    let mut bytes = vec![in alloc; 0u8; 131072]?;
-    put(bytes.as_mut_slice(), &ROOT);
-    put(bytes.as_mut_slice(), words);
-    Ok(MemoryImage::new(bytes))
-}
+type Words = (usize, usize, u64);
 
 // The inode 2: a directory of 512 bytes in the fragment 36.
-const ROOT: [Words; 4] = [
-    (28928, 1, 0x000241ed),
-    (28936, 1, 512),
-    (28968, 1, 36),
-    (29032, 1, 2),
+const ROOT: [Number; 4] = [
+    (28928, 4, 0x000241ed),
+    (28936, 4, 512),
+    (28968, 4, 36),
+    (29032, 4, 2),
 ];
 
 // The inode 3 is at byte 29,056 and the inode 4 at 29,184; addresses are at 40, sectors at 104.
@@ -113,34 +54,18 @@ const TREE: [Words; 5] = [
     (40960, 1024, 40),
 ];
 
-// An image that counts its reads.
-#[derive(Drop)]
-struct Watched<I: Image + Drop> {
-    inner: I,
-    reads: u64,
-}
-
-impl<I: Image + Drop> Image for Watched<I> {
-    ghost device = { λ w. I.device w.inner };
-
-    ghost sized = { λ w. I.sized w.inner };
-
-    fn size(&self) -> u64 {
-        self.inner.size()
+// An image with the root and these words.
+fn image_with(words: &[Words], alloc: Global) -> Result<MemoryImage, AllocError>
+    ensures { IfOk result (λ m. length m ≡ 131072) }
+{
+    let mut numbers = Vec::new(alloc);
+    numbers.extend_from_slice(&ROOT)?;
+    for &(place, count, word) in words {
+        for k in 0..count {
+            numbers.push((place.saturating_add(k.saturating_mul(4)), 4, word))?;
+        }
     }
-
-    fn failures(&self) -> u64 {
-        self.inner.failures()
-    }
-
-    fn failed(&self) -> u64 {
-        self.inner.failed()
-    }
-
-    fn read_at(&mut self, at: u64, buf: &mut [u8]) -> Result<(), ImageFault> {
-        self.reads = self.reads.saturating_add(1);
-        self.inner.read_at(at, buf)
-    }
+    image_of(Order::Little, numbers.as_slice(), alloc)
 }
 
 // What the block check of an image tells, and how many Runs its two looks see.
@@ -167,7 +92,7 @@ fn checked<I: Image>(
 // told.
 #[test]
 fn block_checks(rt: HostRuntime) -> Result<(), Fail> {
-    let geometry = geometry()?;
+    let geometry = geometry(Order::Little)?;
     let cases: [(&[Words], &[u8], [u64; 2]); 4] = [
         (
             &SHARED,
@@ -191,10 +116,7 @@ fn block_checks(rt: HostRuntime) -> Result<(), Fail> {
         ),
     ];
     for (words, told, runs) in cases {
-        let mut image = Watched {
-            inner: image_of(words, rt.alloc())?,
-            reads: 0,
-        };
+        let mut image = Watched::new(image_with(words, rt.alloc())?);
         let (text, seen) = checked(&geometry, &mut image, rt.alloc())?;
         assert_eq!(rt; text.as_slice(), told);
         assert_eq!(rt; seen, runs);

@@ -1,51 +1,15 @@
 //! What is told of a volume with directories that are cut off.
 
-ghost use Rattle.std.specs.Prelude.{◌≡◌, ◌*◌, ◌≤◌, ℕ, List, Option, IfOk, length};
+ghost use Rattle.std.specs.Prelude.{◌≡◌, ℕ, List, Option, IfOk};
 ghost use Rattle.ffs_workspace.specs.Lengths.{IsFor, HoldWindows, inodes_of};
 
+use super::volume::{Number, geometry, image_of};
 use ffs_connectivity::phase3;
-use ffs_image::MemoryImage;
-use ffs_layout::{Geometry, Layout, Order, SuperFault};
+use ffs_layout::{Geometry, Order};
 use ffs_report::{Counted, Report};
 use ffs_workspace::Workspace;
 use std::alloc::{AllocError, Global};
 use std::test::Fail;
-
-// One group of 128 fragments of 1024 bytes, with 32 inodes from fragment 28 on.
-fn geometry() -> Result<Geometry, SuperFault>
-    ensures size { IfOk result (λ g. g.layout.size * g.layout.fsize ≤ 131072) }
-    ensures inodes { IfOk result (λ g. inodes_of g.layout ≡ 32) }
-{
-    let layout = Layout {
-        order: Order::Little,
-        sblkno: 16,
-        cblkno: 24,
-        iblkno: 28,
-        dblkno: 32,
-        cgoffset: 0,
-        cgmask: 0xffff_ffff,
-        size: 128,
-        dsize: 95,
-        ncg: 1,
-        bsize: 4096,
-        fsize: 1024,
-        frag: 4,
-        sbsize: 2048,
-        nindir: 1024,
-        inopb: 32,
-        csaddr: 32,
-        cssize: 1024,
-        cgsize: 1024,
-        ncyl: 1,
-        cpg: 1,
-        ipg: 32,
-        fpg: 128,
-        maxsymlinklen: 60,
-        inodefmt: 2,
-        postblformat: 1,
-    };
-    Geometry::new(layout, 131072)
-}
 
 // Directories 2 to 8: 2 is reached, 3 has no parent, 4 is empty and without a name, 5 and 6 are each other's parents, 4 is
 // that of 7, and 3 that of 8.
@@ -70,31 +34,19 @@ fn surveyed(alloc: Global, geometry: &Geometry) -> Result<Workspace, AllocError>
     Ok(workspace)
 }
 
-// An image with inode 3, and zeros.
-fn image(alloc: Global) -> Result<MemoryImage, AllocError>
-    ensures { IfOk result (λ m. length m ≡ 131072) }
-{
-    let mut bytes = vec![in alloc; 0u8; 131072]?;
-    let inode = 28 * 1024 + 3 * 128;
-    // the mode 040755
-    bytes[inode] = 0xed;
-    bytes[inode + 1] = 0x41;
-    // the size 512
-    bytes[inode + 9] = 2;
-    // 86,400 seconds
-    bytes[inode + 24] = 0x80;
-    bytes[inode + 25] = 0x51;
-    bytes[inode + 26] = 1;
-    // the owner
-    bytes[inode + 112] = 7;
-    Ok(MemoryImage::new(bytes))
-}
+// Inode 3: a directory of 512 bytes, changed a day after the epoch, of the owner 7.
+const LOST: [Number; 4] = [
+    (29056, 2, 0o40755),
+    (29064, 8, 512),
+    (29080, 4, 86400),
+    (29168, 4, 7),
+];
 
 #[test]
 fn tells_cut_off_directories(rt: HostRuntime) -> Result<(), Fail> {
-    let geometry = geometry()?;
+    let geometry = geometry(Order::Little)?;
     let mut workspace = surveyed(rt.alloc(), &geometry)?;
-    let mut image = image(rt.alloc())?;
+    let mut image = image_of(Order::Little, &LOST, rt.alloc())?;
     let mut text = Vec::new(rt.alloc());
     let mut out = Counted::new(&mut text);
     let mut report = Report::new(&mut out);

@@ -2,28 +2,25 @@
 
 ghost use Rattle.std.specs.Prelude.{◌≡◌, ◌≤◌, IfOk, length};
 
+use super::volume::image_of;
 use ffs_image::{FileImage, FuseImage, Image, ImageFault, MemoryImage};
+use ffs_layout::Order;
 use std::alloc::{AllocError, Global};
 use std::fs;
 use std::test::Fail;
 
 const NAME: &str = "ffs_image_test.img";
 
-// An image of 2,048 bytes: zeros, and `abcd` at 1022.
+// An image of zeros, and `abcd` at 1022.
 fn letters(alloc: Global) -> Result<MemoryImage, AllocError>
-    ensures { IfOk result (λ m. length m ≡ 2048) }
+    ensures { IfOk result (λ m. length m ≡ 131072) }
 {
-    let mut bytes = vec![in alloc; 0u8; 2048]?;
-    bytes[1022] = b'a';
-    bytes[1023] = b'b';
-    bytes[1024] = b'c';
-    bytes[1025] = b'd';
-    Ok(MemoryImage::new(bytes))
+    image_of(Order::Little, &[(1022, 4, 0x6463_6261)], alloc)
 }
 
 // Reads four bytes in sector 0, then in sectors 1 and 2, then in sector 2.
 fn three_reads<I: Image>(image: &mut I) -> [Result<(), ImageFault>; 3]
-    requires { 2048 ≤ (I.device image.old).size }
+    requires { 131072 ≤ (I.device image.old).size }
 {
     let mut found = [0; 4];
     [
@@ -36,7 +33,7 @@ fn three_reads<I: Image>(image: &mut I) -> [Result<(), ImageFault>; 3]
 #[test]
 fn memory_reads(rt: HostRuntime) -> Result<(), Fail> {
     let mut image = letters(rt.alloc())?;
-    assert_eq!(rt; image.size(), 2048);
+    assert_eq!(rt; image.size(), 131072);
     let mut found = [9u8; 6];
     image.read_at(1021, &mut found)?;
     assert_eq!(rt; found, *b"\0abcd\0");

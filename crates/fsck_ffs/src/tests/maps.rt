@@ -1,23 +1,29 @@
 //! Bits of maps that a reader would work out by hand.
 
 use ffs_maps::FragmentMap;
+use std::alloc::{AllocError, Global};
 use std::test::Fail;
+
+// The fragments whose bits are set, in their order.
+fn set_bits(map: &FragmentMap, alloc: Global) -> Result<Vec<u32>, AllocError> {
+    let mut set = Vec::new(alloc);
+    for fragment in 0..map.size {
+        if map.get(fragment) {
+            set.push(fragment)?;
+        }
+    }
+    Ok(set)
+}
 
 #[test]
 fn single_bits(rt: HostRuntime) -> Result<(), Fail> {
     let mut map = FragmentMap::new(rt.alloc(), 130)?;
-    assert_eq!(rt; (map.size, map.held()), (130, 24));
-    assert_eq!(rt;
-        (map.get(0), map.get(64), map.get(129)),
-        (false, false, false)
-    );
+    assert_eq!(rt; map.held(), 24);
+    assert!(rt; set_bits(&map, rt.alloc())?.is_empty());
     map.set(64);
-    assert_eq!(rt;
-        (map.get(63), map.get(64), map.get(65)),
-        (false, true, false)
-    );
+    assert_eq!(rt; set_bits(&map, rt.alloc())?.as_slice(), [64].as_slice());
     map.clear(64);
-    assert!(rt; !map.get(64));
+    assert!(rt; set_bits(&map, rt.alloc())?.is_empty());
     Ok(())
 }
 
@@ -26,14 +32,8 @@ fn single_bits(rt: HostRuntime) -> Result<(), Fail> {
 fn run_in_two_words(rt: HostRuntime) -> Result<(), Fail> {
     let mut map = FragmentMap::new(rt.alloc(), 130)?;
     map.set_run(62, 5);
-    assert_eq!(rt;
-        (map.get(61), map.get(62), map.get(63)),
-        (false, true, true)
-    );
-    assert_eq!(rt;
-        (map.get(64), map.get(66), map.get(67)),
-        (true, true, false)
-    );
+    let set = set_bits(&map, rt.alloc())?;
+    assert_eq!(rt; set.as_slice(), [62, 63, 64, 65, 66].as_slice());
     assert_eq!(rt; map.clear_bits(60), 0xffff_ffff_ffff_ff83);
     assert_eq!(rt; map.clear_bits(128), 3);
     Ok(())
@@ -43,16 +43,23 @@ fn run_in_two_words(rt: HostRuntime) -> Result<(), Fail> {
 fn claims(rt: HostRuntime) -> Result<(), Fail> {
     let mut map = FragmentMap::new(rt.alloc(), 130)?;
     assert!(rt; map.claim(8, 4));
-    assert_eq!(rt;
-        (map.get(7), map.get(8), map.get(11), map.get(12)),
-        (false, true, true, false)
-    );
     assert!(rt; !map.claim(10, 4));
-    assert_eq!(rt; (map.get(12), map.get(13)), (false, false));
+    assert!(rt; map.claim(127, 1));
+    let set = set_bits(&map, rt.alloc())?;
+    assert_eq!(rt; set.as_slice(), [8, 9, 10, 11, 127].as_slice());
+    assert!(rt; !map.claim(64, 64));
+    Ok(())
+}
+
+// A claim of a whole word.
+#[test]
+fn whole_word(rt: HostRuntime) -> Result<(), Fail> {
+    let mut map = FragmentMap::new(rt.alloc(), 130)?;
     assert!(rt; map.claim(64, 64));
+    let set = set_bits(&map, rt.alloc())?;
     assert_eq!(rt;
-        (map.get(63), map.get(64), map.get(127), map.get(128)),
-        (false, true, true, false)
+        (set.len(), set.first(), set.last()),
+        (64, Some(&64), Some(&127))
     );
     Ok(())
 }

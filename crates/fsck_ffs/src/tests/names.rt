@@ -1,9 +1,10 @@
 //! Roles of entries, as dir(5) has them, and the chunks of a directory whose blocks share a fragment.
 
-ghost use Rattle.std.specs.Prelude.{◌≡◌, ◌*◌, ◌≤◌, IfOk, length};
+ghost use Rattle.std.specs.Prelude.{◌≡◌, ◌*◌, ◌≤◌};
 
-use ffs_image::{Image, ImageFault, MemoryImage};
-use ffs_layout::{Entry, Geometry, Inode, Layout, Order, SuperFault};
+use super::volume::{Stop, geometry, image_of, inode};
+use ffs_image::Image;
+use ffs_layout::{Entry, Geometry, Inode, Order};
 use ffs_names::{Chunks, role_of};
 use ffs_volume::Role;
 use ffs_walk::{Blocks, Window};
@@ -21,87 +22,17 @@ fn entry<'a>(number: u32, name: &'a [u8]) -> Entry<'a> {
 
 #[test]
 fn roles(rt: HostRuntime) -> Result<(), Fail> {
-    assert_eq!(rt; role_of(true, 0, &entry(3, &b".."[..])), Role::Extra);
-    assert_eq!(rt; role_of(true, 1, &entry(3, &b".."[..])), Role::Dotdot);
-    assert_eq!(rt; role_of(false, 0, &entry(3, &b"."[..])), Role::Extra);
-    assert_eq!(rt; role_of(true, 0, &entry(3, &b"."[..])), Role::Dot);
-    assert_eq!(rt; role_of(true, 0, &entry(0, &b""[..])), Role::Empty);
-    assert_eq!(rt; role_of(true, 0, &entry(3, &b"..."[..])), Role::Plain);
+    for (first, index, number, name, role) in [
+        (true, 0, 3, b"..".as_slice(), Role::Extra),
+        (true, 1, 3, b"..", Role::Dotdot),
+        (false, 0, 3, b".", Role::Extra),
+        (true, 0, 3, b".", Role::Dot),
+        (true, 0, 0, b"", Role::Empty),
+        (true, 0, 3, b"...", Role::Plain),
+    ] {
+        assert_eq!(rt; role_of(first, index, &entry(number, name)), role);
+    }
     Ok(())
-}
-
-// One group of 128 fragments of 1024 bytes, whose data begin at fragment 33.
-fn geometry() -> Result<Geometry, SuperFault>
-    ensures { IfOk result (λ g. g.layout.size * g.layout.fsize ≤ 131072) }
-{
-    let layout = Layout {
-        order: Order::Little,
-        sblkno: 16,
-        cblkno: 24,
-        iblkno: 28,
-        dblkno: 32,
-        cgoffset: 0,
-        cgmask: 0xffff_ffff,
-        size: 128,
-        dsize: 95,
-        ncg: 1,
-        bsize: 4096,
-        fsize: 1024,
-        frag: 4,
-        sbsize: 2048,
-        nindir: 1024,
-        inopb: 32,
-        csaddr: 32,
-        cssize: 1024,
-        cgsize: 1024,
-        ncyl: 1,
-        cpg: 1,
-        ipg: 32,
-        fpg: 128,
-        maxsymlinklen: 60,
-        inodefmt: 2,
-        postblformat: 1,
-    };
-    Geometry::new(layout, 131072)
-}
-
-// Writes bytes at places.
-fn put(bytes: &mut [u8], places: &[(usize, u8)])
-    ensures { length bytes.new ≡ length bytes.old }
-{
-    for &(place, byte) in places {
-        if place < bytes.len() {
-            bytes[place] = byte;
-        }
-    }
-}
-
-// An image of 131,072 bytes: these, and zeros.
-fn image_of(places: &[(usize, u8)], alloc: Global) -> Result<MemoryImage, AllocError>
-    ensures { IfOk result (λ m. length m ≡ 131072) }
-{
-    let mut bytes = vec![in alloc; 0u8; 131072]?;
-    put(bytes.as_mut_slice(), places);
-    Ok(MemoryImage::new(bytes))
-}
-
-// Why there are no chunks.
-#[derive(Debug, Drop)]
-enum Stop {
-    Read(ImageFault),
-    Memory(AllocError),
-}
-
-impl From<ImageFault> for Stop {
-    fn from(fault: ImageFault) -> Stop {
-        Stop::Read(fault)
-    }
-}
-
-impl From<AllocError> for Stop {
-    fn from(error: AllocError) -> Stop {
-        Stop::Memory(error)
-    }
 }
 
 // The place of each chunk, its first byte and its last.
@@ -132,30 +63,22 @@ fn chunks_of<I: Image>(
 // Fragments 40 to 43 are the first block, and 40 is the second one. Where four offers are kept, the second one isn't.
 #[test]
 fn same_fragment_twice(rt: HostRuntime) -> Result<(), Fail> {
-    let geometry = geometry()?;
-    let places = [
-        (40960, 1),
-        (41471, 2),
-        (41472, 3),
-        (41983, 4),
-        (41984, 5),
-        (43520, 6),
-        (44544, 7),
-        (45055, 8),
-        (45056, 9),
+    let geometry = geometry(Order::Little)?;
+    let numbers = [
+        (40960, 1, 1),
+        (41471, 1, 2),
+        (41472, 1, 3),
+        (41983, 1, 4),
+        (41984, 1, 5),
+        (43520, 1, 6),
+        (44544, 1, 7),
+        (45055, 1, 8),
+        (45056, 1, 9),
     ];
-    let mut image = image_of(&places, rt.alloc())?;
-    let mut inode = Inode {
-        mode: 0o40755,
-        nlink: 2,
-        size: 5120,
-        mtime: 0,
-        addresses: [0; 15],
-        blocks: 0,
-        uid: 0,
-    };
-    inode.addresses[0] = 40;
-    inode.addresses[1] = 40;
+    let mut image = image_of(Order::Little, &numbers, rt.alloc())?;
+    let mut directory = inode(0o40755, 5120);
+    directory.addresses[0] = 40;
+    directory.addresses[1] = 40;
     let first = [
         (0u64, 1u8, 2u8),
         (512, 3, 4),
@@ -168,10 +91,10 @@ fn same_fragment_twice(rt: HostRuntime) -> Result<(), Fail> {
         (4096, 1, 2),
         (4608, 3, 4),
     ];
-    let all = chunks_of(&geometry, &inode, 0, &mut image, rt.alloc())?;
+    let all = chunks_of(&geometry, &directory, 0, &mut image, rt.alloc())?;
     assert_eq!(rt; all.as_slice(), first.as_slice());
-    let mut image = image_of(&places, rt.alloc())?;
-    let kept = chunks_of(&geometry, &inode, 4, &mut image, rt.alloc())?;
+    let mut image = image_of(Order::Little, &numbers, rt.alloc())?;
+    let kept = chunks_of(&geometry, &directory, 4, &mut image, rt.alloc())?;
     assert_eq!(rt; kept.as_slice(), &first[..8]);
     Ok(())
 }

@@ -94,20 +94,24 @@ fn small_volume() -> Listed {
     }
 }
 
+const KINDS: [u8; 8] = [0, 0, 4, 4, 8, 4, 4, 8];
+
+const PARENTS: [u32; 8] = [0, 0, 2, 2, 0, 6, 5, 0];
+
+const NAMED: [bool; 8] = [false, false, false, true, true, true, true, false];
+
+const REACHED: [bool; 8] = [false, false, true, true, false, false, false, false];
+
 #[test]
 fn surveys_a_tree_and_a_cycle(rt: HostRuntime) {
-    let kinds = [0, 0, 4, 4, 8, 4, 4, 8];
-    let marked = [false; 8];
     let mut references = [7; 8];
     let mut named = [true; 8];
     let mut reached = [true; 8];
     let mut parents = [7; 8];
     let mut queue = [7; 8];
-    let mut leaders = [true; 8];
-    let mut directories = small_volume();
     let answer = survey(
-        &mut directories,
-        &kinds,
+        &mut small_volume(),
+        &KINDS,
         &mut references,
         &mut named,
         &mut reached,
@@ -116,25 +120,41 @@ fn surveys_a_tree_and_a_cycle(rt: HostRuntime) {
     );
     assert!(rt; answer.is_ok());
     assert_eq!(rt; references, [0, 0, 3, 2, 1, 3, 3, 0]);
-    assert_eq!(rt; named, [false, false, false, true, true, true, true, false]);
-    assert_eq!(rt;
-        reached,
-        [false, false, true, true, false, false, false, false]
-    );
-    assert_eq!(rt; parents, [0, 0, 2, 2, 0, 6, 5, 0]);
-    mark_leaders(&parents, &mut queue, &mut leaders);
+    assert_eq!(rt; parents, PARENTS);
+    assert_eq!(rt; (named, reached), (NAMED, REACHED));
+}
+
+// The least number of each cycle leads it: the root's own, and that of 5 and 6.
+#[test]
+fn leads_a_cycle_by_its_least_number(rt: HostRuntime) {
+    let mut queue = [7; 8];
+    let mut leaders = [true; 8];
+    mark_leaders(&PARENTS, &mut queue, &mut leaders);
     assert_eq!(rt;
         leaders,
         [false, false, true, false, false, true, false, false]
     );
     for (dir, want) in [(2, false), (3, false), (5, true), (6, false)] {
-        assert!(rt; is_dir(&kinds, dir as usize));
         assert_eq!(rt;
-            is_unref(dir, &kinds, &marked, &named, &reached, &parents, &leaders),
+            is_unref(
+                dir,
+                &KINDS,
+                &[false; 8],
+                &NAMED,
+                &REACHED,
+                &PARENTS,
+                &leaders
+            ),
             want
         );
     }
-    assert!(rt; !is_dead(7, &kinds, &marked, &named));
-    assert!(rt; is_dead(7, &kinds, &[true; 8], &named));
+}
+
+#[test]
+fn judges_single_inodes(rt: HostRuntime) {
+    assert!(rt; is_dir(&KINDS, 3));
+    assert!(rt; !is_dir(&KINDS, 4));
+    assert!(rt; !is_dead(7, &KINDS, &[false; 8], &NAMED));
+    assert!(rt; is_dead(7, &KINDS, &[true; 8], &NAMED));
     assert!(rt; is_suspect(&[0, 0, 5], &[false; 3], 2));
 }

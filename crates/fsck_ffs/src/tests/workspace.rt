@@ -1,44 +1,14 @@
 //! What a workspace holds when it is made, in bytes and in bits.
 
-use ffs_image::MemoryImage;
-use ffs_layout::{Geometry, Layout, Order};
+use super::volume::{Number, geometry, image_of};
+use ffs_layout::Order;
 use ffs_workspace::Workspace;
 use std::test::Fail;
-
-// One group of 128 fragments of 1,024 bytes, with 32 inodes.
-const LAYOUT: Layout = Layout {
-    order: Order::Little,
-    sblkno: 16,
-    cblkno: 24,
-    iblkno: 28,
-    dblkno: 32,
-    cgoffset: 0,
-    cgmask: 0xffff_ffff,
-    size: 128,
-    dsize: 95,
-    ncg: 1,
-    bsize: 4096,
-    fsize: 1024,
-    frag: 4,
-    sbsize: 2048,
-    nindir: 1024,
-    inopb: 32,
-    csaddr: 32,
-    cssize: 1024,
-    cgsize: 1024,
-    ncyl: 1,
-    cpg: 1,
-    ipg: 32,
-    fpg: 128,
-    maxsymlinklen: 60,
-    inodefmt: 2,
-    postblformat: 1,
-};
 
 // Two maps of two words, 25 bytes for each inode, and five blocks.
 #[test]
 fn fresh_workspace(rt: HostRuntime) -> Result<(), Fail> {
-    let geometry = Geometry::new(LAYOUT, 131072)?;
+    let geometry = geometry(Order::Little)?;
     let workspace = Workspace::new(rt.alloc(), &geometry)?;
     assert_eq!(rt; workspace.held(), 2 * 16 + 25 * 32 + 5 * 4096);
     assert!(rt; workspace.held() <= 37712);
@@ -47,17 +17,18 @@ fn fresh_workspace(rt: HostRuntime) -> Result<(), Fail> {
     Ok(())
 }
 
-// The inode table begins at 28 * 1,024.
+// The inode 2, in the table that begins at byte 28,672.
+const ROOT: [Number; 4] = [
+    (28928, 2, 0o40755),
+    (28930, 2, 2),
+    (28936, 8, 512),
+    (28968, 4, 36),
+];
+
 #[test]
 fn inode_in_its_table(rt: HostRuntime) -> Result<(), Fail> {
-    let mut bytes = vec![in rt.alloc(); 0u8; 131072]?;
-    bytes[28928] = 0xed;
-    bytes[28929] = 0x41;
-    bytes[28930] = 2;
-    bytes[28937] = 2;
-    bytes[28968] = 36;
-    let mut image = MemoryImage::new(bytes);
-    let geometry = Geometry::new(LAYOUT, 131072)?;
+    let geometry = geometry(Order::Little)?;
+    let mut image = image_of(Order::Little, &ROOT, rt.alloc())?;
     let mut workspace = Workspace::new(rt.alloc(), &geometry)?;
     let table = &mut workspace.windows.table;
     let root = table.inode(&geometry, 2, &mut image)?;
