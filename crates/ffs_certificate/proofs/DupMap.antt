@@ -5,6 +5,7 @@ use Rattle.std.specs.List.{range_with_len, list_any}
 use Rattle.std.proofs.lemmas.Bool.{cases_eq, eq-eqb, ne_eqb}
 use Rattle.std.proofs.lemmas.List.{get_or-set_same, get_or-set_other, length-set, length-replicate}
 use Rattle.std.proofs.lemmas.List.Folds.{list_any-append}
+use Rattle.std.proofs.Math.Bool.{or_assoc}
 use Rattle.ffs_volume.specs.declared.Layout.{Layout}
 use Rattle.ffs_volume.specs.declared.Step.{Step}
 use Rattle.ffs_volume.specs.declared.Step.TheVariants.{Run, Tail, Gap}
@@ -29,10 +30,6 @@ pub record Marks (v : Layout) (s s' : Claims) (told : List Offer) : Type 0 where
 or_false : (b : Bool) → b ≡ (b || false)
 or_false true = refl
 or_false false = refl
-
-or_assoc : (a b c : Bool) → ((a || b) || c) ≡ (a || (b || c))
-or_assoc true b c = refl
-or_assoc false b c = refl
 
 same_marks : (v : Layout) (s s' : Claims) → length s.dup ≡ v.size → s'.dup ≡ s.dup → Marks v s s' []
 same_marks v s s' l e = record { long = ap length e ∙ l; marks = λ f. ap (λ d. is_set d f) e ∙ or_false (is_set s.dup f) }

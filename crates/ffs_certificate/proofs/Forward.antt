@@ -8,7 +8,8 @@ use Rattle.ffs_volume.specs.Directory.{Entry}
 use Rattle.ffs_volume.specs.Roles.{Volume, is_dir, is_inode, is_directory, is_allocated, is_some_inode, is_unknown, is_suspect, dotdot, references}
 use Rattle.ffs_volume.specs.Climb.{is_value, is_value-true}
 use Rattle.ffs_volume.specs.Graph.{Graph, parent, parent_entry, lost, reached, AllReached, NoExtraneous, NamedOnce}
-use Rattle.ffs_certificate.proofs.Lost.{lost-true, silent-reached}
+use Rattle.ffs_volume.proofs.Unreached.{lost-true}
+use Rattle.ffs_certificate.proofs.Lost.{silent-reached}
 use Rattle.ffs_certificate.proofs.Links.{links-right, has_parent_entry}
 use Rattle.ffs_volume.specs.Parents.{graph_of, is_from_parent}
 use Rattle.ffs_volume.specs.PathnameCheck.{is_short, is_bad_whiteout, is_other, is_extraneous, is_other_kind}

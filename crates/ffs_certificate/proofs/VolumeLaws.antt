@@ -18,6 +18,7 @@ use Rattle.ffs_volume.specs.Steps.{steps_of, steps_of_addresses, walks, last_of}
 use Rattle.ffs_volume.specs.Owners.{owner_of, owners_of}
 use Rattle.ffs_volume.specs.BlockCheck.{is_marked}
 use Rattle.ffs_volume.specs.BlocksRight.{is_whole_class, BlocksRight}
+use Rattle.ffs_volume.proofs.Sizes.{some_inodes, no_steps}
 use Rattle.ffs_certificate.proofs.GroupLaws.{all_at}
 use Rattle.ffs_volume.specs.Claims.{next_inode}
 use Rattle.ffs_volume.specs.KeptSteps.{kept_steps, kept_steps_of, claims_before}
@@ -26,32 +27,6 @@ use Rattle.ffs_volume.specs.Directory.{chunks_of}
 use Rattle.ffs_volume.specs.Roles.{chunk_seen, is_directory, is_allocated, seen_in}
 use Rattle.ffs_volume.specs.DirectoriesRight.{IsVolume, IsUnmarked}
 use Rattle.ffs_volume.specs.Volumes.{is_number, class_at, marked_at, steps_at_number, kept_at_number, reading_of, volume_with, volume_of, whole_volume}
-
--- there is an inode 2
-some_inodes : (v : Layout) → IsGeometry v → 2 < v.ncg * v.ipg
-some_inodes v g =
-    let low = g.sizes.bsize_low in
-    let per = g.sizes.inopb in
-    let some = g.sizes.some_inodes in
-    let groups = g.some_groups in
-    let many : 32 ≤ v.inopb = omega arith in
-    elim (cases_lt v.ipg v.inopb) [
-      | inl small ↦ (let none : v.ipg ≡ 0 = sym (mod-eq_of_lt small) ∙ g.sizes.inode_blocks in absurd (omega arith))
-      | inr large ↦ (let more : 1 * v.ipg ≤ v.ncg * v.ipg = mul-le-mul_right v.ipg groups in omega arith)
-    ]
-
--- no steps where the size is 0
-no_blocks : (n b : ℕ) → 0 < b → n ≡ 0 → div_ceil n b ≡ 0
-no_blocks n b h e = ap (λ k. div_ceil k b) e ∙ ap (λ q. q + min 1 (0 % b)) (zero-div b) ∙ ap (λ r. 0 + min 1 r) (zero-mod b)
-
-no_steps : (v : Layout) (image : List ℕ) (i : Inode) → 0 < v.bsize → i.size ≡ 0 → steps_of v i image ≡ []
-unfolding steps_of
-no_steps v image i h e =
-    ap (λ b. steps_of_addresses (record { geometry = v; blocks = b; last = last_of v i }) image i.addresses 0 (used_addresses v.nindir b)) (one (walks v i))
-  where
-    one : (w : Bool) → (if w then blocks_of v i else 0) ≡ 0
-    one true = no_blocks i.size v.bsize h e
-    one false = refl
 
 -- no type that has a class is 14
 kind_known : (v : Layout) (i : Inode) → class_of v i ≢ Unknown → type_of i.mode ≢ 14

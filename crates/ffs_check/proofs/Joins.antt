@@ -15,7 +15,7 @@ use Rattle.ffs_phase.proofs.Telling.{of_begins, of_same, of_part, of_fault, of_l
 use Rattle.ffs_maps.specs.Bits.{bits_of}
 use Rattle.ffs_workspace.specs.declared.workspace.Workspace.{Workspace}
 use Rattle.ffs_workspace.specs.Holds.{HoldsClaims, HoldsSurvey, bool_at}
-use Rattle.ffs_connectivity.specs.Leaves.{LeavesSurvey}
+use Rattle.ffs_workspace.specs.Leaves.{LeavesSurvey}
 use Rattle.ffs_check.specs.Rest.{first_part, scanned_lines}
 
 -- the first part ended in a fault
@@ -60,32 +60,6 @@ reads_on T old on new r e h = rw e at h
 pub reads_fault : (T E : Type 0) (old new : Device) (fault : RunFault) → Reads {T = T} old new (Err fault) → Reads {T = E} old new (Err fault)
 reads_fault T E old new (Read fault) h = h
 reads_fault T E old new (Out fault) h = h
-
--- what a workspace holds, where only its windows have changed
-pub claims_kept : (v : Layout) (bytes : List ℕ) (old new : Workspace) → new ≡ record old { windows = new.windows } → HoldsClaims v bytes old → HoldsClaims v bytes new
-claims_kept v bytes old new e h = record {
-  used = ap (λ (w : Workspace). bits_of w.claimed) e ∙ h.used;
-  kinds = λ x. ap (λ (w : Workspace). slice_index w.kinds.items x) e ∙ h.kinds x;
-  marked = λ x. ap (λ (w : Workspace). bool_at w.marked.items x) e ∙ h.marked x;
-  cut = λ x. ap (λ (w : Workspace). slice_index w.cut.items x) e ∙ h.cut x;
-}
-
--- and where the claims and the survey are left
-pub claims_left : (v : Layout) (bytes : List ℕ) (old new : Workspace) → LeavesSurvey old new → HoldsClaims v bytes old → HoldsClaims v bytes new
-claims_left v bytes old new e h = record {
-  used = ap bits_of e.claimed ∙ h.used;
-  kinds = λ x. ap (λ list. slice_index list.items x) e.kinds ∙ h.kinds x;
-  marked = λ x. ap (λ list. bool_at list.items x) e.marked ∙ h.marked x;
-  cut = λ x. ap (λ list. slice_index list.items x) e.cut ∙ h.cut x;
-}
-
-pub survey_left : (v : Layout) (bytes : List ℕ) (old new : Workspace) → LeavesSurvey old new → HoldsSurvey v bytes old → HoldsSurvey v bytes new
-survey_left v bytes old new e h = record {
-  references = λ x low. ap (λ list. slice_index list.items x) e.references ∙ h.references x low;
-  named = λ x low. ap (λ list. bool_at list.items x) e.named ∙ h.named x low;
-  reached = λ x. ap (λ list. bool_at list.items x) e.reached ∙ h.reached x;
-  parents = λ x. ap (λ list. slice_index list.items x) e.parents ∙ h.parents x;
-}
 
 -- the whole text: phase 1, and what follows it
 pub text_parts : (bytes : List ℕ) (s : Superblock) → text_lines bytes s ≡ first_part bytes s ++ scanned_lines bytes s

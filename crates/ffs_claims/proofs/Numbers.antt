@@ -13,7 +13,7 @@ use Rattle.ffs_volume.specs.BlockCheck.{owner_lines, owners_lines, phase1_lines,
 use Rattle.ffs_volume.specs.KeptSteps.{claims_before}
 use Rattle.ffs_volume.specs.Replay.{cut_of, cut_at}
 use Rattle.ffs_volume.specs.Volumes.{is_number}
-use Rattle.ffs_workspace.specs.Kinds.{kind_of, kind_at}
+use Rattle.ffs_volume.specs.Kinds.{kind_of, kind_at}
 use Rattle.ffs_workspace.specs.Holds.{has_blame, first_marked_at, all_claims}
 use Rattle.ffs_workspace.specs.Lengths.{inodes_of}
 use Rattle.ffs_claims.specs.Lines.{of_lines, owners_from}

@@ -20,6 +20,7 @@ use Rattle.ffs_claims.proofs.Doubles.{none_clear, none_first}
 use Rattle.ffs_report.specs.Progress.{Progress, Said}
 use Rattle.ffs_report.proofs.Reports.{said_none}
 use Rattle.std.proofs.Math.ListN.{get_or-eq_default}
+use Rattle.std.proofs.Math.Bool.{or_assoc}
 use Rattle.ffs_workspace.specs.Lengths.{set_count}
 
 -- offers one after the other
@@ -43,10 +44,6 @@ told_none w = record { dup = refl; marked = λ x. none (bool_at w.marked.items x
     none : (b : Bool) → b ≡ (b || false)
     none true = refl
     none false = refl
-
-or_assoc : (a b d : Bool) → ((a || b) || d) ≡ (a || (b || d))
-or_assoc true b d = refl
-or_assoc false b d = refl
 
 pub told_then : (u v w : Workspace) (xs ys : List Offer) → Told xs u v → Told ys v w → Told (xs ++ ys) u w
 told_then u v w xs ys a b = record {

@@ -5,7 +5,7 @@ use Rattle.ffs_volume.specs.declared.Inode.{Inode}
 use Rattle.ffs_volume.specs.BlockCheck.{is_unknown_class}
 use Rattle.ffs_volume.specs.Replay.{cut_of}
 use Rattle.ffs_workspace.specs.declared.workspace.Workspace.{Workspace}
-use Rattle.ffs_workspace.specs.Kinds.{kind_of}
+use Rattle.ffs_volume.specs.Kinds.{kind_of}
 use Rattle.ffs_workspace.specs.Holds.{claims_of, has_blame}
 
 -- a call left the windows alone

@@ -7,7 +7,7 @@ ghost use Rattle.ffs_volume.specs.Inodes.{is_settled};
 ghost use Rattle.ffs_volume.specs.Replay.{cut_of};
 ghost use Rattle.ffs_report.specs.Progress.{progress, kept, Says};
 ghost use Rattle.ffs_workspace.specs.Holds.{claims_of, has_blame};
-ghost use Rattle.ffs_workspace.specs.Kinds.{kind_of};
+ghost use Rattle.ffs_volume.specs.Kinds.{kind_of};
 ghost use Rattle.ffs_workspace.specs.Lengths.{IsFor};
 ghost use Rattle.ffs_claims.specs.Leaves.{SameWindows, SameFound, Stored};
 ghost use Rattle.ffs_claims.specs.Lines.{of_lines, counted_owner};

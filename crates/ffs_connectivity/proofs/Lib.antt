@@ -1,3 +1,2 @@
 pub mod CutOff
-pub mod Lines
 pub mod Leaving

@@ -8,8 +8,3 @@ use Rattle.ffs_volume.specs.Roles.{Volume}
 -- what is told of one inode
 abbrev pub cut_off_lines : Volume → ℕ → List NameMessage
 cut_off_lines v d = told (is_cut_off v d) (unref_dir (attributes v d))
-
--- what is told for that many numbers from d on, ascending
-unfoldable pub lines_from : (ℕ → List NameMessage) → ℕ → ℕ → List NameMessage
-lines_from lines d zero = []
-lines_from lines d (suc k) = lines d ++ lines_from lines (suc d) k

@@ -10,7 +10,7 @@ ghost use Rattle.ffs_volume.specs.Messages.{of_names};
 ghost use Rattle.ffs_volume.specs.Volumes.{volume_of};
 ghost use Rattle.ffs_workspace.specs.Holds.{HoldsClaims, HoldsSurvey};
 ghost use Rattle.ffs_workspace.specs.Lengths.{IsFor, HoldWindows};
-ghost use Rattle.ffs_connectivity.specs.Leaves.{LeavesSurvey};
+ghost use Rattle.ffs_workspace.specs.Leaves.{LeavesSurvey};
 
 use crate::told::{mark, numbered};
 use ffs_image::Image;

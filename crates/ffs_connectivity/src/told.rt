@@ -10,7 +10,8 @@ ghost use Rattle.ffs_volume.specs.PathnameCheck.{attributes};
 ghost use Rattle.ffs_volume.specs.Volumes.{volume_of};
 ghost use Rattle.ffs_workspace.specs.Holds.{HoldsClaims, HoldsSurvey};
 ghost use Rattle.ffs_workspace.specs.Lengths.{IsFor, HoldWindows, inodes_of};
-ghost use Rattle.ffs_connectivity.specs.Leaves.{LeavesSurvey, HasLeaders};
+ghost use Rattle.ffs_workspace.specs.Leaves.{LeavesSurvey};
+ghost use Rattle.ffs_connectivity.specs.Leaders.{HasLeaders};
 ghost use Rattle.ffs_connectivity.specs.Lines.{cut_off_lines};
 
 use ffs_image::Image;

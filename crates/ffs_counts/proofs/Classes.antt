@@ -23,7 +23,7 @@ use Rattle.ffs_volume.specs.Inodes.{is_dir_class, inode_of}
 use Rattle.ffs_volume.specs.Volumes.{class_at}
 use Rattle.ffs_volume.specs.Groups.{Summary, is_used_class, is_used_inode, is_dir, is_whole, block_bits, block_numbers, group_inodes, group_numbers, group_size, right_summary, right_frsum, right_total, has_summary, has_totals, has_bits, inode_map_place, fragment_map_place, is_record, are_maps, are_sums, is_total, summary_record, group_block}
 use Rattle.ffs_volume.specs.GroupCheck.{group_lines, told_once, untold, unless, phase5_lines}
-use Rattle.ffs_workspace.specs.Kinds.{kind_at, kind_of, class_of_kind}
+use Rattle.ffs_volume.specs.Kinds.{kind_at, kind_of, class_of_kind}
 use Rattle.ffs_workspace.proofs.KindLaws.{class_is}
 use Rattle.ffs_groups.specs.Inodes.{class_in}
 

@@ -14,7 +14,7 @@ use Rattle.ffs_volume.specs.GroupCheck.{Told, group_lines, told_once, untold, un
 use Rattle.ffs_groups.specs.Free.{free_in}
 use Rattle.ffs_groups.specs.Inodes.{class_in}
 use Rattle.ffs_groups.proofs.Sums.{sum_more}
-use Rattle.ffs_workspace.specs.Kinds.{kind_at}
+use Rattle.ffs_volume.specs.Kinds.{kind_at}
 use Rattle.ffs_counts.specs.declared.totals.Totals.{Totals}
 use Rattle.ffs_counts.specs.Once.{told_after}
 use Rattle.ffs_counts.specs.Totals.{AreTotals, AreAdded, total_of}

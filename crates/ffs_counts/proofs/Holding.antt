@@ -5,7 +5,7 @@ use Rattle.ffs_volume.specs.declared.Layout.{Layout}
 use Rattle.std.proofs.Common.{ℤ, ◌-◌}
 use Rattle.ffs_volume.specs.declared.Attr.{Attr}
 use Rattle.ffs_volume.specs.declared.Inode.{Inode}
-use Rattle.ffs_volume.specs.Messages.{NameMessage, of_names}
+use Rattle.ffs_volume.specs.Messages.{NameMessage, of_names, lines_from}
 use Rattle.ffs_volume.specs.Graph.{named}
 use Rattle.ffs_volume.specs.Parents.{graph_of}
 use Rattle.ffs_volume.specs.Inodes.{inode_of}
@@ -16,18 +16,12 @@ use Rattle.ffs_volume.specs.ReferenceCheck.{inode_lines, counted_lines, referenc
 use Rattle.ffs_volume.specs.Connectivity.{is_dead}
 use Rattle.ffs_workspace.specs.declared.workspace.Workspace.{Workspace}
 use Rattle.ffs_workspace.specs.Holds.{HoldsClaims, HoldsSurvey, bool_at}
-use Rattle.ffs_workspace.specs.Kinds.{kind_at, class_of_kind, is_empty_dir_kind, is_allocated_kind}
+use Rattle.ffs_volume.specs.Kinds.{kind_at, class_of_kind, is_empty_dir_kind, is_allocated_kind}
 use Rattle.ffs_workspace.specs.Lengths.{inodes_of}
 use Rattle.ffs_workspace.proofs.KindLaws.{suspect_is, some_is}
-use Rattle.ffs_counts.specs.References.{reference_told, attr_with, lines_from}
-use Rattle.ffs_counts.proofs.Numbers.{all_from}
+use Rattle.ffs_counts.specs.References.{reference_told, attr_with}
+use Rattle.ffs_volume.proofs.Numbered.{all_from}
 use Rattle.ffs_counts.proofs.Classes.{same_test}
-
-pub claims_held : (v : Layout) (b : List ℕ) (old new : Workspace) → new ≡ record old { windows = new.windows } → HoldsClaims v b old → HoldsClaims v b new
-claims_held v b old new e k = subst (HoldsClaims v b) (sym e) (record { used = k.used; kinds = k.kinds; marked = k.marked; cut = k.cut })
-
-pub survey_held : (v : Layout) (b : List ℕ) (old new : Workspace) → new ≡ record old { windows = new.windows } → HoldsSurvey v b old → HoldsSurvey v b new
-survey_held v b old new e k = subst (HoldsSurvey v b) (sym e) (record { references = k.references; named = k.named; reached = k.reached; parents = k.parents })
 
 pub held_on : (old mid new : Workspace) → mid ≡ record old { windows = mid.windows } → new ≡ record mid { windows = new.windows } → new ≡ record old { windows = new.windows }
 held_on old mid new e f = f ∙ ap (λ (w : Workspace). record w { windows = new.windows }) e

@@ -3,5 +3,4 @@ pub mod Sifting
 pub mod Findings
 pub mod Classes
 pub mod GroupText
-pub mod Numbers
 pub mod Holding

@@ -23,8 +23,3 @@ attr_with number inode = record { number = number; uid = inode.uid; mode = inode
 abbrev pub lines_as : Option ReferenceLine → List NameMessage
 lines_as None = []
 lines_as (Some line) = reference_message line ∷ []
-
--- what is told for that many numbers from d on, ascending
-unfoldable pub lines_from : (ℕ → List NameMessage) → ℕ → ℕ → List NameMessage
-lines_from lines d zero = []
-lines_from lines d (suc k) = lines d ++ lines_from lines (suc d) k

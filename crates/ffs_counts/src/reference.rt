@@ -5,7 +5,7 @@ ghost use Rattle.ffs_volume.specs.Messages.{of_names};
 ghost use Rattle.ffs_volume.specs.Numbers.{is_count};
 ghost use Rattle.ffs_volume.specs.PathnameCheck.{label_of};
 ghost use Rattle.ffs_report.specs.Progress.{progress, kept, Says};
-ghost use Rattle.ffs_workspace.specs.Kinds.{class_of_kind};
+ghost use Rattle.ffs_volume.specs.Kinds.{class_of_kind};
 ghost use Rattle.ffs_counts.specs.References.{attr_with, lines_as, reference_told};
 
 use ffs_report::{Line, OutFault, Output, ReferenceLine, Report};

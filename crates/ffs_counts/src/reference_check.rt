@@ -8,7 +8,7 @@ ghost use Rattle.ffs_report.specs.Progress.{progress, kept};
 ghost use Rattle.ffs_phase.specs.Known.{Tells};
 ghost use Rattle.ffs_phase.specs.Runs.{Reads, TellsOf};
 ghost use Rattle.ffs_workspace.specs.Holds.{HoldsClaims, HoldsSurvey, bool_at};
-ghost use Rattle.ffs_workspace.specs.Kinds.{is_empty_dir_kind};
+ghost use Rattle.ffs_volume.specs.Kinds.{is_empty_dir_kind};
 ghost use Rattle.ffs_workspace.specs.Lengths.{IsFor, HoldWindows, inodes_of};
 
 use crate::reference::{line_for, say_line};

@@ -12,7 +12,8 @@ ghost use Rattle.ffs_report.specs.Lines.{message_of};
 ghost use Rattle.ffs_report.specs.Progress.{progress, kept};
 ghost use Rattle.ffs_phase.specs.Runs.{Reads, TellsOf};
 ghost use Rattle.ffs_image.specs.Device.{Device};
-ghost use Rattle.ffs_groups.specs.Inodes.{class_of_kind, class_in};
+ghost use Rattle.ffs_volume.specs.Kinds.{class_of_kind};
+ghost use Rattle.ffs_groups.specs.Inodes.{class_in};
 ghost use Rattle.ffs_workspace.specs.Holds.{HoldsClaims};
 ghost use Rattle.ffs_workspace.specs.Lengths.{IsFor};
 

@@ -3,7 +3,7 @@ use Rattle.std.proofs.Common.{◌≡◌, inl, inr, ℕ, zero, suc, ◌+◌, ◌-
 use Rattle.std.specs.Prelude.{◌&&◌}
 use Rattle.std.specs.Int.{bit_at, w64}
 use Rattle.std.specs.Int.RustNames.{bit_xor}
-use Rattle.std.proofs.lemmas.Bool.{cases_lt, true≢false}
+use Rattle.std.proofs.lemmas.Bool.{cases_lt, and_parts, true≢false}
 use Rattle.std.proofs.lemmas.Nat.Bits.{bit_at_and, bit_at_or, bit_at_xor, bit_at-lt, bit_at-zero, bit_at_ones, bit_at_ones_above, bit_at_above, same_from_bits, ones_shr, bit_at_set_same}
 use Rattle.ffs_maps.proofs.Words.{bit_mod, bit_shl_low, bit_shl_high}
 use Rattle.ffs_volume.specs.Numbers.{all_below}
@@ -51,16 +51,12 @@ unfolding all_below
 all_true zero test e = refl
 all_true (suc n) test e = ap (λ b. b && all_below n test) (e n (omega arith)) ∙ all_true n test (λ k h. e k (omega arith))
 
-and_true : (a b : Bool) → (a && b) ≡ true → (a ≡ true) × (b ≡ true)
-and_true true b e = (refl, e)
-and_true false b e = absurd (true≢false (sym e))
-
 pub true_at : (n k : ℕ) (test : ℕ → Bool) → all_below n test ≡ true → k < n → test k ≡ true
 unfolding all_below
 true_at zero k test all h = absurd (omega arith)
 true_at (suc n) k test all h = elim (cases_lt k n) [
-  | inl low ↦ true_at n k test (and_true (test n) (all_below n test) all).1 low
-  | inr past ↦ let same : k ≡ n = omega arith in ap test same ∙ (and_true (test n) (all_below n test) all).0
+  | inl low ↦ true_at n k test (and_parts (test n) (all_below n test) all).1 low
+  | inr past ↦ let same : k ≡ n = omega arith in ap test same ∙ (and_parts (test n) (all_below n test) all).0
 ]
 
 pub same_below : (n : ℕ) (f g : ℕ → Bool) → ((k : ℕ) → k < n → f k ≡ g k) → all_below n f ≡ all_below n g

@@ -3,7 +3,8 @@
 ghost use Rattle.std.specs.Prelude.{◌≡◌, ◌+◌, ◌*◌, ◌<◌, length, count_by, not, if◌then◌else◌};
 ghost use Rattle.ffs_volume.specs.Inodes.{is_dir_class};
 ghost use Rattle.ffs_volume.specs.Groups.{is_used_class, is_used_inode, is_dir, group_inodes};
-ghost use Rattle.ffs_groups.specs.Inodes.{class_of_kind, class_in};
+ghost use Rattle.ffs_volume.specs.Kinds.{class_of_kind};
+ghost use Rattle.ffs_groups.specs.Inodes.{class_in};
 
 use ffs_layout::Geometry;
 

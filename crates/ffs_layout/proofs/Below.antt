@@ -22,11 +22,3 @@ all_below-fails (suc n) i test h e =
     and-false : (b : Bool) → (b && false) ≡ false
     and-false true = refl
     and-false false = refl
-
--- what passes below n passes at each
-pub all_below-at : (n i : ℕ) (test : ℕ → Bool) → all_below n test ≡ true → i < n → test i ≡ true
-all_below-at n i test all h = known (test i) refl
-  where
-    known : (b : Bool) → test i ≡ b → b ≡ true
-    known true e = refl
-    known false e = cc (all_below-fails n i test h e)

@@ -17,7 +17,7 @@ use Rattle.ffs_volume.specs.Roles.{is_dir, is_directory, chunk_seen, seen_in}
 use Rattle.ffs_volume.specs.Volumes.{is_number, volume_of, volume_with, reading_of}
 use Rattle.ffs_volume.specs.Replay.{cut_at, fresh_replay, replayed_steps}
 use Rattle.ffs_volume.specs.CutLaws.{replay_at}
-use Rattle.ffs_workspace.specs.Kinds.{kind_at}
+use Rattle.ffs_volume.specs.Kinds.{kind_at}
 use Rattle.ffs_survey.specs.Survey.{dir_at}
 use Rattle.ffs_survey.specs.SurveyLaws.{dirs_of_kinds}
 use Rattle.ffs_names.specs.Hands.{reading_by}

@@ -7,15 +7,7 @@ use Rattle.ffs_volume.specs.declared.Order.{Order}
 use Rattle.ffs_volume.specs.Numbers.{piece}
 use Rattle.ffs_volume.specs.Directory.{Chunk, chunk_of}
 use Rattle.ffs_walk.proofs.Ranges.{range_step}
-
--- a piece of a piece
-pub piece_of : (place length at n : ℕ) (bytes : List ℕ) → at + n ≤ length → piece at n (piece place length bytes) ≡ piece (place + at) n bytes
-piece_of place length at n bytes h =
-    let more : length ≡ at + (length - at) = omega arith in
-    ap (λ (k : ℕ). take n (drop at (take k (drop place bytes)))) more
-    ∙ ap (λ (xs : List ℕ). take n xs) (drop-take at (length - at) (drop place bytes))
-    ∙ take-take n (length - at) (drop at (drop place bytes)) (omega arith)
-    ∙ ap (λ (xs : List ℕ). take n xs) (drop-drop at place bytes)
+use Rattle.ffs_workspace.proofs.Places.{piece_of}
 
 -- what a window holds of a chunk
 pub chunk_held : (place length next : ℕ) (b held chunk src : List ℕ) → 512 * next + 512 ≤ length → chunk ≡ take (512 * next + 512 - 512 * next) (drop (512 * next) src) → src ≡ held → held ≡ piece place length b

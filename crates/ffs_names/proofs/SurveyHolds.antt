@@ -11,7 +11,7 @@ use Rattle.ffs_volume.specs.Volumes.{volume_of, volume_with}
 use Rattle.ffs_walk.specs.declared.blocks.Blocks.{Blocks}
 use Rattle.ffs_walk.specs.Windows.{BlocksHold}
 use Rattle.ffs_workspace.specs.Lengths.{inodes_of}
-use Rattle.ffs_workspace.specs.Kinds.{kind_at}
+use Rattle.ffs_volume.specs.Kinds.{kind_at}
 use Rattle.ffs_workspace.specs.Holds.{HoldsSurvey}
 use Rattle.ffs_workspace.specs.declared.workspace.Workspace.{Workspace}
 use Rattle.ffs_survey.specs.Survey.{bool_at, dir_at, graph_with, IsSurvey}
@@ -50,16 +50,3 @@ holds_survey v b w counts flags marks ups c f m u s = record {
   reached = λ x. ap (λ xs. bool_at xs x) m ∙ s.reaches x;
   parents = λ x. ap (λ xs. slice_index xs x) u ∙ s.ups x;
 }
-
--- there is an inode 2
-pub some_inodes : (v : Layout) → IsGeometry v → 2 < v.ncg * v.ipg
-some_inodes v g =
-    let low = g.sizes.bsize_low in
-    let per = g.sizes.inopb in
-    let some = g.sizes.some_inodes in
-    let groups = g.some_groups in
-    let many : 32 ≤ v.inopb = omega arith in
-    elim (cases_lt v.ipg v.inopb) [
-      | inl small ↦ (let none : v.ipg ≡ 0 = sym (mod-eq_of_lt small) ∙ g.sizes.inode_blocks in absurd (omega arith))
-      | inr large ↦ (let more : 1 * v.ipg ≤ v.ncg * v.ipg = mul-le-mul_right v.ipg groups in omega arith)
-    ]

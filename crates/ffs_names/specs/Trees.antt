@@ -7,7 +7,7 @@ use Rattle.ffs_volume.specs.Roles.{Seen, is_dir, seen_in}
 use Rattle.ffs_volume.specs.Volumes.{volume_of}
 use Rattle.ffs_volume.specs.Replay.{cut_at}
 use Rattle.ffs_walk.specs.Windows.{BlocksHold, WindowHolds}
-use Rattle.ffs_workspace.specs.Kinds.{kind_at}
+use Rattle.ffs_volume.specs.Kinds.{kind_at}
 use Rattle.ffs_workspace.specs.Lengths.{inodes_of}
 use Rattle.ffs_workspace.specs.declared.workspace.Windows.{Windows}
 

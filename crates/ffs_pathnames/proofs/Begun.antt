@@ -29,7 +29,7 @@ use Rattle.ffs_pathnames.specs.Starts.{starts_told}
 use Rattle.ffs_pathnames.proofs.Places.{size_of}
 use Rattle.ffs_pathnames.proofs.MarkLaws.{IsDirectory, and_false, right_told}
 use Rattle.ffs_pathnames.proofs.LookLaws.{AreStamped, quiet_silent}
-use Rattle.ffs_pathnames.proofs.BetweenLaws.{looked, looked_right, quiet_next, told_next}
+use Rattle.ffs_pathnames.proofs.BetweenLaws.{unstamped, looked, looked_right, quiet_next, told_next}
 use Rattle.ffs_pathnames.proofs.StartLaws.{dir_parts}
 
 -- what is said of what is known, where more is known and it has another form
@@ -104,11 +104,6 @@ unfolding dir_starts
 lines_parts v d ms e =
     ap (map of_names) (dir_parts v d ∙ ap (λ l. starts_told (attributes v d) (dir_path (graph_of v) d) d (parent (graph_of v) d) (v.gap d) (are_sound (v.chunks d)) (start_entry v d 0) (start_entry v d 1) ++ l) e)
     ∙ map-append of_names (starts_told (attributes v d) (dir_path (graph_of v) d) d (parent (graph_of v) d) (v.gap d) (are_sound (v.chunks d)) (start_entry v d 0) (start_entry v d 1)) ms
-
-unstamped : (v : Volume) (s : ℕ) (m : Marks) → AreRightBefore v s m → AreStamped v s [] m.stamps
-unstamped v s m r x h =
-    let low = r.stamps x h in
-    ne_eqb _ s (λ z. absurd (omega (arith, z))) ∙ sym (and_false (belongs v s x))
 
 pub quiet_lines : (v : Volume) (d : ℕ) (m : Marks) → IsDirectory v d → AreRightBefore v d m → are_quiet v d m.stamps (seen_in v d) ≡ true → entry_lines v d 0 (seen_in v d) ≡ []
 unfolding size_of

@@ -36,7 +36,7 @@ belongs_named v s x h =
     other x z k = let f : false ≡ true = sym (ap not (eq-eqb x 2 z)) ∙ k in cc
 
 -- nothing is stamped before s is looked at
-unstamped : (v : Volume) (s : ℕ) (m : Marks) → AreRightBefore v s m → AreStamped v s [] m.stamps
+pub unstamped : (v : Volume) (s : ℕ) (m : Marks) → AreRightBefore v s m → AreStamped v s [] m.stamps
 unstamped v s m r x h =
     let low = r.stamps x h in
     ne_eqb (slice_index m.stamps x) s (λ z. absurd (omega (arith, z))) ∙ sym (and_false (belongs v s x))

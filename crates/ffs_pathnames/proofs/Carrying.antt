@@ -7,29 +7,28 @@ use Rattle.ffs_volume.specs.declared.Class.{Class}
 use Rattle.ffs_volume.specs.declared.Class.TheVariants.{Free, Partial, Unknown, File, Dir}
 use Rattle.ffs_volume.specs.Geometry.{IsGeometry}
 use Rattle.ffs_volume.specs.Graph.{names, names_in}
-use Rattle.ffs_volume.specs.Messages.{NameMessage, of_names, lines_below, told, root_none, root_not_dir, root_suspect}
+use Rattle.ffs_volume.specs.Messages.{NameMessage, of_names, lines_below, told, root_none, root_not_dir, root_suspect, lines_from}
 use Rattle.ffs_volume.specs.Parents.{graph_of}
 use Rattle.ffs_volume.specs.PathnameCheck.{dir_lines, goes_on, lines_of, pathname_lines, root_lines, root_told}
 use Rattle.ffs_volume.specs.Roles.{Volume, is_dir, is_directory, is_allocated, is_suspect, seen_in}
 use Rattle.ffs_volume.specs.Search.{some_below-none}
 use Rattle.ffs_volume.specs.Volumes.{class_at, marked_at, volume_of, volume_with}
-use Rattle.ffs_connectivity.specs.Lines.{lines_from}
-use Rattle.ffs_connectivity.proofs.Lines.{all_from, names_append}
+use Rattle.ffs_volume.proofs.Numbered.{all_from_root, names_append}
 use Rattle.ffs_names.specs.Surveys.{IsUntouched}
 use Rattle.ffs_workspace.specs.declared.workspace.Workspace.{Workspace}
 use Rattle.ffs_workspace.specs.Holds.{bool_at, HoldsClaims, HoldsSurvey}
-use Rattle.ffs_workspace.specs.Kinds.{kind_at, is_dir_kind, is_empty_dir_kind, is_allocated_kind}
+use Rattle.ffs_volume.specs.Kinds.{kind_at, is_dir_kind, is_empty_dir_kind, is_allocated_kind}
 use Rattle.ffs_workspace.specs.Lengths.{IsFor, inodes_of}
 use Rattle.ffs_workspace.proofs.KindLaws.{tells_at, suspect_is}
 use Rattle.ffs_maps.specs.Bits.{bits_of}
 use Rattle.ffs_pathnames.specs.Before.{AreClear, IsBefore, root_said}
-use Rattle.ffs_pathnames.specs.Examines.{LeavesSurvey}
+use Rattle.ffs_workspace.specs.Leaves.{LeavesSurvey}
 use Rattle.ffs_pathnames.specs.Gathers.{marks_of}
 use Rattle.ffs_pathnames.specs.Knows.{Knows}
 use Rattle.ffs_pathnames.specs.MarksRight.{AreRightBefore}
 use Rattle.ffs_pathnames.proofs.BetweenLaws.{other_next}
 use Rattle.ffs_pathnames.proofs.EmptyLaws.{looked_is, looked_dir, names_none}
-use Rattle.ffs_pathnames.proofs.Holding.{claims_stay, survey_stays}
+use Rattle.ffs_workspace.proofs.Leaving.{claims_left, survey_left}
 
 -- a fact of every answer, and of each value that is answered
 pub on_all : {T E : Type 0} (r : Result T E) (P : Type 0) → P → OnOk r P
@@ -39,21 +38,6 @@ on_all (Err e) P h = tt
 pub if_ok : {T E : Type 0} (r : Result T E) (P Q : T → Type 0) → ((x : T) → P x → Q x) → IfOk r P → IfOk r Q
 if_ok (Ok x) P Q f h = f x h
 if_ok (Err e) P Q f h = tt
-
-pub leaves_all : (a : Workspace) → LeavesSurvey a a
-leaves_all a = record { claimed = refl; kinds = refl; marked = refl; cut = refl; references = refl; named = refl; reached = refl; parents = refl }
-
-pub leaves_more : (a b c : Workspace) → LeavesSurvey a b → LeavesSurvey b c → LeavesSurvey a c
-leaves_more a b c s t = record {
-  claimed = t.claimed ∙ s.claimed;
-  kinds = t.kinds ∙ s.kinds;
-  marked = t.marked ∙ s.marked;
-  cut = t.cut ∙ s.cut;
-  references = t.references ∙ s.references;
-  named = t.named ∙ s.named;
-  reached = t.reached ∙ s.reached;
-  parents = t.parents ∙ s.parents;
-}
 
 -- a survey leaves what the block check found
 pub claims_untouched : (v : Layout) (b : List ℕ) (old new : Workspace) → IsUntouched old new → HoldsClaims v b old → HoldsClaims v b new
@@ -103,7 +87,7 @@ lines_other v told w d b e k = ap (λ l. if l then dir_lines (volume_of v b) d e
 -- the next inode
 pub before_next : (v : Layout) (told : Option (List ℕ)) (old new : Workspace) (d : ℕ) (b : List ℕ) → LeavesSurvey old new → AreRightBefore (volume_of v b) (suc d) (marks_of new) →
     IsBefore v told old d b → IsBefore v told new (suc d) b
-before_next v told old new d b s r k = record { told_is = k.told_is; claims = claims_stay v b old new s k.claims; survey = survey_stays v b old new s k.survey; marks = r }
+before_next v told old new d b s r k = record { told_is = k.told_is; claims = claims_left v b old new s k.claims; survey = survey_left v b old new s k.survey; marks = r }
 
 pub before_other : (v : Layout) (told : Option (List ℕ)) (w : Workspace) (d : ℕ) (b : List ℕ) → IsGeometry v → (slice_index w.kinds.items d == 4) ≡ false → IsBefore v told w d b →
     IsBefore v told w (suc d) b
@@ -161,7 +145,7 @@ tree_lines v b goes = if goes then lines_from (lines_of (volume_of v b)) 2 (inod
 
 lines_begin : (v : Layout) (b : List ℕ) → lines_below (lines_of (volume_of v b)) (volume_of v b).count ≡ lines_from (lines_of (volume_of v b)) 2 (inodes_of v - 2)
 unfolding volume_of volume_with
-lines_begin v b = all_from (lines_of (volume_of v b)) (inodes_of v) refl refl
+lines_begin v b = all_from_root (lines_of (volume_of v b)) (inodes_of v) refl refl
 
 pub tree_is : (v : Layout) (b : List ℕ) (w : Workspace) (k : ℕ) (m goes : Bool) → k ≡ slice_index w.kinds.items 2 → m ≡ bool_at w.marked.items 2 → HoldsClaims v b w → goes ≡ is_dir_kind k →
     map of_names (pathname_lines (volume_of v b)) ≡ map of_names (root_said k m) ++ map of_names (tree_lines v b goes)

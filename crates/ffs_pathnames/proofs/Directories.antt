@@ -1,5 +1,6 @@
 -- A look at the chunks of a directory, one after another.
 use Rattle.std.proofs.Common.{◌≡◌, refl, sym, ap, ◌∙◌, ℕ, Bool, true, false, ◌&&◌, List, [], ◌∷◌, ◌++◌, Option}
+use Rattle.std.proofs.Math.Bool.{and-true}
 use Rattle.std.specs.Prelude.{◌==◌}
 use Rattle.std.specs.List.{flat_map, find}
 use Rattle.ffs_volume.specs.declared.Order.{Order}
@@ -45,15 +46,11 @@ pub chunk_sound : (cs cs' : List Chunk) (c : Chunk) (all sound here : Bool) → 
 chunk_sound cs cs' c all sound here e h q =
     q ∙ (ap (λ l. sound && are_sound l) e ∙ (sym (and_assoc sound c.sound (are_sound cs')) ∙ ap (λ b. (sound && b) && are_sound cs') (sym h)))
 
-and_true : (b : Bool) → (b && true) ≡ b
-and_true true = refl
-and_true false = refl
-
 pub all_quiet : (v : Volume) (s : ℕ) (stamps : List ℕ) (cs : List Chunk) (all quiet : Bool) → cs ≡ [] → all ≡ (quiet && are_quiet v s stamps (flat_map chunk_seen cs)) → quiet ≡ all
-all_quiet v s stamps cs all quiet e q = sym (q ∙ (ap (λ l. quiet && are_quiet v s stamps (flat_map chunk_seen l)) e ∙ and_true quiet))
+all_quiet v s stamps cs all quiet e q = sym (q ∙ (ap (λ l. quiet && are_quiet v s stamps (flat_map chunk_seen l)) e ∙ and-true quiet))
 
 pub all_sound : (cs : List Chunk) (all sound : Bool) → cs ≡ [] → all ≡ (sound && are_sound cs) → sound ≡ all
-all_sound cs all sound e q = sym (q ∙ (ap (λ l. sound && are_sound l) e ∙ and_true sound))
+all_sound cs all sound e q = sym (q ∙ (ap (λ l. sound && are_sound l) e ∙ and-true sound))
 
 pub all_stamps : (v : Volume) (s : ℕ) (stamps all : List ℕ) (cs : List Chunk) → cs ≡ [] → all ≡ after_looks v s stamps (flat_map chunk_seen cs) → stamps ≡ all
 all_stamps v s stamps all cs e q = sym (q ∙ ap (λ l. after_looks v s stamps (flat_map chunk_seen l)) e)

@@ -20,21 +20,9 @@ use Rattle.ffs_volume.specs.Graph.{names, names_in}
 use Rattle.ffs_volume.specs.Parents.{graph_of}
 use Rattle.ffs_volume.specs.PathnameCheck.{is_looked_at}
 use Rattle.ffs_volume.specs.Volumes.{is_number, kept_at_number, reading_of, volume_with, volume_of}
-use Rattle.ffs_workspace.specs.Kinds.{kind_at, is_dir_kind, is_empty_dir_kind}
+use Rattle.ffs_volume.specs.Kinds.{kind_at, is_dir_kind, is_empty_dir_kind}
+use Rattle.ffs_volume.proofs.Sizes.{no_steps}
 use Rattle.ffs_workspace.proofs.KindLaws.{dir_is, empty_is}
-
-no_blocks : (n b : ℕ) → 0 < b → n ≡ 0 → div_ceil n b ≡ 0
-no_blocks n b h e = ap (λ k. div_ceil k b) e ∙ ap (λ q. q + min 1 (0 % b)) (zero-div b) ∙ ap (λ r. 0 + min 1 r) (zero-mod b)
-
--- no steps where the size is 0
-no_steps : (v : Layout) (image : List ℕ) (i : Inode) → 0 < v.bsize → i.size ≡ 0 → steps_of v i image ≡ []
-unfolding steps_of
-no_steps v image i h e =
-    ap (λ b. steps_of_addresses (record { geometry = v; blocks = b; last = last_of v i }) image i.addresses 0 (used_addresses v.nindir b)) (one (walks v i))
-  where
-    one : (w : Bool) → (if w then blocks_of v i else 0) ≡ 0
-    one true = no_blocks i.size v.bsize h e
-    one false = refl
 
 none_kept : (v : Layout) (b : List ℕ) (d : ℕ) → 0 < v.bsize → (inode_of v b d).size ≡ 0 → kept_at_number v b d ≡ []
 unfolding kept_steps_of

@@ -10,13 +10,11 @@ pub mod Gaps
 pub mod SeesLaws
 pub mod ChunkLaws
 pub mod Enough
-pub mod Holding
 pub mod VerdictLaws
 pub mod Listing
 pub mod Passed
 pub mod Passing
 pub mod FirstTwo
-pub mod Composed
 pub mod InOrder
 pub mod Begun
 pub mod EmptyLaws

@@ -1,6 +1,7 @@
 -- A path leaves the lists.
 use Rattle.ffs_paths.specs.SameLists.{SameLists}
-use Rattle.ffs_pathnames.specs.Examines.{LeavesSurvey, LeavesMarks}
+use Rattle.ffs_workspace.specs.Leaves.{LeavesSurvey}
+use Rattle.ffs_pathnames.specs.Examines.{LeavesMarks}
 use Rattle.ffs_workspace.specs.declared.workspace.Workspace.{Workspace}
 
 pub lists_left : (old new : Workspace) → SameLists old new → LeavesMarks old new
@@ -14,6 +15,8 @@ lists_left old new s = record {
     named = s.named;
     reached = s.reached;
     parents = s.parents;
+    runs_seen = s.runs_seen;
+    runs_again = s.runs_again;
   };
   leaders = s.leaders;
   queue = s.queue;

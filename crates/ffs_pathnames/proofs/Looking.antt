@@ -2,6 +2,7 @@
 use Rattle.std.proofs.Common.{◌≡◌, refl, sym, ap, ◌∙◌, ℕ, suc, zero, ◌+◌, ◌≤◌, arith, Bool, true, false, ◌&&◌, ◌==◌, List, [], ◌∷◌, Option, Some, None, option_map}
 use Rattle.std.specs.Prelude.{sum_by}
 use Rattle.std.proofs.lemmas.List.Sums.{sum_by-cons}
+use Rattle.std.proofs.Math.Bool.{and-true}
 use Rattle.ffs_volume.specs.declared.Order.{Order}
 use Rattle.ffs_volume.specs.declared.Role.{Role}
 use Rattle.ffs_volume.specs.Directory.{Entry, entry_at, entries_from}
@@ -54,10 +55,6 @@ length_on order chunk place all e there q =
 pub none : (order : Order) (chunk : List ℕ) (place : ℕ) (o : Option CodeEntry) → o ≡ None → option_map seen_entry o ≡ entry_at order chunk place → entry_at order chunk place ≡ None
 none order chunk place o e h = sym h ∙ ap (option_map seen_entry) e
 
-and_true : (b : Bool) → (b && true) ≡ b
-and_true true = refl
-and_true false = refl
-
 seen_end : (order : Order) (chunk : List ℕ) (first : Bool) (index place : ℕ) → entry_at order chunk place ≡ None → seen_at_place order chunk first index place ≡ []
 unfolding seen_from
 seen_end order chunk first index place h = ap (seen_from first index) (entries_end order chunk place h)
@@ -65,7 +62,7 @@ seen_end order chunk first index place h = ap (seen_from first index) (entries_e
 pub quiet_ends : (v : Volume) (s : ℕ) (stamps : List ℕ) (first : Bool) (index : ℕ) (order : Order) (chunk : List ℕ) (place : ℕ) (all quiet : Bool) → entry_at order chunk place ≡ None →
     all ≡ (quiet && are_quiet v s stamps (seen_at_place order chunk first index place)) → quiet ≡ all
 quiet_ends v s stamps first index order chunk place all quiet h q =
-    sym (q ∙ (ap (λ l. quiet && are_quiet v s stamps l) (seen_end order chunk first index place h) ∙ and_true quiet))
+    sym (q ∙ (ap (λ l. quiet && are_quiet v s stamps l) (seen_end order chunk first index place h) ∙ and-true quiet))
 
 pub stamps_end : (v : Volume) (s : ℕ) (stamps all : List ℕ) (first : Bool) (index : ℕ) (order : Order) (chunk : List ℕ) (place : ℕ) → entry_at order chunk place ≡ None →
     all ≡ after_looks v s stamps (seen_at_place order chunk first index place) → stamps ≡ all

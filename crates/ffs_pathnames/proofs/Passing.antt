@@ -18,10 +18,10 @@ use Rattle.ffs_names.specs.Hands.{reading_by}
 use Rattle.ffs_names.proofs.DirLaws.{dir_is, dir_size, dir_seen}
 use Rattle.ffs_volume.specs.Messages.{NameMessage, of_names}
 use Rattle.ffs_volume.specs.Roles.{Volume, Seen, chunk_seen, seen_from, seen_in, is_dir}
-use Rattle.ffs_pathnames.specs.Examines.{LeavesSurvey}
+use Rattle.ffs_workspace.specs.Leaves.{LeavesSurvey}
 use Rattle.ffs_pathnames.specs.Knows.{Knows}
 use Rattle.ffs_pathnames.specs.Marks.{Marks, after_seen, after_entries, seen_told, entries_told}
-use Rattle.ffs_pathnames.proofs.Holding.{claims_stay, survey_stays}
+use Rattle.ffs_workspace.proofs.Leaving.{claims_left, survey_left}
 use Rattle.ffs_pathnames.proofs.Looking.{seen_at_place}
 use Rattle.ffs_workspace.specs.declared.workspace.Workspace.{Workspace}
 
@@ -67,19 +67,6 @@ chunk_passed v s all m m' c cs cs' is after q =
     q ∙ (ap (λ l. after_entries v s m (flat_map chunk_seen l)) is
     ∙ (after_more v s m (chunk_seen c) (flat_map chunk_seen cs') ∙ ap (λ k. after_entries v s k (flat_map chunk_seen cs')) after))
 
--- what stays through two calls
-pub leaves_more : (a b c : Workspace) → LeavesSurvey a b → LeavesSurvey b c → LeavesSurvey a c
-leaves_more a b c p q = record {
-  claimed = q.claimed ∙ p.claimed;
-  kinds = q.kinds ∙ p.kinds;
-  marked = q.marked ∙ p.marked;
-  cut = q.cut ∙ p.cut;
-  references = q.references ∙ p.references;
-  named = q.named ∙ p.named;
-  reached = q.reached ∙ p.reached;
-  parents = q.parents ∙ p.parents;
-}
-
 if_some : {X : Type 0} (b : Bool) (x y : X) → (if b then Some x else None) ≡ Some y → x ≡ y
 if_some true x y h = cc
 if_some false x y h = absurd (cc)
@@ -107,8 +94,8 @@ none_left order chunk first index place h = ap (seen_from first index) (entries_
 pub knows_on : (v : Layout) (told told' : Option (List ℕ)) (old new : Workspace) (d : ℕ) (b : List ℕ) → told' ≡ told → LeavesSurvey old new → Knows v told old d b → Knows v told' new d b
 knows_on v told told' old new d b e s k = record {
   told_is = e ∙ k.told_is;
-  claims = claims_stay v b old new s k.claims;
-  survey = survey_stays v b old new s k.survey;
+  claims = claims_left v b old new s k.claims;
+  survey = survey_left v b old new s k.survey;
   dir = k.dir;
 }
 

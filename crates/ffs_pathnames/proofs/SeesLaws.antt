@@ -13,7 +13,7 @@ use Rattle.ffs_volume.specs.Graph.{parent}
 use Rattle.ffs_volume.specs.Parents.{graph_of}
 use Rattle.ffs_volume.specs.Volumes.{class_at, marked_at, volume_of, volume_with}
 use Rattle.ffs_workspace.specs.declared.workspace.Workspace.{Workspace}
-use Rattle.ffs_workspace.specs.Kinds.{kind_at, is_dir_kind, is_empty_dir_kind, is_allocated_kind, is_unknown_kind, type_of_kind, class_of_kind}
+use Rattle.ffs_volume.specs.Kinds.{kind_at, is_dir_kind, is_empty_dir_kind, is_allocated_kind, is_unknown_kind, type_of_kind, class_of_kind}
 use Rattle.ffs_workspace.specs.Lengths.{inodes_of}
 use Rattle.ffs_workspace.specs.Holds.{bool_at, HoldsClaims, HoldsSurvey}
 use Rattle.ffs_workspace.proofs.KindLaws.{tells_at, dir_is, suspect_is, type_is, class_is}

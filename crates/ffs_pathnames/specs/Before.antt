@@ -5,7 +5,7 @@ use Rattle.ffs_volume.specs.Messages.{NameMessage, told, root_none, root_not_dir
 use Rattle.ffs_volume.specs.Volumes.{volume_of}
 use Rattle.ffs_workspace.specs.declared.workspace.Workspace.{Workspace}
 use Rattle.ffs_workspace.specs.Holds.{bool_at, HoldsClaims, HoldsSurvey}
-use Rattle.ffs_workspace.specs.Kinds.{is_dir_kind, is_empty_dir_kind}
+use Rattle.ffs_volume.specs.Kinds.{is_dir_kind, is_empty_dir_kind}
 use Rattle.ffs_pathnames.specs.Gathers.{marks_of}
 use Rattle.ffs_pathnames.specs.MarksRight.{AreRightBefore}
 

@@ -10,19 +10,9 @@ use Rattle.ffs_pathnames.specs.declared.examine.Examined.{Examined}
 use Rattle.ffs_pathnames.specs.Marks.{are_quiet, after_looks}
 use Rattle.ffs_pathnames.specs.Reads.{start_of}
 use Rattle.ffs_workspace.specs.declared.workspace.Workspace.{Workspace}
+use Rattle.ffs_workspace.specs.Leaves.{LeavesSurvey}
 
--- all that the phases before the pathname check left
-pub record LeavesSurvey (old new : Workspace) : Type 0 where
-  pub claimed : new.claimed ≡ old.claimed
-  pub kinds : new.kinds ≡ old.kinds
-  pub marked : new.marked ≡ old.marked
-  pub cut : new.cut ≡ old.cut
-  pub references : new.references ≡ old.references
-  pub named : new.named ≡ old.named
-  pub reached : new.reached ≡ old.reached
-  pub parents : new.parents ≡ old.parents
-
--- and the list of leaders
+-- what the phases before the pathname check left, and the list of leaders
 pub record LeavesQueue (old new : Workspace) : Type 0 where
   pub survey : LeavesSurvey old new
   pub leaders : new.leaders ≡ old.leaders

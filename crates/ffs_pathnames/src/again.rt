@@ -8,7 +8,7 @@ ghost use Rattle.ffs_phase.specs.Known.{Where};
 ghost use Rattle.ffs_phase.specs.Runs.{Reads, TellsOf};
 ghost use Rattle.ffs_report.specs.Progress.{progress, kept};
 ghost use Rattle.ffs_workspace.specs.Lengths.{IsFor, HoldWindows};
-ghost use Rattle.ffs_pathnames.specs.Examines.{LeavesSurvey};
+ghost use Rattle.ffs_workspace.specs.Leaves.{LeavesSurvey};
 ghost use Rattle.ffs_pathnames.specs.Gathers.{marks_of};
 ghost use Rattle.ffs_pathnames.specs.Knows.{Knows};
 ghost use Rattle.ffs_pathnames.specs.Marks as marks;

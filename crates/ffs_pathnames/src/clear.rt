@@ -2,7 +2,7 @@
 ghost use Rattle.std.specs.Prelude.{◌≡◌};
 ghost use Rattle.ffs_workspace.specs.Lengths.{IsFor};
 ghost use Rattle.ffs_pathnames.specs.Before.{AreClear};
-ghost use Rattle.ffs_pathnames.specs.Examines.{LeavesSurvey};
+ghost use Rattle.ffs_workspace.specs.Leaves.{LeavesSurvey};
 
 use ffs_layout::Geometry;
 use ffs_workspace::Workspace;

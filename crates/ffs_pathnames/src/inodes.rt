@@ -14,7 +14,7 @@ pub struct Inodes<'a> {
 
 impl<'a> Inodes<'a> {
     ghost use Rattle.ffs_volume.specs.declared.Role.{Role};
-    ghost use Rattle.ffs_workspace.specs.Kinds.{is_dir_kind, is_empty_dir_kind, is_allocated_kind, is_unknown_kind, type_of_kind};
+    ghost use Rattle.ffs_volume.specs.Kinds.{is_dir_kind, is_empty_dir_kind, is_allocated_kind, is_unknown_kind, type_of_kind};
     ghost use Rattle.ffs_workspace.specs.Holds.{bool_at};
 
     /// How many inodes there are.

@@ -6,7 +6,7 @@ ghost use Rattle.ffs_volume.specs.PathnameCheck.{attributes, label_of, is_other_
 ghost use Rattle.ffs_volume.specs.Parents.{graph_of};
 ghost use Rattle.ffs_volume.specs.Paths.{dir_path, entry_path};
 ghost use Rattle.ffs_layout.specs.Entry.{seen_entry};
-ghost use Rattle.ffs_workspace.specs.Kinds.{class_of_kind};
+ghost use Rattle.ffs_volume.specs.Kinds.{class_of_kind};
 ghost use Rattle.ffs_pathnames.specs.Gathers.{asks_attr, asks_path};
 ghost use Rattle.ffs_pathnames.specs.Marks as marks;
 ghost use Rattle.ffs_pathnames.specs.Sees.{Sees};

@@ -1,7 +1,7 @@
 // What is told of the root.
 ghost use Rattle.std.specs.Prelude.{◌≡◌, ◌||◌};
 ghost use Rattle.ffs_report.specs.Progress.{progress, kept};
-ghost use Rattle.ffs_workspace.specs.Kinds.{is_dir_kind, is_empty_dir_kind};
+ghost use Rattle.ffs_volume.specs.Kinds.{is_dir_kind, is_empty_dir_kind};
 ghost use Rattle.ffs_pathnames.specs.Before.{root_said};
 ghost use Rattle.ffs_pathnames.specs.GoesOn.{is_go};
 ghost use Rattle.ffs_pathnames.specs.SaysNames.{SaysNames};

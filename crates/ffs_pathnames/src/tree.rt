@@ -1,16 +1,15 @@
 // The pathname check of the root, and of one directory after another.
 ghost use Rattle.std.specs.Prelude.{suc, ◌≡◌, ◌-◌, ◌*◌, ◌==◌, ◌<◌, ◌≤◌, ℕ, List, OnOk, IfOk, map, slice_index};
-ghost use Rattle.ffs_connectivity.specs.Lines.{lines_from};
 ghost use Rattle.ffs_phase.specs.Known.{Where};
 ghost use Rattle.ffs_phase.specs.Runs.{Reads, TellsOf};
 ghost use Rattle.ffs_report.specs.Progress.{progress, kept};
-ghost use Rattle.ffs_volume.specs.Messages.{of_names};
+ghost use Rattle.ffs_volume.specs.Messages.{of_names, lines_from};
 ghost use Rattle.ffs_volume.specs.PathnameCheck.{goes_on, lines_of, pathname_lines};
 ghost use Rattle.ffs_volume.specs.Volumes.{volume_of};
 ghost use Rattle.ffs_workspace.specs.Holds.{bool_at};
 ghost use Rattle.ffs_workspace.specs.Lengths.{IsFor, HoldWindows, inodes_of};
 ghost use Rattle.ffs_pathnames.specs.Before.{IsBefore};
-ghost use Rattle.ffs_pathnames.specs.Examines.{LeavesSurvey};
+ghost use Rattle.ffs_workspace.specs.Leaves.{LeavesSurvey};
 ghost use Rattle.ffs_pathnames.specs.GoesOn.{is_go};
 
 use crate::check::check_directory;

@@ -3,6 +3,7 @@ use Rattle.std.proofs.Common.{◌≡◌, inl, inr, refl, ◌∙◌, ◌+◌, ◌
 use Rattle.std.proofs.Math.Seq.{drop-cons}
 use Rattle.std.proofs.lemmas.List.{take-append-drop, map-append, map_more}
 use Rattle.std.proofs.lemmas.List.Concat.{flat_map-append}
+use Rattle.std.proofs.Math.Bool.{or_assoc}
 use Rattle.ffs_volume.specs.Messages.{Message, is_defect, has_defect}
 use Rattle.ffs_volume.specs.Texts.{text_of, texts_of}
 use Rattle.ffs_report.specs.Progress.{Progress, Said, Stopped, Says}
@@ -11,10 +12,6 @@ use Rattle.ffs_report.proofs.Sinks.{Appends-then, took_nil, took_then}
 or_false : (a : Bool) → (a || false) ≡ a
 or_false true = refl
 or_false false = refl
-
-or_assoc : (a b c : Bool) → ((a || b) || c) ≡ (a || (b || c))
-or_assoc true b c = refl
-or_assoc false b c = refl
 
 pub has_defect-append : (xs ys : List Message) → has_defect (xs ++ ys) ≡ (has_defect xs || has_defect ys)
 has_defect-append [] ys = refl

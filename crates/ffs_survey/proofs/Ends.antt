@@ -10,7 +10,7 @@ use Rattle.ffs_volume.specs.Levels.{within-zero, within-grows, level-is, level-s
 use Rattle.ffs_survey.specs.Survey.{bool_at, number_at}
 use Rattle.ffs_survey.specs.Discover.{bit, times, unset, IsFront, Knows, from_dirs, nothing, Comes}
 use Rattle.ffs_survey.proofs.Discovered.{comes-to, comes-refl}
-use Rattle.ffs_survey.proofs.Fronts.{within-bound, next_level, IsNext}
+use Rattle.ffs_survey.proofs.Fronts.{times-nil, within-bound, next_level, IsNext}
 
 -- where a level is empty, all is known
 pub no_more : (v : Graph) (k x : ℕ) → IsSane v → IsFront v k [] → within v k x ≡ reached v x
@@ -42,10 +42,6 @@ knows_parent v k r p q sane f n x = n.parent x ∙ ap (λ b. unwrap_or (cond b (
 parent-root : (v : Graph) → parent v 2 ≡ Some 2
 unfolding parent
 parent-root v = refl
-
-times-nil : (t : ℕ) → times t [] ≡ 0
-unfolding times
-times-nil t = refl
 
 times-single : (x y : ℕ) → times x (y ∷ []) ≡ bit (y == x)
 unfolding times

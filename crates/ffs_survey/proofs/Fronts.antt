@@ -6,11 +6,12 @@ use Rattle.ffs_volume.specs.Roles.{Seen}
 use Rattle.std.proofs.Common.{arith, sym, ◌∙◌, ap, subst, inl, inr, get_or, ◌⊎◌, add-zero, zero-add}
 use Rattle.std.proofs.lemmas.Bool.{both_ways, cases_Bool, cases_eq, cases_lt, eqb-true, eq-eqb, ne_eqb, and_parts, and_from, and_left, and_right, or_cases, or_left, or_right, or_from, not-true, not_from_false, cond-true, cond-false, false_from_ne_true}
 use Rattle.std.proofs.lemmas.List.Sums.{sum_by-cons, sum_by-append}
+use Rattle.std.proofs.Math.Bool.{or-false}
 use Rattle.ffs_volume.specs.Search.{first_below, first_below-is, first_below-is_none, first_below-some, some_below, some_below-gives, some_below-from, some_below-none}
 use Rattle.ffs_volume.specs.Climb.{is_value, is_value-true, is_value-from}
 use Rattle.ffs_volume.specs.Graph.{Graph, IsSane, level_edge, edge, within, level, parent, parent_by}
 use Rattle.ffs_volume.specs.Levels.{within-suc, within-zero, within-grows, within-step, within-more, level-some, level-from}
-use Rattle.ffs_survey.proofs.Unreached.{edge-parts}
+use Rattle.ffs_volume.proofs.Unreached.{edge-parts}
 use Rattle.ffs_survey.specs.Survey.{bool_at, number_at, graph_with}
 use Rattle.ffs_survey.specs.Discover.{bit, times, from_dirs, nothing, Comes, Rising, IsFront, parent_at, Knows}
 use Rattle.ffs_survey.proofs.Discovered.{dir_below}
@@ -19,7 +20,7 @@ pub times-cons : (t x : ℕ) (xs : List ℕ) → times t (x ∷ xs) ≡ bit (x =
 unfolding times
 times-cons t x xs = sum_by-cons (λ y. bit (y == t)) x xs
 
-times-nil : (t : ℕ) → times t [] ≡ 0
+pub times-nil : (t : ℕ) → times t [] ≡ 0
 unfolding times
 times-nil t = refl
 
@@ -168,10 +169,6 @@ parent-new v k x s sane n f =
 same_cond : (b : Bool) (n : ℕ) → cond b n n ≡ n
 same_cond true n = refl
 same_cond false n = refl
-
-or-false : (b : Bool) → (b || false) ≡ b
-or-false true = refl
-or-false false = refl
 
 -- what of a level is discovered
 pub record IsNext (v : Graph) (k : ℕ) (r' : List Bool) (p' q' : List ℕ) : Type 0 where

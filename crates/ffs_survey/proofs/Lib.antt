@@ -1,6 +1,5 @@
 mod Discovered
 mod Tally
-mod Unreached
 mod Fronts
 mod Ends
 mod Totals

@@ -7,6 +7,7 @@ use Rattle.std.proofs.lemmas.List.Sorted.{sum_by-IsPermutation}
 use Rattle.std.proofs.lemmas.List.Sums.{sum_by-append, sum_by-cons}
 use Rattle.std.proofs.lemmas.Bool.{cond-false, and_left}
 use Rattle.std.proofs.lemmas.Grind.{common_steps}
+use Rattle.std.proofs.Math.Bool.{or-false}
 use Rattle.ffs_volume.specs.Roles.{Seen, refers}
 use Rattle.ffs_volume.specs.Graph.{Graph, IsSane, names_in}
 use Rattle.ffs_survey.specs.Survey.{bool_at, number_at, graph_with, dir_at, counted_in}
@@ -64,10 +65,6 @@ level_after v k xs r r' p p' q new ys sane f n c m s =
             omega (arith, a, b, d, e);
       };
     }
-
-or-false : (b : Bool) → (b || false) ≡ b
-or-false true = refl
-or-false false = refl
 
 -- the counts, one level further
 pub counted_on : (g : Graph) (low high : ℕ) (q q' f f' : List ℕ) (m m' : List Bool) → low ≤ high → take high q' ≡ take high q → IsCount g (take low q) f m

@@ -3,6 +3,7 @@ use Rattle.std.specs.Prelude.{◌≡◌, ℕ, ◌+◌, ◌<◌, ◌≤◌, ◌==
 use Rattle.std.proofs.Common.{arith, sym, ◌∙◌, ap, get_or, drop, add-one, drop-cons}
 use Rattle.std.proofs.lemmas.Bool.{ne_eqb, cond-true, cond-false}
 use Rattle.std.proofs.lemmas.List.Sums.{sum_by-cons}
+use Rattle.std.proofs.Math.Bool.{or-false}
 use Rattle.ffs_volume.specs.Roles.{Seen, refers}
 use Rattle.ffs_volume.specs.Graph.{names, names_in}
 use Rattle.ffs_survey.specs.Survey.{number_at, bool_at, counted_in, graph_with, dir_at}
@@ -40,10 +41,6 @@ entry_counted n c a e rest f f' f'' m m' m'' h u w = record {
   references = λ x l. count_step (number_at f' x) (number_at f'' x) (bit (refers x e)) (count_in rest x) _ (u x l) (ap (λ k. number_at f' x + k) (sym (count_by-step (refers x) e rest)) ∙ h.references x l);
   named = λ x l. any_step (bool_at m' x) (bool_at m'' x) (names x e) (any_in rest x) _ (w x l) (h.named x l);
 }
-
-or-false : (b : Bool) → (b || false) ≡ b
-or-false true = refl
-or-false false = refl
 
 -- the step of the loop over a level
 pub dir_counted : (n : ℕ) (c : ℕ → ℕ) (a : ℕ → Bool) (kinds : List ℕ) (entries : ℕ → List Seen) (front : List ℕ) (i : ℕ) (f f' f'' : List ℕ) (m m' m'' : List Bool)

@@ -9,7 +9,7 @@ use Rattle.ffs_volume.specs.Graph.{Graph, IsSane, edge, parent, parent_by, level
 use Rattle.ffs_survey.specs.Survey.{number_at, IsTree}
 use Rattle.ffs_survey.specs.Cycles.{up_of}
 use Rattle.ffs_survey.proofs.Discovered.{dir_below}
-use Rattle.ffs_survey.proofs.Unreached.{edge-parts, IsLost, lost-from}
+use Rattle.ffs_volume.proofs.Unreached.{edge-parts, IsLost, lost-from}
 use Rattle.ffs_survey.proofs.Walks.{up_of-none, up_of-some}
 
 -- what a parent is

@@ -4,13 +4,14 @@ use Rattle.std.specs.List.{list_any}
 use Rattle.std.proofs.Common.{arith, sym, ◌∙◌, ap, subst, inl, inr, add-zero}
 use Rattle.std.proofs.lemmas.Bool.{both_ways, cases_Bool, cases_lt, and_left, and_right, and_from, and_parts, cond-true, cond-false, eq-eqb, ne_eqb, not-true, false_from_ne_true}
 use Rattle.std.proofs.lemmas.List.{get_or_past}
+use Rattle.std.proofs.Math.Bool.{or-false}
 use Rattle.ffs_volume.specs.Roles.{Seen}
 use Rattle.ffs_volume.specs.Search.{first_below, earliest, some_below, some_below-suc, first_below-some, first_below-is_none}
 use Rattle.ffs_volume.specs.Graph.{Graph, IsSane, names, names_in, edge, level, reached, parent}
 use Rattle.ffs_volume.specs.Levels.{reached-edge, reached-root}
 use Rattle.ffs_survey.specs.Survey.{bool_at, number_at, dir_at, is_dir_kind, graph_with, counted_in, IsSurvey}
 use Rattle.ffs_survey.specs.Discover.{Counts, count_in, any_in, none, never, counted_by, IsReachedPart, is_free, is_free_edge, IsRead}
-use Rattle.ffs_survey.proofs.Unreached.{parent-unreached}
+use Rattle.ffs_volume.proofs.Unreached.{parent-unreached}
 use Rattle.ffs_survey.proofs.Totals.{counted_both, some_both}
 use Rattle.ffs_survey.proofs.Discovered.{dir_below}
 
@@ -83,10 +84,6 @@ read_on kinds entries r s f f' f'' m m' m'' p p' p'' free blank i c u = subst (�
 
     unmarked : not (bool_at r s) ≡ true
     unmarked = (and_parts (dir_at kinds s) (not (bool_at r s)) free).1
-
-    or-false : (b : Bool) → (b || false) ≡ b
-    or-false true = refl
-    or-false false = refl
 
     assoc : (a b d : Bool) → ((a || b) || d) ≡ (a || (b || d))
     assoc true b d = refl

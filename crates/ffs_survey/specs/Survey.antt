@@ -3,18 +3,8 @@ use Rattle.std.specs.Prelude.{◌≡◌, ℕ, zero, suc, ◌+◌, ◌<◌, ◌==
 use Rattle.std.specs.List.{slice_index_or}
 use Rattle.ffs_volume.specs.Roles.{Seen, refers}
 use Rattle.ffs_volume.specs.Graph.{Graph, named, reached, parent}
-
--- the flag at a place of a list, false past its end
-abbrev pub bool_at : List Bool → ℕ → Bool
-bool_at flags x = slice_index_or flags x false
-
--- the number at a place of a list, 0 past its end
-abbrev pub number_at : List ℕ → ℕ → ℕ
-number_at ns x = slice_index ns x
-
--- the kinds of directories: 4 with a size, and 5 of size 0
-abbrev pub is_dir_kind : ℕ → Bool
-is_dir_kind kind = (kind == 4) || (kind == 5)
+pub use Rattle.ffs_volume.specs.Lists.{bool_at, number_at}
+pub use Rattle.ffs_volume.specs.Kinds.{is_dir_kind}
 
 -- x is a directory, by a list with a kind for each inode
 abbrev pub dir_at : List ℕ → ℕ → Bool

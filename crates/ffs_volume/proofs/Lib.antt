@@ -5,3 +5,6 @@ pub mod DirectoryExamples
 pub mod BlockExamples
 pub mod OpeningExamples
 pub mod LawsHold
+pub mod Numbered
+pub mod Unreached
+pub mod Sizes

@@ -10,6 +10,7 @@ pub mod Inodes
 pub mod Steps
 pub mod StepLaws
 pub mod Owners
+pub mod Lists
 pub mod Claims
 pub mod BlockCheck
 pub mod BlocksRight
@@ -35,6 +36,7 @@ pub mod Connectivity
 pub mod ReferenceCheck
 pub mod DirectoriesRight
 pub mod Volumes
+pub mod Kinds
 pub mod ChunkLaws
 pub mod Replay
 pub mod ReplayLaws

@@ -91,3 +91,8 @@ told false m = []
 unfoldable pub lines_below : (ℕ → List NameMessage) → ℕ → List NameMessage
 lines_below lines zero = []
 lines_below lines (suc n) = lines_below lines n ++ lines n
+
+-- what is told for that many numbers from d on, ascending
+unfoldable pub lines_from : (ℕ → List NameMessage) → ℕ → ℕ → List NameMessage
+lines_from lines d zero = []
+lines_from lines d (suc k) = lines d ++ lines_from lines (suc d) k

@@ -8,7 +8,7 @@ use Rattle.ffs_volume.specs.declared.Class.TheVariants.{Free, Partial, Unknown, 
 use Rattle.ffs_volume.specs.Inodes.{inode_of, type_of, class_of, is_settled, is_known_type, is_too_large, is_any_set, addresses_used}
 use Rattle.ffs_volume.specs.Roles.{is_dir, is_some_inode, is_directory, is_allocated, is_unknown, is_suspect}
 use Rattle.ffs_volume.specs.Volumes.{class_at, is_number, volume_of, volume_with, marked_at}
-use Rattle.ffs_workspace.specs.Kinds.{kind_of, kind_at, is_dir_kind, is_empty_dir_kind, is_allocated_kind, is_unknown_kind, class_of_kind, type_of_kind}
+use Rattle.ffs_volume.specs.Kinds.{kind_of, kind_at, is_dir_kind, is_empty_dir_kind, is_allocated_kind, is_unknown_kind, class_of_kind, type_of_kind}
 
 -- what the class of an inode says of its type
 abbrev type_facts : Class → ℕ → Type 0

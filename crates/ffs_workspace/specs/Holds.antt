@@ -15,11 +15,9 @@ use Rattle.ffs_volume.specs.Volumes.{is_number, marked_at, volume_of}
 use Rattle.ffs_volume.specs.Replay.{cut_at}
 use Rattle.ffs_maps.specs.Bits.{bits_of}
 use Rattle.ffs_workspace.specs.declared.workspace.Workspace.{Workspace}
-use Rattle.ffs_workspace.specs.Kinds.{kind_at}
+use Rattle.ffs_volume.specs.Kinds.{kind_at}
 use Rattle.ffs_workspace.specs.Lengths.{inodes_of}
-
-abbrev pub bool_at : List Bool → ℕ → Bool
-bool_at xs i = slice_index_or xs i false
+pub use Rattle.ffs_volume.specs.Lists.{bool_at}
 
 -- the claims that a workspace holds
 abbrev pub claims_of : Workspace → Claims

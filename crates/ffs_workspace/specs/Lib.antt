@@ -1,3 +1,3 @@
-pub mod Kinds
 pub mod Lengths
 pub mod Holds
+pub mod Leaves

@@ -2,7 +2,8 @@ use Rattle.std.proofs.Common.{refl, ap, ◌∙◌}
 use Rattle.std.proofs.lemmas.Result.{err_from_is_err_and}
 use Rattle.ffs_layout.specs.Super.{seen}
 use Rattle.ffs_check.specs.Rest.{counts_part, ended_lines, counted_lines}
-use Rattle.ffs_check.proofs.Joins.{first_fault, then_rest, claims_kept}
+use Rattle.ffs_workspace.proofs.Leaving.{claims_held}
+use Rattle.ffs_check.proofs.Joins.{first_fault, then_rest}
 use Rattle.ffs_check.proofs.rest.counted.Goals as goal
 
 pub returns-in_err-phase4-clause-text : goal.returns-in_err-phase4-clause-text
@@ -17,4 +18,4 @@ returns-clause-text g c =
     let s = seen c.args.found.now in
     then_rest (Unit {0}) _ _ _ (λ bytes. counts_part bytes s) (λ bytes. ended_lines bytes s) (λ bytes. counted_lines bytes s) _ _ _ c.ended.result
     (λ bytes k. refl) (λ bytes k. k) c.in_ok-phase4.ensures.text
-    (λ bytes k. (ap (λ d. d.told) c.in_ok-phase4.ensures.image ∙ k.0, claims_kept _ bytes _ _ c.in_ok-phase4.ensures.held k.1)) c.ended.ensures.text
+    (λ bytes k. (ap (λ d. d.told) c.in_ok-phase4.ensures.image ∙ k.0, claims_held _ bytes _ _ c.in_ok-phase4.ensures.held k.1)) c.ended.ensures.text

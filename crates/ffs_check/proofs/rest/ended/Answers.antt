@@ -2,7 +2,8 @@ use Rattle.std.proofs.Common.{refl}
 use Rattle.std.proofs.lemmas.Result.{err_from_is_err_and}
 use Rattle.ffs_layout.specs.Super.{seen}
 use Rattle.ffs_check.specs.Rest.{groups_part, summary_part, ended_lines}
-use Rattle.ffs_check.proofs.Joins.{first_fault, then_rest, claims_kept}
+use Rattle.ffs_workspace.proofs.Leaving.{claims_held}
+use Rattle.ffs_check.proofs.Joins.{first_fault, then_rest}
 use Rattle.ffs_check.proofs.rest.ended.Goals as goal
 
 pub returns-in_err-phase5-clause-text : goal.returns-in_err-phase5-clause-text
@@ -20,4 +21,4 @@ returns-clause-text g c =
     let s = seen c.args.found.now in
     then_rest (Unit {0}) _ _ _ (λ bytes. groups_part bytes s) (λ bytes. summary_part bytes s) (λ bytes. ended_lines bytes s) _ _ _ c.summary.result
     (λ bytes k. refl) (λ bytes k. k) c.in_ok-phase5.ensures.text
-    (λ bytes k. claims_kept _ bytes _ _ c.in_ok-phase5.ensures.held k.1) c.summary.ensures.text
+    (λ bytes k. claims_held _ bytes _ _ c.in_ok-phase5.ensures.held k.1) c.summary.ensures.text

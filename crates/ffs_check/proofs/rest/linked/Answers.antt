@@ -2,7 +2,8 @@ use Rattle.std.proofs.Common.{refl, ap, ◌∙◌}
 use Rattle.std.proofs.lemmas.Result.{err_from_is_err_and}
 use Rattle.ffs_layout.specs.Super.{seen}
 use Rattle.ffs_check.specs.Rest.{links_part, counted_lines, linked_lines}
-use Rattle.ffs_check.proofs.Joins.{first_fault, then_rest, claims_left, survey_left}
+use Rattle.ffs_workspace.proofs.Leaving.{claims_left, survey_left}
+use Rattle.ffs_check.proofs.Joins.{first_fault, then_rest}
 use Rattle.ffs_check.proofs.rest.linked.Goals as goal
 
 pub returns-in_err-phase3-clause-text : goal.returns-in_err-phase3-clause-text

@@ -10,7 +10,7 @@ use Rattle.ffs_volume.specs.Messages.{Message, phase1}
 use Rattle.ffs_volume.specs.Owners.{owner_of, owners_of}
 use Rattle.ffs_volume.specs.Replay.{cut_at}
 use Rattle.ffs_workspace.specs.Holds.{claims_of, first_marked_at}
-use Rattle.ffs_workspace.specs.Kinds.{kind_at}
+use Rattle.ffs_volume.specs.Kinds.{kind_at}
 use Rattle.ffs_workspace.specs.Lengths.{inodes_of}
 use Rattle.ffs_claims.specs.Lines.{of_lines, owners_from}
 use Rattle.ffs_claims.proofs.Doubles.{dups_are}

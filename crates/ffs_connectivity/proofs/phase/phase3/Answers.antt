@@ -1,13 +1,14 @@
 use Rattle.std.proofs.Common.{◌+◌, ◌-◌, ◌∷◌, [], List, map, refl, ap, ◌∙◌, arith, rules, Err}
 use Rattle.std.proofs.lemmas.Result.{err_from_is_err_and}
 use Rattle.ffs_volume.specs.Connectivity.{connectivity_lines}
-use Rattle.ffs_volume.specs.Messages.{Message, of_names, phase3}
+use Rattle.ffs_volume.specs.Messages.{Message, of_names, phase3, lines_from}
 use Rattle.ffs_volume.specs.Volumes.{volume_of}
 use Rattle.ffs_phase.proofs.Telling.{of_begins, of_says, of_stops, of_same, of_part, of_fault, said_knows, tells_knows}
 use Rattle.ffs_workspace.specs.Lengths.{inodes_of}
-use Rattle.ffs_connectivity.specs.Lines.{cut_off_lines, lines_from}
-use Rattle.ffs_connectivity.proofs.Leaving.{claims_left, survey_left, leaves_more, leaders_left, lines_begin}
-use Rattle.ffs_connectivity.proofs.Lines.{from_next, from_end}
+use Rattle.ffs_connectivity.specs.Lines.{cut_off_lines}
+use Rattle.ffs_workspace.proofs.Leaving.{claims_left, survey_left, leaves_more}
+use Rattle.ffs_connectivity.proofs.Leaving.{leaders_left, lines_begin}
+use Rattle.ffs_volume.proofs.Numbered.{from_next, from_end}
 use Rattle.ffs_connectivity.proofs.phase.phase3.Goals as goal
 
 pub returns-in_err-say-clause-text : goal.returns-in_err-say-clause-text

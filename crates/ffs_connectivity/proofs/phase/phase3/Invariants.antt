@@ -3,12 +3,13 @@ use Rattle.ffs_report.specs.Progress.{progress, kept}
 use Rattle.ffs_phase.specs.Known.{Tells}
 use Rattle.ffs_phase.specs.Runs.{SaidOf}
 use Rattle.ffs_volume.specs.Connectivity.{connectivity_lines}
-use Rattle.ffs_volume.specs.Messages.{of_names, phase3}
+use Rattle.ffs_volume.specs.Messages.{of_names, phase3, lines_from}
 use Rattle.ffs_volume.specs.Volumes.{volume_of}
 use Rattle.ffs_workspace.specs.Holds.{HoldsClaims, HoldsSurvey}
 use Rattle.ffs_workspace.specs.Lengths.{IsFor, HoldWindows, inodes_of}
-use Rattle.ffs_connectivity.specs.Leaves.{LeavesSurvey, HasLeaders}
-use Rattle.ffs_connectivity.specs.Lines.{cut_off_lines, lines_from}
+use Rattle.ffs_workspace.specs.Leaves.{LeavesSurvey}
+use Rattle.ffs_connectivity.specs.Leaders.{HasLeaders}
+use Rattle.ffs_connectivity.specs.Lines.{cut_off_lines}
 use Rattle.ffs_connectivity.proofs.phase.phase3.Given as goal
 
 abbrev pub invariant-loop-number : goal.invariant-loop-number

@@ -3,11 +3,10 @@ use Rattle.ffs_report.specs.Progress.{progress, kept}
 use Rattle.ffs_phase.specs.Known.{Tells}
 use Rattle.ffs_phase.specs.Runs.{SaidOf}
 use Rattle.ffs_volume.specs.ReferenceCheck.{counted_lines, reference_lines}
-use Rattle.ffs_volume.specs.Messages.{of_names, phase4}
+use Rattle.ffs_volume.specs.Messages.{of_names, phase4, lines_from}
 use Rattle.ffs_volume.specs.Volumes.{volume_of}
 use Rattle.ffs_workspace.specs.Holds.{HoldsClaims, HoldsSurvey}
 use Rattle.ffs_workspace.specs.Lengths.{IsFor, HoldWindows, inodes_of}
-use Rattle.ffs_counts.specs.References.{lines_from}
 use Rattle.ffs_counts.proofs.reference_check.phase4.Given as goal
 
 abbrev pub invariant-loop-number : goal.invariant-loop-number

@@ -1,7 +1,8 @@
 use Rattle.std.proofs.Common.{◌∙◌, ap, sym, rules, arith}
 use Rattle.std.specs.Prelude.{slice_index}
 use Rattle.std.proofs.lemmas.List.{with_items_is}
-use Rattle.ffs_names.proofs.SurveyHolds.{on_ok, blocks_in, volume_survey, holds_survey, some_inodes}
+use Rattle.ffs_volume.proofs.Sizes.{some_inodes}
+use Rattle.ffs_names.proofs.SurveyHolds.{on_ok, blocks_in, volume_survey, holds_survey}
 use Rattle.ffs_names.proofs.graph.survey.Goals as goal
 
 pub returns-clause-ok : goal.returns-clause-ok

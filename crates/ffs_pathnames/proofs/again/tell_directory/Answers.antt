@@ -12,7 +12,8 @@ use Rattle.ffs_names.specs.Readings.{rest}
 use Rattle.ffs_phase.proofs.Telling.{of_begins, of_reads, of_same, of_part, of_fault, said_knows, tells_knows}
 use Rattle.ffs_workspace.specs.declared.workspace.Workspace.{Workspace}
 use Rattle.ffs_workspace.specs.Lengths.{HoldWindows}
-use Rattle.ffs_pathnames.specs.Examines.{LeavesSurvey}
+use Rattle.ffs_workspace.specs.Leaves.{LeavesSurvey}
+use Rattle.ffs_workspace.proofs.Leaving.{leaves_all, leaves_more, windows_leave}
 use Rattle.ffs_pathnames.specs.Gathers.{marks_of}
 use Rattle.ffs_pathnames.specs.Knows.{Knows}
 use Rattle.ffs_pathnames.specs.Marks.{after_entries, entries_told}
@@ -35,7 +36,7 @@ chunks-init g c =
       geometry = c.start-chunks.ensures.geometry;
       windows = c.requires.windows;
       same = refl;
-      survey = record { claimed = refl; kinds = refl; marked = refl; cut = refl; references = refl; named = refl; reached = refl; parents = refl };
+      survey = leaves_all _;
       marks = λ b k. ap (after_entries (volume_of v b) c.args.dir m) (sym (seen b k));
       said = of_same _ all (λ (b : List ℕ). map of_names (entries_told (volume_of v b) c.args.dir m (flat_map chunk_seen (rest b c.start-chunks.result)))) all _ _ (of_begins _ all _)
           (λ b k. ap (λ es. map of_names (entries_told (volume_of v b) c.args.dir m es)) (sym (seen b k)));
@@ -76,16 +77,7 @@ chunks-preserved g c =
     let m' = marks_of c.tell_chunk.new.workspace in
     let same = ok.image ∙ (read.ok ∙ inv.device) in
     let between : Workspace = record c.chunks.workspace { windows = record c.chunks.workspace.windows { blocks = c.next.new.blocks; chunk = c.next.new.data } } in
-    let kept : LeavesSurvey c.args.workspace.now between = record {
-      claimed = inv.survey.claimed;
-      kinds = inv.survey.kinds;
-      marked = inv.survey.marked;
-      cut = inv.survey.cut;
-      references = inv.survey.references;
-      named = inv.survey.named;
-      reached = inv.survey.reached;
-      parents = inv.survey.parents;
-    } in
+    let kept : LeavesSurvey c.args.workspace.now between = leaves_more _ _ _ inv.survey (windows_leave c.chunks.workspace between refl) in
     let know = λ (b : List ℕ) (k : Knows v (g.I.Image.device c.args.image.now).told c.args.workspace.now c.args.dir b × (c.args.inode.now ≡ inode_of v b c.args.dir)).
     knows_on v (g.I.Image.device c.args.image.now).told (g.I.Image.device c.next.new.image).told c.args.workspace.now between c.args.dir b (ap (λ d. d.told) (read.ok ∙ inv.device)) kept k.0 in
     let here : Chunk = chunk_of v.order c.in-Some.offset c.next.new.chunk in
@@ -98,16 +90,7 @@ chunks-preserved g c =
       geometry = read.geometry ∙ inv.geometry;
       windows = subst (λ d. HoldWindows v d.told c.tell_chunk.new.workspace) same ok.windows;
       same = ok.same ∙ inv.same;
-      survey = record {
-        claimed = ok.survey.claimed ∙ inv.survey.claimed;
-        kinds = ok.survey.kinds ∙ inv.survey.kinds;
-        marked = ok.survey.marked ∙ inv.survey.marked;
-        cut = ok.survey.cut ∙ inv.survey.cut;
-        references = ok.survey.references ∙ inv.survey.references;
-        named = ok.survey.named ∙ inv.survey.named;
-        reached = ok.survey.reached ∙ inv.survey.reached;
-        parents = ok.survey.parents ∙ inv.survey.parents;
-      };
+      survey = leaves_more _ _ _ kept ok.survey;
       marks = λ b k. chunk_passed (volume_of v b) c.args.dir _ m m' here (rest b c.chunks.chunks) (rest b c.next.new.self) (next b k) (ok.marks b (know b k)) (inv.marks b k);
       said = of_part _ (λ (b : List ℕ). map of_names (entries_told (volume_of v b) c.args.dir m (flat_map chunk_seen (rest b c.chunks.chunks))))
           (λ (b : List ℕ). map of_names (entries_told (volume_of v b) c.args.dir m (chunk_seen here)))
@@ -123,16 +106,7 @@ returns-in_err-tell_chunk-clause-text g c =
     let read = c.in_ok-offset.ensures in
     let m = marks_of c.chunks.workspace in
     let between : Workspace = record c.chunks.workspace { windows = record c.chunks.workspace.windows { blocks = c.next.new.blocks; chunk = c.next.new.data } } in
-    let kept : LeavesSurvey c.args.workspace.now between = record {
-      claimed = inv.survey.claimed;
-      kinds = inv.survey.kinds;
-      marked = inv.survey.marked;
-      cut = inv.survey.cut;
-      references = inv.survey.references;
-      named = inv.survey.named;
-      reached = inv.survey.reached;
-      parents = inv.survey.parents;
-    } in
+    let kept : LeavesSurvey c.args.workspace.now between = leaves_more _ _ _ inv.survey (windows_leave c.chunks.workspace between refl) in
     let know = λ (b : List ℕ) (k : Knows v (g.I.Image.device c.args.image.now).told c.args.workspace.now c.args.dir b × (c.args.inode.now ≡ inode_of v b c.args.dir)).
     knows_on v (g.I.Image.device c.args.image.now).told (g.I.Image.device c.next.new.image).told c.args.workspace.now between c.args.dir b (ap (λ d. d.told) (read.ok ∙ inv.device)) kept k.0 in
     let here : Chunk = chunk_of v.order c.in-Some.offset c.next.new.chunk in

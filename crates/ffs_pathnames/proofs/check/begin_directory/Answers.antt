@@ -5,8 +5,8 @@ use Rattle.ffs_volume.specs.Volumes.{volume_of}
 use Rattle.ffs_phase.proofs.Telling.{of_begins, of_reads}
 use Rattle.ffs_pathnames.specs.declared.examine.Examined.{Examined}
 use Rattle.ffs_pathnames.proofs.Begun.{said_same, fault_same, starts_are, begun_is}
-use Rattle.ffs_pathnames.proofs.Composed.{known_left}
-use Rattle.ffs_pathnames.proofs.Holding.{survey_stays}
+use Rattle.ffs_pathnames.proofs.Passing.{knows_on}
+use Rattle.ffs_workspace.proofs.Leaving.{survey_left}
 use Rattle.ffs_pathnames.proofs.check.begin_directory.Goals as goal
 
 pub returns-in_err-examined-clause-text : goal.returns-in_err-examined-clause-text
@@ -20,12 +20,12 @@ returns-in_err-tell_starts-clause-text g c =
     let v = c.args.geometry.now.layout in
     rw (p.1, p.2) (fault_same (Unit {0}) Examined _ _ _ _ _ _ c.in_err-tell_starts.field-0.0
     (λ b k. (
-      known_left v _ _ c.args.workspace.now c.examine.new.workspace c.args.dir b (ap (λ d. d.told) c.in_ok-examined.ensures.ok) c.in_ok-examined.ensures.lists.survey k,
+      knows_on v _ _ c.args.workspace.now c.examine.new.workspace c.args.dir b (ap (λ d. d.told) c.in_ok-examined.ensures.ok) c.in_ok-examined.ensures.lists.survey k,
       ap (λ i. i.size) (c.in_ok-examined.ensures.found b k.told_is k.claims k.survey k.dir).inode,
     ))
     (λ b k. ap (map of_names) (starts_are v b c.args.dir c.args.workspace.now c.examine.new.workspace c.in_ok-examined.examined c.examine.new.start _ _ _
     (c.in_ok-examined.ensures.found b k.told_is k.claims k.survey k.dir)
-    (c.parent_of-parent.ensures b (survey_stays v b c.args.workspace.now c.examine.new.workspace c.in_ok-examined.ensures.lists.survey k.survey))
+    (c.parent_of-parent.ensures b (survey_left v b c.args.workspace.now c.examine.new.workspace c.in_ok-examined.ensures.lists.survey k.survey))
     c.first_two.ensures.first c.first_two.ensures.second))
     c.in_err-tell_starts.ensures.text)
 
@@ -34,12 +34,12 @@ returns-clause-text g c =
     let v = c.args.geometry.now.layout in
     said_same _ _ _ _ _ _
     (λ b k. (
-      known_left v _ _ c.args.workspace.now c.examine.new.workspace c.args.dir b (ap (λ d. d.told) c.in_ok-examined.ensures.ok) c.in_ok-examined.ensures.lists.survey k,
+      knows_on v _ _ c.args.workspace.now c.examine.new.workspace c.args.dir b (ap (λ d. d.told) c.in_ok-examined.ensures.ok) c.in_ok-examined.ensures.lists.survey k,
       ap (λ i. i.size) (c.in_ok-examined.ensures.found b k.told_is k.claims k.survey k.dir).inode,
     ))
     (λ b k. ap (map of_names) (starts_are v b c.args.dir c.args.workspace.now c.examine.new.workspace c.in_ok-examined.examined c.examine.new.start _ _ _
     (c.in_ok-examined.ensures.found b k.told_is k.claims k.survey k.dir)
-    (c.parent_of-parent.ensures b (survey_stays v b c.args.workspace.now c.examine.new.workspace c.in_ok-examined.ensures.lists.survey k.survey))
+    (c.parent_of-parent.ensures b (survey_left v b c.args.workspace.now c.examine.new.workspace c.in_ok-examined.ensures.lists.survey k.survey))
     c.first_two.ensures.first c.first_two.ensures.second))
     c.in_ok-tell_starts.ensures.text
 

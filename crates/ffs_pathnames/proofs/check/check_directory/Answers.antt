@@ -10,7 +10,7 @@ use Rattle.ffs_pathnames.specs.Begins.{dir_starts}
 use Rattle.ffs_pathnames.specs.Gathers.{marks_of}
 use Rattle.ffs_pathnames.specs.Marks.{entries_told}
 use Rattle.ffs_pathnames.proofs.Begun.{said_same, directory_is, lines_parts, quiet_parts, told_parts, quiet_after, told_after, on_ok}
-use Rattle.ffs_pathnames.proofs.Composed.{known_left}
+use Rattle.ffs_pathnames.proofs.Passing.{knows_on}
 use Rattle.ffs_pathnames.proofs.check.check_directory.Goals as goal
 
 pub returns-in_err-examined-clause-text : goal.returns-in_err-examined-clause-text
@@ -50,7 +50,7 @@ returns-clause-text g c =
     (λ b k. refl)
     (tells_knows _ _ _ _ _ _ c.tell_directory.result
     (λ b k. (
-      known_left v _ _ c.args.workspace.now c.begin_directory.new.workspace c.args.dir b (ap (λ d. d.told) c.in_ok-examined.ensures.image) c.in_ok-examined.ensures.survey k.0,
+      knows_on v _ _ c.args.workspace.now c.begin_directory.new.workspace c.args.dir b (ap (λ d. d.told) c.in_ok-examined.ensures.image) c.in_ok-examined.ensures.survey k.0,
       (c.in_ok-examined.ensures.begun b k.0).inode,
     ))
     c.tell_directory.ensures.text)
@@ -62,7 +62,7 @@ returns-clause-marks g c =
     (λ p b k. told_after (volume_of v b) c.args.dir (marks_of c.args.workspace.now) (marks_of c.begin_directory.new.workspace) (marks_of c.tell_directory.new.workspace)
     (directory_is (volume_of v b) c.args.dir c.requires.dir k.0.dir) k.1 (c.in_ok-examined.ensures.begun b k.0).marks
     (p b (
-      known_left v _ _ c.args.workspace.now c.begin_directory.new.workspace c.args.dir b (ap (λ d. d.told) c.in_ok-examined.ensures.image) c.in_ok-examined.ensures.survey k.0,
+      knows_on v _ _ c.args.workspace.now c.begin_directory.new.workspace c.args.dir b (ap (λ d. d.told) c.in_ok-examined.ensures.image) c.in_ok-examined.ensures.survey k.0,
       (c.in_ok-examined.ensures.begun b k.0).inode,
     )))
     c.tell_directory.ensures.marks

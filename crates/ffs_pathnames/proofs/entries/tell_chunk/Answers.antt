@@ -11,7 +11,8 @@ use Rattle.ffs_pathnames.specs.Gathers.{marks_of}
 use Rattle.ffs_pathnames.specs.Knows.{Knows}
 use Rattle.ffs_pathnames.specs.Marks.{after_seen, after_entries, seen_told, entries_told}
 use Rattle.ffs_pathnames.proofs.Looking.{seen_at_place, seen_next, none}
-use Rattle.ffs_pathnames.proofs.Passing.{entry_told, entry_passed, leaves_more, name_short, none_left, knows_on}
+use Rattle.ffs_workspace.proofs.Leaving.{leaves_all, leaves_more}
+use Rattle.ffs_pathnames.proofs.Passing.{entry_told, entry_passed, name_short, none_left, knows_on}
 use Rattle.ffs_pathnames.proofs.entries.tell_chunk.Goals as goal
 
 pub entries-init : goal.entries-init
@@ -24,7 +25,7 @@ entries-init g c =
       device = refl;
       windows = c.requires.windows;
       same = refl;
-      survey = record { claimed = refl; kinds = refl; marked = refl; cut = refl; references = refl; named = refl; reached = refl; parents = refl };
+      survey = leaves_all _;
       marks = λ b k. refl;
       said = of_begins _ (λ (b : List ℕ). map of_names (entries_told (volume_of v b) c.args.dir (marks_of c.args.workspace.now) (seen_from c.args.first 0 (entries_of v.order c.args.chunk.now)))) _;
     }

@@ -7,7 +7,7 @@ use Rattle.ffs_phase.specs.Known.{Where}
 use Rattle.ffs_phase.specs.Runs.{SaidOf}
 use Rattle.ffs_report.specs.Progress.{progress, kept}
 use Rattle.ffs_workspace.specs.Lengths.{IsFor, HoldWindows}
-use Rattle.ffs_pathnames.specs.Examines.{LeavesSurvey}
+use Rattle.ffs_workspace.specs.Leaves.{LeavesSurvey}
 use Rattle.ffs_pathnames.specs.Gathers.{marks_of}
 use Rattle.ffs_pathnames.specs.Knows.{Knows}
 use Rattle.ffs_pathnames.specs.Marks.{after_entries, entries_told}

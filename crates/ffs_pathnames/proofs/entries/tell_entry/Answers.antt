@@ -2,7 +2,7 @@ use Rattle.std.proofs.Common.{◌≡◌, sym, ap, ◌∙◌}
 use Rattle.std.proofs.lemmas.List.{with_items_is}
 use Rattle.ffs_volume.specs.Volumes.{volume_of}
 use Rattle.ffs_layout.specs.Entry.{seen_entry}
-use Rattle.ffs_pathnames.proofs.Holding.{claims_stay, survey_stays}
+use Rattle.ffs_workspace.proofs.Leaving.{claims_left, survey_left}
 use Rattle.ffs_pathnames.proofs.Passed.{passes}
 use Rattle.ffs_pathnames.proofs.SeesLaws.{sees}
 use Rattle.ffs_pathnames.proofs.entries.tell_entry.Goals as goal
@@ -18,7 +18,7 @@ returns-clause-marks g c = λ b k.
       marked = c.as_slice-2.ensures.value;
       parents = c.as_slice-3.ensures.value;
       count = c.as_slice.ensures.len ∙ c.in_ok-say_entry.ensures.made.kinds;
-    }) (claims_stay v b before here left.survey k.claims) (survey_stays v b before here left.survey k.survey) in
+    }) (claims_left v b before here left.survey k.claims) (survey_left v b before here left.survey k.survey) in
     passes (volume_of v b) c.args.dir (record { role = c.args.role; entry = seen_entry c.args.entry.now }) before.leaders.items _ _ _ before.queue.items _ _ _
     (c.as_mut_slice.ensures.value ∙ ap (λ x. x.items) left.leaders)
     (c.as_mut_slice-2.ensures.value ∙ ap (λ x. x.items) left.queue)

@@ -6,7 +6,7 @@ use Rattle.ffs_volume.specs.PathnameCheck.{pathname_lines}
 use Rattle.ffs_volume.specs.Volumes.{volume_of}
 use Rattle.ffs_pathnames.specs.declared.phase.Root.{Root}
 use Rattle.ffs_pathnames.proofs.Carrying.{on_all, if_ok, claims_untouched, before_first}
-use Rattle.ffs_pathnames.proofs.Holding.{claims_stay, survey_stays}
+use Rattle.ffs_workspace.proofs.Leaving.{claims_left, survey_left}
 use Rattle.ffs_pathnames.proofs.phase.phase2.Goals as goal
 
 pub returns-in_err-say-clause-text : goal.returns-in_err-say-clause-text
@@ -37,8 +37,8 @@ returns-clause-text g c =
     (λ b k. refl)
     (tells_knows Root _ _ lines _ _ c.check_tree.result
     (λ b k. before_first v _ b _ (ap (λ d. d.told) found.ok ∙ k.0)
-    (claims_stay v b _ _ clear.survey (claims_untouched v b _ _ found.same k.1))
-    (survey_stays v b _ _ clear.survey (found.survey b k.0 k.1)) clear.made clear.clear)
+    (claims_left v b _ _ clear.survey (claims_untouched v b _ _ found.same k.1))
+    (survey_left v b _ _ clear.survey (found.survey b k.0 k.1)) clear.made clear.clear)
     c.check_tree.ensures.text)
 
 pub returns-clause-goes : goal.returns-clause-goes
@@ -48,8 +48,8 @@ returns-clause-goes g c =
     let clear = c.clear_marks.ensures in
     if_ok c.check_tree.result _ _
     (λ root h b k. h b (before_first v _ b _ (ap (λ d. d.told) found.ok ∙ k.0)
-    (claims_stay v b _ _ clear.survey (claims_untouched v b _ _ found.same k.1))
-    (survey_stays v b _ _ clear.survey (found.survey b k.0 k.1)) clear.made clear.clear))
+    (claims_left v b _ _ clear.survey (claims_untouched v b _ _ found.same k.1))
+    (survey_left v b _ _ clear.survey (found.survey b k.0 k.1)) clear.made clear.clear))
     c.check_tree.ensures.goes
 
 pub returns-clause-holds : goal.returns-clause-holds
@@ -60,6 +60,6 @@ returns-clause-holds g c =
     let last = c.check_tree.ensures.survey in
     on_all c.check_tree.result _
     (λ b k. (
-      claims_stay v b _ _ last (claims_stay v b _ _ clear.survey (claims_untouched v b _ _ found.same k.1)),
-      survey_stays v b _ _ last (survey_stays v b _ _ clear.survey (found.survey b k.0 k.1)),
+      claims_left v b _ _ last (claims_left v b _ _ clear.survey (claims_untouched v b _ _ found.same k.1)),
+      survey_left v b _ _ last (survey_left v b _ _ clear.survey (found.survey b k.0 k.1)),
     ))

@@ -1,14 +1,14 @@
 use Rattle.std.proofs.Common.{◌+◌, ◌-◌, [], map, refl, sym, ap, subst, ◌≡◌, suc, arith, rules, Err}
 use Rattle.std.proofs.lemmas.Result.{err_from_is_err_and}
-use Rattle.ffs_connectivity.specs.Lines.{lines_from}
-use Rattle.ffs_connectivity.proofs.Lines.{from_next, from_end}
+use Rattle.ffs_volume.proofs.Numbered.{from_next, from_end}
 use Rattle.ffs_phase.proofs.Telling.{of_begins, of_same, of_part, of_fault, said_knows, tells_knows}
-use Rattle.ffs_volume.specs.Messages.{of_names}
+use Rattle.ffs_volume.specs.Messages.{of_names, lines_from}
 use Rattle.ffs_volume.specs.PathnameCheck.{lines_of}
 use Rattle.ffs_volume.specs.Volumes.{volume_of}
 use Rattle.ffs_workspace.specs.Lengths.{inodes_of}
 use Rattle.ffs_pathnames.specs.Before.{IsBefore}
-use Rattle.ffs_pathnames.proofs.Carrying.{leaves_all, leaves_more, before_told}
+use Rattle.ffs_workspace.proofs.Leaving.{leaves_all, leaves_more}
+use Rattle.ffs_pathnames.proofs.Carrying.{before_told}
 use Rattle.ffs_pathnames.proofs.tree.check_inodes.Goals as goal
 
 pub loop-number-init : goal.loop-number-init

@@ -1,14 +1,13 @@
 use Rattle.std.proofs.Common.{◌≡◌, ◌-◌, ◌≤◌, map}
-use Rattle.ffs_connectivity.specs.Lines.{lines_from}
 use Rattle.ffs_phase.specs.Known.{Where}
 use Rattle.ffs_phase.specs.Runs.{SaidOf}
 use Rattle.ffs_report.specs.Progress.{progress, kept}
-use Rattle.ffs_volume.specs.Messages.{of_names}
+use Rattle.ffs_volume.specs.Messages.{of_names, lines_from}
 use Rattle.ffs_volume.specs.PathnameCheck.{lines_of}
 use Rattle.ffs_volume.specs.Volumes.{volume_of}
 use Rattle.ffs_workspace.specs.Lengths.{IsFor, HoldWindows, inodes_of}
 use Rattle.ffs_pathnames.specs.Before.{IsBefore}
-use Rattle.ffs_pathnames.specs.Examines.{LeavesSurvey}
+use Rattle.ffs_workspace.specs.Leaves.{LeavesSurvey}
 use Rattle.ffs_pathnames.proofs.tree.check_inodes.Given as goal
 
 abbrev pub invariant-loop-number : goal.invariant-loop-number

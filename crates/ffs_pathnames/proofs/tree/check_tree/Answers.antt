@@ -1,12 +1,11 @@
 use Rattle.std.proofs.Common.{[], List, ℕ, map, refl, sym, ◌∙◌, append-nil, true, false}
 use Rattle.std.specs.Prelude.{◌-◌}
 use Rattle.std.proofs.lemmas.Result.{err_from_is_err_and}
-use Rattle.ffs_connectivity.specs.Lines.{lines_from}
 use Rattle.ffs_phase.proofs.Telling.{of_begins, of_says, of_stops, of_part, of_fault}
-use Rattle.ffs_volume.specs.Messages.{of_names}
+use Rattle.ffs_volume.specs.Messages.{of_names, lines_from}
 use Rattle.ffs_volume.specs.PathnameCheck.{lines_of, pathname_lines}
 use Rattle.ffs_volume.specs.Volumes.{volume_of}
-use Rattle.ffs_workspace.specs.Kinds.{is_dir_kind}
+use Rattle.ffs_volume.specs.Kinds.{is_dir_kind}
 use Rattle.ffs_workspace.specs.Lengths.{inodes_of}
 use Rattle.ffs_pathnames.specs.Before.{root_said}
 use Rattle.ffs_pathnames.proofs.Carrying.{goes_is, tree_is, tree_lines}

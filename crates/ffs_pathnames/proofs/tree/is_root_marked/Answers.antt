@@ -1,5 +1,5 @@
 use Rattle.std.proofs.Common.{arith}
-use Rattle.ffs_names.proofs.SurveyHolds.{some_inodes}
+use Rattle.ffs_volume.proofs.Sizes.{some_inodes}
 use Rattle.ffs_pathnames.proofs.tree.is_root_marked.Goals as goal
 
 pub index-requires : goal.index-requires

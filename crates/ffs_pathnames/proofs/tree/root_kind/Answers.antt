@@ -1,6 +1,6 @@
 use Rattle.std.proofs.Common.{arith, sym, subst, ◌<◌}
 use Rattle.std.proofs.lemmas.List.{get_or_read_under}
-use Rattle.ffs_names.proofs.SurveyHolds.{some_inodes}
+use Rattle.ffs_volume.proofs.Sizes.{some_inodes}
 use Rattle.ffs_pathnames.proofs.tree.root_kind.Goals as goal
 
 pub index-requires : goal.index-requires

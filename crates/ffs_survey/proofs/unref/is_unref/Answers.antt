@@ -3,7 +3,7 @@ use Rattle.std.proofs.lemmas.Bool.{cond-true, cond-false, eq-eqb, ne_eqb}
 use Rattle.ffs_volume.specs.Climb.{leads_cycle}
 use Rattle.ffs_survey.specs.Cycles.{up_of}
 use Rattle.ffs_survey.specs.Survey.{suspect_at}
-use Rattle.ffs_survey.proofs.Unreached.{IsLost}
+use Rattle.ffs_volume.proofs.Unreached.{IsLost}
 use Rattle.ffs_survey.proofs.Told.{unref_is, parent-below}
 use Rattle.ffs_survey.proofs.unref.is_unref.Goals as goal
 

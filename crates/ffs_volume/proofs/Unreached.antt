@@ -1,7 +1,7 @@
 -- What is not reached, and what is lost.
 use Rattle.std.specs.Prelude.{◌≡◌, ◌≢◌, ℕ, ◌==◌, Bool, true, false, not, ◌&&◌, refl, Option, None, Some, is_some}
 use Rattle.std.proofs.Common.{◌∙◌, ap}
-use Rattle.std.proofs.lemmas.Bool.{and_parts, and_from, ne_eqb, not_from_false, cond-false}
+use Rattle.std.proofs.lemmas.Bool.{and_parts, and_from, ne_eqb, not_from_false, not-true, eqb-false, cond-false}
 use Rattle.ffs_volume.specs.Search.{first_below}
 use Rattle.ffs_volume.specs.Graph.{Graph, level, edge, reached, parent, parent_by, lost, dead, names_in}
 
@@ -17,13 +17,20 @@ pub record IsLost (v : Graph) (suspect : ℕ → Bool) (d : ℕ) : Type 0 where
   pub unreached : reached v d ≡ false
   pub alive : dead v suspect d ≡ false
 
+pub lost-true : (v : Graph) (suspect : ℕ → Bool) (d : ℕ) → lost v suspect d ≡ true → IsLost v suspect d
+lost-true v suspect d h =
+    let a = and_parts (v.is_dir d) (not (d == 2) && (not (reached v d) && not (dead v suspect d))) h in
+    let b = and_parts (not (d == 2)) (not (reached v d) && not (dead v suspect d)) a.1 in
+    let c = and_parts (not (reached v d)) (not (dead v suspect d)) b.1 in
+    record { dir = a.0; not_root = eqb-false d 2 (not-true _ b.0); unreached = not-true _ c.0; alive = not-true _ c.1 }
+
 pub lost-from : (v : Graph) (suspect : ℕ → Bool) (d : ℕ) → IsLost v suspect d → lost v suspect d ≡ true
 lost-from v suspect d h =
     and_from (v.is_dir d) (not (d == 2) && (not (reached v d) && not (dead v suspect d))) h.dir
     (and_from (not (d == 2)) (not (reached v d) && not (dead v suspect d)) (not_from_false _ (ne_eqb d 2 h.not_root))
     (and_from (not (reached v d)) (not (dead v suspect d)) (not_from_false _ h.unreached) (not_from_false _ h.alive)))
 
-unreached-level : (v : Graph) (d : ℕ) → reached v d ≡ false → level v d ≡ None
+pub unreached-level : (v : Graph) (d : ℕ) → reached v d ≡ false → level v d ≡ None
 unreached-level v d h = go (level v d) h
   where
     go : (o : Option ℕ) → is_some o ≡ false → o ≡ None

@@ -1,7 +1,6 @@
 -- How the lines of numbers in ascending order go on.
 use Rattle.std.proofs.Common.{◌≡◌, ℕ, zero, suc, ◌+◌, ◌-◌, ◌<◌, ◌≤◌, List, [], ◌∷◌, ◌++◌, map, append_assoc, append-nil, refl, ap, ◌∙◌, sym, arith}
-use Rattle.ffs_volume.specs.Messages.{Message, NameMessage, of_names, lines_below}
-use Rattle.ffs_connectivity.specs.Lines.{lines_from}
+use Rattle.ffs_volume.specs.Messages.{Message, NameMessage, of_names, lines_below, lines_from}
 
 pub names_append : (xs ys : List NameMessage) → map of_names (xs ++ ys) ≡ map of_names xs ++ map of_names ys
 names_append [] ys = refl
@@ -15,12 +14,20 @@ below_and_from lines (suc k) d =
     let q : d + suc k ≡ suc d + k = omega arith in
     ap (lines_below lines) q ∙ below_and_from lines k (suc d) ∙ append_assoc (lines_below lines d) (lines d) (lines_from lines (suc d) k)
 
+-- of all numbers
+pub all_from : (lines : ℕ → List NameMessage) (n : ℕ) → lines_below lines n ≡ lines_from lines 0 (n - 0)
+unfolding lines_below
+all_from lines n =
+    let q : n ≡ 0 + n = omega arith in
+    let r : n ≡ n - 0 = omega arith in
+    ap (lines_below lines) q ∙ below_and_from lines n 0 ∙ ap (lines_from lines 0) r
+
 -- of numbers from 2 on, where those below it have no line
-pub all_from : (lines : ℕ → List NameMessage) (n : ℕ) → lines 0 ≡ [] → lines 1 ≡ [] → lines_below lines n ≡ lines_from lines 2 (n - 2)
+pub all_from_root : (lines : ℕ → List NameMessage) (n : ℕ) → lines 0 ≡ [] → lines 1 ≡ [] → lines_below lines n ≡ lines_from lines 2 (n - 2)
 unfolding lines_below lines_from
-all_from lines zero zeroth first = refl
-all_from lines (suc zero) zeroth first = zeroth
-all_from lines (suc (suc n)) zeroth first =
+all_from_root lines zero zeroth first = refl
+all_from_root lines (suc zero) zeroth first = zeroth
+all_from_root lines (suc (suc n)) zeroth first =
     let q : suc (suc n) ≡ 2 + n = omega arith in
     let r : suc (suc n) - 2 ≡ n = omega arith in
     let two : lines_below lines 2 ≡ [] = rw (zeroth, first) refl in

@@ -1,0 +1,37 @@
+-- What follows from sizes: there is an inode 2, and where an inode's size is 0 there are no steps.
+use Rattle.std.specs.Prelude.{◌≡◌, ℕ, ◌+◌, ◌*◌, ◌%◌, ◌<◌, ◌≤◌, min, Bool, true, false, refl, if◌then◌else◌, List, []}
+use Rattle.std.specs.Int.{div_ceil}
+use Rattle.std.proofs.Common.{arith, sym, ◌∙◌, ap, inl, inr}
+use Rattle.std.proofs.Math.Nat.{mod-eq_of_lt, zero-div, zero-mod, mul-le-mul_right}
+use Rattle.std.proofs.lemmas.Bool.{cases_lt}
+use Rattle.ffs_volume.specs.declared.Layout.{Layout}
+use Rattle.ffs_volume.specs.declared.Inode.{Inode}
+use Rattle.ffs_volume.specs.Geometry.{IsGeometry}
+use Rattle.ffs_volume.specs.Inodes.{blocks_of, used_addresses}
+use Rattle.ffs_volume.specs.Steps.{steps_of, steps_of_addresses, walks, last_of}
+
+-- there is an inode 2
+pub some_inodes : (v : Layout) → IsGeometry v → 2 < v.ncg * v.ipg
+some_inodes v g =
+    let low = g.sizes.bsize_low in
+    let per = g.sizes.inopb in
+    let some = g.sizes.some_inodes in
+    let groups = g.some_groups in
+    let many : 32 ≤ v.inopb = omega arith in
+    elim (cases_lt v.ipg v.inopb) [
+      | inl small ↦ (let none : v.ipg ≡ 0 = sym (mod-eq_of_lt small) ∙ g.sizes.inode_blocks in absurd (omega arith))
+      | inr large ↦ (let more : 1 * v.ipg ≤ v.ncg * v.ipg = mul-le-mul_right v.ipg groups in omega arith)
+    ]
+
+-- no steps where the size is 0
+no_blocks : (n b : ℕ) → 0 < b → n ≡ 0 → div_ceil n b ≡ 0
+no_blocks n b h e = ap (λ k. div_ceil k b) e ∙ ap (λ q. q + min 1 (0 % b)) (zero-div b) ∙ ap (λ r. 0 + min 1 r) (zero-mod b)
+
+pub no_steps : (v : Layout) (image : List ℕ) (i : Inode) → 0 < v.bsize → i.size ≡ 0 → steps_of v i image ≡ []
+unfolding steps_of
+no_steps v image i h e =
+    ap (λ b. steps_of_addresses (record { geometry = v; blocks = b; last = last_of v i }) image i.addresses 0 (used_addresses v.nindir b)) (one (walks v i))
+  where
+    one : (w : Bool) → (if w then blocks_of v i else 0) ≡ 0
+    one true = no_blocks i.size v.bsize h e
+    one false = refl

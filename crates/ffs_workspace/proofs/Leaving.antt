@@ -1,0 +1,74 @@
+-- What a workspace holds is held by one with the same findings.
+use Rattle.std.proofs.Common.{◌≡◌, ℕ, List, refl, ap, ◌∙◌, slice_index}
+use Rattle.ffs_maps.specs.Bits.{bits_of}
+use Rattle.ffs_volume.specs.declared.Layout.{Layout}
+use Rattle.ffs_workspace.specs.declared.workspace.Workspace.{Workspace}
+use Rattle.ffs_workspace.specs.Holds.{bool_at, HoldsClaims, HoldsSurvey}
+use Rattle.ffs_workspace.specs.Leaves.{LeavesSurvey}
+
+pub leaves_all : (w : Workspace) → LeavesSurvey w w
+leaves_all w = record {
+  claimed = refl;
+  kinds = refl;
+  marked = refl;
+  cut = refl;
+  references = refl;
+  named = refl;
+  reached = refl;
+  parents = refl;
+  runs_seen = refl;
+  runs_again = refl;
+}
+
+-- what two calls leave
+pub leaves_more : (a b c : Workspace) → LeavesSurvey a b → LeavesSurvey b c → LeavesSurvey a c
+leaves_more a b c s t = record {
+  claimed = t.claimed ∙ s.claimed;
+  kinds = t.kinds ∙ s.kinds;
+  marked = t.marked ∙ s.marked;
+  cut = t.cut ∙ s.cut;
+  references = t.references ∙ s.references;
+  named = t.named ∙ s.named;
+  reached = t.reached ∙ s.reached;
+  parents = t.parents ∙ s.parents;
+  runs_seen = t.runs_seen ∙ s.runs_seen;
+  runs_again = t.runs_again ∙ s.runs_again;
+}
+
+-- where only the windows have changed
+pub windows_leave : (old new : Workspace) → new ≡ record old { windows = new.windows } → LeavesSurvey old new
+windows_leave old new e = record {
+  claimed = ap (λ (w : Workspace). w.claimed) e;
+  kinds = ap (λ (w : Workspace). w.kinds) e;
+  marked = ap (λ (w : Workspace). w.marked) e;
+  cut = ap (λ (w : Workspace). w.cut) e;
+  references = ap (λ (w : Workspace). w.references) e;
+  named = ap (λ (w : Workspace). w.named) e;
+  reached = ap (λ (w : Workspace). w.reached) e;
+  parents = ap (λ (w : Workspace). w.parents) e;
+  runs_seen = ap (λ (w : Workspace). w.runs_seen) e;
+  runs_again = ap (λ (w : Workspace). w.runs_again) e;
+}
+
+pub claims_left : (v : Layout) (b : List ℕ) (old new : Workspace) → LeavesSurvey old new → HoldsClaims v b old → HoldsClaims v b new
+claims_left v b old new s h = record {
+  used = ap bits_of s.claimed ∙ h.used;
+  kinds = λ x. ap (λ k. slice_index k.items x) s.kinds ∙ h.kinds x;
+  marked = λ x. ap (λ k. bool_at k.items x) s.marked ∙ h.marked x;
+  cut = λ x. ap (λ k. slice_index k.items x) s.cut ∙ h.cut x;
+}
+
+pub survey_left : (v : Layout) (b : List ℕ) (old new : Workspace) → LeavesSurvey old new → HoldsSurvey v b old → HoldsSurvey v b new
+survey_left v b old new s h = record {
+  references = λ x l. ap (λ k. slice_index k.items x) s.references ∙ h.references x l;
+  named = λ x l. ap (λ k. bool_at k.items x) s.named ∙ h.named x l;
+  reached = λ x. ap (λ k. bool_at k.items x) s.reached ∙ h.reached x;
+  parents = λ x. ap (λ k. slice_index k.items x) s.parents ∙ h.parents x;
+}
+
+-- and so where only the windows have changed
+pub claims_held : (v : Layout) (b : List ℕ) (old new : Workspace) → new ≡ record old { windows = new.windows } → HoldsClaims v b old → HoldsClaims v b new
+claims_held v b old new e h = claims_left v b old new (windows_leave old new e) h
+
+pub survey_held : (v : Layout) (b : List ℕ) (old new : Workspace) → new ≡ record old { windows = new.windows } → HoldsSurvey v b old → HoldsSurvey v b new
+survey_held v b old new e h = survey_left v b old new (windows_leave old new e) h
