@@ -22,7 +22,6 @@ pub mod Forward
 pub mod DirsCertificate
 pub mod Dirs
 pub mod Backward
-pub mod RunLengths
 pub mod Weights
 pub mod ClassLines
 pub mod ConditionLaws

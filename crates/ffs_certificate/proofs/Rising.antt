@@ -3,7 +3,7 @@ use Rattle.std.proofs.Common.{zero, suc, inl, inr, ◌≡◌, ℕ, ◌+◌, ◌-
 use Rattle.std.specs.Prelude.{nat_lt, nat_eq, if◌then◌else◌, slice_index}
 use Rattle.std.specs.List.{list_all, flat_map, range_with_len}
 use Rattle.std.specs.Int.{div_ceil}
-use Rattle.std.proofs.Math.Nat.{mul-one, suc-mul, mul-le-mul_right}
+use Rattle.std.proofs.Math.Nat.{mul-le-mul_right}
 use Rattle.std.proofs.lemmas.Bool.{and_parts, and_from, lt-ltb, ltb-true, ltb-false, cases_lt}
 use Rattle.std.proofs.Common.{append_assoc}
 use Rattle.std.proofs.lemmas.Grind.{div_ceil_times}
@@ -13,6 +13,7 @@ use Rattle.ffs_volume.specs.declared.Step.TheVariants.{Run, Gap}
 use Rattle.ffs_volume.specs.Areas.{is_in_range}
 use Rattle.ffs_volume.specs.Inodes.{blocks_of, used_addresses}
 use Rattle.ffs_volume.specs.Steps.{Extent, word_at, block_bytes, any_word_from, used_words, tail_of, data_length, span_of, steps_at, level_of, first_block, steps_of_addresses, walks, last_of, steps_of}
+use Rattle.ffs_volume.specs.StepLaws.{one_more, span_more, next_first, used_most}
 use Rattle.ffs_certificate.specs.BlocksRise.{step_blocks, blocks_in, AreRising, AllBlocksRise}
 
 -- numbers that rise from `low` on, below `high`, and all below a bound
@@ -60,16 +61,12 @@ within_none : (nb a b : ℕ) → a ≤ b → Within nb a b []
 within_none nb a b le = record { rises = le; below = refl }
 
 -- spans
-span_suc : (words level : ℕ) → span_of words (suc level) ≡ words * span_of words level
-span_suc words zero = sym (mul-one words)
-span_suc words (suc level) = refl
-
 span_some : (words level : ℕ) → 0 < words → 0 < span_of words level
 span_some words zero some = omega arith
 span_some words (suc level) some =
     let rest = span_some words level some in
     let more : 1 * span_of words level ≤ words * span_of words level = mul-le-mul_right (span_of words level) some in
-    let whole = span_suc words level in
+    let whole = span_more words level in
     omega (arith, rest, more, whole)
 
 -- the logical blocks under a word that is used
@@ -78,8 +75,7 @@ word_below words nb first span j some lt =
     let few : j + 1 ≤ div_ceil (nb - first) span = omega (arith, lt) in
     let bound = (div_ceil_times (nb - first) span some).1 in
     let more : (j + 1) * span ≤ div_ceil (nb - first) span * span = mul-le-mul_right span few in
-    let next : (j + 1) * span ≡ j * span + span = (let s : j + 1 ≡ suc j = omega arith in ap (λ k. k * span) s ∙ suc-mul j span) in
-    omega (arith, bound, more, next)
+    omega (arith, bound, more, one_more j span)
 
 under_within : (nb span first : ℕ) (f : ℕ → List Step) (next count : ℕ) →
     ((j : ℕ) → next ≤ j → j < next + count → Within nb (first + j * span) (first + j * span + span) (f j)) →
@@ -90,8 +86,7 @@ under_within nb span first f next zero h =
 under_within nb span first f next (suc count) h =
     let here = h next (omega arith) (omega arith) in
     let rest = under_within nb span first f (next + 1) count (λ j low high. h j (omega arith) (omega arith)) in
-    let step : first + next * span + span ≡ first + (next + 1) * span =
-    (let s : next + 1 ≡ suc next = omega arith in let m = ap (λ k. k * span) s ∙ suc-mul next span in omega (arith, m)) in
+    let step : first + next * span + span ≡ first + (next + 1) * span = omega (arith, one_more next span) in
     let end : next + 1 + count ≡ next + suc count = omega arith in
     within_join nb (first + next * span) (first + (next + 1) * span) (first + (next + suc count) * span) (f next) (flat_map f (range_with_len (next + 1) count))
     (subst (λ b. Within nb (first + next * span) b (f next)) step here)
@@ -139,7 +134,7 @@ at_within t bytes (suc level) address first lt = one (nat_eq address 0) (λ a b 
         let enough : 0 < words = omega (arith, lt_used) in
         child (word_at t.geometry bytes address j) (first + j * span) (word_below words t.blocks first span j (span_some words level enough) (omega (arith, lt_used)))) in
         let most : used * span ≤ words * span = mul-le-mul_right span (let u : used ≤ words = omega arith in u) in
-        let whole = span_suc words level in
+        let whole = span_more words level in
         let start : first + 0 * span ≡ first = omega arith in
         let end : first + (0 + used) * span ≤ high = (let z : 0 + used ≡ used = omega arith in let e = ap (λ k. k * span) z in omega (arith, most, whole, e)) in
         record {
@@ -161,18 +156,6 @@ at_within t bytes (suc level) address first lt = one (nat_eq address 0) (λ a b 
 -- the fifteen addresses: where one ends, the next begins
 low_first : (words i : ℕ) → i < 13 → first_block words i ≡ i
 low_first words i h = ap (λ b. if b then i else (if nat_eq i 13 then 12 + words else 12 + words + words * words)) (lt-ltb i 13 h)
-
-next_first : (words i : ℕ) → i < 14 → first_block words i + span_of words (level_of i) ≡ first_block words (i + 1)
-next_first words i h = elim (cases_lt i 12) [
-  | inl small ↦
-      (let direct : level_of i ≡ 0 = omega arith in
-      let one = ap (span_of words) direct in
-      omega (arith, low_first words i (omega arith), low_first words (i + 1) (omega arith), one))
-  | inr large ↦ elim (cases_lt i 13) [
-    | inl single ↦ (let is : 12 ≡ i = omega arith in subst (λ k. first_block words k + span_of words (level_of k) ≡ first_block words (k + 1)) is refl)
-    | inr double ↦ (let is : 13 ≡ i = omega arith in subst (λ k. first_block words k + span_of words (level_of k) ≡ first_block words (k + 1)) is refl)
-  ]
-]
 
 first_below : (words blocks i : ℕ) → i < used_addresses words blocks → first_block words i < blocks
 first_below words blocks i h = one (nat_lt blocks 13) refl h
@@ -225,18 +208,6 @@ addresses_go t bytes addresses next (suc count) le used =
       below = ap (list_all (λ b. nat_lt b t.blocks)) (blocks_append xs ys)
           ∙ (list_all-append (λ b. nat_lt b t.blocks) (blocks_in xs) (blocks_in ys) ∙ and_from _ _ here.below rest.below);
     }
-
-used_most : (words blocks : ℕ) → used_addresses words blocks ≤ 15
-used_most words blocks = one (nat_lt blocks 13) refl
-  where
-    two : (b c : Bool) → (if b then (if c then 15 else 14) else 13) ≤ 15
-    two true true = omega arith
-    two true false = omega arith
-    two false c = omega arith
-
-    one : (a : Bool) → nat_lt blocks 13 ≡ a → (if a then blocks else (if nat_lt (12 + words) blocks then (if nat_lt (12 + words + words * words) blocks then 15 else 14) else 13)) ≤ 15
-    one true e = (let few = ltb-true blocks 13 e in omega (arith, few))
-    one false e = two (nat_lt (12 + words) blocks) (nat_lt (12 + words + words * words) blocks)
 
 below_more : (n m : ℕ) (xs : List ℕ) → n ≤ m → list_all (λ b. nat_lt b n) xs ≡ true → list_all (λ b. nat_lt b m) xs ≡ true
 below_more n m [] le h = refl

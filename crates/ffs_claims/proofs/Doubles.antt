@@ -17,15 +17,14 @@ use Rattle.ffs_volume.specs.Areas.{is_ok, is_in_range}
 use Rattle.ffs_volume.specs.Inodes.{is_settled}
 use Rattle.ffs_volume.specs.Owners.{Owner, owners_of}
 use Rattle.ffs_volume.specs.Claims.{Claims, no_claims, next_inode, is_open, is_set, after_offer, after_offers, after_run, after_step, after_steps, after_owner, after_owners, offer_lines, offers_lines, run_lines, step_lines, steps_lines}
+use Rattle.ffs_volume.specs.Weights.{cond_holds, ok_below, count_set}
 use Rattle.ffs_volume.specs.BlockCheck.{Offer, class_lines, count_lines, owner_lines, owners_lines, owners_kept, phase1_lines, phase1b_lines, is_dup_line, has_rescan, blames, first_offers}
 use Rattle.ffs_volume.specs.Volumes.{is_number}
 use Rattle.ffs_workspace.specs.Holds.{first_marked_at, all_claims, HoldsPhase1, HoldsClaims}
 use Rattle.ffs_workspace.specs.declared.workspace.Workspace.{Workspace}
 use Rattle.ffs_maps.specs.Bits.{bits_of}
 use Rattle.ffs_workspace.specs.Lengths.{set_count}
-use Rattle.ffs_claims.proofs.Rescans.{cond_holds}
 use Rattle.ffs_claims.proofs.Goes.{set_again}
-use Rattle.ffs_claims.proofs.Weights.{ok_below, count_set}
 use Rattle.ffs_claims.proofs.Marks.{any_append, or_then, marked_total}
 
 -- some bit is set

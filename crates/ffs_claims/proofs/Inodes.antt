@@ -10,12 +10,12 @@ use Rattle.ffs_volume.specs.Owners.{owner_of}
 use Rattle.ffs_volume.specs.Claims.{Claims, next_inode, after_steps, after_owner, steps_lines}
 use Rattle.ffs_volume.specs.BlockCheck.{class_lines, count_lines, owner_lines}
 use Rattle.ffs_volume.specs.Messages.{Message}
+use Rattle.ffs_volume.specs.Moving.{Moves, used_count}
 use Rattle.ffs_report.specs.Progress.{Progress, Said, Stopped}
 use Rattle.ffs_phase.specs.Known.{Where, Tells}
 use Rattle.ffs_phase.specs.Runs.{SaidOf, StoppedOf}
 use Rattle.ffs_phase.proofs.Telling.{of_begins, of_says, of_stops}
 use Rattle.ffs_claims.specs.Lines.{of_lines, owner_with, counted_owner}
-use Rattle.ffs_claims.specs.Moving.{Moves, used_count}
 use Rattle.ffs_claims.proofs.Goes.{lines_append}
 use Rattle.ffs_claims.proofs.Weights.{end_moves}
 

@@ -5,7 +5,6 @@ pub mod Inodes
 pub mod Reserved
 pub mod Numbers
 pub mod Marks
-pub mod Cuts
 pub mod Doubles
 pub mod Tellings
 pub mod Rewalks

@@ -17,9 +17,9 @@ use Rattle.ffs_volume.specs.Claims.{Claims, next_inode, is_open, is_set, after_o
 use Rattle.ffs_volume.specs.BlockCheck.{blames, class_lines, count_lines, owner_lines, owners_lines, phase1_lines, phase1b_lines, is_marked, is_unknown_class}
 use Rattle.ffs_volume.specs.KeptSteps.{claims_before}
 use Rattle.ffs_volume.specs.Volumes.{is_number, marked_at}
+use Rattle.ffs_volume.specs.Weights.{cond_holds}
 use Rattle.ffs_workspace.specs.Holds.{has_blame, first_marked_at}
 use Rattle.ffs_workspace.specs.Lengths.{inodes_of}
-use Rattle.ffs_claims.proofs.Rescans.{cond_holds}
 use Rattle.ffs_claims.proofs.Numbers.{before_next, before_first}
 
 pub any_append : {A : Type 0} (test : A → Bool) (xs ys : List A) → list_any test (xs ++ ys) ≡ (list_any test xs || list_any test ys)

@@ -16,7 +16,9 @@ use Rattle.ffs_volume.specs.Owners.{owner_of, owners_of}
 use Rattle.ffs_volume.specs.Claims.{Claims, no_claims, next_inode, is_open, is_set, after_offer, after_step, after_steps, after_owner, after_owners}
 use Rattle.ffs_volume.specs.BlockCheck.{Offer, blames, offers_kept, step_kept, steps_kept, owners_kept, first_offers, phase1b_lines}
 use Rattle.ffs_volume.specs.KeptSteps.{claims_before}
+use Rattle.ffs_volume.specs.Weights.{cond_holds}
 use Rattle.ffs_volume.specs.Replay.{cut_of, cut_at}
+use Rattle.ffs_volume.specs.CutLaws.{cut_is}
 use Rattle.ffs_volume.specs.Report.{claim_count}
 use Rattle.ffs_volume.specs.Volumes.{is_number}
 use Rattle.ffs_maps.specs.Bits.{bits_of}
@@ -26,11 +28,10 @@ use Rattle.ffs_workspace.specs.Lengths.{inodes_of}
 use Rattle.ffs_claims.specs.Lines.{of_lines, owners_from}
 use Rattle.ffs_claims.specs.Rescan.{rescan, offers_again, runs_again}
 use Rattle.ffs_claims.specs.Telling.{after_first, Told, SameClaims}
-use Rattle.ffs_claims.proofs.Cuts.{cut_whole}
 use Rattle.ffs_claims.proofs.Goes.{range_more, lines_append}
 use Rattle.ffs_claims.proofs.Marks.{marked_total}
 use Rattle.ffs_claims.proofs.Numbers.{before_next, before_end, before_first}
-use Rattle.ffs_claims.proofs.Rescans.{inode_retold, cond_holds}
+use Rattle.ffs_claims.proofs.Rescans.{inode_retold}
 use Rattle.ffs_claims.proofs.Tellings.{Telling, first_append}
 
 -- the offers of the next inode, told again by its cut, and those of the inodes behind it
@@ -40,7 +41,7 @@ pub kept_next : (v : Layout) (bytes : List ℕ) (cuts : List ℕ) (n : ℕ) → 
 unfolding owner_of
 kept_next v bytes cuts n g low high inside e =
     let s = claims_before v bytes n in
-    let cut : cut_of (after_steps v (next_inode (claims_before v bytes n)) (steps_of v (inode_of v bytes n) bytes)) ≡ slice_index cuts n = sym (e ∙ cut_whole v bytes n g inside) in
+    let cut : cut_of (after_steps v (next_inode (claims_before v bytes n)) (steps_of v (inode_of v bytes n) bytes)) ≡ slice_index cuts n = sym (e ∙ cut_is v bytes n g inside) in
     let again = (inode_retold v n (claims_before v bytes n) (steps_of v (inode_of v bytes n) bytes)).offers in
     ap (λ (xs : List ℕ). owners_kept v (claims_before v bytes n) (map (owner_of v bytes) xs)) (range_more n (inodes_of v - n) (inodes_of v - (n + 1)) (omega arith))
     ∙ ap (λ (os : List Offer). os ++ owners_kept v (after_owner v (claims_before v bytes n) (owner_of v bytes n)) (owners_from v bytes (n + 1)))
@@ -56,7 +57,7 @@ pub runs_on : (v : Layout) (bytes : List ℕ) (cuts : List ℕ) (n : ℕ) → Is
     (claims_before v bytes (n + 1)).runs ≡ (claims_before v bytes n).runs + runs_again v (rescan (slice_index cuts n)) (steps_of v (inode_of v bytes n) bytes)
 unfolding owner_of
 runs_on v bytes cuts n g low inside e =
-    let cut : cut_of (after_steps v (next_inode (claims_before v bytes n)) (steps_of v (inode_of v bytes n) bytes)) ≡ slice_index cuts n = sym (e ∙ cut_whole v bytes n g inside) in
+    let cut : cut_of (after_steps v (next_inode (claims_before v bytes n)) (steps_of v (inode_of v bytes n) bytes)) ≡ slice_index cuts n = sym (e ∙ cut_is v bytes n g inside) in
     ap (λ (t : Claims). t.runs) (before_next v bytes n low)
     ∙ (inode_retold v n (claims_before v bytes n) (steps_of v (inode_of v bytes n) bytes)).runs
     ∙ ap (λ (k : ℕ). (claims_before v bytes n).runs + runs_again v (rescan k) (steps_of v (inode_of v bytes n) bytes)) cut

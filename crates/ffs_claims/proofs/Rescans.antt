@@ -8,16 +8,12 @@ use Rattle.ffs_volume.specs.declared.Step.{Step}
 use Rattle.ffs_volume.specs.declared.Step.TheVariants.{Run, Tail, Gap}
 use Rattle.ffs_volume.specs.Areas.{is_ok, is_in_range}
 use Rattle.ffs_volume.specs.Claims.{Claims, next_inode, is_open, is_set, after_offer, after_offers, after_run, after_step, after_steps}
+use Rattle.ffs_volume.specs.Weights.{cond_holds}
 use Rattle.ffs_volume.specs.BlockCheck.{Offer, offers_kept, run_kept, step_kept, steps_kept}
 use Rattle.ffs_volume.specs.PrefixLaws.{offer_at}
 use Rattle.ffs_volume.specs.Replay.{cut_of}
 use Rattle.ffs_claims.specs.declared.rescan.Rescan.{Rescan}
 use Rattle.ffs_claims.specs.Rescan.{rescan, is_left, is_going, taken_of, left_after, run_taken, again, step_offers_again, offers_again, run_seen, runs_again}
-
--- a fact of a choice of two, by cases
-pub cond_holds : {A : Type 0} (P : A → Type 0) (b : Bool) (x y : A) → (b ≡ true → P x) → (b ≡ false → P y) → P (if b then x else y)
-cond_holds P true x y first second = first refl
-cond_holds P false x y first second = second refl
 
 -- kept offers and dup ones rise together, up to the eleventh dup one
 pub record Grows (s t : Claims) : Type 0 where

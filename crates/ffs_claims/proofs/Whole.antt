@@ -6,9 +6,9 @@ use Rattle.ffs_volume.specs.declared.Layout.{Layout}
 use Rattle.ffs_volume.specs.declared.BlockMessage.{BlockMessage}
 use Rattle.ffs_volume.specs.Areas.{is_ok, is_in_range}
 use Rattle.ffs_volume.specs.Claims.{Claims, is_set, after_offer, after_offers, offer_lines, offers_lines}
+use Rattle.ffs_volume.specs.Weights.{each_ok, ok_below}
 use Rattle.ffs_maps.specs.Bits.{set_run, AreClear}
 use Rattle.ffs_claims.specs.Whole.{IsWhole}
-use Rattle.ffs_claims.proofs.Weights.{each_ok, ok_below}
 
 whole_from : (v : Layout) (s : Claims) (start len : ℕ) → nat_lt s.dups 11 ≡ true → ((k : ℕ) → k < len → is_ok v (start + k) ≡ true) → AreClear s.used start len → IsWhole v s start len
 whole_from v s start zero few ok clear =

@@ -1,4 +1,3 @@
-pub mod Moving
 pub mod Rescan
 pub mod Lines
 pub mod Leaves

@@ -10,12 +10,12 @@ ghost use Rattle.ffs_volume.specs.Steps.{steps_of};
 ghost use Rattle.ffs_volume.specs.Owners.{owner_of};
 ghost use Rattle.ffs_volume.specs.Claims as claims;
 ghost use Rattle.ffs_volume.specs.Claims.{after_owner, after_steps, steps_lines};
+ghost use Rattle.ffs_volume.specs.Moving.{Moves, used_count};
 ghost use Rattle.ffs_volume.specs.BlockCheck.{owner_lines};
 ghost use Rattle.ffs_workspace.specs.Holds.{claims_of};
 ghost use Rattle.ffs_workspace.specs.Lengths.{IsFor, HoldWindows, inodes_of};
 ghost use Rattle.ffs_claims.specs.Leaves.{SameFound, Stored};
 ghost use Rattle.ffs_claims.specs.Lines.{of_lines, owner_with};
-ghost use Rattle.ffs_claims.specs.Moving.{Moves, used_count};
 
 use crate::offer::{is_open, step};
 use crate::store::{begin, say_class, say_count, store};

@@ -3,11 +3,11 @@
 ghost use Rattle.std.specs.Prelude.{◌≡◌, ◌+◌, ◌<◌, ◌≤◌, ◌^◌, OnOk, IsTrue, true, false, slice_set};
 ghost use Rattle.std.specs.List.{range_with_len};
 ghost use Rattle.ffs_volume.specs.Areas.{is_in_range, is_ok};
+ghost use Rattle.ffs_volume.specs.Lengths.{HasLength};
 ghost use Rattle.ffs_volume.specs.Claims as claims;
 ghost use Rattle.ffs_volume.specs.Claims.{after_offer, after_offers, after_run, after_step, offer_lines, offers_lines, run_lines, step_lines};
 ghost use Rattle.ffs_report.specs.Progress.{progress, kept, Says};
 ghost use Rattle.ffs_maps.specs.Bits.{bits_of};
-ghost use Rattle.ffs_walk.specs.Lengths.{HasLength};
 ghost use Rattle.ffs_workspace.specs.Holds.{claims_of};
 ghost use Rattle.ffs_workspace.specs.Lengths.{IsFor};
 ghost use Rattle.ffs_claims.specs.Leaves.{SameWindows, SameFound};
@@ -26,7 +26,7 @@ pub fn is_open(workspace: &Workspace) -> bool
     workspace.bad < 11 && workspace.dups < 11
 }
 
-#[tactic(auto, using(crate::proofs::Weights::ok_below))]
+#[tactic(auto, using(ffs_volume::specs::Weights::ok_below))]
 fn is_ok(geometry: &Geometry, fragment: u64) -> bool
     ensures value { result ≡ is_ok geometry.now.layout fragment }
     ensures small { IsTrue result → fragment < geometry.now.layout.size }

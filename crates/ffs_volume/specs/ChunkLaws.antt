@@ -64,7 +64,7 @@ chunks_few r test frag low high (Run start len (Some block) ∷ steps) f w = one
     few : 512 * length (run_chunks r start len (block * r.bsize)) ≤ min r.bsize (r.taken - block * r.bsize)
     few =
         let n = run_length r start len (block * r.bsize) in
-        let a : len * r.fsize ≤ frag * r.fsize = mul-le-mul_right r.fsize w.1 in
+        let a : len * r.fsize ≤ frag * r.fsize = mul-le-mul_right r.fsize w.1.1 in
         let b : 512 * (len * r.fsize / 512) ≤ len * r.fsize = mul-div-le (len * r.fsize) 512 in
         let d : 512 * ((r.taken - block * r.bsize) / 512) ≤ r.taken - block * r.bsize = mul-div-le (r.taken - block * r.bsize) 512 in
         omega arith

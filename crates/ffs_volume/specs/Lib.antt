@@ -8,6 +8,7 @@ pub mod AreaLaws
 pub mod RunLaws
 pub mod Inodes
 pub mod Steps
+pub mod Lengths
 pub mod StepLaws
 pub mod Owners
 pub mod Lists
@@ -40,6 +41,8 @@ pub mod Kinds
 pub mod ChunkLaws
 pub mod Replay
 pub mod ReplayLaws
+pub mod Moving
+pub mod Weights
 pub mod CutLaws
 pub mod Opening
 pub mod Report

@@ -44,8 +44,9 @@ impl Walk {
     ghost use Rattle.ffs_volume.specs.Steps.{data_step, indirect_steps, steps_at, steps_of, walks};
     ghost use Rattle.ffs_volume.specs.Inodes.{blocks_of};
     ghost use Rattle.ffs_volume.specs.declared.Step.{Step};
+    ghost use Rattle.ffs_volume.specs.Lengths.{HasLength};
     ghost use Rattle.ffs_walk.specs.Fits.{IsSpent, IsBelow};
-    ghost use Rattle.ffs_walk.specs.Lengths.{HasLength, IsWithin};
+    ghost use Rattle.ffs_walk.specs.Lengths.{IsWithin};
     ghost use Rattle.ffs_walk.specs.Frames.{frame_rest, frame_left, item_steps, item_left};
     ghost use Rattle.ffs_walk.specs.Rests.{rest, left, most_at, extent_of, IsOver};
     ghost use Rattle.ffs_walk.specs.Windows.{BlocksHold, HasRoom};

@@ -9,10 +9,11 @@ use Rattle.ffs_phase.specs.Known.{Where, Tells}
 use Rattle.ffs_phase.proofs.Telling.{of_begins, of_says, of_stops, of_reads, of_same}
 use Rattle.ffs_workspace.specs.Holds.{claims_of}
 use Rattle.ffs_claims.specs.Lines.{of_lines}
-use Rattle.ffs_claims.proofs.Weights.{stays, moves_on, bound_open, kept_bound}
+use Rattle.ffs_claims.proofs.Weights.{moves_on, bound_open}
 use Rattle.ffs_claims.proofs.Goes.{claims_on, lines_on, cut_stays, cut_silent}
 use Rattle.std.specs.Prelude.{vec_len}
 use Rattle.ffs_volume.specs.declared.Layout.{Layout}
+use Rattle.ffs_volume.specs.Weights.{stays, kept_bound}
 use Rattle.ffs_walk.specs.declared.blocks.Blocks.{Blocks}
 use Rattle.ffs_workspace.specs.declared.workspace.Workspace.{Workspace}
 use Rattle.ffs_workspace.specs.Lengths.{IsFor}

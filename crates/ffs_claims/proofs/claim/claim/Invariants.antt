@@ -4,12 +4,12 @@ use Rattle.ffs_phase.specs.Known.{Where, Tells}
 use Rattle.ffs_phase.specs.Runs.{SaidOf}
 use Rattle.ffs_volume.specs.Steps.{steps_of}
 use Rattle.ffs_volume.specs.Claims.{after_steps, steps_lines, is_open}
+use Rattle.ffs_volume.specs.Moving.{Moves}
 use Rattle.ffs_walk.specs.Rests.{rest, left}
 use Rattle.ffs_workspace.specs.Holds.{claims_of}
 use Rattle.ffs_workspace.specs.Lengths.{IsFor, HoldWindows}
 use Rattle.ffs_claims.specs.Leaves.{SameFound}
 use Rattle.ffs_claims.specs.Lines.{of_lines}
-use Rattle.ffs_claims.specs.Moving.{Moves}
 use Rattle.ffs_claims.proofs.claim.claim.Given as goal
 
 abbrev pub invariant-loop-next : goal.invariant-loop-next

@@ -5,11 +5,11 @@ use Rattle.ffs_maps.proofs.Bits.{length_bits}
 use Rattle.ffs_volume.specs.Steps.{steps_of}
 use Rattle.ffs_volume.specs.BlockCheck.{count_lines}
 use Rattle.ffs_volume.specs.Claims.{steps_lines, after_steps}
+use Rattle.ffs_volume.specs.Weights.{kept_bound}
 use Rattle.ffs_phase.proofs.Telling.{of_part, of_fault, of_says, of_stops}
 use Rattle.ffs_workspace.specs.Holds.{claims_of}
 use Rattle.ffs_claims.specs.Lines.{of_lines, counted_owner}
 use Rattle.ffs_claims.proofs.Inodes.{class_said, class_stopped, count_right}
-use Rattle.ffs_claims.proofs.Weights.{kept_bound}
 use Rattle.ffs_claims.proofs.claim.known.Goals as goal
 
 pub returns-in_err-say_class-clause-text : goal.returns-in_err-say_class-clause-text

@@ -7,11 +7,11 @@ use Rattle.ffs_volume.specs.KeptSteps.{claims_before}
 use Rattle.ffs_volume.specs.Messages.{phase1}
 use Rattle.ffs_volume.specs.Owners.{owners_of}
 use Rattle.ffs_volume.specs.Replay.{cut_at}
+use Rattle.ffs_volume.specs.Moving.{used_count}
 use Rattle.ffs_workspace.specs.Holds.{claims_of, IsFresh, first_marked_at}
 use Rattle.ffs_volume.specs.Kinds.{kind_at}
 use Rattle.ffs_workspace.specs.Lengths.{IsFor, HoldWindows, inodes_of}
 use Rattle.ffs_claims.specs.Lines.{of_lines, owners_from}
-use Rattle.ffs_claims.specs.Moving.{used_count}
 use Rattle.ffs_claims.proofs.Numbers.{FilledTo}
 use Rattle.ffs_claims.proofs.first.phase1.Given as goal
 

@@ -1,9 +1,9 @@
 use Rattle.std.proofs.Common.{◌≡◌, arith, sym, ap, ◌∙◌, length}
 use Rattle.std.proofs.lemmas.List.Sums.{count_by-le-length}
+use Rattle.ffs_volume.specs.Weights.{count_set}
 use Rattle.ffs_maps.specs.Bits.{bits_of}
 use Rattle.ffs_maps.proofs.Bits.{length_bits}
 use Rattle.ffs_workspace.specs.Lengths.{set_count}
-use Rattle.ffs_claims.proofs.Weights.{count_set}
 use Rattle.ffs_claims.proofs.offer.double.Goals as goal
 
 pub overflow_add-workspace : goal.overflow_add-workspace

@@ -1,0 +1,10 @@
+-- How long the Runs of an inode are.
+use Rattle.std.specs.Prelude.{ℕ, ◌<◌, ◌≤◌}
+use Rattle.ffs_volume.specs.declared.Step.{Step}
+use Rattle.ffs_volume.specs.declared.Step.TheVariants.{Run, Tail, Gap}
+
+-- a Run has a fragment at least, and a block's fragments at most
+abbrev pub HasLength : ℕ → Step → Type 0
+HasLength frag (Run start len block) = (0 < len) × (len ≤ frag)
+HasLength frag Tail = Unit {0}
+HasLength frag Gap = Unit {0}
