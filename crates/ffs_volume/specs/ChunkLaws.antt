@@ -5,40 +5,11 @@ use Rattle.std.specs.List.{range_with_len}
 use Rattle.std.proofs.lemmas.List.{length-map}
 use Rattle.std.proofs.lemmas.List.FromFn.{length-range_with_len}
 use Rattle.std.proofs.Math.Nat.{mul-le-mul_right, mul-div-le}
-use Rattle.ffs_volume.specs.declared.Layout.{Layout}
 use Rattle.ffs_volume.specs.declared.Step.{Step}
 use Rattle.ffs_volume.specs.declared.Step.TheVariants.{Run, Tail, Gap}
 use Rattle.ffs_volume.specs.Numbers.{piece}
-use Rattle.ffs_volume.specs.StepLaws.{Within, within_lower}
-use Rattle.ffs_volume.specs.Claims.{Claims, after_step}
-use Rattle.ffs_volume.specs.KeptSteps.{is_kept_step, kept_steps}
+use Rattle.ffs_volume.specs.StepLaws.{Within}
 use Rattle.ffs_volume.specs.Directory.{Reading, chunk_of, run_chunks, chunks_of}
-
--- the kept steps come in the same order
-pub within_kept : (v : Layout) (s : Claims) (frag low high : ℕ) (steps : List Step) → Within frag low high steps → Within frag low high (kept_steps v s steps)
-within_kept v s frag low high [] w = w
-within_kept v s frag low high (Run start len (Some block) ∷ steps) w = one (is_kept_step v s (Run start len (Some block))) (within_kept v (after_step v s (Run start len (Some block))) frag (block + 1) high steps w.2)
-  where
-    one : (b : Bool) → Within frag (block + 1) high (kept_steps v (after_step v s (Run start len (Some block))) steps)
-        → Within frag low high ((if b then Run start len (Some block) ∷ [] else []) ++ kept_steps v (after_step v s (Run start len (Some block))) steps)
-    one true r = (w.0, w.1, r)
-    one false r = let l = w.0 in within_lower frag low (block + 1) high (kept_steps v (after_step v s (Run start len (Some block))) steps) (omega arith) r
-within_kept v s frag low high (Run start len None ∷ steps) w = one (is_kept_step v s (Run start len None)) (within_kept v (after_step v s (Run start len None)) frag low high steps w.1)
-  where
-    one : (b : Bool) → Within frag low high (kept_steps v (after_step v s (Run start len None)) steps)
-        → Within frag low high ((if b then Run start len None ∷ [] else []) ++ kept_steps v (after_step v s (Run start len None)) steps)
-    one true r = (w.0, r)
-    one false r = r
-within_kept v s frag low high (Tail ∷ steps) w = one (is_kept_step v s Tail) (within_kept v (after_step v s Tail) frag low high steps w)
-  where
-    one : (b : Bool) → Within frag low high (kept_steps v (after_step v s Tail) steps) → Within frag low high ((if b then Tail ∷ [] else []) ++ kept_steps v (after_step v s Tail) steps)
-    one true r = r
-    one false r = r
-within_kept v s frag low high (Gap ∷ steps) w = one (is_kept_step v s Gap) (within_kept v (after_step v s Gap) frag low high steps w)
-  where
-    one : (b : Bool) → Within frag low high (kept_steps v (after_step v s Gap) steps) → Within frag low high ((if b then Gap ∷ [] else []) ++ kept_steps v (after_step v s Gap) steps)
-    one true r = r
-    one false r = r
 
 -- how many chunks a Run has
 run_length : (r : Reading) (start len offset : ℕ) → length (run_chunks r start len offset) ≡ min (len * r.fsize / 512) ((r.taken - offset) / 512)
