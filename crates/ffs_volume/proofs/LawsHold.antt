@@ -1,6 +1,6 @@
 -- Laws that say of definitions what they are meant to say.
-use Rattle.std.proofs.Common.{zero, suc, ◌≡◌, ℕ, ◌+◌, ◌*◌, ◌/◌, ◌%◌, ◌<◌, ◌≤◌, Bool, true, false, cond, arith, refl, sym, ap, ◌∙◌, List, [], ◌∷◌, ◌++◌, length, Option, Some, None}
-use Rattle.std.specs.Prelude.{if◌then◌else◌, map, count_by, ◌&&◌}
+use Rattle.std.proofs.Common.{zero, suc, ◌≡◌, ℕ, ◌+◌, ◌*◌, ◌/◌, ◌≤◌, Bool, true, false, cond, arith, refl, sym, ap, ◌∙◌, List, [], ◌∷◌, ◌++◌, length, Option, Some, None}
+use Rattle.std.specs.Prelude.{if◌then◌else◌, map, count_by}
 use Rattle.std.specs.List.{list_all, range_with_len, sum_by}
 use Rattle.std.proofs.Math.Nat.{mul-suc, suc-mul}
 use Rattle.std.proofs.lemmas.Nat.{div-add-mod'}
@@ -10,10 +10,9 @@ use Rattle.std.proofs.lemmas.List.FromFn.{length-map-range_with_len}
 use Rattle.ffs_volume.specs.Areas.{cgbase}
 use Rattle.ffs_volume.specs.PrefixLaws.{steps_first}
 use Rattle.ffs_volume.specs.Groups.{is_whole, block_bits, block_numbers, right_summary}
-use Rattle.ffs_volume.specs.Graph.{Graph, level}
 use Rattle.ffs_volume.specs.Levels.{level-some, level-is}
-use Rattle.ffs_volume.specs.Paths.{joined, path_text, dir_names, dir_text, entry_text, dir_path, entry_path}
-use Rattle.ffs_volume.specs.Laws.{KeptAreFirst, LevelTells, LevelsAreLeast, PathsFit, AllPathsFit, SumsAreWhole}
+use Rattle.ffs_volume.specs.Paths.{dir_names, dir_text, entry_text, dir_path, entry_path}
+use Rattle.ffs_volume.specs.Laws.{KeptAreFirst, LevelsAreLeast, AllPathsFit, SumsAreWhole}
 use Rattle.ffs_volume.proofs.PathBound.{path_text-fits}
 
 pub kept_first : KeptAreFirst

@@ -9,7 +9,7 @@ use Rattle.ffs_volume.specs.declared.Step.TheVariants.{Run, Tail, Gap}
 use Rattle.ffs_volume.specs.declared.BlockMessage.{BlockMessage}
 use Rattle.ffs_volume.specs.declared.BlockMessage.TheVariants.{PartAlloc, UnknownType, Bad, Dup, BlockCount}
 use Rattle.ffs_volume.specs.Areas.{is_in_range}
-use Rattle.ffs_volume.specs.Inodes.{is_settled, is_dir_class, inode_of, class_of}
+use Rattle.ffs_volume.specs.Inodes.{is_settled, inode_of, class_of}
 use Rattle.ffs_volume.specs.Owners.{Owner, owners_of}
 use Rattle.ffs_volume.specs.Claims.{Claims, no_claims, next_inode, is_open, is_set, after_offer, after_step, after_owner, after_owners, steps_lines}
 

@@ -1,5 +1,5 @@
 -- Classes and steps of inodes, and what the block check and the check of groups tell.
-use Rattle.std.specs.Prelude.{◌≡◌, ℕ, ◌-◌, nat_lt, ◌==◌, ◌&&◌, not, List, [], ◌∷◌, ◌++◌, ℤ, pos, Some, None, length, map, replicate, Bool, true, false, if◌then◌else◌}
+use Rattle.std.specs.Prelude.{◌≡◌, ℕ, ◌-◌, ◌==◌, ◌&&◌, not, List, [], ◌∷◌, ◌++◌, pos, Some, None, length, map, replicate, Bool, true, false, if◌then◌else◌}
 use Rattle.std.specs.List.{range_with_len}
 use Rattle.ffs_volume.specs.declared.Order.{Order}
 use Rattle.ffs_volume.specs.declared.Order.TheVariants.{Little, Big}
@@ -12,12 +12,12 @@ use Rattle.ffs_volume.specs.declared.BlockMessage.{BlockMessage}
 use Rattle.ffs_volume.specs.declared.BlockMessage.TheVariants.{PartAlloc, UnknownType, Bad, Dup, ManyBad, ManyDup, PartTrunc, BlockCount, GroupMagic, FreeCounts, MapsWrong, GroupSums}
 use Rattle.ffs_volume.specs.Inodes.{inode_of, class_of}
 use Rattle.ffs_volume.specs.Steps.{steps_of}
-use Rattle.ffs_volume.specs.Owners.{Owner, owner_of, owners_of}
-use Rattle.ffs_volume.specs.Claims.{no_claims, is_set, after_owner, after_owners}
-use Rattle.ffs_volume.specs.BlockCheck.{Offer, phase1_lines, phase1b_lines, owners_kept, has_rescan}
+use Rattle.ffs_volume.specs.Owners.{Owner, owners_of}
+use Rattle.ffs_volume.specs.Claims.{no_claims, is_set, after_owners}
+use Rattle.ffs_volume.specs.BlockCheck.{phase1_lines, phase1b_lines, owners_kept}
 use Rattle.ffs_volume.specs.Keeping.{all_offers, kept_offers}
-use Rattle.ffs_volume.specs.Groups.{Summary, right_summary, right_frsum, right_total}
-use Rattle.ffs_volume.specs.GroupCheck.{phase5_lines, is_free_of_kept, is_free_of_runs}
+use Rattle.ffs_volume.specs.Groups.{right_summary, right_frsum, right_total}
+use Rattle.ffs_volume.specs.GroupCheck.{phase5_lines, is_free_of_runs}
 use Rattle.ffs_volume.specs.Examples.{word, zeros, base_layout, base_image, two_groups}
 
 -- an inode of this mode and size with these addresses, and zeros behind them

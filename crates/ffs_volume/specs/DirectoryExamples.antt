@@ -1,10 +1,10 @@
 -- Chunks and entries, and what the checks of directories tell of small volumes.
-use Rattle.std.specs.Prelude.{◌≡◌, ℕ, ◌-◌, ◌==◌, nat_lt, List, [], ◌∷◌, ◌++◌, ℤ, pos, negsuc, Option, Some, None, length, map, replicate, take, drop, ◌+◌, Bool, true, false, if◌then◌else◌}
+use Rattle.std.specs.Prelude.{◌≡◌, ℕ, ◌-◌, ◌==◌, nat_lt, List, [], ◌∷◌, ◌++◌, pos, Some, None, length, map, replicate, take, drop, ◌+◌, true, false, if◌then◌else◌}
 use Rattle.ffs_volume.specs.declared.Order.{Order}
 use Rattle.ffs_volume.specs.declared.Order.TheVariants.{Little, Big}
 use Rattle.ffs_volume.specs.declared.Attr.{Attr}
 use Rattle.ffs_volume.specs.declared.Class.{Class}
-use Rattle.ffs_volume.specs.declared.Class.TheVariants.{Free, Partial, Unknown, File, Dir}
+use Rattle.ffs_volume.specs.declared.Class.TheVariants.{Free, File, Dir}
 use Rattle.ffs_volume.specs.declared.Label.TheVariants.{Dir as DirLabel, File as FileLabel}
 use Rattle.ffs_volume.specs.declared.Role.TheVariants.{Empty, Dot, Dotdot, Extra, Plain}
 use Rattle.ffs_volume.specs.declared.Step.TheVariants.{Run, Tail, Gap}
@@ -13,7 +13,7 @@ use Rattle.ffs_volume.specs.Roles.{Volume, role_of, references}
 use Rattle.ffs_volume.specs.Graph.{level, parent}
 use Rattle.ffs_volume.specs.Parents.{graph_of}
 use Rattle.ffs_volume.specs.Paths.{path_text, dir_path, entry_path}
-use Rattle.ffs_volume.specs.Messages.{NameMessage, root_none, root_not_dir, root_suspect, dir_short, dir_length, dir_empty, dir_corrupt, missing_dot, missing_dot_first, number_dot, kind_dot, missing_dotdot, missing_dotdot_second, number_dotdot, kind_dotdot, extra_dot, extra_dotdot, out_of_range, whiteout, unallocated, dup_bad, zero_dir, extraneous, kind_entry, unref_dir, dead_marked, dead_zero, unref, unref_zero, link_count}
+use Rattle.ffs_volume.specs.Messages.{root_none, root_not_dir, root_suspect, missing_dot, missing_dot_first, number_dot, kind_dot, missing_dotdot, missing_dotdot_second, number_dotdot, kind_dotdot, extra_dot, extra_dotdot, out_of_range, whiteout, zero_dir, extraneous, kind_entry, unref_dir, dead_marked, dead_zero, unref, unref_zero, link_count}
 use Rattle.ffs_volume.specs.PathnameCheck.{pathname_lines}
 use Rattle.ffs_volume.specs.Connectivity.{connectivity_lines}
 use Rattle.ffs_volume.specs.ReferenceCheck.{reference_lines}

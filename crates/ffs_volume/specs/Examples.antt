@@ -1,5 +1,5 @@
 -- The images that worked examples speak of, in both orders.
-use Rattle.std.specs.Prelude.{ℕ, ◌+◌, List, [], ◌∷◌, ◌++◌, ℤ, pos, Option, Some, None, take, drop, replicate}
+use Rattle.std.specs.Prelude.{ℕ, ◌+◌, List, [], ◌∷◌, ◌++◌, pos, Option, None, take, drop, replicate}
 use Rattle.std.specs.Result.{result_err}
 use Rattle.byteorder.specs.Endian.{little_bytes, big_bytes}
 use Rattle.ffs_volume.specs.declared.Order.{Order}

@@ -1,5 +1,5 @@
 -- Numbers in the bytes of an image.
-use Rattle.std.specs.Prelude.{ℕ, zero, suc, ◌+◌, ◌-◌, ◌*◌, ◌<◌, ◌==◌, Bool, true, false, ◌&&◌, ◌||◌, List, drop, take, ℤ, pos, negsuc}
+use Rattle.std.specs.Prelude.{ℕ, zero, suc, ◌==◌, Bool, true, false, ◌&&◌, ◌||◌, List, drop, take, ℤ, pos, negsuc}
 use Rattle.std.specs.Int.{w16, w32, cast_signed}
 use Rattle.byteorder.specs.Endian.{little_number, big_number}
 use Rattle.ffs_volume.specs.declared.Order.{Order}

@@ -1,12 +1,12 @@
 -- Which superblocks are accepted, the first fault of those that aren't, and what is told of them.
-use Rattle.std.specs.Prelude.{◌≡◌, ℕ, List, [], ◌∷◌, ◌++◌, ℤ, pos, negsuc, Option, Some, None, Ok, Err, take, length, map, Bool, true, false}
+use Rattle.std.specs.Prelude.{◌≡◌, [], ◌∷◌, pos, negsuc, Some, None, Ok, Err, take, map, true, false}
 use Rattle.std.specs.List.{range_with_len}
 use Rattle.ffs_volume.specs.declared.Order.TheVariants.{Little, Big}
 use Rattle.ffs_volume.specs.declared.SuperFault.TheVariants.{CannotRead, Magic, InodeFormat, Ncg, Cpg, Ncyl, TooLarge, Shape, Short, Disagree}
 use Rattle.ffs_volume.specs.Areas.{cgstart, cgsblock, cgdmin, group_place, summary_place, inode_place, is_ok, is_in_range, is_reserved}
 use Rattle.ffs_volume.specs.Outcome.{outcome}
-use Rattle.ffs_volume.specs.Messages.{Message, location, opening, mounted, bad_super, cannot_read, optimization, minfree, summary}
-use Rattle.ffs_volume.specs.Opening.{setting_lines, super_lines, opening_lines}
+use Rattle.ffs_volume.specs.Messages.{location, opening, mounted, bad_super, cannot_read, optimization, minfree, summary}
+use Rattle.ffs_volume.specs.Opening.{setting_lines, opening_lines}
 use Rattle.ffs_volume.specs.Report.{summary_of}
 use Rattle.ffs_volume.specs.Shown.{shown, octal}
 use Rattle.ffs_volume.specs.Examples.{zeros, base_layout, base_superblock, base_super, base_image, changed, image_of, fault_of, fault_with, two_groups}

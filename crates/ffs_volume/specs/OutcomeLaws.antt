@@ -1,5 +1,5 @@
 -- Each way in which an outcome comes about.
-use Rattle.std.proofs.Common.{◌≡◌, ℕ, ◌+◌, ◌*◌, ◌<◌, ◌≤◌, Bool, true, false, cond, List, length, Option, Some, None, Result, Ok, Err, arith, rules, refl}
+use Rattle.std.proofs.Common.{◌≡◌, ℕ, ◌+◌, ◌*◌, ◌<◌, ◌≤◌, Bool, true, false, cond, List, length, Option, Some, None, Ok, Err, arith, refl}
 use Rattle.std.proofs.lemmas.Bool.Decides.{nat_tests}
 use Rattle.std.specs.Prelude.{nat_lt}
 use Rattle.ffs_volume.specs.declared.Layout.{Layout}
@@ -8,7 +8,7 @@ use Rattle.ffs_volume.specs.declared.SuperFault.{SuperFault}
 use Rattle.ffs_volume.specs.declared.SuperFault.TheVariants.{CannotRead, Magic, InodeFormat, Ncg, Cpg, Ncyl, TooLarge, Shape, Short, Disagree}
 use Rattle.ffs_volume.specs.Numbers.{piece}
 use Rattle.ffs_volume.specs.Superblock.{order_of, layout_of, superblock_of}
-use Rattle.ffs_volume.specs.Outcome.{super_sector, super_bytes, layout_fault, copy_agrees, judged, outcome_in, outcome_of, outcome}
+use Rattle.ffs_volume.specs.Outcome.{super_sector, layout_fault, copy_agrees, judged, outcome_in, outcome_of, outcome}
 
 module _ (image : List ℕ) (sector : Option ℕ) where
   pub outcome_past_end : length image < super_sector sector * 512 + 1376 → outcome image sector ≡ Err (CannotRead (super_sector sector))

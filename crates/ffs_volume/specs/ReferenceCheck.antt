@@ -1,5 +1,5 @@
 -- What the check of reference counts tells.
-use Rattle.std.specs.Prelude.{ℕ, ◌==◌, Bool, true, false, not, ℤ, pos, negsuc, List, [], ◌∷◌, if◌then◌else◌}
+use Rattle.std.specs.Prelude.{ℕ, ◌==◌, not, List, [], ◌∷◌, if◌then◌else◌}
 use Rattle.ffs_volume.specs.Numbers.{is_count}
 use Rattle.ffs_volume.specs.Roles.{Volume, is_some_inode, references}
 use Rattle.ffs_volume.specs.Messages.{NameMessage, lines_below, told, dead_marked, dead_zero, unref, unref_zero, link_count}

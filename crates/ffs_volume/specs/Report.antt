@@ -1,6 +1,6 @@
 -- The whole report of an image: its text as a list of messages, how the run ends, and its status.
-use Rattle.std.specs.Prelude.{ℕ, ◌+◌, ◌*ℤ◌, ◌+ℤ◌, int_div, Bool, true, false, not, ◌&&◌, if◌then◌else◌, List, [], ◌∷◌, ◌++◌, map, count_by, ℤ, pos, Option, Result, Ok, Err}
-use Rattle.std.specs.List.{list_any, range_with_len, slice_index_or}
+use Rattle.std.specs.Prelude.{ℕ, ◌*ℤ◌, ◌+ℤ◌, int_div, Bool, true, false, not, ◌&&◌, if◌then◌else◌, List, [], ◌∷◌, ◌++◌, map, count_by, ℤ, pos, Option, Result, Ok, Err}
+use Rattle.std.specs.List.{range_with_len, slice_index_or}
 use Rattle.ffs_volume.specs.declared.Layout.{Layout}
 use Rattle.ffs_volume.specs.declared.SuperFault.{SuperFault}
 use Rattle.ffs_volume.specs.declared.End.{End}
