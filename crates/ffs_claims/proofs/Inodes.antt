@@ -10,7 +10,7 @@ use Rattle.ffs_volume.specs.Owners.{owner_of}
 use Rattle.ffs_volume.specs.Claims.{Claims, next_inode, after_steps, after_owner, steps_lines}
 use Rattle.ffs_volume.specs.BlockCheck.{class_lines, count_lines, owner_lines}
 use Rattle.ffs_volume.specs.Messages.{Message}
-use Rattle.ffs_volume.specs.Moving.{Moves, used_count}
+use Rattle.ffs_volume.specs.Moving.{Moves, used_bits}
 use Rattle.ffs_report.specs.Progress.{Progress, Said, Stopped}
 use Rattle.ffs_phase.specs.Known.{Where, Tells}
 use Rattle.ffs_phase.specs.Runs.{SaidOf, StoppedOf}
@@ -61,7 +61,7 @@ inode_claims knows v number i s s1 s2 s3 e h last = λ bytes t.
     last ∙ h bytes t ∙ ap (λ (c : Claims). after_steps v c (steps_of v i bytes)) e
 
 pub inode_moves : (s s1 s2 s3 : Claims) → s1 ≡ next_inode s → Moves s1 s2 → s3 ≡ s2 →
-    s3.runs + used_count s ≤ s.runs + used_count s3 + 22
+    s3.runs + used_bits s ≤ s.runs + used_bits s3 + 22
 inode_moves s s1 s2 s3 e m last = rw last (end_moves (next_inode s) s2 refl (rw e at m))
 
 -- an inode by its number

@@ -1,7 +1,7 @@
 -- How phase 1b goes from inode to inode.
 use Rattle.std.proofs.Common.{◌≡◌, ◌⊎◌, inl, inr, ℕ, zero, suc, ◌+◌, ◌-◌, ◌<◌, ◌≤◌, Bool, true, false, not, ◌&&◌, ◌||◌, ◌==◌, if◌then◌else◌, nat_lt, List, [], ◌∷◌, ◌++◌, map, slice_index, slice_set, arith, refl, ap, ◌∙◌, sym}
 use Rattle.std.specs.List.{range_with_len, list_any, list_all}
-use Rattle.std.proofs.lemmas.Bool.{and_from, cases_lt}
+use Rattle.std.proofs.lemmas.Bool.{and_from, cases_lt, and_parts}
 use Rattle.std.proofs.lemmas.List.Folds.{list_all-append}
 use Rattle.std.proofs.lemmas.Bool.Decides.{nat_tests}
 use Rattle.ffs_volume.specs.declared.Layout.{Layout}
@@ -9,7 +9,7 @@ use Rattle.ffs_volume.specs.declared.Step.{Step}
 use Rattle.ffs_volume.specs.declared.Step.TheVariants.{Run, Tail, Gap}
 use Rattle.ffs_volume.specs.declared.BlockMessage.{BlockMessage}
 use Rattle.ffs_volume.specs.Areas.{is_in_range}
-use Rattle.ffs_volume.specs.Geometry.{IsGeometry, and_parts}
+use Rattle.ffs_volume.specs.Geometry.{IsGeometry}
 use Rattle.ffs_volume.specs.Inodes.{inode_of}
 use Rattle.ffs_volume.specs.Steps.{steps_of}
 use Rattle.ffs_volume.specs.Owners.{owner_of, owners_of}

@@ -10,7 +10,7 @@ ghost use Rattle.ffs_volume.specs.Steps.{steps_of};
 ghost use Rattle.ffs_volume.specs.Owners.{owner_of};
 ghost use Rattle.ffs_volume.specs.Claims as claims;
 ghost use Rattle.ffs_volume.specs.Claims.{after_owner, after_steps, steps_lines};
-ghost use Rattle.ffs_volume.specs.Moving.{Moves, used_count};
+ghost use Rattle.ffs_volume.specs.Moving.{Moves, used_bits};
 ghost use Rattle.ffs_volume.specs.BlockCheck.{owner_lines};
 ghost use Rattle.ffs_workspace.specs.Holds.{claims_of};
 ghost use Rattle.ffs_workspace.specs.Lengths.{IsFor, HoldWindows, inodes_of};
@@ -51,7 +51,7 @@ fn claim<I: Image, W: Output>(
     ensures claims { OnOk result (Where (Tells (I.device image.old).told) (λ bytes.
         claims_of workspace.new ≡ after_steps geometry.now.layout (claims_of workspace.old) (steps_of geometry.now.layout inode.now bytes))) }
     ensures moves { OnOk result (Moves (claims_of workspace.old) (claims_of workspace.new)) }
-    ensures bound { workspace.new.runs_seen + used_count (claims_of workspace.old) ≤ workspace.old.runs_seen + geometry.now.layout.size + 22 }
+    ensures bound { workspace.new.runs_seen + used_bits (claims_of workspace.old) ≤ workspace.old.runs_seen + geometry.now.layout.size + 22 }
     ensures made { IsFor geometry.now.layout workspace.new }
     ensures windows { HoldWindows geometry.now.layout (I.device image.new).told workspace.new }
     ensures found { SameFound workspace.old workspace.new }
@@ -88,8 +88,8 @@ fn known<I: Image, W: Output>(
     ensures claims { OnOk result (Where (Tells (I.device image.old).told) (λ bytes.
         claims_of workspace.new ≡ after_owner geometry.now.layout (claims_of workspace.old) (owner_with geometry.now.layout bytes number inode.now))) }
     ensures stored { OnOk result (Stored number (inodes.class_of geometry.now.layout inode.now) inode.now workspace.old workspace.new) }
-    ensures moves { OnOk result (workspace.new.runs_seen + used_count (claims_of workspace.old) ≤ workspace.old.runs_seen + used_count (claims_of workspace.new) + 22) }
-    ensures bound { workspace.new.runs_seen + used_count (claims_of workspace.old) ≤ workspace.old.runs_seen + geometry.now.layout.size + 22 }
+    ensures moves { OnOk result (workspace.new.runs_seen + used_bits (claims_of workspace.old) ≤ workspace.old.runs_seen + used_bits (claims_of workspace.new) + 22) }
+    ensures bound { workspace.new.runs_seen + used_bits (claims_of workspace.old) ≤ workspace.old.runs_seen + geometry.now.layout.size + 22 }
     ensures made { IsFor geometry.now.layout workspace.new }
     ensures windows { HoldWindows geometry.now.layout (I.device image.new).told workspace.new }
 {
@@ -124,8 +124,8 @@ pub fn numbered<I: Image, W: Output>(
         claims_of workspace.new ≡ after_owner geometry.now.layout (claims_of workspace.old) (owner_of geometry.now.layout bytes number))) }
     ensures stored { OnOk result (Where (Tells (I.device image.old).told) (λ bytes.
         Stored number (inodes.class_of geometry.now.layout (inode_of geometry.now.layout bytes number)) (inode_of geometry.now.layout bytes number) workspace.old workspace.new)) }
-    ensures moves { OnOk result (workspace.new.runs_seen + used_count (claims_of workspace.old) ≤ workspace.old.runs_seen + used_count (claims_of workspace.new) + 22) }
-    ensures bound { workspace.new.runs_seen + used_count (claims_of workspace.old) ≤ workspace.old.runs_seen + geometry.now.layout.size + 22 }
+    ensures moves { OnOk result (workspace.new.runs_seen + used_bits (claims_of workspace.old) ≤ workspace.old.runs_seen + used_bits (claims_of workspace.new) + 22) }
+    ensures bound { workspace.new.runs_seen + used_bits (claims_of workspace.old) ≤ workspace.old.runs_seen + geometry.now.layout.size + 22 }
     ensures made { IsFor geometry.now.layout workspace.new }
     ensures windows { HoldWindows geometry.now.layout (I.device image.new).told workspace.new }
 {

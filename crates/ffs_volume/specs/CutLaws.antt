@@ -25,7 +25,7 @@ unfolding claims_before no_claims reserved_map
 before_length v image x g = owners_length v image (no_claims v) (range_with_len 2 (x - 2)) g (length-map-range_with_len (is_reserved v) 0 v.size)
 
 -- an inode keeps fewer than 2^32 offers
-pub kept_few : (v : Layout) (image : List ℕ) (x : ℕ) → IsGeometry v
+kept_few : (v : Layout) (image : List ℕ) (x : ℕ) → IsGeometry v
     → (after_steps v (next_inode (claims_before v image x)) (steps_of v (inode_of v image x) image)).kept < 2 ^ 32
 unfolding owner_of
 kept_few v image x g =

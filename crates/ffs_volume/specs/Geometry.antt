@@ -2,16 +2,12 @@
 use Rattle.std.proofs.Common.{zero, suc, inl, inr, ◌≡◌, ℕ, ◌+◌, ◌-◌, ◌*◌, ◌/◌, ◌%◌, ◌^◌, ◌<◌, ◌≤◌, Bool, true, false, cond, Option, Some, None, ℤ, pos, negsuc, arith, refl}
 use Rattle.std.specs.Prelude.{nat_lt, ◌&&◌, ◌==◌, not}
 use Rattle.std.specs.Int.{div_ceil}
-use Rattle.std.proofs.lemmas.Bool.{cases_lt}
+use Rattle.std.proofs.lemmas.Bool.{cases_lt, and_parts}
 use Rattle.std.proofs.lemmas.Bool.Decides.{nat_tests}
 use Rattle.ffs_volume.specs.declared.Layout.{Layout}
 use Rattle.ffs_volume.specs.Numbers.{natural, is_natural, all_below}
 use Rattle.ffs_volume.specs.Areas.{shift, cgbase, cgdmin}
 use Rattle.ffs_volume.specs.Outcome.{is_block_size, is_fragment_size, is_fragment_count, are_sizes, are_numbers, are_parts, are_cylinders, is_group, is_summary, is_shaped, layout_fault}
-
-pub and_parts : (a b : Bool) → (a && b) ≡ true → (a ≡ true) × (b ≡ true)
-and_parts true b e = (refl, e)
-and_parts false b e = cc
 
 -- no fault, so neither this one nor a later one
 pub no_fault : {X : Type 0} (b : Bool) (x : X) (rest : Option X) → cond (not b) (Some x) rest ≡ None → (b ≡ true) × (rest ≡ None)

@@ -3,16 +3,16 @@ use Rattle.std.specs.Prelude.{◌≡◌, ◌+◌, ◌*◌, ◌≤◌, ℕ, lengt
 use Rattle.ffs_volume.specs.Claims.{Claims}
 
 -- how many fragments are reserved or claimed
-abbrev pub used_count : Claims → ℕ
-used_count s = count_by (λ b. b) s.used
+abbrev pub used_bits : Claims → ℕ
+used_bits s = count_by (λ b. b) s.used
 
 -- what a Run uses up: a claim, a bad Run or a dup offer
 abbrev pub weight : Claims → ℕ
-weight s = used_count s + s.bad + s.dups
+weight s = used_bits s + s.bad + s.dups
 
 -- what an offer uses up: a claim, an eighth of a bad Run or a dup offer
 abbrev pub offers_weight : Claims → ℕ
-offers_weight s = used_count s + 8 * s.bad + s.dups
+offers_weight s = used_bits s + 8 * s.bad + s.dups
 
 -- a step uses up as much as it counts Runs, and as much as it keeps offers, and keeps the caps
 pub record Moves (s s' : Claims) : Type 0 where

@@ -7,7 +7,7 @@ use Rattle.ffs_volume.specs.KeptSteps.{claims_before}
 use Rattle.ffs_volume.specs.Messages.{phase1}
 use Rattle.ffs_volume.specs.Owners.{owners_of}
 use Rattle.ffs_volume.specs.Replay.{cut_at}
-use Rattle.ffs_volume.specs.Moving.{used_count}
+use Rattle.ffs_volume.specs.Moving.{used_bits}
 use Rattle.ffs_workspace.specs.Holds.{claims_of, IsFresh, first_marked_at}
 use Rattle.ffs_volume.specs.Kinds.{kind_at}
 use Rattle.ffs_workspace.specs.Lengths.{IsFor, HoldWindows, inodes_of}
@@ -23,7 +23,7 @@ invariant-loop-number g l = record {
   same : kept g.W.Output.lent l.report ≡ kept g.W.Output.lent l.fn.report;
   low : 2 ≤ l.number;
   high : 2 < l.number → l.number ≤ inodes_of l.geometry.layout;
-  runs : l.workspace.runs_seen ≤ used_count (claims_of l.workspace) + 22 * (l.number - 2);
+  runs : l.workspace.runs_seen ≤ used_bits (claims_of l.workspace) + 22 * (l.number - 2);
   claims : Where (λ bytes. Tells (g.I.Image.device l.fn.image).told bytes × IsFresh l.geometry.layout l.fn.workspace) (λ bytes.
       claims_of l.workspace ≡ claims_before l.geometry.layout bytes l.number);
   kinds : Where (λ bytes. Tells (g.I.Image.device l.fn.image).told bytes × IsFresh l.geometry.layout l.fn.workspace) (λ bytes.
