@@ -1,11 +1,9 @@
 -- What is known of an image's volume, and that keeping is nothing where the block check is silent.
-use Rattle.std.specs.Prelude.{◌≡◌, ◌≢◌, ℕ, ◌+◌, ◌-◌, ◌*◌, ◌%◌, ◌<◌, ◌≤◌, ◌==◌, min, Bool, true, false, not, ◌||◌, nat_lt, nat_le, refl, if◌then◌else◌, List, [], drop}
+use Rattle.std.specs.Prelude.{◌≡◌, ◌≢◌, ℕ, ◌-◌, ◌*◌, ◌<◌, ◌≤◌, ◌==◌, Bool, true, false, not, ◌||◌, nat_lt, nat_le, refl, if◌then◌else◌, List, [], drop}
 use Rattle.std.specs.List.{flat_map, range_with_len}
-use Rattle.std.specs.Int.{div_ceil}
-use Rattle.std.proofs.Common.{arith, sym, ◌∙◌, ap, inl, inr}
+use Rattle.std.proofs.Common.{arith, sym, ◌∙◌, ap}
 use Rattle.std.proofs.Math.Path.{fun_ext}
-use Rattle.std.proofs.Math.Nat.{mod-eq_of_lt, zero-div, zero-mod, mul-le-mul_right}
-use Rattle.std.proofs.lemmas.Bool.{cases_lt, leb-true, ltb-true, and_parts}
+use Rattle.std.proofs.lemmas.Bool.{leb-true, ltb-true, and_parts}
 use Rattle.std.proofs.lemmas.List.Folds.{list_all-map}
 use Rattle.ffs_volume.specs.declared.Layout.{Layout}
 use Rattle.ffs_volume.specs.declared.Class.TheVariants.{Free, Unknown}
@@ -13,8 +11,8 @@ use Rattle.ffs_volume.specs.declared.Step.{Step}
 use Rattle.ffs_volume.specs.declared.Inode.{Inode}
 use Rattle.ffs_volume.specs.Areas.{is_in_range}
 use Rattle.ffs_volume.specs.Geometry.{IsGeometry}
-use Rattle.ffs_volume.specs.Inodes.{inode_of, class_of, type_of, is_known_type, is_too_large, is_any_set, addresses_used, blocks_of, used_addresses}
-use Rattle.ffs_volume.specs.Steps.{steps_of, steps_of_addresses, walks, last_of}
+use Rattle.ffs_volume.specs.Inodes.{inode_of, class_of, type_of, is_known_type, is_too_large, is_any_set, addresses_used}
+use Rattle.ffs_volume.specs.Steps.{steps_of}
 use Rattle.ffs_volume.specs.Owners.{owner_of, owners_of}
 use Rattle.ffs_volume.specs.BlockCheck.{is_marked}
 use Rattle.ffs_volume.specs.BlocksRight.{is_whole_class, BlocksRight}

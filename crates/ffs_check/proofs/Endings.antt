@@ -1,15 +1,14 @@
 -- How what the phases answered is told, and how a run so ends.
 use Rattle.std.specs.Prelude.{IfOk}
-use Rattle.std.proofs.Common.{◌≡◌, ◌⊎◌, inl, inr, refl, ◌∙◌, sym, ap, subst, ℕ, Bool, true, false, not, ◌&&◌, ◌||◌, List, [], ◌∷◌, ◌++◌, append_assoc, append-nil, Option, Some, None, Result, Ok, Err}
+use Rattle.std.proofs.Common.{◌≡◌, inl, inr, refl, ◌∙◌, sym, ap, subst, ℕ, Bool, true, false, not, ◌&&◌, ◌||◌, List, [], ◌∷◌, ◌++◌, append-nil, Option, Some, None, Result, Ok, Err}
 use Rattle.ffs_image.specs.Device.{Device, Faulted}
 use Rattle.ffs_volume.specs.declared.End.{End}
-use Rattle.ffs_volume.specs.declared.End.TheVariants.{ReadFault, WriteFault}
+use Rattle.ffs_volume.specs.declared.End.TheVariants.{WriteFault}
 use Rattle.ffs_volume.specs.Superblock.{Superblock}
 use Rattle.ffs_volume.specs.Messages.{Message, cannot_read, minfree, mounted, optimization, has_defect, is_defect}
 use Rattle.ffs_volume.specs.Opening.{before_nul, is_minfree, is_optimization, setting_lines, super_lines, unless_message}
 use Rattle.ffs_volume.specs.Report.{end_by}
-use Rattle.ffs_volume.specs.Texts.{texts_of}
-use Rattle.ffs_report.specs.Sink.{Sink, Took, BrokeOff}
+use Rattle.ffs_report.specs.Sink.{Sink}
 use Rattle.ffs_report.specs.Progress.{Progress, Said, Stopped}
 use Rattle.ffs_report.proofs.Reports.{has_defect-append, said_then, stopped_after, stopped_more}
 use Rattle.ffs_phase.specs.Known.{Where, Tells}
@@ -18,7 +17,7 @@ use Rattle.ffs_phase.specs.declared.fault.RunFault.{RunFault}
 use Rattle.ffs_phase.specs.declared.fault.RunFault.TheVariants.{Read, Out}
 use Rattle.ffs_pathnames.specs.declared.phase.Root.{Root}
 use Rattle.ffs_pathnames.specs.GoesOn.{is_go}
-use Rattle.ffs_check.specs.Ends.{IsCut, WouldSay, SaidWhole, SaidCut, SaidPart, Ran, PrintedWhole, PrintedCut, PrintedPart, RunsThrough}
+use Rattle.ffs_check.specs.Ends.{IsCut, Ran, RunsThrough}
 use Rattle.ffs_check.specs.Told.{FaultTold, EndsAs}
 use Rattle.ffs_check.proofs.Openings.{begun, broke_off}
 

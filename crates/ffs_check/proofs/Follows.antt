@@ -1,25 +1,24 @@
 -- The headline, of a run behind an accepted superblock.
-use Rattle.std.proofs.Common.{◌≡◌, ◌⊎◌, inl, inr, refl, ◌∙◌, sym, ap, subst, ℕ, Bool, true, false, ◌||◌, List, [], ◌∷◌, ◌++◌, append_assoc, Option, Result, Ok, Err}
-use Rattle.ffs_image.specs.Device.{Device, Faulted, WhereTold}
+use Rattle.std.proofs.Common.{◌≡◌, inl, inr, refl, ◌∙◌, sym, ap, subst, ℕ, Bool, true, false, List, [], ◌∷◌, ◌++◌, Option, Ok}
+use Rattle.ffs_image.specs.Device.{Device, WhereTold}
 use Rattle.ffs_volume.specs.declared.SuperFault.{SuperFault}
 use Rattle.ffs_volume.specs.declared.End.{End}
 use Rattle.ffs_volume.specs.declared.End.TheVariants.{Consistent, Defects, Refused, RootStop, ReadFault, WriteFault, NoMemory}
 use Rattle.ffs_volume.specs.Superblock.{Superblock}
 use Rattle.ffs_volume.specs.Outcome.{outcome}
-use Rattle.ffs_volume.specs.Messages.{Message, cannot_read, cannot_alloc, has_defect}
+use Rattle.ffs_volume.specs.Messages.{Message, cannot_read, cannot_alloc}
 use Rattle.ffs_volume.specs.Opening.{opening_lines}
 use Rattle.ffs_volume.specs.PathnameCheck.{goes_on}
-use Rattle.ffs_volume.specs.Report.{text_lines, end_by, end_of, report_of, report_end}
-use Rattle.ffs_volume.specs.Texts.{texts_of}
+use Rattle.ffs_volume.specs.Report.{text_lines, end_by, report_of, report_end}
 use Rattle.ffs_volume.specs.Volumes.{volume_of}
-use Rattle.ffs_report.specs.Sink.{Sink, Took}
-use Rattle.ffs_report.specs.Progress.{Progress, Said, Stopped}
+use Rattle.ffs_report.specs.Sink.{Sink}
+use Rattle.ffs_report.specs.Progress.{Progress, Said}
 use Rattle.ffs_report.proofs.Reports.{said_then, stopped_after}
 use Rattle.ffs_layout.specs.declared.superblock.Super.{Super}
 use Rattle.ffs_layout.specs.Super.{Answers, seen}
 use Rattle.ffs_phase.specs.Known.{Tells}
 use Rattle.ffs_check.specs.Opening.{Opened}
-use Rattle.ffs_check.specs.Ends.{IsCut, SaidWhole, SaidCut, SaidPart, Ran}
+use Rattle.ffs_check.specs.Ends.{SaidWhole, SaidCut, SaidPart}
 use Rattle.ffs_check.specs.Found.{RefusalTold, Followed}
 use Rattle.ffs_check.specs.Headline.{is_completed, opened_lines, Headline}
 use Rattle.ffs_check.proofs.Openings.{begun, broke_off}

@@ -1,31 +1,27 @@
 -- The headline, of an opening and of what follows it.
-use Rattle.std.specs.Prelude.{◌↔◌}
-use Rattle.std.proofs.Common.{◌≡◌, ◌⊎◌, inl, inr, refl, ◌∙◌, sym, ap, subst, ℕ, Bool, true, false, ◌||◌, List, [], ◌∷◌, ◌++◌, append_assoc, append-nil, Option, Some, None, Result, Ok, Err}
-use Rattle.ffs_image.specs.Device.{Device, Faulted, WhereTold}
+use Rattle.std.proofs.Common.{◌≡◌, inl, inr, refl, ◌∙◌, sym, ap, subst, ℕ, Bool, true, false, List, [], ◌∷◌, ◌++◌, append_assoc, append-nil, Option, Some, None, Result, Ok, Err}
+use Rattle.ffs_image.specs.Device.{Device, WhereTold}
 use Rattle.ffs_volume.specs.declared.SuperFault.{SuperFault}
 use Rattle.ffs_volume.specs.declared.SuperFault.TheVariants.{CannotRead}
 use Rattle.ffs_volume.specs.declared.End.{End}
 use Rattle.ffs_volume.specs.declared.End.TheVariants.{Consistent, Defects, Refused, RootStop, ReadFault, WriteFault, NoMemory}
 use Rattle.ffs_volume.specs.Superblock.{Superblock}
 use Rattle.ffs_volume.specs.Outcome.{outcome}
-use Rattle.ffs_volume.specs.Consistent.{IsConsistent}
-use Rattle.ffs_volume.specs.Messages.{Message, cannot_read, cannot_alloc, has_defect}
-use Rattle.ffs_volume.specs.Opening.{head_lines, super_lines, found_lines, fault_line, opening_lines}
+use Rattle.ffs_volume.specs.Messages.{Message, cannot_read, has_defect}
+use Rattle.ffs_volume.specs.Opening.{head_lines, super_lines, fault_line, opening_lines}
 use Rattle.ffs_volume.specs.PathnameCheck.{goes_on}
 use Rattle.ffs_volume.specs.Report.{text_lines, report_lines, end_by, end_of, told_of, ends_of, report_of, report_end}
 use Rattle.ffs_volume.specs.Texts.{texts_of}
 use Rattle.ffs_volume.specs.Volumes.{volume_of}
-use Rattle.ffs_report.specs.Sink.{Sink, Took, BrokeOff}
+use Rattle.ffs_report.specs.Sink.{Sink, Took}
 use Rattle.ffs_report.specs.Progress.{Progress, Said, Stopped}
-use Rattle.ffs_report.proofs.Reports.{has_defect-append, said_then, stopped_after, stopped_more}
-use Rattle.ffs_layout.specs.declared.superblock.Super.{Super}
-use Rattle.ffs_layout.specs.Super.{Answers, seen}
-use Rattle.ffs_phase.specs.Known.{Where, Tells}
+use Rattle.ffs_report.proofs.Reports.{stopped_more}
+use Rattle.ffs_layout.specs.Super.{Answers}
 use Rattle.ffs_certificate.proofs.ReportLaws.{certified}
-use Rattle.ffs_check.specs.Opening.{Opened, OpeningSays}
+use Rattle.ffs_check.specs.Opening.{Opened}
 use Rattle.ffs_check.specs.Headline.{is_completed, Certifies, opened_lines, Headline}
 use Rattle.ffs_check.proofs.Openings.{begun, broke_off}
-use Rattle.ffs_check.proofs.Endings.{at_told, at_told_is, faulted_there, cut_there}
+use Rattle.ffs_check.proofs.Endings.{at_told, at_told_is}
 
 -- ---- the report, in its parts
 no_defect_head : (name : List ℕ) (sector : Option ℕ) (xs : List Message) → has_defect (head_lines name sector ++ xs) ≡ has_defect xs

@@ -1,8 +1,7 @@
 -- How the phases of a run join: a part of the text, and then the rest of it.
-use Rattle.std.specs.Prelude.{OnOk, IfOk, slice_index}
-use Rattle.std.proofs.Common.{◌≡◌, refl, ◌∙◌, sym, ap, ℕ, List, [], ◌++◌, Result, Ok, Err}
+use Rattle.std.specs.Prelude.{OnOk, IfOk}
+use Rattle.std.proofs.Common.{◌≡◌, refl, ℕ, List, [], ◌++◌, Result, Ok, Err}
 use Rattle.ffs_image.specs.Device.{Device}
-use Rattle.ffs_volume.specs.declared.Layout.{Layout}
 use Rattle.ffs_volume.specs.Superblock.{Superblock}
 use Rattle.ffs_volume.specs.Messages.{Message}
 use Rattle.ffs_volume.specs.Report.{text_lines, later_lines}
@@ -12,10 +11,6 @@ use Rattle.ffs_phase.specs.Runs.{Reads, SaidOf, TellsOf}
 use Rattle.ffs_phase.specs.declared.fault.RunFault.{RunFault}
 use Rattle.ffs_phase.specs.declared.fault.RunFault.TheVariants.{Read, Out}
 use Rattle.ffs_phase.proofs.Telling.{of_begins, of_same, of_part, of_fault, of_last, said_knows, tells_knows}
-use Rattle.ffs_maps.specs.Bits.{bits_of}
-use Rattle.ffs_workspace.specs.declared.workspace.Workspace.{Workspace}
-use Rattle.ffs_workspace.specs.Holds.{HoldsClaims, HoldsSurvey, bool_at}
-use Rattle.ffs_workspace.specs.Leaves.{LeavesSurvey}
 use Rattle.ffs_check.specs.Rest.{first_part, scanned_lines}
 
 -- the first part ended in a fault

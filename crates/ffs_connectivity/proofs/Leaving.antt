@@ -1,6 +1,5 @@
 -- What is left of the leaders, and the lines that are to come.
-use Rattle.std.proofs.Common.{◌≡◌, ℕ, ◌-◌, List, map, refl, ap, ◌∙◌, sym, length, slice_index}
-use Rattle.ffs_maps.specs.Bits.{bits_of}
+use Rattle.std.proofs.Common.{◌≡◌, ℕ, ◌-◌, List, map, refl, ap, ◌∙◌, sym, length}
 use Rattle.ffs_volume.specs.declared.Layout.{Layout}
 use Rattle.ffs_volume.specs.Climb.{leads_cycle}
 use Rattle.ffs_volume.specs.Connectivity.{connectivity_lines}
@@ -8,7 +7,7 @@ use Rattle.ffs_volume.specs.Messages.{of_names, lines_below, lines_from}
 use Rattle.ffs_volume.specs.Volumes.{volume_of}
 use Rattle.ffs_survey.specs.Cycles.{up_of}
 use Rattle.ffs_workspace.specs.declared.workspace.Workspace.{Workspace}
-use Rattle.ffs_workspace.specs.Holds.{bool_at, HoldsClaims, HoldsSurvey}
+use Rattle.ffs_workspace.specs.Holds.{bool_at}
 use Rattle.ffs_workspace.specs.Lengths.{inodes_of}
 use Rattle.ffs_workspace.specs.Leaves.{LeavesSurvey}
 use Rattle.ffs_connectivity.specs.Leaders.{HasLeaders}

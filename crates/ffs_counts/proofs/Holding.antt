@@ -1,15 +1,13 @@
 -- What a workspace holds where only its windows have changed, and what is told of an inode by it.
-use Rattle.std.proofs.Common.{◌≡◌, ℕ, ◌<◌, Bool, true, false, List, [], map, refl, ap, ◌∙◌, sym, subst, slice_index, arith}
+use Rattle.std.proofs.Common.{◌≡◌, ℕ, ◌<◌, Bool, true, false, List, [], map, refl, ap, ◌∙◌, sym, slice_index, arith}
 use Rattle.std.specs.Prelude.{◌&&◌, ◌||◌, ◌==◌, not, if◌then◌else◌}
 use Rattle.ffs_volume.specs.declared.Layout.{Layout}
 use Rattle.std.proofs.Common.{ℤ, ◌-◌}
 use Rattle.ffs_volume.specs.declared.Attr.{Attr}
 use Rattle.ffs_volume.specs.declared.Inode.{Inode}
 use Rattle.ffs_volume.specs.Messages.{NameMessage, of_names, lines_from}
-use Rattle.ffs_volume.specs.Graph.{named}
-use Rattle.ffs_volume.specs.Parents.{graph_of}
 use Rattle.ffs_volume.specs.Inodes.{inode_of}
-use Rattle.ffs_volume.specs.Roles.{references, is_some_inode, is_suspect}
+use Rattle.ffs_volume.specs.Roles.{is_some_inode, is_suspect}
 use Rattle.ffs_volume.specs.PathnameCheck.{label_of, attributes}
 use Rattle.ffs_volume.specs.Volumes.{class_at, marked_at, volume_of, volume_with}
 use Rattle.ffs_volume.specs.ReferenceCheck.{inode_lines, counted_lines, reference_lines}

@@ -1,8 +1,5 @@
 -- A survey fills a workspace.
-use Rattle.std.proofs.Math.Nat.{mod-eq_of_lt, mul-le-mul_right}
-use Rattle.std.proofs.lemmas.Bool.{cases_lt}
-use Rattle.ffs_volume.specs.Geometry.{IsGeometry}
-use Rattle.std.proofs.Common.{inl, inr, arith, ◌≤◌, ◌≡◌, ℕ, ◌*◌, ◌<◌, Bool, true, List, [], Result, Ok, Err, Option, refl, sym, ap, ◌∙◌}
+use Rattle.std.proofs.Common.{◌≡◌, ℕ, Bool, true, List, [], Result, Ok, Err, Option, refl, sym, ap, ◌∙◌}
 use Rattle.std.specs.Prelude.{OnOk, if◌then◌else◌, slice_index, length}
 use Rattle.ffs_volume.specs.declared.Layout.{Layout}
 use Rattle.ffs_volume.specs.Roles.{seen_in}

@@ -1,8 +1,8 @@
 -- A directory that is begun, and how its lines go on.
-use Rattle.std.proofs.Common.{◌≡◌, ◌≤◌, ◌<◌, suc, Result, Ok, refl, sym, ap, subst, ◌∙◌, ℕ, Bool, true, false, ◌==◌, ◌&&◌, List, [], ◌++◌, map, Option, Err, arith, nat_le, nat_lt, append-nil}
+use Rattle.std.proofs.Common.{◌≡◌, ◌≤◌, suc, Result, Ok, refl, sym, ap, subst, ◌∙◌, ℕ, Bool, true, List, [], ◌++◌, map, Option, Err, nat_le, nat_lt, append-nil}
 use Rattle.std.specs.Prelude.{option_and_then, OnOk}
 use Rattle.std.proofs.lemmas.List.{map-append}
-use Rattle.std.proofs.lemmas.Bool.{and_parts, ltb-true, ne_eqb}
+use Rattle.std.proofs.lemmas.Bool.{and_parts, ltb-true}
 use Rattle.ffs_volume.specs.declared.Layout.{Layout}
 use Rattle.ffs_volume.specs.Directory.{Entry}
 use Rattle.ffs_volume.specs.Graph.{parent}
@@ -22,13 +22,12 @@ use Rattle.ffs_workspace.specs.declared.workspace.Workspace.{Workspace}
 use Rattle.ffs_pathnames.specs.declared.examine.Examined.{Examined}
 use Rattle.ffs_pathnames.specs.Begins.{dir_starts, started_entry, IsBegun}
 use Rattle.ffs_pathnames.specs.Examines.{AreFound, LeavesQueue, LeavesMarks}
-use Rattle.ffs_pathnames.specs.Gathers.{marks_of}
-use Rattle.ffs_pathnames.specs.Marks.{Marks, are_quiet, belongs, entries_told, after_entries}
+use Rattle.ffs_pathnames.specs.Marks.{Marks, are_quiet, entries_told, after_entries}
 use Rattle.ffs_pathnames.specs.MarksRight.{AreRightBefore}
 use Rattle.ffs_pathnames.specs.Starts.{starts_told}
 use Rattle.ffs_pathnames.proofs.Places.{size_of}
-use Rattle.ffs_pathnames.proofs.MarkLaws.{IsDirectory, and_false, right_told}
-use Rattle.ffs_pathnames.proofs.LookLaws.{AreStamped, quiet_silent}
+use Rattle.ffs_pathnames.proofs.MarkLaws.{IsDirectory, right_told}
+use Rattle.ffs_pathnames.proofs.LookLaws.{quiet_silent}
 use Rattle.ffs_pathnames.proofs.BetweenLaws.{unstamped, looked, looked_right, quiet_next, told_next}
 use Rattle.ffs_pathnames.proofs.StartLaws.{dir_parts}
 

@@ -1,16 +1,15 @@
 -- The marks from one directory to the next.
-use Rattle.std.specs.Prelude.{◌≡◌, ◌≢◌, ℕ, zero, suc, ◌+◌, ◌<◌, ◌≤◌, ◌==◌, Bool, true, false, not, ◌&&◌, ◌||◌, if◌then◌else◌, cond, refl, List, [], ◌∷◌, ◌++◌, length, slice_index, slice_set, Option, None, Some, ◌⊎◌, nat_lt}
-use Rattle.std.specs.List.{list_any, slice_index_or}
+use Rattle.std.specs.Prelude.{◌≡◌, ◌≢◌, ℕ, zero, suc, ◌<◌, ◌≤◌, ◌==◌, Bool, true, false, not, ◌&&◌, ◌||◌, if◌then◌else◌, refl, List, [], ◌∷◌, ◌++◌, length, slice_index, slice_set, Option, None, Some, nat_lt}
+use Rattle.std.specs.List.{list_any}
 use Rattle.std.proofs.Common.{arith, sym, ◌∙◌, ap, subst, inl, inr, append_assoc, append-nil}
 use Rattle.std.proofs.lemmas.List.{get_or-set_other, get_or-set_same, set_past}
-use Rattle.std.proofs.Math.ListN.{length-set}
-use Rattle.std.proofs.lemmas.Bool.{cases_eq, cases_lt, cases_Bool, both_ways, ne_eqb, eq-eqb, and_parts, and_from, cond-false}
-use Rattle.ffs_volume.specs.Roles.{Volume, Seen, is_dir, is_suspect, is_plain, seen_in}
-use Rattle.ffs_volume.specs.Search.{some_below, some_below-suc, first_below, first_below-some, IsFirst}
+use Rattle.std.proofs.lemmas.Bool.{cases_eq, cases_lt, ne_eqb, eq-eqb, and_parts, cond-false}
+use Rattle.ffs_volume.specs.Roles.{Volume, Seen, is_dir, is_plain, seen_in}
+use Rattle.ffs_volume.specs.Search.{some_below, some_below-suc, first_below-some}
 use Rattle.ffs_volume.specs.Climb.{is_value, is_value-true}
 use Rattle.ffs_volume.specs.Graph.{Graph, names, names_in, edge, level, level_edge, parent, parent_by}
 use Rattle.ffs_volume.specs.Parents.{graph_of}
-use Rattle.ffs_pathnames.specs.Marks.{Marks, is_passed, is_due, after_seen, after_name, after_entries, belongs, after_look, after_looks, are_quiet}
+use Rattle.ffs_pathnames.specs.Marks.{Marks, after_seen, after_name, after_entries, belongs, after_look, after_looks, are_quiet}
 use Rattle.ffs_pathnames.specs.MarksRight.{AreRight, AreRightBefore}
 use Rattle.ffs_pathnames.proofs.MarkLaws.{IsDirectory, or_false, and_false, right_after}
 use Rattle.ffs_pathnames.proofs.LookLaws.{AreStamped, stamped_all, looks_all_long, suspects_unnamed}

@@ -1,5 +1,5 @@
 -- The chunks of a directory that are read are the volume's.
-use Rattle.std.proofs.Common.{◌≡◌, ◌<◌, ◌^◌, refl, sym, ap, ◌∙◌, ℕ, Bool, true, false, List}
+use Rattle.std.proofs.Common.{◌≡◌, ap, ◌∙◌, ℕ, true, List}
 use Rattle.std.specs.List.{flat_map}
 use Rattle.ffs_volume.specs.declared.Layout.{Layout}
 use Rattle.ffs_volume.specs.declared.Inode.{Inode}
@@ -8,10 +8,10 @@ use Rattle.ffs_volume.specs.Areas.{is_in_range}
 use Rattle.ffs_volume.specs.Inodes.{inode_of}
 use Rattle.ffs_volume.specs.Steps.{steps_of}
 use Rattle.ffs_volume.specs.Directory.{Chunk, chunks_of, has_gap, size_taken}
-use Rattle.ffs_volume.specs.Roles.{is_dir, chunk_seen, seen_in}
+use Rattle.ffs_volume.specs.Roles.{chunk_seen, seen_in}
 use Rattle.ffs_volume.specs.Replay.{cut_at, fresh_replay, replayed_steps}
 use Rattle.ffs_volume.specs.CutLaws.{replay_at}
-use Rattle.ffs_volume.specs.Volumes.{is_number, volume_of, volume_with, reading_of, kept_at_number}
+use Rattle.ffs_volume.specs.Volumes.{is_number, volume_of, volume_with, reading_of}
 use Rattle.ffs_names.specs.Hands.{reading_by}
 use Rattle.ffs_pathnames.specs.Reads.{chunks_read}
 

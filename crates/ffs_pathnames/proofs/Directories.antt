@@ -1,14 +1,11 @@
 -- A look at the chunks of a directory, one after another.
-use Rattle.std.proofs.Common.{◌≡◌, refl, sym, ap, ◌∙◌, ℕ, Bool, true, false, ◌&&◌, List, [], ◌∷◌, ◌++◌, Option}
+use Rattle.std.proofs.Common.{◌≡◌, refl, sym, ap, ◌∙◌, ℕ, Bool, true, false, ◌&&◌, List, [], ◌∷◌, ◌++◌}
 use Rattle.std.proofs.Math.Bool.{and-true}
-use Rattle.std.specs.Prelude.{◌==◌}
-use Rattle.std.specs.List.{flat_map, find}
-use Rattle.ffs_volume.specs.declared.Order.{Order}
-use Rattle.ffs_volume.specs.Directory.{Chunk, chunk_of, entries_of, is_sound}
-use Rattle.ffs_volume.specs.Roles.{Volume, Seen, chunk_seen, seen_from}
+use Rattle.std.specs.List.{flat_map}
+use Rattle.ffs_volume.specs.Directory.{Chunk}
+use Rattle.ffs_volume.specs.Roles.{Volume, Seen, chunk_seen}
 use Rattle.ffs_volume.specs.PathnameCheck.{are_sound}
 use Rattle.ffs_pathnames.specs.Marks.{is_quiet, are_quiet, after_look, after_looks}
-use Rattle.ffs_pathnames.specs.Reads.{start_of}
 
 and_assoc : (a b c : Bool) → ((a && b) && c) ≡ (a && (b && c))
 and_assoc true b c = refl

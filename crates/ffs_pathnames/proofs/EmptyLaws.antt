@@ -1,17 +1,12 @@
 -- What isn't looked at: inodes that are no directories, and directories of size 0, which have no entries.
-use Rattle.std.proofs.Common.{◌≡◌, ◌<◌, ◌+◌, ◌%◌, ◌==◌, refl, ap, ◌∙◌, ℕ, Bool, true, false, not, ◌&&◌, if◌then◌else◌, List, [], arith}
-use Rattle.std.specs.Prelude.{min}
-use Rattle.std.specs.Int.{div_ceil}
+use Rattle.std.proofs.Common.{◌≡◌, ◌<◌, ◌==◌, refl, ap, ◌∙◌, ℕ, Bool, true, false, not, ◌&&◌, if◌then◌else◌, List, [], arith}
 use Rattle.std.specs.List.{flat_map, list_any}
-use Rattle.std.proofs.Math.Nat.{zero-div, zero-mod}
 use Rattle.std.proofs.lemmas.Bool.{eqb-true}
 use Rattle.std.proofs.lemmas.Bool.Decides.{nat_tests}
 use Rattle.ffs_volume.specs.declared.Layout.{Layout}
-use Rattle.ffs_volume.specs.declared.Inode.{Inode}
 use Rattle.ffs_volume.specs.Areas.{is_in_range}
 use Rattle.ffs_volume.specs.Geometry.{IsGeometry}
-use Rattle.ffs_volume.specs.Inodes.{inode_of, blocks_of, used_addresses}
-use Rattle.ffs_volume.specs.Steps.{steps_of, steps_of_addresses, walks, last_of}
+use Rattle.ffs_volume.specs.Inodes.{inode_of}
 use Rattle.ffs_volume.specs.Claims.{next_inode}
 use Rattle.ffs_volume.specs.KeptSteps.{kept_steps, kept_steps_of, claims_before}
 use Rattle.ffs_volume.specs.Directory.{chunks_of}

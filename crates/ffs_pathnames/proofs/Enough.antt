@@ -1,5 +1,5 @@
 -- What is gathered for the messages on an entry is enough.
-use Rattle.std.proofs.Common.{◌≡◌, refl, sym, ap, ◌∙◌, ℕ, Bool, true, false, ◌++◌, List}
+use Rattle.std.proofs.Common.{◌≡◌, refl, ap, ◌∙◌, ℕ, Bool, true, false, ◌++◌, List}
 use Rattle.ffs_volume.specs.declared.Attr.{Attr}
 use Rattle.ffs_volume.specs.Roles.{Volume}
 use Rattle.ffs_volume.specs.Parents.{graph_of}
@@ -10,7 +10,7 @@ use Rattle.ffs_pathnames.specs.declared.judge.Faults.{Faults}
 use Rattle.ffs_pathnames.specs.declared.judge.Verdict.{Verdict}
 use Rattle.ffs_pathnames.specs.declared.judge.Verdict.TheVariants.{OutOfRange, Whiteout, Fine, Unallocated, Named}
 use Rattle.ffs_pathnames.specs.Gathers.{IsEnough, asks_attr, asks_path}
-use Rattle.ffs_pathnames.specs.Verdicts.{verdict_told, faults_told, links_told, suspect_message}
+use Rattle.ffs_pathnames.specs.Verdicts.{verdict_told, faults_told, suspect_message}
 
 faults_same : (n : Faults) (about : Attr) (path directory right : List ℕ) → (n.extraneous ≡ true → directory ≡ right) → faults_told n about path directory ≡ faults_told n about path right
 faults_same n about path directory right h = ap (λ l. told n.suspect (suspect_message n about path) ++ (l ++ told n.kind (kind_entry about n.label path))) (one n.extraneous h)

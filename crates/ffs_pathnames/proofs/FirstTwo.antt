@@ -1,6 +1,6 @@
 -- The first two entries of a directory, and its parent, as they are found.
-use Rattle.std.proofs.Common.{◌≡◌, ◌≢◌, refl, sym, ap, ◌∙◌, ℕ, zero, suc, ◌+◌, ◌==◌, Bool, true, false, ◌&&◌, List, [], ◌∷◌, Option, None, Some}
-use Rattle.std.specs.Prelude.{cond, if◌then◌else◌, ◌⊎◌}
+use Rattle.std.proofs.Common.{◌≡◌, ◌≢◌, refl, sym, ap, ◌∙◌, ℕ, zero, suc, ◌+◌, ◌==◌, Bool, true, false, List, ◌∷◌, Option, None, Some}
+use Rattle.std.specs.Prelude.{if◌then◌else◌}
 use Rattle.std.specs.Option.{unwrap_or}
 use Rattle.std.proofs.Common.{inl, inr, arith}
 use Rattle.std.proofs.lemmas.Bool.{cases_eq, ne_eqb, eq-eqb, and_parts, both_ways, cond-false, cond-true}
@@ -10,7 +10,7 @@ use Rattle.ffs_volume.specs.Directory.{Entry, entry_at, entries_of, entries_from
 use Rattle.ffs_volume.specs.Graph.{Graph, names_in, edge, level, level_edge, parent, parent_by}
 use Rattle.ffs_volume.specs.Parents.{graph_of}
 use Rattle.ffs_volume.specs.Roles.{Volume, entry_number}
-use Rattle.ffs_volume.specs.Search.{first_below, first_below-some}
+use Rattle.ffs_volume.specs.Search.{first_below-some}
 use Rattle.ffs_volume.proofs.Reading.{entries_next, entries_end}
 use Rattle.ffs_pathnames.specs.Begins.{number_if, started_entry}
 

@@ -1,5 +1,5 @@
 -- Nothing is told of a directory that is in order.
-use Rattle.std.proofs.Common.{◌≡◌, refl, sym, ap, ◌∙◌, ℕ, ◌==◌, ◌%◌, Bool, true, false, not, ◌&&◌, List, [], ◌++◌, Option, None, Some, nat_lt}
+use Rattle.std.proofs.Common.{◌≡◌, refl, ap, ◌∙◌, ℕ, ◌==◌, ◌%◌, Bool, true, false, not, ◌&&◌, List, [], ◌++◌, Option, None, Some, nat_lt}
 use Rattle.std.specs.Prelude.{cond}
 use Rattle.std.proofs.lemmas.Bool.{and_parts}
 use Rattle.ffs_pathnames.proofs.MarkLaws.{and_false}
@@ -8,7 +8,7 @@ use Rattle.ffs_volume.specs.Directory.{Entry, is_live}
 use Rattle.ffs_volume.specs.Roles.{is_one_dot, is_two_dots}
 use Rattle.ffs_volume.specs.Messages.{NameMessage, told}
 use Rattle.ffs_volume.specs.PathnameCheck.{is_other}
-use Rattle.ffs_pathnames.specs.Starts.{size_told, chunks_told, shape_told, dot_in, dotdot_in, there_told, above_told, dot_said, dotdot_said, dots_told, starts_told}
+use Rattle.ffs_pathnames.specs.Starts.{dot_in, dotdot_in, dot_said, dotdot_said, starts_told}
 
 silent : (b : Bool) (m : NameMessage) → b ≡ false → told b m ≡ []
 silent b m e = ap (λ t. told t m) e

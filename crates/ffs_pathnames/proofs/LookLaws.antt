@@ -1,26 +1,23 @@
 -- What a first look at the entries of a directory finds.
-use Rattle.std.specs.Prelude.{◌≡◌, ◌≢◌, ℕ, zero, suc, ◌+◌, ◌<◌, ◌≤◌, ◌==◌, Bool, true, false, not, ◌&&◌, ◌||◌, nat_lt, nat_le, if◌then◌else◌, cond, refl, List, [], ◌∷◌, ◌++◌, length, slice_index, slice_set, Option, None, Some, ◌⊎◌}
-use Rattle.std.specs.List.{list_any, slice_index_or}
-use Rattle.std.proofs.Common.{arith, sym, ◌∙◌, ap, subst, inl, inr, append_assoc, append-nil}
+use Rattle.std.specs.Prelude.{◌≡◌, ◌≢◌, ℕ, suc, ◌<◌, ◌==◌, Bool, true, false, not, ◌&&◌, ◌||◌, nat_lt, if◌then◌else◌, refl, List, [], ◌∷◌, ◌++◌, length, slice_index, slice_set, ◌⊎◌}
+use Rattle.std.specs.List.{list_any}
+use Rattle.std.proofs.Common.{sym, ◌∙◌, ap, subst, inl, inr, append_assoc, append-nil}
 use Rattle.std.proofs.lemmas.List.{get_or-set_other, get_or-set_same}
 use Rattle.std.proofs.Math.ListN.{length-set}
-use Rattle.std.proofs.lemmas.List.Folds.{list_any-append}
-use Rattle.std.proofs.lemmas.Bool.{cases_eq, cases_lt, cases_Bool, both_ways, ne_eqb, eqb-true, eq-eqb, and_parts, and_from, ltb-true, lt-ltb, not-true, not_from_true}
+use Rattle.std.proofs.lemmas.Bool.{cases_eq, both_ways, ne_eqb, eqb-true, eq-eqb, and_parts, and_from, ltb-true, lt-ltb, not-true}
 use Rattle.ffs_volume.specs.declared.Role.{Role}
 use Rattle.ffs_volume.specs.declared.Role.TheVariants.{Empty, Dot, Dotdot, Extra, Plain}
 use Rattle.ffs_volume.specs.Directory.{Entry}
 use Rattle.ffs_volume.specs.Roles.{Volume, Seen, is_dir, is_allocated, is_suspect, is_plain, seen_in}
-use Rattle.ffs_volume.specs.Search.{some_below, some_below-suc, first_below, first_below-some, IsFirst}
-use Rattle.ffs_volume.specs.Climb.{is_value, is_value-true, is_value-from}
-use Rattle.ffs_volume.specs.Graph.{Graph, names, names_in, edge, level, level_edge, parent, parent_by}
+use Rattle.ffs_volume.specs.Climb.{is_value}
+use Rattle.ffs_volume.specs.Graph.{names, parent}
 use Rattle.ffs_volume.specs.Parents.{graph_of, is_from_parent, is_first_name}
 use Rattle.ffs_volume.specs.Paths.{dir_path, entry_path}
 use Rattle.ffs_volume.specs.Messages.{NameMessage, told, out_of_range, whiteout, unallocated, extraneous, kind_entry}
 use Rattle.ffs_volume.specs.PathnameCheck.{attributes, label_of, is_bad_whiteout, suspect_told, is_other_kind, tells_suspect, is_extraneous, named_lines, plain_lines, seen_lines, entry_lines, seen_told as lines_by_role}
-use Rattle.ffs_pathnames.specs.Marks.{Marks, is_passed, is_due, after_seen, after_name, after_entries, belongs, after_look, after_looks, is_plain_quiet, is_role_quiet, is_quiet, are_quiet}
-use Rattle.ffs_pathnames.specs.MarksRight.{AreRight, AreRightBefore}
+use Rattle.ffs_pathnames.specs.Marks.{belongs, after_look, after_looks, is_plain_quiet, is_role_quiet, is_quiet, are_quiet}
 use Rattle.ffs_pathnames.proofs.Places.{size_of, size_more}
-use Rattle.ffs_pathnames.proofs.MarkLaws.{IsEntry, IsDirectory, from_parent_is, any_more, or_true, or_false, and_false, other_number, plain_role, right_after}
+use Rattle.ffs_pathnames.proofs.MarkLaws.{IsEntry, IsDirectory, from_parent_is, any_more, or_true, or_false, other_number}
 
 -- the inodes that belong to s and are named by the entries of `done` are stamped
 abbrev pub AreStamped : Volume → ℕ → List Seen → List ℕ → Type 0

@@ -1,23 +1,22 @@
 -- What the marks tell is what the pathname check tells.
-use Rattle.std.specs.Prelude.{◌≡◌, ◌≢◌, ℕ, zero, suc, ◌+◌, ◌<◌, ◌≤◌, ◌==◌, Bool, true, false, not, ◌&&◌, ◌||◌, nat_lt, nat_le, if◌then◌else◌, cond, refl, List, [], ◌∷◌, ◌++◌, length, slice_index, slice_set, Option, None, Some, ◌⊎◌}
+use Rattle.std.specs.Prelude.{◌≡◌, ◌≢◌, ℕ, suc, ◌<◌, ◌≤◌, ◌==◌, Bool, true, false, not, ◌&&◌, ◌||◌, nat_lt, if◌then◌else◌, refl, List, [], ◌∷◌, ◌++◌, length, slice_index, slice_set, Option, None, Some, ◌⊎◌}
 use Rattle.std.specs.List.{list_any, slice_index_or}
 use Rattle.std.proofs.Common.{arith, sym, ◌∙◌, ap, subst, inl, inr, append_assoc}
 use Rattle.std.proofs.lemmas.List.{get_or-set_other, get_or-set_same}
 use Rattle.std.proofs.Math.ListN.{length-set}
 use Rattle.std.proofs.lemmas.List.Folds.{list_any-append}
-use Rattle.std.proofs.lemmas.Bool.{cases_eq, cases_lt, cases_Bool, both_ways, ne_eqb, eqb-true, eq-eqb, and_parts, and_from, leb-true, ltb-true, lt-ltb, cond-true, cond-false}
+use Rattle.std.proofs.lemmas.Bool.{cases_eq, ne_eqb, eq-eqb, and_parts, and_from, ltb-true, lt-ltb}
 use Rattle.ffs_volume.specs.declared.Role.{Role}
 use Rattle.ffs_volume.specs.declared.Role.TheVariants.{Empty, Dot, Dotdot, Extra, Plain}
-use Rattle.ffs_volume.specs.Directory.{Entry}
-use Rattle.ffs_volume.specs.Roles.{Volume, Seen, is_dir, is_inode, is_directory, is_allocated, is_suspect, is_plain, seen_in}
-use Rattle.ffs_volume.specs.Search.{some_below, first_below, first_below-is, some_below-gives, some_below-false, first_below-some, IsFirst}
+use Rattle.ffs_volume.specs.Roles.{Volume, Seen, is_dir, is_allocated, is_suspect, is_plain, seen_in}
+use Rattle.ffs_volume.specs.Search.{some_below, first_below, first_below-is, some_below-false, first_below-some}
 use Rattle.ffs_volume.specs.Climb.{is_value, is_value-true, is_value-from}
-use Rattle.ffs_volume.specs.Graph.{names, names_in, parent, parent_entry, entry_place, first_place}
+use Rattle.ffs_volume.specs.Graph.{names, names_in, parent, entry_place, first_place}
 use Rattle.ffs_volume.specs.Parents.{graph_of, first_namer, is_first_name, is_from_parent}
 use Rattle.ffs_volume.specs.Paths.{dir_path, entry_path}
-use Rattle.ffs_volume.specs.Messages.{NameMessage, told, out_of_range, whiteout, unallocated, extraneous, kind_entry}
-use Rattle.ffs_volume.specs.PathnameCheck.{attributes, label_of, is_bad_whiteout, suspect_told, is_other_kind, extra_told, seen_told as lines_by_role, tells_suspect, is_extraneous, named_lines, plain_lines, seen_lines, entry_lines}
-use Rattle.ffs_pathnames.specs.Marks.{Marks, is_passed, is_due, after_name, after_seen, named_told, plain_told, role_told, seen_told, after_entries, entries_told, belongs}
+use Rattle.ffs_volume.specs.Messages.{told, out_of_range, whiteout, unallocated, extraneous, kind_entry}
+use Rattle.ffs_volume.specs.PathnameCheck.{attributes, label_of, is_bad_whiteout, suspect_told, is_other_kind, seen_told as lines_by_role, tells_suspect, is_extraneous, named_lines, plain_lines, seen_lines, entry_lines}
+use Rattle.ffs_pathnames.specs.Marks.{Marks, is_passed, is_due, after_name, after_seen, named_told, plain_told, role_told, seen_told, entries_told, belongs}
 use Rattle.ffs_pathnames.specs.MarksRight.{AreRight}
 use Rattle.ffs_pathnames.proofs.Places.{size_of, size_more, first_here}
 

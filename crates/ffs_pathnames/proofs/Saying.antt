@@ -1,9 +1,9 @@
 -- Messages on directories, said one after another.
-use Rattle.std.proofs.Common.{◌≡◌, sym, subst, List, ◌++◌, map, Result, Ok, Err, IsErr}
+use Rattle.std.proofs.Common.{sym, subst, List, ◌++◌, map, Result, Ok, Err, IsErr}
 use Rattle.std.proofs.lemmas.List.{map-append}
 use Rattle.ffs_volume.specs.Messages.{NameMessage, of_names}
 use Rattle.ffs_report.specs.Progress.{Progress, Said, Stopped, Says}
-use Rattle.ffs_report.proofs.Reports.{said_then, stopped_more, says_then}
+use Rattle.ffs_report.proofs.Reports.{stopped_more, says_then}
 use Rattle.ffs_pathnames.specs.SaysNames.{SaysNames}
 
 pub names_then : {T E : Type 0} (a b c : Progress) (xs ys : List NameMessage) (r : Result T E) → Said a b (map of_names xs) → SaysNames b c ys r → SaysNames a c (xs ++ ys) r

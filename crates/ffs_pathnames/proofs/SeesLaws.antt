@@ -1,17 +1,17 @@
 -- What a workspace shows after the block check and the survey is the volume's.
-use Rattle.std.proofs.Common.{◌≡◌, ◌≤◌, refl, sym, ap, ◌∙◌, ℕ, Bool, true, false, ◌||◌, ◌==◌, List, length, Option, Some, None, inl, inr, ◌≢◌, arith}
+use Rattle.std.proofs.Common.{◌≡◌, ◌≤◌, refl, sym, ap, ◌∙◌, ℕ, true, false, ◌||◌, ◌==◌, List, length, Option, Some, None, arith}
 use Rattle.std.specs.Prelude.{slice_index}
 use Rattle.std.specs.Option.{unwrap_or}
-use Rattle.std.proofs.lemmas.Bool.{cases_eq, ne_eqb}
+use Rattle.std.proofs.lemmas.Bool.{ne_eqb}
 use Rattle.ffs_volume.specs.declared.Layout.{Layout}
 use Rattle.ffs_volume.specs.declared.Class.{Class}
 use Rattle.ffs_volume.specs.declared.Class.TheVariants.{Free, Partial, Unknown, File, Dir}
-use Rattle.ffs_volume.specs.Inodes.{inode_of, is_settled, type_of}
-use Rattle.ffs_volume.specs.Roles.{Volume, is_dir, is_allocated, is_unknown, is_suspect}
+use Rattle.ffs_volume.specs.Inodes.{is_settled}
+use Rattle.ffs_volume.specs.Roles.{is_allocated, is_unknown}
 use Rattle.ffs_volume.specs.Climb.{is_value}
 use Rattle.ffs_volume.specs.Graph.{parent}
 use Rattle.ffs_volume.specs.Parents.{graph_of}
-use Rattle.ffs_volume.specs.Volumes.{class_at, marked_at, volume_of, volume_with}
+use Rattle.ffs_volume.specs.Volumes.{class_at, volume_of, volume_with}
 use Rattle.ffs_workspace.specs.declared.workspace.Workspace.{Workspace}
 use Rattle.ffs_volume.specs.Kinds.{kind_at, is_dir_kind, is_empty_dir_kind, is_allocated_kind, is_unknown_kind, type_of_kind, class_of_kind}
 use Rattle.ffs_workspace.specs.Lengths.{inodes_of}

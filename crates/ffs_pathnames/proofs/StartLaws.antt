@@ -1,13 +1,13 @@
 -- What is told of a directory, in the parts in which it is said.
-use Rattle.std.proofs.Common.{◌≡◌, refl, sym, ap, ◌∙◌, ℕ, List, [], ◌++◌, append_assoc, Option, None, Some, Bool, true, false}
-use Rattle.ffs_volume.specs.Directory.{Entry, is_live}
-use Rattle.ffs_volume.specs.Roles.{Volume, entry_if, is_one_dot, is_two_dots, start_entry, dot, dotdot, seen_in}
+use Rattle.std.proofs.Common.{◌≡◌, refl, sym, ap, ◌∙◌, ℕ, ◌++◌, append_assoc, Option, None, Some}
+use Rattle.ffs_volume.specs.Directory.{Entry}
+use Rattle.ffs_volume.specs.Roles.{Volume, start_entry, dot, dotdot, seen_in}
 use Rattle.ffs_volume.specs.Graph.{parent}
 use Rattle.ffs_volume.specs.Parents.{graph_of}
 use Rattle.ffs_volume.specs.Paths.{dir_path}
-use Rattle.ffs_volume.specs.Messages.{NameMessage, told, dir_short, dir_length}
+use Rattle.ffs_volume.specs.Messages.{told, dir_short, dir_length}
 use Rattle.ffs_volume.specs.PathnameCheck.{attributes, is_short, is_broken, are_sound, shape_lines, dot_lines, dotdot_lines, dot_told, dotdot_told, entry_lines, dir_lines}
-use Rattle.ffs_pathnames.specs.Starts.{size_told, chunks_told, shape_told, dot_in, dotdot_in, dot_said, dotdot_said, dots_told, starts_told}
+use Rattle.ffs_pathnames.specs.Starts.{chunks_told, shape_told, dot_in, dotdot_in, dot_said, dotdot_said, dots_told, starts_told}
 
 shape_is : (v : Volume) (d : ℕ) → shape_lines v d ≡ shape_told (attributes v d) (dir_path (graph_of v) d) (v.gap d) (are_sound (v.chunks d))
 unfolding shape_lines attributes

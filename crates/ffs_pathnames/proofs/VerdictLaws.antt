@@ -1,7 +1,6 @@
 -- What verdicts tell.
-use Rattle.std.proofs.Common.{◌≡◌, refl, ap, ◌∙◌, ℕ, Bool, true, false, List, []}
+use Rattle.std.proofs.Common.{◌≡◌, refl, ℕ, Bool, true, false, List, []}
 use Rattle.ffs_volume.specs.declared.Attr.{Attr}
-use Rattle.ffs_pathnames.specs.declared.judge.Faults.{Faults}
 use Rattle.ffs_pathnames.specs.declared.judge.Verdict.{Verdict}
 use Rattle.ffs_pathnames.specs.declared.judge.Verdict.TheVariants.{OutOfRange, Whiteout, Fine, Unallocated, Named}
 use Rattle.ffs_volume.specs.Messages.{NameMessage, told, extraneous, kind_entry}

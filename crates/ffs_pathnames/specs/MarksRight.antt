@@ -1,5 +1,5 @@
 -- When the marks of the pathname check are right.
-use Rattle.std.specs.Prelude.{◌≡◌, ◌≢◌, ℕ, ◌<◌, ◌≤◌, ◌==◌, Bool, true, not, ◌&&◌, ◌||◌, List, length, slice_index}
+use Rattle.std.specs.Prelude.{◌≡◌, ◌≢◌, ℕ, ◌<◌, true, not, ◌&&◌, ◌||◌, List, length, slice_index}
 use Rattle.std.specs.List.{list_any}
 use Rattle.ffs_volume.specs.Search.{some_below}
 use Rattle.ffs_volume.specs.Roles.{Volume, Seen, is_suspect}

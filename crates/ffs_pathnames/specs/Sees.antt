@@ -1,5 +1,5 @@
 -- What the lists of a workspace show of a volume.
-use Rattle.std.specs.Prelude.{◌≡◌, ℕ, ◌≤◌, ◌/◌, ◌==◌, Bool, true, false, ◌||◌, List, length, slice_index}
+use Rattle.std.specs.Prelude.{◌≡◌, ℕ, ◌≤◌, ◌/◌, ◌==◌, true, false, ◌||◌, length, slice_index}
 use Rattle.ffs_volume.specs.Roles.{Volume, is_dir, is_allocated, is_unknown, is_suspect}
 use Rattle.ffs_volume.specs.Climb.{is_value}
 use Rattle.ffs_volume.specs.Graph.{parent}

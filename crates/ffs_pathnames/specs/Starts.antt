@@ -1,5 +1,5 @@
 -- What is told of a directory's size, Gaps and chunks, and of its first two entries, by what was found of them.
-use Rattle.std.specs.Prelude.{ℕ, ◌%◌, ◌==◌, Bool, true, false, not, ◌&&◌, nat_lt, List, [], ◌∷◌, ◌++◌, Option, None, Some}
+use Rattle.std.specs.Prelude.{ℕ, ◌%◌, ◌==◌, Bool, not, ◌&&◌, nat_lt, List, ◌++◌, Option, None, Some}
 use Rattle.ffs_volume.specs.declared.Attr.{Attr}
 use Rattle.ffs_volume.specs.Directory.{Entry, is_live}
 use Rattle.ffs_volume.specs.Roles.{is_one_dot, is_two_dots, entry_if}

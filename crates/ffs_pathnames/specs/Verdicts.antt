@@ -1,7 +1,6 @@
 -- What a plain entry comes to, by the marks and by the lists of a workspace.
-use Rattle.std.specs.Prelude.{ℕ, Bool, true, false, if◌then◌else◌, List, [], ◌∷◌, ◌++◌}
+use Rattle.std.specs.Prelude.{ℕ, if◌then◌else◌, List, [], ◌∷◌, ◌++◌}
 use Rattle.ffs_volume.specs.declared.Attr.{Attr}
-use Rattle.ffs_volume.specs.Directory.{Entry}
 use Rattle.ffs_volume.specs.Messages.{NameMessage, told, out_of_range, whiteout, unallocated, dup_bad, zero_dir, extraneous, kind_entry}
 use Rattle.ffs_pathnames.specs.declared.judge.Verdict.{Verdict}
 use Rattle.ffs_pathnames.specs.declared.judge.Verdict.TheVariants.{OutOfRange, Whiteout, Fine, Unallocated, Named}

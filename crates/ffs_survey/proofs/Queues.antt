@@ -1,5 +1,5 @@
 -- The queue: what is behind it, the level in hand, and the next level.
-use Rattle.std.specs.Prelude.{◌≡◌, ℕ, suc, ◌+◌, ◌-◌, ◌≤◌, ◌==◌, Bool, List, [], ◌∷◌, ◌++◌, length, take, drop, refl, count_by, ◌||◌, true, false}
+use Rattle.std.specs.Prelude.{◌≡◌, ℕ, suc, ◌+◌, ◌-◌, ◌≤◌, ◌==◌, Bool, List, [], ◌∷◌, ◌++◌, length, take, drop, count_by, ◌||◌, false}
 use Rattle.std.specs.List.Sorted.{IsNonDecreasing, IsPermutation}
 use Rattle.std.proofs.Common.{arith, sym, ◌∙◌, ap, subst, length-append, append_assoc, add-zero}
 use Rattle.std.proofs.lemmas.List.{take_all, take-append-le, drop-append-le, drop_all, take-append-drop, take-take, get_or_past}

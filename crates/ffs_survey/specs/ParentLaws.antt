@@ -1,10 +1,10 @@
 -- The parent of a reached directory is one level nearer to inode 2.
-use Rattle.std.specs.Prelude.{◌≡◌, ◌≢◌, ℕ, suc, ◌<◌, ◌==◌, Bool, true, false, ◌&&◌, Option, Some, None, refl, if◌then◌else◌}
-use Rattle.std.proofs.Common.{arith, sym, ◌∙◌, ap, subst, inl, inr, ◌⊎◌}
+use Rattle.std.specs.Prelude.{◌≡◌, ◌≢◌, ℕ, suc, ◌<◌, ◌==◌, true, Option, Some, None, refl}
+use Rattle.std.proofs.Common.{arith, sym, ◌∙◌, ap}
 use Rattle.std.proofs.lemmas.Bool.{both_ways, and_parts, and_from, ne_eqb, cond-false, eq-eqb, eqb-true}
-use Rattle.ffs_volume.specs.Search.{first_below, first_below-some, first_below-none, IsFirst}
+use Rattle.ffs_volume.specs.Search.{first_below, first_below-some, first_below-none}
 use Rattle.ffs_volume.specs.Climb.{is_value, is_value-true, is_value-from}
-use Rattle.ffs_volume.specs.Graph.{Graph, IsSane, level, level_edge, edge, parent, parent_by}
+use Rattle.ffs_volume.specs.Graph.{Graph, level, level_edge, edge, parent, parent_by}
 use Rattle.ffs_volume.specs.Levels.{level-some, level-is, level-before, within-zero}
 
 -- the parent of a directory of level k + 1 is the least one of level k with an edge to it

@@ -1,6 +1,5 @@
 -- What a survey of directories finds of each inode, and the graph that it goes over.
-use Rattle.std.specs.Prelude.{◌≡◌, ℕ, zero, suc, ◌+◌, ◌<◌, ◌==◌, Bool, false, ◌&&◌, ◌||◌, nat_le, if◌then◌else◌, List, length, count_by, unwrap_or, slice_index}
-use Rattle.std.specs.List.{slice_index_or}
+use Rattle.std.specs.Prelude.{◌≡◌, ℕ, zero, suc, ◌+◌, ◌<◌, ◌==◌, Bool, ◌&&◌, ◌||◌, nat_le, if◌then◌else◌, List, length, count_by, unwrap_or}
 use Rattle.ffs_volume.specs.Roles.{Seen, refers}
 use Rattle.ffs_volume.specs.Graph.{Graph, named, reached, parent}
 pub use Rattle.ffs_volume.specs.Lists.{bool_at, number_at}

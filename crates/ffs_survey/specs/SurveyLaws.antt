@@ -1,15 +1,15 @@
 -- A survey of a volume's directories, from kinds and marks that the volume gives.
-use Rattle.std.specs.Prelude.{◌≡◌, ℕ, zero, suc, ◌+◌, ◌*◌, ◌/◌, ◌<◌, ◌==◌, Bool, true, false, not, cond, ◌&&◌, ◌||◌, nat_le, nat_lt, if◌then◌else◌, List, length, refl, count_by, unwrap_or}
-use Rattle.std.proofs.Common.{arith, sym, ◌∙◌, ap, subst, inl, inr, ◌⊎◌}
-use Rattle.std.proofs.lemmas.Bool.{cases_Bool, or_cases, eqb-true, or_parts, false_from_ne_true, cond-true, cond-false, and_left}
+use Rattle.std.specs.Prelude.{◌≡◌, ℕ, zero, suc, ◌+◌, ◌*◌, ◌<◌, ◌==◌, Bool, true, false, not, ◌&&◌, ◌||◌, nat_le, nat_lt, if◌then◌else◌, List, length, refl, count_by}
+use Rattle.std.proofs.Common.{◌∙◌, ap, subst, inl, inr}
+use Rattle.std.proofs.lemmas.Bool.{or_cases, eqb-true, or_parts, false_from_ne_true}
 use mathlib.Core.Path.{fun_ext}
 use Rattle.ffs_volume.specs.declared.Layout.{Layout}
 use Rattle.ffs_volume.specs.declared.Inode.{Inode}
 use Rattle.ffs_volume.specs.declared.Class.{Class}
 use Rattle.ffs_volume.specs.declared.Class.TheVariants.{Free, Partial, Unknown, File, Dir}
-use Rattle.ffs_volume.specs.Inodes.{inode_of, class_of, type_of, is_known_type, is_any_set, is_too_large, addresses_used}
+use Rattle.ffs_volume.specs.Inodes.{inode_of, class_of, type_of, is_known_type, is_any_set}
 use Rattle.ffs_volume.specs.Roles.{Volume, Seen, seen_in, is_dir, is_directory, is_suspect, refers, references, references_below as volume_references_below}
-use Rattle.ffs_volume.specs.Volumes.{is_number, class_at, marked_at, volume_of, volume_with}
+use Rattle.ffs_volume.specs.Volumes.{class_at, marked_at, volume_of, volume_with}
 use Rattle.ffs_volume.specs.Graph.{Graph}
 use Rattle.ffs_volume.specs.Parents.{graph_of}
 use Rattle.ffs_survey.specs.Survey.{bool_at, number_at, is_dir_kind, dir_at, suspect_at, graph_with, references_below, references_to, IsSurvey, IsTree, AreNamed}

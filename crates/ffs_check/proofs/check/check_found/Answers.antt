@@ -1,4 +1,4 @@
-use Rattle.std.proofs.Common.{◌≡◌, inr, refl, false}
+use Rattle.std.proofs.Common.{inr, false}
 use Rattle.ffs_layout.specs.Super.{seen}
 use Rattle.ffs_volume.specs.PathnameCheck.{goes_on}
 use Rattle.ffs_volume.specs.Report.{text_lines}

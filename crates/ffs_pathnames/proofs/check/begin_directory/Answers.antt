@@ -1,7 +1,6 @@
-use Rattle.std.proofs.Common.{◌≡◌, refl, sym, ap, ◌∙◌, ℕ, List, [], ◌++◌, map, option_map, Err}
+use Rattle.std.proofs.Common.{ap, map}
 use Rattle.std.proofs.lemmas.Result.{err_from_is_err_and}
 use Rattle.ffs_volume.specs.Messages.{of_names}
-use Rattle.ffs_volume.specs.Volumes.{volume_of}
 use Rattle.ffs_phase.proofs.Telling.{of_begins, of_reads}
 use Rattle.ffs_pathnames.specs.declared.examine.Examined.{Examined}
 use Rattle.ffs_pathnames.proofs.Begun.{said_same, fault_same, starts_are, begun_is}

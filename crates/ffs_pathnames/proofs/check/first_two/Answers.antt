@@ -1,4 +1,4 @@
-use Rattle.std.proofs.Common.{◌≡◌, sym, ap, ◌∙◌, None, Some, option_map}
+use Rattle.std.proofs.Common.{sym, ap, ◌∙◌, option_map}
 use Rattle.ffs_volume.specs.Directory.{entry_at}
 use Rattle.ffs_layout.specs.Entry.{seen_entry}
 use Rattle.ffs_pathnames.proofs.FirstTwo.{none_found, first_found, second_found}

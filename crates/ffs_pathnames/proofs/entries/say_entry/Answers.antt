@@ -1,5 +1,4 @@
-use Rattle.std.proofs.Common.{◌≡◌, refl, sym, ap, ◌∙◌, [], map}
-use Rattle.ffs_volume.specs.Messages.{of_names}
+use Rattle.std.proofs.Common.{refl, []}
 use Rattle.ffs_report.proofs.Reports.{said_none}
 use Rattle.ffs_pathnames.specs.Marks.{seen_told}
 use Rattle.ffs_pathnames.proofs.entries.say_entry.Goals as goal

@@ -1,12 +1,11 @@
-use Rattle.std.proofs.Common.{◌≡◌, ◌≤◌, ◌<◌, ◌^◌, refl, sym, ap, subst, ◌∙◌, ◌==◌, ℕ, List, length, Some, true, arith}
+use Rattle.std.proofs.Common.{◌<◌, ◌^◌, sym, ap, subst, ◌∙◌, ◌==◌}
 use Rattle.std.proofs.lemmas.List.{get_or_read_under, with_items_is}
 use Rattle.std.specs.List.{flat_map, find}
-use Rattle.ffs_volume.specs.Roles.{Volume, is_dir, chunk_seen}
+use Rattle.ffs_volume.specs.Roles.{chunk_seen}
 use Rattle.ffs_volume.specs.PathnameCheck.{are_sound}
 use Rattle.ffs_volume.specs.Inodes.{inode_of}
 use Rattle.ffs_volume.specs.Volumes.{volume_of}
 use Rattle.ffs_names.proofs.DirLaws.{dir_is, dir_size}
-use Rattle.ffs_workspace.specs.Holds.{HoldsClaims, HoldsSurvey}
 use Rattle.ffs_pathnames.specs.Marks.{are_quiet, after_looks}
 use Rattle.ffs_pathnames.specs.Reads.{chunks_read}
 use Rattle.ffs_pathnames.proofs.ChunkLaws.{chunks_are, gap_is, seen_are}

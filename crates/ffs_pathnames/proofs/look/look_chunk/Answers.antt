@@ -1,10 +1,6 @@
-use Rattle.std.proofs.Common.{◌≡◌, ◌+◌, ◌≤◌, sym, ap, ◌∙◌, arith, ℕ, List, Bool, ◌∷◌, ◌&&◌, length, Some}
-use Rattle.std.specs.Prelude.{◌==◌, sum_by}
-use Rattle.ffs_volume.specs.Directory.{entries_from, entry_at}
-use Rattle.ffs_volume.specs.Roles.{Volume, Seen, seen_from}
-use Rattle.ffs_volume.proofs.Reading.{entries_end}
+use Rattle.std.proofs.Common.{◌+◌, arith}
+use Rattle.ffs_volume.specs.Roles.{Seen}
 use Rattle.ffs_layout.specs.Entry.{seen_entry}
-use Rattle.ffs_pathnames.specs.Marks.{are_quiet, after_looks}
 use Rattle.ffs_pathnames.proofs.Looking.{seen_at_place, seen_next, quiet_on, stamps_on, length_on, quiet_ends, stamps_end, length_ends, none}
 use Rattle.ffs_pathnames.proofs.look.look_chunk.Goals as goal
 

@@ -1,4 +1,4 @@
-use Rattle.std.proofs.Common.{◌≡◌, ◌≤◌, ◌-◌, ◌+◌, ◌&&◌, length, ℕ}
+use Rattle.std.proofs.Common.{◌≡◌, ◌≤◌, ◌-◌, ◌+◌, ◌&&◌, length}
 use Rattle.std.specs.Prelude.{sum_by}
 use Rattle.ffs_volume.specs.Directory.{entries_from}
 use Rattle.ffs_volume.specs.Roles.{Volume}

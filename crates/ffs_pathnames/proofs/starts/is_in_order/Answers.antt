@@ -1,4 +1,4 @@
-use Rattle.std.proofs.Common.{◌≡◌, sym, ◌∙◌, option_map}
+use Rattle.std.proofs.Common.{sym, ◌∙◌, option_map}
 use Rattle.ffs_layout.specs.Entry.{seen_entry}
 use Rattle.ffs_pathnames.proofs.InOrder.{in_order}
 use Rattle.ffs_pathnames.proofs.starts.is_in_order.Goals as goal

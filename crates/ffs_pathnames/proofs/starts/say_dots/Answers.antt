@@ -1,7 +1,6 @@
-use Rattle.std.proofs.Common.{◌++◌, ◌&&◌, not, ◌==◌, ◌%◌, nat_lt, option_map}
-use Rattle.ffs_volume.specs.Messages.{told, dir_short, dir_length, dir_empty, dir_corrupt}
+use Rattle.std.proofs.Common.{option_map}
 use Rattle.ffs_layout.specs.Entry.{seen_entry}
-use Rattle.ffs_pathnames.specs.Starts.{shape_told, dot_in, dotdot_in, dot_said, dotdot_said, dots_told, starts_told}
+use Rattle.ffs_pathnames.specs.Starts.{dot_in, dotdot_in, dot_said, dotdot_said}
 use Rattle.ffs_pathnames.proofs.Saying.{names_then, first_stops}
 use Rattle.ffs_pathnames.proofs.starts.say_dots.Goals as goal
 

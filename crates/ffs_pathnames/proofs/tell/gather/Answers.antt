@@ -1,4 +1,4 @@
-use Rattle.std.proofs.Common.{◌≡◌, ap, ◌∙◌, Some, true}
+use Rattle.std.proofs.Common.{ap, ◌∙◌}
 use Rattle.ffs_volume.specs.Volumes.{volume_of}
 use Rattle.ffs_pathnames.proofs.Enough.{enough}
 use Rattle.ffs_workspace.proofs.Leaving.{claims_left, survey_left}

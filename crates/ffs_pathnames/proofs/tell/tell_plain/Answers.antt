@@ -1,4 +1,4 @@
-use Rattle.std.proofs.Common.{◌≡◌, refl, sym, ap, ◌∙◌, ℕ, List, [], ◌++◌, map, append-nil}
+use Rattle.std.proofs.Common.{sym, ap, ◌∙◌, ℕ, List, [], map, append-nil}
 use Rattle.std.proofs.lemmas.Result.{err_from_is_err_and}
 use Rattle.ffs_volume.specs.Messages.{NameMessage, of_names}
 use Rattle.ffs_volume.specs.PathnameCheck.{attributes}

@@ -1,4 +1,4 @@
-use Rattle.std.proofs.Common.{◌≡◌, sym, ap, ◌∙◌}
+use Rattle.std.proofs.Common.{sym, ap, ◌∙◌}
 use Rattle.ffs_volume.specs.Volumes.{volume_of}
 use Rattle.ffs_layout.specs.Entry.{seen_entry}
 use Rattle.ffs_pathnames.specs.Marks.{plain_told}
