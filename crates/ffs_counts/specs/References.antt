@@ -1,4 +1,4 @@
--- What is told of an inode by its references, and of numbers in their order.
+-- What is told of an inode by its references.
 use Rattle.std.specs.Prelude.{ℕ, ◌==◌, Bool, not, List, [], ◌∷◌, Option, Some, None, if◌then◌else◌, ℤ}
 use Rattle.ffs_volume.specs.declared.Attr.{Attr}
 use Rattle.ffs_volume.specs.declared.Inode.{Inode}
