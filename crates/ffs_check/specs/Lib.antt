@@ -3,4 +3,6 @@ pub mod Found
 pub mod Headline
 pub mod Opening
 pub mod Rest
+pub mod Run
 pub mod Told
+pub mod Words

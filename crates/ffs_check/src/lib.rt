@@ -3,6 +3,7 @@
 
 pub mod args;
 pub mod check;
+pub mod opener;
 pub mod opening;
 pub mod rest;
 pub mod run;

@@ -6,10 +6,11 @@ pub mod fuse;
 pub mod line;
 mod names;
 pub mod output;
-mod piece;
-mod print;
+pub mod piece;
+pub mod print;
 pub mod report;
 mod say;
+pub mod silent;
 mod words;
 
 pub use counted::Counted;
@@ -17,3 +18,4 @@ pub use fuse::FuseWriter;
 pub use line::{DirectoryLine, DotLine, EntryLine, Heading, Line, ReferenceLine};
 pub use output::{OutFault, Output};
 pub use report::Report;
+pub use silent::SilentWriter;

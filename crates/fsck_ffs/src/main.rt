@@ -5,9 +5,21 @@
 mod tests;
 
 use ffs_check::run::run;
+use ffs_report::SilentWriter;
 use std::env;
-use std::io::{BufWriter, ErrorKind, Write};
+use std::fs;
+use std::io::{BufWriter, ErrorKind, LineWriter, Write};
+use std::os::unix::fs::FileTypeExt;
 use std::process::ExitCode;
+
+/// The bytes of the report that are gathered before they are written.
+const BUFFER_SIZE: usize = 65536;
+
+/// The status where memory is refused.
+const NO_MEMORY: u8 = 8;
+
+/// The status of words that are not text.
+const WRONG_WORDS: u8 = 2;
 
 fn main(rt: HostRuntime) -> ExitCode {
     let words: Vec<String> = match env::args(&rt) {
@@ -18,7 +30,7 @@ fn main(rt: HostRuntime) -> ExitCode {
         Err(error) if error.kind() == ErrorKind::OutOfMemory => return no_memory(&rt),
         Err(_) => {
             let _ = rt.stderr().write_all(b"error: a word is not text\n");
-            return ExitCode::from(2);
+            return ExitCode::from(WRONG_WORDS);
         }
     };
     let mut texts: Vec<&str> = Vec::new(rt.alloc());
@@ -27,22 +39,36 @@ fn main(rt: HostRuntime) -> ExitCode {
             return no_memory(&rt);
         }
     }
-    // Standard output has no buffer of its own.
-    let Ok(mut out) = BufWriter::new(rt.alloc(), rt.stdout()) else {
-        return no_memory(&rt);
+    print_report(&rt, texts.as_slice())
+}
+
+// Runs the check over a buffer for standard output, which has none of its own.
+fn print_report(rt: &HostRuntime, words: &[&str]) -> ExitCode {
+    let stdout = SilentWriter::new(rt.stdout());
+    let status = if is_watched(rt) {
+        let Ok(mut out) = LineWriter::with_capacity(rt.alloc(), BUFFER_SIZE, stdout) else {
+            return no_memory(rt);
+        };
+        run(rt, rt.alloc(), words, &mut out, &mut rt.stderr())
+    } else {
+        let Ok(mut out) = BufWriter::with_capacity(rt.alloc(), BUFFER_SIZE, stdout) else {
+            return no_memory(rt);
+        };
+        run(rt, rt.alloc(), words, &mut out, &mut rt.stderr())
     };
-    let status = run(
-        &rt,
-        rt.alloc(),
-        texts.as_slice(),
-        &mut out,
-        &mut rt.stderr(),
-    );
     ExitCode::from(status)
 }
 
-// What is told where memory is refused before the check begins.
+// Whether standard output is a terminal, so that somebody may wait for each line.
+fn is_watched(rt: &HostRuntime) -> bool {
+    match fs::metadata(rt, "/dev/stdout") {
+        Ok(metadata) => metadata.file_type().is_char_device(),
+        Err(_) => false,
+    }
+}
+
+// Reports that memory was refused before the check began.
 fn no_memory(rt: &HostRuntime) -> ExitCode {
     let _ = rt.stdout().write_all(b"cannot alloc maps\n");
-    ExitCode::from(8)
+    ExitCode::from(NO_MEMORY)
 }

@@ -10,6 +10,7 @@ mod names;
 mod pathnames;
 mod paths;
 mod report;
+mod silent;
 mod survey;
 mod volume;
 mod walk;

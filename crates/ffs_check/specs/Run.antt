@@ -1,0 +1,74 @@
+-- What a run of the program prints, and its exit status, by the words after the program's name.
+use Rattle.std.specs.Prelude.{◌≡◌, ◌⊎◌, ℕ, List, [], ◌∷◌, ◌++◌, Option, Some, codes, ⊤}
+use Rattle.std.specs.Io.KnownBytes.{Keeps}
+use Rattle.ffs_image.specs.Device.{Device}
+use Rattle.ffs_volume.specs.declared.End.{End}
+use Rattle.ffs_volume.specs.Messages.{cannot_alloc}
+use Rattle.ffs_volume.specs.Report.{status_of}
+use Rattle.ffs_volume.specs.Texts.{text_of}
+use Rattle.ffs_report.specs.Sink.{Sink, Took, BrokeOff}
+use Rattle.ffs_check.specs.Headline.{Headline}
+use Rattle.ffs_check.specs.Words.{AskFor, refusals}
+
+-- the line where the image can't be opened
+abbrev pub unopened_text : List ℕ → List ℕ
+unopened_text name = codes "Can't open " ++ (name ++ (10 ∷ []))
+
+-- a text was printed, or a prefix of it where the output failed
+abbrev pub IsPrinted : Sink → Sink → List ℕ → Type 0
+IsPrinted out out' text = Took out out' text ⊎ BrokeOff out out' text
+
+-- an image was opened under a name and checked, and the status is that of its end
+pub record IsChecked (I : Type 0) (device : I → Device) (opens : List ℕ → I → Type 0) (name : List ℕ) (sector : Option ℕ)
+    (out out' : Sink) (status : ℕ) : Type 0 where
+  pub image : I
+  pub image' : I
+  pub opened : opens name image
+  pub end : End
+  pub headline : Headline (device image) (device image') name sector out out' end
+  pub status_is : status ≡ status_of end
+
+-- no image could be opened under a name
+pub record IsUnopened (refuses : List ℕ → Type 0) (name : List ℕ) (out out' : Sink) (status : ℕ) : Type 0 where
+  pub refused : refuses name
+  pub printed : IsPrinted out out' (unopened_text name)
+  pub status_is : status ≡ 8
+
+-- the image of a name was checked, or couldn't be opened
+abbrev pub CheckedBy : {I : Type 0} → (I → Device) → (List ℕ → I → Type 0) → (List ℕ → Type 0) → List ℕ → Option ℕ → Sink → Sink → ℕ → Type 0
+CheckedBy {I} device opens refuses name sector out out' status =
+    IsChecked I device opens name sector out out' status ⊎ IsUnopened refuses name out out' status
+
+-- the words ask for an image and a sector, and that image was checked at that sector, or couldn't be opened
+pub record Answers (I : Type 0) (device : I → Device) (opens : List ℕ → I → Type 0) (refuses : List ℕ → Type 0) (words : List (List ℕ))
+    (out out' : Sink) (status : ℕ) : Type 0 where
+  pub name : List ℕ
+  pub sector : Option ℕ
+  pub asked : AskFor words name sector
+  pub checked : CheckedBy device opens refuses name sector out out' status
+
+-- the words are wrong, and nothing is printed
+pub record IsRefused (words : List (List ℕ)) (out out' : Sink) (status : ℕ) : Type 0 where
+  pub wrong : refusals words ≡ [] → ⊥
+  pub unprinted : out' ≡ out
+  pub status_is : status ≡ 2
+
+-- memory was refused while the words were read
+pub record HasNoWords (out out' : Sink) (status : ℕ) : Type 0 where
+  pub printed : IsPrinted out out' (text_of cannot_alloc)
+  pub status_is : status ≡ 8
+
+-- how a run ends
+abbrev pub Ran : {I : Type 0} → (I → Device) → (List ℕ → I → Type 0) → (List ℕ → Type 0) → List (List ℕ) → Sink → Sink → ℕ → Type 0
+Ran {I} device opens refuses words out out' status =
+    Answers I device opens refuses words out out' status ⊎ (IsRefused words out out' status ⊎ HasNoWords out out' status)
+
+-- the same over a std writer, of which only the bytes that it took can be known; a failed flush makes the status 8
+pub record RanOver {I : Type 0} (device : I → Device) (words : List (List ℕ)) (taken taken' : Option (List ℕ)) (status : ℕ) : Type 0 where
+  pub out : Sink
+  pub out' : Sink
+  pub before : out.taken ≡ taken
+  pub after : Keeps out'.taken taken'
+  pub ran_status : ℕ
+  pub ran : Ran device (λ _ _. ⊤) (λ _. ⊤) words out out' ran_status
+  pub status_is : (status ≡ ran_status) ⊎ (status ≡ 8)

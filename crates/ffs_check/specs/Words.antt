@@ -1,0 +1,57 @@
+-- What the words after the program's name ask for, as `clap` reads them: `-n [-b sector] image`.
+use Rattle.std.specs.Prelude.{◌≡◌, ◌<◌, ◌^◌, ℕ, pos, true, List, [], ◌∷◌, Option, Some, None, codes, unwrap_or}
+use Rattle.std.specs.Str.Parse.{IsNumeral, digits_value, without_leading_plus}
+use Rattle.clap.specs.Words.{App, Kinds, Rule, Text, fault_of, first_of, matches_of, new_app, new_rule, one_of, with_rule}
+use Rattle.clap.specs.declared.builder.ArgAction.TheVariants.{Set, Count, Version}
+use Rattle.clap.specs.declared.builder.value_parser.ValueParser.TheVariants.{Signed}
+
+-- `-n` or `-N`, each as often as one likes: one of them has to be there
+abbrev pub no_rule : Rule
+no_rule = record (new_rule (codes "no")) {
+  short = Some 110;
+  short_aliases = 78 ∷ [];
+  action = Some Count;
+  required = true;
+}
+
+-- `-b sector`, once: a sector of 512 bytes
+abbrev pub sector_rule : Rule
+sector_rule = record (new_rule (codes "sector")) {
+  short = Some 98;
+  value_names = 1;
+  action = Some Set;
+  parser = Some (Signed (pos 1) (pos 4194303));
+}
+
+-- the image, one word
+abbrev pub image_rule : Rule
+image_rule = record (new_rule (codes "image")) { action = Some Set; required = true }
+
+-- a program with no words yet, which has a version and is not named by the first word
+abbrev pub unnamed : App
+unnamed = let a = new_app (codes "fsck_ffs") in record a { top = record a.top { no_binary_name = true; has_version = true } }
+
+-- the program's words
+abbrev pub program : App
+program = with_rule (with_rule (with_rule unnamed no_rule) sector_rule) image_rule
+
+-- why `clap` refuses the words: nothing where it takes them
+abbrev pub refusals : List Text → Kinds
+refusals words = fault_of program words
+
+-- the image that the words name
+abbrev pub image_asked : List Text → Text
+image_asked words = unwrap_or (first_of (codes "image") (matches_of program words)) []
+
+-- the sector is the number that a text writes, and none where there is no text
+abbrev pub IsSector : Option Text → Option ℕ → Type 0
+IsSector None sector = sector ≡ None
+IsSector (Some text) sector =
+    let digits = without_leading_plus text in
+    IsNumeral 10 digits → digits_value 10 digits < 2 ^ 32 → sector ≡ Some (digits_value 10 digits)
+
+-- what the words ask for: this image, and this sector of its superblock
+pub record AskFor (words : List Text) (name : Text) (sector : Option ℕ) : Type 0 where
+  pub taken : refusals words ≡ []
+  pub image : name ≡ image_asked words
+  pub place : IsSector (one_of (codes "sector") (matches_of program words)) sector

@@ -1,0 +1,104 @@
+// A writer that is silent after its first failure.
+ghost use Rattle.std.specs.Prelude.{◌≡◌, ◌<◌, ◌↔◌, length, false, true, IfOk, IsErr, OnErr};
+ghost use Rattle.std.specs.Bool.{OnTrue};
+ghost use Rattle.std.specs.Io.{WritesAtMost};
+ghost use Rattle.std.specs.Io.KnownBytes.{WriteAppends, Keeps};
+
+use std::io;
+use std::io::{ErrorKind, Write};
+
+/// A writer over another one that passes nothing on after its first failure: no write and no flush reaches the writer
+/// below, whoever asks. A buffer above it so stays silent when it is flushed or dropped after a write that failed. A write that
+/// a signal interrupts is tried again; one that takes nothing has failed.
+#[derive(Drop)]
+pub struct SilentWriter<S> {
+    inner: S,
+    failed: bool,
+}
+
+impl<S: Write> SilentWriter<S> {
+    /// A writer over `inner` that has not failed yet.
+    pub fn new(inner: S) -> SilentWriter<S>
+        ensures inner { result.inner ≡ inner }
+        ensures failed { result.failed ≡ false }
+    {
+        SilentWriter {
+            inner,
+            failed: false,
+        }
+    }
+
+    /// The writer below, with what it took.
+    pub fn into_inner(self) -> S
+        ensures { result ≡ self.inner }
+    {
+        let SilentWriter { inner, failed: _ } = self;
+        inner
+    }
+}
+
+// The error of each call after a failure.
+fn silence() -> io::Error {
+    io::Error::from(ErrorKind::BrokenPipe)
+}
+
+// One write, tried again where a signal interrupts it.
+fn write_uninterrupted<S: Write>(inner: &mut S, buf: &[u8]) -> io::Result<usize>
+    ensures bound { WritesAtMost result buf.now }
+    ensures bytes { WriteAppends (S.contents inner.old) (S.contents inner.new) result buf.now }
+{
+    for _ in 0..u64::MAX {
+        match inner.write(buf) {
+            Err(error) if error.kind() == ErrorKind::Interrupted => {}
+            answer => return answer,
+        }
+    }
+    Err(io::Error::from(ErrorKind::Interrupted))
+}
+
+impl<S: Write> Write for SilentWriter<S> {
+    ghost contents = { λ w. S.contents w.inner };
+
+    /// Errors: those of the writer below, a write that takes nothing, and each write after a failure.
+    fn write(&mut self, buf: &[u8]) -> io::Result<usize>
+        ensures bound { WritesAtMost result buf.now }
+        ensures bytes { WriteAppends (S.contents self.old.inner) (S.contents self.new.inner) result buf.now }
+        ensures some { 0 < length buf.now → IfOk result (λ n. 0 < n) }
+
+        // After a failure each write fails, and the writer below is untouched.
+        ensures failed { IsErr result ↔ (self.new.failed ≡ true) }
+        ensures silent { OnTrue self.old.failed (self.new ≡ self.old) }
+    {
+        if self.failed {
+            return Err(silence());
+        }
+        match write_uninterrupted(&mut self.inner, buf) {
+            Ok(taken) if taken > 0 || buf.is_empty() => Ok(taken),
+            Ok(_) => {
+                self.failed = true;
+                Err(io::Error::from(ErrorKind::WriteZero))
+            }
+            Err(error) => {
+                self.failed = true;
+                Err(error)
+            }
+        }
+    }
+
+    /// Errors: those of the writer below, and each flush after a failure.
+    fn flush(&mut self) -> io::Result<()>
+        ensures bytes { Keeps (S.contents self.old.inner) (S.contents self.new.inner) }
+
+        // After a failure each flush fails, and the writer below is untouched.
+        ensures failed { IsErr result ↔ (self.new.failed ≡ true) }
+        ensures silent { OnTrue self.old.failed (self.new ≡ self.old) }
+    {
+        let flushed = if self.failed {
+            Err(silence())
+        } else {
+            self.inner.flush()
+        };
+        self.failed = flushed.is_err();
+        flushed
+    }
+}
