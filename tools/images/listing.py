@@ -70,11 +70,10 @@ def listing_of(image, reads, order):
         lines.append((place, f"{kind} {place} {named}".rstrip()))
         for at, width in formats.STRUCTURES[kind].values():
             done[place + at:place + at + width] = b"\1" * width
-    for (place, width), count in sorted(reads.numbers.items()):
-        if count > 1:
-            words = [int.from_bytes(image[p:p + width], order) for p in range(place, place + width * count, width)]
-            lines.append((place, f"words {place} {_short(words)}"))
-            done[place:place + width * count] = b"\1" * (width * count)
+    for place, count in sorted(reads.blocks.items()):
+        words = [int.from_bytes(image[p:p + 4], order) for p in range(place, place + 4 * count, 4)]
+        lines.append((place, f"words {place} {_short(words)}"))
+        done[place:place + 4 * count] = b"\1" * (4 * count)
     for start, end in _stretches(image, reads.marks, done, is_noise):
         lines.append((start, f"bytes {start} {_short([f'{b:02x}' for b in image[start:end]])}"))
     head = [f"order {order}", f"length {len(image)}", f"fill {'noise' if is_noise else 'zeros'}"]

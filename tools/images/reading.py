@@ -2,6 +2,8 @@
 fragments they keep, and the counts of groups. Nothing here judges a volume or makes a report."""
 
 from dataclasses import dataclass
+from functools import cached_property
+from struct import unpack_from
 
 from . import formats
 from .formats import BIG, LITTLE
@@ -15,6 +17,10 @@ def cover(length, piece):
     return -(-length // piece)
 
 
+def is_zero(piece):
+    return piece == bytes(len(piece))
+
+
 def number_at(image, place, width, order):
     return int.from_bytes(image[place:place + width], order)
 
@@ -26,6 +32,11 @@ def signed_at(image, place, width, order):
 def fields_at(image, table, place, order):
     """All numbers of a structure, by name, without signs."""
     return {name: number_at(image, place + at, width, order) for name, (at, width) in table.items()}
+
+
+def words_at(image, place, count, order):
+    """Words of four bytes, as those of an indirect block."""
+    return unpack_from(f"{'<' if order == LITTLE else '>'}{count}I", image, place)
 
 
 def order_of(image, place):
@@ -99,15 +110,23 @@ class Layout:
     def freeoff(self, image, c):
         return number_at(image, self.group_place(c) + 96, 4, self.order)
 
+    @cached_property
+    def metadata(self):
+        """A byte for each fragment: 1 where it is in the superblock's copy, block or inodes of some group."""
+        flags = bytearray(self.size)
+        for c in range(self.ncg):
+            start = self.cgstart(c)
+            flags[start + self.sblkno:start + self.dblkno] = b"\1" * (self.dblkno - self.sblkno)
+        return flags[:self.size]
+
     def is_metadata(self, f):
-        """Whether a fragment is in the superblock's copy, block or inodes of some group."""
-        return any(self.cgstart(c) + self.sblkno <= f < self.cgstart(c) + self.dblkno for c in range(self.ncg))
+        return self.metadata[f] == 1
 
     def is_in_range(self, start, length):
         """Whether a run lies in one group's data, or before its superblock's copy."""
         if start + length > self.size or start // self.fpg != (start + length - 1) // self.fpg:
             return False
-        return not any(self.is_metadata(f) for f in range(start, start + length))
+        return is_zero(self.metadata[start:start + length])
 
     def is_reserved(self, f):
         """Whether a fragment belongs to no file: the boot area and first group's head, the summary area, metadata."""
@@ -201,21 +220,23 @@ class Inode:
                 return
             opened.add(key)
         place = address * self.layout.fsize
-        for k in range(used):
-            word = number_at(image, place + 4 * k, 4, self.layout.order)
+        for k, word in enumerate(words_at(image, place, used, self.layout.order)):
             yield from self._tree(image, word, depth - 1, first + k * below, blocks, opened)
 
 
 def inodes(image, layout):
+    """The inodes from the root on that aren't all zero."""
     for i in range(formats.ROOT_INODE, layout.ncg * layout.ipg):
-        yield i, Inode(image, layout, i)
+        place = layout.inode_place(i)
+        if not is_zero(image[place:place + formats.INODE_BYTES]):
+            yield Inode(image, layout, i)
 
 
 def kept_fragments(image, layout):
     """The fragments outside the metadata that inodes keep, as fsck counts them: after eleven bad runs or eleven
     duplicates nothing more of an inode is kept."""
     kept = set()
-    for _, inode in inodes(image, layout):
+    for inode in inodes(image, layout):
         bad = dups = 0
         for run in inode.runs(image):
             is_bad = not layout.is_in_range(run.start, run.length)
@@ -245,9 +266,8 @@ class Counts:
     frsum: list
 
 
-def counts_of(image, layout, c):
-    """The right maps and counts of a group."""
-    kept = kept_fragments(image, layout)
+def counts_of(image, layout, c, kept):
+    """The right maps and counts of a group, where inodes keep those fragments."""
     base, frag = layout.cgbase(c), layout.frag
     free = [not (layout.is_reserved(f) or f in kept) for f in range(base, base + layout.fragments(c))]
     used, directories = [], 0

@@ -1,12 +1,33 @@
 """What a check reads of an image, and the same volume in the other byte order."""
 
 from array import array
+from operator import itemgetter
 
 from . import formats
 from .opening import is_readable, superblock_place
-from .reading import Inode, Layout, cover, number_at, order_of
+from .reading import Inode, Layout, cover, is_zero, number_at, order_of
 
 RAW = b"\x01"
+
+
+def _pattern(table):
+    """The marks of a structure's numbers, with 0 for the bytes between them."""
+    marks = bytearray(max(at + width for at, width in table.values()))
+    for at, width in table.values():
+        marks[at:at + width] = bytes((width << 4) | k for k in range(width))
+    return bytes(marks)
+
+
+def _turn_of(table, length):
+    """Picks a structure's bytes in the order that turns its numbers."""
+    places = list(range(length))
+    for at, width in table.values():
+        places[at:at + width] = reversed(places[at:at + width])
+    return itemgetter(*places)
+
+
+PATTERNS = {kind: _pattern(table) for kind, table in formats.STRUCTURES.items()}
+TURNS = {kind: _turn_of(table, len(PATTERNS[kind])) for kind, table in formats.STRUCTURES.items()}
 
 
 class Reads:
@@ -15,7 +36,7 @@ class Reads:
     def __init__(self, image):
         self.image = image
         self.marks = bytearray(len(image))
-        self.numbers = {}
+        self.blocks = {}
         self.structures = {}
         self.clashes = False
 
@@ -23,11 +44,12 @@ class Reads:
         """Marks what is read, and notes where the same bytes are read in two ways."""
         end = place + len(pattern)
         old = self.marks[place:end]
-        if not any(old):
+        if is_zero(old):
             self.marks[place:end] = pattern
         elif old != pattern:
             for k, (before, now) in enumerate(zip(old, pattern)):
-                if before and before != now and not (self.is_even(place + k, before) and self.is_even(place + k, now)):
+                is_other = before and now and before != now
+                if is_other and not (self.is_even(place + k, before) and self.is_even(place + k, now)):
                     self.clashes = True
             self.marks[place:end] = bytes(now or before for before, now in zip(old, pattern))
 
@@ -37,12 +59,11 @@ class Reads:
         piece = self.image[place - k:place - k + width]
         return mark == RAW[0] or piece == piece[::-1]
 
-    def number(self, place, width, count=1):
-        """Marks `count` numbers of the same width."""
-        if place < 0 or place + width * count > len(self.image):
-            return
-        self.mark(place, bytes((width << 4) | k for k in range(width)) * count)
-        self.numbers[place, width] = max(count, self.numbers.get((place, width), 0))
+    def words(self, place, count):
+        """Marks the words of an indirect block."""
+        if 0 <= place and place + 4 * count <= len(self.image):
+            self.mark(place, b"\x40\x41\x42\x43" * count)
+            self.blocks[place] = count
 
     def raw(self, place, length):
         length = min(length, len(self.image) - place)
@@ -51,9 +72,10 @@ class Reads:
 
     def fields(self, kind, place):
         """Marks the numbers of a structure, of a kind that `formats.STRUCTURES` names."""
-        self.structures[place, kind] = True
-        for at, width in formats.STRUCTURES[kind].values():
-            self.number(place + at, width)
+        pattern = PATTERNS[kind]
+        if 0 <= place and place + len(pattern) <= len(self.image):
+            self.structures[place, kind] = True
+            self.mark(place, pattern)
 
     def superblock(self, place):
         if place + formats.SUPERBLOCK_BYTES <= len(self.image):
@@ -73,8 +95,13 @@ def reads_of(image, sector=None):
         reads.superblock(layout.copy_place(layout.ncg - 1))
     for c in range(layout.ncg):
         _group(reads, layout, c)
-    for i in range(layout.ncg * layout.ipg):
-        _inode(reads, layout, i)
+    for i in range(0, layout.ncg * layout.ipg, 8):
+        place = layout.inode_place(i)
+        if is_zero(image[place:place + 8 * formats.INODE_BYTES]):
+            reads.raw(place, 8 * formats.INODE_BYTES)
+        else:
+            for k in range(8):
+                _inode(reads, layout, i + k)
     return reads
 
 
@@ -89,7 +116,7 @@ def _group(reads, layout, c):
 
 def _inode(reads, layout, i):
     place = layout.inode_place(i)
-    if not any(reads.image[place:place + formats.INODE_BYTES]):
+    if is_zero(reads.image[place:place + formats.INODE_BYTES]):
         return reads.raw(place, formats.INODE_BYTES)
     reads.fields("inode", place)
     if i < formats.ROOT_INODE:
@@ -100,7 +127,7 @@ def _inode(reads, layout, i):
             continue
         at = run.start * layout.fsize
         if run.block is None:
-            reads.number(at, 4, layout.bsize // 4)
+            reads.words(at, layout.bsize // 4)
         elif inode.is_directory():
             size = 512 if inode.size < 24 else cover(inode.size, 512) * 512
             end = min(at + run.length * layout.fsize, at + size - run.block * layout.bsize)
@@ -136,12 +163,16 @@ def turned(image, sector=None):
     if reads.clashes:
         return None
     out = bytearray(image)
-    for (place, width), count in reads.numbers.items():
-        piece = image[place:place + width * count]
-        if count == 1:
-            out[place:place + width] = piece[::-1]
+    for place, kind in reads.structures:
+        pattern = PATTERNS[kind]
+        end = place + len(pattern)
+        if reads.marks[place:end] == pattern:
+            out[place:end] = bytes(TURNS[kind](image[place:end]))
         else:
-            words = array("I", piece)
-            words.byteswap()
-            out[place:place + 4 * count] = words.tobytes()
+            for at, width in formats.STRUCTURES[kind].values():
+                out[place + at:place + at + width] = image[place + at:place + at + width][::-1]
+    for place, count in reads.blocks.items():
+        words = array("I", image[place:place + 4 * count])
+        words.byteswap()
+        out[place:place + 4 * count] = words.tobytes()
     return out

@@ -2,7 +2,7 @@
 
 from . import formats
 from .formats import LITTLE
-from .reading import Layout, counts_of, cover
+from .reading import Layout, counts_of, cover, kept_fragments
 
 
 class Volume:
@@ -104,8 +104,9 @@ class Volume:
         """Sets maps, group counts, summary records and the totals to what the volume's inodes make them."""
         layout = self.layout
         totals = [0, 0, 0, 0]
+        kept = kept_fragments(self.image, layout)
         for c in range(layout.ncg):
-            counts = counts_of(self.image, layout, c)
+            counts = counts_of(self.image, layout, c, kept)
             place = layout.group_place(c)
             for k, used in enumerate(counts.inodes_used):
                 self.map_bit(place + layout.iusedoff(self.image, c), k, used)
