@@ -85,7 +85,8 @@ IMPLIED = {
 
 
 def fault(image, sector, without=None):
-    """The first fault of a superblock, or none. `without` names a condition, or a compared field, that is left out."""
+    """The first fault of a superblock, or none. `without` names a condition, or by `copy's FIELD` a number that the copy
+    must agree in, which is left out."""
     place = superblock_place(sector)
     if place + formats.SUPERBLOCK_BYTES > len(image):
         return "CAN NOT READ"
@@ -102,7 +103,7 @@ def fault(image, sector, without=None):
         return None
     copy_at = (start(s, s["ncg"] - 1) + s["sblkno"]) * s["fsize"]
     copy = values_at(image, copy_at, order)
-    if any(s[name] != copy[name] for name in formats.COMPARED if name != without):
+    if any(s[name] != copy[name] for name in formats.COMPARED if f"copy's {name}" != without):
         return DISAGREE
     return None
 
