@@ -1,7 +1,7 @@
 use Rattle.std.proofs.Common.{◌≡◌}
 use Rattle.ffs_walk.specs.Rests.{left}
 use Rattle.ffs_walk.specs.Windows.{BlocksHold, HasRoom}
-use Rattle.fsck_ffs.proofs.tests.walk.steps.Given as goal
+use Rattle.ffs_tests.proofs.walk.steps.Given as goal
 
 abbrev pub invariant-loop-steps : goal.invariant-loop-steps
 invariant-loop-steps g l = record {

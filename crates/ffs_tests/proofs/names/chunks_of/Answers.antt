@@ -1,5 +1,5 @@
 use Rattle.std.proofs.Common.{rules, refl}
-use Rattle.fsck_ffs.proofs.tests.names.chunks_of.Goals as goal
+use Rattle.ffs_tests.proofs.names.chunks_of.Goals as goal
 
 pub chunks-init : goal.chunks-init
 chunks-init g c = record {

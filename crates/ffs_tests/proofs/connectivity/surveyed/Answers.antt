@@ -1,4 +1,4 @@
-use Rattle.fsck_ffs.proofs.tests.connectivity.surveyed.Goals as goal
+use Rattle.ffs_tests.proofs.connectivity.surveyed.Goals as goal
 
 pub returns-clause-windows : goal.returns-clause-windows
 returns-clause-windows c = λ told.

@@ -1,7 +1,7 @@
 use Rattle.std.proofs.Common.{◌≡◌, ◌≤◌}
 use Rattle.std.specs.Prelude.{vec_len}
 use Rattle.ffs_walk.specs.Windows.{BlocksHold, HasRoom, WindowHolds}
-use Rattle.fsck_ffs.proofs.tests.names.chunks_of.Given as goal
+use Rattle.ffs_tests.proofs.names.chunks_of.Given as goal
 
 abbrev pub invariant-chunks : goal.invariant-chunks
 invariant-chunks g l = record {

@@ -45,7 +45,7 @@ const NUMBERS: [(usize, u64); 30] = [
 ];
 
 // Writes bytes at a place.
-fn put_bytes(bytes: &mut [u8], place: usize, text: &[u8]) {
+pub fn put_bytes(bytes: &mut [u8], place: usize, text: &[u8]) {
     for (i, byte) in text.iter().enumerate() {
         if place < bytes.len() && i < bytes.len() - place {
             bytes[place + i] = *byte;
@@ -62,7 +62,7 @@ fn put_super(order: Order, bytes: &mut [u8], at: usize) {
 }
 
 // An image whose last copy stands at byte 16,384.
-fn base(order: Order, alloc: Global) -> Result<Vec<u8>, AllocError> {
+pub fn base(order: Order, alloc: Global) -> Result<Vec<u8>, AllocError> {
     let mut bytes = vec![in alloc; 0u8; 131072]?;
     put_super(order, bytes.as_mut_slice(), 8192);
     put_super(order, bytes.as_mut_slice(), 16384);
