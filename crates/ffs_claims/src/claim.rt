@@ -1,7 +1,7 @@
 //! What an inode claims, and what is told of it.
 
 ghost use Rattle.std.specs.Prelude.{◌≡◌, ◌+◌, ◌-◌, ◌*◌, ◌<◌, ◌≤◌, ◌^◌, OnOk, true, ℕ, List};
-ghost use Rattle.ffs_report.specs.Progress.{progress, kept};
+ghost use Rattle.ffs_report.specs.Progress.{progress};
 ghost use Rattle.ffs_phase.specs.Known.{Where, Tells};
 ghost use Rattle.ffs_phase.specs.Runs.{Reads, TellsOf};
 ghost use Rattle.ffs_volume.specs.Inodes as inodes;
@@ -43,7 +43,6 @@ fn claim<I: Image, W: Output>(
     requires runs { workspace.old.runs_seen < 2 ^ 61 }
     requires volume { geometry.now.layout.size * geometry.now.layout.fsize ≤ (I.device image.old).size }
     requires windows { HoldWindows geometry.now.layout (I.device image.old).told workspace.old }
-    ensures same { kept W.lent report.new ≡ kept W.lent report.old }
     ensures image { Reads (I.device image.old) (I.device image.new) result }
     ensures text { TellsOf (Tells (I.device image.old).told)
         (λ bytes. of_lines (steps_lines geometry.now.layout number (claims_of workspace.old) (steps_of geometry.now.layout inode.now bytes)))
@@ -80,7 +79,6 @@ fn known<I: Image, W: Output>(
     requires runs { workspace.old.runs_seen < 2 ^ 40 }
     requires volume { geometry.now.layout.size * geometry.now.layout.fsize ≤ (I.device image.old).size }
     requires windows { HoldWindows geometry.now.layout (I.device image.old).told workspace.old }
-    ensures same { kept W.lent report.new ≡ kept W.lent report.old }
     ensures image { Reads (I.device image.old) (I.device image.new) result }
     ensures text { TellsOf (Tells (I.device image.old).told)
         (λ bytes. of_lines (owner_lines geometry.now.layout (claims_of workspace.old) (owner_with geometry.now.layout bytes number inode.now)))
@@ -115,7 +113,6 @@ pub fn numbered<I: Image, W: Output>(
     requires runs { workspace.old.runs_seen < 2 ^ 40 }
     requires volume { geometry.now.layout.size * geometry.now.layout.fsize ≤ (I.device image.old).size }
     requires windows { HoldWindows geometry.now.layout (I.device image.old).told workspace.old }
-    ensures same { kept W.lent report.new ≡ kept W.lent report.old }
     ensures image { Reads (I.device image.old) (I.device image.new) result }
     ensures text { TellsOf (Tells (I.device image.old).told)
         (λ bytes. of_lines (owner_lines geometry.now.layout (claims_of workspace.old) (owner_of geometry.now.layout bytes number)))

@@ -1,7 +1,7 @@
 //! Phase 1: blocks and sizes (fsck(8)).
 
 ghost use Rattle.std.specs.Prelude.{◌≡◌, ◌+◌, ◌*◌, ◌≤◌, ◌∷◌, ◌==◌, not, OnOk, ℕ, List};
-ghost use Rattle.ffs_report.specs.Progress.{progress, kept};
+ghost use Rattle.ffs_report.specs.Progress.{progress};
 ghost use Rattle.ffs_phase.specs.Known.{Where, Tells};
 ghost use Rattle.ffs_phase.specs.Runs.{Reads, TellsOf};
 ghost use Rattle.ffs_volume.specs.BlockCheck.{has_rescan, phase1_lines};
@@ -33,7 +33,6 @@ pub fn phase1<I: Image, W: Output>(
     requires made { IsFor geometry.now.layout workspace.old }
     requires volume { geometry.now.layout.size * geometry.now.layout.fsize ≤ (I.device image.old).size }
     requires windows { HoldWindows geometry.now.layout (I.device image.old).told workspace.old }
-    ensures same { kept W.lent report.new ≡ kept W.lent report.old }
     ensures image { Reads (I.device image.old) (I.device image.new) result }
     ensures text { TellsOf (λ bytes. Tells (I.device image.old).told bytes × IsFresh geometry.now.layout workspace.old)
         (λ bytes. messages.phase1 ∷ of_lines (phase1_lines geometry.now.layout (owners_of geometry.now.layout bytes)))

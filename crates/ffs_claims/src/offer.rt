@@ -6,7 +6,7 @@ ghost use Rattle.ffs_volume.specs.Areas.{is_in_range, is_ok};
 ghost use Rattle.ffs_volume.specs.Lengths.{HasLength};
 ghost use Rattle.ffs_volume.specs.Claims as claims;
 ghost use Rattle.ffs_volume.specs.Claims.{after_offer, after_offers, after_run, after_step, offer_lines, offers_lines, run_lines, step_lines};
-ghost use Rattle.ffs_report.specs.Progress.{progress, kept, Says};
+ghost use Rattle.ffs_report.specs.Progress.{progress, Says};
 ghost use Rattle.ffs_maps.specs.Bits.{bits_of};
 ghost use Rattle.ffs_workspace.specs.Holds.{claims_of};
 ghost use Rattle.ffs_workspace.specs.Lengths.{IsFor};
@@ -40,8 +40,7 @@ fn say_dup<W: Output>(
     fragment: u32,
     many: bool,
 ) -> Result<(), OutFault>
-    ensures same { kept W.lent report.new ≡ kept W.lent report.old }
-    ensures said { Says (progress W.sink report.old) (progress W.sink report.new) (of_lines (dup_lines inode fragment many)) result }
+    ensures { Says (progress W.sink report.old) (progress W.sink report.new) (of_lines (dup_lines inode fragment many)) result }
 {
     report.say(&Line::Block(BlockMessage::Dup { fragment, inode }))?;
     if many {
@@ -56,8 +55,7 @@ fn say_bad<W: Output>(
     fragment: u32,
     many: bool,
 ) -> Result<(), OutFault>
-    ensures same { kept W.lent report.new ≡ kept W.lent report.old }
-    ensures said { Says (progress W.sink report.old) (progress W.sink report.new) (of_lines (bad_lines inode fragment many)) result }
+    ensures { Says (progress W.sink report.old) (progress W.sink report.new) (of_lines (bad_lines inode fragment many)) result }
 {
     report.say(&Line::Block(BlockMessage::Bad { fragment, inode }))?;
     if many {
@@ -121,7 +119,6 @@ fn offer<W: Output>(
 ) -> Result<(), OutFault>
     requires made { IsFor geometry.now.layout workspace.old }
     requires room { workspace.old.kept < 2 ^ 63 }
-    ensures same { kept W.lent report.new ≡ kept W.lent report.old }
     ensures said { Says (progress W.sink report.old) (progress W.sink report.new)
         (of_lines (offer_lines geometry.now.layout number (claims_of workspace.old) fragment)) result }
     ensures claims { claims_of workspace.new ≡ after_offer geometry.now.layout (claims_of workspace.old) fragment }
@@ -149,7 +146,6 @@ fn offers<W: Output>(
 ) -> Result<(), OutFault>
     requires made { IsFor geometry.now.layout workspace.old }
     requires room { workspace.old.kept + len < 2 ^ 63 }
-    ensures same { kept W.lent report.new ≡ kept W.lent report.old }
     ensures said { Says (progress W.sink report.old) (progress W.sink report.new)
         (of_lines (offers_lines geometry.now.layout number (claims_of workspace.old) (range_with_len start len))) result }
     ensures claims { OnOk result (claims_of workspace.new ≡ after_offers geometry.now.layout (claims_of workspace.old) (range_with_len start len)) }
@@ -208,7 +204,6 @@ fn run_in_range<W: Output>(
     requires in_range { is_in_range geometry.now.layout start len ≡ true }
     requires room { workspace.old.kept < 2 ^ 62 }
     requires dups { workspace.old.dups < 11 }
-    ensures same { kept W.lent report.new ≡ kept W.lent report.old }
     ensures said { Says (progress W.sink report.old) (progress W.sink report.new)
         (of_lines (offers_lines geometry.now.layout number (claims_of workspace.old) (range_with_len start len))) result }
     ensures claims { OnOk result (claims_of workspace.new ≡ after_offers geometry.now.layout (claims_of workspace.old) (range_with_len start len)) }
@@ -239,7 +234,6 @@ fn run<W: Output>(
     requires runs { workspace.old.runs_seen < 2 ^ 62 }
     requires bad { workspace.old.bad < 11 }
     requires dups { workspace.old.dups < 11 }
-    ensures same { kept W.lent report.new ≡ kept W.lent report.old }
     ensures said { Says (progress W.sink report.old) (progress W.sink report.new)
         (of_lines (run_lines geometry.now.layout number (claims_of workspace.old) start len)) result }
     ensures claims { OnOk result (claims_of workspace.new ≡ after_run geometry.now.layout (claims_of workspace.old) start len) }
@@ -274,7 +268,6 @@ pub fn step<W: Output>(
     requires length { HasLength geometry.now.layout.frag step }
     requires room { workspace.old.kept < 2 ^ 62 }
     requires runs { workspace.old.runs_seen < 2 ^ 62 }
-    ensures same { kept W.lent report.new ≡ kept W.lent report.old }
     ensures said { Says (progress W.sink report.old) (progress W.sink report.new)
         (of_lines (step_lines geometry.now.layout number (claims_of workspace.old) step)) result }
     ensures claims { OnOk result (claims_of workspace.new ≡ after_step geometry.now.layout (claims_of workspace.old) step) }

@@ -1,7 +1,7 @@
 //! Phase 1b: rescan for more dups (fsck(8)).
 
 ghost use Rattle.std.specs.Prelude.{◌≡◌, ◌+◌, ◌*◌, ◌<◌, ◌≤◌, ◌∷◌, OnOk, true, ℕ, List, slice_index, vec_len};
-ghost use Rattle.ffs_report.specs.Progress.{progress, kept, Says};
+ghost use Rattle.ffs_report.specs.Progress.{progress, Says};
 ghost use Rattle.ffs_phase.specs.Known.{Where, Tells};
 ghost use Rattle.ffs_phase.specs.Runs.{Reads, TellsOf};
 ghost use Rattle.ffs_volume.specs.BlockCheck.{first_offers, phase1b_lines};
@@ -50,7 +50,6 @@ fn retell<W: Output>(
     requires number { number < inodes_of geometry.now.layout }
     requires going { rescans.is_going rescan.old ≡ true }
     requires length { HasLength geometry.now.layout.frag step }
-    ensures same { kept W.lent report.new ≡ kept W.lent report.old }
     ensures said { Says (progress W.sink report.old) (progress W.sink report.new)
         (of_lines (first_offers (bits_of workspace.old.doubled) (step_offers_again geometry.now.layout number rescan.old step))) result }
     ensures told { OnOk result (Told (step_offers_again geometry.now.layout number rescan.old step) workspace.old workspace.new) }
@@ -84,7 +83,6 @@ fn rewalk<I: Image, W: Output>(
     requires number { number < inodes_of geometry.now.layout }
     requires volume { geometry.now.layout.size * geometry.now.layout.fsize ≤ (I.device image.old).size }
     requires windows { HoldWindows geometry.now.layout (I.device image.old).told workspace.old }
-    ensures same { kept W.lent report.new ≡ kept W.lent report.old }
     ensures image { Reads (I.device image.old) (I.device image.new) result }
     ensures text { TellsOf (Tells (I.device image.old).told)
         (λ bytes. of_lines (first_offers (bits_of workspace.old.doubled) (offers_again geometry.now.layout number (rescans.rescan cut) (steps_of geometry.now.layout inode.now bytes))))
@@ -131,7 +129,6 @@ fn renumbered<I: Image, W: Output>(
     requires number { number < inodes_of geometry.now.layout }
     requires volume { geometry.now.layout.size * geometry.now.layout.fsize ≤ (I.device image.old).size }
     requires windows { HoldWindows geometry.now.layout (I.device image.old).told workspace.old }
-    ensures same { kept W.lent report.new ≡ kept W.lent report.old }
     ensures image { Reads (I.device image.old) (I.device image.new) result }
     ensures text { TellsOf (Tells (I.device image.old).told)
         (λ bytes. of_lines (first_offers (bits_of workspace.old.doubled) (offers_again geometry.now.layout number (rescans.rescan (slice_index workspace.old.cut.items number)) (steps_of geometry.now.layout (inode_of geometry.now.layout bytes number) bytes))))
@@ -161,7 +158,6 @@ pub fn phase1b<I: Image, W: Output>(
     requires made { IsFor geometry.now.layout workspace.old }
     requires volume { geometry.now.layout.size * geometry.now.layout.fsize ≤ (I.device image.old).size }
     requires windows { HoldWindows geometry.now.layout (I.device image.old).told workspace.old }
-    ensures same { kept W.lent report.new ≡ kept W.lent report.old }
     ensures image { Reads (I.device image.old) (I.device image.new) result }
     ensures text { TellsOf (λ bytes. Tells (I.device image.old).told bytes × HoldsPhase1 geometry.now.layout bytes workspace.old)
         (λ bytes. messages.phase1b ∷ of_lines (phase1b_lines geometry.now.layout (owners_of geometry.now.layout bytes)))

@@ -5,7 +5,7 @@ ghost use Rattle.ffs_volume.specs.BlockCheck.{class_lines, count_lines, is_unkno
 ghost use Rattle.ffs_volume.specs.Claims.{next_inode};
 ghost use Rattle.ffs_volume.specs.Inodes.{is_settled};
 ghost use Rattle.ffs_volume.specs.Replay.{cut_of};
-ghost use Rattle.ffs_report.specs.Progress.{progress, kept, Says};
+ghost use Rattle.ffs_report.specs.Progress.{progress, Says};
 ghost use Rattle.ffs_workspace.specs.Holds.{claims_of, has_blame};
 ghost use Rattle.ffs_volume.specs.Kinds.{kind_of};
 ghost use Rattle.ffs_workspace.specs.Lengths.{IsFor};
@@ -38,8 +38,7 @@ pub fn say_class<W: Output>(
     number: u32,
     class: Class,
 ) -> Result<(), OutFault>
-    ensures same { kept W.lent report.new ≡ kept W.lent report.old }
-    ensures said { Says (progress W.sink report.old) (progress W.sink report.new) (of_lines (class_lines number class)) result }
+    ensures { Says (progress W.sink report.old) (progress W.sink report.new) (of_lines (class_lines number class)) result }
 {
     match class {
         Class::Partial => report.say(&Line::Block(BlockMessage::PartAlloc { inode: number })),
@@ -67,8 +66,7 @@ pub fn say_count<W: Output>(
     report: &mut Report<'_, W>,
 ) -> Result<(), OutFault>
     requires { workspace.now.kept < 2 ^ 40 }
-    ensures same { kept W.lent report.new ≡ kept W.lent report.old }
-    ensures said { Says (progress W.sink report.old) (progress W.sink report.new)
+    ensures { Says (progress W.sink report.old) (progress W.sink report.new)
         (of_lines (count_lines geometry.now.layout (counted_owner number class found) (claims_of workspace.now))) result }
 {
     let right = workspace.kept * u64::from(geometry.layout.fsize / 512);

@@ -4,7 +4,7 @@ ghost use Rattle.std.specs.Prelude.{◌≡◌, ◌+◌, ◌<◌, ◌≤◌, [], 
 ghost use Rattle.std.specs.List.{range_with_len, slice_index_or};
 ghost use Rattle.ffs_volume.specs.BlockCheck.{first_offers};
 ghost use Rattle.ffs_volume.specs.PrefixLaws.{offer_at};
-ghost use Rattle.ffs_report.specs.Progress.{progress, kept, Says};
+ghost use Rattle.ffs_report.specs.Progress.{progress, Says};
 ghost use Rattle.ffs_maps.specs.Bits.{bits_of};
 ghost use Rattle.ffs_workspace.specs.Lengths.{IsFor, inodes_of};
 ghost use Rattle.ffs_claims.specs.Leaves.{SameWindows};
@@ -44,7 +44,6 @@ fn tell<W: Output>(
 ) -> Result<(), OutFault>
     requires made { IsFor geometry.now.layout workspace.old }
     requires number { number < inodes_of geometry.now.layout }
-    ensures same { kept W.lent report.new ≡ kept W.lent report.old }
     ensures said { Says (progress W.sink report.old) (progress W.sink report.new)
         (of_lines (first_offers (bits_of workspace.old.doubled) (offer_at number fragment ∷ []))) result }
     ensures told { Told (offer_at number fragment ∷ []) workspace.old workspace.new }
@@ -78,7 +77,6 @@ pub fn tell_run<W: Output>(
 ) -> Result<(), OutFault>
     requires made { IsFor geometry.now.layout workspace.old }
     requires number { number < inodes_of geometry.now.layout }
-    ensures same { kept W.lent report.new ≡ kept W.lent report.old }
     ensures said { Says (progress W.sink report.old) (progress W.sink report.new)
         (of_lines (first_offers (bits_of workspace.old.doubled) (map (offer_at number) (range_with_len start len)))) result }
     ensures told { OnOk result (Told (map (offer_at number) (range_with_len start len)) workspace.old workspace.new) }

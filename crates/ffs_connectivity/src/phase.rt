@@ -1,7 +1,7 @@
 //! Phase 3: connectivity (fsck(8)).
 
 ghost use Rattle.std.specs.Prelude.{◌≡◌, ◌*◌, ◌≤◌, ◌∷◌, ℕ, List, map};
-ghost use Rattle.ffs_report.specs.Progress.{progress, kept};
+ghost use Rattle.ffs_report.specs.Progress.{progress};
 ghost use Rattle.ffs_phase.specs.Known.{Tells};
 ghost use Rattle.ffs_phase.specs.Runs.{Reads, TellsOf};
 ghost use Rattle.ffs_volume.specs.Connectivity.{connectivity_lines};
@@ -35,7 +35,6 @@ pub fn phase3<I: Image, W: Output>(
     requires made { IsFor geometry.now.layout workspace.old }
     requires volume { geometry.now.layout.size * geometry.now.layout.fsize ≤ (I.device image.old).size }
     requires windows { HoldWindows geometry.now.layout (I.device image.old).told workspace.old }
-    ensures same { kept W.lent report.new ≡ kept W.lent report.old }
     ensures image { Reads (I.device image.old) (I.device image.new) result }
     ensures text { TellsOf (λ bytes. Tells (I.device image.old).told bytes × HoldsClaims geometry.now.layout bytes workspace.old × HoldsSurvey geometry.now.layout bytes workspace.old)
         (λ bytes. messages.phase3 ∷ map of_names (connectivity_lines (volume_of geometry.now.layout bytes)))

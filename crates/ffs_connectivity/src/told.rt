@@ -1,7 +1,7 @@
 //! Whether a directory is cut off, and what is told of it.
 
 ghost use Rattle.std.specs.Prelude.{◌≡◌, ◌*◌, ◌<◌, ◌≤◌, ◌∷◌, [], ℕ, List, map};
-ghost use Rattle.ffs_report.specs.Progress.{progress, kept};
+ghost use Rattle.ffs_report.specs.Progress.{progress};
 ghost use Rattle.ffs_phase.specs.Known.{Tells};
 ghost use Rattle.ffs_phase.specs.Runs.{Reads, TellsOf};
 ghost use Rattle.ffs_volume.specs.Connectivity as connectivity;
@@ -82,7 +82,6 @@ fn tell<I: Image, W: Output>(
     requires number { number < inodes_of geometry.now.layout }
     requires volume { geometry.now.layout.size * geometry.now.layout.fsize ≤ (I.device image.old).size }
     requires windows { HoldWindows geometry.now.layout (I.device image.old).told workspace.old }
-    ensures same { kept W.lent report.new ≡ kept W.lent report.old }
     ensures image { Reads (I.device image.old) (I.device image.new) result }
     ensures text { TellsOf (Tells (I.device image.old).told)
         (λ bytes. of_names (unref_dir (attributes (volume_of geometry.now.layout bytes) number)) ∷ [])
@@ -113,7 +112,6 @@ pub fn numbered<I: Image, W: Output>(
     requires leaders { HasLeaders workspace.old }
     requires volume { geometry.now.layout.size * geometry.now.layout.fsize ≤ (I.device image.old).size }
     requires windows { HoldWindows geometry.now.layout (I.device image.old).told workspace.old }
-    ensures same { kept W.lent report.new ≡ kept W.lent report.old }
     ensures image { Reads (I.device image.old) (I.device image.new) result }
     ensures text { TellsOf (λ bytes. Tells (I.device image.old).told bytes × HoldsClaims geometry.now.layout bytes workspace.old × HoldsSurvey geometry.now.layout bytes workspace.old)
         (λ bytes. map of_names (cut_off_lines (volume_of geometry.now.layout bytes) number))

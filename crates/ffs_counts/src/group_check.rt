@@ -6,7 +6,7 @@ ghost use Rattle.ffs_volume.specs.GroupCheck.{group_lines, told_once, phase5_lin
 ghost use Rattle.ffs_volume.specs.Report.{group_check_lines};
 ghost use Rattle.ffs_layout.specs.Super.{seen};
 ghost use Rattle.ffs_maps.specs.Bits.{bits_of};
-ghost use Rattle.ffs_report.specs.Progress.{progress, kept};
+ghost use Rattle.ffs_report.specs.Progress.{progress};
 ghost use Rattle.ffs_phase.specs.Known.{Where, Tells};
 ghost use Rattle.ffs_phase.specs.Runs.{Reads, TellsOf};
 ghost use Rattle.ffs_groups.specs.Free.{free_in};
@@ -53,7 +53,6 @@ fn check_group<I: Image, W: Output>(
     requires volume { geometry.now.layout.size * geometry.now.layout.fsize ≤ (I.device image.old).size }
     requires ready { AreReady geometry.now.layout (I.device image.old).told windows.old }
     requires up { AreUpTo group so_far.old.totals }
-    ensures same { kept W.lent report.new ≡ kept W.lent report.old }
     ensures image { Reads (I.device image.old) (I.device image.new) result }
     ensures text { TellsOf (Tells (I.device image.old).told)
         (λ bytes. map of_blocks (told_once (told_of so_far.old.once) (group_lines geometry.now.layout bytes (free_in (bits_of used.now) geometry.now.layout.size) (class_in kinds.now) group)))
@@ -85,7 +84,6 @@ fn check_groups<I: Image, W: Output>(
     requires kinds { length kinds.now ≡ superblock.now.geometry.layout.ncg * superblock.now.geometry.layout.ipg }
     requires volume { superblock.now.geometry.layout.size * superblock.now.geometry.layout.fsize ≤ (I.device image.old).size }
     requires ready { AreReady superblock.now.geometry.layout (I.device image.old).told windows.old }
-    ensures same { kept W.lent report.new ≡ kept W.lent report.old }
     ensures image { Reads (I.device image.old) (I.device image.new) result }
     ensures text { TellsOf (Tells (I.device image.old).told)
         (λ bytes. map of_blocks (phase5_lines superblock.now.geometry.layout bytes superblock.now.cstotal (free_in (bits_of used.now) superblock.now.geometry.layout.size) (class_in kinds.now)))
@@ -128,7 +126,6 @@ pub fn phase5<I: Image, W: Output>(
     requires made { IsFor superblock.now.geometry.layout workspace.old }
     requires volume { superblock.now.geometry.layout.size * superblock.now.geometry.layout.fsize ≤ (I.device image.old).size }
     requires windows { HoldWindows superblock.now.geometry.layout (I.device image.old).told workspace.old }
-    ensures same { kept W.lent report.new ≡ kept W.lent report.old }
     ensures image { Reads (I.device image.old) (I.device image.new) result }
     ensures text { TellsOf (λ bytes. ((I.device image.old).told ≡ Some bytes) × HoldsClaims superblock.now.geometry.layout bytes workspace.old)
         (λ bytes. phase5_heading ∷ group_check_lines bytes (seen superblock.now))

@@ -4,7 +4,7 @@ ghost use Rattle.std.specs.Prelude.{◌≡◌, ◌++◌, map, OnOk};
 ghost use Rattle.ffs_volume.specs.declared.BlockMessage.TheVariants.{FreeCounts, GroupSums, MapsWrong};
 ghost use Rattle.ffs_volume.specs.Messages.{of_blocks};
 ghost use Rattle.ffs_volume.specs.GroupCheck.{is_told, tell, told_once, unless};
-ghost use Rattle.ffs_report.specs.Progress.{progress, kept, Says};
+ghost use Rattle.ffs_report.specs.Progress.{progress, Says};
 ghost use Rattle.ffs_groups.specs.Check.{lines_of};
 ghost use Rattle.ffs_counts.specs.Once.{told_of, told_after};
 
@@ -64,7 +64,6 @@ pub fn say_unless<W: Output>(
     right: bool,
     message: BlockMessage,
 ) -> Result<(), OutFault>
-    ensures same { kept W.lent report.new ≡ kept W.lent report.old }
     ensures said { Says (progress W.sink report.old) (progress W.sink report.new) (map of_blocks (told_once (told_of once.old) (unless right message))) result }
     ensures told { told_of once.new ≡ told_after (told_of once.old) (unless right message) }
 {
@@ -82,7 +81,6 @@ pub fn say_group<W: Output>(
     found: &Findings,
     group: u32,
 ) -> Result<(), OutFault>
-    ensures same { kept W.lent report.new ≡ kept W.lent report.old }
     ensures said { Says (progress W.sink report.old) (progress W.sink report.new) (map of_blocks (told_once (told_of once.old) (lines_of found.now group))) result }
     ensures told { OnOk result (told_of once.new ≡ told_after (told_of once.old) (lines_of found.now group)) }
 {
@@ -100,7 +98,6 @@ fn say_whole_group<W: Output>(
     once: &mut Once,
     found: &Findings,
 ) -> Result<(), OutFault>
-    ensures same { kept W.lent report.new ≡ kept W.lent report.old }
     ensures said { Says (progress W.sink report.old) (progress W.sink report.new)
         (map of_blocks (told_once (told_of once.old) (unless found.now.counts FreeCounts ++ (unless found.now.maps MapsWrong ++ unless found.now.sums GroupSums)))) result }
     ensures told { OnOk result (told_of once.new ≡ told_after (told_of once.old) (unless found.now.counts FreeCounts ++ (unless found.now.maps MapsWrong ++ unless found.now.sums GroupSums))) }

@@ -4,7 +4,7 @@ ghost use Rattle.std.specs.Prelude.{◌≡◌, ◌==◌, ◌||◌, ◌&&◌, not
 ghost use Rattle.ffs_volume.specs.Messages.{of_names};
 ghost use Rattle.ffs_volume.specs.Numbers.{is_count};
 ghost use Rattle.ffs_volume.specs.PathnameCheck.{label_of};
-ghost use Rattle.ffs_report.specs.Progress.{progress, kept, Says};
+ghost use Rattle.ffs_report.specs.Progress.{progress, Says};
 ghost use Rattle.ffs_volume.specs.Kinds.{class_of_kind};
 ghost use Rattle.ffs_counts.specs.References.{attr_with, lines_as, reference_told};
 
@@ -86,8 +86,7 @@ pub fn say_line<W: Output>(
     report: &mut Report<'_, W>,
     line: Option<ReferenceLine>,
 ) -> Result<(), OutFault>
-    ensures same { kept W.lent report.new ≡ kept W.lent report.old }
-    ensures said { Says (progress W.sink report.old) (progress W.sink report.new) (map of_names (lines_as line)) result }
+    ensures { Says (progress W.sink report.old) (progress W.sink report.new) (map of_names (lines_as line)) result }
 {
     match line {
         Some(line) => report.say(&Line::Reference(line)),

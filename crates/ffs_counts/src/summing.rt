@@ -9,7 +9,7 @@ ghost use Rattle.ffs_volume.specs.Report.{summary_of, file_count as files_of, us
 ghost use Rattle.ffs_layout.specs.Super.{seen};
 ghost use Rattle.ffs_maps.specs.Bits.{bits_of};
 ghost use Rattle.ffs_report.specs.Lines.{message_of};
-ghost use Rattle.ffs_report.specs.Progress.{progress, kept};
+ghost use Rattle.ffs_report.specs.Progress.{progress};
 ghost use Rattle.ffs_phase.specs.Runs.{Reads, TellsOf};
 ghost use Rattle.ffs_image.specs.Device.{Device};
 ghost use Rattle.ffs_volume.specs.Kinds.{class_of_kind};
@@ -102,7 +102,6 @@ pub fn summary<W: Output>(
     report: &mut Report<'_, W>,
 ) -> Result<(), RunFault>
     requires { IsFor superblock.now.geometry.layout workspace.old }
-    ensures same { kept W.lent report.new ≡ kept W.lent report.old }
     ensures text { TellsOf (λ bytes. HoldsClaims superblock.now.geometry.layout bytes workspace.old)
         (λ bytes. summary_of (seen superblock.now) (files_of superblock.now.geometry.layout bytes) (used_of superblock.now.geometry.layout bytes) ∷ [])
         (progress W.sink report.old) (progress W.sink report.new) result }

@@ -1,5 +1,5 @@
 -- What an image tells of itself, and what a read does to it.
-use Rattle.std.specs.Prelude.{◌≡◌, ◌⊎◌, ℕ, ◌-◌, ◌^◌, ◌<◌, List, length, drop, take, Option, Some, IfSome}
+use Rattle.std.specs.Prelude.{◌≡◌, ℕ, ◌+◌, ◌-◌, ◌^◌, min, List, length, drop, take, Option, Some, IfSome}
 
 -- its bytes where it tells them, its size in bytes, how many reads have failed, and the sector of the last one that did
 pub record Device : Type 0 where
@@ -12,9 +12,9 @@ pub record Device : Type 0 where
 abbrev pub WhereTold : Option (List ℕ) → (List ℕ → Type 0) → Type 0
 WhereTold told P = (bytes : List ℕ) → told ≡ Some bytes → P bytes
 
--- a count of failures rose, or stood at its last value before
+-- a count of failures rose by one, up to its last value
 abbrev pub Rose : ℕ → ℕ → Type 0
-Rose old new = (old < new) ⊎ (old ≡ 2 ^ 64 - 1)
+Rose old new = new ≡ min (old + 1) (2 ^ 64 - 1)
 
 -- what a failed read at a sector leaves
 pub record Faulted (old new : Device) (sector : ℕ) : Type 0 where

@@ -6,7 +6,7 @@ ghost use Rattle.ffs_volume.specs.Roles.{seen_in};
 ghost use Rattle.ffs_volume.specs.Volumes.{volume_of};
 ghost use Rattle.ffs_phase.specs.Known.{Where};
 ghost use Rattle.ffs_phase.specs.Runs.{Reads, TellsOf};
-ghost use Rattle.ffs_report.specs.Progress.{progress, kept};
+ghost use Rattle.ffs_report.specs.Progress.{progress};
 ghost use Rattle.ffs_workspace.specs.Lengths.{IsFor, HoldWindows};
 ghost use Rattle.ffs_workspace.specs.Leaves.{LeavesSurvey};
 ghost use Rattle.ffs_pathnames.specs.Gathers.{marks_of};
@@ -35,7 +35,6 @@ pub fn tell_directory<I: Image, W: Output>(
     requires volume { geometry.now.layout.size * geometry.now.layout.fsize ≤ (I.device image.old).size }
     requires windows { HoldWindows geometry.now.layout (I.device image.old).told workspace.old }
     requires dir { dir < geometry.now.layout.ncg * geometry.now.layout.ipg }
-    ensures same { kept W.lent report.new ≡ kept W.lent report.old }
     ensures image { Reads (I.device image.old) (I.device image.new) result }
     ensures text { TellsOf (λ b. Knows geometry.now.layout (I.device image.old).told workspace.old dir b × (inode.now ≡ inode_of geometry.now.layout b dir))
         (λ b. map of_names (marks.entries_told (volume_of geometry.now.layout b) dir (marks_of workspace.old) (seen_in (volume_of geometry.now.layout b) dir)))

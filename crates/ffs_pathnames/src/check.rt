@@ -5,7 +5,7 @@ ghost use Rattle.ffs_volume.specs.PathnameCheck.{dir_lines};
 ghost use Rattle.ffs_volume.specs.Volumes.{volume_of};
 ghost use Rattle.ffs_phase.specs.Known.{Where};
 ghost use Rattle.ffs_phase.specs.Runs.{Reads, TellsOf};
-ghost use Rattle.ffs_report.specs.Progress.{progress, kept};
+ghost use Rattle.ffs_report.specs.Progress.{progress};
 ghost use Rattle.ffs_workspace.specs.Lengths.{IsFor, HoldWindows};
 ghost use Rattle.ffs_volume.specs.Graph.{parent};
 ghost use Rattle.ffs_volume.specs.Inodes.{inode_of};
@@ -90,7 +90,6 @@ fn tell_starts<I: Image, W: Output>(
     requires volume { geometry.now.layout.size * geometry.now.layout.fsize ≤ (I.device image.old).size }
     requires windows { HoldWindows geometry.now.layout (I.device image.old).told workspace.old }
     requires number { dir < geometry.now.layout.ncg * geometry.now.layout.ipg }
-    ensures same { kept W.lent report.new ≡ kept W.lent report.old }
     ensures image { Reads (I.device image.old) (I.device image.new) result }
     ensures text { TellsOf (λ b. Knows geometry.now.layout (I.device image.old).told workspace.old dir b × (size ≡ (inode_of geometry.now.layout b dir).size))
         (λ b. map of_names (starts_told (attributes (volume_of geometry.now.layout b) dir) (dir_path (graph_of (volume_of geometry.now.layout b)) dir) dir parent
@@ -122,7 +121,6 @@ fn begin_directory<I: Image, W: Output>(
     requires windows { HoldWindows geometry.now.layout (I.device image.old).told workspace.old }
     requires number { dir < geometry.now.layout.ncg * geometry.now.layout.ipg }
     requires dir { 2 ≤ dir }
-    ensures same { kept W.lent report.new ≡ kept W.lent report.old }
     ensures image { Reads (I.device image.old) (I.device image.new) result }
     ensures text { TellsOf (Knows geometry.now.layout (I.device image.old).told workspace.old dir)
         (λ b. map of_names (dir_starts (volume_of geometry.now.layout b) dir))
@@ -169,7 +167,6 @@ pub fn check_directory<I: Image, W: Output>(
     requires windows { HoldWindows geometry.now.layout (I.device image.old).told workspace.old }
     requires number { dir < geometry.now.layout.ncg * geometry.now.layout.ipg }
     requires dir { 2 ≤ dir }
-    ensures same { kept W.lent report.new ≡ kept W.lent report.old }
     ensures image { Reads (I.device image.old) (I.device image.new) result }
     ensures text { TellsOf (λ b. Knows geometry.now.layout (I.device image.old).told workspace.old dir b × AreRightBefore (volume_of geometry.now.layout b) dir (marks_of workspace.old))
         (λ b. map of_names (dir_lines (volume_of geometry.now.layout b) dir))

@@ -9,7 +9,7 @@ ghost use Rattle.ffs_volume.specs.Volumes.{volume_of};
 ghost use Rattle.ffs_layout.specs.Entry.{seen_entry};
 ghost use Rattle.ffs_phase.specs.Known.{Where};
 ghost use Rattle.ffs_phase.specs.Runs.{Reads, TellsOf};
-ghost use Rattle.ffs_report.specs.Progress.{progress, kept};
+ghost use Rattle.ffs_report.specs.Progress.{progress};
 ghost use Rattle.ffs_workspace.specs.Lengths.{IsFor, HoldWindows};
 ghost use Rattle.ffs_workspace.specs.Leaves.{LeavesSurvey};
 ghost use Rattle.ffs_pathnames.specs.Examines.{LeavesMarks};
@@ -43,7 +43,6 @@ fn say_entry<I: Image, W: Output>(
     requires windows { HoldWindows geometry.now.layout (I.device image.old).told workspace.old }
     requires dir { dir < geometry.now.layout.ncg * geometry.now.layout.ipg }
     requires name { length entry.now.name.now ≤ 255 }
-    ensures same { kept W.lent report.new ≡ kept W.lent report.old }
     ensures image { Reads (I.device image.old) (I.device image.new) result }
     ensures text { TellsOf (Knows geometry.now.layout (I.device image.old).told workspace.old dir)
         (λ b. map of_names (marks.seen_told (volume_of geometry.now.layout b) dir (marks_of workspace.old) (record { role = role; entry = seen_entry entry.now })))
@@ -76,7 +75,6 @@ pub fn tell_entry<I: Image, W: Output>(
     requires windows { HoldWindows geometry.now.layout (I.device image.old).told workspace.old }
     requires dir { dir < geometry.now.layout.ncg * geometry.now.layout.ipg }
     requires name { length entry.now.name.now ≤ 255 }
-    ensures same { kept W.lent report.new ≡ kept W.lent report.old }
     ensures image { Reads (I.device image.old) (I.device image.new) result }
     ensures text { TellsOf (Knows geometry.now.layout (I.device image.old).told workspace.old dir)
         (λ b. map of_names (marks.seen_told (volume_of geometry.now.layout b) dir (marks_of workspace.old) (record { role = role; entry = seen_entry entry.now })))
@@ -127,7 +125,6 @@ pub fn tell_chunk<I: Image, W: Output>(
     requires volume { geometry.now.layout.size * geometry.now.layout.fsize ≤ (I.device image.old).size }
     requires windows { HoldWindows geometry.now.layout (I.device image.old).told workspace.old }
     requires dir { dir < geometry.now.layout.ncg * geometry.now.layout.ipg }
-    ensures same { kept W.lent report.new ≡ kept W.lent report.old }
     ensures image { Reads (I.device image.old) (I.device image.new) result }
     ensures text { TellsOf (Knows geometry.now.layout (I.device image.old).told workspace.old dir)
         (λ b. map of_names (marks.entries_told (volume_of geometry.now.layout b) dir (marks_of workspace.old) (seen_from first 0 (entries_of geometry.now.layout.order chunk.now))))

@@ -3,7 +3,7 @@
 ghost use Rattle.std.specs.Prelude.{◌≡◌, ◌*◌, ◌≤◌, ◌∷◌, ℕ, List, Bool, true, false, OnOk, IfOk, map};
 ghost use Rattle.ffs_phase.specs.Known.{Tells, Where};
 ghost use Rattle.ffs_phase.specs.Runs.{Reads, TellsOf};
-ghost use Rattle.ffs_report.specs.Progress.{progress, kept};
+ghost use Rattle.ffs_report.specs.Progress.{progress};
 ghost use Rattle.ffs_volume.specs.Messages as messages;
 ghost use Rattle.ffs_volume.specs.Messages.{of_names};
 ghost use Rattle.ffs_volume.specs.PathnameCheck.{goes_on, pathname_lines};
@@ -43,7 +43,6 @@ pub fn phase2<I: Image, W: Output>(
     requires made { IsFor geometry.now.layout workspace.old }
     requires volume { geometry.now.layout.size * geometry.now.layout.fsize ≤ (I.device image.old).size }
     requires windows { HoldWindows geometry.now.layout (I.device image.old).told workspace.old }
-    ensures same { kept W.lent report.new ≡ kept W.lent report.old }
     ensures image { Reads (I.device image.old) (I.device image.new) result }
     ensures text { TellsOf (λ b. Tells (I.device image.old).told b × HoldsClaims geometry.now.layout b workspace.old)
         (λ b. messages.phase2 ∷ map of_names (pathname_lines (volume_of geometry.now.layout b)))

@@ -1,6 +1,6 @@
 // What is told of the root.
 ghost use Rattle.std.specs.Prelude.{◌≡◌, ◌||◌};
-ghost use Rattle.ffs_report.specs.Progress.{progress, kept};
+ghost use Rattle.ffs_report.specs.Progress.{progress};
 ghost use Rattle.ffs_volume.specs.Kinds.{is_dir_kind, is_empty_dir_kind};
 ghost use Rattle.ffs_pathnames.specs.Before.{root_said};
 ghost use Rattle.ffs_pathnames.specs.GoesOn.{is_go};
@@ -37,8 +37,7 @@ pub fn tell_root<W: Output>(
     kind: u8,
     marked: bool,
 ) -> Result<(), OutFault>
-    ensures same { kept W.lent report.new ≡ kept W.lent report.old }
-    ensures said { SaysNames (progress W.sink report.old) (progress W.sink report.new) (root_said kind marked) result }
+    ensures { SaysNames (progress W.sink report.old) (progress W.sink report.new) (root_said kind marked) result }
 {
     if kind == 0 {
         return say_line(report, &NameLine::Directory(DirectoryLine::RootNone));

@@ -5,7 +5,7 @@ ghost use Rattle.ffs_volume.specs.Directory.{is_live};
 ghost use Rattle.ffs_volume.specs.PathnameCheck.{missing_dot_told, missing_dotdot_told, is_other};
 ghost use Rattle.ffs_volume.specs.Roles as roles;
 ghost use Rattle.ffs_layout.specs.Entry.{seen_entry};
-ghost use Rattle.ffs_report.specs.Progress.{progress, kept};
+ghost use Rattle.ffs_report.specs.Progress.{progress};
 ghost use Rattle.ffs_pathnames.specs.SaysNames.{SaysNames};
 ghost use Rattle.ffs_pathnames.specs.Starts.{size_told, chunks_told, shape_told, there_told, above_told, dot_in, dotdot_in, dot_said, dotdot_said, dots_told, starts_told};
 
@@ -40,8 +40,7 @@ fn is_short(size: u64) -> bool
 
 /// Says that a directory's size is too short, or no multiple of a chunk.
 fn say_size<W: Output>(report: &mut Report<'_, W>, attr: Attr, path: &[u8]) -> Result<(), OutFault>
-    ensures same { kept W.lent report.new ≡ kept W.lent report.old }
-    ensures said { SaysNames (progress W.sink report.old) (progress W.sink report.new) (size_told attr path.now) result }
+    ensures { SaysNames (progress W.sink report.old) (progress W.sink report.new) (size_told attr path.now) result }
 {
     let short = Check {
         holds: is_short(attr.size),
@@ -65,8 +64,7 @@ fn say_chunks<W: Output>(
     gap: bool,
     sound: bool,
 ) -> Result<(), OutFault>
-    ensures same { kept W.lent report.new ≡ kept W.lent report.old }
-    ensures said { SaysNames (progress W.sink report.old) (progress W.sink report.new) (chunks_told attr path.now gap sound) result }
+    ensures { SaysNames (progress W.sink report.old) (progress W.sink report.new) (chunks_told attr path.now gap sound) result }
 {
     let empty = Check {
         holds: gap,
@@ -87,8 +85,7 @@ fn say_shape<W: Output>(
     gap: bool,
     sound: bool,
 ) -> Result<(), OutFault>
-    ensures same { kept W.lent report.new ≡ kept W.lent report.old }
-    ensures said { SaysNames (progress W.sink report.old) (progress W.sink report.new) (shape_told attr path.now gap sound) result }
+    ensures { SaysNames (progress W.sink report.old) (progress W.sink report.new) (shape_told attr path.now gap sound) result }
 {
     say_size(report, attr, path)?;
     say_chunks(report, attr, path, gap, sound)
@@ -116,8 +113,7 @@ fn say_there<W: Output>(
     path: &[u8],
     entry: &Entry<'_>,
 ) -> Result<(), OutFault>
-    ensures same { kept W.lent report.new ≡ kept W.lent report.old }
-    ensures said { SaysNames (progress W.sink report.old) (progress W.sink report.new) (there_told attr path.now number (seen_entry entry.now)) result }
+    ensures { SaysNames (progress W.sink report.old) (progress W.sink report.new) (there_told attr path.now number (seen_entry entry.now)) result }
 {
     let other = Check {
         holds: entry.number != number,
@@ -138,8 +134,7 @@ fn say_dot<W: Output>(
     path: &[u8],
     first: Option<Entry<'_>>,
 ) -> Result<(), OutFault>
-    ensures same { kept W.lent report.new ≡ kept W.lent report.old }
-    ensures said { SaysNames (progress W.sink report.old) (progress W.sink report.new)
+    ensures { SaysNames (progress W.sink report.old) (progress W.sink report.new)
         (dot_said attr path.now number (option_map seen_entry first.entry) (dot_in (option_map seen_entry first.entry))) result }
 {
     match first {
@@ -172,8 +167,7 @@ fn say_above<W: Output>(
     path: &[u8],
     entry: &Entry<'_>,
 ) -> Result<(), OutFault>
-    ensures same { kept W.lent report.new ≡ kept W.lent report.old }
-    ensures said { SaysNames (progress W.sink report.old) (progress W.sink report.new) (above_told attr path.now parent (seen_entry entry.now)) result }
+    ensures { SaysNames (progress W.sink report.old) (progress W.sink report.new) (above_told attr path.now parent (seen_entry entry.now)) result }
 {
     let other = Check {
         holds: is_other(parent, entry.number),
@@ -204,8 +198,7 @@ fn say_dotdot<W: Output>(
     path: &[u8],
     second: Option<Entry<'_>>,
 ) -> Result<(), OutFault>
-    ensures same { kept W.lent report.new ≡ kept W.lent report.old }
-    ensures said { SaysNames (progress W.sink report.old) (progress W.sink report.new)
+    ensures { SaysNames (progress W.sink report.old) (progress W.sink report.new)
         (dotdot_said attr path.now parent (option_map seen_entry second.entry) (dotdot_in (option_map seen_entry second.entry))) result }
 {
     match second {
@@ -239,8 +232,7 @@ fn say_dots<W: Output>(
     first: Option<Entry<'_>>,
     second: Option<Entry<'_>>,
 ) -> Result<(), OutFault>
-    ensures same { kept W.lent report.new ≡ kept W.lent report.old }
-    ensures said { SaysNames (progress W.sink report.old) (progress W.sink report.new)
+    ensures { SaysNames (progress W.sink report.old) (progress W.sink report.new)
         (dots_told attr path.now number parent (option_map seen_entry first.entry) (option_map seen_entry second.entry)) result }
 {
     say_dot(report, number, attr, path, first)?;
@@ -257,8 +249,7 @@ pub fn say_starts<W: Output>(
     path: &[u8],
     shape: Shape<'_>,
 ) -> Result<(), OutFault>
-    ensures same { kept W.lent report.new ≡ kept W.lent report.old }
-    ensures said { SaysNames (progress W.sink report.old) (progress W.sink report.new)
+    ensures { SaysNames (progress W.sink report.old) (progress W.sink report.new)
         (starts_told attr path.now number parent shape.entry.gap shape.entry.sound (option_map seen_entry shape.entry.first) (option_map seen_entry shape.entry.second)) result }
 {
     say_shape(report, attr, path, shape.gap, shape.sound)?;

@@ -11,7 +11,7 @@ ghost use Rattle.ffs_volume.specs.Paths.{dir_path, entry_path};
 ghost use Rattle.ffs_volume.specs.Volumes.{volume_of};
 ghost use Rattle.ffs_layout.specs.Entry.{seen_entry};
 ghost use Rattle.ffs_phase.specs.Runs.{Reads, TellsOf};
-ghost use Rattle.ffs_report.specs.Progress.{progress, kept};
+ghost use Rattle.ffs_report.specs.Progress.{progress};
 ghost use Rattle.ffs_workspace.specs.Lengths.{IsFor, HoldWindows};
 ghost use Rattle.ffs_workspace.specs.Holds.{HoldsClaims, HoldsSurvey};
 ghost use Rattle.ffs_pathnames.specs.Examines.{LeavesMarks};
@@ -227,7 +227,6 @@ pub fn tell_plain<I: Image, W: Output>(
     requires windows { HoldWindows geometry.now.layout (I.device image.old).told workspace.old }
     requires dir { dir < geometry.now.layout.ncg * geometry.now.layout.ipg }
     requires name { length entry.now.name.now ≤ 255 }
-    ensures same { kept W.lent report.new ≡ kept W.lent report.old }
     ensures image { Reads (I.device image.old) (I.device image.new) result }
     ensures text { TellsOf (Knows geometry.now.layout (I.device image.old).told workspace.old dir)
         (λ b. map of_names (plain_told (volume_of geometry.now.layout b) dir (marks_of workspace.old) (seen_entry entry.now)))
@@ -276,7 +275,6 @@ pub fn tell_extra<I: Image, W: Output>(
     requires volume { geometry.now.layout.size * geometry.now.layout.fsize ≤ (I.device image.old).size }
     requires windows { HoldWindows geometry.now.layout (I.device image.old).told workspace.old }
     requires dir { dir < geometry.now.layout.ncg * geometry.now.layout.ipg }
-    ensures same { kept W.lent report.new ≡ kept W.lent report.old }
     ensures image { Reads (I.device image.old) (I.device image.new) result }
     ensures text { TellsOf (Knows geometry.now.layout (I.device image.old).told workspace.old dir)
         (λ b. map of_names (extra_told (attributes (volume_of geometry.now.layout b) dir) (dir_path (graph_of (volume_of geometry.now.layout b)) dir) (seen_entry entry.now)))
@@ -323,8 +321,7 @@ fn say_extra<W: Output>(
     path: &[u8],
     entry: &Entry<'_>,
 ) -> Result<(), OutFault>
-    ensures same { kept W.lent report.new ≡ kept W.lent report.old }
-    ensures said { SaysNames (progress W.sink report.old) (progress W.sink report.new) (extra_told attr path.now (seen_entry entry.now)) result }
+    ensures { SaysNames (progress W.sink report.old) (progress W.sink report.new) (extra_told attr path.now (seen_entry entry.now)) result }
 {
     if is_one_dot(entry.name) {
         return report.say(&Line::Dot(DotLine::ExtraDot { attr, path }));

@@ -1,7 +1,7 @@
 // What is told of an entry, by what it comes to.
 ghost use Rattle.std.specs.Prelude.{◌≡◌, ◌++◌};
 ghost use Rattle.ffs_volume.specs.Messages.{told};
-ghost use Rattle.ffs_report.specs.Progress.{progress, kept};
+ghost use Rattle.ffs_report.specs.Progress.{progress};
 ghost use Rattle.ffs_pathnames.specs.NameLines.{name_message, two_told};
 ghost use Rattle.ffs_pathnames.specs.SaysNames.{SaysNames};
 ghost use Rattle.ffs_pathnames.specs.Verdicts.{suspect_message, links_told, faults_told, verdict_told};
@@ -18,8 +18,7 @@ fn say_suspect<W: Output>(
     attr: Attr,
     path: &[u8],
 ) -> Result<(), OutFault>
-    ensures same { kept W.lent report.new ≡ kept W.lent report.old }
-    ensures said { SaysNames (progress W.sink report.old) (progress W.sink report.new) (told faults.now.suspect (suspect_message faults.now attr path.now)) result }
+    ensures { SaysNames (progress W.sink report.old) (progress W.sink report.new) (told faults.now.suspect (suspect_message faults.now attr path.now)) result }
 {
     if !faults.suspect {
         return Ok(());
@@ -45,8 +44,7 @@ fn say_links<W: Output>(
     path: &[u8],
     directory: &[u8],
 ) -> Result<(), OutFault>
-    ensures same { kept W.lent report.new ≡ kept W.lent report.old }
-    ensures said { SaysNames (progress W.sink report.old) (progress W.sink report.new) (links_told faults.now attr path.now directory.now) result }
+    ensures { SaysNames (progress W.sink report.old) (progress W.sink report.new) (links_told faults.now attr path.now directory.now) result }
 {
     let extraneous = Check {
         holds: faults.extraneous,
@@ -74,8 +72,7 @@ fn say_faults<W: Output>(
     path: &[u8],
     directory: &[u8],
 ) -> Result<(), OutFault>
-    ensures same { kept W.lent report.new ≡ kept W.lent report.old }
-    ensures said { SaysNames (progress W.sink report.old) (progress W.sink report.new) (faults_told faults.now attr path.now directory.now) result }
+    ensures { SaysNames (progress W.sink report.old) (progress W.sink report.new) (faults_told faults.now attr path.now directory.now) result }
 {
     say_suspect(report, faults, attr, path)?;
     say_links(report, faults, attr, path, directory)
@@ -90,8 +87,7 @@ pub fn say_verdict<W: Output>(
     path: &[u8],
     directory: &[u8],
 ) -> Result<(), OutFault>
-    ensures same { kept W.lent report.new ≡ kept W.lent report.old }
-    ensures said { SaysNames (progress W.sink report.old) (progress W.sink report.new) (verdict_told verdict.now number attr path.now directory.now) result }
+    ensures { SaysNames (progress W.sink report.old) (progress W.sink report.new) (verdict_told verdict.now number attr path.now directory.now) result }
 {
     match verdict {
         Verdict::OutOfRange => say_line(

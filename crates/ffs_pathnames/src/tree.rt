@@ -2,7 +2,7 @@
 ghost use Rattle.std.specs.Prelude.{suc, ◌≡◌, ◌-◌, ◌*◌, ◌==◌, ◌<◌, ◌≤◌, ℕ, List, OnOk, IfOk, map, slice_index};
 ghost use Rattle.ffs_phase.specs.Known.{Where};
 ghost use Rattle.ffs_phase.specs.Runs.{Reads, TellsOf};
-ghost use Rattle.ffs_report.specs.Progress.{progress, kept};
+ghost use Rattle.ffs_report.specs.Progress.{progress};
 ghost use Rattle.ffs_volume.specs.Messages.{of_names, lines_from};
 ghost use Rattle.ffs_volume.specs.PathnameCheck.{goes_on, lines_of, pathname_lines};
 ghost use Rattle.ffs_volume.specs.Volumes.{volume_of};
@@ -43,7 +43,6 @@ fn check_inode<I: Image, W: Output>(
     requires windows { HoldWindows geometry.now.layout (I.device image.old).told workspace.old }
     requires low { 2 ≤ number }
     requires number { number < inodes_of geometry.now.layout }
-    ensures same { kept W.lent report.new ≡ kept W.lent report.old }
     ensures image { Reads (I.device image.old) (I.device image.new) result }
     ensures text { TellsOf (λ b. IsBefore geometry.now.layout (I.device image.old).told workspace.old number b)
         (λ b. map of_names (lines_of (volume_of geometry.now.layout b) number))
@@ -70,7 +69,6 @@ fn check_inodes<I: Image, W: Output>(
     requires made { IsFor geometry.now.layout workspace.old }
     requires volume { geometry.now.layout.size * geometry.now.layout.fsize ≤ (I.device image.old).size }
     requires windows { HoldWindows geometry.now.layout (I.device image.old).told workspace.old }
-    ensures same { kept W.lent report.new ≡ kept W.lent report.old }
     ensures image { Reads (I.device image.old) (I.device image.new) result }
     ensures text { TellsOf (λ b. IsBefore geometry.now.layout (I.device image.old).told workspace.old 2 b)
         (λ b. map of_names (lines_from (lines_of (volume_of geometry.now.layout b)) 2 (inodes_of geometry.now.layout - 2)))
@@ -111,7 +109,6 @@ pub fn check_tree<I: Image, W: Output>(
     requires made { IsFor geometry.now.layout workspace.old }
     requires volume { geometry.now.layout.size * geometry.now.layout.fsize ≤ (I.device image.old).size }
     requires windows { HoldWindows geometry.now.layout (I.device image.old).told workspace.old }
-    ensures same { kept W.lent report.new ≡ kept W.lent report.old }
     ensures image { Reads (I.device image.old) (I.device image.new) result }
     ensures text { TellsOf (λ b. IsBefore geometry.now.layout (I.device image.old).told workspace.old 2 b)
         (λ b. map of_names (pathname_lines (volume_of geometry.now.layout b)))

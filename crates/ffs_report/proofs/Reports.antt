@@ -18,10 +18,11 @@ has_defect-append [] ys = refl
 has_defect-append (x ∷ xs) ys = ap (λ b. is_defect x || b) (has_defect-append xs ys) ∙ sym (or_assoc (is_defect x) (has_defect xs) (has_defect ys))
 
 pub said_none : (a : Progress) → Said a a []
-said_none a = record { took = took_nil a.sink; failed = refl; defect = sym (or_false a.defect) }
+said_none a = record { output = refl; took = took_nil a.sink; failed = refl; defect = sym (or_false a.defect) }
 
 pub said_then : (a b c : Progress) (xs ys : List Message) → Said a b xs → Said b c ys → Said a c (xs ++ ys)
 said_then a b c xs ys p q = record {
+  output = q.output ∙ p.output;
   took = rw (flat_map-append text_of xs ys) (took_then a.sink b.sink c.sink (texts_of xs) (texts_of ys) p.took q.took);
   failed = q.failed ∙ p.failed;
   defect = q.defect ∙ ap (λ d. d || has_defect ys) p.defect ∙ or_assoc a.defect (has_defect xs) (has_defect ys)
@@ -30,6 +31,8 @@ said_then a b c xs ys p q = record {
 
 pub stopped_after : (a b c : Progress) (xs ys : List Message) → Said a b xs → Stopped b c ys → Stopped a c (xs ++ ys)
 stopped_after a b c xs ys p q = record {
+  output = q.output ∙ p.output;
+  lent = q.lent ∙ p.took.lent;
   front = texts_of xs ++ q.front;
   rest = q.rest;
   whole = flat_map-append text_of xs ys ∙ ap (λ z. texts_of xs ++ z) q.whole ∙ sym (append_assoc (texts_of xs) q.front q.rest);
@@ -40,6 +43,8 @@ stopped_after a b c xs ys p q = record {
 
 pub stopped_more : (a b : Progress) (xs ys : List Message) → Stopped a b xs → Stopped a b (xs ++ ys)
 stopped_more a b xs ys p = record {
+  output = p.output;
+  lent = p.lent;
   front = p.front;
   rest = p.rest ++ texts_of ys;
   whole = flat_map-append text_of xs ys ∙ ap (λ z. z ++ texts_of ys) p.whole ∙ append_assoc p.front p.rest (texts_of ys);

@@ -1,5 +1,5 @@
 -- How far a report has come.
-use Rattle.std.specs.Prelude.{◌≡◌, ◌⊎◌, ℕ, List, ◌++◌, Bool, true, ◌||◌, Result, MatchResult, Option}
+use Rattle.std.specs.Prelude.{◌≡◌, ◌⊎◌, ℕ, List, ◌++◌, Bool, true, false, ◌||◌, Result, MatchResult}
 use Rattle.std.specs.Borrow.{GName}
 use Rattle.std.specs.Io.KnownBytes.{Appends}
 use Rattle.ffs_report.specs.Sink.{Sink, Took, Rose}
@@ -7,28 +7,37 @@ use Rattle.ffs_volume.specs.Messages.{Message, has_defect}
 use Rattle.ffs_volume.specs.Texts.{texts_of}
 use Rattle.ffs_report.specs.declared.report.Report.{Report}
 
--- its output, whether a line has failed, and whether a defect was said
+-- the reference to its output, what that took, whether a line has failed, and whether a defect was said
 pub record Progress : Type 0 where
+  pub output : GName
   pub sink : Sink
   pub failed : Bool
   pub defect : Bool
 
 -- how far a report over an output has come
 abbrev pub progress : {W : Type 0} → (W → Sink) → Report W → Progress
-progress sink report = record { sink = sink report.out.now; failed = report.failed; defect = report.defect }
+progress sink report = record {
+  output = report.out.ghost_name;
+  sink = sink report.out.now;
+  failed = report.failed;
+  defect = report.defect;
+}
 
--- the reference to its output, and the one that the output holds
-abbrev pub kept : {W : Type 0} → (W → Option GName) → Report W → GName × Option GName
-kept lent report = (report.out.ghost_name, lent report.out.now)
+-- nothing was said yet
+abbrev pub starts : GName → Sink → Progress
+starts output sink = record { output = output; sink = sink; failed = false; defect = false }
 
 -- these messages were said, and nothing failed
 pub record Said (old new : Progress) (messages : List Message) : Type 0 where
+  pub output : new.output ≡ old.output
   pub took : Took old.sink new.sink (texts_of messages)
   pub failed : new.failed ≡ old.failed
   pub defect : new.defect ≡ (old.defect || has_defect messages)
 
 -- a front of these messages' bytes went out, and then the output failed, or it had failed before
 pub record Stopped (old new : Progress) (messages : List Message) : Type 0 where
+  pub output : new.output ≡ old.output
+  pub lent : new.sink.lent ≡ old.sink.lent
   pub front : List ℕ
   pub rest : List ℕ
   pub whole : texts_of messages ≡ front ++ rest

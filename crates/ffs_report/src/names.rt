@@ -38,8 +38,7 @@ fn path_label(label: Label) -> &'static [u8]
 }
 
 fn print_attr<W: Output>(out: &mut W, attr: &Attr) -> Result<(), OutFault>
-    ensures lent { W.lent out.new ≡ W.lent out.old }
-    ensures printed { Prints (W.sink out.old) (W.sink out.new) (attr_text attr.now) result }
+    ensures { Prints (W.sink out.old) (W.sink out.new) (attr_text attr.now) result }
 {
     print_pieces(
         out,
@@ -65,8 +64,7 @@ fn print_inode<W: Output>(
     attr: &Attr,
     tail: &[Piece<'_>],
 ) -> Result<(), OutFault>
-    ensures lent { W.lent out.new ≡ W.lent out.old }
-    ensures printed { Prints (W.sink out.old) (W.sink out.new) (inode_text head.now attr.now (pieces_text tail.now)) result }
+    ensures { Prints (W.sink out.old) (W.sink out.new) (inode_text head.now attr.now (pieces_text tail.now)) result }
 {
     print(out, head)?;
     print_attr(out, attr)?;
@@ -81,8 +79,7 @@ fn print_kind<W: Output>(
     attr: &Attr,
     tail: &[Piece<'_>],
 ) -> Result<(), OutFault>
-    ensures lent { W.lent out.new ≡ W.lent out.old }
-    ensures printed { Prints (W.sink out.old) (W.sink out.new) (kind_text head.now label attr.now (pieces_text tail.now)) result }
+    ensures { Prints (W.sink out.old) (W.sink out.new) (kind_text head.now label attr.now (pieces_text tail.now)) result }
 {
     print(out, head)?;
     print_inode(out, file_label(label), attr, tail)
@@ -97,8 +94,7 @@ fn print_path<'x, W: Output>(
     path: &'x [u8],
     tail: &'x [u8],
 ) -> Result<(), OutFault>
-    ensures lent { W.lent out.new ≡ W.lent out.old }
-    ensures printed { Prints (W.sink out.old) (W.sink out.new) (path_text head.now attr.now label path.now tail.now) result }
+    ensures { Prints (W.sink out.old) (W.sink out.new) (path_text head.now attr.now label path.now tail.now) result }
 {
     print_inode(
         out,
@@ -121,8 +117,7 @@ fn print_in_the_way<'x, W: Output>(
     why: &'x [u8],
     name: &'x [u8],
 ) -> Result<(), OutFault>
-    ensures lent { W.lent out.new ≡ W.lent out.old }
-    ensures printed { Prints (W.sink out.old) (W.sink out.new) (name_in_the_way head.now attr.now path.now why.now name.now) result }
+    ensures { Prints (W.sink out.old) (W.sink out.new) (name_in_the_way head.now attr.now path.now why.now name.now) result }
 {
     print_inode(
         out,
@@ -139,8 +134,7 @@ fn print_in_the_way<'x, W: Output>(
 }
 
 fn print_length<W: Output>(out: &mut W, path: &[u8], size: u64) -> Result<(), OutFault>
-    ensures lent { W.lent out.new ≡ W.lent out.old }
-    ensures printed { Prints (W.sink out.old) (W.sink out.new) (length_text path.now size) result }
+    ensures { Prints (W.sink out.old) (W.sink out.new) (length_text path.now size) result }
 {
     print_pieces(
         out,
@@ -155,8 +149,7 @@ fn print_length<W: Output>(out: &mut W, path: &[u8], size: u64) -> Result<(), Ou
 }
 
 fn print_empty<W: Output>(out: &mut W, path: &[u8]) -> Result<(), OutFault>
-    ensures lent { W.lent out.new ≡ W.lent out.old }
-    ensures printed { Prints (W.sink out.old) (W.sink out.new) (empty_text path.now) result }
+    ensures { Prints (W.sink out.old) (W.sink out.new) (empty_text path.now) result }
 {
     print_pieces(
         out,
@@ -175,8 +168,7 @@ fn print_numbered<'x, W: Output>(
     path: &'x [u8],
     tail: &'x [u8],
 ) -> Result<(), OutFault>
-    ensures lent { W.lent out.new ≡ W.lent out.old }
-    ensures printed { Prints (W.sink out.old) (W.sink out.new) (entry_text head.now number path.now tail.now) result }
+    ensures { Prints (W.sink out.old) (W.sink out.new) (entry_text head.now number path.now tail.now) result }
 {
     print_pieces(
         out,
@@ -195,8 +187,7 @@ fn print_extraneous<'x, W: Output>(
     path: &'x [u8],
     dir: &'x [u8],
 ) -> Result<(), OutFault>
-    ensures lent { W.lent out.new ≡ W.lent out.old }
-    ensures printed { Prints (W.sink out.old) (W.sink out.new) (extraneous_text path.now dir.now) result }
+    ensures { Prints (W.sink out.old) (W.sink out.new) (extraneous_text path.now dir.now) result }
 {
     print_pieces(
         out,
@@ -216,8 +207,7 @@ fn print_links<W: Output>(
     count: i16,
     right: u64,
 ) -> Result<(), OutFault>
-    ensures lent { W.lent out.new ≡ W.lent out.old }
-    ensures printed { Prints (W.sink out.old) (W.sink out.new) (links_text label attr.now count right) result }
+    ensures { Prints (W.sink out.old) (W.sink out.new) (links_text label attr.now count right) result }
 {
     print_kind(
         out,
@@ -242,16 +232,14 @@ fn print_dir<'x, W: Output>(
     path: &'x [u8],
     tail: &'x [u8],
 ) -> Result<(), OutFault>
-    ensures lent { W.lent out.new ≡ W.lent out.old }
-    ensures printed { Prints (W.sink out.old) (W.sink out.new) (path_text head.now attr.now Dir path.now tail.now) result }
+    ensures { Prints (W.sink out.old) (W.sink out.new) (path_text head.now attr.now Dir path.now tail.now) result }
 {
     print_path(out, head, attr, Label::Dir, path, tail)
 }
 
 /// What is wrong with a directory as a whole.
 pub fn print_directory<W: Output>(out: &mut W, line: &DirectoryLine<'_>) -> Result<(), OutFault>
-    ensures lent { W.lent out.new ≡ W.lent out.old }
-    ensures printed { Prints (W.sink out.old) (W.sink out.new) (name_text (directory_message line.now)) result }
+    ensures { Prints (W.sink out.old) (W.sink out.new) (name_text (directory_message line.now)) result }
 {
     match *line {
         DirectoryLine::RootNone => print(out, ROOT_NONE),
@@ -272,8 +260,7 @@ pub fn print_directory<W: Output>(out: &mut W, line: &DirectoryLine<'_>) -> Resu
 
 /// What is wrong with the entries `.` and `..` of a directory.
 pub fn print_dot<W: Output>(out: &mut W, line: &DotLine<'_>) -> Result<(), OutFault>
-    ensures lent { W.lent out.new ≡ W.lent out.old }
-    ensures printed { Prints (W.sink out.old) (W.sink out.new) (name_text (dot_message line.now)) result }
+    ensures { Prints (W.sink out.old) (W.sink out.new) (name_text (dot_message line.now)) result }
 {
     match *line {
         DotLine::MissingDot { attr, path } => print_dir(out, MISSING_DOT, &attr, path, FIX),
@@ -305,8 +292,7 @@ pub fn print_dot<W: Output>(out: &mut W, line: &DotLine<'_>) -> Result<(), OutFa
 
 /// What is wrong with a further entry of a directory.
 pub fn print_entry<W: Output>(out: &mut W, line: &EntryLine<'_>) -> Result<(), OutFault>
-    ensures lent { W.lent out.new ≡ W.lent out.old }
-    ensures printed { Prints (W.sink out.old) (W.sink out.new) (name_text (entry_message line.now)) result }
+    ensures { Prints (W.sink out.old) (W.sink out.new) (name_text (entry_message line.now)) result }
 {
     match *line {
         EntryLine::OutOfRange { number, path } => print_numbered(
@@ -338,8 +324,7 @@ pub fn print_entry<W: Output>(out: &mut W, line: &EntryLine<'_>) -> Result<(), O
 
 /// What is wrong with an inode by the entries that name it.
 pub fn print_reference<W: Output>(out: &mut W, line: &ReferenceLine) -> Result<(), OutFault>
-    ensures lent { W.lent out.new ≡ W.lent out.old }
-    ensures printed { Prints (W.sink out.old) (W.sink out.new) (name_text (reference_message line.now)) result }
+    ensures { Prints (W.sink out.old) (W.sink out.new) (name_text (reference_message line.now)) result }
 {
     match *line {
         ReferenceLine::UnrefDir { attr } => print_inode(

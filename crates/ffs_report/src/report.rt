@@ -3,7 +3,7 @@ ghost use Rattle.std.specs.Prelude.{◌≡◌, [], ◌∷◌, true, false, IsErr
 ghost use Rattle.std.specs.Bool.{OnTrue};
 ghost use Rattle.ffs_volume.specs.Messages.{is_defect};
 ghost use Rattle.ffs_report.specs.Lines.{message_of};
-ghost use Rattle.ffs_report.specs.Progress.{progress, kept, Says};
+ghost use Rattle.ffs_report.specs.Progress.{progress, starts, Says};
 
 use crate::line::Line;
 use crate::output::{OutFault, Output};
@@ -39,8 +39,7 @@ fn is_defect(line: &Line<'_>) -> bool
 impl<'a, W: Output> Report<'a, W> {
     /// A report of which nothing is said yet.
     pub fn new(out: &'a mut W) -> Report<'a, W>
-        ensures same { kept W.lent result ≡ (out.entry.ghost_name, W.lent out.old) }
-        ensures start { progress W.sink result ≡ record { sink = W.sink out.old; failed = false; defect = false } }
+        ensures { progress W.sink result ≡ starts (out.entry.ghost_name) (W.sink out.old) }
     {
         Report {
             out,
@@ -59,7 +58,6 @@ impl<'a, W: Output> Report<'a, W> {
     /// Says a line and its questions. After an `Err`, when a front of their bytes may have gone out, each later call
     /// answers `Err` and writes nothing.
     pub fn say(&mut self, line: &Line<'_>) -> Result<(), OutFault>
-        ensures same { kept W.lent self.new ≡ kept W.lent self.old }
         ensures said { Says (progress W.sink self.old) (progress W.sink self.new) (message_of line.now ∷ []) result }
         ensures defect { OnErr result ((progress W.sink self.new).defect ≡ (progress W.sink self.old).defect) }
         ensures over { OnTrue (progress W.sink self.old).failed (IsErr result × (progress W.sink self.new ≡ progress W.sink self.old)) }

@@ -17,8 +17,7 @@ use ffs_volume::{BlockMessage, SuperFault};
 
 /// Prints a line and its questions.
 pub fn print_line<W: Output>(out: &mut W, line: &Line<'_>) -> Result<(), OutFault>
-    ensures lent { W.lent out.new ≡ W.lent out.old }
-    ensures printed { Prints (W.sink out.old) (W.sink out.new) (text_of (message_of line.now)) result }
+    ensures { Prints (W.sink out.old) (W.sink out.new) (text_of (message_of line.now)) result }
 {
     match *line {
         Line::Location { sector } => {
@@ -63,8 +62,7 @@ fn print_number<'x, W: Output>(
     number: u64,
     tail: &'x [u8],
 ) -> Result<(), OutFault>
-    ensures lent { W.lent out.new ≡ W.lent out.old }
-    ensures printed { Prints (W.sink out.old) (W.sink out.new) (number_text head.now number tail.now) result }
+    ensures { Prints (W.sink out.old) (W.sink out.new) (number_text head.now number tail.now) result }
 {
     print_pieces(
         out,
@@ -73,8 +71,7 @@ fn print_number<'x, W: Output>(
 }
 
 fn print_opening<W: Output>(out: &mut W, name: &[u8]) -> Result<(), OutFault>
-    ensures lent { W.lent out.new ≡ W.lent out.old }
-    ensures printed { Prints (W.sink out.old) (W.sink out.new) (opening_text name.now) result }
+    ensures { Prints (W.sink out.old) (W.sink out.new) (opening_text name.now) result }
 {
     print_pieces(
         out,
@@ -87,8 +84,7 @@ fn print_opening<W: Output>(out: &mut W, name: &[u8]) -> Result<(), OutFault>
 }
 
 fn print_mounted<W: Output>(out: &mut W, mount: &[u8]) -> Result<(), OutFault>
-    ensures lent { W.lent out.new ≡ W.lent out.old }
-    ensures printed { Prints (W.sink out.old) (W.sink out.new) (mounted_text mount.now) result }
+    ensures { Prints (W.sink out.old) (W.sink out.new) (mounted_text mount.now) result }
 {
     print_pieces(
         out,
@@ -101,8 +97,7 @@ fn print_mounted<W: Output>(out: &mut W, mount: &[u8]) -> Result<(), OutFault>
 }
 
 fn print_minfree<W: Output>(out: &mut W, value: i32) -> Result<(), OutFault>
-    ensures lent { W.lent out.new ≡ W.lent out.old }
-    ensures printed { Prints (W.sink out.old) (W.sink out.new) (minfree_text value) result }
+    ensures { Prints (W.sink out.old) (W.sink out.new) (minfree_text value) result }
 {
     print_pieces(
         out,
@@ -115,8 +110,7 @@ fn print_minfree<W: Output>(out: &mut W, value: i32) -> Result<(), OutFault>
 }
 
 fn print_fault<W: Output>(out: &mut W, fault: SuperFault) -> Result<(), OutFault>
-    ensures lent { W.lent out.new ≡ W.lent out.old }
-    ensures printed { Prints (W.sink out.old) (W.sink out.new) (fault_text fault) result }
+    ensures { Prints (W.sink out.old) (W.sink out.new) (fault_text fault) result }
 {
     match fault {
         SuperFault::CannotRead { sector } => {
@@ -138,8 +132,7 @@ fn print_fault<W: Output>(out: &mut W, fault: SuperFault) -> Result<(), OutFault
 }
 
 fn print_heading<W: Output>(out: &mut W, heading: Heading) -> Result<(), OutFault>
-    ensures lent { W.lent out.new ≡ W.lent out.old }
-    ensures printed { Prints (W.sink out.old) (W.sink out.new) (text_of (heading_message heading)) result }
+    ensures { Prints (W.sink out.old) (W.sink out.new) (text_of (heading_message heading)) result }
 {
     match heading {
         Heading::Phase1 => print(out, b"** Phase 1 - Check Blocks and Sizes\n"),
@@ -157,8 +150,7 @@ fn print_claim<W: Output>(
     what: &[u8],
     inode: u32,
 ) -> Result<(), OutFault>
-    ensures lent { W.lent out.new ≡ W.lent out.old }
-    ensures printed { Prints (W.sink out.old) (W.sink out.new) (claim_text fragment what.now inode) result }
+    ensures { Prints (W.sink out.old) (W.sink out.new) (claim_text fragment what.now inode) result }
 {
     print_pieces(
         out,
@@ -172,8 +164,7 @@ fn print_claim<W: Output>(
 }
 
 fn print_count<W: Output>(out: &mut W, inode: u32, found: u32, right: u64) -> Result<(), OutFault>
-    ensures lent { W.lent out.new ≡ W.lent out.old }
-    ensures printed { Prints (W.sink out.old) (W.sink out.new) (block_count_text inode found right) result }
+    ensures { Prints (W.sink out.old) (W.sink out.new) (block_count_text inode found right) result }
 {
     print_pieces(
         out,
@@ -190,8 +181,7 @@ fn print_count<W: Output>(out: &mut W, inode: u32, found: u32, right: u64) -> Re
 }
 
 fn print_block<W: Output>(out: &mut W, message: BlockMessage) -> Result<(), OutFault>
-    ensures lent { W.lent out.new ≡ W.lent out.old }
-    ensures printed { Prints (W.sink out.old) (W.sink out.new) (block_text message) result }
+    ensures { Prints (W.sink out.old) (W.sink out.new) (block_text message) result }
 {
     match message {
         BlockMessage::PartAlloc { inode } => print_number(out, PART_ALLOC, inode as u64, CLEAR),
@@ -227,8 +217,7 @@ fn print_summary<W: Output>(
     blocks: i32,
     tenths: i64,
 ) -> Result<(), OutFault>
-    ensures lent { W.lent out.new ≡ W.lent out.old }
-    ensures printed { Prints (W.sink out.old) (W.sink out.new) (summary_text files used free frags blocks tenths) result }
+    ensures { Prints (W.sink out.old) (W.sink out.new) (summary_text files used free frags blocks tenths) result }
 {
     let size = tenths.unsigned_abs();
     print_pieces(

@@ -9,4 +9,4 @@ pub returns-clause-ran : goal.returns-clause-ran
 returns-clause-ran g c =
     let s = seen c.args.found.now in
     ran c.args.before _ (λ bytes. text_lines bytes s) (λ bytes. goes_on (volume_of s.layout bytes)) _ _ (λ bytes k. k.0) _ _ _ _
-    c.run_phases-answer.result c.run_phases-answer.ensures.text c.run_phases-answer.ensures.image c.run_phases-answer.ensures.goes c.end_run.ensures.ends
+    c.run_phases-answer.result c.run_phases-answer.ensures.text c.run_phases-answer.ensures.image c.run_phases-answer.ensures.goes c.end_run.ensures

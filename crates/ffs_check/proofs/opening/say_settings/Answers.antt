@@ -5,16 +5,16 @@ use Rattle.ffs_layout.specs.Super.{seen}
 use Rattle.ffs_report.proofs.Reports.{says_then, stopped_more}
 use Rattle.ffs_check.proofs.opening.say_settings.Goals as goal
 
-pub returns-in_err-say_optimization-clause-said : goal.returns-in_err-say_optimization-clause-said
+pub returns-in_err-say_optimization : goal.returns-in_err-say_optimization
 unfolding setting_lines
-returns-in_err-say_optimization-clause-said g c =
+returns-in_err-say_optimization g c =
     let p = err_from_is_err_and c.from_residual.result c.from_residual.ensures.1 in
     rw (p.1) (stopped_more _ _ (unless_message (is_optimization (seen c.args.found.now)) optimization)
-    (unless_message (is_minfree (seen c.args.found.now)) (minfree c.args.found.now.minfree)) c.in_err-say_optimization.ensures.said)
+    (unless_message (is_minfree (seen c.args.found.now)) (minfree c.args.found.now.minfree)) c.in_err-say_optimization.ensures)
 
-pub returns-clause-said : goal.returns-clause-said
+pub returns : goal.returns
 unfolding setting_lines
-returns-clause-said g c =
+returns g c =
     says_then _ _ _ (unless_message (is_optimization (seen c.args.found.now)) optimization)
     (unless_message (is_minfree (seen c.args.found.now)) (minfree c.args.found.now.minfree)) _
-    c.in_ok-say_optimization.ensures.said c.say_minfree.ensures.said
+    c.in_ok-say_optimization.ensures c.say_minfree.ensures

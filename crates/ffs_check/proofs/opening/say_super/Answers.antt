@@ -6,12 +6,12 @@ use Rattle.ffs_layout.specs.Super.{seen}
 use Rattle.ffs_report.proofs.Reports.{says_then, stopped_more}
 use Rattle.ffs_check.proofs.opening.say_super.Goals as goal
 
-pub returns-in_err-say_settings-clause-said : goal.returns-in_err-say_settings-clause-said
-returns-in_err-say_settings-clause-said g c =
+pub returns-in_err-say_settings : goal.returns-in_err-say_settings
+returns-in_err-say_settings g c =
     let p = err_from_is_err_and c.from_residual.result c.from_residual.ensures.1 in
-    rw (p.1) (stopped_more _ _ (setting_lines (seen c.args.found.now)) (mounted (before_nul c.args.found.now.mount) ∷ []) c.in_err-say_settings.ensures.said)
+    rw (p.1) (stopped_more _ _ (setting_lines (seen c.args.found.now)) (mounted (before_nul c.args.found.now.mount) ∷ []) c.in_err-say_settings.ensures)
 
-pub returns-clause-said : goal.returns-clause-said
-returns-clause-said g c =
+pub returns : goal.returns
+returns g c =
     says_then _ _ _ (setting_lines (seen c.args.found.now)) (mounted (before_nul c.args.found.now.mount) ∷ []) _
-    c.in_ok-say_settings.ensures.said (rw c.before_nul.ensures at c.say.ensures.said)
+    c.in_ok-say_settings.ensures (rw c.before_nul.ensures at c.say.ensures.said)

@@ -50,7 +50,6 @@ loop-next-init g c =
       device = refl;
       windows = c.requires.windows;
       found = record { kinds = refl; marked = refl; cut = refl };
-      same = refl;
       moves = stays (claims_of c.args.workspace.now);
       claims = λ bytes t. ap (after_steps v (claims_of c.args.workspace.now)) (c.start-walk.ensures.steps bytes);
       said = of_same _ _ _ _ _ _ (of_begins _ (λ bytes. of_lines (steps_lines v c.args.number (claims_of c.args.workspace.now) (steps_of v c.args.inode.now bytes))) _)
@@ -130,7 +129,6 @@ loop-next-preserved g c =
         chunk = rw c.step.ensures.windows inv.windows.chunk;
       };
       found = record { kinds = c.step.ensures.found.kinds ∙ inv.found.kinds; marked = c.step.ensures.found.marked ∙ inv.found.marked; cut = c.step.ensures.found.cut ∙ inv.found.cut };
-      same = c.step.ensures.same ∙ inv.same;
       moves = moves_on v (claims_of c.args.workspace.now) (claims_of c.loop-next.workspace) (claims_of c.step.new.workspace) c.in-Some.next
           (length_bits _ _ ∙ inv.made.claimed) c.args.geometry.now.sound.sizes.frag_high (rw (inv.geometry, c.in-Some.is) at c.in_ok-next.ensures.length) c.in_ok-step.ensures.claims inv.moves;
       claims = claims_on _ v (claims_of c.loop-next.workspace) (claims_of c.step.new.workspace)
@@ -224,9 +222,6 @@ next-requires-clause-holds g c =
     let inv = c.loop-next.invariant in
     rw (inv.geometry, inv.device) inv.windows.blocks
 
-pub returns-in_err-next-clause-same : goal.returns-in_err-next-clause-same
-returns-in_err-next-clause-same g c = c.loop-next.invariant.same
-
 pub returns-in_err-next-clause-image : goal.returns-in_err-next-clause-image
 returns-in_err-next-clause-image g c =
     let p = err_from_is_err_and c.from_residual.result c.from_residual.ensures.1 in
@@ -271,9 +266,6 @@ step-requires-clause-length g c =
     let inv = c.loop-next.invariant in
     rw (inv.geometry, c.in-Some.is) at c.in_ok-next.ensures.length
 
-pub returns-in_err-step-clause-same : goal.returns-in_err-step-clause-same
-returns-in_err-step-clause-same g c = c.step.ensures.same ∙ c.loop-next.invariant.same
-
 pub returns-in_err-step-clause-image : goal.returns-in_err-step-clause-image
 returns-in_err-step-clause-image g c =
     let p = err_from_is_err_and c.from_residual-in_err-step.result c.from_residual-in_err-step.ensures.1 in
@@ -311,9 +303,6 @@ returns-in_err-step-clause-found g c =
 pub loop-next-smaller : goal.loop-next-smaller
 loop-next-smaller g c = rw c.in-Some.is at c.in_ok-next.ensures.falls
 
-pub returns-then-not-is_open-clause-same : goal.returns-then-not-is_open-clause-same
-returns-then-not-is_open-clause-same g c = c.step.ensures.same ∙ c.loop-next.invariant.same
-
 pub returns-then-not-is_open-clause-image : goal.returns-then-not-is_open-clause-image
 returns-then-not-is_open-clause-image g c = c.in_ok-next.ensures.ok ∙ c.loop-next.invariant.device
 
@@ -335,9 +324,6 @@ returns-then-not-is_open-clause-found g c =
     let inv = c.loop-next.invariant in
     let found = c.step.ensures.found in
     record { kinds = found.kinds ∙ inv.found.kinds; marked = found.marked ∙ inv.found.marked; cut = found.cut ∙ inv.found.cut }
-
-pub returns-in_default-clause-same : goal.returns-in_default-clause-same
-returns-in_default-clause-same g c = c.loop-next.invariant.same
 
 pub returns-in_default-clause-image : goal.returns-in_default-clause-image
 returns-in_default-clause-image g c = c.in_ok-next.ensures.ok ∙ c.loop-next.invariant.device

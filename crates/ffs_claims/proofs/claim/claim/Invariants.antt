@@ -1,5 +1,5 @@
 use Rattle.std.proofs.Common.{◌≡◌, true}
-use Rattle.ffs_report.specs.Progress.{progress, kept}
+use Rattle.ffs_report.specs.Progress.{progress}
 use Rattle.ffs_phase.specs.Known.{Where, Tells}
 use Rattle.ffs_phase.specs.Runs.{SaidOf}
 use Rattle.ffs_volume.specs.Steps.{steps_of}
@@ -20,7 +20,6 @@ invariant-loop-next g l = record {
   device : g.I.Image.device l.image ≡ g.I.Image.device l.initial.image;
   windows : HoldWindows l.geometry.layout (g.I.Image.device l.initial.image).told l.workspace;
   found : SameFound l.initial.workspace l.workspace;
-  same : kept g.W.Output.lent l.report ≡ kept g.W.Output.lent l.initial.report;
   moves : Moves (claims_of l.initial.workspace) (claims_of l.workspace);
   claims : Where (Tells (g.I.Image.device l.initial.image).told) (λ bytes.
       after_steps l.geometry.layout (claims_of l.workspace) (rest bytes l.walk)

@@ -34,7 +34,6 @@ loop-number-init g c =
       made = c.reserve.ensures.made;
       device = refl;
       windows = record { table = rw same c.requires.windows.table; blocks = rw same c.requires.windows.blocks; chunk = rw same c.requires.windows.chunk };
-      same = c.in_ok-say.ensures.same;
       low = omega arith;
       high = λ h. omega arith;
       runs = omega (arith, c.reserve.ensures.runs);
@@ -94,7 +93,6 @@ loop-number-preserved g c =
       made = c.numbered.ensures.made;
       device = c.in_ok-numbered.ensures.image ∙ inv.device;
       windows = rw (c.in_ok-numbered.ensures.image, inv.device) at c.numbered.ensures.windows;
-      same = c.numbered.ensures.same ∙ inv.same;
       low = omega arith;
       high = λ h. omega arith;
       runs = omega (arith, inv.runs, inv.low, c.in_ok-numbered.ensures.moves);

@@ -1,5 +1,5 @@
 use Rattle.std.proofs.Common.{◌≡◌, ◌+◌, ◌-◌, ◌*◌, ◌<◌, ◌≤◌, ◌∷◌, false}
-use Rattle.ffs_report.specs.Progress.{progress, kept}
+use Rattle.ffs_report.specs.Progress.{progress}
 use Rattle.ffs_phase.specs.Known.{Where, Tells}
 use Rattle.ffs_phase.specs.Runs.{SaidOf}
 use Rattle.ffs_volume.specs.BlockCheck.{owners_lines, phase1_lines}
@@ -20,7 +20,6 @@ invariant-loop-number g l = record {
   made : IsFor l.geometry.layout l.workspace;
   device : g.I.Image.device l.image ≡ g.I.Image.device l.fn.image;
   windows : HoldWindows l.geometry.layout (g.I.Image.device l.fn.image).told l.workspace;
-  same : kept g.W.Output.lent l.report ≡ kept g.W.Output.lent l.fn.report;
   low : 2 ≤ l.number;
   high : 2 < l.number → l.number ≤ inodes_of l.geometry.layout;
   runs : l.workspace.runs_seen ≤ used_bits (claims_of l.workspace) + 22 * (l.number - 2);

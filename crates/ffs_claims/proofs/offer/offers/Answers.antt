@@ -25,7 +25,6 @@ loop-place-preserved g c =
       made = c.offer.ensures.made;
       windows = c.offer.ensures.windows ∙ inv.windows;
       found = record { kinds = c.offer.ensures.found.kinds ∙ inv.found.kinds; marked = c.offer.ensures.found.marked ∙ inv.found.marked; cut = c.offer.ensures.found.cut ∙ inv.found.cut };
-      same = c.offer.ensures.same ∙ inv.same;
       runs = c.offer.ensures.runs ∙ inv.runs;
       kept = omega arith;
       claims = inv.claims ∙ offers_after c.args.geometry.now.layout (claims_of c.loop-place.workspace) (claims_of c.offer.new.workspace) c.args.start c.args.len c.loop-place.place f
@@ -44,7 +43,6 @@ loop-place-init g c =
       made = c.requires.made;
       windows = refl;
       found = record { kinds = refl; marked = refl; cut = refl };
-      same = refl;
       runs = refl;
       kept = omega arith;
       claims = ap (after_offers v s) (from_start c.args.start c.args.len);

@@ -1,6 +1,6 @@
 use Rattle.std.proofs.Common.{◌≡◌, ◌+◌, ◌≤◌, ◌-◌}
 use Rattle.std.specs.List.{range_with_len}
-use Rattle.ffs_report.specs.Progress.{progress, kept}
+use Rattle.ffs_report.specs.Progress.{progress}
 use Rattle.ffs_phase.specs.Runs.{SaidTo}
 use Rattle.ffs_volume.specs.Claims.{after_offers, offers_lines}
 use Rattle.ffs_workspace.specs.Holds.{claims_of}
@@ -14,7 +14,6 @@ invariant-loop-place g l = record {
   made : IsFor l.geometry.layout l.workspace;
   windows : SameWindows l.initial.workspace l.workspace;
   found : SameFound l.initial.workspace l.workspace;
-  same : kept g.W.Output.lent l.report ≡ kept g.W.Output.lent l.initial.report;
   runs : l.workspace.runs_seen ≡ l.initial.workspace.runs_seen;
   kept : l.workspace.kept ≤ l.initial.workspace.kept + l.place;
   claims : after_offers l.geometry.layout (claims_of l.initial.workspace) (range_with_len l.start l.len)

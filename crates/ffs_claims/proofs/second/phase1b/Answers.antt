@@ -51,7 +51,6 @@ loop-number-init g c =
       };
       device = refl;
       windows = record { table = c.requires.windows.table; blocks = c.requires.windows.blocks; chunk = c.requires.windows.chunk };
-      same = c.in_ok-say.ensures.same;
       claims = record { claimed = refl; kinds = refl; cut = refl };
       low = omega arith;
       high = λ h. omega arith;
@@ -135,7 +134,6 @@ loop-number-preserved g c =
       made = c.renumbered.ensures.made;
       device = c.in_ok-renumbered.ensures.image ∙ inv.device;
       windows = rw (c.in_ok-renumbered.ensures.image, inv.device) at c.renumbered.ensures.windows;
-      same = c.renumbered.ensures.same ∙ inv.same;
       claims = record { claimed = c.renumbered.ensures.claims.claimed ∙ inv.claims.claimed; kinds = c.renumbered.ensures.claims.kinds ∙ inv.claims.kinds; cut = c.renumbered.ensures.claims.cut ∙ inv.claims.cut };
       low = omega arith;
       high = λ h. omega arith;

@@ -31,7 +31,6 @@ loop-next-init g c =
       device = refl;
       windows = c.requires.windows;
       claims = record { claimed = refl; kinds = refl; cut = refl };
-      same = refl;
       told = λ bytes t. telling_same _ _ _ _ _ (telling_begins (offers_again v n (rescan c.args.cut) (steps_of v c.args.inode.now bytes)) w) (same bytes);
       runs = λ bytes t.
           let runs : runs_again v c.start-rescan.result (rest bytes c.start-walk.result) ≡ runs_again v (rescan c.args.cut) (steps_of v c.args.inode.now bytes) =
@@ -99,7 +98,6 @@ loop-next-preserved g c =
         chunk = rw c.retell.ensures.windows inv.windows.chunk;
       };
       claims = record { claimed = c.retell.ensures.claims.claimed ∙ inv.claims.claimed; kinds = c.retell.ensures.claims.kinds ∙ inv.claims.kinds; cut = c.retell.ensures.claims.cut ∙ inv.claims.cut };
-      same = c.retell.ensures.same ∙ inv.same;
       told = λ bytes t. telling_on v n r r' step (rest bytes c.loop-next.walk) (rest bytes c.next.new.self) _ _ c.loop-next.workspace c.retell.new.workspace
           (next bytes t) now (inv.told bytes t) (told_from _ c.loop-next.workspace _ c.retell.new.workspace c.in_ok-retell.ensures.told refl refl);
       runs = λ bytes t. omega (arith, inv.runs bytes t, c.retell.ensures.runs, runs_next v r r' step (rest bytes c.loop-next.walk) (rest bytes c.next.new.self) (next bytes t) now);

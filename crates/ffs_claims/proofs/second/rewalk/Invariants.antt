@@ -1,7 +1,7 @@
 use Rattle.std.proofs.Common.{◌≡◌, ◌+◌, ◌≤◌, true}
 use Rattle.ffs_volume.specs.BlockCheck.{first_offers}
 use Rattle.ffs_volume.specs.Steps.{steps_of}
-use Rattle.ffs_report.specs.Progress.{progress, kept}
+use Rattle.ffs_report.specs.Progress.{progress}
 use Rattle.ffs_phase.specs.Known.{Where, Tells}
 use Rattle.ffs_phase.specs.Runs.{SaidOf}
 use Rattle.ffs_maps.specs.Bits.{bits_of}
@@ -21,7 +21,6 @@ invariant-loop-next g l = record {
   device : g.I.Image.device l.image ≡ g.I.Image.device l.initial.image;
   windows : HoldWindows l.geometry.layout (g.I.Image.device l.initial.image).told l.workspace;
   claims : SameClaims l.initial.workspace l.workspace;
-  same : kept g.W.Output.lent l.report ≡ kept g.W.Output.lent l.initial.report;
   told : Where (Tells (g.I.Image.device l.initial.image).told) (λ bytes.
       Telling (offers_again l.geometry.layout l.number l.rescan (rest bytes l.walk)) (offers_again l.geometry.layout l.number (rescan l.cut) (steps_of l.geometry.layout l.inode bytes)) l.initial.workspace l.workspace);
   runs : Where (Tells (g.I.Image.device l.initial.image).told) (λ bytes.

@@ -19,7 +19,6 @@ loop-place-init g c =
       made = c.requires.made;
       windows = refl;
       claims = record { claimed = refl; kinds = refl; cut = refl };
-      same = refl;
       runs = refl;
       told = telling_same _ _ _ _ _ (telling_begins (map (offer_at n) (range_with_len c.args.start c.args.len)) w) (ap (map (offer_at n)) (from_start c.args.start c.args.len));
       said = to_same _ _ _ _ _ (to_begins (of_lines (first_offers (bits_of w.doubled) (map (offer_at n) (range_with_len c.args.start c.args.len)))) _)
@@ -51,7 +50,6 @@ loop-place-preserved g c =
       made = c.tell.ensures.made;
       windows = c.tell.ensures.windows ∙ inv.windows;
       claims = record { claimed = c.tell.ensures.claims.claimed ∙ inv.claims.claimed; kinds = c.tell.ensures.claims.kinds ∙ inv.claims.kinds; cut = c.tell.ensures.claims.cut ∙ inv.claims.cut };
-      same = c.tell.ensures.same ∙ inv.same;
       runs = c.tell.ensures.runs ∙ inv.runs;
       told = telling_more _ (offer_at n f ∷ []) rest _ _ _ _ inv.told next c.tell.ensures.told;
       said = to_says _ (of_lines (first_offers d' rest)) _ (of_lines (first_offers d (offer_at n f ∷ []))) _ _ _ inv.said

@@ -2,7 +2,7 @@ use Rattle.std.proofs.Common.{◌≡◌, ◌+◌, ◌-◌, map}
 use Rattle.std.specs.List.{range_with_len}
 use Rattle.ffs_volume.specs.BlockCheck.{first_offers}
 use Rattle.ffs_volume.specs.PrefixLaws.{offer_at}
-use Rattle.ffs_report.specs.Progress.{progress, kept}
+use Rattle.ffs_report.specs.Progress.{progress}
 use Rattle.ffs_phase.specs.Runs.{SaidTo}
 use Rattle.ffs_maps.specs.Bits.{bits_of}
 use Rattle.ffs_workspace.specs.Lengths.{IsFor}
@@ -17,7 +17,6 @@ invariant-loop-place g l = record {
   made : IsFor l.geometry.layout l.workspace;
   windows : SameWindows l.initial.workspace l.workspace;
   claims : SameClaims l.initial.workspace l.workspace;
-  same : kept g.W.Output.lent l.report ≡ kept g.W.Output.lent l.initial.report;
   runs : l.workspace.runs_again ≡ l.initial.workspace.runs_again;
   told : Telling (map (offer_at l.number) (range_with_len (l.start + l.place) (l.len - l.place))) (map (offer_at l.number) (range_with_len l.start l.len)) l.initial.workspace l.workspace;
   said : SaidTo (of_lines (first_offers (bits_of l.workspace.doubled) (map (offer_at l.number) (range_with_len (l.start + l.place) (l.len - l.place)))))

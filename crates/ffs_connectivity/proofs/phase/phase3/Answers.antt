@@ -26,7 +26,6 @@ loop-number-init g c =
       made = c.mark.ensures.made;
       device = refl;
       windows = record { table = rw same c.requires.windows.table; blocks = rw same c.requires.windows.blocks; chunk = rw same c.requires.windows.chunk };
-      same = c.in_ok-say.ensures.same;
       low = omega arith;
       survey = c.mark.ensures.survey;
       leaders = c.mark.ensures.leaders;
@@ -60,7 +59,6 @@ loop-number-preserved g c =
       made = ok.made;
       device = search rules;
       windows = search rules;
-      same = search rules;
       low = omega arith;
       survey = leaves_more _ _ _ inv.survey ok.survey;
       leaders = leaders_left _ _ ok.survey ok.leaders inv.leaders;

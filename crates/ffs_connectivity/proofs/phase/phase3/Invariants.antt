@@ -1,5 +1,5 @@
 use Rattle.std.proofs.Common.{◌≡◌, ◌-◌, ◌≤◌, ◌∷◌, map}
-use Rattle.ffs_report.specs.Progress.{progress, kept}
+use Rattle.ffs_report.specs.Progress.{progress}
 use Rattle.ffs_phase.specs.Known.{Tells}
 use Rattle.ffs_phase.specs.Runs.{SaidOf}
 use Rattle.ffs_volume.specs.Connectivity.{connectivity_lines}
@@ -17,7 +17,6 @@ invariant-loop-number g l = record {
   made : IsFor l.geometry.layout l.workspace;
   device : g.I.Image.device l.image ≡ g.I.Image.device l.fn.image;
   windows : HoldWindows l.geometry.layout (g.I.Image.device l.fn.image).told l.workspace;
-  same : kept g.W.Output.lent l.report ≡ kept g.W.Output.lent l.fn.report;
   low : 2 ≤ l.number;
   survey : LeavesSurvey l.fn.workspace l.workspace;
   leaders : HasLeaders l.workspace;

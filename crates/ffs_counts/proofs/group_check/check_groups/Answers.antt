@@ -16,7 +16,6 @@ loop-group-init g c = record {
   device = refl;
   ready = c.requires.ready;
   blocks = refl;
-  same = refl;
   up = record { dirs = omega (arith, ap (λ t. t.dirs) c.new-2.ensures); blocks = omega (arith, ap (λ t. t.blocks) c.new-2.ensures); inodes = omega (arith, ap (λ t. t.inodes) c.new-2.ensures); fragments = omega (arith, ap (λ t. t.fragments) c.new-2.ensures) };
   totals = record { dirs = ap (λ t. t.dirs) c.new-2.ensures; blocks = ap (λ t. t.blocks) c.new-2.ensures; inodes = ap (λ t. t.inodes) c.new-2.ensures; fragments = ap (λ t. t.fragments) c.new-2.ensures };
   said = of_same _ (λ bytes. map of_blocks (phase5_lines c.args.superblock.now.geometry.layout bytes c.args.superblock.now.cstotal (free_in (bits_of c.args.used.now) c.args.superblock.now.geometry.layout.size) (class_in c.args.kinds.now))) (λ bytes. rest_lines c.args.superblock.now.geometry.layout bytes c.args.superblock.now.cstotal (free_in (bits_of c.args.used.now) c.args.superblock.now.geometry.layout.size) (class_in c.args.kinds.now) (told_of c.new.result) 0 (c.args.superblock.now.geometry.layout.ncg - 0)) _ _ _ (of_begins _ (λ bytes. map of_blocks (phase5_lines c.args.superblock.now.geometry.layout bytes c.args.superblock.now.cstotal (free_in (bits_of c.args.used.now) c.args.superblock.now.geometry.layout.size) (class_in c.args.kinds.now))) _)
@@ -38,7 +37,6 @@ loop-group-preserved g c =
       device = c.in_ok-check_group.ensures.image ∙ inv.device;
       ready = rw (c.in_ok-check_group.ensures.image, inv.device) at c.check_group.ensures.ready;
       blocks = c.check_group.ensures.blocks ∙ inv.blocks;
-      same = c.check_group.ensures.same ∙ inv.same;
       up = c.check_group.ensures.up;
       totals = totals_next c.args.superblock.now.geometry.layout (free_in (bits_of c.args.used.now) c.args.superblock.now.geometry.layout.size) (class_in c.args.kinds.now) c.loop-group.group c.loop-group.so_far.totals c.check_group.new.so_far.totals inv.totals c.check_group.ensures.added;
       said = of_part _ (λ bytes. rest_lines c.args.superblock.now.geometry.layout bytes c.args.superblock.now.cstotal (free_in (bits_of c.args.used.now) c.args.superblock.now.geometry.layout.size) (class_in c.args.kinds.now) (told_of c.loop-group.so_far.once) c.loop-group.group (c.args.superblock.now.geometry.layout.ncg - c.loop-group.group)) (λ bytes. map of_blocks (told_once (told_of c.loop-group.so_far.once) (group_lines c.args.superblock.now.geometry.layout bytes (free_in (bits_of c.args.used.now) c.args.superblock.now.geometry.layout.size) (class_in c.args.kinds.now) c.loop-group.group))) (λ bytes. rest_lines c.args.superblock.now.geometry.layout bytes c.args.superblock.now.cstotal (free_in (bits_of c.args.used.now) c.args.superblock.now.geometry.layout.size) (class_in c.args.kinds.now) (told_of c.check_group.new.so_far.once) (c.loop-group.group + 1) (c.args.superblock.now.geometry.layout.ncg - (c.loop-group.group + 1))) _ _ _ _ inv.said

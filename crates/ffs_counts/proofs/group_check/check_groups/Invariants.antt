@@ -5,7 +5,7 @@ use Rattle.ffs_volume.specs.Messages.{of_blocks}
 use Rattle.ffs_volume.specs.Groups.{is_total}
 use Rattle.ffs_volume.specs.GroupCheck.{group_lines, told_once, unless, phase5_lines}
 use Rattle.ffs_maps.specs.Bits.{bits_of}
-use Rattle.ffs_report.specs.Progress.{progress, kept}
+use Rattle.ffs_report.specs.Progress.{progress}
 use Rattle.ffs_phase.specs.Known.{Tells}
 use Rattle.ffs_phase.specs.Runs.{SaidOf}
 use Rattle.ffs_groups.specs.Free.{free_in}
@@ -20,7 +20,6 @@ invariant-loop-group g l = record {
   device : g.I.Image.device l.image ≡ g.I.Image.device l.fn.image;
   ready : AreReady l.superblock.geometry.layout (g.I.Image.device l.fn.image).told l.windows;
   blocks : l.windows.blocks ≡ l.fn.windows.blocks;
-  same : kept g.W.Output.lent l.report ≡ kept g.W.Output.lent l.fn.report;
   up : AreUpTo l.group l.so_far.totals;
   totals : AreTotals l.superblock.geometry.layout (free_in (bits_of l.used) l.superblock.geometry.layout.size) (class_in l.kinds) l.group l.so_far.totals;
   said : SaidOf (Tells (g.I.Image.device l.fn.image).told)

@@ -24,7 +24,6 @@ loop-number-init g c =
       made = c.requires.made;
       device = refl;
       windows = c.requires.windows;
-      same = c.in_ok-say.ensures.same;
       held = refl;
       said = of_says _ (λ bytes. phase4 ∷ map of_names (reference_lines (volume_of v bytes))) (λ bytes. map of_names (lines_from (counted_lines (volume_of v bytes)) 0 (inodes_of v - 0))) _ (phase4 ∷ []) _ _ _
           (of_begins _ (λ bytes. phase4 ∷ map of_names (reference_lines (volume_of v bytes))) _)
@@ -52,7 +51,6 @@ loop-number-preserved g c =
       made = ok.made;
       device = search rules;
       windows = search rules;
-      same = search rules;
       held = held_on c.args.workspace.now c.loop-number.workspace c.numbered.new.workspace inv.held ok.held;
       said = of_part _ (λ bytes. map of_names (lines_from (counted_lines (volume_of v bytes)) n (inodes_of v - n))) (λ bytes. map of_names (counted_lines (volume_of v bytes) n)) (λ bytes. map of_names (lines_from (counted_lines (volume_of v bytes)) (n + 1) (inodes_of v - (n + 1)))) _ _ _ _ inv.said
           (λ bytes k. from_next (counted_lines (volume_of v bytes)) n (inodes_of v) (omega (arith, c.loop-number-test.true)))

@@ -1,5 +1,5 @@
 use Rattle.std.proofs.Common.{◌≡◌, ◌-◌, ◌∷◌, map}
-use Rattle.ffs_report.specs.Progress.{progress, kept}
+use Rattle.ffs_report.specs.Progress.{progress}
 use Rattle.ffs_phase.specs.Known.{Tells}
 use Rattle.ffs_phase.specs.Runs.{SaidOf}
 use Rattle.ffs_volume.specs.ReferenceCheck.{counted_lines, reference_lines}
@@ -14,7 +14,6 @@ invariant-loop-number g l = record {
   made : IsFor l.geometry.layout l.workspace;
   device : g.I.Image.device l.image ≡ g.I.Image.device l.fn.image;
   windows : HoldWindows l.geometry.layout (g.I.Image.device l.fn.image).told l.workspace;
-  same : kept g.W.Output.lent l.report ≡ kept g.W.Output.lent l.fn.report;
   held : l.workspace ≡ record l.fn.workspace { windows = l.workspace.windows };
   said : SaidOf (λ bytes. Tells (g.I.Image.device l.fn.image).told bytes × HoldsClaims l.geometry.layout bytes l.fn.workspace × HoldsSurvey l.geometry.layout bytes l.fn.workspace)
       (λ bytes. map of_names (lines_from (counted_lines (volume_of l.geometry.layout bytes)) l.number (inodes_of l.geometry.layout - l.number)))

@@ -26,7 +26,7 @@ returns-in_err-say_line-clause-text g c =
     ∙ same_told c.is_dead-dead.result c.is_marked-marked.result (bool_at c.args.workspace.now.marked.items c.args.number) c.kind_held-kind.result (slice_index c.args.workspace.now.kinds.items c.args.number) (attr_with c.args.number c.in_ok-inode.inode) c.in_ok-inode.inode.nlink
     c.references_to-references.result (slice_index c.args.workspace.now.references.items c.args.number) marked kind refs
     ∙ sym c.line_for-line.ensures) ∙ sym (append-nil _))
-    c.in_err-say_line.ensures.said)
+    c.in_err-say_line.ensures)
 
 pub returns-clause-text : goal.returns-clause-text
 returns-clause-text g c =
@@ -39,4 +39,4 @@ returns-clause-text g c =
     ∙ same_told c.is_dead-dead.result c.is_marked-marked.result (bool_at c.args.workspace.now.marked.items c.args.number) c.kind_held-kind.result (slice_index c.args.workspace.now.kinds.items c.args.number) (attr_with c.args.number c.in_ok-inode.inode) c.in_ok-inode.inode.nlink
     c.references_to-references.result (slice_index c.args.workspace.now.references.items c.args.number) marked kind refs
     ∙ sym c.line_for-line.ensures) ∙ sym (append-nil _))
-    c.in_ok-say_line.ensures.said
+    c.in_ok-say_line.ensures

@@ -6,7 +6,7 @@ use Rattle.ffs_volume.specs.Roles.{chunk_seen, seen_in}
 use Rattle.ffs_volume.specs.Volumes.{volume_of}
 use Rattle.ffs_phase.specs.Known.{Where}
 use Rattle.ffs_phase.specs.Runs.{SaidOf}
-use Rattle.ffs_report.specs.Progress.{progress, kept}
+use Rattle.ffs_report.specs.Progress.{progress}
 use Rattle.ffs_workspace.specs.Lengths.{IsFor, HoldWindows}
 use Rattle.ffs_names.specs.Readings.{rest}
 use Rattle.ffs_workspace.specs.Leaves.{LeavesSurvey}
@@ -21,7 +21,6 @@ invariant-chunks g l = let told_by = g.I.Image.device in let v = l.geometry.layo
   device : told_by l.image ≡ told_by l.fn.image;
   geometry : l.chunks.walk.geometry ≡ l.geometry;
   windows : HoldWindows v (told_by l.fn.image).told l.workspace;
-  same : kept g.W.Output.lent l.report ≡ kept g.W.Output.lent l.fn.report;
   survey : LeavesSurvey l.fn.workspace l.workspace;
   marks : Where (λ b. Knows v (told_by l.fn.image).told l.fn.workspace l.dir b × (l.inode ≡ inode_of v b l.dir)) (λ b.
       after_entries (volume_of v b) l.dir (marks_of l.fn.workspace) (seen_in (volume_of v b) l.dir)

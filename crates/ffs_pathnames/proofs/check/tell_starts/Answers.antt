@@ -40,7 +40,7 @@ returns-in_err-say_starts-clause-text g c =
     (λ b k. ap (map of_names) (ap (λ q. told q (dir_path (graph_of (volume_of v b)) c.args.dir)) (sym (c.in_ok-attr.ensures.attr b k.0.told_is))
     ∙ ap (λ q. told c.in_ok-attr.attr q) (sym (c.as_slice.ensures.value ∙ c.in_ok-attr.ensures.path b k.0)))
     ∙ sym (append-nil (map of_names ms)))
-    c.in_err-say_starts.ensures.said)
+    c.in_err-say_starts.ensures)
 
 pub returns-clause-text : goal.returns-clause-text
 returns-clause-text g c =
@@ -53,4 +53,4 @@ returns-clause-text g c =
     (λ b k. ap (map of_names) (ap (λ q. told q (dir_path (graph_of (volume_of v b)) c.args.dir)) (sym (c.in_ok-attr.ensures.attr b k.0.told_is))
     ∙ ap (λ q. told c.in_ok-attr.attr q) (sym (c.as_slice.ensures.value ∙ c.in_ok-attr.ensures.path b k.0)))
     ∙ sym (append-nil (map of_names ms)))
-    c.in_ok-say_starts.ensures.said
+    c.in_ok-say_starts.ensures

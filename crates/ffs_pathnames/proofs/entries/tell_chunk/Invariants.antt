@@ -5,7 +5,7 @@ use Rattle.ffs_volume.specs.Roles.{seen_from}
 use Rattle.ffs_volume.specs.Volumes.{volume_of}
 use Rattle.ffs_phase.specs.Known.{Where}
 use Rattle.ffs_phase.specs.Runs.{SaidOf}
-use Rattle.ffs_report.specs.Progress.{progress, kept}
+use Rattle.ffs_report.specs.Progress.{progress}
 use Rattle.ffs_workspace.specs.Lengths.{IsFor, HoldWindows}
 use Rattle.ffs_workspace.specs.Leaves.{LeavesSurvey}
 use Rattle.ffs_pathnames.specs.Gathers.{marks_of}
@@ -21,7 +21,6 @@ invariant-entries g l = let told_by = g.I.Image.device in let v = l.geometry.lay
   made : IsFor v l.workspace;
   device : told_by l.image ≡ told_by l.fn.image;
   windows : HoldWindows v (told_by l.fn.image).told l.workspace;
-  same : kept g.W.Output.lent l.report ≡ kept g.W.Output.lent l.fn.report;
   survey : LeavesSurvey l.fn.workspace l.workspace;
   marks : Where (Knows v (told_by l.fn.image).told l.fn.workspace l.dir) (λ b.
       after_entries (volume_of v b) l.dir (marks_of l.fn.workspace) (seen_from l.first 0 (entries_of v.order l.chunk))

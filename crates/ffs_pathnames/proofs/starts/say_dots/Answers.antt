@@ -4,12 +4,12 @@ use Rattle.ffs_pathnames.specs.Starts.{dot_in, dotdot_in, dot_said, dotdot_said}
 use Rattle.ffs_pathnames.proofs.Saying.{names_then, first_stops}
 use Rattle.ffs_pathnames.proofs.starts.say_dots.Goals as goal
 
-pub returns-in_err-say_dot-clause-said : goal.returns-in_err-say_dot-clause-said
-returns-in_err-say_dot-clause-said g c =
+pub returns-in_err-say_dot : goal.returns-in_err-say_dot
+returns-in_err-say_dot g c =
     first_stops _ _ (dot_said c.args.attr c.args.path.now c.args.number (option_map seen_entry c.args.first) (dot_in (option_map seen_entry c.args.first))) (dotdot_said c.args.attr c.args.path.now c.args.parent (option_map seen_entry c.args.second) (dotdot_in (option_map seen_entry c.args.second)))
-    c.from_residual.result c.from_residual.ensures.0 c.in_err-say_dot.ensures.said
+    c.from_residual.result c.from_residual.ensures.0 c.in_err-say_dot.ensures
 
-pub returns-clause-said : goal.returns-clause-said
-returns-clause-said g c =
+pub returns : goal.returns
+returns g c =
     names_then _ _ _ (dot_said c.args.attr c.args.path.now c.args.number (option_map seen_entry c.args.first) (dot_in (option_map seen_entry c.args.first))) (dotdot_said c.args.attr c.args.path.now c.args.parent (option_map seen_entry c.args.second) (dotdot_in (option_map seen_entry c.args.second)))
-    _ c.in_ok-say_dot.ensures.said c.say_dotdot.ensures.said
+    _ c.in_ok-say_dot.ensures c.say_dotdot.ensures

@@ -2,12 +2,12 @@ use Rattle.ffs_pathnames.specs.Starts.{size_told, chunks_told}
 use Rattle.ffs_pathnames.proofs.Saying.{names_then, first_stops}
 use Rattle.ffs_pathnames.proofs.starts.say_shape.Goals as goal
 
-pub returns-in_err-say_size-clause-said : goal.returns-in_err-say_size-clause-said
-returns-in_err-say_size-clause-said g c =
+pub returns-in_err-say_size : goal.returns-in_err-say_size
+returns-in_err-say_size g c =
     first_stops _ _ (size_told c.args.attr c.args.path.now) (chunks_told c.args.attr c.args.path.now c.args.gap c.args.sound)
-    c.from_residual.result c.from_residual.ensures.0 c.in_err-say_size.ensures.said
+    c.from_residual.result c.from_residual.ensures.0 c.in_err-say_size.ensures
 
-pub returns-clause-said : goal.returns-clause-said
-returns-clause-said g c =
+pub returns : goal.returns
+returns g c =
     names_then _ _ _ (size_told c.args.attr c.args.path.now) (chunks_told c.args.attr c.args.path.now c.args.gap c.args.sound)
-    _ c.in_ok-say_size.ensures.said c.say_chunks.ensures.said
+    _ c.in_ok-say_size.ensures c.say_chunks.ensures

@@ -4,14 +4,14 @@ use Rattle.ffs_pathnames.specs.Starts.{shape_told, dots_told, starts_told}
 use Rattle.ffs_pathnames.proofs.Saying.{names_then, first_stops}
 use Rattle.ffs_pathnames.proofs.starts.say_starts.Goals as goal
 
-pub returns-in_err-say_shape-clause-said : goal.returns-in_err-say_shape-clause-said
+pub returns-in_err-say_shape : goal.returns-in_err-say_shape
 unfolding starts_told
-returns-in_err-say_shape-clause-said g c =
+returns-in_err-say_shape g c =
     first_stops _ _ (shape_told c.args.attr c.args.path.now c.args.shape.gap c.args.shape.sound) (dots_told c.args.attr c.args.path.now c.args.number c.args.parent (option_map seen_entry c.args.shape.first) (option_map seen_entry c.args.shape.second))
-    c.from_residual.result c.from_residual.ensures.0 c.in_err-say_shape.ensures.said
+    c.from_residual.result c.from_residual.ensures.0 c.in_err-say_shape.ensures
 
-pub returns-clause-said : goal.returns-clause-said
+pub returns : goal.returns
 unfolding starts_told
-returns-clause-said g c =
+returns g c =
     names_then _ _ _ (shape_told c.args.attr c.args.path.now c.args.shape.gap c.args.shape.sound) (dots_told c.args.attr c.args.path.now c.args.number c.args.parent (option_map seen_entry c.args.shape.first) (option_map seen_entry c.args.shape.second))
-    _ c.in_ok-say_shape.ensures.said c.say_dots.ensures.said
+    _ c.in_ok-say_shape.ensures c.say_dots.ensures

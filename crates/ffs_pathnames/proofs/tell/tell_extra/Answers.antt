@@ -25,7 +25,7 @@ returns-in_err-say_extra-clause-text g c =
     (λ b k. ap (map of_names) (ap (λ q. extra_told q (dir_path (graph_of (volume_of v b)) c.args.dir) e) (sym (c.in_ok-attr.ensures.attr b k.told_is))
     ∙ ap (λ q. extra_told c.in_ok-attr.attr q e) (sym (c.as_slice.ensures.value ∙ c.in_ok-attr.ensures.path b k)))
     ∙ sym (append-nil (map of_names ms)))
-    c.in_err-say_extra.ensures.said)
+    c.in_err-say_extra.ensures)
 
 pub returns-clause-text : goal.returns-clause-text
 returns-clause-text g c =
@@ -37,4 +37,4 @@ returns-clause-text g c =
     (λ b k. ap (map of_names) (ap (λ q. extra_told q (dir_path (graph_of (volume_of v b)) c.args.dir) e) (sym (c.in_ok-attr.ensures.attr b k.told_is))
     ∙ ap (λ q. extra_told c.in_ok-attr.attr q e) (sym (c.as_slice.ensures.value ∙ c.in_ok-attr.ensures.path b k)))
     ∙ sym (append-nil (map of_names ms)))
-    c.in_ok-say_extra.ensures.said
+    c.in_ok-say_extra.ensures

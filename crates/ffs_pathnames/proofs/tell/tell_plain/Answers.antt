@@ -43,7 +43,7 @@ returns-in_err-say_verdict-clause-text g c =
     ∙ (ap (λ q. verdict_told c.verdict_of-verdict.result c.args.entry.now.number c.in_ok-attr.attr q c.gather.new.directory.items) (sym c.as_slice.ensures.value)
     ∙ ap (λ q. verdict_told c.verdict_of-verdict.result c.args.entry.now.number c.in_ok-attr.attr c.as_slice.result.now q) (sym c.as_slice-2.ensures.value))))
     ∙ sym (append-nil (map of_names ms)))
-    c.in_err-say_verdict.ensures.said)
+    c.in_err-say_verdict.ensures)
 
 pub returns-clause-text : goal.returns-clause-text
 returns-clause-text g c =
@@ -56,4 +56,4 @@ returns-clause-text g c =
     ∙ (ap (λ q. verdict_told c.verdict_of-verdict.result c.args.entry.now.number c.in_ok-attr.attr q c.gather.new.directory.items) (sym c.as_slice.ensures.value)
     ∙ ap (λ q. verdict_told c.verdict_of-verdict.result c.args.entry.now.number c.in_ok-attr.attr c.as_slice.result.now q) (sym c.as_slice-2.ensures.value))))
     ∙ sym (append-nil (map of_names ms)))
-    c.in_ok-say_verdict.ensures.said
+    c.in_ok-say_verdict.ensures

@@ -1,7 +1,7 @@
 use Rattle.std.proofs.Common.{◌≡◌, ◌-◌, ◌≤◌, map}
 use Rattle.ffs_phase.specs.Known.{Where}
 use Rattle.ffs_phase.specs.Runs.{SaidOf}
-use Rattle.ffs_report.specs.Progress.{progress, kept}
+use Rattle.ffs_report.specs.Progress.{progress}
 use Rattle.ffs_volume.specs.Messages.{of_names, lines_from}
 use Rattle.ffs_volume.specs.PathnameCheck.{lines_of}
 use Rattle.ffs_volume.specs.Volumes.{volume_of}
@@ -15,7 +15,6 @@ invariant-loop-number g l = record {
   made : IsFor l.geometry.layout l.workspace;
   device : g.I.Image.device l.image ≡ g.I.Image.device l.fn.image;
   windows : HoldWindows l.geometry.layout (g.I.Image.device l.fn.image).told l.workspace;
-  same : kept g.W.Output.lent l.report ≡ kept g.W.Output.lent l.fn.report;
   low : 2 ≤ l.number;
   survey : LeavesSurvey l.fn.workspace l.workspace;
   before : Where (λ b. IsBefore l.geometry.layout (g.I.Image.device l.fn.image).told l.fn.workspace 2 b)

@@ -19,7 +19,7 @@ returns-in_err-tell_root-clause-text g c =
     let all = λ (b : List ℕ). map of_names (pathname_lines (volume_of v b)) in
     rw (p.1, p.2) (of_stops _ all (λ b. map of_names (tree_lines v b (is_dir_kind c.root_kind-kind.result))) _
     (map of_names (root_said c.root_kind-kind.result c.is_root_marked.result)) _ _ _ (of_begins _ all _)
-    (λ b k. tree_is v b w _ _ (is_dir_kind c.root_kind-kind.result) c.root_kind-kind.ensures c.is_root_marked.ensures k.claims refl) c.in_err-tell_root.ensures.said)
+    (λ b k. tree_is v b w _ _ (is_dir_kind c.root_kind-kind.result) c.root_kind-kind.ensures c.is_root_marked.ensures k.claims refl) c.in_err-tell_root.ensures)
 
 pub returns-in-Stop-clause-text : goal.returns-in-Stop-clause-text
 returns-in-Stop-clause-text g c =
@@ -27,7 +27,7 @@ returns-in-Stop-clause-text g c =
     let w = c.args.workspace.now in
     let all = λ (b : List ℕ). map of_names (pathname_lines (volume_of v b)) in
     of_says _ all (λ b. []) _ (map of_names (root_said c.root_kind-kind.result c.is_root_marked.result)) _ _ _ (of_begins _ all _)
-    (λ b k. tree_is v b w _ _ false c.root_kind-kind.ensures c.is_root_marked.ensures k.claims c.in-Stop.ensures) c.in_ok-tell_root.ensures.said
+    (λ b k. tree_is v b w _ _ false c.root_kind-kind.ensures c.is_root_marked.ensures k.claims c.in-Stop.ensures) c.in_ok-tell_root.ensures
 
 pub returns-in-Stop-clause-goes : goal.returns-in-Stop-clause-goes
 returns-in-Stop-clause-goes g c = λ b k. c.in-Stop.ensures ∙ goes_is c.args.geometry.now.layout b c.args.workspace.now _ c.root_kind-kind.ensures k.claims
@@ -41,7 +41,7 @@ returns-in_err-check_inodes-in-Go-clause-text g c =
     let part = λ (b : List ℕ). map of_names (lines_from (lines_of (volume_of v b)) 2 (inodes_of v - 2)) in
     rw (p.1, p.2) (of_fault (Unit {0}) (Unit {0}) _ part part (λ b. []) _ _ _ _ c.in_err-check_inodes-in-Go.field-0.0
     (of_says _ all part _ (map of_names (root_said c.root_kind-kind.result c.is_root_marked.result)) _ _ _ (of_begins _ all _)
-    (λ b k. tree_is v b w _ _ true c.root_kind-kind.ensures c.is_root_marked.ensures k.claims c.in-Go.ensures) c.in_ok-tell_root.ensures.said)
+    (λ b k. tree_is v b w _ _ true c.root_kind-kind.ensures c.is_root_marked.ensures k.claims c.in-Go.ensures) c.in_ok-tell_root.ensures)
     (λ b k. sym (append-nil (part b)))
     c.in_err-check_inodes-in-Go.ensures.text)
 
@@ -53,7 +53,7 @@ returns-in_ok-check_inodes-in-Go-clause-text g c =
     let part = λ (b : List ℕ). map of_names (lines_from (lines_of (volume_of v b)) 2 (inodes_of v - 2)) in
     of_part _ part part (λ b. []) _ _ _ _
     (of_says _ all part _ (map of_names (root_said c.root_kind-kind.result c.is_root_marked.result)) _ _ _ (of_begins _ all _)
-    (λ b k. tree_is v b w _ _ true c.root_kind-kind.ensures c.is_root_marked.ensures k.claims c.in-Go.ensures) c.in_ok-tell_root.ensures.said)
+    (λ b k. tree_is v b w _ _ true c.root_kind-kind.ensures c.is_root_marked.ensures k.claims c.in-Go.ensures) c.in_ok-tell_root.ensures)
     (λ b k. sym (append-nil (part b)))
     c.in_ok-check_inodes-in-Go.ensures.text
 

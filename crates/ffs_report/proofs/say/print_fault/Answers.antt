@@ -1,61 +1,31 @@
 use Rattle.ffs_report.proofs.say.print_fault.Goals as goal
 
-pub returns-in-CannotRead-clause-lent : goal.returns-in-CannotRead-clause-lent
-returns-in-CannotRead-clause-lent g c = c.print_number.ensures.lent
+pub returns-in-CannotRead : goal.returns-in-CannotRead
+returns-in-CannotRead g c = rw (c.in-CannotRead.is) c.print_number.ensures
 
-pub returns-in-CannotRead-clause-printed : goal.returns-in-CannotRead-clause-printed
-returns-in-CannotRead-clause-printed g c = rw (c.in-CannotRead.is) c.print_number.ensures.printed
+pub returns-in-Magic : goal.returns-in-Magic
+returns-in-Magic g c = rw (c.in-Magic.is) c.print.ensures
 
-pub returns-in-Magic-clause-lent : goal.returns-in-Magic-clause-lent
-returns-in-Magic-clause-lent g c = c.print.ensures.lent
+pub returns-in-InodeFormat : goal.returns-in-InodeFormat
+returns-in-InodeFormat g c = rw (c.in-InodeFormat.is) c.print-in-InodeFormat.ensures
 
-pub returns-in-Magic-clause-printed : goal.returns-in-Magic-clause-printed
-returns-in-Magic-clause-printed g c = rw (c.in-Magic.is) c.print.ensures.printed
+pub returns-in-Ncg : goal.returns-in-Ncg
+returns-in-Ncg g c = rw (c.in-Ncg.is) c.print-in-Ncg.ensures
 
-pub returns-in-InodeFormat-clause-lent : goal.returns-in-InodeFormat-clause-lent
-returns-in-InodeFormat-clause-lent g c = c.print-in-InodeFormat.ensures.lent
+pub returns-in-Cpg : goal.returns-in-Cpg
+returns-in-Cpg g c = rw (c.in-Cpg.is) c.print-in-Cpg.ensures
 
-pub returns-in-InodeFormat-clause-printed : goal.returns-in-InodeFormat-clause-printed
-returns-in-InodeFormat-clause-printed g c = rw (c.in-InodeFormat.is) c.print-in-InodeFormat.ensures.printed
+pub returns-in-Ncyl : goal.returns-in-Ncyl
+returns-in-Ncyl g c = rw (c.in-Ncyl.is) c.print-in-Ncyl.ensures
 
-pub returns-in-Ncg-clause-lent : goal.returns-in-Ncg-clause-lent
-returns-in-Ncg-clause-lent g c = c.print-in-Ncg.ensures.lent
+pub returns-in-TooLarge : goal.returns-in-TooLarge
+returns-in-TooLarge g c = rw (c.in-TooLarge.is) c.print-in-TooLarge.ensures
 
-pub returns-in-Ncg-clause-printed : goal.returns-in-Ncg-clause-printed
-returns-in-Ncg-clause-printed g c = rw (c.in-Ncg.is) c.print-in-Ncg.ensures.printed
+pub returns-in-Shape : goal.returns-in-Shape
+returns-in-Shape g c = rw (c.in-Shape.is) c.print-in-Shape.ensures
 
-pub returns-in-Cpg-clause-lent : goal.returns-in-Cpg-clause-lent
-returns-in-Cpg-clause-lent g c = c.print-in-Cpg.ensures.lent
+pub returns-in-Short : goal.returns-in-Short
+returns-in-Short g c = rw (c.in-Short.is) c.print-in-Short.ensures
 
-pub returns-in-Cpg-clause-printed : goal.returns-in-Cpg-clause-printed
-returns-in-Cpg-clause-printed g c = rw (c.in-Cpg.is) c.print-in-Cpg.ensures.printed
-
-pub returns-in-Ncyl-clause-lent : goal.returns-in-Ncyl-clause-lent
-returns-in-Ncyl-clause-lent g c = c.print-in-Ncyl.ensures.lent
-
-pub returns-in-Ncyl-clause-printed : goal.returns-in-Ncyl-clause-printed
-returns-in-Ncyl-clause-printed g c = rw (c.in-Ncyl.is) c.print-in-Ncyl.ensures.printed
-
-pub returns-in-TooLarge-clause-lent : goal.returns-in-TooLarge-clause-lent
-returns-in-TooLarge-clause-lent g c = c.print-in-TooLarge.ensures.lent
-
-pub returns-in-TooLarge-clause-printed : goal.returns-in-TooLarge-clause-printed
-returns-in-TooLarge-clause-printed g c = rw (c.in-TooLarge.is) c.print-in-TooLarge.ensures.printed
-
-pub returns-in-Shape-clause-lent : goal.returns-in-Shape-clause-lent
-returns-in-Shape-clause-lent g c = c.print-in-Shape.ensures.lent
-
-pub returns-in-Shape-clause-printed : goal.returns-in-Shape-clause-printed
-returns-in-Shape-clause-printed g c = rw (c.in-Shape.is) c.print-in-Shape.ensures.printed
-
-pub returns-in-Short-clause-lent : goal.returns-in-Short-clause-lent
-returns-in-Short-clause-lent g c = c.print-in-Short.ensures.lent
-
-pub returns-in-Short-clause-printed : goal.returns-in-Short-clause-printed
-returns-in-Short-clause-printed g c = rw (c.in-Short.is) c.print-in-Short.ensures.printed
-
-pub returns-in-Disagree-clause-lent : goal.returns-in-Disagree-clause-lent
-returns-in-Disagree-clause-lent g c = c.print-in-Disagree.ensures.lent
-
-pub returns-in-Disagree-clause-printed : goal.returns-in-Disagree-clause-printed
-returns-in-Disagree-clause-printed g c = rw (c.in-Disagree.is) c.print-in-Disagree.ensures.printed
+pub returns-in-Disagree : goal.returns-in-Disagree
+returns-in-Disagree g c = rw (c.in-Disagree.is) c.print-in-Disagree.ensures
