@@ -33,6 +33,18 @@ superblock_examples = record {
   other_order = refl;
   not_asked = refl;
   free_part = refl;
+  compared = refl;
+  sizes = refl;
+  numbers = refl;
+  parts = refl;
+  summaries = refl;
+  second = refl;
+  second_early = refl;
+  second_late = refl;
+  summaries_on = refl;
+  summaries_out = refl;
+  small_blocks = refl;
+  many_fragments = refl;
 }
 
 pub area_examples : AreaExamples

@@ -1,7 +1,8 @@
 -- Which superblocks are accepted, the first fault of those that aren't, and what is told of them.
-use Rattle.std.specs.Prelude.{◌≡◌, [], ◌∷◌, pos, negsuc, Some, None, Ok, Err, take, map, true, false}
+use Rattle.std.specs.Prelude.{ℕ, List, Option, ◌≡◌, [], ◌∷◌, pos, negsuc, Some, None, Ok, Err, take, map, replicate, true, false}
 use Rattle.std.specs.List.{range_with_len}
 use Rattle.ffs_volume.specs.declared.Order.TheVariants.{Little, Big}
+use Rattle.ffs_volume.specs.declared.SuperFault.{SuperFault}
 use Rattle.ffs_volume.specs.declared.SuperFault.TheVariants.{CannotRead, Magic, InodeFormat, Ncg, Cpg, Ncyl, TooLarge, Shape, Short, Disagree}
 use Rattle.ffs_volume.specs.Areas.{cgstart, cgsblock, cgdmin, group_place, summary_place, inode_place, is_ok, is_in_range, is_reserved}
 use Rattle.ffs_volume.specs.Outcome.{outcome}
@@ -10,6 +11,19 @@ use Rattle.ffs_volume.specs.Opening.{setting_lines, opening_lines}
 use Rattle.ffs_volume.specs.Report.{summary_of}
 use Rattle.ffs_volume.specs.Shown.{shown, octal}
 use Rattle.ffs_volume.specs.Examples.{zeros, base_layout, base_superblock, base_super, base_image, changed, image_of, fault_of, fault_with, two_groups}
+
+-- the first fault of the base image with another number in the primary alone
+abbrev pub fault_at : ℕ → ℕ → Option SuperFault
+fault_at place number = fault_with (changed Little place number (base_super Little)) (base_super Little)
+
+-- the base superblock with a second group of 122 fragments, whose parts begin this much above its base
+abbrev pub with_second : ℕ → List ℕ
+with_second above =
+    changed Little 24 above (changed Little 28 0 (changed Little 36 250 (changed Little 44 2 (changed Little 176 2 (base_super Little)))))
+
+-- the first fault of an image with this superblock in both places
+abbrev pub fault_twice : List ℕ → Option SuperFault
+fault_twice super = fault_with super super
 
 pub record SuperblockExamples : Type 0 where
   -- the base image in both orders, and its copy where the primary is no superblock
@@ -36,6 +50,27 @@ pub record SuperblockExamples : Type 0 where
   -- a copy is compared only where none is asked for, and not in what is no part of the layout
   pub not_asked : fault_of (image_of (base_super Little) (changed Little 40 94 (base_super Little))) (Some 16) ≡ None
   pub free_part : fault_with (base_super Little) (changed Little 60 99 (base_super Little)) ≡ None
+  -- each number in which the copy must agree, by its place: it differs in the copy alone
+  pub compared : map (λ place. fault_with (base_super Little) (changed Little place 77 (base_super Little)))
+      (8 ∷ 12 ∷ 16 ∷ 20 ∷ 24 ∷ 28 ∷ 36 ∷ 40 ∷ 44 ∷ 48 ∷ 52 ∷ 56 ∷ 104 ∷ 116 ∷ 120 ∷ 152 ∷ 156 ∷ 160 ∷ 176 ∷ 180
+      ∷ 184 ∷ 188 ∷ 1324 ∷ 1356 ∷ 1372 ∷ []) ≡ replicate 25 (Some Disagree)
+  -- each condition of a layout that one number can fail alone: sizes, numbers, the parts of a group, the summary area
+  pub sizes : fault_at 56 2 ∷ fault_at 116 1023 ∷ fault_at 120 16 ∷ fault_at 184 0 ∷ fault_at 184 16 ∷ fault_at 188 130 ∷ [] ≡ replicate 6 (Some Shape)
+  pub numbers : fault_at 40 0 ∷ fault_at 1320 61 ∷ fault_at 1356 0 ∷ fault_at 104 1375 ∷ fault_at 36 132 ∷ [] ≡ replicate 5 (Some Shape)
+  pub parts : fault_at 8 0 ∷ fault_at 8 23 ∷ fault_at 12 28 ∷ fault_at 16 29 ∷ fault_at 160 167 ∷ [] ≡ replicate 5 (Some Shape)
+  pub summaries : fault_at 152 33 ∷ fault_at 156 15 ∷ [] ≡ replicate 2 (Some Shape)
+  -- a second group is in order, though the image is too short for it; not where it begins before its base or ends past the volume
+  pub second : fault_twice (with_second 4) ≡ Some Short
+  pub second_early : fault_twice (with_second 4294967295) ≡ Some Shape
+  pub second_late : fault_twice (with_second 91) ≡ Some Shape
+  -- the summary area ends in the second group, or past the volume
+  pub summaries_on : fault_twice (changed Little 156 99328 (with_second 4)) ≡ Some Shape
+  pub summaries_out : fault_twice (changed Little 156 99328 (changed Little 188 256 (base_super Little))) ≡ Some Shape
+  -- blocks of 2,048 bytes, and of sixteen fragments
+  pub small_blocks : fault_twice (changed Little 48 2048 (changed Little 52 512 (changed Little 116 512 (changed Little 120 16
+      (changed Little 16 26 (changed Little 20 40 (changed Little 152 40 (base_super Little)))))))) ≡ Some Shape
+  pub many_fragments : fault_twice (changed Little 48 8192 (changed Little 52 512 (changed Little 56 16 (changed Little 116 2048
+      (changed Little 120 64 (changed Little 184 64 (changed Little 20 44 (changed Little 152 44 (base_super Little))))))))) ≡ Some Shape
 
 pub record AreaExamples : Type 0 where
   -- fragments that are ok, and the first of the data

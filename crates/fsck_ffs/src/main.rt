@@ -1,9 +1,6 @@
 //! Checks an image of a UFS1 file system, and never writes it: `fsck_ffs -n [-b sector] image`, after fsck(8).
 #![tactic(auto)]
 
-#[cfg(test)]
-mod tests;
-
 use ffs_check::run::run;
 use ffs_report::SilentWriter;
 use std::env;

@@ -1,0 +1,213 @@
+//! The whole run: its words, its opening and its end.
+
+use super::layout::{base, put_bytes};
+use super::volume::{Number, ORDERS, put};
+use ffs_check::args::Args;
+use ffs_check::check::check;
+use ffs_check::opening::check_opening;
+use ffs_check::run::run;
+use ffs_image::{FuseImage, Image, MemoryImage};
+use ffs_layout::Order;
+use ffs_report::{Counted, FuseWriter};
+use ffs_volume::{End, SuperFault};
+use std::alloc::{AllocError, Global};
+use std::test::Fail;
+
+// What a volume holds whose root is all that there is: the group block at byte 24,576, its inode, its summary record, and the
+// root's own two entries.
+const ROOT: [Number; 25] = [
+    (24580, 4, 0x090255),
+    (24596, 4, 128),
+    (24600, 4, 1),
+    (24604, 4, 22),
+    (24608, 4, 29),
+    (24612, 4, 6),
+    (24640, 4, 2),
+    (24668, 4, 168),
+    (24672, 4, 172),
+    (28928, 2, 0o40755),
+    (28930, 2, 2),
+    (28936, 8, 512),
+    (28968, 4, 36),
+    (29032, 4, 2),
+    (32768, 4, 1),
+    (32772, 4, 22),
+    (32776, 4, 29),
+    (32780, 4, 6),
+    (36864, 4, 2),
+    (36868, 2, 12),
+    (36870, 1, 4),
+    (36871, 1, 1),
+    (36876, 4, 2),
+    (36880, 2, 500),
+    (36882, 1, 4),
+];
+
+// The maps of the group, and the names of the two entries with the second one's length: the same bytes in both orders.
+const BYTES: [(usize, &[u8]); 4] = [
+    (
+        24744,
+        b"\x07\0\0\0\0\0\0\0\xee\xff\xff\xff\xff\xff\xff\xff\xff\xff\xff\xff",
+    ),
+    (36872, b"."),
+    (36883, b"\x02"),
+    (36884, b".."),
+];
+
+const REPORT: &[u8] =
+    b"** t.img (NO WRITE)\n** Last Mounted on /mnt\n** Phase 1 - Check Blocks and Sizes\n** Phase 2 - Check Pathnames\n** Phase 3 - Check Connectivity\n** Phase 4 - Check Reference Counts\n** Phase 5 - Check Cyl groups\n1 files, 1 used, 94 free (6 frags, 22 blocks, 6.3% fragmentation)\n";
+
+const WORDS: Args<'static> = Args {
+    name: "t.img",
+    sector: None,
+};
+
+// The volume with a root alone, and one number more.
+fn volume(order: Order, number: Number, alloc: Global) -> Result<MemoryImage, AllocError> {
+    let mut bytes = base(order, alloc)?;
+    put(order, bytes.as_mut_slice(), &ROOT);
+    for (place, text) in BYTES {
+        put_bytes(bytes.as_mut_slice(), place, text);
+    }
+    put(order, bytes.as_mut_slice(), &[number]);
+    Ok(MemoryImage::new(bytes))
+}
+
+// How a check of an image ends, and what it prints.
+fn checked<I: Image>(image: &mut I, alloc: Global) -> (End, Vec<u8>) {
+    let mut text = Vec::new(alloc);
+    let end = check(alloc, image, &WORDS, &mut Counted::new(&mut text));
+    (end, text)
+}
+
+#[test]
+fn consistent_volume(rt: HostRuntime) -> Result<(), Fail> {
+    for order in ORDERS {
+        let mut image = volume(order, (0, 1, 0), rt.alloc())?;
+        let (end, text) = checked(&mut image, rt.alloc());
+        assert_eq!(rt; end, End::Consistent);
+        assert_eq!(rt; text.as_slice(), REPORT);
+    }
+    Ok(())
+}
+
+// The root's count of links is 3; inode 2 is no inode.
+#[test]
+fn defects_and_a_stop(rt: HostRuntime) -> Result<(), Fail> {
+    for order in ORDERS {
+        let (end, text) = checked(&mut volume(order, (28930, 2, 3), rt.alloc())?, rt.alloc());
+        assert_eq!(rt; end, End::Defects);
+        assert!(rt; text.as_slice().starts_with(&REPORT[..163]));
+        let (end, text) = checked(&mut volume(order, (28928, 2, 0), rt.alloc())?, rt.alloc());
+        assert_eq!(rt; end, End::RootStop);
+        assert!(rt;
+            text.as_slice()
+                .ends_with(b"ROOT INODE UNALLOCATED\nALLOCATE? no\n\n")
+        );
+    }
+    Ok(())
+}
+
+// The root's chunk, in sector 72, can't be read; the output stops after twenty bytes.
+#[test]
+fn failed_reads_and_writes(rt: HostRuntime) -> Result<(), Fail> {
+    let inner = volume(Order::Little, (0, 1, 0), rt.alloc())?;
+    let (end, text) = checked(&mut FuseImage::touching(inner, 72), rt.alloc());
+    assert_eq!(rt; end, End::ReadFault(72));
+    assert!(rt;
+        text.as_slice()
+            .ends_with(b"Pathnames\nCAN NOT READ: BLK 72\n")
+    );
+    let mut image = volume(Order::Little, (0, 1, 0), rt.alloc())?;
+    let mut writer = FuseWriter::new(Vec::new(rt.alloc()), 20);
+    let end = check(
+        rt.alloc(),
+        &mut image,
+        &WORDS,
+        &mut Counted::new(&mut writer),
+    );
+    assert_eq!(rt; end, End::WriteFault);
+    let text = writer.into_inner();
+    assert_eq!(rt; text.as_slice(), &REPORT[..20]);
+    Ok(())
+}
+
+#[test]
+fn statuses(rt: HostRuntime) -> Result<(), Fail> {
+    let cases = [
+        (End::Consistent, 0),
+        (End::Defects, 1),
+        (End::Refused(SuperFault::Magic), 8),
+        (End::RootStop, 8),
+        (End::ReadFault(72), 8),
+        (End::WriteFault, 8),
+        (End::NoMemory, 8),
+    ];
+    for (end, status) in cases {
+        assert_eq!(rt; end.status(), status);
+    }
+    Ok(())
+}
+
+#[test]
+fn wrong_words(rt: HostRuntime) -> Result<(), Fail> {
+    let cases: [&[&str]; 5] = [
+        &["t.img"],
+        &["-n", "-b", "0", "t.img"],
+        &["-n", "a", "b"],
+        &["-n", "-b", "4194304", "t.img"],
+        &["--help"],
+    ];
+    for words in cases {
+        let mut out = Vec::new(rt.alloc());
+        let mut errors = Vec::new(rt.alloc());
+        assert_eq!(rt; run(&rt, rt.alloc(), words, &mut out, &mut errors), 2);
+        assert!(rt; out.is_empty() && !errors.is_empty());
+    }
+    Ok(())
+}
+
+#[test]
+fn no_such_file(rt: HostRuntime) -> Result<(), Fail> {
+    let mut out = Vec::new(rt.alloc());
+    let mut errors = Vec::new(rt.alloc());
+    let status = run(
+        &rt,
+        rt.alloc(),
+        &["-N", "-b", "32", "missing.img"],
+        &mut out,
+        &mut errors,
+    );
+    assert_eq!(rt; status, 8);
+    assert_eq!(rt; out.as_slice(), b"Can't open missing.img\n".as_slice());
+    Ok(())
+}
+
+#[test]
+fn refusals(rt: HostRuntime) -> Result<(), Fail> {
+    let zeros = vec![in rt.alloc(); 0u8; 131072]?;
+    let mut image = FuseImage::touching(MemoryImage::new(zeros), 32);
+    let mut text = Vec::new(rt.alloc());
+    let mut out = Counted::new(&mut text);
+    let primary = Args {
+        name: "t.img",
+        sector: None,
+    };
+    let copy = Args {
+        name: "t.img",
+        sector: Some(32),
+    };
+    assert_eq!(rt;
+        check_opening(&mut image, &primary, &mut out).err(),
+        Some(End::Refused(SuperFault::Magic))
+    );
+    assert_eq!(rt;
+        check_opening(&mut image, &copy, &mut out).err(),
+        Some(End::Refused(SuperFault::CannotRead { sector: 32 }))
+    );
+    assert_eq!(rt;
+        text.as_slice(),
+        b"** t.img (NO WRITE)\nBAD SUPER BLOCK: MAGIC NUMBER WRONG\nAlternate super block location: 32\n** t.img (NO WRITE)\nCAN NOT READ: BLK 32\n".as_slice()
+    );
+    Ok(())
+}

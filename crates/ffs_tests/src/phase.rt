@@ -1,0 +1,26 @@
+//! What ends a run before its report is complete.
+
+use ffs_image::ImageFault;
+use ffs_phase::RunFault;
+use ffs_report::OutFault;
+use std::test::Fail;
+
+fn failed_read() -> Result<(), RunFault> {
+    Err(ImageFault { sector: 72 })?;
+    Ok(())
+}
+
+fn failed_write() -> Result<(), RunFault> {
+    Err(OutFault)?;
+    Ok(())
+}
+
+#[test]
+fn faults_of_a_run(rt: HostRuntime) -> Result<(), Fail> {
+    assert_eq!(rt;
+        failed_read(),
+        Err(RunFault::Read(ImageFault { sector: 72 }))
+    );
+    assert_eq!(rt; failed_write(), Err(RunFault::Out(OutFault)));
+    Ok(())
+}

@@ -1,4 +1,0 @@
-use Rattle.fsck_ffs.proofs.tests.claims.checked.Goals as goal
-
-pub phase1-requires-clause-windows : goal.phase1-requires-clause-windows
-phase1-requires-clause-windows g c = c.in_ok-workspace.ensures.windows _

@@ -1,4 +1,0 @@
-use Rattle.fsck_ffs.proofs.tests.workspace.inode_in_its_table.Goals as goal
-
-pub inode-requires-clause-holds : goal.inode-requires-clause-holds
-inode-requires-clause-holds g c = (c.in_ok-workspace.ensures.windows _).table
