@@ -3,13 +3,19 @@
 ghost use Rattle.std.specs.Prelude.{◌≡◌, ◌≤◌, IfOk, length};
 
 use super::volume::image_of;
+use ffs_check::args::Args;
+use ffs_check::check::check;
 use ffs_image::{FileImage, FuseImage, Image, ImageFault, MemoryImage};
 use ffs_layout::Order;
+use ffs_report::Counted;
+use ffs_volume::{End, SuperFault};
 use std::alloc::{AllocError, Global};
 use std::fs;
 use std::test::Fail;
 
 const NAME: &str = "ffs_image_test.img";
+
+const ODD: &str = "ffs_image_odd.img";
 
 // An image of zeros, and `abcd` at 1022.
 fn letters(alloc: Global) -> Result<MemoryImage, AllocError>
@@ -73,5 +79,44 @@ fn file_reads(rt: HostRuntime) -> Result<(), Fail> {
     assert_eq!(rt; (image.failures(), image.failed()), (1, 1));
     fs::remove_file(&rt, NAME)?;
     assert!(rt; FileImage::open(&rt, NAME).is_err());
+    Ok(())
+}
+
+// An image that isn't a whole number of sectors has its size, and opening and reading change nothing. A file that is
+// missing isn't made.
+#[test]
+fn file_is_left_as_it_is(rt: HostRuntime) -> Result<(), Fail> {
+    fs::write(&rt, ODD, [7u8; 1001].as_slice())?;
+    let mut image = FileImage::open(&rt, ODD)?;
+    assert!(rt; image.size() == 1001);
+    let mut found = [0u8; 2];
+    image.read_at(999, &mut found)?;
+    assert_eq!(rt; found, [7; 2]);
+    assert_eq!(rt; fs::read(&rt, ODD)?.as_slice(), [7u8; 1001].as_slice());
+    fs::remove_file(&rt, ODD)?;
+    assert!(rt; FileImage::open(&rt, ODD).is_err());
+    assert!(rt; fs::metadata(&rt, ODD).is_err());
+    Ok(())
+}
+
+// A directory can't be read, and a device without bytes has none.
+#[test]
+fn no_superblock_in_a_directory(rt: HostRuntime) -> Result<(), Fail> {
+    for name in [".", "/dev/null"] {
+        let mut image = FileImage::open(&rt, name)?;
+        let args = Args { name, sector: None };
+        let mut text = Vec::new(rt.alloc());
+        let end = check(
+            rt.alloc(),
+            &mut image,
+            &args,
+            &mut Counted::new(&mut text),
+        );
+        assert_eq!(rt;
+            end,
+            End::Refused(SuperFault::CannotRead { sector: 16 })
+        );
+        assert!(rt; text.ends_with(b"CAN NOT READ: BLK 16\n"));
+    }
     Ok(())
 }

@@ -1,0 +1,7 @@
+-- The bytes at a place of a source.
+use Rattle.std.specs.Prelude.{◌≡◌, ℕ, List, length, drop, take, Option}
+use Rattle.ffs_image.specs.Device.{WhereTold}
+
+-- these are the bytes at a place, where a source tells its bytes
+abbrev pub AreAt : Option (List ℕ) → ℕ → List ℕ → Type 0
+AreAt told at xs = WhereTold told (λ bytes. xs ≡ take (length xs) (drop at bytes))
