@@ -106,16 +106,8 @@ fn no_superblock_in_a_directory(rt: HostRuntime) -> Result<(), Fail> {
         let mut image = FileImage::open(&rt, name)?;
         let args = Args { name, sector: None };
         let mut text = Vec::new(rt.alloc());
-        let end = check(
-            rt.alloc(),
-            &mut image,
-            &args,
-            &mut Counted::new(&mut text),
-        );
-        assert_eq!(rt;
-            end,
-            End::Refused(SuperFault::CannotRead { sector: 16 })
-        );
+        let end = check(rt.alloc(), &mut image, &args, &mut Counted::new(&mut text));
+        assert_eq!(rt; end, End::Refused(SuperFault::CannotRead { sector: 16 }));
         assert!(rt; text.ends_with(b"CAN NOT READ: BLK 16\n"));
     }
     Ok(())
