@@ -1,5 +1,5 @@
 -- How offers, steps and inodes go on.
-use Rattle.std.proofs.Common.{◌≡◌, ℕ, zero, suc, ◌+◌, ◌-◌, ◌<◌, Bool, true, false, ◌==◌, List, [], ◌∷◌, ◌++◌, arith, rules, refl, ap, ◌∙◌, sym, Result, slice_set}
+use Rattle.std.proofs.Common.{◌≡◌, ℕ, zero, suc, ◌+◌, ◌-◌, ◌<◌, Bool, true, false, ◌==◌, List, [], ◌∷◌, ◌++◌, arith, rules, refl, ap, ◌∙◌, sym, Result, slice_set, replicate}
 use Rattle.std.specs.List.{range_with_len, slice_index_or}
 use Rattle.ffs_volume.specs.declared.Layout.{Layout}
 use Rattle.ffs_volume.specs.declared.Step.{Step}
@@ -120,3 +120,12 @@ from_start start len =
     let a : start + 0 ≡ start = omega arith in
     let b : len - 0 ≡ len = omega arith in
     rw (a, b) refl
+
+-- gaps in a row change nothing, and nothing is told of them
+pub gaps_stay : (v : Layout) (s : Claims) (n : ℕ) (steps : List Step) → after_steps v s (replicate n Gap ++ steps) ≡ after_steps v s steps
+gaps_stay v s zero steps = refl
+gaps_stay v s (suc n) steps = gaps_stay v s n steps
+
+pub gaps_silent : (v : Layout) (inode : ℕ) (s : Claims) (n : ℕ) (steps : List Step) → steps_lines v inode s (replicate n Gap ++ steps) ≡ steps_lines v inode s steps
+gaps_silent v inode s zero steps = refl
+gaps_silent v inode s (suc n) steps = gaps_silent v inode s n steps

@@ -1,5 +1,5 @@
 -- How a second walk over an inode goes on.
-use Rattle.std.proofs.Common.{◌≡◌, ℕ, ◌+◌, Bool, true, false, ◌==◌, if◌then◌else◌, List, [], ◌∷◌, ◌++◌, Some, None, append-nil, arith, refl, ap, ◌∙◌, sym}
+use Rattle.std.proofs.Common.{◌≡◌, ℕ, zero, suc, replicate, ◌+◌, Bool, true, false, ◌==◌, if◌then◌else◌, List, [], ◌∷◌, ◌++◌, Some, None, append-nil, arith, refl, ap, ◌∙◌, sym}
 use Rattle.std.proofs.lemmas.Bool.Decides.{nat_tests}
 use Rattle.ffs_volume.specs.declared.Layout.{Layout}
 use Rattle.ffs_volume.specs.declared.Step.{Step}
@@ -66,3 +66,14 @@ telling_over rest all u w e t =
 
 pub lines_over : (dup : List Bool) (os : List Offer) → set_count dup ≡ 0 → of_lines (first_offers dup os) ≡ []
 lines_over dup os e = ap of_lines (none_first dup os e)
+
+-- gaps in a row keep nothing
+pub gaps_offer : (v : Layout) (i : ℕ) (r : Rescan) (n : ℕ) (R : List Step) → offers_again v i r (replicate n Gap ++ R) ≡ offers_again v i r R
+unfolding offers_again
+gaps_offer v i r zero R = refl
+gaps_offer v i r (suc n) R = gaps_offer v i r n R
+
+pub gaps_seen : (v : Layout) (r : Rescan) (n : ℕ) (R : List Step) → runs_again v r (replicate n Gap ++ R) ≡ runs_again v r R
+unfolding runs_again
+gaps_seen v r zero R = refl
+gaps_seen v r (suc n) R = omega (arith, gaps_seen v r n R)

@@ -61,6 +61,7 @@ fn claim<I: Image, W: Output>(
         if !is_open(workspace) {
             break;
         }
+        walk.skip_gaps(&workspace.windows.blocks);
     }
     Ok(())
 }

@@ -105,6 +105,7 @@ fn rewalk<I: Image, W: Output>(
         if is_told(workspace) {
             break;
         }
+        walk.skip_gaps(&workspace.windows.blocks);
     }
     Ok(())
 }

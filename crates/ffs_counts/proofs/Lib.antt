@@ -1,4 +1,5 @@
 pub mod Places
+pub mod UsedCount
 pub mod Sifting
 pub mod Findings
 pub mod Classes

@@ -2,8 +2,9 @@
 
 ghost use Rattle.std.specs.Prelude.{◌≡◌, ◌∷◌, [], ◌-◌, ◌<◌, ◌^◌, List, ℕ, length, count_by, not, ◌&&◌, pos, ◌+ℤ◌, ◌*ℤ◌, int_div};
 ghost use Rattle.std.specs.List.{range_with_len};
-ghost use Rattle.ffs_volume.specs.Areas.{is_reserved};
+ghost use Rattle.ffs_volume.specs.Areas.{cgbase, is_reserved};
 ghost use Rattle.ffs_volume.specs.Claims.{is_set};
+ghost use Rattle.ffs_volume.specs.Groups.{group_size};
 ghost use Rattle.ffs_volume.specs.Inodes.{is_settled};
 ghost use Rattle.ffs_volume.specs.Report.{summary_of, file_count as files_of, used_count as used_of};
 ghost use Rattle.ffs_layout.specs.Super.{seen};
@@ -18,6 +19,7 @@ ghost use Rattle.ffs_workspace.specs.Holds.{HoldsClaims};
 ghost use Rattle.ffs_workspace.specs.Lengths.{IsFor};
 
 use crate::one::one_if;
+use ffs_groups::maps::group_fragments;
 use ffs_layout::{Geometry, Super};
 use ffs_maps::FragmentMap;
 use ffs_phase::RunFault;
@@ -42,12 +44,21 @@ fn file_count(kinds: &[u8]) -> u32
     files
 }
 
-// Whether a fragment is claimed beside the reserved ones.
-fn is_used(geometry: &Geometry, used: &FragmentMap, fragment: u32) -> bool
-    requires { fragment < used.now.size }
-    ensures { result ≡ (is_set (bits_of used.now) fragment && not (is_reserved geometry.now.layout fragment)) }
+// How many fragments of a group are claimed beside the reserved ones, which stand together in each group: those before the
+// end of the summary area in the first one, and what the group keeps for itself in another.
+fn used_in_group(geometry: &Geometry, used: &FragmentMap, group: u32) -> u32
+    requires group { group < geometry.now.layout.ncg }
+    requires size { used.now.size ≡ geometry.now.layout.size }
+    ensures { result ≡ count_by (λ f. is_set (bits_of used.now) f && not (is_reserved geometry.now.layout f)) (range_with_len (cgbase geometry.now.layout group) (group_size geometry.now.layout group)) }
 {
-    used.get(fragment) && !geometry.reserved(u64::from(fragment))
+    let base = geometry.cgbase(group);
+    let end = base + group_fragments(geometry, group);
+    if group == 0 {
+        let summary = geometry.layout.cssize.div_ceil(geometry.layout.fsize);
+        return used.count(geometry.layout.csaddr + summary, end);
+    }
+    let before = used.count(base, geometry.cgsblock(group));
+    before + used.count(geometry.cgdmin(group), end)
 }
 
 // How many fragments are claimed beside the reserved ones.
@@ -56,8 +67,8 @@ fn used_count(geometry: &Geometry, used: &FragmentMap) -> u32
     ensures { result ≡ count_by (λ f. is_set (bits_of used.now) f && not (is_reserved geometry.now.layout f)) (range_with_len 0 geometry.now.layout.size) }
 {
     let mut count = 0;
-    for fragment in 0..geometry.layout.size {
-        count += one_if(is_used(geometry, used, fragment));
+    for group in 0..geometry.layout.ncg {
+        count += used_in_group(geometry, used, group);
     }
     count
 }

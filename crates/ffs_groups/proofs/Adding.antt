@@ -138,9 +138,8 @@ whole_one bits = go (is_whole bits)
     go true = omega arith
     go false = omega arith
 
-pub loose_fits : (bits : ℕ → List Bool) (frag fpg : ℕ) → ((b : ℕ) → length (bits b) ≡ frag) → sum_by (λ b. loose_in (bits b)) (range_with_len 0 (fpg / frag)) ≤ fpg
-loose_fits bits frag fpg len =
-    omega (arith, sum_within (λ b. loose_in (bits b)) frag 0 (fpg / frag) (λ k. omega (arith, loose_length (bits k), len k)), div-add-mod' fpg frag)
+pub loose_fits : (bits : ℕ → List Bool) (frag n : ℕ) → ((b : ℕ) → length (bits b) ≡ frag) → sum_by (λ b. loose_in (bits b)) (range_with_len 0 n) ≤ n * frag
+loose_fits bits frag n len = omega (arith, sum_within (λ b. loose_in (bits b)) frag 0 n (λ k. omega (arith, loose_length (bits k), len k)))
 
 pub whole_fits : (bits : ℕ → List Bool) (n : ℕ) → sum_by (λ b. whole_in (bits b)) (range_with_len 0 n) ≤ n
 whole_fits bits n = omega (arith, sum_within (λ b. whole_in (bits b)) 1 0 n (λ k. whole_one (bits k)))

@@ -29,13 +29,3 @@ sums_as v free class c block counts right =
 pub same_summary_of : (a b i f a' b' i' f' : ℕ) → a ≡ a' → b ≡ b' → i ≡ i' → f ≡ f' →
     Path Summary (record { dirs = a; blocks = b; inodes = i; fragments = f }) (record { dirs = a'; blocks = b'; inodes = i'; fragments = f' })
 same_summary_of a b i f a' b' i' f' p q r s = rw (p, q, r, s) refl
-
-div_low : (n k : ℕ) → n / k ≤ n
-div_low n zero = search (rules, arith)
-div_low n (suc k) = omega (arith, div-add-mod' n (suc k), mul-le (n / suc k) 1 (n / suc k) (suc k) (omega arith) (omega arith))
-
-pub fits_below : (n fpg frag s : ℕ) → n ≡ s → s ≤ fpg / frag → fpg < 2 ^ 32 → n < 2 ^ 32
-fits_below n fpg frag s e h low = omega (arith, e, h, low, div_low fpg frag)
-
-pub fits_within : (n fpg s : ℕ) → n ≡ s → s ≤ fpg → fpg < 2 ^ 32 → n < 2 ^ 32
-fits_within n fpg s e h low = omega (arith, e, h, low)

@@ -4,3 +4,4 @@ pub mod Whole
 pub mod Adding
 pub mod MapWords
 pub mod Checks
+pub mod Words

@@ -5,6 +5,7 @@ ghost use Rattle.ffs_volume.specs.Groups.{is_whole, free_runs, run_of, right_sum
 ghost use Rattle.ffs_maps.specs.Bits.{bits_of};
 ghost use Rattle.ffs_groups.specs.Free.{word_bits, whole_in, loose_in, runs_in, AreBelow, Added, AreFree, free_in};
 
+use crate::maps::group_fragments;
 use ffs_layout::Geometry;
 use ffs_maps::FragmentMap;
 
@@ -70,7 +71,7 @@ impl FreeCounts {
         }
     }
 
-    // Counts the blocks of a word.
+    // Counts the blocks of a word. Most words have no free fragment, or only free ones.
     fn add_word(&mut self, word: u64, blocks: u32, frag: u32)
         requires frag { frag ≤ 8 }
         requires blocks { blocks * frag ≤ 64 }
@@ -78,13 +79,21 @@ impl FreeCounts {
         requires below { AreBelow (2 ^ 62) self.old }
         ensures { Added (λ b. word_bits (word / 2 ^ (b * frag)) 0 frag) 0 blocks self.old self.new }
     {
+        if word == 0 {
+            return;
+        }
+        if word == u64::MAX {
+            self.blocks += u64::from(blocks);
+            return;
+        }
         for block in 0..blocks {
             self.add_block(word >> (block * frag), frag);
         }
     }
 }
 
-/// What is free in a group: the fragments below the volume's size that are not used.
+/// What is free in a group: the fragments below the volume's size that are not used. Only the group's blocks that the volume
+/// has are looked at.
 pub fn free_counts(geometry: &Geometry, used: &FragmentMap, group: u32) -> FreeCounts
     requires group { group < geometry.now.layout.ncg }
     requires size { used.now.size ≡ geometry.now.layout.size }
@@ -94,7 +103,7 @@ pub fn free_counts(geometry: &Geometry, used: &FragmentMap, group: u32) -> FreeC
 {
     let frag = geometry.layout.frag;
     let base = u64::from(geometry.cgbase(group));
-    let blocks = geometry.layout.fpg / frag;
+    let blocks = group_fragments(geometry, group).div_ceil(frag);
     let mut counts = FreeCounts {
         blocks: 0,
         fragments: 0,

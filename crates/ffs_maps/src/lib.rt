@@ -1,8 +1,8 @@
 //! A bit for each fragment of a volume, in words of 64.
 #![tactic(auto)]
 
-ghost use Rattle.std.specs.Prelude.{ℕ, nat_eq, ◌≡◌, ◌+◌, ◌*◌, ◌%◌, ◌<◌, ◌≤◌, vec_len, length, IfOk, IsTrue, true, false, slice_set, replicate};
-ghost use Rattle.std.specs.List.{slice_index_or};
+ghost use Rattle.std.specs.Prelude.{ℕ, nat_eq, ◌≡◌, ◌+◌, ◌*◌, ◌%◌, ◌<◌, ◌≤◌, ◌-◌, vec_len, length, IfOk, IsTrue, true, false, slice_set, replicate, count_by};
+ghost use Rattle.std.specs.List.{slice_index_or, range_with_len};
 ghost use Rattle.std.specs.Int.{div_ceil, bit_at};
 
 use std::alloc::{AllocError, Global};
@@ -73,6 +73,46 @@ impl FragmentMap {
             return clear;
         }
         clear & ((1 << left) - 1)
+    }
+
+    // How many bits of a run in one word are set.
+    fn count_in_word(&self, start: u32, len: u32) -> u32
+        requires some { 0 < len }
+        requires one_word { start % 64 + len ≤ 64 }
+        requires below { start + len ≤ self.now.size }
+        ensures { result ≡ count_by (λ f. slice_index_or (bits_of self.now) f false) (range_with_len start len) }
+    {
+        let words = self.words.as_slice();
+        let word = words[start as usize / 64];
+        let bits = word >> (start % 64) & (u64::MAX >> (64 - len));
+        bits.count_ones()
+    }
+
+    /// How many bits are set of the fragments from `start` on and below `end`.
+    pub fn count(&self, start: u32, end: u32) -> u32
+        requires order { start ≤ end }
+        requires below { end ≤ self.now.size }
+        ensures { result ≡ count_by (λ f. slice_index_or (bits_of self.now) f false) (range_with_len start (end - start)) }
+    {
+        let first = start.div_ceil(64);
+        let last = end / 64;
+        if start == end {
+            return 0;
+        }
+        if last < first {
+            return self.count_in_word(start, end - start);
+        }
+        let mut count = 0;
+        if start < 64 * first {
+            count = self.count_in_word(start, 64 * first - start);
+        }
+        for word in first..last {
+            count += self.count_in_word(64 * word, 64);
+        }
+        if 64 * last < end {
+            count += self.count_in_word(64 * last, end - 64 * last);
+        }
+        count
     }
 
     /// Sets the bit of a fragment.

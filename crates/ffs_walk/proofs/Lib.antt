@@ -4,3 +4,4 @@ pub mod Ranges
 pub mod WalkSteps
 pub mod Sizes
 pub mod Splices
+pub mod GapSteps

@@ -3,7 +3,7 @@
 ghost use Rattle.std.specs.Prelude.{◌≡◌, ◌-◌, ◌*◌, ◌+◌, ◌<◌, ◌≤◌, ◌^◌, ◌++◌, ◌∷◌, ℕ, List, [], length, vec_len, Ok, None, OnOk, IfOk, IfErr, IfSome, MatchOption, IsTrue, false, not, ◌||◌, nat_lt, ◌↔◌};
 
 use crate::blocks::Blocks;
-use crate::words::{any_from, word};
+use crate::words::{any_from, word, zeros_end};
 use ffs_image::{Image, ImageFault};
 use ffs_layout::Geometry;
 
@@ -33,7 +33,8 @@ pub enum Item {
 }
 
 impl Frame {
-    ghost use Rattle.std.specs.Prelude.{MatchResult};
+    ghost use Rattle.std.specs.Prelude.{MatchResult, Option, replicate};
+    ghost use Rattle.ffs_volume.specs.declared.Step.TheVariants.{Gap};
     ghost use Rattle.ffs_image.specs.Device.{Faulted, WhereTold};
     ghost use Rattle.ffs_volume.specs.Areas.{is_in_range};
     ghost use Rattle.ffs_volume.specs.declared.Step.{Step};
@@ -103,5 +104,33 @@ impl Frame {
         let block = self.first + u64::from(self.next) * span;
         self.next += 1;
         Ok(Item::Word { address, block })
+    }
+
+    /// Passes over the words of zero that come next, where the block is held for the level and read before: how many there are.
+    /// Each stands for a gap, at every level.
+    pub fn skip_gaps(&mut self, geometry: &Geometry, level: usize, blocks: &Blocks) -> u32
+        requires words { self.old.used ≤ geometry.now.layout.nindir }
+        requires level { level < 3 }
+        requires room { HasRoom geometry.now.layout blocks.now }
+        ensures steps { (told : Option (List ℕ)) → BlocksHold geometry.now.layout told blocks.now → WhereTold told (λ bytes.
+            (child : ℕ → ℕ → List Step) (span : ℕ) → ((block : ℕ) → child 0 block ≡ Gap ∷ []) →
+            frame_rest geometry.now.layout bytes child span self.old ≡ replicate result Gap ++ frame_rest geometry.now.layout bytes child span self.new) }
+        ensures falls { (most : ℕ) → frame_left most self.new ≤ frame_left most self.old }
+        ensures next { self.new.next ≡ self.old.next + result }
+        ensures place { (self.new.address ≡ self.old.address) × (self.new.first ≡ self.old.first) × (self.new.used ≡ self.old.used) }
+        ensures fresh { self.new.fresh ≡ self.old.fresh }
+    {
+        if self.fresh || blocks.held[level] != Some(self.address) {
+            return 0;
+        }
+        let next = zeros_end(
+            geometry,
+            blocks.bytes(geometry, level),
+            self.next,
+            self.used,
+        );
+        let gaps = next - self.next;
+        self.next = next;
+        gaps
     }
 }

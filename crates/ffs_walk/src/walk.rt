@@ -44,6 +44,8 @@ impl Walk {
     ghost use Rattle.ffs_volume.specs.Steps.{data_step, indirect_steps, steps_at, steps_of, walks};
     ghost use Rattle.ffs_volume.specs.Inodes.{blocks_of};
     ghost use Rattle.ffs_volume.specs.declared.Step.{Step};
+    ghost use Rattle.std.specs.Prelude.{Option, replicate};
+    ghost use Rattle.ffs_volume.specs.declared.Step.TheVariants.{Gap};
     ghost use Rattle.ffs_volume.specs.Lengths.{HasLength};
     ghost use Rattle.ffs_walk.specs.Fits.{IsSpent, IsBelow};
     ghost use Rattle.ffs_walk.specs.Lengths.{IsWithin};
@@ -297,6 +299,25 @@ impl Walk {
                 Err(fault)
             }
         }
+    }
+
+    /// Passes over the gaps that come next in the indirect block that the walk is in: how many there are.
+    pub fn skip_gaps(&mut self, blocks: &Blocks) -> u32
+        requires room { HasRoom self.old.geometry.layout blocks.now }
+        ensures steps { (told : Option (List ℕ)) → BlocksHold self.old.geometry.layout told blocks.now → WhereTold told (λ bytes.
+            rest bytes self.old ≡ replicate result Gap ++ rest bytes self.new) }
+        ensures falls { left self.new ≤ left self.old }
+        ensures geometry { self.new.geometry ≡ self.old.geometry }
+        ensures blocks { self.new.blocks ≡ self.old.blocks }
+    {
+        let geometry = self.geometry;
+        if self.single.is_left() {
+            return self.single.skip_gaps(&geometry, 0, blocks);
+        }
+        if self.double.is_left() {
+            return self.double.skip_gaps(&geometry, 1, blocks);
+        }
+        self.triple.skip_gaps(&geometry, 2, blocks)
     }
 
     /// A walk over the blocks of an inode. Only a file or a directory has steps, and no device or short symlink.

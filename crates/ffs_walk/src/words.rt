@@ -1,6 +1,6 @@
 //! The words of an indirect block.
 
-ghost use Rattle.std.specs.Prelude.{◌≡◌, ◌*◌, ◌+◌, ◌≤◌, length};
+ghost use Rattle.std.specs.Prelude.{ℕ, ◌≡◌, ◌*◌, ◌+◌, ◌<◌, ◌≤◌, length};
 ghost use Rattle.ffs_volume.specs.Steps.{any_word_from, word_of};
 
 use byteorder::{BigEndian, ByteOrder, LittleEndian};
@@ -32,4 +32,21 @@ pub fn any_from(geometry: &Geometry, block: &[u8], used: u32) -> bool
         }
     }
     false
+}
+
+/// The first index from `next` on whose word isn't zero, and `used` where there is none below it.
+pub fn zeros_end(geometry: &Geometry, block: &[u8], next: u32, used: u32) -> u32
+    requires block { length block.now ≡ geometry.now.layout.bsize }
+    requires order { next ≤ used }
+    requires used { used ≤ geometry.now.layout.nindir }
+    ensures from_next { next ≤ result }
+    ensures within { result ≤ used }
+    ensures zeros { (k : ℕ) → next ≤ k → k < result → word_of geometry.now.layout block.now k ≡ 0 }
+{
+    for j in next..used {
+        if word(geometry, block, j) != 0 {
+            return j;
+        }
+    }
+    used
 }

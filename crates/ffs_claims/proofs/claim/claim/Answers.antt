@@ -1,8 +1,10 @@
-use Rattle.std.proofs.Common.{arith, refl, ◌≡◌, ◌∙◌, ap, sym, List, ◌∷◌, [], true}
+use Rattle.std.proofs.Common.{arith, refl, ◌≡◌, ◌<◌, ◌∙◌, ap, sym, List, ◌∷◌, ◌++◌, [], true, replicate}
 use Rattle.std.proofs.lemmas.Result.{err_from_is_err_and}
-use Rattle.ffs_walk.specs.Rests.{rest}
+use Rattle.ffs_walk.specs.Rests.{rest, left}
+use Rattle.ffs_walk.specs.Windows.{BlocksHold}
 use Rattle.ffs_maps.proofs.Bits.{length_bits}
 use Rattle.ffs_volume.specs.declared.Step.{Step}
+use Rattle.ffs_volume.specs.declared.Step.TheVariants.{Gap}
 use Rattle.ffs_volume.specs.Steps.{steps_of}
 use Rattle.ffs_volume.specs.Claims.{after_steps, after_step, steps_lines, step_lines, is_open}
 use Rattle.ffs_phase.specs.Known.{Where, Tells}
@@ -10,7 +12,7 @@ use Rattle.ffs_phase.proofs.Telling.{of_begins, of_says, of_stops, of_reads, of_
 use Rattle.ffs_workspace.specs.Holds.{claims_of}
 use Rattle.ffs_claims.specs.Lines.{of_lines}
 use Rattle.ffs_claims.proofs.Weights.{moves_on, bound_open}
-use Rattle.ffs_claims.proofs.Goes.{claims_on, lines_on, cut_stays, cut_silent}
+use Rattle.ffs_claims.proofs.Goes.{claims_on, lines_on, cut_stays, cut_silent, gaps_stay, gaps_silent}
 use Rattle.std.specs.Prelude.{vec_len}
 use Rattle.ffs_volume.specs.declared.Layout.{Layout}
 use Rattle.ffs_volume.specs.Weights.{stays, kept_bound}
@@ -112,33 +114,47 @@ returns-in_err-step-clause-bound g c =
           (length_bits _ _ ∙ inv.made.claimed) inv.open_still inv.moves,
     )
 
+pub skip_gaps-requires : goal.skip_gaps-requires
+skip_gaps-requires g c =
+    let inv = c.loop-next.invariant in
+    record { room = record { blocks_fit = rw (c.in_ok-next.ensures.geometry ∙ inv.geometry, c.step.ensures.made.blocks) (omega arith) } }
+
 pub loop-next-preserved : goal.loop-next-preserved
 loop-next-preserved g c =
     let inv = c.loop-next.invariant in
     let v = c.args.geometry.now.layout in
+    let s = claims_of c.step.new.workspace in
     let next : Where (Tells (g.I.Image.device c.args.image.now).told) (λ bytes. rest bytes c.loop-next.walk ≡ c.in-Some.next ∷ rest bytes c.next.new.self) =
     rw (inv.device, c.in-Some.is) at c.in_ok-next.ensures.steps in
+    let blocks : BlocksHold v (g.I.Image.device c.args.image.now).told c.step.new.workspace.windows.blocks =
+    rw c.step.ensures.windows (rw (inv.geometry, c.in_ok-next.ensures.ok, inv.device) at c.in_ok-next.ensures.holds) in
+    let gaps : Where (Tells (g.I.Image.device c.args.image.now).told) (λ bytes. rest bytes c.next.new.self ≡ replicate c.skip_gaps.result Gap ++ rest bytes c.skip_gaps.new.self) =
+    c.skip_gaps.ensures.steps (g.I.Image.device c.args.image.now).told (rw (c.in_ok-next.ensures.geometry ∙ inv.geometry) blocks) in
     record {
       made = c.step.ensures.made;
       open_still = sym c.is_open.ensures ∙ c.if-not-is_open.false;
-      geometry = c.in_ok-next.ensures.geometry ∙ inv.geometry;
+      geometry = c.skip_gaps.ensures.geometry ∙ c.in_ok-next.ensures.geometry ∙ inv.geometry;
       device = c.in_ok-next.ensures.ok ∙ inv.device;
       windows = record {
         table = rw c.step.ensures.windows inv.windows.table;
-        blocks = rw c.step.ensures.windows (rw (inv.geometry, c.in_ok-next.ensures.ok, inv.device) at c.in_ok-next.ensures.holds);
+        blocks = blocks;
         chunk = rw c.step.ensures.windows inv.windows.chunk;
       };
       found = record { kinds = c.step.ensures.found.kinds ∙ inv.found.kinds; marked = c.step.ensures.found.marked ∙ inv.found.marked; cut = c.step.ensures.found.cut ∙ inv.found.cut };
       moves = moves_on v (claims_of c.args.workspace.now) (claims_of c.loop-next.workspace) (claims_of c.step.new.workspace) c.in-Some.next
           (length_bits _ _ ∙ inv.made.claimed) c.args.geometry.now.sound.sizes.frag_high (rw (inv.geometry, c.in-Some.is) at c.in_ok-next.ensures.length) c.in_ok-step.ensures.claims inv.moves;
-      claims = claims_on _ v (claims_of c.loop-next.workspace) (claims_of c.step.new.workspace)
+      claims = λ bytes t. sym (ap (after_steps v s) (gaps bytes t) ∙ gaps_stay v s c.skip_gaps.result (rest bytes c.skip_gaps.new.self))
+          ∙ claims_on _ v (claims_of c.loop-next.workspace) (claims_of c.step.new.workspace)
           (λ bytes. rest bytes c.loop-next.walk) (λ bytes. rest bytes c.next.new.self)
           (λ bytes. after_steps v (claims_of c.args.workspace.now) (steps_of v c.args.inode.now bytes))
-          c.in-Some.next next c.in_ok-step.ensures.claims inv.claims;
-      said = of_says _ _ _ _ (of_lines (step_lines v c.args.number (claims_of c.loop-next.workspace) c.in-Some.next)) _ _ _ inv.said
+          c.in-Some.next next c.in_ok-step.ensures.claims inv.claims bytes t;
+      said = of_same _ _ _ _ _ _
+          (of_says _ _ (λ bytes. of_lines (steps_lines v c.args.number (claims_of c.step.new.workspace) (rest bytes c.next.new.self))) _
+          (of_lines (step_lines v c.args.number (claims_of c.loop-next.workspace) c.in-Some.next)) _ _ _ inv.said
           (lines_on _ v c.args.number (claims_of c.loop-next.workspace) (claims_of c.step.new.workspace)
           (λ bytes. rest bytes c.loop-next.walk) (λ bytes. rest bytes c.next.new.self) c.in-Some.next next c.in_ok-step.ensures.claims)
-          c.in_ok-step.ensures.said;
+          c.in_ok-step.ensures.said)
+          (λ bytes t. ap of_lines (ap (steps_lines v c.args.number s) (gaps bytes t) ∙ gaps_silent v c.args.number s c.skip_gaps.result (rest bytes c.skip_gaps.new.self)));
     }
 
 pub returns-then-not-is_open-clause-text : goal.returns-then-not-is_open-clause-text
@@ -301,7 +317,9 @@ returns-in_err-step-clause-found g c =
     record { kinds = found.kinds ∙ inv.found.kinds; marked = found.marked ∙ inv.found.marked; cut = found.cut ∙ inv.found.cut }
 
 pub loop-next-smaller : goal.loop-next-smaller
-loop-next-smaller g c = rw c.in-Some.is at c.in_ok-next.ensures.falls
+loop-next-smaller g c =
+    let fell : left c.next.new.self < left c.loop-next.walk = rw c.in-Some.is at c.in_ok-next.ensures.falls in
+    omega (arith, fell, c.skip_gaps.ensures.falls)
 
 pub returns-then-not-is_open-clause-image : goal.returns-then-not-is_open-clause-image
 returns-then-not-is_open-clause-image g c = c.in_ok-next.ensures.ok ∙ c.loop-next.invariant.device

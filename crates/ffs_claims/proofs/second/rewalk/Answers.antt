@@ -1,9 +1,11 @@
-use Rattle.std.proofs.Common.{◌≡◌, ◌∷◌, [], arith, refl, ap, ◌∙◌, sym, List, ℕ}
+use Rattle.std.proofs.Common.{◌≡◌, ◌∷◌, ◌++◌, replicate, [], arith, refl, ap, ◌∙◌, sym, List, ℕ}
 use Rattle.std.proofs.lemmas.Result.{err_from_is_err_and}
 use Rattle.ffs_volume.specs.BlockCheck.{Offer, first_offers}
 use Rattle.ffs_volume.specs.Steps.{steps_of}
 use Rattle.ffs_maps.specs.Bits.{bits_of}
 use Rattle.ffs_walk.specs.Rests.{rest}
+use Rattle.ffs_walk.specs.Windows.{BlocksHold}
+use Rattle.ffs_volume.specs.declared.Step.TheVariants.{Gap}
 use Rattle.ffs_phase.specs.Known.{Where, Tells}
 use Rattle.ffs_phase.proofs.Telling.{of_begins, of_says, of_stops, of_reads, of_same}
 use Rattle.ffs_workspace.specs.Lengths.{set_count}
@@ -12,7 +14,7 @@ use Rattle.ffs_claims.specs.Lines.{of_lines}
 use Rattle.ffs_claims.specs.Rescan.{rescan, again, step_offers_again, offers_again, runs_again}
 use Rattle.ffs_claims.specs.Telling.{after_first}
 use Rattle.ffs_claims.proofs.Tellings.{telling_begins, telling_ends, telling_same, told_from, told_to}
-use Rattle.ffs_claims.proofs.Rewalks.{going_first, runs_next, offers_none, offers_stopped, telling_on, lines_step, telling_over, lines_over}
+use Rattle.ffs_claims.proofs.Rewalks.{going_first, gaps_offer, gaps_seen, runs_next, offers_none, offers_stopped, telling_on, lines_step, telling_over, lines_over}
 use Rattle.ffs_claims.proofs.second.rewalk.Goals as goal
 
 pub loop-next-init : goal.loop-next-init
@@ -74,6 +76,11 @@ returns-in_err-retell-clause-runs g c =
     rw (inv.device, c.in-Some.is) at c.in_ok-next.ensures.steps in
     λ bytes t. omega (arith, inv.runs bytes t, c.retell.ensures.runs, runs_next v r (again v r step) step (rest bytes c.loop-next.walk) (rest bytes c.next.new.self) (next bytes t) refl)
 
+pub skip_gaps-requires : goal.skip_gaps-requires
+skip_gaps-requires g c =
+    let inv = c.loop-next.invariant in
+    record { room = record { blocks_fit = rw (c.in_ok-next.ensures.geometry ∙ inv.geometry, c.retell.ensures.made.blocks) (omega arith) } }
+
 pub loop-next-preserved : goal.loop-next-preserved
 loop-next-preserved g c =
     let inv = c.loop-next.invariant in
@@ -87,24 +94,37 @@ loop-next-preserved g c =
     let now = c.in_ok-retell.ensures.again in
     let next : Where (Tells (g.I.Image.device c.args.image.now).told) (λ bytes. rest bytes c.loop-next.walk ≡ c.in-Some.next ∷ rest bytes c.next.new.self) =
     rw (inv.device, c.in-Some.is) at c.in_ok-next.ensures.steps in
+    let blocks : BlocksHold v (g.I.Image.device c.args.image.now).told c.retell.new.workspace.windows.blocks =
+    rw c.retell.ensures.windows (rw (inv.geometry, c.in_ok-next.ensures.ok, inv.device) at c.in_ok-next.ensures.holds) in
+    let gaps : Where (Tells (g.I.Image.device c.args.image.now).told) (λ bytes. rest bytes c.next.new.self ≡ replicate c.skip_gaps.result Gap ++ rest bytes c.skip_gaps.new.self) =
+    c.skip_gaps.ensures.steps (g.I.Image.device c.args.image.now).told (rw (c.in_ok-next.ensures.geometry ∙ inv.geometry) blocks) in
+    let offers : Where (Tells (g.I.Image.device c.args.image.now).told) (λ bytes. offers_again v n r' (rest bytes c.next.new.self) ≡ offers_again v n r' (rest bytes c.skip_gaps.new.self)) =
+    λ bytes t. ap (offers_again v n r') (gaps bytes t) ∙ gaps_offer v n r' c.skip_gaps.result (rest bytes c.skip_gaps.new.self) in
     record {
       made = c.retell.ensures.made;
       going = sym c.is_going.ensures ∙ c.if-not-is_going.false;
-      geometry = c.in_ok-next.ensures.geometry ∙ inv.geometry;
+      geometry = c.skip_gaps.ensures.geometry ∙ c.in_ok-next.ensures.geometry ∙ inv.geometry;
       device = c.in_ok-next.ensures.ok ∙ inv.device;
       windows = record {
         table = rw c.retell.ensures.windows inv.windows.table;
-        blocks = rw c.retell.ensures.windows (rw (inv.geometry, c.in_ok-next.ensures.ok, inv.device) at c.in_ok-next.ensures.holds);
+        blocks = blocks;
         chunk = rw c.retell.ensures.windows inv.windows.chunk;
       };
       claims = record { claimed = c.retell.ensures.claims.claimed ∙ inv.claims.claimed; kinds = c.retell.ensures.claims.kinds ∙ inv.claims.kinds; cut = c.retell.ensures.claims.cut ∙ inv.claims.cut };
-      told = λ bytes t. telling_on v n r r' step (rest bytes c.loop-next.walk) (rest bytes c.next.new.self) _ _ c.loop-next.workspace c.retell.new.workspace
-          (next bytes t) now (inv.told bytes t) (told_from _ c.loop-next.workspace _ c.retell.new.workspace c.in_ok-retell.ensures.told refl refl);
-      runs = λ bytes t. omega (arith, inv.runs bytes t, c.retell.ensures.runs, runs_next v r r' step (rest bytes c.loop-next.walk) (rest bytes c.next.new.self) (next bytes t) now);
-      said = of_says _ _ (λ bytes. of_lines (first_offers d' (offers_again v n r' (rest bytes c.next.new.self)))) _
+      told = λ bytes t. telling_same _ _ _ _ _ (telling_on v n r r' step (rest bytes c.loop-next.walk) (rest bytes c.next.new.self) _ _ c.loop-next.workspace c.retell.new.workspace
+          (next bytes t) now (inv.told bytes t) (told_from _ c.loop-next.workspace _ c.retell.new.workspace c.in_ok-retell.ensures.told refl refl)) (offers bytes t);
+      runs = λ bytes t. omega (
+        arith,
+        inv.runs bytes t,
+        c.retell.ensures.runs,
+        runs_next v r r' step (rest bytes c.loop-next.walk) (rest bytes c.next.new.self) (next bytes t) now,
+        ap (runs_again v r') (gaps bytes t) ∙ gaps_seen v r' c.skip_gaps.result (rest bytes c.skip_gaps.new.self),
+      );
+      said = of_same _ _ _ _ _ _ (of_says _ _ (λ bytes. of_lines (first_offers d' (offers_again v n r' (rest bytes c.next.new.self)))) _
           (of_lines (first_offers d (step_offers_again v n r step))) _ _ _ inv.said
           (λ bytes t. lines_step v n r r' step (rest bytes c.loop-next.walk) (rest bytes c.next.new.self) d d' (next bytes t) now c.in_ok-retell.ensures.told.dup)
-          c.in_ok-retell.ensures.said;
+          c.in_ok-retell.ensures.said)
+          (λ bytes t. ap (λ (os : List Offer). of_lines (first_offers d' os)) (offers bytes t));
     }
 
 pub returns-then-not-is_going-clause-text : goal.returns-then-not-is_going-clause-text

@@ -1,22 +1,31 @@
-use Rattle.std.proofs.Common.{arith, ap, ◌∙◌, ◌≡◌, ◌+◌}
-use Rattle.std.specs.Prelude.{not, ◌&&◌}
-use Rattle.ffs_volume.specs.Areas.{is_reserved}
-use Rattle.ffs_volume.specs.Claims.{is_set}
+use Rattle.std.proofs.Common.{arith, ap, sym, ◌∙◌, ◌≡◌, ◌+◌, count_by, min}
+use Rattle.std.specs.List.{range_with_len}
+use Rattle.ffs_volume.specs.Areas.{cgbase}
 use Rattle.ffs_maps.specs.Bits.{bits_of}
-use Rattle.ffs_groups.proofs.Sums.{count_more, count_fits}
+use Rattle.ffs_maps.proofs.Counting.{count_few}
+use Rattle.ffs_counts.proofs.UsedCount.{is_used, groups_begin, groups_end, group_more}
 use Rattle.ffs_counts.proofs.summing.used_count.Goals as goal
+
+pub loop-group-init : goal.loop-group-init
+loop-group-init c = sym (ap (λ j. count_by (is_used c.args.geometry.now.layout (bits_of c.args.used.now)) (range_with_len 0 j)) (groups_begin c.args.geometry.now.layout))
 
 pub overflow_add-count : goal.overflow_add-count
 overflow_add-count c =
-    let at : c.loop-fragment.fragment ≡ 0 + c.loop-fragment.fragment = omega arith in
+    let v = c.args.geometry.now.layout in
     omega (
       arith,
-      count_fits (λ f. is_set (bits_of c.args.used.now) f && not (is_reserved c.args.geometry.now.layout f)) 0 c.loop-fragment.fragment c.args.geometry.now.layout.size c.loop-fragment.count c.one_if-count.result c.is_used.result
-          c.loop-fragment.invariant c.one_if-count.ensures (c.is_used.ensures ∙ ap (λ f. is_set (bits_of c.args.used.now) f && not (is_reserved c.args.geometry.now.layout f)) at) c.loop-fragment-test.true (omega (arith, c.args.geometry.now.sound.numbers.size_below)),
+      group_more v (bits_of c.args.used.now) c.loop-group.group c.loop-group.count c.used_in_group-count.result c.args.geometry.now.sound c.loop-group-test.true c.loop-group.invariant c.used_in_group-count.ensures,
+      count_few (is_used v (bits_of c.args.used.now)) 0 (min (cgbase v (c.loop-group.group + 1)) v.size),
+      c.args.geometry.now.sound.numbers.size_below,
     )
 
-pub loop-fragment-preserved : goal.loop-fragment-preserved
-loop-fragment-preserved c =
-    let at : c.loop-fragment.fragment ≡ 0 + c.loop-fragment.fragment = omega arith in
-    count_more (λ f. is_set (bits_of c.args.used.now) f && not (is_reserved c.args.geometry.now.layout f)) 0 c.loop-fragment.fragment c.loop-fragment.count c.one_if-count.result c.is_used.result
-    c.loop-fragment.invariant c.one_if-count.ensures (c.is_used.ensures ∙ ap (λ f. is_set (bits_of c.args.used.now) f && not (is_reserved c.args.geometry.now.layout f)) at)
+pub loop-group-preserved : goal.loop-group-preserved
+loop-group-preserved c =
+    group_more c.args.geometry.now.layout (bits_of c.args.used.now) c.loop-group.group c.loop-group.count c.used_in_group-count.result c.args.geometry.now.sound c.loop-group-test.true c.loop-group.invariant c.used_in_group-count.ensures
+
+pub returns : goal.returns
+returns c =
+    let v = c.args.geometry.now.layout in
+    let all : c.loop-group.group ≡ v.ncg = omega arith in
+    c.loop-group.invariant ∙ ap (λ j. count_by (is_used v (bits_of c.args.used.now)) (range_with_len 0 (min (cgbase v j) v.size))) all
+    ∙ ap (λ j. count_by (is_used v (bits_of c.args.used.now)) (range_with_len 0 j)) (groups_end v c.args.geometry.now.sound)

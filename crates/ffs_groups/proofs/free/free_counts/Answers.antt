@@ -4,7 +4,7 @@ use Rattle.ffs_volume.specs.Areas.{cgbase}
 use Rattle.ffs_volume.specs.Groups.{block_bits, right_frsum}
 use Rattle.ffs_maps.specs.Bits.{bits_of}
 use Rattle.ffs_groups.specs.Free.{word_bits, free_in, whole_in, loose_in, runs_in}
-use Rattle.ffs_groups.proofs.Checks.{fits_below, fits_within}
+use Rattle.ffs_groups.proofs.Words.{free_there, fits_blocks, fits_fragments}
 use Rattle.ffs_groups.proofs.Adding.{whole_fits, loose_fits, added_join, added_below, word_block, no_runs, count_start, clear_as_free, place_is, word_fits}
 use Rattle.ffs_groups.proofs.free.free_counts.Goals as goal
 
@@ -31,28 +31,27 @@ loop-block-preserved c = record {
 }
 
 pub returns-clause-right : goal.returns-clause-right
-unfolding right_frsum
 returns-clause-right c =
-    let same : c.loop-block.block ≡ c.args.geometry.now.layout.fpg / c.args.geometry.now.layout.frag = omega (arith, c.loop-block.invariant.within) in
-    record {
-      blocks = c.loop-block.invariant.added.blocks ∙ count_start (λ b. whole_in (block_bits c.args.geometry.now.layout (free_in (bits_of c.args.used.now) c.args.geometry.now.layout.size) c.args.group b)) c.loop-block.block (c.args.geometry.now.layout.fpg / c.args.geometry.now.layout.frag) 0 refl same;
-      fragments = c.loop-block.invariant.added.fragments ∙ count_start (λ b. loose_in (block_bits c.args.geometry.now.layout (free_in (bits_of c.args.used.now) c.args.geometry.now.layout.size) c.args.group b)) c.loop-block.block (c.args.geometry.now.layout.fpg / c.args.geometry.now.layout.frag) 0 refl same;
-      runs = λ k. c.loop-block.invariant.added.runs k ∙ count_start (λ b. runs_in k (block_bits c.args.geometry.now.layout (free_in (bits_of c.args.used.now) c.args.geometry.now.layout.size) c.args.group b)) c.loop-block.block (c.args.geometry.now.layout.fpg / c.args.geometry.now.layout.frag) _ (no_runs k) same;
-    }
+    let same : c.loop-block.block ≡ c.div_ceil-blocks.result = omega (arith, c.loop-block.invariant.within) in
+    free_there c.args.geometry.now.layout (bits_of c.args.used.now) c.args.group c.div_ceil-blocks.result c.group_fragments.result c.loop-block.counts
+    c.args.geometry.now.sound.sizes.frag_low c.args.geometry.now.sound.sizes.whole_blocks c.div_ceil-blocks.ensures c.group_fragments.ensures.within c.group_fragments.ensures.value
+    (c.loop-block.invariant.added.blocks ∙ count_start (λ b. whole_in (block_bits c.args.geometry.now.layout (free_in (bits_of c.args.used.now) c.args.geometry.now.layout.size) c.args.group b)) c.loop-block.block c.div_ceil-blocks.result 0 refl same)
+    (c.loop-block.invariant.added.fragments ∙ count_start (λ b. loose_in (block_bits c.args.geometry.now.layout (free_in (bits_of c.args.used.now) c.args.geometry.now.layout.size) c.args.group b)) c.loop-block.block c.div_ceil-blocks.result 0 refl same)
+    (λ k. c.loop-block.invariant.added.runs k ∙ count_start (λ b. runs_in k (block_bits c.args.geometry.now.layout (free_in (bits_of c.args.used.now) c.args.geometry.now.layout.size) c.args.group b)) c.loop-block.block c.div_ceil-blocks.result _ (no_runs k) same)
 
 pub returns-clause-blocks_fit : goal.returns-clause-blocks_fit
 returns-clause-blocks_fit c =
-    let low : c.args.geometry.now.layout.fpg < 2 ^ 32 = search (rules, arith) in
-    let same : c.loop-block.block ≡ c.args.geometry.now.layout.fpg / c.args.geometry.now.layout.frag = omega (arith, c.loop-block.invariant.within) in
-    fits_below c.loop-block.counts.blocks c.args.geometry.now.layout.fpg c.args.geometry.now.layout.frag _
-    (c.loop-block.invariant.added.blocks ∙ count_start (λ b. whole_in (block_bits c.args.geometry.now.layout (free_in (bits_of c.args.used.now) c.args.geometry.now.layout.size) c.args.group b)) c.loop-block.block (c.args.geometry.now.layout.fpg / c.args.geometry.now.layout.frag) 0 refl same)
-    (whole_fits (block_bits c.args.geometry.now.layout (free_in (bits_of c.args.used.now) c.args.geometry.now.layout.size) c.args.group) (c.args.geometry.now.layout.fpg / c.args.geometry.now.layout.frag)) low
+    let same : c.loop-block.block ≡ c.div_ceil-blocks.result = omega (arith, c.loop-block.invariant.within) in
+    fits_blocks c.loop-block.counts.blocks _ c.div_ceil-blocks.result c.group_fragments.result c.args.geometry.now.layout.frag c.args.geometry.now.layout.size _ _
+    (c.loop-block.invariant.added.blocks ∙ count_start (λ b. whole_in (block_bits c.args.geometry.now.layout (free_in (bits_of c.args.used.now) c.args.geometry.now.layout.size) c.args.group b)) c.loop-block.block c.div_ceil-blocks.result 0 refl same)
+    (whole_fits (block_bits c.args.geometry.now.layout (free_in (bits_of c.args.used.now) c.args.geometry.now.layout.size) c.args.group) c.div_ceil-blocks.result)
+    c.args.geometry.now.sound.sizes.frag_low c.args.geometry.now.sound.sizes.frag_high c.div_ceil-blocks.ensures c.group_fragments.ensures.value c.args.geometry.now.sound.numbers.size_below
 
 pub returns-clause-fragments_fit : goal.returns-clause-fragments_fit
 returns-clause-fragments_fit c =
-    let low : c.args.geometry.now.layout.fpg < 2 ^ 32 = search (rules, arith) in
-    let same : c.loop-block.block ≡ c.args.geometry.now.layout.fpg / c.args.geometry.now.layout.frag = omega (arith, c.loop-block.invariant.within) in
-    fits_within c.loop-block.counts.fragments c.args.geometry.now.layout.fpg _
-    (c.loop-block.invariant.added.fragments ∙ count_start (λ b. loose_in (block_bits c.args.geometry.now.layout (free_in (bits_of c.args.used.now) c.args.geometry.now.layout.size) c.args.group b)) c.loop-block.block (c.args.geometry.now.layout.fpg / c.args.geometry.now.layout.frag) 0 refl same)
-    (loose_fits (block_bits c.args.geometry.now.layout (free_in (bits_of c.args.used.now) c.args.geometry.now.layout.size) c.args.group) c.args.geometry.now.layout.frag c.args.geometry.now.layout.fpg
-    (λ b. length-map-range_with_len (free_in (bits_of c.args.used.now) c.args.geometry.now.layout.size) (cgbase c.args.geometry.now.layout c.args.group + b * c.args.geometry.now.layout.frag) c.args.geometry.now.layout.frag)) low
+    let same : c.loop-block.block ≡ c.div_ceil-blocks.result = omega (arith, c.loop-block.invariant.within) in
+    fits_fragments c.loop-block.counts.fragments _ c.div_ceil-blocks.result c.group_fragments.result c.args.geometry.now.layout.frag c.args.geometry.now.layout.size _ _
+    (c.loop-block.invariant.added.fragments ∙ count_start (λ b. loose_in (block_bits c.args.geometry.now.layout (free_in (bits_of c.args.used.now) c.args.geometry.now.layout.size) c.args.group b)) c.loop-block.block c.div_ceil-blocks.result 0 refl same)
+    (loose_fits (block_bits c.args.geometry.now.layout (free_in (bits_of c.args.used.now) c.args.geometry.now.layout.size) c.args.group) c.args.geometry.now.layout.frag c.div_ceil-blocks.result
+    (λ b. length-map-range_with_len (free_in (bits_of c.args.used.now) c.args.geometry.now.layout.size) (cgbase c.args.geometry.now.layout c.args.group + b * c.args.geometry.now.layout.frag) c.args.geometry.now.layout.frag))
+    c.args.geometry.now.sound.sizes.frag_low c.args.geometry.now.sound.sizes.frag_high c.div_ceil-blocks.ensures c.group_fragments.ensures.value c.args.geometry.now.sound.numbers.size_below
