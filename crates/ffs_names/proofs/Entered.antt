@@ -1,7 +1,7 @@
 -- How a reading of a directory goes on.
-use Rattle.std.specs.Prelude.{◌≡◌, ℕ, suc, ◌+◌, ◌==◌, refl, Bool, List, [], ◌∷◌, ◌++◌, Option, Some, None, is_some, IfSome, false, length}
+use Rattle.std.specs.Prelude.{◌≡◌, ℕ, suc, ◌+◌, ◌==◌, refl, Bool, List, [], ◌∷◌, ◌++◌, Option, Some, None, is_some, false, length}
 use Rattle.std.specs.List.{flat_map}
-use Rattle.std.proofs.Common.{arith, sym, ◌∙◌, ap, subst}
+use Rattle.std.proofs.Common.{arith, sym, ◌∙◌, ap}
 use Rattle.ffs_volume.specs.declared.Order.{Order}
 use Rattle.ffs_volume.specs.declared.Role.{Role}
 use Rattle.ffs_volume.specs.Numbers.{piece}
@@ -44,9 +44,6 @@ pub none_from : (o : Option Entry) → is_some o ≡ false → o ≡ None
 none_from None h = refl
 none_from (Some e) h = absurd (cc)
 
-pub some_has : {A : Type 0} (P : A → Type 0) (o : Option A) (x : A) → o ≡ Some x → IfSome o P → P x
-some_has P o x q h = subst (λ y. IfSome y P) q h
-
 -- an entry of the chunk in hand, by what a reader keeps of it
 pub take_told : (first : Bool) (index : ℕ) (order : Order) (chunk : List ℕ) (place : ℕ) (e : Entry) (role : Role) (rest : List Chunk) → entry_at order chunk place ≡ Some e
     → role ≡ role_of first index e → e.name ≡ piece (place + 8) (length e.name) chunk
@@ -70,10 +67,6 @@ chunk_came first index order other chunk place old offset next rest h q r =
 pub none_came : (first : Bool) (index : ℕ) (order : Order) (chunk : List ℕ) (place : ℕ) (old : List Chunk) → is_some (entry_at order chunk place) ≡ false → old ≡ []
     → seen_from first index (entries_from order chunk 64 place) ++ flat_map chunk_seen old ≡ []
 none_came first index order chunk place old h r = none_seen first index order chunk place old (none_from _ h) ∙ ap (flat_map chunk_seen) r
-
-pub end_came : (first : Bool) (index : ℕ) (order : Order) (chunk : List ℕ) (rest : List Chunk) → rest ≡ []
-    → seen_from first index (entries_from order chunk 64 512) ++ flat_map chunk_seen rest ≡ []
-end_came first index order chunk rest r = end_seen first index order chunk rest ∙ ap (flat_map chunk_seen) r
 
 -- what a window holds, in other words
 pub data_on : (told told' : Option (List ℕ)) (w : Window) → told' ≡ told → WindowHolds told' w → WindowHolds told w

@@ -1,6 +1,6 @@
 //! The entries of a directory.
 
-ghost use Rattle.std.specs.Prelude.{◌≡◌, ◌+◌, ◌*◌, ◌<◌, ◌≤◌, ◌^◌, ◌∷◌, ◌++◌, ℕ, List, [], true, false, vec_len, length, IfOk, OnOk, IfErr, IfSome, IsSome, is_some, MatchOption};
+ghost use Rattle.std.specs.Prelude.{◌≡◌, ◌+◌, ◌*◌, ◌<◌, ◌≤◌, ◌^◌, ◌∷◌, ◌++◌, ℕ, List, [], false, vec_len, length, IfOk, OnOk, IfErr, IfNone, IfSome, is_some, MatchOption};
 ghost use Rattle.std.specs.List.{flat_map};
 ghost use Rattle.ffs_image.specs.Device.{Faulted, WhereTold};
 ghost use Rattle.ffs_volume.specs.Areas.{is_in_range};
@@ -94,61 +94,17 @@ impl Entries {
         self.chunks.budget = 0;
     }
 
-    /// Whether an entry stands at `place`.
-    fn is_left(&self) -> bool
-        ensures { result ≡ is_some (entry_in self.now.order self.now.chunk self.now.place) }
+    /// Takes the entry at `place`, if one stands there.
+    fn take(&mut self) -> Option<Named>
+        ensures entries { MatchOption result ((b : List ℕ) → to_come b self.new ≡ to_come b self.old)
+            (λ named. (b : List ℕ) → to_come b self.old ≡ seen_of named (last_name self.new) ∷ to_come b self.new) }
+        ensures none { IfNone result (is_some (entry_in self.new.order self.new.chunk self.new.place) ≡ false) }
+        ensures left { IfSome result (λ _. left self.new < left self.old) }
+        ensures chunks { self.new.chunks ≡ self.old.chunks }
     {
-        entry_at(self.order, &self.chunk, self.place).is_some()
-    }
-
-    /// Goes on to a chunk with an entry at `place`, if this one has none. The answer tells whether there is one.
-    fn advance<I: Image>(
-        &mut self,
-        image: &mut I,
-        blocks: &mut Blocks,
-        window: &mut Window,
-    ) -> Result<bool, ImageFault>
-        requires volume { self.old.chunks.walk.geometry.layout.size * self.old.chunks.walk.geometry.layout.fsize ≤ (I.device image.old).size }
-        requires room { HasRoom self.old.chunks.walk.geometry.layout blocks.old }
-        requires holds { BlocksHold self.old.chunks.walk.geometry.layout (I.device image.old).told blocks.old }
-        requires data_room { self.old.chunks.walk.geometry.layout.bsize ≤ vec_len window.old.buffer }
-        requires data_holds { WindowHolds (I.device image.old).told window.old }
-        ensures entries { OnOk result (WhereTold (I.device image.old).told (λ b. to_come b self.new ≡ to_come b self.old)) }
-        ensures some { IfOk result (λ found. found ≡ true → IsSome (entry_in self.new.order self.new.chunk self.new.place)) }
-        ensures none { IfOk result (λ found. found ≡ false → WhereTold (I.device image.old).told (λ b. to_come b self.old ≡ [])) }
-        ensures left { left self.new ≤ left self.old }
-        ensures geometry { self.new.chunks.walk.geometry ≡ self.old.chunks.walk.geometry }
-        ensures size { vec_len blocks.new.buffer ≡ vec_len blocks.old.buffer }
-        ensures holds { BlocksHold self.old.chunks.walk.geometry.layout (I.device image.new).told blocks.new }
-        ensures data_size { vec_len window.new.buffer ≡ vec_len window.old.buffer }
-        ensures data_holds { WindowHolds (I.device image.new).told window.new }
-        ensures ok { OnOk result (I.device image.new ≡ I.device image.old) }
-        ensures err { IfErr result (λ fault. Faulted (I.device image.old) (I.device image.new) fault.sector) }
-    {
-        'chunks: loop {
-            if self.is_left() {
-                return Ok(true);
-            }
-            self.place = 512;
-            match self.chunks.next(image, blocks, window, &mut self.chunk)? {
-                None => return Ok(false),
-                Some(offset) => {
-                    self.first = offset == 0;
-                    self.index = 0;
-                    self.place = 0;
-                }
-            }
-        }
-    }
-
-    /// Takes the entry at `place`.
-    fn take(&mut self) -> Named
-        requires { IsSome (entry_in self.old.order self.old.chunk self.old.place) }
-        ensures entries { (b : List ℕ) → to_come b self.old ≡ seen_of result (last_name self.new) ∷ to_come b self.new }
-        ensures left { left self.new < left self.old }
-        ensures geometry { self.new.chunks.walk.geometry ≡ self.old.chunks.walk.geometry }
-    {
-        let entry = entry_at(self.order, &self.chunk, self.place).unwrap();
+        let Some(entry) = entry_at(self.order, &self.chunk, self.place) else {
+            return None;
+        };
         let role = role_of(self.first, self.index, &entry);
         let named = Named {
             role,
@@ -161,7 +117,7 @@ impl Entries {
         self.name_len = entry.name.len();
         self.place += entry.length as usize;
         self.index += 1;
-        named
+        Some(named)
     }
 
     /// The next entry, if there is one. `name` is its name.
@@ -190,10 +146,19 @@ impl Entries {
         ensures ok { OnOk result (I.device image.new ≡ I.device image.old) }
         ensures err { IfErr result (λ fault. Faulted (I.device image.old) (I.device image.new) fault.sector) }
     {
-        if self.advance(image, blocks, window)? {
-            Ok(Some(self.take()))
-        } else {
-            Ok(None)
+        'chunks: loop {
+            match self.take() {
+                Some(named) => return Ok(Some(named)),
+                None => self.place = 512,
+            }
+            match self.chunks.next(image, blocks, window, &mut self.chunk)? {
+                None => return Ok(None),
+                Some(offset) => {
+                    self.first = offset == 0;
+                    self.index = 0;
+                    self.place = 0;
+                }
+            }
         }
     }
 

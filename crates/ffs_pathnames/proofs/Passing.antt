@@ -19,6 +19,8 @@ use Rattle.ffs_names.proofs.DirLaws.{dir_is, dir_size, dir_seen}
 use Rattle.ffs_volume.specs.Messages.{NameMessage, of_names}
 use Rattle.ffs_volume.specs.Roles.{Volume, Seen, chunk_seen, seen_from, seen_in, is_dir}
 use Rattle.ffs_workspace.specs.Leaves.{LeavesSurvey}
+use Rattle.ffs_pathnames.specs.Examines.{LeavesMarks}
+use Rattle.ffs_pathnames.specs.Gathers.{marks_of}
 use Rattle.ffs_pathnames.specs.Knows.{Knows}
 use Rattle.ffs_pathnames.specs.Marks.{Marks, after_seen, after_entries, seen_told, entries_told}
 use Rattle.ffs_workspace.proofs.Leaving.{claims_left, survey_left}
@@ -106,3 +108,9 @@ all_read v b d i cut cs g dir e k read =
     let p = dir_is v b d dir in
     let small : i.size < 2 ^ 31 = subst (λ (x : Inode). x.size < 2 ^ 31) (sym e) (dir_size v (inode_of v b d) p.1) in
     ap (flat_map chunk_seen) (read small) ∙ dir_seen v b d i cut g p.0 e k
+
+-- the marks stay where their lists do
+pub marks_on : (old new : Workspace) → LeavesMarks old new → marks_of old ≡ marks_of new
+marks_on old new s =
+    let passed : marks_of old ≡ record { passed = new.leaders.items; stamps = old.queue.items } = ap (λ l. record { passed = l.items; stamps = old.queue.items }) (sym s.leaders) in
+    passed ∙ ap (λ q. record { passed = new.leaders.items; stamps = q.items }) (sym s.queue)

@@ -14,6 +14,7 @@ ghost use Rattle.ffs_pathnames.specs.Knows.{Knows};
 ghost use Rattle.ffs_pathnames.specs.Marks as marks;
 
 use crate::entries::tell_chunk;
+use crate::paths::own_path;
 use ffs_image::Image;
 use ffs_layout::Geometry;
 use ffs_names::Chunks;
@@ -45,6 +46,7 @@ pub fn tell_directory<I: Image, W: Output>(
     ensures made { IsFor geometry.now.layout workspace.new }
     ensures windows { HoldWindows geometry.now.layout (I.device image.new).told workspace.new }
 {
+    let path = own_path(geometry, image, workspace, dir)?;
     let cut = workspace.cut[dir as usize];
     let mut chunks = Chunks::start(geometry, inode, cut);
     let mut chunk = [0u8; 512];
@@ -54,7 +56,10 @@ pub fn tell_directory<I: Image, W: Output>(
         &mut workspace.windows.chunk,
         &mut chunk,
     )? {
-        tell_chunk(geometry, image, workspace, report, dir, offset == 0, &chunk)?;
+        let first = offset == 0;
+        tell_chunk(
+            geometry, image, workspace, report, dir, &path, first, &chunk,
+        )?;
     }
     Ok(())
 }

@@ -14,7 +14,7 @@ ghost use Rattle.ffs_workspace.specs.Lengths.{IsFor, HoldWindows};
 ghost use Rattle.ffs_workspace.specs.Leaves.{LeavesSurvey};
 ghost use Rattle.ffs_pathnames.specs.Examines.{LeavesMarks};
 ghost use Rattle.ffs_pathnames.specs.Gathers.{marks_of};
-ghost use Rattle.ffs_pathnames.specs.Knows.{Knows};
+ghost use Rattle.ffs_pathnames.specs.Knows.{Knows, KnowsPath};
 ghost use Rattle.ffs_pathnames.specs.Marks as marks;
 
 use crate::inodes::Inodes;
@@ -23,6 +23,7 @@ use crate::tell::{tell_extra, tell_plain};
 use ffs_image::Image;
 use ffs_layout::{Entry, Geometry, entry_at};
 use ffs_names::role_of;
+use ffs_paths::DirectoryPath;
 use ffs_phase::RunFault;
 use ffs_report::{Output, Report};
 use ffs_volume::Role;
@@ -35,6 +36,7 @@ fn say_entry<I: Image, W: Output>(
     workspace: &mut Workspace,
     report: &mut Report<'_, W>,
     dir: u32,
+    path: &DirectoryPath,
     role: Role,
     entry: &Entry<'_>,
 ) -> Result<(), RunFault>
@@ -44,7 +46,7 @@ fn say_entry<I: Image, W: Output>(
     requires dir { dir < geometry.now.layout.ncg * geometry.now.layout.ipg }
     requires name { length entry.now.name.now ≤ 255 }
     ensures image { Reads (I.device image.old) (I.device image.new) result }
-    ensures text { TellsOf (Knows geometry.now.layout (I.device image.old).told workspace.old dir)
+    ensures text { TellsOf (KnowsPath geometry.now.layout (I.device image.old).told workspace.old dir path.now)
         (λ b. map of_names (marks.seen_told (volume_of geometry.now.layout b) dir (marks_of workspace.old) (record { role = role; entry = seen_entry entry.now })))
         (progress W.sink report.old) (progress W.sink report.new) result }
     ensures lists { LeavesMarks workspace.old workspace.new }
@@ -55,8 +57,8 @@ fn say_entry<I: Image, W: Output>(
         Role::Empty => Ok(()),
         Role::Dot => Ok(()),
         Role::Dotdot => Ok(()),
-        Role::Extra => tell_extra(geometry, image, workspace, report, dir, entry),
-        Role::Plain => tell_plain(geometry, image, workspace, report, dir, entry),
+        Role::Extra => tell_extra(geometry, image, workspace, report, dir, path, entry),
+        Role::Plain => tell_plain(geometry, image, workspace, report, dir, path, entry),
     }
 }
 
@@ -67,6 +69,7 @@ pub fn tell_entry<I: Image, W: Output>(
     workspace: &mut Workspace,
     report: &mut Report<'_, W>,
     dir: u32,
+    path: &DirectoryPath,
     role: Role,
     entry: &Entry<'_>,
 ) -> Result<(), RunFault>
@@ -76,7 +79,7 @@ pub fn tell_entry<I: Image, W: Output>(
     requires dir { dir < geometry.now.layout.ncg * geometry.now.layout.ipg }
     requires name { length entry.now.name.now ≤ 255 }
     ensures image { Reads (I.device image.old) (I.device image.new) result }
-    ensures text { TellsOf (Knows geometry.now.layout (I.device image.old).told workspace.old dir)
+    ensures text { TellsOf (KnowsPath geometry.now.layout (I.device image.old).told workspace.old dir path.now)
         (λ b. map of_names (marks.seen_told (volume_of geometry.now.layout b) dir (marks_of workspace.old) (record { role = role; entry = seen_entry entry.now })))
         (progress W.sink report.old) (progress W.sink report.new) result }
     ensures marks { OnOk result (Where (Knows geometry.now.layout (I.device image.old).told workspace.old dir) (λ b.
@@ -85,7 +88,7 @@ pub fn tell_entry<I: Image, W: Output>(
     ensures made { IsFor geometry.now.layout workspace.new }
     ensures windows { HoldWindows geometry.now.layout (I.device image.new).told workspace.new }
 {
-    say_entry(geometry, image, workspace, report, dir, role, entry)?;
+    say_entry(geometry, image, workspace, report, dir, path, role, entry)?;
     let inodes = Inodes {
         kinds: workspace.kinds.as_slice(),
         marked: workspace.marked.as_slice(),
@@ -118,6 +121,7 @@ pub fn tell_chunk<I: Image, W: Output>(
     workspace: &mut Workspace,
     report: &mut Report<'_, W>,
     dir: u32,
+    path: &DirectoryPath,
     first: bool,
     chunk: &[u8; 512],
 ) -> Result<(), RunFault>
@@ -126,7 +130,7 @@ pub fn tell_chunk<I: Image, W: Output>(
     requires windows { HoldWindows geometry.now.layout (I.device image.old).told workspace.old }
     requires dir { dir < geometry.now.layout.ncg * geometry.now.layout.ipg }
     ensures image { Reads (I.device image.old) (I.device image.new) result }
-    ensures text { TellsOf (Knows geometry.now.layout (I.device image.old).told workspace.old dir)
+    ensures text { TellsOf (KnowsPath geometry.now.layout (I.device image.old).told workspace.old dir path.now)
         (λ b. map of_names (marks.entries_told (volume_of geometry.now.layout b) dir (marks_of workspace.old) (seen_from first 0 (entries_of geometry.now.layout.order chunk.now))))
         (progress W.sink report.old) (progress W.sink report.new) result }
     ensures marks { OnOk result (Where (Knows geometry.now.layout (I.device image.old).told workspace.old dir) (λ b.
@@ -141,7 +145,7 @@ pub fn tell_chunk<I: Image, W: Output>(
     'entries: while let Some(entry) = entry_at(order, chunk, place) {
         let role = role_of(first, index, &entry);
         name_length(chunk, place);
-        tell_entry(geometry, image, workspace, report, dir, role, &entry)?;
+        tell_entry(geometry, image, workspace, report, dir, path, role, &entry)?;
         place += usize::from(entry.length);
         index += 1;
     }

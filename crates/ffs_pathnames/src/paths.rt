@@ -1,5 +1,5 @@
 // Paths of entries and of directories.
-ghost use Rattle.std.specs.Prelude.{◌≡◌, ◌*◌, ◌<◌, ◌≤◌, ℕ, List, Some, Option, OnOk, IfErr, IfSome, option_map, length};
+ghost use Rattle.std.specs.Prelude.{◌≡◌, ◌*◌, ◌<◌, ◌≤◌, ℕ, List, Some, Option, IfOk, OnOk, IfErr, IfSome, option_map, length};
 ghost use Rattle.ffs_image.specs.Device.{Faulted};
 ghost use Rattle.ffs_volume.specs.Parents.{graph_of};
 ghost use Rattle.ffs_volume.specs.Volumes.{volume_of};
@@ -7,10 +7,11 @@ ghost use Rattle.ffs_workspace.specs.Lengths.{IsFor, HoldWindows};
 ghost use Rattle.ffs_workspace.specs.Holds.{HoldsClaims, HoldsSurvey};
 ghost use Rattle.ffs_pathnames.specs.Examines.{LeavesMarks};
 ghost use Rattle.ffs_paths.specs.Climbing.{path_in};
+ghost use Rattle.ffs_paths.specs.DirectoryPaths.{IsPathOf};
 
 use ffs_image::{Image, ImageFault};
 use ffs_layout::Geometry;
-use ffs_paths::{PathText, path_of};
+use ffs_paths::{DirectoryPath, PathText, directory_path, path_of};
 use ffs_workspace::Workspace;
 
 /// Puts the path of a directory into `text`, or with a name that of its entry.
@@ -36,4 +37,26 @@ pub fn path_text<I: Image>(
     ensures err { IfErr result (λ fault. Faulted (I.device image.old) (I.device image.new) fault.sector) }
 {
     path_of(geometry, image, workspace, dir, name, text)
+}
+
+/// The path of a directory, made once for the lines on its entries.
+pub fn own_path<I: Image>(
+    geometry: &Geometry,
+    image: &mut I,
+    workspace: &mut Workspace,
+    dir: u32,
+) -> Result<DirectoryPath, ImageFault>
+    requires made { IsFor geometry.now.layout workspace.old }
+    requires volume { geometry.now.layout.size * geometry.now.layout.fsize ≤ (I.device image.old).size }
+    requires windows { HoldWindows geometry.now.layout (I.device image.old).told workspace.old }
+    requires number { dir < geometry.now.layout.ncg * geometry.now.layout.ipg }
+    ensures path { IfOk result (λ path. (b : List ℕ) → (I.device image.old).told ≡ Some b → HoldsClaims geometry.now.layout b workspace.old → HoldsSurvey geometry.now.layout b workspace.old →
+        IsPathOf (graph_of (volume_of geometry.now.layout b)) dir path) }
+    ensures lists { LeavesMarks workspace.old workspace.new }
+    ensures made { IsFor geometry.now.layout workspace.new }
+    ensures windows { HoldWindows geometry.now.layout (I.device image.new).told workspace.new }
+    ensures ok { OnOk result (I.device image.new ≡ I.device image.old) }
+    ensures err { IfErr result (λ fault. Faulted (I.device image.old) (I.device image.new) fault.sector) }
+{
+    directory_path(geometry, image, workspace, dir)
 }

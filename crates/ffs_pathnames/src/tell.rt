@@ -16,7 +16,8 @@ ghost use Rattle.ffs_workspace.specs.Lengths.{IsFor, HoldWindows};
 ghost use Rattle.ffs_workspace.specs.Holds.{HoldsClaims, HoldsSurvey};
 ghost use Rattle.ffs_pathnames.specs.Examines.{LeavesMarks};
 ghost use Rattle.ffs_pathnames.specs.Gathers.{IsEnough, marks_of, asks_attr, asks_path, is_silent};
-ghost use Rattle.ffs_pathnames.specs.Knows.{Knows};
+ghost use Rattle.ffs_pathnames.specs.Knows.{Knows, KnowsPath};
+ghost use Rattle.ffs_paths.specs.DirectoryPaths.{IsPathOf};
 ghost use Rattle.ffs_pathnames.specs.Marks.{plain_told};
 ghost use Rattle.ffs_pathnames.specs.Verdicts.{verdict_told};
 
@@ -27,7 +28,7 @@ use crate::told::say_verdict;
 use crate::view::view;
 use ffs_image::{Image, ImageFault};
 use ffs_layout::{Entry, Geometry};
-use ffs_paths::PathText;
+use ffs_paths::{DirectoryPath, PathText};
 use ffs_phase::RunFault;
 use ffs_report::{DotLine, Line, OutFault, Output, Report};
 use ffs_volume::{Attr, Inode};
@@ -140,27 +141,27 @@ fn gather_path<I: Image>(
     path_text(geometry, image, workspace, dir, None, text)
 }
 
-/// Gathers what the messages on an entry show: the entry's path into `path`, the path of the directory that it names into
+/// Gathers what the messages on an entry show: the entry's path into `text`, the path of the directory that it names into
 /// `directory`, and the attributes of the inode that it names.
 fn gather<I: Image>(
     geometry: &Geometry,
     image: &mut I,
     workspace: &mut Workspace,
-    dir: u32,
+    path: &DirectoryPath,
     entry: &Entry<'_>,
     verdict: &Verdict,
-    path: &mut PathText,
+    text: &mut PathText,
     directory: &mut PathText,
 ) -> Result<Attr, ImageFault>
     requires made { IsFor geometry.now.layout workspace.old }
     requires volume { geometry.now.layout.size * geometry.now.layout.fsize ≤ (I.device image.old).size }
     requires windows { HoldWindows geometry.now.layout (I.device image.old).told workspace.old }
-    requires dir { dir < geometry.now.layout.ncg * geometry.now.layout.ipg }
     requires number { IsTrue (asks_attr verdict.now) → entry.now.number < geometry.now.layout.ncg * geometry.now.layout.ipg }
     requires name { length entry.now.name.now ≤ 255 }
-    ensures enough { IfOk result (λ a. (b : List ℕ) → (I.device image.old).told ≡ Some b → HoldsClaims geometry.now.layout b workspace.old → HoldsSurvey geometry.now.layout b workspace.old →
-        is_dir (volume_of geometry.now.layout b) dir ≡ true → (IsTrue (asks_path verdict.now) → is_dir (volume_of geometry.now.layout b) entry.now.number ≡ true) →
-        IsEnough (volume_of geometry.now.layout b) verdict.now dir entry.now.number entry.now.name.now a path.new.items directory.new.items) }
+    requires empty { text.old.items ≡ [] }
+    ensures enough { IfOk result (λ a. (b : List ℕ) (dir : ℕ) → (I.device image.old).told ≡ Some b → HoldsClaims geometry.now.layout b workspace.old → HoldsSurvey geometry.now.layout b workspace.old →
+        IsPathOf (graph_of (volume_of geometry.now.layout b)) dir path.now → (IsTrue (asks_path verdict.now) → is_dir (volume_of geometry.now.layout b) entry.now.number ≡ true) →
+        IsEnough (volume_of geometry.now.layout b) verdict.now dir entry.now.number entry.now.name.now a text.new.items directory.new.items) }
     ensures lists { LeavesMarks workspace.old workspace.new }
     ensures made { IsFor geometry.now.layout workspace.new }
     ensures windows { HoldWindows geometry.now.layout (I.device image.new).told workspace.new }
@@ -168,7 +169,7 @@ fn gather<I: Image>(
     ensures err { IfErr result (λ fault. Faulted (I.device image.old) (I.device image.new) fault.sector) }
 {
     let (wants_attr, wants_path) = asks(verdict);
-    path_text(geometry, image, workspace, dir, Some(entry.name), path)?;
+    path.put_entry(entry.name, text);
     gather_path(
         geometry,
         image,
@@ -220,6 +221,7 @@ pub fn tell_plain<I: Image, W: Output>(
     workspace: &mut Workspace,
     report: &mut Report<'_, W>,
     dir: u32,
+    path: &DirectoryPath,
     entry: &Entry<'_>,
 ) -> Result<(), RunFault>
     requires made { IsFor geometry.now.layout workspace.old }
@@ -228,7 +230,7 @@ pub fn tell_plain<I: Image, W: Output>(
     requires dir { dir < geometry.now.layout.ncg * geometry.now.layout.ipg }
     requires name { length entry.now.name.now ≤ 255 }
     ensures image { Reads (I.device image.old) (I.device image.new) result }
-    ensures text { TellsOf (Knows geometry.now.layout (I.device image.old).told workspace.old dir)
+    ensures text { TellsOf (KnowsPath geometry.now.layout (I.device image.old).told workspace.old dir path.now)
         (λ b. map of_names (plain_told (volume_of geometry.now.layout b) dir (marks_of workspace.old) (seen_entry entry.now)))
         (progress W.sink report.old) (progress W.sink report.new) result }
     ensures lists { LeavesMarks workspace.old workspace.new }
@@ -239,16 +241,16 @@ pub fn tell_plain<I: Image, W: Output>(
     if is_silent(&verdict) {
         return Ok(());
     }
-    let mut path = PathText::new();
+    let mut text = PathText::new();
     let mut directory = PathText::new();
     let attr = gather(
         geometry,
         image,
         workspace,
-        dir,
+        path,
         entry,
         &verdict,
-        &mut path,
+        &mut text,
         &mut directory,
     )?;
     say_verdict(
@@ -256,7 +258,7 @@ pub fn tell_plain<I: Image, W: Output>(
         &verdict,
         entry.number,
         attr,
-        path.as_slice(),
+        text.as_slice(),
         directory.as_slice(),
     )?;
     Ok(())
@@ -269,6 +271,7 @@ pub fn tell_extra<I: Image, W: Output>(
     workspace: &mut Workspace,
     report: &mut Report<'_, W>,
     dir: u32,
+    path: &DirectoryPath,
     entry: &Entry<'_>,
 ) -> Result<(), RunFault>
     requires made { IsFor geometry.now.layout workspace.old }
@@ -276,16 +279,17 @@ pub fn tell_extra<I: Image, W: Output>(
     requires windows { HoldWindows geometry.now.layout (I.device image.old).told workspace.old }
     requires dir { dir < geometry.now.layout.ncg * geometry.now.layout.ipg }
     ensures image { Reads (I.device image.old) (I.device image.new) result }
-    ensures text { TellsOf (Knows geometry.now.layout (I.device image.old).told workspace.old dir)
+    ensures text { TellsOf (KnowsPath geometry.now.layout (I.device image.old).told workspace.old dir path.now)
         (λ b. map of_names (extra_told (attributes (volume_of geometry.now.layout b) dir) (dir_path (graph_of (volume_of geometry.now.layout b)) dir) (seen_entry entry.now)))
         (progress W.sink report.old) (progress W.sink report.new) result }
     ensures lists { LeavesMarks workspace.old workspace.new }
     ensures made { IsFor geometry.now.layout workspace.new }
     ensures windows { HoldWindows geometry.now.layout (I.device image.new).told workspace.new }
 {
-    let mut path = PathText::new();
-    let attr = gather_dir(geometry, image, workspace, dir, &mut path)?;
-    say_extra(report, attr, path.as_slice(), entry)?;
+    let mut text = PathText::new();
+    path.put(&mut text);
+    let attr = read_attr(geometry, image, workspace, dir)?;
+    say_extra(report, attr, text.as_slice(), entry)?;
     Ok(())
 }
 

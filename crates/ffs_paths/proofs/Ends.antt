@@ -7,13 +7,13 @@ use lib.Seq.{take_all}
 use borrow.Rule.Slice.PartMut.{mid_of}
 use Rattle.ffs_volume.specs.Paths.{joined, longest_end, path_text, dir_text}
 
-over_1024 : (n : ℕ) → nat_lt 1024 n ≡ true → 1024 < n
+pub over_1024 : (n : ℕ) → nat_lt 1024 n ≡ true → 1024 < n
 over_1024 n h = grind (arith, nat_tests)
 
 under_1024 : (n : ℕ) → nat_lt 1024 n ≡ false → n ≤ 1024
 under_1024 n h = ltb-false 1024 n h
 
-over_is : (n : ℕ) → 1024 < n → nat_lt 1024 n ≡ true
+pub over_is : (n : ℕ) → 1024 < n → nat_lt 1024 n ≡ true
 over_is n h = grind (arith, nat_tests)
 
 pub under_is : (n : ℕ) → n ≤ 1024 → nat_lt 1024 n ≡ false

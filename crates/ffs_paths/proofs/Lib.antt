@@ -1,2 +1,4 @@
 pub mod Ends
+pub mod Single
+pub mod Tails
 pub mod Ways

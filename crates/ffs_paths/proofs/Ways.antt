@@ -10,11 +10,14 @@ use Rattle.ffs_volume.specs.Volumes.{volume_of, volume_with}
 use Rattle.ffs_volume.specs.Graph.{Graph, level, reached, names, names_in, parent, parent_entry, entry_place, first_place}
 use Rattle.ffs_volume.specs.Levels.{level-some, within-zero}
 use Rattle.ffs_volume.specs.Parents.{seen_at, graph_of}
-use Rattle.ffs_volume.specs.Paths.{joined, names_down, names_above, name_of, dir_path, entry_path, dir_text, entry_text, path_text}
+use Rattle.ffs_volume.specs.Paths.{joined, names_down, names_above, name_of, dir_names, dir_path, entry_path, dir_text, entry_text, path_text}
 use Rattle.ffs_survey.specs.ParentLaws.{parent_above, root_level}
 use Rattle.ffs_paths.specs.declared.buffer.PathBuffer.{PathBuffer}
 use Rattle.ffs_paths.specs.Buffers.{HoldsNames}
-use Rattle.ffs_paths.specs.Climbing.{name_in, path_in, lost_path, given_names}
+use Rattle.ffs_paths.specs.Climbing.{name_in}
+use Rattle.ffs_paths.specs.DirectoryPaths.{HoldsPath, IsPathOf}
+use Rattle.ffs_paths.specs.Slashes.{AreSingle}
+use Rattle.ffs_paths.specs.declared.kept.DirectoryPath.{DirectoryPath}
 use Rattle.ffs_paths.proofs.Ends.{cut-more, end-none}
 
 -- the first name, by the first entry
@@ -124,37 +127,56 @@ pub count_is : (v : Layout) (b : List ℕ) → (graph_of (volume_of v b)).count 
 unfolding volume_of volume_with
 count_is v b = refl
 
--- the path by the level
-abbrev at_level : Graph → ℕ → Option ℕ → Option (List ℕ) → List ℕ
-at_level g d o None = dir_text (option_map (λ k. names_down g k d) o)
-at_level g d o (Some name) = entry_text name (option_map (λ k. names_down g k d) o)
-
 append_none : (xs : List (List ℕ)) → xs ++ [] ≡ xs
 append_none [] = refl
 append_none (x ∷ xs) = ap (λ ys. x ∷ ys) (append_none xs)
 
-by_level : (g : Graph) (d : ℕ) (name : Option (List ℕ)) → path_in g d name ≡ at_level g d (level g d) name
-unfolding dir_path entry_path
-by_level g d None = refl
-by_level g d (Some name) = refl
+-- the path that is kept of a directory that is reached, and of one that isn't
+pub found_is : (g : Graph) (d k : ℕ) (p : DirectoryPath) → level g d ≡ Some k → p.reached ≡ true → HoldsNames p.names (names_down g k d ++ []) → AreSingle (names_down g k d) → IsPathOf g d p
+found_is g d k p l r h s =
+    subst (HoldsPath p) (sym (ap (option_map (λ n. names_down g n d)) l)) (r, subst (HoldsNames p.names) (append_none (names_down g k d)) h, s)
 
--- the path of a directory that is not reached, or of an entry of it
-pub lost_is : (g : Graph) (d : ℕ) (name : Option (List ℕ)) → reached g d ≡ false → path_in g d name ≡ lost_path name
-lost_is g d name h = by_level g d name ∙ go (level g d) h name
+pub lost_is : (g : Graph) (d : ℕ) (p : DirectoryPath) → reached g d ≡ false → p.reached ≡ false → IsPathOf g d p
+lost_is g d p h r = go (level g d) h
   where
-    go : (o : Option ℕ) → is_some o ≡ false → (name : Option (List ℕ)) → at_level g d o name ≡ lost_path name
-    go (Some k) e name = absurd (cc)
-    go None e None = refl
-    go None e (Some n) = refl
+    go : (o : Option ℕ) → is_some o ≡ false → HoldsPath p (option_map (λ n. names_down g n d) o)
+    go (Some k) e = absurd (cc)
+    go None e = r
 
-text_of : (xs : List (List ℕ)) (n : List ℕ) → dir_text (Some (xs ++ n ∷ [])) ≡ path_text (xs ++ n ∷ [])
-text_of [] n = refl
-text_of (x ∷ xs) n = refl
+-- what is written of it
+pub put_is : (g : Graph) (d : ℕ) (p : DirectoryPath) (text : List ℕ) → IsPathOf g d p → p.reached ≡ true → ((names : List (List ℕ)) → HoldsNames p.names names → text ≡ dir_text (Some names))
+    → text ≡ dir_path g d
+unfolding dir_path
+put_is g d p text h r f = go (dir_names g d) h
+  where
+    go : (o : Option (List (List ℕ))) → HoldsPath p o → text ≡ dir_text o
+    go None k = absurd (both_ways _ k r)
+    go (Some names) k = f names k.1
 
--- the path of one of this level, or of an entry of it
-pub path_is : (g : Graph) (d k : ℕ) (name : Option (List ℕ)) → level g d ≡ Some k → dir_text (Some (names_down g k d ++ given_names name)) ≡ path_in g d name
-path_is g d k None h = ap (λ xs. dir_text (Some xs)) (append_none (names_down g k d)) ∙ sym (by_level g d None ∙ ap (λ o. at_level g d o None) h)
-path_is g d k (Some n) h = text_of (names_down g k d) n ∙ sym (by_level g d (Some n) ∙ ap (λ o. at_level g d o (Some n)) h)
+pub put_lost : (g : Graph) (d : ℕ) (p : DirectoryPath) (text : List ℕ) → IsPathOf g d p → p.reached ≡ false → text ≡ 63 ∷ [] → text ≡ dir_path g d
+unfolding dir_path
+put_lost g d p text h r e = go (dir_names g d) h
+  where
+    go : (o : Option (List (List ℕ))) → HoldsPath p o → text ≡ dir_text o
+    go None k = e
+    go (Some names) k = absurd (both_ways _ r k.0)
+
+pub entry_is : (g : Graph) (d : ℕ) (name : List ℕ) (p : DirectoryPath) (text : List ℕ) → IsPathOf g d p → p.reached ≡ true
+    → ((names : List (List ℕ)) → HoldsNames p.names names → AreSingle names → text ≡ path_text (names ++ name ∷ [])) → text ≡ entry_path g d name
+unfolding entry_path
+entry_is g d name p text h r f = go (dir_names g d) h
+  where
+    go : (o : Option (List (List ℕ))) → HoldsPath p o → text ≡ entry_text name o
+    go None k = absurd (both_ways _ k r)
+    go (Some names) k = f names k.1 k.2
+
+pub entry_lost : (g : Graph) (d : ℕ) (name : List ℕ) (p : DirectoryPath) (text : List ℕ) → IsPathOf g d p → p.reached ≡ false → text ≡ 63 ∷ 47 ∷ name → text ≡ entry_path g d name
+unfolding entry_path
+entry_lost g d name p text h r e = go (dir_names g d) h
+  where
+    go : (o : Option (List (List ℕ))) → HoldsPath p o → text ≡ entry_text name o
+    go None k = e
+    go (Some names) k = absurd (both_ways _ r k.0)
 
 pub level_of : (g : Graph) (d : ℕ) → reached g d ≡ true → (k : ℕ) × (level g d ≡ Some k)
 level_of g d h = go (level g d) refl h

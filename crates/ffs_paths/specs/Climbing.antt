@@ -1,5 +1,5 @@
 -- What a climb to the root reads, and the path that it gives.
-use Rattle.std.specs.Prelude.{◌≡◌, ◌*◌, ℕ, List, [], ◌∷◌, Option, Some, None, option_and_then, vec_len, slice_index}
+use Rattle.std.specs.Prelude.{◌≡◌, ◌*◌, ℕ, List, Option, Some, None, option_and_then, vec_len, slice_index}
 use Rattle.std.specs.Option.{unwrap_or}
 use Rattle.ffs_volume.specs.declared.Layout.{Layout}
 use Rattle.ffs_volume.specs.Graph.{Graph, names, first_place, parent}
@@ -33,13 +33,3 @@ pub record LeadUp (v : Layout) (b cut parents : List ℕ) : Type 0 where
 abbrev pub path_in : Graph → ℕ → Option (List ℕ) → List ℕ
 path_in g d None = dir_path g d
 path_in g d (Some name) = entry_path g d name
-
--- the same where it is not reached
-abbrev pub lost_path : Option (List ℕ) → List ℕ
-lost_path None = 63 ∷ []
-lost_path (Some name) = 63 ∷ 47 ∷ name
-
--- the name of an entry, as a list
-abbrev pub given_names : Option (List ℕ) → List (List ℕ)
-given_names None = []
-given_names (Some name) = name ∷ []

@@ -1,3 +1,5 @@
 pub mod Buffers
 pub mod Climbing
+pub mod DirectoryPaths
 pub mod SameLists
+pub mod Slashes

@@ -1,6 +1,7 @@
 //! A path that is put together from its end.
 
-ghost use Rattle.std.specs.Prelude.{◌≡◌, ◌+◌, ◌<◌, ◌≤◌, ℕ, List, [], ◌∷◌, ◌++◌, length, drop, Some};
+ghost use Rattle.std.specs.Prelude.{◌≡◌, ◌+◌, ◌-◌, ◌<◌, ◌≤◌, ℕ, List, [], ◌∷◌, ◌++◌, length, drop, Some};
+ghost use Rattle.ffs_paths.specs.Slashes.{from_slash};
 
 use arrayvec::ArrayVec;
 
@@ -40,9 +41,36 @@ fn put_front(bytes: &mut [u8; 1024], end: usize, name: &[u8]) -> usize
     start
 }
 
+/// Where the first `/` from a place on stands, or the end.
+fn slash_from(bytes: &[u8; 1024], place: usize) -> usize
+    requires { place ≤ 1024 }
+    ensures first { drop result bytes.now ≡ from_slash (drop place bytes.now) }
+    ensures after { place ≤ result }
+    ensures end { result ≤ 1024 }
+{
+    for at in place..1024 {
+        if bytes[at] == b'/' {
+            return at;
+        }
+    }
+    1024
+}
+
+/// Writes what stands from `start` on, `/` and a name.
+fn put_from(bytes: &[u8; 1024], start: usize, name: &[u8], text: &mut PathText)
+    requires start { start ≤ 1024 }
+    requires room { length text.old.items + (1024 - start) + 1 + length name.now ≤ 1024 }
+    ensures { text.new.items ≡ text.old.items ++ drop start bytes.now ++ 47 ∷ name.now }
+{
+    text.try_extend_from_slice(&bytes[start..]).unwrap();
+    text.push(b'/');
+    text.try_extend_from_slice(name).unwrap();
+}
+
 impl PathBuffer {
-    ghost use Rattle.ffs_volume.specs.Paths.{dir_text};
+    ghost use Rattle.ffs_volume.specs.Paths.{dir_text, path_text};
     ghost use Rattle.ffs_paths.specs.Buffers.{HoldsNames};
+    ghost use Rattle.ffs_paths.specs.Slashes.{AreSingle};
 
     /// No names.
     pub fn new() -> PathBuffer
@@ -89,5 +117,20 @@ impl PathBuffer {
             text.try_extend_from_slice(&self.bytes[self.start..])
                 .unwrap();
         }
+    }
+    /// Writes the path with a name more at its end, which has one byte to 255: all names where they have room, else `?` and
+    /// their longest end of at most 1,023 bytes.
+    pub fn put_with(&self, name: &[u8], text: &mut PathText)
+        requires empty { text.old.items ≡ [] }
+        requires name { length name.now ≤ 255 }
+        ensures { (names : List (List ℕ)) → HoldsNames self.now names → AreSingle names → text.new.items ≡ path_text (names ++ name.now ∷ []) }
+    {
+        if !self.cut && name.len() < self.start {
+            put_from(&self.bytes, self.start, name, text);
+            return;
+        }
+        text.push(b'?');
+        let start = slash_from(&self.bytes, self.short.max(name.len() + 2));
+        put_from(&self.bytes, start, name, text);
     }
 }

@@ -3,7 +3,9 @@
 
 pub mod buffer;
 pub mod climb;
+pub mod kept;
 pub mod path;
 
 pub use buffer::{PathBuffer, PathText};
-pub use path::path_of;
+pub use kept::DirectoryPath;
+pub use path::{directory_path, path_of};

@@ -13,37 +13,46 @@ use Rattle.ffs_phase.proofs.Telling.{of_begins, of_reads, of_same, of_part, of_f
 use Rattle.ffs_workspace.specs.declared.workspace.Workspace.{Workspace}
 use Rattle.ffs_workspace.specs.Lengths.{HoldWindows}
 use Rattle.ffs_workspace.specs.Leaves.{LeavesSurvey}
-use Rattle.ffs_workspace.proofs.Leaving.{leaves_all, leaves_more, windows_leave}
+use Rattle.ffs_workspace.proofs.Leaving.{claims_left, leaves_more, windows_leave}
 use Rattle.ffs_pathnames.specs.Gathers.{marks_of}
 use Rattle.ffs_pathnames.specs.Knows.{Knows}
 use Rattle.ffs_pathnames.specs.Marks.{after_entries, entries_told}
-use Rattle.ffs_pathnames.proofs.Passing.{chunk_told, chunk_passed, knows_on, all_read}
+use Rattle.ffs_pathnames.proofs.Passing.{chunk_told, chunk_passed, knows_on, all_read, marks_on}
 use Rattle.ffs_pathnames.proofs.again.tell_directory.Goals as goal
+
+pub returns-in_err-path-clause-text : goal.returns-in_err-path-clause-text
+returns-in_err-path-clause-text g c =
+    let p = err_from_is_err_and c.from_residual.result c.from_residual.ensures.1 in
+    rw (p.1, p.2) (of_reads _ _ _ _ _ (of_begins _ _ _))
 
 pub chunks-init : goal.chunks-init
 chunks-init g c =
     let v = c.args.geometry.now.layout in
+    let ok = c.in_ok-path.ensures in
+    let here = c.own_path.new.workspace in
     let m = marks_of c.args.workspace.now in
+    let same = marks_on c.args.workspace.now here ok.lists in
     let all = λ (b : List ℕ). map of_names (entries_told (volume_of v b) c.args.dir m (seen_in (volume_of v b) c.args.dir)) in
     let seen = λ (b : List ℕ) (k : Knows v (g.I.Image.device c.args.image.now).told c.args.workspace.now c.args.dir b × (c.args.inode.now ≡ inode_of v b c.args.dir)).
     all_read v b c.args.dir c.args.inode.now c.index-cut.result.now (rest b c.start-chunks.result) c.args.geometry.now.sound k.0.dir k.1
-    (get_or_read_under c.args.workspace.now.cut.items c.args.dir _ c.index-cut.result.now 0 c.index-cut.ensures (subst (λ n. c.args.dir < n) (sym c.requires.made.cut) c.requires.dir)
-    c.args.workspace.now.cut.ok.0 ∙ k.0.claims.cut c.args.dir)
+    (get_or_read_under here.cut.items c.args.dir _ c.index-cut.result.now 0 c.index-cut.ensures (subst (λ n. c.args.dir < n) (sym ok.made.cut) c.requires.dir)
+    here.cut.ok.0 ∙ (claims_left v b c.args.workspace.now here ok.lists.survey k.0.claims).cut c.args.dir)
     (c.start-chunks.ensures.chunks b) in
     record {
-      made = c.requires.made;
-      device = refl;
+      made = ok.made;
+      device = ok.ok;
       geometry = c.start-chunks.ensures.geometry;
-      windows = c.requires.windows;
-      survey = leaves_all _;
-      marks = λ b k. ap (after_entries (volume_of v b) c.args.dir m) (sym (seen b k));
-      said = of_same _ all (λ (b : List ℕ). map of_names (entries_told (volume_of v b) c.args.dir m (flat_map chunk_seen (rest b c.start-chunks.result)))) all _ _ (of_begins _ all _)
-          (λ b k. ap (λ es. map of_names (entries_told (volume_of v b) c.args.dir m es)) (sym (seen b k)));
+      windows = subst (λ d. HoldWindows v d.told here) ok.ok ok.windows;
+      survey = ok.lists.survey;
+      marks = λ b k. ap (λ q. after_entries (volume_of v b) c.args.dir q (seen_in (volume_of v b) c.args.dir)) same ∙ ap (after_entries (volume_of v b) c.args.dir (marks_of here)) (sym (seen b k));
+      said = of_same _ all (λ (b : List ℕ). map of_names (entries_told (volume_of v b) c.args.dir (marks_of here) (flat_map chunk_seen (rest b c.start-chunks.result)))) all _ _ (of_begins _ all _)
+          (λ b k. ap (λ q. map of_names (entries_told (volume_of v b) c.args.dir q (seen_in (volume_of v b) c.args.dir))) same
+          ∙ ap (λ es. map of_names (entries_told (volume_of v b) c.args.dir (marks_of here) es)) (sym (seen b k)));
     }
 
 pub returns-in_err-offset-clause-text : goal.returns-in_err-offset-clause-text
 returns-in_err-offset-clause-text g c =
-    let p = err_from_is_err_and c.from_residual.result c.from_residual.ensures.1 in
+    let p = err_from_is_err_and c.from_residual-in_err-offset.result c.from_residual-in_err-offset.ensures.1 in
     rw (p.1, p.2) (of_reads _ _ _ _ _ c.chunks.invariant.said)
 
 pub returns-in_err-offset-clause-windows : goal.returns-in_err-offset-clause-windows
@@ -94,7 +103,7 @@ chunks-preserved g c =
           (λ (b : List ℕ). map of_names (entries_told (volume_of v b) c.args.dir m (chunk_seen here)))
           (λ (b : List ℕ). map of_names (entries_told (volume_of v b) c.args.dir m' (flat_map chunk_seen (rest b c.next.new.self)))) _ _ _ _ inv.said
           (λ b k. chunk_told (volume_of v b) c.args.dir m m' here (rest b c.chunks.chunks) (rest b c.next.new.self) (next b k) (ok.marks b (know b k)))
-          (said_knows _ _ _ _ _ _ know ok.text);
+          (said_knows _ _ _ _ _ _ (λ b k. record { knows = know b k; path = c.in_ok-path.ensures.path b k.0.told_is k.0.claims k.0.survey }) ok.text);
     }
 
 pub returns-in_err-tell_chunk-clause-text : goal.returns-in_err-tell_chunk-clause-text
@@ -117,7 +126,8 @@ returns-in_err-tell_chunk-clause-text g c =
     (λ (b : List ℕ). map of_names (entries_told (volume_of v b) c.args.dir (after_entries (volume_of v b) c.args.dir m (chunk_seen here)) (flat_map chunk_seen (rest b c.next.new.self)))) _ _ _ _
     c.in_err-tell_chunk.field-0.0 inv.said
     (λ b k. chunk_told (volume_of v b) c.args.dir m (after_entries (volume_of v b) c.args.dir m (chunk_seen here)) here (rest b c.chunks.chunks) (rest b c.next.new.self) (next b k) refl)
-    (tells_knows (Unit {0}) _ _ _ _ _ (Err c.in_err-tell_chunk.field-0.0) know c.in_err-tell_chunk.ensures.text))
+    (tells_knows (Unit {0}) _ _ _ _ _ (Err c.in_err-tell_chunk.field-0.0)
+    (λ b k. record { knows = know b k; path = c.in_ok-path.ensures.path b k.0.told_is k.0.claims k.0.survey }) c.in_err-tell_chunk.ensures.text))
 
 pub returns-clause-text : goal.returns-clause-text
 returns-clause-text g c =

@@ -49,7 +49,7 @@ returns-in_err-tell_entry-clause-text g c =
     (λ (b : List ℕ). map of_names (entries_told (volume_of v b) c.args.dir (after_seen (volume_of v b) c.args.dir m seen) there)) _ _ _ _ c.in_err-tell_entry.field-0.0
     inv.said (λ b k. entry_told (volume_of v b) c.args.dir m (after_seen (volume_of v b) c.args.dir m seen) seen here there next refl)
     (tells_knows (Unit {0}) _ _ _ _ _ (Err c.in_err-tell_entry.field-0.0)
-    (λ b k. knows_on v _ _ c.args.workspace.now c.entries.workspace c.args.dir b (ap (λ d. d.told) inv.device) inv.survey k) c.in_err-tell_entry.ensures.text))
+    (λ b k. record { knows = knows_on v _ _ c.args.workspace.now c.entries.workspace c.args.dir b (ap (λ d. d.told) inv.device) inv.survey k.knows; path = k.path }) c.in_err-tell_entry.ensures.text))
 
 pub entries-preserved : goal.entries-preserved
 entries-preserved g c =
@@ -78,8 +78,8 @@ entries-preserved g c =
       said = of_part _ (λ (b : List ℕ). map of_names (entries_told (volume_of v b) c.args.dir m here))
           (λ (b : List ℕ). map of_names (seen_told (volume_of v b) c.args.dir m seen))
           (λ (b : List ℕ). map of_names (entries_told (volume_of v b) c.args.dir m' there)) _ _ _ _ inv.said
-          (λ b k. entry_told (volume_of v b) c.args.dir m m' seen here there next (ok.marks b (know b k)))
-          (said_knows _ _ _ _ _ _ know ok.text);
+          (λ b k. entry_told (volume_of v b) c.args.dir m m' seen here there next (ok.marks b (know b k.knows)))
+          (said_knows _ _ _ _ _ _ (λ b k. record { knows = know b k.knows; path = k.path }) ok.text);
     })
 
 pub returns-clause-text : goal.returns-clause-text

@@ -9,7 +9,7 @@ use Rattle.ffs_report.specs.Progress.{progress}
 use Rattle.ffs_workspace.specs.Lengths.{IsFor, HoldWindows}
 use Rattle.ffs_workspace.specs.Leaves.{LeavesSurvey}
 use Rattle.ffs_pathnames.specs.Gathers.{marks_of}
-use Rattle.ffs_pathnames.specs.Knows.{Knows}
+use Rattle.ffs_pathnames.specs.Knows.{Knows, KnowsPath}
 use Rattle.ffs_pathnames.specs.Marks.{after_entries, entries_told}
 use Rattle.ffs_pathnames.proofs.Looking.{seen_at_place}
 use Rattle.ffs_pathnames.proofs.entries.tell_chunk.Given as goal
@@ -25,7 +25,7 @@ invariant-entries g l = let told_by = g.I.Image.device in let v = l.geometry.lay
   marks : Where (Knows v (told_by l.fn.image).told l.fn.workspace l.dir) (λ b.
       after_entries (volume_of v b) l.dir (marks_of l.fn.workspace) (seen_from l.first 0 (entries_of v.order l.chunk))
       ≡ after_entries (volume_of v b) l.dir (marks_of l.workspace) (seen_at_place v.order l.chunk l.first l.index l.place));
-  said : SaidOf (Knows v (told_by l.fn.image).told l.fn.workspace l.dir)
+  said : SaidOf (KnowsPath v (told_by l.fn.image).told l.fn.workspace l.dir l.path)
       (λ b. map of_names (entries_told (volume_of v b) l.dir (marks_of l.workspace) (seen_at_place v.order l.chunk l.first l.index l.place)))
       (λ b. map of_names (entries_told (volume_of v b) l.dir (marks_of l.fn.workspace) (seen_from l.first 0 (entries_of v.order l.chunk))))
       (progress g.W.Output.sink l.fn.report) (progress g.W.Output.sink l.report);

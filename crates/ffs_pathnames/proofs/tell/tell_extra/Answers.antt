@@ -22,8 +22,8 @@ returns-in_err-say_extra-clause-text g c =
     let ms : List NameMessage = extra_told c.in_ok-attr.attr c.as_slice.result.now e in
     let p = err_from_is_err_and c.from_residual-in_err-say_extra.result c.from_residual-in_err-say_extra.ensures.1 in
     rw (p.1, p.2) (of_stops _ all (λ b. []) _ (map of_names ms) _ _ _ (of_begins _ all _)
-    (λ b k. ap (map of_names) (ap (λ q. extra_told q (dir_path (graph_of (volume_of v b)) c.args.dir) e) (sym (c.in_ok-attr.ensures.attr b k.told_is))
-    ∙ ap (λ q. extra_told c.in_ok-attr.attr q e) (sym (c.as_slice.ensures.value ∙ c.in_ok-attr.ensures.path b k)))
+    (λ b k. ap (map of_names) (ap (λ q. extra_told q (dir_path (graph_of (volume_of v b)) c.args.dir) e) (sym (c.in_ok-attr.ensures.attr b k.knows.told_is))
+    ∙ ap (λ q. extra_told c.in_ok-attr.attr q e) (sym (c.as_slice.ensures.value ∙ c.put.ensures (graph_of (volume_of v b)) c.args.dir k.path)))
     ∙ sym (append-nil (map of_names ms)))
     c.in_err-say_extra.ensures)
 
@@ -34,7 +34,7 @@ returns-clause-text g c =
     let all = λ (b : List ℕ). map of_names (extra_told (attributes (volume_of v b) c.args.dir) (dir_path (graph_of (volume_of v b)) c.args.dir) e) in
     let ms : List NameMessage = extra_told c.in_ok-attr.attr c.as_slice.result.now e in
     of_says _ all (λ b. []) _ (map of_names ms) _ _ _ (of_begins _ all _)
-    (λ b k. ap (map of_names) (ap (λ q. extra_told q (dir_path (graph_of (volume_of v b)) c.args.dir) e) (sym (c.in_ok-attr.ensures.attr b k.told_is))
-    ∙ ap (λ q. extra_told c.in_ok-attr.attr q e) (sym (c.as_slice.ensures.value ∙ c.in_ok-attr.ensures.path b k)))
+    (λ b k. ap (map of_names) (ap (λ q. extra_told q (dir_path (graph_of (volume_of v b)) c.args.dir) e) (sym (c.in_ok-attr.ensures.attr b k.knows.told_is))
+    ∙ ap (λ q. extra_told c.in_ok-attr.attr q e) (sym (c.as_slice.ensures.value ∙ c.put.ensures (graph_of (volume_of v b)) c.args.dir k.path)))
     ∙ sym (append-nil (map of_names ms)))
     c.in_ok-say_extra.ensures

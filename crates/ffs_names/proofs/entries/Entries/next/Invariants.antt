@@ -3,7 +3,7 @@ use Rattle.std.specs.Prelude.{vec_len}
 use Rattle.ffs_image.specs.Device.{WhereTold}
 use Rattle.ffs_walk.specs.Windows.{BlocksHold, WindowHolds}
 use Rattle.ffs_names.specs.Entering.{to_come, left}
-use Rattle.ffs_names.proofs.entries.Entries.advance.Given as goal
+use Rattle.ffs_names.proofs.entries.Entries.next.Given as goal
 
 abbrev pub invariant-chunks : goal.invariant-chunks
 invariant-chunks g l = record {

@@ -1,0 +1,16 @@
+-- What the path of a directory holds that is kept.
+use Rattle.std.specs.Prelude.{◌≡◌, ℕ, true, false, List, Option, Some, None}
+use Rattle.ffs_volume.specs.Graph.{Graph}
+use Rattle.ffs_volume.specs.Paths.{dir_names}
+use Rattle.ffs_paths.specs.Buffers.{HoldsNames}
+use Rattle.ffs_paths.specs.Slashes.{AreSingle}
+use Rattle.ffs_paths.specs.declared.kept.DirectoryPath.{DirectoryPath}
+
+-- the path of a directory that these names lead to, or of one that is not reached
+abbrev pub HoldsPath : DirectoryPath → Option (List (List ℕ)) → Type 0
+HoldsPath p None = p.reached ≡ false
+HoldsPath p (Some names) = (p.reached ≡ true) × HoldsNames p.names names × AreSingle names
+
+-- the path of the directory d
+abbrev pub IsPathOf : Graph → ℕ → DirectoryPath → Type 0
+IsPathOf g d p = HoldsPath p (dir_names g d)

@@ -1,0 +1,45 @@
+//! The path of a directory, kept for all lines on it and on its entries.
+
+ghost use Rattle.std.specs.Prelude.{◌≡◌, ◌≤◌, ℕ, [], length};
+
+use crate::buffer::{PathBuffer, PathText};
+
+/// The path of a directory: the names from the root down to it, if it is reached.
+#[derive(Drop)]
+pub struct DirectoryPath {
+    pub reached: bool,
+    pub names: PathBuffer,
+}
+
+impl DirectoryPath {
+    ghost use Rattle.ffs_volume.specs.Graph.{Graph};
+    ghost use Rattle.ffs_volume.specs.Paths.{dir_path, entry_path};
+    ghost use Rattle.ffs_paths.specs.DirectoryPaths.{IsPathOf};
+
+    /// Writes the path of the directory: `?` where it is not reached.
+    pub fn put(&self, text: &mut PathText)
+        requires { text.old.items ≡ [] }
+        ensures { (g : Graph) (dir : ℕ) → IsPathOf g dir self.now → text.new.items ≡ dir_path g dir }
+    {
+        if self.reached {
+            self.names.put(text);
+        } else {
+            text.push(b'?');
+        }
+    }
+
+    /// Writes the path of an entry of the directory: leading names are dropped where 1,024 bytes don't hold all.
+    pub fn put_entry(&self, name: &[u8], text: &mut PathText)
+        requires empty { text.old.items ≡ [] }
+        requires name { length name.now ≤ 255 }
+        ensures { (g : Graph) (dir : ℕ) → IsPathOf g dir self.now → text.new.items ≡ entry_path g dir name.now }
+    {
+        if self.reached {
+            self.names.put_with(name, text);
+            return;
+        }
+        text.push(b'?');
+        text.push(b'/');
+        text.try_extend_from_slice(name).unwrap();
+    }
+}
