@@ -8,8 +8,9 @@ use Rattle.ffs_volume.specs.Superblock.{Superblock}
 use Rattle.ffs_volume.specs.Messages.{Message, cannot_read, minfree, mounted, optimization, has_defect, is_defect}
 use Rattle.ffs_volume.specs.Opening.{before_nul, is_minfree, is_optimization, setting_lines, super_lines, unless_message}
 use Rattle.ffs_volume.specs.Report.{end_by}
+use Rattle.std.specs.Borrow.{GName}
 use Rattle.ffs_report.specs.Sink.{Sink}
-use Rattle.ffs_report.specs.Progress.{Progress, Said, Stopped}
+use Rattle.ffs_report.specs.Progress.{Progress, Said, Stopped, starts}
 use Rattle.ffs_report.proofs.Reports.{has_defect-append, said_then, stopped_after, stopped_more}
 use Rattle.ffs_phase.specs.Known.{Where, Tells}
 use Rattle.ffs_phase.specs.Runs.{Reads, TellsOf}
@@ -19,7 +20,7 @@ use Rattle.ffs_pathnames.specs.declared.phase.Root.{Root}
 use Rattle.ffs_pathnames.specs.GoesOn.{is_go}
 use Rattle.ffs_check.specs.Ends.{IsCut, Ran, RunsThrough}
 use Rattle.ffs_check.specs.Told.{FaultTold, EndsAs}
-use Rattle.ffs_check.proofs.Openings.{begun, broke_off}
+use Rattle.ffs_check.proofs.Openings.{broke_off}
 
 -- what an image's bytes determine, and nothing for an image that doesn't tell them
 abbrev pub at_told : Option (List ℕ) → (List ℕ → List Message) → List Message
@@ -98,9 +99,9 @@ module _ (before : Bool) (knows : List ℕ → Type 0) (lines : List ℕ → Lis
   ran (Err (Out fault)) p still went e = part p.messages p.rest p.right p.stopped still e.0 e.1
 
 -- what a report said that had just begun went to its output
-pub runs_through : (before : Bool) (told : List Message) → before ≡ has_defect told → (knows : List ℕ → Type 0) (lines : List ℕ → List Message) (goes : List ℕ → Bool) (image image' : Device) (sink : Sink) (new : Progress) (end : End) →
-    Ran before knows lines goes image image' (begun sink) new end → RunsThrough told knows lines goes image image' sink new.sink end
-runs_through before told e knows lines goes image image' sink new end ran = record {
+pub runs_through : (before : Bool) (told : List Message) → before ≡ has_defect told → (knows : List ℕ → Type 0) (lines : List ℕ → List Message) (goes : List ℕ → Bool) (image image' : Device) (output : GName) (sink : Sink) (new : Progress) (end : End) →
+    Ran before knows lines goes image image' (starts output sink) new end → RunsThrough told knows lines goes image image' sink new.sink end
+runs_through before told e knows lines goes image image' output sink new end ran = record {
   text = ran.text;
   right = ran.right;
   ends = elim ran.ends [
@@ -114,7 +115,7 @@ runs_through before told e knows lines goes image image' sink new end ran = reco
     })
     | inr rest ↦ elim rest [
       | inl short ↦ inr (inl (record { sector = short.sector; messages = short.messages; cut = short.cut; took = short.said.took; end_is = short.end_is }))
-      | inr part ↦ inr (inr (record { messages = part.messages; would = part.would; broke_off = broke_off sink new part.messages part.stopped; end_is = part.end_is }))
+      | inr part ↦ inr (inr (record { messages = part.messages; would = part.would; broke_off = broke_off output sink new part.messages part.stopped; end_is = part.end_is }))
     ]
   ];
 }

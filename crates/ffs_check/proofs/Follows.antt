@@ -11,8 +11,9 @@ use Rattle.ffs_volume.specs.Opening.{opening_lines}
 use Rattle.ffs_volume.specs.PathnameCheck.{goes_on}
 use Rattle.ffs_volume.specs.Report.{text_lines, end_by, report_of, report_end}
 use Rattle.ffs_volume.specs.Volumes.{volume_of}
+use Rattle.std.specs.Borrow.{GName}
 use Rattle.ffs_report.specs.Sink.{Sink}
-use Rattle.ffs_report.specs.Progress.{Progress, Said}
+use Rattle.ffs_report.specs.Progress.{Progress, Said, starts}
 use Rattle.ffs_report.proofs.Reports.{said_then, stopped_after}
 use Rattle.ffs_layout.specs.declared.superblock.Super.{Super}
 use Rattle.ffs_layout.specs.Super.{Answers, seen}
@@ -21,12 +22,12 @@ use Rattle.ffs_check.specs.Opening.{Opened}
 use Rattle.ffs_check.specs.Ends.{SaidWhole, SaidCut, SaidPart}
 use Rattle.ffs_check.specs.Found.{RefusalTold, Followed}
 use Rattle.ffs_check.specs.Headline.{is_completed, opened_lines, Headline}
-use Rattle.ffs_check.proofs.Openings.{begun, broke_off}
+use Rattle.ffs_check.proofs.Openings.{broke_off}
 use Rattle.ffs_check.proofs.Endings.{at_told, at_told_is, faulted_there}
 use Rattle.ffs_check.proofs.Headlines.{whole_there, defect_there, end_of_there, end_there, completed_by, certifies}
 
-module _ (image : Device) (name : List ℕ) (sector : Option ℕ) (sink : Sink) (s : Superblock) (accepted : WhereTold image.told (λ bytes. Ok s ≡ outcome bytes sector))
-    (p : Progress) (opened : Said (begun sink) p (opened_lines name sector s)) (image' : Device) (new : Progress) where
+module _ (image : Device) (name : List ℕ) (sector : Option ℕ) (output : GName) (sink : Sink) (s : Superblock) (accepted : WhereTold image.told (λ bytes. Ok s ≡ outcome bytes sector))
+    (p : Progress) (opened : Said (starts output sink) p (opened_lines name sector s)) (image' : Device) (new : Progress) where
   -- the memory was refused
   unstarted : (end : End) → image' ≡ image → RefusalTold p new end → Headline image image' name sector sink new.sink end
   unstarted end still (inl told) = record {
@@ -35,7 +36,7 @@ module _ (image : Device) (name : List ℕ) (sector : Option ℕ) (sink : Sink) 
     ends = inr (inr (inr (inl (record {
       messages = opened_lines name sector s ++ (cannot_alloc ∷ []);
       said = record { unread = still; found = s; accepted = λ bytes t. sym (accepted bytes t); lines = refl };
-      took = (said_then (begun sink) p new (opened_lines name sector s) (cannot_alloc ∷ []) opened told.0).took;
+      took = (said_then (starts output sink) p new (opened_lines name sector s) (cannot_alloc ∷ []) opened told.0).took;
       end_is = told.1;
     }))));
   }
@@ -45,7 +46,7 @@ module _ (image : Device) (name : List ℕ) (sector : Option ℕ) (sink : Sink) 
     ends = inr (inr (inr (inr (record {
       messages = opened_lines name sector s ++ (cannot_alloc ∷ []);
       would = inr (inr (inr (record { unread = still; found = s; accepted = λ bytes t. sym (accepted bytes t); lines = refl })));
-      broke_off = broke_off sink new (opened_lines name sector s ++ (cannot_alloc ∷ [])) (stopped_after (begun sink) p new (opened_lines name sector s) (cannot_alloc ∷ []) opened untold.0);
+      broke_off = broke_off output sink new (opened_lines name sector s ++ (cannot_alloc ∷ [])) (stopped_after (starts output sink) p new (opened_lines name sector s) (cannot_alloc ∷ []) opened untold.0);
       end_is = untold.1;
     }))));
   }
@@ -56,7 +57,7 @@ module _ (image : Device) (name : List ℕ) (sector : Option ℕ) (sink : Sink) 
 
     whole : SaidWhole false (Tells image.told) (λ bytes. goes_on (volume_of s.layout bytes)) text image image' p new end → Headline image image' name sector sink new.sink end
     whole all =
-        let said = said_then (begun sink) p new (opened_lines name sector s) text opened all.said in
+        let said = said_then (starts output sink) p new (opened_lines name sector s) text opened all.said in
         let last : WhereTold image.told (λ bytes. end ≡ report_end bytes sector) = λ bytes t.
         all.end_is ∙ end_of_there bytes s all.on new.defect (all.went bytes t) (said.defect ∙ defect_there bytes name sector s text (right bytes t))
         ∙ end_there bytes sector (Ok s) (accepted bytes t) in
@@ -91,7 +92,7 @@ module _ (image : Device) (name : List ℕ) (sector : Option ℕ) (sink : Sink) 
               whole = ap (λ xs. opened_lines name sector s ++ xs) short.cut.whole;
               lines = refl;
             };
-            took = (said_then (begun sink) p new (opened_lines name sector s) _ opened (subst (Said p new) line short.said)).took;
+            took = (said_then (starts output sink) p new (opened_lines name sector s) _ opened (subst (Said p new) line short.said)).took;
             end_is = short.end_is ∙ ap ReadFault (sym here);
           })));
         }
@@ -114,7 +115,7 @@ module _ (image : Device) (name : List ℕ) (sector : Option ℕ) (sink : Sink) 
             lines = ap (λ xs. opened_lines name sector s ++ xs) short.line;
           })))
         ];
-        broke_off = broke_off sink new (opened_lines name sector s ++ stop.messages) (stopped_after (begun sink) p new (opened_lines name sector s) stop.messages opened stop.stopped);
+        broke_off = broke_off output sink new (opened_lines name sector s ++ stop.messages) (stopped_after (starts output sink) p new (opened_lines name sector s) stop.messages opened stop.stopped);
         end_is = stop.end_is;
       }))));
     }
@@ -135,12 +136,12 @@ accepted_of : (image image' : Device) (sector : Option ℕ) (s : Superblock) →
 accepted_of image image' sector s (inl unread) = absurd unread.0.0
 accepted_of image image' sector s (inr read) = read.1
 
-pub found_ends : (image on image' : Device) (name : List ℕ) (sector : Option ℕ) (sink : Sink) (p new : Progress) (found : Super) (end : End) →
-    Opened image on (begun sink) p name sector (Ok found) → Followed (seen found) on image' p new end → Headline image image' name sector sink new.sink end
-found_ends image on image' name sector sink p new found end o f =
+pub found_ends : (image on image' : Device) (name : List ℕ) (sector : Option ℕ) (output : GName) (sink : Sink) (p new : Progress) (found : Super) (end : End) →
+    Opened image on (starts output sink) p name sector (Ok found) → Followed (seen found) on image' p new end → Headline image image' name sector sink new.sink end
+found_ends image on image' name sector output sink p new found end o f =
     let answers = subst (λ r. Answers image on sector r) o.ends.1 o.answers in
-    follows image name sector sink (seen found) (accepted_of image on sector (seen found) answers) p
-    (subst (λ r. Said (begun sink) p (opening_lines name sector r)) o.ends.1 o.ends.0) image' new end
+    follows image name sector output sink (seen found) (accepted_of image on sector (seen found) answers) p
+    (subst (λ r. Said (starts output sink) p (opening_lines name sector r)) o.ends.1 o.ends.0) image' new end
     (subst (λ d. Followed (seen found) d image' p new end) (still_of image on sector (seen found) answers) f)
 
 -- a run behind an accepted superblock doesn't refuse it

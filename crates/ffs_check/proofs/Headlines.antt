@@ -13,14 +13,15 @@ use Rattle.ffs_volume.specs.PathnameCheck.{goes_on}
 use Rattle.ffs_volume.specs.Report.{text_lines, report_lines, end_by, end_of, told_of, ends_of, report_of, report_end}
 use Rattle.ffs_volume.specs.Texts.{texts_of}
 use Rattle.ffs_volume.specs.Volumes.{volume_of}
+use Rattle.std.specs.Borrow.{GName}
 use Rattle.ffs_report.specs.Sink.{Sink, Took}
-use Rattle.ffs_report.specs.Progress.{Progress, Said, Stopped}
+use Rattle.ffs_report.specs.Progress.{Progress, Said, Stopped, starts}
 use Rattle.ffs_report.proofs.Reports.{stopped_more}
 use Rattle.ffs_layout.specs.Super.{Answers}
 use Rattle.ffs_certificate.proofs.ReportLaws.{certified}
 use Rattle.ffs_check.specs.Opening.{Opened}
 use Rattle.ffs_check.specs.Headline.{is_completed, Certifies, opened_lines, Headline}
-use Rattle.ffs_check.proofs.Openings.{begun, broke_off}
+use Rattle.ffs_check.proofs.Openings.{broke_off}
 use Rattle.ffs_check.proofs.Endings.{at_told, at_told_is}
 
 -- ---- the report, in its parts
@@ -82,9 +83,9 @@ certifies bytes name sector text end t e s o =
       text_says = ((λ p. law.silent.0 (sym defect ∙ p)), (λ p. defect ∙ law.silent.1 p));
     }
 
-module _ (image image' : Device) (name : List ℕ) (sector : Option ℕ) (sink : Sink) (p : Progress) where
+module _ (image image' : Device) (name : List ℕ) (sector : Option ℕ) (output : GName) (sink : Sink) (p : Progress) where
   -- ---- the opening ended the run
-  refused : (fault : SuperFault) → Answers image image' sector (Err fault) → Said (begun sink) p (opening_lines name sector (Err fault)) → Headline image image' name sector sink p.sink (Refused fault)
+  refused : (fault : SuperFault) → Answers image image' sector (Err fault) → Said (starts output sink) p (opening_lines name sector (Err fault)) → Headline image image' name sector sink p.sink (Refused fault)
   refused fault (inl unread) said =
       let there : fault ≡ CannotRead image'.failed = unread.0.0 in
       record {
@@ -113,7 +114,7 @@ module _ (image image' : Device) (name : List ℕ) (sector : Option ℕ) (sink :
         });
       }
 
-  stopped : (found : Result Superblock SuperFault) → Answers image image' sector found → Stopped (begun sink) p (opening_lines name sector found) → Headline image image' name sector sink p.sink WriteFault
+  stopped : (found : Result Superblock SuperFault) → Answers image image' sector found → Stopped (starts output sink) p (opening_lines name sector found) → Headline image image' name sector sink p.sink WriteFault
   stopped (Ok s) (inl unread) stop = absurd unread.0.0
   stopped (Err fault) (inl unread) stop = record {
     text = head_lines name sector ++ at_told image.told (λ bytes. told_of bytes (outcome bytes sector));
@@ -125,7 +126,7 @@ module _ (image image' : Device) (name : List ℕ) (sector : Option ℕ) (sink :
         place = unread.1;
         lines = ap (λ f. head_lines name sector ++ (fault_line f ∷ [])) unread.0.0;
       }));
-      broke_off = broke_off sink p (opening_lines name sector (Err fault)) stop;
+      broke_off = broke_off output sink p (opening_lines name sector (Err fault)) stop;
       end_is = refl;
     }))));
   }
@@ -138,14 +139,14 @@ module _ (image image' : Device) (name : List ℕ) (sector : Option ℕ) (sink :
         ends = inr (inr (inr (inr (record {
           messages = text;
           would = inl (read.0, refl);
-          broke_off = broke_off sink p text (stopped_more (begun sink) p (opening_lines name sector found) (at_told image.told (λ bytes. more_of bytes found)) stop);
+          broke_off = broke_off output sink p text (stopped_more (starts output sink) p (opening_lines name sector found) (at_told image.told (λ bytes. more_of bytes found)) stop);
           end_is = refl;
         }))));
       }
 
   -- the opening's answer
-  pub opening_ends : (end : End) → Opened image image' (begun sink) p name sector (Err end) → Headline image image' name sector sink p.sink end
-  opening_ends (Refused fault) o = refused fault (subst (λ f. Answers image image' sector f) o.ends.1 o.answers) (subst (λ f. Said (begun sink) p (opening_lines name sector f)) o.ends.1 o.ends.0)
+  pub opening_ends : (end : End) → Opened image image' (starts output sink) p name sector (Err end) → Headline image image' name sector sink p.sink end
+  opening_ends (Refused fault) o = refused fault (subst (λ f. Answers image image' sector f) o.ends.1 o.answers) (subst (λ f. Said (starts output sink) p (opening_lines name sector f)) o.ends.1 o.ends.0)
   opening_ends WriteFault o = stopped o.found o.answers o.ends
   opening_ends Consistent o = absurd o.ends
   opening_ends Defects o = absurd o.ends

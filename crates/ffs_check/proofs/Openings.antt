@@ -10,8 +10,9 @@ use Rattle.ffs_volume.specs.Messages.{Message}
 use Rattle.ffs_volume.specs.Texts.{texts_of}
 use Rattle.ffs_volume.specs.Outcome.{outcome}
 use Rattle.ffs_volume.specs.Opening.{head_lines, found_lines, super_lines, fault_line}
+use Rattle.std.specs.Borrow.{GName}
 use Rattle.ffs_report.specs.Sink.{Sink, BrokeOff}
-use Rattle.ffs_report.specs.Progress.{Progress, Said, Stopped}
+use Rattle.ffs_report.specs.Progress.{Progress, Said, Stopped, starts}
 use Rattle.ffs_report.proofs.Reports.{said_then, stopped_after, stopped_more}
 use Rattle.ffs_layout.specs.declared.superblock.Super.{Super}
 use Rattle.ffs_layout.specs.Super.{Answers, seen}
@@ -65,36 +66,33 @@ module _ (image : Device) (name : List ℕ) (sector : Option ℕ) (old head : Pr
         ends = stopped_after old head new (head_lines name sector) (fault_line fault ∷ []) said stopped;
       }
 
--- a report that has just begun
-abbrev pub begun : Sink → Progress
-begun sink = record { sink = sink; failed = false; defect = false }
-
 -- where it stops, the output broke off
-pub broke_off : (sink : Sink) (new : Progress) (messages : List Message) → Stopped (begun sink) new messages → BrokeOff sink new.sink (texts_of messages)
-broke_off sink new messages s = record {
+pub broke_off : (output : GName) (sink : Sink) (new : Progress) (messages : List Message) → Stopped (starts output sink) new messages → BrokeOff sink new.sink (texts_of messages)
+broke_off output sink new messages s = record {
   front = s.front;
   rest = s.rest;
   whole = s.whole;
   taken = s.taken;
   rose = elim s.cause [ inl failed ↦ absurd cc | inr rose ↦ rose ];
+  lent = s.lent;
 }
 
-ends_of : (sink : Sink) (new : Progress) (messages : List Message) (found : Result Superblock SuperFault) (result : Result Super End) →
-    OpeningSays (begun sink) new messages found result → OpeningEnds sink new.sink messages found result
-ends_of sink new messages found (Ok super) ends = (ends.0.took, ends.1)
-ends_of sink new messages found (Err (Refused fault)) ends = (ends.0.took, ends.1)
-ends_of sink new messages found (Err WriteFault) ends = broke_off sink new messages ends
-ends_of sink new messages found (Err Consistent) ends = absurd ends
-ends_of sink new messages found (Err Defects) ends = absurd ends
-ends_of sink new messages found (Err RootStop) ends = absurd ends
-ends_of sink new messages found (Err (ReadFault sector)) ends = absurd ends
-ends_of sink new messages found (Err NoMemory) ends = absurd ends
+ends_of : (output : GName) (sink : Sink) (new : Progress) (messages : List Message) (found : Result Superblock SuperFault) (result : Result Super End) →
+    OpeningSays (starts output sink) new messages found result → OpeningEnds sink new.sink messages found result
+ends_of output sink new messages found (Ok super) ends = (ends.0.took, ends.1)
+ends_of output sink new messages found (Err (Refused fault)) ends = (ends.0.took, ends.1)
+ends_of output sink new messages found (Err WriteFault) ends = broke_off output sink new messages ends
+ends_of output sink new messages found (Err Consistent) ends = absurd ends
+ends_of output sink new messages found (Err Defects) ends = absurd ends
+ends_of output sink new messages found (Err RootStop) ends = absurd ends
+ends_of output sink new messages found (Err (ReadFault sector)) ends = absurd ends
+ends_of output sink new messages found (Err NoMemory) ends = absurd ends
 
 -- what a report said went to its output
-pub opens_of : (image image' : Device) (sink : Sink) (new : Progress) (name : List ℕ) (sector : Option ℕ) (result : Result Super End) →
-    Opened image image' (begun sink) new name sector result → Opens image image' sink new.sink name sector result
-opens_of image image' sink new name sector result opened = record {
+pub opens_of : (image image' : Device) (output : GName) (sink : Sink) (new : Progress) (name : List ℕ) (sector : Option ℕ) (result : Result Super End) →
+    Opened image image' (starts output sink) new name sector result → Opens image image' sink new.sink name sector result
+opens_of image image' output sink new name sector result opened = record {
   found = opened.found;
   answers = opened.answers;
-  ends = ends_of sink new _ opened.found result opened.ends;
+  ends = ends_of output sink new _ opened.found result opened.ends;
 }

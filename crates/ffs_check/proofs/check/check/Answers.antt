@@ -7,14 +7,14 @@ use Rattle.ffs_check.proofs.check.check.Goals as goal
 pub returns-in-Err-clause-headline : goal.returns-in-Err-clause-headline
 returns-in-Err-clause-headline g c =
     headline_at _ _ _ _ _ (g.W.Output.sink c.say_opening.new.report.out.now) _ _ (search rules)
-    (opening_ends _ _ _ _ (g.W.Output.sink c.args.out.now) (progress g.W.Output.sink c.say_opening.new.report) c.in-Err.end
-    (rw c.new-report.ensures.start at c.in-Err.ensures.opened))
+    (opening_ends _ _ _ _ _ (g.W.Output.sink c.args.out.now) (progress g.W.Output.sink c.say_opening.new.report) c.in-Err.end
+    (rw c.new-report.ensures at c.in-Err.ensures.opened))
 
 pub returns-in-Ok-clause-headline : goal.returns-in-Ok-clause-headline
 returns-in-Ok-clause-headline g c =
     headline_at _ _ _ _ _ (g.W.Output.sink c.check_found.new.report.out.now) _ _ (search rules)
-    (found_ends _ _ _ _ _ (g.W.Output.sink c.args.out.now) (progress g.W.Output.sink c.say_opening.new.report) (progress g.W.Output.sink c.check_found.new.report) c.in-Ok.found _
-    (rw c.new-report.ensures.start at c.in-Ok.ensures.opened) c.check_found.ensures)
+    (found_ends _ _ _ _ _ _ (g.W.Output.sink c.args.out.now) (progress g.W.Output.sink c.say_opening.new.report) (progress g.W.Output.sink c.check_found.new.report) c.in-Ok.found _
+    (rw c.new-report.ensures at c.in-Ok.ensures.opened) c.check_found.ensures)
 
 pub returns-in-Ok-clause-unread : goal.returns-in-Ok-clause-unread
 returns-in-Ok-clause-unread g c at e = absurd (not_refused _ _ _ _ _ _ _ c.check_found.ensures e)

@@ -12,4 +12,4 @@ returns-clause-runs g c =
     let s = seen c.args.found.now in
     runs_at _ _ (λ bytes. text_lines bytes s) (λ bytes. goes_on (volume_of s.layout bytes)) _ _ _ (g.W.Output.sink c.run_rest.new.report.out.now) _ _ (search rules)
     (runs_through _ _ (c.opening_defects.ensures ∙ opening_defect s) _ (λ bytes. text_lines bytes s) (λ bytes. goes_on (volume_of s.layout bytes)) _ _
-    (g.W.Output.sink c.args.out.now) (progress g.W.Output.sink c.run_rest.new.report) _ (rw c.new-report.ensures.start at c.run_rest.ensures.ran))
+    _ (g.W.Output.sink c.args.out.now) (progress g.W.Output.sink c.run_rest.new.report) _ (rw c.new-report.ensures at c.run_rest.ensures.ran))
