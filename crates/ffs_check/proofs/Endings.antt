@@ -1,6 +1,6 @@
 -- How what the phases answered is told, and how a run so ends.
 use Rattle.std.specs.Prelude.{IfOk}
-use Rattle.std.proofs.Common.{◌≡◌, inl, inr, refl, ◌∙◌, sym, ap, subst, ℕ, Bool, true, false, not, ◌&&◌, ◌||◌, List, [], ◌∷◌, ◌++◌, append-nil, Option, Some, None, Result, Ok, Err}
+use Rattle.std.proofs.Common.{◌≡◌, inl, inr, refl, ◌∙◌, sym, ap, subst, ℕ, Bool, true, false, not, ◌&&◌, ◌||◌, List, [], ◌∷◌, ◌++◌, ◌<◌, length, append-nil, Option, Some, None, Result, Ok, Err}
 use Rattle.ffs_image.specs.Device.{Device, Faulted}
 use Rattle.ffs_volume.specs.declared.End.{End}
 use Rattle.ffs_volume.specs.declared.End.TheVariants.{WriteFault}
@@ -13,12 +13,12 @@ use Rattle.ffs_report.specs.Sink.{Sink}
 use Rattle.ffs_report.specs.Progress.{Progress, Said, Stopped, starts}
 use Rattle.ffs_report.proofs.Reports.{has_defect-append, said_then, stopped_after, stopped_more}
 use Rattle.ffs_phase.specs.Known.{Where, Tells}
-use Rattle.ffs_phase.specs.Runs.{Reads, TellsOf}
+use Rattle.ffs_phase.specs.Runs.{Reads}
 use Rattle.ffs_phase.specs.declared.fault.RunFault.{RunFault}
 use Rattle.ffs_phase.specs.declared.fault.RunFault.TheVariants.{Read, Out}
 use Rattle.ffs_pathnames.specs.declared.phase.Root.{Root}
 use Rattle.ffs_pathnames.specs.GoesOn.{is_go}
-use Rattle.ffs_check.specs.Ends.{IsCut, Ran, RunsThrough}
+use Rattle.ffs_check.specs.Ends.{IsCut, TellsBefore, Ran, RunsThrough}
 use Rattle.ffs_check.specs.Told.{FaultTold, EndsAs}
 use Rattle.ffs_check.proofs.Openings.{broke_off}
 
@@ -34,19 +34,20 @@ at_told_is told lines bytes e = rw e refl
 pub faulted_there : (image image' : Device) (sector : ℕ) → Faulted image image' sector → Faulted image image' image'.failed
 faulted_there image image' sector f = record { told = f.told; size = f.size; failed = refl; rose = f.rose }
 
-pub cut_there : (text front rest : List Message) (image image' : Device) (sector : ℕ) → Faulted image image' sector → front ++ rest ≡ text →
-    IsCut text (front ++ (cannot_read sector ∷ [])) image image' image'.failed
-cut_there text front rest image image' sector f e = record {
+pub cut_there : (knows : List ℕ → Type 0) (goes : List ℕ → Bool) (text front rest : List Message) (image image' : Device) (sector : ℕ) → Faulted image image' sector → front ++ rest ≡ text →
+    Where knows (λ bytes. goes bytes ≡ true → 0 < length rest) → IsCut knows goes text (front ++ (cannot_read sector ∷ [])) image image' image'.failed
+cut_there knows goes text front rest image image' sector f e more = record {
   faulted = faulted_there image image' sector f;
   front = front;
   rest = rest;
   whole = e;
+  more = more;
   line = ap (λ at. front ++ (cannot_read at ∷ [])) (sym f.failed);
 }
 
 module _ (before : Bool) (knows : List ℕ → Type 0) (lines : List ℕ → List Message) (goes : List ℕ → Bool) (image image' : Device) (tells : Where knows (Tells image.told)) (a b c : Progress) (end : End) where
   -- all was said
-  whole : (root : Root) → TellsOf knows lines a b (Ok root) → image' ≡ image → Where knows (λ bytes. is_go root ≡ goes bytes) → EndsAs before b c (Ok root) end → Ran before knows lines goes image image' a c end
+  whole : (root : Root) → TellsBefore knows goes lines a b (Ok root) → image' ≡ image → Where knows (λ bytes. is_go root ≡ goes bytes) → EndsAs before b c (Ok root) end → Ran before knows lines goes image image' a c end
   whole root p still went e = record {
     text = p.messages;
     right = λ bytes k. sym (append-nil p.messages) ∙ p.right bytes k;
@@ -54,25 +55,34 @@ module _ (before : Bool) (knows : List ℕ → Type 0) (lines : List ℕ → Lis
   }
 
   -- a read failed
-  cut : (sector : ℕ) (front : List Message) (rest : List ℕ → List Message) → Where knows (λ bytes. front ++ rest bytes ≡ lines bytes) → Said a b front → Faulted image image' sector →
+  cut : (sector : ℕ) (front : List Message) (rest : List ℕ → List Message) → Where knows (λ bytes. front ++ rest bytes ≡ lines bytes) →
+      Where knows (λ bytes. goes bytes ≡ true → 0 < length (rest bytes)) → Said a b front → Faulted image image' sector →
       FaultTold b c sector end → Ran before knows lines goes image image' a c end
-  cut sector front rest right said f (inl told) = record {
+  cut sector front rest right more said f (inl told) = record {
     text = front ++ at_told image.told rest;
     right = λ bytes k. ap (λ more. front ++ more) (at_told_is image.told rest bytes (tells bytes k)) ∙ right bytes k;
     ends = inr (inl (record {
       sector = sector;
       messages = front ++ (cannot_read sector ∷ []);
-      cut = record { faulted = f; front = front; rest = at_told image.told rest; whole = refl; line = refl };
+      cut = record {
+        faulted = f;
+        front = front;
+        rest = at_told image.told rest;
+        whole = refl;
+        more = λ bytes k go. rw (at_told_is image.told rest bytes (tells bytes k)) (more bytes k go);
+        line = refl;
+      };
       said = said_then a b c front (cannot_read sector ∷ []) said told.0;
       end_is = told.1;
     }));
   }
-  cut sector front rest right said f (inr untold) = record {
+  cut sector front rest right more said f (inr untold) = record {
     text = front ++ at_told image.told rest;
     right = λ bytes k. ap (λ more. front ++ more) (at_told_is image.told rest bytes (tells bytes k)) ∙ right bytes k;
     ends = inr (inr (record {
       messages = front ++ (cannot_read sector ∷ []);
-      would = inr (cut_there _ front (at_told image.told rest) image image' sector f refl);
+      would = inr (cut_there knows goes _ front (at_told image.told rest) image image' sector f refl
+          (λ bytes k go. rw (at_told_is image.told rest bytes (tells bytes k)) (more bytes k go)));
       stopped = stopped_after a b c front (cannot_read sector ∷ []) said untold.0;
       end_is = untold.1;
     }));
@@ -92,10 +102,10 @@ module _ (before : Bool) (knows : List ℕ → Type 0) (lines : List ℕ → Lis
     }));
   }
 
-  pub ran : (r : Result Root RunFault) → TellsOf knows lines a b r → Reads image image' r → IfOk r (λ root. Where knows (λ bytes. is_go root ≡ goes bytes)) → EndsAs before b c r end →
+  pub ran : (r : Result Root RunFault) → TellsBefore knows goes lines a b r → Reads image image' r → IfOk r (λ root. Where knows (λ bytes. is_go root ≡ goes bytes)) → EndsAs before b c r end →
       Ran before knows lines goes image image' a c end
   ran (Ok root) p still went e = whole root p still went e
-  ran (Err (Read fault)) p f went e = cut fault.sector p.front.messages p.rest p.front.right p.front.said f e
+  ran (Err (Read fault)) p f went e = cut fault.sector p.front.messages p.rest p.front.right p.more p.front.said f e
   ran (Err (Out fault)) p still went e = part p.messages p.rest p.right p.stopped still e.0 e.1
 
 -- what a report said that had just begun went to its output
@@ -121,6 +131,17 @@ runs_through before told e knows lines goes image image' output sink new end ran
 }
 
 -- where more is known
+cut_knows : (knows known : List ℕ → Type 0) (goes : List ℕ → Bool) (text messages : List Message) (image image' : Device) (sector : ℕ) → Where knows known →
+    IsCut known goes text messages image image' sector → IsCut knows goes text messages image image' sector
+cut_knows knows known goes text messages image image' sector more c = record {
+  faulted = c.faulted;
+  front = c.front;
+  rest = c.rest;
+  whole = c.whole;
+  more = λ bytes k. c.more bytes (more bytes k);
+  line = c.line;
+}
+
 pub ran_knows : (before : Bool) (knows known : List ℕ → Type 0) (lines : List ℕ → List Message) (goes : List ℕ → Bool) (image image' : Device) (a b : Progress) (end : End) → Where knows known →
     Ran before known lines goes image image' a b end → Ran before knows lines goes image image' a b end
 ran_knows before knows known lines goes image image' a b end more ran = record {
@@ -128,7 +149,15 @@ ran_knows before knows known lines goes image image' a b end more ran = record {
   right = λ bytes k. ran.right bytes (more bytes k);
   ends = elim ran.ends [
     | inl all ↦ inl (record { unread = all.unread; said = all.said; on = all.on; went = λ bytes k. all.went bytes (more bytes k); end_is = all.end_is })
-    | inr rest ↦ inr rest
+    | inr rest ↦ inr (elim rest [
+      | inl short ↦ inl (record { sector = short.sector; messages = short.messages; cut = cut_knows knows known goes _ _ _ _ _ more short.cut; said = short.said; end_is = short.end_is })
+      | inr part ↦ inr (record {
+        messages = part.messages;
+        would = elim part.would [ inl all ↦ inl all | inr short ↦ inr (cut_knows knows known goes _ _ _ _ _ more short) ];
+        stopped = part.stopped;
+        end_is = part.end_is;
+      })
+    ])
   ];
 }
 

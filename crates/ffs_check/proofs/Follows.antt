@@ -73,7 +73,7 @@ module _ (image : Device) (name : List ℕ) (sector : Option ℕ) (output : GNam
           });
         }
 
-    cut : SaidCut text image image' p new end → Headline image image' name sector sink new.sink end
+    cut : SaidCut (Tells image.told) (λ bytes. goes_on (volume_of s.layout bytes)) text image image' p new end → Headline image image' name sector sink new.sink end
     cut short =
         let at = short.sector in
         let here = short.cut.faulted.failed in
@@ -90,6 +90,7 @@ module _ (image : Device) (name : List ℕ) (sector : Option ℕ) (output : GNam
               front = short.cut.front;
               rest = short.cut.rest;
               whole = ap (λ xs. opened_lines name sector s ++ xs) short.cut.whole;
+              more = short.cut.more;
               lines = refl;
             };
             took = (said_then (starts output sink) p new (opened_lines name sector s) _ opened (subst (Said p new) line short.said)).took;
@@ -97,7 +98,7 @@ module _ (image : Device) (name : List ℕ) (sector : Option ℕ) (output : GNam
           })));
         }
 
-    part : SaidPart text image image' p new end → Headline image image' name sector sink new.sink end
+    part : SaidPart (Tells image.told) (λ bytes. goes_on (volume_of s.layout bytes)) text image image' p new end → Headline image image' name sector sink new.sink end
     part stop = record {
       text = opened_lines name sector s ++ text;
       is_report = report;
@@ -112,6 +113,7 @@ module _ (image : Device) (name : List ℕ) (sector : Option ℕ) (output : GNam
             front = short.front;
             rest = short.rest;
             whole = ap (λ xs. opened_lines name sector s ++ xs) short.whole;
+            more = short.more;
             lines = ap (λ xs. opened_lines name sector s ++ xs) short.line;
           })))
         ];

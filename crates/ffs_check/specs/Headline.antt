@@ -1,5 +1,5 @@
 -- The headline: what a check of an image prints, and how it ends.
-use Rattle.std.specs.Prelude.{◌≡◌, ◌⊎◌, ◌↔◌, ℕ, Bool, true, false, List, [], ◌∷◌, ◌++◌, Option, Ok}
+use Rattle.std.specs.Prelude.{◌≡◌, ◌⊎◌, ◌↔◌, ◌<◌, ℕ, Bool, true, false, List, [], ◌∷◌, ◌++◌, length, Option, Ok}
 use Rattle.ffs_image.specs.Device.{Device, Faulted, WhereTold}
 use Rattle.ffs_volume.specs.declared.SuperFault.TheVariants.{CannotRead}
 use Rattle.ffs_volume.specs.declared.End.{End}
@@ -9,8 +9,10 @@ use Rattle.ffs_volume.specs.Outcome.{outcome}
 use Rattle.ffs_volume.specs.Consistent.{IsConsistent}
 use Rattle.ffs_volume.specs.Messages.{Message, cannot_read, cannot_alloc, has_defect}
 use Rattle.ffs_volume.specs.Opening.{head_lines, super_lines}
+use Rattle.ffs_volume.specs.PathnameCheck.{goes_on}
 use Rattle.ffs_volume.specs.Report.{report_of, report_end}
 use Rattle.ffs_volume.specs.Texts.{texts_of}
+use Rattle.ffs_volume.specs.Volumes.{volume_of}
 use Rattle.ffs_report.specs.Sink.{Sink, Took, BrokeOff}
 use Rattle.ffs_layout.specs.Super.{IsSuperSector}
 
@@ -55,7 +57,7 @@ pub record CutAtSuper (image image' : Device) (name : List ℕ) (sector : Option
   pub end_is : end ≡ Refused (CannotRead image'.failed)
 
 -- what is said where a later read failed: whole messages of the report, through the mount line at least, and then the line of
--- the fault
+-- the fault. Where the run goes on after the root, messages are missing: the summary at least, which reads nothing
 pub record IsCutBehind (image image' : Device) (name : List ℕ) (sector : Option ℕ) (text messages : List Message) : Type 0 where
   pub faulted : Faulted image image' image'.failed
   pub found : Superblock
@@ -63,6 +65,7 @@ pub record IsCutBehind (image image' : Device) (name : List ℕ) (sector : Optio
   pub front : List Message
   pub rest : List Message
   pub whole : opened_lines name sector found ++ (front ++ rest) ≡ text
+  pub more : WhereTold image.told (λ bytes. goes_on (volume_of found.layout bytes) ≡ true → 0 < length rest)
   pub lines : messages ≡ opened_lines name sector found ++ (front ++ (cannot_read image'.failed ∷ []))
 
 -- a later read failed

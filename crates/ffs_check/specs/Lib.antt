@@ -1,4 +1,5 @@
 pub mod Ends
+pub mod Failures
 pub mod Found
 pub mod Headline
 pub mod Opening

@@ -1,5 +1,6 @@
 use Rattle.std.proofs.Common.{rules}
 use Rattle.ffs_report.specs.Progress.{progress}
+use Rattle.ffs_check.proofs.Counting.{reads_failed, writes_failed}
 use Rattle.ffs_check.proofs.Follows.{found_ends, not_refused}
 use Rattle.ffs_check.proofs.Headlines.{opening_ends, headline_at}
 use Rattle.ffs_check.proofs.check.check.Goals as goal
@@ -18,3 +19,15 @@ returns-in-Ok-clause-headline g c =
 
 pub returns-in-Ok-clause-unread : goal.returns-in-Ok-clause-unread
 returns-in-Ok-clause-unread g c at e = absurd (not_refused _ _ _ _ _ _ _ c.check_found.ensures e)
+
+pub returns-in-Err-clause-reads : goal.returns-in-Err-clause-reads
+returns-in-Err-clause-reads g c = reads_failed _ _ _ _ _ _ _ (returns-in-Err-clause-headline g c)
+
+pub returns-in-Err-clause-writes : goal.returns-in-Err-clause-writes
+returns-in-Err-clause-writes g c = writes_failed _ _ _ _ _ _ _ (returns-in-Err-clause-headline g c)
+
+pub returns-in-Ok-clause-reads : goal.returns-in-Ok-clause-reads
+returns-in-Ok-clause-reads g c = reads_failed _ _ _ _ _ _ _ (returns-in-Ok-clause-headline g c)
+
+pub returns-in-Ok-clause-writes : goal.returns-in-Ok-clause-writes
+returns-in-Ok-clause-writes g c = writes_failed _ _ _ _ _ _ _ (returns-in-Ok-clause-headline g c)

@@ -1,0 +1,25 @@
+-- How many reads and writes failed in a check, by its end: none, or one.
+use Rattle.std.specs.Prelude.{◌≡◌, ◌⊎◌, ℕ}
+use Rattle.ffs_image.specs.Device.{Rose}
+use Rattle.ffs_volume.specs.declared.End.{End}
+use Rattle.ffs_volume.specs.declared.End.TheVariants.{Consistent, Defects, Refused, RootStop, ReadFault, WriteFault, NoMemory}
+
+-- of the counts of failed reads before and after
+abbrev pub ReadsFailed : End → ℕ → ℕ → Type 0
+ReadsFailed Consistent old new = new ≡ old
+ReadsFailed Defects old new = new ≡ old
+ReadsFailed RootStop old new = new ≡ old
+ReadsFailed NoMemory old new = new ≡ old
+ReadsFailed (Refused fault) old new = (new ≡ old) ⊎ Rose old new
+ReadsFailed (ReadFault sector) old new = Rose old new
+ReadsFailed WriteFault old new = (new ≡ old) ⊎ Rose old new
+
+-- of the counts of failed writes before and after
+abbrev pub WritesFailed : End → ℕ → ℕ → Type 0
+WritesFailed Consistent old new = new ≡ old
+WritesFailed Defects old new = new ≡ old
+WritesFailed RootStop old new = new ≡ old
+WritesFailed NoMemory old new = new ≡ old
+WritesFailed (Refused fault) old new = new ≡ old
+WritesFailed (ReadFault sector) old new = new ≡ old
+WritesFailed WriteFault old new = Rose old new
