@@ -6,6 +6,7 @@ mod groups;
 mod image;
 mod layout;
 mod maps;
+mod memory;
 mod names;
 mod pathnames;
 mod paths;

@@ -62,7 +62,7 @@ fn put_super(order: Order, bytes: &mut [u8], at: usize) {
 }
 
 // An image whose last copy stands at byte 16,384.
-fn base(order: Order, alloc: Global) -> Result<Vec<u8>, AllocError> {
+pub fn base(order: Order, alloc: Global) -> Result<Vec<u8>, AllocError> {
     let mut bytes = vec![in alloc; 0u8; 131072]?;
     put_super(order, bytes.as_mut_slice(), 8192);
     put_super(order, bytes.as_mut_slice(), 16384);
