@@ -5,5 +5,6 @@ pub mod Headline
 pub mod Opening
 pub mod Rest
 pub mod Run
+pub mod Taken
 pub mod Told
 pub mod Words

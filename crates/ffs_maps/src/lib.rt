@@ -4,7 +4,9 @@
 ghost use Rattle.std.specs.Prelude.{ℕ, nat_eq, ◌≡◌, ◌+◌, ◌*◌, ◌%◌, ◌<◌, ◌≤◌, ◌-◌, vec_len, length, IfOk, IsTrue, true, false, slice_set, replicate, count_by};
 ghost use Rattle.std.specs.List.{slice_index_or, range_with_len};
 ghost use Rattle.std.specs.Int.{div_ceil, bit_at};
+ghost use Rattle.ffs_memory.specs.Account.{Asks};
 
+use ffs_memory::{Memory, SystemMemory};
 use std::alloc::{AllocError, Global};
 
 /// A bit for each fragment, in words of 64.
@@ -19,12 +21,21 @@ pub struct FragmentMap {
 impl FragmentMap {
     ghost use Rattle.ffs_maps.specs.Bits.{bits_of, set_run, is_clear, AreClear};
 
-    /// A map with no bit set.
+    /// A map with no bit set, in the memory of an allocator.
     pub fn new(alloc: Global, size: u32) -> Result<FragmentMap, AllocError>
         ensures size { IfOk result (λ m. m.size ≡ size) }
         ensures bits { IfOk result (λ m. bits_of m ≡ replicate size false) }
     {
-        let words = vec![in alloc; 0u64; size.div_ceil(64) as usize]?;
+        FragmentMap::in_memory(&mut SystemMemory::new(alloc), size)
+    }
+
+    /// A map with no bit set.
+    pub fn in_memory<M: Memory>(memory: &mut M, size: u32) -> Result<FragmentMap, AllocError>
+        ensures size { IfOk result (λ m. m.size ≡ size) }
+        ensures bits { IfOk result (λ m. bits_of m ≡ replicate size false) }
+        ensures asks { Asks (M.account memory.old) (M.account memory.new) (8 * div_ceil size 64) result }
+    {
+        let words = memory.long_words(size.div_ceil(64) as usize)?;
         Ok(FragmentMap { words, size })
     }
 

@@ -19,6 +19,8 @@ mod layout;
 #[cfg(test)]
 mod maps;
 #[cfg(test)]
+mod memory;
+#[cfg(test)]
 mod names;
 #[cfg(test)]
 mod pathnames;

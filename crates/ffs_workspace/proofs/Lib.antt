@@ -1,3 +1,4 @@
 pub mod KindLaws
 pub mod Places
 pub mod Leaving
+mod Requests

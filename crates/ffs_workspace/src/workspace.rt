@@ -3,11 +3,13 @@
 ghost use Rattle.std.specs.Prelude.{◌≡◌, ◌+◌, ◌*◌, ◌≤◌, ◌==◌, not, ℕ, List, [], ◌∷◌, vec_len, IfOk, Option, replicate, false};
 ghost use Rattle.ffs_layout.specs.declared.geometry.Geometry.{Geometry};
 ghost use Rattle.ffs_volume.specs.declared.Layout.{Layout};
+ghost use Rattle.ffs_memory.specs.Account.{Asks};
 ghost use Rattle.ffs_volume.specs.Memory.{held_limit};
 
 use crate::table::Table;
 use ffs_layout::Geometry;
 use ffs_maps::FragmentMap;
+use ffs_memory::{Memory, SystemMemory};
 use ffs_walk::{Blocks, Window};
 use std::alloc::{AllocError, Global};
 
@@ -65,33 +67,59 @@ impl Workspace {
     ghost use Rattle.ffs_workspace.specs.Holds.{IsFresh};
     ghost use Rattle.ffs_workspace.specs.Lengths.{IsFor, HoldWindows, held_of};
 
-    /// Takes all memory of a check of the volume, and holds nothing yet. After an `Err` nothing is taken.
+    /// Takes all memory of a check of the volume from an allocator, and holds nothing yet. After an `Err` nothing is taken.
     pub fn new(alloc: Global, geometry: &Geometry) -> Result<Workspace, AllocError>
         ensures made { IfOk result (λ w. IsFor geometry.now.layout w) }
         ensures fresh { IfOk result (λ w. IsFresh geometry.now.layout w) }
+        ensures runs_seen { IfOk result (λ w. w.runs_seen ≡ 0) }
+        ensures runs_again { IfOk result (λ w. w.runs_again ≡ 0) }
         ensures windows { (told : Option (List ℕ)) → IfOk result (λ w. HoldWindows geometry.now.layout told w) }
     {
+        Workspace::in_memory(&mut SystemMemory::new(alloc), geometry)
+    }
+
+    /// Takes all memory of a check of the volume, and holds nothing yet. After an `Err` nothing is held.
+    pub fn in_memory<M: Memory>(
+        memory: &mut M,
+        geometry: &Geometry,
+    ) -> Result<Workspace, AllocError>
+        ensures made { IfOk result (λ w. IsFor geometry.now.layout w) }
+        ensures fresh { IfOk result (λ w. IsFresh geometry.now.layout w) }
+        ensures runs_seen { IfOk result (λ w. w.runs_seen ≡ 0) }
+        ensures runs_again { IfOk result (λ w. w.runs_again ≡ 0) }
+        ensures windows { (told : Option (List ℕ)) → IfOk result (λ w. HoldWindows geometry.now.layout told w) }
+
+        // What it holds was granted and no byte more, or a request was refused.
+        ensures asks { Asks (M.account memory.old) (M.account memory.new) (held_of geometry.now.layout) result }
+    {
         let inodes = geometry.layout.ncg as usize * geometry.layout.ipg as usize;
+        let claimed = FragmentMap::in_memory(memory, geometry.layout.size)?;
+        let doubled = FragmentMap::in_memory(memory, geometry.layout.size)?;
+        let kinds = memory.bytes(inodes)?;
+        let (marked, named, reached, leaders) = four_flags(memory, inodes)?;
+        let references = memory.long_words(inodes)?;
+        let (cut, parents, queue) = three_words(memory, inodes)?;
+        let windows = Windows::in_memory(memory, geometry)?;
         Ok(Workspace {
-            claimed: FragmentMap::new(alloc, geometry.layout.size)?,
-            doubled: FragmentMap::new(alloc, geometry.layout.size)?,
+            claimed,
+            doubled,
             untold: 0,
-            kinds: bytes_of(alloc, inodes)?,
-            marked: flags_of(alloc, inodes)?,
-            named: flags_of(alloc, inodes)?,
-            reached: flags_of(alloc, inodes)?,
-            leaders: flags_of(alloc, inodes)?,
-            references: vec![in alloc; 0u64; inodes]?,
-            cut: words_of(alloc, inodes)?,
-            parents: words_of(alloc, inodes)?,
-            queue: words_of(alloc, inodes)?,
+            kinds,
+            marked,
+            named,
+            reached,
+            leaders,
+            references,
+            cut,
+            parents,
+            queue,
             runs_seen: 0,
             runs_again: 0,
             bad: 0,
             dups: 0,
             kept: 0,
             tail: false,
-            windows: Windows::new(alloc, geometry)?,
+            windows,
         })
     }
 
@@ -133,20 +161,21 @@ impl Workspace {
 impl Windows {
     ghost use Rattle.ffs_walk.specs.Windows.{WindowHolds, BlocksHold};
 
-    fn new(alloc: Global, geometry: &Geometry) -> Result<Windows, AllocError>
+    fn in_memory<M: Memory>(memory: &mut M, geometry: &Geometry) -> Result<Windows, AllocError>
         ensures table { IfOk result (λ w. vec_len w.table.window.buffer ≡ geometry.now.layout.bsize) }
         ensures blocks { IfOk result (λ w. vec_len w.blocks.buffer ≡ 3 * geometry.now.layout.bsize) }
         ensures chunk { IfOk result (λ w. vec_len w.chunk.buffer ≡ geometry.now.layout.bsize) }
         ensures table_holds { (told : Option (List ℕ)) → IfOk result (λ w. WindowHolds told w.table.window) }
         ensures blocks_hold { (told : Option (List ℕ)) → IfOk result (λ w. BlocksHold geometry.now.layout told w.blocks) }
         ensures chunk_holds { (told : Option (List ℕ)) → IfOk result (λ w. WindowHolds told w.chunk) }
+        ensures asks { Asks (M.account memory.old) (M.account memory.new) (5 * geometry.now.layout.bsize) result }
     {
         let size = geometry.layout.bsize as usize;
         let table = Table {
-            window: Window::over(bytes_of(alloc, size)?),
+            window: Window::over(memory.bytes(size)?),
         };
-        let blocks = Blocks::over(bytes_of(alloc, 3 * size)?);
-        let chunk = Window::over(bytes_of(alloc, size)?);
+        let blocks = Blocks::over(memory.bytes(3 * size)?);
+        let chunk = Window::over(memory.bytes(size)?);
         Ok(Windows {
             table,
             blocks,
@@ -155,23 +184,31 @@ impl Windows {
     }
 }
 
-fn bytes_of(alloc: Global, n: usize) -> Result<Vec<u8>, AllocError>
-    ensures items { IfOk result (λ v. v.items ≡ replicate n 0) }
-    ensures len { IfOk result (λ v. vec_len v ≡ n) }
+// Four lists with a flag for each inode.
+type Flags = (Vec<bool>, Vec<bool>, Vec<bool>, Vec<bool>);
+
+fn four_flags<M: Memory>(memory: &mut M, n: usize) -> Result<Flags, AllocError>
+    ensures first { IfOk result (λ p. p.0.items ≡ replicate n false) }
+    ensures lens { IfOk result (λ p. (vec_len p.0 ≡ n) × (vec_len p.1 ≡ n) × (vec_len p.2 ≡ n) × (vec_len p.3 ≡ n)) }
+    ensures asks { Asks (M.account memory.old) (M.account memory.new) (4 * n) result }
 {
-    vec![in alloc; 0u8; n]
+    let first = memory.flags(n)?;
+    let second = memory.flags(n)?;
+    let third = memory.flags(n)?;
+    let fourth = memory.flags(n)?;
+    Ok((first, second, third, fourth))
 }
 
-fn flags_of(alloc: Global, n: usize) -> Result<Vec<bool>, AllocError>
-    ensures items { IfOk result (λ v. v.items ≡ replicate n false) }
-    ensures len { IfOk result (λ v. vec_len v ≡ n) }
-{
-    vec![in alloc; false; n]
-}
+// Three lists with a word for each inode.
+type Words = (Vec<u32>, Vec<u32>, Vec<u32>);
 
-fn words_of(alloc: Global, n: usize) -> Result<Vec<u32>, AllocError>
-    ensures items { IfOk result (λ v. v.items ≡ replicate n 0) }
-    ensures len { IfOk result (λ v. vec_len v ≡ n) }
+fn three_words<M: Memory>(memory: &mut M, n: usize) -> Result<Words, AllocError>
+    ensures first { IfOk result (λ p. p.0.items ≡ replicate n 0) }
+    ensures lens { IfOk result (λ p. (vec_len p.0 ≡ n) × (vec_len p.1 ≡ n) × (vec_len p.2 ≡ n)) }
+    ensures asks { Asks (M.account memory.old) (M.account memory.new) (12 * n) result }
 {
-    vec![in alloc; 0u32; n]
+    let first = memory.words(n)?;
+    let second = memory.words(n)?;
+    let third = memory.words(n)?;
+    Ok((first, second, third))
 }

@@ -1,9 +1,10 @@
-use Rattle.std.proofs.Common.{rules}
+use Rattle.std.proofs.Common.{rules, inl, inr, refl}
 use Rattle.ffs_report.specs.Progress.{progress}
 use Rattle.ffs_check.proofs.Counting.{reads_failed, writes_failed}
 use Rattle.ffs_check.proofs.Follows.{found_ends, not_refused}
 use Rattle.ffs_check.proofs.Headlines.{opening_ends, headline_at}
-use Rattle.ffs_check.proofs.check.check.Goals as goal
+use Rattle.ffs_check.proofs.Taken.{takes, opened_for_memory}
+use Rattle.ffs_check.proofs.check.check_in.Goals as goal
 
 pub returns-in-Err-clause-headline : goal.returns-in-Err-clause-headline
 returns-in-Err-clause-headline g c =
@@ -15,10 +16,10 @@ pub returns-in-Ok-clause-headline : goal.returns-in-Ok-clause-headline
 returns-in-Ok-clause-headline g c =
     headline_at _ _ _ _ _ (g.W.Output.sink c.check_found.new.report.out.now) _ _ (search rules)
     (found_ends _ _ _ _ _ _ (g.W.Output.sink c.args.out.now) (progress g.W.Output.sink c.say_opening.new.report) (progress g.W.Output.sink c.check_found.new.report) c.in-Ok.found _
-    (rw c.new-report.ensures at c.in-Ok.ensures.opened) c.check_found.ensures)
+    (rw c.new-report.ensures at c.in-Ok.ensures.opened) c.check_found.ensures.followed)
 
 pub returns-in-Ok-clause-unread : goal.returns-in-Ok-clause-unread
-returns-in-Ok-clause-unread g c at e = absurd (not_refused _ _ _ _ _ _ _ c.check_found.ensures e)
+returns-in-Ok-clause-unread g c at e = absurd (not_refused _ _ _ _ _ _ _ c.check_found.ensures.followed e)
 
 pub returns-in-Err-clause-reads : goal.returns-in-Err-clause-reads
 returns-in-Err-clause-reads g c = reads_failed _ _ _ _ _ _ _ (returns-in-Err-clause-headline g c)
@@ -31,3 +32,12 @@ returns-in-Ok-clause-reads g c = reads_failed _ _ _ _ _ _ _ (returns-in-Ok-claus
 
 pub returns-in-Ok-clause-writes : goal.returns-in-Ok-clause-writes
 returns-in-Ok-clause-writes g c = writes_failed _ _ _ _ _ _ _ (returns-in-Ok-clause-headline g c)
+
+pub returns-in-Ok-clause-memory : goal.returns-in-Ok-clause-memory
+returns-in-Ok-clause-memory g c = inr (takes _ _ _ _ _ _ c.in-Ok.found _ _ c.in-Ok.ensures.opened c.check_found.ensures.asked)
+
+pub returns-in-Err-clause-memory : goal.returns-in-Err-clause-memory
+returns-in-Err-clause-memory g c = inl refl
+
+pub returns-in-Err-clause-refused : goal.returns-in-Err-clause-refused
+returns-in-Err-clause-refused g c e = absurd (opened_for_memory _ _ _ _ _ _ _ c.in-Err.ensures.opened e)

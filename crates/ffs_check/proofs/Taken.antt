@@ -1,0 +1,51 @@
+-- What a check takes of its memory, behind an accepted superblock.
+use Rattle.std.proofs.Common.{◌≡◌, arith, inl, inr, ◌∙◌, sym, subst, ℕ, Bool, true, false, List, Option, Ok, Err}
+use Rattle.ffs_image.specs.Device.{Device, WhereTold}
+use Rattle.ffs_memory.specs.Account.{Account}
+use Rattle.ffs_volume.specs.declared.End.{End}
+use Rattle.ffs_volume.specs.declared.End.TheVariants.{Consistent, Defects, RootStop, ReadFault, WriteFault, NoMemory}
+use Rattle.ffs_volume.specs.Messages.{Message}
+use Rattle.ffs_volume.specs.Opening.{opening_lines}
+use Rattle.ffs_volume.specs.Outcome.{outcome}
+use Rattle.ffs_volume.specs.Report.{end_by}
+use Rattle.ffs_volume.specs.Superblock.{Superblock}
+use Rattle.ffs_report.specs.Progress.{Progress}
+use Rattle.ffs_layout.specs.declared.superblock.Super.{Super}
+use Rattle.ffs_layout.specs.Super.{Answers, seen}
+use Rattle.ffs_workspace.specs.Lengths.{held_of}
+use Rattle.ffs_check.specs.Ends.{Ran}
+use Rattle.ffs_check.specs.Opening.{Opened, OpeningSays}
+use Rattle.ffs_check.specs.Taken.{Asked, TakesWorkspace}
+
+accepted_by : (image image' : Device) (sector : Option ℕ) (s : Superblock) → Answers image image' sector (Ok s) → WhereTold image.told (λ bytes. outcome bytes sector ≡ Ok s)
+accepted_by image image' sector s (inl unread) = absurd unread.0.0
+accepted_by image image' sector s (inr read) = λ bytes t. sym (read.1 bytes t)
+
+pub takes : (image on : Device) (name : List ℕ) (sector : Option ℕ) (start p : Progress) (found : Super) (old new : Account) →
+    Opened image on start p name sector (Ok found) → Asked old new (held_of found.geometry.layout) → TakesWorkspace image sector old new
+takes image on name sector start p found old new o a = record {
+  found = seen found;
+  accepted = accepted_by image on sector (seen found) (subst (λ r. Answers image on sector r) o.ends.1 o.answers);
+  asked = a;
+  within = omega arith;
+}
+
+not_by : (on defect : Bool) → end_by on defect ≡ NoMemory → ⊥
+not_by true true e = (let w : Defects ≡ NoMemory = e in cc)
+not_by true false e = (let w : Consistent ≡ NoMemory = e in cc)
+not_by false defect e = (let w : RootStop ≡ NoMemory = e in cc)
+
+-- phases that have run don't end for want of memory
+pub not_for_memory : (knows : List ℕ → Type 0) (lines : List ℕ → List Message) (goes : List ℕ → Bool) (image image' : Device) (old new : Progress) (end : End) →
+    Ran false knows lines goes image image' old new end → end ≡ NoMemory → ⊥
+not_for_memory knows lines goes image image' old new end ran e = elim ran.ends [
+  | inl all ↦ not_by all.on new.defect (sym all.end_is ∙ e)
+  | inr rest ↦ elim rest [
+    | inl short ↦ (let w : ReadFault short.sector ≡ NoMemory = sym short.end_is ∙ e in cc)
+    | inr stop ↦ (let w : WriteFault ≡ NoMemory = sym stop.end_is ∙ e in cc)
+  ]
+]
+
+-- nor does an opening
+pub opened_for_memory : (image on : Device) (old new : Progress) (name : List ℕ) (sector : Option ℕ) (end : End) → Opened image on old new name sector (Err end) → end ≡ NoMemory → ⊥
+opened_for_memory image on old new name sector end o e = subst (λ (x : End). OpeningSays old new (opening_lines name sector o.found) o.found (Err x)) e o.ends

@@ -1,7 +1,0 @@
-use Rattle.std.proofs.Common.{ap, ◌∙◌}
-use Rattle.ffs_maps.specs.Bits.{bits_of_words}
-use Rattle.ffs_maps.proofs.Bits.{zero_bits}
-use Rattle.ffs_maps.proofs.FragmentMap.new.Goals as goal
-
-pub returns-clause-bits : goal.returns-clause-bits
-returns-clause-bits c = ap (λ xs. bits_of_words xs c.args.size) (c.in_ok-words.ensures.items_if_clones_equal (λ y e. e)) ∙ zero_bits _ c.args.size

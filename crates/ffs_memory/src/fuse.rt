@@ -1,0 +1,88 @@
+// A memory that refuses a request where it is told to.
+ghost use Rattle.std.specs.Prelude.{◌≡◌, ◌+◌, ◌-◌, ◌^◌, min, if◌then◌else◌};
+ghost use Rattle.ffs_memory.specs.Fuse.{is_blown, left_after};
+
+use crate::memory::Memory;
+use std::alloc::AllocError;
+
+/// A memory that passes requests on to another one, and refuses one of them: for tests of what a refusal leaves.
+#[derive(Drop)]
+pub struct FuseMemory<M> {
+    inner: M,
+    /// How many requests are left, the one that is refused among them.
+    left: u64,
+    own: u64,
+}
+
+impl<M: Memory> FuseMemory<M> {
+    /// Refuses the k-th request from now on, from 1, and no other.
+    pub fn nth(inner: M, k: u64) -> FuseMemory<M>
+        ensures inner { result.inner ≡ inner }
+        ensures left { result.left ≡ k }
+        ensures account { ⟦<FuseMemory<M> as Memory>⟧.account result ≡ M.account inner }
+    {
+        let _bounded = inner.refused();
+        FuseMemory {
+            inner,
+            left: k,
+            own: 0,
+        }
+    }
+
+    // Counts a request: whether it is the one to be refused, which is counted too.
+    fn blows(&mut self) -> bool
+        ensures value { result ≡ is_blown self.old.left }
+        ensures left { self.new.left ≡ left_after self.old.left }
+        ensures own { self.new.own ≡ (if result then min (self.old.own + 1) (2 ^ 64 - 1) else self.old.own) }
+        ensures inner { self.new.inner ≡ self.old.inner }
+    {
+        let is_last = self.left == 1;
+        self.left = self.left.saturating_sub(1);
+        if is_last {
+            self.own = self.own.saturating_add(1);
+        }
+        is_last
+    }
+}
+
+impl<M: Memory> Memory for FuseMemory<M> {
+    ghost use Rattle.std.specs.Prelude.{◌+◌, min, ◌-◌, ◌^◌};
+
+    ghost account = { λ f. let a = M.account f.inner in record a { refused = min (a.refused + f.own) (2 ^ 64 - 1) } };
+
+    fn granted(&self) -> u64 {
+        self.inner.granted()
+    }
+
+    fn refused(&self) -> u64 {
+        self.inner.refused().saturating_add(self.own)
+    }
+
+    fn bytes(&mut self, n: usize) -> Result<Vec<u8>, AllocError> {
+        if self.blows() {
+            return Err(AllocError);
+        }
+        self.inner.bytes(n)
+    }
+
+    fn flags(&mut self, n: usize) -> Result<Vec<bool>, AllocError> {
+        if self.blows() {
+            return Err(AllocError);
+        }
+        self.inner.flags(n)
+    }
+
+    fn words(&mut self, n: usize) -> Result<Vec<u32>, AllocError> {
+        if self.blows() {
+            return Err(AllocError);
+        }
+        self.inner.words(n)
+    }
+
+    fn long_words(&mut self, n: usize) -> Result<Vec<u64>, AllocError> {
+        if self.blows() {
+            return Err(AllocError);
+        }
+        self.inner.long_words(n)
+    }
+}

@@ -1,0 +1,10 @@
+//! The memory of a check: what grants it, and what counts it.
+#![tactic(auto)]
+
+pub mod fuse;
+pub mod memory;
+pub mod system;
+
+pub use fuse::FuseMemory;
+pub use memory::Memory;
+pub use system::SystemMemory;

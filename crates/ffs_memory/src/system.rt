@@ -1,0 +1,101 @@
+// The memory of the system.
+ghost use Rattle.std.specs.Prelude.{◌≡◌, ◌+◌, ◌-◌, ◌^◌, min};
+ghost use Rattle.ffs_memory.specs.Account.{Rose};
+
+use crate::memory::Memory;
+use std::alloc::{AllocError, Global};
+
+/// The memory of an allocator.
+#[derive(Drop)]
+pub struct SystemMemory {
+    alloc: Global,
+    granted: u64,
+    refused: u64,
+}
+
+impl SystemMemory {
+    /// The memory of this allocator, of which nothing was granted or refused yet.
+    pub fn new(alloc: Global) -> SystemMemory
+        ensures granted { result.granted ≡ 0 }
+        ensures refused { result.refused ≡ 0 }
+    {
+        SystemMemory {
+            alloc,
+            granted: 0,
+            refused: 0,
+        }
+    }
+
+    // Counts a request of so many bytes that was granted.
+    fn grant(&mut self, bytes: u64)
+        ensures granted { self.new.granted ≡ min (self.old.granted + bytes) (2 ^ 64 - 1) }
+        ensures refused { self.new.refused ≡ self.old.refused }
+    {
+        self.granted = self.granted.saturating_add(bytes);
+    }
+
+    // Counts a request that was refused.
+    fn refuse(&mut self, fault: AllocError) -> AllocError
+        ensures granted { self.new.granted ≡ self.old.granted }
+        ensures refused { Rose self.old.refused self.new.refused }
+    {
+        self.refused = self.refused.saturating_add(1);
+        fault
+    }
+}
+
+impl Memory for SystemMemory {
+    ghost account = { λ m. record { granted = m.granted; refused = m.refused } };
+
+    fn granted(&self) -> u64 {
+        self.granted
+    }
+
+    fn refused(&self) -> u64 {
+        self.refused
+    }
+
+    fn bytes(&mut self, n: usize) -> Result<Vec<u8>, AllocError> {
+        let made: Result<Vec<u8>, AllocError> = vec![in self.alloc; 0u8; n];
+        match made {
+            Ok(items) => {
+                self.grant(n as u64);
+                Ok(items)
+            }
+            Err(fault) => Err(self.refuse(fault)),
+        }
+    }
+
+    fn flags(&mut self, n: usize) -> Result<Vec<bool>, AllocError> {
+        let made: Result<Vec<bool>, AllocError> = vec![in self.alloc; false; n];
+        match made {
+            Ok(items) => {
+                self.grant(n as u64);
+                Ok(items)
+            }
+            Err(fault) => Err(self.refuse(fault)),
+        }
+    }
+
+    fn words(&mut self, n: usize) -> Result<Vec<u32>, AllocError> {
+        let made: Result<Vec<u32>, AllocError> = vec![in self.alloc; 0u32; n];
+        match made {
+            Ok(items) => {
+                self.grant(4u64.saturating_mul(n as u64));
+                Ok(items)
+            }
+            Err(fault) => Err(self.refuse(fault)),
+        }
+    }
+
+    fn long_words(&mut self, n: usize) -> Result<Vec<u64>, AllocError> {
+        let made: Result<Vec<u64>, AllocError> = vec![in self.alloc; 0u64; n];
+        match made {
+            Ok(items) => {
+                self.grant(8u64.saturating_mul(n as u64));
+                Ok(items)
+            }
+            Err(fault) => Err(self.refuse(fault)),
+        }
+    }
+}

@@ -1,0 +1,55 @@
+//! Each request of a run for memory refused in turn.
+
+use super::layout::base;
+use ffs_check::args::Args;
+use ffs_check::check::check_in;
+use ffs_image::MemoryImage;
+use ffs_layout::Order;
+use ffs_memory::{FuseMemory, Memory, SystemMemory};
+use ffs_report::Counted;
+use ffs_volume::End;
+use std::alloc::Global;
+use std::test::Fail;
+
+// Two maps, nine lists with an item for each inode, and three buffers.
+const REQUESTS: u64 = 14;
+
+// Two maps of two words, 25 bytes for each of 32 inodes, and five blocks.
+const HELD: u64 = 2 * 16 + 25 * 32 + 5 * 4096;
+
+const UNSTARTED: &[u8] =
+    b"** t.img (NO WRITE)\n** Last Mounted on /mnt\ncannot alloc maps\n";
+
+// How a check ends whose k-th request is refused, with what it printed, and the memory after it.
+fn refused(k: u64, alloc: Global) -> Result<(End, Vec<u8>, FuseMemory<SystemMemory>), Fail> {
+    let mut image = MemoryImage::new(base(Order::Little, alloc)?);
+    let args = Args {
+        name: "t.img",
+        sector: None,
+    };
+    let mut memory = FuseMemory::nth(SystemMemory::new(alloc), k);
+    let mut text = Vec::new(alloc);
+    let end = check_in(&mut memory, &mut image, &args, &mut Counted::new(&mut text));
+    Ok((end, text, memory))
+}
+
+#[test]
+fn each_request_refused(rt: HostRuntime) -> Result<(), Fail> {
+    for k in 1..=REQUESTS {
+        let (end, text, memory) = refused(k, rt.alloc())?;
+        assert_eq!(rt; end, End::NoMemory);
+        assert_eq!(rt; text.as_slice(), UNSTARTED);
+        assert_eq!(rt; memory.refused(), 1);
+        assert!(rt; memory.granted() < HELD);
+    }
+    Ok(())
+}
+
+#[test]
+fn no_request_refused(rt: HostRuntime) -> Result<(), Fail> {
+    let (end, text, memory) = refused(REQUESTS + 1, rt.alloc())?;
+    assert!(rt; end != End::NoMemory && text.as_slice() != UNSTARTED);
+    assert_eq!(rt; memory.refused(), 0);
+    assert_eq!(rt; memory.granted(), HELD);
+    Ok(())
+}
