@@ -1,4 +1,10 @@
 //! Laws of the definitions of `ffs_volume`: status 0 is a certificate.
+//!
+//! A report without a defect is the same as consistency, both ways (`certified`, `silent_is_right`); the
+//! end of a run is by its report (`report_is_right`); claims are bounded (`claims_are_bounded`). Each
+//! function is a law: its contract is the statement, and nothing runs.
+//!
+//! It rests on `ffs_volume`.
 #![tactic(auto)]
 
 ghost use Rattle.ffs_certificate.specs.BlocksRise.{AllBlocksRise};

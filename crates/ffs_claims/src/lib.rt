@@ -1,4 +1,15 @@
-//! The block check: which fragments inodes claim, and what is wrong with their claims (phases 1 and 1b of fsck(8)).
+//! The block check: which fragments inodes claim, and what is wrong with their claims (phases 1 and 1b of
+//! fsck(8)).
+//!
+//! `phase1` and `phase1b` print the block check's text, and leave classes, claims, cuts and marks in the
+//! workspace. They visit at most `size + 22 * inodes` Runs, whatever the image holds.
+//!
+//! ```text
+//! phase1(&geometry, &mut image, &mut workspace, &mut report)?;
+//! if workspace.has_dups() { phase1b(&geometry, &mut image, &mut workspace, &mut report)?; }
+//! ```
+//!
+//! It rests on `ffs_workspace` and `ffs_phase`.
 #![tactic(auto)]
 
 mod claim;

@@ -1,4 +1,14 @@
-//! Phases 4 and 5 of the check, and the summary.
+//! Phases 4 and 5 of the check (reference counts and cylinder groups, fsck(8)), and the summary.
+//!
+//! `phase4`, `phase5` and `summary` print their texts, from what the earlier phases left in the workspace.
+//!
+//! ```text
+//! phase4(&geometry, &mut image, &mut workspace, &mut report)?;
+//! phase5(&superblock, &mut image, &mut workspace, &mut report)?;
+//! summary(&superblock, &mut workspace, &mut report)?;
+//! ```
+//!
+//! It rests on `ffs_groups`, `ffs_workspace` and `ffs_phase`.
 #![tactic(auto)]
 
 mod group_check;

@@ -1,5 +1,15 @@
-//! The parts of a UFS1 volume, decoded from bytes: the superblock and what an accepted layout says, inodes, group blocks and
-//! entries of directories. fs(5) and dir(5) describe them.
+//! The parts of a UFS1 volume, decoded from bytes: the superblock and its geometry, inodes, group blocks
+//! and entries of directories (fs(5), dir(5)).
+//!
+//! `read_super` answers the accepted superblock, or the first fault in the stated order. Each decoded
+//! value is the definition's value of the bytes, in both byte orders.
+//!
+//! ```text
+//! let superblock = read_super(&mut image, None)?;
+//! let place = superblock.geometry.inode_place(2);
+//! ```
+//!
+//! It rests on `ffs_volume` and `ffs_image`.
 #![tactic(auto)]
 
 pub mod entry;

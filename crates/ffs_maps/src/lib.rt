@@ -1,4 +1,14 @@
 //! A bit for each fragment of a volume, in words of 64.
+//!
+//! A `FragmentMap` is its list of bits: `get`, `set` and `clear` read and write one of them, `set_run` sets
+//! a run of them, and `claim` sets a run that lies in one word where none of its bits is set yet.
+//!
+//! ```text
+//! let mut claimed = FragmentMap::new(alloc, geometry.layout.size)?;
+//! let claimed_at_once = claimed.claim(start, len);
+//! ```
+//!
+//! It rests on no other crate of this repository.
 #![tactic(auto)]
 
 ghost use Rattle.std.specs.Prelude.{ℕ, nat_eq, ◌≡◌, ◌+◌, ◌*◌, ◌%◌, ◌<◌, ◌≤◌, ◌-◌, vec_len, length, IfOk, IsTrue, true, false, slice_set, replicate, count_by};

@@ -1,5 +1,13 @@
-//! The directories of a volume: their chunks and entries, which of them are reached from the root, and the paths of
-//! their entries.
+//! The directories of a volume: their chunks and entries, and their survey.
+//!
+//! `Entries::next` answers the entries of a directory in their order, from the Runs that its inode keeps.
+//! `survey` leaves references, levels and parents of all directories in the workspace.
+//!
+//! ```text
+//! survey(&geometry, &mut image, &mut workspace)?;
+//! ```
+//!
+//! It rests on `ffs_survey`, `ffs_workspace` and `ffs_walk`.
 #![tactic(auto)]
 
 pub mod chunks;

@@ -1,4 +1,13 @@
 //! Phase 2: the pathname check (fsck(8)).
+//!
+//! `phase2` prints the pathname check's text, answers whether the run continues after the root, and leaves
+//! what the survey of directories found.
+//!
+//! ```text
+//! let root = phase2(&geometry, &mut image, &mut workspace, &mut report)?;
+//! ```
+//!
+//! It rests on `ffs_paths`, `ffs_names` and `ffs_phase`.
 #![tactic(auto)]
 
 pub mod again;

@@ -1,4 +1,15 @@
 //! The lines of a report, and where their bytes go.
+//!
+//! `Report::say` writes exactly the bytes of its line, in pieces, or a prefix of them and answers a fault;
+//! after a fault each later line fails and writes nothing. A `Line` is a message with its values; the
+//! texts are those of `Messages/Texts` in the definitions. A `FuseWriter` fails after some bytes.
+//!
+//! ```text
+//! let mut report = Report::new(&mut out);
+//! report.say(&Line::Heading(Heading::Phase1))?;
+//! ```
+//!
+//! It rests on `ffs_volume`.
 #![tactic(auto)]
 
 pub mod counted;
