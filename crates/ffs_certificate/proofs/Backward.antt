@@ -3,17 +3,19 @@ use Rattle.std.specs.Prelude.{◌≡◌, ◌≢◌, ℕ, ◌==◌, ◌/◌, ◌%
 use Rattle.std.proofs.Common.{arith, sym, ◌∙◌, ap, subst, inl, inr}
 use Rattle.std.proofs.lemmas.Bool.{both_ways, cases_eq, eqb-true, eq-eqb, leb-true, lt-ltb, le-ltb, and_parts, and_from, or_from, not_from_true}
 use Rattle.ffs_volume.specs.declared.Role.TheVariants.{Plain}
-use Rattle.ffs_volume.specs.Directory.{Entry}
-use Rattle.ffs_volume.specs.Roles.{Volume, Seen, is_dir, is_inode, is_allocated, is_some_inode, is_unknown, is_suspect, seen_in, dotdot, references}
-use Rattle.ffs_volume.specs.Climb.{is_value, is_value-from}
-use Rattle.ffs_volume.specs.Graph.{parent, parent_entry, reached, AllReached, NoExtraneous}
-use Rattle.ffs_volume.specs.Levels.{reached-root}
+use Rattle.ffs_volume.specs.Directories.Entries.{Entry}
+use Rattle.ffs_volume.specs.Blocks.Inodes.{is_allocated, is_unknown}
+use Rattle.ffs_volume.specs.Directories.Roles.{Volume, RoledEntry, is_dir, is_inode, is_some_inode, is_suspect, roled_entries, dotdot, references}
+use Rattle.ffs_volume.specs.Directories.Climb.{is_value}
+use Rattle.ffs_volume.proofs.ClimbLaws.{is_value-from}
+use Rattle.ffs_volume.specs.Directories.Graph.{parent, parent_entry, reached, AllReached, NoExtraneous}
+use Rattle.ffs_volume.proofs.LevelLaws.{reached-root}
 use Rattle.ffs_certificate.proofs.Lost.{silent-reached}
 use Rattle.ffs_certificate.proofs.Links.{links-right}
-use Rattle.ffs_volume.specs.Parents.{graph_of, seen_at}
-use Rattle.ffs_volume.specs.PathnameCheck.{is_short, is_bad_whiteout, is_extraneous, is_other}
-use Rattle.ffs_volume.specs.Connectivity.{is_cut_off}
-use Rattle.ffs_volume.specs.DirectoriesRight.{IsVolume, IsUnmarked, IsPlainRight, IsDirRight, AreDirsRight, AreLinksRight, AreCountsRight}
+use Rattle.ffs_volume.specs.Directories.Parents.{graph_of, roled_at}
+use Rattle.ffs_volume.specs.Directories.PathnameCheck.{is_short, is_bad_whiteout, is_extraneous, is_other}
+use Rattle.ffs_volume.specs.Directories.Connectivity.{is_cut_off}
+use Rattle.ffs_volume.specs.Consistent.DirectoriesRight.{IsVolume, IsUnmarked, IsPlainRight, IsDirRight, AreDirsRight, AreLinksRight, AreCountsRight}
 use Rattle.ffs_certificate.proofs.Silence.{and_false-from}
 use Rattle.ffs_certificate.proofs.Entries.{names_at-from, IsPlainQuiet}
 use Rattle.ffs_certificate.proofs.Dirs.{IsShapeQuiet, IsPathnameQuiet, IsDotdotQuiet}
@@ -38,23 +40,23 @@ shape_quiet v d r =
     }
 
 -- what is used of a volume whose directories are right
-pub record IsSettled (v : Volume) : Type 0 where
+pub record IsFileOrDir (v : Volume) : Type 0 where
   pub volume : IsVolume v
   pub unmarked : IsUnmarked v
   pub dirs : AreDirsRight v
   pub links : AreLinksRight v
 
-calm : (v : Volume) → IsSettled v → (x : ℕ) → is_suspect v x ≡ false
+calm : (v : Volume) → IsFileOrDir v → (x : ℕ) → is_suspect v x ≡ false
 calm v t = none_suspect v t.unmarked (λ d h z. let some = (t.dirs.each d h).size.some in omega arith)
 
-all_reached : (v : Volume) → IsSettled v → AllReached (graph_of v)
+all_reached : (v : Volume) → IsFileOrDir v → AllReached (graph_of v)
 all_reached v t d h =
     elim (cases_eq d 2) [
       | inl e ↦ subst (λ x. reached (graph_of v) x ≡ true) (sym e) (reached-root (graph_of v) t.volume.some)
       | inr n ↦ (t.links.each d h n).reached_from_root
     ]
 
-parent_entries : (v : Volume) → IsSettled v → NoExtraneous (graph_of v)
+parent_entries : (v : Volume) → IsFileOrDir v → NoExtraneous (graph_of v)
 parent_entries v t =
     (links-right (graph_of v) (root_is_dir v t.volume t.dirs.root) (all_reached v t)).1 (record { once = λ d h n. (t.links.each d h n).once; root = t.links.root })
 
@@ -71,7 +73,7 @@ other_good e n k =
     (and_false-from (e.number == 1) (not (e.kind == 14)) (λ h. absurd (n (eqb-true e.number 1 h))))
     (and_false-from (e.kind == 14) (not (e.number == 1)) (λ h. absurd (k (eqb-true e.kind 14 h))))
 
-plain_quiet : (v : Volume) → IsSettled v → (s j : ℕ) (e : Seen) → is_dir v s ≡ true → seen_at (seen_in v s) j ≡ Some e → e.role ≡ Plain → IsPlainRight v e.entry → IsPlainQuiet v s j e.entry
+plain_quiet : (v : Volume) → IsFileOrDir v → (s j : ℕ) (e : RoledEntry) → is_dir v s ≡ true → roled_at (roled_entries v s) j ≡ Some e → e.role ≡ Plain → IsPlainRight v e.entry → IsPlainQuiet v s j e.entry
 plain_quiet v t s j e d there role r =
     elim r [
       | inl w ↦ (let some = t.volume.some in let n = w.0 in record {
@@ -100,7 +102,7 @@ plain_quiet v t s j e d there role r =
           })
     ]
 
-pub link_quiet : (v : Volume) → IsSettled v → (s j : ℕ) (e : Seen) → is_dir v s ≡ true → seen_at (seen_in v s) j ≡ Some e → e.role ≡ Plain → IsPlainRight v e.entry → is_extraneous v s j e.entry.number ≡ false
+pub link_quiet : (v : Volume) → IsFileOrDir v → (s j : ℕ) (e : RoledEntry) → is_dir v s ≡ true → roled_at (roled_entries v s) j ≡ Some e → e.role ≡ Plain → IsPlainRight v e.entry → is_extraneous v s j e.entry.number ≡ false
 link_quiet v t s j e d there role r =
     and_false-from (is_dir v e.entry.number) _ (λ h.
     let at = names_at-from v s j e.entry.number (record { dir = d; entry = e; there = there; role = role; number = refl }) in
@@ -113,7 +115,7 @@ dotdot_from : (v : Volume) (d s : ℕ) → parent (graph_of v) d ≡ Some s → 
 dotdot_from v d s p n k =
     some-both _ _ _ (dotdot v d) (λ e a b. (ap (λ o. is_other o e.number) p ∙ not_from_true _ (eq-eqb s e.number (sym a)), b)) n k
 
-pub dotdot_quiet : (v : Volume) → IsSettled v → (d : ℕ) → is_dir v d ≡ true → IsDotdotQuiet v d (dotdot v d)
+pub dotdot_quiet : (v : Volume) → IsFileOrDir v → (d : ℕ) → is_dir v d ≡ true → IsDotdotQuiet v d (dotdot v d)
 dotdot_quiet v t d h =
     elim (cases_eq d 2) [
       | inl e ↦ dotdot_from v d 2 (ap (parent (graph_of v)) e ∙ parent_root (graph_of v)) (subst (λ x. IsSomeAnd (dotdot v x) (λ e. e.number ≡ 2)) (sym e) t.links.root_dotdot) (t.dirs.each d h).dotdot_there
@@ -122,7 +124,7 @@ dotdot_quiet v t d h =
           dotdot_from v d l.once.in_dir (parent_once v d n l.reached_from_root l.once) l.dotdot_right (t.dirs.each d h).dotdot_there
     ]
 
-pub quiet_pathnames : (v : Volume) → IsSettled v → IsPathnameQuiet v
+pub quiet_pathnames : (v : Volume) → IsFileOrDir v → IsPathnameQuiet v
 quiet_pathnames v t = record {
   root = t.dirs.root;
   suspect = calm v t 2;
@@ -136,10 +138,10 @@ quiet_pathnames v t = record {
       };
 }
 
-pub quiet_connectivity : (v : Volume) → IsSettled v → (d : ℕ) → is_cut_off v d ≡ false
+pub quiet_connectivity : (v : Volume) → IsFileOrDir v → (d : ℕ) → is_cut_off v d ≡ false
 quiet_connectivity v t = (silent-reached (graph_of v) (is_suspect v) (is_sane v t.volume) (none_dead v (calm v t))).1 (all_reached v t)
 
-pub quiet_references : (v : Volume) → IsSettled v → AreCountsRight v → (i : ℕ) → is_some_inode v i ≡ true → IsCountQuiet v i
+pub quiet_references : (v : Volume) → IsFileOrDir v → AreCountsRight v → (i : ℕ) → is_some_inode v i ≡ true → IsCountQuiet v i
 quiet_references v t counts i h =
     let c = counts i h in
     let some = c.some in

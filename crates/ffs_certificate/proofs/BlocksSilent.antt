@@ -1,4 +1,4 @@
--- Phases 1 and 1b tell nothing exactly where every fragment has one owner at most.
+-- Phases 1 and 1b report nothing exactly where every fragment has one owner at most.
 use Rattle.std.proofs.Common.{inl, inr, ◌≡◌, ℕ, ◌+◌, ◌≤◌, Bool, true, false, arith, refl, sym, ap, ◌∙◌, List, [], ◌∷◌, ◌++◌, length, ◌↔◌}
 use Rattle.std.specs.Prelude.{nat_lt, ◌&&◌, map, replicate}
 use Rattle.std.specs.List.{list_all, range_with_len}
@@ -9,11 +9,11 @@ use Rattle.std.proofs.lemmas.List.Folds.{list_all-append}
 use Rattle.ffs_volume.specs.declared.Layout.{Layout}
 use Rattle.ffs_volume.specs.declared.Step.{Step}
 use Rattle.ffs_volume.specs.declared.Step.TheVariants.{Run, Tail, Gap}
-use Rattle.ffs_volume.specs.Areas.{is_ok, is_reserved}
-use Rattle.ffs_volume.specs.Owners.{Owner, fragments_of, all_steps}
-use Rattle.ffs_volume.specs.Claims.{is_set, reserved_map, no_claims}
-use Rattle.ffs_volume.specs.BlockCheck.{Offer, first_offers, owners_kept, phase1_lines, phase1b_lines}
-use Rattle.ffs_volume.specs.BlocksRight.{run_in_range, times, BlocksRight}
+use Rattle.ffs_volume.specs.Disk.Areas.{is_data_fragment, is_reserved}
+use Rattle.ffs_volume.specs.Blocks.Owners.{Owner, fragments_of, all_steps}
+use Rattle.ffs_volume.specs.Blocks.Claims.{is_set, reserved_map, no_claims}
+use Rattle.ffs_volume.specs.Blocks.BlockCheck.{Offer, first_offers, owners_kept, phase1_lines, phase1b_lines}
+use Rattle.ffs_volume.specs.Consistent.BlocksRight.{run_in_range, times, BlocksRight}
 use Rattle.ffs_certificate.proofs.BlockLaws.{is_nil, nil_append, run_ok}
 use Rattle.ffs_certificate.proofs.OwnerLaws.{owners_say, owners_claim, Quiet, owners_parts, owners_from}
 use Rattle.ffs_certificate.proofs.FreshLaws.{bit, are_below, fresh_new, new_fresh, times_past}
@@ -22,14 +22,11 @@ pub nil_is : {X : Type 0} (xs : List X) → is_nil xs ≡ true → xs ≡ []
 nil_is [] e = refl
 nil_is (x ∷ xs) e = absurd (cc)
 
-pub is_nil_from : {X : Type 0} (xs : List X) → xs ≡ [] → is_nil xs ≡ true
-is_nil_from xs e = ap is_nil e
-
-ok_below : (v : Layout) (fs : List ℕ) → list_all (is_ok v) fs ≡ true → are_below v.size fs ≡ true
-unfolding is_ok
+ok_below : (v : Layout) (fs : List ℕ) → list_all (is_data_fragment v) fs ≡ true → are_below v.size fs ≡ true
+unfolding is_data_fragment
 ok_below v [] e = refl
 ok_below v (f ∷ fs) e =
-    let a = and_parts (is_ok v f) (list_all (is_ok v) fs) e in
+    let a = and_parts (is_data_fragment v f) (list_all (is_data_fragment v) fs) e in
     and_from (nat_lt f v.size) _ (and_parts (nat_lt f v.size) _ a.0).0 (ok_below v fs a.1)
 
 -- the fragments of Runs in range are below the size
@@ -60,7 +57,7 @@ unset n f = elim (cases_lt f n) [
   | inr past ↦ get_or_past (replicate n false) f false (rw (length-replicate n false) past)
 ]
 
--- where no fragment is marked, no offer is told
+-- where no fragment is marked, no offer is reported
 none_first : (dup : List Bool) (os : List Offer) → ((f : ℕ) → is_set dup f ≡ false) → first_offers dup os ≡ []
 none_first dup [] h = refl
 none_first dup (o ∷ os) h = rw (h o.fragment) (none_first dup os h)

@@ -11,19 +11,19 @@ use Rattle.ffs_volume.specs.declared.Step.{Step}
 use Rattle.ffs_volume.specs.declared.Step.TheVariants.{Run, Tail, Gap}
 use Rattle.ffs_volume.specs.declared.BlockMessage.{BlockMessage}
 use Rattle.ffs_volume.specs.declared.BlockMessage.TheVariants.{Bad, Dup, ManyBad, ManyDup, PartTrunc, BlockCount}
-use Rattle.ffs_volume.specs.Areas.{is_ok, is_in_range}
-use Rattle.ffs_volume.specs.Inodes.{is_settled}
-use Rattle.ffs_volume.specs.Owners.{Owner}
-use Rattle.ffs_volume.specs.Claims.{Claims, no_claims, next_inode, is_open, is_set, after_offer, offer_lines, offers_lines, run_lines, after_step, step_lines, steps_lines, after_owner}
-use Rattle.ffs_volume.specs.BlockCheck.{class_lines, count_lines, sectors, owner_lines, owners_lines, phase1_lines}
-use Rattle.ffs_volume.specs.BlocksRight.{is_whole_class}
+use Rattle.ffs_volume.specs.Disk.Areas.{is_data_fragment, is_in_range}
+use Rattle.ffs_volume.specs.Blocks.Inodes.{is_file_or_dir}
+use Rattle.ffs_volume.specs.Blocks.Owners.{Owner}
+use Rattle.ffs_volume.specs.Blocks.Claims.{Claims, no_claims, next_inode, is_open, is_set, after_offer, offer_lines, offers_lines, run_lines, after_step, step_lines, steps_lines, after_owner}
+use Rattle.ffs_volume.specs.Blocks.BlockCheck.{class_lines, count_lines, sectors, owner_lines, owners_lines, phase1_lines}
+use Rattle.ffs_volume.specs.Consistent.BlocksRight.{is_whole_class}
 use Rattle.ffs_certificate.specs.Conditions.{is_class_message}
 
 none_append : (xs ys : List BlockMessage) → list_any is_class_message xs ≡ false → list_any is_class_message ys ≡ false → list_any is_class_message (xs ++ ys) ≡ false
 none_append xs ys g h = list_any-append is_class_message xs ys ∙ or_from (list_any is_class_message xs) (list_any is_class_message ys) g h
 
 offer_none : (v : Layout) (i : ℕ) (s : Claims) (f : ℕ) → list_any is_class_message (offer_lines v i s f) ≡ false
-offer_none v i s f = one (nat_lt s.dups 11 && (is_ok v f && is_set s.used f)) (s.dups == 10)
+offer_none v i s f = one (nat_lt s.dups 11 && (is_data_fragment v f && is_set s.used f)) (s.dups == 10)
   where
     one : (a b : Bool) → list_any is_class_message (if a then Dup f i ∷ (if b then ManyDup i ∷ [] else []) else []) ≡ false
     one true true = refl
@@ -61,7 +61,7 @@ steps_none v i s [] = refl
 steps_none v i s (step ∷ steps) = none_append (step_lines v i s step) (steps_lines v i (after_step v s step) steps) (step_none v i s step) (steps_none v i (after_step v s step) steps)
 
 count_none : (v : Layout) (o : Owner) (end : Claims) → list_any is_class_message (count_lines v o end) ≡ false
-count_none v o end = one (is_settled o.class && (is_open end && not (o.blocks == sectors v end.kept)))
+count_none v o end = one (is_file_or_dir o.class && (is_open end && not (o.blocks == sectors v end.kept)))
   where
     one : (a : Bool) → list_any is_class_message (if a then BlockCount o.number o.blocks (sectors v end.kept) ∷ [] else []) ≡ false
     one true = refl
@@ -97,7 +97,7 @@ owners_some v s (o ∷ os) =
     both true b = refl
     both false b = refl
 
--- a class message is told exactly where a class isn't right
-pub classes_told : (v : Layout) (os : List Owner) → list_any is_class_message (phase1_lines v os) ≡ not (list_all (λ o. is_whole_class o.class) os)
+-- a class message is reported exactly where a class isn't right
+pub classes_reported : (v : Layout) (os : List Owner) → list_any is_class_message (phase1_lines v os) ≡ not (list_all (λ o. is_whole_class o.class) os)
 unfolding phase1_lines
-classes_told v os = owners_some v (no_claims v) os
+classes_reported v os = owners_some v (no_claims v) os

@@ -1,4 +1,4 @@
--- Each condition of a consistent volume holds exactly where nothing is told for it.
+-- Each condition of a consistent volume holds exactly where nothing is reported for it.
 use Rattle.std.specs.Prelude.{◌≡◌, ◌≢◌, ◌↔◌, ℕ, ◌==◌, ◌/◌, true, false, not, nat_lt, nat_le, refl, List, [], Some, IsSomeAnd}
 use Rattle.std.specs.List.{list_all}
 use Rattle.std.proofs.Common.{arith, sym, ◌∙◌, ap, subst, inl, inr}
@@ -6,24 +6,26 @@ use Rattle.std.proofs.lemmas.Bool.{both_ways, cases_eq, eqb-true, eq-eqb, ne_eqb
 use Rattle.ffs_volume.specs.declared.Layout.{Layout}
 use Rattle.ffs_volume.specs.declared.Class.{Class}
 use Rattle.ffs_volume.specs.declared.Class.TheVariants.{Free, Partial, Unknown, File, Dir}
-use Rattle.ffs_volume.specs.Superblock.{Superblock}
-use Rattle.ffs_volume.specs.Geometry.{IsGeometry}
-use Rattle.ffs_volume.specs.AcceptedLaws.{accepted_sound}
-use Rattle.ffs_volume.specs.Owners.{Owner, owners_of}
-use Rattle.ffs_volume.specs.BlocksRight.{is_whole_class, BlocksRight}
-use Rattle.ffs_volume.specs.Groups.{GroupsRight}
-use Rattle.ffs_volume.specs.GroupCheck.{phase5_lines, is_free_of_kept}
-use Rattle.ffs_volume.specs.Directory.{Entry}
-use Rattle.ffs_volume.specs.Roles.{Volume, is_dir, is_inode, is_directory, is_allocated, is_unknown, is_suspect, dotdot, references}
-use Rattle.ffs_volume.specs.Climb.{is_value, is_value-true}
-use Rattle.ffs_volume.specs.Graph.{parent, parent_entry, NoExtraneous}
-use Rattle.ffs_volume.specs.Parents.{graph_of, is_from_parent}
-use Rattle.ffs_volume.specs.PathnameCheck.{is_other, is_extraneous}
-use Rattle.ffs_volume.specs.DirectoriesRight.{IsVolume, IsUnmarked, IsPlainRight, AreDirsRight, AreLinksRight, AreCountsRight}
-use Rattle.ffs_volume.specs.Volumes.{class_at, whole_volume}
-use Rattle.ffs_volume.specs.Consistent.{AreRunsRight}
+use Rattle.ffs_volume.specs.Disk.Superblock.{Superblock}
+use Rattle.ffs_volume.specs.Disk.Geometry.{IsGeometry}
+use Rattle.ffs_volume.proofs.AcceptedLaws.{accepted_sound}
+use Rattle.ffs_volume.specs.Blocks.Owners.{Owner, owners_of}
+use Rattle.ffs_volume.specs.Consistent.BlocksRight.{is_whole_class, BlocksRight}
+use Rattle.ffs_volume.specs.Groups.Records.{GroupsRight}
+use Rattle.ffs_volume.specs.Groups.GroupCheck.{phase5_lines, is_free_of_kept}
+use Rattle.ffs_volume.specs.Directories.Entries.{Entry}
+use Rattle.ffs_volume.specs.Blocks.Inodes.{is_directory, is_allocated, is_unknown}
+use Rattle.ffs_volume.specs.Directories.Roles.{Volume, is_dir, is_inode, is_suspect, dotdot, references}
+use Rattle.ffs_volume.specs.Directories.Climb.{is_value}
+use Rattle.ffs_volume.proofs.ClimbLaws.{is_value-true}
+use Rattle.ffs_volume.specs.Directories.Graph.{parent, parent_entry, NoExtraneous}
+use Rattle.ffs_volume.specs.Directories.Parents.{graph_of, is_from_parent}
+use Rattle.ffs_volume.specs.Directories.PathnameCheck.{is_other, is_extraneous}
+use Rattle.ffs_volume.specs.Consistent.DirectoriesRight.{IsVolume, IsUnmarked, IsPlainRight, AreDirsRight, AreLinksRight, AreCountsRight}
+use Rattle.ffs_volume.specs.Directories.Volumes.{class_at, whole_volume}
+use Rattle.ffs_volume.specs.Consistent.Volume.{AreRunsRight}
 use Rattle.ffs_certificate.specs.DirsCertificate.{IsSilent}
-use Rattle.ffs_certificate.specs.Conditions.{IsPlainUntold, AreDirsUntold, AreLinksUntold, AreCountsUntold, ConditionsTold, ConditionsAreTold}
+use Rattle.ffs_certificate.specs.Conditions.{IsPlainUnreported, AreDirsUnreported, AreLinksUnreported, AreCountsUnreported, ConditionsReported, ConditionsAreReported}
 use Rattle.ffs_certificate.proofs.Silence.{and_false-right, and_false-from}
 use Rattle.ffs_certificate.proofs.Live.{plain-live}
 use Rattle.ffs_certificate.proofs.Lost.{silent-reached}
@@ -32,16 +34,16 @@ use Rattle.ffs_certificate.proofs.Entries.{names_at-gives}
 use Rattle.ffs_certificate.proofs.Counts.{count-true, count-from}
 use Rattle.ffs_certificate.proofs.Suspects.{is_sane, none_suspect, none_dead}
 use Rattle.ffs_certificate.proofs.Forward.{some-map, root_is_dir, whole, whiteout_kind, known-false, parent_once, parent_root}
-use Rattle.ffs_certificate.proofs.Backward.{IsSettled, shape_quiet, whiteout_good, other_good, link_quiet, dotdot_quiet, quiet_connectivity}
+use Rattle.ffs_certificate.proofs.Backward.{IsFileOrDir, shape_quiet, whiteout_good, other_good, link_quiet, dotdot_quiet, quiet_connectivity}
 use Rattle.ffs_certificate.proofs.DirsCertificate.{silent_right}
 use Rattle.ffs_certificate.proofs.BlocksSilent.{phase1_silent}
 use Rattle.ffs_certificate.proofs.GroupLaws.{phase5_silent, same_free}
 use Rattle.ffs_certificate.proofs.VolumeLaws.{whole_is_volume, whole_unmarked, same_whole}
-use Rattle.ffs_certificate.proofs.ClassLines.{classes_told}
-use Rattle.ffs_certificate.proofs.ReportLaws.{settings_told, runs_of}
+use Rattle.ffs_certificate.proofs.ClassLines.{classes_reported}
+use Rattle.ffs_certificate.proofs.ReportLaws.{settings_reported, runs_of}
 
 -- DIRECTORIES
-plain_right : (v : Volume) (e : Entry) → IsUnmarked v → e.number ≢ 0 → IsPlainUntold v e → IsPlainRight v e
+plain_right : (v : Volume) (e : Entry) → IsUnmarked v → e.number ≢ 0 → IsPlainUnreported v e → IsPlainRight v e
 plain_right v e un live q =
     elim (cases_eq e.number 1) [
       | inl y ↦ inl (y, whiteout_kind e q.no_whiteout y)
@@ -54,8 +56,8 @@ plain_right v e un live q =
           )
     ]
 
-plain_untold : (v : Volume) (e : Entry) → IsVolume v → IsUnmarked v → IsPlainRight v e → IsPlainUntold v e
-plain_untold v e vol un r =
+plain_unreported : (v : Volume) (e : Entry) → IsVolume v → IsUnmarked v → IsPlainRight v e → IsPlainUnreported v e
+plain_unreported v e vol un r =
     elim r [
       | inl w ↦ (let some = vol.some in let n = w.0 in record {
         below = lt-ltb e.number v.count (omega arith);
@@ -83,8 +85,8 @@ root_class Unknown h = absurd (cc)
 root_class Partial h = absurd (cc)
 root_class Free h = absurd (cc)
 
-dirs_told : (v : Volume) → IsVolume v → IsUnmarked v → AreDirsUntold v ↔ AreDirsRight v
-dirs_told v vol un = (
+dirs_reported : (v : Volume) → IsVolume v → IsUnmarked v → AreDirsUnreported v ↔ AreDirsRight v
+dirs_reported v vol un = (
   (λ q. record {
     root = root_class (v.class 2) q.root;
     each = λ d h.
@@ -114,7 +116,7 @@ dirs_told v vol un = (
           dot_there = p.dot_there;
           dotdot_there = p.dotdot_there;
           no_extra = p.no_extra;
-          plain = λ j s t role. plain_untold v s.entry vol un (p.plain j s t role);
+          plain = λ j s t role. plain_unreported v s.entry vol un (p.plain j s t role);
         };
   }),
 )
@@ -123,7 +125,7 @@ dirs_told v vol un = (
 no_suspect : (v : Volume) → IsUnmarked v → AreDirsRight v → (x : ℕ) → is_suspect v x ≡ false
 no_suspect v un r = none_suspect v un (λ d h z. let some = (r.each d h).size.some in omega arith)
 
-links_right : (v : Volume) → IsVolume v → IsUnmarked v → AreDirsRight v → AreLinksUntold v → AreLinksRight v
+links_right : (v : Volume) → IsVolume v → IsUnmarked v → AreDirsRight v → AreLinksUnreported v → AreLinksRight v
 links_right v vol un r q =
     let all = (silent-reached (graph_of v) (is_suspect v) (is_sane v vol) (none_dead v (no_suspect v un r))).0 q.lost in
     let root = root_is_dir v vol r.root in
@@ -136,7 +138,7 @@ links_right v vol un r q =
       root_dotdot = dotdot_same v 2 2 (parent_root (graph_of v)) (q.dotdots 2 root);
     }
   where
-    one_entry : (v : Volume) → AreLinksUntold v → NoExtraneous (graph_of v)
+    one_entry : (v : Volume) → AreLinksUnreported v → NoExtraneous (graph_of v)
     one_entry v q s j d t h =
         let m = names_at-gives v s j d t in
         let link : is_extraneous v s j d ≡ false = subst (λ x. is_extraneous v s j x ≡ false) m.number (q.links s j m.entry m.dir m.there m.role) in
@@ -147,9 +149,9 @@ links_right v vol un r q =
     dotdot_same : (v : Volume) (d s : ℕ) → parent (graph_of v) d ≡ Some s → IsSomeAnd (dotdot v d) (λ e. is_other (parent (graph_of v) d) e.number ≡ false) → IsSomeAnd (dotdot v d) (λ e. e.number ≡ s)
     dotdot_same v d s p q = some-map _ _ (dotdot v d) (λ e b. sym (eqb-true s e.number (not-false _ (sym (ap (λ o. is_other o e.number) p) ∙ b)))) q
 
-links_untold : (v : Volume) → IsVolume v → IsUnmarked v → AreDirsRight v → AreLinksRight v → AreLinksUntold v
-links_untold v vol un r l =
-    let t : IsSettled v = record { volume = vol; unmarked = un; dirs = r; links = l } in
+links_unreported : (v : Volume) → IsVolume v → IsUnmarked v → AreDirsRight v → AreLinksRight v → AreLinksUnreported v
+links_unreported v vol un r l =
+    let t : IsFileOrDir v = record { volume = vol; unmarked = un; dirs = r; links = l } in
     record {
       dotdots = λ d h. some-map _ _ (dotdot v d) (λ e b. b.0) (dotdot_quiet v t d h);
       links = λ s j e d there role. link_quiet v t s j e d there role ((r.each s d).plain j e there role);
@@ -157,43 +159,43 @@ links_untold v vol un r l =
     }
 
 -- COUNTS
-counts_told : (v : Volume) → AreCountsUntold v ↔ AreCountsRight v
-counts_told v = (
+counts_reported : (v : Volume) → AreCountsUnreported v ↔ AreCountsRight v
+counts_reported v = (
   (λ q i h. let c = q i h in let n = c.some in record { same = count-true (v.inode i).nlink (references v i) c.same; some = omega arith }),
   (λ r i h. let c = r i h in let n = c.some in record { some = omega arith; same = count-from (v.inode i).nlink (references v i) c.same }),
 )
 
-checks_told : (v : Volume) → IsVolume v → IsUnmarked v → IsSilent v ↔ (AreDirsUntold v × AreLinksUntold v × AreCountsUntold v)
-checks_told v vol un = (
+checks_reported : (v : Volume) → IsVolume v → IsUnmarked v → IsSilent v ↔ (AreDirsUnreported v × AreLinksUnreported v × AreCountsUnreported v)
+checks_reported v vol un = (
   (λ s.
       let r = (silent_right v vol un).0 s in
-      ((dirs_told v vol un).1 r.dirs, links_untold v vol un r.dirs r.links, (counts_told v).1 r.counts)),
+      ((dirs_reported v vol un).1 r.dirs, links_unreported v vol un r.dirs r.links, (counts_reported v).1 r.counts)),
   (λ q.
-      let dirs = (dirs_told v vol un).0 q.0 in
-      (silent_right v vol un).1 (record { dirs = dirs; links = links_right v vol un dirs q.1; counts = (counts_told v).0 q.2 })),
+      let dirs = (dirs_reported v vol un).0 q.0 in
+      (silent_right v vol un).1 (record { dirs = dirs; links = links_right v vol un dirs q.1; counts = (counts_reported v).0 q.2 })),
 )
 
 -- THE WHOLE
 blocks_from : (v : Layout) (os : List Owner) → list_all (λ o. is_whole_class o.class) os ≡ true → AreRunsRight v os → BlocksRight v os
 blocks_from v os c r = record { classes = c; in_range = r.in_range; no_tail = r.no_tail; alone = r.alone; unreserved = r.unreserved; counted = r.counted }
 
-conditions : (image : List ℕ) (s : Superblock) → IsGeometry s.layout → ConditionsTold image s
+conditions : (image : List ℕ) (s : Superblock) → IsGeometry s.layout → ConditionsReported image s
 conditions image s g =
     let v = s.layout in
     let os = owners_of s.layout image in
     let w = whole_volume s.layout image in
     record {
-      settings = settings_told s;
-      classes = ((λ e. not-false _ (sym (classes_told v os) ∙ e)), (λ c. classes_told v os ∙ not_from_true _ c));
+      settings = settings_reported s;
+      classes = ((λ e. not-false _ (sym (classes_reported v os) ∙ e)), (λ c. classes_reported v os ∙ not_from_true _ c));
       runs = λ c. ((λ e. runs_of v os ((phase1_silent v os).0 e)), (λ r. (phase1_silent v os).1 (blocks_from v os c r)));
       whole = same_whole v image;
-      checks = λ b. checks_told w (whole_is_volume v image g) (whole_unmarked v image b);
-      dirs = λ b. dirs_told w (whole_is_volume v image g) (whole_unmarked v image b);
-      links = λ b r. (links_right w (whole_is_volume v image g) (whole_unmarked v image b) r, links_untold w (whole_is_volume v image g) (whole_unmarked v image b) r);
-      counts = counts_told w;
+      checks = λ b. checks_reported w (whole_is_volume v image g) (whole_unmarked v image b);
+      dirs = λ b. dirs_reported w (whole_is_volume v image g) (whole_unmarked v image b);
+      links = λ b r. (links_right w (whole_is_volume v image g) (whole_unmarked v image b) r, links_unreported w (whole_is_volume v image g) (whole_unmarked v image b) r);
+      counts = counts_reported w;
       groups = λ b. subst (λ free. (phase5_lines v image s.cstotal (is_free_of_kept v os) (class_at v image) ≡ []) ↔ GroupsRight v image s.cstotal free (class_at v image))
           (same_free v os b) (phase5_silent v image s.cstotal (is_free_of_kept v os) (class_at v image));
     }
 
-pub conditions_told : ConditionsAreTold
-conditions_told image sector s e = conditions image s (accepted_sound image sector s e).geometry
+pub conditions_reported : ConditionsAreReported
+conditions_reported image sector s e = conditions image s (accepted_sound image sector s e).geometry

@@ -2,12 +2,13 @@
 use Rattle.std.specs.Prelude.{◌≡◌, ◌≢◌, ℕ, ◌<◌, ◌==◌, Bool, true, false, nat_lt, nat_le, refl, ℤ, pos, negsuc, List, [], ◌∷◌, if◌then◌else◌}
 use Rattle.std.proofs.Common.{sym, ap, subst}
 use Rattle.std.proofs.lemmas.Bool.{eqb-true, eqb-false, eq-eqb, ne_eqb, ltb-true, and_parts, not-false, not_from_true}
-use Rattle.ffs_volume.specs.Roles.{Volume, is_inode, is_allocated, is_some_inode, references}
-use Rattle.ffs_volume.specs.Messages.{NameMessage, told, unref_dir, dead_marked, dead_zero, unref, unref_zero, link_count}
-use Rattle.ffs_volume.specs.PathnameCheck.{attributes, label_of}
-use Rattle.ffs_volume.specs.Connectivity.{is_dead, is_cut_off, connectivity_lines}
-use Rattle.ffs_volume.specs.Numbers.{is_count}
-use Rattle.ffs_volume.specs.ReferenceCheck.{dead_told, unref_told, inode_lines, counted_lines, reference_lines}
+use Rattle.ffs_volume.specs.Blocks.Inodes.{is_allocated}
+use Rattle.ffs_volume.specs.Directories.Roles.{Volume, is_inode, is_some_inode, references}
+use Rattle.ffs_volume.specs.Messages.Kinds.{NameMessage, told, unref_dir, dead_marked, dead_zero, unref, unref_zero, link_count}
+use Rattle.ffs_volume.specs.Directories.PathnameCheck.{attributes, label_of}
+use Rattle.ffs_volume.specs.Directories.Connectivity.{is_dead, is_cut_off, connectivity_lines}
+use Rattle.ffs_volume.specs.Disk.Numbers.{is_count}
+use Rattle.ffs_volume.specs.Directories.ReferenceCheck.{dead_reported, unref_reported, inode_lines, counted_lines, reference_lines}
 use Rattle.ffs_certificate.proofs.Silence.{told-quiet, told-silent, if-silent, then-quiet, then-silent, lines-quiet, lines-silent}
 
 pub connectivity-quiet : (v : Volume) → connectivity_lines v ≡ [] → (d : ℕ) → d < v.count → is_cut_off v d ≡ false
@@ -37,16 +38,16 @@ count-quiet : (v : Volume) (i : ℕ) → inode_lines v i ≡ [] → IsCountQuiet
 unfolding inode_lines
 count-quiet v i h =
     let m = link_count (label_of (v.class i)) (attributes v i) (v.inode i).nlink (references v i) in
-    let a = first-quiet (is_dead v i) (dead_told v i) _ (either-some (v.marked i) (dead_marked (label_of (v.class i)) (attributes v i)) (dead_zero (attributes v i))) h in
-    let b = first-quiet (references v i == 0) (unref_told v i) _ (either-some (is_count (v.inode i).nlink 0) (unref_zero (label_of (v.class i)) (attributes v i)) (unref (label_of (v.class i)) (attributes v i))) a.1 in
+    let a = first-quiet (is_dead v i) (dead_reported v i) _ (either-some (v.marked i) (dead_marked (label_of (v.class i)) (attributes v i)) (dead_zero (attributes v i))) h in
+    let b = first-quiet (references v i == 0) (unref_reported v i) _ (either-some (is_count (v.inode i).nlink 0) (unref_zero (label_of (v.class i)) (attributes v i)) (unref (label_of (v.class i)) (attributes v i))) a.1 in
     record { alive = a.0; some = eqb-false (references v i) 0 b.0; same = not-false _ (told-quiet _ m b.1) }
 
 count-silent : (v : Volume) (i : ℕ) → IsCountQuiet v i → inode_lines v i ≡ []
 unfolding inode_lines
 count-silent v i q =
     let m = link_count (label_of (v.class i)) (attributes v i) (v.inode i).nlink (references v i) in
-    if-silent (is_dead v i) (dead_told v i) _ q.alive
-    (if-silent (references v i == 0) (unref_told v i) _ (ne_eqb (references v i) 0 q.some) (told-silent _ m (not_from_true _ q.same)))
+    if-silent (is_dead v i) (dead_reported v i) _ q.alive
+    (if-silent (references v i == 0) (unref_reported v i) _ (ne_eqb (references v i) 0 q.some) (told-silent _ m (not_from_true _ q.same)))
 
 pub some-below : (v : Volume) (i : ℕ) → is_some_inode v i ≡ true → i < v.count
 some-below v i h = ltb-true i v.count (and_parts (nat_le 2 i) (nat_lt i v.count) (and_parts (is_inode v i) (is_allocated (v.class i)) h).0).1

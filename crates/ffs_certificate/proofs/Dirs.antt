@@ -5,13 +5,14 @@ use Rattle.std.proofs.lemmas.Bool.{eqb-true, eqb-false, eq-eqb, ne_eqb, ltb-true
 use Rattle.ffs_volume.specs.declared.Attr.{Attr}
 use Rattle.ffs_volume.specs.declared.Class.{Class}
 use Rattle.ffs_volume.specs.declared.Class.TheVariants.{Free, Partial, Unknown, File, Dir}
-use Rattle.ffs_volume.specs.Directory.{Entry, is_live}
-use Rattle.ffs_volume.specs.Roles.{Volume, Seen, is_dir, is_inode, is_directory, is_suspect, is_one_dot, is_two_dots, seen_in, dot, dotdot, start_entry}
-use Rattle.ffs_volume.specs.Graph.{parent}
-use Rattle.ffs_volume.specs.Parents.{graph_of, seen_at}
-use Rattle.ffs_volume.specs.Paths.{dir_path}
-use Rattle.ffs_volume.specs.Messages.{told, lines_below, root_suspect, dir_short, dir_length, dir_empty, dir_corrupt, missing_dot, missing_dot_first, number_dot, kind_dot, missing_dotdot, missing_dotdot_second, number_dotdot, kind_dotdot}
-use Rattle.ffs_volume.specs.PathnameCheck.{attributes, root_lines, root_told, goes_on, is_short, is_broken, are_sound, shape_lines, dot_lines, dot_told, missing_dot_told, is_other, dotdot_lines, dotdot_told, missing_dotdot_told, entry_lines, dir_lines, is_looked_at, lines_of, pathname_lines}
+use Rattle.ffs_volume.specs.Directories.Entries.{Entry, is_live}
+use Rattle.ffs_volume.specs.Blocks.Inodes.{is_directory}
+use Rattle.ffs_volume.specs.Directories.Roles.{Volume, RoledEntry, is_dir, is_inode, is_suspect, is_one_dot, is_two_dots, roled_entries, dot, dotdot, start_entry}
+use Rattle.ffs_volume.specs.Directories.Graph.{parent}
+use Rattle.ffs_volume.specs.Directories.Parents.{graph_of, roled_at}
+use Rattle.ffs_volume.specs.Directories.Paths.{dir_path}
+use Rattle.ffs_volume.specs.Messages.Kinds.{told, lines_below, root_suspect, dir_short, dir_length, dir_empty, dir_corrupt, missing_dot, missing_dot_first, number_dot, kind_dot, missing_dotdot, missing_dotdot_second, number_dotdot, kind_dotdot}
+use Rattle.ffs_volume.specs.Directories.PathnameCheck.{attributes, root_lines, root_reported, goes_on, is_short, is_broken, are_sound, shape_lines, dot_lines, dot_reported, missing_dot_reported, is_other, dotdot_lines, dotdot_reported, missing_dotdot_reported, entry_lines, dir_lines, is_looked_at, lines_of, pathname_lines}
 use Rattle.ffs_certificate.proofs.Silence.{nil-left, nil-right, nil-both, told-quiet, told-silent, then-quiet, then-silent, lines-quiet, lines-silent}
 use Rattle.ffs_certificate.proofs.Entries.{IsSeenQuiet, entries-quiet, entries-silent}
 
@@ -48,8 +49,8 @@ shape-silent v d q =
     (nil-both (told (v.gap d) (dir_empty p)) _ (told-silent _ (dir_empty p) q.gap)
     (told-silent _ (dir_corrupt (attributes v d) p) (not_from_true _ q.sound))))
 
--- where `.` or `..` isn't there, something is told
-missing_dot-some : (about : Attr) (path : List ℕ) (o : Option Entry) → missing_dot_told about path o ≡ [] → ⊥
+-- where `.` or `..` isn't there, something is reported
+missing_dot-some : (about : Attr) (path : List ℕ) (o : Option Entry) → missing_dot_reported about path o ≡ [] → ⊥
 missing_dot-some about path None h = absurd (cc)
 missing_dot-some about path (Some e) h = go (is_live e && not (is_two_dots e.name)) h
   where
@@ -57,7 +58,7 @@ missing_dot-some about path (Some e) h = go (is_live e && not (is_two_dots e.nam
     go true h = absurd (cc)
     go false h = absurd (cc)
 
-missing_dotdot-some : (about : Attr) (path : List ℕ) (o : Option Entry) → missing_dotdot_told about path o ≡ [] → ⊥
+missing_dotdot-some : (about : Attr) (path : List ℕ) (o : Option Entry) → missing_dotdot_reported about path o ≡ [] → ⊥
 missing_dotdot-some about path None h = absurd (cc)
 missing_dotdot-some about path (Some e) h = go (is_live e && not (is_one_dot e.name)) h
   where
@@ -69,7 +70,7 @@ missing_dotdot-some about path (Some e) h = go (is_live e && not (is_one_dot e.n
 abbrev pub IsDotQuiet : ℕ → Option Entry → Type 0
 IsDotQuiet d o = IsSomeAnd o (λ e. (e.number ≡ d) × (e.kind ≡ 4))
 
-dot-quiet : (v : Volume) (d : ℕ) (o : Option Entry) → dot_told v d o ≡ [] → IsDotQuiet d o
+dot-quiet : (v : Volume) (d : ℕ) (o : Option Entry) → dot_reported v d o ≡ [] → IsDotQuiet d o
 dot-quiet v d None h = absurd (missing_dot-some (attributes v d) (dir_path (graph_of v) d) (start_entry v d 0) h)
 dot-quiet v d (Some e) h =
     let m = number_dot (attributes v d) (dir_path (graph_of v) d) in
@@ -78,7 +79,7 @@ dot-quiet v d (Some e) h =
       eqb-true e.kind 4 (not-false _ (told-quiet _ k (nil-right (told (not (e.number == d)) m) (told (not (e.kind == 4)) k) h))),
     )
 
-dot-silent : (v : Volume) (d : ℕ) (o : Option Entry) → IsDotQuiet d o → dot_told v d o ≡ []
+dot-silent : (v : Volume) (d : ℕ) (o : Option Entry) → IsDotQuiet d o → dot_reported v d o ≡ []
 dot-silent v d None q = absurd q
 dot-silent v d (Some e) q =
     let m = number_dot (attributes v d) (dir_path (graph_of v) d) in
@@ -90,7 +91,7 @@ dot-silent v d (Some e) q =
 abbrev pub IsDotdotQuiet : Volume → ℕ → Option Entry → Type 0
 IsDotdotQuiet v d o = IsSomeAnd o (λ e. (is_other (parent (graph_of v) d) e.number ≡ false) × (e.kind ≡ 4))
 
-dotdot-quiet : (v : Volume) (d : ℕ) (o : Option Entry) → dotdot_told v d o ≡ [] → IsDotdotQuiet v d o
+dotdot-quiet : (v : Volume) (d : ℕ) (o : Option Entry) → dotdot_reported v d o ≡ [] → IsDotdotQuiet v d o
 dotdot-quiet v d None h = absurd (missing_dotdot-some (attributes v d) (dir_path (graph_of v) d) (start_entry v d 1) h)
 dotdot-quiet v d (Some e) h =
     let m = number_dotdot (attributes v d) (dir_path (graph_of v) d) in
@@ -99,7 +100,7 @@ dotdot-quiet v d (Some e) h =
       eqb-true e.kind 4 (not-false _ (told-quiet _ k (nil-right (told (is_other (parent (graph_of v) d) e.number) m) (told (not (e.kind == 4)) k) h))),
     )
 
-dotdot-silent : (v : Volume) (d : ℕ) (o : Option Entry) → IsDotdotQuiet v d o → dotdot_told v d o ≡ []
+dotdot-silent : (v : Volume) (d : ℕ) (o : Option Entry) → IsDotdotQuiet v d o → dotdot_reported v d o ≡ []
 dotdot-silent v d None q = absurd q
 dotdot-silent v d (Some e) q =
     let m = number_dotdot (attributes v d) (dir_path (graph_of v) d) in
@@ -112,7 +113,7 @@ pub record IsDirQuiet (v : Volume) (d : ℕ) : Type 0 where
   pub shape : IsShapeQuiet v d
   pub dot_there : IsDotQuiet d (dot v d)
   pub dotdot_there : IsDotdotQuiet v d (dotdot v d)
-  pub entries : (j : ℕ) (e : Seen) → seen_at (seen_in v d) j ≡ Some e → IsSeenQuiet v d j e
+  pub entries : (j : ℕ) (e : RoledEntry) → roled_at (roled_entries v d) j ≡ Some e → IsSeenQuiet v d j e
 
 dir-quiet : (v : Volume) (d : ℕ) → dir_lines v d ≡ [] → IsDirQuiet v d
 unfolding dir_lines dot_lines dotdot_lines
@@ -121,13 +122,13 @@ dir-quiet v d h =
     let b = nil-right (shape_lines v d) _ h in
     let c = nil-left (dot_lines v d) _ b in
     let e = nil-right (dot_lines v d) _ b in
-    let f = nil-left (dotdot_lines v d) (entry_lines v d 0 (seen_in v d)) e in
-    let g = nil-right (dotdot_lines v d) (entry_lines v d 0 (seen_in v d)) e in
+    let f = nil-left (dotdot_lines v d) (entry_lines v d 0 (roled_entries v d)) e in
+    let g = nil-right (dotdot_lines v d) (entry_lines v d 0 (roled_entries v d)) e in
     record {
       shape = shape-quiet v d a;
       dot_there = dot-quiet v d (dot v d) c;
       dotdot_there = dotdot-quiet v d (dotdot v d) f;
-      entries = λ j x t. let z : 0 + j ≡ j = omega arith in subst (λ n. IsSeenQuiet v d n x) z (entries-quiet v d 0 (seen_in v d) g j x t);
+      entries = λ j x t. let z : 0 + j ≡ j = omega arith in subst (λ n. IsSeenQuiet v d n x) z (entries-quiet v d 0 (roled_entries v d) g j x t);
     }
 
 dir-silent : (v : Volume) (d : ℕ) → IsDirQuiet v d → dir_lines v d ≡ []
@@ -135,8 +136,8 @@ unfolding dir_lines dot_lines dotdot_lines
 dir-silent v d q =
     nil-both (shape_lines v d) _ (shape-silent v d q.shape)
     (nil-both (dot_lines v d) _ (dot-silent v d (dot v d) q.dot_there)
-    (nil-both (dotdot_lines v d) (entry_lines v d 0 (seen_in v d)) (dotdot-silent v d (dotdot v d) q.dotdot_there)
-    (entries-silent v d 0 (seen_in v d) (λ j x t. let z : j ≡ 0 + j = omega arith in subst (λ n. IsSeenQuiet v d n x) z (q.entries j x t)))))
+    (nil-both (dotdot_lines v d) (entry_lines v d 0 (roled_entries v d)) (dotdot-silent v d (dotdot v d) q.dotdot_there)
+    (entries-silent v d 0 (roled_entries v d) (λ j x t. let z : j ≡ 0 + j = omega arith in subst (λ n. IsSeenQuiet v d n x) z (q.entries j x t)))))
 
 -- the whole check: the root, and each directory that isn't empty
 pub record IsPathnameQuiet (v : Volume) : Type 0 where
@@ -144,7 +145,7 @@ pub record IsPathnameQuiet (v : Volume) : Type 0 where
   pub suspect : is_suspect v 2 ≡ false
   pub each : (d : ℕ) → is_dir v d ≡ true → (v.inode d).size ≢ 0 → IsDirQuiet v d
 
-root-quiet : (v : Volume) (c : Class) → root_told v c ≡ [] → (c ≡ Dir) × (is_suspect v 2 ≡ false)
+root-quiet : (v : Volume) (c : Class) → root_reported v c ≡ [] → (c ≡ Dir) × (is_suspect v 2 ≡ false)
 root-quiet v Dir h = (refl, told-quiet _ root_suspect h)
 root-quiet v File h = absurd (cc)
 root-quiet v Unknown h = absurd (cc)
@@ -170,7 +171,7 @@ pathname-quiet v h =
 pub pathname-silent : (v : Volume) → IsPathnameQuiet v → pathname_lines v ≡ []
 unfolding pathname_lines root_lines
 pathname-silent v q =
-    nil-both (root_lines v) _ (ap (root_told v) q.root ∙ told-silent _ root_suspect q.suspect)
+    nil-both (root_lines v) _ (ap (root_reported v) q.root ∙ told-silent _ root_suspect q.suspect)
     (then-silent (goes_on v) (lines_below (lines_of v) v.count) (λ g.
     lines-silent (lines_of v) v.count (λ d l. then-silent (is_looked_at v d) (dir_lines v d) (λ k.
     let p = and_parts (is_dir v d) (not ((v.inode d).size == 0)) k in

@@ -1,12 +1,12 @@
 -- The certificate of the checks of directories.
 use Rattle.std.specs.Prelude.{◌↔◌}
-use Rattle.ffs_volume.specs.Roles.{Volume}
-use Rattle.ffs_volume.specs.DirectoriesRight.{IsVolume, IsUnmarked}
+use Rattle.ffs_volume.specs.Directories.Roles.{Volume}
+use Rattle.ffs_volume.specs.Consistent.DirectoriesRight.{IsVolume, IsUnmarked}
 use Rattle.ffs_certificate.specs.DirsCertificate.{IsSilent, AreDirectoriesRight}
 use Rattle.ffs_certificate.proofs.Dirs.{pathname-quiet, pathname-silent}
 use Rattle.ffs_certificate.proofs.Counts.{connectivity-quiet, connectivity-silent, reference-quiet, reference-silent}
 use Rattle.ffs_certificate.proofs.Forward.{IsQuiet, dirs_right, links_right, counts_right}
-use Rattle.ffs_certificate.proofs.Backward.{IsSettled, quiet_pathnames, quiet_connectivity, quiet_references}
+use Rattle.ffs_certificate.proofs.Backward.{IsFileOrDir, quiet_pathnames, quiet_connectivity, quiet_references}
 
 quiet : (v : Volume) → IsSilent v → IsQuiet v
 quiet v s = record { pathnames = pathname-quiet v s.pathnames; connectivity = connectivity-quiet v s.connectivity; references = reference-quiet v s.references }
@@ -15,7 +15,7 @@ pub silent_right : (v : Volume) → IsVolume v → IsUnmarked v → IsSilent v �
 silent_right v vol un = (
   (λ s. let q = quiet v s in record { dirs = dirs_right v vol un q; links = links_right v vol un q; counts = counts_right v q }),
   (λ r.
-      let t : IsSettled v = record { volume = vol; unmarked = un; dirs = r.dirs; links = r.links } in
+      let t : IsFileOrDir v = record { volume = vol; unmarked = un; dirs = r.dirs; links = r.links } in
       record {
         pathnames = pathname-silent v (quiet_pathnames v t);
         connectivity = connectivity-silent v (quiet_connectivity v t);

@@ -5,19 +5,20 @@ use Rattle.std.proofs.lemmas.Bool.{eqb-true, eq-eqb, and_parts, and_from, not-fa
 use Rattle.ffs_volume.specs.declared.Attr.{Attr}
 use Rattle.ffs_volume.specs.declared.Role.{Role}
 use Rattle.ffs_volume.specs.declared.Role.TheVariants.{Empty, Dot, Dotdot, Extra, Plain}
-use Rattle.ffs_volume.specs.Directory.{Entry}
-use Rattle.ffs_volume.specs.Roles.{Volume, Seen, is_dir, is_plain, is_allocated, is_one_dot, seen_in}
-use Rattle.ffs_volume.specs.Graph.{names, names_at, test_at}
-use Rattle.ffs_volume.specs.Parents.{graph_of, seen_at}
-use Rattle.ffs_volume.specs.Paths.{dir_path, entry_path}
-use Rattle.ffs_volume.specs.Messages.{told, out_of_range, whiteout, unallocated, extraneous, kind_entry, extra_dot, extra_dotdot}
-use Rattle.ffs_volume.specs.PathnameCheck.{attributes, label_of, seen_lines, seen_told, entry_lines, plain_lines, named_lines, is_bad_whiteout, tells_suspect, suspect_told, is_extraneous, is_other_kind, extra_told}
+use Rattle.ffs_volume.specs.Directories.Entries.{Entry}
+use Rattle.ffs_volume.specs.Blocks.Inodes.{is_allocated}
+use Rattle.ffs_volume.specs.Directories.Roles.{Volume, RoledEntry, is_dir, is_plain, is_one_dot, roled_entries}
+use Rattle.ffs_volume.specs.Directories.Graph.{names, names_at, test_at}
+use Rattle.ffs_volume.specs.Directories.Parents.{graph_of, roled_at}
+use Rattle.ffs_volume.specs.Directories.Paths.{dir_path, entry_path}
+use Rattle.ffs_volume.specs.Messages.Kinds.{told, out_of_range, whiteout, unallocated, extraneous, kind_entry, extra_dot, extra_dotdot}
+use Rattle.ffs_volume.specs.Directories.PathnameCheck.{attributes, label_of, roled_lines, roled_reported, entry_lines, plain_lines, named_lines, is_bad_whiteout, reports_suspect, suspect_reported, is_extraneous, is_other_kind, extra_reported}
 use Rattle.ffs_certificate.proofs.Silence.{nil-left, nil-right, nil-both, told-quiet, told-silent, if-quiet, if-silent, else-quiet, else-silent}
 
 -- a plain entry that names an inode from 2 on
 pub record IsNamedQuiet (v : Volume) (s j : ℕ) (e : Entry) : Type 0 where
   pub allocated : is_allocated (v.class e.number) ≡ true
-  pub suspect : tells_suspect v s j e.number ≡ false
+  pub suspect : reports_suspect v s j e.number ≡ false
   pub link : is_extraneous v s j e.number ≡ false
   pub kind : is_other_kind v e ≡ false
 
@@ -30,13 +31,13 @@ pub record IsPlainQuiet (v : Volume) (s j : ℕ) (e : Entry) : Type 0 where
 named-quiet : (v : Volume) (s j : ℕ) (e : Entry) → is_allocated (v.class e.number) ≡ true → named_lines v s j e ≡ [] → IsNamedQuiet v s j e
 unfolding named_lines
 named-quiet v s j e a h =
-    let one = nil-left (told (tells_suspect v s j e.number) (suspect_told v e.number (entry_path (graph_of v) s e.name))) _ h in
-    let rest = nil-right (told (tells_suspect v s j e.number) (suspect_told v e.number (entry_path (graph_of v) s e.name))) _ h in
+    let one = nil-left (told (reports_suspect v s j e.number) (suspect_reported v e.number (entry_path (graph_of v) s e.name))) _ h in
+    let rest = nil-right (told (reports_suspect v s j e.number) (suspect_reported v e.number (entry_path (graph_of v) s e.name))) _ h in
     let two = nil-left (told (is_extraneous v s j e.number) (extraneous (entry_path (graph_of v) s e.name) (dir_path (graph_of v) e.number))) _ rest in
     let three = nil-right (told (is_extraneous v s j e.number) (extraneous (entry_path (graph_of v) s e.name) (dir_path (graph_of v) e.number))) _ rest in
     record {
       allocated = a;
-      suspect = told-quiet _ (suspect_told v e.number (entry_path (graph_of v) s e.name)) one;
+      suspect = told-quiet _ (suspect_reported v e.number (entry_path (graph_of v) s e.name)) one;
       link = told-quiet _ (extraneous (entry_path (graph_of v) s e.name) (dir_path (graph_of v) e.number)) two;
       kind = told-quiet _ (kind_entry (attributes v e.number) (label_of (v.class e.number)) (entry_path (graph_of v) s e.name)) three;
     }
@@ -44,8 +45,8 @@ named-quiet v s j e a h =
 named-silent : (v : Volume) (s j : ℕ) (e : Entry) → IsNamedQuiet v s j e → named_lines v s j e ≡ []
 unfolding named_lines
 named-silent v s j e q =
-    nil-both (told (tells_suspect v s j e.number) (suspect_told v e.number (entry_path (graph_of v) s e.name))) _
-    (told-silent _ (suspect_told v e.number (entry_path (graph_of v) s e.name)) q.suspect)
+    nil-both (told (reports_suspect v s j e.number) (suspect_reported v e.number (entry_path (graph_of v) s e.name))) _
+    (told-silent _ (suspect_reported v e.number (entry_path (graph_of v) s e.name)) q.suspect)
     (nil-both (told (is_extraneous v s j e.number) (extraneous (entry_path (graph_of v) s e.name) (dir_path (graph_of v) e.number))) _
     (told-silent _ (extraneous (entry_path (graph_of v) s e.name) (dir_path (graph_of v) e.number)) q.link)
     (told-silent _ (kind_entry (attributes v e.number) (label_of (v.class e.number)) (entry_path (graph_of v) s e.name)) q.kind))
@@ -73,53 +74,53 @@ plain-silent v s j e q =
     if-silent (not (is_allocated (v.class e.number))) _ _ (not_from_true _ (q.named n).allocated) (named-silent v s j e (q.named n)))))
 
 -- an entry: not extra, and quiet if it is plain
-pub record IsSeenQuiet (v : Volume) (s j : ℕ) (e : Seen) : Type 0 where
+pub record IsSeenQuiet (v : Volume) (s j : ℕ) (e : RoledEntry) : Type 0 where
   pub no_extra : e.role ≢ Extra
   pub plain : e.role ≡ Plain → IsPlainQuiet v s j e.entry
 
-extra_told-some : (about : Attr) (path : List ℕ) (e : Entry) → extra_told about path e ≡ [] → ⊥
-extra_told-some about path e h = go (is_one_dot e.name) h
+extra_reported-some : (about : Attr) (path : List ℕ) (e : Entry) → extra_reported about path e ≡ [] → ⊥
+extra_reported-some about path e h = go (is_one_dot e.name) h
   where
     go : (b : Bool) → (if b then extra_dot about path ∷ [] else extra_dotdot about path ∷ []) ≡ [] → ⊥
     go true h = absurd (cc)
     go false h = absurd (cc)
 
-pub seen-quiet : (v : Volume) (s j : ℕ) (e : Seen) → seen_lines v s j e ≡ [] → IsSeenQuiet v s j e
-unfolding seen_lines
+pub seen-quiet : (v : Volume) (s j : ℕ) (e : RoledEntry) → roled_lines v s j e ≡ [] → IsSeenQuiet v s j e
+unfolding roled_lines
 seen-quiet v s j e h = record {
-  no_extra = λ x. extra_told-some (attributes v s) (dir_path (graph_of v) s) e.entry (sym (ap (λ r. seen_told v s j r e.entry) x) ∙ h);
-  plain = λ x. plain-quiet v s j e.entry (sym (ap (λ r. seen_told v s j r e.entry) x) ∙ h);
+  no_extra = λ x. extra_reported-some (attributes v s) (dir_path (graph_of v) s) e.entry (sym (ap (λ r. roled_reported v s j r e.entry) x) ∙ h);
+  plain = λ x. plain-quiet v s j e.entry (sym (ap (λ r. roled_reported v s j r e.entry) x) ∙ h);
 }
 
-pub seen-silent : (v : Volume) (s j : ℕ) (e : Seen) → IsSeenQuiet v s j e → seen_lines v s j e ≡ []
-unfolding seen_lines
+pub seen-silent : (v : Volume) (s j : ℕ) (e : RoledEntry) → IsSeenQuiet v s j e → roled_lines v s j e ≡ []
+unfolding roled_lines
 seen-silent v s j e q = go e.role refl
   where
-    go : (r : Role) → e.role ≡ r → seen_told v s j r e.entry ≡ []
+    go : (r : Role) → e.role ≡ r → roled_reported v s j r e.entry ≡ []
     go Empty x = refl
     go Dot x = refl
     go Dotdot x = refl
     go Extra x = absurd (q.no_extra x)
     go Plain x = plain-silent v s j e.entry (q.plain x)
 
--- the entries of a list that stands from the place j on
-pub entries-quiet : (v : Volume) (s j : ℕ) (es : List Seen) → entry_lines v s j es ≡ [] → (k : ℕ) (e : Seen) → seen_at es k ≡ Some e → IsSeenQuiet v s (j + k) e
+-- the entries of a list that is from the place j on
+pub entries-quiet : (v : Volume) (s j : ℕ) (es : List RoledEntry) → entry_lines v s j es ≡ [] → (k : ℕ) (e : RoledEntry) → roled_at es k ≡ Some e → IsSeenQuiet v s (j + k) e
 unfolding entry_lines
 entries-quiet v s j [] h k e x = absurd (cc)
 entries-quiet v s j (f ∷ es) h zero e x =
     let q : f ≡ e = cc in
     let z : j ≡ j + 0 = omega arith in
-    subst (λ n. IsSeenQuiet v s n e) z (subst (λ y. IsSeenQuiet v s j y) q (seen-quiet v s j f (nil-left (seen_lines v s j f) _ h)))
+    subst (λ n. IsSeenQuiet v s n e) z (subst (λ y. IsSeenQuiet v s j y) q (seen-quiet v s j f (nil-left (roled_lines v s j f) _ h)))
 entries-quiet v s j (f ∷ es) h (suc k) e x =
     let z : suc j + k ≡ j + suc k = omega arith in
-    subst (λ n. IsSeenQuiet v s n e) z (entries-quiet v s (suc j) es (nil-right (seen_lines v s j f) _ h) k e x)
+    subst (λ n. IsSeenQuiet v s n e) z (entries-quiet v s (suc j) es (nil-right (roled_lines v s j f) _ h) k e x)
 
-pub entries-silent : (v : Volume) (s j : ℕ) (es : List Seen) → ((k : ℕ) (e : Seen) → seen_at es k ≡ Some e → IsSeenQuiet v s (j + k) e) → entry_lines v s j es ≡ []
+pub entries-silent : (v : Volume) (s j : ℕ) (es : List RoledEntry) → ((k : ℕ) (e : RoledEntry) → roled_at es k ≡ Some e → IsSeenQuiet v s (j + k) e) → entry_lines v s j es ≡ []
 unfolding entry_lines
 entries-silent v s j [] h = refl
 entries-silent v s j (f ∷ es) h =
     let z : j + 0 ≡ j = omega arith in
-    nil-both (seen_lines v s j f) _
+    nil-both (roled_lines v s j f) _
     (seen-silent v s j f (subst (λ n. IsSeenQuiet v s n f) z (h 0 f refl)))
     (entries-silent v s (suc j) es (λ k e x.
     let y : j + suc k ≡ suc j + k = omega arith in
@@ -133,12 +134,12 @@ plain-true Dotdot h = absurd (cc)
 plain-true Extra h = absurd (cc)
 plain-true Empty h = absurd (cc)
 
-test-gives : (p : Seen → Bool) (j : ℕ) (es : List Seen) → test_at p j es ≡ true → (e : Seen) × (seen_at es j ≡ Some e) × (p e ≡ true)
+test-gives : (p : RoledEntry → Bool) (j : ℕ) (es : List RoledEntry) → test_at p j es ≡ true → (e : RoledEntry) × (roled_at es j ≡ Some e) × (p e ≡ true)
 test-gives p j [] h = absurd (cc)
 test-gives p zero (e ∷ es) h = (e, refl, h)
 test-gives p (suc j) (e ∷ es) h = test-gives p j es h
 
-test-from : (p : Seen → Bool) (j : ℕ) (es : List Seen) (e : Seen) → seen_at es j ≡ Some e → p e ≡ true → test_at p j es ≡ true
+test-from : (p : RoledEntry → Bool) (j : ℕ) (es : List RoledEntry) (e : RoledEntry) → roled_at es j ≡ Some e → p e ≡ true → test_at p j es ≡ true
 test-from p j [] e x h = absurd (cc)
 test-from p zero (f ∷ es) e x h = let q : e ≡ f = cc in subst (λ y. p y ≡ true) q h
 test-from p (suc j) (f ∷ es) e x h = test-from p j es e x h
@@ -146,21 +147,21 @@ test-from p (suc j) (f ∷ es) e x h = test-from p j es e x h
 -- the entry at j of the directory s is a plain one that names x
 pub record IsNamer (v : Volume) (s j x : ℕ) : Type 0 where
   pub dir : is_dir v s ≡ true
-  pub entry : Seen
-  pub there : seen_at (seen_in v s) j ≡ Some entry
+  pub entry : RoledEntry
+  pub there : roled_at (roled_entries v s) j ≡ Some entry
   pub role : entry.role ≡ Plain
   pub number : entry.entry.number ≡ x
 
 pub names_at-gives : (v : Volume) (s j x : ℕ) → names_at (graph_of v) s j x ≡ true → IsNamer v s j x
 names_at-gives v s j x h =
-    let p = and_parts (is_dir v s) (test_at (names x) j (seen_in v s)) h in
-    let t = test-gives (names x) j (seen_in v s) p.1 in
+    let p = and_parts (is_dir v s) (test_at (names x) j (roled_entries v s)) h in
+    let t = test-gives (names x) j (roled_entries v s) p.1 in
     let e = t.0 in
     let q = and_parts (is_plain e.role) (e.entry.number == x) t.2 in
     record { dir = p.0; entry = e; there = t.1; role = plain-true e.role q.0; number = eqb-true e.entry.number x q.1 }
 
 pub names_at-from : (v : Volume) (s j x : ℕ) → IsNamer v s j x → names_at (graph_of v) s j x ≡ true
 names_at-from v s j x n =
-    and_from (is_dir v s) (test_at (names x) j (seen_in v s)) n.dir
-    (test-from (names x) j (seen_in v s) n.entry n.there
+    and_from (is_dir v s) (test_at (names x) j (roled_entries v s)) n.dir
+    (test-from (names x) j (roled_entries v s) n.entry n.there
     (and_from (is_plain n.entry.role) (n.entry.entry.number == x) (ap is_plain n.role) (eq-eqb n.entry.entry.number x n.number)))

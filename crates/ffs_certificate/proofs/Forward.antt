@@ -4,17 +4,19 @@ use Rattle.std.proofs.Common.{arith, sym, ◌∙◌, ap, subst, inl, inr}
 use Rattle.std.proofs.lemmas.Bool.{both_ways, cases_eq, eqb-true, eq-eqb, ne_eqb, lt-ltb, le-leb, and_parts, and_from, or_parts, not-false, not_from_false, false_from_ne_true}
 use Rattle.ffs_volume.specs.declared.Class.{Class}
 use Rattle.ffs_volume.specs.declared.Class.TheVariants.{Free, Partial, Unknown, File, Dir}
-use Rattle.ffs_volume.specs.Directory.{Entry}
-use Rattle.ffs_volume.specs.Roles.{Volume, is_dir, is_inode, is_directory, is_allocated, is_some_inode, is_unknown, is_suspect, dotdot, references}
-use Rattle.ffs_volume.specs.Climb.{is_value, is_value-true}
-use Rattle.ffs_volume.specs.Graph.{Graph, parent, parent_entry, lost, reached, AllReached, NoExtraneous, NamedOnce}
+use Rattle.ffs_volume.specs.Directories.Entries.{Entry}
+use Rattle.ffs_volume.specs.Blocks.Inodes.{is_directory, is_allocated, is_unknown}
+use Rattle.ffs_volume.specs.Directories.Roles.{Volume, is_dir, is_inode, is_some_inode, is_suspect, dotdot, references}
+use Rattle.ffs_volume.specs.Directories.Climb.{is_value}
+use Rattle.ffs_volume.proofs.ClimbLaws.{is_value-true}
+use Rattle.ffs_volume.specs.Directories.Graph.{Graph, parent, parent_entry, lost, reached, AllReached, NoExtraneous, NamedOnce}
 use Rattle.ffs_volume.proofs.Unreached.{lost-true}
 use Rattle.ffs_certificate.proofs.Lost.{silent-reached}
 use Rattle.ffs_certificate.proofs.Links.{links-right, has_parent_entry}
-use Rattle.ffs_volume.specs.Parents.{graph_of, is_from_parent}
-use Rattle.ffs_volume.specs.PathnameCheck.{is_short, is_bad_whiteout, is_other, is_extraneous, is_other_kind}
-use Rattle.ffs_volume.specs.Connectivity.{is_cut_off}
-use Rattle.ffs_volume.specs.DirectoriesRight.{IsVolume, IsUnmarked, IsWhole, IsPlainRight, AreDirsRight, AreLinksRight, AreCountsRight}
+use Rattle.ffs_volume.specs.Directories.Parents.{graph_of, is_from_parent}
+use Rattle.ffs_volume.specs.Directories.PathnameCheck.{is_short, is_bad_whiteout, is_other, is_extraneous, is_other_kind}
+use Rattle.ffs_volume.specs.Directories.Connectivity.{is_cut_off}
+use Rattle.ffs_volume.specs.Consistent.DirectoriesRight.{IsVolume, IsUnmarked, IsWhole, IsPlainRight, AreDirsRight, AreLinksRight, AreCountsRight}
 use Rattle.ffs_certificate.proofs.Silence.{and_false-right}
 use Rattle.ffs_certificate.proofs.Live.{plain-live}
 use Rattle.ffs_certificate.proofs.Entries.{names_at-gives, IsPlainQuiet}

@@ -6,8 +6,8 @@ use Rattle.std.proofs.lemmas.Bool.{and_parts, cases_eq, eq-eqb, ne_eqb, ltb-true
 use Rattle.std.proofs.lemmas.Bool.Decides.{nat_tests}
 use Rattle.std.proofs.lemmas.List.{get_or-set_same, get_or-set_other, length-set}
 use Rattle.std.proofs.lemmas.List.Sums.{sum_by-cons}
-use Rattle.ffs_volume.specs.Claims.{is_set}
-use Rattle.ffs_volume.specs.BlocksRight.{times}
+use Rattle.ffs_volume.specs.Blocks.Claims.{is_set}
+use Rattle.ffs_volume.specs.Consistent.BlocksRight.{times}
 use Rattle.ffs_certificate.proofs.BlockLaws.{mark, fresh}
 
 abbrev pub bit : Bool → ℕ
@@ -24,7 +24,7 @@ bit_set used g f below free = elim (cases_eq g f) [
   | inr other ↦ rw (get_or-set_other used g f true false (λ e. other (sym e)), ne_eqb g f other) (omega arith)
 ]
 
--- each number of the list stands in one place, and isn't used
+-- each number of the list is in one place, and isn't used
 abbrev pub IsNew : List Bool → List ℕ → Type 0
 IsNew used fs = (f : ℕ) → times f fs + bit (is_set used f) ≤ 1
 
@@ -73,7 +73,7 @@ marked_bit used (g ∷ fs) below e f =
     let rest = marked_bit (slice_set used g true) fs (ap (λ n. are_below n fs) (length-set used g true) ∙ a.1) b.1 f in
     omega (arith, rest, times_cons f g fs, bit_set used g f (ltb-true g (length used) a.0) free)
 
--- no number from n on stands in a list of numbers below n
+-- no number from n on is in a list of numbers below n
 pub times_past : (n f : ℕ) (fs : List ℕ) → are_below n fs ≡ true → n ≤ f → times f fs ≡ 0
 times_past n f [] below le = refl
 times_past n f (g ∷ fs) below le =

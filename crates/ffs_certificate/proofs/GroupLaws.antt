@@ -1,4 +1,4 @@
--- Phase 5 tells nothing exactly where all groups are right.
+-- Phase 5 reports nothing exactly where all groups are right.
 use Rattle.std.proofs.Common.{zero, suc, inl, inr, ◌≡◌, ℕ, ◌+◌, ◌<◌, ◌≤◌, Bool, true, false, arith, refl, sym, ap, subst, ◌∙◌, List, [], ◌∷◌, ◌++◌, ◌↔◌}
 use Rattle.std.specs.Prelude.{nat_lt, ◌&&◌, ◌||◌, ◌==◌, not, if◌then◌else◌, ℤ}
 use Rattle.std.specs.List.{list_all, list_any, flat_map, range_with_len}
@@ -8,17 +8,17 @@ use Rattle.ffs_volume.specs.declared.Layout.{Layout}
 use Rattle.ffs_volume.specs.declared.Class.{Class}
 use Rattle.ffs_volume.specs.declared.BlockMessage.{BlockMessage}
 use Rattle.ffs_volume.specs.declared.BlockMessage.TheVariants.{PartAlloc, UnknownType, Bad, Dup, ManyBad, ManyDup, PartTrunc, BlockCount, GroupMagic, FreeCounts, MapsWrong, GroupSums}
-use Rattle.ffs_volume.specs.Areas.{is_reserved}
-use Rattle.ffs_volume.specs.Owners.{Owner, fragments_of, all_steps}
-use Rattle.ffs_volume.specs.Claims.{is_set, reserved_map, no_claims, after_owners}
-use Rattle.ffs_volume.specs.BlockCheck.{phase1_lines, phase1b_lines}
-use Rattle.ffs_volume.specs.BlocksRight.{times, BlocksRight}
+use Rattle.ffs_volume.specs.Disk.Areas.{is_reserved}
+use Rattle.ffs_volume.specs.Blocks.Owners.{Owner, fragments_of, all_steps}
+use Rattle.ffs_volume.specs.Blocks.Claims.{is_set, reserved_map, no_claims, after_owners}
+use Rattle.ffs_volume.specs.Blocks.BlockCheck.{phase1_lines, phase1b_lines}
+use Rattle.ffs_volume.specs.Consistent.BlocksRight.{times, BlocksRight}
 use Rattle.ffs_certificate.proofs.BlockLaws.{is_nil, nil_append, mark}
 use Rattle.ffs_certificate.proofs.OwnerLaws.{owners_claim, owners_from, Quiet}
 use Rattle.ffs_certificate.proofs.FreshLaws.{bit, times_cons, marked_bit}
 use Rattle.ffs_certificate.proofs.BlocksSilent.{nil_is, right_quiet, runs_below, reserved_length, reserved_bit, blocks_silent}
-use Rattle.ffs_volume.specs.Groups.{group_block, summary_record, group_numbers, is_magic, are_places, are_maps, are_sums, is_record, is_total, GroupRight, GroupsRight}
-use Rattle.ffs_volume.specs.GroupCheck.{unless, group_lines, all_group_lines, is_told, told_once, untold, phase5_lines, is_free_of_kept, is_free_of_runs}
+use Rattle.ffs_volume.specs.Groups.Records.{group_block, summary_record, group_numbers, is_magic, are_places, are_maps, are_sums, is_record, is_total, GroupRight, GroupsRight}
+use Rattle.ffs_volume.specs.Groups.GroupCheck.{unless, group_lines, all_group_lines, is_reported, reported_once, unreported, phase5_lines, is_free_of_kept, is_free_of_runs}
 
 nil_flat : {X Y : Type 0} (f : X → List Y) (xs : List X) → is_nil (flat_map f xs) ≡ list_all (λ x. is_nil (f x)) xs
 nil_flat f [] = refl
@@ -38,24 +38,24 @@ all_from : (p : ℕ → Bool) (a n : ℕ) → ((c : ℕ) → a ≤ c → c < a +
 all_from p a zero h = refl
 all_from p a (suc n) h = and_from (p a) _ (h a (omega arith) (omega arith)) (all_from p (a + 1) n (λ c low high. h c (omega arith) (omega arith)))
 
-first_told : (m : BlockMessage) → is_told untold m ≡ false
-first_told (PartAlloc _) = refl
-first_told (UnknownType _) = refl
-first_told (Bad _ _) = refl
-first_told (Dup _ _) = refl
-first_told (ManyBad _) = refl
-first_told (ManyDup _) = refl
-first_told (PartTrunc _) = refl
-first_told (BlockCount _ _ _) = refl
-first_told (GroupMagic _) = refl
-first_told FreeCounts = refl
-first_told MapsWrong = refl
-first_told GroupSums = refl
+first_reported : (m : BlockMessage) → is_reported unreported m ≡ false
+first_reported (PartAlloc _) = refl
+first_reported (UnknownType _) = refl
+first_reported (Bad _ _) = refl
+first_reported (Dup _ _) = refl
+first_reported (ManyBad _) = refl
+first_reported (ManyDup _) = refl
+first_reported (PartTrunc _) = refl
+first_reported (BlockCount _ _ _) = refl
+first_reported (GroupMagic _) = refl
+first_reported FreeCounts = refl
+first_reported MapsWrong = refl
+first_reported GroupSums = refl
 
--- telling once hides no first message
-once_nil : (ms : List BlockMessage) → is_nil (told_once untold ms) ≡ is_nil ms
+-- reporting once hides no first message
+once_nil : (ms : List BlockMessage) → is_nil (reported_once unreported ms) ≡ is_nil ms
 once_nil [] = refl
-once_nil (m ∷ ms) = rw (first_told m) refl
+once_nil (m ∷ ms) = rw (first_reported m) refl
 
 nil_unless : (b : Bool) (m : BlockMessage) → is_nil (unless b m) ≡ b
 nil_unless true m = refl
@@ -109,7 +109,7 @@ module _ (v : Layout) (image : List ℕ) (totals : List ℤ) (free : ℕ → Boo
     (λ g. nil_is _ (all_say ∙ and_from _ _ (all_from (λ k. is_nil (group_lines v image free class k)) 0 v.ncg (λ c low high. group_says c ∙ group_test c (g.groups c (omega arith)))) g.total)),
   )
 
--- whether a number stands in a list, and how often
+-- whether a number is in a list, and how often
 any_times : (f : ℕ) (fs : List ℕ) → list_any (λ g. g == f) fs ≡ true → 1 ≤ times f fs
 any_times f [] e = absurd (cc)
 any_times f (g ∷ fs) e = one (g == f) refl (any_times f fs)
@@ -139,7 +139,7 @@ bit_zero : (b : Bool) → bit b ≡ 0 → b ≡ false
 bit_zero true e = absurd (omega arith)
 bit_zero false e = refl
 
--- where no block is told, the fragments of kept offers are those of all Runs
+-- where no block is reported, the fragments of kept offers are those of all Runs
 pub same_free : (v : Layout) (os : List Owner) → BlocksRight v os → is_free_of_kept v os ≡ is_free_of_runs v os
 unfolding no_claims
 same_free v os r = fun_ext (λ f. one f (nat_lt f v.size) refl)

@@ -5,46 +5,42 @@ use Rattle.std.proofs.lemmas.Bool.{and_parts, cases_eq, both_ways, eq-eqb, ne_eq
 use Rattle.std.proofs.lemmas.List.{get_or-set_same, get_or-set_other, length-set}
 use Rattle.std.proofs.lemmas.List.Sums.{sum_by-cons}
 use Rattle.ffs_volume.specs.declared.Layout.{Layout}
-use Rattle.ffs_volume.specs.Areas.{is_ok, is_reserved}
-use Rattle.ffs_volume.specs.Claims.{Claims, is_set, after_offer}
+use Rattle.ffs_volume.specs.Disk.Areas.{is_data_fragment, is_reserved}
+use Rattle.ffs_volume.specs.Blocks.Claims.{Claims, is_set, after_offer}
 use Rattle.ffs_certificate.proofs.FreshLaws.{bit}
-use Rattle.ffs_volume.specs.Keeping.{place_of, Judged, is_taken, dups_of, kept_of, judge}
+use Rattle.ffs_volume.specs.Blocks.Keeping.{place_of, OfferVerdict, is_taken, dups_of, kept_of, offer_verdict}
 
-pub dups_cons : (j : Judged) (e : List Judged) (i : ℕ) → dups_of (j ∷ e) i ≡ bit (j.dup && j.inode == i) + dups_of e i
+pub dups_cons : (j : OfferVerdict) (e : List OfferVerdict) (i : ℕ) → dups_of (j ∷ e) i ≡ bit (j.dup && j.inode == i) + dups_of e i
 dups_cons j e i = sum_by-cons (λ k. cond (k.dup && k.inode == i) 1 0) j e
 
-pub kept_cons : (j : Judged) (e : List Judged) (i : ℕ) → kept_of (j ∷ e) i ≡ bit (j.kept && j.inode == i) + kept_of e i
+pub kept_cons : (j : OfferVerdict) (e : List OfferVerdict) (i : ℕ) → kept_of (j ∷ e) i ≡ bit (j.kept && j.inode == i) + kept_of e i
 kept_cons j e i = sum_by-cons (λ k. cond (k.kept && k.inode == i) 1 0) j e
 
 -- the fold's state in the midst of a Run, and what was judged
-pub record OfferTie (v : Layout) (i : ℕ) (s : Claims) (e : List Judged) : Type 0 where
-  pub used : (f : ℕ) → is_ok v f ≡ true → is_set s.used f ≡ (is_reserved v f || is_taken e f)
+pub record OfferTie (v : Layout) (i : ℕ) (s : Claims) (e : List OfferVerdict) : Type 0 where
+  pub used : (f : ℕ) → is_data_fragment v f ≡ true → is_set s.used f ≡ (is_reserved v f || is_taken e f)
   pub long : length s.used ≡ v.size
   pub kept : s.kept ≡ kept_of e i
   pub capped : s.dups ≡ min 11 (dups_of e i)
 
-pub not_taken : (j : Judged) (e : List Judged) (f : ℕ) → j.kept ≡ false → is_taken (j ∷ e) f ≡ is_taken e f
+pub not_taken : (j : OfferVerdict) (e : List OfferVerdict) (f : ℕ) → j.kept ≡ false → is_taken (j ∷ e) f ≡ is_taken e f
 not_taken j e f k = rw k refl
 
-taken_other : (j : Judged) (e : List Judged) (f : ℕ) → (j.fragment ≡ f → ⊥) → is_taken (j ∷ e) f ≡ is_taken e f
+taken_other : (j : OfferVerdict) (e : List OfferVerdict) (f : ℕ) → (j.fragment ≡ f → ⊥) → is_taken (j ∷ e) f ≡ is_taken e f
 taken_other j e f other = rw (ne_eqb j.fragment f other) (one j.kept)
   where
     one : (b : Bool) → ((b && false) || is_taken e f) ≡ is_taken e f
     one true = refl
     one false = refl
 
-taken_here : (j : Judged) (e : List Judged) → j.kept ≡ true → is_taken (j ∷ e) j.fragment ≡ true
+taken_here : (j : OfferVerdict) (e : List OfferVerdict) → j.kept ≡ true → is_taken (j ∷ e) j.fragment ≡ true
 taken_here j e k = rw (k, eq-eqb j.fragment j.fragment refl) refl
 
 or_true : (b : Bool) → (b || true) ≡ true
 or_true true = refl
 or_true false = refl
 
-bit_most : (b : Bool) → bit b ≤ 1
-bit_most true = omega arith
-bit_most false = omega arith
-
-module _ (v : Layout) (i : ℕ) (s : Claims) (e : List Judged) (j : Judged) (t : OfferTie v i s e) (mine : j.inode ≡ i) where
+module _ (v : Layout) (i : ℕ) (s : Claims) (e : List OfferVerdict) (j : OfferVerdict) (t : OfferTie v i s e) (mine : j.inode ≡ i) where
   here : (j.inode == i) ≡ true
   here = eq-eqb j.inode i mine
 
@@ -63,11 +59,11 @@ module _ (v : Layout) (i : ℕ) (s : Claims) (e : List Judged) (j : Judged) (t :
       omega (arith, t.kept, kept_cons j e i)
 
   -- a kept one that isn't ok
-  tie_past : j.kept ≡ true → j.dup ≡ false → is_ok v j.fragment ≡ false → OfferTie v i (record s { kept = s.kept + 1 }) (j ∷ e)
+  tie_past : j.kept ≡ true → j.dup ≡ false → is_data_fragment v j.fragment ≡ false → OfferTie v i (record s { kept = s.kept + 1 }) (j ∷ e)
   tie_past k d bad =
       let none : bit (j.dup && j.inode == i) ≡ 0 = rw d refl in
       record {
-        used = λ f ok. t.used f ok ∙ ap (λ b. is_reserved v f || b) (sym (taken_other j e f (λ q. both_ways (is_ok v f) (subst (λ x. is_ok v x ≡ false) q bad) ok)));
+        used = λ f ok. t.used f ok ∙ ap (λ b. is_reserved v f || b) (sym (taken_other j e f (λ q. both_ways (is_data_fragment v f) (subst (λ x. is_data_fragment v x ≡ false) q bad) ok)));
         long = t.long;
         kept = kept_more k;
         capped = omega (arith, t.capped, dups_cons j e i);
@@ -107,18 +103,18 @@ module _ (v : Layout) (i : ℕ) (s : Claims) (e : List Judged) (j : Judged) (t :
         capped = omega (arith, t.capped, dups_cons j e i);
       }
 
-pub ok_low : (v : Layout) (f : ℕ) → is_ok v f ≡ true → f < v.size
-unfolding is_ok
+pub ok_low : (v : Layout) (f : ℕ) → is_data_fragment v f ≡ true → f < v.size
+unfolding is_data_fragment
 ok_low v f e = ltb-true f v.size (and_parts (nat_lt f v.size) _ e).0
 
--- one offer of a Run behind at most ten bad Runs
-pub offer_tied : (v : Layout) (i b f : ℕ) (s : Claims) (e : List Judged) → b ≤ 10 → OfferTie v i s e →
-    OfferTie v i (after_offer v s f) (judge v e (place_of i b f) ∷ e) × ((judge v e (place_of i b f)).kept ≡ nat_lt s.dups 11)
-unfolding judge
-offer_tied v i b f s e few t = go (nat_lt s.dups 11) refl (is_ok v f) refl (is_set s.used f) refl
+-- one offer of a Run after at most ten bad Runs
+pub offer_tied : (v : Layout) (i b f : ℕ) (s : Claims) (e : List OfferVerdict) → b ≤ 10 → OfferTie v i s e →
+    OfferTie v i (after_offer v s f) (offer_verdict v e (place_of i b f) ∷ e) × ((offer_verdict v e (place_of i b f)).kept ≡ nat_lt s.dups 11)
+unfolding offer_verdict
+offer_tied v i b f s e few t = go (nat_lt s.dups 11) refl (is_data_fragment v f) refl (is_set s.used f) refl
   where
-    j : Judged
-    j = judge v e (place_of i b f)
+    j : OfferVerdict
+    j = offer_verdict v e (place_of i b f)
 
     low : nat_le b 10 ≡ true
     low = le-leb b 10 few
@@ -127,30 +123,30 @@ offer_tied v i b f s e few t = go (nat_lt s.dups 11) refl (is_ok v f) refl (is_s
     kept_is true q = let lt = ltb-true s.dups 11 q in rw low (le-leb (dups_of e i) 10 (omega (arith, t.capped, lt)))
     kept_is false q = let ge = ltb-false s.dups 11 q in rw low (lt-leb (dups_of e i) 10 (omega (arith, t.capped, ge)))
 
-    go : (a : Bool) → nat_lt s.dups 11 ≡ a → (o : Bool) → is_ok v f ≡ o → (u : Bool) → is_set s.used f ≡ u →
-        OfferTie v i (after_offer v s f) (judge v e (place_of i b f) ∷ e) × ((nat_le b 10 && nat_le (dups_of e i) 10) ≡ nat_lt s.dups 11)
+    go : (a : Bool) → nat_lt s.dups 11 ≡ a → (o : Bool) → is_data_fragment v f ≡ o → (u : Bool) → is_set s.used f ≡ u →
+        OfferTie v i (after_offer v s f) (offer_verdict v e (place_of i b f) ∷ e) × ((nat_le b 10 && nat_le (dups_of e i) 10) ≡ nat_lt s.dups 11)
     go false qa o qo u qu =
         let ge = ltb-false s.dups 11 qa in
         let stay : after_offer v s f ≡ s = rw qa refl in (
-          subst (λ x. OfferTie v i x (judge v e (place_of i b f) ∷ e)) (sym stay)
-              (tie_skip v i s e (judge v e (place_of i b f)) t refl (kept_is false qa) (omega (arith, t.capped, ge))),
+          subst (λ x. OfferTie v i x (offer_verdict v e (place_of i b f) ∷ e)) (sym stay)
+              (tie_skip v i s e (offer_verdict v e (place_of i b f)) t refl (kept_is false qa) (omega (arith, t.capped, ge))),
           kept_is false qa ∙ sym qa,
         )
     go true qa false qo u qu =
         let stay : after_offer v s f ≡ record s { kept = s.kept + 1 } = rw (qa, qo) refl in (
-          subst (λ x. OfferTie v i x (judge v e (place_of i b f) ∷ e)) (sym stay)
-              (tie_past v i s e (judge v e (place_of i b f)) t refl (kept_is true qa) (rw qo refl) qo),
+          subst (λ x. OfferTie v i x (offer_verdict v e (place_of i b f) ∷ e)) (sym stay)
+              (tie_past v i s e (offer_verdict v e (place_of i b f)) t refl (kept_is true qa) (rw qo refl) qo),
           kept_is true qa ∙ sym qa,
         )
     go true qa true qo true qu =
         let stay : after_offer v s f ≡ record s { kept = s.kept + 1; dups = s.dups + 1; dup = slice_set s.dup f true } = rw (qa, qo, qu) refl in (
-          subst (λ x. OfferTie v i x (judge v e (place_of i b f) ∷ e)) (sym stay)
-              (tie_dup v i s e (judge v e (place_of i b f)) t refl (kept_is true qa) (rw qo (sym (t.used f qo) ∙ qu)) qu (ltb-true s.dups 11 qa) (slice_set s.dup f true)),
+          subst (λ x. OfferTie v i x (offer_verdict v e (place_of i b f) ∷ e)) (sym stay)
+              (tie_dup v i s e (offer_verdict v e (place_of i b f)) t refl (kept_is true qa) (rw qo (sym (t.used f qo) ∙ qu)) qu (ltb-true s.dups 11 qa) (slice_set s.dup f true)),
           kept_is true qa ∙ sym qa,
         )
     go true qa true qo false qu =
         let stay : after_offer v s f ≡ record s { kept = s.kept + 1; used = slice_set s.used f true } = rw (qa, qo, qu) refl in (
-          subst (λ x. OfferTie v i x (judge v e (place_of i b f) ∷ e)) (sym stay)
-              (tie_new v i s e (judge v e (place_of i b f)) t refl (kept_is true qa) (rw qo (sym (t.used f qo) ∙ qu)) (ok_low v f qo)),
+          subst (λ x. OfferTie v i x (offer_verdict v e (place_of i b f) ∷ e)) (sym stay)
+              (tie_new v i s e (offer_verdict v e (place_of i b f)) t refl (kept_is true qa) (rw qo (sym (t.used f qo) ∙ qu)) (ok_low v f qo)),
           kept_is true qa ∙ sym qa,
         )

@@ -6,38 +6,38 @@ use Rattle.std.proofs.lemmas.Bool.{and_parts, and_cases, cases_eq, cases_lt, bot
 use Rattle.ffs_volume.specs.declared.Layout.{Layout}
 use Rattle.ffs_volume.specs.declared.Step.{Step}
 use Rattle.ffs_volume.specs.declared.Step.TheVariants.{Run, Tail, Gap}
-use Rattle.ffs_volume.specs.Areas.{is_ok, is_in_range, is_reserved}
-use Rattle.ffs_volume.specs.Claims.{Claims, is_set, is_open, after_offer, after_offers, after_step}
-use Rattle.ffs_volume.specs.BlockCheck.{offers_kept, step_kept}
-use Rattle.ffs_volume.specs.Keeping.{Place, bads_after, place_of, step_offers, Judged, is_taken, dups_of, kept_of, judge, judged, offer_of, kept_offers}
+use Rattle.ffs_volume.specs.Disk.Areas.{is_data_fragment, is_in_range, is_reserved}
+use Rattle.ffs_volume.specs.Blocks.Claims.{Claims, is_set, is_open, after_offer, after_offers, after_step}
+use Rattle.ffs_volume.specs.Blocks.BlockCheck.{offers_kept, step_kept}
+use Rattle.ffs_volume.specs.Blocks.Keeping.{Place, bads_after, place_of, step_offers, OfferVerdict, is_taken, dups_of, kept_of, offer_verdict, judged, offer_of, kept_offers}
 use Rattle.ffs_certificate.proofs.KeepingLaws.{dups_cons, kept_cons, OfferTie, not_taken, offer_tied}
 
-pub judged_append : (v : Layout) (e : List Judged) (ps qs : List Place) → judged v e (ps ++ qs) ≡ judged v (judged v e ps) qs
+pub judged_append : (v : Layout) (e : List OfferVerdict) (ps qs : List Place) → judged v e (ps ++ qs) ≡ judged v (judged v e ps) qs
 judged_append v e [] qs = refl
-judged_append v e (p ∷ ps) qs = judged_append v (judge v e p ∷ e) ps qs
+judged_append v e (p ∷ ps) qs = judged_append v (offer_verdict v e p ∷ e) ps qs
 
-pub kept_append : (v : Layout) (e : List Judged) (ps qs : List Place) → kept_offers v e (ps ++ qs) ≡ kept_offers v e ps ++ kept_offers v (judged v e ps) qs
+pub kept_append : (v : Layout) (e : List OfferVerdict) (ps qs : List Place) → kept_offers v e (ps ++ qs) ≡ kept_offers v e ps ++ kept_offers v (judged v e ps) qs
 kept_append v e [] qs = refl
 kept_append v e (p ∷ ps) qs =
-    ap (λ z. (if (judge v e p).kept then offer_of p ∷ [] else []) ++ z) (kept_append v (judge v e p ∷ e) ps qs)
-    ∙ sym (append_assoc (if (judge v e p).kept then offer_of p ∷ [] else []) (kept_offers v (judge v e p ∷ e) ps) (kept_offers v (judged v (judge v e p ∷ e) ps) qs))
+    ap (λ z. (if (offer_verdict v e p).kept then offer_of p ∷ [] else []) ++ z) (kept_append v (offer_verdict v e p ∷ e) ps qs)
+    ∙ sym (append_assoc (if (offer_verdict v e p).kept then offer_of p ∷ [] else []) (kept_offers v (offer_verdict v e p ∷ e) ps) (kept_offers v (judged v (offer_verdict v e p ∷ e) ps) qs))
 
--- the offers of a Run behind at most ten bad ones
-offers_tied : (v : Layout) (i b : ℕ) (s : Claims) (e : List Judged) (fs : List ℕ) → b ≤ 10 → OfferTie v i s e →
+-- the offers of a Run after at most ten bad ones
+offers_tied : (v : Layout) (i b : ℕ) (s : Claims) (e : List OfferVerdict) (fs : List ℕ) → b ≤ 10 → OfferTie v i s e →
     OfferTie v i (after_offers v s fs) (judged v e (map (place_of i b) fs)) × (offers_kept v i s fs ≡ kept_offers v e (map (place_of i b) fs))
 offers_tied v i b s e [] few t = (t, refl)
 offers_tied v i b s e (f ∷ fs) few t =
     let one = offer_tied v i b f s e few t in
-    let rest = offers_tied v i b (after_offer v s f) (judge v e (place_of i b f) ∷ e) fs few one.0 in (
+    let rest = offers_tied v i b (after_offer v s f) (offer_verdict v e (place_of i b f) ∷ e) fs few one.0 in (
       rest.0,
       (ap (λ z. (if nat_lt s.dups 11 then record { inode = i; fragment = f } ∷ [] else []) ++ z) rest.1
-          ∙ ap (λ k. (if k then offer_of (place_of i b f) ∷ [] else []) ++ kept_offers v (judge v e (place_of i b f) ∷ e) (map (place_of i b) fs)) (sym one.1)),
+          ∙ ap (λ k. (if k then offer_of (place_of i b f) ∷ [] else []) ++ kept_offers v (offer_verdict v e (place_of i b f) ∷ e) (map (place_of i b) fs)) (sym one.1)),
     )
 
 offer_bad : (v : Layout) (s : Claims) (f : ℕ) → (after_offer v s f).bad ≡ s.bad
-offer_bad v s f = one (nat_lt s.dups 11) refl (is_ok v f) refl (is_set s.used f) refl
+offer_bad v s f = one (nat_lt s.dups 11) refl (is_data_fragment v f) refl (is_set s.used f) refl
   where
-    one : (a : Bool) → nat_lt s.dups 11 ≡ a → (o : Bool) → is_ok v f ≡ o → (u : Bool) → is_set s.used f ≡ u → (after_offer v s f).bad ≡ s.bad
+    one : (a : Bool) → nat_lt s.dups 11 ≡ a → (o : Bool) → is_data_fragment v f ≡ o → (u : Bool) → is_set s.used f ≡ u → (after_offer v s f).bad ≡ s.bad
     one false qa o qo u qu = rw qa refl
     one true qa false qo u qu = rw (qa, qo) refl
     one true qa true qo true qu = rw (qa, qo, qu) refl
@@ -47,18 +47,18 @@ offers_bad : (v : Layout) (s : Claims) (fs : List ℕ) → (after_offers v s fs)
 offers_bad v s [] = refl
 offers_bad v s (f ∷ fs) = offers_bad v (after_offer v s f) fs ∙ offer_bad v s f
 
--- what holds also behind the cut
-pub record Held (v : Layout) (i : ℕ) (s : Claims) (e : List Judged) : Type 0 where
-  pub used : (f : ℕ) → is_ok v f ≡ true → is_set s.used f ≡ (is_reserved v f || is_taken e f)
+-- what holds also after the cut
+pub record Held (v : Layout) (i : ℕ) (s : Claims) (e : List OfferVerdict) : Type 0 where
+  pub used : (f : ℕ) → is_data_fragment v f ≡ true → is_set s.used f ≡ (is_reserved v f || is_taken e f)
   pub long : length s.used ≡ v.size
   pub kept : s.kept ≡ kept_of e i
 
 -- eleven bad Runs or eleven dup offers
-abbrev pub Closed : ℕ → ℕ → List Judged → Type 0
+abbrev pub Closed : ℕ → ℕ → List OfferVerdict → Type 0
 Closed i b e = (11 ≤ b) ⊎ (11 ≤ dups_of e i)
 
-pub not_kept : (v : Layout) (i b f : ℕ) (e : List Judged) → Closed i b e → (judge v e (place_of i b f)).kept ≡ false
-unfolding judge
+pub not_kept : (v : Layout) (i b f : ℕ) (e : List OfferVerdict) → Closed i b e → (offer_verdict v e (place_of i b f)).kept ≡ false
+unfolding offer_verdict
 not_kept v i b f e (inl many) = rw (lt-leb b 10 (omega arith)) refl
 not_kept v i b f e (inr many) = rw (lt-leb (dups_of e i) 10 (omega arith)) (one (nat_le b 10))
   where
@@ -66,30 +66,30 @@ not_kept v i b f e (inr many) = rw (lt-leb (dups_of e i) 10 (omega arith)) (one 
     one true = refl
     one false = refl
 
-pub still_closed : (i b : ℕ) (j : Judged) (e : List Judged) → Closed i b e → Closed i b (j ∷ e)
+pub still_closed : (i b : ℕ) (j : OfferVerdict) (e : List OfferVerdict) → Closed i b e → Closed i b (j ∷ e)
 still_closed i b j e (inl many) = inl many
 still_closed i b j e (inr many) = inr (omega (arith, many, dups_cons j e i))
 
-skip_offers : (v : Layout) (i b : ℕ) (s : Claims) (e : List Judged) (fs : List ℕ) → Closed i b e → Held v i s e →
+skip_offers : (v : Layout) (i b : ℕ) (s : Claims) (e : List OfferVerdict) (fs : List ℕ) → Closed i b e → Held v i s e →
     Held v i s (judged v e (map (place_of i b) fs)) × Closed i b (judged v e (map (place_of i b) fs)) × (kept_offers v e (map (place_of i b) fs) ≡ [])
 skip_offers v i b s e [] c h = (h, c, refl)
 skip_offers v i b s e (f ∷ fs) c h =
-    let j = judge v e (place_of i b f) in
-    let no_keep : (judge v e (place_of i b f)).kept ≡ false = not_kept v i b f e c in
-    let rest = skip_offers v i b s (judge v e (place_of i b f) ∷ e) fs (still_closed i b (judge v e (place_of i b f)) e c) (record {
-      used = λ g ok. h.used g ok ∙ ap (λ x. is_reserved v g || x) (sym (not_taken (judge v e (place_of i b f)) e g no_keep));
+    let j = offer_verdict v e (place_of i b f) in
+    let no_keep : (offer_verdict v e (place_of i b f)).kept ≡ false = not_kept v i b f e c in
+    let rest = skip_offers v i b s (offer_verdict v e (place_of i b f) ∷ e) fs (still_closed i b (offer_verdict v e (place_of i b f)) e c) (record {
+      used = λ g ok. h.used g ok ∙ ap (λ x. is_reserved v g || x) (sym (not_taken (offer_verdict v e (place_of i b f)) e g no_keep));
       long = h.long;
-      kept = h.kept ∙ sym (kept_cons (judge v e (place_of i b f)) e i ∙ rw no_keep (omega arith));
+      kept = h.kept ∙ sym (kept_cons (offer_verdict v e (place_of i b f)) e i ∙ rw no_keep (omega arith));
     }) in
-    (rest.0, rest.1, ap (λ k. (if k then offer_of (place_of i b f) ∷ [] else []) ++ kept_offers v (judge v e (place_of i b f) ∷ e) (map (place_of i b) fs)) no_keep ∙ rest.2)
+    (rest.0, rest.1, ap (λ k. (if k then offer_of (place_of i b f) ∷ [] else []) ++ kept_offers v (offer_verdict v e (place_of i b f) ∷ e) (map (place_of i b) fs)) no_keep ∙ rest.2)
 
 -- the fold's state between steps, and what was judged
-pub record Tie (v : Layout) (i b : ℕ) (s : Claims) (e : List Judged) : Type 0 where
+pub record Tie (v : Layout) (i b : ℕ) (s : Claims) (e : List OfferVerdict) : Type 0 where
   pub held : Held v i s e
   pub ready : is_open s ≡ (nat_lt b 11 && nat_lt (dups_of e i) 11)
   pub same : is_open s ≡ true → (s.bad ≡ b) × (s.dups ≡ dups_of e i)
 
-closed_test : (i b : ℕ) (e : List Judged) → Closed i b e → (nat_lt b 11 && nat_lt (dups_of e i) 11) ≡ false
+closed_test : (i b : ℕ) (e : List OfferVerdict) → Closed i b e → (nat_lt b 11 && nat_lt (dups_of e i) 11) ≡ false
 closed_test i b e (inl many) = rw (le-ltb b 11 many) refl
 closed_test i b e (inr many) = rw (le-ltb (dups_of e i) 11 many) (one (nat_lt b 11))
   where
@@ -97,10 +97,10 @@ closed_test i b e (inr many) = rw (le-ltb (dups_of e i) 11 many) (one (nat_lt b 
     one true = refl
     one false = refl
 
-closed_tie : (v : Layout) (i b : ℕ) (s : Claims) (e : List Judged) → is_open s ≡ false → Closed i b e → Held v i s e → Tie v i b s e
+closed_tie : (v : Layout) (i b : ℕ) (s : Claims) (e : List OfferVerdict) → is_open s ≡ false → Closed i b e → Held v i s e → Tie v i b s e
 closed_tie v i b s e shut c h = record { held = h; ready = shut ∙ sym (closed_test i b e c); same = λ q. absurd (both_ways (is_open s) shut q) }
 
-open_tie : (v : Layout) (i b : ℕ) (s : Claims) (e : List Judged) → s.bad ≡ b → OfferTie v i s e → Tie v i b s e
+open_tie : (v : Layout) (i b : ℕ) (s : Claims) (e : List OfferVerdict) → s.bad ≡ b → OfferTie v i s e → Tie v i b s e
 open_tie v i b s e q t = record {
   held = record { used = t.used; long = t.long; kept = t.kept };
   ready = rw (q, t.capped) (ap (λ x. nat_lt b 11 && x) (one (dups_of e i)));
@@ -110,17 +110,17 @@ open_tie v i b s e q t = record {
     one : (n : ℕ) → nat_lt (min 11 n) 11 ≡ nat_lt n 11
     one n = elim (cases_lt n 11) [ inl l ↦ lt-ltb (min 11 n) 11 (omega arith) ∙ sym (lt-ltb n 11 l) | inr g ↦ le-ltb (min 11 n) 11 (omega arith) ∙ sym (le-ltb n 11 g) ]
 
-pub shut_closed : (i b : ℕ) (e : List Judged) → (nat_lt b 11 && nat_lt (dups_of e i) 11) ≡ false → Closed i b e
+pub shut_closed : (i b : ℕ) (e : List OfferVerdict) → (nat_lt b 11 && nat_lt (dups_of e i) 11) ≡ false → Closed i b e
 shut_closed i b e q = elim (and_cases (nat_lt b 11) (nat_lt (dups_of e i) 11) q) [ inl l ↦ inl (ltb-false b 11 l) | inr r ↦ inr (ltb-false (dups_of e i) 11 r) ]
 
-pub closed_more : (i b b' : ℕ) (e : List Judged) → b ≤ b' → Closed i b e → Closed i b' e
+pub closed_more : (i b b' : ℕ) (e : List OfferVerdict) → b ≤ b' → Closed i b e → Closed i b' e
 closed_more i b b' e le (inl many) = inl (omega arith)
 closed_more i b b' e le (inr many) = inr many
 
-abbrev StepTied : Layout → ℕ → ℕ → Claims → List Judged → Step → Type 0
+abbrev StepTied : Layout → ℕ → ℕ → Claims → List OfferVerdict → Step → Type 0
 StepTied v i b s e step = Tie v i (bads_after v b step) (after_step v s step) (judged v e (step_offers v i b step)) × (step_kept v i s step ≡ kept_offers v e (step_offers v i b step))
 
-pub step_tied : (v : Layout) (i b : ℕ) (s : Claims) (e : List Judged) (step : Step) → Tie v i b s e → StepTied v i b s e step
+pub step_tied : (v : Layout) (i b : ℕ) (s : Claims) (e : List OfferVerdict) (step : Step) → Tie v i b s e → StepTied v i b s e step
 step_tied v i b s e Gap t = (t, refl)
 step_tied v i b s e Tail t = one (is_open s) refl
   where

@@ -6,23 +6,23 @@ use Rattle.std.proofs.lemmas.Bool.{and_parts, and_from, ne_eqb, ltb-true, lt-ltb
 use Rattle.ffs_volume.specs.declared.Layout.{Layout}
 use Rattle.ffs_volume.specs.declared.Step.{Step}
 use Rattle.ffs_volume.specs.declared.Step.TheVariants.{Run, Tail, Gap}
-use Rattle.ffs_volume.specs.Areas.{is_ok, is_reserved}
-use Rattle.ffs_volume.specs.Owners.{Owner, owner_of, owners_of}
-use Rattle.ffs_volume.specs.Claims.{Claims, is_set, next_inode, no_claims, after_step, after_steps, after_owner, after_owners}
-use Rattle.ffs_volume.specs.BlockCheck.{steps_kept, owners_kept}
+use Rattle.ffs_volume.specs.Disk.Areas.{is_data_fragment, is_reserved}
+use Rattle.ffs_volume.specs.Blocks.Owners.{Owner, owner_of, owners_of}
+use Rattle.ffs_volume.specs.Blocks.Claims.{Claims, is_set, next_inode, no_claims, after_step, after_steps, after_owner, after_owners}
+use Rattle.ffs_volume.specs.Blocks.BlockCheck.{steps_kept, owners_kept}
 use Rattle.ffs_certificate.proofs.FreshLaws.{bit}
 use Rattle.ffs_certificate.proofs.BlocksSilent.{reserved_length, reserved_bit}
-use Rattle.ffs_volume.specs.Keeping.{Place, bads_after, place_of, step_offers, steps_offers, all_offers, Judged, is_taken, dups_of, kept_of, judge, judged, kept_offers}
+use Rattle.ffs_volume.specs.Blocks.Keeping.{Place, bads_after, place_of, step_offers, steps_offers, all_offers, OfferVerdict, is_taken, dups_of, kept_of, offer_verdict, judged, kept_offers}
 use Rattle.ffs_certificate.specs.Certificate.{KeepsByRule}
 use Rattle.ffs_certificate.proofs.KeepingLaws.{dups_cons, kept_cons, ok_low}
 use Rattle.ffs_certificate.proofs.KeepingOwners.{Tie, step_tied, judged_append, kept_append}
 
--- how many bad Runs some steps have, where `bads` stand before
+-- how many bad Runs some steps have, where `bads` are before
 abbrev pub bads_of : Layout → ℕ → List Step → ℕ
 bads_of v bads [] = bads
 bads_of v bads (step ∷ steps) = bads_of v (bads_after v bads step) steps
 
-pub steps_tied : (v : Layout) (i b : ℕ) (s : Claims) (e : List Judged) (steps : List Step) → Tie v i b s e →
+pub steps_tied : (v : Layout) (i b : ℕ) (s : Claims) (e : List OfferVerdict) (steps : List Step) → Tie v i b s e →
     Tie v i (bads_of v b steps) (after_steps v s steps) (judged v e (steps_offers v i b steps))
     × (steps_kept v i s steps ≡ kept_offers v e (steps_offers v i b steps))
 steps_tied v i b s e [] t = (t, refl)
@@ -37,14 +37,14 @@ steps_tied v i b s e (step ∷ steps) t =
     )
 
 -- the fold between inodes, and what was judged
-pub record Agrees (v : Layout) (s : Claims) (e : List Judged) : Type 0 where
-  pub used : (f : ℕ) → is_ok v f ≡ true → is_set s.used f ≡ (is_reserved v f || is_taken e f)
+pub record Agrees (v : Layout) (s : Claims) (e : List OfferVerdict) : Type 0 where
+  pub used : (f : ℕ) → is_data_fragment v f ≡ true → is_set s.used f ≡ (is_reserved v f || is_taken e f)
   pub long : length s.used ≡ v.size
 
-abbrev pub are_before : ℕ → List Judged → Bool
+abbrev pub are_before : ℕ → List OfferVerdict → Bool
 are_before n e = list_all (λ j. nat_lt j.inode n) e
 
-none_before : (n : ℕ) (e : List Judged) → are_before n e ≡ true → (dups_of e n ≡ 0) × (kept_of e n ≡ 0)
+none_before : (n : ℕ) (e : List OfferVerdict) → are_before n e ≡ true → (dups_of e n ≡ 0) × (kept_of e n ≡ 0)
 none_before n [] h = (refl, refl)
 none_before n (j ∷ e) h =
     let parts = and_parts (nat_lt j.inode n) (are_before n e) h in
@@ -57,7 +57,7 @@ none_before n (j ∷ e) h =
     one true = refl
     one false = refl
 
-pub before_more : (n m : ℕ) (e : List Judged) → n ≤ m → are_before n e ≡ true → are_before m e ≡ true
+pub before_more : (n m : ℕ) (e : List OfferVerdict) → n ≤ m → are_before n e ≡ true → are_before m e ≡ true
 before_more n m [] le h = refl
 before_more n m (j ∷ e) le h =
     let parts = and_parts (nat_lt j.inode n) (are_before n e) h in
@@ -67,12 +67,12 @@ before_more n m (j ∷ e) le h =
 abbrev places_before : ℕ → List Place → Bool
 places_before n ps = list_all (λ p. nat_lt p.inode n) ps
 
-pub judged_before : (v : Layout) (n : ℕ) (e : List Judged) (ps : List Place) → are_before n e ≡ true → places_before n ps ≡ true → are_before n (judged v e ps) ≡ true
-unfolding judge
+pub judged_before : (v : Layout) (n : ℕ) (e : List OfferVerdict) (ps : List Place) → are_before n e ≡ true → places_before n ps ≡ true → are_before n (judged v e ps) ≡ true
+unfolding offer_verdict
 judged_before v n e [] h g = h
 judged_before v n e (p ∷ ps) h g =
     let parts = and_parts (nat_lt p.inode n) (places_before n ps) g in
-    judged_before v n (judge v e p ∷ e) ps (and_from (nat_lt p.inode n) _ parts.0 h) parts.1
+    judged_before v n (offer_verdict v e p ∷ e) ps (and_from (nat_lt p.inode n) _ parts.0 h) parts.1
 
 map_before : (i b : ℕ) (fs : List ℕ) → places_before (i + 1) (map (place_of i b) fs) ≡ true
 map_before i b [] = refl
@@ -94,7 +94,7 @@ steps_before v i b [] = refl
 steps_before v i b (step ∷ steps) = places_append (i + 1) (step_offers v i b step) _ (step_before v i b step) (steps_before v i (bads_after v b step) steps)
 
 -- an inode begins
-pub begins : (v : Layout) (s : Claims) (e : List Judged) (o : Owner) → Agrees v s e → are_before o.number e ≡ true → Tie v o.number 0 (next_inode s) e
+pub begins : (v : Layout) (s : Claims) (e : List OfferVerdict) (o : Owner) → Agrees v s e → are_before o.number e ≡ true → Tie v o.number 0 (next_inode s) e
 begins v s e o a h =
     let none = none_before o.number e h in
     record {
@@ -104,7 +104,7 @@ begins v s e o a h =
     }
 
 -- the state and the judged offers at the end of an inode
-pub owner_tied : (v : Layout) (s : Claims) (e : List Judged) (o : Owner) → Agrees v s e → are_before o.number e ≡ true →
+pub owner_tied : (v : Layout) (s : Claims) (e : List OfferVerdict) (o : Owner) → Agrees v s e → are_before o.number e ≡ true →
     Tie v o.number (bads_of v 0 o.steps) (after_owner v s o) (judged v e (steps_offers v o.number 0 o.steps))
     × (steps_kept v o.number (next_inode s) o.steps ≡ kept_offers v e (steps_offers v o.number 0 o.steps))
 owner_tied v s e o a h = steps_tied v o.number 0 (next_inode s) e o.steps (begins v s e o a h)
@@ -114,7 +114,7 @@ abbrev pub Rising : ℕ → List Owner → Type 0
 Rising n [] = Unit {0}
 Rising n (o ∷ os) = (n ≤ o.number) × Rising (o.number + 1) os
 
-pub owners_tied : (v : Layout) (n : ℕ) (s : Claims) (e : List Judged) (os : List Owner) → Agrees v s e → are_before n e ≡ true → Rising n os →
+pub owners_tied : (v : Layout) (n : ℕ) (s : Claims) (e : List OfferVerdict) (os : List Owner) → Agrees v s e → are_before n e ≡ true → Rising n os →
     Agrees v (after_owners v s os) (judged v e (all_offers v os)) × (owners_kept v s os ≡ kept_offers v e (all_offers v os))
 owners_tied v n s e [] a h r = (a, refl)
 owners_tied v n s e (o ∷ os) a h r =
@@ -129,7 +129,7 @@ owners_tied v n s e (o ∷ os) a h r =
     )
 
 pub start_agrees : (v : Layout) → Agrees v (no_claims v) []
-unfolding no_claims is_ok
+unfolding no_claims is_data_fragment
 start_agrees v = record {
   used = λ f ok. reserved_bit v f ∙ (rw (lt-ltb f v.size (ok_low v f ok)) (one (is_reserved v f)));
   long = reserved_length v;

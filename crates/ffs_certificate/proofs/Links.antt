@@ -3,11 +3,12 @@ use Rattle.std.specs.Prelude.{◌≡◌, ◌≢◌, ℕ, zero, suc, ◌==◌, Bo
 use Rattle.std.specs.List.{list_any}
 use Rattle.std.proofs.Common.{sym, ◌∙◌, ap, subst, inl, inr}
 use Rattle.std.proofs.lemmas.Bool.{cases_eq, cases_Bool, and_parts, and_from, both_ways, cond-true, cond-false, ne_eqb, eqb-true, false_from_ne_true}
-use Rattle.ffs_volume.specs.Search.{some_below-from, some_below-gives, first_below-is}
-use Rattle.ffs_volume.specs.Climb.{is_value, is_value-from}
-use Rattle.ffs_volume.specs.Graph.{Graph, AllReached, edge, names, names_in, parent, parent_by, level, level_edge, reached, entry_place, first_place, test_at, names_at, is_parent_entry, NoExtraneous, LinksRight}
-use Rattle.ffs_volume.specs.Levels.{within-zero, level-some, level-before, level-is, reached-level}
-use Rattle.ffs_volume.specs.Roles.{Seen}
+use Rattle.ffs_volume.proofs.SearchLaws.{some_below-from, some_below-gives, first_below-is}
+use Rattle.ffs_volume.specs.Directories.Climb.{is_value}
+use Rattle.ffs_volume.proofs.ClimbLaws.{is_value-from}
+use Rattle.ffs_volume.specs.Directories.Graph.{Graph, AllReached, edge, names, names_in, parent, parent_by, level, level_edge, reached, entry_place, first_place, test_at, names_at, is_parent_entry, NoExtraneous, LinksRight}
+use Rattle.ffs_volume.proofs.LevelLaws.{within-zero, level-some, level-before, level-is, reached-level}
+use Rattle.ffs_volume.specs.Directories.Roles.{RoledEntry}
 
 -- a reached directory has a parent, with an edge
 pub parent_edge : (v : Graph) (d : ℕ) → d ≢ 2 → reached v d ≡ true → (s : ℕ) × (parent v d ≡ Some s) × (edge v s d ≡ true)
@@ -26,7 +27,7 @@ parent_edge v d n r =
         let w = some_below-gives (level_edge v k d) v.count (some_below-from (level_edge v k d) v.count b.0 b.1 (and_from (is_value (level v b.0) k) (edge v b.0 d) (is_value-from (level v b.0) k lev) b.3)) in
         (w.0, start ∙ (ap (parent_by v d) e ∙ first_below-is (level_edge v k d) v.count w.0 w.1), (and_parts (is_value (level v w.0) k) (edge v w.0 d) w.1.passes).1)
 
-pub place_of : (p : Seen → Bool) (es : List Seen) → list_any p es ≡ true → (j : ℕ) × (first_place p es ≡ Some j) × (test_at p j es ≡ true)
+pub place_of : (p : RoledEntry → Bool) (es : List RoledEntry) → list_any p es ≡ true → (j : ℕ) × (first_place p es ≡ Some j) × (test_at p j es ≡ true)
 place_of p [] h = absurd (cc)
 place_of p (e ∷ es) h =
     elim (cases_Bool (p e)) [

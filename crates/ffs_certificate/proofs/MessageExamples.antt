@@ -1,10 +1,10 @@
 -- The examples of the bytes of messages, by computation.
 use Rattle.std.specs.Fmt.{digits}
 use Rattle.std.proofs.Common.{refl, ap}
-use Rattle.ffs_volume.specs.Outcome.{outcome}
-use Rattle.ffs_volume.specs.Shown.{octal}
-use Rattle.ffs_volume.specs.Texts.{texts_of}
-use Rattle.ffs_volume.specs.Examples.{base_layout}
+use Rattle.ffs_volume.specs.Disk.Outcome.{outcome}
+use Rattle.ffs_volume.specs.Messages.Shown.{octal}
+use Rattle.ffs_volume.specs.Messages.Texts.{texts_of}
+use Rattle.ffs_volume.specs.Examples.Images.{base_layout}
 use Rattle.ffs_certificate.specs.MessageExamples.{MessageExamples}
 use Rattle.ffs_certificate.proofs.ReportExamples.{report_examples}
 use Rattle.ffs_certificate.proofs.SharedReport.{shared_lines}

@@ -9,11 +9,11 @@ use Rattle.ffs_volume.specs.declared.Class.{Class}
 use Rattle.ffs_volume.specs.declared.Class.TheVariants.{Free, Partial, Unknown, File, Dir}
 use Rattle.ffs_volume.specs.declared.Step.{Step}
 use Rattle.ffs_volume.specs.declared.BlockMessage.{BlockMessage}
-use Rattle.ffs_volume.specs.Inodes.{is_settled}
-use Rattle.ffs_volume.specs.Owners.{Owner, step_fragments, fragments_of, all_steps}
-use Rattle.ffs_volume.specs.Claims.{Claims, next_inode, after_owner, after_owners, steps_lines}
-use Rattle.ffs_volume.specs.BlockCheck.{class_lines, count_lines, owner_lines, owners_lines, sectors}
-use Rattle.ffs_volume.specs.BlocksRight.{is_whole_class, run_in_range, is_no_tail, is_counted}
+use Rattle.ffs_volume.specs.Blocks.Inodes.{is_file_or_dir}
+use Rattle.ffs_volume.specs.Blocks.Owners.{Owner, step_fragments, fragments_of, all_steps}
+use Rattle.ffs_volume.specs.Blocks.Claims.{Claims, next_inode, after_owner, after_owners, steps_lines}
+use Rattle.ffs_volume.specs.Blocks.BlockCheck.{class_lines, count_lines, owner_lines, owners_lines, sectors}
+use Rattle.ffs_volume.specs.Consistent.BlocksRight.{is_whole_class, run_in_range, is_no_tail, is_counted}
 use Rattle.ffs_certificate.proofs.BlockLaws.{is_nil, nil_append, mark, fresh, fresh_append, mark_append, Calm, Claimed, calm_open, fits, step_quiet, steps_quiet, steps_say, steps_claim}
 
 abbrev pub owner_quiet : Layout → List Bool → Owner → Bool
@@ -37,7 +37,7 @@ count_says : (v : Layout) (s end : Claims) (o : Owner) → Claimed (next_inode s
 count_says v s end o done =
     let ready = calm_open end done.calm in
     let many : end.kept ≡ length (fragments_of o.steps) = omega (arith, done.kept) in
-    rw (ready, many) (one (is_settled o.class) (o.blocks == sectors v (length (fragments_of o.steps))) _)
+    rw (ready, many) (one (is_file_or_dir o.class) (o.blocks == sectors v (length (fragments_of o.steps))) _)
   where
     one : (a b : Bool) (m : BlockMessage) → is_nil (if a && (true && not b) then m ∷ [] else []) ≡ (not a || b)
     one true true m = refl
@@ -76,7 +76,7 @@ fragments_append : (xs ys : List Step) → fragments_of (xs ++ ys) ≡ fragments
 fragments_append [] ys = refl
 fragments_append (x ∷ xs) ys = ap (λ z. step_fragments x ++ z) (fragments_append xs ys) ∙ sym (append_assoc (step_fragments x) (fragments_of xs) (fragments_of ys))
 
--- what quiet owners leave: all their fragments are used, and no fragment is told
+-- what quiet owners leave: all their fragments are used, and no fragment is reported
 pub owners_claim : (v : Layout) (s : Claims) (os : List Owner) → owners_quiet v s.used os ≡ true →
     ((after_owners v s os).used ≡ mark s.used (fragments_of (all_steps os))) × ((after_owners v s os).dup ≡ s.dup)
 owners_claim v s [] e = (refl, refl)

@@ -8,27 +8,28 @@ use Rattle.ffs_volume.specs.declared.Class.{Class}
 use Rattle.ffs_volume.specs.declared.Class.TheVariants.{Free, Partial, Unknown, File, Dir}
 use Rattle.ffs_volume.specs.declared.BlockMessage.{BlockMessage}
 use Rattle.ffs_volume.specs.declared.End.TheVariants.{Consistent}
-use Rattle.ffs_volume.specs.Superblock.{Superblock}
-use Rattle.ffs_volume.specs.Geometry.{IsGeometry}
-use Rattle.ffs_volume.specs.AcceptedLaws.{accepted_sound}
-use Rattle.ffs_volume.specs.Owners.{Owner, owners_of}
-use Rattle.ffs_volume.specs.BlockCheck.{phase1_lines, phase1b_lines, has_rescan}
-use Rattle.ffs_volume.specs.BlocksRight.{BlocksRight}
+use Rattle.ffs_volume.specs.Disk.Superblock.{Superblock}
+use Rattle.ffs_volume.specs.Disk.Geometry.{IsGeometry}
+use Rattle.ffs_volume.proofs.AcceptedLaws.{accepted_sound}
+use Rattle.ffs_volume.specs.Blocks.Owners.{Owner, owners_of}
+use Rattle.ffs_volume.specs.Blocks.BlockCheck.{phase1_lines, phase1b_lines, has_rescan}
+use Rattle.ffs_volume.specs.Consistent.BlocksRight.{BlocksRight}
 use Rattle.ffs_certificate.proofs.BlocksSilent.{phase1_silent, phase1b_silent}
-use Rattle.ffs_volume.specs.Groups.{GroupsRight}
-use Rattle.ffs_volume.specs.GroupCheck.{phase5_lines, is_free_of_kept}
+use Rattle.ffs_volume.specs.Groups.Records.{GroupsRight}
+use Rattle.ffs_volume.specs.Groups.GroupCheck.{phase5_lines, is_free_of_kept}
 use Rattle.ffs_certificate.proofs.GroupLaws.{phase5_silent, same_free}
-use Rattle.ffs_volume.specs.Messages.{Message, NameMessage, optimization, minfree, mounted, phase1b, of_blocks, of_names, is_defect, has_defect}
-use Rattle.ffs_volume.specs.Opening.{before_nul, is_optimization, is_minfree, unless_message, setting_lines, super_lines}
-use Rattle.ffs_volume.specs.Roles.{Volume, is_directory}
-use Rattle.ffs_volume.specs.PathnameCheck.{root_told, root_lines, pathname_lines, goes_on}
-use Rattle.ffs_volume.specs.Connectivity.{connectivity_lines}
-use Rattle.ffs_volume.specs.ReferenceCheck.{reference_lines}
+use Rattle.ffs_volume.specs.Messages.Kinds.{Message, NameMessage, optimization, minfree, mounted, phase1b, of_blocks, of_names, is_defect, has_defect}
+use Rattle.ffs_volume.specs.Report.Opening.{before_nul, is_optimization, is_minfree, unless_message, setting_lines, super_lines}
+use Rattle.ffs_volume.specs.Blocks.Inodes.{is_directory}
+use Rattle.ffs_volume.specs.Directories.Roles.{Volume}
+use Rattle.ffs_volume.specs.Directories.PathnameCheck.{root_reported, root_lines, pathname_lines, goes_on}
+use Rattle.ffs_volume.specs.Directories.Connectivity.{connectivity_lines}
+use Rattle.ffs_volume.specs.Directories.ReferenceCheck.{reference_lines}
 use Rattle.ffs_certificate.specs.DirsCertificate.{IsSilent, AreDirectoriesRight}
-use Rattle.ffs_volume.specs.Volumes.{class_at, volume_of, whole_volume}
-use Rattle.ffs_volume.specs.Consistent.{AreSettingsRight, AreRunsRight, IsConsistent}
-use Rattle.ffs_volume.specs.Report.{rescan_lines, later_lines, text_lines, report_lines, end_by, end_of}
-use Rattle.ffs_certificate.specs.ReportRight.{IsCertified, ReportIsRight, StopIsTold}
+use Rattle.ffs_volume.specs.Directories.Volumes.{class_at, volume_of, whole_volume}
+use Rattle.ffs_volume.specs.Consistent.Volume.{AreSettingsRight, AreRunsRight, IsConsistent}
+use Rattle.ffs_volume.specs.Report.Whole.{rescan_lines, later_lines, text_lines, report_lines, end_by, end_of}
+use Rattle.ffs_certificate.specs.ReportRight.{IsCertified, ReportIsRight, StopIsReported}
 use Rattle.ffs_certificate.proofs.Silence.{nil-left}
 use Rattle.ffs_certificate.proofs.DirsCertificate.{silent_right}
 use Rattle.ffs_certificate.proofs.VolumeLaws.{whole_is_volume, whole_unmarked, same_whole}
@@ -84,27 +85,27 @@ nil_parts : (xs ys : List Message) → xs ++ ys ≡ [] → (xs ≡ []) × (ys �
 nil_parts [] ys h = (refl, h)
 nil_parts (x ∷ xs) ys h = absurd (cc)
 
--- nothing is told of the settings exactly where they are right
-pub settings_told : (super : Superblock) → (setting_lines super ≡ []) ↔ AreSettingsRight super
+-- nothing is reported of the settings exactly where they are right
+pub settings_reported : (super : Superblock) → (setting_lines super ≡ []) ↔ AreSettingsRight super
 unfolding setting_lines
-settings_told super = (
+settings_reported super = (
   (λ h.
       let p = nil_parts (unless_message (is_optimization super) optimization) (unless_message (is_minfree super) (minfree super.minfree)) h in
       record { optimization = nil_message (is_optimization super) optimization p.0; minfree = nil_message (is_minfree super) (minfree super.minfree) p.1 }),
   (λ r. ap (λ b. unless_message b optimization ++ unless_message (is_minfree super) (minfree super.minfree)) r.optimization ∙ ap (λ b. unless_message b (minfree super.minfree)) r.minfree),
 )
 
--- THE ROOT: a run that stops behind it has told so
-told_root : (v : Volume) (c : Class) → root_told v c ≡ [] → is_directory c ≡ true
-told_root v Free h = absurd (cc)
-told_root v Partial h = absurd (cc)
-told_root v File h = absurd (cc)
-told_root v Unknown h = absurd (cc)
-told_root v Dir h = refl
+-- THE ROOT: a run that stops after it has reported so
+reported_root : (v : Volume) (c : Class) → root_reported v c ≡ [] → is_directory c ≡ true
+reported_root v Free h = absurd (cc)
+reported_root v Partial h = absurd (cc)
+reported_root v File h = absurd (cc)
+reported_root v Unknown h = absurd (cc)
+reported_root v Dir h = refl
 
 root_there : (v : Volume) → pathname_lines v ≡ [] → goes_on v ≡ true
 unfolding pathname_lines root_lines
-root_there v h = told_root v (v.class 2) (nil-left (root_told v (v.class 2)) _ h)
+root_there v h = reported_root v (v.class 2) (nil-left (root_reported v (v.class 2)) _ h)
 
 -- CONDITIONS 2 AND 3
 blocks_of_parts : (image : List ℕ) (super : Superblock) → IsConsistent image super → BlocksRight super.layout (owners_of super.layout image)
@@ -229,10 +230,10 @@ consistent_end : (image : List ℕ) (super : Superblock) → end_of image super 
 unfolding end_of
 consistent_end image super e = end_quiet (goes_on (volume_of super.layout image)) (has_defect (report_lines image super)) e
 
--- a run that stops behind the root has told a defect
-pub stop_told : StopIsTold
+-- a run that stops after the root has reported a defect
+pub stop_reported : StopIsReported
 unfolding end_of
-stop_told image super h = record {
+stop_reported image super h = record {
   told = true_from_ne_false _
       (λ q. (let w : true ≡ false = sym (root_there (volume_of super.layout image) (text_say image super q).pathnames) ∙ h in cc));
   end_is = ap (λ on. end_by on (has_defect (report_lines image super))) h;

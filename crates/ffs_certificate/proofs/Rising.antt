@@ -1,4 +1,4 @@
--- The logical blocks of an inode's Runs rise, and are below the number that its size comes to.
+-- The logical blocks of an inode's Runs rise, and are below the number of its logical blocks.
 use Rattle.std.proofs.Common.{zero, suc, inl, inr, ◌≡◌, ℕ, ◌+◌, ◌-◌, ◌*◌, ◌<◌, ◌≤◌, Bool, true, false, arith, refl, sym, ap, subst, ◌∙◌, List, [], ◌∷◌, ◌++◌, Some, None}
 use Rattle.std.specs.Prelude.{nat_lt, nat_eq, if◌then◌else◌, slice_index}
 use Rattle.std.specs.List.{list_all, flat_map, range_with_len}
@@ -10,10 +10,10 @@ use Rattle.std.proofs.lemmas.Grind.{div_ceil_times}
 use Rattle.std.proofs.lemmas.List.Folds.{list_all-append}
 use Rattle.ffs_volume.specs.declared.Step.{Step}
 use Rattle.ffs_volume.specs.declared.Step.TheVariants.{Run, Gap}
-use Rattle.ffs_volume.specs.Areas.{is_in_range}
-use Rattle.ffs_volume.specs.Inodes.{blocks_of, used_addresses}
-use Rattle.ffs_volume.specs.Steps.{Extent, word_at, block_bytes, any_word_from, used_words, tail_of, data_length, span_of, steps_at, level_of, first_block, steps_of_addresses, walks, last_of, steps_of}
-use Rattle.ffs_volume.specs.StepLaws.{one_more, span_more, next_first, used_most}
+use Rattle.ffs_volume.specs.Disk.Areas.{is_in_range}
+use Rattle.ffs_volume.specs.Blocks.Inodes.{blocks_of, used_addresses}
+use Rattle.ffs_volume.specs.Blocks.Steps.{Extent, word_at, block_bytes, any_word_from, used_words, tail_of, data_length, span_of, steps_at, level_of, first_block, steps_of_addresses, walks, last_of, steps_of}
+use Rattle.ffs_volume.proofs.StepLaws.{one_more, span_more, next_first, used_most}
 use Rattle.ffs_certificate.specs.BlocksRise.{step_blocks, blocks_in, AreRising, AllBlocksRise}
 
 -- numbers that rise from `low` on, below `high`, and all below a bound

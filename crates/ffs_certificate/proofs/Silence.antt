@@ -2,7 +2,7 @@
 use Rattle.std.specs.Prelude.{◌≡◌, ◌≢◌, ℕ, zero, suc, ◌<◌, Bool, true, false, ◌&&◌, refl, List, [], ◌∷◌, ◌++◌, if◌then◌else◌}
 use Rattle.std.proofs.Common.{arith, sym, ◌∙◌, ap, inl, inr}
 use Rattle.std.proofs.lemmas.Bool.{cases_eq}
-use Rattle.ffs_volume.specs.Messages.{NameMessage, told, lines_below}
+use Rattle.ffs_volume.specs.Messages.Kinds.{NameMessage, told, lines_below}
 
 pub nil-left : (xs ys : List NameMessage) → xs ++ ys ≡ [] → xs ≡ []
 nil-left [] ys h = refl

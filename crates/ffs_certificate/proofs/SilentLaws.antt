@@ -1,4 +1,4 @@
--- What else follows where phases 1 and 1b tell nothing: all steps are kept, and no inode is marked.
+-- What else follows where phases 1 and 1b report nothing: all steps are kept, and no inode is marked.
 use Rattle.std.proofs.Common.{zero, suc, ◌≡◌, ℕ, ◌+◌, ◌-◌, ◌*◌, ◌<◌, ◌≤◌, true, false, arith, refl, sym, ap, subst, ◌∙◌, List, [], ◌∷◌, ◌++◌}
 use Rattle.std.specs.Prelude.{◌||◌, if◌then◌else◌, map}
 use Rattle.std.specs.List.{range_with_len, list_any}
@@ -10,17 +10,17 @@ use Rattle.ffs_volume.specs.declared.Class.{Class}
 use Rattle.ffs_volume.specs.declared.Class.TheVariants.{Free, Partial, Unknown, File, Dir}
 use Rattle.ffs_volume.specs.declared.Step.{Step}
 use Rattle.ffs_volume.specs.declared.Step.TheVariants.{Run, Tail, Gap}
-use Rattle.ffs_volume.specs.Inodes.{inode_of, class_of}
-use Rattle.ffs_volume.specs.Steps.{steps_of}
-use Rattle.ffs_volume.specs.Owners.{owner_of, owners_of, step_fragments}
-use Rattle.ffs_volume.specs.Claims.{Claims, no_claims, reserved_map, next_inode, is_open, after_step, after_owner, after_owners}
-use Rattle.ffs_volume.specs.BlockCheck.{is_unknown_class, blames, is_marked, phase1_lines, phase1b_lines}
-use Rattle.ffs_volume.specs.BlocksRight.{is_whole_class, BlocksRight}
+use Rattle.ffs_volume.specs.Blocks.Inodes.{inode_of, class_of, is_unknown}
+use Rattle.ffs_volume.specs.Blocks.Steps.{steps_of}
+use Rattle.ffs_volume.specs.Blocks.Owners.{owner_of, owners_of, step_fragments}
+use Rattle.ffs_volume.specs.Blocks.Claims.{Claims, no_claims, reserved_map, next_inode, is_open, after_step, after_owner, after_owners}
+use Rattle.ffs_volume.specs.Blocks.BlockCheck.{blames, is_marked, phase1_lines, phase1b_lines}
+use Rattle.ffs_volume.specs.Consistent.BlocksRight.{is_whole_class, BlocksRight}
 use Rattle.ffs_certificate.proofs.BlockLaws.{mark, Calm, calm_open, step_quiet, steps_quiet, step_claims}
 use Rattle.ffs_certificate.proofs.OwnerLaws.{owner_quiet, owners_quiet, owner_claims, owners_from, start_calm}
 use Rattle.ffs_certificate.proofs.BlocksSilent.{right_quiet, blocks_silent}
 use Rattle.ffs_certificate.proofs.GroupLaws.{all_at}
-use Rattle.ffs_volume.specs.KeptSteps.{is_kept_step, kept_steps, claims_before, kept_steps_of}
+use Rattle.ffs_volume.specs.Blocks.KeptSteps.{is_kept_step, kept_steps, claims_before, kept_steps_of}
 
 step_kept_quiet : (v : Layout) (s : Claims) (step : Step) → Calm s → step_quiet v s.used step ≡ true → is_kept_step v s step ≡ true
 step_kept_quiet v s (Run start len block) c e =
@@ -62,7 +62,7 @@ all_kept v image r x low high =
     kept_at v image (no_claims v) 2 (v.ncg * v.ipg - 2) (x - 2) x (omega arith) (omega arith)
     (owners_from v (reserved_map v) (owners_of v image) (right_quiet v (owners_of v image) r))
 
-whole_known : (c : Class) → is_whole_class c ≡ true → is_unknown_class c ≡ false
+whole_known : (c : Class) → is_whole_class c ≡ true → is_unknown c ≡ false
 whole_known Free e = refl
 whole_known Partial e = refl
 whole_known Unknown e = absurd (cc)

@@ -5,15 +5,17 @@ use Rattle.std.proofs.Common.{arith, sym, ◌∙◌, ap, subst, inl, inr}
 use Rattle.std.proofs.lemmas.Bool.{both_ways, cases_Bool, cases_eq, eq-eqb, ne_eqb, leb-true, and_parts, and_from, or_from, or_right, not_from_false}
 use Rattle.ffs_volume.specs.declared.Class.{Class}
 use Rattle.ffs_volume.specs.declared.Class.TheVariants.{Free, Partial, Unknown, File, Dir}
-use Rattle.ffs_volume.specs.Roles.{Volume, is_dir, is_inode, is_directory, is_allocated, is_some_inode, is_suspect, seen_in}
-use Rattle.ffs_volume.specs.Search.{some_below-gives, first_below-is}
-use Rattle.ffs_volume.specs.Climb.{is_value, is_value-from}
-use Rattle.ffs_volume.specs.Graph.{names, names_in, named, first_place, test_at, IsSane, NoneDead}
+use Rattle.ffs_volume.specs.Blocks.Inodes.{is_directory, is_allocated}
+use Rattle.ffs_volume.specs.Directories.Roles.{Volume, is_dir, is_inode, is_some_inode, is_suspect, roled_entries}
+use Rattle.ffs_volume.proofs.SearchLaws.{some_below-gives, first_below-is}
+use Rattle.ffs_volume.specs.Directories.Climb.{is_value}
+use Rattle.ffs_volume.proofs.ClimbLaws.{is_value-from}
+use Rattle.ffs_volume.specs.Directories.Graph.{names, names_in, named, first_place, test_at, IsSane, NoneDead}
 use Rattle.ffs_certificate.proofs.Links.{place_of}
-use Rattle.ffs_volume.specs.Parents.{graph_of, seen_at, first_namer, is_first_name}
-use Rattle.ffs_volume.specs.PathnameCheck.{tells_suspect}
-use Rattle.ffs_volume.specs.Connectivity.{is_dead}
-use Rattle.ffs_volume.specs.DirectoriesRight.{IsVolume, IsUnmarked}
+use Rattle.ffs_volume.specs.Directories.Parents.{graph_of, roled_at, first_namer, is_first_name}
+use Rattle.ffs_volume.specs.Directories.PathnameCheck.{reports_suspect}
+use Rattle.ffs_volume.specs.Directories.Connectivity.{is_dead}
+use Rattle.ffs_volume.specs.Consistent.DirectoriesRight.{IsVolume, IsUnmarked}
 use Rattle.ffs_certificate.proofs.Silence.{and_false-from}
 use Rattle.ffs_certificate.proofs.Entries.{IsNamer, names_at-gives}
 use Rattle.ffs_certificate.proofs.Dirs.{IsPathnameQuiet, dir-below}
@@ -43,32 +45,32 @@ first_name : (v : Volume) (x : ℕ) → named (graph_of v) x ≡ true → (s : �
 first_name v x h =
     let g = graph_of v in
     let w = some_below-gives (λ s. names_in g s x) v.count h in
-    let p = and_parts (is_dir v w.0) (list_any (names x) (seen_in v w.0)) w.1.passes in
-    let q = place_of (names x) (seen_in v w.0) p.1 in (
+    let p = and_parts (is_dir v w.0) (list_any (names x) (roled_entries v w.0)) w.1.passes in
+    let q = place_of (names x) (roled_entries v w.0) p.1 in (
       w.0,
       q.0,
-      and_from (is_value (first_namer g x) w.0) (is_value (first_place (names x) (seen_in v w.0)) q.0)
+      and_from (is_value (first_namer g x) w.0) (is_value (first_place (names x) (roled_entries v w.0)) q.0)
           (is_value-from (first_namer g x) w.0 (first_below-is (λ s. names_in g s x) v.count w.0 w.1))
-          (is_value-from (first_place (names x) (seen_in v w.0)) q.0 q.1),
-      names_at-gives v w.0 q.0 x (and_from (is_dir v w.0) (test_at (names x) q.0 (seen_in v w.0)) p.0 q.2),
+          (is_value-from (first_place (names x) (roled_entries v w.0)) q.0 q.1),
+      names_at-gives v w.0 q.0 x (and_from (is_dir v w.0) (test_at (names x) q.0 (roled_entries v w.0)) p.0 q.2),
     )
 
 pub zero-suspect : (v : Volume) (d : ℕ) → is_dir v d ≡ true → (v.inode d).size ≡ 0 → is_suspect v d ≡ true
 zero-suspect v d h z = or_right (v.marked d) _ (and_from (is_dir v d) ((v.inode d).size == 0) h (eq-eqb (v.inode d).size 0 z))
 
--- a suspect that is named is told at its first name
-named_told : (v : Volume) → IsVolume v → IsPathnameQuiet v → ((d : ℕ) → d ≢ 2 → is_dir v d ≡ true → (v.inode d).size ≡ 0 → named (graph_of v) d ≡ true → ⊥)
-named_told v vol p d n h z t =
+-- a suspect that is named is reported at its first name
+named_reported : (v : Volume) → IsVolume v → IsPathnameQuiet v → ((d : ℕ) → d ≢ 2 → is_dir v d ≡ true → (v.inode d).size ≡ 0 → named (graph_of v) d ≡ true → ⊥)
+named_reported v vol p d n h z t =
     let f = first_name v d t in
     let m = f.3 in
-    let big : (v.inode f.0).size ≢ 0 = (λ e. let q : None ≡ Some m.entry = sym (ap (λ l. seen_at l f.1) (vol.empty f.0 m.dir e)) ∙ m.there in cc) in
+    let big : (v.inode f.0).size ≢ 0 = (λ e. let q : None ≡ Some m.entry = sym (ap (λ l. roled_at l f.1) (vol.empty f.0 m.dir e)) ∙ m.there in cc) in
     let quiet = ((p.each f.0 m.dir big).entries f.1 m.entry m.there).plain m.role in
     let two = dir-from_two v d h in
     let number = m.number in
     let not_one : (m.entry.entry.number == 1) ≡ false = ne_eqb m.entry.entry.number 1 (omega arith) in
-    let tells : tells_suspect v f.0 f.1 d ≡ true = and_from (is_suspect v d) (not (d == 2) && is_first_name (graph_of v) f.0 f.1 d) (zero-suspect v d h z)
+    let tells : reports_suspect v f.0 f.1 d ≡ true = and_from (is_suspect v d) (not (d == 2) && is_first_name (graph_of v) f.0 f.1 d) (zero-suspect v d h z)
     (and_from (not (d == 2)) (is_first_name (graph_of v) f.0 f.1 d) (not_from_false _ (ne_eqb d 2 n)) f.2) in
-    both_ways (tells_suspect v f.0 f.1 d) (subst (λ x. tells_suspect v f.0 f.1 x ≡ false) number (quiet.named not_one).suspect) tells
+    both_ways (reports_suspect v f.0 f.1 d) (subst (λ x. reports_suspect v f.0 f.1 x ≡ false) number (quiet.named not_one).suspect) tells
 
 -- no directory has size 0
 pub none_empty : (v : Volume) → IsVolume v → IsPathnameQuiet v → ((i : ℕ) → is_some_inode v i ≡ true → IsCountQuiet v i) → (d : ℕ) → is_dir v d ≡ true → (v.inode d).size ≢ 0
@@ -76,7 +78,7 @@ none_empty v vol p r d h z =
     elim (cases_eq d 2) [
       | inl e ↦ both_ways (is_suspect v 2) p.suspect (subst (λ x. is_suspect v x ≡ true) e (zero-suspect v d h z))
       | inr n ↦ elim (cases_Bool (named (graph_of v) d)) [
-        | inl t ↦ named_told v vol p d n h z t
+        | inl t ↦ named_reported v vol p d n h z t
         | inr t ↦ both_ways (is_dead v d) (r d (dir-allocated v d h)).alive
             (and_from (is_suspect v d) (not (d == 2) && not (named (graph_of v) d)) (zero-suspect v d h z)
             (and_from (not (d == 2)) (not (named (graph_of v) d)) (not_from_false _ (ne_eqb d 2 n)) (not_from_false _ t)))

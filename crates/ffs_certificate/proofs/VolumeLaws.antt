@@ -9,22 +9,22 @@ use Rattle.ffs_volume.specs.declared.Layout.{Layout}
 use Rattle.ffs_volume.specs.declared.Class.TheVariants.{Free, Unknown}
 use Rattle.ffs_volume.specs.declared.Step.{Step}
 use Rattle.ffs_volume.specs.declared.Inode.{Inode}
-use Rattle.ffs_volume.specs.Areas.{is_in_range}
-use Rattle.ffs_volume.specs.Geometry.{IsGeometry}
-use Rattle.ffs_volume.specs.Inodes.{inode_of, class_of, type_of, is_known_type, is_too_large, is_any_set, addresses_used}
-use Rattle.ffs_volume.specs.Steps.{steps_of}
-use Rattle.ffs_volume.specs.Owners.{owner_of, owners_of}
-use Rattle.ffs_volume.specs.BlockCheck.{is_marked}
-use Rattle.ffs_volume.specs.BlocksRight.{is_whole_class, BlocksRight}
+use Rattle.ffs_volume.specs.Disk.Areas.{is_in_range}
+use Rattle.ffs_volume.specs.Disk.Geometry.{IsGeometry}
+use Rattle.ffs_volume.specs.Blocks.Inodes.{inode_of, class_of, type_of, is_known_type, is_too_large, is_any_set, addresses_used, is_directory, is_allocated}
+use Rattle.ffs_volume.specs.Blocks.Steps.{steps_of}
+use Rattle.ffs_volume.specs.Blocks.Owners.{owner_of, owners_of}
+use Rattle.ffs_volume.specs.Blocks.BlockCheck.{is_marked}
+use Rattle.ffs_volume.specs.Consistent.BlocksRight.{is_whole_class, BlocksRight}
 use Rattle.ffs_volume.proofs.Sizes.{some_inodes, no_steps}
 use Rattle.ffs_certificate.proofs.GroupLaws.{all_at}
-use Rattle.ffs_volume.specs.Claims.{next_inode}
-use Rattle.ffs_volume.specs.KeptSteps.{kept_steps, kept_steps_of, claims_before}
+use Rattle.ffs_volume.specs.Blocks.Claims.{next_inode}
+use Rattle.ffs_volume.specs.Blocks.KeptSteps.{kept_steps, kept_steps_of, claims_before}
 use Rattle.ffs_certificate.proofs.SilentLaws.{all_kept, none_marked}
-use Rattle.ffs_volume.specs.Directory.{chunks_of}
-use Rattle.ffs_volume.specs.Roles.{chunk_seen, is_directory, is_allocated, seen_in}
-use Rattle.ffs_volume.specs.DirectoriesRight.{IsVolume, IsUnmarked}
-use Rattle.ffs_volume.specs.Volumes.{is_number, class_at, marked_at, steps_at_number, kept_at_number, reading_of, volume_with, volume_of, whole_volume}
+use Rattle.ffs_volume.specs.Directories.Entries.{chunks_of}
+use Rattle.ffs_volume.specs.Directories.Roles.{roled_chunk, roled_entries}
+use Rattle.ffs_volume.specs.Consistent.DirectoriesRight.{IsVolume, IsUnmarked}
+use Rattle.ffs_volume.specs.Directories.Volumes.{is_inode_number, class_at, marked_at, steps_at_number, kept_at_number, reading_of, volume_with, volume_of, whole_volume}
 
 -- no type that has a class is 14
 kind_known : (v : Layout) (i : Inode) → class_of v i ≢ Unknown → type_of i.mode ≢ 14
@@ -35,24 +35,24 @@ kind_known v i known e =
     ap (λ k. not (is_known_type k) || (is_too_large v i || is_any_set (drop (addresses_used v i) i.addresses))) e in
     known (rw (some, other) refl)
 
-class_number : (v : Layout) (image : List ℕ) (x : ℕ) → is_number v x ≡ true → class_at v image x ≡ class_of v (inode_of v image x)
+class_number : (v : Layout) (image : List ℕ) (x : ℕ) → is_inode_number v x ≡ true → class_at v image x ≡ class_of v (inode_of v image x)
 class_number v image x h = ap (λ b. if b then class_of v (inode_of v image x) else Free) h
 
 -- each volume of an image is one of those that the laws on directories speak of
 volume_is : (v : Layout) (image : List ℕ) (steps : ℕ → List Step) (marked : ℕ → Bool) → IsGeometry v →
-    ((d : ℕ) → is_number v d ≡ true → (inode_of v image d).size ≡ 0 → steps d ≡ []) → IsVolume (volume_with v image steps marked)
-unfolding volume_with seen_in
+    ((d : ℕ) → is_inode_number v d ≡ true → (inode_of v image d).size ≡ 0 → steps d ≡ []) → IsVolume (volume_with v image steps marked)
+unfolding volume_with roled_entries
 volume_is v image steps marked g none = record {
   some = some_inodes v g;
   empty = λ d h z.
-      let number = (and_parts (is_number v d) (is_directory (class_at v image d)) h).0 in
-      ap (λ ss. flat_map chunk_seen (chunks_of (reading_of v image d) (is_in_range v) ss)) (none d number z);
+      let number = (and_parts (is_inode_number v d) (is_directory (class_at v image d)) h).0 in
+      ap (λ ss. flat_map roled_chunk (chunks_of (reading_of v image d) (is_in_range v) ss)) (none d number z);
   kinds = λ x known h.
-      let number = (and_parts (is_number v x) (is_allocated (class_at v image x)) h).0 in
+      let number = (and_parts (is_inode_number v x) (is_allocated (class_at v image x)) h).0 in
       kind_known v (inode_of v image x) (λ e. known (class_number v image x number ∙ e));
 }
 
-steps_none : (v : Layout) (image : List ℕ) → IsGeometry v → (d : ℕ) → is_number v d ≡ true → (inode_of v image d).size ≡ 0 → steps_of v (inode_of v image d) image ≡ []
+steps_none : (v : Layout) (image : List ℕ) → IsGeometry v → (d : ℕ) → is_inode_number v d ≡ true → (inode_of v image d).size ≡ 0 → steps_of v (inode_of v image d) image ≡ []
 steps_none v image g d number z = let low = g.sizes.bsize_low in no_steps v image (inode_of v image d) (omega arith) z
 
 pub whole_is_volume : (v : Layout) (image : List ℕ) → IsGeometry v → IsVolume (whole_volume v image)
@@ -61,18 +61,11 @@ whole_is_volume v image g =
     volume_is v image (steps_at_number v image) (λ x. false) g
     (λ d number z. ap (λ b. if b then steps_of v (inode_of v image d) image else []) number ∙ steps_none v image g d number z)
 
-pub kept_is_volume : (v : Layout) (image : List ℕ) → IsGeometry v → IsVolume (volume_of v image)
-unfolding volume_of kept_steps_of
-kept_is_volume v image g =
-    volume_is v image (kept_at_number v image) (marked_at v image) g
-    (λ d number z. ap (λ b. if b then kept_steps_of v image d else []) number
-    ∙ ap (kept_steps v (next_inode (claims_before v image d))) (steps_none v image g d number z))
-
 -- where the blocks are right, each inode is free, a file or a directory
-number_bounds : (v : Layout) (x : ℕ) → is_number v x ≡ true → (2 ≤ x) × (x < v.ncg * v.ipg)
+number_bounds : (v : Layout) (x : ℕ) → is_inode_number v x ≡ true → (2 ≤ x) × (x < v.ncg * v.ipg)
 number_bounds v x h = let p = and_parts (nat_le 2 x) (nat_lt x (v.ncg * v.ipg)) h in (leb-true 2 x p.0, ltb-true x (v.ncg * v.ipg) p.1)
 
-whole_number : (v : Layout) (image : List ℕ) → BlocksRight v (owners_of v image) → (x : ℕ) → is_number v x ≡ true → is_whole_class (class_of v (inode_of v image x)) ≡ true
+whole_number : (v : Layout) (image : List ℕ) → BlocksRight v (owners_of v image) → (x : ℕ) → is_inode_number v x ≡ true → is_whole_class (class_of v (inode_of v image x)) ≡ true
 unfolding owners_of owner_of
 whole_number v image r x h =
     let b = number_bounds v x h in
@@ -82,9 +75,9 @@ whole_number v image r x h =
     (sym (list_all-map (λ o. is_whole_class o.class) (owner_of v image) (range_with_len 2 (v.ncg * v.ipg - 2))) ∙ r.classes) low (omega arith)
 
 whole_class : (v : Layout) (image : List ℕ) → BlocksRight v (owners_of v image) → (x : ℕ) → is_whole_class (class_at v image x) ≡ true
-whole_class v image r x = one (is_number v x) refl
+whole_class v image r x = one (is_inode_number v x) refl
   where
-    one : (b : Bool) → is_number v x ≡ b → is_whole_class (if b then class_of v (inode_of v image x) else Free) ≡ true
+    one : (b : Bool) → is_inode_number v x ≡ b → is_whole_class (if b then class_of v (inode_of v image x) else Free) ≡ true
     one true e = whole_number v image r x e
     one false e = refl
 
@@ -98,16 +91,16 @@ whole_unmarked v image r = record {
 
 -- where the blocks are right, the volume of the kept steps is that of all steps
 same_steps : (v : Layout) (image : List ℕ) → BlocksRight v (owners_of v image) → kept_at_number v image ≡ steps_at_number v image
-same_steps v image r = fun_ext (λ x. one x (is_number v x) refl)
+same_steps v image r = fun_ext (λ x. one x (is_inode_number v x) refl)
   where
-    one : (x : ℕ) (b : Bool) → is_number v x ≡ b → (if b then kept_steps_of v image x else []) ≡ (if b then steps_of v (inode_of v image x) image else [])
+    one : (x : ℕ) (b : Bool) → is_inode_number v x ≡ b → (if b then kept_steps_of v image x else []) ≡ (if b then steps_of v (inode_of v image x) image else [])
     one x true e = let b = number_bounds v x e in all_kept v image r x b.0 b.1
     one x false e = refl
 
 same_marks : (v : Layout) (image : List ℕ) → BlocksRight v (owners_of v image) → marked_at v image ≡ (λ x. false)
-same_marks v image r = fun_ext (λ x. one x (is_number v x) refl)
+same_marks v image r = fun_ext (λ x. one x (is_inode_number v x) refl)
   where
-    one : (x : ℕ) (b : Bool) → is_number v x ≡ b → (if b then is_marked v image x else false) ≡ false
+    one : (x : ℕ) (b : Bool) → is_inode_number v x ≡ b → (if b then is_marked v image x else false) ≡ false
     one x true e = let b = number_bounds v x e in none_marked v image r x b.0 b.1
     one x false e = refl
 

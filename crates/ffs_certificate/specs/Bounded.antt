@@ -1,9 +1,9 @@
 -- The bound on claims.
 use Rattle.std.specs.Prelude.{◌≤◌, ℕ, List}
 use Rattle.ffs_volume.specs.declared.Layout.{Layout}
-use Rattle.ffs_volume.specs.Geometry.{IsGeometry}
-use Rattle.ffs_volume.specs.Memory.{runs_limit}
-use Rattle.ffs_volume.specs.Report.{claim_count}
+use Rattle.ffs_volume.specs.Disk.Geometry.{IsGeometry}
+use Rattle.ffs_volume.specs.Report.Memory.{runs_limit}
+use Rattle.ffs_volume.specs.Report.Whole.{claim_count}
 
 -- whatever the addresses of an image are, no more Runs are seen than one for each fragment and 22 for each inode
 abbrev pub ClaimsAreBounded : Type 0

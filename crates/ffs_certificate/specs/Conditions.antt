@@ -1,27 +1,28 @@
--- What is told for each condition of a consistent volume.
+-- What is reported for each condition of a consistent volume.
 use Rattle.std.specs.Prelude.{◌≡◌, ◌≢◌, ◌↔◌, ℕ, ◌==◌, Bool, true, false, nat_lt, List, [], Some, IsSomeAnd, Option, Ok}
 use Rattle.std.specs.List.{list_all, list_any}
 use Rattle.ffs_volume.specs.declared.BlockMessage.{BlockMessage}
 use Rattle.ffs_volume.specs.declared.BlockMessage.TheVariants.{PartAlloc, UnknownType}
 use Rattle.ffs_volume.specs.declared.Role.TheVariants.{Extra, Plain}
-use Rattle.ffs_volume.specs.Superblock.{Superblock}
-use Rattle.ffs_volume.specs.Outcome.{outcome}
-use Rattle.ffs_volume.specs.Owners.{owners_of}
-use Rattle.ffs_volume.specs.BlockCheck.{phase1_lines}
-use Rattle.ffs_volume.specs.BlocksRight.{is_whole_class, BlocksRight}
-use Rattle.ffs_volume.specs.Groups.{GroupsRight}
-use Rattle.ffs_volume.specs.GroupCheck.{phase5_lines, is_free_of_kept, is_free_of_runs}
-use Rattle.ffs_volume.specs.Directory.{Entry}
-use Rattle.ffs_volume.specs.Roles.{Volume, Seen, is_dir, is_allocated, is_some_inode, seen_in, dot, dotdot, references}
-use Rattle.ffs_volume.specs.Graph.{parent}
-use Rattle.ffs_volume.specs.Parents.{graph_of, seen_at}
-use Rattle.ffs_volume.specs.Opening.{setting_lines}
-use Rattle.ffs_volume.specs.PathnameCheck.{goes_on, is_short, is_broken, are_sound, is_other, is_bad_whiteout, is_extraneous, is_other_kind}
-use Rattle.ffs_volume.specs.Connectivity.{is_cut_off}
-use Rattle.ffs_volume.specs.Numbers.{is_count}
-use Rattle.ffs_volume.specs.DirectoriesRight.{AreDirsRight, AreLinksRight, AreCountsRight}
-use Rattle.ffs_volume.specs.Volumes.{class_at, volume_of, whole_volume}
-use Rattle.ffs_volume.specs.Consistent.{AreSettingsRight, AreRunsRight}
+use Rattle.ffs_volume.specs.Disk.Superblock.{Superblock}
+use Rattle.ffs_volume.specs.Disk.Outcome.{outcome}
+use Rattle.ffs_volume.specs.Blocks.Owners.{owners_of}
+use Rattle.ffs_volume.specs.Blocks.BlockCheck.{phase1_lines}
+use Rattle.ffs_volume.specs.Consistent.BlocksRight.{is_whole_class, BlocksRight}
+use Rattle.ffs_volume.specs.Groups.Records.{GroupsRight}
+use Rattle.ffs_volume.specs.Groups.GroupCheck.{phase5_lines, is_free_of_kept, is_free_of_runs}
+use Rattle.ffs_volume.specs.Directories.Entries.{Entry}
+use Rattle.ffs_volume.specs.Blocks.Inodes.{is_allocated}
+use Rattle.ffs_volume.specs.Directories.Roles.{Volume, RoledEntry, is_dir, is_some_inode, roled_entries, dot, dotdot, references}
+use Rattle.ffs_volume.specs.Directories.Graph.{parent}
+use Rattle.ffs_volume.specs.Directories.Parents.{graph_of, roled_at}
+use Rattle.ffs_volume.specs.Report.Opening.{setting_lines}
+use Rattle.ffs_volume.specs.Directories.PathnameCheck.{goes_on, is_short, is_broken, are_sound, is_other, is_bad_whiteout, is_extraneous, is_other_kind}
+use Rattle.ffs_volume.specs.Directories.Connectivity.{is_cut_off}
+use Rattle.ffs_volume.specs.Disk.Numbers.{is_count}
+use Rattle.ffs_volume.specs.Consistent.DirectoriesRight.{AreDirsRight, AreLinksRight, AreCountsRight}
+use Rattle.ffs_volume.specs.Directories.Volumes.{class_at, volume_of, whole_volume}
+use Rattle.ffs_volume.specs.Consistent.Volume.{AreSettingsRight, AreRunsRight}
 use Rattle.ffs_certificate.specs.DirsCertificate.{IsSilent}
 
 -- a message that speaks of an inode's class
@@ -31,20 +32,20 @@ is_class_message (UnknownType inode) = true
 is_class_message _ = false
 
 -- Of the directories: the tests of the messages that speak for condition 4.
--- A plain entry isn't told as UNALLOCATED or BAD TYPE VALUE
-pub record IsNameUntold (v : Volume) (e : Entry) : Type 0 where
+-- A plain entry isn't reported as UNALLOCATED or BAD TYPE VALUE
+pub record IsNameUnreported (v : Volume) (e : Entry) : Type 0 where
   pub allocated : is_allocated (v.class e.number) ≡ true
   pub kind : is_other_kind v e ≡ false
 
 -- nor as I OUT OF RANGE or BAD WHITEOUT ENTRY
-pub record IsPlainUntold (v : Volume) (e : Entry) : Type 0 where
+pub record IsPlainUnreported (v : Volume) (e : Entry) : Type 0 where
   pub below : nat_lt e.number v.count ≡ true
   pub no_whiteout : is_bad_whiteout e ≡ false
-  pub named : (e.number == 1) ≡ false → IsNameUntold v e
+  pub named : (e.number == 1) ≡ false → IsNameUnreported v e
 
 -- a directory isn't of size 0, TOO SHORT, NOT MULTIPLE, with EMPTY BLOCKS or CORRUPTED; `.` and `..` aren't MISSING,
 -- with a bad number of `.` or BAD TYPE VALUE; there is no EXTRA entry
-pub record IsDirUntold (v : Volume) (d : ℕ) : Type 0 where
+pub record IsDirUnreported (v : Volume) (d : ℕ) : Type 0 where
   pub some : (v.inode d).size ≢ 0
   pub short : is_short v d ≡ false
   pub broken : is_broken v d ≡ false
@@ -52,31 +53,31 @@ pub record IsDirUntold (v : Volume) (d : ℕ) : Type 0 where
   pub sound : are_sound (v.chunks d) ≡ true
   pub dot_there : IsSomeAnd (dot v d) (λ e. (e.number ≡ d) × (e.kind ≡ 4))
   pub dotdot_there : IsSomeAnd (dotdot v d) (λ e. e.kind ≡ 4)
-  pub no_extra : (j : ℕ) (s : Seen) → seen_at (seen_in v d) j ≡ Some s → s.role ≢ Extra
-  pub plain : (j : ℕ) (s : Seen) → seen_at (seen_in v d) j ≡ Some s → s.role ≡ Plain → IsPlainUntold v s.entry
+  pub no_extra : (j : ℕ) (s : RoledEntry) → roled_at (roled_entries v d) j ≡ Some s → s.role ≢ Extra
+  pub plain : (j : ℕ) (s : RoledEntry) → roled_at (roled_entries v d) j ≡ Some s → s.role ≡ Plain → IsPlainUnreported v s.entry
 
 -- the root is no ROOT INODE UNALLOCATED or NOT DIRECTORY
-pub record AreDirsUntold (v : Volume) : Type 0 where
+pub record AreDirsUnreported (v : Volume) : Type 0 where
   pub root : goes_on v ≡ true
-  pub each : (d : ℕ) → is_dir v d ≡ true → IsDirUntold v d
+  pub each : (d : ℕ) → is_dir v d ≡ true → IsDirUnreported v d
 
 -- Of condition 5: no BAD INODE NUMBER FOR '..', no EXTRANEOUS HARD LINK and no UNREF DIR
-pub record AreLinksUntold (v : Volume) : Type 0 where
+pub record AreLinksUnreported (v : Volume) : Type 0 where
   pub dotdots : (d : ℕ) → is_dir v d ≡ true → IsSomeAnd (dotdot v d) (λ e. is_other (parent (graph_of v) d) e.number ≡ false)
-  pub links : (s j : ℕ) (e : Seen) → is_dir v s ≡ true → seen_at (seen_in v s) j ≡ Some e → e.role ≡ Plain → is_extraneous v s j e.entry.number ≡ false
+  pub links : (s j : ℕ) (e : RoledEntry) → is_dir v s ≡ true → roled_at (roled_entries v s) j ≡ Some e → e.role ≡ Plain → is_extraneous v s j e.entry.number ≡ false
   pub lost : (d : ℕ) → is_cut_off v d ≡ false
 
 -- of condition 6: no UNREF and no LINK COUNT
-pub record IsCountUntold (v : Volume) (i : ℕ) : Type 0 where
+pub record IsCountUnreported (v : Volume) (i : ℕ) : Type 0 where
   pub some : references v i ≢ 0
   pub same : is_count (v.inode i).nlink (references v i) ≡ true
 
-abbrev pub AreCountsUntold : Volume → Type 0
-AreCountsUntold v = (i : ℕ) → is_some_inode v i ≡ true → IsCountUntold v i
+abbrev pub AreCountsUnreported : Volume → Type 0
+AreCountsUnreported v = (i : ℕ) → is_some_inode v i ≡ true → IsCountUnreported v i
 
--- Each condition and what is told for it. Those of directories and groups are asked where the conditions on classes and Runs hold:
+-- Each condition and what is reported for it. Those of directories and groups are asked where the conditions on classes and Runs hold:
 -- the volume that the checks see is then that of all steps, and what is free is free of all Runs
-pub record ConditionsTold (image : List ℕ) (s : Superblock) : Type 0 where
+pub record ConditionsReported (image : List ℕ) (s : Superblock) : Type 0 where
   pub settings : (setting_lines s ≡ []) ↔ AreSettingsRight s
   pub classes : (list_any is_class_message (phase1_lines s.layout (owners_of s.layout image)) ≡ false)
       ↔ (list_all (λ o. is_whole_class o.class) (owners_of s.layout image) ≡ true)
@@ -84,15 +85,15 @@ pub record ConditionsTold (image : List ℕ) (s : Superblock) : Type 0 where
       (phase1_lines s.layout (owners_of s.layout image) ≡ []) ↔ AreRunsRight s.layout (owners_of s.layout image)
   pub whole : BlocksRight s.layout (owners_of s.layout image) → volume_of s.layout image ≡ whole_volume s.layout image
   pub checks : BlocksRight s.layout (owners_of s.layout image) → IsSilent (whole_volume s.layout image)
-      ↔ (AreDirsUntold (whole_volume s.layout image) × AreLinksUntold (whole_volume s.layout image) × AreCountsUntold (whole_volume s.layout image))
-  pub dirs : BlocksRight s.layout (owners_of s.layout image) → AreDirsUntold (whole_volume s.layout image) ↔ AreDirsRight (whole_volume s.layout image)
+      ↔ (AreDirsUnreported (whole_volume s.layout image) × AreLinksUnreported (whole_volume s.layout image) × AreCountsUnreported (whole_volume s.layout image))
+  pub dirs : BlocksRight s.layout (owners_of s.layout image) → AreDirsUnreported (whole_volume s.layout image) ↔ AreDirsRight (whole_volume s.layout image)
   pub links : BlocksRight s.layout (owners_of s.layout image) → AreDirsRight (whole_volume s.layout image) →
-      AreLinksUntold (whole_volume s.layout image) ↔ AreLinksRight (whole_volume s.layout image)
-  pub counts : AreCountsUntold (whole_volume s.layout image) ↔ AreCountsRight (whole_volume s.layout image)
+      AreLinksUnreported (whole_volume s.layout image) ↔ AreLinksRight (whole_volume s.layout image)
+  pub counts : AreCountsUnreported (whole_volume s.layout image) ↔ AreCountsRight (whole_volume s.layout image)
   pub groups : BlocksRight s.layout (owners_of s.layout image) →
       (phase5_lines s.layout image s.cstotal (is_free_of_kept s.layout (owners_of s.layout image)) (class_at s.layout image) ≡ [])
       ↔ GroupsRight s.layout image s.cstotal (is_free_of_runs s.layout (owners_of s.layout image)) (class_at s.layout image)
 
 -- for each accepted superblock
-abbrev pub ConditionsAreTold : Type 0
-ConditionsAreTold = (image : List ℕ) (sector : Option ℕ) (s : Superblock) → outcome image sector ≡ Ok s → ConditionsTold image s
+abbrev pub ConditionsAreReported : Type 0
+ConditionsAreReported = (image : List ℕ) (sector : Option ℕ) (s : Superblock) → outcome image sector ≡ Ok s → ConditionsReported image s

@@ -1,12 +1,12 @@
 -- The certificate of the checks of directories.
 use Rattle.std.specs.Prelude.{◌≡◌, ◌↔◌, []}
-use Rattle.ffs_volume.specs.Roles.{Volume}
-use Rattle.ffs_volume.specs.PathnameCheck.{pathname_lines}
-use Rattle.ffs_volume.specs.Connectivity.{connectivity_lines}
-use Rattle.ffs_volume.specs.ReferenceCheck.{reference_lines}
-use Rattle.ffs_volume.specs.DirectoriesRight.{AreDirsRight, AreLinksRight, AreCountsRight, IsVolume, IsUnmarked}
+use Rattle.ffs_volume.specs.Directories.Roles.{Volume}
+use Rattle.ffs_volume.specs.Directories.PathnameCheck.{pathname_lines}
+use Rattle.ffs_volume.specs.Directories.Connectivity.{connectivity_lines}
+use Rattle.ffs_volume.specs.Directories.ReferenceCheck.{reference_lines}
+use Rattle.ffs_volume.specs.Consistent.DirectoriesRight.{AreDirsRight, AreLinksRight, AreCountsRight, IsVolume, IsUnmarked}
 
--- the three checks tell nothing
+-- the three checks report nothing
 pub record IsSilent (v : Volume) : Type 0 where
   pub pathnames : pathname_lines v ≡ []
   pub connectivity : connectivity_lines v ≡ []

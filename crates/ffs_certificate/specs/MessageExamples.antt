@@ -6,12 +6,12 @@ use Rattle.ffs_volume.specs.declared.End.TheVariants.{Consistent, Defects, Refus
 use Rattle.ffs_volume.specs.declared.Label.TheVariants.{Dir as DirLabel, File as FileLabel, Name as NameLabel}
 use Rattle.ffs_volume.specs.declared.Order.TheVariants.{Little}
 use Rattle.ffs_volume.specs.declared.SuperFault.TheVariants.{Magic, Disagree}
-use Rattle.ffs_volume.specs.Messages.{bad_super, cannot_read, cannot_alloc, optimization, minfree, mounted, phase1, of_blocks, of_names, summary, root_not_dir, root_suspect, dir_length, missing_dot_first, kind_dotdot, out_of_range, dup_bad, extraneous, kind_entry, dead_marked, unref, unref_zero, link_count, is_defect}
-use Rattle.ffs_volume.specs.Opening.{opening_of}
-use Rattle.ffs_volume.specs.Texts.{texts_of}
-use Rattle.ffs_volume.specs.Memory.{held_limit, runs_limit}
-use Rattle.ffs_volume.specs.Report.{report_lines, report_of, end_by, status_of}
-use Rattle.ffs_volume.specs.Examples.{base_layout, base_image}
+use Rattle.ffs_volume.specs.Messages.Kinds.{bad_super, cannot_read, cannot_alloc, optimization, minfree, mounted, phase1, of_blocks, of_names, summary, root_not_dir, root_suspect, dir_length, missing_dot_first, kind_dotdot, out_of_range, dup_bad, extraneous, kind_entry, dead_marked, unref, unref_zero, link_count, is_defect}
+use Rattle.ffs_volume.specs.Report.Opening.{opening_of}
+use Rattle.ffs_volume.specs.Messages.Texts.{texts_of}
+use Rattle.ffs_volume.specs.Report.Memory.{held_limit, runs_limit}
+use Rattle.ffs_volume.specs.Report.Whole.{report_lines, report_of, end_by, status_of}
+use Rattle.ffs_volume.specs.Examples.Images.{base_layout, base_image}
 use Rattle.ffs_certificate.specs.ReportExamples.{shared_image, shared_superblock, about_file}
 
 abbrev pub about_most : Attr
@@ -48,7 +48,7 @@ pub record MessageExamples : Type 0 where
   -- tenths below zero
   pub summaries : texts_of (summary 1 2 (pos 3) (negsuc 0) (pos 1) (negsuc 9) ∷ summary 0 0 (negsuc 0) (negsuc 0) (pos 0) (negsuc 4) ∷ summary 0 0 (pos 0) (pos 0) (pos 0) (pos 0) ∷ [])
       ≡ codes "1 files, 2 used, 3 free (-1 frags, 1 blocks, -1.0% fragmentation)\n0 files, 0 used, -1 free (-1 frags, 0 blocks, -0.5% fragmentation)\n0 files, 0 used, 0 free (0 frags, 0 blocks, 0.0% fragmentation)\n"
-  -- which tell a defect
+  -- which report a defect
   pub defects : map is_defect (cannot_read 16 ∷ mounted [] ∷ phase1 ∷ optimization ∷ of_blocks (Bad 200 3) ∷ of_names root_suspect ∷ []) ≡ false ∷ false ∷ false ∷ true ∷ true ∷ true ∷ []
   -- ends and statuses; what a check of the base volume may hold and look at
   pub ends : (end_by true false ≡ Consistent) × (end_by true true ≡ Defects) × (end_by false true ≡ RootStop)

@@ -6,23 +6,23 @@ use Rattle.ffs_volume.specs.declared.Attr.{Attr}
 use Rattle.ffs_volume.specs.declared.BlockMessage.TheVariants.{Dup}
 use Rattle.ffs_volume.specs.declared.End.TheVariants.{Consistent}
 use Rattle.ffs_volume.specs.declared.Label.TheVariants.{File as FileLabel}
-use Rattle.ffs_volume.specs.Superblock.{Superblock}
-use Rattle.ffs_volume.specs.Messages.{Message, opening, mounted, phase1, phase1b, phase2, phase3, phase4, phase5, of_blocks, of_names, summary, dup_bad, root_none, unref_dir}
-use Rattle.ffs_volume.specs.PathnameCheck.{pathname_lines}
-use Rattle.ffs_volume.specs.Connectivity.{connectivity_lines}
-use Rattle.ffs_volume.specs.ReferenceCheck.{reference_lines}
-use Rattle.ffs_volume.specs.Volumes.{volume_of}
-use Rattle.ffs_volume.specs.Report.{text_lines, report_lines, report_of, report_end}
-use Rattle.ffs_volume.specs.Consistent.{IsConsistent}
-use Rattle.ffs_volume.specs.Examples.{bytes_in, word, zeros, mount_bytes, base_layout, base_superblock, base_image, root_chunk}
-use Rattle.ffs_volume.specs.DirectoryExamples.{entry_bytes, one_dot, two_dots}
+use Rattle.ffs_volume.specs.Disk.Superblock.{Superblock}
+use Rattle.ffs_volume.specs.Messages.Kinds.{Message, opening, mounted, phase1, phase1b, phase2, phase3, phase4, phase5, of_blocks, of_names, summary, dup_bad, root_none, unref_dir}
+use Rattle.ffs_volume.specs.Directories.PathnameCheck.{pathname_lines}
+use Rattle.ffs_volume.specs.Directories.Connectivity.{connectivity_lines}
+use Rattle.ffs_volume.specs.Directories.ReferenceCheck.{reference_lines}
+use Rattle.ffs_volume.specs.Directories.Volumes.{volume_of}
+use Rattle.ffs_volume.specs.Report.Whole.{text_lines, report_lines, report_of, report_end}
+use Rattle.ffs_volume.specs.Consistent.Volume.{IsConsistent}
+use Rattle.ffs_volume.specs.Examples.Images.{bytes_in, word, zeros, mount_bytes, base_layout, base_superblock, base_image, root_chunk}
+use Rattle.ffs_volume.specs.Examples.DirectoryExamples.{entry_bytes, one_dot, two_dots}
 
 -- an inode of this mode, count of links and size, with its first address
 unfoldable pub inode_bytes : Order → ℕ → ℕ → ℕ → ℕ → List ℕ
 inode_bytes o mode nlink size address =
     bytes_in o 2 mode ++ (bytes_in o 2 nlink ++ (zeros 4 ++ (bytes_in o 8 size ++ (zeros 24 ++ (word o address ++ (zeros 60 ++ (word o 2 ++ zeros 20)))))))
 
--- a chunk with `.` and `..`, and these bytes of entries behind them
+-- a chunk with `.` and `..`, and these bytes of entries after them
 unfoldable pub dir_chunk : Order → ℕ → List ℕ → List ℕ
 dir_chunk o d entries = entry_bytes o d 12 4 one_dot ++ (entry_bytes o 2 12 4 two_dots ++ entries)
 

@@ -1,15 +1,15 @@
 -- The certificate: what a report without a defect says of the volume.
 use Rattle.std.specs.Prelude.{true, ◌≡◌, ◌↔◌, ℕ, false, List, Option, Ok}
 use Rattle.ffs_volume.specs.declared.End.TheVariants.{Consistent, RootStop}
-use Rattle.ffs_volume.specs.Superblock.{Superblock}
-use Rattle.ffs_volume.specs.Outcome.{outcome}
-use Rattle.ffs_volume.specs.Consistent.{IsConsistent}
-use Rattle.ffs_volume.specs.Messages.{has_defect}
-use Rattle.ffs_volume.specs.Report.{text_lines, report_lines, end_of}
-use Rattle.ffs_volume.specs.PathnameCheck.{goes_on}
-use Rattle.ffs_volume.specs.Volumes.{volume_of}
+use Rattle.ffs_volume.specs.Disk.Superblock.{Superblock}
+use Rattle.ffs_volume.specs.Disk.Outcome.{outcome}
+use Rattle.ffs_volume.specs.Consistent.Volume.{IsConsistent}
+use Rattle.ffs_volume.specs.Messages.Kinds.{has_defect}
+use Rattle.ffs_volume.specs.Report.Whole.{text_lines, report_lines, end_of}
+use Rattle.ffs_volume.specs.Directories.PathnameCheck.{goes_on}
+use Rattle.ffs_volume.specs.Directories.Volumes.{volume_of}
 
--- no defect is told, or the run ends as Consistent, exactly where the volume is consistent
+-- no defect is reported, or the run ends as Consistent, exactly where the volume is consistent
 pub record IsCertified (image : List ℕ) (s : Superblock) : Type 0 where
   pub silent : (has_defect (report_lines image s) ≡ false) ↔ IsConsistent image s
   pub end_is : (end_of image s ≡ Consistent) ↔ IsConsistent image s
@@ -18,11 +18,11 @@ pub record IsCertified (image : List ℕ) (s : Superblock) : Type 0 where
 abbrev pub ReportIsRight : Type 0
 ReportIsRight = (image : List ℕ) (sector : Option ℕ) (s : Superblock) → outcome image sector ≡ Ok s → IsCertified image s
 
--- a run that stops behind the root has told a defect, and ends as such
-pub record IsToldStop (image : List ℕ) (s : Superblock) : Type 0 where
+-- a run that stops after the root has reported a defect, and ends as such
+pub record IsReportedStop (image : List ℕ) (s : Superblock) : Type 0 where
   pub told : has_defect (text_lines image s) ≡ true
   pub end_is : end_of image s ≡ RootStop
 
 -- where inode 2 is no directory
-abbrev pub StopIsTold : Type 0
-StopIsTold = (image : List ℕ) (s : Superblock) → goes_on (volume_of s.layout image) ≡ false → IsToldStop image s
+abbrev pub StopIsReported : Type 0
+StopIsReported = (image : List ℕ) (s : Superblock) → goes_on (volume_of s.layout image) ≡ false → IsReportedStop image s

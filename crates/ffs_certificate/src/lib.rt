@@ -10,12 +10,12 @@
 ghost use Rattle.ffs_certificate.specs.BlocksRise.{AllBlocksRise};
 ghost use Rattle.ffs_certificate.specs.Bounded.{ClaimsAreBounded};
 ghost use Rattle.ffs_certificate.specs.Certificate.{BlocksAndGroups, KeepingByRule};
-ghost use Rattle.ffs_certificate.specs.Conditions.{ConditionsAreTold};
+ghost use Rattle.ffs_certificate.specs.Conditions.{ConditionsAreReported};
 ghost use Rattle.ffs_certificate.specs.DirsCertificate.{SilentIsRight};
 ghost use Rattle.ffs_certificate.specs.KeptExamples.{KeptExamples};
 ghost use Rattle.ffs_certificate.specs.MessageExamples.{MessageExamples};
 ghost use Rattle.ffs_certificate.specs.ReportExamples.{ReportExamples};
-ghost use Rattle.ffs_certificate.specs.ReportRight.{ReportIsRight, StopIsTold};
+ghost use Rattle.ffs_certificate.specs.ReportRight.{ReportIsRight, StopIsReported};
 
 /// A law of the definitions: a silent check of blocks and groups certifies them.
 pub fn blocks_and_groups_are_certified()
@@ -27,7 +27,7 @@ pub fn keeping_is_by_rule()
     ensures { KeepingByRule }
 {}
 
-/// With nothing marked, the three checks of directories tell nothing exactly where the directories are consistent.
+/// With nothing marked, the three checks of directories report nothing exactly where the directories are consistent.
 pub fn silent_is_right()
     ensures { SilentIsRight }
 {}
@@ -43,14 +43,14 @@ pub fn claims_are_bounded()
     ensures { ClaimsAreBounded }
 {}
 
-/// Where inode 2 is no directory the run stops behind the pathname check, and a defect was told by then.
-pub fn stop_is_told()
-    ensures { StopIsTold }
+/// Where inode 2 is no directory the run stops after the pathname check, and a defect was reported by then.
+pub fn stop_is_reported()
+    ensures { StopIsReported }
 {}
 
-/// Each of the seven conditions of a consistent volume holds exactly where none of the messages that speak for it is told.
-pub fn conditions_are_told()
-    ensures { ConditionsAreTold }
+/// Each of the seven conditions of a consistent volume holds exactly where none of the messages that speak for it is reported.
+pub fn conditions_are_reported()
+    ensures { ConditionsAreReported }
 {}
 
 /// Whole reports of small images: the base image in both orders, which is so consistent, and images with a defect;

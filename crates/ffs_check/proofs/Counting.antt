@@ -3,7 +3,7 @@ use Rattle.std.proofs.Common.{◌≡◌, inl, inr, ◌∙◌, sym, ap, subst, �
 use Rattle.ffs_image.specs.Device.{Device, Rose}
 use Rattle.ffs_volume.specs.declared.End.{End}
 use Rattle.ffs_volume.specs.declared.End.TheVariants.{Consistent, Defects, Refused, RootStop, ReadFault, WriteFault, NoMemory}
-use Rattle.ffs_volume.specs.Messages.{Message}
+use Rattle.ffs_volume.specs.Messages.Kinds.{Message}
 use Rattle.ffs_report.specs.Sink.{Sink}
 use Rattle.ffs_check.specs.Failures.{ReadsFailed, WritesFailed}
 use Rattle.ffs_check.specs.Headline.{is_completed, WouldSay, Headline}

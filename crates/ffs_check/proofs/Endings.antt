@@ -1,53 +1,53 @@
--- How what the phases answered is told, and how a run so ends.
+-- How what the phases answered is reported, and how a run so ends.
 use Rattle.std.specs.Prelude.{IfOk}
 use Rattle.std.proofs.Common.{◌≡◌, inl, inr, refl, ◌∙◌, sym, ap, subst, ℕ, Bool, true, false, not, ◌&&◌, ◌||◌, List, [], ◌∷◌, ◌++◌, ◌<◌, length, append-nil, Option, Some, None, Result, Ok, Err}
 use Rattle.ffs_image.specs.Device.{Device, Faulted}
 use Rattle.ffs_volume.specs.declared.End.{End}
 use Rattle.ffs_volume.specs.declared.End.TheVariants.{WriteFault}
-use Rattle.ffs_volume.specs.Superblock.{Superblock}
-use Rattle.ffs_volume.specs.Messages.{Message, cannot_read, minfree, mounted, optimization, has_defect, is_defect}
-use Rattle.ffs_volume.specs.Opening.{before_nul, is_minfree, is_optimization, setting_lines, super_lines, unless_message}
-use Rattle.ffs_volume.specs.Report.{end_by}
+use Rattle.ffs_volume.specs.Disk.Superblock.{Superblock}
+use Rattle.ffs_volume.specs.Messages.Kinds.{Message, cannot_read, minfree, mounted, optimization, has_defect, is_defect}
+use Rattle.ffs_volume.specs.Report.Opening.{before_nul, is_minfree, is_optimization, setting_lines, super_lines, unless_message}
+use Rattle.ffs_volume.specs.Report.Whole.{end_by}
 use Rattle.std.specs.Borrow.{GName}
 use Rattle.ffs_report.specs.Sink.{Sink}
 use Rattle.ffs_report.specs.Progress.{Progress, Said, Stopped, starts}
 use Rattle.ffs_report.proofs.Reports.{has_defect-append, said_then, stopped_after, stopped_more}
-use Rattle.ffs_phase.specs.Known.{Where, Tells}
-use Rattle.ffs_phase.specs.Runs.{Reads}
+use Rattle.ffs_phase.specs.Known.{ForBytes, IsContents}
+use Rattle.ffs_phase.specs.Runs.{ImageAfter}
 use Rattle.ffs_phase.specs.declared.fault.RunFault.{RunFault}
 use Rattle.ffs_phase.specs.declared.fault.RunFault.TheVariants.{Read, Out}
 use Rattle.ffs_pathnames.specs.declared.phase.Root.{Root}
 use Rattle.ffs_pathnames.specs.GoesOn.{is_go}
-use Rattle.ffs_check.specs.Ends.{IsCut, TellsBefore, Ran, RunsThrough}
-use Rattle.ffs_check.specs.Told.{FaultTold, EndsAs}
+use Rattle.ffs_check.specs.Ends.{IsCut, ReportsBefore, Ran, RunsThrough}
+use Rattle.ffs_check.specs.Told.{FaultReported, EndsAs}
 use Rattle.ffs_check.proofs.Openings.{broke_off}
 
--- what an image's bytes determine, and nothing for an image that doesn't tell them
-abbrev pub at_told : Option (List ℕ) → (List ℕ → List Message) → List Message
-at_told None lines = []
-at_told (Some bytes) lines = lines bytes
+-- what an image's bytes determine, and nothing for an image that doesn't give them
+abbrev pub at_reported : Option (List ℕ) → (List ℕ → List Message) → List Message
+at_reported None lines = []
+at_reported (Some bytes) lines = lines bytes
 
-pub at_told_is : (told : Option (List ℕ)) (lines : List ℕ → List Message) (bytes : List ℕ) → told ≡ Some bytes → at_told told lines ≡ lines bytes
-at_told_is told lines bytes e = rw e refl
+pub at_reported_is : (contents : Option (List ℕ)) (lines : List ℕ → List Message) (bytes : List ℕ) → contents ≡ Some bytes → at_reported contents lines ≡ lines bytes
+at_reported_is contents lines bytes e = rw e refl
 
--- the fault of a read, as the image tells it
+-- the fault of a read, as the image gives it
 pub faulted_there : (image image' : Device) (sector : ℕ) → Faulted image image' sector → Faulted image image' image'.failed
-faulted_there image image' sector f = record { told = f.told; size = f.size; failed = refl; rose = f.rose }
+faulted_there image image' sector f = record { contents = f.contents; size = f.size; failed = refl; rose = f.rose }
 
-pub cut_there : (knows : List ℕ → Type 0) (goes : List ℕ → Bool) (text front rest : List Message) (image image' : Device) (sector : ℕ) → Faulted image image' sector → front ++ rest ≡ text →
-    Where knows (λ bytes. goes bytes ≡ true → 0 < length rest) → IsCut knows goes text (front ++ (cannot_read sector ∷ [])) image image' image'.failed
-cut_there knows goes text front rest image image' sector f e more = record {
+pub cut_there : (knows : List ℕ → Type 0) (goes : List ℕ → Bool) (text prefix rest : List Message) (image image' : Device) (sector : ℕ) → Faulted image image' sector → prefix ++ rest ≡ text →
+    ForBytes knows (λ bytes. goes bytes ≡ true → 0 < length rest) → IsCut knows goes text (prefix ++ (cannot_read sector ∷ [])) image image' image'.failed
+cut_there knows goes text prefix rest image image' sector f e more = record {
   faulted = faulted_there image image' sector f;
-  front = front;
+  prefix = prefix;
   rest = rest;
   whole = e;
   more = more;
-  line = ap (λ at. front ++ (cannot_read at ∷ [])) (sym f.failed);
+  line = ap (λ at. prefix ++ (cannot_read at ∷ [])) (sym f.failed);
 }
 
-module _ (before : Bool) (knows : List ℕ → Type 0) (lines : List ℕ → List Message) (goes : List ℕ → Bool) (image image' : Device) (tells : Where knows (Tells image.told)) (a b c : Progress) (end : End) where
+module _ (before : Bool) (knows : List ℕ → Type 0) (lines : List ℕ → List Message) (goes : List ℕ → Bool) (image image' : Device) (tells : ForBytes knows (IsContents image.contents)) (a b c : Progress) (end : End) where
   -- all was said
-  whole : (root : Root) → TellsBefore knows goes lines a b (Ok root) → image' ≡ image → Where knows (λ bytes. is_go root ≡ goes bytes) → EndsAs before b c (Ok root) end → Ran before knows lines goes image image' a c end
+  whole : (root : Root) → ReportsBefore knows goes lines a b (Ok root) → image' ≡ image → ForBytes knows (λ bytes. is_go root ≡ goes bytes) → EndsAs before b c (Ok root) end → Ran before knows lines goes image image' a c end
   whole root p still went e = record {
     text = p.messages;
     right = λ bytes k. sym (append-nil p.messages) ∙ p.right bytes k;
@@ -55,57 +55,57 @@ module _ (before : Bool) (knows : List ℕ → Type 0) (lines : List ℕ → Lis
   }
 
   -- a read failed
-  cut : (sector : ℕ) (front : List Message) (rest : List ℕ → List Message) → Where knows (λ bytes. front ++ rest bytes ≡ lines bytes) →
-      Where knows (λ bytes. goes bytes ≡ true → 0 < length (rest bytes)) → Said a b front → Faulted image image' sector →
-      FaultTold b c sector end → Ran before knows lines goes image image' a c end
-  cut sector front rest right more said f (inl told) = record {
-    text = front ++ at_told image.told rest;
-    right = λ bytes k. ap (λ more. front ++ more) (at_told_is image.told rest bytes (tells bytes k)) ∙ right bytes k;
+  cut : (sector : ℕ) (prefix : List Message) (rest : List ℕ → List Message) → ForBytes knows (λ bytes. prefix ++ rest bytes ≡ lines bytes) →
+      ForBytes knows (λ bytes. goes bytes ≡ true → 0 < length (rest bytes)) → Said a b prefix → Faulted image image' sector →
+      FaultReported b c sector end → Ran before knows lines goes image image' a c end
+  cut sector prefix rest right more said f (inl told) = record {
+    text = prefix ++ at_reported image.contents rest;
+    right = λ bytes k. ap (λ more. prefix ++ more) (at_reported_is image.contents rest bytes (tells bytes k)) ∙ right bytes k;
     ends = inr (inl (record {
       sector = sector;
-      messages = front ++ (cannot_read sector ∷ []);
+      messages = prefix ++ (cannot_read sector ∷ []);
       cut = record {
         faulted = f;
-        front = front;
-        rest = at_told image.told rest;
+        prefix = prefix;
+        rest = at_reported image.contents rest;
         whole = refl;
-        more = λ bytes k go. rw (at_told_is image.told rest bytes (tells bytes k)) (more bytes k go);
+        more = λ bytes k go. rw (at_reported_is image.contents rest bytes (tells bytes k)) (more bytes k go);
         line = refl;
       };
-      said = said_then a b c front (cannot_read sector ∷ []) said told.0;
+      said = said_then a b c prefix (cannot_read sector ∷ []) said told.0;
       end_is = told.1;
     }));
   }
-  cut sector front rest right more said f (inr untold) = record {
-    text = front ++ at_told image.told rest;
-    right = λ bytes k. ap (λ more. front ++ more) (at_told_is image.told rest bytes (tells bytes k)) ∙ right bytes k;
+  cut sector prefix rest right more said f (inr unreported) = record {
+    text = prefix ++ at_reported image.contents rest;
+    right = λ bytes k. ap (λ more. prefix ++ more) (at_reported_is image.contents rest bytes (tells bytes k)) ∙ right bytes k;
     ends = inr (inr (record {
-      messages = front ++ (cannot_read sector ∷ []);
-      would = inr (cut_there knows goes _ front (at_told image.told rest) image image' sector f refl
-          (λ bytes k go. rw (at_told_is image.told rest bytes (tells bytes k)) (more bytes k go)));
-      stopped = stopped_after a b c front (cannot_read sector ∷ []) said untold.0;
-      end_is = untold.1;
+      messages = prefix ++ (cannot_read sector ∷ []);
+      would = inr (cut_there knows goes _ prefix (at_reported image.contents rest) image image' sector f refl
+          (λ bytes k go. rw (at_reported_is image.contents rest bytes (tells bytes k)) (more bytes k go)));
+      stopped = stopped_after a b c prefix (cannot_read sector ∷ []) said unreported.0;
+      end_is = unreported.1;
     }));
   }
 
   -- the output failed
-  part : (front : List Message) (rest : List ℕ → List Message) → Where knows (λ bytes. front ++ rest bytes ≡ lines bytes) → Stopped a b front → image' ≡ image →
+  part : (prefix : List Message) (rest : List ℕ → List Message) → ForBytes knows (λ bytes. prefix ++ rest bytes ≡ lines bytes) → Stopped a b prefix → image' ≡ image →
       c ≡ b → end ≡ WriteFault → Ran before knows lines goes image image' a c end
-  part front rest right stopped still same e = record {
-    text = front ++ at_told image.told rest;
-    right = λ bytes k. ap (λ more. front ++ more) (at_told_is image.told rest bytes (tells bytes k)) ∙ right bytes k;
+  part prefix rest right stopped still same e = record {
+    text = prefix ++ at_reported image.contents rest;
+    right = λ bytes k. ap (λ more. prefix ++ more) (at_reported_is image.contents rest bytes (tells bytes k)) ∙ right bytes k;
     ends = inr (inr (record {
-      messages = front ++ at_told image.told rest;
+      messages = prefix ++ at_reported image.contents rest;
       would = inl (still, refl);
-      stopped = subst (λ to. Stopped a to (front ++ at_told image.told rest)) (sym same) (stopped_more a b front (at_told image.told rest) stopped);
+      stopped = subst (λ to. Stopped a to (prefix ++ at_reported image.contents rest)) (sym same) (stopped_more a b prefix (at_reported image.contents rest) stopped);
       end_is = e;
     }));
   }
 
-  pub ran : (r : Result Root RunFault) → TellsBefore knows goes lines a b r → Reads image image' r → IfOk r (λ root. Where knows (λ bytes. is_go root ≡ goes bytes)) → EndsAs before b c r end →
+  pub ran : (r : Result Root RunFault) → ReportsBefore knows goes lines a b r → ImageAfter image image' r → IfOk r (λ root. ForBytes knows (λ bytes. is_go root ≡ goes bytes)) → EndsAs before b c r end →
       Ran before knows lines goes image image' a c end
   ran (Ok root) p still went e = whole root p still went e
-  ran (Err (Read fault)) p f went e = cut fault.sector p.front.messages p.rest p.front.right p.more p.front.said f e
+  ran (Err (Read fault)) p f went e = cut fault.sector p.prefix.messages p.rest p.prefix.right p.more p.prefix.said f e
   ran (Err (Out fault)) p still went e = part p.messages p.rest p.right p.stopped still e.0 e.1
 
 -- what a report said that had just begun went to its output
@@ -131,18 +131,18 @@ runs_through before told e knows lines goes image image' output sink new end ran
 }
 
 -- where more is known
-cut_knows : (knows known : List ℕ → Type 0) (goes : List ℕ → Bool) (text messages : List Message) (image image' : Device) (sector : ℕ) → Where knows known →
+cut_knows : (knows known : List ℕ → Type 0) (goes : List ℕ → Bool) (text messages : List Message) (image image' : Device) (sector : ℕ) → ForBytes knows known →
     IsCut known goes text messages image image' sector → IsCut knows goes text messages image image' sector
 cut_knows knows known goes text messages image image' sector more c = record {
   faulted = c.faulted;
-  front = c.front;
+  prefix = c.prefix;
   rest = c.rest;
   whole = c.whole;
   more = λ bytes k. c.more bytes (more bytes k);
   line = c.line;
 }
 
-pub ran_knows : (before : Bool) (knows known : List ℕ → Type 0) (lines : List ℕ → List Message) (goes : List ℕ → Bool) (image image' : Device) (a b : Progress) (end : End) → Where knows known →
+pub ran_knows : (before : Bool) (knows known : List ℕ → Type 0) (lines : List ℕ → List Message) (goes : List ℕ → Bool) (image image' : Device) (a b : Progress) (end : End) → ForBytes knows known →
     Ran before known lines goes image image' a b end → Ran before knows lines goes image image' a b end
 ran_knows before knows known lines goes image image' a b end more ran = record {
   text = ran.text;
@@ -165,7 +165,7 @@ pub runs_at : (told : List Message) (knows : List ℕ → Type 0) (lines : List 
     RunsThrough told knows lines goes image image' out at end → RunsThrough told knows lines goes image image' out at' end
 runs_at told knows lines goes image image' out at at' end e runs = subst (λ to. RunsThrough told knows lines goes image image' out to end) e runs
 
--- the settings of an accepted superblock tell a defect where one of them isn't what it may be
+-- the settings of an accepted superblock report a defect where one of them isn't what it may be
 settings_defect : (a b : Bool) (x y : Message) → is_defect x ≡ true → is_defect y ≡ true → (xs : List Message) → has_defect xs ≡ false →
     not (a && b) ≡ has_defect ((unless_message a x ++ unless_message b y) ++ xs)
 settings_defect true true x y dx dy xs e = sym e

@@ -1,38 +1,38 @@
--- The headline, of a run behind an accepted superblock.
+-- The headline, of a run after an accepted superblock.
 use Rattle.std.proofs.Common.{◌≡◌, inl, inr, refl, ◌∙◌, sym, ap, subst, ℕ, Bool, true, false, List, [], ◌∷◌, ◌++◌, Option, Ok}
-use Rattle.ffs_image.specs.Device.{Device, WhereTold}
+use Rattle.ffs_image.specs.Device.{Device, ForContents}
 use Rattle.ffs_volume.specs.declared.SuperFault.{SuperFault}
 use Rattle.ffs_volume.specs.declared.End.{End}
 use Rattle.ffs_volume.specs.declared.End.TheVariants.{Consistent, Defects, Refused, RootStop, ReadFault, WriteFault, NoMemory}
-use Rattle.ffs_volume.specs.Superblock.{Superblock}
-use Rattle.ffs_volume.specs.Outcome.{outcome}
-use Rattle.ffs_volume.specs.Messages.{Message, cannot_read, cannot_alloc}
-use Rattle.ffs_volume.specs.Opening.{opening_lines}
-use Rattle.ffs_volume.specs.PathnameCheck.{goes_on}
-use Rattle.ffs_volume.specs.Report.{text_lines, end_by, report_of, report_end}
-use Rattle.ffs_volume.specs.Volumes.{volume_of}
+use Rattle.ffs_volume.specs.Disk.Superblock.{Superblock}
+use Rattle.ffs_volume.specs.Disk.Outcome.{outcome}
+use Rattle.ffs_volume.specs.Messages.Kinds.{Message, cannot_read, cannot_alloc}
+use Rattle.ffs_volume.specs.Report.Opening.{opening_lines}
+use Rattle.ffs_volume.specs.Directories.PathnameCheck.{goes_on}
+use Rattle.ffs_volume.specs.Report.Whole.{text_lines, end_by, report_of, report_end}
+use Rattle.ffs_volume.specs.Directories.Volumes.{volume_of}
 use Rattle.std.specs.Borrow.{GName}
 use Rattle.ffs_report.specs.Sink.{Sink}
 use Rattle.ffs_report.specs.Progress.{Progress, Said, starts}
 use Rattle.ffs_report.proofs.Reports.{said_then, stopped_after}
 use Rattle.ffs_layout.specs.declared.superblock.Super.{Super}
 use Rattle.ffs_layout.specs.Super.{Answers, seen}
-use Rattle.ffs_phase.specs.Known.{Tells}
+use Rattle.ffs_phase.specs.Known.{IsContents}
 use Rattle.ffs_check.specs.Opening.{Opened}
 use Rattle.ffs_check.specs.Ends.{SaidWhole, SaidCut, SaidPart}
-use Rattle.ffs_check.specs.Found.{RefusalTold, Followed}
+use Rattle.ffs_check.specs.Found.{RefusalReported, Followed}
 use Rattle.ffs_check.specs.Headline.{is_completed, opened_lines, Headline}
 use Rattle.ffs_check.proofs.Openings.{broke_off}
-use Rattle.ffs_check.proofs.Endings.{at_told, at_told_is, faulted_there}
+use Rattle.ffs_check.proofs.Endings.{at_reported, at_reported_is, faulted_there}
 use Rattle.ffs_check.proofs.Headlines.{whole_there, defect_there, end_of_there, end_there, completed_by, certifies}
 
-module _ (image : Device) (name : List ℕ) (sector : Option ℕ) (output : GName) (sink : Sink) (s : Superblock) (accepted : WhereTold image.told (λ bytes. Ok s ≡ outcome bytes sector))
+module _ (image : Device) (name : List ℕ) (sector : Option ℕ) (output : GName) (sink : Sink) (s : Superblock) (accepted : ForContents image.contents (λ bytes. Ok s ≡ outcome bytes sector))
     (p : Progress) (opened : Said (starts output sink) p (opened_lines name sector s)) (image' : Device) (new : Progress) where
   -- the memory was refused
-  unstarted : (end : End) → image' ≡ image → RefusalTold p new end → Headline image image' name sector sink new.sink end
+  unstarted : (end : End) → image' ≡ image → RefusalReported p new end → Headline image image' name sector sink new.sink end
   unstarted end still (inl told) = record {
-    text = opened_lines name sector s ++ at_told image.told (λ bytes. text_lines bytes s);
-    is_report = λ bytes t. whole_there bytes name sector s _ (accepted bytes t) (at_told_is image.told (λ bytes. text_lines bytes s) bytes t);
+    text = opened_lines name sector s ++ at_reported image.contents (λ bytes. text_lines bytes s);
+    is_report = λ bytes t. whole_there bytes name sector s _ (accepted bytes t) (at_reported_is image.contents (λ bytes. text_lines bytes s) bytes t);
     ends = inr (inr (inr (inl (record {
       messages = opened_lines name sector s ++ (cannot_alloc ∷ []);
       said = record { unread = still; found = s; accepted = λ bytes t. sym (accepted bytes t); lines = refl };
@@ -40,25 +40,25 @@ module _ (image : Device) (name : List ℕ) (sector : Option ℕ) (output : GNam
       end_is = told.1;
     }))));
   }
-  unstarted end still (inr untold) = record {
-    text = opened_lines name sector s ++ at_told image.told (λ bytes. text_lines bytes s);
-    is_report = λ bytes t. whole_there bytes name sector s _ (accepted bytes t) (at_told_is image.told (λ bytes. text_lines bytes s) bytes t);
+  unstarted end still (inr unreported) = record {
+    text = opened_lines name sector s ++ at_reported image.contents (λ bytes. text_lines bytes s);
+    is_report = λ bytes t. whole_there bytes name sector s _ (accepted bytes t) (at_reported_is image.contents (λ bytes. text_lines bytes s) bytes t);
     ends = inr (inr (inr (inr (record {
       messages = opened_lines name sector s ++ (cannot_alloc ∷ []);
       would = inr (inr (inr (record { unread = still; found = s; accepted = λ bytes t. sym (accepted bytes t); lines = refl })));
-      broke_off = broke_off output sink new (opened_lines name sector s ++ (cannot_alloc ∷ [])) (stopped_after (starts output sink) p new (opened_lines name sector s) (cannot_alloc ∷ []) opened untold.0);
-      end_is = untold.1;
+      broke_off = broke_off output sink new (opened_lines name sector s ++ (cannot_alloc ∷ [])) (stopped_after (starts output sink) p new (opened_lines name sector s) (cannot_alloc ∷ []) opened unreported.0);
+      end_is = unreported.1;
     }))));
   }
 
-  module _ (end : End) (text : List Message) (right : WhereTold image.told (λ bytes. text ≡ text_lines bytes s)) where
-    report : WhereTold image.told (λ bytes. opened_lines name sector s ++ text ≡ report_of bytes name sector)
+  module _ (end : End) (text : List Message) (right : ForContents image.contents (λ bytes. text ≡ text_lines bytes s)) where
+    report : ForContents image.contents (λ bytes. opened_lines name sector s ++ text ≡ report_of bytes name sector)
     report bytes t = whole_there bytes name sector s text (accepted bytes t) (right bytes t)
 
-    whole : SaidWhole false (Tells image.told) (λ bytes. goes_on (volume_of s.layout bytes)) text image image' p new end → Headline image image' name sector sink new.sink end
+    whole : SaidWhole false (IsContents image.contents) (λ bytes. goes_on (volume_of s.layout bytes)) text image image' p new end → Headline image image' name sector sink new.sink end
     whole all =
         let said = said_then (starts output sink) p new (opened_lines name sector s) text opened all.said in
-        let last : WhereTold image.told (λ bytes. end ≡ report_end bytes sector) = λ bytes t.
+        let last : ForContents image.contents (λ bytes. end ≡ report_end bytes sector) = λ bytes t.
         all.end_is ∙ end_of_there bytes s all.on new.defect (all.went bytes t) (said.defect ∙ defect_there bytes name sector s text (right bytes t))
         ∙ end_there bytes sector (Ok s) (accepted bytes t) in
         record {
@@ -73,21 +73,21 @@ module _ (image : Device) (name : List ℕ) (sector : Option ℕ) (output : GNam
           });
         }
 
-    cut : SaidCut (Tells image.told) (λ bytes. goes_on (volume_of s.layout bytes)) text image image' p new end → Headline image image' name sector sink new.sink end
+    cut : SaidCut (IsContents image.contents) (λ bytes. goes_on (volume_of s.layout bytes)) text image image' p new end → Headline image image' name sector sink new.sink end
     cut short =
         let at = short.sector in
         let here = short.cut.faulted.failed in
-        let line : short.messages ≡ short.cut.front ++ (cannot_read image'.failed ∷ []) = short.cut.line ∙ ap (λ at. short.cut.front ++ (cannot_read at ∷ [])) (sym here) in
+        let line : short.messages ≡ short.cut.prefix ++ (cannot_read image'.failed ∷ []) = short.cut.line ∙ ap (λ at. short.cut.prefix ++ (cannot_read at ∷ [])) (sym here) in
         record {
           text = opened_lines name sector s ++ text;
           is_report = report;
           ends = inr (inr (inl (record {
-            messages = opened_lines name sector s ++ (short.cut.front ++ (cannot_read image'.failed ∷ []));
+            messages = opened_lines name sector s ++ (short.cut.prefix ++ (cannot_read image'.failed ∷ []));
             said = record {
               faulted = faulted_there image image' at short.cut.faulted;
               found = s;
               accepted = λ bytes t. sym (accepted bytes t);
-              front = short.cut.front;
+              prefix = short.cut.prefix;
               rest = short.cut.rest;
               whole = ap (λ xs. opened_lines name sector s ++ xs) short.cut.whole;
               more = short.cut.more;
@@ -98,7 +98,7 @@ module _ (image : Device) (name : List ℕ) (sector : Option ℕ) (output : GNam
           })));
         }
 
-    part : SaidPart (Tells image.told) (λ bytes. goes_on (volume_of s.layout bytes)) text image image' p new end → Headline image image' name sector sink new.sink end
+    part : SaidPart (IsContents image.contents) (λ bytes. goes_on (volume_of s.layout bytes)) text image image' p new end → Headline image image' name sector sink new.sink end
     part stop = record {
       text = opened_lines name sector s ++ text;
       is_report = report;
@@ -110,7 +110,7 @@ module _ (image : Device) (name : List ℕ) (sector : Option ℕ) (output : GNam
             faulted = short.faulted;
             found = s;
             accepted = λ bytes t. sym (accepted bytes t);
-            front = short.front;
+            prefix = short.prefix;
             rest = short.rest;
             whole = ap (λ xs. opened_lines name sector s ++ xs) short.whole;
             more = short.more;
@@ -134,7 +134,7 @@ still_of : (image image' : Device) (sector : Option ℕ) (s : Superblock) → An
 still_of image image' sector s (inl unread) = absurd unread.0.0
 still_of image image' sector s (inr read) = read.0
 
-accepted_of : (image image' : Device) (sector : Option ℕ) (s : Superblock) → Answers image image' sector (Ok s) → WhereTold image.told (λ bytes. Ok s ≡ outcome bytes sector)
+accepted_of : (image image' : Device) (sector : Option ℕ) (s : Superblock) → Answers image image' sector (Ok s) → ForContents image.contents (λ bytes. Ok s ≡ outcome bytes sector)
 accepted_of image image' sector s (inl unread) = absurd unread.0.0
 accepted_of image image' sector s (inr read) = read.1
 
@@ -146,18 +146,18 @@ found_ends image on image' name sector output sink p new found end o f =
     (subst (λ r. Said (starts output sink) p (opening_lines name sector r)) o.ends.1 o.ends.0) image' new end
     (subst (λ d. Followed (seen found) d image' p new end) (still_of image on sector (seen found) answers) f)
 
--- a run behind an accepted superblock doesn't refuse it
+-- a run after an accepted superblock doesn't refuse it
 not_by : (on defect : Bool) (fault : SuperFault) → end_by on defect ≡ Refused fault → ⊥
 not_by true true fault e = (let w : Defects ≡ Refused fault = e in cc)
 not_by true false fault e = (let w : Consistent ≡ Refused fault = e in cc)
 not_by false defect fault e = (let w : RootStop ≡ Refused fault = e in cc)
 
-not_told : (p new : Progress) (end : End) (fault : SuperFault) → RefusalTold p new end → end ≡ Refused fault → ⊥
-not_told p new end fault (inl told) e = (let w : NoMemory ≡ Refused fault = sym told.1 ∙ e in cc)
-not_told p new end fault (inr untold) e = (let w : WriteFault ≡ Refused fault = sym untold.1 ∙ e in cc)
+not_reported : (p new : Progress) (end : End) (fault : SuperFault) → RefusalReported p new end → end ≡ Refused fault → ⊥
+not_reported p new end fault (inl told) e = (let w : NoMemory ≡ Refused fault = sym told.1 ∙ e in cc)
+not_reported p new end fault (inr unreported) e = (let w : WriteFault ≡ Refused fault = sym unreported.1 ∙ e in cc)
 
 pub not_refused : (s : Superblock) (image image' : Device) (p new : Progress) (end : End) (fault : SuperFault) → Followed s image image' p new end → end ≡ Refused fault → ⊥
-not_refused s image image' p new end fault (inl refusal) e = not_told p new end fault refusal.1 e
+not_refused s image image' p new end fault (inl refusal) e = not_reported p new end fault refusal.1 e
 not_refused s image image' p new end fault (inr ran) e = elim ran.ends [
   | inl all ↦ not_by all.on new.defect fault (sym all.end_is ∙ e)
   | inr rest ↦ elim rest [

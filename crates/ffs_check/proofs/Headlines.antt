@@ -1,18 +1,18 @@
 -- The headline, of an opening and of what follows it.
 use Rattle.std.proofs.Common.{◌≡◌, inl, inr, refl, ◌∙◌, sym, ap, subst, ℕ, Bool, true, false, List, [], ◌∷◌, ◌++◌, append_assoc, append-nil, Option, Some, None, Result, Ok, Err}
-use Rattle.ffs_image.specs.Device.{Device, WhereTold}
+use Rattle.ffs_image.specs.Device.{Device, ForContents}
 use Rattle.ffs_volume.specs.declared.SuperFault.{SuperFault}
 use Rattle.ffs_volume.specs.declared.SuperFault.TheVariants.{CannotRead}
 use Rattle.ffs_volume.specs.declared.End.{End}
 use Rattle.ffs_volume.specs.declared.End.TheVariants.{Consistent, Defects, Refused, RootStop, ReadFault, WriteFault, NoMemory}
-use Rattle.ffs_volume.specs.Superblock.{Superblock}
-use Rattle.ffs_volume.specs.Outcome.{outcome}
-use Rattle.ffs_volume.specs.Messages.{Message, cannot_read, has_defect}
-use Rattle.ffs_volume.specs.Opening.{head_lines, super_lines, fault_line, opening_lines}
-use Rattle.ffs_volume.specs.PathnameCheck.{goes_on}
-use Rattle.ffs_volume.specs.Report.{text_lines, report_lines, end_by, end_of, told_of, ends_of, report_of, report_end}
-use Rattle.ffs_volume.specs.Texts.{texts_of}
-use Rattle.ffs_volume.specs.Volumes.{volume_of}
+use Rattle.ffs_volume.specs.Disk.Superblock.{Superblock}
+use Rattle.ffs_volume.specs.Disk.Outcome.{outcome}
+use Rattle.ffs_volume.specs.Messages.Kinds.{Message, cannot_read, has_defect}
+use Rattle.ffs_volume.specs.Report.Opening.{head_lines, super_lines, fault_line, opening_lines}
+use Rattle.ffs_volume.specs.Directories.PathnameCheck.{goes_on}
+use Rattle.ffs_volume.specs.Report.Whole.{text_lines, report_lines, end_by, end_of, reported_of, ends_of, report_of, report_end}
+use Rattle.ffs_volume.specs.Messages.Texts.{texts_of}
+use Rattle.ffs_volume.specs.Directories.Volumes.{volume_of}
 use Rattle.std.specs.Borrow.{GName}
 use Rattle.ffs_report.specs.Sink.{Sink, Took}
 use Rattle.ffs_report.specs.Progress.{Progress, Said, Stopped, starts}
@@ -22,16 +22,16 @@ use Rattle.ffs_certificate.proofs.ReportLaws.{certified}
 use Rattle.ffs_check.specs.Opening.{Opened}
 use Rattle.ffs_check.specs.Headline.{is_completed, Certifies, opened_lines, Headline}
 use Rattle.ffs_check.proofs.Openings.{broke_off}
-use Rattle.ffs_check.proofs.Endings.{at_told, at_told_is}
+use Rattle.ffs_check.proofs.Endings.{at_reported, at_reported_is}
 
 -- ---- the report, in its parts
 no_defect_head : (name : List ℕ) (sector : Option ℕ) (xs : List Message) → has_defect (head_lines name sector ++ xs) ≡ has_defect xs
 no_defect_head name None xs = refl
 no_defect_head name (Some at) xs = refl
 
-report_there : (bytes name : List ℕ) (sector : Option ℕ) (found : Result Superblock SuperFault) → found ≡ outcome bytes sector → head_lines name sector ++ told_of bytes found ≡ report_of bytes name sector
+report_there : (bytes name : List ℕ) (sector : Option ℕ) (found : Result Superblock SuperFault) → found ≡ outcome bytes sector → head_lines name sector ++ reported_of bytes found ≡ report_of bytes name sector
 unfolding report_of
-report_there bytes name sector found e = ap (λ f. head_lines name sector ++ told_of bytes f) e
+report_there bytes name sector found e = ap (λ f. head_lines name sector ++ reported_of bytes f) e
 
 pub end_there : (bytes : List ℕ) (sector : Option ℕ) (found : Result Superblock SuperFault) → found ≡ outcome bytes sector → ends_of bytes found ≡ report_end bytes sector
 unfolding report_end
@@ -42,7 +42,7 @@ more_of : List ℕ → Result Superblock SuperFault → List Message
 more_of bytes (Ok s) = text_lines bytes s
 more_of bytes (Err fault) = []
 
-opening_then : (bytes name : List ℕ) (sector : Option ℕ) (found : Result Superblock SuperFault) → opening_lines name sector found ++ more_of bytes found ≡ head_lines name sector ++ told_of bytes found
+opening_then : (bytes name : List ℕ) (sector : Option ℕ) (found : Result Superblock SuperFault) → opening_lines name sector found ++ more_of bytes found ≡ head_lines name sector ++ reported_of bytes found
 unfolding report_lines more_of
 opening_then bytes name sector (Ok s) = append_assoc (head_lines name sector) (super_lines s) (text_lines bytes s)
 opening_then bytes name sector (Err fault) = append-nil (head_lines name sector ++ (fault_line fault ∷ []))
@@ -89,8 +89,8 @@ module _ (image image' : Device) (name : List ℕ) (sector : Option ℕ) (output
   refused fault (inl unread) said =
       let there : fault ≡ CannotRead image'.failed = unread.0.0 in
       record {
-        text = head_lines name sector ++ at_told image.told (λ bytes. told_of bytes (outcome bytes sector));
-        is_report = λ bytes t. ap (λ more. head_lines name sector ++ more) (at_told_is image.told (λ bytes. told_of bytes (outcome bytes sector)) bytes t) ∙ report_there bytes name sector (outcome bytes sector) refl;
+        text = head_lines name sector ++ at_reported image.contents (λ bytes. reported_of bytes (outcome bytes sector));
+        is_report = λ bytes t. ap (λ more. head_lines name sector ++ more) (at_reported_is image.contents (λ bytes. reported_of bytes (outcome bytes sector)) bytes t) ∙ report_there bytes name sector (outcome bytes sector) refl;
         ends = inr (inl (record {
           messages = head_lines name sector ++ (cannot_read image'.failed ∷ []);
           said = record { faulted = unread.0.1; place = unread.1; lines = refl };
@@ -99,9 +99,9 @@ module _ (image image' : Device) (name : List ℕ) (sector : Option ℕ) (output
         }));
       }
   refused fault (inr read) said =
-      let report : WhereTold image.told (λ bytes. opening_lines name sector (Err fault) ≡ report_of bytes name sector) =
+      let report : ForContents image.contents (λ bytes. opening_lines name sector (Err fault) ≡ report_of bytes name sector) =
       λ bytes t. report_there bytes name sector (Err fault) (read.1 bytes t) in
-      let last : WhereTold image.told (λ bytes. Refused fault ≡ report_end bytes sector) = λ bytes t. end_there bytes sector (Err fault) (read.1 bytes t) in
+      let last : ForContents image.contents (λ bytes. Refused fault ≡ report_end bytes sector) = λ bytes t. end_there bytes sector (Err fault) (read.1 bytes t) in
       record {
         text = opening_lines name sector (Err fault);
         is_report = report;
@@ -117,8 +117,8 @@ module _ (image image' : Device) (name : List ℕ) (sector : Option ℕ) (output
   stopped : (found : Result Superblock SuperFault) → Answers image image' sector found → Stopped (starts output sink) p (opening_lines name sector found) → Headline image image' name sector sink p.sink WriteFault
   stopped (Ok s) (inl unread) stop = absurd unread.0.0
   stopped (Err fault) (inl unread) stop = record {
-    text = head_lines name sector ++ at_told image.told (λ bytes. told_of bytes (outcome bytes sector));
-    is_report = λ bytes t. ap (λ more. head_lines name sector ++ more) (at_told_is image.told (λ bytes. told_of bytes (outcome bytes sector)) bytes t) ∙ report_there bytes name sector (outcome bytes sector) refl;
+    text = head_lines name sector ++ at_reported image.contents (λ bytes. reported_of bytes (outcome bytes sector));
+    is_report = λ bytes t. ap (λ more. head_lines name sector ++ more) (at_reported_is image.contents (λ bytes. reported_of bytes (outcome bytes sector)) bytes t) ∙ report_there bytes name sector (outcome bytes sector) refl;
     ends = inr (inr (inr (inr (record {
       messages = opening_lines name sector (Err fault);
       would = inr (inl (record {
@@ -131,15 +131,15 @@ module _ (image image' : Device) (name : List ℕ) (sector : Option ℕ) (output
     }))));
   }
   stopped found (inr read) stop =
-      let text = opening_lines name sector found ++ at_told image.told (λ bytes. more_of bytes found) in
+      let text = opening_lines name sector found ++ at_reported image.contents (λ bytes. more_of bytes found) in
       record {
         text = text;
-        is_report = λ bytes t. ap (λ more. opening_lines name sector found ++ more) (at_told_is image.told (λ bytes. more_of bytes found) bytes t)
+        is_report = λ bytes t. ap (λ more. opening_lines name sector found ++ more) (at_reported_is image.contents (λ bytes. more_of bytes found) bytes t)
             ∙ opening_then bytes name sector found ∙ report_there bytes name sector found (read.1 bytes t);
         ends = inr (inr (inr (inr (record {
           messages = text;
           would = inl (read.0, refl);
-          broke_off = broke_off output sink p text (stopped_more (starts output sink) p (opening_lines name sector found) (at_told image.told (λ bytes. more_of bytes found)) stop);
+          broke_off = broke_off output sink p text (stopped_more (starts output sink) p (opening_lines name sector found) (at_reported image.contents (λ bytes. more_of bytes found)) stop);
           end_is = refl;
         }))));
       }

@@ -6,7 +6,7 @@ use Rattle.std.proofs.lemmas.Bool.{cases_lt}
 use Rattle.std.proofs.Math.Seq.{take-length}
 use Rattle.std.proofs.lemmas.List.Sums.{prefix_len-le-length, prefix_len_passes, prefix_len_stops}
 use Rattle.std.proofs.lemmas.Bool.Decides.{nat_tests}
-use Rattle.ffs_volume.specs.Opening.{before_nul}
+use Rattle.ffs_volume.specs.Report.Opening.{before_nul}
 
 -- a byte that isn't NUL
 abbrev pub is_set : ℕ → Bool
@@ -23,7 +23,7 @@ goes_on xs i h inside set = elim (cases_lt i (prefix_len is_set xs)) [
       absurd (grind (arith, nat_tests))
 ]
 
--- the first NUL stands here
+-- the first NUL is here
 pub stops : (xs : List ℕ) (i : ℕ) → i ≤ prefix_len is_set xs → get_or xs i 0 ≡ 0 → take i xs ≡ before_nul xs
 stops xs i h nul = elim (cases_lt i (prefix_len is_set xs)) [
   | inl less ↦

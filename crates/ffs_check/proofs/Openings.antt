@@ -5,11 +5,11 @@ use Rattle.ffs_volume.specs.declared.SuperFault.{SuperFault}
 use Rattle.ffs_volume.specs.declared.SuperFault.TheVariants.{Magic}
 use Rattle.ffs_volume.specs.declared.End.{End}
 use Rattle.ffs_volume.specs.declared.End.TheVariants.{Consistent, Defects, Refused, RootStop, ReadFault, WriteFault, NoMemory}
-use Rattle.ffs_volume.specs.Superblock.{Superblock}
-use Rattle.ffs_volume.specs.Messages.{Message}
-use Rattle.ffs_volume.specs.Texts.{texts_of}
-use Rattle.ffs_volume.specs.Outcome.{outcome}
-use Rattle.ffs_volume.specs.Opening.{head_lines, found_lines, super_lines, fault_line}
+use Rattle.ffs_volume.specs.Disk.Superblock.{Superblock}
+use Rattle.ffs_volume.specs.Messages.Kinds.{Message}
+use Rattle.ffs_volume.specs.Messages.Texts.{texts_of}
+use Rattle.ffs_volume.specs.Disk.Outcome.{outcome}
+use Rattle.ffs_volume.specs.Report.Opening.{head_lines, found_lines, super_lines, fault_line}
 use Rattle.std.specs.Borrow.{GName}
 use Rattle.ffs_report.specs.Sink.{Sink, BrokeOff}
 use Rattle.ffs_report.specs.Progress.{Progress, Said, Stopped, starts}
@@ -23,16 +23,16 @@ abbrev found_in : Option (List ℕ) → Option ℕ → Result Superblock SuperFa
 found_in None sector = Err Magic
 found_in (Some bytes) sector = outcome bytes sector
 
-found_there : (told : Option (List ℕ)) (sector : Option ℕ) (b : List ℕ) → told ≡ Some b → found_in told sector ≡ outcome b sector
-found_there told sector b e = rw e refl
+found_there : (contents : Option (List ℕ)) (sector : Option ℕ) (b : List ℕ) → contents ≡ Some b → found_in contents sector ≡ outcome b sector
+found_there contents sector b e = rw e refl
 
 module _ (image : Device) (name : List ℕ) (sector : Option ℕ) (old head : Progress) where
   -- the output failed before anything was read
   pub at_head : Stopped old head (head_lines name sector) → Opened image image old head name sector (Err WriteFault)
   at_head stopped = record {
-    found = found_in image.told sector;
-    answers = inr (refl, found_there image.told sector);
-    ends = stopped_more old head (head_lines name sector) (found_lines (found_in image.told sector)) stopped;
+    found = found_in image.contents sector;
+    answers = inr (refl, found_there image.contents sector);
+    ends = stopped_more old head (head_lines name sector) (found_lines (found_in image.contents sector)) stopped;
   }
 
   module _ (image' : Device) (new : Progress) (said : Said old head (head_lines name sector)) where
@@ -69,7 +69,7 @@ module _ (image : Device) (name : List ℕ) (sector : Option ℕ) (old head : Pr
 -- where it stops, the output broke off
 pub broke_off : (output : GName) (sink : Sink) (new : Progress) (messages : List Message) → Stopped (starts output sink) new messages → BrokeOff sink new.sink (texts_of messages)
 broke_off output sink new messages s = record {
-  front = s.front;
+  prefix = s.prefix;
   rest = s.rest;
   whole = s.whole;
   taken = s.taken;

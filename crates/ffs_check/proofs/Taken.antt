@@ -1,14 +1,14 @@
--- What a check takes of its memory, behind an accepted superblock.
+-- What a check takes of its memory, after an accepted superblock.
 use Rattle.std.proofs.Common.{◌≡◌, arith, inl, inr, ◌∙◌, sym, subst, ℕ, Bool, true, false, List, Option, Ok, Err}
-use Rattle.ffs_image.specs.Device.{Device, WhereTold}
+use Rattle.ffs_image.specs.Device.{Device, ForContents}
 use Rattle.ffs_memory.specs.Account.{Account}
 use Rattle.ffs_volume.specs.declared.End.{End}
 use Rattle.ffs_volume.specs.declared.End.TheVariants.{Consistent, Defects, RootStop, ReadFault, WriteFault, NoMemory}
-use Rattle.ffs_volume.specs.Messages.{Message}
-use Rattle.ffs_volume.specs.Opening.{opening_lines}
-use Rattle.ffs_volume.specs.Outcome.{outcome}
-use Rattle.ffs_volume.specs.Report.{end_by}
-use Rattle.ffs_volume.specs.Superblock.{Superblock}
+use Rattle.ffs_volume.specs.Messages.Kinds.{Message}
+use Rattle.ffs_volume.specs.Report.Opening.{opening_lines}
+use Rattle.ffs_volume.specs.Disk.Outcome.{outcome}
+use Rattle.ffs_volume.specs.Report.Whole.{end_by}
+use Rattle.ffs_volume.specs.Disk.Superblock.{Superblock}
 use Rattle.ffs_report.specs.Progress.{Progress}
 use Rattle.ffs_layout.specs.declared.superblock.Super.{Super}
 use Rattle.ffs_layout.specs.Super.{Answers, seen}
@@ -17,7 +17,7 @@ use Rattle.ffs_check.specs.Ends.{Ran}
 use Rattle.ffs_check.specs.Opening.{Opened, OpeningSays}
 use Rattle.ffs_check.specs.Taken.{Asked, TakesWorkspace}
 
-accepted_by : (image image' : Device) (sector : Option ℕ) (s : Superblock) → Answers image image' sector (Ok s) → WhereTold image.told (λ bytes. outcome bytes sector ≡ Ok s)
+accepted_by : (image image' : Device) (sector : Option ℕ) (s : Superblock) → Answers image image' sector (Ok s) → ForContents image.contents (λ bytes. outcome bytes sector ≡ Ok s)
 accepted_by image image' sector s (inl unread) = absurd unread.0.0
 accepted_by image image' sector s (inr read) = λ bytes t. sym (read.1 bytes t)
 

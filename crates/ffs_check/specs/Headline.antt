@@ -1,18 +1,18 @@
 -- The headline: what a check of an image prints, and how it ends.
 use Rattle.std.specs.Prelude.{◌≡◌, ◌⊎◌, ◌↔◌, ◌<◌, ℕ, Bool, true, false, List, [], ◌∷◌, ◌++◌, length, Option, Ok}
-use Rattle.ffs_image.specs.Device.{Device, Faulted, WhereTold}
+use Rattle.ffs_image.specs.Device.{Device, Faulted, ForContents}
 use Rattle.ffs_volume.specs.declared.SuperFault.TheVariants.{CannotRead}
 use Rattle.ffs_volume.specs.declared.End.{End}
 use Rattle.ffs_volume.specs.declared.End.TheVariants.{Consistent, Defects, Refused, RootStop, ReadFault, WriteFault, NoMemory}
-use Rattle.ffs_volume.specs.Superblock.{Superblock}
-use Rattle.ffs_volume.specs.Outcome.{outcome}
-use Rattle.ffs_volume.specs.Consistent.{IsConsistent}
-use Rattle.ffs_volume.specs.Messages.{Message, cannot_read, cannot_alloc, has_defect}
-use Rattle.ffs_volume.specs.Opening.{head_lines, super_lines}
-use Rattle.ffs_volume.specs.PathnameCheck.{goes_on}
-use Rattle.ffs_volume.specs.Report.{report_of, report_end}
-use Rattle.ffs_volume.specs.Texts.{texts_of}
-use Rattle.ffs_volume.specs.Volumes.{volume_of}
+use Rattle.ffs_volume.specs.Disk.Superblock.{Superblock}
+use Rattle.ffs_volume.specs.Disk.Outcome.{outcome}
+use Rattle.ffs_volume.specs.Consistent.Volume.{IsConsistent}
+use Rattle.ffs_volume.specs.Messages.Kinds.{Message, cannot_read, cannot_alloc, has_defect}
+use Rattle.ffs_volume.specs.Report.Opening.{head_lines, super_lines}
+use Rattle.ffs_volume.specs.Directories.PathnameCheck.{goes_on}
+use Rattle.ffs_volume.specs.Report.Whole.{report_of, report_end}
+use Rattle.ffs_volume.specs.Messages.Texts.{texts_of}
+use Rattle.ffs_volume.specs.Directories.Volumes.{volume_of}
 use Rattle.ffs_report.specs.Sink.{Sink, Took, BrokeOff}
 use Rattle.ffs_layout.specs.Super.{IsSuperSector}
 
@@ -40,13 +40,13 @@ pub record Reported (image image' : Device) (sector : Option ℕ) (text : List M
   pub unread : image' ≡ image
   pub took : Took out out' (texts_of text)
   pub completed : is_completed end ≡ true
-  pub end_is : WhereTold image.told (λ bytes. end ≡ report_end bytes sector)
-  pub certifies : WhereTold image.told (λ bytes. (s : Superblock) → outcome bytes sector ≡ Ok s → Certifies bytes s text end)
+  pub end_is : ForContents image.contents (λ bytes. end ≡ report_end bytes sector)
+  pub certifies : ForContents image.contents (λ bytes. (s : Superblock) → outcome bytes sector ≡ Ok s → Certifies bytes s text end)
 
 -- what is said where a read of the superblock, or of its last copy, failed: the opening line, and the line of the fault
 pub record IsCutAtSuper (image image' : Device) (name : List ℕ) (sector : Option ℕ) (messages : List Message) : Type 0 where
   pub faulted : Faulted image image' image'.failed
-  pub place : WhereTold image.told (λ bytes. IsSuperSector bytes sector image'.failed)
+  pub place : ForContents image.contents (λ bytes. IsSuperSector bytes sector image'.failed)
   pub lines : messages ≡ head_lines name sector ++ (cannot_read image'.failed ∷ [])
 
 -- a read of the superblock, or of its last copy, failed
@@ -57,16 +57,16 @@ pub record CutAtSuper (image image' : Device) (name : List ℕ) (sector : Option
   pub end_is : end ≡ Refused (CannotRead image'.failed)
 
 -- what is said where a later read failed: whole messages of the report, through the mount line at least, and then the line of
--- the fault. Where the run goes on after the root, messages are missing: the summary at least, which reads nothing
+-- the fault. Where the run continues after the root, messages are missing: the summary at least, which reads nothing
 pub record IsCutBehind (image image' : Device) (name : List ℕ) (sector : Option ℕ) (text messages : List Message) : Type 0 where
   pub faulted : Faulted image image' image'.failed
   pub found : Superblock
-  pub accepted : WhereTold image.told (λ bytes. outcome bytes sector ≡ Ok found)
-  pub front : List Message
+  pub accepted : ForContents image.contents (λ bytes. outcome bytes sector ≡ Ok found)
+  pub prefix : List Message
   pub rest : List Message
-  pub whole : opened_lines name sector found ++ (front ++ rest) ≡ text
-  pub more : WhereTold image.told (λ bytes. goes_on (volume_of found.layout bytes) ≡ true → 0 < length rest)
-  pub lines : messages ≡ opened_lines name sector found ++ (front ++ (cannot_read image'.failed ∷ []))
+  pub whole : opened_lines name sector found ++ (prefix ++ rest) ≡ text
+  pub more : ForContents image.contents (λ bytes. goes_on (volume_of found.layout bytes) ≡ true → 0 < length rest)
+  pub lines : messages ≡ opened_lines name sector found ++ (prefix ++ (cannot_read image'.failed ∷ []))
 
 -- a later read failed
 pub record CutBehind (image image' : Device) (name : List ℕ) (sector : Option ℕ) (text : List Message) (out out' : Sink) (end : End) : Type 0 where
@@ -79,7 +79,7 @@ pub record CutBehind (image image' : Device) (name : List ℕ) (sector : Option 
 pub record IsUnstarted (image image' : Device) (name : List ℕ) (sector : Option ℕ) (messages : List Message) : Type 0 where
   pub unread : image' ≡ image
   pub found : Superblock
-  pub accepted : WhereTold image.told (λ bytes. outcome bytes sector ≡ Ok found)
+  pub accepted : ForContents image.contents (λ bytes. outcome bytes sector ≡ Ok found)
   pub lines : messages ≡ opened_lines name sector found ++ (cannot_alloc ∷ [])
 
 -- the memory of the check was refused
@@ -97,17 +97,17 @@ WouldSay image image' name sector text messages =
     ⊎ (IsCutBehind image image' name sector text messages
     ⊎ IsUnstarted image image' name sector messages))
 
--- the output failed: a front of the bytes that the run would print went out, and nothing more
+-- the output failed: a prefix of the bytes that the run would print went out, and nothing more
 pub record BrokenOff (image image' : Device) (name : List ℕ) (sector : Option ℕ) (text : List Message) (out out' : Sink) (end : End) : Type 0 where
   pub messages : List Message
   pub would : WouldSay image image' name sector text messages
   pub broke_off : BrokeOff out out' (texts_of messages)
   pub end_is : end ≡ WriteFault
 
--- the headline: `text` is the whole report where the image tells its bytes, and the run ends in one of these ways
+-- the headline: `text` is the whole report where the image gives its bytes, and the run ends in one of these ways
 pub record Headline (image image' : Device) (name : List ℕ) (sector : Option ℕ) (out out' : Sink) (end : End) : Type 0 where
   pub text : List Message
-  pub is_report : WhereTold image.told (λ bytes. text ≡ report_of bytes name sector)
+  pub is_report : ForContents image.contents (λ bytes. text ≡ report_of bytes name sector)
   pub ends : Reported image image' sector text out out' end
       ⊎ (CutAtSuper image image' name sector out out' end
       ⊎ (CutBehind image image' name sector text out out' end

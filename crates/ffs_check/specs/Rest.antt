@@ -1,16 +1,16 @@
--- The parts of the text behind the opening, as the calls that tell them are nested.
+-- The parts of the text after the opening, as the calls that report them are nested.
 use Rattle.std.specs.Prelude.{ℕ, Bool, if◌then◌else◌, List, [], ◌∷◌, ◌++◌, map}
-use Rattle.ffs_volume.specs.Superblock.{Superblock}
-use Rattle.ffs_volume.specs.Messages.{Message, phase1, phase2, phase3, phase4, phase5, of_blocks, of_names}
-use Rattle.ffs_volume.specs.BlockCheck.{phase1_lines}
-use Rattle.ffs_volume.specs.Owners.{owners_of}
-use Rattle.ffs_volume.specs.Volumes.{volume_of}
-use Rattle.ffs_volume.specs.PathnameCheck.{pathname_lines, goes_on}
-use Rattle.ffs_volume.specs.Connectivity.{connectivity_lines}
-use Rattle.ffs_volume.specs.ReferenceCheck.{reference_lines}
-use Rattle.ffs_volume.specs.Report.{rescan_lines, group_check_lines, summary_of, file_count, used_count}
+use Rattle.ffs_volume.specs.Disk.Superblock.{Superblock}
+use Rattle.ffs_volume.specs.Messages.Kinds.{Message, phase1, phase2, phase3, phase4, phase5, of_blocks, of_names}
+use Rattle.ffs_volume.specs.Blocks.BlockCheck.{phase1_lines}
+use Rattle.ffs_volume.specs.Blocks.Owners.{owners_of}
+use Rattle.ffs_volume.specs.Directories.Volumes.{volume_of}
+use Rattle.ffs_volume.specs.Directories.PathnameCheck.{pathname_lines, goes_on}
+use Rattle.ffs_volume.specs.Directories.Connectivity.{connectivity_lines}
+use Rattle.ffs_volume.specs.Directories.ReferenceCheck.{reference_lines}
+use Rattle.ffs_volume.specs.Report.Whole.{rescan_lines, group_check_lines, summary_of, file_count, used_count}
 
--- what each phase tells, with its heading
+-- what each phase reports, with its heading
 abbrev pub first_part : List ℕ → Superblock → List Message
 first_part image s = phase1 ∷ map of_blocks (phase1_lines s.layout (owners_of s.layout image))
 
@@ -44,7 +44,7 @@ counted_lines image s = counts_part image s ++ ended_lines image s
 abbrev pub linked_lines : List ℕ → Superblock → List Message
 linked_lines image s = links_part image s ++ counted_lines image s
 
--- the same, where the run goes on behind the root
+-- the same, where the run continues after the root
 abbrev pub followed_lines : Bool → List ℕ → Superblock → List Message
 followed_lines goes image s = if goes then linked_lines image s else []
 

@@ -3,9 +3,9 @@ use Rattle.std.specs.Prelude.{◌≡◌, ◌⊎◌, ℕ, List, [], ◌∷◌, �
 use Rattle.std.specs.Io.KnownBytes.{Keeps}
 use Rattle.ffs_image.specs.Device.{Device}
 use Rattle.ffs_volume.specs.declared.End.{End}
-use Rattle.ffs_volume.specs.Messages.{cannot_alloc}
-use Rattle.ffs_volume.specs.Report.{status_of}
-use Rattle.ffs_volume.specs.Texts.{text_of}
+use Rattle.ffs_volume.specs.Messages.Kinds.{cannot_alloc}
+use Rattle.ffs_volume.specs.Report.Whole.{status_of}
+use Rattle.ffs_volume.specs.Messages.Texts.{text_of}
 use Rattle.ffs_report.specs.Sink.{Sink, Took, BrokeOff}
 use Rattle.ffs_check.specs.Headline.{Headline}
 use Rattle.ffs_check.specs.Words.{AskFor, refusals}

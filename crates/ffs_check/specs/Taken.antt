@@ -1,10 +1,10 @@
 -- What a check takes of its memory.
 use Rattle.std.specs.Prelude.{◌≡◌, ◌≤◌, ◌⊎◌, ℕ, Option, Ok}
-use Rattle.ffs_image.specs.Device.{Device, WhereTold}
+use Rattle.ffs_image.specs.Device.{Device, ForContents}
 use Rattle.ffs_memory.specs.Account.{Account, Granted, GaveUp}
-use Rattle.ffs_volume.specs.Memory.{held_limit}
-use Rattle.ffs_volume.specs.Outcome.{outcome}
-use Rattle.ffs_volume.specs.Superblock.{Superblock}
+use Rattle.ffs_volume.specs.Report.Memory.{held_limit}
+use Rattle.ffs_volume.specs.Disk.Outcome.{outcome}
+use Rattle.ffs_volume.specs.Disk.Superblock.{Superblock}
 use Rattle.ffs_workspace.specs.Lengths.{held_of}
 
 -- these bytes were granted, or a request was refused before all of them were
@@ -14,7 +14,7 @@ Asked old new bytes = Granted old new bytes ⊎ GaveUp old new bytes
 -- what the workspace of an accepted volume holds was granted and no byte more, which is within the limit, or a request was refused
 pub record TakesWorkspace (image : Device) (sector : Option ℕ) (old new : Account) : Type 0 where
   pub found : Superblock
-  pub accepted : WhereTold image.told (λ bytes. outcome bytes sector ≡ Ok found)
+  pub accepted : ForContents image.contents (λ bytes. outcome bytes sector ≡ Ok found)
   pub asked : Asked old new (held_of found.layout)
   pub within : held_of found.layout ≤ held_limit found.layout
 

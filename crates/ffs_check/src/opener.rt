@@ -1,4 +1,4 @@
-//! How a run comes to its image: by a name, for reading only.
+//! How a run results in its image: by a name, for reading only.
 ghost use Rattle.std.specs.Prelude.{ℕ, List, IfOk, OnErr};
 
 use ffs_image::{FileImage, Image, OpenFault};

@@ -1,4 +1,4 @@
--- Whether there is a Dup line, and what is left to tell.
+-- Whether there is a Dup line, and what is left to report.
 use Rattle.std.proofs.Math.ListN.{get_or-eq_default}
 use Rattle.std.proofs.lemmas.Bool.{cases_lt}
 use Rattle.std.proofs.lemmas.List.Sums.{sum_by-set}
@@ -13,13 +13,13 @@ use Rattle.ffs_volume.specs.declared.Step.{Step}
 use Rattle.ffs_volume.specs.declared.Step.TheVariants.{Run, Tail, Gap}
 use Rattle.ffs_volume.specs.declared.BlockMessage.{BlockMessage}
 use Rattle.ffs_volume.specs.declared.BlockMessage.TheVariants.{Bad, Dup, ManyBad, ManyDup, PartTrunc}
-use Rattle.ffs_volume.specs.Areas.{is_ok, is_in_range}
-use Rattle.ffs_volume.specs.Inodes.{is_settled}
-use Rattle.ffs_volume.specs.Owners.{Owner, owners_of}
-use Rattle.ffs_volume.specs.Claims.{Claims, no_claims, next_inode, is_open, is_set, after_offer, after_offers, after_run, after_step, after_steps, after_owner, after_owners, offer_lines, offers_lines, run_lines, step_lines, steps_lines}
-use Rattle.ffs_volume.specs.Weights.{cond_holds, ok_below, count_set}
-use Rattle.ffs_volume.specs.BlockCheck.{Offer, class_lines, count_lines, owner_lines, owners_lines, owners_kept, phase1_lines, phase1b_lines, is_dup_line, has_rescan, blames, first_offers}
-use Rattle.ffs_volume.specs.Volumes.{is_number}
+use Rattle.ffs_volume.specs.Disk.Areas.{is_data_fragment, is_in_range}
+use Rattle.ffs_volume.specs.Blocks.Inodes.{is_file_or_dir}
+use Rattle.ffs_volume.specs.Blocks.Owners.{Owner, owners_of}
+use Rattle.ffs_volume.specs.Blocks.Claims.{Claims, no_claims, next_inode, is_open, is_set, after_offer, after_offers, after_run, after_step, after_steps, after_owner, after_owners, offer_lines, offers_lines, run_lines, step_lines, steps_lines}
+use Rattle.ffs_volume.proofs.Weights.{cond_holds, ok_below, count_set}
+use Rattle.ffs_volume.specs.Blocks.BlockCheck.{Offer, class_lines, count_lines, owner_lines, owners_lines, owners_kept, phase1_lines, phase1b_lines, is_dup_line, has_rescan, blames, first_offers}
+use Rattle.ffs_volume.specs.Directories.Volumes.{is_inode_number}
 use Rattle.ffs_workspace.specs.Holds.{first_marked_at, all_claims, HoldsPhase1, HoldsClaims}
 use Rattle.ffs_workspace.specs.declared.workspace.Workspace.{Workspace}
 use Rattle.ffs_maps.specs.Bits.{bits_of}
@@ -58,12 +58,12 @@ doubles_then s t u xs ys p q = (
 )
 
 offer_doubles : (v : Layout) (i : ℕ) (s : Claims) (f : ℕ) → length s.dup ≡ v.size → Doubles s (offer_lines v i s f) (after_offer v s f)
-offer_doubles v i s f h = one (nat_lt s.dups 11) refl (is_ok v f) refl (is_set s.used f) refl
+offer_doubles v i s f h = one (nat_lt s.dups 11) refl (is_data_fragment v f) refl (is_set s.used f) refl
   where
     from : (lines : List BlockMessage) (t : Claims) → offer_lines v i s f ≡ lines → after_offer v s f ≡ t → Doubles s lines t → Doubles s (offer_lines v i s f) (after_offer v s f)
     from lines t e now d = rw (e, now) d
 
-    one : (a : Bool) → nat_lt s.dups 11 ≡ a → (k : Bool) → is_ok v f ≡ k → (u : Bool) → is_set s.used f ≡ u → Doubles s (offer_lines v i s f) (after_offer v s f)
+    one : (a : Bool) → nat_lt s.dups 11 ≡ a → (k : Bool) → is_data_fragment v f ≡ k → (u : Bool) → is_set s.used f ≡ u → Doubles s (offer_lines v i s f) (after_offer v s f)
     one false q k kq u uq = from [] s (rw q refl) (rw q refl) (refl, refl)
     one true q false kq u uq = from [] (record s { kept = s.kept + 1 }) (rw (q, kq) refl) (rw (q, kq) refl) (refl, refl)
     one true q true kq false uq = from [] (record s { kept = s.kept + 1; used = slice_set s.used f true }) (rw (q, kq, uq) refl) (rw (q, kq, uq) refl) (refl, refl)
@@ -125,7 +125,7 @@ class_none i File = refl
 class_none i Dir = refl
 
 count_none : (v : Layout) (o : Owner) (end : Claims) → list_any is_dup_line (count_lines v o end) ≡ false
-count_none v o end = cond_holds (λ (ls : List BlockMessage). list_any is_dup_line ls ≡ false) (is_settled o.class && (is_open end && not (o.blocks == _))) _ _ (λ _. refl) (λ _. refl)
+count_none v o end = cond_holds (λ (ls : List BlockMessage). list_any is_dup_line ls ≡ false) (is_file_or_dir o.class && (is_open end && not (o.blocks == _))) _ _ (λ _. refl) (λ _. refl)
 
 owner_doubles : (v : Layout) (s : Claims) (o : Owner) → length s.dup ≡ v.size → Doubles s (owner_lines v s o) (after_owner v s o)
 owner_doubles v s o h =
@@ -157,7 +157,7 @@ rescan_is v image =
     let clear : any_set (replicate v.size false) ≡ false = ap (λ (n : ℕ). not (n == 0)) (none_set v.size) in
     sym all.0 ∙ ap (λ (b : Bool). list_any is_dup_line (owners_lines v (no_claims v) (owners_of v image)) || b) clear ∙ or_false _
 
--- ---- what is left to tell
+-- ---- what is left to report
 pub none_clear : (bits : List Bool) (f : ℕ) → set_count bits ≡ 0 → is_set bits f ≡ false
 none_clear bits f e = one (slice_index_or bits f false) refl (cases_lt f (length bits))
   where
@@ -190,13 +190,13 @@ no_rescan v image w none h = record {
     lines : phase1b_lines v (owners_of v image) ≡ []
     lines = first_none v image (zero_of (set_count (all_claims v image).dup) (rescan_is v image ∙ none))
 
-    silent : (x : ℕ) → (is_number v x && list_any (blames x) (phase1b_lines v (owners_of v image))) ≡ false
-    silent x = ap (λ (ls : List BlockMessage). is_number v x && list_any (blames x) ls) lines ∙ and_false (is_number v x)
+    silent : (x : ℕ) → (is_inode_number v x && list_any (blames x) (phase1b_lines v (owners_of v image))) ≡ false
+    silent x = ap (λ (ls : List BlockMessage). is_inode_number v x && list_any (blames x) ls) lines ∙ and_false (is_inode_number v x)
       where
         and_false : (b : Bool) → (b && false) ≡ false
         and_false true = refl
         and_false false = refl
 
--- what phase 1 leaves to tell
-pub dups_are : (v : Layout) (image : List ℕ) (w : Workspace) → w.untold ≡ set_count (bits_of w.doubled) → HoldsPhase1 v image w → not (w.untold == 0) ≡ has_rescan v (owners_of v image)
+-- what phase 1 leaves to report
+pub dups_are : (v : Layout) (image : List ℕ) (w : Workspace) → w.unreported ≡ set_count (bits_of w.duplicates) → HoldsPhase1 v image w → not (w.unreported == 0) ≡ has_rescan v (owners_of v image)
 dups_are v image w e h = ap (λ (n : ℕ). not (n == 0)) e ∙ ap any_set h.dup ∙ rescan_is v image

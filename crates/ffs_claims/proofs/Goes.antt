@@ -1,16 +1,16 @@
--- How offers, steps and inodes go on.
+-- How offers, steps and inodes continue.
 use Rattle.std.proofs.Common.{◌≡◌, ℕ, zero, suc, ◌+◌, ◌-◌, ◌<◌, Bool, true, false, ◌==◌, List, [], ◌∷◌, ◌++◌, arith, rules, refl, ap, ◌∙◌, sym, Result, slice_set, replicate}
 use Rattle.std.specs.List.{range_with_len, slice_index_or}
 use Rattle.ffs_volume.specs.declared.Layout.{Layout}
 use Rattle.ffs_volume.specs.declared.Step.{Step}
 use Rattle.ffs_volume.specs.declared.Step.TheVariants.{Run, Tail, Gap}
 use Rattle.ffs_volume.specs.declared.BlockMessage.{BlockMessage}
-use Rattle.ffs_volume.specs.Areas.{is_in_range}
-use Rattle.ffs_volume.specs.Claims.{Claims, is_open, after_offer, after_offers, after_step, after_steps, offer_lines, offers_lines, step_lines, steps_lines, run_lines}
-use Rattle.ffs_volume.specs.Messages.{Message, of_blocks}
+use Rattle.ffs_volume.specs.Disk.Areas.{is_in_range}
+use Rattle.ffs_volume.specs.Blocks.Claims.{Claims, is_open, after_offer, after_offers, after_step, after_steps, offer_lines, offers_lines, step_lines, steps_lines, run_lines}
+use Rattle.ffs_volume.specs.Messages.Kinds.{Message, of_blocks}
 use Rattle.ffs_report.specs.Progress.{Progress, Said, Stopped, Says}
 use Rattle.ffs_report.proofs.Reports.{stopped_more, says_then}
-use Rattle.ffs_phase.specs.Known.{Where}
+use Rattle.ffs_phase.specs.Known.{ForBytes}
 use Rattle.ffs_phase.specs.Runs.{SaidTo}
 use Rattle.ffs_claims.specs.Lines.{of_lines, bad_lines}
 
@@ -35,7 +35,7 @@ offers_after v s s' start len place f h is_place now =
     let k : start + (place + 1) ≡ start + place + 1 = omega arith in
     rw (range_more (start + place) (len - place) (len - (place + 1)) (omega arith), k, now, is_place) refl
 
--- and told
+-- and reported
 pub offers_more : (v : Layout) (inode : ℕ) (s s' : Claims) (start len place f : ℕ) → place < len → f ≡ start + place →
     s' ≡ after_offer v s f →
     of_lines (offers_lines v inode s (range_with_len (start + place) (len - place)))
@@ -46,7 +46,7 @@ offers_more v inode s s' start len place f h is_place now =
     rw (range_more (start + place) (len - place) (len - (place + 1)) (omega arith), k, now, is_place) refl in
     ap of_lines lines ∙ lines_append (offer_lines v inode s f) (offers_lines v inode s' (range_with_len (start + (place + 1)) (len - (place + 1))))
 
--- once an inode is cut its steps change nothing, and nothing is told of them
+-- once an inode is cut its steps change nothing, and nothing is reported of them
 pub cut_stays : (v : Layout) (s : Claims) (steps : List Step) → is_open s ≡ false → after_steps v s steps ≡ s
 cut_stays v s [] h = refl
 cut_stays v s (Run start len block ∷ steps) h = rw h (cut_stays v s steps h)
@@ -92,15 +92,15 @@ run_ends v inode s start len a b h e p = rw (eleventh v inode s start len h e) (
 
 -- the next step of a walk is taken
 pub claims_on : (knows : List ℕ → Type 0) (v : Layout) (s s' : Claims) (R R' : List ℕ → List Step) (end : List ℕ → Claims) (step : Step) →
-    Where knows (λ bytes. R bytes ≡ step ∷ R' bytes) → s' ≡ after_step v s step →
-    Where knows (λ bytes. after_steps v s (R bytes) ≡ end bytes) →
-    Where knows (λ bytes. after_steps v s' (R' bytes) ≡ end bytes)
+    ForBytes knows (λ bytes. R bytes ≡ step ∷ R' bytes) → s' ≡ after_step v s step →
+    ForBytes knows (λ bytes. after_steps v s (R bytes) ≡ end bytes) →
+    ForBytes knows (λ bytes. after_steps v s' (R' bytes) ≡ end bytes)
 claims_on knows v s s' R R' end step next now before = λ bytes t. rw now (rw (next bytes t) at (before bytes t))
 
--- and told
+-- and reported
 pub lines_on : (knows : List ℕ → Type 0) (v : Layout) (inode : ℕ) (s s' : Claims) (R R' : List ℕ → List Step) (step : Step) →
-    Where knows (λ bytes. R bytes ≡ step ∷ R' bytes) → s' ≡ after_step v s step →
-    Where knows (λ bytes. of_lines (steps_lines v inode s (R bytes)) ≡ of_lines (step_lines v inode s step) ++ of_lines (steps_lines v inode s' (R' bytes)))
+    ForBytes knows (λ bytes. R bytes ≡ step ∷ R' bytes) → s' ≡ after_step v s step →
+    ForBytes knows (λ bytes. of_lines (steps_lines v inode s (R bytes)) ≡ of_lines (step_lines v inode s step) ++ of_lines (steps_lines v inode s' (R' bytes)))
 lines_on knows v inode s s' R R' step next now = λ bytes t.
     ap (λ (xs : List Step). of_lines (steps_lines v inode s xs)) (next bytes t)
     ∙ lines_append (step_lines v inode s step) (steps_lines v inode (after_step v s step) (R' bytes))
@@ -121,7 +121,7 @@ from_start start len =
     let b : len - 0 ≡ len = omega arith in
     rw (a, b) refl
 
--- gaps in a row change nothing, and nothing is told of them
+-- gaps in a row change nothing, and nothing is reported of them
 pub gaps_stay : (v : Layout) (s : Claims) (n : ℕ) (steps : List Step) → after_steps v s (replicate n Gap ++ steps) ≡ after_steps v s steps
 gaps_stay v s zero steps = refl
 gaps_stay v s (suc n) steps = gaps_stay v s n steps

@@ -1,25 +1,24 @@
--- How an inode's part of the block check goes on.
+-- How an inode's part of the block check continues.
 use Rattle.std.specs.Prelude.{OnOk}
 use Rattle.std.proofs.Common.{◌≡◌, ℕ, ◌+◌, ◌≤◌, List, [], ◌++◌, append-nil, Option, Result, Ok, Err, refl, ap, ◌∙◌, sym}
 use Rattle.ffs_volume.specs.declared.Layout.{Layout}
 use Rattle.ffs_volume.specs.declared.Class.{Class}
 use Rattle.ffs_volume.specs.declared.Inode.{Inode}
-use Rattle.ffs_volume.specs.Inodes.{class_of, inode_of}
-use Rattle.ffs_volume.specs.Steps.{steps_of}
-use Rattle.ffs_volume.specs.Owners.{owner_of}
-use Rattle.ffs_volume.specs.Claims.{Claims, next_inode, after_steps, after_owner, steps_lines}
-use Rattle.ffs_volume.specs.BlockCheck.{class_lines, count_lines, owner_lines}
-use Rattle.ffs_volume.specs.Messages.{Message}
-use Rattle.ffs_volume.specs.Moving.{Moves, used_bits}
+use Rattle.ffs_volume.specs.Blocks.Inodes.{class_of, inode_of}
+use Rattle.ffs_volume.specs.Blocks.Steps.{steps_of}
+use Rattle.ffs_volume.specs.Blocks.Owners.{owner_of}
+use Rattle.ffs_volume.specs.Blocks.Claims.{Claims, next_inode, after_steps, after_owner, steps_lines}
+use Rattle.ffs_volume.specs.Blocks.BlockCheck.{class_lines, count_lines, owner_lines}
+use Rattle.ffs_volume.specs.Messages.Kinds.{Message}
+use Rattle.ffs_volume.specs.Blocks.ClaimBounds.{ClaimBound, used_bits}
 use Rattle.ffs_report.specs.Progress.{Progress, Said, Stopped}
-use Rattle.ffs_phase.specs.Known.{Where, Tells}
+use Rattle.ffs_phase.specs.Known.{ForBytes, IsContents}
 use Rattle.ffs_phase.specs.Runs.{SaidOf, StoppedOf}
-use Rattle.ffs_phase.proofs.Telling.{of_begins, of_says, of_stops}
+use Rattle.ffs_phase.proofs.Reporting.{of_begins, of_says, of_stops}
 use Rattle.ffs_claims.specs.Lines.{of_lines, owner_with, counted_owner}
 use Rattle.ffs_claims.proofs.Goes.{lines_append}
-use Rattle.ffs_claims.proofs.Weights.{end_moves}
 
--- the lines of an inode's steps and of its count, once its class is told
+-- the lines of an inode's steps and of its count, once its class is reported
 abbrev pub rest_lines : Layout → ℕ → Inode → Class → Claims → List ℕ → List Message
 rest_lines v number i class s1 bytes =
     of_lines (steps_lines v number s1 (steps_of v i bytes)) ++ of_lines (count_lines v (counted_owner number class i.blocks) (after_steps v s1 (steps_of v i bytes)))
@@ -48,29 +47,19 @@ class_stopped knows v number i s class a b k q =
 
 -- the count's line is that of the claims that are there
 pub count_right : (knows : List ℕ → Type 0) (v : Layout) (number : ℕ) (i : Inode) (s1 s2 : Claims) (class : Class) →
-    Where knows (λ bytes. s2 ≡ after_steps v s1 (steps_of v i bytes)) →
-    Where knows (λ bytes. of_lines (count_lines v (counted_owner number class i.blocks) (after_steps v s1 (steps_of v i bytes)))
+    ForBytes knows (λ bytes. s2 ≡ after_steps v s1 (steps_of v i bytes)) →
+    ForBytes knows (λ bytes. of_lines (count_lines v (counted_owner number class i.blocks) (after_steps v s1 (steps_of v i bytes)))
     ≡ of_lines (count_lines v (counted_owner number class i.blocks) s2) ++ [])
 count_right knows v number i s1 s2 class h = λ bytes t.
     ap (λ (x : Claims). of_lines (count_lines v (counted_owner number class i.blocks) x)) (sym (h bytes t)) ∙ sym (append-nil (of_lines (count_lines v (counted_owner number class i.blocks) s2)))
-
-pub inode_claims : (knows : List ℕ → Type 0) (v : Layout) (number : ℕ) (i : Inode) (s s1 s2 s3 : Claims) →
-    s1 ≡ next_inode s → Where knows (λ bytes. s2 ≡ after_steps v s1 (steps_of v i bytes)) →
-    s3 ≡ s2 → Where knows (λ bytes. s3 ≡ after_owner v s (owner_with v bytes number i))
-inode_claims knows v number i s s1 s2 s3 e h last = λ bytes t.
-    last ∙ h bytes t ∙ ap (λ (c : Claims). after_steps v c (steps_of v i bytes)) e
-
-pub inode_moves : (s s1 s2 s3 : Claims) → s1 ≡ next_inode s → Moves s1 s2 → s3 ≡ s2 →
-    s3.runs + used_bits s ≤ s.runs + used_bits s3 + 22
-inode_moves s s1 s2 s3 e m last = rw last (end_moves (next_inode s) s2 refl (rw e at m))
 
 -- an inode by its number
 pub owner_is : (v : Layout) (bytes : List ℕ) (number : ℕ) (i : Inode) → i ≡ inode_of v bytes number → owner_with v bytes number i ≡ owner_of v bytes number
 unfolding owner_of
 owner_is v bytes number i e = ap (λ (x : Inode). owner_with v bytes number x) e
 
--- a fact of an Ok answer, of an image that tells the same
-pub ok_where : {T E : Type 0} (r : Result T E) (told told' : Option (List ℕ)) (P Q : List ℕ → Type 0) → told' ≡ told →
-    Where (Tells told) (λ bytes. P bytes → Q bytes) → OnOk r (Where (Tells told') P) → OnOk r (Where (Tells told) Q)
-ok_where (Ok x) told told' P Q e more h = λ bytes t. more bytes t (h bytes (e ∙ t))
-ok_where (Err x) told told' P Q e more h = h
+-- a fact of an Ok answer, of an image that gives the same
+pub ok_where : {T E : Type 0} (r : Result T E) (contents contents' : Option (List ℕ)) (P Q : List ℕ → Type 0) → contents' ≡ contents →
+    ForBytes (IsContents contents) (λ bytes. P bytes → Q bytes) → OnOk r (ForBytes (IsContents contents') P) → OnOk r (ForBytes (IsContents contents) Q)
+ok_where (Ok x) contents contents' P Q e more h = λ bytes t. more bytes t (h bytes (e ∙ t))
+ok_where (Err x) contents contents' P Q e more h = h

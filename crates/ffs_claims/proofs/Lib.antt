@@ -6,7 +6,7 @@ pub mod Reserved
 pub mod Numbers
 pub mod Marks
 pub mod Doubles
-pub mod Tellings
+pub mod Reportings
 pub mod Rewalks
 pub mod Rescanned
 pub mod Whole

@@ -10,14 +10,14 @@ use Rattle.ffs_volume.specs.declared.Step.{Step}
 use Rattle.ffs_volume.specs.declared.Step.TheVariants.{Run, Tail, Gap}
 use Rattle.ffs_volume.specs.declared.BlockMessage.{BlockMessage}
 use Rattle.ffs_volume.specs.declared.BlockMessage.TheVariants.{Bad, Dup, ManyBad, ManyDup, PartTrunc}
-use Rattle.ffs_volume.specs.Areas.{is_ok, is_in_range}
-use Rattle.ffs_volume.specs.Inodes.{is_settled, inode_of, class_of}
-use Rattle.ffs_volume.specs.Owners.{Owner, owner_of, owners_of}
-use Rattle.ffs_volume.specs.Claims.{Claims, next_inode, is_open, is_set, after_offer, after_offers, after_run, after_step, after_steps, after_owner, offer_lines, offers_lines, run_lines, step_lines, steps_lines}
-use Rattle.ffs_volume.specs.BlockCheck.{blames, class_lines, count_lines, owner_lines, owners_lines, phase1_lines, phase1b_lines, is_marked, is_unknown_class}
-use Rattle.ffs_volume.specs.KeptSteps.{claims_before}
-use Rattle.ffs_volume.specs.Volumes.{is_number, marked_at}
-use Rattle.ffs_volume.specs.Weights.{cond_holds}
+use Rattle.ffs_volume.specs.Disk.Areas.{is_data_fragment, is_in_range}
+use Rattle.ffs_volume.specs.Blocks.Inodes.{is_file_or_dir, inode_of, class_of, is_unknown}
+use Rattle.ffs_volume.specs.Blocks.Owners.{Owner, owner_of, owners_of}
+use Rattle.ffs_volume.specs.Blocks.Claims.{Claims, next_inode, is_open, is_set, after_offer, after_offers, after_run, after_step, after_steps, after_owner, offer_lines, offers_lines, run_lines, step_lines, steps_lines}
+use Rattle.ffs_volume.specs.Blocks.BlockCheck.{blames, class_lines, count_lines, owner_lines, owners_lines, phase1_lines, phase1b_lines, is_marked}
+use Rattle.ffs_volume.specs.Blocks.KeptSteps.{claims_before}
+use Rattle.ffs_volume.specs.Directories.Volumes.{is_inode_number, marked_at}
+use Rattle.ffs_volume.proofs.Weights.{cond_holds}
 use Rattle.ffs_workspace.specs.Holds.{has_blame, first_marked_at}
 use Rattle.ffs_workspace.specs.Lengths.{inodes_of}
 use Rattle.ffs_claims.proofs.Numbers.{before_next, before_first}
@@ -30,7 +30,7 @@ any_append test (x ∷ xs) ys = one (test x) (any_append test xs ys)
     one true e = refl
     one false e = e
 
--- lines that add to what is known: what they tell, with what was known, is what then is known
+-- lines that add to what is known: what they report, with what was known, is what then is known
 pub or_then : (a b s t u : Bool) → (a || s) ≡ t → (b || t) ≡ u → ((a || b) || s) ≡ u
 or_then true true s t u e f = f
 or_then true false s t u e f = e ∙ f
@@ -50,9 +50,9 @@ blames_then x i s t u xs ys p q =
     ∙ or_then (list_any (blames x) xs) (list_any (blames x) ys) (blamed x i s) (blamed x i t) (blamed x i u) p q
 
 -- a line that blames the inode
-told_blame : (x i : ℕ) (s t : Claims) (tail : List BlockMessage) (line : BlockMessage) → blames x line ≡ (i == x) → list_any (blames x) tail ≡ false → has_blame t ≡ true →
+reported_blame : (x i : ℕ) (s t : Claims) (tail : List BlockMessage) (line : BlockMessage) → blames x line ≡ (i == x) → list_any (blames x) tail ≡ false → has_blame t ≡ true →
     Blames x i s (line ∷ tail) t
-told_blame x i s t tail line e none bad =
+reported_blame x i s t tail line e none bad =
     ap (λ (b : Bool). (b || list_any (blames x) tail) || blamed x i s) e
     ∙ ap (λ (b : Bool). ((i == x) || b) || blamed x i s) none
     ∙ both (i == x) (has_blame s) ∙ ap (λ (b : Bool). (i == x) && b) (sym bad)
@@ -76,12 +76,12 @@ more_bad : (n d : ℕ) → not (n + 1 == 0 && d == 0) ≡ true
 more_bad n d = let apart : (n + 1 == 0) ≡ false = grind (arith, nat_tests) in ap (λ (b : Bool). not (b && d == 0)) apart
 
 offer_blames : (v : Layout) (x i : ℕ) (s : Claims) (f : ℕ) → Blames x i s (offer_lines v i s f) (after_offer v s f)
-offer_blames v x i s f = one (nat_lt s.dups 11) refl (is_ok v f) refl (is_set s.used f) refl
+offer_blames v x i s f = one (nat_lt s.dups 11) refl (is_data_fragment v f) refl (is_set s.used f) refl
   where
     silent : (t : Claims) → offer_lines v i s f ≡ [] → after_offer v s f ≡ t → has_blame t ≡ has_blame s → Blames x i s (offer_lines v i s f) (after_offer v s f)
     silent t e now same = ap (λ (ls : List BlockMessage). list_any (blames x) ls || blamed x i s) e ∙ ap (λ (b : Bool). (i == x) && b) (sym same) ∙ ap (blamed x i) (sym now)
 
-    one : (a : Bool) → nat_lt s.dups 11 ≡ a → (k : Bool) → is_ok v f ≡ k → (u : Bool) → is_set s.used f ≡ u → Blames x i s (offer_lines v i s f) (after_offer v s f)
+    one : (a : Bool) → nat_lt s.dups 11 ≡ a → (k : Bool) → is_data_fragment v f ≡ k → (u : Bool) → is_set s.used f ≡ u → Blames x i s (offer_lines v i s f) (after_offer v s f)
     one false q k kq u uq = silent s (rw q refl) (rw q refl) refl
     one true q false kq u uq = silent (record s { kept = s.kept + 1 }) (rw (q, kq) refl) (rw (q, kq) refl) refl
     one true q true kq false uq = silent (record s { kept = s.kept + 1; used = slice_set s.used f true }) (rw (q, kq, uq) refl) (rw (q, kq, uq) refl) refl
@@ -89,7 +89,7 @@ offer_blames v x i s f = one (nat_lt s.dups 11) refl (is_ok v f) refl (is_set s.
         let lines : offer_lines v i s f ≡ Dup f i ∷ (if s.dups == 10 then ManyDup i ∷ [] else []) = rw (q, kq, uq) refl in
         let now : after_offer v s f ≡ record s { kept = s.kept + 1; dups = s.dups + 1; dup = slice_set s.dup f true } = rw (q, kq, uq) refl in
         ap (λ (ls : List BlockMessage). list_any (blames x) ls || blamed x i s) lines
-        ∙ told_blame x i s (record s { kept = s.kept + 1; dups = s.dups + 1; dup = slice_set s.dup f true }) (if s.dups == 10 then ManyDup i ∷ [] else []) (Dup f i) refl (many_dup x i (s.dups == 10)) (more_dups s)
+        ∙ reported_blame x i s (record s { kept = s.kept + 1; dups = s.dups + 1; dup = slice_set s.dup f true }) (if s.dups == 10 then ManyDup i ∷ [] else []) (Dup f i) refl (many_dup x i (s.dups == 10)) (more_dups s)
         ∙ ap (blamed x i) (sym now)
 
 offers_blame : (v : Layout) (x i : ℕ) (s : Claims) (fs : List ℕ) → Blames x i s (offers_lines v i s fs) (after_offers v s fs)
@@ -108,11 +108,11 @@ run_blames v x i s start len = one (is_in_range v start len) refl (s.bad == 10) 
     one true q z zq = from (offers_lines v i (record s { runs = s.runs + 1 }) (range_with_len start len)) (after_offers v (record s { runs = s.runs + 1 }) (range_with_len start len)) (rw q refl) (rw q refl)
         (offers_blame v x i (record s { runs = s.runs + 1 }) (range_with_len start len))
     one false q true zq = from (Bad start i ∷ (ManyBad i ∷ [])) (record s { runs = s.runs + 1; bad = s.bad + 1 }) (rw (q, zq) refl) (rw (q, zq) refl)
-        (told_blame x i s (record s { runs = s.runs + 1; bad = s.bad + 1 }) (ManyBad i ∷ []) (Bad start i) refl refl (more_bad s.bad s.dups))
+        (reported_blame x i s (record s { runs = s.runs + 1; bad = s.bad + 1 }) (ManyBad i ∷ []) (Bad start i) refl refl (more_bad s.bad s.dups))
     one false q false zq = from ((Bad start i ∷ []) ++ offers_lines v i (record s { runs = s.runs + 1; bad = s.bad + 1 }) (range_with_len start len))
         (after_offers v (record s { runs = s.runs + 1; bad = s.bad + 1 }) (range_with_len start len)) (rw (q, zq) refl) (rw (q, zq) refl)
         (blames_then x i s (record s { runs = s.runs + 1; bad = s.bad + 1 }) (after_offers v (record s { runs = s.runs + 1; bad = s.bad + 1 }) (range_with_len start len)) (Bad start i ∷ []) (offers_lines v i (record s { runs = s.runs + 1; bad = s.bad + 1 }) (range_with_len start len))
-        (told_blame x i s (record s { runs = s.runs + 1; bad = s.bad + 1 }) [] (Bad start i) refl refl (more_bad s.bad s.dups))
+        (reported_blame x i s (record s { runs = s.runs + 1; bad = s.bad + 1 }) [] (Bad start i) refl refl (more_bad s.bad s.dups))
         (offers_blame v x i (record s { runs = s.runs + 1; bad = s.bad + 1 }) (range_with_len start len)))
 
 step_blames : (v : Layout) (x i : ℕ) (s : Claims) (step : Step) → Blames x i s (step_lines v i s step) (after_step v s step)
@@ -148,7 +148,7 @@ class_silent x i File = refl
 class_silent x i Dir = refl
 
 count_silent : (v : Layout) (x : ℕ) (o : Owner) (end : Claims) → list_any (blames x) (count_lines v o end) ≡ false
-count_silent v x o end = cond_holds (λ (ls : List BlockMessage). list_any (blames x) ls ≡ false) (is_settled o.class && (is_open end && not (o.blocks == _))) _ _ (λ _. refl) (λ _. refl)
+count_silent v x o end = cond_holds (λ (ls : List BlockMessage). list_any (blames x) ls ≡ false) (is_file_or_dir o.class && (is_open end && not (o.blocks == _))) _ _ (λ _. refl) (λ _. refl)
 
 or_none : (b : Bool) → (b || false) ≡ b
 or_none true = refl
@@ -200,7 +200,7 @@ owners_blame v bytes x n (suc k) low =
         ap (λ (b : Bool). (b && has_blame (after_owner v (claims_before v bytes n) (owner_of v bytes n))) || ((nat_le (n + 1) x && nat_lt x (n + 1 + k)) && has_blame (after_owner v (claims_before v bytes x) (owner_of v bytes x)))) here
         ∙ ap (λ (b : Bool). b && has_blame (after_owner v (claims_before v bytes x) (owner_of v bytes x))) same
 
-first_blames : (v : Layout) (bytes : List ℕ) (x : ℕ) → is_number v x ≡ true →
+first_blames : (v : Layout) (bytes : List ℕ) (x : ℕ) → is_inode_number v x ≡ true →
     list_any (blames x) (phase1_lines v (owners_of v bytes)) ≡ has_blame (after_owner v (claims_before v bytes x) (owner_of v bytes x))
 unfolding phase1_lines owners_of
 first_blames v bytes x inside =
@@ -211,18 +211,18 @@ first_blames v bytes x inside =
 
 -- an inode is marked by phase 1, or by phase 1b
 pub marked_total : (v : Layout) (bytes : List ℕ) (x : ℕ) →
-    marked_at v bytes x ≡ (first_marked_at v bytes x || (is_number v x && list_any (blames x) (phase1b_lines v (owners_of v bytes))))
+    marked_at v bytes x ≡ (first_marked_at v bytes x || (is_inode_number v x && list_any (blames x) (phase1b_lines v (owners_of v bytes))))
 unfolding first_marked_at is_marked
-marked_total v bytes x = one (is_number v x) refl
+marked_total v bytes x = one (is_inode_number v x) refl
   where
     assoc : (a b d : Bool) → (a || (b || d)) ≡ ((a || b) || d)
     assoc true b d = refl
     assoc false b d = refl
 
-    one : (i : Bool) → is_number v x ≡ i →
-        (if i then is_unknown_class (class_of v (inode_of v bytes x)) || list_any (blames x) (phase1_lines v (owners_of v bytes) ++ phase1b_lines v (owners_of v bytes)) else false)
-        ≡ ((if i then is_unknown_class (class_of v (inode_of v bytes x)) || has_blame (after_owner v (claims_before v bytes x) (owner_of v bytes x)) else false) || (i && list_any (blames x) (phase1b_lines v (owners_of v bytes))))
+    one : (i : Bool) → is_inode_number v x ≡ i →
+        (if i then is_unknown (class_of v (inode_of v bytes x)) || list_any (blames x) (phase1_lines v (owners_of v bytes) ++ phase1b_lines v (owners_of v bytes)) else false)
+        ≡ ((if i then is_unknown (class_of v (inode_of v bytes x)) || has_blame (after_owner v (claims_before v bytes x) (owner_of v bytes x)) else false) || (i && list_any (blames x) (phase1b_lines v (owners_of v bytes))))
     one true q =
-        ap (λ (b : Bool). is_unknown_class (class_of v (inode_of v bytes x)) || b) (any_append (blames x) (phase1_lines v (owners_of v bytes)) (phase1b_lines v (owners_of v bytes)) ∙ ap (λ (b : Bool). b || list_any (blames x) (phase1b_lines v (owners_of v bytes))) (first_blames v bytes x q))
-        ∙ assoc (is_unknown_class (class_of v (inode_of v bytes x))) (has_blame (after_owner v (claims_before v bytes x) (owner_of v bytes x))) (list_any (blames x) (phase1b_lines v (owners_of v bytes)))
+        ap (λ (b : Bool). is_unknown (class_of v (inode_of v bytes x)) || b) (any_append (blames x) (phase1_lines v (owners_of v bytes)) (phase1b_lines v (owners_of v bytes)) ∙ ap (λ (b : Bool). b || list_any (blames x) (phase1b_lines v (owners_of v bytes))) (first_blames v bytes x q))
+        ∙ assoc (is_unknown (class_of v (inode_of v bytes x))) (has_blame (after_owner v (claims_before v bytes x) (owner_of v bytes x))) (list_any (blames x) (phase1b_lines v (owners_of v bytes)))
     one false q = refl

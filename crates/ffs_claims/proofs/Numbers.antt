@@ -6,14 +6,14 @@ use Rattle.std.proofs.lemmas.Bool.{cases_lt, cases_eq}
 use Rattle.std.proofs.lemmas.Bool.Decides.{nat_tests}
 use Rattle.ffs_volume.specs.declared.Layout.{Layout}
 use Rattle.ffs_volume.specs.declared.Class.TheVariants.{Free}
-use Rattle.ffs_volume.specs.Inodes.{inode_of, class_of}
-use Rattle.ffs_volume.specs.Owners.{Owner, owner_of, owners_of}
-use Rattle.ffs_volume.specs.Claims.{Claims, no_claims, after_owner, after_owners}
-use Rattle.ffs_volume.specs.BlockCheck.{owner_lines, owners_lines, phase1_lines, is_unknown_class}
-use Rattle.ffs_volume.specs.KeptSteps.{claims_before}
-use Rattle.ffs_volume.specs.Replay.{cut_of, cut_at}
-use Rattle.ffs_volume.specs.Volumes.{is_number}
-use Rattle.ffs_volume.specs.Kinds.{kind_of, kind_at}
+use Rattle.ffs_volume.specs.Blocks.Inodes.{inode_of, class_of, is_unknown}
+use Rattle.ffs_volume.specs.Blocks.Owners.{Owner, owner_of, owners_of}
+use Rattle.ffs_volume.specs.Blocks.Claims.{Claims, no_claims, after_owner, after_owners}
+use Rattle.ffs_volume.specs.Blocks.BlockCheck.{owner_lines, owners_lines, phase1_lines}
+use Rattle.ffs_volume.specs.Blocks.KeptSteps.{claims_before}
+use Rattle.ffs_volume.specs.Encodings.Replay.{cut_of, cut_at}
+use Rattle.ffs_volume.specs.Directories.Volumes.{is_inode_number}
+use Rattle.ffs_volume.specs.Encodings.Kinds.{kind_of, kind_at}
 use Rattle.ffs_workspace.specs.Holds.{has_blame, first_marked_at, all_claims}
 use Rattle.ffs_workspace.specs.Lengths.{inodes_of}
 use Rattle.ffs_claims.specs.Lines.{of_lines, owners_from}
@@ -47,7 +47,7 @@ pub before_first : (v : Layout) (bytes : List ℕ) → claims_before v bytes 2 �
 unfolding claims_before
 before_first v bytes = refl
 
--- and behind the last one
+-- and after the last one
 pub before_end : (v : Layout) (bytes : List ℕ) (x : ℕ) → inodes_of v ≤ x → (2 < x → x ≤ inodes_of v) → 2 ≤ x →
     claims_before v bytes x ≡ all_claims v bytes
 unfolding claims_before all_claims owners_of
@@ -55,7 +55,7 @@ before_end v bytes x past exact low =
     let same : x - 2 ≡ inodes_of v - 2 = elim (cases_lt 2 x) [ inl h ↦ let e : x ≤ inodes_of v = exact h in omega arith | inr h ↦ omega arith ] in
     ap (λ (n : ℕ). after_owners v (no_claims v) (map (owner_of v bytes) (range_with_len 2 n))) same
 
--- the lines of the next inode, and of those behind it
+-- the lines of the next inode, and of those after it
 pub lines_next : (v : Layout) (bytes : List ℕ) (s s' : Claims) (x : ℕ) → x < inodes_of v → s' ≡ after_owner v s (owner_of v bytes x) →
     of_lines (owners_lines v s (owners_from v bytes x)) ≡ of_lines (owner_lines v s (owner_of v bytes x)) ++ of_lines (owners_lines v s' (owners_from v bytes (x + 1)))
 lines_next v bytes s s' x low now =
@@ -108,36 +108,36 @@ filled_begin d f xs len e out = λ x. ap (λ (zs : List _). get_or zs x d) e ∙
     ]
 
 -- what is found of the inode x, and nothing of a number that is no inode's
-pub is_inside : (v : Layout) (x : ℕ) → 2 ≤ x → x < inodes_of v → is_number v x ≡ true
+pub is_inside : (v : Layout) (x : ℕ) → 2 ≤ x → x < inodes_of v → is_inode_number v x ≡ true
 is_inside v x low high = grind (arith, nat_tests)
 
-pub is_outside : (v : Layout) (x : ℕ) → (x < 2) ⊎ (inodes_of v ≤ x) → is_number v x ≡ false
+pub is_outside : (v : Layout) (x : ℕ) → (x < 2) ⊎ (inodes_of v ≤ x) → is_inode_number v x ≡ false
 is_outside v x (inl low) = grind (arith, nat_tests)
 is_outside v x (inr high) = grind (arith, nat_tests)
 
-pub kind_out : (v : Layout) (bytes : List ℕ) (x : ℕ) → is_number v x ≡ false → kind_at v bytes x ≡ 0
+pub kind_out : (v : Layout) (bytes : List ℕ) (x : ℕ) → is_inode_number v x ≡ false → kind_at v bytes x ≡ 0
 unfolding kind_at
 kind_out v bytes x out = ap (λ (b : Bool). kind_of (if b then class_of v (inode_of v bytes x) else Free) (inode_of v bytes x)) out
 
-pub kind_in : (v : Layout) (bytes : List ℕ) (x : ℕ) → is_number v x ≡ true → kind_of (class_of v (inode_of v bytes x)) (inode_of v bytes x) ≡ kind_at v bytes x
+pub kind_in : (v : Layout) (bytes : List ℕ) (x : ℕ) → is_inode_number v x ≡ true → kind_of (class_of v (inode_of v bytes x)) (inode_of v bytes x) ≡ kind_at v bytes x
 unfolding kind_at
 kind_in v bytes x inside = sym (ap (λ (b : Bool). kind_of (if b then class_of v (inode_of v bytes x) else Free) (inode_of v bytes x)) inside)
 
-pub mark_out : (v : Layout) (bytes : List ℕ) (x : ℕ) → is_number v x ≡ false → first_marked_at v bytes x ≡ false
+pub mark_out : (v : Layout) (bytes : List ℕ) (x : ℕ) → is_inode_number v x ≡ false → first_marked_at v bytes x ≡ false
 unfolding first_marked_at
-mark_out v bytes x out = ap (λ (b : Bool). if b then is_unknown_class (class_of v (inode_of v bytes x)) || has_blame (after_owner v (claims_before v bytes x) (owner_of v bytes x)) else false) out
+mark_out v bytes x out = ap (λ (b : Bool). if b then is_unknown (class_of v (inode_of v bytes x)) || has_blame (after_owner v (claims_before v bytes x) (owner_of v bytes x)) else false) out
 
-pub mark_in : (v : Layout) (bytes : List ℕ) (x : ℕ) (s s' : Claims) → is_number v x ≡ true → s ≡ claims_before v bytes x → s' ≡ after_owner v s (owner_of v bytes x) →
-    (is_unknown_class (class_of v (inode_of v bytes x)) || has_blame s') ≡ first_marked_at v bytes x
+pub mark_in : (v : Layout) (bytes : List ℕ) (x : ℕ) (s s' : Claims) → is_inode_number v x ≡ true → s ≡ claims_before v bytes x → s' ≡ after_owner v s (owner_of v bytes x) →
+    (is_unknown (class_of v (inode_of v bytes x)) || has_blame s') ≡ first_marked_at v bytes x
 unfolding first_marked_at
 mark_in v bytes x s s' inside before now =
-    ap (λ (t : Claims). is_unknown_class (class_of v (inode_of v bytes x)) || has_blame t) (now ∙ ap (λ (t : Claims). after_owner v t (owner_of v bytes x)) before)
-    ∙ sym (ap (λ (b : Bool). if b then is_unknown_class (class_of v (inode_of v bytes x)) || has_blame (after_owner v (claims_before v bytes x) (owner_of v bytes x)) else false) inside)
+    ap (λ (t : Claims). is_unknown (class_of v (inode_of v bytes x)) || has_blame t) (now ∙ ap (λ (t : Claims). after_owner v t (owner_of v bytes x)) before)
+    ∙ sym (ap (λ (b : Bool). if b then is_unknown (class_of v (inode_of v bytes x)) || has_blame (after_owner v (claims_before v bytes x) (owner_of v bytes x)) else false) inside)
 
-pub cut_out : (v : Layout) (bytes : List ℕ) (x : ℕ) → is_number v x ≡ false → cut_at v bytes x ≡ 0
+pub cut_out : (v : Layout) (bytes : List ℕ) (x : ℕ) → is_inode_number v x ≡ false → cut_at v bytes x ≡ 0
 cut_out v bytes x out = ap (λ (b : Bool). if b then min (cut_of (after_owner v (claims_before v bytes x) (owner_of v bytes x))) 4294967295 else 0) out
 
-pub cut_in : (v : Layout) (bytes : List ℕ) (x : ℕ) (s s' : Claims) → is_number v x ≡ true → s ≡ claims_before v bytes x → s' ≡ after_owner v s (owner_of v bytes x) →
+pub cut_in : (v : Layout) (bytes : List ℕ) (x : ℕ) (s s' : Claims) → is_inode_number v x ≡ true → s ≡ claims_before v bytes x → s' ≡ after_owner v s (owner_of v bytes x) →
     min (cut_of s') 4294967295 ≡ cut_at v bytes x
 cut_in v bytes x s s' inside before now =
     ap (λ (t : Claims). min (cut_of t) 4294967295) (now ∙ ap (λ (t : Claims). after_owner v t (owner_of v bytes x)) before)

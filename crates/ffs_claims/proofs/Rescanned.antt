@@ -8,41 +8,41 @@ use Rattle.ffs_volume.specs.declared.Layout.{Layout}
 use Rattle.ffs_volume.specs.declared.Step.{Step}
 use Rattle.ffs_volume.specs.declared.Step.TheVariants.{Run, Tail, Gap}
 use Rattle.ffs_volume.specs.declared.BlockMessage.{BlockMessage}
-use Rattle.ffs_volume.specs.Areas.{is_in_range}
-use Rattle.ffs_volume.specs.Geometry.{IsGeometry}
-use Rattle.ffs_volume.specs.Inodes.{inode_of}
-use Rattle.ffs_volume.specs.Steps.{steps_of}
-use Rattle.ffs_volume.specs.Owners.{owner_of, owners_of}
-use Rattle.ffs_volume.specs.Claims.{Claims, no_claims, next_inode, is_open, is_set, after_offer, after_step, after_steps, after_owner, after_owners}
-use Rattle.ffs_volume.specs.BlockCheck.{Offer, blames, offers_kept, step_kept, steps_kept, owners_kept, first_offers, phase1b_lines}
-use Rattle.ffs_volume.specs.KeptSteps.{claims_before}
-use Rattle.ffs_volume.specs.Weights.{cond_holds}
-use Rattle.ffs_volume.specs.Replay.{cut_of, cut_at}
-use Rattle.ffs_volume.specs.CutLaws.{cut_is}
-use Rattle.ffs_volume.specs.Report.{claim_count}
-use Rattle.ffs_volume.specs.Volumes.{is_number}
+use Rattle.ffs_volume.specs.Disk.Areas.{is_in_range}
+use Rattle.ffs_volume.specs.Disk.Geometry.{IsGeometry}
+use Rattle.ffs_volume.specs.Blocks.Inodes.{inode_of}
+use Rattle.ffs_volume.specs.Blocks.Steps.{steps_of}
+use Rattle.ffs_volume.specs.Blocks.Owners.{owner_of, owners_of}
+use Rattle.ffs_volume.specs.Blocks.Claims.{Claims, no_claims, next_inode, is_open, is_set, after_offer, after_step, after_steps, after_owner, after_owners}
+use Rattle.ffs_volume.specs.Blocks.BlockCheck.{Offer, blames, offers_kept, step_kept, steps_kept, owners_kept, first_offers, phase1b_lines}
+use Rattle.ffs_volume.specs.Blocks.KeptSteps.{claims_before}
+use Rattle.ffs_volume.proofs.Weights.{cond_holds}
+use Rattle.ffs_volume.specs.Encodings.Replay.{cut_of, cut_at}
+use Rattle.ffs_volume.proofs.CutLaws.{cut_is}
+use Rattle.ffs_volume.specs.Report.Whole.{claim_count}
+use Rattle.ffs_volume.specs.Directories.Volumes.{is_inode_number}
 use Rattle.ffs_maps.specs.Bits.{bits_of}
 use Rattle.ffs_workspace.specs.declared.workspace.Workspace.{Workspace}
 use Rattle.ffs_workspace.specs.Holds.{bool_at, all_claims, first_marked_at, HoldsPhase1, HoldsClaims}
 use Rattle.ffs_workspace.specs.Lengths.{inodes_of}
 use Rattle.ffs_claims.specs.Lines.{of_lines, owners_from}
 use Rattle.ffs_claims.specs.Rescan.{rescan, offers_again, runs_again}
-use Rattle.ffs_claims.specs.Telling.{after_first, Told, SameClaims}
+use Rattle.ffs_claims.specs.Reporting.{after_first, OffersReported, SameClaims}
 use Rattle.ffs_claims.proofs.Goes.{range_more, lines_append}
 use Rattle.ffs_claims.proofs.Marks.{marked_total}
 use Rattle.ffs_claims.proofs.Numbers.{before_next, before_end, before_first}
-use Rattle.ffs_claims.proofs.Rescans.{inode_retold}
-use Rattle.ffs_claims.proofs.Tellings.{Telling, first_append}
+use Rattle.ffs_claims.proofs.Rescans.{inode_replayed}
+use Rattle.ffs_claims.proofs.Reportings.{Reporting, first_append}
 
--- the offers of the next inode, told again by its cut, and those of the inodes behind it
-pub kept_next : (v : Layout) (bytes : List ℕ) (cuts : List ℕ) (n : ℕ) → IsGeometry v → 2 ≤ n → n < inodes_of v → is_number v n ≡ true → slice_index cuts n ≡ cut_at v bytes n →
+-- the offers of the next inode, replayed by its cut, and those of the inodes after it
+pub kept_next : (v : Layout) (bytes : List ℕ) (cuts : List ℕ) (n : ℕ) → IsGeometry v → 2 ≤ n → n < inodes_of v → is_inode_number v n ≡ true → slice_index cuts n ≡ cut_at v bytes n →
     owners_kept v (claims_before v bytes n) (owners_from v bytes n)
     ≡ offers_again v n (rescan (slice_index cuts n)) (steps_of v (inode_of v bytes n) bytes) ++ owners_kept v (claims_before v bytes (n + 1)) (owners_from v bytes (n + 1))
 unfolding owner_of
 kept_next v bytes cuts n g low high inside e =
     let s = claims_before v bytes n in
     let cut : cut_of (after_steps v (next_inode (claims_before v bytes n)) (steps_of v (inode_of v bytes n) bytes)) ≡ slice_index cuts n = sym (e ∙ cut_is v bytes n g inside) in
-    let again = (inode_retold v n (claims_before v bytes n) (steps_of v (inode_of v bytes n) bytes)).offers in
+    let again = (inode_replayed v n (claims_before v bytes n) (steps_of v (inode_of v bytes n) bytes)).offers in
     ap (λ (xs : List ℕ). owners_kept v (claims_before v bytes n) (map (owner_of v bytes) xs)) (range_more n (inodes_of v - n) (inodes_of v - (n + 1)) (omega arith))
     ∙ ap (λ (os : List Offer). os ++ owners_kept v (after_owner v (claims_before v bytes n) (owner_of v bytes n)) (owners_from v bytes (n + 1)))
     (again ∙ ap (λ (k : ℕ). offers_again v n (rescan k) (steps_of v (inode_of v bytes n) bytes)) cut)
@@ -53,13 +53,13 @@ kept_end v bytes s n past =
     let none : inodes_of v - n ≡ 0 = omega arith in
     ap (λ (k : ℕ). owners_kept v s (map (owner_of v bytes) (range_with_len n k))) none
 
-pub runs_on : (v : Layout) (bytes : List ℕ) (cuts : List ℕ) (n : ℕ) → IsGeometry v → 2 ≤ n → is_number v n ≡ true → slice_index cuts n ≡ cut_at v bytes n →
+pub runs_on : (v : Layout) (bytes : List ℕ) (cuts : List ℕ) (n : ℕ) → IsGeometry v → 2 ≤ n → is_inode_number v n ≡ true → slice_index cuts n ≡ cut_at v bytes n →
     (claims_before v bytes (n + 1)).runs ≡ (claims_before v bytes n).runs + runs_again v (rescan (slice_index cuts n)) (steps_of v (inode_of v bytes n) bytes)
 unfolding owner_of
 runs_on v bytes cuts n g low inside e =
     let cut : cut_of (after_steps v (next_inode (claims_before v bytes n)) (steps_of v (inode_of v bytes n) bytes)) ≡ slice_index cuts n = sym (e ∙ cut_is v bytes n g inside) in
     ap (λ (t : Claims). t.runs) (before_next v bytes n low)
-    ∙ (inode_retold v n (claims_before v bytes n) (steps_of v (inode_of v bytes n) bytes)).runs
+    ∙ (inode_replayed v n (claims_before v bytes n) (steps_of v (inode_of v bytes n) bytes)).runs
     ∙ ap (λ (k : ℕ). (claims_before v bytes n).runs + runs_again v (rescan k) (steps_of v (inode_of v bytes n) bytes)) cut
 
 -- the count of Runs rises
@@ -68,7 +68,7 @@ unfolding owner_of
 runs_rise v bytes n zero low = let same : n + 0 ≡ n = omega arith in rw same (omega arith)
 runs_rise v bytes n (suc k) low =
     let more = runs_rise v bytes n k low in
-    let again = (inode_retold v (n + k) (claims_before v bytes (n + k)) (steps_of v (inode_of v bytes (n + k)) bytes)).runs in
+    let again = (inode_replayed v (n + k) (claims_before v bytes (n + k)) (steps_of v (inode_of v bytes (n + k)) bytes)).runs in
     let next : n + suc k ≡ n + k + 1 = omega arith in
     let is : (claims_before v bytes (n + k + 1)).runs ≡ (claims_before v bytes (n + k)).runs + runs_again v (rescan (cut_of (after_steps v (next_inode (claims_before v bytes (n + k))) (steps_of v (inode_of v bytes (n + k)) bytes)))) (steps_of v (inode_of v bytes (n + k)) bytes) =
     ap (λ (t : Claims). t.runs) (before_next v bytes (n + k) (omega arith)) ∙ again in
@@ -87,7 +87,7 @@ runs_most v bytes n low high = elim (cases_lt n (inodes_of v)) [
       omega (arith, ap (λ (t : Claims). t.runs) end)
 ]
 
--- the offers are of the inodes that they are told for
+-- the offers are of the inodes that they are reported for
 abbrev no_offer : ℕ → List Offer → Bool
 no_offer x os = list_all (λ o. not (o.inode == x)) os
 
@@ -146,11 +146,11 @@ blames_none_of x dup (o ∷ os) e =
     turn true e = cc
 
 -- no line of phase 1b names a number that is no inode's
-outside : (v : Layout) (bytes : List ℕ) (x : ℕ) → (is_number v x && list_any (blames x) (phase1b_lines v (owners_of v bytes))) ≡ list_any (blames x) (phase1b_lines v (owners_of v bytes))
+outside : (v : Layout) (bytes : List ℕ) (x : ℕ) → (is_inode_number v x && list_any (blames x) (phase1b_lines v (owners_of v bytes))) ≡ list_any (blames x) (phase1b_lines v (owners_of v bytes))
 unfolding phase1b_lines owners_of
-outside v bytes x = one (is_number v x) refl
+outside v bytes x = one (is_inode_number v x) refl
   where
-    one : (b : Bool) → is_number v x ≡ b →
+    one : (b : Bool) → is_inode_number v x ≡ b →
         (b && list_any (blames x) (first_offers (after_owners v (no_claims v) (map (owner_of v bytes) (range_with_len 2 (inodes_of v - 2)))).dup (owners_kept v (no_claims v) (map (owner_of v bytes) (range_with_len 2 (inodes_of v - 2))))))
         ≡ list_any (blames x) (first_offers (after_owners v (no_claims v) (map (owner_of v bytes) (range_with_len 2 (inodes_of v - 2)))).dup (owners_kept v (no_claims v) (map (owner_of v bytes) (range_with_len 2 (inodes_of v - 2)))))
     one true q = refl
@@ -161,22 +161,22 @@ outside v bytes x = one (is_number v x) refl
         away (inr b) = inr (grind (arith, nat_tests))
 
 -- all offers are gone over: the workspace holds the claims
-pub claims_hold : (v : Layout) (bytes : List ℕ) (old new : Workspace) → HoldsPhase1 v bytes old → SameClaims old new → Told (owners_kept v (no_claims v) (owners_of v bytes)) old new → HoldsClaims v bytes new
+pub claims_hold : (v : Layout) (bytes : List ℕ) (old new : Workspace) → HoldsPhase1 v bytes old → SameClaims old new → OffersReported (owners_kept v (no_claims v) (owners_of v bytes)) old new → HoldsClaims v bytes new
 unfolding all_claims phase1b_lines
 claims_hold v bytes old new h same t = record {
   used = ap bits_of same.claimed ∙ h.used;
   kinds = λ x. ap (λ k. slice_index k.items x) same.kinds ∙ h.kinds x;
   cut = λ x. ap (λ k. slice_index k.items x) same.cut ∙ h.cut x;
   marked = λ x. t.marked x
-      ∙ ap (λ (b : Bool). b || list_any (blames x) (first_offers (bits_of old.doubled) (owners_kept v (no_claims v) (owners_of v bytes)))) (h.marked x)
+      ∙ ap (λ (b : Bool). b || list_any (blames x) (first_offers (bits_of old.duplicates) (owners_kept v (no_claims v) (owners_of v bytes)))) (h.marked x)
       ∙ ap (λ (d : List Bool). first_marked_at v bytes x || list_any (blames x) (first_offers d (owners_kept v (no_claims v) (owners_of v bytes)))) h.dup
       ∙ ap (λ (b : Bool). first_marked_at v bytes x || b) (sym (outside v bytes x))
       ∙ sym (marked_total v bytes x);
 }
 
--- nothing is told yet
-pub told_same : (u w : Workspace) (all : List Offer) → w.doubled ≡ u.doubled → w.marked ≡ u.marked → Telling all all u w
-told_same u w all d m = record { past = []; whole = refl; told = record { dup = ap bits_of d; marked = λ x. ap (λ z. bool_at z.items x) m ∙ none (bool_at u.marked.items x) } }
+-- nothing is reported yet
+pub reported_same : (u w : Workspace) (all : List Offer) → w.duplicates ≡ u.duplicates → w.marked ≡ u.marked → Reporting all all u w
+reported_same u w all d m = record { past = []; whole = refl; told = record { dup = ap bits_of d; marked = λ x. ap (λ z. bool_at z.items x) m ∙ none (bool_at u.marked.items x) } }
   where
     none : (b : Bool) → b ≡ (b || false)
     none true = refl

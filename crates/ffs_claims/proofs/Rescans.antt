@@ -1,4 +1,4 @@
--- Two numbers tell again what an inode keeps.
+-- Two numbers replay what an inode keeps.
 use Rattle.std.proofs.Common.{◌≡◌, ◌⊎◌, ℕ, zero, suc, ◌+◌, ◌-◌, ◌<◌, ◌≤◌, Bool, true, false, ◌&&◌, if◌then◌else◌, nat_lt, ◌==◌, List, [], ◌∷◌, ◌++◌, map, Option, Some, None, inl, inr, arith, refl, ap, ◌∙◌, sym, subst}
 use Rattle.std.specs.List.{range_with_len}
 use Rattle.std.proofs.lemmas.Bool.{cases_lt, ltb-true}
@@ -6,12 +6,12 @@ use Rattle.std.proofs.lemmas.Bool.Decides.{nat_tests}
 use Rattle.ffs_volume.specs.declared.Layout.{Layout}
 use Rattle.ffs_volume.specs.declared.Step.{Step}
 use Rattle.ffs_volume.specs.declared.Step.TheVariants.{Run, Tail, Gap}
-use Rattle.ffs_volume.specs.Areas.{is_ok, is_in_range}
-use Rattle.ffs_volume.specs.Claims.{Claims, next_inode, is_open, is_set, after_offer, after_offers, after_run, after_step, after_steps}
-use Rattle.ffs_volume.specs.Weights.{cond_holds}
-use Rattle.ffs_volume.specs.BlockCheck.{Offer, offers_kept, run_kept, step_kept, steps_kept}
-use Rattle.ffs_volume.specs.PrefixLaws.{offer_at}
-use Rattle.ffs_volume.specs.Replay.{cut_of}
+use Rattle.ffs_volume.specs.Disk.Areas.{is_data_fragment, is_in_range}
+use Rattle.ffs_volume.specs.Blocks.Claims.{Claims, next_inode, is_open, is_set, after_offer, after_offers, after_run, after_step, after_steps}
+use Rattle.ffs_volume.proofs.Weights.{cond_holds}
+use Rattle.ffs_volume.specs.Blocks.BlockCheck.{Offer, offers_kept, run_kept, step_kept, steps_kept}
+use Rattle.ffs_volume.specs.Blocks.FirstOffers.{offer_at}
+use Rattle.ffs_volume.specs.Encodings.Replay.{cut_of}
 use Rattle.ffs_claims.specs.declared.rescan.Rescan.{Rescan}
 use Rattle.ffs_claims.specs.Rescan.{rescan, is_left, is_going, taken_of, left_after, run_taken, again, step_offers_again, offers_again, run_seen, runs_again}
 
@@ -45,7 +45,7 @@ offer_grows : (v : Layout) (s : Claims) (f : ℕ) → Grows s (after_offer v s f
 offer_grows v s f =
     cond_holds (Grows s) (nat_lt s.dups 11) _ _
     (λ few. let low : s.dups < 11 = ltb-true s.dups 11 few in
-    cond_holds (Grows s) (is_ok v f) _ _
+    cond_holds (Grows s) (is_data_fragment v f) _ _
     (λ _. cond_holds (Grows s) (is_set s.used f) _ _
     (λ _. record { kept_low = omega arith; dups_low = omega arith; cap = λ c. omega arith; strict = λ l. omega arith; shut = λ h. absurd (omega arith); shut_dups = λ h. absurd (omega arith) })
     (λ _. record { kept_low = omega arith; dups_low = omega arith; cap = λ c. c; strict = λ l. omega arith; shut = λ h. absurd (omega arith); shut_dups = λ h. refl }))
@@ -59,7 +59,7 @@ offers_grow v s (f ∷ fs) = grows_then s (after_offer v s f) (after_offers v (a
 -- an offer is kept, or the inode is cut
 offer_kept : (v : Layout) (s : Claims) (f : ℕ) → nat_lt s.dups 11 ≡ true → (after_offer v s f).kept ≡ s.kept + 1
 offer_kept v s f few =
-    rw few (cond_holds (λ (t : Claims). t.kept ≡ s.kept + 1) (is_ok v f) _ _
+    rw few (cond_holds (λ (t : Claims). t.kept ≡ s.kept + 1) (is_data_fragment v f) _ _
     (λ _. cond_holds (λ (t : Claims). t.kept ≡ s.kept + 1) (is_set s.used f) _ _ (λ _. refl) (λ _. refl))
     (λ _. refl))
 
@@ -184,7 +184,7 @@ steps_grow v s (step ∷ steps) = grows_then s (after_step v s step) _ (step_gro
 offer_runs : (v : Layout) (s : Claims) (f : ℕ) → ((after_offer v s f).runs ≡ s.runs) × ((after_offer v s f).bad ≡ s.bad)
 offer_runs v s f =
     cond_holds (λ (t : Claims). (t.runs ≡ s.runs) × (t.bad ≡ s.bad)) (nat_lt s.dups 11) _ _
-    (λ _. cond_holds (λ (t : Claims). (t.runs ≡ s.runs) × (t.bad ≡ s.bad)) (is_ok v f) _ _
+    (λ _. cond_holds (λ (t : Claims). (t.runs ≡ s.runs) × (t.bad ≡ s.bad)) (is_data_fragment v f) _ _
     (λ _. cond_holds (λ (t : Claims). (t.runs ≡ s.runs) × (t.bad ≡ s.bad)) (is_set s.used f) _ _ (λ _. (refl, refl)) (λ _. (refl, refl)))
     (λ _. (refl, refl)))
     (λ _. (refl, refl))
@@ -196,26 +196,22 @@ offers_runs v s (f ∷ fs) =
     let more = offers_runs v (after_offer v s f) fs in
     (more.0 ∙ one.0, more.1 ∙ one.1)
 
--- what a step is, told again
-pub record Retold (v : Layout) (i : ℕ) (s end : Claims) (r : Rescan) (step : Step) : Type 0 where
+-- what a step is, replayed
+pub record Replayed (v : Layout) (i : ℕ) (s end : Claims) (r : Rescan) (step : Step) : Type 0 where
   pub offers : step_kept v i s step ≡ step_offers_again v i r step
   pub runs : (after_step v s step).runs ≡ s.runs + run_seen r step
   pub tied : Tied (after_step v s step) end (again v r step)
 
--- a number is reached exactly where a sum with it is
-same_sum : (a b n : ℕ) → (a + b == a + n) ≡ (b == n)
-same_sum a b n = grind (arith, nat_tests)
-
-run_retold : (v : Layout) (i : ℕ) (s end : Claims) (r : Rescan) (start len : ℕ) (block : Option ℕ) →
-    Grows (after_step v s (Run start len block)) end → end.dups ≤ 11 → Tied s end r → is_going r ≡ is_open s → Retold v i s end r (Run start len block)
-run_retold v i s end r start len block after cap t going = one (is_open s) refl (is_in_range v start len) refl (s.bad == 10) refl
+run_replayed : (v : Layout) (i : ℕ) (s end : Claims) (r : Rescan) (start len : ℕ) (block : Option ℕ) →
+    Grows (after_step v s (Run start len block)) end → end.dups ≤ 11 → Tied s end r → is_going r ≡ is_open s → Replayed v i s end r (Run start len block)
+run_replayed v i s end r start len block after cap t going = one (is_open s) refl (is_in_range v start len) refl (s.bad == 10) refl
   where
     from : (mid : Claims) → (mid.kept ≡ s.kept) → (mid.dups ≡ s.dups) → mid.runs ≡ s.runs + 1 → (bad : ℕ) → mid.bad ≡ bad → is_open s ≡ true →
         after_step v s (Run start len block) ≡ after_offers v mid (range_with_len start len) →
         step_kept v i s (Run start len block) ≡ offers_kept v i mid (range_with_len start len) →
         run_taken v r start len ≡ taken_of r.left len →
         again v r (Run start len block) ≡ record { bad = bad; left = left_after r.left len } →
-        Retold v i s end r (Run start len block)
+        Replayed v i s end r (Run start len block)
     from mid k d u bad b q now offers taken next =
         let s' = after_offers v mid (range_with_len start len) in
         let g : Grows (after_offers v mid (range_with_len start len)) end = subst (λ (x : Claims). Grows x end) now after in
@@ -239,7 +235,7 @@ run_retold v i s end r start len block after cap t going = one (is_open s) refl 
           };
         }
 
-    one : (o : Bool) → is_open s ≡ o → (f : Bool) → is_in_range v start len ≡ f → (z : Bool) → (s.bad == 10) ≡ z → Retold v i s end r (Run start len block)
+    one : (o : Bool) → is_open s ≡ o → (f : Bool) → is_in_range v start len ≡ f → (z : Bool) → (s.bad == 10) ≡ z → Replayed v i s end r (Run start len block)
     one false q f qf z qz =
         let shut : is_going r ≡ false = going ∙ q in
         let now : after_step v s (Run start len block) ≡ s = rw q refl in
@@ -283,13 +279,13 @@ run_retold v i s end r start len block after cap t going = one (is_open s) refl 
         from (record s { runs = s.runs + 1; bad = s.bad + 1 }) refl refl refl (r.bad + 1) (ap (λ (n : ℕ). n + 1) (sym t.bad)) q
         (rw (q, qf, qz) refl) (rw (q, qf, qz) refl) (rw (qf, tenth) refl) (rw (open_again, qf, tenth) refl)
 
-step_retold : (v : Layout) (i : ℕ) (s end : Claims) (r : Rescan) (step : Step) →
-    Grows (after_step v s step) end → end.dups ≤ 11 → Tied s end r → Retold v i s end r step
-step_retold v i s end r (Run start len block) after cap t =
-    run_retold v i s end r start len block after cap t (going_is s end r (grows_then s _ end (step_grows v s (Run start len block)) after) cap t)
-step_retold v i s end r Tail after cap t = one (is_open s) refl (going_is s end r (grows_then s _ end (step_grows v s Tail) after) cap t)
+step_replayed : (v : Layout) (i : ℕ) (s end : Claims) (r : Rescan) (step : Step) →
+    Grows (after_step v s step) end → end.dups ≤ 11 → Tied s end r → Replayed v i s end r step
+step_replayed v i s end r (Run start len block) after cap t =
+    run_replayed v i s end r start len block after cap t (going_is s end r (grows_then s _ end (step_grows v s (Run start len block)) after) cap t)
+step_replayed v i s end r Tail after cap t = one (is_open s) refl (going_is s end r (grows_then s _ end (step_grows v s Tail) after) cap t)
   where
-    one : (o : Bool) → is_open s ≡ o → is_going r ≡ is_open s → Retold v i s end r Tail
+    one : (o : Bool) → is_open s ≡ o → is_going r ≡ is_open s → Replayed v i s end r Tail
     one true q going = let now : after_step v s Tail ≡ record s { tail = true } = rw q refl in
         record {
           offers = refl;
@@ -302,33 +298,33 @@ step_retold v i s end r Tail after cap t = one (is_open s) refl (going_is s end 
           runs = ap (λ (x : Claims). x.runs) now ∙ omega arith;
           tied = record { bad = t.bad ∙ sym (ap (λ (x : Claims). x.bad) now); left = t.left ∙ sym (ap (λ (x : Claims). left_of x end) now) };
         }
-step_retold v i s end r Gap after cap t =
+step_replayed v i s end r Gap after cap t =
     record { offers = refl; runs = omega arith; tied = t }
 
--- what the steps are, told again
-pub record AllRetold (v : Layout) (i : ℕ) (s : Claims) (r : Rescan) (steps : List Step) : Type 0 where
+-- what the steps are, replayed
+pub record AllReplayed (v : Layout) (i : ℕ) (s : Claims) (r : Rescan) (steps : List Step) : Type 0 where
   pub offers : steps_kept v i s steps ≡ offers_again v i r steps
   pub runs : (after_steps v s steps).runs ≡ s.runs + runs_again v r steps
 
-steps_retold : (v : Layout) (i : ℕ) (s : Claims) (r : Rescan) (steps : List Step) →
-    (after_steps v s steps).dups ≤ 11 → Tied s (after_steps v s steps) r → AllRetold v i s r steps
+steps_replayed : (v : Layout) (i : ℕ) (s : Claims) (r : Rescan) (steps : List Step) →
+    (after_steps v s steps).dups ≤ 11 → Tied s (after_steps v s steps) r → AllReplayed v i s r steps
 unfolding offers_again runs_again
-steps_retold v i s r [] cap t = record { offers = refl; runs = omega arith }
-steps_retold v i s r (step ∷ steps) cap t =
+steps_replayed v i s r [] cap t = record { offers = refl; runs = omega arith }
+steps_replayed v i s r (step ∷ steps) cap t =
     let s' = after_step v s step in
-    let one = step_retold v i s (after_steps v (after_step v s step) steps) r step (steps_grow v (after_step v s step) steps) cap t in
-    let more = steps_retold v i (after_step v s step) (again v r step) steps cap one.tied in
+    let one = step_replayed v i s (after_steps v (after_step v s step) steps) r step (steps_grow v (after_step v s step) steps) cap t in
+    let more = steps_replayed v i (after_step v s step) (again v r step) steps cap one.tied in
     record {
       offers = ap (λ (x : List Offer). x ++ steps_kept v i (after_step v s step) steps) one.offers ∙ ap (λ (x : List Offer). step_offers_again v i r step ++ x) more.offers;
       runs = omega (arith, one.runs, more.runs);
     }
 
 -- an inode, from its begin on
-pub inode_retold : (v : Layout) (i : ℕ) (s : Claims) (steps : List Step) → AllRetold v i (next_inode s) (rescan (cut_of (after_steps v (next_inode s) steps))) steps
-inode_retold v i s steps =
+pub inode_replayed : (v : Layout) (i : ℕ) (s : Claims) (steps : List Step) → AllReplayed v i (next_inode s) (rescan (cut_of (after_steps v (next_inode s) steps))) steps
+inode_replayed v i s steps =
     let grow = steps_grow v (next_inode s) steps in
     let cap : (after_steps v (next_inode s) steps).dups ≤ 11 = grow.cap (omega arith) in
-    steps_retold v i (next_inode s) (rescan (cut_of (after_steps v (next_inode s) steps))) steps cap
+    steps_replayed v i (next_inode s) (rescan (cut_of (after_steps v (next_inode s) steps))) steps cap
     (record { bad = refl; left = begins (after_steps v (next_inode s) steps) grow cap })
   where
     begins : (end : Claims) → Grows (next_inode s) end → end.dups ≤ 11 →

@@ -6,9 +6,9 @@ use Rattle.std.proofs.lemmas.List.FromFn.{length-map-range_with_len, get_or-map-
 use Rattle.std.proofs.lemmas.Bool.{cases_lt}
 use Rattle.std.proofs.lemmas.Bool.Decides.{nat_tests}
 use Rattle.ffs_volume.specs.declared.Layout.{Layout}
-use Rattle.ffs_volume.specs.Numbers.{any_below}
-use Rattle.ffs_volume.specs.Areas.{cgsblock, cgdmin, is_kept, is_reserved}
-use Rattle.ffs_volume.specs.Claims.{Claims, reserved_map, no_claims, next_inode}
+use Rattle.ffs_volume.specs.Disk.Numbers.{any_below}
+use Rattle.ffs_volume.specs.Disk.Areas.{cgsblock, cgdmin, is_group_metadata, is_reserved}
+use Rattle.ffs_volume.specs.Blocks.Claims.{Claims, reserved_map, no_claims, next_inode}
 use Rattle.ffs_maps.specs.Bits.{set_run}
 use Rattle.ffs_maps.proofs.Masks.{run_inside, run_outside}
 
@@ -63,7 +63,7 @@ one_below v groups f =
     assoc false b d = refl
 
 reserved_is : (v : Layout) (f : ℕ) → is_reserved_below v v.ncg f ≡ is_reserved v f
-unfolding is_reserved is_kept
+unfolding is_reserved is_group_metadata
 reserved_is v f =
     ap (λ (z : Bool). any_below v.ncg (λ c. is_in_run (cgsblock v c) (cgdmin v c) f) || (is_in_run v.csaddr (v.csaddr + div_ceil v.cssize v.fsize) f || (z || false))) (from_zero (cgdmin v 0) f)
     ∙ turn (nat_lt f (cgdmin v 0)) (is_in_run v.csaddr (v.csaddr + div_ceil v.cssize v.fsize) f) (any_below v.ncg (λ c. is_in_run (cgsblock v c) (cgdmin v c) f))

@@ -4,30 +4,20 @@ use Rattle.std.proofs.lemmas.List.Sums.{count_by-le-length}
 use Rattle.std.proofs.lemmas.Bool.{ltb-true, and_parts}
 use Rattle.ffs_volume.specs.declared.Layout.{Layout}
 use Rattle.ffs_volume.specs.declared.Step.{Step}
-use Rattle.ffs_volume.specs.Lengths.{HasLength}
-use Rattle.ffs_volume.specs.Claims.{Claims, is_open, after_step}
-use Rattle.ffs_volume.specs.Moving.{used_bits, Moves}
-use Rattle.ffs_volume.specs.Weights.{step_moves, moves_then}
+use Rattle.ffs_volume.specs.Blocks.Lengths.{HasLength}
+use Rattle.ffs_volume.specs.Blocks.Claims.{Claims, is_open, after_step}
+use Rattle.ffs_volume.specs.Blocks.ClaimBounds.{used_bits, ClaimBound}
+use Rattle.ffs_volume.proofs.Weights.{step_moves, moves_then}
 
 -- a step more keeps the bound
 pub moves_on : (v : Layout) (s0 s s' : Claims) (step : Step) → length s.used ≡ v.size → v.frag ≤ 8 → HasLength v.frag step → s' ≡ after_step v s step →
-    Moves s0 s → Moves s0 s'
+    ClaimBound s0 s → ClaimBound s0 s'
 moves_on v s0 s s' step h small some now before = rw now (moves_then s0 s (after_step v s step) before (step_moves v s step h small some))
 
 -- how many Runs are seen while an inode isn't cut, and at its end
-pub bound_open : (s0 s : Claims) (size : ℕ) → length s.used ≡ size → is_open s ≡ true → Moves s0 s → s.runs + used_bits s0 + 2 ≤ s0.runs + size + 22
+pub bound_open : (s0 s : Claims) (size : ℕ) → length s.used ≡ size → is_open s ≡ true → ClaimBound s0 s → s.runs + used_bits s0 + 2 ≤ s0.runs + size + 22
 bound_open s0 s size h free m =
     let both = and_parts (nat_lt s.bad 11) (nat_lt s.dups 11) free in
     let few : s.bad < 11 = ltb-true s.bad 11 both.0 in
     let few' : s.dups < 11 = ltb-true s.dups 11 both.1 in
     omega (arith, h, m.weighs, few, few', count_by-le-length (λ b. b) s.used)
-
-pub end_moves : (s0 s : Claims) → is_open s0 ≡ true → Moves s0 s → s.runs + used_bits s0 ≤ s0.runs + used_bits s + 22
-end_moves s0 s free m =
-    let both = and_parts (nat_lt s0.bad 11) (nat_lt s0.dups 11) free in
-    let few : s0.bad < 11 = ltb-true s0.bad 11 both.0 in
-    let few' : s0.dups < 11 = ltb-true s0.dups 11 both.1 in
-    omega (arith, m.weighs, m.bad_cap (omega arith), m.dups_cap (omega arith))
-
-pub end_bound : (s0 s : Claims) (size : ℕ) → length s.used ≡ size → s.runs + used_bits s0 ≤ s0.runs + used_bits s + 22 → s.runs + used_bits s0 ≤ s0.runs + size + 22
-end_bound s0 s size h m = omega (arith, h, m, count_by-le-length (λ b. b) s.used)

@@ -4,22 +4,22 @@ use Rattle.std.specs.List.{range_with_len, slice_index_or}
 use Rattle.std.proofs.lemmas.List.{get_or-set_other}
 use Rattle.ffs_volume.specs.declared.Layout.{Layout}
 use Rattle.ffs_volume.specs.declared.BlockMessage.{BlockMessage}
-use Rattle.ffs_volume.specs.Areas.{is_ok, is_in_range}
-use Rattle.ffs_volume.specs.Claims.{Claims, is_set, after_offer, after_offers, offer_lines, offers_lines}
-use Rattle.ffs_volume.specs.Weights.{each_ok, ok_below}
+use Rattle.ffs_volume.specs.Disk.Areas.{is_data_fragment, is_in_range}
+use Rattle.ffs_volume.specs.Blocks.Claims.{Claims, is_set, after_offer, after_offers, offer_lines, offers_lines}
+use Rattle.ffs_volume.proofs.Weights.{each_ok, ok_below}
 use Rattle.ffs_maps.specs.Bits.{set_run, AreClear}
 use Rattle.ffs_claims.specs.Whole.{IsWhole}
 
-whole_from : (v : Layout) (s : Claims) (start len : ℕ) → nat_lt s.dups 11 ≡ true → ((k : ℕ) → k < len → is_ok v (start + k) ≡ true) → AreClear s.used start len → IsWhole v s start len
+whole_from : (v : Layout) (s : Claims) (start len : ℕ) → nat_lt s.dups 11 ≡ true → ((k : ℕ) → k < len → is_data_fragment v (start + k) ≡ true) → AreClear s.used start len → IsWhole v s start len
 whole_from v s start zero few ok clear =
     let same : s.kept ≡ s.kept + 0 = omega arith in
     record { claims = ap (λ (n : ℕ). record s { kept = n }) same; silent = λ inode. refl }
 whole_from v s start (suc len) few ok clear =
-    let first : is_ok v start ≡ true = ap (is_ok v) (omega arith) ∙ ok 0 (omega arith) in
+    let first : is_data_fragment v start ≡ true = ap (is_data_fragment v) (omega arith) ∙ ok 0 (omega arith) in
     let unset : is_set s.used start ≡ false = ap (λ (n : ℕ). slice_index_or s.used n false) (omega arith) ∙ clear 0 (omega arith) in
     let now : after_offer v s start ≡ record s { kept = s.kept + 1; used = slice_set s.used start true } = rw (few, first, unset) refl in
     let more = whole_from v (record s { kept = s.kept + 1; used = slice_set s.used start true }) (start + 1) len few
-    (λ k low. ap (is_ok v) (omega arith) ∙ ok (k + 1) (omega arith))
+    (λ k low. ap (is_data_fragment v) (omega arith) ∙ ok (k + 1) (omega arith))
     (λ k low. get_or-set_other s.used start (start + 1 + k) true false (λ e. omega arith) ∙ ap (λ (n : ℕ). get_or s.used n false) (omega arith) ∙ clear (k + 1) (omega arith)) in
     let sum : s.kept + 1 + len ≡ s.kept + suc len = omega arith in
     let quiet : (inode : ℕ) → offer_lines v inode s start ≡ [] = λ inode. rw (few, first, unset) refl in

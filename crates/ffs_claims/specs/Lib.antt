@@ -1,5 +1,5 @@
 pub mod Rescan
 pub mod Lines
 pub mod Leaves
-pub mod Telling
+pub mod Reporting
 pub mod Whole

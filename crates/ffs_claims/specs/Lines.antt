@@ -6,12 +6,12 @@ use Rattle.ffs_volume.specs.declared.Inode.{Inode}
 use Rattle.ffs_volume.specs.declared.Class.{Class}
 use Rattle.ffs_volume.specs.declared.BlockMessage.{BlockMessage}
 use Rattle.ffs_volume.specs.declared.BlockMessage.TheVariants.{Bad, Dup, ManyBad, ManyDup}
-use Rattle.ffs_volume.specs.Areas.{is_ok}
-use Rattle.ffs_volume.specs.Inodes.{class_of}
-use Rattle.ffs_volume.specs.Steps.{steps_of}
-use Rattle.ffs_volume.specs.Owners.{Owner, owner_of}
-use Rattle.ffs_volume.specs.Claims.{Claims, is_set}
-use Rattle.ffs_volume.specs.Messages.{Message, of_blocks}
+use Rattle.ffs_volume.specs.Disk.Areas.{is_data_fragment}
+use Rattle.ffs_volume.specs.Blocks.Inodes.{class_of}
+use Rattle.ffs_volume.specs.Blocks.Steps.{steps_of}
+use Rattle.ffs_volume.specs.Blocks.Owners.{Owner, owner_of}
+use Rattle.ffs_volume.specs.Blocks.Claims.{Claims, is_set}
+use Rattle.ffs_volume.specs.Messages.Kinds.{Message, of_blocks}
 use Rattle.ffs_workspace.specs.Lengths.{inodes_of}
 
 -- the messages of a report
@@ -20,9 +20,9 @@ of_lines lines = map of_blocks lines
 
 -- an offer is dup
 abbrev pub is_dup : Layout → Claims → ℕ → Bool
-is_dup v s f = nat_lt s.dups 11 && (is_ok v f && is_set s.used f)
+is_dup v s f = nat_lt s.dups 11 && (is_data_fragment v f && is_set s.used f)
 
--- what is told of a dup offer and of a bad Run, the eleventh one or not
+-- what is reported of a dup offer and of a bad Run, the eleventh one or not
 abbrev pub dup_lines : ℕ → ℕ → Bool → List BlockMessage
 dup_lines inode f many = Dup f inode ∷ (if many then ManyDup inode ∷ [] else [])
 
@@ -37,6 +37,6 @@ owner_with v image number i = record { number = number; class = class_of v i; st
 abbrev pub owners_from : Layout → List ℕ → ℕ → List Owner
 owners_from v image number = map (owner_of v image) (range_with_len number (inodes_of v - number))
 
--- what an inode's count of sectors is told by
+-- what an inode's count of sectors is reported by
 abbrev pub counted_owner : ℕ → Class → ℕ → Owner
 counted_owner number class blocks = record { number = number; class = class; steps = []; blocks = blocks }

@@ -1,13 +1,13 @@
--- Which offers an inode keeps, told again by two numbers: its bad Runs so far, and how many offers it still keeps.
+-- Which offers an inode keeps, replayed by two numbers: its bad Runs so far, and how many offers it still keeps.
 use Rattle.std.specs.Prelude.{ℕ, ◌+◌, ◌-◌, Bool, true, ◌&&◌, ◌==◌, nat_lt, min, if◌then◌else◌, List, [], ◌∷◌, ◌++◌, map, Option, Some, None}
 use Rattle.std.specs.List.{range_with_len}
 use Rattle.ffs_volume.specs.declared.Layout.{Layout}
 use Rattle.ffs_volume.specs.declared.Step.{Step}
 use Rattle.ffs_volume.specs.declared.Step.TheVariants.{Run, Tail, Gap}
-use Rattle.ffs_volume.specs.Areas.{is_in_range}
+use Rattle.ffs_volume.specs.Disk.Areas.{is_in_range}
 use Rattle.ffs_claims.specs.declared.rescan.Rescan.{Rescan}
-use Rattle.ffs_volume.specs.BlockCheck.{Offer}
-use Rattle.ffs_volume.specs.PrefixLaws.{offer_at}
+use Rattle.ffs_volume.specs.Blocks.BlockCheck.{Offer}
+use Rattle.ffs_volume.specs.Blocks.FirstOffers.{offer_at}
 
 -- an inode begins
 abbrev pub rescan : ℕ → Rescan

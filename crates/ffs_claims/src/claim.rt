@@ -1,17 +1,17 @@
-//! What an inode claims, and what is told of it.
+//! What an inode claims, and what is reported of it.
 
 ghost use Rattle.std.specs.Prelude.{◌≡◌, ◌+◌, ◌-◌, ◌*◌, ◌<◌, ◌≤◌, ◌^◌, OnOk, true, ℕ, List};
 ghost use Rattle.ffs_report.specs.Progress.{progress};
-ghost use Rattle.ffs_phase.specs.Known.{Where, Tells};
-ghost use Rattle.ffs_phase.specs.Runs.{Reads, TellsOf};
-ghost use Rattle.ffs_volume.specs.Inodes as inodes;
-ghost use Rattle.ffs_volume.specs.Inodes.{inode_of};
-ghost use Rattle.ffs_volume.specs.Steps.{steps_of};
-ghost use Rattle.ffs_volume.specs.Owners.{owner_of};
-ghost use Rattle.ffs_volume.specs.Claims as claims;
-ghost use Rattle.ffs_volume.specs.Claims.{after_owner, after_steps, steps_lines};
-ghost use Rattle.ffs_volume.specs.Moving.{Moves, used_bits};
-ghost use Rattle.ffs_volume.specs.BlockCheck.{owner_lines};
+ghost use Rattle.ffs_phase.specs.Known.{ForBytes, IsContents};
+ghost use Rattle.ffs_phase.specs.Runs.{ImageAfter, PhaseReports};
+ghost use Rattle.ffs_volume.specs.Blocks.Inodes as inodes;
+ghost use Rattle.ffs_volume.specs.Blocks.Inodes.{inode_of};
+ghost use Rattle.ffs_volume.specs.Blocks.Steps.{steps_of};
+ghost use Rattle.ffs_volume.specs.Blocks.Owners.{owner_of};
+ghost use Rattle.ffs_volume.specs.Blocks.Claims as claims;
+ghost use Rattle.ffs_volume.specs.Blocks.Claims.{after_owner, after_steps, steps_lines};
+ghost use Rattle.ffs_volume.specs.Blocks.ClaimBounds.{ClaimBound, used_bits};
+ghost use Rattle.ffs_volume.specs.Blocks.BlockCheck.{owner_lines};
 ghost use Rattle.ffs_workspace.specs.Holds.{claims_of};
 ghost use Rattle.ffs_workspace.specs.Lengths.{IsFor, HoldWindows, inodes_of};
 ghost use Rattle.ffs_claims.specs.Leaves.{SameFound, Stored};
@@ -27,7 +27,7 @@ use ffs_volume::Inode;
 use ffs_walk::{Walk, class_of};
 use ffs_workspace::Workspace;
 
-/// Walks over an inode's blocks, claims what its steps offer, and tells what is wrong with them.
+/// Walks over an inode's blocks, claims what its steps offer, and reports what is wrong with them.
 fn claim<I: Image, W: Output>(
     workspace: &mut Workspace,
     geometry: &Geometry,
@@ -41,18 +41,22 @@ fn claim<I: Image, W: Output>(
     requires dups { workspace.old.dups ≡ 0 }
     requires kept { workspace.old.kept ≡ 0 }
     requires runs { workspace.old.runs_seen < 2 ^ 61 }
-    requires volume { geometry.now.layout.size * geometry.now.layout.fsize ≤ (I.device image.old).size }
-    requires windows { HoldWindows geometry.now.layout (I.device image.old).told workspace.old }
-    ensures image { Reads (I.device image.old) (I.device image.new) result }
-    ensures text { TellsOf (Tells (I.device image.old).told)
-        (λ bytes. of_lines (steps_lines geometry.now.layout number (claims_of workspace.old) (steps_of geometry.now.layout inode.now bytes)))
+    requires volume { geometry.now.layout.size * geometry.now.layout.fsize
+        ≤ (I.device image.old).size }
+    requires windows { HoldWindows geometry.now.layout (I.device image.old).contents workspace.old }
+    ensures image { ImageAfter (I.device image.old) (I.device image.new) result }
+    ensures text { PhaseReports (IsContents (I.device image.old).contents)
+        (λ bytes. of_lines (steps_lines geometry.now.layout number (claims_of workspace.old)
+        (steps_of geometry.now.layout inode.now bytes)))
         (progress W.sink report.old) (progress W.sink report.new) result }
-    ensures claims { OnOk result (Where (Tells (I.device image.old).told) (λ bytes.
-        claims_of workspace.new ≡ after_steps geometry.now.layout (claims_of workspace.old) (steps_of geometry.now.layout inode.now bytes))) }
-    ensures moves { OnOk result (Moves (claims_of workspace.old) (claims_of workspace.new)) }
-    ensures bound { workspace.new.runs_seen + used_bits (claims_of workspace.old) ≤ workspace.old.runs_seen + geometry.now.layout.size + 22 }
+    ensures claims { OnOk result (ForBytes (IsContents (I.device image.old).contents) (λ bytes.
+        claims_of workspace.new ≡ after_steps geometry.now.layout (claims_of workspace.old)
+        (steps_of geometry.now.layout inode.now bytes))) }
+    ensures moves { OnOk result (ClaimBound (claims_of workspace.old) (claims_of workspace.new)) }
+    ensures bound { workspace.new.runs_seen + used_bits (claims_of workspace.old)
+        ≤ workspace.old.runs_seen + geometry.now.layout.size + 22 }
     ensures made { IsFor geometry.now.layout workspace.new }
-    ensures windows { HoldWindows geometry.now.layout (I.device image.new).told workspace.new }
+    ensures windows { HoldWindows geometry.now.layout (I.device image.new).contents workspace.new }
     ensures found { SameFound workspace.old workspace.new }
 {
     let mut walk = Walk::start(geometry, inode);
@@ -66,8 +70,8 @@ fn claim<I: Image, W: Output>(
     Ok(())
 }
 
-/// An inode that was read: what is told of it, and what it claims.
-fn known<I: Image, W: Output>(
+/// An inode that was read: what is reported of it, and what it claims.
+fn claim_read_inode<I: Image, W: Output>(
     workspace: &mut Workspace,
     geometry: &Geometry,
     number: u32,
@@ -78,19 +82,25 @@ fn known<I: Image, W: Output>(
     requires made { IsFor geometry.now.layout workspace.old }
     requires number { number < inodes_of geometry.now.layout }
     requires runs { workspace.old.runs_seen < 2 ^ 40 }
-    requires volume { geometry.now.layout.size * geometry.now.layout.fsize ≤ (I.device image.old).size }
-    requires windows { HoldWindows geometry.now.layout (I.device image.old).told workspace.old }
-    ensures image { Reads (I.device image.old) (I.device image.new) result }
-    ensures text { TellsOf (Tells (I.device image.old).told)
-        (λ bytes. of_lines (owner_lines geometry.now.layout (claims_of workspace.old) (owner_with geometry.now.layout bytes number inode.now)))
+    requires volume { geometry.now.layout.size * geometry.now.layout.fsize
+        ≤ (I.device image.old).size }
+    requires windows { HoldWindows geometry.now.layout (I.device image.old).contents workspace.old }
+    ensures image { ImageAfter (I.device image.old) (I.device image.new) result }
+    ensures text { PhaseReports (IsContents (I.device image.old).contents)
+        (λ bytes. of_lines (owner_lines geometry.now.layout (claims_of workspace.old)
+        (owner_with geometry.now.layout bytes number inode.now)))
         (progress W.sink report.old) (progress W.sink report.new) result }
-    ensures claims { OnOk result (Where (Tells (I.device image.old).told) (λ bytes.
-        claims_of workspace.new ≡ after_owner geometry.now.layout (claims_of workspace.old) (owner_with geometry.now.layout bytes number inode.now))) }
-    ensures stored { OnOk result (Stored number (inodes.class_of geometry.now.layout inode.now) inode.now workspace.old workspace.new) }
-    ensures moves { OnOk result (workspace.new.runs_seen + used_bits (claims_of workspace.old) ≤ workspace.old.runs_seen + used_bits (claims_of workspace.new) + 22) }
-    ensures bound { workspace.new.runs_seen + used_bits (claims_of workspace.old) ≤ workspace.old.runs_seen + geometry.now.layout.size + 22 }
+    ensures claims { OnOk result (ForBytes (IsContents (I.device image.old).contents) (λ bytes.
+        claims_of workspace.new ≡ after_owner geometry.now.layout (claims_of workspace.old)
+        (owner_with geometry.now.layout bytes number inode.now))) }
+    ensures stored { OnOk result (Stored number (inodes.class_of geometry.now.layout inode.now)
+        inode.now workspace.old workspace.new) }
+    ensures moves { OnOk result (workspace.new.runs_seen + used_bits (claims_of workspace.old)
+        ≤ workspace.old.runs_seen + used_bits (claims_of workspace.new) + 22) }
+    ensures bound { workspace.new.runs_seen + used_bits (claims_of workspace.old)
+        ≤ workspace.old.runs_seen + geometry.now.layout.size + 22 }
     ensures made { IsFor geometry.now.layout workspace.new }
-    ensures windows { HoldWindows geometry.now.layout (I.device image.new).told workspace.new }
+    ensures windows { HoldWindows geometry.now.layout (I.device image.new).contents workspace.new }
 {
     let class = class_of(geometry, inode);
     begin(workspace, geometry);
@@ -101,8 +111,8 @@ fn known<I: Image, W: Output>(
     Ok(())
 }
 
-/// An inode by its number: what is told of it, and what it claims.
-pub fn numbered<I: Image, W: Output>(
+/// An inode by its number: what is reported of it, and what it claims.
+pub fn claim_inode<I: Image, W: Output>(
     workspace: &mut Workspace,
     geometry: &Geometry,
     number: u32,
@@ -112,21 +122,28 @@ pub fn numbered<I: Image, W: Output>(
     requires made { IsFor geometry.now.layout workspace.old }
     requires number { number < inodes_of geometry.now.layout }
     requires runs { workspace.old.runs_seen < 2 ^ 40 }
-    requires volume { geometry.now.layout.size * geometry.now.layout.fsize ≤ (I.device image.old).size }
-    requires windows { HoldWindows geometry.now.layout (I.device image.old).told workspace.old }
-    ensures image { Reads (I.device image.old) (I.device image.new) result }
-    ensures text { TellsOf (Tells (I.device image.old).told)
-        (λ bytes. of_lines (owner_lines geometry.now.layout (claims_of workspace.old) (owner_of geometry.now.layout bytes number)))
+    requires volume { geometry.now.layout.size * geometry.now.layout.fsize
+        ≤ (I.device image.old).size }
+    requires windows { HoldWindows geometry.now.layout (I.device image.old).contents workspace.old }
+    ensures image { ImageAfter (I.device image.old) (I.device image.new) result }
+    ensures text { PhaseReports (IsContents (I.device image.old).contents)
+        (λ bytes. of_lines (owner_lines geometry.now.layout (claims_of workspace.old)
+        (owner_of geometry.now.layout bytes number)))
         (progress W.sink report.old) (progress W.sink report.new) result }
-    ensures claims { OnOk result (Where (Tells (I.device image.old).told) (λ bytes.
-        claims_of workspace.new ≡ after_owner geometry.now.layout (claims_of workspace.old) (owner_of geometry.now.layout bytes number))) }
-    ensures stored { OnOk result (Where (Tells (I.device image.old).told) (λ bytes.
-        Stored number (inodes.class_of geometry.now.layout (inode_of geometry.now.layout bytes number)) (inode_of geometry.now.layout bytes number) workspace.old workspace.new)) }
-    ensures moves { OnOk result (workspace.new.runs_seen + used_bits (claims_of workspace.old) ≤ workspace.old.runs_seen + used_bits (claims_of workspace.new) + 22) }
-    ensures bound { workspace.new.runs_seen + used_bits (claims_of workspace.old) ≤ workspace.old.runs_seen + geometry.now.layout.size + 22 }
+    ensures claims { OnOk result (ForBytes (IsContents (I.device image.old).contents) (λ bytes.
+        claims_of workspace.new ≡ after_owner geometry.now.layout (claims_of workspace.old)
+        (owner_of geometry.now.layout bytes number))) }
+    ensures stored { OnOk result (ForBytes (IsContents (I.device image.old).contents) (λ bytes.
+        Stored number (inodes.class_of geometry.now.layout
+        (inode_of geometry.now.layout bytes number)) (inode_of geometry.now.layout bytes number)
+        workspace.old workspace.new)) }
+    ensures moves { OnOk result (workspace.new.runs_seen + used_bits (claims_of workspace.old)
+        ≤ workspace.old.runs_seen + used_bits (claims_of workspace.new) + 22) }
+    ensures bound { workspace.new.runs_seen + used_bits (claims_of workspace.old)
+        ≤ workspace.old.runs_seen + geometry.now.layout.size + 22 }
     ensures made { IsFor geometry.now.layout workspace.new }
-    ensures windows { HoldWindows geometry.now.layout (I.device image.new).told workspace.new }
+    ensures windows { HoldWindows geometry.now.layout (I.device image.new).contents workspace.new }
 {
     let inode = workspace.windows.table.inode(geometry, number, image)?;
-    known(workspace, geometry, number, &inode, image, report)
+    claim_read_inode(workspace, geometry, number, &inode, image, report)
 }

@@ -2,17 +2,17 @@
 
 ghost use Rattle.std.specs.Prelude.{◌≡◌, ◌+◌, ◌*◌, ◌≤◌, ◌∷◌, ◌==◌, not, OnOk, ℕ, List};
 ghost use Rattle.ffs_report.specs.Progress.{progress};
-ghost use Rattle.ffs_phase.specs.Known.{Where, Tells};
-ghost use Rattle.ffs_phase.specs.Runs.{Reads, TellsOf};
-ghost use Rattle.ffs_volume.specs.BlockCheck.{has_rescan, phase1_lines};
-ghost use Rattle.ffs_volume.specs.Memory.{runs_limit};
-ghost use Rattle.ffs_volume.specs.Messages as messages;
-ghost use Rattle.ffs_volume.specs.Owners.{owners_of};
+ghost use Rattle.ffs_phase.specs.Known.{ForBytes, IsContents};
+ghost use Rattle.ffs_phase.specs.Runs.{ImageAfter, PhaseReports};
+ghost use Rattle.ffs_volume.specs.Blocks.BlockCheck.{has_rescan, phase1_lines};
+ghost use Rattle.ffs_volume.specs.Report.Memory.{runs_limit};
+ghost use Rattle.ffs_volume.specs.Messages.Kinds as messages;
+ghost use Rattle.ffs_volume.specs.Blocks.Owners.{owners_of};
 ghost use Rattle.ffs_workspace.specs.Holds.{IsFresh, HoldsPhase1};
 ghost use Rattle.ffs_workspace.specs.Lengths.{IsFor, HoldWindows};
 ghost use Rattle.ffs_claims.specs.Lines.{of_lines};
 
-use crate::claim::numbered;
+use crate::claim::claim_inode;
 use crate::reserve::reserve;
 use ffs_image::Image;
 use ffs_layout::Geometry;
@@ -20,7 +20,7 @@ use ffs_phase::RunFault;
 use ffs_report::{Heading, Line, Output, Report};
 use ffs_workspace::Workspace;
 
-/// Walks over the blocks of all inodes, claims the fragments that they offer, and tells what is wrong: inodes of an
+/// Walks over the blocks of all inodes, claims the fragments that they offer, and reports what is wrong: inodes of an
 /// unknown type, addresses out of range, fragments that are claimed twice, and wrong counts of sectors.
 ///
 /// The text is that of a workspace as it was made.
@@ -31,24 +31,32 @@ pub fn phase1<I: Image, W: Output>(
     report: &mut Report<'_, W>,
 ) -> Result<(), RunFault>
     requires made { IsFor geometry.now.layout workspace.old }
-    requires volume { geometry.now.layout.size * geometry.now.layout.fsize ≤ (I.device image.old).size }
-    requires windows { HoldWindows geometry.now.layout (I.device image.old).told workspace.old }
-    ensures image { Reads (I.device image.old) (I.device image.new) result }
-    ensures text { TellsOf (λ bytes. Tells (I.device image.old).told bytes × IsFresh geometry.now.layout workspace.old)
-        (λ bytes. messages.phase1 ∷ of_lines (phase1_lines geometry.now.layout (owners_of geometry.now.layout bytes)))
+    requires volume { geometry.now.layout.size * geometry.now.layout.fsize
+        ≤ (I.device image.old).size }
+    requires windows { HoldWindows geometry.now.layout (I.device image.old).contents workspace.old }
+    ensures image { ImageAfter (I.device image.old) (I.device image.new) result }
+    ensures text { PhaseReports (λ bytes. IsContents (I.device image.old).contents bytes
+        × IsFresh geometry.now.layout workspace.old)
+        (λ bytes. messages.phase1 ∷ of_lines
+        (phase1_lines geometry.now.layout (owners_of geometry.now.layout bytes)))
         (progress W.sink report.old) (progress W.sink report.new) result }
-    ensures holds { OnOk result (Where (λ bytes. Tells (I.device image.old).told bytes × IsFresh geometry.now.layout workspace.old)
+    ensures holds { OnOk result (ForBytes
+        (λ bytes. IsContents (I.device image.old).contents bytes
+        × IsFresh geometry.now.layout workspace.old)
         (λ bytes. HoldsPhase1 geometry.now.layout bytes workspace.new)) }
-    ensures dups { OnOk result (Where (λ bytes. Tells (I.device image.old).told bytes × IsFresh geometry.now.layout workspace.old)
-        (λ bytes. not (workspace.new.untold == 0) ≡ has_rescan geometry.now.layout (owners_of geometry.now.layout bytes))) }
+    ensures dups { OnOk result (ForBytes
+        (λ bytes. IsContents (I.device image.old).contents bytes
+        × IsFresh geometry.now.layout workspace.old)
+        (λ bytes. not (workspace.new.unreported == 0)
+        ≡ has_rescan geometry.now.layout (owners_of geometry.now.layout bytes))) }
     ensures runs { workspace.new.runs_seen ≤ runs_limit geometry.now.layout }
     ensures made { IsFor geometry.now.layout workspace.new }
-    ensures windows { HoldWindows geometry.now.layout (I.device image.new).told workspace.new }
+    ensures windows { HoldWindows geometry.now.layout (I.device image.new).contents workspace.new }
 {
     reserve(workspace, geometry);
     report.say(&Line::Heading(Heading::Phase1))?;
     for number in 2..geometry.layout.ncg * geometry.layout.ipg {
-        numbered(workspace, geometry, number, image, report)?;
+        claim_inode(workspace, geometry, number, image, report)?;
     }
     Ok(())
 }

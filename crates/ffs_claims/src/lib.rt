@@ -15,11 +15,11 @@
 mod claim;
 mod first;
 mod offer;
+mod report_claim;
 mod rescan;
 mod reserve;
 mod second;
 mod store;
-mod tell;
 
 pub use first::phase1;
 pub use second::phase1b;

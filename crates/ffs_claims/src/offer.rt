@@ -1,11 +1,11 @@
-//! The offers of Runs, and what is told of them.
+//! The offers of Runs, and what is reported of them.
 
 ghost use Rattle.std.specs.Prelude.{◌≡◌, ◌+◌, ◌<◌, ◌≤◌, ◌^◌, OnOk, IsTrue, true, false, slice_set};
 ghost use Rattle.std.specs.List.{range_with_len};
-ghost use Rattle.ffs_volume.specs.Areas.{is_in_range, is_ok};
-ghost use Rattle.ffs_volume.specs.Lengths.{HasLength};
-ghost use Rattle.ffs_volume.specs.Claims as claims;
-ghost use Rattle.ffs_volume.specs.Claims.{after_offer, after_offers, after_run, after_step, offer_lines, offers_lines, run_lines, step_lines};
+ghost use Rattle.ffs_volume.specs.Disk.Areas.{is_in_range, is_data_fragment};
+ghost use Rattle.ffs_volume.specs.Blocks.Lengths.{HasLength};
+ghost use Rattle.ffs_volume.specs.Blocks.Claims as claims;
+ghost use Rattle.ffs_volume.specs.Blocks.Claims.{after_offer, after_offers, after_run, after_step, offer_lines, offers_lines, run_lines, step_lines};
 ghost use Rattle.ffs_report.specs.Progress.{progress, Says};
 ghost use Rattle.ffs_maps.specs.Bits.{bits_of};
 ghost use Rattle.ffs_workspace.specs.Holds.{claims_of};
@@ -19,16 +19,16 @@ use ffs_report::{Line, OutFault, Output, Report};
 use ffs_volume::{BlockMessage, Step};
 use ffs_workspace::Workspace;
 
-/// Whether the next step of the inode in hand is seen.
+/// Whether the next step of the current inode is seen.
 pub fn is_open(workspace: &Workspace) -> bool
     ensures { result ≡ claims.is_open (claims_of workspace.now) }
 {
     workspace.bad < 11 && workspace.dups < 11
 }
 
-#[tactic(auto, using(ffs_volume::specs::Weights::ok_below))]
-fn is_ok(geometry: &Geometry, fragment: u64) -> bool
-    ensures value { result ≡ is_ok geometry.now.layout fragment }
+#[tactic(auto, using(ffs_volume::proofs::Weights::ok_below))]
+fn is_data_fragment(geometry: &Geometry, fragment: u64) -> bool
+    ensures value { result ≡ is_data_fragment geometry.now.layout fragment }
     ensures small { IsTrue result → fragment < geometry.now.layout.size }
 {
     geometry.ok(fragment)
@@ -40,7 +40,8 @@ fn say_dup<W: Output>(
     fragment: u32,
     many: bool,
 ) -> Result<(), OutFault>
-    ensures { Says (progress W.sink report.old) (progress W.sink report.new) (of_lines (dup_lines inode fragment many)) result }
+    ensures { Says (progress W.sink report.old) (progress W.sink report.new)
+        (of_lines (dup_lines inode fragment many)) result }
 {
     report.say(&Line::Block(BlockMessage::Dup { fragment, inode }))?;
     if many {
@@ -55,7 +56,8 @@ fn say_bad<W: Output>(
     fragment: u32,
     many: bool,
 ) -> Result<(), OutFault>
-    ensures { Says (progress W.sink report.old) (progress W.sink report.new) (of_lines (bad_lines inode fragment many)) result }
+    ensures { Says (progress W.sink report.old) (progress W.sink report.new)
+        (of_lines (bad_lines inode fragment many)) result }
 {
     report.say(&Line::Block(BlockMessage::Bad { fragment, inode }))?;
     if many {
@@ -68,22 +70,25 @@ fn say_bad<W: Output>(
 fn double(workspace: &mut Workspace, geometry: &Geometry, fragment: u32)
     requires made { IsFor geometry.now.layout workspace.old }
     requires inside { fragment < geometry.now.layout.size }
-    ensures dup { bits_of workspace.new.doubled ≡ slice_set (bits_of workspace.old.doubled) fragment true }
+    ensures dup { bits_of workspace.new.duplicates
+        ≡ slice_set (bits_of workspace.old.duplicates) fragment true }
     ensures made { IsFor geometry.now.layout workspace.new }
-    ensures rest { workspace.new ≡ record workspace.old { doubled = workspace.new.doubled; untold = workspace.new.untold } }
+    ensures rest { workspace.new ≡ record workspace.old
+        { duplicates = workspace.new.duplicates; unreported = workspace.new.unreported } }
 {
-    if workspace.doubled.get(fragment) {
+    if workspace.duplicates.get(fragment) {
         return;
     }
-    workspace.doubled.set(fragment);
-    workspace.untold += 1;
+    workspace.duplicates.set(fragment);
+    workspace.unreported += 1;
 }
 
 /// Takes an offer, and says whether it is dup.
 fn take(workspace: &mut Workspace, geometry: &Geometry, fragment: u64) -> bool
     requires made { IsFor geometry.now.layout workspace.old }
     requires room { workspace.old.kept < 2 ^ 63 }
-    ensures claims { claims_of workspace.new ≡ after_offer geometry.now.layout (claims_of workspace.old) fragment }
+    ensures claims { claims_of workspace.new
+        ≡ after_offer geometry.now.layout (claims_of workspace.old) fragment }
     ensures dup { result ≡ is_dup geometry.now.layout (claims_of workspace.old) fragment }
     ensures small { IsTrue result → fragment < geometry.now.layout.size }
     ensures kept { workspace.new.kept ≤ workspace.old.kept + 1 }
@@ -96,7 +101,7 @@ fn take(workspace: &mut Workspace, geometry: &Geometry, fragment: u64) -> bool
         return false;
     }
     workspace.kept += 1;
-    if !is_ok(geometry, fragment) {
+    if !is_data_fragment(geometry, fragment) {
         return false;
     }
     let index = fragment as u32;
@@ -109,7 +114,7 @@ fn take(workspace: &mut Workspace, geometry: &Geometry, fragment: u64) -> bool
     false
 }
 
-/// One offer, and what is told of it.
+/// One offer, and what is reported of it.
 fn offer<W: Output>(
     workspace: &mut Workspace,
     geometry: &Geometry,
@@ -120,8 +125,10 @@ fn offer<W: Output>(
     requires made { IsFor geometry.now.layout workspace.old }
     requires room { workspace.old.kept < 2 ^ 63 }
     ensures said { Says (progress W.sink report.old) (progress W.sink report.new)
-        (of_lines (offer_lines geometry.now.layout number (claims_of workspace.old) fragment)) result }
-    ensures claims { claims_of workspace.new ≡ after_offer geometry.now.layout (claims_of workspace.old) fragment }
+        (of_lines (offer_lines geometry.now.layout number (claims_of workspace.old) fragment))
+        result }
+    ensures claims { claims_of workspace.new
+        ≡ after_offer geometry.now.layout (claims_of workspace.old) fragment }
     ensures kept { workspace.new.kept ≤ workspace.old.kept + 1 }
     ensures runs { workspace.new.runs_seen ≡ workspace.old.runs_seen }
     ensures made { IsFor geometry.now.layout workspace.new }
@@ -135,7 +142,7 @@ fn offer<W: Output>(
     say_dup(report, number, fragment as u32, many)
 }
 
-/// The offers of a Run one after the other, and what is told of them.
+/// The offers of a Run one after the other, and what is reported of them.
 fn offers<W: Output>(
     workspace: &mut Workspace,
     geometry: &Geometry,
@@ -147,8 +154,10 @@ fn offers<W: Output>(
     requires made { IsFor geometry.now.layout workspace.old }
     requires room { workspace.old.kept + len < 2 ^ 63 }
     ensures said { Says (progress W.sink report.old) (progress W.sink report.new)
-        (of_lines (offers_lines geometry.now.layout number (claims_of workspace.old) (range_with_len start len))) result }
-    ensures claims { OnOk result (claims_of workspace.new ≡ after_offers geometry.now.layout (claims_of workspace.old) (range_with_len start len)) }
+        (of_lines (offers_lines geometry.now.layout number (claims_of workspace.old)
+        (range_with_len start len))) result }
+    ensures claims { OnOk result (claims_of workspace.new
+        ≡ after_offers geometry.now.layout (claims_of workspace.old) (range_with_len start len)) }
     ensures runs { workspace.new.runs_seen ≡ workspace.old.runs_seen }
     ensures made { IsFor geometry.now.layout workspace.new }
     ensures windows { SameWindows workspace.old workspace.new }
@@ -174,8 +183,10 @@ fn claim_whole(workspace: &mut Workspace, geometry: &Geometry, start: u32, len: 
     requires in_range { is_in_range geometry.now.layout start len ≡ true }
     requires room { workspace.old.kept < 2 ^ 62 }
     requires dups { workspace.old.dups < 11 }
-    ensures whole { IsTrue result → IsWhole geometry.now.layout (claims_of workspace.old) start len }
-    ensures claims { IsTrue result → claims_of workspace.new ≡ after_offers geometry.now.layout (claims_of workspace.old) (range_with_len start len) }
+    ensures whole { IsTrue result → IsWhole geometry.now.layout (claims_of workspace.old) start
+        len }
+    ensures claims { IsTrue result → claims_of workspace.new
+        ≡ after_offers geometry.now.layout (claims_of workspace.old) (range_with_len start len) }
     ensures kept { result ≡ false → workspace.new ≡ workspace.old }
     ensures runs { workspace.new.runs_seen ≡ workspace.old.runs_seen }
     ensures made { IsFor geometry.now.layout workspace.new }
@@ -189,7 +200,7 @@ fn claim_whole(workspace: &mut Workspace, geometry: &Geometry, start: u32, len: 
     true
 }
 
-/// A Run in range of the inode in hand.
+/// A Run in range of the current inode.
 fn run_in_range<W: Output>(
     workspace: &mut Workspace,
     geometry: &Geometry,
@@ -205,8 +216,10 @@ fn run_in_range<W: Output>(
     requires room { workspace.old.kept < 2 ^ 62 }
     requires dups { workspace.old.dups < 11 }
     ensures said { Says (progress W.sink report.old) (progress W.sink report.new)
-        (of_lines (offers_lines geometry.now.layout number (claims_of workspace.old) (range_with_len start len))) result }
-    ensures claims { OnOk result (claims_of workspace.new ≡ after_offers geometry.now.layout (claims_of workspace.old) (range_with_len start len)) }
+        (of_lines (offers_lines geometry.now.layout number (claims_of workspace.old)
+        (range_with_len start len))) result }
+    ensures claims { OnOk result (claims_of workspace.new
+        ≡ after_offers geometry.now.layout (claims_of workspace.old) (range_with_len start len)) }
     ensures runs { workspace.new.runs_seen ≡ workspace.old.runs_seen }
     ensures made { IsFor geometry.now.layout workspace.new }
     ensures windows { SameWindows workspace.old workspace.new }
@@ -218,7 +231,7 @@ fn run_in_range<W: Output>(
     offers(workspace, geometry, number, start, len, report)
 }
 
-/// A Run of the inode in hand.
+/// A Run of the current inode.
 fn run<W: Output>(
     workspace: &mut Workspace,
     geometry: &Geometry,
@@ -235,8 +248,10 @@ fn run<W: Output>(
     requires bad { workspace.old.bad < 11 }
     requires dups { workspace.old.dups < 11 }
     ensures said { Says (progress W.sink report.old) (progress W.sink report.new)
-        (of_lines (run_lines geometry.now.layout number (claims_of workspace.old) start len)) result }
-    ensures claims { OnOk result (claims_of workspace.new ≡ after_run geometry.now.layout (claims_of workspace.old) start len) }
+        (of_lines (run_lines geometry.now.layout number (claims_of workspace.old) start len))
+        result }
+    ensures claims { OnOk result (claims_of workspace.new
+        ≡ after_run geometry.now.layout (claims_of workspace.old) start len) }
     ensures runs { workspace.new.runs_seen ≡ workspace.old.runs_seen + 1 }
     ensures made { IsFor geometry.now.layout workspace.new }
     ensures windows { SameWindows workspace.old workspace.new }
@@ -255,7 +270,7 @@ fn run<W: Output>(
     offers(workspace, geometry, number, start, len, report)
 }
 
-/// A step of the inode in hand, which isn't cut.
+/// A step of the current inode, which isn't cut.
 pub fn step<W: Output>(
     workspace: &mut Workspace,
     geometry: &Geometry,
@@ -270,7 +285,8 @@ pub fn step<W: Output>(
     requires runs { workspace.old.runs_seen < 2 ^ 62 }
     ensures said { Says (progress W.sink report.old) (progress W.sink report.new)
         (of_lines (step_lines geometry.now.layout number (claims_of workspace.old) step)) result }
-    ensures claims { OnOk result (claims_of workspace.new ≡ after_step geometry.now.layout (claims_of workspace.old) step) }
+    ensures claims { OnOk result (claims_of workspace.new
+        ≡ after_step geometry.now.layout (claims_of workspace.old) step) }
     ensures runs { workspace.new.runs_seen ≤ workspace.old.runs_seen + 1 }
     ensures made { IsFor geometry.now.layout workspace.new }
     ensures windows { SameWindows workspace.old workspace.new }

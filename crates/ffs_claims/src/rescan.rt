@@ -1,11 +1,11 @@
-//! The keeping of an inode, told again.
+//! The keeping of an inode, replayed.
 
 ghost use Rattle.std.specs.Prelude.{◌≡◌, ◌<◌};
 ghost use Rattle.ffs_claims.specs.Rescan as rescans;
 
 use ffs_layout::Geometry;
 
-/// What is left of the keeping of the inode in hand.
+/// What is left of the keeping of the current inode.
 #[derive(Clone, Copy, Debug)]
 pub struct Rescan {
     /// Its bad Runs so far.

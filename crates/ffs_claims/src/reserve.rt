@@ -1,7 +1,7 @@
 //! The fragments that no inode may claim.
 
 ghost use Rattle.std.specs.Prelude.{◌≡◌, ◌≤◌, ◌<◌, false, replicate};
-ghost use Rattle.ffs_volume.specs.Claims.{no_claims, reserved_map};
+ghost use Rattle.ffs_volume.specs.Blocks.Claims.{no_claims, reserved_map};
 ghost use Rattle.ffs_maps.specs.Bits.{bits_of};
 ghost use Rattle.ffs_workspace.specs.Holds.{claims_of, IsFresh};
 ghost use Rattle.ffs_workspace.specs.Lengths.{IsFor};
@@ -16,7 +16,8 @@ use ffs_workspace::Workspace;
 fn set_reserved(map: &mut FragmentMap, geometry: &Geometry)
     requires size { map.old.size ≡ geometry.now.layout.size }
     ensures size { map.new.size ≡ geometry.now.layout.size }
-    ensures bits { bits_of map.old ≡ replicate geometry.now.layout.size false → bits_of map.new ≡ reserved_map geometry.now.layout }
+    ensures bits { bits_of map.old ≡ replicate geometry.now.layout.size false → bits_of map.new
+        ≡ reserved_map geometry.now.layout }
 {
     map.set_run(0, geometry.cgdmin(0));
     let summary = geometry.layout.cssize.div_ceil(geometry.layout.fsize);
@@ -30,7 +31,8 @@ fn set_reserved(map: &mut FragmentMap, geometry: &Geometry)
 /// Claims the reserved fragments, and begins to count Runs.
 pub fn reserve(workspace: &mut Workspace, geometry: &Geometry)
     requires made { IsFor geometry.now.layout workspace.old }
-    ensures claims { IsFresh geometry.now.layout workspace.old → claims_of workspace.new ≡ no_claims geometry.now.layout }
+    ensures claims { IsFresh geometry.now.layout workspace.old → claims_of workspace.new
+        ≡ no_claims geometry.now.layout }
     ensures runs { workspace.new.runs_seen ≡ 0 }
     ensures made { IsFor geometry.now.layout workspace.new }
     ensures windows { SameWindows workspace.old workspace.new }

@@ -1,13 +1,13 @@
 //! What is kept of each inode.
 
 ghost use Rattle.std.specs.Prelude.{◌≡◌, ◌+◌, ◌<◌, ◌*◌, ◌^◌, ◌||◌, min};
-ghost use Rattle.ffs_volume.specs.BlockCheck.{class_lines, count_lines, is_unknown_class};
-ghost use Rattle.ffs_volume.specs.Claims.{next_inode};
-ghost use Rattle.ffs_volume.specs.Inodes.{is_settled};
-ghost use Rattle.ffs_volume.specs.Replay.{cut_of};
+ghost use Rattle.ffs_volume.specs.Blocks.BlockCheck.{class_lines, count_lines};
+ghost use Rattle.ffs_volume.specs.Blocks.Claims.{next_inode};
+ghost use Rattle.ffs_volume.specs.Blocks.Inodes.{is_file_or_dir, is_unknown};
+ghost use Rattle.ffs_volume.specs.Encodings.Replay.{cut_of};
 ghost use Rattle.ffs_report.specs.Progress.{progress, Says};
 ghost use Rattle.ffs_workspace.specs.Holds.{claims_of, has_blame};
-ghost use Rattle.ffs_volume.specs.Kinds.{kind_of};
+ghost use Rattle.ffs_volume.specs.Encodings.Kinds.{kind_of};
 ghost use Rattle.ffs_workspace.specs.Lengths.{IsFor};
 ghost use Rattle.ffs_claims.specs.Leaves.{SameWindows, SameFound, Stored};
 ghost use Rattle.ffs_claims.specs.Lines.{of_lines, counted_owner};
@@ -18,7 +18,7 @@ use ffs_report::{Line, OutFault, Output, Report};
 use ffs_volume::{BlockMessage, Class, Inode};
 use ffs_workspace::Workspace;
 
-/// The next inode is in hand.
+/// The next inode becomes the current one.
 pub fn begin(workspace: &mut Workspace, geometry: &Geometry)
     requires made { IsFor geometry.now.layout workspace.old }
     ensures claims { claims_of workspace.new ≡ next_inode (claims_of workspace.old) }
@@ -32,13 +32,14 @@ pub fn begin(workspace: &mut Workspace, geometry: &Geometry)
     workspace.tail = false;
 }
 
-/// What is told of an inode by its class.
+/// What is reported of an inode by its class.
 pub fn say_class<W: Output>(
     report: &mut Report<'_, W>,
     number: u32,
     class: Class,
 ) -> Result<(), OutFault>
-    ensures { Says (progress W.sink report.old) (progress W.sink report.new) (of_lines (class_lines number class)) result }
+    ensures { Says (progress W.sink report.old) (progress W.sink report.new)
+        (of_lines (class_lines number class)) result }
 {
     match class {
         Class::Partial => report.say(&Line::Block(BlockMessage::PartAlloc { inode: number })),
@@ -47,8 +48,8 @@ pub fn say_class<W: Output>(
     }
 }
 
-fn is_settled(class: Class) -> bool
-    ensures { result ≡ is_settled class }
+fn is_file_or_dir(class: Class) -> bool
+    ensures { result ≡ is_file_or_dir class }
 {
     match class {
         Class::File | Class::Dir => true,
@@ -56,7 +57,7 @@ fn is_settled(class: Class) -> bool
     }
 }
 
-/// Tells where an inode's count of sectors is wrong.
+/// Reports where an inode's count of sectors is wrong.
 pub fn say_count<W: Output>(
     workspace: &Workspace,
     geometry: &Geometry,
@@ -67,10 +68,11 @@ pub fn say_count<W: Output>(
 ) -> Result<(), OutFault>
     requires { workspace.now.kept < 2 ^ 40 }
     ensures { Says (progress W.sink report.old) (progress W.sink report.new)
-        (of_lines (count_lines geometry.now.layout (counted_owner number class found) (claims_of workspace.now))) result }
+        (of_lines (count_lines geometry.now.layout (counted_owner number class found)
+        (claims_of workspace.now))) result }
 {
     let right = workspace.kept * u64::from(geometry.layout.fsize / 512);
-    if is_settled(class) && is_open(workspace) && u64::from(found) != right {
+    if is_file_or_dir(class) && is_open(workspace) && u64::from(found) != right {
         return report.say(&Line::Block(BlockMessage::BlockCount {
             inode: number,
             found,
@@ -92,7 +94,7 @@ fn kind_of(class: Class, inode: &Inode) -> u8
 }
 
 fn is_marked(workspace: &Workspace, class: Class) -> bool
-    ensures { result ≡ (is_unknown_class class || has_blame (claims_of workspace.now)) }
+    ensures { result ≡ (is_unknown class || has_blame (claims_of workspace.now)) }
 {
     match class {
         Class::Unknown => true,
@@ -110,7 +112,7 @@ fn cut_of(workspace: &Workspace) -> u32
     workspace.kept.min(4294967295) as u32
 }
 
-/// Keeps what later phases want of the inode in hand.
+/// Keeps what later phases want of the current inode.
 pub fn store(
     workspace: &mut Workspace,
     geometry: &Geometry,

@@ -1,6 +1,6 @@
--- The directories that stand for their cycle.
+-- The directories that represent their cycle of parents: the least of each.
 use Rattle.std.specs.Prelude.{◌≡◌, ℕ, length}
-use Rattle.ffs_volume.specs.Climb.{leads_cycle}
+use Rattle.ffs_volume.specs.Directories.Climb.{leads_cycle}
 use Rattle.ffs_survey.specs.Cycles.{up_of}
 use Rattle.ffs_workspace.specs.declared.workspace.Workspace.{Workspace}
 use Rattle.ffs_workspace.specs.Holds.{bool_at}

@@ -2,24 +2,24 @@
 
 ghost use Rattle.std.specs.Prelude.{◌≡◌, ◌*◌, ◌≤◌, ◌∷◌, ℕ, List, map};
 ghost use Rattle.ffs_report.specs.Progress.{progress};
-ghost use Rattle.ffs_phase.specs.Known.{Tells};
-ghost use Rattle.ffs_phase.specs.Runs.{Reads, TellsOf};
-ghost use Rattle.ffs_volume.specs.Connectivity.{connectivity_lines};
-ghost use Rattle.ffs_volume.specs.Messages as messages;
-ghost use Rattle.ffs_volume.specs.Messages.{of_names};
-ghost use Rattle.ffs_volume.specs.Volumes.{volume_of};
+ghost use Rattle.ffs_phase.specs.Known.{IsContents};
+ghost use Rattle.ffs_phase.specs.Runs.{ImageAfter, PhaseReports};
+ghost use Rattle.ffs_volume.specs.Directories.Connectivity.{connectivity_lines};
+ghost use Rattle.ffs_volume.specs.Messages.Kinds as messages;
+ghost use Rattle.ffs_volume.specs.Messages.Kinds.{of_names};
+ghost use Rattle.ffs_volume.specs.Directories.Volumes.{volume_of};
 ghost use Rattle.ffs_workspace.specs.Holds.{HoldsClaims, HoldsSurvey};
 ghost use Rattle.ffs_workspace.specs.Lengths.{IsFor, HoldWindows};
 ghost use Rattle.ffs_workspace.specs.Leaves.{LeavesSurvey};
 
-use crate::told::{mark, numbered};
+use crate::told::{check_inode, mark};
 use ffs_image::Image;
 use ffs_layout::Geometry;
 use ffs_phase::RunFault;
 use ffs_report::{Heading, Line, Output, Report};
 use ffs_workspace::Workspace;
 
-/// Tells of each directory that is cut off from the root: it isn't reached from inode 2, it isn't dead itself, and it has
+/// Reports of each directory that is cut off from the root: it isn't reached from inode 2, it isn't dead itself, and it has
 /// no parent, has a dead one, or is the least number on a cycle of parents (fsck(8), phase 3).
 ///
 /// The text is that of a workspace that holds what the block check and the survey of directories found. What they found
@@ -33,20 +33,24 @@ pub fn phase3<I: Image, W: Output>(
     report: &mut Report<'_, W>,
 ) -> Result<(), RunFault>
     requires made { IsFor geometry.now.layout workspace.old }
-    requires volume { geometry.now.layout.size * geometry.now.layout.fsize ≤ (I.device image.old).size }
-    requires windows { HoldWindows geometry.now.layout (I.device image.old).told workspace.old }
-    ensures image { Reads (I.device image.old) (I.device image.new) result }
-    ensures text { TellsOf (λ bytes. Tells (I.device image.old).told bytes × HoldsClaims geometry.now.layout bytes workspace.old × HoldsSurvey geometry.now.layout bytes workspace.old)
-        (λ bytes. messages.phase3 ∷ map of_names (connectivity_lines (volume_of geometry.now.layout bytes)))
+    requires volume { geometry.now.layout.size * geometry.now.layout.fsize
+        ≤ (I.device image.old).size }
+    requires windows { HoldWindows geometry.now.layout (I.device image.old).contents workspace.old }
+    ensures image { ImageAfter (I.device image.old) (I.device image.new) result }
+    ensures text { PhaseReports (λ bytes. IsContents (I.device image.old).contents bytes
+        × HoldsClaims geometry.now.layout bytes workspace.old
+        × HoldsSurvey geometry.now.layout bytes workspace.old)
+        (λ bytes. messages.phase3 ∷ map of_names
+        (connectivity_lines (volume_of geometry.now.layout bytes)))
         (progress W.sink report.old) (progress W.sink report.new) result }
     ensures survey { LeavesSurvey workspace.old workspace.new }
     ensures made { IsFor geometry.now.layout workspace.new }
-    ensures windows { HoldWindows geometry.now.layout (I.device image.new).told workspace.new }
+    ensures windows { HoldWindows geometry.now.layout (I.device image.new).contents workspace.new }
 {
     mark(workspace, geometry);
     report.say(&Line::Heading(Heading::Phase3))?;
     for number in 2..geometry.layout.ncg * geometry.layout.ipg {
-        numbered(workspace, geometry, number, image, report)?;
+        check_inode(workspace, geometry, number, image, report)?;
     }
     Ok(())
 }

@@ -1,13 +1,13 @@
-//! Whether a directory is cut off, and what is told of it.
+//! Whether a directory is cut off, and what is reported of it.
 
 ghost use Rattle.std.specs.Prelude.{◌≡◌, ◌*◌, ◌<◌, ◌≤◌, ◌∷◌, [], ℕ, List, map};
 ghost use Rattle.ffs_report.specs.Progress.{progress};
-ghost use Rattle.ffs_phase.specs.Known.{Tells};
-ghost use Rattle.ffs_phase.specs.Runs.{Reads, TellsOf};
-ghost use Rattle.ffs_volume.specs.Connectivity as connectivity;
-ghost use Rattle.ffs_volume.specs.Messages.{of_names, unref_dir};
-ghost use Rattle.ffs_volume.specs.PathnameCheck.{attributes};
-ghost use Rattle.ffs_volume.specs.Volumes.{volume_of};
+ghost use Rattle.ffs_phase.specs.Known.{IsContents};
+ghost use Rattle.ffs_phase.specs.Runs.{ImageAfter, PhaseReports};
+ghost use Rattle.ffs_volume.specs.Directories.Connectivity as connectivity;
+ghost use Rattle.ffs_volume.specs.Messages.Kinds.{of_names, unref_dir};
+ghost use Rattle.ffs_volume.specs.Directories.PathnameCheck.{attributes};
+ghost use Rattle.ffs_volume.specs.Directories.Volumes.{volume_of};
 ghost use Rattle.ffs_workspace.specs.Holds.{HoldsClaims, HoldsSurvey};
 ghost use Rattle.ffs_workspace.specs.Lengths.{IsFor, HoldWindows, inodes_of};
 ghost use Rattle.ffs_workspace.specs.Leaves.{LeavesSurvey};
@@ -22,7 +22,7 @@ use ffs_survey::{is_unref, mark_leaders};
 use ffs_volume::{Attr, Inode};
 use ffs_workspace::Workspace;
 
-/// Marks the directories that stand for their cycle of parents.
+/// Marks the directories that represent their cycle of parents.
 pub fn mark(workspace: &mut Workspace, geometry: &Geometry)
     requires made { IsFor geometry.now.layout workspace.old }
     ensures leaders { HasLeaders workspace.new }
@@ -43,7 +43,8 @@ fn is_cut_off(workspace: &Workspace, geometry: &Geometry, number: u32) -> bool
     requires low { 2 ≤ number }
     requires number { number < inodes_of geometry.now.layout }
     requires leaders { HasLeaders workspace.now }
-    ensures { (bytes : List ℕ) → HoldsClaims geometry.now.layout bytes workspace.now → HoldsSurvey geometry.now.layout bytes workspace.now →
+    ensures { (bytes : List ℕ) → HoldsClaims geometry.now.layout bytes workspace.now
+        → HoldsSurvey geometry.now.layout bytes workspace.now →
         result ≡ connectivity.is_cut_off (volume_of geometry.now.layout bytes) number }
 {
     is_unref(
@@ -59,7 +60,14 @@ fn is_cut_off(workspace: &Workspace, geometry: &Geometry, number: u32) -> bool
 
 /// What a message shows of an inode.
 fn attr_of(number: u32, inode: &Inode) -> Attr
-    ensures { result ≡ record { number = number; uid = inode.now.uid; mode = inode.now.mode; size = inode.now.size; mtime = inode.now.mtime } }
+    ensures { result ≡ record {
+      number = number;
+      uid = inode.now.uid;
+      mode = inode.now.mode;
+      size =
+          inode.now.size;
+      mtime = inode.now.mtime;
+    } }
 {
     Attr {
         number,
@@ -70,8 +78,8 @@ fn attr_of(number: u32, inode: &Inode) -> Attr
     }
 }
 
-/// Tells that a directory is cut off.
-fn tell<I: Image, W: Output>(
+/// Reports that a directory is cut off.
+fn report_inode<I: Image, W: Output>(
     workspace: &mut Workspace,
     geometry: &Geometry,
     number: u32,
@@ -80,14 +88,16 @@ fn tell<I: Image, W: Output>(
 ) -> Result<(), RunFault>
     requires made { IsFor geometry.now.layout workspace.old }
     requires number { number < inodes_of geometry.now.layout }
-    requires volume { geometry.now.layout.size * geometry.now.layout.fsize ≤ (I.device image.old).size }
-    requires windows { HoldWindows geometry.now.layout (I.device image.old).told workspace.old }
-    ensures image { Reads (I.device image.old) (I.device image.new) result }
-    ensures text { TellsOf (Tells (I.device image.old).told)
-        (λ bytes. of_names (unref_dir (attributes (volume_of geometry.now.layout bytes) number)) ∷ [])
+    requires volume { geometry.now.layout.size * geometry.now.layout.fsize
+        ≤ (I.device image.old).size }
+    requires windows { HoldWindows geometry.now.layout (I.device image.old).contents workspace.old }
+    ensures image { ImageAfter (I.device image.old) (I.device image.new) result }
+    ensures text { PhaseReports (IsContents (I.device image.old).contents)
+        (λ bytes. of_names (unref_dir (attributes (volume_of geometry.now.layout bytes) number))
+        ∷ [])
         (progress W.sink report.old) (progress W.sink report.new) result }
     ensures made { IsFor geometry.now.layout workspace.new }
-    ensures windows { HoldWindows geometry.now.layout (I.device image.new).told workspace.new }
+    ensures windows { HoldWindows geometry.now.layout (I.device image.new).contents workspace.new }
     ensures survey { LeavesSurvey workspace.old workspace.new }
     ensures leaders { workspace.new.leaders ≡ workspace.old.leaders }
 {
@@ -98,8 +108,8 @@ fn tell<I: Image, W: Output>(
     Ok(())
 }
 
-/// What is told of an inode: whether it is a directory that is cut off from the root.
-pub fn numbered<I: Image, W: Output>(
+/// What is reported of an inode: whether it is a directory that is cut off from the root.
+pub fn check_inode<I: Image, W: Output>(
     workspace: &mut Workspace,
     geometry: &Geometry,
     number: u32,
@@ -110,19 +120,22 @@ pub fn numbered<I: Image, W: Output>(
     requires low { 2 ≤ number }
     requires number { number < inodes_of geometry.now.layout }
     requires leaders { HasLeaders workspace.old }
-    requires volume { geometry.now.layout.size * geometry.now.layout.fsize ≤ (I.device image.old).size }
-    requires windows { HoldWindows geometry.now.layout (I.device image.old).told workspace.old }
-    ensures image { Reads (I.device image.old) (I.device image.new) result }
-    ensures text { TellsOf (λ bytes. Tells (I.device image.old).told bytes × HoldsClaims geometry.now.layout bytes workspace.old × HoldsSurvey geometry.now.layout bytes workspace.old)
+    requires volume { geometry.now.layout.size * geometry.now.layout.fsize
+        ≤ (I.device image.old).size }
+    requires windows { HoldWindows geometry.now.layout (I.device image.old).contents workspace.old }
+    ensures image { ImageAfter (I.device image.old) (I.device image.new) result }
+    ensures text { PhaseReports (λ bytes. IsContents (I.device image.old).contents bytes
+        × HoldsClaims geometry.now.layout bytes workspace.old
+        × HoldsSurvey geometry.now.layout bytes workspace.old)
         (λ bytes. map of_names (cut_off_lines (volume_of geometry.now.layout bytes) number))
         (progress W.sink report.old) (progress W.sink report.new) result }
     ensures made { IsFor geometry.now.layout workspace.new }
-    ensures windows { HoldWindows geometry.now.layout (I.device image.new).told workspace.new }
+    ensures windows { HoldWindows geometry.now.layout (I.device image.new).contents workspace.new }
     ensures survey { LeavesSurvey workspace.old workspace.new }
     ensures leaders { workspace.new.leaders ≡ workspace.old.leaders }
 {
     if is_cut_off(workspace, geometry, number) {
-        return tell(workspace, geometry, number, image, report);
+        return report_inode(workspace, geometry, number, image, report);
     }
     Ok(())
 }

@@ -1,11 +1,11 @@
 -- The lines of groups, by the kinds of inodes in place of their classes.
 use Rattle.std.proofs.Common.{◌≡◌, ℕ, ◌+◌, ◌*◌, Bool, true, false, List, ◌++◌, refl, ap, ◌∙◌, sym, slice_index, count_by, ℤ}
 use Rattle.std.specs.Prelude.{◌&&◌, ◌||◌, ◌==◌, not, nat_le, nat_lt}
-use Rattle.ffs_volume.specs.Areas.{is_reserved}
-use Rattle.ffs_volume.specs.Owners.{owners_of}
-use Rattle.ffs_volume.specs.Claims.{is_set, no_claims, after_owners}
-use Rattle.ffs_volume.specs.Report.{file_count, used_count}
-use Rattle.ffs_volume.specs.Inodes.{is_settled}
+use Rattle.ffs_volume.specs.Disk.Areas.{is_reserved}
+use Rattle.ffs_volume.specs.Blocks.Owners.{owners_of}
+use Rattle.ffs_volume.specs.Blocks.Claims.{is_set, no_claims, after_owners}
+use Rattle.ffs_volume.specs.Report.Whole.{file_count, used_count}
+use Rattle.ffs_volume.specs.Blocks.Inodes.{is_file_or_dir, is_directory, is_allocated}
 use Rattle.std.proofs.Common.{◌-◌}
 use Rattle.std.specs.List.{range_with_len}
 use Rattle.std.specs.List.{flat_map, sum_by}
@@ -17,13 +17,13 @@ use Rattle.ffs_volume.specs.declared.Class.{Class}
 use Rattle.ffs_volume.specs.declared.Class.TheVariants.{Free, Partial, Unknown, File, Dir}
 use Rattle.ffs_volume.specs.declared.BlockMessage.{BlockMessage}
 use Rattle.ffs_volume.specs.declared.BlockMessage.TheVariants.{FreeCounts}
-use Rattle.ffs_volume.specs.Numbers.{u32_at, all_below}
-use Rattle.ffs_volume.specs.Areas.{cgbase}
-use Rattle.ffs_volume.specs.Inodes.{is_dir_class, inode_of}
-use Rattle.ffs_volume.specs.Volumes.{class_at}
-use Rattle.ffs_volume.specs.Groups.{Summary, is_used_class, is_used_inode, is_dir, is_whole, block_bits, block_numbers, group_inodes, group_numbers, group_size, right_summary, right_frsum, right_total, has_summary, has_totals, has_bits, inode_map_place, fragment_map_place, is_record, are_maps, are_sums, is_total, summary_record, group_block}
-use Rattle.ffs_volume.specs.GroupCheck.{group_lines, told_once, untold, unless, phase5_lines}
-use Rattle.ffs_volume.specs.Kinds.{kind_at, kind_of, class_of_kind}
+use Rattle.ffs_volume.specs.Disk.Numbers.{u32_at, all_below}
+use Rattle.ffs_volume.specs.Disk.Areas.{cgbase}
+use Rattle.ffs_volume.specs.Blocks.Inodes.{inode_of}
+use Rattle.ffs_volume.specs.Directories.Volumes.{class_at}
+use Rattle.ffs_volume.specs.Groups.Records.{Summary, is_used_inode, is_dir, is_whole, block_bits, block_numbers, group_inodes, group_numbers, group_size, right_summary, right_frsum, right_total, has_summary, has_totals, has_bits, inode_map_place, fragment_map_place, is_record, are_maps, are_sums, is_total, summary_record, group_block}
+use Rattle.ffs_volume.specs.Groups.GroupCheck.{group_lines, reported_once, unreported, unless, phase5_lines}
+use Rattle.ffs_volume.specs.Encodings.Kinds.{kind_at, kind_of, class_of_kind}
 use Rattle.ffs_workspace.proofs.KindLaws.{class_is}
 use Rattle.ffs_groups.specs.Inodes.{class_in}
 
@@ -51,10 +51,10 @@ same_test test e v image x = go (is_part (class_at v image x)) refl (λ p. ap te
     go false p other = other (λ q. true≢false (sym (ap is_part q) ∙ p))
 
 dirs_same : (v : Layout) (image kinds : List ℕ) → ((x : ℕ) → slice_index kinds x ≡ kind_at v image x) → is_dir (class_in kinds) ≡ is_dir (class_at v image)
-dirs_same v image kinds e = fun_ext (λ x. ap (λ k. nat_le 2 x && is_dir_class (class_of_kind k)) (e x) ∙ ap (λ t. nat_le 2 x && t) (same_test is_dir_class refl v image x))
+dirs_same v image kinds e = fun_ext (λ x. ap (λ k. nat_le 2 x && is_directory (class_of_kind k)) (e x) ∙ ap (λ t. nat_le 2 x && t) (same_test is_directory refl v image x))
 
 used_same : (v : Layout) (image kinds : List ℕ) → ((x : ℕ) → slice_index kinds x ≡ kind_at v image x) → is_used_inode (class_in kinds) ≡ is_used_inode (class_at v image)
-used_same v image kinds e = fun_ext (λ x. ap (λ k. nat_lt x 2 || is_used_class (class_of_kind k)) (e x) ∙ ap (λ t. nat_lt x 2 || t) (same_test is_used_class refl v image x))
+used_same v image kinds e = fun_ext (λ x. ap (λ k. nat_lt x 2 || is_allocated (class_of_kind k)) (e x) ∙ ap (λ t. nat_lt x 2 || t) (same_test is_allocated refl v image x))
 
 same_right : (v : Layout) (free : ℕ → Bool) (a b : ℕ → Class) → is_dir a ≡ is_dir b → is_used_inode a ≡ is_used_inode b → (c : ℕ) → right_summary v free a c ≡ right_summary v free b c
 unfolding right_summary
@@ -103,9 +103,9 @@ same_phase5 : (v : Layout) (image : List ℕ) (totals : List ℤ) (free : ℕ �
     phase5_lines v image totals free a ≡ phase5_lines v image totals free b
 unfolding phase5_lines
 same_phase5 v image totals free a b d u =
-    ap (λ (f : ℕ → List BlockMessage). told_once untold (flat_map f (group_numbers v) ++ unless (is_total v free a totals) FreeCounts))
+    ap (λ (f : ℕ → List BlockMessage). reported_once unreported (flat_map f (group_numbers v) ++ unless (is_total v free a totals) FreeCounts))
     (fun_ext (same_group v image free a b (same_right v free a b d u) u))
-    ∙ ap (λ (t : Bool). told_once untold (flat_map (group_lines v image free b) (group_numbers v) ++ unless t FreeCounts)) (same_total v free a b totals (same_right v free a b d u))
+    ∙ ap (λ (t : Bool). reported_once unreported (flat_map (group_lines v image free b) (group_numbers v) ++ unless t FreeCounts)) (same_total v free a b totals (same_right v free a b d u))
 
 -- the lines of phase 5, by the kinds that a workspace holds
 pub by_kinds : (v : Layout) (image : List ℕ) (totals : List ℤ) (free : ℕ → Bool) (kinds : List ℕ) → ((x : ℕ) → slice_index kinds x ≡ kind_at v image x) →
@@ -113,12 +113,12 @@ pub by_kinds : (v : Layout) (image : List ℕ) (totals : List ℤ) (free : ℕ �
 by_kinds v image totals free kinds e = same_phase5 v image totals free (class_in kinds) (class_at v image) (dirs_same v image kinds e) (used_same v image kinds e)
 
 -- how many files and directories there are, by the kinds that a workspace holds
-pub files_are : (v : Layout) (image kinds : List ℕ) (files n : ℕ) → files ≡ count_by (λ x. is_settled (class_in kinds x)) (range_with_len 2 (n - 2)) → n ≡ v.ncg * v.ipg →
+pub files_are : (v : Layout) (image kinds : List ℕ) (files n : ℕ) → files ≡ count_by (λ x. is_file_or_dir (class_in kinds x)) (range_with_len 2 (n - 2)) → n ≡ v.ncg * v.ipg →
     ((x : ℕ) → slice_index kinds x ≡ kind_at v image x) → files ≡ file_count v image
 unfolding file_count
 files_are v image kinds files n e len ks =
-    e ∙ ap (λ j. count_by (λ x. is_settled (class_in kinds x)) (range_with_len 2 (j - 2))) len
-    ∙ ap (λ (p : ℕ → Bool). count_by p (range_with_len 2 (v.ncg * v.ipg - 2))) (fun_ext (λ x. ap (λ k. is_settled (class_of_kind k)) (ks x) ∙ same_test is_settled refl v image x))
+    e ∙ ap (λ j. count_by (λ x. is_file_or_dir (class_in kinds x)) (range_with_len 2 (j - 2))) len
+    ∙ ap (λ (p : ℕ → Bool). count_by p (range_with_len 2 (v.ncg * v.ipg - 2))) (fun_ext (λ x. ap (λ k. is_file_or_dir (class_of_kind k)) (ks x) ∙ same_test is_file_or_dir refl v image x))
 
 pub used_are : (v : Layout) (image : List ℕ) (used : List Bool) (n : ℕ) → n ≡ count_by (λ f. is_set used f && not (is_reserved v f)) (range_with_len 0 v.size) →
     used ≡ (after_owners v (no_claims v) (owners_of v image)).used → n ≡ used_count v image

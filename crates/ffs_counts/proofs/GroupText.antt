@@ -5,45 +5,45 @@ use Rattle.ffs_volume.specs.declared.Layout.{Layout}
 use Rattle.ffs_volume.specs.declared.Class.{Class}
 use Rattle.ffs_volume.specs.declared.BlockMessage.{BlockMessage}
 use Rattle.ffs_volume.specs.declared.BlockMessage.TheVariants.{FreeCounts}
-use Rattle.ffs_volume.specs.Messages.{Message, of_blocks}
-use Rattle.ffs_volume.specs.Volumes.{class_at}
-use Rattle.ffs_volume.specs.Owners.{owners_of}
-use Rattle.ffs_volume.specs.Claims.{no_claims, after_owners}
-use Rattle.ffs_volume.specs.Groups.{right_summary, right_total, is_total, has_totals}
-use Rattle.ffs_volume.specs.GroupCheck.{Told, group_lines, told_once, untold, unless, phase5_lines, is_free_of_kept}
+use Rattle.ffs_volume.specs.Messages.Kinds.{Message, of_blocks}
+use Rattle.ffs_volume.specs.Directories.Volumes.{class_at}
+use Rattle.ffs_volume.specs.Blocks.Owners.{owners_of}
+use Rattle.ffs_volume.specs.Blocks.Claims.{no_claims, after_owners}
+use Rattle.ffs_volume.specs.Groups.Records.{right_summary, right_total, is_total, has_totals}
+use Rattle.ffs_volume.specs.Groups.GroupCheck.{ReportedOnce, group_lines, reported_once, unreported, unless, phase5_lines, is_free_of_kept}
 use Rattle.ffs_groups.specs.Free.{free_in}
 use Rattle.ffs_groups.specs.Inodes.{class_in}
 use Rattle.ffs_groups.proofs.Sums.{sum_more}
-use Rattle.ffs_volume.specs.Kinds.{kind_at}
+use Rattle.ffs_volume.specs.Encodings.Kinds.{kind_at}
 use Rattle.ffs_counts.specs.declared.totals.Totals.{Totals}
-use Rattle.ffs_counts.specs.Once.{told_after}
+use Rattle.ffs_counts.specs.Once.{reported_after}
 use Rattle.ffs_counts.specs.Totals.{AreTotals, AreAdded, total_of}
 use Rattle.ffs_counts.proofs.Sifting.{sifted_append}
 use Rattle.ffs_counts.proofs.Classes.{by_kinds}
 
--- the lines of n groups from c on, and of the totals, where some were told before
-abbrev pub rest_lines : Layout → List ℕ → List ℤ → (ℕ → Bool) → (ℕ → Class) → Told → ℕ → ℕ → List Message
+-- the lines of n groups from c on, and of the totals, where some were reported before
+abbrev pub rest_lines : Layout → List ℕ → List ℤ → (ℕ → Bool) → (ℕ → Class) → ReportedOnce → ℕ → ℕ → List Message
 rest_lines v image totals free class t c n =
-    map of_blocks (told_once t (flat_map (group_lines v image free class) (range_with_len c n) ++ unless (is_total v free class totals) FreeCounts))
+    map of_blocks (reported_once t (flat_map (group_lines v image free class) (range_with_len c n) ++ unless (is_total v free class totals) FreeCounts))
 
-pub groups_begin : (v : Layout) (image : List ℕ) (totals : List ℤ) (free : ℕ → Bool) (class : ℕ → Class) (t : Told) (n : ℕ) → t ≡ untold → n ≡ v.ncg →
+pub groups_begin : (v : Layout) (image : List ℕ) (totals : List ℤ) (free : ℕ → Bool) (class : ℕ → Class) (t : ReportedOnce) (n : ℕ) → t ≡ unreported → n ≡ v.ncg →
     map of_blocks (phase5_lines v image totals free class) ≡ rest_lines v image totals free class t 0 n
 unfolding phase5_lines
 groups_begin v image totals free class t n e f = rw (e, f) refl
 
-pub groups_go_on : (v : Layout) (image : List ℕ) (totals : List ℤ) (free : ℕ → Bool) (class : ℕ → Class) (t t' : Told) (c n m : ℕ) → n ≡ m + 1 → t' ≡ told_after t (group_lines v image free class c) →
-    rest_lines v image totals free class t c n ≡ map of_blocks (told_once t (group_lines v image free class c)) ++ rest_lines v image totals free class t' (c + 1) m
+pub groups_go_on : (v : Layout) (image : List ℕ) (totals : List ℤ) (free : ℕ → Bool) (class : ℕ → Class) (t t' : ReportedOnce) (c n m : ℕ) → n ≡ m + 1 → t' ≡ reported_after t (group_lines v image free class c) →
+    rest_lines v image totals free class t c n ≡ map of_blocks (reported_once t (group_lines v image free class c)) ++ rest_lines v image totals free class t' (c + 1) m
 groups_go_on v image totals free class t t' c n m e f =
     let s : n ≡ suc m = omega (arith, e) in
     ap (λ j. rest_lines v image totals free class t c j) s
-    ∙ ap (λ (ms : List BlockMessage). map of_blocks (told_once t ms))
+    ∙ ap (λ (ms : List BlockMessage). map of_blocks (reported_once t ms))
     (append_assoc (group_lines v image free class c) (flat_map (group_lines v image free class) (range_with_len (c + 1) m)) (unless (is_total v free class totals) FreeCounts))
     ∙ sifted_append t t' (group_lines v image free class c) (flat_map (group_lines v image free class) (range_with_len (c + 1) m) ++ unless (is_total v free class totals) FreeCounts) f
 
-pub groups_end : (v : Layout) (image : List ℕ) (totals : List ℤ) (free : ℕ → Bool) (class : ℕ → Class) (t : Told) (c n : ℕ) (right : Bool) → n ≡ 0 → right ≡ is_total v free class totals →
-    rest_lines v image totals free class t c n ≡ map of_blocks (told_once t (unless right FreeCounts)) ++ []
+pub groups_end : (v : Layout) (image : List ℕ) (totals : List ℤ) (free : ℕ → Bool) (class : ℕ → Class) (t : ReportedOnce) (c n : ℕ) (right : Bool) → n ≡ 0 → right ≡ is_total v free class totals →
+    rest_lines v image totals free class t c n ≡ map of_blocks (reported_once t (unless right FreeCounts)) ++ []
 groups_end v image totals free class t c n right e f =
-    rw (e, f) (sym (append-nil (map of_blocks (told_once t (unless (is_total v free class totals) FreeCounts)))))
+    rw (e, f) (sym (append-nil (map of_blocks (reported_once t (unless (is_total v free class totals) FreeCounts)))))
 
 next_sum : (f : ℕ → ℕ) (n old new : ℕ) → old ≡ sum_by f (range_with_len 0 n) → new ≡ old + f n → new ≡ sum_by f (range_with_len 0 (n + 1))
 next_sum f n old new e g =

@@ -1,23 +1,23 @@
--- What a workspace holds where only its windows have changed, and what is told of an inode by it.
+-- What a workspace holds where only its windows have changed, and what is reported of an inode by it.
 use Rattle.std.proofs.Common.{◌≡◌, ℕ, ◌<◌, Bool, true, false, List, [], map, refl, ap, ◌∙◌, sym, slice_index, arith}
 use Rattle.std.specs.Prelude.{◌&&◌, ◌||◌, ◌==◌, not, if◌then◌else◌}
 use Rattle.ffs_volume.specs.declared.Layout.{Layout}
 use Rattle.std.proofs.Common.{ℤ, ◌-◌}
 use Rattle.ffs_volume.specs.declared.Attr.{Attr}
 use Rattle.ffs_volume.specs.declared.Inode.{Inode}
-use Rattle.ffs_volume.specs.Messages.{NameMessage, of_names, lines_from}
-use Rattle.ffs_volume.specs.Inodes.{inode_of}
-use Rattle.ffs_volume.specs.Roles.{is_some_inode, is_suspect}
-use Rattle.ffs_volume.specs.PathnameCheck.{label_of, attributes}
-use Rattle.ffs_volume.specs.Volumes.{class_at, marked_at, volume_of, volume_with}
-use Rattle.ffs_volume.specs.ReferenceCheck.{inode_lines, counted_lines, reference_lines}
-use Rattle.ffs_volume.specs.Connectivity.{is_dead}
+use Rattle.ffs_volume.specs.Messages.Kinds.{NameMessage, of_names, lines_from}
+use Rattle.ffs_volume.specs.Blocks.Inodes.{inode_of}
+use Rattle.ffs_volume.specs.Directories.Roles.{is_some_inode, is_suspect}
+use Rattle.ffs_volume.specs.Directories.PathnameCheck.{label_of, attributes}
+use Rattle.ffs_volume.specs.Directories.Volumes.{class_at, marked_at, volume_of, volume_with}
+use Rattle.ffs_volume.specs.Directories.ReferenceCheck.{inode_lines, counted_lines, reference_lines}
+use Rattle.ffs_volume.specs.Directories.Connectivity.{is_dead}
 use Rattle.ffs_workspace.specs.declared.workspace.Workspace.{Workspace}
 use Rattle.ffs_workspace.specs.Holds.{HoldsClaims, HoldsSurvey, bool_at}
-use Rattle.ffs_volume.specs.Kinds.{kind_at, class_of_kind, is_empty_dir_kind, is_allocated_kind}
+use Rattle.ffs_volume.specs.Encodings.Kinds.{kind_at, class_of_kind, is_empty_dir_kind, is_allocated_kind}
 use Rattle.ffs_workspace.specs.Lengths.{inodes_of}
 use Rattle.ffs_workspace.proofs.KindLaws.{suspect_is, some_is}
-use Rattle.ffs_counts.specs.References.{reference_told, attr_with}
+use Rattle.ffs_counts.specs.References.{reference_reported, attr_with}
 use Rattle.ffs_volume.proofs.Numbered.{all_from}
 use Rattle.ffs_counts.proofs.Classes.{same_test}
 
@@ -26,7 +26,7 @@ held_on old mid new e f = f ∙ ap (λ (w : Workspace). record w { windows = new
 
 pub inode_lines_are : (v : Layout) (b : List ℕ) (w : Workspace) (i : ℕ) (inode : Inode) (dead : Bool) → i < inodes_of v → HoldsClaims v b w → HoldsSurvey v b w → inode ≡ inode_of v b i →
     dead ≡ ((bool_at w.marked.items i || is_empty_dir_kind (slice_index w.kinds.items i)) && (not (i == 2) && not (bool_at w.named.items i))) →
-    inode_lines (volume_of v b) i ≡ reference_told dead (bool_at w.marked.items i) (label_of (class_of_kind (slice_index w.kinds.items i))) (attr_with i inode) inode.nlink (slice_index w.references.items i)
+    inode_lines (volume_of v b) i ≡ reference_reported dead (bool_at w.marked.items i) (label_of (class_of_kind (slice_index w.kinds.items i))) (attr_with i inode) inode.nlink (slice_index w.references.items i)
 unfolding inode_lines attributes volume_of volume_with
 inode_lines_are v b w i inode dead low h s is e =
     let suspect : (bool_at w.marked.items i || is_empty_dir_kind (slice_index w.kinds.items i)) ≡ (marked_at v b i || is_empty_dir_kind (kind_at v b i)) =
@@ -49,9 +49,9 @@ some_lines v b w i kind h is apart =
     let some : is_some_inode (volume_of v b) i ≡ true = some_is v b i ∙ ap is_allocated_kind (sym (h.kinds i) ∙ sym is) ∙ ap not (not_zero kind apart) in
     ap (λ t. if t then inode_lines (volume_of v b) i else []) (sym some)
 
-pub same_told : (dead m m' : Bool) (k k' : ℕ) (attr : Attr) (nlink : ℤ) (r r' : ℕ) → m ≡ m' → k ≡ k' → r ≡ r' →
-    reference_told dead m' (label_of (class_of_kind k')) attr nlink r' ≡ reference_told dead m (label_of (class_of_kind k)) attr nlink r
-same_told dead m m' k k' attr nlink r r' e f g = rw (e, f, g) refl
+pub same_reported : (dead m m' : Bool) (k k' : ℕ) (attr : Attr) (nlink : ℤ) (r r' : ℕ) → m ≡ m' → k ≡ k' → r ≡ r' →
+    reference_reported dead m' (label_of (class_of_kind k')) attr nlink r' ≡ reference_reported dead m (label_of (class_of_kind k)) attr nlink r
+same_reported dead m m' k k' attr nlink r r' e f g = rw (e, f, g) refl
 
 pub lines_begin : (v : Layout) (b : List ℕ) → map of_names (reference_lines (volume_of v b)) ≡ map of_names (lines_from (counted_lines (volume_of v b)) 0 (inodes_of v - 0))
 unfolding reference_lines volume_of volume_with

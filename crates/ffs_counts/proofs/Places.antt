@@ -4,8 +4,8 @@ use Rattle.std.specs.Int.{div_ceil}
 use Rattle.std.proofs.lemmas.Nat.{mul-le}
 use Rattle.std.proofs.lemmas.Grind.{div_ceil_times}
 use Rattle.ffs_volume.specs.declared.Layout.{Layout}
-use Rattle.ffs_volume.specs.Areas.{cgstart, group_place, summary_place}
-use Rattle.ffs_volume.specs.Geometry.{IsGeometry}
+use Rattle.ffs_volume.specs.Disk.Areas.{cgstart, group_place, summary_place}
+use Rattle.ffs_volume.specs.Disk.Geometry.{IsGeometry}
 
 -- so many bytes lie in as many fragments as that takes
 covers : (n k : ℕ) → 0 < k → n ≤ div_ceil n k * k

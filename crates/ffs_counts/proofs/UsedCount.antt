@@ -7,11 +7,11 @@ use Rattle.std.proofs.lemmas.Bool.{cases_lt, true≢false}
 use Rattle.std.proofs.lemmas.Bool.Decides.{nat_tests}
 use Rattle.std.proofs.lemmas.Nat.{mul-le}
 use Rattle.ffs_volume.specs.declared.Layout.{Layout}
-use Rattle.ffs_volume.specs.Areas.{cgbase, cgstart, cgsblock, cgdmin, is_kept, is_reserved}
-use Rattle.ffs_volume.specs.AreaLaws.{in_kept, is_kept_group, group_is}
-use Rattle.ffs_volume.specs.Claims.{is_set}
-use Rattle.ffs_volume.specs.Geometry.{IsGeometry}
-use Rattle.ffs_volume.specs.Groups.{group_size}
+use Rattle.ffs_volume.specs.Disk.Areas.{cgbase, cgstart, cgsblock, cgdmin, is_group_metadata, is_reserved}
+use Rattle.ffs_volume.proofs.AreaLaws.{in_kept, is_kept_group, group_is}
+use Rattle.ffs_volume.specs.Blocks.Claims.{is_set}
+use Rattle.ffs_volume.specs.Disk.Geometry.{IsGeometry}
+use Rattle.ffs_volume.specs.Groups.Records.{group_size}
 use Rattle.ffs_maps.proofs.Counting.{count_join_at}
 use Rattle.ffs_groups.proofs.Sums.{sum_same}
 use Rattle.ffs_groups.proofs.Words.{sum_const}
@@ -61,11 +61,11 @@ first_not a b e = rw e refl
 first_reserved : (v : Layout) (f : ℕ) → IsGeometry v → f < v.csaddr + div_ceil v.cssize v.fsize → is_reserved v f ≡ true
 unfolding is_reserved
 first_reserved v f g h = elim (cases_lt f v.csaddr) [
-  | inl low ↦ any_of _ _ (is_kept v f) (inl (before f (cgdmin v 0) (omega (arith, low, g.summary.csaddr))))
-  | inr past ↦ any_of _ _ (is_kept v f) (inr (both_are _ _ (from_ v.csaddr f past) (before f _ h)))
+  | inl low ↦ any_of _ _ (is_group_metadata v f) (inl (before f (cgdmin v 0) (omega (arith, low, g.summary.csaddr))))
+  | inr past ↦ any_of _ _ (is_group_metadata v f) (inr (both_are _ _ (from_ v.csaddr f past) (before f _ h)))
 ]
 
-kept_in : (v : Layout) (c f : ℕ) → IsGeometry v → cgbase v c ≤ f → f < cgbase v (c + 1) → is_kept v f ≡ (nat_lt c v.ncg && in_kept v c f)
+kept_in : (v : Layout) (c f : ℕ) → IsGeometry v → cgbase v c ≤ f → f < cgbase v (c + 1) → is_group_metadata v f ≡ (nat_lt c v.ncg && in_kept v c f)
 kept_in v c f g low high = is_kept_group v f g ∙ ap (λ j. nat_lt j v.ncg && in_kept v j f) (group_is v c f low high)
 
 pub base_zero : (v : Layout) → cgbase v 0 ≡ 0
@@ -75,7 +75,7 @@ base_zero v = omega arith
 first_free : (v : Layout) (f : ℕ) → IsGeometry v → v.csaddr + div_ceil v.cssize v.fsize ≤ f → f < cgbase v (0 + 1) → is_reserved v f ≡ false
 unfolding is_reserved
 first_free v f g low high =
-    none_of _ _ (is_kept v f)
+    none_of _ _ (is_group_metadata v f)
     (not_before f (cgdmin v 0) (omega (arith, low, g.summary.csaddr)))
     (second_not _ _ (not_before f _ low))
     (kept_in v 0 f g (omega (arith, base_zero v)) high ∙ second_not _ _ (second_not _ _ (not_before f (cgdmin v 0) (omega (arith, low, g.summary.csaddr)))))
@@ -93,7 +93,7 @@ group_reserved : (v : Layout) (c f : ℕ) → IsGeometry v → c < v.ncg → cgs
 unfolding is_reserved
 group_reserved v c f g h low high =
     let group = g.groups c h in
-    let kept : is_kept v f ≡ true =
+    let kept : is_group_metadata v f ≡ true =
     kept_in v c f g (omega (arith, parts_up v c, low)) (omega (arith, high, group.within_group)) ∙ both_are (nat_lt c v.ncg) (in_kept v c f) (before c v.ncg h) (both_are (nat_le (cgsblock v c) f) (nat_lt f (cgdmin v c)) (from_ (cgsblock v c) f low) (before f (cgdmin v c) high)) in
     ap (λ k. (nat_lt f (cgdmin v 0) || (nat_le v.csaddr f && nat_lt f (v.csaddr + div_ceil v.cssize v.fsize))) || k) kept
     ∙ last_of (nat_lt f (cgdmin v 0)) (nat_le v.csaddr f && nat_lt f (v.csaddr + div_ceil v.cssize v.fsize))
@@ -102,7 +102,7 @@ group_free : (v : Layout) (c f : ℕ) → IsGeometry v → 1 ≤ c → cgbase v 
 unfolding is_reserved
 group_free v c f g some low high apart =
     let past_summary : v.csaddr + div_ceil v.cssize v.fsize ≤ f = omega (arith, g.summary.summary_in_group, base_up v c some, low) in
-    none_of (nat_lt f (cgdmin v 0)) (nat_le v.csaddr f && nat_lt f (v.csaddr + div_ceil v.cssize v.fsize)) (is_kept v f)
+    none_of (nat_lt f (cgdmin v 0)) (nat_le v.csaddr f && nat_lt f (v.csaddr + div_ceil v.cssize v.fsize)) (is_group_metadata v f)
     (not_before f (cgdmin v 0) (omega (arith, past_summary, g.summary.csaddr)))
     (second_not (nat_le v.csaddr f) (nat_lt f (v.csaddr + div_ceil v.cssize v.fsize)) (not_before f (v.csaddr + div_ceil v.cssize v.fsize) past_summary))
     (kept_in v c f g low high ∙ second_not (nat_lt c v.ncg) (in_kept v c f) (elim apart [

@@ -1,16 +1,16 @@
--- What is told of an inode by its references.
+-- What is reported of an inode by its references.
 use Rattle.std.specs.Prelude.{ℕ, ◌==◌, Bool, not, List, [], ◌∷◌, Option, Some, None, if◌then◌else◌, ℤ}
 use Rattle.ffs_volume.specs.declared.Attr.{Attr}
 use Rattle.ffs_volume.specs.declared.Inode.{Inode}
 use Rattle.ffs_volume.specs.declared.Label.{Label}
-use Rattle.ffs_volume.specs.Numbers.{is_count}
-use Rattle.ffs_volume.specs.Messages.{NameMessage, told, dead_marked, dead_zero, unref, unref_zero, link_count}
+use Rattle.ffs_volume.specs.Disk.Numbers.{is_count}
+use Rattle.ffs_volume.specs.Messages.Kinds.{NameMessage, told, dead_marked, dead_zero, unref, unref_zero, link_count}
 use Rattle.ffs_report.specs.Lines.{reference_message}
 use Rattle.ffs_report.specs.declared.line.ReferenceLine.{ReferenceLine}
 
 -- by whether it is dead and marked, what messages show of it, its count of links and how often it is referred to
-abbrev pub reference_told : Bool → Bool → Label → Attr → ℤ → ℕ → List NameMessage
-reference_told dead marked label attr nlink refs =
+abbrev pub reference_reported : Bool → Bool → Label → Attr → ℤ → ℕ → List NameMessage
+reference_reported dead marked label attr nlink refs =
     if dead then (if marked then dead_marked label attr ∷ [] else dead_zero attr ∷ [])
     else (if refs == 0 then (if is_count nlink 0 then unref_zero label attr ∷ [] else unref label attr ∷ [])
     else told (not (is_count nlink refs)) (link_count label attr nlink refs))

@@ -3,7 +3,7 @@ use Rattle.std.specs.Prelude.{ℕ, ◌≡◌, ◌≤◌, ◌*◌, ◌+◌}
 use Rattle.std.specs.List.{range_with_len, sum_by}
 use Rattle.ffs_volume.specs.declared.Layout.{Layout}
 use Rattle.ffs_volume.specs.declared.Class.{Class}
-use Rattle.ffs_volume.specs.Groups.{Summary, right_summary}
+use Rattle.ffs_volume.specs.Groups.Records.{Summary, right_summary}
 use Rattle.ffs_counts.specs.declared.totals.Totals.{Totals}
 use Rattle.std.specs.Prelude.{Bool}
 

@@ -1,19 +1,19 @@
 //! Phase 5: the records of the cylinder groups.
 
 ghost use Rattle.std.specs.Prelude.{◌≡◌, ◌≤◌, ◌<◌, ◌*◌, ◌∷◌, List, ℕ, length, map, OnOk, Some, ◌+◌};
-ghost use Rattle.ffs_volume.specs.Messages.{of_blocks, phase5 as phase5_heading};
-ghost use Rattle.ffs_volume.specs.GroupCheck.{group_lines, told_once, phase5_lines};
-ghost use Rattle.ffs_volume.specs.Report.{group_check_lines};
+ghost use Rattle.ffs_volume.specs.Messages.Kinds.{of_blocks, phase5 as phase5_heading};
+ghost use Rattle.ffs_volume.specs.Groups.GroupCheck.{group_lines, reported_once, phase5_lines};
+ghost use Rattle.ffs_volume.specs.Report.Whole.{group_check_lines};
 ghost use Rattle.ffs_layout.specs.Super.{seen};
 ghost use Rattle.ffs_maps.specs.Bits.{bits_of};
 ghost use Rattle.ffs_report.specs.Progress.{progress};
-ghost use Rattle.ffs_phase.specs.Known.{Where, Tells};
-ghost use Rattle.ffs_phase.specs.Runs.{Reads, TellsOf};
+ghost use Rattle.ffs_phase.specs.Known.{ForBytes, IsContents};
+ghost use Rattle.ffs_phase.specs.Runs.{ImageAfter, PhaseReports};
 ghost use Rattle.ffs_groups.specs.Free.{free_in};
 ghost use Rattle.ffs_groups.specs.Inodes.{class_in};
 ghost use Rattle.ffs_workspace.specs.Holds.{HoldsClaims};
 ghost use Rattle.ffs_workspace.specs.Lengths.{IsFor, HoldWindows};
-ghost use Rattle.ffs_counts.specs.Once.{told_of, told_after};
+ghost use Rattle.ffs_counts.specs.Once.{reported_of, reported_after};
 ghost use Rattle.ffs_counts.specs.Totals.{AreUpTo, AreAdded};
 ghost use Rattle.ffs_counts.specs.Ready.{AreReady};
 
@@ -29,7 +29,7 @@ use ffs_report::{Heading, Line, Output, Report};
 use ffs_volume::BlockMessage;
 use ffs_workspace::{Windows, Workspace};
 
-// What has been told of the groups so far, and the sums of their counts.
+// What has been reported of the groups so far, and the sums of their counts.
 #[derive(Clone, Copy, Debug)]
 struct SoFar {
     once: Once,
@@ -50,19 +50,26 @@ fn check_group<I: Image, W: Output>(
     requires group { group < geometry.now.layout.ncg }
     requires size { used.now.size ≡ geometry.now.layout.size }
     requires kinds { length kinds.now ≡ geometry.now.layout.ncg * geometry.now.layout.ipg }
-    requires volume { geometry.now.layout.size * geometry.now.layout.fsize ≤ (I.device image.old).size }
-    requires ready { AreReady geometry.now.layout (I.device image.old).told windows.old }
+    requires volume { geometry.now.layout.size * geometry.now.layout.fsize
+        ≤ (I.device image.old).size }
+    requires ready { AreReady geometry.now.layout (I.device image.old).contents windows.old }
     requires up { AreUpTo group so_far.old.totals }
-    ensures image { Reads (I.device image.old) (I.device image.new) result }
-    ensures text { TellsOf (Tells (I.device image.old).told)
-        (λ bytes. map of_blocks (told_once (told_of so_far.old.once) (group_lines geometry.now.layout bytes (free_in (bits_of used.now) geometry.now.layout.size) (class_in kinds.now) group)))
+    ensures image { ImageAfter (I.device image.old) (I.device image.new) result }
+    ensures text { PhaseReports (IsContents (I.device image.old).contents)
+        (λ bytes. map of_blocks (reported_once (reported_of so_far.old.once)
+        (group_lines geometry.now.layout bytes (free_in (bits_of used.now) geometry.now.layout.size)
+        (class_in kinds.now) group)))
         (progress W.sink report.old) (progress W.sink report.new) result }
-    ensures told { OnOk result (Where (Tells (I.device image.old).told) (λ bytes.
-        told_of so_far.new.once ≡ told_after (told_of so_far.old.once) (group_lines geometry.now.layout bytes (free_in (bits_of used.now) geometry.now.layout.size) (class_in kinds.now) group))) }
-    ensures added { AreAdded geometry.now.layout (free_in (bits_of used.now) geometry.now.layout.size) (class_in kinds.now) group so_far.old.totals so_far.new.totals }
+    ensures told { OnOk result (ForBytes (IsContents (I.device image.old).contents) (λ bytes.
+        reported_of so_far.new.once ≡ reported_after (reported_of so_far.old.once)
+        (group_lines geometry.now.layout bytes (free_in (bits_of used.now) geometry.now.layout.size)
+        (class_in kinds.now) group))) }
+    ensures added { AreAdded geometry.now.layout
+        (free_in (bits_of used.now) geometry.now.layout.size) (class_in kinds.now) group
+        so_far.old.totals so_far.new.totals }
     ensures up { AreUpTo (group + 1) so_far.new.totals }
     ensures blocks { windows.new.blocks ≡ windows.old.blocks }
-    ensures ready { AreReady geometry.now.layout (I.device image.new).told windows.new }
+    ensures ready { AreReady geometry.now.layout (I.device image.new).contents windows.new }
 {
     let counts = group_counts(geometry, used, kinds, group);
     so_far.totals.add(group, &counts.summary);
@@ -81,15 +88,21 @@ fn check_groups<I: Image, W: Output>(
     report: &mut Report<'_, W>,
 ) -> Result<(), RunFault>
     requires size { used.now.size ≡ superblock.now.geometry.layout.size }
-    requires kinds { length kinds.now ≡ superblock.now.geometry.layout.ncg * superblock.now.geometry.layout.ipg }
-    requires volume { superblock.now.geometry.layout.size * superblock.now.geometry.layout.fsize ≤ (I.device image.old).size }
-    requires ready { AreReady superblock.now.geometry.layout (I.device image.old).told windows.old }
-    ensures image { Reads (I.device image.old) (I.device image.new) result }
-    ensures text { TellsOf (Tells (I.device image.old).told)
-        (λ bytes. map of_blocks (phase5_lines superblock.now.geometry.layout bytes superblock.now.cstotal (free_in (bits_of used.now) superblock.now.geometry.layout.size) (class_in kinds.now)))
+    requires kinds { length kinds.now
+        ≡ superblock.now.geometry.layout.ncg * superblock.now.geometry.layout.ipg }
+    requires volume { superblock.now.geometry.layout.size * superblock.now.geometry.layout.fsize
+        ≤ (I.device image.old).size }
+    requires ready { AreReady superblock.now.geometry.layout (I.device image.old).contents
+        windows.old }
+    ensures image { ImageAfter (I.device image.old) (I.device image.new) result }
+    ensures text { PhaseReports (IsContents (I.device image.old).contents)
+        (λ bytes. map of_blocks (phase5_lines superblock.now.geometry.layout bytes
+        superblock.now.cstotal (free_in (bits_of used.now) superblock.now.geometry.layout.size)
+        (class_in kinds.now)))
         (progress W.sink report.old) (progress W.sink report.new) result }
     ensures blocks { windows.new.blocks ≡ windows.old.blocks }
-    ensures ready { AreReady superblock.now.geometry.layout (I.device image.new).told windows.new }
+    ensures ready { AreReady superblock.now.geometry.layout (I.device image.new).contents
+        windows.new }
 {
     let geometry = &superblock.geometry;
     let mut so_far = SoFar {
@@ -124,15 +137,19 @@ pub fn phase5<I: Image, W: Output>(
     report: &mut Report<'_, W>,
 ) -> Result<(), RunFault>
     requires made { IsFor superblock.now.geometry.layout workspace.old }
-    requires volume { superblock.now.geometry.layout.size * superblock.now.geometry.layout.fsize ≤ (I.device image.old).size }
-    requires windows { HoldWindows superblock.now.geometry.layout (I.device image.old).told workspace.old }
-    ensures image { Reads (I.device image.old) (I.device image.new) result }
-    ensures text { TellsOf (λ bytes. ((I.device image.old).told ≡ Some bytes) × HoldsClaims superblock.now.geometry.layout bytes workspace.old)
+    requires volume { superblock.now.geometry.layout.size * superblock.now.geometry.layout.fsize
+        ≤ (I.device image.old).size }
+    requires windows { HoldWindows superblock.now.geometry.layout (I.device image.old).contents
+        workspace.old }
+    ensures image { ImageAfter (I.device image.old) (I.device image.new) result }
+    ensures text { PhaseReports (λ bytes. ((I.device image.old).contents ≡ Some bytes)
+        × HoldsClaims superblock.now.geometry.layout bytes workspace.old)
         (λ bytes. phase5_heading ∷ group_check_lines bytes (seen superblock.now))
         (progress W.sink report.old) (progress W.sink report.new) result }
     ensures held { workspace.new ≡ record workspace.old { windows = workspace.new.windows } }
     ensures made { IsFor superblock.now.geometry.layout workspace.new }
-    ensures windows { HoldWindows superblock.now.geometry.layout (I.device image.new).told workspace.new }
+    ensures windows { HoldWindows superblock.now.geometry.layout (I.device image.new).contents
+        workspace.new }
 {
     report.say(&Line::Heading(Heading::Phase5))?;
     check_groups(

@@ -1,18 +1,18 @@
-//! Messages that are told once.
+//! Messages that are reported once.
 
 ghost use Rattle.std.specs.Prelude.{◌≡◌, ◌++◌, map, OnOk};
 ghost use Rattle.ffs_volume.specs.declared.BlockMessage.TheVariants.{FreeCounts, GroupSums, MapsWrong};
-ghost use Rattle.ffs_volume.specs.Messages.{of_blocks};
-ghost use Rattle.ffs_volume.specs.GroupCheck.{is_told, tell, told_once, unless};
+ghost use Rattle.ffs_volume.specs.Messages.Kinds.{of_blocks};
+ghost use Rattle.ffs_volume.specs.Groups.GroupCheck.{is_reported, note_reported, reported_once, unless};
 ghost use Rattle.ffs_report.specs.Progress.{progress, Says};
 ghost use Rattle.ffs_groups.specs.Check.{lines_of};
-ghost use Rattle.ffs_counts.specs.Once.{told_of, told_after};
+ghost use Rattle.ffs_counts.specs.Once.{reported_of, reported_after};
 
 use ffs_groups::Findings;
 use ffs_report::{Line, OutFault, Output, Report};
 use ffs_volume::BlockMessage;
 
-/// Which of the messages were told that come once.
+/// Which of the messages were reported that come once.
 #[derive(Clone, Copy, Debug)]
 pub struct Once {
     pub counts: bool,
@@ -21,11 +21,11 @@ pub struct Once {
 }
 
 impl Once {
-    ghost use Rattle.ffs_volume.specs.GroupCheck.{untold};
+    ghost use Rattle.ffs_volume.specs.Groups.GroupCheck.{unreported};
 
-    /// None was told.
+    /// None was reported.
     pub fn new() -> Once
-        ensures { told_of result ≡ untold }
+        ensures { reported_of result ≡ unreported }
     {
         Once {
             counts: false,
@@ -34,8 +34,8 @@ impl Once {
         }
     }
 
-    fn is_told(&self, message: BlockMessage) -> bool
-        ensures { result ≡ is_told (told_of self.now) message }
+    fn is_reported(&self, message: BlockMessage) -> bool
+        ensures { result ≡ is_reported (reported_of self.now) message }
     {
         match message {
             BlockMessage::FreeCounts => self.counts,
@@ -45,8 +45,8 @@ impl Once {
         }
     }
 
-    fn tell(&mut self, message: BlockMessage)
-        ensures { told_of self.new ≡ tell (told_of self.old) message }
+    fn note_reported(&mut self, message: BlockMessage)
+        ensures { reported_of self.new ≡ note_reported (reported_of self.old) message }
     {
         match message {
             BlockMessage::FreeCounts => self.counts = true,
@@ -57,32 +57,36 @@ impl Once {
     }
 }
 
-/// Says a message where a test fails, unless it was told before and comes once.
+/// Says a message where a test fails, unless it was reported before and comes once.
 pub fn say_unless<W: Output>(
     report: &mut Report<'_, W>,
     once: &mut Once,
     right: bool,
     message: BlockMessage,
 ) -> Result<(), OutFault>
-    ensures said { Says (progress W.sink report.old) (progress W.sink report.new) (map of_blocks (told_once (told_of once.old) (unless right message))) result }
-    ensures told { told_of once.new ≡ told_after (told_of once.old) (unless right message) }
+    ensures said { Says (progress W.sink report.old) (progress W.sink report.new)
+        (map of_blocks (reported_once (reported_of once.old) (unless right message))) result }
+    ensures told { reported_of once.new
+        ≡ reported_after (reported_of once.old) (unless right message) }
 {
-    if right || once.is_told(message) {
+    if right || once.is_reported(message) {
         return Ok(());
     }
-    once.tell(message);
+    once.note_reported(message);
     report.say(&Line::Block(message))
 }
 
-/// Says what is wrong with the records of a group, each of the messages that come once only where it was not told before.
+/// Says what is wrong with the records of a group, each of the messages that come once only where it was not reported before.
 pub fn say_group<W: Output>(
     report: &mut Report<'_, W>,
     once: &mut Once,
     found: &Findings,
     group: u32,
 ) -> Result<(), OutFault>
-    ensures said { Says (progress W.sink report.old) (progress W.sink report.new) (map of_blocks (told_once (told_of once.old) (lines_of found.now group))) result }
-    ensures told { OnOk result (told_of once.new ≡ told_after (told_of once.old) (lines_of found.now group)) }
+    ensures said { Says (progress W.sink report.old) (progress W.sink report.new)
+        (map of_blocks (reported_once (reported_of once.old) (lines_of found.now group))) result }
+    ensures told { OnOk result (reported_of once.new
+        ≡ reported_after (reported_of once.old) (lines_of found.now group)) }
 {
     if found.magic {
         say_whole_group(report, once, found)
@@ -99,8 +103,13 @@ fn say_whole_group<W: Output>(
     found: &Findings,
 ) -> Result<(), OutFault>
     ensures said { Says (progress W.sink report.old) (progress W.sink report.new)
-        (map of_blocks (told_once (told_of once.old) (unless found.now.counts FreeCounts ++ (unless found.now.maps MapsWrong ++ unless found.now.sums GroupSums)))) result }
-    ensures told { OnOk result (told_of once.new ≡ told_after (told_of once.old) (unless found.now.counts FreeCounts ++ (unless found.now.maps MapsWrong ++ unless found.now.sums GroupSums))) }
+        (map of_blocks (reported_once (reported_of once.old)
+        (unless found.now.counts FreeCounts
+        ++ (unless found.now.maps MapsWrong ++ unless found.now.sums GroupSums)))) result }
+    ensures told { OnOk result (reported_of once.new
+        ≡ reported_after (reported_of once.old)
+        (unless found.now.counts FreeCounts
+        ++ (unless found.now.maps MapsWrong ++ unless found.now.sums GroupSums))) }
 {
     say_unless(report, once, found.counts, BlockMessage::FreeCounts)?;
     say_unless(report, once, found.maps, BlockMessage::MapsWrong)?;

@@ -1,12 +1,12 @@
-//! What is told of an inode by the entries that refer to it.
+//! What is reported of an inode by the entries that refer to it.
 
 ghost use Rattle.std.specs.Prelude.{◌≡◌, ◌==◌, ◌||◌, ◌&&◌, not, map};
-ghost use Rattle.ffs_volume.specs.Messages.{of_names};
-ghost use Rattle.ffs_volume.specs.Numbers.{is_count};
-ghost use Rattle.ffs_volume.specs.PathnameCheck.{label_of};
+ghost use Rattle.ffs_volume.specs.Messages.Kinds.{of_names};
+ghost use Rattle.ffs_volume.specs.Disk.Numbers.{is_count};
+ghost use Rattle.ffs_volume.specs.Directories.PathnameCheck.{label_of};
 ghost use Rattle.ffs_report.specs.Progress.{progress, Says};
-ghost use Rattle.ffs_volume.specs.Kinds.{class_of_kind};
-ghost use Rattle.ffs_counts.specs.References.{attr_with, lines_as, reference_told};
+ghost use Rattle.ffs_volume.specs.Encodings.Kinds.{class_of_kind};
+ghost use Rattle.ffs_counts.specs.References.{attr_with, lines_as, reference_reported};
 
 use ffs_report::{Line, OutFault, Output, ReferenceLine, Report};
 use ffs_volume::{Attr, Inode, Label};
@@ -53,7 +53,8 @@ pub fn line_for(
     number: u32,
     inode: &Inode,
 ) -> Option<ReferenceLine>
-    ensures { lines_as result ≡ reference_told dead marked (label_of (class_of_kind kind)) (attr_with number inode.now) inode.now.nlink references }
+    ensures { lines_as result ≡ reference_reported dead marked (label_of (class_of_kind kind))
+        (attr_with number inode.now) inode.now.nlink references }
 {
     let attr = attr_for(number, inode);
     let label = label_for(kind);
@@ -86,7 +87,8 @@ pub fn say_line<W: Output>(
     report: &mut Report<'_, W>,
     line: Option<ReferenceLine>,
 ) -> Result<(), OutFault>
-    ensures { Says (progress W.sink report.old) (progress W.sink report.new) (map of_names (lines_as line)) result }
+    ensures { Says (progress W.sink report.old) (progress W.sink report.new)
+        (map of_names (lines_as line)) result }
 {
     match line {
         Some(line) => report.say(&Line::Reference(line)),

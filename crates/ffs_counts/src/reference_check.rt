@@ -1,14 +1,14 @@
 //! Phase 4: how often inodes are referred to.
 
 ghost use Rattle.std.specs.Prelude.{◌≡◌, ◌≤◌, ◌<◌, ◌*◌, ◌∷◌, ◌==◌, ◌||◌, ◌&&◌, not, List, ℕ, map, slice_index};
-ghost use Rattle.ffs_volume.specs.Messages.{of_names, phase4 as phase4_heading};
-ghost use Rattle.ffs_volume.specs.ReferenceCheck.{counted_lines, inode_lines, reference_lines};
-ghost use Rattle.ffs_volume.specs.Volumes.{volume_of};
+ghost use Rattle.ffs_volume.specs.Messages.Kinds.{of_names, phase4 as phase4_heading};
+ghost use Rattle.ffs_volume.specs.Directories.ReferenceCheck.{counted_lines, inode_lines, reference_lines};
+ghost use Rattle.ffs_volume.specs.Directories.Volumes.{volume_of};
 ghost use Rattle.ffs_report.specs.Progress.{progress};
-ghost use Rattle.ffs_phase.specs.Known.{Tells};
-ghost use Rattle.ffs_phase.specs.Runs.{Reads, TellsOf};
+ghost use Rattle.ffs_phase.specs.Known.{IsContents};
+ghost use Rattle.ffs_phase.specs.Runs.{ImageAfter, PhaseReports};
 ghost use Rattle.ffs_workspace.specs.Holds.{HoldsClaims, HoldsSurvey, bool_at};
-ghost use Rattle.ffs_volume.specs.Kinds.{is_empty_dir_kind};
+ghost use Rattle.ffs_volume.specs.Encodings.Kinds.{is_empty_dir_kind};
 ghost use Rattle.ffs_workspace.specs.Lengths.{IsFor, HoldWindows, inodes_of};
 
 use crate::reference::{line_for, say_line};
@@ -46,7 +46,8 @@ fn references_to(workspace: &Workspace, geometry: &Geometry, number: u32) -> u64
 fn is_dead(workspace: &Workspace, geometry: &Geometry, number: u32) -> bool
     requires made { IsFor geometry.now.layout workspace.now }
     requires number { number < inodes_of geometry.now.layout }
-    ensures { result ≡ ((bool_at workspace.now.marked.items number || is_empty_dir_kind (slice_index workspace.now.kinds.items number))
+    ensures { result ≡ ((bool_at workspace.now.marked.items number
+        || is_empty_dir_kind (slice_index workspace.now.kinds.items number))
         && (not (number == 2) && not (bool_at workspace.now.named.items number))) }
 {
     let place = number as usize;
@@ -54,8 +55,8 @@ fn is_dead(workspace: &Workspace, geometry: &Geometry, number: u32) -> bool
     suspect && number != 2 && !workspace.named[place]
 }
 
-// What is told of an inode that is allocated.
-fn tell<I: Image, W: Output>(
+// What is reported of an inode that is allocated.
+fn report_inode<I: Image, W: Output>(
     workspace: &mut Workspace,
     geometry: &Geometry,
     number: u32,
@@ -64,15 +65,18 @@ fn tell<I: Image, W: Output>(
 ) -> Result<(), RunFault>
     requires made { IsFor geometry.now.layout workspace.old }
     requires number { number < inodes_of geometry.now.layout }
-    requires volume { geometry.now.layout.size * geometry.now.layout.fsize ≤ (I.device image.old).size }
-    requires windows { HoldWindows geometry.now.layout (I.device image.old).told workspace.old }
-    ensures image { Reads (I.device image.old) (I.device image.new) result }
-    ensures text { TellsOf (λ bytes. Tells (I.device image.old).told bytes × HoldsClaims geometry.now.layout bytes workspace.old × HoldsSurvey geometry.now.layout bytes workspace.old)
+    requires volume { geometry.now.layout.size * geometry.now.layout.fsize
+        ≤ (I.device image.old).size }
+    requires windows { HoldWindows geometry.now.layout (I.device image.old).contents workspace.old }
+    ensures image { ImageAfter (I.device image.old) (I.device image.new) result }
+    ensures text { PhaseReports (λ bytes. IsContents (I.device image.old).contents bytes
+        × HoldsClaims geometry.now.layout bytes workspace.old
+        × HoldsSurvey geometry.now.layout bytes workspace.old)
         (λ bytes. map of_names (inode_lines (volume_of geometry.now.layout bytes) number))
         (progress W.sink report.old) (progress W.sink report.new) result }
     ensures held { workspace.new ≡ record workspace.old { windows = workspace.new.windows } }
     ensures made { IsFor geometry.now.layout workspace.new }
-    ensures windows { HoldWindows geometry.now.layout (I.device image.new).told workspace.new }
+    ensures windows { HoldWindows geometry.now.layout (I.device image.new).contents workspace.new }
 {
     let dead = is_dead(workspace, geometry, number);
     let marked = is_marked(workspace, geometry, number);
@@ -84,8 +88,8 @@ fn tell<I: Image, W: Output>(
     Ok(())
 }
 
-// What is told of an inode.
-fn numbered<I: Image, W: Output>(
+// What is reported of an inode.
+fn check_inode<I: Image, W: Output>(
     workspace: &mut Workspace,
     geometry: &Geometry,
     number: u32,
@@ -94,24 +98,27 @@ fn numbered<I: Image, W: Output>(
 ) -> Result<(), RunFault>
     requires made { IsFor geometry.now.layout workspace.old }
     requires number { number < inodes_of geometry.now.layout }
-    requires volume { geometry.now.layout.size * geometry.now.layout.fsize ≤ (I.device image.old).size }
-    requires windows { HoldWindows geometry.now.layout (I.device image.old).told workspace.old }
-    ensures image { Reads (I.device image.old) (I.device image.new) result }
-    ensures text { TellsOf (λ bytes. Tells (I.device image.old).told bytes × HoldsClaims geometry.now.layout bytes workspace.old × HoldsSurvey geometry.now.layout bytes workspace.old)
+    requires volume { geometry.now.layout.size * geometry.now.layout.fsize
+        ≤ (I.device image.old).size }
+    requires windows { HoldWindows geometry.now.layout (I.device image.old).contents workspace.old }
+    ensures image { ImageAfter (I.device image.old) (I.device image.new) result }
+    ensures text { PhaseReports (λ bytes. IsContents (I.device image.old).contents bytes
+        × HoldsClaims geometry.now.layout bytes workspace.old
+        × HoldsSurvey geometry.now.layout bytes workspace.old)
         (λ bytes. map of_names (counted_lines (volume_of geometry.now.layout bytes) number))
         (progress W.sink report.old) (progress W.sink report.new) result }
     ensures held { workspace.new ≡ record workspace.old { windows = workspace.new.windows } }
     ensures made { IsFor geometry.now.layout workspace.new }
-    ensures windows { HoldWindows geometry.now.layout (I.device image.new).told workspace.new }
+    ensures windows { HoldWindows geometry.now.layout (I.device image.new).contents workspace.new }
 {
     let kind = kind_held(workspace, geometry, number);
     if kind == 0 {
         return Ok(());
     }
-    tell(workspace, geometry, number, image, report)
+    report_inode(workspace, geometry, number, image, report)
 }
 
-/// Phase 4 (fsck(8)): tells of each inode that is allocated whether it is dead, not referred to, or has a wrong count of links.
+/// Phase 4 (fsck(8)): reports of each inode that is allocated whether it is dead, not referred to, or has a wrong count of links.
 ///
 /// The text is that of a workspace that holds what the block check and the survey of directories found.
 ///
@@ -123,19 +130,23 @@ pub fn phase4<I: Image, W: Output>(
     report: &mut Report<'_, W>,
 ) -> Result<(), RunFault>
     requires made { IsFor geometry.now.layout workspace.old }
-    requires volume { geometry.now.layout.size * geometry.now.layout.fsize ≤ (I.device image.old).size }
-    requires windows { HoldWindows geometry.now.layout (I.device image.old).told workspace.old }
-    ensures image { Reads (I.device image.old) (I.device image.new) result }
-    ensures text { TellsOf (λ bytes. Tells (I.device image.old).told bytes × HoldsClaims geometry.now.layout bytes workspace.old × HoldsSurvey geometry.now.layout bytes workspace.old)
-        (λ bytes. phase4_heading ∷ map of_names (reference_lines (volume_of geometry.now.layout bytes)))
+    requires volume { geometry.now.layout.size * geometry.now.layout.fsize
+        ≤ (I.device image.old).size }
+    requires windows { HoldWindows geometry.now.layout (I.device image.old).contents workspace.old }
+    ensures image { ImageAfter (I.device image.old) (I.device image.new) result }
+    ensures text { PhaseReports (λ bytes. IsContents (I.device image.old).contents bytes
+        × HoldsClaims geometry.now.layout bytes workspace.old
+        × HoldsSurvey geometry.now.layout bytes workspace.old)
+        (λ bytes. phase4_heading ∷ map of_names
+        (reference_lines (volume_of geometry.now.layout bytes)))
         (progress W.sink report.old) (progress W.sink report.new) result }
     ensures held { workspace.new ≡ record workspace.old { windows = workspace.new.windows } }
     ensures made { IsFor geometry.now.layout workspace.new }
-    ensures windows { HoldWindows geometry.now.layout (I.device image.new).told workspace.new }
+    ensures windows { HoldWindows geometry.now.layout (I.device image.new).contents workspace.new }
 {
     report.say(&Line::Heading(Heading::Phase4))?;
     for number in 0..geometry.layout.ncg * geometry.layout.ipg {
-        numbered(workspace, geometry, number, image, report)?;
+        check_inode(workspace, geometry, number, image, report)?;
     }
     Ok(())
 }

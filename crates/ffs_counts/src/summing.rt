@@ -2,18 +2,18 @@
 
 ghost use Rattle.std.specs.Prelude.{◌≡◌, ◌∷◌, [], ◌-◌, ◌<◌, ◌^◌, List, ℕ, length, count_by, not, ◌&&◌, pos, ◌+ℤ◌, ◌*ℤ◌, int_div};
 ghost use Rattle.std.specs.List.{range_with_len};
-ghost use Rattle.ffs_volume.specs.Areas.{cgbase, is_reserved};
-ghost use Rattle.ffs_volume.specs.Claims.{is_set};
-ghost use Rattle.ffs_volume.specs.Groups.{group_size};
-ghost use Rattle.ffs_volume.specs.Inodes.{is_settled};
-ghost use Rattle.ffs_volume.specs.Report.{summary_of, file_count as files_of, used_count as used_of};
+ghost use Rattle.ffs_volume.specs.Disk.Areas.{cgbase, is_reserved};
+ghost use Rattle.ffs_volume.specs.Blocks.Claims.{is_set};
+ghost use Rattle.ffs_volume.specs.Groups.Records.{group_size};
+ghost use Rattle.ffs_volume.specs.Blocks.Inodes.{is_file_or_dir};
+ghost use Rattle.ffs_volume.specs.Report.Whole.{summary_of, file_count as files_of, used_count as used_of};
 ghost use Rattle.ffs_layout.specs.Super.{seen};
 ghost use Rattle.ffs_maps.specs.Bits.{bits_of};
 ghost use Rattle.ffs_report.specs.Lines.{message_of};
 ghost use Rattle.ffs_report.specs.Progress.{progress};
-ghost use Rattle.ffs_phase.specs.Runs.{Reads, TellsOf};
+ghost use Rattle.ffs_phase.specs.Runs.{ImageAfter, PhaseReports};
 ghost use Rattle.ffs_image.specs.Device.{Device};
-ghost use Rattle.ffs_volume.specs.Kinds.{class_of_kind};
+ghost use Rattle.ffs_volume.specs.Encodings.Kinds.{class_of_kind};
 ghost use Rattle.ffs_groups.specs.Inodes.{class_in};
 ghost use Rattle.ffs_workspace.specs.Holds.{HoldsClaims};
 ghost use Rattle.ffs_workspace.specs.Lengths.{IsFor};
@@ -26,8 +26,8 @@ use ffs_phase::RunFault;
 use ffs_report::{Line, Output, Report};
 use ffs_workspace::Workspace;
 
-fn is_settled_kind(kind: u8) -> bool
-    ensures { result ≡ is_settled (class_of_kind kind) }
+fn is_file_or_dir_kind(kind: u8) -> bool
+    ensures { result ≡ is_file_or_dir (class_of_kind kind) }
 {
     kind != 0 && kind != 15
 }
@@ -35,21 +35,24 @@ fn is_settled_kind(kind: u8) -> bool
 // How many files and directories there are.
 fn file_count(kinds: &[u8]) -> u32
     requires { length kinds.now < 2 ^ 32 }
-    ensures { result ≡ count_by (λ x. is_settled (class_in kinds.now x)) (range_with_len 2 (length kinds.now - 2)) }
+    ensures { result ≡ count_by (λ x. is_file_or_dir (class_in kinds.now x))
+        (range_with_len 2 (length kinds.now - 2)) }
 {
     let mut files = 0;
     for inode in 2..kinds.len() {
-        files += one_if(is_settled_kind(kinds[inode]));
+        files += one_if(is_file_or_dir_kind(kinds[inode]));
     }
     files
 }
 
-// How many fragments of a group are claimed beside the reserved ones, which stand together in each group: those before the
+// How many fragments of a group are claimed beside the reserved ones, which are together in each group: those before the
 // end of the summary area in the first one, and what the group keeps for itself in another.
 fn used_in_group(geometry: &Geometry, used: &FragmentMap, group: u32) -> u32
     requires group { group < geometry.now.layout.ncg }
     requires size { used.now.size ≡ geometry.now.layout.size }
-    ensures { result ≡ count_by (λ f. is_set (bits_of used.now) f && not (is_reserved geometry.now.layout f)) (range_with_len (cgbase geometry.now.layout group) (group_size geometry.now.layout group)) }
+    ensures { result ≡ count_by (λ f. is_set (bits_of used.now) f
+        && not (is_reserved geometry.now.layout f))
+        (range_with_len (cgbase geometry.now.layout group) (group_size geometry.now.layout group)) }
 {
     let base = geometry.cgbase(group);
     let end = base + group_fragments(geometry, group);
@@ -64,7 +67,8 @@ fn used_in_group(geometry: &Geometry, used: &FragmentMap, group: u32) -> u32
 // How many fragments are claimed beside the reserved ones.
 fn used_count(geometry: &Geometry, used: &FragmentMap) -> u32
     requires { used.now.size ≡ geometry.now.layout.size }
-    ensures { result ≡ count_by (λ f. is_set (bits_of used.now) f && not (is_reserved geometry.now.layout f)) (range_with_len 0 geometry.now.layout.size) }
+    ensures { result ≡ count_by (λ f. is_set (bits_of used.now) f
+        && not (is_reserved geometry.now.layout f)) (range_with_len 0 geometry.now.layout.size) }
 {
     let mut count = 0;
     for group in 0..geometry.layout.ncg {
@@ -113,10 +117,12 @@ pub fn summary<W: Output>(
     report: &mut Report<'_, W>,
 ) -> Result<(), RunFault>
     requires { IsFor superblock.now.geometry.layout workspace.old }
-    ensures text { TellsOf (λ bytes. HoldsClaims superblock.now.geometry.layout bytes workspace.old)
-        (λ bytes. summary_of (seen superblock.now) (files_of superblock.now.geometry.layout bytes) (used_of superblock.now.geometry.layout bytes) ∷ [])
+    ensures text { PhaseReports (λ bytes. HoldsClaims superblock.now.geometry.layout bytes
+        workspace.old)
+        (λ bytes. summary_of (seen superblock.now) (files_of superblock.now.geometry.layout bytes)
+        (used_of superblock.now.geometry.layout bytes) ∷ [])
         (progress W.sink report.old) (progress W.sink report.new) result }
-    ensures unread { (device : Device) → Reads device device result }
+    ensures unread { (device : Device) → ImageAfter device device result }
     ensures held { workspace.new ≡ workspace.old }
 {
     let files = file_count(&workspace.kinds);

@@ -1,8 +1,8 @@
 //! The totals of a superblock.
 
 ghost use Rattle.std.specs.Prelude.{◌≡◌, ◌+◌, ◌<◌, ◌^◌};
-ghost use Rattle.ffs_volume.specs.Numbers.{is_count};
-ghost use Rattle.ffs_volume.specs.Groups.{has_totals};
+ghost use Rattle.ffs_volume.specs.Disk.Numbers.{is_count};
+ghost use Rattle.ffs_volume.specs.Groups.Records.{has_totals};
 ghost use Rattle.ffs_counts.specs.Totals.{AreUpTo, total_of};
 
 use ffs_layout::GroupSummary;

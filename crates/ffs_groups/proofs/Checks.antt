@@ -6,8 +6,8 @@ use Rattle.std.specs.List.{range_with_len}
 use Rattle.std.proofs.lemmas.List.FromFn.{get_or-map-range_with_len}
 use Rattle.ffs_volume.specs.declared.Layout.{Layout}
 use Rattle.ffs_volume.specs.declared.Class.{Class}
-use Rattle.ffs_volume.specs.Numbers.{u32_at, all_below}
-use Rattle.ffs_volume.specs.Groups.{Summary, has_summary, right_summary, right_frsum, group_size, are_sums}
+use Rattle.ffs_volume.specs.Disk.Numbers.{u32_at, all_below}
+use Rattle.ffs_volume.specs.Groups.Records.{Summary, has_summary, right_summary, right_frsum, group_size, are_sums}
 use Rattle.ffs_layout.specs.Group.{summary_of}
 use Rattle.ffs_groups.specs.declared.counts.Counts.{Counts}
 use Rattle.ffs_groups.specs.Check.{AreCounts, same_counts}

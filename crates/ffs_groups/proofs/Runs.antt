@@ -5,7 +5,7 @@ use Rattle.std.specs.Int.{bit_at}
 use Rattle.std.proofs.lemmas.List.Sums.{sum_by-cons, sum_by-append, count_by-le-length}
 use Rattle.std.proofs.lemmas.List.FromFn.{length-map-range_with_len}
 use Rattle.std.proofs.lemmas.Nat.Bits.{shr_and_one}
-use Rattle.ffs_volume.specs.Groups.{free_runs, run_of}
+use Rattle.ffs_volume.specs.Groups.Records.{free_runs, run_of}
 use Rattle.ffs_groups.specs.Free.{word_bits}
 
 one_run : (n : ℕ) → length (run_of (suc n)) ≤ min (suc n) 1

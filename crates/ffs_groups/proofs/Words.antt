@@ -9,10 +9,10 @@ use Rattle.std.proofs.lemmas.Nat.{mul-add-lt, mul-le, div-add-mod'}
 use Rattle.std.proofs.lemmas.Nat.Bits.{bit_at-zero, bit_at_ones}
 use Rattle.std.proofs.lemmas.List.Sums.{sum_by-cons}
 use Rattle.ffs_maps.proofs.Words.{bit_shr}
-use Rattle.ffs_volume.specs.Claims.{is_set}
-use Rattle.ffs_volume.specs.Areas.{cgbase}
+use Rattle.ffs_volume.specs.Blocks.Claims.{is_set}
+use Rattle.ffs_volume.specs.Disk.Areas.{cgbase}
 use Rattle.ffs_volume.specs.declared.Layout.{Layout}
-use Rattle.ffs_volume.specs.Groups.{is_whole, free_runs, block_bits, right_frsum, group_size}
+use Rattle.ffs_volume.specs.Groups.Records.{is_whole, free_runs, block_bits, right_frsum, group_size}
 use Rattle.ffs_groups.specs.declared.free.FreeCounts.{FreeCounts}
 use Rattle.ffs_groups.specs.Free.{word_bits, whole_in, loose_in, runs_in, Added, AreFree, free_in}
 use Rattle.ffs_groups.proofs.Sums.{sum_split}

@@ -4,8 +4,8 @@ use Rattle.ffs_volume.specs.declared.Layout.{Layout}
 use Rattle.ffs_volume.specs.declared.Class.{Class}
 use Rattle.ffs_volume.specs.declared.BlockMessage.{BlockMessage}
 use Rattle.ffs_volume.specs.declared.BlockMessage.TheVariants.{GroupMagic, FreeCounts, MapsWrong, GroupSums}
-use Rattle.ffs_volume.specs.Groups.{Summary, right_summary, right_frsum, is_magic, is_record, are_places, are_maps, are_sums}
-use Rattle.ffs_volume.specs.GroupCheck.{unless}
+use Rattle.ffs_volume.specs.Groups.Records.{Summary, right_summary, right_frsum, is_magic, is_record, are_places, are_maps, are_sums}
+use Rattle.ffs_volume.specs.Groups.GroupCheck.{unless}
 use Rattle.ffs_layout.specs.declared.group.GroupSummary.{GroupSummary}
 use Rattle.ffs_groups.specs.declared.counts.Counts.{Counts}
 use Rattle.ffs_groups.specs.declared.check.Findings.{Findings}
@@ -23,7 +23,7 @@ pub record AreCounts (v : Layout) (free : ℕ → Bool) (class : ℕ → Class) 
   pub summary : counted counts.summary ≡ right_summary v free class c
   pub runs : (k : ℕ) → slice_index counts.runs k ≡ right_frsum v free c k
 
--- what is told of a group where such things are found
+-- what is reported of a group where such things are found
 abbrev pub lines_of : Findings → ℕ → List BlockMessage
 lines_of f c =
     if f.magic then unless f.counts FreeCounts ++ (unless f.maps MapsWrong ++ unless f.sums GroupSums)

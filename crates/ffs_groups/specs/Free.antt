@@ -2,9 +2,9 @@
 use Rattle.std.specs.Prelude.{ℕ, ◌≡◌, ◌+◌, ◌<◌, Bool, not, ◌&&◌, List, map, nat_eq, nat_lt, ◌==◌, if◌then◌else◌, slice_index, count_by}
 use Rattle.std.specs.List.{range_with_len, sum_by}
 use Rattle.std.specs.Int.{bit_at}
-use Rattle.ffs_volume.specs.Groups.{is_whole, free_runs, block_bits, block_numbers, right_frsum}
+use Rattle.ffs_volume.specs.Groups.Records.{is_whole, free_runs, block_bits, block_numbers, right_frsum}
 use Rattle.ffs_volume.specs.declared.Layout.{Layout}
-use Rattle.ffs_volume.specs.Claims.{is_set}
+use Rattle.ffs_volume.specs.Blocks.Claims.{is_set}
 use Rattle.ffs_groups.specs.declared.free.FreeCounts.{FreeCounts}
 
 -- the fragments below the size whose bit in a map of used ones is clear

@@ -2,9 +2,9 @@
 
 ghost use Rattle.std.specs.Prelude.{◌≡◌, ◌+◌, ◌*◌, ◌<◌, ◌==◌, ◌&&◌, nat_le, length, slice_index};
 ghost use Rattle.std.specs.Int.{div_ceil};
-ghost use Rattle.ffs_volume.specs.Areas.{cgbase};
-ghost use Rattle.ffs_volume.specs.Numbers.{all_below};
-ghost use Rattle.ffs_volume.specs.Groups.{has_bits, is_used_inode, group_size};
+ghost use Rattle.ffs_volume.specs.Disk.Areas.{cgbase};
+ghost use Rattle.ffs_volume.specs.Disk.Numbers.{all_below};
+ghost use Rattle.ffs_volume.specs.Groups.Records.{has_bits, is_used_inode, group_size};
 ghost use Rattle.ffs_maps.specs.Bits.{bits_of};
 ghost use Rattle.ffs_groups.specs.Check.{AreCounts, AreFound, same_counts};
 ghost use Rattle.ffs_groups.specs.Free.{free_in};
@@ -14,8 +14,7 @@ use crate::counts::Counts;
 use crate::maps::{group_fragments, same_fragment_map, same_inode_map};
 use ffs_layout::{Geometry, Group, GroupSummary};
 use ffs_maps::FragmentMap;
-
-const MAGIC: u32 = 590421;
+use ffs_volume::CG_MAGIC;
 
 /// What is found in the records of a group: each is true where nothing is wrong.
 #[derive(Clone, Copy, Debug)]
@@ -52,8 +51,10 @@ fn same_runs(found: &[u32; 8], right: &[u64; 9]) -> bool
 
 // Whether the maps end within the group block.
 fn places_fit(geometry: &Geometry, found: &Group) -> bool
-    ensures { result ≡ (nat_le (found.now.iusedoff + div_ceil geometry.now.layout.ipg 8) geometry.now.layout.cgsize
-        && nat_le (found.now.freeoff + div_ceil geometry.now.layout.fpg 8) geometry.now.layout.cgsize) }
+    ensures { result ≡ (nat_le (found.now.iusedoff + div_ceil geometry.now.layout.ipg 8)
+        geometry.now.layout.cgsize
+        && nat_le (found.now.freeoff + div_ceil geometry.now.layout.fpg 8)
+        geometry.now.layout.cgsize) }
 {
     let inodes = u64::from(geometry.layout.ipg.div_ceil(8));
     let fragments = u64::from(geometry.layout.fpg.div_ceil(8));
@@ -73,10 +74,16 @@ fn maps_are_right(
     requires size { used.now.size ≡ geometry.now.layout.size }
     requires kinds { length kinds.now ≡ geometry.now.layout.ncg * geometry.now.layout.ipg }
     requires block { length block.now ≡ geometry.now.layout.cgsize }
-    ensures { result ≡ ((nat_le (found.now.iusedoff + div_ceil geometry.now.layout.ipg 8) geometry.now.layout.cgsize
-        && nat_le (found.now.freeoff + div_ceil geometry.now.layout.fpg 8) geometry.now.layout.cgsize)
-        && (has_bits block.now found.now.iusedoff geometry.now.layout.ipg (λ k. is_used_inode (class_in kinds.now) (group * geometry.now.layout.ipg + k))
-        && has_bits block.now found.now.freeoff (group_size geometry.now.layout group) (λ k. free_in (bits_of used.now) geometry.now.layout.size (cgbase geometry.now.layout group + k)))) }
+    ensures { result
+        ≡ ((nat_le (found.now.iusedoff + div_ceil geometry.now.layout.ipg 8)
+        geometry.now.layout.cgsize
+        && nat_le (found.now.freeoff + div_ceil geometry.now.layout.fpg 8)
+        geometry.now.layout.cgsize)
+        && (has_bits block.now found.now.iusedoff geometry.now.layout.ipg
+        (λ k. is_used_inode (class_in kinds.now) (group * geometry.now.layout.ipg + k))
+        && has_bits block.now found.now.freeoff (group_size geometry.now.layout group)
+        (λ k. free_in (bits_of used.now) geometry.now.layout.size
+        (cgbase geometry.now.layout group + k)))) }
 {
     places_fit(geometry, found)
         && same_inode_map(geometry, kinds, group, block, found.iusedoff)
@@ -85,8 +92,10 @@ fn maps_are_right(
 
 fn sums_are_right(geometry: &Geometry, counts: &Counts, group: u32, found: &Group) -> bool
     requires { group < geometry.now.layout.ncg }
-    ensures { result ≡ (found.now.cgx == group && (found.now.ndblk == group_size geometry.now.layout group
-        && (same_counts found.now.cs counts.now.summary && all_below 8 (λ k. slice_index found.now.frsum k == slice_index counts.now.runs k)))) }
+    ensures { result ≡ (found.now.cgx == group
+        && (found.now.ndblk == group_size geometry.now.layout group
+        && (same_counts found.now.cs counts.now.summary
+        && all_below 8 (λ k. slice_index found.now.frsum k == slice_index counts.now.runs k)))) }
 {
     found.cgx == group
         && found.ndblk == group_fragments(geometry, group)
@@ -107,15 +116,18 @@ pub fn compare_group(
     requires group { group < geometry.now.layout.ncg }
     requires size { used.now.size ≡ geometry.now.layout.size }
     requires kinds { length kinds.now ≡ geometry.now.layout.ncg * geometry.now.layout.ipg }
-    requires counts { AreCounts geometry.now.layout (free_in (bits_of used.now) geometry.now.layout.size) (class_in kinds.now) group counts.now }
+    requires counts { AreCounts geometry.now.layout
+        (free_in (bits_of used.now) geometry.now.layout.size) (class_in kinds.now) group
+        counts.now }
     requires summary { length summary.now ≡ 16 }
     requires block { length block.now ≡ geometry.now.layout.cgsize }
-    ensures { AreFound geometry.now.layout (free_in (bits_of used.now) geometry.now.layout.size) (class_in kinds.now) group summary.now block.now result }
+    ensures { AreFound geometry.now.layout (free_in (bits_of used.now) geometry.now.layout.size)
+        (class_in kinds.now) group summary.now block.now result }
 {
     let found = Group::decode(geometry.layout.order, block);
     let record = GroupSummary::decode(geometry.layout.order, 0, summary);
     Findings {
-        magic: found.magic == MAGIC,
+        magic: found.magic == CG_MAGIC,
         counts: same_summary(&record, &counts.summary),
         maps: maps_are_right(geometry, used, kinds, group, &found, block),
         sums: sums_are_right(geometry, counts, group, &found),

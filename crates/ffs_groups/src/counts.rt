@@ -24,7 +24,8 @@ pub fn group_counts(geometry: &Geometry, used: &FragmentMap, kinds: &[u8], group
     requires group { group < geometry.now.layout.ncg }
     requires size { used.now.size ≡ geometry.now.layout.size }
     requires kinds { length kinds.now ≡ geometry.now.layout.ncg * geometry.now.layout.ipg }
-    ensures { AreCounts geometry.now.layout (free_in (bits_of used.now) geometry.now.layout.size) (class_in kinds.now) group result }
+    ensures { AreCounts geometry.now.layout (free_in (bits_of used.now) geometry.now.layout.size)
+        (class_in kinds.now) group result }
 {
     let free = free_counts(geometry, used, group);
     let inodes = inode_counts(geometry, kinds, group);

@@ -1,7 +1,7 @@
 //! The free blocks and fragments of a cylinder group.
 
 ghost use Rattle.std.specs.Prelude.{ℕ, ◌≡◌, ◌+◌, ◌-◌, ◌*◌, ◌/◌, ◌^◌, ◌<◌, ◌≤◌, true, false, slice_index, length, count_by, ◌==◌};
-ghost use Rattle.ffs_volume.specs.Groups.{is_whole, free_runs, run_of, right_summary, right_frsum, block_bits};
+ghost use Rattle.ffs_volume.specs.Groups.Records.{is_whole, free_runs, run_of, right_summary, right_frsum, block_bits};
 ghost use Rattle.ffs_maps.specs.Bits.{bits_of};
 ghost use Rattle.ffs_groups.specs.Free.{word_bits, whole_in, loose_in, runs_in, AreBelow, Added, AreFree, free_in};
 
@@ -27,7 +27,8 @@ impl FreeCounts {
         requires below { AreBelow (2 ^ 64 - 1) self.old }
         ensures blocks { self.new.blocks ≡ self.old.blocks }
         ensures fragments { self.new.fragments ≡ self.old.fragments }
-        ensures runs { (k : ℕ) → slice_index self.new.runs k ≡ slice_index self.old.runs k + count_by (λ n. n == k) (run_of run) }
+        ensures runs { (k : ℕ) → slice_index self.new.runs k
+            ≡ slice_index self.old.runs k + count_by (λ n. n == k) (run_of run) }
     {
         if run > 0 {
             self.runs[run as usize] += 1;
@@ -39,8 +40,11 @@ impl FreeCounts {
         requires frag { frag ≤ 8 }
         requires below { AreBelow (2 ^ 63) self.old }
         ensures blocks { self.new.blocks ≡ self.old.blocks }
-        ensures fragments { self.new.fragments ≡ self.old.fragments + count_by (λ f. f) (word_bits bits 0 frag) }
-        ensures runs { (k : ℕ) → slice_index self.new.runs k ≡ slice_index self.old.runs k + count_by (λ n. n == k) (free_runs 0 (word_bits bits 0 frag)) }
+        ensures fragments { self.new.fragments
+            ≡ self.old.fragments + count_by (λ f. f) (word_bits bits 0 frag) }
+        ensures runs { (k : ℕ) → slice_index self.new.runs k
+            ≡ slice_index self.old.runs k + count_by (λ n. n == k)
+            (free_runs 0 (word_bits bits 0 frag)) }
     {
         let mut run = 0;
         for place in 0..frag {
@@ -60,8 +64,10 @@ impl FreeCounts {
         requires frag { frag ≤ 8 }
         requires below { AreBelow (2 ^ 63) self.old }
         ensures blocks { self.new.blocks ≡ self.old.blocks + whole_in (word_bits bits 0 frag) }
-        ensures fragments { self.new.fragments ≡ self.old.fragments + loose_in (word_bits bits 0 frag) }
-        ensures runs { (k : ℕ) → slice_index self.new.runs k ≡ slice_index self.old.runs k + runs_in k (word_bits bits 0 frag) }
+        ensures fragments { self.new.fragments
+            ≡ self.old.fragments + loose_in (word_bits bits 0 frag) }
+        ensures runs { (k : ℕ) → slice_index self.new.runs k
+            ≡ slice_index self.old.runs k + runs_in k (word_bits bits 0 frag) }
     {
         let full = (1u64 << frag) - 1;
         if bits & full == full {
@@ -99,7 +105,8 @@ pub fn free_counts(geometry: &Geometry, used: &FragmentMap, group: u32) -> FreeC
     requires size { used.now.size ≡ geometry.now.layout.size }
     ensures blocks_fit { result.blocks < 2 ^ 32 }
     ensures fragments_fit { result.fragments < 2 ^ 32 }
-    ensures right { AreFree geometry.now.layout (free_in (bits_of used.now) geometry.now.layout.size) group result }
+    ensures right { AreFree geometry.now.layout
+        (free_in (bits_of used.now) geometry.now.layout.size) group result }
 {
     let frag = geometry.layout.frag;
     let base = u64::from(geometry.cgbase(group));

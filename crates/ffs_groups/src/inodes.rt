@@ -1,9 +1,9 @@
 //! The inodes of a cylinder group.
 
 ghost use Rattle.std.specs.Prelude.{◌≡◌, ◌+◌, ◌*◌, ◌<◌, length, count_by, not, if◌then◌else◌};
-ghost use Rattle.ffs_volume.specs.Inodes.{is_dir_class};
-ghost use Rattle.ffs_volume.specs.Groups.{is_used_class, is_used_inode, is_dir, group_inodes};
-ghost use Rattle.ffs_volume.specs.Kinds.{class_of_kind};
+ghost use Rattle.ffs_volume.specs.Blocks.Inodes.{is_directory, is_allocated};
+ghost use Rattle.ffs_volume.specs.Groups.Records.{is_used_inode, is_dir, group_inodes};
+ghost use Rattle.ffs_volume.specs.Encodings.Kinds.{class_of_kind};
 ghost use Rattle.ffs_groups.specs.Inodes.{class_in};
 
 use ffs_layout::Geometry;
@@ -16,13 +16,13 @@ pub struct InodeCounts {
 }
 
 fn is_dir_kind(kind: u8) -> bool
-    ensures { result ≡ is_dir_class (class_of_kind kind) }
+    ensures { result ≡ is_directory (class_of_kind kind) }
 {
     kind == 4 || kind == 5
 }
 
 fn is_used_kind(kind: u8) -> bool
-    ensures { result ≡ is_used_class (class_of_kind kind) }
+    ensures { result ≡ is_allocated (class_of_kind kind) }
 {
     kind != 0
 }
@@ -52,8 +52,10 @@ fn one_if(holds: bool) -> u32
 pub fn inode_counts(geometry: &Geometry, kinds: &[u8], group: u32) -> InodeCounts
     requires group { group < geometry.now.layout.ncg }
     requires kinds { length kinds.now ≡ geometry.now.layout.ncg * geometry.now.layout.ipg }
-    ensures dirs { result.dirs ≡ count_by (is_dir (class_in kinds.now)) (group_inodes geometry.now.layout group) }
-    ensures free { result.free ≡ count_by (λ x. not (is_used_inode (class_in kinds.now) x)) (group_inodes geometry.now.layout group) }
+    ensures dirs { result.dirs ≡ count_by (is_dir (class_in kinds.now))
+        (group_inodes geometry.now.layout group) }
+    ensures free { result.free ≡ count_by (λ x. not (is_used_inode (class_in kinds.now) x))
+        (group_inodes geometry.now.layout group) }
 {
     let first = group as usize * geometry.layout.ipg as usize;
     let mut counts = InodeCounts { dirs: 0, free: 0 };

@@ -4,9 +4,9 @@
 
 ghost use Rattle.std.specs.Prelude.{ℕ, ◌≡◌, ◌≢◌, ◌+◌, ◌*◌, ◌<◌, ◌≤◌, length, nat_eq};
 ghost use Rattle.std.specs.Int.{bit_at, div_ceil};
-ghost use Rattle.ffs_volume.specs.Numbers.{all_below};
-ghost use Rattle.ffs_volume.specs.Areas.{cgbase};
-ghost use Rattle.ffs_volume.specs.Groups.{bit_at as map_bit, same_bit, has_bits, is_used_inode, group_size};
+ghost use Rattle.ffs_volume.specs.Disk.Numbers.{all_below};
+ghost use Rattle.ffs_volume.specs.Disk.Areas.{cgbase};
+ghost use Rattle.ffs_volume.specs.Groups.Records.{bit_at as map_bit, same_bit, has_bits, is_used_inode, group_size};
 ghost use Rattle.ffs_maps.specs.Bits.{bits_of};
 ghost use Rattle.ffs_groups.specs.Free.{free_in};
 ghost use Rattle.ffs_groups.specs.Inodes.{class_in};
@@ -42,7 +42,8 @@ fn with_bit(word: u64, place: u32, bit: bool) -> u64
 fn used_word(kinds: &[u8], first: usize, count: u32) -> u64
     requires count { count ≤ 64 }
     requires inside { first + count ≤ length kinds.now }
-    ensures { (k : ℕ) → k < count → nat_eq (bit_at result k) 1 ≡ is_used_inode (class_in kinds.now) (first + k) }
+    ensures { (k : ℕ) → k < count → nat_eq (bit_at result k) 1
+        ≡ is_used_inode (class_in kinds.now) (first + k) }
 {
     let mut word = 0;
     for place in 0..count {
@@ -55,7 +56,8 @@ fn used_word(kinds: &[u8], first: usize, count: u32) -> u64
 fn same_bits(found: u64, right: u64, count: u32) -> bool
     requires some { 0 < count }
     requires count { count ≤ 64 }
-    ensures { result ≡ all_below count (λ k. same_bit (nat_eq (bit_at found k) 1) (nat_eq (bit_at right k) 1)) }
+    ensures { result ≡ all_below count
+        (λ k. same_bit (nat_eq (bit_at found k) 1) (nat_eq (bit_at right k) 1)) }
 {
     (found ^ right) & (u64::MAX >> (64 - count)) == 0
 }
@@ -71,7 +73,8 @@ pub fn same_inode_map(
     requires group { group < geometry.now.layout.ncg }
     requires kinds { length kinds.now ≡ geometry.now.layout.ncg * geometry.now.layout.ipg }
     requires inside { place + div_ceil geometry.now.layout.ipg 8 ≤ length block.now }
-    ensures { result ≡ has_bits block.now place geometry.now.layout.ipg (λ k. is_used_inode (class_in kinds.now) (group * geometry.now.layout.ipg + k)) }
+    ensures { result ≡ has_bits block.now place geometry.now.layout.ipg
+        (λ k. is_used_inode (class_in kinds.now) (group * geometry.now.layout.ipg + k)) }
 {
     let inodes = geometry.layout.ipg;
     let first = group as usize * inodes as usize;
@@ -91,7 +94,7 @@ pub fn same_inode_map(
 }
 
 /// How many fragments a group has.
-#[tactic(auto, unfolding(ffs_volume::specs::Areas::cgbase))]
+#[tactic(auto, unfolding(ffs_volume::specs::Disk::Areas::cgbase))]
 pub fn group_fragments(geometry: &Geometry, group: u32) -> u32
     requires { group < geometry.now.layout.ncg }
     ensures value { result ≡ group_size geometry.now.layout group }
@@ -114,7 +117,9 @@ pub fn same_fragment_map(
     requires group { group < geometry.now.layout.ncg }
     requires size { used.now.size ≡ geometry.now.layout.size }
     requires inside { place + div_ceil geometry.now.layout.fpg 8 ≤ length block.now }
-    ensures { result ≡ has_bits block.now place (group_size geometry.now.layout group) (λ k. free_in (bits_of used.now) geometry.now.layout.size (cgbase geometry.now.layout group + k)) }
+    ensures { result ≡ has_bits block.now place (group_size geometry.now.layout group)
+        (λ k. free_in (bits_of used.now) geometry.now.layout.size
+        (cgbase geometry.now.layout group + k)) }
 {
     let fragments = group_fragments(geometry, group);
     let base = u64::from(geometry.cgbase(group));

@@ -20,9 +20,9 @@ joined at xs ys bytes p q =
     ∙ sym (take-add (length xs) (length ys) (drop at bytes))
     ∙ ap (λ n. take n (drop at bytes)) (sym (length-append xs ys))
 
-pub filled_more : (told : Option (List ℕ)) (at f n : ℕ) (xs ys : List ℕ) → f ≤ length xs → n ≤ length ys → AreAt told at (take f xs) → AreAt told (at + f) (take n ys) →
-    AreAt told at (take (f + n) (put_mid f (length xs - f) xs ys))
-filled_more told at f n xs ys p q before more bytes t =
+pub filled_more : (contents : Option (List ℕ)) (at f n : ℕ) (xs ys : List ℕ) → f ≤ length xs → n ≤ length ys → AreAt contents at (take f xs) → AreAt contents (at + f) (take n ys) →
+    AreAt contents at (take (f + n) (put_mid f (length xs - f) xs ys))
+filled_more contents at f n xs ys p q before more bytes t =
     let len : length (take f xs) ≡ f = length-take-le f xs p in
     let both = joined at (take f xs) (take n ys) bytes (before bytes t) (more bytes t ∙ ap (λ m. take (length (take n ys)) (drop (at + m) bytes)) (sym len)) in
     pieces f n xs ys p q ∙ both ∙ ap (λ zs. take (length zs) (drop at bytes)) (sym (pieces f n xs ys p q))

@@ -1,7 +1,7 @@
 -- The bytes at a place of a source.
 use Rattle.std.specs.Prelude.{◌≡◌, ℕ, List, length, drop, take, Option}
-use Rattle.ffs_image.specs.Device.{WhereTold}
+use Rattle.ffs_image.specs.Device.{ForContents}
 
--- these are the bytes at a place, where a source tells its bytes
+-- these are the bytes at a place, where a source reports its bytes
 abbrev pub AreAt : Option (List ℕ) → ℕ → List ℕ → Type 0
-AreAt told at xs = WhereTold told (λ bytes. xs ≡ take (length xs) (drop at bytes))
+AreAt told at xs = ForContents told (λ bytes. xs ≡ take (length xs) (drop at bytes))

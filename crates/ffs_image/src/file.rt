@@ -33,7 +33,7 @@ impl FileImage {
 impl Image for FileImage {
     ghost use Rattle.std.specs.Prelude.{None};
 
-    ghost device = { λ f. record { told = None; size = f.opened.size; failures = f.opened.failures; failed = f.failed } };
+    ghost device = { λ f. record { contents = None; size = f.opened.size; failures = f.opened.failures; failed = f.failed } };
 
     ghost sized = { λ _. tt };
 

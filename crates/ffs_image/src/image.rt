@@ -30,7 +30,8 @@ pub trait Image {
         requires { at + length buf.old ≤ (device self.old).size }
         ensures bytes { OnOk result (IsAt (device self.old) at buf.new) }
         ensures ok { OnOk result (device self.new ≡ device self.old) }
-        ensures err { IfErr result (λ fault. Faulted (device self.old) (device self.new) fault.sector) }
+        ensures err { IfErr result (λ fault. Faulted (device self.old) (device self.new)
+            fault.sector) }
         ensures sector { IfErr result (λ fault. fault.sector ≡ at / 512) };
 
     ghost sized: { (image : Self) → IsSized (device image) };

@@ -29,7 +29,7 @@ impl MemoryImage {
 impl Image for MemoryImage {
     ghost use Rattle.std.specs.Prelude.{length, Some, refl};
 
-    ghost device = { λ m. record { told = Some m; size = length m; failures = 0; failed = 0 } };
+    ghost device = { λ m. record { contents = Some m; size = length m; failures = 0; failed = 0 } };
 
     ghost sized = { λ _. refl };
 

@@ -20,7 +20,8 @@ pub(crate) struct OpenedFile {
 
 // The place of its end, so that a block device has its size too.
 fn end_of<S: Seek>(file: &mut S) -> io::Result<u64>
-    ensures { IfOk result (λ end. IfSome (S.stream_position file.old) (λ _. IfSome (S.stream_bytes file.old) (λ bytes. end ≡ length bytes))) }
+    ensures { IfOk result (λ end. IfSome (S.stream_position file.old)
+        (λ _. IfSome (S.stream_bytes file.old) (λ bytes. end ≡ length bytes))) }
 {
     file.seek(SeekFrom::End(0))
 }

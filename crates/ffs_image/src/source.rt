@@ -9,7 +9,7 @@ pub(crate) struct SourceFault;
 
 /// What can be read at a place, and nothing else.
 pub(crate) trait Source {
-    /// Its bytes, where it tells them.
+    /// Its bytes, where it gives them.
     ghost told: { Self → Option (List ℕ) };
 
     /// Its size in bytes.
@@ -32,8 +32,8 @@ pub(crate) trait Source {
 /// Fills the buffer with the bytes at a place. The first read that fails ends it.
 pub(crate) fn fill<S: Source>(source: &mut S, at: u64, buf: &mut [u8]) -> Result<(), SourceFault>
     requires { at + length buf.old < 2 ^ 64 }
-    ensures bytes { OnOk result (AreAt (S.told source.old) at buf.new) }
-    ensures told { S.told source.new ≡ S.told source.old }
+    ensures bytes { OnOk result (AreAt (S.contents source.old) at buf.new) }
+    ensures told { S.contents source.new ≡ S.contents source.old }
     ensures size { S.size source.new ≡ S.size source.old }
     ensures ok { OnOk result (S.failures source.new ≡ S.failures source.old) }
     ensures err { OnErr result (Rose (S.failures source.old) (S.failures source.new)) }

@@ -1,4 +1,4 @@
--- The outcome, from what a read tells.
+-- The outcome, from what a read gives.
 use Rattle.std.proofs.Common.{◌≡◌, ℕ, ◌+◌, ◌*◌, ◌/◌, ◌<◌, ◌≤◌, true, false, List, length, Option, Some, None, Ok, Err, arith, sym, ◌∙◌, ap}
 use Rattle.ffs_volume.specs.declared.Order.{Order}
 use Rattle.ffs_volume.specs.declared.Layout.{Layout}
@@ -6,10 +6,10 @@ use Rattle.ffs_layout.specs.Super.{IsCopySector}
 use Rattle.std.specs.Prelude.{take, drop}
 use Rattle.ffs_volume.specs.declared.SuperFault.{SuperFault}
 use Rattle.ffs_volume.specs.declared.SuperFault.TheVariants.{CannotRead, Magic, Disagree}
-use Rattle.ffs_volume.specs.Numbers.{piece}
-use Rattle.ffs_volume.specs.Superblock.{order_of, layout_of, superblock_of}
-use Rattle.ffs_volume.specs.Outcome.{super_sector, layout_fault, copy_agrees, copy_place, super_bytes, outcome}
-use Rattle.ffs_volume.specs.OutcomeLaws.{outcome_past_end, outcome_magic, outcome_fault, outcome_disagree, outcome_ok}
+use Rattle.ffs_volume.specs.Disk.Numbers.{piece}
+use Rattle.ffs_volume.specs.Disk.Superblock.{order_of, layout_of, superblock_of}
+use Rattle.ffs_volume.specs.Disk.Outcome.{super_sector, layout_fault, copy_agrees, copy_place, super_bytes, outcome}
+use Rattle.ffs_volume.proofs.OutcomeLaws.{outcome_past_end, outcome_magic, outcome_fault, outcome_disagree, outcome_ok}
 
 -- as many bytes as were asked for
 pub taken : (at n : ℕ) (b xs : List ℕ) → length xs ≡ n → xs ≡ take (length xs) (drop at b) → xs ≡ piece at n b
@@ -26,33 +26,33 @@ read_at count start at sector e start_is h =
 pub sector_is : (at sector : ℕ) → CannotRead at ≡ CannotRead sector → at ≡ sector
 sector_is at sector e = cc
 
-module _ (told : Option (List ℕ)) (count : ℕ) (sector : Option ℕ) (start : ℕ) (long : (b : List ℕ) → told ≡ Some b → length b ≡ count) (start_is : start ≡ super_sector sector) where
-  pub past_end : count < start * 512 + 1376 → (b : List ℕ) → told ≡ Some b → outcome b sector ≡ Err (CannotRead start)
+module _ (contents : Option (List ℕ)) (count : ℕ) (sector : Option ℕ) (start : ℕ) (long : (b : List ℕ) → contents ≡ Some b → length b ≡ count) (start_is : start ≡ super_sector sector) where
+  pub past_end : count < start * 512 + 1376 → (b : List ℕ) → contents ≡ Some b → outcome b sector ≡ Err (CannotRead start)
   past_end h b e =
       let size = long b e in
       let short : length b < super_sector sector * 512 + 1376 = omega arith in
       outcome_past_end b sector short ∙ ap (λ (at : ℕ). Err (CannotRead at)) (sym start_is)
 
-  module _ (bytes : List ℕ) (inside : start * 512 + 1376 ≤ count) (read : (b : List ℕ) → told ≡ Some b → bytes ≡ piece (start * 512) 1376 b) where
-    fits : (b : List ℕ) → told ≡ Some b → super_sector sector * 512 + 1376 ≤ length b
+  module _ (bytes : List ℕ) (inside : start * 512 + 1376 ≤ count) (read : (b : List ℕ) → contents ≡ Some b → bytes ≡ piece (start * 512) 1376 b) where
+    fits : (b : List ℕ) → contents ≡ Some b → super_sector sector * 512 + 1376 ≤ length b
     fits b e = let size = long b e in omega arith
 
-    same : (b : List ℕ) → told ≡ Some b → bytes ≡ piece (super_sector sector * 512) 1376 b
+    same : (b : List ℕ) → contents ≡ Some b → bytes ≡ piece (super_sector sector * 512) 1376 b
     same b e = rw start_is at (read b e)
 
-    pub magic : order_of bytes ≡ None → (b : List ℕ) → told ≡ Some b → outcome b sector ≡ Err Magic
+    pub magic : order_of bytes ≡ None → (b : List ℕ) → contents ≡ Some b → outcome b sector ≡ Err Magic
     magic none b e = outcome_magic b sector bytes (fits b e) (same b e) none
 
     module _ (order : Order) (order_is : order_of bytes ≡ Some order) where
-      pub fault : (f : SuperFault) → layout_fault (layout_of order bytes) count ≡ Some f → (b : List ℕ) → told ≡ Some b → outcome b sector ≡ Err f
+      pub fault : (f : SuperFault) → layout_fault (layout_of order bytes) count ≡ Some f → (b : List ℕ) → contents ≡ Some b → outcome b sector ≡ Err f
       fault f h b e = outcome_fault b sector bytes (fits b e) (same b e) order order_is f (ap (layout_fault (layout_of order bytes)) (long b e) ∙ h)
 
-      pub copy_sector : (v : Layout) → v ≡ layout_of order bytes → (failed : ℕ) → failed ≡ copy_place v / 512 → (b : List ℕ) → told ≡ Some b → IsCopySector (super_bytes b sector) failed
+      pub copy_sector : (v : Layout) → v ≡ layout_of order bytes → (failed : ℕ) → failed ≡ copy_place v / 512 → (b : List ℕ) → contents ≡ Some b → IsCopySector (super_bytes b sector) failed
       copy_sector v v_is failed h b e = rw (← same b e, order_is) (rw v_is at h)
 
       module _ (good : layout_fault (layout_of order bytes) count ≡ None) where
-        pub disagree : ((b : List ℕ) → told ≡ Some b → copy_agrees b sector order bytes ≡ false) → (b : List ℕ) → told ≡ Some b → outcome b sector ≡ Err Disagree
+        pub disagree : ((b : List ℕ) → contents ≡ Some b → copy_agrees b sector order bytes ≡ false) → (b : List ℕ) → contents ≡ Some b → outcome b sector ≡ Err Disagree
         disagree h b e = outcome_disagree b sector bytes (fits b e) (same b e) order order_is (ap (layout_fault (layout_of order bytes)) (long b e) ∙ good) (h b e)
 
-        pub accepted : ((b : List ℕ) → told ≡ Some b → copy_agrees b sector order bytes ≡ true) → (b : List ℕ) → told ≡ Some b → outcome b sector ≡ Ok (superblock_of order bytes)
+        pub accepted : ((b : List ℕ) → contents ≡ Some b → copy_agrees b sector order bytes ≡ true) → (b : List ℕ) → contents ≡ Some b → outcome b sector ≡ Ok (superblock_of order bytes)
         accepted h b e = outcome_ok b sector bytes (fits b e) (same b e) order order_is (ap (layout_fault (layout_of order bytes)) (long b e) ∙ good) (h b e)

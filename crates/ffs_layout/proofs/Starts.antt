@@ -2,15 +2,15 @@
 use Rattle.std.proofs.Common.{◌≡◌, ◌*◌, ℤ, pos, negsuc, ◌*ℤ◌, arith, refl, suc}
 use Rattle.std.specs.Prelude.{unsigned_abs}
 use Rattle.ffs_volume.specs.declared.Layout.{Layout}
-use Rattle.ffs_volume.specs.Numbers.{natural}
-use Rattle.ffs_volume.specs.Areas.{shift, cgbase, cgstart, cgdmin}
+use Rattle.ffs_volume.specs.Disk.Numbers.{natural}
+use Rattle.ffs_volume.specs.Disk.Areas.{cgoffset_of, cgbase, cgstart, cgdmin}
 
 no_product : (x : ℤ) → natural (x *ℤ pos 0) ≡ 0
 no_product (pos n) = omega arith
 no_product (negsuc n) = let h : suc n * 0 ≡ 0 = omega arith in rw h refl
 
 pub data_start : (v : Layout) → cgdmin v 0 ≡ v.dblkno
-unfolding shift cgbase cgstart
+unfolding cgoffset_of cgbase cgstart
 data_start v = let e = no_product v.cgoffset in omega (arith, e)
 
 pub abs_is : (z : ℤ) → z ≡ pos (natural z) → unsigned_abs z ≡ natural z

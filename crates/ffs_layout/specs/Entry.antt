@@ -1,7 +1,7 @@
 -- An entry of a directory in memory, as the definitions see it.
-use Rattle.ffs_volume.specs.Directory.{Entry as EntryIn}
+use Rattle.ffs_volume.specs.Directories.Entries.{Entry as EntryIn}
 use Rattle.ffs_layout.specs.declared.entry.Entry.{Entry}
 
 -- its numbers, and the bytes of its name
-abbrev pub seen_entry : Entry → EntryIn
-seen_entry e = record { number = e.number; length = e.length; kind = e.kind; name = e.name.now }
+abbrev pub entry_value : Entry → EntryIn
+entry_value e = record { number = e.number; length = e.length; kind = e.kind; name = e.name.now }

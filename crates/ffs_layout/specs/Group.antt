@@ -2,7 +2,7 @@
 use Rattle.std.specs.Prelude.{ℕ, ◌+◌, ◌*◌, List, map}
 use Rattle.std.specs.List.{range_with_len}
 use Rattle.ffs_volume.specs.declared.Order.{Order}
-use Rattle.ffs_volume.specs.Numbers.{u32_at}
+use Rattle.ffs_volume.specs.Disk.Numbers.{u32_at}
 use Rattle.ffs_layout.specs.declared.group.Group.{Group}
 use Rattle.ffs_layout.specs.declared.group.GroupSummary.{GroupSummary}
 

@@ -1,16 +1,16 @@
--- What a superblock in memory stands for.
+-- The value of a superblock in memory.
 use Rattle.std.specs.Prelude.{◌≡◌, ℕ, ◌+◌, ◌*◌, ◌<◌, ◌/◌, ◌⊎◌, List, Option, IsSomeAnd, Some, None, Result, Ok, Err}
 use Rattle.ffs_volume.specs.declared.SuperFault.{SuperFault}
-use Rattle.ffs_volume.specs.Outcome.{super_sector, super_bytes, copy_place, outcome}
+use Rattle.ffs_volume.specs.Disk.Outcome.{super_sector, super_bytes, copy_place, outcome}
 use Rattle.ffs_image.specs.Device.{Device, Faulted}
 use Rattle.ffs_layout.specs.Reads.{ReadFailed}
 use Rattle.ffs_layout.specs.declared.superblock.Super.{Super}
-use Rattle.ffs_volume.specs.Superblock.{Superblock, order_of, layout_of}
+use Rattle.ffs_volume.specs.Disk.Superblock.{Superblock, order_of, layout_of}
 
 abbrev pub seen : Super → Superblock
 seen s = record { layout = s.geometry.layout; optim = s.optim; minfree = s.minfree; cstotal = s.cstotal; mount = s.mount }
 
--- The superblock that an answer stands for, or its fault.
+-- The superblock of an answer, or its fault.
 abbrev pub found_of : Result Super SuperFault → Result Superblock SuperFault
 found_of (Ok super) = Ok (seen super)
 found_of (Err fault) = Err fault
@@ -24,11 +24,11 @@ abbrev pub IsSuperSector : List ℕ → Option ℕ → ℕ → Type 0
 IsSuperSector image sector failed =
     (failed ≡ super_sector sector) ⊎ ((sector ≡ None) × IsCopySector (super_bytes image sector) failed)
 
--- What may be found: the fault of a failed read, or, where the image tells its bytes, their outcome.
+-- What may be found: the fault of a failed read, or, where the image gives its bytes, their outcome.
 abbrev pub Answers : Device → Device → Option ℕ → Result Superblock SuperFault → Type 0
 Answers old new sector found =
-    (ReadFailed found old new × ((b : List ℕ) → old.told ≡ Some b → IsSuperSector b sector new.failed))
-    ⊎ ((new ≡ old) × ((b : List ℕ) → old.told ≡ Some b → found ≡ outcome b sector))
+    (ReadFailed found old new × ((b : List ℕ) → old.contents ≡ Some b → IsSuperSector b sector new.failed))
+    ⊎ ((new ≡ old) × ((b : List ℕ) → old.contents ≡ Some b → found ≡ outcome b sector))
 
 -- Why the superblock at a sector can't be read: a read failed there, or it lies past the end.
 abbrev pub IsUnread : Device → Device → Option ℕ → ℕ → Type 0

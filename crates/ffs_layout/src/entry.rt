@@ -1,9 +1,9 @@
 //! One entry of a directory.
 
 ghost use Rattle.std.specs.Prelude.{◌≡◌, ◌+◌, ◌≤◌, length, option_map, slice_index, IfSome, Some};
-ghost use Rattle.ffs_volume.specs.Numbers.{piece};
-ghost use Rattle.ffs_volume.specs.Directory.{entry_at as entry_in, is_held as held, is_length as fits, is_name as named};
-ghost use Rattle.ffs_layout.specs.Entry.{seen_entry};
+ghost use Rattle.ffs_volume.specs.Disk.Numbers.{piece};
+ghost use Rattle.ffs_volume.specs.Directories.Entries.{entry_at as entry_in, is_held as held, is_length as fits, is_name as named};
+ghost use Rattle.ffs_layout.specs.Entry.{entry_value};
 
 use crate::numbers::{u16_at, u32_at};
 use ffs_volume::Order;
@@ -20,7 +20,7 @@ pub struct Entry<'a> {
     pub name: &'a [u8],
 }
 
-// Whether a record of this length may stand at the place.
+// Whether a record of this length may be at the place.
 fn is_length(place: usize, len: u16) -> bool
     requires { place ≤ 512 }
     ensures { result ≡ fits place len }
@@ -49,17 +49,19 @@ fn is_held(chunk: &[u8; 512], place: usize, len: u16) -> bool
         && is_name(chunk, place)
 }
 
-/// The well formed entry at a place of a chunk, and None where none stands there (dir(5)).
+/// The well formed entry at a place of a chunk, and None where none is there (dir(5)).
 ///
-/// At byte 0 of its record stands the number (u32), at 4 the record's length (u16), at 6 the type (u8), at 7 the name's
+/// At byte 0 is the number (u32), at 4 the record's length (u16), at 6 the type (u8), at 7 the name's
 /// length (u8), from 8 on the name and a NUL. The name of an entry with the number 0 is empty.
-#[tactic(auto, unfolding(ffs_volume::specs::Directory::entry_at, ffs_volume::specs::Directory::is_well_formed, ffs_volume::specs::Directory::entry_there))]
+#[tactic(auto, unfolding(ffs_volume::specs::Directories::Entries::entry_at, ffs_volume::specs::Directories::Entries::is_well_formed, ffs_volume::specs::Directories::Entries::entry_there))]
 pub fn entry_at(order: Order, chunk: &[u8; 512], place: usize) -> Option<Entry<'_>>
     requires { place ≤ 512 }
-    ensures value { option_map seen_entry result ≡ entry_in order chunk.now place }
-    ensures some { IfSome result (λ e. entry_in order chunk.now place ≡ Some (seen_entry e)) }
+    ensures value { option_map entry_value result ≡ entry_in order chunk.now place }
+    ensures some { IfSome result (λ e. entry_in order chunk.now place ≡ Some (entry_value e)) }
     ensures room { IfSome result (λ e. (8 ≤ e.length) × (place + e.length ≤ 512)) }
-    ensures name { IfSome result (λ e. (e.name.now ≡ piece (place + 8) (length e.name.now) chunk.now) × (place + 8 + length e.name.now ≤ 512)) }
+    ensures name { IfSome result (λ
+        e. (e.name.now ≡ piece (place + 8) (length e.name.now) chunk.now)
+        × (place + 8 + length e.name.now ≤ 512)) }
 {
     if place > 504 {
         return None;

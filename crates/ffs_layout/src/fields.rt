@@ -6,28 +6,28 @@ use crate::geometry::Geometry;
 
 /// Each reader's documentation gives the place in the superblock, in bytes, and the width of the field that it reads.
 impl Geometry {
-    /// How many fragments behind `cgstart` a group's copy of the superblock stands (place 8, i32).
+    /// How many fragments after `cgstart` a group's copy of the superblock is (place 8, i32).
     pub fn sblkno(&self) -> u32
         ensures { result ≡ self.now.layout.sblkno }
     {
         self.layout.sblkno
     }
 
-    /// How many fragments behind `cgstart` a group's group block stands (place 12, i32).
+    /// How many fragments after `cgstart` a group's group block is (place 12, i32).
     pub fn cblkno(&self) -> u32
         ensures { result ≡ self.now.layout.cblkno }
     {
         self.layout.cblkno
     }
 
-    /// How many fragments behind `cgstart` a group's inodes stand (place 16, i32).
+    /// How many fragments after `cgstart` a group's inodes are (place 16, i32).
     pub fn iblkno(&self) -> u32
         ensures { result ≡ self.now.layout.iblkno }
     {
         self.layout.iblkno
     }
 
-    /// How many fragments behind `cgstart` a group's data begins (place 20, i32).
+    /// How many fragments after `cgstart` a group's data begins (place 20, i32).
     pub fn dblkno(&self) -> u32
         ensures { result ≡ self.now.layout.dblkno }
     {
@@ -160,7 +160,7 @@ impl Geometry {
         self.layout.fpg
     }
 
-    /// Below which length, in bytes, the text of a symlink stands in its inode (place 1320, i32).
+    /// Below which length, in bytes, the text of a symlink is in its inode (place 1320, i32).
     pub fn maxsymlinklen(&self) -> u32
         ensures { result ≡ self.now.layout.maxsymlinklen }
     {

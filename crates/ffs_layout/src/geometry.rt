@@ -1,9 +1,9 @@
 //! An accepted layout, and where the parts of its volume lie.
 
 ghost use Rattle.std.specs.Prelude.{IsTrue, MatchResult, ◌≡◌, ◌<◌, ◌≤◌, ◌+◌, ◌-◌, ◌*◌, ◌^◌};
-ghost use Rattle.ffs_volume.specs.Outcome.{layout_fault};
-ghost use Rattle.ffs_volume.specs.Areas.{cgbase, cgdmin, cgsblock, cgstart, group_place, inode_place, is_in_range, is_kept, is_ok, is_reserved, summary_place};
-ghost use Rattle.ffs_volume.specs.Geometry.{IsGeometry};
+ghost use Rattle.ffs_volume.specs.Disk.Outcome.{layout_fault};
+ghost use Rattle.ffs_volume.specs.Disk.Areas.{cgbase, cgdmin, cgsblock, cgstart, group_place, inode_place, is_in_range, is_group_metadata, is_data_fragment, is_reserved, summary_place};
+ghost use Rattle.ffs_volume.specs.Disk.Geometry.{IsGeometry};
 
 use crate::groups::start_of;
 use crate::shape::fault_of;
@@ -22,11 +22,13 @@ impl Geometry {
     /// The layout as a geometry, in an image of `image_size` bytes.
     ///
     /// Errors: the first rule that refuses it.
-    #[tactic(auto, using(ffs_volume::specs::Geometry::geometry_holds))]
+    #[tactic(auto, using(ffs_volume::proofs::GeometryLaws::geometry_holds))]
     pub fn new(layout: Layout, image_size: u64) -> Result<Geometry, SuperFault>
-        ensures fault { MatchResult result (λ _. layout_fault layout image_size ≡ None) (λ e. layout_fault layout image_size ≡ Some e) }
+        ensures fault { MatchResult result (λ _. layout_fault layout image_size ≡ None)
+            (λ e. layout_fault layout image_size ≡ Some e) }
         ensures layout { MatchResult result (λ g. g.layout ≡ layout) (λ _. Unit {0}) }
-        ensures in_image { MatchResult result (λ g. g.layout.size * g.layout.fsize ≤ image_size) (λ _. Unit {0}) }
+        ensures in_image { MatchResult result (λ g. g.layout.size * g.layout.fsize ≤ image_size)
+            (λ _. Unit {0}) }
     {
         match fault_of(&layout, image_size) {
             Some(fault) => Err(fault),
@@ -42,7 +44,7 @@ impl Geometry {
     }
 
     /// The first fragment of the group (fs(5), `cgbase`).
-    #[tactic(auto, unfolding(ffs_volume::specs::Areas::cgbase))]
+    #[tactic(auto, unfolding(ffs_volume::specs::Disk::Areas::cgbase))]
     pub fn cgbase(&self, group: u32) -> u32
         requires { group < self.now.layout.ncg }
         ensures value { result ≡ cgbase self.now.layout group }
@@ -93,7 +95,7 @@ impl Geometry {
     }
 
     /// Where the inode's 128 bytes begin, in bytes (fs(5), `ino_to_fsba`).
-    #[tactic(auto, using(ffs_volume::specs::AreaLaws::inode_group))]
+    #[tactic(auto, using(ffs_volume::proofs::AreaLaws::inode_group))]
     pub fn inode_place(&self, inode: u32) -> u64
         requires { inode < self.now.layout.ncg * self.now.layout.ipg }
         ensures { result ≡ inode_place self.now.layout inode }
@@ -104,25 +106,25 @@ impl Geometry {
     }
 
     // Whether the fragment lies in the part that its group keeps for itself.
-    #[tactic(auto, using(ffs_volume::specs::AreaLaws::is_kept_group, ffs_volume::specs::AreaLaws::group_below))]
-    fn is_kept(&self, fragment: u32) -> bool
+    #[tactic(auto, using(ffs_volume::proofs::AreaLaws::is_kept_group, ffs_volume::proofs::AreaLaws::group_below))]
+    fn is_group_metadata(&self, fragment: u32) -> bool
         requires { fragment < self.now.layout.size }
-        ensures { result ≡ is_kept self.now.layout fragment }
+        ensures { result ≡ is_group_metadata self.now.layout fragment }
     {
         let group = fragment / self.layout.fpg;
         self.cgsblock(group) <= fragment && fragment < self.cgdmin(group)
     }
 
     /// Whether the fragment can belong to a file: it is in the volume, and no group keeps it for itself.
-    #[tactic(auto, unfolding(ffs_volume::specs::Areas::is_ok))]
+    #[tactic(auto, unfolding(ffs_volume::specs::Disk::Areas::is_data_fragment))]
     pub fn ok(&self, fragment: u64) -> bool
-        ensures { result ≡ is_ok self.now.layout fragment }
+        ensures { result ≡ is_data_fragment self.now.layout fragment }
     {
-        fragment < u64::from(self.layout.size) && !self.is_kept(fragment as u32)
+        fragment < u64::from(self.layout.size) && !self.is_group_metadata(fragment as u32)
     }
 
     /// Whether all fragments of the run can belong to a file, and are of one group.
-    #[tactic(auto, using(ffs_volume::specs::RunLaws::in_range_is, ffs_volume::specs::AreaLaws::group_below), unfolding(ffs_volume::specs::Areas::cgbase))]
+    #[tactic(auto, using(ffs_volume::proofs::RunLaws::in_range_is, ffs_volume::proofs::AreaLaws::group_below), unfolding(ffs_volume::specs::Disk::Areas::cgbase))]
     pub fn in_range(&self, start: u32, len: u32) -> bool
         requires { 0 < len }
         ensures { result ≡ is_in_range self.now.layout start len }
@@ -137,7 +139,7 @@ impl Geometry {
     }
 
     /// Whether the fragment is in use before any file is: boot area, summary area, or kept by a group.
-    #[tactic(auto, using(ffs_volume::specs::AreaLaws::kept_below), unfolding(ffs_volume::specs::Areas::is_reserved))]
+    #[tactic(auto, using(ffs_volume::proofs::AreaLaws::kept_below), unfolding(ffs_volume::specs::Disk::Areas::is_reserved))]
     pub fn reserved(&self, fragment: u64) -> bool
         ensures { result ≡ is_reserved self.now.layout fragment }
     {
@@ -145,6 +147,6 @@ impl Geometry {
         let fragments = self.layout.cssize.div_ceil(self.layout.fsize);
         fragment < u64::from(self.cgdmin(0))
             || (summary <= fragment && fragment < summary + u64::from(fragments))
-            || (fragment < u64::from(self.layout.size) && self.is_kept(fragment as u32))
+            || (fragment < u64::from(self.layout.size) && self.is_group_metadata(fragment as u32))
     }
 }

@@ -2,7 +2,7 @@
 
 ghost use Rattle.std.specs.Prelude.{◌≡◌, ◌≤◌, ◌+◌, ◌*◌, length, map};
 ghost use Rattle.std.specs.List.{range_with_len};
-ghost use Rattle.ffs_volume.specs.Numbers.{u32_at as u32_in};
+ghost use Rattle.ffs_volume.specs.Disk.Numbers.{u32_at as u32_in};
 ghost use Rattle.ffs_layout.specs.Group.{group_of, summary_of};
 
 use crate::numbers::u32_at;
@@ -58,7 +58,7 @@ pub struct Group {
 impl Group {
     /// The numbers in the first 168 bytes of a group block.
     ///
-    /// At byte 4 stands the magic number, at 12 the group's number, at 20 the number of its fragments, at 24 the
+    /// At byte 4 is the magic number, at 12 the group's number, at 20 the number of its fragments, at 24 the
     /// summary, at 52 the eight counts of runs, at 92 and 96 the places of the maps. Each number has 32 bits.
     pub fn decode(order: Order, bytes: &[u8]) -> Group
         requires { 168 ≤ length bytes.now }

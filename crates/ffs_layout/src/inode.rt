@@ -2,18 +2,18 @@
 
 ghost use Rattle.std.specs.Prelude.{◌≡◌, ◌≤◌, ◌+◌, ◌*◌, length, map};
 ghost use Rattle.std.specs.List.{range_with_len};
-ghost use Rattle.ffs_volume.specs.Inodes.{decoded};
-ghost use Rattle.ffs_volume.specs.Numbers.{u32_at as u32_in};
+ghost use Rattle.ffs_volume.specs.Blocks.Inodes.{decoded};
+ghost use Rattle.ffs_volume.specs.Disk.Numbers.{u32_at as u32_in};
 
 use crate::numbers::{i16_at, i32_at, u16_at, u32_at, u64_at};
 use ffs_volume::{Inode, Order};
 
 /// The inode in the first 128 bytes (fs(5), `struct dinode`).
 ///
-/// At byte 0 stands the mode (u16), at 2 the link count (i16), at 8 the size in bytes (u64), at 24 the time of
+/// At byte 0 is the mode (u16), at 2 the link count (i16), at 8 the size in bytes (u64), at 24 the time of
 /// modification in seconds (i32), from 40 on twelve direct and three indirect addresses (u32 each), at 104
 /// the blocks in sectors of 512 bytes (u32), at 112 the owner (u32).
-#[tactic(auto, unfolding(ffs_volume::specs::Inodes::decoded))]
+#[tactic(auto, unfolding(ffs_volume::specs::Blocks::Inodes::decoded))]
 pub fn decode_inode(order: Order, bytes: &[u8]) -> Inode
     requires { 128 ≤ length bytes.now }
     ensures { result ≡ decoded order bytes.now }

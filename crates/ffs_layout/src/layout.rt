@@ -1,12 +1,12 @@
 //! The layout in the bytes of a superblock.
 
 ghost use Rattle.std.specs.Prelude.{◌≡◌};
-ghost use Rattle.ffs_volume.specs.Superblock.{layout_of};
+ghost use Rattle.ffs_volume.specs.Disk.Superblock.{layout_of};
 
 use crate::numbers::{count_at, i32_at, u32_at};
 use ffs_volume::{Layout, Order};
 
-#[tactic(auto, unfolding(ffs_volume::specs::Superblock::layout_of))]
+#[tactic(auto, unfolding(ffs_volume::specs::Disk::Superblock::layout_of))]
 pub fn decode(order: Order, bytes: &[u8; 1376]) -> Layout
     ensures { result ≡ layout_of order bytes.now }
 {

@@ -1,12 +1,12 @@
 //! The rules that a layout has to meet.
 
 ghost use Rattle.std.specs.Prelude.{IsTrue, ◌≡◌, ◌<◌, ◌≤◌, ◌-◌, ◌*◌, ◌^◌};
-ghost use Rattle.ffs_volume.specs.Outcome.{are_cylinders, are_numbers, are_parts, are_sizes, is_block_size, is_fragment_count, is_fragment_size, is_shaped, is_summary, layout_fault};
+ghost use Rattle.ffs_volume.specs.Disk.Outcome.{are_cylinders, are_numbers, are_parts, are_sizes, is_block_size, is_fragment_count, is_fragment_size, is_shaped, is_summary, layout_fault};
 
 use crate::groups::groups_fit;
 use ffs_volume::{Layout, SuperFault};
 
-#[tactic(auto, unfolding(ffs_volume::specs::Outcome::is_block_size))]
+#[tactic(auto, unfolding(ffs_volume::specs::Disk::Outcome::is_block_size))]
 fn can_be_block_size(n: u32) -> bool
     ensures value { result ≡ is_block_size n }
     ensures above { IsTrue result → 4096 ≤ n }
@@ -14,7 +14,7 @@ fn can_be_block_size(n: u32) -> bool
     matches!(n, 4096 | 8192 | 16384 | 32768 | 65536)
 }
 
-#[tactic(auto, unfolding(ffs_volume::specs::Outcome::is_fragment_size))]
+#[tactic(auto, unfolding(ffs_volume::specs::Disk::Outcome::is_fragment_size))]
 fn can_be_fragment_size(n: u32) -> bool
     ensures value { result ≡ is_fragment_size n }
     ensures above { IsTrue result → 512 ≤ n }
@@ -22,7 +22,7 @@ fn can_be_fragment_size(n: u32) -> bool
     matches!(n, 512 | 1024 | 2048 | 4096 | 8192 | 16384 | 32768 | 65536)
 }
 
-#[tactic(auto, unfolding(ffs_volume::specs::Outcome::is_fragment_count))]
+#[tactic(auto, unfolding(ffs_volume::specs::Disk::Outcome::is_fragment_count))]
 fn can_be_fragment_count(n: u32) -> bool
     ensures value { result ≡ is_fragment_count n }
     ensures above { IsTrue result → 1 ≤ n }
@@ -30,7 +30,7 @@ fn can_be_fragment_count(n: u32) -> bool
     matches!(n, 1 | 2 | 4 | 8)
 }
 
-#[tactic(auto, unfolding(ffs_volume::specs::Outcome::are_sizes))]
+#[tactic(auto, unfolding(ffs_volume::specs::Disk::Outcome::are_sizes))]
 fn has_sizes(v: &Layout) -> bool
     ensures value { result ≡ are_sizes v.now }
     ensures above { IsTrue result → 512 ≤ v.now.fsize }
@@ -47,7 +47,7 @@ fn has_sizes(v: &Layout) -> bool
         && v.fpg % v.frag == 0
 }
 
-#[tactic(auto, unfolding(ffs_volume::specs::Outcome::are_numbers))]
+#[tactic(auto, unfolding(ffs_volume::specs::Disk::Outcome::are_numbers))]
 fn has_numbers(v: &Layout) -> bool
     requires { 0 < v.now.ncg }
     ensures value { result ≡ are_numbers v.now }
@@ -66,7 +66,7 @@ fn has_numbers(v: &Layout) -> bool
         && ncg * u64::from(v.ipg) < 1 << 31
 }
 
-#[tactic(auto, unfolding(ffs_volume::specs::Outcome::are_parts))]
+#[tactic(auto, unfolding(ffs_volume::specs::Disk::Outcome::are_parts))]
 fn has_parts(v: &Layout) -> bool
     requires { 0 < v.now.fsize }
     ensures { result ≡ are_parts v.now }
@@ -83,7 +83,7 @@ fn has_parts(v: &Layout) -> bool
         && v.cgsize <= v.bsize
 }
 
-#[tactic(auto, using(crate::proofs::Starts::data_start), unfolding(ffs_volume::specs::Outcome::is_summary, ffs_volume::specs::Areas::cgbase))]
+#[tactic(auto, using(crate::proofs::Starts::data_start), unfolding(ffs_volume::specs::Disk::Outcome::is_summary, ffs_volume::specs::Disk::Areas::cgbase))]
 fn has_summary(v: &Layout) -> bool
     requires { 0 < v.now.fsize }
     ensures { result ≡ is_summary v.now }
@@ -94,7 +94,7 @@ fn has_summary(v: &Layout) -> bool
         && end <= u64::from(v.fpg.min(v.size))
 }
 
-#[tactic(auto, unfolding(ffs_volume::specs::Outcome::is_shaped))]
+#[tactic(auto, unfolding(ffs_volume::specs::Disk::Outcome::is_shaped))]
 fn has_shape(v: &Layout) -> bool
     requires { 0 < v.now.ncg }
     ensures { result ≡ is_shaped v.now }
@@ -103,7 +103,7 @@ fn has_shape(v: &Layout) -> bool
 }
 
 /// The first fault that the layout shows, in an image of this size in bytes.
-#[tactic(auto, unfolding(ffs_volume::specs::Outcome::layout_fault))]
+#[tactic(auto, unfolding(ffs_volume::specs::Disk::Outcome::layout_fault))]
 pub fn fault_of(v: &Layout, image_size: u64) -> Option<SuperFault>
     ensures { result ≡ layout_fault v.now image_size }
 {
@@ -131,7 +131,7 @@ pub fn fault_of(v: &Layout, image_size: u64) -> Option<SuperFault>
     None
 }
 
-#[tactic(auto, unfolding(ffs_volume::specs::Outcome::are_cylinders))]
+#[tactic(auto, unfolding(ffs_volume::specs::Disk::Outcome::are_cylinders))]
 fn has_cylinders(v: &Layout) -> bool
     requires { 0 < v.now.ncg }
     ensures { result ≡ are_cylinders v.now }

@@ -2,28 +2,26 @@
 
 ghost use Rattle.ffs_layout.specs.Reads.{ReadFailed};
 ghost use Rattle.std.specs.Prelude.{true, false, IsErrAnd, OnOk, OnErr, IfErr, ℕ, ◌^◌, IsTrue, nat_le, ◌==◌, ◌≡◌, ◌+◌, ◌*◌, ◌/◌, ◌<◌, ◌≤◌, ◌⊎◌, length, List, IfOk, Option, Some, None, MatchResult};
-ghost use Rattle.ffs_volume.specs.Outcome.{agree, copy_agrees, copy_place, outcome, super_sector};
-ghost use Rattle.ffs_volume.specs.Numbers.{piece, u32_at};
+ghost use Rattle.ffs_volume.specs.Disk.Outcome.{agree, copy_agrees, copy_place, outcome, super_sector};
+ghost use Rattle.ffs_volume.specs.Disk.Numbers.{piece, u32_at};
 ghost use Rattle.std.specs.List.{list_all};
-ghost use Rattle.ffs_volume.specs.Superblock.{layout_of, order_of, superblock_of};
+ghost use Rattle.ffs_volume.specs.Disk.Superblock.{layout_of, order_of, superblock_of};
 ghost use Rattle.ffs_layout.specs.Super.{Answers, IsUnread, found_of, seen};
 
 use crate::geometry::Geometry;
 use crate::layout::decode;
 use crate::numbers::{i32_at, u32_at};
 use ffs_image::Image;
-use ffs_volume::{LAYOUT_PLACES, Order, SuperFault};
-
-const MAGIC: u32 = 72020;
+use ffs_volume::{FS_MAGIC, LAYOUT_PLACES, Order, SuperFault};
 
 // The order in which the magic number reads right.
-#[tactic(auto, unfolding(ffs_volume::specs::Superblock::order_of))]
+#[tactic(auto, unfolding(ffs_volume::specs::Disk::Superblock::order_of))]
 fn order_of_magic(bytes: &[u8; 1376]) -> Option<Order>
     ensures { result ≡ order_of bytes.now }
 {
-    if u32_at(Order::Little, 1372, bytes) == MAGIC {
+    if u32_at(Order::Little, 1372, bytes) == FS_MAGIC {
         Some(Order::Little)
-    } else if u32_at(Order::Big, 1372, bytes) == MAGIC {
+    } else if u32_at(Order::Big, 1372, bytes) == FS_MAGIC {
         Some(Order::Big)
     } else {
         None
@@ -33,7 +31,8 @@ fn order_of_magic(bytes: &[u8; 1376]) -> Option<Order>
 // Whether the two agree in the numbers at these places.
 fn agree_at(order: Order, places: &[u16], bytes: &[u8; 1376], copy: &[u8; 1376]) -> bool
     requires { IsTrue (list_all (λ place. nat_le (place + 4) 1376) places.now) }
-    ensures { result ≡ list_all (λ place. u32_at order place bytes.now == u32_at order place copy.now) places.now }
+    ensures { result ≡ list_all (λ place. u32_at order place bytes.now == u32_at order place
+        copy.now) places.now }
 {
     for place in places {
         let place = usize::from(*place);
@@ -45,7 +44,7 @@ fn agree_at(order: Order, places: &[u16], bytes: &[u8; 1376], copy: &[u8; 1376])
 }
 
 // Whether the copy agrees in each number of the layout.
-#[tactic(auto, unfolding(ffs_volume::specs::Outcome::agree))]
+#[tactic(auto, unfolding(ffs_volume::specs::Disk::Outcome::agree))]
 fn layouts_agree(order: Order, bytes: &[u8; 1376], copy: &[u8; 1376]) -> bool
     ensures { result ≡ agree order bytes.now copy.now }
 {
@@ -58,7 +57,8 @@ fn read_copy<I: Image>(image: &mut I, at: u64, out: &mut [u8; 1376]) -> Result<(
     ensures length { length out.new ≡ 1376 }
     ensures ok { OnOk result (I.device image.new ≡ I.device image.old) }
     ensures inside { OnOk result (at + 1376 ≤ (I.device image.old).size) }
-    ensures told { OnOk result ((b : List ℕ) → (I.device image.old).told ≡ Some b → out.new ≡ piece at 1376 b) }
+    ensures told { OnOk result ((b : List ℕ) → (I.device image.old).contents ≡ Some b → out.new
+        ≡ piece at 1376 b) }
     ensures fault { IfErr result (λ fault. fault ≡ SuperFault.CannotRead (at / 512)) }
     ensures failed { OnErr result (ReadFailed result (I.device image.old) (I.device image.new)
         ⊎ ((I.device image.new ≡ I.device image.old) × ((I.device image.old).size < at + 1376))) }
@@ -90,7 +90,7 @@ pub struct Super {
 
 impl Super {
     ghost use Rattle.std.specs.Prelude.{◌&&◌, not};
-    ghost use Rattle.ffs_volume.specs.Opening.{is_minfree, is_optimization};
+    ghost use Rattle.ffs_volume.specs.Report.Opening.{is_minfree, is_optimization};
 
     /// Whether `optim` is 0 (time) or 1 (space).
     pub fn has_optimization(&self) -> bool
@@ -106,7 +106,7 @@ impl Super {
         0 <= self.minfree && self.minfree <= 99
     }
 
-    /// Whether a setting is not one that it may be, which the opening tells as a defect.
+    /// Whether a setting is not one that it may be, which the opening reports as a defect.
     pub fn opening_defects(&self) -> bool
         ensures { result ≡ not (is_optimization (seen self.now) && is_minfree (seen self.now)) }
     {
@@ -115,7 +115,7 @@ impl Super {
 }
 
 // The superblock in the bytes, whose layout is accepted.
-#[tactic(auto, unfolding(ffs_volume::specs::Superblock::superblock_of))]
+#[tactic(auto, unfolding(ffs_volume::specs::Disk::Superblock::superblock_of))]
 fn make_super(order: Order, bytes: &[u8; 1376], geometry: Geometry) -> Super
     requires { geometry.layout ≡ layout_of order bytes.now }
     ensures seen { seen result ≡ superblock_of order bytes.now }
@@ -138,7 +138,7 @@ fn make_super(order: Order, bytes: &[u8; 1376], geometry: Geometry) -> Super
 }
 
 // Compares the last copy, where no sector was asked for.
-#[tactic(auto, using(ffs_volume::specs::AreaLaws::copy_inside), unfolding(ffs_volume::specs::Outcome::copy_agrees))]
+#[tactic(auto, using(ffs_volume::proofs::AreaLaws::copy_inside), unfolding(ffs_volume::specs::Disk::Outcome::copy_agrees))]
 fn check_copy<I: Image>(
     image: &mut I,
     sector: Option<u32>,
@@ -147,14 +147,19 @@ fn check_copy<I: Image>(
     geometry: &Geometry,
 ) -> Result<(), SuperFault>
     requires layout { geometry.now.layout ≡ layout_of order bytes.now }
-    requires in_image { geometry.now.layout.size * geometry.now.layout.fsize ≤ (I.device image.old).size }
+    requires in_image { geometry.now.layout.size * geometry.now.layout.fsize
+        ≤ (I.device image.old).size }
     ensures ok { OnOk result (I.device image.new ≡ I.device image.old) }
-    ensures sector { IfErr result (λ fault. (sector ≡ None) × ((at : ℕ) → fault ≡ SuperFault.CannotRead at → at ≡ copy_place geometry.now.layout / 512)) }
-    ensures agrees { OnOk result ((b : List ℕ) → (I.device image.old).told ≡ Some b → copy_agrees b sector order bytes.now ≡ true) }
+    ensures sector { IfErr result (λ fault. (sector ≡ None)
+        × ((at : ℕ) → fault ≡ SuperFault.CannotRead at → at
+        ≡ copy_place geometry.now.layout / 512)) }
+    ensures agrees { OnOk result ((b : List ℕ) → (I.device image.old).contents ≡ Some b
+        → copy_agrees b sector order bytes.now ≡ true) }
     ensures failed { OnErr result (ReadFailed result (I.device image.old) (I.device image.new)
         ⊎ ((I.device image.new ≡ I.device image.old)
         × IsErrAnd result (λ fault. fault ≡ SuperFault.Disagree)
-        × ((b : List ℕ) → (I.device image.old).told ≡ Some b → copy_agrees b sector order bytes.now ≡ false))) }
+        × ((b : List ℕ) → (I.device image.old).contents ≡ Some b
+        → copy_agrees b sector order bytes.now ≡ false))) }
 {
     if sector.is_some() {
         return Ok(());
@@ -183,12 +188,14 @@ fn first_sector(sector: Option<u32>) -> u64
 /// The superblock at a sector, or the primary one.
 pub fn read_super<I: Image>(image: &mut I, sector: Option<u32>) -> Result<Super, SuperFault>
     // An accepted volume lies within the image.
-    ensures in_image { IfOk result (λ s. s.geometry.layout.size * s.geometry.layout.fsize ≤ (I.device image.old).size) }
+    ensures in_image { IfOk result
+        (λ s. s.geometry.layout.size * s.geometry.layout.fsize ≤ (I.device image.old).size) }
 
     // What can't be read is a failed read, or lies past the image's end.
-    ensures unread { IfErr result (λ fault. (at : ℕ) → fault ≡ SuperFault.CannotRead at → IsUnread (I.device image.old) (I.device image.new) sector at) }
+    ensures unread { IfErr result (λ fault. (at : ℕ) → fault ≡ SuperFault.CannotRead at
+        → IsUnread (I.device image.old) (I.device image.new) sector at) }
 
-    // A failed read is answered, by its sector. With none, the answer is the outcome, where the bytes are told.
+    // A failed read is answered, by its sector. With none, the answer is the outcome, where the bytes are given.
     ensures answer { Answers (I.device image.old) (I.device image.new) sector (found_of result) }
 {
     let start = first_sector(sector);

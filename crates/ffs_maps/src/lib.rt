@@ -43,7 +43,8 @@ impl FragmentMap {
     pub fn in_memory<M: Memory>(memory: &mut M, size: u32) -> Result<FragmentMap, AllocError>
         ensures size { IfOk result (λ m. m.size ≡ size) }
         ensures bits { IfOk result (λ m. bits_of m ≡ replicate size false) }
-        ensures asks { Asks (M.account memory.old) (M.account memory.new) (8 * div_ceil size 64) result }
+        ensures asks { Asks (M.account memory.old) (M.account memory.new) (8 * div_ceil size 64)
+            result }
     {
         let words = memory.long_words(size.div_ceil(64) as usize)?;
         Ok(FragmentMap { words, size })
@@ -68,7 +69,8 @@ impl FragmentMap {
 
     /// Which of the 64 fragments from one on are of the map and have a clear bit, the first one lowest.
     pub fn clear_bits(&self, start: u64) -> u64
-        ensures { (k : ℕ) → k < 64 → nat_eq (bit_at result k) 1 ≡ is_clear (bits_of self.now) self.now.size (start + k) }
+        ensures { (k : ℕ) → k < 64 → nat_eq (bit_at result k) 1
+            ≡ is_clear (bits_of self.now) self.now.size (start + k) }
     {
         let index = start as usize / 64;
         let low = start % 64;
@@ -81,7 +83,8 @@ impl FragmentMap {
 
     /// Which fragments of a word are of the map and have a clear bit.
     fn clear_word(&self, index: usize) -> u64
-        ensures { (k : ℕ) → k < 64 → nat_eq (bit_at result k) 1 ≡ is_clear (bits_of self.now) self.now.size (64 * index + k) }
+        ensures { (k : ℕ) → k < 64 → nat_eq (bit_at result k) 1
+            ≡ is_clear (bits_of self.now) self.now.size (64 * index + k) }
     {
         let words = self.words.as_slice();
         if index >= words.len() {
@@ -101,7 +104,8 @@ impl FragmentMap {
         requires some { 0 < len }
         requires one_word { start % 64 + len ≤ 64 }
         requires below { start + len ≤ self.now.size }
-        ensures { result ≡ count_by (λ f. slice_index_or (bits_of self.now) f false) (range_with_len start len) }
+        ensures { result ≡ count_by (λ f. slice_index_or (bits_of self.now) f false)
+            (range_with_len start len) }
     {
         let words = self.words.as_slice();
         let word = words[start as usize / 64];
@@ -113,7 +117,8 @@ impl FragmentMap {
     pub fn count(&self, start: u32, end: u32) -> u32
         requires order { start ≤ end }
         requires below { end ≤ self.now.size }
-        ensures { result ≡ count_by (λ f. slice_index_or (bits_of self.now) f false) (range_with_len start (end - start)) }
+        ensures { result ≡ count_by (λ f. slice_index_or (bits_of self.now) f false)
+            (range_with_len start (end - start)) }
     {
         let first = start.div_ceil(64);
         let last = end / 64;
@@ -177,7 +182,8 @@ impl FragmentMap {
         ensures clear { IsTrue result → AreClear (bits_of self.old) start len }
         ensures claimed { IsTrue result → bits_of self.new ≡ set_run (bits_of self.old) start len }
         ensures kept { result ≡ false → self.new ≡ self.old }
-        ensures one_word { start % 64 + len ≤ 64 → AreClear (bits_of self.old) start len → IsTrue result }
+        ensures one_word { start % 64 + len ≤ 64 → AreClear (bits_of self.old) start len
+            → IsTrue result }
     {
         let low = start % 64;
         if len > 64 - low {

@@ -1,4 +1,4 @@
--- What several requests come to.
+-- What several requests result in.
 use Rattle.std.proofs.Common.{◌≡◌, ℕ, ◌+◌, ◌≤◌, arith, ◌∙◌}
 use Rattle.ffs_memory.specs.Account.{Account, Granted, GaveUp}
 

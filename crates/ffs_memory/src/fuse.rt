@@ -1,4 +1,4 @@
-// A memory that refuses a request where it is told to.
+// A memory that refuses a request where it is reported to.
 ghost use Rattle.std.specs.Prelude.{◌≡◌, ◌+◌, ◌-◌, ◌^◌, min, if◌then◌else◌};
 ghost use Rattle.ffs_memory.specs.Fuse.{is_blown, left_after};
 
@@ -33,7 +33,8 @@ impl<M: Memory> FuseMemory<M> {
     fn blows(&mut self) -> bool
         ensures value { result ≡ is_blown self.old.left }
         ensures left { self.new.left ≡ left_after self.old.left }
-        ensures own { self.new.own ≡ (if result then min (self.old.own + 1) (2 ^ 64 - 1) else self.old.own) }
+        ensures own { self.new.own ≡ (if result then min (self.old.own + 1) (2 ^ 64 - 1) else
+            self.old.own) }
         ensures inner { self.new.inner ≡ self.old.inner }
     {
         let is_last = self.left == 1;

@@ -4,26 +4,26 @@ use Rattle.std.specs.Prelude.{if◌then◌else◌}
 use Rattle.ffs_volume.specs.declared.Layout.{Layout}
 use Rattle.ffs_volume.specs.declared.Step.{Step}
 use Rattle.ffs_volume.specs.declared.Step.TheVariants.{Run, Tail, Gap}
-use Rattle.ffs_volume.specs.Areas.{is_in_range}
-use Rattle.ffs_volume.specs.Steps.{steps_at, steps_of_addresses}
-use Rattle.ffs_volume.specs.Directory.{Chunk, chunks_of}
-use Rattle.ffs_volume.specs.Replay.{Replay, is_seen, replayed_steps}
-use Rattle.ffs_volume.specs.ReplayLaws.{replayed_runs}
+use Rattle.ffs_volume.specs.Disk.Areas.{is_in_range}
+use Rattle.ffs_volume.specs.Blocks.Steps.{steps_at, steps_of_addresses}
+use Rattle.ffs_volume.specs.Directories.Entries.{Chunk, chunks_of}
+use Rattle.ffs_volume.specs.Encodings.Replay.{Replay, is_replay_open, replayed_steps}
+use Rattle.ffs_volume.specs.Encodings.ReplayCounts.{replayed_runs}
 use Rattle.ffs_layout.specs.declared.geometry.Geometry.{Geometry}
 use Rattle.ffs_walk.specs.declared.walk.Walk.{Walk}
 use Rattle.ffs_walk.specs.declared.blocks.Blocks.{Blocks}
 use Rattle.ffs_walk.specs.Windows.{BlocksHold}
 use Rattle.ffs_walk.specs.Rests.{IsOver, extent_of, rest as steps_left, single_rest, double_rest, triple_rest, top_rest}
 use Rattle.ffs_walk.proofs.WalkSteps.{spent_rest}
-use Rattle.ffs_names.specs.declared.hand.Hand.{Hand}
+use Rattle.ffs_names.specs.declared.run_cursor.RunCursor.{RunCursor}
 use Rattle.ffs_names.specs.declared.chunks.Chunks.{Chunks}
-use Rattle.ffs_names.specs.Hands.{hand_chunks, reading_by}
-use Rattle.ffs_names.specs.Readings.{all_chunks, chunks_behind, runs_behind, runs_left}
-use Rattle.ffs_names.proofs.Seen.{no_hand}
+use Rattle.ffs_names.specs.RunCursors.{hand_chunks, reading_by}
+use Rattle.ffs_names.specs.Readings.{all_chunks, chunks_after, runs_after, runs_left}
+use Rattle.ffs_names.proofs.RoledEntry.{no_run_cursor}
 
 -- the chunks of steps, of a layout and a replay
-abbrev pub behind : Layout → List ℕ → ℕ → ℕ → Replay → List Step → List Chunk
-behind v b taken cut r steps = chunks_of (reading_by v b taken) (is_in_range v) (replayed_steps v cut r steps)
+abbrev pub following : Layout → List ℕ → ℕ → ℕ → Replay → List Step → List Chunk
+following v b taken cut r steps = chunks_of (reading_by v b taken) (is_in_range v) (replayed_steps v cut r steps)
 
 -- a walk that is over has no steps left
 pub over_rest : (b : List ℕ) (w : Walk) → IsOver w → steps_left b w ≡ []
@@ -39,71 +39,71 @@ over_rest b w o =
     joined p q r s a b c d = ap (λ x. x ++ (q ++ (r ++ s))) a ∙ (ap (λ x. x ++ (r ++ s)) b ∙ (ap (λ x. x ++ s) c ∙ d))
 
 -- a Tail or Gap gives no chunks, and is no Run
-pub tail_behind : (v : Layout) (b : List ℕ) (taken cut : ℕ) (r : Replay) (steps : List Step) → behind v b taken cut r (Tail ∷ steps) ≡ behind v b taken cut r steps
-tail_behind v b taken cut r steps = one (is_seen cut r)
+pub tail_behind : (v : Layout) (b : List ℕ) (taken cut : ℕ) (r : Replay) (steps : List Step) → following v b taken cut r (Tail ∷ steps) ≡ following v b taken cut r steps
+tail_behind v b taken cut r steps = one (is_replay_open cut r)
   where
-    one : (x : Bool) → chunks_of (reading_by v b taken) (is_in_range v) ((if x then Tail ∷ [] else []) ++ replayed_steps v cut r steps) ≡ behind v b taken cut r steps
+    one : (x : Bool) → chunks_of (reading_by v b taken) (is_in_range v) ((if x then Tail ∷ [] else []) ++ replayed_steps v cut r steps) ≡ following v b taken cut r steps
     one true = refl
     one false = refl
 
-pub gap_behind : (v : Layout) (b : List ℕ) (taken cut : ℕ) (r : Replay) (steps : List Step) → behind v b taken cut r (Gap ∷ steps) ≡ behind v b taken cut r steps
-gap_behind v b taken cut r steps = one (is_seen cut r)
+pub gap_behind : (v : Layout) (b : List ℕ) (taken cut : ℕ) (r : Replay) (steps : List Step) → following v b taken cut r (Gap ∷ steps) ≡ following v b taken cut r steps
+gap_behind v b taken cut r steps = one (is_replay_open cut r)
   where
-    one : (x : Bool) → chunks_of (reading_by v b taken) (is_in_range v) ((if x then Gap ∷ [] else []) ++ replayed_steps v cut r steps) ≡ behind v b taken cut r steps
+    one : (x : Bool) → chunks_of (reading_by v b taken) (is_in_range v) ((if x then Gap ∷ [] else []) ++ replayed_steps v cut r steps) ≡ following v b taken cut r steps
     one true = refl
     one false = refl
 
 -- nothing comes where no step is seen
-pub none_seen : (v : Layout) (b : List ℕ) (taken cut : ℕ) (r : Replay) (steps : List Step) → is_seen cut r ≡ false → behind v b taken cut r steps ≡ []
+pub none_seen : (v : Layout) (b : List ℕ) (taken cut : ℕ) (r : Replay) (steps : List Step) → is_replay_open cut r ≡ false → following v b taken cut r steps ≡ []
 none_seen v b taken cut r [] h = refl
 none_seen v b taken cut r (Tail ∷ steps) h = tail_behind v b taken cut r steps ∙ none_seen v b taken cut r steps h
 none_seen v b taken cut r (Gap ∷ steps) h = gap_behind v b taken cut r steps ∙ none_seen v b taken cut r steps h
 none_seen v b taken cut r (Run start len block ∷ steps) h = rw h (none_seen v b taken cut r steps h)
 
--- how a step goes on, where the state of the replay is kept
-pub still_on : (v v' : Layout) (b : List ℕ) (h : Hand) (taken cut : ℕ) (r : Replay) (step : Step) (old new : List Step) → v' ≡ v → old ≡ step ∷ new
-    → behind v b taken cut r (step ∷ new) ≡ behind v b taken cut r new
-    → hand_chunks v' b h ++ behind v' b taken cut r new ≡ hand_chunks v b h ++ behind v b taken cut r old
+-- how a step continues, where the state of the replay is kept
+pub still_on : (v v' : Layout) (b : List ℕ) (h : RunCursor) (taken cut : ℕ) (r : Replay) (step : Step) (old new : List Step) → v' ≡ v → old ≡ step ∷ new
+    → following v b taken cut r (step ∷ new) ≡ following v b taken cut r new
+    → hand_chunks v' b h ++ following v' b taken cut r new ≡ hand_chunks v b h ++ following v b taken cut r old
 still_on v v' b h taken cut r step old new e o s =
-    ap (λ x. hand_chunks x b h ++ behind x b taken cut r new) e ∙ ap (λ x. hand_chunks v b h ++ x) (sym s ∙ ap (behind v b taken cut r) (sym o))
+    ap (λ x. hand_chunks x b h ++ following x b taken cut r new) e ∙ ap (λ x. hand_chunks v b h ++ x) (sym s ∙ ap (following v b taken cut r) (sym o))
 
-pub tail_on : (v v' : Layout) (b : List ℕ) (h : Hand) (taken cut : ℕ) (r : Replay) (old new : List Step) → v' ≡ v → old ≡ Tail ∷ new
-    → hand_chunks v' b h ++ behind v' b taken cut r new ≡ hand_chunks v b h ++ behind v b taken cut r old
+pub tail_on : (v v' : Layout) (b : List ℕ) (h : RunCursor) (taken cut : ℕ) (r : Replay) (old new : List Step) → v' ≡ v → old ≡ Tail ∷ new
+    → hand_chunks v' b h ++ following v' b taken cut r new ≡ hand_chunks v b h ++ following v b taken cut r old
 tail_on v v' b h taken cut r old new e o = still_on v v' b h taken cut r Tail old new e o (tail_behind v b taken cut r new)
 
-pub gap_on : (v v' : Layout) (b : List ℕ) (h : Hand) (taken cut : ℕ) (r : Replay) (old new : List Step) → v' ≡ v → old ≡ Gap ∷ new
-    → hand_chunks v' b h ++ behind v' b taken cut r new ≡ hand_chunks v b h ++ behind v b taken cut r old
+pub gap_on : (v v' : Layout) (b : List ℕ) (h : RunCursor) (taken cut : ℕ) (r : Replay) (old new : List Step) → v' ≡ v → old ≡ Gap ∷ new
+    → hand_chunks v' b h ++ following v' b taken cut r new ≡ hand_chunks v b h ++ following v b taken cut r old
 gap_on v v' b h taken cut r old new e o = still_on v v' b h taken cut r Gap old new e o (gap_behind v b taken cut r new)
 
 -- where no step is left
-pub end_on : (v v' : Layout) (b : List ℕ) (h : Hand) (taken cut : ℕ) (r : Replay) (old new : List Step) → v' ≡ v → old ≡ [] → new ≡ []
-    → hand_chunks v' b h ++ behind v' b taken cut r new ≡ hand_chunks v b h ++ behind v b taken cut r old
+pub end_on : (v v' : Layout) (b : List ℕ) (h : RunCursor) (taken cut : ℕ) (r : Replay) (old new : List Step) → v' ≡ v → old ≡ [] → new ≡ []
+    → hand_chunks v' b h ++ following v' b taken cut r new ≡ hand_chunks v b h ++ following v b taken cut r old
 end_on v v' b h taken cut r old new e o n =
-    ap (λ x. hand_chunks x b h ++ behind x b taken cut r new) e ∙ ap (λ x. hand_chunks v b h ++ behind v b taken cut r x) (n ∙ sym o)
+    ap (λ x. hand_chunks x b h ++ following x b taken cut r new) e ∙ ap (λ x. hand_chunks v b h ++ following v b taken cut r x) (n ∙ sym o)
 
-pub end_none : (v : Layout) (b : List ℕ) (h : Hand) (taken cut : ℕ) (r : Replay) (new : List Step) → h.next ≡ h.count → new ≡ [] → hand_chunks v b h ++ behind v b taken cut r new ≡ []
-end_none v b h taken cut r new e n = ap (λ x. x ++ behind v b taken cut r new) (no_hand v b h e) ∙ ap (behind v b taken cut r) n
+pub end_none : (v : Layout) (b : List ℕ) (h : RunCursor) (taken cut : ℕ) (r : Replay) (new : List Step) → h.next ≡ h.count → new ≡ [] → hand_chunks v b h ++ following v b taken cut r new ≡ []
+end_none v b h taken cut r new e n = ap (λ x. x ++ following v b taken cut r new) (no_run_cursor v b h e) ∙ ap (following v b taken cut r) n
 
-pub unseen_none : (v : Layout) (b : List ℕ) (h : Hand) (taken cut : ℕ) (r : Replay) (steps : List Step) → h.next ≡ h.count → is_seen cut r ≡ false
-    → hand_chunks v b h ++ behind v b taken cut r steps ≡ []
-unseen_none v b h taken cut r steps e n = ap (λ x. x ++ behind v b taken cut r steps) (no_hand v b h e) ∙ none_seen v b taken cut r steps n
+pub unseen_none : (v : Layout) (b : List ℕ) (h : RunCursor) (taken cut : ℕ) (r : Replay) (steps : List Step) → h.next ≡ h.count → is_replay_open cut r ≡ false
+    → hand_chunks v b h ++ following v b taken cut r steps ≡ []
+unseen_none v b h taken cut r steps e n = ap (λ x. x ++ following v b taken cut r steps) (no_run_cursor v b h e) ∙ none_seen v b taken cut r steps n
 
 -- where a Run was seen
-pub run_on : (v v' : Layout) (b : List ℕ) (h : Hand) (taken cut : ℕ) (r : Replay) (start len : ℕ) (block : Option ℕ) (old new : List Step) → v' ≡ v → old ≡ Run start len block ∷ new → h.next ≡ h.count
-    → behind v' b taken cut r (Run start len block ∷ new) ≡ hand_chunks v b h ++ behind v b taken cut r old
+pub run_on : (v v' : Layout) (b : List ℕ) (h : RunCursor) (taken cut : ℕ) (r : Replay) (start len : ℕ) (block : Option ℕ) (old new : List Step) → v' ≡ v → old ≡ Run start len block ∷ new → h.next ≡ h.count
+    → following v' b taken cut r (Run start len block ∷ new) ≡ hand_chunks v b h ++ following v b taken cut r old
 run_on v v' b h taken cut r start len block old new e o n =
-    ap (λ x. behind x b taken cut r (Run start len block ∷ new)) e
-    ∙ (ap (behind v b taken cut r) (sym o) ∙ ap (λ x. x ++ behind v b taken cut r old) (sym (no_hand v b h n)))
+    ap (λ x. following x b taken cut r (Run start len block ∷ new)) e
+    ∙ (ap (following v b taken cut r) (sym o) ∙ ap (λ x. x ++ following v b taken cut r old) (sym (no_run_cursor v b h n)))
 
 pub runs_on : (v v' : Layout) (cut : ℕ) (r : Replay) (old steps : List Step) → v' ≡ v → old ≡ steps → replayed_runs v' cut r steps ≡ replayed_runs v cut r old
 runs_on v v' cut r old steps e o = ap (λ x. replayed_runs x cut r steps) e ∙ ap (replayed_runs v cut r) (sym o)
 
 -- the state after a Run, with the steps that its walk has left
-pub walked : (b : List ℕ) (c : Chunks) (w : Walk) → c.walk ≡ w → all_chunks b c ≡ hand_chunks c.walk.geometry.layout b c.hand ++ chunks_behind b c (steps_left b w)
-walked b c w e = ap (λ x. hand_chunks c.walk.geometry.layout b c.hand ++ chunks_behind b c (steps_left b x)) e
+pub walked : (b : List ℕ) (c : Chunks) (w : Walk) → c.walk ≡ w → all_chunks b c ≡ hand_chunks c.walk.geometry.layout b c.run_cursor ++ chunks_after b c (steps_left b w)
+walked b c w e = ap (λ x. hand_chunks c.walk.geometry.layout b c.run_cursor ++ chunks_after b c (steps_left b x)) e
 
-pub walked_runs : (b : List ℕ) (c : Chunks) (w : Walk) → c.walk ≡ w → runs_left b c ≡ runs_behind c (steps_left b w)
-walked_runs b c w e = ap (λ x. runs_behind c (steps_left b x)) e
+pub walked_runs : (b : List ℕ) (c : Chunks) (w : Walk) → c.walk ≡ w → runs_left b c ≡ runs_after c (steps_left b w)
+walked_runs b c w e = ap (λ x. runs_after c (steps_left b x)) e
 
 pub runs_tail : (v v' : Layout) (cut : ℕ) (r : Replay) (old new : List Step) → v' ≡ v → old ≡ Tail ∷ new → replayed_runs v' cut r new ≡ replayed_runs v cut r old
 runs_tail v v' cut r old new e o = ap (λ x. replayed_runs x cut r new) e ∙ (zero_more (replayed_runs v cut r new) ∙ ap (replayed_runs v cut r) (sym o))
@@ -118,5 +118,5 @@ runs_gap v v' cut r old new e o = ap (λ x. replayed_runs x cut r new) e ∙ (ze
     zero_more n = omega arith
 
 -- what blocks hold, in other words
-pub holds_on : (g g' : Geometry) (told told' : Option (List ℕ)) (blocks : Blocks) → g' ≡ g → told' ≡ told → BlocksHold g'.layout told' blocks → BlocksHold g.layout told blocks
-holds_on g g' told told' blocks e t h = rw (← e, ← t) h
+pub holds_on : (g g' : Geometry) (contents contents' : Option (List ℕ)) (blocks : Blocks) → g' ≡ g → contents' ≡ contents → BlocksHold g'.layout contents' blocks → BlocksHold g.layout contents blocks
+holds_on g g' contents contents' blocks e t h = rw (← e, ← t) h

@@ -6,15 +6,15 @@ use Rattle.ffs_volume.specs.declared.Layout.{Layout}
 use Rattle.ffs_volume.specs.declared.Inode.{Inode}
 use Rattle.ffs_volume.specs.declared.Step.{Step}
 use Rattle.ffs_volume.specs.declared.Step.TheVariants.{Run, Tail, Gap}
-use Rattle.ffs_volume.specs.Areas.{is_in_range}
-use Rattle.ffs_volume.specs.Geometry.{IsGeometry}
-use Rattle.ffs_volume.specs.Steps.{steps_of}
-use Rattle.ffs_volume.specs.StepLaws.{Within, within_lower, steps_within}
-use Rattle.ffs_volume.specs.ChunkLaws.{chunks_few}
-use Rattle.ffs_volume.specs.Directory.{Chunk, chunks_of, size_taken}
-use Rattle.ffs_volume.specs.Replay.{Replay, fresh_replay, is_replayed, replay_step, replayed_steps}
-use Rattle.ffs_volume.specs.ReplayLaws.{replayed_runs}
-use Rattle.ffs_names.specs.Hands.{reading_by}
+use Rattle.ffs_volume.specs.Disk.Areas.{is_in_range}
+use Rattle.ffs_volume.specs.Disk.Geometry.{IsGeometry}
+use Rattle.ffs_volume.specs.Blocks.Steps.{steps_of}
+use Rattle.ffs_volume.proofs.StepLaws.{Within, within_lower, steps_within}
+use Rattle.ffs_volume.proofs.ChunkLaws.{chunks_few}
+use Rattle.ffs_volume.specs.Directories.Entries.{Chunk, chunks_of, size_taken}
+use Rattle.ffs_volume.specs.Encodings.Replay.{Replay, fresh_replay, is_replayed, replay_step, replayed_steps}
+use Rattle.ffs_volume.specs.Encodings.ReplayCounts.{replayed_runs}
+use Rattle.ffs_names.specs.RunCursors.{reading_by}
 
 -- the steps of a replay come in the order of their blocks
 within_replayed : (v : Layout) (cut : ℕ) (r : Replay) (frag low high : ℕ) (steps : List Step) → Within frag low high steps → Within frag low high (replayed_steps v cut r steps)
@@ -50,11 +50,11 @@ all_taken zero (x ∷ xs) h = absurd (omega arith)
 all_taken (suc n) [] h = refl
 all_taken (suc n) (x ∷ xs) h = ap (λ ys. x ∷ ys) (all_taken n xs (omega arith))
 
-pub begun : (v v' : Layout) (i : Inode) (b : List ℕ) (cut cut' : ℕ) (r : Replay) (taken : ℕ) (hand : List Chunk) (steps : List Step) → IsGeometry v
-    → v' ≡ v → cut' ≡ cut → r ≡ fresh_replay → taken ≡ size_taken i.size → hand ≡ [] → steps ≡ steps_of v i b
-    → take (taken / 512) (hand ++ chunks_of (reading_by v' b taken) (is_in_range v') (replayed_steps v' cut' r steps))
+pub begun : (v v' : Layout) (i : Inode) (b : List ℕ) (cut cut' : ℕ) (r : Replay) (taken : ℕ) (run_cursor : List Chunk) (steps : List Step) → IsGeometry v
+    → v' ≡ v → cut' ≡ cut → r ≡ fresh_replay → taken ≡ size_taken i.size → run_cursor ≡ [] → steps ≡ steps_of v i b
+    → take (taken / 512) (run_cursor ++ chunks_of (reading_by v' b taken) (is_in_range v') (replayed_steps v' cut' r steps))
     ≡ chunks_of (reading_by v b (size_taken i.size)) (is_in_range v) (replayed_steps v cut fresh_replay (steps_of v i b))
-begun v v' i b cut cut' r taken hand steps g e c f t h s =
+begun v v' i b cut cut' r taken run_cursor steps g e c f t h s =
     ap (λ x. take (taken / 512) (x ++ chunks_of (reading_by v' b taken) (is_in_range v') (replayed_steps v' cut' r steps))) h
     ∙ (ap (λ x. take (taken / 512) (chunks_of (reading_by x b taken) (is_in_range x) (replayed_steps x cut' r steps))) e
     ∙ (ap (λ x. take (taken / 512) (chunks_of (reading_by v b taken) (is_in_range v) (replayed_steps v x r steps))) c

@@ -8,19 +8,19 @@ use Rattle.ffs_volume.specs.declared.Layout.{Layout}
 use Rattle.ffs_volume.specs.declared.Inode.{Inode}
 use Rattle.ffs_volume.specs.declared.Class.{Class}
 use Rattle.ffs_volume.specs.declared.Class.TheVariants.{Free, Partial, Unknown, File, Dir}
-use Rattle.ffs_volume.specs.Areas.{is_in_range}
-use Rattle.ffs_volume.specs.Geometry.{IsGeometry}
-use Rattle.ffs_volume.specs.Inodes.{inode_of, class_of, type_of, is_known_type, is_any_set, is_too_large, addresses_used}
-use Rattle.ffs_volume.specs.Steps.{steps_of}
-use Rattle.ffs_volume.specs.Directory.{chunks_of, size_taken}
-use Rattle.ffs_volume.specs.Roles.{is_dir, is_directory, chunk_seen, seen_in}
-use Rattle.ffs_volume.specs.Volumes.{is_number, volume_of, volume_with, reading_of}
-use Rattle.ffs_volume.specs.Replay.{cut_at, fresh_replay, replayed_steps}
-use Rattle.ffs_volume.specs.CutLaws.{replay_at}
-use Rattle.ffs_volume.specs.Kinds.{kind_at}
+use Rattle.ffs_volume.specs.Disk.Areas.{is_in_range}
+use Rattle.ffs_volume.specs.Disk.Geometry.{IsGeometry}
+use Rattle.ffs_volume.specs.Blocks.Inodes.{inode_of, class_of, type_of, is_known_type, is_any_set, is_too_large, addresses_used, is_directory}
+use Rattle.ffs_volume.specs.Blocks.Steps.{steps_of}
+use Rattle.ffs_volume.specs.Directories.Entries.{chunks_of, size_taken}
+use Rattle.ffs_volume.specs.Directories.Roles.{is_dir, roled_chunk, roled_entries}
+use Rattle.ffs_volume.specs.Directories.Volumes.{is_inode_number, volume_of, volume_with, reading_of}
+use Rattle.ffs_volume.specs.Encodings.Replay.{cut_at, fresh_replay, replayed_steps}
+use Rattle.ffs_volume.proofs.CutLaws.{replay_at}
+use Rattle.ffs_volume.specs.Encodings.Kinds.{kind_at}
 use Rattle.ffs_survey.specs.Survey.{dir_at}
 use Rattle.ffs_survey.specs.SurveyLaws.{dirs_of_kinds}
-use Rattle.ffs_names.specs.Hands.{reading_by}
+use Rattle.ffs_names.specs.RunCursors.{reading_by}
 
 class_by : Bool → Bool → Bool → Bool → Class
 class_by none free bad four = if none then (if free then Free else Partial) else (if bad then Unknown else (if four then Dir else File))
@@ -56,20 +56,20 @@ dir_number true Partial h = cc
 dir_number true Free h = cc
 dir_number false c h = cc
 
-pub dir_is : (v : Layout) (b : List ℕ) (d : ℕ) → is_dir (volume_of v b) d ≡ true → (is_number v d ≡ true) × (class_of v (inode_of v b d) ≡ Dir)
+pub dir_is : (v : Layout) (b : List ℕ) (d : ℕ) → is_dir (volume_of v b) d ≡ true → (is_inode_number v d ≡ true) × (class_of v (inode_of v b d) ≡ Dir)
 unfolding volume_of volume_with
-dir_is v b d h = dir_number (is_number v d) (class_of v (inode_of v b d)) h
+dir_is v b d h = dir_number (is_inode_number v d) (class_of v (inode_of v b d)) h
 
 -- the entries of a directory
-pub dir_seen : (v : Layout) (b : List ℕ) (d : ℕ) (i : Inode) (cut : ℕ) → IsGeometry v → is_number v d ≡ true → i ≡ inode_of v b d → cut ≡ cut_at v b d
-    → flat_map chunk_seen (chunks_of (reading_by v b (size_taken i.size)) (is_in_range v) (replayed_steps v cut fresh_replay (steps_of v i b))) ≡ seen_in (volume_of v b) d
-unfolding volume_of volume_with reading_of seen_in
+pub dir_seen : (v : Layout) (b : List ℕ) (d : ℕ) (i : Inode) (cut : ℕ) → IsGeometry v → is_inode_number v d ≡ true → i ≡ inode_of v b d → cut ≡ cut_at v b d
+    → flat_map roled_chunk (chunks_of (reading_by v b (size_taken i.size)) (is_in_range v) (replayed_steps v cut fresh_replay (steps_of v i b))) ≡ roled_entries (volume_of v b) d
+unfolding volume_of volume_with reading_of roled_entries
 dir_seen v b d i cut g n e c =
-    ap (λ (x : Inode). flat_map chunk_seen (chunks_of (reading_by v b (size_taken x.size)) (is_in_range v) (replayed_steps v cut fresh_replay (steps_of v x b)))) e
-    ∙ (ap (λ x. flat_map chunk_seen (chunks_of (reading_by v b (size_taken (inode_of v b d).size)) (is_in_range v) (replayed_steps v x fresh_replay (steps_of v (inode_of v b d) b)))) c
-    ∙ ap (λ xs. flat_map chunk_seen (chunks_of (reading_by v b (size_taken (inode_of v b d).size)) (is_in_range v) xs)) (replay_at v b d g n))
+    ap (λ (x : Inode). flat_map roled_chunk (chunks_of (reading_by v b (size_taken x.size)) (is_in_range v) (replayed_steps v cut fresh_replay (steps_of v x b)))) e
+    ∙ (ap (λ x. flat_map roled_chunk (chunks_of (reading_by v b (size_taken (inode_of v b d).size)) (is_in_range v) (replayed_steps v x fresh_replay (steps_of v (inode_of v b d) b)))) c
+    ∙ ap (λ xs. flat_map roled_chunk (chunks_of (reading_by v b (size_taken (inode_of v b d).size)) (is_in_range v) xs)) (replay_at v b d g n))
 
--- kinds tell which inodes are directories
+-- kinds say which inodes are directories
 pub kind_dirs : (v : Layout) (b kinds : List ℕ) (x : ℕ) → slice_index kinds x ≡ kind_at v b x → dir_at kinds x ≡ is_dir (volume_of v b) x
 unfolding kind_at
 kind_dirs v b kinds x h = dirs_of_kinds v b kinds x h

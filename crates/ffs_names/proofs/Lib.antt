@@ -1,5 +1,5 @@
 pub mod RunChunks
-pub mod Seen
+pub mod RoledEntry
 pub mod Advances
 pub mod Pieces
 pub mod Begins

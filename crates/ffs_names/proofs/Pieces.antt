@@ -1,10 +1,10 @@
--- A chunk of the Run in hand is read.
+-- A chunk of the current Run is read.
 use Rattle.std.proofs.Common.{◌≡◌, ℕ, suc, zero, ◌+◌, ◌-◌, ◌*◌, ◌<◌, ◌≤◌, List, [], ◌∷◌, ◌++◌, take, drop, arith, refl, sym, ap, ◌∙◌}
 use Rattle.std.specs.Prelude.{map}
 use Rattle.std.specs.List.{range_with_len}
 use Rattle.ffs_volume.specs.declared.Order.{Order}
-use Rattle.ffs_volume.specs.Numbers.{piece}
-use Rattle.ffs_volume.specs.Directory.{Chunk, chunk_of}
+use Rattle.ffs_volume.specs.Disk.Numbers.{piece}
+use Rattle.ffs_volume.specs.Directories.Entries.{Chunk, chunk_of}
 use Rattle.ffs_walk.proofs.Ranges.{range_step}
 use Rattle.ffs_workspace.proofs.Places.{piece_of}
 
@@ -15,7 +15,7 @@ chunk_held place length next b held chunk src fits c s h =
     let n : 512 * next + 512 - 512 * next ≡ 512 = omega arith in
     c ∙ (ap (λ k. take k (drop (512 * next) src)) n ∙ (ap (λ xs. take 512 (drop (512 * next) xs)) (s ∙ h) ∙ piece_of place length (512 * next) 512 b fits))
 
--- the first of the chunks in hand
+-- the first of the current chunks
 pub hand_step : (order order' : Order) (b : List ℕ) (place offset next count : ℕ) (chunk : List ℕ) (rest all : List Chunk) (from : ℕ) → order ≡ order' → next < count → chunk ≡ piece (place + 512 * next) 512 b → from ≡ next
     → map (λ k. chunk_of order (offset + 512 * k) (piece (place + 512 * k) 512 b)) (range_with_len next (count - next)) ++ rest ≡ all
     → all ≡ chunk_of order' (offset + 512 * from) chunk ∷ (map (λ k. chunk_of order (offset + 512 * k) (piece (place + 512 * k) 512 b)) (range_with_len (next + 1) (count - (next + 1))) ++ rest)

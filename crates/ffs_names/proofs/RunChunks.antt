@@ -4,13 +4,13 @@ use Rattle.std.specs.Prelude.{min, map}
 use Rattle.std.specs.List.{range_with_len}
 use Rattle.std.proofs.Math.Nat.{mul-le-mul_right, mul-le-mul_left}
 use Rattle.ffs_volume.specs.declared.Layout.{Layout}
-use Rattle.ffs_volume.specs.Areas.{is_in_range}
-use Rattle.ffs_volume.specs.Geometry.{IsGeometry}
-use Rattle.ffs_volume.specs.Numbers.{piece}
-use Rattle.ffs_volume.specs.Directory.{Reading, chunk_of, run_chunks}
+use Rattle.ffs_volume.specs.Disk.Areas.{is_in_range}
+use Rattle.ffs_volume.specs.Disk.Geometry.{IsGeometry}
+use Rattle.ffs_volume.specs.Disk.Numbers.{piece}
+use Rattle.ffs_volume.specs.Directories.Entries.{Reading, chunk_of, run_chunks}
 use Rattle.ffs_walk.proofs.Areas.{in_range-below}
 
--- a Run behind what is read has none
+-- a Run after what is read has none
 pub no_chunks : (r : Reading) (start len offset : ℕ) → r.taken ≤ offset → run_chunks r start len offset ≡ []
 no_chunks r start len offset h =
     let z : r.taken - offset ≡ 0 = omega arith in

@@ -1,12 +1,13 @@
 -- The Runs that a replay sees.
 use Rattle.std.proofs.Common.{◌+◌, sym, ap, ◌∙◌}
-use Rattle.ffs_volume.specs.Inodes.{inode_of}
-use Rattle.ffs_volume.specs.Steps.{steps_of}
-use Rattle.ffs_volume.specs.Owners.{owner_of}
-use Rattle.ffs_volume.specs.KeptSteps.{claims_before}
-use Rattle.ffs_volume.specs.Replay.{fresh_replay}
-use Rattle.ffs_volume.specs.ReplayLaws.{replayed_runs, replay_is_runs}
-use Rattle.ffs_volume.specs.CutLaws.{cut_is}
+use Rattle.ffs_volume.specs.Blocks.Inodes.{inode_of}
+use Rattle.ffs_volume.specs.Blocks.Steps.{steps_of}
+use Rattle.ffs_volume.specs.Blocks.Owners.{owner_of}
+use Rattle.ffs_volume.specs.Blocks.KeptSteps.{claims_before}
+use Rattle.ffs_volume.specs.Encodings.Replay.{fresh_replay}
+use Rattle.ffs_volume.specs.Encodings.ReplayCounts.{replayed_runs}
+use Rattle.ffs_volume.proofs.ReplayLaws.{replay_is_runs}
+use Rattle.ffs_volume.proofs.CutLaws.{cut_is}
 use Rattle.ffs_names.specs.SeenRuns.{RunsAreSeen}
 
 pub runs_seen_by : RunsAreSeen

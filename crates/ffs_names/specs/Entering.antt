@@ -1,19 +1,19 @@
 -- The entries that a reading of a directory has still to give.
 use Rattle.std.specs.Prelude.{ℕ, List, ◌++◌, ◌+◌, ◌-◌, ◌*◌, ◌/◌}
 use Rattle.std.specs.List.{flat_map}
-use Rattle.ffs_volume.specs.Numbers.{piece}
-use Rattle.ffs_volume.specs.Directory.{entries_from}
-use Rattle.ffs_volume.specs.Roles.{Seen, seen_from, chunk_seen}
+use Rattle.ffs_volume.specs.Disk.Numbers.{piece}
+use Rattle.ffs_volume.specs.Directories.Entries.{entries_from}
+use Rattle.ffs_volume.specs.Directories.Roles.{RoledEntry, roled_from, roled_chunk}
 use Rattle.ffs_names.specs.Readings.{rest}
 use Rattle.ffs_names.specs.declared.entries.Entries.{Entries}
 
--- those of the chunk in hand
-abbrev pub here : Entries → List Seen
-here r = seen_from r.first r.index (entries_from r.order r.chunk 64 r.place)
+-- those of the current chunk
+abbrev pub here : Entries → List RoledEntry
+here r = roled_from r.first r.index (entries_from r.order r.chunk 64 r.place)
 
 -- those, and those of the chunks to come, in an image of these bytes
-abbrev pub to_come : List ℕ → Entries → List Seen
-to_come b r = here r ++ flat_map chunk_seen (rest b r.chunks)
+abbrev pub to_come : List ℕ → Entries → List RoledEntry
+to_come b r = here r ++ flat_map roled_chunk (rest b r.chunks)
 
 -- at most how many there are, whatever the image holds
 abbrev pub left : Entries → ℕ

@@ -1,5 +1,5 @@
 -- The replay of an inode that is walked again.
-use Rattle.ffs_volume.specs.Replay.{Replay}
+use Rattle.ffs_volume.specs.Encodings.Replay.{Replay}
 use Rattle.ffs_names.specs.declared.keeping.Keeping.{Keeping}
 
 -- its bad Runs and kept offers so far

@@ -1,6 +1,6 @@
 pub mod Keepings
 pub mod Fits
-pub mod Hands
+pub mod RunCursors
 pub mod Readings
 pub mod Entering
 pub mod Trees

@@ -5,8 +5,8 @@ use Rattle.ffs_workspace.specs.declared.workspace.Workspace.{Workspace}
 -- the claims, kinds, marks and cuts of a workspace, and its counts of Runs
 pub record IsUntouched (old new : Workspace) : Type 0 where
   pub claimed : new.claimed ≡ old.claimed
-  pub doubled : new.doubled ≡ old.doubled
-  pub untold : new.untold ≡ old.untold
+  pub duplicates : new.duplicates ≡ old.duplicates
+  pub unreported : new.unreported ≡ old.unreported
   pub kinds : new.kinds ≡ old.kinds
   pub marked : new.marked ≡ old.marked
   pub leaders : new.leaders ≡ old.leaders

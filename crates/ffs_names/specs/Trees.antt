@@ -3,18 +3,18 @@ use Rattle.std.specs.Prelude.{◌≡◌, ◌*◌, ◌≤◌, ℕ, List, [], Opti
 use Rattle.std.specs.Borrow.{GName}
 use Rattle.ffs_image.specs.Device.{Device}
 use Rattle.ffs_volume.specs.declared.Layout.{Layout}
-use Rattle.ffs_volume.specs.Roles.{Seen, is_dir, seen_in}
-use Rattle.ffs_volume.specs.Volumes.{volume_of}
-use Rattle.ffs_volume.specs.Replay.{cut_at}
+use Rattle.ffs_volume.specs.Directories.Roles.{RoledEntry, is_dir, roled_entries}
+use Rattle.ffs_volume.specs.Directories.Volumes.{volume_of}
+use Rattle.ffs_volume.specs.Encodings.Replay.{cut_at}
 use Rattle.ffs_walk.specs.Windows.{BlocksHold, WindowHolds}
-use Rattle.ffs_volume.specs.Kinds.{kind_at}
+use Rattle.ffs_volume.specs.Encodings.Kinds.{kind_at}
 use Rattle.ffs_workspace.specs.Lengths.{inodes_of}
 use Rattle.ffs_workspace.specs.declared.workspace.Windows.{Windows}
 
--- what it is over: a layout, the image's bytes where it tells them, the kinds and cuts of inodes, and what it was lent
+-- what it is over: a layout, the image's bytes where it gives them, the kinds and cuts of inodes, and what it was lent
 pub record Base : Type 0 where
   pub layout : Layout
-  pub told : Option (List ℕ)
+  pub contents : Option (List ℕ)
   pub kinds : List ℕ
   pub cut : List ℕ
   pub image_lent : GName
@@ -27,17 +27,17 @@ pub record KnowsTree (t : Base) (b : List ℕ) : Type 0 where
   pub cut : (x : ℕ) → slice_index t.cut x ≡ cut_at t.layout b x
 
 -- the entries of a directory, and none of another inode
-abbrev pub dir_entries : Base → List ℕ → ℕ → List Seen
-dir_entries t b d = if is_dir (volume_of t.layout b) d then seen_in (volume_of t.layout b) d else []
+abbrev pub dir_entries : Base → List ℕ → ℕ → List RoledEntry
+dir_entries t b d = if is_dir (volume_of t.layout b) d then roled_entries (volume_of t.layout b) d else []
 
--- the windows have room, and hold what the image tells; its lists have a place for each inode
+-- the windows have room, and hold what the image gives; its lists have a place for each inode
 pub record IsReady (v : Layout) (device : Device) (windows : Windows) (kinds cut : List ℕ) : Type 0 where
   pub volume : v.size * v.fsize ≤ device.size
   pub table : vec_len windows.table.window.buffer ≡ v.bsize
   pub blocks : vec_len windows.blocks.buffer ≡ 3 * v.bsize
   pub chunk : vec_len windows.chunk.buffer ≡ v.bsize
-  pub table_holds : WindowHolds device.told windows.table.window
-  pub blocks_hold : BlocksHold v device.told windows.blocks
-  pub chunk_holds : WindowHolds device.told windows.chunk
+  pub table_holds : WindowHolds device.contents windows.table.window
+  pub blocks_hold : BlocksHold v device.contents windows.blocks
+  pub chunk_holds : WindowHolds device.contents windows.chunk
   pub kinds_long : length kinds ≡ inodes_of v
   pub cut_long : length cut ≡ inodes_of v

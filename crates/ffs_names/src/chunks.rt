@@ -1,20 +1,20 @@
 //! The chunks of a directory.
 
 ghost use Rattle.std.specs.Prelude.{◌≡◌, ◌+◌, ◌*◌, ◌<◌, ◌≤◌, ◌^◌, ◌++◌, ◌∷◌, ◌↔◌, ℕ, List, [], true, false, IsTrue, Option, Ok, None, Some, vec_len, length, IfOk, OnOk, IfErr, OnErr, IfNone, IfSome, MatchOption};
-ghost use Rattle.ffs_image.specs.Device.{Faulted, WhereTold};
-ghost use Rattle.ffs_volume.specs.Areas.{is_in_range};
-ghost use Rattle.ffs_volume.specs.Steps.{steps_of};
-ghost use Rattle.ffs_volume.specs.Directory.{chunk_of, chunks_of, run_chunks, size_taken};
+ghost use Rattle.ffs_image.specs.Device.{Faulted, ForContents};
+ghost use Rattle.ffs_volume.specs.Disk.Areas.{is_in_range};
+ghost use Rattle.ffs_volume.specs.Blocks.Steps.{steps_of};
+ghost use Rattle.ffs_volume.specs.Directories.Entries.{chunk_of, chunks_of, run_chunks, size_taken};
 ghost use Rattle.ffs_volume.specs.declared.Step.{Step as StepIn};
 ghost use Rattle.ffs_volume.specs.declared.Step.TheVariants.{Run};
-ghost use Rattle.ffs_volume.specs.Replay.{is_seen as is_seen_in, fresh_replay, replayed_steps};
-ghost use Rattle.ffs_volume.specs.ReplayLaws.{replayed_runs};
+ghost use Rattle.ffs_volume.specs.Encodings.Replay.{is_replay_open as is_seen_in, fresh_replay, replayed_steps};
+ghost use Rattle.ffs_volume.specs.Encodings.ReplayCounts.{replayed_runs};
 ghost use Rattle.ffs_names.specs.Fits.{HandFits};
 ghost use Rattle.ffs_names.specs.SeenRuns.{RunsAreSeen};
 ghost use Rattle.ffs_walk.specs.Windows.{BlocksHold, HasRoom, WindowHolds};
 
-use crate::hand::Hand;
 use crate::keeping::Keeping;
+use crate::run_cursor::RunCursor;
 use ffs_image::{Image, ImageFault};
 use ffs_layout::Geometry;
 use ffs_volume::{Inode, Step};
@@ -29,54 +29,68 @@ pub struct Chunks {
     pub taken: u64,
     /// At most how many chunks are still to come.
     pub budget: u32,
-    pub hand: Hand,
+    pub run_cursor: RunCursor,
     /// How many Runs were looked at.
     pub runs: u64,
     ghost taken_small: { taken ≤ 2 ^ 31 },
-    ghost hand_fits: { HandFits walk.geometry.layout hand },
+    ghost hand_fits: { HandFits walk.geometry.layout run_cursor },
 }
 
 impl Chunks {
     ghost use Rattle.ffs_names.specs.Keepings.{replay_in};
-    ghost use Rattle.ffs_names.specs.Hands.{hand_chunks, reading_by};
-    ghost use Rattle.ffs_names.specs.Readings.{all_chunks, chunks_behind, rest, runs_left, runs_behind, IsSame};
+    ghost use Rattle.ffs_names.specs.RunCursors.{hand_chunks, reading_by};
+    ghost use Rattle.ffs_names.specs.Readings.{all_chunks, chunks_after, rest, runs_left, runs_after, IsSame};
 
     /// A Run is seen.
     fn see(&mut self, start: u32, len: u32, block: Option<u64>)
         requires some { 0 < len }
         requires short { len ≤ self.old.walk.geometry.layout.frag }
         requires seen { is_seen_in self.old.keeping.cut (replay_in self.old.keeping) ≡ true }
-        requires empty { self.old.hand.next ≡ self.old.hand.count }
-        ensures chunks { (b : List ℕ) (steps : List StepIn) → hand_chunks self.new.walk.geometry.layout b self.new.hand ++ chunks_behind b self.new steps ≡ chunks_behind b self.old (Run start len block ∷ steps) }
-        ensures runs { (steps : List StepIn) → self.new.runs + runs_behind self.new steps ≤ self.old.runs + runs_behind self.old (Run start len block ∷ steps) }
+        requires empty { self.old.run_cursor.next ≡ self.old.run_cursor.count }
+        ensures chunks { (b : List ℕ) (steps : List StepIn)
+            → hand_chunks self.new.walk.geometry.layout b self.new.run_cursor
+            ++ chunks_after b self.new steps
+            ≡ chunks_after b self.old (Run start len block ∷ steps) }
+        ensures runs { (steps : List StepIn) → self.new.runs + runs_after self.new steps
+            ≤ self.old.runs + runs_after self.old (Run start len block ∷ steps) }
         ensures same { IsSame self.old self.new }
         ensures walk { self.new.walk ≡ self.old.walk }
     {
         let geometry = self.walk.geometry;
         self.runs = self.runs.saturating_add(1);
         if self.keeping.take(&geometry, start, len) {
-            self.hand = Hand::of_step(&geometry, self.taken, start, len, block);
+            self.run_cursor = RunCursor::of_step(&geometry, self.taken, start, len, block);
         }
     }
 
-    /// Goes on to a Run with a chunk, if the Run in hand has none left. The answer tells whether there is one.
+    /// Moves on to a Run with a chunk, if the current Run has none left. The answer says whether there is one.
     fn advance<I: Image>(&mut self, image: &mut I, blocks: &mut Blocks) -> Result<bool, ImageFault>
-        requires volume { self.old.walk.geometry.layout.size * self.old.walk.geometry.layout.fsize ≤ (I.device image.old).size }
+        requires volume { self.old.walk.geometry.layout.size * self.old.walk.geometry.layout.fsize
+            ≤ (I.device image.old).size }
         requires room { HasRoom self.old.walk.geometry.layout blocks.old }
-        requires holds { BlocksHold self.old.walk.geometry.layout (I.device image.old).told blocks.old }
-        ensures chunks { OnOk result (WhereTold (I.device image.old).told (λ b. all_chunks b self.new ≡ all_chunks b self.old)) }
-        ensures some { IfOk result (λ found. found ≡ true → self.new.hand.next < self.new.hand.count) }
-        ensures none { IfOk result (λ found. found ≡ false → WhereTold (I.device image.old).told (λ b. all_chunks b self.new ≡ [])) }
-        ensures runs { OnOk result (WhereTold (I.device image.old).told (λ b. self.new.runs + runs_left b self.new ≤ self.old.runs + runs_left b self.old)) }
-        ensures runs_seen { OnErr result (WhereTold (I.device image.old).told (λ b. self.new.runs ≤ self.old.runs + runs_left b self.old)) }
+        requires holds { BlocksHold self.old.walk.geometry.layout (I.device image.old).contents
+            blocks.old }
+        ensures chunks { OnOk result (ForContents (I.device image.old).contents
+            (λ b. all_chunks b self.new ≡ all_chunks b self.old)) }
+        ensures some { IfOk result (λ found. found ≡ true → self.new.run_cursor.next
+            < self.new.run_cursor.count) }
+        ensures none { IfOk result (λ found. found ≡ false
+            → ForContents (I.device image.old).contents (λ b. all_chunks b self.new ≡ [])) }
+        ensures runs { OnOk result (ForContents (I.device image.old).contents
+            (λ b. self.new.runs + runs_left b self.new ≤ self.old.runs + runs_left b self.old)) }
+        ensures runs_seen { OnErr result
+            (ForContents (I.device image.old).contents
+            (λ b. self.new.runs ≤ self.old.runs + runs_left b self.old)) }
         ensures same { IsSame self.old self.new }
         ensures size { vec_len blocks.new.buffer ≡ vec_len blocks.old.buffer }
-        ensures holds { BlocksHold self.old.walk.geometry.layout (I.device image.new).told blocks.new }
+        ensures holds { BlocksHold self.old.walk.geometry.layout (I.device image.new).contents
+            blocks.new }
         ensures ok { OnOk result (I.device image.new ≡ I.device image.old) }
-        ensures err { IfErr result (λ fault. Faulted (I.device image.old) (I.device image.new) fault.sector) }
+        ensures err { IfErr result (λ fault. Faulted (I.device image.old) (I.device image.new)
+            fault.sector) }
     {
-        'steps: while self.hand.next == self.hand.count {
-            if !self.keeping.is_seen() {
+        'steps: while self.run_cursor.next == self.run_cursor.count {
+            if !self.keeping.is_replay_open() {
                 return Ok(false);
             }
             match self.walk.next(image, blocks)? {
@@ -97,40 +111,57 @@ impl Chunks {
         data: &mut Window,
         chunk: &mut [u8; 512],
     ) -> Result<Option<u64>, ImageFault>
-        requires volume { self.old.walk.geometry.layout.size * self.old.walk.geometry.layout.fsize ≤ (I.device image.old).size }
+        requires volume { self.old.walk.geometry.layout.size * self.old.walk.geometry.layout.fsize
+            ≤ (I.device image.old).size }
         requires room { HasRoom self.old.walk.geometry.layout blocks.old }
-        requires holds { BlocksHold self.old.walk.geometry.layout (I.device image.old).told blocks.old }
+        requires holds { BlocksHold self.old.walk.geometry.layout (I.device image.old).contents
+            blocks.old }
         requires data_room { self.old.walk.geometry.layout.bsize ≤ vec_len «data».old.buffer }
-        requires data_holds { WindowHolds (I.device image.old).told «data».old }
-        ensures chunks { IfOk result (λ o. WhereTold (I.device image.old).told (λ b. MatchOption o (all_chunks b self.old ≡ [])
-            (λ offset. all_chunks b self.old ≡ chunk_of self.old.walk.geometry.layout.order offset chunk.new ∷ all_chunks b self.new))) }
-        ensures none { IfOk result (λ o. IfNone o (WhereTold (I.device image.old).told (λ b. all_chunks b self.new ≡ []))) }
-        ensures runs { OnOk result (WhereTold (I.device image.old).told (λ b. self.new.runs + runs_left b self.new ≤ self.old.runs + runs_left b self.old)) }
-        ensures runs_seen { OnErr result (WhereTold (I.device image.old).told (λ b. self.new.runs ≤ self.old.runs + runs_left b self.old)) }
+        requires data_holds { WindowHolds (I.device image.old).contents «data».old }
+        ensures chunks { IfOk result (λ o. ForContents (I.device image.old).contents
+            (λ b. MatchOption o (all_chunks b self.old ≡ [])
+            (λ offset. all_chunks b self.old
+            ≡ chunk_of self.old.walk.geometry.layout.order offset chunk.new
+            ∷ all_chunks b self.new))) }
+        ensures none { IfOk result (λ o. IfNone o
+            (ForContents (I.device image.old).contents (λ b. all_chunks b self.new ≡ []))) }
+        ensures runs { OnOk result (ForContents (I.device image.old).contents
+            (λ b. self.new.runs + runs_left b self.new ≤ self.old.runs + runs_left b self.old)) }
+        ensures runs_seen { OnErr result
+            (ForContents (I.device image.old).contents
+            (λ b. self.new.runs ≤ self.old.runs + runs_left b self.old)) }
         ensures same { IsSame self.old self.new }
         ensures size { vec_len blocks.new.buffer ≡ vec_len blocks.old.buffer }
-        ensures holds { BlocksHold self.old.walk.geometry.layout (I.device image.new).told blocks.new }
+        ensures holds { BlocksHold self.old.walk.geometry.layout (I.device image.new).contents
+            blocks.new }
         ensures data_size { vec_len «data».new.buffer ≡ vec_len «data».old.buffer }
-        ensures data_holds { WindowHolds (I.device image.new).told «data».new }
+        ensures data_holds { WindowHolds (I.device image.new).contents «data».new }
         ensures ok { OnOk result (I.device image.new ≡ I.device image.old) }
-        ensures err { IfErr result (λ fault. Faulted (I.device image.old) (I.device image.new) fault.sector) }
+        ensures err { IfErr result (λ fault. Faulted (I.device image.old) (I.device image.new)
+            fault.sector) }
     {
         if !self.advance(image, blocks)? {
             return Ok(None);
         }
-        let hand = self.hand;
-        data.fill(image, hand.place, hand.length as usize)?;
-        let at = 512 * hand.next as usize;
+        let run_cursor = self.run_cursor;
+        data.fill(image, run_cursor.place, run_cursor.length as usize)?;
+        let at = 512 * run_cursor.next as usize;
         chunk.copy_from_slice(&data.bytes()[at..at + 512]);
-        self.hand.next += 1;
-        Ok(Some(hand.offset + 512 * u64::from(hand.next)))
+        self.run_cursor.next += 1;
+        Ok(Some(run_cursor.offset + 512 * u64::from(run_cursor.next)))
     }
 
-    /// A reading of the directory with this inode, of which no offer is kept behind the cut (0 for none).
+    /// A reading of the directory with this inode, of which no offer is kept after the cut (0 for none).
     pub fn start(geometry: &Geometry, inode: &Inode, cut: u32) -> Chunks
-        ensures chunks { (b : List ℕ) → inode.now.size < 2 ^ 31 → rest b result ≡ chunks_of (reading_by geometry.now.layout b (size_taken inode.now.size)) (is_in_range geometry.now.layout) (replayed_steps geometry.now.layout cut fresh_replay (steps_of geometry.now.layout inode.now b)) }
+        ensures chunks { (b : List ℕ) → inode.now.size < 2 ^ 31 → rest b result
+            ≡ chunks_of (reading_by geometry.now.layout b (size_taken inode.now.size))
+            (is_in_range geometry.now.layout)
+            (replayed_steps geometry.now.layout cut fresh_replay
+            (steps_of geometry.now.layout inode.now b)) }
         ensures runs { result.runs ≡ 0 }
-        ensures runs_left { (b : List ℕ) → runs_left b result ≡ replayed_runs geometry.now.layout cut fresh_replay (steps_of geometry.now.layout inode.now b) }
+        ensures runs_left { (b : List ℕ) → runs_left b result
+            ≡ replayed_runs geometry.now.layout cut fresh_replay
+            (steps_of geometry.now.layout inode.now b) }
         ensures budget { result.budget ≤ 2 ^ 22 }
         ensures geometry { result.walk.geometry ≡ geometry.now }
     {
@@ -140,7 +171,7 @@ impl Chunks {
             keeping: Keeping::start(cut),
             taken,
             budget: (taken / 512) as u32,
-            hand: Hand::empty(),
+            run_cursor: RunCursor::empty(),
             runs: 0,
         }
     }
@@ -157,27 +188,37 @@ impl Chunks {
         data: &mut Window,
         chunk: &mut [u8; 512],
     ) -> Result<Option<u64>, ImageFault>
-        requires volume { self.old.walk.geometry.layout.size * self.old.walk.geometry.layout.fsize ≤ (I.device image.old).size }
+        requires volume { self.old.walk.geometry.layout.size * self.old.walk.geometry.layout.fsize
+            ≤ (I.device image.old).size }
         requires room { HasRoom self.old.walk.geometry.layout blocks.old }
-        requires holds { BlocksHold self.old.walk.geometry.layout (I.device image.old).told blocks.old }
+        requires holds { BlocksHold self.old.walk.geometry.layout (I.device image.old).contents
+            blocks.old }
         requires data_room { self.old.walk.geometry.layout.bsize ≤ vec_len «data».old.buffer }
-        requires data_holds { WindowHolds (I.device image.old).told «data».old }
-        ensures chunks { IfOk result (λ o. WhereTold (I.device image.old).told (λ b. MatchOption o (rest b self.old ≡ [])
-            (λ offset. rest b self.old ≡ chunk_of self.old.walk.geometry.layout.order offset chunk.new ∷ rest b self.new))) }
-        ensures none { IfOk result (λ o. IfNone o (WhereTold (I.device image.old).told (λ b. rest b self.new ≡ []))) }
+        requires data_holds { WindowHolds (I.device image.old).contents «data».old }
+        ensures chunks { IfOk result (λ o. ForContents (I.device image.old).contents
+            (λ b. MatchOption o (rest b self.old ≡ [])
+            (λ offset. rest b self.old ≡ chunk_of self.old.walk.geometry.layout.order offset
+            chunk.new ∷ rest b self.new))) }
+        ensures none { IfOk result (λ o. IfNone o
+            (ForContents (I.device image.old).contents (λ b. rest b self.new ≡ []))) }
         ensures falls { IfOk result (λ o. IfSome o (λ _. self.new.budget + 1 ≡ self.old.budget)) }
         ensures few { self.new.budget ≤ self.old.budget }
         ensures over { self.old.budget ≡ 0 → result ≡ Ok None }
         ensures fault { OnErr result (self.new.budget ≡ 0) }
-        ensures runs { OnOk result (WhereTold (I.device image.old).told (λ b. self.new.runs + runs_left b self.new ≤ self.old.runs + runs_left b self.old)) }
-        ensures runs_seen { OnErr result (WhereTold (I.device image.old).told (λ b. self.new.runs ≤ self.old.runs + runs_left b self.old)) }
+        ensures runs { OnOk result (ForContents (I.device image.old).contents
+            (λ b. self.new.runs + runs_left b self.new ≤ self.old.runs + runs_left b self.old)) }
+        ensures runs_seen { OnErr result
+            (ForContents (I.device image.old).contents
+            (λ b. self.new.runs ≤ self.old.runs + runs_left b self.old)) }
         ensures geometry { self.new.walk.geometry ≡ self.old.walk.geometry }
         ensures size { vec_len blocks.new.buffer ≡ vec_len blocks.old.buffer }
-        ensures holds { BlocksHold self.old.walk.geometry.layout (I.device image.new).told blocks.new }
+        ensures holds { BlocksHold self.old.walk.geometry.layout (I.device image.new).contents
+            blocks.new }
         ensures data_size { vec_len «data».new.buffer ≡ vec_len «data».old.buffer }
-        ensures data_holds { WindowHolds (I.device image.new).told «data».new }
+        ensures data_holds { WindowHolds (I.device image.new).contents «data».new }
         ensures ok { OnOk result (I.device image.new ≡ I.device image.old) }
-        ensures err { IfErr result (λ fault. Faulted (I.device image.old) (I.device image.new) fault.sector) }
+        ensures err { IfErr result (λ fault. Faulted (I.device image.old) (I.device image.new)
+            fault.sector) }
     {
         if self.budget == 0 {
             return Ok(None);

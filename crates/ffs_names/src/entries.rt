@@ -2,14 +2,14 @@
 
 ghost use Rattle.std.specs.Prelude.{◌≡◌, ◌+◌, ◌*◌, ◌<◌, ◌≤◌, ◌^◌, ◌∷◌, ◌++◌, ℕ, List, [], false, vec_len, length, IfOk, OnOk, IfErr, IfNone, IfSome, is_some, MatchOption};
 ghost use Rattle.std.specs.List.{flat_map};
-ghost use Rattle.ffs_image.specs.Device.{Faulted, WhereTold};
-ghost use Rattle.ffs_volume.specs.Areas.{is_in_range};
-ghost use Rattle.ffs_volume.specs.Steps.{steps_of};
-ghost use Rattle.ffs_volume.specs.Directory.{Chunk, chunks_of, entry_at as entry_in, size_taken};
-ghost use Rattle.ffs_volume.specs.Roles.{chunk_seen};
-ghost use Rattle.ffs_volume.specs.Replay.{fresh_replay, replayed_steps};
+ghost use Rattle.ffs_image.specs.Device.{Faulted, ForContents};
+ghost use Rattle.ffs_volume.specs.Disk.Areas.{is_in_range};
+ghost use Rattle.ffs_volume.specs.Blocks.Steps.{steps_of};
+ghost use Rattle.ffs_volume.specs.Directories.Entries.{Chunk, chunks_of, entry_at as entry_in, size_taken};
+ghost use Rattle.ffs_volume.specs.Directories.Roles.{roled_chunk};
+ghost use Rattle.ffs_volume.specs.Encodings.Replay.{fresh_replay, replayed_steps};
 ghost use Rattle.ffs_walk.specs.Windows.{BlocksHold, HasRoom, WindowHolds};
-ghost use Rattle.ffs_names.specs.Hands.{reading_by};
+ghost use Rattle.ffs_names.specs.RunCursors.{reading_by};
 ghost use Rattle.ffs_names.specs.Readings.{rest};
 
 use crate::chunks::Chunks;
@@ -25,14 +25,14 @@ use ffs_walk::{Blocks, Window};
 pub struct Entries {
     pub order: Order,
     pub chunks: Chunks,
-    /// The chunk in hand.
+    /// The current chunk.
     pub chunk: [u8; 512],
-    /// Where the next entry of the chunk would stand, and how many stand before it.
+    /// Where the next entry of the chunk would be, and how many are before it.
     pub place: usize,
     pub index: usize,
-    /// Whether the chunk stands at the start of the file.
+    /// Whether the chunk is at the start of the file.
     pub first: bool,
-    /// Where the name of the last entry stands in the chunk.
+    /// Where the name of the last entry is in the chunk.
     pub name_place: usize,
     pub name_len: usize,
     ghost in_chunk: { place ≤ 512 },
@@ -42,12 +42,17 @@ pub struct Entries {
 }
 
 impl Entries {
-    ghost use Rattle.ffs_survey.specs.Reading.{seen_of};
+    ghost use Rattle.ffs_survey.specs.Reading.{roled_of};
     ghost use Rattle.ffs_names.specs.Entering.{to_come, left, last_name};
 
-    /// A reading of the directory with this inode, of which no offer is kept behind the cut (0 for none).
+    /// A reading of the directory with this inode, of which no offer is kept after the cut (0 for none).
     pub fn start(geometry: &Geometry, inode: &Inode, cut: u32) -> Entries
-        ensures entries { (b : List ℕ) → inode.now.size < 2 ^ 31 → to_come b result ≡ flat_map chunk_seen (chunks_of (reading_by geometry.now.layout b (size_taken inode.now.size)) (is_in_range geometry.now.layout) (replayed_steps geometry.now.layout cut fresh_replay (steps_of geometry.now.layout inode.now b))) }
+        ensures entries { (b : List ℕ) → inode.now.size < 2 ^ 31 → to_come b result
+            ≡ flat_map roled_chunk (chunks_of
+            (reading_by geometry.now.layout b (size_taken inode.now.size))
+            (is_in_range geometry.now.layout)
+            (replayed_steps geometry.now.layout cut fresh_replay
+            (steps_of geometry.now.layout inode.now b))) }
         ensures left { left result ≤ 2 ^ 28 }
         ensures geometry { result.chunks.walk.geometry ≡ geometry.now }
     {
@@ -94,11 +99,14 @@ impl Entries {
         self.chunks.budget = 0;
     }
 
-    /// Takes the entry at `place`, if one stands there.
+    /// Takes the entry at `place`, if one is there.
     fn take(&mut self) -> Option<Named>
-        ensures entries { MatchOption result ((b : List ℕ) → to_come b self.new ≡ to_come b self.old)
-            (λ named. (b : List ℕ) → to_come b self.old ≡ seen_of named (last_name self.new) ∷ to_come b self.new) }
-        ensures none { IfNone result (is_some (entry_in self.new.order self.new.chunk self.new.place) ≡ false) }
+        ensures entries { MatchOption result
+            ((b : List ℕ) → to_come b self.new ≡ to_come b self.old)
+            (λ named. (b : List ℕ) → to_come b self.old ≡ roled_of named (last_name self.new)
+            ∷ to_come b self.new) }
+        ensures none { IfNone result (is_some
+            (entry_in self.new.order self.new.chunk self.new.place) ≡ false) }
         ensures left { IfSome result (λ _. left self.new < left self.old) }
         ensures chunks { self.new.chunks ≡ self.old.chunks }
     {
@@ -130,21 +138,28 @@ impl Entries {
         blocks: &mut Blocks,
         window: &mut Window,
     ) -> Result<Option<Named>, ImageFault>
-        requires volume { self.old.chunks.walk.geometry.layout.size * self.old.chunks.walk.geometry.layout.fsize ≤ (I.device image.old).size }
+        requires volume { self.old.chunks.walk.geometry.layout.size *
+            self.old.chunks.walk.geometry.layout.fsize ≤ (I.device image.old).size }
         requires room { HasRoom self.old.chunks.walk.geometry.layout blocks.old }
-        requires holds { BlocksHold self.old.chunks.walk.geometry.layout (I.device image.old).told blocks.old }
-        requires data_room { self.old.chunks.walk.geometry.layout.bsize ≤ vec_len window.old.buffer }
-        requires data_holds { WindowHolds (I.device image.old).told window.old }
-        ensures entries { IfOk result (λ o. WhereTold (I.device image.old).told (λ b. MatchOption o (to_come b self.old ≡ [])
-            (λ named. to_come b self.old ≡ seen_of named (last_name self.new) ∷ to_come b self.new))) }
+        requires holds { BlocksHold self.old.chunks.walk.geometry.layout
+            (I.device image.old).contents blocks.old }
+        requires data_room { self.old.chunks.walk.geometry.layout.bsize
+            ≤ vec_len window.old.buffer }
+        requires data_holds { WindowHolds (I.device image.old).contents window.old }
+        ensures entries { IfOk result (λ o. ForContents (I.device image.old).contents
+            (λ b. MatchOption o (to_come b self.old ≡ [])
+            (λ named. to_come b self.old ≡ roled_of named (last_name self.new)
+            ∷ to_come b self.new))) }
         ensures left { IfOk result (λ o. IfSome o (λ _. left self.new < left self.old)) }
         ensures geometry { self.new.chunks.walk.geometry ≡ self.old.chunks.walk.geometry }
         ensures size { vec_len blocks.new.buffer ≡ vec_len blocks.old.buffer }
-        ensures holds { BlocksHold self.old.chunks.walk.geometry.layout (I.device image.new).told blocks.new }
+        ensures holds { BlocksHold self.old.chunks.walk.geometry.layout
+            (I.device image.new).contents blocks.new }
         ensures data_size { vec_len window.new.buffer ≡ vec_len window.old.buffer }
-        ensures data_holds { WindowHolds (I.device image.new).told window.new }
+        ensures data_holds { WindowHolds (I.device image.new).contents window.new }
         ensures ok { OnOk result (I.device image.new ≡ I.device image.old) }
-        ensures err { IfErr result (λ fault. Faulted (I.device image.old) (I.device image.new) fault.sector) }
+        ensures err { IfErr result (λ fault. Faulted (I.device image.old) (I.device image.new)
+            fault.sector) }
     {
         'chunks: loop {
             match self.take() {

@@ -1,9 +1,9 @@
-//! Which steps of an inode are kept, told again.
+//! Which steps of an inode are kept, replayed.
 
 ghost use Rattle.std.specs.Prelude.{◌≡◌, ◌<◌, ◌≤◌, ℕ, true, Option};
 ghost use Rattle.ffs_volume.specs.declared.Step.TheVariants.{Run};
-ghost use Rattle.ffs_volume.specs.Replay.{is_seen as is_seen_in, is_replayed, fresh_replay};
-ghost use Rattle.ffs_volume.specs.ReplayLaws.{counted_step};
+ghost use Rattle.ffs_volume.specs.Encodings.Replay.{is_replay_open as is_seen_in, is_replayed, fresh_replay};
+ghost use Rattle.ffs_volume.specs.Encodings.ReplayCounts.{counted_step};
 
 use ffs_layout::Geometry;
 
@@ -34,18 +34,22 @@ impl Keeping {
     }
 
     /// Whether the next step is seen.
-    pub fn is_seen(&self) -> bool
+    pub fn is_replay_open(&self) -> bool
         ensures { result ≡ is_seen_in self.now.cut (replay_in self.now) }
     {
         self.bad < 11 && (self.cut == 0 || self.kept < self.cut)
     }
 
-    /// A Run is seen; the answer tells whether it is kept.
+    /// A Run is seen; the answer says whether it is kept.
     pub fn take(&mut self, geometry: &Geometry, start: u32, len: u32) -> bool
         requires some { 0 < len }
         requires seen { is_seen_in self.old.cut (replay_in self.old) ≡ true }
-        ensures kept { (block : Option ℕ) → result ≡ is_replayed geometry.now.layout self.old.cut (replay_in self.old) (Run start len block) }
-        ensures after { (block : Option ℕ) → replay_in self.new ≡ counted_step geometry.now.layout self.old.cut (replay_in self.old) (Run start len block) }
+        ensures kept { (block : Option ℕ) → result
+            ≡ is_replayed geometry.now.layout self.old.cut (replay_in self.old)
+            (Run start len block) }
+        ensures after { (block : Option ℕ) → replay_in self.new
+            ≡ counted_step geometry.now.layout self.old.cut (replay_in self.old)
+            (Run start len block) }
         ensures cut { self.new.cut ≡ self.old.cut }
     {
         if !geometry.in_range(start, len) {

@@ -13,9 +13,9 @@
 pub mod chunks;
 pub mod entries;
 pub mod graph;
-pub mod hand;
 pub mod keeping;
 pub mod role;
+pub mod run_cursor;
 pub mod tree;
 
 pub use chunks::Chunks;

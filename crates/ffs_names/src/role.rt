@@ -1,8 +1,8 @@
-//! What an entry of a directory is there for.
+//! The role of an entry of a directory.
 
 ghost use Rattle.std.specs.Prelude.{◌≡◌};
-ghost use Rattle.ffs_volume.specs.Roles.{role_of as role_in, is_one_dot as one_dot, is_two_dots as two_dots};
-ghost use Rattle.ffs_layout.specs.Entry.{seen_entry};
+ghost use Rattle.ffs_volume.specs.Directories.Roles.{role_of as role_in, is_one_dot as one_dot, is_two_dots as two_dots};
+ghost use Rattle.ffs_layout.specs.Entry.{entry_value};
 
 use ffs_layout::Entry;
 use ffs_volume::Role;
@@ -19,13 +19,13 @@ fn is_two_dots(name: &[u8]) -> bool
     name.len() == 2 && name[0] == b'.' && name[1] == b'.'
 }
 
-/// The role of an entry at an index of its chunk; `first` says that the chunk stands at the start of the file (dir(5)).
+/// The role of an entry at an index of its chunk; `first` says that the chunk is at the start of the file (dir(5)).
 ///
 /// `.` is right as the first entry of the first chunk alone, and `..` as its second; elsewhere they are extra. An entry
 /// with the number 0 is empty.
-#[tactic(auto, unfolding(ffs_volume::specs::Roles::role_of))]
+#[tactic(auto, unfolding(ffs_volume::specs::Directories::Roles::role_of))]
 pub fn role_of(first: bool, index: usize, entry: &Entry<'_>) -> Role
-    ensures { result ≡ role_in first index (seen_entry entry.now) }
+    ensures { result ≡ role_in first index (entry_value entry.now) }
 {
     if entry.number == 0 {
         Role::Empty

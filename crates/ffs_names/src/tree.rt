@@ -18,7 +18,7 @@ pub struct Tree<'a, I> {
     pub kinds: &'a [u8],
     /// How many offers each inode keeps where dup offers cut it.
     pub cut: &'a [u32],
-    /// The directory in hand.
+    /// The current directory.
     pub entries: Entries,
 }
 
@@ -28,7 +28,7 @@ impl<I: Image> Directories for Tree<'_, I> {
 
     ghost Base = { TreeBase };
 
-    ghost base = { λ t. record { layout = t.geometry.layout; told = (I.device t.image.now).told; kinds = t.kinds.now; cut = t.cut.now; image_lent = t.image.ghost_name; windows_lent = t.windows.ghost_name } };
+    ghost base = { λ t. record { layout = t.geometry.layout; contents = (I.device t.image.now).contents; kinds = t.kinds.now; cut = t.cut.now; image_lent = t.image.ghost_name; windows_lent = t.windows.ghost_name } };
 
     ghost knows = { KnowsTree };
 

@@ -1,39 +1,39 @@
--- A directory that is begun, and how its lines go on.
+-- A directory that is begun, and how its lines continue.
 use Rattle.std.proofs.Common.{◌≡◌, ◌≤◌, suc, Result, Ok, refl, sym, ap, subst, ◌∙◌, ℕ, Bool, true, List, [], ◌++◌, map, Option, Err, nat_le, nat_lt, append-nil}
 use Rattle.std.specs.Prelude.{option_and_then, OnOk}
 use Rattle.std.proofs.lemmas.List.{map-append}
 use Rattle.std.proofs.lemmas.Bool.{and_parts, ltb-true}
 use Rattle.ffs_volume.specs.declared.Layout.{Layout}
-use Rattle.ffs_volume.specs.Directory.{Entry}
-use Rattle.ffs_volume.specs.Graph.{parent}
-use Rattle.ffs_volume.specs.Inodes.{inode_of}
-use Rattle.ffs_volume.specs.Messages.{Message, NameMessage, of_names}
-use Rattle.ffs_volume.specs.Parents.{graph_of}
-use Rattle.ffs_volume.specs.PathnameCheck.{attributes, are_sound, dir_lines, entry_lines}
-use Rattle.ffs_volume.specs.Paths.{dir_path}
-use Rattle.ffs_volume.specs.Roles.{Volume, entry_number, is_dir, is_inode, is_directory, seen_in, start_entry}
-use Rattle.ffs_volume.specs.Volumes.{volume_of, volume_with}
-use Rattle.ffs_phase.specs.Known.{Where}
-use Rattle.ffs_phase.specs.Runs.{SaidOf, TellsOf}
+use Rattle.ffs_volume.specs.Directories.Entries.{Entry}
+use Rattle.ffs_volume.specs.Directories.Graph.{parent}
+use Rattle.ffs_volume.specs.Blocks.Inodes.{inode_of, is_directory}
+use Rattle.ffs_volume.specs.Messages.Kinds.{Message, NameMessage, of_names}
+use Rattle.ffs_volume.specs.Directories.Parents.{graph_of}
+use Rattle.ffs_volume.specs.Directories.PathnameCheck.{attributes, are_sound, dir_lines, entry_lines}
+use Rattle.ffs_volume.specs.Directories.Paths.{dir_path}
+use Rattle.ffs_volume.specs.Directories.Roles.{Volume, entry_number, is_dir, is_inode, roled_entries, start_entry}
+use Rattle.ffs_volume.specs.Directories.Volumes.{volume_of, volume_with}
+use Rattle.ffs_phase.specs.Known.{ForBytes}
+use Rattle.ffs_phase.specs.Runs.{SaidOf, PhaseReports}
 use Rattle.ffs_phase.specs.declared.fault.RunFault.{RunFault}
 use Rattle.ffs_phase.specs.declared.fault.RunFault.TheVariants.{Read, Out}
 use Rattle.ffs_report.specs.Progress.{Progress}
 use Rattle.ffs_workspace.specs.declared.workspace.Workspace.{Workspace}
-use Rattle.ffs_pathnames.specs.declared.examine.Examined.{Examined}
+use Rattle.ffs_pathnames.specs.declared.examine.DirectorySummary.{DirectorySummary}
 use Rattle.ffs_pathnames.specs.Begins.{dir_starts, started_entry, IsBegun}
 use Rattle.ffs_pathnames.specs.Examines.{AreFound, LeavesQueue, LeavesMarks}
-use Rattle.ffs_pathnames.specs.Marks.{Marks, are_quiet, entries_told, after_entries}
+use Rattle.ffs_pathnames.specs.Marks.{Marks, are_quiet, entries_reported, after_entries}
 use Rattle.ffs_pathnames.specs.MarksRight.{AreRightBefore}
-use Rattle.ffs_pathnames.specs.Starts.{starts_told}
+use Rattle.ffs_pathnames.specs.Starts.{starts_reported}
 use Rattle.ffs_pathnames.proofs.Places.{size_of}
-use Rattle.ffs_pathnames.proofs.MarkLaws.{IsDirectory, right_told}
+use Rattle.ffs_pathnames.proofs.MarkLaws.{IsDirectory, right_reported}
 use Rattle.ffs_pathnames.proofs.LookLaws.{quiet_silent}
-use Rattle.ffs_pathnames.proofs.BetweenLaws.{unstamped, looked, looked_right, quiet_next, told_next}
+use Rattle.ffs_pathnames.proofs.BetweenLaws.{unstamped, looked, looked_right, quiet_next, reported_next}
 use Rattle.ffs_pathnames.proofs.StartLaws.{dir_parts}
 
 -- what is said of what is known, where more is known and it has another form
 pub said_same : (knows knows' : List ℕ → Type 0) (all all' : List ℕ → List Message) (a b : Progress) →
-    Where knows' knows → Where knows' (λ bytes. all bytes ≡ all' bytes) → SaidOf knows (λ bytes. []) all a b → SaidOf knows' (λ bytes. []) all' a b
+    ForBytes knows' knows → ForBytes knows' (λ bytes. all bytes ≡ all' bytes) → SaidOf knows (λ bytes. []) all a b → SaidOf knows' (λ bytes. []) all' a b
 said_same knows knows' all all' a b more e p = record {
   messages = p.messages;
   right = λ bytes k. p.right bytes (more bytes k) ∙ e bytes k;
@@ -41,7 +41,7 @@ said_same knows knows' all all' a b more e p = record {
 }
 
 pub fault_same : (T E : Type 0) (knows knows' : List ℕ → Type 0) (all all' : List ℕ → List Message) (a b : Progress) (fault : RunFault) →
-    Where knows' knows → Where knows' (λ bytes. all bytes ≡ all' bytes) → TellsOf {T = T} knows all a b (Err fault) → TellsOf {T = E} knows' all' a b (Err fault)
+    ForBytes knows' knows → ForBytes knows' (λ bytes. all bytes ≡ all' bytes) → PhaseReports {T = T} knows all a b (Err fault) → PhaseReports {T = E} knows' all' a b (Err fault)
 fault_same T E knows knows' all all' a b (Read fault) more e p = record {
   rest = p.rest;
   front = record {
@@ -63,25 +63,25 @@ unfolding attributes volume_of volume_with
 attr_size v b d = refl
 
 -- what was found is the volume's
-pub starts_are : (v : Layout) (b : List ℕ) (d : ℕ) (old new : Workspace) (e : Examined) (start : List ℕ) (above : Option ℕ) (first second : Option Entry) →
+pub starts_are : (v : Layout) (b : List ℕ) (d : ℕ) (old new : Workspace) (e : DirectorySummary) (start : List ℕ) (above : Option ℕ) (first second : Option Entry) →
     AreFound v b d old e new start → above ≡ parent (graph_of (volume_of v b)) d →
     first ≡ started_entry 0 e.found.started v.order start → second ≡ started_entry 1 e.found.started v.order start →
-    starts_told (attributes (volume_of v b) d) (dir_path (graph_of (volume_of v b)) d) d above e.gap e.found.sound first second ≡ dir_starts (volume_of v b) d
+    starts_reported (attributes (volume_of v b) d) (dir_path (graph_of (volume_of v b)) d) d above e.gap e.found.sound first second ≡ dir_starts (volume_of v b) d
 unfolding dir_starts start_entry
 starts_are v b d old new e start above first second f p q r =
     let V = volume_of v b in
     let A = attributes (volume_of v b) d in
     let P = dir_path (graph_of (volume_of v b)) d in
-    ap (λ x. starts_told A P d x e.gap e.found.sound first second) p
-    ∙ (ap (λ x. starts_told A P d (parent (graph_of V) d) x e.found.sound first second) f.gap
-    ∙ (ap (λ x. starts_told A P d (parent (graph_of V) d) (V.gap d) x first second) f.sound
-    ∙ (ap (λ x. starts_told A P d (parent (graph_of V) d) (V.gap d) (are_sound (V.chunks d)) x second) (q ∙ sym (ap (option_and_then (λ c. entry_number 0 c.entries)) f.started))
-    ∙ ap (λ x. starts_told A P d (parent (graph_of V) d) (V.gap d) (are_sound (V.chunks d)) (start_entry V d 0) x) (r ∙ sym (ap (option_and_then (λ c. entry_number 1 c.entries)) f.started)))))
+    ap (λ x. starts_reported A P d x e.gap e.found.sound first second) p
+    ∙ (ap (λ x. starts_reported A P d (parent (graph_of V) d) x e.found.sound first second) f.gap
+    ∙ (ap (λ x. starts_reported A P d (parent (graph_of V) d) (V.gap d) x first second) f.sound
+    ∙ (ap (λ x. starts_reported A P d (parent (graph_of V) d) (V.gap d) (are_sound (V.chunks d)) x second) (q ∙ sym (ap (option_and_then (λ c. entry_number 0 c.entries)) f.started))
+    ∙ ap (λ x. starts_reported A P d (parent (graph_of V) d) (V.gap d) (are_sound (V.chunks d)) (start_entry V d 0) x) (r ∙ sym (ap (option_and_then (λ c. entry_number 1 c.entries)) f.started)))))
 
 abbrev marks_with : List Bool → List ℕ → Marks
 marks_with passed stamps = record { passed = passed; stamps = stamps }
 
-pub begun_is : (v : Layout) (b : List ℕ) (d : ℕ) (old new more : Workspace) (e : Examined) (start : List ℕ) →
+pub begun_is : (v : Layout) (b : List ℕ) (d : ℕ) (old new more : Workspace) (e : DirectorySummary) (start : List ℕ) →
     AreFound v b d old e new start → LeavesQueue old new → LeavesMarks new more → IsBegun v b d old e more
 begun_is v b d old new more e start f q m = record {
   inode = f.inode;
@@ -97,35 +97,35 @@ directory_is v d two h =
     record { dir = h; below = ltb-true d v.count b.1; from_two = two }
 
 -- its lines: first those before its entries, then those of its entries
-pub lines_parts : (v : Volume) (d : ℕ) (ms : List NameMessage) → entry_lines v d 0 (seen_in v d) ≡ ms →
+pub lines_parts : (v : Volume) (d : ℕ) (ms : List NameMessage) → entry_lines v d 0 (roled_entries v d) ≡ ms →
     map of_names (dir_lines v d) ≡ map of_names (dir_starts v d) ++ map of_names ms
 unfolding dir_starts
 lines_parts v d ms e =
-    ap (map of_names) (dir_parts v d ∙ ap (λ l. starts_told (attributes v d) (dir_path (graph_of v) d) d (parent (graph_of v) d) (v.gap d) (are_sound (v.chunks d)) (start_entry v d 0) (start_entry v d 1) ++ l) e)
-    ∙ map-append of_names (starts_told (attributes v d) (dir_path (graph_of v) d) d (parent (graph_of v) d) (v.gap d) (are_sound (v.chunks d)) (start_entry v d 0) (start_entry v d 1)) ms
+    ap (map of_names) (dir_parts v d ∙ ap (λ l. starts_reported (attributes v d) (dir_path (graph_of v) d) d (parent (graph_of v) d) (v.gap d) (are_sound (v.chunks d)) (start_entry v d 0) (start_entry v d 1) ++ l) e)
+    ∙ map-append of_names (starts_reported (attributes v d) (dir_path (graph_of v) d) d (parent (graph_of v) d) (v.gap d) (are_sound (v.chunks d)) (start_entry v d 0) (start_entry v d 1)) ms
 
-pub quiet_lines : (v : Volume) (d : ℕ) (m : Marks) → IsDirectory v d → AreRightBefore v d m → are_quiet v d m.stamps (seen_in v d) ≡ true → entry_lines v d 0 (seen_in v d) ≡ []
+pub quiet_lines : (v : Volume) (d : ℕ) (m : Marks) → IsDirectory v d → AreRightBefore v d m → are_quiet v d m.stamps (roled_entries v d) ≡ true → entry_lines v d 0 (roled_entries v d) ≡ []
 unfolding size_of
-quiet_lines v d m dir r h = quiet_silent v d [] (seen_in v d) m.stamps dir refl r.stamps_length (unstamped v d m r) h
+quiet_lines v d m dir r h = quiet_silent v d [] (roled_entries v d) m.stamps dir refl r.stamps_length (unstamped v d m r) h
 
-pub told_lines : (v : Volume) (d : ℕ) (m : Marks) → IsDirectory v d → AreRightBefore v d m → entry_lines v d 0 (seen_in v d) ≡ entries_told v d (looked v d m) (seen_in v d)
+pub reported_lines : (v : Volume) (d : ℕ) (m : Marks) → IsDirectory v d → AreRightBefore v d m → entry_lines v d 0 (roled_entries v d) ≡ entries_reported v d (looked v d m) (roled_entries v d)
 unfolding size_of
-told_lines v d m dir r = right_told v d [] (seen_in v d) (looked v d m) dir refl (looked_right v d m r)
+reported_lines v d m dir r = right_reported v d [] (roled_entries v d) (looked v d m) dir refl (looked_right v d m r)
 
-pub quiet_parts : (v : Volume) (d : ℕ) (m : Marks) → IsDirectory v d → AreRightBefore v d m → are_quiet v d m.stamps (seen_in v d) ≡ true →
+pub quiet_parts : (v : Volume) (d : ℕ) (m : Marks) → IsDirectory v d → AreRightBefore v d m → are_quiet v d m.stamps (roled_entries v d) ≡ true →
     map of_names (dir_starts v d) ≡ map of_names (dir_lines v d)
 quiet_parts v d m dir r h = sym (lines_parts v d [] (quiet_lines v d m dir r h) ∙ append-nil (map of_names (dir_starts v d)))
 
-pub told_parts : (v : Volume) (d : ℕ) (m m' : Marks) → IsDirectory v d → AreRightBefore v d m → m' ≡ looked v d m →
-    map of_names (dir_lines v d) ≡ map of_names (dir_starts v d) ++ map of_names (entries_told v d m' (seen_in v d))
-told_parts v d m m' dir r e = lines_parts v d (entries_told v d m' (seen_in v d)) (told_lines v d m dir r ∙ sym (ap (λ k. entries_told v d k (seen_in v d)) e))
+pub reported_parts : (v : Volume) (d : ℕ) (m m' : Marks) → IsDirectory v d → AreRightBefore v d m → m' ≡ looked v d m →
+    map of_names (dir_lines v d) ≡ map of_names (dir_starts v d) ++ map of_names (entries_reported v d m' (roled_entries v d))
+reported_parts v d m m' dir r e = lines_parts v d (entries_reported v d m' (roled_entries v d)) (reported_lines v d m dir r ∙ sym (ap (λ k. entries_reported v d k (roled_entries v d)) e))
 
--- the marks behind it
-pub quiet_after : (v : Volume) (d : ℕ) (m m' : Marks) → IsDirectory v d → AreRightBefore v d m → are_quiet v d m.stamps (seen_in v d) ≡ true → m' ≡ looked v d m → AreRightBefore v (suc d) m'
+-- the marks after it
+pub quiet_after : (v : Volume) (d : ℕ) (m m' : Marks) → IsDirectory v d → AreRightBefore v d m → are_quiet v d m.stamps (roled_entries v d) ≡ true → m' ≡ looked v d m → AreRightBefore v (suc d) m'
 quiet_after v d m m' dir r h e = subst (AreRightBefore v (suc d)) (sym e) (quiet_next v d m dir r h)
 
-pub told_after : (v : Volume) (d : ℕ) (m m' m'' : Marks) → IsDirectory v d → AreRightBefore v d m → m' ≡ looked v d m → after_entries v d m' (seen_in v d) ≡ m'' → AreRightBefore v (suc d) m''
-told_after v d m m' m'' dir r e q = subst (AreRightBefore v (suc d)) (sym (ap (λ k. after_entries v d k (seen_in v d)) e) ∙ q) (told_next v d m dir r)
+pub reported_after : (v : Volume) (d : ℕ) (m m' m'' : Marks) → IsDirectory v d → AreRightBefore v d m → m' ≡ looked v d m → after_entries v d m' (roled_entries v d) ≡ m'' → AreRightBefore v (suc d) m''
+reported_after v d m m' m'' dir r e q = subst (AreRightBefore v (suc d)) (sym (ap (λ k. after_entries v d k (roled_entries v d)) e) ∙ q) (reported_next v d m dir r)
 
 pub on_ok : {T E : Type 0} (r : Result T E) (P Q : Type 0) → (P → Q) → OnOk r P → OnOk r Q
 on_ok (Ok x) P Q f p = f p

@@ -4,12 +4,14 @@ use Rattle.std.specs.List.{list_any}
 use Rattle.std.proofs.Common.{arith, sym, ◌∙◌, ap, subst, inl, inr, append_assoc, append-nil}
 use Rattle.std.proofs.lemmas.List.{get_or-set_other, get_or-set_same, set_past}
 use Rattle.std.proofs.lemmas.Bool.{cases_eq, cases_lt, ne_eqb, eq-eqb, and_parts, cond-false}
-use Rattle.ffs_volume.specs.Roles.{Volume, Seen, is_dir, is_plain, seen_in}
-use Rattle.ffs_volume.specs.Search.{some_below, some_below-suc, first_below-some}
-use Rattle.ffs_volume.specs.Climb.{is_value, is_value-true}
-use Rattle.ffs_volume.specs.Graph.{Graph, names, names_in, edge, level, level_edge, parent, parent_by}
-use Rattle.ffs_volume.specs.Parents.{graph_of}
-use Rattle.ffs_pathnames.specs.Marks.{Marks, after_seen, after_name, after_entries, belongs, after_look, after_looks, are_quiet}
+use Rattle.ffs_volume.specs.Directories.Roles.{Volume, RoledEntry, is_dir, is_plain, roled_entries}
+use Rattle.ffs_volume.specs.Directories.Search.{some_below}
+use Rattle.ffs_volume.proofs.SearchLaws.{some_below-suc, first_below-some}
+use Rattle.ffs_volume.specs.Directories.Climb.{is_value}
+use Rattle.ffs_volume.proofs.ClimbLaws.{is_value-true}
+use Rattle.ffs_volume.specs.Directories.Graph.{Graph, names, names_in, edge, level, level_edge, parent, parent_by}
+use Rattle.ffs_volume.specs.Directories.Parents.{graph_of}
+use Rattle.ffs_pathnames.specs.Marks.{Marks, after_roled, after_name, after_entries, belongs, after_look, after_looks, are_quiet}
 use Rattle.ffs_pathnames.specs.MarksRight.{AreRight, AreRightBefore}
 use Rattle.ffs_pathnames.proofs.MarkLaws.{IsDirectory, or_false, and_false, right_after}
 use Rattle.ffs_pathnames.proofs.LookLaws.{AreStamped, stamped_all, looks_all_long, suspects_unnamed}
@@ -25,11 +27,11 @@ parent_names g x s n e = go (level g x) (sym (cond-false (x == 2) (Some 2) (pare
     go (Some (suc k)) h =
         (and_parts (g.is_dir x) (names_in g s x) (and_parts (is_value (level g s) k) (edge g s x) (first_below-some (level_edge g k x) g.count s h).passes).1).1
 
-belongs_named : (v : Volume) (s x : ℕ) → belongs v s x ≡ true → list_any (names x) (seen_in v s) ≡ true
+belongs_named : (v : Volume) (s x : ℕ) → belongs v s x ≡ true → list_any (names x) (roled_entries v s) ≡ true
 belongs_named v s x h =
     let a = and_parts (is_dir v x) (not (x == 2) && is_value (parent (graph_of v) x) s) h in
     let b = and_parts (not (x == 2)) (is_value (parent (graph_of v) x) s) a.1 in
-    (and_parts (is_dir v s) (list_any (names x) (seen_in v s)) (parent_names (graph_of v) x s (λ z. other x z b.0) (is_value-true (parent (graph_of v) x) s b.1))).1
+    (and_parts (is_dir v s) (list_any (names x) (roled_entries v s)) (parent_names (graph_of v) x s (λ z. other x z b.0) (is_value-true (parent (graph_of v) x) s b.1))).1
   where
     other : (x : ℕ) → x ≡ 2 → not (x == 2) ≡ true → ⊥
     other x z k = let f : false ≡ true = sym (ap not (eq-eqb x 2 z)) ∙ k in cc
@@ -41,12 +43,12 @@ unstamped v s m r x h =
     ne_eqb (slice_index m.stamps x) s (λ z. absurd (omega (arith, z))) ∙ sym (and_false (belongs v s x))
 
 abbrev pub looked : Volume → ℕ → Marks → Marks
-looked v s m = record { passed = m.passed; stamps = after_looks v s m.stamps (seen_in v s) }
+looked v s m = record { passed = m.passed; stamps = after_looks v s m.stamps (roled_entries v s) }
 
-due_is : (v : Volume) (s x : ℕ) → (belongs v s x && list_any (names x) (seen_in v s)) ≡ (belongs v s x && true)
+due_is : (v : Volume) (s x : ℕ) → (belongs v s x && list_any (names x) (roled_entries v s)) ≡ (belongs v s x && true)
 due_is v s x = one (belongs v s x) refl
   where
-    one : (b : Bool) → belongs v s x ≡ b → (b && list_any (names x) (seen_in v s)) ≡ (b && true)
+    one : (b : Bool) → belongs v s x ≡ b → (b && list_any (names x) (roled_entries v s)) ≡ (b && true)
     one true h = belongs_named v s x h
     one false h = refl
 
@@ -54,9 +56,9 @@ due_is v s x = one (belongs v s x) refl
 pub looked_right : (v : Volume) (s : ℕ) (m : Marks) → AreRightBefore v s m → AreRight v s [] (looked v s m)
 looked_right v s m r = record {
   passed = λ x h q n o. r.passed x h q n o ∙ sym (or_false (some_below (λ t. names_in (graph_of v) t x) s));
-  due = λ x h. stamped_all v s [] (seen_in v s) m.stamps r.stamps_length (unstamped v s m r) x h ∙ due_is v s x;
+  due = λ x h. stamped_all v s [] (roled_entries v s) m.stamps r.stamps_length (unstamped v s m r) x h ∙ due_is v s x;
   passed_length = r.passed_length;
-  stamps_length = looks_all_long v s (seen_in v s) m.stamps ∙ r.stamps_length;
+  stamps_length = looks_all_long v s (roled_entries v s) m.stamps ∙ r.stamps_length;
 }
 
 -- STAMPS STAY SMALL
@@ -69,7 +71,7 @@ set_small s n a x stamps la lx = elim (cases_eq x n) [
   | inr o ↦ subst (λ k. k ≤ s) (sym (get_or-set_other stamps n x a 0 o)) lx
 ]
 
-pub looks_small : (v : Volume) (s : ℕ) (es : List Seen) (stamps : List ℕ) (x : ℕ) → slice_index stamps x ≤ s → slice_index (after_looks v s stamps es) x ≤ s
+pub looks_small : (v : Volume) (s : ℕ) (es : List RoledEntry) (stamps : List ℕ) (x : ℕ) → slice_index stamps x ≤ s → slice_index (after_looks v s stamps es) x ≤ s
 looks_small v s [] stamps x h = h
 looks_small v s (e ∷ es) stamps x h = looks_small v s es (after_look v s stamps e) x (one (is_plain e.role && belongs v s e.entry.number))
   where
@@ -77,9 +79,9 @@ looks_small v s (e ∷ es) stamps x h = looks_small v s es (after_look v s stamp
     one true = set_small s e.entry.number s x stamps (omega arith) h
     one false = h
 
-pub entries_small : (v : Volume) (s : ℕ) (es : List Seen) (m : Marks) (x : ℕ) → slice_index m.stamps x ≤ s → slice_index (after_entries v s m es).stamps x ≤ s
+pub entries_small : (v : Volume) (s : ℕ) (es : List RoledEntry) (m : Marks) (x : ℕ) → slice_index m.stamps x ≤ s → slice_index (after_entries v s m es).stamps x ≤ s
 entries_small v s [] m x h = h
-entries_small v s (e ∷ es) m x h = entries_small v s es (after_seen v s m e) x (one (is_plain e.role && nat_lt e.entry.number v.count))
+entries_small v s (e ∷ es) m x h = entries_small v s es (after_roled v s m e) x (one (is_plain e.role && nat_lt e.entry.number v.count))
   where
     two : (b : Bool) → slice_index (if b then slice_set m.stamps e.entry.number 0 else m.stamps) x ≤ s
     two true = set_small s e.entry.number 0 x m.stamps (omega arith) h
@@ -90,23 +92,23 @@ entries_small v s (e ∷ es) m x h = entries_small v s es (after_seen v s m e) x
     one false = h
 
 -- THE NEXT DIRECTORY
-pub right_end : (v : Volume) (s : ℕ) (done es : List Seen) (m : Marks) → 2 ≤ s → AreRight v s done m → AreRight v s (done ++ es) (after_entries v s m es)
+pub right_end : (v : Volume) (s : ℕ) (done es : List RoledEntry) (m : Marks) → 2 ≤ s → AreRight v s done m → AreRight v s (done ++ es) (after_entries v s m es)
 right_end v s done [] m two r = subst (λ l. AreRight v s l m) (sym (append-nil done)) r
 right_end v s done (e ∷ es) m two r =
-    subst (λ l. AreRight v s l (after_entries v s (after_seen v s m e) es)) (append_assoc done (e ∷ []) es)
-    (right_end v s (done ++ e ∷ []) es (after_seen v s m e) two (right_after v s done e m two r))
+    subst (λ l. AreRight v s l (after_entries v s (after_roled v s m e) es)) (append_assoc done (e ∷ []) es)
+    (right_end v s (done ++ e ∷ []) es (after_roled v s m e) two (right_after v s done e m two r))
 
 small_next : (s k : ℕ) → k ≤ s → k < suc s
 small_next s k h = omega arith
 
--- behind a directory of which all entries were passed
-pub told_next : (v : Volume) (s : ℕ) (m : Marks) → IsDirectory v s → AreRightBefore v s m → AreRightBefore v (suc s) (after_entries v s (looked v s m) (seen_in v s))
-told_next v s m d r =
-    let whole = right_end v s [] (seen_in v s) (looked v s m) d.from_two (looked_right v s m r) in
+-- after a directory of which all entries were passed
+pub reported_next : (v : Volume) (s : ℕ) (m : Marks) → IsDirectory v s → AreRightBefore v s m → AreRightBefore v (suc s) (after_entries v s (looked v s m) (roled_entries v s))
+reported_next v s m d r =
+    let whole = right_end v s [] (roled_entries v s) (looked v s m) d.from_two (looked_right v s m r) in
     record {
       passed = λ x h q n o. whole.passed x h q n o
-          ∙ sym (some_below-suc (λ t. names_in (graph_of v) t x) s ∙ ap (λ b. some_below (λ t. names_in (graph_of v) t x) s || (b && list_any (names x) (seen_in v s))) d.dir);
-      stamps = λ x h. small_next s _ (entries_small v s (seen_in v s) (looked v s m) x (looks_small v s (seen_in v s) m.stamps x (small x (r.stamps x h))));
+          ∙ sym (some_below-suc (λ t. names_in (graph_of v) t x) s ∙ ap (λ b. some_below (λ t. names_in (graph_of v) t x) s || (b && list_any (names x) (roled_entries v s))) d.dir);
+      stamps = λ x h. small_next s _ (entries_small v s (roled_entries v s) (looked v s m) x (looks_small v s (roled_entries v s) m.stamps x (small x (r.stamps x h))));
       passed_length = whole.passed_length;
       stamps_length = whole.stamps_length;
     }
@@ -114,22 +116,22 @@ told_next v s m d r =
     small : (x : ℕ) → slice_index m.stamps x < s → slice_index m.stamps x ≤ s
     small x h = omega arith
 
--- behind a directory of which nothing is told
-pub quiet_next : (v : Volume) (s : ℕ) (m : Marks) → IsDirectory v s → AreRightBefore v s m → are_quiet v s m.stamps (seen_in v s) ≡ true → AreRightBefore v (suc s) (looked v s m)
+-- after a directory of which nothing is reported
+pub quiet_next : (v : Volume) (s : ℕ) (m : Marks) → IsDirectory v s → AreRightBefore v s m → are_quiet v s m.stamps (roled_entries v s) ≡ true → AreRightBefore v (suc s) (looked v s m)
 quiet_next v s m d r h = record {
   passed = λ x l q n o. r.passed x l q n o
       ∙ sym (some_below-suc (λ t. names_in (graph_of v) t x) s
-      ∙ (ap (λ b. some_below (λ t. names_in (graph_of v) t x) s || (is_dir v s && b)) (suspects_unnamed v s (seen_in v s) m.stamps x h q n)
+      ∙ (ap (λ b. some_below (λ t. names_in (graph_of v) t x) s || (is_dir v s && b)) (suspects_unnamed v s (roled_entries v s) m.stamps x h q n)
       ∙ (ap (λ b. some_below (λ t. names_in (graph_of v) t x) s || b) (and_false (is_dir v s)) ∙ or_false (some_below (λ t. names_in (graph_of v) t x) s))));
-  stamps = λ x l. small_next s _ (looks_small v s (seen_in v s) m.stamps x (small x (r.stamps x l)));
+  stamps = λ x l. small_next s _ (looks_small v s (roled_entries v s) m.stamps x (small x (r.stamps x l)));
   passed_length = r.passed_length;
-  stamps_length = looks_all_long v s (seen_in v s) m.stamps ∙ r.stamps_length;
+  stamps_length = looks_all_long v s (roled_entries v s) m.stamps ∙ r.stamps_length;
 }
   where
     small : (x : ℕ) → slice_index m.stamps x < s → slice_index m.stamps x ≤ s
     small x h = omega arith
 
--- behind an inode that is no directory, or has no entries
+-- after an inode that is no directory, or has no entries
 pub other_next : (v : Volume) (s : ℕ) (m : Marks) → ((x : ℕ) → names_in (graph_of v) s x ≡ false) → AreRightBefore v s m → AreRightBefore v (suc s) m
 other_next v s m none r = record {
   passed = λ x h q n o. r.passed x h q n o

@@ -5,26 +5,27 @@ use Rattle.std.specs.List.{list_any}
 use Rattle.ffs_volume.specs.declared.Layout.{Layout}
 use Rattle.ffs_volume.specs.declared.Class.{Class}
 use Rattle.ffs_volume.specs.declared.Class.TheVariants.{Free, Partial, Unknown, File, Dir}
-use Rattle.ffs_volume.specs.Geometry.{IsGeometry}
-use Rattle.ffs_volume.specs.Graph.{names, names_in}
-use Rattle.ffs_volume.specs.Messages.{NameMessage, of_names, lines_below, told, root_none, root_not_dir, root_suspect, lines_from}
-use Rattle.ffs_volume.specs.Parents.{graph_of}
-use Rattle.ffs_volume.specs.PathnameCheck.{dir_lines, goes_on, lines_of, pathname_lines, root_lines, root_told}
-use Rattle.ffs_volume.specs.Roles.{Volume, is_dir, is_directory, is_allocated, is_suspect, seen_in}
-use Rattle.ffs_volume.specs.Search.{some_below-none}
-use Rattle.ffs_volume.specs.Volumes.{class_at, marked_at, volume_of, volume_with}
+use Rattle.ffs_volume.specs.Disk.Geometry.{IsGeometry}
+use Rattle.ffs_volume.specs.Directories.Graph.{names, names_in}
+use Rattle.ffs_volume.specs.Messages.Kinds.{NameMessage, of_names, lines_below, told, root_none, root_not_dir, root_suspect, lines_from}
+use Rattle.ffs_volume.specs.Directories.Parents.{graph_of}
+use Rattle.ffs_volume.specs.Directories.PathnameCheck.{dir_lines, goes_on, lines_of, pathname_lines, root_lines, root_reported}
+use Rattle.ffs_volume.specs.Blocks.Inodes.{is_directory, is_allocated}
+use Rattle.ffs_volume.specs.Directories.Roles.{Volume, is_dir, is_suspect, roled_entries}
+use Rattle.ffs_volume.proofs.SearchLaws.{some_below-none}
+use Rattle.ffs_volume.specs.Directories.Volumes.{class_at, marked_at, volume_of, volume_with}
 use Rattle.ffs_volume.proofs.Numbered.{all_from_root, names_append}
 use Rattle.ffs_names.specs.Surveys.{IsUntouched}
 use Rattle.ffs_workspace.specs.declared.workspace.Workspace.{Workspace}
 use Rattle.ffs_workspace.specs.Holds.{bool_at, HoldsClaims, HoldsSurvey}
-use Rattle.ffs_volume.specs.Kinds.{kind_at, is_dir_kind, is_empty_dir_kind, is_allocated_kind}
+use Rattle.ffs_volume.specs.Encodings.Kinds.{kind_at, is_dir_kind, is_empty_dir_kind, is_allocated_kind}
 use Rattle.ffs_workspace.specs.Lengths.{IsFor, inodes_of}
-use Rattle.ffs_workspace.proofs.KindLaws.{tells_at, suspect_is}
+use Rattle.ffs_workspace.proofs.KindLaws.{reports_at, suspect_is}
 use Rattle.ffs_maps.specs.Bits.{bits_of}
 use Rattle.ffs_pathnames.specs.Before.{AreClear, IsBefore, root_said}
 use Rattle.ffs_workspace.specs.Leaves.{LeavesSurvey}
 use Rattle.ffs_pathnames.specs.Gathers.{marks_of}
-use Rattle.ffs_pathnames.specs.Knows.{Knows}
+use Rattle.ffs_pathnames.specs.DirectoryContext.{DirectoryContext}
 use Rattle.ffs_pathnames.specs.MarksRight.{AreRightBefore}
 use Rattle.ffs_pathnames.proofs.BetweenLaws.{other_next}
 use Rattle.ffs_pathnames.proofs.EmptyLaws.{looked_is, looked_dir, names_none}
@@ -59,59 +60,59 @@ clear_right : (v : Layout) (b : List ℕ) (w : Workspace) → IsFor v w → AreC
 unfolding volume_of volume_with
 clear_right v b w m c = record {
   passed = λ x h q n o. c.passed x ∙ sym (some_below-none (λ t. names_in (graph_of (volume_of v b)) t x) 2
-      (λ t l. ap (λ d. d && list_any (names x) (seen_in (volume_of v b) t)) (low_dir (volume_of v b) t l)));
+      (λ t l. ap (λ d. d && list_any (names x) (roled_entries (volume_of v b) t)) (low_dir (volume_of v b) t l)));
   stamps = λ x h. let none = c.stamps x in omega arith;
   passed_length = sym w.leaders.ok.0 ∙ m.leaders;
   stamps_length = sym w.queue.ok.0 ∙ m.queue;
 }
 
-pub before_first : (v : Layout) (told : Option (List ℕ)) (b : List ℕ) (w : Workspace) → told ≡ Some b → HoldsClaims v b w → HoldsSurvey v b w → IsFor v w → AreClear w →
-    IsBefore v told w 2 b
-before_first v told b w t h s m c = record { told_is = t; claims = h; survey = s; marks = clear_right v b w m c }
+pub before_first : (v : Layout) (contents : Option (List ℕ)) (b : List ℕ) (w : Workspace) → contents ≡ Some b → HoldsClaims v b w → HoldsSurvey v b w → IsFor v w → AreClear w →
+    IsBefore v contents w 2 b
+before_first v contents b w t h s m c = record { reported_is = t; claims = h; survey = s; marks = clear_right v b w m c }
 
 -- what is known of a directory that is looked at
 kind_known : (v : Layout) (b : List ℕ) (w : Workspace) (d : ℕ) (looked : Bool) → HoldsClaims v b w → (slice_index w.kinds.items d == 4) ≡ looked → (kind_at v b d == 4) ≡ looked
 kind_known v b w d looked h e = ap (λ k. k == 4) (sym (h.kinds d)) ∙ e
 
-pub knows_directory : (v : Layout) (told : Option (List ℕ)) (w : Workspace) (d : ℕ) (b : List ℕ) → (slice_index w.kinds.items d == 4) ≡ true → IsBefore v told w d b → Knows v told w d b
-knows_directory v told w d b e k = record { told_is = k.told_is; claims = k.claims; survey = k.survey; dir = looked_dir v b d (kind_known v b w d true k.claims e) }
+pub directory_context : (v : Layout) (contents : Option (List ℕ)) (w : Workspace) (d : ℕ) (b : List ℕ) → (slice_index w.kinds.items d == 4) ≡ true → IsBefore v contents w d b → DirectoryContext v contents w d b
+directory_context v contents w d b e k = record { reported_is = k.reported_is; claims = k.claims; survey = k.survey; dir = looked_dir v b d (kind_known v b w d true k.claims e) }
 
-pub lines_looked : (v : Layout) (told : Option (List ℕ)) (w : Workspace) (d : ℕ) (b : List ℕ) → (slice_index w.kinds.items d == 4) ≡ true → IsBefore v told w d b →
+pub lines_looked : (v : Layout) (contents : Option (List ℕ)) (w : Workspace) (d : ℕ) (b : List ℕ) → (slice_index w.kinds.items d == 4) ≡ true → IsBefore v contents w d b →
     lines_of (volume_of v b) d ≡ dir_lines (volume_of v b) d
-lines_looked v told w d b e k = ap (λ l. if l then dir_lines (volume_of v b) d else []) (looked_is v b d ∙ kind_known v b w d true k.claims e)
+lines_looked v contents w d b e k = ap (λ l. if l then dir_lines (volume_of v b) d else []) (looked_is v b d ∙ kind_known v b w d true k.claims e)
 
-pub lines_other : (v : Layout) (told : Option (List ℕ)) (w : Workspace) (d : ℕ) (b : List ℕ) → (slice_index w.kinds.items d == 4) ≡ false → IsBefore v told w d b →
+pub lines_other : (v : Layout) (contents : Option (List ℕ)) (w : Workspace) (d : ℕ) (b : List ℕ) → (slice_index w.kinds.items d == 4) ≡ false → IsBefore v contents w d b →
     lines_of (volume_of v b) d ≡ []
-lines_other v told w d b e k = ap (λ l. if l then dir_lines (volume_of v b) d else []) (looked_is v b d ∙ kind_known v b w d false k.claims e)
+lines_other v contents w d b e k = ap (λ l. if l then dir_lines (volume_of v b) d else []) (looked_is v b d ∙ kind_known v b w d false k.claims e)
 
 -- the next inode
-pub before_next : (v : Layout) (told : Option (List ℕ)) (old new : Workspace) (d : ℕ) (b : List ℕ) → LeavesSurvey old new → AreRightBefore (volume_of v b) (suc d) (marks_of new) →
-    IsBefore v told old d b → IsBefore v told new (suc d) b
-before_next v told old new d b s r k = record { told_is = k.told_is; claims = claims_left v b old new s k.claims; survey = survey_left v b old new s k.survey; marks = r }
+pub before_next : (v : Layout) (contents : Option (List ℕ)) (old new : Workspace) (d : ℕ) (b : List ℕ) → LeavesSurvey old new → AreRightBefore (volume_of v b) (suc d) (marks_of new) →
+    IsBefore v contents old d b → IsBefore v contents new (suc d) b
+before_next v contents old new d b s r k = record { reported_is = k.reported_is; claims = claims_left v b old new s k.claims; survey = survey_left v b old new s k.survey; marks = r }
 
-pub before_other : (v : Layout) (told : Option (List ℕ)) (w : Workspace) (d : ℕ) (b : List ℕ) → IsGeometry v → (slice_index w.kinds.items d == 4) ≡ false → IsBefore v told w d b →
-    IsBefore v told w (suc d) b
-before_other v told w d b g e k = record {
-  told_is = k.told_is;
+pub before_other : (v : Layout) (contents : Option (List ℕ)) (w : Workspace) (d : ℕ) (b : List ℕ) → IsGeometry v → (slice_index w.kinds.items d == 4) ≡ false → IsBefore v contents w d b →
+    IsBefore v contents w (suc d) b
+before_other v contents w d b g e k = record {
+  reported_is = k.reported_is;
   claims = k.claims;
   survey = k.survey;
   marks = other_next (volume_of v b) d (marks_of w) (names_none v b d g (kind_known v b w d false k.claims e)) k.marks;
 }
 
--- an image that tells the same
-pub before_told : (v : Layout) (told told' : Option (List ℕ)) (w : Workspace) (d : ℕ) (b : List ℕ) → told' ≡ told → IsBefore v told w d b → IsBefore v told' w d b
-before_told v told told' w d b e k = record { told_is = e ∙ k.told_is; claims = k.claims; survey = k.survey; marks = k.marks }
+-- an image that gives the same
+pub before_reported : (v : Layout) (contents contents' : Option (List ℕ)) (w : Workspace) (d : ℕ) (b : List ℕ) → contents' ≡ contents → IsBefore v contents w d b → IsBefore v contents' w d b
+before_reported v contents contents' w d b e k = record { reported_is = e ∙ k.reported_is; claims = k.claims; survey = k.survey; marks = k.marks }
 
--- what is told of the root
+-- what is reported of the root
 root_by : (v : Volume) (c : Class) (k : ℕ) (m : Bool) → is_directory c ≡ is_dir_kind k → is_allocated c ≡ is_allocated_kind k → is_suspect v 2 ≡ (m || is_empty_dir_kind k) →
-    root_said k m ≡ root_told v c
+    root_said k m ≡ root_reported v c
 unfolding root_said
 root_by v c k m d a s = go c (k == 0) (is_dir_kind k) refl d a
   where
     tell : Bool → Bool → List NameMessage
     tell none dir = if none then root_none ∷ [] else (if not dir then root_not_dir ∷ [] else told (m || is_empty_dir_kind k) root_suspect)
 
-    go : (c : Class) (none dir : Bool) → (k == 0) ≡ none → is_directory c ≡ dir → is_allocated c ≡ not none → tell none dir ≡ root_told v c
+    go : (c : Class) (none dir : Bool) → (k == 0) ≡ none → is_directory c ≡ dir → is_allocated c ≡ not none → tell none dir ≡ root_reported v c
     go Free true dir e d a = refl
     go Free false dir e d a = absurd (cc)
     go Partial true dir e d a = refl
@@ -130,16 +131,16 @@ pub root_is : (v : Layout) (b : List ℕ) (w : Workspace) (k : ℕ) (m : Bool) �
     root_said k m ≡ root_lines (volume_of v b)
 unfolding root_lines volume_of volume_with
 root_is v b w k m e f h =
-    let t = tells_at v b 2 in
+    let t = reports_at v b 2 in
     ap (λ k. root_said k m) (e ∙ h.kinds 2)
     ∙ (ap (root_said (kind_at v b 2)) (f ∙ h.marked 2)
     ∙ root_by (volume_of v b) (class_at v b 2) (kind_at v b 2) (marked_at v b 2) t.dir t.allocated (suspect_is v b 2))
 
 pub goes_is : (v : Layout) (b : List ℕ) (w : Workspace) (k : ℕ) → k ≡ slice_index w.kinds.items 2 → HoldsClaims v b w → is_dir_kind k ≡ goes_on (volume_of v b)
 unfolding volume_of volume_with
-goes_is v b w k e h = ap is_dir_kind (e ∙ h.kinds 2) ∙ sym (tells_at v b 2).dir
+goes_is v b w k e h = ap is_dir_kind (e ∙ h.kinds 2) ∙ sym (reports_at v b 2).dir
 
--- all that is told
+-- all that is reported
 abbrev pub tree_lines : Layout → List ℕ → Bool → List NameMessage
 tree_lines v b goes = if goes then lines_from (lines_of (volume_of v b)) 2 (inodes_of v - 2) else []
 

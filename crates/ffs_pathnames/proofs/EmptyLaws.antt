@@ -4,35 +4,35 @@ use Rattle.std.specs.List.{flat_map, list_any}
 use Rattle.std.proofs.lemmas.Bool.{eqb-true}
 use Rattle.std.proofs.lemmas.Bool.Decides.{nat_tests}
 use Rattle.ffs_volume.specs.declared.Layout.{Layout}
-use Rattle.ffs_volume.specs.Areas.{is_in_range}
-use Rattle.ffs_volume.specs.Geometry.{IsGeometry}
-use Rattle.ffs_volume.specs.Inodes.{inode_of}
-use Rattle.ffs_volume.specs.Claims.{next_inode}
-use Rattle.ffs_volume.specs.KeptSteps.{kept_steps, kept_steps_of, claims_before}
-use Rattle.ffs_volume.specs.Directory.{chunks_of}
-use Rattle.ffs_volume.specs.Roles.{is_dir, chunk_seen, seen_in}
-use Rattle.ffs_volume.specs.Graph.{names, names_in}
-use Rattle.ffs_volume.specs.Parents.{graph_of}
-use Rattle.ffs_volume.specs.PathnameCheck.{is_looked_at}
-use Rattle.ffs_volume.specs.Volumes.{is_number, kept_at_number, reading_of, volume_with, volume_of}
-use Rattle.ffs_volume.specs.Kinds.{kind_at, is_dir_kind, is_empty_dir_kind}
+use Rattle.ffs_volume.specs.Disk.Areas.{is_in_range}
+use Rattle.ffs_volume.specs.Disk.Geometry.{IsGeometry}
+use Rattle.ffs_volume.specs.Blocks.Inodes.{inode_of}
+use Rattle.ffs_volume.specs.Blocks.Claims.{next_inode}
+use Rattle.ffs_volume.specs.Blocks.KeptSteps.{kept_steps, kept_steps_of, claims_before}
+use Rattle.ffs_volume.specs.Directories.Entries.{chunks_of}
+use Rattle.ffs_volume.specs.Directories.Roles.{is_dir, roled_chunk, roled_entries}
+use Rattle.ffs_volume.specs.Directories.Graph.{names, names_in}
+use Rattle.ffs_volume.specs.Directories.Parents.{graph_of}
+use Rattle.ffs_volume.specs.Directories.PathnameCheck.{is_looked_at}
+use Rattle.ffs_volume.specs.Directories.Volumes.{is_inode_number, kept_at_number, reading_of, volume_with, volume_of}
+use Rattle.ffs_volume.specs.Encodings.Kinds.{kind_at, is_dir_kind, is_empty_dir_kind}
 use Rattle.ffs_volume.proofs.Sizes.{no_steps}
 use Rattle.ffs_workspace.proofs.KindLaws.{dir_is, empty_is}
 
 none_kept : (v : Layout) (b : List ℕ) (d : ℕ) → 0 < v.bsize → (inode_of v b d).size ≡ 0 → kept_at_number v b d ≡ []
 unfolding kept_steps_of
-none_kept v b d h z = one (is_number v d)
+none_kept v b d h z = one (is_inode_number v d)
   where
     one : (n : Bool) → (if n then kept_steps_of v b d else []) ≡ []
     one true = ap (kept_steps v (next_inode (claims_before v b d))) (no_steps v b (inode_of v b d) h z)
     one false = refl
 
 -- no entries where the size is 0
-none_seen : (v : Layout) (b : List ℕ) (d : ℕ) → IsGeometry v → ((volume_of v b).inode d).size ≡ 0 → seen_in (volume_of v b) d ≡ []
-unfolding volume_of volume_with seen_in
+none_seen : (v : Layout) (b : List ℕ) (d : ℕ) → IsGeometry v → ((volume_of v b).inode d).size ≡ 0 → roled_entries (volume_of v b) d ≡ []
+unfolding volume_of volume_with roled_entries
 none_seen v b d g z =
     let low = g.sizes.bsize_low in
-    ap (λ ss. flat_map chunk_seen (chunks_of (reading_of v b d) (is_in_range v) ss)) (none_kept v b d (omega arith) z)
+    ap (λ ss. flat_map roled_chunk (chunks_of (reading_of v b d) (is_in_range v) ss)) (none_kept v b d (omega arith) z)
 
 -- of two tests of a directory and its kind
 kind_looked : (dir empty : Bool) (k : ℕ) → dir ≡ is_dir_kind k → (dir && empty) ≡ is_empty_dir_kind k → (dir && not empty) ≡ (k == 4)
@@ -57,7 +57,7 @@ pub names_none : (v : Layout) (b : List ℕ) (d : ℕ) → IsGeometry v → (kin
 names_none v b d g h x =
     go (is_dir (volume_of v b) d) (((volume_of v b).inode d).size == 0) refl (looked_is v b d ∙ h)
   where
-    go : (dir empty : Bool) → (((volume_of v b).inode d).size == 0) ≡ empty → (dir && not empty) ≡ false → (dir && list_any (names x) (seen_in (volume_of v b) d)) ≡ false
+    go : (dir empty : Bool) → (((volume_of v b).inode d).size == 0) ≡ empty → (dir && not empty) ≡ false → (dir && list_any (names x) (roled_entries (volume_of v b) d)) ≡ false
     go false empty e f = refl
     go true true e f = ap (list_any (names x)) (none_seen v b d g (eqb-true _ 0 e))
     go true false e f = let no_way : true ≡ false = f in absurd (cc)

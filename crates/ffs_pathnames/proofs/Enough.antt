@@ -1,18 +1,18 @@
 -- What is gathered for the messages on an entry is enough.
 use Rattle.std.proofs.Common.{◌≡◌, refl, ap, ◌∙◌, ℕ, Bool, true, false, ◌++◌, List}
 use Rattle.ffs_volume.specs.declared.Attr.{Attr}
-use Rattle.ffs_volume.specs.Roles.{Volume}
-use Rattle.ffs_volume.specs.Parents.{graph_of}
-use Rattle.ffs_volume.specs.Paths.{dir_path, entry_path}
-use Rattle.ffs_volume.specs.Messages.{told, extraneous, kind_entry}
-use Rattle.ffs_volume.specs.PathnameCheck.{attributes}
+use Rattle.ffs_volume.specs.Directories.Roles.{Volume}
+use Rattle.ffs_volume.specs.Directories.Parents.{graph_of}
+use Rattle.ffs_volume.specs.Directories.Paths.{dir_path, entry_path}
+use Rattle.ffs_volume.specs.Messages.Kinds.{told, extraneous, kind_entry}
+use Rattle.ffs_volume.specs.Directories.PathnameCheck.{attributes}
 use Rattle.ffs_pathnames.specs.declared.judge.Faults.{Faults}
 use Rattle.ffs_pathnames.specs.declared.judge.Verdict.{Verdict}
 use Rattle.ffs_pathnames.specs.declared.judge.Verdict.TheVariants.{OutOfRange, Whiteout, Fine, Unallocated, Named}
 use Rattle.ffs_pathnames.specs.Gathers.{IsEnough, asks_attr, asks_path}
-use Rattle.ffs_pathnames.specs.Verdicts.{verdict_told, faults_told, suspect_message}
+use Rattle.ffs_pathnames.specs.Verdicts.{verdict_reported, faults_reported, suspect_message}
 
-faults_same : (n : Faults) (about : Attr) (path directory right : List ℕ) → (n.extraneous ≡ true → directory ≡ right) → faults_told n about path directory ≡ faults_told n about path right
+faults_same : (n : Faults) (about : Attr) (path directory right : List ℕ) → (n.extraneous ≡ true → directory ≡ right) → faults_reported n about path directory ≡ faults_reported n about path right
 faults_same n about path directory right h = ap (λ l. told n.suspect (suspect_message n about path) ++ (l ++ told n.kind (kind_entry about n.label path))) (one n.extraneous h)
   where
     one : (b : Bool) → (b ≡ true → directory ≡ right) → told b (extraneous path directory) ≡ told b (extraneous path right)
@@ -22,12 +22,12 @@ faults_same n about path directory right h = ap (λ l. told n.suspect (suspect_m
 pub enough : (v : Volume) (verdict : Verdict) (dir number : ℕ) (name : List ℕ) (about : Attr) (path directory : List ℕ) →
     (asks_attr verdict ≡ true → about ≡ attributes v number) → path ≡ entry_path (graph_of v) dir name → (asks_path verdict ≡ true → directory ≡ dir_path (graph_of v) number) →
     IsEnough v verdict dir number name about path directory
-enough v OutOfRange dir number name about path directory a p d = ap (λ q. verdict_told OutOfRange number about q directory) p
-enough v Whiteout dir number name about path directory a p d = ap (λ q. verdict_told Whiteout number about q directory) p
+enough v OutOfRange dir number name about path directory a p d = ap (λ q. verdict_reported OutOfRange number about q directory) p
+enough v Whiteout dir number name about path directory a p d = ap (λ q. verdict_reported Whiteout number about q directory) p
 enough v Fine dir number name about path directory a p d = refl
 enough v Unallocated dir number name about path directory a p d =
-    ap (λ q. verdict_told Unallocated number about q directory) p ∙ ap (λ x. verdict_told Unallocated number x (entry_path (graph_of v) dir name) directory) (a refl)
+    ap (λ q. verdict_reported Unallocated number about q directory) p ∙ ap (λ x. verdict_reported Unallocated number x (entry_path (graph_of v) dir name) directory) (a refl)
 enough v (Named n) dir number name about path directory a p d =
-    ap (λ q. faults_told n about q directory) p
-    ∙ (ap (λ x. faults_told n x (entry_path (graph_of v) dir name) directory) (a refl)
+    ap (λ q. faults_reported n about q directory) p
+    ∙ (ap (λ x. faults_reported n x (entry_path (graph_of v) dir name) directory) (a refl)
     ∙ faults_same n (attributes v number) (entry_path (graph_of v) dir name) directory (dir_path (graph_of v) number) d)

@@ -5,23 +5,23 @@ use Rattle.std.specs.Option.{unwrap_or}
 use Rattle.std.proofs.Common.{inl, inr, arith}
 use Rattle.std.proofs.lemmas.Bool.{cases_eq, ne_eqb, eq-eqb, and_parts, both_ways, cond-false, cond-true}
 use Rattle.ffs_volume.specs.declared.Order.{Order}
-use Rattle.ffs_volume.specs.Climb.{is_value}
-use Rattle.ffs_volume.specs.Directory.{Entry, entry_at, entries_of, entries_from}
-use Rattle.ffs_volume.specs.Graph.{Graph, names_in, edge, level, level_edge, parent, parent_by}
-use Rattle.ffs_volume.specs.Parents.{graph_of}
-use Rattle.ffs_volume.specs.Roles.{Volume, entry_number}
-use Rattle.ffs_volume.specs.Search.{first_below-some}
+use Rattle.ffs_volume.specs.Directories.Climb.{is_value}
+use Rattle.ffs_volume.specs.Directories.Entries.{Entry, entry_at, entries_of, entries_from}
+use Rattle.ffs_volume.specs.Directories.Graph.{Graph, names_in, edge, level, level_edge, parent, parent_by}
+use Rattle.ffs_volume.specs.Directories.Parents.{graph_of}
+use Rattle.ffs_volume.specs.Directories.Roles.{Volume, entry_number}
+use Rattle.ffs_volume.proofs.SearchLaws.{first_below-some}
 use Rattle.ffs_volume.proofs.Reading.{entries_next, entries_end}
 use Rattle.ffs_pathnames.specs.Begins.{number_if, started_entry}
 
--- where no entry stands at the start, there is none
+-- where no entry is at the start, there is none
 pub none_first : (order : Order) (chunk : List ℕ) (i : ℕ) → entry_at order chunk 0 ≡ None → entry_number i (entries_of order chunk) ≡ None
 none_first order chunk i h = ap (entry_number i) (entries_end order chunk 0 h)
 
 pub first_is : (order : Order) (chunk : List ℕ) (e : Entry) → entry_at order chunk 0 ≡ Some e → entry_number 0 (entries_of order chunk) ≡ Some e
 first_is order chunk e h = ap (entry_number 0) (entries_next order chunk 0 e h)
 
--- the second stands behind the first
+-- the second is after the first
 pub second_is : (order : Order) (chunk : List ℕ) (e : Entry) → entry_at order chunk 0 ≡ Some e → entry_number 1 (entries_of order chunk) ≡ entry_at order chunk e.length
 second_is order chunk e h = ap (entry_number 1) (entries_next order chunk 0 e h) ∙ (one (0 + e.length) (entry_at order chunk (0 + e.length)) refl ∙ ap (entry_at order chunk) (from_zero e.length))
   where
@@ -49,7 +49,7 @@ root_parent : (g : Graph) (x : ℕ) → x ≡ 2 → parent g x ≡ Some 2
 unfolding parent
 root_parent g x e = cond-true (x == 2) (Some 2) (parent_by g x (level g x)) (eq-eqb x 2 e)
 
--- inode 0 is no directory, so 0 can stand for no parent
+-- inode 0 is no directory, so 0 can mean no parent
 pub parent_back : (v : Volume) (x : ℕ) → number_if (unwrap_or (parent (graph_of v) x) 0) ≡ parent (graph_of v) x
 parent_back v x = one (parent (graph_of v) x) refl
   where

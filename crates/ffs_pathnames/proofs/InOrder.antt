@@ -1,27 +1,20 @@
--- Nothing is told of a directory that is in order.
+-- Nothing is reported of a directory that is in order.
 use Rattle.std.proofs.Common.{◌≡◌, refl, ap, ◌∙◌, ℕ, ◌==◌, ◌%◌, Bool, true, false, not, ◌&&◌, List, [], ◌++◌, Option, None, Some, nat_lt}
 use Rattle.std.specs.Prelude.{cond}
 use Rattle.std.proofs.lemmas.Bool.{and_parts}
 use Rattle.ffs_pathnames.proofs.MarkLaws.{and_false}
 use Rattle.ffs_volume.specs.declared.Attr.{Attr}
-use Rattle.ffs_volume.specs.Directory.{Entry, is_live}
-use Rattle.ffs_volume.specs.Roles.{is_one_dot, is_two_dots}
-use Rattle.ffs_volume.specs.Messages.{NameMessage, told}
-use Rattle.ffs_volume.specs.PathnameCheck.{is_other}
-use Rattle.ffs_pathnames.specs.Starts.{dot_in, dotdot_in, dot_said, dotdot_said, starts_told}
+use Rattle.ffs_volume.specs.Directories.Entries.{Entry, is_live}
+use Rattle.ffs_volume.specs.Directories.Roles.{is_one_dot, is_two_dots}
+use Rattle.ffs_volume.specs.Messages.Kinds.{NameMessage, told}
+use Rattle.ffs_volume.specs.Directories.PathnameCheck.{is_other}
+use Rattle.ffs_pathnames.specs.Starts.{dot_in, dotdot_in, dot_said, dotdot_said, starts_reported}
 
 silent : (b : Bool) (m : NameMessage) → b ≡ false → told b m ≡ []
 silent b m e = ap (λ t. told t m) e
 
 two : (xs ys : List NameMessage) → xs ≡ [] → ys ≡ [] → xs ++ ys ≡ []
 two xs ys p q = ap (λ l. l ++ ys) p ∙ q
-
--- `.`
-pub dot_right : (about : Attr) (path : List ℕ) (d : ℕ) (e : Entry) → is_live e ≡ true → is_one_dot e.name ≡ true → (e.number == d) ≡ true → (e.kind == 4) ≡ true →
-    dot_said about path d (Some e) (dot_in (Some e)) ≡ []
-dot_right about path d e live name number kind =
-    ap (λ t. dot_said about path d (Some e) (cond t (Some e) None)) (ap (λ t. t && is_one_dot e.name) live ∙ name)
-    ∙ two _ _ (silent _ _ (ap not number)) (silent _ _ (ap not kind))
 
 -- `..`
 pub dotdot_right : (about : Attr) (path : List ℕ) (parent : Option ℕ) (e : Entry) → is_live e ≡ true → is_two_dots e.name ≡ true → is_other parent e.number ≡ false → (e.kind == 4) ≡ true →
@@ -34,8 +27,8 @@ dotdot_right about path parent e live name number kind =
 pub all_right : (about : Attr) (path : List ℕ) (d : ℕ) (parent : Option ℕ) (gap sound : Bool) (first second : Option Entry) →
     nat_lt about.size 24 ≡ false → (about.size % 512 == 0) ≡ true → gap ≡ false → sound ≡ true →
     dot_said about path d first (dot_in first) ≡ [] → dotdot_said about path parent second (dotdot_in second) ≡ [] →
-    starts_told about path d parent gap sound first second ≡ []
-unfolding starts_told
+    starts_reported about path d parent gap sound first second ≡ []
+unfolding starts_reported
 all_right about path d parent gap sound first second long even none all dot dotdot =
     two _ _
     (two _ _
@@ -47,7 +40,7 @@ all_right about path d parent gap sound first second long even none all dot dotd
 pub in_order : (about : Attr) (path : List ℕ) (d size : ℕ) (parent : Option ℕ) (gap sound : Bool) (first second : Option Entry) → about.size ≡ size →
     (not (nat_lt size 24) && ((size % 512 == 0) && (not gap && sound))) ≡ true →
     dot_said about path d first (dot_in first) ≡ [] → dotdot_said about path parent second (dotdot_in second) ≡ [] →
-    starts_told about path d parent gap sound first second ≡ []
+    starts_reported about path d parent gap sound first second ≡ []
 in_order about path d size parent gap sound first second e h dot dotdot =
     let a = and_parts (not (nat_lt size 24)) ((size % 512 == 0) && (not gap && sound)) h in
     let b = and_parts (size % 512 == 0) (not gap && sound) a.1 in

@@ -7,23 +7,24 @@ use Rattle.std.proofs.Math.ListN.{length-set}
 use Rattle.std.proofs.lemmas.Bool.{cases_eq, both_ways, ne_eqb, eqb-true, eq-eqb, and_parts, and_from, ltb-true, lt-ltb, not-true}
 use Rattle.ffs_volume.specs.declared.Role.{Role}
 use Rattle.ffs_volume.specs.declared.Role.TheVariants.{Empty, Dot, Dotdot, Extra, Plain}
-use Rattle.ffs_volume.specs.Directory.{Entry}
-use Rattle.ffs_volume.specs.Roles.{Volume, Seen, is_dir, is_allocated, is_suspect, is_plain, seen_in}
-use Rattle.ffs_volume.specs.Climb.{is_value}
-use Rattle.ffs_volume.specs.Graph.{names, parent}
-use Rattle.ffs_volume.specs.Parents.{graph_of, is_from_parent, is_first_name}
-use Rattle.ffs_volume.specs.Paths.{dir_path, entry_path}
-use Rattle.ffs_volume.specs.Messages.{NameMessage, told, out_of_range, whiteout, unallocated, extraneous, kind_entry}
-use Rattle.ffs_volume.specs.PathnameCheck.{attributes, label_of, is_bad_whiteout, suspect_told, is_other_kind, tells_suspect, is_extraneous, named_lines, plain_lines, seen_lines, entry_lines, seen_told as lines_by_role}
+use Rattle.ffs_volume.specs.Directories.Entries.{Entry}
+use Rattle.ffs_volume.specs.Blocks.Inodes.{is_allocated}
+use Rattle.ffs_volume.specs.Directories.Roles.{Volume, RoledEntry, is_dir, is_suspect, is_plain, roled_entries}
+use Rattle.ffs_volume.specs.Directories.Climb.{is_value}
+use Rattle.ffs_volume.specs.Directories.Graph.{names, parent}
+use Rattle.ffs_volume.specs.Directories.Parents.{graph_of, is_from_parent, is_first_name}
+use Rattle.ffs_volume.specs.Directories.Paths.{dir_path, entry_path}
+use Rattle.ffs_volume.specs.Messages.Kinds.{NameMessage, told, out_of_range, whiteout, unallocated, extraneous, kind_entry}
+use Rattle.ffs_volume.specs.Directories.PathnameCheck.{attributes, label_of, is_bad_whiteout, suspect_reported, is_other_kind, reports_suspect, is_extraneous, named_lines, plain_lines, roled_lines, entry_lines, roled_reported as lines_by_role}
 use Rattle.ffs_pathnames.specs.Marks.{belongs, after_look, after_looks, is_plain_quiet, is_role_quiet, is_quiet, are_quiet}
 use Rattle.ffs_pathnames.proofs.Places.{size_of, size_more}
 use Rattle.ffs_pathnames.proofs.MarkLaws.{IsEntry, IsDirectory, from_parent_is, any_more, or_true, or_false, other_number}
 
 -- the inodes that belong to s and are named by the entries of `done` are stamped
-abbrev pub AreStamped : Volume → ℕ → List Seen → List ℕ → Type 0
+abbrev pub AreStamped : Volume → ℕ → List RoledEntry → List ℕ → Type 0
 AreStamped v s done stamps = (x : ℕ) → x < v.count → (slice_index stamps x == s) ≡ (belongs v s x && list_any (names x) done)
 
-stamped_after : (v : Volume) (s : ℕ) (done : List Seen) (e : Seen) (stamps : List ℕ) → length stamps ≡ v.count → AreStamped v s done stamps →
+stamped_after : (v : Volume) (s : ℕ) (done : List RoledEntry) (e : RoledEntry) (stamps : List ℕ) → length stamps ≡ v.count → AreStamped v s done stamps →
     AreStamped v s (done ++ e ∷ []) (after_look v s stamps e)
 stamped_after v s done e stamps long r x h = one (is_plain e.role && belongs v s e.entry.number) refl (cases_eq x e.entry.number)
   where
@@ -52,21 +53,21 @@ stamped_after v s done e stamps long r x h = one (is_plain e.role && belongs v s
         two false true k same false = refl
         two true true k same any = absurd (cc)
 
-looks_long : (v : Volume) (s : ℕ) (stamps : List ℕ) (e : Seen) → length (after_look v s stamps e) ≡ length stamps
+looks_long : (v : Volume) (s : ℕ) (stamps : List ℕ) (e : RoledEntry) → length (after_look v s stamps e) ≡ length stamps
 looks_long v s stamps e = one (is_plain e.role && belongs v s e.entry.number)
   where
     one : (b : Bool) → length (if b then slice_set stamps e.entry.number s else stamps) ≡ length stamps
     one true = length-set stamps e.entry.number s
     one false = refl
 
-pub stamped_all : (v : Volume) (s : ℕ) (done es : List Seen) (stamps : List ℕ) → length stamps ≡ v.count → AreStamped v s done stamps →
+pub stamped_all : (v : Volume) (s : ℕ) (done es : List RoledEntry) (stamps : List ℕ) → length stamps ≡ v.count → AreStamped v s done stamps →
     AreStamped v s (done ++ es) (after_looks v s stamps es)
 stamped_all v s done [] stamps long r = subst (λ l. AreStamped v s l stamps) (sym (append-nil done)) r
 stamped_all v s done (e ∷ es) stamps long r =
     subst (λ l. AreStamped v s l (after_looks v s (after_look v s stamps e) es)) (append_assoc done (e ∷ []) es)
     (stamped_all v s (done ++ e ∷ []) es (after_look v s stamps e) (looks_long v s stamps e ∙ long) (stamped_after v s done e stamps long r))
 
-pub looks_all_long : (v : Volume) (s : ℕ) (es : List Seen) (stamps : List ℕ) → length (after_looks v s stamps es) ≡ length stamps
+pub looks_all_long : (v : Volume) (s : ℕ) (es : List RoledEntry) (stamps : List ℕ) → length (after_looks v s stamps es) ≡ length stamps
 looks_all_long v s [] stamps = refl
 looks_all_long v s (e ∷ es) stamps = looks_all_long v s es (after_look v s stamps e) ∙ looks_long v s stamps e
 
@@ -104,13 +105,13 @@ quiet_parts v s stamps e h =
       ];
     }
 
-told_nothing : (b : Bool) (m : NameMessage) → b ≡ false → told b m ≡ []
-told_nothing b m h = ap (λ b. told b m) h
+reported_nothing : (b : Bool) (m : NameMessage) → b ≡ false → told b m ≡ []
+reported_nothing b m h = ap (λ b. told b m) h
 
-suspect_quiet : (v : Volume) (s j x : ℕ) → is_suspect v x ≡ false → tells_suspect v s j x ≡ false
+suspect_quiet : (v : Volume) (s j x : ℕ) → is_suspect v x ≡ false → reports_suspect v s j x ≡ false
 suspect_quiet v s j x h = ap (λ b. b && (not (x == 2) && is_first_name (graph_of v) s j x)) h
 
-link_quiet : (v : Volume) (s : ℕ) (done es : List Seen) (e : Seen) (stamps : List ℕ) → IsEntry v s done e es → e.role ≡ Plain → e.entry.number < v.count → AreStamped v s done stamps →
+link_quiet : (v : Volume) (s : ℕ) (done es : List RoledEntry) (e : RoledEntry) (stamps : List ℕ) → IsEntry v s done e es → e.role ≡ Plain → e.entry.number < v.count → AreStamped v s done stamps →
     (not (is_dir v e.entry.number) || (belongs v s e.entry.number && not (slice_index stamps e.entry.number == s))) ≡ true →
     is_extraneous v s (size_of done) e.entry.number ≡ false
 link_quiet v s done es e stamps i p h r q = one (is_dir v e.entry.number) refl
@@ -131,18 +132,18 @@ link_quiet v s done es e stamps i p h r q = one (is_dir v e.entry.number) refl
         let mine = (and_parts (is_dir v e.entry.number) (not (e.entry.number == 2) && is_value (parent (graph_of v) e.entry.number) s) parts.0).1 in
         ap not (from_parent_is v s done es e i p ∙ (ap (λ b. b && not (list_any (names e.entry.number) done)) mine ∙ ap not first))
 
-named_quiet : (v : Volume) (s : ℕ) (done es : List Seen) (e : Seen) (stamps : List ℕ) → IsEntry v s done e es → e.role ≡ Plain → e.entry.number < v.count → AreStamped v s done stamps →
+named_quiet : (v : Volume) (s : ℕ) (done es : List RoledEntry) (e : RoledEntry) (stamps : List ℕ) → IsEntry v s done e es → e.role ≡ Plain → e.entry.number < v.count → AreStamped v s done stamps →
     IsNamedQuiet v s stamps e.entry → named_lines v s (size_of done) e.entry ≡ []
 unfolding named_lines
 named_quiet v s done es e stamps i p h r q =
-    let a = told_nothing _ (suspect_told v e.entry.number (entry_path (graph_of v) s e.entry.name)) (suspect_quiet v s (size_of done) e.entry.number q.suspect) in
-    let b = told_nothing _ (extraneous (entry_path (graph_of v) s e.entry.name) (dir_path (graph_of v) e.entry.number)) (link_quiet v s done es e stamps i p h r q.link) in
-    let c = told_nothing _ (kind_entry (attributes v e.entry.number) (label_of (v.class e.entry.number)) (entry_path (graph_of v) s e.entry.name)) q.kind in
+    let a = reported_nothing _ (suspect_reported v e.entry.number (entry_path (graph_of v) s e.entry.name)) (suspect_quiet v s (size_of done) e.entry.number q.suspect) in
+    let b = reported_nothing _ (extraneous (entry_path (graph_of v) s e.entry.name) (dir_path (graph_of v) e.entry.number)) (link_quiet v s done es e stamps i p h r q.link) in
+    let c = reported_nothing _ (kind_entry (attributes v e.entry.number) (label_of (v.class e.entry.number)) (entry_path (graph_of v) s e.entry.name)) q.kind in
     ap (λ l. l ++ (told (is_extraneous v s (size_of done) e.entry.number) (extraneous (entry_path (graph_of v) s e.entry.name) (dir_path (graph_of v) e.entry.number))
     ++ told (is_other_kind v e.entry) (kind_entry (attributes v e.entry.number) (label_of (v.class e.entry.number)) (entry_path (graph_of v) s e.entry.name)))) a
     ∙ (ap (λ l. l ++ told (is_other_kind v e.entry) (kind_entry (attributes v e.entry.number) (label_of (v.class e.entry.number)) (entry_path (graph_of v) s e.entry.name))) b ∙ c)
 
-plain_quiet : (v : Volume) (s : ℕ) (done es : List Seen) (e : Seen) (stamps : List ℕ) → IsEntry v s done e es → e.role ≡ Plain → AreStamped v s done stamps →
+plain_quiet : (v : Volume) (s : ℕ) (done es : List RoledEntry) (e : RoledEntry) (stamps : List ℕ) → IsEntry v s done e es → e.role ≡ Plain → AreStamped v s done stamps →
     is_plain_quiet v s stamps e.entry ≡ true → plain_lines v s (size_of done) e.entry ≡ []
 unfolding plain_lines
 plain_quiet v s done es e stamps i p r h =
@@ -173,9 +174,9 @@ plain_quiet v s done es e stamps i p r h =
     rest true k = refl
     rest false k = k
 
-seen_quiet : (v : Volume) (s : ℕ) (done es : List Seen) (e : Seen) (stamps : List ℕ) → IsEntry v s done e es → AreStamped v s done stamps →
-    is_quiet v s stamps e ≡ true → seen_lines v s (size_of done) e ≡ []
-unfolding seen_lines is_quiet
+seen_quiet : (v : Volume) (s : ℕ) (done es : List RoledEntry) (e : RoledEntry) (stamps : List ℕ) → IsEntry v s done e es → AreStamped v s done stamps →
+    is_quiet v s stamps e ≡ true → roled_lines v s (size_of done) e ≡ []
+unfolding roled_lines is_quiet
 seen_quiet v s done es e stamps i r h = one e.role refl h
   where
     one : (role : Role) → e.role ≡ role → is_role_quiet v s stamps role e.entry ≡ true → lines_by_role v s (size_of done) role e.entry ≡ []
@@ -185,8 +186,8 @@ seen_quiet v s done es e stamps i r h = one e.role refl h
     one Extra q k = absurd (cc)
     one Plain q k = plain_quiet v s done es e stamps i q r k
 
--- where all entries are quiet, nothing is told of them
-pub quiet_silent : (v : Volume) (s : ℕ) (done es : List Seen) (stamps : List ℕ) → IsDirectory v s → seen_in v s ≡ done ++ es → length stamps ≡ v.count → AreStamped v s done stamps →
+-- where all entries are quiet, nothing is reported of them
+pub quiet_silent : (v : Volume) (s : ℕ) (done es : List RoledEntry) (stamps : List ℕ) → IsDirectory v s → roled_entries v s ≡ done ++ es → length stamps ≡ v.count → AreStamped v s done stamps →
     are_quiet v s stamps es ≡ true → entry_lines v s (size_of done) es ≡ []
 unfolding entry_lines
 quiet_silent v s done [] stamps d whole long r h = refl
@@ -198,7 +199,7 @@ quiet_silent v s done (e ∷ es) stamps d whole long r h =
     ap (λ ls. ls ++ entry_lines v s (suc (size_of done)) es) here ∙ (ap (λ j. entry_lines v s j es) (sym (size_more done e)) ∙ rest)
 
 -- and no suspect is named
-suspect_unnamed : (v : Volume) (s : ℕ) (stamps : List ℕ) (e : Seen) (x : ℕ) → is_quiet v s stamps e ≡ true → is_suspect v x ≡ true → x ≢ 1 → names x e ≡ false
+suspect_unnamed : (v : Volume) (s : ℕ) (stamps : List ℕ) (e : RoledEntry) (x : ℕ) → is_quiet v s stamps e ≡ true → is_suspect v x ≡ true → x ≢ 1 → names x e ≡ false
 unfolding is_quiet
 suspect_unnamed v s stamps e x h q n = one e.role h
   where
@@ -218,7 +219,7 @@ suspect_unnamed v s stamps e x h q n = one e.role h
       | inr o ↦ ne_eqb e.entry.number x (λ z. o (sym z))
     ]
 
-pub suspects_unnamed : (v : Volume) (s : ℕ) (es : List Seen) (stamps : List ℕ) (x : ℕ) → are_quiet v s stamps es ≡ true → is_suspect v x ≡ true → x ≢ 1 → list_any (names x) es ≡ false
+pub suspects_unnamed : (v : Volume) (s : ℕ) (es : List RoledEntry) (stamps : List ℕ) (x : ℕ) → are_quiet v s stamps es ≡ true → is_suspect v x ≡ true → x ≢ 1 → list_any (names x) es ≡ false
 suspects_unnamed v s [] stamps x h q n = refl
 suspects_unnamed v s (e ∷ es) stamps x h q n =
     let p = and_parts (is_quiet v s stamps e) (are_quiet v s (after_look v s stamps e) es) h in

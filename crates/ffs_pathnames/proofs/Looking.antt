@@ -5,11 +5,11 @@ use Rattle.std.proofs.lemmas.List.Sums.{sum_by-cons}
 use Rattle.std.proofs.Math.Bool.{and-true}
 use Rattle.ffs_volume.specs.declared.Order.{Order}
 use Rattle.ffs_volume.specs.declared.Role.{Role}
-use Rattle.ffs_volume.specs.Directory.{Entry, entry_at, entries_from}
-use Rattle.ffs_volume.specs.Roles.{Volume, Seen, role_of, seen_from}
+use Rattle.ffs_volume.specs.Directories.Entries.{Entry, entry_at, entries_from}
+use Rattle.ffs_volume.specs.Directories.Roles.{Volume, RoledEntry, role_of, roled_from}
 use Rattle.ffs_volume.proofs.Reading.{entries_next, entries_end}
 use Rattle.ffs_layout.specs.declared.entry.Entry.{Entry as CodeEntry}
-use Rattle.ffs_layout.specs.Entry.{seen_entry}
+use Rattle.ffs_layout.specs.Entry.{entry_value}
 use Rattle.ffs_pathnames.specs.Marks.{is_quiet, are_quiet, after_look, after_looks}
 
 and_assoc : (a b c : Bool) → (a && (b && c)) ≡ ((a && b) && c)
@@ -17,19 +17,19 @@ and_assoc true b c = refl
 and_assoc false b c = refl
 
 -- the entries from a place on, with their roles
-abbrev pub seen_at_place : Order → List ℕ → Bool → ℕ → ℕ → List Seen
-seen_at_place order chunk first index place = seen_from first index (entries_from order chunk 64 place)
+abbrev pub roled_at_place : Order → List ℕ → Bool → ℕ → ℕ → List RoledEntry
+roled_at_place order chunk first index place = roled_from first index (entries_from order chunk 64 place)
 
 pub seen_next : (order : Order) (chunk : List ℕ) (first : Bool) (index place : ℕ) (e : Entry) (role : Role) → entry_at order chunk place ≡ Some e → role ≡ role_of first index e →
-    seen_at_place order chunk first index place ≡ record { role = role; entry = e } ∷ seen_at_place order chunk first (index + 1) (place + e.length)
-unfolding seen_from
+    roled_at_place order chunk first index place ≡ record { role = role; entry = e } ∷ roled_at_place order chunk first (index + 1) (place + e.length)
+unfolding roled_from
 seen_next order chunk first index place e role there is =
     let next : suc index ≡ index + 1 = omega arith in
-    ap (seen_from first index) (entries_next order chunk place e there)
-    ∙ (ap (λ r. record { role = r; entry = e } ∷ seen_from first (suc index) (entries_from order chunk 64 (place + e.length))) (sym is)
-    ∙ ap (λ k. record { role = role; entry = e } ∷ seen_from first k (entries_from order chunk 64 (place + e.length))) next)
+    ap (roled_from first index) (entries_next order chunk place e there)
+    ∙ (ap (λ r. record { role = r; entry = e } ∷ roled_from first (suc index) (entries_from order chunk 64 (place + e.length))) (sym is)
+    ∙ ap (λ k. record { role = role; entry = e } ∷ roled_from first k (entries_from order chunk 64 (place + e.length))) next)
 
-pub quiet_on : (v : Volume) (s : ℕ) (stamps stamps' : List ℕ) (seen : Seen) (es es' : List Seen) (all quiet here : Bool) → es ≡ seen ∷ es' →
+pub quiet_on : (v : Volume) (s : ℕ) (stamps stamps' : List ℕ) (seen : RoledEntry) (es es' : List RoledEntry) (all quiet here : Bool) → es ≡ seen ∷ es' →
     here ≡ is_quiet v s stamps seen → stamps' ≡ after_look v s stamps seen → all ≡ (quiet && are_quiet v s stamps es) → all ≡ ((quiet && here) && are_quiet v s stamps' es')
 quiet_on v s stamps stamps' seen es es' all quiet here e h t q =
     q ∙ (ap (λ l. quiet && are_quiet v s stamps l) e
@@ -37,7 +37,7 @@ quiet_on v s stamps stamps' seen es es' all quiet here e h t q =
     ∙ (ap (λ b. (quiet && b) && are_quiet v s (after_look v s stamps seen) es') (sym h)
     ∙ ap (λ l. (quiet && here) && are_quiet v s l es') (sym t))))
 
-pub stamps_on : (v : Volume) (s : ℕ) (stamps stamps' all : List ℕ) (seen : Seen) (es es' : List Seen) → es ≡ seen ∷ es' →
+pub stamps_on : (v : Volume) (s : ℕ) (stamps stamps' all : List ℕ) (seen : RoledEntry) (es es' : List RoledEntry) → es ≡ seen ∷ es' →
     stamps' ≡ after_look v s stamps seen → all ≡ after_looks v s stamps es → all ≡ after_looks v s stamps' es'
 stamps_on v s stamps stamps' all seen es es' e t q = q ∙ (ap (after_looks v s stamps) e ∙ ap (λ l. after_looks v s l es') (sym t))
 
@@ -51,21 +51,21 @@ length_on order chunk place all e there q =
     more : (a b c : ℕ) → a + (b + c) ≡ (a + b) + c
     more a b c = omega arith
 
--- no entry stands at the place
-pub none : (order : Order) (chunk : List ℕ) (place : ℕ) (o : Option CodeEntry) → o ≡ None → option_map seen_entry o ≡ entry_at order chunk place → entry_at order chunk place ≡ None
-none order chunk place o e h = sym h ∙ ap (option_map seen_entry) e
+-- no entry is at the place
+pub none : (order : Order) (chunk : List ℕ) (place : ℕ) (o : Option CodeEntry) → o ≡ None → option_map entry_value o ≡ entry_at order chunk place → entry_at order chunk place ≡ None
+none order chunk place o e h = sym h ∙ ap (option_map entry_value) e
 
-seen_end : (order : Order) (chunk : List ℕ) (first : Bool) (index place : ℕ) → entry_at order chunk place ≡ None → seen_at_place order chunk first index place ≡ []
-unfolding seen_from
-seen_end order chunk first index place h = ap (seen_from first index) (entries_end order chunk place h)
+seen_end : (order : Order) (chunk : List ℕ) (first : Bool) (index place : ℕ) → entry_at order chunk place ≡ None → roled_at_place order chunk first index place ≡ []
+unfolding roled_from
+seen_end order chunk first index place h = ap (roled_from first index) (entries_end order chunk place h)
 
 pub quiet_ends : (v : Volume) (s : ℕ) (stamps : List ℕ) (first : Bool) (index : ℕ) (order : Order) (chunk : List ℕ) (place : ℕ) (all quiet : Bool) → entry_at order chunk place ≡ None →
-    all ≡ (quiet && are_quiet v s stamps (seen_at_place order chunk first index place)) → quiet ≡ all
+    all ≡ (quiet && are_quiet v s stamps (roled_at_place order chunk first index place)) → quiet ≡ all
 quiet_ends v s stamps first index order chunk place all quiet h q =
     sym (q ∙ (ap (λ l. quiet && are_quiet v s stamps l) (seen_end order chunk first index place h) ∙ and-true quiet))
 
 pub stamps_end : (v : Volume) (s : ℕ) (stamps all : List ℕ) (first : Bool) (index : ℕ) (order : Order) (chunk : List ℕ) (place : ℕ) → entry_at order chunk place ≡ None →
-    all ≡ after_looks v s stamps (seen_at_place order chunk first index place) → stamps ≡ all
+    all ≡ after_looks v s stamps (roled_at_place order chunk first index place) → stamps ≡ all
 stamps_end v s stamps all first index order chunk place h q = sym (q ∙ ap (after_looks v s stamps) (seen_end order chunk first index place h))
 
 pub length_ends : (order : Order) (chunk : List ℕ) (place all : ℕ) → entry_at order chunk place ≡ None →

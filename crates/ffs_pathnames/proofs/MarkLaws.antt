@@ -1,4 +1,4 @@
--- What the marks tell is what the pathname check tells.
+-- What the marks report is what the pathname check reports.
 use Rattle.std.specs.Prelude.{◌≡◌, ◌≢◌, ℕ, suc, ◌<◌, ◌≤◌, ◌==◌, Bool, true, false, not, ◌&&◌, ◌||◌, nat_lt, if◌then◌else◌, refl, List, [], ◌∷◌, ◌++◌, length, slice_index, slice_set, Option, None, Some, ◌⊎◌}
 use Rattle.std.specs.List.{list_any, slice_index_or}
 use Rattle.std.proofs.Common.{arith, sym, ◌∙◌, ap, subst, inl, inr, append_assoc}
@@ -8,15 +8,18 @@ use Rattle.std.proofs.lemmas.List.Folds.{list_any-append}
 use Rattle.std.proofs.lemmas.Bool.{cases_eq, ne_eqb, eq-eqb, and_parts, and_from, ltb-true, lt-ltb}
 use Rattle.ffs_volume.specs.declared.Role.{Role}
 use Rattle.ffs_volume.specs.declared.Role.TheVariants.{Empty, Dot, Dotdot, Extra, Plain}
-use Rattle.ffs_volume.specs.Roles.{Volume, Seen, is_dir, is_allocated, is_suspect, is_plain, seen_in}
-use Rattle.ffs_volume.specs.Search.{some_below, first_below, first_below-is, some_below-false, first_below-some}
-use Rattle.ffs_volume.specs.Climb.{is_value, is_value-true, is_value-from}
-use Rattle.ffs_volume.specs.Graph.{names, names_in, parent, entry_place, first_place}
-use Rattle.ffs_volume.specs.Parents.{graph_of, first_namer, is_first_name, is_from_parent}
-use Rattle.ffs_volume.specs.Paths.{dir_path, entry_path}
-use Rattle.ffs_volume.specs.Messages.{told, out_of_range, whiteout, unallocated, extraneous, kind_entry}
-use Rattle.ffs_volume.specs.PathnameCheck.{attributes, label_of, is_bad_whiteout, suspect_told, is_other_kind, seen_told as lines_by_role, tells_suspect, is_extraneous, named_lines, plain_lines, seen_lines, entry_lines}
-use Rattle.ffs_pathnames.specs.Marks.{Marks, is_passed, is_due, after_name, after_seen, named_told, plain_told, role_told, seen_told, entries_told, belongs}
+use Rattle.ffs_volume.specs.Blocks.Inodes.{is_allocated}
+use Rattle.ffs_volume.specs.Directories.Roles.{Volume, RoledEntry, is_dir, is_suspect, is_plain, roled_entries}
+use Rattle.ffs_volume.specs.Directories.Search.{some_below, first_below}
+use Rattle.ffs_volume.proofs.SearchLaws.{first_below-is, some_below-false, first_below-some}
+use Rattle.ffs_volume.specs.Directories.Climb.{is_value}
+use Rattle.ffs_volume.proofs.ClimbLaws.{is_value-true, is_value-from}
+use Rattle.ffs_volume.specs.Directories.Graph.{names, names_in, parent, entry_place, first_place}
+use Rattle.ffs_volume.specs.Directories.Parents.{graph_of, first_namer, is_first_name, is_from_parent}
+use Rattle.ffs_volume.specs.Directories.Paths.{dir_path, entry_path}
+use Rattle.ffs_volume.specs.Messages.Kinds.{told, out_of_range, whiteout, unallocated, extraneous, kind_entry}
+use Rattle.ffs_volume.specs.Directories.PathnameCheck.{attributes, label_of, is_bad_whiteout, suspect_reported, is_other_kind, roled_reported as lines_by_role, reports_suspect, is_extraneous, named_lines, plain_lines, roled_lines, entry_lines}
+use Rattle.ffs_pathnames.specs.Marks.{Marks, is_passed, is_due, after_name, after_roled, named_reported, plain_reported, role_reported, roled_reported, entries_reported, belongs}
 use Rattle.ffs_pathnames.specs.MarksRight.{AreRight}
 use Rattle.ffs_pathnames.proofs.Places.{size_of, size_more, first_here}
 
@@ -45,41 +48,41 @@ not_or : (a b : Bool) → (not a && not b) ≡ not (a || b)
 not_or true b = refl
 not_or false b = refl
 
--- an entry of s: `done` stand before it, `es` behind it
-pub record IsEntry (v : Volume) (s : ℕ) (done : List Seen) (e : Seen) (es : List Seen) : Type 0 where
+-- an entry of s: `done` are before it, `es` after it
+pub record IsEntry (v : Volume) (s : ℕ) (done : List RoledEntry) (e : RoledEntry) (es : List RoledEntry) : Type 0 where
   pub dir : is_dir v s ≡ true
   pub below : s < v.count
   pub from_two : 2 ≤ s
-  pub whole : seen_in v s ≡ done ++ e ∷ es
+  pub whole : roled_entries v s ≡ done ++ e ∷ es
 
-names_it : (e : Seen) → e.role ≡ Plain → names e.entry.number e ≡ true
+names_it : (e : RoledEntry) → e.role ≡ Plain → names e.entry.number e ≡ true
 names_it e p = and_from (is_plain e.role) (e.entry.number == e.entry.number) (ap is_plain p) (eq-eqb e.entry.number e.entry.number refl)
 
-names_in_it : (v : Volume) (s : ℕ) (done es : List Seen) (e : Seen) → IsEntry v s done e es → e.role ≡ Plain → names_in (graph_of v) s e.entry.number ≡ true
+names_in_it : (v : Volume) (s : ℕ) (done es : List RoledEntry) (e : RoledEntry) → IsEntry v s done e es → e.role ≡ Plain → names_in (graph_of v) s e.entry.number ≡ true
 names_in_it v s done es e i p =
     let x = e.entry.number in
     let here : (list_any (names x) done || (names x e || list_any (names x) es)) ≡ true =
     ap (λ b. list_any (names x) done || (b || list_any (names x) es)) (names_it e p) ∙ or_here (list_any (names x) done) (list_any (names x) es) in
-    and_from (is_dir v s) (list_any (names x) (seen_in v s)) i.dir
+    and_from (is_dir v s) (list_any (names x) (roled_entries v s)) i.dir
     (ap (list_any (names x)) i.whole ∙ (list_any-append (names x) done (e ∷ es) ∙ here))
 
-place_is : (v : Volume) (s : ℕ) (done es : List Seen) (e : Seen) → IsEntry v s done e es → e.role ≡ Plain →
-    is_value (first_place (names e.entry.number) (seen_in v s)) (size_of done) ≡ not (list_any (names e.entry.number) done)
+place_is : (v : Volume) (s : ℕ) (done es : List RoledEntry) (e : RoledEntry) → IsEntry v s done e es → e.role ≡ Plain →
+    is_value (first_place (names e.entry.number) (roled_entries v s)) (size_of done) ≡ not (list_any (names e.entry.number) done)
 place_is v s done es e i p =
     ap (λ l. is_value (first_place (names e.entry.number) l) (size_of done)) i.whole ∙ first_here (names e.entry.number) done e es (names_it e p)
 
-first_name_is : (v : Volume) (s : ℕ) (done es : List Seen) (e : Seen) → IsEntry v s done e es → e.role ≡ Plain →
+first_name_is : (v : Volume) (s : ℕ) (done es : List RoledEntry) (e : RoledEntry) → IsEntry v s done e es → e.role ≡ Plain →
     is_first_name (graph_of v) s (size_of done) e.entry.number
     ≡ not (some_below (λ t. names_in (graph_of v) t e.entry.number) s || list_any (names e.entry.number) done)
 first_name_is v s done es e i p =
     let x = e.entry.number in
     let first : is_value (first_namer (graph_of v) x) s ≡ not (some_below (λ t. names_in (graph_of v) t x) s) =
     first_in (λ t. names_in (graph_of v) t x) v.count s i.below (names_in_it v s done es e i p) in
-    ap (λ b. b && is_value (first_place (names x) (seen_in v s)) (size_of done)) first
+    ap (λ b. b && is_value (first_place (names x) (roled_entries v s)) (size_of done)) first
     ∙ (ap (λ b. not (some_below (λ t. names_in (graph_of v) t x) s) && b) (place_is v s done es e i p)
     ∙ not_or (some_below (λ t. names_in (graph_of v) t x) s) (list_any (names x) done))
 
-pub from_parent_is : (v : Volume) (s : ℕ) (done es : List Seen) (e : Seen) → IsEntry v s done e es → e.role ≡ Plain →
+pub from_parent_is : (v : Volume) (s : ℕ) (done es : List RoledEntry) (e : RoledEntry) → IsEntry v s done e es → e.role ≡ Plain →
     is_from_parent (graph_of v) s (size_of done) e.entry.number
     ≡ ((not (e.entry.number == 2) && is_value (parent (graph_of v) e.entry.number) s) && not (list_any (names e.entry.number) done))
 from_parent_is v s done es e i p = one (e.entry.number == 2) refl (is_value (parent (graph_of v) e.entry.number) s) refl
@@ -94,8 +97,8 @@ from_parent_is v s done es e i p = one (e.entry.number == 2) refl (is_value (par
         ∙ place_is v s done es e i p
     one false q false r = refl
 
-suspect_same : (v : Volume) (s : ℕ) (done es : List Seen) (e : Seen) (m : Marks) → IsEntry v s done e es → e.role ≡ Plain → e.entry.number < v.count → e.entry.number ≢ 1 → AreRight v s done m →
-    tells_suspect v s (size_of done) e.entry.number ≡ (is_suspect v e.entry.number && (not (e.entry.number == 2) && not (is_passed m e.entry.number)))
+suspect_same : (v : Volume) (s : ℕ) (done es : List RoledEntry) (e : RoledEntry) (m : Marks) → IsEntry v s done e es → e.role ≡ Plain → e.entry.number < v.count → e.entry.number ≢ 1 → AreRight v s done m →
+    reports_suspect v s (size_of done) e.entry.number ≡ (is_suspect v e.entry.number && (not (e.entry.number == 2) && not (is_passed m e.entry.number)))
 suspect_same v s done es e m i p h other r = one (is_suspect v e.entry.number) refl (cases_eq e.entry.number 2)
   where
     one : (b : Bool) → is_suspect v e.entry.number ≡ b → (e.entry.number ≡ 2) ⊎ (e.entry.number ≢ 2) →
@@ -108,7 +111,7 @@ suspect_same v s done es e m i p h other r = one (is_suspect v e.entry.number) r
     one true q (inr n) =
         ap (λ b. not (e.entry.number == 2) && b) (first_name_is v s done es e i p ∙ sym (ap not (r.passed e.entry.number h q other n)))
 
-extraneous_same : (v : Volume) (s : ℕ) (done es : List Seen) (e : Seen) (m : Marks) → IsEntry v s done e es → e.role ≡ Plain → e.entry.number < v.count → AreRight v s done m →
+extraneous_same : (v : Volume) (s : ℕ) (done es : List RoledEntry) (e : RoledEntry) (m : Marks) → IsEntry v s done e es → e.role ≡ Plain → e.entry.number < v.count → AreRight v s done m →
     is_extraneous v s (size_of done) e.entry.number ≡ (is_dir v e.entry.number && not (is_due s m e.entry.number))
 extraneous_same v s done es e m i p h r = one (is_dir v e.entry.number) refl
   where
@@ -118,21 +121,21 @@ extraneous_same v s done es e m i p h r = one (is_dir v e.entry.number) refl
     one true q = ap not (from_parent_is v s done es e i p
         ∙ sym (r.due e.entry.number h ∙ ap (λ d. (d && (not (e.entry.number == 2) && is_value (parent (graph_of v) e.entry.number) s)) && not (list_any (names e.entry.number) done)) q))
 
-named_same : (v : Volume) (s : ℕ) (done es : List Seen) (e : Seen) (m : Marks) → IsEntry v s done e es → e.role ≡ Plain → e.entry.number < v.count → e.entry.number ≢ 1 → AreRight v s done m →
-    named_lines v s (size_of done) e.entry ≡ named_told v s m e.entry
+named_same : (v : Volume) (s : ℕ) (done es : List RoledEntry) (e : RoledEntry) (m : Marks) → IsEntry v s done e es → e.role ≡ Plain → e.entry.number < v.count → e.entry.number ≢ 1 → AreRight v s done m →
+    named_lines v s (size_of done) e.entry ≡ named_reported v s m e.entry
 unfolding named_lines
 named_same v s done es e m i p h other r =
-    ap (λ b. told b (suspect_told v e.entry.number (entry_path (graph_of v) s e.entry.name))
+    ap (λ b. told b (suspect_reported v e.entry.number (entry_path (graph_of v) s e.entry.name))
     ++ (told (is_extraneous v s (size_of done) e.entry.number) (extraneous (entry_path (graph_of v) s e.entry.name) (dir_path (graph_of v) e.entry.number))
     ++ told (is_other_kind v e.entry) (kind_entry (attributes v e.entry.number) (label_of (v.class e.entry.number)) (entry_path (graph_of v) s e.entry.name))))
     (suspect_same v s done es e m i p h other r)
-    ∙ ap (λ b. told (is_suspect v e.entry.number && (not (e.entry.number == 2) && not (is_passed m e.entry.number))) (suspect_told v e.entry.number (entry_path (graph_of v) s e.entry.name))
+    ∙ ap (λ b. told (is_suspect v e.entry.number && (not (e.entry.number == 2) && not (is_passed m e.entry.number))) (suspect_reported v e.entry.number (entry_path (graph_of v) s e.entry.name))
     ++ (told b (extraneous (entry_path (graph_of v) s e.entry.name) (dir_path (graph_of v) e.entry.number))
     ++ told (is_other_kind v e.entry) (kind_entry (attributes v e.entry.number) (label_of (v.class e.entry.number)) (entry_path (graph_of v) s e.entry.name))))
     (extraneous_same v s done es e m i p h r)
 
-plain_same : (v : Volume) (s : ℕ) (done es : List Seen) (e : Seen) (m : Marks) → IsEntry v s done e es → e.role ≡ Plain → AreRight v s done m →
-    plain_lines v s (size_of done) e.entry ≡ plain_told v s m e.entry
+plain_same : (v : Volume) (s : ℕ) (done es : List RoledEntry) (e : RoledEntry) (m : Marks) → IsEntry v s done e es → e.role ≡ Plain → AreRight v s done m →
+    plain_lines v s (size_of done) e.entry ≡ plain_reported v s m e.entry
 unfolding plain_lines
 plain_same v s done es e m i p r = one (nat_lt e.entry.number v.count) refl
   where
@@ -146,7 +149,7 @@ plain_same v s done es e m i p r = one (nat_lt e.entry.number v.count) refl
         else (if is_bad_whiteout e.entry then whiteout e.entry.number (entry_path (graph_of v) s e.entry.name) ∷ []
         else (if e.entry.number == 1 then []
         else (if not (is_allocated (v.class e.entry.number)) then unallocated (attributes v e.entry.number) (entry_path (graph_of v) s e.entry.name) ∷ []
-        else named_told v s m e.entry))))
+        else named_reported v s m e.entry))))
     one false q = refl
     one true q = elim (cases_eq e.entry.number 1) [
       | inl z ↦
@@ -158,7 +161,7 @@ plain_same v s done es e m i p r = one (nat_lt e.entry.number v.count) refl
           ∙ sym (ap (λ b. if is_bad_whiteout e.entry then whiteout e.entry.number (entry_path (graph_of v) s e.entry.name) ∷ []
           else (if b then []
           else (if not (is_allocated (v.class e.entry.number)) then unallocated (attributes v e.entry.number) (entry_path (graph_of v) s e.entry.name) ∷ []
-          else named_told v s m e.entry))) first)
+          else named_reported v s m e.entry))) first)
       | inr n ↦
           ap (λ lines. if is_bad_whiteout e.entry then whiteout e.entry.number (entry_path (graph_of v) s e.entry.name) ∷ []
           else (if e.entry.number == 1 then []
@@ -167,12 +170,12 @@ plain_same v s done es e m i p r = one (nat_lt e.entry.number v.count) refl
           (named_same v s done es e m i p (ltb-true e.entry.number v.count q) n r)
     ]
 
-seen_same : (v : Volume) (s : ℕ) (done es : List Seen) (e : Seen) (m : Marks) → IsEntry v s done e es → AreRight v s done m →
-    seen_lines v s (size_of done) e ≡ seen_told v s m e
-unfolding seen_lines seen_told
+seen_same : (v : Volume) (s : ℕ) (done es : List RoledEntry) (e : RoledEntry) (m : Marks) → IsEntry v s done e es → AreRight v s done m →
+    roled_lines v s (size_of done) e ≡ roled_reported v s m e
+unfolding roled_lines roled_reported
 seen_same v s done es e m i r = one e.role refl
   where
-    one : (role : Role) → e.role ≡ role → lines_by_role v s (size_of done) role e.entry ≡ role_told v s m role e.entry
+    one : (role : Role) → e.role ≡ role → lines_by_role v s (size_of done) role e.entry ≡ role_reported v s m role e.entry
     one Empty q = refl
     one Dot q = refl
     one Dotdot q = refl
@@ -180,7 +183,7 @@ seen_same v s done es e m i r = one e.role refl
     one Plain q = plain_same v s done es e m i q r
 
 -- BEHIND ONE ENTRY MORE
-pub any_more : (p : Seen → Bool) (done : List Seen) (e : Seen) → list_any p (done ++ e ∷ []) ≡ (list_any p done || p e)
+pub any_more : (p : RoledEntry → Bool) (done : List RoledEntry) (e : RoledEntry) → list_any p (done ++ e ∷ []) ≡ (list_any p done || p e)
 any_more p done e = list_any-append p done (e ∷ []) ∙ ap (λ b. list_any p done || b) (or_nothing (p e))
   where
     or_nothing : (b : Bool) → (b || false) ≡ b
@@ -200,16 +203,16 @@ and_false true = refl
 and_false false = refl
 
 -- an entry that isn't x's
-not_named : (p : Seen → Bool) (done : List Seen) (e : Seen) → p e ≡ false → list_any p (done ++ e ∷ []) ≡ list_any p done
+not_named : (p : RoledEntry → Bool) (done : List RoledEntry) (e : RoledEntry) → p e ≡ false → list_any p (done ++ e ∷ []) ≡ list_any p done
 not_named p done e h = any_more p done e ∙ (ap (λ b. list_any p done || b) h ∙ or_false (list_any p done))
 
-is_named : (p : Seen → Bool) (done : List Seen) (e : Seen) → p e ≡ true → list_any p (done ++ e ∷ []) ≡ true
+is_named : (p : RoledEntry → Bool) (done : List RoledEntry) (e : RoledEntry) → p e ≡ true → list_any p (done ++ e ∷ []) ≡ true
 is_named p done e h = any_more p done e ∙ (ap (λ b. list_any p done || b) h ∙ or_true (list_any p done))
 
-pub other_number : (x : ℕ) (e : Seen) → x ≢ e.entry.number → names x e ≡ false
+pub other_number : (x : ℕ) (e : RoledEntry) → x ≢ e.entry.number → names x e ≡ false
 other_number x e n = ap (λ b. is_plain e.role && b) (ne_eqb e.entry.number x (λ z. n (sym z))) ∙ and_false (is_plain e.role)
 
-not_counted : (v : Volume) (e : Seen) (x : ℕ) → (is_plain e.role && nat_lt e.entry.number v.count) ≡ false → x < v.count → names x e ≡ false
+not_counted : (v : Volume) (e : RoledEntry) (x : ℕ) → (is_plain e.role && nat_lt e.entry.number v.count) ≡ false → x < v.count → names x e ≡ false
 not_counted v e x t h = elim (cases_eq x e.entry.number) [
   | inl z ↦
       let low : nat_lt e.entry.number v.count ≡ true = lt-ltb e.entry.number v.count (subst (λ k. k < v.count) z h) in
@@ -217,7 +220,7 @@ not_counted v e x t h = elim (cases_eq x e.entry.number) [
   | inr n ↦ other_number x e n
 ]
 
-skips : (v : Volume) (s : ℕ) (done : List Seen) (e : Seen) (m : Marks) → (is_plain e.role && nat_lt e.entry.number v.count) ≡ false → AreRight v s done m → AreRight v s (done ++ e ∷ []) m
+skips : (v : Volume) (s : ℕ) (done : List RoledEntry) (e : RoledEntry) (m : Marks) → (is_plain e.role && nat_lt e.entry.number v.count) ≡ false → AreRight v s done m → AreRight v s (done ++ e ∷ []) m
 skips v s done e m t r = record {
   passed = λ x h q o n. r.passed x h q o n ∙ ap (λ b. some_below (λ t. names_in (graph_of v) t x) s || b) (sym (not_named (names x) done e (not_counted v e x t h)));
   due = λ x h. r.due x h ∙ ap (λ b. belongs v s x && not b) (sym (not_named (names x) done e (not_counted v e x t h)));
@@ -225,7 +228,7 @@ skips v s done e m t r = record {
   stamps_length = r.stamps_length;
 }
 
-name_passed : (v : Volume) (s : ℕ) (done : List Seen) (e : Seen) (m : Marks) → e.role ≡ Plain → e.entry.number < v.count → AreRight v s done m →
+name_passed : (v : Volume) (s : ℕ) (done : List RoledEntry) (e : RoledEntry) (m : Marks) → e.role ≡ Plain → e.entry.number < v.count → AreRight v s done m →
     (x : ℕ) → x < v.count → is_suspect v x ≡ true → x ≢ 1 → x ≢ 2 →
     is_passed (after_name s m e.entry.number) x ≡ (some_below (λ t. names_in (graph_of v) t x) s || list_any (names x) (done ++ e ∷ []))
 name_passed v s done e m p low r x h q u n = elim (cases_eq x e.entry.number) [
@@ -255,7 +258,7 @@ stays s n x stamps o = one (slice_index stamps n == s)
     one true = get_or-set_other stamps n x 0 0 o
     one false = refl
 
-name_due : (v : Volume) (s : ℕ) (done : List Seen) (e : Seen) (m : Marks) → 2 ≤ s → e.role ≡ Plain → e.entry.number < v.count → AreRight v s done m →
+name_due : (v : Volume) (s : ℕ) (done : List RoledEntry) (e : RoledEntry) (m : Marks) → 2 ≤ s → e.role ≡ Plain → e.entry.number < v.count → AreRight v s done m →
     (x : ℕ) → x < v.count → is_due s (after_name s m e.entry.number) x ≡ (belongs v s x && not (list_any (names x) (done ++ e ∷ [])))
 name_due v s done e m two p low r x h = elim (cases_eq x e.entry.number) [
   | inl z ↦
@@ -283,7 +286,7 @@ plain_role Dotdot h = absurd (cc)
 plain_role Extra h = absurd (cc)
 plain_role Empty h = absurd (cc)
 
-pub right_after : (v : Volume) (s : ℕ) (done : List Seen) (e : Seen) (m : Marks) → 2 ≤ s → AreRight v s done m → AreRight v s (done ++ e ∷ []) (after_seen v s m e)
+pub right_after : (v : Volume) (s : ℕ) (done : List RoledEntry) (e : RoledEntry) (m : Marks) → 2 ≤ s → AreRight v s done m → AreRight v s (done ++ e ∷ []) (after_roled v s m e)
 right_after v s done e m two r = one (is_plain e.role && nat_lt e.entry.number v.count) refl
   where
     one : (b : Bool) → (is_plain e.role && nat_lt e.entry.number v.count) ≡ b → AreRight v s (done ++ e ∷ []) (if b then after_name s m e.entry.number else m)
@@ -305,12 +308,12 @@ pub record IsDirectory (v : Volume) (s : ℕ) : Type 0 where
   pub below : s < v.count
   pub from_two : 2 ≤ s
 
-pub right_told : (v : Volume) (s : ℕ) (done es : List Seen) (m : Marks) → IsDirectory v s → seen_in v s ≡ done ++ es → AreRight v s done m →
-    entry_lines v s (size_of done) es ≡ entries_told v s m es
+pub right_reported : (v : Volume) (s : ℕ) (done es : List RoledEntry) (m : Marks) → IsDirectory v s → roled_entries v s ≡ done ++ es → AreRight v s done m →
+    entry_lines v s (size_of done) es ≡ entries_reported v s m es
 unfolding entry_lines
-right_told v s done [] m d whole r = refl
-right_told v s done (e ∷ es) m d whole r =
+right_reported v s done [] m d whole r = refl
+right_reported v s done (e ∷ es) m d whole r =
     let here = seen_same v s done es e m (record { dir = d.dir; below = d.below; from_two = d.from_two; whole = whole }) r in
-    let rest = right_told v s (done ++ e ∷ []) es (after_seen v s m e) d (whole ∙ sym (append_assoc done (e ∷ []) es)) (right_after v s done e m d.from_two r) in
+    let rest = right_reported v s (done ++ e ∷ []) es (after_roled v s m e) d (whole ∙ sym (append_assoc done (e ∷ []) es)) (right_after v s done e m d.from_two r) in
     ap (λ ls. ls ++ entry_lines v s (suc (size_of done)) es) here
-    ∙ ap (λ ls. seen_told v s m e ++ ls) (ap (λ j. entry_lines v s j es) (sym (size_more done e)) ∙ rest)
+    ∙ ap (λ ls. roled_reported v s m e ++ ls) (ap (λ j. entry_lines v s j es) (sym (size_more done e)) ∙ rest)

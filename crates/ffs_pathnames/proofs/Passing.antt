@@ -1,73 +1,73 @@
--- Entries are told and passed, one after another and chunk by chunk.
+-- Entries are reported and passed, one after another and chunk by chunk.
 use Rattle.std.proofs.Common.{◌≡◌, refl, sym, ap, ◌∙◌, ℕ, ◌+◌, ◌≤◌, ◌<◌, ◌^◌, arith, Bool, true, false, ◌==◌, if◌then◌else◌, List, [], ◌∷◌, ◌++◌, append_assoc, map, length, slice_index, Some, None, Option, drop, subst}
 use Rattle.std.specs.List.{flat_map}
 use Rattle.std.proofs.lemmas.List.{map-append, length-take}
 use Rattle.ffs_volume.specs.declared.Order.{Order}
-use Rattle.ffs_volume.specs.Numbers.{u32_at, piece}
+use Rattle.ffs_volume.specs.Disk.Numbers.{u32_at, piece}
 use Rattle.ffs_volume.specs.declared.Layout.{Layout}
 use Rattle.ffs_volume.specs.declared.Inode.{Inode}
-use Rattle.ffs_volume.specs.Areas.{is_in_range}
-use Rattle.ffs_volume.specs.Geometry.{IsGeometry}
-use Rattle.ffs_volume.specs.Inodes.{inode_of}
-use Rattle.ffs_volume.specs.Steps.{steps_of}
-use Rattle.ffs_volume.specs.Directory.{Chunk, Entry, entry_at, entry_there, is_well_formed, name_at, chunks_of, size_taken}
-use Rattle.ffs_volume.specs.Replay.{cut_at, fresh_replay, replayed_steps}
-use Rattle.ffs_volume.specs.Volumes.{volume_of}
+use Rattle.ffs_volume.specs.Disk.Areas.{is_in_range}
+use Rattle.ffs_volume.specs.Disk.Geometry.{IsGeometry}
+use Rattle.ffs_volume.specs.Blocks.Inodes.{inode_of}
+use Rattle.ffs_volume.specs.Blocks.Steps.{steps_of}
+use Rattle.ffs_volume.specs.Directories.Entries.{Chunk, Entry, entry_at, entry_there, is_well_formed, name_at, chunks_of, size_taken}
+use Rattle.ffs_volume.specs.Encodings.Replay.{cut_at, fresh_replay, replayed_steps}
+use Rattle.ffs_volume.specs.Directories.Volumes.{volume_of}
 use Rattle.ffs_volume.proofs.Reading.{entries_end}
-use Rattle.ffs_names.specs.Hands.{reading_by}
+use Rattle.ffs_names.specs.RunCursors.{reading_by}
 use Rattle.ffs_names.proofs.DirLaws.{dir_is, dir_size, dir_seen}
-use Rattle.ffs_volume.specs.Messages.{NameMessage, of_names}
-use Rattle.ffs_volume.specs.Roles.{Volume, Seen, chunk_seen, seen_from, seen_in, is_dir}
+use Rattle.ffs_volume.specs.Messages.Kinds.{NameMessage, of_names}
+use Rattle.ffs_volume.specs.Directories.Roles.{Volume, RoledEntry, roled_chunk, roled_from, roled_entries, is_dir}
 use Rattle.ffs_workspace.specs.Leaves.{LeavesSurvey}
 use Rattle.ffs_pathnames.specs.Examines.{LeavesMarks}
 use Rattle.ffs_pathnames.specs.Gathers.{marks_of}
-use Rattle.ffs_pathnames.specs.Knows.{Knows}
-use Rattle.ffs_pathnames.specs.Marks.{Marks, after_seen, after_entries, seen_told, entries_told}
+use Rattle.ffs_pathnames.specs.DirectoryContext.{DirectoryContext}
+use Rattle.ffs_pathnames.specs.Marks.{Marks, after_roled, after_entries, roled_reported, entries_reported}
 use Rattle.ffs_workspace.proofs.Leaving.{claims_left, survey_left}
-use Rattle.ffs_pathnames.proofs.Looking.{seen_at_place}
+use Rattle.ffs_pathnames.proofs.Looking.{roled_at_place}
 use Rattle.ffs_workspace.specs.declared.workspace.Workspace.{Workspace}
 
--- the marks behind some entries and others
-pub after_more : (v : Volume) (s : ℕ) (m : Marks) (xs ys : List Seen) → after_entries v s m (xs ++ ys) ≡ after_entries v s (after_entries v s m xs) ys
+-- the marks after some entries and others
+pub after_more : (v : Volume) (s : ℕ) (m : Marks) (xs ys : List RoledEntry) → after_entries v s m (xs ++ ys) ≡ after_entries v s (after_entries v s m xs) ys
 after_more v s m [] ys = refl
-after_more v s m (x ∷ xs) ys = after_more v s (after_seen v s m x) xs ys
+after_more v s m (x ∷ xs) ys = after_more v s (after_roled v s m x) xs ys
 
--- what is told of some entries and others
-pub told_more : (v : Volume) (s : ℕ) (m : Marks) (xs ys : List Seen) →
-    entries_told v s m (xs ++ ys) ≡ entries_told v s m xs ++ entries_told v s (after_entries v s m xs) ys
-told_more v s m [] ys = refl
-told_more v s m (x ∷ xs) ys =
-    ap (λ (ms : List NameMessage). seen_told v s m x ++ ms) (told_more v s (after_seen v s m x) xs ys)
-    ∙ sym (append_assoc (seen_told v s m x) (entries_told v s (after_seen v s m x) xs) (entries_told v s (after_entries v s (after_seen v s m x) xs) ys))
+-- what is reported of some entries and others
+pub reported_more : (v : Volume) (s : ℕ) (m : Marks) (xs ys : List RoledEntry) →
+    entries_reported v s m (xs ++ ys) ≡ entries_reported v s m xs ++ entries_reported v s (after_entries v s m xs) ys
+reported_more v s m [] ys = refl
+reported_more v s m (x ∷ xs) ys =
+    ap (λ (ms : List NameMessage). roled_reported v s m x ++ ms) (reported_more v s (after_roled v s m x) xs ys)
+    ∙ sym (append_assoc (roled_reported v s m x) (entries_reported v s (after_roled v s m x) xs) (entries_reported v s (after_entries v s (after_roled v s m x) xs) ys))
 
--- an entry is told, and the others are to come
-pub entry_told : (v : Volume) (s : ℕ) (m m' : Marks) (e : Seen) (es es' : List Seen) → es ≡ e ∷ es' → after_seen v s m e ≡ m' →
-    map of_names (entries_told v s m es) ≡ map of_names (seen_told v s m e) ++ map of_names (entries_told v s m' es')
-entry_told v s m m' e es es' is after =
-    ap (λ l. map of_names (entries_told v s m l)) is
-    ∙ (map-append of_names (seen_told v s m e) (entries_told v s (after_seen v s m e) es')
-    ∙ ap (λ k. map of_names (seen_told v s m e) ++ map of_names (entries_told v s k es')) after)
+-- an entry is reported, and the others are to come
+pub entry_reported : (v : Volume) (s : ℕ) (m m' : Marks) (e : RoledEntry) (es es' : List RoledEntry) → es ≡ e ∷ es' → after_roled v s m e ≡ m' →
+    map of_names (entries_reported v s m es) ≡ map of_names (roled_reported v s m e) ++ map of_names (entries_reported v s m' es')
+entry_reported v s m m' e es es' is after =
+    ap (λ l. map of_names (entries_reported v s m l)) is
+    ∙ (map-append of_names (roled_reported v s m e) (entries_reported v s (after_roled v s m e) es')
+    ∙ ap (λ k. map of_names (roled_reported v s m e) ++ map of_names (entries_reported v s k es')) after)
 
 -- an entry is passed
-pub entry_passed : (v : Volume) (s : ℕ) (all m m' : Marks) (e : Seen) (es es' : List Seen) → es ≡ e ∷ es' → after_seen v s m e ≡ m' →
+pub entry_passed : (v : Volume) (s : ℕ) (all m m' : Marks) (e : RoledEntry) (es es' : List RoledEntry) → es ≡ e ∷ es' → after_roled v s m e ≡ m' →
     all ≡ after_entries v s m es → all ≡ after_entries v s m' es'
 entry_passed v s all m m' e es es' is after q = q ∙ (ap (after_entries v s m) is ∙ ap (λ k. after_entries v s k es') after)
 
--- a chunk is told, and the others are to come
-pub chunk_told : (v : Volume) (s : ℕ) (m m' : Marks) (c : Chunk) (cs cs' : List Chunk) → cs ≡ c ∷ cs' → after_entries v s m (chunk_seen c) ≡ m' →
-    map of_names (entries_told v s m (flat_map chunk_seen cs)) ≡ map of_names (entries_told v s m (chunk_seen c)) ++ map of_names (entries_told v s m' (flat_map chunk_seen cs'))
-chunk_told v s m m' c cs cs' is after =
-    ap (λ l. map of_names (entries_told v s m (flat_map chunk_seen l))) is
-    ∙ (ap (map of_names) (told_more v s m (chunk_seen c) (flat_map chunk_seen cs'))
-    ∙ (map-append of_names (entries_told v s m (chunk_seen c)) (entries_told v s (after_entries v s m (chunk_seen c)) (flat_map chunk_seen cs'))
-    ∙ ap (λ k. map of_names (entries_told v s m (chunk_seen c)) ++ map of_names (entries_told v s k (flat_map chunk_seen cs'))) after))
+-- a chunk is reported, and the others are to come
+pub chunk_reported : (v : Volume) (s : ℕ) (m m' : Marks) (c : Chunk) (cs cs' : List Chunk) → cs ≡ c ∷ cs' → after_entries v s m (roled_chunk c) ≡ m' →
+    map of_names (entries_reported v s m (flat_map roled_chunk cs)) ≡ map of_names (entries_reported v s m (roled_chunk c)) ++ map of_names (entries_reported v s m' (flat_map roled_chunk cs'))
+chunk_reported v s m m' c cs cs' is after =
+    ap (λ l. map of_names (entries_reported v s m (flat_map roled_chunk l))) is
+    ∙ (ap (map of_names) (reported_more v s m (roled_chunk c) (flat_map roled_chunk cs'))
+    ∙ (map-append of_names (entries_reported v s m (roled_chunk c)) (entries_reported v s (after_entries v s m (roled_chunk c)) (flat_map roled_chunk cs'))
+    ∙ ap (λ k. map of_names (entries_reported v s m (roled_chunk c)) ++ map of_names (entries_reported v s k (flat_map roled_chunk cs'))) after))
 
 -- a chunk is passed
-pub chunk_passed : (v : Volume) (s : ℕ) (all m m' : Marks) (c : Chunk) (cs cs' : List Chunk) → cs ≡ c ∷ cs' → after_entries v s m (chunk_seen c) ≡ m' →
-    all ≡ after_entries v s m (flat_map chunk_seen cs) → all ≡ after_entries v s m' (flat_map chunk_seen cs')
+pub chunk_passed : (v : Volume) (s : ℕ) (all m m' : Marks) (c : Chunk) (cs cs' : List Chunk) → cs ≡ c ∷ cs' → after_entries v s m (roled_chunk c) ≡ m' →
+    all ≡ after_entries v s m (flat_map roled_chunk cs) → all ≡ after_entries v s m' (flat_map roled_chunk cs')
 chunk_passed v s all m m' c cs cs' is after q =
-    q ∙ (ap (λ l. after_entries v s m (flat_map chunk_seen l)) is
-    ∙ (after_more v s m (chunk_seen c) (flat_map chunk_seen cs') ∙ ap (λ k. after_entries v s k (flat_map chunk_seen cs')) after))
+    q ∙ (ap (λ l. after_entries v s m (flat_map roled_chunk l)) is
+    ∙ (after_more v s m (roled_chunk c) (flat_map roled_chunk cs') ∙ ap (λ k. after_entries v s k (flat_map roled_chunk cs')) after))
 
 if_some : {X : Type 0} (b : Bool) (x y : X) → (if b then Some x else None) ≡ Some y → x ≡ y
 if_some true x y h = cc
@@ -88,14 +88,14 @@ name_short order chunk place e h there =
     (name_if (u32_at order place chunk == 0) (name_at chunk place) (piece_short (place + 8) (slice_index chunk (place + 7)) chunk h))
 
 -- no entry is left
-pub none_left : (order : Order) (chunk : List ℕ) (first : Bool) (index place : ℕ) → entry_at order chunk place ≡ None → seen_at_place order chunk first index place ≡ []
-unfolding seen_from
-none_left order chunk first index place h = ap (seen_from first index) (entries_end order chunk place h)
+pub none_left : (order : Order) (chunk : List ℕ) (first : Bool) (index place : ℕ) → entry_at order chunk place ≡ None → roled_at_place order chunk first index place ≡ []
+unfolding roled_from
+none_left order chunk first index place h = ap (roled_from first index) (entries_end order chunk place h)
 
 -- what is known of a workspace's lists stays where they stay
-pub knows_on : (v : Layout) (told told' : Option (List ℕ)) (old new : Workspace) (d : ℕ) (b : List ℕ) → told' ≡ told → LeavesSurvey old new → Knows v told old d b → Knows v told' new d b
-knows_on v told told' old new d b e s k = record {
-  told_is = e ∙ k.told_is;
+pub knows_on : (v : Layout) (contents contents' : Option (List ℕ)) (old new : Workspace) (d : ℕ) (b : List ℕ) → contents' ≡ contents → LeavesSurvey old new → DirectoryContext v contents old d b → DirectoryContext v contents' new d b
+knows_on v contents contents' old new d b e s k = record {
+  reported_is = e ∙ k.reported_is;
   claims = claims_left v b old new s k.claims;
   survey = survey_left v b old new s k.survey;
   dir = k.dir;
@@ -103,11 +103,11 @@ knows_on v told told' old new d b e s k = record {
 
 -- the entries of all chunks that a reading of a directory gives
 pub all_read : (v : Layout) (b : List ℕ) (d : ℕ) (i : Inode) (cut : ℕ) (cs : List Chunk) → IsGeometry v → is_dir (volume_of v b) d ≡ true → i ≡ inode_of v b d → cut ≡ cut_at v b d →
-    (i.size < 2 ^ 31 → cs ≡ chunks_of (reading_by v b (size_taken i.size)) (is_in_range v) (replayed_steps v cut fresh_replay (steps_of v i b))) → flat_map chunk_seen cs ≡ seen_in (volume_of v b) d
+    (i.size < 2 ^ 31 → cs ≡ chunks_of (reading_by v b (size_taken i.size)) (is_in_range v) (replayed_steps v cut fresh_replay (steps_of v i b))) → flat_map roled_chunk cs ≡ roled_entries (volume_of v b) d
 all_read v b d i cut cs g dir e k read =
     let p = dir_is v b d dir in
     let small : i.size < 2 ^ 31 = subst (λ (x : Inode). x.size < 2 ^ 31) (sym e) (dir_size v (inode_of v b d) p.1) in
-    ap (flat_map chunk_seen) (read small) ∙ dir_seen v b d i cut g p.0 e k
+    ap (flat_map roled_chunk) (read small) ∙ dir_seen v b d i cut g p.0 e k
 
 -- the marks stay where their lists do
 pub marks_on : (old new : Workspace) → LeavesMarks old new → marks_of old ≡ marks_of new

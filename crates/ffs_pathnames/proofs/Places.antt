@@ -3,16 +3,16 @@ use Rattle.std.specs.Prelude.{◌≡◌, ℕ, zero, suc, ◌==◌, Bool, true, f
 use Rattle.std.specs.List.{list_any}
 use Rattle.std.proofs.Common.{arith, sym, ◌∙◌, ap, inl, inr}
 use Rattle.std.proofs.lemmas.Bool.{cases_eq, ne_eqb, eq-eqb}
-use Rattle.ffs_volume.specs.Roles.{Seen}
-use Rattle.ffs_volume.specs.Climb.{is_value}
-use Rattle.ffs_volume.specs.Graph.{first_place}
+use Rattle.ffs_volume.specs.Directories.Roles.{RoledEntry}
+use Rattle.ffs_volume.specs.Directories.Climb.{is_value}
+use Rattle.ffs_volume.specs.Directories.Graph.{first_place}
 
 -- how many entries there are
-unfoldable pub size_of : List Seen → ℕ
+unfoldable pub size_of : List RoledEntry → ℕ
 size_of [] = zero
 size_of (e ∷ es) = suc (size_of es)
 
-pub size_more : (done : List Seen) (e : Seen) → size_of (done ++ e ∷ []) ≡ suc (size_of done)
+pub size_more : (done : List RoledEntry) (e : RoledEntry) → size_of (done ++ e ∷ []) ≡ suc (size_of done)
 unfolding size_of
 size_more [] e = refl
 size_more (d ∷ ds) e = ap suc (size_more ds e)
@@ -27,8 +27,8 @@ value_suc : (o : Option ℕ) (k : ℕ) → is_value (option_map suc o) (suc k) �
 value_suc None k = refl
 value_suc (Some j) k = same_suc j k
 
--- an entry that passes stands at its first place exactly where none before it passes
-pub first_here : (p : Seen → Bool) (done : List Seen) (e : Seen) (es : List Seen) → p e ≡ true →
+-- an entry that passes is at its first place exactly where none before it passes
+pub first_here : (p : RoledEntry → Bool) (done : List RoledEntry) (e : RoledEntry) (es : List RoledEntry) → p e ≡ true →
     is_value (first_place p (done ++ e ∷ es)) (size_of done) ≡ not (list_any p done)
 unfolding size_of
 first_here p [] e es h = ap (λ b. is_value (cond b (Some 0) (option_map suc (first_place p es))) zero) h ∙ eq-eqb 0 zero refl

@@ -1,7 +1,7 @@
--- What is told of the root, by its kind.
+-- What is reported of the root, by its kind.
 use Rattle.std.proofs.Common.{◌≡◌, sym, ap, ◌∙◌, ℕ, Bool, true, false, not, ◌||◌, ◌==◌, if◌then◌else◌, List, [], ◌∷◌}
-use Rattle.ffs_volume.specs.Messages.{NameMessage, told, root_none, root_not_dir, root_suspect}
-use Rattle.ffs_volume.specs.Kinds.{is_dir_kind, is_empty_dir_kind}
+use Rattle.ffs_volume.specs.Messages.Kinds.{NameMessage, told, root_none, root_not_dir, root_suspect}
+use Rattle.ffs_volume.specs.Encodings.Kinds.{is_dir_kind, is_empty_dir_kind}
 use Rattle.ffs_pathnames.specs.Before.{root_said}
 
 tell : Bool → Bool → Bool → List NameMessage

@@ -1,7 +1,7 @@
 -- Messages on directories, said one after another.
 use Rattle.std.proofs.Common.{sym, subst, List, ◌++◌, map, Result, Ok, Err, IsErr}
 use Rattle.std.proofs.lemmas.List.{map-append}
-use Rattle.ffs_volume.specs.Messages.{NameMessage, of_names}
+use Rattle.ffs_volume.specs.Messages.Kinds.{NameMessage, of_names}
 use Rattle.ffs_report.specs.Progress.{Progress, Said, Stopped, Says}
 use Rattle.ffs_report.proofs.Reports.{stopped_more, says_then}
 use Rattle.ffs_pathnames.specs.SaysNames.{SaysNames}

@@ -1,26 +1,26 @@
--- What is told of a directory, in the parts in which it is said.
+-- What is reported of a directory, in the parts in which it is said.
 use Rattle.std.proofs.Common.{◌≡◌, refl, sym, ap, ◌∙◌, ℕ, ◌++◌, append_assoc, Option, None, Some}
-use Rattle.ffs_volume.specs.Directory.{Entry}
-use Rattle.ffs_volume.specs.Roles.{Volume, start_entry, dot, dotdot, seen_in}
-use Rattle.ffs_volume.specs.Graph.{parent}
-use Rattle.ffs_volume.specs.Parents.{graph_of}
-use Rattle.ffs_volume.specs.Paths.{dir_path}
-use Rattle.ffs_volume.specs.Messages.{told, dir_short, dir_length}
-use Rattle.ffs_volume.specs.PathnameCheck.{attributes, is_short, is_broken, are_sound, shape_lines, dot_lines, dotdot_lines, dot_told, dotdot_told, entry_lines, dir_lines}
-use Rattle.ffs_pathnames.specs.Starts.{chunks_told, shape_told, dot_in, dotdot_in, dot_said, dotdot_said, dots_told, starts_told}
+use Rattle.ffs_volume.specs.Directories.Entries.{Entry}
+use Rattle.ffs_volume.specs.Directories.Roles.{Volume, start_entry, dot, dotdot, roled_entries}
+use Rattle.ffs_volume.specs.Directories.Graph.{parent}
+use Rattle.ffs_volume.specs.Directories.Parents.{graph_of}
+use Rattle.ffs_volume.specs.Directories.Paths.{dir_path}
+use Rattle.ffs_volume.specs.Messages.Kinds.{told, dir_short, dir_length}
+use Rattle.ffs_volume.specs.Directories.PathnameCheck.{attributes, is_short, is_broken, are_sound, shape_lines, dot_lines, dotdot_lines, dot_reported, dotdot_reported, entry_lines, dir_lines}
+use Rattle.ffs_pathnames.specs.Starts.{chunks_reported, shape_reported, dot_in, dotdot_in, dot_said, dotdot_said, dots_reported, starts_reported}
 
-shape_is : (v : Volume) (d : ℕ) → shape_lines v d ≡ shape_told (attributes v d) (dir_path (graph_of v) d) (v.gap d) (are_sound (v.chunks d))
+shape_is : (v : Volume) (d : ℕ) → shape_lines v d ≡ shape_reported (attributes v d) (dir_path (graph_of v) d) (v.gap d) (are_sound (v.chunks d))
 unfolding shape_lines attributes
 shape_is v d = sym (append_assoc
     (told (is_short v d) (dir_short (attributes v d) (dir_path (graph_of v) d)))
     (told (is_broken v d) (dir_length (dir_path (graph_of v) d) (v.inode d).size))
-    (chunks_told (attributes v d) (dir_path (graph_of v) d) (v.gap d) (are_sound (v.chunks d))))
+    (chunks_reported (attributes v d) (dir_path (graph_of v) d) (v.gap d) (are_sound (v.chunks d))))
 
 dot_is : (v : Volume) (d : ℕ) → dot_lines v d ≡ dot_said (attributes v d) (dir_path (graph_of v) d) d (start_entry v d 0) (dot_in (start_entry v d 0))
 unfolding dot_lines dot
 dot_is v d = one (dot_in (start_entry v d 0))
   where
-    one : (o : Option Entry) → dot_told v d o ≡ dot_said (attributes v d) (dir_path (graph_of v) d) d (start_entry v d 0) o
+    one : (o : Option Entry) → dot_reported v d o ≡ dot_said (attributes v d) (dir_path (graph_of v) d) d (start_entry v d 0) o
     one None = refl
     one (Some e) = refl
 
@@ -28,22 +28,22 @@ dotdot_is : (v : Volume) (d : ℕ) → dotdot_lines v d ≡ dotdot_said (attribu
 unfolding dotdot_lines dotdot
 dotdot_is v d = one (dotdot_in (start_entry v d 1))
   where
-    one : (o : Option Entry) → dotdot_told v d o ≡ dotdot_said (attributes v d) (dir_path (graph_of v) d) (parent (graph_of v) d) (start_entry v d 1) o
+    one : (o : Option Entry) → dotdot_reported v d o ≡ dotdot_said (attributes v d) (dir_path (graph_of v) d) (parent (graph_of v) d) (start_entry v d 1) o
     one None = refl
     one (Some e) = refl
 
--- first what is told before the entries, then what is told of them
+-- first what is reported before the entries, then what is reported of them
 pub dir_parts : (v : Volume) (d : ℕ) →
-    dir_lines v d ≡ starts_told (attributes v d) (dir_path (graph_of v) d) d (parent (graph_of v) d) (v.gap d) (are_sound (v.chunks d)) (start_entry v d 0) (start_entry v d 1)
-    ++ entry_lines v d 0 (seen_in v d)
-unfolding dir_lines starts_told
+    dir_lines v d ≡ starts_reported (attributes v d) (dir_path (graph_of v) d) d (parent (graph_of v) d) (v.gap d) (are_sound (v.chunks d)) (start_entry v d 0) (start_entry v d 1)
+    ++ entry_lines v d 0 (roled_entries v d)
+unfolding dir_lines starts_reported
 dir_parts v d =
-    ap (λ l. l ++ (dot_lines v d ++ (dotdot_lines v d ++ entry_lines v d 0 (seen_in v d)))) (shape_is v d)
-    ∙ (ap (λ l. shape_told (attributes v d) (dir_path (graph_of v) d) (v.gap d) (are_sound (v.chunks d)) ++ (l ++ (dotdot_lines v d ++ entry_lines v d 0 (seen_in v d)))) (dot_is v d)
-    ∙ (ap (λ l. shape_told (attributes v d) (dir_path (graph_of v) d) (v.gap d) (are_sound (v.chunks d))
-    ++ (dot_said (attributes v d) (dir_path (graph_of v) d) d (start_entry v d 0) (dot_in (start_entry v d 0)) ++ (l ++ entry_lines v d 0 (seen_in v d)))) (dotdot_is v d)
-    ∙ (ap (λ l. shape_told (attributes v d) (dir_path (graph_of v) d) (v.gap d) (are_sound (v.chunks d)) ++ l)
+    ap (λ l. l ++ (dot_lines v d ++ (dotdot_lines v d ++ entry_lines v d 0 (roled_entries v d)))) (shape_is v d)
+    ∙ (ap (λ l. shape_reported (attributes v d) (dir_path (graph_of v) d) (v.gap d) (are_sound (v.chunks d)) ++ (l ++ (dotdot_lines v d ++ entry_lines v d 0 (roled_entries v d)))) (dot_is v d)
+    ∙ (ap (λ l. shape_reported (attributes v d) (dir_path (graph_of v) d) (v.gap d) (are_sound (v.chunks d))
+    ++ (dot_said (attributes v d) (dir_path (graph_of v) d) d (start_entry v d 0) (dot_in (start_entry v d 0)) ++ (l ++ entry_lines v d 0 (roled_entries v d)))) (dotdot_is v d)
+    ∙ (ap (λ l. shape_reported (attributes v d) (dir_path (graph_of v) d) (v.gap d) (are_sound (v.chunks d)) ++ l)
     (sym (append_assoc (dot_said (attributes v d) (dir_path (graph_of v) d) d (start_entry v d 0) (dot_in (start_entry v d 0)))
-    (dotdot_said (attributes v d) (dir_path (graph_of v) d) (parent (graph_of v) d) (start_entry v d 1) (dotdot_in (start_entry v d 1))) (entry_lines v d 0 (seen_in v d))))
-    ∙ sym (append_assoc (shape_told (attributes v d) (dir_path (graph_of v) d) (v.gap d) (are_sound (v.chunks d)))
-    (dots_told (attributes v d) (dir_path (graph_of v) d) d (parent (graph_of v) d) (start_entry v d 0) (start_entry v d 1)) (entry_lines v d 0 (seen_in v d))))))
+    (dotdot_said (attributes v d) (dir_path (graph_of v) d) (parent (graph_of v) d) (start_entry v d 1) (dotdot_in (start_entry v d 1))) (entry_lines v d 0 (roled_entries v d))))
+    ∙ sym (append_assoc (shape_reported (attributes v d) (dir_path (graph_of v) d) (v.gap d) (are_sound (v.chunks d)))
+    (dots_reported (attributes v d) (dir_path (graph_of v) d) d (parent (graph_of v) d) (start_entry v d 0) (start_entry v d 1)) (entry_lines v d 0 (roled_entries v d))))))

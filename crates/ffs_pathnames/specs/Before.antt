@@ -1,11 +1,11 @@
 -- What is known between two directories of the pathname check.
 use Rattle.std.specs.Prelude.{◌≡◌, ℕ, Bool, false, not, ◌||◌, ◌==◌, if◌then◌else◌, List, [], ◌∷◌, Option, Some, slice_index}
 use Rattle.ffs_volume.specs.declared.Layout.{Layout}
-use Rattle.ffs_volume.specs.Messages.{NameMessage, told, root_none, root_not_dir, root_suspect}
-use Rattle.ffs_volume.specs.Volumes.{volume_of}
+use Rattle.ffs_volume.specs.Messages.Kinds.{NameMessage, told, root_none, root_not_dir, root_suspect}
+use Rattle.ffs_volume.specs.Directories.Volumes.{volume_of}
 use Rattle.ffs_workspace.specs.declared.workspace.Workspace.{Workspace}
 use Rattle.ffs_workspace.specs.Holds.{bool_at, HoldsClaims, HoldsSurvey}
-use Rattle.ffs_volume.specs.Kinds.{is_dir_kind, is_empty_dir_kind}
+use Rattle.ffs_volume.specs.Encodings.Kinds.{is_dir_kind, is_empty_dir_kind}
 use Rattle.ffs_pathnames.specs.Gathers.{marks_of}
 use Rattle.ffs_pathnames.specs.MarksRight.{AreRightBefore}
 
@@ -14,14 +14,14 @@ pub record AreClear (w : Workspace) : Type 0 where
   pub passed : (x : ℕ) → bool_at w.leaders.items x ≡ false
   pub stamps : (x : ℕ) → slice_index w.queue.items x ≡ 0
 
--- the image tells the bytes, the workspace holds what the block check and the survey leave, and its marks are right before d
-pub record IsBefore (v : Layout) (told : Option (List ℕ)) (w : Workspace) (d : ℕ) (b : List ℕ) : Type 0 where
-  pub told_is : told ≡ Some b
+-- the image gives the bytes, the workspace holds what the block check and the survey leave, and its marks are right before d
+pub record IsBefore (v : Layout) (contents : Option (List ℕ)) (w : Workspace) (d : ℕ) (b : List ℕ) : Type 0 where
+  pub reported_is : contents ≡ Some b
   pub claims : HoldsClaims v b w
   pub survey : HoldsSurvey v b w
   pub marks : AreRightBefore (volume_of v b) d (marks_of w)
 
--- what is told of the root, by its kind and by whether it is marked
+-- what is reported of the root, by its kind and by whether it is marked
 unfoldable pub root_said : ℕ → Bool → List NameMessage
 root_said kind marked =
     if kind == 0 then root_none ∷ []

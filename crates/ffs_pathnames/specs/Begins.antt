@@ -1,28 +1,28 @@
--- What is told of a directory before its entries, and what is known then.
+-- What is reported of a directory before its entries, and what is known then.
 use Rattle.std.specs.Prelude.{◌≡◌, ℕ, ◌==◌, Bool, List, [], Option, None, Some, option_and_then, if◌then◌else◌}
 use Rattle.ffs_volume.specs.declared.Layout.{Layout}
 use Rattle.ffs_volume.specs.declared.Order.{Order}
-use Rattle.ffs_volume.specs.Directory.{Entry}
-use Rattle.ffs_volume.specs.Graph.{parent}
-use Rattle.ffs_volume.specs.Inodes.{inode_of}
-use Rattle.ffs_volume.specs.Messages.{NameMessage}
-use Rattle.ffs_volume.specs.Parents.{graph_of}
-use Rattle.ffs_volume.specs.PathnameCheck.{attributes, are_sound}
-use Rattle.ffs_volume.specs.Paths.{dir_path}
-use Rattle.ffs_volume.specs.Roles.{Volume, entry_number, seen_in, start_entry}
-use Rattle.ffs_volume.specs.Volumes.{volume_of}
+use Rattle.ffs_volume.specs.Directories.Entries.{Entry}
+use Rattle.ffs_volume.specs.Directories.Graph.{parent}
+use Rattle.ffs_volume.specs.Blocks.Inodes.{inode_of}
+use Rattle.ffs_volume.specs.Messages.Kinds.{NameMessage}
+use Rattle.ffs_volume.specs.Directories.Parents.{graph_of}
+use Rattle.ffs_volume.specs.Directories.PathnameCheck.{attributes, are_sound}
+use Rattle.ffs_volume.specs.Directories.Paths.{dir_path}
+use Rattle.ffs_volume.specs.Directories.Roles.{Volume, entry_number, roled_entries, start_entry}
+use Rattle.ffs_volume.specs.Directories.Volumes.{volume_of}
 use Rattle.ffs_workspace.specs.declared.workspace.Workspace.{Workspace}
-use Rattle.ffs_pathnames.specs.declared.examine.Examined.{Examined}
+use Rattle.ffs_pathnames.specs.declared.examine.DirectorySummary.{DirectorySummary}
 use Rattle.ffs_pathnames.specs.Gathers.{marks_of}
 use Rattle.ffs_pathnames.specs.Marks.{are_quiet, after_looks}
 use Rattle.ffs_pathnames.specs.Reads.{start_of}
-use Rattle.ffs_pathnames.specs.Starts.{starts_told}
+use Rattle.ffs_pathnames.specs.Starts.{starts_reported}
 
 -- of its size, its Gaps, its chunks and its first two entries
 unfoldable pub dir_starts : Volume → ℕ → List NameMessage
-dir_starts v d = starts_told (attributes v d) (dir_path (graph_of v) d) d (parent (graph_of v) d) (v.gap d) (are_sound (v.chunks d)) (start_entry v d 0) (start_entry v d 1)
+dir_starts v d = starts_reported (attributes v d) (dir_path (graph_of v) d) d (parent (graph_of v) d) (v.gap d) (are_sound (v.chunks d)) (start_entry v d 0) (start_entry v d 1)
 
--- 0 stands for no number
+-- 0 means no number
 abbrev pub number_if : ℕ → Option ℕ
 number_if n = if n == 0 then None else Some n
 
@@ -31,7 +31,7 @@ abbrev pub started_entry : ℕ → Bool → Order → List ℕ → Option Entry
 started_entry i started order start = option_and_then (λ c. entry_number i c.entries) (start_of [] started order start)
 
 -- its inode is read, its entries were looked at, and each inode that belongs to it is stamped
-pub record IsBegun (v : Layout) (b : List ℕ) (d : ℕ) (old : Workspace) (e : Examined) (new : Workspace) : Type 0 where
+pub record IsBegun (v : Layout) (b : List ℕ) (d : ℕ) (old : Workspace) (e : DirectorySummary) (new : Workspace) : Type 0 where
   pub inode : e.inode ≡ inode_of v b d
-  pub quiet : e.found.quiet ≡ are_quiet (volume_of v b) d old.queue.items (seen_in (volume_of v b) d)
-  pub marks : marks_of new ≡ record { passed = old.leaders.items; stamps = after_looks (volume_of v b) d old.queue.items (seen_in (volume_of v b) d) }
+  pub quiet : e.found.quiet ≡ are_quiet (volume_of v b) d old.queue.items (roled_entries (volume_of v b) d)
+  pub marks : marks_of new ≡ record { passed = old.leaders.items; stamps = after_looks (volume_of v b) d old.queue.items (roled_entries (volume_of v b) d) }

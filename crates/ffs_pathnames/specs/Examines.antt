@@ -2,11 +2,11 @@
 use Rattle.std.specs.Prelude.{◌≡◌, ℕ, ◌==◌, List, []}
 use Rattle.std.specs.List.{find}
 use Rattle.ffs_volume.specs.declared.Layout.{Layout}
-use Rattle.ffs_volume.specs.Inodes.{inode_of}
-use Rattle.ffs_volume.specs.Roles.{seen_in}
-use Rattle.ffs_volume.specs.PathnameCheck.{are_sound}
-use Rattle.ffs_volume.specs.Volumes.{volume_of}
-use Rattle.ffs_pathnames.specs.declared.examine.Examined.{Examined}
+use Rattle.ffs_volume.specs.Blocks.Inodes.{inode_of}
+use Rattle.ffs_volume.specs.Directories.Roles.{roled_entries}
+use Rattle.ffs_volume.specs.Directories.PathnameCheck.{are_sound}
+use Rattle.ffs_volume.specs.Directories.Volumes.{volume_of}
+use Rattle.ffs_pathnames.specs.declared.examine.DirectorySummary.{DirectorySummary}
 use Rattle.ffs_pathnames.specs.Marks.{are_quiet, after_looks}
 use Rattle.ffs_pathnames.specs.Reads.{start_of}
 use Rattle.ffs_workspace.specs.declared.workspace.Workspace.{Workspace}
@@ -18,14 +18,14 @@ pub record LeavesQueue (old new : Workspace) : Type 0 where
   pub leaders : new.leaders ≡ old.leaders
 
 -- its inode, whether a Gap of it is kept, whether its chunks are sound, the chunk at the start of the file, whether nothing may be
--- told of its entries; and each inode that belongs to it is stamped
-pub record AreFound (v : Layout) (b : List ℕ) (d : ℕ) (old : Workspace) (e : Examined) (new : Workspace) (start : List ℕ) : Type 0 where
+-- reported of its entries; and each inode that belongs to it is stamped
+pub record AreFound (v : Layout) (b : List ℕ) (d : ℕ) (old : Workspace) (e : DirectorySummary) (new : Workspace) (start : List ℕ) : Type 0 where
   pub inode : e.inode ≡ inode_of v b d
   pub gap : e.gap ≡ (volume_of v b).gap d
   pub sound : e.found.sound ≡ are_sound ((volume_of v b).chunks d)
   pub started : find (λ c. c.offset == 0) ((volume_of v b).chunks d) ≡ start_of [] e.found.started v.order start
-  pub quiet : e.found.quiet ≡ are_quiet (volume_of v b) d old.queue.items (seen_in (volume_of v b) d)
-  pub stamps : new.queue.items ≡ after_looks (volume_of v b) d old.queue.items (seen_in (volume_of v b) d)
+  pub quiet : e.found.quiet ≡ are_quiet (volume_of v b) d old.queue.items (roled_entries (volume_of v b) d)
+  pub stamps : new.queue.items ≡ after_looks (volume_of v b) d old.queue.items (roled_entries (volume_of v b) d)
 
 -- all lists
 pub record LeavesMarks (old new : Workspace) : Type 0 where

@@ -1,20 +1,20 @@
 -- What is gathered for the messages on an entry.
 use Rattle.std.specs.Prelude.{◌≡◌, ℕ, Bool, true, false, not, ◌||◌, List}
 use Rattle.ffs_volume.specs.declared.Attr.{Attr}
-use Rattle.ffs_volume.specs.Roles.{Volume}
-use Rattle.ffs_volume.specs.Parents.{graph_of}
-use Rattle.ffs_volume.specs.Paths.{dir_path, entry_path}
-use Rattle.ffs_volume.specs.PathnameCheck.{attributes}
+use Rattle.ffs_volume.specs.Directories.Roles.{Volume}
+use Rattle.ffs_volume.specs.Directories.Parents.{graph_of}
+use Rattle.ffs_volume.specs.Directories.Paths.{dir_path, entry_path}
+use Rattle.ffs_volume.specs.Directories.PathnameCheck.{attributes}
 use Rattle.ffs_pathnames.specs.declared.judge.Verdict.{Verdict}
 use Rattle.ffs_pathnames.specs.declared.judge.Verdict.TheVariants.{OutOfRange, Whiteout, Fine, Unallocated, Named}
-use Rattle.ffs_pathnames.specs.Verdicts.{verdict_told}
+use Rattle.ffs_pathnames.specs.Verdicts.{verdict_reported}
 use Rattle.ffs_workspace.specs.declared.workspace.Workspace.{Workspace}
 use Rattle.ffs_pathnames.specs.Marks.{Marks}
 
 -- the messages are the same as with the volume's own attributes and paths
 abbrev pub IsEnough : Volume → Verdict → ℕ → ℕ → List ℕ → Attr → List ℕ → List ℕ → Type 0
 IsEnough v verdict dir number name about path directory =
-    verdict_told verdict number about path directory ≡ verdict_told verdict number (attributes v number) (entry_path (graph_of v) dir name) (dir_path (graph_of v) number)
+    verdict_reported verdict number about path directory ≡ verdict_reported verdict number (attributes v number) (entry_path (graph_of v) dir name) (dir_path (graph_of v) number)
 
 -- the marks that a workspace holds during the pathname check
 abbrev pub marks_of : Workspace → Marks
@@ -35,7 +35,7 @@ asks_path Fine = false
 asks_path Unallocated = false
 asks_path (Named n) = n.extraneous
 
--- nothing is told
+-- nothing is reported
 abbrev pub is_silent : Verdict → Bool
 is_silent OutOfRange = false
 is_silent Whiteout = false

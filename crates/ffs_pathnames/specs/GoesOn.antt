@@ -1,4 +1,4 @@
--- Whether the run goes on behind the root.
+-- Whether the run continues after the root.
 use Rattle.std.specs.Prelude.{Bool, true, false}
 use Rattle.ffs_pathnames.specs.declared.phase.Root.{Root}
 use Rattle.ffs_pathnames.specs.declared.phase.Root.TheVariants.{Go, Stop}

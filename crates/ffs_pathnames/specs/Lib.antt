@@ -8,7 +8,7 @@ pub mod Verdicts
 pub mod Reads
 pub mod Examines
 pub mod Gathers
-pub mod Knows
+pub mod DirectoryContext
 pub mod GoesOn
 pub mod Begins
 pub mod Before

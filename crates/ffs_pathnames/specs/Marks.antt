@@ -1,16 +1,17 @@
--- The pathname check by marks: what it remembers of the entries that it has passed, and what it tells by that.
+-- The pathname check by marks: what it remembers of the entries that it has passed, and what it reports by that.
 use Rattle.std.specs.Prelude.{ℕ, ◌==◌, Bool, true, false, not, ◌&&◌, ◌||◌, nat_lt, if◌then◌else◌, List, [], ◌∷◌, ◌++◌, slice_index, slice_set}
 use Rattle.std.specs.List.{slice_index_or}
 use Rattle.ffs_volume.specs.declared.Role.{Role}
 use Rattle.ffs_volume.specs.declared.Role.TheVariants.{Empty, Dot, Dotdot, Extra, Plain}
-use Rattle.ffs_volume.specs.Directory.{Entry}
-use Rattle.ffs_volume.specs.Roles.{Volume, Seen, is_dir, is_allocated, is_suspect, is_plain}
-use Rattle.ffs_volume.specs.Climb.{is_value}
-use Rattle.ffs_volume.specs.Graph.{parent}
-use Rattle.ffs_volume.specs.Parents.{graph_of}
-use Rattle.ffs_volume.specs.Paths.{dir_path, entry_path}
-use Rattle.ffs_volume.specs.Messages.{NameMessage, told, out_of_range, whiteout, unallocated, extraneous, kind_entry}
-use Rattle.ffs_volume.specs.PathnameCheck.{attributes, label_of, is_bad_whiteout, suspect_told, is_other_kind, extra_told}
+use Rattle.ffs_volume.specs.Directories.Entries.{Entry}
+use Rattle.ffs_volume.specs.Blocks.Inodes.{is_allocated}
+use Rattle.ffs_volume.specs.Directories.Roles.{Volume, RoledEntry, is_dir, is_suspect, is_plain}
+use Rattle.ffs_volume.specs.Directories.Climb.{is_value}
+use Rattle.ffs_volume.specs.Directories.Graph.{parent}
+use Rattle.ffs_volume.specs.Directories.Parents.{graph_of}
+use Rattle.ffs_volume.specs.Directories.Paths.{dir_path, entry_path}
+use Rattle.ffs_volume.specs.Messages.Kinds.{NameMessage, told, out_of_range, whiteout, unallocated, extraneous, kind_entry}
+use Rattle.ffs_volume.specs.Directories.PathnameCheck.{attributes, label_of, is_bad_whiteout, suspect_reported, is_other_kind, extra_reported}
 
 -- which inodes a plain entry has named, and for each inode a directory whose entries to come have its parent entry
 pub record Marks : Type 0 where
@@ -28,56 +29,56 @@ is_due s m x = slice_index m.stamps x == s
 abbrev pub after_name : ℕ → Marks → ℕ → Marks
 after_name s m x = record { passed = slice_set m.passed x true; stamps = if is_due s m x then slice_set m.stamps x 0 else m.stamps }
 
-abbrev pub after_seen : Volume → ℕ → Marks → Seen → Marks
-after_seen v s m e = if is_plain e.role && nat_lt e.entry.number v.count then after_name s m e.entry.number else m
+abbrev pub after_roled : Volume → ℕ → Marks → RoledEntry → Marks
+after_roled v s m e = if is_plain e.role && nat_lt e.entry.number v.count then after_name s m e.entry.number else m
 
--- what is told of an entry, by the marks
-abbrev pub named_told : Volume → ℕ → Marks → Entry → List NameMessage
-named_told v s m e =
-    told (is_suspect v e.number && (not (e.number == 2) && not (is_passed m e.number))) (suspect_told v e.number (entry_path (graph_of v) s e.name))
+-- what is reported of an entry, by the marks
+abbrev pub named_reported : Volume → ℕ → Marks → Entry → List NameMessage
+named_reported v s m e =
+    told (is_suspect v e.number && (not (e.number == 2) && not (is_passed m e.number))) (suspect_reported v e.number (entry_path (graph_of v) s e.name))
     ++ (told (is_dir v e.number && not (is_due s m e.number)) (extraneous (entry_path (graph_of v) s e.name) (dir_path (graph_of v) e.number))
     ++ told (is_other_kind v e) (kind_entry (attributes v e.number) (label_of (v.class e.number)) (entry_path (graph_of v) s e.name)))
 
-abbrev pub plain_told : Volume → ℕ → Marks → Entry → List NameMessage
-plain_told v s m e =
+abbrev pub plain_reported : Volume → ℕ → Marks → Entry → List NameMessage
+plain_reported v s m e =
     if not (nat_lt e.number v.count) then out_of_range e.number (entry_path (graph_of v) s e.name) ∷ []
     else (if is_bad_whiteout e then whiteout e.number (entry_path (graph_of v) s e.name) ∷ []
     else (if e.number == 1 then []
     else (if not (is_allocated (v.class e.number)) then unallocated (attributes v e.number) (entry_path (graph_of v) s e.name) ∷ []
-    else named_told v s m e)))
+    else named_reported v s m e)))
 
-abbrev pub role_told : Volume → ℕ → Marks → Role → Entry → List NameMessage
-role_told v s m Empty e = []
-role_told v s m Dot e = []
-role_told v s m Dotdot e = []
-role_told v s m Extra e = extra_told (attributes v s) (dir_path (graph_of v) s) e
-role_told v s m Plain e = plain_told v s m e
+abbrev pub role_reported : Volume → ℕ → Marks → Role → Entry → List NameMessage
+role_reported v s m Empty e = []
+role_reported v s m Dot e = []
+role_reported v s m Dotdot e = []
+role_reported v s m Extra e = extra_reported (attributes v s) (dir_path (graph_of v) s) e
+role_reported v s m Plain e = plain_reported v s m e
 
-unfoldable pub seen_told : Volume → ℕ → Marks → Seen → List NameMessage
-seen_told v s m e = role_told v s m e.role e.entry
+unfoldable pub roled_reported : Volume → ℕ → Marks → RoledEntry → List NameMessage
+roled_reported v s m e = role_reported v s m e.role e.entry
 
 -- some entries of s, one after another
-abbrev pub after_entries : Volume → ℕ → Marks → List Seen → Marks
+abbrev pub after_entries : Volume → ℕ → Marks → List RoledEntry → Marks
 after_entries v s m [] = m
-after_entries v s m (e ∷ es) = after_entries v s (after_seen v s m e) es
+after_entries v s m (e ∷ es) = after_entries v s (after_roled v s m e) es
 
-abbrev pub entries_told : Volume → ℕ → Marks → List Seen → List NameMessage
-entries_told v s m [] = []
-entries_told v s m (e ∷ es) = seen_told v s m e ++ entries_told v s (after_seen v s m e) es
+abbrev pub entries_reported : Volume → ℕ → Marks → List RoledEntry → List NameMessage
+entries_reported v s m [] = []
+entries_reported v s m (e ∷ es) = roled_reported v s m e ++ entries_reported v s (after_roled v s m e) es
 
 -- x is a directory other than the root, with the parent s
 abbrev pub belongs : Volume → ℕ → ℕ → Bool
 belongs v s x = is_dir v x && (not (x == 2) && is_value (parent (graph_of v) x) s)
 
 -- a first look at the entries of s stamps each inode that belongs to s
-abbrev pub after_look : Volume → ℕ → List ℕ → Seen → List ℕ
+abbrev pub after_look : Volume → ℕ → List ℕ → RoledEntry → List ℕ
 after_look v s stamps e = if is_plain e.role && belongs v s e.entry.number then slice_set stamps e.entry.number s else stamps
 
-abbrev pub after_looks : Volume → ℕ → List ℕ → List Seen → List ℕ
+abbrev pub after_looks : Volume → ℕ → List ℕ → List RoledEntry → List ℕ
 after_looks v s stamps [] = stamps
 after_looks v s stamps (e ∷ es) = after_looks v s (after_look v s stamps e) es
 
--- and finds whether something may be told of an entry
+-- and finds whether something may be reported of an entry
 abbrev pub is_inode_quiet : Volume → ℕ → List ℕ → Entry → Bool
 is_inode_quiet v s stamps e =
     is_allocated (v.class e.number) && (not (is_suspect v e.number)
@@ -94,9 +95,9 @@ is_role_quiet v s stamps Dotdot e = true
 is_role_quiet v s stamps Extra e = false
 is_role_quiet v s stamps Plain e = is_plain_quiet v s stamps e
 
-unfoldable pub is_quiet : Volume → ℕ → List ℕ → Seen → Bool
+unfoldable pub is_quiet : Volume → ℕ → List ℕ → RoledEntry → Bool
 is_quiet v s stamps e = is_role_quiet v s stamps e.role e.entry
 
-abbrev pub are_quiet : Volume → ℕ → List ℕ → List Seen → Bool
+abbrev pub are_quiet : Volume → ℕ → List ℕ → List RoledEntry → Bool
 are_quiet v s stamps [] = true
 are_quiet v s stamps (e ∷ es) = is_quiet v s stamps e && are_quiet v s (after_look v s stamps e) es

@@ -1,14 +1,14 @@
 -- When the marks of the pathname check are right.
 use Rattle.std.specs.Prelude.{◌≡◌, ◌≢◌, ℕ, ◌<◌, true, not, ◌&&◌, ◌||◌, List, length, slice_index}
 use Rattle.std.specs.List.{list_any}
-use Rattle.ffs_volume.specs.Search.{some_below}
-use Rattle.ffs_volume.specs.Roles.{Volume, Seen, is_suspect}
-use Rattle.ffs_volume.specs.Graph.{names, names_in}
-use Rattle.ffs_volume.specs.Parents.{graph_of}
+use Rattle.ffs_volume.specs.Directories.Search.{some_below}
+use Rattle.ffs_volume.specs.Directories.Roles.{Volume, RoledEntry, is_suspect}
+use Rattle.ffs_volume.specs.Directories.Graph.{names, names_in}
+use Rattle.ffs_volume.specs.Directories.Parents.{graph_of}
 use Rattle.ffs_pathnames.specs.Marks.{Marks, is_passed, is_due, belongs}
 
--- within the directory s, behind the entries `done`
-pub record AreRight (v : Volume) (s : ℕ) (done : List Seen) (m : Marks) : Type 0 where
+-- within the directory s, after the entries `done`
+pub record AreRight (v : Volume) (s : ℕ) (done : List RoledEntry) (m : Marks) : Type 0 where
   pub passed : (x : ℕ) → x < v.count → is_suspect v x ≡ true → x ≢ 1 → x ≢ 2 →
       is_passed m x ≡ (some_below (λ t. names_in (graph_of v) t x) s || list_any (names x) done)
   pub due : (x : ℕ) → x < v.count → is_due s m x ≡ (belongs v s x && not (list_any (names x) done))

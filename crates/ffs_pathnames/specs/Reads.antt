@@ -4,11 +4,11 @@ use Rattle.std.specs.List.{find}
 use Rattle.ffs_volume.specs.declared.Layout.{Layout}
 use Rattle.ffs_volume.specs.declared.Order.{Order}
 use Rattle.ffs_volume.specs.declared.Inode.{Inode}
-use Rattle.ffs_volume.specs.Areas.{is_in_range}
-use Rattle.ffs_volume.specs.Directory.{Chunk, chunk_of, chunks_of, size_taken}
-use Rattle.ffs_volume.specs.Steps.{steps_of}
-use Rattle.ffs_volume.specs.Replay.{fresh_replay, replayed_steps}
-use Rattle.ffs_names.specs.Hands.{reading_by}
+use Rattle.ffs_volume.specs.Disk.Areas.{is_in_range}
+use Rattle.ffs_volume.specs.Directories.Entries.{Chunk, chunk_of, chunks_of, size_taken}
+use Rattle.ffs_volume.specs.Blocks.Steps.{steps_of}
+use Rattle.ffs_volume.specs.Encodings.Replay.{fresh_replay, replayed_steps}
+use Rattle.ffs_names.specs.RunCursors.{reading_by}
 
 -- the chunks of an inode that keeps `cut` offers, or all if that is 0
 unfoldable pub chunks_read : Layout → Inode → ℕ → List ℕ → List Chunk

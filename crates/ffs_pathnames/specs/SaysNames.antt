@@ -1,6 +1,6 @@
 -- Messages on directories, said one after another.
 use Rattle.std.specs.Prelude.{List, map, Result}
-use Rattle.ffs_volume.specs.Messages.{NameMessage, of_names}
+use Rattle.ffs_volume.specs.Messages.Kinds.{NameMessage, of_names}
 use Rattle.ffs_report.specs.Progress.{Progress, Says}
 
 -- the outcome of saying these messages

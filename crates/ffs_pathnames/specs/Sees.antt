@@ -1,10 +1,11 @@
 -- What the lists of a workspace show of a volume.
 use Rattle.std.specs.Prelude.{◌≡◌, ℕ, ◌≤◌, ◌/◌, ◌==◌, true, false, ◌||◌, length, slice_index}
-use Rattle.ffs_volume.specs.Roles.{Volume, is_dir, is_allocated, is_unknown, is_suspect}
-use Rattle.ffs_volume.specs.Climb.{is_value}
-use Rattle.ffs_volume.specs.Graph.{parent}
-use Rattle.ffs_volume.specs.Parents.{graph_of}
-use Rattle.ffs_volume.specs.Kinds.{is_dir_kind, is_empty_dir_kind, is_allocated_kind, is_unknown_kind, type_of_kind, class_of_kind}
+use Rattle.ffs_volume.specs.Blocks.Inodes.{is_allocated, is_unknown}
+use Rattle.ffs_volume.specs.Directories.Roles.{Volume, is_dir, is_suspect}
+use Rattle.ffs_volume.specs.Directories.Climb.{is_value}
+use Rattle.ffs_volume.specs.Directories.Graph.{parent}
+use Rattle.ffs_volume.specs.Directories.Parents.{graph_of}
+use Rattle.ffs_volume.specs.Encodings.Kinds.{is_dir_kind, is_empty_dir_kind, is_allocated_kind, is_unknown_kind, type_of_kind, class_of_kind}
 use Rattle.ffs_workspace.specs.Holds.{bool_at}
 use Rattle.ffs_pathnames.specs.declared.inodes.Inodes.{Inodes}
 

@@ -1,29 +1,29 @@
 // The pathname check of one directory.
 ghost use Rattle.std.specs.Prelude.{suc, ◌≡◌, ◌+◌, ◌*◌, ◌<◌, ◌≤◌, ℕ, List, OnOk, IfOk, map, option_map};
-ghost use Rattle.ffs_volume.specs.Messages.{of_names};
-ghost use Rattle.ffs_volume.specs.PathnameCheck.{dir_lines};
-ghost use Rattle.ffs_volume.specs.Volumes.{volume_of};
-ghost use Rattle.ffs_phase.specs.Known.{Where};
-ghost use Rattle.ffs_phase.specs.Runs.{Reads, TellsOf};
+ghost use Rattle.ffs_volume.specs.Messages.Kinds.{of_names};
+ghost use Rattle.ffs_volume.specs.Directories.PathnameCheck.{dir_lines};
+ghost use Rattle.ffs_volume.specs.Directories.Volumes.{volume_of};
+ghost use Rattle.ffs_phase.specs.Known.{ForBytes};
+ghost use Rattle.ffs_phase.specs.Runs.{ImageAfter, PhaseReports};
 ghost use Rattle.ffs_report.specs.Progress.{progress};
 ghost use Rattle.ffs_workspace.specs.Lengths.{IsFor, HoldWindows};
-ghost use Rattle.ffs_volume.specs.Graph.{parent};
-ghost use Rattle.ffs_volume.specs.Inodes.{inode_of};
-ghost use Rattle.ffs_volume.specs.Parents.{graph_of};
-ghost use Rattle.ffs_volume.specs.PathnameCheck.{attributes};
-ghost use Rattle.ffs_volume.specs.Paths.{dir_path};
-ghost use Rattle.ffs_layout.specs.Entry.{seen_entry};
+ghost use Rattle.ffs_volume.specs.Directories.Graph.{parent};
+ghost use Rattle.ffs_volume.specs.Blocks.Inodes.{inode_of};
+ghost use Rattle.ffs_volume.specs.Directories.Parents.{graph_of};
+ghost use Rattle.ffs_volume.specs.Directories.PathnameCheck.{attributes};
+ghost use Rattle.ffs_volume.specs.Directories.Paths.{dir_path};
+ghost use Rattle.ffs_layout.specs.Entry.{entry_value};
 ghost use Rattle.ffs_workspace.specs.Holds.{HoldsSurvey};
 ghost use Rattle.ffs_pathnames.specs.Begins.{dir_starts, number_if, started_entry, IsBegun};
 ghost use Rattle.ffs_workspace.specs.Leaves.{LeavesSurvey};
 ghost use Rattle.ffs_pathnames.specs.Examines.{LeavesMarks};
-ghost use Rattle.ffs_pathnames.specs.Starts.{starts_told};
+ghost use Rattle.ffs_pathnames.specs.Starts.{starts_reported};
 ghost use Rattle.ffs_pathnames.specs.Gathers.{marks_of};
-ghost use Rattle.ffs_pathnames.specs.Knows.{Knows};
+ghost use Rattle.ffs_pathnames.specs.DirectoryContext.{DirectoryContext};
 ghost use Rattle.ffs_pathnames.specs.MarksRight.{AreRightBefore};
 
-use crate::again::tell_directory;
-use crate::examine::{Examined, examine};
+use crate::again::report_directory;
+use crate::examine::{DirectorySummary, examine};
 use crate::starts::{Shape, is_in_order, say_starts};
 use crate::tell::gather_dir;
 use ffs_image::Image;
@@ -48,7 +48,8 @@ fn number_if(number: u32) -> Option<u32>
 fn parent_of(geometry: &Geometry, workspace: &Workspace, dir: u32) -> Option<u32>
     requires made { IsFor geometry.now.layout workspace.now }
     requires number { dir < geometry.now.layout.ncg * geometry.now.layout.ipg }
-    ensures { (b : List ℕ) → HoldsSurvey geometry.now.layout b workspace.now → result ≡ parent (graph_of (volume_of geometry.now.layout b)) dir }
+    ensures { (b : List ℕ) → HoldsSurvey geometry.now.layout b workspace.now → result
+        ≡ parent (graph_of (volume_of geometry.now.layout b)) dir }
 {
     let parent = workspace.parents[dir as usize];
     number_if(parent)
@@ -60,8 +61,8 @@ fn first_two<'a>(
     start: &'a [u8; 512],
     started: bool,
 ) -> (Option<Entry<'a>>, Option<Entry<'a>>)
-    ensures first { option_map seen_entry result.0 ≡ started_entry 0 started order start.now }
-    ensures second { option_map seen_entry result.1 ≡ started_entry 1 started order start.now }
+    ensures first { option_map entry_value result.0 ≡ started_entry 0 started order start.now }
+    ensures second { option_map entry_value result.1 ≡ started_entry 1 started order start.now }
 {
     if !started {
         return (None, None);
@@ -75,8 +76,8 @@ fn first_two<'a>(
     }
 }
 
-/// Tells what is told of a directory of a size before its entries.
-fn tell_starts<I: Image, W: Output>(
+/// Prints the lines of a directory of this size that come before those of its entries.
+fn report_starts<I: Image, W: Output>(
     geometry: &Geometry,
     image: &mut I,
     workspace: &mut Workspace,
@@ -87,17 +88,22 @@ fn tell_starts<I: Image, W: Output>(
     shape: Shape<'_>,
 ) -> Result<(), RunFault>
     requires made { IsFor geometry.now.layout workspace.old }
-    requires volume { geometry.now.layout.size * geometry.now.layout.fsize ≤ (I.device image.old).size }
-    requires windows { HoldWindows geometry.now.layout (I.device image.old).told workspace.old }
+    requires volume { geometry.now.layout.size * geometry.now.layout.fsize
+        ≤ (I.device image.old).size }
+    requires windows { HoldWindows geometry.now.layout (I.device image.old).contents workspace.old }
     requires number { dir < geometry.now.layout.ncg * geometry.now.layout.ipg }
-    ensures image { Reads (I.device image.old) (I.device image.new) result }
-    ensures text { TellsOf (λ b. Knows geometry.now.layout (I.device image.old).told workspace.old dir b × (size ≡ (inode_of geometry.now.layout b dir).size))
-        (λ b. map of_names (starts_told (attributes (volume_of geometry.now.layout b) dir) (dir_path (graph_of (volume_of geometry.now.layout b)) dir) dir parent
-        shape.entry.gap shape.entry.sound (option_map seen_entry shape.entry.first) (option_map seen_entry shape.entry.second)))
+    ensures image { ImageAfter (I.device image.old) (I.device image.new) result }
+    ensures text { PhaseReports (λ b. DirectoryContext geometry.now.layout
+        (I.device image.old).contents workspace.old dir b
+        × (size ≡ (inode_of geometry.now.layout b dir).size))
+        (λ b. map of_names (starts_reported (attributes (volume_of geometry.now.layout b) dir)
+        (dir_path (graph_of (volume_of geometry.now.layout b)) dir) dir parent
+        shape.entry.gap shape.entry.sound (option_map entry_value shape.entry.first)
+        (option_map entry_value shape.entry.second)))
         (progress W.sink report.old) (progress W.sink report.new) result }
     ensures lists { LeavesMarks workspace.old workspace.new }
     ensures made { IsFor geometry.now.layout workspace.new }
-    ensures windows { HoldWindows geometry.now.layout (I.device image.new).told workspace.new }
+    ensures windows { HoldWindows geometry.now.layout (I.device image.new).contents workspace.new }
 {
     if is_in_order(dir, parent, size, shape) {
         return Ok(());
@@ -108,28 +114,31 @@ fn tell_starts<I: Image, W: Output>(
     Ok(())
 }
 
-/// Looks at a directory, and tells what is told of it before its entries.
+/// Reads a directory once, and prints its lines that come before those of its entries.
 fn begin_directory<I: Image, W: Output>(
     geometry: &Geometry,
     image: &mut I,
     workspace: &mut Workspace,
     report: &mut Report<'_, W>,
     dir: u32,
-) -> Result<Examined, RunFault>
+) -> Result<DirectorySummary, RunFault>
     requires made { IsFor geometry.now.layout workspace.old }
-    requires volume { geometry.now.layout.size * geometry.now.layout.fsize ≤ (I.device image.old).size }
-    requires windows { HoldWindows geometry.now.layout (I.device image.old).told workspace.old }
+    requires volume { geometry.now.layout.size * geometry.now.layout.fsize
+        ≤ (I.device image.old).size }
+    requires windows { HoldWindows geometry.now.layout (I.device image.old).contents workspace.old }
     requires number { dir < geometry.now.layout.ncg * geometry.now.layout.ipg }
     requires dir { 2 ≤ dir }
-    ensures image { Reads (I.device image.old) (I.device image.new) result }
-    ensures text { TellsOf (Knows geometry.now.layout (I.device image.old).told workspace.old dir)
+    ensures image { ImageAfter (I.device image.old) (I.device image.new) result }
+    ensures text { PhaseReports (DirectoryContext geometry.now.layout (I.device image.old).contents
+        workspace.old dir)
         (λ b. map of_names (dir_starts (volume_of geometry.now.layout b) dir))
         (progress W.sink report.old) (progress W.sink report.new) result }
-    ensures begun { IfOk result (λ e. Where (Knows geometry.now.layout (I.device image.old).told workspace.old dir)
+    ensures begun { IfOk result (λ e. ForBytes
+        (DirectoryContext geometry.now.layout (I.device image.old).contents workspace.old dir)
         (λ b. IsBegun geometry.now.layout b dir workspace.old e workspace.new)) }
     ensures survey { LeavesSurvey workspace.old workspace.new }
     ensures made { IsFor geometry.now.layout workspace.new }
-    ensures windows { HoldWindows geometry.now.layout (I.device image.new).told workspace.new }
+    ensures windows { HoldWindows geometry.now.layout (I.device image.new).contents workspace.new }
 {
     let mut start = [0u8; 512];
     let examined = examine(geometry, image, workspace, dir, &mut start)?;
@@ -141,7 +150,7 @@ fn begin_directory<I: Image, W: Output>(
         first,
         second,
     };
-    tell_starts(
+    report_starts(
         geometry,
         image,
         workspace,
@@ -154,7 +163,7 @@ fn begin_directory<I: Image, W: Output>(
     Ok(examined)
 }
 
-/// Tells what is told of a directory that isn't of size 0: of its size, its chunks, its first two entries, and all its entries.
+/// Prints the lines of a directory that isn't of size 0: of its size, its chunks, its first two entries, and all its entries.
 pub fn check_directory<I: Image, W: Output>(
     geometry: &Geometry,
     image: &mut I,
@@ -163,23 +172,29 @@ pub fn check_directory<I: Image, W: Output>(
     dir: u32,
 ) -> Result<(), RunFault>
     requires made { IsFor geometry.now.layout workspace.old }
-    requires volume { geometry.now.layout.size * geometry.now.layout.fsize ≤ (I.device image.old).size }
-    requires windows { HoldWindows geometry.now.layout (I.device image.old).told workspace.old }
+    requires volume { geometry.now.layout.size * geometry.now.layout.fsize
+        ≤ (I.device image.old).size }
+    requires windows { HoldWindows geometry.now.layout (I.device image.old).contents workspace.old }
     requires number { dir < geometry.now.layout.ncg * geometry.now.layout.ipg }
     requires dir { 2 ≤ dir }
-    ensures image { Reads (I.device image.old) (I.device image.new) result }
-    ensures text { TellsOf (λ b. Knows geometry.now.layout (I.device image.old).told workspace.old dir b × AreRightBefore (volume_of geometry.now.layout b) dir (marks_of workspace.old))
+    ensures image { ImageAfter (I.device image.old) (I.device image.new) result }
+    ensures text { PhaseReports (λ b. DirectoryContext geometry.now.layout
+        (I.device image.old).contents workspace.old dir b
+        × AreRightBefore (volume_of geometry.now.layout b) dir (marks_of workspace.old))
         (λ b. map of_names (dir_lines (volume_of geometry.now.layout b) dir))
         (progress W.sink report.old) (progress W.sink report.new) result }
-    ensures marks { OnOk result (Where (λ b. Knows geometry.now.layout (I.device image.old).told workspace.old dir b × AreRightBefore (volume_of geometry.now.layout b) dir (marks_of workspace.old))
-        (λ b. AreRightBefore (volume_of geometry.now.layout b) (suc dir) (marks_of workspace.new))) }
+    ensures marks { OnOk result (ForBytes
+        (λ b. DirectoryContext geometry.now.layout (I.device image.old).contents workspace.old dir b
+        × AreRightBefore (volume_of geometry.now.layout b) dir (marks_of workspace.old))
+        (λ b. AreRightBefore (volume_of geometry.now.layout b) (suc dir)
+        (marks_of workspace.new))) }
     ensures survey { LeavesSurvey workspace.old workspace.new }
     ensures made { IsFor geometry.now.layout workspace.new }
-    ensures windows { HoldWindows geometry.now.layout (I.device image.new).told workspace.new }
+    ensures windows { HoldWindows geometry.now.layout (I.device image.new).contents workspace.new }
 {
     let examined = begin_directory(geometry, image, workspace, report, dir)?;
     if examined.found.quiet {
         return Ok(());
     }
-    tell_directory(geometry, image, workspace, report, dir, &examined.inode)
+    report_directory(geometry, image, workspace, report, dir, &examined.inode)
 }

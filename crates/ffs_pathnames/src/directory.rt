@@ -1,16 +1,16 @@
 // A first look at a directory.
 ghost use Rattle.std.specs.Prelude.{◌≡◌, ◌+◌, ◌*◌, ◌<◌, ◌≤◌, ◌^◌, ◌&&◌, ◌==◌, true, false, List, ℕ, [], ◌∷◌, length, vec_len, Some, None, Option, IfOk, OnOk, IfErr, Bool};
 ghost use Rattle.std.specs.List.{flat_map, find};
-ghost use Rattle.ffs_image.specs.Device.{Faulted, WhereTold};
+ghost use Rattle.ffs_image.specs.Device.{Faulted, ForContents};
 ghost use Rattle.ffs_volume.specs.declared.Order.{Order};
-ghost use Rattle.ffs_volume.specs.Areas.{is_in_range};
-ghost use Rattle.ffs_volume.specs.Directory.{Chunk, chunk_of, chunks_of, size_taken};
-ghost use Rattle.ffs_volume.specs.Steps.{steps_of};
-ghost use Rattle.ffs_volume.specs.Replay.{fresh_replay, replayed_steps};
-ghost use Rattle.ffs_volume.specs.Roles.{Volume, chunk_seen};
-ghost use Rattle.ffs_volume.specs.PathnameCheck.{are_sound};
+ghost use Rattle.ffs_volume.specs.Disk.Areas.{is_in_range};
+ghost use Rattle.ffs_volume.specs.Directories.Entries.{Chunk, chunk_of, chunks_of, size_taken};
+ghost use Rattle.ffs_volume.specs.Blocks.Steps.{steps_of};
+ghost use Rattle.ffs_volume.specs.Encodings.Replay.{fresh_replay, replayed_steps};
+ghost use Rattle.ffs_volume.specs.Directories.Roles.{Volume, roled_chunk};
+ghost use Rattle.ffs_volume.specs.Directories.PathnameCheck.{are_sound};
 ghost use Rattle.ffs_walk.specs.Windows.{BlocksHold, HasRoom, WindowHolds};
-ghost use Rattle.ffs_names.specs.Hands.{reading_by};
+ghost use Rattle.ffs_names.specs.RunCursors.{reading_by};
 ghost use Rattle.ffs_pathnames.specs.Marks as marks;
 ghost use Rattle.ffs_pathnames.specs.Sees.{Sees};
 ghost use Rattle.ffs_pathnames.specs.Reads.{chunks_read, start_of};
@@ -23,8 +23,8 @@ use ffs_names::Chunks;
 use ffs_volume::Inode;
 use ffs_walk::{Blocks, Window};
 
-/// What a first look at a directory finds: whether nothing may be told of its entries, whether all its chunks are sound, and
-/// whether a chunk stands at the start of the file.
+/// What a first look at a directory finds: whether nothing may be reported of its entries, whether all its chunks are sound, and
+/// whether a chunk is at the start of the file.
 #[derive(Clone, Copy, Debug)]
 pub struct Found {
     pub quiet: bool,
@@ -32,9 +32,11 @@ pub struct Found {
     pub started: bool,
 }
 
-/// Keeps a chunk that stands at the start of the file, if none is kept yet; the answer tells whether one is.
+/// Keeps a chunk that is at the start of the file, if none is kept yet; the answer says whether one is.
 fn keep_start(offset: u64, chunk: &[u8; 512], started: bool, start: &mut [u8; 512]) -> bool
-    ensures { (order : Order) (cs : List Chunk) → start_of (chunk_of order offset chunk.now ∷ cs) started order start.old ≡ start_of cs result order start.new }
+    ensures { (order : Order) (cs : List Chunk)
+        → start_of (chunk_of order offset chunk.now ∷ cs) started order start.old
+        ≡ start_of cs result order start.new }
 {
     if started || offset != 0 {
         return started;
@@ -56,26 +58,36 @@ pub fn look_directory<I: Image>(
     cut: u32,
     start: &mut [u8; 512],
 ) -> Result<Found, ImageFault>
-    requires volume { geometry.now.layout.size * geometry.now.layout.fsize ≤ (I.device image.old).size }
+    requires volume { geometry.now.layout.size * geometry.now.layout.fsize
+        ≤ (I.device image.old).size }
     requires room { HasRoom geometry.now.layout blocks.old }
-    requires holds { BlocksHold geometry.now.layout (I.device image.old).told blocks.old }
+    requires holds { BlocksHold geometry.now.layout (I.device image.old).contents blocks.old }
     requires data_room { geometry.now.layout.bsize ≤ vec_len «data».old.buffer }
-    requires data_holds { WindowHolds (I.device image.old).told «data».old }
+    requires data_holds { WindowHolds (I.device image.old).contents «data».old }
     requires stamps { length stamps.old ≡ length inodes.now.kinds.now }
     requires dir { 2 ≤ dir }
-    ensures quiet { IfOk result (λ f. WhereTold (I.device image.old).told (λ b. (v : Volume) → Sees v inodes.now → inode.now.size < 2 ^ 31 →
-        f.quiet ≡ marks.are_quiet v dir stamps.old (flat_map chunk_seen (chunks_read geometry.now.layout inode.now cut b)))) }
-    ensures stamps { OnOk result (WhereTold (I.device image.old).told (λ b. (v : Volume) → Sees v inodes.now → inode.now.size < 2 ^ 31 →
-        stamps.new ≡ marks.after_looks v dir stamps.old (flat_map chunk_seen (chunks_read geometry.now.layout inode.now cut b)))) }
-    ensures sound { IfOk result (λ f. WhereTold (I.device image.old).told (λ b. inode.now.size < 2 ^ 31 → f.sound ≡ are_sound (chunks_read geometry.now.layout inode.now cut b))) }
-    ensures started { IfOk result (λ f. WhereTold (I.device image.old).told (λ b. inode.now.size < 2 ^ 31 →
-        find (λ c. c.offset == 0) (chunks_read geometry.now.layout inode.now cut b) ≡ start_of [] f.started geometry.now.layout.order start.new)) }
+    ensures quiet { IfOk result (λ f. ForContents (I.device image.old).contents
+        (λ b. (v : Volume) → Sees v inodes.now → inode.now.size < 2 ^ 31 →
+        f.quiet ≡ marks.are_quiet v dir stamps.old
+        (flat_map roled_chunk (chunks_read geometry.now.layout inode.now cut b)))) }
+    ensures stamps { OnOk result (ForContents (I.device image.old).contents
+        (λ b. (v : Volume) → Sees v inodes.now → inode.now.size < 2 ^ 31 →
+        stamps.new ≡ marks.after_looks v dir stamps.old
+        (flat_map roled_chunk (chunks_read geometry.now.layout inode.now cut b)))) }
+    ensures sound { IfOk result (λ f. ForContents (I.device image.old).contents
+        (λ b. inode.now.size < 2 ^ 31 → f.sound
+        ≡ are_sound (chunks_read geometry.now.layout inode.now cut b))) }
+    ensures started { IfOk result (λ f. ForContents (I.device image.old).contents
+        (λ b. inode.now.size < 2 ^ 31 →
+        find (λ c. c.offset == 0) (chunks_read geometry.now.layout inode.now cut b)
+        ≡ start_of [] f.started geometry.now.layout.order start.new)) }
     ensures size { vec_len blocks.new.buffer ≡ vec_len blocks.old.buffer }
-    ensures holds { BlocksHold geometry.now.layout (I.device image.new).told blocks.new }
+    ensures holds { BlocksHold geometry.now.layout (I.device image.new).contents blocks.new }
     ensures data_size { vec_len «data».new.buffer ≡ vec_len «data».old.buffer }
-    ensures data_holds { WindowHolds (I.device image.new).told «data».new }
+    ensures data_holds { WindowHolds (I.device image.new).contents «data».new }
     ensures ok { OnOk result (I.device image.new ≡ I.device image.old) }
-    ensures err { IfErr result (λ fault. Faulted (I.device image.old) (I.device image.new) fault.sector) }
+    ensures err { IfErr result (λ fault. Faulted (I.device image.old) (I.device image.new)
+        fault.sector) }
 {
     let order = geometry.layout.order;
     let mut chunks = Chunks::start(geometry, inode, cut);

@@ -1,25 +1,25 @@
-// Telling what the entries of a directory come to, one after another.
+// The lines of the entries of a directory, one entry after another.
 ghost use Rattle.std.specs.Prelude.{◌≡◌, ◌+◌, ◌*◌, ◌<◌, ◌≤◌, ℕ, List, true, false, length, slice_index, Some, OnOk, map};
 ghost use Rattle.ffs_volume.specs.declared.Role.{Role};
-ghost use Rattle.ffs_volume.specs.Directory.{entries_of};
-ghost use Rattle.ffs_volume.specs.Inodes.{inode_of};
-ghost use Rattle.ffs_volume.specs.Messages.{of_names};
-ghost use Rattle.ffs_volume.specs.Roles.{seen_from, seen_in};
-ghost use Rattle.ffs_volume.specs.Volumes.{volume_of};
-ghost use Rattle.ffs_layout.specs.Entry.{seen_entry};
-ghost use Rattle.ffs_phase.specs.Known.{Where};
-ghost use Rattle.ffs_phase.specs.Runs.{Reads, TellsOf};
+ghost use Rattle.ffs_volume.specs.Directories.Entries.{entries_of};
+ghost use Rattle.ffs_volume.specs.Blocks.Inodes.{inode_of};
+ghost use Rattle.ffs_volume.specs.Messages.Kinds.{of_names};
+ghost use Rattle.ffs_volume.specs.Directories.Roles.{roled_from, roled_entries};
+ghost use Rattle.ffs_volume.specs.Directories.Volumes.{volume_of};
+ghost use Rattle.ffs_layout.specs.Entry.{entry_value};
+ghost use Rattle.ffs_phase.specs.Known.{ForBytes};
+ghost use Rattle.ffs_phase.specs.Runs.{ImageAfter, PhaseReports};
 ghost use Rattle.ffs_report.specs.Progress.{progress};
 ghost use Rattle.ffs_workspace.specs.Lengths.{IsFor, HoldWindows};
 ghost use Rattle.ffs_workspace.specs.Leaves.{LeavesSurvey};
 ghost use Rattle.ffs_pathnames.specs.Examines.{LeavesMarks};
 ghost use Rattle.ffs_pathnames.specs.Gathers.{marks_of};
-ghost use Rattle.ffs_pathnames.specs.Knows.{Knows, KnowsPath};
+ghost use Rattle.ffs_pathnames.specs.DirectoryContext.{DirectoryContext, KnowsPath};
 ghost use Rattle.ffs_pathnames.specs.Marks as marks;
 
 use crate::inodes::Inodes;
 use crate::judge::pass;
-use crate::tell::{tell_extra, tell_plain};
+use crate::tell::{report_extra, report_plain};
 use ffs_image::Image;
 use ffs_layout::{Entry, Geometry, entry_at};
 use ffs_names::role_of;
@@ -29,7 +29,7 @@ use ffs_report::{Output, Report};
 use ffs_volume::Role;
 use ffs_workspace::Workspace;
 
-/// Tells what is told of an entry, by its role.
+/// Prints the lines of an entry, by its role.
 fn say_entry<I: Image, W: Output>(
     geometry: &Geometry,
     image: &mut I,
@@ -41,29 +41,32 @@ fn say_entry<I: Image, W: Output>(
     entry: &Entry<'_>,
 ) -> Result<(), RunFault>
     requires made { IsFor geometry.now.layout workspace.old }
-    requires volume { geometry.now.layout.size * geometry.now.layout.fsize ≤ (I.device image.old).size }
-    requires windows { HoldWindows geometry.now.layout (I.device image.old).told workspace.old }
+    requires volume { geometry.now.layout.size * geometry.now.layout.fsize
+        ≤ (I.device image.old).size }
+    requires windows { HoldWindows geometry.now.layout (I.device image.old).contents workspace.old }
     requires dir { dir < geometry.now.layout.ncg * geometry.now.layout.ipg }
     requires name { length entry.now.name.now ≤ 255 }
-    ensures image { Reads (I.device image.old) (I.device image.new) result }
-    ensures text { TellsOf (KnowsPath geometry.now.layout (I.device image.old).told workspace.old dir path.now)
-        (λ b. map of_names (marks.seen_told (volume_of geometry.now.layout b) dir (marks_of workspace.old) (record { role = role; entry = seen_entry entry.now })))
+    ensures image { ImageAfter (I.device image.old) (I.device image.new) result }
+    ensures text { PhaseReports (KnowsPath geometry.now.layout (I.device image.old).contents
+        workspace.old dir path.now)
+        (λ b. map of_names (marks.roled_reported (volume_of geometry.now.layout b) dir
+        (marks_of workspace.old) (record { role = role; entry = entry_value entry.now })))
         (progress W.sink report.old) (progress W.sink report.new) result }
     ensures lists { LeavesMarks workspace.old workspace.new }
     ensures made { IsFor geometry.now.layout workspace.new }
-    ensures windows { HoldWindows geometry.now.layout (I.device image.new).told workspace.new }
+    ensures windows { HoldWindows geometry.now.layout (I.device image.new).contents workspace.new }
 {
     match role {
         Role::Empty => Ok(()),
         Role::Dot => Ok(()),
         Role::Dotdot => Ok(()),
-        Role::Extra => tell_extra(geometry, image, workspace, report, dir, path, entry),
-        Role::Plain => tell_plain(geometry, image, workspace, report, dir, path, entry),
+        Role::Extra => report_extra(geometry, image, workspace, report, dir, path, entry),
+        Role::Plain => report_plain(geometry, image, workspace, report, dir, path, entry),
     }
 }
 
-/// Tells what is told of an entry, and passes it.
-pub fn tell_entry<I: Image, W: Output>(
+/// Prints the lines of an entry, and marks it as passed.
+pub fn report_entry<I: Image, W: Output>(
     geometry: &Geometry,
     image: &mut I,
     workspace: &mut Workspace,
@@ -74,19 +77,24 @@ pub fn tell_entry<I: Image, W: Output>(
     entry: &Entry<'_>,
 ) -> Result<(), RunFault>
     requires made { IsFor geometry.now.layout workspace.old }
-    requires volume { geometry.now.layout.size * geometry.now.layout.fsize ≤ (I.device image.old).size }
-    requires windows { HoldWindows geometry.now.layout (I.device image.old).told workspace.old }
+    requires volume { geometry.now.layout.size * geometry.now.layout.fsize
+        ≤ (I.device image.old).size }
+    requires windows { HoldWindows geometry.now.layout (I.device image.old).contents workspace.old }
     requires dir { dir < geometry.now.layout.ncg * geometry.now.layout.ipg }
     requires name { length entry.now.name.now ≤ 255 }
-    ensures image { Reads (I.device image.old) (I.device image.new) result }
-    ensures text { TellsOf (KnowsPath geometry.now.layout (I.device image.old).told workspace.old dir path.now)
-        (λ b. map of_names (marks.seen_told (volume_of geometry.now.layout b) dir (marks_of workspace.old) (record { role = role; entry = seen_entry entry.now })))
+    ensures image { ImageAfter (I.device image.old) (I.device image.new) result }
+    ensures text { PhaseReports (KnowsPath geometry.now.layout (I.device image.old).contents
+        workspace.old dir path.now)
+        (λ b. map of_names (marks.roled_reported (volume_of geometry.now.layout b) dir
+        (marks_of workspace.old) (record { role = role; entry = entry_value entry.now })))
         (progress W.sink report.old) (progress W.sink report.new) result }
-    ensures marks { OnOk result (Where (Knows geometry.now.layout (I.device image.old).told workspace.old dir) (λ b.
-        marks.after_seen (volume_of geometry.now.layout b) dir (marks_of workspace.old) (record { role = role; entry = seen_entry entry.now }) ≡ marks_of workspace.new)) }
+    ensures marks { OnOk result (ForBytes
+        (DirectoryContext geometry.now.layout (I.device image.old).contents workspace.old dir) (λ b.
+        marks.after_roled (volume_of geometry.now.layout b) dir (marks_of workspace.old)
+        (record { role = role; entry = entry_value entry.now }) ≡ marks_of workspace.new)) }
     ensures survey { LeavesSurvey workspace.old workspace.new }
     ensures made { IsFor geometry.now.layout workspace.new }
-    ensures windows { HoldWindows geometry.now.layout (I.device image.new).told workspace.new }
+    ensures windows { HoldWindows geometry.now.layout (I.device image.new).contents workspace.new }
 {
     say_entry(geometry, image, workspace, report, dir, path, role, entry)?;
     let inodes = Inodes {
@@ -114,8 +122,8 @@ fn name_length(chunk: &[u8; 512], place: usize) -> u8
     chunk[place + 7]
 }
 
-/// Tells what is told of the entries of a chunk, and passes them; `first` says that it stands at the start of the file.
-pub fn tell_chunk<I: Image, W: Output>(
+/// Prints the lines of the entries of a chunk, and marks them as passed; `first` says that it is at the start of the file.
+pub fn report_chunk<I: Image, W: Output>(
     geometry: &Geometry,
     image: &mut I,
     workspace: &mut Workspace,
@@ -126,18 +134,25 @@ pub fn tell_chunk<I: Image, W: Output>(
     chunk: &[u8; 512],
 ) -> Result<(), RunFault>
     requires made { IsFor geometry.now.layout workspace.old }
-    requires volume { geometry.now.layout.size * geometry.now.layout.fsize ≤ (I.device image.old).size }
-    requires windows { HoldWindows geometry.now.layout (I.device image.old).told workspace.old }
+    requires volume { geometry.now.layout.size * geometry.now.layout.fsize
+        ≤ (I.device image.old).size }
+    requires windows { HoldWindows geometry.now.layout (I.device image.old).contents workspace.old }
     requires dir { dir < geometry.now.layout.ncg * geometry.now.layout.ipg }
-    ensures image { Reads (I.device image.old) (I.device image.new) result }
-    ensures text { TellsOf (KnowsPath geometry.now.layout (I.device image.old).told workspace.old dir path.now)
-        (λ b. map of_names (marks.entries_told (volume_of geometry.now.layout b) dir (marks_of workspace.old) (seen_from first 0 (entries_of geometry.now.layout.order chunk.now))))
+    ensures image { ImageAfter (I.device image.old) (I.device image.new) result }
+    ensures text { PhaseReports (KnowsPath geometry.now.layout (I.device image.old).contents
+        workspace.old dir path.now)
+        (λ b. map of_names (marks.entries_reported (volume_of geometry.now.layout b) dir
+        (marks_of workspace.old) (roled_from first 0
+        (entries_of geometry.now.layout.order chunk.now))))
         (progress W.sink report.old) (progress W.sink report.new) result }
-    ensures marks { OnOk result (Where (Knows geometry.now.layout (I.device image.old).told workspace.old dir) (λ b.
-        marks.after_entries (volume_of geometry.now.layout b) dir (marks_of workspace.old) (seen_from first 0 (entries_of geometry.now.layout.order chunk.now)) ≡ marks_of workspace.new)) }
+    ensures marks { OnOk result (ForBytes
+        (DirectoryContext geometry.now.layout (I.device image.old).contents workspace.old dir) (λ b.
+        marks.after_entries (volume_of geometry.now.layout b) dir (marks_of workspace.old)
+        (roled_from first 0 (entries_of geometry.now.layout.order chunk.now))
+        ≡ marks_of workspace.new)) }
     ensures survey { LeavesSurvey workspace.old workspace.new }
     ensures made { IsFor geometry.now.layout workspace.new }
-    ensures windows { HoldWindows geometry.now.layout (I.device image.new).told workspace.new }
+    ensures windows { HoldWindows geometry.now.layout (I.device image.new).contents workspace.new }
 {
     let order = geometry.layout.order;
     let mut place = 0usize;
@@ -145,7 +160,7 @@ pub fn tell_chunk<I: Image, W: Output>(
     'entries: while let Some(entry) = entry_at(order, chunk, place) {
         let role = role_of(first, index, &entry);
         name_length(chunk, place);
-        tell_entry(geometry, image, workspace, report, dir, path, role, &entry)?;
+        report_entry(geometry, image, workspace, report, dir, path, role, &entry)?;
         place += usize::from(entry.length);
         index += 1;
     }

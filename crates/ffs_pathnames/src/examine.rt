@@ -1,8 +1,8 @@
-// What is found of a directory before anything is told of it.
+// What is found of a directory before anything is reported of it.
 ghost use Rattle.std.specs.Prelude.{◌≡◌, ◌*◌, ◌<◌, ◌≤◌, ◌==◌, ℕ, List, true, Some, length, vec_len, Option, IfOk, OnOk, IfErr};
 ghost use Rattle.ffs_image.specs.Device.{Faulted};
-ghost use Rattle.ffs_volume.specs.Roles.{is_dir};
-ghost use Rattle.ffs_volume.specs.Volumes.{volume_of};
+ghost use Rattle.ffs_volume.specs.Directories.Roles.{is_dir};
+ghost use Rattle.ffs_volume.specs.Directories.Volumes.{volume_of};
 ghost use Rattle.ffs_workspace.specs.Lengths.{IsFor, HoldWindows};
 ghost use Rattle.ffs_workspace.specs.Holds.{HoldsClaims, HoldsSurvey};
 ghost use Rattle.ffs_pathnames.specs.Examines.{LeavesQueue, AreFound};
@@ -17,7 +17,7 @@ use ffs_workspace::Workspace;
 
 /// A directory's inode, whether a hole of it is kept, and what a first look at its chunks finds.
 #[derive(Clone, Copy, Debug)]
-pub struct Examined {
+pub struct DirectorySummary {
     pub inode: Inode,
     pub gap: bool,
     pub found: Found,
@@ -30,19 +30,24 @@ pub fn examine<I: Image>(
     workspace: &mut Workspace,
     dir: u32,
     start: &mut [u8; 512],
-) -> Result<Examined, ImageFault>
+) -> Result<DirectorySummary, ImageFault>
     requires made { IsFor geometry.now.layout workspace.old }
-    requires volume { geometry.now.layout.size * geometry.now.layout.fsize ≤ (I.device image.old).size }
-    requires windows { HoldWindows geometry.now.layout (I.device image.old).told workspace.old }
+    requires volume { geometry.now.layout.size * geometry.now.layout.fsize
+        ≤ (I.device image.old).size }
+    requires windows { HoldWindows geometry.now.layout (I.device image.old).contents workspace.old }
     requires number { dir < geometry.now.layout.ncg * geometry.now.layout.ipg }
     requires dir { 2 ≤ dir }
-    ensures found { IfOk result (λ e. (b : List ℕ) → (I.device image.old).told ≡ Some b → HoldsClaims geometry.now.layout b workspace.old → HoldsSurvey geometry.now.layout b workspace.old →
-        is_dir (volume_of geometry.now.layout b) dir ≡ true → AreFound geometry.now.layout b dir workspace.old e workspace.new start.new) }
+    ensures found { IfOk result (λ e. (b : List ℕ) → (I.device image.old).contents ≡ Some b
+        → HoldsClaims geometry.now.layout b workspace.old
+        → HoldsSurvey geometry.now.layout b workspace.old →
+        is_dir (volume_of geometry.now.layout b) dir ≡ true
+        → AreFound geometry.now.layout b dir workspace.old e workspace.new start.new) }
     ensures lists { LeavesQueue workspace.old workspace.new }
     ensures made { IsFor geometry.now.layout workspace.new }
-    ensures windows { HoldWindows geometry.now.layout (I.device image.new).told workspace.new }
+    ensures windows { HoldWindows geometry.now.layout (I.device image.new).contents workspace.new }
     ensures ok { OnOk result (I.device image.new ≡ I.device image.old) }
-    ensures err { IfErr result (λ fault. Faulted (I.device image.old) (I.device image.new) fault.sector) }
+    ensures err { IfErr result (λ fault. Faulted (I.device image.old) (I.device image.new)
+        fault.sector) }
 {
     let inode = workspace.windows.table.inode(geometry, dir, image)?;
     let cut = workspace.cut[dir as usize];
@@ -64,5 +69,5 @@ pub fn examine<I: Image>(
         cut,
         start,
     )?;
-    Ok(Examined { inode, gap, found })
+    Ok(DirectorySummary { inode, gap, found })
 }

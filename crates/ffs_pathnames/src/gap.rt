@@ -1,9 +1,9 @@
 // Whether a hole of a directory is kept.
 ghost use Rattle.std.specs.Prelude.{◌≡◌, ◌*◌, ◌≤◌, ◌+◌, vec_len, Option, IfOk, OnOk, IfErr, true, ℕ, List};
-ghost use Rattle.ffs_image.specs.Device.{Faulted, WhereTold};
-ghost use Rattle.ffs_volume.specs.Directory.{has_gap};
-ghost use Rattle.ffs_volume.specs.Steps.{steps_of};
-ghost use Rattle.ffs_volume.specs.Replay.{fresh_replay, replayed_steps};
+ghost use Rattle.ffs_image.specs.Device.{Faulted, ForContents};
+ghost use Rattle.ffs_volume.specs.Directories.Entries.{has_gap};
+ghost use Rattle.ffs_volume.specs.Blocks.Steps.{steps_of};
+ghost use Rattle.ffs_volume.specs.Encodings.Replay.{fresh_replay, replayed_steps};
 ghost use Rattle.ffs_walk.specs.Windows.{BlocksHold, HasRoom};
 
 use ffs_image::{Image, ImageFault};
@@ -20,19 +20,22 @@ pub fn gap_of<I: Image>(
     inode: &Inode,
     cut: u32,
 ) -> Result<bool, ImageFault>
-    requires volume { geometry.now.layout.size * geometry.now.layout.fsize ≤ (I.device image.old).size }
+    requires volume { geometry.now.layout.size * geometry.now.layout.fsize
+        ≤ (I.device image.old).size }
     requires room { HasRoom geometry.now.layout blocks.old }
-    requires holds { BlocksHold geometry.now.layout (I.device image.old).told blocks.old }
-    ensures gap { IfOk result (λ g. WhereTold (I.device image.old).told (λ b.
-        g ≡ has_gap (replayed_steps geometry.now.layout cut fresh_replay (steps_of geometry.now.layout inode.now b)))) }
+    requires holds { BlocksHold geometry.now.layout (I.device image.old).contents blocks.old }
+    ensures gap { IfOk result (λ g. ForContents (I.device image.old).contents (λ b.
+        g ≡ has_gap (replayed_steps geometry.now.layout cut fresh_replay
+        (steps_of geometry.now.layout inode.now b)))) }
     ensures size { vec_len blocks.new.buffer ≡ vec_len blocks.old.buffer }
-    ensures holds { BlocksHold geometry.now.layout (I.device image.new).told blocks.new }
+    ensures holds { BlocksHold geometry.now.layout (I.device image.new).contents blocks.new }
     ensures ok { OnOk result (I.device image.new ≡ I.device image.old) }
-    ensures err { IfErr result (λ fault. Faulted (I.device image.old) (I.device image.new) fault.sector) }
+    ensures err { IfErr result (λ fault. Faulted (I.device image.old) (I.device image.new)
+        fault.sector) }
 {
     let mut walk = Walk::start(geometry, inode);
     let mut keeping = Keeping::start(cut);
-    'steps: while keeping.is_seen() {
+    'steps: while keeping.is_replay_open() {
         match walk.next(image, blocks)? {
             None => return Ok(false),
             Some(

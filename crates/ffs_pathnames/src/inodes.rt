@@ -14,7 +14,7 @@ pub struct Inodes<'a> {
 
 impl<'a> Inodes<'a> {
     ghost use Rattle.ffs_volume.specs.declared.Role.{Role};
-    ghost use Rattle.ffs_volume.specs.Kinds.{is_dir_kind, is_empty_dir_kind, is_allocated_kind, is_unknown_kind, type_of_kind};
+    ghost use Rattle.ffs_volume.specs.Encodings.Kinds.{is_dir_kind, is_empty_dir_kind, is_allocated_kind, is_unknown_kind, type_of_kind};
     ghost use Rattle.ffs_workspace.specs.Holds.{bool_at};
 
     /// How many inodes there are.
@@ -36,7 +36,8 @@ impl<'a> Inodes<'a> {
     /// Whether the inode is marked, or a directory of size 0.
     pub fn is_suspect(&self, inode: u32) -> bool
         requires { inode < length self.now.kinds.now }
-        ensures { result ≡ (bool_at self.now.marked.now inode || is_empty_dir_kind (slice_index self.now.kinds.now inode)) }
+        ensures { result ≡ (bool_at self.now.marked.now inode
+            || is_empty_dir_kind (slice_index self.now.kinds.now inode)) }
     {
         self.marked[inode as usize] || self.kinds[inode as usize] == 5
     }
@@ -52,7 +53,8 @@ impl<'a> Inodes<'a> {
     /// Whether the inode has a known type, which isn't this one.
     pub fn is_other_kind(&self, inode: u32, kind: u8) -> bool
         requires { inode < length self.now.kinds.now }
-        ensures { result ≡ (not (is_unknown_kind (slice_index self.now.kinds.now inode)) && not (kind == type_of_kind (slice_index self.now.kinds.now inode))) }
+        ensures { result ≡ (not (is_unknown_kind (slice_index self.now.kinds.now inode))
+            && not (kind == type_of_kind (slice_index self.now.kinds.now inode))) }
     {
         let own = self.kinds[inode as usize];
         if own == 15 {
@@ -64,7 +66,8 @@ impl<'a> Inodes<'a> {
     /// Whether the inode is a directory other than the root, with this parent.
     pub fn belongs(&self, inode: u32, parent: u32) -> bool
         requires { inode < length self.now.kinds.now }
-        ensures { result ≡ (is_dir_kind (slice_index self.now.kinds.now inode) && (not (inode == 2) && slice_index self.now.parents.now inode == parent)) }
+        ensures { result ≡ (is_dir_kind (slice_index self.now.kinds.now inode)
+            && (not (inode == 2) && slice_index self.now.parents.now inode == parent)) }
     {
         self.is_dir(inode) && inode != 2 && self.parents[inode as usize] == parent
     }

@@ -1,16 +1,17 @@
-// What a plain entry comes to.
+// The verdict on a plain entry.
 ghost use Rattle.std.specs.Prelude.{◌≡◌, ◌<◌, ◌≤◌, ◌==◌, ◌&&◌, ◌||◌, not, length, slice_index, IsTrue, true};
-ghost use Rattle.ffs_volume.specs.Roles.{Volume, is_dir, is_suspect, is_allocated};
+ghost use Rattle.ffs_volume.specs.Blocks.Inodes.{is_allocated};
+ghost use Rattle.ffs_volume.specs.Directories.Roles.{Volume, is_dir, is_suspect};
 ghost use Rattle.ffs_volume.specs.declared.Role.{Role};
-ghost use Rattle.ffs_volume.specs.PathnameCheck.{attributes, label_of, is_other_kind};
-ghost use Rattle.ffs_volume.specs.Parents.{graph_of};
-ghost use Rattle.ffs_volume.specs.Paths.{dir_path, entry_path};
-ghost use Rattle.ffs_layout.specs.Entry.{seen_entry};
-ghost use Rattle.ffs_volume.specs.Kinds.{class_of_kind};
+ghost use Rattle.ffs_volume.specs.Directories.PathnameCheck.{attributes, label_of, is_other_kind};
+ghost use Rattle.ffs_volume.specs.Directories.Parents.{graph_of};
+ghost use Rattle.ffs_volume.specs.Directories.Paths.{dir_path, entry_path};
+ghost use Rattle.ffs_layout.specs.Entry.{entry_value};
+ghost use Rattle.ffs_volume.specs.Encodings.Kinds.{class_of_kind};
 ghost use Rattle.ffs_pathnames.specs.Gathers.{asks_attr, asks_path};
 ghost use Rattle.ffs_pathnames.specs.Marks as marks;
 ghost use Rattle.ffs_pathnames.specs.Sees.{Sees};
-ghost use Rattle.ffs_pathnames.specs.Verdicts.{verdict_told, faults_told};
+ghost use Rattle.ffs_pathnames.specs.Verdicts.{verdict_reported, faults_reported};
 
 use crate::inodes::Inodes;
 use crate::look::is_bad_whiteout;
@@ -28,7 +29,7 @@ pub struct Faults {
     pub label: Label,
 }
 
-/// What a plain entry comes to.
+/// The verdict on a plain entry.
 #[derive(Clone, Copy, Debug, PartialEq, Eq)]
 pub enum Verdict {
     OutOfRange,
@@ -60,11 +61,21 @@ fn faults_of(
     requires inode { entry.now.number < length inodes.now.kinds.now }
     requires passed { length passed.now ≡ length inodes.now.kinds.now }
     requires stamps { length stamps.now ≡ length inodes.now.kinds.now }
-    ensures suspect { (v : Volume) → Sees v inodes.now → result.suspect ≡ (is_suspect v entry.now.number && (not (entry.now.number == 2) && not (marks.is_passed (record { passed = passed.now; stamps = stamps.now }) entry.now.number))) }
+    ensures suspect { (v : Volume) → Sees v inodes.now → result.suspect
+        ≡ (is_suspect v entry.now.number
+        && (not (entry.now.number == 2)
+        && not (marks.is_passed (record { passed = passed.now; stamps = stamps.now })
+        entry.now.number))) }
     ensures marked { (v : Volume) → Sees v inodes.now → result.marked ≡ v.marked entry.now.number }
-    ensures extraneous { (v : Volume) → Sees v inodes.now → result.extraneous ≡ (is_dir v entry.now.number && not (marks.is_due dir (record { passed = passed.now; stamps = stamps.now }) entry.now.number)) }
-    ensures kind { (v : Volume) → Sees v inodes.now → IsTrue (is_allocated (v.class entry.now.number)) → result.kind ≡ is_other_kind v (seen_entry entry.now) }
-    ensures label { (v : Volume) → Sees v inodes.now → IsTrue (is_allocated (v.class entry.now.number)) → result.label ≡ label_of (v.class entry.now.number) }
+    ensures extraneous { (v : Volume) → Sees v inodes.now → result.extraneous
+        ≡ (is_dir v entry.now.number && not
+        (marks.is_due dir (record { passed = passed.now; stamps = stamps.now }) entry.now.number)) }
+    ensures kind { (v : Volume) → Sees v inodes.now
+        → IsTrue (is_allocated (v.class entry.now.number)) → result.kind
+        ≡ is_other_kind v (entry_value entry.now) }
+    ensures label { (v : Volume) → Sees v inodes.now
+        → IsTrue (is_allocated (v.class entry.now.number)) → result.label
+        ≡ label_of (v.class entry.now.number) }
 {
     let index = entry.number as usize;
     let suspect = inodes.is_suspect(entry.number) && entry.number != 2 && !passed[index];
@@ -78,7 +89,7 @@ fn faults_of(
     }
 }
 
-/// What a plain entry of a directory comes to.
+/// The verdict on a plain entry of a directory.
 pub fn judge(
     inodes: &Inodes<'_>,
     dir: u32,
@@ -89,10 +100,13 @@ pub fn judge(
     requires passed { length passed.now ≡ length inodes.now.kinds.now }
     requires stamps { length stamps.now ≡ length inodes.now.kinds.now }
     ensures below { IsTrue (asks_attr result) → entry.now.number < length inodes.now.kinds.now }
-    ensures linked { (v : Volume) → Sees v inodes.now → IsTrue (asks_path result) → is_dir v entry.now.number ≡ true }
+    ensures linked { (v : Volume) → Sees v inodes.now → IsTrue (asks_path result)
+        → is_dir v entry.now.number ≡ true }
     ensures told { (v : Volume) → Sees v inodes.now →
-        marks.plain_told v dir (record { passed = passed.now; stamps = stamps.now }) (seen_entry entry.now)
-        ≡ verdict_told result entry.now.number (attributes v entry.now.number) (entry_path (graph_of v) dir entry.now.name.now) (dir_path (graph_of v) entry.now.number) }
+        marks.plain_reported v dir (record { passed = passed.now; stamps = stamps.now })
+        (entry_value entry.now)
+        ≡ verdict_reported result entry.now.number (attributes v entry.now.number)
+        (entry_path (graph_of v) dir entry.now.name.now) (dir_path (graph_of v) entry.now.number) }
 {
     if entry.number >= inodes.count() {
         return Verdict::OutOfRange;
@@ -121,7 +135,8 @@ pub fn pass(
     requires passed { length passed.old ≡ length inodes.now.kinds.now }
     requires stamps { length stamps.old ≡ length inodes.now.kinds.now }
     ensures { (v : Volume) → Sees v inodes.now →
-        marks.after_seen v dir (record { passed = passed.old; stamps = stamps.old }) (record { role = role; entry = seen_entry entry.now })
+        marks.after_roled v dir (record { passed = passed.old; stamps = stamps.old })
+        (record { role = role; entry = entry_value entry.now })
         ≡ record { passed = passed.new; stamps = stamps.new } }
 {
     if role != Role::Plain {

@@ -1,11 +1,11 @@
-// A first look at the entries of a directory: whether anything may be told of them.
+// A first look at the entries of a directory: whether anything may be reported of them.
 ghost use Rattle.std.specs.Prelude.{◌≡◌, ◌+◌, ◌<◌, ◌≤◌, ◌==◌, ◌&&◌, ◌||◌, not, length, slice_index, true, IsTrue};
 ghost use Rattle.ffs_volume.specs.declared.Role.{Role};
-ghost use Rattle.ffs_volume.specs.Roles.{Volume, is_dir, seen_from};
-ghost use Rattle.ffs_volume.specs.Directory.{entries_of, is_sound};
+ghost use Rattle.ffs_volume.specs.Directories.Roles.{Volume, is_dir, roled_from};
+ghost use Rattle.ffs_volume.specs.Directories.Entries.{entries_of, is_sound};
 ghost use Rattle.ffs_volume.specs.declared.Order.{Order};
-ghost use Rattle.ffs_volume.specs.PathnameCheck.{is_bad_whiteout};
-ghost use Rattle.ffs_layout.specs.Entry.{seen_entry};
+ghost use Rattle.ffs_volume.specs.Directories.PathnameCheck.{is_bad_whiteout};
+ghost use Rattle.ffs_layout.specs.Entry.{entry_value};
 ghost use Rattle.ffs_pathnames.specs.Marks as marks;
 ghost use Rattle.ffs_pathnames.specs.Sees.{Sees};
 
@@ -16,7 +16,7 @@ use ffs_volume::{Order, Role};
 
 /// Whether an entry has the number or the type of a whiteout, and not both.
 pub fn is_bad_whiteout(entry: &Entry<'_>) -> bool
-    ensures { result ≡ is_bad_whiteout (seen_entry entry.now) }
+    ensures { result ≡ is_bad_whiteout (entry_value entry.now) }
 {
     (entry.number == 1 && entry.kind != 14) || (entry.kind == 14 && entry.number != 1)
 }
@@ -26,17 +26,20 @@ fn is_quiet_link(inodes: &Inodes<'_>, dir: u32, stamps: &[u32], inode: u32) -> b
     requires inode { inode < length inodes.now.kinds.now }
     requires stamps { length stamps.now ≡ length inodes.now.kinds.now }
     requires dir { 2 ≤ dir }
-    ensures { (v : Volume) → Sees v inodes.now → result ≡ (not (is_dir v inode) || (marks.belongs v dir inode && not (slice_index stamps.now inode == dir))) }
+    ensures { (v : Volume) → Sees v inodes.now → result
+        ≡ (not (is_dir v inode) || (marks.belongs v dir inode
+        && not (slice_index stamps.now inode == dir))) }
 {
     !inodes.is_dir(inode) || (inodes.belongs(inode, dir) && stamps[inode as usize] != dir)
 }
 
-/// Whether nothing is told of an inode that a plain entry names.
+/// Whether nothing is reported of an inode that a plain entry names.
 fn is_quiet_inode(inodes: &Inodes<'_>, dir: u32, stamps: &[u32], entry: &Entry<'_>) -> bool
     requires inode { entry.now.number < length inodes.now.kinds.now }
     requires stamps { length stamps.now ≡ length inodes.now.kinds.now }
     requires dir { 2 ≤ dir }
-    ensures { (v : Volume) → Sees v inodes.now → result ≡ marks.is_inode_quiet v dir stamps.now (seen_entry entry.now) }
+    ensures { (v : Volume) → Sees v inodes.now → result
+        ≡ marks.is_inode_quiet v dir stamps.now (entry_value entry.now) }
 {
     if !inodes.is_allocated(entry.number) {
         return false;
@@ -50,11 +53,12 @@ fn is_quiet_inode(inodes: &Inodes<'_>, dir: u32, stamps: &[u32], entry: &Entry<'
     !inodes.is_other_kind(entry.number, entry.kind)
 }
 
-/// Whether nothing is told of a plain entry.
+/// Whether nothing is reported of a plain entry.
 fn is_quiet_plain(inodes: &Inodes<'_>, dir: u32, stamps: &[u32], entry: &Entry<'_>) -> bool
     requires stamps { length stamps.now ≡ length inodes.now.kinds.now }
     requires dir { 2 ≤ dir }
-    ensures { (v : Volume) → Sees v inodes.now → result ≡ marks.is_plain_quiet v dir stamps.now (seen_entry entry.now) }
+    ensures { (v : Volume) → Sees v inodes.now → result
+        ≡ marks.is_plain_quiet v dir stamps.now (entry_value entry.now) }
 {
     if entry.number >= inodes.count() {
         return false;
@@ -65,7 +69,7 @@ fn is_quiet_plain(inodes: &Inodes<'_>, dir: u32, stamps: &[u32], entry: &Entry<'
     entry.number == 1 || is_quiet_inode(inodes, dir, stamps, entry)
 }
 
-/// Whether nothing is told of an entry.
+/// Whether nothing is reported of an entry.
 #[tactic(auto, unfolding(crate::specs::Marks::is_quiet))]
 pub fn is_quiet(
     inodes: &Inodes<'_>,
@@ -76,7 +80,8 @@ pub fn is_quiet(
 ) -> bool
     requires stamps { length stamps.now ≡ length inodes.now.kinds.now }
     requires dir { 2 ≤ dir }
-    ensures { (v : Volume) → Sees v inodes.now → result ≡ marks.is_quiet v dir stamps.now (record { role = role; entry = seen_entry entry.now }) }
+    ensures { (v : Volume) → Sees v inodes.now → result
+        ≡ marks.is_quiet v dir stamps.now (record { role = role; entry = entry_value entry.now }) }
 {
     match role {
         Role::Empty | Role::Dot | Role::Dotdot => true,
@@ -89,7 +94,9 @@ pub fn is_quiet(
 pub fn stamp(inodes: &Inodes<'_>, dir: u32, stamps: &mut [u32], role: Role, entry: &Entry<'_>)
     requires stamps { length stamps.old ≡ length inodes.now.kinds.now }
     requires dir { 2 ≤ dir }
-    ensures { (v : Volume) → Sees v inodes.now → stamps.new ≡ marks.after_look v dir stamps.old (record { role = role; entry = seen_entry entry.now }) }
+    ensures { (v : Volume) → Sees v inodes.now → stamps.new
+        ≡ marks.after_look v dir stamps.old
+        (record { role = role; entry = entry_value entry.now }) }
 {
     if role != Role::Plain {
         return;
@@ -102,12 +109,15 @@ pub fn stamp(inodes: &Inodes<'_>, dir: u32, stamps: &mut [u32], role: Role, entr
     }
 }
 
-/// Looks at an entry: whether nothing is told of it, and the stamp of the inode that it names.
+/// Looks at an entry: whether nothing is reported of it, and the stamp of the inode that it names.
 fn look_at(inodes: &Inodes<'_>, dir: u32, stamps: &mut [u32], role: Role, entry: &Entry<'_>) -> bool
     requires stamps { length stamps.old ≡ length inodes.now.kinds.now }
     requires dir { 2 ≤ dir }
-    ensures quiet { (v : Volume) → Sees v inodes.now → result ≡ marks.is_quiet v dir stamps.old (record { role = role; entry = seen_entry entry.now }) }
-    ensures stamps { (v : Volume) → Sees v inodes.now → stamps.new ≡ marks.after_look v dir stamps.old (record { role = role; entry = seen_entry entry.now }) }
+    ensures quiet { (v : Volume) → Sees v inodes.now → result
+        ≡ marks.is_quiet v dir stamps.old (record { role = role; entry = entry_value entry.now }) }
+    ensures stamps { (v : Volume) → Sees v inodes.now → stamps.new
+        ≡ marks.after_look v dir stamps.old
+        (record { role = role; entry = entry_value entry.now }) }
 {
     let quiet = is_quiet(inodes, dir, stamps, role, entry);
     stamp(inodes, dir, stamps, role, entry);
@@ -120,14 +130,14 @@ pub fn both(a: bool, b: bool) -> bool
     a && b
 }
 
-/// What a look at the entries of a chunk finds: whether nothing may be told of them, and whether they fill the chunk.
+/// What a look at the entries of a chunk finds: whether nothing may be reported of them, and whether they fill the chunk.
 #[derive(Clone, Copy, Debug)]
-pub struct Looked {
+pub struct EntriesSummary {
     pub quiet: bool,
     pub sound: bool,
 }
 
-/// Looks at the entries of a chunk; `first` says that it stands at the start of the file.
+/// Looks at the entries of a chunk; `first` says that it is at the start of the file.
 pub fn look_chunk(
     inodes: &Inodes<'_>,
     dir: u32,
@@ -135,11 +145,13 @@ pub fn look_chunk(
     first: bool,
     chunk: &[u8; 512],
     stamps: &mut [u32],
-) -> Looked
+) -> EntriesSummary
     requires stamps { length stamps.old ≡ length inodes.now.kinds.now }
     requires dir { 2 ≤ dir }
-    ensures quiet { (v : Volume) → Sees v inodes.now → result.quiet ≡ marks.are_quiet v dir stamps.old (seen_from first 0 (entries_of order chunk.now)) }
-    ensures stamps { (v : Volume) → Sees v inodes.now → stamps.new ≡ marks.after_looks v dir stamps.old (seen_from first 0 (entries_of order chunk.now)) }
+    ensures quiet { (v : Volume) → Sees v inodes.now → result.quiet
+        ≡ marks.are_quiet v dir stamps.old (roled_from first 0 (entries_of order chunk.now)) }
+    ensures stamps { (v : Volume) → Sees v inodes.now → stamps.new
+        ≡ marks.after_looks v dir stamps.old (roled_from first 0 (entries_of order chunk.now)) }
     ensures sound { result.sound ≡ is_sound order chunk.now }
 {
     let mut place = 0usize;
@@ -152,7 +164,7 @@ pub fn look_chunk(
         place += usize::from(entry.length);
         index += 1;
     }
-    Looked {
+    EntriesSummary {
         quiet,
         sound: place == 512,
     }

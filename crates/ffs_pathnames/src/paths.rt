@@ -1,8 +1,8 @@
 // Paths of entries and of directories.
 ghost use Rattle.std.specs.Prelude.{◌≡◌, ◌*◌, ◌<◌, ◌≤◌, ℕ, List, Some, Option, IfOk, OnOk, IfErr, IfSome, option_map, length};
 ghost use Rattle.ffs_image.specs.Device.{Faulted};
-ghost use Rattle.ffs_volume.specs.Parents.{graph_of};
-ghost use Rattle.ffs_volume.specs.Volumes.{volume_of};
+ghost use Rattle.ffs_volume.specs.Directories.Parents.{graph_of};
+ghost use Rattle.ffs_volume.specs.Directories.Volumes.{volume_of};
 ghost use Rattle.ffs_workspace.specs.Lengths.{IsFor, HoldWindows};
 ghost use Rattle.ffs_workspace.specs.Holds.{HoldsClaims, HoldsSurvey};
 ghost use Rattle.ffs_pathnames.specs.Examines.{LeavesMarks};
@@ -24,17 +24,22 @@ pub fn path_text<I: Image>(
     text: &mut PathText,
 ) -> Result<(), ImageFault>
     requires made { IsFor geometry.now.layout workspace.old }
-    requires volume { geometry.now.layout.size * geometry.now.layout.fsize ≤ (I.device image.old).size }
-    requires windows { HoldWindows geometry.now.layout (I.device image.old).told workspace.old }
+    requires volume { geometry.now.layout.size * geometry.now.layout.fsize
+        ≤ (I.device image.old).size }
+    requires windows { HoldWindows geometry.now.layout (I.device image.old).contents workspace.old }
     requires number { dir < geometry.now.layout.ncg * geometry.now.layout.ipg }
     requires name { IfSome name (λ n. length n.now ≤ 255) }
-    ensures path { OnOk result ((b : List ℕ) → (I.device image.old).told ≡ Some b → HoldsClaims geometry.now.layout b workspace.old → HoldsSurvey geometry.now.layout b workspace.old →
-        text.new.items ≡ path_in (graph_of (volume_of geometry.now.layout b)) dir (option_map (λ n. n.now) name.entry)) }
+    ensures path { OnOk result ((b : List ℕ) → (I.device image.old).contents ≡ Some b
+        → HoldsClaims geometry.now.layout b workspace.old
+        → HoldsSurvey geometry.now.layout b workspace.old →
+        text.new.items ≡ path_in (graph_of (volume_of geometry.now.layout b)) dir
+        (option_map (λ n. n.now) name.entry)) }
     ensures lists { LeavesMarks workspace.old workspace.new }
     ensures made { IsFor geometry.now.layout workspace.new }
-    ensures windows { HoldWindows geometry.now.layout (I.device image.new).told workspace.new }
+    ensures windows { HoldWindows geometry.now.layout (I.device image.new).contents workspace.new }
     ensures ok { OnOk result (I.device image.new ≡ I.device image.old) }
-    ensures err { IfErr result (λ fault. Faulted (I.device image.old) (I.device image.new) fault.sector) }
+    ensures err { IfErr result (λ fault. Faulted (I.device image.old) (I.device image.new)
+        fault.sector) }
 {
     path_of(geometry, image, workspace, dir, name, text)
 }
@@ -47,16 +52,20 @@ pub fn own_path<I: Image>(
     dir: u32,
 ) -> Result<DirectoryPath, ImageFault>
     requires made { IsFor geometry.now.layout workspace.old }
-    requires volume { geometry.now.layout.size * geometry.now.layout.fsize ≤ (I.device image.old).size }
-    requires windows { HoldWindows geometry.now.layout (I.device image.old).told workspace.old }
+    requires volume { geometry.now.layout.size * geometry.now.layout.fsize
+        ≤ (I.device image.old).size }
+    requires windows { HoldWindows geometry.now.layout (I.device image.old).contents workspace.old }
     requires number { dir < geometry.now.layout.ncg * geometry.now.layout.ipg }
-    ensures path { IfOk result (λ path. (b : List ℕ) → (I.device image.old).told ≡ Some b → HoldsClaims geometry.now.layout b workspace.old → HoldsSurvey geometry.now.layout b workspace.old →
+    ensures path { IfOk result (λ path. (b : List ℕ) → (I.device image.old).contents ≡ Some b
+        → HoldsClaims geometry.now.layout b workspace.old
+        → HoldsSurvey geometry.now.layout b workspace.old →
         IsPathOf (graph_of (volume_of geometry.now.layout b)) dir path) }
     ensures lists { LeavesMarks workspace.old workspace.new }
     ensures made { IsFor geometry.now.layout workspace.new }
-    ensures windows { HoldWindows geometry.now.layout (I.device image.new).told workspace.new }
+    ensures windows { HoldWindows geometry.now.layout (I.device image.new).contents workspace.new }
     ensures ok { OnOk result (I.device image.new ≡ I.device image.old) }
-    ensures err { IfErr result (λ fault. Faulted (I.device image.old) (I.device image.new) fault.sector) }
+    ensures err { IfErr result (λ fault. Faulted (I.device image.old) (I.device image.new)
+        fault.sector) }
 {
     directory_path(geometry, image, workspace, dir)
 }

@@ -1,13 +1,13 @@
 //! Phase 2: pathnames (fsck(8)).
 
 ghost use Rattle.std.specs.Prelude.{◌≡◌, ◌*◌, ◌≤◌, ◌∷◌, ℕ, List, Bool, true, false, OnOk, IfOk, map};
-ghost use Rattle.ffs_phase.specs.Known.{Tells, Where};
-ghost use Rattle.ffs_phase.specs.Runs.{Reads, TellsOf};
+ghost use Rattle.ffs_phase.specs.Known.{IsContents, ForBytes};
+ghost use Rattle.ffs_phase.specs.Runs.{ImageAfter, PhaseReports};
 ghost use Rattle.ffs_report.specs.Progress.{progress};
-ghost use Rattle.ffs_volume.specs.Messages as messages;
-ghost use Rattle.ffs_volume.specs.Messages.{of_names};
-ghost use Rattle.ffs_volume.specs.PathnameCheck.{goes_on, pathname_lines};
-ghost use Rattle.ffs_volume.specs.Volumes.{volume_of};
+ghost use Rattle.ffs_volume.specs.Messages.Kinds as messages;
+ghost use Rattle.ffs_volume.specs.Messages.Kinds.{of_names};
+ghost use Rattle.ffs_volume.specs.Directories.PathnameCheck.{goes_on, pathname_lines};
+ghost use Rattle.ffs_volume.specs.Directories.Volumes.{volume_of};
 ghost use Rattle.ffs_workspace.specs.Holds.{HoldsClaims, HoldsSurvey};
 ghost use Rattle.ffs_workspace.specs.Lengths.{IsFor, HoldWindows};
 ghost use Rattle.ffs_pathnames.specs.GoesOn.{is_go};
@@ -21,17 +21,17 @@ use ffs_phase::RunFault;
 use ffs_report::{Heading, Line, Output, Report};
 use ffs_workspace::Workspace;
 
-/// Whether the run goes on behind the root, or stops there since inode 2 is no directory.
+/// Whether the run continues after the root, or stops there since inode 2 is no directory.
 #[derive(Clone, Copy, Debug, PartialEq, Eq)]
 pub enum Root {
     Go,
     Stop,
 }
 
-/// Surveys the directories, and tells what is told of the root, of each directory and of its entries (fsck(8), phase 2).
+/// Surveys the directories, and prints the lines of the root, of each directory and of its entries (fsck(8), phase 2).
 ///
 /// The text is that of a workspace that holds what the block check found. At `Ok` the workspace holds what the survey
-/// found, and the answer tells whether the run goes on.
+/// found, and the answer says whether the run continues.
 ///
 /// Errors: a read of the image that failed, and a write of the report that failed.
 pub fn phase2<I: Image, W: Output>(
@@ -41,18 +41,25 @@ pub fn phase2<I: Image, W: Output>(
     report: &mut Report<'_, W>,
 ) -> Result<Root, RunFault>
     requires made { IsFor geometry.now.layout workspace.old }
-    requires volume { geometry.now.layout.size * geometry.now.layout.fsize ≤ (I.device image.old).size }
-    requires windows { HoldWindows geometry.now.layout (I.device image.old).told workspace.old }
-    ensures image { Reads (I.device image.old) (I.device image.new) result }
-    ensures text { TellsOf (λ b. Tells (I.device image.old).told b × HoldsClaims geometry.now.layout b workspace.old)
+    requires volume { geometry.now.layout.size * geometry.now.layout.fsize
+        ≤ (I.device image.old).size }
+    requires windows { HoldWindows geometry.now.layout (I.device image.old).contents workspace.old }
+    ensures image { ImageAfter (I.device image.old) (I.device image.new) result }
+    ensures text { PhaseReports (λ b. IsContents (I.device image.old).contents b
+        × HoldsClaims geometry.now.layout b workspace.old)
         (λ b. messages.phase2 ∷ map of_names (pathname_lines (volume_of geometry.now.layout b)))
         (progress W.sink report.old) (progress W.sink report.new) result }
-    ensures goes { IfOk result (λ root. Where (λ b. Tells (I.device image.old).told b × HoldsClaims geometry.now.layout b workspace.old)
+    ensures goes { IfOk result (λ root. ForBytes
+        (λ b. IsContents (I.device image.old).contents b
+        × HoldsClaims geometry.now.layout b workspace.old)
         (λ b. is_go root ≡ goes_on (volume_of geometry.now.layout b))) }
-    ensures holds { OnOk result (Where (λ b. Tells (I.device image.old).told b × HoldsClaims geometry.now.layout b workspace.old)
-        (λ b. HoldsClaims geometry.now.layout b workspace.new × HoldsSurvey geometry.now.layout b workspace.new)) }
+    ensures holds { OnOk result (ForBytes
+        (λ b. IsContents (I.device image.old).contents b
+        × HoldsClaims geometry.now.layout b workspace.old)
+        (λ b. HoldsClaims geometry.now.layout b workspace.new
+        × HoldsSurvey geometry.now.layout b workspace.new)) }
     ensures made { IsFor geometry.now.layout workspace.new }
-    ensures windows { HoldWindows geometry.now.layout (I.device image.new).told workspace.new }
+    ensures windows { HoldWindows geometry.now.layout (I.device image.new).contents workspace.new }
 {
     report.say(&Line::Heading(Heading::Phase2))?;
     survey(geometry, image, workspace)?;

@@ -1,7 +1,7 @@
-// What is told of the root.
+// What is reported of the root.
 ghost use Rattle.std.specs.Prelude.{◌≡◌, ◌||◌};
 ghost use Rattle.ffs_report.specs.Progress.{progress};
-ghost use Rattle.ffs_volume.specs.Kinds.{is_dir_kind, is_empty_dir_kind};
+ghost use Rattle.ffs_volume.specs.Encodings.Kinds.{is_dir_kind, is_empty_dir_kind};
 ghost use Rattle.ffs_pathnames.specs.Before.{root_said};
 ghost use Rattle.ffs_pathnames.specs.GoesOn.{is_go};
 ghost use Rattle.ffs_pathnames.specs.SaysNames.{SaysNames};
@@ -24,20 +24,21 @@ fn is_suspect(kind: u8, marked: bool) -> bool
     marked || kind == 5
 }
 
-/// Whether the run goes on behind a root of this kind.
+/// Whether the run continues after a root of this kind.
 pub fn root_of(kind: u8) -> Root
     ensures { is_go result ≡ is_dir_kind kind }
 {
     if is_dir(kind) { Root::Go } else { Root::Stop }
 }
 
-/// Tells that the root isn't allocated, or no directory, or marked or of size 0.
-pub fn tell_root<W: Output>(
+/// Reports that the root isn't allocated, is no directory, is marked or is of size 0.
+pub fn report_root<W: Output>(
     report: &mut Report<'_, W>,
     kind: u8,
     marked: bool,
 ) -> Result<(), OutFault>
-    ensures { SaysNames (progress W.sink report.old) (progress W.sink report.new) (root_said kind marked) result }
+    ensures { SaysNames (progress W.sink report.old) (progress W.sink report.new)
+        (root_said kind marked) result }
 {
     if kind == 0 {
         return say_line(report, &NameLine::Directory(DirectoryLine::RootNone));

@@ -1,8 +1,8 @@
-// Messages on directories and their entries, told where a test holds.
+// Messages on directories and their entries, reported where a test holds.
 ghost use Rattle.std.specs.Prelude.{◌≡◌, true};
-ghost use Rattle.ffs_volume.specs.Messages.{told};
+ghost use Rattle.ffs_volume.specs.Messages.Kinds.{told};
 ghost use Rattle.ffs_report.specs.Progress.{progress};
-ghost use Rattle.ffs_pathnames.specs.NameLines.{name_message, two_told};
+ghost use Rattle.ffs_pathnames.specs.NameLines.{name_message, two_reported};
 ghost use Rattle.ffs_pathnames.specs.SaysNames.{SaysNames};
 
 use ffs_report::{DirectoryLine, DotLine, EntryLine, Line, OutFault, Output, Report};
@@ -15,7 +15,7 @@ pub enum NameLine<'a> {
     Entry(EntryLine<'a>),
 }
 
-/// A line, and whether it is to be told.
+/// A line, and whether it is to be reported.
 #[derive(Clone, Copy, Debug)]
 pub struct Check<'a> {
     pub holds: bool,
@@ -24,7 +24,8 @@ pub struct Check<'a> {
 
 /// Says a line.
 pub fn say_line<W: Output>(report: &mut Report<'_, W>, line: &NameLine<'_>) -> Result<(), OutFault>
-    ensures { SaysNames (progress W.sink report.old) (progress W.sink report.new) (told true (name_message line.now)) result }
+    ensures { SaysNames (progress W.sink report.old) (progress W.sink report.new)
+        (told true (name_message line.now)) result }
 {
     match *line {
         NameLine::Directory(line) => report.say(&Line::Directory(line)),
@@ -35,7 +36,8 @@ pub fn say_line<W: Output>(report: &mut Report<'_, W>, line: &NameLine<'_>) -> R
 
 /// Says a line where its test holds.
 pub fn say_check<W: Output>(report: &mut Report<'_, W>, check: &Check<'_>) -> Result<(), OutFault>
-    ensures { SaysNames (progress W.sink report.old) (progress W.sink report.new) (told check.now.holds (name_message check.now.line)) result }
+    ensures { SaysNames (progress W.sink report.old) (progress W.sink report.new)
+        (told check.now.holds (name_message check.now.line)) result }
 {
     if check.holds {
         return say_line(report, &check.line);
@@ -49,7 +51,8 @@ pub fn say_two<W: Output>(
     first: &Check<'_>,
     second: &Check<'_>,
 ) -> Result<(), OutFault>
-    ensures { SaysNames (progress W.sink report.old) (progress W.sink report.new) (two_told first.now second.now) result }
+    ensures { SaysNames (progress W.sink report.old) (progress W.sink report.new)
+        (two_reported first.now second.now) result }
 {
     say_check(report, first)?;
     say_check(report, second)

@@ -1,13 +1,13 @@
-// What is told of a directory before its entries.
+// What is reported of a directory before its entries.
 ghost use Rattle.std.specs.Prelude.{◌≡◌, ℕ, List, [], ◌%◌, ◌==◌, ◌&&◌, not, nat_lt, option_map, IsTrue};
 ghost use Rattle.ffs_volume.specs.declared.Attr as attrs;
-ghost use Rattle.ffs_volume.specs.Directory.{is_live};
-ghost use Rattle.ffs_volume.specs.PathnameCheck.{missing_dot_told, missing_dotdot_told, is_other};
-ghost use Rattle.ffs_volume.specs.Roles as roles;
-ghost use Rattle.ffs_layout.specs.Entry.{seen_entry};
+ghost use Rattle.ffs_volume.specs.Directories.Entries.{is_live};
+ghost use Rattle.ffs_volume.specs.Directories.PathnameCheck.{missing_dot_reported, missing_dotdot_reported, is_other};
+ghost use Rattle.ffs_volume.specs.Directories.Roles as roles;
+ghost use Rattle.ffs_layout.specs.Entry.{entry_value};
 ghost use Rattle.ffs_report.specs.Progress.{progress};
 ghost use Rattle.ffs_pathnames.specs.SaysNames.{SaysNames};
-ghost use Rattle.ffs_pathnames.specs.Starts.{size_told, chunks_told, shape_told, there_told, above_told, dot_in, dotdot_in, dot_said, dotdot_said, dots_told, starts_told};
+ghost use Rattle.ffs_pathnames.specs.Starts.{size_reported, chunks_reported, shape_reported, there_reported, above_reported, dot_in, dotdot_in, dot_said, dotdot_said, dots_reported, starts_reported};
 
 use crate::say::{Check, NameLine, say_two};
 use ffs_layout::Entry;
@@ -40,7 +40,8 @@ fn is_short(size: u64) -> bool
 
 /// Says that a directory's size is too short, or no multiple of a chunk.
 fn say_size<W: Output>(report: &mut Report<'_, W>, attr: Attr, path: &[u8]) -> Result<(), OutFault>
-    ensures { SaysNames (progress W.sink report.old) (progress W.sink report.new) (size_told attr path.now) result }
+    ensures { SaysNames (progress W.sink report.old) (progress W.sink report.new)
+        (size_reported attr path.now) result }
 {
     let short = Check {
         holds: is_short(attr.size),
@@ -64,7 +65,8 @@ fn say_chunks<W: Output>(
     gap: bool,
     sound: bool,
 ) -> Result<(), OutFault>
-    ensures { SaysNames (progress W.sink report.old) (progress W.sink report.new) (chunks_told attr path.now gap sound) result }
+    ensures { SaysNames (progress W.sink report.old) (progress W.sink report.new)
+        (chunks_reported attr path.now gap sound) result }
 {
     let empty = Check {
         holds: gap,
@@ -85,7 +87,8 @@ fn say_shape<W: Output>(
     gap: bool,
     sound: bool,
 ) -> Result<(), OutFault>
-    ensures { SaysNames (progress W.sink report.old) (progress W.sink report.new) (shape_told attr path.now gap sound) result }
+    ensures { SaysNames (progress W.sink report.old) (progress W.sink report.new)
+        (shape_reported attr path.now gap sound) result }
 {
     say_size(report, attr, path)?;
     say_chunks(report, attr, path, gap, sound)
@@ -113,7 +116,8 @@ fn say_there<W: Output>(
     path: &[u8],
     entry: &Entry<'_>,
 ) -> Result<(), OutFault>
-    ensures { SaysNames (progress W.sink report.old) (progress W.sink report.new) (there_told attr path.now number (seen_entry entry.now)) result }
+    ensures { SaysNames (progress W.sink report.old) (progress W.sink report.new)
+        (there_reported attr path.now number (entry_value entry.now)) result }
 {
     let other = Check {
         holds: entry.number != number,
@@ -135,7 +139,8 @@ fn say_dot<W: Output>(
     first: Option<Entry<'_>>,
 ) -> Result<(), OutFault>
     ensures { SaysNames (progress W.sink report.old) (progress W.sink report.new)
-        (dot_said attr path.now number (option_map seen_entry first.entry) (dot_in (option_map seen_entry first.entry))) result }
+        (dot_said attr path.now number (option_map entry_value first.entry)
+        (dot_in (option_map entry_value first.entry))) result }
 {
     match first {
         None => report.say(&Line::Dot(DotLine::MissingDot { attr, path })),
@@ -167,7 +172,8 @@ fn say_above<W: Output>(
     path: &[u8],
     entry: &Entry<'_>,
 ) -> Result<(), OutFault>
-    ensures { SaysNames (progress W.sink report.old) (progress W.sink report.new) (above_told attr path.now parent (seen_entry entry.now)) result }
+    ensures { SaysNames (progress W.sink report.old) (progress W.sink report.new)
+        (above_reported attr path.now parent (entry_value entry.now)) result }
 {
     let other = Check {
         holds: is_other(parent, entry.number),
@@ -199,7 +205,8 @@ fn say_dotdot<W: Output>(
     second: Option<Entry<'_>>,
 ) -> Result<(), OutFault>
     ensures { SaysNames (progress W.sink report.old) (progress W.sink report.new)
-        (dotdot_said attr path.now parent (option_map seen_entry second.entry) (dotdot_in (option_map seen_entry second.entry))) result }
+        (dotdot_said attr path.now parent (option_map entry_value second.entry)
+        (dotdot_in (option_map entry_value second.entry))) result }
 {
     match second {
         None => report.say(&Line::Dot(DotLine::MissingDotdot { attr, path })),
@@ -233,14 +240,15 @@ fn say_dots<W: Output>(
     second: Option<Entry<'_>>,
 ) -> Result<(), OutFault>
     ensures { SaysNames (progress W.sink report.old) (progress W.sink report.new)
-        (dots_told attr path.now number parent (option_map seen_entry first.entry) (option_map seen_entry second.entry)) result }
+        (dots_reported attr path.now number parent (option_map entry_value first.entry)
+        (option_map entry_value second.entry)) result }
 {
     say_dot(report, number, attr, path, first)?;
     say_dotdot(report, parent, attr, path, second)
 }
 
-/// Says all that is told of a directory before its entries.
-#[tactic(auto, unfolding(crate::specs::Starts::starts_told))]
+/// Says all lines of a directory that come before those of its entries.
+#[tactic(auto, unfolding(crate::specs::Starts::starts_reported))]
 pub fn say_starts<W: Output>(
     report: &mut Report<'_, W>,
     number: u32,
@@ -250,7 +258,9 @@ pub fn say_starts<W: Output>(
     shape: Shape<'_>,
 ) -> Result<(), OutFault>
     ensures { SaysNames (progress W.sink report.old) (progress W.sink report.new)
-        (starts_told attr path.now number parent shape.entry.gap shape.entry.sound (option_map seen_entry shape.entry.first) (option_map seen_entry shape.entry.second)) result }
+        (starts_reported attr path.now number parent shape.entry.gap shape.entry.sound
+        (option_map entry_value shape.entry.first) (option_map entry_value shape.entry.second))
+        result }
 {
     say_shape(report, attr, path, shape.gap, shape.sound)?;
     say_dots(
@@ -267,7 +277,8 @@ pub fn say_starts<W: Output>(
 /// Whether nothing is wrong with `.`, the first entry.
 fn is_dot_right(number: u32, first: Option<Entry<'_>>) -> bool
     ensures { IsTrue result → (about : attrs.Attr) (path : List ℕ) →
-        dot_said about path number (option_map seen_entry first.entry) (dot_in (option_map seen_entry first.entry)) ≡ [] }
+        dot_said about path number (option_map entry_value first.entry)
+        (dot_in (option_map entry_value first.entry)) ≡ [] }
 {
     match first {
         None => false,
@@ -281,7 +292,8 @@ fn is_dot_right(number: u32, first: Option<Entry<'_>>) -> bool
 /// Whether nothing is wrong with `..`, the second entry.
 fn is_dotdot_right(parent: Option<u32>, second: Option<Entry<'_>>) -> bool
     ensures { IsTrue result → (about : attrs.Attr) (path : List ℕ) →
-        dotdot_said about path parent (option_map seen_entry second.entry) (dotdot_in (option_map seen_entry second.entry)) ≡ [] }
+        dotdot_said about path parent (option_map entry_value second.entry)
+        (dotdot_in (option_map entry_value second.entry)) ≡ [] }
 {
     match second {
         None => false,
@@ -299,10 +311,12 @@ fn is_shape_right(size: u64, gap: bool, sound: bool) -> bool
     size >= 24 && size % 512 == 0 && !gap && sound
 }
 
-/// Whether nothing is told of a directory of a size before its entries.
+/// Whether nothing is reported of a directory of a size before its entries.
 pub fn is_in_order(number: u32, parent: Option<u32>, size: u64, shape: Shape<'_>) -> bool
     ensures { IsTrue result → (about : attrs.Attr) (path : List ℕ) → about.size ≡ size →
-        starts_told about path number parent shape.entry.gap shape.entry.sound (option_map seen_entry shape.entry.first) (option_map seen_entry shape.entry.second) ≡ [] }
+        starts_reported about path number parent shape.entry.gap shape.entry.sound
+        (option_map entry_value shape.entry.first) (option_map entry_value shape.entry.second)
+        ≡ [] }
 {
     if !is_shape_right(size, shape.gap, shape.sound) {
         return false;

@@ -1,25 +1,25 @@
-// Telling what a plain entry comes to.
+// The lines of a plain entry.
 ghost use Rattle.std.specs.Prelude.{◌≡◌, ◌*◌, ◌<◌, ◌≤◌, ℕ, List, [], true, false, length, Some, OnOk, IfOk, IfErr, IsTrue, map};
-ghost use Rattle.ffs_image.specs.Device.{Faulted, WhereTold};
-ghost use Rattle.ffs_volume.specs.Inodes.{inode_of};
-ghost use Rattle.ffs_volume.specs.Messages.{of_names};
-ghost use Rattle.ffs_volume.specs.PathnameCheck.{attributes, extra_told};
+ghost use Rattle.ffs_image.specs.Device.{Faulted, ForContents};
+ghost use Rattle.ffs_volume.specs.Blocks.Inodes.{inode_of};
+ghost use Rattle.ffs_volume.specs.Messages.Kinds.{of_names};
+ghost use Rattle.ffs_volume.specs.Directories.PathnameCheck.{attributes, extra_reported};
 ghost use Rattle.ffs_pathnames.specs.SaysNames.{SaysNames};
-ghost use Rattle.ffs_volume.specs.Roles.{is_dir};
-ghost use Rattle.ffs_volume.specs.Parents.{graph_of};
-ghost use Rattle.ffs_volume.specs.Paths.{dir_path, entry_path};
-ghost use Rattle.ffs_volume.specs.Volumes.{volume_of};
-ghost use Rattle.ffs_layout.specs.Entry.{seen_entry};
-ghost use Rattle.ffs_phase.specs.Runs.{Reads, TellsOf};
+ghost use Rattle.ffs_volume.specs.Directories.Roles.{is_dir};
+ghost use Rattle.ffs_volume.specs.Directories.Parents.{graph_of};
+ghost use Rattle.ffs_volume.specs.Directories.Paths.{dir_path, entry_path};
+ghost use Rattle.ffs_volume.specs.Directories.Volumes.{volume_of};
+ghost use Rattle.ffs_layout.specs.Entry.{entry_value};
+ghost use Rattle.ffs_phase.specs.Runs.{ImageAfter, PhaseReports};
 ghost use Rattle.ffs_report.specs.Progress.{progress};
 ghost use Rattle.ffs_workspace.specs.Lengths.{IsFor, HoldWindows};
 ghost use Rattle.ffs_workspace.specs.Holds.{HoldsClaims, HoldsSurvey};
 ghost use Rattle.ffs_pathnames.specs.Examines.{LeavesMarks};
 ghost use Rattle.ffs_pathnames.specs.Gathers.{IsEnough, marks_of, asks_attr, asks_path, is_silent};
-ghost use Rattle.ffs_pathnames.specs.Knows.{Knows, KnowsPath};
+ghost use Rattle.ffs_pathnames.specs.DirectoryContext.{DirectoryContext, KnowsPath};
 ghost use Rattle.ffs_paths.specs.DirectoryPaths.{IsPathOf};
-ghost use Rattle.ffs_pathnames.specs.Marks.{plain_told};
-ghost use Rattle.ffs_pathnames.specs.Verdicts.{verdict_told};
+ghost use Rattle.ffs_pathnames.specs.Marks.{plain_reported};
+ghost use Rattle.ffs_pathnames.specs.Verdicts.{verdict_reported};
 
 use crate::judge::{Verdict, judge};
 use crate::paths::path_text;
@@ -35,9 +35,16 @@ use ffs_volume::{Attr, Inode};
 use ffs_workspace::Workspace;
 
 /// What messages show of an inode.
-#[tactic(auto, unfolding(ffs_volume::specs::PathnameCheck::attributes, ffs_volume::specs::Volumes::volume_of, ffs_volume::specs::Volumes::volume_with))]
+#[tactic(auto, unfolding(ffs_volume::specs::Directories::PathnameCheck::attributes, ffs_volume::specs::Directories::Volumes::volume_of, ffs_volume::specs::Directories::Volumes::volume_with))]
 fn attr_of(number: u32, inode: &Inode) -> Attr
-    ensures value { result ≡ record { number = number; uid = inode.now.uid; mode = inode.now.mode; size = inode.now.size; mtime = inode.now.mtime } }
+    ensures value { result ≡ record {
+      number = number;
+      uid = inode.now.uid;
+      mode = inode.now.mode;
+      size = inode.now.size;
+      mtime
+          = inode.now.mtime;
+    } }
 {
     Attr {
         number,
@@ -49,7 +56,7 @@ fn attr_of(number: u32, inode: &Inode) -> Attr
 }
 
 /// What messages show of the inode of a number.
-#[tactic(auto, unfolding(ffs_volume::specs::PathnameCheck::attributes, ffs_volume::specs::Volumes::volume_of, ffs_volume::specs::Volumes::volume_with))]
+#[tactic(auto, unfolding(ffs_volume::specs::Directories::PathnameCheck::attributes, ffs_volume::specs::Directories::Volumes::volume_of, ffs_volume::specs::Directories::Volumes::volume_with))]
 pub fn read_attr<I: Image>(
     geometry: &Geometry,
     image: &mut I,
@@ -57,15 +64,18 @@ pub fn read_attr<I: Image>(
     number: u32,
 ) -> Result<Attr, ImageFault>
     requires made { IsFor geometry.now.layout workspace.old }
-    requires volume { geometry.now.layout.size * geometry.now.layout.fsize ≤ (I.device image.old).size }
-    requires windows { HoldWindows geometry.now.layout (I.device image.old).told workspace.old }
+    requires volume { geometry.now.layout.size * geometry.now.layout.fsize
+        ≤ (I.device image.old).size }
+    requires windows { HoldWindows geometry.now.layout (I.device image.old).contents workspace.old }
     requires number { number < geometry.now.layout.ncg * geometry.now.layout.ipg }
-    ensures attr { IfOk result (λ a. WhereTold (I.device image.old).told (λ b. a ≡ attributes (volume_of geometry.now.layout b) number)) }
+    ensures attr { IfOk result (λ a. ForContents (I.device image.old).contents
+        (λ b. a ≡ attributes (volume_of geometry.now.layout b) number)) }
     ensures lists { LeavesMarks workspace.old workspace.new }
     ensures made { IsFor geometry.now.layout workspace.new }
-    ensures windows { HoldWindows geometry.now.layout (I.device image.new).told workspace.new }
+    ensures windows { HoldWindows geometry.now.layout (I.device image.new).contents workspace.new }
     ensures ok { OnOk result (I.device image.new ≡ I.device image.old) }
-    ensures err { IfErr result (λ fault. Faulted (I.device image.old) (I.device image.new) fault.sector) }
+    ensures err { IfErr result (λ fault. Faulted (I.device image.old) (I.device image.new)
+        fault.sector) }
 {
     let inode = workspace.windows.table.inode(geometry, number, image)?;
     Ok(attr_of(number, &inode))
@@ -92,15 +102,18 @@ fn gather_attr<I: Image>(
     number: u32,
 ) -> Result<Attr, ImageFault>
     requires made { IsFor geometry.now.layout workspace.old }
-    requires volume { geometry.now.layout.size * geometry.now.layout.fsize ≤ (I.device image.old).size }
-    requires windows { HoldWindows geometry.now.layout (I.device image.old).told workspace.old }
+    requires volume { geometry.now.layout.size * geometry.now.layout.fsize
+        ≤ (I.device image.old).size }
+    requires windows { HoldWindows geometry.now.layout (I.device image.old).contents workspace.old }
     requires number { IsTrue wanted → number < geometry.now.layout.ncg * geometry.now.layout.ipg }
-    ensures attr { IfOk result (λ a. WhereTold (I.device image.old).told (λ b. IsTrue wanted → a ≡ attributes (volume_of geometry.now.layout b) number)) }
+    ensures attr { IfOk result (λ a. ForContents (I.device image.old).contents
+        (λ b. IsTrue wanted → a ≡ attributes (volume_of geometry.now.layout b) number)) }
     ensures lists { LeavesMarks workspace.old workspace.new }
     ensures made { IsFor geometry.now.layout workspace.new }
-    ensures windows { HoldWindows geometry.now.layout (I.device image.new).told workspace.new }
+    ensures windows { HoldWindows geometry.now.layout (I.device image.new).contents workspace.new }
     ensures ok { OnOk result (I.device image.new ≡ I.device image.old) }
-    ensures err { IfErr result (λ fault. Faulted (I.device image.old) (I.device image.new) fault.sector) }
+    ensures err { IfErr result (λ fault. Faulted (I.device image.old) (I.device image.new)
+        fault.sector) }
 {
     if !wanted {
         return Ok(Attr {
@@ -124,16 +137,21 @@ fn gather_path<I: Image>(
     text: &mut PathText,
 ) -> Result<(), ImageFault>
     requires made { IsFor geometry.now.layout workspace.old }
-    requires volume { geometry.now.layout.size * geometry.now.layout.fsize ≤ (I.device image.old).size }
-    requires windows { HoldWindows geometry.now.layout (I.device image.old).told workspace.old }
+    requires volume { geometry.now.layout.size * geometry.now.layout.fsize
+        ≤ (I.device image.old).size }
+    requires windows { HoldWindows geometry.now.layout (I.device image.old).contents workspace.old }
     requires number { IsTrue wanted → dir < geometry.now.layout.ncg * geometry.now.layout.ipg }
-    ensures path { OnOk result ((b : List ℕ) → (I.device image.old).told ≡ Some b → HoldsClaims geometry.now.layout b workspace.old → HoldsSurvey geometry.now.layout b workspace.old →
-        IsTrue wanted → is_dir (volume_of geometry.now.layout b) dir ≡ true → text.new.items ≡ dir_path (graph_of (volume_of geometry.now.layout b)) dir) }
+    ensures path { OnOk result ((b : List ℕ) → (I.device image.old).contents ≡ Some b
+        → HoldsClaims geometry.now.layout b workspace.old
+        → HoldsSurvey geometry.now.layout b workspace.old →
+        IsTrue wanted → is_dir (volume_of geometry.now.layout b) dir ≡ true → text.new.items
+        ≡ dir_path (graph_of (volume_of geometry.now.layout b)) dir) }
     ensures lists { LeavesMarks workspace.old workspace.new }
     ensures made { IsFor geometry.now.layout workspace.new }
-    ensures windows { HoldWindows geometry.now.layout (I.device image.new).told workspace.new }
+    ensures windows { HoldWindows geometry.now.layout (I.device image.new).contents workspace.new }
     ensures ok { OnOk result (I.device image.new ≡ I.device image.old) }
-    ensures err { IfErr result (λ fault. Faulted (I.device image.old) (I.device image.new) fault.sector) }
+    ensures err { IfErr result (λ fault. Faulted (I.device image.old) (I.device image.new)
+        fault.sector) }
 {
     if !wanted {
         return Ok(());
@@ -154,19 +172,27 @@ fn gather<I: Image>(
     directory: &mut PathText,
 ) -> Result<Attr, ImageFault>
     requires made { IsFor geometry.now.layout workspace.old }
-    requires volume { geometry.now.layout.size * geometry.now.layout.fsize ≤ (I.device image.old).size }
-    requires windows { HoldWindows geometry.now.layout (I.device image.old).told workspace.old }
-    requires number { IsTrue (asks_attr verdict.now) → entry.now.number < geometry.now.layout.ncg * geometry.now.layout.ipg }
+    requires volume { geometry.now.layout.size * geometry.now.layout.fsize
+        ≤ (I.device image.old).size }
+    requires windows { HoldWindows geometry.now.layout (I.device image.old).contents workspace.old }
+    requires number { IsTrue (asks_attr verdict.now) → entry.now.number
+        < geometry.now.layout.ncg * geometry.now.layout.ipg }
     requires name { length entry.now.name.now ≤ 255 }
     requires empty { text.old.items ≡ [] }
-    ensures enough { IfOk result (λ a. (b : List ℕ) (dir : ℕ) → (I.device image.old).told ≡ Some b → HoldsClaims geometry.now.layout b workspace.old → HoldsSurvey geometry.now.layout b workspace.old →
-        IsPathOf (graph_of (volume_of geometry.now.layout b)) dir path.now → (IsTrue (asks_path verdict.now) → is_dir (volume_of geometry.now.layout b) entry.now.number ≡ true) →
-        IsEnough (volume_of geometry.now.layout b) verdict.now dir entry.now.number entry.now.name.now a text.new.items directory.new.items) }
+    ensures enough { IfOk result (λ a. (b : List ℕ) (dir : ℕ) → (I.device image.old).contents
+        ≡ Some b → HoldsClaims geometry.now.layout b workspace.old
+        → HoldsSurvey geometry.now.layout b workspace.old →
+        IsPathOf (graph_of (volume_of geometry.now.layout b)) dir path.now
+        → (IsTrue (asks_path verdict.now)
+        → is_dir (volume_of geometry.now.layout b) entry.now.number ≡ true) →
+        IsEnough (volume_of geometry.now.layout b) verdict.now dir entry.now.number
+        entry.now.name.now a text.new.items directory.new.items) }
     ensures lists { LeavesMarks workspace.old workspace.new }
     ensures made { IsFor geometry.now.layout workspace.new }
-    ensures windows { HoldWindows geometry.now.layout (I.device image.new).told workspace.new }
+    ensures windows { HoldWindows geometry.now.layout (I.device image.new).contents workspace.new }
     ensures ok { OnOk result (I.device image.new ≡ I.device image.old) }
-    ensures err { IfErr result (λ fault. Faulted (I.device image.old) (I.device image.new) fault.sector) }
+    ensures err { IfErr result (λ fault. Faulted (I.device image.old) (I.device image.new)
+        fault.sector) }
 {
     let (wants_attr, wants_path) = asks(verdict);
     path.put_entry(entry.name, text);
@@ -182,16 +208,23 @@ fn gather<I: Image>(
     Ok(attr)
 }
 
-/// What a plain entry comes to, by what the workspace holds.
+/// The verdict on a plain entry, by what the workspace holds.
 fn verdict_of(geometry: &Geometry, workspace: &Workspace, dir: u32, entry: &Entry<'_>) -> Verdict
     requires made { IsFor geometry.now.layout workspace.now }
-    ensures below { IsTrue (asks_attr result) → entry.now.number < geometry.now.layout.ncg * geometry.now.layout.ipg }
-    ensures linked { (b : List ℕ) → HoldsClaims geometry.now.layout b workspace.now → HoldsSurvey geometry.now.layout b workspace.now →
-        IsTrue (asks_path result) → is_dir (volume_of geometry.now.layout b) entry.now.number ≡ true }
-    ensures told { (b : List ℕ) → HoldsClaims geometry.now.layout b workspace.now → HoldsSurvey geometry.now.layout b workspace.now →
-        plain_told (volume_of geometry.now.layout b) dir (marks_of workspace.now) (seen_entry entry.now)
-        ≡ verdict_told result entry.now.number (attributes (volume_of geometry.now.layout b) entry.now.number)
-        (entry_path (graph_of (volume_of geometry.now.layout b)) dir entry.now.name.now) (dir_path (graph_of (volume_of geometry.now.layout b)) entry.now.number) }
+    ensures below { IsTrue (asks_attr result) → entry.now.number
+        < geometry.now.layout.ncg * geometry.now.layout.ipg }
+    ensures linked { (b : List ℕ) → HoldsClaims geometry.now.layout b workspace.now
+        → HoldsSurvey geometry.now.layout b workspace.now →
+        IsTrue (asks_path result) → is_dir (volume_of geometry.now.layout b) entry.now.number
+        ≡ true }
+    ensures told { (b : List ℕ) → HoldsClaims geometry.now.layout b workspace.now
+        → HoldsSurvey geometry.now.layout b workspace.now →
+        plain_reported (volume_of geometry.now.layout b) dir (marks_of workspace.now)
+        (entry_value entry.now)
+        ≡ verdict_reported result entry.now.number
+        (attributes (volume_of geometry.now.layout b) entry.now.number)
+        (entry_path (graph_of (volume_of geometry.now.layout b)) dir entry.now.name.now)
+        (dir_path (graph_of (volume_of geometry.now.layout b)) entry.now.number) }
 {
     let inodes = view(geometry, workspace);
     judge(
@@ -203,7 +236,7 @@ fn verdict_of(geometry: &Geometry, workspace: &Workspace, dir: u32, entry: &Entr
     )
 }
 
-/// Whether a verdict tells nothing.
+/// Whether a verdict has no line.
 fn is_silent(verdict: &Verdict) -> bool
     ensures { result ≡ is_silent verdict.now }
 {
@@ -214,8 +247,8 @@ fn is_silent(verdict: &Verdict) -> bool
     }
 }
 
-/// Tells what a plain entry of a directory comes to.
-pub fn tell_plain<I: Image, W: Output>(
+/// Prints the lines of a plain entry of a directory.
+pub fn report_plain<I: Image, W: Output>(
     geometry: &Geometry,
     image: &mut I,
     workspace: &mut Workspace,
@@ -225,17 +258,20 @@ pub fn tell_plain<I: Image, W: Output>(
     entry: &Entry<'_>,
 ) -> Result<(), RunFault>
     requires made { IsFor geometry.now.layout workspace.old }
-    requires volume { geometry.now.layout.size * geometry.now.layout.fsize ≤ (I.device image.old).size }
-    requires windows { HoldWindows geometry.now.layout (I.device image.old).told workspace.old }
+    requires volume { geometry.now.layout.size * geometry.now.layout.fsize
+        ≤ (I.device image.old).size }
+    requires windows { HoldWindows geometry.now.layout (I.device image.old).contents workspace.old }
     requires dir { dir < geometry.now.layout.ncg * geometry.now.layout.ipg }
     requires name { length entry.now.name.now ≤ 255 }
-    ensures image { Reads (I.device image.old) (I.device image.new) result }
-    ensures text { TellsOf (KnowsPath geometry.now.layout (I.device image.old).told workspace.old dir path.now)
-        (λ b. map of_names (plain_told (volume_of geometry.now.layout b) dir (marks_of workspace.old) (seen_entry entry.now)))
+    ensures image { ImageAfter (I.device image.old) (I.device image.new) result }
+    ensures text { PhaseReports (KnowsPath geometry.now.layout (I.device image.old).contents
+        workspace.old dir path.now)
+        (λ b. map of_names (plain_reported (volume_of geometry.now.layout b) dir
+        (marks_of workspace.old) (entry_value entry.now)))
         (progress W.sink report.old) (progress W.sink report.new) result }
     ensures lists { LeavesMarks workspace.old workspace.new }
     ensures made { IsFor geometry.now.layout workspace.new }
-    ensures windows { HoldWindows geometry.now.layout (I.device image.new).told workspace.new }
+    ensures windows { HoldWindows geometry.now.layout (I.device image.new).contents workspace.new }
 {
     let verdict = verdict_of(geometry, workspace, dir, entry);
     if is_silent(&verdict) {
@@ -264,8 +300,8 @@ pub fn tell_plain<I: Image, W: Output>(
     Ok(())
 }
 
-/// Tells what is told of an extra entry: `.` or `..` at another place than the first two.
-pub fn tell_extra<I: Image, W: Output>(
+/// Prints the line of an extra entry: `.` or `..` at another place than the first two.
+pub fn report_extra<I: Image, W: Output>(
     geometry: &Geometry,
     image: &mut I,
     workspace: &mut Workspace,
@@ -275,16 +311,19 @@ pub fn tell_extra<I: Image, W: Output>(
     entry: &Entry<'_>,
 ) -> Result<(), RunFault>
     requires made { IsFor geometry.now.layout workspace.old }
-    requires volume { geometry.now.layout.size * geometry.now.layout.fsize ≤ (I.device image.old).size }
-    requires windows { HoldWindows geometry.now.layout (I.device image.old).told workspace.old }
+    requires volume { geometry.now.layout.size * geometry.now.layout.fsize
+        ≤ (I.device image.old).size }
+    requires windows { HoldWindows geometry.now.layout (I.device image.old).contents workspace.old }
     requires dir { dir < geometry.now.layout.ncg * geometry.now.layout.ipg }
-    ensures image { Reads (I.device image.old) (I.device image.new) result }
-    ensures text { TellsOf (KnowsPath geometry.now.layout (I.device image.old).told workspace.old dir path.now)
-        (λ b. map of_names (extra_told (attributes (volume_of geometry.now.layout b) dir) (dir_path (graph_of (volume_of geometry.now.layout b)) dir) (seen_entry entry.now)))
+    ensures image { ImageAfter (I.device image.old) (I.device image.new) result }
+    ensures text { PhaseReports (KnowsPath geometry.now.layout (I.device image.old).contents
+        workspace.old dir path.now)
+        (λ b. map of_names (extra_reported (attributes (volume_of geometry.now.layout b) dir)
+        (dir_path (graph_of (volume_of geometry.now.layout b)) dir) (entry_value entry.now)))
         (progress W.sink report.old) (progress W.sink report.new) result }
     ensures lists { LeavesMarks workspace.old workspace.new }
     ensures made { IsFor geometry.now.layout workspace.new }
-    ensures windows { HoldWindows geometry.now.layout (I.device image.new).told workspace.new }
+    ensures windows { HoldWindows geometry.now.layout (I.device image.new).contents workspace.new }
 {
     let mut text = PathText::new();
     path.put(&mut text);
@@ -302,16 +341,21 @@ pub fn gather_dir<I: Image>(
     path: &mut PathText,
 ) -> Result<Attr, ImageFault>
     requires made { IsFor geometry.now.layout workspace.old }
-    requires volume { geometry.now.layout.size * geometry.now.layout.fsize ≤ (I.device image.old).size }
-    requires windows { HoldWindows geometry.now.layout (I.device image.old).told workspace.old }
+    requires volume { geometry.now.layout.size * geometry.now.layout.fsize
+        ≤ (I.device image.old).size }
+    requires windows { HoldWindows geometry.now.layout (I.device image.old).contents workspace.old }
     requires dir { dir < geometry.now.layout.ncg * geometry.now.layout.ipg }
-    ensures attr { IfOk result (λ a. WhereTold (I.device image.old).told (λ b. a ≡ attributes (volume_of geometry.now.layout b) dir)) }
-    ensures path { OnOk result ((b : List ℕ) → Knows geometry.now.layout (I.device image.old).told workspace.old dir b → path.new.items ≡ dir_path (graph_of (volume_of geometry.now.layout b)) dir) }
+    ensures attr { IfOk result (λ a. ForContents (I.device image.old).contents
+        (λ b. a ≡ attributes (volume_of geometry.now.layout b) dir)) }
+    ensures path { OnOk result ((b : List ℕ)
+        → DirectoryContext geometry.now.layout (I.device image.old).contents workspace.old dir b
+        → path.new.items ≡ dir_path (graph_of (volume_of geometry.now.layout b)) dir) }
     ensures lists { LeavesMarks workspace.old workspace.new }
     ensures made { IsFor geometry.now.layout workspace.new }
-    ensures windows { HoldWindows geometry.now.layout (I.device image.new).told workspace.new }
+    ensures windows { HoldWindows geometry.now.layout (I.device image.new).contents workspace.new }
     ensures ok { OnOk result (I.device image.new ≡ I.device image.old) }
-    ensures err { IfErr result (λ fault. Faulted (I.device image.old) (I.device image.new) fault.sector) }
+    ensures err { IfErr result (λ fault. Faulted (I.device image.old) (I.device image.new)
+        fault.sector) }
 {
     path_text(geometry, image, workspace, dir, None, path)?;
     let attr = read_attr(geometry, image, workspace, dir)?;
@@ -325,7 +369,8 @@ fn say_extra<W: Output>(
     path: &[u8],
     entry: &Entry<'_>,
 ) -> Result<(), OutFault>
-    ensures { SaysNames (progress W.sink report.old) (progress W.sink report.new) (extra_told attr path.now (seen_entry entry.now)) result }
+    ensures { SaysNames (progress W.sink report.old) (progress W.sink report.new)
+        (extra_reported attr path.now (entry_value entry.now)) result }
 {
     if is_one_dot(entry.name) {
         return report.say(&Line::Dot(DotLine::ExtraDot { attr, path }));

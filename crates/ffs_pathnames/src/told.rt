@@ -1,10 +1,10 @@
-// What is told of an entry, by what it comes to.
+// What is reported of an entry, by its verdict.
 ghost use Rattle.std.specs.Prelude.{◌≡◌, ◌++◌};
-ghost use Rattle.ffs_volume.specs.Messages.{told};
+ghost use Rattle.ffs_volume.specs.Messages.Kinds.{told};
 ghost use Rattle.ffs_report.specs.Progress.{progress};
-ghost use Rattle.ffs_pathnames.specs.NameLines.{name_message, two_told};
+ghost use Rattle.ffs_pathnames.specs.NameLines.{name_message, two_reported};
 ghost use Rattle.ffs_pathnames.specs.SaysNames.{SaysNames};
-ghost use Rattle.ffs_pathnames.specs.Verdicts.{suspect_message, links_told, faults_told, verdict_told};
+ghost use Rattle.ffs_pathnames.specs.Verdicts.{suspect_message, links_reported, faults_reported, verdict_reported};
 
 use crate::judge::{Faults, Verdict};
 use crate::say::{Check, NameLine, say_line, say_two};
@@ -18,7 +18,8 @@ fn say_suspect<W: Output>(
     attr: Attr,
     path: &[u8],
 ) -> Result<(), OutFault>
-    ensures { SaysNames (progress W.sink report.old) (progress W.sink report.new) (told faults.now.suspect (suspect_message faults.now attr path.now)) result }
+    ensures { SaysNames (progress W.sink report.old) (progress W.sink report.new)
+        (told faults.now.suspect (suspect_message faults.now attr path.now)) result }
 {
     if !faults.suspect {
         return Ok(());
@@ -44,7 +45,8 @@ fn say_links<W: Output>(
     path: &[u8],
     directory: &[u8],
 ) -> Result<(), OutFault>
-    ensures { SaysNames (progress W.sink report.old) (progress W.sink report.new) (links_told faults.now attr path.now directory.now) result }
+    ensures { SaysNames (progress W.sink report.old) (progress W.sink report.new)
+        (links_reported faults.now attr path.now directory.now) result }
 {
     let extraneous = Check {
         holds: faults.extraneous,
@@ -72,13 +74,14 @@ fn say_faults<W: Output>(
     path: &[u8],
     directory: &[u8],
 ) -> Result<(), OutFault>
-    ensures { SaysNames (progress W.sink report.old) (progress W.sink report.new) (faults_told faults.now attr path.now directory.now) result }
+    ensures { SaysNames (progress W.sink report.old) (progress W.sink report.new)
+        (faults_reported faults.now attr path.now directory.now) result }
 {
     say_suspect(report, faults, attr, path)?;
     say_links(report, faults, attr, path, directory)
 }
 
-/// Says what a plain entry comes to.
+/// Says the lines of a plain entry's verdict.
 pub fn say_verdict<W: Output>(
     report: &mut Report<'_, W>,
     verdict: &Verdict,
@@ -87,7 +90,8 @@ pub fn say_verdict<W: Output>(
     path: &[u8],
     directory: &[u8],
 ) -> Result<(), OutFault>
-    ensures { SaysNames (progress W.sink report.old) (progress W.sink report.new) (verdict_told verdict.now number attr path.now directory.now) result }
+    ensures { SaysNames (progress W.sink report.old) (progress W.sink report.new)
+        (verdict_reported verdict.now number attr path.now directory.now) result }
 {
     match verdict {
         Verdict::OutOfRange => say_line(

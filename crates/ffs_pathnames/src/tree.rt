@@ -1,11 +1,11 @@
 // The pathname check of the root, and of one directory after another.
 ghost use Rattle.std.specs.Prelude.{suc, ◌≡◌, ◌-◌, ◌*◌, ◌==◌, ◌<◌, ◌≤◌, ℕ, List, OnOk, IfOk, map, slice_index};
-ghost use Rattle.ffs_phase.specs.Known.{Where};
-ghost use Rattle.ffs_phase.specs.Runs.{Reads, TellsOf};
+ghost use Rattle.ffs_phase.specs.Known.{ForBytes};
+ghost use Rattle.ffs_phase.specs.Runs.{ImageAfter, PhaseReports};
 ghost use Rattle.ffs_report.specs.Progress.{progress};
-ghost use Rattle.ffs_volume.specs.Messages.{of_names, lines_from};
-ghost use Rattle.ffs_volume.specs.PathnameCheck.{goes_on, lines_of, pathname_lines};
-ghost use Rattle.ffs_volume.specs.Volumes.{volume_of};
+ghost use Rattle.ffs_volume.specs.Messages.Kinds.{of_names, lines_from};
+ghost use Rattle.ffs_volume.specs.Directories.PathnameCheck.{goes_on, lines_of, pathname_lines};
+ghost use Rattle.ffs_volume.specs.Directories.Volumes.{volume_of};
 ghost use Rattle.ffs_workspace.specs.Holds.{bool_at};
 ghost use Rattle.ffs_workspace.specs.Lengths.{IsFor, HoldWindows, inodes_of};
 ghost use Rattle.ffs_pathnames.specs.Before.{IsBefore};
@@ -14,7 +14,7 @@ ghost use Rattle.ffs_pathnames.specs.GoesOn.{is_go};
 
 use crate::check::check_directory;
 use crate::phase::Root;
-use crate::root::{root_of, tell_root};
+use crate::root::{report_root, root_of};
 use ffs_image::Image;
 use ffs_layout::Geometry;
 use ffs_phase::RunFault;
@@ -30,7 +30,7 @@ fn is_looked_at(workspace: &Workspace, geometry: &Geometry, number: u32) -> bool
     workspace.kinds[number as usize] == 4
 }
 
-/// Tells what is told of an inode as a directory, and of its entries.
+/// Prints the lines of an inode as a directory, and of its entries.
 fn check_inode<I: Image, W: Output>(
     geometry: &Geometry,
     image: &mut I,
@@ -39,19 +39,23 @@ fn check_inode<I: Image, W: Output>(
     number: u32,
 ) -> Result<(), RunFault>
     requires made { IsFor geometry.now.layout workspace.old }
-    requires volume { geometry.now.layout.size * geometry.now.layout.fsize ≤ (I.device image.old).size }
-    requires windows { HoldWindows geometry.now.layout (I.device image.old).told workspace.old }
+    requires volume { geometry.now.layout.size * geometry.now.layout.fsize
+        ≤ (I.device image.old).size }
+    requires windows { HoldWindows geometry.now.layout (I.device image.old).contents workspace.old }
     requires low { 2 ≤ number }
     requires number { number < inodes_of geometry.now.layout }
-    ensures image { Reads (I.device image.old) (I.device image.new) result }
-    ensures text { TellsOf (λ b. IsBefore geometry.now.layout (I.device image.old).told workspace.old number b)
+    ensures image { ImageAfter (I.device image.old) (I.device image.new) result }
+    ensures text { PhaseReports (λ b. IsBefore geometry.now.layout (I.device image.old).contents
+        workspace.old number b)
         (λ b. map of_names (lines_of (volume_of geometry.now.layout b) number))
         (progress W.sink report.old) (progress W.sink report.new) result }
-    ensures before { OnOk result (Where (λ b. IsBefore geometry.now.layout (I.device image.old).told workspace.old number b)
-        (λ b. IsBefore geometry.now.layout (I.device image.old).told workspace.new (suc number) b)) }
+    ensures before { OnOk result (ForBytes
+        (λ b. IsBefore geometry.now.layout (I.device image.old).contents workspace.old number b)
+        (λ b. IsBefore geometry.now.layout (I.device image.old).contents workspace.new (suc number)
+        b)) }
     ensures survey { LeavesSurvey workspace.old workspace.new }
     ensures made { IsFor geometry.now.layout workspace.new }
-    ensures windows { HoldWindows geometry.now.layout (I.device image.new).told workspace.new }
+    ensures windows { HoldWindows geometry.now.layout (I.device image.new).contents workspace.new }
 {
     if is_looked_at(workspace, geometry, number) {
         return check_directory(geometry, image, workspace, report, number);
@@ -59,7 +63,7 @@ fn check_inode<I: Image, W: Output>(
     Ok(())
 }
 
-/// Tells what is told of each directory and of its entries, in the order of the inodes' numbers.
+/// Prints the lines of each directory and of its entries, in the order of inode numbers.
 fn check_inodes<I: Image, W: Output>(
     geometry: &Geometry,
     image: &mut I,
@@ -67,15 +71,18 @@ fn check_inodes<I: Image, W: Output>(
     report: &mut Report<'_, W>,
 ) -> Result<(), RunFault>
     requires made { IsFor geometry.now.layout workspace.old }
-    requires volume { geometry.now.layout.size * geometry.now.layout.fsize ≤ (I.device image.old).size }
-    requires windows { HoldWindows geometry.now.layout (I.device image.old).told workspace.old }
-    ensures image { Reads (I.device image.old) (I.device image.new) result }
-    ensures text { TellsOf (λ b. IsBefore geometry.now.layout (I.device image.old).told workspace.old 2 b)
-        (λ b. map of_names (lines_from (lines_of (volume_of geometry.now.layout b)) 2 (inodes_of geometry.now.layout - 2)))
+    requires volume { geometry.now.layout.size * geometry.now.layout.fsize
+        ≤ (I.device image.old).size }
+    requires windows { HoldWindows geometry.now.layout (I.device image.old).contents workspace.old }
+    ensures image { ImageAfter (I.device image.old) (I.device image.new) result }
+    ensures text { PhaseReports (λ b. IsBefore geometry.now.layout (I.device image.old).contents
+        workspace.old 2 b)
+        (λ b. map of_names (lines_from (lines_of (volume_of geometry.now.layout b)) 2
+        (inodes_of geometry.now.layout - 2)))
         (progress W.sink report.old) (progress W.sink report.new) result }
     ensures survey { LeavesSurvey workspace.old workspace.new }
     ensures made { IsFor geometry.now.layout workspace.new }
-    ensures windows { HoldWindows geometry.now.layout (I.device image.new).told workspace.new }
+    ensures windows { HoldWindows geometry.now.layout (I.device image.new).contents workspace.new }
 {
     for number in 2..geometry.layout.ncg * geometry.layout.ipg {
         check_inode(geometry, image, workspace, report, number)?;
@@ -99,7 +106,7 @@ fn is_root_marked(workspace: &Workspace, geometry: &Geometry) -> bool
     workspace.marked[2]
 }
 
-/// Tells what is told of the root, and where the run goes on behind it, of each directory and of its entries.
+/// Prints the lines of the root and, where the run continues after it, of each directory and of its entries.
 pub fn check_tree<I: Image, W: Output>(
     geometry: &Geometry,
     image: &mut I,
@@ -107,20 +114,23 @@ pub fn check_tree<I: Image, W: Output>(
     report: &mut Report<'_, W>,
 ) -> Result<Root, RunFault>
     requires made { IsFor geometry.now.layout workspace.old }
-    requires volume { geometry.now.layout.size * geometry.now.layout.fsize ≤ (I.device image.old).size }
-    requires windows { HoldWindows geometry.now.layout (I.device image.old).told workspace.old }
-    ensures image { Reads (I.device image.old) (I.device image.new) result }
-    ensures text { TellsOf (λ b. IsBefore geometry.now.layout (I.device image.old).told workspace.old 2 b)
+    requires volume { geometry.now.layout.size * geometry.now.layout.fsize
+        ≤ (I.device image.old).size }
+    requires windows { HoldWindows geometry.now.layout (I.device image.old).contents workspace.old }
+    ensures image { ImageAfter (I.device image.old) (I.device image.new) result }
+    ensures text { PhaseReports (λ b. IsBefore geometry.now.layout (I.device image.old).contents
+        workspace.old 2 b)
         (λ b. map of_names (pathname_lines (volume_of geometry.now.layout b)))
         (progress W.sink report.old) (progress W.sink report.new) result }
-    ensures goes { IfOk result (λ root. Where (λ b. IsBefore geometry.now.layout (I.device image.old).told workspace.old 2 b)
+    ensures goes { IfOk result (λ root. ForBytes
+        (λ b. IsBefore geometry.now.layout (I.device image.old).contents workspace.old 2 b)
         (λ b. is_go root ≡ goes_on (volume_of geometry.now.layout b))) }
     ensures survey { LeavesSurvey workspace.old workspace.new }
     ensures made { IsFor geometry.now.layout workspace.new }
-    ensures windows { HoldWindows geometry.now.layout (I.device image.new).told workspace.new }
+    ensures windows { HoldWindows geometry.now.layout (I.device image.new).contents workspace.new }
 {
     let kind = root_kind(workspace, geometry);
-    tell_root(report, kind, is_root_marked(workspace, geometry))?;
+    report_root(report, kind, is_root_marked(workspace, geometry))?;
     match root_of(kind) {
         Root::Stop => Ok(Root::Stop),
         Root::Go => {

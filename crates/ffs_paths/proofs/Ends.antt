@@ -1,17 +1,14 @@
--- The longest end of the names of a path, with a name more in front.
+-- The longest end of the names of a path, with one more name before them.
 use Rattle.std.proofs.Common.{◌≡◌, ℕ, suc, ◌+◌, ◌<◌, ◌≤◌, ◌-◌, true, false, List, [], ◌∷◌, ◌++◌, length, drop, refl, ap, ◌∙◌, arith, length-append, length-drop}
 use Rattle.std.specs.Prelude.{nat_lt, nat_le, Some, if◌then◌else◌}
 use Rattle.std.proofs.lemmas.Bool.{ltb-false}
 use Rattle.std.proofs.lemmas.Bool.Decides.{nat_tests}
 use lib.Seq.{take_all}
 use borrow.Rule.Slice.PartMut.{mid_of}
-use Rattle.ffs_volume.specs.Paths.{joined, longest_end, path_text, dir_text}
+use Rattle.ffs_volume.specs.Directories.Paths.{joined, longest_end, path_text, dir_text}
 
 pub over_1024 : (n : ℕ) → nat_lt 1024 n ≡ true → 1024 < n
 over_1024 n h = grind (arith, nat_tests)
-
-under_1024 : (n : ℕ) → nat_lt 1024 n ≡ false → n ≤ 1024
-under_1024 n h = ltb-false 1024 n h
 
 pub over_is : (n : ℕ) → 1024 < n → nat_lt 1024 n ≡ true
 over_is n h = grind (arith, nat_tests)

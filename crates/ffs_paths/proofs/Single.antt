@@ -6,14 +6,14 @@ use Rattle.ffs_volume.specs.declared.Layout.{Layout}
 use Rattle.ffs_volume.specs.declared.Order.{Order}
 use Rattle.ffs_volume.specs.declared.Step.{Step}
 use Rattle.ffs_volume.specs.declared.Step.TheVariants.{Run, Tail, Gap}
-use Rattle.ffs_volume.specs.Areas.{is_in_range}
-use Rattle.ffs_volume.specs.Directory.{Chunk, Entry, Reading, chunk_of, chunks_of, entries_from, entries_with, entry_at, entry_there, is_held, is_length, is_well_formed, name_at, run_chunks, step_chunks}
-use Rattle.ffs_volume.specs.Graph.{parent, parent_entry}
-use Rattle.ffs_volume.specs.Numbers.{u16_at, u32_at, piece}
-use Rattle.ffs_volume.specs.Parents.{graph_of, seen_at}
-use Rattle.ffs_volume.specs.Paths.{names_down, names_above, name_of}
-use Rattle.ffs_volume.specs.Roles.{Seen, chunk_seen, seen_from, seen_in}
-use Rattle.ffs_volume.specs.Volumes.{volume_of, volume_with, reading_of, kept_at_number}
+use Rattle.ffs_volume.specs.Disk.Areas.{is_in_range}
+use Rattle.ffs_volume.specs.Directories.Entries.{Chunk, Entry, Reading, chunk_of, chunks_of, entries_from, entries_with, entry_at, entry_there, is_held, is_length, is_well_formed, name_at, run_chunks, step_chunks}
+use Rattle.ffs_volume.specs.Directories.Graph.{parent, parent_entry}
+use Rattle.ffs_volume.specs.Disk.Numbers.{u16_at, u32_at, piece}
+use Rattle.ffs_volume.specs.Directories.Parents.{graph_of, roled_at}
+use Rattle.ffs_volume.specs.Directories.Paths.{names_down, names_above, name_of}
+use Rattle.ffs_volume.specs.Directories.Roles.{RoledEntry, roled_chunk, roled_from, roled_entries}
+use Rattle.ffs_volume.specs.Directories.Volumes.{volume_of, volume_with, reading_of, kept_at_number}
 use Rattle.ffs_paths.specs.Slashes.{AreSingle, has_slash}
 
 -- ---- the name of a well formed entry
@@ -72,7 +72,7 @@ abbrev AreSingleChunks : List Chunk → Type 0
 AreSingleChunks [] = Unit {0}
 AreSingleChunks (c ∷ cs) = AreSingleEntries c.entries × AreSingleChunks cs
 
-abbrev AreSingleSeen : List Seen → Type 0
+abbrev AreSingleSeen : List RoledEntry → Type 0
 AreSingleSeen [] = Unit {0}
 AreSingleSeen (s ∷ ss) = (has_slash s.entry.name ≡ false) × AreSingleSeen ss
 
@@ -86,18 +86,18 @@ entries_single order chunk (suc most) place = go (λ p. entries_single order chu
     go more None h = tt
     go more (Some e) h = (entry_single order chunk place e h, more (place + e.length))
 
-seen_single : (first : Bool) (index : ℕ) (es : List Entry) → AreSingleEntries es → AreSingleSeen (seen_from first index es)
-unfolding seen_from
+seen_single : (first : Bool) (index : ℕ) (es : List Entry) → AreSingleEntries es → AreSingleSeen (roled_from first index es)
+unfolding roled_from
 seen_single first index [] h = tt
 seen_single first index (e ∷ es) h = (h.0, seen_single first (suc index) es h.1)
 
-seen_append : (xs ys : List Seen) → AreSingleSeen xs → AreSingleSeen ys → AreSingleSeen (xs ++ ys)
+seen_append : (xs ys : List RoledEntry) → AreSingleSeen xs → AreSingleSeen ys → AreSingleSeen (xs ++ ys)
 seen_append [] ys h k = k
 seen_append (x ∷ xs) ys h k = (h.0, seen_append xs ys h.1 k)
 
-chunks_seen : (cs : List Chunk) → AreSingleChunks cs → AreSingleSeen (flat_map chunk_seen cs)
+chunks_seen : (cs : List Chunk) → AreSingleChunks cs → AreSingleSeen (flat_map roled_chunk cs)
 chunks_seen [] h = tt
-chunks_seen (c ∷ cs) h = seen_append (chunk_seen c) (flat_map chunk_seen cs) (seen_single (c.offset == 0) 0 c.entries h.0) (chunks_seen cs h.1)
+chunks_seen (c ∷ cs) h = seen_append (roled_chunk c) (flat_map roled_chunk cs) (seen_single (c.offset == 0) 0 c.entries h.0) (chunks_seen cs h.1)
 
 chunks_append : (xs ys : List Chunk) → AreSingleChunks xs → AreSingleChunks ys → AreSingleChunks (xs ++ ys)
 chunks_append [] ys h k = k
@@ -125,17 +125,17 @@ steps_single : (r : Reading) (is_in_range : ℕ → ℕ → Bool) (steps : List 
 steps_single r is_in_range [] = tt
 steps_single r is_in_range (s ∷ ss) = chunks_append (step_chunks r is_in_range s) (chunks_of r is_in_range ss) (step_single r is_in_range s) (steps_single r is_in_range ss)
 
-in_single : (v : Layout) (b : List ℕ) (d : ℕ) → AreSingleSeen (seen_in (volume_of v b) d)
-unfolding seen_in volume_of volume_with
+in_single : (v : Layout) (b : List ℕ) (d : ℕ) → AreSingleSeen (roled_entries (volume_of v b) d)
+unfolding roled_entries volume_of volume_with
 in_single v b d = chunks_seen (chunks_of (reading_of v b d) (is_in_range v) (kept_at_number v b d)) (steps_single (reading_of v b d) (is_in_range v) (kept_at_number v b d))
 
 -- ---- those of a path
-at_single : (es : List Seen) → AreSingleSeen es → (i : ℕ) → has_slash (name_of (seen_at es i)) ≡ false
+at_single : (es : List RoledEntry) → AreSingleSeen es → (i : ℕ) → has_slash (name_of (roled_at es i)) ≡ false
 at_single [] h i = refl
 at_single (e ∷ es) h zero = h.0
 at_single (e ∷ es) h (suc i) = at_single es h.1 i
 
-place_single : (es : List Seen) → AreSingleSeen es → (o : Option ℕ) → has_slash (name_of (option_and_then (seen_at es) o)) ≡ false
+place_single : (es : List RoledEntry) → AreSingleSeen es → (o : Option ℕ) → has_slash (name_of (option_and_then (roled_at es) o)) ≡ false
 place_single es h None = refl
 place_single es h (Some i) = at_single es h i
 
@@ -151,4 +151,4 @@ down_single v b (suc k) d = go (λ s. down_single v b k s) (parent (graph_of (vo
     go : ((s : ℕ) → AreSingle (names_down (graph_of (volume_of v b)) k s)) → (o : Option ℕ) → AreSingle (names_above (graph_of (volume_of v b)) (names_down (graph_of (volume_of v b)) k) d o)
     go above None = tt
     go above (Some s) =
-        names_append (names_down (graph_of (volume_of v b)) k s) _ (above s) (place_single (seen_in (volume_of v b) s) (in_single v b s) (parent_entry (graph_of (volume_of v b)) d))
+        names_append (names_down (graph_of (volume_of v b)) k s) _ (above s) (place_single (roled_entries (volume_of v b) s) (in_single v b s) (parent_entry (graph_of (volume_of v b)) d))

@@ -4,7 +4,7 @@ use Rattle.std.specs.Prelude.{nat_le, max, slice_index, if◌then◌else◌, ◌
 use Rattle.std.proofs.lemmas.Bool.{leb-true}
 use Rattle.std.proofs.lemmas.Bool.Decides.{nat_tests}
 use Rattle.std.proofs.lemmas.List.{drop-drop, drop_all, drop_more}
-use Rattle.ffs_volume.specs.Paths.{joined, longest_end, path_text}
+use Rattle.ffs_volume.specs.Directories.Paths.{joined, longest_end, path_text}
 use Rattle.ffs_paths.specs.Slashes.{AreSingle, from_slash, has_slash}
 use Rattle.ffs_paths.proofs.Ends.{end-all, end-more, joined-length, over_is, under_is, whole-length}
 
@@ -75,7 +75,7 @@ ends_same names n from = le_or n from (longest_end (length (joined names) - (fro
     (λ past. ap (λ i. longest_end i names) (omega arith))
     (λ within. end-whole (length (joined names) - (from - n)) names (omega arith) ∙ sym (end-whole (n + length (joined names) - from) names (omega arith)))
 
--- it goes on behind another byte, and ends at a `/` or where nothing is left
+-- it continues after another byte, and ends at a `/` or where nothing is left
 pub slash-here : (bytes : List ℕ) (at : ℕ) → at < length bytes → slice_index bytes at ≡ 47 → from_slash (drop at bytes) ≡ drop at bytes
 slash-here bytes at h e =
     let parts = drop_more bytes at 0 h in
@@ -129,7 +129,7 @@ end_single most (name ∷ names) h = go (nat_le (length (joined (name ∷ names)
     go true rest = h
     go false rest = rest
 
--- the names that stay where not all have room: those from the first `/` on behind which the entry's name has room
+-- the names that stay where not all have room: those from the first `/` on after which the entry's name has room
 tail_at : (names : List (List ℕ)) (short from : ℕ) (bytes : List ℕ) → short ≤ from → short ≤ 1024 → length bytes ≡ 1024 → drop short bytes ≡ joined names → AreSingle names
     → from_slash (drop from bytes) ≡ joined (longest_end (1024 - from) names)
 tail_at names short from bytes after low size held single =

@@ -5,12 +5,12 @@ use Rattle.std.specs.List.{list_any}
 use Rattle.std.proofs.lemmas.List.{drop_all}
 use Rattle.std.proofs.lemmas.Bool.{both_ways, and_parts, ne_eqb, cond-false, eq-eqb}
 use Rattle.ffs_volume.specs.declared.Layout.{Layout}
-use Rattle.ffs_volume.specs.Roles.{Seen}
-use Rattle.ffs_volume.specs.Volumes.{volume_of, volume_with}
-use Rattle.ffs_volume.specs.Graph.{Graph, level, reached, names, names_in, parent, parent_entry, entry_place, first_place}
-use Rattle.ffs_volume.specs.Levels.{level-some, within-zero}
-use Rattle.ffs_volume.specs.Parents.{seen_at, graph_of}
-use Rattle.ffs_volume.specs.Paths.{joined, names_down, names_above, name_of, dir_names, dir_path, entry_path, dir_text, entry_text, path_text}
+use Rattle.ffs_volume.specs.Directories.Roles.{RoledEntry}
+use Rattle.ffs_volume.specs.Directories.Volumes.{volume_of, volume_with}
+use Rattle.ffs_volume.specs.Directories.Graph.{Graph, level, reached, names, names_in, parent, parent_entry, entry_place, first_place}
+use Rattle.ffs_volume.proofs.LevelLaws.{level-some, within-zero}
+use Rattle.ffs_volume.specs.Directories.Parents.{roled_at, graph_of}
+use Rattle.ffs_volume.specs.Directories.Paths.{joined, names_down, names_above, name_of, dir_names, dir_path, entry_path, dir_text, entry_text, path_text}
 use Rattle.ffs_survey.specs.ParentLaws.{parent_above, root_level}
 use Rattle.ffs_paths.specs.declared.buffer.PathBuffer.{PathBuffer}
 use Rattle.ffs_paths.specs.Buffers.{HoldsNames}
@@ -21,25 +21,25 @@ use Rattle.ffs_paths.specs.declared.kept.DirectoryPath.{DirectoryPath}
 use Rattle.ffs_paths.proofs.Ends.{cut-more, end-none}
 
 -- the first name, by the first entry
-pub name_in-here : (d : ℕ) (e : Seen) (es : List Seen) → names d e ≡ true → name_in d (e ∷ es) ≡ e.entry.name
-name_in-here d e es h = ap (λ b. name_of (option_and_then (seen_at (e ∷ es)) (cond b (Some 0) (option_map suc (first_place (names d) es))))) h
+pub name_in-here : (d : ℕ) (e : RoledEntry) (es : List RoledEntry) → names d e ≡ true → name_in d (e ∷ es) ≡ e.entry.name
+name_in-here d e es h = ap (λ b. name_of (option_and_then (roled_at (e ∷ es)) (cond b (Some 0) (option_map suc (first_place (names d) es))))) h
 
-past : (e : Seen) (es : List Seen) (o : Option ℕ) → name_of (option_and_then (seen_at (e ∷ es)) (option_map suc o)) ≡ name_of (option_and_then (seen_at es) o)
+past : (e : RoledEntry) (es : List RoledEntry) (o : Option ℕ) → name_of (option_and_then (roled_at (e ∷ es)) (option_map suc o)) ≡ name_of (option_and_then (roled_at es) o)
 past e es None = refl
 past e es (Some i) = refl
 
-pub name_in-past : (d : ℕ) (e : Seen) (es : List Seen) → names d e ≡ false → name_in d (e ∷ es) ≡ name_in d es
+pub name_in-past : (d : ℕ) (e : RoledEntry) (es : List RoledEntry) → names d e ≡ false → name_in d (e ∷ es) ≡ name_in d es
 name_in-past d e es h =
-    ap (λ b. name_of (option_and_then (seen_at (e ∷ es)) (cond b (Some 0) (option_map suc (first_place (names d) es))))) h ∙ past e es (first_place (names d) es)
+    ap (λ b. name_of (option_and_then (roled_at (e ∷ es)) (cond b (Some 0) (option_map suc (first_place (names d) es))))) h ∙ past e es (first_place (names d) es)
 
--- the climb from d, of level k, has come to a directory with what is behind it
+-- the climb from d, of level k, has reached a directory, with the names below it
 pub record IsOnWay (g : Graph) (k d at step : ℕ) (names : List (List ℕ)) (p : PathBuffer) : Type 0 where
   pub left : ℕ
   pub level : level g at ≡ Some left
   pub steps : left + step ≡ k
-  pub behind : List (List ℕ)
-  pub held : HoldsNames p behind
-  pub whole : names_down g left at ++ behind ≡ names_down g k d ++ names
+  pub following : List (List ℕ)
+  pub held : HoldsNames p following
+  pub whole : names_down g left at ++ following ≡ names_down g k d ++ names
 
 -- a path that is cut holds any names above, too
 pub cut_holds : (p : PathBuffer) (above names : List (List ℕ)) → p.cut ≡ true → HoldsNames p names → HoldsNames p (above ++ names)
@@ -49,11 +49,8 @@ cut_holds p (name ∷ above) names c h =
     let m = cut-more name (above ++ names) (sym r.cut ∙ c) in
     record { whole = λ e. absurd (cc); short = r.short ∙ ap joined (sym m.1); cut = c ∙ sym m.0 }
 
-pub way_starts : (g : Graph) (k d : ℕ) (names : List (List ℕ)) (p : PathBuffer) → level g d ≡ Some k → HoldsNames p names → IsOnWay g k d d 0 names p
-way_starts g k d names p l h = record { left = k; level = l; steps = omega arith; behind = names; held = h; whole = refl }
-
 pub way_cut : (g : Graph) (k d at step : ℕ) (names : List (List ℕ)) (p : PathBuffer) → IsOnWay g k d at step names p → p.cut ≡ true → HoldsNames p (names_down g k d ++ names)
-way_cut g k d at step names p w c = subst (HoldsNames p) w.whole (cut_holds p (names_down g w.left at) w.behind c w.held)
+way_cut g k d at step names p w c = subst (HoldsNames p) w.whole (cut_holds p (names_down g w.left at) w.following c w.held)
 
 names_root : (g : Graph) (k : ℕ) → level g 2 ≡ Some k → names_down g k 2 ≡ []
 unfolding names_down
@@ -63,19 +60,19 @@ names_root g (suc k) h = absurd (both_ways _ ((level-some g (suc k) 2 h).0.least
 pub way_root : (g : Graph) (k d at step : ℕ) (names : List (List ℕ)) (p : PathBuffer) → IsOnWay g k d at step names p → at ≡ 2 → HoldsNames p (names_down g k d ++ names)
 way_root g k d at step names p w e =
     let n = names_root g w.left (subst (λ x. level g x ≡ Some w.left) e w.level) in
-    let m : names_down g w.left at ++ w.behind ≡ w.behind = ap (λ x. names_down g w.left x ++ w.behind) e ∙ ap (λ xs. xs ++ w.behind) n in
+    let m : names_down g w.left at ++ w.following ≡ w.following = ap (λ x. names_down g w.left x ++ w.following) e ∙ ap (λ xs. xs ++ w.following) n in
     subst (HoldsNames p) (sym m ∙ w.whole) w.held
 
 -- a level is below the number of inodes
 pub way_long : (g : Graph) (k d at step : ℕ) (names : List (List ℕ)) (p : PathBuffer) → IsOnWay g k d at step names p → level g d ≡ Some k → step < g.count
 way_long g k d at step names p w h = let l = (level-some g k d h).1 in let s = w.steps in omega arith
 
--- what stands above a directory other than the root
+-- what is above a directory other than the root
 pub record HasParent (g : Graph) (k d at step : ℕ) (ends : List (List ℕ)) (p : PathBuffer) (s : ℕ) : Type 0 where
   pub is : parent g at ≡ Some s
   pub below : s < g.count
   pub dir : g.is_dir s ≡ true
-  pub on : (q : PathBuffer) → ((behind : List (List ℕ)) → HoldsNames p behind → HoldsNames q (name_in at (g.entries s) ∷ behind)) → IsOnWay g k d s (step + 1) ends q
+  pub on : (q : PathBuffer) → ((following : List (List ℕ)) → HoldsNames p following → HoldsNames q (name_in at (g.entries s) ∷ following)) → IsOnWay g k d s (step + 1) ends q
 
 on_front : (xs : List (List ℕ)) (n : List ℕ) (ys : List (List ℕ)) → (xs ++ n ∷ []) ++ ys ≡ xs ++ (n ∷ ys)
 on_front [] n ys = refl
@@ -85,12 +82,12 @@ down_is : (g : Graph) (j at s : ℕ) → at ≢ 2 → parent g at ≡ Some s →
 unfolding names_down
 down_is g j at s n e =
     let place : parent_entry g at ≡ first_place (names at) (g.entries s) = cond-false (at == 2) None (entry_place g at (parent g at)) (ne_eqb at 2 n) ∙ ap (entry_place g at) e in
-    ap (names_above g (names_down g j) at) e ∙ ap (λ o. names_down g j s ++ name_of (option_and_then (seen_at (g.entries s)) o) ∷ []) place
+    ap (names_above g (names_down g j) at) e ∙ ap (λ o. names_down g j s ++ name_of (option_and_then (roled_at (g.entries s)) o) ∷ []) place
 
 pub way_up : (g : Graph) (k d at step : ℕ) (ends : List (List ℕ)) (p : PathBuffer) → IsOnWay g k d at step ends p → at ≢ 2 → (s : ℕ) × HasParent g k d at step ends p s
 way_up g k d at step ends p w n = go w.left w.level w.steps w.whole
   where
-    go : (left : ℕ) → level g at ≡ Some left → left + step ≡ k → names_down g left at ++ w.behind ≡ names_down g k d ++ ends → (s : ℕ) × HasParent g k d at step ends p s
+    go : (left : ℕ) → level g at ≡ Some left → left + step ≡ k → names_down g left at ++ w.following ≡ names_down g k d ++ ends → (s : ℕ) × HasParent g k d at step ends p s
     go zero l e h = absurd (n (root_level g at l))
     go (suc j) l e h =
         let a = parent_above g j at l in
@@ -108,9 +105,9 @@ way_up g k d at step ends p w n = go w.left w.level w.steps w.whole
               left = j;
               level = a.1.near;
               steps = omega arith;
-              behind = name ∷ w.behind;
-              held = f w.behind w.held;
-              whole = sym (on_front (names_down g j s) name w.behind) ∙ (sym (ap (λ xs. xs ++ w.behind) down) ∙ h);
+              following = name ∷ w.following;
+              held = f w.following w.held;
+              whole = sym (on_front (names_down g j s) name w.following) ∙ (sym (ap (λ xs. xs ++ w.following) down) ∙ h);
             };
           },
         )

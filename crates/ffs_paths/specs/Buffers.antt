@@ -1,6 +1,6 @@
 -- What a buffer of a path holds.
 use Rattle.std.specs.Prelude.{ℕ, ◌≡◌, false, nat_lt, List, length, drop}
-use Rattle.ffs_volume.specs.Paths.{joined, longest_end}
+use Rattle.ffs_volume.specs.Directories.Paths.{joined, longest_end}
 use Rattle.ffs_paths.specs.declared.buffer.PathBuffer.{PathBuffer}
 
 -- all of these names where they have room, their longest end of at most 1,023 bytes, and whether they have room

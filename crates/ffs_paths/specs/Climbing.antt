@@ -2,27 +2,27 @@
 use Rattle.std.specs.Prelude.{◌≡◌, ◌*◌, ℕ, List, Option, Some, None, option_and_then, vec_len, slice_index}
 use Rattle.std.specs.Option.{unwrap_or}
 use Rattle.ffs_volume.specs.declared.Layout.{Layout}
-use Rattle.ffs_volume.specs.Graph.{Graph, names, first_place, parent}
-use Rattle.ffs_volume.specs.Parents.{graph_of, seen_at}
-use Rattle.ffs_volume.specs.Paths.{name_of, dir_path, entry_path}
-use Rattle.ffs_volume.specs.Replay.{cut_at}
-use Rattle.ffs_volume.specs.Roles.{Seen}
-use Rattle.ffs_volume.specs.Volumes.{volume_of}
+use Rattle.ffs_volume.specs.Directories.Graph.{Graph, names, first_place, parent}
+use Rattle.ffs_volume.specs.Directories.Parents.{graph_of, roled_at}
+use Rattle.ffs_volume.specs.Directories.Paths.{name_of, dir_path, entry_path}
+use Rattle.ffs_volume.specs.Encodings.Replay.{cut_at}
+use Rattle.ffs_volume.specs.Directories.Roles.{RoledEntry}
+use Rattle.ffs_volume.specs.Directories.Volumes.{volume_of}
 use Rattle.ffs_walk.specs.Windows.{BlocksHold, WindowHolds}
 use Rattle.ffs_workspace.specs.declared.workspace.Windows.{Windows}
 
 -- the name of the first plain entry that names an inode, empty if there is none
-abbrev pub name_in : ℕ → List Seen → List ℕ
-name_in d es = name_of (option_and_then (seen_at es) (first_place (names d) es))
+abbrev pub name_in : ℕ → List RoledEntry → List ℕ
+name_in d es = name_of (option_and_then (roled_at es) (first_place (names d) es))
 
--- the windows are a block's, and hold what the image tells
-pub record AreOpen (v : Layout) (told : Option (List ℕ)) (w : Windows) : Type 0 where
+-- the windows are a block's, and hold what the image gives
+pub record AreOpen (v : Layout) (contents : Option (List ℕ)) (w : Windows) : Type 0 where
   pub table : vec_len w.table.window.buffer ≡ v.bsize
   pub blocks : vec_len w.blocks.buffer ≡ 3 * v.bsize
   pub chunk : vec_len w.chunk.buffer ≡ v.bsize
-  pub table_holds : WindowHolds told w.table.window
-  pub blocks_hold : BlocksHold v told w.blocks
-  pub chunk_holds : WindowHolds told w.chunk
+  pub table_holds : WindowHolds contents w.table.window
+  pub blocks_hold : BlocksHold v contents w.blocks
+  pub chunk_holds : WindowHolds contents w.chunk
 
 -- these are the cuts of the inodes, and the parents of the directories, or 0
 pub record LeadUp (v : Layout) (b cut parents : List ℕ) : Type 0 where

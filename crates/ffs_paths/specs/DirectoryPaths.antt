@@ -1,7 +1,7 @@
 -- What the path of a directory holds that is kept.
 use Rattle.std.specs.Prelude.{◌≡◌, ℕ, true, false, List, Option, Some, None}
-use Rattle.ffs_volume.specs.Graph.{Graph}
-use Rattle.ffs_volume.specs.Paths.{dir_names}
+use Rattle.ffs_volume.specs.Directories.Graph.{Graph}
+use Rattle.ffs_volume.specs.Directories.Paths.{dir_names}
 use Rattle.ffs_paths.specs.Buffers.{HoldsNames}
 use Rattle.ffs_paths.specs.Slashes.{AreSingle}
 use Rattle.ffs_paths.specs.declared.kept.DirectoryPath.{DirectoryPath}

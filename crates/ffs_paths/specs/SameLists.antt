@@ -5,8 +5,8 @@ use Rattle.ffs_workspace.specs.declared.workspace.Workspace.{Workspace}
 -- all of a workspace but its windows
 pub record SameLists (old new : Workspace) : Type 0 where
   pub claimed : new.claimed ≡ old.claimed
-  pub doubled : new.doubled ≡ old.doubled
-  pub untold : new.untold ≡ old.untold
+  pub duplicates : new.duplicates ≡ old.duplicates
+  pub unreported : new.unreported ≡ old.unreported
   pub kinds : new.kinds ≡ old.kinds
   pub marked : new.marked ≡ old.marked
   pub named : new.named ≡ old.named

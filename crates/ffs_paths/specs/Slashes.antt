@@ -10,7 +10,7 @@ abbrev pub AreSingle : List (List ℕ) → Type 0
 AreSingle [] = Unit {0}
 AreSingle (name ∷ names) = (has_slash name ≡ false) × AreSingle names
 
--- what stands from the first `/` on
+-- what is from the first `/` on
 abbrev pub from_slash : List ℕ → List ℕ
 from_slash [] = []
 from_slash (x ∷ xs) = if x == 47 then x ∷ xs else from_slash xs

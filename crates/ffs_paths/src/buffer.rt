@@ -8,7 +8,7 @@ use arrayvec::ArrayVec;
 /// The text of a path.
 pub type PathText = ArrayVec<u8, 1024>;
 
-/// The names of a path, each behind a `/`, as far as they are known: from the last one to the front.
+/// The names of a path, each after a `/`, as far as they are known: the last one first.
 ///
 /// Where they take more than 1,024 bytes it keeps the longest end of whole names of at most 1,023 bytes.
 #[derive(Drop)]
@@ -26,14 +26,14 @@ pub struct PathBuffer {
     ghost long: { length bytes ≡ 1024 },
 }
 
-/// Puts `/` and a name in front of what stands from `end` on. The answer is where they begin.
+/// Puts `/` and a name before what is from `end` on. The answer is where they begin.
 fn put_front(bytes: &mut [u8; 1024], end: usize, name: &[u8]) -> usize
     requires room { length name.now < end }
     requires end { end ≤ 1024 }
     ensures start { result + length name.now + 1 ≡ end }
     ensures len { length bytes.new ≡ 1024 }
     ensures bytes { drop result bytes.new ≡ 47 ∷ name.now ++ drop end bytes.old }
-    ensures behind { (k : ℕ) → end ≤ k → drop k bytes.new ≡ drop k bytes.old }
+    ensures following { (k : ℕ) → end ≤ k → drop k bytes.new ≡ drop k bytes.old }
 {
     let start = end - name.len() - 1;
     bytes[start] = b'/';
@@ -41,7 +41,7 @@ fn put_front(bytes: &mut [u8; 1024], end: usize, name: &[u8]) -> usize
     start
 }
 
-/// Where the first `/` from a place on stands, or the end.
+/// Where the first `/` from a place on is, or the end.
 fn slash_from(bytes: &[u8; 1024], place: usize) -> usize
     requires { place ≤ 1024 }
     ensures first { drop result bytes.now ≡ from_slash (drop place bytes.now) }
@@ -56,7 +56,7 @@ fn slash_from(bytes: &[u8; 1024], place: usize) -> usize
     1024
 }
 
-/// Writes what stands from `start` on, `/` and a name.
+/// Writes what is from `start` on, `/` and a name.
 fn put_from(bytes: &[u8; 1024], start: usize, name: &[u8], text: &mut PathText)
     requires start { start ≤ 1024 }
     requires room { length text.old.items + (1024 - start) + 1 + length name.now ≤ 1024 }
@@ -68,7 +68,7 @@ fn put_from(bytes: &[u8; 1024], start: usize, name: &[u8], text: &mut PathText)
 }
 
 impl PathBuffer {
-    ghost use Rattle.ffs_volume.specs.Paths.{dir_text, path_text};
+    ghost use Rattle.ffs_volume.specs.Directories.Paths.{dir_text, path_text};
     ghost use Rattle.ffs_paths.specs.Buffers.{HoldsNames};
     ghost use Rattle.ffs_paths.specs.Slashes.{AreSingle};
 
@@ -84,9 +84,10 @@ impl PathBuffer {
         }
     }
 
-    /// Puts a name in front.
+    /// Puts a name before them.
     pub fn push_front(&mut self, name: &[u8])
-        ensures { (names : List (List ℕ)) → HoldsNames self.old names → HoldsNames self.new (name.now ∷ names) }
+        ensures { (names : List (List ℕ)) → HoldsNames self.old names
+            → HoldsNames self.new (name.now ∷ names) }
     {
         if self.cut {
             return;
@@ -105,7 +106,8 @@ impl PathBuffer {
     /// Writes the path: `/` where it has no names, and `?` before its end where it is cut.
     pub fn put(&self, text: &mut PathText)
         requires { text.old.items ≡ [] }
-        ensures { (names : List (List ℕ)) → HoldsNames self.now names → text.new.items ≡ dir_text (Some names) }
+        ensures { (names : List (List ℕ)) → HoldsNames self.now names → text.new.items
+            ≡ dir_text (Some names) }
     {
         if self.cut {
             text.push(b'?');
@@ -123,7 +125,8 @@ impl PathBuffer {
     pub fn put_with(&self, name: &[u8], text: &mut PathText)
         requires empty { text.old.items ≡ [] }
         requires name { length name.now ≤ 255 }
-        ensures { (names : List (List ℕ)) → HoldsNames self.now names → AreSingle names → text.new.items ≡ path_text (names ++ name.now ∷ []) }
+        ensures { (names : List (List ℕ)) → HoldsNames self.now names → AreSingle names
+            → text.new.items ≡ path_text (names ++ name.now ∷ []) }
     {
         if !self.cut && name.len() < self.start {
             put_from(&self.bytes, self.start, name, text);

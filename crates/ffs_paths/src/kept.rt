@@ -12,14 +12,15 @@ pub struct DirectoryPath {
 }
 
 impl DirectoryPath {
-    ghost use Rattle.ffs_volume.specs.Graph.{Graph};
-    ghost use Rattle.ffs_volume.specs.Paths.{dir_path, entry_path};
+    ghost use Rattle.ffs_volume.specs.Directories.Graph.{Graph};
+    ghost use Rattle.ffs_volume.specs.Directories.Paths.{dir_path, entry_path};
     ghost use Rattle.ffs_paths.specs.DirectoryPaths.{IsPathOf};
 
     /// Writes the path of the directory: `?` where it is not reached.
     pub fn put(&self, text: &mut PathText)
         requires { text.old.items ≡ [] }
-        ensures { (g : Graph) (dir : ℕ) → IsPathOf g dir self.now → text.new.items ≡ dir_path g dir }
+        ensures { (g : Graph) (dir : ℕ) → IsPathOf g dir self.now → text.new.items
+            ≡ dir_path g dir }
     {
         if self.reached {
             self.names.put(text);
@@ -32,7 +33,8 @@ impl DirectoryPath {
     pub fn put_entry(&self, name: &[u8], text: &mut PathText)
         requires empty { text.old.items ≡ [] }
         requires name { length name.now ≤ 255 }
-        ensures { (g : Graph) (dir : ℕ) → IsPathOf g dir self.now → text.new.items ≡ entry_path g dir name.now }
+        ensures { (g : Graph) (dir : ℕ) → IsPathOf g dir self.now → text.new.items
+            ≡ entry_path g dir name.now }
     {
         if self.reached {
             self.names.put_with(name, text);

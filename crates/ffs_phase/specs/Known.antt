@@ -2,9 +2,9 @@
 use Rattle.std.specs.Prelude.{◌≡◌, ℕ, List, Option, Some}
 
 -- of all bytes of which a thing is known
-abbrev pub Where : (List ℕ → Type 0) → (List ℕ → Type 0) → Type 0
-Where knows P = (bytes : List ℕ) → knows bytes → P bytes
+abbrev pub ForBytes : (List ℕ → Type 0) → (List ℕ → Type 0) → Type 0
+ForBytes knows P = (bytes : List ℕ) → knows bytes → P bytes
 
--- they are the bytes that an image tells
-abbrev pub Tells : Option (List ℕ) → List ℕ → Type 0
-Tells told bytes = told ≡ Some bytes
+-- they are the bytes that an image gives
+abbrev pub IsContents : Option (List ℕ) → List ℕ → Type 0
+IsContents contents bytes = contents ≡ Some bytes

@@ -1,18 +1,18 @@
 -- What a phase leaves of its image and of its report, by its answer. `knows` is what is known of the image's bytes: that
--- the image tells them, and what the workspace holds of them. Where nothing is known, some messages were said.
+-- the image gives them, and what the workspace holds of them. Where nothing is known, some messages were said.
 use Rattle.std.specs.Prelude.{◌≡◌, ℕ, List, [], ◌++◌, Result, Ok, Err}
 use Rattle.ffs_image.specs.Device.{Device, Faulted}
-use Rattle.ffs_volume.specs.Messages.{Message}
+use Rattle.ffs_volume.specs.Messages.Kinds.{Message}
 use Rattle.ffs_report.specs.Progress.{Progress, Said, Stopped}
 use Rattle.ffs_phase.specs.declared.fault.RunFault.{RunFault}
 use Rattle.ffs_phase.specs.declared.fault.RunFault.TheVariants.{Read, Out}
-use Rattle.ffs_phase.specs.Known.{Where}
+use Rattle.ffs_phase.specs.Known.{ForBytes}
 
--- a read's fault is told by the image, and no other answer touches the image
-abbrev pub Reads : {T : Type 0} → Device → Device → Result T RunFault → Type 0
-Reads old new (Ok x) = new ≡ old
-Reads old new (Err (Read fault)) = Faulted old new fault.sector
-Reads old new (Err (Out fault)) = new ≡ old
+-- a read's fault is given by the image, and no other answer touches the image
+abbrev pub ImageAfter : {T : Type 0} → Device → Device → Result T RunFault → Type 0
+ImageAfter old new (Ok x) = new ≡ old
+ImageAfter old new (Err (Read fault)) = Faulted old new fault.sector
+ImageAfter old new (Err (Out fault)) = new ≡ old
 
 -- messages were said, and with those that are to come they are all
 pub record SaidTo (rest all : List Message) (old new : Progress) : Type 0 where
@@ -23,23 +23,23 @@ pub record SaidTo (rest all : List Message) (old new : Progress) : Type 0 where
 -- the same, where the messages to come, and all of them, are those of an image's bytes
 pub record SaidOf (knows : List ℕ → Type 0) (rest all : List ℕ → List Message) (old new : Progress) : Type 0 where
   pub messages : List Message
-  pub right : Where knows (λ bytes. messages ++ rest bytes ≡ all bytes)
+  pub right : ForBytes knows (λ bytes. messages ++ rest bytes ≡ all bytes)
   pub said : Said old new messages
 
 -- whole messages were said, and others were to come
-pub record SaidFrontOf (knows : List ℕ → Type 0) (all : List ℕ → List Message) (old new : Progress) : Type 0 where
+pub record SaidPrefixOf (knows : List ℕ → Type 0) (all : List ℕ → List Message) (old new : Progress) : Type 0 where
   pub rest : List ℕ → List Message
-  pub front : SaidOf knows rest all old new
+  pub prefix : SaidOf knows rest all old new
 
 -- the output failed among the messages
 pub record StoppedOf (knows : List ℕ → Type 0) (all : List ℕ → List Message) (old new : Progress) : Type 0 where
   pub messages : List Message
   pub rest : List ℕ → List Message
-  pub right : Where knows (λ bytes. messages ++ rest bytes ≡ all bytes)
+  pub right : ForBytes knows (λ bytes. messages ++ rest bytes ≡ all bytes)
   pub stopped : Stopped old new messages
 
--- all messages at Ok, whole ones at a read's fault, a front of their bytes at a fault of the output
-abbrev pub TellsOf : {T : Type 0} → (List ℕ → Type 0) → (List ℕ → List Message) → Progress → Progress → Result T RunFault → Type 0
-TellsOf knows all old new (Ok x) = SaidOf knows (λ bytes. []) all old new
-TellsOf knows all old new (Err (Read fault)) = SaidFrontOf knows all old new
-TellsOf knows all old new (Err (Out fault)) = StoppedOf knows all old new
+-- all messages at Ok, whole ones at a read's fault, a prefix of their bytes at a fault of the output
+abbrev pub PhaseReports : {T : Type 0} → (List ℕ → Type 0) → (List ℕ → List Message) → Progress → Progress → Result T RunFault → Type 0
+PhaseReports knows all old new (Ok x) = SaidOf knows (λ bytes. []) all old new
+PhaseReports knows all old new (Err (Read fault)) = SaidPrefixOf knows all old new
+PhaseReports knows all old new (Err (Out fault)) = StoppedOf knows all old new

@@ -1,11 +1,11 @@
--- How a report goes on. (For the layers above.)
+-- How a report continues. (For the layers above.)
 use Rattle.std.proofs.Common.{◌≡◌, inl, inr, refl, ◌∙◌, ◌+◌, ◌<◌, ℕ, suc, sym, ap, subst, List, [], ◌∷◌, ◌++◌, length, take, drop, get_or, map, append_assoc, Bool, true, false, ◌||◌, Result, Ok, Err}
 use Rattle.std.proofs.Math.Seq.{drop-cons}
 use Rattle.std.proofs.lemmas.List.{take-append-drop, map-append, map_more}
 use Rattle.std.proofs.lemmas.List.Concat.{flat_map-append}
 use Rattle.std.proofs.Math.Bool.{or_assoc}
-use Rattle.ffs_volume.specs.Messages.{Message, is_defect, has_defect}
-use Rattle.ffs_volume.specs.Texts.{text_of, texts_of}
+use Rattle.ffs_volume.specs.Messages.Kinds.{Message, is_defect, has_defect}
+use Rattle.ffs_volume.specs.Messages.Texts.{text_of, texts_of}
 use Rattle.ffs_report.specs.Progress.{Progress, Said, Stopped, Says}
 use Rattle.ffs_report.proofs.Sinks.{Appends-then, took_nil, took_then}
 
@@ -33,10 +33,10 @@ pub stopped_after : (a b c : Progress) (xs ys : List Message) → Said a b xs �
 stopped_after a b c xs ys p q = record {
   output = q.output ∙ p.output;
   lent = q.lent ∙ p.took.lent;
-  front = texts_of xs ++ q.front;
+  prefix = texts_of xs ++ q.prefix;
   rest = q.rest;
-  whole = flat_map-append text_of xs ys ∙ ap (λ z. texts_of xs ++ z) q.whole ∙ sym (append_assoc (texts_of xs) q.front q.rest);
-  taken = Appends-then a.sink.taken b.sink.taken c.sink.taken (texts_of xs) q.front p.took.taken q.taken;
+  whole = flat_map-append text_of xs ys ∙ ap (λ z. texts_of xs ++ z) q.whole ∙ sym (append_assoc (texts_of xs) q.prefix q.rest);
+  taken = Appends-then a.sink.taken b.sink.taken c.sink.taken (texts_of xs) q.prefix p.took.taken q.taken;
   failed = q.failed;
   cause = elim q.cause [ inl f ↦ inl (sym p.failed ∙ f) | inr r ↦ inr (rw p.took.failures at r) ];
 }
@@ -45,9 +45,9 @@ pub stopped_more : (a b : Progress) (xs ys : List Message) → Stopped a b xs �
 stopped_more a b xs ys p = record {
   output = p.output;
   lent = p.lent;
-  front = p.front;
+  prefix = p.prefix;
   rest = p.rest ++ texts_of ys;
-  whole = flat_map-append text_of xs ys ∙ ap (λ z. z ++ texts_of ys) p.whole ∙ append_assoc p.front p.rest (texts_of ys);
+  whole = flat_map-append text_of xs ys ∙ ap (λ z. z ++ texts_of ys) p.whole ∙ append_assoc p.prefix p.rest (texts_of ys);
   taken = p.taken;
   failed = p.failed;
   cause = p.cause;
@@ -57,14 +57,3 @@ stopped_more a b xs ys p = record {
 pub says_then : {T E : Type 0} (a b c : Progress) (xs ys : List Message) (r : Result T E) → Said a b xs → Says b c ys r → Says a c (xs ++ ys) r
 says_then a b c xs ys (Ok x) p q = said_then a b c xs ys p q
 says_then a b c xs ys (Err e) p q = stopped_after a b c xs ys p q
-
--- a loop that says a message for each item: one more
-pub said_item : {X : Type 0} (f : X → Message) (a b c : Progress) (xs : List X) (i : ℕ) (d : X) → i < length xs → Said a b (map f (take i xs)) → Said b c (f (get_or xs i d) ∷ []) → Said a c (map f (take (i + 1) xs))
-said_item f a b c xs i d h p q = rw (map_more f xs i d h) (said_then a b c (map f (take i xs)) (f (get_or xs i d) ∷ []) p q)
-
--- it stopped at one
-pub stopped_item : {X : Type 0} (f : X → Message) (a b c : Progress) (xs : List X) (i : ℕ) (d : X) → i < length xs → Said a b (map f (take i xs)) → Stopped b c (f (get_or xs i d) ∷ []) → Stopped a c (map f xs)
-stopped_item f a b c xs i d h p q =
-    subst (Stopped a c) (sym (ap (map f) (sym (take-append-drop i xs) ∙ ap (λ ys. take i xs ++ ys) (drop-cons xs i d h)) ∙ map-append f (take i xs) (get_or xs i d ∷ drop (suc i) xs)))
-    (stopped_after a b c (map f (take i xs)) (f (get_or xs i d) ∷ map f (drop (suc i) xs)) p
-    (stopped_more b c (f (get_or xs i d) ∷ []) (map f (drop (suc i) xs)) q))

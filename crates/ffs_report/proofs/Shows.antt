@@ -1,7 +1,7 @@
 -- How bytes are shown run by run: `from` is where the run begins that has not gone out yet.
 use Rattle.std.proofs.Common.{◌≡◌, ◌∙◌, ◌+◌, ◌-◌, ◌<◌, ℕ, List, [], ◌∷◌, ◌++◌, length, take, drop, get_or, map, refl, sym, ap, subst, arith, append_assoc, true, Result}
 use Rattle.std.proofs.lemmas.List.{take-append-drop, take_all, map-append, map_more}
-use Rattle.ffs_volume.specs.Shown.{is_control, shown}
+use Rattle.ffs_volume.specs.Messages.Shown.{is_control, shown}
 use Rattle.ffs_report.specs.Sink.{Sink, Took, BrokeOff, Prints}
 use Rattle.ffs_report.proofs.Sinks.{broke_off_after, broke_off_more, prints_then}
 
@@ -16,7 +16,7 @@ IsRun bytes from at = map shown (take at bytes) ≡ map shown (take from bytes) 
 control_byte : (byte : ℕ) → is_control byte ≡ true → shown byte ≡ 63
 control_byte byte e = rw e refl
 
--- a run and the question mark behind it
+-- a run and the question mark after it
 whole_run : (bytes : List ℕ) (from at : ℕ) → at < length bytes → is_control (get_or bytes at 0) ≡ true → IsRun bytes from at →
     map shown (take (at + 1) bytes) ≡ map shown (take from bytes) ++ (run bytes from at ++ (63 ∷ []))
 whole_run bytes from at below control e =

@@ -1,5 +1,5 @@
 -- The message of a line.
-use Rattle.ffs_volume.specs.Messages.{Message, location, opening, bad_super, cannot_read, cannot_alloc, optimization, minfree, mounted, phase1, phase1b, phase2, phase3, phase4, phase5, of_blocks, of_names, summary, NameMessage, root_none, root_not_dir, root_suspect, dir_short, dir_length, dir_empty, dir_corrupt, missing_dot, missing_dot_first, number_dot, kind_dot, missing_dotdot, missing_dotdot_second, number_dotdot, kind_dotdot, extra_dot, extra_dotdot, out_of_range, whiteout, unallocated, dup_bad, zero_dir, extraneous, kind_entry, unref_dir, dead_marked, dead_zero, unref, unref_zero, link_count}
+use Rattle.ffs_volume.specs.Messages.Kinds.{Message, location, opening, bad_super, cannot_read, cannot_alloc, optimization, minfree, mounted, phase1, phase1b, phase2, phase3, phase4, phase5, of_blocks, of_names, summary, NameMessage, root_none, root_not_dir, root_suspect, dir_short, dir_length, dir_empty, dir_corrupt, missing_dot, missing_dot_first, number_dot, kind_dot, missing_dotdot, missing_dotdot_second, number_dotdot, kind_dotdot, extra_dot, extra_dotdot, out_of_range, whiteout, unallocated, dup_bad, zero_dir, extraneous, kind_entry, unref_dir, dead_marked, dead_zero, unref, unref_zero, link_count}
 use Rattle.ffs_report.specs.declared.line.Line.{Line}
 use Rattle.ffs_report.specs.declared.line.Line.TheVariants.{Location, Opening, BadSuper, CannotRead, CannotAlloc, Optimization, Minfree, Mounted, Heading, Block, Directory, Dot, Entry, Reference, Summary}
 use Rattle.ffs_report.specs.declared.line.Heading.{Heading as HeadingLine}

@@ -3,8 +3,8 @@ use Rattle.std.specs.Prelude.{◌≡◌, ◌⊎◌, ℕ, List, ◌++◌, Bool, t
 use Rattle.std.specs.Borrow.{GName}
 use Rattle.std.specs.Io.KnownBytes.{Appends}
 use Rattle.ffs_report.specs.Sink.{Sink, Took, Rose}
-use Rattle.ffs_volume.specs.Messages.{Message, has_defect}
-use Rattle.ffs_volume.specs.Texts.{texts_of}
+use Rattle.ffs_volume.specs.Messages.Kinds.{Message, has_defect}
+use Rattle.ffs_volume.specs.Messages.Texts.{texts_of}
 use Rattle.ffs_report.specs.declared.report.Report.{Report}
 
 -- the reference to its output, what that took, whether a line has failed, and whether a defect was said
@@ -34,14 +34,14 @@ pub record Said (old new : Progress) (messages : List Message) : Type 0 where
   pub failed : new.failed ≡ old.failed
   pub defect : new.defect ≡ (old.defect || has_defect messages)
 
--- a front of these messages' bytes went out, and then the output failed, or it had failed before
+-- a prefix of these messages' bytes went out, and then the output failed, or it had failed before
 pub record Stopped (old new : Progress) (messages : List Message) : Type 0 where
   pub output : new.output ≡ old.output
   pub lent : new.sink.lent ≡ old.sink.lent
-  pub front : List ℕ
+  pub prefix : List ℕ
   pub rest : List ℕ
-  pub whole : texts_of messages ≡ front ++ rest
-  pub taken : Appends old.sink.taken new.sink.taken front
+  pub whole : texts_of messages ≡ prefix ++ rest
+  pub taken : Appends old.sink.taken new.sink.taken prefix
   pub failed : new.failed ≡ true
   pub cause : (old.failed ≡ true) ⊎ Rose old.sink.failures new.sink.failures
 

@@ -26,7 +26,7 @@ pub enum Line<'a> {
     Minfree {
         value: i32,
     },
-    /// The mount point, without the NUL behind it.
+    /// The mount point, without the NUL after it.
     Mounted {
         mount: &'a [u8],
     },

@@ -4,7 +4,7 @@ ghost use Rattle.ffs_report.specs.Sink.{Prints};
 ghost use Rattle.ffs_report.specs.Piece.{pieces_text};
 ghost use Rattle.ffs_report.specs.Lines.{directory_message, dot_message, entry_message, reference_message};
 ghost use Rattle.ffs_volume.specs.declared.Label.TheVariants.{Dir};
-ghost use Rattle.ffs_volume.specs.Texts.{path_label, file_label, attr_text, inode_text, kind_text, path_text, name_in_the_way, length_text, empty_text, entry_text, extraneous_text, links_text, name_text};
+ghost use Rattle.ffs_volume.specs.Messages.Texts.{path_label, file_label, attr_text, inode_text, kind_text, path_text, name_in_the_way, length_text, empty_text, entry_text, extraneous_text, links_text, name_text};
 
 use crate::line::{DirectoryLine, DotLine, EntryLine, ReferenceLine};
 use crate::output::{OutFault, Output};
@@ -64,7 +64,8 @@ fn print_inode<W: Output>(
     attr: &Attr,
     tail: &[Piece<'_>],
 ) -> Result<(), OutFault>
-    ensures { Prints (W.sink out.old) (W.sink out.new) (inode_text head.now attr.now (pieces_text tail.now)) result }
+    ensures { Prints (W.sink out.old) (W.sink out.new)
+        (inode_text head.now attr.now (pieces_text tail.now)) result }
 {
     print(out, head)?;
     print_attr(out, attr)?;
@@ -79,7 +80,8 @@ fn print_kind<W: Output>(
     attr: &Attr,
     tail: &[Piece<'_>],
 ) -> Result<(), OutFault>
-    ensures { Prints (W.sink out.old) (W.sink out.new) (kind_text head.now label attr.now (pieces_text tail.now)) result }
+    ensures { Prints (W.sink out.old) (W.sink out.new)
+        (kind_text head.now label attr.now (pieces_text tail.now)) result }
 {
     print(out, head)?;
     print_inode(out, file_label(label), attr, tail)
@@ -94,7 +96,8 @@ fn print_path<'x, W: Output>(
     path: &'x [u8],
     tail: &'x [u8],
 ) -> Result<(), OutFault>
-    ensures { Prints (W.sink out.old) (W.sink out.new) (path_text head.now attr.now label path.now tail.now) result }
+    ensures { Prints (W.sink out.old) (W.sink out.new)
+        (path_text head.now attr.now label path.now tail.now) result }
 {
     print_inode(
         out,
@@ -108,7 +111,7 @@ fn print_path<'x, W: Output>(
     )
 }
 
-/// A directory, and the entry that stands in the way of `.` or `..`.
+/// A directory, and the entry in the place of `.` or `..`.
 fn print_in_the_way<'x, W: Output>(
     out: &mut W,
     head: &'x [u8],
@@ -117,7 +120,8 @@ fn print_in_the_way<'x, W: Output>(
     why: &'x [u8],
     name: &'x [u8],
 ) -> Result<(), OutFault>
-    ensures { Prints (W.sink out.old) (W.sink out.new) (name_in_the_way head.now attr.now path.now why.now name.now) result }
+    ensures { Prints (W.sink out.old) (W.sink out.new)
+        (name_in_the_way head.now attr.now path.now why.now name.now) result }
 {
     print_inode(
         out,
@@ -168,7 +172,8 @@ fn print_numbered<'x, W: Output>(
     path: &'x [u8],
     tail: &'x [u8],
 ) -> Result<(), OutFault>
-    ensures { Prints (W.sink out.old) (W.sink out.new) (entry_text head.now number path.now tail.now) result }
+    ensures { Prints (W.sink out.old) (W.sink out.new)
+        (entry_text head.now number path.now tail.now) result }
 {
     print_pieces(
         out,
@@ -207,7 +212,8 @@ fn print_links<W: Output>(
     count: i16,
     right: u64,
 ) -> Result<(), OutFault>
-    ensures { Prints (W.sink out.old) (W.sink out.new) (links_text label attr.now count right) result }
+    ensures { Prints (W.sink out.old) (W.sink out.new) (links_text label attr.now count right)
+        result }
 {
     print_kind(
         out,
@@ -232,14 +238,16 @@ fn print_dir<'x, W: Output>(
     path: &'x [u8],
     tail: &'x [u8],
 ) -> Result<(), OutFault>
-    ensures { Prints (W.sink out.old) (W.sink out.new) (path_text head.now attr.now Dir path.now tail.now) result }
+    ensures { Prints (W.sink out.old) (W.sink out.new)
+        (path_text head.now attr.now Dir path.now tail.now) result }
 {
     print_path(out, head, attr, Label::Dir, path, tail)
 }
 
 /// What is wrong with a directory as a whole.
 pub fn print_directory<W: Output>(out: &mut W, line: &DirectoryLine<'_>) -> Result<(), OutFault>
-    ensures { Prints (W.sink out.old) (W.sink out.new) (name_text (directory_message line.now)) result }
+    ensures { Prints (W.sink out.old) (W.sink out.new) (name_text (directory_message line.now))
+        result }
 {
     match *line {
         DirectoryLine::RootNone => print(out, ROOT_NONE),
@@ -324,7 +332,8 @@ pub fn print_entry<W: Output>(out: &mut W, line: &EntryLine<'_>) -> Result<(), O
 
 /// What is wrong with an inode by the entries that name it.
 pub fn print_reference<W: Output>(out: &mut W, line: &ReferenceLine) -> Result<(), OutFault>
-    ensures { Prints (W.sink out.old) (W.sink out.new) (name_text (reference_message line.now)) result }
+    ensures { Prints (W.sink out.old) (W.sink out.new) (name_text (reference_message line.now))
+        result }
 {
     match *line {
         ReferenceLine::UnrefDir { attr } => print_inode(

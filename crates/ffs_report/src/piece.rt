@@ -10,9 +10,9 @@ pub enum Piece<'a> {
     Number(u64),
     Signed(i64),
     Small(i32),
-    /// A number, and what stands after it.
+    /// A number, and the text after it.
     Count(u64, &'a [u8]),
-    /// A signed number, and what stands after it.
+    /// A signed number, and the text after it.
     Total(i64, &'a [u8]),
     /// The minus of a number below zero.
     Sign(i64),

@@ -1,7 +1,7 @@
 // A report over an output.
 ghost use Rattle.std.specs.Prelude.{◌≡◌, [], ◌∷◌, true, false, IsErr, OnErr};
 ghost use Rattle.std.specs.Bool.{OnTrue};
-ghost use Rattle.ffs_volume.specs.Messages.{is_defect};
+ghost use Rattle.ffs_volume.specs.Messages.Kinds.{is_defect};
 ghost use Rattle.ffs_report.specs.Lines.{message_of};
 ghost use Rattle.ffs_report.specs.Progress.{progress, starts, Says};
 
@@ -17,7 +17,7 @@ pub struct Report<'a, W> {
     defect: bool,
 }
 
-/// Whether a line tells a defect of the volume.
+/// Whether a line reports a defect of the volume.
 fn is_defect(line: &Line<'_>) -> bool
     ensures { result ≡ is_defect (message_of line.now) }
 {
@@ -48,19 +48,22 @@ impl<'a, W: Output> Report<'a, W> {
         }
     }
 
-    /// Whether a line that tells a defect was said by a call that answered `Ok`.
+    /// Whether a line that reports a defect was said by a call that answered `Ok`.
     pub fn any_defect(&self) -> bool
         ensures { result ≡ (progress W.sink self.now).defect }
     {
         self.defect
     }
 
-    /// Says a line and its questions. After an `Err`, when a front of their bytes may have gone out, each later call
+    /// Says a line and its questions. After an `Err`, when a prefix of their bytes may have gone out, each later call
     /// answers `Err` and writes nothing.
     pub fn say(&mut self, line: &Line<'_>) -> Result<(), OutFault>
-        ensures said { Says (progress W.sink self.old) (progress W.sink self.new) (message_of line.now ∷ []) result }
-        ensures defect { OnErr result ((progress W.sink self.new).defect ≡ (progress W.sink self.old).defect) }
-        ensures over { OnTrue (progress W.sink self.old).failed (IsErr result × (progress W.sink self.new ≡ progress W.sink self.old)) }
+        ensures said { Says (progress W.sink self.old) (progress W.sink self.new)
+            (message_of line.now ∷ []) result }
+        ensures defect { OnErr result ((progress W.sink self.new).defect
+            ≡ (progress W.sink self.old).defect) }
+        ensures over { OnTrue (progress W.sink self.old).failed
+            (IsErr result × (progress W.sink self.new ≡ progress W.sink self.old)) }
     {
         if self.failed {
             return Err(OutFault);

@@ -2,7 +2,7 @@
 ghost use Rattle.std.specs.Prelude.{◌≡◌};
 ghost use Rattle.ffs_report.specs.Sink.{Prints};
 ghost use Rattle.ffs_report.specs.Lines.{message_of, heading_message};
-ghost use Rattle.ffs_volume.specs.Texts.{text_of, number_text, fault_text, opening_text, mounted_text, minfree_text, claim_text, block_count_text, block_text, summary_text};
+ghost use Rattle.ffs_volume.specs.Messages.Texts.{text_of, number_text, fault_text, opening_text, mounted_text, minfree_text, claim_text, block_count_text, block_text, summary_text};
 
 use crate::line::{Heading, Line};
 use crate::names::{print_directory, print_dot, print_entry, print_reference};
@@ -62,7 +62,8 @@ fn print_number<'x, W: Output>(
     number: u64,
     tail: &'x [u8],
 ) -> Result<(), OutFault>
-    ensures { Prints (W.sink out.old) (W.sink out.new) (number_text head.now number tail.now) result }
+    ensures { Prints (W.sink out.old) (W.sink out.new) (number_text head.now number tail.now)
+        result }
 {
     print_pieces(
         out,
@@ -217,7 +218,8 @@ fn print_summary<W: Output>(
     blocks: i32,
     tenths: i64,
 ) -> Result<(), OutFault>
-    ensures { Prints (W.sink out.old) (W.sink out.new) (summary_text files used free frags blocks tenths) result }
+    ensures { Prints (W.sink out.old) (W.sink out.new)
+        (summary_text files used free frags blocks tenths) result }
 {
     let size = tenths.unsigned_abs();
     print_pieces(

@@ -62,7 +62,8 @@ impl<S: Write> Write for SilentWriter<S> {
     /// Errors: those of the writer below, a write that takes nothing, and each write after a failure.
     fn write(&mut self, buf: &[u8]) -> io::Result<usize>
         ensures bound { WritesAtMost result buf.now }
-        ensures bytes { WriteAppends (S.contents self.old.inner) (S.contents self.new.inner) result buf.now }
+        ensures bytes { WriteAppends (S.contents self.old.inner) (S.contents self.new.inner) result
+            buf.now }
         ensures some { 0 < length buf.now → IfOk result (λ n. 0 < n) }
 
         // After a failure each write fails, and the writer below is untouched.

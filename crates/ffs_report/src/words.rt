@@ -1,6 +1,6 @@
 // The words of the lines: how they begin, and with what question they end.
 
-// A line's end, and the question behind it with its answer.
+// A line's end, and the question after it with its answer.
 pub const CLEAR: &[u8] = b"\nCLEAR? no\n\n";
 
 pub const CONTINUE: &[u8] = b"\nCONTINUE? yes\n\n";

@@ -67,19 +67,19 @@ fn fail_reads(rt: &HostRuntime, row: &Row, tally: &mut Tally) -> io::Result<()> 
             return tally.count(rt, row.name.as_str(), "no read fails", agrees);
         }
         let failed = image.failed();
-        let is_told = end == End::ReadFault(failed)
+        let is_reported = end == End::ReadFault(failed)
             || end == End::Refused(SuperFault::CannotRead { sector: failed });
         let line = format!(in rt.alloc(); "CAN NOT READ: BLK {failed}\n")?;
-        let agrees = is_told && is_cut(text.as_slice(), row.report.as_slice(), line.as_bytes());
+        let agrees = is_reported && is_cut(text.as_slice(), row.report.as_slice(), line.as_bytes());
         tally.count(rt, row.name.as_str(), "a read fails", agrees)?;
     }
     Ok(())
 }
 
-// Whether a text is a front of a report that ends with a whole line, and then a last line.
+// Whether a text is a prefix of a report that ends with a whole line, and then a last line.
 fn is_cut(text: &[u8], report: &[u8], last: &[u8]) -> bool {
-    let (front, end) = text.split_at(text.len().saturating_sub(last.len()));
-    end == last && report.starts_with(front) && front.ends_with(b"\n".as_slice())
+    let (prefix, end) = text.split_at(text.len().saturating_sub(last.len()));
+    end == last && report.starts_with(prefix) && prefix.ends_with(b"\n".as_slice())
 }
 
 // The writer stops at each byte in turn.

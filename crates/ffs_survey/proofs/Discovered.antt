@@ -8,8 +8,8 @@ use Rattle.std.proofs.lemmas.List.{take_more_set, get_or_past}
 use Rattle.std.proofs.lemmas.List.Sums.{sum_by-set, sum_by_push}
 use Rattle.ffs_survey.specs.Survey.{bool_at, number_at, dir_at, is_dir_kind, graph_with}
 use Rattle.ffs_survey.specs.Discover.{bit, times, unset, from_entries, from_dirs, nothing, Comes, is_free}
-use Rattle.ffs_volume.specs.Roles.{Seen, is_plain}
-use Rattle.ffs_volume.specs.Graph.{Graph, names, edge}
+use Rattle.ffs_volume.specs.Directories.Roles.{RoledEntry, is_plain}
+use Rattle.ffs_volume.specs.Directories.Graph.{Graph, names, edge}
 
 pub comes-refl : (g : ℕ → Option ℕ) (r : List Bool) (p q : List ℕ) → Comes g r p q g r p q
 comes-refl g r p q = record { reached = λ x. refl; parent = λ x. refl; queue = λ x. refl }
@@ -60,7 +60,7 @@ comes-then g a b r r' p p' q q' e c = record {
 }
 
 -- one entry and then the others
-pub from_entries-cons : (kinds : List ℕ) (s : ℕ) (e : Seen) (rest : List Seen) (x : ℕ) → from_entries kinds s (e ∷ rest) x ≡ option_or (from_entries kinds s (e ∷ []) x) (from_entries kinds s rest x)
+pub from_entries-cons : (kinds : List ℕ) (s : ℕ) (e : RoledEntry) (rest : List RoledEntry) (x : ℕ) → from_entries kinds s (e ∷ rest) x ≡ option_or (from_entries kinds s (e ∷ []) x) (from_entries kinds s rest x)
 from_entries-cons kinds s e rest x = go (dir_at kinds x) (names x e) (list_any (names x) rest)
   where
     go : (a b c : Bool) → cond (a && (b || c)) (Some s) None ≡ option_or (cond (a && (b || false)) (Some s) None) (cond (a && c) (Some s) None)
@@ -95,12 +95,12 @@ miss_at true p t None false p' t' e1 e3 e4 e5 = absurd (cc)
 miss_at false p t None true p' t' e1 e3 e4 e5 = absurd (cc)
 miss_at r p t (Some u) r' p' t' e1 e3 e4 e5 = absurd (cc)
 
-from_entry-hit : (kinds : List ℕ) (s : ℕ) (e : Seen) (x : ℕ) → dir_at kinds x ≡ true → is_plain e.role ≡ true → x ≡ e.entry.number → from_entries kinds s (e ∷ []) x ≡ Some s
+from_entry-hit : (kinds : List ℕ) (s : ℕ) (e : RoledEntry) (x : ℕ) → dir_at kinds x ≡ true → is_plain e.role ≡ true → x ≡ e.entry.number → from_entries kinds s (e ∷ []) x ≡ Some s
 from_entry-hit kinds s e x d p h =
     cond-true (dir_at kinds x && (names x e || false)) (Some s) None
     (and_from (dir_at kinds x) (names x e || false) d (or_left (names x e) false (and_from (is_plain e.role) (e.entry.number == x) p (eq-eqb e.entry.number x (sym h)))))
 
-from_entry-miss : (kinds : List ℕ) (s : ℕ) (e : Seen) (x : ℕ) → (x ≡ e.entry.number → ⊥) → from_entries kinds s (e ∷ []) x ≡ None
+from_entry-miss : (kinds : List ℕ) (s : ℕ) (e : RoledEntry) (x : ℕ) → (x ≡ e.entry.number → ⊥) → from_entries kinds s (e ∷ []) x ≡ None
 from_entry-miss kinds s e x h =
     cond-false (dir_at kinds x && (names x e || false)) (Some s) None
     (and_right (dir_at kinds x) (names x e || false) (or_from (names x e) false (and_right (is_plain e.role) (e.entry.number == x) (ne_eqb e.entry.number x (λ q. h (sym q)))) refl))
@@ -117,7 +117,7 @@ unfolding times
 times-push x q c y l = ap (λ z. sum_by (λ y. bit (y == x)) z) (take_more_set q c y l) ∙ sum_by_push (λ y. bit (y == x)) (take c q) y
 
 -- what one entry discovers
-pub visit_hit : (kinds : List ℕ) (r : List Bool) (p q : List ℕ) (s c : ℕ) (e : Seen)
+pub visit_hit : (kinds : List ℕ) (r : List Bool) (p q : List ℕ) (s c : ℕ) (e : RoledEntry)
     → e.entry.number < length r → e.entry.number < length p → c < length q
     → dir_at kinds e.entry.number ≡ true → is_plain e.role ≡ true → bool_at r e.entry.number ≡ false
     → Comes (from_entries kinds s (e ∷ [])) r p (take c q) nothing (set r e.entry.number true) (set p e.entry.number s) (take (c + 1) (set q c e.entry.number))
@@ -153,7 +153,7 @@ same_at r p t a h = elim h [ inl y ↦ marked r a y | inr n ↦ miss_at r p t a 
     marked false a e = absurd (cc)
 
 -- an entry that discovers nothing
-pub visit_miss : (kinds : List ℕ) (r : List Bool) (p q : List ℕ) (s : ℕ) (e : Seen)
+pub visit_miss : (kinds : List ℕ) (r : List Bool) (p q : List ℕ) (s : ℕ) (e : RoledEntry)
     → (is_plain e.role && is_free kinds r e.entry.number) ≡ false → Comes (from_entries kinds s (e ∷ [])) r p q nothing r p q
 visit_miss kinds r p q s e h = record { reached = λ x. (at x).0; parent = λ x. (at x).1; queue = λ x. (at x).2 }
   where
@@ -181,27 +181,20 @@ dir_below kinds x h = elim (cases_lt x (length kinds)) [
     past k e h = let d = (and_parts (nat_le 2 x) (is_dir_kind k) h).1 in let z : is_dir_kind 0 ≡ true = subst (λ y. is_dir_kind y ≡ true) e d in cc
 
 -- what an entry that names a directory without a mark is
-pub record IsNewEntry (kinds : List ℕ) (r : List Bool) (e : Seen) : Type 0 where
+pub record IsNewEntry (kinds : List ℕ) (r : List Bool) (e : RoledEntry) : Type 0 where
   pub plain : is_plain e.role ≡ true
   pub dir : dir_at kinds e.entry.number ≡ true
   pub unmarked : bool_at r e.entry.number ≡ false
   pub below : e.entry.number < length kinds
 
-pub new_entry : (kinds : List ℕ) (r : List Bool) (e : Seen) → (is_plain e.role && is_free kinds r e.entry.number) ≡ true → IsNewEntry kinds r e
+pub new_entry : (kinds : List ℕ) (r : List Bool) (e : RoledEntry) → (is_plain e.role && is_free kinds r e.entry.number) ≡ true → IsNewEntry kinds r e
 new_entry kinds r e h =
     let a = and_parts (is_plain e.role) (is_free kinds r e.entry.number) h in
     let b = and_parts (dir_at kinds e.entry.number) (not (bool_at r e.entry.number)) a.1 in
     record { plain = a.0; dir = b.0; unmarked = not-true _ b.1; below = dir_below kinds e.entry.number b.0 }
 
-pub from_entries-nil : (kinds : List ℕ) (s x : ℕ) → from_entries kinds s [] x ≡ nothing x
-from_entries-nil kinds s x = go (dir_at kinds x)
-  where
-    go : (a : Bool) → cond (a && false) (Some s) None ≡ none_ℕ
-    go true = refl
-    go false = refl
-
 -- the step of the loop over a directory
-pub entry_step : (g : ℕ → Option ℕ) (kinds : List ℕ) (s : ℕ) (e : Seen) (rest : List Seen) (r r' r'' : List Bool) (p p' p'' q q' q'' : List ℕ)
+pub entry_step : (g : ℕ → Option ℕ) (kinds : List ℕ) (s : ℕ) (e : RoledEntry) (rest : List RoledEntry) (r r' r'' : List Bool) (p p' p'' q q' q'' : List ℕ)
     → Comes g r p q (from_entries kinds s (e ∷ rest)) r' p' q'
     → Comes (from_entries kinds s (e ∷ [])) r' p' q' nothing r'' p'' q''
     → Comes g r p q (from_entries kinds s rest) r'' p'' q''
@@ -210,21 +203,21 @@ entry_step g kinds s e rest r r' r'' p p' p'' q q' q'' a b =
     (comes-then (from_entries kinds s (e ∷ rest)) (from_entries kinds s (e ∷ [])) (from_entries kinds s rest) r' r'' p' p'' q' q'' (from_entries-cons kinds s e rest) b)
 
 -- what a directory's entries discover, by its edges
-pub from_entries-edges : (kinds : List ℕ) (entries : ℕ → List Seen) (s x : ℕ) → dir_at kinds s ≡ true
+pub from_entries-edges : (kinds : List ℕ) (entries : ℕ → List RoledEntry) (s x : ℕ) → dir_at kinds s ≡ true
     → from_entries kinds s (entries s) x ≡ cond (edge (graph_with kinds entries) s x) (Some s) None
 from_entries-edges kinds entries s x h =
     ap (λ b. cond (dir_at kinds x && (b && list_any (names x) (entries s))) (Some s) None) (sym h)
 
 -- the step of the loop over a level
-pub level_step : (g : ℕ → Option ℕ) (kinds : List ℕ) (entries : ℕ → List Seen) (front : List ℕ) (i : ℕ) (r r' r'' : List Bool) (p p' p'' q q' q'' : List ℕ)
-    → i < length front → dir_at kinds (get_or front i 0) ≡ true
-    → Comes g r p q (from_dirs (graph_with kinds entries) (drop i front)) r' p' q'
-    → Comes (from_entries kinds (get_or front i 0) (entries (get_or front i 0))) r' p' q' nothing r'' p'' q''
-    → Comes g r p q (from_dirs (graph_with kinds entries) (drop (i + 1) front)) r'' p'' q''
-level_step g kinds entries front i r r' r'' p p' p'' q q' q'' l d a b =
+pub level_step : (g : ℕ → Option ℕ) (kinds : List ℕ) (entries : ℕ → List RoledEntry) (frontier : List ℕ) (i : ℕ) (r r' r'' : List Bool) (p p' p'' q q' q'' : List ℕ)
+    → i < length frontier → dir_at kinds (get_or frontier i 0) ≡ true
+    → Comes g r p q (from_dirs (graph_with kinds entries) (drop i frontier)) r' p' q'
+    → Comes (from_entries kinds (get_or frontier i 0) (entries (get_or frontier i 0))) r' p' q' nothing r'' p'' q''
+    → Comes g r p q (from_dirs (graph_with kinds entries) (drop (i + 1) frontier)) r'' p'' q''
+level_step g kinds entries frontier i r r' r'' p p' p'' q q' q'' l d a b =
     let v = graph_with kinds entries in
-    let s = get_or front i 0 in
-    let cut : drop i front ≡ s ∷ drop (i + 1) front = rw (add-one, drop-cons front i 0) in
-    comes-trans g (from_dirs v (drop i front)) (from_dirs v (drop (i + 1) front)) r r' r'' p p' p'' q q' q'' a
-    (comes-then (from_dirs v (drop i front)) (from_entries kinds s (entries s)) (from_dirs v (drop (i + 1) front)) r' r'' p' p'' q' q''
-    (λ x. ap (λ z. from_dirs v z x) cut ∙ (from_dirs-cons v s (drop (i + 1) front) x ∙ ap (λ o. option_or o (from_dirs v (drop (i + 1) front) x)) (sym (from_entries-edges kinds entries s x d)))) b)
+    let s = get_or frontier i 0 in
+    let cut : drop i frontier ≡ s ∷ drop (i + 1) frontier = rw (add-one, drop-cons frontier i 0) in
+    comes-trans g (from_dirs v (drop i frontier)) (from_dirs v (drop (i + 1) frontier)) r r' r'' p p' p'' q q' q'' a
+    (comes-then (from_dirs v (drop i frontier)) (from_entries kinds s (entries s)) (from_dirs v (drop (i + 1) frontier)) r' r'' p' p'' q' q''
+    (λ x. ap (λ z. from_dirs v z x) cut ∙ (from_dirs-cons v s (drop (i + 1) frontier) x ∙ ap (λ o. option_or o (from_dirs v (drop (i + 1) frontier) x)) (sym (from_entries-edges kinds entries s x d)))) b)

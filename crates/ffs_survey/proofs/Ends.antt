@@ -4,16 +4,17 @@ use Rattle.std.specs.List.{list_any}
 use Rattle.std.proofs.Common.{arith, sym, ◌∙◌, ap, inl, inr, set, take, get_or-set_same, get_or-set_other, add-zero}
 use Rattle.std.proofs.lemmas.Bool.{both_ways, cases_Bool, cases_eq, cases_lt, eqb-true, eq-eqb, ne_eqb, cond-true, cond-false, false_from_ne_true, and_left, and_right}
 use Rattle.std.proofs.lemmas.List.Sums.{sum_by-cons}
-use Rattle.ffs_volume.specs.Climb.{is_value, is_value-true, is_value-from}
-use Rattle.ffs_volume.specs.Graph.{Graph, IsSane, names, names_in, edge, within, level, parent, reached}
-use Rattle.ffs_volume.specs.Levels.{within-zero, within-grows, level-is, level-some, level-each, reached-from, reached-level}
+use Rattle.ffs_volume.specs.Directories.Climb.{is_value}
+use Rattle.ffs_volume.proofs.ClimbLaws.{is_value-true, is_value-from}
+use Rattle.ffs_volume.specs.Directories.Graph.{Graph, IsSane, names, names_in, edge, within, level, parent, reached}
+use Rattle.ffs_volume.proofs.LevelLaws.{within-zero, within-grows, level-is, level-some, level-each, reached-from, reached-level}
 use Rattle.ffs_survey.specs.Survey.{bool_at, number_at}
-use Rattle.ffs_survey.specs.Discover.{bit, times, unset, IsFront, Knows, from_dirs, nothing, Comes}
+use Rattle.ffs_survey.specs.Discover.{bit, times, unset, IsFrontier, LevelsKnown, from_dirs, nothing, Comes}
 use Rattle.ffs_survey.proofs.Discovered.{comes-to, comes-refl}
-use Rattle.ffs_survey.proofs.Fronts.{times-nil, within-bound, next_level, IsNext}
+use Rattle.ffs_survey.proofs.Frontiers.{times-nil, within-bound, next_level, IsNext}
 
 -- where a level is empty, all is known
-pub no_more : (v : Graph) (k x : ℕ) → IsSane v → IsFront v k [] → within v k x ≡ reached v x
+pub no_more : (v : Graph) (k x : ℕ) → IsSane v → IsFrontier v k [] → within v k x ≡ reached v x
 unfolding times
 no_more v k x sane f =
     elim (cases_Bool (within v k x)) [
@@ -33,10 +34,10 @@ no_more v k x sane f =
           ]))
     ]
 
-pub knows_reached : (v : Graph) (k : ℕ) (r : List Bool) (p q : List ℕ) → IsSane v → IsFront v k [] → Knows v k r p q → (x : ℕ) → bool_at r x ≡ reached v x
+pub knows_reached : (v : Graph) (k : ℕ) (r : List Bool) (p q : List ℕ) → IsSane v → IsFrontier v k [] → LevelsKnown v k r p q → (x : ℕ) → bool_at r x ≡ reached v x
 knows_reached v k r p q sane f n x = n.reached x ∙ no_more v k x sane f
 
-pub knows_parent : (v : Graph) (k : ℕ) (r : List Bool) (p q : List ℕ) → IsSane v → IsFront v k [] → Knows v k r p q → (x : ℕ) → number_at p x ≡ unwrap_or (cond (is_some (level v x)) (parent v x) None) 0
+pub knows_parent : (v : Graph) (k : ℕ) (r : List Bool) (p q : List ℕ) → IsSane v → IsFrontier v k [] → LevelsKnown v k r p q → (x : ℕ) → number_at p x ≡ unwrap_or (cond (is_some (level v x)) (parent v x) None) 0
 knows_parent v k r p q sane f n x = n.parent x ∙ ap (λ b. unwrap_or (cond b (parent v x) None) 0) (no_more v k x sane f)
 
 parent-root : (v : Graph) → parent v 2 ≡ Some 2
@@ -47,8 +48,8 @@ times-single : (x y : ℕ) → times x (y ∷ []) ≡ bit (y == x)
 unfolding times
 times-single x y = sum_by-cons (λ z. bit (z == x)) y [] ∙ add-zero (bit (y == x))
 
-pub knows_start : (v : Graph) (r : List Bool) (p : List ℕ) → 2 < length r → 2 < length p → ((x : ℕ) → bool_at r x ≡ false) → ((x : ℕ) → number_at p x ≡ 0) → Knows v 0 (set r 2 true) (set p 2 2) (2 ∷ [])
-knows_start v r p lr lp clear blank = record {
+pub levels_start : (v : Graph) (r : List Bool) (p : List ℕ) → 2 < length r → 2 < length p → ((x : ℕ) → bool_at r x ≡ false) → ((x : ℕ) → number_at p x ≡ 0) → LevelsKnown v 0 (set r 2 true) (set p 2 2) (2 ∷ [])
+levels_start v r p lr lp clear blank = record {
   reached = λ x. elim (cases_eq x 2) [
     | inl y ↦ marked x y ∙ sym (within-zero v x ∙ eq-eqb x 2 y)
     | inr n ↦ unmarked x n ∙ sym (within-zero v x ∙ ne_eqb x 2 n)
@@ -71,8 +72,8 @@ knows_start v r p lr lp clear blank = record {
     unmarked : (x : ℕ) → (x ≡ 2 → ⊥) → bool_at (set r 2 true) x ≡ false
     unmarked x n = get_or-set_other r 2 x true false n ∙ clear x
 
-pub front_start : (v : Graph) → IsSane v → IsFront v 0 (2 ∷ [])
-front_start v sane = record {
+pub frontier_start : (v : Graph) → IsSane v → IsFrontier v 0 (2 ∷ [])
+frontier_start v sane = record {
   members = λ x. elim (cases_eq x 2) [
     | inl e ↦
         let b = sane.some in
@@ -98,7 +99,7 @@ unset-le (true ∷ r) = let e = sum_by-cons (λ b. bit (not b)) true r in let h 
 unset-le (false ∷ r) = let e = sum_by-cons (λ b. bit (not b)) false r in let h = unset-le r in omega arith
 
 -- where inode 2 is no directory, it alone is reached
-pub root_alone : (v : Graph) (r : List Bool) (p q : List ℕ) → IsSane v → v.is_dir 2 ≡ false → IsFront v 0 (2 ∷ []) → Knows v 0 r p q → Knows v 1 r p q × IsFront v 1 []
+pub root_alone : (v : Graph) (r : List Bool) (p q : List ℕ) → IsSane v → v.is_dir 2 ≡ false → IsFrontier v 0 (2 ∷ []) → LevelsKnown v 0 r p q → LevelsKnown v 1 r p q × IsFrontier v 1 []
 root_alone v r p q sane dry f n =
     let g = from_dirs v (2 ∷ []) in
     let none = λ (x : ℕ). cond-false (edge v 2 x) (Some 2) None (and_right (v.is_dir x) (names_in v 2 x) (and_left (v.is_dir 2) (list_any (names x) (v.entries 2)) dry)) in

@@ -1,6 +1,6 @@
 mod Discovered
 mod Tally
-mod Fronts
+mod Frontiers
 mod Ends
 mod Totals
 mod Queues

@@ -1,4 +1,4 @@
--- The queue: what is behind it, the level in hand, and the next level.
+-- The queue: what is after it, the current level, and the next level.
 use Rattle.std.specs.Prelude.{◌≡◌, ℕ, suc, ◌+◌, ◌-◌, ◌≤◌, ◌==◌, Bool, List, [], ◌∷◌, ◌++◌, length, take, drop, count_by, ◌||◌, false}
 use Rattle.std.specs.List.Sorted.{IsNonDecreasing, IsPermutation}
 use Rattle.std.proofs.Common.{arith, sym, ◌∙◌, ap, subst, length-append, append_assoc, add-zero}
@@ -8,19 +8,19 @@ use Rattle.std.proofs.lemmas.List.Sums.{sum_by-append, sum_by-cons}
 use Rattle.std.proofs.lemmas.Bool.{cond-false, and_left}
 use Rattle.std.proofs.lemmas.Grind.{common_steps}
 use Rattle.std.proofs.Math.Bool.{or-false}
-use Rattle.ffs_volume.specs.Roles.{Seen, refers}
-use Rattle.ffs_volume.specs.Graph.{Graph, IsSane, names_in}
+use Rattle.ffs_volume.specs.Directories.Roles.{RoledEntry, refers}
+use Rattle.ffs_volume.specs.Directories.Graph.{Graph, IsSane, names_in}
 use Rattle.ffs_survey.specs.Survey.{bool_at, number_at, graph_with, dir_at, counted_in}
-use Rattle.ffs_survey.specs.Discover.{bit, times, from_dirs, nothing, Comes, IsFront, Knows, IsCount, Counts, IsReachedPart, count_of, any_of, none, never}
-use Rattle.ffs_survey.proofs.Fronts.{next_level, front_from, queue_grows, IsNext}
-use Rattle.ffs_survey.proofs.Ends.{knows_reached, knows_parent, root_alone, front_start}
+use Rattle.ffs_survey.specs.Discover.{bit, times, from_dirs, nothing, Comes, IsFrontier, LevelsKnown, IsCount, Counts, IsReachedPart, count_of, any_of, none, never}
+use Rattle.ffs_survey.proofs.Frontiers.{next_level, front_from, queue_grows, IsNext}
+use Rattle.ffs_survey.proofs.Ends.{knows_reached, knows_parent, root_alone, frontier_start}
 use Rattle.ffs_survey.proofs.Totals.{count_all, any_all, any_of-append}
 
--- the slice of the queue that is the level in hand
-pub front_is : (low high : ℕ) (q left : List ℕ) → left ≡ take high q → take (length left - low) (drop low left) ≡ drop low (take high q)
-front_is low high q left e = grind (arith, common_steps)
+-- the slice of the queue that is the current level
+pub frontier_is : (low high : ℕ) (q left : List ℕ) → left ≡ take high q → take (length left - low) (drop low left) ≡ drop low (take high q)
+frontier_is low high q left e = grind (arith, common_steps)
 
--- the queue with the next level behind it
+-- the queue with the next level after it
 pub whole_queue : (high n : ℕ) (left ys rest : List ℕ) → length left ≡ high → length ys ≡ n → take (high + n) (left ++ (ys ++ rest)) ≡ left ++ ys
 whole_queue high n left ys rest a b =
     let whole : length (left ++ ys) ≡ high + n = length-append left ys ∙ omega arith in
@@ -36,16 +36,16 @@ new_front high n left ys rest a b =
 pub no_front : (low high : ℕ) (q : List ℕ) → high ≤ low → drop low (take high q) ≡ []
 no_front low high q h = grind (arith, common_steps)
 
--- what is behind the level, and the level
+-- what is after the level, and the level
 pub queue_parts : (low high : ℕ) (q : List ℕ) → low ≤ high → take high q ≡ take low q ++ drop low (take high q)
 queue_parts low high q h = sym (take-append-drop low (take high q)) ∙ ap (λ z. z ++ drop low (take high q)) (take-take low high q h)
 
--- the next level stands behind the queue, sorted
+-- the next level is after the queue, sorted
 pub record IsNextLevel (v : Graph) (k : ℕ) (r' : List Bool) (p' q ys : List ℕ) : Type 0 where
-  pub front : IsFront v k ys
-  pub knows : Knows v k r' p' (q ++ ys)
+  pub frontier : IsFrontier v k ys
+  pub knows : LevelsKnown v k r' p' (q ++ ys)
 
-pub level_after : (v : Graph) (k : ℕ) (xs : List ℕ) (r r' : List Bool) (p p' q new ys : List ℕ) → IsSane v → IsFront v k xs → Knows v k r p q
+pub level_after : (v : Graph) (k : ℕ) (xs : List ℕ) (r r' : List Bool) (p p' q new ys : List ℕ) → IsSane v → IsFrontier v k xs → LevelsKnown v k r p q
     → Comes (from_dirs v xs) r p [] nothing r' p' new → IsPermutation new ys → IsNonDecreasing ys → IsNextLevel v (k + 1) r' p' q ys
 unfolding times
 level_after v k xs r r' p p' q new ys sane f n c m s =
@@ -53,7 +53,7 @@ level_after v k xs r r' p p' q new ys sane f n c m s =
     let next : IsNext v (k + 1) r' p' new = subst (λ j. IsNext v j r' p' new) one (next_level v k xs r r' p p' q new sane f n c) in
     let grown = queue_grows (from_dirs v xs) r r' p p' q new n.queue c in
     record {
-      front = front_from v (k + 1) new ys next.members m s;
+      frontier = front_from v (k + 1) new ys next.members m s;
       knows = record {
         reached = next.reached;
         parent = next.parent;
@@ -83,26 +83,26 @@ counted_on g low high q q' f f' m m' l kept i c =
     }
 
 -- where no level is left, all that is reached was read
-pub reached_part : (kinds : List ℕ) (entries : ℕ → List Seen) (k : ℕ) (f : List ℕ) (m r : List Bool) (p q : List ℕ) → length r ≡ length kinds
-    → IsSane (graph_with kinds entries) → IsFront (graph_with kinds entries) k [] → Knows (graph_with kinds entries) k r p q → IsCount (graph_with kinds entries) q f m
+pub reached_part : (kinds : List ℕ) (entries : ℕ → List RoledEntry) (k : ℕ) (f : List ℕ) (m r : List Bool) (p q : List ℕ) → length r ≡ length kinds
+    → IsSane (graph_with kinds entries) → IsFrontier (graph_with kinds entries) k [] → LevelsKnown (graph_with kinds entries) k r p q → IsCount (graph_with kinds entries) q f m
     → IsReachedPart (graph_with kinds entries) f m r p
-reached_part kinds entries k f m r p q e sane front n i =
+reached_part kinds entries k f m r p q e sane frontier n i =
     let g = graph_with kinds entries in
     let past = λ (s : ℕ) (l : length kinds ≤ s). get_or_past r s false (omega arith) in
     record {
       references = λ x b. i.references x b ∙ count_all g (bool_at r) q (length kinds) x n.queue past;
       named = λ x b. i.named x b ∙ any_all g (bool_at r) q (length kinds) x n.queue past;
-      reached = knows_reached g k r p q sane front n;
-      parent = knows_parent g k r p q sane front n;
+      reached = knows_reached g k r p q sane frontier n;
+      parent = knows_parent g k r p q sane frontier n;
     }
 
 -- where inode 2 is no directory, nothing was read
-pub alone_part : (kinds : List ℕ) (entries : ℕ → List Seen) (f : List ℕ) (m r : List Bool) (p : List ℕ) → length r ≡ length kinds
-    → IsSane (graph_with kinds entries) → dir_at kinds 2 ≡ false → Knows (graph_with kinds entries) 0 r p (2 ∷ [])
+pub alone_part : (kinds : List ℕ) (entries : ℕ → List RoledEntry) (f : List ℕ) (m r : List Bool) (p : List ℕ) → length r ≡ length kinds
+    → IsSane (graph_with kinds entries) → dir_at kinds 2 ≡ false → LevelsKnown (graph_with kinds entries) 0 r p (2 ∷ [])
     → ((x : ℕ) → number_at f x ≡ 0) → ((x : ℕ) → bool_at m x ≡ false) → IsReachedPart (graph_with kinds entries) f m r p
 alone_part kinds entries f m r p e sane dry n zf zm =
     let g = graph_with kinds entries in
-    let a = root_alone g r p (2 ∷ []) sane dry (front_start g sane) n in
+    let a = root_alone g r p (2 ∷ []) sane dry (frontier_start g sane) n in
     reached_part kinds entries 1 f m r p (2 ∷ []) e sane a.1 a.0 (record {
       references = λ x b. zf x ∙ sym (sum_by-cons (λ s. counted_in g s x) 2 [] ∙ (add-zero (counted_in g 2 x) ∙ cond-false (dir_at kinds 2) (count_by (refers x) (entries 2)) 0 dry));
       named = λ x b. zm x ∙ sym (or-false (names_in g 2 x) ∙ and_left (dir_at kinds 2) _ dry);

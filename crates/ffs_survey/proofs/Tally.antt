@@ -4,8 +4,8 @@ use Rattle.std.proofs.Common.{arith, sym, ◌∙◌, ap, get_or, drop, add-one, 
 use Rattle.std.proofs.lemmas.Bool.{ne_eqb, cond-true, cond-false}
 use Rattle.std.proofs.lemmas.List.Sums.{sum_by-cons}
 use Rattle.std.proofs.Math.Bool.{or-false}
-use Rattle.ffs_volume.specs.Roles.{Seen, refers}
-use Rattle.ffs_volume.specs.Graph.{names, names_in}
+use Rattle.ffs_volume.specs.Directories.Roles.{RoledEntry, refers}
+use Rattle.ffs_volume.specs.Directories.Graph.{names, names_in}
 use Rattle.ffs_survey.specs.Survey.{number_at, bool_at, counted_in, graph_with, dir_at}
 use Rattle.ffs_survey.specs.Discover.{bit, Counts, count_in, any_in, count_of, any_of, none, never}
 
@@ -28,11 +28,8 @@ any_step false true false c t h k = absurd (cc)
 any_step false false true c t h k = absurd (cc)
 any_step false false false c t h k = k
 
-pub counts-refl : (n : ℕ) (c : ℕ → ℕ) (a : ℕ → Bool) (f : List ℕ) (m : List Bool) → Counts n c a f m c a f m
-counts-refl n c a f m = record { references = λ x l. refl; named = λ x l. refl }
-
 -- the step of the loop over a directory
-pub entry_counted : (n : ℕ) (c : ℕ → ℕ) (a : ℕ → Bool) (e : Seen) (rest : List Seen) (f f' f'' : List ℕ) (m m' m'' : List Bool)
+pub entry_counted : (n : ℕ) (c : ℕ → ℕ) (a : ℕ → Bool) (e : RoledEntry) (rest : List RoledEntry) (f f' f'' : List ℕ) (m m' m'' : List Bool)
     → Counts n c a f m (count_in (e ∷ rest)) (any_in (e ∷ rest)) f' m'
     → ((x : ℕ) → x < n → number_at f'' x ≡ number_at f' x + bit (refers x e))
     → ((x : ℕ) → x < n → bool_at m'' x ≡ (bool_at m' x || names x e))
@@ -43,16 +40,16 @@ entry_counted n c a e rest f f' f'' m m' m'' h u w = record {
 }
 
 -- the step of the loop over a level
-pub dir_counted : (n : ℕ) (c : ℕ → ℕ) (a : ℕ → Bool) (kinds : List ℕ) (entries : ℕ → List Seen) (front : List ℕ) (i : ℕ) (f f' f'' : List ℕ) (m m' m'' : List Bool)
-    → i < length front → dir_at kinds (get_or front i 0) ≡ true
-    → Counts n c a f m (count_of (graph_with kinds entries) (drop i front)) (any_of (graph_with kinds entries) (drop i front)) f' m'
-    → Counts n (count_in (entries (get_or front i 0))) (any_in (entries (get_or front i 0))) f' m' none never f'' m''
-    → Counts n c a f m (count_of (graph_with kinds entries) (drop (i + 1) front)) (any_of (graph_with kinds entries) (drop (i + 1) front)) f'' m''
-dir_counted n c a kinds entries front i f f' f'' m m' m'' l d h k =
+pub dir_counted : (n : ℕ) (c : ℕ → ℕ) (a : ℕ → Bool) (kinds : List ℕ) (entries : ℕ → List RoledEntry) (frontier : List ℕ) (i : ℕ) (f f' f'' : List ℕ) (m m' m'' : List Bool)
+    → i < length frontier → dir_at kinds (get_or frontier i 0) ≡ true
+    → Counts n c a f m (count_of (graph_with kinds entries) (drop i frontier)) (any_of (graph_with kinds entries) (drop i frontier)) f' m'
+    → Counts n (count_in (entries (get_or frontier i 0))) (any_in (entries (get_or frontier i 0))) f' m' none never f'' m''
+    → Counts n c a f m (count_of (graph_with kinds entries) (drop (i + 1) frontier)) (any_of (graph_with kinds entries) (drop (i + 1) frontier)) f'' m''
+dir_counted n c a kinds entries frontier i f f' f'' m m' m'' l d h k =
     let g = graph_with kinds entries in
-    let s = get_or front i 0 in
-    let rest = drop (i + 1) front in
-    let cut : drop i front ≡ s ∷ rest = rw (add-one, drop-cons front i 0) in
+    let s = get_or frontier i 0 in
+    let rest = drop (i + 1) frontier in
+    let cut : drop i frontier ≡ s ∷ rest = rw (add-one, drop-cons frontier i 0) in
     record {
       references = λ x b.
           let one = ap (λ z. count_of g z x) cut ∙ sum_by-cons (λ s. counted_in g s x) s rest in

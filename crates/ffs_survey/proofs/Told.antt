@@ -3,9 +3,9 @@ use Rattle.std.specs.Prelude.{◌≡◌, ◌≢◌, ℕ, zero, suc, ◌<◌, ◌
 use Rattle.std.proofs.Common.{arith, sym, ◌∙◌, ap, subst, inl, inr}
 use Rattle.std.proofs.lemmas.Bool.{cases_eq, and_parts, both_ways, cond-true, cond-false, eq-eqb, ne_eqb, and_left}
 use mathlib.Core.Path.{fun_ext}
-use Rattle.ffs_volume.specs.Search.{first_below-some}
-use Rattle.ffs_volume.specs.Climb.{leads_cycle, is_value}
-use Rattle.ffs_volume.specs.Graph.{Graph, IsSane, edge, parent, parent_by, level, dead, lost, none_or_dead, unref_dir}
+use Rattle.ffs_volume.proofs.SearchLaws.{first_below-some}
+use Rattle.ffs_volume.specs.Directories.Climb.{leads_cycle, is_value}
+use Rattle.ffs_volume.specs.Directories.Graph.{Graph, IsSane, edge, parent, parent_by, level, dead, lost, none_or_dead, unref_dir}
 use Rattle.ffs_survey.specs.Survey.{number_at, IsTree}
 use Rattle.ffs_survey.specs.Cycles.{up_of}
 use Rattle.ffs_survey.proofs.Discovered.{dir_below}
@@ -86,7 +86,3 @@ unref_is v suspect kinds r p d lp t l =
     ∙ (ap (λ b. b || leads_cycle (parent v) v.count d) (none_or_dead_is v suspect p d sane z (t.ups d))
     ∙ (ap (λ b. cond (number_at p d == 0) true (dead v suspect (number_at p d)) || b) (sym (leads_is v p v.count d sane z full t.ups))
     ∙ ap (λ n. cond (number_at p d == 0) true (dead v suspect (number_at p d)) || leads_cycle (up_of p) n d) (sym full)))
-
--- what makes a directory not lost
-pub not_lost : (v : Graph) (suspect : ℕ → Bool) (d : ℕ) → lost v suspect d ≡ false → unref_dir v suspect d ≡ false
-not_lost v suspect d h = and_left (lost v suspect d) _ h

@@ -4,7 +4,8 @@ use Rattle.std.proofs.Common.{arith, sym, ◌∙◌, ap, subst, inl, inr, set, �
 use Rattle.std.proofs.lemmas.Bool.{or_left, or_right, or_from, le-leb, leb-true, cases_eq, cases_lt, eq-eqb, ne_eqb, cond-true, cond-false, false_from_ne_true}
 use Rattle.std.proofs.lemmas.List.{get_or_past}
 use Rattle.std.proofs.lemmas.List.Sums.{sum_by-set, sum_by-cons}
-use Rattle.ffs_volume.specs.Climb.{climb, climb-zero, climb-one, climb-suc, climb-add, climb-last, OnCycle, cycle-along, cycle-next, cycle-goes, cycle-within, leads_cycle, leads_cycle-from, leads_cycle-true}
+use Rattle.ffs_volume.specs.Directories.Climb.{climb, OnCycle, leads_cycle}
+use Rattle.ffs_volume.proofs.ClimbLaws.{climb-zero, climb-one, climb-suc, climb-add, climb-last, cycle-along, cycle-next, cycle-goes, cycle-within, leads_cycle-from, leads_cycle-true}
 use Rattle.ffs_survey.specs.Survey.{number_at, bool_at}
 use Rattle.ffs_survey.specs.Discover.{bit}
 use Rattle.ffs_survey.specs.Cycles.{up_of, zeros, IsClosed, IsNew, Walked, FindsCycle, IsLeastOn, Marks}
@@ -72,7 +73,7 @@ stamped f start mark steps place old new m l w = record {
   count = let z = zeros-set new place mark l w.free m in let c = w.count in omega arith;
 }
 
--- the next place has no stamp: the walk goes on
+-- the next place has no stamp: the walk continues
 pub walks_on : (f : ℕ → Option ℕ) (start mark steps place next : ℕ) (old new : List ℕ) → Stamped f start mark steps place old new → f place ≡ Some next → number_at new next ≡ 0 → Walking f start mark (suc steps) next old new
 walks_on f start mark steps place next old new s h z = record {
   place_is = climb-suc f steps start place s.place_is ∙ h;
@@ -300,7 +301,7 @@ marks_found f n start mark found e old new leader l c w g i m = record {
 }
 
 -- on a cycle the list holds what is above
--- a cycle goes on, by the list
+-- a cycle continues, by the list
 pub up_cycle : (parents : List ℕ) (x : ℕ) → OnCycle (up_of parents) x → (up_of parents x ≡ Some (number_at parents x)) × (number_at parents x < length parents)
 up_cycle parents x c =
     elim (cases_eq (number_at parents x) 0) [

@@ -5,10 +5,11 @@ use Rattle.std.proofs.Common.{arith, sym, ◌∙◌, ap, subst, inl, inr, add-ze
 use Rattle.std.proofs.lemmas.Bool.{both_ways, cases_Bool, cases_lt, and_left, and_right, and_from, and_parts, cond-true, cond-false, eq-eqb, ne_eqb, not-true, false_from_ne_true}
 use Rattle.std.proofs.lemmas.List.{get_or_past}
 use Rattle.std.proofs.Math.Bool.{or-false}
-use Rattle.ffs_volume.specs.Roles.{Seen}
-use Rattle.ffs_volume.specs.Search.{first_below, earliest, some_below, some_below-suc, first_below-some, first_below-is_none}
-use Rattle.ffs_volume.specs.Graph.{Graph, IsSane, names, names_in, edge, level, reached, parent}
-use Rattle.ffs_volume.specs.Levels.{reached-edge, reached-root}
+use Rattle.ffs_volume.specs.Directories.Roles.{RoledEntry}
+use Rattle.ffs_volume.specs.Directories.Search.{first_below, earliest, some_below}
+use Rattle.ffs_volume.proofs.SearchLaws.{some_below-suc, first_below-some, first_below-is_none}
+use Rattle.ffs_volume.specs.Directories.Graph.{Graph, IsSane, names, names_in, edge, level, reached, parent}
+use Rattle.ffs_volume.proofs.LevelLaws.{reached-edge, reached-root}
 use Rattle.ffs_survey.specs.Survey.{bool_at, number_at, dir_at, is_dir_kind, graph_with, counted_in, IsSurvey}
 use Rattle.ffs_survey.specs.Discover.{Counts, count_in, any_in, none, never, counted_by, IsReachedPart, is_free, is_free_edge, IsRead}
 use Rattle.ffs_volume.proofs.Unreached.{parent-unreached}
@@ -43,13 +44,13 @@ first_step p s o q q' a z k e h w = go (first_below p s) (p s) refl e h
     go None true i j u = w ∙ cond-true ((q == 0) && a) s q (and_from (q == 0) a (eq-eqb q 0 (u ∙ k (sym j))) (sym j))
     go None false i j u = w ∙ (cond-false ((q == 0) && a) s q (and_right (q == 0) a (sym j)) ∙ u)
 
-zero-edge : (kinds : List ℕ) (entries : ℕ → List Seen) (r : List Bool) (x : ℕ) → is_free_edge (graph_with kinds entries) kinds r x 0 ≡ false
+zero-edge : (kinds : List ℕ) (entries : ℕ → List RoledEntry) (r : List Bool) (x : ℕ) → is_free_edge (graph_with kinds entries) kinds r x 0 ≡ false
 zero-edge kinds entries r x =
     and_right (is_free kinds r x) _ (and_right (not (bool_at r 0)) (names_in (graph_with kinds entries) 0 x)
     (and_left (dir_at kinds 0) (list_any (names x) (entries 0)) (and_left (nat_le 2 0) (is_dir_kind (number_at kinds 0)) refl)))
 
 -- a directory without a mark is read
-pub read_on : (kinds : List ℕ) (entries : ℕ → List Seen) (r : List Bool) (s : ℕ) (f f' f'' : List ℕ) (m m' m'' : List Bool) (p p' p'' : List ℕ)
+pub read_on : (kinds : List ℕ) (entries : ℕ → List RoledEntry) (r : List Bool) (s : ℕ) (f f' f'' : List ℕ) (m m' m'' : List Bool) (p p' p'' : List ℕ)
     → is_free kinds r s ≡ true → ((x : ℕ) → is_free kinds r x ≡ true → number_at p x ≡ 0)
     → IsRead (graph_with kinds entries) kinds r s f m p f' m' p'
     → Counts (length kinds) (count_in (entries s)) (any_in (entries s)) f' m' none never f'' m''
@@ -98,7 +99,7 @@ read_on kinds entries r s f f' f'' m m' m'' p p' p'' free blank i c u = subst (�
         go false b d h k = absurd (cc)
 
 -- any other is passed over
-pub read_skip : (kinds : List ℕ) (entries : ℕ → List Seen) (r : List Bool) (s : ℕ) (f f' : List ℕ) (m m' : List Bool) (p p' : List ℕ)
+pub read_skip : (kinds : List ℕ) (entries : ℕ → List RoledEntry) (r : List Bool) (s : ℕ) (f f' : List ℕ) (m m' : List Bool) (p p' : List ℕ)
     → is_free kinds r s ≡ false → IsRead (graph_with kinds entries) kinds r s f m p f' m' p' → IsRead (graph_with kinds entries) kinds r (s + 1) f m p f' m' p'
 unfolding counted_by first_below earliest
 read_skip kinds entries r s f f' m m' p p' taken i = subst (λ n. IsRead g kinds r n f m p f' m' p') one (record {
@@ -138,14 +139,14 @@ read_skip kinds entries r s f f' m m' p p' taken i = subst (λ n. IsRead g kinds
     same_first None false h = refl
 
 -- what has no mark and no parent yet
-pub free_blank : (kinds : List ℕ) (entries : ℕ → List Seen) (f : List ℕ) (m r : List Bool) (p : List ℕ) → IsReachedPart (graph_with kinds entries) f m r p → (x : ℕ) → is_free kinds r x ≡ true → number_at p x ≡ 0
+pub free_blank : (kinds : List ℕ) (entries : ℕ → List RoledEntry) (f : List ℕ) (m r : List Bool) (p : List ℕ) → IsReachedPart (graph_with kinds entries) f m r p → (x : ℕ) → is_free kinds r x ≡ true → number_at p x ≡ 0
 free_blank kinds entries f m r p i x h =
     let g = graph_with kinds entries in
     let off : bool_at r x ≡ false = not-true _ (and_parts (dir_at kinds x) (not (bool_at r x)) h).1 in
     i.parent x ∙ ap (λ o. unwrap_or o 0) (cond-false (is_some (level g x)) (parent g x) None (sym (i.reached x) ∙ off))
 
 -- a reached directory has no edge to an unreached one
-free_edges : (kinds : List ℕ) (entries : ℕ → List Seen) (r : List Bool) (x s : ℕ) → s < length kinds → x < length kinds → ((y : ℕ) → bool_at r y ≡ reached (graph_with kinds entries) y) → bool_at r x ≡ false
+free_edges : (kinds : List ℕ) (entries : ℕ → List RoledEntry) (r : List Bool) (x s : ℕ) → s < length kinds → x < length kinds → ((y : ℕ) → bool_at r y ≡ reached (graph_with kinds entries) y) → bool_at r x ≡ false
     → is_free_edge (graph_with kinds entries) kinds r x s ≡ edge (graph_with kinds entries) s x
 free_edges kinds entries r x s ls lx h off =
     elim (cases_Bool (bool_at r s)) [
@@ -165,7 +166,7 @@ free_edges kinds entries r x s ls lx h off =
     go d false true a u w = absurd (cc)
 
 -- both parts
-pub survey_whole : (kinds : List ℕ) (entries : ℕ → List Seen) (f f' : List ℕ) (m m' r : List Bool) (p p' : List ℕ)
+pub survey_whole : (kinds : List ℕ) (entries : ℕ → List RoledEntry) (f f' : List ℕ) (m m' r : List Bool) (p p' : List ℕ)
     → IsSane (graph_with kinds entries) → length r ≡ length kinds → length p' ≡ length kinds
     → IsReachedPart (graph_with kinds entries) f m r p → IsRead (graph_with kinds entries) kinds r (length kinds) f m p f' m' p'
     → IsSurvey (graph_with kinds entries) f' m' r p'

@@ -1,7 +1,7 @@
 -- Walks along parents that mark where they have been.
 use Rattle.std.specs.Prelude.{◌≡◌, ◌≢◌, ℕ, ◌<◌, ◌==◌, ◌||◌, nat_le, Bool, false, cond, List, length, Option, None, Some}
 use Rattle.std.specs.List.{sum_by}
-use Rattle.ffs_volume.specs.Climb.{climb, OnCycle, IsLeader, leads_cycle}
+use Rattle.ffs_volume.specs.Directories.Climb.{climb, OnCycle, IsLeader, leads_cycle}
 use Rattle.ffs_survey.specs.Survey.{number_at, bool_at}
 use Rattle.ffs_survey.specs.Discover.{bit}
 

@@ -1,10 +1,10 @@
 -- What a walk over directories discovers and counts, said by what is still to go.
 use Rattle.std.specs.Prelude.{◌≡◌, ℕ, zero, suc, ◌+◌, ◌<◌, ◌≤◌, ◌==◌, Bool, true, false, not, cond, ◌&&◌, ◌||◌, if◌then◌else◌, List, [], ◌∷◌, Option, None, Some, is_some, unwrap_or, find, count_by}
 use Rattle.std.specs.List.{list_any, sum_by}
-use Rattle.ffs_volume.specs.Roles.{Seen, refers}
-use Rattle.ffs_volume.specs.Search.{first_below}
-use Rattle.ffs_volume.specs.Climb.{is_value}
-use Rattle.ffs_volume.specs.Graph.{Graph, names, names_in, edge, within, level, parent}
+use Rattle.ffs_volume.specs.Directories.Roles.{RoledEntry, refers}
+use Rattle.ffs_volume.specs.Directories.Search.{first_below}
+use Rattle.ffs_volume.specs.Directories.Climb.{is_value}
+use Rattle.ffs_volume.specs.Directories.Graph.{Graph, names, names_in, edge, within, level, parent}
 use Rattle.ffs_survey.specs.Survey.{bool_at, number_at, dir_at, counted_in}
 
 -- 1 for true
@@ -12,7 +12,7 @@ abbrev pub bit : Bool → ℕ
 bit true = 1
 bit false = 0
 
--- how often x stands in a list
+-- how often x occurs in a list
 unfoldable pub times : ℕ → List ℕ → ℕ
 times x q = sum_by (λ y. bit (y == x)) q
 
@@ -21,7 +21,7 @@ unfoldable pub unset : List Bool → ℕ
 unset flags = sum_by (λ b. bit (not b)) flags
 
 -- the parent that x gets from the directory s with these entries to go
-abbrev pub from_entries : List ℕ → ℕ → List Seen → ℕ → Option ℕ
+abbrev pub from_entries : List ℕ → ℕ → List RoledEntry → ℕ → Option ℕ
 from_entries kinds s rest x = cond (dir_at kinds x && list_any (names x) rest) (Some s) None
 
 -- the parent that x gets from these directories, one after another
@@ -32,17 +32,17 @@ from_dirs g ss x = find (λ s. edge g s x) ss
 abbrev pub nothing : ℕ → Option ℕ
 nothing x = None
 
--- With a to go, the marks r, the parents p and the queue q come to what r', p' and q' come to with c to go.
+-- With a to go, the marks r, the parents p and the queue q become what r', p' and q' become with c to go.
 pub record Comes (a : ℕ → Option ℕ) (r : List Bool) (p q : List ℕ) (c : ℕ → Option ℕ) (r' : List Bool) (p' q' : List ℕ) : Type 0 where
   pub reached : (x : ℕ) → (bool_at r' x || is_some (c x)) ≡ (bool_at r x || is_some (a x))
   pub parent : (x : ℕ) → cond (bool_at r' x) (number_at p' x) (unwrap_or (c x) (number_at p' x)) ≡ cond (bool_at r x) (number_at p x) (unwrap_or (a x) (number_at p x))
   pub queue : (x : ℕ) → times x q' + bit (is_some (c x) && not (bool_at r' x)) ≡ times x q + bit (is_some (a x) && not (bool_at r x))
 
 -- how many of these entries that count name x, and whether a plain one does
-abbrev pub count_in : List Seen → ℕ → ℕ
+abbrev pub count_in : List RoledEntry → ℕ → ℕ
 count_in rest x = count_by (refers x) rest
 
-abbrev pub any_in : List Seen → ℕ → Bool
+abbrev pub any_in : List RoledEntry → ℕ → Bool
 any_in rest x = list_any (names x) rest
 
 -- the same of the entries of these directories
@@ -59,7 +59,7 @@ none x = 0
 abbrev pub never : ℕ → Bool
 never x = false
 
--- With c and a to go, the counts f and the flags m of the numbers below n come to what f' and m' come to with c' and a' to go.
+-- With c and a to go, the counts f and the flags m of the numbers below n become what f' and m' become with c' and a' to go.
 pub record Counts (n : ℕ) (c : ℕ → ℕ) (a : ℕ → Bool) (f : List ℕ) (m : List Bool) (c' : ℕ → ℕ) (a' : ℕ → Bool) (f' : List ℕ) (m' : List Bool) : Type 0 where
   pub references : (x : ℕ) → x < n → number_at f' x + c' x ≡ number_at f x + c x
   pub named : (x : ℕ) → x < n → (bool_at m' x || a' x) ≡ (bool_at m x || a x)
@@ -69,13 +69,13 @@ pub record IsCount (g : Graph) (ss : List ℕ) (f : List ℕ) (m : List Bool) : 
   pub references : (x : ℕ) → x < g.count → number_at f x ≡ count_of g ss x
   pub named : (x : ℕ) → x < g.count → bool_at m x ≡ any_of g ss x
 
--- each number of an ascending list stands before no smaller one
+-- each number of an ascending list is before no smaller one
 abbrev pub Rising : List ℕ → Type 0
 Rising [] = Unit {0}
 Rising (x ∷ xs) = ((t : ℕ) → 1 ≤ times t xs → x ≤ t) × Rising xs
 
 -- the directories of level k, each once, ascending
-pub record IsFront (g : Graph) (k : ℕ) (xs : List ℕ) : Type 0 where
+pub record IsFrontier (g : Graph) (k : ℕ) (xs : List ℕ) : Type 0 where
   pub members : (x : ℕ) → times x xs ≡ bit (is_value (level g x) k)
   pub rising : Rising xs
 
@@ -84,7 +84,7 @@ abbrev pub parent_at : Graph → ℕ → ℕ → Option ℕ
 parent_at g k x = cond (within g k x) (parent g x) None
 
 -- what is known when all levels up to k are known: the marks, the parents, and that each that is marked was queued once
-pub record Knows (g : Graph) (k : ℕ) (r : List Bool) (p q : List ℕ) : Type 0 where
+pub record LevelsKnown (g : Graph) (k : ℕ) (r : List Bool) (p q : List ℕ) : Type 0 where
   pub reached : (x : ℕ) → bool_at r x ≡ within g k x
   pub parent : (x : ℕ) → number_at p x ≡ unwrap_or (parent_at g k x) 0
   pub queue : (x : ℕ) → times x q ≡ bit (bool_at r x)

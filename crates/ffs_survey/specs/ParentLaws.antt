@@ -2,10 +2,12 @@
 use Rattle.std.specs.Prelude.{◌≡◌, ◌≢◌, ℕ, suc, ◌<◌, ◌==◌, true, Option, Some, None, refl}
 use Rattle.std.proofs.Common.{arith, sym, ◌∙◌, ap}
 use Rattle.std.proofs.lemmas.Bool.{both_ways, and_parts, and_from, ne_eqb, cond-false, eq-eqb, eqb-true}
-use Rattle.ffs_volume.specs.Search.{first_below, first_below-some, first_below-none}
-use Rattle.ffs_volume.specs.Climb.{is_value, is_value-true, is_value-from}
-use Rattle.ffs_volume.specs.Graph.{Graph, level, level_edge, edge, parent, parent_by}
-use Rattle.ffs_volume.specs.Levels.{level-some, level-is, level-before, within-zero}
+use Rattle.ffs_volume.specs.Directories.Search.{first_below}
+use Rattle.ffs_volume.proofs.SearchLaws.{first_below-some, first_below-none}
+use Rattle.ffs_volume.specs.Directories.Climb.{is_value}
+use Rattle.ffs_volume.proofs.ClimbLaws.{is_value-true, is_value-from}
+use Rattle.ffs_volume.specs.Directories.Graph.{Graph, level, level_edge, edge, parent, parent_by}
+use Rattle.ffs_volume.proofs.LevelLaws.{level-some, level-is, level-before, within-zero}
 
 -- the parent of a directory of level k + 1 is the least one of level k with an edge to it
 pub record IsAbove (g : Graph) (k d s : ℕ) : Type 0 where

@@ -1,9 +1,9 @@
 -- What a survey of directories finds of each inode, and the graph that it goes over.
 use Rattle.std.specs.Prelude.{◌≡◌, ℕ, zero, suc, ◌+◌, ◌<◌, ◌==◌, Bool, ◌&&◌, ◌||◌, nat_le, if◌then◌else◌, List, length, count_by, unwrap_or}
-use Rattle.ffs_volume.specs.Roles.{Seen, refers}
-use Rattle.ffs_volume.specs.Graph.{Graph, named, reached, parent}
-pub use Rattle.ffs_volume.specs.Lists.{bool_at, number_at}
-pub use Rattle.ffs_volume.specs.Kinds.{is_dir_kind}
+use Rattle.ffs_volume.specs.Directories.Roles.{RoledEntry, refers}
+use Rattle.ffs_volume.specs.Directories.Graph.{Graph, named, reached, parent}
+pub use Rattle.ffs_volume.specs.Encodings.Lists.{bool_at, number_at}
+pub use Rattle.ffs_volume.specs.Encodings.Kinds.{is_dir_kind}
 
 -- x is a directory, by a list with a kind for each inode
 abbrev pub dir_at : List ℕ → ℕ → Bool
@@ -14,7 +14,7 @@ abbrev pub suspect_at : List ℕ → List Bool → ℕ → Bool
 suspect_at kinds marked x = bool_at marked x || (nat_le 2 x && (number_at kinds x == 5))
 
 -- the graph of the directories of a list of kinds, with these entries
-abbrev pub graph_with : List ℕ → (ℕ → List Seen) → Graph
+abbrev pub graph_with : List ℕ → (ℕ → List RoledEntry) → Graph
 graph_with kinds entries = record { count = length kinds; is_dir = dir_at kinds; entries = entries }
 
 -- how many entries of s that count name x, where s is a directory

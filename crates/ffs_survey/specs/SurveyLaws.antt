@@ -7,22 +7,22 @@ use Rattle.ffs_volume.specs.declared.Layout.{Layout}
 use Rattle.ffs_volume.specs.declared.Inode.{Inode}
 use Rattle.ffs_volume.specs.declared.Class.{Class}
 use Rattle.ffs_volume.specs.declared.Class.TheVariants.{Free, Partial, Unknown, File, Dir}
-use Rattle.ffs_volume.specs.Inodes.{inode_of, class_of, type_of, is_known_type, is_any_set}
-use Rattle.ffs_volume.specs.Roles.{Volume, Seen, seen_in, is_dir, is_directory, is_suspect, refers, references, references_below as volume_references_below}
-use Rattle.ffs_volume.specs.Volumes.{class_at, marked_at, volume_of, volume_with}
-use Rattle.ffs_volume.specs.Graph.{Graph}
-use Rattle.ffs_volume.specs.Parents.{graph_of}
+use Rattle.ffs_volume.specs.Blocks.Inodes.{inode_of, class_of, type_of, is_known_type, is_any_set, is_directory}
+use Rattle.ffs_volume.specs.Directories.Roles.{Volume, RoledEntry, roled_entries, is_dir, is_suspect, refers, references, references_below as volume_references_below}
+use Rattle.ffs_volume.specs.Directories.Volumes.{class_at, marked_at, volume_of, volume_with}
+use Rattle.ffs_volume.specs.Directories.Graph.{Graph}
+use Rattle.ffs_volume.specs.Directories.Parents.{graph_of}
 use Rattle.ffs_survey.specs.Survey.{bool_at, number_at, is_dir_kind, dir_at, suspect_at, graph_with, references_below, references_to, IsSurvey, IsTree, AreNamed}
 
 -- the graph of a volume's directories, from kinds and entries
-pub graph_is : (v : Volume) (kinds : List ℕ) (entries : ℕ → List Seen) → length kinds ≡ v.count → ((x : ℕ) → dir_at kinds x ≡ is_dir v x) → ((d : ℕ) → entries d ≡ seen_in v d) → graph_with kinds entries ≡ graph_of v
+pub graph_is : (v : Volume) (kinds : List ℕ) (entries : ℕ → List RoledEntry) → length kinds ≡ v.count → ((x : ℕ) → dir_at kinds x ≡ is_dir v x) → ((d : ℕ) → entries d ≡ roled_entries v d) → graph_with kinds entries ≡ graph_of v
 graph_is v kinds entries n d e = ap (λ z. with_count z (dir_at kinds) entries) n ∙ (ap (λ z. with_count v.count z entries) (fun_ext d) ∙ ap (λ z. with_count v.count (is_dir v) z) (fun_ext e))
   where
-    with_count : ℕ → (ℕ → Bool) → (ℕ → List Seen) → Graph
+    with_count : ℕ → (ℕ → Bool) → (ℕ → List RoledEntry) → Graph
     with_count n d e = record { count = n; is_dir = d; entries = e }
 
 -- the survey of that graph is one of the volume
-pub survey_is : (v : Volume) (kinds : List ℕ) (entries : ℕ → List Seen) (f : List ℕ) (m r : List Bool) (p : List ℕ) → length kinds ≡ v.count → ((x : ℕ) → dir_at kinds x ≡ is_dir v x) → ((d : ℕ) → entries d ≡ seen_in v d)
+pub survey_is : (v : Volume) (kinds : List ℕ) (entries : ℕ → List RoledEntry) (f : List ℕ) (m r : List Bool) (p : List ℕ) → length kinds ≡ v.count → ((x : ℕ) → dir_at kinds x ≡ is_dir v x) → ((d : ℕ) → entries d ≡ roled_entries v d)
     → IsSurvey (graph_with kinds entries) f m r p → IsSurvey (graph_of v) f m r p
 survey_is v kinds entries f m r p n d e s = subst (λ g. IsSurvey g f m r p) (graph_is v kinds entries n d e) s
 
@@ -33,14 +33,7 @@ references_is v x = go v.count
   where
     go : (n : ℕ) → references_below (graph_of v) x n ≡ volume_references_below v x n
     go zero = refl
-    go (suc n) = ap (λ k. k + (if is_dir v n then count_by (refers x) (seen_in v n) else 0)) (go n)
-
--- what a survey leaves is what the test of an unreferenced directory asks for
-pub named_of : (g : Graph) (kinds f : List ℕ) (m r : List Bool) (p : List ℕ) → g.count ≡ length kinds → IsSurvey g f m r p → AreNamed g kinds m
-named_of g kinds f m r p n s = record { count = n; names = s.names }
-
-pub tree_of : (g : Graph) (kinds f : List ℕ) (m r : List Bool) (p : List ℕ) → 2 < g.count → g.count ≡ length kinds → ((x : ℕ) → g.is_dir x ≡ dir_at kinds x) → IsSurvey g f m r p → IsTree g kinds r p
-tree_of g kinds f m r p l n d s = record { some = l; count = n; dirs = d; reaches = s.reaches; ups = s.ups }
+    go (suc n) = ap (λ k. k + (if is_dir v n then count_by (refers x) (roled_entries v n) else 0)) (go n)
 
 -- the kind of an inode: 0 for an unallocated one, 15 for an unknown one, 4 for a directory with a size, 5 for one of size 0,
 -- and else the type of its mode

@@ -1,6 +1,6 @@
 //! Cycles of parents.
 ghost use Rattle.std.specs.Prelude.{◌≡◌, ◌≢◌, ℕ, ◌+◌, ◌-◌, ◌<◌, ◌≤◌, ◌^◌, length, All, MatchOption, IfSome, false};
-ghost use Rattle.ffs_volume.specs.Climb.{OnCycle, leads_cycle};
+ghost use Rattle.ffs_volume.specs.Directories.Climb.{OnCycle, leads_cycle};
 ghost use Rattle.ffs_survey.specs.Survey.{bool_at, number_at};
 ghost use Rattle.ffs_survey.specs.Cycles.{up_of, IsClosed, IsNew, Walked, FindsCycle, IsLeastOn, Marks};
 
@@ -15,7 +15,9 @@ fn walk(start: u32, parents: &[u32], stamp: &mut [u32]) -> Option<u32>
     requires closed { IsClosed (up_of parents.now) stamp.old }
     ensures walked { Walked (up_of parents.now) start (start + 1) stamp.old stamp.new }
     ensures bound { IfSome result (λ found. found < length parents.now) }
-    ensures cycle { MatchOption result ((x : ℕ) → IsNew stamp.old stamp.new x → OnCycle (up_of parents.now) x → ⊥) (λ found. FindsCycle (up_of parents.now) (length parents.now) stamp.old stamp.new found) }
+    ensures cycle { MatchOption result
+        ((x : ℕ) → IsNew stamp.old stamp.new x → OnCycle (up_of parents.now) x → ⊥)
+        (λ found. FindsCycle (up_of parents.now) (length parents.now) stamp.old stamp.new found) }
 {
     let mut place = start;
     let mut steps = 0u32;
@@ -87,7 +89,8 @@ pub fn mark_leaders(parents: &[u32], stamp: &mut [u32], leaders: &mut [bool])
     requires few { length parents.now < 2 ^ 31 }
     requires stamps { length stamp.old ≡ length parents.now }
     requires leaders { length leaders.old ≡ length parents.now }
-    ensures { (x : ℕ) → bool_at leaders.new x ≡ leads_cycle (up_of parents.now) (length parents.now) x }
+    ensures { (x : ℕ) → bool_at leaders.new x
+        ≡ leads_cycle (up_of parents.now) (length parents.now) x }
 {
     stamp.fill(0);
     leaders.fill(false);

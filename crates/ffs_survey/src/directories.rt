@@ -10,9 +10,9 @@ use ffs_image::ImageFault;
 pub trait Directories {
     ghost use Rattle.std.specs.Prelude.{ℕ, List, ◌≡◌, ◌<◌, ◌≤◌, ◌^◌, [], ◌∷◌, MatchOption, IfSome, IfOk, OnOk, IfErr};
     ghost use Rattle.ffs_image.specs.Device.{Device, Faulted};
-    ghost use Rattle.ffs_volume.specs.Roles.{Seen};
+    ghost use Rattle.ffs_volume.specs.Directories.Roles.{RoledEntry};
     ghost use Rattle.ffs_survey.specs.declared.named.Named.{Named};
-    ghost use Rattle.ffs_survey.specs.Reading.{seen_of};
+    ghost use Rattle.ffs_survey.specs.Reading.{roled_of};
 
     ghost Base: { Type 0 };
 
@@ -20,13 +20,13 @@ pub trait Directories {
 
     ghost knows: { Base → List ℕ → Type 0 };
 
-    ghost entries: { Base → List ℕ → ℕ → List Seen };
+    ghost entries: { Base → List ℕ → ℕ → List RoledEntry };
 
     ghost device: { Self → Device };
 
     ghost ready: { Self → Type 0 };
 
-    ghost rest: { Self → List ℕ → List Seen };
+    ghost rest: { Self → List ℕ → List RoledEntry };
 
     ghost left: { Self → ℕ };
 
@@ -39,11 +39,13 @@ pub trait Directories {
     fn start(&mut self, dir: u32) -> Result<(), ImageFault>
         requires ready { ready self.old }
         ensures ready { ready self.new }
-        ensures rest { OnOk result ((b : List ℕ) → knows (base self.old) b → rest self.new b ≡ entries (base self.old) b dir) }
+        ensures rest { OnOk result ((b : List ℕ) → knows (base self.old) b → rest self.new b
+            ≡ entries (base self.old) b dir) }
         ensures left { OnOk result (left self.new ≤ 2 ^ 28) }
         ensures base { base self.new ≡ base self.old }
         ensures device { OnOk result (device self.new ≡ device self.old) }
-        ensures fault { IfErr result (λ fault. Faulted (device self.old) (device self.new) fault.sector) };
+        ensures fault { IfErr result (λ fault. Faulted (device self.old) (device self.new)
+            fault.sector) };
 
     /// The next entry of the directory that was begun, if there is one.
     ///
@@ -52,9 +54,12 @@ pub trait Directories {
     fn next(&mut self) -> Result<Option<Named>, ImageFault>
         requires ready { ready self.old }
         ensures ready { ready self.new }
-        ensures rest { IfOk result (λ o. (b : List ℕ) → knows (base self.old) b → MatchOption o (rest self.old b ≡ []) (λ e. rest self.old b ≡ seen_of e (name self.new) ∷ rest self.new b)) }
+        ensures rest { IfOk result (λ o. (b : List ℕ) → knows (base self.old) b
+            → MatchOption o (rest self.old b ≡ [])
+            (λ e. rest self.old b ≡ roled_of e (name self.new) ∷ rest self.new b)) }
         ensures left { IfOk result (λ o. IfSome o (λ e. left self.new < left self.old)) }
         ensures base { base self.new ≡ base self.old }
         ensures device { OnOk result (device self.new ≡ device self.old) }
-        ensures fault { IfErr result (λ fault. Faulted (device self.old) (device self.new) fault.sector) };
+        ensures fault { IfErr result (λ fault. Faulted (device self.old) (device self.new)
+            fault.sector) };
 }

@@ -1,11 +1,11 @@
 //! What one directory, and one level of directories, names.
 ghost use Rattle.std.specs.Prelude.{◌≡◌, ◌≢◌, ℕ, ◌+◌, ◌-◌, ◌*◌, ◌<◌, ◌≤◌, ◌^◌, ◌==◌, ◌&&◌, ◌||◌, not, cond, List, [], ◌∷◌, length, take, drop, All, true, false, IfOk, OnOk, IfErr};
 ghost use Rattle.ffs_image.specs.Device.{Faulted};
-ghost use Rattle.ffs_volume.specs.Roles.{refers, is_plain as is_plain_role};
-ghost use Rattle.ffs_volume.specs.Graph.{names, IsSane};
-ghost use Rattle.ffs_survey.specs.Reading.{seen_of};
+ghost use Rattle.ffs_volume.specs.Directories.Roles.{refers, is_plain as is_plain_role};
+ghost use Rattle.ffs_volume.specs.Directories.Graph.{names, IsSane};
+ghost use Rattle.ffs_survey.specs.Reading.{roled_of};
 ghost use Rattle.ffs_survey.specs.Survey.{bool_at, number_at, dir_at, graph_with};
-ghost use Rattle.ffs_survey.specs.Discover.{bit, unset, times, Comes, from_entries, from_dirs, nothing, count_in, any_in, count_of, any_of, none, never, Counts, IsFront, Knows, is_free as is_free_at};
+ghost use Rattle.ffs_survey.specs.Discover.{bit, unset, times, Comes, from_entries, from_dirs, nothing, count_in, any_in, count_of, any_of, none, never, Counts, IsFrontier, LevelsKnown, is_free as is_free_at};
 
 use crate::directories::Directories;
 use crate::named::{Named, is_counted, is_dir, is_plain};
@@ -13,8 +13,10 @@ use ffs_image::ImageFault;
 
 /// Counts an entry for the inode that it names.
 fn count_reference(entry: Named, references: &mut [u64])
-    requires room { entry.number < length references.old → number_at references.old entry.number + 1 < 2 ^ 64 }
-    ensures { (x : ℕ) → x < length references.old → number_at references.new x ≡ number_at references.old x + bit (refers x (seen_of entry [])) }
+    requires room { entry.number < length references.old → number_at references.old entry.number + 1
+        < 2 ^ 64 }
+    ensures { (x : ℕ) → x < length references.old → number_at references.new x
+        ≡ number_at references.old x + bit (refers x (roled_of entry [])) }
 {
     let number = entry.number as usize;
     if !is_counted(entry.role) || number >= references.len() {
@@ -25,7 +27,8 @@ fn count_reference(entry: Named, references: &mut [u64])
 
 /// Marks the inode that a plain entry names.
 fn mark_named(entry: Named, named: &mut [bool])
-    ensures { (x : ℕ) → x < length named.old → bool_at named.new x ≡ (bool_at named.old x || names x (seen_of entry [])) }
+    ensures { (x : ℕ) → x < length named.old → bool_at named.new x
+        ≡ (bool_at named.old x || names x (roled_of entry [])) }
 {
     let number = entry.number as usize;
     if !is_plain(entry.role) || number >= named.len() {
@@ -64,7 +67,8 @@ fn visit(
     requires parents { length parents.old ≡ length kinds.now }
     requires room { top + unset reached.old ≤ length queue.old }
     ensures top { result + unset reached.new ≡ top + unset reached.old }
-    ensures comes { Comes (from_entries kinds.now from (seen_of entry [] ∷ [])) reached.old parents.old (take top queue.old) nothing reached.new parents.new (take result queue.new) }
+    ensures comes { Comes (from_entries kinds.now from (roled_of entry [] ∷ [])) reached.old
+        parents.old (take top queue.old) nothing reached.new parents.new (take result queue.new) }
 {
     if !is_new(entry, kinds, reached) {
         return top;
@@ -95,14 +99,22 @@ fn read_reached<D: Directories>(
     requires parents { length parents.old ≡ length kinds.now }
     requires few { (x : ℕ) → x < length kinds.now → number_at references.old x ≤ 2 ^ 60 }
     requires room { top + unset reached.old ≤ length queue.old }
-    ensures grown { OnOk result ((x : ℕ) → x < length kinds.now → number_at references.new x ≤ number_at references.old x + 2 ^ 28) }
+    ensures grown { OnOk result ((x : ℕ) → x < length kinds.now → number_at references.new x
+        ≤ number_at references.old x + 2 ^ 28) }
     ensures top { IfOk result (λ n. n + unset reached.new ≡ top + unset reached.old) }
-    ensures comes { IfOk result (λ n. (b : List ℕ) → D.knows (D.base directories.old) b → Comes (from_entries kinds.now from (D.entries (D.base directories.old) b from)) reached.old parents.old (take top queue.old) nothing reached.new parents.new (take n queue.new)) }
-    ensures counts { OnOk result ((b : List ℕ) → D.knows (D.base directories.old) b → Counts (length kinds.now) (count_in (D.entries (D.base directories.old) b from)) (any_in (D.entries (D.base directories.old) b from)) references.old named.old none never references.new named.new) }
+    ensures comes { IfOk result (λ n. (b : List ℕ) → D.knows (D.base directories.old) b
+        → Comes (from_entries kinds.now from (D.entries (D.base directories.old) b from))
+        reached.old parents.old (take top queue.old) nothing reached.new parents.new
+        (take n queue.new)) }
+    ensures counts { OnOk result ((b : List ℕ) → D.knows (D.base directories.old) b
+        → Counts (length kinds.now) (count_in (D.entries (D.base directories.old) b from))
+        (any_in (D.entries (D.base directories.old) b from)) references.old named.old none never
+        references.new named.new) }
     ensures ready { D.ready directories.new }
     ensures base { D.base directories.new ≡ D.base directories.old }
     ensures device { OnOk result (D.device directories.new ≡ D.device directories.old) }
-    ensures fault { IfErr result (λ fault. Faulted (D.device directories.old) (D.device directories.new) fault.sector) }
+    ensures fault { IfErr result (λ fault. Faulted (D.device directories.old)
+        (D.device directories.new) fault.sector) }
 {
     let mut high = top;
     directories.start(from)?;
@@ -114,10 +126,10 @@ fn read_reached<D: Directories>(
     Ok(high)
 }
 
-/// Reads the directories `front`, one after another.
+/// Reads the directories `frontier`, one after another.
 pub fn read_level<D: Directories>(
     directories: &mut D,
-    front: &[u32],
+    frontier: &[u32],
     kinds: &[u8],
     references: &mut [u64],
     named: &mut [bool],
@@ -130,21 +142,31 @@ pub fn read_level<D: Directories>(
     requires named { length named.old ≡ length kinds.now }
     requires reached { length reached.old ≡ length kinds.now }
     requires parents { length parents.old ≡ length kinds.now }
-    requires few { length front.now < 2 ^ 31 }
+    requires few { length frontier.now < 2 ^ 31 }
     requires counted { (x : ℕ) → x < length kinds.now → number_at references.old x ≤ 2 ^ 59 }
     requires room { unset reached.old ≤ length queue.old }
-    requires front { (b : List ℕ) → D.knows (D.base directories.old) b → All (λ s. dir_at kinds.now s ≡ true) front.now }
-    ensures grown { OnOk result ((x : ℕ) → x < length kinds.now → number_at references.new x ≤ number_at references.old x + length front.now * 2 ^ 28) }
+    requires frontier { (b : List ℕ) → D.knows (D.base directories.old) b
+        → All (λ s. dir_at kinds.now s ≡ true) frontier.now }
+    ensures grown { OnOk result ((x : ℕ) → x < length kinds.now → number_at references.new x
+        ≤ number_at references.old x + length frontier.now * 2 ^ 28) }
     ensures top { IfOk result (λ n. n + unset reached.new ≡ unset reached.old) }
-    ensures comes { IfOk result (λ n. (b : List ℕ) → D.knows (D.base directories.old) b → Comes (from_dirs (graph_with kinds.now (D.entries (D.base directories.old) b)) front.now) reached.old parents.old [] nothing reached.new parents.new (take n queue.new)) }
-    ensures counts { OnOk result ((b : List ℕ) → D.knows (D.base directories.old) b → Counts (length kinds.now) (count_of (graph_with kinds.now (D.entries (D.base directories.old) b)) front.now) (any_of (graph_with kinds.now (D.entries (D.base directories.old) b)) front.now) references.old named.old none never references.new named.new) }
+    ensures comes { IfOk result (λ n. (b : List ℕ) → D.knows (D.base directories.old) b
+        → Comes (from_dirs (graph_with kinds.now (D.entries (D.base directories.old) b))
+        frontier.now) reached.old parents.old [] nothing reached.new parents.new
+        (take n queue.new)) }
+    ensures counts { OnOk result ((b : List ℕ) → D.knows (D.base directories.old) b
+        → Counts (length kinds.now) (count_of
+        (graph_with kinds.now (D.entries (D.base directories.old) b)) frontier.now)
+        (any_of (graph_with kinds.now (D.entries (D.base directories.old) b)) frontier.now)
+        references.old named.old none never references.new named.new) }
     ensures ready { D.ready directories.new }
     ensures base { D.base directories.new ≡ D.base directories.old }
     ensures device { OnOk result (D.device directories.new ≡ D.device directories.old) }
-    ensures fault { IfErr result (λ fault. Faulted (D.device directories.old) (D.device directories.new) fault.sector) }
+    ensures fault { IfErr result (λ fault. Faulted (D.device directories.old)
+        (D.device directories.new) fault.sector) }
 {
     let mut top = 0;
-    for s in front {
+    for s in frontier {
         top = read_reached(
             directories,
             *s,
@@ -164,7 +186,10 @@ pub fn read_level<D: Directories>(
 fn adopt(entry: Named, from: u32, kinds: &[u8], reached: &[bool], parents: &mut [u32])
     requires reached { length reached.now ≡ length kinds.now }
     requires parents { length parents.old ≡ length kinds.now }
-    ensures { (x : ℕ) → x < length kinds.now → number_at parents.new x ≡ cond ((number_at parents.old x == 0) && (is_free_at kinds.now reached.now x && names x (seen_of entry []))) from (number_at parents.old x) }
+    ensures { (x : ℕ) → x < length kinds.now → number_at parents.new x
+        ≡ cond ((number_at parents.old x == 0)
+        && (is_free_at kinds.now reached.now x && names x (roled_of entry []))) from
+        (number_at parents.old x) }
 {
     if !is_new(entry, kinds, reached) {
         return;
@@ -193,13 +218,22 @@ pub fn read_unreached<D: Directories>(
     requires parents { length parents.old ≡ length kinds.now }
     requires few { (x : ℕ) → x < length kinds.now → number_at references.old x ≤ 2 ^ 60 }
     requires from { 0 < from }
-    ensures grown { OnOk result ((x : ℕ) → x < length kinds.now → number_at references.new x ≤ number_at references.old x + 2 ^ 28) }
-    ensures counts { OnOk result ((b : List ℕ) → D.knows (D.base directories.old) b → Counts (length kinds.now) (count_in (D.entries (D.base directories.old) b from)) (any_in (D.entries (D.base directories.old) b from)) references.old named.old none never references.new named.new) }
-    ensures parents { OnOk result ((b : List ℕ) → D.knows (D.base directories.old) b → (x : ℕ) → x < length kinds.now → number_at parents.new x ≡ cond ((number_at parents.old x == 0) && (is_free_at kinds.now reached.now x && any_in (D.entries (D.base directories.old) b from) x)) from (number_at parents.old x)) }
+    ensures grown { OnOk result ((x : ℕ) → x < length kinds.now → number_at references.new x
+        ≤ number_at references.old x + 2 ^ 28) }
+    ensures counts { OnOk result ((b : List ℕ) → D.knows (D.base directories.old) b
+        → Counts (length kinds.now) (count_in (D.entries (D.base directories.old) b from))
+        (any_in (D.entries (D.base directories.old) b from)) references.old named.old none never
+        references.new named.new) }
+    ensures parents { OnOk result ((b : List ℕ) → D.knows (D.base directories.old) b → (x : ℕ) → x
+        < length kinds.now → number_at parents.new x
+        ≡ cond ((number_at parents.old x == 0)
+        && (is_free_at kinds.now reached.now x
+        && any_in (D.entries (D.base directories.old) b from) x)) from (number_at parents.old x)) }
     ensures ready { D.ready directories.new }
     ensures base { D.base directories.new ≡ D.base directories.old }
     ensures device { OnOk result (D.device directories.new ≡ D.device directories.old) }
-    ensures fault { IfErr result (λ fault. Faulted (D.device directories.old) (D.device directories.new) fault.sector) }
+    ensures fault { IfErr result (λ fault. Faulted (D.device directories.old)
+        (D.device directories.new) fault.sector) }
 {
     directories.start(from)?;
     while let Some(entry) = directories.next()? {

@@ -1,17 +1,17 @@
 //! The survey: level after level from inode 2, and then the directories that are not reached.
 ghost use Rattle.std.specs.Prelude.{◌≡◌, ◌≢◌, ℕ, ◌+◌, ◌-◌, ◌*◌, ◌<◌, ◌≤◌, ◌^◌, ◌==◌, ◌&&◌, ◌||◌, not, cond, List, [], ◌∷◌, length, take, drop, All, true, false, IfOk, OnOk, IfErr, unwrap_or};
 ghost use Rattle.ffs_image.specs.Device.{Faulted};
-ghost use Rattle.ffs_volume.specs.Graph.{IsSane, names_in};
-ghost use Rattle.ffs_volume.specs.Search.{first_below, some_below};
+ghost use Rattle.ffs_volume.specs.Directories.Graph.{IsSane, names_in};
+ghost use Rattle.ffs_volume.specs.Directories.Search.{first_below, some_below};
 ghost use Rattle.ffs_survey.specs.Survey.{bool_at, number_at, dir_at, graph_with, IsSurvey};
-ghost use Rattle.ffs_survey.specs.Discover.{unset, count_in, any_in, count_of, any_of, none, never, Counts, IsFront, Knows, IsReachedPart, counted_by, is_free as is_free_at, IsBlank, IsRead};
+ghost use Rattle.ffs_survey.specs.Discover.{unset, count_in, any_in, count_of, any_of, none, never, Counts, IsFrontier, LevelsKnown, IsReachedPart, counted_by, is_free as is_free_at, IsBlank, IsRead};
 
 use crate::directories::Directories;
 use crate::discover::{is_free, read_level, read_unreached};
 use crate::named::is_dir;
 use ffs_image::ImageFault;
 
-/// Reads the level that stands in `queue[low..high]`, puts the next one behind it, ascending, and answers where that
+/// Reads the level that is in `queue[low..high]`, puts the next one after it, ascending, and answers where that
 /// ends. `depth` is the level's number.
 fn next_level<D: Directories>(
     directories: &mut D,
@@ -37,19 +37,36 @@ fn next_level<D: Directories>(
     requires low { low ≤ high }
     requires room { high + unset reached.old ≤ length queue.old }
     requires counted { (x : ℕ) → x < length kinds.now → number_at references.old x ≤ low * 2 ^ 28 }
-    requires front { (b : List ℕ) → D.knows (D.base directories.old) b → IsFront (graph_with kinds.now (D.entries (D.base directories.old) b)) depth (drop low (take high queue.old)) }
-    requires levels { (b : List ℕ) → D.knows (D.base directories.old) b → Knows (graph_with kinds.now (D.entries (D.base directories.old) b)) depth reached.old parents.old (take high queue.old) }
+    requires frontier { (b : List ℕ) → D.knows (D.base directories.old) b
+        → IsFrontier (graph_with kinds.now (D.entries (D.base directories.old) b)) depth
+        (drop low (take high queue.old)) }
+    requires levels { (b : List ℕ) → D.knows (D.base directories.old) b
+        → LevelsKnown (graph_with kinds.now (D.entries (D.base directories.old) b)) depth
+        reached.old parents.old (take high queue.old) }
     ensures end { IfOk result (λ n. high ≤ n) }
     ensures room { IfOk result (λ n. n + unset reached.new ≤ length queue.new) }
-    ensures counted { OnOk result ((x : ℕ) → x < length kinds.now → number_at references.new x ≤ high * 2 ^ 28) }
+    ensures counted { OnOk result ((x : ℕ) → x < length kinds.now → number_at references.new x
+        ≤ high * 2 ^ 28) }
     ensures kept { OnOk result (take high queue.new ≡ take high queue.old) }
-    ensures front { IfOk result (λ n. (b : List ℕ) → D.knows (D.base directories.old) b → IsFront (graph_with kinds.now (D.entries (D.base directories.old) b)) (depth + 1) (drop high (take n queue.new))) }
-    ensures levels { IfOk result (λ n. (b : List ℕ) → D.knows (D.base directories.old) b → Knows (graph_with kinds.now (D.entries (D.base directories.old) b)) (depth + 1) reached.new parents.new (take n queue.new)) }
-    ensures counts { OnOk result ((b : List ℕ) → D.knows (D.base directories.old) b → Counts (length kinds.now) (count_of (graph_with kinds.now (D.entries (D.base directories.old) b)) (drop low (take high queue.old))) (any_of (graph_with kinds.now (D.entries (D.base directories.old) b)) (drop low (take high queue.old))) references.old named.old none never references.new named.new) }
+    ensures frontier { IfOk result
+        (λ n. (b : List ℕ) → D.knows (D.base directories.old) b
+        → IsFrontier (graph_with kinds.now (D.entries (D.base directories.old) b)) (depth + 1)
+        (drop high (take n queue.new))) }
+    ensures levels { IfOk result (λ n. (b : List ℕ) → D.knows (D.base directories.old) b
+        → LevelsKnown (graph_with kinds.now (D.entries (D.base directories.old) b)) (depth + 1)
+        reached.new parents.new (take n queue.new)) }
+    ensures counts { OnOk result ((b : List ℕ) → D.knows (D.base directories.old) b
+        → Counts (length kinds.now) (count_of
+        (graph_with kinds.now (D.entries (D.base directories.old) b))
+        (drop low (take high queue.old)))
+        (any_of (graph_with kinds.now (D.entries (D.base directories.old) b))
+        (drop low (take high queue.old))) references.old named.old none never references.new
+        named.new) }
     ensures ready { D.ready directories.new }
     ensures base { D.base directories.new ≡ D.base directories.old }
     ensures device { OnOk result (D.device directories.new ≡ D.device directories.old) }
-    ensures fault { IfErr result (λ fault. Faulted (D.device directories.old) (D.device directories.new) fault.sector) }
+    ensures fault { IfErr result (λ fault. Faulted (D.device directories.old)
+        (D.device directories.new) fault.sector) }
 {
     let (left, right) = queue.split_at_mut(high);
     let found = read_level(
@@ -88,12 +105,16 @@ fn survey_reached<D: Directories>(
     requires none_named { (x : ℕ) → bool_at named.old x ≡ false }
     requires none_reached { (x : ℕ) → bool_at reached.old x ≡ false }
     requires no_parents { (x : ℕ) → number_at parents.old x ≡ 0 }
-    ensures counted { OnOk result ((x : ℕ) → x < length kinds.now → number_at references.new x ≤ 2 ^ 59) }
-    ensures part { OnOk result ((b : List ℕ) → D.knows (D.base directories.old) b → IsReachedPart (graph_with kinds.now (D.entries (D.base directories.old) b)) references.new named.new reached.new parents.new) }
+    ensures counted { OnOk result ((x : ℕ) → x < length kinds.now → number_at references.new x
+        ≤ 2 ^ 59) }
+    ensures part { OnOk result ((b : List ℕ) → D.knows (D.base directories.old) b
+        → IsReachedPart (graph_with kinds.now (D.entries (D.base directories.old) b)) references.new
+        named.new reached.new parents.new) }
     ensures ready { D.ready directories.new }
     ensures base { D.base directories.new ≡ D.base directories.old }
     ensures device { OnOk result (D.device directories.new ≡ D.device directories.old) }
-    ensures fault { IfErr result (λ fault. Faulted (D.device directories.old) (D.device directories.new) fault.sector) }
+    ensures fault { IfErr result (λ fault. Faulted (D.device directories.old)
+        (D.device directories.new) fault.sector) }
 {
     reached[2] = true;
     parents[2] = 2;
@@ -140,11 +161,16 @@ fn survey_unreached<D: Directories>(
     requires reached { length reached.now ≡ length kinds.now }
     requires parents { length parents.old ≡ length kinds.now }
     requires counted { (x : ℕ) → x < length kinds.now → number_at references.old x ≤ 2 ^ 59 }
-    ensures read { OnOk result ((b : List ℕ) → D.knows (D.base directories.old) b → IsBlank kinds.now reached.now parents.old → IsRead (graph_with kinds.now (D.entries (D.base directories.old) b)) kinds.now reached.now (length kinds.now) references.old named.old parents.old references.new named.new parents.new) }
+    ensures read { OnOk result ((b : List ℕ) → D.knows (D.base directories.old) b
+        → IsBlank kinds.now reached.now parents.old
+        → IsRead (graph_with kinds.now (D.entries (D.base directories.old) b)) kinds.now reached.now
+        (length kinds.now) references.old named.old parents.old references.new named.new
+        parents.new) }
     ensures ready { D.ready directories.new }
     ensures base { D.base directories.new ≡ D.base directories.old }
     ensures device { OnOk result (D.device directories.new ≡ D.device directories.old) }
-    ensures fault { IfErr result (λ fault. Faulted (D.device directories.old) (D.device directories.new) fault.sector) }
+    ensures fault { IfErr result (λ fault. Faulted (D.device directories.old)
+        (D.device directories.new) fault.sector) }
 {
     for s in 0..kinds.len() as u32 {
         if !is_free(kinds, reached, s as usize) {
@@ -177,11 +203,14 @@ pub fn survey<D: Directories>(
     requires reached { length reached.old ≡ length kinds.now }
     requires parents { length parents.old ≡ length kinds.now }
     requires queue { length queue.old ≡ length kinds.now }
-    ensures survey { OnOk result ((b : List ℕ) → D.knows (D.base directories.old) b → IsSurvey (graph_with kinds.now (D.entries (D.base directories.old) b)) references.new named.new reached.new parents.new) }
+    ensures survey { OnOk result ((b : List ℕ) → D.knows (D.base directories.old) b
+        → IsSurvey (graph_with kinds.now (D.entries (D.base directories.old) b)) references.new
+        named.new reached.new parents.new) }
     ensures ready { D.ready directories.new }
     ensures base { D.base directories.new ≡ D.base directories.old }
     ensures device { OnOk result (D.device directories.new ≡ D.device directories.old) }
-    ensures fault { IfErr result (λ fault. Faulted (D.device directories.old) (D.device directories.new) fault.sector) }
+    ensures fault { IfErr result (λ fault. Faulted (D.device directories.old)
+        (D.device directories.new) fault.sector) }
 {
     references.fill(0);
     named.fill(false);

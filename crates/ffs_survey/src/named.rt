@@ -1,11 +1,11 @@
 //! An entry of a directory, and the kinds of inodes.
 ghost use Rattle.std.specs.Prelude.{◌≡◌};
-ghost use Rattle.ffs_volume.specs.Roles.{is_plain as is_plain_role, is_counted as is_counted_role};
+ghost use Rattle.ffs_volume.specs.Directories.Roles.{is_plain as is_plain_role, is_counted as is_counted_role};
 ghost use Rattle.ffs_survey.specs.Survey.{dir_at};
 
 use ffs_volume::Role;
 
-/// An entry of a directory without its name: what it is there for, the inode that it names, its length in bytes and
+/// An entry of a directory without its name: its role, the inode that it names, its length in bytes and
 /// its type (dir(5)).
 #[derive(Clone, Copy, Debug)]
 pub struct Named {

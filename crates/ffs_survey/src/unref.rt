@@ -1,7 +1,7 @@
 //! Directories that hang below nothing.
 ghost use Rattle.std.specs.Prelude.{◌≡◌, ℕ, ◌<◌, ◌^◌, length, unwrap_or};
-ghost use Rattle.ffs_volume.specs.Graph.{Graph, named as is_named, reached as is_reached, parent as parent_of, dead, unref_dir};
-ghost use Rattle.ffs_volume.specs.Climb.{leads_cycle};
+ghost use Rattle.ffs_volume.specs.Directories.Graph.{Graph, named as is_named, reached as is_reached, parent as parent_of, dead, unref_dir};
+ghost use Rattle.ffs_volume.specs.Directories.Climb.{leads_cycle};
 ghost use Rattle.ffs_survey.specs.Survey.{bool_at, number_at, suspect_at, dir_at, IsTree, AreNamed};
 ghost use Rattle.ffs_survey.specs.Cycles.{up_of};
 
@@ -20,12 +20,13 @@ pub fn is_dead(number: u32, kinds: &[u8], marked: &[bool], named: &[bool]) -> bo
     requires number { number < length kinds.now }
     requires marked { length marked.now ≡ length kinds.now }
     requires named { length named.now ≡ length kinds.now }
-    ensures { (graph : Graph) → AreNamed graph kinds.now named.now → result ≡ dead graph (suspect_at kinds.now marked.now) number }
+    ensures { (graph : Graph) → AreNamed graph kinds.now named.now → result
+        ≡ dead graph (suspect_at kinds.now marked.now) number }
 {
     is_suspect(kinds, marked, number as usize) && number != 2 && !named[number as usize]
 }
 
-/// Whether a directory is told as unreferenced: neither reached nor dead, and without a parent, with a dead one, or
+/// Whether a directory is reported as unreferenced: neither reached nor dead, and without a parent, with a dead one, or
 /// the least number on a cycle of parents.
 pub fn is_unref(
     dir: u32,
@@ -42,8 +43,11 @@ pub fn is_unref(
     requires reached { length reached.now ≡ length kinds.now }
     requires parents { length parents.now ≡ length kinds.now }
     requires leaders { length leaders.now ≡ length kinds.now }
-    requires cycles { (x : ℕ) → bool_at leaders.now x ≡ leads_cycle (up_of parents.now) (length parents.now) x }
-    ensures { (graph : Graph) → AreNamed graph kinds.now named.now → IsTree graph kinds.now reached.now parents.now → result ≡ unref_dir graph (suspect_at kinds.now marked.now) dir }
+    requires cycles { (x : ℕ) → bool_at leaders.now x
+        ≡ leads_cycle (up_of parents.now) (length parents.now) x }
+    ensures { (graph : Graph) → AreNamed graph kinds.now named.now
+        → IsTree graph kinds.now reached.now parents.now → result
+        ≡ unref_dir graph (suspect_at kinds.now marked.now) dir }
 {
     if !is_dir(kinds, dir as usize) {
         return false;

@@ -11,7 +11,7 @@ use ffs_workspace::Workspace;
 use std::alloc::{AllocError, Global};
 use std::test::Fail;
 
-// Words that are the same, one behind the other: the place of the first one, how many they are, the word.
+// Words that are the same, one after the other: the place of the first one, how many they are, the word.
 type Words = (usize, usize, u64);
 
 // The inode 2: a directory of 512 bytes in the fragment 36.
@@ -68,7 +68,7 @@ fn image_with(words: &[Words], alloc: Global) -> Result<MemoryImage, AllocError>
     image_of(Order::Little, numbers.as_slice(), alloc)
 }
 
-// What the block check of an image tells, and how many Runs its two looks see.
+// What the block check of an image gives, and how many Runs its two looks see.
 fn checked<I: Image>(
     geometry: &Geometry,
     image: &mut I,
@@ -88,8 +88,8 @@ fn checked<I: Image>(
     Ok((text, runs))
 }
 
-// What is told of each image, and how many Runs its two looks see: the second one ends as soon as each DUP's first claim is
-// told.
+// What is reported of each image, and how many Runs its two looks see: the second one ends as soon as each DUP's first claim is
+// reported.
 #[test]
 fn block_checks(rt: HostRuntime) -> Result<(), Fail> {
     let geometry = geometry(Order::Little)?;

@@ -1,4 +1,4 @@
-//! What is told of a volume with directories that are cut off.
+//! What is reported of a volume with directories that are cut off.
 
 ghost use Rattle.std.specs.Prelude.{◌≡◌, ℕ, List, Option, IfOk};
 ghost use Rattle.ffs_workspace.specs.Lengths.{IsFor, HoldWindows, inodes_of};
@@ -16,7 +16,8 @@ use std::test::Fail;
 fn surveyed(alloc: Global, geometry: &Geometry) -> Result<Workspace, AllocError>
     requires { inodes_of geometry.now.layout ≡ 32 }
     ensures made { IfOk result (λ w. IsFor geometry.now.layout w) }
-    ensures windows { (told : Option (List ℕ)) → IfOk result (λ w. HoldWindows geometry.now.layout told w) }
+    ensures windows { (contents : Option (List ℕ))
+        → IfOk result (λ w. HoldWindows geometry.now.layout contents w) }
 {
     let mut workspace = Workspace::new(alloc, geometry)?;
     workspace.kinds[2] = 4;
@@ -43,7 +44,7 @@ const LOST: [Number; 4] = [
 ];
 
 #[test]
-fn tells_cut_off_directories(rt: HostRuntime) -> Result<(), Fail> {
+fn reports_cut_off_directories(rt: HostRuntime) -> Result<(), Fail> {
     let geometry = geometry(Order::Little)?;
     let mut workspace = surveyed(rt.alloc(), &geometry)?;
     let mut image = image_of(Order::Little, &LOST, rt.alloc())?;

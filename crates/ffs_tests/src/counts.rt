@@ -18,7 +18,8 @@ use std::test::Fail;
 fn referred(alloc: Global, geometry: &Geometry) -> Result<Workspace, AllocError>
     requires { inodes_of geometry.now.layout ≡ 32 }
     ensures made { IfOk result (λ w. IsFor geometry.now.layout w) }
-    ensures windows { (told : Option (List ℕ)) → IfOk result (λ w. HoldWindows geometry.now.layout told w) }
+    ensures windows { (contents : Option (List ℕ))
+        → IfOk result (λ w. HoldWindows geometry.now.layout contents w) }
 {
     let mut workspace = Workspace::new(alloc, geometry)?;
     workspace.kinds[2] = 4;

@@ -61,7 +61,7 @@ fn put_super(order: Order, bytes: &mut [u8], at: usize) {
     put_bytes(bytes, at.saturating_add(212), b"/mnt");
 }
 
-// An image whose last copy stands at byte 16,384.
+// An image whose last copy is at byte 16,384.
 pub fn base(order: Order, alloc: Global) -> Result<Vec<u8>, AllocError> {
     let mut bytes = vec![in alloc; 0u8; 131072]?;
     put_super(order, bytes.as_mut_slice(), 8192);
@@ -200,7 +200,7 @@ fn places(rt: HostRuntime) -> Result<(), Fail> {
 #[test]
 fn areas(rt: HostRuntime) -> Result<(), Fail> {
     let geometry = found_with(Some(16), &TWO_GROUPS, 256000, rt.alloc())?.geometry;
-    for (fragment, is_ok, is_reserved) in [
+    for (fragment, is_data_fragment, is_reserved) in [
         (0, true, true),
         (15, true, true),
         (16, false, true),
@@ -212,7 +212,7 @@ fn areas(rt: HostRuntime) -> Result<(), Fail> {
         (249, true, false),
         (250, false, false),
     ] {
-        assert_eq!(rt; geometry.ok(fragment), is_ok);
+        assert_eq!(rt; geometry.ok(fragment), is_data_fragment);
         assert_eq!(rt; geometry.reserved(fragment), is_reserved);
     }
     assert_eq!(rt;

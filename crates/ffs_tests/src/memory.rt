@@ -17,8 +17,7 @@ const REQUESTS: u64 = 14;
 // Two maps of two words, 25 bytes for each of 32 inodes, and five blocks.
 const HELD: u64 = 2 * 16 + 25 * 32 + 5 * 4096;
 
-const UNSTARTED: &[u8] =
-    b"** t.img (NO WRITE)\n** Last Mounted on /mnt\ncannot alloc maps\n";
+const UNSTARTED: &[u8] = b"** t.img (NO WRITE)\n** Last Mounted on /mnt\ncannot alloc maps\n";
 
 // How a check ends whose k-th request is refused, with what it printed, and the memory after it.
 fn refused(k: u64, alloc: Global) -> Result<(End, Vec<u8>, FuseMemory<SystemMemory>), Fail> {

@@ -1,4 +1,4 @@
-//! What a plain entry comes to, as a reader would work it out by hand.
+//! The verdict on a plain entry, as a reader would work it out by hand.
 
 use ffs_layout::Entry;
 use ffs_pathnames::inodes::Inodes;
@@ -64,7 +64,7 @@ fn entries_of_the_root(rt: HostRuntime) -> Result<(), Fail> {
     Ok(())
 }
 
-// The second entry of the root that names a directory is one too many; a marked file is told at the first alone.
+// The second entry of the root that names a directory is one too many; a marked file is reported at the first alone.
 #[test]
 fn second_names(rt: HostRuntime) -> Result<(), Fail> {
     let inodes = Inodes {

@@ -48,23 +48,23 @@ fn says(rt: &(impl Abort + AllocGlobal), line: &Line<'_>, defect: bool, text: &[
     assert_eq!(rt; written.as_slice(), text);
 }
 
-fn tells_block(rt: &(impl Abort + AllocGlobal), message: BlockMessage, text: &[u8]) {
+fn reports_block(rt: &(impl Abort + AllocGlobal), message: BlockMessage, text: &[u8]) {
     says(rt, &Line::Block(message), true, text);
 }
 
-fn tells_directory(rt: &(impl Abort + AllocGlobal), line: DirectoryLine<'_>, text: &[u8]) {
+fn reports_directory(rt: &(impl Abort + AllocGlobal), line: DirectoryLine<'_>, text: &[u8]) {
     says(rt, &Line::Directory(line), true, text);
 }
 
-fn tells_dot(rt: &(impl Abort + AllocGlobal), line: DotLine<'_>, text: &[u8]) {
+fn reports_dot(rt: &(impl Abort + AllocGlobal), line: DotLine<'_>, text: &[u8]) {
     says(rt, &Line::Dot(line), true, text);
 }
 
-fn tells_entry(rt: &(impl Abort + AllocGlobal), line: EntryLine<'_>, text: &[u8]) {
+fn reports_entry(rt: &(impl Abort + AllocGlobal), line: EntryLine<'_>, text: &[u8]) {
     says(rt, &Line::Entry(line), true, text);
 }
 
-fn tells_reference(rt: &(impl Abort + AllocGlobal), line: ReferenceLine, text: &[u8]) {
+fn reports_reference(rt: &(impl Abort + AllocGlobal), line: ReferenceLine, text: &[u8]) {
     says(rt, &Line::Reference(line), true, text);
 }
 
@@ -244,18 +244,18 @@ fn says_headings_and_the_summary(rt: HostRuntime) {
 }
 
 #[test]
-fn tells_blocks(rt: HostRuntime) {
-    tells_block(
+fn reports_blocks(rt: HostRuntime) {
+    reports_block(
         &rt,
         BlockMessage::PartAlloc { inode: 3 },
         b"PARTIALLY ALLOCATED INODE I=3\nCLEAR? no\n\n",
     );
-    tells_block(
+    reports_block(
         &rt,
         BlockMessage::UnknownType { inode: 4 },
         b"UNKNOWN FILE TYPE I=4\nCLEAR? no\n\n",
     );
-    tells_block(
+    reports_block(
         &rt,
         BlockMessage::Bad {
             fragment: 4294967295,
@@ -263,7 +263,7 @@ fn tells_blocks(rt: HostRuntime) {
         },
         b"4294967295 BAD I=4\n",
     );
-    tells_block(
+    reports_block(
         &rt,
         BlockMessage::Dup {
             fragment: 40,
@@ -271,22 +271,22 @@ fn tells_blocks(rt: HostRuntime) {
         },
         b"40 DUP I=3\n",
     );
-    tells_block(
+    reports_block(
         &rt,
         BlockMessage::ManyBad { inode: 3 },
         b"EXCESSIVE BAD BLKS I=3\nCONTINUE? yes\n\n",
     );
-    tells_block(
+    reports_block(
         &rt,
         BlockMessage::ManyDup { inode: 3 },
         b"EXCESSIVE DUP BLKS I=3\nCONTINUE? yes\n\n",
     );
-    tells_block(
+    reports_block(
         &rt,
         BlockMessage::PartTrunc { inode: 3 },
         b"PARTIALLY TRUNCATED INODE I=3\nSALVAGE? no\n\n",
     );
-    tells_block(
+    reports_block(
         &rt,
         BlockMessage::BlockCount {
             inode: 3,
@@ -295,22 +295,22 @@ fn tells_blocks(rt: HostRuntime) {
         },
         b"INCORRECT BLOCK COUNT I=3 (2 should be 8)\nCORRECT? no\n\n",
     );
-    tells_block(
+    reports_block(
         &rt,
         BlockMessage::GroupMagic { group: 1 },
         b"CG 1: BAD MAGIC NUMBER\n",
     );
-    tells_block(
+    reports_block(
         &rt,
         BlockMessage::FreeCounts,
         b"FREE BLK COUNT(S) WRONG IN SUPERBLK\nSALVAGE? no\n\n",
     );
-    tells_block(
+    reports_block(
         &rt,
         BlockMessage::MapsWrong,
         b"BLK(S) MISSING IN BIT MAPS\nSALVAGE? no\n\n",
     );
-    tells_block(
+    reports_block(
         &rt,
         BlockMessage::GroupSums,
         b"SUMMARY INFORMATION BAD\nSALVAGE? no\n\n",
@@ -318,40 +318,40 @@ fn tells_blocks(rt: HostRuntime) {
 }
 
 #[test]
-fn tells_directories(rt: HostRuntime) {
+fn reports_directories(rt: HostRuntime) {
     let attr = ATTR;
     let path = b"/d\n";
-    tells_directory(
+    reports_directory(
         &rt,
         DirectoryLine::RootNone,
         b"ROOT INODE UNALLOCATED\nALLOCATE? no\n\n",
     );
-    tells_directory(
+    reports_directory(
         &rt,
         DirectoryLine::RootNotDir,
         b"ROOT INODE NOT DIRECTORY\nREALLOCATE? no\n\nFIX? no\n\n",
     );
-    tells_directory(
+    reports_directory(
         &rt,
         DirectoryLine::RootSuspect,
         b"DUPS/BAD IN ROOT INODE\nREALLOCATE? no\n\nCONTINUE? yes\n\n",
     );
-    tells_directory(
+    reports_directory(
         &rt,
         DirectoryLine::DirShort { attr, path },
         b"DIRECTORY TOO SHORT I=7 OWNER=1001 MODE=40755\nSIZE=512 MTIME=86400\nDIR=/d?\nFIX? no\n\n",
     );
-    tells_directory(
+    reports_directory(
         &rt,
         DirectoryLine::DirLength { path, size: 513 },
         b"DIRECTORY /d?: LENGTH 513 NOT MULTIPLE OF 512\nADJUST? no\n\n",
     );
-    tells_directory(
+    reports_directory(
         &rt,
         DirectoryLine::DirEmpty { path },
         b"DIRECTORY /d?: CONTAINS EMPTY BLOCKS\nADJUST LENGTH? no\n\n",
     );
-    tells_directory(
+    reports_directory(
         &rt,
         DirectoryLine::DirCorrupt { attr, path },
         b"DIRECTORY CORRUPTED I=7 OWNER=1001 MODE=40755\nSIZE=512 MTIME=86400\nDIR=/d?\nSALVAGE? no\n\n",
@@ -359,56 +359,56 @@ fn tells_directories(rt: HostRuntime) {
 }
 
 #[test]
-fn tells_dots(rt: HostRuntime) {
+fn reports_dots(rt: HostRuntime) {
     let attr = ATTR;
     let path = b"/d";
     let name = b"x\x00";
-    tells_dot(
+    reports_dot(
         &rt,
         DotLine::MissingDot { attr, path },
         b"MISSING '.' I=7 OWNER=1001 MODE=40755\nSIZE=512 MTIME=86400\nDIR=/d\nFIX? no\n\n",
     );
-    tells_dot(
+    reports_dot(
         &rt,
         DotLine::MissingDotFirst { attr, path, name },
         b"MISSING '.' I=7 OWNER=1001 MODE=40755\nSIZE=512 MTIME=86400\nDIR=/d\nCANNOT FIX, FIRST ENTRY IN DIRECTORY CONTAINS x?\n",
     );
-    tells_dot(
+    reports_dot(
         &rt,
         DotLine::NumberDot { attr, path },
         b"BAD INODE NUMBER FOR '.' I=7 OWNER=1001 MODE=40755\nSIZE=512 MTIME=86400\nDIR=/d\nFIX? no\n\n",
     );
-    tells_dot(
+    reports_dot(
         &rt,
         DotLine::KindDot { attr, path },
         b"BAD TYPE VALUE FOR '.' I=7 OWNER=1001 MODE=40755\nSIZE=512 MTIME=86400\nDIR=/d\nFIX? no\n\n",
     );
-    tells_dot(
+    reports_dot(
         &rt,
         DotLine::MissingDotdot { attr, path },
         b"MISSING '..' I=7 OWNER=1001 MODE=40755\nSIZE=512 MTIME=86400\nDIR=/d\nFIX? no\n\n",
     );
-    tells_dot(
+    reports_dot(
         &rt,
         DotLine::MissingDotdotSecond { attr, path, name },
         b"MISSING '..' I=7 OWNER=1001 MODE=40755\nSIZE=512 MTIME=86400\nDIR=/d\nCANNOT FIX, SECOND ENTRY IN DIRECTORY CONTAINS x?\n",
     );
-    tells_dot(
+    reports_dot(
         &rt,
         DotLine::NumberDotdot { attr, path },
         b"BAD INODE NUMBER FOR '..' I=7 OWNER=1001 MODE=40755\nSIZE=512 MTIME=86400\nDIR=/d\nFIX? no\n\n",
     );
-    tells_dot(
+    reports_dot(
         &rt,
         DotLine::KindDotdot { attr, path },
         b"BAD TYPE VALUE FOR '..' I=7 OWNER=1001 MODE=40755\nSIZE=512 MTIME=86400\nDIR=/d\nFIX? no\n\n",
     );
-    tells_dot(
+    reports_dot(
         &rt,
         DotLine::ExtraDot { attr, path },
         b"EXTRA '.' ENTRY I=7 OWNER=1001 MODE=40755\nSIZE=512 MTIME=86400\nDIR=/d\nFIX? no\n\n",
     );
-    tells_dot(
+    reports_dot(
         &rt,
         DotLine::ExtraDotdot { attr, path },
         b"EXTRA '..' ENTRY I=7 OWNER=1001 MODE=40755\nSIZE=512 MTIME=86400\nDIR=/d\nFIX? no\n\n",
@@ -416,26 +416,26 @@ fn tells_dots(rt: HostRuntime) {
 }
 
 #[test]
-fn tells_entries(rt: HostRuntime) {
+fn reports_entries(rt: HostRuntime) {
     let attr = ATTR;
     let path = b"/d/\x0b";
     let dir = b"?\x0c";
-    tells_entry(
+    reports_entry(
         &rt,
         EntryLine::OutOfRange { number: 32, path },
         b"I OUT OF RANGE I=32\nNAME=/d/?\nREMOVE? no\n\n",
     );
-    tells_entry(
+    reports_entry(
         &rt,
         EntryLine::Whiteout { number: 1, path },
         b"BAD WHITEOUT ENTRY I=1\nNAME=/d/?\nFIX? no\n\n",
     );
-    tells_entry(
+    reports_entry(
         &rt,
         EntryLine::Unallocated { attr: FREE, path },
         b"UNALLOCATED I=4294967295 OWNER=0 MODE=0\nSIZE=0 MTIME=0\nNAME=/d/?\nREMOVE? no\n\n",
     );
-    tells_entry(
+    reports_entry(
         &rt,
         EntryLine::DupBad {
             label: Label::Dir,
@@ -444,7 +444,7 @@ fn tells_entries(rt: HostRuntime) {
         },
         b"DUP/BAD I=7 OWNER=1001 MODE=40755\nSIZE=512 MTIME=86400\nDIR=/d/?\nREMOVE? no\n\n",
     );
-    tells_entry(
+    reports_entry(
         &rt,
         EntryLine::DupBad {
             label: Label::File,
@@ -453,7 +453,7 @@ fn tells_entries(rt: HostRuntime) {
         },
         b"DUP/BAD I=7 OWNER=1001 MODE=40755\nSIZE=512 MTIME=86400\nFILE=/d/?\nREMOVE? no\n\n",
     );
-    tells_entry(
+    reports_entry(
         &rt,
         EntryLine::DupBad {
             label: Label::Name,
@@ -462,17 +462,17 @@ fn tells_entries(rt: HostRuntime) {
         },
         b"DUP/BAD I=7 OWNER=1001 MODE=40755\nSIZE=512 MTIME=86400\nNAME=/d/?\nREMOVE? no\n\n",
     );
-    tells_entry(
+    reports_entry(
         &rt,
         EntryLine::ZeroDir { attr, path },
         b"ZERO LENGTH DIRECTORY I=7 OWNER=1001 MODE=40755\nSIZE=512 MTIME=86400\nDIR=/d/?\nREMOVE? no\n\n",
     );
-    tells_entry(
+    reports_entry(
         &rt,
         EntryLine::Extraneous { path, dir },
         b"/d/? IS AN EXTRANEOUS HARD LINK TO DIRECTORY ??\nREMOVE? no\n\n",
     );
-    tells_entry(
+    reports_entry(
         &rt,
         EntryLine::KindEntry {
             label: Label::Name,
@@ -484,14 +484,14 @@ fn tells_entries(rt: HostRuntime) {
 }
 
 #[test]
-fn tells_references(rt: HostRuntime) {
+fn reports_references(rt: HostRuntime) {
     let attr = ATTR;
-    tells_reference(
+    reports_reference(
         &rt,
         ReferenceLine::UnrefDir { attr },
         b"UNREF DIR I=7 OWNER=1001 MODE=40755\nSIZE=512 MTIME=86400\nRECONNECT? no\n\n",
     );
-    tells_reference(
+    reports_reference(
         &rt,
         ReferenceLine::DeadMarked {
             label: Label::Dir,
@@ -499,13 +499,13 @@ fn tells_references(rt: HostRuntime) {
         },
         b"BAD/DUP DIR I=7 OWNER=1001 MODE=40755\nSIZE=512 MTIME=86400\nCLEAR? no\n\n",
     );
-    tells_reference(
+    reports_reference(
         &rt,
         ReferenceLine::DeadZero { attr },
         b"ZERO LENGTH DIR I=7 OWNER=1001 MODE=40755\nSIZE=512 MTIME=86400\nCLEAR? no\n\n",
     );
     says(&rt, &UNREF, true, UNREF_TEXT);
-    tells_reference(
+    reports_reference(
         &rt,
         ReferenceLine::UnrefZero {
             label: Label::Name,
@@ -513,7 +513,7 @@ fn tells_references(rt: HostRuntime) {
         },
         b"UNREF FILE I=4294967295 OWNER=0 MODE=0\nSIZE=0 MTIME=0\nCLEAR? no\n\n",
     );
-    tells_reference(
+    reports_reference(
         &rt,
         ReferenceLine::LinkCount {
             label: Label::Name,
@@ -523,7 +523,7 @@ fn tells_references(rt: HostRuntime) {
         },
         b"LINK COUNT FILE I=7 OWNER=1001 MODE=40755\nSIZE=512 MTIME=86400\nCOUNT=-32768 SHOULD BE 18446744073709551615\nADJUST? no\n\n",
     );
-    tells_reference(
+    reports_reference(
         &rt,
         ReferenceLine::LinkCount {
             label: Label::Dir,

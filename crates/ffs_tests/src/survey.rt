@@ -7,7 +7,7 @@ use ffs_survey::named::{Named, is_dir};
 use ffs_survey::unref::{is_dead, is_suspect, is_unref};
 use ffs_volume::Role;
 
-/// Four entries for each of eight inodes. It tells nothing of an image.
+/// Four entries for each of eight inodes. It reports nothing of an image.
 #[derive(Drop)]
 struct Listed {
     entries: [[Named; 4]; 8],
@@ -26,7 +26,7 @@ impl Directories for Listed {
 
     ghost entries = { λ _ _ _. [] };
 
-    ghost device = { λ _. record { told = None; size = 0; failures = 0; failed = 0 } };
+    ghost device = { λ _. record { contents = None; size = 0; failures = 0; failed = 0 } };
 
     ghost ready = { λ _. Unit {0} };
 

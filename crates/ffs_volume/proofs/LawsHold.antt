@@ -7,12 +7,12 @@ use Rattle.std.proofs.lemmas.Nat.{div-add-mod'}
 use Rattle.std.proofs.lemmas.Bool.{and_parts}
 use Rattle.std.proofs.lemmas.List.Sums.{sum_by-cons}
 use Rattle.std.proofs.lemmas.List.FromFn.{length-map-range_with_len}
-use Rattle.ffs_volume.specs.Areas.{cgbase}
-use Rattle.ffs_volume.specs.PrefixLaws.{steps_first}
-use Rattle.ffs_volume.specs.Groups.{is_whole, block_bits, block_numbers, right_summary}
-use Rattle.ffs_volume.specs.Levels.{level-some, level-is}
-use Rattle.ffs_volume.specs.Paths.{dir_names, dir_text, entry_text, dir_path, entry_path}
-use Rattle.ffs_volume.specs.Laws.{KeptAreFirst, LevelsAreLeast, AllPathsFit, SumsAreWhole}
+use Rattle.ffs_volume.specs.Disk.Areas.{cgbase}
+use Rattle.ffs_volume.proofs.PrefixLaws.{steps_first}
+use Rattle.ffs_volume.specs.Groups.Records.{is_whole, block_bits, block_numbers, right_summary}
+use Rattle.ffs_volume.proofs.LevelLaws.{level-some, level-is}
+use Rattle.ffs_volume.specs.Directories.Paths.{dir_names, dir_text, entry_text, dir_path, entry_path}
+use Rattle.ffs_volume.specs.Laws.Meanings.{KeptAreFirst, LevelsAreLeast, AllPathsFit, SumsAreWhole}
 use Rattle.ffs_volume.proofs.PathBound.{path_text-fits}
 
 pub kept_first : KeptAreFirst

@@ -1,6 +1,6 @@
--- How the lines of numbers in ascending order go on.
+-- How the lines of numbers in ascending order continue.
 use Rattle.std.proofs.Common.{◌≡◌, ℕ, zero, suc, ◌+◌, ◌-◌, ◌<◌, ◌≤◌, List, [], ◌∷◌, ◌++◌, map, append_assoc, append-nil, refl, ap, ◌∙◌, sym, arith}
-use Rattle.ffs_volume.specs.Messages.{Message, NameMessage, of_names, lines_below, lines_from}
+use Rattle.ffs_volume.specs.Messages.Kinds.{Message, NameMessage, of_names, lines_below, lines_from}
 
 pub names_append : (xs ys : List NameMessage) → map of_names (xs ++ ys) ≡ map of_names xs ++ map of_names ys
 names_append [] ys = refl

@@ -6,9 +6,9 @@ use Rattle.std.proofs.Math.Nat.{mod-eq_of_lt, zero-div, zero-mod, mul-le-mul_rig
 use Rattle.std.proofs.lemmas.Bool.{cases_lt}
 use Rattle.ffs_volume.specs.declared.Layout.{Layout}
 use Rattle.ffs_volume.specs.declared.Inode.{Inode}
-use Rattle.ffs_volume.specs.Geometry.{IsGeometry}
-use Rattle.ffs_volume.specs.Inodes.{blocks_of, used_addresses}
-use Rattle.ffs_volume.specs.Steps.{steps_of, steps_of_addresses, walks, last_of}
+use Rattle.ffs_volume.specs.Disk.Geometry.{IsGeometry}
+use Rattle.ffs_volume.specs.Blocks.Inodes.{blocks_of, used_addresses}
+use Rattle.ffs_volume.specs.Blocks.Steps.{steps_of, steps_of_addresses, walks, last_of}
 
 -- there is an inode 2
 pub some_inodes : (v : Layout) → IsGeometry v → 2 < v.ncg * v.ipg

@@ -1,37 +1,4 @@
--- When a whole volume is consistent: without order, keeping, firsts or messages.
-use Rattle.std.specs.Prelude.{◌≡◌, ℕ, ◌≤◌, true, List}
-use Rattle.std.specs.List.{list_all}
-use Rattle.ffs_volume.specs.declared.Layout.{Layout}
-use Rattle.ffs_volume.specs.Areas.{is_reserved}
-use Rattle.ffs_volume.specs.Superblock.{Superblock}
-use Rattle.ffs_volume.specs.Owners.{Owner, owners_of, all_steps, fragments_of}
-use Rattle.ffs_volume.specs.BlocksRight.{is_whole_class, run_in_range, is_no_tail, times, is_counted}
-use Rattle.ffs_volume.specs.Groups.{GroupsRight}
-use Rattle.ffs_volume.specs.GroupCheck.{is_free_of_runs}
-use Rattle.ffs_volume.specs.DirectoriesRight.{AreDirsRight, AreLinksRight, AreCountsRight}
-use Rattle.ffs_volume.specs.Volumes.{class_at, whole_volume}
-use Rattle.ffs_volume.specs.Opening.{is_optimization, is_minfree}
-
--- the settings are possible ones
-pub record AreSettingsRight (s : Superblock) : Type 0 where
-  pub optimization : is_optimization s ≡ true
-  pub minfree : is_minfree s ≡ true
-
--- all Runs are in range, no fragment stands in two places or is reserved, there is no Tail,
--- and each blocks field is that of the inode's fragments
-pub record AreRunsRight (v : Layout) (os : List Owner) : Type 0 where
-  pub in_range : list_all (run_in_range v) (all_steps os) ≡ true
-  pub no_tail : list_all is_no_tail (all_steps os) ≡ true
-  pub alone : (f : ℕ) → times f (fragments_of (all_steps os)) ≤ 1
-  pub unreserved : (f : ℕ) → is_reserved v f ≡ true → times f (fragments_of (all_steps os)) ≡ 0
-  pub counted : list_all (is_counted v) os ≡ true
-
--- the seven conditions of a consistent volume
-pub record IsConsistent (image : List ℕ) (s : Superblock) : Type 0 where
-  pub settings : AreSettingsRight s
-  pub classes : list_all (λ o. is_whole_class o.class) (owners_of s.layout image) ≡ true
-  pub runs : AreRunsRight s.layout (owners_of s.layout image)
-  pub dirs : AreDirsRight (whole_volume s.layout image)
-  pub links : AreLinksRight (whole_volume s.layout image)
-  pub counts : AreCountsRight (whole_volume s.layout image)
-  pub groups : GroupsRight s.layout image s.cstotal (is_free_of_runs s.layout (owners_of s.layout image)) (class_at s.layout image)
+-- When a volume is consistent: without order, keeping or messages.
+pub mod BlocksRight
+pub mod DirectoriesRight
+pub mod Volume

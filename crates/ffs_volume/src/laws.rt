@@ -1,10 +1,10 @@
-//! Laws and worked examples of the definitions. Nothing runs here: each function is there for its contract.
+//! Laws and worked examples of the definitions. Nothing runs here: each function states its contract.
 
-ghost use Rattle.ffs_volume.specs.AcceptedLaws.{AcceptedAreSound};
-ghost use Rattle.ffs_volume.specs.BlockExamples.{ClassExamples, ClaimExamples, GroupExamples, StepExamples};
-ghost use Rattle.ffs_volume.specs.DirectoryExamples.{EntryExamples, PathnameExamples, ReferenceExamples};
-ghost use Rattle.ffs_volume.specs.Laws.{AllPathsFit, KeptAreFirst, LevelsAreLeast, SumsAreWhole};
-ghost use Rattle.ffs_volume.specs.OpeningExamples.{AreaExamples, OpeningExamples, SuperblockExamples};
+ghost use Rattle.ffs_volume.specs.Laws.Accepted.{AcceptedAreSound};
+ghost use Rattle.ffs_volume.specs.Examples.BlockExamples.{ClassExamples, ClaimExamples, GroupExamples, StepExamples};
+ghost use Rattle.ffs_volume.specs.Examples.DirectoryExamples.{EntryExamples, PathnameExamples, ReferenceExamples};
+ghost use Rattle.ffs_volume.specs.Laws.Meanings.{AllPathsFit, KeptAreFirst, LevelsAreLeast, SumsAreWhole};
+ghost use Rattle.ffs_volume.specs.Examples.OpeningExamples.{AreaExamples, OpeningExamples, SuperblockExamples};
 
 /// An accepted superblock's layout has every condition of a sound one, and its fragments lie in the image.
 pub fn accepted_are_sound()

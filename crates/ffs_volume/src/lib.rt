@@ -62,7 +62,13 @@ pub struct Layout {
     pub postblformat: u32,
 }
 
-/// The places of the numbers in which the last copy of a superblock has to agree.
+/// The magic number of a superblock (fs(5), `FS_MAGIC`).
+pub const FS_MAGIC: u32 = 0x011954;
+
+/// The magic number of a group block (fs(5), `CG_MAGIC`).
+pub const CG_MAGIC: u32 = 0x090255;
+
+/// The places of the numbers in which the last copy of a superblock must agree.
 pub const LAYOUT_PLACES: [u16; 25] = [
     8, 12, 16, 20, 24, 28, 36, 40, 44, 48, 52, 56, 104, 116, 120, 152, 156, 160, 176, 180, 184,
     188, 1324, 1356, 1372,
@@ -80,7 +86,7 @@ pub enum Step {
     Gap,
 }
 
-/// What the types of inodes come to.
+/// The class of an inode, by its mode, size and addresses.
 #[derive(Clone, Copy, Debug, PartialEq, Eq)]
 pub enum Class {
     Free,
@@ -105,13 +111,13 @@ pub struct Inode {
 /// How a run ends.
 #[derive(Clone, Copy, Debug, PartialEq, Eq)]
 pub enum End {
-    /// No defect was told.
+    /// No defect was reported.
     Consistent,
-    /// A defect was told.
+    /// A defect was reported.
     Defects,
     /// The superblock is refused.
     Refused(SuperFault),
-    /// Inode 2 is no directory, and the run stopped behind the pathname check.
+    /// Inode 2 is no directory, and the run stopped after the pathname check.
     RootStop,
     /// A read at this sector failed.
     ReadFault(u64),
@@ -122,7 +128,7 @@ pub enum End {
 }
 
 impl End {
-    ghost use Rattle.ffs_volume.specs.Report.{status_of};
+    ghost use Rattle.ffs_volume.specs.Report.Whole.{status_of};
     ghost use Rattle.std.specs.Prelude.{◌≡◌};
 
     /// The exit status of a run that ends so: 0 consistent, 1 defects, 8 for a run that isn't completed (fsck(8)).
@@ -166,7 +172,7 @@ pub struct Attr {
     pub mtime: i32,
 }
 
-/// What an entry of a directory is there for.
+/// The role of an entry of a directory.
 #[derive(Clone, Copy, Debug, PartialEq, Eq)]
 pub enum Role {
     Empty,
@@ -184,7 +190,7 @@ pub enum Label {
     Name,
 }
 
-ghost use Rattle.ffs_volume.specs.Directory.{AreLongest};
+ghost use Rattle.ffs_volume.specs.Directories.Entries.{AreLongest};
 
 /// The entries of a chunk are the longest list of well formed entries from its start.
 pub fn entries_are_longest()

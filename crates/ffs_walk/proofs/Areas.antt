@@ -1,9 +1,9 @@
 use Rattle.std.proofs.Common.{◌≡◌, ℕ, ◌+◌, ◌*◌, ◌<◌, ◌≤◌, true, IsTrue, arith}
 use Rattle.std.proofs.Math.Nat.{mul-le-mul_right}
 use Rattle.std.proofs.lemmas.Bool.Decides.{nat_tests}
-use Rattle.ffs_volume.specs.Areas.{is_in_range}
-use Rattle.ffs_volume.specs.RunLaws.{is_apart, in_range_is}
-use Rattle.ffs_volume.specs.Geometry.{IsGeometry}
+use Rattle.ffs_volume.specs.Disk.Areas.{is_in_range}
+use Rattle.ffs_volume.proofs.RunLaws.{is_apart, in_range_is}
+use Rattle.ffs_volume.specs.Disk.Geometry.{IsGeometry}
 use Rattle.ffs_volume.specs.declared.Layout.{Layout}
 
 -- a run in range lies below the size

@@ -2,16 +2,16 @@ use Rattle.std.proofs.Common.{◌≡◌, ℕ, ◌+◌, ◌-◌, ◌*◌, ◌<◌
 use Rattle.ffs_volume.specs.declared.Layout.{Layout}
 use Rattle.ffs_volume.specs.declared.Step.{Step}
 use Rattle.ffs_walk.specs.declared.frame.Frame.{Frame}
-use Rattle.ffs_volume.specs.Steps.{block_bytes}
-use Rattle.ffs_image.specs.Device.{WhereTold}
+use Rattle.ffs_volume.specs.Blocks.Steps.{block_bytes}
+use Rattle.ffs_image.specs.Device.{ForContents}
 use Rattle.ffs_walk.specs.Frames.{frame_rest, frame_left, item_left}
-use Rattle.ffs_volume.specs.Steps.{word_of}
-use Rattle.ffs_volume.specs.Steps.{tail_of, any_word_from, steps_under, word_at}
+use Rattle.ffs_volume.specs.Blocks.Steps.{word_of}
+use Rattle.ffs_volume.specs.Blocks.Steps.{tail_of, any_word_from, steps_under, word_at}
 use Rattle.ffs_walk.specs.declared.frame.Item.{Item}
 use Rattle.ffs_walk.specs.declared.frame.Item.TheVariants.{Missing, Word}
 use Rattle.ffs_walk.specs.Fits.{FrameFits, IsBelow, IsSpent}
 use Rattle.ffs_walk.specs.Frames.{IsFrom}
-use Rattle.ffs_volume.specs.Steps.{used_words}
+use Rattle.ffs_volume.specs.Blocks.Steps.{used_words}
 use Rattle.std.specs.Int.{div_ceil}
 use Rattle.std.proofs.lemmas.Grind.{div_ceil_times}
 use Rattle.std.proofs.Math.Nat.{mul-le-mul_right}
@@ -31,15 +31,15 @@ no_tail true found xs h = rw (h refl) refl
 no_tail false found xs h = refl
 
 -- a frame's rest is the steps at its next word and then the rest after it
-pub word_taken : (g : Layout) (told : Option (List ℕ)) (span : ℕ) (f : Frame) (block : List ℕ) (address : ℕ) →
+pub word_taken : (g : Layout) (contents : Option (List ℕ)) (span : ℕ) (f : Frame) (block : List ℕ) (address : ℕ) →
     f.next < f.used →
-    WhereTold told (λ bytes. block ≡ block_bytes g bytes f.address) →
+    ForContents contents (λ bytes. block ≡ block_bytes g bytes f.address) →
     (f.fresh ≡ true → any_word_from g block f.used ≡ false) →
     address ≡ word_of g block f.next →
-    WhereTold told (λ bytes. (child : ℕ → ℕ → List Step) →
+    ForContents contents (λ bytes. (child : ℕ → ℕ → List Step) →
     frame_rest g bytes child span f
     ≡ child address (f.first + f.next * span) ++ steps_under g bytes child span f.address f.first (f.next + 1) (f.used - (f.next + 1)))
-word_taken g told span f block address h held none is = λ bytes e child.
+word_taken g contents span f block address h held none is = λ bytes e child.
     no_tail f.fresh (any_word_from g (block_bytes g bytes f.address) f.used) _ (rw (held bytes e) at none)
     ∙ next_word g bytes child span f.address f.first f.next f.used h
     ∙ rw (is, held bytes e) refl
@@ -94,7 +94,7 @@ kept_fits g blocks span f f' some same fits = record {
   in_range_there = λ _. rw same.0 (fits.in_range_there some);
 }
 
--- a walk falls where its double or triple frame takes an item, and what the item stands for goes below
+-- a walk falls where its double or triple frame takes an item, and what the item means goes below
 pub falls_in_double : (i d' s d t u left : ℕ) → 1 + left ≤ i + (s + (d' + (t + u))) → i + d' ≤ d → left < s + (d + (t + u))
 falls_in_double i d' s d t u left l f = omega arith
 

@@ -3,7 +3,7 @@ use Rattle.std.proofs.Common.{◌≡◌, ℕ, zero, suc, ◌+◌, ◌-◌, ◌*�
 use Rattle.ffs_volume.specs.declared.Layout.{Layout}
 use Rattle.ffs_volume.specs.declared.Step.{Step}
 use Rattle.ffs_volume.specs.declared.Step.TheVariants.{Gap}
-use Rattle.ffs_volume.specs.Steps.{Extent, block_bytes, word_of, word_at, tail_of, any_word_from, steps_under, steps_at}
+use Rattle.ffs_volume.specs.Blocks.Steps.{Extent, block_bytes, word_of, word_at, tail_of, any_word_from, steps_under, steps_at}
 use Rattle.ffs_walk.specs.declared.frame.Frame.{Frame}
 use Rattle.ffs_walk.specs.Frames.{frame_rest}
 use Rattle.ffs_walk.proofs.FrameSteps.{next_word}

@@ -7,9 +7,9 @@ use Rattle.std.proofs.lemmas.Bool.{cases_lt}
 use Rattle.std.proofs.lemmas.List.{drop-take, get_or-set_same, get_or-set_other, length-set, length-take-le, length-drop, with_items_is}
 use Rattle.std.proofs.lemmas.Slice.{take-put_mid_below, drop-put_mid, between-put_mid}
 use borrow.Rule.Slice.PartMut.{put_mid, mid_of, same_len_mid}
-use Rattle.ffs_image.specs.Device.{WhereTold}
-use Rattle.ffs_volume.specs.Numbers.{piece}
-use Rattle.ffs_volume.specs.Steps.{block_bytes}
+use Rattle.ffs_image.specs.Device.{ForContents}
+use Rattle.ffs_volume.specs.Disk.Numbers.{piece}
+use Rattle.ffs_volume.specs.Blocks.Steps.{block_bytes}
 use Rattle.ffs_volume.specs.declared.Layout.{Layout}
 use Rattle.ffs_walk.specs.declared.blocks.Blocks.{Blocks}
 use Rattle.ffs_walk.specs.declared.window.Window.{Window}
@@ -31,14 +31,14 @@ pub three_parts : (size i : ℕ) → i < 3 → i * size + size ≤ 3 * size
 three_parts size i h = parts_apart size i 3 h
 
 -- where one level's part is written, the other levels hold what they held
-pub held_apart : (v : Layout) (told : Option (List ℕ)) (old new : Blocks) (level k : ℕ) (ys : List ℕ) →
-    BlocksHold v told old →
+pub held_apart : (v : Layout) (contents : Option (List ℕ)) (old new : Blocks) (level k : ℕ) (ys : List ℕ) →
+    BlocksHold v contents old →
     new.buffer.items ≡ put_mid (level * v.bsize) k old.buffer.items ys →
     k ≡ v.bsize → length ys ≡ k → 3 * v.bsize ≤ length old.buffer.items → level < 3 →
     ((other : ℕ) → other ≢ level → held_address other new ≡ held_address other old) →
-    ((other : ℕ) → other ≡ level → (address : ℕ) → held_address other new ≡ Some address → WhereTold told (λ b. level_bytes v other new ≡ block_bytes v b address)) →
-    BlocksHold v told new
-held_apart v told old new level k ys holds is size len room lt others own = record {
+    ((other : ℕ) → other ≡ level → (address : ℕ) → held_address other new ≡ Some address → ForContents contents (λ b. level_bytes v other new ≡ block_bytes v b address)) →
+    BlocksHold v contents new
+held_apart v contents old new level k ys holds is size len room lt others own = record {
   block = λ other within address at b e.
       let ends : level * v.bsize + v.bsize ≤ 3 * v.bsize = three_parts v.bsize level lt in
       elim (cases_lt other level) [
@@ -85,15 +85,15 @@ window_with b old at n k items ys is size len room read =
     ∙ (ap (λ m. take m (put_mid 0 k old.buffer.items ys)) (sym size) ∙ (piece_written 0 k old.buffer.items ys (omega arith) len ∙ read))
 
 -- after a failed read a level holds nothing
-pub held_without : (v : Layout) (told told' : Option (List ℕ)) (old : Blocks) (level k : ℕ) (items ys : List ℕ) →
-    BlocksHold v told old → told' ≡ told → items ≡ old.buffer.items → k ≡ v.bsize → length ys ≡ k → 3 * v.bsize ≤ vec_len old.buffer →
+pub held_without : (v : Layout) (contents contents' : Option (List ℕ)) (old : Blocks) (level k : ℕ) (items ys : List ℕ) →
+    BlocksHold v contents old → contents' ≡ contents → items ≡ old.buffer.items → k ≡ v.bsize → length ys ≡ k → 3 * v.bsize ≤ vec_len old.buffer →
     level < 3 → level < length old.held →
-    BlocksHold v told' (record { buffer = with_items old.buffer (put_mid (level * v.bsize) k items ys); held = slice_set old.held level None })
-held_without v told told' old level k items ys holds same is size len room lt within =
+    BlocksHold v contents' (record { buffer = with_items old.buffer (put_mid (level * v.bsize) k items ys); held = slice_set old.held level None })
+held_without v contents contents' old level k items ys holds same is size len room lt within =
     let count : vec_len old.buffer ≡ length old.buffer.items = old.buffer.ok.0 in
     let ends : level * v.bsize + v.bsize ≤ 3 * v.bsize = three_parts v.bsize level lt in
     let new_is = written_is old.buffer (level * v.bsize) k items ys is len (omega arith) in
-    rw same (held_apart v told old (record { buffer = with_items old.buffer (put_mid (level * v.bsize) k items ys); held = slice_set old.held level None })
+    rw same (held_apart v contents old (record { buffer = with_items old.buffer (put_mid (level * v.bsize) k items ys); held = slice_set old.held level None })
     level k ys holds new_is size len (omega arith) lt
     (λ other ne. get_or-set_other old.held level other None None ne)
     (λ other e address at.
@@ -101,16 +101,16 @@ held_without v told told' old level k items ys holds same is size len room lt wi
     absurd (cc)))
 
 -- after a read a level holds what was read
-pub held_with : (v : Layout) (told told' : Option (List ℕ)) (old : Blocks) (level address k : ℕ) (items ys : List ℕ) →
-    BlocksHold v told old → told' ≡ told → items ≡ old.buffer.items → k ≡ v.bsize → length ys ≡ k → 3 * v.bsize ≤ vec_len old.buffer →
+pub held_with : (v : Layout) (contents contents' : Option (List ℕ)) (old : Blocks) (level address k : ℕ) (items ys : List ℕ) →
+    BlocksHold v contents old → contents' ≡ contents → items ≡ old.buffer.items → k ≡ v.bsize → length ys ≡ k → 3 * v.bsize ≤ vec_len old.buffer →
     level < 3 → level < length old.held →
-    WhereTold told (λ b. ys ≡ block_bytes v b address) →
-    BlocksHold v told' (record { buffer = with_items old.buffer (put_mid (level * v.bsize) k items ys); held = slice_set (slice_set old.held level None) level (Some address) })
-held_with v told told' old level address k items ys holds same is size len room lt within read =
+    ForContents contents (λ b. ys ≡ block_bytes v b address) →
+    BlocksHold v contents' (record { buffer = with_items old.buffer (put_mid (level * v.bsize) k items ys); held = slice_set (slice_set old.held level None) level (Some address) })
+held_with v contents contents' old level address k items ys holds same is size len room lt within read =
     let count : vec_len old.buffer ≡ length old.buffer.items = old.buffer.ok.0 in
     let ends : level * v.bsize + v.bsize ≤ 3 * v.bsize = three_parts v.bsize level lt in
     let new_is = written_is old.buffer (level * v.bsize) k items ys is len (omega arith) in
-    rw same (held_apart v told old
+    rw same (held_apart v contents old
     (record { buffer = with_items old.buffer (put_mid (level * v.bsize) k items ys); held = slice_set (slice_set old.held level None) level (Some address) })
     level k ys holds new_is size len (omega arith) lt
     (λ other ne. get_or-set_other (slice_set old.held level None) level other (Some address) None ne ∙ get_or-set_other old.held level other None None ne)

@@ -1,17 +1,17 @@
 use Rattle.std.proofs.Common.{◌≡◌, ℕ, ◌+◌, ◌-◌, ◌*◌, ◌<◌, ◌≤◌, List, [], ◌∷◌, ◌++◌, slice_index, append_assoc, Option, Some, None, arith, refl, ◌∙◌}
 use Rattle.std.specs.Prelude.{◌↔◌}
 use Rattle.ffs_volume.specs.declared.Layout.{Layout}
-use Rattle.ffs_image.specs.Device.{WhereTold}
-use Rattle.ffs_volume.specs.Geometry.{IsGeometry}
+use Rattle.ffs_image.specs.Device.{ForContents}
+use Rattle.ffs_volume.specs.Disk.Geometry.{IsGeometry}
 use Rattle.ffs_volume.specs.declared.Step.{Step}
 use Rattle.ffs_walk.specs.declared.frame.Frame.{Frame}
 use Rattle.ffs_walk.specs.declared.walk.Walk.{Walk}
-use Rattle.ffs_volume.specs.Inodes.{used_addresses}
+use Rattle.ffs_volume.specs.Blocks.Inodes.{used_addresses}
 use Rattle.ffs_walk.specs.Fits.{IsSpent}
 use Rattle.ffs_walk.specs.declared.frame.Item.{Item}
 use Rattle.ffs_walk.specs.Frames.{frame_rest, frame_left, item_steps}
 use Rattle.ffs_walk.specs.Rests.{extent_of, rest, single_rest, double_rest, triple_rest, top_rest, most_at, left}
-use Rattle.ffs_volume.specs.Steps.{Extent, data_step, indirect_steps, steps_at, steps_of_addresses, level_of, first_block}
+use Rattle.ffs_volume.specs.Blocks.Steps.{Extent, data_step, indirect_steps, steps_at, steps_of_addresses, level_of, first_block}
 use Rattle.std.proofs.lemmas.Bool.Decides.{nat_tests}
 use Rattle.std.proofs.Math.Nat.{mul-le-mul_right}
 use Rattle.ffs_walk.proofs.Ranges.{flat_map_step}
@@ -206,32 +206,32 @@ joined_two S D I F X Z none split made = rw (none, split, append_assoc) (rw none
 pub joined_three : (S D T I F X Z : List Step) → S ≡ [] → D ≡ [] → T ≡ I ++ F → I ++ (S ++ (D ++ (F ++ X))) ≡ Z → S ++ (D ++ (T ++ X)) ≡ Z
 joined_three S D T I F X Z none none' split made = rw (none, none', split, append_assoc) (rw (none, none') at made)
 
--- where an item of a frame stands for a step and what is left then, the walk's rest is that step and what is left
-pub double_told : (told : Option (List ℕ)) (w : Walk) (words : ℕ) (f : Frame) (item : Item) (step : Step) (R : List ℕ → List Step) →
+-- where an item of a frame means a step and what is left then, the walk's rest is that step and what is left
+pub double_reported : (contents : Option (List ℕ)) (w : Walk) (words : ℕ) (f : Frame) (item : Item) (step : Step) (R : List ℕ → List Step) →
     words ≡ w.geometry.layout.nindir → IsSpent w.single →
-    WhereTold told (λ bytes. (child : ℕ → ℕ → List Step) →
+    ForContents contents (λ bytes. (child : ℕ → ℕ → List Step) →
     frame_rest w.geometry.layout bytes child words w.double ≡ item_steps child item ++ frame_rest w.geometry.layout bytes child words f) →
     ((bytes : List ℕ) → item_steps (steps_at (extent_of w) bytes 1) item
     ++ (single_rest bytes w ++ (frame_rest w.geometry.layout bytes (steps_at (extent_of w) bytes 1) w.geometry.layout.nindir f ++ (triple_rest bytes w ++ top_rest bytes w)))
     ≡ step ∷ R bytes) →
-    WhereTold told (λ bytes. rest bytes w ≡ step ∷ R bytes)
-double_told told w words f item step R is s taken made = λ bytes e.
+    ForContents contents (λ bytes. rest bytes w ≡ step ∷ R bytes)
+double_reported contents w words f item step R is s taken made = λ bytes e.
     let split : double_rest bytes w
     ≡ item_steps (steps_at (extent_of w) bytes 1) item ++ frame_rest w.geometry.layout bytes (steps_at (extent_of w) bytes 1) w.geometry.layout.nindir f =
     rw is at (taken bytes e (steps_at (extent_of w) bytes 1)) in
     let none : single_rest bytes w ≡ [] = spent_rest w.geometry.layout bytes (steps_at (extent_of w) bytes 0) 1 w.single s in
     joined_two _ _ _ _ _ _ none split (made bytes)
 
-pub triple_told : (told : Option (List ℕ)) (w : Walk) (words : ℕ) (f : Frame) (item : Item) (step : Step) (R : List ℕ → List Step) →
+pub triple_reported : (contents : Option (List ℕ)) (w : Walk) (words : ℕ) (f : Frame) (item : Item) (step : Step) (R : List ℕ → List Step) →
     words ≡ w.geometry.layout.nindir → IsSpent w.single → IsSpent w.double →
-    WhereTold told (λ bytes. (child : ℕ → ℕ → List Step) →
+    ForContents contents (λ bytes. (child : ℕ → ℕ → List Step) →
     frame_rest w.geometry.layout bytes child (words * words) w.triple ≡ item_steps child item ++ frame_rest w.geometry.layout bytes child (words * words) f) →
     ((bytes : List ℕ) → item_steps (steps_at (extent_of w) bytes 2) item
     ++ (single_rest bytes w ++ (double_rest bytes w
     ++ (frame_rest w.geometry.layout bytes (steps_at (extent_of w) bytes 2) (w.geometry.layout.nindir * w.geometry.layout.nindir) f ++ top_rest bytes w)))
     ≡ step ∷ R bytes) →
-    WhereTold told (λ bytes. rest bytes w ≡ step ∷ R bytes)
-triple_told told w words f item step R is s d taken made = λ bytes e.
+    ForContents contents (λ bytes. rest bytes w ≡ step ∷ R bytes)
+triple_reported contents w words f item step R is s d taken made = λ bytes e.
     let split : triple_rest bytes w
     ≡ item_steps (steps_at (extent_of w) bytes 2) item ++ frame_rest w.geometry.layout bytes (steps_at (extent_of w) bytes 2) (w.geometry.layout.nindir * w.geometry.layout.nindir) f =
     rw is at (taken bytes e (steps_at (extent_of w) bytes 2)) in

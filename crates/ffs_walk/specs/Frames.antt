@@ -3,7 +3,7 @@ use Rattle.std.specs.Prelude.{ℕ, true, ◌+◌, ◌-◌, ◌*◌, ◌<◌, ◌
 use Rattle.ffs_volume.specs.declared.Layout.{Layout}
 use Rattle.ffs_volume.specs.declared.Step.{Step}
 use Rattle.ffs_volume.specs.declared.Step.TheVariants.{Tail}
-use Rattle.ffs_volume.specs.Steps.{block_bytes, tail_of, any_word_from, steps_under}
+use Rattle.ffs_volume.specs.Blocks.Steps.{block_bytes, tail_of, any_word_from, steps_under}
 use Rattle.ffs_walk.specs.declared.frame.Frame.{Frame}
 use Rattle.ffs_walk.specs.declared.frame.Item.{Item}
 use Rattle.ffs_walk.specs.declared.frame.Item.TheVariants.{Missing, Word}
@@ -14,7 +14,7 @@ frame_rest g bytes child span f =
     (if f.fresh then tail_of (any_word_from g (block_bytes g bytes f.address) f.used) else [])
     ++ steps_under g bytes child span f.address f.first f.next (f.used - f.next)
 
--- the steps that an item of a frame stands for
+-- the steps that an item of a frame means
 abbrev pub item_steps : (ℕ → ℕ → List Step) → Item → List Step
 item_steps child Missing = Tail ∷ []
 item_steps child (Word address block) = child address block
@@ -23,12 +23,12 @@ item_steps child (Word address block) = child address block
 abbrev pub frame_left : ℕ → Frame → ℕ
 frame_left most f = (if f.fresh then 1 else 0) + (f.used - f.next) * most
 
--- at most how many steps an item stands for
+-- at most how many steps an item means
 abbrev pub item_left : ℕ → Item → ℕ
 item_left most Missing = 1
 item_left most (Word address block) = most
 
--- the item is the frame's next word, or a word that isn't used stands in it
+-- the item is the frame's next word, or a word that isn't used is in it
 abbrev pub IsFrom : Frame → ℕ → Item → Type 0
 IsFrom f span Missing = f.fresh ≡ true
 IsFrom f span (Word address block) = (f.next < f.used) × (block ≡ f.first + f.next * span)

@@ -1,7 +1,7 @@
 -- What is left of a walk.
 use Rattle.std.specs.Prelude.{◌≡◌, ℕ, zero, suc, ◌+◌, ◌-◌, ◌*◌, List, ◌++◌}
 use Rattle.ffs_volume.specs.declared.Step.{Step}
-use Rattle.ffs_volume.specs.Steps.{Extent, steps_at, steps_of_addresses}
+use Rattle.ffs_volume.specs.Blocks.Steps.{Extent, steps_at, steps_of_addresses}
 use Rattle.ffs_walk.specs.declared.walk.Walk.{Walk}
 use Rattle.ffs_walk.specs.Frames.{frame_rest, frame_left}
 use Rattle.ffs_walk.specs.Fits.{IsSpent}

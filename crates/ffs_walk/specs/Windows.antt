@@ -1,9 +1,9 @@
 -- What is kept of an image between reads.
 use Rattle.std.specs.Prelude.{◌≡◌, ◌*◌, ◌<◌, ◌≤◌, ℕ, List, take, Option, Some, None, vec_len, get_or}
-use Rattle.ffs_image.specs.Device.{WhereTold}
+use Rattle.ffs_image.specs.Device.{ForContents}
 use Rattle.ffs_volume.specs.declared.Layout.{Layout}
-use Rattle.ffs_volume.specs.Numbers.{piece}
-use Rattle.ffs_volume.specs.Steps.{block_bytes}
+use Rattle.ffs_volume.specs.Disk.Numbers.{piece}
+use Rattle.ffs_volume.specs.Blocks.Steps.{block_bytes}
 use Rattle.ffs_walk.specs.declared.window.Window.{Window}
 use Rattle.ffs_walk.specs.declared.blocks.Blocks.{Blocks}
 
@@ -11,10 +11,10 @@ use Rattle.ffs_walk.specs.declared.blocks.Blocks.{Blocks}
 abbrev pub held_bytes : Window → List ℕ
 held_bytes w = take w.length w.buffer.items
 
--- a window holds exactly the image's bytes of its place, where the image tells its bytes
-pub record WindowHolds (told : Option (List ℕ)) (w : Window) : Type 0 where
+-- a window holds exactly the image's bytes of its place, where the image gives its bytes
+pub record WindowHolds (contents : Option (List ℕ)) (w : Window) : Type 0 where
   pub fits : w.length ≤ vec_len w.buffer
-  pub bytes : WhereTold told (λ b. held_bytes w ≡ piece w.place w.length b)
+  pub bytes : ForContents contents (λ b. held_bytes w ≡ piece w.place w.length b)
 
 -- the bytes in the part of the buffer that is for a level of indirection
 abbrev pub level_bytes : Layout → ℕ → Blocks → List ℕ
@@ -24,9 +24,9 @@ level_bytes v level blocks = piece (level * v.bsize) v.bsize blocks.buffer.items
 abbrev pub held_address : ℕ → Blocks → Option ℕ
 held_address level blocks = get_or blocks.held level None
 
--- each block that is held is the image's block at its address, where the image tells its bytes
-pub record BlocksHold (v : Layout) (told : Option (List ℕ)) (blocks : Blocks) : Type 0 where
-  pub block : (level : ℕ) → level < 3 → (address : ℕ) → held_address level blocks ≡ Some address → WhereTold told (λ b. level_bytes v level blocks ≡ block_bytes v b address)
+-- each block that is held is the image's block at its address, where the image gives its bytes
+pub record BlocksHold (v : Layout) (contents : Option (List ℕ)) (blocks : Blocks) : Type 0 where
+  pub block : (level : ℕ) → level < 3 → (address : ℕ) → held_address level blocks ≡ Some address → ForContents contents (λ b. level_bytes v level blocks ≡ block_bytes v b address)
 
 -- the buffer has room for a block of each level
 pub record HasRoom (v : Layout) (blocks : Blocks) : Type 0 where

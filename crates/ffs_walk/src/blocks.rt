@@ -1,9 +1,9 @@
 //! The indirect blocks that a walk is in.
 
 ghost use Rattle.std.specs.Prelude.{◌≡◌, ◌-◌, ◌*◌, ◌+◌, ◌<◌, ◌≤◌, ℕ, List, Option, length, vec_len, OnOk, IfErr, IsTrue};
-ghost use Rattle.ffs_image.specs.Device.{Faulted, WhereTold};
-ghost use Rattle.ffs_volume.specs.Areas.{is_in_range};
-ghost use Rattle.ffs_volume.specs.Steps.{block_bytes};
+ghost use Rattle.ffs_image.specs.Device.{Faulted, ForContents};
+ghost use Rattle.ffs_volume.specs.Disk.Areas.{is_in_range};
+ghost use Rattle.ffs_volume.specs.Blocks.Steps.{block_bytes};
 ghost use Rattle.ffs_volume.specs.declared.Layout.{Layout};
 
 use ffs_image::{Image, ImageFault};
@@ -23,7 +23,8 @@ impl Blocks {
     /// Blocks that hold nothing, over a buffer of at least three blocks' bytes. It takes no memory.
     pub fn over(buffer: Vec<u8>) -> Blocks
         ensures buffer { result.buffer ≡ buffer }
-        ensures holds { (layout : Layout) (told : Option (List ℕ)) → BlocksHold layout told result }
+        ensures holds { (layout : Layout) (contents : Option (List ℕ))
+            → BlocksHold layout contents result }
     {
         Blocks {
             buffer,
@@ -43,15 +44,20 @@ impl Blocks {
         image: &mut I,
     ) -> Result<(), ImageFault>
         requires level { level < 3 }
-        requires in_range { IsTrue (is_in_range geometry.now.layout address geometry.now.layout.frag) }
-        requires volume { geometry.now.layout.size * geometry.now.layout.fsize ≤ (I.device image.old).size }
+        requires in_range { IsTrue (is_in_range geometry.now.layout address
+            geometry.now.layout.frag) }
+        requires volume { geometry.now.layout.size * geometry.now.layout.fsize
+            ≤ (I.device image.old).size }
         requires room { HasRoom geometry.now.layout self.old }
-        requires holds { BlocksHold geometry.now.layout (I.device image.old).told self.old }
+        requires holds { BlocksHold geometry.now.layout (I.device image.old).contents self.old }
         ensures size { vec_len self.new.buffer ≡ vec_len self.old.buffer }
-        ensures holds { BlocksHold geometry.now.layout (I.device image.new).told self.new }
-        ensures bytes { OnOk result (WhereTold (I.device image.old).told (λ b. level_bytes geometry.now.layout level self.new ≡ block_bytes geometry.now.layout b address)) }
+        ensures holds { BlocksHold geometry.now.layout (I.device image.new).contents self.new }
+        ensures bytes { OnOk result (ForContents (I.device image.old).contents
+            (λ b. level_bytes geometry.now.layout level self.new
+            ≡ block_bytes geometry.now.layout b address)) }
         ensures ok { OnOk result (I.device image.new ≡ I.device image.old) }
-        ensures err { IfErr result (λ fault. Faulted (I.device image.old) (I.device image.new) fault.sector) }
+        ensures err { IfErr result (λ fault. Faulted (I.device image.old) (I.device image.new)
+            fault.sector) }
     {
         if self.held[level] == Some(address) {
             return Ok(());

@@ -1,8 +1,8 @@
 //! What an inode is, and which of its addresses it uses.
 
 ghost use Rattle.std.specs.Prelude.{◌≡◌, ◌*◌, ◌+◌, ◌<◌, ◌≤◌, ◌^◌, if◌then◌else◌};
-ghost use Rattle.ffs_volume.specs.Inodes as inodes;
-ghost use Rattle.ffs_volume.specs.Steps as steps;
+ghost use Rattle.ffs_volume.specs.Blocks.Inodes as inodes;
+ghost use Rattle.ffs_volume.specs.Blocks.Steps as steps;
 
 use ffs_layout::Geometry;
 use ffs_volume::{Class, Inode};
@@ -67,7 +67,9 @@ fn has_steps(geometry: &Geometry, inode: &Inode) -> bool
 /// The greatest size that the addresses can serve.
 #[tactic(auto, using(crate::proofs::Sizes::products_small))]
 fn greatest_size(geometry: &Geometry) -> u64
-    ensures { result ≡ (12 + geometry.now.layout.nindir + geometry.now.layout.nindir * geometry.now.layout.nindir + geometry.now.layout.nindir * geometry.now.layout.nindir * geometry.now.layout.nindir) * geometry.now.layout.bsize }
+    ensures { result ≡ (12 + geometry.now.layout.nindir + geometry.now.layout.nindir *
+        geometry.now.layout.nindir + geometry.now.layout.nindir * geometry.now.layout.nindir *
+        geometry.now.layout.nindir) * geometry.now.layout.bsize }
 {
     let words = u64::from(geometry.layout.nindir);
     let squared = words * words;
@@ -75,7 +77,7 @@ fn greatest_size(geometry: &Geometry) -> u64
     (12 + words + squared + cubed) * u64::from(geometry.layout.bsize)
 }
 
-/// How many logical blocks an inode's size comes to.
+/// How many logical blocks an inode of its size has.
 #[tactic(auto, using(crate::proofs::Sizes::blocks_small))]
 fn blocks_of(geometry: &Geometry, inode: &Inode) -> u64
     ensures value { result ≡ inodes.blocks_of geometry.now.layout inode.now }
@@ -86,7 +88,8 @@ fn blocks_of(geometry: &Geometry, inode: &Inode) -> u64
 
 /// How many logical blocks of an inode a walk goes over.
 pub fn walked_blocks(geometry: &Geometry, inode: &Inode) -> u64
-    ensures value { result ≡ (if steps.walks geometry.now.layout inode.now then inodes.blocks_of geometry.now.layout inode.now else 0) }
+    ensures value { result ≡ (if steps.walks geometry.now.layout inode.now then inodes.blocks_of
+        geometry.now.layout inode.now else 0) }
     ensures small { result < 2 ^ 53 }
 {
     if has_steps(geometry, inode) {
@@ -122,7 +125,7 @@ fn is_known_type(kind: u16) -> bool
 }
 
 /// The class of an inode, by its mode, its size and its addresses (fs(5)).
-#[tactic(auto, unfolding(ffs_volume::specs::Inodes::class_of))]
+#[tactic(auto, unfolding(ffs_volume::specs::Blocks::Inodes::class_of))]
 pub fn class_of(geometry: &Geometry, inode: &Inode) -> Class
     ensures { result ≡ inodes.class_of geometry.now.layout inode.now }
 {

@@ -1,4 +1,4 @@
-//! Where a walk stands in an indirect block.
+//! The position of a walk in an indirect block.
 
 ghost use Rattle.std.specs.Prelude.{◌≡◌, ◌-◌, ◌*◌, ◌+◌, ◌<◌, ◌≤◌, ◌^◌, ◌++◌, ◌∷◌, ℕ, List, [], length, vec_len, Ok, None, OnOk, IfOk, IfErr, IfSome, MatchOption, IsTrue, false, not, ◌||◌, nat_lt, ◌↔◌};
 
@@ -7,7 +7,7 @@ use crate::words::{any_from, word, zeros_end};
 use ffs_image::{Image, ImageFault};
 use ffs_layout::Geometry;
 
-/// Where a walk stands in an indirect block.
+/// The position of a walk in an indirect block.
 #[derive(Clone, Copy, Debug)]
 pub struct Frame {
     /// The block's address.
@@ -35,8 +35,8 @@ pub enum Item {
 impl Frame {
     ghost use Rattle.std.specs.Prelude.{MatchResult, Option, replicate};
     ghost use Rattle.ffs_volume.specs.declared.Step.TheVariants.{Gap};
-    ghost use Rattle.ffs_image.specs.Device.{Faulted, WhereTold};
-    ghost use Rattle.ffs_volume.specs.Areas.{is_in_range};
+    ghost use Rattle.ffs_image.specs.Device.{Faulted, ForContents};
+    ghost use Rattle.ffs_volume.specs.Disk.Areas.{is_in_range};
     ghost use Rattle.ffs_volume.specs.declared.Step.{Step};
     ghost use Rattle.ffs_walk.specs.Fits.{IsSpent};
     ghost use Rattle.ffs_walk.specs.Windows.{BlocksHold, HasRoom};
@@ -76,22 +76,29 @@ impl Frame {
         blocks: &mut Blocks,
     ) -> Result<Item, ImageFault>
         requires left { self.old.next < self.old.used }
-        requires in_range { IsTrue (is_in_range geometry.now.layout self.old.address geometry.now.layout.frag) }
+        requires in_range { IsTrue (is_in_range geometry.now.layout self.old.address
+            geometry.now.layout.frag) }
         requires words { self.old.used ≤ geometry.now.layout.nindir }
         requires fits { self.old.first + self.old.next * span < 2 ^ 64 }
         requires level { level < 3 }
-        requires volume { geometry.now.layout.size * geometry.now.layout.fsize ≤ (I.device image.old).size }
+        requires volume { geometry.now.layout.size * geometry.now.layout.fsize
+            ≤ (I.device image.old).size }
         requires room { HasRoom geometry.now.layout blocks.old }
-        requires holds { BlocksHold geometry.now.layout (I.device image.old).told blocks.old }
+        requires holds { BlocksHold geometry.now.layout (I.device image.old).contents blocks.old }
         ensures size { vec_len blocks.new.buffer ≡ vec_len blocks.old.buffer }
-        ensures holds { BlocksHold geometry.now.layout (I.device image.new).told blocks.new }
+        ensures holds { BlocksHold geometry.now.layout (I.device image.new).contents blocks.new }
         ensures item { IfOk result (λ item. IsFrom self.old span item) }
-        ensures steps { IfOk result (λ item. WhereTold (I.device image.old).told (λ bytes. (child : ℕ → ℕ → List Step) →
-            frame_rest geometry.now.layout bytes child span self.old ≡ item_steps child item ++ frame_rest geometry.now.layout bytes child span self.new)) }
-        ensures falls { IfOk result (λ item. (most : ℕ) → item_left most item + frame_left most self.new ≤ frame_left most self.old) }
-        ensures place { (self.new.address ≡ self.old.address) × (self.new.first ≡ self.old.first) × (self.new.used ≡ self.old.used) }
+        ensures steps { IfOk result (λ item. ForContents (I.device image.old).contents
+            (λ bytes. (child : ℕ → ℕ → List Step) →
+            frame_rest geometry.now.layout bytes child span self.old ≡ item_steps child item
+            ++ frame_rest geometry.now.layout bytes child span self.new)) }
+        ensures falls { IfOk result (λ item. (most : ℕ)
+            → item_left most item + frame_left most self.new ≤ frame_left most self.old) }
+        ensures place { (self.new.address ≡ self.old.address) × (self.new.first ≡ self.old.first)
+            × (self.new.used ≡ self.old.used) }
         ensures ok { OnOk result (I.device image.new ≡ I.device image.old) }
-        ensures err { IfErr result (λ fault. Faulted (I.device image.old) (I.device image.new) fault.sector) }
+        ensures err { IfErr result (λ fault. Faulted (I.device image.old) (I.device image.new)
+            fault.sector) }
     {
         blocks.fill(geometry, level, self.address, image)?;
         let block = blocks.bytes(geometry, level);
@@ -107,17 +114,20 @@ impl Frame {
     }
 
     /// Passes over the words of zero that come next, where the block is held for the level and read before: how many there are.
-    /// Each stands for a gap, at every level.
+    /// Each means a gap, at every level.
     pub fn skip_gaps(&mut self, geometry: &Geometry, level: usize, blocks: &Blocks) -> u32
         requires words { self.old.used ≤ geometry.now.layout.nindir }
         requires level { level < 3 }
         requires room { HasRoom geometry.now.layout blocks.now }
-        ensures steps { (told : Option (List ℕ)) → BlocksHold geometry.now.layout told blocks.now → WhereTold told (λ bytes.
+        ensures steps { (contents : Option (List ℕ))
+            → BlocksHold geometry.now.layout contents blocks.now → ForContents contents (λ bytes.
             (child : ℕ → ℕ → List Step) (span : ℕ) → ((block : ℕ) → child 0 block ≡ Gap ∷ []) →
-            frame_rest geometry.now.layout bytes child span self.old ≡ replicate result Gap ++ frame_rest geometry.now.layout bytes child span self.new) }
+            frame_rest geometry.now.layout bytes child span self.old ≡ replicate result Gap
+            ++ frame_rest geometry.now.layout bytes child span self.new) }
         ensures falls { (most : ℕ) → frame_left most self.new ≤ frame_left most self.old }
         ensures next { self.new.next ≡ self.old.next + result }
-        ensures place { (self.new.address ≡ self.old.address) × (self.new.first ≡ self.old.first) × (self.new.used ≡ self.old.used) }
+        ensures place { (self.new.address ≡ self.old.address) × (self.new.first ≡ self.old.first)
+            × (self.new.used ≡ self.old.used) }
         ensures fresh { self.new.fresh ≡ self.old.fresh }
     {
         if self.fresh || blocks.held[level] != Some(self.address) {

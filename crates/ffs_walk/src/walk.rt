@@ -1,7 +1,7 @@
 //! The walk over the blocks of an inode.
 
 ghost use Rattle.std.specs.Prelude.{◌≡◌, ◌-◌, ◌*◌, ◌+◌, ◌<◌, ◌≤◌, ◌^◌, ◌++◌, ◌∷◌, [], ℕ, List, length, vec_len, Ok, Err, None, OnOk, OnErr, IfOk, IfErr, IfSome, MatchOption, OnSome, IsTrue, false, ◌↔◌, if◌then◌else◌};
-ghost use Rattle.ffs_volume.specs.Inodes.{used_addresses};
+ghost use Rattle.ffs_volume.specs.Blocks.Inodes.{used_addresses};
 ghost use Rattle.ffs_walk.specs.Fits.{FrameFits};
 
 use crate::blocks::Blocks;
@@ -11,7 +11,7 @@ use ffs_image::{Image, ImageFault};
 use ffs_layout::Geometry;
 use ffs_volume::{Inode, Step};
 
-/// A walk over the blocks of an inode: where it stands in the inode's own addresses, and in one indirect block of each level.
+/// A walk over the blocks of an inode: its position in the inode's own addresses, and in one indirect block of each level.
 #[derive(Clone, Copy, Debug)]
 pub struct Walk {
     pub geometry: Geometry,
@@ -40,13 +40,13 @@ pub struct Walk {
 }
 
 impl Walk {
-    ghost use Rattle.ffs_image.specs.Device.{Faulted, WhereTold};
-    ghost use Rattle.ffs_volume.specs.Steps.{data_step, indirect_steps, steps_at, steps_of, walks};
-    ghost use Rattle.ffs_volume.specs.Inodes.{blocks_of};
+    ghost use Rattle.ffs_image.specs.Device.{Faulted, ForContents};
+    ghost use Rattle.ffs_volume.specs.Blocks.Steps.{data_step, indirect_steps, steps_at, steps_of, walks};
+    ghost use Rattle.ffs_volume.specs.Blocks.Inodes.{blocks_of};
     ghost use Rattle.ffs_volume.specs.declared.Step.{Step};
     ghost use Rattle.std.specs.Prelude.{Option, replicate};
     ghost use Rattle.ffs_volume.specs.declared.Step.TheVariants.{Gap};
-    ghost use Rattle.ffs_volume.specs.Lengths.{HasLength};
+    ghost use Rattle.ffs_volume.specs.Blocks.Lengths.{HasLength};
     ghost use Rattle.ffs_walk.specs.Fits.{IsSpent, IsBelow};
     ghost use Rattle.ffs_walk.specs.Lengths.{IsWithin};
     ghost use Rattle.ffs_walk.specs.Frames.{frame_rest, frame_left, item_steps, item_left};
@@ -84,7 +84,8 @@ impl Walk {
             ≡ result.0 ∷ frame_rest self.now.geometry.layout bytes child span result.1 }
         ensures length { HasLength self.now.geometry.layout.frag result.0 }
         ensures within { IsWithin self.now.blocks result.0 }
-        ensures left { (most : ℕ) → frame_left most result.1 ≤ 1 + self.now.geometry.layout.nindir * most }
+        ensures left { (most : ℕ) → frame_left most result.1
+            ≤ 1 + self.now.geometry.layout.nindir * most }
         ensures fits { FrameFits self.now.geometry.layout self.now.blocks span result.1 }
     {
         if address == 0 {
@@ -112,10 +113,11 @@ impl Walk {
         )
     }
 
-    /// The step that an item of the single frame stands for.
+    /// The step that an item of the single frame means.
     fn step_in_single(&self, item: Item) -> Step
         requires { IsBelow self.now.blocks item }
-        ensures steps { (bytes : List ℕ) → item_steps (steps_at (extent_of self.now) bytes 0) item ≡ result ∷ [] }
+        ensures steps { (bytes : List ℕ) → item_steps (steps_at (extent_of self.now) bytes 0) item
+            ≡ result ∷ [] }
         ensures length { HasLength self.now.geometry.layout.frag result }
         ensures within { IsWithin self.now.blocks result }
     {
@@ -125,14 +127,16 @@ impl Walk {
         }
     }
 
-    /// The first step that an item of the double frame stands for; the others go into the single frame.
+    /// The first step that an item of the double frame means; the others go into the single frame.
     fn step_in_double(&mut self, item: Item) -> Step
         requires spent { IsSpent self.old.single }
         requires below { IsBelow self.old.blocks item }
-        ensures steps { (bytes : List ℕ) → item_steps (steps_at (extent_of self.old) bytes 1) item ++ rest bytes self.old ≡ result ∷ rest bytes self.new }
+        ensures steps { (bytes : List ℕ) → item_steps (steps_at (extent_of self.old) bytes 1) item
+            ++ rest bytes self.old ≡ result ∷ rest bytes self.new }
         ensures length { HasLength self.old.geometry.layout.frag result }
         ensures within { IsWithin self.old.blocks result }
-        ensures left { 1 + left self.new ≤ item_left (most_at self.old.geometry.layout.nindir 1) item + left self.old }
+        ensures left { 1 + left self.new
+            ≤ item_left (most_at self.old.geometry.layout.nindir 1) item + left self.old }
         ensures geometry { self.new.geometry ≡ self.old.geometry }
         ensures blocks { self.new.blocks ≡ self.old.blocks }
     {
@@ -146,15 +150,17 @@ impl Walk {
         }
     }
 
-    /// The first step that an item of the triple frame stands for; the others go into the double frame.
+    /// The first step that an item of the triple frame means; the others go into the double frame.
     fn step_in_triple(&mut self, item: Item) -> Step
         requires single_spent { IsSpent self.old.single }
         requires double_spent { IsSpent self.old.double }
         requires below { IsBelow self.old.blocks item }
-        ensures steps { (bytes : List ℕ) → item_steps (steps_at (extent_of self.old) bytes 2) item ++ rest bytes self.old ≡ result ∷ rest bytes self.new }
+        ensures steps { (bytes : List ℕ) → item_steps (steps_at (extent_of self.old) bytes 2) item
+            ++ rest bytes self.old ≡ result ∷ rest bytes self.new }
         ensures length { HasLength self.old.geometry.layout.frag result }
         ensures within { IsWithin self.old.blocks result }
-        ensures left { 1 + left self.new ≤ item_left (most_at self.old.geometry.layout.nindir 2) item + left self.old }
+        ensures left { 1 + left self.new
+            ≤ item_left (most_at self.old.geometry.layout.nindir 2) item + left self.old }
         ensures geometry { self.new.geometry ≡ self.old.geometry }
         ensures blocks { self.new.blocks ≡ self.old.blocks }
     {
@@ -174,7 +180,9 @@ impl Walk {
         requires single_spent { IsSpent self.old.single }
         requires double_spent { IsSpent self.old.double }
         requires triple_spent { IsSpent self.old.triple }
-        ensures steps { (bytes : List ℕ) → MatchOption result (rest bytes self.old ≡ []) (λ step. rest bytes self.old ≡ step ∷ rest bytes self.new) }
+        ensures steps { (bytes : List ℕ)
+            → MatchOption result (rest bytes self.old ≡ [])
+            (λ step. rest bytes self.old ≡ step ∷ rest bytes self.new) }
         ensures length { IfSome result (λ step. HasLength self.old.geometry.layout.frag step) }
         ensures within { IfSome result (λ step. IsWithin self.old.blocks step) }
         ensures left { MatchOption result (left self.old ≡ 0) (λ _. left self.new < left self.old) }
@@ -218,12 +226,16 @@ impl Walk {
         image: &mut I,
         blocks: &mut Blocks,
     ) -> Result<Option<Step>, ImageFault>
-        requires volume { self.old.geometry.layout.size * self.old.geometry.layout.fsize ≤ (I.device image.old).size }
+        requires volume { self.old.geometry.layout.size * self.old.geometry.layout.fsize
+            ≤ (I.device image.old).size }
         requires room { HasRoom self.old.geometry.layout blocks.old }
-        requires holds { BlocksHold self.old.geometry.layout (I.device image.old).told blocks.old }
-        ensures steps { IfOk result (λ o. WhereTold (I.device image.old).told (λ bytes.
-            MatchOption o (rest bytes self.old ≡ []) (λ step. rest bytes self.old ≡ step ∷ rest bytes self.new))) }
-        ensures length { IfOk result (λ o. IfSome o (λ step. HasLength self.old.geometry.layout.frag step)) }
+        requires holds { BlocksHold self.old.geometry.layout (I.device image.old).contents
+            blocks.old }
+        ensures steps { IfOk result (λ o. ForContents (I.device image.old).contents (λ bytes.
+            MatchOption o (rest bytes self.old ≡ [])
+            (λ step. rest bytes self.old ≡ step ∷ rest bytes self.new))) }
+        ensures length { IfOk result (λ o. IfSome o
+            (λ step. HasLength self.old.geometry.layout.frag step)) }
         ensures within { IfOk result (λ o. IfSome o (λ step. IsWithin self.old.blocks step)) }
         ensures left { IfOk result (λ o. IfSome o (λ _. left self.new < left self.old)) }
         ensures none { result ≡ Ok None → IsOver self.new }
@@ -231,9 +243,11 @@ impl Walk {
         ensures geometry { self.new.geometry ≡ self.old.geometry }
         ensures blocks { self.new.blocks ≡ self.old.blocks }
         ensures size { vec_len blocks.new.buffer ≡ vec_len blocks.old.buffer }
-        ensures holds { BlocksHold self.old.geometry.layout (I.device image.new).told blocks.new }
+        ensures holds { BlocksHold self.old.geometry.layout (I.device image.new).contents
+            blocks.new }
         ensures ok { OnOk result (I.device image.new ≡ I.device image.old) }
-        ensures err { IfErr result (λ fault. Faulted (I.device image.old) (I.device image.new) fault.sector) }
+        ensures err { IfErr result (λ fault. Faulted (I.device image.old) (I.device image.new)
+            fault.sector) }
     {
         let geometry = self.geometry;
         let words = u64::from(geometry.layout.nindir);
@@ -266,7 +280,7 @@ impl Walk {
         self.next = self.used;
     }
 
-    /// The next step, and `None` behind the last one. It reads an indirect block when it comes to the first word in it, whole and once.
+    /// The next step, and `None` after the last one. An indirect block is read whole, once, when its first word is reached.
     ///
     /// Errors: the read of an indirect block failed. The walk is over then.
     pub fn next<I: Image>(
@@ -274,12 +288,16 @@ impl Walk {
         image: &mut I,
         blocks: &mut Blocks,
     ) -> Result<Option<Step>, ImageFault>
-        requires volume { self.old.geometry.layout.size * self.old.geometry.layout.fsize ≤ (I.device image.old).size }
+        requires volume { self.old.geometry.layout.size * self.old.geometry.layout.fsize
+            ≤ (I.device image.old).size }
         requires room { HasRoom self.old.geometry.layout blocks.old }
-        requires holds { BlocksHold self.old.geometry.layout (I.device image.old).told blocks.old }
-        ensures steps { IfOk result (λ o. WhereTold (I.device image.old).told (λ bytes.
-            MatchOption o (rest bytes self.old ≡ []) (λ step. rest bytes self.old ≡ step ∷ rest bytes self.new))) }
-        ensures length { IfOk result (λ o. IfSome o (λ step. HasLength self.old.geometry.layout.frag step)) }
+        requires holds { BlocksHold self.old.geometry.layout (I.device image.old).contents
+            blocks.old }
+        ensures steps { IfOk result (λ o. ForContents (I.device image.old).contents (λ bytes.
+            MatchOption o (rest bytes self.old ≡ [])
+            (λ step. rest bytes self.old ≡ step ∷ rest bytes self.new))) }
+        ensures length { IfOk result (λ o. IfSome o
+            (λ step. HasLength self.old.geometry.layout.frag step)) }
         ensures within { IfOk result (λ o. IfSome o (λ step. IsWithin self.old.blocks step)) }
         ensures falls { IfOk result (λ o. IfSome o (λ _. left self.new < left self.old)) }
         ensures none { result ≡ Ok None → IsOver self.new }
@@ -288,9 +306,11 @@ impl Walk {
         ensures geometry { self.new.geometry ≡ self.old.geometry }
         ensures blocks { self.new.blocks ≡ self.old.blocks }
         ensures size { vec_len blocks.new.buffer ≡ vec_len blocks.old.buffer }
-        ensures holds { BlocksHold self.old.geometry.layout (I.device image.new).told blocks.new }
+        ensures holds { BlocksHold self.old.geometry.layout (I.device image.new).contents
+            blocks.new }
         ensures ok { OnOk result (I.device image.new ≡ I.device image.old) }
-        ensures err { IfErr result (λ fault. Faulted (I.device image.old) (I.device image.new) fault.sector) }
+        ensures err { IfErr result (λ fault. Faulted (I.device image.old) (I.device image.new)
+            fault.sector) }
     {
         match self.advance(image, blocks) {
             Ok(step) => Ok(step),
@@ -304,7 +324,9 @@ impl Walk {
     /// Passes over the gaps that come next in the indirect block that the walk is in: how many there are.
     pub fn skip_gaps(&mut self, blocks: &Blocks) -> u32
         requires room { HasRoom self.old.geometry.layout blocks.now }
-        ensures steps { (told : Option (List ℕ)) → BlocksHold self.old.geometry.layout told blocks.now → WhereTold told (λ bytes.
+        ensures steps { (contents : Option (List ℕ))
+            → BlocksHold self.old.geometry.layout contents blocks.now
+            → ForContents contents (λ bytes.
             rest bytes self.old ≡ replicate result Gap ++ rest bytes self.new) }
         ensures falls { left self.new ≤ left self.old }
         ensures geometry { self.new.geometry ≡ self.old.geometry }
@@ -321,11 +343,14 @@ impl Walk {
     }
 
     /// A walk over the blocks of an inode. Only a file or a directory has steps, and no device or short symlink.
-    #[tactic(auto, unfolding(ffs_volume::specs::Steps::steps_of))]
+    #[tactic(auto, unfolding(ffs_volume::specs::Blocks::Steps::steps_of))]
     pub fn start(geometry: &Geometry, inode: &Inode) -> Walk
-        ensures steps { (bytes : List ℕ) → rest bytes result ≡ steps_of geometry.now.layout inode.now bytes }
+        ensures steps { (bytes : List ℕ) → rest bytes result
+            ≡ steps_of geometry.now.layout inode.now bytes }
         ensures geometry { result.geometry ≡ geometry.now }
-        ensures blocks { result.blocks ≡ (if walks geometry.now.layout inode.now then blocks_of geometry.now.layout inode.now else 0) }
+        ensures blocks { result.blocks
+            ≡ (if walks geometry.now.layout inode.now then blocks_of geometry.now.layout inode.now
+            else 0) }
     {
         let blocks = walked_blocks(geometry, inode);
         Walk {

@@ -1,8 +1,8 @@
 //! A window on an image.
 
 ghost use Rattle.std.specs.Prelude.{◌≡◌, ◌+◌, ◌≤◌, ℕ, true, List, Option, length, vec_len, OnOk, OnErr, IfErr};
-ghost use Rattle.ffs_image.specs.Device.{Faulted, WhereTold};
-ghost use Rattle.ffs_volume.specs.Numbers.{piece};
+ghost use Rattle.ffs_image.specs.Device.{Faulted, ForContents};
+ghost use Rattle.ffs_volume.specs.Disk.Numbers.{piece};
 
 use ffs_image::{Image, ImageFault};
 
@@ -10,9 +10,9 @@ use ffs_image::{Image, ImageFault};
 #[derive(Drop)]
 pub struct Window {
     pub buffer: Vec<u8>,
-    /// Where the bytes stand in the image.
+    /// Where the bytes are in the image.
     pub place: u64,
-    /// How many bytes are held, at the buffer's front.
+    /// How many bytes are held, at the start of the buffer.
     pub length: usize,
 }
 
@@ -23,7 +23,7 @@ impl Window {
     pub fn over(buffer: Vec<u8>) -> Window
         ensures buffer { result.buffer ≡ buffer }
         ensures empty { result.length ≡ 0 }
-        ensures holds { (told : Option (List ℕ)) → WindowHolds told result }
+        ensures holds { (contents : Option (List ℕ)) → WindowHolds contents result }
     {
         Window {
             buffer,
@@ -51,15 +51,17 @@ impl Window {
     ) -> Result<(), ImageFault>
         requires room { length ≤ vec_len self.old.buffer }
         requires inside { place + length ≤ (I.device image.old).size }
-        requires holds { WindowHolds (I.device image.old).told self.old }
-        ensures bytes { OnOk result (WhereTold (I.device image.old).told (λ b. held_bytes self.new ≡ piece place length b)) }
+        requires holds { WindowHolds (I.device image.old).contents self.old }
+        ensures bytes { OnOk result (ForContents (I.device image.old).contents
+            (λ b. held_bytes self.new ≡ piece place length b)) }
         ensures length { OnOk result (self.new.length ≡ length) }
         ensures place { OnOk result (self.new.place ≡ place) }
         ensures empty { OnErr result (self.new.length ≡ 0) }
         ensures room { vec_len self.new.buffer ≡ vec_len self.old.buffer }
-        ensures holds { WindowHolds (I.device image.new).told self.new }
+        ensures holds { WindowHolds (I.device image.new).contents self.new }
         ensures ok { OnOk result (I.device image.new ≡ I.device image.old) }
-        ensures err { IfErr result (λ fault. Faulted (I.device image.old) (I.device image.new) fault.sector) }
+        ensures err { IfErr result (λ fault. Faulted (I.device image.old) (I.device image.new)
+            fault.sector) }
     {
         if self.is_at(place, length) {
             return Ok(());

@@ -1,14 +1,14 @@
 //! The words of an indirect block.
 
 ghost use Rattle.std.specs.Prelude.{ℕ, ◌≡◌, ◌*◌, ◌+◌, ◌<◌, ◌≤◌, length};
-ghost use Rattle.ffs_volume.specs.Steps.{any_word_from, word_of};
+ghost use Rattle.ffs_volume.specs.Blocks.Steps.{any_word_from, word_of};
 
 use byteorder::{BigEndian, ByteOrder, LittleEndian};
 use ffs_layout::Geometry;
 use ffs_volume::Order;
 
 /// The word at an index of a block.
-#[tactic(auto, unfolding(ffs_volume::specs::Numbers::number, ffs_volume::specs::Numbers::u32_at))]
+#[tactic(auto, unfolding(ffs_volume::specs::Disk::Numbers::number, ffs_volume::specs::Disk::Numbers::u32_at))]
 pub fn word(geometry: &Geometry, block: &[u8], index: u32) -> u32
     requires { 4 * index + 4 ≤ length block.now }
     ensures { result ≡ word_of geometry.now.layout block.now index }

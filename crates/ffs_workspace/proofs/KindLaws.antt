@@ -1,14 +1,14 @@
--- What the kind of an inode tells of it.
+-- What the kind of an inode reports of it.
 use Rattle.std.proofs.Common.{◌≡◌, ◌<◌, ℕ, Bool, true, false, not, ◌&&◌, ◌||◌, if◌then◌else◌, ◌==◌, List, drop, arith, refl, ap, ◌∙◌, sym}
 use Rattle.std.proofs.lemmas.Bool.Decides.{nat_tests}
 use Rattle.ffs_volume.specs.declared.Layout.{Layout}
 use Rattle.ffs_volume.specs.declared.Inode.{Inode}
 use Rattle.ffs_volume.specs.declared.Class.{Class}
 use Rattle.ffs_volume.specs.declared.Class.TheVariants.{Free, Partial, Unknown, File, Dir}
-use Rattle.ffs_volume.specs.Inodes.{inode_of, type_of, class_of, is_settled, is_known_type, is_too_large, is_any_set, addresses_used}
-use Rattle.ffs_volume.specs.Roles.{is_dir, is_some_inode, is_directory, is_allocated, is_unknown, is_suspect}
-use Rattle.ffs_volume.specs.Volumes.{class_at, is_number, volume_of, volume_with, marked_at}
-use Rattle.ffs_volume.specs.Kinds.{kind_of, kind_at, is_dir_kind, is_empty_dir_kind, is_allocated_kind, is_unknown_kind, class_of_kind, type_of_kind}
+use Rattle.ffs_volume.specs.Blocks.Inodes.{inode_of, type_of, class_of, is_file_or_dir, is_known_type, is_too_large, is_any_set, addresses_used, is_directory, is_allocated, is_unknown}
+use Rattle.ffs_volume.specs.Directories.Roles.{is_dir, is_some_inode, is_suspect}
+use Rattle.ffs_volume.specs.Directories.Volumes.{class_at, is_inode_number, volume_of, volume_with, marked_at}
+use Rattle.ffs_volume.specs.Encodings.Kinds.{kind_of, kind_at, is_dir_kind, is_empty_dir_kind, is_allocated_kind, is_unknown_kind, class_of_kind, type_of_kind}
 
 -- what the class of an inode says of its type
 abbrev type_facts : Class → ℕ → Type 0
@@ -45,33 +45,33 @@ class_type v i = one (type_of i.mode == 0) refl
 
 -- the same of a number
 facts_at : (v : Layout) (image : List ℕ) (x : ℕ) → type_facts (class_at v image x) (type_of (inode_of v image x).mode)
-facts_at v image x = one (is_number v x) refl
+facts_at v image x = one (is_inode_number v x) refl
   where
-    one : (b : Bool) → is_number v x ≡ b → type_facts (if b then class_of v (inode_of v image x) else Free) (type_of (inode_of v image x).mode)
+    one : (b : Bool) → is_inode_number v x ≡ b → type_facts (if b then class_of v (inode_of v image x) else Free) (type_of (inode_of v image x).mode)
     one true q = class_type v (inode_of v image x)
     one false q = tt
 
 known_kind : (k : ℕ) → is_known_type k ≡ true → (k == 4) ≡ false → ((k == 0) ≡ false) × ((k == 5) ≡ false) × ((k == 15) ≡ false) × (k < 16)
 known_kind k known apart = (grind (arith, nat_tests), grind (arith, nat_tests), grind (arith, nat_tests), grind (arith, nat_tests))
 
--- all that the kind tells
-pub record Tells (c : Class) (i : Inode) (k : ℕ) : Type 0 where
+-- all that the kind says
+pub record IsContents (c : Class) (i : Inode) (k : ℕ) : Type 0 where
   pub dir : is_directory c ≡ is_dir_kind k
   pub empty : (is_directory c && (i.size == 0)) ≡ is_empty_dir_kind k
   pub allocated : is_allocated c ≡ is_allocated_kind k
   pub unknown : is_unknown c ≡ is_unknown_kind k
   pub small : k < 16
 
-kind_tells : (c : Class) (i : Inode) → type_facts c (type_of i.mode) → Tells c i (kind_of c i)
-kind_tells Free i h = record { dir = refl; empty = refl; allocated = refl; unknown = refl; small = omega arith }
-kind_tells Partial i h = record { dir = refl; empty = refl; allocated = refl; unknown = refl; small = omega arith }
-kind_tells Unknown i h = record { dir = refl; empty = refl; allocated = refl; unknown = refl; small = omega arith }
-kind_tells Dir i h = one (i.size == 0) refl
+kind_reports : (c : Class) (i : Inode) → type_facts c (type_of i.mode) → IsContents c i (kind_of c i)
+kind_reports Free i h = record { dir = refl; empty = refl; allocated = refl; unknown = refl; small = omega arith }
+kind_reports Partial i h = record { dir = refl; empty = refl; allocated = refl; unknown = refl; small = omega arith }
+kind_reports Unknown i h = record { dir = refl; empty = refl; allocated = refl; unknown = refl; small = omega arith }
+kind_reports Dir i h = one (i.size == 0) refl
   where
-    one : (b : Bool) → (i.size == 0) ≡ b → Tells Dir i (if b then 5 else 4)
+    one : (b : Bool) → (i.size == 0) ≡ b → IsContents Dir i (if b then 5 else 4)
     one true q = record { dir = refl; empty = q; allocated = refl; unknown = refl; small = omega arith }
     one false q = record { dir = refl; empty = q; allocated = refl; unknown = refl; small = omega arith }
-kind_tells File i h =
+kind_reports File i h =
     let f = known_kind (type_of i.mode) h.0 h.1 in
     record {
       dir = sym (ap (λ (b : Bool). b || (type_of i.mode == 5)) h.1 ∙ f.1);
@@ -81,48 +81,41 @@ kind_tells File i h =
       small = f.3;
     }
 
-pub tells_at : (v : Layout) (image : List ℕ) (x : ℕ) → Tells (class_at v image x) (inode_of v image x) (kind_at v image x)
+pub reports_at : (v : Layout) (image : List ℕ) (x : ℕ) → IsContents (class_at v image x) (inode_of v image x) (kind_at v image x)
 unfolding kind_at
-tells_at v image x = kind_tells (class_at v image x) (inode_of v image x) (facts_at v image x)
+reports_at v image x = kind_reports (class_at v image x) (inode_of v image x) (facts_at v image x)
 
 -- a number that is no inode's has the kind 0
-class_inside : (v : Layout) (image : List ℕ) (x : ℕ) (test : Class → Bool) → test Free ≡ false → (is_number v x && test (class_at v image x)) ≡ test (class_at v image x)
-class_inside v image x test out = one (is_number v x) refl
+class_inside : (v : Layout) (image : List ℕ) (x : ℕ) (test : Class → Bool) → test Free ≡ false → (is_inode_number v x && test (class_at v image x)) ≡ test (class_at v image x)
+class_inside v image x test out = one (is_inode_number v x) refl
   where
-    one : (b : Bool) → is_number v x ≡ b → (b && test (if b then class_of v (inode_of v image x) else Free)) ≡ test (if b then class_of v (inode_of v image x) else Free)
+    one : (b : Bool) → is_inode_number v x ≡ b → (b && test (if b then class_of v (inode_of v image x) else Free)) ≡ test (if b then class_of v (inode_of v image x) else Free)
     one true q = refl
     one false q = sym out
 
 -- the tests of the checks of directories, by the kind
 pub dir_is : (v : Layout) (image : List ℕ) (x : ℕ) → is_dir (volume_of v image) x ≡ is_dir_kind (kind_at v image x)
 unfolding volume_of volume_with
-dir_is v image x = class_inside v image x is_directory refl ∙ (tells_at v image x).dir
+dir_is v image x = class_inside v image x is_directory refl ∙ (reports_at v image x).dir
 
 pub some_is : (v : Layout) (image : List ℕ) (x : ℕ) → is_some_inode (volume_of v image) x ≡ is_allocated_kind (kind_at v image x)
 unfolding volume_of volume_with
-some_is v image x = class_inside v image x is_allocated refl ∙ (tells_at v image x).allocated
-
-pub unknown_is : (v : Layout) (image : List ℕ) (x : ℕ) → is_unknown ((volume_of v image).class x) ≡ is_unknown_kind (kind_at v image x)
-unfolding volume_of volume_with
-unknown_is v image x = (tells_at v image x).unknown
+some_is v image x = class_inside v image x is_allocated refl ∙ (reports_at v image x).allocated
 
 pub empty_is : (v : Layout) (image : List ℕ) (x : ℕ) → (is_dir (volume_of v image) x && (((volume_of v image).inode x).size == 0)) ≡ is_empty_dir_kind (kind_at v image x)
 unfolding volume_of volume_with
-empty_is v image x = ap (λ (b : Bool). b && ((inode_of v image x).size == 0)) (class_inside v image x is_directory refl) ∙ (tells_at v image x).empty
+empty_is v image x = ap (λ (b : Bool). b && ((inode_of v image x).size == 0)) (class_inside v image x is_directory refl) ∙ (reports_at v image x).empty
 
 pub suspect_is : (v : Layout) (image : List ℕ) (x : ℕ) → is_suspect (volume_of v image) x ≡ (marked_at v image x || is_empty_dir_kind (kind_at v image x))
 unfolding volume_of volume_with
 suspect_is v image x = ap (λ (b : Bool). marked_at v image x || b) (empty_is v image x)
 
-pub kind_small : (v : Layout) (image : List ℕ) (x : ℕ) → kind_at v image x < 16
-kind_small v image x = (tells_at v image x).small
-
 -- the type of a file or directory
-pub type_is : (v : Layout) (image : List ℕ) (x : ℕ) → is_settled (class_at v image x) ≡ true → type_of_kind (kind_at v image x) ≡ type_of (inode_of v image x).mode
+pub type_is : (v : Layout) (image : List ℕ) (x : ℕ) → is_file_or_dir (class_at v image x) ≡ true → type_of_kind (kind_at v image x) ≡ type_of (inode_of v image x).mode
 unfolding kind_at
 type_is v image x settled = of (class_at v image x) (inode_of v image x) (facts_at v image x) settled
   where
-    of : (c : Class) (i : Inode) → type_facts c (type_of i.mode) → is_settled c ≡ true → type_of_kind (kind_of c i) ≡ type_of i.mode
+    of : (c : Class) (i : Inode) → type_facts c (type_of i.mode) → is_file_or_dir c ≡ true → type_of_kind (kind_of c i) ≡ type_of i.mode
     of Free i h q = cc
     of Partial i h q = cc
     of Unknown i h q = cc

@@ -1,4 +1,4 @@
--- Where inodes stand in the blocks of their tables.
+-- Where inodes are in the blocks of their tables.
 use Rattle.std.proofs.Common.{◌≡◌, ℕ, suc, ◌+◌, ◌-◌, ◌*◌, ◌/◌, ◌%◌, ◌<◌, ◌≤◌, true, List, take, drop, arith, ap, ◌∙◌, sym}
 use Rattle.std.proofs.Math.Nat.{mul-le-mul_right, mul-div_cancel, mul_comm, mul_assoc, div-add-mod', mod-lt}
 use Rattle.std.proofs.lemmas.Nat.{div_below}
@@ -7,11 +7,11 @@ use Rattle.std.proofs.lemmas.Bool.Decides.{nat_tests}
 use Rattle.ffs_volume.specs.declared.Layout.{Layout}
 use Rattle.std.specs.List.{slice_range}
 use Rattle.ffs_volume.specs.declared.Inode.{Inode}
-use Rattle.ffs_volume.specs.Inodes.{decoded, inode_of}
-use Rattle.ffs_volume.specs.Numbers.{piece}
-use Rattle.ffs_volume.specs.Areas.{cgstart, cgdmin, inode_place}
-use Rattle.ffs_volume.specs.Outcome.{is_block_size, are_sizes, is_shaped}
-use Rattle.ffs_volume.specs.Geometry.{IsGeometry}
+use Rattle.ffs_volume.specs.Blocks.Inodes.{decoded, inode_of}
+use Rattle.ffs_volume.specs.Disk.Numbers.{piece}
+use Rattle.ffs_volume.specs.Disk.Areas.{cgstart, cgdmin, inode_place}
+use Rattle.ffs_volume.specs.Disk.Outcome.{is_block_size, are_sizes, is_shaped}
+use Rattle.ffs_volume.specs.Disk.Geometry.{IsGeometry}
 
 -- a block holds whole inodes
 block_whole : (n : ℕ) → is_block_size n ≡ true → 128 * (n / 128) ≡ n
@@ -81,7 +81,7 @@ block_inside v x g group =
     let scaled : cgdmin v (x / v.ipg) * v.fsize ≤ v.size * v.fsize = mul-le-mul_right v.fsize within in
     grind (arith)
 
--- where the inode stands in it
+-- where the inode is in it
 pub block_of : (v : Layout) (x : ℕ) → IsGeometry v →
     (cgstart v (x / v.ipg) + v.iblkno) * v.fsize + x % v.ipg / v.inopb * v.bsize + 128 * (x % v.ipg % v.inopb) ≡ inode_place v x
 block_of v x g =

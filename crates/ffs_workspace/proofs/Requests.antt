@@ -1,4 +1,4 @@
--- What the requests of a workspace come to: `m` bytes a map, `n` inodes, and blocks of `b` bytes.
+-- What the requests of a workspace result in: `m` bytes a map, `n` inodes, and blocks of `b` bytes.
 use Rattle.std.proofs.Common.{◌≡◌, ◌≤◌, ◌+◌, ◌*◌, ℕ, arith, refl}
 use Rattle.ffs_memory.specs.Account.{Account, Granted}
 use Rattle.ffs_memory.proofs.Asking.{granted_both}

@@ -2,27 +2,26 @@
 use Rattle.std.specs.Prelude.{◌≡◌, ◌<◌, ℕ, Bool, false, not, ◌&&◌, ◌||◌, ◌==◌, List, if◌then◌else◌, replicate, slice_index}
 use Rattle.std.specs.Option.{unwrap_or}
 use Rattle.ffs_volume.specs.declared.Layout.{Layout}
-use Rattle.ffs_volume.specs.Inodes.{inode_of, class_of}
-use Rattle.ffs_volume.specs.Owners.{owner_of, owners_of}
-use Rattle.ffs_volume.specs.Claims.{Claims, no_claims, after_owner, after_owners}
-use Rattle.ffs_volume.specs.BlockCheck.{is_unknown_class}
-use Rattle.ffs_volume.specs.KeptSteps.{claims_before}
-use Rattle.ffs_volume.specs.Graph.{named, reached, parent}
-use Rattle.ffs_volume.specs.Roles.{references}
-use Rattle.ffs_volume.specs.Parents.{graph_of}
-use Rattle.ffs_volume.specs.Volumes.{is_number, marked_at, volume_of}
-use Rattle.ffs_volume.specs.Replay.{cut_at}
+use Rattle.ffs_volume.specs.Blocks.Inodes.{inode_of, class_of, is_unknown}
+use Rattle.ffs_volume.specs.Blocks.Owners.{owner_of, owners_of}
+use Rattle.ffs_volume.specs.Blocks.Claims.{Claims, no_claims, after_owner, after_owners}
+use Rattle.ffs_volume.specs.Blocks.KeptSteps.{claims_before}
+use Rattle.ffs_volume.specs.Directories.Graph.{named, reached, parent}
+use Rattle.ffs_volume.specs.Directories.Roles.{references}
+use Rattle.ffs_volume.specs.Directories.Parents.{graph_of}
+use Rattle.ffs_volume.specs.Directories.Volumes.{is_inode_number, marked_at, volume_of}
+use Rattle.ffs_volume.specs.Encodings.Replay.{cut_at}
 use Rattle.ffs_maps.specs.Bits.{bits_of}
 use Rattle.ffs_workspace.specs.declared.workspace.Workspace.{Workspace}
-use Rattle.ffs_volume.specs.Kinds.{kind_at}
+use Rattle.ffs_volume.specs.Encodings.Kinds.{kind_at}
 use Rattle.ffs_workspace.specs.Lengths.{inodes_of}
-pub use Rattle.ffs_volume.specs.Lists.{bool_at}
+pub use Rattle.ffs_volume.specs.Encodings.Lists.{bool_at}
 
 -- the claims that a workspace holds
 abbrev pub claims_of : Workspace → Claims
 claims_of w = record {
   used = bits_of w.claimed;
-  dup = bits_of w.doubled;
+  dup = bits_of w.duplicates;
   runs = w.runs_seen;
   bad = w.bad;
   dups = w.dups;
@@ -33,7 +32,7 @@ claims_of w = record {
 -- nothing was claimed, doubled, found or marked yet
 pub record IsFresh (v : Layout) (w : Workspace) : Type 0 where
   pub claimed : bits_of w.claimed ≡ replicate v.size false
-  pub doubled : bits_of w.doubled ≡ replicate v.size false
+  pub duplicates : bits_of w.duplicates ≡ replicate v.size false
   pub kinds : w.kinds.items ≡ replicate (inodes_of v) 0
   pub marked : w.marked.items ≡ replicate (inodes_of v) false
   pub cut : w.cut.items ≡ replicate (inodes_of v) 0
@@ -45,8 +44,8 @@ has_blame s = not (s.bad == 0 && s.dups == 0)
 -- the inode x is of an unknown type, or has a bad Run or a dup offer
 unfoldable pub first_marked_at : Layout → List ℕ → ℕ → Bool
 first_marked_at v image x =
-    if is_number v x
-    then is_unknown_class (class_of v (inode_of v image x)) || has_blame (after_owner v (claims_before v image x) (owner_of v image x))
+    if is_inode_number v x
+    then is_unknown (class_of v (inode_of v image x)) || has_blame (after_owner v (claims_before v image x) (owner_of v image x))
     else false
 
 -- the claims of all inodes
@@ -57,7 +56,7 @@ all_claims v image = after_owners v (no_claims v) (owners_of v image)
 -- whether it is marked so far, and where dup offers cut it
 pub record HoldsPhase1 (v : Layout) (image : List ℕ) (w : Workspace) : Type 0 where
   pub used : bits_of w.claimed ≡ (all_claims v image).used
-  pub dup : bits_of w.doubled ≡ (all_claims v image).dup
+  pub dup : bits_of w.duplicates ≡ (all_claims v image).dup
   pub runs : w.runs_seen ≡ (all_claims v image).runs
   pub kinds : (x : ℕ) → slice_index w.kinds.items x ≡ kind_at v image x
   pub marked : (x : ℕ) → bool_at w.marked.items x ≡ first_marked_at v image x

@@ -1,4 +1,4 @@
--- What the phases behind the survey of directories leave of a workspace.
+-- What the phases after the survey of directories leave of a workspace.
 use Rattle.std.specs.Prelude.{◌≡◌}
 use Rattle.ffs_workspace.specs.declared.workspace.Workspace.{Workspace}
 

@@ -17,8 +17,8 @@ set_count bits = count_by (λ b. b) bits
 -- the workspace was made for the volume: all its lists have the lengths that it asks for
 pub record IsFor (v : Layout) (w : Workspace) : Type 0 where
   pub claimed : w.claimed.size ≡ v.size
-  pub doubled : w.doubled.size ≡ v.size
-  pub untold : w.untold ≡ set_count (bits_of w.doubled)
+  pub duplicates : w.duplicates.size ≡ v.size
+  pub unreported : w.unreported ≡ set_count (bits_of w.duplicates)
   pub kinds : vec_len w.kinds ≡ inodes_of v
   pub marked : vec_len w.marked ≡ inodes_of v
   pub named : vec_len w.named ≡ inodes_of v
@@ -32,11 +32,11 @@ pub record IsFor (v : Layout) (w : Workspace) : Type 0 where
   pub blocks : vec_len w.windows.blocks.buffer ≡ 3 * v.bsize
   pub chunk : vec_len w.windows.chunk.buffer ≡ v.bsize
 
--- the windows hold what the image tells
-pub record HoldWindows (v : Layout) (told : Option (List ℕ)) (w : Workspace) : Type 0 where
-  pub table : WindowHolds told w.windows.table.window
-  pub blocks : BlocksHold v told w.windows.blocks
-  pub chunk : WindowHolds told w.windows.chunk
+-- the windows hold what the image gives
+pub record HoldWindows (v : Layout) (contents : Option (List ℕ)) (w : Workspace) : Type 0 where
+  pub table : WindowHolds contents w.windows.table.window
+  pub blocks : BlocksHold v contents w.windows.blocks
+  pub chunk : WindowHolds contents w.windows.chunk
 
 -- how many bytes its lists and buffers take: two maps, 25 bytes an inode, five blocks
 abbrev pub held_of : Layout → ℕ

@@ -1,9 +1,9 @@
 //! Inodes, read by blocks of their table.
 
 ghost use Rattle.std.specs.Prelude.{◌≡◌, ◌*◌, ◌+◌, ◌%◌, ◌<◌, ◌≤◌, length, vec_len, OnOk, IfOk, IfErr};
-ghost use Rattle.ffs_image.specs.Device.{Faulted, WhereTold};
-ghost use Rattle.ffs_volume.specs.Areas.{inode_place};
-ghost use Rattle.ffs_volume.specs.Inodes.{inode_of};
+ghost use Rattle.ffs_image.specs.Device.{Faulted, ForContents};
+ghost use Rattle.ffs_volume.specs.Disk.Areas.{inode_place};
+ghost use Rattle.ffs_volume.specs.Blocks.Inodes.{inode_of};
 ghost use Rattle.ffs_walk.specs.Windows.{WindowHolds};
 
 use ffs_image::{Image, ImageFault};
@@ -11,12 +11,14 @@ use ffs_layout::{Geometry, decode_inode};
 use ffs_volume::Inode;
 use ffs_walk::Window;
 
-/// Where the block of the inode table stands that has an inode, in bytes.
-#[tactic(auto, using(crate::proofs::Places::block_inside, crate::proofs::Places::block_of, ffs_volume::specs::AreaLaws::inode_group))]
+/// Where the block of the inode table is that has an inode, in bytes.
+#[tactic(auto, using(crate::proofs::Places::block_inside, crate::proofs::Places::block_of, ffs_volume::proofs::AreaLaws::inode_group))]
 fn block_place(geometry: &Geometry, number: u32) -> u64
     requires { number < geometry.now.layout.ncg * geometry.now.layout.ipg }
-    ensures value { result + 128 * (number % geometry.now.layout.ipg % geometry.now.layout.inopb) ≡ inode_place geometry.now.layout number }
-    ensures inside { result + geometry.now.layout.bsize ≤ geometry.now.layout.size * geometry.now.layout.fsize }
+    ensures value { result + 128 * (number % geometry.now.layout.ipg % geometry.now.layout.inopb)
+        ≡ inode_place geometry.now.layout number }
+    ensures inside { result + geometry.now.layout.bsize
+        ≤ geometry.now.layout.size * geometry.now.layout.fsize }
 {
     let group = number / geometry.layout.ipg;
     let block = number % geometry.layout.ipg / geometry.layout.inopb;
@@ -32,7 +34,7 @@ pub struct Table {
 
 impl Table {
     /// The inode of a number (fs(5)). Its block of the table is read, unless it is the one that was read last.
-    #[tactic(auto, unfolding(ffs_volume::specs::Inodes::inode_of))]
+    #[tactic(auto, unfolding(ffs_volume::specs::Blocks::Inodes::inode_of))]
     pub fn inode<I: Image>(
         &mut self,
         geometry: &Geometry,
@@ -40,14 +42,17 @@ impl Table {
         image: &mut I,
     ) -> Result<Inode, ImageFault>
         requires number { number < geometry.now.layout.ncg * geometry.now.layout.ipg }
-        requires volume { geometry.now.layout.size * geometry.now.layout.fsize ≤ (I.device image.old).size }
+        requires volume { geometry.now.layout.size * geometry.now.layout.fsize
+            ≤ (I.device image.old).size }
         requires room { vec_len self.old.window.buffer ≡ geometry.now.layout.bsize }
-        requires holds { WindowHolds (I.device image.old).told self.old.window }
-        ensures inode { IfOk result (λ inode. WhereTold (I.device image.old).told (λ bytes. inode ≡ inode_of geometry.now.layout bytes number)) }
+        requires holds { WindowHolds (I.device image.old).contents self.old.window }
+        ensures inode { IfOk result (λ inode. ForContents (I.device image.old).contents
+            (λ bytes. inode ≡ inode_of geometry.now.layout bytes number)) }
         ensures room { vec_len self.new.window.buffer ≡ geometry.now.layout.bsize }
-        ensures holds { WindowHolds (I.device image.new).told self.new.window }
+        ensures holds { WindowHolds (I.device image.new).contents self.new.window }
         ensures ok { OnOk result (I.device image.new ≡ I.device image.old) }
-        ensures err { IfErr result (λ fault. Faulted (I.device image.old) (I.device image.new) fault.sector) }
+        ensures err { IfErr result (λ fault. Faulted (I.device image.old) (I.device image.new)
+            fault.sector) }
     {
         let place = block_place(geometry, number);
         self.window

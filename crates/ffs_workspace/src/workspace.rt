@@ -4,7 +4,7 @@ ghost use Rattle.std.specs.Prelude.{◌≡◌, ◌+◌, ◌*◌, ◌≤◌, ◌=
 ghost use Rattle.ffs_layout.specs.declared.geometry.Geometry.{Geometry};
 ghost use Rattle.ffs_volume.specs.declared.Layout.{Layout};
 ghost use Rattle.ffs_memory.specs.Account.{Asks};
-ghost use Rattle.ffs_volume.specs.Memory.{held_limit};
+ghost use Rattle.ffs_volume.specs.Report.Memory.{held_limit};
 
 use crate::table::Table;
 use ffs_layout::Geometry;
@@ -29,10 +29,10 @@ pub struct Windows {
 pub struct Workspace {
     /// The fragments that are reserved or claimed.
     pub claimed: FragmentMap,
-    /// The fragments with a DUP line. Phase 1b clears each of which it has told the first claim.
-    pub doubled: FragmentMap,
-    /// How many fragments are in `doubled`.
-    pub untold: u32,
+    /// The fragments with a DUP line. Phase 1b clears each of which it has reported the first claim.
+    pub duplicates: FragmentMap,
+    /// How many fragments are in `duplicates`.
+    pub unreported: u32,
     /// What each inode is, in four bits.
     pub kinds: Vec<u8>,
     /// The inodes of an unknown type, with a bad address or with a duplicate one.
@@ -41,7 +41,7 @@ pub struct Workspace {
     pub named: Vec<bool>,
     /// The directories that are reached from the root.
     pub reached: Vec<bool>,
-    /// The directories that stand for their cycle.
+    /// The directories that represent their cycle of parents: the least of each.
     pub leaders: Vec<bool>,
     /// How many entries refer to each inode.
     pub references: Vec<u64>,
@@ -55,7 +55,7 @@ pub struct Workspace {
     pub runs_seen: u64,
     /// How many Runs phase 1b has looked at.
     pub runs_again: u64,
-    /// Of the inode in hand: its bad Runs, its duplicates, the fragments that it keeps, and whether it has a Tail.
+    /// Of the current inode: its bad Runs, its duplicates, the fragments that it keeps, and whether it has a Tail.
     pub bad: u32,
     pub dups: u32,
     pub kept: u64,
@@ -73,7 +73,8 @@ impl Workspace {
         ensures fresh { IfOk result (λ w. IsFresh geometry.now.layout w) }
         ensures runs_seen { IfOk result (λ w. w.runs_seen ≡ 0) }
         ensures runs_again { IfOk result (λ w. w.runs_again ≡ 0) }
-        ensures windows { (told : Option (List ℕ)) → IfOk result (λ w. HoldWindows geometry.now.layout told w) }
+        ensures windows { (contents : Option (List ℕ))
+            → IfOk result (λ w. HoldWindows geometry.now.layout contents w) }
     {
         Workspace::in_memory(&mut SystemMemory::new(alloc), geometry)
     }
@@ -87,14 +88,16 @@ impl Workspace {
         ensures fresh { IfOk result (λ w. IsFresh geometry.now.layout w) }
         ensures runs_seen { IfOk result (λ w. w.runs_seen ≡ 0) }
         ensures runs_again { IfOk result (λ w. w.runs_again ≡ 0) }
-        ensures windows { (told : Option (List ℕ)) → IfOk result (λ w. HoldWindows geometry.now.layout told w) }
+        ensures windows { (contents : Option (List ℕ))
+            → IfOk result (λ w. HoldWindows geometry.now.layout contents w) }
 
         // What it holds was granted and no byte more, or a request was refused.
-        ensures asks { Asks (M.account memory.old) (M.account memory.new) (held_of geometry.now.layout) result }
+        ensures asks { Asks (M.account memory.old) (M.account memory.new)
+            (held_of geometry.now.layout) result }
     {
         let inodes = geometry.layout.ncg as usize * geometry.layout.ipg as usize;
         let claimed = FragmentMap::in_memory(memory, geometry.layout.size)?;
-        let doubled = FragmentMap::in_memory(memory, geometry.layout.size)?;
+        let duplicates = FragmentMap::in_memory(memory, geometry.layout.size)?;
         let kinds = memory.bytes(inodes)?;
         let (marked, named, reached, leaders) = four_flags(memory, inodes)?;
         let references = memory.long_words(inodes)?;
@@ -102,8 +105,8 @@ impl Workspace {
         let windows = Windows::in_memory(memory, geometry)?;
         Ok(Workspace {
             claimed,
-            doubled,
-            untold: 0,
+            duplicates,
+            unreported: 0,
             kinds,
             marked,
             named,
@@ -129,7 +132,7 @@ impl Workspace {
         ensures value { (v : Layout) → IsFor v self.now → result ≡ held_of v }
         ensures bound { (v : Layout) → IsFor v self.now → result ≤ held_limit v }
     {
-        let maps = self.claimed.held() + self.doubled.held();
+        let maps = self.claimed.held() + self.duplicates.held();
         let bytes = self.kinds.len()
             + self.marked.len()
             + self.named.len()
@@ -143,11 +146,11 @@ impl Workspace {
         maps + lists + buffers as u64
     }
 
-    /// Whether a fragment has a DUP line whose first claim is not told yet.
+    /// Whether a fragment has a DUP line whose first claim is not reported yet.
     pub fn has_dups(&self) -> bool
-        ensures { result ≡ not (self.now.untold == 0) }
+        ensures { result ≡ not (self.now.unreported == 0) }
     {
-        self.untold != 0
+        self.unreported != 0
     }
 
     /// How many Runs phases 1 and 1b have looked at.
@@ -162,13 +165,19 @@ impl Windows {
     ghost use Rattle.ffs_walk.specs.Windows.{WindowHolds, BlocksHold};
 
     fn in_memory<M: Memory>(memory: &mut M, geometry: &Geometry) -> Result<Windows, AllocError>
-        ensures table { IfOk result (λ w. vec_len w.table.window.buffer ≡ geometry.now.layout.bsize) }
-        ensures blocks { IfOk result (λ w. vec_len w.blocks.buffer ≡ 3 * geometry.now.layout.bsize) }
+        ensures table { IfOk result (λ w. vec_len w.table.window.buffer
+            ≡ geometry.now.layout.bsize) }
+        ensures blocks { IfOk result (λ w. vec_len w.blocks.buffer
+            ≡ 3 * geometry.now.layout.bsize) }
         ensures chunk { IfOk result (λ w. vec_len w.chunk.buffer ≡ geometry.now.layout.bsize) }
-        ensures table_holds { (told : Option (List ℕ)) → IfOk result (λ w. WindowHolds told w.table.window) }
-        ensures blocks_hold { (told : Option (List ℕ)) → IfOk result (λ w. BlocksHold geometry.now.layout told w.blocks) }
-        ensures chunk_holds { (told : Option (List ℕ)) → IfOk result (λ w. WindowHolds told w.chunk) }
-        ensures asks { Asks (M.account memory.old) (M.account memory.new) (5 * geometry.now.layout.bsize) result }
+        ensures table_holds { (contents : Option (List ℕ))
+            → IfOk result (λ w. WindowHolds contents w.table.window) }
+        ensures blocks_hold { (contents : Option (List ℕ))
+            → IfOk result (λ w. BlocksHold geometry.now.layout contents w.blocks) }
+        ensures chunk_holds { (contents : Option (List ℕ))
+            → IfOk result (λ w. WindowHolds contents w.chunk) }
+        ensures asks { Asks (M.account memory.old) (M.account memory.new)
+            (5 * geometry.now.layout.bsize) result }
     {
         let size = geometry.layout.bsize as usize;
         let table = Table {
@@ -189,7 +198,8 @@ type Flags = (Vec<bool>, Vec<bool>, Vec<bool>, Vec<bool>);
 
 fn four_flags<M: Memory>(memory: &mut M, n: usize) -> Result<Flags, AllocError>
     ensures first { IfOk result (λ p. p.0.items ≡ replicate n false) }
-    ensures lens { IfOk result (λ p. (vec_len p.0 ≡ n) × (vec_len p.1 ≡ n) × (vec_len p.2 ≡ n) × (vec_len p.3 ≡ n)) }
+    ensures lens { IfOk result (λ p. (vec_len p.0 ≡ n) × (vec_len p.1 ≡ n) × (vec_len p.2 ≡ n)
+        × (vec_len p.3 ≡ n)) }
     ensures asks { Asks (M.account memory.old) (M.account memory.new) (4 * n) result }
 {
     let first = memory.flags(n)?;

@@ -3,11 +3,10 @@
 
 use ffs_check::run::run;
 use ffs_report::SilentWriter;
-use std::env;
-use std::fs;
 use std::io::{BufWriter, ErrorKind, LineWriter, Write};
 use std::os::unix::fs::FileTypeExt;
 use std::process::ExitCode;
+use std::{env, fs};
 
 /// The bytes of the report that are gathered before they are written.
 const BUFFER_SIZE: usize = 65536;

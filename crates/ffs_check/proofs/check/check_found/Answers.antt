@@ -1,8 +1,8 @@
 use Rattle.std.proofs.Common.{inl, inr, false}
 use Rattle.ffs_layout.specs.Super.{seen}
-use Rattle.ffs_volume.specs.PathnameCheck.{goes_on}
-use Rattle.ffs_volume.specs.Report.{text_lines}
-use Rattle.ffs_volume.specs.Volumes.{volume_of}
+use Rattle.ffs_volume.specs.Directories.PathnameCheck.{goes_on}
+use Rattle.ffs_volume.specs.Report.Whole.{text_lines}
+use Rattle.ffs_volume.specs.Directories.Volumes.{volume_of}
 use Rattle.ffs_check.proofs.Endings.{ran_knows}
 use Rattle.ffs_check.proofs.Taken.{not_for_memory}
 use Rattle.ffs_check.proofs.check.check_found.Goals as goal

@@ -1,9 +1,9 @@
 use Rattle.std.proofs.Common.{rules, ◌∙◌}
 use Rattle.ffs_layout.specs.Super.{seen}
 use Rattle.ffs_report.specs.Progress.{progress}
-use Rattle.ffs_volume.specs.PathnameCheck.{goes_on}
-use Rattle.ffs_volume.specs.Report.{text_lines}
-use Rattle.ffs_volume.specs.Volumes.{volume_of}
+use Rattle.ffs_volume.specs.Directories.PathnameCheck.{goes_on}
+use Rattle.ffs_volume.specs.Report.Whole.{text_lines}
+use Rattle.ffs_volume.specs.Directories.Volumes.{volume_of}
 use Rattle.ffs_check.proofs.Endings.{opening_defect, runs_through, runs_at}
 use Rattle.ffs_check.proofs.check.check_rest.Goals as goal
 

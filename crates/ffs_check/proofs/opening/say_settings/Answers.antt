@@ -1,6 +1,6 @@
 use Rattle.std.proofs.lemmas.Result.{err_from_is_err_and}
-use Rattle.ffs_volume.specs.Messages.{optimization, minfree}
-use Rattle.ffs_volume.specs.Opening.{unless_message, is_optimization, is_minfree, setting_lines}
+use Rattle.ffs_volume.specs.Messages.Kinds.{optimization, minfree}
+use Rattle.ffs_volume.specs.Report.Opening.{unless_message, is_optimization, is_minfree, setting_lines}
 use Rattle.ffs_layout.specs.Super.{seen}
 use Rattle.ffs_report.proofs.Reports.{says_then, stopped_more}
 use Rattle.ffs_check.proofs.opening.say_settings.Goals as goal

@@ -1,7 +1,7 @@
 use Rattle.std.proofs.Common.{◌∷◌, []}
 use Rattle.std.proofs.lemmas.Result.{err_from_is_err_and}
-use Rattle.ffs_volume.specs.Messages.{mounted}
-use Rattle.ffs_volume.specs.Opening.{before_nul, setting_lines}
+use Rattle.ffs_volume.specs.Messages.Kinds.{mounted}
+use Rattle.ffs_volume.specs.Report.Opening.{before_nul, setting_lines}
 use Rattle.ffs_layout.specs.Super.{seen}
 use Rattle.ffs_report.proofs.Reports.{says_then, stopped_more}
 use Rattle.ffs_check.proofs.opening.say_super.Goals as goal

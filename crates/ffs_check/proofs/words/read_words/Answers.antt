@@ -19,10 +19,10 @@ returns-clause-asked c =
     record {
       taken = ap (λ (a : App). fault_of a words) (sym is) ∙ c.in_ok-matches.ensures.kinds (ap is_simple_and_free is ∙ free);
       image = text_or c.get_str.result _ _ c.unwrap_or.ensures refl
-      ∙ ap (λ t. unwrap_or t []) (c.get_str.ensures ∙ first_value-rows f (codes "image") ∙ ap (first_of (codes "image")) rows);
+          ∙ ap (λ t. unwrap_or t []) (c.get_str.ensures ∙ first_value-rows f (codes "image") ∙ ap (first_of (codes "image")) rows);
       place = sector_read (λ t r. ParsesUnsigned 32 10 t r × ExplainsUnsignedError 10 t r × HasUnsignedDigitsIfOk t r) (λ t r g. g.0) (one_of (codes "sector") (matches_of program words)) c.get_one.result
-      (λ e. c.get_one.ensures.none (one_text-rows f (codes "sector") ∙ ap (one_of (codes "sector")) rows ∙ e))
-      (λ t e. c.get_one.ensures.value t (one_text-rows f (codes "sector") ∙ ap (one_of (codes "sector")) rows ∙ e));
+          (λ e. c.get_one.ensures.none (one_text-rows f (codes "sector") ∙ ap (one_of (codes "sector")) rows ∙ e))
+          (λ t e. c.get_one.ensures.value t (one_text-rows f (codes "sector") ∙ ap (one_of (codes "sector")) rows ∙ e));
     }
 
 pub returns-in_err-matches-clause-refused : goal.returns-in_err-matches-clause-refused

@@ -5,17 +5,17 @@ use Rattle.ffs_walk.specs.Windows.{BlocksHold}
 use Rattle.ffs_maps.proofs.Bits.{length_bits}
 use Rattle.ffs_volume.specs.declared.Step.{Step}
 use Rattle.ffs_volume.specs.declared.Step.TheVariants.{Gap}
-use Rattle.ffs_volume.specs.Steps.{steps_of}
-use Rattle.ffs_volume.specs.Claims.{after_steps, after_step, steps_lines, step_lines, is_open}
-use Rattle.ffs_phase.specs.Known.{Where, Tells}
-use Rattle.ffs_phase.proofs.Telling.{of_begins, of_says, of_stops, of_reads, of_same}
+use Rattle.ffs_volume.specs.Blocks.Steps.{steps_of}
+use Rattle.ffs_volume.specs.Blocks.Claims.{after_steps, after_step, steps_lines, step_lines, is_open}
+use Rattle.ffs_phase.specs.Known.{ForBytes, IsContents}
+use Rattle.ffs_phase.proofs.Reporting.{of_begins, of_says, of_stops, of_reads, of_same}
 use Rattle.ffs_workspace.specs.Holds.{claims_of}
 use Rattle.ffs_claims.specs.Lines.{of_lines}
 use Rattle.ffs_claims.proofs.Weights.{moves_on, bound_open}
 use Rattle.ffs_claims.proofs.Goes.{claims_on, lines_on, cut_stays, cut_silent, gaps_stay, gaps_silent}
 use Rattle.std.specs.Prelude.{vec_len}
 use Rattle.ffs_volume.specs.declared.Layout.{Layout}
-use Rattle.ffs_volume.specs.Weights.{stays, kept_bound}
+use Rattle.ffs_volume.proofs.Weights.{stays, kept_bound}
 use Rattle.ffs_walk.specs.declared.blocks.Blocks.{Blocks}
 use Rattle.ffs_workspace.specs.declared.workspace.Workspace.{Workspace}
 use Rattle.ffs_workspace.specs.Lengths.{IsFor}
@@ -25,8 +25,8 @@ use Rattle.ffs_claims.proofs.claim.claim.Goals as goal
 blocks_read : (v : Layout) (w : Workspace) (b : Blocks) → vec_len b.buffer ≡ vec_len w.windows.blocks.buffer → IsFor v w → IsFor v (record w { windows = record w.windows { blocks = b } })
 blocks_read v w b same m = record {
   claimed = m.claimed;
-  doubled = m.doubled;
-  untold = m.untold;
+  duplicates = m.duplicates;
+  unreported = m.unreported;
   kinds = m.kinds;
   marked = m.marked;
   named = m.named;
@@ -97,7 +97,7 @@ returns-in_err-step-clause-text g c =
     let p = err_from_is_err_and c.from_residual-in_err-step.result c.from_residual-in_err-step.ensures.1 in
     let inv = c.loop-next.invariant in
     let v = c.args.geometry.now.layout in
-    let next : Where (Tells (g.I.Image.device c.args.image.now).told) (λ bytes. rest bytes c.loop-next.walk ≡ c.in-Some.next ∷ rest bytes c.next.new.self) =
+    let next : ForBytes (IsContents (g.I.Image.device c.args.image.now).contents) (λ bytes. rest bytes c.loop-next.walk ≡ c.in-Some.next ∷ rest bytes c.next.new.self) =
     rw (inv.device, c.in-Some.is) at c.in_ok-next.ensures.steps in
     rw (p.1, p.2) (of_stops _ _ _ _ (of_lines (step_lines v c.args.number (claims_of c.loop-next.workspace) c.in-Some.next)) _ _ _ inv.said
     (lines_on _ v c.args.number (claims_of c.loop-next.workspace) (after_step v (claims_of c.loop-next.workspace) c.in-Some.next)
@@ -124,12 +124,12 @@ loop-next-preserved g c =
     let inv = c.loop-next.invariant in
     let v = c.args.geometry.now.layout in
     let s = claims_of c.step.new.workspace in
-    let next : Where (Tells (g.I.Image.device c.args.image.now).told) (λ bytes. rest bytes c.loop-next.walk ≡ c.in-Some.next ∷ rest bytes c.next.new.self) =
+    let next : ForBytes (IsContents (g.I.Image.device c.args.image.now).contents) (λ bytes. rest bytes c.loop-next.walk ≡ c.in-Some.next ∷ rest bytes c.next.new.self) =
     rw (inv.device, c.in-Some.is) at c.in_ok-next.ensures.steps in
-    let blocks : BlocksHold v (g.I.Image.device c.args.image.now).told c.step.new.workspace.windows.blocks =
+    let blocks : BlocksHold v (g.I.Image.device c.args.image.now).contents c.step.new.workspace.windows.blocks =
     rw c.step.ensures.windows (rw (inv.geometry, c.in_ok-next.ensures.ok, inv.device) at c.in_ok-next.ensures.holds) in
-    let gaps : Where (Tells (g.I.Image.device c.args.image.now).told) (λ bytes. rest bytes c.next.new.self ≡ replicate c.skip_gaps.result Gap ++ rest bytes c.skip_gaps.new.self) =
-    c.skip_gaps.ensures.steps (g.I.Image.device c.args.image.now).told (rw (c.in_ok-next.ensures.geometry ∙ inv.geometry) blocks) in
+    let gaps : ForBytes (IsContents (g.I.Image.device c.args.image.now).contents) (λ bytes. rest bytes c.next.new.self ≡ replicate c.skip_gaps.result Gap ++ rest bytes c.skip_gaps.new.self) =
+    c.skip_gaps.ensures.steps (g.I.Image.device c.args.image.now).contents (rw (c.in_ok-next.ensures.geometry ∙ inv.geometry) blocks) in
     record {
       made = c.step.ensures.made;
       open_still = sym c.is_open.ensures ∙ c.if-not-is_open.false;
@@ -161,7 +161,7 @@ pub returns-then-not-is_open-clause-text : goal.returns-then-not-is_open-clause-
 returns-then-not-is_open-clause-text g c =
     let inv = c.loop-next.invariant in
     let v = c.args.geometry.now.layout in
-    let next : Where (Tells (g.I.Image.device c.args.image.now).told) (λ bytes. rest bytes c.loop-next.walk ≡ c.in-Some.next ∷ rest bytes c.next.new.self) =
+    let next : ForBytes (IsContents (g.I.Image.device c.args.image.now).contents) (λ bytes. rest bytes c.loop-next.walk ≡ c.in-Some.next ∷ rest bytes c.next.new.self) =
     rw (inv.device, c.in-Some.is) at c.in_ok-next.ensures.steps in
     of_same _ _ _ _ _ _
     (of_says _ _ (λ bytes. of_lines (steps_lines v c.args.number (claims_of c.step.new.workspace) (rest bytes c.next.new.self))) _
@@ -175,7 +175,7 @@ pub returns-then-not-is_open-clause-claims : goal.returns-then-not-is_open-claus
 returns-then-not-is_open-clause-claims g c =
     let inv = c.loop-next.invariant in
     let v = c.args.geometry.now.layout in
-    let next : Where (Tells (g.I.Image.device c.args.image.now).told) (λ bytes. rest bytes c.loop-next.walk ≡ c.in-Some.next ∷ rest bytes c.next.new.self) =
+    let next : ForBytes (IsContents (g.I.Image.device c.args.image.now).contents) (λ bytes. rest bytes c.loop-next.walk ≡ c.in-Some.next ∷ rest bytes c.next.new.self) =
     rw (inv.device, c.in-Some.is) at c.in_ok-next.ensures.steps in
     λ bytes t. sym (cut_stays v (claims_of c.step.new.workspace) (rest bytes c.next.new.self) (sym c.is_open.ensures ∙ c.if-not-is_open.true))
     ∙ claims_on _ v (claims_of c.loop-next.workspace) (claims_of c.step.new.workspace)
@@ -202,7 +202,7 @@ returns-then-not-is_open-clause-bound g c =
 pub returns-in_default-clause-text : goal.returns-in_default-clause-text
 returns-in_default-clause-text g c =
     let inv = c.loop-next.invariant in
-    let over : Where (Tells (g.I.Image.device c.args.image.now).told) (λ bytes. rest bytes c.loop-next.walk ≡ []) =
+    let over : ForBytes (IsContents (g.I.Image.device c.args.image.now).contents) (λ bytes. rest bytes c.loop-next.walk ≡ []) =
     rw (inv.device, c.in_default.is) at c.in_ok-next.ensures.steps in
     of_same _ _ _ _ _ _ inv.said
     (λ bytes t. ap (λ (xs : List Step). of_lines (steps_lines c.args.geometry.now.layout c.args.number (claims_of c.loop-next.workspace) xs)) (over bytes t))
@@ -210,7 +210,7 @@ returns-in_default-clause-text g c =
 pub returns-in_default-clause-claims : goal.returns-in_default-clause-claims
 returns-in_default-clause-claims g c =
     let inv = c.loop-next.invariant in
-    let over : Where (Tells (g.I.Image.device c.args.image.now).told) (λ bytes. rest bytes c.loop-next.walk ≡ []) =
+    let over : ForBytes (IsContents (g.I.Image.device c.args.image.now).contents) (λ bytes. rest bytes c.loop-next.walk ≡ []) =
     rw (inv.device, c.in_default.is) at c.in_ok-next.ensures.steps in
     λ bytes t. sym (ap (after_steps c.args.geometry.now.layout (claims_of c.loop-next.workspace)) (over bytes t)) ∙ inv.claims bytes t
 
@@ -261,8 +261,8 @@ returns-in_err-next-clause-made g c =
 pub returns-in_err-next-clause-windows : goal.returns-in_err-next-clause-windows
 returns-in_err-next-clause-windows g c =
     let inv = c.loop-next.invariant in
-    let told = c.in_err-next.ensures.err.told ∙ ap (λ d. d.told) inv.device in
-    record { table = rw told inv.windows.table; blocks = rw inv.geometry at c.next.ensures.holds; chunk = rw told inv.windows.chunk }
+    let contents = c.in_err-next.ensures.err.contents ∙ ap (λ d. d.contents) inv.device in
+    record { table = rw contents inv.windows.table; blocks = rw inv.geometry at c.next.ensures.holds; chunk = rw contents inv.windows.chunk }
 
 pub returns-in_err-next-clause-found : goal.returns-in_err-next-clause-found
 returns-in_err-next-clause-found g c =
@@ -303,11 +303,11 @@ returns-in_err-step-clause-made g c = c.step.ensures.made
 pub returns-in_err-step-clause-windows : goal.returns-in_err-step-clause-windows
 returns-in_err-step-clause-windows g c =
     let inv = c.loop-next.invariant in
-    let told = ap (λ d. d.told) (c.in_ok-next.ensures.ok ∙ inv.device) in
+    let contents = ap (λ d. d.contents) (c.in_ok-next.ensures.ok ∙ inv.device) in
     record {
-      table = rw (c.step.ensures.windows, told) inv.windows.table;
+      table = rw (c.step.ensures.windows, contents) inv.windows.table;
       blocks = rw c.step.ensures.windows (rw inv.geometry at c.next.ensures.holds);
-      chunk = rw (c.step.ensures.windows, told) inv.windows.chunk;
+      chunk = rw (c.step.ensures.windows, contents) inv.windows.chunk;
     }
 
 pub returns-in_err-step-clause-found : goal.returns-in_err-step-clause-found
@@ -330,11 +330,11 @@ returns-then-not-is_open-clause-made g c = c.step.ensures.made
 pub returns-then-not-is_open-clause-windows : goal.returns-then-not-is_open-clause-windows
 returns-then-not-is_open-clause-windows g c =
     let inv = c.loop-next.invariant in
-    let told = ap (λ d. d.told) (c.in_ok-next.ensures.ok ∙ inv.device) in
+    let contents = ap (λ d. d.contents) (c.in_ok-next.ensures.ok ∙ inv.device) in
     record {
-      table = rw (c.step.ensures.windows, told) inv.windows.table;
+      table = rw (c.step.ensures.windows, contents) inv.windows.table;
       blocks = rw c.step.ensures.windows (rw inv.geometry at c.next.ensures.holds);
-      chunk = rw (c.step.ensures.windows, told) inv.windows.chunk;
+      chunk = rw (c.step.ensures.windows, contents) inv.windows.chunk;
     }
 
 pub returns-then-not-is_open-clause-found : goal.returns-then-not-is_open-clause-found
@@ -357,8 +357,8 @@ returns-in_default-clause-made g c =
 pub returns-in_default-clause-windows : goal.returns-in_default-clause-windows
 returns-in_default-clause-windows g c =
     let inv = c.loop-next.invariant in
-    let told = ap (λ d. d.told) (c.in_ok-next.ensures.ok ∙ inv.device) in
-    record { table = rw told inv.windows.table; blocks = rw inv.geometry at c.next.ensures.holds; chunk = rw told inv.windows.chunk }
+    let contents = ap (λ d. d.contents) (c.in_ok-next.ensures.ok ∙ inv.device) in
+    record { table = rw contents inv.windows.table; blocks = rw inv.geometry at c.next.ensures.holds; chunk = rw contents inv.windows.chunk }
 
 pub returns-in_default-clause-found : goal.returns-in_default-clause-found
 returns-in_default-clause-found g c =

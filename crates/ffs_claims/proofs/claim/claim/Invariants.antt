@@ -1,10 +1,10 @@
 use Rattle.std.proofs.Common.{◌≡◌, true}
 use Rattle.ffs_report.specs.Progress.{progress}
-use Rattle.ffs_phase.specs.Known.{Where, Tells}
+use Rattle.ffs_phase.specs.Known.{ForBytes, IsContents}
 use Rattle.ffs_phase.specs.Runs.{SaidOf}
-use Rattle.ffs_volume.specs.Steps.{steps_of}
-use Rattle.ffs_volume.specs.Claims.{after_steps, steps_lines, is_open}
-use Rattle.ffs_volume.specs.Moving.{Moves}
+use Rattle.ffs_volume.specs.Blocks.Steps.{steps_of}
+use Rattle.ffs_volume.specs.Blocks.Claims.{after_steps, steps_lines, is_open}
+use Rattle.ffs_volume.specs.Blocks.ClaimBounds.{ClaimBound}
 use Rattle.ffs_walk.specs.Rests.{rest, left}
 use Rattle.ffs_workspace.specs.Holds.{claims_of}
 use Rattle.ffs_workspace.specs.Lengths.{IsFor, HoldWindows}
@@ -18,13 +18,13 @@ invariant-loop-next g l = record {
   open_still : is_open (claims_of l.workspace) ≡ true;
   geometry : l.walk.geometry ≡ l.geometry;
   device : g.I.Image.device l.image ≡ g.I.Image.device l.initial.image;
-  windows : HoldWindows l.geometry.layout (g.I.Image.device l.initial.image).told l.workspace;
+  windows : HoldWindows l.geometry.layout (g.I.Image.device l.initial.image).contents l.workspace;
   found : SameFound l.initial.workspace l.workspace;
-  moves : Moves (claims_of l.initial.workspace) (claims_of l.workspace);
-  claims : Where (Tells (g.I.Image.device l.initial.image).told) (λ bytes.
+  moves : ClaimBound (claims_of l.initial.workspace) (claims_of l.workspace);
+  claims : ForBytes (IsContents (g.I.Image.device l.initial.image).contents) (λ bytes.
       after_steps l.geometry.layout (claims_of l.workspace) (rest bytes l.walk)
       ≡ after_steps l.geometry.layout (claims_of l.initial.workspace) (steps_of l.geometry.layout l.inode bytes));
-  said : SaidOf (Tells (g.I.Image.device l.initial.image).told)
+  said : SaidOf (IsContents (g.I.Image.device l.initial.image).contents)
       (λ bytes. of_lines (steps_lines l.geometry.layout l.number (claims_of l.workspace) (rest bytes l.walk)))
       (λ bytes. of_lines (steps_lines l.geometry.layout l.number (claims_of l.initial.workspace) (steps_of l.geometry.layout l.inode bytes)))
       (progress g.W.Output.sink l.initial.report) (progress g.W.Output.sink l.report);

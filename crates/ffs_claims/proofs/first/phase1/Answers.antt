@@ -3,14 +3,14 @@ use Rattle.std.proofs.lemmas.Bool.{cases_lt}
 use Rattle.std.proofs.lemmas.Result.{err_from_is_err_and}
 use Rattle.std.proofs.lemmas.List.Sums.{count_by-le-length}
 use Rattle.ffs_maps.proofs.Bits.{length_bits}
-use Rattle.ffs_phase.proofs.Telling.{of_begins, of_says, of_part, of_fault, of_stops, of_same, tells_knows, said_knows}
-use Rattle.ffs_volume.specs.BlockCheck.{owner_lines, owners_lines, phase1_lines}
-use Rattle.ffs_volume.specs.Claims.{Claims, after_owner}
-use Rattle.ffs_volume.specs.Messages.{Message, phase1}
-use Rattle.ffs_volume.specs.Owners.{owner_of, owners_of}
-use Rattle.ffs_volume.specs.Replay.{cut_at}
+use Rattle.ffs_phase.proofs.Reporting.{of_begins, of_says, of_part, of_fault, of_stops, of_same, reports_knowing, said_knows}
+use Rattle.ffs_volume.specs.Blocks.BlockCheck.{owner_lines, owners_lines, phase1_lines}
+use Rattle.ffs_volume.specs.Blocks.Claims.{Claims, after_owner}
+use Rattle.ffs_volume.specs.Messages.Kinds.{Message, phase1}
+use Rattle.ffs_volume.specs.Blocks.Owners.{owner_of, owners_of}
+use Rattle.ffs_volume.specs.Encodings.Replay.{cut_at}
 use Rattle.ffs_workspace.specs.Holds.{claims_of, first_marked_at}
-use Rattle.ffs_volume.specs.Kinds.{kind_at}
+use Rattle.ffs_volume.specs.Encodings.Kinds.{kind_at}
 use Rattle.ffs_workspace.specs.Lengths.{inodes_of}
 use Rattle.ffs_claims.specs.Lines.{of_lines, owners_from}
 use Rattle.ffs_claims.proofs.Doubles.{dups_are}
@@ -47,8 +47,8 @@ loop-number-init g c =
           c.in_ok-say.ensures.said;
     }
 
-pub numbered-requires-clause-runs : goal.numbered-requires-clause-runs
-numbered-requires-clause-runs g c =
+pub claim_inode-requires-clause-runs : goal.claim_inode-requires-clause-runs
+claim_inode-requires-clause-runs g c =
     let inv = c.loop-number.invariant in
     omega (
       arith,
@@ -60,55 +60,55 @@ numbered-requires-clause-runs g c =
       length_bits c.loop-number.workspace.claimed.words.items c.loop-number.workspace.claimed.size ∙ inv.made.claimed,
     )
 
-pub returns-in_err-numbered-clause-text : goal.returns-in_err-numbered-clause-text
-returns-in_err-numbered-clause-text g c =
-    let p = err_from_is_err_and c.from_residual-in_err-numbered.result c.from_residual-in_err-numbered.ensures.1 in
+pub returns-in_err-claim_inode-clause-text : goal.returns-in_err-claim_inode-clause-text
+returns-in_err-claim_inode-clause-text g c =
+    let p = err_from_is_err_and c.from_residual-in_err-claim_inode.result c.from_residual-in_err-claim_inode.ensures.1 in
     let v = c.args.geometry.now.layout in
     let inv = c.loop-number.invariant in
     let s = claims_of c.loop-number.workspace in
     let n = c.loop-number.number in
     rw (p.1, p.2) (of_fault (Unit {0}) (Unit {0}) _ (λ bytes. of_lines (owners_lines v s (owners_from v bytes n))) (λ bytes. of_lines (owner_lines v s (owner_of v bytes n)))
-    (λ bytes. of_lines (owners_lines v (after_owner v s (owner_of v bytes n)) (owners_from v bytes (n + 1)))) _ _ _ _ c.in_err-numbered.field-0.0
+    (λ bytes. of_lines (owners_lines v (after_owner v s (owner_of v bytes n)) (owners_from v bytes (n + 1)))) _ _ _ _ c.in_err-claim_inode.field-0.0
     inv.said (λ bytes t. lines_next v bytes s (after_owner v s (owner_of v bytes n)) n (omega arith) refl)
-    (tells_knows (Unit {0}) _ _ _ _ _ (Err c.in_err-numbered.field-0.0) (λ bytes k. ap (λ d. d.told) inv.device ∙ k.0) c.in_err-numbered.ensures.text))
+    (reports_knowing (Unit {0}) _ _ _ _ _ (Err c.in_err-claim_inode.field-0.0) (λ bytes k. ap (λ d. d.contents) inv.device ∙ k.0) c.in_err-claim_inode.ensures.text))
 
-pub returns-in_err-numbered-clause-runs : goal.returns-in_err-numbered-clause-runs
-returns-in_err-numbered-clause-runs g c =
+pub returns-in_err-claim_inode-clause-runs : goal.returns-in_err-claim_inode-clause-runs
+returns-in_err-claim_inode-clause-runs g c =
     let inv = c.loop-number.invariant in
-    omega (arith, inv.runs, inv.low, c.numbered.ensures.bound, c.loop-number-test.true)
+    omega (arith, inv.runs, inv.low, c.claim_inode.ensures.bound, c.loop-number-test.true)
 
 pub loop-number-preserved : goal.loop-number-preserved
 loop-number-preserved g c =
     let v = c.args.geometry.now.layout in
     let inv = c.loop-number.invariant in
     let s = claims_of c.loop-number.workspace in
-    let s' = claims_of c.numbered.new.workspace in
+    let s' = claims_of c.claim_inode.new.workspace in
     let n = c.loop-number.number in
-    let told = ap (λ d. d.told) inv.device in
+    let contents = ap (λ d. d.contents) inv.device in
     let lt : n < inodes_of v = omega arith in
     let inside = is_inside v n inv.low lt in
-    let now = c.in_ok-numbered.ensures.claims in
-    let stored = c.in_ok-numbered.ensures.stored in
+    let now = c.in_ok-claim_inode.ensures.claims in
+    let stored = c.in_ok-claim_inode.ensures.stored in
     record {
-      made = c.numbered.ensures.made;
-      device = c.in_ok-numbered.ensures.image ∙ inv.device;
-      windows = rw (c.in_ok-numbered.ensures.image, inv.device) at c.numbered.ensures.windows;
+      made = c.claim_inode.ensures.made;
+      device = c.in_ok-claim_inode.ensures.image ∙ inv.device;
+      windows = rw (c.in_ok-claim_inode.ensures.image, inv.device) at c.claim_inode.ensures.windows;
       low = omega arith;
       high = λ h. omega arith;
-      runs = omega (arith, inv.runs, inv.low, c.in_ok-numbered.ensures.moves);
-      claims = λ bytes k. now bytes (told ∙ k.0) ∙ ap (λ (t : Claims). after_owner v t (owner_of v bytes n)) (inv.claims bytes k) ∙ sym (before_next v bytes n inv.low);
-      kinds = λ bytes k. filled_next 0 (kind_at v bytes) c.loop-number.workspace.kinds.items c.numbered.new.workspace.kinds.items n _
-          (omega (arith, inv.made.kinds)) (stored bytes (told ∙ k.0)).kinds (kind_in v bytes n inside) (inv.kinds bytes k);
-      marked = λ bytes k. filled_next false (first_marked_at v bytes) c.loop-number.workspace.marked.items c.numbered.new.workspace.marked.items n _
-          (omega (arith, inv.made.marked)) (stored bytes (told ∙ k.0)).marked (mark_in v bytes n s s' inside (inv.claims bytes k) (now bytes (told ∙ k.0))) (inv.marked bytes k);
-      cut = λ bytes k. filled_next 0 (cut_at v bytes) c.loop-number.workspace.cut.items c.numbered.new.workspace.cut.items n _
-          (omega (arith, inv.made.cut)) (stored bytes (told ∙ k.0)).cut (cut_in v bytes n s s' inside (inv.claims bytes k) (now bytes (told ∙ k.0))) (inv.cut bytes k);
+      runs = omega (arith, inv.runs, inv.low, c.in_ok-claim_inode.ensures.moves);
+      claims = λ bytes k. now bytes (contents ∙ k.0) ∙ ap (λ (t : Claims). after_owner v t (owner_of v bytes n)) (inv.claims bytes k) ∙ sym (before_next v bytes n inv.low);
+      kinds = λ bytes k. filled_next 0 (kind_at v bytes) c.loop-number.workspace.kinds.items c.claim_inode.new.workspace.kinds.items n _
+          (omega (arith, inv.made.kinds)) (stored bytes (contents ∙ k.0)).kinds (kind_in v bytes n inside) (inv.kinds bytes k);
+      marked = λ bytes k. filled_next false (first_marked_at v bytes) c.loop-number.workspace.marked.items c.claim_inode.new.workspace.marked.items n _
+          (omega (arith, inv.made.marked)) (stored bytes (contents ∙ k.0)).marked (mark_in v bytes n s s' inside (inv.claims bytes k) (now bytes (contents ∙ k.0))) (inv.marked bytes k);
+      cut = λ bytes k. filled_next 0 (cut_at v bytes) c.loop-number.workspace.cut.items c.claim_inode.new.workspace.cut.items n _
+          (omega (arith, inv.made.cut)) (stored bytes (contents ∙ k.0)).cut (cut_in v bytes n s s' inside (inv.claims bytes k) (now bytes (contents ∙ k.0))) (inv.cut bytes k);
       said = of_same _ (λ bytes. of_lines (owners_lines v (after_owner v s (owner_of v bytes n)) (owners_from v bytes (n + 1)))) (λ bytes. of_lines (owners_lines v s' (owners_from v bytes (n + 1)))) _ _ _
           (of_part _ (λ bytes. of_lines (owners_lines v s (owners_from v bytes n))) (λ bytes. of_lines (owner_lines v s (owner_of v bytes n)))
           (λ bytes. of_lines (owners_lines v (after_owner v s (owner_of v bytes n)) (owners_from v bytes (n + 1)))) _ _ _ _ inv.said
           (λ bytes k. lines_next v bytes s (after_owner v s (owner_of v bytes n)) n lt refl)
-          (said_knows _ _ _ _ _ _ (λ bytes k. told ∙ k.0) c.in_ok-numbered.ensures.text))
-          (λ bytes k. ap (λ (t : Claims). of_lines (owners_lines v t (owners_from v bytes (n + 1)))) (sym (now bytes (told ∙ k.0))));
+          (said_knows _ _ _ _ _ _ (λ bytes k. contents ∙ k.0) c.in_ok-claim_inode.ensures.text))
+          (λ bytes k. ap (λ (t : Claims). of_lines (owners_lines v t (owners_from v bytes (n + 1)))) (sym (now bytes (contents ∙ k.0))));
     }
 
 pub returns-clause-text : goal.returns-clause-text
@@ -147,4 +147,4 @@ returns-clause-runs g c =
 
 pub returns-clause-dups : goal.returns-clause-dups
 returns-clause-dups g c = λ bytes k.
-    dups_are c.args.geometry.now.layout bytes c.loop-number.workspace c.loop-number.invariant.made.untold (returns-clause-holds g c bytes k)
+    dups_are c.args.geometry.now.layout bytes c.loop-number.workspace c.loop-number.invariant.made.unreported (returns-clause-holds g c bytes k)

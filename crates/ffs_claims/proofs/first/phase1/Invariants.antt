@@ -1,15 +1,15 @@
 use Rattle.std.proofs.Common.{◌≡◌, ◌+◌, ◌-◌, ◌*◌, ◌<◌, ◌≤◌, ◌∷◌, false}
 use Rattle.ffs_report.specs.Progress.{progress}
-use Rattle.ffs_phase.specs.Known.{Where, Tells}
+use Rattle.ffs_phase.specs.Known.{ForBytes, IsContents}
 use Rattle.ffs_phase.specs.Runs.{SaidOf}
-use Rattle.ffs_volume.specs.BlockCheck.{owners_lines, phase1_lines}
-use Rattle.ffs_volume.specs.KeptSteps.{claims_before}
-use Rattle.ffs_volume.specs.Messages.{phase1}
-use Rattle.ffs_volume.specs.Owners.{owners_of}
-use Rattle.ffs_volume.specs.Replay.{cut_at}
-use Rattle.ffs_volume.specs.Moving.{used_bits}
+use Rattle.ffs_volume.specs.Blocks.BlockCheck.{owners_lines, phase1_lines}
+use Rattle.ffs_volume.specs.Blocks.KeptSteps.{claims_before}
+use Rattle.ffs_volume.specs.Messages.Kinds.{phase1}
+use Rattle.ffs_volume.specs.Blocks.Owners.{owners_of}
+use Rattle.ffs_volume.specs.Encodings.Replay.{cut_at}
+use Rattle.ffs_volume.specs.Blocks.ClaimBounds.{used_bits}
 use Rattle.ffs_workspace.specs.Holds.{claims_of, IsFresh, first_marked_at}
-use Rattle.ffs_volume.specs.Kinds.{kind_at}
+use Rattle.ffs_volume.specs.Encodings.Kinds.{kind_at}
 use Rattle.ffs_workspace.specs.Lengths.{IsFor, HoldWindows, inodes_of}
 use Rattle.ffs_claims.specs.Lines.{of_lines, owners_from}
 use Rattle.ffs_claims.proofs.Numbers.{FilledTo}
@@ -19,19 +19,19 @@ abbrev pub invariant-loop-number : goal.invariant-loop-number
 invariant-loop-number g l = record {
   made : IsFor l.geometry.layout l.workspace;
   device : g.I.Image.device l.image ≡ g.I.Image.device l.fn.image;
-  windows : HoldWindows l.geometry.layout (g.I.Image.device l.fn.image).told l.workspace;
+  windows : HoldWindows l.geometry.layout (g.I.Image.device l.fn.image).contents l.workspace;
   low : 2 ≤ l.number;
   high : 2 < l.number → l.number ≤ inodes_of l.geometry.layout;
   runs : l.workspace.runs_seen ≤ used_bits (claims_of l.workspace) + 22 * (l.number - 2);
-  claims : Where (λ bytes. Tells (g.I.Image.device l.fn.image).told bytes × IsFresh l.geometry.layout l.fn.workspace) (λ bytes.
+  claims : ForBytes (λ bytes. IsContents (g.I.Image.device l.fn.image).contents bytes × IsFresh l.geometry.layout l.fn.workspace) (λ bytes.
       claims_of l.workspace ≡ claims_before l.geometry.layout bytes l.number);
-  kinds : Where (λ bytes. Tells (g.I.Image.device l.fn.image).told bytes × IsFresh l.geometry.layout l.fn.workspace) (λ bytes.
+  kinds : ForBytes (λ bytes. IsContents (g.I.Image.device l.fn.image).contents bytes × IsFresh l.geometry.layout l.fn.workspace) (λ bytes.
       FilledTo 0 (kind_at l.geometry.layout bytes) l.workspace.kinds.items l.number);
-  marked : Where (λ bytes. Tells (g.I.Image.device l.fn.image).told bytes × IsFresh l.geometry.layout l.fn.workspace) (λ bytes.
+  marked : ForBytes (λ bytes. IsContents (g.I.Image.device l.fn.image).contents bytes × IsFresh l.geometry.layout l.fn.workspace) (λ bytes.
       FilledTo false (first_marked_at l.geometry.layout bytes) l.workspace.marked.items l.number);
-  cut : Where (λ bytes. Tells (g.I.Image.device l.fn.image).told bytes × IsFresh l.geometry.layout l.fn.workspace) (λ bytes.
+  cut : ForBytes (λ bytes. IsContents (g.I.Image.device l.fn.image).contents bytes × IsFresh l.geometry.layout l.fn.workspace) (λ bytes.
       FilledTo 0 (cut_at l.geometry.layout bytes) l.workspace.cut.items l.number);
-  said : SaidOf (λ bytes. Tells (g.I.Image.device l.fn.image).told bytes × IsFresh l.geometry.layout l.fn.workspace)
+  said : SaidOf (λ bytes. IsContents (g.I.Image.device l.fn.image).contents bytes × IsFresh l.geometry.layout l.fn.workspace)
       (λ bytes. of_lines (owners_lines l.geometry.layout (claims_of l.workspace) (owners_from l.geometry.layout bytes l.number)))
       (λ bytes. phase1 ∷ of_lines (phase1_lines l.geometry.layout (owners_of l.geometry.layout bytes)))
       (progress g.W.Output.sink l.fn.report) (progress g.W.Output.sink l.report);

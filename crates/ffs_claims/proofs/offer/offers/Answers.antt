@@ -1,9 +1,9 @@
 use Rattle.std.proofs.Common.{arith, refl, ap, ◌+◌, ◌∙◌, List, ℕ}
 use Rattle.std.specs.List.{range_with_len}
 use Rattle.std.proofs.lemmas.Result.{err_from_is_err_and}
-use Rattle.ffs_volume.specs.Claims.{offer_lines, offers_lines, after_offers}
+use Rattle.ffs_volume.specs.Blocks.Claims.{offer_lines, offers_lines, after_offers}
 use Rattle.ffs_workspace.specs.Holds.{claims_of}
-use Rattle.ffs_phase.proofs.Telling.{to_begins, to_says, to_stops}
+use Rattle.ffs_phase.proofs.Reporting.{to_begins, to_says, to_stops}
 use Rattle.ffs_claims.specs.Lines.{of_lines}
 use Rattle.ffs_claims.proofs.Goes.{offers_after, offers_more, to_same, from_start}
 use Rattle.ffs_claims.proofs.offer.offers.Goals as goal

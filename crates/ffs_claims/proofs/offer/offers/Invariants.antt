@@ -2,7 +2,7 @@ use Rattle.std.proofs.Common.{◌≡◌, ◌+◌, ◌≤◌, ◌-◌}
 use Rattle.std.specs.List.{range_with_len}
 use Rattle.ffs_report.specs.Progress.{progress}
 use Rattle.ffs_phase.specs.Runs.{SaidTo}
-use Rattle.ffs_volume.specs.Claims.{after_offers, offers_lines}
+use Rattle.ffs_volume.specs.Blocks.Claims.{after_offers, offers_lines}
 use Rattle.ffs_workspace.specs.Holds.{claims_of}
 use Rattle.ffs_workspace.specs.Lengths.{IsFor}
 use Rattle.ffs_claims.specs.Leaves.{SameWindows, SameFound}

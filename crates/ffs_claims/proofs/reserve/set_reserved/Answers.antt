@@ -1,5 +1,5 @@
 use Rattle.std.proofs.Common.{◌≡◌, ◌-◌, arith, ap, ◌∙◌}
-use Rattle.ffs_volume.specs.Areas.{cgsblock, cgdmin}
+use Rattle.ffs_volume.specs.Disk.Areas.{cgsblock, cgdmin}
 use Rattle.ffs_maps.specs.Bits.{bits_of, set_run}
 use Rattle.ffs_maps.proofs.Bits.{length_bits}
 use Rattle.ffs_claims.proofs.Reserved.{two_runs, group_run, map_is}

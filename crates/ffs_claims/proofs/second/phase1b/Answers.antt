@@ -2,22 +2,22 @@ use Rattle.std.proofs.Common.{◌≡◌, ◌+◌, ◌<◌, ◌∷◌, [], arith,
 use Rattle.std.specs.Prelude.{slice_index}
 use Rattle.std.proofs.lemmas.Result.{err_from_is_err_and}
 use Rattle.ffs_maps.specs.Bits.{bits_of}
-use Rattle.ffs_phase.proofs.Telling.{of_begins, of_says, of_part, of_fault, of_stops, of_same, tells_knows, said_knows}
-use Rattle.ffs_volume.specs.BlockCheck.{Offer, first_offers, owners_kept, phase1b_lines}
-use Rattle.ffs_volume.specs.Claims.{no_claims}
-use Rattle.ffs_volume.specs.Inodes.{inode_of}
-use Rattle.ffs_volume.specs.KeptSteps.{claims_before}
-use Rattle.ffs_volume.specs.Messages.{Message, phase1b}
-use Rattle.ffs_volume.specs.Owners.{owners_of}
-use Rattle.ffs_volume.specs.Steps.{steps_of}
+use Rattle.ffs_phase.proofs.Reporting.{of_begins, of_says, of_part, of_fault, of_stops, of_same, reports_knowing, said_knows}
+use Rattle.ffs_volume.specs.Blocks.BlockCheck.{Offer, first_offers, owners_kept, phase1b_lines}
+use Rattle.ffs_volume.specs.Blocks.Claims.{no_claims}
+use Rattle.ffs_volume.specs.Blocks.Inodes.{inode_of}
+use Rattle.ffs_volume.specs.Blocks.KeptSteps.{claims_before}
+use Rattle.ffs_volume.specs.Messages.Kinds.{Message, phase1b}
+use Rattle.ffs_volume.specs.Blocks.Owners.{owners_of}
+use Rattle.ffs_volume.specs.Blocks.Steps.{steps_of}
 use Rattle.ffs_workspace.specs.Lengths.{inodes_of, set_count}
 use Rattle.ffs_claims.specs.Lines.{of_lines, owners_from}
 use Rattle.ffs_claims.specs.Rescan.{rescan, offers_again}
-use Rattle.ffs_claims.specs.Telling.{after_first}
+use Rattle.ffs_claims.specs.Reporting.{after_first}
 use Rattle.ffs_claims.proofs.Numbers.{is_inside}
-use Rattle.ffs_claims.proofs.Rescanned.{kept_next, kept_end, runs_on, runs_most, claims_hold, told_same, all_lines, all_kept, lines_split}
-use Rattle.ffs_claims.proofs.Rewalks.{telling_over, lines_over}
-use Rattle.ffs_claims.proofs.Tellings.{telling_more, telling_ends, telling_same}
+use Rattle.ffs_claims.proofs.Rescanned.{kept_next, kept_end, runs_on, runs_most, claims_hold, reported_same, all_lines, all_kept, lines_split}
+use Rattle.ffs_claims.proofs.Rewalks.{reporting_over, lines_over}
+use Rattle.ffs_claims.proofs.Reportings.{reporting_more, reporting_ends, reporting_same}
 use Rattle.ffs_claims.proofs.second.phase1b.Goals as goal
 
 pub returns-in_err-say-clause-text : goal.returns-in_err-say-clause-text
@@ -30,12 +30,12 @@ returns-in_err-say-clause-text g c =
 pub loop-number-init : goal.loop-number-init
 loop-number-init g c =
     let v = c.args.geometry.now.layout in
-    let d = bits_of c.args.workspace.now.doubled in
+    let d = bits_of c.args.workspace.now.duplicates in
     record {
       made = record {
         claimed = c.requires.made.claimed;
-        doubled = c.requires.made.doubled;
-        untold = c.requires.made.untold;
+        duplicates = c.requires.made.duplicates;
+        unreported = c.requires.made.unreported;
         kinds = c.requires.made.kinds;
         marked = c.requires.made.marked;
         named = c.requires.made.named;
@@ -55,30 +55,30 @@ loop-number-init g c =
       low = omega arith;
       high = λ h. omega arith;
       runs = λ bytes k. omega arith;
-      told = λ bytes k. telling_same _ _ _ _ _ (told_same c.args.workspace.now _ (owners_kept v (no_claims v) (owners_of v bytes)) refl refl) (sym (all_kept v bytes));
+      told = λ bytes k. reporting_same _ _ _ _ _ (reported_same c.args.workspace.now _ (owners_kept v (no_claims v) (owners_of v bytes)) refl refl) (sym (all_kept v bytes));
       said = of_says _ (λ bytes. phase1b ∷ of_lines (phase1b_lines v (owners_of v bytes))) (λ bytes. of_lines (first_offers d (owners_kept v (claims_before v bytes 2) (owners_from v bytes 2)))) _ (phase1b ∷ []) _ _ _
           (of_begins _ (λ bytes. phase1b ∷ of_lines (phase1b_lines v (owners_of v bytes))) _)
           (λ bytes k. ap (λ (xs : List Message). phase1b ∷ xs) (all_lines v bytes d k.1.dup))
           c.in_ok-say.ensures.said;
     }
 
-pub returns-then-is_told-clause-text : goal.returns-then-is_told-clause-text
-returns-then-is_told-clause-text g c =
+pub returns-then-is_reported-clause-text : goal.returns-then-is_reported-clause-text
+returns-then-is_reported-clause-text g c =
     let v = c.args.geometry.now.layout in
     let inv = c.loop-number.invariant in
-    let none : set_count (bits_of c.loop-number.workspace.doubled) ≡ 0 = sym inv.made.untold ∙ c.is_told.ensures c.if-is_told.true in
+    let none : set_count (bits_of c.loop-number.workspace.duplicates) ≡ 0 = sym inv.made.unreported ∙ c.is_reported.ensures c.if-is_reported.true in
     of_same _ _ (λ bytes. []) _ _ _ inv.said
-    (λ bytes k. lines_over (bits_of c.loop-number.workspace.doubled) (owners_kept v (claims_before v bytes c.loop-number.number) (owners_from v bytes c.loop-number.number)) none)
+    (λ bytes k. lines_over (bits_of c.loop-number.workspace.duplicates) (owners_kept v (claims_before v bytes c.loop-number.number) (owners_from v bytes c.loop-number.number)) none)
 
-pub returns-then-is_told-clause-holds : goal.returns-then-is_told-clause-holds
-returns-then-is_told-clause-holds g c = λ bytes k.
+pub returns-then-is_reported-clause-holds : goal.returns-then-is_reported-clause-holds
+returns-then-is_reported-clause-holds g c = λ bytes k.
     let v = c.args.geometry.now.layout in
     let inv = c.loop-number.invariant in
-    let none : set_count (bits_of c.loop-number.workspace.doubled) ≡ 0 = sym inv.made.untold ∙ c.is_told.ensures c.if-is_told.true in
-    claims_hold v bytes c.args.workspace.now c.loop-number.workspace k.1 inv.claims (telling_over _ _ _ _ none (inv.told bytes k))
+    let none : set_count (bits_of c.loop-number.workspace.duplicates) ≡ 0 = sym inv.made.unreported ∙ c.is_reported.ensures c.if-is_reported.true in
+    claims_hold v bytes c.args.workspace.now c.loop-number.workspace k.1 inv.claims (reporting_over _ _ _ _ none (inv.told bytes k))
 
-pub returns-then-is_told-clause-runs : goal.returns-then-is_told-clause-runs
-returns-then-is_told-clause-runs g c = λ bytes k.
+pub returns-then-is_reported-clause-runs : goal.returns-then-is_reported-clause-runs
+returns-then-is_reported-clause-runs g c = λ bytes k.
     let inv = c.loop-number.invariant in
     omega (arith, inv.runs bytes k, runs_most c.args.geometry.now.layout bytes c.loop-number.number inv.low inv.high)
 
@@ -88,7 +88,7 @@ returns-in_err-renumbered-clause-text g c =
     let v = c.args.geometry.now.layout in
     let inv = c.loop-number.invariant in
     let n = c.loop-number.number in
-    let d = bits_of c.loop-number.workspace.doubled in
+    let d = bits_of c.loop-number.workspace.duplicates in
     let cuts = c.loop-number.workspace.cut.items in
     let lt : n < inodes_of v = omega arith in
     let inside = is_inside v n inv.low lt in
@@ -99,7 +99,7 @@ returns-in_err-renumbered-clause-text g c =
     _ _ _ _ c.in_err-renumbered.field-0.0
     inv.said
     (λ bytes k. lines_split d _ _ _ _ (kept_next v bytes cuts n c.args.geometry.now.sound inv.low lt inside (cut ∙ k.1.cut n)) refl)
-    (tells_knows (Unit {0}) _ _ _ _ _ (Err c.in_err-renumbered.field-0.0) (λ bytes k. ap (λ d. d.told) inv.device ∙ k.0) c.in_err-renumbered.ensures.text))
+    (reports_knowing (Unit {0}) _ _ _ _ _ (Err c.in_err-renumbered.field-0.0) (λ bytes k. ap (λ d. d.contents) inv.device ∙ k.0) c.in_err-renumbered.ensures.text))
 
 pub returns-in_err-renumbered-clause-runs : goal.returns-in_err-renumbered-clause-runs
 returns-in_err-renumbered-clause-runs g c = λ bytes k.
@@ -113,7 +113,7 @@ returns-in_err-renumbered-clause-runs g c = λ bytes k.
     omega (
       arith,
       inv.runs bytes k,
-      c.renumbered.ensures.runs bytes (ap (λ d. d.told) inv.device ∙ k.0),
+      c.renumbered.ensures.runs bytes (ap (λ d. d.contents) inv.device ∙ k.0),
       runs_on v bytes cuts n c.args.geometry.now.sound inv.low inside (cut ∙ k.1.cut n),
       runs_most v bytes (n + 1) (omega arith) (λ h. omega arith),
     )
@@ -123,13 +123,13 @@ loop-number-preserved g c =
     let v = c.args.geometry.now.layout in
     let inv = c.loop-number.invariant in
     let n = c.loop-number.number in
-    let d = bits_of c.loop-number.workspace.doubled in
-    let d' = bits_of c.renumbered.new.workspace.doubled in
+    let d = bits_of c.loop-number.workspace.duplicates in
+    let d' = bits_of c.renumbered.new.workspace.duplicates in
     let cuts = c.loop-number.workspace.cut.items in
     let lt : n < inodes_of v = omega arith in
     let inside = is_inside v n inv.low lt in
     let cut = ap (λ z. slice_index z.items n) inv.claims.cut in
-    let image = ap (λ d. d.told) inv.device in
+    let image = ap (λ d. d.contents) inv.device in
     record {
       made = c.renumbered.ensures.made;
       device = c.in_ok-renumbered.ensures.image ∙ inv.device;
@@ -138,7 +138,7 @@ loop-number-preserved g c =
       low = omega arith;
       high = λ h. omega arith;
       runs = λ bytes k. omega (arith, inv.runs bytes k, c.renumbered.ensures.runs bytes (image ∙ k.0), runs_on v bytes cuts n c.args.geometry.now.sound inv.low inside (cut ∙ k.1.cut n));
-      told = λ bytes k. telling_more _ (offers_again v n (rescan (slice_index cuts n)) (steps_of v (inode_of v bytes n) bytes)) (owners_kept v (claims_before v bytes (n + 1)) (owners_from v bytes (n + 1))) _ _ _ _
+      told = λ bytes k. reporting_more _ (offers_again v n (rescan (slice_index cuts n)) (steps_of v (inode_of v bytes n) bytes)) (owners_kept v (claims_before v bytes (n + 1)) (owners_from v bytes (n + 1))) _ _ _ _
           (inv.told bytes k) (kept_next v bytes cuts n c.args.geometry.now.sound inv.low lt inside (cut ∙ k.1.cut n)) (c.in_ok-renumbered.ensures.told bytes (image ∙ k.0));
       said = of_part _ (λ bytes. of_lines (first_offers d (owners_kept v (claims_before v bytes n) (owners_from v bytes n))))
           (λ bytes. of_lines (first_offers d (offers_again v n (rescan (slice_index cuts n)) (steps_of v (inode_of v bytes n) bytes))))
@@ -152,14 +152,14 @@ returns-after-loop-number-clause-text g c =
     let v = c.args.geometry.now.layout in
     let inv = c.loop-number.invariant in
     of_same _ _ (λ bytes. []) _ _ _ inv.said
-    (λ bytes k. ap (λ (os : List Offer). of_lines (first_offers (bits_of c.loop-number.workspace.doubled) os)) (kept_end v bytes (claims_before v bytes c.loop-number.number) c.loop-number.number (omega arith)))
+    (λ bytes k. ap (λ (os : List Offer). of_lines (first_offers (bits_of c.loop-number.workspace.duplicates) os)) (kept_end v bytes (claims_before v bytes c.loop-number.number) c.loop-number.number (omega arith)))
 
 pub returns-after-loop-number-clause-holds : goal.returns-after-loop-number-clause-holds
 returns-after-loop-number-clause-holds g c = λ bytes k.
     let v = c.args.geometry.now.layout in
     let inv = c.loop-number.invariant in
     claims_hold v bytes c.args.workspace.now c.loop-number.workspace k.1 inv.claims
-    (telling_ends _ _ _ _ (inv.told bytes k) (kept_end v bytes (claims_before v bytes c.loop-number.number) c.loop-number.number (omega arith)))
+    (reporting_ends _ _ _ _ (inv.told bytes k) (kept_end v bytes (claims_before v bytes c.loop-number.number) c.loop-number.number (omega arith)))
 
 pub returns-after-loop-number-clause-runs : goal.returns-after-loop-number-clause-runs
 returns-after-loop-number-clause-runs g c = λ bytes k.

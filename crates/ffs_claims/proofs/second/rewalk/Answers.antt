@@ -1,20 +1,20 @@
 use Rattle.std.proofs.Common.{◌≡◌, ◌∷◌, ◌++◌, replicate, [], arith, refl, ap, ◌∙◌, sym, List, ℕ}
 use Rattle.std.proofs.lemmas.Result.{err_from_is_err_and}
-use Rattle.ffs_volume.specs.BlockCheck.{Offer, first_offers}
-use Rattle.ffs_volume.specs.Steps.{steps_of}
+use Rattle.ffs_volume.specs.Blocks.BlockCheck.{Offer, first_offers}
+use Rattle.ffs_volume.specs.Blocks.Steps.{steps_of}
 use Rattle.ffs_maps.specs.Bits.{bits_of}
 use Rattle.ffs_walk.specs.Rests.{rest}
 use Rattle.ffs_walk.specs.Windows.{BlocksHold}
 use Rattle.ffs_volume.specs.declared.Step.TheVariants.{Gap}
-use Rattle.ffs_phase.specs.Known.{Where, Tells}
-use Rattle.ffs_phase.proofs.Telling.{of_begins, of_says, of_stops, of_reads, of_same}
+use Rattle.ffs_phase.specs.Known.{ForBytes, IsContents}
+use Rattle.ffs_phase.proofs.Reporting.{of_begins, of_says, of_stops, of_reads, of_same}
 use Rattle.ffs_workspace.specs.Lengths.{set_count}
 use Rattle.ffs_claims.specs.declared.rescan.Rescan.{Rescan}
 use Rattle.ffs_claims.specs.Lines.{of_lines}
 use Rattle.ffs_claims.specs.Rescan.{rescan, again, step_offers_again, offers_again, runs_again}
-use Rattle.ffs_claims.specs.Telling.{after_first}
-use Rattle.ffs_claims.proofs.Tellings.{telling_begins, telling_ends, telling_same, told_from, told_to}
-use Rattle.ffs_claims.proofs.Rewalks.{going_first, gaps_offer, gaps_seen, runs_next, offers_none, offers_stopped, telling_on, lines_step, telling_over, lines_over}
+use Rattle.ffs_claims.specs.Reporting.{after_first}
+use Rattle.ffs_claims.proofs.Reportings.{reporting_begins, reporting_ends, reporting_same, reported_from, reported_to}
+use Rattle.ffs_claims.proofs.Rewalks.{going_first, gaps_offer, gaps_seen, runs_next, offers_none, offers_stopped, reporting_on, lines_step, reporting_over, lines_over}
 use Rattle.ffs_claims.proofs.second.rewalk.Goals as goal
 
 pub loop-next-init : goal.loop-next-init
@@ -33,13 +33,13 @@ loop-next-init g c =
       device = refl;
       windows = c.requires.windows;
       claims = record { claimed = refl; kinds = refl; cut = refl };
-      told = λ bytes t. telling_same _ _ _ _ _ (telling_begins (offers_again v n (rescan c.args.cut) (steps_of v c.args.inode.now bytes)) w) (same bytes);
+      told = λ bytes t. reporting_same _ _ _ _ _ (reporting_begins (offers_again v n (rescan c.args.cut) (steps_of v c.args.inode.now bytes)) w) (same bytes);
       runs = λ bytes t.
           let runs : runs_again v c.start-rescan.result (rest bytes c.start-walk.result) ≡ runs_again v (rescan c.args.cut) (steps_of v c.args.inode.now bytes) =
           ap (runs_again v c.start-rescan.result) (c.start-walk.ensures.steps bytes) ∙ ap (λ (x : Rescan). runs_again v x (steps_of v c.args.inode.now bytes)) begun in
           omega (arith, runs);
-      said = of_same _ _ _ _ _ _ (of_begins _ (λ bytes. of_lines (first_offers (bits_of w.doubled) (offers_again v n (rescan c.args.cut) (steps_of v c.args.inode.now bytes)))) _)
-          (λ bytes t. ap (λ (os : List Offer). of_lines (first_offers (bits_of w.doubled) os)) (same bytes));
+      said = of_same _ _ _ _ _ _ (of_begins _ (λ bytes. of_lines (first_offers (bits_of w.duplicates) (offers_again v n (rescan c.args.cut) (steps_of v c.args.inode.now bytes)))) _)
+          (λ bytes t. ap (λ (os : List Offer). of_lines (first_offers (bits_of w.duplicates) os)) (same bytes));
     }
 
 pub returns-in_err-next-clause-text : goal.returns-in_err-next-clause-text
@@ -50,80 +50,80 @@ returns-in_err-next-clause-text g c =
 pub returns-in_err-next-clause-runs : goal.returns-in_err-next-clause-runs
 returns-in_err-next-clause-runs g c = λ bytes t. omega (arith, c.loop-next.invariant.runs bytes t)
 
-pub returns-in_err-retell-clause-text : goal.returns-in_err-retell-clause-text
-returns-in_err-retell-clause-text g c =
-    let p = err_from_is_err_and c.from_residual-in_err-retell.result c.from_residual-in_err-retell.ensures.1 in
+pub returns-in_err-report_again-clause-text : goal.returns-in_err-report_again-clause-text
+returns-in_err-report_again-clause-text g c =
+    let p = err_from_is_err_and c.from_residual-in_err-report_again.result c.from_residual-in_err-report_again.ensures.1 in
     let inv = c.loop-next.invariant in
     let v = c.args.geometry.now.layout in
     let n = c.args.number in
-    let d = bits_of c.loop-next.workspace.doubled in
+    let d = bits_of c.loop-next.workspace.duplicates in
     let r = c.loop-next.rescan in
     let step = c.in-Some.next in
-    let next : Where (Tells (g.I.Image.device c.args.image.now).told) (λ bytes. rest bytes c.loop-next.walk ≡ c.in-Some.next ∷ rest bytes c.next.new.self) =
+    let next : ForBytes (IsContents (g.I.Image.device c.args.image.now).contents) (λ bytes. rest bytes c.loop-next.walk ≡ c.in-Some.next ∷ rest bytes c.next.new.self) =
     rw (inv.device, c.in-Some.is) at c.in_ok-next.ensures.steps in
     rw (p.1, p.2) (of_stops _ _ (λ bytes. of_lines (first_offers (after_first d (step_offers_again v n r step)) (offers_again v n (again v r step) (rest bytes c.next.new.self)))) _
     (of_lines (first_offers d (step_offers_again v n r step))) _ _ _ inv.said
     (λ bytes t. lines_step v n r (again v r step) step (rest bytes c.loop-next.walk) (rest bytes c.next.new.self) d (after_first d (step_offers_again v n r step)) (next bytes t) refl refl)
-    c.in_err-retell.ensures.said)
+    c.in_err-report_again.ensures.said)
 
-pub returns-in_err-retell-clause-runs : goal.returns-in_err-retell-clause-runs
-returns-in_err-retell-clause-runs g c =
+pub returns-in_err-report_again-clause-runs : goal.returns-in_err-report_again-clause-runs
+returns-in_err-report_again-clause-runs g c =
     let inv = c.loop-next.invariant in
     let v = c.args.geometry.now.layout in
     let r = c.loop-next.rescan in
     let step = c.in-Some.next in
-    let next : Where (Tells (g.I.Image.device c.args.image.now).told) (λ bytes. rest bytes c.loop-next.walk ≡ c.in-Some.next ∷ rest bytes c.next.new.self) =
+    let next : ForBytes (IsContents (g.I.Image.device c.args.image.now).contents) (λ bytes. rest bytes c.loop-next.walk ≡ c.in-Some.next ∷ rest bytes c.next.new.self) =
     rw (inv.device, c.in-Some.is) at c.in_ok-next.ensures.steps in
-    λ bytes t. omega (arith, inv.runs bytes t, c.retell.ensures.runs, runs_next v r (again v r step) step (rest bytes c.loop-next.walk) (rest bytes c.next.new.self) (next bytes t) refl)
+    λ bytes t. omega (arith, inv.runs bytes t, c.report_again.ensures.runs, runs_next v r (again v r step) step (rest bytes c.loop-next.walk) (rest bytes c.next.new.self) (next bytes t) refl)
 
 pub skip_gaps-requires : goal.skip_gaps-requires
 skip_gaps-requires g c =
     let inv = c.loop-next.invariant in
-    record { room = record { blocks_fit = rw (c.in_ok-next.ensures.geometry ∙ inv.geometry, c.retell.ensures.made.blocks) (omega arith) } }
+    record { room = record { blocks_fit = rw (c.in_ok-next.ensures.geometry ∙ inv.geometry, c.report_again.ensures.made.blocks) (omega arith) } }
 
 pub loop-next-preserved : goal.loop-next-preserved
 loop-next-preserved g c =
     let inv = c.loop-next.invariant in
     let v = c.args.geometry.now.layout in
     let n = c.args.number in
-    let d = bits_of c.loop-next.workspace.doubled in
-    let d' = bits_of c.retell.new.workspace.doubled in
+    let d = bits_of c.loop-next.workspace.duplicates in
+    let d' = bits_of c.report_again.new.workspace.duplicates in
     let r = c.loop-next.rescan in
-    let r' = c.retell.new.rescan in
+    let r' = c.report_again.new.rescan in
     let step = c.in-Some.next in
-    let now = c.in_ok-retell.ensures.again in
-    let next : Where (Tells (g.I.Image.device c.args.image.now).told) (λ bytes. rest bytes c.loop-next.walk ≡ c.in-Some.next ∷ rest bytes c.next.new.self) =
+    let now = c.in_ok-report_again.ensures.again in
+    let next : ForBytes (IsContents (g.I.Image.device c.args.image.now).contents) (λ bytes. rest bytes c.loop-next.walk ≡ c.in-Some.next ∷ rest bytes c.next.new.self) =
     rw (inv.device, c.in-Some.is) at c.in_ok-next.ensures.steps in
-    let blocks : BlocksHold v (g.I.Image.device c.args.image.now).told c.retell.new.workspace.windows.blocks =
-    rw c.retell.ensures.windows (rw (inv.geometry, c.in_ok-next.ensures.ok, inv.device) at c.in_ok-next.ensures.holds) in
-    let gaps : Where (Tells (g.I.Image.device c.args.image.now).told) (λ bytes. rest bytes c.next.new.self ≡ replicate c.skip_gaps.result Gap ++ rest bytes c.skip_gaps.new.self) =
-    c.skip_gaps.ensures.steps (g.I.Image.device c.args.image.now).told (rw (c.in_ok-next.ensures.geometry ∙ inv.geometry) blocks) in
-    let offers : Where (Tells (g.I.Image.device c.args.image.now).told) (λ bytes. offers_again v n r' (rest bytes c.next.new.self) ≡ offers_again v n r' (rest bytes c.skip_gaps.new.self)) =
+    let blocks : BlocksHold v (g.I.Image.device c.args.image.now).contents c.report_again.new.workspace.windows.blocks =
+    rw c.report_again.ensures.windows (rw (inv.geometry, c.in_ok-next.ensures.ok, inv.device) at c.in_ok-next.ensures.holds) in
+    let gaps : ForBytes (IsContents (g.I.Image.device c.args.image.now).contents) (λ bytes. rest bytes c.next.new.self ≡ replicate c.skip_gaps.result Gap ++ rest bytes c.skip_gaps.new.self) =
+    c.skip_gaps.ensures.steps (g.I.Image.device c.args.image.now).contents (rw (c.in_ok-next.ensures.geometry ∙ inv.geometry) blocks) in
+    let offers : ForBytes (IsContents (g.I.Image.device c.args.image.now).contents) (λ bytes. offers_again v n r' (rest bytes c.next.new.self) ≡ offers_again v n r' (rest bytes c.skip_gaps.new.self)) =
     λ bytes t. ap (offers_again v n r') (gaps bytes t) ∙ gaps_offer v n r' c.skip_gaps.result (rest bytes c.skip_gaps.new.self) in
     record {
-      made = c.retell.ensures.made;
+      made = c.report_again.ensures.made;
       going = sym c.is_going.ensures ∙ c.if-not-is_going.false;
       geometry = c.skip_gaps.ensures.geometry ∙ c.in_ok-next.ensures.geometry ∙ inv.geometry;
       device = c.in_ok-next.ensures.ok ∙ inv.device;
       windows = record {
-        table = rw c.retell.ensures.windows inv.windows.table;
+        table = rw c.report_again.ensures.windows inv.windows.table;
         blocks = blocks;
-        chunk = rw c.retell.ensures.windows inv.windows.chunk;
+        chunk = rw c.report_again.ensures.windows inv.windows.chunk;
       };
-      claims = record { claimed = c.retell.ensures.claims.claimed ∙ inv.claims.claimed; kinds = c.retell.ensures.claims.kinds ∙ inv.claims.kinds; cut = c.retell.ensures.claims.cut ∙ inv.claims.cut };
-      told = λ bytes t. telling_same _ _ _ _ _ (telling_on v n r r' step (rest bytes c.loop-next.walk) (rest bytes c.next.new.self) _ _ c.loop-next.workspace c.retell.new.workspace
-          (next bytes t) now (inv.told bytes t) (told_from _ c.loop-next.workspace _ c.retell.new.workspace c.in_ok-retell.ensures.told refl refl)) (offers bytes t);
+      claims = record { claimed = c.report_again.ensures.claims.claimed ∙ inv.claims.claimed; kinds = c.report_again.ensures.claims.kinds ∙ inv.claims.kinds; cut = c.report_again.ensures.claims.cut ∙ inv.claims.cut };
+      told = λ bytes t. reporting_same _ _ _ _ _ (reporting_on v n r r' step (rest bytes c.loop-next.walk) (rest bytes c.next.new.self) _ _ c.loop-next.workspace c.report_again.new.workspace
+          (next bytes t) now (inv.told bytes t) (reported_from _ c.loop-next.workspace _ c.report_again.new.workspace c.in_ok-report_again.ensures.told refl refl)) (offers bytes t);
       runs = λ bytes t. omega (
         arith,
         inv.runs bytes t,
-        c.retell.ensures.runs,
+        c.report_again.ensures.runs,
         runs_next v r r' step (rest bytes c.loop-next.walk) (rest bytes c.next.new.self) (next bytes t) now,
         ap (runs_again v r') (gaps bytes t) ∙ gaps_seen v r' c.skip_gaps.result (rest bytes c.skip_gaps.new.self),
       );
       said = of_same _ _ _ _ _ _ (of_says _ _ (λ bytes. of_lines (first_offers d' (offers_again v n r' (rest bytes c.next.new.self)))) _
           (of_lines (first_offers d (step_offers_again v n r step))) _ _ _ inv.said
-          (λ bytes t. lines_step v n r r' step (rest bytes c.loop-next.walk) (rest bytes c.next.new.self) d d' (next bytes t) now c.in_ok-retell.ensures.told.dup)
-          c.in_ok-retell.ensures.said)
+          (λ bytes t. lines_step v n r r' step (rest bytes c.loop-next.walk) (rest bytes c.next.new.self) d d' (next bytes t) now c.in_ok-report_again.ensures.told.dup)
+          c.in_ok-report_again.ensures.said)
           (λ bytes t. ap (λ (os : List Offer). of_lines (first_offers d' os)) (offers bytes t));
     }
 
@@ -132,18 +132,18 @@ returns-then-not-is_going-clause-text g c =
     let inv = c.loop-next.invariant in
     let v = c.args.geometry.now.layout in
     let n = c.args.number in
-    let d = bits_of c.loop-next.workspace.doubled in
-    let d' = bits_of c.retell.new.workspace.doubled in
+    let d = bits_of c.loop-next.workspace.duplicates in
+    let d' = bits_of c.report_again.new.workspace.duplicates in
     let r = c.loop-next.rescan in
-    let r' = c.retell.new.rescan in
+    let r' = c.report_again.new.rescan in
     let step = c.in-Some.next in
-    let next : Where (Tells (g.I.Image.device c.args.image.now).told) (λ bytes. rest bytes c.loop-next.walk ≡ c.in-Some.next ∷ rest bytes c.next.new.self) =
+    let next : ForBytes (IsContents (g.I.Image.device c.args.image.now).contents) (λ bytes. rest bytes c.loop-next.walk ≡ c.in-Some.next ∷ rest bytes c.next.new.self) =
     rw (inv.device, c.in-Some.is) at c.in_ok-next.ensures.steps in
     of_same _ _ _ _ _ _
     (of_says _ _ (λ bytes. of_lines (first_offers d' (offers_again v n r' (rest bytes c.next.new.self)))) _
     (of_lines (first_offers d (step_offers_again v n r step))) _ _ _ inv.said
-    (λ bytes t. lines_step v n r r' step (rest bytes c.loop-next.walk) (rest bytes c.next.new.self) d d' (next bytes t) c.in_ok-retell.ensures.again c.in_ok-retell.ensures.told.dup)
-    c.in_ok-retell.ensures.said)
+    (λ bytes t. lines_step v n r r' step (rest bytes c.loop-next.walk) (rest bytes c.next.new.self) d d' (next bytes t) c.in_ok-report_again.ensures.again c.in_ok-report_again.ensures.told.dup)
+    c.in_ok-report_again.ensures.said)
     (λ bytes t. ap (λ (os : List Offer). of_lines (first_offers d' os)) (offers_stopped v n r' (rest bytes c.next.new.self) (sym c.is_going.ensures ∙ c.if-not-is_going.true)))
 
 pub returns-then-not-is_going-clause-told : goal.returns-then-not-is_going-clause-told
@@ -152,13 +152,13 @@ returns-then-not-is_going-clause-told g c =
     let v = c.args.geometry.now.layout in
     let n = c.args.number in
     let r = c.loop-next.rescan in
-    let r' = c.retell.new.rescan in
+    let r' = c.report_again.new.rescan in
     let step = c.in-Some.next in
-    let next : Where (Tells (g.I.Image.device c.args.image.now).told) (λ bytes. rest bytes c.loop-next.walk ≡ c.in-Some.next ∷ rest bytes c.next.new.self) =
+    let next : ForBytes (IsContents (g.I.Image.device c.args.image.now).contents) (λ bytes. rest bytes c.loop-next.walk ≡ c.in-Some.next ∷ rest bytes c.next.new.self) =
     rw (inv.device, c.in-Some.is) at c.in_ok-next.ensures.steps in
-    λ bytes t. telling_ends _ _ _ _
-    (telling_on v n r r' step (rest bytes c.loop-next.walk) (rest bytes c.next.new.self) _ _ c.loop-next.workspace c.retell.new.workspace
-    (next bytes t) c.in_ok-retell.ensures.again (inv.told bytes t) (told_from _ c.loop-next.workspace _ c.retell.new.workspace c.in_ok-retell.ensures.told refl refl))
+    λ bytes t. reporting_ends _ _ _ _
+    (reporting_on v n r r' step (rest bytes c.loop-next.walk) (rest bytes c.next.new.self) _ _ c.loop-next.workspace c.report_again.new.workspace
+    (next bytes t) c.in_ok-report_again.ensures.again (inv.told bytes t) (reported_from _ c.loop-next.workspace _ c.report_again.new.workspace c.in_ok-report_again.ensures.told refl refl))
     (offers_stopped v n r' (rest bytes c.next.new.self) (sym c.is_going.ensures ∙ c.if-not-is_going.true))
 
 pub returns-then-not-is_going-clause-runs : goal.returns-then-not-is_going-clause-runs
@@ -167,98 +167,98 @@ returns-then-not-is_going-clause-runs g c =
     let v = c.args.geometry.now.layout in
     let r = c.loop-next.rescan in
     let step = c.in-Some.next in
-    let next : Where (Tells (g.I.Image.device c.args.image.now).told) (λ bytes. rest bytes c.loop-next.walk ≡ c.in-Some.next ∷ rest bytes c.next.new.self) =
+    let next : ForBytes (IsContents (g.I.Image.device c.args.image.now).contents) (λ bytes. rest bytes c.loop-next.walk ≡ c.in-Some.next ∷ rest bytes c.next.new.self) =
     rw (inv.device, c.in-Some.is) at c.in_ok-next.ensures.steps in
-    λ bytes t. omega (arith, inv.runs bytes t, c.retell.ensures.runs, runs_next v r (again v r step) step (rest bytes c.loop-next.walk) (rest bytes c.next.new.self) (next bytes t) refl)
+    λ bytes t. omega (arith, inv.runs bytes t, c.report_again.ensures.runs, runs_next v r (again v r step) step (rest bytes c.loop-next.walk) (rest bytes c.next.new.self) (next bytes t) refl)
 
-pub returns-then-is_told-clause-text : goal.returns-then-is_told-clause-text
-returns-then-is_told-clause-text g c =
+pub returns-then-is_reported-clause-text : goal.returns-then-is_reported-clause-text
+returns-then-is_reported-clause-text g c =
     let inv = c.loop-next.invariant in
     let v = c.args.geometry.now.layout in
     let n = c.args.number in
-    let d = bits_of c.loop-next.workspace.doubled in
-    let d' = bits_of c.retell.new.workspace.doubled in
+    let d = bits_of c.loop-next.workspace.duplicates in
+    let d' = bits_of c.report_again.new.workspace.duplicates in
     let r = c.loop-next.rescan in
-    let r' = c.retell.new.rescan in
+    let r' = c.report_again.new.rescan in
     let step = c.in-Some.next in
-    let none : set_count (bits_of c.retell.new.workspace.doubled) ≡ 0 = sym c.retell.ensures.made.untold ∙ c.is_told.ensures c.if-is_told.true in
-    let next : Where (Tells (g.I.Image.device c.args.image.now).told) (λ bytes. rest bytes c.loop-next.walk ≡ c.in-Some.next ∷ rest bytes c.next.new.self) =
+    let none : set_count (bits_of c.report_again.new.workspace.duplicates) ≡ 0 = sym c.report_again.ensures.made.unreported ∙ c.is_reported.ensures c.if-is_reported.true in
+    let next : ForBytes (IsContents (g.I.Image.device c.args.image.now).contents) (λ bytes. rest bytes c.loop-next.walk ≡ c.in-Some.next ∷ rest bytes c.next.new.self) =
     rw (inv.device, c.in-Some.is) at c.in_ok-next.ensures.steps in
     of_same _ _ _ _ _ _
     (of_says _ _ (λ bytes. of_lines (first_offers d' (offers_again v n r' (rest bytes c.next.new.self)))) _
     (of_lines (first_offers d (step_offers_again v n r step))) _ _ _ inv.said
-    (λ bytes t. lines_step v n r r' step (rest bytes c.loop-next.walk) (rest bytes c.next.new.self) d d' (next bytes t) c.in_ok-retell.ensures.again c.in_ok-retell.ensures.told.dup)
-    c.in_ok-retell.ensures.said)
+    (λ bytes t. lines_step v n r r' step (rest bytes c.loop-next.walk) (rest bytes c.next.new.self) d d' (next bytes t) c.in_ok-report_again.ensures.again c.in_ok-report_again.ensures.told.dup)
+    c.in_ok-report_again.ensures.said)
     (λ bytes t. lines_over d' (offers_again v n r' (rest bytes c.next.new.self)) none)
 
-pub returns-then-is_told-clause-told : goal.returns-then-is_told-clause-told
-returns-then-is_told-clause-told g c =
+pub returns-then-is_reported-clause-told : goal.returns-then-is_reported-clause-told
+returns-then-is_reported-clause-told g c =
     let inv = c.loop-next.invariant in
     let v = c.args.geometry.now.layout in
     let n = c.args.number in
     let r = c.loop-next.rescan in
-    let r' = c.retell.new.rescan in
+    let r' = c.report_again.new.rescan in
     let step = c.in-Some.next in
-    let none : set_count (bits_of c.retell.new.workspace.doubled) ≡ 0 = sym c.retell.ensures.made.untold ∙ c.is_told.ensures c.if-is_told.true in
-    let next : Where (Tells (g.I.Image.device c.args.image.now).told) (λ bytes. rest bytes c.loop-next.walk ≡ c.in-Some.next ∷ rest bytes c.next.new.self) =
+    let none : set_count (bits_of c.report_again.new.workspace.duplicates) ≡ 0 = sym c.report_again.ensures.made.unreported ∙ c.is_reported.ensures c.if-is_reported.true in
+    let next : ForBytes (IsContents (g.I.Image.device c.args.image.now).contents) (λ bytes. rest bytes c.loop-next.walk ≡ c.in-Some.next ∷ rest bytes c.next.new.self) =
     rw (inv.device, c.in-Some.is) at c.in_ok-next.ensures.steps in
-    λ bytes t. telling_over _ _ _ _ none
-    (telling_on v n r r' step (rest bytes c.loop-next.walk) (rest bytes c.next.new.self) _ _ c.loop-next.workspace c.retell.new.workspace
-    (next bytes t) c.in_ok-retell.ensures.again (inv.told bytes t) (told_from _ c.loop-next.workspace _ c.retell.new.workspace c.in_ok-retell.ensures.told refl refl))
+    λ bytes t. reporting_over _ _ _ _ none
+    (reporting_on v n r r' step (rest bytes c.loop-next.walk) (rest bytes c.next.new.self) _ _ c.loop-next.workspace c.report_again.new.workspace
+    (next bytes t) c.in_ok-report_again.ensures.again (inv.told bytes t) (reported_from _ c.loop-next.workspace _ c.report_again.new.workspace c.in_ok-report_again.ensures.told refl refl))
 
-pub returns-then-is_told-clause-runs : goal.returns-then-is_told-clause-runs
-returns-then-is_told-clause-runs g c =
+pub returns-then-is_reported-clause-runs : goal.returns-then-is_reported-clause-runs
+returns-then-is_reported-clause-runs g c =
     let inv = c.loop-next.invariant in
     let v = c.args.geometry.now.layout in
     let r = c.loop-next.rescan in
     let step = c.in-Some.next in
-    let next : Where (Tells (g.I.Image.device c.args.image.now).told) (λ bytes. rest bytes c.loop-next.walk ≡ c.in-Some.next ∷ rest bytes c.next.new.self) =
+    let next : ForBytes (IsContents (g.I.Image.device c.args.image.now).contents) (λ bytes. rest bytes c.loop-next.walk ≡ c.in-Some.next ∷ rest bytes c.next.new.self) =
     rw (inv.device, c.in-Some.is) at c.in_ok-next.ensures.steps in
-    λ bytes t. omega (arith, inv.runs bytes t, c.retell.ensures.runs, runs_next v r (again v r step) step (rest bytes c.loop-next.walk) (rest bytes c.next.new.self) (next bytes t) refl)
+    λ bytes t. omega (arith, inv.runs bytes t, c.report_again.ensures.runs, runs_next v r (again v r step) step (rest bytes c.loop-next.walk) (rest bytes c.next.new.self) (next bytes t) refl)
 
 pub returns-in_default-clause-text : goal.returns-in_default-clause-text
 returns-in_default-clause-text g c =
     let inv = c.loop-next.invariant in
-    let over : Where (Tells (g.I.Image.device c.args.image.now).told) (λ bytes. rest bytes c.loop-next.walk ≡ []) =
+    let over : ForBytes (IsContents (g.I.Image.device c.args.image.now).contents) (λ bytes. rest bytes c.loop-next.walk ≡ []) =
     rw (inv.device, c.in_default.is) at c.in_ok-next.ensures.steps in
     of_same _ _ _ _ _ _ inv.said
-    (λ bytes t. ap (λ (os : List Offer). of_lines (first_offers (bits_of c.loop-next.workspace.doubled) os)) (offers_none c.args.geometry.now.layout c.args.number c.loop-next.rescan (rest bytes c.loop-next.walk) (over bytes t)))
+    (λ bytes t. ap (λ (os : List Offer). of_lines (first_offers (bits_of c.loop-next.workspace.duplicates) os)) (offers_none c.args.geometry.now.layout c.args.number c.loop-next.rescan (rest bytes c.loop-next.walk) (over bytes t)))
 
 pub returns-in_default-clause-told : goal.returns-in_default-clause-told
 returns-in_default-clause-told g c =
     let inv = c.loop-next.invariant in
-    let over : Where (Tells (g.I.Image.device c.args.image.now).told) (λ bytes. rest bytes c.loop-next.walk ≡ []) =
+    let over : ForBytes (IsContents (g.I.Image.device c.args.image.now).contents) (λ bytes. rest bytes c.loop-next.walk ≡ []) =
     rw (inv.device, c.in_default.is) at c.in_ok-next.ensures.steps in
-    λ bytes t. told_to _ _ c.loop-next.workspace _ (telling_ends _ _ _ _ (inv.told bytes t) (offers_none c.args.geometry.now.layout c.args.number c.loop-next.rescan (rest bytes c.loop-next.walk) (over bytes t))) refl refl
+    λ bytes t. reported_to _ _ c.loop-next.workspace _ (reporting_ends _ _ _ _ (inv.told bytes t) (offers_none c.args.geometry.now.layout c.args.number c.loop-next.rescan (rest bytes c.loop-next.walk) (over bytes t))) refl refl
 
 pub returns-in_default-clause-runs : goal.returns-in_default-clause-runs
 returns-in_default-clause-runs g c = λ bytes t. omega (arith, c.loop-next.invariant.runs bytes t)
 
-pub returns-in_err-retell-clause-windows : goal.returns-in_err-retell-clause-windows
-returns-in_err-retell-clause-windows g c =
+pub returns-in_err-report_again-clause-windows : goal.returns-in_err-report_again-clause-windows
+returns-in_err-report_again-clause-windows g c =
     let inv = c.loop-next.invariant in
     rw (c.in_ok-next.ensures.ok, inv.device) (record {
-      table = rw c.retell.ensures.windows inv.windows.table;
-      blocks = rw c.retell.ensures.windows (rw (inv.geometry, c.in_ok-next.ensures.ok, inv.device) at c.in_ok-next.ensures.holds);
-      chunk = rw c.retell.ensures.windows inv.windows.chunk;
+      table = rw c.report_again.ensures.windows inv.windows.table;
+      blocks = rw c.report_again.ensures.windows (rw (inv.geometry, c.in_ok-next.ensures.ok, inv.device) at c.in_ok-next.ensures.holds);
+      chunk = rw c.report_again.ensures.windows inv.windows.chunk;
     })
 
 pub returns-then-not-is_going-clause-windows : goal.returns-then-not-is_going-clause-windows
 returns-then-not-is_going-clause-windows g c =
     let inv = c.loop-next.invariant in
     rw (c.in_ok-next.ensures.ok, inv.device) (record {
-      table = rw c.retell.ensures.windows inv.windows.table;
-      blocks = rw c.retell.ensures.windows (rw (inv.geometry, c.in_ok-next.ensures.ok, inv.device) at c.in_ok-next.ensures.holds);
-      chunk = rw c.retell.ensures.windows inv.windows.chunk;
+      table = rw c.report_again.ensures.windows inv.windows.table;
+      blocks = rw c.report_again.ensures.windows (rw (inv.geometry, c.in_ok-next.ensures.ok, inv.device) at c.in_ok-next.ensures.holds);
+      chunk = rw c.report_again.ensures.windows inv.windows.chunk;
     })
 
-pub returns-then-is_told-clause-windows : goal.returns-then-is_told-clause-windows
-returns-then-is_told-clause-windows g c =
+pub returns-then-is_reported-clause-windows : goal.returns-then-is_reported-clause-windows
+returns-then-is_reported-clause-windows g c =
     let inv = c.loop-next.invariant in
     rw (c.in_ok-next.ensures.ok, inv.device) (record {
-      table = rw c.retell.ensures.windows inv.windows.table;
-      blocks = rw c.retell.ensures.windows (rw (inv.geometry, c.in_ok-next.ensures.ok, inv.device) at c.in_ok-next.ensures.holds);
-      chunk = rw c.retell.ensures.windows inv.windows.chunk;
+      table = rw c.report_again.ensures.windows inv.windows.table;
+      blocks = rw c.report_again.ensures.windows (rw (inv.geometry, c.in_ok-next.ensures.ok, inv.device) at c.in_ok-next.ensures.holds);
+      chunk = rw c.report_again.ensures.windows inv.windows.chunk;
     })
 
 pub returns-in_default-clause-windows : goal.returns-in_default-clause-windows

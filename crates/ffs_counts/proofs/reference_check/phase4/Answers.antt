@@ -1,9 +1,9 @@
 use Rattle.std.proofs.Common.{arith, rules, refl, ap, ◌∙◌, ◌∷◌, [], List, ◌+◌, ◌-◌, map, Err}
 use Rattle.std.proofs.lemmas.Result.{err_from_is_err_and}
-use Rattle.ffs_volume.specs.Messages.{Message, of_names, phase4, lines_from}
-use Rattle.ffs_volume.specs.ReferenceCheck.{counted_lines, reference_lines}
-use Rattle.ffs_volume.specs.Volumes.{volume_of}
-use Rattle.ffs_phase.proofs.Telling.{of_begins, of_says, of_stops, of_same, of_part, of_fault, said_knows, tells_knows}
+use Rattle.ffs_volume.specs.Messages.Kinds.{Message, of_names, phase4, lines_from}
+use Rattle.ffs_volume.specs.Directories.ReferenceCheck.{counted_lines, reference_lines}
+use Rattle.ffs_volume.specs.Directories.Volumes.{volume_of}
+use Rattle.ffs_phase.proofs.Reporting.{of_begins, of_says, of_stops, of_same, of_part, of_fault, said_knows, reports_knowing}
 use Rattle.ffs_workspace.specs.Lengths.{inodes_of}
 use Rattle.ffs_workspace.proofs.Leaving.{claims_held, survey_held}
 use Rattle.ffs_counts.proofs.Holding.{held_on, lines_begin}
@@ -31,30 +31,30 @@ loop-number-init g c =
           c.in_ok-say.ensures.said;
     }
 
-pub returns-in_err-numbered-clause-text : goal.returns-in_err-numbered-clause-text
-returns-in_err-numbered-clause-text g c =
-    let p = err_from_is_err_and c.from_residual-in_err-numbered.result c.from_residual-in_err-numbered.ensures.1 in
+pub returns-in_err-check_inode-clause-text : goal.returns-in_err-check_inode-clause-text
+returns-in_err-check_inode-clause-text g c =
+    let p = err_from_is_err_and c.from_residual-in_err-check_inode.result c.from_residual-in_err-check_inode.ensures.1 in
     let v = c.args.geometry.now.layout in
     let inv = c.loop-number.invariant in
     let n = c.loop-number.number in
-    rw (p.1, p.2) (of_fault (Unit {0}) (Unit {0}) _ (λ bytes. map of_names (lines_from (counted_lines (volume_of v bytes)) n (inodes_of v - n))) (λ bytes. map of_names (counted_lines (volume_of v bytes) n)) (λ bytes. map of_names (lines_from (counted_lines (volume_of v bytes)) (n + 1) (inodes_of v - (n + 1)))) _ _ _ _ c.in_err-numbered.field-0.0
+    rw (p.1, p.2) (of_fault (Unit {0}) (Unit {0}) _ (λ bytes. map of_names (lines_from (counted_lines (volume_of v bytes)) n (inodes_of v - n))) (λ bytes. map of_names (counted_lines (volume_of v bytes) n)) (λ bytes. map of_names (lines_from (counted_lines (volume_of v bytes)) (n + 1) (inodes_of v - (n + 1)))) _ _ _ _ c.in_err-check_inode.field-0.0
     inv.said (λ bytes k. from_next (counted_lines (volume_of v bytes)) n (inodes_of v) (omega (arith, c.loop-number-test.true)))
-    (tells_knows (Unit {0}) _ _ _ _ _ (Err c.in_err-numbered.field-0.0) (λ bytes k. (ap (λ d. d.told) inv.device ∙ k.0, claims_held v bytes _ _ inv.held k.1, survey_held v bytes _ _ inv.held k.2)) c.in_err-numbered.ensures.text))
+    (reports_knowing (Unit {0}) _ _ _ _ _ (Err c.in_err-check_inode.field-0.0) (λ bytes k. (ap (λ d. d.contents) inv.device ∙ k.0, claims_held v bytes _ _ inv.held k.1, survey_held v bytes _ _ inv.held k.2)) c.in_err-check_inode.ensures.text))
 
 pub loop-number-preserved : goal.loop-number-preserved
 loop-number-preserved g c =
     let v = c.args.geometry.now.layout in
     let inv = c.loop-number.invariant in
     let n = c.loop-number.number in
-    let ok = c.in_ok-numbered.ensures in
+    let ok = c.in_ok-check_inode.ensures in
     record {
       made = ok.made;
       device = search rules;
       windows = search rules;
-      held = held_on c.args.workspace.now c.loop-number.workspace c.numbered.new.workspace inv.held ok.held;
+      held = held_on c.args.workspace.now c.loop-number.workspace c.check_inode.new.workspace inv.held ok.held;
       said = of_part _ (λ bytes. map of_names (lines_from (counted_lines (volume_of v bytes)) n (inodes_of v - n))) (λ bytes. map of_names (counted_lines (volume_of v bytes) n)) (λ bytes. map of_names (lines_from (counted_lines (volume_of v bytes)) (n + 1) (inodes_of v - (n + 1)))) _ _ _ _ inv.said
           (λ bytes k. from_next (counted_lines (volume_of v bytes)) n (inodes_of v) (omega (arith, c.loop-number-test.true)))
-          (said_knows _ _ _ _ _ _ (λ bytes k. (ap (λ d. d.told) inv.device ∙ k.0, claims_held v bytes _ _ inv.held k.1, survey_held v bytes _ _ inv.held k.2)) ok.text);
+          (said_knows _ _ _ _ _ _ (λ bytes k. (ap (λ d. d.contents) inv.device ∙ k.0, claims_held v bytes _ _ inv.held k.1, survey_held v bytes _ _ inv.held k.2)) ok.text);
     }
 
 pub returns-clause-text : goal.returns-clause-text

@@ -1,10 +1,10 @@
 use Rattle.std.proofs.Common.{◌≡◌, ◌-◌, ◌∷◌, map}
 use Rattle.ffs_report.specs.Progress.{progress}
-use Rattle.ffs_phase.specs.Known.{Tells}
+use Rattle.ffs_phase.specs.Known.{IsContents}
 use Rattle.ffs_phase.specs.Runs.{SaidOf}
-use Rattle.ffs_volume.specs.ReferenceCheck.{counted_lines, reference_lines}
-use Rattle.ffs_volume.specs.Messages.{of_names, phase4, lines_from}
-use Rattle.ffs_volume.specs.Volumes.{volume_of}
+use Rattle.ffs_volume.specs.Directories.ReferenceCheck.{counted_lines, reference_lines}
+use Rattle.ffs_volume.specs.Messages.Kinds.{of_names, phase4, lines_from}
+use Rattle.ffs_volume.specs.Directories.Volumes.{volume_of}
 use Rattle.ffs_workspace.specs.Holds.{HoldsClaims, HoldsSurvey}
 use Rattle.ffs_workspace.specs.Lengths.{IsFor, HoldWindows, inodes_of}
 use Rattle.ffs_counts.proofs.reference_check.phase4.Given as goal
@@ -13,9 +13,9 @@ abbrev pub invariant-loop-number : goal.invariant-loop-number
 invariant-loop-number g l = record {
   made : IsFor l.geometry.layout l.workspace;
   device : g.I.Image.device l.image ≡ g.I.Image.device l.fn.image;
-  windows : HoldWindows l.geometry.layout (g.I.Image.device l.fn.image).told l.workspace;
+  windows : HoldWindows l.geometry.layout (g.I.Image.device l.fn.image).contents l.workspace;
   held : l.workspace ≡ record l.fn.workspace { windows = l.workspace.windows };
-  said : SaidOf (λ bytes. Tells (g.I.Image.device l.fn.image).told bytes × HoldsClaims l.geometry.layout bytes l.fn.workspace × HoldsSurvey l.geometry.layout bytes l.fn.workspace)
+  said : SaidOf (λ bytes. IsContents (g.I.Image.device l.fn.image).contents bytes × HoldsClaims l.geometry.layout bytes l.fn.workspace × HoldsSurvey l.geometry.layout bytes l.fn.workspace)
       (λ bytes. map of_names (lines_from (counted_lines (volume_of l.geometry.layout bytes)) l.number (inodes_of l.geometry.layout - l.number)))
       (λ bytes. phase4 ∷ map of_names (reference_lines (volume_of l.geometry.layout bytes)))
       (progress g.W.Output.sink l.fn.report) (progress g.W.Output.sink l.report);

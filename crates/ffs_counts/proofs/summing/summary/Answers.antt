@@ -1,11 +1,11 @@
 use Rattle.std.proofs.Common.{rules, arith, ap, sym, ◌∙◌, ◌∷◌, [], length, slice_index}
 use Rattle.std.proofs.lemmas.Result.{err_from_is_err_and}
-use Rattle.ffs_volume.specs.Messages.{Message}
-use Rattle.ffs_volume.specs.Report.{summary_of, file_count, used_count}
+use Rattle.ffs_volume.specs.Messages.Kinds.{Message}
+use Rattle.ffs_volume.specs.Report.Whole.{summary_of, file_count, used_count}
 use Rattle.ffs_layout.specs.Super.{seen}
 use Rattle.ffs_maps.specs.Bits.{bits_of}
 use Rattle.ffs_report.specs.Lines.{message_of}
-use Rattle.ffs_phase.proofs.Telling.{of_begins, of_says, of_stops}
+use Rattle.ffs_phase.proofs.Reporting.{of_begins, of_says, of_stops}
 use Rattle.ffs_counts.proofs.Classes.{files_are, used_are}
 use Rattle.ffs_counts.proofs.summing.summary.Goals as goal
 

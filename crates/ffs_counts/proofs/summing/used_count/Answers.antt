@@ -1,6 +1,6 @@
 use Rattle.std.proofs.Common.{arith, ap, sym, ◌∙◌, ◌≡◌, ◌+◌, count_by, min}
 use Rattle.std.specs.List.{range_with_len}
-use Rattle.ffs_volume.specs.Areas.{cgbase}
+use Rattle.ffs_volume.specs.Disk.Areas.{cgbase}
 use Rattle.ffs_maps.specs.Bits.{bits_of}
 use Rattle.ffs_maps.proofs.Counting.{count_few}
 use Rattle.ffs_counts.proofs.UsedCount.{is_used, groups_begin, groups_end, group_more}

@@ -1,6 +1,6 @@
 use Rattle.std.proofs.Common.{◌≡◌, count_by, min}
 use Rattle.std.specs.List.{range_with_len}
-use Rattle.ffs_volume.specs.Areas.{cgbase}
+use Rattle.ffs_volume.specs.Disk.Areas.{cgbase}
 use Rattle.ffs_maps.specs.Bits.{bits_of}
 use Rattle.ffs_counts.proofs.UsedCount.{is_used}
 use Rattle.ffs_counts.proofs.summing.used_count.Given as goal

@@ -1,6 +1,6 @@
 use Rattle.std.proofs.Common.{arith, ap, ◌∙◌, ◌+◌}
-use Rattle.ffs_volume.specs.Areas.{cgbase}
-use Rattle.ffs_volume.specs.Groups.{group_size}
+use Rattle.ffs_volume.specs.Disk.Areas.{cgbase}
+use Rattle.ffs_volume.specs.Groups.Records.{group_size}
 use Rattle.ffs_maps.specs.Bits.{bits_of}
 use Rattle.ffs_maps.proofs.Counting.{count_few}
 use Rattle.ffs_counts.proofs.UsedCount.{is_used, first_group, other_group, parts_order}

@@ -1,5 +1,5 @@
 use Rattle.std.proofs.Common.{ap, ◌∙◌, nat_eq}
-use Rattle.ffs_volume.specs.Groups.{is_magic, is_record, are_places, are_maps, has_summary}
+use Rattle.ffs_volume.specs.Groups.Records.{is_magic, is_record, are_places, are_maps, has_summary}
 use Rattle.ffs_maps.specs.Bits.{bits_of}
 use Rattle.ffs_groups.specs.Check.{same_counts}
 use Rattle.ffs_groups.specs.Free.{free_in}

@@ -1,6 +1,6 @@
 use Rattle.std.proofs.Common.{rules, arith, refl, sym, ◌≡◌, true, false, slice_index}
 use Rattle.std.specs.Prelude.{◌==◌}
-use Rattle.ffs_volume.specs.Numbers.{all_below}
+use Rattle.ffs_volume.specs.Disk.Numbers.{all_below}
 use Rattle.ffs_groups.proofs.MapWords.{fails_at, one_more}
 use Rattle.ffs_groups.proofs.check.same_runs.Goals as goal
 

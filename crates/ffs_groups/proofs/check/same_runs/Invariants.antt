@@ -1,6 +1,6 @@
 use Rattle.std.proofs.Common.{◌≡◌, true, slice_index}
 use Rattle.std.specs.Prelude.{◌==◌}
-use Rattle.ffs_volume.specs.Numbers.{all_below}
+use Rattle.ffs_volume.specs.Disk.Numbers.{all_below}
 use Rattle.ffs_groups.proofs.check.same_runs.Given as goal
 
 abbrev pub invariant-loop-length : goal.invariant-loop-length

@@ -1,4 +1,4 @@
-use Rattle.ffs_volume.specs.Groups.{right_summary}
+use Rattle.ffs_volume.specs.Groups.Records.{right_summary}
 use Rattle.ffs_groups.proofs.Checks.{same_summary_of}
 use Rattle.ffs_groups.proofs.counts.group_counts.Goals as goal
 

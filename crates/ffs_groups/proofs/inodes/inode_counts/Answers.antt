@@ -1,6 +1,6 @@
 use Rattle.std.proofs.Common.{arith, rules, ap, ◌*◌}
 use Rattle.std.specs.Prelude.{not}
-use Rattle.ffs_volume.specs.Groups.{is_dir, is_used_inode}
+use Rattle.ffs_volume.specs.Groups.Records.{is_dir, is_used_inode}
 use Rattle.ffs_groups.specs.Inodes.{class_in}
 use Rattle.ffs_groups.proofs.Sums.{count_more, count_fits}
 use Rattle.ffs_groups.proofs.inodes.inode_counts.Goals as goal

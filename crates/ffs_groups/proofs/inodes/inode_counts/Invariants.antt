@@ -1,7 +1,7 @@
 use Rattle.std.proofs.Common.{◌≡◌, count_by}
 use Rattle.std.specs.Prelude.{not}
 use Rattle.std.specs.List.{range_with_len}
-use Rattle.ffs_volume.specs.Groups.{is_dir, is_used_inode}
+use Rattle.ffs_volume.specs.Groups.Records.{is_dir, is_used_inode}
 use Rattle.ffs_groups.specs.Inodes.{class_in}
 use Rattle.ffs_groups.proofs.inodes.inode_counts.Given as goal
 

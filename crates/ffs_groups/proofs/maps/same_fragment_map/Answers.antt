@@ -1,7 +1,7 @@
 use Rattle.std.proofs.Common.{arith, rules, ◌∙◌, sym, ap, ◌≡◌, ◌+◌, ◌*◌, ◌-◌, ◌<◌, true, false, min}
-use Rattle.ffs_volume.specs.Areas.{cgbase}
-use Rattle.ffs_volume.specs.Groups.{bit_at as map_bit}
-use Rattle.ffs_volume.specs.Groups.{same_bit, has_bits}
+use Rattle.ffs_volume.specs.Disk.Areas.{cgbase}
+use Rattle.ffs_volume.specs.Groups.Records.{bit_at as map_bit}
+use Rattle.ffs_volume.specs.Groups.Records.{same_bit, has_bits}
 use Rattle.ffs_maps.specs.Bits.{bits_of}
 use Rattle.ffs_groups.specs.Free.{free_in}
 use Rattle.ffs_groups.proofs.Adding.{clear_as_free}

@@ -1,6 +1,6 @@
 use Rattle.std.proofs.Common.{sym, rules, arith, refl, ◌≡◌, true, false}
-use Rattle.ffs_volume.specs.Outcome.{is_group}
-use Rattle.ffs_volume.specs.Numbers.{all_below}
+use Rattle.ffs_volume.specs.Disk.Outcome.{is_group}
+use Rattle.ffs_volume.specs.Disk.Numbers.{all_below}
 use Rattle.ffs_layout.proofs.Below.{all_below-more, all_below-fails}
 use Rattle.ffs_layout.proofs.groups.groups_fit.Goals as goal
 

@@ -1,6 +1,6 @@
 use Rattle.std.proofs.Common.{◌≡◌, true}
-use Rattle.ffs_volume.specs.Outcome.{is_group}
-use Rattle.ffs_volume.specs.Numbers.{all_below}
+use Rattle.ffs_volume.specs.Disk.Outcome.{is_group}
+use Rattle.ffs_volume.specs.Disk.Numbers.{all_below}
 use Rattle.ffs_layout.proofs.groups.groups_fit.Given as goal
 
 abbrev pub invariant-loop-group : goal.invariant-loop-group

@@ -1,8 +1,8 @@
 use Rattle.std.proofs.Common.{◌≡◌, ◌*◌, ◌/◌, Some, Ok, Err, arith, sym, ◌∙◌, ap, inl, inr}
 use Rattle.ffs_volume.specs.declared.SuperFault.TheVariants.{CannotRead}
-use Rattle.ffs_volume.specs.OutcomeLaws.{no_read_fault}
+use Rattle.ffs_volume.proofs.OutcomeLaws.{no_read_fault}
 use Rattle.ffs_layout.proofs.Answering.{past_end, magic, fault, disagree, accepted, read_at, sector_is, copy_sector, no_disagree}
-use Rattle.ffs_image.proofs.Devices.{told_length}
+use Rattle.ffs_image.proofs.Devices.{reported_length}
 use Rattle.ffs_layout.proofs.superblock.read_super.Goals as goal
 
 pub returns-in-Err-clause-answer : goal.returns-in-Err-clause-answer
@@ -11,7 +11,7 @@ returns-in-Err-clause-answer g c =
     let fault_is : c.in-Err.fault ≡ CannotRead c.first_sector-start.result = c.in-Err.ensures.fault ∙ ap CannotRead back in
     elim c.in-Err.ensures.failed [
       | inl failed ↦ inl (failed, λ b e. inl (sector_is _ _ (sym failed.0 ∙ fault_is) ∙ c.first_sector-start.ensures.value))
-      | inr short ↦ inr (short.0, λ b e. sym (past_end _ _ _ _ (told_length _ _ (g.met.I.Image.sized c.args.image.now)) c.first_sector-start.ensures.value short.1 b e ∙ ap Err (sym fault_is)))
+      | inr short ↦ inr (short.0, λ b e. sym (past_end _ _ _ _ (reported_length _ _ (g.met.I.Image.sized c.args.image.now)) c.first_sector-start.ensures.value short.1 b e ∙ ap Err (sym fault_is)))
     ]
 
 pub returns-in_default-order_of_magic-clause-answer : goal.returns-in_default-order_of_magic-clause-answer
@@ -19,7 +19,7 @@ returns-in_default-order_of_magic-clause-answer g c =
     inr (
       c.in_default.ensures.ok,
       λ b e.
-          sym (magic _ _ _ _ (told_length _ _ (g.met.I.Image.sized c.args.image.now)) c.first_sector-start.ensures.value _ c.in_default.ensures.inside c.in_default.ensures.told (sym c.in_default-order_of_magic.ensures) b e),
+          sym (magic _ _ _ _ (reported_length _ _ (g.met.I.Image.sized c.args.image.now)) c.first_sector-start.ensures.value _ c.in_default.ensures.inside c.in_default.ensures.told (sym c.in_default-order_of_magic.ensures) b e),
     )
 
 pub returns-in-Err-new-clause-answer : goal.returns-in-Err-new-clause-answer
@@ -28,7 +28,7 @@ returns-in-Err-new-clause-answer g c =
     inr (
       c.in_default.ensures.ok,
       λ b e.
-          sym (fault _ _ _ _ (told_length _ _ (g.met.I.Image.sized c.args.image.now)) c.first_sector-start.ensures.value _ c.in_default.ensures.inside c.in_default.ensures.told _ (sym c.in-Some.ensures) _ refused b e),
+          sym (fault _ _ _ _ (reported_length _ _ (g.met.I.Image.sized c.args.image.now)) c.first_sector-start.ensures.value _ c.in_default.ensures.inside c.in_default.ensures.told _ (sym c.in-Some.ensures) _ refused b e),
     )
 
 pub returns-in-Err-check_copy-clause-answer : goal.returns-in-Err-check_copy-clause-answer
@@ -42,14 +42,14 @@ returns-in-Err-check_copy-clause-answer g c =
         λ b e.
             inr (
               c.in-Err-check_copy.ensures.sector.0,
-              copy_sector _ _ c.args.sector _ (told_length _ _ (g.met.I.Image.sized c.args.image.now)) c.first_sector-start.ensures.value _ c.in_default.ensures.inside c.in_default.ensures.told _ (sym c.in-Some.ensures)
+              copy_sector _ _ c.args.sector _ (reported_length _ _ (g.met.I.Image.sized c.args.image.now)) c.first_sector-start.ensures.value _ c.in_default.ensures.inside c.in_default.ensures.told _ (sym c.in-Some.ensures)
                   c.in-Ok.geometry.layout (c.in-Ok.ensures.layout ∙ c.decode.ensures) _ (c.in-Err-check_copy.ensures.sector.1 _ failed.0) b e,
             ),
       )
       | inr differs ↦ inr (
         differs.0,
         λ b e.
-            sym (disagree _ _ _ _ (told_length _ _ (g.met.I.Image.sized c.args.image.now)) c.first_sector-start.ensures.value _ c.in_default.ensures.inside c.in_default.ensures.told _ (sym c.in-Some.ensures) good differs.2 b e
+            sym (disagree _ _ _ _ (reported_length _ _ (g.met.I.Image.sized c.args.image.now)) c.first_sector-start.ensures.value _ c.in_default.ensures.inside c.in_default.ensures.told _ (sym c.in-Some.ensures) good differs.2 b e
             ∙ ap Err (sym differs.1)),
       )
     ]
@@ -67,7 +67,7 @@ returns-clause-answer g c =
     inr (
       c.in_default-check_copy.ensures.ok ∙ calm,
       λ b e.
-          sym (accepted _ _ _ _ (told_length _ _ (g.met.I.Image.sized c.args.image.now)) c.first_sector-start.ensures.value _ c.in_default.ensures.inside c.in_default.ensures.told _ (sym c.in-Some.ensures) good agrees b e
+          sym (accepted _ _ _ _ (reported_length _ _ (g.met.I.Image.sized c.args.image.now)) c.first_sector-start.ensures.value _ c.in_default.ensures.inside c.in_default.ensures.told _ (sym c.in-Some.ensures) good agrees b e
           ∙ ap Ok (sym c.make_super.ensures.seen)),
     )
 

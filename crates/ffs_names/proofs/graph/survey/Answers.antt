@@ -17,8 +17,8 @@ returns-clause-windows g c =
     let r = c.survey.ensures.ready.0 in
     record {
       table = rw image r.table_holds;
-      blocks = blocks_in c.args.geometry.now.layout c.survey.new.directories.geometry.layout (g.I.Image.device c.image-1.given.0).told (g.I.Image.device c.survey.new.directories.image.now).told c.survey.new.directories.windows.now.blocks
-          (ap (λ x. x.layout) c.survey.ensures.base) (ap (λ x. (g.I.Image.device x).told) image) r.blocks_hold;
+      blocks = blocks_in c.args.geometry.now.layout c.survey.new.directories.geometry.layout (g.I.Image.device c.image-1.given.0).contents (g.I.Image.device c.survey.new.directories.image.now).contents c.survey.new.directories.windows.now.blocks
+          (ap (λ x. x.layout) c.survey.ensures.base) (ap (λ x. (g.I.Image.device x).contents) image) r.blocks_hold;
       chunk = rw image r.chunk_holds;
     }
 
@@ -33,7 +33,7 @@ returns-clause-survey g c = on_ok c.survey.result _ _ (λ s b t h.
     }) in
     let survey = volume_survey (record {
       layout = c.args.geometry.now.layout;
-      told = (g.I.Image.device c.args.image.now).told;
+      contents = (g.I.Image.device c.args.image.now).contents;
       kinds = c.deref.result.now;
       cut = c.deref-2.result.now;
       image_lent = c.tree-2-1.given;

@@ -1,8 +1,8 @@
 use Rattle.std.proofs.Common.{ap, map}
 use Rattle.std.proofs.lemmas.Result.{err_from_is_err_and}
-use Rattle.ffs_volume.specs.Messages.{of_names}
-use Rattle.ffs_phase.proofs.Telling.{of_begins, of_reads}
-use Rattle.ffs_pathnames.specs.declared.examine.Examined.{Examined}
+use Rattle.ffs_volume.specs.Messages.Kinds.{of_names}
+use Rattle.ffs_phase.proofs.Reporting.{of_begins, of_reads}
+use Rattle.ffs_pathnames.specs.declared.examine.DirectorySummary.{DirectorySummary}
 use Rattle.ffs_pathnames.proofs.Begun.{said_same, fault_same, starts_are, begun_is}
 use Rattle.ffs_pathnames.proofs.Passing.{knows_on}
 use Rattle.ffs_workspace.proofs.Leaving.{survey_left}
@@ -13,36 +13,36 @@ returns-in_err-examined-clause-text g c =
     let p = err_from_is_err_and c.from_residual.result c.from_residual.ensures.1 in
     rw (p.1, p.2) (of_reads _ _ _ _ _ (of_begins _ _ _))
 
-pub returns-in_err-tell_starts-clause-text : goal.returns-in_err-tell_starts-clause-text
-returns-in_err-tell_starts-clause-text g c =
-    let p = err_from_is_err_and c.from_residual-in_err-tell_starts.result c.from_residual-in_err-tell_starts.ensures.1 in
+pub returns-in_err-report_starts-clause-text : goal.returns-in_err-report_starts-clause-text
+returns-in_err-report_starts-clause-text g c =
+    let p = err_from_is_err_and c.from_residual-in_err-report_starts.result c.from_residual-in_err-report_starts.ensures.1 in
     let v = c.args.geometry.now.layout in
-    rw (p.1, p.2) (fault_same (Unit {0}) Examined _ _ _ _ _ _ c.in_err-tell_starts.field-0.0
+    rw (p.1, p.2) (fault_same (Unit {0}) DirectorySummary _ _ _ _ _ _ c.in_err-report_starts.field-0.0
     (λ b k. (
-      knows_on v _ _ c.args.workspace.now c.examine.new.workspace c.args.dir b (ap (λ d. d.told) c.in_ok-examined.ensures.ok) c.in_ok-examined.ensures.lists.survey k,
-      ap (λ i. i.size) (c.in_ok-examined.ensures.found b k.told_is k.claims k.survey k.dir).inode,
+      knows_on v _ _ c.args.workspace.now c.examine.new.workspace c.args.dir b (ap (λ d. d.contents) c.in_ok-examined.ensures.ok) c.in_ok-examined.ensures.lists.survey k,
+      ap (λ i. i.size) (c.in_ok-examined.ensures.found b k.reported_is k.claims k.survey k.dir).inode,
     ))
     (λ b k. ap (map of_names) (starts_are v b c.args.dir c.args.workspace.now c.examine.new.workspace c.in_ok-examined.examined c.examine.new.start _ _ _
-    (c.in_ok-examined.ensures.found b k.told_is k.claims k.survey k.dir)
+    (c.in_ok-examined.ensures.found b k.reported_is k.claims k.survey k.dir)
     (c.parent_of-parent.ensures b (survey_left v b c.args.workspace.now c.examine.new.workspace c.in_ok-examined.ensures.lists.survey k.survey))
     c.first_two.ensures.first c.first_two.ensures.second))
-    c.in_err-tell_starts.ensures.text)
+    c.in_err-report_starts.ensures.text)
 
 pub returns-clause-text : goal.returns-clause-text
 returns-clause-text g c =
     let v = c.args.geometry.now.layout in
     said_same _ _ _ _ _ _
     (λ b k. (
-      knows_on v _ _ c.args.workspace.now c.examine.new.workspace c.args.dir b (ap (λ d. d.told) c.in_ok-examined.ensures.ok) c.in_ok-examined.ensures.lists.survey k,
-      ap (λ i. i.size) (c.in_ok-examined.ensures.found b k.told_is k.claims k.survey k.dir).inode,
+      knows_on v _ _ c.args.workspace.now c.examine.new.workspace c.args.dir b (ap (λ d. d.contents) c.in_ok-examined.ensures.ok) c.in_ok-examined.ensures.lists.survey k,
+      ap (λ i. i.size) (c.in_ok-examined.ensures.found b k.reported_is k.claims k.survey k.dir).inode,
     ))
     (λ b k. ap (map of_names) (starts_are v b c.args.dir c.args.workspace.now c.examine.new.workspace c.in_ok-examined.examined c.examine.new.start _ _ _
-    (c.in_ok-examined.ensures.found b k.told_is k.claims k.survey k.dir)
+    (c.in_ok-examined.ensures.found b k.reported_is k.claims k.survey k.dir)
     (c.parent_of-parent.ensures b (survey_left v b c.args.workspace.now c.examine.new.workspace c.in_ok-examined.ensures.lists.survey k.survey))
     c.first_two.ensures.first c.first_two.ensures.second))
-    c.in_ok-tell_starts.ensures.text
+    c.in_ok-report_starts.ensures.text
 
 pub returns-clause-begun : goal.returns-clause-begun
 returns-clause-begun g c = λ b k.
     begun_is c.args.geometry.now.layout b c.args.dir c.args.workspace.now c.examine.new.workspace _ c.in_ok-examined.examined c.examine.new.start
-    (c.in_ok-examined.ensures.found b k.told_is k.claims k.survey k.dir) c.in_ok-examined.ensures.lists c.in_ok-tell_starts.ensures.lists
+    (c.in_ok-examined.ensures.found b k.reported_is k.claims k.survey k.dir) c.in_ok-examined.ensures.lists c.in_ok-report_starts.ensures.lists

@@ -1,6 +1,6 @@
 use Rattle.std.proofs.Common.{◌<◌, sym, ap, subst, ◌∙◌}
 use Rattle.std.proofs.lemmas.List.{get_or_read_under}
-use Rattle.ffs_volume.specs.Volumes.{volume_of}
+use Rattle.ffs_volume.specs.Directories.Volumes.{volume_of}
 use Rattle.ffs_pathnames.specs.Begins.{number_if}
 use Rattle.ffs_pathnames.proofs.FirstTwo.{parent_back}
 use Rattle.ffs_pathnames.proofs.check.parent_of.Goals as goal

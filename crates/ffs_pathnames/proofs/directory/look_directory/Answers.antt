@@ -1,9 +1,9 @@
 use Rattle.std.proofs.Common.{◌≡◌, refl, sym, ap, ◌∙◌, ℕ, List, ◌∷◌, Some}
 use Rattle.std.specs.Prelude.{◌==◌}
 use Rattle.std.specs.List.{flat_map, find}
-use Rattle.ffs_volume.specs.Directory.{Chunk, chunk_of}
-use Rattle.ffs_volume.specs.Roles.{chunk_seen}
-use Rattle.ffs_volume.specs.PathnameCheck.{are_sound}
+use Rattle.ffs_volume.specs.Directories.Entries.{Chunk, chunk_of}
+use Rattle.ffs_volume.specs.Directories.Roles.{roled_chunk}
+use Rattle.ffs_volume.specs.Directories.PathnameCheck.{are_sound}
 use Rattle.ffs_names.specs.Readings.{rest}
 use Rattle.ffs_pathnames.specs.Marks.{are_quiet, after_looks}
 use Rattle.ffs_pathnames.specs.Reads.{chunks_read, start_of}
@@ -20,8 +20,8 @@ chunks-init g c = record {
   holds = c.requires.holds;
   data_size = refl;
   data_holds = c.requires.data_holds;
-  quiet = λ b t v s h. ap (λ cs. are_quiet v c.args.dir c.args.stamps.now (flat_map chunk_seen cs)) (sym (c.start-chunks.ensures.chunks b h));
-  stamps = λ b t v s h. ap (λ cs. after_looks v c.args.dir c.args.stamps.now (flat_map chunk_seen cs)) (sym (c.start-chunks.ensures.chunks b h));
+  quiet = λ b t v s h. ap (λ cs. are_quiet v c.args.dir c.args.stamps.now (flat_map roled_chunk cs)) (sym (c.start-chunks.ensures.chunks b h));
+  stamps = λ b t v s h. ap (λ cs. after_looks v c.args.dir c.args.stamps.now (flat_map roled_chunk cs)) (sym (c.start-chunks.ensures.chunks b h));
   sound = λ b t h. ap are_sound (sym (c.start-chunks.ensures.chunks b h));
   started = λ b t h. ap (find (λ x. x.offset == 0)) (sym (c.start-chunks.ensures.chunks b h));
 }
@@ -29,11 +29,11 @@ chunks-init g c = record {
 pub chunks-preserved : goal.chunks-preserved
 chunks-preserved g c =
     let inv = c.chunks.invariant in
-    let now = λ (b : List ℕ) (t : (g.I.Image.device c.args.image.now).told ≡ Some b). ap (λ d. d.told) inv.same ∙ t in
+    let now = λ (b : List ℕ) (t : (g.I.Image.device c.args.image.now).contents ≡ Some b). ap (λ d. d.contents) inv.same ∙ t in
     let read = rw c.in-Some.is at c.in_ok-offset.ensures.chunks in
     let order = c.args.geometry.now.layout.order in
     let here : Chunk = chunk_of order c.in-Some.offset c.next.new.chunk in
-    let next = λ (b : List ℕ) (t : (g.I.Image.device c.args.image.now).told ≡ Some b).
+    let next = λ (b : List ℕ) (t : (g.I.Image.device c.args.image.now).contents ≡ Some b).
     read b (now b t) ∙ ap (λ q. chunk_of q.layout.order c.in-Some.offset c.next.new.chunk ∷ rest b c.next.new.self) inv.geometry in
     rw (c.both-quiet.ensures, c.both-sound.ensures) (record {
       same = c.in_ok-offset.ensures.ok ∙ inv.same;
@@ -57,22 +57,22 @@ pub returns-clause-quiet : goal.returns-clause-quiet
 returns-clause-quiet g c = λ b t v s h.
     let inv = c.chunks.invariant in
     let read = rw c.in_default.is at c.in_ok-offset.ensures.chunks in
-    all_quiet v c.args.dir c.chunks.stamps (rest b c.chunks.chunks) _ c.chunks.quiet (read b (ap (λ d. d.told) inv.same ∙ t)) (inv.quiet b t v s h)
+    all_quiet v c.args.dir c.chunks.stamps (rest b c.chunks.chunks) _ c.chunks.quiet (read b (ap (λ d. d.contents) inv.same ∙ t)) (inv.quiet b t v s h)
 
 pub returns-clause-stamps : goal.returns-clause-stamps
 returns-clause-stamps g c = λ b t v s h.
     let inv = c.chunks.invariant in
     let read = rw c.in_default.is at c.in_ok-offset.ensures.chunks in
-    all_stamps v c.args.dir c.chunks.stamps _ (rest b c.chunks.chunks) (read b (ap (λ d. d.told) inv.same ∙ t)) (inv.stamps b t v s h)
+    all_stamps v c.args.dir c.chunks.stamps _ (rest b c.chunks.chunks) (read b (ap (λ d. d.contents) inv.same ∙ t)) (inv.stamps b t v s h)
 
 pub returns-clause-sound : goal.returns-clause-sound
 returns-clause-sound g c = λ b t h.
     let inv = c.chunks.invariant in
     let read = rw c.in_default.is at c.in_ok-offset.ensures.chunks in
-    all_sound (rest b c.chunks.chunks) _ c.chunks.sound (read b (ap (λ d. d.told) inv.same ∙ t)) (inv.sound b t h)
+    all_sound (rest b c.chunks.chunks) _ c.chunks.sound (read b (ap (λ d. d.contents) inv.same ∙ t)) (inv.sound b t h)
 
 pub returns-clause-started : goal.returns-clause-started
 returns-clause-started g c = λ b t h.
     let inv = c.chunks.invariant in
     let read = rw c.in_default.is at c.in_ok-offset.ensures.chunks in
-    inv.started b t h ∙ ap (λ l. start_of l c.chunks.started c.args.geometry.now.layout.order c.chunks.start) (read b (ap (λ d. d.told) inv.same ∙ t))
+    inv.started b t h ∙ ap (λ l. start_of l c.chunks.started c.args.geometry.now.layout.order c.chunks.start) (read b (ap (λ d. d.contents) inv.same ∙ t))

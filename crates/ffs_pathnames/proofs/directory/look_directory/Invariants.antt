@@ -1,9 +1,9 @@
 use Rattle.std.proofs.Common.{◌≡◌, ◌<◌, ◌^◌, ◌&&◌, length, vec_len}
 use Rattle.std.specs.Prelude.{◌==◌}
 use Rattle.std.specs.List.{flat_map, find}
-use Rattle.ffs_image.specs.Device.{WhereTold}
-use Rattle.ffs_volume.specs.Roles.{Volume, chunk_seen}
-use Rattle.ffs_volume.specs.PathnameCheck.{are_sound}
+use Rattle.ffs_image.specs.Device.{ForContents}
+use Rattle.ffs_volume.specs.Directories.Roles.{Volume, roled_chunk}
+use Rattle.ffs_volume.specs.Directories.PathnameCheck.{are_sound}
 use Rattle.ffs_walk.specs.Windows.{BlocksHold, WindowHolds}
 use Rattle.ffs_names.specs.Readings.{rest}
 use Rattle.ffs_pathnames.specs.Marks.{are_quiet, after_looks}
@@ -17,18 +17,18 @@ invariant-chunks g l = let device = g.I.Image.device in record {
   geometry : l.chunks.walk.geometry ≡ l.geometry;
   stamps_long : length l.stamps ≡ length l.inodes.kinds.now;
   size : vec_len l.blocks.buffer ≡ vec_len l.initial.blocks.buffer;
-  holds : BlocksHold l.geometry.layout (device l.image).told l.blocks;
+  holds : BlocksHold l.geometry.layout (device l.image).contents l.blocks;
   data_size : vec_len l.data.buffer ≡ vec_len l.initial.data.buffer;
-  data_holds : WindowHolds (device l.image).told l.data;
-  quiet : WhereTold (device l.initial.image).told (λ b. (v : Volume) → Sees v l.inodes → l.inode.size < 2 ^ 31 →
-      are_quiet v l.dir l.initial.stamps (flat_map chunk_seen (chunks_read l.geometry.layout l.inode l.cut b))
-      ≡ (l.quiet && are_quiet v l.dir l.stamps (flat_map chunk_seen (rest b l.chunks))));
-  stamps : WhereTold (device l.initial.image).told (λ b. (v : Volume) → Sees v l.inodes → l.inode.size < 2 ^ 31 →
-      after_looks v l.dir l.initial.stamps (flat_map chunk_seen (chunks_read l.geometry.layout l.inode l.cut b))
-      ≡ after_looks v l.dir l.stamps (flat_map chunk_seen (rest b l.chunks)));
-  sound : WhereTold (device l.initial.image).told (λ b. l.inode.size < 2 ^ 31 →
+  data_holds : WindowHolds (device l.image).contents l.data;
+  quiet : ForContents (device l.initial.image).contents (λ b. (v : Volume) → Sees v l.inodes → l.inode.size < 2 ^ 31 →
+      are_quiet v l.dir l.initial.stamps (flat_map roled_chunk (chunks_read l.geometry.layout l.inode l.cut b))
+      ≡ (l.quiet && are_quiet v l.dir l.stamps (flat_map roled_chunk (rest b l.chunks))));
+  stamps : ForContents (device l.initial.image).contents (λ b. (v : Volume) → Sees v l.inodes → l.inode.size < 2 ^ 31 →
+      after_looks v l.dir l.initial.stamps (flat_map roled_chunk (chunks_read l.geometry.layout l.inode l.cut b))
+      ≡ after_looks v l.dir l.stamps (flat_map roled_chunk (rest b l.chunks)));
+  sound : ForContents (device l.initial.image).contents (λ b. l.inode.size < 2 ^ 31 →
       are_sound (chunks_read l.geometry.layout l.inode l.cut b) ≡ (l.sound && are_sound (rest b l.chunks)));
-  started : WhereTold (device l.initial.image).told (λ b. l.inode.size < 2 ^ 31 →
+  started : ForContents (device l.initial.image).contents (λ b. l.inode.size < 2 ^ 31 →
       find (λ c. c.offset == 0) (chunks_read l.geometry.layout l.inode l.cut b) ≡ start_of (rest b l.chunks) l.started l.order l.start);
 }
 

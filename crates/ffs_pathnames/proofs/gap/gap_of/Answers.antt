@@ -17,7 +17,7 @@ steps-preserved-in-Some-Run g c =
       size = c.next.ensures.size ∙ inv.size;
       holds = rw inv.geometry at c.next.ensures.holds;
       gap = λ b t. run_on c.args.geometry.now.layout c.args.cut (replay_in c.steps.keeping) (replay_in c.take-kept.new.self) r.start r.len r._block _ (rest b c.steps.walk) (rest b c.next.new.self)
-          (read b (ap (λ d. d.told) inv.same ∙ t)) (rw inv.cut at (c.take-kept.ensures.after r._block)) (inv.gap b t);
+          (read b (ap (λ d. d.contents) inv.same ∙ t)) (rw inv.cut at (c.take-kept.ensures.after r._block)) (inv.gap b t);
     }
 
 pub steps-preserved : goal.steps-preserved
@@ -32,7 +32,7 @@ steps-preserved g c =
       size = c.next.ensures.size ∙ inv.size;
       holds = rw inv.geometry at c.next.ensures.holds;
       gap = λ b t. tail_on c.args.geometry.now.layout c.args.cut (replay_in c.steps.keeping) _ (rest b c.steps.walk) (rest b c.next.new.self)
-          (read b (ap (λ d. d.told) inv.same ∙ t)) (inv.gap b t);
+          (read b (ap (λ d. d.contents) inv.same ∙ t)) (inv.gap b t);
     }
 
 pub returns-in-Some-Gap-clause-gap : goal.returns-in-Some-Gap-clause-gap
@@ -41,12 +41,12 @@ returns-in-Some-Gap-clause-gap g c = λ b t.
     let r = c.in-Some-Gap in
     let read = rw r.field-0-is at (rw r.is at c.in_ok-next.ensures.steps) in
     gap_found c.args.geometry.now.layout c.args.cut (replay_in c.steps.keeping) _ (rest b c.steps.walk) (rest b c.next.new.self)
-    (rw inv.cut at (sym c.is_seen.ensures ∙ c.steps-test.true)) (read b (ap (λ d. d.told) inv.same ∙ t)) (inv.gap b t)
+    (rw inv.cut at (sym c.is_replay_open.ensures ∙ c.steps-test.true)) (read b (ap (λ d. d.contents) inv.same ∙ t)) (inv.gap b t)
 
 pub returns-clause-gap : goal.returns-clause-gap
 returns-clause-gap g c = λ b t.
     let inv = c.steps.invariant in
-    unseen_end c.args.geometry.now.layout c.args.cut (replay_in c.steps.keeping) _ (rest b c.steps.walk) (rw inv.cut at (sym c.is_seen.ensures ∙ c.steps-test.false)) (inv.gap b t)
+    unseen_end c.args.geometry.now.layout c.args.cut (replay_in c.steps.keeping) _ (rest b c.steps.walk) (rw inv.cut at (sym c.is_replay_open.ensures ∙ c.steps-test.false)) (inv.gap b t)
 
 pub steps-init : goal.steps-init
 steps-init g c = record {
@@ -98,7 +98,7 @@ pub returns-in-None-clause-gap : goal.returns-in-None-clause-gap
 returns-in-None-clause-gap g c = λ b t.
     let inv = c.steps.invariant in
     let read = rw c.in-None.is at c.in_ok-next.ensures.steps in
-    gap_end c.args.geometry.now.layout c.args.cut (replay_in c.steps.keeping) _ (rest b c.steps.walk) (read b (ap (λ d. d.told) inv.same ∙ t)) (inv.gap b t)
+    gap_end c.args.geometry.now.layout c.args.cut (replay_in c.steps.keeping) _ (rest b c.steps.walk) (read b (ap (λ d. d.contents) inv.same ∙ t)) (inv.gap b t)
 
 pub returns-in-None-clause-size : goal.returns-in-None-clause-size
 returns-in-None-clause-size g c = c.next.ensures.size ∙ c.steps.invariant.size
@@ -115,7 +115,7 @@ take-kept-requires-clause-some g c =
     (rw r.field-0-is at (rw r.is at c.in_ok-next.ensures.length)).0
 
 pub take-kept-requires-clause-seen : goal.take-kept-requires-clause-seen
-take-kept-requires-clause-seen g c = sym c.is_seen.ensures ∙ c.steps-test.true
+take-kept-requires-clause-seen g c = sym c.is_replay_open.ensures ∙ c.steps-test.true
 
 pub steps-smaller-in-Some-Run : goal.steps-smaller-in-Some-Run
 steps-smaller-in-Some-Run g c = rw c.in-Some-Run.is at c.in_ok-next.ensures.falls

@@ -1,9 +1,9 @@
 use Rattle.std.proofs.Common.{◌≡◌}
 use Rattle.std.specs.Prelude.{vec_len}
-use Rattle.ffs_image.specs.Device.{WhereTold}
-use Rattle.ffs_volume.specs.Directory.{has_gap}
-use Rattle.ffs_volume.specs.Steps.{steps_of}
-use Rattle.ffs_volume.specs.Replay.{fresh_replay, replayed_steps}
+use Rattle.ffs_image.specs.Device.{ForContents}
+use Rattle.ffs_volume.specs.Directories.Entries.{has_gap}
+use Rattle.ffs_volume.specs.Blocks.Steps.{steps_of}
+use Rattle.ffs_volume.specs.Encodings.Replay.{fresh_replay, replayed_steps}
 use Rattle.ffs_walk.specs.Windows.{BlocksHold}
 use Rattle.ffs_walk.specs.Rests.{rest, left}
 use Rattle.ffs_names.specs.Keepings.{replay_in}
@@ -15,8 +15,8 @@ invariant-steps g l = let device = g.I.Image.device in record {
   geometry : l.walk.geometry ≡ l.geometry;
   cut : l.keeping.cut ≡ l.cut;
   size : vec_len l.blocks.buffer ≡ vec_len l.initial.blocks.buffer;
-  holds : BlocksHold l.geometry.layout (device l.image).told l.blocks;
-  gap : WhereTold (device l.initial.image).told (λ b.
+  holds : BlocksHold l.geometry.layout (device l.image).contents l.blocks;
+  gap : ForContents (device l.initial.image).contents (λ b.
       has_gap (replayed_steps l.geometry.layout l.cut fresh_replay (steps_of l.geometry.layout l.inode b))
       ≡ has_gap (replayed_steps l.geometry.layout l.cut (replay_in l.keeping) (rest b l.walk)));
 }

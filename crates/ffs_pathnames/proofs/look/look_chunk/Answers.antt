@@ -1,29 +1,29 @@
 use Rattle.std.proofs.Common.{◌+◌, arith}
-use Rattle.ffs_volume.specs.Roles.{Seen}
-use Rattle.ffs_layout.specs.Entry.{seen_entry}
-use Rattle.ffs_pathnames.proofs.Looking.{seen_at_place, seen_next, quiet_on, stamps_on, length_on, quiet_ends, stamps_end, length_ends, none}
+use Rattle.ffs_volume.specs.Directories.Roles.{RoledEntry}
+use Rattle.ffs_layout.specs.Entry.{entry_value}
+use Rattle.ffs_pathnames.proofs.Looking.{roled_at_place, seen_next, quiet_on, stamps_on, length_on, quiet_ends, stamps_end, length_ends, none}
 use Rattle.ffs_pathnames.proofs.look.look_chunk.Goals as goal
 
 pub entries-preserved : goal.entries-preserved
 entries-preserved c =
-    let e = seen_entry c.in-Some.entry in
+    let e = entry_value c.in-Some.entry in
     let there = c.in-Some.ensures.some in
     let room = c.in-Some.ensures.room in
     let low = room.0 in
     let high = room.1 in
     let next = seen_next c.args.order c.args.chunk.now c.args.first c.entries.index c.entries.place e c.role_of-role.result there c.role_of-role.ensures in
-    let seen : Seen = record { role = c.role_of-role.result; entry = e } in
+    let seen : RoledEntry = record { role = c.role_of-role.result; entry = e } in
     rw (c.from-place.ensures, c.both-quiet.ensures) (record {
       place = omega arith;
       index = omega arith;
       stamps_long = omega arith;
       quiet = λ v s. quiet_on v c.args.dir c.entries.stamps c.look_at-here.new.stamps seen
-          (seen_at_place c.args.order c.args.chunk.now c.args.first c.entries.index c.entries.place)
-          (seen_at_place c.args.order c.args.chunk.now c.args.first (c.entries.index + 1) (c.entries.place + c.in-Some.entry.length))
+          (roled_at_place c.args.order c.args.chunk.now c.args.first c.entries.index c.entries.place)
+          (roled_at_place c.args.order c.args.chunk.now c.args.first (c.entries.index + 1) (c.entries.place + c.in-Some.entry.length))
           _ c.entries.quiet c.look_at-here.result next (c.look_at-here.ensures.quiet v s) (c.look_at-here.ensures.stamps v s) (c.entries.invariant.quiet v s);
       stamps = λ v s. stamps_on v c.args.dir c.entries.stamps c.look_at-here.new.stamps _ seen
-          (seen_at_place c.args.order c.args.chunk.now c.args.first c.entries.index c.entries.place)
-          (seen_at_place c.args.order c.args.chunk.now c.args.first (c.entries.index + 1) (c.entries.place + c.in-Some.entry.length))
+          (roled_at_place c.args.order c.args.chunk.now c.args.first c.entries.index c.entries.place)
+          (roled_at_place c.args.order c.args.chunk.now c.args.first (c.entries.index + 1) (c.entries.place + c.in-Some.entry.length))
           next (c.look_at-here.ensures.stamps v s) (c.entries.invariant.stamps v s);
       sound = length_on c.args.order c.args.chunk.now c.entries.place _ e there c.entries.invariant.sound;
     })

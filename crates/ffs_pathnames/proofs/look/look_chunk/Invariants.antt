@@ -1,10 +1,10 @@
 use Rattle.std.proofs.Common.{◌≡◌, ◌≤◌, ◌-◌, ◌+◌, ◌&&◌, length}
 use Rattle.std.specs.Prelude.{sum_by}
-use Rattle.ffs_volume.specs.Directory.{entries_from}
-use Rattle.ffs_volume.specs.Roles.{Volume}
+use Rattle.ffs_volume.specs.Directories.Entries.{entries_from}
+use Rattle.ffs_volume.specs.Directories.Roles.{Volume}
 use Rattle.ffs_pathnames.specs.Marks.{are_quiet, after_looks}
 use Rattle.ffs_pathnames.specs.Sees.{Sees}
-use Rattle.ffs_pathnames.proofs.Looking.{seen_at_place}
+use Rattle.ffs_pathnames.proofs.Looking.{roled_at_place}
 use Rattle.ffs_pathnames.proofs.look.look_chunk.Given as goal
 
 abbrev pub invariant-entries : goal.invariant-entries
@@ -12,10 +12,10 @@ invariant-entries l = record {
   place : l.place ≤ 512;
   index : l.index ≤ l.place;
   stamps_long : length l.stamps ≡ length l.inodes.kinds.now;
-  quiet : (v : Volume) → Sees v l.inodes → are_quiet v l.dir l.initial.stamps (seen_at_place l.order l.chunk l.first 0 0)
-      ≡ (l.quiet && are_quiet v l.dir l.stamps (seen_at_place l.order l.chunk l.first l.index l.place));
-  stamps : (v : Volume) → Sees v l.inodes → after_looks v l.dir l.initial.stamps (seen_at_place l.order l.chunk l.first 0 0)
-      ≡ after_looks v l.dir l.stamps (seen_at_place l.order l.chunk l.first l.index l.place);
+  quiet : (v : Volume) → Sees v l.inodes → are_quiet v l.dir l.initial.stamps (roled_at_place l.order l.chunk l.first 0 0)
+      ≡ (l.quiet && are_quiet v l.dir l.stamps (roled_at_place l.order l.chunk l.first l.index l.place));
+  stamps : (v : Volume) → Sees v l.inodes → after_looks v l.dir l.initial.stamps (roled_at_place l.order l.chunk l.first 0 0)
+      ≡ after_looks v l.dir l.stamps (roled_at_place l.order l.chunk l.first l.index l.place);
   sound : sum_by (λ x. x.length) (entries_from l.order l.chunk 64 0) ≡ l.place + sum_by (λ x. x.length) (entries_from l.order l.chunk 64 l.place);
 }
 

@@ -1,9 +1,9 @@
 use Rattle.std.proofs.Common.{[], ◌∷◌, List, ℕ, map, refl, ap, ◌∙◌}
 use Rattle.std.proofs.lemmas.Result.{err_from_is_err_and}
-use Rattle.ffs_phase.proofs.Telling.{of_begins, of_says, of_stops, of_reads, of_last, tells_knows}
-use Rattle.ffs_volume.specs.Messages.{of_names, phase2}
-use Rattle.ffs_volume.specs.PathnameCheck.{pathname_lines}
-use Rattle.ffs_volume.specs.Volumes.{volume_of}
+use Rattle.ffs_phase.proofs.Reporting.{of_begins, of_says, of_stops, of_reads, of_last, reports_knowing}
+use Rattle.ffs_volume.specs.Messages.Kinds.{of_names, phase2}
+use Rattle.ffs_volume.specs.Directories.PathnameCheck.{pathname_lines}
+use Rattle.ffs_volume.specs.Directories.Volumes.{volume_of}
 use Rattle.ffs_pathnames.specs.declared.phase.Root.{Root}
 use Rattle.ffs_pathnames.proofs.Carrying.{on_all, if_ok, claims_untouched, before_first}
 use Rattle.ffs_workspace.proofs.Leaving.{claims_left, survey_left}
@@ -35,8 +35,8 @@ returns-clause-text g c =
     of_last Root _ lines lines all _ _ _ c.check_tree.result
     (of_says _ all lines _ (phase2 ∷ []) _ _ _ (of_begins _ all _) (λ b k. refl) c.in_ok-say.ensures.said)
     (λ b k. refl)
-    (tells_knows Root _ _ lines _ _ c.check_tree.result
-    (λ b k. before_first v _ b _ (ap (λ d. d.told) found.ok ∙ k.0)
+    (reports_knowing Root _ _ lines _ _ c.check_tree.result
+    (λ b k. before_first v _ b _ (ap (λ d. d.contents) found.ok ∙ k.0)
     (claims_left v b _ _ clear.survey (claims_untouched v b _ _ found.same k.1))
     (survey_left v b _ _ clear.survey (found.survey b k.0 k.1)) clear.made clear.clear)
     c.check_tree.ensures.text)
@@ -47,7 +47,7 @@ returns-clause-goes g c =
     let found = c.in_ok-survey.ensures in
     let clear = c.clear_marks.ensures in
     if_ok c.check_tree.result _ _
-    (λ root h b k. h b (before_first v _ b _ (ap (λ d. d.told) found.ok ∙ k.0)
+    (λ root h b k. h b (before_first v _ b _ (ap (λ d. d.contents) found.ok ∙ k.0)
     (claims_left v b _ _ clear.survey (claims_untouched v b _ _ found.same k.1))
     (survey_left v b _ _ clear.survey (found.survey b k.0 k.1)) clear.made clear.clear))
     c.check_tree.ensures.goes

@@ -1,4 +1,4 @@
-use Rattle.ffs_volume.specs.Messages.{told}
+use Rattle.ffs_volume.specs.Messages.Kinds.{told}
 use Rattle.ffs_pathnames.specs.NameLines.{name_message}
 use Rattle.ffs_pathnames.proofs.Saying.{names_then, first_stops}
 use Rattle.ffs_pathnames.proofs.say.say_two.Goals as goal

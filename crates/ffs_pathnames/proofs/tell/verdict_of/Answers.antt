@@ -1,7 +1,7 @@
 use Rattle.std.proofs.Common.{sym, ap, ◌∙◌}
-use Rattle.ffs_volume.specs.Volumes.{volume_of}
-use Rattle.ffs_layout.specs.Entry.{seen_entry}
-use Rattle.ffs_pathnames.specs.Marks.{plain_told}
+use Rattle.ffs_volume.specs.Directories.Volumes.{volume_of}
+use Rattle.ffs_layout.specs.Entry.{entry_value}
+use Rattle.ffs_pathnames.specs.Marks.{plain_reported}
 use Rattle.ffs_pathnames.proofs.SeesLaws.{sees}
 use Rattle.ffs_pathnames.proofs.tell.verdict_of.Goals as goal
 
@@ -15,7 +15,7 @@ pub returns-clause-told : goal.returns-clause-told
 returns-clause-told c = λ b h r.
     let v = c.args.geometry.now.layout in
     let e = c.view-inodes.ensures in
-    sym (ap (λ ms. plain_told (volume_of v b) c.args.dir (record { passed = ms; stamps = c.args.workspace.now.queue.items }) (seen_entry c.args.entry.now)) c.as_slice.ensures.value)
-    ∙ (sym (ap (λ ms. plain_told (volume_of v b) c.args.dir (record { passed = c.as_slice.result.now; stamps = ms }) (seen_entry c.args.entry.now)) c.as_slice-2.ensures.value)
+    sym (ap (λ ms. plain_reported (volume_of v b) c.args.dir (record { passed = ms; stamps = c.args.workspace.now.queue.items }) (entry_value c.args.entry.now)) c.as_slice.ensures.value)
+    ∙ (sym (ap (λ ms. plain_reported (volume_of v b) c.args.dir (record { passed = c.as_slice.result.now; stamps = ms }) (entry_value c.args.entry.now)) c.as_slice-2.ensures.value)
     ∙ c.judge.ensures.told (volume_of v b)
     (sees v b c.args.workspace.now c.view-inodes.result (record { kinds = e.kinds; marked = e.marked; parents = e.parents; count = e.count }) h r))

@@ -1,26 +1,26 @@
 use Rattle.std.proofs.Common.{sym, ap, ◌∙◌, map, []}
 use Rattle.ffs_names.proofs.SurveyHolds.{on_ok}
-use Rattle.ffs_phase.proofs.Telling.{of_begins, of_same, tells_same, tells_knows}
-use Rattle.ffs_volume.specs.Messages.{of_names}
-use Rattle.ffs_volume.specs.PathnameCheck.{dir_lines, lines_of}
-use Rattle.ffs_volume.specs.Volumes.{volume_of}
-use Rattle.ffs_pathnames.proofs.Carrying.{knows_directory, lines_looked, lines_other, before_next, before_other}
+use Rattle.ffs_phase.proofs.Reporting.{of_begins, of_same, reports_same, reports_knowing}
+use Rattle.ffs_volume.specs.Messages.Kinds.{of_names}
+use Rattle.ffs_volume.specs.Directories.PathnameCheck.{dir_lines, lines_of}
+use Rattle.ffs_volume.specs.Directories.Volumes.{volume_of}
+use Rattle.ffs_pathnames.proofs.Carrying.{directory_context, lines_looked, lines_other, before_next, before_other}
 use Rattle.ffs_pathnames.proofs.tree.check_inode.Goals as goal
 
 pub returns-then-is_looked_at-clause-text : goal.returns-then-is_looked_at-clause-text
 returns-then-is_looked_at-clause-text g c =
     let v = c.args.geometry.now.layout in
     let looked = sym c.is_looked_at.ensures ∙ c.if-is_looked_at.true in
-    tells_same (Unit {0}) _ (λ b. map of_names (dir_lines (volume_of v b) c.args.number)) (λ b. map of_names (lines_of (volume_of v b) c.args.number)) _ _ c.check_directory.result
+    reports_same (Unit {0}) _ (λ b. map of_names (dir_lines (volume_of v b) c.args.number)) (λ b. map of_names (lines_of (volume_of v b) c.args.number)) _ _ c.check_directory.result
     (λ b k. sym (ap (map of_names) (lines_looked v _ _ c.args.number b looked k)))
-    (tells_knows (Unit {0}) _ _ _ _ _ c.check_directory.result (λ b k. (knows_directory v _ _ c.args.number b looked k, k.marks)) c.check_directory.ensures.text)
+    (reports_knowing (Unit {0}) _ _ _ _ _ c.check_directory.result (λ b k. (directory_context v _ _ c.args.number b looked k, k.marks)) c.check_directory.ensures.text)
 
 pub returns-then-is_looked_at-clause-before : goal.returns-then-is_looked_at-clause-before
 returns-then-is_looked_at-clause-before g c =
     let v = c.args.geometry.now.layout in
     let looked = sym c.is_looked_at.ensures ∙ c.if-is_looked_at.true in
     on_ok c.check_directory.result _ _
-    (λ h b k. before_next v _ _ _ c.args.number b c.check_directory.ensures.survey (h b (knows_directory v _ _ c.args.number b looked k, k.marks)) k)
+    (λ h b k. before_next v _ _ _ c.args.number b c.check_directory.ensures.survey (h b (directory_context v _ _ c.args.number b looked k, k.marks)) k)
     c.check_directory.ensures.marks
 
 pub returns-clause-text : goal.returns-clause-text

@@ -1,14 +1,14 @@
 use Rattle.std.proofs.Common.{◌+◌, ◌-◌, [], map, refl, sym, ap, subst, ◌≡◌, suc, arith, rules, Err}
 use Rattle.std.proofs.lemmas.Result.{err_from_is_err_and}
 use Rattle.ffs_volume.proofs.Numbered.{from_next, from_end}
-use Rattle.ffs_phase.proofs.Telling.{of_begins, of_same, of_part, of_fault, said_knows, tells_knows}
-use Rattle.ffs_volume.specs.Messages.{of_names, lines_from}
-use Rattle.ffs_volume.specs.PathnameCheck.{lines_of}
-use Rattle.ffs_volume.specs.Volumes.{volume_of}
+use Rattle.ffs_phase.proofs.Reporting.{of_begins, of_same, of_part, of_fault, said_knows, reports_knowing}
+use Rattle.ffs_volume.specs.Messages.Kinds.{of_names, lines_from}
+use Rattle.ffs_volume.specs.Directories.PathnameCheck.{lines_of}
+use Rattle.ffs_volume.specs.Directories.Volumes.{volume_of}
 use Rattle.ffs_workspace.specs.Lengths.{inodes_of}
 use Rattle.ffs_pathnames.specs.Before.{IsBefore}
 use Rattle.ffs_workspace.proofs.Leaving.{leaves_all, leaves_more}
-use Rattle.ffs_pathnames.proofs.Carrying.{before_told}
+use Rattle.ffs_pathnames.proofs.Carrying.{before_reported}
 use Rattle.ffs_pathnames.proofs.tree.check_inodes.Goals as goal
 
 pub loop-number-init : goal.loop-number-init
@@ -33,8 +33,8 @@ returns-in_err-check_inode-clause-text g c =
     (λ b. map of_names (lines_of (volume_of v b) n))
     (λ b. map of_names (lines_from (lines_of (volume_of v b)) (n + 1) (inodes_of v - (n + 1)))) _ _ _ _ c.in_err-check_inode.field-0.0
     inv.said (λ b k. from_next (lines_of (volume_of v b)) n (inodes_of v) (omega arith))
-    (tells_knows (Unit {0}) _ _ _ _ _ (Err c.in_err-check_inode.field-0.0)
-    (λ b k. before_told v _ _ _ n b (ap (λ d. d.told) inv.device) (inv.before b k)) c.in_err-check_inode.ensures.text))
+    (reports_knowing (Unit {0}) _ _ _ _ _ (Err c.in_err-check_inode.field-0.0)
+    (λ b k. before_reported v _ _ _ n b (ap (λ d. d.contents) inv.device) (inv.before b k)) c.in_err-check_inode.ensures.text))
 
 pub loop-number-preserved : goal.loop-number-preserved
 loop-number-preserved g c =
@@ -49,14 +49,14 @@ loop-number-preserved g c =
       windows = search rules;
       low = omega arith;
       survey = leaves_more _ _ _ inv.survey ok.survey;
-      before = λ b k. subst (λ d. IsBefore v (g.I.Image.device c.args.image.now).told c.check_inode.new.workspace d b) q
-          (before_told v _ _ _ (suc n) b (sym (ap (λ d. d.told) inv.device)) (ok.before b (before_told v _ _ _ n b (ap (λ d. d.told) inv.device) (inv.before b k))));
+      before = λ b k. subst (λ d. IsBefore v (g.I.Image.device c.args.image.now).contents c.check_inode.new.workspace d b) q
+          (before_reported v _ _ _ (suc n) b (sym (ap (λ d. d.contents) inv.device)) (ok.before b (before_reported v _ _ _ n b (ap (λ d. d.contents) inv.device) (inv.before b k))));
       said = of_part _ (λ b. map of_names (lines_from (lines_of (volume_of v b)) n (inodes_of v - n)))
           (λ b. map of_names (lines_of (volume_of v b) n))
           (λ b. map of_names (lines_from (lines_of (volume_of v b)) (n + 1) (inodes_of v - (n + 1)))) _ _ _ _ inv.said
           (λ b k. from_next (lines_of (volume_of v b)) n (inodes_of v) (omega arith))
           (said_knows _ _ _ _ _ _
-          (λ b k. before_told v _ _ _ n b (ap (λ d. d.told) inv.device) (inv.before b k)) ok.text);
+          (λ b k. before_reported v _ _ _ n b (ap (λ d. d.contents) inv.device) (inv.before b k)) ok.text);
     }
 
 pub returns-clause-text : goal.returns-clause-text

@@ -1,10 +1,10 @@
 use Rattle.std.proofs.Common.{◌≡◌, ◌-◌, ◌≤◌, map}
-use Rattle.ffs_phase.specs.Known.{Where}
+use Rattle.ffs_phase.specs.Known.{ForBytes}
 use Rattle.ffs_phase.specs.Runs.{SaidOf}
 use Rattle.ffs_report.specs.Progress.{progress}
-use Rattle.ffs_volume.specs.Messages.{of_names, lines_from}
-use Rattle.ffs_volume.specs.PathnameCheck.{lines_of}
-use Rattle.ffs_volume.specs.Volumes.{volume_of}
+use Rattle.ffs_volume.specs.Messages.Kinds.{of_names, lines_from}
+use Rattle.ffs_volume.specs.Directories.PathnameCheck.{lines_of}
+use Rattle.ffs_volume.specs.Directories.Volumes.{volume_of}
 use Rattle.ffs_workspace.specs.Lengths.{IsFor, HoldWindows, inodes_of}
 use Rattle.ffs_pathnames.specs.Before.{IsBefore}
 use Rattle.ffs_workspace.specs.Leaves.{LeavesSurvey}
@@ -14,12 +14,12 @@ abbrev pub invariant-loop-number : goal.invariant-loop-number
 invariant-loop-number g l = record {
   made : IsFor l.geometry.layout l.workspace;
   device : g.I.Image.device l.image ≡ g.I.Image.device l.fn.image;
-  windows : HoldWindows l.geometry.layout (g.I.Image.device l.fn.image).told l.workspace;
+  windows : HoldWindows l.geometry.layout (g.I.Image.device l.fn.image).contents l.workspace;
   low : 2 ≤ l.number;
   survey : LeavesSurvey l.fn.workspace l.workspace;
-  before : Where (λ b. IsBefore l.geometry.layout (g.I.Image.device l.fn.image).told l.fn.workspace 2 b)
-      (λ b. IsBefore l.geometry.layout (g.I.Image.device l.fn.image).told l.workspace l.number b);
-  said : SaidOf (λ b. IsBefore l.geometry.layout (g.I.Image.device l.fn.image).told l.fn.workspace 2 b)
+  before : ForBytes (λ b. IsBefore l.geometry.layout (g.I.Image.device l.fn.image).contents l.fn.workspace 2 b)
+      (λ b. IsBefore l.geometry.layout (g.I.Image.device l.fn.image).contents l.workspace l.number b);
+  said : SaidOf (λ b. IsBefore l.geometry.layout (g.I.Image.device l.fn.image).contents l.fn.workspace 2 b)
       (λ b. map of_names (lines_from (lines_of (volume_of l.geometry.layout b)) l.number (inodes_of l.geometry.layout - l.number)))
       (λ b. map of_names (lines_from (lines_of (volume_of l.geometry.layout b)) 2 (inodes_of l.geometry.layout - 2)))
       (progress g.W.Output.sink l.fn.report) (progress g.W.Output.sink l.report);

@@ -1,25 +1,25 @@
 use Rattle.std.proofs.Common.{[], List, ℕ, map, refl, sym, ◌∙◌, append-nil, true, false}
 use Rattle.std.specs.Prelude.{◌-◌}
 use Rattle.std.proofs.lemmas.Result.{err_from_is_err_and}
-use Rattle.ffs_phase.proofs.Telling.{of_begins, of_says, of_stops, of_part, of_fault}
-use Rattle.ffs_volume.specs.Messages.{of_names, lines_from}
-use Rattle.ffs_volume.specs.PathnameCheck.{lines_of, pathname_lines}
-use Rattle.ffs_volume.specs.Volumes.{volume_of}
-use Rattle.ffs_volume.specs.Kinds.{is_dir_kind}
+use Rattle.ffs_phase.proofs.Reporting.{of_begins, of_says, of_stops, of_part, of_fault}
+use Rattle.ffs_volume.specs.Messages.Kinds.{of_names, lines_from}
+use Rattle.ffs_volume.specs.Directories.PathnameCheck.{lines_of, pathname_lines}
+use Rattle.ffs_volume.specs.Directories.Volumes.{volume_of}
+use Rattle.ffs_volume.specs.Encodings.Kinds.{is_dir_kind}
 use Rattle.ffs_workspace.specs.Lengths.{inodes_of}
 use Rattle.ffs_pathnames.specs.Before.{root_said}
 use Rattle.ffs_pathnames.proofs.Carrying.{goes_is, tree_is, tree_lines}
 use Rattle.ffs_pathnames.proofs.tree.check_tree.Goals as goal
 
-pub returns-in_err-tell_root-clause-text : goal.returns-in_err-tell_root-clause-text
-returns-in_err-tell_root-clause-text g c =
+pub returns-in_err-report_root-clause-text : goal.returns-in_err-report_root-clause-text
+returns-in_err-report_root-clause-text g c =
     let p = err_from_is_err_and c.from_residual.result c.from_residual.ensures.1 in
     let v = c.args.geometry.now.layout in
     let w = c.args.workspace.now in
     let all = λ (b : List ℕ). map of_names (pathname_lines (volume_of v b)) in
     rw (p.1, p.2) (of_stops _ all (λ b. map of_names (tree_lines v b (is_dir_kind c.root_kind-kind.result))) _
     (map of_names (root_said c.root_kind-kind.result c.is_root_marked.result)) _ _ _ (of_begins _ all _)
-    (λ b k. tree_is v b w _ _ (is_dir_kind c.root_kind-kind.result) c.root_kind-kind.ensures c.is_root_marked.ensures k.claims refl) c.in_err-tell_root.ensures)
+    (λ b k. tree_is v b w _ _ (is_dir_kind c.root_kind-kind.result) c.root_kind-kind.ensures c.is_root_marked.ensures k.claims refl) c.in_err-report_root.ensures)
 
 pub returns-in-Stop-clause-text : goal.returns-in-Stop-clause-text
 returns-in-Stop-clause-text g c =
@@ -27,7 +27,7 @@ returns-in-Stop-clause-text g c =
     let w = c.args.workspace.now in
     let all = λ (b : List ℕ). map of_names (pathname_lines (volume_of v b)) in
     of_says _ all (λ b. []) _ (map of_names (root_said c.root_kind-kind.result c.is_root_marked.result)) _ _ _ (of_begins _ all _)
-    (λ b k. tree_is v b w _ _ false c.root_kind-kind.ensures c.is_root_marked.ensures k.claims c.in-Stop.ensures) c.in_ok-tell_root.ensures
+    (λ b k. tree_is v b w _ _ false c.root_kind-kind.ensures c.is_root_marked.ensures k.claims c.in-Stop.ensures) c.in_ok-report_root.ensures
 
 pub returns-in-Stop-clause-goes : goal.returns-in-Stop-clause-goes
 returns-in-Stop-clause-goes g c = λ b k. c.in-Stop.ensures ∙ goes_is c.args.geometry.now.layout b c.args.workspace.now _ c.root_kind-kind.ensures k.claims
@@ -41,7 +41,7 @@ returns-in_err-check_inodes-in-Go-clause-text g c =
     let part = λ (b : List ℕ). map of_names (lines_from (lines_of (volume_of v b)) 2 (inodes_of v - 2)) in
     rw (p.1, p.2) (of_fault (Unit {0}) (Unit {0}) _ part part (λ b. []) _ _ _ _ c.in_err-check_inodes-in-Go.field-0.0
     (of_says _ all part _ (map of_names (root_said c.root_kind-kind.result c.is_root_marked.result)) _ _ _ (of_begins _ all _)
-    (λ b k. tree_is v b w _ _ true c.root_kind-kind.ensures c.is_root_marked.ensures k.claims c.in-Go.ensures) c.in_ok-tell_root.ensures)
+    (λ b k. tree_is v b w _ _ true c.root_kind-kind.ensures c.is_root_marked.ensures k.claims c.in-Go.ensures) c.in_ok-report_root.ensures)
     (λ b k. sym (append-nil (part b)))
     c.in_err-check_inodes-in-Go.ensures.text)
 
@@ -53,7 +53,7 @@ returns-in_ok-check_inodes-in-Go-clause-text g c =
     let part = λ (b : List ℕ). map of_names (lines_from (lines_of (volume_of v b)) 2 (inodes_of v - 2)) in
     of_part _ part part (λ b. []) _ _ _ _
     (of_says _ all part _ (map of_names (root_said c.root_kind-kind.result c.is_root_marked.result)) _ _ _ (of_begins _ all _)
-    (λ b k. tree_is v b w _ _ true c.root_kind-kind.ensures c.is_root_marked.ensures k.claims c.in-Go.ensures) c.in_ok-tell_root.ensures)
+    (λ b k. tree_is v b w _ _ true c.root_kind-kind.ensures c.is_root_marked.ensures k.claims c.in-Go.ensures) c.in_ok-report_root.ensures)
     (λ b k. sym (append-nil (part b)))
     c.in_ok-check_inodes-in-Go.ensures.text
 

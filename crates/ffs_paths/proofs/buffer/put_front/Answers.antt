@@ -3,8 +3,8 @@ use Rattle.std.proofs.lemmas.Slice.{drop-put_mid}
 use Rattle.std.proofs.lemmas.List.{drop-set-lt, length-set}
 use Rattle.ffs_paths.proofs.buffer.put_front.Goals as goal
 
-pub returns-clause-behind : goal.returns-clause-behind
-returns-clause-behind c = λ k l.
+pub returns-clause-following : goal.returns-clause-following
+returns-clause-following c = λ k l.
     let room = c.requires.room in
     let long = c.told-bytes in
     let e = c.requires.end in

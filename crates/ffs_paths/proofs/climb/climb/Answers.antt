@@ -1,8 +1,8 @@
 use Rattle.std.proofs.Common.{◌≡◌, ◌∙◌, ap, sym, subst, arith, ℕ}
 use Rattle.std.specs.Prelude.{slice_index}
 use Rattle.std.specs.Option.{unwrap_or}
-use Rattle.ffs_volume.specs.Parents.{graph_of}
-use Rattle.ffs_volume.specs.Volumes.{volume_of}
+use Rattle.ffs_volume.specs.Directories.Parents.{graph_of}
+use Rattle.ffs_volume.specs.Directories.Volumes.{volume_of}
 use Rattle.ffs_paths.specs.Climbing.{AreOpen}
 use Rattle.ffs_paths.proofs.Ways.{HasParent, way_root, way_cut, way_long, way_up, count_is}
 use Rattle.ffs_paths.proofs.climb.climb.Goals as goal
@@ -46,7 +46,7 @@ up-preserved g c =
     let v = c.args.geometry.now.layout in
     record {
       at = c.if-parent-cut.false;
-      windows = subst (λ x. AreOpen v x c.push_name.new.windows) (ap (λ d. d.told) device) c.push_name.ensures.windows;
+      windows = subst (λ x. AreOpen v x c.push_name.new.windows) (ap (λ d. d.contents) device) c.push_name.ensures.windows;
       device = device;
       path = λ b t lead k l names h.
           let G = graph_of (volume_of v b) in
@@ -55,5 +55,5 @@ up-preserved g c =
           let p : ℕ = slice_index c.args.parents.now c.up.at in
           let e : p ≡ u.0 = lead.above c.up.at ∙ ap (λ o. unwrap_or o 0) u.1.is in
           let up = subst (λ s. HasParent G k c.args.dir c.up.at c.up.step names c.up.path s) (sym e) u.1 in
-          up.on c.push_name.new.path (λ behind held. c.in_ok-push_name.ensures.path b (ap (λ d. d.told) i.device ∙ t) up.dir (lead.cuts p) behind held);
+          up.on c.push_name.new.path (λ following held. c.in_ok-push_name.ensures.path b (ap (λ d. d.contents) i.device ∙ t) up.dir (lead.cuts p) following held);
     }

@@ -2,21 +2,21 @@ use Rattle.std.proofs.Common.{◌∙◌, ap, sym}
 use Rattle.ffs_names.specs.Entering.{to_come, last_name}
 use Rattle.ffs_names.proofs.Advances.{holds_on}
 use Rattle.ffs_names.proofs.Entered.{data_on}
-use Rattle.ffs_survey.specs.Reading.{seen_of}
+use Rattle.ffs_survey.specs.Reading.{roled_of}
 use Rattle.ffs_paths.specs.Climbing.{name_in}
 use Rattle.ffs_paths.proofs.Ways.{name_in-here, name_in-past}
 use Rattle.ffs_paths.proofs.climb.find.Goals as goal
 
 pub returns-then-names-clause-name : goal.returns-then-names-clause-name
 returns-then-names-clause-name g c = λ b t.
-    let u = ap (λ d. d.told) c.entries.invariant.device ∙ t in
+    let u = ap (λ d. d.contents) c.entries.invariant.device ∙ t in
     let o = rw c.in-Some.is at c.in_ok-entry.ensures.entries in
-    let e = seen_of c.in-Some.entry (last_name c.next.new.self) in
+    let e = roled_of c.in-Some.entry (last_name c.next.new.self) in
     c.entries.invariant.name b t ∙ (ap (name_in c.args.number) (o b u) ∙ name_in-here c.args.number e (to_come b c.next.new.self) (sym c.names.ensures ∙ c.if-names.true))
 
 pub returns-clause-name : goal.returns-clause-name
 returns-clause-name g c = λ b t.
-    let u = ap (λ d. d.told) c.entries.invariant.device ∙ t in
+    let u = ap (λ d. d.contents) c.entries.invariant.device ∙ t in
     let o = rw c.in_default.is at c.in_ok-entry.ensures.entries in
     c.entries.invariant.name b t ∙ ap (name_in c.args.number) (o b u)
 
@@ -26,15 +26,15 @@ entries-preserved g c =
     let device = c.in_ok-entry.ensures.ok ∙ i.device in
     record {
       name = λ b t.
-          let u = ap (λ d. d.told) i.device ∙ t in
+          let u = ap (λ d. d.contents) i.device ∙ t in
           let o = rw c.in-Some.is at c.in_ok-entry.ensures.entries in
-          let e = seen_of c.in-Some.entry (last_name c.next.new.self) in
+          let e = roled_of c.in-Some.entry (last_name c.next.new.self) in
           i.name b t ∙ (ap (name_in c.args.number) (o b u) ∙ name_in-past c.args.number e (to_come b c.next.new.self) (sym c.names.ensures ∙ c.if-names.false));
       geometry = c.next.ensures.geometry ∙ i.geometry;
       size = c.next.ensures.size ∙ i.size;
-      holds = holds_on c.args.entries.now.chunks.walk.geometry c.entries.entries.chunks.walk.geometry (g.I.Image.device c.args.image.now).told (g.I.Image.device c.next.new.image).told c.next.new.blocks
-          i.geometry (ap (λ d. d.told) device) c.next.ensures.holds;
+      holds = holds_on c.args.entries.now.chunks.walk.geometry c.entries.entries.chunks.walk.geometry (g.I.Image.device c.args.image.now).contents (g.I.Image.device c.next.new.image).contents c.next.new.blocks
+          i.geometry (ap (λ d. d.contents) device) c.next.ensures.holds;
       data_size = c.next.ensures.data_size ∙ i.data_size;
-      data_holds = data_on (g.I.Image.device c.args.image.now).told (g.I.Image.device c.next.new.image).told c.next.new.window (ap (λ d. d.told) device) c.next.ensures.data_holds;
+      data_holds = data_on (g.I.Image.device c.args.image.now).contents (g.I.Image.device c.next.new.image).contents c.next.new.window (ap (λ d. d.contents) device) c.next.ensures.data_holds;
       device = device;
     }

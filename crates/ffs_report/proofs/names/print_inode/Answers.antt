@@ -1,7 +1,7 @@
 use Rattle.std.proofs.Common.{◌++◌}
 use Rattle.std.proofs.lemmas.Result.{err_from_is_err_and}
 use Rattle.ffs_report.specs.Piece.{pieces_text}
-use Rattle.ffs_volume.specs.Texts.{attr_text}
+use Rattle.ffs_volume.specs.Messages.Texts.{attr_text}
 use Rattle.ffs_report.proofs.Sinks.{prints_then, broke_off_after, broke_off_more}
 use Rattle.ffs_report.proofs.names.print_inode.Goals as goal
 

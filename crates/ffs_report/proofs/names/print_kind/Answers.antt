@@ -1,6 +1,6 @@
 use Rattle.std.proofs.lemmas.Result.{err_from_is_err_and}
 use Rattle.ffs_report.specs.Piece.{pieces_text}
-use Rattle.ffs_volume.specs.Texts.{file_label, inode_text}
+use Rattle.ffs_volume.specs.Messages.Texts.{file_label, inode_text}
 use Rattle.ffs_report.proofs.Sinks.{prints_then, broke_off_more}
 use Rattle.ffs_report.proofs.names.print_kind.Goals as goal
 

@@ -1,5 +1,5 @@
 use Rattle.std.proofs.Common.{◌≡◌, ◌⊎◌, inl, inr, suc, ◌+◌, ◌<◌, ◌≤◌, length, arith, subst}
-use Rattle.ffs_volume.specs.Climb.{cycle-along}
+use Rattle.ffs_volume.proofs.ClimbLaws.{cycle-along}
 use Rattle.ffs_survey.specs.Survey.{number_at}
 use Rattle.ffs_survey.specs.Cycles.{up_of}
 use Rattle.ffs_survey.proofs.Walks.{up_cycle, Rounding, round_start, round_step, round_end, round_short}

@@ -1,5 +1,5 @@
 use Rattle.std.proofs.Common.{◌≡◌, ◌≢◌, ℕ, ◌+◌, ◌<◌, ◌≤◌, List, length, arith, sym, ◌∙◌, subst, set, None, Some, ◌⊎◌, inl, inr}
-use Rattle.ffs_volume.specs.Climb.{OnCycle}
+use Rattle.ffs_volume.specs.Directories.Climb.{OnCycle}
 use Rattle.std.specs.Prelude.{suc}
 use Rattle.ffs_survey.specs.Survey.{number_at}
 use Rattle.ffs_survey.specs.Cycles.{up_of, IsNew, IsClosed, Walked}

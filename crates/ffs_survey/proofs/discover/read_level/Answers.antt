@@ -16,9 +16,9 @@ loop-s-preserved g c =
       grown = λ x l. let old = inv.grown x l in let new = done.grown x l in omega (arith, old, new);
       top = let t = done.top in let i = inv.top in omega (arith, t, i);
       comes = λ b k.
-          level_step _ c.args.kinds.now (g.D.Directories.entries (g.D.Directories.base c.args.directories.now) b) c.args.front.now c.loop-s.s-index _ _ _ _ _ _ _ _ _
-          c.loop-s-test.true (c.requires.front b k c.loop-s.s-index 0 c.loop-s-test.true) (inv.comes b k) (comes b k);
+          level_step _ c.args.kinds.now (g.D.Directories.entries (g.D.Directories.base c.args.directories.now) b) c.args.frontier.now c.loop-s.s-index _ _ _ _ _ _ _ _ _
+          c.loop-s-test.true (c.requires.frontier b k c.loop-s.s-index 0 c.loop-s-test.true) (inv.comes b k) (comes b k);
       counts = λ b k.
-          dir_counted (length c.args.kinds.now) _ _ c.args.kinds.now (g.D.Directories.entries (g.D.Directories.base c.args.directories.now) b) c.args.front.now c.loop-s.s-index _ _ _ _ _ _
-          c.loop-s-test.true (c.requires.front b k c.loop-s.s-index 0 c.loop-s-test.true) (inv.counts b k) (counts b k);
+          dir_counted (length c.args.kinds.now) _ _ c.args.kinds.now (g.D.Directories.entries (g.D.Directories.base c.args.directories.now) b) c.args.frontier.now c.loop-s.s-index _ _ _ _ _ _
+          c.loop-s-test.true (c.requires.frontier b k c.loop-s.s-index 0 c.loop-s-test.true) (inv.counts b k) (counts b k);
     }

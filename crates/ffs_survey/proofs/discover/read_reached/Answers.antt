@@ -1,6 +1,6 @@
 use Rattle.std.proofs.Common.{arith, rules, ◌≡◌, ◌∷◌, ◌<◌, List, ℕ, take, length}
-use Rattle.ffs_volume.specs.Roles.{Seen, refers}
-use Rattle.ffs_survey.specs.Reading.{seen_of}
+use Rattle.ffs_volume.specs.Directories.Roles.{RoledEntry, refers}
+use Rattle.ffs_survey.specs.Reading.{roled_of}
 use Rattle.ffs_survey.proofs.Discovered.{entry_step}
 use Rattle.ffs_survey.proofs.Tally.{entry_counted, bit-le}
 use Rattle.ffs_survey.proofs.discover.read_reached.Goals as goal
@@ -9,7 +9,7 @@ pub loop-entry-preserved : goal.loop-entry-preserved
 loop-entry-preserved g c =
     let inv = c.loop-entry.invariant in
     let fell : g.D.Directories.left c.next.new.self < g.D.Directories.left c.loop-entry.directories = rw c.in-Some.is at c.in_ok-entry.ensures.left in
-    let e : Seen = seen_of c.in-Some.entry (g.D.Directories.name c.next.new.self) in
+    let e : RoledEntry = roled_of c.in-Some.entry (g.D.Directories.name c.next.new.self) in
     let told = rw inv.base at c.in_ok-entry.ensures.rest in
     let cut = λ (b : List ℕ) (k : g.D.Directories.knows (g.D.Directories.base c.args.directories.now) b).
     let q : g.D.Directories.rest c.loop-entry.directories b ≡ e ∷ g.D.Directories.rest c.next.new.self b = rw c.in-Some.is at (told b k) in q in

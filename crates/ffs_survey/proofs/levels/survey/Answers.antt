@@ -1,5 +1,5 @@
 use Rattle.std.proofs.Common.{arith}
-use Rattle.ffs_survey.proofs.Fronts.{sane_of}
+use Rattle.ffs_survey.proofs.Frontiers.{sane_of}
 use Rattle.ffs_survey.proofs.Whole.{free_blank, survey_whole}
 use Rattle.ffs_survey.proofs.levels.survey.Goals as goal
 

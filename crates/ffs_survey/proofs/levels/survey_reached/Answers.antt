@@ -1,9 +1,9 @@
 use Rattle.std.proofs.Common.{rules, ◌≡◌, ℕ, List, take, set, arith, sym, ◌∙◌, subst, length-set, true}
 use Rattle.ffs_survey.specs.Survey.{graph_with}
-use Rattle.ffs_survey.specs.Discover.{IsFront, Knows, IsCount}
+use Rattle.ffs_survey.specs.Discover.{IsFrontier, LevelsKnown, IsCount}
 use Rattle.ffs_survey.proofs.Discovered.{unset-set}
-use Rattle.ffs_survey.proofs.Fronts.{sane_of}
-use Rattle.ffs_survey.proofs.Ends.{knows_start, front_start, queue_start, unset-le}
+use Rattle.ffs_survey.proofs.Frontiers.{sane_of}
+use Rattle.ffs_survey.proofs.Ends.{levels_start, frontier_start, queue_start, unset-le}
 use Rattle.ffs_survey.proofs.Queues.{counted_on, reached_part, alone_part, none_counted, no_front}
 use Rattle.ffs_survey.proofs.levels.survey_reached.Goals as goal
 
@@ -17,13 +17,13 @@ loop-low-init g c = record {
   deep = omega arith;
   room = omega (arith, unset-set c.args.reached.now 2 (omega arith) (c.requires.none_reached 2), unset-le c.args.reached.now, length-set c.args.queue.now 0 2);
   counted = λ x l. let z = c.requires.none_counted x in omega (arith, z);
-  front = λ b k.
+  frontier = λ b k.
       let v = graph_with c.args.kinds.now (g.D.Directories.entries (g.D.Directories.base c.args.directories.now) b) in
-      subst (λ q. IsFront v 0 q) (sym (queue_start c.args.queue.now (omega arith))) (front_start v (sane_of c.args.kinds.now _ c.requires.some));
+      subst (λ q. IsFrontier v 0 q) (sym (queue_start c.args.queue.now (omega arith))) (frontier_start v (sane_of c.args.kinds.now _ c.requires.some));
   levels = λ b k.
       let v = graph_with c.args.kinds.now (g.D.Directories.entries (g.D.Directories.base c.args.directories.now) b) in
-      subst (λ q. Knows v 0 (set c.args.reached.now 2 true) (set c.args.parents.now 2 2) q) (sym (queue_start c.args.queue.now (omega arith)))
-      (knows_start v c.args.reached.now c.args.parents.now (omega arith) (omega arith) c.requires.none_reached c.requires.no_parents);
+      subst (λ q. LevelsKnown v 0 (set c.args.reached.now 2 true) (set c.args.parents.now 2 2) q) (sym (queue_start c.args.queue.now (omega arith)))
+      (levels_start v c.args.reached.now c.args.parents.now (omega arith) (omega arith) c.requires.none_reached c.requires.no_parents);
   counts = λ b k. none_counted (graph_with c.args.kinds.now (g.D.Directories.entries (g.D.Directories.base c.args.directories.now) b)) c.args.references.now c.args.named.now c.requires.none_counted c.requires.none_named;
 }
 
@@ -31,7 +31,7 @@ pub loop-low-preserved : goal.loop-low-preserved
 loop-low-preserved g c =
     let inv = c.loop-low.invariant in
     let done = c.in_ok-end.ensures in
-    let front = rw inv.base at done.front in
+    let frontier = rw inv.base at done.frontier in
     let levels = rw inv.base at done.levels in
     let counts = rw inv.base at done.counts in
     let test = c.loop-low-test.true in
@@ -44,7 +44,7 @@ loop-low-preserved g c =
       deep = let d = inv.deep in omega (arith, d, test);
       room = done.room;
       counted = done.counted;
-      front = λ b k. front b k;
+      frontier = λ b k. frontier b k;
       levels = λ b k. levels b k;
       counts = λ b k.
           counted_on (graph_with c.args.kinds.now (g.D.Directories.entries (g.D.Directories.base c.args.directories.now) b)) c.loop-low.low c.loop-low.high c.loop-low.queue _ c.loop-low.references _ c.loop-low.named _
@@ -58,10 +58,10 @@ returns-clause-part g c = λ b k.
     let inv = c.loop-low.invariant in
     let low = inv.ordered in
     let same : c.loop-low.low ≡ c.loop-low.high = omega (arith, low, c.loop-low-test.false) in
-    let F : List ℕ → Type 0 = λ xs. IsFront v c.loop-low.depth xs in
+    let F : List ℕ → Type 0 = λ xs. IsFrontier v c.loop-low.depth xs in
     reached_part c.args.kinds.now es c.loop-low.depth c.loop-low.references c.loop-low.named c.loop-low.reached c.loop-low.parents (take c.loop-low.high c.loop-low.queue) inv.lengths
     (sane_of c.args.kinds.now es c.requires.some)
-    (subst F (no_front c.loop-low.low c.loop-low.high c.loop-low.queue c.loop-low-test.false) (inv.front b k)) (inv.levels b k)
+    (subst F (no_front c.loop-low.low c.loop-low.high c.loop-low.queue c.loop-low-test.false) (inv.frontier b k)) (inv.levels b k)
     (subst (λ n. IsCount v (take n c.loop-low.queue) c.loop-low.references c.loop-low.named) same (inv.counts b k))
 
 pub returns-then-not-is_dir-clause-part : goal.returns-then-not-is_dir-clause-part
@@ -69,5 +69,5 @@ returns-then-not-is_dir-clause-part g c = λ b k.
     let es = g.D.Directories.entries (g.D.Directories.base c.args.directories.now) b in
     alone_part c.args.kinds.now es c.args.references.now c.args.named.now (set c.args.reached.now 2 true) (set c.args.parents.now 2 2) (omega (arith, length-set c.args.reached.now 2 true))
     (sane_of c.args.kinds.now es c.requires.some) (sym c.is_dir.ensures ∙ c.if-not-is_dir.true)
-    (knows_start (graph_with c.args.kinds.now es) c.args.reached.now c.args.parents.now (omega arith) (omega arith) c.requires.none_reached c.requires.no_parents)
+    (levels_start (graph_with c.args.kinds.now es) c.args.reached.now c.args.parents.now (omega arith) (omega arith) c.requires.none_reached c.requires.no_parents)
     c.requires.none_counted c.requires.none_named

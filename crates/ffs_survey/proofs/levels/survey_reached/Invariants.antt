@@ -1,6 +1,6 @@
 use Rattle.std.proofs.Common.{◌≡◌, ℕ, ◌+◌, ◌-◌, ◌*◌, ◌<◌, ◌≤◌, ◌^◌, List, length, take, drop}
 use Rattle.ffs_survey.specs.Survey.{number_at, graph_with}
-use Rattle.ffs_survey.specs.Discover.{unset, IsFront, Knows, IsCount}
+use Rattle.ffs_survey.specs.Discover.{unset, IsFrontier, LevelsKnown, IsCount}
 use Rattle.ffs_survey.proofs.levels.survey_reached.Given as goal
 
 abbrev pub invariant-loop-low : goal.invariant-loop-low
@@ -13,8 +13,8 @@ invariant-loop-low g l = record {
   deep : l.depth ≤ l.low;
   room : l.high + unset l.reached ≤ length l.queue;
   counted : (x : ℕ) → x < length l.kinds → number_at l.references x ≤ l.low * 2 ^ 28;
-  front : (b : List ℕ) → g.D.Directories.knows (g.D.Directories.base l.fn.directories) b → IsFront (graph_with l.kinds (g.D.Directories.entries (g.D.Directories.base l.fn.directories) b)) l.depth (drop l.low (take l.high l.queue));
-  levels : (b : List ℕ) → g.D.Directories.knows (g.D.Directories.base l.fn.directories) b → Knows (graph_with l.kinds (g.D.Directories.entries (g.D.Directories.base l.fn.directories) b)) l.depth l.reached l.parents (take l.high l.queue);
+  frontier : (b : List ℕ) → g.D.Directories.knows (g.D.Directories.base l.fn.directories) b → IsFrontier (graph_with l.kinds (g.D.Directories.entries (g.D.Directories.base l.fn.directories) b)) l.depth (drop l.low (take l.high l.queue));
+  levels : (b : List ℕ) → g.D.Directories.knows (g.D.Directories.base l.fn.directories) b → LevelsKnown (graph_with l.kinds (g.D.Directories.entries (g.D.Directories.base l.fn.directories) b)) l.depth l.reached l.parents (take l.high l.queue);
   counts : (b : List ℕ) → g.D.Directories.knows (g.D.Directories.base l.fn.directories) b → IsCount (graph_with l.kinds (g.D.Directories.entries (g.D.Directories.base l.fn.directories) b)) (take l.low l.queue) l.references l.named;
 }
 

@@ -1,6 +1,6 @@
 use Rattle.std.proofs.Common.{arith, ◌∙◌, sym, ap, true, ◌||◌, length}
 use Rattle.std.proofs.lemmas.Bool.{cond-true, cond-false, eq-eqb, ne_eqb}
-use Rattle.ffs_volume.specs.Climb.{leads_cycle}
+use Rattle.ffs_volume.specs.Directories.Climb.{leads_cycle}
 use Rattle.ffs_survey.specs.Cycles.{up_of}
 use Rattle.ffs_survey.specs.Survey.{suspect_at}
 use Rattle.ffs_volume.proofs.Unreached.{IsLost}

@@ -6,7 +6,7 @@ chunks-init g c = record {
   geometry = c.start-chunks.ensures.geometry;
   device = refl;
   room = search rules;
-  holds = c.over-blocks.ensures.holds c.args.geometry.now.layout (g.I.Image.device c.args.image.now).told;
+  holds = c.over-blocks.ensures.holds c.args.geometry.now.layout (g.I.Image.device c.args.image.now).contents;
   data_room = search rules;
-  data_holds = c.over-window.ensures.holds (g.I.Image.device c.args.image.now).told;
+  data_holds = c.over-window.ensures.holds (g.I.Image.device c.args.image.now).contents;
 }

@@ -8,7 +8,7 @@ invariant-loop-steps g l = record {
   geometry : l.walk.geometry ≡ l.geometry;
   device : g.I.Image.device l.image ≡ g.I.Image.device l.initial.image;
   room : HasRoom l.geometry.layout l.blocks;
-  holds : BlocksHold l.geometry.layout (g.I.Image.device l.initial.image).told l.blocks;
+  holds : BlocksHold l.geometry.layout (g.I.Image.device l.initial.image).contents l.blocks;
 }
 
 abbrev pub decreases-loop-steps : goal.decreases-loop-steps

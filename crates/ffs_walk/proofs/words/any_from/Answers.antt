@@ -1,5 +1,5 @@
 use Rattle.std.proofs.Common.{◌∙◌, sym}
-use Rattle.ffs_volume.specs.Steps.{word_of}
+use Rattle.ffs_volume.specs.Blocks.Steps.{word_of}
 use Rattle.ffs_walk.proofs.Ranges.{any_word_step, any_word_here}
 use Rattle.ffs_walk.proofs.words.any_from.Goals as goal
 

@@ -1,6 +1,6 @@
 use Rattle.std.proofs.Common.{◌≡◌, ◌-◌, not, nat_eq}
 use Rattle.std.specs.List.{list_any, range_with_len}
-use Rattle.ffs_volume.specs.Steps.{any_word_from, word_of}
+use Rattle.ffs_volume.specs.Blocks.Steps.{any_word_from, word_of}
 use Rattle.ffs_walk.proofs.words.any_from.Given as goal
 
 abbrev pub invariant-loop-j : goal.invariant-loop-j

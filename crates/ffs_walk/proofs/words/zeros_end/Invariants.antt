@@ -1,5 +1,5 @@
 use Rattle.std.proofs.Common.{◌≡◌, ℕ, ◌<◌, ◌≤◌}
-use Rattle.ffs_volume.specs.Steps.{word_of}
+use Rattle.ffs_volume.specs.Blocks.Steps.{word_of}
 use Rattle.ffs_walk.proofs.words.zeros_end.Given as goal
 
 abbrev pub invariant-loop-j : goal.invariant-loop-j

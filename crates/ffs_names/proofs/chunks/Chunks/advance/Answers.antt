@@ -7,10 +7,10 @@ use Rattle.ffs_names.proofs.Pieces.{no_more}
 use Rattle.ffs_names.proofs.Advances.{over_rest, unseen_none, end_on, end_none, tail_on, gap_on, run_on, runs_on, runs_tail, runs_gap, holds_on, walked, walked_runs}
 use Rattle.ffs_names.proofs.chunks.Chunks.advance.Goals as goal
 
-pub returns-then-not-is_seen-clause-none : goal.returns-then-not-is_seen-clause-none
-returns-then-not-is_seen-clause-none g c = λ _ b t.
+pub returns-then-not-is_replay_open-clause-none : goal.returns-then-not-is_replay_open-clause-none
+returns-then-not-is_replay_open-clause-none g c = λ _ b t.
     let s = c.steps.self in
-    unseen_none s.walk.geometry.layout b s.hand s.taken s.keeping.cut (replay_in s.keeping) (steps_left b s.walk) (omega (arith, c.steps-test.true)) (sym c.is_seen.ensures ∙ c.if-not-is_seen.true)
+    unseen_none s.walk.geometry.layout b s.run_cursor s.taken s.keeping.cut (replay_in s.keeping) (steps_left b s.walk) (omega (arith, c.steps-test.true)) (sym c.is_replay_open.ensures ∙ c.if-not-is_replay_open.true)
 
 -- no step is left
 pub returns-in-None-clause-chunks : goal.returns-in-None-clause-chunks
@@ -18,15 +18,15 @@ returns-in-None-clause-chunks g c = λ b t.
     let s = c.steps.self in
     let steps = rw c.in-None.is at c.in_ok-next.ensures.steps in
     let none = c.next.ensures.none (c.in_ok-next.was ∙ ap (λ x. Ok x) c.in-None.is) in
-    end_on s.walk.geometry.layout c.next.new.self.geometry.layout b s.hand s.taken s.keeping.cut (replay_in s.keeping) (steps_left b s.walk) (steps_left b c.next.new.self)
-    (ap (λ x. x.layout) c.next.ensures.geometry) (steps b (ap (λ d. d.told) c.steps.invariant.device ∙ t)) (over_rest b c.next.new.self none)
+    end_on s.walk.geometry.layout c.next.new.self.geometry.layout b s.run_cursor s.taken s.keeping.cut (replay_in s.keeping) (steps_left b s.walk) (steps_left b c.next.new.self)
+    (ap (λ x. x.layout) c.next.ensures.geometry) (steps b (ap (λ d. d.contents) c.steps.invariant.device ∙ t)) (over_rest b c.next.new.self none)
     ∙ c.steps.invariant.chunks b t
 
 pub returns-in-None-clause-none : goal.returns-in-None-clause-none
 returns-in-None-clause-none g c = λ _ b t.
     let s = c.steps.self in
     let none = c.next.ensures.none (c.in_ok-next.was ∙ ap (λ x. Ok x) c.in-None.is) in
-    end_none c.next.new.self.geometry.layout b s.hand s.taken s.keeping.cut (replay_in s.keeping) (steps_left b c.next.new.self) (omega (arith, c.steps-test.true)) (over_rest b c.next.new.self none)
+    end_none c.next.new.self.geometry.layout b s.run_cursor s.taken s.keeping.cut (replay_in s.keeping) (steps_left b c.next.new.self) (omega (arith, c.steps-test.true)) (over_rest b c.next.new.self none)
 
 pub returns-in-None-clause-runs : goal.returns-in-None-clause-runs
 returns-in-None-clause-runs g c = λ b t.
@@ -34,7 +34,7 @@ returns-in-None-clause-runs g c = λ b t.
     let steps = rw c.in-None.is at c.in_ok-next.ensures.steps in
     let none = c.next.ensures.none (c.in_ok-next.was ∙ ap (λ x. Ok x) c.in-None.is) in
     let same = runs_on s.walk.geometry.layout c.next.new.self.geometry.layout s.keeping.cut (replay_in s.keeping) (steps_left b s.walk) (steps_left b c.next.new.self)
-    (ap (λ x. x.layout) c.next.ensures.geometry) (steps b (ap (λ d. d.told) c.steps.invariant.device ∙ t) ∙ sym (over_rest b c.next.new.self none)) in
+    (ap (λ x. x.layout) c.next.ensures.geometry) (steps b (ap (λ d. d.contents) c.steps.invariant.device ∙ t) ∙ sym (over_rest b c.next.new.self none)) in
     omega (arith, same, c.steps.invariant.runs b t)
 
 pub steps-preserved-in-Some-Tail : goal.steps-preserved-in-Some-Tail
@@ -42,19 +42,19 @@ steps-preserved-in-Some-Tail g c = record {
   chunks = λ b t.
       let s = c.steps.self in
       let steps = rw c.in-Some-Tail.field-0-is at (rw c.in-Some-Tail.is at c.in_ok-next.ensures.steps) in
-      tail_on s.walk.geometry.layout c.next.new.self.geometry.layout b s.hand s.taken s.keeping.cut (replay_in s.keeping) (steps_left b s.walk) (steps_left b c.next.new.self)
-      (ap (λ x. x.layout) c.next.ensures.geometry) (steps b (ap (λ d. d.told) c.steps.invariant.device ∙ t))
+      tail_on s.walk.geometry.layout c.next.new.self.geometry.layout b s.run_cursor s.taken s.keeping.cut (replay_in s.keeping) (steps_left b s.walk) (steps_left b c.next.new.self)
+      (ap (λ x. x.layout) c.next.ensures.geometry) (steps b (ap (λ d. d.contents) c.steps.invariant.device ∙ t))
       ∙ c.steps.invariant.chunks b t;
   runs = λ b t.
       let s = c.steps.self in
       let steps = rw c.in-Some-Tail.field-0-is at (rw c.in-Some-Tail.is at c.in_ok-next.ensures.steps) in
       let same = runs_tail s.walk.geometry.layout c.next.new.self.geometry.layout s.keeping.cut (replay_in s.keeping) (steps_left b s.walk) (steps_left b c.next.new.self)
-      (ap (λ x. x.layout) c.next.ensures.geometry) (steps b (ap (λ d. d.told) c.steps.invariant.device ∙ t)) in
+      (ap (λ x. x.layout) c.next.ensures.geometry) (steps b (ap (λ d. d.contents) c.steps.invariant.device ∙ t)) in
       omega (arith, same, c.steps.invariant.runs b t);
   same = record { geometry = c.next.ensures.geometry ∙ c.steps.invariant.same.geometry; cut = c.steps.invariant.same.cut; taken = c.steps.invariant.same.taken; budget = c.steps.invariant.same.budget };
   size = c.next.ensures.size ∙ c.steps.invariant.size;
-  holds = holds_on c.args.self.now.walk.geometry c.steps.self.walk.geometry (g.I.Image.device c.args.image.now).told (g.I.Image.device c.next.new.image).told c.next.new.blocks
-      c.steps.invariant.same.geometry (ap (λ d. d.told) (c.in_ok-next.ensures.ok ∙ c.steps.invariant.device)) c.next.ensures.holds;
+  holds = holds_on c.args.self.now.walk.geometry c.steps.self.walk.geometry (g.I.Image.device c.args.image.now).contents (g.I.Image.device c.next.new.image).contents c.next.new.blocks
+      c.steps.invariant.same.geometry (ap (λ d. d.contents) (c.in_ok-next.ensures.ok ∙ c.steps.invariant.device)) c.next.ensures.holds;
   device = c.in_ok-next.ensures.ok ∙ c.steps.invariant.device;
 }
 
@@ -63,19 +63,19 @@ steps-preserved g c = record {
   chunks = λ b t.
       let s = c.steps.self in
       let steps = rw c.in-Some-Gap.field-0-is at (rw c.in-Some-Gap.is at c.in_ok-next.ensures.steps) in
-      gap_on s.walk.geometry.layout c.next.new.self.geometry.layout b s.hand s.taken s.keeping.cut (replay_in s.keeping) (steps_left b s.walk) (steps_left b c.next.new.self)
-      (ap (λ x. x.layout) c.next.ensures.geometry) (steps b (ap (λ d. d.told) c.steps.invariant.device ∙ t))
+      gap_on s.walk.geometry.layout c.next.new.self.geometry.layout b s.run_cursor s.taken s.keeping.cut (replay_in s.keeping) (steps_left b s.walk) (steps_left b c.next.new.self)
+      (ap (λ x. x.layout) c.next.ensures.geometry) (steps b (ap (λ d. d.contents) c.steps.invariant.device ∙ t))
       ∙ c.steps.invariant.chunks b t;
   runs = λ b t.
       let s = c.steps.self in
       let steps = rw c.in-Some-Gap.field-0-is at (rw c.in-Some-Gap.is at c.in_ok-next.ensures.steps) in
       let same = runs_gap s.walk.geometry.layout c.next.new.self.geometry.layout s.keeping.cut (replay_in s.keeping) (steps_left b s.walk) (steps_left b c.next.new.self)
-      (ap (λ x. x.layout) c.next.ensures.geometry) (steps b (ap (λ d. d.told) c.steps.invariant.device ∙ t)) in
+      (ap (λ x. x.layout) c.next.ensures.geometry) (steps b (ap (λ d. d.contents) c.steps.invariant.device ∙ t)) in
       omega (arith, same, c.steps.invariant.runs b t);
   same = record { geometry = c.next.ensures.geometry ∙ c.steps.invariant.same.geometry; cut = c.steps.invariant.same.cut; taken = c.steps.invariant.same.taken; budget = c.steps.invariant.same.budget };
   size = c.next.ensures.size ∙ c.steps.invariant.size;
-  holds = holds_on c.args.self.now.walk.geometry c.steps.self.walk.geometry (g.I.Image.device c.args.image.now).told (g.I.Image.device c.next.new.image).told c.next.new.blocks
-      c.steps.invariant.same.geometry (ap (λ d. d.told) (c.in_ok-next.ensures.ok ∙ c.steps.invariant.device)) c.next.ensures.holds;
+  holds = holds_on c.args.self.now.walk.geometry c.steps.self.walk.geometry (g.I.Image.device c.args.image.now).contents (g.I.Image.device c.next.new.image).contents c.next.new.blocks
+      c.steps.invariant.same.geometry (ap (λ d. d.contents) (c.in_ok-next.ensures.ok ∙ c.steps.invariant.device)) c.next.ensures.holds;
   device = c.in_ok-next.ensures.ok ∙ c.steps.invariant.device;
 }
 
@@ -88,8 +88,8 @@ steps-preserved-in-Some-Run g c = record {
       let steps = rw r.field-0-is at (rw r.is at c.in_ok-next.ensures.steps) in
       walked b c.see.new.self w c.see.ensures.walk
       ∙ (c.see.ensures.chunks b (steps_left b w)
-      ∙ (run_on s.walk.geometry.layout w.geometry.layout b s.hand s.taken s.keeping.cut (replay_in s.keeping) r.start r.len r.block (steps_left b s.walk) (steps_left b w)
-      (ap (λ x. x.layout) c.next.ensures.geometry) (steps b (ap (λ d. d.told) c.steps.invariant.device ∙ t)) (omega (arith, c.steps-test.true))
+      ∙ (run_on s.walk.geometry.layout w.geometry.layout b s.run_cursor s.taken s.keeping.cut (replay_in s.keeping) r.start r.len r.block (steps_left b s.walk) (steps_left b w)
+      (ap (λ x. x.layout) c.next.ensures.geometry) (steps b (ap (λ d. d.contents) c.steps.invariant.device ∙ t)) (omega (arith, c.steps-test.true))
       ∙ c.steps.invariant.chunks b t));
   runs = λ b t.
       let s = c.steps.self in
@@ -97,13 +97,13 @@ steps-preserved-in-Some-Run g c = record {
       let r = c.in-Some-Run in
       let steps = rw r.field-0-is at (rw r.is at c.in_ok-next.ensures.steps) in
       let same = runs_on s.walk.geometry.layout w.geometry.layout s.keeping.cut (replay_in s.keeping) (steps_left b s.walk) (Run r.start r.len r.block ∷ steps_left b w)
-      (ap (λ x. x.layout) c.next.ensures.geometry) (steps b (ap (λ d. d.told) c.steps.invariant.device ∙ t)) in
+      (ap (λ x. x.layout) c.next.ensures.geometry) (steps b (ap (λ d. d.contents) c.steps.invariant.device ∙ t)) in
       let after = walked_runs b c.see.new.self w c.see.ensures.walk in
       omega (arith, same, after, c.see.ensures.runs (steps_left b w), c.steps.invariant.runs b t);
   same = record { geometry = c.see.ensures.same.geometry ∙ (c.next.ensures.geometry ∙ c.steps.invariant.same.geometry); cut = c.see.ensures.same.cut ∙ c.steps.invariant.same.cut; taken = c.see.ensures.same.taken ∙ c.steps.invariant.same.taken; budget = c.see.ensures.same.budget ∙ c.steps.invariant.same.budget };
   size = c.next.ensures.size ∙ c.steps.invariant.size;
-  holds = holds_on c.args.self.now.walk.geometry c.steps.self.walk.geometry (g.I.Image.device c.args.image.now).told (g.I.Image.device c.next.new.image).told c.next.new.blocks
-      c.steps.invariant.same.geometry (ap (λ d. d.told) (c.in_ok-next.ensures.ok ∙ c.steps.invariant.device)) c.next.ensures.holds;
+  holds = holds_on c.args.self.now.walk.geometry c.steps.self.walk.geometry (g.I.Image.device c.args.image.now).contents (g.I.Image.device c.next.new.image).contents c.next.new.blocks
+      c.steps.invariant.same.geometry (ap (λ d. d.contents) (c.in_ok-next.ensures.ok ∙ c.steps.invariant.device)) c.next.ensures.holds;
   device = c.in_ok-next.ensures.ok ∙ c.steps.invariant.device;
 }
 
@@ -117,11 +117,11 @@ steps-init g c = record {
   device = refl;
 }
 
-pub returns-then-not-is_seen-clause-chunks : goal.returns-then-not-is_seen-clause-chunks
-returns-then-not-is_seen-clause-chunks g c = c.steps.invariant.chunks
+pub returns-then-not-is_replay_open-clause-chunks : goal.returns-then-not-is_replay_open-clause-chunks
+returns-then-not-is_replay_open-clause-chunks g c = c.steps.invariant.chunks
 
-pub returns-then-not-is_seen-clause-runs : goal.returns-then-not-is_seen-clause-runs
-returns-then-not-is_seen-clause-runs g c = c.steps.invariant.runs
+pub returns-then-not-is_replay_open-clause-runs : goal.returns-then-not-is_replay_open-clause-runs
+returns-then-not-is_replay_open-clause-runs g c = c.steps.invariant.runs
 
 pub returns-clause-chunks : goal.returns-clause-chunks
 returns-clause-chunks g c = c.steps.invariant.chunks

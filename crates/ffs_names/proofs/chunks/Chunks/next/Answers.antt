@@ -1,5 +1,5 @@
 use Rattle.std.proofs.Common.{◌∙◌, ◌∷◌, ◌+◌, ◌-◌, ap, sym, arith, take}
-use Rattle.ffs_volume.specs.Directory.{chunk_of}
+use Rattle.ffs_volume.specs.Directories.Entries.{chunk_of}
 use Rattle.ffs_names.specs.Readings.{all_chunks, runs_left}
 use Rattle.ffs_names.proofs.Pieces.{some_taken, none_taken, no_more}
 use Rattle.ffs_names.proofs.chunks.Chunks.next.Goals as goal

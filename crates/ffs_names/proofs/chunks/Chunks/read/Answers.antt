@@ -1,20 +1,20 @@
 use Rattle.std.proofs.Common.{◌∙◌, ap, sym, arith}
 use Rattle.ffs_walk.specs.Windows.{held_bytes}
 use Rattle.ffs_walk.specs.Rests.{rest as steps_left}
-use Rattle.ffs_names.specs.Readings.{all_chunks, chunks_behind}
+use Rattle.ffs_names.specs.Readings.{all_chunks, chunks_after}
 use Rattle.ffs_names.proofs.Pieces.{chunk_held, hand_step}
 use Rattle.ffs_names.proofs.chunks.Chunks.read.Goals as goal
 
 pub returns-clause-chunks : goal.returns-clause-chunks
 returns-clause-chunks g c = λ b t.
     let s = c.advance.new.self in
-    let h = s.hand in
+    let h = s.run_cursor in
     let order = ap (λ x. x.layout.order) c.advance.ensures.same.geometry in
     let more = c.in_ok-advance.ensures.some c.if-not-branch.false in
     let fits = h.in_run in
     let chunk = chunk_held h.place h.length h.next b (held_bytes c.fill.new.self) c.copy_from_slice.new.self c.bytes.result.now (omega arith) c.copy_from_slice.ensures.after c.bytes.ensures
-    (c.in_ok-fill.ensures.bytes b (ap (λ d. d.told) c.in_ok-advance.ensures.ok ∙ t)) in
-    hand_step s.walk.geometry.layout.order c.args.self.now.walk.geometry.layout.order b h.place h.offset h.next h.count c.copy_from_slice.new.self (chunks_behind b s (steps_left b s.walk)) (all_chunks b c.args.self.now) c.from.result
+    (c.in_ok-fill.ensures.bytes b (ap (λ d. d.contents) c.in_ok-advance.ensures.ok ∙ t)) in
+    hand_step s.walk.geometry.layout.order c.args.self.now.walk.geometry.layout.order b h.place h.offset h.next h.count c.copy_from_slice.new.self (chunks_after b s (steps_left b s.walk)) (all_chunks b c.args.self.now) c.from.result
     order more chunk c.from.ensures (c.in_ok-advance.ensures.chunks b t)
 
 pub returns-then-not-branch-clause-chunks : goal.returns-then-not-branch-clause-chunks

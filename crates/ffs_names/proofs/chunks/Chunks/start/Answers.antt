@@ -1,8 +1,8 @@
 use Rattle.std.proofs.Common.{ap}
-use Rattle.ffs_volume.specs.Steps.{steps_of}
+use Rattle.ffs_volume.specs.Blocks.Steps.{steps_of}
 use Rattle.ffs_walk.specs.Rests.{rest as steps_left}
 use Rattle.ffs_names.specs.Keepings.{replay_in}
-use Rattle.ffs_names.specs.Hands.{hand_chunks}
+use Rattle.ffs_names.specs.RunCursors.{hand_chunks}
 use Rattle.ffs_names.proofs.Begins.{begun, runs_begun}
 use Rattle.ffs_names.proofs.chunks.Chunks.start.Goals as goal
 

@@ -11,7 +11,7 @@ returns-in-Some-clause-entries g c = λ b t. sym (c.chunks.invariant.entries b t
 pub returns-in-None-2-clause-entries : goal.returns-in-None-2-clause-entries
 returns-in-None-2-clause-entries g c = λ b t.
     let s = c.take.new.self in
-    let u = ap (λ d. d.told) c.chunks.invariant.device ∙ t in
+    let u = ap (λ d. d.contents) c.chunks.invariant.device ∙ t in
     let o = rw c.in-None-2.is at c.in_ok-next.ensures.chunks in
     sym (c.chunks.invariant.entries b t) ∙ (sym (c.in-None.ensures.entries b)
     ∙ none_came s.first s.index s.order s.chunk s.place (rest b s.chunks) c.in-None.ensures.none (o b u))
@@ -26,14 +26,14 @@ chunks-preserved g c =
       entries = λ b t.
           let o = rw c.in-Some-2.is at c.in_ok-next.ensures.chunks in
           chunk_came s.first s.index s.order s.chunks.walk.geometry.layout.order s.chunk s.place (rest b s.chunks) c.in-Some-2.offset c.next.new.chunk (rest b c.next.new.self)
-          c.in-None.ensures.none (sym s.same_order) (o b (ap (λ d. d.told) c.chunks.invariant.device ∙ t))
+          c.in-None.ensures.none (sym s.same_order) (o b (ap (λ d. d.contents) c.chunks.invariant.device ∙ t))
           ∙ (c.in-None.ensures.entries b ∙ c.chunks.invariant.entries b t);
       left = let f = rw c.in-Some-2.is at c.in_ok-next.ensures.falls in let k = ap (λ x. x.budget) c.take.ensures.chunks in omega (arith, f, k, c.chunks.invariant.left);
       geometry = c.next.ensures.geometry ∙ geometry;
       size = c.next.ensures.size ∙ c.chunks.invariant.size;
-      holds = holds_on c.args.self.now.chunks.walk.geometry s.chunks.walk.geometry (g.I.Image.device c.args.image.now).told (g.I.Image.device c.next.new.image).told c.next.new.blocks
-          geometry (ap (λ d. d.told) device) c.next.ensures.holds;
+      holds = holds_on c.args.self.now.chunks.walk.geometry s.chunks.walk.geometry (g.I.Image.device c.args.image.now).contents (g.I.Image.device c.next.new.image).contents c.next.new.blocks
+          geometry (ap (λ d. d.contents) device) c.next.ensures.holds;
       data_size = c.next.ensures.data_size ∙ c.chunks.invariant.data_size;
-      data_holds = data_on (g.I.Image.device c.args.image.now).told (g.I.Image.device c.next.new.image).told c.next.new.data (ap (λ d. d.told) device) c.next.ensures.data_holds;
+      data_holds = data_on (g.I.Image.device c.args.image.now).contents (g.I.Image.device c.next.new.image).contents c.next.new.data (ap (λ d. d.contents) device) c.next.ensures.data_holds;
       device = device;
     }

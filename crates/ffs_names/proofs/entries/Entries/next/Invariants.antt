@@ -1,19 +1,19 @@
 use Rattle.std.proofs.Common.{◌≡◌, ◌≤◌}
 use Rattle.std.specs.Prelude.{vec_len}
-use Rattle.ffs_image.specs.Device.{WhereTold}
+use Rattle.ffs_image.specs.Device.{ForContents}
 use Rattle.ffs_walk.specs.Windows.{BlocksHold, WindowHolds}
 use Rattle.ffs_names.specs.Entering.{to_come, left}
 use Rattle.ffs_names.proofs.entries.Entries.next.Given as goal
 
 abbrev pub invariant-chunks : goal.invariant-chunks
 invariant-chunks g l = record {
-  entries : WhereTold (g.I.Image.device l.fn.image).told (λ b. to_come b l.self ≡ to_come b l.fn.self);
+  entries : ForContents (g.I.Image.device l.fn.image).contents (λ b. to_come b l.self ≡ to_come b l.fn.self);
   left : left l.self ≤ left l.fn.self;
   geometry : l.self.chunks.walk.geometry ≡ l.fn.self.chunks.walk.geometry;
   size : vec_len l.blocks.buffer ≡ vec_len l.fn.blocks.buffer;
-  holds : BlocksHold l.fn.self.chunks.walk.geometry.layout (g.I.Image.device l.fn.image).told l.blocks;
+  holds : BlocksHold l.fn.self.chunks.walk.geometry.layout (g.I.Image.device l.fn.image).contents l.blocks;
   data_size : vec_len l.window.buffer ≡ vec_len l.fn.window.buffer;
-  data_holds : WindowHolds (g.I.Image.device l.fn.image).told l.window;
+  data_holds : WindowHolds (g.I.Image.device l.fn.image).contents l.window;
   device : g.I.Image.device l.image ≡ g.I.Image.device l.fn.image;
 }
 

@@ -1,8 +1,8 @@
 use Rattle.std.proofs.Common.{◌∙◌, ap}
 use Rattle.std.specs.List.{flat_map}
-use Rattle.ffs_volume.specs.Roles.{chunk_seen}
+use Rattle.ffs_volume.specs.Directories.Roles.{roled_chunk}
 use Rattle.ffs_names.proofs.Entered.{end_seen}
 use Rattle.ffs_names.proofs.entries.Entries.start.Goals as goal
 
 pub returns-clause-entries : goal.returns-clause-entries
-returns-clause-entries c = λ b size. end_seen _ _ _ _ _ ∙ ap (flat_map chunk_seen) (c.start-chunks.ensures.chunks b size)
+returns-clause-entries c = λ b size. end_seen _ _ _ _ _ ∙ ap (flat_map roled_chunk) (c.start-chunks.ensures.chunks b size)

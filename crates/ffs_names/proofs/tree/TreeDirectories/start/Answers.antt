@@ -1,9 +1,9 @@
 use Rattle.std.proofs.Common.{◌∙◌, ◌<◌, ap, sym, subst, []}
 use Rattle.std.specs.Prelude.{if◌then◌else◌, slice_index}
 use Rattle.ffs_volume.specs.declared.Inode.{Inode}
-use Rattle.ffs_volume.specs.Inodes.{inode_of}
-use Rattle.ffs_volume.specs.Roles.{seen_in}
-use Rattle.ffs_volume.specs.Volumes.{volume_of}
+use Rattle.ffs_volume.specs.Blocks.Inodes.{inode_of}
+use Rattle.ffs_volume.specs.Directories.Roles.{roled_entries}
+use Rattle.ffs_volume.specs.Directories.Volumes.{volume_of}
 use Rattle.ffs_names.proofs.DirLaws.{dir_is, dir_size, dir_seen, kind_dirs}
 use Rattle.ffs_names.proofs.tree.TreeDirectories.start.Goals as goal
 
@@ -11,7 +11,7 @@ pub returns-then-not-is_dir-clause-rest : goal.returns-then-not-is_dir-clause-re
 returns-then-not-is_dir-clause-rest g c = λ b k.
     let v = c.args.self.now.geometry.layout in
     let none = sym (kind_dirs v b c.args.self.now.kinds.now c.args.dir (k.kinds c.args.dir)) ∙ (sym c.is_dir.ensures ∙ c.if-not-is_dir.true) in
-    c.stop.ensures.entries b ∙ sym (ap (λ x. if x then seen_in (volume_of v b) c.args.dir else []) none)
+    c.stop.ensures.entries b ∙ sym (ap (λ x. if x then roled_entries (volume_of v b) c.args.dir else []) none)
 
 pub returns-clause-ready : goal.returns-clause-ready
 returns-clause-ready g c =
@@ -39,4 +39,4 @@ returns-clause-rest g c = λ b k.
     let is = dir_is v b c.args.dir dir in
     let inode = c.in_ok-inode.ensures.inode b k.bytes in
     c.start-self.ensures.entries b (subst (λ (x : Inode). x.size < 2147483648) (sym inode) (dir_size v (inode_of v b c.args.dir) is.1))
-    ∙ (dir_seen v b c.args.dir c.in_ok-inode.inode (slice_index t.cut.now c.args.dir) t.geometry.sound is.0 inode (k.cut c.args.dir) ∙ sym (ap (λ x. if x then seen_in (volume_of v b) c.args.dir else []) dir))
+    ∙ (dir_seen v b c.args.dir c.in_ok-inode.inode (slice_index t.cut.now c.args.dir) t.geometry.sound is.0 inode (k.cut c.args.dir) ∙ sym (ap (λ x. if x then roled_entries (volume_of v b) c.args.dir else []) dir))

@@ -1,5 +1,5 @@
 use Rattle.std.proofs.Common.{◌++◌, ◌∷◌, ◌∙◌, ap, sym, arith}
-use Rattle.ffs_volume.specs.Paths.{joined}
+use Rattle.ffs_volume.specs.Directories.Paths.{joined}
 use Rattle.ffs_paths.proofs.Ends.{cut-more, cut-first, whole-length, fits-more, end-fits, end-full}
 use Rattle.ffs_paths.proofs.buffer.PathBuffer.push_front.Goals as goal
 
@@ -41,7 +41,7 @@ returns-else-start-gt0 c = λ names h.
     let all = c.put_front-start.ensures.bytes ∙ ap (λ b. 47 ∷ c.args.name.now ++ b) (h.whole c.if-self.false) in
     record {
       whole = λ _. all;
-      short = c.put_front-start.ensures.behind s.short o ∙ (h.short ∙ ap joined (sym (end-full c.args.name.now names (omega arith))));
+      short = c.put_front-start.ensures.following s.short o ∙ (h.short ∙ ap joined (sym (end-full c.args.name.now names (omega arith))));
       cut = c.if-self.false ∙ sym (fits-more c.args.name.now names c.put_front-start.result (omega arith));
     }
 

@@ -1,5 +1,5 @@
 use Rattle.std.proofs.Common.{◌++◌, ◌∷◌, [], ◌∙◌, ap, sym, length, arith}
-use Rattle.ffs_volume.specs.Paths.{joined}
+use Rattle.ffs_volume.specs.Directories.Paths.{joined}
 use Rattle.ffs_paths.proofs.Ends.{text-cut, text-none, text-whole, whole-length, rest-is, under_is, put_cut, put_whole}
 use Rattle.ffs_paths.proofs.buffer.PathBuffer.put.Goals as goal
 

@@ -1,5 +1,5 @@
 use Rattle.std.proofs.Common.{◌∙◌, ◌++◌, ◌∷◌, ◌+◌, ◌<◌, [], suc, length, drop, ap, sym, arith}
-use Rattle.ffs_volume.specs.Paths.{joined}
+use Rattle.ffs_volume.specs.Directories.Paths.{joined}
 use Rattle.ffs_paths.specs.Slashes.{from_slash}
 use Rattle.ffs_paths.proofs.Ends.{over_1024, whole-length}
 use Rattle.ffs_paths.proofs.Tails.{entry-tail, entry-whole}

@@ -1,5 +1,5 @@
 use Rattle.std.proofs.Common.{◌≡◌, ◌∙◌, sym, true, false}
-use Rattle.ffs_volume.specs.Steps.{any_word_from}
+use Rattle.ffs_volume.specs.Blocks.Steps.{any_word_from}
 use Rattle.ffs_walk.proofs.FrameSteps.{word_taken, less_left}
 use Rattle.ffs_walk.proofs.frame.Frame.take.Goals as goal
 use Rattle.ffs_walk.proofs.frame.Frame.take.Goals.{else-fresh-via-then-fresh+else-any_from, else-fresh-via-else-fresh}

@@ -2,7 +2,7 @@ use Rattle.std.proofs.Common.{arith, ◌*◌, ◌+◌, ◌-◌, Ok, ap, refl}
 use Rattle.ffs_walk.specs.Frames.{frame_left, item_left}
 use Rattle.ffs_walk.specs.Rests.{rest, left, most_at}
 use Rattle.ffs_walk.proofs.FrameSteps.{item_below, word_fits, kept_fits, words_fit, some_left, item_one, falls_by, falls_in_double, falls_in_triple}
-use Rattle.ffs_walk.proofs.WalkSteps.{double_told, triple_told, one_some, square_some, some_words}
+use Rattle.ffs_walk.proofs.WalkSteps.{double_reported, triple_reported, one_some, square_some, some_words}
 use Rattle.ffs_walk.proofs.walk.Walk.advance.Goals as goal
 
 pub step_in_double-requires-clause-below : goal.step_in_double-requires-clause-below
@@ -13,7 +13,7 @@ step_in_double-requires-clause-below g c =
 
 pub returns-then-is_left-2-clause-steps : goal.returns-then-is_left-2-clause-steps
 returns-then-is_left-2-clause-steps g c =
-    double_told _ c.args.self.now c.from-words.result c.take-then-is_left-2.new.self c.in_ok-item-2.item c.step_in_double.result
+    double_reported _ c.args.self.now c.from-words.result c.take-then-is_left-2.new.self c.in_ok-item-2.item c.step_in_double.result
     (λ bytes. rest bytes c.step_in_double.new.self)
     c.from-words.ensures (c.is_left.ensures.spent c.if-is_left.false) c.in_ok-item-2.ensures.steps c.step_in_double.ensures.steps
 
@@ -33,7 +33,7 @@ step_in_triple-requires-clause-below g c =
 
 pub returns-then-is_left-3-clause-steps : goal.returns-then-is_left-3-clause-steps
 returns-then-is_left-3-clause-steps g c =
-    triple_told _ c.args.self.now c.from-words.result c.take-then-is_left-3.new.self c.in_ok-item-3.item c.step_in_triple.result
+    triple_reported _ c.args.self.now c.from-words.result c.take-then-is_left-3.new.self c.in_ok-item-3.item c.step_in_triple.result
     (λ bytes. rest bytes c.step_in_triple.new.self)
     c.from-words.ensures (c.is_left.ensures.spent c.if-is_left.false) (c.is_left-2.ensures.spent c.if-is_left-2.false)
     c.in_ok-item-3.ensures.steps c.step_in_triple.ensures.steps

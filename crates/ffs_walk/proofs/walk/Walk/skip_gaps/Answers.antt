@@ -1,6 +1,6 @@
 use Rattle.std.proofs.Common.{◌*◌, replicate}
 use Rattle.ffs_volume.specs.declared.Step.TheVariants.{Gap}
-use Rattle.ffs_volume.specs.Steps.{steps_at}
+use Rattle.ffs_volume.specs.Blocks.Steps.{steps_at}
 use Rattle.ffs_walk.specs.Rests.{extent_of}
 use Rattle.ffs_walk.proofs.GapSteps.{in_first, in_second, in_third, zero_gap}
 use Rattle.ffs_walk.proofs.WalkSteps.{spent_rest}

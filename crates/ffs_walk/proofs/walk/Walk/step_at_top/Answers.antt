@@ -1,7 +1,7 @@
 use Rattle.std.proofs.Common.{arith, ◌≡◌, refl}
 use Rattle.ffs_walk.specs.Frames.{frame_left}
 use Rattle.ffs_walk.specs.Rests.{extent_of, most_at}
-use Rattle.ffs_volume.specs.Steps.{steps_at}
+use Rattle.ffs_volume.specs.Blocks.Steps.{steps_at}
 use Rattle.ffs_walk.proofs.WalkSteps.{top_ends, top_data, top_single, top_double, top_triple, most_below, top_falls, top_over, some_words, no_step, not_over, one_on, single_below, double_below, triple_below}
 use Rattle.ffs_walk.proofs.walk.Walk.step_at_top.Goals as goal
 

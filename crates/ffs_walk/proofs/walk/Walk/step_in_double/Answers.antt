@@ -1,6 +1,6 @@
 use Rattle.std.proofs.Common.{refl}
 use Rattle.ffs_walk.specs.Rests.{extent_of}
-use Rattle.ffs_volume.specs.Steps.{steps_at}
+use Rattle.ffs_volume.specs.Blocks.Steps.{steps_at}
 use Rattle.ffs_walk.proofs.WalkSteps.{in_double}
 use Rattle.ffs_walk.proofs.walk.Walk.step_in_double.Goals as goal
 

@@ -1,5 +1,5 @@
 use Rattle.ffs_walk.specs.Rests.{extent_of}
-use Rattle.ffs_volume.specs.Steps.{steps_at}
+use Rattle.ffs_volume.specs.Blocks.Steps.{steps_at}
 use Rattle.ffs_walk.proofs.WalkSteps.{in_triple}
 use Rattle.ffs_walk.proofs.walk.Walk.step_in_triple.Goals as goal
 

@@ -1,0 +1,39 @@
+use Rattle.std.proofs.Common.{◌≡◌, arith, ap, ◌∙◌}
+use Rattle.std.proofs.lemmas.Result.{err_from_is_err_and}
+use Rattle.std.proofs.lemmas.List.Sums.{count_by-le-length}
+use Rattle.ffs_maps.proofs.Bits.{length_bits}
+use Rattle.ffs_volume.specs.Blocks.Owners.{Owner, owner_of}
+use Rattle.ffs_volume.specs.Blocks.BlockCheck.{owner_lines}
+use Rattle.ffs_volume.specs.Blocks.Claims.{after_owner}
+use Rattle.ffs_phase.proofs.Reporting.{of_begins, of_reads, reports_same, reports_knowing}
+use Rattle.ffs_workspace.specs.Holds.{claims_of}
+use Rattle.ffs_claims.specs.Lines.{of_lines, owner_with}
+use Rattle.ffs_claims.proofs.Inodes.{owner_is, ok_where}
+use Rattle.ffs_claims.proofs.claim.claim_inode.Goals as goal
+
+pub returns-in_err-inode-clause-text : goal.returns-in_err-inode-clause-text
+returns-in_err-inode-clause-text g c =
+    let p = err_from_is_err_and c.from_residual.result c.from_residual.ensures.1 in
+    rw (p.1, p.2) (of_reads _ _ _ _ _ (of_begins _ (λ bytes. of_lines (owner_lines c.args.geometry.now.layout (claims_of c.args.workspace.now) (owner_of c.args.geometry.now.layout bytes c.args.number))) _))
+
+pub returns-in_err-inode-clause-bound : goal.returns-in_err-inode-clause-bound
+returns-in_err-inode-clause-bound g c =
+    omega (arith, count_by-le-length (λ b. b) (claims_of c.args.workspace.now).used, length_bits c.args.workspace.now.claimed.words.items c.args.workspace.now.claimed.size ∙ c.requires.made.claimed)
+
+pub returns-clause-text : goal.returns-clause-text
+returns-clause-text g c =
+    let v = c.args.geometry.now.layout in
+    let s = claims_of c.args.workspace.now in
+    reports_same (Unit {0}) _ (λ bytes. of_lines (owner_lines v s (owner_with v bytes c.args.number c.in_ok-inode.inode)))
+    (λ bytes. of_lines (owner_lines v s (owner_of v bytes c.args.number))) _ _ c.claim_read_inode.result
+    (λ bytes t. ap (λ (o : Owner). of_lines (owner_lines v s o)) (owner_is v bytes c.args.number c.in_ok-inode.inode (c.in_ok-inode.ensures.inode bytes t)))
+    (reports_knowing (Unit {0}) _ _ _ _ _ c.claim_read_inode.result (λ bytes t. ap (λ d. d.contents) c.in_ok-inode.ensures.ok ∙ t) c.claim_read_inode.ensures.text)
+
+pub returns-clause-claims : goal.returns-clause-claims
+returns-clause-claims g c =
+    let v = c.args.geometry.now.layout in
+    let s = claims_of c.args.workspace.now in
+    ok_where c.claim_read_inode.result _ _ (λ bytes. claims_of c.claim_read_inode.new.workspace ≡ after_owner v s (owner_with v bytes c.args.number c.in_ok-inode.inode)) _
+    (ap (λ d. d.contents) c.in_ok-inode.ensures.ok)
+    (λ bytes t h. h ∙ ap (λ (o : Owner). after_owner v s o) (owner_is v bytes c.args.number c.in_ok-inode.inode (c.in_ok-inode.ensures.inode bytes t)))
+    c.claim_read_inode.ensures.claims

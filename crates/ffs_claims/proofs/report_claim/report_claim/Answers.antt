@@ -1,0 +1,24 @@
+use Rattle.std.proofs.Common.{arith, refl, sym, ◌∙◌}
+use Rattle.ffs_maps.specs.Bits.{bits_of}
+use Rattle.ffs_maps.proofs.Bits.{length_bits}
+use Rattle.ffs_claims.proofs.Reportings.{reported_out, said_out, past_end}
+use Rattle.ffs_claims.proofs.report_claim.report_claim.Goals as goal
+
+pub returns-then-fragment-from-clause-said : goal.returns-then-fragment-from-clause-said
+returns-then-fragment-from-clause-said g c =
+    let d = bits_of c.args.workspace.now.duplicates in
+    let size = length_bits c.args.workspace.now.duplicates.words.items c.args.workspace.now.duplicates.size ∙ c.requires.made.duplicates in
+    said_out (bits_of c.args.workspace.now.duplicates) c.args.number c.args.fragment _ (past_end (bits_of c.args.workspace.now.duplicates) c.args.fragment (omega (arith, size)))
+
+pub returns-then-fragment-from-clause-told : goal.returns-then-fragment-from-clause-told
+returns-then-fragment-from-clause-told g c =
+    let size = length_bits c.args.workspace.now.duplicates.words.items c.args.workspace.now.duplicates.size ∙ c.requires.made.duplicates in
+    reported_out c.args.workspace.now c.args.workspace.now c.args.number c.args.fragment (past_end (bits_of c.args.workspace.now.duplicates) c.args.fragment (omega (arith, size))) refl refl
+
+pub returns-then-not-get-clause-said : goal.returns-then-not-get-clause-said
+returns-then-not-get-clause-said g c =
+    said_out (bits_of c.args.workspace.now.duplicates) c.args.number c.args.fragment _ (sym c.get.ensures ∙ c.if-not-get.true)
+
+pub returns-then-not-get-clause-told : goal.returns-then-not-get-clause-told
+returns-then-not-get-clause-told g c =
+    reported_out c.args.workspace.now c.args.workspace.now c.args.number c.args.fragment (sym c.get.ensures ∙ c.if-not-get.true) refl refl

@@ -1,0 +1,24 @@
+-- What phase 1b has reported, and what it leaves to report.
+use Rattle.std.specs.Prelude.{◌≡◌, ℕ, Bool, false, ◌||◌, if◌then◌else◌, List, [], ◌∷◌, slice_set}
+use Rattle.std.specs.List.{list_any}
+use Rattle.ffs_volume.specs.Blocks.Claims.{is_set}
+use Rattle.ffs_volume.specs.Blocks.BlockCheck.{Offer, blames, first_offers}
+use Rattle.ffs_maps.specs.Bits.{bits_of}
+use Rattle.ffs_workspace.specs.declared.workspace.Workspace.{Workspace}
+use Rattle.ffs_workspace.specs.Holds.{bool_at}
+
+-- the fragments whose first claim is still to be reported, after some offers
+abbrev pub after_first : List Bool → List Offer → List Bool
+after_first dup [] = dup
+after_first dup (o ∷ os) = after_first (if is_set dup o.fragment then slice_set dup o.fragment false else dup) os
+
+-- offers were gone over: their fragments are reported, and their inodes marked
+pub record OffersReported (offers : List Offer) (old new : Workspace) : Type 0 where
+  pub dup : bits_of new.duplicates ≡ after_first (bits_of old.duplicates) offers
+  pub marked : (x : ℕ) → bool_at new.marked.items x ≡ (bool_at old.marked.items x || list_any (blames x) (first_offers (bits_of old.duplicates) offers))
+
+-- a call left the claims alone, what each inode is, and where it is cut
+pub record SameClaims (old new : Workspace) : Type 0 where
+  pub claimed : new.claimed ≡ old.claimed
+  pub kinds : new.kinds ≡ old.kinds
+  pub cut : new.cut ≡ old.cut

@@ -1,0 +1,42 @@
+use Rattle.std.proofs.Common.{sym, ap, ◌∙◌, [], List, ◌≡◌, map, slice_index, append-nil}
+use Rattle.std.proofs.lemmas.Result.{err_from_is_err_and}
+use Rattle.ffs_volume.specs.Messages.Kinds.{NameMessage, of_names}
+use Rattle.ffs_volume.specs.Directories.ReferenceCheck.{inode_lines}
+use Rattle.ffs_volume.specs.Directories.Volumes.{volume_of}
+use Rattle.ffs_phase.proofs.Reporting.{of_begins, of_says, of_stops, of_reads}
+use Rattle.ffs_workspace.specs.Holds.{bool_at}
+use Rattle.ffs_counts.specs.References.{attr_with, lines_as}
+use Rattle.ffs_counts.proofs.Holding.{inode_lines_are, same_reported}
+use Rattle.ffs_counts.proofs.reference_check.report_inode.Goals as goal
+
+pub returns-in_err-inode-clause-text : goal.returns-in_err-inode-clause-text
+returns-in_err-inode-clause-text g c =
+    let p = err_from_is_err_and c.from_residual.result c.from_residual.ensures.1 in
+    rw (p.1, p.2) (of_reads _ (λ bytes. map of_names (inode_lines (volume_of c.args.geometry.now.layout bytes) c.args.number)) _ _ _ (of_begins _ (λ bytes. map of_names (inode_lines (volume_of c.args.geometry.now.layout bytes) c.args.number)) _))
+
+pub returns-in_err-say_line-clause-text : goal.returns-in_err-say_line-clause-text
+returns-in_err-say_line-clause-text g c =
+    let p = err_from_is_err_and c.from_residual-in_err-say_line.result c.from_residual-in_err-say_line.ensures.1 in
+    let marked : c.is_marked-marked.result ≡ bool_at c.args.workspace.now.marked.items c.args.number = c.is_marked-marked.ensures in
+    let kind : c.kind_held-kind.result ≡ slice_index c.args.workspace.now.kinds.items c.args.number = c.kind_held-kind.ensures in
+    let refs : c.references_to-references.result ≡ slice_index c.args.workspace.now.references.items c.args.number = c.references_to-references.ensures in
+    rw (p.1, p.2) (of_stops _ (λ bytes. map of_names (inode_lines (volume_of c.args.geometry.now.layout bytes) c.args.number)) (λ bytes. []) _ (map of_names (lines_as c.line_for-line.result)) _ _ _ (of_begins _ (λ bytes. map of_names (inode_lines (volume_of c.args.geometry.now.layout bytes) c.args.number)) _)
+    (λ bytes k. ap (λ (ls : List NameMessage). map of_names ls)
+    (inode_lines_are c.args.geometry.now.layout bytes c.args.workspace.now c.args.number c.in_ok-inode.inode c.is_dead-dead.result c.requires.number k.1 k.2 (c.in_ok-inode.ensures.inode bytes k.0) c.is_dead-dead.ensures
+    ∙ same_reported c.is_dead-dead.result c.is_marked-marked.result (bool_at c.args.workspace.now.marked.items c.args.number) c.kind_held-kind.result (slice_index c.args.workspace.now.kinds.items c.args.number) (attr_with c.args.number c.in_ok-inode.inode) c.in_ok-inode.inode.nlink
+    c.references_to-references.result (slice_index c.args.workspace.now.references.items c.args.number) marked kind refs
+    ∙ sym c.line_for-line.ensures) ∙ sym (append-nil _))
+    c.in_err-say_line.ensures)
+
+pub returns-clause-text : goal.returns-clause-text
+returns-clause-text g c =
+    let marked : c.is_marked-marked.result ≡ bool_at c.args.workspace.now.marked.items c.args.number = c.is_marked-marked.ensures in
+    let kind : c.kind_held-kind.result ≡ slice_index c.args.workspace.now.kinds.items c.args.number = c.kind_held-kind.ensures in
+    let refs : c.references_to-references.result ≡ slice_index c.args.workspace.now.references.items c.args.number = c.references_to-references.ensures in
+    of_says _ (λ bytes. map of_names (inode_lines (volume_of c.args.geometry.now.layout bytes) c.args.number)) (λ bytes. []) _ (map of_names (lines_as c.line_for-line.result)) _ _ _ (of_begins _ (λ bytes. map of_names (inode_lines (volume_of c.args.geometry.now.layout bytes) c.args.number)) _)
+    (λ bytes k. ap (λ (ls : List NameMessage). map of_names ls)
+    (inode_lines_are c.args.geometry.now.layout bytes c.args.workspace.now c.args.number c.in_ok-inode.inode c.is_dead-dead.result c.requires.number k.1 k.2 (c.in_ok-inode.ensures.inode bytes k.0) c.is_dead-dead.ensures
+    ∙ same_reported c.is_dead-dead.result c.is_marked-marked.result (bool_at c.args.workspace.now.marked.items c.args.number) c.kind_held-kind.result (slice_index c.args.workspace.now.kinds.items c.args.number) (attr_with c.args.number c.in_ok-inode.inode) c.in_ok-inode.inode.nlink
+    c.references_to-references.result (slice_index c.args.workspace.now.references.items c.args.number) marked kind refs
+    ∙ sym c.line_for-line.ensures) ∙ sym (append-nil _))
+    c.in_ok-say_line.ensures

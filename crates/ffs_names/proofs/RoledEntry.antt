@@ -1,0 +1,53 @@
+-- What a step that is seen gives of chunks.
+use Rattle.std.proofs.Common.{◌≡◌, ℕ, ◌+◌, ◌-◌, ◌*◌, ◌≤◌, Bool, true, false, List, [], ◌∷◌, ◌++◌, Option, arith, refl, sym, ap, ◌∙◌}
+use Rattle.std.specs.Prelude.{if◌then◌else◌, map}
+use Rattle.std.specs.List.{range_with_len}
+use Rattle.ffs_volume.specs.declared.Layout.{Layout}
+use Rattle.ffs_volume.specs.declared.Step.{Step}
+use Rattle.ffs_volume.specs.declared.Step.TheVariants.{Run}
+use Rattle.ffs_volume.specs.Disk.Numbers.{piece}
+use Rattle.ffs_volume.specs.Disk.Areas.{is_in_range}
+use Rattle.ffs_volume.specs.Directories.Entries.{Chunk, chunk_of, step_chunks, chunks_of}
+use Rattle.ffs_volume.specs.Encodings.Replay.{Replay, is_replay_open, is_replayed, replay_step, replayed_steps}
+use Rattle.ffs_volume.specs.Encodings.ReplayCounts.{counted_step, replayed_runs, seen_run}
+use Rattle.ffs_volume.proofs.ReplayLaws.{counted_same}
+use Rattle.ffs_names.specs.declared.run_cursor.RunCursor.{RunCursor}
+use Rattle.ffs_names.specs.RunCursors.{hand_chunks, reading_by}
+
+-- a hand with nothing left
+pub no_run_cursor : (v : Layout) (b : List ℕ) (h : RunCursor) → h.next ≡ h.count → hand_chunks v b h ≡ []
+no_run_cursor v b h e =
+    let z : h.count - h.next ≡ 0 = omega arith in
+    ap (λ n. map (λ k. chunk_of v.order (h.offset + 512 * k) (piece (h.place + 512 * k) 512 b)) (range_with_len h.next n)) z
+
+pub run_seen : (v : Layout) (b : List ℕ) (taken cut cut' : ℕ) (r q : Replay) (steps : List Step) (start len : ℕ) (block : Option ℕ) (kept : Bool) (found : List Chunk)
+    → kept ≡ is_replayed v cut r (Run start len block) → q ≡ counted_step v cut r (Run start len block) → cut' ≡ cut
+    → found ≡ (if kept then step_chunks (reading_by v b taken) (is_in_range v) (Run start len block) else [])
+    → found ++ chunks_of (reading_by v b taken) (is_in_range v) (replayed_steps v cut' q steps)
+    ≡ chunks_of (reading_by v b taken) (is_in_range v) (replayed_steps v cut r (Run start len block ∷ steps))
+run_seen v b taken cut cut' r q steps start len block kept found k n c f =
+    ap (λ x. x ++ chunks (replayed_steps v cut' q steps)) f
+    ∙ (ap (λ x. part kept ++ chunks (replayed_steps v x q steps)) c
+    ∙ (ap (λ x. part kept ++ chunks (replayed_steps v cut x steps)) n
+    ∙ (ap (λ xs. part kept ++ chunks xs) (sym (counted_same v 0 cut r (Run start len block) steps).steps_are)
+    ∙ (parted kept ∙ ap (λ x. chunks ((if x then Run start len block ∷ [] else []) ++ replayed_steps v cut (replay_step v cut r (Run start len block)) steps)) k))))
+  where
+    chunks : List Step → List Chunk
+    chunks steps = chunks_of (reading_by v b taken) (is_in_range v) steps
+
+    part : Bool → List Chunk
+    part x = if x then step_chunks (reading_by v b taken) (is_in_range v) (Run start len block) else []
+
+    parted : (x : Bool) → part x ++ chunks (replayed_steps v cut (replay_step v cut r (Run start len block)) steps)
+        ≡ chunks ((if x then Run start len block ∷ [] else []) ++ replayed_steps v cut (replay_step v cut r (Run start len block)) steps)
+    parted true = refl
+    parted false = refl
+
+pub runs_seen : (v : Layout) (cut cut' : ℕ) (r q : Replay) (steps : List Step) (start len : ℕ) (block : Option ℕ) (runs runs' : ℕ)
+    → is_replay_open cut r ≡ true → q ≡ counted_step v cut r (Run start len block) → cut' ≡ cut → runs' ≤ runs + 1
+    → runs' + replayed_runs v cut' q steps ≤ runs + replayed_runs v cut r (Run start len block ∷ steps)
+runs_seen v cut cut' r q steps start len block runs runs' s n c l =
+    let one : seen_run cut r (Run start len block) ≡ 1 = ap (λ x. if x then 1 else 0) s in
+    let same : replayed_runs v cut' q steps ≡ replayed_runs v cut (replay_step v cut r (Run start len block)) steps =
+    ap (λ x. replayed_runs v x q steps) c ∙ (ap (λ x. replayed_runs v cut x steps) n ∙ sym (counted_same v 0 cut r (Run start len block) steps).runs_are) in
+    omega arith

@@ -1,0 +1,23 @@
+use Rattle.std.proofs.Common.{◌∙◌, sym, arith}
+use Rattle.ffs_names.specs.RunCursors.{reading_by}
+use Rattle.ffs_names.proofs.RunChunks.{none_far, run_in_volume, run_in_block}
+use Rattle.ffs_names.proofs.run_cursor.RunCursor.of_run.Goals as goal
+
+pub returns-then-block-clause-chunks : goal.returns-then-block-clause-chunks
+returns-then-block-clause-chunks c = λ b.
+    let v = c.args.geometry.now.layout in
+    c.empty.ensures.none v b ∙ sym (none_far v (reading_by v b c.args.taken) c.args.start c.args.len c.args.block c.args.geometry.now.sound (omega (arith, c.if-block.true)) (omega (arith, c.requires.taken)))
+
+pub returns-then-block-clause-fits : goal.returns-then-block-clause-fits
+returns-then-block-clause-fits c = c.empty.ensures.fits c.args.geometry.now.layout
+
+pub returns-then-offset-taken-clause-fits : goal.returns-then-offset-taken-clause-fits
+returns-then-offset-taken-clause-fits c = c.empty-then-offset-taken.ensures.fits c.args.geometry.now.layout
+
+pub returns-clause-fits : goal.returns-clause-fits
+returns-clause-fits c =
+    let v = c.args.geometry.now.layout in
+    record {
+      in_block = rw (c.from-4.ensures, c.from-5.ensures) (run_in_block v c.args.len c.args.geometry.now.sound c.requires.short);
+      in_volume = rw (c.from-2.ensures, c.from-3.ensures, c.from-4.ensures, c.from-5.ensures) (run_in_volume v c.args.start c.args.len c.args.geometry.now.sound c.requires.some c.requires.in_range);
+    }

@@ -1,0 +1,15 @@
+-- The chunks of the current Run.
+use Rattle.std.specs.Prelude.{ℕ, ◌+◌, ◌-◌, ◌*◌, List, map}
+use Rattle.std.specs.List.{range_with_len}
+use Rattle.ffs_volume.specs.declared.Layout.{Layout}
+use Rattle.ffs_volume.specs.Disk.Numbers.{piece}
+use Rattle.ffs_volume.specs.Directories.Entries.{Chunk, Reading, chunk_of}
+use Rattle.ffs_names.specs.declared.run_cursor.RunCursor.{RunCursor}
+
+-- the chunks of the current Run, in an image of these bytes
+abbrev pub hand_chunks : Layout → List ℕ → RunCursor → List Chunk
+hand_chunks v b h = map (λ k. chunk_of v.order (h.offset + 512 * k) (piece (h.place + 512 * k) 512 b)) (range_with_len h.next (h.count - h.next))
+
+-- a directory of which this many bytes are read
+abbrev pub reading_by : Layout → List ℕ → ℕ → Reading
+reading_by v b taken = record { order = v.order; image = b; bsize = v.bsize; fsize = v.fsize; taken = taken }

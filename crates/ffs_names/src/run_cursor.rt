@@ -1,0 +1,100 @@
+//! The chunks of one Run of a directory.
+
+ghost use Rattle.std.specs.Prelude.{◌≡◌, ◌+◌, ◌*◌, ◌<◌, ◌≤◌, ◌^◌, ℕ, List, [], IsTrue};
+ghost use Rattle.ffs_volume.specs.Disk.Areas.{is_in_range};
+ghost use Rattle.ffs_volume.specs.Directories.Entries.{run_chunks, step_chunks};
+ghost use Rattle.ffs_volume.specs.declared.Step.TheVariants.{Run};
+
+use ffs_layout::Geometry;
+
+/// The chunks of the current Run: where the Run is in the image, in bytes, and in the file; how many chunks it has,
+/// and which is the next.
+#[derive(Clone, Copy, Debug)]
+pub struct RunCursor {
+    pub place: u64,
+    pub length: u64,
+    pub offset: u64,
+    pub next: u32,
+    pub count: u32,
+    ghost in_order: { next ≤ count },
+    ghost in_run: { 512 * count ≤ length },
+    ghost in_file: { offset + 512 * count ≤ 2 ^ 31 },
+}
+
+impl RunCursor {
+    ghost use Rattle.ffs_volume.specs.declared.Layout.{Layout};
+    ghost use Rattle.ffs_names.specs.RunCursors.{hand_chunks, reading_by};
+    ghost use Rattle.ffs_names.specs.Fits.{HandFits};
+
+    /// No chunks.
+    pub fn empty() -> RunCursor
+        ensures none { (layout : Layout) (b : List ℕ) → hand_chunks layout b result ≡ [] }
+        ensures next { result.next ≡ result.count }
+        ensures fits { (layout : Layout) → HandFits layout result }
+    {
+        RunCursor {
+            place: 0,
+            length: 0,
+            offset: 0,
+            next: 0,
+            count: 0,
+        }
+    }
+
+    /// The chunks of a Run of a directory's logical block, of which `taken` bytes are read.
+    pub fn of_run(geometry: &Geometry, taken: u64, start: u32, len: u32, block: u64) -> RunCursor
+        requires some { 0 < len }
+        requires short { len ≤ geometry.now.layout.frag }
+        requires in_range { IsTrue (is_in_range geometry.now.layout start len) }
+        requires taken { taken ≤ 2 ^ 31 }
+        ensures chunks { (b : List ℕ) → hand_chunks geometry.now.layout b result
+            ≡ run_chunks (reading_by geometry.now.layout b taken) start len
+            (block * geometry.now.layout.bsize) }
+        ensures fits { HandFits geometry.now.layout result }
+    {
+        if block >= 1 << 31 {
+            return RunCursor::empty();
+        }
+        let offset = block * u64::from(geometry.layout.bsize);
+        if offset >= taken {
+            return RunCursor::empty();
+        }
+        let place = u64::from(start) * u64::from(geometry.layout.fsize);
+        let length = u64::from(len) * u64::from(geometry.layout.fsize);
+        let count = (length / 512).min((taken - offset) / 512);
+        RunCursor {
+            place,
+            length,
+            offset,
+            next: 0,
+            count: count as u32,
+        }
+    }
+
+    /// The chunks of a Run that is kept. A Run of addresses has none, nor has one that is not in range.
+    pub fn of_step(
+        geometry: &Geometry,
+        taken: u64,
+        start: u32,
+        len: u32,
+        block: Option<u64>,
+    ) -> RunCursor
+        requires some { 0 < len }
+        requires short { len ≤ geometry.now.layout.frag }
+        requires taken { taken ≤ 2 ^ 31 }
+        ensures chunks { (b : List ℕ) → hand_chunks geometry.now.layout b result
+            ≡ step_chunks (reading_by geometry.now.layout b taken) (is_in_range geometry.now.layout)
+            (Run start len block) }
+        ensures fits { HandFits geometry.now.layout result }
+    {
+        match block {
+            None => RunCursor::empty(),
+            Some(block) => {
+                if !geometry.in_range(start, len) {
+                    return RunCursor::empty();
+                }
+                RunCursor::of_run(geometry, taken, start, len, block)
+            }
+        }
+    }
+}

@@ -1,0 +1,35 @@
+use Rattle.std.proofs.Common.{◌≡◌, ◌≤◌, ◌-◌, map}
+use Rattle.ffs_volume.specs.Directories.Entries.{entries_of}
+use Rattle.ffs_volume.specs.Messages.Kinds.{of_names}
+use Rattle.ffs_volume.specs.Directories.Roles.{roled_from}
+use Rattle.ffs_volume.specs.Directories.Volumes.{volume_of}
+use Rattle.ffs_phase.specs.Known.{ForBytes}
+use Rattle.ffs_phase.specs.Runs.{SaidOf}
+use Rattle.ffs_report.specs.Progress.{progress}
+use Rattle.ffs_workspace.specs.Lengths.{IsFor, HoldWindows}
+use Rattle.ffs_workspace.specs.Leaves.{LeavesSurvey}
+use Rattle.ffs_pathnames.specs.Gathers.{marks_of}
+use Rattle.ffs_pathnames.specs.DirectoryContext.{DirectoryContext, KnowsPath}
+use Rattle.ffs_pathnames.specs.Marks.{after_entries, entries_reported}
+use Rattle.ffs_pathnames.proofs.Looking.{roled_at_place}
+use Rattle.ffs_pathnames.proofs.entries.report_chunk.Given as goal
+
+abbrev pub invariant-entries : goal.invariant-entries
+invariant-entries g l = let reported_by = g.I.Image.device in let v = l.geometry.layout in record {
+  place : l.place ≤ 512;
+  index : l.index ≤ l.place;
+  made : IsFor v l.workspace;
+  device : reported_by l.image ≡ reported_by l.fn.image;
+  windows : HoldWindows v (reported_by l.fn.image).contents l.workspace;
+  survey : LeavesSurvey l.fn.workspace l.workspace;
+  marks : ForBytes (DirectoryContext v (reported_by l.fn.image).contents l.fn.workspace l.dir) (λ b.
+      after_entries (volume_of v b) l.dir (marks_of l.fn.workspace) (roled_from l.first 0 (entries_of v.order l.chunk))
+      ≡ after_entries (volume_of v b) l.dir (marks_of l.workspace) (roled_at_place v.order l.chunk l.first l.index l.place));
+  said : SaidOf (KnowsPath v (reported_by l.fn.image).contents l.fn.workspace l.dir l.path)
+      (λ b. map of_names (entries_reported (volume_of v b) l.dir (marks_of l.workspace) (roled_at_place v.order l.chunk l.first l.index l.place)))
+      (λ b. map of_names (entries_reported (volume_of v b) l.dir (marks_of l.fn.workspace) (roled_from l.first 0 (entries_of v.order l.chunk))))
+      (progress g.W.Output.sink l.fn.report) (progress g.W.Output.sink l.report);
+}
+
+abbrev pub decreases-entries : goal.decreases-entries
+decreases-entries g l = 512 - l.place

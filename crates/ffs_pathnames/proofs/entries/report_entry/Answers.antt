@@ -1,0 +1,27 @@
+use Rattle.std.proofs.Common.{ap, ◌∙◌}
+use Rattle.std.proofs.lemmas.List.{with_items_is}
+use Rattle.ffs_volume.specs.Directories.Volumes.{volume_of}
+use Rattle.ffs_layout.specs.Entry.{entry_value}
+use Rattle.ffs_workspace.proofs.Leaving.{claims_left, survey_left}
+use Rattle.ffs_pathnames.proofs.Passed.{passes}
+use Rattle.ffs_pathnames.proofs.SeesLaws.{sees}
+use Rattle.ffs_pathnames.proofs.entries.report_entry.Goals as goal
+
+pub returns-clause-marks : goal.returns-clause-marks
+returns-clause-marks g c = λ b k.
+    let v = c.args.geometry.now.layout in
+    let left = c.in_ok-say_entry.ensures.lists in
+    let before = c.args.workspace.now in
+    let here = c.say_entry.new.workspace in
+    let shows = sees v b here _ (record {
+      kinds = c.as_slice.ensures.value;
+      marked = c.as_slice-2.ensures.value;
+      parents = c.as_slice-3.ensures.value;
+      count = c.as_slice.ensures.len ∙ c.in_ok-say_entry.ensures.made.kinds;
+    }) (claims_left v b before here left.survey k.claims) (survey_left v b before here left.survey k.survey) in
+    passes (volume_of v b) c.args.dir (record { role = c.args.role; entry = entry_value c.args.entry.now }) before.leaders.items _ _ _ before.queue.items _ _ _
+    (c.as_mut_slice.ensures.value ∙ ap (λ x. x.items) left.leaders)
+    (c.as_mut_slice-2.ensures.value ∙ ap (λ x. x.items) left.queue)
+    (c.pass.ensures (volume_of v b) shows)
+    (with_items_is here.leaders c.pass.new.passed (c.pass.auto.passed ∙ c.as_mut_slice.ensures.len))
+    (with_items_is here.queue c.pass.new.stamps (c.pass.auto.stamps ∙ c.as_mut_slice-2.ensures.len))

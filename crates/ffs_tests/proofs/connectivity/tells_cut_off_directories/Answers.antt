@@ -1,4 +1,0 @@
-use Rattle.ffs_tests.proofs.connectivity.tells_cut_off_directories.Goals as goal
-
-pub phase3-requires-clause-windows : goal.phase3-requires-clause-windows
-phase3-requires-clause-windows g c = c.in_ok-workspace.ensures.windows _

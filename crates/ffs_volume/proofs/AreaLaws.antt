@@ -1,0 +1,80 @@
+-- Laws of the areas of an accepted layout.
+use Rattle.std.proofs.Common.{zero, suc, inl, inr, ◌≡◌, ℕ, ◌+◌, ◌-◌, ◌*◌, ◌/◌, ◌<◌, ◌≤◌, Bool, true, false, arith, refl, sym}
+use Rattle.std.proofs.Math.Nat.{div-eq_of_lt-le, mul-le-mul_right, mul_comm, div-add-mod', mod-lt}
+use Rattle.std.specs.Int.{div_ceil}
+use Rattle.ffs_volume.specs.Disk.Outcome.{copy_place}
+use Rattle.std.proofs.lemmas.Nat.{div_below}
+use Rattle.std.specs.Prelude.{nat_lt, nat_le, ◌&&◌, ◌||◌}
+use Rattle.std.proofs.lemmas.Bool.{cases_lt}
+use Rattle.std.proofs.lemmas.Bool.Decides.{nat_tests}
+use Rattle.ffs_volume.specs.declared.Layout.{Layout}
+use Rattle.ffs_volume.specs.Disk.Numbers.{any_below}
+use Rattle.ffs_volume.specs.Disk.Areas.{cgbase, cgstart, cgsblock, cgdmin, is_group_metadata}
+use Rattle.ffs_volume.specs.Disk.Geometry.{IsGeometry}
+
+-- a test that at most one number passes
+any_below-only : (n i : ℕ) (test : ℕ → Bool) → ((c : ℕ) → c < n → test c ≡ true → c ≡ i) → any_below n test ≡ (nat_lt i n && test i)
+unfolding any_below
+any_below-only zero i test only = grind (arith, nat_tests)
+any_below-only (suc n) i test only =
+    let before = any_below-only n i test (λ c h e. only c (omega arith) e) in
+    let here : test n ≡ true → n ≡ i = only n (omega arith) in
+    one (test n) refl before here
+  where
+    one : (b : Bool) → test n ≡ b → any_below n test ≡ (nat_lt i n && test i) → (test n ≡ true → n ≡ i) → (test n || any_below n test) ≡ (nat_lt i (suc n) && test i)
+    one true e before here = let same : n ≡ i = here e in let p : test i ≡ true = rw (← same) e in grind (arith, nat_tests)
+    one false e before here = elim (cases_lt i n) [ inl less ↦ grind (arith, nat_tests) | inr more ↦ grind (arith, nat_tests) ]
+
+-- the group of a fragment between a group's base and its end
+pub group_is : (v : Layout) (c f : ℕ) → cgbase v c ≤ f → f < cgbase v (c + 1) → f / v.fpg ≡ c
+unfolding cgbase
+group_is v c f low high = div-eq_of_lt-le {k = c} v.fpg {m = f} (omega (arith, mul_comm c v.fpg)) (omega (arith, mul_comm (c + 1) v.fpg))
+
+-- whether f is in the metadata of group c
+abbrev pub in_kept : Layout → ℕ → ℕ → Bool
+in_kept v c f = nat_le (cgsblock v c) f && nat_lt f (cgdmin v c)
+
+-- only a fragment's own group can keep it
+pub is_kept_group : (v : Layout) (f : ℕ) → IsGeometry v → is_group_metadata v f ≡ (nat_lt (f / v.fpg) v.ncg && in_kept v (f / v.fpg) f)
+unfolding is_group_metadata cgstart
+is_kept_group v f g = any_below-only v.ncg (f / v.fpg) (λ c. in_kept v c f) only
+  where
+    only : (c : ℕ) → c < v.ncg → in_kept v c f ≡ true → c ≡ f / v.fpg
+    only c h e =
+        let group = g.groups c h in
+        let low : cgsblock v c ≤ f = grind (arith, nat_tests) in
+        let high : f < cgdmin v c = grind (arith, nat_tests) in
+        sym (group_is v c f (omega arith) (omega arith))
+
+-- a fragment below size is of a group
+pub group_below : (v : Layout) (f : ℕ) → IsGeometry v → f < v.size → f / v.fpg < v.ncg
+group_below v f g h = div_below f v.fpg v.ncg (omega arith) (omega arith)
+
+pub inode_group : (v : Layout) (x : ℕ) → IsGeometry v → x < v.ncg * v.ipg → x / v.ipg < v.ncg
+inode_group v x g h = div_below x v.ipg v.ncg (omega arith) h
+
+-- whole units cover what they are counted from
+div_ceil_covers : (a b : ℕ) → 0 < b → a ≤ div_ceil a b * b
+div_ceil_covers a b h = grind (arith, div-add-mod' a b, mod-lt a h)
+
+-- the last copy of the superblock is in the volume
+pub copy_inside : (v : Layout) → IsGeometry v → copy_place v + 1376 ≤ v.size * v.fsize
+copy_inside v g =
+    let group = g.groups (v.ncg - 1) (omega arith) in
+    let units = div_ceil v.sbsize v.fsize in
+    let covered : v.sbsize ≤ div_ceil v.sbsize v.fsize * v.fsize = div_ceil_covers v.sbsize v.fsize (omega arith) in
+    let ends : cgsblock v (v.ncg - 1) + div_ceil v.sbsize v.fsize ≤ v.size = omega arith in
+    let scaled : (cgsblock v (v.ncg - 1) + div_ceil v.sbsize v.fsize) * v.fsize ≤ v.size * v.fsize = mul-le-mul_right v.fsize ends in
+    omega arith
+
+-- no fragment from size on is kept
+pub kept_below : (v : Layout) (f : ℕ) → IsGeometry v → v.size ≤ f → is_group_metadata v f ≡ false
+kept_below v f g h = rw (is_kept_group v f g) (away (nat_lt (f / v.fpg) v.ncg) refl)
+  where
+    away : (b : Bool) → nat_lt (f / v.fpg) v.ncg ≡ b → (b && in_kept v (f / v.fpg) f) ≡ false
+    away false e = refl
+    away true e =
+        let lt : f / v.fpg < v.ncg = grind (arith, nat_tests) in
+        let group = g.groups (f / v.fpg) lt in
+        let past : cgdmin v (f / v.fpg) ≤ v.size = group.within_size in
+        grind (arith, nat_tests)

@@ -1,0 +1,146 @@
+-- Laws of `specs/Disk/Geometry`.
+use Rattle.std.proofs.Common.{zero, suc, inl, inr, ◌≡◌, ℕ, ◌-◌, ◌*◌, ◌<◌, ◌≤◌, Bool, true, false, cond, Option, Some, None, ℤ, pos, negsuc, arith, refl}
+use Rattle.std.specs.Prelude.{nat_lt, ◌==◌, not}
+use Rattle.std.proofs.lemmas.Bool.{cases_lt, and_parts}
+use Rattle.std.proofs.lemmas.Bool.Decides.{nat_tests}
+use Rattle.ffs_volume.specs.declared.Layout.{Layout}
+use Rattle.ffs_volume.specs.Disk.Numbers.{natural, is_natural, all_below}
+use Rattle.ffs_volume.specs.Disk.Areas.{cgoffset_of}
+use Rattle.ffs_volume.specs.Disk.Outcome.{is_block_size, is_fragment_size, is_fragment_count, are_sizes, are_numbers, are_parts, are_cylinders, is_group, is_summary, is_shaped, layout_fault}
+use Rattle.ffs_volume.specs.Disk.Geometry.{HasSizes, HasNumbers, HasParts, HasGroup, HasSummary, IsGeometry}
+
+-- no fault, so neither this one nor a later one
+pub no_fault : {X : Type 0} (b : Bool) (x : X) (rest : Option X) → cond (not b) (Some x) rest ≡ None → (b ≡ true) × (rest ≡ None)
+no_fault true x rest e = (refl, e)
+no_fault false x rest e = cc
+
+pub no_fault_if : {X : Type 0} (b : Bool) (x : X) (rest : Option X) → cond b (Some x) rest ≡ None → (b ≡ false) × (rest ≡ None)
+no_fault_if true x rest e = cc
+no_fault_if false x rest e = (refl, e)
+
+block_size : (n : ℕ) → is_block_size n ≡ true → (4096 ≤ n) × (n ≤ 65536)
+unfolding is_block_size
+block_size n e = grind (arith, nat_tests)
+
+fragment_size : (n : ℕ) → is_fragment_size n ≡ true → (512 ≤ n) × (n ≤ 65536)
+unfolding is_fragment_size
+fragment_size n e = grind (arith, nat_tests)
+
+fragment_count : (n : ℕ) → is_fragment_count n ≡ true → (1 ≤ n) × (n ≤ 8)
+unfolding is_fragment_count
+fragment_count n e = grind (arith, nat_tests)
+
+pub sizes_hold : (v : Layout) → are_sizes v ≡ true → HasSizes v
+unfolding are_sizes
+sizes_hold v e =
+    let b : is_block_size v.bsize ≡ true = grind (arith, nat_tests) in
+    let f : is_fragment_size v.fsize ≡ true = grind (arith, nat_tests) in
+    let k : is_fragment_count v.frag ≡ true = grind (arith, nat_tests) in
+    let bb = block_size v.bsize b in
+    let ff = fragment_size v.fsize f in
+    let kk = fragment_count v.frag k in
+    record {
+      bsize_low = bb.0;
+      bsize_high = bb.1;
+      fsize_low = ff.0;
+      fsize_high = ff.1;
+      frag_low = kk.0;
+      frag_high = kk.1;
+      block = grind (arith, nat_tests);
+      nindir = grind (arith, nat_tests);
+      inopb = grind (arith, nat_tests);
+      some_inodes = grind (arith, nat_tests);
+      inode_blocks = grind (arith, nat_tests);
+      some_fragments = grind (arith, nat_tests);
+      whole_blocks = grind (arith, nat_tests);
+    }
+
+pub numbers_hold : (v : Layout) → are_numbers v ≡ true → HasNumbers v
+unfolding are_numbers
+numbers_hold v e = record {
+  some_data = grind (arith, nat_tests);
+  short_links = grind (arith, nat_tests);
+  sbsize_low = grind (arith, nat_tests);
+  size_above = grind (arith, nat_tests);
+  size_within = grind (arith, nat_tests);
+  size_below = grind (arith, nat_tests);
+  inodes_below = grind (arith, nat_tests);
+}
+
+pub parts_hold : (v : Layout) → are_parts v ≡ true → HasParts v
+unfolding are_parts
+parts_hold v e = record {
+  super_above = grind (arith, nat_tests);
+  super_fits = grind (arith, nat_tests);
+  block_fits = grind (arith, nat_tests);
+  inodes_fit = grind (arith, nat_tests);
+  cgsize_low = grind (arith, nat_tests);
+  cgsize_high = grind (arith, nat_tests);
+}
+
+natural_is : (z : ℤ) → is_natural z ≡ true → z ≡ pos (natural z)
+natural_is (pos n) e = refl
+natural_is (negsuc n) e = cc
+
+pub group_holds : (v : Layout) (c : ℕ) → is_group v c ≡ true → HasGroup v c
+unfolding is_group
+group_holds v c e =
+    let up : is_natural (cgoffset_of v c) ≡ true = grind (arith, nat_tests) in
+    record { moved_up = natural_is (cgoffset_of v c) up; within_group = grind (arith, nat_tests); within_size = grind (arith, nat_tests) }
+
+pub summary_holds : (v : Layout) → is_summary v ≡ true → HasSummary v
+unfolding is_summary
+summary_holds v e = record {
+  csaddr = grind (arith, nat_tests);
+  room = grind (arith, nat_tests);
+  summary_in_group = grind (arith, nat_tests);
+  summary_in_size = grind (arith, nat_tests);
+}
+
+-- what passes below n passes at each
+pub all_below-at : (n i : ℕ) (test : ℕ → Bool) → all_below n test ≡ true → i < n → test i ≡ true
+unfolding all_below
+all_below-at zero i test all h = absurd (omega arith)
+all_below-at (suc n) i test all h =
+    let both = and_parts (test n) (all_below n test) all in
+    elim (cases_lt i n) [
+      | inl less ↦ all_below-at n i test both.1 less
+      | inr more ↦ let same : n ≡ i = omega arith in rw (← same) both.0
+    ]
+
+shape_holds : (v : Layout) → is_shaped v ≡ true → (are_sizes v ≡ true) × (are_numbers v ≡ true) × (are_parts v ≡ true) × (all_below v.ncg (is_group v) ≡ true) × (is_summary v ≡ true)
+unfolding is_shaped
+shape_holds v e =
+    let a = and_parts _ (is_summary v) e in
+    let b = and_parts _ (all_below v.ncg (is_group v)) a.0 in
+    let d = and_parts _ (are_parts v) b.0 in
+    let f = and_parts (are_sizes v) (are_numbers v) d.0 in
+    (f.0, f.1, d.1, b.1, a.1)
+
+-- a layout without a fault is a geometry, whose fragments lie in the image
+pub geometry_holds : (v : Layout) (n : ℕ) → layout_fault v n ≡ None → IsGeometry v × (v.size * v.fsize ≤ n)
+unfolding layout_fault are_cylinders
+geometry_holds v n e =
+    let a = no_fault (v.inodefmt == 2) _ _ e in
+    let b = no_fault_if (nat_lt v.ncg 1) _ _ a.1 in
+    let d = no_fault_if (nat_lt v.cpg 1) _ _ b.1 in
+    let f = no_fault (are_cylinders v) _ _ d.1 in
+    let g = no_fault_if (nat_lt 8192 v.sbsize) _ _ f.1 in
+    let h = no_fault (is_shaped v) _ _ g.1 in
+    let k = no_fault_if (nat_lt n (v.size * v.fsize)) _ _ h.1 in
+    let s = shape_holds v h.0 in (
+      record {
+        shaped = h.0;
+        some_groups = grind (arith, nat_tests, b.0);
+        some_cylinders = grind (arith, nat_tests, d.0);
+        ncyl_within = grind (arith, nat_tests, f.0);
+        ncyl_above = grind (arith, nat_tests, f.0);
+        sbsize_high = grind (arith, nat_tests, g.0);
+        sizes = sizes_hold v s.0;
+        numbers = numbers_hold v s.1;
+        parts = parts_hold v s.2;
+        groups = λ c lt. group_holds v c (all_below-at v.ncg c (is_group v) s.3 lt);
+        summary = summary_holds v s.4;
+      },
+      grind (arith, nat_tests, k.0),
+    )

@@ -1,0 +1,89 @@
+-- A run is in range where its ends show it.
+use Rattle.std.proofs.Common.{zero, suc, inl, inr, ◌≡◌, ℕ, ◌+◌, ◌-◌, ◌*◌, ◌/◌, ◌<◌, ◌≤◌, Bool, true, false, arith, refl, sym, ◌∙◌}
+use Rattle.std.proofs.Math.Nat.{lt-mul-div-succ, mul-div-le}
+use Rattle.std.proofs.lemmas.Bool.{cases_lt}
+use Rattle.std.proofs.lemmas.Bool.Decides.{nat_tests}
+use Rattle.std.specs.Prelude.{nat_le, ◌&&◌, ◌||◌, ◌==◌}
+use Rattle.ffs_volume.specs.declared.Layout.{Layout}
+use Rattle.ffs_volume.specs.Disk.Numbers.{all_below}
+use Rattle.ffs_volume.specs.Disk.Areas.{cgbase, cgsblock, cgdmin, is_group_metadata, is_data_fragment, is_in_range}
+use Rattle.ffs_volume.specs.Disk.Geometry.{IsGeometry}
+use Rattle.ffs_volume.proofs.GeometryLaws.{all_below-at}
+use Rattle.ffs_volume.proofs.AreaLaws.{in_kept, is_kept_group, group_below, group_is}
+
+-- the run of `len` fragments from `start` ends in the volume and in its group, and is before the kept part or after it
+abbrev pub is_apart : Layout → ℕ → ℕ → Bool
+is_apart v start len =
+    nat_le (start + len) v.size && nat_le (start + len) (cgbase v (start / v.fpg + 1))
+    && (nat_le (start + len) (cgsblock v (start / v.fpg)) || nat_le (cgdmin v (start / v.fpg)) start)
+
+all_below-from : (n : ℕ) (test : ℕ → Bool) → ((k : ℕ) → k < n → test k ≡ true) → all_below n test ≡ true
+unfolding all_below
+all_below-from zero test h = refl
+all_below-from (suc n) test h =
+    let here = h n (omega arith) in
+    rw here (all_below-from n test (λ k lt. h k (omega arith)))
+
+abbrev fits : Layout → ℕ → ℕ → Bool
+fits v start k = is_data_fragment v (start + k) && ((start + k) / v.fpg == start / v.fpg)
+
+module _ (v : Layout) (g : IsGeometry v) (start len : ℕ) where
+  base_low : cgbase v (start / v.fpg) ≤ start
+  unfolding cgbase
+  base_low = mul-div-le start v.fpg
+
+  -- what is apart fits at each place
+  apart_fits : is_apart v start len ≡ true → (k : ℕ) → k < len → fits v start k ≡ true
+  unfolding is_data_fragment
+  apart_fits h k lt =
+      let below : start + len ≤ v.size = grind (arith, nat_tests) in
+      let within : start + len ≤ cgbase v (start / v.fpg + 1) = grind (arith, nat_tests) in
+      let low = base_low in
+      let same : (start + k) / v.fpg ≡ start / v.fpg = group_is v (start / v.fpg) (start + k) (omega arith) (omega arith) in
+      let kept = is_kept_group v (start + k) g in
+      let free : in_kept v (start / v.fpg) (start + k) ≡ false = grind (arith, nat_tests) in
+      let open_is : is_group_metadata v (start + k) ≡ false = grind (arith, nat_tests, kept, same, free) in
+      grind (arith, nat_tests)
+
+  -- a fragment that fits is below size, of the run's group, and not kept by it
+  fit_facts : (k : ℕ) → fits v start k ≡ true → (start + k < v.size) × ((start + k) / v.fpg ≡ start / v.fpg) × (in_kept v (start / v.fpg) (start + k) ≡ false)
+  unfolding is_data_fragment
+  fit_facts k h =
+      let below : start + k < v.size = grind (arith, nat_tests) in
+      let same : (start + k) / v.fpg ≡ start / v.fpg = grind (arith, nat_tests) in
+      let free : is_group_metadata v (start + k) ≡ false = grind (arith, nat_tests) in
+      let kept = is_kept_group v (start + k) g in
+      let group = group_below v (start + k) g below in
+      (below, same, grind (arith, nat_tests, kept, same, free, group))
+
+  -- what fits at each place is apart
+  fits_apart : 0 < len → ((k : ℕ) → k < len → fits v start k ≡ true) → is_apart v start len ≡ true
+  unfolding cgbase
+  fits_apart some h =
+      let last = fit_facts (len - 1) (h (len - 1) (omega arith)) in
+      let first = fit_facts 0 (h 0 some) in
+      let above : start + (len - 1) < v.fpg * ((start + (len - 1)) / v.fpg + 1) = lt-mul-div-succ (start + (len - 1)) (omega arith) in
+      let group : start + (len - 1) < v.fpg * (start / v.fpg + 1) = rw last.1 at above in
+      let size : start + len ≤ v.size = omega arith in
+      let within : start + len ≤ v.fpg * (start / v.fpg + 1) = omega arith in
+      elim (cases_lt start (cgdmin v (start / v.fpg))) [
+        | inr after ↦ grind (arith, nat_tests)
+        | inl before ↦
+            let low : start < cgsblock v (start / v.fpg) = grind (arith, nat_tests, first.2) in
+            elim (cases_lt (cgsblock v (start / v.fpg)) (start + len)) [
+              | inr under ↦ grind (arith, nat_tests)
+              | inl over ↦
+                  let at = fit_facts (cgsblock v (start / v.fpg) - start) (h (cgsblock v (start / v.fpg) - start) (omega arith)) in
+                  let free = at.2 in
+                  absurd (grind (arith, nat_tests))
+            ]
+      ]
+
+  pub in_range_is : 0 < len → is_in_range v start len ≡ is_apart v start len
+  unfolding is_in_range
+  in_range_is some = both (all_below len (fits v start)) refl (is_apart v start len) refl
+    where
+      both : (a : Bool) → all_below len (fits v start) ≡ a → (b : Bool) → is_apart v start len ≡ b → a ≡ b
+      both true all b h = sym (fits_apart some (λ k lt. all_below-at len k (fits v start) all lt)) ∙ h
+      both false fails true h = sym fails ∙ all_below-from len (fits v start) (apart_fits h)
+      both false fails false h = refl

@@ -1,0 +1,94 @@
+-- An inode, and its class.
+use Rattle.std.specs.Prelude.{ℕ, Bool, true, false, not, ◌+◌, ◌*◌, ◌/◌, ◌&&◌, ◌||◌, List, nat_lt, ◌==◌, if◌then◌else◌, drop, map}
+use Rattle.std.specs.List.{list_any, range_with_len}
+use Rattle.std.specs.Int.{div_ceil}
+use Rattle.ffs_volume.specs.declared.Order.{Order}
+use Rattle.ffs_volume.specs.declared.Layout.{Layout}
+use Rattle.ffs_volume.specs.declared.Inode.{Inode}
+use Rattle.ffs_volume.specs.declared.Class.{Class}
+use Rattle.ffs_volume.specs.declared.Class.TheVariants.{Free, Partial, Unknown, File, Dir}
+use Rattle.ffs_volume.specs.Disk.Numbers.{u16_at, i16_at, u32_at, i32_at, u64_at, piece}
+use Rattle.ffs_volume.specs.Disk.Areas.{inode_place}
+
+-- the inode in 128 bytes, of which the numbers have this order
+unfoldable pub decoded : Order → List ℕ → Inode
+decoded order bytes = record {
+  mode = u16_at order 0 bytes;
+  nlink = i16_at order 2 bytes;
+  size = u64_at order 8 bytes;
+  mtime = i32_at order 24 bytes;
+  addresses = map (λ j. u32_at order (40 + 4 * j) bytes) (range_with_len 0 15);
+  blocks = u32_at order 104 bytes;
+  uid = u32_at order 112 bytes;
+}
+
+-- the inode x of an image
+unfoldable pub inode_of : Layout → List ℕ → ℕ → Inode
+inode_of v image x = decoded v.order (piece (inode_place v x) 128 image)
+
+-- the type bits of a mode, as a directory's entry has them
+abbrev pub type_of : ℕ → ℕ
+type_of mode = mode / 4096
+
+-- fifo, character device, directory, block device, regular file, symlink, socket
+abbrev pub is_known_type : ℕ → Bool
+is_known_type kind = kind == 1 || (kind == 2 || (kind == 4 || (kind == 6 || (kind == 8 || (kind == 10 || kind == 12)))))
+
+abbrev pub is_device : ℕ → Bool
+is_device kind = kind == 2 || kind == 6
+
+abbrev pub is_short_symlink : Layout → Inode → Bool
+is_short_symlink v i = type_of i.mode == 10 && nat_lt i.size v.maxsymlinklen
+
+-- how many logical blocks an inode of its size has
+abbrev pub blocks_of : Layout → Inode → ℕ
+blocks_of v i = div_ceil i.size v.bsize
+
+-- how many of the fifteen addresses are used where there are this many logical blocks
+abbrev pub used_addresses : ℕ → ℕ → ℕ
+used_addresses words blocks =
+    if nat_lt blocks 13 then blocks
+    else (if nat_lt (12 + words) blocks then (if nat_lt (12 + words + words * words) blocks then 15 else 14) else 13)
+
+-- how many of the fifteen addresses an inode may use
+abbrev pub addresses_used : Layout → Inode → ℕ
+addresses_used v i =
+    if is_short_symlink v i then div_ceil i.size 4
+    else used_addresses v.nindir (if is_device (type_of i.mode) then blocks_of v i + 1 else blocks_of v i)
+
+abbrev pub is_any_set : List ℕ → Bool
+is_any_set addresses = list_any (λ a. not (a == 0)) addresses
+
+abbrev pub is_too_large : Layout → Inode → Bool
+is_too_large v i =
+    nat_lt ((12 + v.nindir + v.nindir * v.nindir + v.nindir * v.nindir * v.nindir) * v.bsize) i.size
+    || (type_of i.mode == 4 && nat_lt 2147483647 i.size)
+
+unfoldable pub class_of : Layout → Inode → Class
+class_of v i =
+    if type_of i.mode == 0
+    then (if i.mode == 0 && (i.size == 0 && not (is_any_set i.addresses)) then Free else Partial)
+    else (if not (is_known_type (type_of i.mode)) || (is_too_large v i || is_any_set (drop (addresses_used v i) i.addresses))
+    then Unknown
+    else (if type_of i.mode == 4 then Dir else File))
+
+-- a file or a directory
+abbrev pub is_file_or_dir : Class → Bool
+is_file_or_dir File = true
+is_file_or_dir Dir = true
+is_file_or_dir _ = false
+
+abbrev pub is_directory : Class → Bool
+is_directory Dir = true
+is_directory _ = false
+
+abbrev pub is_unknown : Class → Bool
+is_unknown Unknown = true
+is_unknown _ = false
+
+-- the inode is in use: what its group's map of inodes should say
+abbrev pub is_allocated : Class → Bool
+is_allocated File = true
+is_allocated Dir = true
+is_allocated Unknown = true
+is_allocated _ = false

@@ -1,0 +1,27 @@
+-- The steps of an inode that are kept.
+use Rattle.std.specs.Prelude.{ℕ, Bool, ◌+◌, ◌-◌, ◌&&◌, List, [], ◌∷◌, ◌++◌, ◌==◌, if◌then◌else◌, map}
+use Rattle.std.specs.List.{range_with_len}
+use Rattle.ffs_volume.specs.declared.Layout.{Layout}
+use Rattle.ffs_volume.specs.declared.Step.{Step}
+use Rattle.ffs_volume.specs.declared.Step.TheVariants.{Run, Tail, Gap}
+use Rattle.ffs_volume.specs.Blocks.Inodes.{inode_of}
+use Rattle.ffs_volume.specs.Blocks.Steps.{steps_of}
+use Rattle.ffs_volume.specs.Blocks.Owners.{owner_of}
+use Rattle.ffs_volume.specs.Blocks.Claims.{Claims, no_claims, next_inode, is_open, after_step, after_owners}
+
+-- a Gap or Tail is kept where it is seen, and a Run where all its offers are kept
+abbrev pub is_kept_step : Layout → Claims → Step → Bool
+is_kept_step v s (Run start len block) = is_open s && (after_step v s (Run start len block)).kept == s.kept + len
+is_kept_step v s Tail = is_open s
+is_kept_step v s Gap = is_open s
+
+abbrev pub kept_steps : Layout → Claims → List Step → List Step
+kept_steps v s [] = []
+kept_steps v s (step ∷ steps) = (if is_kept_step v s step then step ∷ [] else []) ++ kept_steps v (after_step v s step) steps
+
+-- what is known before the inode x
+unfoldable pub claims_before : Layout → List ℕ → ℕ → Claims
+claims_before v image x = after_owners v (no_claims v) (map (owner_of v image) (range_with_len 2 (x - 2)))
+
+unfoldable pub kept_steps_of : Layout → List ℕ → ℕ → List Step
+kept_steps_of v image x = kept_steps v (next_inode (claims_before v image x)) (steps_of v (inode_of v image x) image)

@@ -1,0 +1,44 @@
+-- The inodes of an image, as those that may own fragments.
+use Rattle.std.specs.Prelude.{ℕ, ◌*◌, ◌-◌, List, [], map}
+use Rattle.std.specs.List.{flat_map, range_with_len}
+use Rattle.ffs_volume.specs.declared.Layout.{Layout}
+use Rattle.ffs_volume.specs.declared.Class.{Class}
+use Rattle.ffs_volume.specs.declared.Step.{Step}
+use Rattle.ffs_volume.specs.declared.Step.TheVariants.{Run, Tail, Gap}
+use Rattle.ffs_volume.specs.Blocks.Inodes.{inode_of, class_of}
+use Rattle.ffs_volume.specs.Blocks.Steps.{steps_of}
+
+-- an inode's number, class, steps and blocks field
+pub record Owner : Type 0 where
+  pub number : ℕ
+  pub class : Class
+  pub steps : List Step
+  pub blocks : ℕ
+
+unfoldable pub owner_of : Layout → List ℕ → ℕ → Owner
+owner_of v image x = record {
+  number = x;
+  class = class_of v (inode_of v image x);
+  steps = steps_of v (inode_of v image x) image;
+  blocks = (inode_of v image x).blocks;
+}
+
+-- all inodes, ascending
+abbrev pub inode_numbers : Layout → List ℕ
+inode_numbers v = range_with_len 2 (v.ncg * v.ipg - 2)
+
+unfoldable pub owners_of : Layout → List ℕ → List Owner
+owners_of v image = map (owner_of v image) (inode_numbers v)
+
+-- the fragments of a Run
+abbrev pub step_fragments : Step → List ℕ
+step_fragments (Run start len block) = range_with_len start len
+step_fragments Tail = []
+step_fragments Gap = []
+
+-- the places of all Runs, in order
+abbrev pub fragments_of : List Step → List ℕ
+fragments_of steps = flat_map step_fragments steps
+
+abbrev pub all_steps : List Owner → List Step
+all_steps owners = flat_map (λ o. o.steps) owners

@@ -1,0 +1,44 @@
+-- Where every fragment has one owner at most, without order and keeping.
+use Rattle.std.specs.Prelude.{◌≡◌, ℕ, ◌≤◌, Bool, true, false, ◌||◌, not, List, ◌==◌, length, count_by}
+use Rattle.std.specs.List.{list_all}
+use Rattle.ffs_volume.specs.declared.Layout.{Layout}
+use Rattle.ffs_volume.specs.declared.Class.{Class}
+use Rattle.ffs_volume.specs.declared.Class.TheVariants.{Partial, Unknown}
+use Rattle.ffs_volume.specs.declared.Step.{Step}
+use Rattle.ffs_volume.specs.declared.Step.TheVariants.{Run, Tail, Gap}
+use Rattle.ffs_volume.specs.Disk.Areas.{is_in_range, is_reserved}
+use Rattle.ffs_volume.specs.Blocks.Inodes.{is_file_or_dir}
+use Rattle.ffs_volume.specs.Blocks.Owners.{Owner, fragments_of, all_steps}
+use Rattle.ffs_volume.specs.Blocks.BlockCheck.{sectors}
+
+-- free, or a file or a directory
+abbrev pub is_whole_class : Class → Bool
+is_whole_class Partial = false
+is_whole_class Unknown = false
+is_whole_class _ = true
+
+-- a Run is in range
+abbrev pub run_in_range : Layout → Step → Bool
+run_in_range v (Run start len block) = is_in_range v start len
+run_in_range v Tail = true
+run_in_range v Gap = true
+
+abbrev pub is_no_tail : Step → Bool
+is_no_tail Tail = false
+is_no_tail _ = true
+
+-- how often a number occurs
+abbrev pub times : ℕ → List ℕ → ℕ
+times f fs = count_by (λ g. g == f) fs
+
+-- the blocks field of a file or directory is that of all its fragments
+abbrev pub is_counted : Layout → Owner → Bool
+is_counted v o = not (is_file_or_dir o.class) || o.blocks == sectors v (length (fragments_of o.steps))
+
+pub record BlocksRight (v : Layout) (os : List Owner) : Type 0 where
+  pub classes : list_all (λ o. is_whole_class o.class) os ≡ true
+  pub in_range : list_all (run_in_range v) (all_steps os) ≡ true
+  pub no_tail : list_all is_no_tail (all_steps os) ≡ true
+  pub alone : (f : ℕ) → times f (fragments_of (all_steps os)) ≤ 1
+  pub unreserved : (f : ℕ) → is_reserved v f ≡ true → times f (fragments_of (all_steps os)) ≡ 0
+  pub counted : list_all (is_counted v) os ≡ true

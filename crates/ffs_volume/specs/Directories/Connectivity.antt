@@ -1,0 +1,17 @@
+-- What the check of connectivity reports.
+use Rattle.std.specs.Prelude.{ℕ, Bool, List}
+use Rattle.ffs_volume.specs.Directories.Roles.{Volume, is_suspect}
+use Rattle.ffs_volume.specs.Directories.Graph.{unref_dir as is_unref_dir, dead}
+use Rattle.ffs_volume.specs.Directories.Parents.{graph_of}
+use Rattle.ffs_volume.specs.Messages.Kinds.{NameMessage, told, lines_below, unref_dir}
+use Rattle.ffs_volume.specs.Directories.PathnameCheck.{attributes}
+
+-- suspect, and named by no plain entry
+abbrev pub is_dead : Volume → ℕ → Bool
+is_dead v x = dead (graph_of v) (is_suspect v) x
+
+abbrev pub is_cut_off : Volume → ℕ → Bool
+is_cut_off v d = is_unref_dir (graph_of v) (is_suspect v) d
+
+unfoldable pub connectivity_lines : Volume → List NameMessage
+connectivity_lines v = lines_below (λ d. told (is_cut_off v d) (unref_dir (attributes v d))) v.count

@@ -1,0 +1,135 @@
+-- The chunks of a directory and the entries in them, after dir(5).
+use Rattle.std.specs.Prelude.{ℕ, zero, suc, ◌≡◌, ◌+◌, ◌-◌, ◌*◌, ◌/◌, ◌%◌, ◌==◌, min, Bool, true, false, not, ◌&&◌, ◌||◌, nat_le, nat_lt, if◌then◌else◌, List, [], ◌∷◌, ◌++◌, map, length, slice_index, sum_by, Option, Some, None}
+use Rattle.std.specs.List.{range_with_len, flat_map, list_any}
+use Rattle.std.specs.Int.{div_ceil}
+use Rattle.ffs_volume.specs.declared.Order.{Order}
+use Rattle.ffs_volume.specs.declared.Step.{Step}
+use Rattle.ffs_volume.specs.declared.Step.TheVariants.{Run, Tail, Gap}
+use Rattle.ffs_volume.specs.Disk.Numbers.{u16_at, u32_at, piece}
+
+-- an entry: the number that it names, its record's length, its type and its name
+pub record Entry : Type 0 where
+  pub number : ℕ
+  pub length : ℕ
+  pub kind : ℕ
+  pub name : List ℕ
+
+abbrev pub is_live : Entry → Bool
+is_live e = not (e.number == 0)
+
+-- the name bytes of the entry at a place
+abbrev pub name_at : List ℕ → ℕ → List ℕ
+name_at chunk place = piece (place + 8) (slice_index chunk (place + 7)) chunk
+
+-- a name has 1 byte or more, none of them NUL or `/`, and a NUL after it. 255 bytes are the most that its length can say
+abbrev pub is_name : List ℕ → ℕ → Bool
+is_name chunk place =
+    not (slice_index chunk (place + 7) == 0)
+    && not (list_any (λ b. b == 0) (name_at chunk place) || list_any (λ b. b == 47) (name_at chunk place))
+    && (slice_index chunk (place + 8 + slice_index chunk (place + 7)) == 0)
+
+-- a record's length is a multiple of 4, at least 8, and stays in the chunk
+abbrev pub is_length : ℕ → ℕ → Bool
+is_length place length = (length % 4 == 0) && nat_le 8 length && nat_le (place + length) 512
+
+-- a record holds its name with the NUL, and has one of sixteen types
+abbrev pub is_held : List ℕ → ℕ → ℕ → Bool
+is_held chunk place length =
+    nat_le (8 + (slice_index chunk (place + 7) + 4) / 4 * 4) length
+    && nat_le (slice_index chunk (place + 6)) 15
+    && is_name chunk place
+
+unfoldable pub is_well_formed : Order → List ℕ → ℕ → Bool
+is_well_formed order chunk place =
+    is_length place (u16_at order (place + 4) chunk)
+    && ((u32_at order place chunk == 0) || is_held chunk place (u16_at order (place + 4) chunk))
+
+-- an entry with the number 0 has no name
+unfoldable pub entry_there : Order → List ℕ → ℕ → Entry
+entry_there order chunk place = record {
+  number = u32_at order place chunk;
+  length = u16_at order (place + 4) chunk;
+  kind = slice_index chunk (place + 6);
+  name = if u32_at order place chunk == 0 then [] else name_at chunk place;
+}
+
+-- the well formed entry at a place
+unfoldable pub entry_at : Order → List ℕ → ℕ → Option Entry
+entry_at order chunk place = if is_well_formed order chunk place then Some (entry_there order chunk place) else None
+
+-- well formed entries that are one after the other from a place on
+abbrev pub AreEntries : Order → List ℕ → ℕ → List Entry → Type 0
+AreEntries order chunk place [] = Unit {0}
+AreEntries order chunk place (e ∷ es) = (entry_at order chunk place ≡ Some e) × AreEntries order chunk (place + e.length) es
+
+abbrev pub entries_with : Order → List ℕ → ℕ → (ℕ → List Entry) → Option Entry → List Entry
+entries_with order chunk place next None = []
+entries_with order chunk place next (Some e) = e ∷ next (place + e.length)
+
+-- the longest list of them, of at most `most` entries
+unfoldable pub entries_from : Order → List ℕ → ℕ → ℕ → List Entry
+entries_from order chunk zero place = []
+entries_from order chunk (suc most) place = entries_with order chunk place (entries_from order chunk most) (entry_at order chunk place)
+
+-- the entries of a chunk. Each has 8 bytes or more, so there are at most 64 in 512 bytes
+abbrev pub entries_of : Order → List ℕ → List Entry
+entries_of order chunk = entries_from order chunk 64 0
+
+-- a list of well formed entries from the start, of which each other such list is a beginning
+pub record IsLongest (order : Order) (chunk : List ℕ) (entries : List Entry) : Type 0 where
+  pub are : AreEntries order chunk 0 entries
+  pub longest : (es : List Entry) → AreEntries order chunk 0 es → (rest : List Entry) × (entries ≡ es ++ rest)
+
+abbrev pub AreLongest : Type 0
+AreLongest = (order : Order) (chunk : List ℕ) → IsLongest order chunk (entries_of order chunk)
+
+-- they fill the chunk
+abbrev pub is_sound : Order → List ℕ → Bool
+is_sound order chunk = sum_by (λ e. e.length) (entries_of order chunk) == 512
+
+-- a chunk of a directory: its place in the file, its entries, and whether they fill it
+pub record Chunk : Type 0 where
+  pub offset : ℕ
+  pub entries : List Entry
+  pub sound : Bool
+
+abbrev pub chunk_of : Order → ℕ → List ℕ → Chunk
+chunk_of order offset bytes = record { offset = offset; entries = entries_of order bytes; sound = is_sound order bytes }
+
+-- how much of a directory is read
+abbrev pub size_taken : ℕ → ℕ
+size_taken size = if nat_lt size 24 then 512 else div_ceil size 512 * 512
+
+-- what the chunks of a directory depend on beside its steps
+pub record Reading : Type 0 where
+  pub order : Order
+  pub image : List ℕ
+  pub bsize : ℕ
+  pub fsize : ℕ
+  pub taken : ℕ  -- how much of the directory is read
+
+-- the chunks of `len` fragments from `start` on, that are at `offset` of the file
+abbrev pub run_chunks : Reading → ℕ → ℕ → ℕ → List Chunk
+run_chunks r start len offset =
+    map (λ k. chunk_of r.order (offset + 512 * k) (piece (start * r.fsize + 512 * k) 512 r.image))
+    (range_with_len 0 (min (len * r.fsize / 512) ((r.taken - offset) / 512)))
+
+-- the chunks of a step: of a Run of data that passes the test `is_in_range`
+abbrev pub step_chunks : Reading → (ℕ → ℕ → Bool) → Step → List Chunk
+step_chunks r is_in_range (Run start len (Some block)) = if is_in_range start len then run_chunks r start len (block * r.bsize) else []
+step_chunks r is_in_range (Run start len None) = []
+step_chunks r is_in_range Tail = []
+step_chunks r is_in_range Gap = []
+
+-- the chunks of steps
+abbrev pub chunks_of : Reading → (ℕ → ℕ → Bool) → List Step → List Chunk
+chunks_of r is_in_range steps = flat_map (step_chunks r is_in_range) steps
+
+abbrev pub is_gap : Step → Bool
+is_gap Gap = true
+is_gap Tail = false
+is_gap (Run start len block) = false
+
+-- a Gap is among them
+abbrev pub has_gap : List Step → Bool
+has_gap steps = list_any is_gap steps

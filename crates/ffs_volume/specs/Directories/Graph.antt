@@ -1,0 +1,126 @@
+-- Levels, parents and lost directories of a volume, read as a graph.
+use Rattle.std.specs.Prelude.{◌≡◌, ◌≢◌, ℕ, zero, suc, ◌<◌, ◌==◌, Bool, true, false, not, ◌&&◌, ◌||◌, List, Option, None, Some, is_some, cond, [], ◌∷◌, option_map, if◌then◌else◌, ◌↔◌}
+use Rattle.std.specs.List.{list_any}
+use Rattle.ffs_volume.specs.Directories.Roles.{RoledEntry, is_plain}
+use Rattle.ffs_volume.specs.Directories.Search.{first_below, some_below}
+use Rattle.ffs_volume.specs.Directories.Climb.{is_value, leads_cycle}
+
+-- What the definitions below read of a volume: the number of inodes, which are directories, and the entries of each in order.
+pub record Graph : Type 0 where
+  pub count : ℕ
+  pub is_dir : ℕ → Bool
+  pub entries : ℕ → List RoledEntry
+
+-- a plain entry that names d
+abbrev pub names : ℕ → RoledEntry → Bool
+names d e = is_plain e.role && (e.entry.number == d)
+
+-- a directory s has a plain entry that names x
+abbrev pub names_in : Graph → ℕ → ℕ → Bool
+names_in v s x = v.is_dir s && list_any (names x) (v.entries s)
+
+-- an edge from s to d: a plain entry of s that names a directory d
+abbrev pub edge : Graph → ℕ → ℕ → Bool
+edge v s d = v.is_dir d && names_in v s d
+
+-- d is at most k edges from inode 2
+unfoldable pub within : Graph → ℕ → ℕ → Bool
+within v zero d = d == 2
+within v (suc k) d = within v k d || some_below (λ s. within v k s && edge v s d) v.count
+
+-- the least number of edges from inode 2, if d is reached. A least walk visits no inode twice, so it has fewer edges
+-- than there are inodes
+unfoldable pub level : Graph → ℕ → Option ℕ
+level v d = first_below (λ k. within v k d) v.count
+
+abbrev pub reached : Graph → ℕ → Bool
+reached v d = is_some (level v d)
+
+-- the parent of a directory other than 2, by its level
+abbrev pub parent_by : Graph → ℕ → Option ℕ → Option ℕ
+parent_by v d None = first_below (λ s. edge v s d) v.count
+parent_by v d (Some zero) = None
+parent_by v d (Some (suc k)) = first_below (λ s. is_value (level v s) k && edge v s d) v.count
+
+-- a directory of level k with an edge to x
+abbrev pub level_edge : Graph → ℕ → ℕ → ℕ → Bool
+level_edge v k x s = is_value (level v s) k && edge v s x
+
+unfoldable pub parent : Graph → ℕ → Option ℕ
+parent v d = if d == 2 then Some 2 else parent_by v d (level v d)
+
+-- the place of the first entry that passes
+abbrev pub first_place : (RoledEntry → Bool) → List RoledEntry → Option ℕ
+first_place p [] = None
+first_place p (e ∷ es) = cond (p e) (Some 0) (option_map suc (first_place p es))
+
+-- the place of the parent entry among the entries of the parent
+abbrev pub entry_place : Graph → ℕ → Option ℕ → Option ℕ
+entry_place v d None = None
+entry_place v d (Some s) = first_place (names d) (v.entries s)
+
+abbrev pub parent_entry : Graph → ℕ → Option ℕ
+parent_entry v d = if d == 2 then None else entry_place v d (parent v d)
+
+-- some plain entry names x
+abbrev pub named : Graph → ℕ → Bool
+named v x = some_below (λ s. names_in v s x) v.count
+
+abbrev pub dead : Graph → (ℕ → Bool) → ℕ → Bool
+dead v suspect x = suspect x && (not (x == 2) && not (named v x))
+
+abbrev pub lost : Graph → (ℕ → Bool) → ℕ → Bool
+lost v suspect d = v.is_dir d && (not (d == 2) && (not (reached v d) && not (dead v suspect d)))
+
+abbrev pub none_or_dead : Graph → (ℕ → Bool) → Option ℕ → Bool
+none_or_dead v suspect None = true
+none_or_dead v suspect (Some s) = dead v suspect s
+
+-- the directories with a line UNREF DIR
+abbrev pub unref_dir : Graph → (ℕ → Bool) → ℕ → Bool
+unref_dir v suspect d = lost v suspect d && (none_or_dead v suspect (parent v d) || leads_cycle (parent v) v.count d)
+
+-- a directory has the number of an inode, and there is an inode 2
+pub record IsSane (v : Graph) : Type 0 where
+  pub some : 2 < v.count
+  pub dirs : (d : ℕ) → v.is_dir d ≡ true → d < v.count
+
+-- each directory is reached from inode 2
+abbrev pub AllReached : Graph → Type 0
+AllReached v = (d : ℕ) → v.is_dir d ≡ true → reached v d ≡ true
+
+abbrev pub NoneDead : Graph → (ℕ → Bool) → Type 0
+NoneDead v suspect = (x : ℕ) → dead v suspect x ≡ false
+
+abbrev pub NoUnrefDir : Graph → (ℕ → Bool) → Type 0
+NoUnrefDir v suspect = (d : ℕ) → unref_dir v suspect d ≡ false
+
+-- whether the entry at j passes
+abbrev pub test_at : (RoledEntry → Bool) → ℕ → List RoledEntry → Bool
+test_at p j [] = false
+test_at p zero (e ∷ es) = p e
+test_at p (suc j) (e ∷ es) = test_at p j es
+
+-- the entry at j of the directory s is a plain one that names x
+abbrev pub names_at : Graph → ℕ → ℕ → ℕ → Bool
+names_at v s j x = v.is_dir s && test_at (names x) j (v.entries s)
+
+-- the entry at j of s is the parent entry of d
+abbrev pub is_parent_entry : Graph → ℕ → ℕ → ℕ → Type 0
+is_parent_entry v s j d = (parent v d ≡ Some s) × (parent_entry v d ≡ Some j)
+
+-- each plain entry that names a directory is its parent entry
+abbrev pub NoExtraneous : Graph → Type 0
+NoExtraneous v = (s j d : ℕ) → names_at v s j d ≡ true → v.is_dir d ≡ true → is_parent_entry v s j d
+
+-- exactly one plain entry names d
+pub record NamedOnce (v : Graph) (d : ℕ) : Type 0 where
+  pub in_dir : ℕ
+  pub place : ℕ
+  pub there : names_at v in_dir place d ≡ true
+  pub only : (s j : ℕ) → names_at v s j d ≡ true → (s ≡ in_dir) × (j ≡ place)
+
+-- each directory but 2 is named by one plain entry, and 2 by none
+pub record LinksRight (v : Graph) : Type 0 where
+  pub once : (d : ℕ) → v.is_dir d ≡ true → d ≢ 2 → NamedOnce v d
+  pub root : (s j : ℕ) → names_at v s j 2 ≡ false

@@ -1,0 +1,27 @@
+-- A volume's directories read as a graph, and the first plain entry that names an inode.
+use Rattle.std.specs.Prelude.{ℕ, zero, suc, Bool, ◌&&◌, List, [], ◌∷◌, Option, Some, None}
+use Rattle.ffs_volume.specs.Directories.Roles.{Volume, RoledEntry, is_dir, roled_entries}
+use Rattle.ffs_volume.specs.Directories.Search.{first_below}
+use Rattle.ffs_volume.specs.Directories.Climb.{is_value}
+use Rattle.ffs_volume.specs.Directories.Graph.{Graph, names, names_in, parent, parent_entry, first_place}
+
+abbrev pub graph_of : Volume → Graph
+graph_of v = record { count = v.count; is_dir = is_dir v; entries = roled_entries v }
+
+-- the entry at a place of a directory
+abbrev pub roled_at : List RoledEntry → ℕ → Option RoledEntry
+roled_at [] j = None
+roled_at (e ∷ es) zero = Some e
+roled_at (e ∷ es) (suc j) = roled_at es j
+
+-- the directory with the first of all plain entries that name x
+abbrev pub first_namer : Graph → ℕ → Option ℕ
+first_namer g x = first_below (λ s. names_in g s x) g.count
+
+-- the entry at j of s is the first of all plain entries that name x
+abbrev pub is_first_name : Graph → ℕ → ℕ → ℕ → Bool
+is_first_name g s j x = is_value (first_namer g x) s && is_value (first_place (names x) (g.entries s)) j
+
+-- the entry at j of s is the parent entry of x
+abbrev pub is_from_parent : Graph → ℕ → ℕ → ℕ → Bool
+is_from_parent g s j x = is_value (parent g x) s && is_value (parent_entry g x) j

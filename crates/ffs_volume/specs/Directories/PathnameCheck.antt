@@ -1,0 +1,158 @@
+-- What the pathname check reports.
+use Rattle.std.specs.Prelude.{ℕ, suc, ◌/◌, ◌%◌, ◌==◌, Bool, false, not, ◌&&◌, ◌||◌, nat_lt, if◌then◌else◌, List, [], ◌∷◌, ◌++◌, Option, Some, None}
+use Rattle.std.specs.List.{list_all}
+use Rattle.ffs_volume.specs.declared.Attr.{Attr}
+use Rattle.ffs_volume.specs.declared.Class.{Class}
+use Rattle.ffs_volume.specs.declared.Class.TheVariants.{Free, Partial, Unknown, File, Dir}
+use Rattle.ffs_volume.specs.declared.Label.{Label}
+use Rattle.ffs_volume.specs.declared.Label.TheVariants.{Dir as DirLabel, File as FileLabel, Name as NameLabel}
+use Rattle.ffs_volume.specs.declared.Role.{Role}
+use Rattle.ffs_volume.specs.declared.Role.TheVariants.{Empty, Dot, Dotdot, Extra, Plain}
+use Rattle.ffs_volume.specs.Directories.Entries.{Entry, Chunk, is_live}
+use Rattle.ffs_volume.specs.Blocks.Inodes.{is_directory, is_allocated, is_unknown}
+use Rattle.ffs_volume.specs.Directories.Roles.{Volume, RoledEntry, is_dir, is_suspect, is_one_dot, is_two_dots, start_entry, dot, dotdot, roled_entries}
+use Rattle.ffs_volume.specs.Directories.Graph.{parent}
+use Rattle.ffs_volume.specs.Directories.Parents.{graph_of, is_first_name, is_from_parent}
+use Rattle.ffs_volume.specs.Directories.Paths.{dir_path, entry_path}
+use Rattle.ffs_volume.specs.Messages.Kinds.{NameMessage, told, lines_below, root_none, root_not_dir, root_suspect, dir_short, dir_length, dir_empty, dir_corrupt, missing_dot, missing_dot_first, number_dot, kind_dot, missing_dotdot, missing_dotdot_second, number_dotdot, kind_dotdot, extra_dot, extra_dotdot, out_of_range, whiteout, unallocated, dup_bad, zero_dir, extraneous, kind_entry}
+
+unfoldable pub attributes : Volume → ℕ → Attr
+attributes v i = record { number = i; uid = (v.inode i).uid; mode = (v.inode i).mode; size = (v.inode i).size; mtime = (v.inode i).mtime }
+
+abbrev pub label_of : Class → Label
+label_of Dir = DirLabel
+label_of File = FileLabel
+label_of Unknown = NameLabel
+label_of Partial = NameLabel
+label_of Free = NameLabel
+
+-- of the root
+abbrev pub root_reported : Volume → Class → List NameMessage
+root_reported v Free = root_none ∷ []
+root_reported v Partial = root_none ∷ []
+root_reported v File = root_not_dir ∷ []
+root_reported v Unknown = root_not_dir ∷ []
+root_reported v Dir = told (is_suspect v 2) root_suspect
+
+unfoldable pub root_lines : Volume → List NameMessage
+root_lines v = root_reported v (v.class 2)
+
+-- the run continues after the root
+abbrev pub goes_on : Volume → Bool
+goes_on v = is_directory (v.class 2)
+
+-- of a directory's size, Gaps and chunks
+abbrev pub is_short : Volume → ℕ → Bool
+is_short v d = nat_lt (v.inode d).size 24
+
+abbrev pub is_broken : Volume → ℕ → Bool
+is_broken v d = not (is_short v d) && not ((v.inode d).size % 512 == 0)
+
+abbrev pub are_sound : List Chunk → Bool
+are_sound chunks = list_all (λ c. c.sound) chunks
+
+unfoldable pub shape_lines : Volume → ℕ → List NameMessage
+shape_lines v d =
+    told (is_short v d) (dir_short (attributes v d) (dir_path (graph_of v) d))
+    ++ (told (is_broken v d) (dir_length (dir_path (graph_of v) d) (v.inode d).size)
+    ++ (told (v.gap d) (dir_empty (dir_path (graph_of v) d))
+    ++ told (not (are_sound (v.chunks d))) (dir_corrupt (attributes v d) (dir_path (graph_of v) d))))
+
+-- where `.` isn't there: the message by the entry that is first
+abbrev pub missing_dot_reported : Attr → List ℕ → Option Entry → List NameMessage
+missing_dot_reported about path None = missing_dot about path ∷ []
+missing_dot_reported about path (Some e) =
+    if is_live e && not (is_two_dots e.name) then missing_dot_first about path e.name ∷ [] else missing_dot about path ∷ []
+
+abbrev pub dot_reported : Volume → ℕ → Option Entry → List NameMessage
+dot_reported v d None = missing_dot_reported (attributes v d) (dir_path (graph_of v) d) (start_entry v d 0)
+dot_reported v d (Some e) =
+    told (not (e.number == d)) (number_dot (attributes v d) (dir_path (graph_of v) d))
+    ++ told (not (e.kind == 4)) (kind_dot (attributes v d) (dir_path (graph_of v) d))
+
+unfoldable pub dot_lines : Volume → ℕ → List NameMessage
+dot_lines v d = dot_reported v d (dot v d)
+
+-- where `..` isn't there: the message by the entry that is second
+abbrev pub missing_dotdot_reported : Attr → List ℕ → Option Entry → List NameMessage
+missing_dotdot_reported about path None = missing_dotdot about path ∷ []
+missing_dotdot_reported about path (Some e) =
+    if is_live e && not (is_one_dot e.name) then missing_dotdot_second about path e.name ∷ [] else missing_dotdot about path ∷ []
+
+-- a directory has a parent, and the number isn't it
+abbrev pub is_other : Option ℕ → ℕ → Bool
+is_other None n = false
+is_other (Some s) n = not (s == n)
+
+abbrev pub dotdot_reported : Volume → ℕ → Option Entry → List NameMessage
+dotdot_reported v d None = missing_dotdot_reported (attributes v d) (dir_path (graph_of v) d) (start_entry v d 1)
+dotdot_reported v d (Some e) =
+    told (is_other (parent (graph_of v) d) e.number) (number_dotdot (attributes v d) (dir_path (graph_of v) d))
+    ++ told (not (e.kind == 4)) (kind_dotdot (attributes v d) (dir_path (graph_of v) d))
+
+unfoldable pub dotdot_lines : Volume → ℕ → List NameMessage
+dotdot_lines v d = dotdot_reported v d (dotdot v d)
+
+-- of an extra entry
+abbrev pub extra_reported : Attr → List ℕ → Entry → List NameMessage
+extra_reported about path e = if is_one_dot e.name then extra_dot about path ∷ [] else extra_dotdot about path ∷ []
+
+-- of a plain entry at the place j of the directory s
+abbrev pub is_bad_whiteout : Entry → Bool
+is_bad_whiteout e = ((e.number == 1) && not (e.kind == 14)) || ((e.kind == 14) && not (e.number == 1))
+
+-- the inode that it names is marked, or a directory of size 0, and this is the first plain entry that names it
+abbrev pub reports_suspect : Volume → ℕ → ℕ → ℕ → Bool
+reports_suspect v s j x = is_suspect v x && (not (x == 2) && is_first_name (graph_of v) s j x)
+
+abbrev pub suspect_reported : Volume → ℕ → List ℕ → NameMessage
+suspect_reported v x path = if v.marked x then dup_bad (attributes v x) (label_of (v.class x)) path else zero_dir (attributes v x) path
+
+abbrev pub is_extraneous : Volume → ℕ → ℕ → ℕ → Bool
+is_extraneous v s j x = is_dir v x && not (is_from_parent (graph_of v) s j x)
+
+abbrev pub is_other_kind : Volume → Entry → Bool
+is_other_kind v e = not (is_unknown (v.class e.number)) && not (e.kind == (v.inode e.number).mode / 4096)
+
+unfoldable pub named_lines : Volume → ℕ → ℕ → Entry → List NameMessage
+named_lines v s j e =
+    told (reports_suspect v s j e.number) (suspect_reported v e.number (entry_path (graph_of v) s e.name))
+    ++ (told (is_extraneous v s j e.number) (extraneous (entry_path (graph_of v) s e.name) (dir_path (graph_of v) e.number))
+    ++ told (is_other_kind v e) (kind_entry (attributes v e.number) (label_of (v.class e.number)) (entry_path (graph_of v) s e.name)))
+
+unfoldable pub plain_lines : Volume → ℕ → ℕ → Entry → List NameMessage
+plain_lines v s j e =
+    if not (nat_lt e.number v.count) then out_of_range e.number (entry_path (graph_of v) s e.name) ∷ []
+    else (if is_bad_whiteout e then whiteout e.number (entry_path (graph_of v) s e.name) ∷ []
+    else (if e.number == 1 then []
+    else (if not (is_allocated (v.class e.number)) then unallocated (attributes v e.number) (entry_path (graph_of v) s e.name) ∷ []
+    else named_lines v s j e)))
+
+abbrev pub roled_reported : Volume → ℕ → ℕ → Role → Entry → List NameMessage
+roled_reported v s j Empty e = []
+roled_reported v s j Dot e = []
+roled_reported v s j Dotdot e = []
+roled_reported v s j Extra e = extra_reported (attributes v s) (dir_path (graph_of v) s) e
+roled_reported v s j Plain e = plain_lines v s j e
+
+unfoldable pub roled_lines : Volume → ℕ → ℕ → RoledEntry → List NameMessage
+roled_lines v s j e = roled_reported v s j e.role e.entry
+
+-- of the entries of s from the place j on
+unfoldable pub entry_lines : Volume → ℕ → ℕ → List RoledEntry → List NameMessage
+entry_lines v s j [] = []
+entry_lines v s j (e ∷ es) = roled_lines v s j e ++ entry_lines v s (suc j) es
+
+-- of a directory that isn't empty
+unfoldable pub dir_lines : Volume → ℕ → List NameMessage
+dir_lines v d = shape_lines v d ++ (dot_lines v d ++ (dotdot_lines v d ++ entry_lines v d 0 (roled_entries v d)))
+
+abbrev pub is_looked_at : Volume → ℕ → Bool
+is_looked_at v d = is_dir v d && not ((v.inode d).size == 0)
+
+abbrev pub lines_of : Volume → ℕ → List NameMessage
+lines_of v d = if is_looked_at v d then dir_lines v d else []
+
+-- the whole pathname check: the root, and then each directory
+unfoldable pub pathname_lines : Volume → List NameMessage
+pathname_lines v = root_lines v ++ (if goes_on v then lines_below (lines_of v) v.count else [])

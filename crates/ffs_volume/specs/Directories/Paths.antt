@@ -1,0 +1,52 @@
+-- Paths of directories and of their entries.
+use Rattle.std.specs.Prelude.{ℕ, zero, suc, nat_le, nat_lt, if◌then◌else◌, List, [], ◌∷◌, ◌++◌, length, Option, Some, None, option_map, option_and_then}
+use Rattle.std.specs.List.{flat_map}
+use Rattle.ffs_volume.specs.Directories.Roles.{RoledEntry}
+use Rattle.ffs_volume.specs.Directories.Graph.{Graph, level, parent, parent_entry}
+use Rattle.ffs_volume.specs.Directories.Parents.{roled_at}
+
+-- names, each after a `/`
+abbrev pub joined : List (List ℕ) → List ℕ
+joined names = flat_map (λ name. 47 ∷ name) names
+
+-- the longest end of whole names that fits
+unfoldable pub longest_end : ℕ → List (List ℕ) → List (List ℕ)
+longest_end most [] = []
+longest_end most (name ∷ names) = if nat_le (length (joined (name ∷ names))) most then name ∷ names else longest_end most names
+
+-- a path of more than 1,024 bytes is cut to `?` and its end
+unfoldable pub path_text : List (List ℕ) → List ℕ
+path_text names = if nat_lt 1024 (length (joined names)) then 63 ∷ joined (longest_end 1023 names) else joined names
+
+abbrev pub name_of : Option RoledEntry → List ℕ
+name_of None = []
+name_of (Some s) = s.entry.name
+
+abbrev pub names_above : Graph → (ℕ → List (List ℕ)) → ℕ → Option ℕ → List (List ℕ)
+names_above g above d None = []
+names_above g above d (Some s) = above s ++ name_of (option_and_then (roled_at (g.entries s)) (parent_entry g d)) ∷ []
+
+-- the names from 2 down to a directory that is k edges below
+unfoldable pub names_down : Graph → ℕ → ℕ → List (List ℕ)
+names_down g zero d = []
+names_down g (suc k) d = names_above g (names_down g k) d (parent g d)
+
+-- the names from 2 down, if the directory is reached
+abbrev pub dir_names : Graph → ℕ → Option (List (List ℕ))
+dir_names g d = option_map (λ k. names_down g k d) (level g d)
+
+abbrev pub dir_text : Option (List (List ℕ)) → List ℕ
+dir_text None = 63 ∷ []
+dir_text (Some []) = 47 ∷ []
+dir_text (Some (name ∷ names)) = path_text (name ∷ names)
+
+abbrev pub entry_text : List ℕ → Option (List (List ℕ)) → List ℕ
+entry_text name None = 63 ∷ 47 ∷ name
+entry_text name (Some names) = path_text (names ++ name ∷ [])
+
+-- the path of a directory, and of an entry of it
+unfoldable pub dir_path : Graph → ℕ → List ℕ
+dir_path g d = dir_text (dir_names g d)
+
+unfoldable pub entry_path : Graph → ℕ → List ℕ → List ℕ
+entry_path g d name = entry_text name (dir_names g d)

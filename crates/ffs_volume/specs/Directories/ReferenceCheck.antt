@@ -1,0 +1,27 @@
+-- What the check of reference counts reports.
+use Rattle.std.specs.Prelude.{ℕ, ◌==◌, not, List, [], ◌∷◌, if◌then◌else◌}
+use Rattle.ffs_volume.specs.Disk.Numbers.{is_count}
+use Rattle.ffs_volume.specs.Directories.Roles.{Volume, is_some_inode, references}
+use Rattle.ffs_volume.specs.Messages.Kinds.{NameMessage, lines_below, told, dead_marked, dead_zero, unref, unref_zero, link_count}
+use Rattle.ffs_volume.specs.Directories.PathnameCheck.{attributes, label_of}
+use Rattle.ffs_volume.specs.Directories.Connectivity.{is_dead}
+
+abbrev pub dead_reported : Volume → ℕ → List NameMessage
+dead_reported v i = if v.marked i then dead_marked (label_of (v.class i)) (attributes v i) ∷ [] else dead_zero (attributes v i) ∷ []
+
+abbrev pub unref_reported : Volume → ℕ → List NameMessage
+unref_reported v i =
+    if is_count (v.inode i).nlink 0 then unref_zero (label_of (v.class i)) (attributes v i) ∷ []
+    else unref (label_of (v.class i)) (attributes v i) ∷ []
+
+unfoldable pub inode_lines : Volume → ℕ → List NameMessage
+inode_lines v i =
+    if is_dead v i then dead_reported v i
+    else (if references v i == 0 then unref_reported v i
+    else told (not (is_count (v.inode i).nlink (references v i))) (link_count (label_of (v.class i)) (attributes v i) (v.inode i).nlink (references v i)))
+
+abbrev pub counted_lines : Volume → ℕ → List NameMessage
+counted_lines v i = if is_some_inode v i then inode_lines v i else []
+
+unfoldable pub reference_lines : Volume → List NameMessage
+reference_lines v = lines_below (counted_lines v) v.count

@@ -1,0 +1,114 @@
+-- The roles of directory entries, references, and edges.
+use Rattle.std.specs.Prelude.{ℕ, zero, suc, ◌+◌, ◌==◌, Bool, true, false, not, ◌&&◌, ◌||◌, nat_le, nat_lt, if◌then◌else◌, List, [], ◌∷◌, Option, Some, None, option_and_then, count_by, cond}
+use Rattle.std.specs.List.{flat_map, find}
+use Rattle.ffs_volume.specs.declared.Class.{Class}
+use Rattle.ffs_volume.specs.declared.Class.TheVariants.{Free, Partial, Unknown, File, Dir}
+use Rattle.ffs_volume.specs.declared.Inode.{Inode}
+use Rattle.ffs_volume.specs.declared.Role.{Role}
+use Rattle.ffs_volume.specs.declared.Role.TheVariants.{Empty, Dot, Dotdot, Extra, Plain}
+use Rattle.ffs_volume.specs.Directories.Entries.{Entry, Chunk, is_live}
+use Rattle.ffs_volume.specs.Blocks.Inodes.{is_directory, is_allocated}
+
+-- a volume as the checks of directories see it, for each inode: its class, its numbers, whether a Gap of it is kept,
+-- its chunks if it is a directory, and whether the block check reported of it
+pub record Volume : Type 0 where
+  pub count : ℕ
+  pub class : ℕ → Class
+  pub inode : ℕ → Inode
+  pub gap : ℕ → Bool
+  pub chunks : ℕ → List Chunk
+  pub marked : ℕ → Bool
+
+-- a number of an inode: those from 2 on have a class
+abbrev pub is_inode : Volume → ℕ → Bool
+is_inode v x = nat_le 2 x && nat_lt x v.count
+
+abbrev pub is_dir : Volume → ℕ → Bool
+is_dir v x = is_inode v x && is_directory (v.class x)
+
+abbrev pub is_some_inode : Volume → ℕ → Bool
+is_some_inode v x = is_inode v x && is_allocated (v.class x)
+
+abbrev pub is_suspect : Volume → ℕ → Bool
+is_suspect v x = v.marked x || (is_dir v x && ((v.inode x).size == 0))
+
+-- the names `.` and `..`
+abbrev pub is_one_dot : List ℕ → Bool
+is_one_dot [] = false
+is_one_dot (a ∷ []) = a == 46
+is_one_dot (a ∷ b ∷ rest) = false
+
+abbrev pub is_two_dots : List ℕ → Bool
+is_two_dots [] = false
+is_two_dots (a ∷ []) = false
+is_two_dots (a ∷ b ∷ []) = (a == 46) && (b == 46)
+is_two_dots (a ∷ b ∷ c ∷ rest) = false
+
+-- the role of an entry at an index of its chunk; `first` says that the chunk is at the start of the file
+unfoldable pub role_of : Bool → ℕ → Entry → Role
+role_of first index e =
+    if not (is_live e) then Empty
+    else (if is_one_dot e.name then (if first && (index == 0) then Dot else Extra)
+    else (if is_two_dots e.name then (if first && (index == 1) then Dotdot else Extra)
+    else Plain))
+
+abbrev pub is_plain : Role → Bool
+is_plain Plain = true
+is_plain Dot = false
+is_plain Dotdot = false
+is_plain Extra = false
+is_plain Empty = false
+
+-- an entry that counts as a reference: neither extra nor empty
+abbrev pub is_counted : Role → Bool
+is_counted Plain = true
+is_counted Dot = true
+is_counted Dotdot = true
+is_counted Extra = false
+is_counted Empty = false
+
+-- an entry with its role
+pub record RoledEntry : Type 0 where
+  pub role : Role
+  pub entry : Entry
+
+unfoldable pub roled_from : Bool → ℕ → List Entry → List RoledEntry
+roled_from first index [] = []
+roled_from first index (e ∷ es) = record { role = role_of first index e; entry = e } ∷ roled_from first (suc index) es
+
+abbrev pub roled_chunk : Chunk → List RoledEntry
+roled_chunk c = roled_from (c.offset == 0) 0 c.entries
+
+-- all entries of a directory in order, those that aren't live included
+unfoldable pub roled_entries : Volume → ℕ → List RoledEntry
+roled_entries v d = flat_map roled_chunk (v.chunks d)
+
+-- e0 and e1: the first two entries of the chunk at the start of the file, where it is there
+abbrev pub entry_number : ℕ → List Entry → Option Entry
+entry_number i [] = None
+entry_number zero (e ∷ es) = Some e
+entry_number (suc i) (e ∷ es) = entry_number i es
+
+unfoldable pub start_entry : Volume → ℕ → ℕ → Option Entry
+start_entry v d i = option_and_then (λ c. entry_number i c.entries) (find (λ c. c.offset == 0) (v.chunks d))
+
+abbrev pub entry_if : (Entry → Bool) → Option Entry → Option Entry
+entry_if p None = None
+entry_if p (Some e) = cond (p e) (Some e) None
+
+unfoldable pub dot : Volume → ℕ → Option Entry
+dot v d = entry_if (λ e. is_live e && is_one_dot e.name) (start_entry v d 0)
+
+unfoldable pub dotdot : Volume → ℕ → Option Entry
+dotdot v d = entry_if (λ e. is_live e && is_two_dots e.name) (start_entry v d 1)
+
+-- how many entries that count name x
+abbrev pub refers : ℕ → RoledEntry → Bool
+refers x s = is_counted s.role && (s.entry.number == x)
+
+unfoldable pub references_below : Volume → ℕ → ℕ → ℕ
+references_below v x zero = 0
+references_below v x (suc s) = references_below v x s + (if is_dir v s then count_by (refers x) (roled_entries v s) else 0)
+
+abbrev pub references : Volume → ℕ → ℕ
+references v x = references_below v x v.count

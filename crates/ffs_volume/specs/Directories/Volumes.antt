@@ -1,0 +1,52 @@
+-- The volume of an image, as the checks of directories see it.
+use Rattle.std.specs.Prelude.{ℕ, ◌*◌, Bool, false, ◌&&◌, nat_le, nat_lt, if◌then◌else◌, List, []}
+use Rattle.ffs_volume.specs.declared.Layout.{Layout}
+use Rattle.ffs_volume.specs.declared.Class.{Class}
+use Rattle.ffs_volume.specs.declared.Class.TheVariants.{Free}
+use Rattle.ffs_volume.specs.declared.Step.{Step}
+use Rattle.ffs_volume.specs.Disk.Areas.{is_in_range}
+use Rattle.ffs_volume.specs.Blocks.Inodes.{inode_of, class_of}
+use Rattle.ffs_volume.specs.Blocks.Steps.{steps_of}
+use Rattle.ffs_volume.specs.Blocks.BlockCheck.{is_marked}
+use Rattle.ffs_volume.specs.Blocks.KeptSteps.{kept_steps_of}
+use Rattle.ffs_volume.specs.Directories.Entries.{Reading, chunks_of, has_gap, size_taken}
+use Rattle.ffs_volume.specs.Directories.Roles.{Volume}
+
+-- the numbers of inodes: those from 2 on
+abbrev pub is_inode_number : Layout → ℕ → Bool
+is_inode_number v x = nat_le 2 x && nat_lt x (v.ncg * v.ipg)
+
+abbrev pub class_at : Layout → List ℕ → ℕ → Class
+class_at v image x = if is_inode_number v x then class_of v (inode_of v image x) else Free
+
+abbrev pub marked_at : Layout → List ℕ → ℕ → Bool
+marked_at v image x = if is_inode_number v x then is_marked v image x else false
+
+-- the steps of an inode, and those of them that are kept
+abbrev pub steps_at_number : Layout → List ℕ → ℕ → List Step
+steps_at_number v image x = if is_inode_number v x then steps_of v (inode_of v image x) image else []
+
+abbrev pub kept_at_number : Layout → List ℕ → ℕ → List Step
+kept_at_number v image x = if is_inode_number v x then kept_steps_of v image x else []
+
+unfoldable pub reading_of : Layout → List ℕ → ℕ → Reading
+reading_of v image d = record { order = v.order; image = image; bsize = v.bsize; fsize = v.fsize; taken = size_taken (inode_of v image d).size }
+
+-- the volume by the steps that are looked at and the inodes that are marked
+unfoldable pub volume_with : Layout → List ℕ → (ℕ → List Step) → (ℕ → Bool) → Volume
+volume_with v image steps marked = record {
+  count = v.ncg * v.ipg;
+  class = class_at v image;
+  inode = inode_of v image;
+  gap = λ d. has_gap (steps d);
+  chunks = λ d. chunks_of (reading_of v image d) (is_in_range v) (steps d);
+  marked = marked;
+}
+
+-- the volume that the checks see: of the kept steps
+unfoldable pub volume_of : Layout → List ℕ → Volume
+volume_of v image = volume_with v image (kept_at_number v image) (marked_at v image)
+
+-- the volume without keeping: of all steps, with nothing marked
+unfoldable pub whole_volume : Layout → List ℕ → Volume
+whole_volume v image = volume_with v image (steps_at_number v image) (λ x. false)

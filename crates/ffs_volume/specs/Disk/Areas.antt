@@ -1,0 +1,50 @@
+-- Where the parts of a volume lie, in fragments and in bytes.
+use Rattle.std.specs.Prelude.{ℕ, ◌+◌, ◌-◌, ◌*◌, ◌/◌, ◌%◌, Bool, ◌&&◌, ◌||◌, not, nat_lt, nat_le, ◌==◌, ℤ, pos, ◌*ℤ◌, bit_and}
+use Rattle.std.specs.Int.{div_ceil}
+use Rattle.ffs_volume.specs.Disk.Numbers.{natural, all_below, any_below}
+use Rattle.ffs_volume.specs.declared.Layout.{Layout}
+
+-- how far the parts of group c are moved from its base: cgoffset * (c & ~cgmask)
+unfoldable pub cgoffset_of : Layout → ℕ → ℤ
+cgoffset_of v c = v.cgoffset *ℤ pos (bit_and c (4294967295 - v.cgmask))
+
+-- the first fragment of group c, of its parts, of its copy of the superblock, and of its data
+unfoldable pub cgbase : Layout → ℕ → ℕ
+cgbase v c = v.fpg * c
+
+unfoldable pub cgstart : Layout → ℕ → ℕ
+cgstart v c = cgbase v c + natural (cgoffset_of v c)
+
+abbrev pub cgsblock : Layout → ℕ → ℕ
+cgsblock v c = cgstart v c + v.sblkno
+
+abbrev pub cgdmin : Layout → ℕ → ℕ
+cgdmin v c = cgstart v c + v.dblkno
+
+-- where the group block of c and its summary record are, in bytes
+abbrev pub group_place : Layout → ℕ → ℕ
+group_place v c = (cgstart v c + v.cblkno) * v.fsize
+
+abbrev pub summary_place : Layout → ℕ → ℕ
+summary_place v c = v.csaddr * v.fsize + 16 * c
+
+-- where the inode x is, in bytes
+abbrev pub inode_place : Layout → ℕ → ℕ
+inode_place v x = (cgstart v (x / v.ipg) + v.iblkno) * v.fsize + 128 * (x % v.ipg)
+
+-- f lies in the part of some group that is kept for its copy of the superblock, its group block and its inodes
+unfoldable pub is_group_metadata : Layout → ℕ → Bool
+is_group_metadata v f = any_below v.ncg (λ c. nat_le (cgsblock v c) f && nat_lt f (cgdmin v c))
+
+unfoldable pub is_data_fragment : Layout → ℕ → Bool
+is_data_fragment v f = nat_lt f v.size && not (is_group_metadata v f)
+
+-- all fragments of the run are ok and of one group
+unfoldable pub is_in_range : Layout → ℕ → ℕ → Bool
+is_in_range v start len = all_below len (λ k. is_data_fragment v (start + k) && ((start + k) / v.fpg == start / v.fpg))
+
+unfoldable pub is_reserved : Layout → ℕ → Bool
+is_reserved v f =
+    nat_lt f (cgdmin v 0)
+    || (nat_le v.csaddr f && nat_lt f (v.csaddr + div_ceil v.cssize v.fsize))
+    || is_group_metadata v f

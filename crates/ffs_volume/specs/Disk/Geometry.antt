@@ -1,0 +1,69 @@
+-- What holds of an accepted layout, as facts.
+use Rattle.std.proofs.Common.{◌≡◌, ℕ, ◌+◌, ◌-◌, ◌*◌, ◌/◌, ◌%◌, ◌^◌, ◌<◌, ◌≤◌, true, pos}
+use Rattle.std.specs.Int.{div_ceil}
+use Rattle.ffs_volume.specs.declared.Layout.{Layout}
+use Rattle.ffs_volume.specs.Disk.Numbers.{natural}
+use Rattle.ffs_volume.specs.Disk.Areas.{cgoffset_of, cgbase, cgdmin}
+use Rattle.ffs_volume.specs.Disk.Outcome.{is_shaped}
+
+-- the facts of the sizes
+pub record HasSizes (v : Layout) : Type 0 where
+  pub bsize_low : 4096 ≤ v.bsize
+  pub bsize_high : v.bsize ≤ 65536
+  pub fsize_low : 512 ≤ v.fsize
+  pub fsize_high : v.fsize ≤ 65536
+  pub frag_low : 1 ≤ v.frag
+  pub frag_high : v.frag ≤ 8
+  pub block : v.bsize ≡ v.frag * v.fsize
+  pub nindir : v.nindir ≡ v.bsize / 4
+  pub inopb : v.inopb ≡ v.bsize / 128
+  pub some_inodes : 0 < v.ipg
+  pub inode_blocks : v.ipg % v.inopb ≡ 0
+  pub some_fragments : 0 < v.fpg
+  pub whole_blocks : v.fpg % v.frag ≡ 0
+
+-- the facts of the numbers that have a rule of their own
+pub record HasNumbers (v : Layout) : Type 0 where
+  pub some_data : 1 ≤ v.dsize
+  pub short_links : v.maxsymlinklen ≤ 60
+  pub sbsize_low : 1376 ≤ v.sbsize
+  pub size_above : (v.ncg - 1) * v.fpg < v.size
+  pub size_within : v.size ≤ v.ncg * v.fpg
+  pub size_below : v.size < 2 ^ 31
+  pub inodes_below : v.ncg * v.ipg < 2 ^ 31
+
+-- the parts of a group, one after the other
+pub record HasParts (v : Layout) : Type 0 where
+  pub super_above : 0 < v.sblkno
+  pub super_fits : v.sblkno + div_ceil v.sbsize v.fsize ≤ v.cblkno
+  pub block_fits : v.cblkno + div_ceil v.cgsize v.fsize ≤ v.iblkno
+  pub inodes_fit : v.iblkno + v.ipg * 128 / v.fsize ≤ v.dblkno
+  pub cgsize_low : 168 ≤ v.cgsize
+  pub cgsize_high : v.cgsize ≤ v.bsize
+
+-- a group begins at its base or above, and its data before its end
+pub record HasGroup (v : Layout) (c : ℕ) : Type 0 where
+  pub moved_up : cgoffset_of v c ≡ pos (natural (cgoffset_of v c))
+  pub within_group : cgdmin v c ≤ cgbase v (c + 1)
+  pub within_size : cgdmin v c ≤ v.size
+
+-- the summary area begins where the data of group 0 does
+pub record HasSummary (v : Layout) : Type 0 where
+  pub csaddr : v.csaddr ≡ cgdmin v 0
+  pub room : 16 * v.ncg ≤ v.cssize
+  pub summary_in_group : v.csaddr + div_ceil v.cssize v.fsize ≤ cgbase v 1
+  pub summary_in_size : v.csaddr + div_ceil v.cssize v.fsize ≤ v.size
+
+-- an accepted layout
+pub record IsGeometry (v : Layout) : Type 0 where
+  pub shaped : is_shaped v ≡ true
+  pub some_groups : 0 < v.ncg
+  pub some_cylinders : 0 < v.cpg
+  pub ncyl_within : v.ncyl ≤ v.ncg * v.cpg
+  pub ncyl_above : (v.ncg - 1) * v.cpg < v.ncyl
+  pub sbsize_high : v.sbsize ≤ 8192
+  pub sizes : HasSizes v
+  pub numbers : HasNumbers v
+  pub parts : HasParts v
+  pub groups : (c : ℕ) → c < v.ncg → HasGroup v c
+  pub summary : HasSummary v

@@ -1,0 +1,125 @@
+-- Which superblocks are accepted, and the first fault of one that isn't.
+use Rattle.std.specs.Prelude.{ℕ, ◌+◌, ◌-◌, ◌*◌, ◌/◌, ◌%◌, ◌^◌, min, Bool, true, false, ◌&&◌, not, nat_lt, nat_le, ◌==◌, if◌then◌else◌, List, [], ◌∷◌, length, Option, Some, None, Result, Ok, Err}
+use Rattle.std.specs.List.{list_all, list_any}
+use Rattle.std.specs.Int.{div_ceil}
+use Rattle.ffs_volume.specs.declared.Order.{Order}
+use Rattle.ffs_volume.specs.declared.SuperFault.{SuperFault}
+use Rattle.ffs_volume.specs.declared.SuperFault.TheVariants.{CannotRead, Magic, InodeFormat, Ncg, Cpg, Ncyl, TooLarge, Shape, Short, Disagree}
+use Rattle.ffs_volume.specs.declared.Layout.{Layout}
+use Rattle.ffs_volume.specs.Disk.Numbers.{u32_at, piece, is_natural, all_below}
+use Rattle.ffs_volume.specs.Disk.Superblock.{Superblock, layout_of, superblock_of, order_of}
+use Rattle.ffs_volume.specs.declared.TheConstants.{LAYOUT_PLACES}
+use Rattle.ffs_volume.specs.Disk.Areas.{cgoffset_of, cgbase, cgsblock, cgdmin}
+
+abbrev pub is_among : List ℕ → ℕ → Bool
+is_among xs x = list_any (λ y. x == y) xs
+
+-- the powers of two that a block, a fragment and the fragments of a block may have
+unfoldable pub is_block_size : ℕ → Bool
+is_block_size n = is_among (4096 ∷ 8192 ∷ 16384 ∷ 32768 ∷ 65536 ∷ []) n
+
+unfoldable pub is_fragment_size : ℕ → Bool
+is_fragment_size n = is_among (512 ∷ 1024 ∷ 2048 ∷ 4096 ∷ 8192 ∷ 16384 ∷ 32768 ∷ 65536 ∷ []) n
+
+unfoldable pub is_fragment_count : ℕ → Bool
+is_fragment_count n = is_among (1 ∷ 2 ∷ 4 ∷ 8 ∷ []) n
+
+-- the sizes of blocks, fragments and groups
+unfoldable pub are_sizes : Layout → Bool
+are_sizes v =
+    is_block_size v.bsize && is_fragment_size v.fsize && is_fragment_count v.frag
+    && (v.bsize == v.frag * v.fsize)
+    && (v.nindir == v.bsize / 4)
+    && (v.inopb == v.bsize / 128)
+    && (nat_lt 0 v.ipg && (v.ipg % v.inopb == 0))
+    && (nat_lt 0 v.fpg && (v.fpg % v.frag == 0))
+
+-- the rest of the numbers that have a rule of their own
+unfoldable pub are_numbers : Layout → Bool
+are_numbers v =
+    nat_le 1 v.dsize
+    && nat_le v.maxsymlinklen 60
+    && (v.postblformat == 1)
+    && nat_le 1376 v.sbsize
+    && (nat_lt ((v.ncg - 1) * v.fpg) v.size && nat_le v.size (v.ncg * v.fpg))
+    && (nat_lt v.size (2 ^ 31) && nat_lt (v.ncg * v.ipg) (2 ^ 31))
+
+-- the parts of a group, one after the other
+unfoldable pub are_parts : Layout → Bool
+are_parts v =
+    nat_lt 0 v.sblkno
+    && nat_le (v.sblkno + div_ceil v.sbsize v.fsize) v.cblkno
+    && nat_le (v.cblkno + div_ceil v.cgsize v.fsize) v.iblkno
+    && nat_le (v.iblkno + v.ipg * 128 / v.fsize) v.dblkno
+    && (nat_le 168 v.cgsize && nat_le v.cgsize v.bsize)
+
+-- group c begins at its base or above, and its data before its end
+unfoldable pub is_group : Layout → ℕ → Bool
+is_group v c = is_natural (cgoffset_of v c) && nat_le (cgdmin v c) (min (cgbase v (c + 1)) v.size)
+
+-- the summary area
+unfoldable pub is_summary : Layout → Bool
+is_summary v =
+    (v.csaddr == cgdmin v 0)
+    && nat_le (16 * v.ncg) v.cssize
+    && nat_le (v.csaddr + div_ceil v.cssize v.fsize) (min (cgbase v 1) v.size)
+
+unfoldable pub is_shaped : Layout → Bool
+is_shaped v = are_sizes v && are_numbers v && are_parts v && all_below v.ncg (is_group v) && is_summary v
+
+-- the cylinders fill the groups
+unfoldable pub are_cylinders : Layout → Bool
+are_cylinders v = nat_le v.ncyl (v.ncg * v.cpg) && nat_lt ((v.ncg - 1) * v.cpg) v.ncyl
+
+-- the first of the faults that the layout shows, in an image of this size in bytes
+unfoldable pub layout_fault : Layout → ℕ → Option SuperFault
+layout_fault v image_size =
+    if not (v.inodefmt == 2) then Some InodeFormat
+    else (if nat_lt v.ncg 1 then Some Ncg
+    else (if nat_lt v.cpg 1 then Some Cpg
+    else (if not (are_cylinders v) then Some Ncyl
+    else (if nat_lt 8192 v.sbsize then Some TooLarge
+    else (if not (is_shaped v) then Some Shape
+    else (if nat_lt image_size (v.size * v.fsize) then Some Short
+    else None))))))
+
+-- the two superblocks of 1,376 bytes agree in each number of the layout
+unfoldable pub agree : Order → List ℕ → List ℕ → Bool
+agree order bytes copy = list_all (λ place. u32_at order place bytes == u32_at order place copy) LAYOUT_PLACES
+
+-- the sector of the superblock, and of the last copy
+abbrev pub super_sector : Option ℕ → ℕ
+super_sector None = 16
+super_sector (Some sector) = sector
+
+abbrev pub copy_place : Layout → ℕ
+copy_place v = cgsblock v (v.ncg - 1) * v.fsize
+
+-- the bytes of the superblock in effect
+abbrev pub super_bytes : List ℕ → Option ℕ → List ℕ
+super_bytes image sector = piece (super_sector sector * 512) 1376 image
+
+-- with no sector asked for, the last copy is compared
+unfoldable pub copy_agrees : List ℕ → Option ℕ → Order → List ℕ → Bool
+copy_agrees image None order bytes = agree order bytes (piece (copy_place (layout_of order bytes)) 1376 image)
+copy_agrees image (Some sector) order bytes = true
+
+-- what is answered for a fault of the layout, or none, and for a copy that agrees, or doesn't
+unfoldable pub judged : Option SuperFault → Bool → Superblock → Result Superblock SuperFault
+judged (Some fault) agrees super = Err fault
+judged None true super = Ok super
+judged None false super = Err Disagree
+
+-- the superblock, or the first fault
+unfoldable pub outcome_in : List ℕ → Option ℕ → Order → List ℕ → Result Superblock SuperFault
+outcome_in image sector order bytes =
+    judged (layout_fault (layout_of order bytes) (length image)) (copy_agrees image sector order bytes) (superblock_of order bytes)
+
+unfoldable pub outcome_of : List ℕ → Option ℕ → List ℕ → Option Order → Result Superblock SuperFault
+outcome_of image sector bytes None = Err Magic
+outcome_of image sector bytes (Some order) = outcome_in image sector order bytes
+
+unfoldable pub outcome : List ℕ → Option ℕ → Result Superblock SuperFault
+outcome image sector =
+    if nat_lt (length image) (super_sector sector * 512 + 1376) then Err (CannotRead (super_sector sector))
+    else outcome_of image sector (super_bytes image sector) (order_of (super_bytes image sector))

@@ -1,0 +1,61 @@
+-- The superblock: 1,376 bytes, after fs(5).
+use Rattle.std.specs.Prelude.{ℕ, ◌==◌, if◌then◌else◌, List, [], ◌∷◌, ℤ, Option, Some, None}
+use Rattle.ffs_volume.specs.declared.TheConstants.{FS_MAGIC}
+use Rattle.ffs_volume.specs.declared.Order.{Order}
+use Rattle.ffs_volume.specs.declared.Order.TheVariants.{Little, Big}
+use Rattle.ffs_volume.specs.declared.Layout.{Layout}
+use Rattle.ffs_volume.specs.Disk.Numbers.{u32_at, i32_at, count_at, piece}
+
+-- the whole superblock
+pub record Superblock : Type 0 where
+  pub layout : Layout
+  pub optim : ℤ
+  pub minfree : ℤ
+  pub cstotal : List ℤ
+  pub mount : List ℕ
+
+-- All numbers of a layout but cgoffset are counts: a negative number is
+-- read as the count 0, which each rule of `Outcome` refuses where it refuses a negative number. Where
+-- 0 is good, at maxsymlinklen, a negative number is read as 2^31 or more.
+unfoldable pub layout_of : Order → List ℕ → Layout
+layout_of order bytes = record {
+  order = order;
+  sblkno = count_at order 8 bytes;
+  cblkno = count_at order 12 bytes;
+  iblkno = count_at order 16 bytes;
+  dblkno = count_at order 20 bytes;
+  cgoffset = i32_at order 24 bytes;
+  cgmask = u32_at order 28 bytes;
+  size = count_at order 36 bytes;
+  dsize = count_at order 40 bytes;
+  ncg = count_at order 44 bytes;
+  bsize = count_at order 48 bytes;
+  fsize = count_at order 52 bytes;
+  frag = count_at order 56 bytes;
+  sbsize = count_at order 104 bytes;
+  nindir = count_at order 116 bytes;
+  inopb = count_at order 120 bytes;
+  csaddr = count_at order 152 bytes;
+  cssize = count_at order 156 bytes;
+  cgsize = count_at order 160 bytes;
+  ncyl = count_at order 176 bytes;
+  cpg = count_at order 180 bytes;
+  ipg = count_at order 184 bytes;
+  fpg = count_at order 188 bytes;
+  maxsymlinklen = u32_at order 1320 bytes;
+  inodefmt = count_at order 1324 bytes;
+  postblformat = count_at order 1356 bytes;
+}
+
+unfoldable pub superblock_of : Order → List ℕ → Superblock
+superblock_of order bytes = record {
+  layout = layout_of order bytes;
+  optim = i32_at order 128 bytes;
+  minfree = i32_at order 60 bytes;
+  cstotal = i32_at order 192 bytes ∷ i32_at order 196 bytes ∷ i32_at order 200 bytes ∷ i32_at order 204 bytes ∷ [];
+  mount = piece 212 512 bytes;
+}
+
+-- the magic number 0x011954 at its place shows the order of bytes
+unfoldable pub order_of : List ℕ → Option Order
+order_of bytes = if u32_at Little 1372 bytes == FS_MAGIC then Some Little else (if u32_at Big 1372 bytes == FS_MAGIC then Some Big else None)

@@ -1,0 +1,48 @@
+-- A number for the class of an inode, with the type of a file: it fits four bits.
+use Rattle.std.specs.Prelude.{ℕ, Bool, not, ◌||◌, ◌==◌, if◌then◌else◌, List}
+use Rattle.ffs_volume.specs.declared.Layout.{Layout}
+use Rattle.ffs_volume.specs.declared.Inode.{Inode}
+use Rattle.ffs_volume.specs.declared.Class.{Class}
+use Rattle.ffs_volume.specs.declared.Class.TheVariants.{Free, Partial, Unknown, File, Dir}
+use Rattle.ffs_volume.specs.Blocks.Inodes.{inode_of, type_of}
+use Rattle.ffs_volume.specs.Directories.Volumes.{class_at}
+
+-- 0 where nothing is allocated, 15 for an unknown type, 5 for a directory of size 0 and 4 for another; else the file's type
+abbrev pub kind_of : Class → Inode → ℕ
+kind_of Free i = 0
+kind_of Partial i = 0
+kind_of Unknown i = 15
+kind_of Dir i = if i.size == 0 then 5 else 4
+kind_of File i = type_of i.mode
+
+-- the kind of the inode x of an image, and 0 where x is no inode's number
+unfoldable pub kind_at : Layout → List ℕ → ℕ → ℕ
+kind_at v image x = kind_of (class_at v image x) (inode_of v image x)
+
+-- a directory
+abbrev pub is_dir_kind : ℕ → Bool
+is_dir_kind k = k == 4 || k == 5
+
+-- a directory of size 0
+abbrev pub is_empty_dir_kind : ℕ → Bool
+is_empty_dir_kind k = k == 5
+
+-- an inode that is allocated
+abbrev pub is_allocated_kind : ℕ → Bool
+is_allocated_kind k = not (k == 0)
+
+-- an inode of an unknown type
+abbrev pub is_unknown_kind : ℕ → Bool
+is_unknown_kind k = k == 15
+
+-- the class, where nothing allocated is Free
+abbrev pub class_of_kind : ℕ → Class
+class_of_kind k =
+    if k == 0 then Free
+    else (if k == 15 then Unknown
+    else (if is_dir_kind k then Dir
+    else File))
+
+-- the type bits of the mode of a file or directory
+abbrev pub type_of_kind : ℕ → ℕ
+type_of_kind k = if is_dir_kind k then 4 else k

@@ -1,0 +1,67 @@
+-- The lines of phase 5.
+use Rattle.std.specs.Prelude.{ℕ, Bool, true, false, ◌&&◌, ◌||◌, ◌==◌, not, List, [], ◌∷◌, ◌++◌, nat_lt, if◌then◌else◌, ℤ}
+use Rattle.std.specs.List.{flat_map, list_any}
+use Rattle.ffs_volume.specs.declared.Layout.{Layout}
+use Rattle.ffs_volume.specs.declared.Class.{Class}
+use Rattle.ffs_volume.specs.declared.BlockMessage.{BlockMessage}
+use Rattle.ffs_volume.specs.declared.BlockMessage.TheVariants.{GroupMagic, FreeCounts, MapsWrong, GroupSums}
+use Rattle.ffs_volume.specs.Disk.Areas.{is_reserved}
+use Rattle.ffs_volume.specs.Blocks.Owners.{Owner, fragments_of, all_steps}
+use Rattle.ffs_volume.specs.Blocks.Claims.{is_set, no_claims, after_owners}
+use Rattle.ffs_volume.specs.Groups.Records.{group_block, summary_record, group_numbers, is_magic, are_places, are_maps, are_sums, is_record, is_total}
+
+-- a message where a test fails
+abbrev pub unless : Bool → BlockMessage → List BlockMessage
+unless true m = []
+unless false m = m ∷ []
+
+abbrev pub whole_group_lines : Layout → List ℕ → (ℕ → Bool) → (ℕ → Class) → ℕ → List BlockMessage
+whole_group_lines v image free class c =
+    unless (is_record v free class c (summary_record v image c)) FreeCounts
+    ++ (unless (are_places v (group_block v image c) && are_maps v free class c (group_block v image c)) MapsWrong
+    ++ unless (are_sums v free class c (group_block v image c)) GroupSums)
+
+-- what a group's records say, all of it
+abbrev pub group_lines : Layout → List ℕ → (ℕ → Bool) → (ℕ → Class) → ℕ → List BlockMessage
+group_lines v image free class c =
+    if is_magic v (group_block v image c) then whole_group_lines v image free class c
+    else GroupMagic c ∷ unless (is_record v free class c (summary_record v image c)) FreeCounts
+
+abbrev pub all_group_lines : Layout → List ℕ → List ℤ → (ℕ → Bool) → (ℕ → Class) → List BlockMessage
+all_group_lines v image totals free class =
+    flat_map (group_lines v image free class) (group_numbers v) ++ unless (is_total v free class totals) FreeCounts
+
+-- which of the messages that come once were reported
+pub record ReportedOnce : Type 0 where
+  pub counts : Bool
+  pub maps : Bool
+  pub sums : Bool
+
+abbrev pub is_reported : ReportedOnce → BlockMessage → Bool
+is_reported t FreeCounts = t.counts
+is_reported t MapsWrong = t.maps
+is_reported t GroupSums = t.sums
+is_reported t _ = false
+
+abbrev pub note_reported : ReportedOnce → BlockMessage → ReportedOnce
+note_reported t FreeCounts = record t { counts = true }
+note_reported t MapsWrong = record t { maps = true }
+note_reported t GroupSums = record t { sums = true }
+note_reported t _ = t
+
+abbrev pub reported_once : ReportedOnce → List BlockMessage → List BlockMessage
+reported_once t [] = []
+reported_once t (m ∷ ms) = if is_reported t m then reported_once t ms else m ∷ reported_once (note_reported t m) ms
+
+abbrev pub unreported : ReportedOnce
+unreported = record { counts = false; maps = false; sums = false }
+
+unfoldable pub phase5_lines : Layout → List ℕ → List ℤ → (ℕ → Bool) → (ℕ → Class) → List BlockMessage
+phase5_lines v image totals free class = reported_once unreported (all_group_lines v image totals free class)
+
+-- the fragments that are neither reserved nor of a kept offer, and those that are neither reserved nor of a Run
+abbrev pub is_free_of_kept : Layout → List Owner → ℕ → Bool
+is_free_of_kept v os f = nat_lt f v.size && not (is_set (after_owners v (no_claims v) os).used f)
+
+abbrev pub is_free_of_runs : Layout → List Owner → ℕ → Bool
+is_free_of_runs v os f = nat_lt f v.size && not (is_reserved v f || list_any (λ g. g == f) (fragments_of (all_steps os)))

@@ -1,0 +1,41 @@
+-- Laws that say of definitions what they are meant to say.
+use Rattle.std.specs.Prelude.{◌≡◌, ◌≤◌, ◌<◌, ℕ, ◌+◌, ◌*◌, ◌%◌, not, Bool, List, length, count_by, Some}
+use Rattle.std.specs.List.{range_with_len}
+use Rattle.ffs_volume.specs.declared.Layout.{Layout}
+use Rattle.ffs_volume.specs.declared.Class.{Class}
+use Rattle.ffs_volume.specs.declared.Step.{Step}
+use Rattle.ffs_volume.specs.Disk.Areas.{cgbase}
+use Rattle.ffs_volume.specs.Blocks.Owners.{fragments_of}
+use Rattle.ffs_volume.specs.Blocks.Claims.{Claims, is_open, after_steps}
+use Rattle.ffs_volume.specs.Blocks.BlockCheck.{steps_kept}
+use Rattle.ffs_volume.specs.Blocks.FirstOffers.{Firsts}
+use Rattle.ffs_volume.specs.Groups.Records.{right_summary}
+use Rattle.ffs_volume.specs.Directories.Graph.{Graph, level}
+use Rattle.ffs_volume.specs.Directories.Levels.{IsLevel}
+use Rattle.ffs_volume.specs.Directories.Paths.{dir_path, entry_path}
+
+-- the kept offers of an inode are the first of its offers, and all of them where it isn't cut
+abbrev pub KeptAreFirst : Type 0
+KeptAreFirst = (v : Layout) (inode : ℕ) (s : Claims) (steps : List Step) →
+    Firsts inode (steps_kept v inode s steps) (fragments_of steps) (not (is_open (after_steps v s steps)))
+
+-- a level is the least number of edges from inode 2, and is below the number of inodes
+pub record LevelMeaning (g : Graph) (k d : ℕ) : Type 0 where
+  pub tells : level g d ≡ Some k → IsLevel g k d × (k < g.count)
+  pub told : d < g.count → IsLevel g k d → level g d ≡ Some k
+
+abbrev pub LevelsAreLeast : Type 0
+LevelsAreLeast = (g : Graph) (k d : ℕ) → LevelMeaning g k d
+
+-- a path has at most 1,024 bytes
+pub record PathsFit (g : Graph) (d : ℕ) : Type 0 where
+  pub of_dir : length (dir_path g d) ≤ 1024
+  pub of_entry : (name : List ℕ) → length name ≤ 255 → length (entry_path g d name) ≤ 1024
+
+abbrev pub AllPathsFit : Type 0
+AllPathsFit = (g : Graph) (d : ℕ) → PathsFit g d
+
+-- the free blocks and loose fragments of a group are all its free fragments
+abbrev pub SumsAreWhole : Type 0
+SumsAreWhole = (v : Layout) (free : ℕ → Bool) (class : ℕ → Class) (c : ℕ) → 0 < v.frag → v.fpg % v.frag ≡ 0 →
+    v.frag * (right_summary v free class c).blocks + (right_summary v free class c).fragments ≡ count_by free (range_with_len (cgbase v c) v.fpg)

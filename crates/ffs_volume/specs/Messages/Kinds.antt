@@ -1,0 +1,98 @@
+-- The messages of a report, and which of them report a defect.
+use Rattle.std.specs.Prelude.{ℕ, zero, suc, Bool, true, false, List, [], ◌∷◌, ◌++◌, ℤ}
+use Rattle.std.specs.List.{list_any}
+use Rattle.ffs_volume.specs.declared.Attr.{Attr}
+use Rattle.ffs_volume.specs.declared.BlockMessage.{BlockMessage}
+use Rattle.ffs_volume.specs.declared.Label.{Label}
+use Rattle.ffs_volume.specs.declared.SuperFault.{SuperFault}
+
+-- a message on directories, their entries or references. Paths and names are kept as they are; the text of a message shows them
+pub data NameMessage : Type 0 where
+  root_none : NameMessage
+  root_not_dir : NameMessage
+  root_suspect : NameMessage
+  dir_short : (about : Attr) (path : List ℕ) → NameMessage
+  dir_length : (path : List ℕ) (size : ℕ) → NameMessage
+  dir_empty : (path : List ℕ) → NameMessage
+  dir_corrupt : (about : Attr) (path : List ℕ) → NameMessage
+  missing_dot : (about : Attr) (path : List ℕ) → NameMessage
+  missing_dot_first : (about : Attr) (path name : List ℕ) → NameMessage
+  number_dot : (about : Attr) (path : List ℕ) → NameMessage
+  kind_dot : (about : Attr) (path : List ℕ) → NameMessage
+  missing_dotdot : (about : Attr) (path : List ℕ) → NameMessage
+  missing_dotdot_second : (about : Attr) (path name : List ℕ) → NameMessage
+  number_dotdot : (about : Attr) (path : List ℕ) → NameMessage
+  kind_dotdot : (about : Attr) (path : List ℕ) → NameMessage
+  extra_dot : (about : Attr) (path : List ℕ) → NameMessage
+  extra_dotdot : (about : Attr) (path : List ℕ) → NameMessage
+  out_of_range : (number : ℕ) (path : List ℕ) → NameMessage
+  whiteout : (number : ℕ) (path : List ℕ) → NameMessage
+  unallocated : (about : Attr) (path : List ℕ) → NameMessage
+  dup_bad : (about : Attr) (label : Label) (path : List ℕ) → NameMessage
+  zero_dir : (about : Attr) (path : List ℕ) → NameMessage
+  extraneous : (path directory : List ℕ) → NameMessage
+  kind_entry : (about : Attr) (label : Label) (path : List ℕ) → NameMessage
+  unref_dir : (about : Attr) → NameMessage
+  dead_marked : (label : Label) (about : Attr) → NameMessage
+  dead_zero : (about : Attr) → NameMessage
+  unref : (label : Label) (about : Attr) → NameMessage
+  unref_zero : (label : Label) (about : Attr) → NameMessage
+  link_count : (label : Label) (about : Attr) (nlink : ℤ) (references : ℕ) → NameMessage
+
+-- a message of a report: of the opening, a heading, a message of a phase, the summary, or the end of a run that isn't completed
+pub data Message : Type 0 where
+  location : (sector : ℕ) → Message
+  opening : (name : List ℕ) → Message
+  bad_super : (fault : SuperFault) → Message
+  cannot_read : (sector : ℕ) → Message
+  cannot_alloc : Message
+  optimization : Message
+  minfree : (value : ℤ) → Message
+  mounted : (mount : List ℕ) → Message
+  phase1 : Message
+  phase1b : Message
+  phase2 : Message
+  phase3 : Message
+  phase4 : Message
+  phase5 : Message
+  of_blocks : (message : BlockMessage) → Message
+  of_names : (message : NameMessage) → Message
+  summary : (files used : ℕ) (free frags blocks tenths : ℤ) → Message
+
+abbrev pub is_defect : Message → Bool
+is_defect (location sector) = false
+is_defect (opening name) = false
+is_defect (bad_super fault) = false
+is_defect (cannot_read sector) = false
+is_defect cannot_alloc = false
+is_defect optimization = true
+is_defect (minfree value) = true
+is_defect (mounted mount) = false
+is_defect phase1 = false
+is_defect phase1b = false
+is_defect phase2 = false
+is_defect phase3 = false
+is_defect phase4 = false
+is_defect phase5 = false
+is_defect (of_blocks message) = true
+is_defect (of_names message) = true
+is_defect (summary files used free frags blocks tenths) = false
+
+-- a defect is among them
+abbrev pub has_defect : List Message → Bool
+has_defect messages = list_any is_defect messages
+
+-- a message that is reported where a condition holds
+abbrev pub told : Bool → NameMessage → List NameMessage
+told true m = m ∷ []
+told false m = []
+
+-- what is reported for the numbers below n, ascending
+unfoldable pub lines_below : (ℕ → List NameMessage) → ℕ → List NameMessage
+lines_below lines zero = []
+lines_below lines (suc n) = lines_below lines n ++ lines n
+
+-- what is reported for that many numbers from d on, ascending
+unfoldable pub lines_from : (ℕ → List NameMessage) → ℕ → ℕ → List NameMessage
+lines_from lines d zero = []
+lines_from lines d (suc k) = lines d ++ lines_from lines (suc d) k

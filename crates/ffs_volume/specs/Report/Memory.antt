@@ -1,0 +1,12 @@
+-- The memory that a check may hold.
+use Rattle.std.specs.Prelude.{ℕ, ◌+◌, ◌*◌}
+use Rattle.std.specs.Int.{div_ceil}
+use Rattle.ffs_volume.specs.declared.Layout.{Layout}
+
+-- the most bytes that the lists and buffers of a check take: three maps of the fragments, 25 bytes an inode, eight blocks and a page
+abbrev pub held_limit : Layout → ℕ
+held_limit v = 3 * (8 * div_ceil v.size 64) + 25 * (v.ncg * v.ipg) + 8 * v.bsize + 4096
+
+-- the most Runs that a check of blocks looks at: one for each fragment, and eleven bad and eleven dup ones an inode
+abbrev pub runs_limit : Layout → ℕ
+runs_limit v = v.size + 22 * (v.ncg * v.ipg)

@@ -1,0 +1,111 @@
+-- The whole report of an image: its text as a list of messages, how the run ends, and its status.
+use Rattle.std.specs.Prelude.{ℕ, ◌*ℤ◌, ◌+ℤ◌, int_div, Bool, true, false, not, ◌&&◌, if◌then◌else◌, List, [], ◌∷◌, ◌++◌, map, count_by, ℤ, pos, Option, Result, Ok, Err}
+use Rattle.std.specs.List.{range_with_len, slice_index_or}
+use Rattle.ffs_volume.specs.declared.Layout.{Layout}
+use Rattle.ffs_volume.specs.declared.SuperFault.{SuperFault}
+use Rattle.ffs_volume.specs.declared.End.{End}
+use Rattle.ffs_volume.specs.declared.End.TheVariants.{Consistent, Defects, Refused, RootStop, ReadFault, WriteFault, NoMemory}
+use Rattle.ffs_volume.specs.Disk.Areas.{is_reserved}
+use Rattle.ffs_volume.specs.Disk.Superblock.{Superblock}
+use Rattle.ffs_volume.specs.Disk.Outcome.{outcome}
+use Rattle.ffs_volume.specs.Blocks.Inodes.{is_file_or_dir}
+use Rattle.ffs_volume.specs.Blocks.Owners.{owners_of, inode_numbers}
+use Rattle.ffs_volume.specs.Blocks.Claims.{is_set, no_claims, after_owners}
+use Rattle.ffs_volume.specs.Blocks.BlockCheck.{phase1_lines, phase1b_lines, has_rescan}
+use Rattle.ffs_volume.specs.Groups.GroupCheck.{phase5_lines, is_free_of_kept}
+use Rattle.ffs_volume.specs.Messages.Kinds.{Message, phase1, phase1b, phase2, phase3, phase4, phase5, of_blocks, of_names, summary, has_defect}
+use Rattle.ffs_volume.specs.Report.Opening.{super_lines, head_lines, fault_line}
+use Rattle.ffs_volume.specs.Directories.PathnameCheck.{pathname_lines, goes_on}
+use Rattle.ffs_volume.specs.Directories.Connectivity.{connectivity_lines}
+use Rattle.ffs_volume.specs.Directories.ReferenceCheck.{reference_lines}
+use Rattle.ffs_volume.specs.Directories.Volumes.{class_at, volume_of}
+
+-- how many files and directories there are
+unfoldable pub file_count : Layout → List ℕ → ℕ
+file_count v image = count_by (λ x. is_file_or_dir (class_at v image x)) (inode_numbers v)
+
+-- the claim count: how many Runs are seen in all
+unfoldable pub claim_count : Layout → List ℕ → ℕ
+claim_count v image = (after_owners v (no_claims v) (owners_of v image)).runs
+
+-- how many fragments are claimed beside the reserved ones
+unfoldable pub used_count : Layout → List ℕ → ℕ
+used_count v image =
+    count_by (λ f. is_set (after_owners v (no_claims v) (owners_of v image)).used f && not (is_reserved v f)) (range_with_len 0 v.size)
+
+-- the superblock's own counts of free fragments and of free blocks
+abbrev pub free_frags : Superblock → ℤ
+free_frags s = slice_index_or s.cstotal 3 (pos 0)
+
+abbrev pub free_blocks : Superblock → ℤ
+free_blocks s = slice_index_or s.cstotal 1 (pos 0)
+
+-- the summary: free fragments in all, and the share of the loose ones in tenths of a percent, rounded toward zero
+abbrev pub summary_of : Superblock → ℕ → ℕ → Message
+summary_of s files used =
+    summary files used (free_frags s +ℤ pos s.layout.frag *ℤ free_blocks s) (free_frags s) (free_blocks s)
+    (int_div (free_frags s *ℤ pos 1000) (pos s.layout.dsize))
+
+-- the second look at the blocks
+abbrev pub rescan_lines : Layout → List ℕ → List Message
+rescan_lines v image = if has_rescan v (owners_of v image) then phase1b ∷ map of_blocks (phase1b_lines v (owners_of v image)) else []
+
+-- the group check, of the fragments that no kept offer claims
+abbrev pub group_check_lines : List ℕ → Superblock → List Message
+group_check_lines image s =
+    map of_blocks (phase5_lines s.layout image s.cstotal (is_free_of_kept s.layout (owners_of s.layout image)) (class_at s.layout image))
+
+-- phases 3 to 5 and the summary
+unfoldable pub later_lines : List ℕ → Superblock → List Message
+later_lines image s =
+    phase3 ∷ (map of_names (connectivity_lines (volume_of s.layout image))
+    ++ (phase4 ∷ (map of_names (reference_lines (volume_of s.layout image))
+    ++ (phase5 ∷ (group_check_lines image s
+    ++ (summary_of s (file_count s.layout image) (used_count s.layout image) ∷ []))))))
+
+-- all that follows the opening; the run stops after phase 2 where inode 2 isn't a directory
+unfoldable pub text_lines : List ℕ → Superblock → List Message
+text_lines image s =
+    phase1 ∷ (map of_blocks (phase1_lines s.layout (owners_of s.layout image))
+    ++ (rescan_lines s.layout image
+    ++ (phase2 ∷ (map of_names (pathname_lines (volume_of s.layout image))
+    ++ (if goes_on (volume_of s.layout image) then later_lines image s else [])))))
+
+-- the report on an accepted superblock, after the opening line
+unfoldable pub report_lines : List ℕ → Superblock → List Message
+report_lines image s = super_lines s ++ text_lines image s
+
+-- how a run ends that continues after the root, and has reported a defect
+abbrev pub end_by : Bool → Bool → End
+end_by true true = Defects
+end_by true false = Consistent
+end_by false defect = RootStop
+
+unfoldable pub end_of : List ℕ → Superblock → End
+end_of image s = end_by (goes_on (volume_of s.layout image)) (has_defect (report_lines image s))
+
+-- what is reported of an image, and how the run ends, by the outcome of its superblock
+abbrev pub reported_of : List ℕ → Result Superblock SuperFault → List Message
+reported_of image (Ok s) = report_lines image s
+reported_of image (Err fault) = fault_line fault ∷ []
+
+abbrev pub ends_of : List ℕ → Result Superblock SuperFault → End
+ends_of image (Ok s) = end_of image s
+ends_of image (Err fault) = Refused fault
+
+-- the whole report of an image: its messages and its end
+unfoldable pub report_of : List ℕ → List ℕ → Option ℕ → List Message
+report_of image name sector = head_lines name sector ++ reported_of image (outcome image sector)
+
+unfoldable pub report_end : List ℕ → Option ℕ → End
+report_end image sector = ends_of image (outcome image sector)
+
+-- the exit status of an end
+abbrev pub status_of : End → ℕ
+status_of Consistent = 0
+status_of Defects = 1
+status_of (Refused fault) = 8
+status_of RootStop = 8
+status_of (ReadFault sector) = 8
+status_of WriteFault = 8
+status_of NoMemory = 8
