@@ -4,4 +4,4 @@ use Rattle.ffs_image.specs.Device.{ForContents}
 
 -- these are the bytes at a place, where a source reports its bytes
 abbrev pub AreAt : Option (List ℕ) → ℕ → List ℕ → Type 0
-AreAt told at xs = ForContents told (λ bytes. xs ≡ take (length xs) (drop at bytes))
+AreAt contents at xs = ForContents contents (λ bytes. xs ≡ take (length xs) (drop at bytes))

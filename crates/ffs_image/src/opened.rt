@@ -64,7 +64,7 @@ impl OpenedFile {
 impl Source for OpenedFile {
     ghost use Rattle.std.specs.Prelude.{None};
 
-    ghost told = { λ _. None };
+    ghost contents = { λ _. None };
 
     ghost size = { λ f. f.size };
 

@@ -10,7 +10,7 @@ pub(crate) struct SourceFault;
 /// What can be read at a place, and nothing else.
 pub(crate) trait Source {
     /// Its bytes, where it gives them.
-    ghost told: { Self → Option (List ℕ) };
+    ghost contents: { Self → Option (List ℕ) };
 
     /// Its size in bytes.
     ghost size: { Self → ℕ };
@@ -22,8 +22,8 @@ pub(crate) trait Source {
     fn read_some(&mut self, at: u64, buf: &mut [u8]) -> Result<usize, SourceFault>
         requires { 0 < length buf.old }
         ensures some { IfOk result (λ n. (0 < n) × (n ≤ length buf.new)) }
-        ensures bytes { IfOk result (λ n. AreAt (told self.old) at (take n buf.new)) }
-        ensures told { told self.new ≡ told self.old }
+        ensures bytes { IfOk result (λ n. AreAt (contents self.old) at (take n buf.new)) }
+        ensures contents { contents self.new ≡ contents self.old }
         ensures size { size self.new ≡ size self.old }
         ensures ok { OnOk result (failures self.new ≡ failures self.old) }
         ensures err { OnErr result (Rose (failures self.old) (failures self.new)) };
@@ -33,7 +33,7 @@ pub(crate) trait Source {
 pub(crate) fn fill<S: Source>(source: &mut S, at: u64, buf: &mut [u8]) -> Result<(), SourceFault>
     requires { at + length buf.old < 2 ^ 64 }
     ensures bytes { OnOk result (AreAt (S.contents source.old) at buf.new) }
-    ensures told { S.contents source.new ≡ S.contents source.old }
+    ensures contents { S.contents source.new ≡ S.contents source.old }
     ensures size { S.size source.new ≡ S.size source.old }
     ensures ok { OnOk result (S.failures source.new ≡ S.failures source.old) }
     ensures err { OnErr result (Rose (S.failures source.old) (S.failures source.new)) }

@@ -8,7 +8,7 @@ loop-filled-preserved g c =
     let given = c.in_ok-filled.ensures in
     record {
       within = filled_within _ _ c.loop-filled.buf c.read_some.new.buf before.within given.some.1;
-      told = given.contents ∙ before.contents;
+      contents = given.contents ∙ before.contents;
       size = given.size ∙ before.size;
       failures = given.ok ∙ before.failures;
       bytes = filled_more _ _ _ _ c.loop-filled.buf c.read_some.new.buf before.within given.some.1 before.bytes (λ bytes t. given.bytes bytes (before.contents ∙ t));

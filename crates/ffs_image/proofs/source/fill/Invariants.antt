@@ -5,7 +5,7 @@ use Rattle.ffs_image.proofs.source.fill.Given as goal
 abbrev pub invariant-loop-filled : goal.invariant-loop-filled
 invariant-loop-filled g l = record {
   within : l.filled ≤ length l.buf;
-  told : g.S.Source.contents l.source ≡ g.S.Source.contents l.initial.source;
+  contents : g.S.Source.contents l.source ≡ g.S.Source.contents l.initial.source;
   size : g.S.Source.size l.source ≡ g.S.Source.size l.initial.source;
   failures : g.S.Source.failures l.source ≡ g.S.Source.failures l.initial.source;
   bytes : AreAt (g.S.Source.contents l.initial.source) l.at (take l.filled l.buf);
