@@ -99,7 +99,8 @@ fn has_shape(v: &Layout) -> bool
     requires { 0 < v.now.ncg }
     ensures { result ≡ is_shaped v.now }
 {
-    has_sizes(v) && has_numbers(v) && has_parts(v) && groups_fit(v) && has_summary(v)
+    // The summary area bounds the number of groups by the size of one.
+    has_sizes(v) && has_numbers(v) && has_parts(v) && has_summary(v) && groups_fit(v)
 }
 
 /// The first fault that the layout shows, in an image of this size in bytes.

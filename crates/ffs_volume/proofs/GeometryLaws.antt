@@ -111,11 +111,11 @@ all_below-at (suc n) i test all h =
 shape_holds : (v : Layout) → is_shaped v ≡ true → (are_sizes v ≡ true) × (are_numbers v ≡ true) × (are_parts v ≡ true) × (all_below v.ncg (is_group v) ≡ true) × (is_summary v ≡ true)
 unfolding is_shaped
 shape_holds v e =
-    let a = and_parts _ (is_summary v) e in
-    let b = and_parts _ (all_below v.ncg (is_group v)) a.0 in
+    let a = and_parts _ (all_below v.ncg (is_group v)) e in
+    let b = and_parts _ (is_summary v) a.0 in
     let d = and_parts _ (are_parts v) b.0 in
     let f = and_parts (are_sizes v) (are_numbers v) d.0 in
-    (f.0, f.1, d.1, b.1, a.1)
+    (f.0, f.1, d.1, a.1, b.1)
 
 -- a layout without a fault is a geometry, whose fragments lie in the image
 pub geometry_holds : (v : Layout) (n : ℕ) → layout_fault v n ≡ None → IsGeometry v × (v.size * v.fsize ≤ n)

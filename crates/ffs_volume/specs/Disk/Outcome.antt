@@ -65,7 +65,7 @@ is_summary v =
     && nat_le (v.csaddr + div_ceil v.cssize v.fsize) (min (cgbase v 1) v.size)
 
 unfoldable pub is_shaped : Layout → Bool
-is_shaped v = are_sizes v && are_numbers v && are_parts v && all_below v.ncg (is_group v) && is_summary v
+is_shaped v = are_sizes v && are_numbers v && are_parts v && is_summary v && all_below v.ncg (is_group v)
 
 -- the cylinders fill the groups
 unfoldable pub are_cylinders : Layout → Bool

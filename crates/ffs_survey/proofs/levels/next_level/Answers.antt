@@ -9,7 +9,7 @@ use Rattle.ffs_survey.proofs.levels.next_level.Goals as goal
 pub read_level-requires-clause-frontier : goal.read_level-requires-clause-frontier
 read_level-requires-clause-frontier g c = λ b k.
     let v = graph_with c.args.kinds.now (g.D.Directories.entries (g.D.Directories.base c.args.directories.now) b) in
-    let e = frontier_is c.args.low c.args.high c.args.queue.now c.split_at_mut-left.result.0.now c.split_at_mut-left.ensures.frontier in
+    let e = frontier_is c.args.low c.args.high c.args.queue.now c.split_at_mut-left.result.0.now c.split_at_mut-left.ensures.front in
     let P : List ℕ → Type 0 = λ xs. All (λ s. dir_at c.args.kinds.now s ≡ true) xs in
     subst P (sym e) (λ i d l. front_dirs v c.args.depth _ (sane_of c.args.kinds.now _ c.requires.some) c.requires.root (c.requires.frontier b k) i d l)
 
@@ -17,7 +17,7 @@ pub returns-clause-frontier : goal.returns-clause-frontier
 returns-clause-frontier g c = λ b k.
     let v = graph_with c.args.kinds.now (g.D.Directories.entries (g.D.Directories.base c.args.directories.now) b) in
     let xs = drop c.args.low (take c.args.high c.args.queue.now) in
-    let e = frontier_is c.args.low c.args.high c.args.queue.now c.split_at_mut-left.result.0.now c.split_at_mut-left.ensures.frontier in
+    let e = frontier_is c.args.low c.args.high c.args.queue.now c.split_at_mut-left.result.0.now c.split_at_mut-left.ensures.front in
     let P : List ℕ → Type 0 = λ xs. Comes (from_dirs v xs) c.args.reached.now c.args.parents.now [] nothing c.read_level.new.reached c.read_level.new.parents (take c.in_ok-found.found c.read_level.new.queue) in
     let n : IsNextLevel v (c.args.depth + 1) c.read_level.new.reached c.read_level.new.parents (take c.args.high c.args.queue.now) c.sort_unstable.new.self =
     level_after v c.args.depth xs c.args.reached.now c.read_level.new.reached c.args.parents.now c.read_level.new.parents (take c.args.high c.args.queue.now) (take c.in_ok-found.found c.read_level.new.queue) c.sort_unstable.new.self
@@ -31,7 +31,7 @@ pub returns-clause-levels : goal.returns-clause-levels
 returns-clause-levels g c = λ b k.
     let v = graph_with c.args.kinds.now (g.D.Directories.entries (g.D.Directories.base c.args.directories.now) b) in
     let xs = drop c.args.low (take c.args.high c.args.queue.now) in
-    let e = frontier_is c.args.low c.args.high c.args.queue.now c.split_at_mut-left.result.0.now c.split_at_mut-left.ensures.frontier in
+    let e = frontier_is c.args.low c.args.high c.args.queue.now c.split_at_mut-left.result.0.now c.split_at_mut-left.ensures.front in
     let P : List ℕ → Type 0 = λ xs. Comes (from_dirs v xs) c.args.reached.now c.args.parents.now [] nothing c.read_level.new.reached c.read_level.new.parents (take c.in_ok-found.found c.read_level.new.queue) in
     let n : IsNextLevel v (c.args.depth + 1) c.read_level.new.reached c.read_level.new.parents (take c.args.high c.args.queue.now) c.sort_unstable.new.self =
     level_after v c.args.depth xs c.args.reached.now c.read_level.new.reached c.args.parents.now c.read_level.new.parents (take c.args.high c.args.queue.now) (take c.in_ok-found.found c.read_level.new.queue) c.sort_unstable.new.self
@@ -39,4 +39,4 @@ returns-clause-levels g c = λ b k.
     let t = c.in_ok-found.ensures.top in
     let w = whole_queue c.args.high c.in_ok-found.found c.split_at_mut-left.result.0.now c.sort_unstable.new.self (drop c.in_ok-found.found c.read_level.new.queue)
     (omega (arith, c.split_at_mut-left.ensures.front_len)) (omega (arith, c.sort_unstable.ensures.len, length-take c.in_ok-found.found c.read_level.new.queue, t, c.split_at_mut-left.ensures.back_len)) in
-    subst (λ q. LevelsKnown v (c.args.depth + 1) c.read_level.new.reached c.read_level.new.parents q) (sym (w ∙ ap (λ z. z ++ c.sort_unstable.new.self) c.split_at_mut-left.ensures.frontier)) n.knows
+    subst (λ q. LevelsKnown v (c.args.depth + 1) c.read_level.new.reached c.read_level.new.parents q) (sym (w ∙ ap (λ z. z ++ c.sort_unstable.new.self) c.split_at_mut-left.ensures.front)) n.knows
