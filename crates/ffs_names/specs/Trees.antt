@@ -22,7 +22,7 @@ pub record Base : Type 0 where
 
 -- these are the image's bytes, and the kinds and cuts are those of its inodes
 pub record KnowsTree (t : Base) (b : List ℕ) : Type 0 where
-  pub bytes : t.told ≡ Some b
+  pub bytes : t.contents ≡ Some b
   pub kinds : (x : ℕ) → slice_index t.kinds x ≡ kind_at t.layout b x
   pub cut : (x : ℕ) → slice_index t.cut x ≡ cut_at t.layout b x
 
