@@ -44,10 +44,10 @@ pub fault_same : (T E : Type 0) (knows knows' : List ℕ → Type 0) (all all' :
     ForBytes knows' knows → ForBytes knows' (λ bytes. all bytes ≡ all' bytes) → PhaseReports {T = T} knows all a b (Err fault) → PhaseReports {T = E} knows' all' a b (Err fault)
 fault_same T E knows knows' all all' a b (Read fault) more e p = record {
   rest = p.rest;
-  front = record {
-    messages = p.front.messages;
-    right = λ bytes k. p.front.right bytes (more bytes k) ∙ e bytes k;
-    said = p.front.said;
+  prefix = record {
+    messages = p.prefix.messages;
+    right = λ bytes k. p.prefix.right bytes (more bytes k) ∙ e bytes k;
+    said = p.prefix.said;
   };
 }
 fault_same T E knows knows' all all' a b (Out fault) more e p = record {
