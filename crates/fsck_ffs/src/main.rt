@@ -4,12 +4,15 @@
 use ffs_check::run::run;
 use ffs_report::SilentWriter;
 use std::io::{BufWriter, ErrorKind, LineWriter, Write};
-use std::os::unix::fs::FileTypeExt;
+use std::os::unix::fs::{FileTypeExt, MetadataExt};
 use std::process::ExitCode;
 use std::{env, fs};
 
 /// The bytes of the report that are gathered before they are written.
 const BUFFER_SIZE: usize = 65536;
+
+/// The major number of the devices of memory: null(4), full(4), zero(4).
+const MEMORY_DEVICES: u64 = 1;
 
 /// The status where memory is refused.
 const NO_MEMORY: u8 = 8;
@@ -55,12 +58,20 @@ fn print_report(rt: &HostRuntime, words: &[&str]) -> ExitCode {
     ExitCode::from(status)
 }
 
-// Whether standard output is a terminal, so that somebody may wait for each line.
+// Whether standard output is a terminal, so that somebody may wait for each line. The devices of memory, such as /dev/null, are
+// no terminals.
 fn is_watched(rt: &HostRuntime) -> bool {
     match fs::metadata(rt, "/dev/stdout") {
-        Ok(metadata) => metadata.file_type().is_char_device(),
+        Ok(metadata) => {
+            metadata.file_type().is_char_device() && major(metadata.rdev()) != MEMORY_DEVICES
+        }
         Err(_) => false,
     }
+}
+
+// The major number of a device (makedev(3)).
+fn major(device: u64) -> u64 {
+    device / 256 % 4096
 }
 
 // Reports that memory was refused before the check began.
