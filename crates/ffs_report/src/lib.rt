@@ -1,6 +1,7 @@
 //! The lines of a report, and where their bytes go.
 //!
-//! `Report::say` writes exactly the bytes of its line, in pieces, or a prefix of them and answers a fault;
+//! `Report::say` writes exactly the bytes of its line, as one piece where it has room in a buffer of 2,048
+//! bytes, or a prefix of them and answers a fault;
 //! after a fault each later line fails and writes nothing. A `Line` is a message with its values; the
 //! texts are those of `Messages/Texts` in the definitions. A `FuseWriter` fails after some bytes.
 //!
@@ -15,6 +16,7 @@
 pub mod counted;
 pub mod fuse;
 pub mod line;
+mod line_buffer;
 mod names;
 pub mod output;
 pub mod piece;

@@ -6,13 +6,15 @@ ghost use Rattle.ffs_report.specs.Lines.{message_of};
 ghost use Rattle.ffs_report.specs.Progress.{progress, starts, Says};
 
 use crate::line::Line;
+use crate::line_buffer::LineBuffer;
 use crate::output::{OutFault, Output};
-use crate::say::print_line;
+use crate::say::print_gathered;
 
 /// The lines that are said on an output, up to the first one that fails.
 #[derive(Drop)]
 pub struct Report<'a, W> {
     out: &'a mut W,
+    text: LineBuffer,
     failed: bool,
     defect: bool,
 }
@@ -43,6 +45,7 @@ impl<'a, W: Output> Report<'a, W> {
     {
         Report {
             out,
+            text: LineBuffer::new(),
             failed: false,
             defect: false,
         }
@@ -68,7 +71,7 @@ impl<'a, W: Output> Report<'a, W> {
         if self.failed {
             return Err(OutFault);
         }
-        match print_line(self.out, line) {
+        match print_gathered(self.out, &mut self.text, line) {
             Ok(()) => {
                 self.defect = self.defect || is_defect(line);
                 Ok(())

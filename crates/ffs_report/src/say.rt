@@ -5,6 +5,7 @@ ghost use Rattle.ffs_report.specs.Lines.{message_of, heading_message};
 ghost use Rattle.ffs_volume.specs.Messages.Texts.{text_of, number_text, fault_text, opening_text, mounted_text, minfree_text, claim_text, block_count_text, block_text, summary_text};
 
 use crate::line::{Heading, Line};
+use crate::line_buffer::LineBuffer;
 use crate::names::{print_directory, print_dot, print_entry, print_reference};
 use crate::output::{OutFault, Output};
 use crate::piece::Piece;
@@ -15,8 +16,23 @@ use crate::words::{
 };
 use ffs_volume::{BlockMessage, SuperFault};
 
+/// Prints a line and its questions as one piece, where they have room in the buffer.
+pub fn print_gathered<W: Output>(
+    out: &mut W,
+    buffer: &mut LineBuffer,
+    line: &Line<'_>,
+) -> Result<(), OutFault>
+    ensures { Prints (W.sink out.old) (W.sink out.new) (text_of (message_of line.now)) result }
+{
+    buffer.clear();
+    if print_line(buffer, line).is_ok() {
+        return print(out, buffer.bytes());
+    }
+    print_line(out, line)
+}
+
 /// Prints a line and its questions.
-pub fn print_line<W: Output>(out: &mut W, line: &Line<'_>) -> Result<(), OutFault>
+fn print_line<W: Output>(out: &mut W, line: &Line<'_>) -> Result<(), OutFault>
     ensures { Prints (W.sink out.old) (W.sink out.new) (text_of (message_of line.now)) result }
 {
     match *line {
