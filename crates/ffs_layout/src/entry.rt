@@ -1,6 +1,7 @@
 //! One entry of a directory.
 
-ghost use Rattle.std.specs.Prelude.{◌≡◌, ◌+◌, ◌≤◌, length, option_map, slice_index, IfSome, Some};
+ghost use Rattle.std.specs.Prelude.{◌≡◌, ◌+◌, ◌≤◌, ◌==◌, ◌||◌, length, option_map, slice_index, IfSome, Some};
+ghost use Rattle.std.specs.List.{list_any};
 ghost use Rattle.ffs_volume.specs.Disk.Numbers.{piece};
 ghost use Rattle.ffs_volume.specs.Directories.Entries.{entry_at as entry_in, is_held as held, is_length as fits, is_name as named};
 ghost use Rattle.ffs_layout.specs.Entry.{entry_value};
@@ -28,6 +29,18 @@ fn is_length(place: usize, len: u16) -> bool
     len % 4 == 0 && 8 <= len && place + usize::from(len) <= 512
 }
 
+// Whether a byte is NUL or `/`, as none of a name is.
+fn has_nul_or_slash(bytes: &[u8]) -> bool
+    ensures { result ≡ (list_any (λ b. b == 0) bytes.now || list_any (λ b. b == 47) bytes.now) }
+{
+    for &byte in bytes {
+        if byte == 0 || byte == b'/' {
+            return true;
+        }
+    }
+    false
+}
+
 // Whether the record at the place has a name.
 fn is_name(chunk: &[u8; 512], place: usize) -> bool
     requires { place + (8 + slice_index chunk.now (place + 7)) + 1 ≤ 512 }
@@ -35,7 +48,7 @@ fn is_name(chunk: &[u8; 512], place: usize) -> bool
 {
     let len = usize::from(chunk[place + 7]);
     let name = &chunk[place + 8..][..len];
-    len != 0 && !(name.contains(&0) || name.contains(&b'/')) && chunk[place + 8 + len] == 0
+    len != 0 && !has_nul_or_slash(name) && chunk[place + 8 + len] == 0
 }
 
 // Whether the record at the place holds its name, and has a type.
