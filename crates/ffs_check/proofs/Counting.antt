@@ -1,12 +1,12 @@
 -- How many reads and writes failed, by the headline.
-use Rattle.std.proofs.Common.{◌≡◌, inl, inr, ◌∙◌, sym, ap, subst, ℕ, true, false, List, Option}
-use Rattle.ffs_image.specs.Device.{Device, Rose}
+use Rattle.std.proofs.Common.{◌≡◌, inl, inr, sym, ap, subst, ℕ, true, List, Option}
+use Rattle.ffs_image.specs.Device.{Device}
 use Rattle.ffs_volume.specs.declared.End.{End}
 use Rattle.ffs_volume.specs.declared.End.TheVariants.{Consistent, Defects, Refused, RootStop, ReadFault, WriteFault, NoMemory}
 use Rattle.ffs_volume.specs.Messages.Kinds.{Message}
 use Rattle.ffs_report.specs.Sink.{Sink}
 use Rattle.ffs_check.specs.Failures.{ReadsFailed, WritesFailed}
-use Rattle.ffs_check.specs.Headline.{is_completed, WouldSay, Headline}
+use Rattle.ffs_check.specs.Headline.{is_completed, IsCutShort, Headline}
 
 reads_none : (end : End) (old new : ℕ) → is_completed end ≡ true → new ≡ old → ReadsFailed end old new
 reads_none Consistent old new c e = e
@@ -26,26 +26,26 @@ writes_none (Refused fault) old new c e = e
 writes_none (ReadFault sector) old new c e = e
 writes_none WriteFault old new c e = absurd (cc)
 
--- where the output failed, one read had failed before, or none
-read_before : (image image' : Device) (name : List ℕ) (sector : Option ℕ) (text messages : List Message) → WouldSay image image' name sector text messages →
+-- before the line that says so, one read had failed, or the memory was refused
+read_before : (image image' : Device) (name : List ℕ) (sector : Option ℕ) (text said : List Message) (line : Message) → IsCutShort image image' name sector text said line →
     ReadsFailed WriteFault image.failures image'.failures
-read_before image image' name sector text messages (inl all) = inl (ap (λ d. d.failures) all.0)
-read_before image image' name sector text messages (inr rest) = elim rest [
-  | inl super ↦ inr super.faulted.rose
-  | inr later ↦ elim later [ inl behind ↦ inr behind.faulted.rose | inr unstarted ↦ inl (ap (λ d. d.failures) unstarted.unread) ]
-]
+read_before image image' name sector text said line (inl super) = inr super.faulted.rose
+read_before image image' name sector text said line (inr rest) = elim rest [ inl later ↦ inr later.faulted.rose | inr unstarted ↦ inl (ap (λ d. d.failures) unstarted.unread) ]
 
 module _ (image image' : Device) (name : List ℕ) (sector : Option ℕ) (out out' : Sink) (end : End) (h : Headline image image' name sector out out' end) where
   pub reads_failed : ReadsFailed end image.failures image'.failures
   reads_failed = elim h.ends [
     | inl all ↦ reads_none end image.failures image'.failures all.completed (ap (λ d. d.failures) all.unread)
     | inr r ↦ elim r [
-      | inl super ↦ subst (λ e. ReadsFailed e image.failures image'.failures) (sym super.end_is) (inr super.said.faulted.rose)
+      | inl super ↦ subst (λ e. ReadsFailed e image.failures image'.failures) (sym super.end_is) (inr super.cut.faulted.rose)
       | inr r' ↦ elim r' [
-        | inl behind ↦ subst (λ e. ReadsFailed e image.failures image'.failures) (sym behind.end_is) behind.said.faulted.rose
+        | inl later ↦ subst (λ e. ReadsFailed e image.failures image'.failures) (sym later.end_is) later.cut.faulted.rose
         | inr r'' ↦ elim r'' [
-          | inl refused ↦ subst (λ e. ReadsFailed e image.failures image'.failures) (sym refused.end_is) (ap (λ d. d.failures) refused.said.unread)
-          | inr broken ↦ subst (λ e. ReadsFailed e image.failures image'.failures) (sym broken.end_is) (read_before image image' name sector h.text broken.messages broken.would)
+          | inl refused ↦ subst (λ e. ReadsFailed e image.failures image'.failures) (sym refused.end_is) (ap (λ d. d.failures) refused.cut.unread)
+          | inr stops ↦ elim stops [
+            | inl broken ↦ subst (λ e. ReadsFailed e image.failures image'.failures) (sym broken.end_is) (inl (ap (λ d. d.failures) broken.unread))
+            | inr inside ↦ subst (λ e. ReadsFailed e image.failures image'.failures) (sym inside.end_is) (read_before image image' name sector h.text inside.said inside.line inside.cut)
+          ]
         ]
       ]
     ]
@@ -57,10 +57,13 @@ module _ (image image' : Device) (name : List ℕ) (sector : Option ℕ) (out ou
     | inr r ↦ elim r [
       | inl super ↦ subst (λ e. WritesFailed e out.failures out'.failures) (sym super.end_is) super.took.failures
       | inr r' ↦ elim r' [
-        | inl behind ↦ subst (λ e. WritesFailed e out.failures out'.failures) (sym behind.end_is) behind.took.failures
+        | inl later ↦ subst (λ e. WritesFailed e out.failures out'.failures) (sym later.end_is) later.took.failures
         | inr r'' ↦ elim r'' [
           | inl refused ↦ subst (λ e. WritesFailed e out.failures out'.failures) (sym refused.end_is) refused.took.failures
-          | inr broken ↦ subst (λ e. WritesFailed e out.failures out'.failures) (sym broken.end_is) broken.broke_off.rose
+          | inr stops ↦ elim stops [
+            | inl broken ↦ subst (λ e. WritesFailed e out.failures out'.failures) (sym broken.end_is) broken.broke_off.rose
+            | inr inside ↦ subst (λ e. WritesFailed e out.failures out'.failures) (sym inside.end_is) (rw inside.took.failures at inside.broke_off.rose)
+          ]
         ]
       ]
     ]

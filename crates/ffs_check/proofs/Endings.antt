@@ -11,7 +11,7 @@ use Rattle.ffs_volume.specs.Report.Whole.{end_by}
 use Rattle.std.specs.Borrow.{GName}
 use Rattle.ffs_report.specs.Sink.{Sink}
 use Rattle.ffs_report.specs.Progress.{Progress, Said, Stopped, starts}
-use Rattle.ffs_report.proofs.Reports.{has_defect-append, said_then, stopped_after, stopped_more}
+use Rattle.ffs_report.proofs.Reports.{has_defect-append, said_then, stopped_more}
 use Rattle.ffs_phase.specs.Known.{ForBytes, IsContents}
 use Rattle.ffs_phase.specs.Runs.{ImageAfter}
 use Rattle.ffs_phase.specs.declared.fault.RunFault.{RunFault}
@@ -20,7 +20,7 @@ use Rattle.ffs_pathnames.specs.declared.phase.Root.{Root}
 use Rattle.ffs_pathnames.specs.GoesOn.{is_go}
 use Rattle.ffs_check.specs.Ends.{IsCut, ReportsBefore, Ran, RunsThrough}
 use Rattle.ffs_check.specs.Told.{FaultReported, EndsAs}
-use Rattle.ffs_check.proofs.Openings.{broke_off}
+use Rattle.ffs_check.proofs.Openings.{broke_off, broke_in_line}
 
 -- what an image's bytes determine, and nothing for an image that doesn't give them
 abbrev pub at_reported : Option (List ℕ) → (List ℕ → List Message) → List Message
@@ -34,20 +34,9 @@ at_reported_is contents lines bytes e = rw e refl
 pub faulted_there : (image image' : Device) (sector : ℕ) → Faulted image image' sector → Faulted image image' image'.failed
 faulted_there image image' sector f = record { contents = f.contents; size = f.size; failed = refl; rose = f.rose }
 
-pub cut_there : (knows : List ℕ → Type 0) (goes : List ℕ → Bool) (text prefix rest : List Message) (image image' : Device) (sector : ℕ) → Faulted image image' sector → prefix ++ rest ≡ text →
-    ForBytes knows (λ bytes. goes bytes ≡ true → 0 < length rest) → IsCut knows goes text (prefix ++ (cannot_read sector ∷ [])) image image' image'.failed
-cut_there knows goes text prefix rest image image' sector f e more = record {
-  faulted = faulted_there image image' sector f;
-  prefix = prefix;
-  rest = rest;
-  whole = e;
-  more = more;
-  line = ap (λ at. prefix ++ (cannot_read at ∷ [])) (sym f.failed);
-}
-
 module _ (before : Bool) (knows : List ℕ → Type 0) (lines : List ℕ → List Message) (goes : List ℕ → Bool) (image image' : Device) (tells : ForBytes knows (IsContents image.contents)) (a b c : Progress) (end : End) where
   -- all was said
-  whole : (root : Root) → ReportsBefore knows goes lines a b (Ok root) → image' ≡ image → ForBytes knows (λ bytes. is_go root ≡ goes bytes) → EndsAs before b c (Ok root) end → Ran before knows lines goes image image' a c end
+  whole : (root : Root) → ReportsBefore knows lines a b (Ok root) → image' ≡ image → ForBytes knows (λ bytes. is_go root ≡ goes bytes) → EndsAs before b c (Ok root) end → Ran before knows lines goes image image' a c end
   whole root p still went e = record {
     text = p.messages;
     right = λ bytes k. sym (append-nil p.messages) ∙ p.right bytes k;
@@ -55,23 +44,25 @@ module _ (before : Bool) (knows : List ℕ → Type 0) (lines : List ℕ → Lis
   }
 
   -- a read failed
+  cut_at : (sector : ℕ) (prefix : List Message) (rest : List ℕ → List Message) → ForBytes knows (λ bytes. 0 < length (rest bytes)) → Faulted image image' sector →
+      IsCut knows (prefix ++ at_reported image.contents rest) prefix image image' sector
+  cut_at sector prefix rest more f = record {
+    faulted = f;
+    rest = at_reported image.contents rest;
+    whole = refl;
+    more = λ bytes k. rw (at_reported_is image.contents rest bytes (tells bytes k)) (more bytes k);
+  }
+
   cut : (sector : ℕ) (prefix : List Message) (rest : List ℕ → List Message) → ForBytes knows (λ bytes. prefix ++ rest bytes ≡ lines bytes) →
-      ForBytes knows (λ bytes. goes bytes ≡ true → 0 < length (rest bytes)) → Said a b prefix → Faulted image image' sector →
+      ForBytes knows (λ bytes. 0 < length (rest bytes)) → Said a b prefix → Faulted image image' sector →
       FaultReported b c sector end → Ran before knows lines goes image image' a c end
   cut sector prefix rest right more said f (inl told) = record {
     text = prefix ++ at_reported image.contents rest;
     right = λ bytes k. ap (λ more. prefix ++ more) (at_reported_is image.contents rest bytes (tells bytes k)) ∙ right bytes k;
     ends = inr (inl (record {
       sector = sector;
-      messages = prefix ++ (cannot_read sector ∷ []);
-      cut = record {
-        faulted = f;
-        prefix = prefix;
-        rest = at_reported image.contents rest;
-        whole = refl;
-        more = λ bytes k go. rw (at_reported_is image.contents rest bytes (tells bytes k)) (more bytes k go);
-        line = refl;
-      };
+      messages = prefix;
+      cut = cut_at sector prefix rest more f;
       said = said_then a b c prefix (cannot_read sector ∷ []) said told.0;
       end_is = told.1;
     }));
@@ -79,13 +70,15 @@ module _ (before : Bool) (knows : List ℕ → Type 0) (lines : List ℕ → Lis
   cut sector prefix rest right more said f (inr unreported) = record {
     text = prefix ++ at_reported image.contents rest;
     right = λ bytes k. ap (λ more. prefix ++ more) (at_reported_is image.contents rest bytes (tells bytes k)) ∙ right bytes k;
-    ends = inr (inr (record {
-      messages = prefix ++ (cannot_read sector ∷ []);
-      would = inr (cut_there knows goes _ prefix (at_reported image.contents rest) image image' sector f refl
-          (λ bytes k go. rw (at_reported_is image.contents rest bytes (tells bytes k)) (more bytes k go)));
-      stopped = stopped_after a b c prefix (cannot_read sector ∷ []) said unreported.0;
+    ends = inr (inr (inr (record {
+      sector = sector;
+      messages = prefix;
+      cut = cut_at sector prefix rest more f;
+      between = b;
+      said = said;
+      stopped = unreported.0;
       end_is = unreported.1;
-    }));
+    })));
   }
 
   -- the output failed
@@ -94,15 +87,14 @@ module _ (before : Bool) (knows : List ℕ → Type 0) (lines : List ℕ → Lis
   part prefix rest right stopped still same e = record {
     text = prefix ++ at_reported image.contents rest;
     right = λ bytes k. ap (λ more. prefix ++ more) (at_reported_is image.contents rest bytes (tells bytes k)) ∙ right bytes k;
-    ends = inr (inr (record {
-      messages = prefix ++ at_reported image.contents rest;
-      would = inl (still, refl);
+    ends = inr (inr (inl (record {
+      unread = still;
       stopped = subst (λ to. Stopped a to (prefix ++ at_reported image.contents rest)) (sym same) (stopped_more a b prefix (at_reported image.contents rest) stopped);
       end_is = e;
-    }));
+    })));
   }
 
-  pub ran : (r : Result Root RunFault) → ReportsBefore knows goes lines a b r → ImageAfter image image' r → IfOk r (λ root. ForBytes knows (λ bytes. is_go root ≡ goes bytes)) → EndsAs before b c r end →
+  pub ran : (r : Result Root RunFault) → ReportsBefore knows lines a b r → ImageAfter image image' r → IfOk r (λ root. ForBytes knows (λ bytes. is_go root ≡ goes bytes)) → EndsAs before b c r end →
       Ran before knows lines goes image image' a c end
   ran (Ok root) p still went e = whole root p still went e
   ran (Err (Read fault)) p f went e = cut fault.sector p.prefix.messages p.rest p.prefix.right p.more p.prefix.said f e
@@ -125,21 +117,30 @@ runs_through before told e knows lines goes image image' output sink new end ran
     })
     | inr rest ↦ elim rest [
       | inl short ↦ inr (inl (record { sector = short.sector; messages = short.messages; cut = short.cut; took = short.said.took; end_is = short.end_is }))
-      | inr part ↦ inr (inr (record { messages = part.messages; would = part.would; broke_off = broke_off output sink new part.messages part.stopped; end_is = part.end_is }))
+      | inr stops ↦ elim stops [
+        | inl part ↦ inr (inr (inl (record { unread = part.unread; broke_off = broke_off output sink new ran.text part.stopped; end_is = part.end_is })))
+        | inr inside ↦ inr (inr (inr (record {
+          sector = inside.sector;
+          messages = inside.messages;
+          cut = inside.cut;
+          between = inside.between.sink;
+          took = inside.said.took;
+          broke_off = broke_in_line output sink inside.between new inside.messages (cannot_read inside.sector) inside.said inside.stopped;
+          end_is = inside.end_is;
+        })))
+      ]
     ]
   ];
 }
 
 -- where more is known
-cut_knows : (knows known : List ℕ → Type 0) (goes : List ℕ → Bool) (text messages : List Message) (image image' : Device) (sector : ℕ) → ForBytes knows known →
-    IsCut known goes text messages image image' sector → IsCut knows goes text messages image image' sector
-cut_knows knows known goes text messages image image' sector more c = record {
+cut_knows : (knows known : List ℕ → Type 0) (text said : List Message) (image image' : Device) (sector : ℕ) → ForBytes knows known →
+    IsCut known text said image image' sector → IsCut knows text said image image' sector
+cut_knows knows known text said image image' sector more c = record {
   faulted = c.faulted;
-  prefix = c.prefix;
   rest = c.rest;
   whole = c.whole;
   more = λ bytes k. c.more bytes (more bytes k);
-  line = c.line;
 }
 
 pub ran_knows : (before : Bool) (knows known : List ℕ → Type 0) (lines : List ℕ → List Message) (goes : List ℕ → Bool) (image image' : Device) (a b : Progress) (end : End) → ForBytes knows known →
@@ -150,13 +151,19 @@ ran_knows before knows known lines goes image image' a b end more ran = record {
   ends = elim ran.ends [
     | inl all ↦ inl (record { unread = all.unread; said = all.said; on = all.on; went = λ bytes k. all.went bytes (more bytes k); end_is = all.end_is })
     | inr rest ↦ inr (elim rest [
-      | inl short ↦ inl (record { sector = short.sector; messages = short.messages; cut = cut_knows knows known goes _ _ _ _ _ more short.cut; said = short.said; end_is = short.end_is })
-      | inr part ↦ inr (record {
-        messages = part.messages;
-        would = elim part.would [ inl all ↦ inl all | inr short ↦ inr (cut_knows knows known goes _ _ _ _ _ more short) ];
-        stopped = part.stopped;
-        end_is = part.end_is;
-      })
+      | inl short ↦ inl (record { sector = short.sector; messages = short.messages; cut = cut_knows knows known _ _ _ _ _ more short.cut; said = short.said; end_is = short.end_is })
+      | inr stops ↦ inr (elim stops [
+        | inl part ↦ inl part
+        | inr inside ↦ inr (record {
+          sector = inside.sector;
+          messages = inside.messages;
+          cut = cut_knows knows known _ _ _ _ _ more inside.cut;
+          between = inside.between;
+          said = inside.said;
+          stopped = inside.stopped;
+          end_is = inside.end_is;
+        })
+      ])
     ])
   ];
 }

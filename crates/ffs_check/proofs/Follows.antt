@@ -1,5 +1,5 @@
 -- The headline, of a run after an accepted superblock.
-use Rattle.std.proofs.Common.{◌≡◌, inl, inr, refl, ◌∙◌, sym, ap, subst, ℕ, Bool, true, false, List, [], ◌∷◌, ◌++◌, Option, Ok}
+use Rattle.std.proofs.Common.{◌≡◌, inl, inr, refl, ◌∙◌, sym, ap, subst, ℕ, Bool, true, false, List, [], ◌∷◌, ◌++◌, append_assoc, Option, Ok}
 use Rattle.ffs_image.specs.Device.{Device, ForContents}
 use Rattle.ffs_volume.specs.declared.SuperFault.{SuperFault}
 use Rattle.ffs_volume.specs.declared.End.{End}
@@ -12,17 +12,18 @@ use Rattle.ffs_volume.specs.Directories.PathnameCheck.{goes_on}
 use Rattle.ffs_volume.specs.Report.Whole.{text_lines, end_by, report_of, report_end}
 use Rattle.ffs_volume.specs.Directories.Volumes.{volume_of}
 use Rattle.std.specs.Borrow.{GName}
-use Rattle.ffs_report.specs.Sink.{Sink}
+use Rattle.ffs_volume.specs.Messages.Texts.{texts_of}
+use Rattle.ffs_report.specs.Sink.{Sink, Took}
 use Rattle.ffs_report.specs.Progress.{Progress, Said, starts}
 use Rattle.ffs_report.proofs.Reports.{said_then, stopped_after}
 use Rattle.ffs_layout.specs.declared.superblock.Super.{Super}
 use Rattle.ffs_layout.specs.Super.{Answers, seen}
 use Rattle.ffs_phase.specs.Known.{IsContents}
 use Rattle.ffs_check.specs.Opening.{Opened}
-use Rattle.ffs_check.specs.Ends.{SaidWhole, SaidCut, SaidPart}
+use Rattle.ffs_check.specs.Ends.{IsCut, SaidWhole, SaidCut, SaidPart, SaidInLine}
 use Rattle.ffs_check.specs.Found.{RefusalReported, Followed}
-use Rattle.ffs_check.specs.Headline.{is_completed, opened_lines, Headline}
-use Rattle.ffs_check.proofs.Openings.{broke_off}
+use Rattle.ffs_check.specs.Headline.{is_completed, opened_lines, IsCutLater, Headline}
+use Rattle.ffs_check.proofs.Openings.{broke_off, broke_in_line, found_of, still_of}
 use Rattle.ffs_check.proofs.Endings.{at_reported, at_reported_is, faulted_there}
 use Rattle.ffs_check.proofs.Headlines.{whole_there, defect_there, end_of_there, end_there, completed_by, certifies}
 
@@ -34,8 +35,9 @@ module _ (image : Device) (name : List ℕ) (sector : Option ℕ) (output : GNam
     text = opened_lines name sector s ++ at_reported image.contents (λ bytes. text_lines bytes s);
     is_report = λ bytes t. whole_there bytes name sector s _ (accepted bytes t) (at_reported_is image.contents (λ bytes. text_lines bytes s) bytes t);
     ends = inr (inr (inr (inl (record {
-      messages = opened_lines name sector s ++ (cannot_alloc ∷ []);
-      said = record { unread = still; found = s; accepted = λ bytes t. sym (accepted bytes t); lines = refl };
+      said = opened_lines name sector s;
+      line = cannot_alloc;
+      cut = record { unread = still; found = s; accepted = λ bytes t. sym (accepted bytes t); said_is = refl; line_is = refl };
       took = (said_then (starts output sink) p new (opened_lines name sector s) (cannot_alloc ∷ []) opened told.0).took;
       end_is = told.1;
     }))));
@@ -43,12 +45,15 @@ module _ (image : Device) (name : List ℕ) (sector : Option ℕ) (output : GNam
   unstarted end still (inr unreported) = record {
     text = opened_lines name sector s ++ at_reported image.contents (λ bytes. text_lines bytes s);
     is_report = λ bytes t. whole_there bytes name sector s _ (accepted bytes t) (at_reported_is image.contents (λ bytes. text_lines bytes s) bytes t);
-    ends = inr (inr (inr (inr (record {
-      messages = opened_lines name sector s ++ (cannot_alloc ∷ []);
-      would = inr (inr (inr (record { unread = still; found = s; accepted = λ bytes t. sym (accepted bytes t); lines = refl })));
-      broke_off = broke_off output sink new (opened_lines name sector s ++ (cannot_alloc ∷ [])) (stopped_after (starts output sink) p new (opened_lines name sector s) (cannot_alloc ∷ []) opened unreported.0);
+    ends = inr (inr (inr (inr (inr (record {
+      said = opened_lines name sector s;
+      line = cannot_alloc;
+      cut = inr (inr (record { unread = still; found = s; accepted = λ bytes t. sym (accepted bytes t); said_is = refl; line_is = refl }));
+      between = p.sink;
+      took = opened.took;
+      broke_off = broke_in_line output sink p new (opened_lines name sector s) cannot_alloc opened unreported.0;
       end_is = unreported.1;
-    }))));
+    })))));
   }
 
   module _ (end : End) (text : List Message) (right : ForContents image.contents (λ bytes. text ≡ text_lines bytes s)) where
@@ -73,76 +78,78 @@ module _ (image : Device) (name : List ℕ) (sector : Option ℕ) (output : GNam
           });
         }
 
-    cut : SaidCut (IsContents image.contents) (λ bytes. goes_on (volume_of s.layout bytes)) text image image' p new end → Headline image image' name sector sink new.sink end
-    cut short =
-        let at = short.sector in
-        let here = short.cut.faulted.failed in
-        let line : short.messages ≡ short.cut.prefix ++ (cannot_read image'.failed ∷ []) = short.cut.line ∙ ap (λ at. short.cut.prefix ++ (cannot_read at ∷ [])) (sym here) in
-        record {
-          text = opened_lines name sector s ++ text;
-          is_report = report;
-          ends = inr (inr (inl (record {
-            messages = opened_lines name sector s ++ (short.cut.prefix ++ (cannot_read image'.failed ∷ []));
-            said = record {
-              faulted = faulted_there image image' at short.cut.faulted;
-              found = s;
-              accepted = λ bytes t. sym (accepted bytes t);
-              prefix = short.cut.prefix;
-              rest = short.cut.rest;
-              whole = ap (λ xs. opened_lines name sector s ++ xs) short.cut.whole;
-              more = short.cut.more;
-              lines = refl;
-            };
-            took = (said_then (starts output sink) p new (opened_lines name sector s) _ opened (subst (Said p new) line short.said)).took;
-            end_is = short.end_is ∙ ap ReadFault (sym here);
-          })));
-        }
+    -- what a failed read leaves of the report
+    later : (sector' : ℕ) (messages : List Message) → IsCut (IsContents image.contents) text messages image image' sector' →
+        IsCutLater image image' name sector (opened_lines name sector s ++ text) (opened_lines name sector s ++ messages) (cannot_read sector')
+    later sector' messages c = record {
+      faulted = faulted_there image image' sector' c.faulted;
+      found = s;
+      accepted = λ bytes t. sym (accepted bytes t);
+      prefix = messages;
+      rest = c.rest;
+      said_is = refl;
+      whole = append_assoc (opened_lines name sector s) messages c.rest ∙ ap (λ xs. opened_lines name sector s ++ xs) c.whole;
+      more = c.more;
+      line_is = ap cannot_read (sym c.faulted.failed);
+    }
 
-    part : SaidPart (IsContents image.contents) (λ bytes. goes_on (volume_of s.layout bytes)) text image image' p new end → Headline image image' name sector sink new.sink end
+    cut : SaidCut (IsContents image.contents) text image image' p new end → Headline image image' name sector sink new.sink end
+    cut short = record {
+      text = opened_lines name sector s ++ text;
+      is_report = report;
+      ends = inr (inr (inl (record {
+        said = opened_lines name sector s ++ short.messages;
+        line = cannot_read short.sector;
+        cut = later short.sector short.messages short.cut;
+        took = subst (λ xs. Took sink new.sink (texts_of xs)) (sym (append_assoc (opened_lines name sector s) short.messages (cannot_read short.sector ∷ [])))
+            (said_then (starts output sink) p new (opened_lines name sector s) _ opened short.said).took;
+        end_is = short.end_is ∙ ap ReadFault (sym short.cut.faulted.failed);
+      })));
+    }
+
+    part : SaidPart text image image' p new end → Headline image image' name sector sink new.sink end
     part stop = record {
       text = opened_lines name sector s ++ text;
       is_report = report;
-      ends = inr (inr (inr (inr (record {
-        messages = opened_lines name sector s ++ stop.messages;
-        would = elim stop.would [
-          | inl all ↦ inl (all.0, ap (λ xs. opened_lines name sector s ++ xs) all.1)
-          | inr short ↦ inr (inr (inl (record {
-            faulted = short.faulted;
-            found = s;
-            accepted = λ bytes t. sym (accepted bytes t);
-            prefix = short.prefix;
-            rest = short.rest;
-            whole = ap (λ xs. opened_lines name sector s ++ xs) short.whole;
-            more = short.more;
-            lines = ap (λ xs. opened_lines name sector s ++ xs) short.line;
-          })))
-        ];
-        broke_off = broke_off output sink new (opened_lines name sector s ++ stop.messages) (stopped_after (starts output sink) p new (opened_lines name sector s) stop.messages opened stop.stopped);
+      ends = inr (inr (inr (inr (inl (record {
+        unread = stop.unread;
+        broke_off = broke_off output sink new (opened_lines name sector s ++ text) (stopped_after (starts output sink) p new (opened_lines name sector s) text opened stop.stopped);
         end_is = stop.end_is;
-      }))));
+      })))));
     }
+
+    in_line : SaidInLine (IsContents image.contents) text image image' p new end → Headline image image' name sector sink new.sink end
+    in_line stop =
+        let said = said_then (starts output sink) p stop.between (opened_lines name sector s) stop.messages opened stop.said in
+        record {
+          text = opened_lines name sector s ++ text;
+          is_report = report;
+          ends = inr (inr (inr (inr (inr (record {
+            said = opened_lines name sector s ++ stop.messages;
+            line = cannot_read stop.sector;
+            cut = inr (inl (later stop.sector stop.messages stop.cut));
+            between = stop.between.sink;
+            took = said.took;
+            broke_off = broke_in_line output sink stop.between new (opened_lines name sector s ++ stop.messages) (cannot_read stop.sector) said stop.stopped;
+            end_is = stop.end_is;
+          })))));
+        }
 
   pub follows : (end : End) → Followed s image image' p new end → Headline image image' name sector sink new.sink end
   follows end (inl refusal) = unstarted end refusal.0 refusal.1
   follows end (inr ran) = elim ran.ends [
     | inl all ↦ whole end ran.text ran.right all
-    | inr rest ↦ elim rest [ inl short ↦ cut end ran.text ran.right short | inr stop ↦ part end ran.text ran.right stop ]
+    | inr rest ↦ elim rest [
+      | inl short ↦ cut end ran.text ran.right short
+      | inr stops ↦ elim stops [ inl stop ↦ part end ran.text ran.right stop | inr inside ↦ in_line end ran.text ran.right inside ]
+    ]
   ]
-
--- where a superblock was accepted, nothing was read in vain
-still_of : (image image' : Device) (sector : Option ℕ) (s : Superblock) → Answers image image' sector (Ok s) → image' ≡ image
-still_of image image' sector s (inl unread) = absurd unread.0.0
-still_of image image' sector s (inr read) = read.0
-
-accepted_of : (image image' : Device) (sector : Option ℕ) (s : Superblock) → Answers image image' sector (Ok s) → ForContents image.contents (λ bytes. Ok s ≡ outcome bytes sector)
-accepted_of image image' sector s (inl unread) = absurd unread.0.0
-accepted_of image image' sector s (inr read) = read.1
 
 pub found_ends : (image on image' : Device) (name : List ℕ) (sector : Option ℕ) (output : GName) (sink : Sink) (p new : Progress) (found : Super) (end : End) →
     Opened image on (starts output sink) p name sector (Ok found) → Followed (seen found) on image' p new end → Headline image image' name sector sink new.sink end
 found_ends image on image' name sector output sink p new found end o f =
     let answers = subst (λ r. Answers image on sector r) o.ends.1 o.answers in
-    follows image name sector output sink (seen found) (accepted_of image on sector (seen found) answers) p
+    follows image name sector output sink (seen found) (found_of image on sector (seen found) answers) p
     (subst (λ r. Said (starts output sink) p (opening_lines name sector r)) o.ends.1 o.ends.0) image' new end
     (subst (λ d. Followed (seen found) d image' p new end) (still_of image on sector (seen found) answers) f)
 
@@ -162,6 +169,9 @@ not_refused s image image' p new end fault (inr ran) e = elim ran.ends [
   | inl all ↦ not_by all.on new.defect fault (sym all.end_is ∙ e)
   | inr rest ↦ elim rest [
     | inl short ↦ (let w : ReadFault short.sector ≡ Refused fault = sym short.end_is ∙ e in cc)
-    | inr stop ↦ (let w : WriteFault ≡ Refused fault = sym stop.end_is ∙ e in cc)
+    | inr stops ↦ elim stops [
+      | inl stop ↦ (let w : WriteFault ≡ Refused fault = sym stop.end_is ∙ e in cc)
+      | inr inside ↦ (let w : WriteFault ≡ Refused fault = sym inside.end_is ∙ e in cc)
+    ]
   ]
 ]

@@ -16,12 +16,12 @@ use Rattle.ffs_volume.specs.Directories.Volumes.{volume_of}
 use Rattle.std.specs.Borrow.{GName}
 use Rattle.ffs_report.specs.Sink.{Sink, Took}
 use Rattle.ffs_report.specs.Progress.{Progress, Said, Stopped, starts}
-use Rattle.ffs_report.proofs.Reports.{stopped_more}
+use Rattle.ffs_report.proofs.Reports.{stopped_after, stopped_more}
 use Rattle.ffs_layout.specs.Super.{Answers}
 use Rattle.ffs_certificate.proofs.ReportLaws.{certified}
-use Rattle.ffs_check.specs.Opening.{Opened}
+use Rattle.ffs_check.specs.Opening.{Opened, OpeningStopped}
 use Rattle.ffs_check.specs.Headline.{is_completed, Certifies, opened_lines, Headline}
-use Rattle.ffs_check.proofs.Openings.{broke_off}
+use Rattle.ffs_check.proofs.Openings.{broke_off, broke_in_line}
 use Rattle.ffs_check.proofs.Endings.{at_reported, at_reported_is}
 
 -- ---- the report, in its parts
@@ -92,8 +92,9 @@ module _ (image image' : Device) (name : List ℕ) (sector : Option ℕ) (output
         text = head_lines name sector ++ at_reported image.contents (λ bytes. reported_of bytes (outcome bytes sector));
         is_report = λ bytes t. ap (λ more. head_lines name sector ++ more) (at_reported_is image.contents (λ bytes. reported_of bytes (outcome bytes sector)) bytes t) ∙ report_there bytes name sector (outcome bytes sector) refl;
         ends = inr (inl (record {
-          messages = head_lines name sector ++ (cannot_read image'.failed ∷ []);
-          said = record { faulted = unread.0.1; place = unread.1; lines = refl };
+          said = head_lines name sector;
+          line = cannot_read image'.failed;
+          cut = record { faulted = unread.0.1; place = unread.1; said_is = refl; line_is = refl };
           took = subst (λ f. Took sink p.sink (texts_of (head_lines name sector ++ (fault_line f ∷ [])))) there said.took;
           end_is = ap Refused there;
         }));
@@ -114,40 +115,50 @@ module _ (image image' : Device) (name : List ℕ) (sector : Option ℕ) (output
         });
       }
 
-  stopped : (found : Result Superblock SuperFault) → Answers image image' sector found → Stopped (starts output sink) p (opening_lines name sector found) → Headline image image' name sector sink p.sink WriteFault
-  stopped (Ok s) (inl unread) stop = absurd unread.0.0
-  stopped (Err fault) (inl unread) stop = record {
-    text = head_lines name sector ++ at_reported image.contents (λ bytes. reported_of bytes (outcome bytes sector));
-    is_report = λ bytes t. ap (λ more. head_lines name sector ++ more) (at_reported_is image.contents (λ bytes. reported_of bytes (outcome bytes sector)) bytes t) ∙ report_there bytes name sector (outcome bytes sector) refl;
-    ends = inr (inr (inr (inr (record {
-      messages = opening_lines name sector (Err fault);
-      would = inr (inl (record {
-        faulted = unread.0.1;
-        place = unread.1;
-        lines = ap (λ f. head_lines name sector ++ (fault_line f ∷ [])) unread.0.0;
-      }));
-      broke_off = broke_off output sink p (opening_lines name sector (Err fault)) stop;
-      end_is = refl;
-    }))));
-  }
-  stopped found (inr read) stop =
+  -- the output failed where no read had
+  stopped : (found : Result Superblock SuperFault) → OpeningStopped image image' (starts output sink) p name sector found → Headline image image' name sector sink p.sink WriteFault
+  stopped found stop =
       let text = opening_lines name sector found ++ at_reported image.contents (λ bytes. more_of bytes found) in
       record {
         text = text;
         is_report = λ bytes t. ap (λ more. opening_lines name sector found ++ more) (at_reported_is image.contents (λ bytes. more_of bytes found) bytes t)
-            ∙ opening_then bytes name sector found ∙ report_there bytes name sector found (read.1 bytes t);
-        ends = inr (inr (inr (inr (record {
-          messages = text;
-          would = inl (read.0, refl);
-          broke_off = broke_off output sink p text (stopped_more (starts output sink) p (opening_lines name sector found) (at_reported image.contents (λ bytes. more_of bytes found)) stop);
+            ∙ opening_then bytes name sector found ∙ report_there bytes name sector found (stop.outcome_is bytes t);
+        ends = inr (inr (inr (inr (inl (record {
+          unread = stop.unread;
+          broke_off = broke_off output sink p text (stopped_more (starts output sink) p (opening_lines name sector found) (at_reported image.contents (λ bytes. more_of bytes found)) stop.stopped);
           end_is = refl;
-        }))));
+        })))));
       }
+
+  -- the output failed in the line of a fault
+  stopped_in_line : (fault : SuperFault) → Answers image image' sector (Err fault) → (between : Progress) → Said (starts output sink) between (head_lines name sector) → Stopped between p (fault_line fault ∷ []) →
+      Headline image image' name sector sink p.sink WriteFault
+  stopped_in_line fault (inl unread) between said stop = record {
+    text = head_lines name sector ++ at_reported image.contents (λ bytes. reported_of bytes (outcome bytes sector));
+    is_report = λ bytes t. ap (λ more. head_lines name sector ++ more) (at_reported_is image.contents (λ bytes. reported_of bytes (outcome bytes sector)) bytes t) ∙ report_there bytes name sector (outcome bytes sector) refl;
+    ends = inr (inr (inr (inr (inr (record {
+      said = head_lines name sector;
+      line = fault_line fault;
+      cut = inl (record { faulted = unread.0.1; place = unread.1; said_is = refl; line_is = ap fault_line unread.0.0 });
+      between = between.sink;
+      took = said.took;
+      broke_off = broke_in_line output sink between p (head_lines name sector) (fault_line fault) said stop;
+      end_is = refl;
+    })))));
+  }
+  stopped_in_line fault (inr read) between said stop = stopped (Err fault) (record {
+    unread = read.0;
+    outcome_is = read.1;
+    stopped = stopped_after (starts output sink) between p (head_lines name sector) (fault_line fault ∷ []) said stop;
+  })
 
   -- the opening's answer
   pub opening_ends : (end : End) → Opened image image' (starts output sink) p name sector (Err end) → Headline image image' name sector sink p.sink end
   opening_ends (Refused fault) o = refused fault (subst (λ f. Answers image image' sector f) o.ends.1 o.answers) (subst (λ f. Said (starts output sink) p (opening_lines name sector f)) o.ends.1 o.ends.0)
-  opening_ends WriteFault o = stopped o.found o.answers o.ends
+  opening_ends WriteFault o = elim o.ends [
+    | inl stop ↦ stopped o.found stop
+    | inr stop ↦ stopped_in_line stop.fault (subst (λ f. Answers image image' sector f) stop.found_is o.answers) stop.between stop.said stop.stopped
+  ]
   opening_ends Consistent o = absurd o.ends
   opening_ends Defects o = absurd o.ends
   opening_ends RootStop o = absurd o.ends

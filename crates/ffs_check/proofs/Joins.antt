@@ -1,16 +1,13 @@
 -- How the phases of a run join: a part of the text, and then the rest of it.
-use Rattle.std.specs.Prelude.{OnOk, IfOk}
-use Rattle.std.proofs.Common.{◌≡◌, refl, ℕ, List, [], ◌++◌, Result, Ok, Err}
+use Rattle.std.specs.Prelude.{OnOk}
+use Rattle.std.proofs.Common.{◌≡◌, refl, ℕ, List, ◌++◌, Result, Ok, Err}
 use Rattle.ffs_image.specs.Device.{Device}
 use Rattle.ffs_volume.specs.Disk.Superblock.{Superblock}
-use Rattle.ffs_volume.specs.Messages.Kinds.{Message}
 use Rattle.ffs_volume.specs.Report.Whole.{text_lines, later_lines}
-use Rattle.ffs_report.specs.Progress.{Progress}
 use Rattle.ffs_phase.specs.Known.{ForBytes}
-use Rattle.ffs_phase.specs.Runs.{ImageAfter, SaidOf, PhaseReports}
+use Rattle.ffs_phase.specs.Runs.{ImageAfter}
 use Rattle.ffs_phase.specs.declared.fault.RunFault.{RunFault}
 use Rattle.ffs_phase.specs.declared.fault.RunFault.TheVariants.{Read, Out}
-use Rattle.ffs_phase.proofs.Reporting.{of_begins, of_same, of_part, of_fault, of_last, said_knows, reports_knowing}
 use Rattle.ffs_check.specs.Rest.{first_part, scanned_lines}
 
 pub on_knows : (T : Type 0) (knows known P : List ℕ → Type 0) (r : Result T RunFault) → ForBytes knows known → OnOk r (ForBytes known P) → OnOk r (ForBytes knows P)

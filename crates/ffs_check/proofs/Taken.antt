@@ -5,7 +5,6 @@ use Rattle.ffs_memory.specs.Account.{Account}
 use Rattle.ffs_volume.specs.declared.End.{End}
 use Rattle.ffs_volume.specs.declared.End.TheVariants.{Consistent, Defects, RootStop, ReadFault, WriteFault, NoMemory}
 use Rattle.ffs_volume.specs.Messages.Kinds.{Message}
-use Rattle.ffs_volume.specs.Report.Opening.{opening_lines}
 use Rattle.ffs_volume.specs.Disk.Outcome.{outcome}
 use Rattle.ffs_volume.specs.Report.Whole.{end_by}
 use Rattle.ffs_volume.specs.Disk.Superblock.{Superblock}
@@ -42,10 +41,13 @@ not_for_memory knows lines goes image image' old new end ran e = elim ran.ends [
   | inl all ↦ not_by all.on new.defect (sym all.end_is ∙ e)
   | inr rest ↦ elim rest [
     | inl short ↦ (let w : ReadFault short.sector ≡ NoMemory = sym short.end_is ∙ e in cc)
-    | inr stop ↦ (let w : WriteFault ≡ NoMemory = sym stop.end_is ∙ e in cc)
+    | inr stops ↦ elim stops [
+      | inl stop ↦ (let w : WriteFault ≡ NoMemory = sym stop.end_is ∙ e in cc)
+      | inr inside ↦ (let w : WriteFault ≡ NoMemory = sym inside.end_is ∙ e in cc)
+    ]
   ]
 ]
 
 -- nor does an opening
 pub opened_for_memory : (image on : Device) (old new : Progress) (name : List ℕ) (sector : Option ℕ) (end : End) → Opened image on old new name sector (Err end) → end ≡ NoMemory → ⊥
-opened_for_memory image on old new name sector end o e = subst (λ (x : End). OpeningSays old new (opening_lines name sector o.found) o.found (Err x)) e o.ends
+opened_for_memory image on old new name sector end o e = subst (λ (x : End). OpeningSays image on old new name sector o.found (Err x)) e o.ends

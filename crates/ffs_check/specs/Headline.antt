@@ -9,10 +9,8 @@ use Rattle.ffs_volume.specs.Disk.Outcome.{outcome}
 use Rattle.ffs_volume.specs.Consistent.Volume.{IsConsistent}
 use Rattle.ffs_volume.specs.Messages.Kinds.{Message, cannot_read, cannot_alloc, has_defect}
 use Rattle.ffs_volume.specs.Report.Opening.{head_lines, super_lines}
-use Rattle.ffs_volume.specs.Directories.PathnameCheck.{goes_on}
 use Rattle.ffs_volume.specs.Report.Whole.{report_of, report_end}
-use Rattle.ffs_volume.specs.Messages.Texts.{texts_of}
-use Rattle.ffs_volume.specs.Directories.Volumes.{volume_of}
+use Rattle.ffs_volume.specs.Messages.Texts.{text_of, texts_of}
 use Rattle.ffs_report.specs.Sink.{Sink, Took, BrokeOff}
 use Rattle.ffs_layout.specs.Super.{IsSuperSector}
 
@@ -36,80 +34,105 @@ abbrev pub opened_lines : List ℕ → Option ℕ → Superblock → List Messag
 opened_lines name sector s = head_lines name sector ++ super_lines s
 
 -- no read failed: the whole report was printed, its end is answered, and on an accepted superblock it certifies
-pub record Reported (image image' : Device) (sector : Option ℕ) (text : List Message) (out out' : Sink) (end : End) : Type 0 where
+pub record Reported (image image' : Device) (sector : Option ℕ) (text : List Message) (out out' : Sink) (end : End)
+    : Type 0 where
   pub unread : image' ≡ image
   pub took : Took out out' (texts_of text)
   pub completed : is_completed end ≡ true
   pub end_is : ForContents image.contents (λ bytes. end ≡ report_end bytes sector)
   pub certifies : ForContents image.contents (λ bytes. (s : Superblock) → outcome bytes sector ≡ Ok s → Certifies bytes s text end)
 
--- what is said where a read of the superblock, or of its last copy, failed: the opening line, and the line of the fault
-pub record IsCutAtSuper (image image' : Device) (name : List ℕ) (sector : Option ℕ) (messages : List Message) : Type 0 where
+-- a read of the superblock, or of its last copy, failed: what is said before the fault's line is the opening line
+pub record IsCutAtSuper (image image' : Device) (name : List ℕ) (sector : Option ℕ) (said : List Message)
+    (line : Message) : Type 0 where
   pub faulted : Faulted image image' image'.failed
   pub place : ForContents image.contents (λ bytes. IsSuperSector bytes sector image'.failed)
-  pub lines : messages ≡ head_lines name sector ++ (cannot_read image'.failed ∷ [])
+  pub said_is : said ≡ head_lines name sector
+  pub line_is : line ≡ cannot_read image'.failed
 
--- a read of the superblock, or of its last copy, failed
-pub record CutAtSuper (image image' : Device) (name : List ℕ) (sector : Option ℕ) (out out' : Sink) (end : End) : Type 0 where
-  pub messages : List Message
-  pub said : IsCutAtSuper image image' name sector messages
-  pub took : Took out out' (texts_of messages)
+-- a read of the superblock, or of its last copy, failed, and that was printed
+pub record CutAtSuper (image image' : Device) (name : List ℕ) (sector : Option ℕ) (out out' : Sink) (end : End)
+    : Type 0 where
+  pub said : List Message
+  pub line : Message
+  pub cut : IsCutAtSuper image image' name sector said line
+  pub took : Took out out' (texts_of (said ++ (line ∷ [])))
   pub end_is : end ≡ Refused (CannotRead image'.failed)
 
--- what is said where a later read failed: whole messages of the report, through the mount line at least, and then the line of
--- the fault. Where the run continues after the root, messages are missing: the summary at least, which reads nothing
-pub record IsCutBehind (image image' : Device) (name : List ℕ) (sector : Option ℕ) (text messages : List Message) : Type 0 where
+-- a later read failed: what is said before the fault's line is the opening, through the mount line, and whole messages of the
+-- report. Messages are missing: no read fails after the report's last one
+pub record IsCutLater (image image' : Device) (name : List ℕ) (sector : Option ℕ) (text said : List Message)
+    (line : Message) : Type 0 where
   pub faulted : Faulted image image' image'.failed
   pub found : Superblock
   pub accepted : ForContents image.contents (λ bytes. outcome bytes sector ≡ Ok found)
   pub prefix : List Message
   pub rest : List Message
-  pub whole : opened_lines name sector found ++ (prefix ++ rest) ≡ text
-  pub more : ForContents image.contents (λ bytes. goes_on (volume_of found.layout bytes) ≡ true → 0 < length rest)
-  pub lines : messages ≡ opened_lines name sector found ++ (prefix ++ (cannot_read image'.failed ∷ []))
+  pub said_is : said ≡ opened_lines name sector found ++ prefix
+  pub whole : said ++ rest ≡ text
+  pub more : ForContents image.contents (λ bytes. 0 < length rest)
+  pub line_is : line ≡ cannot_read image'.failed
 
--- a later read failed
-pub record CutBehind (image image' : Device) (name : List ℕ) (sector : Option ℕ) (text : List Message) (out out' : Sink) (end : End) : Type 0 where
-  pub messages : List Message
-  pub said : IsCutBehind image image' name sector text messages
-  pub took : Took out out' (texts_of messages)
+-- a later read failed, and that was printed
+pub record CutLater (image image' : Device) (name : List ℕ) (sector : Option ℕ) (text : List Message)
+    (out out' : Sink) (end : End) : Type 0 where
+  pub said : List Message
+  pub line : Message
+  pub cut : IsCutLater image image' name sector text said line
+  pub took : Took out out' (texts_of (said ++ (line ∷ [])))
   pub end_is : end ≡ ReadFault image'.failed
 
--- what is said where the memory of the check is refused: the opening through the mount line, and that
-pub record IsUnstarted (image image' : Device) (name : List ℕ) (sector : Option ℕ) (messages : List Message) : Type 0 where
+-- the memory of the check is refused: what is said before that is the opening, through the mount line
+pub record IsUnstarted (image image' : Device) (name : List ℕ) (sector : Option ℕ) (said : List Message)
+    (line : Message) : Type 0 where
   pub unread : image' ≡ image
   pub found : Superblock
   pub accepted : ForContents image.contents (λ bytes. outcome bytes sector ≡ Ok found)
-  pub lines : messages ≡ opened_lines name sector found ++ (cannot_alloc ∷ [])
+  pub said_is : said ≡ opened_lines name sector found
+  pub line_is : line ≡ cannot_alloc
 
--- the memory of the check was refused
-pub record Unstarted (image image' : Device) (name : List ℕ) (sector : Option ℕ) (out out' : Sink) (end : End) : Type 0 where
-  pub messages : List Message
-  pub said : IsUnstarted image image' name sector messages
-  pub took : Took out out' (texts_of messages)
+-- the memory of the check was refused, and that was printed
+pub record Unstarted (image image' : Device) (name : List ℕ) (sector : Option ℕ) (out out' : Sink) (end : End)
+    : Type 0 where
+  pub said : List Message
+  pub line : Message
+  pub cut : IsUnstarted image image' name sector said line
+  pub took : Took out out' (texts_of (said ++ (line ∷ [])))
   pub end_is : end ≡ NoMemory
 
--- what a run says whose output takes all: the whole report, or what a failed read or a refused memory leaves of it
-abbrev pub WouldSay : Device → Device → List ℕ → Option ℕ → List Message → List Message → Type 0
-WouldSay image image' name sector text messages =
-    ((image' ≡ image) × (messages ≡ text))
-    ⊎ (IsCutAtSuper image image' name sector messages
-    ⊎ (IsCutBehind image image' name sector text messages
-    ⊎ IsUnstarted image image' name sector messages))
+-- a read failed or the memory was refused: what is said before the line that says so
+abbrev pub IsCutShort : Device → Device → List ℕ → Option ℕ → List Message → List Message → Message → Type 0
+IsCutShort image image' name sector text said line =
+    IsCutAtSuper image image' name sector said line
+    ⊎ (IsCutLater image image' name sector text said line
+    ⊎ IsUnstarted image image' name sector said line)
 
--- the output failed: a prefix of the bytes that the run would print went out, and nothing more
-pub record BrokenOff (image image' : Device) (name : List ℕ) (sector : Option ℕ) (text : List Message) (out out' : Sink) (end : End) : Type 0 where
-  pub messages : List Message
-  pub would : WouldSay image image' name sector text messages
-  pub broke_off : BrokeOff out out' (texts_of messages)
+-- the output failed where no read had: a prefix of the report's bytes went out, and nothing more
+pub record BrokenOff (image image' : Device) (text : List Message) (out out' : Sink) (end : End) : Type 0 where
+  pub unread : image' ≡ image
+  pub broke_off : BrokeOff out out' (texts_of text)
+  pub end_is : end ≡ WriteFault
+
+-- a read failed or the memory was refused, and then the output failed in the line that says so: what is said before that line
+-- went out whole, then a prefix of the line, and nothing more
+pub record BrokenInLine (image image' : Device) (name : List ℕ) (sector : Option ℕ) (text : List Message)
+    (out out' : Sink) (end : End) : Type 0 where
+  pub said : List Message
+  pub line : Message
+  pub cut : IsCutShort image image' name sector text said line
+  pub between : Sink
+  pub took : Took out between (texts_of said)
+  pub broke_off : BrokeOff between out' (text_of line)
   pub end_is : end ≡ WriteFault
 
 -- the headline: `text` is the whole report where the image gives its bytes, and the run ends in one of these ways
-pub record Headline (image image' : Device) (name : List ℕ) (sector : Option ℕ) (out out' : Sink) (end : End) : Type 0 where
+pub record Headline (image image' : Device) (name : List ℕ) (sector : Option ℕ) (out out' : Sink) (end : End)
+    : Type 0 where
   pub text : List Message
   pub is_report : ForContents image.contents (λ bytes. text ≡ report_of bytes name sector)
   pub ends : Reported image image' sector text out out' end
       ⊎ (CutAtSuper image image' name sector out out' end
-      ⊎ (CutBehind image image' name sector text out out' end
+      ⊎ (CutLater image image' name sector text out out' end
       ⊎ (Unstarted image image' name sector out out' end
-      ⊎ BrokenOff image image' name sector text out out' end)))
+      ⊎ (BrokenOff image image' text out out' end
+      ⊎ BrokenInLine image image' name sector text out out' end))))

@@ -1,5 +1,5 @@
 -- What a run of the program prints, and its exit status, by the words after the program's name.
-use Rattle.std.specs.Prelude.{◌≡◌, ◌⊎◌, ℕ, List, [], ◌∷◌, ◌++◌, Option, Some, codes, ⊤}
+use Rattle.std.specs.Prelude.{◌≡◌, ◌⊎◌, ℕ, List, [], ◌∷◌, ◌++◌, Option, codes, ⊤}
 use Rattle.std.specs.Io.KnownBytes.{Keeps}
 use Rattle.ffs_image.specs.Device.{Device}
 use Rattle.ffs_volume.specs.declared.End.{End}

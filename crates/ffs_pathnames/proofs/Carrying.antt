@@ -22,6 +22,9 @@ use Rattle.ffs_volume.specs.Encodings.Kinds.{kind_at, is_dir_kind, is_empty_dir_
 use Rattle.ffs_workspace.specs.Lengths.{IsFor, inodes_of}
 use Rattle.ffs_workspace.proofs.KindLaws.{reports_at, suspect_is}
 use Rattle.ffs_maps.specs.Bits.{bits_of}
+use Rattle.ffs_phase.specs.declared.fault.RunFault.{RunFault}
+use Rattle.ffs_phase.specs.declared.fault.RunFault.TheVariants.{Read, Out}
+use Rattle.ffs_pathnames.specs.GoesOn.{AtReadFault}
 use Rattle.ffs_pathnames.specs.Before.{AreClear, IsBefore, root_said}
 use Rattle.ffs_workspace.specs.Leaves.{LeavesSurvey}
 use Rattle.ffs_pathnames.specs.Gathers.{marks_of}
@@ -39,6 +42,17 @@ on_all (Err e) P h = tt
 pub if_ok : {T E : Type 0} (r : Result T E) (P Q : T → Type 0) → ((x : T) → P x → Q x) → IfOk r P → IfOk r Q
 if_ok (Ok x) P Q f h = f x h
 if_ok (Err e) P Q f h = tt
+
+-- where a read failed
+pub at_fault : {T : Type 0} (r : Result T RunFault) (P : Type 0) → P → AtReadFault r P
+at_fault (Ok x) P h = tt
+at_fault (Err (Read fault)) P h = h
+at_fault (Err (Out fault)) P h = tt
+
+pub at_fault_more : {T : Type 0} (r : Result T RunFault) (P Q : Type 0) → (P → Q) → AtReadFault r P → AtReadFault r Q
+at_fault_more (Ok x) P Q f h = tt
+at_fault_more (Err (Read fault)) P Q f h = f h
+at_fault_more (Err (Out fault)) P Q f h = tt
 
 -- a survey leaves what the block check found
 pub claims_untouched : (v : Layout) (b : List ℕ) (old new : Workspace) → IsUntouched old new → HoldsClaims v b old → HoldsClaims v b new

@@ -1,8 +1,16 @@
--- Whether the run continues after the root.
-use Rattle.std.specs.Prelude.{Bool, true, false}
+-- Whether the run continues after the root, and what that says of a read that failed.
+use Rattle.std.specs.Prelude.{Bool, true, false, Result, Ok, Err, ⊤}
+use Rattle.ffs_phase.specs.declared.fault.RunFault.{RunFault}
+use Rattle.ffs_phase.specs.declared.fault.RunFault.TheVariants.{Read, Out}
 use Rattle.ffs_pathnames.specs.declared.phase.Root.{Root}
 use Rattle.ffs_pathnames.specs.declared.phase.Root.TheVariants.{Go, Stop}
 
 abbrev pub is_go : Root → Bool
 is_go Go = true
 is_go Stop = false
+
+-- what holds where a read of the image failed
+abbrev pub AtReadFault : {T : Type 0} → Result T RunFault → Type 0 → Type 0
+AtReadFault (Ok x) P = ⊤
+AtReadFault (Err (Read fault)) P = P
+AtReadFault (Err (Out fault)) P = ⊤

@@ -1,5 +1,5 @@
 // Paths of entries and of directories.
-ghost use Rattle.std.specs.Prelude.{◌≡◌, ◌*◌, ◌<◌, ◌≤◌, ℕ, List, Some, Option, IfOk, OnOk, IfErr, IfSome, option_map, length};
+ghost use Rattle.std.specs.Prelude.{◌≡◌, ◌*◌, ◌<◌, ◌≤◌, ℕ, List, Some, Option, IfOk, OnOk, IfErr, option_map};
 ghost use Rattle.ffs_image.specs.Device.{Faulted};
 ghost use Rattle.ffs_volume.specs.Directories.Parents.{graph_of};
 ghost use Rattle.ffs_volume.specs.Directories.Volumes.{volume_of};
@@ -28,7 +28,6 @@ pub fn path_text<I: Image>(
         ≤ (I.device image.old).size }
     requires windows { HoldWindows geometry.now.layout (I.device image.old).contents workspace.old }
     requires number { dir < geometry.now.layout.ncg * geometry.now.layout.ipg }
-    requires name { IfSome name (λ n. length n.now ≤ 255) }
     ensures path { OnOk result ((b : List ℕ) → (I.device image.old).contents ≡ Some b
         → HoldsClaims geometry.now.layout b workspace.old
         → HoldsSurvey geometry.now.layout b workspace.old →

@@ -1,16 +1,16 @@
 //! Phase 2: pathnames (fsck(8)).
 
-ghost use Rattle.std.specs.Prelude.{◌≡◌, ◌*◌, ◌≤◌, ◌∷◌, ℕ, List, Bool, true, false, OnOk, IfOk, map};
+ghost use Rattle.std.specs.Prelude.{◌≡◌, ◌⊎◌, ◌*◌, ◌≤◌, [], ◌∷◌, ℕ, List, Bool, true, false, OnOk, IfOk, map};
 ghost use Rattle.ffs_phase.specs.Known.{IsContents, ForBytes};
 ghost use Rattle.ffs_phase.specs.Runs.{ImageAfter, PhaseReports};
-ghost use Rattle.ffs_report.specs.Progress.{progress};
+ghost use Rattle.ffs_report.specs.Progress.{Said, progress};
 ghost use Rattle.ffs_volume.specs.Messages.Kinds as messages;
 ghost use Rattle.ffs_volume.specs.Messages.Kinds.{of_names};
 ghost use Rattle.ffs_volume.specs.Directories.PathnameCheck.{goes_on, pathname_lines};
 ghost use Rattle.ffs_volume.specs.Directories.Volumes.{volume_of};
 ghost use Rattle.ffs_workspace.specs.Holds.{HoldsClaims, HoldsSurvey};
 ghost use Rattle.ffs_workspace.specs.Lengths.{IsFor, HoldWindows};
-ghost use Rattle.ffs_pathnames.specs.GoesOn.{is_go};
+ghost use Rattle.ffs_pathnames.specs.GoesOn.{AtReadFault, is_go};
 
 use crate::clear::clear_marks;
 use crate::tree::check_tree;
@@ -53,6 +53,13 @@ pub fn phase2<I: Image, W: Output>(
         (λ b. IsContents (I.device image.old).contents b
         × HoldsClaims geometry.now.layout b workspace.old)
         (λ b. is_go root ≡ goes_on (volume_of geometry.now.layout b))) }
+
+    // Where a read failed, the heading alone was said, or the run continues after the root.
+    ensures fault { AtReadFault result (Said (progress W.sink report.old)
+        (progress W.sink report.new) (messages.phase2 ∷ [])
+        ⊎ ForBytes (λ b. IsContents (I.device image.old).contents b
+        × HoldsClaims geometry.now.layout b workspace.old)
+        (λ b. goes_on (volume_of geometry.now.layout b) ≡ true)) }
     ensures holds { OnOk result (ForBytes
         (λ b. IsContents (I.device image.old).contents b
         × HoldsClaims geometry.now.layout b workspace.old)

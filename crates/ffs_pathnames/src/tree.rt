@@ -1,5 +1,5 @@
 // The pathname check of the root, and of one directory after another.
-ghost use Rattle.std.specs.Prelude.{suc, ◌≡◌, ◌-◌, ◌*◌, ◌==◌, ◌<◌, ◌≤◌, ℕ, List, OnOk, IfOk, map, slice_index};
+ghost use Rattle.std.specs.Prelude.{suc, ◌≡◌, ◌-◌, ◌*◌, ◌==◌, ◌<◌, ◌≤◌, ℕ, true, List, OnOk, IfOk, map, slice_index};
 ghost use Rattle.ffs_phase.specs.Known.{ForBytes};
 ghost use Rattle.ffs_phase.specs.Runs.{ImageAfter, PhaseReports};
 ghost use Rattle.ffs_report.specs.Progress.{progress};
@@ -10,7 +10,7 @@ ghost use Rattle.ffs_workspace.specs.Holds.{bool_at};
 ghost use Rattle.ffs_workspace.specs.Lengths.{IsFor, HoldWindows, inodes_of};
 ghost use Rattle.ffs_pathnames.specs.Before.{IsBefore};
 ghost use Rattle.ffs_workspace.specs.Leaves.{LeavesSurvey};
-ghost use Rattle.ffs_pathnames.specs.GoesOn.{is_go};
+ghost use Rattle.ffs_pathnames.specs.GoesOn.{AtReadFault, is_go};
 
 use crate::check::check_directory;
 use crate::phase::Root;
@@ -125,6 +125,11 @@ pub fn check_tree<I: Image, W: Output>(
     ensures goes { IfOk result (λ root. ForBytes
         (λ b. IsBefore geometry.now.layout (I.device image.old).contents workspace.old 2 b)
         (λ b. is_go root ≡ goes_on (volume_of geometry.now.layout b))) }
+
+    // A read failed only where the run continues after the root.
+    ensures fault { AtReadFault result (ForBytes
+        (λ b. IsBefore geometry.now.layout (I.device image.old).contents workspace.old 2 b)
+        (λ b. goes_on (volume_of geometry.now.layout b) ≡ true)) }
     ensures survey { LeavesSurvey workspace.old workspace.new }
     ensures made { IsFor geometry.now.layout workspace.new }
     ensures windows { HoldWindows geometry.now.layout (I.device image.new).contents workspace.new }

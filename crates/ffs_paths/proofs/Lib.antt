@@ -1,4 +1,5 @@
 pub mod Ends
+pub mod Rooms
 pub mod Single
 pub mod Tails
 pub mod Ways

@@ -38,7 +38,7 @@ last-length : (names : List (List ℕ)) (name : List ℕ) → length (joined (na
 last-length names name = ap length (joined-last names name) ∙ length-append (joined names) (47 ∷ name)
 
 -- the longest end of names with one more
-pub end-last : (names : List (List ℕ)) (name : List ℕ) → length name ≤ 255 → longest_end 1023 (names ++ name ∷ []) ≡ longest_end (1022 - length name) names ++ name ∷ []
+pub end-last : (names : List (List ℕ)) (name : List ℕ) → length name ≤ 1022 → longest_end 1023 (names ++ name ∷ []) ≡ longest_end (1022 - length name) names ++ name ∷ []
 unfolding longest_end
 end-last [] name h = let l = joined-length name [] in end-all 1023 name [] (omega arith)
 end-last (x ∷ names) name h =
@@ -46,6 +46,14 @@ end-last (x ∷ names) name h =
     le_or (length (joined (x ∷ names))) (1022 - length name) (longest_end 1023 (x ∷ names ++ name ∷ []) ≡ longest_end (1022 - length name) (x ∷ names) ++ name ∷ [])
     (λ fits. end-all 1023 x (names ++ name ∷ []) (omega arith) ∙ ap (λ xs. xs ++ name ∷ []) (sym (end-all (1022 - length name) x names fits)))
     (λ over. end-more 1023 x (names ++ name ∷ []) (omega arith) ∙ (end-last names name h ∙ ap (λ xs. xs ++ name ∷ []) (sym (end-more (1022 - length name) x names over))))
+
+-- a name that is longer than that has no room
+end-past : (names : List (List ℕ)) (name : List ℕ) → 1022 < length name → longest_end 1023 (names ++ name ∷ []) ≡ []
+unfolding longest_end
+end-past [] name h = let l = joined-length name [] in end-more 1023 name [] (omega arith)
+end-past (x ∷ names) name h =
+    let l = last-length (x ∷ names) name in
+    end-more 1023 x (names ++ name ∷ []) (omega arith) ∙ end-past names name h
 
 -- ---- a search for a `/`
 -- it passes a name that has none
@@ -112,13 +120,20 @@ entry-whole names name start bytes low size whole room =
     ap (λ b. if b then 63 ∷ joined (longest_end 1023 (names ++ name ∷ [])) else joined (names ++ name ∷ [])) (under_is (length (joined (names ++ name ∷ []))) (omega arith))
     ∙ (joined-last names name ∙ ap (λ xs. xs ++ 47 ∷ name) (sym whole))
 
-entry-cut : (names : List (List ℕ)) (name : List ℕ) → length name ≤ 255 → 1024 < length (joined names) + suc (length name)
+entry-cut : (names : List (List ℕ)) (name : List ℕ) → length name ≤ 1022 → 1024 < length (joined names) + suc (length name)
     → path_text (names ++ name ∷ []) ≡ 63 ∷ (joined (longest_end (1022 - length name) names) ++ 47 ∷ name)
 unfolding path_text
 entry-cut names name short over =
     let l = last-length names name in
     ap (λ b. if b then 63 ∷ joined (longest_end 1023 (names ++ name ∷ [])) else joined (names ++ name ∷ [])) (over_is (length (joined (names ++ name ∷ []))) (omega arith))
     ∙ ap (λ xs. 63 ∷ xs) (ap joined (end-last names name short) ∙ joined-last (longest_end (1022 - length name) names) name)
+
+pub entry-past : (names : List (List ℕ)) (name : List ℕ) → 1022 < length name → 1024 < length (joined names) + suc (length name) → path_text (names ++ name ∷ []) ≡ 63 ∷ []
+unfolding path_text
+entry-past names name long over =
+    let l = last-length names name in
+    ap (λ b. if b then 63 ∷ joined (longest_end 1023 (names ++ name ∷ [])) else joined (names ++ name ∷ [])) (over_is (length (joined (names ++ name ∷ []))) (omega arith))
+    ∙ ap (λ ns. 63 ∷ joined ns) (end-past names name long)
 
 end_single : (most : ℕ) (names : List (List ℕ)) → AreSingle names → AreSingle (longest_end most names)
 unfolding longest_end
@@ -138,7 +153,7 @@ tail_at names short from bytes after low size held single =
     ap (λ i. drop i bytes) (omega arith) ∙ (sym (drop-drop (from - short) short bytes) ∙ ap (drop (from - short)) held) in
     ap from_slash there ∙ (slash_end names (from - short) single ∙ ap (λ i. joined (longest_end i names)) (omega arith))
 
-pub entry-tail : (names : List (List ℕ)) (name : List ℕ) (short start : ℕ) (bytes : List ℕ) → length name ≤ 255 → short ≤ 1024 → length bytes ≡ 1024
+pub entry-tail : (names : List (List ℕ)) (name : List ℕ) (short start : ℕ) (bytes : List ℕ) → length name ≤ 1022 → short ≤ 1024 → length bytes ≡ 1024
     → drop short bytes ≡ joined (longest_end 1023 names) → AreSingle names → 1024 < length (joined names) + suc (length name)
     → drop start bytes ≡ from_slash (drop (max short (length name + 2)) bytes)
     → path_text (names ++ name ∷ []) ≡ 63 ∷ (drop start bytes ++ 47 ∷ name)

@@ -1,5 +1,5 @@
 -- The way from a directory up to the root.
-use Rattle.std.proofs.Common.{◌≡◌, ◌≢◌, ℕ, zero, suc, ◌+◌, ◌<◌, ◌==◌, true, false, List, [], ◌∷◌, ◌++◌, drop, Option, Some, None, refl, sym, ap, subst, ◌∙◌, arith}
+use Rattle.std.proofs.Common.{◌≡◌, ◌≢◌, ℕ, zero, suc, ◌+◌, ◌<◌, ◌≤◌, ◌==◌, true, false, List, [], ◌∷◌, ◌++◌, length, drop, Option, Some, None, refl, sym, ap, subst, ◌∙◌, arith}
 use Rattle.std.specs.Prelude.{◌*◌, is_some, cond, option_map, option_and_then}
 use Rattle.std.specs.List.{list_any}
 use Rattle.std.proofs.lemmas.List.{drop_all}
@@ -14,11 +14,13 @@ use Rattle.ffs_volume.specs.Directories.Paths.{joined, names_down, names_above, 
 use Rattle.ffs_survey.specs.ParentLaws.{parent_above, root_level}
 use Rattle.ffs_paths.specs.declared.buffer.PathBuffer.{PathBuffer}
 use Rattle.ffs_paths.specs.Buffers.{HoldsNames}
-use Rattle.ffs_paths.specs.Climbing.{name_in}
+use Rattle.ffs_volume.proofs.PathBound.{path_text-fits}
+use Rattle.ffs_paths.specs.Climbing.{in_room, name_in}
 use Rattle.ffs_paths.specs.DirectoryPaths.{HoldsPath, IsPathOf}
 use Rattle.ffs_paths.specs.Slashes.{AreSingle}
 use Rattle.ffs_paths.specs.declared.kept.DirectoryPath.{DirectoryPath}
 use Rattle.ffs_paths.proofs.Ends.{cut-more, end-none}
+use Rattle.ffs_paths.proofs.Rooms.{fits, fits_not}
 
 -- the first name, by the first entry
 pub name_in-here : (d : ℕ) (e : RoledEntry) (es : List RoledEntry) → names d e ≡ true → name_in d (e ∷ es) ≡ e.entry.name
@@ -159,21 +161,30 @@ put_lost g d p text h r e = go (dir_names g d) h
     go (Some names) k = absurd (both_ways _ r k.0)
 
 pub entry_is : (g : Graph) (d : ℕ) (name : List ℕ) (p : DirectoryPath) (text : List ℕ) → IsPathOf g d p → p.reached ≡ true
-    → ((names : List (List ℕ)) → HoldsNames p.names names → AreSingle names → text ≡ path_text (names ++ name ∷ [])) → text ≡ entry_path g d name
+    → ((names : List (List ℕ)) → HoldsNames p.names names → AreSingle names → text ≡ path_text (names ++ name ∷ [])) → text ≡ in_room (entry_path g d name)
 unfolding entry_path
 entry_is g d name p text h r f = go (dir_names g d) h
   where
-    go : (o : Option (List (List ℕ))) → HoldsPath p o → text ≡ entry_text name o
+    go : (o : Option (List (List ℕ))) → HoldsPath p o → text ≡ in_room (entry_text name o)
     go None k = absurd (both_ways _ k r)
-    go (Some names) k = f names k.1 k.2
+    go (Some names) k = f names k.1 k.2 ∙ fits (path_text (names ++ name ∷ [])) (path_text-fits (names ++ name ∷ []))
 
-pub entry_lost : (g : Graph) (d : ℕ) (name : List ℕ) (p : DirectoryPath) (text : List ℕ) → IsPathOf g d p → p.reached ≡ false → text ≡ 63 ∷ 47 ∷ name → text ≡ entry_path g d name
+-- of a directory that is not reached
+lost_by : (g : Graph) (d : ℕ) (name : List ℕ) (p : DirectoryPath) (text : List ℕ) → IsPathOf g d p → p.reached ≡ false → text ≡ in_room (63 ∷ 47 ∷ name) → text ≡ in_room (entry_path g d name)
 unfolding entry_path
-entry_lost g d name p text h r e = go (dir_names g d) h
+lost_by g d name p text h r e = go (dir_names g d) h
   where
-    go : (o : Option (List (List ℕ))) → HoldsPath p o → text ≡ entry_text name o
+    go : (o : Option (List (List ℕ))) → HoldsPath p o → text ≡ in_room (entry_text name o)
     go None k = e
     go (Some names) k = absurd (both_ways _ r k.0)
+
+pub entry_lost : (g : Graph) (d : ℕ) (name : List ℕ) (p : DirectoryPath) (text : List ℕ) → IsPathOf g d p → p.reached ≡ false → length name ≤ 1022 → text ≡ 63 ∷ 47 ∷ name
+    → text ≡ in_room (entry_path g d name)
+entry_lost g d name p text h r short e = lost_by g d name p text h r (e ∙ fits (63 ∷ 47 ∷ name) (omega arith))
+
+pub entry_long : (g : Graph) (d : ℕ) (name : List ℕ) (p : DirectoryPath) (text : List ℕ) → IsPathOf g d p → p.reached ≡ false → 1022 < length name → text ≡ 63 ∷ []
+    → text ≡ in_room (entry_path g d name)
+entry_long g d name p text h r long e = lost_by g d name p text h r (e ∙ fits_not (63 ∷ 47 ∷ name) (omega arith))
 
 pub level_of : (g : Graph) (d : ℕ) → reached g d ≡ true → (k : ℕ) × (level g d ≡ Some k)
 level_of g d h = go (level g d) refl h

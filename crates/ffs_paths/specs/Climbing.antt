@@ -1,5 +1,5 @@
 -- What a climb to the root reads, and the path that it gives.
-use Rattle.std.specs.Prelude.{◌≡◌, ◌*◌, ℕ, List, Option, Some, None, option_and_then, vec_len, slice_index}
+use Rattle.std.specs.Prelude.{◌≡◌, ◌*◌, ℕ, nat_lt, if◌then◌else◌, List, [], ◌∷◌, length, Option, Some, None, option_and_then, vec_len, slice_index}
 use Rattle.std.specs.Option.{unwrap_or}
 use Rattle.ffs_volume.specs.declared.Layout.{Layout}
 use Rattle.ffs_volume.specs.Directories.Graph.{Graph, names, first_place, parent}
@@ -29,7 +29,12 @@ pub record LeadUp (v : Layout) (b cut parents : List ℕ) : Type 0 where
   pub cuts : (x : ℕ) → slice_index cut x ≡ cut_at v b x
   pub above : (x : ℕ) → slice_index parents x ≡ unwrap_or (parent (graph_of (volume_of v b)) x) 0
 
+-- a path of more than 1,024 bytes has no room, and `?` takes its place. No other than that of an entry of a directory that is
+-- not reached is so long, where the name has more than 1,022 bytes
+abbrev pub in_room : List ℕ → List ℕ
+in_room path = if nat_lt 1024 (length path) then 63 ∷ [] else path
+
 -- the path of a directory, or of an entry of it
 abbrev pub path_in : Graph → ℕ → Option (List ℕ) → List ℕ
 path_in g d None = dir_path g d
-path_in g d (Some name) = entry_path g d name
+path_in g d (Some name) = in_room (entry_path g d name)

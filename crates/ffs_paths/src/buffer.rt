@@ -8,6 +8,9 @@ use arrayvec::ArrayVec;
 /// The text of a path.
 pub type PathText = ArrayVec<u8, 1024>;
 
+/// The bytes of the longest name that has room after `?/`.
+pub const LONGEST_NAME: usize = 1022;
+
 /// The names of a path, each after a `/`, as far as they are known: the last one first.
 ///
 /// Where they take more than 1,024 bytes it keeps the longest end of whole names of at most 1,023 bytes.
@@ -120,11 +123,10 @@ impl PathBuffer {
                 .unwrap();
         }
     }
-    /// Writes the path with a name more at its end, which has one byte to 255: all names where they have room, else `?` and
-    /// their longest end of at most 1,023 bytes.
+    /// Writes the path with a name more at its end: all names where they have room, else `?` and their longest end of at most
+    /// 1,023 bytes, which is none where that name alone is longer.
     pub fn put_with(&self, name: &[u8], text: &mut PathText)
-        requires empty { text.old.items ≡ [] }
-        requires name { length name.now ≤ 255 }
+        requires { text.old.items ≡ [] }
         ensures { (names : List (List ℕ)) → HoldsNames self.now names → AreSingle names
             → text.new.items ≡ path_text (names ++ name.now ∷ []) }
     {
@@ -133,6 +135,9 @@ impl PathBuffer {
             return;
         }
         text.push(b'?');
+        if name.len() > LONGEST_NAME {
+            return;
+        }
         let start = slash_from(&self.bytes, self.short.max(name.len() + 2));
         put_from(&self.bytes, start, name, text);
     }

@@ -1,8 +1,8 @@
 //! The path of a directory, kept for all lines on it and on its entries.
 
-ghost use Rattle.std.specs.Prelude.{◌≡◌, ◌≤◌, ℕ, [], length};
+ghost use Rattle.std.specs.Prelude.{◌≡◌, ℕ, []};
 
-use crate::buffer::{PathBuffer, PathText};
+use crate::buffer::{LONGEST_NAME, PathBuffer, PathText};
 
 /// The path of a directory: the names from the root down to it, if it is reached.
 #[derive(Drop)]
@@ -14,6 +14,7 @@ pub struct DirectoryPath {
 impl DirectoryPath {
     ghost use Rattle.ffs_volume.specs.Directories.Graph.{Graph};
     ghost use Rattle.ffs_volume.specs.Directories.Paths.{dir_path, entry_path};
+    ghost use Rattle.ffs_paths.specs.Climbing.{in_room};
     ghost use Rattle.ffs_paths.specs.DirectoryPaths.{IsPathOf};
 
     /// Writes the path of the directory: `?` where it is not reached.
@@ -29,18 +30,21 @@ impl DirectoryPath {
         }
     }
 
-    /// Writes the path of an entry of the directory: leading names are dropped where 1,024 bytes don't hold all.
+    /// Writes the path of an entry of the directory: leading names are dropped where 1,024 bytes don't hold all, and the
+    /// entry's own where they don't hold it.
     pub fn put_entry(&self, name: &[u8], text: &mut PathText)
-        requires empty { text.old.items ≡ [] }
-        requires name { length name.now ≤ 255 }
+        requires { text.old.items ≡ [] }
         ensures { (g : Graph) (dir : ℕ) → IsPathOf g dir self.now → text.new.items
-            ≡ entry_path g dir name.now }
+            ≡ in_room (entry_path g dir name.now) }
     {
         if self.reached {
             self.names.put_with(name, text);
             return;
         }
         text.push(b'?');
+        if name.len() > LONGEST_NAME {
+            return;
+        }
         text.push(b'/');
         text.try_extend_from_slice(name).unwrap();
     }

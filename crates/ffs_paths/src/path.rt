@@ -1,6 +1,6 @@
 //! The path of a directory, or of an entry of it.
 
-ghost use Rattle.std.specs.Prelude.{◌≡◌, ◌*◌, ◌<◌, ◌≤◌, ℕ, List, Some, length, Option, option_map, IfOk, OnOk, IfErr, IfSome};
+ghost use Rattle.std.specs.Prelude.{◌≡◌, ◌*◌, ◌<◌, ◌≤◌, ℕ, List, Some, Option, option_map, IfOk, OnOk, IfErr};
 ghost use Rattle.ffs_image.specs.Device.{Faulted};
 ghost use Rattle.ffs_volume.specs.Directories.Parents.{graph_of};
 ghost use Rattle.ffs_volume.specs.Directories.Volumes.{volume_of};
@@ -77,7 +77,6 @@ pub fn path_of<I: Image>(
         ≤ (I.device image.old).size }
     requires windows { HoldWindows geometry.now.layout (I.device image.old).contents workspace.old }
     requires number { dir < geometry.now.layout.ncg * geometry.now.layout.ipg }
-    requires name { IfSome name (λ n. length n.now ≤ 255) }
     ensures path { OnOk result ((b : List ℕ) → (I.device image.old).contents ≡ Some b
         → HoldsClaims geometry.now.layout b workspace.old
         → HoldsSurvey geometry.now.layout b workspace.old

@@ -1,4 +1,5 @@
 //! Paths about the limit of 1,024 bytes.
+use ffs_paths::DirectoryPath;
 use ffs_paths::buffer::{PathBuffer, PathText};
 
 fn written(path: &PathBuffer) -> PathText {
@@ -34,4 +35,34 @@ fn puts_names_in_front(rt: HostRuntime) {
     path.push_front(b"group");
     path.push_front(b"etc");
     assert_eq!(rt; written(&path).as_slice(), b"/etc/group".as_slice());
+}
+
+// The length of the path of an entry, and its first two bytes, or one.
+fn entry_written(path: &DirectoryPath, name: &[u8]) -> (usize, PathText) {
+    let mut text = PathText::new();
+    path.put_entry(name, &mut text);
+    let len = text.len();
+    text.truncate(2);
+    (len, text)
+}
+
+#[test]
+fn drops_a_name_that_has_no_room(rt: HostRuntime) {
+    let name = [b'a'; 1024];
+    let mut path = DirectoryPath {
+        reached: false,
+        names: PathBuffer::new(),
+    };
+    let (len, front) = entry_written(&path, &name[..1022]);
+    assert_eq!(rt; (len, front.as_slice()), (1024, b"?/".as_slice()));
+    let (len, front) = entry_written(&path, &name[..1023]);
+    assert_eq!(rt; (len, front.as_slice()), (1, b"?".as_slice()));
+    path.reached = true;
+    let (len, front) = entry_written(&path, &name[..1023]);
+    assert_eq!(rt; (len, front.as_slice()), (1024, b"/a".as_slice()));
+    let (len, front) = entry_written(&path, &name);
+    assert_eq!(rt; (len, front.as_slice()), (1, b"?".as_slice()));
+    path.names.push_front(b"b");
+    let (len, front) = entry_written(&path, &name[..1022]);
+    assert_eq!(rt; (len, front.as_slice()), (1024, b"?/".as_slice()));
 }

@@ -1,11 +1,11 @@
-use Rattle.std.proofs.Common.{◌≡◌, ◌∙◌, ◌∷◌, [], ◌++◌, refl, rules, ap, ap₂, codes, pos}
+use Rattle.std.proofs.Common.{◌≡◌, ◌∙◌, ◌∷◌, [], ◌++◌, rules, ap, ap₂, codes, pos}
 use Rattle.std.specs.Prelude.{Some, true, false}
 use Rattle.clap.specs.declared.builder.arg.Arg.{Arg}
 use Rattle.clap.specs.Words.{App, Rule, app_of, new_rule, rule_of, with_rule}
 use Rattle.clap.specs.declared.builder.ArgAction.TheVariants.{Count, Set}
 use Rattle.clap.specs.declared.builder.value_parser.ValueParser.TheVariants.{Signed}
 use Rattle.ffs_check.proofs.Asked.{lettered, parsed}
-use Rattle.ffs_check.specs.Words.{image_rule, no_rule, program, sector_rule, unnamed}
+use Rattle.ffs_check.specs.Words.{image_rule, no_rule, sector_rule, unnamed}
 use Rattle.ffs_check.proofs.words.command.Goals as goal
 
 pub returns-clause-made : goal.returns-clause-made

@@ -1,4 +1,4 @@
-use Rattle.std.proofs.Common.{◌≡◌, ◌∙◌, ℕ, List, [], Result, refl, ap, codes, sym, map}
+use Rattle.std.proofs.Common.{◌≡◌, ◌∙◌, [], refl, ap, codes, sym, map}
 use Rattle.std.specs.Prelude.{unwrap_or}
 use Rattle.std.specs.Str.Parse.{ParsesUnsigned, ExplainsUnsignedError, HasUnsignedDigitsIfOk}
 use Rattle.std.proofs.lemmas.Result.{err_from_is_err_and}

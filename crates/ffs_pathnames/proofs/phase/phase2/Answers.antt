@@ -1,11 +1,11 @@
-use Rattle.std.proofs.Common.{[], ◌∷◌, List, ℕ, map, refl, ap, ◌∙◌}
+use Rattle.std.proofs.Common.{[], ◌∷◌, List, ℕ, map, refl, ap, ◌∙◌, inl, inr}
 use Rattle.std.proofs.lemmas.Result.{err_from_is_err_and}
 use Rattle.ffs_phase.proofs.Reporting.{of_begins, of_says, of_stops, of_reads, of_last, reports_knowing}
 use Rattle.ffs_volume.specs.Messages.Kinds.{of_names, phase2}
 use Rattle.ffs_volume.specs.Directories.PathnameCheck.{pathname_lines}
 use Rattle.ffs_volume.specs.Directories.Volumes.{volume_of}
 use Rattle.ffs_pathnames.specs.declared.phase.Root.{Root}
-use Rattle.ffs_pathnames.proofs.Carrying.{on_all, if_ok, claims_untouched, before_first}
+use Rattle.ffs_pathnames.proofs.Carrying.{on_all, if_ok, at_fault, at_fault_more, claims_untouched, before_first}
 use Rattle.ffs_workspace.proofs.Leaving.{claims_left, survey_left}
 use Rattle.ffs_pathnames.proofs.phase.phase2.Goals as goal
 
@@ -16,6 +16,14 @@ returns-in_err-say-clause-text g c =
     let lines = λ (b : List ℕ). map of_names (pathname_lines (volume_of v b)) in
     let all = λ (b : List ℕ). phase2 ∷ map of_names (pathname_lines (volume_of v b)) in
     rw (p.1, p.2) (of_stops _ all lines _ (phase2 ∷ []) _ _ _ (of_begins _ all _) (λ b k. refl) c.in_err-say.ensures.said)
+
+pub returns-in_err-say-clause-fault : goal.returns-in_err-say-clause-fault
+returns-in_err-say-clause-fault g c =
+    let p = err_from_is_err_and c.from_residual.result c.from_residual.ensures.1 in
+    rw (p.1, p.2) tt
+
+pub returns-in_err-survey-clause-fault : goal.returns-in_err-survey-clause-fault
+returns-in_err-survey-clause-fault g c = at_fault c.from_residual-in_err-survey.result _ (inl c.in_ok-say.ensures.said)
 
 pub returns-in_err-survey-clause-text : goal.returns-in_err-survey-clause-text
 returns-in_err-survey-clause-text g c =
@@ -51,6 +59,17 @@ returns-clause-goes g c =
     (claims_left v b _ _ clear.survey (claims_untouched v b _ _ found.same k.1))
     (survey_left v b _ _ clear.survey (found.survey b k.0 k.1)) clear.made clear.clear))
     c.check_tree.ensures.goes
+
+pub returns-clause-fault : goal.returns-clause-fault
+returns-clause-fault g c =
+    let v = c.args.geometry.now.layout in
+    let found = c.in_ok-survey.ensures in
+    let clear = c.clear_marks.ensures in
+    at_fault_more c.check_tree.result _ _
+    (λ h. inr (λ b k. h b (before_first v _ b _ (ap (λ d. d.contents) found.ok ∙ k.0)
+    (claims_left v b _ _ clear.survey (claims_untouched v b _ _ found.same k.1))
+    (survey_left v b _ _ clear.survey (found.survey b k.0 k.1)) clear.made clear.clear)))
+    c.check_tree.ensures.fault
 
 pub returns-clause-holds : goal.returns-clause-holds
 returns-clause-holds g c =

@@ -1,6 +1,7 @@
 use Rattle.std.proofs.Common.{ap, ◌∙◌}
 use Rattle.ffs_volume.specs.Directories.Parents.{graph_of}
 use Rattle.ffs_volume.specs.Directories.Volumes.{volume_of}
+use Rattle.ffs_paths.proofs.Rooms.{entry_in_room}
 use Rattle.ffs_pathnames.proofs.Enough.{enough}
 use Rattle.ffs_pathnames.proofs.tell.gather.Goals as goal
 
@@ -10,5 +11,5 @@ returns-clause-enough g c = λ b dir t h r p l.
     let t1 = ap (λ x. x.contents) c.in_ok-gather_path.ensures.ok ∙ t in
     enough (volume_of v b) c.args.verdict.now dir c.args.entry.now.number c.args.entry.now.name.now c.in_ok-attr.attr c.put_entry.new.text.items c.gather_path.new.text.items
     (λ q. c.in_ok-attr.ensures.attr b t1 (c.asks-wants_attr.ensures.attr ∙ q))
-    (c.put_entry.ensures (graph_of (volume_of v b)) dir p)
+    (c.put_entry.ensures (graph_of (volume_of v b)) dir p ∙ entry_in_room (graph_of (volume_of v b)) dir c.args.entry.now.name.now c.requires.name)
     (λ q. c.in_ok-gather_path.ensures.path b t h r (c.asks-wants_attr.ensures.directory ∙ q) (l q))

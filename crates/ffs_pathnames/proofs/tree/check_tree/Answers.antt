@@ -8,7 +8,7 @@ use Rattle.ffs_volume.specs.Directories.Volumes.{volume_of}
 use Rattle.ffs_volume.specs.Encodings.Kinds.{is_dir_kind}
 use Rattle.ffs_workspace.specs.Lengths.{inodes_of}
 use Rattle.ffs_pathnames.specs.Before.{root_said}
-use Rattle.ffs_pathnames.proofs.Carrying.{goes_is, tree_is, tree_lines}
+use Rattle.ffs_pathnames.proofs.Carrying.{at_fault, goes_is, tree_is, tree_lines}
 use Rattle.ffs_pathnames.proofs.tree.check_tree.Goals as goal
 
 pub returns-in_err-report_root-clause-text : goal.returns-in_err-report_root-clause-text
@@ -20,6 +20,11 @@ returns-in_err-report_root-clause-text g c =
     rw (p.1, p.2) (of_stops _ all (λ b. map of_names (tree_lines v b (is_dir_kind c.root_kind-kind.result))) _
     (map of_names (root_said c.root_kind-kind.result c.is_root_marked.result)) _ _ _ (of_begins _ all _)
     (λ b k. tree_is v b w _ _ (is_dir_kind c.root_kind-kind.result) c.root_kind-kind.ensures c.is_root_marked.ensures k.claims refl) c.in_err-report_root.ensures)
+
+pub returns-in_err-report_root-clause-fault : goal.returns-in_err-report_root-clause-fault
+returns-in_err-report_root-clause-fault g c =
+    let p = err_from_is_err_and c.from_residual.result c.from_residual.ensures.1 in
+    rw (p.1, p.2) tt
 
 pub returns-in-Stop-clause-text : goal.returns-in-Stop-clause-text
 returns-in-Stop-clause-text g c =
@@ -44,6 +49,11 @@ returns-in_err-check_inodes-in-Go-clause-text g c =
     (λ b k. tree_is v b w _ _ true c.root_kind-kind.ensures c.is_root_marked.ensures k.claims c.in-Go.ensures) c.in_ok-report_root.ensures)
     (λ b k. sym (append-nil (part b)))
     c.in_err-check_inodes-in-Go.ensures.text)
+
+pub returns-in_err-check_inodes-in-Go-clause-fault : goal.returns-in_err-check_inodes-in-Go-clause-fault
+returns-in_err-check_inodes-in-Go-clause-fault g c =
+    at_fault c.from_residual-in_err-check_inodes-in-Go.result _
+    (λ b k. sym (c.in-Go.ensures ∙ goes_is c.args.geometry.now.layout b c.args.workspace.now _ c.root_kind-kind.ensures k.claims))
 
 pub returns-in_ok-check_inodes-in-Go-clause-text : goal.returns-in_ok-check_inodes-in-Go-clause-text
 returns-in_ok-check_inodes-in-Go-clause-text g c =
