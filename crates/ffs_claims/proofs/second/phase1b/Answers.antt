@@ -51,7 +51,7 @@ loop-number-init g c =
       };
       device = refl;
       windows = record { table = c.requires.windows.table; blocks = c.requires.windows.blocks; chunk = c.requires.windows.chunk };
-      claims = record { claimed = refl; kinds = refl; cut = refl };
+      claims = record { claimed = refl; kinds = refl; cut = refl; seen = refl };
       low = omega arith;
       high = λ h. omega arith;
       runs = λ bytes k. omega arith;
@@ -134,7 +134,7 @@ loop-number-preserved g c =
       made = c.renumbered.ensures.made;
       device = c.in_ok-renumbered.ensures.image ∙ inv.device;
       windows = rw (c.in_ok-renumbered.ensures.image, inv.device) at c.renumbered.ensures.windows;
-      claims = record { claimed = c.renumbered.ensures.claims.claimed ∙ inv.claims.claimed; kinds = c.renumbered.ensures.claims.kinds ∙ inv.claims.kinds; cut = c.renumbered.ensures.claims.cut ∙ inv.claims.cut };
+      claims = record { claimed = c.renumbered.ensures.claims.claimed ∙ inv.claims.claimed; kinds = c.renumbered.ensures.claims.kinds ∙ inv.claims.kinds; cut = c.renumbered.ensures.claims.cut ∙ inv.claims.cut; seen = c.renumbered.ensures.claims.seen ∙ inv.claims.seen };
       low = omega arith;
       high = λ h. omega arith;
       runs = λ bytes k. omega (arith, inv.runs bytes k, c.renumbered.ensures.runs bytes (image ∙ k.0), runs_on v bytes cuts n c.args.geometry.now.sound inv.low inside (cut ∙ k.1.cut n));

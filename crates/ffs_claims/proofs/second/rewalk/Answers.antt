@@ -32,7 +32,7 @@ loop-next-init g c =
       geometry = c.start-walk.ensures.geometry;
       device = refl;
       windows = c.requires.windows;
-      claims = record { claimed = refl; kinds = refl; cut = refl };
+      claims = record { claimed = refl; kinds = refl; cut = refl; seen = refl };
       told = λ bytes t. reporting_same _ _ _ _ _ (reporting_begins (offers_again v n (rescan c.args.cut) (steps_of v c.args.inode.now bytes)) w) (same bytes);
       runs = λ bytes t.
           let runs : runs_again v c.start-rescan.result (rest bytes c.start-walk.result) ≡ runs_again v (rescan c.args.cut) (steps_of v c.args.inode.now bytes) =
@@ -110,7 +110,7 @@ loop-next-preserved g c =
         blocks = blocks;
         chunk = rw c.report_again.ensures.windows inv.windows.chunk;
       };
-      claims = record { claimed = c.report_again.ensures.claims.claimed ∙ inv.claims.claimed; kinds = c.report_again.ensures.claims.kinds ∙ inv.claims.kinds; cut = c.report_again.ensures.claims.cut ∙ inv.claims.cut };
+      claims = record { claimed = c.report_again.ensures.claims.claimed ∙ inv.claims.claimed; kinds = c.report_again.ensures.claims.kinds ∙ inv.claims.kinds; cut = c.report_again.ensures.claims.cut ∙ inv.claims.cut; seen = c.report_again.ensures.claims.seen ∙ inv.claims.seen };
       told = λ bytes t. reporting_same _ _ _ _ _ (reporting_on v n r r' step (rest bytes c.loop-next.walk) (rest bytes c.next.new.self) _ _ c.loop-next.workspace c.report_again.new.workspace
           (next bytes t) now (inv.told bytes t) (reported_from _ c.loop-next.workspace _ c.report_again.new.workspace c.in_ok-report_again.ensures.told refl refl)) (offers bytes t);
       runs = λ bytes t. omega (
