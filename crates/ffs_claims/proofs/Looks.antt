@@ -1,5 +1,5 @@
 -- How many Runs the second look sees.
-use Rattle.std.proofs.Common.{◌≡◌, ◌≢◌, ℕ, zero, suc, ◌+◌, ◌-◌, ◌*◌, ◌<◌, ◌≤◌, ◌^◌, Bool, true, false, ◌==◌, if◌then◌else◌, List, [], ◌∷◌, ◌++◌, map, replicate, length, arith, refl, ap, ◌∙◌, sym}
+use Rattle.std.proofs.Common.{◌≡◌, ◌≢◌, ℕ, zero, suc, ◌+◌, Bool, true, false, ◌==◌, if◌then◌else◌, List, [], ◌∷◌, ◌++◌, map, replicate, arith, refl, ap, ◌∙◌, sym}
 use Rattle.std.proofs.lemmas.Bool.Decides.{nat_tests}
 use Rattle.std.specs.List.{range_with_len}
 use Rattle.ffs_volume.specs.declared.Layout.{Layout}
@@ -11,7 +11,7 @@ use Rattle.ffs_workspace.specs.Lengths.{set_count}
 use Rattle.ffs_claims.specs.declared.rescan.Rescan.{Rescan}
 use Rattle.ffs_claims.specs.Rescan.{is_going, run_taken, again, step_offers_again, offers_again, run_seen}
 use Rattle.ffs_claims.specs.Reporting.{after_first}
-use Rattle.ffs_claims.specs.SecondLook.{looked_at, step_runs_again, steps_runs_again}
+use Rattle.ffs_claims.specs.SecondLook.{looked_at, steps_runs_again}
 use Rattle.ffs_claims.proofs.Reportings.{after_append, none_after}
 
 -- nothing is left to report
