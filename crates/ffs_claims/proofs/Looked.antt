@@ -24,29 +24,41 @@ use Rattle.ffs_claims.proofs.Looks.{looked_both, runs_leave}
 use Rattle.ffs_claims.proofs.Rescans.{inode_replayed}
 
 -- the Runs of the next inode, replayed by its cut, and those of the inodes after it
-runs_next_inode : (v : Layout) (bytes : List ℕ) (cuts : List ℕ) (n : ℕ) → IsGeometry v → 2 ≤ n → n < inodes_of v → is_inode_number v n ≡ true → slice_index cuts n ≡ cut_at v bytes n →
+runs_next_inode : (v : Layout) (bytes : List ℕ) (cuts : List ℕ) (n : ℕ) → IsGeometry v → 2 ≤ n → n < inodes_of v →
+    is_inode_number v n ≡ true → slice_index cuts n ≡ cut_at v bytes n →
     owners_runs v (claims_before v bytes n) (owners_from v bytes n)
-    ≡ steps_runs_again v n (rescan (slice_index cuts n)) (steps_of v (inode_of v bytes n) bytes) ++ owners_runs v (claims_before v bytes (n + 1)) (owners_from v bytes (n + 1))
+    ≡ steps_runs_again v n (rescan (slice_index cuts n)) (steps_of v (inode_of v bytes n) bytes)
+    ++ owners_runs v (claims_before v bytes (n + 1)) (owners_from v bytes (n + 1))
 unfolding owner_of owners_runs
 runs_next_inode v bytes cuts n g low high inside e =
-    let cut : cut_of (after_steps v (next_inode (claims_before v bytes n)) (steps_of v (inode_of v bytes n) bytes)) ≡ slice_index cuts n = sym (e ∙ cut_is v bytes n g inside) in
+    let cut : cut_of (after_steps v (next_inode (claims_before v bytes n)) (steps_of v (inode_of v bytes n) bytes))
+    ≡ slice_index cuts n = sym (e ∙ cut_is v bytes n g inside) in
     let again = (inode_replayed v n (claims_before v bytes n) (steps_of v (inode_of v bytes n) bytes)).looks in
-    ap (λ (xs : List ℕ). owners_runs v (claims_before v bytes n) (map (owner_of v bytes) xs)) (range_more n (inodes_of v - n) (inodes_of v - (n + 1)) (omega arith))
-    ∙ ap (λ (os : List (List Offer)). os ++ owners_runs v (after_owner v (claims_before v bytes n) (owner_of v bytes n)) (owners_from v bytes (n + 1)))
+    ap (λ (xs : List ℕ). owners_runs v (claims_before v bytes n) (map (owner_of v bytes) xs))
+    (range_more n (inodes_of v - n) (inodes_of v - (n + 1)) (omega arith))
+    ∙ ap (λ (os : List (List Offer)). os ++ owners_runs v
+    (after_owner v (claims_before v bytes n) (owner_of v bytes n)) (owners_from v bytes (n + 1)))
     (again ∙ ap (λ (k : ℕ). steps_runs_again v n (rescan k) (steps_of v (inode_of v bytes n) bytes)) cut)
-    ∙ ap (λ (t : Claims). steps_runs_again v n (rescan (slice_index cuts n)) (steps_of v (inode_of v bytes n) bytes) ++ owners_runs v t (owners_from v bytes (n + 1))) (sym (before_next v bytes n low))
+    ∙ ap (λ (t : Claims). steps_runs_again v n (rescan (slice_index cuts n)) (steps_of v (inode_of v bytes n) bytes)
+    ++ owners_runs v t (owners_from v bytes (n + 1))) (sym (before_next v bytes n low))
 
-pub looked_on : (v : Layout) (bytes : List ℕ) (cuts : List ℕ) (n : ℕ) (dup dup' : List Bool) → IsGeometry v → 2 ≤ n → n < inodes_of v → is_inode_number v n ≡ true → slice_index cuts n ≡ cut_at v bytes n →
+pub looked_on : (v : Layout) (bytes : List ℕ) (cuts : List ℕ) (n : ℕ) (dup dup' : List Bool) → IsGeometry v → 2 ≤ n →
+    n < inodes_of v → is_inode_number v n ≡ true → slice_index cuts n ≡ cut_at v bytes n →
     dup' ≡ after_first dup (offers_again v n (rescan (slice_index cuts n)) (steps_of v (inode_of v bytes n) bytes)) →
     looked_at dup (owners_runs v (claims_before v bytes n) (owners_from v bytes n))
-    ≡ looked_at dup (steps_runs_again v n (rescan (slice_index cuts n)) (steps_of v (inode_of v bytes n) bytes)) + looked_at dup' (owners_runs v (claims_before v bytes (n + 1)) (owners_from v bytes (n + 1)))
+    ≡ looked_at dup (steps_runs_again v n (rescan (slice_index cuts n)) (steps_of v (inode_of v bytes n) bytes))
+    + looked_at dup' (owners_runs v (claims_before v bytes (n + 1)) (owners_from v bytes (n + 1)))
 looked_on v bytes cuts n dup dup' g low high inside e d =
     ap (looked_at dup) (runs_next_inode v bytes cuts n g low high inside e)
-    ∙ looked_both dup (steps_runs_again v n (rescan (slice_index cuts n)) (steps_of v (inode_of v bytes n) bytes)) (owners_runs v (claims_before v bytes (n + 1)) (owners_from v bytes (n + 1)))
-    ∙ ap (λ (x : List Bool). looked_at dup (steps_runs_again v n (rescan (slice_index cuts n)) (steps_of v (inode_of v bytes n) bytes)) + looked_at x (owners_runs v (claims_before v bytes (n + 1)) (owners_from v bytes (n + 1))))
+    ∙ looked_both dup (steps_runs_again v n (rescan (slice_index cuts n)) (steps_of v (inode_of v bytes n) bytes))
+    (owners_runs v (claims_before v bytes (n + 1)) (owners_from v bytes (n + 1)))
+    ∙ ap (λ (x : List Bool). looked_at dup (steps_runs_again v n (rescan (slice_index cuts n))
+    (steps_of v (inode_of v bytes n) bytes)) + looked_at x
+    (owners_runs v (claims_before v bytes (n + 1)) (owners_from v bytes (n + 1))))
     (runs_leave v n (rescan (slice_index cuts n)) dup (steps_of v (inode_of v bytes n) bytes) ∙ sym d)
 
-pub looked_end : (v : Layout) (bytes : List ℕ) (dup : List Bool) (s : Claims) (n : ℕ) → inodes_of v ≤ n → looked_at dup (owners_runs v s (owners_from v bytes n)) ≡ 0
+pub looked_end : (v : Layout) (bytes : List ℕ) (dup : List Bool) (s : Claims) (n : ℕ) → inodes_of v ≤ n →
+    looked_at dup (owners_runs v s (owners_from v bytes n)) ≡ 0
 unfolding owners_runs looked_at
 looked_end v bytes dup s n past =
     let none : inodes_of v - n ≡ 0 = omega arith in
