@@ -10,3 +10,6 @@ pub mod Reportings
 pub mod Rewalks
 pub mod Rescanned
 pub mod Whole
+pub mod Looks
+pub mod LookBounds
+pub mod Looked

@@ -13,6 +13,7 @@ use Rattle.ffs_volume.specs.Blocks.BlockCheck.{Offer, offers_kept, run_kept, ste
 use Rattle.ffs_volume.specs.Blocks.FirstOffers.{offer_at}
 use Rattle.ffs_volume.specs.Encodings.Replay.{cut_of}
 use Rattle.ffs_claims.specs.declared.rescan.Rescan.{Rescan}
+use Rattle.ffs_claims.specs.SecondLook.{step_runs, steps_runs, step_runs_again, steps_runs_again}
 use Rattle.ffs_claims.specs.Rescan.{rescan, is_left, is_going, taken_of, left_after, run_taken, again, step_offers_again, offers_again, run_seen, runs_again}
 
 -- kept offers and dup ones rise together, up to the eleventh dup one
@@ -301,20 +302,43 @@ step_replayed v i s end r Tail after cap t = one (is_open s) refl (going_is s en
 step_replayed v i s end r Gap after cap t =
     record { offers = refl; runs = omega arith; tied = t }
 
+-- the Runs of a step, replayed
+step_looked : (v : Layout) (i : ℕ) (s end : Claims) (r : Rescan) (step : Step) →
+    Grows (after_step v s step) end → end.dups ≤ 11 → Tied s end r → step_runs v i s step ≡ step_runs_again v i r step
+step_looked v i s end r Tail after cap t = refl
+step_looked v i s end r Gap after cap t = refl
+step_looked v i s end r (Run start len block) after cap t = one (is_open s) refl
+  where
+    going : is_going r ≡ is_open s
+    going = going_is s end r (grows_then s _ end (step_grows v s (Run start len block)) after) cap t
+
+    same : step_kept v i s (Run start len block) ≡ step_offers_again v i r (Run start len block)
+    same = (run_replayed v i s end r start len block after cap t going).offers
+
+    one : (b : Bool) → is_open s ≡ b → step_runs v i s (Run start len block) ≡ step_runs_again v i r (Run start len block)
+    one true q =
+        let again_open : is_going r ≡ true = going ∙ q in
+        let kept : run_kept v i s start len ≡ map (offer_at i) (range_with_len start (run_taken v r start len)) = rw (q, again_open) at same in
+        rw (q, again_open, kept) refl
+    one false q = let shut : is_going r ≡ false = going ∙ q in rw (q, shut) refl
+
 -- what the steps are, replayed
 pub record AllReplayed (v : Layout) (i : ℕ) (s : Claims) (r : Rescan) (steps : List Step) : Type 0 where
   pub offers : steps_kept v i s steps ≡ offers_again v i r steps
+  pub looks : steps_runs v i s steps ≡ steps_runs_again v i r steps
   pub runs : (after_steps v s steps).runs ≡ s.runs + runs_again v r steps
 
 steps_replayed : (v : Layout) (i : ℕ) (s : Claims) (r : Rescan) (steps : List Step) →
     (after_steps v s steps).dups ≤ 11 → Tied s (after_steps v s steps) r → AllReplayed v i s r steps
-unfolding offers_again runs_again
-steps_replayed v i s r [] cap t = record { offers = refl; runs = omega arith }
+unfolding offers_again runs_again steps_runs_again
+steps_replayed v i s r [] cap t = record { offers = refl; looks = refl; runs = omega arith }
 steps_replayed v i s r (step ∷ steps) cap t =
     let s' = after_step v s step in
     let one = step_replayed v i s (after_steps v (after_step v s step) steps) r step (steps_grow v (after_step v s step) steps) cap t in
+    let look = step_looked v i s (after_steps v (after_step v s step) steps) r step (steps_grow v (after_step v s step) steps) cap t in
     let more = steps_replayed v i (after_step v s step) (again v r step) steps cap one.tied in
     record {
+      looks = ap (λ (x : List (List Offer)). x ++ steps_runs v i (after_step v s step) steps) look ∙ ap (λ (x : List (List Offer)). step_runs_again v i r step ++ x) more.looks;
       offers = ap (λ (x : List Offer). x ++ steps_kept v i (after_step v s step) steps) one.offers ∙ ap (λ (x : List Offer). step_offers_again v i r step ++ x) more.offers;
       runs = omega (arith, one.runs, more.runs);
     }

@@ -12,11 +12,12 @@ use Rattle.ffs_workspace.specs.Holds.{claims_of, has_blame}
 abbrev pub SameWindows : Workspace → Workspace → Type 0
 SameWindows old new = new.windows ≡ old.windows
 
--- and what was found of inodes
+-- and what was found of inodes, and the Runs of phase 1b
 pub record SameFound (old new : Workspace) : Type 0 where
   pub kinds : new.kinds ≡ old.kinds
   pub marked : new.marked ≡ old.marked
   pub cut : new.cut ≡ old.cut
+  pub again : new.runs_again ≡ old.runs_again
 
 -- what was found of the current inode is kept
 pub record Stored (number : ℕ) (class : Class) (i : Inode) (old new : Workspace) : Type 0 where

@@ -2,4 +2,5 @@ pub mod Rescan
 pub mod Lines
 pub mod Leaves
 pub mod Reporting
+pub mod SecondLook
 pub mod Whole

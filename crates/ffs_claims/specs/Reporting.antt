@@ -17,8 +17,9 @@ pub record OffersReported (offers : List Offer) (old new : Workspace) : Type 0 w
   pub dup : bits_of new.duplicates ≡ after_first (bits_of old.duplicates) offers
   pub marked : (x : ℕ) → bool_at new.marked.items x ≡ (bool_at old.marked.items x || list_any (blames x) (first_offers (bits_of old.duplicates) offers))
 
--- a call left the claims alone, what each inode is, and where it is cut
+-- a call left the claims alone, what each inode is, where it is cut, and the Runs of phase 1
 pub record SameClaims (old new : Workspace) : Type 0 where
   pub claimed : new.claimed ≡ old.claimed
   pub kinds : new.kinds ≡ old.kinds
   pub cut : new.cut ≡ old.cut
+  pub seen : new.runs_seen ≡ old.runs_seen

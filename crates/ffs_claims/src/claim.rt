@@ -99,6 +99,7 @@ fn claim_read_inode<I: Image, W: Output>(
         ≤ workspace.old.runs_seen + used_bits (claims_of workspace.new) + 22) }
     ensures bound { workspace.new.runs_seen + used_bits (claims_of workspace.old)
         ≤ workspace.old.runs_seen + geometry.now.layout.size + 22 }
+    ensures again { workspace.new.runs_again ≡ workspace.old.runs_again }
     ensures made { IsFor geometry.now.layout workspace.new }
     ensures windows { HoldWindows geometry.now.layout (I.device image.new).contents workspace.new }
 {
@@ -141,6 +142,7 @@ pub fn claim_inode<I: Image, W: Output>(
         ≤ workspace.old.runs_seen + used_bits (claims_of workspace.new) + 22) }
     ensures bound { workspace.new.runs_seen + used_bits (claims_of workspace.old)
         ≤ workspace.old.runs_seen + geometry.now.layout.size + 22 }
+    ensures again { workspace.new.runs_again ≡ workspace.old.runs_again }
     ensures made { IsFor geometry.now.layout workspace.new }
     ensures windows { HoldWindows geometry.now.layout (I.device image.new).contents workspace.new }
 {

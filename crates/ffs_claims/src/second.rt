@@ -1,6 +1,6 @@
 //! Phase 1b: rescan for more dups (fsck(8)).
 
-ghost use Rattle.std.specs.Prelude.{◌≡◌, ◌+◌, ◌*◌, ◌<◌, ◌≤◌, ◌∷◌, OnOk, true, ℕ, List, slice_index, vec_len};
+ghost use Rattle.std.specs.Prelude.{◌≡◌, ◌+◌, ◌*◌, ◌<◌, ◌≤◌, ◌≢◌, ◌∷◌, OnOk, true, false, ℕ, List, slice_index, vec_len};
 ghost use Rattle.ffs_report.specs.Progress.{progress, Says};
 ghost use Rattle.ffs_phase.specs.Known.{ForBytes, IsContents};
 ghost use Rattle.ffs_phase.specs.Runs.{ImageAfter, PhaseReports};
@@ -19,6 +19,7 @@ ghost use Rattle.ffs_claims.specs.Lines.{of_lines};
 ghost use Rattle.ffs_claims.specs.Rescan as rescans;
 ghost use Rattle.ffs_claims.specs.Rescan.{offers_again, step_offers_again, run_seen, runs_again};
 ghost use Rattle.ffs_claims.specs.Reporting.{OffersReported, SameClaims};
+ghost use Rattle.ffs_claims.specs.SecondLook.{Rose, looked_at, steps_runs_again, second_look};
 
 use crate::report_claim::report_run;
 use crate::rescan::Rescan;
@@ -32,7 +33,8 @@ use ffs_workspace::Workspace;
 
 /// Whether nothing is left to report.
 fn is_reported(workspace: &Workspace) -> bool
-    ensures { result ≡ true → workspace.now.unreported ≡ 0 }
+    ensures none { result ≡ true → workspace.now.unreported ≡ 0 }
+    ensures some { result ≡ false → workspace.now.unreported ≢ 0 }
 {
     workspace.unreported == 0
 }
@@ -58,6 +60,8 @@ fn report_again<W: Output>(
         workspace.new) }
     ensures again { OnOk result (rescan.new ≡ rescans.again geometry.now.layout rescan.old step) }
     ensures runs { workspace.new.runs_again ≤ workspace.old.runs_again + run_seen rescan.old step }
+    ensures count { Rose workspace.old.runs_again workspace.new.runs_again
+        (run_seen rescan.old step) }
     ensures made { IsFor geometry.now.layout workspace.new }
     ensures windows { SameWindows workspace.old workspace.new }
     ensures claims { SameClaims workspace.old workspace.new }
@@ -84,6 +88,7 @@ fn rewalk<I: Image, W: Output>(
 ) -> Result<(), RunFault>
     requires made { IsFor geometry.now.layout workspace.old }
     requires number { number < inodes_of geometry.now.layout }
+    requires pending { workspace.old.unreported ≢ 0 }
     requires volume { geometry.now.layout.size * geometry.now.layout.fsize
         ≤ (I.device image.old).size }
     requires windows { HoldWindows geometry.now.layout (I.device image.old).contents workspace.old }
@@ -99,6 +104,11 @@ fn rewalk<I: Image, W: Output>(
     ensures runs { ForBytes (IsContents (I.device image.old).contents) (λ bytes.
         workspace.new.runs_again ≤ workspace.old.runs_again + runs_again geometry.now.layout
         (rescans.rescan cut) (steps_of geometry.now.layout inode.now bytes)) }
+    ensures count { OnOk result (ForBytes (IsContents (I.device image.old).contents) (λ bytes.
+        Rose workspace.old.runs_again workspace.new.runs_again
+        (looked_at (bits_of workspace.old.duplicates)
+        (steps_runs_again geometry.now.layout number (rescans.rescan cut)
+        (steps_of geometry.now.layout inode.now bytes))))) }
     ensures made { IsFor geometry.now.layout workspace.new }
     ensures windows { HoldWindows geometry.now.layout (I.device image.new).contents workspace.new }
     ensures claims { SameClaims workspace.old workspace.new }
@@ -136,6 +146,7 @@ fn renumbered<I: Image, W: Output>(
 ) -> Result<(), RunFault>
     requires made { IsFor geometry.now.layout workspace.old }
     requires number { number < inodes_of geometry.now.layout }
+    requires pending { workspace.old.unreported ≢ 0 }
     requires volume { geometry.now.layout.size * geometry.now.layout.fsize
         ≤ (I.device image.old).size }
     requires windows { HoldWindows geometry.now.layout (I.device image.old).contents workspace.old }
@@ -155,6 +166,12 @@ fn renumbered<I: Image, W: Output>(
         workspace.new.runs_again ≤ workspace.old.runs_again + runs_again geometry.now.layout
         (rescans.rescan (slice_index workspace.old.cut.items number))
         (steps_of geometry.now.layout (inode_of geometry.now.layout bytes number) bytes)) }
+    ensures count { OnOk result (ForBytes (IsContents (I.device image.old).contents) (λ bytes.
+        Rose workspace.old.runs_again workspace.new.runs_again
+        (looked_at (bits_of workspace.old.duplicates)
+        (steps_runs_again geometry.now.layout number
+        (rescans.rescan (slice_index workspace.old.cut.items number))
+        (steps_of geometry.now.layout (inode_of geometry.now.layout bytes number) bytes))))) }
     ensures made { IsFor geometry.now.layout workspace.new }
     ensures windows { HoldWindows geometry.now.layout (I.device image.new).contents workspace.new }
     ensures claims { SameClaims workspace.old workspace.new }
@@ -190,6 +207,11 @@ pub fn phase1b<I: Image, W: Output>(
     ensures runs { ForBytes (λ bytes. IsContents (I.device image.old).contents bytes
         × HoldsPhase1 geometry.now.layout bytes workspace.old)
         (λ bytes. workspace.new.runs_again ≤ claim_count geometry.now.layout bytes) }
+    ensures count { OnOk result (ForBytes
+        (λ bytes. IsContents (I.device image.old).contents bytes
+        × HoldsPhase1 geometry.now.layout bytes workspace.old)
+        (λ bytes. workspace.new.runs_again ≡ second_look geometry.now.layout bytes)) }
+    ensures seen { workspace.new.runs_seen ≡ workspace.old.runs_seen }
     ensures made { IsFor geometry.now.layout workspace.new }
     ensures windows { HoldWindows geometry.now.layout (I.device image.new).contents workspace.new }
 {

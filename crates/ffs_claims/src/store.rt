@@ -124,6 +124,7 @@ pub fn store(
     requires number { number < geometry.now.layout.ncg * geometry.now.layout.ipg }
     ensures claims { claims_of workspace.new ≡ claims_of workspace.old }
     ensures stored { Stored number class inode.now workspace.old workspace.new }
+    ensures again { workspace.new.runs_again ≡ workspace.old.runs_again }
     ensures made { IsFor geometry.now.layout workspace.new }
     ensures windows { SameWindows workspace.old workspace.new }
 {

@@ -34,6 +34,26 @@ const SHARED: [Words; 8] = [
     (29288, 1, 2),
 ];
 
+// The inodes 3 and 5 share a fragment, and 4 and 6 another one.
+const SHARED_TWICE: [Words; 16] = [
+    (29056, 1, 0x000181a4),
+    (29064, 1, 100),
+    (29096, 1, 37),
+    (29160, 1, 2),
+    (29184, 1, 0x000181a4),
+    (29192, 1, 100),
+    (29224, 1, 38),
+    (29288, 1, 2),
+    (29312, 1, 0x000181a4),
+    (29320, 1, 100),
+    (29352, 1, 37),
+    (29416, 1, 2),
+    (29440, 1, 0x000181a4),
+    (29448, 1, 100),
+    (29480, 1, 38),
+    (29544, 1, 2),
+];
+
 const TWELVE_BAD: [Words; 3] = [(29056, 1, 0x000181a4), (29064, 1, 49152), (29096, 12, 200)];
 
 const TEN_BAD: [Words; 6] = [
@@ -93,11 +113,16 @@ fn checked<I: Image>(
 #[test]
 fn block_checks(rt: HostRuntime) -> Result<(), Fail> {
     let geometry = geometry(Order::Little)?;
-    let cases: [(&[Words], &[u8], [u64; 2]); 4] = [
+    let cases: [(&[Words], &[u8], [u64; 2]); 5] = [
         (
             &SHARED,
             b"** Phase 1 - Check Blocks and Sizes\n37 DUP I=4\n** Phase 1b - Rescan For More DUPS\n37 DUP I=3\n",
             [3, 2],
+        ),
+        (
+            &SHARED_TWICE,
+            b"** Phase 1 - Check Blocks and Sizes\n37 DUP I=5\n38 DUP I=6\n** Phase 1b - Rescan For More DUPS\n37 DUP I=3\n38 DUP I=4\n",
+            [5, 3],
         ),
         (
             &TWELVE_BAD,

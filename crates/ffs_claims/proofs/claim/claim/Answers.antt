@@ -51,7 +51,7 @@ loop-next-init g c =
       geometry = c.start-walk.ensures.geometry;
       device = refl;
       windows = c.requires.windows;
-      found = record { kinds = refl; marked = refl; cut = refl };
+      found = record { kinds = refl; marked = refl; cut = refl; again = refl };
       moves = stays (claims_of c.args.workspace.now);
       claims = λ bytes t. ap (after_steps v (claims_of c.args.workspace.now)) (c.start-walk.ensures.steps bytes);
       said = of_same _ _ _ _ _ _ (of_begins _ (λ bytes. of_lines (steps_lines v c.args.number (claims_of c.args.workspace.now) (steps_of v c.args.inode.now bytes))) _)
@@ -140,7 +140,7 @@ loop-next-preserved g c =
         blocks = blocks;
         chunk = rw c.step.ensures.windows inv.windows.chunk;
       };
-      found = record { kinds = c.step.ensures.found.kinds ∙ inv.found.kinds; marked = c.step.ensures.found.marked ∙ inv.found.marked; cut = c.step.ensures.found.cut ∙ inv.found.cut };
+      found = record { kinds = c.step.ensures.found.kinds ∙ inv.found.kinds; marked = c.step.ensures.found.marked ∙ inv.found.marked; cut = c.step.ensures.found.cut ∙ inv.found.cut; again = c.step.ensures.found.again ∙ inv.found.again };
       moves = moves_on v (claims_of c.args.workspace.now) (claims_of c.loop-next.workspace) (claims_of c.step.new.workspace) c.in-Some.next
           (length_bits _ _ ∙ inv.made.claimed) c.args.geometry.now.sound.sizes.frag_high (rw (inv.geometry, c.in-Some.is) at c.in_ok-next.ensures.length) c.in_ok-step.ensures.claims inv.moves;
       claims = λ bytes t. sym (ap (after_steps v s) (gaps bytes t) ∙ gaps_stay v s c.skip_gaps.result (rest bytes c.skip_gaps.new.self))
@@ -267,7 +267,7 @@ returns-in_err-next-clause-windows g c =
 pub returns-in_err-next-clause-found : goal.returns-in_err-next-clause-found
 returns-in_err-next-clause-found g c =
     let inv = c.loop-next.invariant in
-    record { kinds = inv.found.kinds; marked = inv.found.marked; cut = inv.found.cut }
+    record { kinds = inv.found.kinds; marked = inv.found.marked; cut = inv.found.cut; again = inv.found.again }
 
 pub step-requires-clause-made : goal.step-requires-clause-made
 step-requires-clause-made g c =
@@ -314,7 +314,7 @@ pub returns-in_err-step-clause-found : goal.returns-in_err-step-clause-found
 returns-in_err-step-clause-found g c =
     let inv = c.loop-next.invariant in
     let found = c.step.ensures.found in
-    record { kinds = found.kinds ∙ inv.found.kinds; marked = found.marked ∙ inv.found.marked; cut = found.cut ∙ inv.found.cut }
+    record { kinds = found.kinds ∙ inv.found.kinds; marked = found.marked ∙ inv.found.marked; cut = found.cut ∙ inv.found.cut; again = found.again ∙ inv.found.again }
 
 pub loop-next-smaller : goal.loop-next-smaller
 loop-next-smaller g c =
@@ -341,7 +341,7 @@ pub returns-then-not-is_open-clause-found : goal.returns-then-not-is_open-clause
 returns-then-not-is_open-clause-found g c =
     let inv = c.loop-next.invariant in
     let found = c.step.ensures.found in
-    record { kinds = found.kinds ∙ inv.found.kinds; marked = found.marked ∙ inv.found.marked; cut = found.cut ∙ inv.found.cut }
+    record { kinds = found.kinds ∙ inv.found.kinds; marked = found.marked ∙ inv.found.marked; cut = found.cut ∙ inv.found.cut; again = found.again ∙ inv.found.again }
 
 pub returns-in_default-clause-image : goal.returns-in_default-clause-image
 returns-in_default-clause-image g c = c.in_ok-next.ensures.ok ∙ c.loop-next.invariant.device
@@ -363,4 +363,4 @@ returns-in_default-clause-windows g c =
 pub returns-in_default-clause-found : goal.returns-in_default-clause-found
 returns-in_default-clause-found g c =
     let inv = c.loop-next.invariant in
-    record { kinds = inv.found.kinds; marked = inv.found.marked; cut = inv.found.cut }
+    record { kinds = inv.found.kinds; marked = inv.found.marked; cut = inv.found.cut; again = inv.found.again }

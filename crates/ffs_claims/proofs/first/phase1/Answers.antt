@@ -9,7 +9,8 @@ use Rattle.ffs_volume.specs.Blocks.Claims.{Claims, after_owner}
 use Rattle.ffs_volume.specs.Messages.Kinds.{Message, phase1}
 use Rattle.ffs_volume.specs.Blocks.Owners.{owner_of, owners_of}
 use Rattle.ffs_volume.specs.Encodings.Replay.{cut_at}
-use Rattle.ffs_workspace.specs.Holds.{claims_of, first_marked_at}
+use Rattle.ffs_volume.specs.Report.Whole.{claim_count}
+use Rattle.ffs_workspace.specs.Holds.{claims_of, all_claims, first_marked_at}
 use Rattle.ffs_volume.specs.Encodings.Kinds.{kind_at}
 use Rattle.ffs_workspace.specs.Lengths.{inodes_of}
 use Rattle.ffs_claims.specs.Lines.{of_lines, owners_from}
@@ -37,6 +38,7 @@ loop-number-init g c =
       low = omega arith;
       high = λ h. omega arith;
       runs = omega (arith, c.reserve.ensures.runs);
+      again = found.again;
       claims = λ bytes k. c.reserve.ensures.claims k.1 ∙ sym (before_first v bytes);
       kinds = λ bytes k. filled_begin 0 (kind_at v bytes) c.reserve.new.workspace.kinds.items (inodes_of v) (ap (λ w. w.items) found.kinds ∙ k.1.kinds) (λ x low. kind_out v bytes x (is_outside v x (inl low)));
       marked = λ bytes k. filled_begin false (first_marked_at v bytes) c.reserve.new.workspace.marked.items (inodes_of v) (ap (λ w. w.items) found.marked ∙ k.1.marked) (λ x low. mark_out v bytes x (is_outside v x (inl low)));
@@ -96,6 +98,7 @@ loop-number-preserved g c =
       low = omega arith;
       high = λ h. omega arith;
       runs = omega (arith, inv.runs, inv.low, c.in_ok-claim_inode.ensures.moves);
+      again = c.claim_inode.ensures.again ∙ inv.again;
       claims = λ bytes k. now bytes (contents ∙ k.0) ∙ ap (λ (t : Claims). after_owner v t (owner_of v bytes n)) (inv.claims bytes k) ∙ sym (before_next v bytes n inv.low);
       kinds = λ bytes k. filled_next 0 (kind_at v bytes) c.loop-number.workspace.kinds.items c.claim_inode.new.workspace.kinds.items n _
           (omega (arith, inv.made.kinds)) (stored bytes (contents ∙ k.0)).kinds (kind_in v bytes n inside) (inv.kinds bytes k);
@@ -144,6 +147,10 @@ returns-clause-runs g c =
       | inl h ↦ let most : c.loop-number.number ≤ inodes_of c.args.geometry.now.layout = inv.high h in omega (arith, inv.runs, most, used, size)
       | inr h ↦ omega (arith, inv.runs, used, size)
     ]
+
+pub returns-clause-count : goal.returns-clause-count
+unfolding claim_count all_claims
+returns-clause-count g c = λ bytes k. (returns-clause-holds g c bytes k).runs
 
 pub returns-clause-dups : goal.returns-clause-dups
 returns-clause-dups g c = λ bytes k.

@@ -23,6 +23,7 @@ invariant-loop-number g l = record {
   low : 2 ≤ l.number;
   high : 2 < l.number → l.number ≤ inodes_of l.geometry.layout;
   runs : l.workspace.runs_seen ≤ used_bits (claims_of l.workspace) + 22 * (l.number - 2);
+  again : l.workspace.runs_again ≡ l.fn.workspace.runs_again;
   claims : ForBytes (λ bytes. IsContents (g.I.Image.device l.fn.image).contents bytes × IsFresh l.geometry.layout l.fn.workspace) (λ bytes.
       claims_of l.workspace ≡ claims_before l.geometry.layout bytes l.number);
   kinds : ForBytes (λ bytes. IsContents (g.I.Image.device l.fn.image).contents bytes × IsFresh l.geometry.layout l.fn.workspace) (λ bytes.

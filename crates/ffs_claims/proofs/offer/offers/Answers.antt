@@ -24,7 +24,7 @@ loop-place-preserved g c =
     record {
       made = c.offer.ensures.made;
       windows = c.offer.ensures.windows ∙ inv.windows;
-      found = record { kinds = c.offer.ensures.found.kinds ∙ inv.found.kinds; marked = c.offer.ensures.found.marked ∙ inv.found.marked; cut = c.offer.ensures.found.cut ∙ inv.found.cut };
+      found = record { kinds = c.offer.ensures.found.kinds ∙ inv.found.kinds; marked = c.offer.ensures.found.marked ∙ inv.found.marked; cut = c.offer.ensures.found.cut ∙ inv.found.cut; again = c.offer.ensures.found.again ∙ inv.found.again };
       runs = c.offer.ensures.runs ∙ inv.runs;
       kept = omega arith;
       claims = inv.claims ∙ offers_after c.args.geometry.now.layout (claims_of c.loop-place.workspace) (claims_of c.offer.new.workspace) c.args.start c.args.len c.loop-place.place f
@@ -42,7 +42,7 @@ loop-place-init g c =
     record {
       made = c.requires.made;
       windows = refl;
-      found = record { kinds = refl; marked = refl; cut = refl };
+      found = record { kinds = refl; marked = refl; cut = refl; again = refl };
       runs = refl;
       kept = omega arith;
       claims = ap (after_offers v s) (from_start c.args.start c.args.len);

@@ -18,7 +18,7 @@ loop-place-init g c =
     record {
       made = c.requires.made;
       windows = refl;
-      claims = record { claimed = refl; kinds = refl; cut = refl };
+      claims = record { claimed = refl; kinds = refl; cut = refl; seen = refl };
       runs = refl;
       told = reporting_same _ _ _ _ _ (reporting_begins (map (offer_at n) (range_with_len c.args.start c.args.len)) w) (ap (map (offer_at n)) (from_start c.args.start c.args.len));
       said = to_same _ _ _ _ _ (to_begins (of_lines (first_offers (bits_of w.duplicates) (map (offer_at n) (range_with_len c.args.start c.args.len)))) _)
@@ -49,7 +49,7 @@ loop-place-preserved g c =
     record {
       made = c.report_claim.ensures.made;
       windows = c.report_claim.ensures.windows ∙ inv.windows;
-      claims = record { claimed = c.report_claim.ensures.claims.claimed ∙ inv.claims.claimed; kinds = c.report_claim.ensures.claims.kinds ∙ inv.claims.kinds; cut = c.report_claim.ensures.claims.cut ∙ inv.claims.cut };
+      claims = record { claimed = c.report_claim.ensures.claims.claimed ∙ inv.claims.claimed; kinds = c.report_claim.ensures.claims.kinds ∙ inv.claims.kinds; cut = c.report_claim.ensures.claims.cut ∙ inv.claims.cut; seen = c.report_claim.ensures.claims.seen ∙ inv.claims.seen };
       runs = c.report_claim.ensures.runs ∙ inv.runs;
       told = reporting_more _ (offer_at n f ∷ []) rest _ _ _ _ inv.told next c.report_claim.ensures.told;
       said = to_says _ (of_lines (first_offers d' rest)) _ (of_lines (first_offers d (offer_at n f ∷ []))) _ _ _ inv.said

@@ -1,4 +1,4 @@
-use Rattle.std.proofs.Common.{◌≡◌, ◌+◌, ◌<◌, ◌∷◌, [], arith, refl, sym, ap, ◌∙◌, List, Err}
+use Rattle.std.proofs.Common.{◌≡◌, ◌+◌, ◌^◌, ◌<◌, ◌∷◌, [], arith, refl, sym, ap, ◌∙◌, List, Err}
 use Rattle.std.specs.Prelude.{slice_index}
 use Rattle.std.proofs.lemmas.Result.{err_from_is_err_and}
 use Rattle.ffs_maps.specs.Bits.{bits_of}
@@ -18,6 +18,12 @@ use Rattle.ffs_claims.proofs.Numbers.{is_inside}
 use Rattle.ffs_claims.proofs.Rescanned.{kept_next, kept_end, runs_on, runs_most, claims_hold, reported_same, all_lines, all_kept, lines_split}
 use Rattle.ffs_claims.proofs.Rewalks.{reporting_over, lines_over}
 use Rattle.ffs_claims.proofs.Reportings.{reporting_more, reporting_ends, reporting_same}
+use Rattle.ffs_phase.specs.Known.{ForBytes, IsContents}
+use Rattle.ffs_workspace.specs.Holds.{HoldsPhase1}
+use Rattle.ffs_claims.specs.SecondLook.{looked_at, owners_runs, steps_runs_again}
+use Rattle.ffs_claims.proofs.Looks.{looked_none}
+use Rattle.ffs_claims.proofs.LookBounds.{look_fits}
+use Rattle.ffs_claims.proofs.Looked.{looked_on, looked_end, looked_first}
 use Rattle.ffs_claims.proofs.second.phase1b.Goals as goal
 
 pub returns-in_err-say-clause-text : goal.returns-in_err-say-clause-text
@@ -51,10 +57,11 @@ loop-number-init g c =
       };
       device = refl;
       windows = record { table = c.requires.windows.table; blocks = c.requires.windows.blocks; chunk = c.requires.windows.chunk };
-      claims = record { claimed = refl; kinds = refl; cut = refl };
+      claims = record { claimed = refl; kinds = refl; cut = refl; seen = refl };
       low = omega arith;
       high = λ h. omega arith;
       runs = λ bytes k. omega arith;
+      count = λ bytes k. omega (arith, looked_first v bytes d k.1.dup);
       told = λ bytes k. reporting_same _ _ _ _ _ (reported_same c.args.workspace.now _ (owners_kept v (no_claims v) (owners_of v bytes)) refl refl) (sym (all_kept v bytes));
       said = of_says _ (λ bytes. phase1b ∷ of_lines (phase1b_lines v (owners_of v bytes))) (λ bytes. of_lines (first_offers d (owners_kept v (claims_before v bytes 2) (owners_from v bytes 2)))) _ (phase1b ∷ []) _ _ _
           (of_begins _ (λ bytes. phase1b ∷ of_lines (phase1b_lines v (owners_of v bytes))) _)
@@ -66,7 +73,7 @@ pub returns-then-is_reported-clause-text : goal.returns-then-is_reported-clause-
 returns-then-is_reported-clause-text g c =
     let v = c.args.geometry.now.layout in
     let inv = c.loop-number.invariant in
-    let none : set_count (bits_of c.loop-number.workspace.duplicates) ≡ 0 = sym inv.made.unreported ∙ c.is_reported.ensures c.if-is_reported.true in
+    let none : set_count (bits_of c.loop-number.workspace.duplicates) ≡ 0 = sym inv.made.unreported ∙ c.is_reported.ensures.none c.if-is_reported.true in
     of_same _ _ (λ bytes. []) _ _ _ inv.said
     (λ bytes k. lines_over (bits_of c.loop-number.workspace.duplicates) (owners_kept v (claims_before v bytes c.loop-number.number) (owners_from v bytes c.loop-number.number)) none)
 
@@ -74,7 +81,7 @@ pub returns-then-is_reported-clause-holds : goal.returns-then-is_reported-clause
 returns-then-is_reported-clause-holds g c = λ bytes k.
     let v = c.args.geometry.now.layout in
     let inv = c.loop-number.invariant in
-    let none : set_count (bits_of c.loop-number.workspace.duplicates) ≡ 0 = sym inv.made.unreported ∙ c.is_reported.ensures c.if-is_reported.true in
+    let none : set_count (bits_of c.loop-number.workspace.duplicates) ≡ 0 = sym inv.made.unreported ∙ c.is_reported.ensures.none c.if-is_reported.true in
     claims_hold v bytes c.args.workspace.now c.loop-number.workspace k.1 inv.claims (reporting_over _ _ _ _ none (inv.told bytes k))
 
 pub returns-then-is_reported-clause-runs : goal.returns-then-is_reported-clause-runs
@@ -130,14 +137,22 @@ loop-number-preserved g c =
     let inside = is_inside v n inv.low lt in
     let cut = ap (λ z. slice_index z.items n) inv.claims.cut in
     let image = ap (λ d. d.contents) inv.device in
+    let on : ForBytes (λ bytes. IsContents (g.I.Image.device c.args.image.now).contents bytes × HoldsPhase1 v bytes c.args.workspace.now) (λ bytes.
+    looked_at d (owners_runs v (claims_before v bytes n) (owners_from v bytes n))
+    ≡ looked_at d (steps_runs_again v n (rescan (slice_index cuts n)) (steps_of v (inode_of v bytes n) bytes)) + looked_at d' (owners_runs v (claims_before v bytes (n + 1)) (owners_from v bytes (n + 1)))) =
+    λ bytes k. looked_on v bytes cuts n d d' c.args.geometry.now.sound inv.low lt inside (cut ∙ k.1.cut n) (c.in_ok-renumbered.ensures.told bytes (image ∙ k.0)).dup in
     record {
       made = c.renumbered.ensures.made;
       device = c.in_ok-renumbered.ensures.image ∙ inv.device;
       windows = rw (c.in_ok-renumbered.ensures.image, inv.device) at c.renumbered.ensures.windows;
-      claims = record { claimed = c.renumbered.ensures.claims.claimed ∙ inv.claims.claimed; kinds = c.renumbered.ensures.claims.kinds ∙ inv.claims.kinds; cut = c.renumbered.ensures.claims.cut ∙ inv.claims.cut };
+      claims = record { claimed = c.renumbered.ensures.claims.claimed ∙ inv.claims.claimed; kinds = c.renumbered.ensures.claims.kinds ∙ inv.claims.kinds; cut = c.renumbered.ensures.claims.cut ∙ inv.claims.cut; seen = c.renumbered.ensures.claims.seen ∙ inv.claims.seen };
       low = omega arith;
       high = λ h. omega arith;
       runs = λ bytes k. omega (arith, inv.runs bytes k, c.renumbered.ensures.runs bytes (image ∙ k.0), runs_on v bytes cuts n c.args.geometry.now.sound inv.low inside (cut ∙ k.1.cut n));
+      count = λ bytes k.
+          let fits : c.loop-number.workspace.runs_again + looked_at d (steps_runs_again v n (rescan (slice_index cuts n)) (steps_of v (inode_of v bytes n) bytes)) < 2 ^ 64 =
+          omega (arith, inv.count bytes k, look_fits v bytes c.args.geometry.now.sound, on bytes k) in
+          omega (arith, inv.count bytes k, on bytes k, (c.in_ok-renumbered.ensures.count bytes (image ∙ k.0)) fits);
       told = λ bytes k. reporting_more _ (offers_again v n (rescan (slice_index cuts n)) (steps_of v (inode_of v bytes n) bytes)) (owners_kept v (claims_before v bytes (n + 1)) (owners_from v bytes (n + 1))) _ _ _ _
           (inv.told bytes k) (kept_next v bytes cuts n c.args.geometry.now.sound inv.low lt inside (cut ∙ k.1.cut n)) (c.in_ok-renumbered.ensures.told bytes (image ∙ k.0));
       said = of_part _ (λ bytes. of_lines (first_offers d (owners_kept v (claims_before v bytes n) (owners_from v bytes n))))
@@ -165,3 +180,16 @@ pub returns-after-loop-number-clause-runs : goal.returns-after-loop-number-claus
 returns-after-loop-number-clause-runs g c = λ bytes k.
     let inv = c.loop-number.invariant in
     omega (arith, inv.runs bytes k, runs_most c.args.geometry.now.layout bytes c.loop-number.number inv.low inv.high)
+
+pub returns-then-is_reported-clause-count : goal.returns-then-is_reported-clause-count
+returns-then-is_reported-clause-count g c = λ bytes k.
+    let v = c.args.geometry.now.layout in
+    let inv = c.loop-number.invariant in
+    let none : set_count (bits_of c.loop-number.workspace.duplicates) ≡ 0 = sym inv.made.unreported ∙ c.is_reported.ensures.none c.if-is_reported.true in
+    omega (arith, inv.count bytes k, looked_none (bits_of c.loop-number.workspace.duplicates) (owners_runs v (claims_before v bytes c.loop-number.number) (owners_from v bytes c.loop-number.number)) none)
+
+pub returns-after-loop-number-clause-count : goal.returns-after-loop-number-clause-count
+returns-after-loop-number-clause-count g c = λ bytes k.
+    let v = c.args.geometry.now.layout in
+    let inv = c.loop-number.invariant in
+    omega (arith, inv.count bytes k, looked_end v bytes (bits_of c.loop-number.workspace.duplicates) (claims_before v bytes c.loop-number.number) c.loop-number.number (omega arith))

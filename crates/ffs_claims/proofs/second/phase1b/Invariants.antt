@@ -1,4 +1,4 @@
-use Rattle.std.proofs.Common.{◌≡◌, ◌<◌, ◌≤◌, ◌∷◌}
+use Rattle.std.proofs.Common.{◌≡◌, ◌+◌, ◌<◌, ◌≤◌, ◌∷◌}
 use Rattle.ffs_report.specs.Progress.{progress}
 use Rattle.ffs_phase.specs.Known.{ForBytes, IsContents}
 use Rattle.ffs_phase.specs.Runs.{SaidOf}
@@ -12,6 +12,7 @@ use Rattle.ffs_workspace.specs.Holds.{HoldsPhase1}
 use Rattle.ffs_workspace.specs.Lengths.{IsFor, HoldWindows, inodes_of}
 use Rattle.ffs_claims.specs.Lines.{of_lines, owners_from}
 use Rattle.ffs_claims.specs.Reporting.{SameClaims}
+use Rattle.ffs_claims.specs.SecondLook.{looked_at, owners_runs, second_look}
 use Rattle.ffs_claims.proofs.Reportings.{Reporting}
 use Rattle.ffs_claims.proofs.second.phase1b.Given as goal
 
@@ -25,6 +26,9 @@ invariant-loop-number g l = record {
   high : 2 < l.number → l.number ≤ inodes_of l.geometry.layout;
   runs : ForBytes (λ bytes. IsContents (g.I.Image.device l.fn.image).contents bytes × HoldsPhase1 l.geometry.layout bytes l.fn.workspace) (λ bytes.
       l.workspace.runs_again ≤ (claims_before l.geometry.layout bytes l.number).runs);
+  count : ForBytes (λ bytes. IsContents (g.I.Image.device l.fn.image).contents bytes × HoldsPhase1 l.geometry.layout bytes l.fn.workspace) (λ bytes.
+      l.workspace.runs_again + looked_at (bits_of l.workspace.duplicates) (owners_runs l.geometry.layout (claims_before l.geometry.layout bytes l.number) (owners_from l.geometry.layout bytes l.number))
+      ≡ second_look l.geometry.layout bytes);
   told : ForBytes (λ bytes. IsContents (g.I.Image.device l.fn.image).contents bytes × HoldsPhase1 l.geometry.layout bytes l.fn.workspace) (λ bytes.
       Reporting (owners_kept l.geometry.layout (claims_before l.geometry.layout bytes l.number) (owners_from l.geometry.layout bytes l.number))
       (owners_kept l.geometry.layout (no_claims l.geometry.layout) (owners_of l.geometry.layout bytes)) l.fn.workspace l.workspace);

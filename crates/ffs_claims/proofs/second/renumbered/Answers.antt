@@ -12,6 +12,7 @@ use Rattle.ffs_claims.specs.Rescan.{rescan, offers_again, runs_again}
 use Rattle.ffs_claims.specs.Reporting.{OffersReported}
 use Rattle.ffs_claims.proofs.Inodes.{ok_where}
 use Rattle.ffs_claims.proofs.Reportings.{reported_from}
+use Rattle.ffs_claims.specs.SecondLook.{Rose, looked_at, steps_runs_again}
 use Rattle.ffs_claims.proofs.second.renumbered.Goals as goal
 
 pub returns-in_err-inode-clause-text : goal.returns-in_err-inode-clause-text
@@ -57,3 +58,20 @@ returns-clause-runs g c = λ bytes t.
     ap (λ (k : ℕ). runs_again v (rescan k) (steps_of v c.in_ok-inode.inode bytes)) c.cut_of-cut.ensures
     ∙ ap (λ (i : Inode). runs_again v (rescan (slice_index c.args.workspace.now.cut.items n)) (steps_of v i bytes)) (c.in_ok-inode.ensures.inode bytes t) in
     omega (arith, c.rewalk.ensures.runs bytes (ap (λ d. d.contents) c.in_ok-inode.ensures.ok ∙ t), same)
+
+pub returns-clause-count : goal.returns-clause-count
+returns-clause-count g c =
+    let v = c.args.geometry.now.layout in
+    let n = c.args.number in
+    let w = c.args.workspace.now in
+    let d = bits_of c.args.workspace.now.duplicates in
+    ok_where c.rewalk.result _ _
+    (λ bytes. Rose w.runs_again c.rewalk.new.workspace.runs_again (looked_at d (steps_runs_again v n (rescan c.cut_of-cut.result) (steps_of v c.in_ok-inode.inode bytes))))
+    (λ bytes. Rose w.runs_again c.rewalk.new.workspace.runs_again (looked_at d (steps_runs_again v n (rescan (slice_index w.cut.items n)) (steps_of v (inode_of v bytes n) bytes))))
+    (ap (λ d. d.contents) c.in_ok-inode.ensures.ok)
+    (λ bytes t h.
+    let same : steps_runs_again v n (rescan c.cut_of-cut.result) (steps_of v c.in_ok-inode.inode bytes) ≡ steps_runs_again v n (rescan (slice_index c.args.workspace.now.cut.items n)) (steps_of v (inode_of v bytes n) bytes) =
+    ap (λ (k : ℕ). steps_runs_again v n (rescan k) (steps_of v c.in_ok-inode.inode bytes)) c.cut_of-cut.ensures
+    ∙ ap (λ (i : Inode). steps_runs_again v n (rescan (slice_index c.args.workspace.now.cut.items n)) (steps_of v i bytes)) (c.in_ok-inode.ensures.inode bytes t) in
+    subst (λ (os : List (List Offer)). Rose w.runs_again c.rewalk.new.workspace.runs_again (looked_at d os)) same h)
+    c.rewalk.ensures.count

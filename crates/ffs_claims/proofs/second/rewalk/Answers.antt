@@ -1,4 +1,4 @@
-use Rattle.std.proofs.Common.{◌≡◌, ◌∷◌, ◌++◌, replicate, [], arith, refl, ap, ◌∙◌, sym, List, ℕ}
+use Rattle.std.proofs.Common.{◌≡◌, ◌+◌, ◌∷◌, ◌++◌, replicate, [], arith, refl, ap, ◌∙◌, sym, List, ℕ}
 use Rattle.std.proofs.lemmas.Result.{err_from_is_err_and}
 use Rattle.ffs_volume.specs.Blocks.BlockCheck.{Offer, first_offers}
 use Rattle.ffs_volume.specs.Blocks.Steps.{steps_of}
@@ -15,6 +15,8 @@ use Rattle.ffs_claims.specs.Rescan.{rescan, again, step_offers_again, offers_aga
 use Rattle.ffs_claims.specs.Reporting.{after_first}
 use Rattle.ffs_claims.proofs.Reportings.{reporting_begins, reporting_ends, reporting_same, reported_from, reported_to}
 use Rattle.ffs_claims.proofs.Rewalks.{going_first, gaps_offer, gaps_seen, runs_next, offers_none, offers_stopped, reporting_on, lines_step, reporting_over, lines_over}
+use Rattle.ffs_claims.specs.SecondLook.{looked_at, steps_runs_again}
+use Rattle.ffs_claims.proofs.Looks.{looked_none, looked_next, looked_stopped, looked_over, gaps_looked}
 use Rattle.ffs_claims.proofs.second.rewalk.Goals as goal
 
 pub loop-next-init : goal.loop-next-init
@@ -32,12 +34,17 @@ loop-next-init g c =
       geometry = c.start-walk.ensures.geometry;
       device = refl;
       windows = c.requires.windows;
-      claims = record { claimed = refl; kinds = refl; cut = refl };
+      claims = record { claimed = refl; kinds = refl; cut = refl; seen = refl };
       told = λ bytes t. reporting_same _ _ _ _ _ (reporting_begins (offers_again v n (rescan c.args.cut) (steps_of v c.args.inode.now bytes)) w) (same bytes);
       runs = λ bytes t.
           let runs : runs_again v c.start-rescan.result (rest bytes c.start-walk.result) ≡ runs_again v (rescan c.args.cut) (steps_of v c.args.inode.now bytes) =
           ap (runs_again v c.start-rescan.result) (c.start-walk.ensures.steps bytes) ∙ ap (λ (x : Rescan). runs_again v x (steps_of v c.args.inode.now bytes)) begun in
           omega (arith, runs);
+      pending = c.requires.pending;
+      count = λ bytes t h.
+          let looks : steps_runs_again v n c.start-rescan.result (rest bytes c.start-walk.result) ≡ steps_runs_again v n (rescan c.args.cut) (steps_of v c.args.inode.now bytes) =
+          ap (steps_runs_again v n c.start-rescan.result) (c.start-walk.ensures.steps bytes) ∙ ap (λ (x : Rescan). steps_runs_again v n x (steps_of v c.args.inode.now bytes)) begun in
+          ap (λ (k : List (List Offer)). w.runs_again + looked_at (bits_of w.duplicates) k) looks;
       said = of_same _ _ _ _ _ _ (of_begins _ (λ bytes. of_lines (first_offers (bits_of w.duplicates) (offers_again v n (rescan c.args.cut) (steps_of v c.args.inode.now bytes)))) _)
           (λ bytes t. ap (λ (os : List Offer). of_lines (first_offers (bits_of w.duplicates) os)) (same bytes));
     }
@@ -110,7 +117,7 @@ loop-next-preserved g c =
         blocks = blocks;
         chunk = rw c.report_again.ensures.windows inv.windows.chunk;
       };
-      claims = record { claimed = c.report_again.ensures.claims.claimed ∙ inv.claims.claimed; kinds = c.report_again.ensures.claims.kinds ∙ inv.claims.kinds; cut = c.report_again.ensures.claims.cut ∙ inv.claims.cut };
+      claims = record { claimed = c.report_again.ensures.claims.claimed ∙ inv.claims.claimed; kinds = c.report_again.ensures.claims.kinds ∙ inv.claims.kinds; cut = c.report_again.ensures.claims.cut ∙ inv.claims.cut; seen = c.report_again.ensures.claims.seen ∙ inv.claims.seen };
       told = λ bytes t. reporting_same _ _ _ _ _ (reporting_on v n r r' step (rest bytes c.loop-next.walk) (rest bytes c.next.new.self) _ _ c.loop-next.workspace c.report_again.new.workspace
           (next bytes t) now (inv.told bytes t) (reported_from _ c.loop-next.workspace _ c.report_again.new.workspace c.in_ok-report_again.ensures.told refl refl)) (offers bytes t);
       runs = λ bytes t. omega (
@@ -120,6 +127,11 @@ loop-next-preserved g c =
         runs_next v r r' step (rest bytes c.loop-next.walk) (rest bytes c.next.new.self) (next bytes t) now,
         ap (runs_again v r') (gaps bytes t) ∙ gaps_seen v r' c.skip_gaps.result (rest bytes c.skip_gaps.new.self),
       );
+      pending = c.is_reported.ensures.some c.if-is_reported.false;
+      count = λ bytes t h.
+          let on = looked_next v n r r' step (rest bytes c.loop-next.walk) (rest bytes c.next.new.self) d d' (next bytes t) now inv.going (λ e. inv.pending (inv.made.unreported ∙ e)) c.in_ok-report_again.ensures.told.dup in
+          let over = ap (looked_at d') (ap (steps_runs_again v n r') (gaps bytes t) ∙ gaps_looked v n r' c.skip_gaps.result (rest bytes c.skip_gaps.new.self)) in
+          omega (arith, h, inv.count bytes t h, on, over, c.report_again.ensures.count);
       said = of_same _ _ _ _ _ _ (of_says _ _ (λ bytes. of_lines (first_offers d' (offers_again v n r' (rest bytes c.next.new.self)))) _
           (of_lines (first_offers d (step_offers_again v n r step))) _ _ _ inv.said
           (λ bytes t. lines_step v n r r' step (rest bytes c.loop-next.walk) (rest bytes c.next.new.self) d d' (next bytes t) now c.in_ok-report_again.ensures.told.dup)
@@ -181,7 +193,7 @@ returns-then-is_reported-clause-text g c =
     let r = c.loop-next.rescan in
     let r' = c.report_again.new.rescan in
     let step = c.in-Some.next in
-    let none : set_count (bits_of c.report_again.new.workspace.duplicates) ≡ 0 = sym c.report_again.ensures.made.unreported ∙ c.is_reported.ensures c.if-is_reported.true in
+    let none : set_count (bits_of c.report_again.new.workspace.duplicates) ≡ 0 = sym c.report_again.ensures.made.unreported ∙ c.is_reported.ensures.none c.if-is_reported.true in
     let next : ForBytes (IsContents (g.I.Image.device c.args.image.now).contents) (λ bytes. rest bytes c.loop-next.walk ≡ c.in-Some.next ∷ rest bytes c.next.new.self) =
     rw (inv.device, c.in-Some.is) at c.in_ok-next.ensures.steps in
     of_same _ _ _ _ _ _
@@ -199,7 +211,7 @@ returns-then-is_reported-clause-told g c =
     let r = c.loop-next.rescan in
     let r' = c.report_again.new.rescan in
     let step = c.in-Some.next in
-    let none : set_count (bits_of c.report_again.new.workspace.duplicates) ≡ 0 = sym c.report_again.ensures.made.unreported ∙ c.is_reported.ensures c.if-is_reported.true in
+    let none : set_count (bits_of c.report_again.new.workspace.duplicates) ≡ 0 = sym c.report_again.ensures.made.unreported ∙ c.is_reported.ensures.none c.if-is_reported.true in
     let next : ForBytes (IsContents (g.I.Image.device c.args.image.now).contents) (λ bytes. rest bytes c.loop-next.walk ≡ c.in-Some.next ∷ rest bytes c.next.new.self) =
     rw (inv.device, c.in-Some.is) at c.in_ok-next.ensures.steps in
     λ bytes t. reporting_over _ _ _ _ none
@@ -269,3 +281,44 @@ returns-in_default-clause-windows g c =
       blocks = rw (inv.geometry, c.in_ok-next.ensures.ok, inv.device) at c.in_ok-next.ensures.holds;
       chunk = inv.windows.chunk;
     })
+
+pub returns-then-not-is_going-clause-count : goal.returns-then-not-is_going-clause-count
+returns-then-not-is_going-clause-count g c = λ bytes t h.
+    let inv = c.loop-next.invariant in
+    let v = c.args.geometry.now.layout in
+    let n = c.args.number in
+    let d = bits_of c.loop-next.workspace.duplicates in
+    let d' = bits_of c.report_again.new.workspace.duplicates in
+    let r = c.loop-next.rescan in
+    let r' = c.report_again.new.rescan in
+    let step = c.in-Some.next in
+    let next : ForBytes (IsContents (g.I.Image.device c.args.image.now).contents) (λ bytes. rest bytes c.loop-next.walk ≡ c.in-Some.next ∷ rest bytes c.next.new.self) =
+    rw (inv.device, c.in-Some.is) at c.in_ok-next.ensures.steps in
+    let on = looked_next v n r r' step (rest bytes c.loop-next.walk) (rest bytes c.next.new.self) d d' (next bytes t) c.in_ok-report_again.ensures.again inv.going (λ e. inv.pending (inv.made.unreported ∙ e)) c.in_ok-report_again.ensures.told.dup in
+    let over = looked_stopped v n r' (rest bytes c.next.new.self) d' (sym c.is_going.ensures ∙ c.if-not-is_going.true) in
+    omega (arith, h, inv.count bytes t h, on, over, c.report_again.ensures.count)
+
+pub returns-then-is_reported-clause-count : goal.returns-then-is_reported-clause-count
+returns-then-is_reported-clause-count g c = λ bytes t h.
+    let inv = c.loop-next.invariant in
+    let v = c.args.geometry.now.layout in
+    let n = c.args.number in
+    let d = bits_of c.loop-next.workspace.duplicates in
+    let d' = bits_of c.report_again.new.workspace.duplicates in
+    let r = c.loop-next.rescan in
+    let r' = c.report_again.new.rescan in
+    let step = c.in-Some.next in
+    let next : ForBytes (IsContents (g.I.Image.device c.args.image.now).contents) (λ bytes. rest bytes c.loop-next.walk ≡ c.in-Some.next ∷ rest bytes c.next.new.self) =
+    rw (inv.device, c.in-Some.is) at c.in_ok-next.ensures.steps in
+    let on = looked_next v n r r' step (rest bytes c.loop-next.walk) (rest bytes c.next.new.self) d d' (next bytes t) c.in_ok-report_again.ensures.again inv.going (λ e. inv.pending (inv.made.unreported ∙ e)) c.in_ok-report_again.ensures.told.dup in
+    let none : set_count (bits_of c.report_again.new.workspace.duplicates) ≡ 0 = sym c.report_again.ensures.made.unreported ∙ c.is_reported.ensures.none c.if-is_reported.true in
+    let over = looked_none d' (steps_runs_again v n r' (rest bytes c.next.new.self)) none in
+    omega (arith, h, inv.count bytes t h, on, over, c.report_again.ensures.count)
+
+pub returns-in_default-clause-count : goal.returns-in_default-clause-count
+returns-in_default-clause-count g c = λ bytes t h.
+    let inv = c.loop-next.invariant in
+    let none : ForBytes (IsContents (g.I.Image.device c.args.image.now).contents) (λ bytes. rest bytes c.loop-next.walk ≡ []) =
+    rw (inv.device, c.in_default.is) at c.in_ok-next.ensures.steps in
+    let over = looked_over c.args.geometry.now.layout c.args.number c.loop-next.rescan (rest bytes c.loop-next.walk) (bits_of c.loop-next.workspace.duplicates) (none bytes t) in
+    omega (arith, inv.count bytes t h, over)

@@ -1,4 +1,4 @@
-use Rattle.std.proofs.Common.{◌≡◌, ◌+◌, ◌≤◌, true}
+use Rattle.std.proofs.Common.{◌≡◌, ◌≢◌, ◌+◌, ◌<◌, ◌≤◌, ◌^◌, true}
 use Rattle.ffs_volume.specs.Blocks.BlockCheck.{first_offers}
 use Rattle.ffs_volume.specs.Blocks.Steps.{steps_of}
 use Rattle.ffs_report.specs.Progress.{progress}
@@ -10,6 +10,7 @@ use Rattle.ffs_workspace.specs.Lengths.{IsFor, HoldWindows}
 use Rattle.ffs_claims.specs.Lines.{of_lines}
 use Rattle.ffs_claims.specs.Rescan.{rescan, is_going, offers_again, runs_again}
 use Rattle.ffs_claims.specs.Reporting.{SameClaims}
+use Rattle.ffs_claims.specs.SecondLook.{looked_at, steps_runs_again}
 use Rattle.ffs_claims.proofs.Reportings.{Reporting}
 use Rattle.ffs_claims.proofs.second.rewalk.Given as goal
 
@@ -25,6 +26,11 @@ invariant-loop-next g l = record {
       Reporting (offers_again l.geometry.layout l.number l.rescan (rest bytes l.walk)) (offers_again l.geometry.layout l.number (rescan l.cut) (steps_of l.geometry.layout l.inode bytes)) l.initial.workspace l.workspace);
   runs : ForBytes (IsContents (g.I.Image.device l.initial.image).contents) (λ bytes.
       l.workspace.runs_again + runs_again l.geometry.layout l.rescan (rest bytes l.walk) ≤ l.initial.workspace.runs_again + runs_again l.geometry.layout (rescan l.cut) (steps_of l.geometry.layout l.inode bytes));
+  pending : l.workspace.unreported ≢ 0;
+  count : ForBytes (IsContents (g.I.Image.device l.initial.image).contents) (λ bytes.
+      l.initial.workspace.runs_again + looked_at (bits_of l.initial.workspace.duplicates) (steps_runs_again l.geometry.layout l.number (rescan l.cut) (steps_of l.geometry.layout l.inode bytes)) < 2 ^ 64
+      → l.workspace.runs_again + looked_at (bits_of l.workspace.duplicates) (steps_runs_again l.geometry.layout l.number l.rescan (rest bytes l.walk))
+      ≡ l.initial.workspace.runs_again + looked_at (bits_of l.initial.workspace.duplicates) (steps_runs_again l.geometry.layout l.number (rescan l.cut) (steps_of l.geometry.layout l.inode bytes)));
   said : SaidOf (IsContents (g.I.Image.device l.initial.image).contents)
       (λ bytes. of_lines (first_offers (bits_of l.workspace.duplicates) (offers_again l.geometry.layout l.number l.rescan (rest bytes l.walk))))
       (λ bytes. of_lines (first_offers (bits_of l.initial.workspace.duplicates) (offers_again l.geometry.layout l.number (rescan l.cut) (steps_of l.geometry.layout l.inode bytes))))

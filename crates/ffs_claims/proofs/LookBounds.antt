@@ -1,0 +1,105 @@
+-- The second look sees no Run that the first one didn't see, and so its count is a u64's.
+use Rattle.std.proofs.Common.{◌≡◌, ℕ, ◌+◌, ◌-◌, ◌*◌, ◌<◌, ◌≤◌, ◌^◌, Bool, true, false, ◌==◌, List, [], ◌∷◌, map, length, arith, refl, ◌∙◌, sym}
+use Rattle.std.specs.List.{range_with_len}
+use Rattle.std.proofs.lemmas.List.{length-append}
+use Rattle.std.proofs.lemmas.List.FromFn.{length-range_with_len, length-map-range_with_len}
+use Rattle.std.proofs.lemmas.List.Sums.{count_by-le-length}
+use Rattle.ffs_volume.specs.declared.Layout.{Layout}
+use Rattle.ffs_volume.specs.declared.Step.{Step}
+use Rattle.ffs_volume.specs.declared.Step.TheVariants.{Run, Tail, Gap}
+use Rattle.ffs_volume.specs.Disk.Areas.{is_in_range, is_reserved}
+use Rattle.ffs_volume.specs.Disk.Geometry.{IsGeometry}
+use Rattle.ffs_volume.specs.Blocks.Owners.{Owner, owner_of, owners_of, inode_numbers}
+use Rattle.ffs_volume.specs.Blocks.Claims.{Claims, no_claims, reserved_map, next_inode, is_open, after_step, after_steps, after_owner, after_owners}
+use Rattle.ffs_volume.specs.Blocks.ClaimBounds.{used_bits}
+use Rattle.ffs_volume.specs.Blocks.BlockCheck.{Offer}
+use Rattle.ffs_volume.specs.Report.Whole.{claim_count}
+use Rattle.ffs_volume.proofs.Weights.{cond_holds, owner_moves}
+use Rattle.ffs_workspace.specs.Lengths.{set_count}
+use Rattle.ffs_claims.specs.Reporting.{after_first}
+use Rattle.ffs_claims.specs.SecondLook.{step_runs, steps_runs, owners_runs, looked_at, second_look}
+use Rattle.ffs_claims.proofs.Rescans.{offers_runs}
+
+-- each Run that is seen is counted once
+step_seen : (v : Layout) (i : ℕ) (s : Claims) (step : Step) → s.runs + length (step_runs v i s step)
+    ≡ (after_step v s step).runs
+step_seen v i s Gap = omega arith
+step_seen v i s Tail = one (is_open s) refl
+  where
+    one : (o : Bool) → is_open s ≡ o → s.runs + length (step_runs v i s Tail) ≡ (after_step v s Tail).runs
+    one true q = rw q (omega arith)
+    one false q = rw q (omega arith)
+step_seen v i s (Run start len block) = one (is_open s) refl (is_in_range v start len) refl (s.bad == 10) refl
+  where
+    one : (o : Bool) → is_open s ≡ o → (f : Bool) → is_in_range v start len ≡ f → (z : Bool) → (s.bad == 10) ≡ z →
+        s.runs + length (step_runs v i s (Run start len block)) ≡ (after_step v s (Run start len block)).runs
+    one false q f qf z qz = rw q (omega arith)
+    one true q true qf z qz = rw (q, qf) (sym (offers_runs v (record s { runs = s.runs + 1 })
+        (range_with_len start len)).0)
+    one true q false qf true qz = rw (q, qf, qz) refl
+    one true q false qf false qz = rw (q, qf, qz)
+        (sym (offers_runs v (record s { runs = s.runs + 1; bad = s.bad + 1 }) (range_with_len start len)).0)
+
+steps_seen : (v : Layout) (i : ℕ) (s : Claims) (steps : List Step) → s.runs + length (steps_runs v i s steps)
+    ≡ (after_steps v s steps).runs
+steps_seen v i s [] = omega arith
+steps_seen v i s (step ∷ steps) =
+    let one = step_seen v i s step in
+    let more = steps_seen v i (after_step v s step) steps in
+    omega (arith, one, more, length-append (step_runs v i s step) (steps_runs v i (after_step v s step) steps))
+
+owners_seen : (v : Layout) (s : Claims) (os : List Owner) → s.runs + length (owners_runs v s os)
+    ≡ (after_owners v s os).runs
+unfolding owners_runs
+owners_seen v s [] = omega arith
+owners_seen v s (o ∷ os) =
+    let one = steps_seen v o.number (next_inode s) o.steps in
+    let more = owners_seen v (after_owner v s o) os in
+    omega (
+      arith,
+      one,
+      more,
+      length-append (steps_runs v o.number (next_inode s) o.steps)
+          (owners_runs v (after_owner v s o) os),
+    )
+
+looked_most : (dup : List Bool) (runs : List (List Offer)) → looked_at dup runs ≤ length runs
+unfolding looked_at
+looked_most dup [] = omega arith
+looked_most dup (kept ∷ runs) =
+    cond_holds (λ n. n ≤ length (kept ∷ runs)) (set_count dup == 0) _ _
+    (λ _. omega arith)
+    (λ _. omega (arith, looked_most (after_first dup kept) runs))
+
+pub look_most : (v : Layout) (bytes : List ℕ) → second_look v bytes ≤ claim_count v bytes
+unfolding second_look claim_count
+look_most v bytes =
+    omega (
+      arith,
+      looked_most (after_owners v (no_claims v) (owners_of v bytes)).dup
+          (owners_runs v (no_claims v) (owners_of v bytes)),
+      owners_seen v (no_claims v) (owners_of v bytes),
+    )
+
+-- and each Run that is seen uses up a fragment, a bad Run or a dup offer
+inodes_move : (v : Layout) (image : List ℕ) (s : Claims) (xs : List ℕ) → IsGeometry v → length s.used ≡ v.size →
+    ((after_owners v s (map (owner_of v image) xs)).runs + used_bits s ≤ s.runs
+    + used_bits (after_owners v s (map (owner_of v image) xs)) + 22 * length xs)
+    × (length (after_owners v s (map (owner_of v image) xs)).used ≡ v.size)
+inodes_move v image s [] g h = (omega arith, h)
+inodes_move v image s (x ∷ xs) g h =
+    let one = owner_moves v image s x g h in
+    let more = inodes_move v image (after_owner v s (owner_of v image x)) xs g (one.used_length ∙ h) in
+    let few = one.bad_cap (omega arith) in
+    let few_dups = one.dups_cap (omega arith) in
+    (omega (arith, one.weighs, more.0, few, few_dups), more.1)
+
+pub look_fits : (v : Layout) (bytes : List ℕ) → IsGeometry v → second_look v bytes < 2 ^ 64
+unfolding claim_count owners_of no_claims reserved_map
+look_fits v bytes g =
+    let all = inodes_move v bytes (no_claims v) (inode_numbers v) g
+    (length-map-range_with_len (is_reserved v) 0 v.size) in
+    let many = length-range_with_len 2 (v.ncg * v.ipg - 2) in
+    let used = count_by-le-length (λ b. b) (after_owners v (no_claims v)
+    (map (owner_of v bytes) (inode_numbers v))).used in
+    omega (arith, all.0, all.1, many, used, look_most v bytes, g.numbers.inodes_below, g.numbers.size_below)

@@ -1,0 +1,141 @@
+-- How many Runs the second look sees.
+use Rattle.std.proofs.Common.{◌≡◌, ◌≢◌, ℕ, zero, suc, ◌+◌, Bool, true, false, ◌==◌, if◌then◌else◌, List, [], ◌∷◌, ◌++◌, map, replicate, arith, refl, ap, ◌∙◌, sym}
+use Rattle.std.proofs.lemmas.Bool.Decides.{nat_tests}
+use Rattle.std.specs.List.{range_with_len}
+use Rattle.ffs_volume.specs.declared.Layout.{Layout}
+use Rattle.ffs_volume.specs.declared.Step.{Step}
+use Rattle.ffs_volume.specs.declared.Step.TheVariants.{Run, Tail, Gap}
+use Rattle.ffs_volume.specs.Blocks.BlockCheck.{Offer}
+use Rattle.ffs_volume.specs.Blocks.FirstOffers.{offer_at}
+use Rattle.ffs_workspace.specs.Lengths.{set_count}
+use Rattle.ffs_claims.specs.declared.rescan.Rescan.{Rescan}
+use Rattle.ffs_claims.specs.Rescan.{is_going, run_taken, again, step_offers_again, offers_again, run_seen}
+use Rattle.ffs_claims.specs.Reporting.{after_first}
+use Rattle.ffs_claims.specs.SecondLook.{looked_at, steps_runs_again}
+use Rattle.ffs_claims.proofs.Reportings.{after_append, none_after}
+
+-- nothing is left to report
+pub looked_none : (dup : List Bool) (runs : List (List Offer)) → set_count dup ≡ 0 → looked_at dup runs ≡ 0
+unfolding looked_at
+looked_none dup [] e = refl
+looked_none dup (kept ∷ runs) e =
+    let none : (set_count dup == 0) ≡ true = grind (arith, nat_tests) in
+    ap (λ (b : Bool). if b then 0 else 1 + looked_at (after_first dup kept) runs) none
+
+-- what is left to report after some Runs
+abbrev pub after_runs : List Bool → List (List Offer) → List Bool
+after_runs dup [] = dup
+after_runs dup (kept ∷ runs) = after_runs (after_first dup kept) runs
+
+none_left : (dup : List Bool) (runs : List (List Offer)) → set_count dup ≡ 0 → after_runs dup runs ≡ dup
+none_left dup [] e = refl
+none_left dup (kept ∷ runs) e =
+    let same : after_first dup kept ≡ dup = none_after dup kept e in
+    none_left (after_first dup kept) runs (ap set_count same ∙ e) ∙ same
+
+pub looked_both : (dup : List Bool) (xs ys : List (List Offer)) → looked_at dup (xs ++ ys)
+    ≡ looked_at dup xs + looked_at (after_runs dup xs) ys
+unfolding looked_at
+looked_both dup [] ys = omega arith
+looked_both dup (kept ∷ xs) ys = one (set_count dup == 0) refl (looked_both (after_first dup kept) xs ys)
+  where
+    one : (b : Bool) → (set_count dup == 0) ≡ b →
+        looked_at (after_first dup kept) (xs ++ ys)
+        ≡ looked_at (after_first dup kept) xs + looked_at (after_runs (after_first dup kept) xs) ys →
+        looked_at dup ((kept ∷ xs) ++ ys) ≡ looked_at dup (kept ∷ xs) + looked_at (after_runs dup (kept ∷ xs)) ys
+    one true q more =
+        let none : set_count dup ≡ 0 = grind (arith, nat_tests) in
+        let past : after_runs dup (kept ∷ xs) ≡ dup = none_left dup (kept ∷ xs) none in
+        let all = looked_none dup ((kept ∷ xs) ++ ys) none in
+        let first = looked_none dup (kept ∷ xs) none in
+        let rest = ap (λ (d : List Bool). looked_at d ys) past ∙ looked_none dup ys none in
+        omega (arith, all, first, rest)
+    one false q more =
+        let all : looked_at dup ((kept ∷ xs) ++ ys)
+        ≡ 1 + looked_at (after_first dup kept) (xs ++ ys) =
+        ap (λ (b : Bool). if b then 0 else 1 + looked_at (after_first dup kept) (xs ++ ys)) q in
+        let first : looked_at dup (kept ∷ xs) ≡ 1 + looked_at (after_first dup kept) xs =
+        ap (λ (b : Bool). if b then 0 else 1 + looked_at (after_first dup kept) xs) q in
+        omega (arith, all, first, more)
+
+-- the Runs leave to report what their offers leave
+pub runs_leave : (v : Layout) (i : ℕ) (r : Rescan) (dup : List Bool) (steps : List Step) →
+    after_runs dup (steps_runs_again v i r steps) ≡ after_first dup (offers_again v i r steps)
+unfolding steps_runs_again offers_again
+runs_leave v i r dup [] = refl
+runs_leave v i r dup (Tail ∷ steps) = runs_leave v i r dup steps
+runs_leave v i r dup (Gap ∷ steps) = runs_leave v i r dup steps
+runs_leave v i r dup (Run start len block ∷ steps) =
+    one (is_going r) refl (λ (d : List Bool). runs_leave v i (again v r (Run start len block)) d steps)
+  where
+    one : (b : Bool) → is_going r ≡ b →
+        ((d : List Bool) → after_runs d (steps_runs_again v i (again v r (Run start len block)) steps)
+        ≡ after_first d (offers_again v i (again v r (Run start len block)) steps)) →
+        after_runs dup (steps_runs_again v i r (Run start len block ∷ steps))
+        ≡ after_first dup (offers_again v i r (Run start len block ∷ steps))
+    one true q more =
+        ap (λ (b : Bool). after_runs dup ((if b then map (offer_at i)
+        (range_with_len start (run_taken v r start len)) ∷ [] else [])
+        ++ steps_runs_again v i (again v r (Run start len block)) steps)) q
+        ∙ more (after_first dup (map (offer_at i) (range_with_len start (run_taken v r start len))))
+        ∙ sym (after_append dup (map (offer_at i) (range_with_len start (run_taken v r start len)))
+        (offers_again v i (again v r (Run start len block)) steps))
+        ∙ sym (ap (λ (b : Bool). after_first dup
+        ((if b then map (offer_at i) (range_with_len start (run_taken v r start len)) else [])
+        ++ offers_again v i (again v r (Run start len block)) steps)) q)
+    one false q more =
+        ap (λ (b : Bool). after_runs dup ((if b then map (offer_at i)
+        (range_with_len start (run_taken v r start len)) ∷ [] else [])
+        ++ steps_runs_again v i (again v r (Run start len block)) steps)) q
+        ∙ more dup
+        ∙ sym (ap (λ (b : Bool). after_first dup
+        ((if b then map (offer_at i) (range_with_len start (run_taken v r start len)) else [])
+        ++ offers_again v i (again v r (Run start len block)) steps)) q)
+
+-- a step more, while something is left to report
+pub looked_next : (v : Layout) (i : ℕ) (r r' : Rescan) (step : Step) (R R' : List Step) (dup dup' : List Bool) →
+    R ≡ step ∷ R' → r' ≡ again v r step → is_going r ≡ true → set_count dup ≢ 0 → dup'
+    ≡ after_first dup (step_offers_again v i r step) →
+    looked_at dup (steps_runs_again v i r R) ≡ run_seen r step + looked_at dup' (steps_runs_again v i r' R')
+unfolding steps_runs_again looked_at
+looked_next v i r r' step R R' dup dup' e now going some d =
+    ap (λ (xs : List Step). looked_at dup (steps_runs_again v i r xs)) e ∙ here step
+    ∙ ap (λ (x : Rescan). run_seen r step + looked_at (after_first dup (step_offers_again v i r step))
+    (steps_runs_again v i x R')) (sym now)
+    ∙ ap (λ (x : List Bool). run_seen r step + looked_at x (steps_runs_again v i r' R')) (sym d)
+  where
+    left : (set_count dup == 0) ≡ false
+    left = grind (arith, nat_tests)
+
+    here : (p : Step) → looked_at dup (steps_runs_again v i r (p ∷ R'))
+        ≡ run_seen r p + looked_at (after_first dup (step_offers_again v i r p)) (steps_runs_again v i (again v r p) R')
+    here Tail = omega arith
+    here Gap = omega arith
+    here (Run start len block) = rw (going, left) refl
+
+-- after the cut no Run is seen
+pub runs_stopped : (v : Layout) (i : ℕ) (r : Rescan) (R : List Step) → is_going r ≡ false → steps_runs_again v i r R
+    ≡ []
+unfolding steps_runs_again
+runs_stopped v i r [] q = refl
+runs_stopped v i r (Run start len block ∷ R) q = rw q (runs_stopped v i r R q)
+runs_stopped v i r (Tail ∷ R) q = runs_stopped v i r R q
+runs_stopped v i r (Gap ∷ R) q = runs_stopped v i r R q
+
+-- gaps in a row are no Runs
+pub gaps_looked : (v : Layout) (i : ℕ) (r : Rescan) (n : ℕ) (R : List Step) →
+    steps_runs_again v i r (replicate n Gap ++ R) ≡ steps_runs_again v i r R
+unfolding steps_runs_again
+gaps_looked v i r zero R = refl
+gaps_looked v i r (suc n) R = gaps_looked v i r n R
+
+-- where a second walk ends, no Run is left to see
+pub looked_stopped : (v : Layout) (i : ℕ) (r : Rescan) (R : List Step) (dup : List Bool) → is_going r ≡ false →
+    looked_at dup (steps_runs_again v i r R) ≡ 0
+unfolding looked_at
+looked_stopped v i r R dup q = ap (looked_at dup) (runs_stopped v i r R q)
+
+pub looked_over : (v : Layout) (i : ℕ) (r : Rescan) (R : List Step) (dup : List Bool) → R ≡ [] →
+    looked_at dup (steps_runs_again v i r R) ≡ 0
+unfolding looked_at steps_runs_again
+looked_over v i r R dup e = ap (λ (xs : List Step). looked_at dup (steps_runs_again v i r xs)) e
