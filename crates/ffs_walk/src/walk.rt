@@ -221,6 +221,7 @@ impl Walk {
     }
 
     /// The next step, where no read fails.
+    #[inline(always)]
     fn advance<I: Image>(
         &mut self,
         image: &mut I,
@@ -249,20 +250,21 @@ impl Walk {
         ensures err { IfErr result (λ fault. Faulted (I.device image.old) (I.device image.new)
             fault.sector) }
     {
-        let geometry = self.geometry;
-        let words = u64::from(geometry.layout.nindir);
+        let words = u64::from(self.geometry.layout.nindir);
         if self.single.is_left() {
-            let item = self.single.take(&geometry, 1, 0, image, blocks)?;
+            let item = self.single.take(&self.geometry, 1, 0, image, blocks)?;
             return Ok(Some(self.step_in_single(item)));
         }
         if self.double.is_left() {
-            let item = self.double.take(&geometry, words, 1, image, blocks)?;
+            let item = self
+                .double
+                .take(&self.geometry, words, 1, image, blocks)?;
             return Ok(Some(self.step_in_double(item)));
         }
         if self.triple.is_left() {
             let item = self
                 .triple
-                .take(&geometry, words * words, 2, image, blocks)?;
+                .take(&self.geometry, words * words, 2, image, blocks)?;
             return Ok(Some(self.step_in_triple(item)));
         }
         Ok(self.step_at_top())
@@ -283,6 +285,7 @@ impl Walk {
     /// The next step, and `None` after the last one. An indirect block is read whole, once, when its first word is reached.
     ///
     /// Errors: the read of an indirect block failed. The walk is over then.
+    #[inline(always)]
     pub fn next<I: Image>(
         &mut self,
         image: &mut I,
@@ -322,6 +325,7 @@ impl Walk {
     }
 
     /// Passes over the gaps that come next in the indirect block that the walk is in: how many there are.
+    #[inline(always)]
     pub fn skip_gaps(&mut self, blocks: &Blocks) -> u32
         requires room { HasRoom self.old.geometry.layout blocks.now }
         ensures steps { (contents : Option (List ℕ))
@@ -332,14 +336,13 @@ impl Walk {
         ensures geometry { self.new.geometry ≡ self.old.geometry }
         ensures blocks { self.new.blocks ≡ self.old.blocks }
     {
-        let geometry = self.geometry;
         if self.single.is_left() {
-            return self.single.skip_gaps(&geometry, 0, blocks);
+            return self.single.skip_gaps(&self.geometry, 0, blocks);
         }
         if self.double.is_left() {
-            return self.double.skip_gaps(&geometry, 1, blocks);
+            return self.double.skip_gaps(&self.geometry, 1, blocks);
         }
-        self.triple.skip_gaps(&geometry, 2, blocks)
+        self.triple.skip_gaps(&self.geometry, 2, blocks)
     }
 
     /// A walk over the blocks of an inode. Only a file or a directory has steps, and no device or short symlink.
