@@ -10,3 +10,4 @@ pub mod Reportings
 pub mod Rewalks
 pub mod Rescanned
 pub mod Whole
+pub mod DataAreas

@@ -5,11 +5,11 @@ ghost use Rattle.ffs_volume.specs.Blocks.Inodes.{used_addresses};
 ghost use Rattle.ffs_walk.specs.Fits.{FrameFits};
 
 use crate::blocks::Blocks;
-use crate::class::{last_length, used_addresses, walked_blocks};
+use crate::class::{class_of, last_length, used_addresses, walked_blocks};
 use crate::frame::{Frame, Item};
 use ffs_image::{Image, ImageFault};
 use ffs_layout::Geometry;
-use ffs_volume::{Inode, Step};
+use ffs_volume::{Class, Inode, Step};
 
 /// A walk over the blocks of an inode: its position in the inode's own addresses, and in one indirect block of each level.
 #[derive(Clone, Copy, Debug)]
@@ -42,6 +42,7 @@ pub struct Walk {
 impl Walk {
     ghost use Rattle.ffs_image.specs.Device.{Faulted, ForContents};
     ghost use Rattle.ffs_volume.specs.Blocks.Steps.{data_step, indirect_steps, steps_at, steps_of, walks};
+    ghost use Rattle.ffs_volume.specs.Blocks.Inodes as inodes;
     ghost use Rattle.ffs_volume.specs.Blocks.Inodes.{blocks_of};
     ghost use Rattle.ffs_volume.specs.declared.Step.{Step};
     ghost use Rattle.std.specs.Prelude.{Option, replicate};
@@ -346,7 +347,6 @@ impl Walk {
     }
 
     /// A walk over the blocks of an inode. Only a file or a directory has steps, and no device or short symlink.
-    #[tactic(auto, unfolding(ffs_volume::specs::Blocks::Steps::steps_of))]
     pub fn start(geometry: &Geometry, inode: &Inode) -> Walk
         ensures steps { (bytes : List ℕ) → rest bytes result
             ≡ steps_of geometry.now.layout inode.now bytes }
@@ -355,7 +355,22 @@ impl Walk {
             ≡ (if walks geometry.now.layout inode.now then blocks_of geometry.now.layout inode.now
             else 0) }
     {
-        let blocks = walked_blocks(geometry, inode);
+        Walk::of_class(geometry, inode, class_of(geometry, inode))
+    }
+
+    /// A walk over the blocks of an inode whose class is known.
+    #[inline(always)]
+    #[tactic(auto, unfolding(ffs_volume::specs::Blocks::Steps::steps_of))]
+    pub fn of_class(geometry: &Geometry, inode: &Inode, class: Class) -> Walk
+        requires { class ≡ inodes.class_of geometry.now.layout inode.now }
+        ensures steps { (bytes : List ℕ) → rest bytes result
+            ≡ steps_of geometry.now.layout inode.now bytes }
+        ensures geometry { result.geometry ≡ geometry.now }
+        ensures blocks { result.blocks
+            ≡ (if walks geometry.now.layout inode.now then blocks_of geometry.now.layout inode.now
+            else 0) }
+    {
+        let blocks = walked_blocks(geometry, inode, class);
         Walk {
             geometry: *geometry,
             addresses: inode.addresses,
