@@ -76,9 +76,28 @@ impl Walk {
         }
     }
 
+    /// The step at the address of a data block that isn't direct.
+    fn indirect_data(&self, address: u32, block: u64) -> Step
+        requires indirect { 12 ≤ block }
+        requires below { block < self.now.blocks }
+        ensures step { result ≡ data_step (extent_of self.now) address block }
+        ensures length { HasLength self.now.geometry.layout.frag result }
+        ensures within { IsWithin self.now.blocks result }
+    {
+        if address == 0 {
+            return Step::Gap;
+        }
+        Step::Run {
+            start: address,
+            len: self.geometry.layout.frag,
+            block: Some(block),
+        }
+    }
+
     /// The first step at the address of an indirect block, and the frame for the others.
     fn enter(&self, span: u64, address: u32, first: u64) -> (Step, Frame)
         requires span { 0 < span }
+        requires indirect { 12 ≤ first }
         requires first { first < self.now.blocks }
         ensures steps { (bytes : List ℕ) (child : ℕ → ℕ → List Step) →
             indirect_steps (extent_of self.now) bytes child span address first
@@ -124,7 +143,7 @@ impl Walk {
     {
         match item {
             Item::Missing => Step::Tail,
-            Item::Word { address, block } => self.data(address, block),
+            Item::Word { address, block } => self.indirect_data(address, block),
         }
     }
 
