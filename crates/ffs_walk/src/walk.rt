@@ -276,9 +276,7 @@ impl Walk {
             return Ok(Some(self.step_in_single(item)));
         }
         if self.double.is_left() {
-            let item = self
-                .double
-                .take(&self.geometry, words, 1, image, blocks)?;
+            let item = self.double.take(&self.geometry, words, 1, image, blocks)?;
             return Ok(Some(self.step_in_double(item)));
         }
         if self.triple.is_left() {
