@@ -5,6 +5,8 @@ use Rattle.ffs_volume.specs.declared.Layout.{Layout}
 use Rattle.ffs_volume.specs.declared.Step.{Step}
 use Rattle.ffs_volume.specs.declared.Step.TheVariants.{Run, Tail, Gap}
 use Rattle.ffs_volume.specs.declared.BlockMessage.{BlockMessage}
+use Rattle.ffs_volume.specs.declared.Inode.{Inode}
+use Rattle.ffs_volume.specs.Blocks.Steps.{steps_of, walks}
 use Rattle.ffs_volume.specs.Disk.Areas.{is_in_range}
 use Rattle.ffs_volume.specs.Blocks.Claims.{Claims, is_open, after_offer, after_offers, after_step, after_steps, offer_lines, offers_lines, step_lines, steps_lines, run_lines}
 use Rattle.ffs_volume.specs.Messages.Kinds.{Message, of_blocks}
@@ -129,3 +131,8 @@ gaps_stay v s (suc n) steps = gaps_stay v s n steps
 pub gaps_silent : (v : Layout) (inode : ℕ) (s : Claims) (n : ℕ) (steps : List Step) → steps_lines v inode s (replicate n Gap ++ steps) ≡ steps_lines v inode s steps
 gaps_silent v inode s zero steps = refl
 gaps_silent v inode s (suc n) steps = gaps_silent v inode s n steps
+
+-- an inode that no walk goes over has no steps
+pub no_steps : (v : Layout) (i : Inode) (bytes : List ℕ) → walks v i ≡ false → steps_of v i bytes ≡ []
+unfolding steps_of
+no_steps v i bytes h = rw h refl

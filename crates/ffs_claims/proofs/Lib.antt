@@ -13,3 +13,4 @@ pub mod Whole
 pub mod Looks
 pub mod LookBounds
 pub mod Looked
+pub mod DataAreas

@@ -17,25 +17,28 @@ ghost use Rattle.ffs_workspace.specs.Lengths.{IsFor, HoldWindows, inodes_of};
 ghost use Rattle.ffs_claims.specs.Leaves.{SameFound, Stored};
 ghost use Rattle.ffs_claims.specs.Lines.{of_lines, owner_with};
 
+use crate::area::DataArea;
 use crate::offer::{is_open, step};
 use crate::store::{begin, say_class, say_count, store};
 use ffs_image::Image;
 use ffs_layout::Geometry;
 use ffs_phase::RunFault;
 use ffs_report::{Output, Report};
-use ffs_volume::Inode;
-use ffs_walk::{Walk, class_of};
+use ffs_volume::{Class, Inode};
+use ffs_walk::{Walk, class_of, has_steps};
 use ffs_workspace::Workspace;
 
-/// Walks over an inode's blocks, claims what its steps offer, and reports what is wrong with them.
-fn claim<I: Image, W: Output>(
+/// Walks over the blocks of an inode of the class, claims what its steps offer, and reports what is wrong with them.
+fn claim_steps<I: Image, W: Output>(
     workspace: &mut Workspace,
     geometry: &Geometry,
     number: u32,
     inode: &Inode,
+    class: Class,
     image: &mut I,
     report: &mut Report<'_, W>,
 ) -> Result<(), RunFault>
+    requires class { class ≡ inodes.class_of geometry.now.layout inode.now }
     requires made { IsFor geometry.now.layout workspace.old }
     requires bad { workspace.old.bad ≡ 0 }
     requires dups { workspace.old.dups ≡ 0 }
@@ -59,15 +62,56 @@ fn claim<I: Image, W: Output>(
     ensures windows { HoldWindows geometry.now.layout (I.device image.new).contents workspace.new }
     ensures found { SameFound workspace.old workspace.new }
 {
-    let mut walk = Walk::start(geometry, inode);
+    let mut walk = Walk::of_class(geometry, inode, class);
+    let mut area = DataArea::empty();
     while let Some(next) = walk.next(image, &mut workspace.windows.blocks)? {
-        step(workspace, geometry, number, next, report)?;
+        step(workspace, geometry, &mut area, number, next, report)?;
         if !is_open(workspace) {
             break;
         }
         walk.skip_gaps(&workspace.windows.blocks);
     }
     Ok(())
+}
+
+/// Claims what the steps of an inode of the class offer, where it has any, and reports what is wrong with them.
+fn claim<I: Image, W: Output>(
+    workspace: &mut Workspace,
+    geometry: &Geometry,
+    number: u32,
+    inode: &Inode,
+    class: Class,
+    image: &mut I,
+    report: &mut Report<'_, W>,
+) -> Result<(), RunFault>
+    requires class { class ≡ inodes.class_of geometry.now.layout inode.now }
+    requires made { IsFor geometry.now.layout workspace.old }
+    requires bad { workspace.old.bad ≡ 0 }
+    requires dups { workspace.old.dups ≡ 0 }
+    requires kept { workspace.old.kept ≡ 0 }
+    requires runs { workspace.old.runs_seen < 2 ^ 61 }
+    requires volume { geometry.now.layout.size * geometry.now.layout.fsize
+        ≤ (I.device image.old).size }
+    requires windows { HoldWindows geometry.now.layout (I.device image.old).contents workspace.old }
+    ensures image { ImageAfter (I.device image.old) (I.device image.new) result }
+    ensures text { PhaseReports (IsContents (I.device image.old).contents)
+        (λ bytes. of_lines (steps_lines geometry.now.layout number (claims_of workspace.old)
+        (steps_of geometry.now.layout inode.now bytes)))
+        (progress W.sink report.old) (progress W.sink report.new) result }
+    ensures claims { OnOk result (ForBytes (IsContents (I.device image.old).contents) (λ bytes.
+        claims_of workspace.new ≡ after_steps geometry.now.layout (claims_of workspace.old)
+        (steps_of geometry.now.layout inode.now bytes))) }
+    ensures moves { OnOk result (ClaimBound (claims_of workspace.old) (claims_of workspace.new)) }
+    ensures bound { workspace.new.runs_seen + used_bits (claims_of workspace.old)
+        ≤ workspace.old.runs_seen + geometry.now.layout.size + 22 }
+    ensures made { IsFor geometry.now.layout workspace.new }
+    ensures windows { HoldWindows geometry.now.layout (I.device image.new).contents workspace.new }
+    ensures found { SameFound workspace.old workspace.new }
+{
+    if !has_steps(geometry, inode, class) {
+        return Ok(());
+    }
+    claim_steps(workspace, geometry, number, inode, class, image, report)
 }
 
 /// An inode that was read: what is reported of it, and what it claims.
@@ -106,7 +150,7 @@ fn claim_read_inode<I: Image, W: Output>(
     let class = class_of(geometry, inode);
     begin(workspace, geometry);
     say_class(report, number, class)?;
-    claim(workspace, geometry, number, inode, image, report)?;
+    claim(workspace, geometry, number, inode, class, image, report)?;
     say_count(workspace, geometry, number, class, inode.blocks, report)?;
     store(workspace, geometry, number, class, inode);
     Ok(())

@@ -12,6 +12,7 @@
 //! It rests on `ffs_workspace` and `ffs_phase`.
 #![tactic(auto)]
 
+mod area;
 mod claim;
 mod first;
 mod offer;

@@ -13,7 +13,9 @@ ghost use Rattle.ffs_workspace.specs.Lengths.{IsFor};
 ghost use Rattle.ffs_claims.specs.Leaves.{SameWindows, SameFound};
 ghost use Rattle.ffs_claims.specs.Lines.{of_lines, is_dup, dup_lines, bad_lines};
 ghost use Rattle.ffs_claims.specs.Whole.{IsWhole};
+ghost use Rattle.ffs_claims.specs.Area.{IsDataArea};
 
+use crate::area::DataArea;
 use ffs_layout::Geometry;
 use ffs_report::{Line, OutFault, Output, Report};
 use ffs_volume::{BlockMessage, Step};
@@ -235,12 +237,14 @@ fn run_in_range<W: Output>(
 fn run<W: Output>(
     workspace: &mut Workspace,
     geometry: &Geometry,
+    area: &mut DataArea,
     number: u32,
     start: u32,
     len: u32,
     report: &mut Report<'_, W>,
 ) -> Result<(), OutFault>
     requires made { IsFor geometry.now.layout workspace.old }
+    requires area { IsDataArea geometry.now.layout area.old }
     requires some { 0 < len }
     requires few { len ≤ 8 }
     requires room { workspace.old.kept < 2 ^ 62 }
@@ -253,12 +257,13 @@ fn run<W: Output>(
     ensures claims { OnOk result (claims_of workspace.new
         ≡ after_run geometry.now.layout (claims_of workspace.old) start len) }
     ensures runs { workspace.new.runs_seen ≡ workspace.old.runs_seen + 1 }
+    ensures area { IsDataArea geometry.now.layout area.new }
     ensures made { IsFor geometry.now.layout workspace.new }
     ensures windows { SameWindows workspace.old workspace.new }
     ensures found { SameFound workspace.old workspace.new }
 {
     workspace.runs_seen += 1;
-    if geometry.in_range(start, len) {
+    if area.in_range(geometry, start, len) {
         return run_in_range(workspace, geometry, number, start, len, report);
     }
     let many = workspace.bad == 10;
@@ -274,11 +279,13 @@ fn run<W: Output>(
 pub fn step<W: Output>(
     workspace: &mut Workspace,
     geometry: &Geometry,
+    area: &mut DataArea,
     number: u32,
     step: Step,
     report: &mut Report<'_, W>,
 ) -> Result<(), OutFault>
     requires made { IsFor geometry.now.layout workspace.old }
+    requires area { IsDataArea geometry.now.layout area.old }
     requires open { claims.is_open (claims_of workspace.old) ≡ true }
     requires length { HasLength geometry.now.layout.frag step }
     requires room { workspace.old.kept < 2 ^ 62 }
@@ -288,12 +295,15 @@ pub fn step<W: Output>(
     ensures claims { OnOk result (claims_of workspace.new
         ≡ after_step geometry.now.layout (claims_of workspace.old) step) }
     ensures runs { workspace.new.runs_seen ≤ workspace.old.runs_seen + 1 }
+    ensures area { IsDataArea geometry.now.layout area.new }
     ensures made { IsFor geometry.now.layout workspace.new }
     ensures windows { SameWindows workspace.old workspace.new }
     ensures found { SameFound workspace.old workspace.new }
 {
     match step {
-        Step::Run { start, len, .. } => run(workspace, geometry, number, start, len, report),
+        Step::Run { start, len, .. } => {
+            run(workspace, geometry, area, number, start, len, report)
+        }
         Step::Tail => {
             if workspace.tail {
                 return Ok(());

@@ -64,7 +64,7 @@ item_below g blocks span f Missing some fits from = tt
 item_below g blocks span f (Word address block) some fits from =
     let e : block ≡ f.first + f.next * span = from.1 in
     let below : f.first + f.next * span < blocks = word_below g.nindir blocks f.first span f.used f.next some fits.words from.0 in
-    omega (arith, e, below)
+    (omega (arith, e, fits.indirect from.0), omega (arith, e, below))
 
 pub word_fits : (g : Layout) (blocks span : ℕ) (f : Frame) → 0 < span → FrameFits g blocks span f → blocks < 2 ^ 53 → f.next < f.used → f.first + f.next * span < 2 ^ 64
 word_fits g blocks span f some fits small h =
@@ -92,6 +92,7 @@ pub kept_fits : (g : Layout) (blocks span : ℕ) (f f' : Frame) → f.next < f.u
 kept_fits g blocks span f f' some same fits = record {
   words = rw (same.2, same.1) fits.words;
   in_range_there = λ _. rw same.0 (fits.in_range_there some);
+  indirect = λ _. rw same.1 (fits.indirect some);
 }
 
 -- a walk falls where its double or triple frame takes an item, and what the item means goes below

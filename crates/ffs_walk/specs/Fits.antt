@@ -7,16 +7,17 @@ use Rattle.ffs_walk.specs.declared.frame.Frame.{Frame}
 use Rattle.ffs_walk.specs.declared.frame.Item.{Item}
 use Rattle.ffs_walk.specs.declared.frame.Item.TheVariants.{Missing, Word}
 
--- the frame is in a block in range, and counts only words that are used
+-- the frame is in a block in range, counts only words that are used, and has no direct block under it
 pub record FrameFits (g : Layout) (blocks span : ℕ) (f : Frame) : Type 0 where
   pub words : f.used ≤ used_words g.nindir blocks f.first span
   pub in_range_there : f.next < f.used → IsTrue (is_in_range g f.address g.frag)
+  pub indirect : f.next < f.used → 12 ≤ f.first
 
 -- nothing is left in the frame
 abbrev pub IsSpent : Frame → Type 0
 IsSpent f = (f.next ≡ f.used) × (f.fresh ≡ false)
 
--- the item's logical block is one of the inode
+-- the item's logical block is one of the inode, and isn't direct
 abbrev pub IsBelow : ℕ → Item → Type 0
 IsBelow blocks Missing = Unit {0}
-IsBelow blocks (Word address block) = block < blocks
+IsBelow blocks (Word address block) = (12 ≤ block) × (block < blocks)

@@ -52,12 +52,13 @@ fn is_any_set(addresses: &[u32]) -> bool
     addresses.iter().any(|a| *a != 0)
 }
 
-/// Whether an inode has steps.
-fn has_steps(geometry: &Geometry, inode: &Inode) -> bool
+/// Whether an inode of the class has steps.
+pub fn has_steps(geometry: &Geometry, inode: &Inode, class: Class) -> bool
+    requires { class ≡ inodes.class_of geometry.now.layout inode.now }
     ensures { result ≡ steps.walks geometry.now.layout inode.now }
 {
     let kind = inode.mode / 4096;
-    let walks = match class_of(geometry, inode) {
+    let walks = match class {
         Class::File | Class::Dir => true,
         _ => false,
     };
@@ -86,13 +87,14 @@ fn blocks_of(geometry: &Geometry, inode: &Inode) -> u64
     inode.size.div_ceil(u64::from(geometry.layout.bsize))
 }
 
-/// How many logical blocks of an inode a walk goes over.
-pub fn walked_blocks(geometry: &Geometry, inode: &Inode) -> u64
+/// How many logical blocks of an inode of the class a walk goes over.
+pub fn walked_blocks(geometry: &Geometry, inode: &Inode, class: Class) -> u64
+    requires { class ≡ inodes.class_of geometry.now.layout inode.now }
     ensures value { result ≡ (if steps.walks geometry.now.layout inode.now then inodes.blocks_of
         geometry.now.layout inode.now else 0) }
     ensures small { result < 2 ^ 53 }
 {
-    if has_steps(geometry, inode) {
+    if has_steps(geometry, inode, class) {
         blocks_of(geometry, inode)
     } else {
         0

@@ -67,6 +67,7 @@ impl Frame {
     }
 
     /// Takes the next item of the block, and reads the block unless it is held for the level.
+    #[inline(always)]
     pub fn take<I: Image>(
         &mut self,
         geometry: &Geometry,
@@ -115,6 +116,7 @@ impl Frame {
 
     /// Passes over the words of zero that come next, where the block is held for the level and read before: how many there are.
     /// Each means a gap, at every level.
+    #[inline(always)]
     pub fn skip_gaps(&mut self, geometry: &Geometry, level: usize, blocks: &Blocks) -> u32
         requires words { self.old.used ≤ geometry.now.layout.nindir }
         requires level { level < 3 }

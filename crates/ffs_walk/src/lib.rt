@@ -19,6 +19,6 @@ pub mod window;
 mod words;
 
 pub use blocks::Blocks;
-pub use class::class_of;
+pub use class::{class_of, has_steps};
 pub use walk::Walk;
 pub use window::Window;

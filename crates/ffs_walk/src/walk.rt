@@ -5,11 +5,11 @@ ghost use Rattle.ffs_volume.specs.Blocks.Inodes.{used_addresses};
 ghost use Rattle.ffs_walk.specs.Fits.{FrameFits};
 
 use crate::blocks::Blocks;
-use crate::class::{last_length, used_addresses, walked_blocks};
+use crate::class::{class_of, last_length, used_addresses, walked_blocks};
 use crate::frame::{Frame, Item};
 use ffs_image::{Image, ImageFault};
 use ffs_layout::Geometry;
-use ffs_volume::{Inode, Step};
+use ffs_volume::{Class, Inode, Step};
 
 /// A walk over the blocks of an inode: its position in the inode's own addresses, and in one indirect block of each level.
 #[derive(Clone, Copy, Debug)]
@@ -42,6 +42,7 @@ pub struct Walk {
 impl Walk {
     ghost use Rattle.ffs_image.specs.Device.{Faulted, ForContents};
     ghost use Rattle.ffs_volume.specs.Blocks.Steps.{data_step, indirect_steps, steps_at, steps_of, walks};
+    ghost use Rattle.ffs_volume.specs.Blocks.Inodes as inodes;
     ghost use Rattle.ffs_volume.specs.Blocks.Inodes.{blocks_of};
     ghost use Rattle.ffs_volume.specs.declared.Step.{Step};
     ghost use Rattle.std.specs.Prelude.{Option, replicate};
@@ -75,9 +76,28 @@ impl Walk {
         }
     }
 
+    /// The step at the address of a data block that isn't direct.
+    fn indirect_data(&self, address: u32, block: u64) -> Step
+        requires indirect { 12 ≤ block }
+        requires below { block < self.now.blocks }
+        ensures step { result ≡ data_step (extent_of self.now) address block }
+        ensures length { HasLength self.now.geometry.layout.frag result }
+        ensures within { IsWithin self.now.blocks result }
+    {
+        if address == 0 {
+            return Step::Gap;
+        }
+        Step::Run {
+            start: address,
+            len: self.geometry.layout.frag,
+            block: Some(block),
+        }
+    }
+
     /// The first step at the address of an indirect block, and the frame for the others.
     fn enter(&self, span: u64, address: u32, first: u64) -> (Step, Frame)
         requires span { 0 < span }
+        requires indirect { 12 ≤ first }
         requires first { first < self.now.blocks }
         ensures steps { (bytes : List ℕ) (child : ℕ → ℕ → List Step) →
             indirect_steps (extent_of self.now) bytes child span address first
@@ -123,7 +143,7 @@ impl Walk {
     {
         match item {
             Item::Missing => Step::Tail,
-            Item::Word { address, block } => self.data(address, block),
+            Item::Word { address, block } => self.indirect_data(address, block),
         }
     }
 
@@ -221,6 +241,7 @@ impl Walk {
     }
 
     /// The next step, where no read fails.
+    #[inline(always)]
     fn advance<I: Image>(
         &mut self,
         image: &mut I,
@@ -249,20 +270,19 @@ impl Walk {
         ensures err { IfErr result (λ fault. Faulted (I.device image.old) (I.device image.new)
             fault.sector) }
     {
-        let geometry = self.geometry;
-        let words = u64::from(geometry.layout.nindir);
+        let words = u64::from(self.geometry.layout.nindir);
         if self.single.is_left() {
-            let item = self.single.take(&geometry, 1, 0, image, blocks)?;
+            let item = self.single.take(&self.geometry, 1, 0, image, blocks)?;
             return Ok(Some(self.step_in_single(item)));
         }
         if self.double.is_left() {
-            let item = self.double.take(&geometry, words, 1, image, blocks)?;
+            let item = self.double.take(&self.geometry, words, 1, image, blocks)?;
             return Ok(Some(self.step_in_double(item)));
         }
         if self.triple.is_left() {
             let item = self
                 .triple
-                .take(&geometry, words * words, 2, image, blocks)?;
+                .take(&self.geometry, words * words, 2, image, blocks)?;
             return Ok(Some(self.step_in_triple(item)));
         }
         Ok(self.step_at_top())
@@ -283,6 +303,7 @@ impl Walk {
     /// The next step, and `None` after the last one. An indirect block is read whole, once, when its first word is reached.
     ///
     /// Errors: the read of an indirect block failed. The walk is over then.
+    #[inline(always)]
     pub fn next<I: Image>(
         &mut self,
         image: &mut I,
@@ -322,6 +343,7 @@ impl Walk {
     }
 
     /// Passes over the gaps that come next in the indirect block that the walk is in: how many there are.
+    #[inline(always)]
     pub fn skip_gaps(&mut self, blocks: &Blocks) -> u32
         requires room { HasRoom self.old.geometry.layout blocks.now }
         ensures steps { (contents : Option (List ℕ))
@@ -332,18 +354,16 @@ impl Walk {
         ensures geometry { self.new.geometry ≡ self.old.geometry }
         ensures blocks { self.new.blocks ≡ self.old.blocks }
     {
-        let geometry = self.geometry;
         if self.single.is_left() {
-            return self.single.skip_gaps(&geometry, 0, blocks);
+            return self.single.skip_gaps(&self.geometry, 0, blocks);
         }
         if self.double.is_left() {
-            return self.double.skip_gaps(&geometry, 1, blocks);
+            return self.double.skip_gaps(&self.geometry, 1, blocks);
         }
-        self.triple.skip_gaps(&geometry, 2, blocks)
+        self.triple.skip_gaps(&self.geometry, 2, blocks)
     }
 
     /// A walk over the blocks of an inode. Only a file or a directory has steps, and no device or short symlink.
-    #[tactic(auto, unfolding(ffs_volume::specs::Blocks::Steps::steps_of))]
     pub fn start(geometry: &Geometry, inode: &Inode) -> Walk
         ensures steps { (bytes : List ℕ) → rest bytes result
             ≡ steps_of geometry.now.layout inode.now bytes }
@@ -352,7 +372,22 @@ impl Walk {
             ≡ (if walks geometry.now.layout inode.now then blocks_of geometry.now.layout inode.now
             else 0) }
     {
-        let blocks = walked_blocks(geometry, inode);
+        Walk::of_class(geometry, inode, class_of(geometry, inode))
+    }
+
+    /// A walk over the blocks of an inode whose class is known.
+    #[inline(always)]
+    #[tactic(auto, unfolding(ffs_volume::specs::Blocks::Steps::steps_of))]
+    pub fn of_class(geometry: &Geometry, inode: &Inode, class: Class) -> Walk
+        requires { class ≡ inodes.class_of geometry.now.layout inode.now }
+        ensures steps { (bytes : List ℕ) → rest bytes result
+            ≡ steps_of geometry.now.layout inode.now bytes }
+        ensures geometry { result.geometry ≡ geometry.now }
+        ensures blocks { result.blocks
+            ≡ (if walks geometry.now.layout inode.now then blocks_of geometry.now.layout inode.now
+            else 0) }
+    {
+        let blocks = walked_blocks(geometry, inode, class);
         Walk {
             geometry: *geometry,
             addresses: inode.addresses,

@@ -21,6 +21,7 @@ pub fn word(geometry: &Geometry, block: &[u8], index: u32) -> u32
 }
 
 /// Whether a word of a block from an index on isn't zero.
+#[inline(never)]
 pub fn any_from(geometry: &Geometry, block: &[u8], used: u32) -> bool
     requires { length block.now ≡ geometry.now.layout.bsize }
     ensures { result ≡ any_word_from geometry.now.layout block.now used }

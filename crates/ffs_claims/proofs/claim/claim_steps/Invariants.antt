@@ -10,11 +10,13 @@ use Rattle.ffs_workspace.specs.Holds.{claims_of}
 use Rattle.ffs_workspace.specs.Lengths.{IsFor, HoldWindows}
 use Rattle.ffs_claims.specs.Leaves.{SameFound}
 use Rattle.ffs_claims.specs.Lines.{of_lines}
-use Rattle.ffs_claims.proofs.claim.claim.Given as goal
+use Rattle.ffs_claims.specs.Area.{IsDataArea}
+use Rattle.ffs_claims.proofs.claim.claim_steps.Given as goal
 
 abbrev pub invariant-loop-next : goal.invariant-loop-next
 invariant-loop-next g l = record {
   made : IsFor l.geometry.layout l.workspace;
+  area : IsDataArea l.geometry.layout l.area;
   open_still : is_open (claims_of l.workspace) ≡ true;
   geometry : l.walk.geometry ≡ l.geometry;
   device : g.I.Image.device l.image ≡ g.I.Image.device l.initial.image;

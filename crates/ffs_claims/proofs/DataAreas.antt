@@ -1,0 +1,35 @@
+-- Where the Runs round another Run are in range.
+use Rattle.std.proofs.Common.{◌≡◌, ℕ, ◌+◌, ◌*◌, ◌/◌, ◌<◌, ◌≤◌, min, true, arith, ◌∙◌}
+use Rattle.std.proofs.lemmas.Bool.Decides.{nat_tests}
+use Rattle.ffs_volume.specs.declared.Layout.{Layout}
+use Rattle.ffs_volume.specs.Disk.Areas.{cgbase, cgstart, cgsblock, cgdmin, is_in_range}
+use Rattle.ffs_volume.specs.Disk.Geometry.{IsGeometry}
+use Rattle.ffs_volume.proofs.AreaLaws.{group_is}
+use Rattle.ffs_volume.proofs.RunLaws.{in_range_is, is_apart}
+
+-- a Run before the metadata of a group
+pub before_metadata : (v : Layout) (c start len : ℕ) → IsGeometry v → c < v.ncg → cgbase v c ≤ start → start + len ≤ cgsblock v c → 0 < len →
+    is_in_range v start len ≡ true
+before_metadata v c start len g h low high some =
+    let group = g.groups c h in
+    let end : cgsblock v c ≤ cgdmin v c = omega (arith, g.parts.super_fits, g.parts.block_fits, g.parts.inodes_fit) in
+    let within : cgdmin v c ≤ cgbase v (c + 1) = group.within_group in
+    let inside : cgdmin v c ≤ v.size = group.within_size in
+    let same : start / v.fpg ≡ c = group_is v c start low (omega arith) in
+    let apart : is_apart v start len ≡ true = rw same (grind (arith, nat_tests)) in
+    in_range_is v g start len some ∙ apart
+
+-- a Run after the metadata of a group
+pub after_metadata : (v : Layout) (c start len : ℕ) → IsGeometry v → c < v.ncg → cgdmin v c ≤ start → start + len ≤ cgbase v (c + 1) → start + len ≤ v.size → 0 < len →
+    is_in_range v start len ≡ true
+unfolding cgstart
+after_metadata v c start len g h low high inside some =
+    let base : cgbase v c ≤ start = omega arith in
+    let same : start / v.fpg ≡ c = group_is v c start base (omega arith) in
+    let apart : is_apart v start len ≡ true = rw same (grind (arith, nat_tests)) in
+    in_range_is v g start len some ∙ apart
+
+-- the next group begins as many fragments on as a group has
+pub base_above : (v : Layout) (c : ℕ) → cgbase v (c + 1) ≡ cgbase v c + v.fpg
+unfolding cgbase
+base_above v c = grind arith

@@ -1,0 +1,9 @@
+-- Fragments where each Run is in range.
+use Rattle.std.specs.Prelude.{◌≡◌, ℕ, ◌+◌, ◌<◌, ◌≤◌, true}
+use Rattle.ffs_volume.specs.declared.Layout.{Layout}
+use Rattle.ffs_volume.specs.Disk.Areas.{is_in_range}
+use Rattle.ffs_claims.specs.declared.area.DataArea.{DataArea}
+
+-- each Run that lies in the area is in range
+pub record IsDataArea (v : Layout) (area : DataArea) : Type 0 where
+  pub runs : (start len : ℕ) → area.start ≤ start → start + len ≤ area.end → 0 < len → is_in_range v start len ≡ true

@@ -1,0 +1,66 @@
+//! The data fragments round the last Run in range.
+
+ghost use Rattle.std.specs.Prelude.{◌≡◌, ◌<◌, true};
+ghost use Rattle.ffs_volume.specs.declared.Layout.{Layout};
+ghost use Rattle.ffs_volume.specs.Disk.Areas.{is_in_range};
+
+use ffs_layout::Geometry;
+
+/// Fragments in a row, where each Run is in range.
+#[derive(Clone, Copy, Debug)]
+pub struct DataArea {
+    pub start: u32,
+    pub end: u32,
+}
+
+impl DataArea {
+    ghost use Rattle.ffs_claims.specs.Area.{IsDataArea};
+
+    /// No fragments.
+    pub fn empty() -> DataArea
+        ensures { (layout : Layout) → IsDataArea layout result }
+    {
+        DataArea { start: 0, end: 0 }
+    }
+
+    /// The data fragments before the metadata of a Run's group, or after it, as the Run is.
+    #[tactic(auto, using(ffs_volume::proofs::AreaLaws::group_below, crate::proofs::Whole::run_below))]
+    fn around(geometry: &Geometry, start: u32, len: u32) -> DataArea
+        requires some { 0 < len }
+        requires in_range { is_in_range geometry.now.layout start len ≡ true }
+        ensures { IsDataArea geometry.now.layout result }
+    {
+        let group = start / geometry.layout.fpg;
+        let base = geometry.cgbase(group);
+        let data = geometry.cgdmin(group);
+        if start < data {
+            return DataArea {
+                start: base,
+                end: geometry.cgsblock(group),
+            };
+        }
+        let limit = u64::from(base) + u64::from(geometry.layout.fpg);
+        DataArea {
+            start: data,
+            end: limit.min(u64::from(geometry.layout.size)) as u32,
+        }
+    }
+
+    /// Whether a Run is in range. If so, the area becomes the one round it.
+    #[inline(always)]
+    pub fn in_range(&mut self, geometry: &Geometry, start: u32, len: u32) -> bool
+        requires some { 0 < len }
+        requires area { IsDataArea geometry.now.layout self.old }
+        ensures value { result ≡ is_in_range geometry.now.layout start len }
+        ensures area { IsDataArea geometry.now.layout self.new }
+    {
+        if self.start <= start && u64::from(start) + u64::from(len) <= u64::from(self.end) {
+            return true;
+        }
+        if !geometry.in_range(start, len) {
+            return false;
+        }
+        *self = DataArea::around(geometry, start, len);
+        true
+    }
+}
