@@ -1,6 +1,7 @@
 //! Phase 4: how often inodes are referred to.
 
-ghost use Rattle.std.specs.Prelude.{◌≡◌, ◌≤◌, ◌<◌, ◌*◌, ◌∷◌, ◌==◌, ◌||◌, ◌&&◌, not, List, ℕ, map, slice_index};
+ghost use Rattle.std.specs.Prelude.{◌≡◌, ◌≤◌, ◌<◌, ◌*◌, [], ◌∷◌, ◌==◌, ◌||◌, ◌&&◌, not, List, ℕ, map, slice_index, IfOk, IfErr, OnOk, IsTrue};
+ghost use Rattle.ffs_image.specs.Device.{Faulted};
 ghost use Rattle.ffs_volume.specs.Messages.Kinds.{of_names, phase4 as phase4_heading};
 ghost use Rattle.ffs_volume.specs.Directories.ReferenceCheck.{counted_lines, inode_lines, reference_lines};
 ghost use Rattle.ffs_volume.specs.Directories.Volumes.{volume_of};
@@ -12,7 +13,7 @@ ghost use Rattle.ffs_volume.specs.Encodings.Kinds.{is_empty_dir_kind};
 ghost use Rattle.ffs_workspace.specs.Lengths.{IsFor, HoldWindows, inodes_of};
 
 use crate::reference::{line_for, say_line};
-use ffs_image::Image;
+use ffs_image::{Image, ImageFault};
 use ffs_layout::Geometry;
 use ffs_phase::RunFault;
 use ffs_report::{Heading, Line, Output, Report};
@@ -53,6 +54,39 @@ fn is_dead(workspace: &Workspace, geometry: &Geometry, number: u32) -> bool
     let place = number as usize;
     let suspect = workspace.marked[place] || workspace.kinds[place] == 5;
     suspect && number != 2 && !workspace.named[place]
+}
+
+// Whether an inode that is allocated isn't dead, is referred to, and has a link for each reference: nothing is reported of it.
+fn is_right<I: Image>(
+    workspace: &mut Workspace,
+    geometry: &Geometry,
+    number: u32,
+    image: &mut I,
+) -> Result<bool, ImageFault>
+    requires made { IsFor geometry.now.layout workspace.old }
+    requires number { number < inodes_of geometry.now.layout }
+    requires volume { geometry.now.layout.size * geometry.now.layout.fsize
+        ≤ (I.device image.old).size }
+    requires windows { HoldWindows geometry.now.layout (I.device image.old).contents workspace.old }
+    ensures quiet { IfOk result (λ right. IsTrue right → (bytes : List ℕ)
+        → IsContents (I.device image.old).contents bytes
+        → HoldsClaims geometry.now.layout bytes workspace.old
+        → HoldsSurvey geometry.now.layout bytes workspace.old
+        → inode_lines (volume_of geometry.now.layout bytes) number ≡ []) }
+    ensures held { workspace.new ≡ record workspace.old { windows = workspace.new.windows } }
+    ensures made { IsFor geometry.now.layout workspace.new }
+    ensures windows { HoldWindows geometry.now.layout (I.device image.new).contents workspace.new }
+    ensures ok { OnOk result (I.device image.new ≡ I.device image.old) }
+    ensures err { IfErr result (λ fault. Faulted (I.device image.old) (I.device image.new)
+        fault.sector) }
+{
+    let references = references_to(workspace, geometry, number);
+    if references == 0 || is_dead(workspace, geometry, number) {
+        return Ok(false);
+    }
+    let table = &mut workspace.windows.table;
+    let linked = table.has_links(geometry, number, references, image)?;
+    Ok(linked)
 }
 
 // What is reported of an inode that is allocated.
@@ -113,6 +147,9 @@ fn check_inode<I: Image, W: Output>(
 {
     let kind = kind_held(workspace, geometry, number);
     if kind == 0 {
+        return Ok(());
+    }
+    if is_right(workspace, geometry, number, image)? {
         return Ok(());
     }
     report_inode(workspace, geometry, number, image, report)

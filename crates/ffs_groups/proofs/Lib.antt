@@ -5,3 +5,5 @@ pub mod Adding
 pub mod MapWords
 pub mod Checks
 pub mod Words
+pub mod Bytes
+pub mod Skipping

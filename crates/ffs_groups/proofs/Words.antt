@@ -1,5 +1,5 @@
 -- Words with no free fragment or only free ones, and blocks past the end of the volume.
-use Rattle.std.proofs.Common.{◌≡◌, inl, inr, ℕ, zero, suc, ◌+◌, ◌-◌, ◌*◌, ◌/◌, ◌%◌, ◌^◌, ◌<◌, ◌≤◌, Bool, true, false, List, map, arith, refl, ap, ◌∙◌, sym, count_by, nat_eq, nat_lt, min, slice_index, bit_and}
+use Rattle.std.proofs.Common.{◌≡◌, inl, inr, ℕ, zero, suc, ◌+◌, ◌-◌, ◌*◌, ◌/◌, ◌%◌, ◌^◌, ◌<◌, ◌≤◌, Bool, true, false, List, map, arith, refl, ap, ◌∙◌, sym, count_by, nat_eq, nat_lt, min, slice_index}
 use Rattle.std.specs.Prelude.{◌==◌, ◌&&◌, not}
 use Rattle.std.specs.List.{range_with_len, sum_by}
 use Rattle.std.specs.Int.{bit_at, div_ceil}

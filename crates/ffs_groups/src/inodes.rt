@@ -1,6 +1,6 @@
 //! The inodes of a cylinder group.
 
-ghost use Rattle.std.specs.Prelude.{◌≡◌, ◌+◌, ◌*◌, ◌<◌, length, count_by, not, if◌then◌else◌};
+ghost use Rattle.std.specs.Prelude.{ℕ, ◌≡◌, ◌+◌, ◌*◌, ◌<◌, length, count_by, not, slice_index, IfSome, if◌then◌else◌};
 ghost use Rattle.ffs_volume.specs.Blocks.Inodes.{is_directory, is_allocated};
 ghost use Rattle.ffs_volume.specs.Groups.Records.{is_used_inode, is_dir, group_inodes};
 ghost use Rattle.ffs_volume.specs.Encodings.Kinds.{class_of_kind};
@@ -27,13 +27,6 @@ fn is_used_kind(kind: u8) -> bool
     kind != 0
 }
 
-fn is_dir_at(kinds: &[u8], inode: usize) -> bool
-    requires { inode < length kinds.now }
-    ensures { result ≡ is_dir (class_in kinds.now) inode }
-{
-    inode >= 2 && is_dir_kind(kinds[inode])
-}
-
 /// Whether an inode is in use: 0, 1, and each that has a type.
 pub fn is_used_at(kinds: &[u8], inode: usize) -> bool
     requires { inode < length kinds.now }
@@ -42,13 +35,30 @@ pub fn is_used_at(kinds: &[u8], inode: usize) -> bool
     inode < 2 || is_used_kind(kinds[inode])
 }
 
+/// Whether inodes of some kinds are all in use or none is, by the least and the greatest kind.
+pub fn are_used(kinds: &[u8]) -> Option<bool>
+    ensures { IfSome result (λ used. (k : ℕ) → k < length kinds.now
+        → is_allocated (class_of_kind (slice_index kinds.now k)) ≡ used) }
+{
+    let mut least = u8::MAX;
+    let mut most = 0;
+    for kind in kinds {
+        least = least.min(*kind);
+        most = most.max(*kind);
+    }
+    if most == 0 {
+        return Some(false);
+    }
+    if least > 0 { Some(true) } else { None }
+}
+
 fn one_if(holds: bool) -> u32
     ensures { result ≡ (if holds then 1 else 0) }
 {
     u32::from(holds)
 }
 
-/// The directories and the free inodes of a group.
+/// The directories and the free inodes of a group. Inodes 0 and 1 are neither.
 pub fn inode_counts(geometry: &Geometry, kinds: &[u8], group: u32) -> InodeCounts
     requires group { group < geometry.now.layout.ncg }
     requires kinds { length kinds.now ≡ geometry.now.layout.ncg * geometry.now.layout.ipg }
@@ -58,11 +68,11 @@ pub fn inode_counts(geometry: &Geometry, kinds: &[u8], group: u32) -> InodeCount
         (group_inodes geometry.now.layout group) }
 {
     let first = group as usize * geometry.layout.ipg as usize;
+    let end = first + geometry.layout.ipg as usize;
     let mut counts = InodeCounts { dirs: 0, free: 0 };
-    for place in 0..geometry.layout.ipg {
-        let inode = first + place as usize;
-        counts.dirs += one_if(is_dir_at(kinds, inode));
-        counts.free += one_if(!is_used_at(kinds, inode));
+    for inode in first.max(2)..end {
+        counts.dirs += one_if(is_dir_kind(kinds[inode]));
+        counts.free += one_if(!is_used_kind(kinds[inode]));
     }
     counts
 }

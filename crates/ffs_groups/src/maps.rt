@@ -11,16 +11,20 @@ ghost use Rattle.ffs_maps.specs.Bits.{bits_of};
 ghost use Rattle.ffs_groups.specs.Free.{free_in};
 ghost use Rattle.ffs_groups.specs.Inodes.{class_in};
 
-use crate::inodes::is_used_at;
+use crate::inodes::{are_used, is_used_at};
+use byteorder::{ByteOrder, LittleEndian};
 use ffs_layout::Geometry;
 use ffs_maps::FragmentMap;
 
-// The bits in some bytes of a map, the first one lowest.
+// The bits in some bytes of a map, the first one lowest. Most words are whole, and are read at once.
 fn word_at(map: &[u8], place: usize, bytes: usize) -> u64
     requires bytes { bytes ≤ 8 }
     requires inside { place + bytes ≤ length map.now }
     ensures { (k : ℕ) → k < 8 * bytes → nat_eq (bit_at result k) 1 ≡ map_bit map.now place k }
 {
+    if bytes == 8 {
+        return LittleEndian::read_u64(&map[place..]);
+    }
     let mut word = 0;
     for byte in 0..bytes {
         word |= u64::from(map[place + byte]) << (8 * byte);
@@ -38,13 +42,25 @@ fn with_bit(word: u64, place: u32, bit: bool) -> u64
     if bit { word | 1 << place } else { word }
 }
 
-// Which of some inodes are in use, the first one lowest.
+// A word of which each bit is set, or none.
+fn filled(bit: bool) -> u64
+    ensures { (k : ℕ) → k < 64 → nat_eq (bit_at result k) 1 ≡ bit }
+{
+    if bit { u64::MAX } else { 0 }
+}
+
+// Which of some inodes are in use, the first one lowest. Of most words all are, or none is.
 fn used_word(kinds: &[u8], first: usize, count: u32) -> u64
     requires count { count ≤ 64 }
     requires inside { first + count ≤ length kinds.now }
     ensures { (k : ℕ) → k < count → nat_eq (bit_at result k) 1
         ≡ is_used_inode (class_in kinds.now) (first + k) }
 {
+    if first >= 2 {
+        if let Some(used) = are_used(&kinds[first..first + count as usize]) {
+            return filled(used);
+        }
+    }
     let mut word = 0;
     for place in 0..count {
         word = with_bit(word, place, is_used_at(kinds, first + place as usize));

@@ -87,15 +87,16 @@ impl FragmentMap {
             ≡ is_clear (bits_of self.now) self.now.size (64 * index + k) }
     {
         let words = self.words.as_slice();
+        let whole = self.size as usize / 64;
+        if index < whole {
+            return !words[index];
+        }
         if index >= words.len() {
             return 0;
         }
         let word = words[index];
         let clear = !word;
         let left = self.size as usize - 64 * index;
-        if left >= 64 {
-            return clear;
-        }
         clear & ((1 << left) - 1)
     }
 

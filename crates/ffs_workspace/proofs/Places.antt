@@ -103,16 +103,21 @@ piece_of place length at n bytes h =
     ∙ take-take n (length - at) (drop at (drop place bytes)) (omega arith)
     ∙ ap (λ (xs : List ℕ). take n xs) (drop-drop at place bytes)
 
--- an inode is read from its block
-pub inode_there : (v : Layout) (x place at : ℕ) (bytes held : List ℕ) (i : Inode) → IsGeometry v → at ≡ 128 * (x % v.ipg % v.inopb) →
-    place + 128 * (x % v.ipg % v.inopb) ≡ inode_place v x → held ≡ piece place v.bsize bytes → i ≡ decoded v.order (slice_range held at (at + 128)) →
-    i ≡ inode_of v bytes x
-unfolding inode_of
-inode_there v x place at bytes held i g is_at is_place is_held is =
+-- the bytes of an inode, in its block
+pub bytes_there : (v : Layout) (x place at : ℕ) (bytes held : List ℕ) → IsGeometry v → at ≡ 128 * (x % v.ipg % v.inopb) →
+    place + 128 * (x % v.ipg % v.inopb) ≡ inode_place v x → held ≡ piece place v.bsize bytes → slice_range held at (at + 128) ≡ piece (inode_place v x) 128 bytes
+bytes_there v x place at bytes held g is_at is_place is_held =
     let inside : at + 128 ≤ v.bsize = omega (arith, inside_block v x g) in
     let same : place + at ≡ inode_place v x = omega arith in
     let many : at + 128 - at ≡ 128 = omega arith in
-    is
-    ∙ ap (λ (xs : List ℕ). decoded v.order (slice_range xs at (at + 128))) is_held
-    ∙ ap (λ (n : ℕ). decoded v.order (take n (drop at (piece place v.bsize bytes)))) many
-    ∙ ap (decoded v.order) (piece_of place v.bsize at 128 bytes inside ∙ ap (λ (n : ℕ). piece n 128 bytes) same)
+    ap (λ (xs : List ℕ). slice_range xs at (at + 128)) is_held
+    ∙ ap (λ (n : ℕ). take n (drop at (piece place v.bsize bytes))) many
+    ∙ piece_of place v.bsize at 128 bytes inside
+    ∙ ap (λ (n : ℕ). piece n 128 bytes) same
+
+-- a value of the bytes of an inode that are held is its value of the inode
+pub inode_there : {T : Type 0} (value : Inode → T) (v : Layout) (x at : ℕ) (bytes held held' : List ℕ) (i : T) → held' ≡ held → slice_range held at (at + 128) ≡ piece (inode_place v x) 128 bytes →
+    i ≡ value (decoded v.order (slice_range held' at (at + 128))) → i ≡ value (inode_of v bytes x)
+unfolding inode_of
+inode_there value v x at bytes held held' i same there is =
+    is ∙ ap (λ (xs : List ℕ). value (decoded v.order (slice_range xs at (at + 128)))) same ∙ ap (λ (xs : List ℕ). value (decoded v.order xs)) there

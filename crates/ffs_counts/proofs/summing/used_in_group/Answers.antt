@@ -1,4 +1,4 @@
-use Rattle.std.proofs.Common.{arith, ap, ◌∙◌, ◌+◌}
+use Rattle.std.proofs.Common.{arith, ap, ◌+◌}
 use Rattle.ffs_volume.specs.Disk.Areas.{cgbase}
 use Rattle.ffs_volume.specs.Groups.Records.{group_size}
 use Rattle.ffs_maps.specs.Bits.{bits_of}

@@ -1,7 +1,7 @@
-use Rattle.std.proofs.Common.{arith, rules, refl, ◌∙◌, ◌≡◌, ◌<◌, ◌+◌, ◌*◌, ◌/◌, ◌^◌}
+use Rattle.std.proofs.Common.{arith, refl, ◌∙◌, ◌≡◌, ◌+◌, ◌*◌, ◌/◌, ◌^◌}
 use Rattle.std.proofs.lemmas.List.FromFn.{length-map-range_with_len}
 use Rattle.ffs_volume.specs.Disk.Areas.{cgbase}
-use Rattle.ffs_volume.specs.Groups.Records.{block_bits, right_frsum}
+use Rattle.ffs_volume.specs.Groups.Records.{block_bits}
 use Rattle.ffs_maps.specs.Bits.{bits_of}
 use Rattle.ffs_groups.specs.Free.{word_bits, free_in, whole_in, loose_in, runs_in}
 use Rattle.ffs_groups.proofs.Words.{free_there, fits_blocks, fits_fragments}

@@ -1,0 +1,6 @@
+use Rattle.std.proofs.Common.{refl, ◌∙◌, sym}
+use Rattle.ffs_groups.proofs.Skipping.{all_bits}
+use Rattle.ffs_groups.proofs.maps.filled.Goals as goal
+
+pub returns-then-bit : goal.returns-then-bit
+returns-then-bit c = λ k h. all_bits _ k refl h ∙ sym c.if-bit.true
