@@ -38,7 +38,7 @@ last-length : (names : List (List ℕ)) (name : List ℕ) → length (joined (na
 last-length names name = ap length (joined-last names name) ∙ length-append (joined names) (47 ∷ name)
 
 -- the longest end of names with one more
-pub end-last : (names : List (List ℕ)) (name : List ℕ) → length name ≤ 255 → longest_end 1023 (names ++ name ∷ []) ≡ longest_end (1022 - length name) names ++ name ∷ []
+pub end-last : (names : List (List ℕ)) (name : List ℕ) → length name ≤ 512 → longest_end 1023 (names ++ name ∷ []) ≡ longest_end (1022 - length name) names ++ name ∷ []
 unfolding longest_end
 end-last [] name h = let l = joined-length name [] in end-all 1023 name [] (omega arith)
 end-last (x ∷ names) name h =
@@ -112,7 +112,7 @@ entry-whole names name start bytes low size whole room =
     ap (λ b. if b then 63 ∷ joined (longest_end 1023 (names ++ name ∷ [])) else joined (names ++ name ∷ [])) (under_is (length (joined (names ++ name ∷ []))) (omega arith))
     ∙ (joined-last names name ∙ ap (λ xs. xs ++ 47 ∷ name) (sym whole))
 
-entry-cut : (names : List (List ℕ)) (name : List ℕ) → length name ≤ 255 → 1024 < length (joined names) + suc (length name)
+entry-cut : (names : List (List ℕ)) (name : List ℕ) → length name ≤ 512 → 1024 < length (joined names) + suc (length name)
     → path_text (names ++ name ∷ []) ≡ 63 ∷ (joined (longest_end (1022 - length name) names) ++ 47 ∷ name)
 unfolding path_text
 entry-cut names name short over =
@@ -138,7 +138,7 @@ tail_at names short from bytes after low size held single =
     ap (λ i. drop i bytes) (omega arith) ∙ (sym (drop-drop (from - short) short bytes) ∙ ap (drop (from - short)) held) in
     ap from_slash there ∙ (slash_end names (from - short) single ∙ ap (λ i. joined (longest_end i names)) (omega arith))
 
-pub entry-tail : (names : List (List ℕ)) (name : List ℕ) (short start : ℕ) (bytes : List ℕ) → length name ≤ 255 → short ≤ 1024 → length bytes ≡ 1024
+pub entry-tail : (names : List (List ℕ)) (name : List ℕ) (short start : ℕ) (bytes : List ℕ) → length name ≤ 512 → short ≤ 1024 → length bytes ≡ 1024
     → drop short bytes ≡ joined (longest_end 1023 names) → AreSingle names → 1024 < length (joined names) + suc (length name)
     → drop start bytes ≡ from_slash (drop (max short (length name + 2)) bytes)
     → path_text (names ++ name ∷ []) ≡ 63 ∷ (drop start bytes ++ 47 ∷ name)

@@ -120,11 +120,11 @@ impl PathBuffer {
                 .unwrap();
         }
     }
-    /// Writes the path with a name more at its end, which has one byte to 255: all names where they have room, else `?` and
+    /// Writes the path with a name more at its end, which has one byte to 512: all names where they have room, else `?` and
     /// their longest end of at most 1,023 bytes.
     pub fn put_with(&self, name: &[u8], text: &mut PathText)
         requires empty { text.old.items ≡ [] }
-        requires name { length name.now ≤ 255 }
+        requires name { length name.now ≤ 512 }
         ensures { (names : List (List ℕ)) → HoldsNames self.now names → AreSingle names
             → text.new.items ≡ path_text (names ++ name.now ∷ []) }
     {

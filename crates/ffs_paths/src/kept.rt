@@ -32,7 +32,7 @@ impl DirectoryPath {
     /// Writes the path of an entry of the directory: leading names are dropped where 1,024 bytes don't hold all.
     pub fn put_entry(&self, name: &[u8], text: &mut PathText)
         requires empty { text.old.items ≡ [] }
-        requires name { length name.now ≤ 255 }
+        requires name { length name.now ≤ 512 }
         ensures { (g : Graph) (dir : ℕ) → IsPathOf g dir self.now → text.new.items
             ≡ entry_path g dir name.now }
     {
