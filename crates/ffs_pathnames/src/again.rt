@@ -7,6 +7,7 @@ ghost use Rattle.ffs_volume.specs.Directories.Volumes.{volume_of};
 ghost use Rattle.ffs_phase.specs.Known.{ForBytes};
 ghost use Rattle.ffs_phase.specs.Runs.{ImageAfter, PhaseReports};
 ghost use Rattle.ffs_report.specs.Progress.{progress};
+ghost use Rattle.ffs_paths.specs.Siblings.{KeepSiblings};
 ghost use Rattle.ffs_workspace.specs.Lengths.{IsFor, HoldWindows};
 ghost use Rattle.ffs_workspace.specs.Leaves.{LeavesSurvey};
 ghost use Rattle.ffs_pathnames.specs.Gathers.{marks_of};
@@ -18,6 +19,7 @@ use crate::paths::own_path;
 use ffs_image::Image;
 use ffs_layout::Geometry;
 use ffs_names::Chunks;
+use ffs_paths::Siblings;
 use ffs_phase::RunFault;
 use ffs_report::{Output, Report};
 use ffs_volume::Inode;
@@ -28,6 +30,7 @@ pub fn report_directory<I: Image, W: Output>(
     geometry: &Geometry,
     image: &mut I,
     workspace: &mut Workspace,
+    siblings: &mut Siblings,
     report: &mut Report<'_, W>,
     dir: u32,
     inode: &Inode,
@@ -37,6 +40,8 @@ pub fn report_directory<I: Image, W: Output>(
         ≤ (I.device image.old).size }
     requires windows { HoldWindows geometry.now.layout (I.device image.old).contents workspace.old }
     requires dir { dir < geometry.now.layout.ncg * geometry.now.layout.ipg }
+    requires siblings { KeepSiblings geometry.now.layout (I.device image.old).contents workspace.old
+        siblings.old }
     ensures image { ImageAfter (I.device image.old) (I.device image.new) result }
     ensures text { PhaseReports (λ b. DirectoryContext geometry.now.layout
         (I.device image.old).contents workspace.old dir b
@@ -50,6 +55,8 @@ pub fn report_directory<I: Image, W: Output>(
         marks.after_entries (volume_of geometry.now.layout b) dir (marks_of workspace.old)
         (roled_entries (volume_of geometry.now.layout b) dir) ≡ marks_of workspace.new)) }
     ensures survey { LeavesSurvey workspace.old workspace.new }
+    ensures siblings { OnOk result (KeepSiblings geometry.now.layout (I.device image.new).contents
+        workspace.new siblings.new) }
     ensures made { IsFor geometry.now.layout workspace.new }
     ensures windows { HoldWindows geometry.now.layout (I.device image.new).contents workspace.new }
 {
@@ -65,7 +72,7 @@ pub fn report_directory<I: Image, W: Output>(
     )? {
         let first = offset == 0;
         report_chunk(
-            geometry, image, workspace, report, dir, &path, first, &chunk,
+            geometry, image, workspace, siblings, report, dir, &path, first, &chunk,
         )?;
     }
     Ok(())

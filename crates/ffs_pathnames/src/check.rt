@@ -6,6 +6,7 @@ ghost use Rattle.ffs_volume.specs.Directories.Volumes.{volume_of};
 ghost use Rattle.ffs_phase.specs.Known.{ForBytes};
 ghost use Rattle.ffs_phase.specs.Runs.{ImageAfter, PhaseReports};
 ghost use Rattle.ffs_report.specs.Progress.{progress};
+ghost use Rattle.ffs_paths.specs.Siblings.{KeepSiblings};
 ghost use Rattle.ffs_workspace.specs.Lengths.{IsFor, HoldWindows};
 ghost use Rattle.ffs_volume.specs.Directories.Graph.{parent};
 ghost use Rattle.ffs_volume.specs.Blocks.Inodes.{inode_of};
@@ -28,7 +29,7 @@ use crate::starts::{Shape, is_in_order, say_starts};
 use crate::tell::gather_dir;
 use ffs_image::Image;
 use ffs_layout::{Entry, Geometry, entry_at};
-use ffs_paths::PathText;
+use ffs_paths::{PathText, Siblings};
 use ffs_phase::RunFault;
 use ffs_report::{Output, Report};
 use ffs_volume::Order;
@@ -81,6 +82,7 @@ fn report_starts<I: Image, W: Output>(
     geometry: &Geometry,
     image: &mut I,
     workspace: &mut Workspace,
+    siblings: &mut Siblings,
     report: &mut Report<'_, W>,
     dir: u32,
     parent: Option<u32>,
@@ -92,6 +94,8 @@ fn report_starts<I: Image, W: Output>(
         ≤ (I.device image.old).size }
     requires windows { HoldWindows geometry.now.layout (I.device image.old).contents workspace.old }
     requires number { dir < geometry.now.layout.ncg * geometry.now.layout.ipg }
+    requires siblings { KeepSiblings geometry.now.layout (I.device image.old).contents workspace.old
+        siblings.old }
     ensures image { ImageAfter (I.device image.old) (I.device image.new) result }
     ensures text { PhaseReports (λ b. DirectoryContext geometry.now.layout
         (I.device image.old).contents workspace.old dir b
@@ -102,6 +106,8 @@ fn report_starts<I: Image, W: Output>(
         (option_map entry_value shape.entry.second)))
         (progress W.sink report.old) (progress W.sink report.new) result }
     ensures lists { LeavesMarks workspace.old workspace.new }
+    ensures siblings { OnOk result (KeepSiblings geometry.now.layout (I.device image.new).contents
+        workspace.new siblings.new) }
     ensures made { IsFor geometry.now.layout workspace.new }
     ensures windows { HoldWindows geometry.now.layout (I.device image.new).contents workspace.new }
 {
@@ -109,7 +115,7 @@ fn report_starts<I: Image, W: Output>(
         return Ok(());
     }
     let mut path = PathText::new();
-    let attr = gather_dir(geometry, image, workspace, dir, &mut path)?;
+    let attr = gather_dir(geometry, image, workspace, siblings, dir, &mut path)?;
     say_starts(report, dir, parent, attr, path.as_slice(), shape)?;
     Ok(())
 }
@@ -119,6 +125,7 @@ fn begin_directory<I: Image, W: Output>(
     geometry: &Geometry,
     image: &mut I,
     workspace: &mut Workspace,
+    siblings: &mut Siblings,
     report: &mut Report<'_, W>,
     dir: u32,
 ) -> Result<DirectorySummary, RunFault>
@@ -128,6 +135,8 @@ fn begin_directory<I: Image, W: Output>(
     requires windows { HoldWindows geometry.now.layout (I.device image.old).contents workspace.old }
     requires number { dir < geometry.now.layout.ncg * geometry.now.layout.ipg }
     requires dir { 2 ≤ dir }
+    requires siblings { KeepSiblings geometry.now.layout (I.device image.old).contents workspace.old
+        siblings.old }
     ensures image { ImageAfter (I.device image.old) (I.device image.new) result }
     ensures text { PhaseReports (DirectoryContext geometry.now.layout (I.device image.old).contents
         workspace.old dir)
@@ -137,6 +146,8 @@ fn begin_directory<I: Image, W: Output>(
         (DirectoryContext geometry.now.layout (I.device image.old).contents workspace.old dir)
         (λ b. IsBegun geometry.now.layout b dir workspace.old e workspace.new)) }
     ensures survey { LeavesSurvey workspace.old workspace.new }
+    ensures siblings { OnOk result (KeepSiblings geometry.now.layout (I.device image.new).contents
+        workspace.new siblings.new) }
     ensures made { IsFor geometry.now.layout workspace.new }
     ensures windows { HoldWindows geometry.now.layout (I.device image.new).contents workspace.new }
 {
@@ -154,6 +165,7 @@ fn begin_directory<I: Image, W: Output>(
         geometry,
         image,
         workspace,
+        siblings,
         report,
         dir,
         parent,
@@ -168,6 +180,7 @@ pub fn check_directory<I: Image, W: Output>(
     geometry: &Geometry,
     image: &mut I,
     workspace: &mut Workspace,
+    siblings: &mut Siblings,
     report: &mut Report<'_, W>,
     dir: u32,
 ) -> Result<(), RunFault>
@@ -177,6 +190,8 @@ pub fn check_directory<I: Image, W: Output>(
     requires windows { HoldWindows geometry.now.layout (I.device image.old).contents workspace.old }
     requires number { dir < geometry.now.layout.ncg * geometry.now.layout.ipg }
     requires dir { 2 ≤ dir }
+    requires siblings { KeepSiblings geometry.now.layout (I.device image.old).contents workspace.old
+        siblings.old }
     ensures image { ImageAfter (I.device image.old) (I.device image.new) result }
     ensures text { PhaseReports (λ b. DirectoryContext geometry.now.layout
         (I.device image.old).contents workspace.old dir b
@@ -189,12 +204,22 @@ pub fn check_directory<I: Image, W: Output>(
         (λ b. AreRightBefore (volume_of geometry.now.layout b) (suc dir)
         (marks_of workspace.new))) }
     ensures survey { LeavesSurvey workspace.old workspace.new }
+    ensures siblings { OnOk result (KeepSiblings geometry.now.layout (I.device image.new).contents
+        workspace.new siblings.new) }
     ensures made { IsFor geometry.now.layout workspace.new }
     ensures windows { HoldWindows geometry.now.layout (I.device image.new).contents workspace.new }
 {
-    let examined = begin_directory(geometry, image, workspace, report, dir)?;
+    let examined = begin_directory(geometry, image, workspace, siblings, report, dir)?;
     if examined.found.quiet {
         return Ok(());
     }
-    report_directory(geometry, image, workspace, report, dir, &examined.inode)
+    report_directory(
+        geometry,
+        image,
+        workspace,
+        siblings,
+        report,
+        dir,
+        &examined.inode,
+    )
 }

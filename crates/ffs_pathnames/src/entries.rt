@@ -10,6 +10,7 @@ ghost use Rattle.ffs_layout.specs.Entry.{entry_value};
 ghost use Rattle.ffs_phase.specs.Known.{ForBytes};
 ghost use Rattle.ffs_phase.specs.Runs.{ImageAfter, PhaseReports};
 ghost use Rattle.ffs_report.specs.Progress.{progress};
+ghost use Rattle.ffs_paths.specs.Siblings.{KeepSiblings};
 ghost use Rattle.ffs_workspace.specs.Lengths.{IsFor, HoldWindows};
 ghost use Rattle.ffs_workspace.specs.Leaves.{LeavesSurvey};
 ghost use Rattle.ffs_pathnames.specs.Examines.{LeavesMarks};
@@ -23,7 +24,7 @@ use crate::tell::{report_extra, report_plain};
 use ffs_image::Image;
 use ffs_layout::{Entry, Geometry, entry_at};
 use ffs_names::role_of;
-use ffs_paths::DirectoryPath;
+use ffs_paths::{DirectoryPath, Siblings};
 use ffs_phase::RunFault;
 use ffs_report::{Output, Report};
 use ffs_volume::Role;
@@ -34,6 +35,7 @@ fn say_entry<I: Image, W: Output>(
     geometry: &Geometry,
     image: &mut I,
     workspace: &mut Workspace,
+    siblings: &mut Siblings,
     report: &mut Report<'_, W>,
     dir: u32,
     path: &DirectoryPath,
@@ -46,6 +48,8 @@ fn say_entry<I: Image, W: Output>(
     requires windows { HoldWindows geometry.now.layout (I.device image.old).contents workspace.old }
     requires dir { dir < geometry.now.layout.ncg * geometry.now.layout.ipg }
     requires name { length entry.now.name.now ≤ 255 }
+    requires siblings { KeepSiblings geometry.now.layout (I.device image.old).contents workspace.old
+        siblings.old }
     ensures image { ImageAfter (I.device image.old) (I.device image.new) result }
     ensures text { PhaseReports (KnowsPath geometry.now.layout (I.device image.old).contents
         workspace.old dir path.now)
@@ -53,6 +57,8 @@ fn say_entry<I: Image, W: Output>(
         (marks_of workspace.old) (record { role = role; entry = entry_value entry.now })))
         (progress W.sink report.old) (progress W.sink report.new) result }
     ensures lists { LeavesMarks workspace.old workspace.new }
+    ensures siblings { OnOk result (KeepSiblings geometry.now.layout (I.device image.new).contents
+        workspace.new siblings.new) }
     ensures made { IsFor geometry.now.layout workspace.new }
     ensures windows { HoldWindows geometry.now.layout (I.device image.new).contents workspace.new }
 {
@@ -61,7 +67,9 @@ fn say_entry<I: Image, W: Output>(
         Role::Dot => Ok(()),
         Role::Dotdot => Ok(()),
         Role::Extra => report_extra(geometry, image, workspace, report, dir, path, entry),
-        Role::Plain => report_plain(geometry, image, workspace, report, dir, path, entry),
+        Role::Plain => report_plain(
+            geometry, image, workspace, siblings, report, dir, path, entry,
+        ),
     }
 }
 
@@ -70,6 +78,7 @@ pub fn report_entry<I: Image, W: Output>(
     geometry: &Geometry,
     image: &mut I,
     workspace: &mut Workspace,
+    siblings: &mut Siblings,
     report: &mut Report<'_, W>,
     dir: u32,
     path: &DirectoryPath,
@@ -82,6 +91,8 @@ pub fn report_entry<I: Image, W: Output>(
     requires windows { HoldWindows geometry.now.layout (I.device image.old).contents workspace.old }
     requires dir { dir < geometry.now.layout.ncg * geometry.now.layout.ipg }
     requires name { length entry.now.name.now ≤ 255 }
+    requires siblings { KeepSiblings geometry.now.layout (I.device image.old).contents workspace.old
+        siblings.old }
     ensures image { ImageAfter (I.device image.old) (I.device image.new) result }
     ensures text { PhaseReports (KnowsPath geometry.now.layout (I.device image.old).contents
         workspace.old dir path.now)
@@ -93,10 +104,14 @@ pub fn report_entry<I: Image, W: Output>(
         marks.after_roled (volume_of geometry.now.layout b) dir (marks_of workspace.old)
         (record { role = role; entry = entry_value entry.now }) ≡ marks_of workspace.new)) }
     ensures survey { LeavesSurvey workspace.old workspace.new }
+    ensures siblings { OnOk result (KeepSiblings geometry.now.layout (I.device image.new).contents
+        workspace.new siblings.new) }
     ensures made { IsFor geometry.now.layout workspace.new }
     ensures windows { HoldWindows geometry.now.layout (I.device image.new).contents workspace.new }
 {
-    say_entry(geometry, image, workspace, report, dir, path, role, entry)?;
+    say_entry(
+        geometry, image, workspace, siblings, report, dir, path, role, entry,
+    )?;
     let inodes = Inodes {
         kinds: workspace.kinds.as_slice(),
         marked: workspace.marked.as_slice(),
@@ -127,6 +142,7 @@ pub fn report_chunk<I: Image, W: Output>(
     geometry: &Geometry,
     image: &mut I,
     workspace: &mut Workspace,
+    siblings: &mut Siblings,
     report: &mut Report<'_, W>,
     dir: u32,
     path: &DirectoryPath,
@@ -138,6 +154,8 @@ pub fn report_chunk<I: Image, W: Output>(
         ≤ (I.device image.old).size }
     requires windows { HoldWindows geometry.now.layout (I.device image.old).contents workspace.old }
     requires dir { dir < geometry.now.layout.ncg * geometry.now.layout.ipg }
+    requires siblings { KeepSiblings geometry.now.layout (I.device image.old).contents workspace.old
+        siblings.old }
     ensures image { ImageAfter (I.device image.old) (I.device image.new) result }
     ensures text { PhaseReports (KnowsPath geometry.now.layout (I.device image.old).contents
         workspace.old dir path.now)
@@ -151,6 +169,8 @@ pub fn report_chunk<I: Image, W: Output>(
         (roled_from first 0 (entries_of geometry.now.layout.order chunk.now))
         ≡ marks_of workspace.new)) }
     ensures survey { LeavesSurvey workspace.old workspace.new }
+    ensures siblings { OnOk result (KeepSiblings geometry.now.layout (I.device image.new).contents
+        workspace.new siblings.new) }
     ensures made { IsFor geometry.now.layout workspace.new }
     ensures windows { HoldWindows geometry.now.layout (I.device image.new).contents workspace.new }
 {
@@ -160,7 +180,9 @@ pub fn report_chunk<I: Image, W: Output>(
     'entries: while let Some(entry) = entry_at(order, chunk, place) {
         let role = role_of(first, index, &entry);
         name_length(chunk, place);
-        report_entry(geometry, image, workspace, report, dir, path, role, &entry)?;
+        report_entry(
+            geometry, image, workspace, siblings, report, dir, path, role, &entry,
+        )?;
         place += usize::from(entry.length);
         index += 1;
     }

@@ -12,6 +12,7 @@ ghost use Rattle.ffs_volume.specs.Directories.Volumes.{volume_of};
 ghost use Rattle.ffs_layout.specs.Entry.{entry_value};
 ghost use Rattle.ffs_phase.specs.Runs.{ImageAfter, PhaseReports};
 ghost use Rattle.ffs_report.specs.Progress.{progress};
+ghost use Rattle.ffs_paths.specs.Siblings.{KeepSiblings};
 ghost use Rattle.ffs_workspace.specs.Lengths.{IsFor, HoldWindows};
 ghost use Rattle.ffs_workspace.specs.Holds.{HoldsClaims, HoldsSurvey};
 ghost use Rattle.ffs_pathnames.specs.Examines.{LeavesMarks};
@@ -28,7 +29,7 @@ use crate::told::say_verdict;
 use crate::view::view;
 use ffs_image::{Image, ImageFault};
 use ffs_layout::{Entry, Geometry};
-use ffs_paths::{DirectoryPath, PathText};
+use ffs_paths::{DirectoryPath, PathText, Siblings};
 use ffs_phase::RunFault;
 use ffs_report::{DotLine, Line, OutFault, Output, Report};
 use ffs_volume::{Attr, Inode};
@@ -132,6 +133,7 @@ fn gather_path<I: Image>(
     geometry: &Geometry,
     image: &mut I,
     workspace: &mut Workspace,
+    siblings: &mut Siblings,
     wanted: bool,
     dir: u32,
     text: &mut PathText,
@@ -141,12 +143,16 @@ fn gather_path<I: Image>(
         ≤ (I.device image.old).size }
     requires windows { HoldWindows geometry.now.layout (I.device image.old).contents workspace.old }
     requires number { IsTrue wanted → dir < geometry.now.layout.ncg * geometry.now.layout.ipg }
+    requires siblings { KeepSiblings geometry.now.layout (I.device image.old).contents workspace.old
+        siblings.old }
     ensures path { OnOk result ((b : List ℕ) → (I.device image.old).contents ≡ Some b
         → HoldsClaims geometry.now.layout b workspace.old
         → HoldsSurvey geometry.now.layout b workspace.old →
         IsTrue wanted → is_dir (volume_of geometry.now.layout b) dir ≡ true → text.new.items
         ≡ dir_path (graph_of (volume_of geometry.now.layout b)) dir) }
     ensures lists { LeavesMarks workspace.old workspace.new }
+    ensures siblings { OnOk result (KeepSiblings geometry.now.layout (I.device image.new).contents
+        workspace.new siblings.new) }
     ensures made { IsFor geometry.now.layout workspace.new }
     ensures windows { HoldWindows geometry.now.layout (I.device image.new).contents workspace.new }
     ensures ok { OnOk result (I.device image.new ≡ I.device image.old) }
@@ -156,7 +162,7 @@ fn gather_path<I: Image>(
     if !wanted {
         return Ok(());
     }
-    path_text(geometry, image, workspace, dir, None, text)
+    path_text(geometry, image, workspace, siblings, dir, text)
 }
 
 /// Gathers what the messages on an entry show: the entry's path into `text`, the path of the directory that it names into
@@ -165,6 +171,7 @@ fn gather<I: Image>(
     geometry: &Geometry,
     image: &mut I,
     workspace: &mut Workspace,
+    siblings: &mut Siblings,
     path: &DirectoryPath,
     entry: &Entry<'_>,
     verdict: &Verdict,
@@ -179,6 +186,8 @@ fn gather<I: Image>(
         < geometry.now.layout.ncg * geometry.now.layout.ipg }
     requires name { length entry.now.name.now ≤ 255 }
     requires empty { text.old.items ≡ [] }
+    requires siblings { KeepSiblings geometry.now.layout (I.device image.old).contents workspace.old
+        siblings.old }
     ensures enough { IfOk result (λ a. (b : List ℕ) (dir : ℕ) → (I.device image.old).contents
         ≡ Some b → HoldsClaims geometry.now.layout b workspace.old
         → HoldsSurvey geometry.now.layout b workspace.old →
@@ -188,6 +197,8 @@ fn gather<I: Image>(
         IsEnough (volume_of geometry.now.layout b) verdict.now dir entry.now.number
         entry.now.name.now a text.new.items directory.new.items) }
     ensures lists { LeavesMarks workspace.old workspace.new }
+    ensures siblings { OnOk result (KeepSiblings geometry.now.layout (I.device image.new).contents
+        workspace.new siblings.new) }
     ensures made { IsFor geometry.now.layout workspace.new }
     ensures windows { HoldWindows geometry.now.layout (I.device image.new).contents workspace.new }
     ensures ok { OnOk result (I.device image.new ≡ I.device image.old) }
@@ -200,6 +211,7 @@ fn gather<I: Image>(
         geometry,
         image,
         workspace,
+        siblings,
         wants_path,
         entry.number,
         directory,
@@ -252,6 +264,7 @@ pub fn report_plain<I: Image, W: Output>(
     geometry: &Geometry,
     image: &mut I,
     workspace: &mut Workspace,
+    siblings: &mut Siblings,
     report: &mut Report<'_, W>,
     dir: u32,
     path: &DirectoryPath,
@@ -263,6 +276,8 @@ pub fn report_plain<I: Image, W: Output>(
     requires windows { HoldWindows geometry.now.layout (I.device image.old).contents workspace.old }
     requires dir { dir < geometry.now.layout.ncg * geometry.now.layout.ipg }
     requires name { length entry.now.name.now ≤ 255 }
+    requires siblings { KeepSiblings geometry.now.layout (I.device image.old).contents workspace.old
+        siblings.old }
     ensures image { ImageAfter (I.device image.old) (I.device image.new) result }
     ensures text { PhaseReports (KnowsPath geometry.now.layout (I.device image.old).contents
         workspace.old dir path.now)
@@ -270,6 +285,8 @@ pub fn report_plain<I: Image, W: Output>(
         (marks_of workspace.old) (entry_value entry.now)))
         (progress W.sink report.old) (progress W.sink report.new) result }
     ensures lists { LeavesMarks workspace.old workspace.new }
+    ensures siblings { OnOk result (KeepSiblings geometry.now.layout (I.device image.new).contents
+        workspace.new siblings.new) }
     ensures made { IsFor geometry.now.layout workspace.new }
     ensures windows { HoldWindows geometry.now.layout (I.device image.new).contents workspace.new }
 {
@@ -283,6 +300,7 @@ pub fn report_plain<I: Image, W: Output>(
         geometry,
         image,
         workspace,
+        siblings,
         path,
         entry,
         &verdict,
@@ -337,6 +355,7 @@ pub fn gather_dir<I: Image>(
     geometry: &Geometry,
     image: &mut I,
     workspace: &mut Workspace,
+    siblings: &mut Siblings,
     dir: u32,
     path: &mut PathText,
 ) -> Result<Attr, ImageFault>
@@ -345,19 +364,23 @@ pub fn gather_dir<I: Image>(
         ≤ (I.device image.old).size }
     requires windows { HoldWindows geometry.now.layout (I.device image.old).contents workspace.old }
     requires dir { dir < geometry.now.layout.ncg * geometry.now.layout.ipg }
+    requires siblings { KeepSiblings geometry.now.layout (I.device image.old).contents workspace.old
+        siblings.old }
     ensures attr { IfOk result (λ a. ForContents (I.device image.old).contents
         (λ b. a ≡ attributes (volume_of geometry.now.layout b) dir)) }
     ensures path { OnOk result ((b : List ℕ)
         → DirectoryContext geometry.now.layout (I.device image.old).contents workspace.old dir b
         → path.new.items ≡ dir_path (graph_of (volume_of geometry.now.layout b)) dir) }
     ensures lists { LeavesMarks workspace.old workspace.new }
+    ensures siblings { OnOk result (KeepSiblings geometry.now.layout (I.device image.new).contents
+        workspace.new siblings.new) }
     ensures made { IsFor geometry.now.layout workspace.new }
     ensures windows { HoldWindows geometry.now.layout (I.device image.new).contents workspace.new }
     ensures ok { OnOk result (I.device image.new ≡ I.device image.old) }
     ensures err { IfErr result (λ fault. Faulted (I.device image.old) (I.device image.new)
         fault.sector) }
 {
-    path_text(geometry, image, workspace, dir, None, path)?;
+    path_text(geometry, image, workspace, siblings, dir, path)?;
     let attr = read_attr(geometry, image, workspace, dir)?;
     Ok(attr)
 }

@@ -7,6 +7,7 @@ ghost use Rattle.ffs_volume.specs.Messages.Kinds.{of_names, lines_from};
 ghost use Rattle.ffs_volume.specs.Directories.PathnameCheck.{goes_on, lines_of, pathname_lines};
 ghost use Rattle.ffs_volume.specs.Directories.Volumes.{volume_of};
 ghost use Rattle.ffs_workspace.specs.Holds.{bool_at};
+ghost use Rattle.ffs_paths.specs.Siblings.{KeepSiblings};
 ghost use Rattle.ffs_workspace.specs.Lengths.{IsFor, HoldWindows, inodes_of};
 ghost use Rattle.ffs_pathnames.specs.Before.{IsBefore};
 ghost use Rattle.ffs_workspace.specs.Leaves.{LeavesSurvey};
@@ -17,6 +18,7 @@ use crate::phase::Root;
 use crate::root::{report_root, root_of};
 use ffs_image::Image;
 use ffs_layout::Geometry;
+use ffs_paths::Siblings;
 use ffs_phase::RunFault;
 use ffs_report::{Output, Report};
 use ffs_workspace::Workspace;
@@ -35,6 +37,7 @@ fn check_inode<I: Image, W: Output>(
     geometry: &Geometry,
     image: &mut I,
     workspace: &mut Workspace,
+    siblings: &mut Siblings,
     report: &mut Report<'_, W>,
     number: u32,
 ) -> Result<(), RunFault>
@@ -44,6 +47,8 @@ fn check_inode<I: Image, W: Output>(
     requires windows { HoldWindows geometry.now.layout (I.device image.old).contents workspace.old }
     requires low { 2 ≤ number }
     requires number { number < inodes_of geometry.now.layout }
+    requires siblings { KeepSiblings geometry.now.layout (I.device image.old).contents workspace.old
+        siblings.old }
     ensures image { ImageAfter (I.device image.old) (I.device image.new) result }
     ensures text { PhaseReports (λ b. IsBefore geometry.now.layout (I.device image.old).contents
         workspace.old number b)
@@ -54,11 +59,13 @@ fn check_inode<I: Image, W: Output>(
         (λ b. IsBefore geometry.now.layout (I.device image.old).contents workspace.new (suc number)
         b)) }
     ensures survey { LeavesSurvey workspace.old workspace.new }
+    ensures siblings { OnOk result (KeepSiblings geometry.now.layout (I.device image.new).contents
+        workspace.new siblings.new) }
     ensures made { IsFor geometry.now.layout workspace.new }
     ensures windows { HoldWindows geometry.now.layout (I.device image.new).contents workspace.new }
 {
     if is_looked_at(workspace, geometry, number) {
-        return check_directory(geometry, image, workspace, report, number);
+        return check_directory(geometry, image, workspace, siblings, report, number);
     }
     Ok(())
 }
@@ -84,8 +91,9 @@ fn check_inodes<I: Image, W: Output>(
     ensures made { IsFor geometry.now.layout workspace.new }
     ensures windows { HoldWindows geometry.now.layout (I.device image.new).contents workspace.new }
 {
+    let mut siblings = Siblings::none(geometry);
     for number in 2..geometry.layout.ncg * geometry.layout.ipg {
-        check_inode(geometry, image, workspace, report, number)?;
+        check_inode(geometry, image, workspace, &mut siblings, report, number)?;
     }
     Ok(())
 }

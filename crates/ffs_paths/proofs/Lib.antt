@@ -1,4 +1,6 @@
+pub mod Children
 pub mod Ends
+pub mod Keeping
 pub mod Rooms
 pub mod Single
 pub mod Tails

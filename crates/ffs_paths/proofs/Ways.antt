@@ -80,7 +80,7 @@ on_front : (xs : List (List ℕ)) (n : List ℕ) (ys : List (List ℕ)) → (xs 
 on_front [] n ys = refl
 on_front (x ∷ xs) n ys = ap (λ zs. x ∷ zs) (on_front xs n ys)
 
-down_is : (g : Graph) (j at s : ℕ) → at ≢ 2 → parent g at ≡ Some s → names_down g (suc j) at ≡ names_down g j s ++ name_in at (g.entries s) ∷ []
+pub down_is : (g : Graph) (j at s : ℕ) → at ≢ 2 → parent g at ≡ Some s → names_down g (suc j) at ≡ names_down g j s ++ name_in at (g.entries s) ∷ []
 unfolding names_down
 down_is g j at s n e =
     let place : parent_entry g at ≡ first_place (names at) (g.entries s) = cond-false (at == 2) None (entry_place g at (parent g at)) (ne_eqb at 2 n) ∙ ap (entry_place g at) e in

@@ -10,7 +10,10 @@ pub mod buffer;
 pub mod climb;
 pub mod kept;
 pub mod path;
+pub mod search;
+pub mod siblings;
 
 pub use buffer::{PathBuffer, PathText};
 pub use kept::DirectoryPath;
 pub use path::{directory_path, path_of};
+pub use siblings::Siblings;

@@ -14,6 +14,8 @@ use Rattle.ffs_workspace.specs.declared.workspace.Workspace.{Workspace}
 use Rattle.ffs_workspace.specs.Lengths.{HoldWindows}
 use Rattle.ffs_workspace.specs.Leaves.{LeavesSurvey}
 use Rattle.ffs_workspace.proofs.Leaving.{claims_left, leaves_more, windows_leave}
+use Rattle.ffs_paths.specs.Siblings.{KeepSiblings}
+use Rattle.ffs_paths.proofs.Keeping.{siblings_on}
 use Rattle.ffs_pathnames.specs.Gathers.{marks_of}
 use Rattle.ffs_pathnames.specs.DirectoryContext.{DirectoryContext}
 use Rattle.ffs_pathnames.specs.Marks.{after_entries, entries_reported}
@@ -44,6 +46,7 @@ chunks-init g c =
       geometry = c.start-chunks.ensures.geometry;
       windows = subst (λ d. HoldWindows v d.contents here) ok.ok ok.windows;
       survey = ok.lists.survey;
+      siblings = siblings_on _ _ _ _ _ _ refl ok.lists.survey c.requires.siblings;
       marks = λ b k. ap (λ q. after_entries (volume_of v b) c.args.dir q (roled_entries (volume_of v b) c.args.dir)) same ∙ ap (after_entries (volume_of v b) c.args.dir (marks_of here)) (sym (seen b k));
       said = of_same _ all (λ (b : List ℕ). map of_names (entries_reported (volume_of v b) c.args.dir (marks_of here) (flat_map roled_chunk (rest b c.start-chunks.result)))) all _ _ (of_begins _ all _)
           (λ b k. ap (λ q. map of_names (entries_reported (volume_of v b) c.args.dir q (roled_entries (volume_of v b) c.args.dir))) same
@@ -75,6 +78,18 @@ report_chunk-requires-clause-windows g c =
       chunk = read.data_holds;
     }
 
+pub report_chunk-requires-clause-siblings : goal.report_chunk-requires-clause-siblings
+report_chunk-requires-clause-siblings g c =
+    let inv = c.chunks.invariant in
+    let between : Workspace = record c.chunks.workspace { windows = record c.chunks.workspace.windows { blocks = c.next.new.blocks; chunk = c.next.new.data } } in
+    siblings_on _ _ _ _ between _ (ap (λ d. d.contents) (c.in_ok-offset.ensures.ok ∙ inv.device)) (windows_leave c.chunks.workspace between refl) inv.siblings
+
+pub returns-clause-siblings : goal.returns-clause-siblings
+returns-clause-siblings g c =
+    let inv = c.chunks.invariant in
+    let between : Workspace = record c.chunks.workspace { windows = record c.chunks.workspace.windows { blocks = c.next.new.blocks; chunk = c.next.new.data } } in
+    siblings_on _ _ _ _ between _ (ap (λ d. d.contents) (c.in_ok-offset.ensures.ok ∙ inv.device)) (windows_leave c.chunks.workspace between refl) inv.siblings
+
 pub chunks-preserved : goal.chunks-preserved
 chunks-preserved g c =
     let v = c.args.geometry.now.layout in
@@ -98,6 +113,7 @@ chunks-preserved g c =
       geometry = read.geometry ∙ inv.geometry;
       windows = subst (λ d. HoldWindows v d.contents c.report_chunk.new.workspace) same ok.windows;
       survey = leaves_more _ _ _ kept ok.survey;
+      siblings = subst (λ d. KeepSiblings v d.contents c.report_chunk.new.workspace c.report_chunk.new.siblings) same ok.siblings;
       marks = λ b k. chunk_passed (volume_of v b) c.args.dir _ m m' here (rest b c.chunks.chunks) (rest b c.next.new.self) (next b k) (ok.marks b (know b k)) (inv.marks b k);
       said = of_part _ (λ (b : List ℕ). map of_names (entries_reported (volume_of v b) c.args.dir m (flat_map roled_chunk (rest b c.chunks.chunks))))
           (λ (b : List ℕ). map of_names (entries_reported (volume_of v b) c.args.dir m (roled_chunk here)))

@@ -6,7 +6,13 @@ use Rattle.ffs_pathnames.specs.declared.examine.DirectorySummary.{DirectorySumma
 use Rattle.ffs_pathnames.proofs.Begun.{said_same, fault_same, starts_are, begun_is}
 use Rattle.ffs_pathnames.proofs.Passing.{knows_on}
 use Rattle.ffs_workspace.proofs.Leaving.{survey_left}
+use Rattle.ffs_paths.proofs.Keeping.{siblings_on}
 use Rattle.ffs_pathnames.proofs.check.begin_directory.Goals as goal
+
+pub report_starts-requires-clause-siblings : goal.report_starts-requires-clause-siblings
+report_starts-requires-clause-siblings g c =
+    let examined = c.in_ok-examined.ensures in
+    siblings_on _ _ _ _ _ _ (ap (λ d. d.contents) examined.ok) examined.lists.survey c.requires.siblings
 
 pub returns-in_err-examined-clause-text : goal.returns-in_err-examined-clause-text
 returns-in_err-examined-clause-text g c =

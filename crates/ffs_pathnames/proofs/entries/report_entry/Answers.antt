@@ -1,11 +1,27 @@
-use Rattle.std.proofs.Common.{ap, ◌∙◌}
+use Rattle.std.proofs.Common.{ap, refl, ◌∙◌}
 use Rattle.std.proofs.lemmas.List.{with_items_is}
 use Rattle.ffs_volume.specs.Directories.Volumes.{volume_of}
 use Rattle.ffs_layout.specs.Entry.{entry_value}
 use Rattle.ffs_workspace.proofs.Leaving.{claims_left, survey_left}
 use Rattle.ffs_pathnames.proofs.Passed.{passes}
 use Rattle.ffs_pathnames.proofs.SeesLaws.{sees}
+use Rattle.ffs_paths.proofs.Keeping.{siblings_on}
 use Rattle.ffs_pathnames.proofs.entries.report_entry.Goals as goal
+
+pub returns-clause-siblings : goal.returns-clause-siblings
+returns-clause-siblings g c =
+    siblings_on _ _ _ c.say_entry.new.workspace _ _ refl (record {
+      claimed = refl;
+      kinds = refl;
+      marked = refl;
+      cut = refl;
+      references = refl;
+      named = refl;
+      reached = refl;
+      parents = refl;
+      runs_seen = refl;
+      runs_again = refl;
+    }) c.in_ok-say_entry.ensures.siblings
 
 pub returns-clause-marks : goal.returns-clause-marks
 returns-clause-marks g c = λ b k.

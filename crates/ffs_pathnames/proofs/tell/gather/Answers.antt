@@ -1,6 +1,7 @@
 use Rattle.std.proofs.Common.{ap, ◌∙◌}
 use Rattle.ffs_volume.specs.Directories.Parents.{graph_of}
 use Rattle.ffs_volume.specs.Directories.Volumes.{volume_of}
+use Rattle.ffs_paths.proofs.Keeping.{siblings_on}
 use Rattle.ffs_paths.proofs.Rooms.{entry_in_room}
 use Rattle.ffs_pathnames.proofs.Enough.{enough}
 use Rattle.ffs_pathnames.proofs.tell.gather.Goals as goal
@@ -13,3 +14,8 @@ returns-clause-enough g c = λ b dir t h r p l.
     (λ q. c.in_ok-attr.ensures.attr b t1 (c.asks-wants_attr.ensures.attr ∙ q))
     (c.put_entry.ensures (graph_of (volume_of v b)) dir p ∙ entry_in_room (graph_of (volume_of v b)) dir c.args.entry.now.name.now c.requires.name)
     (λ q. c.in_ok-gather_path.ensures.path b t h r (c.asks-wants_attr.ensures.directory ∙ q) (l q))
+
+pub returns-clause-siblings : goal.returns-clause-siblings
+returns-clause-siblings g c =
+    let attr = c.in_ok-attr.ensures in
+    siblings_on _ _ _ _ _ _ (ap (λ d. d.contents) attr.ok) attr.lists.survey c.in_ok-gather_path.ensures.siblings

@@ -1,11 +1,11 @@
-use Rattle.std.proofs.Common.{◌∙◌, ap, sym}
+use Rattle.std.proofs.Common.{◌∙◌, ap, sym, arith}
 use Rattle.ffs_names.specs.Entering.{to_come, last_name}
 use Rattle.ffs_names.proofs.Advances.{holds_on}
 use Rattle.ffs_names.proofs.Entered.{data_on}
 use Rattle.ffs_survey.specs.Reading.{roled_of}
 use Rattle.ffs_paths.specs.Climbing.{name_in}
 use Rattle.ffs_paths.proofs.Ways.{name_in-here, name_in-past}
-use Rattle.ffs_paths.proofs.climb.find.Goals as goal
+use Rattle.ffs_paths.proofs.search.Search.find.Goals as goal
 
 pub returns-then-names-clause-name : goal.returns-then-names-clause-name
 returns-then-names-clause-name g c = λ b t.
@@ -14,25 +14,48 @@ returns-then-names-clause-name g c = λ b t.
     let e = roled_of c.in-Some.entry (last_name c.next.new.self) in
     c.entries.invariant.name b t ∙ (ap (name_in c.args.number) (o b u) ∙ name_in-here c.args.number e (to_come b c.next.new.self) (sym c.names.ensures ∙ c.if-names.true))
 
+pub returns-then-names-clause-above : goal.returns-then-names-clause-above
+returns-then-names-clause-above g c = λ b t x h.
+    let u = ap (λ d. d.contents) c.entries.invariant.device ∙ t in
+    let o = rw c.in-Some.is at c.in_ok-entry.ensures.entries in
+    let e = roled_of c.in-Some.entry (last_name c.next.new.self) in
+    let grows = c.highest_with-self.ensures.grows in
+    c.entries.invariant.above b t x (omega arith) ∙ (ap (name_in x) (o b u) ∙ name_in-past x e (to_come b c.next.new.self) (c.highest_with-self.ensures.passed x h))
+
 pub returns-clause-name : goal.returns-clause-name
 returns-clause-name g c = λ b t.
     let u = ap (λ d. d.contents) c.entries.invariant.device ∙ t in
     let o = rw c.in_default.is at c.in_ok-entry.ensures.entries in
     c.entries.invariant.name b t ∙ ap (name_in c.args.number) (o b u)
 
+-- no entry is left
+pub returns-clause-above : goal.returns-clause-above
+returns-clause-above g c = λ b t x h.
+    let u = ap (λ d. d.contents) c.entries.invariant.device ∙ t in
+    let o = rw c.in_default.is at c.in_ok-entry.ensures.entries in
+    c.entries.invariant.above b t x h ∙ (ap (name_in x) (o b u) ∙ sym (ap (name_in x) (c.stop.ensures.entries b)))
+
 pub entries-preserved : goal.entries-preserved
 entries-preserved g c =
     let i = c.entries.invariant in
     let device = c.in_ok-entry.ensures.ok ∙ i.device in
+    let low = c.highest_with-self.ensures.grows in
+    let before = i.grows in
     record {
       name = λ b t.
           let u = ap (λ d. d.contents) i.device ∙ t in
           let o = rw c.in-Some.is at c.in_ok-entry.ensures.entries in
           let e = roled_of c.in-Some.entry (last_name c.next.new.self) in
           i.name b t ∙ (ap (name_in c.args.number) (o b u) ∙ name_in-past c.args.number e (to_come b c.next.new.self) (sym c.names.ensures ∙ c.if-names.false));
+      above = λ b t x h.
+          let u = ap (λ d. d.contents) i.device ∙ t in
+          let o = rw c.in-Some.is at c.in_ok-entry.ensures.entries in
+          let e = roled_of c.in-Some.entry (last_name c.next.new.self) in
+          i.above b t x (omega arith) ∙ (ap (name_in x) (o b u) ∙ name_in-past x e (to_come b c.next.new.self) (c.highest_with-self.ensures.passed x h));
+      grows = omega arith;
       geometry = c.next.ensures.geometry ∙ i.geometry;
       size = c.next.ensures.size ∙ i.size;
-      holds = holds_on c.args.entries.now.chunks.walk.geometry c.entries.entries.chunks.walk.geometry (g.I.Image.device c.args.image.now).contents (g.I.Image.device c.next.new.image).contents c.next.new.blocks
+      holds = holds_on c.args.self.now.entries.chunks.walk.geometry c.entries.self.entries.chunks.walk.geometry (g.I.Image.device c.args.image.now).contents (g.I.Image.device c.next.new.image).contents c.next.new.blocks
           i.geometry (ap (λ d. d.contents) device) c.next.ensures.holds;
       data_size = c.next.ensures.data_size ∙ i.data_size;
       data_holds = data_on (g.I.Image.device c.args.image.now).contents (g.I.Image.device c.next.new.image).contents c.next.new.window (ap (λ d. d.contents) device) c.next.ensures.data_holds;

@@ -1,0 +1,8 @@
+use Rattle.std.proofs.Common.{ap}
+use Rattle.ffs_paths.proofs.Keeping.{siblings_on}
+use Rattle.ffs_pathnames.proofs.tell.gather_dir.Goals as goal
+
+pub returns-clause-siblings : goal.returns-clause-siblings
+returns-clause-siblings g c =
+    let attr = c.in_ok-attr.ensures in
+    siblings_on _ _ _ _ _ _ (ap (λ d. d.contents) attr.ok) attr.lists.survey c.in_ok-path_text.ensures.siblings

@@ -1,0 +1,143 @@
+//! A search for the entries of a directory that name inodes.
+
+ghost use Rattle.std.specs.Prelude.{◌≡◌, ◌*◌, ◌<◌, ◌≤◌, ℕ, List, [], true, false, if◌then◌else◌, length, vec_len, IfOk, OnOk, IfErr};
+ghost use Rattle.ffs_image.specs.Device.{Faulted, ForContents};
+ghost use Rattle.ffs_volume.specs.Directories.Graph.{names as is_named};
+ghost use Rattle.ffs_volume.specs.Encodings.Replay.{cut_at};
+ghost use Rattle.ffs_volume.specs.Directories.Roles.{is_dir, roled_entries};
+ghost use Rattle.ffs_volume.specs.Directories.Volumes.{volume_of};
+ghost use Rattle.ffs_walk.specs.Windows.{BlocksHold, HasRoom, WindowHolds};
+ghost use Rattle.ffs_survey.specs.Reading.{roled_of};
+ghost use Rattle.ffs_names.specs.Entering.{to_come, last_name};
+ghost use Rattle.ffs_paths.specs.Climbing.{name_in, AreOpen};
+
+use ffs_image::{Image, ImageFault};
+use ffs_layout::Geometry;
+use ffs_names::Entries;
+use ffs_survey::named::{Named, is_plain};
+use ffs_walk::{Blocks, Window};
+use ffs_workspace::Windows;
+
+/// Whether an entry names an inode in the directory tree.
+fn names(entry: Named, number: u32) -> bool
+    ensures { result ≡ is_named number (roled_of entry []) }
+{
+    is_plain(entry.role) && entry.number == number
+}
+
+/// The number that bounds those of the entries that are passed, after one more.
+fn highest_with(highest: u32, entry: Named) -> u32
+    ensures grows { highest ≤ result }
+    ensures passed { (number : ℕ) → result < number → is_named number (roled_of entry []) ≡ false }
+{
+    if is_plain(entry.role) {
+        return highest.max(entry.number);
+    }
+    highest
+}
+
+/// A reading of the entries of a directory, which goes on from one search to the next.
+#[derive(Drop)]
+pub struct Search {
+    pub entries: Entries,
+    /// No plain entry that was passed names a greater number.
+    pub highest: u32,
+}
+
+impl Search {
+    /// A search in no directory.
+    pub fn none(geometry: &Geometry) -> Search
+        ensures geometry { result.entries.chunks.walk.geometry ≡ geometry.now }
+    {
+        Search {
+            entries: Entries::none(geometry),
+            highest: 0,
+        }
+    }
+
+    /// A search from the first entry of a directory. `cut` is how many offers it keeps where duplicates cut it, else 0.
+    pub fn open<I: Image>(
+        geometry: &Geometry,
+        image: &mut I,
+        windows: &mut Windows,
+        dir: u32,
+        cut: u32,
+    ) -> Result<Search, ImageFault>
+        requires number { dir < geometry.now.layout.ncg * geometry.now.layout.ipg }
+        requires volume { geometry.now.layout.size * geometry.now.layout.fsize
+            ≤ (I.device image.old).size }
+        requires windows { AreOpen geometry.now.layout (I.device image.old).contents windows.old }
+        ensures entries { IfOk result (λ search. ForContents (I.device image.old).contents
+            (λ b. is_dir (volume_of geometry.now.layout b) dir ≡ true → cut
+            ≡ cut_at geometry.now.layout b dir
+            → to_come b search.entries ≡ roled_entries (volume_of geometry.now.layout b) dir)) }
+        ensures highest { IfOk result (λ search. search.highest ≡ 0) }
+        ensures geometry { IfOk result (λ search. search.entries.chunks.walk.geometry
+            ≡ geometry.now) }
+        ensures windows { AreOpen geometry.now.layout (I.device image.new).contents windows.new }
+        ensures ok { OnOk result (I.device image.new ≡ I.device image.old) }
+        ensures err { IfErr result (λ fault. Faulted (I.device image.old) (I.device image.new)
+            fault.sector) }
+    {
+        let inode = windows.table.inode(geometry, dir, image)?;
+        Ok(Search {
+            entries: Entries::start(geometry, &inode, cut),
+            highest: 0,
+        })
+    }
+
+    /// Moves on to the first entry to come that names an inode. The answer says whether there is one.
+    pub fn find<I: Image>(
+        &mut self,
+        image: &mut I,
+        blocks: &mut Blocks,
+        window: &mut Window,
+        number: u32,
+    ) -> Result<bool, ImageFault>
+        requires volume { self.old.entries.chunks.walk.geometry.layout.size *
+            self.old.entries.chunks.walk.geometry.layout.fsize ≤ (I.device image.old).size }
+        requires room { HasRoom self.old.entries.chunks.walk.geometry.layout blocks.old }
+        requires holds { BlocksHold self.old.entries.chunks.walk.geometry.layout
+            (I.device image.old).contents blocks.old }
+        requires data_room { self.old.entries.chunks.walk.geometry.layout.bsize
+            ≤ vec_len window.old.buffer }
+        requires data_holds { WindowHolds (I.device image.old).contents window.old }
+        ensures name { IfOk result (λ found. ForContents (I.device image.old).contents
+            (λ b. name_in number (to_come b self.old.entries)
+            ≡ (if found then last_name self.new.entries else []))) }
+
+        // Of a number above all that were passed, the first entry is still to come, if there is one.
+        ensures above { OnOk result (ForContents (I.device image.old).contents
+            (λ b. (above : ℕ) → self.new.highest < above
+            → name_in above (to_come b self.old.entries)
+            ≡ name_in above (to_come b self.new.entries))) }
+        ensures grows { self.old.highest ≤ self.new.highest }
+        ensures geometry { self.new.entries.chunks.walk.geometry
+            ≡ self.old.entries.chunks.walk.geometry }
+        ensures size { vec_len blocks.new.buffer ≡ vec_len blocks.old.buffer }
+        ensures holds { BlocksHold self.old.entries.chunks.walk.geometry.layout
+            (I.device image.new).contents blocks.new }
+        ensures data_size { vec_len window.new.buffer ≡ vec_len window.old.buffer }
+        ensures data_holds { WindowHolds (I.device image.new).contents window.new }
+        ensures ok { OnOk result (I.device image.new ≡ I.device image.old) }
+        ensures err { IfErr result (λ fault. Faulted (I.device image.old) (I.device image.new)
+            fault.sector) }
+    {
+        'entries: while let Some(entry) = self.entries.next(image, blocks, window)? {
+            self.highest = highest_with(self.highest, entry);
+            if names(entry, number) {
+                return Ok(true);
+            }
+        }
+        self.entries.stop();
+        Ok(false)
+    }
+
+    /// The name of the last entry, if it was found.
+    pub fn found_name(&self, found: bool) -> &[u8]
+        ensures value { result.now ≡ (if found then last_name self.now.entries else []) }
+        ensures short { length result.now ≤ 512 }
+    {
+        if found { self.entries.name() } else { &[] }
+    }
+}
