@@ -5,7 +5,7 @@ ghost use Rattle.ffs_volume.specs.Disk.Numbers.{is_count};
 ghost use Rattle.ffs_volume.specs.Groups.Records.{has_totals};
 ghost use Rattle.ffs_counts.specs.Totals.{AreUpTo, total_of};
 
-use ffs_layout::GroupSummary;
+use ffs_groups::SummaryCounts;
 
 /// The sums of the counts of groups.
 #[derive(Clone, Copy, Debug)]
@@ -41,7 +41,7 @@ impl Totals {
     }
 
     /// Adds the counts of a group.
-    pub fn add(&mut self, group: u32, summary: &GroupSummary)
+    pub fn add(&mut self, group: u32, summary: &SummaryCounts)
         requires { AreUpTo group self.old }
         ensures dirs { self.new.dirs ≡ self.old.dirs + summary.now.dirs }
         ensures blocks { self.new.blocks ≡ self.old.blocks + summary.now.blocks }

@@ -1,29 +1,49 @@
 -- The numbers of a group block.
-use Rattle.std.proofs.Common.{◌≡◌, ℕ, ◌+◌, ◌*◌, Bool, List, map, refl, ap, ◌∙◌, slice_index, arith}
-use Rattle.std.specs.Prelude.{◌==◌, ◌&&◌}
+use Rattle.std.proofs.Common.{◌≡◌, ℕ, ◌+◌, ◌*◌, ◌<◌, Bool, List, map, refl, ap, ◌∙◌, slice_index, arith}
+use Rattle.std.specs.Prelude.{◌==◌, ◌&&◌, pos}
 use Rattle.std.specs.List.{range_with_len}
 use Rattle.std.proofs.lemmas.List.FromFn.{get_or-map-range_with_len}
 use Rattle.ffs_volume.specs.declared.Layout.{Layout}
 use Rattle.ffs_volume.specs.declared.Class.{Class}
-use Rattle.ffs_volume.specs.Disk.Numbers.{u32_at, all_below}
-use Rattle.ffs_volume.specs.Groups.Records.{Summary, has_summary, right_summary, right_frsum, group_size, are_sums}
+use Rattle.ffs_volume.specs.Disk.Numbers.{i32_at, u32_at, all_below}
+use Rattle.ffs_volume.specs.Groups.Records.{Summary, has_summary, right_frsum, group_size, are_sums}
 use Rattle.ffs_layout.specs.Group.{summary_of}
 use Rattle.ffs_groups.specs.declared.counts.Counts.{Counts}
-use Rattle.ffs_groups.specs.Check.{AreCounts, same_counts}
+use Rattle.ffs_groups.specs.Check.{AreCounts, counted, has_bits_of, same_counts, same_run}
+use Rattle.ffs_groups.specs.declared.counts.SummaryCounts.{SummaryCounts}
 use Rattle.ffs_groups.proofs.MapWords.{same_below}
+use Rattle.ffs_groups.proofs.Signs.{bits_are}
 
-pub sums_as : (v : Layout) (free : ℕ → Bool) (class : ℕ → Class) (c : ℕ) (block : List ℕ) (counts : Counts) → AreCounts v free class c counts →
-    (u32_at v.order 12 block == c && (u32_at v.order 20 block == group_size v c
+-- the summary of an image is compared as the words in its bytes
+pub summary_as : (v : Layout) (place : ℕ) (bytes : List ℕ) (right : SummaryCounts) → ((k : ℕ) → slice_index bytes k < 256) →
+    same_counts (summary_of v.order place bytes) right ≡ has_summary v place bytes (counted right)
+summary_as v place bytes right h = rw (
+  bits_are v.order place bytes right.dirs h,
+  bits_are v.order (place + 4) bytes right.blocks h,
+  bits_are v.order (place + 8) bytes right.inodes h,
+  bits_are v.order (place + 12) bytes right.fragments h,
+) refl
+
+run_as : (v : Layout) (block : List ℕ) (runs : List ℕ) (k : ℕ) → ((k : ℕ) → slice_index block k < 256) → k < 8 →
+    same_run (map (λ j. i32_at v.order (52 + 4 * j) block) (range_with_len 0 8)) runs k ≡ (u32_at v.order (52 + 4 * k) block == slice_index runs k)
+run_as v block runs k h l =
+    ap (λ x. has_bits_of x (slice_index runs k)) (get_or-map-range_with_len (λ j. i32_at v.order (52 + 4 * j) block) 0 8 k k (pos 0) l (omega arith))
+    ∙ bits_are v.order (52 + 4 * k) block (slice_index runs k) h
+
+pub sums_as : (v : Layout) (free : ℕ → Bool) (class : ℕ → Class) (c : ℕ) (block : List ℕ) (counts : Counts) → ((k : ℕ) → slice_index block k < 256) → AreCounts v free class c counts →
+    (has_bits_of (i32_at v.order 12 block) c && (has_bits_of (i32_at v.order 20 block) (group_size v c)
     && (same_counts (summary_of v.order 24 block) counts.summary
-    && all_below 8 (λ k. slice_index (map (λ j. u32_at v.order (52 + 4 * j) block) (range_with_len 0 8)) k == slice_index counts.runs k))))
+    && all_below 8 (λ k. same_run (map (λ j. i32_at v.order (52 + 4 * j) block) (range_with_len 0 8)) counts.runs k))))
     ≡ are_sums v free class c block
 unfolding are_sums
-sums_as v free class c block counts right =
-    ap (λ s. u32_at v.order 12 block == c && (u32_at v.order 20 block == group_size v c && (has_summary v 24 block s
-    && all_below 8 (λ k. slice_index (map (λ j. u32_at v.order (52 + 4 * j) block) (range_with_len 0 8)) k == slice_index counts.runs k)))) right.summary
-    ∙ ap (λ x. u32_at v.order 12 block == c && (u32_at v.order 20 block == group_size v c && (has_summary v 24 block (right_summary v free class c) && x)))
-    (same_below 8 (λ k. slice_index (map (λ j. u32_at v.order (52 + 4 * j) block) (range_with_len 0 8)) k == slice_index counts.runs k) (λ k. u32_at v.order (52 + 4 * k) block == right_frsum v free c k)
-    (λ k h. ap (λ x. x == slice_index counts.runs k) (get_or-map-range_with_len (λ j. u32_at v.order (52 + 4 * j) block) 0 8 k k 0 h (omega arith)) ∙ ap (λ x. u32_at v.order (52 + 4 * k) block == x) (right.runs k)))
+sums_as v free class c block counts h right =
+    all_four _ _ _ _ _ _ _ _ (bits_are v.order 12 block c h) (bits_are v.order 20 block (group_size v c) h)
+    (summary_as v 24 block counts.summary h ∙ ap (has_summary v 24 block) right.summary)
+    (same_below 8 (λ k. same_run (map (λ j. i32_at v.order (52 + 4 * j) block) (range_with_len 0 8)) counts.runs k) (λ k. u32_at v.order (52 + 4 * k) block == right_frsum v free c k)
+    (λ k l. run_as v block counts.runs k h l ∙ ap (λ x. u32_at v.order (52 + 4 * k) block == x) (right.runs k)))
+  where
+    all_four : (a b c d a' b' c' d' : Bool) → a ≡ a' → b ≡ b' → c ≡ c' → d ≡ d' → (a && (b && (c && d))) ≡ (a' && (b' && (c' && d')))
+    all_four a b c d a' b' c' d' p q r s = rw (p, q, r, s) refl
 
 pub same_summary_of : (a b i f a' b' i' f' : ℕ) → a ≡ a' → b ≡ b' → i ≡ i' → f ≡ f' →
     Path Summary (record { dirs = a; blocks = b; inodes = i; fragments = f }) (record { dirs = a'; blocks = b'; inodes = i'; fragments = f' })

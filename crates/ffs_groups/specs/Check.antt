@@ -1,5 +1,7 @@
 -- What is found in the records of a group.
-use Rattle.std.specs.Prelude.{ℕ, ◌≡◌, Bool, ◌&&◌, ◌==◌, List, ◌∷◌, ◌++◌, if◌then◌else◌, slice_index}
+use Rattle.std.specs.Prelude.{ℕ, ◌≡◌, Bool, ◌&&◌, ◌==◌, List, ◌∷◌, ◌++◌, if◌then◌else◌, slice_index, ℤ, pos}
+use Rattle.std.specs.Int.{cast_unsigned, w32}
+use Rattle.std.specs.List.{slice_index_or}
 use Rattle.ffs_volume.specs.declared.Layout.{Layout}
 use Rattle.ffs_volume.specs.declared.Class.{Class}
 use Rattle.ffs_volume.specs.declared.BlockMessage.{BlockMessage}
@@ -8,15 +10,26 @@ use Rattle.ffs_volume.specs.Groups.Records.{Summary, right_summary, right_frsum,
 use Rattle.ffs_volume.specs.Groups.GroupCheck.{unless}
 use Rattle.ffs_layout.specs.declared.group.GroupSummary.{GroupSummary}
 use Rattle.ffs_groups.specs.declared.counts.Counts.{Counts}
+use Rattle.ffs_groups.specs.declared.counts.SummaryCounts.{SummaryCounts}
 use Rattle.ffs_groups.specs.declared.check.Findings.{Findings}
 
 -- the four counts
-abbrev pub counted : GroupSummary → Summary
+abbrev pub counted : SummaryCounts → Summary
 counted s = record { dirs = s.dirs; blocks = s.blocks; inodes = s.inodes; fragments = s.fragments }
 
--- two summaries are the same
-abbrev pub same_counts : GroupSummary → GroupSummary → Bool
-same_counts a b = a.dirs == b.dirs && (a.blocks == b.blocks && (a.inodes == b.inodes && a.fragments == b.fragments))
+-- the bits of a signed number are those of a count
+unfoldable pub has_bits_of : ℤ → ℕ → Bool
+has_bits_of found right = cast_unsigned w32 found == right
+
+-- a summary of an image has these counts
+abbrev pub same_counts : GroupSummary → SummaryCounts → Bool
+same_counts found right =
+    has_bits_of found.dirs right.dirs && (has_bits_of found.blocks right.blocks
+    && (has_bits_of found.inodes right.inodes && has_bits_of found.fragments right.fragments))
+
+-- the count of runs of one length is the same
+abbrev pub same_run : List ℤ → List ℕ → ℕ → Bool
+same_run found right length = has_bits_of (slice_index_or found length (pos 0)) (slice_index right length)
 
 -- the counts of group c are right
 pub record AreCounts (v : Layout) (free : ℕ → Bool) (class : ℕ → Class) (c : ℕ) (counts : Counts) : Type 0 where

@@ -1,16 +1,16 @@
 //! The records of a cylinder group, compared with what they should be.
 
-ghost use Rattle.std.specs.Prelude.{◌≡◌, ◌+◌, ◌*◌, ◌<◌, ◌==◌, ◌&&◌, nat_le, length, slice_index};
+ghost use Rattle.std.specs.Prelude.{◌≡◌, ◌+◌, ◌*◌, ◌<◌, ◌==◌, ◌&&◌, nat_le, length};
 ghost use Rattle.std.specs.Int.{div_ceil};
 ghost use Rattle.ffs_volume.specs.Disk.Areas.{cgbase};
 ghost use Rattle.ffs_volume.specs.Disk.Numbers.{all_below};
 ghost use Rattle.ffs_volume.specs.Groups.Records.{has_bits, is_used_inode, group_size};
 ghost use Rattle.ffs_maps.specs.Bits.{bits_of};
-ghost use Rattle.ffs_groups.specs.Check.{AreCounts, AreFound, same_counts};
+ghost use Rattle.ffs_groups.specs.Check.{AreCounts, AreFound, has_bits_of, same_counts, same_run};
 ghost use Rattle.ffs_groups.specs.Free.{free_in};
 ghost use Rattle.ffs_groups.specs.Inodes.{class_in};
 
-use crate::counts::Counts;
+use crate::counts::{Counts, SummaryCounts};
 use crate::maps::{group_fragments, same_fragment_map, same_inode_map};
 use ffs_layout::{Geometry, Group, GroupSummary};
 use ffs_maps::FragmentMap;
@@ -29,20 +29,28 @@ pub struct Findings {
     pub sums: bool,
 }
 
-fn same_summary(found: &GroupSummary, right: &GroupSummary) -> bool
-    ensures { result ≡ same_counts found.now right.now }
+// Whether a number of an image is the right one, which is below 2^31: its bits are those of the right one.
+#[tactic(auto, unfolding(crate::specs::Check::has_bits_of))]
+fn is_right(found: i32, right: u32) -> bool
+    ensures { result ≡ has_bits_of found right }
 {
-    found.dirs == right.dirs
-        && found.blocks == right.blocks
-        && found.inodes == right.inodes
-        && found.fragments == right.fragments
+    found.cast_unsigned() == right
 }
 
-fn same_runs(found: &[u32; 8], right: &[u64; 9]) -> bool
-    ensures { result ≡ all_below 8 (λ k. slice_index found.now k == slice_index right.now k) }
+fn same_summary(found: &GroupSummary, right: &SummaryCounts) -> bool
+    ensures { result ≡ same_counts found.now right.now }
+{
+    is_right(found.dirs, right.dirs)
+        && is_right(found.blocks, right.blocks)
+        && is_right(found.inodes, right.inodes)
+        && is_right(found.fragments, right.fragments)
+}
+
+fn same_runs(found: &[i32; 8], right: &[u64; 9]) -> bool
+    ensures { result ≡ all_below 8 (λ k. same_run found.now right.now k) }
 {
     for length in 0..8 {
-        if u64::from(found[length]) != right[length] {
+        if u64::from(found[length].cast_unsigned()) != right[length] {
             return false;
         }
     }
@@ -92,13 +100,13 @@ fn maps_are_right(
 
 fn sums_are_right(geometry: &Geometry, counts: &Counts, group: u32, found: &Group) -> bool
     requires { group < geometry.now.layout.ncg }
-    ensures { result ≡ (found.now.cgx == group
-        && (found.now.ndblk == group_size geometry.now.layout group
+    ensures { result ≡ (has_bits_of found.now.cgx group
+        && (has_bits_of found.now.ndblk (group_size geometry.now.layout group)
         && (same_counts found.now.cs counts.now.summary
-        && all_below 8 (λ k. slice_index found.now.frsum k == slice_index counts.now.runs k)))) }
+        && all_below 8 (λ k. same_run found.now.frsum counts.now.runs k)))) }
 {
-    found.cgx == group
-        && found.ndblk == group_fragments(geometry, group)
+    is_right(found.cgx, group)
+        && is_right(found.ndblk, group_fragments(geometry, group))
         && same_summary(&found.cs, &counts.summary)
         && same_runs(&found.frsum, &counts.runs)
 }

@@ -8,13 +8,25 @@ ghost use Rattle.ffs_groups.specs.Inodes.{class_in};
 
 use crate::free::free_counts;
 use crate::inodes::inode_counts;
-use ffs_layout::{Geometry, GroupSummary};
+use ffs_layout::Geometry;
 use ffs_maps::FragmentMap;
+
+/// What the counts of a group's summary should be.
+#[derive(Clone, Copy, Debug)]
+pub struct SummaryCounts {
+    pub dirs: u32,
+    /// Blocks of which all fragments are free.
+    pub blocks: u32,
+    /// Inodes that are free.
+    pub inodes: u32,
+    /// Free fragments in blocks that are not all free.
+    pub fragments: u32,
+}
 
 /// What a group's summary and its counts of runs should be.
 #[derive(Clone, Copy, Debug)]
 pub struct Counts {
-    pub summary: GroupSummary,
+    pub summary: SummaryCounts,
     /// How many runs of so many free fragments there are, within blocks that are not all free, by length.
     pub runs: [u64; 9],
 }
@@ -31,7 +43,7 @@ pub fn group_counts(geometry: &Geometry, used: &FragmentMap, kinds: &[u8], group
     let inodes = inode_counts(geometry, kinds, group);
     let runs = free.runs;
     Counts {
-        summary: GroupSummary {
+        summary: SummaryCounts {
             dirs: inodes.dirs,
             blocks: free.blocks as u32,
             inodes: inodes.free,

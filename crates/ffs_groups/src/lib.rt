@@ -19,4 +19,4 @@ pub mod inodes;
 pub mod maps;
 
 pub use check::{Findings, compare_group};
-pub use counts::{Counts, group_counts};
+pub use counts::{Counts, SummaryCounts, group_counts};

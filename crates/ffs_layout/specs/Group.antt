@@ -2,27 +2,27 @@
 use Rattle.std.specs.Prelude.{ℕ, ◌+◌, ◌*◌, List, map}
 use Rattle.std.specs.List.{range_with_len}
 use Rattle.ffs_volume.specs.declared.Order.{Order}
-use Rattle.ffs_volume.specs.Disk.Numbers.{u32_at}
+use Rattle.ffs_volume.specs.Disk.Numbers.{i32_at, u32_at}
 use Rattle.ffs_layout.specs.declared.group.Group.{Group}
 use Rattle.ffs_layout.specs.declared.group.GroupSummary.{GroupSummary}
 
 -- the summary in the 16 bytes at a place
 abbrev pub summary_of : Order → ℕ → List ℕ → GroupSummary
 summary_of order place bytes = record {
-  dirs = u32_at order place bytes;
-  blocks = u32_at order (place + 4) bytes;
-  inodes = u32_at order (place + 8) bytes;
-  fragments = u32_at order (place + 12) bytes;
+  dirs = i32_at order place bytes;
+  blocks = i32_at order (place + 4) bytes;
+  inodes = i32_at order (place + 8) bytes;
+  fragments = i32_at order (place + 12) bytes;
 }
 
 -- the numbers of a group block
 abbrev pub group_of : Order → List ℕ → Group
 group_of order bytes = record {
   magic = u32_at order 4 bytes;
-  cgx = u32_at order 12 bytes;
-  ndblk = u32_at order 20 bytes;
+  cgx = i32_at order 12 bytes;
+  ndblk = i32_at order 20 bytes;
   cs = summary_of order 24 bytes;
-  frsum = map (λ k. u32_at order (52 + 4 * k) bytes) (range_with_len 0 8);
+  frsum = map (λ k. i32_at order (52 + 4 * k) bytes) (range_with_len 0 8);
   iusedoff = u32_at order 92 bytes;
   freeoff = u32_at order 96 bytes;
 }

@@ -9,13 +9,18 @@ use ffs_image::{FileImage, FuseImage, Image, ImageFault, MemoryImage};
 use ffs_layout::Order;
 use ffs_report::Counted;
 use ffs_volume::{End, SuperFault};
-use std::alloc::{AllocError, Global};
-use std::fs;
+use std::alloc::{AllocError, Allocator, Global};
+use std::fs::{File, Metadata, OpenOptions};
+use std::io::ErrorKind;
+use std::rt::Files;
 use std::test::Fail;
+use std::{fs, io};
 
 const NAME: &str = "ffs_image_test.img";
 
 const ODD: &str = "ffs_image_odd.img";
+
+const READ_ONLY: &str = "ffs_image_read_only.img";
 
 // An image of zeros, and `abcd` at 1022.
 fn letters(alloc: Global) -> Result<MemoryImage, AllocError>
@@ -96,6 +101,85 @@ fn file_is_left_as_it_is(rt: HostRuntime) -> Result<(), Fail> {
     fs::remove_file(&rt, ODD)?;
     assert!(rt; FileImage::open(&rt, ODD).is_err());
     assert!(rt; fs::metadata(&rt, ODD).is_err());
+    Ok(())
+}
+
+// Files of a system that are opened for reading alone, and nothing else of it.
+#[derive(Clone, Copy)]
+struct ReadOnly<'a, R> {
+    files: &'a R,
+}
+
+fn refused() -> io::Error {
+    io::Error::from(ErrorKind::PermissionDenied)
+}
+
+impl<R: Files<File = File>> Files for ReadOnly<'_, R> {
+    type File = File;
+
+    type Dir = R::Dir;
+
+    fn open_file(&self, how: &OpenOptions, path: &str) -> io::Result<File> {
+        let writes = how.asks_write() || how.asks_append() || how.asks_truncate();
+        if writes || how.asks_create() || how.asks_create_new() {
+            return Err(refused());
+        }
+        self.files.open_file(how, path)
+    }
+
+    fn open_dir(&self, path: &str) -> io::Result<R::Dir> {
+        self.files.open_dir(path)
+    }
+
+    fn metadata(&self, path: &str) -> io::Result<Metadata> {
+        self.files.metadata(path)
+    }
+
+    fn symlink_metadata(&self, path: &str) -> io::Result<Metadata> {
+        self.files.symlink_metadata(path)
+    }
+
+    fn copy(&self, _from: &str, _to: &str) -> io::Result<u64> {
+        Err(refused())
+    }
+
+    fn rename(&self, _from: &str, _to: &str) -> io::Result<()> {
+        Err(refused())
+    }
+
+    fn remove_file(&self, _path: &str) -> io::Result<()> {
+        Err(refused())
+    }
+
+    fn create_dir(&self, _path: &str) -> io::Result<()> {
+        Err(refused())
+    }
+
+    fn remove_dir(&self, _path: &str) -> io::Result<()> {
+        Err(refused())
+    }
+
+    fn remove_dir_all<B: Allocator>(&self, _alloc: B, _path: &str) -> io::Result<()> {
+        Err(refused())
+    }
+}
+
+#[test]
+fn opens_for_reading_alone(rt: HostRuntime) -> Result<(), Fail> {
+    fs::write(&rt, READ_ONLY, [7u8; 512].as_slice())?;
+    let system = ReadOnly { files: &rt };
+    assert!(rt;
+        OpenOptions::new()
+            .read(true)
+            .write(true)
+            .open(&system, READ_ONLY)
+            .is_err()
+    );
+    let mut image = FileImage::open(&system, READ_ONLY)?;
+    let mut found = [0u8; 1];
+    image.read_at(511, &mut found)?;
+    assert_eq!(rt; found, [7]);
+    fs::remove_file(&rt, READ_ONLY)?;
     Ok(())
 }
 

@@ -1,18 +1,20 @@
 use Rattle.std.proofs.Common.{ap, ◌∙◌, nat_eq}
+use Rattle.std.proofs.Math.Facts.{Fits-lt-pow}
 use Rattle.ffs_volume.specs.Groups.Records.{is_magic, is_record, are_places, are_maps, has_summary}
 use Rattle.ffs_maps.specs.Bits.{bits_of}
 use Rattle.ffs_groups.specs.Check.{same_counts}
 use Rattle.ffs_groups.specs.Free.{free_in}
 use Rattle.ffs_groups.specs.Inodes.{class_in}
-use Rattle.ffs_groups.proofs.Checks.{sums_as}
+use Rattle.ffs_groups.proofs.Checks.{sums_as, summary_as}
 use Rattle.ffs_groups.proofs.check.compare_group.Goals as goal
 
 pub returns : goal.returns
 unfolding is_magic is_record are_places are_maps
 returns c = record {
   magic = ap (λ g. nat_eq g.magic 590421) c.decode-found.ensures;
-  counts = c.same_summary.ensures ∙ ap (λ r. same_counts r c.args.counts.now.summary) c.decode-record.ensures ∙ ap (has_summary c.args.geometry.now.layout 0 c.args.summary.now) c.requires.counts.summary;
+  counts = c.same_summary.ensures ∙ ap (λ r. same_counts r c.args.counts.now.summary) c.decode-record.ensures
+      ∙ summary_as c.args.geometry.now.layout 0 c.args.summary.now c.args.counts.now.summary (λ k. Fits-lt-pow (c.type_inv.summary k)) ∙ ap (has_summary c.args.geometry.now.layout 0 c.args.summary.now) c.requires.counts.summary;
   maps = rw c.decode-found.ensures at c.maps_are_right.ensures;
   sums = (rw c.decode-found.ensures at c.sums_are_right.ensures)
-      ∙ sums_as c.args.geometry.now.layout (free_in (bits_of c.args.used.now) c.args.geometry.now.layout.size) (class_in c.args.kinds.now) c.args.group c.args.block.now c.args.counts.now c.requires.counts;
+      ∙ sums_as c.args.geometry.now.layout (free_in (bits_of c.args.used.now) c.args.geometry.now.layout.size) (class_in c.args.kinds.now) c.args.group c.args.block.now c.args.counts.now (λ k. Fits-lt-pow (c.type_inv.block k)) c.requires.counts;
 }
