@@ -34,8 +34,6 @@ fn inode_in_its_table(rt: HostRuntime) -> Result<(), Fail> {
     let root = table.inode(&geometry, 2, &mut image)?;
     assert_eq!(rt; (root.mode, root.nlink, root.size), (0o40755, 2, 512));
     assert_eq!(rt; root.addresses[0], 36);
-    assert!(rt; table.has_links(&geometry, 2, 2, &mut image)?);
-    assert!(rt; !table.has_links(&geometry, 2, 3, &mut image)?);
     let next = table.inode(&geometry, 3, &mut image)?;
     assert_eq!(rt; (next.mode, next.nlink, next.size), (0, 0, 0));
     Ok(())
