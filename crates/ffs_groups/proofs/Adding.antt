@@ -1,16 +1,17 @@
 -- Blocks are added one after the other, and word after word.
-use Rattle.std.proofs.Common.{◌≡◌, ℕ, zero, suc, ◌+◌, ◌*◌, ◌/◌, ◌^◌, ◌<◌, ◌≤◌, Bool, true, false, List, [], ◌∷◌, map, length, cond, arith, refl, ap, ◌∙◌, sym, count_by, nat_eq, slice_index}
-use Rattle.std.specs.Prelude.{◌==◌}
+use Rattle.std.proofs.Common.{◌≡◌, ℕ, zero, suc, ◌+◌, ◌*◌, ◌/◌, ◌%◌, ◌^◌, ◌<◌, ◌≤◌, Bool, true, false, List, [], ◌∷◌, map, length, cond, arith, refl, ap, ◌∙◌, sym, count_by, nat_eq, slice_index}
+use Rattle.std.specs.Prelude.{◌==◌, ◌&&◌}
 use Rattle.std.specs.List.{range_with_len, sum_by}
 use Rattle.std.specs.Int.{bit_at}
 use Rattle.std.proofs.lemmas.Nat.{mul-add-lt, mul-le, div-add-mod'}
 use Rattle.std.proofs.lemmas.List.Sums.{count_by-le-length}
 use Rattle.ffs_maps.specs.Bits.{is_clear}
 use Rattle.ffs_maps.proofs.Words.{bit_shr}
-use Rattle.ffs_volume.specs.Groups.Records.{is_whole, free_runs}
+use Rattle.ffs_volume.specs.Groups.Records.{has_bits, is_whole, free_runs}
 use Rattle.ffs_groups.specs.declared.free.FreeCounts.{FreeCounts}
 use Rattle.ffs_groups.specs.Free.{word_bits, whole_in, loose_in, runs_in, AreBelow, Added, free_in}
 use Rattle.ffs_groups.proofs.Sums.{sum_split, sum_more, sum_same, sum_within, map_same}
+use Rattle.ffs_groups.proofs.MapWords.{map_parts}
 use Rattle.ffs_groups.proofs.Runs.{runs_few}
 
 from_zero : (f : ℕ → ℕ) (n m : ℕ) → sum_by f (range_with_len 0 (n + m)) ≡ sum_by f (range_with_len 0 n) + sum_by f (range_with_len n m)
@@ -143,3 +144,16 @@ loose_fits bits frag n len = omega (arith, sum_within (λ b. loose_in (bits b)) 
 
 pub whole_fits : (bits : ℕ → List Bool) (n : ℕ) → sum_by (λ b. whole_in (bits b)) (range_with_len 0 n) ≤ n
 whole_fits bits n = omega (arith, sum_within (λ b. whole_in (bits b)) 1 0 n (λ k. whole_one (bits k)))
+
+-- a map of fragments, by its whole words and the bits after them
+pub fragment_map : (used : List Bool) (size size' : ℕ) (block : List ℕ) (place n n' base base' last at : ℕ) (first end : Bool) → size ≡ size' → n ≡ n' → base ≡ base' →
+    last ≡ base + 64 * (n / 64) → at ≡ place + 8 * (n / 64) → first ≡ has_bits block place (64 * (n / 64)) (λ k. free_in used size (base + k)) →
+    end ≡ has_bits block at (n % 64) (λ k. free_in used size (last + k)) → (first && end) ≡ has_bits block place n' (λ k. free_in used size' (base' + k))
+fragment_map used size size' block place n n' base base' last at first end sizes fragments bases is_last is_at is_first is_end =
+    ap (λ b. b && end) is_first
+    ∙ ap (λ b. has_bits block place (64 * (n / 64)) (λ k. free_in used size (base + k)) && b)
+    (is_end ∙ ap (λ j. has_bits block at (n % 64) (λ k. free_in used size (j + k))) is_last)
+    ∙ sym (map_parts block place (n / 64) (n % 64) n at base (free_in used size) (omega arith) is_at)
+    ∙ ap (λ j. has_bits block place j (λ k. free_in used size (base + k))) fragments
+    ∙ ap (λ s. has_bits block place n' (λ k. free_in used s (base + k))) sizes
+    ∙ ap (λ j. has_bits block place n' (λ k. free_in used size' (j + k))) bases

@@ -207,3 +207,15 @@ one_more n test all e = all_true (n + 1) test (λ k h. elim (cases_lt k n) [
   | inl low ↦ true_at n k test all low
   | inr past ↦ let same : k ≡ n = omega arith in ap test same ∙ e
 ])
+
+-- a map, by its whole words and the bits after them
+pub map_parts : (block : List ℕ) (place words count n at first : ℕ) (bits : ℕ → Bool) → n ≡ 64 * words + count → at ≡ place + 8 * words →
+    all_below n (λ k. same_bit (map_bit block place k) (bits (first + k)))
+    ≡ (all_below (64 * words) (λ k. same_bit (map_bit block place k) (bits (first + k)))
+    && all_below count (λ k. same_bit (map_bit block at k) (bits (first + 64 * words + k))))
+map_parts block place words count n at first bits e is =
+    all_join (64 * words) count n (λ k. same_bit (map_bit block place k) (bits (first + k))) e
+    ∙ ap (λ b. all_below (64 * words) (λ k. same_bit (map_bit block place k) (bits (first + k))) && b)
+    (same_below count (λ k. same_bit (map_bit block place (64 * words + k)) (bits (first + (64 * words + k)))) (λ k. same_bit (map_bit block at k) (bits (first + 64 * words + k)))
+    (λ k l. ap (λ b. same_bit b (bits (first + (64 * words + k)))) (sym (moved_bit block place words k) ∙ ap (λ j. map_bit block j k) (sym is))
+    ∙ ap (λ b. same_bit (map_bit block at k) b) (sym (moved_in bits first words k))))

@@ -2,7 +2,7 @@
 //!
 //! A map's first bit is the lowest of its first byte, in both orders of bytes.
 
-ghost use Rattle.std.specs.Prelude.{ℕ, ◌≡◌, ◌≢◌, ◌+◌, ◌*◌, ◌<◌, ◌≤◌, length, nat_eq};
+ghost use Rattle.std.specs.Prelude.{ℕ, ◌≡◌, ◌≢◌, ◌+◌, ◌*◌, ◌^◌, ◌<◌, ◌≤◌, length, nat_eq};
 ghost use Rattle.std.specs.Int.{bit_at, div_ceil};
 ghost use Rattle.ffs_volume.specs.Disk.Numbers.{all_below};
 ghost use Rattle.ffs_volume.specs.Disk.Areas.{cgbase};
@@ -122,6 +122,38 @@ pub fn group_fragments(geometry: &Geometry, group: u32) -> u32
         .min(geometry.layout.size - geometry.cgbase(group))
 }
 
+// Whether the whole words of a map have the bits of the fragments from one on that are free.
+fn same_words(used: &FragmentMap, base: u64, block: &[u8], place: usize, words: u32) -> bool
+    requires base { base < 2 ^ 32 }
+    requires inside { place + 8 * words ≤ length block.now }
+    ensures { result ≡ has_bits block.now place (64 * words)
+        (λ k. free_in (bits_of used.now) used.now.size (base + k)) }
+{
+    for word in 0..words {
+        let found = word_at(block, place + 8 * word as usize, 8);
+        let right = used.clear_bits(base + 64 * u64::from(word));
+        if !same_bits(found, right, 64) {
+            return false;
+        }
+    }
+    true
+}
+
+// Whether the last bits of a map, fewer than a word, are those of the fragments from one on that are free.
+fn same_last(used: &FragmentMap, base: u64, block: &[u8], place: usize, count: u32) -> bool
+    requires count { count < 64 }
+    requires inside { place + div_ceil count 8 ≤ length block.now }
+    ensures { result ≡ has_bits block.now place count
+        (λ k. free_in (bits_of used.now) used.now.size (base + k)) }
+{
+    if count == 0 {
+        return true;
+    }
+    let found = word_at(block, place, count.div_ceil(8) as usize);
+    let right = used.clear_bits(base);
+    same_bits(found, right, count)
+}
+
 /// Whether the map of fragments at a byte of a group block has the bits of the fragments that are free.
 pub fn same_fragment_map(
     geometry: &Geometry,
@@ -139,17 +171,15 @@ pub fn same_fragment_map(
 {
     let fragments = group_fragments(geometry, group);
     let base = u64::from(geometry.cgbase(group));
-    for word in 0..fragments.div_ceil(64) {
-        let count = (fragments - 64 * word).min(64);
-        let found = word_at(
-            block,
-            place as usize + 8 * word as usize,
-            count.div_ceil(8) as usize,
-        );
-        let right = used.clear_bits(base + 64 * u64::from(word));
-        if !same_bits(found, right, count) {
-            return false;
-        }
+    let words = fragments / 64;
+    if !same_words(used, base, block, place as usize, words) {
+        return false;
     }
-    true
+    same_last(
+        used,
+        base + 64 * u64::from(words),
+        block,
+        place as usize + 8 * words as usize,
+        fragments % 64,
+    )
 }

@@ -116,10 +116,6 @@ impl Table {
     {
         let at = self.load(geometry, number, image)?;
         let bytes = self.window.bytes();
-        Ok(has_links(
-            geometry.layout.order,
-            &bytes[at..at + 128],
-            links,
-        ))
+        Ok(has_links(geometry.layout.order, &bytes[at..at + 128], links))
     }
 }
