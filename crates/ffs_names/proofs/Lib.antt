@@ -8,3 +8,4 @@ pub mod DirLaws
 pub mod SameGraphs
 pub mod SurveyHolds
 pub mod RunsSeen
+pub mod GapsLeft

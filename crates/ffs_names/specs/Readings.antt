@@ -1,8 +1,8 @@
 -- What a reading of a directory has still to give.
-use Rattle.std.specs.Prelude.{◌≡◌, ℕ, List, ◌++◌, take}
+use Rattle.std.specs.Prelude.{◌≡◌, ℕ, Bool, List, ◌++◌, take}
 use Rattle.ffs_volume.specs.declared.Step.{Step}
 use Rattle.ffs_volume.specs.Disk.Areas.{is_in_range}
-use Rattle.ffs_volume.specs.Directories.Entries.{Chunk, chunks_of}
+use Rattle.ffs_volume.specs.Directories.Entries.{Chunk, chunks_of, has_gap}
 use Rattle.ffs_volume.specs.Encodings.Replay.{replayed_steps}
 use Rattle.ffs_volume.specs.Encodings.ReplayCounts.{replayed_runs}
 use Rattle.ffs_walk.specs.Rests.{rest as steps_left}
@@ -29,6 +29,13 @@ runs_after c steps = replayed_runs c.walk.geometry.layout c.keeping.cut (replay_
 
 abbrev pub runs_left : List ℕ → Chunks → ℕ
 runs_left b c = runs_after c (steps_left b c.walk)
+
+-- a Gap is among the kept ones of the steps to come
+abbrev pub gap_after : Chunks → List Step → Bool
+gap_after c steps = has_gap (replayed_steps c.walk.geometry.layout c.keeping.cut (replay_in c.keeping) steps)
+
+abbrev pub gap_left : List ℕ → Chunks → Bool
+gap_left b c = gap_after c (steps_left b c.walk)
 
 -- what a reading never changes, and the chunks that it may still give
 pub record IsSame (old new : Chunks) : Type 0 where

@@ -1,10 +1,10 @@
 //! The chunks of a directory.
 
-ghost use Rattle.std.specs.Prelude.{◌≡◌, ◌+◌, ◌*◌, ◌<◌, ◌≤◌, ◌^◌, ◌++◌, ◌∷◌, ◌↔◌, ℕ, List, [], true, false, IsTrue, Option, Ok, None, Some, vec_len, length, IfOk, OnOk, IfErr, OnErr, IfNone, IfSome, MatchOption};
+ghost use Rattle.std.specs.Prelude.{◌≡◌, ◌+◌, ◌*◌, ◌<◌, ◌≤◌, ◌^◌, ◌++◌, ◌∷◌, ◌↔◌, ◌||◌, ℕ, List, [], true, false, IsTrue, Option, Ok, None, Some, vec_len, length, IfOk, OnOk, IfErr, OnErr, IfNone, IfSome, MatchOption};
 ghost use Rattle.ffs_image.specs.Device.{Faulted, ForContents};
 ghost use Rattle.ffs_volume.specs.Disk.Areas.{is_in_range};
 ghost use Rattle.ffs_volume.specs.Blocks.Steps.{steps_of};
-ghost use Rattle.ffs_volume.specs.Directories.Entries.{chunk_of, chunks_of, run_chunks, size_taken};
+ghost use Rattle.ffs_volume.specs.Directories.Entries.{chunk_of, chunks_of, has_gap, run_chunks, size_taken};
 ghost use Rattle.ffs_volume.specs.declared.Step.{Step as StepIn};
 ghost use Rattle.ffs_volume.specs.declared.Step.TheVariants.{Run};
 ghost use Rattle.ffs_volume.specs.Encodings.Replay.{is_replay_open as is_seen_in, fresh_replay, replayed_steps};
@@ -32,6 +32,8 @@ pub struct Chunks {
     pub run_cursor: RunCursor,
     /// How many Runs were looked at.
     pub runs: u64,
+    /// Whether a hole was seen.
+    pub gap: bool,
     ghost taken_small: { taken ≤ 2 ^ 31 },
     ghost hand_fits: { HandFits walk.geometry.layout run_cursor },
 }
@@ -39,7 +41,7 @@ pub struct Chunks {
 impl Chunks {
     ghost use Rattle.ffs_names.specs.Keepings.{replay_in};
     ghost use Rattle.ffs_names.specs.RunCursors.{hand_chunks, reading_by};
-    ghost use Rattle.ffs_names.specs.Readings.{all_chunks, chunks_after, rest, runs_left, runs_after, IsSame};
+    ghost use Rattle.ffs_names.specs.Readings.{all_chunks, chunks_after, rest, runs_left, runs_after, gap_left, gap_after, IsSame};
 
     /// A Run is seen.
     fn see(&mut self, start: u32, len: u32, block: Option<u64>)
@@ -53,6 +55,8 @@ impl Chunks {
             ≡ chunks_after b self.old (Run start len block ∷ steps) }
         ensures runs { (steps : List StepIn) → self.new.runs + runs_after self.new steps
             ≤ self.old.runs + runs_after self.old (Run start len block ∷ steps) }
+        ensures gap { (steps : List StepIn) → (self.new.gap || gap_after self.new steps)
+            ≡ (self.old.gap || gap_after self.old (Run start len block ∷ steps)) }
         ensures same { IsSame self.old self.new }
         ensures walk { self.new.walk ≡ self.old.walk }
     {
@@ -78,6 +82,8 @@ impl Chunks {
             → ForContents (I.device image.old).contents (λ b. all_chunks b self.new ≡ [])) }
         ensures runs { OnOk result (ForContents (I.device image.old).contents
             (λ b. self.new.runs + runs_left b self.new ≤ self.old.runs + runs_left b self.old)) }
+        ensures gap { OnOk result (ForContents (I.device image.old).contents
+            (λ b. (self.new.gap || gap_left b self.new) ≡ (self.old.gap || gap_left b self.old))) }
         ensures runs_seen { OnErr result
             (ForContents (I.device image.old).contents
             (λ b. self.new.runs ≤ self.old.runs + runs_left b self.old)) }
@@ -97,7 +103,7 @@ impl Chunks {
                 None => return Ok(false),
                 Some(Step::Run { start, len, block }) => self.see(start, len, block),
                 Some(Step::Tail) => {}
-                Some(Step::Gap) => {}
+                Some(Step::Gap) => self.gap = true,
             }
         }
         Ok(true)
@@ -127,6 +133,8 @@ impl Chunks {
             (ForContents (I.device image.old).contents (λ b. all_chunks b self.new ≡ []))) }
         ensures runs { OnOk result (ForContents (I.device image.old).contents
             (λ b. self.new.runs + runs_left b self.new ≤ self.old.runs + runs_left b self.old)) }
+        ensures gap { OnOk result (ForContents (I.device image.old).contents
+            (λ b. (self.new.gap || gap_left b self.new) ≡ (self.old.gap || gap_left b self.old))) }
         ensures runs_seen { OnErr result
             (ForContents (I.device image.old).contents
             (λ b. self.new.runs ≤ self.old.runs + runs_left b self.old)) }
@@ -162,6 +170,10 @@ impl Chunks {
         ensures runs_left { (b : List ℕ) → runs_left b result
             ≡ replayed_runs geometry.now.layout cut fresh_replay
             (steps_of geometry.now.layout inode.now b) }
+        ensures gap { result.gap ≡ false }
+        ensures gap_left { (b : List ℕ) → gap_left b result
+            ≡ has_gap (replayed_steps geometry.now.layout cut fresh_replay
+            (steps_of geometry.now.layout inode.now b)) }
         ensures budget { result.budget ≤ 2 ^ 22 }
         ensures geometry { result.walk.geometry ≡ geometry.now }
     {
@@ -173,6 +185,7 @@ impl Chunks {
             budget: (taken / 512) as u32,
             run_cursor: RunCursor::empty(),
             runs: 0,
+            gap: false,
         }
     }
 
@@ -207,6 +220,8 @@ impl Chunks {
         ensures fault { OnErr result (self.new.budget ≡ 0) }
         ensures runs { OnOk result (ForContents (I.device image.old).contents
             (λ b. self.new.runs + runs_left b self.new ≤ self.old.runs + runs_left b self.old)) }
+        ensures gap { OnOk result (ForContents (I.device image.old).contents
+            (λ b. (self.new.gap || gap_left b self.new) ≡ (self.old.gap || gap_left b self.old))) }
         ensures runs_seen { OnErr result
             (ForContents (I.device image.old).contents
             (λ b. self.new.runs ≤ self.old.runs + runs_left b self.old)) }

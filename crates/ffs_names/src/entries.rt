@@ -89,6 +89,24 @@ impl Entries {
         entries
     }
 
+    /// Begins a reading of another directory of the same volume, as `start` does, in place.
+    pub fn restart(&mut self, inode: &Inode, cut: u32)
+        ensures entries { (b : List ℕ) → inode.now.size < 2 ^ 31 → to_come b self.new
+            ≡ flat_map roled_chunk (chunks_of
+            (reading_by self.old.chunks.walk.geometry.layout b (size_taken inode.now.size))
+            (is_in_range self.old.chunks.walk.geometry.layout)
+            (replayed_steps self.old.chunks.walk.geometry.layout cut fresh_replay
+            (steps_of self.old.chunks.walk.geometry.layout inode.now b))) }
+        ensures left { left self.new ≤ 2 ^ 28 }
+        ensures geometry { self.new.chunks.walk.geometry ≡ self.old.chunks.walk.geometry }
+    {
+        let geometry = self.chunks.walk.geometry;
+        self.chunks = Chunks::start(&geometry, inode, cut);
+        self.place = 512;
+        self.index = 0;
+        self.first = false;
+    }
+
     /// No entry comes any more.
     pub fn stop(&mut self)
         ensures entries { (b : List ℕ) → to_come b self.new ≡ [] }

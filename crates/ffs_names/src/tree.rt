@@ -51,7 +51,7 @@ impl<I: Image> Directories for Tree<'_, I> {
         }
         let cut = self.cut[dir as usize];
         let inode = self.windows.table.inode(&self.geometry, dir, self.image)?;
-        self.entries = Entries::start(&self.geometry, &inode, cut);
+        self.entries.restart(&inode, cut);
         Ok(())
     }
 

@@ -66,13 +66,13 @@ attr_size v b d = refl
 pub starts_are : (v : Layout) (b : List ℕ) (d : ℕ) (old new : Workspace) (e : DirectorySummary) (start : List ℕ) (above : Option ℕ) (first second : Option Entry) →
     AreFound v b d old e new start → above ≡ parent (graph_of (volume_of v b)) d →
     first ≡ started_entry 0 e.found.started v.order start → second ≡ started_entry 1 e.found.started v.order start →
-    starts_reported (attributes (volume_of v b) d) (dir_path (graph_of (volume_of v b)) d) d above e.gap e.found.sound first second ≡ dir_starts (volume_of v b) d
+    starts_reported (attributes (volume_of v b) d) (dir_path (graph_of (volume_of v b)) d) d above e.found.gap e.found.sound first second ≡ dir_starts (volume_of v b) d
 unfolding dir_starts start_entry
 starts_are v b d old new e start above first second f p q r =
     let V = volume_of v b in
     let A = attributes (volume_of v b) d in
     let P = dir_path (graph_of (volume_of v b)) d in
-    ap (λ x. starts_reported A P d x e.gap e.found.sound first second) p
+    ap (λ x. starts_reported A P d x e.found.gap e.found.sound first second) p
     ∙ (ap (λ x. starts_reported A P d (parent (graph_of V) d) x e.found.sound first second) f.gap
     ∙ (ap (λ x. starts_reported A P d (parent (graph_of V) d) (V.gap d) x first second) f.sound
     ∙ (ap (λ x. starts_reported A P d (parent (graph_of V) d) (V.gap d) (are_sound (V.chunks d)) x second) (q ∙ sym (ap (option_and_then (λ c. entry_number 0 c.entries)) f.started))

@@ -5,7 +5,7 @@ use Rattle.std.proofs.lemmas.Bool.{and_parts}
 use Rattle.ffs_pathnames.proofs.MarkLaws.{and_false}
 use Rattle.ffs_volume.specs.declared.Attr.{Attr}
 use Rattle.ffs_volume.specs.Directories.Entries.{Entry, is_live}
-use Rattle.ffs_volume.specs.Directories.Roles.{is_one_dot, is_two_dots}
+use Rattle.ffs_volume.specs.Directories.Roles.{is_two_dots}
 use Rattle.ffs_volume.specs.Messages.Kinds.{NameMessage, told}
 use Rattle.ffs_volume.specs.Directories.PathnameCheck.{is_other}
 use Rattle.ffs_pathnames.specs.Starts.{dot_in, dotdot_in, dot_said, dotdot_said, starts_reported}

@@ -6,7 +6,6 @@ pub mod Saying
 pub mod StartLaws
 pub mod Looking
 pub mod Directories
-pub mod Gaps
 pub mod SeesLaws
 pub mod ChunkLaws
 pub mod Enough

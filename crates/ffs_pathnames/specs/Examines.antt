@@ -21,7 +21,7 @@ pub record LeavesQueue (old new : Workspace) : Type 0 where
 -- reported of its entries; and each inode that belongs to it is stamped
 pub record AreFound (v : Layout) (b : List ℕ) (d : ℕ) (old : Workspace) (e : DirectorySummary) (new : Workspace) (start : List ℕ) : Type 0 where
   pub inode : e.inode ≡ inode_of v b d
-  pub gap : e.gap ≡ (volume_of v b).gap d
+  pub gap : e.found.gap ≡ (volume_of v b).gap d
   pub sound : e.found.sound ≡ are_sound ((volume_of v b).chunks d)
   pub started : find (λ c. c.offset == 0) ((volume_of v b).chunks d) ≡ start_of [] e.found.started v.order start
   pub quiet : e.found.quiet ≡ are_quiet (volume_of v b) d old.queue.items (roled_entries (volume_of v b) d)

@@ -156,7 +156,7 @@ fn begin_directory<I: Image, W: Output>(
     let parent = parent_of(geometry, workspace, dir);
     let (first, second) = first_two(geometry.layout.order, &start, examined.found.started);
     let shape = Shape {
-        gap: examined.gap,
+        gap: examined.found.gap,
         sound: examined.found.sound,
         first,
         second,

@@ -4,7 +4,7 @@ ghost use Rattle.std.specs.List.{flat_map, find};
 ghost use Rattle.ffs_image.specs.Device.{Faulted, ForContents};
 ghost use Rattle.ffs_volume.specs.declared.Order.{Order};
 ghost use Rattle.ffs_volume.specs.Disk.Areas.{is_in_range};
-ghost use Rattle.ffs_volume.specs.Directories.Entries.{Chunk, chunk_of, chunks_of, size_taken};
+ghost use Rattle.ffs_volume.specs.Directories.Entries.{Chunk, chunk_of, chunks_of, has_gap, size_taken};
 ghost use Rattle.ffs_volume.specs.Blocks.Steps.{steps_of};
 ghost use Rattle.ffs_volume.specs.Encodings.Replay.{fresh_replay, replayed_steps};
 ghost use Rattle.ffs_volume.specs.Directories.Roles.{Volume, roled_chunk};
@@ -15,6 +15,7 @@ ghost use Rattle.ffs_pathnames.specs.Marks as marks;
 ghost use Rattle.ffs_pathnames.specs.Sees.{Sees};
 ghost use Rattle.ffs_pathnames.specs.Reads.{chunks_read, start_of};
 
+use crate::gap::gap_of;
 use crate::inodes::Inodes;
 use crate::look::{both, look_chunk};
 use ffs_image::{Image, ImageFault};
@@ -23,12 +24,13 @@ use ffs_names::Chunks;
 use ffs_volume::Inode;
 use ffs_walk::{Blocks, Window};
 
-/// What a first look at a directory finds: whether nothing may be reported of its entries, whether all its chunks are sound, and
-/// whether a chunk is at the start of the file.
+/// What a first look at a directory finds: whether nothing may be reported of its entries, whether all its chunks are sound,
+/// whether a hole of it is kept, and whether a chunk is at the start of the file.
 #[derive(Clone, Copy, Debug)]
 pub struct Found {
     pub quiet: bool,
     pub sound: bool,
+    pub gap: bool,
     pub started: bool,
 }
 
@@ -45,7 +47,7 @@ fn keep_start(offset: u64, chunk: &[u8; 512], started: bool, start: &mut [u8; 51
     true
 }
 
-/// Looks at a directory once: at its entries, its chunks, and the chunk at the start of the file, which is put into `start`.
+/// Looks at a directory once: at its entries, its chunks, its holes, and the chunk at the start of the file, which is put into `start`.
 pub fn look_directory<I: Image>(
     geometry: &Geometry,
     image: &mut I,
@@ -77,6 +79,9 @@ pub fn look_directory<I: Image>(
     ensures sound { IfOk result (λ f. ForContents (I.device image.old).contents
         (λ b. inode.now.size < 2 ^ 31 → f.sound
         ≡ are_sound (chunks_read geometry.now.layout inode.now cut b))) }
+    ensures gap { IfOk result (λ f. ForContents (I.device image.old).contents (λ b.
+        f.gap ≡ has_gap (replayed_steps geometry.now.layout cut fresh_replay
+        (steps_of geometry.now.layout inode.now b)))) }
     ensures started { IfOk result (λ f. ForContents (I.device image.old).contents
         (λ b. inode.now.size < 2 ^ 31 →
         find (λ c. c.offset == 0) (chunks_read geometry.now.layout inode.now cut b)
@@ -101,9 +106,11 @@ pub fn look_directory<I: Image>(
         sound = both(sound, looked.sound);
         started = keep_start(offset, &chunk, started, start);
     }
+    let gap = gap_of(image, blocks, &mut chunks)?;
     Ok(Found {
         quiet,
         sound,
+        gap,
         started,
     })
 }

@@ -8,18 +8,16 @@ ghost use Rattle.ffs_workspace.specs.Holds.{HoldsClaims, HoldsSurvey};
 ghost use Rattle.ffs_pathnames.specs.Examines.{LeavesQueue, AreFound};
 
 use crate::directory::{Found, look_directory};
-use crate::gap::gap_of;
 use crate::inodes::Inodes;
 use ffs_image::{Image, ImageFault};
 use ffs_layout::Geometry;
 use ffs_volume::Inode;
 use ffs_workspace::Workspace;
 
-/// A directory's inode, whether a hole of it is kept, and what a first look at its chunks finds.
+/// A directory's inode, and what a first look at its chunks finds.
 #[derive(Clone, Copy, Debug)]
 pub struct DirectorySummary {
     pub inode: Inode,
-    pub gap: bool,
     pub found: Found,
 }
 
@@ -51,7 +49,6 @@ pub fn examine<I: Image>(
 {
     let inode = workspace.windows.table.inode(geometry, dir, image)?;
     let cut = workspace.cut[dir as usize];
-    let gap = gap_of(geometry, image, &mut workspace.windows.blocks, &inode, cut)?;
     let inodes = Inodes {
         kinds: workspace.kinds.as_slice(),
         marked: workspace.marked.as_slice(),
@@ -69,5 +66,5 @@ pub fn examine<I: Image>(
         cut,
         start,
     )?;
-    Ok(DirectorySummary { inode, gap, found })
+    Ok(DirectorySummary { inode, found })
 }

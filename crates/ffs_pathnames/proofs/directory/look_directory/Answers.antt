@@ -1,10 +1,10 @@
 use Rattle.std.proofs.Common.{◌≡◌, refl, sym, ap, ◌∙◌, ℕ, List, ◌∷◌, Some}
-use Rattle.std.specs.Prelude.{◌==◌}
+use Rattle.std.specs.Prelude.{◌==◌, ◌||◌}
 use Rattle.std.specs.List.{flat_map, find}
 use Rattle.ffs_volume.specs.Directories.Entries.{Chunk, chunk_of}
 use Rattle.ffs_volume.specs.Directories.Roles.{roled_chunk}
 use Rattle.ffs_volume.specs.Directories.PathnameCheck.{are_sound}
-use Rattle.ffs_names.specs.Readings.{rest}
+use Rattle.ffs_names.specs.Readings.{rest, gap_left}
 use Rattle.ffs_pathnames.specs.Marks.{are_quiet, after_looks}
 use Rattle.ffs_pathnames.specs.Reads.{chunks_read, start_of}
 use Rattle.ffs_pathnames.proofs.Directories.{chunk_quiet, chunk_stamps, chunk_sound, all_quiet, all_stamps, all_sound}
@@ -23,6 +23,7 @@ chunks-init g c = record {
   quiet = λ b t v s h. ap (λ cs. are_quiet v c.args.dir c.args.stamps.now (flat_map roled_chunk cs)) (sym (c.start-chunks.ensures.chunks b h));
   stamps = λ b t v s h. ap (λ cs. after_looks v c.args.dir c.args.stamps.now (flat_map roled_chunk cs)) (sym (c.start-chunks.ensures.chunks b h));
   sound = λ b t h. ap are_sound (sym (c.start-chunks.ensures.chunks b h));
+  gap = λ b t. sym (ap (λ x. x || gap_left b c.start-chunks.result) c.start-chunks.ensures.gap ∙ c.start-chunks.ensures.gap_left b);
   started = λ b t h. ap (find (λ x. x.offset == 0)) (sym (c.start-chunks.ensures.chunks b h));
 }
 
@@ -49,6 +50,7 @@ chunks-preserved g c =
           (next b t) (c.look_chunk-looked.ensures.stamps v s) (inv.stamps b t v s h);
       sound = λ b t h. chunk_sound (rest b c.chunks.chunks) (rest b c.next.new.self) here _ c.chunks.sound c.look_chunk-looked.result.sound
           (next b t) c.look_chunk-looked.ensures.sound (inv.sound b t h);
+      gap = λ b t. inv.gap b t ∙ sym (c.in_ok-offset.ensures.gap b (now b t));
       started = λ b t h. inv.started b t h ∙ (ap (λ l. start_of l c.chunks.started order c.chunks.start) (next b t)
           ∙ c.keep_start-started.ensures order (rest b c.next.new.self));
     })
@@ -76,3 +78,10 @@ returns-clause-started g c = λ b t h.
     let inv = c.chunks.invariant in
     let read = rw c.in_default.is at c.in_ok-offset.ensures.chunks in
     inv.started b t h ∙ ap (λ l. start_of l c.chunks.started c.args.geometry.now.layout.order c.chunks.start) (read b (ap (λ d. d.contents) inv.same ∙ t))
+
+pub returns-clause-gap : goal.returns-clause-gap
+returns-clause-gap g c = λ b t.
+    let inv = c.chunks.invariant in
+    let now = ap (λ d. d.contents) inv.same ∙ t in
+    let later = ap (λ d. d.contents) (c.in_ok-offset.ensures.ok ∙ inv.same) ∙ t in
+    c.in_ok-gap.ensures.gap b later ∙ (c.in_ok-offset.ensures.gap b now ∙ sym (inv.gap b t))

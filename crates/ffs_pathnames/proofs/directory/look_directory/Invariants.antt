@@ -1,11 +1,14 @@
-use Rattle.std.proofs.Common.{◌≡◌, ◌<◌, ◌^◌, ◌&&◌, length, vec_len}
+use Rattle.std.proofs.Common.{◌≡◌, ◌<◌, ◌^◌, ◌&&◌, ◌||◌, length, vec_len}
 use Rattle.std.specs.Prelude.{◌==◌}
 use Rattle.std.specs.List.{flat_map, find}
 use Rattle.ffs_image.specs.Device.{ForContents}
 use Rattle.ffs_volume.specs.Directories.Roles.{Volume, roled_chunk}
 use Rattle.ffs_volume.specs.Directories.PathnameCheck.{are_sound}
+use Rattle.ffs_volume.specs.Directories.Entries.{has_gap}
+use Rattle.ffs_volume.specs.Blocks.Steps.{steps_of}
+use Rattle.ffs_volume.specs.Encodings.Replay.{fresh_replay, replayed_steps}
 use Rattle.ffs_walk.specs.Windows.{BlocksHold, WindowHolds}
-use Rattle.ffs_names.specs.Readings.{rest}
+use Rattle.ffs_names.specs.Readings.{rest, gap_left}
 use Rattle.ffs_pathnames.specs.Marks.{are_quiet, after_looks}
 use Rattle.ffs_pathnames.specs.Sees.{Sees}
 use Rattle.ffs_pathnames.specs.Reads.{chunks_read, start_of}
@@ -28,6 +31,8 @@ invariant-chunks g l = let device = g.I.Image.device in record {
       ≡ after_looks v l.dir l.stamps (flat_map roled_chunk (rest b l.chunks)));
   sound : ForContents (device l.initial.image).contents (λ b. l.inode.size < 2 ^ 31 →
       are_sound (chunks_read l.geometry.layout l.inode l.cut b) ≡ (l.sound && are_sound (rest b l.chunks)));
+  gap : ForContents (device l.initial.image).contents (λ b.
+      has_gap (replayed_steps l.geometry.layout l.cut fresh_replay (steps_of l.geometry.layout l.inode b)) ≡ (l.chunks.gap || gap_left b l.chunks));
   started : ForContents (device l.initial.image).contents (λ b. l.inode.size < 2 ^ 31 →
       find (λ c. c.offset == 0) (chunks_read l.geometry.layout l.inode l.cut b) ≡ start_of (rest b l.chunks) l.started l.order l.start);
 }

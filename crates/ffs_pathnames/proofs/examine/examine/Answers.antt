@@ -19,7 +19,6 @@ returns-clause-found g c = λ b t h r d.
     let number = (dir_is v b c.args.dir d).0 in
     let class = (dir_is v b c.args.dir d).1 in
     let t1 = ap (λ x. x.contents) c.in_ok-inode.ensures.ok ∙ t in
-    let t2 = ap (λ x. x.contents) (c.in_ok-gap.ensures.ok ∙ c.in_ok-inode.ensures.ok) ∙ t in
     let inode = c.in_ok-inode.ensures.inode b t in
     let small = subst (λ i. i.size < 2 ^ 31) (sym inode) (dir_size v (inode_of v b c.args.dir) class) in
     let cut = get_or_read_under c.args.workspace.now.cut.items c.args.dir _ c.index-cut.result.now 0 c.index-cut.ensures (subst (λ n. c.args.dir < n) (sym c.requires.made.cut) c.requires.number) c.args.workspace.now.cut.ok.0 ∙ h.cut c.args.dir in
@@ -33,14 +32,14 @@ returns-clause-found g c = λ b t h r d.
     let long = c.look_directory.auto.stamps ∙ c.as_mut_slice.ensures.len in
     record {
       inode = inode;
-      gap = c.in_ok-gap.ensures.gap b t1 ∙ gap_is v b c.args.dir c.in_ok-inode.inode c.index-cut.result.now sound number inode cut;
-      sound = c.in_ok-found.ensures.sound b t2 small ∙ ap are_sound chunks;
-      started = sym (ap (find (λ x. x.offset == 0)) chunks) ∙ c.in_ok-found.ensures.started b t2 small;
-      quiet = c.in_ok-found.ensures.quiet b t2 (volume_of v b) shows small
+      gap = c.in_ok-found.ensures.gap b t1 ∙ gap_is v b c.args.dir c.in_ok-inode.inode c.index-cut.result.now sound number inode cut;
+      sound = c.in_ok-found.ensures.sound b t1 small ∙ ap are_sound chunks;
+      started = sym (ap (find (λ x. x.offset == 0)) chunks) ∙ c.in_ok-found.ensures.started b t1 small;
+      quiet = c.in_ok-found.ensures.quiet b t1 (volume_of v b) shows small
           ∙ (ap (λ q. are_quiet (volume_of v b) c.args.dir q (flat_map roled_chunk (chunks_read c.args.geometry.now.layout c.in_ok-inode.inode c.index-cut.result.now b))) c.as_mut_slice.ensures.value
           ∙ ap (are_quiet (volume_of v b) c.args.dir c.args.workspace.now.queue.items) (seen_are v b c.args.dir _ chunks));
       stamps = with_items_is c.args.workspace.now.queue c.look_directory.new.stamps long
-          ∙ (c.in_ok-found.ensures.stamps b t2 (volume_of v b) shows small
+          ∙ (c.in_ok-found.ensures.stamps b t1 (volume_of v b) shows small
           ∙ (ap (λ q. after_looks (volume_of v b) c.args.dir q (flat_map roled_chunk (chunks_read c.args.geometry.now.layout c.in_ok-inode.inode c.index-cut.result.now b))) c.as_mut_slice.ensures.value
           ∙ ap (after_looks (volume_of v b) c.args.dir c.args.workspace.now.queue.items) (seen_are v b c.args.dir _ chunks)));
     }

@@ -6,6 +6,7 @@ use Rattle.ffs_volume.specs.declared.Step.TheVariants.{Run}
 use Rattle.ffs_names.specs.Keepings.{replay_in}
 use Rattle.ffs_names.specs.RunCursors.{hand_chunks, reading_by}
 use Rattle.ffs_names.proofs.RoledEntry.{no_run_cursor, run_seen, runs_seen}
+use Rattle.ffs_names.proofs.GapsLeft.{gap_past_run}
 use Rattle.ffs_names.proofs.chunks.Chunks.see.Goals as goal
 
 pub returns-then-take-clause-chunks : goal.returns-then-take-clause-chunks
@@ -35,3 +36,15 @@ returns-else-take-clause-runs c = λ steps.
     let s = c.args.self.now in
     runs_seen s.walk.geometry.layout s.keeping.cut c.take.new.self.cut (replay_in s.keeping) (replay_in c.take.new.self) steps c.args.start c.args.len c.args.block s.runs c.saturating_add-self.result
     c.requires.seen (c.take.ensures.after c.args.block) c.take.ensures.cut (omega (arith, c.saturating_add-self.ensures))
+
+pub returns-then-take-clause-gap : goal.returns-then-take-clause-gap
+returns-then-take-clause-gap c = λ steps.
+    let s = c.args.self.now in
+    gap_past_run s.walk.geometry.layout s.keeping.cut c.take.new.self.cut (replay_in s.keeping) (replay_in c.take.new.self) steps c.args.start c.args.len c.args.block s.gap
+    (c.take.ensures.after c.args.block) c.take.ensures.cut
+
+pub returns-else-take-clause-gap : goal.returns-else-take-clause-gap
+returns-else-take-clause-gap c = λ steps.
+    let s = c.args.self.now in
+    gap_past_run s.walk.geometry.layout s.keeping.cut c.take.new.self.cut (replay_in s.keeping) (replay_in c.take.new.self) steps c.args.start c.args.len c.args.block s.gap
+    (c.take.ensures.after c.args.block) c.take.ensures.cut
