@@ -34,9 +34,11 @@ type_of mode = mode / 4096
 abbrev pub is_known_type : ℕ → Bool
 is_known_type kind = kind == 1 || (kind == 2 || (kind == 4 || (kind == 6 || (kind == 8 || (kind == 10 || kind == 12)))))
 
+-- the type is a character or a block device
 abbrev pub is_device : ℕ → Bool
 is_device kind = kind == 2 || kind == 6
 
+-- a symlink whose text is in the room of the addresses
 abbrev pub is_short_symlink : Layout → Inode → Bool
 is_short_symlink v i = type_of i.mode == 10 && nat_lt i.size v.maxsymlinklen
 
@@ -50,25 +52,30 @@ used_addresses words blocks =
     if nat_lt blocks 13 then blocks
     else (if nat_lt (12 + words) blocks then (if nat_lt (12 + words + words * words) blocks then 15 else 14) else 13)
 
--- how many of the fifteen addresses an inode may use
+-- how many of the fifteen addresses an inode may use: a short symlink's text fills some; a device has one more, for its
+-- own number
 abbrev pub addresses_used : Layout → Inode → ℕ
 addresses_used v i =
     if is_short_symlink v i then div_ceil i.size 4
     else used_addresses v.nindir (if is_device (type_of i.mode) then blocks_of v i + 1 else blocks_of v i)
 
+-- an address isn't zero
 abbrev pub is_any_set : List ℕ → Bool
 is_any_set addresses = list_any (λ a. not (a == 0)) addresses
 
+-- the size is more than fifteen addresses reach, or a directory's is 2^31 or more
 abbrev pub is_too_large : Layout → Inode → Bool
 is_too_large v i =
     nat_lt ((12 + v.nindir + v.nindir * v.nindir + v.nindir * v.nindir * v.nindir) * v.bsize) i.size
     || (type_of i.mode == 4 && nat_lt 2147483647 i.size)
 
+-- the class of an inode
 unfoldable pub class_of : Layout → Inode → Class
 class_of v i =
     if type_of i.mode == 0
     then (if i.mode == 0 && (i.size == 0 && not (is_any_set i.addresses)) then Free else Partial)
-    else (if not (is_known_type (type_of i.mode)) || (is_too_large v i || is_any_set (drop (addresses_used v i) i.addresses))
+    else (if not (is_known_type (type_of i.mode))
+        || (is_too_large v i || is_any_set (drop (addresses_used v i) i.addresses))
     then Unknown
     else (if type_of i.mode == 4 then Dir else File))
 
@@ -78,6 +85,7 @@ is_file_or_dir File = true
 is_file_or_dir Dir = true
 is_file_or_dir _ = false
 
+-- a directory, and an inode of an unknown type
 abbrev pub is_directory : Class → Bool
 is_directory Dir = true
 is_directory _ = false

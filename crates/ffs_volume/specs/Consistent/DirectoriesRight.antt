@@ -27,20 +27,22 @@ pub record IsDirRight (v : Volume) (d : ℕ) : Type 0 where
   pub dot_there : IsSomeAnd (dot v d) (λ e. (e.number ≡ d) × (e.kind ≡ 4))
   pub dotdot_there : IsSomeAnd (dotdot v d) (λ e. e.kind ≡ 4)
   pub no_extra : (j : ℕ) (s : RoledEntry) → roled_at (roled_entries v d) j ≡ Some s → s.role ≢ Extra
-  pub plain : (j : ℕ) (s : RoledEntry) → roled_at (roled_entries v d) j ≡ Some s → s.role ≡ Plain → IsPlainRight v s.entry
+  pub plain : (j : ℕ) (s : RoledEntry) → roled_at (roled_entries v d) j ≡ Some s → s.role ≡ Plain
+      → IsPlainRight v s.entry
 
 -- inode 2 is a directory, and each directory holds what it should
 pub record AreDirsRight (v : Volume) : Type 0 where
   pub root : v.class 2 ≡ Dir
   pub each : (d : ℕ) → is_dir v d ≡ true → IsDirRight v d
 
--- a directory is named by exactly one plain entry and reached from 2, and its `..` has the number of the directory with that entry
+-- a directory is named by exactly one plain entry and reached from 2, and its `..` has the number of the directory with
+-- that entry
 pub record IsLinked (v : Volume) (d : ℕ) : Type 0 where
   pub once : NamedOnce (graph_of v) d
   pub reached_from_root : reached (graph_of v) d ≡ true
   pub dotdot_right : IsSomeAnd (dotdot v d) (λ e. e.number ≡ once.in_dir)
 
--- so is each directory but 2, which is named by no plain entry, and whose `..` is 2
+-- each directory but 2 is linked so; no plain entry names 2, and the `..` of 2 is 2
 pub record AreLinksRight (v : Volume) : Type 0 where
   pub each : (d : ℕ) → is_dir v d ≡ true → d ≢ 2 → IsLinked v d
   pub root : (s j : ℕ) → names_at (graph_of v) s j 2 ≡ false
@@ -54,8 +56,8 @@ pub record IsCountRight (v : Volume) (i : ℕ) : Type 0 where
 abbrev pub AreCountsRight : Volume → Type 0
 AreCountsRight v = (i : ℕ) → is_some_inode v i ≡ true → IsCountRight v i
 
--- what is known of each volume: there is an inode 2, a directory of size 0 has no chunks, no known type is that of a whiteout,
--- and no entry that is live has the number 0
+-- what is known of the volume of each image: there is an inode 2, a directory of size 0 has no entries, and no
+-- allocated inode of a known class has the type of a whiteout
 pub record IsVolume (v : Volume) : Type 0 where
   pub some : 2 < v.count
   pub empty : (d : ℕ) → is_dir v d ≡ true → (v.inode d).size ≡ 0 → roled_entries v d ≡ []

@@ -5,7 +5,7 @@ use Rattle.ffs_volume.specs.Directories.Roles.{RoledEntry, is_plain}
 use Rattle.ffs_volume.specs.Directories.Search.{first_below, some_below}
 use Rattle.ffs_volume.specs.Directories.Climb.{is_value, leads_cycle}
 
--- What the definitions below read of a volume: the number of inodes, which are directories, and the entries of each in order.
+-- what levels and parents depend on: the number of inodes, which are directories, and the entries of each in order
 pub record Graph : Type 0 where
   pub count : ℕ
   pub is_dir : ℕ → Bool
@@ -46,15 +46,16 @@ parent_by v d (Some (suc k)) = first_below (λ s. is_value (level v s) k && edge
 abbrev pub level_edge : Graph → ℕ → ℕ → ℕ → Bool
 level_edge v k x s = is_value (level v s) k && edge v s x
 
+-- the parent of a directory; that of 2 is 2
 unfoldable pub parent : Graph → ℕ → Option ℕ
 parent v d = if d == 2 then Some 2 else parent_by v d (level v d)
 
--- the place of the first entry that passes
+-- the index of the first entry that passes
 abbrev pub first_place : (RoledEntry → Bool) → List RoledEntry → Option ℕ
 first_place p [] = None
 first_place p (e ∷ es) = cond (p e) (Some 0) (option_map suc (first_place p es))
 
--- the place of the parent entry among the entries of the parent
+-- the index of the parent entry among the entries of the parent
 abbrev pub entry_place : Graph → ℕ → Option ℕ → Option ℕ
 entry_place v d None = None
 entry_place v d (Some s) = first_place (names d) (v.entries s)
@@ -66,12 +67,15 @@ parent_entry v d = if d == 2 then None else entry_place v d (parent v d)
 abbrev pub named : Graph → ℕ → Bool
 named v x = some_below (λ s. names_in v s x) v.count
 
+-- x is suspect, isn't 2, and no plain entry names it
 abbrev pub dead : Graph → (ℕ → Bool) → ℕ → Bool
 dead v suspect x = suspect x && (not (x == 2) && not (named v x))
 
+-- a directory other than 2 that is neither reached nor dead
 abbrev pub lost : Graph → (ℕ → Bool) → ℕ → Bool
 lost v suspect d = v.is_dir d && (not (d == 2) && (not (reached v d) && not (dead v suspect d)))
 
+-- there is none, or it is dead
 abbrev pub none_or_dead : Graph → (ℕ → Bool) → Option ℕ → Bool
 none_or_dead v suspect None = true
 none_or_dead v suspect (Some s) = dead v suspect s
@@ -89,23 +93,25 @@ pub record IsSane (v : Graph) : Type 0 where
 abbrev pub AllReached : Graph → Type 0
 AllReached v = (d : ℕ) → v.is_dir d ≡ true → reached v d ≡ true
 
+-- no inode is dead
 abbrev pub NoneDead : Graph → (ℕ → Bool) → Type 0
 NoneDead v suspect = (x : ℕ) → dead v suspect x ≡ false
 
+-- no directory has a line UNREF DIR
 abbrev pub NoUnrefDir : Graph → (ℕ → Bool) → Type 0
 NoUnrefDir v suspect = (d : ℕ) → unref_dir v suspect d ≡ false
 
--- whether the entry at j passes
+-- whether the entry at index j passes
 abbrev pub test_at : (RoledEntry → Bool) → ℕ → List RoledEntry → Bool
 test_at p j [] = false
 test_at p zero (e ∷ es) = p e
 test_at p (suc j) (e ∷ es) = test_at p j es
 
--- the entry at j of the directory s is a plain one that names x
+-- the entry at index j of the directory s is a plain one that names x
 abbrev pub names_at : Graph → ℕ → ℕ → ℕ → Bool
 names_at v s j x = v.is_dir s && test_at (names x) j (v.entries s)
 
--- the entry at j of s is the parent entry of d
+-- the entry at index j of s is the parent entry of d, as a fact
 abbrev pub is_parent_entry : Graph → ℕ → ℕ → ℕ → Type 0
 is_parent_entry v s j d = (parent v d ≡ Some s) × (parent_entry v d ≡ Some j)
 

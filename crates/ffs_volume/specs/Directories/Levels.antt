@@ -1,5 +1,5 @@
--- Laws of levels: the least walk is shorter than the number of inodes.
-use Rattle.std.specs.Prelude.{◌≡◌, ℕ, ◌-◌, ◌<◌, true, false}
+-- What the level of a directory is: the least number of edges from inode 2.
+use Rattle.std.specs.Prelude.{◌≡◌, ℕ, ◌<◌, true, false}
 use Rattle.ffs_volume.specs.Directories.Graph.{Graph, within}
 
 -- the least number of edges to d is k

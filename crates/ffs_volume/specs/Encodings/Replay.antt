@@ -52,25 +52,33 @@ replay_step v cut r Gap = r
 
 -- the step is kept: a Run where all its offers are, a Tail or Gap where it is seen
 abbrev pub is_replayed : Layout → ℕ → Replay → Step → Bool
-is_replayed v cut r (Run start len block) = is_replay_open cut r && (replay_step v cut r (Run start len block)).kept == r.kept + len
+is_replayed v cut r (Run start len block) =
+    is_replay_open cut r && (replay_step v cut r (Run start len block)).kept == r.kept + len
 is_replayed v cut r Tail = is_replay_open cut r
 is_replayed v cut r Gap = is_replay_open cut r
 
 -- the steps that are kept
 abbrev pub replayed_steps : Layout → ℕ → Replay → List Step → List Step
 replayed_steps v cut r [] = []
-replayed_steps v cut r (step ∷ steps) = (if is_replayed v cut r step then step ∷ [] else []) ++ replayed_steps v cut (replay_step v cut r step) steps
+replayed_steps v cut r (step ∷ steps) =
+    (if is_replayed v cut r step then step ∷ [] else [])
+    ++ replayed_steps v cut (replay_step v cut r step) steps
 
 -- the offers of a step that are kept: the first of its fragments
 abbrev pub replayed_step_offers : Layout → ℕ → ℕ → Replay → Step → List Offer
-replayed_step_offers v inode cut r (Run start len block) = map (offer_at inode) (range_with_len start ((replay_step v cut r (Run start len block)).kept - r.kept))
+replayed_step_offers v inode cut r (Run start len block) =
+    map (offer_at inode) (range_with_len start ((replay_step v cut r (Run start len block)).kept - r.kept))
 replayed_step_offers v inode cut r Tail = []
 replayed_step_offers v inode cut r Gap = []
 
 abbrev pub replayed_offers : Layout → ℕ → ℕ → Replay → List Step → List Offer
 replayed_offers v inode cut r [] = []
-replayed_offers v inode cut r (step ∷ steps) = replayed_step_offers v inode cut r step ++ replayed_offers v inode cut (replay_step v cut r step) steps
+replayed_offers v inode cut r (step ∷ steps) =
+    replayed_step_offers v inode cut r step ++ replayed_offers v inode cut (replay_step v cut r step) steps
 
 -- the cut of the inode x, in 32 bits
 abbrev pub cut_at : Layout → List ℕ → ℕ → ℕ
-cut_at v image x = if is_inode_number v x then min (cut_of (after_owner v (claims_before v image x) (owner_of v image x))) 4294967295 else 0
+cut_at v image x =
+    if is_inode_number v x
+    then min (cut_of (after_owner v (claims_before v image x) (owner_of v image x))) 4294967295
+    else 0

@@ -17,7 +17,7 @@ abbrev pub replayed_runs : Layout → ℕ → Replay → List Step → ℕ
 replayed_runs v cut r [] = 0
 replayed_runs v cut r (step ∷ steps) = seen_run cut r step + replayed_runs v cut (replay_step v cut r step) steps
 
--- the kept offers up to a cut, and nothing where there is none
+-- the kept offers after a Run: counted up to the cut, and left as they are where there is none
 abbrev pub counted_of : ℕ → ℕ → ℕ → ℕ
 counted_of cut kept len = if cut == 0 then kept else kept + min len (cut - kept)
 
@@ -34,7 +34,7 @@ counted_step v cut r (Run start len block) = if is_replay_open cut r then counte
 counted_step v cut r Tail = r
 counted_step v cut r Gap = r
 
--- what replays have in common that are alike
+-- two replays that keep the same steps and offers and see as many Runs
 pub record SameReplay (v : Layout) (i cut : ℕ) (r q : Replay) (steps : List Step) : Type 0 where
   pub steps_are : replayed_steps v cut r steps ≡ replayed_steps v cut q steps
   pub offers_are : replayed_offers v i cut r steps ≡ replayed_offers v i cut q steps

@@ -38,4 +38,5 @@ AllPathsFit = (g : Graph) (d : ℕ) → PathsFit g d
 -- the free blocks and loose fragments of a group are all its free fragments
 abbrev pub SumsAreWhole : Type 0
 SumsAreWhole = (v : Layout) (free : ℕ → Bool) (class : ℕ → Class) (c : ℕ) → 0 < v.frag → v.fpg % v.frag ≡ 0 →
-    v.frag * (right_summary v free class c).blocks + (right_summary v free class c).fragments ≡ count_by free (range_with_len (cgbase v c) v.fpg)
+    v.frag * (right_summary v free class c).blocks + (right_summary v free class c).fragments
+    ≡ count_by free (range_with_len (cgbase v c) v.fpg)
