@@ -8,10 +8,11 @@ use Rattle.ffs_volume.specs.declared.Step.{Step}
 use Rattle.ffs_volume.specs.declared.Step.TheVariants.{Run, Tail, Gap}
 use Rattle.ffs_volume.specs.declared.BlockMessage.{BlockMessage}
 use Rattle.ffs_volume.specs.declared.BlockMessage.TheVariants.{PartAlloc, UnknownType, Bad, Dup, BlockCount}
+use Rattle.ffs_volume.specs.Disk.Superblock.{DEV_BSIZE}
 use Rattle.ffs_volume.specs.Disk.Areas.{is_in_range}
 use Rattle.ffs_volume.specs.Blocks.Inodes.{is_file_or_dir, inode_of, class_of, is_unknown}
 use Rattle.ffs_volume.specs.Blocks.Owners.{Owner, owners_of}
-use Rattle.ffs_volume.specs.Blocks.Claims.{Claims, no_claims, next_inode, is_open, is_set, after_offer, after_step, after_owner, after_owners, steps_lines}
+use Rattle.ffs_volume.specs.Blocks.Claims.{MAXBAD, MAXDUP, Claims, no_claims, next_inode, is_open, is_set, after_offer, after_step, after_owner, after_owners, steps_lines}
 
 -- what the class of an inode says
 abbrev pub class_lines : ℕ → Class → List BlockMessage
@@ -21,7 +22,7 @@ class_lines inode _ = []
 
 -- the number of sectors of so many fragments
 abbrev pub sectors : Layout → ℕ → ℕ
-sectors v fragments = fragments * (v.fsize / 512)
+sectors v fragments = fragments * (v.fsize / DEV_BSIZE)
 
 -- the blocks field of a file or directory that wasn't cut, against its kept offers
 abbrev pub count_lines : Layout → Owner → Claims → List BlockMessage
@@ -49,14 +50,14 @@ pub record Offer : Type 0 where
 abbrev pub offers_kept : Layout → ℕ → Claims → List ℕ → List Offer
 offers_kept v inode s [] = []
 offers_kept v inode s (f ∷ fs) =
-    (if nat_lt s.dups 11 then record { inode = inode; fragment = f } ∷ [] else [])
+    (if nat_lt s.dups (MAXDUP + 1) then record { inode = inode; fragment = f } ∷ [] else [])
     ++ offers_kept v inode (after_offer v s f) fs
 
 abbrev pub run_kept : Layout → ℕ → Claims → ℕ → ℕ → List Offer
 run_kept v inode s start len =
     if is_in_range v start len
     then offers_kept v inode (record s { runs = s.runs + 1 }) (range_with_len start len)
-    else (if s.bad == 10 then []
+    else (if s.bad == MAXBAD then []
     else offers_kept v inode (record s { runs = s.runs + 1; bad = s.bad + 1 }) (range_with_len start len))
 
 abbrev pub step_kept : Layout → ℕ → Claims → Step → List Offer

@@ -1,6 +1,6 @@
 -- Why the Runs that are seen are bounded: each raises the potential by one at least.
 use Rattle.std.specs.Prelude.{◌≡◌, ◌+◌, ◌*◌, ◌≤◌, ℕ, length, count_by}
-use Rattle.ffs_volume.specs.Blocks.Claims.{Claims}
+use Rattle.ffs_volume.specs.Blocks.Claims.{MAXBAD, MAXDUP, Claims}
 
 -- how many fragments are reserved or claimed
 abbrev pub used_bits : Claims → ℕ
@@ -21,5 +21,5 @@ pub record ClaimBound (s s' : Claims) : Type 0 where
   pub keeps : s'.kept + offers_potential s ≤ s.kept + offers_potential s'
   pub used_length : length s'.used ≡ length s.used
   pub dup_length : length s'.dup ≡ length s.dup
-  pub bad_cap : s.bad ≤ 11 → s'.bad ≤ 11
-  pub dups_cap : s.dups ≤ 11 → s'.dups ≤ 11
+  pub bad_cap : s.bad ≤ MAXBAD + 1 → s'.bad ≤ MAXBAD + 1
+  pub dups_cap : s.dups ≤ MAXDUP + 1 → s'.dups ≤ MAXDUP + 1

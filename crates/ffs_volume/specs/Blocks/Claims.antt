@@ -45,14 +45,21 @@ next_inode s = record s { bad = 0; dups = 0; kept = 0; tail = false }
 abbrev pub is_set : List Bool → ℕ → Bool
 is_set bits f = slice_index_or bits f false
 
+-- how many bad Runs, and how many dup offers, an inode may have and not be cut
+abbrev pub MAXBAD : ℕ
+MAXBAD = 10
+
+abbrev pub MAXDUP : ℕ
+MAXDUP = 10
+
 -- the inode isn't cut: it has at most ten bad Runs and at most ten dup offers, and its next step is seen
 abbrev pub is_open : Claims → Bool
-is_open s = nat_lt s.bad 11 && nat_lt s.dups 11
+is_open s = nat_lt s.bad (MAXBAD + 1) && nat_lt s.dups (MAXDUP + 1)
 
 -- one offer, which is kept unless eleven were dup before it
 abbrev pub after_offer : Layout → Claims → ℕ → Claims
 after_offer v s f =
-    if nat_lt s.dups 11
+    if nat_lt s.dups (MAXDUP + 1)
     then (if is_data_fragment v f
     then (if is_set s.used f
     then record s { kept = s.kept + 1; dups = s.dups + 1; dup = slice_set s.dup f true }
@@ -63,8 +70,8 @@ after_offer v s f =
 -- the lines of one offer
 abbrev pub offer_lines : Layout → ℕ → Claims → ℕ → List BlockMessage
 offer_lines v inode s f =
-    if nat_lt s.dups 11 && (is_data_fragment v f && is_set s.used f)
-    then Dup f inode ∷ (if s.dups == 10 then ManyDup inode ∷ [] else [])
+    if nat_lt s.dups (MAXDUP + 1) && (is_data_fragment v f && is_set s.used f)
+    then Dup f inode ∷ (if s.dups == MAXDUP then ManyDup inode ∷ [] else [])
     else []
 
 -- the same of offers one after the other
@@ -81,7 +88,7 @@ abbrev pub after_run : Layout → Claims → ℕ → ℕ → Claims
 after_run v s start len =
     if is_in_range v start len
     then after_offers v (record s { runs = s.runs + 1 }) (range_with_len start len)
-    else (if s.bad == 10
+    else (if s.bad == MAXBAD
     then record s { runs = s.runs + 1; bad = s.bad + 1 }
     else after_offers v (record s { runs = s.runs + 1; bad = s.bad + 1 }) (range_with_len start len))
 
@@ -90,7 +97,7 @@ abbrev pub run_lines : Layout → ℕ → Claims → ℕ → ℕ → List BlockM
 run_lines v inode s start len =
     if is_in_range v start len
     then offers_lines v inode (record s { runs = s.runs + 1 }) (range_with_len start len)
-    else Bad start inode ∷ (if s.bad == 10 then ManyBad inode ∷ []
+    else Bad start inode ∷ (if s.bad == MAXBAD then ManyBad inode ∷ []
     else offers_lines v inode (record s { runs = s.runs + 1; bad = s.bad + 1 }) (range_with_len start len))
 
 -- one step

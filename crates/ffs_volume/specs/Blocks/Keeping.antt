@@ -6,6 +6,7 @@ use Rattle.ffs_volume.specs.declared.Step.{Step}
 use Rattle.ffs_volume.specs.declared.Step.TheVariants.{Run, Tail, Gap}
 use Rattle.ffs_volume.specs.Disk.Areas.{is_data_fragment, is_in_range, is_reserved}
 use Rattle.ffs_volume.specs.Blocks.Owners.{Owner}
+use Rattle.ffs_volume.specs.Blocks.Claims.{MAXBAD, MAXDUP}
 use Rattle.ffs_volume.specs.Blocks.BlockCheck.{Offer}
 
 -- an offer, and how many bad Runs of its inode are at or before its Run
@@ -63,7 +64,7 @@ offer_verdict v earlier p = record {
   inode = p.inode;
   fragment = p.fragment;
   dup = is_data_fragment v p.fragment && (is_reserved v p.fragment || is_taken earlier p.fragment);
-  kept = nat_le p.bads 10 && nat_le (dups_of earlier p.inode) 10;
+  kept = nat_le p.bads MAXBAD && nat_le (dups_of earlier p.inode) MAXDUP;
 }
 
 -- the verdicts on all offers so far, after some more; the last is first

@@ -10,7 +10,7 @@ use Rattle.ffs_volume.specs.declared.Step.TheVariants.{Run, Tail, Gap}
 use Rattle.ffs_volume.specs.declared.Inode.{Inode}
 use Rattle.ffs_volume.specs.Disk.Numbers.{u32_at, piece}
 use Rattle.ffs_volume.specs.Disk.Areas.{is_in_range}
-use Rattle.ffs_volume.specs.Blocks.Inodes.{used_addresses, type_of, is_device, is_short_symlink, blocks_of, is_file_or_dir, class_of}
+use Rattle.ffs_volume.specs.Blocks.Inodes.{NDADDR, used_addresses, type_of, is_device, is_short_symlink, blocks_of, is_file_or_dir, class_of}
 
 -- the bytes of the block at an address
 abbrev pub block_bytes : Layout → List ℕ → ℕ → List ℕ
@@ -51,7 +51,7 @@ steps_under g bytes child span address first next count =
 
 -- how many fragments a block of data has
 abbrev pub data_length : Extent → ℕ → ℕ
-data_length t block = if nat_lt block 12 && nat_eq (block + 1) t.blocks then t.last else t.geometry.frag
+data_length t block = if nat_lt block NDADDR && nat_eq (block + 1) t.blocks then t.last else t.geometry.frag
 
 -- how many logical blocks lie under an address of a level of indirection
 abbrev pub span_of : ℕ → ℕ → ℕ
@@ -83,10 +83,12 @@ steps_at t bytes (suc level) address first =
 
 -- the levels of indirection at the fifteen addresses, and the first logical block of each
 abbrev pub level_of : ℕ → ℕ
-level_of i = i - 11
+level_of i = i - (NDADDR - 1)
 
 abbrev pub first_block : ℕ → ℕ → ℕ
-first_block words i = if nat_lt i 13 then i else (if nat_eq i 13 then 12 + words else 12 + words + words * words)
+first_block words i =
+    if nat_lt i (NDADDR + 1) then i
+    else (if nat_eq i (NDADDR + 1) then NDADDR + words else NDADDR + words + words * words)
 
 -- the steps of `count` addresses of an inode, from index `next` on; all of them where `next` is 0
 abbrev pub steps_of_addresses : Extent → List ℕ → List ℕ → ℕ → ℕ → List Step

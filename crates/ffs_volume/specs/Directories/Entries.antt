@@ -7,6 +7,13 @@ use Rattle.ffs_volume.specs.declared.Step.{Step}
 use Rattle.ffs_volume.specs.declared.Step.TheVariants.{Run, Tail, Gap}
 use Rattle.ffs_volume.specs.Disk.Numbers.{u16_at, u32_at, piece}
 
+-- the bytes of a chunk, and the size of the entries `.` and `..`, which is the least of a directory
+abbrev pub DIRBLKSIZ : ℕ
+DIRBLKSIZ = 512
+
+abbrev pub MINDIRSIZE : ℕ
+MINDIRSIZE = 24
+
 -- an entry: the number that it names, its record's length, its type and its name
 pub record Entry : Type 0 where
   pub number : ℕ
@@ -32,7 +39,7 @@ is_name chunk place =
 
 -- a record's length is a multiple of 4, at least 8, and stays in the chunk
 abbrev pub is_length : ℕ → ℕ → Bool
-is_length place length = (length % 4 == 0) && nat_le 8 length && nat_le (place + length) 512
+is_length place length = (length % 4 == 0) && nat_le 8 length && nat_le (place + length) DIRBLKSIZ
 
 -- a record holds its name with the NUL, and has one of sixteen types
 abbrev pub is_held : List ℕ → ℕ → ℕ → Bool
@@ -91,7 +98,7 @@ AreLongest = (order : Order) (chunk : List ℕ) → IsLongest order chunk (entri
 
 -- they fill the chunk
 abbrev pub is_sound : Order → List ℕ → Bool
-is_sound order chunk = sum_by (λ e. e.length) (entries_of order chunk) == 512
+is_sound order chunk = sum_by (λ e. e.length) (entries_of order chunk) == DIRBLKSIZ
 
 -- a chunk of a directory: its place in the file, its entries, and whether they fill it
 pub record Chunk : Type 0 where
@@ -104,7 +111,7 @@ chunk_of order offset bytes = record { offset = offset; entries = entries_of ord
 
 -- how many bytes of a directory are read, by its size
 abbrev pub size_taken : ℕ → ℕ
-size_taken size = if nat_lt size 24 then 512 else div_ceil size 512 * 512
+size_taken size = if nat_lt size MINDIRSIZE then DIRBLKSIZ else div_ceil size DIRBLKSIZ * DIRBLKSIZ
 
 -- what the chunks of a directory depend on beside its steps
 pub record Reading : Type 0 where
@@ -117,8 +124,8 @@ pub record Reading : Type 0 where
 -- the chunks of `len` fragments from `start` on, that are at `offset` of the file
 abbrev pub run_chunks : Reading → ℕ → ℕ → ℕ → List Chunk
 run_chunks r start len offset =
-    map (λ k. chunk_of r.order (offset + 512 * k) (piece (start * r.fsize + 512 * k) 512 r.image))
-    (range_with_len 0 (min (len * r.fsize / 512) ((r.taken - offset) / 512)))
+    map (λ k. chunk_of r.order (offset + DIRBLKSIZ * k) (piece (start * r.fsize + DIRBLKSIZ * k) DIRBLKSIZ r.image))
+    (range_with_len 0 (min (len * r.fsize / DIRBLKSIZ) ((r.taken - offset) / DIRBLKSIZ)))
 
 -- the chunks of a step: of a Run of data that passes the test
 abbrev pub step_chunks : Reading → (ℕ → ℕ → Bool) → Step → List Chunk

@@ -1,6 +1,7 @@
 -- Levels, parents and lost directories of a volume, read as a graph.
 use Rattle.std.specs.Prelude.{◌≡◌, ◌≢◌, ℕ, zero, suc, ◌<◌, ◌==◌, Bool, true, false, not, ◌&&◌, ◌||◌, List, Option, None, Some, is_some, cond, [], ◌∷◌, option_map, if◌then◌else◌, ◌↔◌}
 use Rattle.std.specs.List.{list_any}
+use Rattle.ffs_volume.specs.Blocks.Inodes.{ROOTINO}
 use Rattle.ffs_volume.specs.Directories.Roles.{RoledEntry, is_plain}
 use Rattle.ffs_volume.specs.Directories.Search.{first_below, some_below}
 use Rattle.ffs_volume.specs.Directories.Climb.{is_value, leads_cycle}
@@ -25,7 +26,7 @@ edge v s d = v.is_dir d && names_in v s d
 
 -- d is at most k edges from inode 2
 unfoldable pub within : Graph → ℕ → ℕ → Bool
-within v zero d = d == 2
+within v zero d = d == ROOTINO
 within v (suc k) d = within v k d || some_below (λ s. within v k s && edge v s d) v.count
 
 -- the least number of edges from inode 2, if d is reached. A least walk visits no inode twice, so it has fewer edges
@@ -48,7 +49,7 @@ level_edge v k x s = is_value (level v s) k && edge v s x
 
 -- the parent of a directory; that of 2 is 2
 unfoldable pub parent : Graph → ℕ → Option ℕ
-parent v d = if d == 2 then Some 2 else parent_by v d (level v d)
+parent v d = if d == ROOTINO then Some ROOTINO else parent_by v d (level v d)
 
 -- the index of the first entry that passes
 abbrev pub first_place : (RoledEntry → Bool) → List RoledEntry → Option ℕ
@@ -61,7 +62,7 @@ entry_place v d None = None
 entry_place v d (Some s) = first_place (names d) (v.entries s)
 
 abbrev pub parent_entry : Graph → ℕ → Option ℕ
-parent_entry v d = if d == 2 then None else entry_place v d (parent v d)
+parent_entry v d = if d == ROOTINO then None else entry_place v d (parent v d)
 
 -- some plain entry names x
 abbrev pub named : Graph → ℕ → Bool
@@ -69,11 +70,11 @@ named v x = some_below (λ s. names_in v s x) v.count
 
 -- x is suspect, isn't 2, and no plain entry names it
 abbrev pub dead : Graph → (ℕ → Bool) → ℕ → Bool
-dead v suspect x = suspect x && (not (x == 2) && not (named v x))
+dead v suspect x = suspect x && (not (x == ROOTINO) && not (named v x))
 
 -- a directory other than 2 that is neither reached nor dead
 abbrev pub lost : Graph → (ℕ → Bool) → ℕ → Bool
-lost v suspect d = v.is_dir d && (not (d == 2) && (not (reached v d) && not (dead v suspect d)))
+lost v suspect d = v.is_dir d && (not (d == ROOTINO) && (not (reached v d) && not (dead v suspect d)))
 
 -- there is none, or it is dead
 abbrev pub none_or_dead : Graph → (ℕ → Bool) → Option ℕ → Bool
@@ -86,7 +87,7 @@ unref_dir v suspect d = lost v suspect d && (none_or_dead v suspect (parent v d)
 
 -- a directory has the number of an inode, and there is an inode 2
 pub record IsSane (v : Graph) : Type 0 where
-  pub some : 2 < v.count
+  pub some : ROOTINO < v.count
   pub dirs : (d : ℕ) → v.is_dir d ≡ true → d < v.count
 
 -- each directory is reached from inode 2
@@ -128,5 +129,5 @@ pub record NamedOnce (v : Graph) (d : ℕ) : Type 0 where
 
 -- each directory but 2 is named by one plain entry, and 2 by none
 pub record LinksRight (v : Graph) : Type 0 where
-  pub once : (d : ℕ) → v.is_dir d ≡ true → d ≢ 2 → NamedOnce v d
-  pub root : (s j : ℕ) → names_at v s j 2 ≡ false
+  pub once : (d : ℕ) → v.is_dir d ≡ true → d ≢ ROOTINO → NamedOnce v d
+  pub root : (s j : ℕ) → names_at v s j ROOTINO ≡ false

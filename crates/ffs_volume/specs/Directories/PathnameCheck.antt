@@ -8,8 +8,8 @@ use Rattle.ffs_volume.specs.declared.Label.{Label}
 use Rattle.ffs_volume.specs.declared.Label.TheVariants.{Dir as DirLabel, File as FileLabel, Name as NameLabel}
 use Rattle.ffs_volume.specs.declared.Role.{Role}
 use Rattle.ffs_volume.specs.declared.Role.TheVariants.{Empty, Dot, Dotdot, Extra, Plain}
-use Rattle.ffs_volume.specs.Directories.Entries.{Entry, Chunk, is_live}
-use Rattle.ffs_volume.specs.Blocks.Inodes.{is_directory, is_allocated, is_unknown}
+use Rattle.ffs_volume.specs.Directories.Entries.{DIRBLKSIZ, MINDIRSIZE, Entry, Chunk, is_live}
+use Rattle.ffs_volume.specs.Blocks.Inodes.{ROOTINO, WINO, DT_DIR, DT_WHT, type_of, is_directory, is_allocated, is_unknown}
 use Rattle.ffs_volume.specs.Directories.Roles.{Volume, RoledEntry, is_dir, is_suspect, is_one_dot, is_two_dots, start_entry, dot, dotdot, roled_entries}
 use Rattle.ffs_volume.specs.Directories.Graph.{parent}
 use Rattle.ffs_volume.specs.Directories.Parents.{graph_of, is_first_name, is_from_parent}
@@ -39,21 +39,21 @@ root_reported v Free = root_none ∷ []
 root_reported v Partial = root_none ∷ []
 root_reported v File = root_not_dir ∷ []
 root_reported v Unknown = root_not_dir ∷ []
-root_reported v Dir = told (is_suspect v 2) root_suspect
+root_reported v Dir = told (is_suspect v ROOTINO) root_suspect
 
 unfoldable pub root_lines : Volume → List NameMessage
-root_lines v = root_reported v (v.class 2)
+root_lines v = root_reported v (v.class ROOTINO)
 
 -- the run continues after the root
 abbrev pub goes_on : Volume → Bool
-goes_on v = is_directory (v.class 2)
+goes_on v = is_directory (v.class ROOTINO)
 
 -- of a directory's size, Gaps and chunks
 abbrev pub is_short : Volume → ℕ → Bool
-is_short v d = nat_lt (v.inode d).size 24
+is_short v d = nat_lt (v.inode d).size MINDIRSIZE
 
 abbrev pub is_broken : Volume → ℕ → Bool
-is_broken v d = not (is_short v d) && not ((v.inode d).size % 512 == 0)
+is_broken v d = not (is_short v d) && not ((v.inode d).size % DIRBLKSIZ == 0)
 
 abbrev pub are_sound : List Chunk → Bool
 are_sound chunks = list_all (λ c. c.sound) chunks
@@ -77,7 +77,7 @@ abbrev pub dot_reported : Volume → ℕ → Option Entry → List NameMessage
 dot_reported v d None = missing_dot_reported (attributes v d) (dir_path (graph_of v) d) (start_entry v d 0)
 dot_reported v d (Some e) =
     told (not (e.number == d)) (number_dot (attributes v d) (dir_path (graph_of v) d))
-    ++ told (not (e.kind == 4)) (kind_dot (attributes v d) (dir_path (graph_of v) d))
+    ++ told (not (e.kind == DT_DIR)) (kind_dot (attributes v d) (dir_path (graph_of v) d))
 
 unfoldable pub dot_lines : Volume → ℕ → List NameMessage
 dot_lines v d = dot_reported v d (dot v d)
@@ -99,7 +99,7 @@ abbrev pub dotdot_reported : Volume → ℕ → Option Entry → List NameMessag
 dotdot_reported v d None = missing_dotdot_reported (attributes v d) (dir_path (graph_of v) d) (start_entry v d 1)
 dotdot_reported v d (Some e) =
     told (is_other (parent (graph_of v) d) e.number) (number_dotdot (attributes v d) (dir_path (graph_of v) d))
-    ++ told (not (e.kind == 4)) (kind_dotdot (attributes v d) (dir_path (graph_of v) d))
+    ++ told (not (e.kind == DT_DIR)) (kind_dotdot (attributes v d) (dir_path (graph_of v) d))
 
 unfoldable pub dotdot_lines : Volume → ℕ → List NameMessage
 dotdot_lines v d = dotdot_reported v d (dotdot v d)
@@ -111,11 +111,12 @@ extra_reported about path e =
 
 -- a whiteout has the number 1 and the type 14: one of the two holds without the other
 abbrev pub is_bad_whiteout : Entry → Bool
-is_bad_whiteout e = ((e.number == 1) && not (e.kind == 14)) || ((e.kind == 14) && not (e.number == 1))
+is_bad_whiteout e =
+    ((e.number == WINO) && not (e.kind == DT_WHT)) || ((e.kind == DT_WHT) && not (e.number == WINO))
 
 -- the inode that it names is marked, or a directory of size 0, and this is the first plain entry that names it
 abbrev pub reports_suspect : Volume → ℕ → ℕ → ℕ → Bool
-reports_suspect v s j x = is_suspect v x && (not (x == 2) && is_first_name (graph_of v) s j x)
+reports_suspect v s j x = is_suspect v x && (not (x == ROOTINO) && is_first_name (graph_of v) s j x)
 
 -- the line of a suspect that an entry names
 abbrev pub suspect_reported : Volume → ℕ → List ℕ → NameMessage
@@ -128,7 +129,7 @@ is_extraneous v s j x = is_dir v x && not (is_from_parent (graph_of v) s j x)
 
 -- the type of the entry isn't that of the inode, where it is known
 abbrev pub is_other_kind : Volume → Entry → Bool
-is_other_kind v e = not (is_unknown (v.class e.number)) && not (e.kind == (v.inode e.number).mode / 4096)
+is_other_kind v e = not (is_unknown (v.class e.number)) && not (e.kind == type_of (v.inode e.number).mode)
 
 -- of a plain entry at index j of the directory s, that names an allocated inode
 unfoldable pub named_lines : Volume → ℕ → ℕ → Entry → List NameMessage
@@ -144,7 +145,7 @@ unfoldable pub plain_lines : Volume → ℕ → ℕ → Entry → List NameMessa
 plain_lines v s j e =
     if not (nat_lt e.number v.count) then out_of_range e.number (entry_path (graph_of v) s e.name) ∷ []
     else (if is_bad_whiteout e then whiteout e.number (entry_path (graph_of v) s e.name) ∷ []
-    else (if e.number == 1 then []
+    else (if e.number == WINO then []
     else (if not (is_allocated (v.class e.number))
     then unallocated (attributes v e.number) (entry_path (graph_of v) s e.name) ∷ []
     else named_lines v s j e)))

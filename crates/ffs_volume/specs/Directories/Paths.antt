@@ -1,5 +1,5 @@
 -- Paths of directories and of their entries.
-use Rattle.std.specs.Prelude.{ℕ, zero, suc, nat_le, nat_lt, if◌then◌else◌, List, [], ◌∷◌, ◌++◌, length, Option, Some, None, option_map, option_and_then}
+use Rattle.std.specs.Prelude.{ℕ, zero, suc, ◌-◌, nat_le, nat_lt, if◌then◌else◌, List, [], ◌∷◌, ◌++◌, length, Option, Some, None, option_map, option_and_then}
 use Rattle.std.specs.List.{flat_map}
 use Rattle.ffs_volume.specs.Directories.Roles.{RoledEntry}
 use Rattle.ffs_volume.specs.Directories.Graph.{Graph, level, parent, parent_entry}
@@ -15,9 +15,15 @@ longest_end most [] = []
 longest_end most (name ∷ names) =
     if nat_le (length (joined (name ∷ names))) most then name ∷ names else longest_end most names
 
+-- the most bytes of a path
+abbrev pub MAXPATHLEN : ℕ
+MAXPATHLEN = 1024
+
 -- a path of more than 1,024 bytes is cut to `?` and its end
 unfoldable pub path_text : List (List ℕ) → List ℕ
-path_text names = if nat_lt 1024 (length (joined names)) then 63 ∷ joined (longest_end 1023 names) else joined names
+path_text names =
+    if nat_lt MAXPATHLEN (length (joined names)) then 63 ∷ joined (longest_end (MAXPATHLEN - 1) names)
+    else joined names
 
 -- the name of an entry, and none of no entry
 abbrev pub name_of : Option RoledEntry → List ℕ

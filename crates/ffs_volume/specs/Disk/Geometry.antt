@@ -3,6 +3,7 @@ use Rattle.std.proofs.Common.{◌≡◌, ℕ, ◌+◌, ◌-◌, ◌*◌, ◌/◌
 use Rattle.std.specs.Int.{div_ceil}
 use Rattle.ffs_volume.specs.declared.Layout.{Layout}
 use Rattle.ffs_volume.specs.Disk.Numbers.{natural}
+use Rattle.ffs_volume.specs.Disk.Superblock.{SBSIZE}
 use Rattle.ffs_volume.specs.Disk.Areas.{cgoffset_of, cgbase, cgdmin}
 use Rattle.ffs_volume.specs.Disk.Outcome.{is_shaped}
 
@@ -26,7 +27,7 @@ pub record HasSizes (v : Layout) : Type 0 where
 pub record HasNumbers (v : Layout) : Type 0 where
   pub some_data : 1 ≤ v.dsize
   pub short_links : v.maxsymlinklen ≤ 60
-  pub sbsize_low : 1376 ≤ v.sbsize
+  pub sbsize_low : SBSIZE ≤ v.sbsize
   pub size_above : (v.ncg - 1) * v.fpg < v.size
   pub size_within : v.size ≤ v.ncg * v.fpg
   pub size_below : v.size < 2 ^ 31

@@ -7,7 +7,7 @@ use Rattle.ffs_volume.specs.declared.SuperFault.{SuperFault}
 use Rattle.ffs_volume.specs.declared.SuperFault.TheVariants.{CannotRead, Magic, InodeFormat, Ncg, Cpg, Ncyl, TooLarge, Shape, Short, Disagree}
 use Rattle.ffs_volume.specs.declared.Layout.{Layout}
 use Rattle.ffs_volume.specs.Disk.Numbers.{u32_at, piece, is_natural, all_below}
-use Rattle.ffs_volume.specs.Disk.Superblock.{Superblock, layout_of, superblock_of, order_of}
+use Rattle.ffs_volume.specs.Disk.Superblock.{SBSIZE, DEV_BSIZE, Superblock, layout_of, superblock_of, order_of}
 use Rattle.ffs_volume.specs.declared.TheConstants.{LAYOUT_PLACES}
 use Rattle.ffs_volume.specs.Disk.Areas.{cgoffset_of, cgbase, cgsblock, cgdmin}
 
@@ -40,7 +40,7 @@ are_numbers v =
     nat_le 1 v.dsize
     && nat_le v.maxsymlinklen 60
     && (v.postblformat == 1)
-    && nat_le 1376 v.sbsize
+    && nat_le SBSIZE v.sbsize
     && (nat_lt ((v.ncg - 1) * v.fpg) v.size && nat_le v.size (v.ncg * v.fpg))
     && (nat_lt v.size (2 ^ 31) && nat_lt (v.ncg * v.ipg) (2 ^ 31))
 
@@ -98,11 +98,11 @@ copy_place v = cgsblock v (v.ncg - 1) * v.fsize
 
 -- the bytes of the superblock in effect
 abbrev pub super_bytes : List ℕ → Option ℕ → List ℕ
-super_bytes image sector = piece (super_sector sector * 512) 1376 image
+super_bytes image sector = piece (super_sector sector * DEV_BSIZE) SBSIZE image
 
 -- with no sector asked for, the last copy is compared
 unfoldable pub copy_agrees : List ℕ → Option ℕ → Order → List ℕ → Bool
-copy_agrees image None order bytes = agree order bytes (piece (copy_place (layout_of order bytes)) 1376 image)
+copy_agrees image None order bytes = agree order bytes (piece (copy_place (layout_of order bytes)) SBSIZE image)
 copy_agrees image (Some sector) order bytes = true
 
 -- the verdict on a superblock: by the first fault of its layout, if any, and by whether the last copy agrees
@@ -125,5 +125,5 @@ outcome_of image sector bytes (Some order) = outcome_in image sector order bytes
 -- the same of an image
 unfoldable pub outcome : List ℕ → Option ℕ → Result Superblock SuperFault
 outcome image sector =
-    if nat_lt (length image) (super_sector sector * 512 + 1376) then Err (CannotRead (super_sector sector))
+    if nat_lt (length image) (super_sector sector * DEV_BSIZE + SBSIZE) then Err (CannotRead (super_sector sector))
     else outcome_of image sector (super_bytes image sector) (order_of (super_bytes image sector))

@@ -6,6 +6,16 @@ use Rattle.ffs_volume.specs.declared.Order.TheVariants.{Little, Big}
 use Rattle.ffs_volume.specs.declared.Layout.{Layout}
 use Rattle.ffs_volume.specs.Disk.Numbers.{u32_at, i32_at, count_at, piece}
 
+-- the bytes of the superblock that are looked at, those of a sector, and those of the mount point
+abbrev pub SBSIZE : ℕ
+SBSIZE = 1376
+
+abbrev pub DEV_BSIZE : ℕ
+DEV_BSIZE = 512
+
+abbrev pub MAXMNTLEN : ℕ
+MAXMNTLEN = 512
+
 -- a superblock; cstotal has its counts of directories, free blocks, free inodes and free fragments
 pub record Superblock : Type 0 where
   pub layout : Layout
@@ -53,7 +63,7 @@ superblock_of order bytes = record {
   optim = i32_at order 128 bytes;
   minfree = i32_at order 60 bytes;
   cstotal = i32_at order 192 bytes ∷ i32_at order 196 bytes ∷ i32_at order 200 bytes ∷ i32_at order 204 bytes ∷ [];
-  mount = piece 212 512 bytes;
+  mount = piece 212 MAXMNTLEN bytes;
 }
 
 -- the magic number 0x011954 at its place shows the order of bytes

@@ -5,6 +5,7 @@ use Rattle.ffs_volume.specs.declared.Layout.{Layout}
 use Rattle.ffs_volume.specs.declared.Step.{Step}
 use Rattle.ffs_volume.specs.declared.Step.TheVariants.{Run, Tail, Gap}
 use Rattle.ffs_volume.specs.Disk.Areas.{is_in_range}
+use Rattle.ffs_volume.specs.Blocks.Claims.{MAXBAD}
 use Rattle.ffs_volume.specs.Encodings.Replay.{Replay, is_replay_open, replay_step, replayed_steps, replayed_offers}
 
 -- how many Runs are seen
@@ -25,7 +26,7 @@ abbrev pub counted_run : Layout → ℕ → Replay → ℕ → ℕ → Replay
 counted_run v cut r start len =
     if is_in_range v start len
     then record { bad = r.bad; kept = counted_of cut r.kept len }
-    else (if r.bad == 10
+    else (if r.bad == MAXBAD
     then record { bad = r.bad + 1; kept = r.kept }
     else record { bad = r.bad + 1; kept = counted_of cut r.kept len })
 

@@ -104,7 +104,8 @@ unfoldable pub small : ℕ → (ℕ → ℕ) → (ℕ → List Entry) → Volume
 small n links es = record {
   count = n;
   class = class_in n;
-  inode = λ i. record { mode = 16877; nlink = pos (links i); size = 512; uid = 0; mtime = pos 0; addresses = []; blocks = 0 };
+  inode = λ i. record {
+      mode = 16877; nlink = pos (links i); size = 512; uid = 0; mtime = pos 0; addresses = []; blocks = 0 };
   gap = λ i. false;
   chunks = λ i. whole_chunk (es i);
   marked = λ i. false;

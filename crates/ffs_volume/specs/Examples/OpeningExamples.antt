@@ -107,9 +107,15 @@ pub record OpeningExamples : Type 0 where
       ∷ cannot_read 1 ∷ []
   pub refused : opening_lines (116 ∷ []) None (outcome (zeros 9568) None) ≡ opening (116 ∷ []) ∷ bad_super Magic ∷ []
   -- settings that can't be
-  pub settings : setting_lines (record { layout = base_layout Little; optim = pos 2; minfree = pos 100; cstotal = []; mount = [] }) ≡ optimization ∷ minfree (pos 100) ∷ []
-  pub minus_settings : setting_lines (record { layout = base_layout Little; optim = negsuc 0; minfree = negsuc 0; cstotal = []; mount = [] }) ≡ optimization ∷ minfree (negsuc 0) ∷ []
-  pub last_settings : setting_lines (record { layout = base_layout Little; optim = pos 1; minfree = pos 99; cstotal = []; mount = [] }) ≡ []
+  pub settings : setting_lines
+      (record { layout = base_layout Little; optim = pos 2; minfree = pos 100; cstotal = []; mount = [] })
+      ≡ optimization ∷ minfree (pos 100) ∷ []
+  pub minus_settings : setting_lines
+      (record { layout = base_layout Little; optim = negsuc 0; minfree = negsuc 0; cstotal = []; mount = [] })
+      ≡ optimization ∷ minfree (negsuc 0) ∷ []
+  pub last_settings : setting_lines
+      (record { layout = base_layout Little; optim = pos 1; minfree = pos 99; cstotal = []; mount = [] })
+      ≡ []
   -- the summary: 6 loose fragments of 95 are 6.3 percent; -1 of 95 is -1.0 and -1 of 201 is -0.4, rounded toward zero
   pub summary_base : summary_of (base_superblock Little) 1 1 ≡ summary 1 1 (pos 94) (pos 6) (pos 22) (pos 63)
   pub summary_minus : summary_of (record { layout = base_layout Little; optim = pos 0; minfree = pos 0; cstotal = pos 0

@@ -12,7 +12,7 @@ use Rattle.ffs_volume.specs.Blocks.FirstOffers.{Firsts}
 use Rattle.ffs_volume.specs.Groups.Records.{right_summary}
 use Rattle.ffs_volume.specs.Directories.Graph.{Graph, level}
 use Rattle.ffs_volume.specs.Directories.Levels.{IsLevel}
-use Rattle.ffs_volume.specs.Directories.Paths.{dir_path, entry_path}
+use Rattle.ffs_volume.specs.Directories.Paths.{MAXPATHLEN, dir_path, entry_path}
 
 -- the kept offers of an inode are the first of its offers, and all of them where it isn't cut
 abbrev pub KeptAreFirst : Type 0
@@ -29,8 +29,8 @@ LevelsAreLeast = (g : Graph) (k d : ℕ) → LevelMeaning g k d
 
 -- a path has at most 1,024 bytes
 pub record PathsFit (g : Graph) (d : ℕ) : Type 0 where
-  pub of_dir : length (dir_path g d) ≤ 1024
-  pub of_entry : (name : List ℕ) → length name ≤ 255 → length (entry_path g d name) ≤ 1024
+  pub of_dir : length (dir_path g d) ≤ MAXPATHLEN
+  pub of_entry : (name : List ℕ) → length name ≤ 255 → length (entry_path g d name) ≤ MAXPATHLEN
 
 abbrev pub AllPathsFit : Type 0
 AllPathsFit = (g : Graph) (d : ℕ) → PathsFit g d
