@@ -3,8 +3,8 @@
 -- What a file imports from `declared`, such as Layout, Step, Class and LAYOUT_PLACES, is declared in src/lib.rt.
 -- `abbrev` and `unfoldable` both begin a definition: they differ for proofs alone.
 pub mod Disk
-pub mod Blocks
 pub mod Messages
+pub mod Blocks
 pub mod Directories
 pub mod Groups
 pub mod Report
