@@ -67,7 +67,8 @@ step_kept v inode s Gap = []
 
 abbrev pub steps_kept : Layout → ℕ → Claims → List Step → List Offer
 steps_kept v inode s [] = []
-steps_kept v inode s (step ∷ steps) = step_kept v inode s step ++ steps_kept v inode (after_step v s step) steps
+steps_kept v inode s (step ∷ steps) =
+    step_kept v inode s step ++ steps_kept v inode (after_step v s step) steps
 
 abbrev pub owners_kept : Layout → Claims → List Owner → List Offer
 owners_kept v s [] = []

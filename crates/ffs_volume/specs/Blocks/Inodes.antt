@@ -97,7 +97,8 @@ used_addresses words blocks =
 abbrev pub addresses_used : Layout → Inode → ℕ
 addresses_used v i =
     if is_short_symlink v i then div_ceil i.size 4
-    else used_addresses v.nindir (if is_device (type_of i.mode) then blocks_of v i + 1 else blocks_of v i)
+    else used_addresses v.nindir
+        (if is_device (type_of i.mode) then blocks_of v i + 1 else blocks_of v i)
 
 -- an address isn't zero
 abbrev pub is_any_set : List ℕ → Bool

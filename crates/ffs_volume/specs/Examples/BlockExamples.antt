@@ -151,7 +151,8 @@ pub record ClaimExamples : Type 0 where
       ∷ record { number = 5; class = Free; steps = []; blocks = 1 } ∷ [])
       ≡ PartAlloc 3 ∷ UnknownType 4 ∷ []
   -- by the rule of keeping, the offers that the fold keeps
-  pub by_rule : owners_kept (base_layout Little) (no_claims (base_layout Little)) (root ∷ file 3 (blocks_at 5 3) 7 ∷ [])
+  pub by_rule : owners_kept (base_layout Little) (no_claims (base_layout Little))
+      (root ∷ file 3 (blocks_at 5 3) 7 ∷ [])
       ≡ kept_offers (base_layout Little) [] (all_offers (base_layout Little) (root ∷ file 3 (blocks_at 5 3) 7 ∷ []))
 
 -- the free fragments and the classes of the base volume, and of that of two groups

@@ -148,7 +148,8 @@ is_record v free class c bytes = has_summary v 0 bytes (right_summary v free cla
 abbrev pub has_totals : List ℤ → Summary → Bool
 has_totals total s =
     is_count (slice_index_or total 0 (pos 0)) s.dirs && (is_count (slice_index_or total 1 (pos 0)) s.blocks
-    && (is_count (slice_index_or total 2 (pos 0)) s.inodes && is_count (slice_index_or total 3 (pos 0)) s.fragments))
+    && (is_count (slice_index_or total 2 (pos 0)) s.inodes
+    && is_count (slice_index_or total 3 (pos 0)) s.fragments))
 
 -- the totals are right
 unfoldable pub is_total : Layout → (ℕ → Bool) → (ℕ → Class) → List ℤ → Bool
