@@ -98,7 +98,7 @@ abbrev pub addresses_used : Layout → Inode → ℕ
 addresses_used v i =
     if is_short_symlink v i then div_ceil i.size 4
     else used_addresses v.nindir
-        (if is_device (type_of i.mode) then blocks_of v i + 1 else blocks_of v i)
+    (if is_device (type_of i.mode) then blocks_of v i + 1 else blocks_of v i)
 
 -- an address isn't zero
 abbrev pub is_any_set : List ℕ → Bool
@@ -116,7 +116,7 @@ class_of v i =
     if type_of i.mode == 0
     then (if i.mode == 0 && (i.size == 0 && not (is_any_set i.addresses)) then Free else Partial)
     else (if not (is_known_type (type_of i.mode))
-        || (is_too_large v i || is_any_set (drop (addresses_used v i) i.addresses))
+    || (is_too_large v i || is_any_set (drop (addresses_used v i) i.addresses))
     then Unknown
     else (if type_of i.mode == DT_DIR then Dir else File))
 

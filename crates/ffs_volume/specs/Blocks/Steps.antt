@@ -71,7 +71,7 @@ indirect_steps t image child span address first =
     else Run address t.geometry.frag None ∷
     (if is_in_range t.geometry address t.geometry.frag
     then tail_of (any_word_from t.geometry (block_bytes t.geometry image address)
-        (used_words t.geometry.nindir t.blocks first span))
+    (used_words t.geometry.nindir t.blocks first span))
     ++ steps_under t.geometry image child span address first 0 (used_words t.geometry.nindir t.blocks first span)
     else [])
 

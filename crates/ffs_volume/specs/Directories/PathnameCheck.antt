@@ -136,9 +136,9 @@ unfoldable pub named_lines : Volume → ℕ → ℕ → Entry → List NameMessa
 named_lines v s j e =
     told (reports_suspect v s j e.number) (suspect_reported v e.number (entry_path (graph_of v) s e.name))
     ++ (told (is_extraneous v s j e.number)
-        (extraneous (entry_path (graph_of v) s e.name) (dir_path (graph_of v) e.number))
+    (extraneous (entry_path (graph_of v) s e.name) (dir_path (graph_of v) e.number))
     ++ told (is_other_kind v e)
-        (kind_entry (attributes v e.number) (label_of (v.class e.number)) (entry_path (graph_of v) s e.name)))
+    (kind_entry (attributes v e.number) (label_of (v.class e.number)) (entry_path (graph_of v) s e.name)))
 
 -- of any plain entry at index j of the directory s
 unfoldable pub plain_lines : Volume → ℕ → ℕ → Entry → List NameMessage

@@ -23,7 +23,7 @@ inode_lines v i =
     if is_dead v i then dead_reported v i
     else (if references v i == 0 then unref_reported v i
     else told (not (is_count (v.inode i).nlink (references v i)))
-        (link_count (label_of (v.class i)) (attributes v i) (v.inode i).nlink (references v i)))
+    (link_count (label_of (v.class i)) (attributes v i) (v.inode i).nlink (references v i)))
 
 -- of any number
 abbrev pub counted_lines : Volume → ℕ → List NameMessage

@@ -72,10 +72,10 @@ pub record StepExamples : Type 0 where
   pub base_big : steps_of (base_layout Big) (inode_of (base_layout Big) (base_image Big) 2) (base_image Big)
       ≡ Run 36 1 (Some 0) ∷ []
   -- whole blocks, a hole, and a last block of two fragments; a whole last block
-  pub direct : steps_of (base_layout Little) (file_inode 9300 (36 ∷ 0 ∷ 44 ∷ [])) [] ≡ Run 36 4 (Some 0) ∷ Gap
-      ∷ Run 44 2 (Some 2) ∷ []
-  pub whole : steps_of (base_layout Little) (file_inode 8192 (36 ∷ 40 ∷ [])) [] ≡ Run 36 4 (Some 0) ∷ Run 40 4 (Some 1)
-      ∷ []
+  pub direct : steps_of (base_layout Little) (file_inode 9300 (36 ∷ 0 ∷ 44 ∷ [])) []
+      ≡ Run 36 4 (Some 0) ∷ Gap ∷ Run 44 2 (Some 2) ∷ []
+  pub whole : steps_of (base_layout Little) (file_inode 8192 (36 ∷ 40 ∷ [])) []
+      ≡ Run 36 4 (Some 0) ∷ Run 40 4 (Some 1) ∷ []
   -- a device and a short symlink have none
   pub device : steps_of (base_layout Little) (inode 8612 0 (5 ∷ [])) [] ≡ []
   pub symlink : steps_of (base_layout Little) (inode 41471 5 (1 ∷ 2 ∷ [])) [] ≡ []
@@ -117,8 +117,8 @@ pub record ClaimExamples : Type 0 where
   pub base : phase1_lines (base_layout Little) (owners_of (base_layout Little) (base_image Little)) ≡ []
   pub base_big : phase1_lines (base_layout Big) (owners_of (base_layout Big) (base_image Big)) ≡ []
   -- two files with one fragment; a reserved fragment
-  pub shared : first_reported (file 3 (Run 37 1 (Some 0) ∷ []) 2 ∷ file 4 (Run 37 1 (Some 0) ∷ []) 2 ∷ []) ≡ Dup 37 4
-      ∷ []
+  pub shared : first_reported (file 3 (Run 37 1 (Some 0) ∷ []) 2 ∷ file 4 (Run 37 1 (Some 0) ∷ []) 2 ∷ [])
+      ≡ Dup 37 4 ∷ []
   pub shared_again : second_reported (file 3 (Run 37 1 (Some 0) ∷ []) 2 ∷ file 4 (Run 37 1 (Some 0) ∷ []) 2 ∷ [])
       ≡ Dup 37 3 ∷ []
   pub reserved : first_reported (file 3 (Run 5 1 (Some 0) ∷ []) 2 ∷ []) ≡ Dup 5 3 ∷ []
@@ -130,7 +130,7 @@ pub record ClaimExamples : Type 0 where
   -- the eleventh dup offer is reported and kept, and nothing after it
   pub many_dup : first_reported (file 3 (blocks_at 5 3 ++ (Tail ∷ Run 200 4 (Some 3) ∷ [])) 7 ∷ [])
       ≡ Dup 5 3 ∷ Dup 6 3 ∷ Dup 7 3 ∷ Dup 8 3 ∷ Dup 5 3 ∷ Dup 6 3 ∷ Dup 7 3 ∷ Dup 8 3 ∷ Dup 5 3 ∷ Dup 6 3 ∷ Dup 7 3
-          ∷ ManyDup 3 ∷ []
+      ∷ ManyDup 3 ∷ []
   pub many_dup_kept : (after_owners (base_layout Little) (no_claims (base_layout Little))
       (root ∷ file 3 (blocks_at 5 3) 7 ∷ [])).kept ≡ 11
   -- a Run over the end, whose first two fragments are claimed
@@ -139,13 +139,13 @@ pub record ClaimExamples : Type 0 where
       (root ∷ file 3 (Run 126 4 (Some 0) ∷ []) 8 ∷ [])).used) (range_with_len 125 5)
       ≡ false ∷ true ∷ true ∷ false ∷ false ∷ []
   -- an indirect block that names itself
-  pub itself : first_reported (file 3 (Run 40 4 None ∷ Run 40 4 (Some 12) ∷ []) 16 ∷ []) ≡ Dup 40 3 ∷ Dup 41 3
-      ∷ Dup 42 3 ∷ Dup 43 3 ∷ []
-  pub itself_again : second_reported (file 3 (Run 40 4 None ∷ Run 40 4 (Some 12) ∷ []) 16 ∷ []) ≡ Dup 40 3 ∷ Dup 41 3
-      ∷ Dup 42 3 ∷ Dup 43 3 ∷ []
+  pub itself : first_reported (file 3 (Run 40 4 None ∷ Run 40 4 (Some 12) ∷ []) 16 ∷ [])
+      ≡ Dup 40 3 ∷ Dup 41 3 ∷ Dup 42 3 ∷ Dup 43 3 ∷ []
+  pub itself_again : second_reported (file 3 (Run 40 4 None ∷ Run 40 4 (Some 12) ∷ []) 16 ∷ [])
+      ≡ Dup 40 3 ∷ Dup 41 3 ∷ Dup 42 3 ∷ Dup 43 3 ∷ []
   -- a word that isn't used, and the classes that are reported
-  pub truncated : first_reported (file 3 (Run 40 4 None ∷ Tail ∷ Run 44 4 (Some 12) ∷ Tail ∷ []) 16 ∷ []) ≡ PartTrunc 3
-      ∷ []
+  pub truncated : first_reported (file 3 (Run 40 4 None ∷ Tail ∷ Run 44 4 (Some 12) ∷ Tail ∷ []) 16 ∷ [])
+      ≡ PartTrunc 3 ∷ []
   pub classes : first_reported (record { number = 3; class = Partial; steps = []; blocks = 1 }
       ∷ record { number = 4; class = Unknown; steps = []; blocks = 1 }
       ∷ record { number = 5; class = Free; steps = []; blocks = 1 } ∷ [])
@@ -174,13 +174,13 @@ groups_reported order free loose = phase5_lines (base_layout order) (base_image 
 pub record GroupExamples : Type 0 where
   pub base_sums : right_summary (base_layout Little) base_free base_class 0
       ≡ record { dirs = 1; blocks = 22; inodes = 29; fragments = 6 }
-  pub base_pieces : map (right_frsum (base_layout Little) base_free 0) (range_with_len 0 8) ≡ 0 ∷ 0 ∷ 0 ∷ 2 ∷ 0 ∷ 0 ∷ 0
-      ∷ 0 ∷ []
+  pub base_pieces : map (right_frsum (base_layout Little) base_free 0) (range_with_len 0 8)
+      ≡ 0 ∷ 0 ∷ 0 ∷ 2 ∷ 0 ∷ 0 ∷ 0 ∷ 0 ∷ []
   -- the second group's last block is cut short by the size
   pub second_sums : right_summary (two_groups Little) two_free base_class 1
       ≡ record { dirs = 0; blocks = 26; inodes = 32; fragments = 2 }
-  pub second_pieces : map (right_frsum (two_groups Little) two_free 1) (range_with_len 0 8) ≡ 0 ∷ 0 ∷ 1 ∷ 0 ∷ 0 ∷ 0 ∷ 0
-      ∷ 0 ∷ []
+  pub second_pieces : map (right_frsum (two_groups Little) two_free 1) (range_with_len 0 8)
+      ≡ 0 ∷ 0 ∷ 1 ∷ 0 ∷ 0 ∷ 0 ∷ 0 ∷ 0 ∷ []
   pub total : right_total (two_groups Little) two_free base_class
       ≡ record { dirs = 1; blocks = 48; inodes = 61; fragments = 8 }
   -- the base image in both orders; a total that is wrong

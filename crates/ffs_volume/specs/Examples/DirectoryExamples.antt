@@ -43,8 +43,13 @@ last_entry x kind name = record { number = x; length = 500; kind = kind; name = 
 
 -- two chunks at fragment 2, read as far as this
 unfoldable pub two_chunks : ℕ → Reading
-two_chunks taken = record { order = Little; image = zeros 1024
-    ++ (root_chunk Little ++ root_chunk Little); bsize = 4096; fsize = 512; taken = taken }
+two_chunks taken = record {
+  order = Little;
+  image = zeros 1024 ++ (root_chunk Little ++ root_chunk Little);
+  bsize = 4096;
+  fsize = 512;
+  taken = taken;
+}
 
 pub record EntryExamples : Type 0 where
   -- the root's chunk in both orders
@@ -76,8 +81,8 @@ pub record EntryExamples : Type 0 where
   -- the chunks of a Run of 1,024 bytes, read whole and in part
   pub whole : map (λ c. c.offset) (chunks_of (two_chunks 1024) (λ start len. true) (Gap ∷ Run 2 2 (Some 0) ∷ Tail ∷ []))
       ≡ 0 ∷ 512 ∷ []
-  pub later : map (λ c. c.offset) (chunks_of (two_chunks 8192) (λ start len. true) (Run 2 2 (Some 1) ∷ [])) ≡ 4096
-      ∷ 4608 ∷ []
+  pub later : map (λ c. c.offset) (chunks_of (two_chunks 8192) (λ start len. true) (Run 2 2 (Some 1) ∷ []))
+      ≡ 4096 ∷ 4608 ∷ []
   pub part : map (λ c. c.offset) (chunks_of (two_chunks 512) (λ start len. true) (Run 2 2 (Some 0) ∷ [])) ≡ 0 ∷ []
   pub not_in_range : chunks_of (two_chunks 512) (λ start len. false) (Run 2 2 (Some 0) ∷ []) ≡ []
   pub indirect : chunks_of (two_chunks 512) (λ start len. true) (Run 2 2 None ∷ []) ≡ []
@@ -105,7 +110,14 @@ small n links es = record {
   count = n;
   class = class_in n;
   inode = λ i. record {
-      mode = 16877; nlink = pos (links i); size = 512; uid = 0; mtime = pos 0; addresses = []; blocks = 0 };
+    mode = 16877;
+    nlink = pos (links i);
+    size = 512;
+    uid = 0;
+    mtime = pos 0;
+    addresses = [];
+    blocks = 0;
+  };
   gap = λ i. false;
   chunks = λ i. whole_chunk (es i);
   marked = λ i. false;
@@ -150,8 +162,15 @@ unfoldable pub empty_dir : List Entry → Volume
 empty_dir es = record {
   count = 4;
   class = class_in 4;
-  inode = λ i. record { mode = 16877; nlink = pos (if i == 2 then 2 else 0); size = if i == 2 then 512
-      else 0; uid = 0; mtime = pos 0; addresses = []; blocks = 0 };
+  inode = λ i. record {
+    mode = 16877;
+    nlink = pos (if i == 2 then 2 else 0);
+    size = if i == 2 then 512 else 0;
+    uid = 0;
+    mtime = pos 0;
+    addresses = [];
+    blocks = 0;
+  };
   gap = λ i. false;
   chunks = λ i. if i == 2 then whole_chunk (dots 2 2 es) else [];
   marked = λ i. false;
@@ -191,15 +210,15 @@ pub record PathnameExamples : Type 0 where
       ≡ missing_dot_first (about 2) (47 ∷ []) (97 ∷ []) ∷ missing_dotdot_second (about 2) (47 ∷ []) (98 ∷ []) ∷ []
   pub turned : pathname_lines (alone (entry 2 4 two_dots ∷ entry 2 4 one_dot ∷ []))
       ≡ missing_dot (about 2) (47 ∷ []) ∷ missing_dotdot (about 2) (47 ∷ []) ∷ extra_dotdot (about 2) (47 ∷ [])
-          ∷ extra_dot (about 2) (47 ∷ []) ∷ []
+      ∷ extra_dot (about 2) (47 ∷ []) ∷ []
   pub wrong_dots : pathname_lines (sub (entry 2 8 one_dot ∷ entry 3 8 two_dots ∷ []))
       ≡ number_dot (about 3) (47 ∷ 97 ∷ []) ∷ kind_dot (about 3) (47 ∷ 97 ∷ []) ∷ number_dotdot (about 3) (47 ∷ 97 ∷ [])
-          ∷ kind_dotdot (about 3) (47 ∷ 97 ∷ []) ∷ []
+      ∷ kind_dotdot (about 3) (47 ∷ 97 ∷ []) ∷ []
   -- whiteouts, an inode that is free, another type, and the root entered
   pub whiteouts : pathname_lines (alone (dots 2 2 (entry 1 14 (97 ∷ []) ∷ entry 1 8 (98 ∷ []) ∷ entry 2 14 (99 ∷ [])
       ∷ []))) ≡ whiteout 1 (47 ∷ 98 ∷ []) ∷ whiteout 2 (47 ∷ 99 ∷ []) ∷ []
-  pub root_entered : pathname_lines (alone (dots 2 2 (entry 2 8 (97 ∷ []) ∷ []))) ≡ extraneous (47 ∷ 97 ∷ []) (47 ∷ [])
-      ∷ kind_entry (about 2) DirLabel (47 ∷ 97 ∷ []) ∷ []
+  pub root_entered : pathname_lines (alone (dots 2 2 (entry 2 8 (97 ∷ []) ∷ [])))
+      ≡ extraneous (47 ∷ 97 ∷ []) (47 ∷ []) ∷ kind_entry (about 2) DirLabel (47 ∷ 97 ∷ []) ∷ []
   -- a directory of size 0, reported at its first entry alone
   pub zero_length : pathname_lines (empty_dir (entry 3 4 (97 ∷ []) ∷ entry 3 4 (98 ∷ []) ∷ []))
       ≡ zero_dir about_empty (47 ∷ 97 ∷ []) ∷ extraneous (47 ∷ 98 ∷ []) (47 ∷ 97 ∷ []) ∷ []
@@ -235,8 +254,8 @@ pub record ReferenceExamples : Type 0 where
   pub extra_uncounted : reference_lines (alone (dots 2 2 (entry 2 4 two_dots ∷ []))) ≡ []
   -- dead inodes: a directory of size 0 that nothing names, and a marked one
   pub dead_empty : reference_lines (empty_dir []) ≡ dead_zero about_empty ∷ []
-  pub dead_reported : reference_lines dead_parent ≡ link_count DirLabel (about 2) (pos 2) 3
-      ∷ dead_marked DirLabel (about 3) ∷ []
+  pub dead_reported : reference_lines dead_parent
+      ≡ link_count DirLabel (about 2) (pos 2) 3 ∷ dead_marked DirLabel (about 3) ∷ []
   -- no reference at all: with and without links
   pub unnamed : reference_lines (record (small 4 (λ i. if i == 2 then 2 else 1)
       (λ i. if i == 2 then dots 2 2 [] else [])) { class = λ i. if i == 2 then Dir else File })

@@ -20,7 +20,7 @@ fault_at place number = fault_with (changed Little place number (base_super Litt
 abbrev pub with_second : ℕ → List ℕ
 with_second above =
     changed Little 24 above (changed Little 28 0 (changed Little 36 250
-        (changed Little 44 2 (changed Little 176 2 (base_super Little)))))
+    (changed Little 44 2 (changed Little 176 2 (base_super Little)))))
 
 -- the first fault of an image with this superblock in both places
 abbrev pub fault_twice : List ℕ → Option SuperFault
@@ -80,14 +80,14 @@ pub record SuperblockExamples : Type 0 where
   pub many_fragments : fault_twice (changed Little 48 8192 (changed Little 52 512
       (changed Little 56 16 (changed Little 116 2048
       (changed Little 120 64 (changed Little 184 64 (changed Little 20 44
-          (changed Little 152 44 (base_super Little))))))))) ≡ Some Shape
+      (changed Little 152 44 (base_super Little))))))))) ≡ Some Shape
 
 pub record AreaExamples : Type 0 where
   -- which fragments are data fragments
-  pub ok : map (is_data_fragment (base_layout Little)) (0 ∷ 15 ∷ 16 ∷ 31 ∷ 32 ∷ 127 ∷ 128 ∷ []) ≡ true ∷ true ∷ false
-      ∷ false ∷ true ∷ true ∷ false ∷ []
-  pub reserved : map (is_reserved (base_layout Little)) (0 ∷ 31 ∷ 32 ∷ 33 ∷ 127 ∷ []) ≡ true ∷ true ∷ true ∷ false
-      ∷ false ∷ []
+  pub ok : map (is_data_fragment (base_layout Little)) (0 ∷ 15 ∷ 16 ∷ 31 ∷ 32 ∷ 127 ∷ 128 ∷ [])
+      ≡ true ∷ true ∷ false ∷ false ∷ true ∷ true ∷ false ∷ []
+  pub reserved : map (is_reserved (base_layout Little)) (0 ∷ 31 ∷ 32 ∷ 33 ∷ 127 ∷ [])
+      ≡ true ∷ true ∷ true ∷ false ∷ false ∷ []
   pub in_range : (is_in_range (base_layout Little) 124 4 ≡ true) × (is_in_range (base_layout Little) 126 4 ≡ false)
       × (is_in_range (base_layout Little) 13 4 ≡ false)
   -- two groups: the second one's parts, and a run that crosses into it
@@ -101,10 +101,10 @@ pub record AreaExamples : Type 0 where
 
 pub record OpeningExamples : Type 0 where
   -- what is reported of the base image, of one at a sector, and of one that is refused. The image is called `t`
-  pub told : opening_lines (116 ∷ []) None (outcome (base_image Little) None) ≡ opening (116 ∷ [])
-      ∷ mounted (47 ∷ 109 ∷ 110 ∷ 116 ∷ []) ∷ []
-  pub unreadable : opening_lines (116 ∷ []) (Some 1) (outcome [] (Some 1)) ≡ location 1 ∷ opening (116 ∷ [])
-      ∷ cannot_read 1 ∷ []
+  pub told : opening_lines (116 ∷ []) None (outcome (base_image Little) None)
+      ≡ opening (116 ∷ []) ∷ mounted (47 ∷ 109 ∷ 110 ∷ 116 ∷ []) ∷ []
+  pub unreadable : opening_lines (116 ∷ []) (Some 1) (outcome [] (Some 1))
+      ≡ location 1 ∷ opening (116 ∷ []) ∷ cannot_read 1 ∷ []
   pub refused : opening_lines (116 ∷ []) None (outcome (zeros 9568) None) ≡ opening (116 ∷ []) ∷ bad_super Magic ∷ []
   -- settings that can't be
   pub settings : setting_lines
@@ -118,10 +118,20 @@ pub record OpeningExamples : Type 0 where
       ≡ []
   -- the summary: 6 loose fragments of 95 are 6.3 percent; -1 of 95 is -1.0 and -1 of 201 is -0.4, rounded toward zero
   pub summary_base : summary_of (base_superblock Little) 1 1 ≡ summary 1 1 (pos 94) (pos 6) (pos 22) (pos 63)
-  pub summary_minus : summary_of (record { layout = base_layout Little; optim = pos 0; minfree = pos 0; cstotal = pos 0
-      ∷ pos 1 ∷ pos 0 ∷ negsuc 0 ∷ []; mount = [] }) 0 0 ≡ summary 0 0 (pos 3) (negsuc 0) (pos 1) (negsuc 9)
-  pub summary_small : summary_of (record { layout = two_groups Little; optim = pos 0; minfree = pos 0; cstotal = pos 0
-      ∷ pos 0 ∷ pos 0 ∷ negsuc 0 ∷ []; mount = [] }) 0 0 ≡ summary 0 0 (negsuc 0) (negsuc 0) (pos 0) (negsuc 3)
+  pub summary_minus : summary_of (record {
+    layout = base_layout Little;
+    optim = pos 0;
+    minfree = pos 0;
+    cstotal = pos 0 ∷ pos 1 ∷ pos 0 ∷ negsuc 0 ∷ [];
+    mount = [];
+  }) 0 0 ≡ summary 0 0 (pos 3) (negsuc 0) (pos 1) (negsuc 9)
+  pub summary_small : summary_of (record {
+    layout = two_groups Little;
+    optim = pos 0;
+    minfree = pos 0;
+    cstotal = pos 0 ∷ pos 0 ∷ pos 0 ∷ negsuc 0 ∷ [];
+    mount = [];
+  }) 0 0 ≡ summary 0 0 (negsuc 0) (negsuc 0) (pos 0) (negsuc 3)
   -- bytes and modes as they are shown
   pub bytes_shown : map shown (10 ∷ 31 ∷ 32 ∷ 126 ∷ 127 ∷ 200 ∷ []) ≡ 63 ∷ 63 ∷ 32 ∷ 126 ∷ 63 ∷ 200 ∷ []
   pub modes_shown : (octal 0 ≡ 48 ∷ []) × (octal 16877 ≡ 52 ∷ 48 ∷ 55 ∷ 53 ∷ 53 ∷ [])

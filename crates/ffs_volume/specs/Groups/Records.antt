@@ -69,7 +69,7 @@ right_summary v free class c = record {
 unfoldable pub right_frsum : Layout → (ℕ → Bool) → ℕ → ℕ → ℕ
 right_frsum v free c k =
     sum_by (λ b. if is_whole (block_bits v free c b) then 0
-        else count_by (λ n. n == k) (free_runs 0 (block_bits v free c b)))
+    else count_by (λ n. n == k) (free_runs 0 (block_bits v free c b)))
     (block_numbers v)
 
 abbrev pub group_numbers : Layout → List ℕ

@@ -56,7 +56,7 @@ rescan_lines v image =
 abbrev pub group_check_lines : List ℕ → Superblock → List Message
 group_check_lines image s =
     map of_blocks (phase5_lines s.layout image s.cstotal (is_free_of_kept s.layout (owners_of s.layout image))
-        (class_at s.layout image))
+    (class_at s.layout image))
 
 -- phases 3 to 5 and the summary
 unfoldable pub later_lines : List ℕ → Superblock → List Message
