@@ -8,10 +8,11 @@ use Rattle.ffs_volume.specs.declared.Step.{Step}
 use Rattle.ffs_volume.specs.declared.Step.TheVariants.{Run, Tail, Gap}
 use Rattle.ffs_volume.specs.declared.BlockMessage.{BlockMessage}
 use Rattle.ffs_volume.specs.declared.BlockMessage.TheVariants.{PartAlloc, UnknownType, Bad, Dup, BlockCount}
+use Rattle.ffs_volume.specs.Disk.Superblock.{DEV_BSIZE}
 use Rattle.ffs_volume.specs.Disk.Areas.{is_in_range}
 use Rattle.ffs_volume.specs.Blocks.Inodes.{is_file_or_dir, inode_of, class_of, is_unknown}
 use Rattle.ffs_volume.specs.Blocks.Owners.{Owner, owners_of}
-use Rattle.ffs_volume.specs.Blocks.Claims.{Claims, no_claims, next_inode, is_open, is_set, after_offer, after_step, after_owner, after_owners, steps_lines}
+use Rattle.ffs_volume.specs.Blocks.Claims.{MAXBAD, MAXDUP, Claims, no_claims, next_inode, is_open, is_set, after_offer, after_step, after_owner, after_owners, steps_lines}
 
 -- what the class of an inode says
 abbrev pub class_lines : ℕ → Class → List BlockMessage
@@ -21,7 +22,7 @@ class_lines inode _ = []
 
 -- the number of sectors of so many fragments
 abbrev pub sectors : Layout → ℕ → ℕ
-sectors v fragments = fragments * (v.fsize / 512)
+sectors v fragments = fragments * (v.fsize / DEV_BSIZE)
 
 -- the blocks field of a file or directory that wasn't cut, against its kept offers
 abbrev pub count_lines : Layout → Owner → Claims → List BlockMessage
@@ -30,28 +31,33 @@ count_lines v o end =
     then BlockCount o.number o.blocks (sectors v end.kept) ∷ []
     else []
 
+-- the lines of an inode in phase 1, and of inodes one after the other
 abbrev pub owner_lines : Layout → Claims → Owner → List BlockMessage
-owner_lines v s o = class_lines o.number o.class ++ (steps_lines v o.number (next_inode s) o.steps ++ count_lines v o (after_owner v s o))
+owner_lines v s o =
+    class_lines o.number o.class
+    ++ (steps_lines v o.number (next_inode s) o.steps ++ count_lines v o (after_owner v s o))
 
 abbrev pub owners_lines : Layout → Claims → List Owner → List BlockMessage
 owners_lines v s [] = []
 owners_lines v s (o ∷ os) = owner_lines v s o ++ owners_lines v (after_owner v s o) os
 
--- a kept offer: a fragment, and the inode that keeps it
+-- an offer: one fragment of a Run, and the inode of the Run
 pub record Offer : Type 0 where
   pub inode : ℕ
   pub fragment : ℕ
 
+-- the kept offers of some fragments, of a Run, of a step, of steps and of owners, as the fold of `Claims` keeps them
 abbrev pub offers_kept : Layout → ℕ → Claims → List ℕ → List Offer
 offers_kept v inode s [] = []
 offers_kept v inode s (f ∷ fs) =
-    (if nat_lt s.dups 11 then record { inode = inode; fragment = f } ∷ [] else []) ++ offers_kept v inode (after_offer v s f) fs
+    (if nat_lt s.dups (MAXDUP + 1) then record { inode = inode; fragment = f } ∷ [] else [])
+    ++ offers_kept v inode (after_offer v s f) fs
 
 abbrev pub run_kept : Layout → ℕ → Claims → ℕ → ℕ → List Offer
 run_kept v inode s start len =
     if is_in_range v start len
     then offers_kept v inode (record s { runs = s.runs + 1 }) (range_with_len start len)
-    else (if s.bad == 10 then []
+    else (if s.bad == MAXBAD then []
     else offers_kept v inode (record s { runs = s.runs + 1; bad = s.bad + 1 }) (range_with_len start len))
 
 abbrev pub step_kept : Layout → ℕ → Claims → Step → List Offer
@@ -61,29 +67,33 @@ step_kept v inode s Gap = []
 
 abbrev pub steps_kept : Layout → ℕ → Claims → List Step → List Offer
 steps_kept v inode s [] = []
-steps_kept v inode s (step ∷ steps) = step_kept v inode s step ++ steps_kept v inode (after_step v s step) steps
+steps_kept v inode s (step ∷ steps) =
+    step_kept v inode s step ++ steps_kept v inode (after_step v s step) steps
 
 abbrev pub owners_kept : Layout → Claims → List Owner → List Offer
 owners_kept v s [] = []
 owners_kept v s (o ∷ os) = steps_kept v o.number (next_inode s) o.steps ++ owners_kept v (after_owner v s o) os
 
--- of each fragment that is marked, the first offer
+-- a DUP for the first kept offer of each fragment that has a DUP in phase 1
 abbrev pub first_offers : List Bool → List Offer → List BlockMessage
 first_offers dup [] = []
 first_offers dup (o ∷ os) =
-    if is_set dup o.fragment then Dup o.fragment o.inode ∷ first_offers (slice_set dup o.fragment false) os else first_offers dup os
+    if is_set dup o.fragment then Dup o.fragment o.inode ∷ first_offers (slice_set dup o.fragment false) os
+    else first_offers dup os
 
+-- the lines of phase 1 and of phase 1b
 unfoldable pub phase1_lines : Layout → List Owner → List BlockMessage
 phase1_lines v os = owners_lines v (no_claims v) os
 
 unfoldable pub phase1b_lines : Layout → List Owner → List BlockMessage
 phase1b_lines v os = first_offers (after_owners v (no_claims v) os).dup (owners_kept v (no_claims v) os)
 
+-- the line is a DUP
 abbrev pub is_dup_line : BlockMessage → Bool
 is_dup_line (Dup fragment inode) = true
 is_dup_line _ = false
 
--- whether the second look at the offers is taken
+-- phase 1b runs: phase 1 reported a DUP
 abbrev pub has_rescan : Layout → List Owner → Bool
 has_rescan v os = list_any is_dup_line (phase1_lines v os)
 
@@ -93,6 +103,7 @@ blames x (Bad fragment inode) = inode == x
 blames x (Dup fragment inode) = inode == x
 blames x _ = false
 
+-- the inode is of an unknown type, or a line of phase 1 or 1b blames it
 unfoldable pub is_marked : Layout → List ℕ → ℕ → Bool
 is_marked v image x =
     is_unknown (class_of v (inode_of v image x))

@@ -1,12 +1,14 @@
--- The kept offers of an inode are the first of its offers.
+-- What it is for kept offers to be the first of the offers of some fragments.
 use Rattle.std.proofs.Common.{◌≡◌, ◌⊎◌, ℕ, ◌+◌, Bool, true, List, [], ◌++◌}
 use Rattle.std.specs.Prelude.{map}
 use Rattle.ffs_volume.specs.Blocks.BlockCheck.{Offer}
 
+-- the offer of a fragment to an inode
 abbrev pub offer_at : ℕ → ℕ → Offer
 offer_at i f = record { inode = i; fragment = f }
 
--- the first of some offers, with the rest; no rest, or no more offers are kept
+-- the kept offers are a beginning of the offers of the fragments fs to inode i, and all of them unless it is cut:
+-- `over`
 pub record Firsts (i : ℕ) (kept : List Offer) (fs : List ℕ) (over : Bool) : Type 0 where
   pub rest : List Offer
   pub whole : kept ++ rest ≡ map (offer_at i) fs

@@ -26,19 +26,59 @@ decoded order bytes = record {
 unfoldable pub inode_of : Layout → List ℕ → ℕ → Inode
 inode_of v image x = decoded v.order (piece (inode_place v x) 128 image)
 
+-- the number of inode 1, which whiteouts name, and that of the root directory
+abbrev pub WINO : ℕ
+WINO = 1
+
+abbrev pub ROOTINO : ℕ
+ROOTINO = 2
+
+-- how many of the fifteen addresses are direct
+abbrev pub NDADDR : ℕ
+NDADDR = 12
+
+-- the types of files, after dir(5)
+abbrev pub DT_FIFO : ℕ
+DT_FIFO = 1
+
+abbrev pub DT_CHR : ℕ
+DT_CHR = 2
+
+abbrev pub DT_DIR : ℕ
+DT_DIR = 4
+
+abbrev pub DT_BLK : ℕ
+DT_BLK = 6
+
+abbrev pub DT_REG : ℕ
+DT_REG = 8
+
+abbrev pub DT_LNK : ℕ
+DT_LNK = 10
+
+abbrev pub DT_SOCK : ℕ
+DT_SOCK = 12
+
+abbrev pub DT_WHT : ℕ
+DT_WHT = 14
+
 -- the type bits of a mode, as a directory's entry has them
 abbrev pub type_of : ℕ → ℕ
 type_of mode = mode / 4096
 
--- fifo, character device, directory, block device, regular file, symlink, socket
+-- a type that a file or a directory may have
 abbrev pub is_known_type : ℕ → Bool
-is_known_type kind = kind == 1 || (kind == 2 || (kind == 4 || (kind == 6 || (kind == 8 || (kind == 10 || kind == 12)))))
+is_known_type kind =
+    kind == DT_FIFO || (kind == DT_CHR || (kind == DT_DIR || (kind == DT_BLK
+    || (kind == DT_REG || (kind == DT_LNK || kind == DT_SOCK)))))
 
+-- the type is a character or a block device
 abbrev pub is_device : ℕ → Bool
-is_device kind = kind == 2 || kind == 6
+is_device kind = kind == DT_CHR || kind == DT_BLK
 
+-- a symlink whose text is in the room of the addresses
 abbrev pub is_short_symlink : Layout → Inode → Bool
-is_short_symlink v i = type_of i.mode == 10 && nat_lt i.size v.maxsymlinklen
+is_short_symlink v i = type_of i.mode == DT_LNK && nat_lt i.size v.maxsymlinklen
 
 -- how many logical blocks an inode of its size has
 abbrev pub blocks_of : Layout → Inode → ℕ
@@ -47,30 +87,38 @@ blocks_of v i = div_ceil i.size v.bsize
 -- how many of the fifteen addresses are used where there are this many logical blocks
 abbrev pub used_addresses : ℕ → ℕ → ℕ
 used_addresses words blocks =
-    if nat_lt blocks 13 then blocks
-    else (if nat_lt (12 + words) blocks then (if nat_lt (12 + words + words * words) blocks then 15 else 14) else 13)
+    if nat_lt blocks (NDADDR + 1) then blocks
+    else (if nat_lt (NDADDR + words) blocks
+    then (if nat_lt (NDADDR + words + words * words) blocks then 15 else 14)
+    else 13)
 
--- how many of the fifteen addresses an inode may use
+-- how many of the fifteen addresses an inode may use: a short symlink's text fills some; a device has one more, for its
+-- own number
 abbrev pub addresses_used : Layout → Inode → ℕ
 addresses_used v i =
     if is_short_symlink v i then div_ceil i.size 4
-    else used_addresses v.nindir (if is_device (type_of i.mode) then blocks_of v i + 1 else blocks_of v i)
+    else used_addresses v.nindir
+    (if is_device (type_of i.mode) then blocks_of v i + 1 else blocks_of v i)
 
+-- an address isn't zero
 abbrev pub is_any_set : List ℕ → Bool
 is_any_set addresses = list_any (λ a. not (a == 0)) addresses
 
+-- the size is more than fifteen addresses reach, or a directory's is 2^31 or more
 abbrev pub is_too_large : Layout → Inode → Bool
 is_too_large v i =
-    nat_lt ((12 + v.nindir + v.nindir * v.nindir + v.nindir * v.nindir * v.nindir) * v.bsize) i.size
-    || (type_of i.mode == 4 && nat_lt 2147483647 i.size)
+    nat_lt ((NDADDR + v.nindir + v.nindir * v.nindir + v.nindir * v.nindir * v.nindir) * v.bsize) i.size
+    || (type_of i.mode == DT_DIR && nat_lt 2147483647 i.size)
 
+-- the class of an inode
 unfoldable pub class_of : Layout → Inode → Class
 class_of v i =
     if type_of i.mode == 0
     then (if i.mode == 0 && (i.size == 0 && not (is_any_set i.addresses)) then Free else Partial)
-    else (if not (is_known_type (type_of i.mode)) || (is_too_large v i || is_any_set (drop (addresses_used v i) i.addresses))
+    else (if not (is_known_type (type_of i.mode))
+    || (is_too_large v i || is_any_set (drop (addresses_used v i) i.addresses))
     then Unknown
-    else (if type_of i.mode == 4 then Dir else File))
+    else (if type_of i.mode == DT_DIR then Dir else File))
 
 -- a file or a directory
 abbrev pub is_file_or_dir : Class → Bool
@@ -78,6 +126,7 @@ is_file_or_dir File = true
 is_file_or_dir Dir = true
 is_file_or_dir _ = false
 
+-- a directory, and an inode of an unknown type
 abbrev pub is_directory : Class → Bool
 is_directory Dir = true
 is_directory _ = false

@@ -1,4 +1,4 @@
--- Offers and keeping in the words of the rule: each offer is judged by all that are before it.
+-- The kept offers of `BlockCheck` once more, by a rule on each offer; `keeping_is_by_rule` says that both are the same.
 use Rattle.std.specs.Prelude.{ℕ, Bool, ◌+◌, ◌&&◌, ◌||◌, List, [], ◌∷◌, ◌++◌, ◌==◌, nat_le, if◌then◌else◌, map, count_by}
 use Rattle.std.specs.List.{list_any, flat_map, range_with_len}
 use Rattle.ffs_volume.specs.declared.Layout.{Layout}
@@ -6,14 +6,16 @@ use Rattle.ffs_volume.specs.declared.Step.{Step}
 use Rattle.ffs_volume.specs.declared.Step.TheVariants.{Run, Tail, Gap}
 use Rattle.ffs_volume.specs.Disk.Areas.{is_data_fragment, is_in_range, is_reserved}
 use Rattle.ffs_volume.specs.Blocks.Owners.{Owner}
+use Rattle.ffs_volume.specs.Blocks.Claims.{MAXBAD, MAXDUP}
 use Rattle.ffs_volume.specs.Blocks.BlockCheck.{Offer}
 
--- an offer: its inode, its fragment, and how many bad Runs of the inode are at or before its Run
+-- an offer, and how many bad Runs of its inode are at or before its Run
 pub record Place : Type 0 where
   pub inode : ℕ
   pub fragment : ℕ
   pub bads : ℕ
 
+-- how many bad Runs there are after a step
 abbrev pub bads_after : Layout → ℕ → Step → ℕ
 bads_after v bads (Run start len block) = if is_in_range v start len then bads else bads + 1
 bads_after v bads Tail = bads
@@ -22,20 +24,23 @@ bads_after v bads Gap = bads
 abbrev pub place_of : ℕ → ℕ → ℕ → Place
 place_of inode bads f = record { inode = inode; fragment = f; bads = bads }
 
+-- the offers of a step, and of steps one after the other
 abbrev pub step_offers : Layout → ℕ → ℕ → Step → List Place
-step_offers v inode bads (Run start len block) = map (place_of inode (bads_after v bads (Run start len block))) (range_with_len start len)
+step_offers v inode bads (Run start len block) =
+    map (place_of inode (bads_after v bads (Run start len block))) (range_with_len start len)
 step_offers v inode bads Tail = []
 step_offers v inode bads Gap = []
 
 abbrev pub steps_offers : Layout → ℕ → ℕ → List Step → List Place
 steps_offers v inode bads [] = []
-steps_offers v inode bads (step ∷ steps) = step_offers v inode bads step ++ steps_offers v inode (bads_after v bads step) steps
+steps_offers v inode bads (step ∷ steps) =
+    step_offers v inode bads step ++ steps_offers v inode (bads_after v bads step) steps
 
 -- all offers, in order
 abbrev pub all_offers : Layout → List Owner → List Place
 all_offers v os = flat_map (λ o. steps_offers v o.number 0 o.steps) os
 
--- an offer with what was found of it
+-- an offer with its verdict: whether it is dup, and whether it is kept
 pub record OfferVerdict : Type 0 where
   pub inode : ℕ
   pub fragment : ℕ
@@ -52,25 +57,28 @@ dups_of earlier i = count_by (λ j. j.dup && j.inode == i) earlier
 abbrev pub kept_of : List OfferVerdict → ℕ → ℕ
 kept_of earlier i = count_by (λ j. j.kept && j.inode == i) earlier
 
--- an ok offer is dup when its fragment is reserved or an earlier kept offer has it; an offer is kept when
+-- an offer of a data fragment is dup when it is reserved or an earlier kept offer has it; an offer is kept when
 -- at most ten bad Runs of its inode are at or before its Run and at most ten dup offers of the inode before it
 unfoldable pub offer_verdict : Layout → List OfferVerdict → Place → OfferVerdict
 offer_verdict v earlier p = record {
   inode = p.inode;
   fragment = p.fragment;
   dup = is_data_fragment v p.fragment && (is_reserved v p.fragment || is_taken earlier p.fragment);
-  kept = nat_le p.bads 10 && nat_le (dups_of earlier p.inode) 10;
+  kept = nat_le p.bads MAXBAD && nat_le (dups_of earlier p.inode) MAXDUP;
 }
 
--- all offers so far, after some more
+-- the verdicts on all offers so far, after some more; the last is first
 abbrev pub judged : Layout → List OfferVerdict → List Place → List OfferVerdict
 judged v earlier [] = earlier
 judged v earlier (p ∷ ps) = judged v (offer_verdict v earlier p ∷ earlier) ps
 
+-- the offer alone
 abbrev pub offer_of : Place → Offer
 offer_of p = record { inode = p.inode; fragment = p.fragment }
 
 -- the kept ones of some offers, in order
 abbrev pub kept_offers : Layout → List OfferVerdict → List Place → List Offer
 kept_offers v earlier [] = []
-kept_offers v earlier (p ∷ ps) = (if (offer_verdict v earlier p).kept then offer_of p ∷ [] else []) ++ kept_offers v (offer_verdict v earlier p ∷ earlier) ps
+kept_offers v earlier (p ∷ ps) =
+    (if (offer_verdict v earlier p).kept then offer_of p ∷ [] else [])
+    ++ kept_offers v (offer_verdict v earlier p ∷ earlier) ps

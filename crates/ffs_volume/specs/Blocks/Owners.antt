@@ -23,10 +23,11 @@ owner_of v image x = record {
   blocks = (inode_of v image x).blocks;
 }
 
--- all inodes, ascending
+-- the numbers of all inodes from 2 on, ascending
 abbrev pub inode_numbers : Layout → List ℕ
 inode_numbers v = range_with_len 2 (v.ncg * v.ipg - 2)
 
+-- their owners
 unfoldable pub owners_of : Layout → List ℕ → List Owner
 owners_of v image = map (owner_of v image) (inode_numbers v)
 
@@ -36,9 +37,10 @@ step_fragments (Run start len block) = range_with_len start len
 step_fragments Tail = []
 step_fragments Gap = []
 
--- the places of all Runs, in order
+-- the fragments of all Runs, in order
 abbrev pub fragments_of : List Step → List ℕ
 fragments_of steps = flat_map step_fragments steps
 
+-- the steps of all owners, in order
 abbrev pub all_steps : List Owner → List Step
 all_steps owners = flat_map (λ o. o.steps) owners

@@ -23,6 +23,7 @@ run_in_range v (Run start len block) = is_in_range v start len
 run_in_range v Tail = true
 run_in_range v Gap = true
 
+-- a step is no Tail
 abbrev pub is_no_tail : Step → Bool
 is_no_tail Tail = false
 is_no_tail _ = true
@@ -35,6 +36,8 @@ times f fs = count_by (λ g. g == f) fs
 abbrev pub is_counted : Layout → Owner → Bool
 is_counted v o = not (is_file_or_dir o.class) || o.blocks == sectors v (length (fragments_of o.steps))
 
+-- the classes are right; and, as in AreRunsRight of `Volume`, all Runs are in range, no fragment is in two places or is
+-- reserved, there is no Tail, and each blocks field is that of the inode's fragments
 pub record BlocksRight (v : Layout) (os : List Owner) : Type 0 where
   pub classes : list_all (λ o. is_whole_class o.class) os ≡ true
   pub in_range : list_all (run_in_range v) (all_steps os) ≡ true

@@ -2,7 +2,8 @@
 use Rattle.std.specs.Prelude.{ℕ, ◌≡◌, ◌≢◌, ◌≤◌, ◌<◌, ◌/◌, ◌%◌, true, false, pos, [], ◌⊎◌, IsSomeAnd, Some}
 use Rattle.ffs_volume.specs.declared.Class.TheVariants.{Partial, Unknown, Dir}
 use Rattle.ffs_volume.specs.declared.Role.TheVariants.{Extra, Plain}
-use Rattle.ffs_volume.specs.Directories.Entries.{Entry}
+use Rattle.ffs_volume.specs.Blocks.Inodes.{ROOTINO, WINO, DT_DIR, DT_WHT, type_of}
+use Rattle.ffs_volume.specs.Directories.Entries.{DIRBLKSIZ, Entry}
 use Rattle.ffs_volume.specs.Directories.Roles.{Volume, RoledEntry, is_dir, is_some_inode, roled_entries, dot, dotdot, references}
 use Rattle.ffs_volume.specs.Directories.Graph.{reached, names_at, NamedOnce}
 use Rattle.ffs_volume.specs.Directories.Parents.{graph_of, roled_at}
@@ -11,40 +12,42 @@ use Rattle.ffs_volume.specs.Directories.PathnameCheck.{are_sound}
 -- a directory's size is a positive multiple of 512
 pub record IsWhole (size : ℕ) : Type 0 where
   pub some : 0 < size
-  pub whole : size % 512 ≡ 0
+  pub whole : size % DIRBLKSIZ ≡ 0
 
 -- a whiteout, or an inode's number with the type of its mode
 abbrev pub IsPlainRight : Volume → Entry → Type 0
 IsPlainRight v e =
-    ((e.number ≡ 1) × (e.kind ≡ 14))
-    ⊎ ((is_some_inode v e.number ≡ true) × (e.kind ≡ (v.inode e.number).mode / 4096))
+    ((e.number ≡ WINO) × (e.kind ≡ DT_WHT))
+    ⊎ ((is_some_inode v e.number ≡ true) × (e.kind ≡ type_of (v.inode e.number).mode))
 
 -- a directory holds what it should, whatever the others hold
 pub record IsDirRight (v : Volume) (d : ℕ) : Type 0 where
   pub size : IsWhole (v.inode d).size
   pub gap : v.gap d ≡ false
   pub sound : are_sound (v.chunks d) ≡ true
-  pub dot_there : IsSomeAnd (dot v d) (λ e. (e.number ≡ d) × (e.kind ≡ 4))
-  pub dotdot_there : IsSomeAnd (dotdot v d) (λ e. e.kind ≡ 4)
+  pub dot_there : IsSomeAnd (dot v d) (λ e. (e.number ≡ d) × (e.kind ≡ DT_DIR))
+  pub dotdot_there : IsSomeAnd (dotdot v d) (λ e. e.kind ≡ DT_DIR)
   pub no_extra : (j : ℕ) (s : RoledEntry) → roled_at (roled_entries v d) j ≡ Some s → s.role ≢ Extra
-  pub plain : (j : ℕ) (s : RoledEntry) → roled_at (roled_entries v d) j ≡ Some s → s.role ≡ Plain → IsPlainRight v s.entry
+  pub plain : (j : ℕ) (s : RoledEntry) → roled_at (roled_entries v d) j ≡ Some s → s.role ≡ Plain
+      → IsPlainRight v s.entry
 
 -- inode 2 is a directory, and each directory holds what it should
 pub record AreDirsRight (v : Volume) : Type 0 where
-  pub root : v.class 2 ≡ Dir
+  pub root : v.class ROOTINO ≡ Dir
   pub each : (d : ℕ) → is_dir v d ≡ true → IsDirRight v d
 
--- a directory is named by exactly one plain entry and reached from 2, and its `..` has the number of the directory with that entry
+-- a directory is named by exactly one plain entry and reached from 2, and its `..` has the number of the directory with
+-- that entry
 pub record IsLinked (v : Volume) (d : ℕ) : Type 0 where
   pub once : NamedOnce (graph_of v) d
   pub reached_from_root : reached (graph_of v) d ≡ true
   pub dotdot_right : IsSomeAnd (dotdot v d) (λ e. e.number ≡ once.in_dir)
 
--- so is each directory but 2, which is named by no plain entry, and whose `..` is 2
+-- each directory but 2 is linked so; no plain entry names 2, and the `..` of 2 is 2
 pub record AreLinksRight (v : Volume) : Type 0 where
-  pub each : (d : ℕ) → is_dir v d ≡ true → d ≢ 2 → IsLinked v d
-  pub root : (s j : ℕ) → names_at (graph_of v) s j 2 ≡ false
-  pub root_dotdot : IsSomeAnd (dotdot v 2) (λ e. e.number ≡ 2)
+  pub each : (d : ℕ) → is_dir v d ≡ true → d ≢ ROOTINO → IsLinked v d
+  pub root : (s j : ℕ) → names_at (graph_of v) s j ROOTINO ≡ false
+  pub root_dotdot : IsSomeAnd (dotdot v ROOTINO) (λ e. e.number ≡ ROOTINO)
 
 -- the count of links of each file and directory is that of its references, and at least 1
 pub record IsCountRight (v : Volume) (i : ℕ) : Type 0 where
@@ -54,12 +57,12 @@ pub record IsCountRight (v : Volume) (i : ℕ) : Type 0 where
 abbrev pub AreCountsRight : Volume → Type 0
 AreCountsRight v = (i : ℕ) → is_some_inode v i ≡ true → IsCountRight v i
 
--- what is known of each volume: there is an inode 2, a directory of size 0 has no chunks, no known type is that of a whiteout,
--- and no entry that is live has the number 0
+-- what is known of the volume of each image: there is an inode 2, a directory of size 0 has no entries, and no
+-- allocated inode of a known class has the type of a whiteout
 pub record IsVolume (v : Volume) : Type 0 where
-  pub some : 2 < v.count
+  pub some : ROOTINO < v.count
   pub empty : (d : ℕ) → is_dir v d ≡ true → (v.inode d).size ≡ 0 → roled_entries v d ≡ []
-  pub kinds : (x : ℕ) → v.class x ≢ Unknown → is_some_inode v x ≡ true → (v.inode x).mode / 4096 ≢ 14
+  pub kinds : (x : ℕ) → v.class x ≢ Unknown → is_some_inode v x ≡ true → type_of (v.inode x).mode ≢ DT_WHT
 
 -- what the other conditions leave: nothing is marked, and each inode from 2 on is free, a file or a directory
 pub record IsUnmarked (v : Volume) : Type 0 where

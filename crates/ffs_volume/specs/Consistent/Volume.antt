@@ -34,4 +34,5 @@ pub record IsConsistent (image : List ℕ) (s : Superblock) : Type 0 where
   pub dirs : AreDirsRight (whole_volume s.layout image)
   pub links : AreLinksRight (whole_volume s.layout image)
   pub counts : AreCountsRight (whole_volume s.layout image)
-  pub groups : GroupsRight s.layout image s.cstotal (is_free_of_runs s.layout (owners_of s.layout image)) (class_at s.layout image)
+  pub groups : GroupsRight s.layout image s.cstotal (is_free_of_runs s.layout (owners_of s.layout image))
+      (class_at s.layout image)

@@ -6,12 +6,14 @@ use Rattle.ffs_volume.specs.Directories.Parents.{graph_of}
 use Rattle.ffs_volume.specs.Messages.Kinds.{NameMessage, told, lines_below, unref_dir}
 use Rattle.ffs_volume.specs.Directories.PathnameCheck.{attributes}
 
--- suspect, and named by no plain entry
+-- suspect, other than 2, and named by no plain entry
 abbrev pub is_dead : Volume → ℕ → Bool
 is_dead v x = dead (graph_of v) (is_suspect v) x
 
+-- UNREF DIR is reported of d
 abbrev pub is_cut_off : Volume → ℕ → Bool
 is_cut_off v d = is_unref_dir (graph_of v) (is_suspect v) d
 
+-- the lines of phase 3
 unfoldable pub connectivity_lines : Volume → List NameMessage
 connectivity_lines v = lines_below (λ d. told (is_cut_off v d) (unref_dir (attributes v d))) v.count

@@ -7,6 +7,13 @@ use Rattle.ffs_volume.specs.declared.Step.{Step}
 use Rattle.ffs_volume.specs.declared.Step.TheVariants.{Run, Tail, Gap}
 use Rattle.ffs_volume.specs.Disk.Numbers.{u16_at, u32_at, piece}
 
+-- the bytes of a chunk, and the size of the entries `.` and `..`, which is the least of a directory
+abbrev pub DIRBLKSIZ : ℕ
+DIRBLKSIZ = 512
+
+abbrev pub MINDIRSIZE : ℕ
+MINDIRSIZE = 24
+
 -- an entry: the number that it names, its record's length, its type and its name
 pub record Entry : Type 0 where
   pub number : ℕ
@@ -14,6 +21,7 @@ pub record Entry : Type 0 where
   pub kind : ℕ
   pub name : List ℕ
 
+-- an entry whose inode number isn't 0
 abbrev pub is_live : Entry → Bool
 is_live e = not (e.number == 0)
 
@@ -21,7 +29,8 @@ is_live e = not (e.number == 0)
 abbrev pub name_at : List ℕ → ℕ → List ℕ
 name_at chunk place = piece (place + 8) (slice_index chunk (place + 7)) chunk
 
--- a name has 1 byte or more, none of them NUL or `/`, and a NUL after it. 255 bytes are the most that its length can say
+-- a name has 1 byte or more, none of them NUL or `/`, and a NUL after it. 255 bytes are the most that its length can
+-- be
 abbrev pub is_name : List ℕ → ℕ → Bool
 is_name chunk place =
     not (slice_index chunk (place + 7) == 0)
@@ -30,7 +39,7 @@ is_name chunk place =
 
 -- a record's length is a multiple of 4, at least 8, and stays in the chunk
 abbrev pub is_length : ℕ → ℕ → Bool
-is_length place length = (length % 4 == 0) && nat_le 8 length && nat_le (place + length) 512
+is_length place length = (length % 4 == 0) && nat_le 8 length && nat_le (place + length) DIRBLKSIZ
 
 -- a record holds its name with the NUL, and has one of sixteen types
 abbrev pub is_held : List ℕ → ℕ → ℕ → Bool
@@ -39,12 +48,13 @@ is_held chunk place length =
     && nat_le (slice_index chunk (place + 6)) 15
     && is_name chunk place
 
+-- an entry's record length is valid, and so are its name and type where its number isn't 0
 unfoldable pub is_well_formed : Order → List ℕ → ℕ → Bool
 is_well_formed order chunk place =
     is_length place (u16_at order (place + 4) chunk)
     && ((u32_at order place chunk == 0) || is_held chunk place (u16_at order (place + 4) chunk))
 
--- an entry with the number 0 has no name
+-- what the bytes at a place say, well formed or not; with the number 0 there is no name
 unfoldable pub entry_there : Order → List ℕ → ℕ → Entry
 entry_there order chunk place = record {
   number = u32_at order place chunk;
@@ -60,7 +70,8 @@ entry_at order chunk place = if is_well_formed order chunk place then Some (entr
 -- well formed entries that are one after the other from a place on
 abbrev pub AreEntries : Order → List ℕ → ℕ → List Entry → Type 0
 AreEntries order chunk place [] = Unit {0}
-AreEntries order chunk place (e ∷ es) = (entry_at order chunk place ≡ Some e) × AreEntries order chunk (place + e.length) es
+AreEntries order chunk place (e ∷ es) =
+    (entry_at order chunk place ≡ Some e) × AreEntries order chunk (place + e.length) es
 
 abbrev pub entries_with : Order → List ℕ → ℕ → (ℕ → List Entry) → Option Entry → List Entry
 entries_with order chunk place next None = []
@@ -69,7 +80,8 @@ entries_with order chunk place next (Some e) = e ∷ next (place + e.length)
 -- the longest list of them, of at most `most` entries
 unfoldable pub entries_from : Order → List ℕ → ℕ → ℕ → List Entry
 entries_from order chunk zero place = []
-entries_from order chunk (suc most) place = entries_with order chunk place (entries_from order chunk most) (entry_at order chunk place)
+entries_from order chunk (suc most) place =
+    entries_with order chunk place (entries_from order chunk most) (entry_at order chunk place)
 
 -- the entries of a chunk. Each has 8 bytes or more, so there are at most 64 in 512 bytes
 abbrev pub entries_of : Order → List ℕ → List Entry
@@ -80,12 +92,13 @@ pub record IsLongest (order : Order) (chunk : List ℕ) (entries : List Entry) :
   pub are : AreEntries order chunk 0 entries
   pub longest : (es : List Entry) → AreEntries order chunk 0 es → (rest : List Entry) × (entries ≡ es ++ rest)
 
+-- the entries of each chunk are the longest list
 abbrev pub AreLongest : Type 0
 AreLongest = (order : Order) (chunk : List ℕ) → IsLongest order chunk (entries_of order chunk)
 
 -- they fill the chunk
 abbrev pub is_sound : Order → List ℕ → Bool
-is_sound order chunk = sum_by (λ e. e.length) (entries_of order chunk) == 512
+is_sound order chunk = sum_by (λ e. e.length) (entries_of order chunk) == DIRBLKSIZ
 
 -- a chunk of a directory: its place in the file, its entries, and whether they fill it
 pub record Chunk : Type 0 where
@@ -96,9 +109,9 @@ pub record Chunk : Type 0 where
 abbrev pub chunk_of : Order → ℕ → List ℕ → Chunk
 chunk_of order offset bytes = record { offset = offset; entries = entries_of order bytes; sound = is_sound order bytes }
 
--- how much of a directory is read
+-- how many bytes of a directory are read, by its size
 abbrev pub size_taken : ℕ → ℕ
-size_taken size = if nat_lt size 24 then 512 else div_ceil size 512 * 512
+size_taken size = if nat_lt size MINDIRSIZE then DIRBLKSIZ else div_ceil size DIRBLKSIZ * DIRBLKSIZ
 
 -- what the chunks of a directory depend on beside its steps
 pub record Reading : Type 0 where
@@ -111,19 +124,20 @@ pub record Reading : Type 0 where
 -- the chunks of `len` fragments from `start` on, that are at `offset` of the file
 abbrev pub run_chunks : Reading → ℕ → ℕ → ℕ → List Chunk
 run_chunks r start len offset =
-    map (λ k. chunk_of r.order (offset + 512 * k) (piece (start * r.fsize + 512 * k) 512 r.image))
-    (range_with_len 0 (min (len * r.fsize / 512) ((r.taken - offset) / 512)))
+    map (λ k. chunk_of r.order (offset + DIRBLKSIZ * k) (piece (start * r.fsize + DIRBLKSIZ * k) DIRBLKSIZ r.image))
+    (range_with_len 0 (min (len * r.fsize / DIRBLKSIZ) ((r.taken - offset) / DIRBLKSIZ)))
 
--- the chunks of a step: of a Run of data that passes the test `is_in_range`
+-- the chunks of a step: of a Run of data that passes the test
 abbrev pub step_chunks : Reading → (ℕ → ℕ → Bool) → Step → List Chunk
-step_chunks r is_in_range (Run start len (Some block)) = if is_in_range start len then run_chunks r start len (block * r.bsize) else []
-step_chunks r is_in_range (Run start len None) = []
-step_chunks r is_in_range Tail = []
-step_chunks r is_in_range Gap = []
+step_chunks r passes (Run start len (Some block)) =
+    if passes start len then run_chunks r start len (block * r.bsize) else []
+step_chunks r passes (Run start len None) = []
+step_chunks r passes Tail = []
+step_chunks r passes Gap = []
 
 -- the chunks of steps
 abbrev pub chunks_of : Reading → (ℕ → ℕ → Bool) → List Step → List Chunk
-chunks_of r is_in_range steps = flat_map (step_chunks r is_in_range) steps
+chunks_of r passes steps = flat_map (step_chunks r passes) steps
 
 abbrev pub is_gap : Step → Bool
 is_gap Gap = true

@@ -1,11 +1,12 @@
 -- Levels, parents and lost directories of a volume, read as a graph.
 use Rattle.std.specs.Prelude.{◌≡◌, ◌≢◌, ℕ, zero, suc, ◌<◌, ◌==◌, Bool, true, false, not, ◌&&◌, ◌||◌, List, Option, None, Some, is_some, cond, [], ◌∷◌, option_map, if◌then◌else◌, ◌↔◌}
 use Rattle.std.specs.List.{list_any}
+use Rattle.ffs_volume.specs.Blocks.Inodes.{ROOTINO}
 use Rattle.ffs_volume.specs.Directories.Roles.{RoledEntry, is_plain}
 use Rattle.ffs_volume.specs.Directories.Search.{first_below, some_below}
 use Rattle.ffs_volume.specs.Directories.Climb.{is_value, leads_cycle}
 
--- What the definitions below read of a volume: the number of inodes, which are directories, and the entries of each in order.
+-- what levels and parents depend on: the number of inodes, which are directories, and the entries of each in order
 pub record Graph : Type 0 where
   pub count : ℕ
   pub is_dir : ℕ → Bool
@@ -17,110 +18,116 @@ names d e = is_plain e.role && (e.entry.number == d)
 
 -- a directory s has a plain entry that names x
 abbrev pub names_in : Graph → ℕ → ℕ → Bool
-names_in v s x = v.is_dir s && list_any (names x) (v.entries s)
+names_in g s x = g.is_dir s && list_any (names x) (g.entries s)
 
 -- an edge from s to d: a plain entry of s that names a directory d
 abbrev pub edge : Graph → ℕ → ℕ → Bool
-edge v s d = v.is_dir d && names_in v s d
+edge g s d = g.is_dir d && names_in g s d
 
 -- d is at most k edges from inode 2
 unfoldable pub within : Graph → ℕ → ℕ → Bool
-within v zero d = d == 2
-within v (suc k) d = within v k d || some_below (λ s. within v k s && edge v s d) v.count
+within g zero d = d == ROOTINO
+within g (suc k) d = within g k d || some_below (λ s. within g k s && edge g s d) g.count
 
 -- the least number of edges from inode 2, if d is reached. A least walk visits no inode twice, so it has fewer edges
 -- than there are inodes
 unfoldable pub level : Graph → ℕ → Option ℕ
-level v d = first_below (λ k. within v k d) v.count
+level g d = first_below (λ k. within g k d) g.count
 
 abbrev pub reached : Graph → ℕ → Bool
-reached v d = is_some (level v d)
-
--- the parent of a directory other than 2, by its level
-abbrev pub parent_by : Graph → ℕ → Option ℕ → Option ℕ
-parent_by v d None = first_below (λ s. edge v s d) v.count
-parent_by v d (Some zero) = None
-parent_by v d (Some (suc k)) = first_below (λ s. is_value (level v s) k && edge v s d) v.count
+reached g d = is_some (level g d)
 
 -- a directory of level k with an edge to x
 abbrev pub level_edge : Graph → ℕ → ℕ → ℕ → Bool
-level_edge v k x s = is_value (level v s) k && edge v s x
+level_edge g k x s = is_value (level g s) k && edge g s x
 
+-- the parent of a directory other than 2, by its level
+abbrev pub parent_by : Graph → ℕ → Option ℕ → Option ℕ
+parent_by g d None = first_below (λ s. edge g s d) g.count
+parent_by g d (Some zero) = None
+parent_by g d (Some (suc k)) = first_below (λ s. level_edge g k d s) g.count
+
+-- the parent of a directory; that of 2 is 2
 unfoldable pub parent : Graph → ℕ → Option ℕ
-parent v d = if d == 2 then Some 2 else parent_by v d (level v d)
+parent g d = if d == ROOTINO then Some ROOTINO else parent_by g d (level g d)
 
--- the place of the first entry that passes
+-- the index of the first entry that passes
 abbrev pub first_place : (RoledEntry → Bool) → List RoledEntry → Option ℕ
 first_place p [] = None
 first_place p (e ∷ es) = cond (p e) (Some 0) (option_map suc (first_place p es))
 
--- the place of the parent entry among the entries of the parent
+-- the index of the parent entry among the entries of the parent
 abbrev pub entry_place : Graph → ℕ → Option ℕ → Option ℕ
-entry_place v d None = None
-entry_place v d (Some s) = first_place (names d) (v.entries s)
+entry_place g d None = None
+entry_place g d (Some s) = first_place (names d) (g.entries s)
 
 abbrev pub parent_entry : Graph → ℕ → Option ℕ
-parent_entry v d = if d == 2 then None else entry_place v d (parent v d)
+parent_entry g d = if d == ROOTINO then None else entry_place g d (parent g d)
 
 -- some plain entry names x
 abbrev pub named : Graph → ℕ → Bool
-named v x = some_below (λ s. names_in v s x) v.count
+named g x = some_below (λ s. names_in g s x) g.count
 
+-- x is suspect, isn't 2, and no plain entry names it
 abbrev pub dead : Graph → (ℕ → Bool) → ℕ → Bool
-dead v suspect x = suspect x && (not (x == 2) && not (named v x))
+dead g suspect x = suspect x && (not (x == ROOTINO) && not (named g x))
 
+-- a directory other than 2 that is neither reached nor dead
 abbrev pub lost : Graph → (ℕ → Bool) → ℕ → Bool
-lost v suspect d = v.is_dir d && (not (d == 2) && (not (reached v d) && not (dead v suspect d)))
+lost g suspect d = g.is_dir d && (not (d == ROOTINO) && (not (reached g d) && not (dead g suspect d)))
 
+-- there is none, or it is dead
 abbrev pub none_or_dead : Graph → (ℕ → Bool) → Option ℕ → Bool
-none_or_dead v suspect None = true
-none_or_dead v suspect (Some s) = dead v suspect s
+none_or_dead g suspect None = true
+none_or_dead g suspect (Some s) = dead g suspect s
 
 -- the directories with a line UNREF DIR
 abbrev pub unref_dir : Graph → (ℕ → Bool) → ℕ → Bool
-unref_dir v suspect d = lost v suspect d && (none_or_dead v suspect (parent v d) || leads_cycle (parent v) v.count d)
+unref_dir g suspect d = lost g suspect d && (none_or_dead g suspect (parent g d) || leads_cycle (parent g) g.count d)
 
 -- a directory has the number of an inode, and there is an inode 2
-pub record IsSane (v : Graph) : Type 0 where
-  pub some : 2 < v.count
-  pub dirs : (d : ℕ) → v.is_dir d ≡ true → d < v.count
+pub record IsSane (g : Graph) : Type 0 where
+  pub some : ROOTINO < g.count
+  pub dirs : (d : ℕ) → g.is_dir d ≡ true → d < g.count
 
 -- each directory is reached from inode 2
 abbrev pub AllReached : Graph → Type 0
-AllReached v = (d : ℕ) → v.is_dir d ≡ true → reached v d ≡ true
+AllReached g = (d : ℕ) → g.is_dir d ≡ true → reached g d ≡ true
 
+-- no inode is dead
 abbrev pub NoneDead : Graph → (ℕ → Bool) → Type 0
-NoneDead v suspect = (x : ℕ) → dead v suspect x ≡ false
+NoneDead g suspect = (x : ℕ) → dead g suspect x ≡ false
 
+-- no directory has a line UNREF DIR
 abbrev pub NoUnrefDir : Graph → (ℕ → Bool) → Type 0
-NoUnrefDir v suspect = (d : ℕ) → unref_dir v suspect d ≡ false
+NoUnrefDir g suspect = (d : ℕ) → unref_dir g suspect d ≡ false
 
--- whether the entry at j passes
+-- whether the entry at index j passes
 abbrev pub test_at : (RoledEntry → Bool) → ℕ → List RoledEntry → Bool
 test_at p j [] = false
 test_at p zero (e ∷ es) = p e
 test_at p (suc j) (e ∷ es) = test_at p j es
 
--- the entry at j of the directory s is a plain one that names x
+-- the entry at index j of the directory s is a plain one that names x
 abbrev pub names_at : Graph → ℕ → ℕ → ℕ → Bool
-names_at v s j x = v.is_dir s && test_at (names x) j (v.entries s)
+names_at g s j x = g.is_dir s && test_at (names x) j (g.entries s)
 
--- the entry at j of s is the parent entry of d
+-- the entry at index j of s is the parent entry of d, as a fact
 abbrev pub is_parent_entry : Graph → ℕ → ℕ → ℕ → Type 0
-is_parent_entry v s j d = (parent v d ≡ Some s) × (parent_entry v d ≡ Some j)
+is_parent_entry g s j d = (parent g d ≡ Some s) × (parent_entry g d ≡ Some j)
 
 -- each plain entry that names a directory is its parent entry
 abbrev pub NoExtraneous : Graph → Type 0
-NoExtraneous v = (s j d : ℕ) → names_at v s j d ≡ true → v.is_dir d ≡ true → is_parent_entry v s j d
+NoExtraneous g = (s j d : ℕ) → names_at g s j d ≡ true → g.is_dir d ≡ true → is_parent_entry g s j d
 
 -- exactly one plain entry names d
-pub record NamedOnce (v : Graph) (d : ℕ) : Type 0 where
+pub record NamedOnce (g : Graph) (d : ℕ) : Type 0 where
   pub in_dir : ℕ
   pub place : ℕ
-  pub there : names_at v in_dir place d ≡ true
-  pub only : (s j : ℕ) → names_at v s j d ≡ true → (s ≡ in_dir) × (j ≡ place)
+  pub there : names_at g in_dir place d ≡ true
+  pub only : (s j : ℕ) → names_at g s j d ≡ true → (s ≡ in_dir) × (j ≡ place)
 
 -- each directory but 2 is named by one plain entry, and 2 by none
-pub record LinksRight (v : Graph) : Type 0 where
-  pub once : (d : ℕ) → v.is_dir d ≡ true → d ≢ 2 → NamedOnce v d
-  pub root : (s j : ℕ) → names_at v s j 2 ≡ false
+pub record LinksRight (g : Graph) : Type 0 where
+  pub once : (d : ℕ) → g.is_dir d ≡ true → d ≢ ROOTINO → NamedOnce g d
+  pub root : (s j : ℕ) → names_at g s j ROOTINO ≡ false

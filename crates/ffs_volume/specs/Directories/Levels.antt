@@ -1,8 +1,8 @@
--- Laws of levels: the least walk is shorter than the number of inodes.
-use Rattle.std.specs.Prelude.{◌≡◌, ℕ, ◌-◌, ◌<◌, true, false}
+-- What the level of a directory is: the least number of edges from inode 2.
+use Rattle.std.specs.Prelude.{◌≡◌, ℕ, ◌<◌, true, false}
 use Rattle.ffs_volume.specs.Directories.Graph.{Graph, within}
 
 -- the least number of edges to d is k
-pub record IsLevel (v : Graph) (k d : ℕ) : Type 0 where
-  pub within_k : within v k d ≡ true
-  pub least : (j : ℕ) → j < k → within v j d ≡ false
+pub record IsLevel (g : Graph) (k d : ℕ) : Type 0 where
+  pub within_k : within g k d ≡ true
+  pub least : (j : ℕ) → j < k → within g j d ≡ false

@@ -1,14 +1,15 @@
--- A volume's directories read as a graph, and the first plain entry that names an inode.
+-- The graph of a volume, and which entry is the first to name an inode, or is its parent entry.
 use Rattle.std.specs.Prelude.{ℕ, zero, suc, Bool, ◌&&◌, List, [], ◌∷◌, Option, Some, None}
 use Rattle.ffs_volume.specs.Directories.Roles.{Volume, RoledEntry, is_dir, roled_entries}
 use Rattle.ffs_volume.specs.Directories.Search.{first_below}
 use Rattle.ffs_volume.specs.Directories.Climb.{is_value}
 use Rattle.ffs_volume.specs.Directories.Graph.{Graph, names, names_in, parent, parent_entry, first_place}
 
+-- the directories of a volume as a graph
 abbrev pub graph_of : Volume → Graph
 graph_of v = record { count = v.count; is_dir = is_dir v; entries = roled_entries v }
 
--- the entry at a place of a directory
+-- the entry at an index of a list, with its role
 abbrev pub roled_at : List RoledEntry → ℕ → Option RoledEntry
 roled_at [] j = None
 roled_at (e ∷ es) zero = Some e
@@ -18,10 +19,10 @@ roled_at (e ∷ es) (suc j) = roled_at es j
 abbrev pub first_namer : Graph → ℕ → Option ℕ
 first_namer g x = first_below (λ s. names_in g s x) g.count
 
--- the entry at j of s is the first of all plain entries that name x
+-- the entry at index j of s is the first of all plain entries that name x
 abbrev pub is_first_name : Graph → ℕ → ℕ → ℕ → Bool
 is_first_name g s j x = is_value (first_namer g x) s && is_value (first_place (names x) (g.entries s)) j
 
--- the entry at j of s is the parent entry of x
+-- the entry at index j of s is the parent entry of x
 abbrev pub is_from_parent : Graph → ℕ → ℕ → ℕ → Bool
 is_from_parent g s j x = is_value (parent g x) s && is_value (parent_entry g x) j

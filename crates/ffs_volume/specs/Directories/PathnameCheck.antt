@@ -8,16 +8,23 @@ use Rattle.ffs_volume.specs.declared.Label.{Label}
 use Rattle.ffs_volume.specs.declared.Label.TheVariants.{Dir as DirLabel, File as FileLabel, Name as NameLabel}
 use Rattle.ffs_volume.specs.declared.Role.{Role}
 use Rattle.ffs_volume.specs.declared.Role.TheVariants.{Empty, Dot, Dotdot, Extra, Plain}
-use Rattle.ffs_volume.specs.Directories.Entries.{Entry, Chunk, is_live}
-use Rattle.ffs_volume.specs.Blocks.Inodes.{is_directory, is_allocated, is_unknown}
+use Rattle.ffs_volume.specs.Directories.Entries.{DIRBLKSIZ, MINDIRSIZE, Entry, Chunk, is_live}
+use Rattle.ffs_volume.specs.Blocks.Inodes.{ROOTINO, WINO, DT_DIR, DT_WHT, type_of, is_directory, is_allocated, is_unknown}
 use Rattle.ffs_volume.specs.Directories.Roles.{Volume, RoledEntry, is_dir, is_suspect, is_one_dot, is_two_dots, start_entry, dot, dotdot, roled_entries}
 use Rattle.ffs_volume.specs.Directories.Graph.{parent}
 use Rattle.ffs_volume.specs.Directories.Parents.{graph_of, is_first_name, is_from_parent}
 use Rattle.ffs_volume.specs.Directories.Paths.{dir_path, entry_path}
 use Rattle.ffs_volume.specs.Messages.Kinds.{NameMessage, told, lines_below, root_none, root_not_dir, root_suspect, dir_short, dir_length, dir_empty, dir_corrupt, missing_dot, missing_dot_first, number_dot, kind_dot, missing_dotdot, missing_dotdot_second, number_dotdot, kind_dotdot, extra_dot, extra_dotdot, out_of_range, whiteout, unallocated, dup_bad, zero_dir, extraneous, kind_entry}
 
+-- what messages show of an inode, and how they call it
 unfoldable pub attributes : Volume → ℕ → Attr
-attributes v i = record { number = i; uid = (v.inode i).uid; mode = (v.inode i).mode; size = (v.inode i).size; mtime = (v.inode i).mtime }
+attributes v i = record {
+  number = i;
+  uid = (v.inode i).uid;
+  mode = (v.inode i).mode;
+  size = (v.inode i).size;
+  mtime = (v.inode i).mtime;
+}
 
 abbrev pub label_of : Class → Label
 label_of Dir = DirLabel
@@ -32,21 +39,21 @@ root_reported v Free = root_none ∷ []
 root_reported v Partial = root_none ∷ []
 root_reported v File = root_not_dir ∷ []
 root_reported v Unknown = root_not_dir ∷ []
-root_reported v Dir = told (is_suspect v 2) root_suspect
+root_reported v Dir = told (is_suspect v ROOTINO) root_suspect
 
 unfoldable pub root_lines : Volume → List NameMessage
-root_lines v = root_reported v (v.class 2)
+root_lines v = root_reported v (v.class ROOTINO)
 
 -- the run continues after the root
 abbrev pub goes_on : Volume → Bool
-goes_on v = is_directory (v.class 2)
+goes_on v = is_directory (v.class ROOTINO)
 
 -- of a directory's size, Gaps and chunks
 abbrev pub is_short : Volume → ℕ → Bool
-is_short v d = nat_lt (v.inode d).size 24
+is_short v d = nat_lt (v.inode d).size MINDIRSIZE
 
 abbrev pub is_broken : Volume → ℕ → Bool
-is_broken v d = not (is_short v d) && not ((v.inode d).size % 512 == 0)
+is_broken v d = not (is_short v d) && not ((v.inode d).size % DIRBLKSIZ == 0)
 
 abbrev pub are_sound : List Chunk → Bool
 are_sound chunks = list_all (λ c. c.sound) chunks
@@ -62,13 +69,15 @@ shape_lines v d =
 abbrev pub missing_dot_reported : Attr → List ℕ → Option Entry → List NameMessage
 missing_dot_reported about path None = missing_dot about path ∷ []
 missing_dot_reported about path (Some e) =
-    if is_live e && not (is_two_dots e.name) then missing_dot_first about path e.name ∷ [] else missing_dot about path ∷ []
+    if is_live e && not (is_two_dots e.name) then missing_dot_first about path e.name ∷ []
+    else missing_dot about path ∷ []
 
+-- the lines of `.`
 abbrev pub dot_reported : Volume → ℕ → Option Entry → List NameMessage
 dot_reported v d None = missing_dot_reported (attributes v d) (dir_path (graph_of v) d) (start_entry v d 0)
 dot_reported v d (Some e) =
     told (not (e.number == d)) (number_dot (attributes v d) (dir_path (graph_of v) d))
-    ++ told (not (e.kind == 4)) (kind_dot (attributes v d) (dir_path (graph_of v) d))
+    ++ told (not (e.kind == DT_DIR)) (kind_dot (attributes v d) (dir_path (graph_of v) d))
 
 unfoldable pub dot_lines : Volume → ℕ → List NameMessage
 dot_lines v d = dot_reported v d (dot v d)
@@ -77,57 +86,71 @@ dot_lines v d = dot_reported v d (dot v d)
 abbrev pub missing_dotdot_reported : Attr → List ℕ → Option Entry → List NameMessage
 missing_dotdot_reported about path None = missing_dotdot about path ∷ []
 missing_dotdot_reported about path (Some e) =
-    if is_live e && not (is_one_dot e.name) then missing_dotdot_second about path e.name ∷ [] else missing_dotdot about path ∷ []
+    if is_live e && not (is_one_dot e.name) then missing_dotdot_second about path e.name ∷ []
+    else missing_dotdot about path ∷ []
 
 -- a directory has a parent, and the number isn't it
 abbrev pub is_other : Option ℕ → ℕ → Bool
 is_other None n = false
 is_other (Some s) n = not (s == n)
 
+-- the lines of `..`
 abbrev pub dotdot_reported : Volume → ℕ → Option Entry → List NameMessage
 dotdot_reported v d None = missing_dotdot_reported (attributes v d) (dir_path (graph_of v) d) (start_entry v d 1)
 dotdot_reported v d (Some e) =
     told (is_other (parent (graph_of v) d) e.number) (number_dotdot (attributes v d) (dir_path (graph_of v) d))
-    ++ told (not (e.kind == 4)) (kind_dotdot (attributes v d) (dir_path (graph_of v) d))
+    ++ told (not (e.kind == DT_DIR)) (kind_dotdot (attributes v d) (dir_path (graph_of v) d))
 
 unfoldable pub dotdot_lines : Volume → ℕ → List NameMessage
 dotdot_lines v d = dotdot_reported v d (dotdot v d)
 
 -- of an extra entry
 abbrev pub extra_reported : Attr → List ℕ → Entry → List NameMessage
-extra_reported about path e = if is_one_dot e.name then extra_dot about path ∷ [] else extra_dotdot about path ∷ []
+extra_reported about path e =
+    if is_one_dot e.name then extra_dot about path ∷ [] else extra_dotdot about path ∷ []
 
--- of a plain entry at the place j of the directory s
+-- a whiteout has the number 1 and the type 14: one of the two holds without the other
 abbrev pub is_bad_whiteout : Entry → Bool
-is_bad_whiteout e = ((e.number == 1) && not (e.kind == 14)) || ((e.kind == 14) && not (e.number == 1))
+is_bad_whiteout e =
+    ((e.number == WINO) && not (e.kind == DT_WHT)) || ((e.kind == DT_WHT) && not (e.number == WINO))
 
 -- the inode that it names is marked, or a directory of size 0, and this is the first plain entry that names it
 abbrev pub reports_suspect : Volume → ℕ → ℕ → ℕ → Bool
-reports_suspect v s j x = is_suspect v x && (not (x == 2) && is_first_name (graph_of v) s j x)
+reports_suspect v s j x = is_suspect v x && (not (x == ROOTINO) && is_first_name (graph_of v) s j x)
 
+-- the line of a suspect that an entry names
 abbrev pub suspect_reported : Volume → ℕ → List ℕ → NameMessage
-suspect_reported v x path = if v.marked x then dup_bad (attributes v x) (label_of (v.class x)) path else zero_dir (attributes v x) path
+suspect_reported v x path =
+    if v.marked x then dup_bad (attributes v x) (label_of (v.class x)) path else zero_dir (attributes v x) path
 
+-- a directory that this entry, which isn't its parent entry, names
 abbrev pub is_extraneous : Volume → ℕ → ℕ → ℕ → Bool
 is_extraneous v s j x = is_dir v x && not (is_from_parent (graph_of v) s j x)
 
+-- the type of the entry isn't that of the inode, where it is known
 abbrev pub is_other_kind : Volume → Entry → Bool
-is_other_kind v e = not (is_unknown (v.class e.number)) && not (e.kind == (v.inode e.number).mode / 4096)
+is_other_kind v e = not (is_unknown (v.class e.number)) && not (e.kind == type_of (v.inode e.number).mode)
 
+-- of a plain entry at index j of the directory s, that names an allocated inode
 unfoldable pub named_lines : Volume → ℕ → ℕ → Entry → List NameMessage
 named_lines v s j e =
     told (reports_suspect v s j e.number) (suspect_reported v e.number (entry_path (graph_of v) s e.name))
-    ++ (told (is_extraneous v s j e.number) (extraneous (entry_path (graph_of v) s e.name) (dir_path (graph_of v) e.number))
-    ++ told (is_other_kind v e) (kind_entry (attributes v e.number) (label_of (v.class e.number)) (entry_path (graph_of v) s e.name)))
+    ++ (told (is_extraneous v s j e.number)
+    (extraneous (entry_path (graph_of v) s e.name) (dir_path (graph_of v) e.number))
+    ++ told (is_other_kind v e)
+    (kind_entry (attributes v e.number) (label_of (v.class e.number)) (entry_path (graph_of v) s e.name)))
 
+-- of any plain entry at index j of the directory s
 unfoldable pub plain_lines : Volume → ℕ → ℕ → Entry → List NameMessage
 plain_lines v s j e =
     if not (nat_lt e.number v.count) then out_of_range e.number (entry_path (graph_of v) s e.name) ∷ []
     else (if is_bad_whiteout e then whiteout e.number (entry_path (graph_of v) s e.name) ∷ []
-    else (if e.number == 1 then []
-    else (if not (is_allocated (v.class e.number)) then unallocated (attributes v e.number) (entry_path (graph_of v) s e.name) ∷ []
+    else (if e.number == WINO then []
+    else (if not (is_allocated (v.class e.number))
+    then unallocated (attributes v e.number) (entry_path (graph_of v) s e.name) ∷ []
     else named_lines v s j e)))
 
+-- of an entry at index j of the directory s, by its role
 abbrev pub roled_reported : Volume → ℕ → ℕ → Role → Entry → List NameMessage
 roled_reported v s j Empty e = []
 roled_reported v s j Dot e = []
@@ -138,15 +161,16 @@ roled_reported v s j Plain e = plain_lines v s j e
 unfoldable pub roled_lines : Volume → ℕ → ℕ → RoledEntry → List NameMessage
 roled_lines v s j e = roled_reported v s j e.role e.entry
 
--- of the entries of s from the place j on
+-- of the entries of s from index j on
 unfoldable pub entry_lines : Volume → ℕ → ℕ → List RoledEntry → List NameMessage
 entry_lines v s j [] = []
 entry_lines v s j (e ∷ es) = roled_lines v s j e ++ entry_lines v s (suc j) es
 
--- of a directory that isn't empty
+-- of a directory whose size isn't 0
 unfoldable pub dir_lines : Volume → ℕ → List NameMessage
 dir_lines v d = shape_lines v d ++ (dot_lines v d ++ (dotdot_lines v d ++ entry_lines v d 0 (roled_entries v d)))
 
+-- a directory whose size isn't 0
 abbrev pub is_looked_at : Volume → ℕ → Bool
 is_looked_at v d = is_dir v d && not ((v.inode d).size == 0)
 

@@ -1,5 +1,5 @@
 -- Paths of directories and of their entries.
-use Rattle.std.specs.Prelude.{ℕ, zero, suc, nat_le, nat_lt, if◌then◌else◌, List, [], ◌∷◌, ◌++◌, length, Option, Some, None, option_map, option_and_then}
+use Rattle.std.specs.Prelude.{ℕ, zero, suc, ◌-◌, nat_le, nat_lt, if◌then◌else◌, List, [], ◌∷◌, ◌++◌, length, Option, Some, None, option_map, option_and_then}
 use Rattle.std.specs.List.{flat_map}
 use Rattle.ffs_volume.specs.Directories.Roles.{RoledEntry}
 use Rattle.ffs_volume.specs.Directories.Graph.{Graph, level, parent, parent_entry}
@@ -12,16 +12,25 @@ joined names = flat_map (λ name. 47 ∷ name) names
 -- the longest end of whole names that fits
 unfoldable pub longest_end : ℕ → List (List ℕ) → List (List ℕ)
 longest_end most [] = []
-longest_end most (name ∷ names) = if nat_le (length (joined (name ∷ names))) most then name ∷ names else longest_end most names
+longest_end most (name ∷ names) =
+    if nat_le (length (joined (name ∷ names))) most then name ∷ names else longest_end most names
+
+-- the most bytes of a path
+abbrev pub MAXPATHLEN : ℕ
+MAXPATHLEN = 1024
 
 -- a path of more than 1,024 bytes is cut to `?` and its end
 unfoldable pub path_text : List (List ℕ) → List ℕ
-path_text names = if nat_lt 1024 (length (joined names)) then 63 ∷ joined (longest_end 1023 names) else joined names
+path_text names =
+    if nat_lt MAXPATHLEN (length (joined names)) then 63 ∷ joined (longest_end (MAXPATHLEN - 1) names)
+    else joined names
 
+-- the name of an entry, and none of no entry
 abbrev pub name_of : Option RoledEntry → List ℕ
 name_of None = []
 name_of (Some s) = s.entry.name
 
+-- the names down to a directory by its parent: those of the parent, and the name of the parent entry
 abbrev pub names_above : Graph → (ℕ → List (List ℕ)) → ℕ → Option ℕ → List (List ℕ)
 names_above g above d None = []
 names_above g above d (Some s) = above s ++ name_of (option_and_then (roled_at (g.entries s)) (parent_entry g d)) ∷ []
@@ -35,6 +44,7 @@ names_down g (suc k) d = names_above g (names_down g k) d (parent g d)
 abbrev pub dir_names : Graph → ℕ → Option (List (List ℕ))
 dir_names g d = option_map (λ k. names_down g k d) (level g d)
 
+-- the path of a directory, and of an entry, by the names of the directory: `?` where it isn't reached
 abbrev pub dir_text : Option (List (List ℕ)) → List ℕ
 dir_text None = 63 ∷ []
 dir_text (Some []) = 47 ∷ []

@@ -6,22 +6,29 @@ use Rattle.ffs_volume.specs.Messages.Kinds.{NameMessage, lines_below, told, dead
 use Rattle.ffs_volume.specs.Directories.PathnameCheck.{attributes, label_of}
 use Rattle.ffs_volume.specs.Directories.Connectivity.{is_dead}
 
+-- of a dead inode
 abbrev pub dead_reported : Volume → ℕ → List NameMessage
-dead_reported v i = if v.marked i then dead_marked (label_of (v.class i)) (attributes v i) ∷ [] else dead_zero (attributes v i) ∷ []
+dead_reported v i =
+    if v.marked i then dead_marked (label_of (v.class i)) (attributes v i) ∷ [] else dead_zero (attributes v i) ∷ []
 
+-- of an inode without references
 abbrev pub unref_reported : Volume → ℕ → List NameMessage
 unref_reported v i =
     if is_count (v.inode i).nlink 0 then unref_zero (label_of (v.class i)) (attributes v i) ∷ []
     else unref (label_of (v.class i)) (attributes v i) ∷ []
 
+-- of an allocated inode: dead, without references, or with another count of links
 unfoldable pub inode_lines : Volume → ℕ → List NameMessage
 inode_lines v i =
     if is_dead v i then dead_reported v i
     else (if references v i == 0 then unref_reported v i
-    else told (not (is_count (v.inode i).nlink (references v i))) (link_count (label_of (v.class i)) (attributes v i) (v.inode i).nlink (references v i)))
+    else told (not (is_count (v.inode i).nlink (references v i)))
+    (link_count (label_of (v.class i)) (attributes v i) (v.inode i).nlink (references v i)))
 
+-- of any number
 abbrev pub counted_lines : Volume → ℕ → List NameMessage
 counted_lines v i = if is_some_inode v i then inode_lines v i else []
 
+-- the lines of phase 4 on inodes
 unfoldable pub reference_lines : Volume → List NameMessage
 reference_lines v = lines_below (counted_lines v) v.count

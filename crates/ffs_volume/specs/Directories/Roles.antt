@@ -1,16 +1,15 @@
--- The roles of directory entries, references, and edges.
+-- The volume that the checks of directories see, the roles of directory entries, and references.
 use Rattle.std.specs.Prelude.{ℕ, zero, suc, ◌+◌, ◌==◌, Bool, true, false, not, ◌&&◌, ◌||◌, nat_le, nat_lt, if◌then◌else◌, List, [], ◌∷◌, Option, Some, None, option_and_then, count_by, cond}
 use Rattle.std.specs.List.{flat_map, find}
 use Rattle.ffs_volume.specs.declared.Class.{Class}
-use Rattle.ffs_volume.specs.declared.Class.TheVariants.{Free, Partial, Unknown, File, Dir}
 use Rattle.ffs_volume.specs.declared.Inode.{Inode}
 use Rattle.ffs_volume.specs.declared.Role.{Role}
 use Rattle.ffs_volume.specs.declared.Role.TheVariants.{Empty, Dot, Dotdot, Extra, Plain}
 use Rattle.ffs_volume.specs.Directories.Entries.{Entry, Chunk, is_live}
 use Rattle.ffs_volume.specs.Blocks.Inodes.{is_directory, is_allocated}
 
--- a volume as the checks of directories see it, for each inode: its class, its numbers, whether a Gap of it is kept,
--- its chunks if it is a directory, and whether the block check reported of it
+-- a volume as the checks of directories see it: the number of its inodes, and of each its class, its fields, whether a
+-- Gap of it is kept, its chunks if it is a directory, and whether it is marked
 pub record Volume : Type 0 where
   pub count : ℕ
   pub class : ℕ → Class
@@ -23,12 +22,15 @@ pub record Volume : Type 0 where
 abbrev pub is_inode : Volume → ℕ → Bool
 is_inode v x = nat_le 2 x && nat_lt x v.count
 
+-- the number of a directory
 abbrev pub is_dir : Volume → ℕ → Bool
 is_dir v x = is_inode v x && is_directory (v.class x)
 
+-- the number of an inode that is allocated
 abbrev pub is_some_inode : Volume → ℕ → Bool
 is_some_inode v x = is_inode v x && is_allocated (v.class x)
 
+-- marked, or a directory of size 0
 abbrev pub is_suspect : Volume → ℕ → Bool
 is_suspect v x = v.marked x || (is_dir v x && ((v.inode x).size == 0))
 
@@ -72,6 +74,7 @@ pub record RoledEntry : Type 0 where
   pub role : Role
   pub entry : Entry
 
+-- the entries from an index of a chunk on, with their roles
 unfoldable pub roled_from : Bool → ℕ → List Entry → List RoledEntry
 roled_from first index [] = []
 roled_from first index (e ∷ es) = record { role = role_of first index e; entry = e } ∷ roled_from first (suc index) es
@@ -83,32 +86,36 @@ roled_chunk c = roled_from (c.offset == 0) 0 c.entries
 unfoldable pub roled_entries : Volume → ℕ → List RoledEntry
 roled_entries v d = flat_map roled_chunk (v.chunks d)
 
--- e0 and e1: the first two entries of the chunk at the start of the file, where it is there
+-- the entry at an index of a list
 abbrev pub entry_number : ℕ → List Entry → Option Entry
 entry_number i [] = None
 entry_number zero (e ∷ es) = Some e
 entry_number (suc i) (e ∷ es) = entry_number i es
 
+-- the entry at an index of the chunk at the start of the file, where that chunk is there
 unfoldable pub start_entry : Volume → ℕ → ℕ → Option Entry
 start_entry v d i = option_and_then (λ c. entry_number i c.entries) (find (λ c. c.offset == 0) (v.chunks d))
 
+-- the entry, if it passes
 abbrev pub entry_if : (Entry → Bool) → Option Entry → Option Entry
 entry_if p None = None
 entry_if p (Some e) = cond (p e) (Some e) None
 
+-- the entries `.` and `..` of a directory
 unfoldable pub dot : Volume → ℕ → Option Entry
 dot v d = entry_if (λ e. is_live e && is_one_dot e.name) (start_entry v d 0)
 
 unfoldable pub dotdot : Volume → ℕ → Option Entry
 dotdot v d = entry_if (λ e. is_live e && is_two_dots e.name) (start_entry v d 1)
 
--- how many entries that count name x
+-- an entry that counts names x; how many such entries there are
 abbrev pub refers : ℕ → RoledEntry → Bool
 refers x s = is_counted s.role && (s.entry.number == x)
 
 unfoldable pub references_below : Volume → ℕ → ℕ → ℕ
 references_below v x zero = 0
-references_below v x (suc s) = references_below v x s + (if is_dir v s then count_by (refers x) (roled_entries v s) else 0)
+references_below v x (suc s) =
+    references_below v x s + (if is_dir v s then count_by (refers x) (roled_entries v s) else 0)
 
 abbrev pub references : Volume → ℕ → ℕ
 references v x = references_below v x v.count

@@ -16,6 +16,7 @@ use Rattle.ffs_volume.specs.Directories.Roles.{Volume}
 abbrev pub is_inode_number : Layout → ℕ → Bool
 is_inode_number v x = nat_le 2 x && nat_lt x (v.ncg * v.ipg)
 
+-- the class of an inode, and whether it is marked
 abbrev pub class_at : Layout → List ℕ → ℕ → Class
 class_at v image x = if is_inode_number v x then class_of v (inode_of v image x) else Free
 
@@ -29,8 +30,15 @@ steps_at_number v image x = if is_inode_number v x then steps_of v (inode_of v i
 abbrev pub kept_at_number : Layout → List ℕ → ℕ → List Step
 kept_at_number v image x = if is_inode_number v x then kept_steps_of v image x else []
 
+-- how the chunks of a directory are read
 unfoldable pub reading_of : Layout → List ℕ → ℕ → Reading
-reading_of v image d = record { order = v.order; image = image; bsize = v.bsize; fsize = v.fsize; taken = size_taken (inode_of v image d).size }
+reading_of v image d = record {
+  order = v.order;
+  image = image;
+  bsize = v.bsize;
+  fsize = v.fsize;
+  taken = size_taken (inode_of v image d).size;
+}
 
 -- the volume by the steps that are looked at and the inodes that are marked
 unfoldable pub volume_with : Layout → List ℕ → (ℕ → List Step) → (ℕ → Bool) → Volume

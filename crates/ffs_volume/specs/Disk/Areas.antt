@@ -8,7 +8,7 @@ use Rattle.ffs_volume.specs.declared.Layout.{Layout}
 unfoldable pub cgoffset_of : Layout → ℕ → ℤ
 cgoffset_of v c = v.cgoffset *ℤ pos (bit_and c (4294967295 - v.cgmask))
 
--- the first fragment of group c, of its parts, of its copy of the superblock, and of its data
+-- the first fragment of group c, where its parts are counted from, and where its superblock and its data begin
 unfoldable pub cgbase : Layout → ℕ → ℕ
 cgbase v c = v.fpg * c
 
@@ -36,13 +36,15 @@ inode_place v x = (cgstart v (x / v.ipg) + v.iblkno) * v.fsize + 128 * (x % v.ip
 unfoldable pub is_group_metadata : Layout → ℕ → Bool
 is_group_metadata v f = any_below v.ncg (λ c. nat_le (cgsblock v c) f && nat_lt f (cgdmin v c))
 
+-- f is below the volume's size and no group's metadata: the boot area and the summary area are data fragments too
 unfoldable pub is_data_fragment : Layout → ℕ → Bool
 is_data_fragment v f = nat_lt f v.size && not (is_group_metadata v f)
 
--- all fragments of the run are ok and of one group
+-- all fragments of the run are data fragments of one group
 unfoldable pub is_in_range : Layout → ℕ → ℕ → Bool
 is_in_range v start len = all_below len (λ k. is_data_fragment v (start + k) && ((start + k) / v.fpg == start / v.fpg))
 
+-- no file can have f: it is below the data of group 0, in the summary area, or metadata of a group
 unfoldable pub is_reserved : Layout → ℕ → Bool
 is_reserved v f =
     nat_lt f (cgdmin v 0)

@@ -1,8 +1,9 @@
--- What holds of an accepted layout, as facts.
+-- The conditions of `Outcome` as facts of an accepted layout: what the law `accepted_are_sound` gives.
 use Rattle.std.proofs.Common.{◌≡◌, ℕ, ◌+◌, ◌-◌, ◌*◌, ◌/◌, ◌%◌, ◌^◌, ◌<◌, ◌≤◌, true, pos}
 use Rattle.std.specs.Int.{div_ceil}
 use Rattle.ffs_volume.specs.declared.Layout.{Layout}
 use Rattle.ffs_volume.specs.Disk.Numbers.{natural}
+use Rattle.ffs_volume.specs.Disk.Superblock.{SBSIZE}
 use Rattle.ffs_volume.specs.Disk.Areas.{cgoffset_of, cgbase, cgdmin}
 use Rattle.ffs_volume.specs.Disk.Outcome.{is_shaped}
 
@@ -22,11 +23,11 @@ pub record HasSizes (v : Layout) : Type 0 where
   pub some_fragments : 0 < v.fpg
   pub whole_blocks : v.fpg % v.frag ≡ 0
 
--- the facts of the numbers that have a rule of their own
+-- the facts of `are_numbers`
 pub record HasNumbers (v : Layout) : Type 0 where
   pub some_data : 1 ≤ v.dsize
   pub short_links : v.maxsymlinklen ≤ 60
-  pub sbsize_low : 1376 ≤ v.sbsize
+  pub sbsize_low : SBSIZE ≤ v.sbsize
   pub size_above : (v.ncg - 1) * v.fpg < v.size
   pub size_within : v.size ≤ v.ncg * v.fpg
   pub size_below : v.size < 2 ^ 31
@@ -41,7 +42,7 @@ pub record HasParts (v : Layout) : Type 0 where
   pub cgsize_low : 168 ≤ v.cgsize
   pub cgsize_high : v.cgsize ≤ v.bsize
 
--- a group begins at its base or above, and its data before its end
+-- the parts of a group begin at its base or above it, and its metadata ends within the group and the volume
 pub record HasGroup (v : Layout) (c : ℕ) : Type 0 where
   pub moved_up : cgoffset_of v c ≡ pos (natural (cgoffset_of v c))
   pub within_group : cgdmin v c ≤ cgbase v (c + 1)
@@ -54,7 +55,7 @@ pub record HasSummary (v : Layout) : Type 0 where
   pub summary_in_group : v.csaddr + div_ceil v.cssize v.fsize ≤ cgbase v 1
   pub summary_in_size : v.csaddr + div_ceil v.cssize v.fsize ≤ v.size
 
--- an accepted layout
+-- all these facts of a layout
 pub record IsGeometry (v : Layout) : Type 0 where
   pub shaped : is_shaped v ≡ true
   pub some_groups : 0 < v.ncg

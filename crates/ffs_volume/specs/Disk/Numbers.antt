@@ -39,7 +39,7 @@ abbrev pub is_natural : ℤ → Bool
 is_natural (pos n) = true
 is_natural (negsuc n) = false
 
--- a number that isn't negative, at a place
+-- the signed number of four bytes at a place, and 0 for a negative one
 unfoldable pub count_at : Order → ℕ → List ℕ → ℕ
 count_at order place bytes = natural (i32_at order place bytes)
 
@@ -52,7 +52,7 @@ unfoldable pub any_below : ℕ → (ℕ → Bool) → Bool
 any_below zero test = false
 any_below (suc n) test = test n || any_below n test
 
--- a signed number is a count
+-- a signed number is n
 abbrev pub is_count : ℤ → ℕ → Bool
 is_count (pos k) n = k == n
 is_count (negsuc k) n = false

@@ -7,14 +7,14 @@ use Rattle.ffs_volume.specs.declared.SuperFault.{SuperFault}
 use Rattle.ffs_volume.specs.declared.SuperFault.TheVariants.{CannotRead, Magic, InodeFormat, Ncg, Cpg, Ncyl, TooLarge, Shape, Short, Disagree}
 use Rattle.ffs_volume.specs.declared.Layout.{Layout}
 use Rattle.ffs_volume.specs.Disk.Numbers.{u32_at, piece, is_natural, all_below}
-use Rattle.ffs_volume.specs.Disk.Superblock.{Superblock, layout_of, superblock_of, order_of}
+use Rattle.ffs_volume.specs.Disk.Superblock.{SBSIZE, DEV_BSIZE, Superblock, layout_of, superblock_of, order_of}
 use Rattle.ffs_volume.specs.declared.TheConstants.{LAYOUT_PLACES}
 use Rattle.ffs_volume.specs.Disk.Areas.{cgoffset_of, cgbase, cgsblock, cgdmin}
 
 abbrev pub is_among : List ℕ → ℕ → Bool
 is_among xs x = list_any (λ y. x == y) xs
 
--- the powers of two that a block, a fragment and the fragments of a block may have
+-- the powers of two that the bytes of a block, the bytes of a fragment and the fragments of a block may be
 unfoldable pub is_block_size : ℕ → Bool
 is_block_size n = is_among (4096 ∷ 8192 ∷ 16384 ∷ 32768 ∷ 65536 ∷ []) n
 
@@ -34,17 +34,17 @@ are_sizes v =
     && (nat_lt 0 v.ipg && (v.ipg % v.inopb == 0))
     && (nat_lt 0 v.fpg && (v.fpg % v.frag == 0))
 
--- the rest of the numbers that have a rule of their own
+-- size ends in the last group; fragments and inodes are below 2^31; the room of the fifteen addresses is 60 bytes
 unfoldable pub are_numbers : Layout → Bool
 are_numbers v =
     nat_le 1 v.dsize
     && nat_le v.maxsymlinklen 60
     && (v.postblformat == 1)
-    && nat_le 1376 v.sbsize
+    && nat_le SBSIZE v.sbsize
     && (nat_lt ((v.ncg - 1) * v.fpg) v.size && nat_le v.size (v.ncg * v.fpg))
     && (nat_lt v.size (2 ^ 31) && nat_lt (v.ncg * v.ipg) (2 ^ 31))
 
--- the parts of a group, one after the other
+-- the parts of a group, one after the other; a group block has at least 168 bytes before its maps
 unfoldable pub are_parts : Layout → Bool
 are_parts v =
     nat_lt 0 v.sblkno
@@ -53,11 +53,11 @@ are_parts v =
     && nat_le (v.iblkno + v.ipg * 128 / v.fsize) v.dblkno
     && (nat_le 168 v.cgsize && nat_le v.cgsize v.bsize)
 
--- group c begins at its base or above, and its data before its end
+-- the parts of group c begin at its base or above it, and its metadata ends within the group and the volume
 unfoldable pub is_group : Layout → ℕ → Bool
 is_group v c = is_natural (cgoffset_of v c) && nat_le (cgdmin v c) (min (cgbase v (c + 1)) v.size)
 
--- the summary area
+-- the summary area begins at group 0's data, has 16 bytes for each group, and ends within group 0 and the volume
 unfoldable pub is_summary : Layout → Bool
 is_summary v =
     (v.csaddr == cgdmin v 0)
@@ -83,43 +83,47 @@ layout_fault v image_size =
     else (if nat_lt image_size (v.size * v.fsize) then Some Short
     else None))))))
 
--- the two superblocks of 1,376 bytes agree in each number of the layout
+-- two superblocks agree in the numbers at LAYOUT_PLACES: the magic number, and all of a layout but maxsymlinklen
 unfoldable pub agree : Order → List ℕ → List ℕ → Bool
 agree order bytes copy = list_all (λ place. u32_at order place bytes == u32_at order place copy) LAYOUT_PLACES
 
--- the sector of the superblock, and of the last copy
+-- the sector of the superblock in effect
 abbrev pub super_sector : Option ℕ → ℕ
 super_sector None = 16
 super_sector (Some sector) = sector
 
+-- the byte where the last copy begins
 abbrev pub copy_place : Layout → ℕ
 copy_place v = cgsblock v (v.ncg - 1) * v.fsize
 
 -- the bytes of the superblock in effect
 abbrev pub super_bytes : List ℕ → Option ℕ → List ℕ
-super_bytes image sector = piece (super_sector sector * 512) 1376 image
+super_bytes image sector = piece (super_sector sector * DEV_BSIZE) SBSIZE image
 
 -- with no sector asked for, the last copy is compared
 unfoldable pub copy_agrees : List ℕ → Option ℕ → Order → List ℕ → Bool
-copy_agrees image None order bytes = agree order bytes (piece (copy_place (layout_of order bytes)) 1376 image)
+copy_agrees image None order bytes = agree order bytes (piece (copy_place (layout_of order bytes)) SBSIZE image)
 copy_agrees image (Some sector) order bytes = true
 
--- what is answered for a fault of the layout, or none, and for a copy that agrees, or doesn't
+-- the verdict on a superblock: by the first fault of its layout, if any, and by whether the last copy agrees
 unfoldable pub judged : Option SuperFault → Bool → Superblock → Result Superblock SuperFault
 judged (Some fault) agrees super = Err fault
 judged None true super = Ok super
 judged None false super = Err Disagree
 
--- the superblock, or the first fault
+-- the superblock, or the first fault, where the order of bytes is known
 unfoldable pub outcome_in : List ℕ → Option ℕ → Order → List ℕ → Result Superblock SuperFault
 outcome_in image sector order bytes =
-    judged (layout_fault (layout_of order bytes) (length image)) (copy_agrees image sector order bytes) (superblock_of order bytes)
+    judged (layout_fault (layout_of order bytes) (length image)) (copy_agrees image sector order bytes)
+    (superblock_of order bytes)
 
+-- the same, where no order has the magic number too
 unfoldable pub outcome_of : List ℕ → Option ℕ → List ℕ → Option Order → Result Superblock SuperFault
 outcome_of image sector bytes None = Err Magic
 outcome_of image sector bytes (Some order) = outcome_in image sector order bytes
 
+-- the same of an image
 unfoldable pub outcome : List ℕ → Option ℕ → Result Superblock SuperFault
 outcome image sector =
-    if nat_lt (length image) (super_sector sector * 512 + 1376) then Err (CannotRead (super_sector sector))
+    if nat_lt (length image) (super_sector sector * DEV_BSIZE + SBSIZE) then Err (CannotRead (super_sector sector))
     else outcome_of image sector (super_bytes image sector) (order_of (super_bytes image sector))

@@ -1,4 +1,4 @@
--- The superblock: 1,376 bytes, after fs(5).
+-- The superblock, after fs(5): 1,376 bytes of it are looked at.
 use Rattle.std.specs.Prelude.{ℕ, ◌==◌, if◌then◌else◌, List, [], ◌∷◌, ℤ, Option, Some, None}
 use Rattle.ffs_volume.specs.declared.TheConstants.{FS_MAGIC}
 use Rattle.ffs_volume.specs.declared.Order.{Order}
@@ -6,7 +6,17 @@ use Rattle.ffs_volume.specs.declared.Order.TheVariants.{Little, Big}
 use Rattle.ffs_volume.specs.declared.Layout.{Layout}
 use Rattle.ffs_volume.specs.Disk.Numbers.{u32_at, i32_at, count_at, piece}
 
--- the whole superblock
+-- the bytes of the superblock that are looked at, those of a sector, and those of the mount point
+abbrev pub SBSIZE : ℕ
+SBSIZE = 1376
+
+abbrev pub DEV_BSIZE : ℕ
+DEV_BSIZE = 512
+
+abbrev pub MAXMNTLEN : ℕ
+MAXMNTLEN = 512
+
+-- a superblock; cstotal has its counts of directories, free blocks, free inodes and free fragments
 pub record Superblock : Type 0 where
   pub layout : Layout
   pub optim : ℤ
@@ -14,9 +24,9 @@ pub record Superblock : Type 0 where
   pub cstotal : List ℤ
   pub mount : List ℕ
 
--- All numbers of a layout but cgoffset are counts: a negative number is
--- read as the count 0, which each rule of `Outcome` refuses where it refuses a negative number. Where
--- 0 is good, at maxsymlinklen, a negative number is read as 2^31 or more.
+-- The layout: the numbers that say where the parts of a volume lie. A negative number is read as 0, and where `Outcome`
+-- refuses a negative number it refuses 0 too. cgoffset keeps its sign; cgmask is unsigned, and so is maxsymlinklen
+-- here, where 0 is good and 2^31 isn't.
 unfoldable pub layout_of : Order → List ℕ → Layout
 layout_of order bytes = record {
   order = order;
@@ -53,9 +63,11 @@ superblock_of order bytes = record {
   optim = i32_at order 128 bytes;
   minfree = i32_at order 60 bytes;
   cstotal = i32_at order 192 bytes ∷ i32_at order 196 bytes ∷ i32_at order 200 bytes ∷ i32_at order 204 bytes ∷ [];
-  mount = piece 212 512 bytes;
+  mount = piece 212 MAXMNTLEN bytes;
 }
 
 -- the magic number 0x011954 at its place shows the order of bytes
 unfoldable pub order_of : List ℕ → Option Order
-order_of bytes = if u32_at Little 1372 bytes == FS_MAGIC then Some Little else (if u32_at Big 1372 bytes == FS_MAGIC then Some Big else None)
+order_of bytes =
+    if u32_at Little 1372 bytes == FS_MAGIC then Some Little
+    else (if u32_at Big 1372 bytes == FS_MAGIC then Some Big else None)

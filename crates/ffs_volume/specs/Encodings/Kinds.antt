@@ -7,7 +7,8 @@ use Rattle.ffs_volume.specs.declared.Class.TheVariants.{Free, Partial, Unknown, 
 use Rattle.ffs_volume.specs.Blocks.Inodes.{inode_of, type_of}
 use Rattle.ffs_volume.specs.Directories.Volumes.{class_at}
 
--- 0 where nothing is allocated, 15 for an unknown type, 5 for a directory of size 0 and 4 for another; else the file's type
+-- 0 where nothing is allocated, 15 for an unknown type, 5 for a directory of size 0 and 4 for another; else the file's
+-- type
 abbrev pub kind_of : Class → Inode → ℕ
 kind_of Free i = 0
 kind_of Partial i = 0

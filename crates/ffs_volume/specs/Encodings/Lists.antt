@@ -1,11 +1,11 @@
--- The value at a place of a list that has one for each inode.
+-- The value at an index of a list that has one for each inode.
 use Rattle.std.specs.Prelude.{ℕ, Bool, false, List, slice_index}
 use Rattle.std.specs.List.{slice_index_or}
 
--- the flag at a place of a list, false past its end
+-- the flag at an index of a list, false past its end
 abbrev pub bool_at : List Bool → ℕ → Bool
 bool_at flags x = slice_index_or flags x false
 
--- the number at a place of a list, 0 past its end
+-- the number at an index of a list, 0 past its end
 abbrev pub number_at : List ℕ → ℕ → ℕ
 number_at numbers x = slice_index numbers x

@@ -7,7 +7,7 @@ use Rattle.ffs_volume.specs.declared.Step.{Step}
 use Rattle.ffs_volume.specs.declared.Step.TheVariants.{Run, Tail, Gap}
 use Rattle.ffs_volume.specs.Disk.Areas.{is_in_range}
 use Rattle.ffs_volume.specs.Blocks.Owners.{owner_of}
-use Rattle.ffs_volume.specs.Blocks.Claims.{Claims, after_owner}
+use Rattle.ffs_volume.specs.Blocks.Claims.{MAXBAD, MAXDUP, Claims, after_owner}
 use Rattle.ffs_volume.specs.Blocks.BlockCheck.{Offer}
 use Rattle.ffs_volume.specs.Blocks.FirstOffers.{offer_at}
 use Rattle.ffs_volume.specs.Blocks.KeptSteps.{claims_before}
@@ -26,11 +26,11 @@ fresh_replay = record { bad = 0; kept = 0 }
 
 -- how many offers an inode keeps that ends so, if its eleventh dup offer cut it, and else 0
 abbrev pub cut_of : Claims → ℕ
-cut_of end = if nat_lt end.dups 11 then 0 else end.kept
+cut_of end = if nat_lt end.dups (MAXDUP + 1) then 0 else end.kept
 
 -- the next step is seen
 abbrev pub is_replay_open : ℕ → Replay → Bool
-is_replay_open cut r = nat_lt r.bad 11 && ((cut == 0) || nat_lt r.kept cut)
+is_replay_open cut r = nat_lt r.bad (MAXBAD + 1) && ((cut == 0) || nat_lt r.kept cut)
 
 -- how many of the next `len` offers are kept
 abbrev pub taken_of : ℕ → ℕ → ℕ → ℕ
@@ -41,7 +41,7 @@ abbrev pub replay_run : Layout → ℕ → Replay → ℕ → ℕ → Replay
 replay_run v cut r start len =
     if is_in_range v start len
     then record { bad = r.bad; kept = r.kept + taken_of cut r.kept len }
-    else (if r.bad == 10
+    else (if r.bad == MAXBAD
     then record { bad = r.bad + 1; kept = r.kept }
     else record { bad = r.bad + 1; kept = r.kept + taken_of cut r.kept len })
 
@@ -52,25 +52,33 @@ replay_step v cut r Gap = r
 
 -- the step is kept: a Run where all its offers are, a Tail or Gap where it is seen
 abbrev pub is_replayed : Layout → ℕ → Replay → Step → Bool
-is_replayed v cut r (Run start len block) = is_replay_open cut r && (replay_step v cut r (Run start len block)).kept == r.kept + len
+is_replayed v cut r (Run start len block) =
+    is_replay_open cut r && (replay_step v cut r (Run start len block)).kept == r.kept + len
 is_replayed v cut r Tail = is_replay_open cut r
 is_replayed v cut r Gap = is_replay_open cut r
 
 -- the steps that are kept
 abbrev pub replayed_steps : Layout → ℕ → Replay → List Step → List Step
 replayed_steps v cut r [] = []
-replayed_steps v cut r (step ∷ steps) = (if is_replayed v cut r step then step ∷ [] else []) ++ replayed_steps v cut (replay_step v cut r step) steps
+replayed_steps v cut r (step ∷ steps) =
+    (if is_replayed v cut r step then step ∷ [] else [])
+    ++ replayed_steps v cut (replay_step v cut r step) steps
 
 -- the offers of a step that are kept: the first of its fragments
 abbrev pub replayed_step_offers : Layout → ℕ → ℕ → Replay → Step → List Offer
-replayed_step_offers v inode cut r (Run start len block) = map (offer_at inode) (range_with_len start ((replay_step v cut r (Run start len block)).kept - r.kept))
+replayed_step_offers v inode cut r (Run start len block) =
+    map (offer_at inode) (range_with_len start ((replay_step v cut r (Run start len block)).kept - r.kept))
 replayed_step_offers v inode cut r Tail = []
 replayed_step_offers v inode cut r Gap = []
 
 abbrev pub replayed_offers : Layout → ℕ → ℕ → Replay → List Step → List Offer
 replayed_offers v inode cut r [] = []
-replayed_offers v inode cut r (step ∷ steps) = replayed_step_offers v inode cut r step ++ replayed_offers v inode cut (replay_step v cut r step) steps
+replayed_offers v inode cut r (step ∷ steps) =
+    replayed_step_offers v inode cut r step ++ replayed_offers v inode cut (replay_step v cut r step) steps
 
 -- the cut of the inode x, in 32 bits
 abbrev pub cut_at : Layout → List ℕ → ℕ → ℕ
-cut_at v image x = if is_inode_number v x then min (cut_of (after_owner v (claims_before v image x) (owner_of v image x))) 4294967295 else 0
+cut_at v image x =
+    if is_inode_number v x
+    then min (cut_of (after_owner v (claims_before v image x) (owner_of v image x))) 4294967295
+    else 0

@@ -5,6 +5,7 @@ use Rattle.ffs_volume.specs.declared.Layout.{Layout}
 use Rattle.ffs_volume.specs.declared.Step.{Step}
 use Rattle.ffs_volume.specs.declared.Step.TheVariants.{Run, Tail, Gap}
 use Rattle.ffs_volume.specs.Disk.Areas.{is_in_range}
+use Rattle.ffs_volume.specs.Blocks.Claims.{MAXBAD}
 use Rattle.ffs_volume.specs.Encodings.Replay.{Replay, is_replay_open, replay_step, replayed_steps, replayed_offers}
 
 -- how many Runs are seen
@@ -17,7 +18,7 @@ abbrev pub replayed_runs : Layout → ℕ → Replay → List Step → ℕ
 replayed_runs v cut r [] = 0
 replayed_runs v cut r (step ∷ steps) = seen_run cut r step + replayed_runs v cut (replay_step v cut r step) steps
 
--- the kept offers up to a cut, and nothing where there is none
+-- the kept offers after a Run: counted up to the cut, and left as they are where there is none
 abbrev pub counted_of : ℕ → ℕ → ℕ → ℕ
 counted_of cut kept len = if cut == 0 then kept else kept + min len (cut - kept)
 
@@ -25,7 +26,7 @@ abbrev pub counted_run : Layout → ℕ → Replay → ℕ → ℕ → Replay
 counted_run v cut r start len =
     if is_in_range v start len
     then record { bad = r.bad; kept = counted_of cut r.kept len }
-    else (if r.bad == 10
+    else (if r.bad == MAXBAD
     then record { bad = r.bad + 1; kept = r.kept }
     else record { bad = r.bad + 1; kept = counted_of cut r.kept len })
 
@@ -34,7 +35,7 @@ counted_step v cut r (Run start len block) = if is_replay_open cut r then counte
 counted_step v cut r Tail = r
 counted_step v cut r Gap = r
 
--- what replays have in common that are alike
+-- two replays that keep the same steps and offers and see as many Runs
 pub record SameReplay (v : Layout) (i cut : ℕ) (r q : Replay) (steps : List Step) : Type 0 where
   pub steps_are : replayed_steps v cut r steps ≡ replayed_steps v cut q steps
   pub offers_are : replayed_offers v i cut r steps ≡ replayed_offers v i cut q steps

@@ -41,41 +41,57 @@ words_at order first second = zeros 40960 ++ (first ++ (zeros (4096 - length fir
 
 pub record ClassExamples : Type 0 where
   -- of the base image's inodes in both orders
-  pub base : map (λ x. class_of (base_layout Little) (inode_of (base_layout Little) (base_image Little) x)) (2 ∷ 3 ∷ 31 ∷ []) ≡ Dir ∷ Free ∷ Free ∷ []
-  pub base_big : map (λ x. class_of (base_layout Big) (inode_of (base_layout Big) (base_image Big) x)) (2 ∷ 3 ∷ []) ≡ Dir ∷ Free ∷ []
+  pub base : map (λ x. class_of (base_layout Little) (inode_of (base_layout Little) (base_image Little) x))
+      (2 ∷ 3 ∷ 31 ∷ []) ≡ Dir ∷ Free ∷ Free ∷ []
+  pub base_big : map (λ x. class_of (base_layout Big) (inode_of (base_layout Big) (base_image Big) x)) (2 ∷ 3 ∷ [])
+      ≡ Dir ∷ Free ∷ []
   -- no type: nothing set, or something
-  pub none : map (class_of (base_layout Little)) (inode 0 0 [] ∷ inode 420 0 [] ∷ inode 0 1 [] ∷ inode 0 0 (1 ∷ []) ∷ []) ≡ Free ∷ Partial ∷ Partial ∷ Partial ∷ []
+  pub none : map (class_of (base_layout Little)) (inode 0 0 [] ∷ inode 420 0 [] ∷ inode 0 1 [] ∷ inode 0 0 (1 ∷ [])
+      ∷ []) ≡ Free ∷ Partial ∷ Partial ∷ Partial ∷ []
   -- the seven types, with nothing else, and the first that isn't one
-  pub types : map (λ kind. class_of (base_layout Little) (inode kind 0 [])) (4096 ∷ 8192 ∷ 16384 ∷ 24576 ∷ 32768 ∷ 40960 ∷ 49152 ∷ 12288 ∷ [])
+  pub types : map (λ kind. class_of (base_layout Little) (inode kind 0 []))
+      (4096 ∷ 8192 ∷ 16384 ∷ 24576 ∷ 32768 ∷ 40960 ∷ 49152 ∷ 12288 ∷ [])
       ≡ File ∷ File ∷ Dir ∷ File ∷ File ∷ File ∷ File ∷ Unknown ∷ []
   -- an address that isn't used: beyond the size, and not beyond it
-  pub unused : map (class_of (base_layout Little)) (file_inode 4096 (36 ∷ 40 ∷ []) ∷ file_inode 4097 (36 ∷ 40 ∷ []) ∷ file_inode 49152 (replicate 12 36 ++ 40 ∷ []) ∷ file_inode 49153 (replicate 12 36 ++ 40 ∷ []) ∷ [])
+  pub unused : map (class_of (base_layout Little)) (file_inode 4096 (36 ∷ 40 ∷ []) ∷ file_inode 4097 (36 ∷ 40 ∷ [])
+      ∷ file_inode 49152 (replicate 12 36 ++ 40 ∷ []) ∷ file_inode 49153 (replicate 12 36 ++ 40 ∷ []) ∷ [])
       ≡ Unknown ∷ File ∷ Unknown ∷ File ∷ []
   -- a device has one more; a short symlink's words are its text
-  pub device : map (class_of (base_layout Little)) (inode 8612 0 (5 ∷ []) ∷ inode 8612 0 (5 ∷ 6 ∷ []) ∷ inode 25012 0 (5 ∷ []) ∷ []) ≡ File ∷ Unknown ∷ File ∷ []
-  pub symlink : map (class_of (base_layout Little)) (inode 41471 5 (1 ∷ 2 ∷ []) ∷ inode 41471 5 (1 ∷ 2 ∷ 3 ∷ []) ∷ inode 41471 60 (36 ∷ 2 ∷ []) ∷ []) ≡ File ∷ Unknown ∷ Unknown ∷ []
+  pub device : map (class_of (base_layout Little)) (inode 8612 0 (5 ∷ []) ∷ inode 8612 0 (5 ∷ 6 ∷ [])
+      ∷ inode 25012 0 (5 ∷ []) ∷ []) ≡ File ∷ Unknown ∷ File ∷ []
+  pub symlink : map (class_of (base_layout Little)) (inode 41471 5 (1 ∷ 2 ∷ []) ∷ inode 41471 5 (1 ∷ 2 ∷ 3 ∷ [])
+      ∷ inode 41471 60 (36 ∷ 2 ∷ []) ∷ []) ≡ File ∷ Unknown ∷ Unknown ∷ []
   -- too large
-  pub large : map (class_of (base_layout Little)) (inode 16877 2147483647 [] ∷ inode 16877 2147483648 [] ∷ file_inode 4402345721856 [] ∷ file_inode 4402345721857 [] ∷ []) ≡ Dir ∷ Unknown ∷ File ∷ Unknown ∷ []
+  pub large : map (class_of (base_layout Little)) (inode 16877 2147483647 [] ∷ inode 16877 2147483648 []
+      ∷ file_inode 4402345721856 [] ∷ file_inode 4402345721857 [] ∷ []) ≡ Dir ∷ Unknown ∷ File ∷ Unknown ∷ []
 
 pub record StepExamples : Type 0 where
   -- the base image's root
-  pub base : steps_of (base_layout Little) (inode_of (base_layout Little) (base_image Little) 2) (base_image Little) ≡ Run 36 1 (Some 0) ∷ []
-  pub base_big : steps_of (base_layout Big) (inode_of (base_layout Big) (base_image Big) 2) (base_image Big) ≡ Run 36 1 (Some 0) ∷ []
+  pub base : steps_of (base_layout Little) (inode_of (base_layout Little) (base_image Little) 2) (base_image Little)
+      ≡ Run 36 1 (Some 0) ∷ []
+  pub base_big : steps_of (base_layout Big) (inode_of (base_layout Big) (base_image Big) 2) (base_image Big)
+      ≡ Run 36 1 (Some 0) ∷ []
   -- whole blocks, a hole, and a last block of two fragments; a whole last block
-  pub direct : steps_of (base_layout Little) (file_inode 9300 (36 ∷ 0 ∷ 44 ∷ [])) [] ≡ Run 36 4 (Some 0) ∷ Gap ∷ Run 44 2 (Some 2) ∷ []
-  pub whole : steps_of (base_layout Little) (file_inode 8192 (36 ∷ 40 ∷ [])) [] ≡ Run 36 4 (Some 0) ∷ Run 40 4 (Some 1) ∷ []
+  pub direct : steps_of (base_layout Little) (file_inode 9300 (36 ∷ 0 ∷ 44 ∷ [])) []
+      ≡ Run 36 4 (Some 0) ∷ Gap ∷ Run 44 2 (Some 2) ∷ []
+  pub whole : steps_of (base_layout Little) (file_inode 8192 (36 ∷ 40 ∷ [])) []
+      ≡ Run 36 4 (Some 0) ∷ Run 40 4 (Some 1) ∷ []
   -- a device and a short symlink have none
   pub device : steps_of (base_layout Little) (inode 8612 0 (5 ∷ [])) [] ≡ []
   pub symlink : steps_of (base_layout Little) (inode 41471 5 (1 ∷ 2 ∷ [])) [] ≡ []
   -- two blocks under an indirect one, the last of them whole; a word that isn't used
-  pub single : steps_of (base_layout Little) (file_inode 53300 (replicate 12 0 ++ 40 ∷ [])) (words_at Little (word Little 44 ++ word Little 48) [])
+  pub single : steps_of (base_layout Little) (file_inode 53300 (replicate 12 0 ++ 40 ∷ []))
+      (words_at Little (word Little 44 ++ word Little 48) [])
       ≡ replicate 12 Gap ++ (Run 40 4 None ∷ Run 44 4 (Some 12) ∷ Run 48 4 (Some 13) ∷ [])
-  pub tail : steps_of (base_layout Big) (file_inode 53248 (replicate 12 0 ++ 40 ∷ [])) (words_at Big (word Big 44 ++ word Big 99) [])
+  pub tail : steps_of (base_layout Big) (file_inode 53248 (replicate 12 0 ++ 40 ∷ []))
+      (words_at Big (word Big 44 ++ word Big 99) [])
       ≡ replicate 12 Gap ++ (Run 40 4 None ∷ Tail ∷ Run 44 4 (Some 12) ∷ [])
   -- an indirect block that isn't in range isn't looked into
-  pub out_of_range : steps_of (base_layout Little) (file_inode 53248 (replicate 12 0 ++ 126 ∷ [])) (words_at Little (word Little 44) []) ≡ replicate 12 Gap ++ (Run 126 4 None ∷ [])
+  pub out_of_range : steps_of (base_layout Little) (file_inode 53248 (replicate 12 0 ++ 126 ∷ []))
+      (words_at Little (word Little 44) []) ≡ replicate 12 Gap ++ (Run 126 4 None ∷ [])
   -- below a doubly indirect block
-  pub double : steps_of (base_layout Little) (file_inode 4243457 (replicate 13 0 ++ 40 ∷ [])) (words_at Little (word Little 44) (word Little 48))
+  pub double : steps_of (base_layout Little) (file_inode 4243457 (replicate 13 0 ++ 40 ∷ []))
+      (words_at Little (word Little 44) (word Little 48))
       ≡ replicate 13 Gap ++ (Run 40 4 None ∷ Run 44 4 None ∷ Run 48 4 (Some 1036) ∷ [])
 
 -- files beside the root
@@ -101,30 +117,42 @@ pub record ClaimExamples : Type 0 where
   pub base : phase1_lines (base_layout Little) (owners_of (base_layout Little) (base_image Little)) ≡ []
   pub base_big : phase1_lines (base_layout Big) (owners_of (base_layout Big) (base_image Big)) ≡ []
   -- two files with one fragment; a reserved fragment
-  pub shared : first_reported (file 3 (Run 37 1 (Some 0) ∷ []) 2 ∷ file 4 (Run 37 1 (Some 0) ∷ []) 2 ∷ []) ≡ Dup 37 4 ∷ []
-  pub shared_again : second_reported (file 3 (Run 37 1 (Some 0) ∷ []) 2 ∷ file 4 (Run 37 1 (Some 0) ∷ []) 2 ∷ []) ≡ Dup 37 3 ∷ []
+  pub shared : first_reported (file 3 (Run 37 1 (Some 0) ∷ []) 2 ∷ file 4 (Run 37 1 (Some 0) ∷ []) 2 ∷ [])
+      ≡ Dup 37 4 ∷ []
+  pub shared_again : second_reported (file 3 (Run 37 1 (Some 0) ∷ []) 2 ∷ file 4 (Run 37 1 (Some 0) ∷ []) 2 ∷ [])
+      ≡ Dup 37 3 ∷ []
   pub reserved : first_reported (file 3 (Run 5 1 (Some 0) ∷ []) 2 ∷ []) ≡ Dup 5 3 ∷ []
   pub reserved_again : second_reported (file 3 (Run 5 1 (Some 0) ∷ []) 2 ∷ []) ≡ Dup 5 3 ∷ []
   -- eleven of twelve bad Runs are reported; ten of them, and two good ones
   pub many_bad : first_reported (file 3 (blocks_at 200 12) 0 ∷ []) ≡ replicate 11 (Bad 200 3) ++ (ManyBad 3 ∷ [])
-  pub ten_bad : first_reported (file 3 (blocks_at 200 10 ++ (Run 40 4 (Some 10) ∷ Run 44 4 (Some 11) ∷ [])) 16 ∷ []) ≡ replicate 10 (Bad 200 3) ++ (BlockCount 3 16 96 ∷ [])
+  pub ten_bad : first_reported (file 3 (blocks_at 200 10 ++ (Run 40 4 (Some 10) ∷ Run 44 4 (Some 11) ∷ [])) 16 ∷ [])
+      ≡ replicate 10 (Bad 200 3) ++ (BlockCount 3 16 96 ∷ [])
   -- the eleventh dup offer is reported and kept, and nothing after it
   pub many_dup : first_reported (file 3 (blocks_at 5 3 ++ (Tail ∷ Run 200 4 (Some 3) ∷ [])) 7 ∷ [])
-      ≡ Dup 5 3 ∷ Dup 6 3 ∷ Dup 7 3 ∷ Dup 8 3 ∷ Dup 5 3 ∷ Dup 6 3 ∷ Dup 7 3 ∷ Dup 8 3 ∷ Dup 5 3 ∷ Dup 6 3 ∷ Dup 7 3 ∷ ManyDup 3 ∷ []
-  pub many_dup_kept : (after_owners (base_layout Little) (no_claims (base_layout Little)) (root ∷ file 3 (blocks_at 5 3) 7 ∷ [])).kept ≡ 11
+      ≡ Dup 5 3 ∷ Dup 6 3 ∷ Dup 7 3 ∷ Dup 8 3 ∷ Dup 5 3 ∷ Dup 6 3 ∷ Dup 7 3 ∷ Dup 8 3 ∷ Dup 5 3 ∷ Dup 6 3 ∷ Dup 7 3
+      ∷ ManyDup 3 ∷ []
+  pub many_dup_kept : (after_owners (base_layout Little) (no_claims (base_layout Little))
+      (root ∷ file 3 (blocks_at 5 3) 7 ∷ [])).kept ≡ 11
   -- a Run over the end, whose first two fragments are claimed
   pub past_end : first_reported (file 3 (Run 126 4 (Some 0) ∷ []) 8 ∷ []) ≡ Bad 126 3 ∷ []
-  pub past_end_used : map (is_set (after_owners (base_layout Little) (no_claims (base_layout Little)) (root ∷ file 3 (Run 126 4 (Some 0) ∷ []) 8 ∷ [])).used) (range_with_len 125 5)
+  pub past_end_used : map (is_set (after_owners (base_layout Little) (no_claims (base_layout Little))
+      (root ∷ file 3 (Run 126 4 (Some 0) ∷ []) 8 ∷ [])).used) (range_with_len 125 5)
       ≡ false ∷ true ∷ true ∷ false ∷ false ∷ []
   -- an indirect block that names itself
-  pub itself : first_reported (file 3 (Run 40 4 None ∷ Run 40 4 (Some 12) ∷ []) 16 ∷ []) ≡ Dup 40 3 ∷ Dup 41 3 ∷ Dup 42 3 ∷ Dup 43 3 ∷ []
-  pub itself_again : second_reported (file 3 (Run 40 4 None ∷ Run 40 4 (Some 12) ∷ []) 16 ∷ []) ≡ Dup 40 3 ∷ Dup 41 3 ∷ Dup 42 3 ∷ Dup 43 3 ∷ []
+  pub itself : first_reported (file 3 (Run 40 4 None ∷ Run 40 4 (Some 12) ∷ []) 16 ∷ [])
+      ≡ Dup 40 3 ∷ Dup 41 3 ∷ Dup 42 3 ∷ Dup 43 3 ∷ []
+  pub itself_again : second_reported (file 3 (Run 40 4 None ∷ Run 40 4 (Some 12) ∷ []) 16 ∷ [])
+      ≡ Dup 40 3 ∷ Dup 41 3 ∷ Dup 42 3 ∷ Dup 43 3 ∷ []
   -- a word that isn't used, and the classes that are reported
-  pub truncated : first_reported (file 3 (Run 40 4 None ∷ Tail ∷ Run 44 4 (Some 12) ∷ Tail ∷ []) 16 ∷ []) ≡ PartTrunc 3 ∷ []
-  pub classes : first_reported (record { number = 3; class = Partial; steps = []; blocks = 1 } ∷ record { number = 4; class = Unknown; steps = []; blocks = 1 } ∷ record { number = 5; class = Free; steps = []; blocks = 1 } ∷ [])
+  pub truncated : first_reported (file 3 (Run 40 4 None ∷ Tail ∷ Run 44 4 (Some 12) ∷ Tail ∷ []) 16 ∷ [])
+      ≡ PartTrunc 3 ∷ []
+  pub classes : first_reported (record { number = 3; class = Partial; steps = []; blocks = 1 }
+      ∷ record { number = 4; class = Unknown; steps = []; blocks = 1 }
+      ∷ record { number = 5; class = Free; steps = []; blocks = 1 } ∷ [])
       ≡ PartAlloc 3 ∷ UnknownType 4 ∷ []
   -- by the rule of keeping, the offers that the fold keeps
-  pub by_rule : owners_kept (base_layout Little) (no_claims (base_layout Little)) (root ∷ file 3 (blocks_at 5 3) 7 ∷ [])
+  pub by_rule : owners_kept (base_layout Little) (no_claims (base_layout Little))
+      (root ∷ file 3 (blocks_at 5 3) 7 ∷ [])
       ≡ kept_offers (base_layout Little) [] (all_offers (base_layout Little) (root ∷ file 3 (blocks_at 5 3) 7 ∷ []))
 
 -- the free fragments and the classes of the base volume, and of that of two groups
@@ -137,17 +165,24 @@ two_free f = is_free_of_runs (two_groups Little) (root ∷ []) f
 unfoldable pub base_class : ℕ → Class
 base_class x = if x == 2 then Dir else Free
 
--- what the check of groups reports of the base image, where these fragments are free and the superblock's last total is this
+-- what the check of groups reports of the base image, where these fragments are free and the superblock's last total
+-- is this
 unfoldable pub groups_reported : Order → (ℕ → Bool) → ℕ → List BlockMessage
-groups_reported order free loose = phase5_lines (base_layout order) (base_image order) (pos 1 ∷ pos 22 ∷ pos 29 ∷ pos loose ∷ []) free base_class
+groups_reported order free loose = phase5_lines (base_layout order) (base_image order)
+    (pos 1 ∷ pos 22 ∷ pos 29 ∷ pos loose ∷ []) free base_class
 
 pub record GroupExamples : Type 0 where
-  pub base_sums : right_summary (base_layout Little) base_free base_class 0 ≡ record { dirs = 1; blocks = 22; inodes = 29; fragments = 6 }
-  pub base_pieces : map (right_frsum (base_layout Little) base_free 0) (range_with_len 0 8) ≡ 0 ∷ 0 ∷ 0 ∷ 2 ∷ 0 ∷ 0 ∷ 0 ∷ 0 ∷ []
+  pub base_sums : right_summary (base_layout Little) base_free base_class 0
+      ≡ record { dirs = 1; blocks = 22; inodes = 29; fragments = 6 }
+  pub base_pieces : map (right_frsum (base_layout Little) base_free 0) (range_with_len 0 8)
+      ≡ 0 ∷ 0 ∷ 0 ∷ 2 ∷ 0 ∷ 0 ∷ 0 ∷ 0 ∷ []
   -- the second group's last block is cut short by the size
-  pub second_sums : right_summary (two_groups Little) two_free base_class 1 ≡ record { dirs = 0; blocks = 26; inodes = 32; fragments = 2 }
-  pub second_pieces : map (right_frsum (two_groups Little) two_free 1) (range_with_len 0 8) ≡ 0 ∷ 0 ∷ 1 ∷ 0 ∷ 0 ∷ 0 ∷ 0 ∷ 0 ∷ []
-  pub total : right_total (two_groups Little) two_free base_class ≡ record { dirs = 1; blocks = 48; inodes = 61; fragments = 8 }
+  pub second_sums : right_summary (two_groups Little) two_free base_class 1
+      ≡ record { dirs = 0; blocks = 26; inodes = 32; fragments = 2 }
+  pub second_pieces : map (right_frsum (two_groups Little) two_free 1) (range_with_len 0 8)
+      ≡ 0 ∷ 0 ∷ 1 ∷ 0 ∷ 0 ∷ 0 ∷ 0 ∷ 0 ∷ []
+  pub total : right_total (two_groups Little) two_free base_class
+      ≡ record { dirs = 1; blocks = 48; inodes = 61; fragments = 8 }
   -- the base image in both orders; a total that is wrong
   pub base : groups_reported Little base_free 6 ≡ []
   pub base_big : groups_reported Big base_free 6 ≡ []
@@ -155,4 +190,6 @@ pub record GroupExamples : Type 0 where
   -- fragment 37 is used, and its bit says free
   pub bit_wrong : groups_reported Little (λ f. base_free f && not (f == 37)) 6 ≡ FreeCounts ∷ MapsWrong ∷ GroupSums ∷ []
   -- no group block: the summary record alone is tested
-  pub no_block : phase5_lines (base_layout Little) (zeros 32768 ++ (word Little 1 ++ (word Little 22 ++ (word Little 29 ++ word Little 6)))) (pos 1 ∷ pos 22 ∷ pos 29 ∷ pos 6 ∷ []) base_free base_class ≡ GroupMagic 0 ∷ []
+  pub no_block : phase5_lines (base_layout Little) (zeros 32768
+      ++ (word Little 1 ++ (word Little 22 ++ (word Little 29 ++ word Little 6))))
+      (pos 1 ∷ pos 22 ∷ pos 29 ∷ pos 6 ∷ []) base_free base_class ≡ GroupMagic 0 ∷ []

@@ -21,7 +21,8 @@ use Rattle.ffs_volume.specs.Examples.Images.{bytes_in, word, zeros, root_chunk}
 
 -- the bytes of an entry: its number, length, type and name
 unfoldable pub entry_bytes : Order → ℕ → ℕ → ℕ → List ℕ → List ℕ
-entry_bytes o x n kind name = word o x ++ (bytes_in o 2 n ++ (kind ∷ length name ∷ (name ++ zeros (n - 8 - length name))))
+entry_bytes o x n kind name = word o x ++ (bytes_in o 2 n ++
+    (kind ∷ length name ∷ (name ++ zeros (n - 8 - length name))))
 
 -- the root's chunk with other bytes after its first entry
 unfoldable pub with_second : Order → List ℕ → List ℕ
@@ -42,7 +43,13 @@ last_entry x kind name = record { number = x; length = 500; kind = kind; name = 
 
 -- two chunks at fragment 2, read as far as this
 unfoldable pub two_chunks : ℕ → Reading
-two_chunks taken = record { order = Little; image = zeros 1024 ++ (root_chunk Little ++ root_chunk Little); bsize = 4096; fsize = 512; taken = taken }
+two_chunks taken = record {
+  order = Little;
+  image = zeros 1024 ++ (root_chunk Little ++ root_chunk Little);
+  bsize = 4096;
+  fsize = 512;
+  taken = taken;
+}
 
 pub record EntryExamples : Type 0 where
   -- the root's chunk in both orders
@@ -55,20 +62,27 @@ pub record EntryExamples : Type 0 where
   -- an entry that passes the chunk's end, has a `/`, has no NUL after its name, no name, or a type above 15
   pub too_long : entry_at Little (with_second Little (word Little 2 ++ bytes_in Little 2 504)) 12 ≡ None
   pub slash : entry_at Little (with_second Little (entry_bytes Little 2 12 4 (97 ∷ 47 ∷ 98 ∷ []))) 12 ≡ None
-  pub no_nul : entry_at Big (with_second Big (word Big 2 ++ (bytes_in Big 2 12 ++ (4 ∷ 3 ∷ 97 ∷ 98 ∷ 99 ∷ 1 ∷ [])))) 12 ≡ None
+  pub no_nul : entry_at Big (with_second Big (word Big 2 ++ (bytes_in Big 2 12 ++ (4 ∷ 3 ∷ 97 ∷ 98 ∷ 99 ∷ 1 ∷ [])))) 12
+      ≡ None
   pub no_name : entry_at Little (with_second Little (entry_bytes Little 2 12 4 [])) 12 ≡ None
   pub type_16 : entry_at Little (with_second Little (entry_bytes Little 2 12 16 (97 ∷ []))) 12 ≡ None
-  pub type_15 : entry_at Little (with_second Little (entry_bytes Little 2 12 15 (97 ∷ []))) 12 ≡ Some (entry 2 15 (97 ∷ []))
+  pub type_15 : entry_at Little (with_second Little (entry_bytes Little 2 12 15 (97 ∷ []))) 12
+      ≡ Some (entry 2 15 (97 ∷ []))
   -- a name of three bytes fits in 12, one of four doesn't; with the number 0 only the length is looked at
-  pub three_bytes : entry_at Little (with_second Little (entry_bytes Little 5 12 8 (97 ∷ 98 ∷ 99 ∷ []))) 12 ≡ Some (entry 5 8 (97 ∷ 98 ∷ 99 ∷ []))
-  pub four_bytes : entry_at Little (with_second Little (word Little 5 ++ (bytes_in Little 2 12 ++ (8 ∷ 4 ∷ 97 ∷ 98 ∷ 99 ∷ 100 ∷ [])))) 12 ≡ None
-  pub unused : entry_at Little (with_second Little (word Little 0 ++ (bytes_in Little 2 12 ++ (99 ∷ 200 ∷ [])))) 12 ≡ Some (record { number = 0; length = 12; kind = 99; name = [] })
+  pub three_bytes : entry_at Little (with_second Little (entry_bytes Little 5 12 8 (97 ∷ 98 ∷ 99 ∷ []))) 12
+      ≡ Some (entry 5 8 (97 ∷ 98 ∷ 99 ∷ []))
+  pub four_bytes : entry_at Little (with_second Little (word Little 5
+      ++ (bytes_in Little 2 12 ++ (8 ∷ 4 ∷ 97 ∷ 98 ∷ 99 ∷ 100 ∷ [])))) 12 ≡ None
+  pub unused : entry_at Little (with_second Little (word Little 0 ++ (bytes_in Little 2 12 ++ (99 ∷ 200 ∷ [])))) 12
+      ≡ Some (record { number = 0; length = 12; kind = 99; name = [] })
   -- the second entry has record length 0: the first alone is left, and the chunk isn't sound
   pub cut : entries_of Little (with_second Little (word Little 2 ++ (0 ∷ 0 ∷ []))) ≡ entry 2 4 one_dot ∷ []
   pub cut_unsound : is_sound Little (with_second Little (word Little 2 ++ (0 ∷ 0 ∷ []))) ≡ false
   -- the chunks of a Run of 1,024 bytes, read whole and in part
-  pub whole : map (λ c. c.offset) (chunks_of (two_chunks 1024) (λ start len. true) (Gap ∷ Run 2 2 (Some 0) ∷ Tail ∷ [])) ≡ 0 ∷ 512 ∷ []
-  pub later : map (λ c. c.offset) (chunks_of (two_chunks 8192) (λ start len. true) (Run 2 2 (Some 1) ∷ [])) ≡ 4096 ∷ 4608 ∷ []
+  pub whole : map (λ c. c.offset) (chunks_of (two_chunks 1024) (λ start len. true) (Gap ∷ Run 2 2 (Some 0) ∷ Tail ∷ []))
+      ≡ 0 ∷ 512 ∷ []
+  pub later : map (λ c. c.offset) (chunks_of (two_chunks 8192) (λ start len. true) (Run 2 2 (Some 1) ∷ []))
+      ≡ 4096 ∷ 4608 ∷ []
   pub part : map (λ c. c.offset) (chunks_of (two_chunks 512) (λ start len. true) (Run 2 2 (Some 0) ∷ [])) ≡ 0 ∷ []
   pub not_in_range : chunks_of (two_chunks 512) (λ start len. false) (Run 2 2 (Some 0) ∷ []) ≡ []
   pub indirect : chunks_of (two_chunks 512) (λ start len. true) (Run 2 2 None ∷ []) ≡ []
@@ -80,7 +94,8 @@ pub record EntryExamples : Type 0 where
   pub roles_later : map (λ i. role_of false i (entry 2 4 one_dot)) (0 ∷ 1 ∷ []) ≡ Extra ∷ Extra ∷ []
   pub roles_plain : (role_of true 0 (entry 2 4 (97 ∷ [])) ≡ Plain) × (role_of true 0 (entry 0 4 one_dot) ≡ Empty)
 
--- volumes of directories with one chunk each: those from 2 to n - 1, of 512 bytes, with these counts of links and these entries
+-- volumes of directories with one chunk each: those from 2 to n - 1, of 512 bytes, with these counts of links and
+-- these entries
 unfoldable pub dots : ℕ → ℕ → List Entry → List Entry
 dots d up rest = entry d 4 one_dot ∷ entry up 4 two_dots ∷ rest
 
@@ -94,7 +109,15 @@ unfoldable pub small : ℕ → (ℕ → ℕ) → (ℕ → List Entry) → Volume
 small n links es = record {
   count = n;
   class = class_in n;
-  inode = λ i. record { mode = 16877; nlink = pos (links i); size = 512; uid = 0; mtime = pos 0; addresses = []; blocks = 0 };
+  inode = λ i. record {
+    mode = 16877;
+    nlink = pos (links i);
+    size = 512;
+    uid = 0;
+    mtime = pos 0;
+    addresses = [];
+    blocks = 0;
+  };
   gap = λ i. false;
   chunks = λ i. whole_chunk (es i);
   marked = λ i. false;
@@ -110,10 +133,12 @@ alone es = small 3 (λ i. 2) (λ i. es)
 
 -- two lost directories that name each other; one more below them
 unfoldable pub lost_entries : ℕ → List Entry
-lost_entries i = if i == 3 then dots 3 4 (entry 4 4 (120 ∷ []) ∷ []) else (if i == 4 then dots 4 3 (entry 3 4 (121 ∷ []) ∷ []) else dots 2 2 [])
+lost_entries i = if i == 3 then dots 3 4 (entry 4 4 (120 ∷ []) ∷ [])
+    else (if i == 4 then dots 4 3 (entry 3 4 (121 ∷ []) ∷ []) else dots 2 2 [])
 
 unfoldable pub below_entries : ℕ → List Entry
-below_entries i = if i == 4 then dots 4 3 (entry 3 4 (121 ∷ []) ∷ entry 5 4 (122 ∷ []) ∷ []) else (if i == 5 then dots 5 4 [] else lost_entries i)
+below_entries i = if i == 4 then dots 4 3 (entry 3 4 (121 ∷ []) ∷ entry 5 4 (122 ∷ []) ∷ [])
+    else (if i == 5 then dots 5 4 [] else lost_entries i)
 
 unfoldable pub lost_cycle : Volume
 lost_cycle = small 5 (λ i. if i == 2 then 2 else 3) lost_entries
@@ -137,7 +162,15 @@ unfoldable pub empty_dir : List Entry → Volume
 empty_dir es = record {
   count = 4;
   class = class_in 4;
-  inode = λ i. record { mode = 16877; nlink = pos (if i == 2 then 2 else 0); size = if i == 2 then 512 else 0; uid = 0; mtime = pos 0; addresses = []; blocks = 0 };
+  inode = λ i. record {
+    mode = 16877;
+    nlink = pos (if i == 2 then 2 else 0);
+    size = if i == 2 then 512 else 0;
+    uid = 0;
+    mtime = pos 0;
+    addresses = [];
+    blocks = 0;
+  };
   gap = λ i. false;
   chunks = λ i. if i == 2 then whole_chunk (dots 2 2 es) else [];
   marked = λ i. false;
@@ -169,35 +202,45 @@ pub record PathnameExamples : Type 0 where
   pub cycle : pathname_lines lost_cycle ≡ []
   -- the second of two links; an entry of a lost directory that names no inode
   pub second_link : pathname_lines twice ≡ extraneous (47 ∷ 98 ∷ []) (47 ∷ 97 ∷ []) ∷ []
-  pub no_inode : pathname_lines (sub (dots 3 2 (entry 99 8 (113 ∷ []) ∷ []))) ≡ out_of_range 99 (47 ∷ 97 ∷ 47 ∷ 113 ∷ []) ∷ []
+  pub no_inode : pathname_lines (sub (dots 3 2 (entry 99 8 (113 ∷ []) ∷ [])))
+      ≡ out_of_range 99 (47 ∷ 97 ∷ 47 ∷ 113 ∷ []) ∷ []
   -- `.` and `..` that are missing, that can't be set, and that are wrong
   pub no_dots : pathname_lines (alone []) ≡ missing_dot (about 2) (47 ∷ []) ∷ missing_dotdot (about 2) (47 ∷ []) ∷ []
   pub others_first : pathname_lines (alone (entry 1 14 (97 ∷ []) ∷ entry 1 14 (98 ∷ []) ∷ []))
       ≡ missing_dot_first (about 2) (47 ∷ []) (97 ∷ []) ∷ missing_dotdot_second (about 2) (47 ∷ []) (98 ∷ []) ∷ []
   pub turned : pathname_lines (alone (entry 2 4 two_dots ∷ entry 2 4 one_dot ∷ []))
-      ≡ missing_dot (about 2) (47 ∷ []) ∷ missing_dotdot (about 2) (47 ∷ []) ∷ extra_dotdot (about 2) (47 ∷ []) ∷ extra_dot (about 2) (47 ∷ []) ∷ []
+      ≡ missing_dot (about 2) (47 ∷ []) ∷ missing_dotdot (about 2) (47 ∷ []) ∷ extra_dotdot (about 2) (47 ∷ [])
+      ∷ extra_dot (about 2) (47 ∷ []) ∷ []
   pub wrong_dots : pathname_lines (sub (entry 2 8 one_dot ∷ entry 3 8 two_dots ∷ []))
-      ≡ number_dot (about 3) (47 ∷ 97 ∷ []) ∷ kind_dot (about 3) (47 ∷ 97 ∷ []) ∷ number_dotdot (about 3) (47 ∷ 97 ∷ []) ∷ kind_dotdot (about 3) (47 ∷ 97 ∷ []) ∷ []
+      ≡ number_dot (about 3) (47 ∷ 97 ∷ []) ∷ kind_dot (about 3) (47 ∷ 97 ∷ []) ∷ number_dotdot (about 3) (47 ∷ 97 ∷ [])
+      ∷ kind_dotdot (about 3) (47 ∷ 97 ∷ []) ∷ []
   -- whiteouts, an inode that is free, another type, and the root entered
-  pub whiteouts : pathname_lines (alone (dots 2 2 (entry 1 14 (97 ∷ []) ∷ entry 1 8 (98 ∷ []) ∷ entry 2 14 (99 ∷ []) ∷ []))) ≡ whiteout 1 (47 ∷ 98 ∷ []) ∷ whiteout 2 (47 ∷ 99 ∷ []) ∷ []
-  pub root_entered : pathname_lines (alone (dots 2 2 (entry 2 8 (97 ∷ []) ∷ []))) ≡ extraneous (47 ∷ 97 ∷ []) (47 ∷ []) ∷ kind_entry (about 2) DirLabel (47 ∷ 97 ∷ []) ∷ []
+  pub whiteouts : pathname_lines (alone (dots 2 2 (entry 1 14 (97 ∷ []) ∷ entry 1 8 (98 ∷ []) ∷ entry 2 14 (99 ∷ [])
+      ∷ []))) ≡ whiteout 1 (47 ∷ 98 ∷ []) ∷ whiteout 2 (47 ∷ 99 ∷ []) ∷ []
+  pub root_entered : pathname_lines (alone (dots 2 2 (entry 2 8 (97 ∷ []) ∷ [])))
+      ≡ extraneous (47 ∷ 97 ∷ []) (47 ∷ []) ∷ kind_entry (about 2) DirLabel (47 ∷ 97 ∷ []) ∷ []
   -- a directory of size 0, reported at its first entry alone
-  pub zero_length : pathname_lines (empty_dir (entry 3 4 (97 ∷ []) ∷ entry 3 4 (98 ∷ []) ∷ [])) ≡ zero_dir about_empty (47 ∷ 97 ∷ []) ∷ extraneous (47 ∷ 98 ∷ []) (47 ∷ 97 ∷ []) ∷ []
+  pub zero_length : pathname_lines (empty_dir (entry 3 4 (97 ∷ []) ∷ entry 3 4 (98 ∷ []) ∷ []))
+      ≡ zero_dir about_empty (47 ∷ 97 ∷ []) ∷ extraneous (47 ∷ 98 ∷ []) (47 ∷ 97 ∷ []) ∷ []
   -- the root unallocated, no directory, or marked
   pub no_root : pathname_lines (record (alone []) { class = λ i. Free }) ≡ root_none ∷ []
   pub root_file : pathname_lines (record (alone []) { class = λ i. File }) ≡ root_not_dir ∷ []
   pub root_marked : pathname_lines (record (alone (dots 2 2 [])) { marked = λ i. true }) ≡ root_suspect ∷ []
   -- four names of 255 bytes are whole, five are cut
   pub four_names : length (path_text (long_name ∷ long_name ∷ long_name ∷ long_name ∷ [])) ≡ 1024
-  pub five_names : path_text (long_name ∷ long_name ∷ long_name ∷ long_name ∷ long_name ∷ []) ≡ 63 ∷ (47 ∷ long_name) ++ ((47 ∷ long_name) ++ (47 ∷ long_name))
+  pub five_names : path_text (long_name ∷ long_name ∷ long_name ∷ long_name ∷ long_name ∷ []) ≡ 63 ∷ (47 ∷ long_name)
+      ++ ((47 ∷ long_name) ++ (47 ∷ long_name))
   -- paths of the root, of a directory, of a lost one and of its entry
-  pub paths : (dir_path (graph_of twice) 2 ≡ 47 ∷ []) × (dir_path (graph_of twice) 3 ≡ 47 ∷ 97 ∷ []) × (dir_path (graph_of lost_cycle) 3 ≡ 63 ∷ [])
+  pub paths : (dir_path (graph_of twice) 2 ≡ 47 ∷ []) × (dir_path (graph_of twice) 3 ≡ 47 ∷ 97 ∷ [])
+      × (dir_path (graph_of lost_cycle) 3 ≡ 63 ∷ [])
       × (entry_path (graph_of lost_cycle) 3 (120 ∷ []) ≡ 63 ∷ 47 ∷ 120 ∷ [])
 
 pub record ReferenceExamples : Type 0 where
   -- levels and parents
-  pub levels : (level (graph_of twice) 2 ≡ Some 0) × (level (graph_of twice) 3 ≡ Some 1) × (level (graph_of lost_cycle) 3 ≡ None)
-  pub parents : (parent (graph_of twice) 2 ≡ Some 2) × (parent (graph_of twice) 3 ≡ Some 2) × (parent (graph_of lost_cycle) 3 ≡ Some 4)
+  pub levels : (level (graph_of twice) 2 ≡ Some 0) × (level (graph_of twice) 3 ≡ Some 1)
+      × (level (graph_of lost_cycle) 3 ≡ None)
+  pub parents : (parent (graph_of twice) 2 ≡ Some 2) × (parent (graph_of twice) 3 ≡ Some 2)
+      × (parent (graph_of lost_cycle) 3 ≡ Some 4)
   -- one of a cycle is reported, and what hangs below it isn't; below a dead directory, the lost one is
   pub cycle : connectivity_lines lost_cycle ≡ unref_dir (about 3) ∷ []
   pub cycle_below : connectivity_lines (small 6 (λ i. 3) below_entries) ≡ unref_dir (about 3) ∷ []
@@ -211,9 +254,12 @@ pub record ReferenceExamples : Type 0 where
   pub extra_uncounted : reference_lines (alone (dots 2 2 (entry 2 4 two_dots ∷ []))) ≡ []
   -- dead inodes: a directory of size 0 that nothing names, and a marked one
   pub dead_empty : reference_lines (empty_dir []) ≡ dead_zero about_empty ∷ []
-  pub dead_reported : reference_lines dead_parent ≡ link_count DirLabel (about 2) (pos 2) 3 ∷ dead_marked DirLabel (about 3) ∷ []
+  pub dead_reported : reference_lines dead_parent
+      ≡ link_count DirLabel (about 2) (pos 2) 3 ∷ dead_marked DirLabel (about 3) ∷ []
   -- no reference at all: with and without links
-  pub unnamed : reference_lines (record (small 4 (λ i. if i == 2 then 2 else 1) (λ i. if i == 2 then dots 2 2 [] else [])) { class = λ i. if i == 2 then Dir else File })
+  pub unnamed : reference_lines (record (small 4 (λ i. if i == 2 then 2 else 1)
+      (λ i. if i == 2 then dots 2 2 [] else [])) { class = λ i. if i == 2 then Dir else File })
       ≡ unref FileLabel (about 3) ∷ []
-  pub unlinked : reference_lines (record (small 4 (λ i. if i == 2 then 2 else 0) (λ i. if i == 2 then dots 2 2 [] else [])) { class = λ i. if i == 2 then Dir else File })
+  pub unlinked : reference_lines (record (small 4 (λ i. if i == 2 then 2 else 0)
+      (λ i. if i == 2 then dots 2 2 [] else [])) { class = λ i. if i == 2 then Dir else File })
       ≡ unref_zero FileLabel (about 3) ∷ []

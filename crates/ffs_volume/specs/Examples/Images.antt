@@ -67,10 +67,14 @@ base_superblock order = record {
 
 unfoldable pub base_super : Order → List ℕ
 base_super o =
-    zeros 8 ++ (word o 16 ++ (word o 24 ++ (word o 28 ++ (word o 32 ++ (word o 0 ++ (word o 4294967295 ++ (zeros 4 ++ (word o 128 ++ (word o 95 ++ (word o 1
-    ++ (word o 4096 ++ (word o 1024 ++ (word o 4 ++ (word o 10 ++ (zeros 40 ++ (word o 2048 ++ (zeros 8 ++ (word o 1024 ++ (word o 32 ++ (zeros 4 ++ (word o 0
-    ++ (zeros 20 ++ (word o 32 ++ (word o 1024 ++ (word o 1024 ++ (zeros 12 ++ (word o 1 ++ (word o 1 ++ (word o 32 ++ (word o 128
-    ++ (word o 1 ++ (word o 22 ++ (word o 29 ++ (word o 6 ++ (zeros 4 ++ ((mount_bytes ++ zeros 508) ++ (zeros 596 ++ (word o 60 ++ (word o 2 ++ (zeros 28
+    zeros 8 ++ (word o 16 ++ (word o 24 ++ (word o 28 ++ (word o 32
+    ++ (word o 0 ++ (word o 4294967295 ++ (zeros 4 ++ (word o 128 ++ (word o 95 ++ (word o 1
+    ++ (word o 4096 ++ (word o 1024 ++ (word o 4 ++ (word o 10
+    ++ (zeros 40 ++ (word o 2048 ++ (zeros 8 ++ (word o 1024 ++ (word o 32 ++ (zeros 4 ++ (word o 0
+    ++ (zeros 20 ++ (word o 32 ++ (word o 1024 ++ (word o 1024
+    ++ (zeros 12 ++ (word o 1 ++ (word o 1 ++ (word o 32 ++ (word o 128
+    ++ (word o 1 ++ (word o 22 ++ (word o 29 ++ (word o 6 ++
+    (zeros 4 ++ ((mount_bytes ++ zeros 508) ++ (zeros 596 ++ (word o 60 ++ (word o 2 ++ (zeros 28
     ++ (word o 1 ++ (zeros 12 ++ word o 72020))))))))))))))))))))))))))))))))))))))))))
 
 -- superblocks with another number at a place
@@ -89,7 +93,8 @@ fault_of image sector = result_err (outcome image sector)
 abbrev pub fault_with : List ℕ → List ℕ → Option SuperFault
 fault_with primary copy = fault_of (image_of primary copy) None
 
--- the same with a second group, which is cut short by the volume's size and whose parts begin four fragments above its base
+-- the same with a second group, which is cut short by the volume's size and whose parts begin four fragments above its
+-- base
 unfoldable pub two_groups : Order → Layout
 two_groups order = record {
   order = order;
@@ -123,11 +128,13 @@ two_groups order = record {
 -- the root, whose directory is at fragment 36, and its 512 bytes
 unfoldable pub root_inode : Order → List ℕ
 root_inode o =
-    bytes_in o 2 16877 ++ (bytes_in o 2 2 ++ (zeros 4 ++ (bytes_in o 8 512 ++ (zeros 24 ++ (word o 36 ++ (zeros 60 ++ (word o 2 ++ zeros 20)))))))
+    bytes_in o 2 16877 ++ (bytes_in o 2 2 ++ (zeros 4 ++ (bytes_in o 8 512
+    ++ (zeros 24 ++ (word o 36 ++ (zeros 60 ++ (word o 2 ++ zeros 20)))))))
 
 unfoldable pub root_chunk : Order → List ℕ
 root_chunk o =
-    word o 2 ++ (bytes_in o 2 12 ++ ((4 ∷ 1 ∷ 46 ∷ 0 ∷ 0 ∷ 0 ∷ []) ++ (word o 2 ++ (bytes_in o 2 500 ++ ((4 ∷ 2 ∷ 46 ∷ 46 ∷ []) ++ zeros 490)))))
+    word o 2 ++ (bytes_in o 2 12 ++ ((4 ∷ 1 ∷ 46 ∷ 0 ∷ 0 ∷ 0 ∷ [])
+    ++ (word o 2 ++ (bytes_in o 2 500 ++ ((4 ∷ 2 ∷ 46 ∷ 46 ∷ []) ++ zeros 490)))))
 
 -- its group's block and summary record
 unfoldable pub base_summary : Order → List ℕ
@@ -135,12 +142,14 @@ base_summary o = word o 1 ++ (word o 22 ++ (word o 29 ++ word o 6))
 
 unfoldable pub base_group : Order → List ℕ
 base_group o =
-    zeros 4 ++ (word o 590421 ++ (zeros 4 ++ (word o 0 ++ (zeros 4 ++ (word o 128 ++ (base_summary o ++ (zeros 12 ++ (word o 0 ++ (word o 0 ++ (word o 0
+    zeros 4 ++ (word o 590421 ++ (zeros 4 ++ (word o 0 ++ (zeros 4
+    ++ (word o 128 ++ (base_summary o ++ (zeros 12 ++ (word o 0 ++ (word o 0 ++ (word o 0
     ++ (word o 2 ++ (zeros 16 ++ (zeros 8 ++ (word o 168 ++ (word o 172 ++ (zeros 68
     ++ ((7 ∷ 0 ∷ 0 ∷ 0 ∷ 0 ∷ 0 ∷ 0 ∷ 0 ∷ 238 ∷ []) ++ replicate 11 255)))))))))))))))))
 
 -- the whole image, as far as it isn't zero
 unfoldable pub base_image : Order → List ℕ
 base_image o =
-    zeros 8192 ++ (base_super o ++ (zeros 6816 ++ (base_super o ++ (zeros 6816 ++ (base_group o ++ (zeros 4164 ++ (root_inode o ++ (zeros 3712
+    zeros 8192 ++ (base_super o ++ (zeros 6816 ++ (base_super o
+    ++ (zeros 6816 ++ (base_group o ++ (zeros 4164 ++ (root_inode o ++ (zeros 3712
     ++ (base_summary o ++ (zeros 4080 ++ (root_chunk o ++ zeros 93696)))))))))))

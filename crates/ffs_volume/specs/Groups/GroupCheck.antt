@@ -15,18 +15,20 @@ abbrev pub unless : Bool → BlockMessage → List BlockMessage
 unless true m = []
 unless false m = m ∷ []
 
+-- of a group whose magic number is right
 abbrev pub whole_group_lines : Layout → List ℕ → (ℕ → Bool) → (ℕ → Class) → ℕ → List BlockMessage
 whole_group_lines v image free class c =
     unless (is_record v free class c (summary_record v image c)) FreeCounts
     ++ (unless (are_places v (group_block v image c) && are_maps v free class c (group_block v image c)) MapsWrong
     ++ unless (are_sums v free class c (group_block v image c)) GroupSums)
 
--- what a group's records say, all of it
+-- the lines of a group, repeated ones too; where its magic number is wrong, its summary record alone is compared
 abbrev pub group_lines : Layout → List ℕ → (ℕ → Bool) → (ℕ → Class) → ℕ → List BlockMessage
 group_lines v image free class c =
     if is_magic v (group_block v image c) then whole_group_lines v image free class c
     else GroupMagic c ∷ unless (is_record v free class c (summary_record v image c)) FreeCounts
 
+-- of all groups, and of the superblock's totals
 abbrev pub all_group_lines : Layout → List ℕ → List ℤ → (ℕ → Bool) → (ℕ → Class) → List BlockMessage
 all_group_lines v image totals free class =
     flat_map (group_lines v image free class) (group_numbers v) ++ unless (is_total v free class totals) FreeCounts
@@ -37,25 +39,30 @@ pub record ReportedOnce : Type 0 where
   pub maps : Bool
   pub sums : Bool
 
+-- the message is one of them
 abbrev pub is_reported : ReportedOnce → BlockMessage → Bool
 is_reported t FreeCounts = t.counts
 is_reported t MapsWrong = t.maps
 is_reported t GroupSums = t.sums
 is_reported t _ = false
 
+-- they and this message
 abbrev pub note_reported : ReportedOnce → BlockMessage → ReportedOnce
 note_reported t FreeCounts = record t { counts = true }
 note_reported t MapsWrong = record t { maps = true }
 note_reported t GroupSums = record t { sums = true }
 note_reported t _ = t
 
+-- the messages without those that were reported
 abbrev pub reported_once : ReportedOnce → List BlockMessage → List BlockMessage
 reported_once t [] = []
 reported_once t (m ∷ ms) = if is_reported t m then reported_once t ms else m ∷ reported_once (note_reported t m) ms
 
+-- none was reported
 abbrev pub unreported : ReportedOnce
 unreported = record { counts = false; maps = false; sums = false }
 
+-- the lines of phase 5
 unfoldable pub phase5_lines : Layout → List ℕ → List ℤ → (ℕ → Bool) → (ℕ → Class) → List BlockMessage
 phase5_lines v image totals free class = reported_once unreported (all_group_lines v image totals free class)
 
@@ -64,4 +71,5 @@ abbrev pub is_free_of_kept : Layout → List Owner → ℕ → Bool
 is_free_of_kept v os f = nat_lt f v.size && not (is_set (after_owners v (no_claims v) os).used f)
 
 abbrev pub is_free_of_runs : Layout → List Owner → ℕ → Bool
-is_free_of_runs v os f = nat_lt f v.size && not (is_reserved v f || list_any (λ g. g == f) (fragments_of (all_steps os)))
+is_free_of_runs v os f =
+    nat_lt f v.size && not (is_reserved v f || list_any (λ g. g == f) (fragments_of (all_steps os)))

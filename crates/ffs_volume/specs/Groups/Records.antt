@@ -1,20 +1,20 @@
--- What the records of cylinder groups should be, counted from the free fragments and the classes.
+-- What the records of cylinder groups should be. All is counted from two tests: `free` says which fragments are below
+-- the size and not used, and `class` is the class of an inode from 2 on.
 use Rattle.std.specs.Prelude.{ℕ, Bool, true, false, ◌+◌, ◌-◌, ◌*◌, ◌/◌, ◌%◌, ◌^◌, min, ◌&&◌, ◌||◌, not, List, [], ◌∷◌, ◌++◌, ◌==◌, nat_lt, nat_le, if◌then◌else◌, map, count_by, slice_index, ◌≡◌, ◌<◌, ℤ, pos}
 use Rattle.std.specs.List.{list_all, range_with_len, sum_by, slice_index_or}
 use Rattle.std.specs.Int.{div_ceil}
 use Rattle.ffs_volume.specs.declared.TheConstants.{CG_MAGIC}
 use Rattle.ffs_volume.specs.declared.Layout.{Layout}
 use Rattle.ffs_volume.specs.declared.Class.{Class}
-use Rattle.ffs_volume.specs.declared.Class.TheVariants.{Unknown, File, Dir}
 use Rattle.ffs_volume.specs.Disk.Numbers.{u32_at, piece, all_below, is_count}
 use Rattle.ffs_volume.specs.Disk.Areas.{cgbase, group_place, summary_place}
 use Rattle.ffs_volume.specs.Blocks.Inodes.{is_directory, is_allocated}
 
--- Everything is counted from two tests: `free` says which fragments are below the size and not used, and
--- `class` is the class of an inode from 2 on.
+-- the inode is used: 0 and 1, which are no file's, and each that is allocated
 abbrev pub is_used_inode : (ℕ → Class) → ℕ → Bool
 is_used_inode class x = nat_lt x 2 || is_allocated (class x)
 
+-- the inode is a directory
 abbrev pub is_dir : (ℕ → Class) → ℕ → Bool
 is_dir class x = nat_le 2 x && is_directory (class x)
 
@@ -29,19 +29,21 @@ block_numbers v = range_with_len 0 (v.fpg / v.frag)
 abbrev pub block_bits : Layout → (ℕ → Bool) → ℕ → ℕ → List Bool
 block_bits v free c b = map free (range_with_len (cgbase v c + b * v.frag) v.frag)
 
+-- all fragments of a block are free
 abbrev pub is_whole : List Bool → Bool
 is_whole bits = list_all (λ b. b) bits
 
--- the lengths of the longest runs of free fragments, where n free ones are before
+-- the run that n free fragments make, if there are any
 abbrev pub run_of : ℕ → List ℕ
 run_of n = if n == 0 then [] else n ∷ []
 
+-- the lengths of the longest runs of free fragments, where n free ones are before
 abbrev pub free_runs : ℕ → List Bool → List ℕ
 free_runs n [] = run_of n
 free_runs n (true ∷ bits) = free_runs (n + 1) bits
 free_runs n (false ∷ bits) = run_of n ++ free_runs 0 bits
 
--- the four counts of a summary, in their order
+-- a summary (struct csum), in its order: directories, free blocks, free inodes, free fragments of other blocks
 pub record Summary : Type 0 where
   pub dirs : ℕ
   pub blocks : ℕ
@@ -52,21 +54,28 @@ pub record Summary : Type 0 where
 abbrev pub group_inodes : Layout → ℕ → List ℕ
 group_inodes v c = range_with_len (c * v.ipg) v.ipg
 
+-- the right summary of group c
 unfoldable pub right_summary : Layout → (ℕ → Bool) → (ℕ → Class) → ℕ → Summary
 right_summary v free class c = record {
   dirs = count_by (is_dir class) (group_inodes v c);
   blocks = count_by (λ b. is_whole (block_bits v free c b)) (block_numbers v);
   inodes = count_by (λ x. not (is_used_inode class x)) (group_inodes v c);
-  fragments = sum_by (λ b. if is_whole (block_bits v free c b) then 0 else count_by (λ f. f) (block_bits v free c b)) (block_numbers v);
+  fragments =
+      sum_by (λ b. if is_whole (block_bits v free c b) then 0 else count_by (λ f. f) (block_bits v free c b))
+      (block_numbers v);
 }
 
+-- the right frsum[k]: how many runs of exactly k free fragments there are in the blocks that aren't all free
 unfoldable pub right_frsum : Layout → (ℕ → Bool) → ℕ → ℕ → ℕ
 right_frsum v free c k =
-    sum_by (λ b. if is_whole (block_bits v free c b) then 0 else count_by (λ n. n == k) (free_runs 0 (block_bits v free c b))) (block_numbers v)
+    sum_by (λ b. if is_whole (block_bits v free c b) then 0
+    else count_by (λ n. n == k) (free_runs 0 (block_bits v free c b)))
+    (block_numbers v)
 
 abbrev pub group_numbers : Layout → List ℕ
 group_numbers v = range_with_len 0 v.ncg
 
+-- the right totals of the superblock: the sums over all groups
 unfoldable pub right_total : Layout → (ℕ → Bool) → (ℕ → Class) → Summary
 right_total v free class = record {
   dirs = sum_by (λ c. (right_summary v free class c).dirs) (group_numbers v);
@@ -82,22 +91,26 @@ group_block v image c = piece (group_place v c) v.cgsize image
 abbrev pub summary_record : Layout → List ℕ → ℕ → List ℕ
 summary_record v image c = piece (summary_place v c) 16 image
 
--- the counts are below 2^31, so that the bytes of a count are those of the signed number
+-- the four counts at a place are those of s, which are below 2^31: so their bytes are those of the signed numbers
 abbrev pub has_summary : Layout → ℕ → List ℕ → Summary → Bool
 has_summary v place bytes s =
     u32_at v.order place bytes == s.dirs && (u32_at v.order (place + 4) bytes == s.blocks
     && (u32_at v.order (place + 8) bytes == s.inodes && u32_at v.order (place + 12) bytes == s.fragments))
 
+-- bit k of the map at a place
 abbrev pub bit_at : List ℕ → ℕ → ℕ → Bool
 bit_at block place k = (slice_index block (place + k / 8) / 2 ^ (k % 8)) % 2 == 1
 
+-- both are set, or neither is
 abbrev pub same_bit : Bool → Bool → Bool
 same_bit true b = b
 same_bit false b = not b
 
+-- the first n bits of the map at a place are as the test says
 abbrev pub has_bits : List ℕ → ℕ → ℕ → (ℕ → Bool) → Bool
 has_bits block place n bits = all_below n (λ k. same_bit (bit_at block place k) (bits k))
 
+-- where the group's maps are in its block: iusedoff and freeoff
 abbrev pub inode_map_place : Layout → List ℕ → ℕ
 inode_map_place v block = u32_at v.order 92 block
 
@@ -107,22 +120,27 @@ fragment_map_place v block = u32_at v.order 96 block
 -- the maps end within the group block
 unfoldable pub are_places : Layout → List ℕ → Bool
 are_places v block =
-    nat_le (inode_map_place v block + div_ceil v.ipg 8) v.cgsize && nat_le (fragment_map_place v block + div_ceil v.fpg 8) v.cgsize
+    nat_le (inode_map_place v block + div_ceil v.ipg 8) v.cgsize
+    && nat_le (fragment_map_place v block + div_ceil v.fpg 8) v.cgsize
 
+-- the magic number of a group block is right
 unfoldable pub is_magic : Layout → List ℕ → Bool
 is_magic v block = u32_at v.order 4 block == CG_MAGIC
 
+-- both maps are right
 unfoldable pub are_maps : Layout → (ℕ → Bool) → (ℕ → Class) → ℕ → List ℕ → Bool
 are_maps v free class c block =
     has_bits block (inode_map_place v block) v.ipg (λ k. is_used_inode class (c * v.ipg + k))
     && has_bits block (fragment_map_place v block) (group_size v c) (λ k. free (cgbase v c + k))
 
+-- the group's number, its number of fragments, its summary and its frsum are right (cgx, ndblk, cs, frsum)
 unfoldable pub are_sums : Layout → (ℕ → Bool) → (ℕ → Class) → ℕ → List ℕ → Bool
 are_sums v free class c block =
     u32_at v.order 12 block == c && (u32_at v.order 20 block == group_size v c
     && (has_summary v 24 block (right_summary v free class c)
     && all_below 8 (λ k. u32_at v.order (52 + 4 * k) block == right_frsum v free c k)))
 
+-- the bytes of the group's summary record are right
 unfoldable pub is_record : Layout → (ℕ → Bool) → (ℕ → Class) → ℕ → List ℕ → Bool
 is_record v free class c bytes = has_summary v 0 bytes (right_summary v free class c)
 
@@ -130,12 +148,14 @@ is_record v free class c bytes = has_summary v 0 bytes (right_summary v free cla
 abbrev pub has_totals : List ℤ → Summary → Bool
 has_totals total s =
     is_count (slice_index_or total 0 (pos 0)) s.dirs && (is_count (slice_index_or total 1 (pos 0)) s.blocks
-    && (is_count (slice_index_or total 2 (pos 0)) s.inodes && is_count (slice_index_or total 3 (pos 0)) s.fragments))
+    && (is_count (slice_index_or total 2 (pos 0)) s.inodes
+    && is_count (slice_index_or total 3 (pos 0)) s.fragments))
 
+-- the totals are right
 unfoldable pub is_total : Layout → (ℕ → Bool) → (ℕ → Class) → List ℤ → Bool
 is_total v free class total = has_totals total (right_total v free class)
 
--- all groups are right
+-- the group block and the summary record of group c are right
 pub record GroupRight (v : Layout) (image : List ℕ) (free : ℕ → Bool) (class : ℕ → Class) (c : ℕ) : Type 0 where
   pub magic : is_magic v (group_block v image c) ≡ true
   pub places : are_places v (group_block v image c) ≡ true
@@ -143,6 +163,8 @@ pub record GroupRight (v : Layout) (image : List ℕ) (free : ℕ → Bool) (cla
   pub sums : are_sums v free class c (group_block v image c) ≡ true
   pub record_is : is_record v free class c (summary_record v image c) ≡ true
 
-pub record GroupsRight (v : Layout) (image : List ℕ) (totals : List ℤ) (free : ℕ → Bool) (class : ℕ → Class) : Type 0 where
+-- all groups are right, and so are the superblock's totals
+pub record GroupsRight (v : Layout) (image : List ℕ) (totals : List ℤ) (free : ℕ → Bool) (class : ℕ → Class)
+    : Type 0 where
   pub groups : (c : ℕ) → c < v.ncg → GroupRight v image free class c
   pub total : is_total v free class totals ≡ true

@@ -12,4 +12,5 @@ pub record IsSound (v : Layout) (size : ℕ) : Type 0 where
 
 -- each accepted superblock has one
 abbrev pub AcceptedAreSound : Type 0
-AcceptedAreSound = (image : List ℕ) (sector : Option ℕ) (s : Superblock) → outcome image sector ≡ Ok s → IsSound s.layout (length image)
+AcceptedAreSound = (image : List ℕ) (sector : Option ℕ) (s : Superblock) → outcome image sector ≡ Ok s
+    → IsSound s.layout (length image)

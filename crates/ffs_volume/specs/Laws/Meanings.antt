@@ -12,7 +12,7 @@ use Rattle.ffs_volume.specs.Blocks.FirstOffers.{Firsts}
 use Rattle.ffs_volume.specs.Groups.Records.{right_summary}
 use Rattle.ffs_volume.specs.Directories.Graph.{Graph, level}
 use Rattle.ffs_volume.specs.Directories.Levels.{IsLevel}
-use Rattle.ffs_volume.specs.Directories.Paths.{dir_path, entry_path}
+use Rattle.ffs_volume.specs.Directories.Paths.{MAXPATHLEN, dir_path, entry_path}
 
 -- the kept offers of an inode are the first of its offers, and all of them where it isn't cut
 abbrev pub KeptAreFirst : Type 0
@@ -29,8 +29,8 @@ LevelsAreLeast = (g : Graph) (k d : ℕ) → LevelMeaning g k d
 
 -- a path has at most 1,024 bytes
 pub record PathsFit (g : Graph) (d : ℕ) : Type 0 where
-  pub of_dir : length (dir_path g d) ≤ 1024
-  pub of_entry : (name : List ℕ) → length name ≤ 255 → length (entry_path g d name) ≤ 1024
+  pub of_dir : length (dir_path g d) ≤ MAXPATHLEN
+  pub of_entry : (name : List ℕ) → length name ≤ 255 → length (entry_path g d name) ≤ MAXPATHLEN
 
 abbrev pub AllPathsFit : Type 0
 AllPathsFit = (g : Graph) (d : ℕ) → PathsFit g d
@@ -38,4 +38,5 @@ AllPathsFit = (g : Graph) (d : ℕ) → PathsFit g d
 -- the free blocks and loose fragments of a group are all its free fragments
 abbrev pub SumsAreWhole : Type 0
 SumsAreWhole = (v : Layout) (free : ℕ → Bool) (class : ℕ → Class) (c : ℕ) → 0 < v.frag → v.fpg % v.frag ≡ 0 →
-    v.frag * (right_summary v free class c).blocks + (right_summary v free class c).fragments ≡ count_by free (range_with_len (cgbase v c) v.fpg)
+    v.frag * (right_summary v free class c).blocks + (right_summary v free class c).fragments
+    ≡ count_by free (range_with_len (cgbase v c) v.fpg)

@@ -6,7 +6,8 @@ use Rattle.ffs_volume.specs.declared.BlockMessage.{BlockMessage}
 use Rattle.ffs_volume.specs.declared.Label.{Label}
 use Rattle.ffs_volume.specs.declared.SuperFault.{SuperFault}
 
--- a message on directories, their entries or references. Paths and names are kept as they are; the text of a message shows them
+-- a message on directories, their entries or references. Paths and names are kept as they are; the text of a message
+-- shows them
 pub data NameMessage : Type 0 where
   root_none : NameMessage
   root_not_dir : NameMessage
@@ -39,7 +40,8 @@ pub data NameMessage : Type 0 where
   unref_zero : (label : Label) (about : Attr) → NameMessage
   link_count : (label : Label) (about : Attr) (nlink : ℤ) (references : ℕ) → NameMessage
 
--- a message of a report: of the opening, a heading, a message of a phase, the summary, or the end of a run that isn't completed
+-- a message of a report: of the opening, a heading, a message of a phase, the summary, or the end of a run that isn't
+-- completed
 pub data Message : Type 0 where
   location : (sector : ℕ) → Message
   opening : (name : List ℕ) → Message
@@ -59,6 +61,7 @@ pub data Message : Type 0 where
   of_names : (message : NameMessage) → Message
   summary : (files used : ℕ) (free frags blocks tenths : ℤ) → Message
 
+-- the message reports an inconsistency; a refused superblock or a failed read ends the run instead
 abbrev pub is_defect : Message → Bool
 is_defect (location sector) = false
 is_defect (opening name) = false

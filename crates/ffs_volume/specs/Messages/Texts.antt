@@ -43,13 +43,14 @@ path_text head about label path tail = inode_text head about (concat (path_label
 
 -- a directory with its attributes and its path, and the name of the entry in the place of `.` or `..`
 abbrev pub name_in_the_way : List ℕ → Attr → List ℕ → List ℕ → List ℕ → List ℕ
-name_in_the_way head about path why name = inode_text head about (concat (codes "\nDIR=" ∷ map shown path ∷ why ∷ map shown name ∷ codes "\n" ∷ []))
+name_in_the_way head about path why name =
+    inode_text head about (concat (codes "\nDIR=" ∷ map shown path ∷ why ∷ map shown name ∷ codes "\n" ∷ []))
 
 -- a number between two texts
 abbrev pub number_text : List ℕ → ℕ → List ℕ → List ℕ
 number_text head number tail = concat (head ∷ decimal number ∷ tail ∷ [])
 
--- the line of a superblock that is refused
+-- the line of a superblock that is refused; `fault_line` of Opening makes another message of CannotRead
 abbrev pub fault_text : SuperFault → List ℕ
 fault_text (CannotRead sector) = number_text (codes "CAN NOT READ: BLK ") sector (codes "\n")
 fault_text Magic = codes "BAD SUPER BLOCK: MAGIC NUMBER WRONG\n"
@@ -68,7 +69,8 @@ claim_text fragment what inode = concat (decimal fragment ∷ what ∷ decimal i
 
 -- an inode's own count of blocks, and the right one
 abbrev pub block_count_text : ℕ → ℕ → ℕ → List ℕ
-block_count_text inode found right = concat (codes "INCORRECT BLOCK COUNT I=" ∷ decimal inode ∷ codes " (" ∷ decimal found
+block_count_text inode found right = concat (
+    codes "INCORRECT BLOCK COUNT I=" ∷ decimal inode ∷ codes " (" ∷ decimal found
     ∷ codes " should be " ∷ decimal right ∷ codes ")\nCORRECT? no\n\n" ∷ [])
 
 -- the block check and the check of cylinder groups
@@ -88,11 +90,14 @@ block_text GroupSums = codes "SUMMARY INFORMATION BAD\nSALVAGE? no\n\n"
 
 -- a directory some of whose blocks are empty
 abbrev pub empty_text : List ℕ → List ℕ
-empty_text path = concat (codes "DIRECTORY " ∷ map shown path ∷ codes ": CONTAINS EMPTY BLOCKS\nADJUST LENGTH? no\n\n" ∷ [])
+empty_text path =
+    concat (codes "DIRECTORY " ∷ map shown path ∷ codes ": CONTAINS EMPTY BLOCKS\nADJUST LENGTH? no\n\n" ∷ [])
 
--- a directory whose size is no multiple of a chunk's
+-- a directory whose size is no multiple of 512
 abbrev pub length_text : List ℕ → ℕ → List ℕ
-length_text path size = concat (codes "DIRECTORY " ∷ map shown path ∷ codes ": LENGTH " ∷ decimal size ∷ codes " NOT MULTIPLE OF 512\nADJUST? no\n\n" ∷ [])
+length_text path size = concat (
+    codes "DIRECTORY " ∷ map shown path ∷ codes ": LENGTH " ∷ decimal size
+    ∷ codes " NOT MULTIPLE OF 512\nADJUST? no\n\n" ∷ [])
 
 -- an entry by its number and its path
 abbrev pub entry_text : List ℕ → ℕ → List ℕ → List ℕ → List ℕ
@@ -101,11 +106,14 @@ entry_text head number path tail = concat (head ∷ decimal number ∷ codes "\n
 -- an entry that is a further link to a directory
 abbrev pub extraneous_text : List ℕ → List ℕ → List ℕ
 extraneous_text path directory =
-    concat (map shown path ∷ codes " IS AN EXTRANEOUS HARD LINK TO DIRECTORY " ∷ map shown directory ∷ codes "\nREMOVE? no\n\n" ∷ [])
+    concat (map shown path ∷ codes " IS AN EXTRANEOUS HARD LINK TO DIRECTORY " ∷ map shown directory
+    ∷ codes "\nREMOVE? no\n\n" ∷ [])
 
 -- the count of links and the count of references
 abbrev pub counts_text : ℤ → ℕ → List ℕ
-counts_text nlink references = concat (codes "\nCOUNT=" ∷ signed_decimal nlink ∷ codes " SHOULD BE " ∷ decimal references ∷ codes "\nADJUST? no\n\n" ∷ [])
+counts_text nlink references = concat (
+    codes "\nCOUNT=" ∷ signed_decimal nlink ∷ codes " SHOULD BE " ∷ decimal references
+    ∷ codes "\nADJUST? no\n\n" ∷ [])
 
 abbrev pub links_text : Label → Attr → ℤ → ℕ → List ℕ
 links_text label about nlink references = kind_text (codes "LINK COUNT ") label about (counts_text nlink references)
@@ -127,7 +135,8 @@ name_text (kind_dot about path) = path_text (codes "BAD TYPE VALUE FOR '.' ") ab
 name_text (missing_dotdot about path) = path_text (codes "MISSING '..' ") about Dir path (codes "\nFIX? no\n\n")
 name_text (missing_dotdot_second about path name) =
     name_in_the_way (codes "MISSING '..' ") about path (codes "\nCANNOT FIX, SECOND ENTRY IN DIRECTORY CONTAINS ") name
-name_text (number_dotdot about path) = path_text (codes "BAD INODE NUMBER FOR '..' ") about Dir path (codes "\nFIX? no\n\n")
+name_text (number_dotdot about path) =
+    path_text (codes "BAD INODE NUMBER FOR '..' ") about Dir path (codes "\nFIX? no\n\n")
 name_text (kind_dotdot about path) = path_text (codes "BAD TYPE VALUE FOR '..' ") about Dir path (codes "\nFIX? no\n\n")
 name_text (extra_dot about path) = path_text (codes "EXTRA '.' ENTRY ") about Dir path (codes "\nFIX? no\n\n")
 name_text (extra_dotdot about path) = path_text (codes "EXTRA '..' ENTRY ") about Dir path (codes "\nFIX? no\n\n")
@@ -145,12 +154,13 @@ name_text (unref label about) = kind_text (codes "UNREF ") label about (codes "\
 name_text (unref_zero label about) = kind_text (codes "UNREF ") label about (codes "\nCLEAR? no\n\n")
 name_text (link_count label about nlink references) = links_text label about nlink references
 
--- each number with what is after it; the share in tenths, its sign first
+-- each number with what is after it; the fragmentation in tenths of a percent, its sign first
 abbrev pub summary_text : (files used : ℕ) (free frags blocks tenths : ℤ) → List ℕ
 summary_text files used free frags blocks tenths = concat (
     (decimal files ++ codes " files, ") ∷ (decimal used ++ codes " used, ") ∷ (signed_decimal free ++ codes " free (")
     ∷ (signed_decimal frags ++ codes " frags, ") ∷ (signed_decimal blocks ++ codes " blocks, ")
-    ∷ sign_text tenths ∷ (decimal (unsigned_abs tenths / 10) ++ codes ".") ∷ (decimal (unsigned_abs tenths % 10) ++ codes "% fragmentation)\n") ∷ [])
+    ∷ sign_text tenths ∷ (decimal (unsigned_abs tenths / 10) ++ codes ".")
+    ∷ (decimal (unsigned_abs tenths % 10) ++ codes "% fragmentation)\n") ∷ [])
 
 -- the image's name is printed as it was given
 abbrev pub opening_text : List ℕ → List ℕ
@@ -159,9 +169,10 @@ opening_text name = concat (codes "** " ∷ name ∷ codes " (NO WRITE)\n" ∷ [
 abbrev pub mounted_text : List ℕ → List ℕ
 mounted_text mount = concat (codes "** Last Mounted on " ∷ map shown mount ∷ codes "\n" ∷ [])
 
--- a setting that is no percentage
+-- a minfree that is no percentage
 abbrev pub minfree_text : ℤ → List ℕ
-minfree_text value = concat (codes "IMPOSSIBLE MINFREE=" ∷ signed_decimal value ∷ codes " IN SUPERBLOCK\nSET TO DEFAULT? no\n\n" ∷ [])
+minfree_text value = concat (
+    codes "IMPOSSIBLE MINFREE=" ∷ signed_decimal value ∷ codes " IN SUPERBLOCK\nSET TO DEFAULT? no\n\n" ∷ [])
 
 -- the bytes of a message
 abbrev pub text_of : Message → List ℕ
@@ -183,6 +194,6 @@ text_of (of_blocks message) = block_text message
 text_of (of_names message) = name_text message
 text_of (summary files used free frags blocks tenths) = summary_text files used free frags blocks tenths
 
--- the bytes of messages, one after another
+-- the bytes of messages, one after another; those of `report_of` are the output of a completed run
 abbrev pub texts_of : List Message → List ℕ
 texts_of messages = flat_map text_of messages

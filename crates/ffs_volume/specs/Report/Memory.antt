@@ -3,7 +3,8 @@ use Rattle.std.specs.Prelude.{ℕ, ◌+◌, ◌*◌}
 use Rattle.std.specs.Int.{div_ceil}
 use Rattle.ffs_volume.specs.declared.Layout.{Layout}
 
--- the most bytes that the lists and buffers of a check take: three maps of the fragments, 25 bytes an inode, eight blocks and a page
+-- the most bytes that the lists and buffers of a check take: three maps of the fragments, 25 bytes an inode, eight
+-- blocks and a page
 abbrev pub held_limit : Layout → ℕ
 held_limit v = 3 * (8 * div_ceil v.size 64) + 25 * (v.ncg * v.ipg) + 8 * v.bsize + 4096
 

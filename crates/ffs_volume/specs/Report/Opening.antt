@@ -23,7 +23,7 @@ is_optimization s = is_up_to 1 s.optim
 abbrev pub is_minfree : Superblock → Bool
 is_minfree s = is_up_to 99 s.minfree
 
--- a message where a test fails
+-- `unless` of GroupCheck, for a Message
 abbrev pub unless_message : Bool → Message → List Message
 unless_message true message = []
 unless_message false message = message ∷ []
@@ -37,7 +37,7 @@ setting_lines s =
 abbrev pub super_lines : Superblock → List Message
 super_lines s = setting_lines s ++ (mounted (before_nul s.mount) ∷ [])
 
--- how a fault of the superblock is reported
+-- how a fault of the superblock is reported: a failed read by its own message, any other by its line
 abbrev pub fault_line : SuperFault → Message
 fault_line (CannotRead sector) = cannot_read sector
 fault_line Magic = bad_super Magic
@@ -55,6 +55,7 @@ abbrev pub location_lines : Option ℕ → List Message
 location_lines None = []
 location_lines (Some sector) = location sector ∷ []
 
+-- the lines before the superblock is read
 abbrev pub head_lines : List ℕ → Option ℕ → List Message
 head_lines name sector = location_lines sector ++ opening name ∷ []
 

@@ -24,14 +24,15 @@ use Rattle.ffs_volume.specs.Directories.Volumes.{class_at, volume_of}
 unfoldable pub file_count : Layout → List ℕ → ℕ
 file_count v image = count_by (λ x. is_file_or_dir (class_at v image x)) (inode_numbers v)
 
--- the claim count: how many Runs are seen in all
+-- how many Runs the block check looks at
 unfoldable pub claim_count : Layout → List ℕ → ℕ
 claim_count v image = (after_owners v (no_claims v) (owners_of v image)).runs
 
 -- how many fragments are claimed beside the reserved ones
 unfoldable pub used_count : Layout → List ℕ → ℕ
 used_count v image =
-    count_by (λ f. is_set (after_owners v (no_claims v) (owners_of v image)).used f && not (is_reserved v f)) (range_with_len 0 v.size)
+    count_by (λ f. is_set (after_owners v (no_claims v) (owners_of v image)).used f && not (is_reserved v f))
+    (range_with_len 0 v.size)
 
 -- the superblock's own counts of free fragments and of free blocks
 abbrev pub free_frags : Superblock → ℤ
@@ -46,14 +47,16 @@ summary_of s files used =
     summary files used (free_frags s +ℤ pos s.layout.frag *ℤ free_blocks s) (free_frags s) (free_blocks s)
     (int_div (free_frags s *ℤ pos 1000) (pos s.layout.dsize))
 
--- the second look at the blocks
+-- phase 1b, where it runs
 abbrev pub rescan_lines : Layout → List ℕ → List Message
-rescan_lines v image = if has_rescan v (owners_of v image) then phase1b ∷ map of_blocks (phase1b_lines v (owners_of v image)) else []
+rescan_lines v image =
+    if has_rescan v (owners_of v image) then phase1b ∷ map of_blocks (phase1b_lines v (owners_of v image)) else []
 
 -- the group check, of the fragments that no kept offer claims
 abbrev pub group_check_lines : List ℕ → Superblock → List Message
 group_check_lines image s =
-    map of_blocks (phase5_lines s.layout image s.cstotal (is_free_of_kept s.layout (owners_of s.layout image)) (class_at s.layout image))
+    map of_blocks (phase5_lines s.layout image s.cstotal (is_free_of_kept s.layout (owners_of s.layout image))
+    (class_at s.layout image))
 
 -- phases 3 to 5 and the summary
 unfoldable pub later_lines : List ℕ → Superblock → List Message
@@ -75,12 +78,13 @@ text_lines image s =
 unfoldable pub report_lines : List ℕ → Superblock → List Message
 report_lines image s = super_lines s ++ text_lines image s
 
--- how a run ends that continues after the root, and has reported a defect
+-- how a run ends, by whether it continues after the root and whether it has reported a defect
 abbrev pub end_by : Bool → Bool → End
 end_by true true = Defects
 end_by true false = Consistent
 end_by false defect = RootStop
 
+-- how the run on an accepted superblock ends
 unfoldable pub end_of : List ℕ → Superblock → End
 end_of image s = end_by (goes_on (volume_of s.layout image)) (has_defect (report_lines image s))
 
