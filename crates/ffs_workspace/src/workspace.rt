@@ -194,7 +194,12 @@ impl Windows {
 }
 
 // Four lists with a flag for each inode.
-type Flags = (FixedList<bool>, FixedList<bool>, FixedList<bool>, FixedList<bool>);
+type Flags = (
+    FixedList<bool>,
+    FixedList<bool>,
+    FixedList<bool>,
+    FixedList<bool>,
+);
 
 fn four_flags<M: Memory>(memory: &mut M, n: usize) -> Result<Flags, AllocError>
     ensures first { IfOk result (λ p. p.0.items ≡ replicate n false) }
