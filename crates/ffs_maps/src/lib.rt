@@ -16,13 +16,13 @@ ghost use Rattle.std.specs.List.{slice_index_or, range_with_len};
 ghost use Rattle.std.specs.Int.{div_ceil, bit_at};
 ghost use Rattle.ffs_memory.specs.Account.{Asks};
 
-use ffs_memory::{Memory, SystemMemory};
+use ffs_memory::{FixedList, Memory, SystemMemory};
 use std::alloc::{AllocError, Global};
 
 /// A bit for each fragment, in words of 64.
 #[derive(Drop)]
 pub struct FragmentMap {
-    words: Vec<u64>,
+    words: FixedList<u64>,
     /// How many fragments.
     pub size: u32,
     ghost enough: { vec_len words ≡ div_ceil size 64 },

@@ -1,2 +1,3 @@
 pub mod Account
 pub mod Fuse
+pub mod Lending

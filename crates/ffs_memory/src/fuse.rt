@@ -2,6 +2,7 @@
 ghost use Rattle.std.specs.Prelude.{◌≡◌, ◌+◌, ◌-◌, ◌^◌, min, if◌then◌else◌};
 ghost use Rattle.ffs_memory.specs.Fuse.{is_blown, left_after};
 
+use crate::fixed_list::FixedList;
 use crate::memory::Memory;
 use std::alloc::AllocError;
 
@@ -59,28 +60,28 @@ impl<M: Memory> Memory for FuseMemory<M> {
         self.inner.refused().saturating_add(self.own)
     }
 
-    fn bytes(&mut self, n: usize) -> Result<Vec<u8>, AllocError> {
+    fn bytes(&mut self, n: usize) -> Result<FixedList<u8>, AllocError> {
         if self.blows() {
             return Err(AllocError);
         }
         self.inner.bytes(n)
     }
 
-    fn flags(&mut self, n: usize) -> Result<Vec<bool>, AllocError> {
+    fn flags(&mut self, n: usize) -> Result<FixedList<bool>, AllocError> {
         if self.blows() {
             return Err(AllocError);
         }
         self.inner.flags(n)
     }
 
-    fn words(&mut self, n: usize) -> Result<Vec<u32>, AllocError> {
+    fn words(&mut self, n: usize) -> Result<FixedList<u32>, AllocError> {
         if self.blows() {
             return Err(AllocError);
         }
         self.inner.words(n)
     }
 
-    fn long_words(&mut self, n: usize) -> Result<Vec<u64>, AllocError> {
+    fn long_words(&mut self, n: usize) -> Result<FixedList<u64>, AllocError> {
         if self.blows() {
             return Err(AllocError);
         }

@@ -2,6 +2,7 @@
 ghost use Rattle.std.specs.Prelude.{◌≡◌, ◌+◌, ◌-◌, ◌^◌, min};
 ghost use Rattle.ffs_memory.specs.Account.{Rose};
 
+use crate::fixed_list::FixedList;
 use crate::memory::Memory;
 use std::alloc::{AllocError, Global};
 
@@ -55,45 +56,45 @@ impl Memory for SystemMemory {
         self.refused
     }
 
-    fn bytes(&mut self, n: usize) -> Result<Vec<u8>, AllocError> {
+    fn bytes(&mut self, n: usize) -> Result<FixedList<u8>, AllocError> {
         let made: Result<Vec<u8>, AllocError> = vec![in self.alloc; 0u8; n];
         match made {
             Ok(items) => {
                 self.grant(n as u64);
-                Ok(items)
+                Ok(FixedList::new(items))
             }
             Err(fault) => Err(self.refuse(fault)),
         }
     }
 
-    fn flags(&mut self, n: usize) -> Result<Vec<bool>, AllocError> {
+    fn flags(&mut self, n: usize) -> Result<FixedList<bool>, AllocError> {
         let made: Result<Vec<bool>, AllocError> = vec![in self.alloc; false; n];
         match made {
             Ok(items) => {
                 self.grant(n as u64);
-                Ok(items)
+                Ok(FixedList::new(items))
             }
             Err(fault) => Err(self.refuse(fault)),
         }
     }
 
-    fn words(&mut self, n: usize) -> Result<Vec<u32>, AllocError> {
+    fn words(&mut self, n: usize) -> Result<FixedList<u32>, AllocError> {
         let made: Result<Vec<u32>, AllocError> = vec![in self.alloc; 0u32; n];
         match made {
             Ok(items) => {
                 self.grant(4u64.saturating_mul(n as u64));
-                Ok(items)
+                Ok(FixedList::new(items))
             }
             Err(fault) => Err(self.refuse(fault)),
         }
     }
 
-    fn long_words(&mut self, n: usize) -> Result<Vec<u64>, AllocError> {
+    fn long_words(&mut self, n: usize) -> Result<FixedList<u64>, AllocError> {
         let made: Result<Vec<u64>, AllocError> = vec![in self.alloc; 0u64; n];
         match made {
             Ok(items) => {
                 self.grant(8u64.saturating_mul(n as u64));
-                Ok(items)
+                Ok(FixedList::new(items))
             }
             Err(fault) => Err(self.refuse(fault)),
         }

@@ -5,6 +5,7 @@ ghost use Rattle.std.specs.Prelude.{◌≡◌, ◌*◌, ◌≤◌};
 use super::volume::{Stop, geometry, image_of, inode};
 use ffs_image::Image;
 use ffs_layout::{Entry, Geometry, Inode, Order};
+use ffs_memory::FixedList;
 use ffs_names::{Chunks, role_of};
 use ffs_volume::Role;
 use ffs_walk::{Blocks, Window};
@@ -46,8 +47,10 @@ fn chunks_of<I: Image>(
     requires { geometry.now.layout.size * geometry.now.layout.fsize ≤ (I.device image.old).size }
 {
     let size = geometry.layout.bsize as usize;
-    let mut blocks = Blocks::over(vec![in alloc; 0u8; 3 * size]?);
-    let mut window = Window::over(vec![in alloc; 0u8; size]?);
+    let buffer = vec![in alloc; 0u8; 3 * size]?;
+    let mut blocks = Blocks::over(FixedList::new(buffer));
+    let buffer = vec![in alloc; 0u8; size]?;
+    let mut window = Window::over(FixedList::new(buffer));
     let mut chunk = [0u8; 512];
     let mut chunks = Chunks::start(geometry, inode, cut);
     let mut found = Vec::new(alloc);

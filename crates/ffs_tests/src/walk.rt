@@ -5,6 +5,7 @@ ghost use Rattle.std.specs.Prelude.{◌≡◌, ◌*◌, ◌≤◌};
 use super::volume::{Number, ORDERS, Stop, Watched, geometry, image_of, inode};
 use ffs_image::{FuseImage, Image};
 use ffs_layout::{Geometry, Inode, Order};
+use ffs_memory::FixedList;
 use ffs_volume::{Class, Step};
 use ffs_walk::{Blocks, Walk, class_of};
 use std::alloc::{AllocError, Global};
@@ -37,7 +38,8 @@ fn steps<I: Image>(
 ) -> Result<(Vec<Step>, u64), Stop>
     requires { geometry.now.layout.size * geometry.now.layout.fsize ≤ (I.device image.old).size }
 {
-    let mut blocks = Blocks::over(vec![in alloc; 0u8; 3 * geometry.layout.bsize as usize]?);
+    let buffer = vec![in alloc; 0u8; 3 * geometry.layout.bsize as usize]?;
+    let mut blocks = Blocks::over(FixedList::new(buffer));
     let mut walk = Walk::start(geometry, inode);
     let mut steps = Vec::new(alloc);
     let mut gaps = 0u64;

@@ -8,11 +8,12 @@ ghost use Rattle.ffs_volume.specs.declared.Layout.{Layout};
 
 use ffs_image::{Image, ImageFault};
 use ffs_layout::Geometry;
+use ffs_memory::FixedList;
 
 /// The indirect blocks that a walk is in, one of each level, in one buffer. They are of one image.
 #[derive(Drop)]
 pub struct Blocks {
-    pub buffer: Vec<u8>,
+    pub buffer: FixedList<u8>,
     /// The addresses of the blocks that are held.
     pub held: [Option<u32>; 3],
 }
@@ -21,7 +22,7 @@ impl Blocks {
     ghost use Rattle.ffs_walk.specs.Windows.{BlocksHold, HasRoom, level_bytes};
 
     /// Blocks that hold nothing, over a buffer of at least three blocks' bytes. It takes no memory.
-    pub fn over(buffer: Vec<u8>) -> Blocks
+    pub fn over(buffer: FixedList<u8>) -> Blocks
         ensures buffer { result.buffer ≡ buffer }
         ensures holds { (layout : Layout) (contents : Option (List ℕ))
             → BlocksHold layout contents result }

@@ -5,11 +5,12 @@ ghost use Rattle.ffs_image.specs.Device.{Faulted, ForContents};
 ghost use Rattle.ffs_volume.specs.Disk.Numbers.{piece};
 
 use ffs_image::{Image, ImageFault};
+use ffs_memory::FixedList;
 
 /// A piece of an image that is kept between reads: bytes of one place, and of one image.
 #[derive(Drop)]
 pub struct Window {
-    pub buffer: Vec<u8>,
+    pub buffer: FixedList<u8>,
     /// Where the bytes are in the image.
     pub place: u64,
     /// How many bytes are held, at the start of the buffer.
@@ -20,7 +21,7 @@ impl Window {
     ghost use Rattle.ffs_walk.specs.Windows.{held_bytes, WindowHolds};
 
     /// A window that holds nothing. It takes no memory.
-    pub fn over(buffer: Vec<u8>) -> Window
+    pub fn over(buffer: FixedList<u8>) -> Window
         ensures buffer { result.buffer ≡ buffer }
         ensures empty { result.length ≡ 0 }
         ensures holds { (contents : Option (List ℕ)) → WindowHolds contents result }

@@ -9,7 +9,7 @@ ghost use Rattle.ffs_volume.specs.Report.Memory.{held_limit};
 use crate::table::Table;
 use ffs_layout::Geometry;
 use ffs_maps::FragmentMap;
-use ffs_memory::{Memory, SystemMemory};
+use ffs_memory::{FixedList, Memory, SystemMemory};
 use ffs_walk::{Blocks, Window};
 use std::alloc::{AllocError, Global};
 
@@ -34,23 +34,23 @@ pub struct Workspace {
     /// How many fragments are in `duplicates`.
     pub unreported: u32,
     /// What each inode is, in four bits.
-    pub kinds: Vec<u8>,
+    pub kinds: FixedList<u8>,
     /// The inodes of an unknown type, with a bad address or with a duplicate one.
-    pub marked: Vec<bool>,
+    pub marked: FixedList<bool>,
     /// The inodes that an entry names.
-    pub named: Vec<bool>,
+    pub named: FixedList<bool>,
     /// The directories that are reached from the root.
-    pub reached: Vec<bool>,
+    pub reached: FixedList<bool>,
     /// The directories that represent their cycle of parents: the least of each.
-    pub leaders: Vec<bool>,
+    pub leaders: FixedList<bool>,
     /// How many entries refer to each inode.
-    pub references: Vec<u64>,
+    pub references: FixedList<u64>,
     /// How many fragments an inode keeps whose eleventh duplicate cut it, else 0.
-    pub cut: Vec<u32>,
+    pub cut: FixedList<u32>,
     /// The parent of each directory, or 0.
-    pub parents: Vec<u32>,
+    pub parents: FixedList<u32>,
     /// The directories of one level below the root, and of the next.
-    pub queue: Vec<u32>,
+    pub queue: FixedList<u32>,
     /// How many Runs phase 1 has looked at.
     pub runs_seen: u64,
     /// How many Runs phase 1b has looked at.
@@ -194,7 +194,12 @@ impl Windows {
 }
 
 // Four lists with a flag for each inode.
-type Flags = (Vec<bool>, Vec<bool>, Vec<bool>, Vec<bool>);
+type Flags = (
+    FixedList<bool>,
+    FixedList<bool>,
+    FixedList<bool>,
+    FixedList<bool>,
+);
 
 fn four_flags<M: Memory>(memory: &mut M, n: usize) -> Result<Flags, AllocError>
     ensures first { IfOk result (λ p. p.0.items ≡ replicate n false) }
@@ -210,7 +215,7 @@ fn four_flags<M: Memory>(memory: &mut M, n: usize) -> Result<Flags, AllocError>
 }
 
 // Three lists with a word for each inode.
-type Words = (Vec<u32>, Vec<u32>, Vec<u32>);
+type Words = (FixedList<u32>, FixedList<u32>, FixedList<u32>);
 
 fn three_words<M: Memory>(memory: &mut M, n: usize) -> Result<Words, AllocError>
     ensures first { IfOk result (λ p. p.0.items ≡ replicate n 0) }

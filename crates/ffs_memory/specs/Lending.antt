@@ -1,0 +1,16 @@
+-- What a fixed list ends as, where its elements were lent.
+use Rattle.std.specs.Prelude.{ℕ, List}
+use Rattle.std.specs.Borrow.{Lends, Fml, RattleType, MutBor, Array}
+use Rattle.std.specs.Vec.{with_item, with_items}
+use Rattle.std.specs.declared.vec.Vec.{Vec}
+use Rattle.std.specs.declared.alloc.Global.{Global}
+use Rattle.ffs_memory.specs.contracts.fixed_list.FixedList.{the_row}
+
+module _ (T : RattleType) (list : MutBor (Vec T.Denot Global)) where
+  -- it ends with the last elements that r shows
+  abbrev pub LendsItems : MutBor (List T.Denot) → Fml
+  LendsItems r = Lends (the_row T) (Array T 0) list r (with_items list.now)
+
+  -- it ends with its element i as the last value behind r
+  abbrev pub LendsItem : ℕ → MutBor T.Denot → Fml
+  LendsItem i r = Lends (the_row T) T list r (with_item list.now i)
