@@ -32,6 +32,7 @@ impl<T> FixedList<T> {
     }
 
     /// How many elements it has.
+    #[inline(always)]
     pub fn len(&self) -> usize
         ensures { result ≡ vec_len self.now }
     {
@@ -39,6 +40,7 @@ impl<T> FixedList<T> {
     }
 
     /// Its elements.
+    #[inline(always)]
     pub fn as_slice(&self) -> &[T]
         ensures value { result.now ≡ self.now.items }
         ensures len { length result.now ≡ vec_len self.now }
@@ -47,6 +49,7 @@ impl<T> FixedList<T> {
     }
 
     /// Its elements, to be changed.
+    #[inline(always)]
     pub fn as_mut_slice(&mut self) -> &mut [T]
         ensures* writes_back { sem 𝓛 (LendsItems T.row self.entry result) }
         ensures value { result.now ≡ self.old.items }
@@ -61,6 +64,7 @@ impl<T> DerefSlice for FixedList<T> {
 
     ghost deref_gives = { λ list xs. (xs ≡ list.items) × (length xs ≡ vec_len list) };
 
+    #[inline(always)]
     fn deref(&self) -> &[T]
         ensures value { result.now ≡ self.now.items }
         ensures len { length result.now ≡ vec_len self.now }
@@ -72,6 +76,7 @@ impl<T> DerefSlice for FixedList<T> {
 impl<T> DerefSliceMut for FixedList<T> {
     ghost use Rattle.ffs_memory.specs.Lending.{LendsItems};
 
+    #[inline(always)]
     fn deref_mut(&mut self) -> &mut [T]
         ensures* writes_back { sem 𝓛 (LendsItems T.row self.entry result) }
         ensures value { result.now ≡ self.old.items }
@@ -88,6 +93,7 @@ impl<T> Index<usize> for FixedList<T> {
 
     ghost index_gives = { λ list i x. x ≡ slice_index_or list.items i x };
 
+    #[inline(always)]
     fn index(&self, index: usize) -> &T
         requires { index < vec_len self.now }
         ensures { result.now ≡ slice_index_or self.now.items index result.now }
@@ -99,6 +105,7 @@ impl<T> Index<usize> for FixedList<T> {
 impl<T> IndexMut<usize> for FixedList<T> {
     ghost use Rattle.ffs_memory.specs.Lending.{LendsItem};
 
+    #[inline(always)]
     fn index_mut(&mut self, index: usize) -> &mut T
         requires { index < vec_len self.old }
         ensures* writes_back { sem 𝓛 (LendsItem T.row self.entry index result) }
