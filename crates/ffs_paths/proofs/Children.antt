@@ -1,14 +1,20 @@
 -- A directory's path is that of its entry in its parent.
-use Rattle.std.proofs.Common.{◌≡◌, ◌≢◌, ℕ, zero, suc, ◌<◌, ◌==◌, true, List, [], ◌∷◌, ◌++◌, Option, Some, None, refl, sym, ap, subst, ◌∙◌, arith}
-use Rattle.std.specs.Prelude.{◌≤◌, option_map}
+use Rattle.std.proofs.Common.{◌≡◌, ◌≢◌, ℕ, zero, suc, ◌<◌, Bool, true, false, if◌then◌else◌, List, [], ◌∷◌, ◌++◌, Some, refl, sym, ap, subst, ◌∙◌, arith}
+use Rattle.std.specs.Prelude.{option_map}
 use Rattle.std.specs.Option.{unwrap_or}
 use Rattle.std.specs.List.{list_any}
 use Rattle.std.proofs.lemmas.Bool.{and_parts}
 use Rattle.ffs_volume.specs.Directories.Graph.{Graph, level, reached, names, names_in, parent}
-use Rattle.ffs_volume.specs.Directories.Paths.{names_down, dir_names, dir_path, entry_path, dir_text, entry_text, path_text}
-use Rattle.ffs_volume.specs.Directories.Roles.{Volume, is_dir}
+use Rattle.ffs_volume.specs.Directories.Paths.{names_down, dir_path, entry_path, dir_text, entry_text, path_text}
+use Rattle.ffs_volume.specs.declared.Layout.{Layout}
+use Rattle.ffs_volume.specs.Directories.Parents.{graph_of}
+use Rattle.ffs_volume.specs.Directories.Roles.{Volume, is_dir, roled_entries}
+use Rattle.ffs_volume.specs.Directories.Volumes.{volume_of}
 use Rattle.ffs_survey.specs.ParentLaws.{parent_above, root_level}
 use Rattle.ffs_paths.specs.Climbing.{name_in}
+use Rattle.ffs_paths.specs.Siblings.{LeadsTo}
+use Rattle.ffs_paths.specs.Slashes.{AreSingle}
+use Rattle.ffs_paths.proofs.Single.{down_single}
 use Rattle.ffs_paths.proofs.Ways.{down_is, level_of}
 
 -- s is the parent of the directory d, whose path is that of the first entry of s that names it
@@ -45,3 +51,28 @@ child_is g d s h n e = let l = level_of g d h in go l.0 l.1
         let linked = and_parts (g.is_dir d) (names_in g a.0 d) a.1.linked in
         let dir = and_parts (g.is_dir a.0) (list_any (names d) (g.entries a.0)) linked.1 in
         subst (IsChild g d) (sym is) (record { parent = a.1.is; dir = dir.0; path = child_at g d k a.0 n l a.1.near a.1.is })
+
+pub leads_is : (v : Layout) (b : List ℕ) (d s : ℕ) → reached (graph_of (volume_of v b)) d ≡ true → d ≢ 2 → s ≡ unwrap_or (parent (graph_of (volume_of v b)) d) 0
+    → LeadsTo (graph_of (volume_of v b)) s d (name_in d (roled_entries (volume_of v b) s))
+leads_is v b d s h n e = let l = level_of g d h in go l.0 l.1
+  where
+    g : Graph
+    g = graph_of (volume_of v b)
+
+    go : (k : ℕ) → level g d ≡ Some k → LeadsTo g s d (name_in d (roled_entries (volume_of v b) s))
+    go zero l = absurd (n (root_level g d l))
+    go (suc k) l =
+        let a = parent_above g k d l in
+        let is : s ≡ a.0 = e ∙ ap (λ o. unwrap_or o 0) a.1.is in
+        let down = down_is g k d a.0 n a.1.is in
+        subst (λ p. LeadsTo g p d (name_in d (roled_entries (volume_of v b) p))) (sym is) (record {
+          names = names_down g k a.0;
+          above = ap (option_map (λ j. names_down g j a.0)) a.1.near;
+          below = ap (option_map (λ j. names_down g j d)) l ∙ ap Some down;
+          single = subst AreSingle down (down_single v b (suc k) d);
+        })
+
+-- what is known of a name that was found, of the child that is kept
+pub found_child : (P : ℕ → List ℕ → Type 0) (found : Bool) (child d : ℕ) (name last : List ℕ) → child ≡ (if found then d else 0) → name ≡ (if found then last else []) → 0 < child → P d name → P child last
+found_child P true child d name last e f some h = subst (λ c. P c last) (sym e) (subst (P d) f h)
+found_child P false child d name last e f some h = absurd (omega arith)
