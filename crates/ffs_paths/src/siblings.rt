@@ -1,6 +1,6 @@
 //! The paths of directories, where one after another has the same parent.
 
-ghost use Rattle.std.specs.Prelude.{◌≡◌, ◌*◌, ◌<◌, ◌≤◌, ℕ, List, true, Some, Option, OnOk, IfErr, IfSome, if◌then◌else◌, slice_index};
+ghost use Rattle.std.specs.Prelude.{◌≡◌, ◌*◌, ◌<◌, ◌≤◌, ℕ, List, true, Some, Option, IfOk, OnOk, IfErr, IfSome, if◌then◌else◌, slice_index};
 ghost use Rattle.ffs_image.specs.Device.{Faulted};
 ghost use Rattle.ffs_volume.specs.declared.Layout.{Layout};
 ghost use Rattle.ffs_volume.specs.Directories.Parents.{graph_of};
@@ -14,7 +14,7 @@ ghost use Rattle.ffs_paths.specs.DirectoryPaths.{IsPathOf};
 
 use crate::buffer::{PathBuffer, PathText};
 use crate::kept::DirectoryPath;
-use crate::path::{directory_path, path_of};
+use crate::path::directory_path;
 use crate::search::Search;
 use ffs_image::{Image, ImageFault};
 use ffs_layout::Geometry;
@@ -193,16 +193,15 @@ impl Siblings {
         self.begin(geometry, image, workspace, parent)
     }
 
-    /// Writes the path of a directory by its name in its parent.
-    fn put_child<I: Image>(
+    /// The path of a directory, by its name in its parent.
+    fn child_path<I: Image>(
         &mut self,
         geometry: &Geometry,
         image: &mut I,
         workspace: &mut Workspace,
         parent: u32,
         dir: u32,
-        text: &mut PathText,
-    ) -> Result<(), ImageFault>
+    ) -> Result<DirectoryPath, ImageFault>
         requires made { IsFor geometry.now.layout workspace.old }
         requires volume { geometry.now.layout.size * geometry.now.layout.fsize
             ≤ (I.device image.old).size }
@@ -215,10 +214,10 @@ impl Siblings {
         requires parent { parent ≡ slice_index workspace.old.parents.items dir }
         requires siblings { KeepSiblings geometry.now.layout (I.device image.old).contents
             workspace.old self.old }
-        ensures path { OnOk result ((b : List ℕ) → (I.device image.old).contents ≡ Some b
+        ensures path { IfOk result (λ path. (b : List ℕ) → (I.device image.old).contents ≡ Some b
             → HoldsClaims geometry.now.layout b workspace.old
             → HoldsSurvey geometry.now.layout b workspace.old
-            → text.new.items ≡ dir_path (graph_of (volume_of geometry.now.layout b)) dir) }
+            → IsPathOf (graph_of (volume_of geometry.now.layout b)) dir path) }
         ensures siblings { OnOk result (KeepSiblings geometry.now.layout
             (I.device image.old).contents workspace.old self.new) }
         ensures lists { SameLists workspace.old workspace.new }
@@ -237,9 +236,46 @@ impl Siblings {
             dir,
         )?;
         self.child = number_if(found, dir);
-        text.clear();
-        self.path.put_entry(self.search.found_name(found), text);
-        Ok(())
+        Ok(self.path.child(self.search.found_name(found)))
+    }
+
+    /// The path of a directory, for all lines on it and on its entries.
+    ///
+    /// # Errors
+    /// A read of the image that failed. Then no path is kept that is right.
+    pub fn path_to<I: Image>(
+        &mut self,
+        geometry: &Geometry,
+        image: &mut I,
+        workspace: &mut Workspace,
+        dir: u32,
+    ) -> Result<DirectoryPath, ImageFault>
+        requires made { IsFor geometry.now.layout workspace.old }
+        requires volume { geometry.now.layout.size * geometry.now.layout.fsize
+            ≤ (I.device image.old).size }
+        requires windows { HoldWindows geometry.now.layout (I.device image.old).contents
+            workspace.old }
+        requires number { dir < geometry.now.layout.ncg * geometry.now.layout.ipg }
+        requires siblings { KeepSiblings geometry.now.layout (I.device image.old).contents
+            workspace.old self.old }
+        ensures path { IfOk result (λ path. (b : List ℕ) → (I.device image.old).contents ≡ Some b
+            → HoldsClaims geometry.now.layout b workspace.old
+            → HoldsSurvey geometry.now.layout b workspace.old
+            → IsPathOf (graph_of (volume_of geometry.now.layout b)) dir path) }
+        ensures siblings { OnOk result (KeepSiblings geometry.now.layout
+            (I.device image.new).contents workspace.new self.new) }
+        ensures lists { SameLists workspace.old workspace.new }
+        ensures made { IsFor geometry.now.layout workspace.new }
+        ensures windows { HoldWindows geometry.now.layout (I.device image.new).contents
+            workspace.new }
+        ensures ok { OnOk result (I.device image.new ≡ I.device image.old) }
+        ensures err { IfErr result (λ fault. Faulted (I.device image.old) (I.device image.new)
+            fault.sector) }
+    {
+        match parent_above(geometry, workspace, dir) {
+            None => directory_path(geometry, image, workspace, dir),
+            Some(parent) => self.child_path(geometry, image, workspace, parent, dir),
+        }
     }
 
     /// Writes the path of a directory.
@@ -276,9 +312,9 @@ impl Siblings {
         ensures err { IfErr result (λ fault. Faulted (I.device image.old) (I.device image.new)
             fault.sector) }
     {
-        match parent_above(geometry, workspace, dir) {
-            None => path_of(geometry, image, workspace, dir, None, text),
-            Some(parent) => self.put_child(geometry, image, workspace, parent, dir, text),
-        }
+        let path = self.path_to(geometry, image, workspace, dir)?;
+        text.clear();
+        path.put(text);
+        Ok(())
     }
 }
