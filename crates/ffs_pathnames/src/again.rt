@@ -60,7 +60,7 @@ pub fn report_directory<I: Image, W: Output>(
     ensures made { IsFor geometry.now.layout workspace.new }
     ensures windows { HoldWindows geometry.now.layout (I.device image.new).contents workspace.new }
 {
-    let path = own_path(geometry, image, workspace, dir)?;
+    let path = own_path(geometry, image, workspace, siblings, dir)?;
     let cut = workspace.cut[dir as usize];
     let mut chunks = Chunks::start(geometry, inode, cut);
     let mut chunk = [0u8; 512];

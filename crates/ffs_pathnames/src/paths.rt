@@ -12,7 +12,7 @@ ghost use Rattle.ffs_paths.specs.Siblings.{KeepSiblings};
 
 use ffs_image::{Image, ImageFault};
 use ffs_layout::Geometry;
-use ffs_paths::{DirectoryPath, PathText, Siblings, directory_path};
+use ffs_paths::{DirectoryPath, PathText, Siblings};
 use ffs_workspace::Workspace;
 
 /// Puts the path of a directory into `text`.
@@ -52,6 +52,7 @@ pub fn own_path<I: Image>(
     geometry: &Geometry,
     image: &mut I,
     workspace: &mut Workspace,
+    siblings: &mut Siblings,
     dir: u32,
 ) -> Result<DirectoryPath, ImageFault>
     requires made { IsFor geometry.now.layout workspace.old }
@@ -59,16 +60,20 @@ pub fn own_path<I: Image>(
         ≤ (I.device image.old).size }
     requires windows { HoldWindows geometry.now.layout (I.device image.old).contents workspace.old }
     requires number { dir < geometry.now.layout.ncg * geometry.now.layout.ipg }
+    requires siblings { KeepSiblings geometry.now.layout (I.device image.old).contents workspace.old
+        siblings.old }
     ensures path { IfOk result (λ path. (b : List ℕ) → (I.device image.old).contents ≡ Some b
         → HoldsClaims geometry.now.layout b workspace.old
         → HoldsSurvey geometry.now.layout b workspace.old →
         IsPathOf (graph_of (volume_of geometry.now.layout b)) dir path) }
     ensures lists { LeavesMarks workspace.old workspace.new }
+    ensures siblings { OnOk result (KeepSiblings geometry.now.layout (I.device image.new).contents
+        workspace.new siblings.new) }
     ensures made { IsFor geometry.now.layout workspace.new }
     ensures windows { HoldWindows geometry.now.layout (I.device image.new).contents workspace.new }
     ensures ok { OnOk result (I.device image.new ≡ I.device image.old) }
     ensures err { IfErr result (λ fault. Faulted (I.device image.old) (I.device image.new)
         fault.sector) }
 {
-    directory_path(geometry, image, workspace, dir)
+    siblings.path_to(geometry, image, workspace, dir)
 }

@@ -15,7 +15,7 @@ unfolding longest_end
 end-whole most [] h = refl
 end-whole most (name ∷ names) h = end-all most name names h
 
-le_or : (n m : ℕ) → (P : Type 0) → (n ≤ m → P) → (m < n → P) → P
+pub le_or : (n m : ℕ) → (P : Type 0) → (n ≤ m → P) → (m < n → P) → P
 le_or n m P f g = go (nat_le n m) refl
   where
     go : (b : Bool) → nat_le n m ≡ b → P
@@ -34,7 +34,7 @@ pub joined-last : (names : List (List ℕ)) (name : List ℕ) → joined (names 
 joined-last [] name = ap (λ xs. 47 ∷ xs) (append-nil name)
 joined-last (x ∷ names) name = ap (λ xs. 47 ∷ (x ++ xs)) (joined-last names name) ∙ ap (λ xs. 47 ∷ xs) (sym (append_assoc x (joined names) (47 ∷ name)))
 
-last-length : (names : List (List ℕ)) (name : List ℕ) → length (joined (names ++ name ∷ [])) ≡ length (joined names) + suc (length name)
+pub last-length : (names : List (List ℕ)) (name : List ℕ) → length (joined (names ++ name ∷ [])) ≡ length (joined names) + suc (length name)
 last-length names name = ap length (joined-last names name) ∙ length-append (joined names) (47 ∷ name)
 
 -- the longest end of names with one more

@@ -1,22 +1,33 @@
 -- What is kept from the path of one directory to that of the next.
-use Rattle.std.specs.Prelude.{◌≡◌, ◌<◌, ℕ, true, List, Option, Some}
+use Rattle.std.specs.Prelude.{◌≡◌, ◌<◌, ℕ, true, List, [], ◌∷◌, ◌++◌, Option, Some}
 use Rattle.ffs_volume.specs.declared.Layout.{Layout}
+use Rattle.ffs_volume.specs.Directories.Graph.{Graph}
 use Rattle.ffs_volume.specs.Directories.Parents.{graph_of}
+use Rattle.ffs_volume.specs.Directories.Paths.{dir_names}
 use Rattle.ffs_volume.specs.Directories.Roles.{is_dir, roled_entries}
 use Rattle.ffs_volume.specs.Directories.Volumes.{volume_of}
-use Rattle.ffs_names.specs.Entering.{to_come}
+use Rattle.ffs_names.specs.Entering.{to_come, last_name}
 use Rattle.ffs_workspace.specs.declared.workspace.Workspace.{Workspace}
 use Rattle.ffs_workspace.specs.Holds.{HoldsClaims, HoldsSurvey}
 use Rattle.ffs_paths.specs.Climbing.{name_in}
 use Rattle.ffs_paths.specs.DirectoryPaths.{IsPathOf}
+use Rattle.ffs_paths.specs.Slashes.{AreSingle}
 use Rattle.ffs_paths.specs.declared.siblings.Siblings.{Siblings}
 
+-- the names down to d are those down to s, and one more
+pub record LeadsTo (g : Graph) (s d : ℕ) (name : List ℕ) : Type 0 where
+  pub names : List (List ℕ)
+  pub above : dir_names g s ≡ Some names
+  pub below : dir_names g d ≡ Some (names ++ name ∷ [])
+  pub single : AreSingle (names ++ name ∷ [])
+
 -- the parent's path, and a reading of its entries: of a number above all that were passed, the first plain entry that names it
--- is still to come
+-- is still to come; and the child that was found last has the name that was found
 pub record AreSiblings (v : Layout) (b : List ℕ) (s : Siblings) : Type 0 where
   pub path : IsPathOf (graph_of (volume_of v b)) s.parent s.path
   pub above : is_dir (volume_of v b) s.parent ≡ true
       → (x : ℕ) → s.search.highest < x → name_in x (to_come b s.search.entries) ≡ name_in x (roled_entries (volume_of v b) s.parent)
+  pub child : 0 < s.child → LeadsTo (graph_of (volume_of v b)) s.parent s.child (last_name s.search.entries)
 
 -- they are those of the volume, where the image gives these bytes and the workspace holds what the block check and the survey leave
 pub record KeepSiblings (v : Layout) (contents : Option (List ℕ)) (w : Workspace) (s : Siblings) : Type 0 where

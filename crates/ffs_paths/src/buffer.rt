@@ -44,6 +44,19 @@ fn put_front(bytes: &mut [u8; 1024], end: usize, name: &[u8]) -> usize
     start
 }
 
+/// Puts a part before what is from `end` on. The answer is where it begins.
+fn put_before(bytes: &mut [u8; 1024], end: usize, part: &[u8]) -> usize
+    requires room { length part.now ≤ end }
+    requires end { end ≤ 1024 }
+    ensures start { result + length part.now ≡ end }
+    ensures len { length bytes.new ≡ 1024 }
+    ensures bytes { drop result bytes.new ≡ part.now ++ drop end bytes.old }
+{
+    let start = end - part.len();
+    bytes[start..end].copy_from_slice(part);
+    start
+}
+
 /// Where the first `/` from a place on is, or the end.
 fn slash_from(bytes: &[u8; 1024], place: usize) -> usize
     requires { place ≤ 1024 }
@@ -57,6 +70,21 @@ fn slash_from(bytes: &[u8; 1024], place: usize) -> usize
         }
     }
     1024
+}
+
+/// Where the longest end of at most 1,023 bytes begins of names that begin at `start`.
+fn short_from(bytes: &[u8; 1024], start: usize) -> usize
+    requires { start ≤ 1024 }
+    ensures all { 0 < start → result ≡ start }
+    ensures second { start ≡ 0 → drop result bytes.now ≡ from_slash (drop 1 bytes.now) }
+    ensures after { start ≤ result }
+    ensures some { 0 < result }
+    ensures end { result ≤ 1024 }
+{
+    if start > 0 {
+        return start;
+    }
+    slash_from(bytes, 1)
 }
 
 /// Writes what is from `start` on, `/` and a name.
@@ -140,5 +168,42 @@ impl PathBuffer {
         }
         let start = slash_from(&self.bytes, self.short.max(name.len() + 2));
         put_from(&self.bytes, start, name, text);
+    }
+
+    /// What is from `from` on, and a name after it.
+    fn longer(&self, from: usize, name: &[u8], cut: bool) -> PathBuffer
+        requires from { from ≤ 1024 }
+        requires room { length name.now < from }
+        ensures start { result.start + length name.now + 1 ≡ from }
+        ensures bytes { drop result.start result.bytes ≡ drop from self.now.bytes ++ 47
+            ∷ name.now }
+        ensures all { 0 < result.start → result.short ≡ result.start }
+        ensures second { result.start ≡ 0 → drop result.short result.bytes
+            ≡ from_slash (drop 1 result.bytes) }
+        ensures cut { result.cut ≡ cut }
+    {
+        let mut bytes = [0u8; 1024];
+        let end = put_front(&mut bytes, 1024, name);
+        let start = put_before(&mut bytes, end, &self.bytes[from..]);
+        let short = short_from(&bytes, start);
+        PathBuffer {
+            bytes,
+            start,
+            short,
+            cut,
+        }
+    }
+
+    /// These names and one more after them, which has at most 512 bytes.
+    pub fn with_last(&self, name: &[u8]) -> PathBuffer
+        requires { length name.now ≤ 512 }
+        ensures { (names : List (List ℕ)) → HoldsNames self.now names
+            → AreSingle (names ++ name.now ∷ []) → HoldsNames result (names ++ name.now ∷ []) }
+    {
+        if !self.cut && name.len() < self.start {
+            return self.longer(self.start, name, false);
+        }
+        let from = slash_from(&self.bytes, self.short.max(name.len() + 2));
+        self.longer(from, name, true)
     }
 }

@@ -12,6 +12,9 @@ pub struct DirectoryPath {
 }
 
 impl DirectoryPath {
+    ghost use Rattle.std.specs.Prelude.{List, ◌∷◌, ◌++◌, Some};
+    ghost use Rattle.ffs_paths.specs.DirectoryPaths.{HoldsPath};
+    ghost use Rattle.ffs_paths.specs.Slashes.{AreSingle};
     ghost use Rattle.ffs_volume.specs.Directories.Graph.{Graph};
     ghost use Rattle.ffs_volume.specs.Directories.Paths.{dir_path, entry_path};
     ghost use Rattle.ffs_paths.specs.Climbing.{in_room};
@@ -27,6 +30,19 @@ impl DirectoryPath {
             self.names.put(text);
         } else {
             text.push(b'?');
+        }
+    }
+
+    /// The path of a directory in it, of this name.
+    pub fn child(&self, name: &[u8]) -> DirectoryPath
+        requires { length name.now ≤ 512 }
+        ensures { (names : List (List ℕ)) → HoldsPath self.now (Some names)
+            → AreSingle (names ++ name.now ∷ [])
+            → HoldsPath result (Some (names ++ name.now ∷ [])) }
+    {
+        DirectoryPath {
+            reached: self.reached,
+            names: self.names.with_last(name),
         }
     }
 

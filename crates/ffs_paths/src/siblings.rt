@@ -1,9 +1,8 @@
 //! The paths of directories, where one after another has the same parent.
 
-ghost use Rattle.std.specs.Prelude.{◌≡◌, ◌*◌, ◌<◌, ◌≤◌, ℕ, List, true, Some, Option, OnOk, IfErr, IfSome, slice_index};
+ghost use Rattle.std.specs.Prelude.{◌≡◌, ◌*◌, ◌<◌, ◌≤◌, ℕ, List, true, Some, Option, IfOk, OnOk, IfErr, IfSome, if◌then◌else◌, slice_index};
 ghost use Rattle.ffs_image.specs.Device.{Faulted};
 ghost use Rattle.ffs_volume.specs.declared.Layout.{Layout};
-ghost use Rattle.ffs_volume.specs.Directories.Graph.{reached};
 ghost use Rattle.ffs_volume.specs.Directories.Parents.{graph_of};
 ghost use Rattle.ffs_volume.specs.Directories.Paths.{dir_path};
 ghost use Rattle.ffs_volume.specs.Directories.Volumes.{volume_of};
@@ -12,11 +11,10 @@ ghost use Rattle.ffs_workspace.specs.Holds.{bool_at, HoldsClaims, HoldsSurvey};
 ghost use Rattle.ffs_workspace.specs.Lengths.{IsFor, HoldWindows};
 ghost use Rattle.ffs_paths.specs.SameLists.{SameLists};
 ghost use Rattle.ffs_paths.specs.DirectoryPaths.{IsPathOf};
-ghost use Rattle.ffs_paths.specs.Siblings.{KeepSiblings};
 
 use crate::buffer::{PathBuffer, PathText};
 use crate::kept::DirectoryPath;
-use crate::path::{directory_path, path_of};
+use crate::path::directory_path;
 use crate::search::Search;
 use ffs_image::{Image, ImageFault};
 use ffs_layout::Geometry;
@@ -27,6 +25,7 @@ fn parent_above(geometry: &Geometry, workspace: &Workspace, dir: u32) -> Option<
     requires made { IsFor geometry.now.layout workspace.now }
     requires number { dir < geometry.now.layout.ncg * geometry.now.layout.ipg }
     ensures below { IfSome result (λ p. p < geometry.now.layout.ncg * geometry.now.layout.ipg) }
+    ensures some { IfSome result (λ p. 0 < p) }
     ensures parent { IfSome result (λ p. p ≡ slice_index workspace.now.parents.items dir) }
     ensures reached { IfSome result (λ _. bool_at workspace.now.reached.items dir ≡ true) }
     ensures above { IfSome result (λ _. 2 < dir) }
@@ -35,10 +34,17 @@ fn parent_above(geometry: &Geometry, workspace: &Workspace, dir: u32) -> Option<
         return None;
     }
     let parent = workspace.parents[dir as usize];
-    if parent as usize >= workspace.parents.len() {
+    if parent == 0 || parent as usize >= workspace.parents.len() {
         return None;
     }
     Some(parent)
+}
+
+/// A number where it was found, else 0.
+fn number_if(found: bool, number: u32) -> u32
+    ensures { result ≡ (if found then number else 0) }
+{
+    if found { number } else { 0 }
 }
 
 /// A directory with the children whose paths are made: its own path, and a reading of its entries that goes on from one
@@ -51,9 +57,14 @@ pub struct Siblings {
     pub parent: u32,
     pub path: DirectoryPath,
     pub search: Search,
+    /// The child that was found last, or 0.
+    pub child: u32,
+    ghost has_parent: { 0 < child → 0 < parent },
 }
 
 impl Siblings {
+    ghost use Rattle.ffs_paths.specs.Siblings.{KeepSiblings};
+
     /// Of no directory.
     pub fn none(geometry: &Geometry) -> Siblings
         ensures { (contents : Option (List ℕ)) (w : WorkspaceIn)
@@ -66,6 +77,7 @@ impl Siblings {
                 names: PathBuffer::new(),
             },
             search: Search::none(geometry),
+            child: 0,
         }
     }
 
@@ -99,6 +111,10 @@ impl Siblings {
             fault.sector) }
     {
         if self.parent == parent {
+            return Ok(());
+        }
+        if self.child == parent {
+            self.path = self.path.child(self.search.found_name(true));
             return Ok(());
         }
         self.path = directory_path(geometry, image, workspace, parent)?;
@@ -136,6 +152,7 @@ impl Siblings {
         self.turn(geometry, image, workspace, parent)?;
         let cut = workspace.cut[parent as usize];
         self.search = Search::open(geometry, image, &mut workspace.windows, parent, cut)?;
+        self.child = 0;
         self.parent = parent;
         Ok(())
     }
@@ -176,31 +193,31 @@ impl Siblings {
         self.begin(geometry, image, workspace, parent)
     }
 
-    /// Writes the path of a directory by its name in its parent.
-    fn put_child<I: Image>(
+    /// The path of a directory, by its name in its parent.
+    fn child_path<I: Image>(
         &mut self,
         geometry: &Geometry,
         image: &mut I,
         workspace: &mut Workspace,
         parent: u32,
         dir: u32,
-        text: &mut PathText,
-    ) -> Result<(), ImageFault>
+    ) -> Result<DirectoryPath, ImageFault>
         requires made { IsFor geometry.now.layout workspace.old }
         requires volume { geometry.now.layout.size * geometry.now.layout.fsize
             ≤ (I.device image.old).size }
         requires windows { HoldWindows geometry.now.layout (I.device image.old).contents
             workspace.old }
         requires number { parent < geometry.now.layout.ncg * geometry.now.layout.ipg }
+        requires some { 0 < parent }
         requires dir { 2 < dir }
+        requires reached { bool_at workspace.old.reached.items dir ≡ true }
+        requires parent { parent ≡ slice_index workspace.old.parents.items dir }
         requires siblings { KeepSiblings geometry.now.layout (I.device image.old).contents
             workspace.old self.old }
-        ensures path { OnOk result ((b : List ℕ) → (I.device image.old).contents ≡ Some b
+        ensures path { IfOk result (λ path. (b : List ℕ) → (I.device image.old).contents ≡ Some b
             → HoldsClaims geometry.now.layout b workspace.old
             → HoldsSurvey geometry.now.layout b workspace.old
-            → reached (graph_of (volume_of geometry.now.layout b)) dir ≡ true
-            → parent ≡ slice_index workspace.old.parents.items dir
-            → text.new.items ≡ dir_path (graph_of (volume_of geometry.now.layout b)) dir) }
+            → IsPathOf (graph_of (volume_of geometry.now.layout b)) dir path) }
         ensures siblings { OnOk result (KeepSiblings geometry.now.layout
             (I.device image.old).contents workspace.old self.new) }
         ensures lists { SameLists workspace.old workspace.new }
@@ -218,9 +235,47 @@ impl Siblings {
             &mut workspace.windows.chunk,
             dir,
         )?;
-        text.clear();
-        self.path.put_entry(self.search.found_name(found), text);
-        Ok(())
+        self.child = number_if(found, dir);
+        Ok(self.path.child(self.search.found_name(found)))
+    }
+
+    /// The path of a directory, for all lines on it and on its entries.
+    ///
+    /// # Errors
+    /// A read of the image that failed. Then no path is kept that is right.
+    pub fn path_to<I: Image>(
+        &mut self,
+        geometry: &Geometry,
+        image: &mut I,
+        workspace: &mut Workspace,
+        dir: u32,
+    ) -> Result<DirectoryPath, ImageFault>
+        requires made { IsFor geometry.now.layout workspace.old }
+        requires volume { geometry.now.layout.size * geometry.now.layout.fsize
+            ≤ (I.device image.old).size }
+        requires windows { HoldWindows geometry.now.layout (I.device image.old).contents
+            workspace.old }
+        requires number { dir < geometry.now.layout.ncg * geometry.now.layout.ipg }
+        requires siblings { KeepSiblings geometry.now.layout (I.device image.old).contents
+            workspace.old self.old }
+        ensures path { IfOk result (λ path. (b : List ℕ) → (I.device image.old).contents ≡ Some b
+            → HoldsClaims geometry.now.layout b workspace.old
+            → HoldsSurvey geometry.now.layout b workspace.old
+            → IsPathOf (graph_of (volume_of geometry.now.layout b)) dir path) }
+        ensures siblings { OnOk result (KeepSiblings geometry.now.layout
+            (I.device image.new).contents workspace.new self.new) }
+        ensures lists { SameLists workspace.old workspace.new }
+        ensures made { IsFor geometry.now.layout workspace.new }
+        ensures windows { HoldWindows geometry.now.layout (I.device image.new).contents
+            workspace.new }
+        ensures ok { OnOk result (I.device image.new ≡ I.device image.old) }
+        ensures err { IfErr result (λ fault. Faulted (I.device image.old) (I.device image.new)
+            fault.sector) }
+    {
+        match parent_above(geometry, workspace, dir) {
+            None => directory_path(geometry, image, workspace, dir),
+            Some(parent) => self.child_path(geometry, image, workspace, parent, dir),
+        }
     }
 
     /// Writes the path of a directory.
@@ -257,9 +312,9 @@ impl Siblings {
         ensures err { IfErr result (λ fault. Faulted (I.device image.old) (I.device image.new)
             fault.sector) }
     {
-        match parent_above(geometry, workspace, dir) {
-            None => path_of(geometry, image, workspace, dir, None, text),
-            Some(parent) => self.put_child(geometry, image, workspace, parent, dir, text),
-        }
+        let path = self.path_to(geometry, image, workspace, dir)?;
+        text.clear();
+        path.put(text);
+        Ok(())
     }
 }

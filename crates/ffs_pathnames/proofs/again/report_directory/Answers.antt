@@ -46,7 +46,7 @@ chunks-init g c =
       geometry = c.start-chunks.ensures.geometry;
       windows = subst (λ d. HoldWindows v d.contents here) ok.ok ok.windows;
       survey = ok.lists.survey;
-      siblings = siblings_on _ _ _ _ _ _ refl ok.lists.survey c.requires.siblings;
+      siblings = subst (λ d. KeepSiblings v d.contents here c.own_path.new.siblings) ok.ok ok.siblings;
       marks = λ b k. ap (λ q. after_entries (volume_of v b) c.args.dir q (roled_entries (volume_of v b) c.args.dir)) same ∙ ap (after_entries (volume_of v b) c.args.dir (marks_of here)) (sym (seen b k));
       said = of_same _ all (λ (b : List ℕ). map of_names (entries_reported (volume_of v b) c.args.dir (marks_of here) (flat_map roled_chunk (rest b c.start-chunks.result)))) all _ _ (of_begins _ all _)
           (λ b k. ap (λ q. map of_names (entries_reported (volume_of v b) c.args.dir q (roled_entries (volume_of v b) c.args.dir))) same

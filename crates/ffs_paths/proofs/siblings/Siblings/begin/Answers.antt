@@ -18,5 +18,6 @@ returns-clause-siblings g c =
             (c.index-cut.ensures
             ∙ (get_or_default c.turn.new.workspace.cut.items c.args.parent c.index-cut.result.now 0 (omega arith)
             ∙ (ap (λ l. slice_index l.items c.args.parent) turned.lists.cut ∙ claims.cut c.args.parent))));
+        child = λ some. absurd (omega arith);
       };
     }
