@@ -176,6 +176,7 @@ fn opens_for_reading_alone(rt: HostRuntime) -> Result<(), Fail> {
             .is_err()
     );
     let mut image = FileImage::open(&system, READ_ONLY)?;
+    assert!(rt; image.size() == 512);
     let mut found = [0u8; 1];
     image.read_at(511, &mut found)?;
     assert_eq!(rt; found, [7]);
