@@ -40,7 +40,7 @@ unfolding path_text
 cut_tail p q names name from small held single over found cut bytes =
     let l = last-length names name in
     let high = over_is (length (joined (names ++ name ∷ []))) (omega arith) in
-    let text = entry-tail names name q.short from q.bytes small q.in_buffer q.long held.short single over found in
+    let text = entry-tail names name q.short from q.bytes (omega (arith, small)) q.in_buffer q.long held.short single over found in
     record {
       whole = λ e. absurd (cc);
       short = bytes ∙ (sym (ap (drop 1) text) ∙ ap (λ b. drop 1 (if b then 63 ∷ joined (longest_end 1023 (names ++ name ∷ [])) else joined (names ++ name ∷ []))) high);

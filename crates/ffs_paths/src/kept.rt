@@ -1,6 +1,6 @@
 //! The path of a directory, kept for all lines on it and on its entries.
 
-ghost use Rattle.std.specs.Prelude.{◌≡◌, ℕ, []};
+ghost use Rattle.std.specs.Prelude.{◌≡◌, ◌≤◌, ℕ, [], length};
 
 use crate::buffer::{LONGEST_NAME, PathBuffer, PathText};
 
