@@ -5,7 +5,7 @@ use Rattle.std.proofs.lemmas.Bool.{both_ways, cases_eq, eqb-true, eq-eqb, leb-tr
 use Rattle.ffs_volume.specs.declared.Role.TheVariants.{Plain}
 use Rattle.ffs_volume.specs.Directories.Entries.{Entry}
 use Rattle.ffs_volume.specs.Blocks.Inodes.{is_allocated, is_unknown}
-use Rattle.ffs_volume.specs.Directories.Roles.{Volume, RoledEntry, is_dir, is_inode, is_some_inode, is_suspect, roled_entries, dotdot, references}
+use Rattle.ffs_volume.specs.Directories.Roles.{Volume, RoledEntry, is_dir, is_inode, is_allocated_inode, is_suspect, roled_entries, dotdot, references}
 use Rattle.ffs_volume.specs.Directories.Climb.{is_value}
 use Rattle.ffs_volume.proofs.ClimbLaws.{is_value-from}
 use Rattle.ffs_volume.specs.Directories.Graph.{parent, parent_entry, reached, AllReached, NoExtraneous}
@@ -14,7 +14,7 @@ use Rattle.ffs_certificate.proofs.Lost.{silent-reached}
 use Rattle.ffs_certificate.proofs.Links.{links-right}
 use Rattle.ffs_volume.specs.Directories.Parents.{graph_of, roled_at}
 use Rattle.ffs_volume.specs.Directories.PathnameCheck.{is_short, is_bad_whiteout, is_extraneous, is_other}
-use Rattle.ffs_volume.specs.Directories.Connectivity.{is_cut_off}
+use Rattle.ffs_volume.specs.Directories.Connectivity.{has_unref_line}
 use Rattle.ffs_volume.specs.Consistent.DirectoriesRight.{IsVolume, IsUnmarked, IsPlainRight, IsDirRight, AreDirsRight, AreLinksRight, AreCountsRight}
 use Rattle.ffs_certificate.proofs.Silence.{and_false-from}
 use Rattle.ffs_certificate.proofs.Entries.{names_at-from, IsPlainQuiet}
@@ -138,10 +138,10 @@ quiet_pathnames v t = record {
       };
 }
 
-pub quiet_connectivity : (v : Volume) → IsFileOrDir v → (d : ℕ) → is_cut_off v d ≡ false
+pub quiet_connectivity : (v : Volume) → IsFileOrDir v → (d : ℕ) → has_unref_line v d ≡ false
 quiet_connectivity v t = (silent-reached (graph_of v) (is_suspect v) (is_sane v t.volume) (none_dead v (calm v t))).1 (all_reached v t)
 
-pub quiet_references : (v : Volume) → IsFileOrDir v → AreCountsRight v → (i : ℕ) → is_some_inode v i ≡ true → IsCountQuiet v i
+pub quiet_references : (v : Volume) → IsFileOrDir v → AreCountsRight v → (i : ℕ) → is_allocated_inode v i ≡ true → IsCountQuiet v i
 quiet_references v t counts i h =
     let c = counts i h in
     let some = c.some in

@@ -12,7 +12,7 @@ use Rattle.ffs_volume.specs.declared.Step.TheVariants.{Run, Tail, Gap}
 use Rattle.ffs_volume.specs.Disk.Areas.{is_data_fragment, is_reserved}
 use Rattle.ffs_volume.specs.Blocks.Owners.{Owner, fragments_of, all_steps}
 use Rattle.ffs_volume.specs.Blocks.Claims.{is_set, reserved_map, no_claims}
-use Rattle.ffs_volume.specs.Blocks.BlockCheck.{Offer, first_offers, owners_kept, phase1_lines, phase1b_lines}
+use Rattle.ffs_volume.specs.Blocks.BlockCheck.{Offer, first_offer_lines, kept_in_owners, phase1_lines, phase1b_lines}
 use Rattle.ffs_volume.specs.Consistent.BlocksRight.{run_in_range, times, BlocksRight}
 use Rattle.ffs_certificate.proofs.BlockLaws.{is_nil, nil_append, run_ok}
 use Rattle.ffs_certificate.proofs.OwnerLaws.{owners_say, owners_claim, Quiet, owners_parts, owners_from}
@@ -58,7 +58,7 @@ unset n f = elim (cases_lt f n) [
 ]
 
 -- where no fragment is marked, no offer is reported
-none_first : (dup : List Bool) (os : List Offer) → ((f : ℕ) → is_set dup f ≡ false) → first_offers dup os ≡ []
+none_first : (dup : List Bool) (os : List Offer) → ((f : ℕ) → is_set dup f ≡ false) → first_offer_lines dup os ≡ []
 none_first dup [] h = refl
 none_first dup (o ∷ os) h = rw (h o.fragment) (none_first dup os h)
 
@@ -111,7 +111,7 @@ pub phase1b_silent : (v : Layout) (os : List Owner) → BlocksRight v os → pha
 unfolding phase1b_lines no_claims
 phase1b_silent v os r =
     let left = owners_claim v (no_claims v) os (owners_from v (reserved_map v) os (right_quiet v os r)) in
-    none_first _ (owners_kept v (no_claims v) os) (λ f. ap (λ d. is_set d f) left.1 ∙ unset v.size f)
+    none_first _ (kept_in_owners v (no_claims v) os) (λ f. ap (λ d. is_set d f) left.1 ∙ unset v.size f)
 
 pub blocks_silent : (v : Layout) (os : List Owner) → (phase1_lines v os ++ phase1b_lines v os ≡ []) ↔ BlocksRight v os
 blocks_silent v os = (

@@ -16,7 +16,7 @@ use Rattle.ffs_volume.specs.Blocks.Inodes.{is_file_or_dir}
 use Rattle.ffs_volume.specs.Blocks.Owners.{Owner}
 use Rattle.ffs_volume.specs.Blocks.Claims.{Claims, no_claims, next_inode, is_open, is_set, after_offer, offer_lines, offers_lines, run_lines, after_step, step_lines, steps_lines, after_owner}
 use Rattle.ffs_volume.specs.Blocks.BlockCheck.{class_lines, count_lines, sectors, owner_lines, owners_lines, phase1_lines}
-use Rattle.ffs_volume.specs.Consistent.BlocksRight.{is_whole_class}
+use Rattle.ffs_volume.specs.Consistent.BlocksRight.{is_right_class}
 use Rattle.ffs_certificate.specs.Conditions.{is_class_message}
 
 none_append : (xs ys : List BlockMessage) → list_any is_class_message xs ≡ false → list_any is_class_message ys ≡ false → list_any is_class_message (xs ++ ys) ≡ false
@@ -67,37 +67,37 @@ count_none v o end = one (is_file_or_dir o.class && (is_open end && not (o.block
     one true = refl
     one false = refl
 
-class_some : (i : ℕ) (c : Class) → list_any is_class_message (class_lines i c) ≡ not (is_whole_class c)
+class_some : (i : ℕ) (c : Class) → list_any is_class_message (class_lines i c) ≡ not (is_right_class c)
 class_some i Free = refl
 class_some i Partial = refl
 class_some i Unknown = refl
 class_some i File = refl
 class_some i Dir = refl
 
-owner_some : (v : Layout) (s : Claims) (o : Owner) → list_any is_class_message (owner_lines v s o) ≡ not (is_whole_class o.class)
+owner_some : (v : Layout) (s : Claims) (o : Owner) → list_any is_class_message (owner_lines v s o) ≡ not (is_right_class o.class)
 owner_some v s o =
     list_any-append is_class_message (class_lines o.number o.class) (steps_lines v o.number (next_inode s) o.steps ++ count_lines v o (after_owner v s o))
     ∙ rw (
       class_some o.number o.class,
       none_append (steps_lines v o.number (next_inode s) o.steps) (count_lines v o (after_owner v s o)) (steps_none v o.number (next_inode s) o.steps) (count_none v o (after_owner v s o)),
     )
-    (or_false (not (is_whole_class o.class)))
+    (or_false (not (is_right_class o.class)))
   where
     or_false : (a : Bool) → (a || false) ≡ a
     or_false true = refl
     or_false false = refl
 
-owners_some : (v : Layout) (s : Claims) (os : List Owner) → list_any is_class_message (owners_lines v s os) ≡ not (list_all (λ o. is_whole_class o.class) os)
+owners_some : (v : Layout) (s : Claims) (os : List Owner) → list_any is_class_message (owners_lines v s os) ≡ not (list_all (λ o. is_right_class o.class) os)
 owners_some v s [] = refl
 owners_some v s (o ∷ os) =
     list_any-append is_class_message (owner_lines v s o) (owners_lines v (after_owner v s o) os)
-    ∙ rw (owner_some v s o, owners_some v (after_owner v s o) os) (both (is_whole_class o.class) (list_all (λ o. is_whole_class o.class) os))
+    ∙ rw (owner_some v s o, owners_some v (after_owner v s o) os) (both (is_right_class o.class) (list_all (λ o. is_right_class o.class) os))
   where
     both : (a b : Bool) → (not a || not b) ≡ not (a && b)
     both true b = refl
     both false b = refl
 
 -- a class message is reported exactly where a class isn't right
-pub classes_reported : (v : Layout) (os : List Owner) → list_any is_class_message (phase1_lines v os) ≡ not (list_all (λ o. is_whole_class o.class) os)
+pub classes_reported : (v : Layout) (os : List Owner) → list_any is_class_message (phase1_lines v os) ≡ not (list_all (λ o. is_right_class o.class) os)
 unfolding phase1_lines
 classes_reported v os = owners_some v (no_claims v) os

@@ -10,7 +10,7 @@ use Rattle.ffs_volume.specs.Disk.Superblock.{Superblock}
 use Rattle.ffs_volume.specs.Disk.Geometry.{IsGeometry}
 use Rattle.ffs_volume.proofs.AcceptedLaws.{accepted_sound}
 use Rattle.ffs_volume.specs.Blocks.Owners.{Owner, owners_of}
-use Rattle.ffs_volume.specs.Consistent.BlocksRight.{is_whole_class, BlocksRight}
+use Rattle.ffs_volume.specs.Consistent.BlocksRight.{is_right_class, BlocksRight}
 use Rattle.ffs_volume.specs.Groups.Records.{GroupsRight}
 use Rattle.ffs_volume.specs.Groups.GroupCheck.{phase5_lines, is_free_of_kept}
 use Rattle.ffs_volume.specs.Directories.Entries.{Entry}
@@ -176,7 +176,7 @@ checks_reported v vol un = (
 )
 
 -- THE WHOLE
-blocks_from : (v : Layout) (os : List Owner) → list_all (λ o. is_whole_class o.class) os ≡ true → AreRunsRight v os → BlocksRight v os
+blocks_from : (v : Layout) (os : List Owner) → list_all (λ o. is_right_class o.class) os ≡ true → AreRunsRight v os → BlocksRight v os
 blocks_from v os c r = record { classes = c; in_range = r.in_range; no_tail = r.no_tail; alone = r.alone; unreserved = r.unreserved; counted = r.counted }
 
 conditions : (image : List ℕ) (s : Superblock) → IsGeometry s.layout → ConditionsReported image s

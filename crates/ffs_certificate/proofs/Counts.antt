@@ -3,27 +3,27 @@ use Rattle.std.specs.Prelude.{◌≡◌, ◌≢◌, ℕ, ◌<◌, ◌==◌, Bool
 use Rattle.std.proofs.Common.{sym, ap, subst}
 use Rattle.std.proofs.lemmas.Bool.{eqb-true, eqb-false, eq-eqb, ne_eqb, ltb-true, and_parts, not-false, not_from_true}
 use Rattle.ffs_volume.specs.Blocks.Inodes.{is_allocated}
-use Rattle.ffs_volume.specs.Directories.Roles.{Volume, is_inode, is_some_inode, references}
-use Rattle.ffs_volume.specs.Messages.Kinds.{NameMessage, told, unref_dir, dead_marked, dead_zero, unref, unref_zero, link_count}
+use Rattle.ffs_volume.specs.Directories.Roles.{Volume, is_inode, is_allocated_inode, references}
+use Rattle.ffs_volume.specs.Messages.Kinds.{NameMessage, reported, unref_dir, dead_marked, dead_zero, unref, unref_zero, link_count}
 use Rattle.ffs_volume.specs.Directories.PathnameCheck.{attributes, label_of}
-use Rattle.ffs_volume.specs.Directories.Connectivity.{is_dead, is_cut_off, connectivity_lines}
-use Rattle.ffs_volume.specs.Disk.Numbers.{is_count}
+use Rattle.ffs_volume.specs.Directories.Connectivity.{is_dead, has_unref_line, connectivity_lines}
+use Rattle.ffs_volume.specs.Disk.Numbers.{is_the_count}
 use Rattle.ffs_volume.specs.Directories.ReferenceCheck.{dead_reported, unref_reported, inode_lines, counted_lines, reference_lines}
-use Rattle.ffs_certificate.proofs.Silence.{told-quiet, told-silent, if-silent, then-quiet, then-silent, lines-quiet, lines-silent}
+use Rattle.ffs_certificate.proofs.Silence.{reported-quiet, reported-silent, if-silent, then-quiet, then-silent, lines-quiet, lines-silent}
 
-pub connectivity-quiet : (v : Volume) → connectivity_lines v ≡ [] → (d : ℕ) → d < v.count → is_cut_off v d ≡ false
+pub connectivity-quiet : (v : Volume) → connectivity_lines v ≡ [] → (d : ℕ) → d < v.count → has_unref_line v d ≡ false
 unfolding connectivity_lines
-connectivity-quiet v h d l = told-quiet _ (unref_dir (attributes v d)) (lines-quiet (λ d. told (is_cut_off v d) (unref_dir (attributes v d))) v.count h d l)
+connectivity-quiet v h d l = reported-quiet _ (unref_dir (attributes v d)) (lines-quiet (λ d. reported (has_unref_line v d) (unref_dir (attributes v d))) v.count h d l)
 
-pub connectivity-silent : (v : Volume) → ((d : ℕ) → is_cut_off v d ≡ false) → connectivity_lines v ≡ []
+pub connectivity-silent : (v : Volume) → ((d : ℕ) → has_unref_line v d ≡ false) → connectivity_lines v ≡ []
 unfolding connectivity_lines
-connectivity-silent v h = lines-silent (λ d. told (is_cut_off v d) (unref_dir (attributes v d))) v.count (λ d l. told-silent _ (unref_dir (attributes v d)) (h d))
+connectivity-silent v h = lines-silent (λ d. reported (has_unref_line v d) (unref_dir (attributes v d))) v.count (λ d l. reported-silent _ (unref_dir (attributes v d)) (h d))
 
 -- an inode that is allocated
 pub record IsCountQuiet (v : Volume) (i : ℕ) : Type 0 where
   pub alive : is_dead v i ≡ false
   pub some : references v i ≢ 0
-  pub same : is_count (v.inode i).nlink (references v i) ≡ true
+  pub same : is_the_count (v.inode i).nlink (references v i) ≡ true
 
 either-some : (b : Bool) (m n : NameMessage) → (if b then m ∷ [] else n ∷ []) ≡ [] → ⊥
 either-some true m n h = absurd (cc)
@@ -39,31 +39,31 @@ unfolding inode_lines
 count-quiet v i h =
     let m = link_count (label_of (v.class i)) (attributes v i) (v.inode i).nlink (references v i) in
     let a = first-quiet (is_dead v i) (dead_reported v i) _ (either-some (v.marked i) (dead_marked (label_of (v.class i)) (attributes v i)) (dead_zero (attributes v i))) h in
-    let b = first-quiet (references v i == 0) (unref_reported v i) _ (either-some (is_count (v.inode i).nlink 0) (unref_zero (label_of (v.class i)) (attributes v i)) (unref (label_of (v.class i)) (attributes v i))) a.1 in
-    record { alive = a.0; some = eqb-false (references v i) 0 b.0; same = not-false _ (told-quiet _ m b.1) }
+    let b = first-quiet (references v i == 0) (unref_reported v i) _ (either-some (is_the_count (v.inode i).nlink 0) (unref_zero (label_of (v.class i)) (attributes v i)) (unref (label_of (v.class i)) (attributes v i))) a.1 in
+    record { alive = a.0; some = eqb-false (references v i) 0 b.0; same = not-false _ (reported-quiet _ m b.1) }
 
 count-silent : (v : Volume) (i : ℕ) → IsCountQuiet v i → inode_lines v i ≡ []
 unfolding inode_lines
 count-silent v i q =
     let m = link_count (label_of (v.class i)) (attributes v i) (v.inode i).nlink (references v i) in
     if-silent (is_dead v i) (dead_reported v i) _ q.alive
-    (if-silent (references v i == 0) (unref_reported v i) _ (ne_eqb (references v i) 0 q.some) (told-silent _ m (not_from_true _ q.same)))
+    (if-silent (references v i == 0) (unref_reported v i) _ (ne_eqb (references v i) 0 q.some) (reported-silent _ m (not_from_true _ q.same)))
 
-pub some-below : (v : Volume) (i : ℕ) → is_some_inode v i ≡ true → i < v.count
+pub some-below : (v : Volume) (i : ℕ) → is_allocated_inode v i ≡ true → i < v.count
 some-below v i h = ltb-true i v.count (and_parts (nat_le 2 i) (nat_lt i v.count) (and_parts (is_inode v i) (is_allocated (v.class i)) h).0).1
 
-pub reference-quiet : (v : Volume) → reference_lines v ≡ [] → (i : ℕ) → is_some_inode v i ≡ true → IsCountQuiet v i
+pub reference-quiet : (v : Volume) → reference_lines v ≡ [] → (i : ℕ) → is_allocated_inode v i ≡ true → IsCountQuiet v i
 unfolding reference_lines
-reference-quiet v h i k = count-quiet v i (then-quiet (is_some_inode v i) (inode_lines v i) (lines-quiet (counted_lines v) v.count h i (some-below v i k)) k)
+reference-quiet v h i k = count-quiet v i (then-quiet (is_allocated_inode v i) (inode_lines v i) (lines-quiet (counted_lines v) v.count h i (some-below v i k)) k)
 
-pub reference-silent : (v : Volume) → ((i : ℕ) → is_some_inode v i ≡ true → IsCountQuiet v i) → reference_lines v ≡ []
+pub reference-silent : (v : Volume) → ((i : ℕ) → is_allocated_inode v i ≡ true → IsCountQuiet v i) → reference_lines v ≡ []
 unfolding reference_lines
-reference-silent v h = lines-silent (counted_lines v) v.count (λ i l. then-silent (is_some_inode v i) (inode_lines v i) (λ k. count-silent v i (h i k)))
+reference-silent v h = lines-silent (counted_lines v) v.count (λ i l. then-silent (is_allocated_inode v i) (inode_lines v i) (λ k. count-silent v i (h i k)))
 
 -- a count and a number
-pub count-true : (z : ℤ) (n : ℕ) → is_count z n ≡ true → z ≡ pos n
+pub count-true : (z : ℤ) (n : ℕ) → is_the_count z n ≡ true → z ≡ pos n
 count-true (pos k) n h = ap pos (eqb-true k n h)
 count-true (negsuc k) n h = absurd (cc)
 
-pub count-from : (z : ℤ) (n : ℕ) → z ≡ pos n → is_count z n ≡ true
-count-from z n h = subst (λ x. is_count x n ≡ true) (sym h) (eq-eqb n n refl)
+pub count-from : (z : ℤ) (n : ℕ) → z ≡ pos n → is_the_count z n ≡ true
+count-from z n h = subst (λ x. is_the_count x n ≡ true) (sym h) (eq-eqb n n refl)

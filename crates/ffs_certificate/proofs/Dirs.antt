@@ -11,15 +11,15 @@ use Rattle.ffs_volume.specs.Directories.Roles.{Volume, RoledEntry, is_dir, is_in
 use Rattle.ffs_volume.specs.Directories.Graph.{parent}
 use Rattle.ffs_volume.specs.Directories.Parents.{graph_of, roled_at}
 use Rattle.ffs_volume.specs.Directories.Paths.{dir_path}
-use Rattle.ffs_volume.specs.Messages.Kinds.{told, lines_below, root_suspect, dir_short, dir_length, dir_empty, dir_corrupt, missing_dot, missing_dot_first, number_dot, kind_dot, missing_dotdot, missing_dotdot_second, number_dotdot, kind_dotdot}
-use Rattle.ffs_volume.specs.Directories.PathnameCheck.{attributes, root_lines, root_reported, goes_on, is_short, is_broken, are_sound, shape_lines, dot_lines, dot_reported, missing_dot_reported, is_other, dotdot_lines, dotdot_reported, missing_dotdot_reported, entry_lines, dir_lines, is_looked_at, lines_of, pathname_lines}
-use Rattle.ffs_certificate.proofs.Silence.{nil-left, nil-right, nil-both, told-quiet, told-silent, then-quiet, then-silent, lines-quiet, lines-silent}
+use Rattle.ffs_volume.specs.Messages.Kinds.{reported, lines_below, root_suspect, dir_short, dir_length, dir_empty, dir_corrupt, missing_dot, missing_dot_first, number_dot, kind_dot, missing_dotdot, missing_dotdot_second, number_dotdot, kind_dotdot}
+use Rattle.ffs_volume.specs.Directories.PathnameCheck.{attributes, root_lines, root_reported, goes_on, is_short, is_not_multiple, are_sound, shape_lines, dot_lines, dot_reported, missing_dot_reported, is_other, dotdot_lines, dotdot_reported, missing_dotdot_reported, entry_lines, dir_lines, is_looked_at, lines_of, pathname_lines}
+use Rattle.ffs_certificate.proofs.Silence.{nil-left, nil-right, nil-both, reported-quiet, reported-silent, then-quiet, then-silent, lines-quiet, lines-silent}
 use Rattle.ffs_certificate.proofs.Entries.{IsSeenQuiet, entries-quiet, entries-silent}
 
 -- of a directory's size, Gaps and chunks
 pub record IsShapeQuiet (v : Volume) (d : ℕ) : Type 0 where
   pub short : is_short v d ≡ false
-  pub broken : is_broken v d ≡ false
+  pub broken : is_not_multiple v d ≡ false
   pub gap : v.gap d ≡ false
   pub sound : are_sound (v.chunks d) ≡ true
 
@@ -27,27 +27,27 @@ shape-quiet : (v : Volume) (d : ℕ) → shape_lines v d ≡ [] → IsShapeQuiet
 unfolding shape_lines
 shape-quiet v d h =
     let p = dir_path (graph_of v) d in
-    let a = nil-left (told (is_short v d) (dir_short (attributes v d) p)) _ h in
-    let b = nil-right (told (is_short v d) (dir_short (attributes v d) p)) _ h in
-    let c = nil-left (told (is_broken v d) (dir_length p (v.inode d).size)) _ b in
-    let e = nil-right (told (is_broken v d) (dir_length p (v.inode d).size)) _ b in
-    let f = nil-left (told (v.gap d) (dir_empty p)) _ e in
-    let g = nil-right (told (v.gap d) (dir_empty p)) _ e in
+    let a = nil-left (reported (is_short v d) (dir_short (attributes v d) p)) _ h in
+    let b = nil-right (reported (is_short v d) (dir_short (attributes v d) p)) _ h in
+    let c = nil-left (reported (is_not_multiple v d) (dir_length p (v.inode d).size)) _ b in
+    let e = nil-right (reported (is_not_multiple v d) (dir_length p (v.inode d).size)) _ b in
+    let f = nil-left (reported (v.gap d) (dir_empty p)) _ e in
+    let g = nil-right (reported (v.gap d) (dir_empty p)) _ e in
     record {
-      short = told-quiet _ (dir_short (attributes v d) p) a;
-      broken = told-quiet _ (dir_length p (v.inode d).size) c;
-      gap = told-quiet _ (dir_empty p) f;
-      sound = not-false _ (told-quiet _ (dir_corrupt (attributes v d) p) g);
+      short = reported-quiet _ (dir_short (attributes v d) p) a;
+      broken = reported-quiet _ (dir_length p (v.inode d).size) c;
+      gap = reported-quiet _ (dir_empty p) f;
+      sound = not-false _ (reported-quiet _ (dir_corrupt (attributes v d) p) g);
     }
 
 shape-silent : (v : Volume) (d : ℕ) → IsShapeQuiet v d → shape_lines v d ≡ []
 unfolding shape_lines
 shape-silent v d q =
     let p = dir_path (graph_of v) d in
-    nil-both (told (is_short v d) (dir_short (attributes v d) p)) _ (told-silent _ (dir_short (attributes v d) p) q.short)
-    (nil-both (told (is_broken v d) (dir_length p (v.inode d).size)) _ (told-silent _ (dir_length p (v.inode d).size) q.broken)
-    (nil-both (told (v.gap d) (dir_empty p)) _ (told-silent _ (dir_empty p) q.gap)
-    (told-silent _ (dir_corrupt (attributes v d) p) (not_from_true _ q.sound))))
+    nil-both (reported (is_short v d) (dir_short (attributes v d) p)) _ (reported-silent _ (dir_short (attributes v d) p) q.short)
+    (nil-both (reported (is_not_multiple v d) (dir_length p (v.inode d).size)) _ (reported-silent _ (dir_length p (v.inode d).size) q.broken)
+    (nil-both (reported (v.gap d) (dir_empty p)) _ (reported-silent _ (dir_empty p) q.gap)
+    (reported-silent _ (dir_corrupt (attributes v d) p) (not_from_true _ q.sound))))
 
 -- where `.` or `..` isn't there, something is reported
 missing_dot-some : (about : Attr) (path : List ℕ) (o : Option Entry) → missing_dot_reported about path o ≡ [] → ⊥
@@ -75,8 +75,8 @@ dot-quiet v d None h = absurd (missing_dot-some (attributes v d) (dir_path (grap
 dot-quiet v d (Some e) h =
     let m = number_dot (attributes v d) (dir_path (graph_of v) d) in
     let k = kind_dot (attributes v d) (dir_path (graph_of v) d) in (
-      eqb-true e.number d (not-false _ (told-quiet _ m (nil-left (told (not (e.number == d)) m) (told (not (e.kind == 4)) k) h))),
-      eqb-true e.kind 4 (not-false _ (told-quiet _ k (nil-right (told (not (e.number == d)) m) (told (not (e.kind == 4)) k) h))),
+      eqb-true e.number d (not-false _ (reported-quiet _ m (nil-left (reported (not (e.number == d)) m) (reported (not (e.kind == 4)) k) h))),
+      eqb-true e.kind 4 (not-false _ (reported-quiet _ k (nil-right (reported (not (e.number == d)) m) (reported (not (e.kind == 4)) k) h))),
     )
 
 dot-silent : (v : Volume) (d : ℕ) (o : Option Entry) → IsDotQuiet d o → dot_reported v d o ≡ []
@@ -84,8 +84,8 @@ dot-silent v d None q = absurd q
 dot-silent v d (Some e) q =
     let m = number_dot (attributes v d) (dir_path (graph_of v) d) in
     let k = kind_dot (attributes v d) (dir_path (graph_of v) d) in
-    nil-both (told (not (e.number == d)) m) (told (not (e.kind == 4)) k)
-    (told-silent _ m (not_from_true _ (eq-eqb e.number d q.0))) (told-silent _ k (not_from_true _ (eq-eqb e.kind 4 q.1)))
+    nil-both (reported (not (e.number == d)) m) (reported (not (e.kind == 4)) k)
+    (reported-silent _ m (not_from_true _ (eq-eqb e.number d q.0))) (reported-silent _ k (not_from_true _ (eq-eqb e.kind 4 q.1)))
 
 -- `..` is there, with its type, and it is the parent if there is one
 abbrev pub IsDotdotQuiet : Volume → ℕ → Option Entry → Type 0
@@ -96,8 +96,8 @@ dotdot-quiet v d None h = absurd (missing_dotdot-some (attributes v d) (dir_path
 dotdot-quiet v d (Some e) h =
     let m = number_dotdot (attributes v d) (dir_path (graph_of v) d) in
     let k = kind_dotdot (attributes v d) (dir_path (graph_of v) d) in (
-      told-quiet _ m (nil-left (told (is_other (parent (graph_of v) d) e.number) m) (told (not (e.kind == 4)) k) h),
-      eqb-true e.kind 4 (not-false _ (told-quiet _ k (nil-right (told (is_other (parent (graph_of v) d) e.number) m) (told (not (e.kind == 4)) k) h))),
+      reported-quiet _ m (nil-left (reported (is_other (parent (graph_of v) d) e.number) m) (reported (not (e.kind == 4)) k) h),
+      eqb-true e.kind 4 (not-false _ (reported-quiet _ k (nil-right (reported (is_other (parent (graph_of v) d) e.number) m) (reported (not (e.kind == 4)) k) h))),
     )
 
 dotdot-silent : (v : Volume) (d : ℕ) (o : Option Entry) → IsDotdotQuiet v d o → dotdot_reported v d o ≡ []
@@ -105,8 +105,8 @@ dotdot-silent v d None q = absurd q
 dotdot-silent v d (Some e) q =
     let m = number_dotdot (attributes v d) (dir_path (graph_of v) d) in
     let k = kind_dotdot (attributes v d) (dir_path (graph_of v) d) in
-    nil-both (told (is_other (parent (graph_of v) d) e.number) m) (told (not (e.kind == 4)) k)
-    (told-silent _ m q.0) (told-silent _ k (not_from_true _ (eq-eqb e.kind 4 q.1)))
+    nil-both (reported (is_other (parent (graph_of v) d) e.number) m) (reported (not (e.kind == 4)) k)
+    (reported-silent _ m q.0) (reported-silent _ k (not_from_true _ (eq-eqb e.kind 4 q.1)))
 
 -- a directory
 pub record IsDirQuiet (v : Volume) (d : ℕ) : Type 0 where
@@ -146,7 +146,7 @@ pub record IsPathnameQuiet (v : Volume) : Type 0 where
   pub each : (d : ℕ) → is_dir v d ≡ true → (v.inode d).size ≢ 0 → IsDirQuiet v d
 
 root-quiet : (v : Volume) (c : Class) → root_reported v c ≡ [] → (c ≡ Dir) × (is_suspect v 2 ≡ false)
-root-quiet v Dir h = (refl, told-quiet _ root_suspect h)
+root-quiet v Dir h = (refl, reported-quiet _ root_suspect h)
 root-quiet v File h = absurd (cc)
 root-quiet v Unknown h = absurd (cc)
 root-quiet v Partial h = absurd (cc)
@@ -171,7 +171,7 @@ pathname-quiet v h =
 pub pathname-silent : (v : Volume) → IsPathnameQuiet v → pathname_lines v ≡ []
 unfolding pathname_lines root_lines
 pathname-silent v q =
-    nil-both (root_lines v) _ (ap (root_reported v) q.root ∙ told-silent _ root_suspect q.suspect)
+    nil-both (root_lines v) _ (ap (root_reported v) q.root ∙ reported-silent _ root_suspect q.suspect)
     (then-silent (goes_on v) (lines_below (lines_of v) v.count) (λ g.
     lines-silent (lines_of v) v.count (λ d l. then-silent (is_looked_at v d) (dir_lines v d) (λ k.
     let p = and_parts (is_dir v d) (not ((v.inode d).size == 0)) k in

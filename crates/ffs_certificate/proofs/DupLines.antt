@@ -15,18 +15,18 @@ use Rattle.ffs_volume.specs.Blocks.Inodes.{is_file_or_dir}
 use Rattle.ffs_volume.specs.Blocks.Owners.{Owner, owners_of}
 use Rattle.ffs_volume.specs.Blocks.Claims.{Claims, no_claims, is_set, is_open, next_inode, after_offer, after_step, after_owner, offer_lines, offers_lines, step_lines, steps_lines}
 use Rattle.ffs_volume.specs.Blocks.BlockCheck.{Offer, class_lines, count_lines, owner_lines, owners_lines, phase1_lines, sectors}
-use Rattle.ffs_volume.specs.Blocks.Keeping.{Place, bads_after, place_of, step_offers, steps_offers, all_offers, OfferVerdict, is_taken, offer_verdict, judged, offer_of}
+use Rattle.ffs_volume.specs.Blocks.Keeping.{CountedOffer, bads_after, counted_offer, step_offers, steps_offers, all_offers, OfferVerdict, is_taken, offer_verdict, verdicts, offer_of}
 use Rattle.ffs_certificate.proofs.KeepingLaws.{OfferTie, offer_tied}
 use Rattle.ffs_certificate.proofs.KeepingOwners.{Tie, Closed, not_kept, still_closed, shut_closed, closed_more, step_tied}
 use Rattle.ffs_certificate.proofs.KeepingWhole.{Agrees, are_before, before_more, judged_before, steps_before, begins, owner_tied, Rising, start_agrees, rising_range}
 
 -- the kept dup ones of some offers
-abbrev pub kept_dups : Layout → List OfferVerdict → List Place → List Offer
+abbrev pub kept_dups : Layout → List OfferVerdict → List CountedOffer → List Offer
 kept_dups v e [] = []
 kept_dups v e (p ∷ ps) = (if (offer_verdict v e p).kept && (offer_verdict v e p).dup then offer_of p ∷ [] else []) ++ kept_dups v (offer_verdict v e p ∷ e) ps
 
-none_reported : (v : Layout) (i b : ℕ) (e : List OfferVerdict) (fs : List ℕ) → Closed i b e → kept_dups v e (map (place_of i b) fs) ≡ []
+none_reported : (v : Layout) (i b : ℕ) (e : List OfferVerdict) (fs : List ℕ) → Closed i b e → kept_dups v e (map (counted_offer i b) fs) ≡ []
 none_reported v i b e [] c = refl
 none_reported v i b e (f ∷ fs) c =
-    ap (λ k. (if k && (offer_verdict v e (place_of i b f)).dup then offer_of (place_of i b f) ∷ [] else []) ++ kept_dups v (offer_verdict v e (place_of i b f) ∷ e) (map (place_of i b) fs)) (not_kept v i b f e c)
-    ∙ none_reported v i b (offer_verdict v e (place_of i b f) ∷ e) fs (still_closed i b (offer_verdict v e (place_of i b f)) e c)
+    ap (λ k. (if k && (offer_verdict v e (counted_offer i b f)).dup then offer_of (counted_offer i b f) ∷ [] else []) ++ kept_dups v (offer_verdict v e (counted_offer i b f) ∷ e) (map (counted_offer i b) fs)) (not_kept v i b f e c)
+    ∙ none_reported v i b (offer_verdict v e (counted_offer i b f) ∷ e) fs (still_closed i b (offer_verdict v e (counted_offer i b f)) e c)

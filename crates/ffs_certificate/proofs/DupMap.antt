@@ -22,9 +22,9 @@ abbrev pub has_fragment : ℕ → List Offer → Bool
 has_fragment f os = list_any (λ o. o.fragment == f) os
 
 -- the marks after some lines
-pub record Marks (v : Layout) (s s' : Claims) (told : List Offer) : Type 0 where
+pub record Marks (v : Layout) (s s' : Claims) (reported : List Offer) : Type 0 where
   pub long : length s'.dup ≡ v.size
-  pub marks : (f : ℕ) → is_set s'.dup f ≡ (is_set s.dup f || has_fragment f told)
+  pub marks : (f : ℕ) → is_set s'.dup f ≡ (is_set s.dup f || has_fragment f reported)
 
 or_false : (b : Bool) → b ≡ (b || false)
 or_false true = refl

@@ -11,9 +11,9 @@ use Rattle.ffs_volume.specs.Directories.Roles.{Volume, RoledEntry, is_dir, is_pl
 use Rattle.ffs_volume.specs.Directories.Graph.{names, names_at, test_at}
 use Rattle.ffs_volume.specs.Directories.Parents.{graph_of, roled_at}
 use Rattle.ffs_volume.specs.Directories.Paths.{dir_path, entry_path}
-use Rattle.ffs_volume.specs.Messages.Kinds.{told, out_of_range, whiteout, unallocated, extraneous, kind_entry, extra_dot, extra_dotdot}
+use Rattle.ffs_volume.specs.Messages.Kinds.{reported, out_of_range, whiteout, unallocated, extraneous, kind_entry, extra_dot, extra_dotdot}
 use Rattle.ffs_volume.specs.Directories.PathnameCheck.{attributes, label_of, roled_lines, roled_reported, entry_lines, plain_lines, named_lines, is_bad_whiteout, reports_suspect, suspect_reported, is_extraneous, is_other_kind, extra_reported}
-use Rattle.ffs_certificate.proofs.Silence.{nil-left, nil-right, nil-both, told-quiet, told-silent, if-quiet, if-silent, else-quiet, else-silent}
+use Rattle.ffs_certificate.proofs.Silence.{nil-left, nil-right, nil-both, reported-quiet, reported-silent, if-quiet, if-silent, else-quiet, else-silent}
 
 -- a plain entry that names an inode from 2 on
 pub record IsNamedQuiet (v : Volume) (s j : ℕ) (e : Entry) : Type 0 where
@@ -31,25 +31,25 @@ pub record IsPlainQuiet (v : Volume) (s j : ℕ) (e : Entry) : Type 0 where
 named-quiet : (v : Volume) (s j : ℕ) (e : Entry) → is_allocated (v.class e.number) ≡ true → named_lines v s j e ≡ [] → IsNamedQuiet v s j e
 unfolding named_lines
 named-quiet v s j e a h =
-    let one = nil-left (told (reports_suspect v s j e.number) (suspect_reported v e.number (entry_path (graph_of v) s e.name))) _ h in
-    let rest = nil-right (told (reports_suspect v s j e.number) (suspect_reported v e.number (entry_path (graph_of v) s e.name))) _ h in
-    let two = nil-left (told (is_extraneous v s j e.number) (extraneous (entry_path (graph_of v) s e.name) (dir_path (graph_of v) e.number))) _ rest in
-    let three = nil-right (told (is_extraneous v s j e.number) (extraneous (entry_path (graph_of v) s e.name) (dir_path (graph_of v) e.number))) _ rest in
+    let one = nil-left (reported (reports_suspect v s j e.number) (suspect_reported v e.number (entry_path (graph_of v) s e.name))) _ h in
+    let rest = nil-right (reported (reports_suspect v s j e.number) (suspect_reported v e.number (entry_path (graph_of v) s e.name))) _ h in
+    let two = nil-left (reported (is_extraneous v s j e.number) (extraneous (entry_path (graph_of v) s e.name) (dir_path (graph_of v) e.number))) _ rest in
+    let three = nil-right (reported (is_extraneous v s j e.number) (extraneous (entry_path (graph_of v) s e.name) (dir_path (graph_of v) e.number))) _ rest in
     record {
       allocated = a;
-      suspect = told-quiet _ (suspect_reported v e.number (entry_path (graph_of v) s e.name)) one;
-      link = told-quiet _ (extraneous (entry_path (graph_of v) s e.name) (dir_path (graph_of v) e.number)) two;
-      kind = told-quiet _ (kind_entry (attributes v e.number) (label_of (v.class e.number)) (entry_path (graph_of v) s e.name)) three;
+      suspect = reported-quiet _ (suspect_reported v e.number (entry_path (graph_of v) s e.name)) one;
+      link = reported-quiet _ (extraneous (entry_path (graph_of v) s e.name) (dir_path (graph_of v) e.number)) two;
+      kind = reported-quiet _ (kind_entry (attributes v e.number) (label_of (v.class e.number)) (entry_path (graph_of v) s e.name)) three;
     }
 
 named-silent : (v : Volume) (s j : ℕ) (e : Entry) → IsNamedQuiet v s j e → named_lines v s j e ≡ []
 unfolding named_lines
 named-silent v s j e q =
-    nil-both (told (reports_suspect v s j e.number) (suspect_reported v e.number (entry_path (graph_of v) s e.name))) _
-    (told-silent _ (suspect_reported v e.number (entry_path (graph_of v) s e.name)) q.suspect)
-    (nil-both (told (is_extraneous v s j e.number) (extraneous (entry_path (graph_of v) s e.name) (dir_path (graph_of v) e.number))) _
-    (told-silent _ (extraneous (entry_path (graph_of v) s e.name) (dir_path (graph_of v) e.number)) q.link)
-    (told-silent _ (kind_entry (attributes v e.number) (label_of (v.class e.number)) (entry_path (graph_of v) s e.name)) q.kind))
+    nil-both (reported (reports_suspect v s j e.number) (suspect_reported v e.number (entry_path (graph_of v) s e.name))) _
+    (reported-silent _ (suspect_reported v e.number (entry_path (graph_of v) s e.name)) q.suspect)
+    (nil-both (reported (is_extraneous v s j e.number) (extraneous (entry_path (graph_of v) s e.name) (dir_path (graph_of v) e.number))) _
+    (reported-silent _ (extraneous (entry_path (graph_of v) s e.name) (dir_path (graph_of v) e.number)) q.link)
+    (reported-silent _ (kind_entry (attributes v e.number) (label_of (v.class e.number)) (entry_path (graph_of v) s e.name)) q.kind))
 
 pub plain-quiet : (v : Volume) (s j : ℕ) (e : Entry) → plain_lines v s j e ≡ [] → IsPlainQuiet v s j e
 unfolding plain_lines

@@ -6,7 +6,7 @@ use Rattle.ffs_volume.specs.declared.Class.{Class}
 use Rattle.ffs_volume.specs.declared.Class.TheVariants.{Free, Partial, Unknown, File, Dir}
 use Rattle.ffs_volume.specs.Directories.Entries.{Entry}
 use Rattle.ffs_volume.specs.Blocks.Inodes.{is_directory, is_allocated, is_unknown}
-use Rattle.ffs_volume.specs.Directories.Roles.{Volume, is_dir, is_inode, is_some_inode, is_suspect, dotdot, references}
+use Rattle.ffs_volume.specs.Directories.Roles.{Volume, is_dir, is_inode, is_allocated_inode, is_suspect, dotdot, references}
 use Rattle.ffs_volume.specs.Directories.Climb.{is_value}
 use Rattle.ffs_volume.proofs.ClimbLaws.{is_value-true}
 use Rattle.ffs_volume.specs.Directories.Graph.{Graph, parent, parent_entry, lost, reached, AllReached, NoExtraneous, NamedOnce}
@@ -15,8 +15,8 @@ use Rattle.ffs_certificate.proofs.Lost.{silent-reached}
 use Rattle.ffs_certificate.proofs.Links.{links-right, has_parent_entry}
 use Rattle.ffs_volume.specs.Directories.Parents.{graph_of, is_from_parent}
 use Rattle.ffs_volume.specs.Directories.PathnameCheck.{is_short, is_bad_whiteout, is_other, is_extraneous, is_other_kind}
-use Rattle.ffs_volume.specs.Directories.Connectivity.{is_cut_off}
-use Rattle.ffs_volume.specs.Consistent.DirectoriesRight.{IsVolume, IsUnmarked, IsWhole, IsPlainRight, AreDirsRight, AreLinksRight, AreCountsRight}
+use Rattle.ffs_volume.specs.Directories.Connectivity.{has_unref_line}
+use Rattle.ffs_volume.specs.Consistent.DirectoriesRight.{IsVolume, IsUnmarked, IsDirSize, IsPlainRight, AreDirsRight, AreLinksRight, AreCountsRight}
 use Rattle.ffs_certificate.proofs.Silence.{and_false-right}
 use Rattle.ffs_certificate.proofs.Live.{plain-live}
 use Rattle.ffs_certificate.proofs.Entries.{names_at-gives, IsPlainQuiet}
@@ -27,8 +27,8 @@ use Rattle.ffs_certificate.proofs.Suspects.{is_sane, dir-from_two, none_empty, n
 -- what silence gives
 pub record IsQuiet (v : Volume) : Type 0 where
   pub pathnames : IsPathnameQuiet v
-  pub connectivity : (d : ℕ) → d < v.count → is_cut_off v d ≡ false
-  pub references : (i : ℕ) → is_some_inode v i ≡ true → IsCountQuiet v i
+  pub connectivity : (d : ℕ) → d < v.count → has_unref_line v d ≡ false
+  pub references : (i : ℕ) → is_allocated_inode v i ≡ true → IsCountQuiet v i
 
 pub some-map : (P Q : Entry → Type 0) (o : Option Entry) → ((e : Entry) → P e → Q e) → IsSomeAnd o P → IsSomeAnd o Q
 some-map P Q None f h = h
@@ -46,7 +46,7 @@ known-false Partial h = refl
 known-false Free h = refl
 
 -- SIZE: a directory's size is a positive multiple of 512
-pub whole : (v : Volume) (d : ℕ) → (v.inode d).size ≢ 0 → IsShapeQuiet v d → IsWhole (v.inode d).size
+pub whole : (v : Volume) (d : ℕ) → (v.inode d).size ≢ 0 → IsShapeQuiet v d → IsDirSize (v.inode d).size
 whole v d n q = record {
   some = omega arith;
   whole = eqb-true ((v.inode d).size % 512) 0 (not-false _ (and_false-right (not (is_short v d)) (not ((v.inode d).size % 512 == 0)) q.broken (not_from_false _ q.short)));
@@ -93,9 +93,9 @@ dirs_right v vol un q = record {
 pub all_reached : (v : Volume) → IsVolume v → IsUnmarked v → IsQuiet v → AllReached (graph_of v)
 all_reached v vol un q =
     let quiet = none_suspect v un (none_empty v vol q.pathnames q.references) in
-    (silent-reached (graph_of v) (is_suspect v) (is_sane v vol) (none_dead v quiet)).0 (λ d. false_from_ne_true (is_cut_off v d) (λ t.
+    (silent-reached (graph_of v) (is_suspect v) (is_sane v vol) (none_dead v quiet)).0 (λ d. false_from_ne_true (has_unref_line v d) (λ t.
     let l = lost-true (graph_of v) (is_suspect v) d (and_parts (lost (graph_of v) (is_suspect v) d) _ t).0 in
-    both_ways (is_cut_off v d) (q.connectivity d (dir-below v d l.dir)) t))
+    both_ways (has_unref_line v d) (q.connectivity d (dir-below v d l.dir)) t))
 
 -- each plain entry that names a directory is its parent entry
 pub no_extraneous : (v : Volume) → IsVolume v → IsUnmarked v → IsQuiet v → NoExtraneous (graph_of v)

@@ -8,7 +8,7 @@ use Rattle.ffs_volume.specs.declared.Layout.{Layout}
 use Rattle.ffs_volume.specs.Disk.Areas.{is_data_fragment, is_reserved}
 use Rattle.ffs_volume.specs.Blocks.Claims.{Claims, is_set, after_offer}
 use Rattle.ffs_certificate.proofs.FreshLaws.{bit}
-use Rattle.ffs_volume.specs.Blocks.Keeping.{place_of, OfferVerdict, is_taken, dups_of, kept_of, offer_verdict}
+use Rattle.ffs_volume.specs.Blocks.Keeping.{counted_offer, OfferVerdict, is_taken, dups_of, kept_of, offer_verdict}
 
 pub dups_cons : (j : OfferVerdict) (e : List OfferVerdict) (i : ℕ) → dups_of (j ∷ e) i ≡ bit (j.dup && j.inode == i) + dups_of e i
 dups_cons j e i = sum_by-cons (λ k. cond (k.dup && k.inode == i) 1 0) j e
@@ -109,12 +109,12 @@ ok_low v f e = ltb-true f v.size (and_parts (nat_lt f v.size) _ e).0
 
 -- one offer of a Run after at most ten bad Runs
 pub offer_tied : (v : Layout) (i b f : ℕ) (s : Claims) (e : List OfferVerdict) → b ≤ 10 → OfferTie v i s e →
-    OfferTie v i (after_offer v s f) (offer_verdict v e (place_of i b f) ∷ e) × ((offer_verdict v e (place_of i b f)).kept ≡ nat_lt s.dups 11)
+    OfferTie v i (after_offer v s f) (offer_verdict v e (counted_offer i b f) ∷ e) × ((offer_verdict v e (counted_offer i b f)).kept ≡ nat_lt s.dups 11)
 unfolding offer_verdict
 offer_tied v i b f s e few t = go (nat_lt s.dups 11) refl (is_data_fragment v f) refl (is_set s.used f) refl
   where
     j : OfferVerdict
-    j = offer_verdict v e (place_of i b f)
+    j = offer_verdict v e (counted_offer i b f)
 
     low : nat_le b 10 ≡ true
     low = le-leb b 10 few
@@ -124,29 +124,29 @@ offer_tied v i b f s e few t = go (nat_lt s.dups 11) refl (is_data_fragment v f)
     kept_is false q = let ge = ltb-false s.dups 11 q in rw low (lt-leb (dups_of e i) 10 (omega (arith, t.capped, ge)))
 
     go : (a : Bool) → nat_lt s.dups 11 ≡ a → (o : Bool) → is_data_fragment v f ≡ o → (u : Bool) → is_set s.used f ≡ u →
-        OfferTie v i (after_offer v s f) (offer_verdict v e (place_of i b f) ∷ e) × ((nat_le b 10 && nat_le (dups_of e i) 10) ≡ nat_lt s.dups 11)
+        OfferTie v i (after_offer v s f) (offer_verdict v e (counted_offer i b f) ∷ e) × ((nat_le b 10 && nat_le (dups_of e i) 10) ≡ nat_lt s.dups 11)
     go false qa o qo u qu =
         let ge = ltb-false s.dups 11 qa in
         let stay : after_offer v s f ≡ s = rw qa refl in (
-          subst (λ x. OfferTie v i x (offer_verdict v e (place_of i b f) ∷ e)) (sym stay)
-              (tie_skip v i s e (offer_verdict v e (place_of i b f)) t refl (kept_is false qa) (omega (arith, t.capped, ge))),
+          subst (λ x. OfferTie v i x (offer_verdict v e (counted_offer i b f) ∷ e)) (sym stay)
+              (tie_skip v i s e (offer_verdict v e (counted_offer i b f)) t refl (kept_is false qa) (omega (arith, t.capped, ge))),
           kept_is false qa ∙ sym qa,
         )
     go true qa false qo u qu =
         let stay : after_offer v s f ≡ record s { kept = s.kept + 1 } = rw (qa, qo) refl in (
-          subst (λ x. OfferTie v i x (offer_verdict v e (place_of i b f) ∷ e)) (sym stay)
-              (tie_past v i s e (offer_verdict v e (place_of i b f)) t refl (kept_is true qa) (rw qo refl) qo),
+          subst (λ x. OfferTie v i x (offer_verdict v e (counted_offer i b f) ∷ e)) (sym stay)
+              (tie_past v i s e (offer_verdict v e (counted_offer i b f)) t refl (kept_is true qa) (rw qo refl) qo),
           kept_is true qa ∙ sym qa,
         )
     go true qa true qo true qu =
         let stay : after_offer v s f ≡ record s { kept = s.kept + 1; dups = s.dups + 1; dup = slice_set s.dup f true } = rw (qa, qo, qu) refl in (
-          subst (λ x. OfferTie v i x (offer_verdict v e (place_of i b f) ∷ e)) (sym stay)
-              (tie_dup v i s e (offer_verdict v e (place_of i b f)) t refl (kept_is true qa) (rw qo (sym (t.used f qo) ∙ qu)) qu (ltb-true s.dups 11 qa) (slice_set s.dup f true)),
+          subst (λ x. OfferTie v i x (offer_verdict v e (counted_offer i b f) ∷ e)) (sym stay)
+              (tie_dup v i s e (offer_verdict v e (counted_offer i b f)) t refl (kept_is true qa) (rw qo (sym (t.used f qo) ∙ qu)) qu (ltb-true s.dups 11 qa) (slice_set s.dup f true)),
           kept_is true qa ∙ sym qa,
         )
     go true qa true qo false qu =
         let stay : after_offer v s f ≡ record s { kept = s.kept + 1; used = slice_set s.used f true } = rw (qa, qo, qu) refl in (
-          subst (λ x. OfferTie v i x (offer_verdict v e (place_of i b f) ∷ e)) (sym stay)
-              (tie_new v i s e (offer_verdict v e (place_of i b f)) t refl (kept_is true qa) (rw qo (sym (t.used f qo) ∙ qu)) (ok_low v f qo)),
+          subst (λ x. OfferTie v i x (offer_verdict v e (counted_offer i b f) ∷ e)) (sym stay)
+              (tie_new v i s e (offer_verdict v e (counted_offer i b f)) t refl (kept_is true qa) (rw qo (sym (t.used f qo) ∙ qu)) (ok_low v f qo)),
           kept_is true qa ∙ sym qa,
         )

@@ -9,10 +9,10 @@ use Rattle.ffs_volume.specs.declared.Step.TheVariants.{Run, Tail, Gap}
 use Rattle.ffs_volume.specs.Disk.Areas.{is_data_fragment, is_reserved}
 use Rattle.ffs_volume.specs.Blocks.Owners.{Owner, owner_of, owners_of}
 use Rattle.ffs_volume.specs.Blocks.Claims.{Claims, is_set, next_inode, no_claims, after_step, after_steps, after_owner, after_owners}
-use Rattle.ffs_volume.specs.Blocks.BlockCheck.{steps_kept, owners_kept}
+use Rattle.ffs_volume.specs.Blocks.BlockCheck.{kept_in_steps, kept_in_owners}
 use Rattle.ffs_certificate.proofs.FreshLaws.{bit}
 use Rattle.ffs_certificate.proofs.BlocksSilent.{reserved_length, reserved_bit}
-use Rattle.ffs_volume.specs.Blocks.Keeping.{Place, bads_after, place_of, step_offers, steps_offers, all_offers, OfferVerdict, is_taken, dups_of, kept_of, offer_verdict, judged, kept_offers}
+use Rattle.ffs_volume.specs.Blocks.Keeping.{CountedOffer, bads_after, counted_offer, step_offers, steps_offers, all_offers, OfferVerdict, is_taken, dups_of, kept_of, offer_verdict, verdicts, kept_by_rule}
 use Rattle.ffs_certificate.specs.Certificate.{KeepsByRule}
 use Rattle.ffs_certificate.proofs.KeepingLaws.{dups_cons, kept_cons, ok_low}
 use Rattle.ffs_certificate.proofs.KeepingOwners.{Tie, step_tied, judged_append, kept_append}
@@ -23,16 +23,16 @@ bads_of v bads [] = bads
 bads_of v bads (step ∷ steps) = bads_of v (bads_after v bads step) steps
 
 pub steps_tied : (v : Layout) (i b : ℕ) (s : Claims) (e : List OfferVerdict) (steps : List Step) → Tie v i b s e →
-    Tie v i (bads_of v b steps) (after_steps v s steps) (judged v e (steps_offers v i b steps))
-    × (steps_kept v i s steps ≡ kept_offers v e (steps_offers v i b steps))
+    Tie v i (bads_of v b steps) (after_steps v s steps) (verdicts v e (steps_offers v i b steps))
+    × (kept_in_steps v i s steps ≡ kept_by_rule v e (steps_offers v i b steps))
 steps_tied v i b s e [] t = (t, refl)
 steps_tied v i b s e (step ∷ steps) t =
     let one = step_tied v i b s e step t in
-    let rest = steps_tied v i (bads_after v b step) (after_step v s step) (judged v e (step_offers v i b step)) steps one.0 in (
+    let rest = steps_tied v i (bads_after v b step) (after_step v s step) (verdicts v e (step_offers v i b step)) steps one.0 in (
       subst (λ x. Tie v i (bads_of v (bads_after v b step) steps) (after_steps v (after_step v s step) steps) x)
           (sym (judged_append v e (step_offers v i b step) (steps_offers v i (bads_after v b step) steps))) rest.0,
-      ap (λ z. z ++ steps_kept v i (after_step v s step) steps) one.1
-          ∙ (ap (λ z. kept_offers v e (step_offers v i b step) ++ z) rest.1
+      ap (λ z. z ++ kept_in_steps v i (after_step v s step) steps) one.1
+          ∙ (ap (λ z. kept_by_rule v e (step_offers v i b step) ++ z) rest.1
           ∙ sym (kept_append v e (step_offers v i b step) (steps_offers v i (bads_after v b step) steps))),
     )
 
@@ -64,21 +64,21 @@ before_more n m (j ∷ e) le h =
     let lt = ltb-true j.inode n parts.0 in
     and_from (nat_lt j.inode m) _ (lt-ltb j.inode m (omega arith)) (before_more n m e le parts.1)
 
-abbrev places_before : ℕ → List Place → Bool
+abbrev places_before : ℕ → List CountedOffer → Bool
 places_before n ps = list_all (λ p. nat_lt p.inode n) ps
 
-pub judged_before : (v : Layout) (n : ℕ) (e : List OfferVerdict) (ps : List Place) → are_before n e ≡ true → places_before n ps ≡ true → are_before n (judged v e ps) ≡ true
+pub judged_before : (v : Layout) (n : ℕ) (e : List OfferVerdict) (ps : List CountedOffer) → are_before n e ≡ true → places_before n ps ≡ true → are_before n (verdicts v e ps) ≡ true
 unfolding offer_verdict
 judged_before v n e [] h g = h
 judged_before v n e (p ∷ ps) h g =
     let parts = and_parts (nat_lt p.inode n) (places_before n ps) g in
     judged_before v n (offer_verdict v e p ∷ e) ps (and_from (nat_lt p.inode n) _ parts.0 h) parts.1
 
-map_before : (i b : ℕ) (fs : List ℕ) → places_before (i + 1) (map (place_of i b) fs) ≡ true
+map_before : (i b : ℕ) (fs : List ℕ) → places_before (i + 1) (map (counted_offer i b) fs) ≡ true
 map_before i b [] = refl
 map_before i b (f ∷ fs) = and_from (nat_lt i (i + 1)) _ (lt-ltb i (i + 1) (omega arith)) (map_before i b fs)
 
-places_append : (n : ℕ) (ps qs : List Place) → places_before n ps ≡ true → places_before n qs ≡ true → places_before n (ps ++ qs) ≡ true
+places_append : (n : ℕ) (ps qs : List CountedOffer) → places_before n ps ≡ true → places_before n qs ≡ true → places_before n (ps ++ qs) ≡ true
 places_append n [] qs h g = g
 places_append n (p ∷ ps) qs h g =
     let parts = and_parts (nat_lt p.inode n) (places_before n ps) h in
@@ -105,8 +105,8 @@ begins v s e o a h =
 
 -- the state and the judged offers at the end of an inode
 pub owner_tied : (v : Layout) (s : Claims) (e : List OfferVerdict) (o : Owner) → Agrees v s e → are_before o.number e ≡ true →
-    Tie v o.number (bads_of v 0 o.steps) (after_owner v s o) (judged v e (steps_offers v o.number 0 o.steps))
-    × (steps_kept v o.number (next_inode s) o.steps ≡ kept_offers v e (steps_offers v o.number 0 o.steps))
+    Tie v o.number (bads_of v 0 o.steps) (after_owner v s o) (verdicts v e (steps_offers v o.number 0 o.steps))
+    × (kept_in_steps v o.number (next_inode s) o.steps ≡ kept_by_rule v e (steps_offers v o.number 0 o.steps))
 owner_tied v s e o a h = steps_tied v o.number 0 (next_inode s) e o.steps (begins v s e o a h)
 
 -- the numbers of inodes rise
@@ -115,16 +115,16 @@ Rising n [] = Unit {0}
 Rising n (o ∷ os) = (n ≤ o.number) × Rising (o.number + 1) os
 
 pub owners_tied : (v : Layout) (n : ℕ) (s : Claims) (e : List OfferVerdict) (os : List Owner) → Agrees v s e → are_before n e ≡ true → Rising n os →
-    Agrees v (after_owners v s os) (judged v e (all_offers v os)) × (owners_kept v s os ≡ kept_offers v e (all_offers v os))
+    Agrees v (after_owners v s os) (verdicts v e (all_offers v os)) × (kept_in_owners v s os ≡ kept_by_rule v e (all_offers v os))
 owners_tied v n s e [] a h r = (a, refl)
 owners_tied v n s e (o ∷ os) a h r =
     let one = owner_tied v s e o a (before_more n o.number e r.0 h) in
     let after = judged_before v (o.number + 1) e (steps_offers v o.number 0 o.steps) (before_more n (o.number + 1) e (omega (arith, r.0)) h) (steps_before v o.number 0 o.steps) in
-    let rest = owners_tied v (o.number + 1) (after_owner v s o) (judged v e (steps_offers v o.number 0 o.steps)) os
+    let rest = owners_tied v (o.number + 1) (after_owner v s o) (verdicts v e (steps_offers v o.number 0 o.steps)) os
     (record { used = one.0.held.used; long = one.0.held.long }) after r.1 in (
       subst (λ x. Agrees v (after_owners v (after_owner v s o) os) x) (sym (judged_append v e (steps_offers v o.number 0 o.steps) (all_offers v os))) rest.0,
-      ap (λ z. z ++ owners_kept v (after_owner v s o) os) one.1
-          ∙ (ap (λ z. kept_offers v e (steps_offers v o.number 0 o.steps) ++ z) rest.1
+      ap (λ z. z ++ kept_in_owners v (after_owner v s o) os) one.1
+          ∙ (ap (λ z. kept_by_rule v e (steps_offers v o.number 0 o.steps) ++ z) rest.1
           ∙ sym (kept_append v e (steps_offers v o.number 0 o.steps) (all_offers v os))),
     )
 

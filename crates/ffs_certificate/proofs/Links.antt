@@ -6,7 +6,7 @@ use Rattle.std.proofs.lemmas.Bool.{cases_eq, cases_Bool, and_parts, and_from, bo
 use Rattle.ffs_volume.proofs.SearchLaws.{some_below-from, some_below-gives, first_below-is}
 use Rattle.ffs_volume.specs.Directories.Climb.{is_value}
 use Rattle.ffs_volume.proofs.ClimbLaws.{is_value-from}
-use Rattle.ffs_volume.specs.Directories.Graph.{Graph, AllReached, edge, names, names_in, parent, parent_by, level, level_edge, reached, entry_place, first_place, test_at, names_at, is_parent_entry, NoExtraneous, LinksRight}
+use Rattle.ffs_volume.specs.Directories.Graph.{Graph, AllReached, edge, names, names_in, parent, parent_by, level, level_edge, reached, entry_index, first_index, test_at, names_at, IsParentEntry, NoExtraneous, LinksRight}
 use Rattle.ffs_volume.proofs.LevelLaws.{within-zero, level-some, level-before, level-is, reached-level}
 use Rattle.ffs_volume.specs.Directories.Roles.{RoledEntry}
 
@@ -27,7 +27,7 @@ parent_edge v d n r =
         let w = some_below-gives (level_edge v k d) v.count (some_below-from (level_edge v k d) v.count b.0 b.1 (and_from (is_value (level v b.0) k) (edge v b.0 d) (is_value-from (level v b.0) k lev) b.3)) in
         (w.0, start ∙ (ap (parent_by v d) e ∙ first_below-is (level_edge v k d) v.count w.0 w.1), (and_parts (is_value (level v w.0) k) (edge v w.0 d) w.1.passes).1)
 
-pub place_of : (p : RoledEntry → Bool) (es : List RoledEntry) → list_any p es ≡ true → (j : ℕ) × (first_place p es ≡ Some j) × (test_at p j es ≡ true)
+pub place_of : (p : RoledEntry → Bool) (es : List RoledEntry) → list_any p es ≡ true → (j : ℕ) × (first_index p es ≡ Some j) × (test_at p j es ≡ true)
 place_of p [] h = absurd (cc)
 place_of p (e ∷ es) h =
     elim (cases_Bool (p e)) [
@@ -35,11 +35,11 @@ place_of p (e ∷ es) h =
       | inr n ↦
           let rest : list_any p es ≡ true = sym (ap (λ b. b || list_any p es) n) ∙ h in
           let r = place_of p es rest in
-          (suc r.0, cond-false (p e) (Some 0) (option_map suc (first_place p es)) n ∙ ap (option_map suc) r.1, r.2)
+          (suc r.0, cond-false (p e) (Some 0) (option_map suc (first_index p es)) n ∙ ap (option_map suc) r.1, r.2)
     ]
 
 -- a reached directory has a parent entry, which names it
-pub has_parent_entry : (v : Graph) (d : ℕ) → d ≢ 2 → reached v d ≡ true → (s : ℕ) × (j : ℕ) × is_parent_entry v s j d × (names_at v s j d ≡ true)
+pub has_parent_entry : (v : Graph) (d : ℕ) → d ≢ 2 → reached v d ≡ true → (s : ℕ) × (j : ℕ) × IsParentEntry v s j d × (names_at v s j d ≡ true)
 has_parent_entry v d n r =
     let e = parent_edge v d n r in
     let a = and_parts (v.is_dir d) (names_in v e.0 d) e.2 in
@@ -47,7 +47,7 @@ has_parent_entry v d n r =
     let p = place_of (names d) (v.entries e.0) b.1 in (
       e.0,
       p.0,
-      (e.1, cond-false (d == 2) None (entry_place v d (parent v d)) (ne_eqb d 2 n) ∙ (ap (entry_place v d) e.1 ∙ p.1)),
+      (e.1, cond-false (d == 2) None (entry_index v d (parent v d)) (ne_eqb d 2 n) ∙ (ap (entry_index v d) e.1 ∙ p.1)),
       and_from (v.is_dir e.0) (test_at (names d) p.0 (v.entries e.0)) b.0 p.2,
     )
 

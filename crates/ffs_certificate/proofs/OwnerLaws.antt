@@ -13,17 +13,17 @@ use Rattle.ffs_volume.specs.Blocks.Inodes.{is_file_or_dir}
 use Rattle.ffs_volume.specs.Blocks.Owners.{Owner, step_fragments, fragments_of, all_steps}
 use Rattle.ffs_volume.specs.Blocks.Claims.{Claims, next_inode, after_owner, after_owners, steps_lines}
 use Rattle.ffs_volume.specs.Blocks.BlockCheck.{class_lines, count_lines, owner_lines, owners_lines, sectors}
-use Rattle.ffs_volume.specs.Consistent.BlocksRight.{is_whole_class, run_in_range, is_no_tail, is_counted}
+use Rattle.ffs_volume.specs.Consistent.BlocksRight.{is_right_class, run_in_range, is_no_tail, is_field_right}
 use Rattle.ffs_certificate.proofs.BlockLaws.{is_nil, nil_append, mark, fresh, fresh_append, mark_append, Calm, Claimed, calm_open, fits, step_quiet, steps_quiet, steps_say, steps_claim}
 
 abbrev pub owner_quiet : Layout → List Bool → Owner → Bool
-owner_quiet v used o = is_whole_class o.class && (steps_quiet v used o.steps && is_counted v o)
+owner_quiet v used o = is_right_class o.class && (steps_quiet v used o.steps && is_field_right v o)
 
 abbrev pub owners_quiet : Layout → List Bool → List Owner → Bool
 owners_quiet v used [] = true
 owners_quiet v used (o ∷ os) = owner_quiet v used o && owners_quiet v (mark used (fragments_of o.steps)) os
 
-class_says : (i : ℕ) (c : Class) → is_nil (class_lines i c) ≡ is_whole_class c
+class_says : (i : ℕ) (c : Class) → is_nil (class_lines i c) ≡ is_right_class c
 class_says i Free = refl
 class_says i Partial = refl
 class_says i Unknown = refl
@@ -33,7 +33,7 @@ class_says i Dir = refl
 pub start_calm : (s : Claims) → Calm (next_inode s)
 start_calm s = record { bad = refl; dups = refl; tail = refl }
 
-count_says : (v : Layout) (s end : Claims) (o : Owner) → Claimed (next_inode s) end (fragments_of o.steps) → is_nil (count_lines v o end) ≡ is_counted v o
+count_says : (v : Layout) (s end : Claims) (o : Owner) → Claimed (next_inode s) end (fragments_of o.steps) → is_nil (count_lines v o end) ≡ is_field_right v o
 count_says v s end o done =
     let ready = calm_open end done.calm in
     let many : end.kept ≡ length (fragments_of o.steps) = omega (arith, done.kept) in
@@ -49,16 +49,16 @@ owner_says v s o =
     nil_append (class_lines o.number o.class) _
     ∙ (ap (λ b. is_nil (class_lines o.number o.class) && b) (nil_append (steps_lines v o.number (next_inode s) o.steps) (count_lines v o (after_owner v s o)))
     ∙ rw (class_says o.number o.class, steps_say v o.number (next_inode s) o.steps (start_calm s))
-    (ap (λ b. is_whole_class o.class && b) (one (steps_quiet v s.used o.steps) refl)))
+    (ap (λ b. is_right_class o.class && b) (one (steps_quiet v s.used o.steps) refl)))
   where
-    one : (b : Bool) → steps_quiet v s.used o.steps ≡ b → (steps_quiet v s.used o.steps && is_nil (count_lines v o (after_owner v s o))) ≡ (steps_quiet v s.used o.steps && is_counted v o)
+    one : (b : Bool) → steps_quiet v s.used o.steps ≡ b → (steps_quiet v s.used o.steps && is_nil (count_lines v o (after_owner v s o))) ≡ (steps_quiet v s.used o.steps && is_field_right v o)
     one true e = ap (λ b. steps_quiet v s.used o.steps && b) (count_says v s (after_owner v s o) o (steps_claim v (next_inode s) o.steps (start_calm s) e))
     one false e = rw e refl
 
 pub owner_claims : (v : Layout) (s : Claims) (o : Owner) → owner_quiet v s.used o ≡ true → Claimed (next_inode s) (after_owner v s o) (fragments_of o.steps)
 owner_claims v s o e =
-    let parts = and_parts (is_whole_class o.class) (steps_quiet v s.used o.steps && is_counted v o) e in
-    steps_claim v (next_inode s) o.steps (start_calm s) (and_parts (steps_quiet v s.used o.steps) (is_counted v o) parts.1).0
+    let parts = and_parts (is_right_class o.class) (steps_quiet v s.used o.steps && is_field_right v o) e in
+    steps_claim v (next_inode s) o.steps (start_calm s) (and_parts (steps_quiet v s.used o.steps) (is_field_right v o) parts.1).0
 
 pub owners_say : (v : Layout) (s : Claims) (os : List Owner) → is_nil (owners_lines v s os) ≡ owners_quiet v s.used os
 owners_say v s [] = refl
@@ -113,36 +113,36 @@ steps_from v used (x ∷ xs) r t f =
     and_from _ _ (and_from _ _ (and_from _ _ a.0 b.0) c.0) (steps_from v (mark used (step_fragments x)) xs a.1 b.1 c.1)
 
 pub record Quiet (v : Layout) (used : List Bool) (os : List Owner) : Type 0 where
-  pub classes : list_all (λ o. is_whole_class o.class) os ≡ true
+  pub classes : list_all (λ o. is_right_class o.class) os ≡ true
   pub in_range : list_all (run_in_range v) (all_steps os) ≡ true
   pub no_tail : list_all is_no_tail (all_steps os) ≡ true
   pub new : fresh used (fragments_of (all_steps os)) ≡ true
-  pub counted : list_all (is_counted v) os ≡ true
+  pub counted : list_all (is_field_right v) os ≡ true
 
 pub owners_parts : (v : Layout) (used : List Bool) (os : List Owner) → owners_quiet v used os ≡ true → Quiet v used os
 owners_parts v used [] e = record { classes = refl; in_range = refl; no_tail = refl; new = refl; counted = refl }
 owners_parts v used (o ∷ os) e =
     let a = and_parts (owner_quiet v used o) (owners_quiet v (mark used (fragments_of o.steps)) os) e in
-    let b = and_parts (is_whole_class o.class) (steps_quiet v used o.steps && is_counted v o) a.0 in
-    let c = and_parts (steps_quiet v used o.steps) (is_counted v o) b.1 in
+    let b = and_parts (is_right_class o.class) (steps_quiet v used o.steps && is_field_right v o) a.0 in
+    let c = and_parts (steps_quiet v used o.steps) (is_field_right v o) b.1 in
     let d = steps_parts v used o.steps c.0 in
     let rest = owners_parts v (mark used (fragments_of o.steps)) os a.1 in
     record {
-      classes = and_from (is_whole_class o.class) _ b.0 rest.classes;
+      classes = and_from (is_right_class o.class) _ b.0 rest.classes;
       in_range = list_all-append (run_in_range v) o.steps (all_steps os) ∙ and_from _ _ d.0 rest.in_range;
       no_tail = list_all-append is_no_tail o.steps (all_steps os) ∙ and_from _ _ d.1 rest.no_tail;
       new = ap (fresh used) (fragments_append o.steps (all_steps os)) ∙ (fresh_append used (fragments_of o.steps) (fragments_of (all_steps os)) ∙ and_from _ _ d.2 rest.new);
-      counted = and_from (is_counted v o) _ c.1 rest.counted;
+      counted = and_from (is_field_right v o) _ c.1 rest.counted;
     }
 
 pub owners_from : (v : Layout) (used : List Bool) (os : List Owner) → Quiet v used os → owners_quiet v used os ≡ true
 owners_from v used [] q = refl
 owners_from v used (o ∷ os) q =
-    let a = and_parts (is_whole_class o.class) (list_all (λ p. is_whole_class p.class) os) q.classes in
+    let a = and_parts (is_right_class o.class) (list_all (λ p. is_right_class p.class) os) q.classes in
     let b = and_parts (list_all (run_in_range v) o.steps) (list_all (run_in_range v) (all_steps os)) (sym (list_all-append (run_in_range v) o.steps (all_steps os)) ∙ q.in_range) in
     let c = and_parts (list_all is_no_tail o.steps) (list_all is_no_tail (all_steps os)) (sym (list_all-append is_no_tail o.steps (all_steps os)) ∙ q.no_tail) in
     let d = and_parts (fresh used (fragments_of o.steps)) (fresh (mark used (fragments_of o.steps)) (fragments_of (all_steps os)))
     (sym (fresh_append used (fragments_of o.steps) (fragments_of (all_steps os))) ∙ (ap (fresh used) (sym (fragments_append o.steps (all_steps os))) ∙ q.new)) in
-    let k = and_parts (is_counted v o) (list_all (is_counted v) os) q.counted in
+    let k = and_parts (is_field_right v o) (list_all (is_field_right v) os) q.counted in
     and_from _ _ (and_from _ _ a.0 (and_from _ _ (steps_from v used o.steps b.0 c.0 d.0) k.0))
     (owners_from v (mark used (fragments_of o.steps)) os (record { classes = a.1; in_range = b.1; no_tail = c.1; new = d.1; counted = k.1 }))

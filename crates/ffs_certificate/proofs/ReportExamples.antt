@@ -8,7 +8,7 @@ use Rattle.ffs_volume.specs.Blocks.Owners.{owner_of, owners_of}
 use Rattle.ffs_volume.specs.Blocks.Claims.{reserved_map, no_claims}
 use Rattle.ffs_volume.specs.Blocks.BlockCheck.{phase1_lines, phase1b_lines, is_marked}
 use Rattle.ffs_volume.specs.Blocks.KeptSteps.{claims_before, kept_steps_of}
-use Rattle.ffs_volume.specs.Directories.Entries.{is_well_formed, entry_there, entry_at, entries_from}
+use Rattle.ffs_volume.specs.Directories.Entries.{is_well_formed, entry_read, entry_at, entries_from}
 use Rattle.ffs_volume.specs.Directories.Roles.{role_of, roled_from, roled_entries, start_entry, dot, dotdot, references_below}
 use Rattle.ffs_volume.specs.Directories.Search.{first_below, earliest}
 use Rattle.ffs_volume.specs.Directories.Climb.{climb}
@@ -28,7 +28,7 @@ use Rattle.ffs_certificate.specs.ReportExamples.{ReportExamples, inode_bytes, di
 use Rattle.ffs_volume.specs.declared.Order.TheVariants.{Little, Big}
 use Rattle.ffs_volume.specs.Messages.Kinds.{opening}
 use Rattle.ffs_volume.specs.Report.Opening.{head_lines}
-use Rattle.ffs_volume.specs.Report.Whole.{reported_of, ends_of}
+use Rattle.ffs_volume.specs.Report.Whole.{lines_by_outcome, end_by_outcome}
 use Rattle.ffs_certificate.proofs.ReportLaws.{certified}
 use Rattle.std.specs.Prelude.{codes}
 use Rattle.ffs_volume.proofs.OpeningExamples.{superblock_examples}
@@ -37,7 +37,7 @@ use Rattle.ffs_certificate.proofs.SharedReport.{shared_lines}
 use Rattle.ffs_certificate.proofs.DirReport.{named_pathnames, named_connected, named_references, unnamed}
 
 pub report_examples : ReportExamples
-unfolding bytes_in word zeros base_layout base_superblock base_super base_summary base_group root_inode root_chunk base_image entry_bytes inode_bytes dir_chunk two_dirs named_dir unnamed_dir shared_summary shared_group shared_image shared_superblock number all_below any_below u16_at i16_at u32_at u64_at i32_at cgoffset_of cgbase cgstart is_group_metadata is_data_fragment is_in_range is_reserved decoded inode_of class_of steps_at steps_of owner_of owners_of reserved_map no_claims phase1_lines phase1b_lines is_marked claims_before kept_steps_of is_well_formed entry_there entry_at entries_from role_of roled_from roled_entries reading_of volume_with volume_of start_entry dot dotdot references_below first_below earliest climb within level parent lines_below attributes root_lines shape_lines dot_lines dotdot_lines named_lines plain_lines roled_lines entry_lines dir_lines pathname_lines connectivity_lines inode_lines reference_lines right_summary right_frsum right_total are_places is_magic are_maps are_sums is_record is_total phase5_lines setting_lines file_count used_count later_lines text_lines report_lines report_of report_end
+unfolding bytes_in word zeros base_layout base_superblock base_super base_summary base_group root_inode root_chunk base_image entry_bytes inode_bytes dir_chunk two_dirs named_dir unnamed_dir shared_summary shared_group shared_image shared_superblock number all_below any_below u16_at i16_at u32_at u64_at i32_at cgoffset_of cgbase cgstart is_group_metadata is_data_fragment is_in_range is_reserved decoded inode_of class_of steps_at steps_of owner_of owners_of reserved_map no_claims phase1_lines phase1b_lines is_marked claims_before kept_steps_of is_well_formed entry_read entry_at entries_from role_of roled_from roled_entries reading_of volume_with volume_of start_entry dot dotdot references_below first_below earliest climb within level parent lines_below attributes root_lines shape_lines dot_lines dotdot_lines named_lines plain_lines roled_lines entry_lines dir_lines pathname_lines connectivity_lines inode_lines reference_lines right_summary right_frsum right_total are_places is_magic are_maps are_sums is_record is_total phase5_lines setting_lines file_count used_count later_lines text_lines report_lines report_of report_end
 report_examples =
     let accepted = superblock_examples.accepted in
     let accepted_big = superblock_examples.accepted_big in
@@ -45,9 +45,9 @@ report_examples =
     let right_big = (certified (base_image Big) None (base_superblock Big) accepted_big) in
     let silent = right.silent.0 (ap has_defect base_lines) in
     record {
-      base = ap (λ r. head_lines (codes "t.img") None ++ reported_of (base_image Little) r) accepted ∙ ap (λ ls. opening (codes "t.img") ∷ ls) base_lines;
-      base_big = ap (λ r. head_lines (codes "t.img") None ++ reported_of (base_image Big) r) accepted_big ∙ ap (λ ls. opening (codes "t.img") ∷ ls) base_big_lines;
-      base_end = ap (ends_of (base_image Little)) accepted ∙ right.end_is.1 silent;
+      base = ap (λ r. head_lines (codes "t.img") None ++ lines_by_outcome (base_image Little) r) accepted ∙ ap (λ ls. opening (codes "t.img") ∷ ls) base_lines;
+      base_big = ap (λ r. head_lines (codes "t.img") None ++ lines_by_outcome (base_image Big) r) accepted_big ∙ ap (λ ls. opening (codes "t.img") ∷ ls) base_big_lines;
+      base_end = ap (end_by_outcome (base_image Little)) accepted ∙ right.end_is.1 silent;
       base_right = silent;
       base_big_right = right_big.silent.0 (ap has_defect base_big_lines);
       shared = shared_lines;

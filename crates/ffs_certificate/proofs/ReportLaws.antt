@@ -19,7 +19,7 @@ use Rattle.ffs_volume.specs.Groups.Records.{GroupsRight}
 use Rattle.ffs_volume.specs.Groups.GroupCheck.{phase5_lines, is_free_of_kept}
 use Rattle.ffs_certificate.proofs.GroupLaws.{phase5_silent, same_free}
 use Rattle.ffs_volume.specs.Messages.Kinds.{Message, NameMessage, optimization, minfree, mounted, phase1b, of_blocks, of_names, is_defect, has_defect}
-use Rattle.ffs_volume.specs.Report.Opening.{before_nul, is_optimization, is_minfree, unless_message, setting_lines, super_lines}
+use Rattle.ffs_volume.specs.Report.Opening.{before_nul, is_optimization, is_minfree, message_unless, setting_lines, super_lines}
 use Rattle.ffs_volume.specs.Blocks.Inodes.{is_directory}
 use Rattle.ffs_volume.specs.Directories.Roles.{Volume}
 use Rattle.ffs_volume.specs.Directories.PathnameCheck.{root_reported, root_lines, pathname_lines, goes_on}
@@ -55,29 +55,29 @@ quiet_blocks ms e = ap (λ ms. has_defect (map of_blocks ms)) e
 quiet_names : (ms : List NameMessage) → ms ≡ [] → has_defect (map of_names ms) ≡ false
 quiet_names ms e = ap (λ ms. has_defect (map of_names ms)) e
 
-kept_line : (b : Bool) (line : Message) → is_defect line ≡ true → has_defect (unless_message b line) ≡ false → b ≡ true
+kept_line : (b : Bool) (line : Message) → is_defect line ≡ true → has_defect (message_unless b line) ≡ false → b ≡ true
 kept_line true line d h = refl
 kept_line false line d h = (let r : true ≡ false = sym d ∙ (or_parts (is_defect line) false h).0 in absurd (cc))
 
-no_line : (b : Bool) (line : Message) → b ≡ true → has_defect (unless_message b line) ≡ false
-no_line b line e = ap (λ b. has_defect (unless_message b line)) e
+no_line : (b : Bool) (line : Message) → b ≡ true → has_defect (message_unless b line) ≡ false
+no_line b line e = ap (λ b. has_defect (message_unless b line)) e
 
 -- THE SETTINGS
 settings_say : (super : Superblock) → has_defect (super_lines super) ≡ false → AreSettingsRight super
 unfolding setting_lines
 settings_say super h =
     let a = quiet_parts (setting_lines super) (mounted (before_nul super.mount) ∷ []) h in
-    let p = quiet_parts (unless_message (is_optimization super) optimization) (unless_message (is_minfree super) (minfree super.minfree)) a.0 in
+    let p = quiet_parts (message_unless (is_optimization super) optimization) (message_unless (is_minfree super) (minfree super.minfree)) a.0 in
     record { optimization = kept_line (is_optimization super) optimization refl p.0; minfree = kept_line (is_minfree super) (minfree super.minfree) refl p.1 }
 
 settings_quiet : (super : Superblock) → AreSettingsRight super → has_defect (super_lines super) ≡ false
 unfolding setting_lines
 settings_quiet super s =
     quiet_from (setting_lines super) (mounted (before_nul super.mount) ∷ [])
-    (quiet_from (unless_message (is_optimization super) optimization) (unless_message (is_minfree super) (minfree super.minfree))
+    (quiet_from (message_unless (is_optimization super) optimization) (message_unless (is_minfree super) (minfree super.minfree))
     (no_line (is_optimization super) optimization s.optimization) (no_line (is_minfree super) (minfree super.minfree) s.minfree)) refl
 
-nil_message : (b : Bool) (message : Message) → unless_message b message ≡ [] → b ≡ true
+nil_message : (b : Bool) (message : Message) → message_unless b message ≡ [] → b ≡ true
 nil_message true message h = refl
 nil_message false message h = absurd (cc)
 
@@ -90,9 +90,9 @@ pub settings_reported : (super : Superblock) → (setting_lines super ≡ []) �
 unfolding setting_lines
 settings_reported super = (
   (λ h.
-      let p = nil_parts (unless_message (is_optimization super) optimization) (unless_message (is_minfree super) (minfree super.minfree)) h in
+      let p = nil_parts (message_unless (is_optimization super) optimization) (message_unless (is_minfree super) (minfree super.minfree)) h in
       record { optimization = nil_message (is_optimization super) optimization p.0; minfree = nil_message (is_minfree super) (minfree super.minfree) p.1 }),
-  (λ r. ap (λ b. unless_message b optimization ++ unless_message (is_minfree super) (minfree super.minfree)) r.optimization ∙ ap (λ b. unless_message b (minfree super.minfree)) r.minfree),
+  (λ r. ap (λ b. message_unless b optimization ++ message_unless (is_minfree super) (minfree super.minfree)) r.optimization ∙ ap (λ b. message_unless b (minfree super.minfree)) r.minfree),
 )
 
 -- THE ROOT: a run that stops after it has reported so
@@ -234,7 +234,7 @@ consistent_end image super e = end_quiet (goes_on (volume_of super.layout image)
 pub stop_reported : StopIsReported
 unfolding end_of
 stop_reported image super h = record {
-  told = true_from_ne_false _
+  reported = true_from_ne_false _
       (λ q. (let w : true ≡ false = sym (root_there (volume_of super.layout image) (text_say image super q).pathnames) ∙ h in cc));
   end_is = ap (λ on. end_by on (has_defect (report_lines image super))) h;
 }

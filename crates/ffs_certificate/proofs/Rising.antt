@@ -11,7 +11,7 @@ use Rattle.std.proofs.lemmas.List.Folds.{list_all-append}
 use Rattle.ffs_volume.specs.declared.Step.{Step}
 use Rattle.ffs_volume.specs.declared.Step.TheVariants.{Run, Gap}
 use Rattle.ffs_volume.specs.Disk.Areas.{is_in_range}
-use Rattle.ffs_volume.specs.Blocks.Inodes.{blocks_of, used_addresses}
+use Rattle.ffs_volume.specs.Blocks.Inodes.{logical_blocks_of, addresses_for}
 use Rattle.ffs_volume.specs.Blocks.Steps.{Extent, word_at, block_bytes, any_word_from, used_words, tail_of, data_length, span_of, steps_at, level_of, first_block, steps_of_addresses, walks, last_of, steps_of}
 use Rattle.ffs_volume.proofs.StepLaws.{one_more, span_more, next_first, used_most}
 use Rattle.ffs_certificate.specs.BlocksRise.{step_blocks, blocks_in, AreRising, AllBlocksRise}
@@ -157,7 +157,7 @@ at_within t bytes (suc level) address first lt = one (nat_eq address 0) (λ a b 
 low_first : (words i : ℕ) → i < 13 → first_block words i ≡ i
 low_first words i h = ap (λ b. if b then i else (if nat_eq i 13 then 12 + words else 12 + words + words * words)) (lt-ltb i 13 h)
 
-first_below : (words blocks i : ℕ) → i < used_addresses words blocks → first_block words i < blocks
+first_below : (words blocks i : ℕ) → i < addresses_for words blocks → first_block words i < blocks
 first_below words blocks i h = one (nat_lt blocks 13) refl h
   where
     top : (c : Bool) → nat_lt (12 + words + words * words) blocks ≡ c → nat_lt (12 + words) blocks ≡ true → 13 ≤ blocks → i < (if c then 15 else 14) → first_block words i < blocks
@@ -193,7 +193,7 @@ after t bytes addresses next zero le r = tt
 after t bytes addresses next (suc n) le r =
     subst (λ a. AreRising a (blocks_in (steps_of_addresses t bytes addresses (next + 1) (suc n)))) (sym (next_first t.geometry.nindir next (omega (arith, le)))) r
 
-addresses_go : (t : Extent) (bytes addresses : List ℕ) (next count : ℕ) → next + count ≤ 15 → next + count ≤ used_addresses t.geometry.nindir t.blocks →
+addresses_go : (t : Extent) (bytes addresses : List ℕ) (next count : ℕ) → next + count ≤ 15 → next + count ≤ addresses_for t.geometry.nindir t.blocks →
     Goes t (first_block t.geometry.nindir next) (steps_of_addresses t bytes addresses next count)
 addresses_go t bytes addresses next zero le used = record { rising = tt; below = refl }
 addresses_go t bytes addresses next (suc count) le used =
@@ -218,19 +218,19 @@ below_more n m (x ∷ xs) le h =
 
 pub all_blocks_rise : AllBlocksRise
 unfolding steps_of
-all_blocks_rise v i image = record { rising = steps.rising; below = below_more nb (blocks_of v i) _ (most (walks v i)) steps.below }
+all_blocks_rise v i image = record { rising = steps.rising; below = below_more nb (logical_blocks_of v i) _ (most (walks v i)) steps.below }
   where
     nb : ℕ
-    nb = if walks v i then blocks_of v i else 0
+    nb = if walks v i then logical_blocks_of v i else 0
 
     t : Extent
     t = record { geometry = v; blocks = nb; last = last_of v i }
 
-    most : (b : Bool) → (if b then blocks_of v i else 0) ≤ blocks_of v i
+    most : (b : Bool) → (if b then logical_blocks_of v i else 0) ≤ logical_blocks_of v i
     most true = omega arith
     most false = omega arith
 
-    steps : Goes t 0 (steps_of_addresses t image i.addresses 0 (used_addresses v.nindir nb))
+    steps : Goes t 0 (steps_of_addresses t image i.addresses 0 (addresses_for v.nindir nb))
     steps =
         let few = used_most v.nindir nb in
-        addresses_go t image i.addresses 0 (used_addresses v.nindir nb) (omega (arith, few)) (omega arith)
+        addresses_go t image i.addresses 0 (addresses_for v.nindir nb) (omega (arith, few)) (omega arith)

@@ -2,7 +2,7 @@
 use Rattle.std.specs.Prelude.{◌≡◌, ◌≢◌, ℕ, zero, suc, ◌<◌, Bool, true, false, ◌&&◌, refl, List, [], ◌∷◌, ◌++◌, if◌then◌else◌}
 use Rattle.std.proofs.Common.{arith, sym, ◌∙◌, ap, inl, inr}
 use Rattle.std.proofs.lemmas.Bool.{cases_eq}
-use Rattle.ffs_volume.specs.Messages.Kinds.{NameMessage, told, lines_below}
+use Rattle.ffs_volume.specs.Messages.Kinds.{NameMessage, reported, lines_below}
 
 pub nil-left : (xs ys : List NameMessage) → xs ++ ys ≡ [] → xs ≡ []
 nil-left [] ys h = refl
@@ -16,12 +16,12 @@ pub nil-both : (xs ys : List NameMessage) → xs ≡ [] → ys ≡ [] → xs ++ 
 nil-both [] ys g h = h
 nil-both (x ∷ xs) ys g h = absurd (cc)
 
-pub told-quiet : (b : Bool) (m : NameMessage) → told b m ≡ [] → b ≡ false
-told-quiet true m h = absurd (cc)
-told-quiet false m h = refl
+pub reported-quiet : (b : Bool) (m : NameMessage) → reported b m ≡ [] → b ≡ false
+reported-quiet true m h = absurd (cc)
+reported-quiet false m h = refl
 
-pub told-silent : (b : Bool) (m : NameMessage) → b ≡ false → told b m ≡ []
-told-silent b m h = ap (λ x. told x m) h
+pub reported-silent : (b : Bool) (m : NameMessage) → b ≡ false → reported b m ≡ []
+reported-silent b m h = ap (λ x. reported x m) h
 
 -- one of two, where the first has a message
 pub if-quiet : (b : Bool) (m : NameMessage) (ms ys : List NameMessage) → (if b then m ∷ ms else ys) ≡ [] → (b ≡ false) × (ys ≡ [])

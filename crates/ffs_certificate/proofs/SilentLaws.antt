@@ -15,7 +15,7 @@ use Rattle.ffs_volume.specs.Blocks.Steps.{steps_of}
 use Rattle.ffs_volume.specs.Blocks.Owners.{owner_of, owners_of, step_fragments}
 use Rattle.ffs_volume.specs.Blocks.Claims.{Claims, no_claims, reserved_map, next_inode, is_open, after_step, after_owner, after_owners}
 use Rattle.ffs_volume.specs.Blocks.BlockCheck.{blames, is_marked, phase1_lines, phase1b_lines}
-use Rattle.ffs_volume.specs.Consistent.BlocksRight.{is_whole_class, BlocksRight}
+use Rattle.ffs_volume.specs.Consistent.BlocksRight.{is_right_class, BlocksRight}
 use Rattle.ffs_certificate.proofs.BlockLaws.{mark, Calm, calm_open, step_quiet, steps_quiet, step_claims}
 use Rattle.ffs_certificate.proofs.OwnerLaws.{owner_quiet, owners_quiet, owner_claims, owners_from, start_calm}
 use Rattle.ffs_certificate.proofs.BlocksSilent.{right_quiet, blocks_silent}
@@ -45,7 +45,7 @@ unfolding owner_of
 kept_at v image s a zero d x e lt q = absurd (omega arith)
 kept_at v image s a (suc k) zero x e lt q =
     let parts = and_parts (owner_quiet v s.used (owner_of v image a)) _ q in
-    let whole = and_parts (is_whole_class (class_of v (inode_of v image a))) _ parts.0 in
+    let whole = and_parts (is_right_class (class_of v (inode_of v image a))) _ parts.0 in
     let same : a ≡ x = omega arith in
     subst (λ y. kept_steps v (next_inode s) (steps_of v (inode_of v image y) image) ≡ steps_of v (inode_of v image y) image) same
     (steps_kept_quiet v (next_inode s) (steps_of v (inode_of v image a) image) (start_calm s) (and_parts (steps_quiet v s.used (steps_of v (inode_of v image a) image)) _ whole.1).0)
@@ -62,7 +62,7 @@ all_kept v image r x low high =
     kept_at v image (no_claims v) 2 (v.ncg * v.ipg - 2) (x - 2) x (omega arith) (omega arith)
     (owners_from v (reserved_map v) (owners_of v image) (right_quiet v (owners_of v image) r))
 
-whole_known : (c : Class) → is_whole_class c ≡ true → is_unknown c ≡ false
+whole_known : (c : Class) → is_right_class c ≡ true → is_unknown c ≡ false
 whole_known Free e = refl
 whole_known Partial e = refl
 whole_known Unknown e = absurd (cc)
@@ -74,7 +74,7 @@ pub none_marked : (v : Layout) (image : List ℕ) → BlocksRight v (owners_of v
 unfolding is_marked owners_of owner_of
 none_marked v image r x low high =
     let none = (blocks_silent v (owners_of v image)).1 r in
-    let whole = all_at (λ y. is_whole_class (class_of v (inode_of v image y))) 2 (v.ncg * v.ipg - 2) x
-    (sym (list_all-map (λ o. is_whole_class o.class) (owner_of v image) (range_with_len 2 (v.ncg * v.ipg - 2))) ∙ r.classes) low (omega arith) in
+    let whole = all_at (λ y. is_right_class (class_of v (inode_of v image y))) 2 (v.ncg * v.ipg - 2) x
+    (sym (list_all-map (λ o. is_right_class o.class) (owner_of v image) (range_with_len 2 (v.ncg * v.ipg - 2))) ∙ r.classes) low (omega arith) in
     let known = whole_known (class_of v (inode_of v image x)) whole in
     ap (λ b. b || list_any (blames x) (phase1_lines v (owners_of v image) ++ phase1b_lines v (owners_of v image))) known ∙ ap (list_any (blames x)) none

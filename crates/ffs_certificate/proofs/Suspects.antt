@@ -6,11 +6,11 @@ use Rattle.std.proofs.lemmas.Bool.{both_ways, cases_Bool, cases_eq, eq-eqb, ne_e
 use Rattle.ffs_volume.specs.declared.Class.{Class}
 use Rattle.ffs_volume.specs.declared.Class.TheVariants.{Free, Partial, Unknown, File, Dir}
 use Rattle.ffs_volume.specs.Blocks.Inodes.{is_directory, is_allocated}
-use Rattle.ffs_volume.specs.Directories.Roles.{Volume, is_dir, is_inode, is_some_inode, is_suspect, roled_entries}
+use Rattle.ffs_volume.specs.Directories.Roles.{Volume, is_dir, is_inode, is_allocated_inode, is_suspect, roled_entries}
 use Rattle.ffs_volume.proofs.SearchLaws.{some_below-gives, first_below-is}
 use Rattle.ffs_volume.specs.Directories.Climb.{is_value}
 use Rattle.ffs_volume.proofs.ClimbLaws.{is_value-from}
-use Rattle.ffs_volume.specs.Directories.Graph.{names, names_in, named, first_place, test_at, IsSane, NoneDead}
+use Rattle.ffs_volume.specs.Directories.Graph.{names, names_in, named, first_index, test_at, IsSane, NoneDead}
 use Rattle.ffs_certificate.proofs.Links.{place_of}
 use Rattle.ffs_volume.specs.Directories.Parents.{graph_of, roled_at, first_namer, is_first_name}
 use Rattle.ffs_volume.specs.Directories.PathnameCheck.{reports_suspect}
@@ -35,7 +35,7 @@ directory-allocated Unknown h = absurd (cc)
 directory-allocated Partial h = absurd (cc)
 directory-allocated Free h = absurd (cc)
 
-pub dir-allocated : (v : Volume) (d : ℕ) → is_dir v d ≡ true → is_some_inode v d ≡ true
+pub dir-allocated : (v : Volume) (d : ℕ) → is_dir v d ≡ true → is_allocated_inode v d ≡ true
 dir-allocated v d h =
     let p = and_parts (is_inode v d) (is_directory (v.class d)) h in
     and_from (is_inode v d) (is_allocated (v.class d)) p.0 (directory-allocated (v.class d) p.1)
@@ -49,9 +49,9 @@ first_name v x h =
     let q = place_of (names x) (roled_entries v w.0) p.1 in (
       w.0,
       q.0,
-      and_from (is_value (first_namer g x) w.0) (is_value (first_place (names x) (roled_entries v w.0)) q.0)
+      and_from (is_value (first_namer g x) w.0) (is_value (first_index (names x) (roled_entries v w.0)) q.0)
           (is_value-from (first_namer g x) w.0 (first_below-is (λ s. names_in g s x) v.count w.0 w.1))
-          (is_value-from (first_place (names x) (roled_entries v w.0)) q.0 q.1),
+          (is_value-from (first_index (names x) (roled_entries v w.0)) q.0 q.1),
       names_at-gives v w.0 q.0 x (and_from (is_dir v w.0) (test_at (names x) q.0 (roled_entries v w.0)) p.0 q.2),
     )
 
@@ -73,7 +73,7 @@ named_reported v vol p d n h z t =
     both_ways (reports_suspect v f.0 f.1 d) (subst (λ x. reports_suspect v f.0 f.1 x ≡ false) number (quiet.named not_one).suspect) tells
 
 -- no directory has size 0
-pub none_empty : (v : Volume) → IsVolume v → IsPathnameQuiet v → ((i : ℕ) → is_some_inode v i ≡ true → IsCountQuiet v i) → (d : ℕ) → is_dir v d ≡ true → (v.inode d).size ≢ 0
+pub none_empty : (v : Volume) → IsVolume v → IsPathnameQuiet v → ((i : ℕ) → is_allocated_inode v i ≡ true → IsCountQuiet v i) → (d : ℕ) → is_dir v d ≡ true → (v.inode d).size ≢ 0
 none_empty v vol p r d h z =
     elim (cases_eq d 2) [
       | inl e ↦ both_ways (is_suspect v 2) p.suspect (subst (λ x. is_suspect v x ≡ true) e (zero-suspect v d h z))

@@ -15,7 +15,7 @@ use Rattle.ffs_volume.specs.Blocks.Inodes.{inode_of, class_of, type_of, is_known
 use Rattle.ffs_volume.specs.Blocks.Steps.{steps_of}
 use Rattle.ffs_volume.specs.Blocks.Owners.{owner_of, owners_of}
 use Rattle.ffs_volume.specs.Blocks.BlockCheck.{is_marked}
-use Rattle.ffs_volume.specs.Consistent.BlocksRight.{is_whole_class, BlocksRight}
+use Rattle.ffs_volume.specs.Consistent.BlocksRight.{is_right_class, BlocksRight}
 use Rattle.ffs_volume.proofs.Sizes.{some_inodes, no_steps}
 use Rattle.ffs_certificate.proofs.GroupLaws.{all_at}
 use Rattle.ffs_volume.specs.Blocks.Claims.{next_inode}
@@ -65,19 +65,19 @@ whole_is_volume v image g =
 number_bounds : (v : Layout) (x : ℕ) → is_inode_number v x ≡ true → (2 ≤ x) × (x < v.ncg * v.ipg)
 number_bounds v x h = let p = and_parts (nat_le 2 x) (nat_lt x (v.ncg * v.ipg)) h in (leb-true 2 x p.0, ltb-true x (v.ncg * v.ipg) p.1)
 
-whole_number : (v : Layout) (image : List ℕ) → BlocksRight v (owners_of v image) → (x : ℕ) → is_inode_number v x ≡ true → is_whole_class (class_of v (inode_of v image x)) ≡ true
+whole_number : (v : Layout) (image : List ℕ) → BlocksRight v (owners_of v image) → (x : ℕ) → is_inode_number v x ≡ true → is_right_class (class_of v (inode_of v image x)) ≡ true
 unfolding owners_of owner_of
 whole_number v image r x h =
     let b = number_bounds v x h in
     let low = b.0 in
     let high = b.1 in
-    all_at (λ y. is_whole_class (class_of v (inode_of v image y))) 2 (v.ncg * v.ipg - 2) x
-    (sym (list_all-map (λ o. is_whole_class o.class) (owner_of v image) (range_with_len 2 (v.ncg * v.ipg - 2))) ∙ r.classes) low (omega arith)
+    all_at (λ y. is_right_class (class_of v (inode_of v image y))) 2 (v.ncg * v.ipg - 2) x
+    (sym (list_all-map (λ o. is_right_class o.class) (owner_of v image) (range_with_len 2 (v.ncg * v.ipg - 2))) ∙ r.classes) low (omega arith)
 
-whole_class : (v : Layout) (image : List ℕ) → BlocksRight v (owners_of v image) → (x : ℕ) → is_whole_class (class_at v image x) ≡ true
+whole_class : (v : Layout) (image : List ℕ) → BlocksRight v (owners_of v image) → (x : ℕ) → is_right_class (class_at v image x) ≡ true
 whole_class v image r x = one (is_inode_number v x) refl
   where
-    one : (b : Bool) → is_inode_number v x ≡ b → is_whole_class (if b then class_of v (inode_of v image x) else Free) ≡ true
+    one : (b : Bool) → is_inode_number v x ≡ b → is_right_class (if b then class_of v (inode_of v image x) else Free) ≡ true
     one true e = whole_number v image r x e
     one false e = refl
 
@@ -85,8 +85,8 @@ pub whole_unmarked : (v : Layout) (image : List ℕ) → BlocksRight v (owners_o
 unfolding whole_volume volume_with
 whole_unmarked v image r = record {
   marked = λ x. refl;
-  known = λ x e. (let w : false ≡ true = sym (ap is_whole_class e) ∙ whole_class v image r x in cc);
-  whole = λ x e. (let w : false ≡ true = sym (ap is_whole_class e) ∙ whole_class v image r x in cc);
+  known = λ x e. (let w : false ≡ true = sym (ap is_right_class e) ∙ whole_class v image r x in cc);
+  whole = λ x e. (let w : false ≡ true = sym (ap is_right_class e) ∙ whole_class v image r x in cc);
 }
 
 -- where the blocks are right, the volume of the kept steps is that of all steps

@@ -9,7 +9,7 @@ use Rattle.ffs_volume.specs.Blocks.Owners.{owner_of, owners_of, inode_numbers}
 use Rattle.ffs_volume.specs.Blocks.Claims.{Claims, no_claims, after_owner, after_owners}
 use Rattle.ffs_volume.specs.Blocks.ClaimBounds.{used_bits}
 use Rattle.ffs_volume.proofs.Weights.{owner_moves}
-use Rattle.ffs_volume.specs.Report.Whole.{claim_count}
+use Rattle.ffs_volume.specs.Report.Whole.{run_count}
 use Rattle.ffs_certificate.specs.Bounded.{ClaimsAreBounded}
 use Rattle.ffs_certificate.proofs.BlocksSilent.{reserved_length}
 
@@ -26,7 +26,7 @@ inodes_move v image s (x ∷ xs) g h =
     (omega (arith, one.weighs, more.0, few, few_dups), more.1)
 
 pub claims_bounded : ClaimsAreBounded
-unfolding claim_count owners_of no_claims
+unfolding run_count owners_of no_claims
 claims_bounded v image g =
     let all = inodes_move v image (no_claims v) (inode_numbers v) g (reserved_length v) in
     let many = length-range_with_len 2 (v.ncg * v.ipg - 2) in

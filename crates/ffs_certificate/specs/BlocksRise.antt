@@ -5,7 +5,7 @@ use Rattle.ffs_volume.specs.declared.Layout.{Layout}
 use Rattle.ffs_volume.specs.declared.Inode.{Inode}
 use Rattle.ffs_volume.specs.declared.Step.{Step}
 use Rattle.ffs_volume.specs.declared.Step.TheVariants.{Run, Tail, Gap}
-use Rattle.ffs_volume.specs.Blocks.Inodes.{blocks_of}
+use Rattle.ffs_volume.specs.Blocks.Inodes.{logical_blocks_of}
 use Rattle.ffs_volume.specs.Blocks.Steps.{steps_of}
 
 -- the logical blocks of the Runs of data among some steps
@@ -26,7 +26,7 @@ AreRising low (b ∷ bs) = (low ≤ b) × AreRising (b + 1) bs
 -- the logical blocks of an inode's Runs rise, and are below the number of its logical blocks
 pub record BlocksRise (v : Layout) (i : Inode) (image : List ℕ) : Type 0 where
   pub rising : AreRising 0 (blocks_in (steps_of v i image))
-  pub below : list_all (λ b. nat_lt b (blocks_of v i)) (blocks_in (steps_of v i image)) ≡ true
+  pub below : list_all (λ b. nat_lt b (logical_blocks_of v i)) (blocks_in (steps_of v i image)) ≡ true
 
 abbrev pub AllBlocksRise : Type 0
 AllBlocksRise = (v : Layout) (i : Inode) (image : List ℕ) → BlocksRise v i image

@@ -8,18 +8,18 @@ use Rattle.ffs_volume.specs.Disk.Superblock.{Superblock}
 use Rattle.ffs_volume.specs.Disk.Outcome.{outcome}
 use Rattle.ffs_volume.specs.Blocks.Owners.{owners_of}
 use Rattle.ffs_volume.specs.Blocks.BlockCheck.{phase1_lines}
-use Rattle.ffs_volume.specs.Consistent.BlocksRight.{is_whole_class, BlocksRight}
+use Rattle.ffs_volume.specs.Consistent.BlocksRight.{is_right_class, BlocksRight}
 use Rattle.ffs_volume.specs.Groups.Records.{GroupsRight}
 use Rattle.ffs_volume.specs.Groups.GroupCheck.{phase5_lines, is_free_of_kept, is_free_of_runs}
 use Rattle.ffs_volume.specs.Directories.Entries.{Entry}
 use Rattle.ffs_volume.specs.Blocks.Inodes.{is_allocated}
-use Rattle.ffs_volume.specs.Directories.Roles.{Volume, RoledEntry, is_dir, is_some_inode, roled_entries, dot, dotdot, references}
+use Rattle.ffs_volume.specs.Directories.Roles.{Volume, RoledEntry, is_dir, is_allocated_inode, roled_entries, dot, dotdot, references}
 use Rattle.ffs_volume.specs.Directories.Graph.{parent}
 use Rattle.ffs_volume.specs.Directories.Parents.{graph_of, roled_at}
 use Rattle.ffs_volume.specs.Report.Opening.{setting_lines}
-use Rattle.ffs_volume.specs.Directories.PathnameCheck.{goes_on, is_short, is_broken, are_sound, is_other, is_bad_whiteout, is_extraneous, is_other_kind}
-use Rattle.ffs_volume.specs.Directories.Connectivity.{is_cut_off}
-use Rattle.ffs_volume.specs.Disk.Numbers.{is_count}
+use Rattle.ffs_volume.specs.Directories.PathnameCheck.{goes_on, is_short, is_not_multiple, are_sound, is_other, is_bad_whiteout, is_extraneous, is_other_kind}
+use Rattle.ffs_volume.specs.Directories.Connectivity.{has_unref_line}
+use Rattle.ffs_volume.specs.Disk.Numbers.{is_the_count}
 use Rattle.ffs_volume.specs.Consistent.DirectoriesRight.{AreDirsRight, AreLinksRight, AreCountsRight}
 use Rattle.ffs_volume.specs.Directories.Volumes.{class_at, volume_of, whole_volume}
 use Rattle.ffs_volume.specs.Consistent.Volume.{AreSettingsRight, AreRunsRight}
@@ -48,7 +48,7 @@ pub record IsPlainUnreported (v : Volume) (e : Entry) : Type 0 where
 pub record IsDirUnreported (v : Volume) (d : ℕ) : Type 0 where
   pub some : (v.inode d).size ≢ 0
   pub short : is_short v d ≡ false
-  pub broken : is_broken v d ≡ false
+  pub broken : is_not_multiple v d ≡ false
   pub gap : v.gap d ≡ false
   pub sound : are_sound (v.chunks d) ≡ true
   pub dot_there : IsSomeAnd (dot v d) (λ e. (e.number ≡ d) × (e.kind ≡ 4))
@@ -65,23 +65,23 @@ pub record AreDirsUnreported (v : Volume) : Type 0 where
 pub record AreLinksUnreported (v : Volume) : Type 0 where
   pub dotdots : (d : ℕ) → is_dir v d ≡ true → IsSomeAnd (dotdot v d) (λ e. is_other (parent (graph_of v) d) e.number ≡ false)
   pub links : (s j : ℕ) (e : RoledEntry) → is_dir v s ≡ true → roled_at (roled_entries v s) j ≡ Some e → e.role ≡ Plain → is_extraneous v s j e.entry.number ≡ false
-  pub lost : (d : ℕ) → is_cut_off v d ≡ false
+  pub lost : (d : ℕ) → has_unref_line v d ≡ false
 
 -- of condition 6: no UNREF and no LINK COUNT
 pub record IsCountUnreported (v : Volume) (i : ℕ) : Type 0 where
   pub some : references v i ≢ 0
-  pub same : is_count (v.inode i).nlink (references v i) ≡ true
+  pub same : is_the_count (v.inode i).nlink (references v i) ≡ true
 
 abbrev pub AreCountsUnreported : Volume → Type 0
-AreCountsUnreported v = (i : ℕ) → is_some_inode v i ≡ true → IsCountUnreported v i
+AreCountsUnreported v = (i : ℕ) → is_allocated_inode v i ≡ true → IsCountUnreported v i
 
 -- Each condition and what is reported for it. Those of directories and groups are asked where the conditions on classes and Runs hold:
 -- the volume that the checks see is then that of all steps, and what is free is free of all Runs
 pub record ConditionsReported (image : List ℕ) (s : Superblock) : Type 0 where
   pub settings : (setting_lines s ≡ []) ↔ AreSettingsRight s
   pub classes : (list_any is_class_message (phase1_lines s.layout (owners_of s.layout image)) ≡ false)
-      ↔ (list_all (λ o. is_whole_class o.class) (owners_of s.layout image) ≡ true)
-  pub runs : list_all (λ o. is_whole_class o.class) (owners_of s.layout image) ≡ true →
+      ↔ (list_all (λ o. is_right_class o.class) (owners_of s.layout image) ≡ true)
+  pub runs : list_all (λ o. is_right_class o.class) (owners_of s.layout image) ≡ true →
       (phase1_lines s.layout (owners_of s.layout image) ≡ []) ↔ AreRunsRight s.layout (owners_of s.layout image)
   pub whole : BlocksRight s.layout (owners_of s.layout image) → volume_of s.layout image ≡ whole_volume s.layout image
   pub checks : BlocksRight s.layout (owners_of s.layout image) → IsSilent (whole_volume s.layout image)

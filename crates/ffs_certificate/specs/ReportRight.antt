@@ -20,7 +20,7 @@ ReportIsRight = (image : List ℕ) (sector : Option ℕ) (s : Superblock) → ou
 
 -- a run that stops after the root has reported a defect, and ends as such
 pub record IsReportedStop (image : List ℕ) (s : Superblock) : Type 0 where
-  pub told : has_defect (text_lines image s) ≡ true
+  pub reported : has_defect (text_lines image s) ≡ true
   pub end_is : end_of image s ≡ RootStop
 
 -- where inode 2 is no directory

@@ -6,7 +6,7 @@ use Rattle.ffs_volume.specs.declared.End.{End}
 use Rattle.ffs_volume.specs.declared.End.TheVariants.{WriteFault}
 use Rattle.ffs_volume.specs.Disk.Superblock.{Superblock}
 use Rattle.ffs_volume.specs.Messages.Kinds.{Message, cannot_read, minfree, mounted, optimization, has_defect, is_defect}
-use Rattle.ffs_volume.specs.Report.Opening.{before_nul, is_minfree, is_optimization, setting_lines, super_lines, unless_message}
+use Rattle.ffs_volume.specs.Report.Opening.{before_nul, is_minfree, is_optimization, setting_lines, super_lines, message_unless}
 use Rattle.ffs_volume.specs.Report.Whole.{end_by}
 use Rattle.std.specs.Borrow.{GName}
 use Rattle.ffs_report.specs.Sink.{Sink}
@@ -19,7 +19,7 @@ use Rattle.ffs_phase.specs.declared.fault.RunFault.TheVariants.{Read, Out}
 use Rattle.ffs_pathnames.specs.declared.phase.Root.{Root}
 use Rattle.ffs_pathnames.specs.GoesOn.{is_go}
 use Rattle.ffs_check.specs.Ends.{IsCut, ReportsBefore, Ran, RunsThrough}
-use Rattle.ffs_check.specs.Told.{FaultReported, EndsAs}
+use Rattle.ffs_check.specs.PhaseEnds.{FaultReported, EndsAs}
 use Rattle.ffs_check.proofs.Openings.{broke_off, broke_in_line}
 
 -- what an image's bytes determine, and nothing for an image that doesn't give them
@@ -56,15 +56,15 @@ module _ (before : Bool) (knows : List ℕ → Type 0) (lines : List ℕ → Lis
   cut : (sector : ℕ) (prefix : List Message) (rest : List ℕ → List Message) → ForBytes knows (λ bytes. prefix ++ rest bytes ≡ lines bytes) →
       ForBytes knows (λ bytes. 0 < length (rest bytes)) → Said a b prefix → Faulted image image' sector →
       FaultReported b c sector end → Ran before knows lines goes image image' a c end
-  cut sector prefix rest right more said f (inl told) = record {
+  cut sector prefix rest right more said f (inl reported) = record {
     text = prefix ++ at_reported image.contents rest;
     right = λ bytes k. ap (λ more. prefix ++ more) (at_reported_is image.contents rest bytes (tells bytes k)) ∙ right bytes k;
     ends = inr (inl (record {
       sector = sector;
       messages = prefix;
       cut = cut_at sector prefix rest more f;
-      said = said_then a b c prefix (cannot_read sector ∷ []) said told.0;
-      end_is = told.1;
+      said = said_then a b c prefix (cannot_read sector ∷ []) said reported.0;
+      end_is = reported.1;
     }));
   }
   cut sector prefix rest right more said f (inr unreported) = record {
@@ -101,9 +101,9 @@ module _ (before : Bool) (knows : List ℕ → Type 0) (lines : List ℕ → Lis
   ran (Err (Out fault)) p still went e = part p.messages p.rest p.right p.stopped still e.0 e.1
 
 -- what a report said that had just begun went to its output
-pub runs_through : (before : Bool) (told : List Message) → before ≡ has_defect told → (knows : List ℕ → Type 0) (lines : List ℕ → List Message) (goes : List ℕ → Bool) (image image' : Device) (output : GName) (sink : Sink) (new : Progress) (end : End) →
-    Ran before knows lines goes image image' (starts output sink) new end → RunsThrough told knows lines goes image image' sink new.sink end
-runs_through before told e knows lines goes image image' output sink new end ran = record {
+pub runs_through : (before : Bool) (reported : List Message) → before ≡ has_defect reported → (knows : List ℕ → Type 0) (lines : List ℕ → List Message) (goes : List ℕ → Bool) (image image' : Device) (output : GName) (sink : Sink) (new : Progress) (end : End) →
+    Ran before knows lines goes image image' (starts output sink) new end → RunsThrough reported knows lines goes image image' sink new.sink end
+runs_through before reported e knows lines goes image image' output sink new end ran = record {
   text = ran.text;
   right = ran.right;
   ends = elim ran.ends [
@@ -113,7 +113,7 @@ runs_through before told e knows lines goes image image' output sink new end ran
       on = all.on;
       went = all.went;
       end_is = all.end_is ∙ ap (λ defect. end_by all.on (before || defect)) all.said.defect ∙ ap (λ b. end_by all.on (b || has_defect ran.text)) e
-          ∙ ap (end_by all.on) (sym (has_defect-append told ran.text));
+          ∙ ap (end_by all.on) (sym (has_defect-append reported ran.text));
     })
     | inr rest ↦ elim rest [
       | inl short ↦ inr (inl (record { sector = short.sector; messages = short.messages; cut = short.cut; took = short.said.took; end_is = short.end_is }))
@@ -168,16 +168,16 @@ ran_knows before knows known lines goes image image' a b end more ran = record {
   ];
 }
 
-pub runs_at : (told : List Message) (knows : List ℕ → Type 0) (lines : List ℕ → List Message) (goes : List ℕ → Bool) (image image' : Device) (out at at' : Sink) (end : End) → at ≡ at' →
-    RunsThrough told knows lines goes image image' out at end → RunsThrough told knows lines goes image image' out at' end
-runs_at told knows lines goes image image' out at at' end e runs = subst (λ to. RunsThrough told knows lines goes image image' out to end) e runs
+pub runs_at : (reported : List Message) (knows : List ℕ → Type 0) (lines : List ℕ → List Message) (goes : List ℕ → Bool) (image image' : Device) (out at at' : Sink) (end : End) → at ≡ at' →
+    RunsThrough reported knows lines goes image image' out at end → RunsThrough reported knows lines goes image image' out at' end
+runs_at reported knows lines goes image image' out at at' end e runs = subst (λ to. RunsThrough reported knows lines goes image image' out to end) e runs
 
 -- the settings of an accepted superblock report a defect where one of them isn't what it may be
 settings_defect : (a b : Bool) (x y : Message) → is_defect x ≡ true → is_defect y ≡ true → (xs : List Message) → has_defect xs ≡ false →
-    not (a && b) ≡ has_defect ((unless_message a x ++ unless_message b y) ++ xs)
+    not (a && b) ≡ has_defect ((message_unless a x ++ message_unless b y) ++ xs)
 settings_defect true true x y dx dy xs e = sym e
 settings_defect true false x y dx dy xs e = sym (ap (λ d. d || has_defect xs) dy)
-settings_defect false b x y dx dy xs e = sym (ap (λ d. d || has_defect (unless_message b y ++ xs)) dx)
+settings_defect false b x y dx dy xs e = sym (ap (λ d. d || has_defect (message_unless b y ++ xs)) dx)
 
 pub opening_defect : (s : Superblock) → not (is_optimization s && is_minfree s) ≡ has_defect (super_lines s)
 unfolding setting_lines

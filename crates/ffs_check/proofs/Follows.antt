@@ -21,7 +21,7 @@ use Rattle.ffs_layout.specs.Super.{Answers, seen}
 use Rattle.ffs_phase.specs.Known.{IsContents}
 use Rattle.ffs_check.specs.Opening.{Opened}
 use Rattle.ffs_check.specs.Ends.{IsCut, SaidWhole, SaidCut, SaidPart, SaidInLine}
-use Rattle.ffs_check.specs.Found.{RefusalReported, Followed}
+use Rattle.ffs_check.specs.Followed.{RefusalReported, Followed}
 use Rattle.ffs_check.specs.Headline.{is_completed, opened_lines, IsCutLater, Headline}
 use Rattle.ffs_check.proofs.Openings.{broke_off, broke_in_line, found_of, still_of}
 use Rattle.ffs_check.proofs.Endings.{at_reported, at_reported_is, faulted_there}
@@ -31,15 +31,15 @@ module _ (image : Device) (name : List ℕ) (sector : Option ℕ) (output : GNam
     (p : Progress) (opened : Said (starts output sink) p (opened_lines name sector s)) (image' : Device) (new : Progress) where
   -- the memory was refused
   unstarted : (end : End) → image' ≡ image → RefusalReported p new end → Headline image image' name sector sink new.sink end
-  unstarted end still (inl told) = record {
+  unstarted end still (inl reported) = record {
     text = opened_lines name sector s ++ at_reported image.contents (λ bytes. text_lines bytes s);
     is_report = λ bytes t. whole_there bytes name sector s _ (accepted bytes t) (at_reported_is image.contents (λ bytes. text_lines bytes s) bytes t);
     ends = inr (inr (inr (inl (record {
       said = opened_lines name sector s;
       line = cannot_alloc;
       cut = record { unread = still; found = s; accepted = λ bytes t. sym (accepted bytes t); said_is = refl; line_is = refl };
-      took = (said_then (starts output sink) p new (opened_lines name sector s) (cannot_alloc ∷ []) opened told.0).took;
-      end_is = told.1;
+      took = (said_then (starts output sink) p new (opened_lines name sector s) (cannot_alloc ∷ []) opened reported.0).took;
+      end_is = reported.1;
     }))));
   }
   unstarted end still (inr unreported) = record {
@@ -160,7 +160,7 @@ not_by true false fault e = (let w : Consistent ≡ Refused fault = e in cc)
 not_by false defect fault e = (let w : RootStop ≡ Refused fault = e in cc)
 
 not_reported : (p new : Progress) (end : End) (fault : SuperFault) → RefusalReported p new end → end ≡ Refused fault → ⊥
-not_reported p new end fault (inl told) e = (let w : NoMemory ≡ Refused fault = sym told.1 ∙ e in cc)
+not_reported p new end fault (inl reported) e = (let w : NoMemory ≡ Refused fault = sym reported.1 ∙ e in cc)
 not_reported p new end fault (inr unreported) e = (let w : WriteFault ≡ Refused fault = sym unreported.1 ∙ e in cc)
 
 pub not_refused : (s : Superblock) (image image' : Device) (p new : Progress) (end : End) (fault : SuperFault) → Followed s image image' p new end → end ≡ Refused fault → ⊥

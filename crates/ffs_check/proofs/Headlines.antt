@@ -10,7 +10,7 @@ use Rattle.ffs_volume.specs.Disk.Outcome.{outcome}
 use Rattle.ffs_volume.specs.Messages.Kinds.{Message, cannot_read, has_defect}
 use Rattle.ffs_volume.specs.Report.Opening.{head_lines, super_lines, fault_line, opening_lines}
 use Rattle.ffs_volume.specs.Directories.PathnameCheck.{goes_on}
-use Rattle.ffs_volume.specs.Report.Whole.{text_lines, report_lines, end_by, end_of, reported_of, ends_of, report_of, report_end}
+use Rattle.ffs_volume.specs.Report.Whole.{text_lines, report_lines, end_by, end_of, lines_by_outcome, end_by_outcome, report_of, report_end}
 use Rattle.ffs_volume.specs.Messages.Texts.{texts_of}
 use Rattle.ffs_volume.specs.Directories.Volumes.{volume_of}
 use Rattle.std.specs.Borrow.{GName}
@@ -29,20 +29,20 @@ no_defect_head : (name : List ℕ) (sector : Option ℕ) (xs : List Message) →
 no_defect_head name None xs = refl
 no_defect_head name (Some at) xs = refl
 
-report_there : (bytes name : List ℕ) (sector : Option ℕ) (found : Result Superblock SuperFault) → found ≡ outcome bytes sector → head_lines name sector ++ reported_of bytes found ≡ report_of bytes name sector
+report_there : (bytes name : List ℕ) (sector : Option ℕ) (found : Result Superblock SuperFault) → found ≡ outcome bytes sector → head_lines name sector ++ lines_by_outcome bytes found ≡ report_of bytes name sector
 unfolding report_of
-report_there bytes name sector found e = ap (λ f. head_lines name sector ++ reported_of bytes f) e
+report_there bytes name sector found e = ap (λ f. head_lines name sector ++ lines_by_outcome bytes f) e
 
-pub end_there : (bytes : List ℕ) (sector : Option ℕ) (found : Result Superblock SuperFault) → found ≡ outcome bytes sector → ends_of bytes found ≡ report_end bytes sector
+pub end_there : (bytes : List ℕ) (sector : Option ℕ) (found : Result Superblock SuperFault) → found ≡ outcome bytes sector → end_by_outcome bytes found ≡ report_end bytes sector
 unfolding report_end
-end_there bytes sector found e = ap (ends_of bytes) e
+end_there bytes sector found e = ap (end_by_outcome bytes) e
 
 -- what follows the opening
 more_of : List ℕ → Result Superblock SuperFault → List Message
 more_of bytes (Ok s) = text_lines bytes s
 more_of bytes (Err fault) = []
 
-opening_then : (bytes name : List ℕ) (sector : Option ℕ) (found : Result Superblock SuperFault) → opening_lines name sector found ++ more_of bytes found ≡ head_lines name sector ++ reported_of bytes found
+opening_then : (bytes name : List ℕ) (sector : Option ℕ) (found : Result Superblock SuperFault) → opening_lines name sector found ++ more_of bytes found ≡ head_lines name sector ++ lines_by_outcome bytes found
 unfolding report_lines more_of
 opening_then bytes name sector (Ok s) = append_assoc (head_lines name sector) (super_lines s) (text_lines bytes s)
 opening_then bytes name sector (Err fault) = append-nil (head_lines name sector ++ (fault_line fault ∷ []))
@@ -89,8 +89,8 @@ module _ (image image' : Device) (name : List ℕ) (sector : Option ℕ) (output
   refused fault (inl unread) said =
       let there : fault ≡ CannotRead image'.failed = unread.0.0 in
       record {
-        text = head_lines name sector ++ at_reported image.contents (λ bytes. reported_of bytes (outcome bytes sector));
-        is_report = λ bytes t. ap (λ more. head_lines name sector ++ more) (at_reported_is image.contents (λ bytes. reported_of bytes (outcome bytes sector)) bytes t) ∙ report_there bytes name sector (outcome bytes sector) refl;
+        text = head_lines name sector ++ at_reported image.contents (λ bytes. lines_by_outcome bytes (outcome bytes sector));
+        is_report = λ bytes t. ap (λ more. head_lines name sector ++ more) (at_reported_is image.contents (λ bytes. lines_by_outcome bytes (outcome bytes sector)) bytes t) ∙ report_there bytes name sector (outcome bytes sector) refl;
         ends = inr (inl (record {
           said = head_lines name sector;
           line = cannot_read image'.failed;
@@ -134,8 +134,8 @@ module _ (image image' : Device) (name : List ℕ) (sector : Option ℕ) (output
   stopped_in_line : (fault : SuperFault) → Answers image image' sector (Err fault) → (between : Progress) → Said (starts output sink) between (head_lines name sector) → Stopped between p (fault_line fault ∷ []) →
       Headline image image' name sector sink p.sink WriteFault
   stopped_in_line fault (inl unread) between said stop = record {
-    text = head_lines name sector ++ at_reported image.contents (λ bytes. reported_of bytes (outcome bytes sector));
-    is_report = λ bytes t. ap (λ more. head_lines name sector ++ more) (at_reported_is image.contents (λ bytes. reported_of bytes (outcome bytes sector)) bytes t) ∙ report_there bytes name sector (outcome bytes sector) refl;
+    text = head_lines name sector ++ at_reported image.contents (λ bytes. lines_by_outcome bytes (outcome bytes sector));
+    is_report = λ bytes t. ap (λ more. head_lines name sector ++ more) (at_reported_is image.contents (λ bytes. lines_by_outcome bytes (outcome bytes sector)) bytes t) ∙ report_there bytes name sector (outcome bytes sector) refl;
     ends = inr (inr (inr (inr (inr (record {
       said = head_lines name sector;
       line = fault_line fault;

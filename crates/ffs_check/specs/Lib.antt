@@ -1,10 +1,10 @@
 pub mod Ends
 pub mod Failures
-pub mod Found
+pub mod Followed
 pub mod Headline
 pub mod Opening
+pub mod PhaseEnds
 pub mod Rest
 pub mod Run
 pub mod Taken
-pub mod Told
 pub mod Words

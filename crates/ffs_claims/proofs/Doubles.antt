@@ -18,7 +18,7 @@ use Rattle.ffs_volume.specs.Blocks.Inodes.{is_file_or_dir}
 use Rattle.ffs_volume.specs.Blocks.Owners.{Owner, owners_of}
 use Rattle.ffs_volume.specs.Blocks.Claims.{Claims, no_claims, next_inode, is_open, is_set, after_offer, after_offers, after_run, after_step, after_steps, after_owner, after_owners, offer_lines, offers_lines, run_lines, step_lines, steps_lines}
 use Rattle.ffs_volume.proofs.Weights.{cond_holds, ok_below, count_set}
-use Rattle.ffs_volume.specs.Blocks.BlockCheck.{Offer, class_lines, count_lines, owner_lines, owners_lines, owners_kept, phase1_lines, phase1b_lines, is_dup_line, has_rescan, blames, first_offers}
+use Rattle.ffs_volume.specs.Blocks.BlockCheck.{Offer, class_lines, count_lines, owner_lines, owners_lines, kept_in_owners, phase1_lines, phase1b_lines, is_dup_line, has_rescan, blames, first_offer_lines}
 use Rattle.ffs_volume.specs.Directories.Volumes.{is_inode_number}
 use Rattle.ffs_workspace.specs.Holds.{first_marked_at, all_claims, HoldsPhase1, HoldsClaims}
 use Rattle.ffs_workspace.specs.declared.workspace.Workspace.{Workspace}
@@ -166,13 +166,13 @@ none_clear bits f e = one (slice_index_or bits f false) refl (cases_lt f (length
     one true q (inl low) = absurd (omega (arith, count_clear bits f low q, e))
     one true q (inr past) = get_or-eq_default bits false past
 
-pub none_first : (bits : List Bool) (os : List Offer) → set_count bits ≡ 0 → first_offers bits os ≡ []
+pub none_first : (bits : List Bool) (os : List Offer) → set_count bits ≡ 0 → first_offer_lines bits os ≡ []
 none_first bits [] e = refl
 none_first bits (o ∷ os) e = rw (none_clear bits o.fragment e) (none_first bits os e)
 
 first_none : (v : Layout) (image : List ℕ) → set_count (all_claims v image).dup ≡ 0 → phase1b_lines v (owners_of v image) ≡ []
 unfolding all_claims phase1b_lines
-first_none v image e = none_first (after_owners v (no_claims v) (owners_of v image)).dup (owners_kept v (no_claims v) (owners_of v image)) e
+first_none v image e = none_first (after_owners v (no_claims v) (owners_of v image)).dup (kept_in_owners v (no_claims v) (owners_of v image)) e
 
 -- where there is no Dup line, phase 1 leaves what phase 1b would
 pub no_rescan : (v : Layout) (image : List ℕ) (w : Workspace) → has_rescan v (owners_of v image) ≡ false → HoldsPhase1 v image w → HoldsClaims v image w

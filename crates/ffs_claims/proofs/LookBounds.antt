@@ -13,7 +13,7 @@ use Rattle.ffs_volume.specs.Blocks.Owners.{Owner, owner_of, owners_of, inode_num
 use Rattle.ffs_volume.specs.Blocks.Claims.{Claims, no_claims, reserved_map, next_inode, is_open, after_step, after_steps, after_owner, after_owners}
 use Rattle.ffs_volume.specs.Blocks.ClaimBounds.{used_bits}
 use Rattle.ffs_volume.specs.Blocks.BlockCheck.{Offer}
-use Rattle.ffs_volume.specs.Report.Whole.{claim_count}
+use Rattle.ffs_volume.specs.Report.Whole.{run_count}
 use Rattle.ffs_volume.proofs.Weights.{cond_holds, owner_moves}
 use Rattle.ffs_workspace.specs.Lengths.{set_count}
 use Rattle.ffs_claims.specs.Reporting.{after_first}
@@ -71,8 +71,8 @@ looked_most dup (kept ∷ runs) =
     (λ _. omega arith)
     (λ _. omega (arith, looked_most (after_first dup kept) runs))
 
-pub look_most : (v : Layout) (bytes : List ℕ) → second_look v bytes ≤ claim_count v bytes
-unfolding second_look claim_count
+pub look_most : (v : Layout) (bytes : List ℕ) → second_look v bytes ≤ run_count v bytes
+unfolding second_look run_count
 look_most v bytes =
     omega (
       arith,
@@ -95,7 +95,7 @@ inodes_move v image s (x ∷ xs) g h =
     (omega (arith, one.weighs, more.0, few, few_dups), more.1)
 
 pub look_fits : (v : Layout) (bytes : List ℕ) → IsGeometry v → second_look v bytes < 2 ^ 64
-unfolding claim_count owners_of no_claims reserved_map
+unfolding run_count owners_of no_claims reserved_map
 look_fits v bytes g =
     let all = inodes_move v bytes (no_claims v) (inode_numbers v) g
     (length-map-range_with_len (is_reserved v) 0 v.size) in

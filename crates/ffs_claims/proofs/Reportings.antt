@@ -7,7 +7,7 @@ use Rattle.std.proofs.lemmas.Bool.Decides.{nat_tests}
 use Rattle.ffs_volume.specs.declared.BlockMessage.{BlockMessage}
 use Rattle.ffs_volume.specs.declared.BlockMessage.TheVariants.{Dup}
 use Rattle.ffs_volume.specs.Blocks.Claims.{is_set}
-use Rattle.ffs_volume.specs.Blocks.BlockCheck.{Offer, blames, first_offers}
+use Rattle.ffs_volume.specs.Blocks.BlockCheck.{Offer, blames, first_offer_lines}
 use Rattle.ffs_volume.specs.Blocks.FirstOffers.{offer_at}
 use Rattle.ffs_maps.specs.Bits.{bits_of}
 use Rattle.ffs_workspace.specs.declared.workspace.Workspace.{Workspace}
@@ -24,13 +24,13 @@ use Rattle.std.proofs.Math.Bool.{or_assoc}
 use Rattle.ffs_workspace.specs.Lengths.{set_count}
 
 -- offers one after the other
-pub first_append : (dup : List Bool) (xs ys : List Offer) → first_offers dup (xs ++ ys) ≡ first_offers dup xs ++ first_offers (after_first dup xs) ys
+pub first_append : (dup : List Bool) (xs ys : List Offer) → first_offer_lines dup (xs ++ ys) ≡ first_offer_lines dup xs ++ first_offer_lines (after_first dup xs) ys
 first_append dup [] ys = refl
 first_append dup (o ∷ xs) ys = one (is_set dup o.fragment) refl (first_append (slice_set dup o.fragment false) xs ys) (first_append dup xs ys)
   where
     one : (b : Bool) → is_set dup o.fragment ≡ b →
-        first_offers (slice_set dup o.fragment false) (xs ++ ys) ≡ first_offers (slice_set dup o.fragment false) xs ++ first_offers (after_first (slice_set dup o.fragment false) xs) ys →
-        first_offers dup (xs ++ ys) ≡ first_offers dup xs ++ first_offers (after_first dup xs) ys → first_offers dup ((o ∷ xs) ++ ys) ≡ first_offers dup (o ∷ xs) ++ first_offers (after_first dup (o ∷ xs)) ys
+        first_offer_lines (slice_set dup o.fragment false) (xs ++ ys) ≡ first_offer_lines (slice_set dup o.fragment false) xs ++ first_offer_lines (after_first (slice_set dup o.fragment false) xs) ys →
+        first_offer_lines dup (xs ++ ys) ≡ first_offer_lines dup xs ++ first_offer_lines (after_first dup xs) ys → first_offer_lines dup ((o ∷ xs) ++ ys) ≡ first_offer_lines dup (o ∷ xs) ++ first_offer_lines (after_first dup (o ∷ xs)) ys
     one true q cleared same = rw q (ap (λ (ls : List BlockMessage). Dup o.fragment o.inode ∷ ls) cleared)
     one false q cleared same = rw q same
 
@@ -50,10 +50,10 @@ reported_then u v w xs ys a b = record {
   dup = b.dup ∙ ap (λ (d : List Bool). after_first d ys) a.dup ∙ sym (after_append (bits_of u.duplicates) xs ys);
   marked = λ x.
       b.marked x
-      ∙ ap (λ (d : List Bool). bool_at v.marked.items x || list_any (blames x) (first_offers d ys)) a.dup
-      ∙ ap (λ (m : Bool). m || list_any (blames x) (first_offers (after_first (bits_of u.duplicates) xs) ys)) (a.marked x)
-      ∙ or_assoc (bool_at u.marked.items x) (list_any (blames x) (first_offers (bits_of u.duplicates) xs)) (list_any (blames x) (first_offers (after_first (bits_of u.duplicates) xs) ys))
-      ∙ ap (λ (m : Bool). bool_at u.marked.items x || m) (sym (any_append (blames x) (first_offers (bits_of u.duplicates) xs) (first_offers (after_first (bits_of u.duplicates) xs) ys)) ∙ ap (list_any (blames x)) (sym (first_append (bits_of u.duplicates) xs ys)));
+      ∙ ap (λ (d : List Bool). bool_at v.marked.items x || list_any (blames x) (first_offer_lines d ys)) a.dup
+      ∙ ap (λ (m : Bool). m || list_any (blames x) (first_offer_lines (after_first (bits_of u.duplicates) xs) ys)) (a.marked x)
+      ∙ or_assoc (bool_at u.marked.items x) (list_any (blames x) (first_offer_lines (bits_of u.duplicates) xs)) (list_any (blames x) (first_offer_lines (after_first (bits_of u.duplicates) xs) ys))
+      ∙ ap (λ (m : Bool). bool_at u.marked.items x || m) (sym (any_append (blames x) (first_offer_lines (bits_of u.duplicates) xs) (first_offer_lines (after_first (bits_of u.duplicates) xs) ys)) ∙ ap (list_any (blames x)) (sym (first_append (bits_of u.duplicates) xs ys)));
 }
 
 -- an offer that isn't reported, and one that is
@@ -67,7 +67,7 @@ reported_out old new i f e d m = record {
     none true = refl
     none false = refl
 
-    lines_out : (w : Workspace) (i f : ℕ) → slice_index_or (bits_of w.duplicates) f false ≡ false → first_offers (bits_of w.duplicates) (offer_at i f ∷ []) ≡ []
+    lines_out : (w : Workspace) (i f : ℕ) → slice_index_or (bits_of w.duplicates) f false ≡ false → first_offer_lines (bits_of w.duplicates) (offer_at i f ∷ []) ≡ []
     lines_out w i f e = rw e refl
 
 -- the next offer of a Run
@@ -81,31 +81,31 @@ run_next i start len place f h is_place =
 pub record Reporting (rest all : List Offer) (old new : Workspace) : Type 0 where
   pub past : List Offer
   pub whole : past ++ rest ≡ all
-  pub told : OffersReported past old new
+  pub reported : OffersReported past old new
 
 pub reporting_begins : (all : List Offer) (w : Workspace) → Reporting all all w w
-reporting_begins all w = record { past = []; whole = refl; told = reported_none w }
+reporting_begins all w = record { past = []; whole = refl; reported = reported_none w }
 
 pub reporting_more : (rest part rest' all : List Offer) (u v w : Workspace) → Reporting rest all u v → rest ≡ part ++ rest' → OffersReported part v w → Reporting rest' all u w
 reporting_more rest part rest' all u v w t e p = record {
   past = t.past ++ part;
   whole = append_assoc t.past part rest' ∙ ap (λ (xs : List Offer). t.past ++ xs) (sym e) ∙ t.whole;
-  told = reported_then u v w t.past part t.told p;
+  reported = reported_then u v w t.past part t.reported p;
 }
 
 pub reporting_ends : (rest all : List Offer) (u v : Workspace) → Reporting rest all u v → rest ≡ [] → OffersReported all u v
 reporting_ends rest all u v t e =
-    subst (λ (xs : List Offer). OffersReported xs u v) (sym (append-nil t.past) ∙ ap (λ (xs : List Offer). t.past ++ xs) (sym e) ∙ t.whole) t.told
+    subst (λ (xs : List Offer). OffersReported xs u v) (sym (append-nil t.past) ∙ ap (λ (xs : List Offer). t.past ++ xs) (sym e) ∙ t.whole) t.reported
 
 pub reporting_same : (rest rest' all : List Offer) (u v : Workspace) → Reporting rest all u v → rest ≡ rest' → Reporting rest' all u v
-reporting_same rest rest' all u v t e = record { past = t.past; whole = ap (λ (xs : List Offer). t.past ++ xs) (sym e) ∙ t.whole; told = t.told }
+reporting_same rest rest' all u v t e = record { past = t.past; whole = ap (λ (xs : List Offer). t.past ++ xs) (sym e) ∙ t.whole; reported = t.reported }
 
 -- the lines that are to come, of what is reported so far
 pub lines_more : (dup dup' : List Bool) (o : Offer) (os : List Offer) → dup' ≡ after_first dup (o ∷ []) →
-    of_lines (first_offers dup (o ∷ os)) ≡ of_lines (first_offers dup (o ∷ [])) ++ of_lines (first_offers dup' os)
+    of_lines (first_offer_lines dup (o ∷ os)) ≡ of_lines (first_offer_lines dup (o ∷ [])) ++ of_lines (first_offer_lines dup' os)
 lines_more dup dup' o os e =
-    ap of_lines (first_append dup (o ∷ []) os) ∙ lines_append (first_offers dup (o ∷ [])) (first_offers (after_first dup (o ∷ [])) os)
-    ∙ ap (λ (d : List Bool). of_lines (first_offers dup (o ∷ [])) ++ of_lines (first_offers d os)) (sym e)
+    ap of_lines (first_append dup (o ∷ []) os) ∙ lines_append (first_offer_lines dup (o ∷ [])) (first_offer_lines (after_first dup (o ∷ [])) os)
+    ∙ ap (λ (d : List Bool). of_lines (first_offer_lines dup (o ∷ [])) ++ of_lines (first_offer_lines d os)) (sym e)
 
 pub run_over : (i start len place : ℕ) → len ≤ place → map (offer_at i) (range_with_len (start + place) (len - place)) ≡ []
 run_over i start len place h =
@@ -113,7 +113,7 @@ run_over i start len place h =
     ap (λ (n : ℕ). map (offer_at i) (range_with_len (start + place) n)) none
 
 -- an offer that isn't reported
-pub said_out : (dup : List Bool) (i f : ℕ) (a : Progress) → slice_index_or dup f false ≡ false → Said a a (of_lines (first_offers dup (offer_at i f ∷ [])))
+pub said_out : (dup : List Bool) (i f : ℕ) (a : Progress) → slice_index_or dup f false ≡ false → Said a a (of_lines (first_offer_lines dup (offer_at i f ∷ [])))
 said_out dup i f a e = rw e (said_none a)
 
 pub past_end : (bits : List Bool) (f : ℕ) → length bits ≤ f → slice_index_or bits f false ≡ false
@@ -138,8 +138,8 @@ none_reported w os e = record {
 pub reported_from : (offers : List Offer) (u u' w : Workspace) → OffersReported offers u' w → u'.duplicates ≡ u.duplicates → u'.marked ≡ u.marked → OffersReported offers u w
 reported_from offers u u' w t d m = record {
   dup = t.dup ∙ ap (λ z. after_first (bits_of z) offers) d;
-  marked = λ x. t.marked x ∙ ap (λ z. bool_at z.items x || list_any (blames x) (first_offers (bits_of u'.duplicates) offers)) m
-      ∙ ap (λ z. bool_at u.marked.items x || list_any (blames x) (first_offers (bits_of z) offers)) d;
+  marked = λ x. t.marked x ∙ ap (λ z. bool_at z.items x || list_any (blames x) (first_offer_lines (bits_of u'.duplicates) offers)) m
+      ∙ ap (λ z. bool_at u.marked.items x || list_any (blames x) (first_offer_lines (bits_of z) offers)) d;
 }
 
 pub reported_to : (offers : List Offer) (u w w' : Workspace) → OffersReported offers u w → w'.duplicates ≡ w.duplicates → w'.marked ≡ w.marked → OffersReported offers u w'

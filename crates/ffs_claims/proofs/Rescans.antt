@@ -9,7 +9,7 @@ use Rattle.ffs_volume.specs.declared.Step.TheVariants.{Run, Tail, Gap}
 use Rattle.ffs_volume.specs.Disk.Areas.{is_data_fragment, is_in_range}
 use Rattle.ffs_volume.specs.Blocks.Claims.{Claims, next_inode, is_open, is_set, after_offer, after_offers, after_run, after_step, after_steps}
 use Rattle.ffs_volume.proofs.Weights.{cond_holds}
-use Rattle.ffs_volume.specs.Blocks.BlockCheck.{Offer, offers_kept, run_kept, step_kept, steps_kept}
+use Rattle.ffs_volume.specs.Blocks.BlockCheck.{Offer, kept_in_offers, kept_in_run, kept_in_step, kept_in_steps}
 use Rattle.ffs_volume.specs.Blocks.FirstOffers.{offer_at}
 use Rattle.ffs_volume.specs.Encodings.Replay.{cut_of}
 use Rattle.ffs_claims.specs.declared.rescan.Rescan.{Rescan}
@@ -92,20 +92,20 @@ offers_take v s start (suc len) = one (nat_lt s.dups 11) refl (offers_take v (af
 
 -- they are the first ones
 offers_firsts : (v : Layout) (i : ℕ) (s : Claims) (start len k : ℕ) → (after_offers v s (range_with_len start len)).kept ≡ s.kept + k →
-    offers_kept v i s (range_with_len start len) ≡ map (offer_at i) (range_with_len start k)
+    kept_in_offers v i s (range_with_len start len) ≡ map (offer_at i) (range_with_len start k)
 offers_firsts v i s start zero zero e = refl
 offers_firsts v i s start zero (suc k) e = absurd (omega arith)
 offers_firsts v i s start (suc len) k e = one (nat_lt s.dups 11) refl k e (offers_firsts v i (after_offer v s start) (start + 1) len) (offers_grow v (after_offer v s start) (range_with_len (start + 1) len))
   where
     one : (b : Bool) → nat_lt s.dups 11 ≡ b → (n : ℕ) → (after_offers v s (range_with_len start (suc len))).kept ≡ s.kept + n →
         ((m : ℕ) → (after_offers v (after_offer v s start) (range_with_len (start + 1) len)).kept ≡ (after_offer v s start).kept + m →
-        offers_kept v i (after_offer v s start) (range_with_len (start + 1) len) ≡ map (offer_at i) (range_with_len (start + 1) m)) →
+        kept_in_offers v i (after_offer v s start) (range_with_len (start + 1) len) ≡ map (offer_at i) (range_with_len (start + 1) m)) →
         Grows (after_offer v s start) (after_offers v (after_offer v s start) (range_with_len (start + 1) len)) →
-        offers_kept v i s (range_with_len start (suc len)) ≡ map (offer_at i) (range_with_len start n)
+        kept_in_offers v i s (range_with_len start (suc len)) ≡ map (offer_at i) (range_with_len start n)
     one true q zero h more grow = absurd (omega (arith, offer_kept v s start q, grow.kept_low))
     one true q (suc n) h more grow =
-        let rest : offers_kept v i (after_offer v s start) (range_with_len (start + 1) len) ≡ map (offer_at i) (range_with_len (start + 1) n) = more n (omega (arith, offer_kept v s start q)) in
-        ap (λ x. (if x then offer_at i start ∷ [] else []) ++ offers_kept v i (after_offer v s start) (range_with_len (start + 1) len)) q
+        let rest : kept_in_offers v i (after_offer v s start) (range_with_len (start + 1) len) ≡ map (offer_at i) (range_with_len (start + 1) n) = more n (omega (arith, offer_kept v s start q)) in
+        ap (λ x. (if x then offer_at i start ∷ [] else []) ++ kept_in_offers v i (after_offer v s start) (range_with_len (start + 1) len)) q
         ∙ ap (λ z. offer_at i start ∷ z) rest
     one false q n h more grow =
         let same : after_offer v s start ≡ s = offer_shut v s start q in
@@ -114,7 +114,7 @@ offers_firsts v i s start (suc len) k e = one (nat_lt s.dups 11) refl k e (offer
         let high : 11 ≤ s.dups = grind (arith, nat_tests) in
         let still : (after_offers v (after_offer v s start) (range_with_len (start + 1) len)).kept ≡ (after_offer v s start).kept = grow.shut (omega arith) in
         let none : n ≡ 0 = omega (arith, still, kept, h) in
-        ap (λ x. (if x then offer_at i start ∷ [] else []) ++ offers_kept v i (after_offer v s start) (range_with_len (start + 1) len)) q
+        ap (λ x. (if x then offer_at i start ∷ [] else []) ++ kept_in_offers v i (after_offer v s start) (range_with_len (start + 1) len)) q
         ∙ (more 0 (omega (arith, still)) ∙ ap (λ z. map (offer_at i) (range_with_len start z)) (sym none))
 
 -- ---- the number of offers that an inode still keeps
@@ -199,7 +199,7 @@ offers_runs v s (f ∷ fs) =
 
 -- what a step is, replayed
 pub record Replayed (v : Layout) (i : ℕ) (s end : Claims) (r : Rescan) (step : Step) : Type 0 where
-  pub offers : step_kept v i s step ≡ step_offers_again v i r step
+  pub offers : kept_in_step v i s step ≡ step_offers_again v i r step
   pub runs : (after_step v s step).runs ≡ s.runs + run_seen r step
   pub tied : Tied (after_step v s step) end (again v r step)
 
@@ -209,7 +209,7 @@ run_replayed v i s end r start len block after cap t going = one (is_open s) ref
   where
     from : (mid : Claims) → (mid.kept ≡ s.kept) → (mid.dups ≡ s.dups) → mid.runs ≡ s.runs + 1 → (bad : ℕ) → mid.bad ≡ bad → is_open s ≡ true →
         after_step v s (Run start len block) ≡ after_offers v mid (range_with_len start len) →
-        step_kept v i s (Run start len block) ≡ offers_kept v i mid (range_with_len start len) →
+        kept_in_step v i s (Run start len block) ≡ kept_in_offers v i mid (range_with_len start len) →
         run_taken v r start len ≡ taken_of r.left len →
         again v r (Run start len block) ≡ record { bad = bad; left = left_after r.left len } →
         Replayed v i s end r (Run start len block)
@@ -242,7 +242,7 @@ run_replayed v i s end r start len block after cap t going = one (is_open s) ref
         let now : after_step v s (Run start len block) ≡ s = rw q refl in
         let next : again v r (Run start len block) ≡ r = rw shut refl in
         record {
-          offers = ap (λ (x : Bool). if x then run_kept v i s start len else []) q
+          offers = ap (λ (x : Bool). if x then kept_in_run v i s start len else []) q
               ∙ sym (ap (λ (x : Bool). if x then map (offer_at i) (range_with_len start (run_taken v r start len)) else []) shut);
           runs = ap (λ (x : Claims). x.runs) now ∙ sym (ap (λ (x : Bool). s.runs + (if x then 1 else 0)) shut ∙ omega arith);
           tied = record {
@@ -260,7 +260,7 @@ run_replayed v i s end r start len block after cap t going = one (is_open s) ref
         let now : after_step v s (Run start len block) ≡ record s { runs = s.runs + 1; bad = s.bad + 1 } = rw (q, qf, qz) refl in
         let none : run_taken v r start len ≡ 0 = rw (qf, tenth) refl in
         let next : again v r (Run start len block) ≡ record { bad = 11; left = r.left } = rw (open_again, qf, tenth) refl in
-        let nothing : step_kept v i s (Run start len block) ≡ [] = rw (q, qf, qz) refl in
+        let nothing : kept_in_step v i s (Run start len block) ≡ [] = rw (q, qf, qz) refl in
         record {
           offers = nothing
               ∙ sym (ap (λ (x : Bool). if x then map (offer_at i) (range_with_len start (run_taken v r start len)) else []) open_again
@@ -312,19 +312,19 @@ step_looked v i s end r (Run start len block) after cap t = one (is_open s) refl
     going : is_going r ≡ is_open s
     going = going_is s end r (grows_then s _ end (step_grows v s (Run start len block)) after) cap t
 
-    same : step_kept v i s (Run start len block) ≡ step_offers_again v i r (Run start len block)
+    same : kept_in_step v i s (Run start len block) ≡ step_offers_again v i r (Run start len block)
     same = (run_replayed v i s end r start len block after cap t going).offers
 
     one : (b : Bool) → is_open s ≡ b → step_runs v i s (Run start len block) ≡ step_runs_again v i r (Run start len block)
     one true q =
         let again_open : is_going r ≡ true = going ∙ q in
-        let kept : run_kept v i s start len ≡ map (offer_at i) (range_with_len start (run_taken v r start len)) = rw (q, again_open) at same in
+        let kept : kept_in_run v i s start len ≡ map (offer_at i) (range_with_len start (run_taken v r start len)) = rw (q, again_open) at same in
         rw (q, again_open, kept) refl
     one false q = let shut : is_going r ≡ false = going ∙ q in rw (q, shut) refl
 
 -- what the steps are, replayed
 pub record AllReplayed (v : Layout) (i : ℕ) (s : Claims) (r : Rescan) (steps : List Step) : Type 0 where
-  pub offers : steps_kept v i s steps ≡ offers_again v i r steps
+  pub offers : kept_in_steps v i s steps ≡ offers_again v i r steps
   pub looks : steps_runs v i s steps ≡ steps_runs_again v i r steps
   pub runs : (after_steps v s steps).runs ≡ s.runs + runs_again v r steps
 
@@ -339,7 +339,7 @@ steps_replayed v i s r (step ∷ steps) cap t =
     let more = steps_replayed v i (after_step v s step) (again v r step) steps cap one.tied in
     record {
       looks = ap (λ (x : List (List Offer)). x ++ steps_runs v i (after_step v s step) steps) look ∙ ap (λ (x : List (List Offer)). step_runs_again v i r step ++ x) more.looks;
-      offers = ap (λ (x : List Offer). x ++ steps_kept v i (after_step v s step) steps) one.offers ∙ ap (λ (x : List Offer). step_offers_again v i r step ++ x) more.offers;
+      offers = ap (λ (x : List Offer). x ++ kept_in_steps v i (after_step v s step) steps) one.offers ∙ ap (λ (x : List Offer). step_offers_again v i r step ++ x) more.offers;
       runs = omega (arith, one.runs, more.runs);
     }
 

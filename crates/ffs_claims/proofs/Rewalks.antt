@@ -4,7 +4,7 @@ use Rattle.std.proofs.lemmas.Bool.Decides.{nat_tests}
 use Rattle.ffs_volume.specs.declared.Layout.{Layout}
 use Rattle.ffs_volume.specs.declared.Step.{Step}
 use Rattle.ffs_volume.specs.declared.Step.TheVariants.{Run, Tail, Gap}
-use Rattle.ffs_volume.specs.Blocks.BlockCheck.{Offer, first_offers}
+use Rattle.ffs_volume.specs.Blocks.BlockCheck.{Offer, first_offer_lines}
 use Rattle.ffs_maps.specs.Bits.{bits_of}
 use Rattle.ffs_workspace.specs.declared.workspace.Workspace.{Workspace}
 use Rattle.ffs_workspace.specs.Lengths.{set_count}
@@ -52,19 +52,19 @@ reporting_on v i r r' step R R' all u w w' e now t p =
 
 pub lines_step : (v : Layout) (i : ℕ) (r r' : Rescan) (step : Step) (R R' : List Step) (dup dup' : List Bool) →
     R ≡ step ∷ R' → r' ≡ again v r step → dup' ≡ after_first dup (step_offers_again v i r step) →
-    of_lines (first_offers dup (offers_again v i r R)) ≡ of_lines (first_offers dup (step_offers_again v i r step)) ++ of_lines (first_offers dup' (offers_again v i r' R'))
+    of_lines (first_offer_lines dup (offers_again v i r R)) ≡ of_lines (first_offer_lines dup (step_offers_again v i r step)) ++ of_lines (first_offer_lines dup' (offers_again v i r' R'))
 lines_step v i r r' step R R' dup dup' e now d =
-    ap (λ (os : List Offer). of_lines (first_offers dup os)) (offers_next v i r r' step R R' e now)
+    ap (λ (os : List Offer). of_lines (first_offer_lines dup os)) (offers_next v i r r' step R R' e now)
     ∙ ap of_lines (first_append dup (step_offers_again v i r step) (offers_again v i r' R'))
-    ∙ lines_append (first_offers dup (step_offers_again v i r step)) (first_offers (after_first dup (step_offers_again v i r step)) (offers_again v i r' R'))
-    ∙ ap (λ (x : List Bool). of_lines (first_offers dup (step_offers_again v i r step)) ++ of_lines (first_offers x (offers_again v i r' R'))) (sym d)
+    ∙ lines_append (first_offer_lines dup (step_offers_again v i r step)) (first_offer_lines (after_first dup (step_offers_again v i r step)) (offers_again v i r' R'))
+    ∙ ap (λ (x : List Bool). of_lines (first_offer_lines dup (step_offers_again v i r step)) ++ of_lines (first_offer_lines x (offers_again v i r' R'))) (sym d)
 
 -- nothing is left to report
 pub reporting_over : (rest all : List Offer) (u w : Workspace) → set_count (bits_of w.duplicates) ≡ 0 → Reporting rest all u w → OffersReported all u w
 reporting_over rest all u w e t =
     reporting_ends [] all u w (reporting_more rest rest [] all u w w t (sym (append-nil rest)) (none_reported w rest e)) refl
 
-pub lines_over : (dup : List Bool) (os : List Offer) → set_count dup ≡ 0 → of_lines (first_offers dup os) ≡ []
+pub lines_over : (dup : List Bool) (os : List Offer) → set_count dup ≡ 0 → of_lines (first_offer_lines dup os) ≡ []
 lines_over dup os e = ap of_lines (none_first dup os e)
 
 -- gaps in a row keep nothing

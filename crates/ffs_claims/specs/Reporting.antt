@@ -2,7 +2,7 @@
 use Rattle.std.specs.Prelude.{◌≡◌, ℕ, Bool, false, ◌||◌, if◌then◌else◌, List, [], ◌∷◌, slice_set}
 use Rattle.std.specs.List.{list_any}
 use Rattle.ffs_volume.specs.Blocks.Claims.{is_set}
-use Rattle.ffs_volume.specs.Blocks.BlockCheck.{Offer, blames, first_offers}
+use Rattle.ffs_volume.specs.Blocks.BlockCheck.{Offer, blames, first_offer_lines}
 use Rattle.ffs_maps.specs.Bits.{bits_of}
 use Rattle.ffs_workspace.specs.declared.workspace.Workspace.{Workspace}
 use Rattle.ffs_workspace.specs.Holds.{bool_at}
@@ -15,7 +15,7 @@ after_first dup (o ∷ os) = after_first (if is_set dup o.fragment then slice_se
 -- offers were gone over: their fragments are reported, and their inodes marked
 pub record OffersReported (offers : List Offer) (old new : Workspace) : Type 0 where
   pub dup : bits_of new.duplicates ≡ after_first (bits_of old.duplicates) offers
-  pub marked : (x : ℕ) → bool_at new.marked.items x ≡ (bool_at old.marked.items x || list_any (blames x) (first_offers (bits_of old.duplicates) offers))
+  pub marked : (x : ℕ) → bool_at new.marked.items x ≡ (bool_at old.marked.items x || list_any (blames x) (first_offer_lines (bits_of old.duplicates) offers))
 
 -- a call left the claims alone, what each inode is, where it is cut, and the Runs of phase 1
 pub record SameClaims (old new : Workspace) : Type 0 where

@@ -7,7 +7,7 @@ use Rattle.ffs_volume.specs.declared.Step.{Step}
 use Rattle.ffs_volume.specs.declared.Step.TheVariants.{Run, Tail, Gap}
 use Rattle.ffs_volume.specs.Blocks.Owners.{Owner, owners_of}
 use Rattle.ffs_volume.specs.Blocks.Claims.{Claims, no_claims, next_inode, is_open, after_step, after_owner, after_owners}
-use Rattle.ffs_volume.specs.Blocks.BlockCheck.{Offer, run_kept}
+use Rattle.ffs_volume.specs.Blocks.BlockCheck.{Offer, kept_in_run}
 use Rattle.ffs_volume.specs.Blocks.FirstOffers.{offer_at}
 use Rattle.ffs_workspace.specs.Lengths.{set_count}
 use Rattle.ffs_claims.specs.declared.rescan.Rescan.{Rescan}
@@ -16,7 +16,7 @@ use Rattle.ffs_claims.specs.Reporting.{after_first}
 
 -- the kept offers of each Run that is seen: of a step, of steps, and of inodes
 abbrev pub step_runs : Layout → ℕ → Claims → Step → List (List Offer)
-step_runs v inode s (Run start len block) = if is_open s then run_kept v inode s start len ∷ [] else []
+step_runs v inode s (Run start len block) = if is_open s then kept_in_run v inode s start len ∷ [] else []
 step_runs v inode s Tail = []
 step_runs v inode s Gap = []
 

@@ -6,7 +6,7 @@ ghost use Rattle.ffs_phase.specs.Known.{ForBytes, IsContents};
 ghost use Rattle.ffs_phase.specs.Runs.{ImageAfter, PhaseReports};
 ghost use Rattle.ffs_volume.specs.Blocks.BlockCheck.{has_rescan, phase1_lines};
 ghost use Rattle.ffs_volume.specs.Report.Memory.{runs_limit};
-ghost use Rattle.ffs_volume.specs.Report.Whole.{claim_count};
+ghost use Rattle.ffs_volume.specs.Report.Whole.{run_count};
 ghost use Rattle.ffs_volume.specs.Messages.Kinds as messages;
 ghost use Rattle.ffs_volume.specs.Blocks.Owners.{owners_of};
 ghost use Rattle.ffs_workspace.specs.Holds.{IsFresh, HoldsPhase1};
@@ -54,7 +54,7 @@ pub fn phase1<I: Image, W: Output>(
     ensures count { OnOk result (ForBytes
         (λ bytes. IsContents (I.device image.old).contents bytes
         × IsFresh geometry.now.layout workspace.old)
-        (λ bytes. workspace.new.runs_seen ≡ claim_count geometry.now.layout bytes)) }
+        (λ bytes. workspace.new.runs_seen ≡ run_count geometry.now.layout bytes)) }
     ensures again { workspace.new.runs_again ≡ workspace.old.runs_again }
     ensures made { IsFor geometry.now.layout workspace.new }
     ensures windows { HoldWindows geometry.now.layout (I.device image.new).contents workspace.new }

@@ -2,7 +2,7 @@
 
 ghost use Rattle.std.specs.Prelude.{◌≡◌, ◌+◌, ◌<◌, ◌≤◌, [], ◌∷◌, OnOk, map, slice_set, true, false};
 ghost use Rattle.std.specs.List.{range_with_len, slice_index_or};
-ghost use Rattle.ffs_volume.specs.Blocks.BlockCheck.{first_offers};
+ghost use Rattle.ffs_volume.specs.Blocks.BlockCheck.{first_offer_lines};
 ghost use Rattle.ffs_volume.specs.Blocks.FirstOffers.{offer_at};
 ghost use Rattle.ffs_report.specs.Progress.{progress, Says};
 ghost use Rattle.ffs_maps.specs.Bits.{bits_of};
@@ -46,9 +46,10 @@ fn report_claim<W: Output>(
     requires made { IsFor geometry.now.layout workspace.old }
     requires number { number < inodes_of geometry.now.layout }
     ensures said { Says (progress W.sink report.old) (progress W.sink report.new)
-        (of_lines (first_offers (bits_of workspace.old.duplicates) (offer_at number fragment ∷ [])))
+        (of_lines (first_offer_lines (bits_of workspace.old.duplicates)
+        (offer_at number fragment ∷ [])))
         result }
-    ensures told { OffersReported (offer_at number fragment ∷ []) workspace.old workspace.new }
+    ensures reported { OffersReported (offer_at number fragment ∷ []) workspace.old workspace.new }
     ensures runs { workspace.new.runs_again ≡ workspace.old.runs_again }
     ensures made { IsFor geometry.now.layout workspace.new }
     ensures windows { SameWindows workspace.old workspace.new }
@@ -80,9 +81,10 @@ pub fn report_run<W: Output>(
     requires made { IsFor geometry.now.layout workspace.old }
     requires number { number < inodes_of geometry.now.layout }
     ensures said { Says (progress W.sink report.old) (progress W.sink report.new)
-        (of_lines (first_offers (bits_of workspace.old.duplicates)
+        (of_lines (first_offer_lines (bits_of workspace.old.duplicates)
         (map (offer_at number) (range_with_len start len)))) result }
-    ensures told { OnOk result (OffersReported (map (offer_at number) (range_with_len start len))
+    ensures reported { OnOk result (OffersReported
+        (map (offer_at number) (range_with_len start len))
         workspace.old workspace.new) }
     ensures runs { workspace.new.runs_again ≡ workspace.old.runs_again }
     ensures made { IsFor geometry.now.layout workspace.new }

@@ -4,10 +4,10 @@ ghost use Rattle.std.specs.Prelude.{◌≡◌, ◌+◌, ◌*◌, ◌<◌, ◌≤
 ghost use Rattle.ffs_report.specs.Progress.{progress, Says};
 ghost use Rattle.ffs_phase.specs.Known.{ForBytes, IsContents};
 ghost use Rattle.ffs_phase.specs.Runs.{ImageAfter, PhaseReports};
-ghost use Rattle.ffs_volume.specs.Blocks.BlockCheck.{first_offers, phase1b_lines};
+ghost use Rattle.ffs_volume.specs.Blocks.BlockCheck.{first_offer_lines, phase1b_lines};
 ghost use Rattle.ffs_volume.specs.Messages.Kinds as messages;
 ghost use Rattle.ffs_volume.specs.Blocks.Owners.{owners_of};
-ghost use Rattle.ffs_volume.specs.Report.Whole.{claim_count};
+ghost use Rattle.ffs_volume.specs.Report.Whole.{run_count};
 ghost use Rattle.ffs_volume.specs.Blocks.Inodes.{inode_of};
 ghost use Rattle.ffs_volume.specs.Blocks.Lengths.{HasLength};
 ghost use Rattle.ffs_volume.specs.Blocks.Steps.{steps_of};
@@ -53,9 +53,9 @@ fn report_again<W: Output>(
     requires going { rescans.is_going rescan.old ≡ true }
     requires length { HasLength geometry.now.layout.frag step }
     ensures said { Says (progress W.sink report.old) (progress W.sink report.new)
-        (of_lines (first_offers (bits_of workspace.old.duplicates)
+        (of_lines (first_offer_lines (bits_of workspace.old.duplicates)
         (step_offers_again geometry.now.layout number rescan.old step))) result }
-    ensures told { OnOk result (OffersReported
+    ensures reported { OnOk result (OffersReported
         (step_offers_again geometry.now.layout number rescan.old step) workspace.old
         workspace.new) }
     ensures again { OnOk result (rescan.new ≡ rescans.again geometry.now.layout rescan.old step) }
@@ -94,11 +94,11 @@ fn rewalk<I: Image, W: Output>(
     requires windows { HoldWindows geometry.now.layout (I.device image.old).contents workspace.old }
     ensures image { ImageAfter (I.device image.old) (I.device image.new) result }
     ensures text { PhaseReports (IsContents (I.device image.old).contents)
-        (λ bytes. of_lines (first_offers (bits_of workspace.old.duplicates)
+        (λ bytes. of_lines (first_offer_lines (bits_of workspace.old.duplicates)
         (offers_again geometry.now.layout number (rescans.rescan cut)
         (steps_of geometry.now.layout inode.now bytes))))
         (progress W.sink report.old) (progress W.sink report.new) result }
-    ensures told { OnOk result (ForBytes (IsContents (I.device image.old).contents) (λ bytes.
+    ensures reported { OnOk result (ForBytes (IsContents (I.device image.old).contents) (λ bytes.
         OffersReported (offers_again geometry.now.layout number (rescans.rescan cut)
         (steps_of geometry.now.layout inode.now bytes)) workspace.old workspace.new)) }
     ensures runs { ForBytes (IsContents (I.device image.old).contents) (λ bytes.
@@ -152,12 +152,12 @@ fn renumbered<I: Image, W: Output>(
     requires windows { HoldWindows geometry.now.layout (I.device image.old).contents workspace.old }
     ensures image { ImageAfter (I.device image.old) (I.device image.new) result }
     ensures text { PhaseReports (IsContents (I.device image.old).contents)
-        (λ bytes. of_lines (first_offers (bits_of workspace.old.duplicates)
+        (λ bytes. of_lines (first_offer_lines (bits_of workspace.old.duplicates)
         (offers_again geometry.now.layout number
         (rescans.rescan (slice_index workspace.old.cut.items number))
         (steps_of geometry.now.layout (inode_of geometry.now.layout bytes number) bytes))))
         (progress W.sink report.old) (progress W.sink report.new) result }
-    ensures told { OnOk result (ForBytes (IsContents (I.device image.old).contents) (λ bytes.
+    ensures reported { OnOk result (ForBytes (IsContents (I.device image.old).contents) (λ bytes.
         OffersReported (offers_again geometry.now.layout number
         (rescans.rescan (slice_index workspace.old.cut.items number))
         (steps_of geometry.now.layout (inode_of geometry.now.layout bytes number) bytes))
@@ -206,7 +206,7 @@ pub fn phase1b<I: Image, W: Output>(
         (λ bytes. HoldsClaims geometry.now.layout bytes workspace.new)) }
     ensures runs { ForBytes (λ bytes. IsContents (I.device image.old).contents bytes
         × HoldsPhase1 geometry.now.layout bytes workspace.old)
-        (λ bytes. workspace.new.runs_again ≤ claim_count geometry.now.layout bytes) }
+        (λ bytes. workspace.new.runs_again ≤ run_count geometry.now.layout bytes) }
     ensures count { OnOk result (ForBytes
         (λ bytes. IsContents (I.device image.old).contents bytes
         × HoldsPhase1 geometry.now.layout bytes workspace.old)

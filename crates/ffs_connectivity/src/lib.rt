@@ -10,6 +10,6 @@
 #![tactic(auto)]
 
 mod phase;
-mod told;
+mod unref;
 
 pub use phase::phase3;

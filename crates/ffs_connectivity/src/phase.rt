@@ -12,7 +12,7 @@ ghost use Rattle.ffs_workspace.specs.Holds.{HoldsClaims, HoldsSurvey};
 ghost use Rattle.ffs_workspace.specs.Lengths.{IsFor, HoldWindows};
 ghost use Rattle.ffs_workspace.specs.Leaves.{LeavesSurvey};
 
-use crate::told::{check_inode, mark};
+use crate::unref::{check_inode, mark};
 use ffs_image::Image;
 use ffs_layout::Geometry;
 use ffs_phase::RunFault;

@@ -21,7 +21,7 @@ use Rattle.ffs_volume.specs.Disk.Numbers.{u32_at, all_below}
 use Rattle.ffs_volume.specs.Disk.Areas.{cgbase}
 use Rattle.ffs_volume.specs.Blocks.Inodes.{inode_of}
 use Rattle.ffs_volume.specs.Directories.Volumes.{class_at}
-use Rattle.ffs_volume.specs.Groups.Records.{Summary, is_used_inode, is_dir, is_whole, block_bits, block_numbers, group_inodes, group_numbers, group_size, right_summary, right_frsum, right_total, has_summary, has_totals, has_bits, inode_map_place, fragment_map_place, is_record, are_maps, are_sums, is_total, summary_record, group_block}
+use Rattle.ffs_volume.specs.Groups.Records.{Summary, is_used_inode, is_dir_inode, is_whole, block_bits, block_numbers, group_inodes, group_numbers, group_size, right_summary, right_frsum, right_total, has_summary, has_totals, has_bits, inode_map_place, fragment_map_place, is_record, are_maps, are_sums, is_total, summary_record, group_block}
 use Rattle.ffs_volume.specs.Groups.GroupCheck.{group_lines, reported_once, unreported, unless, phase5_lines}
 use Rattle.ffs_volume.specs.Encodings.Kinds.{kind_at, kind_of, class_of_kind}
 use Rattle.ffs_workspace.proofs.KindLaws.{class_is}
@@ -50,16 +50,16 @@ same_test test e v image x = go (is_part (class_at v image x)) refl (λ p. ap te
     go true p other = of_part test e (class_at v image x) (inode_of v image x) p
     go false p other = other (λ q. true≢false (sym (ap is_part q) ∙ p))
 
-dirs_same : (v : Layout) (image kinds : List ℕ) → ((x : ℕ) → slice_index kinds x ≡ kind_at v image x) → is_dir (class_in kinds) ≡ is_dir (class_at v image)
+dirs_same : (v : Layout) (image kinds : List ℕ) → ((x : ℕ) → slice_index kinds x ≡ kind_at v image x) → is_dir_inode (class_in kinds) ≡ is_dir_inode (class_at v image)
 dirs_same v image kinds e = fun_ext (λ x. ap (λ k. nat_le 2 x && is_directory (class_of_kind k)) (e x) ∙ ap (λ t. nat_le 2 x && t) (same_test is_directory refl v image x))
 
 used_same : (v : Layout) (image kinds : List ℕ) → ((x : ℕ) → slice_index kinds x ≡ kind_at v image x) → is_used_inode (class_in kinds) ≡ is_used_inode (class_at v image)
 used_same v image kinds e = fun_ext (λ x. ap (λ k. nat_lt x 2 || is_allocated (class_of_kind k)) (e x) ∙ ap (λ t. nat_lt x 2 || t) (same_test is_allocated refl v image x))
 
-same_right : (v : Layout) (free : ℕ → Bool) (a b : ℕ → Class) → is_dir a ≡ is_dir b → is_used_inode a ≡ is_used_inode b → (c : ℕ) → right_summary v free a c ≡ right_summary v free b c
+same_right : (v : Layout) (free : ℕ → Bool) (a b : ℕ → Class) → is_dir_inode a ≡ is_dir_inode b → is_used_inode a ≡ is_used_inode b → (c : ℕ) → right_summary v free a c ≡ right_summary v free b c
 unfolding right_summary
 same_right v free a b d u c =
-    ap (λ (p : ℕ → Bool). summary_by v free p (is_used_inode a) c) d ∙ ap (λ (q : ℕ → Bool). summary_by v free (is_dir b) q c) u
+    ap (λ (p : ℕ → Bool). summary_by v free p (is_used_inode a) c) d ∙ ap (λ (q : ℕ → Bool). summary_by v free (is_dir_inode b) q c) u
   where
     summary_by : Layout → (ℕ → Bool) → (ℕ → Bool) → (ℕ → Bool) → ℕ → Summary
     summary_by v free p q c = record {
@@ -99,7 +99,7 @@ same_total : (v : Layout) (free : ℕ → Bool) (a b : ℕ → Class) (totals : 
 unfolding is_total right_total total_by
 same_total v free a b totals s = ap (λ (f : ℕ → Summary). has_totals totals (total_by v f)) (fun_ext s)
 
-same_phase5 : (v : Layout) (image : List ℕ) (totals : List ℤ) (free : ℕ → Bool) (a b : ℕ → Class) → is_dir a ≡ is_dir b → is_used_inode a ≡ is_used_inode b →
+same_phase5 : (v : Layout) (image : List ℕ) (totals : List ℤ) (free : ℕ → Bool) (a b : ℕ → Class) → is_dir_inode a ≡ is_dir_inode b → is_used_inode a ≡ is_used_inode b →
     phase5_lines v image totals free a ≡ phase5_lines v image totals free b
 unfolding phase5_lines
 same_phase5 v image totals free a b d u =

@@ -6,10 +6,10 @@ use Rattle.std.proofs.Common.{ℤ, ◌-◌}
 use Rattle.ffs_volume.specs.declared.Attr.{Attr}
 use Rattle.ffs_volume.specs.declared.Inode.{Inode}
 use Rattle.ffs_volume.specs.declared.Label.{Label}
-use Rattle.ffs_volume.specs.Disk.Numbers.{is_count}
+use Rattle.ffs_volume.specs.Disk.Numbers.{is_the_count}
 use Rattle.ffs_volume.specs.Messages.Kinds.{NameMessage, of_names, lines_from}
 use Rattle.ffs_volume.specs.Blocks.Inodes.{inode_of}
-use Rattle.ffs_volume.specs.Directories.Roles.{is_some_inode, is_suspect}
+use Rattle.ffs_volume.specs.Directories.Roles.{is_allocated_inode, is_suspect}
 use Rattle.ffs_volume.specs.Directories.PathnameCheck.{label_of, attributes}
 use Rattle.ffs_volume.specs.Directories.Volumes.{class_at, marked_at, volume_of, volume_with}
 use Rattle.ffs_volume.specs.Directories.ReferenceCheck.{inode_lines, counted_lines, reference_lines}
@@ -40,7 +40,7 @@ inode_lines_are v b w i inode dead low h s is e =
 
 pub no_lines : (v : Layout) (b : List ℕ) (w : Workspace) (i kind : ℕ) → HoldsClaims v b w → kind ≡ slice_index w.kinds.items i → kind ≡ 0 → counted_lines (volume_of v b) i ≡ []
 no_lines v b w i kind h is e =
-    let none : is_some_inode (volume_of v b) i ≡ false = some_is v b i ∙ ap is_allocated_kind (sym (h.kinds i) ∙ sym is ∙ e) in
+    let none : is_allocated_inode (volume_of v b) i ≡ false = some_is v b i ∙ ap is_allocated_kind (sym (h.kinds i) ∙ sym is ∙ e) in
     ap (λ t. if t then inode_lines (volume_of v b) i else []) none
 
 not_zero : (k : ℕ) → (k ≡ 0 → ⊥) → (k == 0) ≡ false
@@ -48,7 +48,7 @@ not_zero k apart = grind (arith, apart)
 
 pub some_lines : (v : Layout) (b : List ℕ) (w : Workspace) (i kind : ℕ) → HoldsClaims v b w → kind ≡ slice_index w.kinds.items i → (kind ≡ 0 → ⊥) → inode_lines (volume_of v b) i ≡ counted_lines (volume_of v b) i
 some_lines v b w i kind h is apart =
-    let some : is_some_inode (volume_of v b) i ≡ true = some_is v b i ∙ ap is_allocated_kind (sym (h.kinds i) ∙ sym is) ∙ ap not (not_zero kind apart) in
+    let some : is_allocated_inode (volume_of v b) i ≡ true = some_is v b i ∙ ap is_allocated_kind (sym (h.kinds i) ∙ sym is) ∙ ap not (not_zero kind apart) in
     ap (λ t. if t then inode_lines (volume_of v b) i else []) (sym some)
 
 pub same_reported : (dead m m' : Bool) (k k' : ℕ) (attr : Attr) (nlink : ℤ) (r r' : ℕ) → m ≡ m' → k ≡ k' → r ≡ r' →
@@ -60,13 +60,13 @@ unfolding reference_lines volume_of volume_with
 lines_begin v b = ap (λ (ls : List NameMessage). map of_names ls) (all_from (counted_lines (volume_of v b)) (inodes_of v))
 
 -- nothing is reported of an inode that isn't dead, is referred to, and has a link for each reference
-none_reported : (dead m : Bool) (label : Label) (attr : Attr) (nlink : ℤ) (r : ℕ) → dead ≡ false → (r == 0) ≡ false → is_count nlink r ≡ true → reference_reported dead m label attr nlink r ≡ []
+none_reported : (dead m : Bool) (label : Label) (attr : Attr) (nlink : ℤ) (r : ℕ) → dead ≡ false → (r == 0) ≡ false → is_the_count nlink r ≡ true → reference_reported dead m label attr nlink r ≡ []
 none_reported dead m label attr nlink r e f g = rw (e, f, g) refl
 
 pub right_lines : (v : Layout) (b : List ℕ) (w : Workspace) (i r : ℕ) (dead same : Bool) → i < inodes_of v → HoldsClaims v b w → HoldsSurvey v b w →
     dead ≡ ((bool_at w.marked.items i || is_empty_dir_kind (slice_index w.kinds.items i)) && (not (i == 2) && not (bool_at w.named.items i))) → dead ≡ false →
-    r ≡ slice_index w.references.items i → (r ≡ 0 → ⊥) → same ≡ is_count (inode_of v b i).nlink r → same ≡ true → inode_lines (volume_of v b) i ≡ []
+    r ≡ slice_index w.references.items i → (r ≡ 0 → ⊥) → same ≡ is_the_count (inode_of v b i).nlink r → same ≡ true → inode_lines (volume_of v b) i ≡ []
 right_lines v b w i r dead same low h s is alive refs some counted right =
     inode_lines_are v b w i (inode_of v b i) dead low h s refl is
     ∙ none_reported dead (bool_at w.marked.items i) (label_of (class_of_kind (slice_index w.kinds.items i))) (attr_with i (inode_of v b i)) (inode_of v b i).nlink (slice_index w.references.items i)
-    alive (ap (λ n. n == 0) (sym refs) ∙ not_zero r some) (ap (is_count (inode_of v b i).nlink) (sym refs) ∙ sym counted ∙ right)
+    alive (ap (λ n. n == 0) (sym refs) ∙ not_zero r some) (ap (is_the_count (inode_of v b i).nlink) (sym refs) ∙ sym counted ∙ right)

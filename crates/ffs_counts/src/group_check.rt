@@ -60,7 +60,7 @@ fn check_group<I: Image, W: Output>(
         (group_lines geometry.now.layout bytes (free_in (bits_of used.now) geometry.now.layout.size)
         (class_in kinds.now) group)))
         (progress W.sink report.old) (progress W.sink report.new) result }
-    ensures told { OnOk result (ForBytes (IsContents (I.device image.old).contents) (λ bytes.
+    ensures reported { OnOk result (ForBytes (IsContents (I.device image.old).contents) (λ bytes.
         reported_of so_far.new.once ≡ reported_after (reported_of so_far.old.once)
         (group_lines geometry.now.layout bytes (free_in (bits_of used.now) geometry.now.layout.size)
         (class_in kinds.now) group))) }

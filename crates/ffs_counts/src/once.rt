@@ -66,7 +66,7 @@ pub fn say_unless<W: Output>(
 ) -> Result<(), OutFault>
     ensures said { Says (progress W.sink report.old) (progress W.sink report.new)
         (map of_blocks (reported_once (reported_of once.old) (unless right message))) result }
-    ensures told { reported_of once.new
+    ensures reported { reported_of once.new
         ≡ reported_after (reported_of once.old) (unless right message) }
 {
     if right || once.is_reported(message) {
@@ -85,7 +85,7 @@ pub fn say_group<W: Output>(
 ) -> Result<(), OutFault>
     ensures said { Says (progress W.sink report.old) (progress W.sink report.new)
         (map of_blocks (reported_once (reported_of once.old) (lines_of found.now group))) result }
-    ensures told { OnOk result (reported_of once.new
+    ensures reported { OnOk result (reported_of once.new
         ≡ reported_after (reported_of once.old) (lines_of found.now group)) }
 {
     if found.magic {
@@ -106,7 +106,7 @@ fn say_whole_group<W: Output>(
         (map of_blocks (reported_once (reported_of once.old)
         (unless found.now.counts FreeCounts
         ++ (unless found.now.maps MapsWrong ++ unless found.now.sums GroupSums)))) result }
-    ensures told { OnOk result (reported_of once.new
+    ensures reported { OnOk result (reported_of once.new
         ≡ reported_after (reported_of once.old)
         (unless found.now.counts FreeCounts
         ++ (unless found.now.maps MapsWrong ++ unless found.now.sums GroupSums))) }

@@ -8,7 +8,7 @@ use Rattle.std.proofs.lemmas.Nat.Bits.{bit_at-zero, bit_at_ones}
 use Rattle.ffs_volume.specs.Blocks.Inodes.{is_allocated, is_directory}
 use Rattle.ffs_volume.specs.declared.Class.TheVariants.{Unknown, File, Dir}
 use Rattle.ffs_volume.specs.Encodings.Kinds.{class_of_kind, is_dir_kind}
-use Rattle.ffs_volume.specs.Groups.Records.{is_used_inode, is_dir}
+use Rattle.ffs_volume.specs.Groups.Records.{is_used_inode, is_dir_inode}
 use Rattle.ffs_groups.specs.Inodes.{class_in}
 use Rattle.ffs_groups.proofs.Sums.{sum_split}
 use Rattle.ffs_groups.proofs.Words.{sum_const}
@@ -52,10 +52,10 @@ under_two x h = grind arith
 pub used_by_kind : (kinds : List ℕ) (x : ℕ) → 2 ≤ x → is_used_inode (class_in kinds) x ≡ is_allocated (class_of_kind (slice_index kinds x))
 used_by_kind kinds x h = ap (λ b. b || is_allocated (class_of_kind (slice_index kinds x))) (past_two x h)
 
-pub dir_by_kind : (kinds : List ℕ) (x : ℕ) → 2 ≤ x → is_dir (class_in kinds) x ≡ is_directory (class_of_kind (slice_index kinds x))
+pub dir_by_kind : (kinds : List ℕ) (x : ℕ) → 2 ≤ x → is_dir_inode (class_in kinds) x ≡ is_directory (class_of_kind (slice_index kinds x))
 dir_by_kind kinds x h = ap (λ b. b && is_directory (class_of_kind (slice_index kinds x))) (from_two x h)
 
-pub no_dir_below : (kinds : List ℕ) (x : ℕ) → x < 2 → is_dir (class_in kinds) x ≡ false
+pub no_dir_below : (kinds : List ℕ) (x : ℕ) → x < 2 → is_dir_inode (class_in kinds) x ≡ false
 no_dir_below kinds x h = ap (λ b. b && is_directory (class_of_kind (slice_index kinds x))) (below_two x h)
 
 pub none_free_below : (kinds : List ℕ) (x : ℕ) → x < 2 → not (is_used_inode (class_in kinds) x) ≡ false

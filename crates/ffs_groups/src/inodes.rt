@@ -2,7 +2,7 @@
 
 ghost use Rattle.std.specs.Prelude.{ℕ, ◌≡◌, ◌+◌, ◌*◌, ◌<◌, length, count_by, not, slice_index, IfSome, if◌then◌else◌};
 ghost use Rattle.ffs_volume.specs.Blocks.Inodes.{is_directory, is_allocated};
-ghost use Rattle.ffs_volume.specs.Groups.Records.{is_used_inode, is_dir, group_inodes};
+ghost use Rattle.ffs_volume.specs.Groups.Records.{is_used_inode, is_dir_inode, group_inodes};
 ghost use Rattle.ffs_volume.specs.Encodings.Kinds.{class_of_kind};
 ghost use Rattle.ffs_groups.specs.Inodes.{class_in};
 
@@ -62,7 +62,7 @@ fn one_if(holds: bool) -> u32
 pub fn inode_counts(geometry: &Geometry, kinds: &[u8], group: u32) -> InodeCounts
     requires group { group < geometry.now.layout.ncg }
     requires kinds { length kinds.now ≡ geometry.now.layout.ncg * geometry.now.layout.ipg }
-    ensures dirs { result.dirs ≡ count_by (is_dir (class_in kinds.now))
+    ensures dirs { result.dirs ≡ count_by (is_dir_inode (class_in kinds.now))
         (group_inodes geometry.now.layout group) }
     ensures free { result.free ≡ count_by (λ x. not (is_used_inode (class_in kinds.now) x))
         (group_inodes geometry.now.layout group) }

@@ -66,7 +66,7 @@ fn is_held(chunk: &[u8; 512], place: usize, len: u16) -> bool
 ///
 /// At byte 0 is the number (u32), at 4 the record's length (u16), at 6 the type (u8), at 7 the name's
 /// length (u8), from 8 on the name and a NUL. The name of an entry with the number 0 is empty.
-#[tactic(auto, unfolding(ffs_volume::specs::Directories::Entries::entry_at, ffs_volume::specs::Directories::Entries::is_well_formed, ffs_volume::specs::Directories::Entries::entry_there))]
+#[tactic(auto, unfolding(ffs_volume::specs::Directories::Entries::entry_at, ffs_volume::specs::Directories::Entries::is_well_formed, ffs_volume::specs::Directories::Entries::entry_read))]
 pub fn entry_at(order: Order, chunk: &[u8; 512], place: usize) -> Option<Entry<'_>>
     requires { place ≤ 512 }
     ensures value { option_map entry_value result ≡ entry_in order chunk.now place }

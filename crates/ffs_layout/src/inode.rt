@@ -3,7 +3,7 @@
 ghost use Rattle.std.specs.Prelude.{◌≡◌, ◌≤◌, ◌+◌, ◌*◌, length, map};
 ghost use Rattle.std.specs.List.{range_with_len};
 ghost use Rattle.ffs_volume.specs.Blocks.Inodes.{decoded};
-ghost use Rattle.ffs_volume.specs.Disk.Numbers.{is_count, u32_at as u32_in};
+ghost use Rattle.ffs_volume.specs.Disk.Numbers.{is_the_count, u32_at as u32_in};
 
 use crate::numbers::{i16_at, i32_at, u16_at, u32_at, u64_at};
 use ffs_volume::{Inode, Order};
@@ -33,7 +33,7 @@ pub fn decode_inode(order: Order, bytes: &[u8]) -> Inode
 #[tactic(auto, unfolding(ffs_volume::specs::Blocks::Inodes::decoded))]
 pub fn has_links(order: Order, bytes: &[u8], links: u64) -> bool
     requires { 128 ≤ length bytes.now }
-    ensures { result ≡ is_count (decoded order bytes.now).nlink links }
+    ensures { result ≡ is_the_count (decoded order bytes.now).nlink links }
 {
     let nlink = i16_at(order, 2, bytes);
     if nlink < 0 {

@@ -1,7 +1,7 @@
 //! The rules that a layout has to meet.
 
 ghost use Rattle.std.specs.Prelude.{IsTrue, ◌≡◌, ◌<◌, ◌≤◌, ◌-◌, ◌*◌, ◌^◌};
-ghost use Rattle.ffs_volume.specs.Disk.Outcome.{are_cylinders, are_numbers, are_parts, are_sizes, is_block_size, is_fragment_count, is_fragment_size, is_shaped, is_summary, layout_fault};
+ghost use Rattle.ffs_volume.specs.Disk.Outcome.{are_cylinders, are_numbers, are_parts, are_sizes, is_block_size, is_fragment_count, is_fragment_size, is_shaped, is_summary_area, layout_fault};
 
 use crate::groups::groups_fit;
 use ffs_volume::{Layout, SuperFault};
@@ -83,10 +83,10 @@ fn has_parts(v: &Layout) -> bool
         && v.cgsize <= v.bsize
 }
 
-#[tactic(auto, using(crate::proofs::Starts::data_start), unfolding(ffs_volume::specs::Disk::Outcome::is_summary, ffs_volume::specs::Disk::Areas::cgbase))]
+#[tactic(auto, using(crate::proofs::Starts::data_start), unfolding(ffs_volume::specs::Disk::Outcome::is_summary_area, ffs_volume::specs::Disk::Areas::cgbase))]
 fn has_summary(v: &Layout) -> bool
     requires { 0 < v.now.fsize }
-    ensures { result ≡ is_summary v.now }
+    ensures { result ≡ is_summary_area v.now }
 {
     let end = u64::from(v.csaddr) + u64::from(v.cssize).div_ceil(u64::from(v.fsize));
     v.csaddr == v.dblkno

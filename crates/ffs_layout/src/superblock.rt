@@ -57,7 +57,7 @@ fn read_copy<I: Image>(image: &mut I, at: u64, out: &mut [u8; 1376]) -> Result<(
     ensures length { length out.new ≡ 1376 }
     ensures ok { OnOk result (I.device image.new ≡ I.device image.old) }
     ensures inside { OnOk result (at + 1376 ≤ (I.device image.old).size) }
-    ensures told { OnOk result ((b : List ℕ) → (I.device image.old).contents ≡ Some b → out.new
+    ensures reported { OnOk result ((b : List ℕ) → (I.device image.old).contents ≡ Some b → out.new
         ≡ piece at 1376 b) }
     ensures fault { IfErr result (λ fault. fault ≡ SuperFault.CannotRead (at / 512)) }
     ensures failed { OnErr result (ReadFailed result (I.device image.old) (I.device image.new)

@@ -11,7 +11,7 @@ use Rattle.ffs_volume.specs.Messages.Kinds.{Message, NameMessage, of_names}
 use Rattle.ffs_volume.specs.Directories.Parents.{graph_of}
 use Rattle.ffs_volume.specs.Directories.PathnameCheck.{attributes, are_sound, dir_lines, entry_lines}
 use Rattle.ffs_volume.specs.Directories.Paths.{dir_path}
-use Rattle.ffs_volume.specs.Directories.Roles.{Volume, entry_number, is_dir, is_inode, roled_entries, start_entry}
+use Rattle.ffs_volume.specs.Directories.Roles.{Volume, nth_entry, is_dir, is_inode, roled_entries, start_entry}
 use Rattle.ffs_volume.specs.Directories.Volumes.{volume_of, volume_with}
 use Rattle.ffs_phase.specs.Known.{ForBytes}
 use Rattle.ffs_phase.specs.Runs.{SaidOf, PhaseReports}
@@ -24,12 +24,12 @@ use Rattle.ffs_pathnames.specs.Begins.{dir_starts, started_entry, IsBegun}
 use Rattle.ffs_pathnames.specs.Examines.{AreFound, LeavesQueue, LeavesMarks}
 use Rattle.ffs_pathnames.specs.Marks.{Marks, are_quiet, entries_reported, after_entries}
 use Rattle.ffs_pathnames.specs.MarksRight.{AreRightBefore}
-use Rattle.ffs_pathnames.specs.Starts.{starts_reported}
+use Rattle.ffs_pathnames.specs.Header.{header_reported}
 use Rattle.ffs_pathnames.proofs.Places.{size_of}
 use Rattle.ffs_pathnames.proofs.MarkLaws.{IsDirectory, right_reported}
 use Rattle.ffs_pathnames.proofs.LookLaws.{quiet_silent}
 use Rattle.ffs_pathnames.proofs.BetweenLaws.{unstamped, looked, looked_right, quiet_next, reported_next}
-use Rattle.ffs_pathnames.proofs.StartLaws.{dir_parts}
+use Rattle.ffs_pathnames.proofs.HeaderLaws.{dir_parts}
 
 -- what is said of what is known, where more is known and it has another form
 pub said_same : (knows knows' : List ℕ → Type 0) (all all' : List ℕ → List Message) (a b : Progress) →
@@ -66,17 +66,17 @@ attr_size v b d = refl
 pub starts_are : (v : Layout) (b : List ℕ) (d : ℕ) (old new : Workspace) (e : DirectorySummary) (start : List ℕ) (above : Option ℕ) (first second : Option Entry) →
     AreFound v b d old e new start → above ≡ parent (graph_of (volume_of v b)) d →
     first ≡ started_entry 0 e.found.started v.order start → second ≡ started_entry 1 e.found.started v.order start →
-    starts_reported (attributes (volume_of v b) d) (dir_path (graph_of (volume_of v b)) d) d above e.found.gap e.found.sound first second ≡ dir_starts (volume_of v b) d
+    header_reported (attributes (volume_of v b) d) (dir_path (graph_of (volume_of v b)) d) d above e.found.gap e.found.sound first second ≡ dir_starts (volume_of v b) d
 unfolding dir_starts start_entry
 starts_are v b d old new e start above first second f p q r =
     let V = volume_of v b in
     let A = attributes (volume_of v b) d in
     let P = dir_path (graph_of (volume_of v b)) d in
-    ap (λ x. starts_reported A P d x e.found.gap e.found.sound first second) p
-    ∙ (ap (λ x. starts_reported A P d (parent (graph_of V) d) x e.found.sound first second) f.gap
-    ∙ (ap (λ x. starts_reported A P d (parent (graph_of V) d) (V.gap d) x first second) f.sound
-    ∙ (ap (λ x. starts_reported A P d (parent (graph_of V) d) (V.gap d) (are_sound (V.chunks d)) x second) (q ∙ sym (ap (option_and_then (λ c. entry_number 0 c.entries)) f.started))
-    ∙ ap (λ x. starts_reported A P d (parent (graph_of V) d) (V.gap d) (are_sound (V.chunks d)) (start_entry V d 0) x) (r ∙ sym (ap (option_and_then (λ c. entry_number 1 c.entries)) f.started)))))
+    ap (λ x. header_reported A P d x e.found.gap e.found.sound first second) p
+    ∙ (ap (λ x. header_reported A P d (parent (graph_of V) d) x e.found.sound first second) f.gap
+    ∙ (ap (λ x. header_reported A P d (parent (graph_of V) d) (V.gap d) x first second) f.sound
+    ∙ (ap (λ x. header_reported A P d (parent (graph_of V) d) (V.gap d) (are_sound (V.chunks d)) x second) (q ∙ sym (ap (option_and_then (λ c. nth_entry 0 c.entries)) f.started))
+    ∙ ap (λ x. header_reported A P d (parent (graph_of V) d) (V.gap d) (are_sound (V.chunks d)) (start_entry V d 0) x) (r ∙ sym (ap (option_and_then (λ c. nth_entry 1 c.entries)) f.started)))))
 
 abbrev marks_with : List Bool → List ℕ → Marks
 marks_with passed stamps = record { passed = passed; stamps = stamps }
@@ -101,8 +101,8 @@ pub lines_parts : (v : Volume) (d : ℕ) (ms : List NameMessage) → entry_lines
     map of_names (dir_lines v d) ≡ map of_names (dir_starts v d) ++ map of_names ms
 unfolding dir_starts
 lines_parts v d ms e =
-    ap (map of_names) (dir_parts v d ∙ ap (λ l. starts_reported (attributes v d) (dir_path (graph_of v) d) d (parent (graph_of v) d) (v.gap d) (are_sound (v.chunks d)) (start_entry v d 0) (start_entry v d 1) ++ l) e)
-    ∙ map-append of_names (starts_reported (attributes v d) (dir_path (graph_of v) d) d (parent (graph_of v) d) (v.gap d) (are_sound (v.chunks d)) (start_entry v d 0) (start_entry v d 1)) ms
+    ap (map of_names) (dir_parts v d ∙ ap (λ l. header_reported (attributes v d) (dir_path (graph_of v) d) d (parent (graph_of v) d) (v.gap d) (are_sound (v.chunks d)) (start_entry v d 0) (start_entry v d 1) ++ l) e)
+    ∙ map-append of_names (header_reported (attributes v d) (dir_path (graph_of v) d) d (parent (graph_of v) d) (v.gap d) (are_sound (v.chunks d)) (start_entry v d 0) (start_entry v d 1)) ms
 
 pub quiet_lines : (v : Volume) (d : ℕ) (m : Marks) → IsDirectory v d → AreRightBefore v d m → are_quiet v d m.stamps (roled_entries v d) ≡ true → entry_lines v d 0 (roled_entries v d) ≡ []
 unfolding size_of

@@ -7,7 +7,7 @@ use Rattle.ffs_volume.specs.declared.Class.{Class}
 use Rattle.ffs_volume.specs.declared.Class.TheVariants.{Free, Partial, Unknown, File, Dir}
 use Rattle.ffs_volume.specs.Disk.Geometry.{IsGeometry}
 use Rattle.ffs_volume.specs.Directories.Graph.{names, names_in}
-use Rattle.ffs_volume.specs.Messages.Kinds.{NameMessage, of_names, lines_below, told, root_none, root_not_dir, root_suspect, lines_from}
+use Rattle.ffs_volume.specs.Messages.Kinds.{NameMessage, of_names, lines_below, reported, root_none, root_not_dir, root_suspect, lines_from}
 use Rattle.ffs_volume.specs.Directories.Parents.{graph_of}
 use Rattle.ffs_volume.specs.Directories.PathnameCheck.{dir_lines, goes_on, lines_of, pathname_lines, root_lines, root_reported}
 use Rattle.ffs_volume.specs.Blocks.Inodes.{is_directory, is_allocated}
@@ -124,7 +124,7 @@ unfolding root_said
 root_by v c k m d a s = go c (k == 0) (is_dir_kind k) refl d a
   where
     tell : Bool → Bool → List NameMessage
-    tell none dir = if none then root_none ∷ [] else (if not dir then root_not_dir ∷ [] else told (m || is_empty_dir_kind k) root_suspect)
+    tell none dir = if none then root_none ∷ [] else (if not dir then root_not_dir ∷ [] else reported (m || is_empty_dir_kind k) root_suspect)
 
     go : (c : Class) (none dir : Bool) → (k == 0) ≡ none → is_directory c ≡ dir → is_allocated c ≡ not none → tell none dir ≡ root_reported v c
     go Free true dir e d a = refl
@@ -138,7 +138,7 @@ root_by v c k m d a s = go c (k == 0) (is_dir_kind k) refl d a
     go Unknown false false e d a = refl
     go Unknown false true e d a = absurd (cc)
     go Dir true dir e d a = absurd (cc)
-    go Dir false true e d a = ap (λ b. told b root_suspect) (sym s)
+    go Dir false true e d a = ap (λ b. reported b root_suspect) (sym s)
     go Dir false false e d a = absurd (cc)
 
 pub root_is : (v : Layout) (b : List ℕ) (w : Workspace) (k : ℕ) (m : Bool) → k ≡ slice_index w.kinds.items 2 → m ≡ bool_at w.marked.items 2 → HoldsClaims v b w →

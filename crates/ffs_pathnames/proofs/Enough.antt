@@ -4,19 +4,19 @@ use Rattle.ffs_volume.specs.declared.Attr.{Attr}
 use Rattle.ffs_volume.specs.Directories.Roles.{Volume}
 use Rattle.ffs_volume.specs.Directories.Parents.{graph_of}
 use Rattle.ffs_volume.specs.Directories.Paths.{dir_path, entry_path}
-use Rattle.ffs_volume.specs.Messages.Kinds.{told, extraneous, kind_entry}
+use Rattle.ffs_volume.specs.Messages.Kinds.{reported, extraneous, kind_entry}
 use Rattle.ffs_volume.specs.Directories.PathnameCheck.{attributes}
-use Rattle.ffs_pathnames.specs.declared.judge.Faults.{Faults}
-use Rattle.ffs_pathnames.specs.declared.judge.Verdict.{Verdict}
-use Rattle.ffs_pathnames.specs.declared.judge.Verdict.TheVariants.{OutOfRange, Whiteout, Fine, Unallocated, Named}
+use Rattle.ffs_pathnames.specs.declared.verdict.Faults.{Faults}
+use Rattle.ffs_pathnames.specs.declared.verdict.Verdict.{Verdict}
+use Rattle.ffs_pathnames.specs.declared.verdict.Verdict.TheVariants.{OutOfRange, Whiteout, Fine, Unallocated, Named}
 use Rattle.ffs_pathnames.specs.Gathers.{IsEnough, asks_attr, asks_path}
 use Rattle.ffs_pathnames.specs.Verdicts.{verdict_reported, faults_reported, suspect_message}
 
 faults_same : (n : Faults) (about : Attr) (path directory right : List ℕ) → (n.extraneous ≡ true → directory ≡ right) → faults_reported n about path directory ≡ faults_reported n about path right
-faults_same n about path directory right h = ap (λ l. told n.suspect (suspect_message n about path) ++ (l ++ told n.kind (kind_entry about n.label path))) (one n.extraneous h)
+faults_same n about path directory right h = ap (λ l. reported n.suspect (suspect_message n about path) ++ (l ++ reported n.kind (kind_entry about n.label path))) (one n.extraneous h)
   where
-    one : (b : Bool) → (b ≡ true → directory ≡ right) → told b (extraneous path directory) ≡ told b (extraneous path right)
-    one true k = ap (λ d. told true (extraneous path d)) (k refl)
+    one : (b : Bool) → (b ≡ true → directory ≡ right) → reported b (extraneous path directory) ≡ reported b (extraneous path right)
+    one true k = ap (λ d. reported true (extraneous path d)) (k refl)
     one false k = refl
 
 pub enough : (v : Volume) (verdict : Verdict) (dir number : ℕ) (name : List ℕ) (about : Attr) (path directory : List ℕ) →

@@ -9,28 +9,28 @@ use Rattle.ffs_volume.specs.Directories.Climb.{is_value}
 use Rattle.ffs_volume.specs.Directories.Entries.{Entry, entry_at, entries_of, entries_from}
 use Rattle.ffs_volume.specs.Directories.Graph.{Graph, names_in, edge, level, level_edge, parent, parent_by}
 use Rattle.ffs_volume.specs.Directories.Parents.{graph_of}
-use Rattle.ffs_volume.specs.Directories.Roles.{Volume, entry_number}
+use Rattle.ffs_volume.specs.Directories.Roles.{Volume, nth_entry}
 use Rattle.ffs_volume.proofs.SearchLaws.{first_below-some}
 use Rattle.ffs_volume.proofs.Reading.{entries_next, entries_end}
 use Rattle.ffs_pathnames.specs.Begins.{number_if, started_entry}
 
 -- where no entry is at the start, there is none
-pub none_first : (order : Order) (chunk : List ℕ) (i : ℕ) → entry_at order chunk 0 ≡ None → entry_number i (entries_of order chunk) ≡ None
-none_first order chunk i h = ap (entry_number i) (entries_end order chunk 0 h)
+pub none_first : (order : Order) (chunk : List ℕ) (i : ℕ) → entry_at order chunk 0 ≡ None → nth_entry i (entries_of order chunk) ≡ None
+none_first order chunk i h = ap (nth_entry i) (entries_end order chunk 0 h)
 
-pub first_is : (order : Order) (chunk : List ℕ) (e : Entry) → entry_at order chunk 0 ≡ Some e → entry_number 0 (entries_of order chunk) ≡ Some e
-first_is order chunk e h = ap (entry_number 0) (entries_next order chunk 0 e h)
+pub first_is : (order : Order) (chunk : List ℕ) (e : Entry) → entry_at order chunk 0 ≡ Some e → nth_entry 0 (entries_of order chunk) ≡ Some e
+first_is order chunk e h = ap (nth_entry 0) (entries_next order chunk 0 e h)
 
 -- the second is after the first
-pub second_is : (order : Order) (chunk : List ℕ) (e : Entry) → entry_at order chunk 0 ≡ Some e → entry_number 1 (entries_of order chunk) ≡ entry_at order chunk e.length
-second_is order chunk e h = ap (entry_number 1) (entries_next order chunk 0 e h) ∙ (one (0 + e.length) (entry_at order chunk (0 + e.length)) refl ∙ ap (entry_at order chunk) (from_zero e.length))
+pub second_is : (order : Order) (chunk : List ℕ) (e : Entry) → entry_at order chunk 0 ≡ Some e → nth_entry 1 (entries_of order chunk) ≡ entry_at order chunk e.length
+second_is order chunk e h = ap (nth_entry 1) (entries_next order chunk 0 e h) ∙ (one (0 + e.length) (entry_at order chunk (0 + e.length)) refl ∙ ap (entry_at order chunk) (from_zero e.length))
   where
     from_zero : (n : ℕ) → 0 + n ≡ n
     from_zero n = omega arith
 
-    one : (place : ℕ) (o : Option Entry) → entry_at order chunk place ≡ o → entry_number 1 (e ∷ entries_from order chunk 64 place) ≡ entry_at order chunk place
-    one place None q = ap (λ es. entry_number 1 (e ∷ es)) (entries_end order chunk place q) ∙ sym q
-    one place (Some f) q = ap (λ es. entry_number 1 (e ∷ es)) (entries_next order chunk place f q) ∙ sym q
+    one : (place : ℕ) (o : Option Entry) → entry_at order chunk place ≡ o → nth_entry 1 (e ∷ entries_from order chunk 64 place) ≡ entry_at order chunk place
+    one place None q = ap (λ es. nth_entry 1 (e ∷ es)) (entries_end order chunk place q) ∙ sym q
+    one place (Some f) q = ap (λ es. nth_entry 1 (e ∷ es)) (entries_next order chunk place f q) ∙ sym q
 
 -- a parent is a directory
 parent_dir : (g : Graph) (x s : ℕ) → x ≢ 2 → parent g x ≡ Some s → g.is_dir s ≡ true

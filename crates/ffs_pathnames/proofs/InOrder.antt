@@ -6,12 +6,12 @@ use Rattle.ffs_pathnames.proofs.MarkLaws.{and_false}
 use Rattle.ffs_volume.specs.declared.Attr.{Attr}
 use Rattle.ffs_volume.specs.Directories.Entries.{Entry, is_live}
 use Rattle.ffs_volume.specs.Directories.Roles.{is_two_dots}
-use Rattle.ffs_volume.specs.Messages.Kinds.{NameMessage, told}
+use Rattle.ffs_volume.specs.Messages.Kinds.{NameMessage, reported}
 use Rattle.ffs_volume.specs.Directories.PathnameCheck.{is_other}
-use Rattle.ffs_pathnames.specs.Starts.{dot_in, dotdot_in, dot_said, dotdot_said, starts_reported}
+use Rattle.ffs_pathnames.specs.Header.{dot_in, dotdot_in, dot_said, dotdot_said, header_reported}
 
-silent : (b : Bool) (m : NameMessage) → b ≡ false → told b m ≡ []
-silent b m e = ap (λ t. told t m) e
+silent : (b : Bool) (m : NameMessage) → b ≡ false → reported b m ≡ []
+silent b m e = ap (λ t. reported t m) e
 
 two : (xs ys : List NameMessage) → xs ≡ [] → ys ≡ [] → xs ++ ys ≡ []
 two xs ys p q = ap (λ l. l ++ ys) p ∙ q
@@ -27,8 +27,8 @@ dotdot_right about path parent e live name number kind =
 pub all_right : (about : Attr) (path : List ℕ) (d : ℕ) (parent : Option ℕ) (gap sound : Bool) (first second : Option Entry) →
     nat_lt about.size 24 ≡ false → (about.size % 512 == 0) ≡ true → gap ≡ false → sound ≡ true →
     dot_said about path d first (dot_in first) ≡ [] → dotdot_said about path parent second (dotdot_in second) ≡ [] →
-    starts_reported about path d parent gap sound first second ≡ []
-unfolding starts_reported
+    header_reported about path d parent gap sound first second ≡ []
+unfolding header_reported
 all_right about path d parent gap sound first second long even none all dot dotdot =
     two _ _
     (two _ _
@@ -40,7 +40,7 @@ all_right about path d parent gap sound first second long even none all dot dotd
 pub in_order : (about : Attr) (path : List ℕ) (d size : ℕ) (parent : Option ℕ) (gap sound : Bool) (first second : Option Entry) → about.size ≡ size →
     (not (nat_lt size 24) && ((size % 512 == 0) && (not gap && sound))) ≡ true →
     dot_said about path d first (dot_in first) ≡ [] → dotdot_said about path parent second (dotdot_in second) ≡ [] →
-    starts_reported about path d parent gap sound first second ≡ []
+    header_reported about path d parent gap sound first second ≡ []
 in_order about path d size parent gap sound first second e h dot dotdot =
     let a = and_parts (not (nat_lt size 24)) ((size % 512 == 0) && (not gap && sound)) h in
     let b = and_parts (size % 512 == 0) (not gap && sound) a.1 in

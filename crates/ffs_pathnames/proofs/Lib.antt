@@ -3,7 +3,7 @@ pub mod MarkLaws
 pub mod LookLaws
 pub mod BetweenLaws
 pub mod Saying
-pub mod StartLaws
+pub mod HeaderLaws
 pub mod Looking
 pub mod Directories
 pub mod SeesLaws

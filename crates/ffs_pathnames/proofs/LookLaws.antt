@@ -14,7 +14,7 @@ use Rattle.ffs_volume.specs.Directories.Climb.{is_value}
 use Rattle.ffs_volume.specs.Directories.Graph.{names, parent}
 use Rattle.ffs_volume.specs.Directories.Parents.{graph_of, is_from_parent, is_first_name}
 use Rattle.ffs_volume.specs.Directories.Paths.{dir_path, entry_path}
-use Rattle.ffs_volume.specs.Messages.Kinds.{NameMessage, told, out_of_range, whiteout, unallocated, extraneous, kind_entry}
+use Rattle.ffs_volume.specs.Messages.Kinds.{NameMessage, reported, out_of_range, whiteout, unallocated, extraneous, kind_entry}
 use Rattle.ffs_volume.specs.Directories.PathnameCheck.{attributes, label_of, is_bad_whiteout, suspect_reported, is_other_kind, reports_suspect, is_extraneous, named_lines, plain_lines, roled_lines, entry_lines, roled_reported as lines_by_role}
 use Rattle.ffs_pathnames.specs.Marks.{belongs, after_look, after_looks, is_plain_quiet, is_role_quiet, is_quiet, are_quiet}
 use Rattle.ffs_pathnames.proofs.Places.{size_of, size_more}
@@ -105,8 +105,8 @@ quiet_parts v s stamps e h =
       ];
     }
 
-reported_nothing : (b : Bool) (m : NameMessage) → b ≡ false → told b m ≡ []
-reported_nothing b m h = ap (λ b. told b m) h
+reported_nothing : (b : Bool) (m : NameMessage) → b ≡ false → reported b m ≡ []
+reported_nothing b m h = ap (λ b. reported b m) h
 
 suspect_quiet : (v : Volume) (s j x : ℕ) → is_suspect v x ≡ false → reports_suspect v s j x ≡ false
 suspect_quiet v s j x h = ap (λ b. b && (not (x == 2) && is_first_name (graph_of v) s j x)) h
@@ -139,9 +139,9 @@ named_quiet v s done es e stamps i p h r q =
     let a = reported_nothing _ (suspect_reported v e.entry.number (entry_path (graph_of v) s e.entry.name)) (suspect_quiet v s (size_of done) e.entry.number q.suspect) in
     let b = reported_nothing _ (extraneous (entry_path (graph_of v) s e.entry.name) (dir_path (graph_of v) e.entry.number)) (link_quiet v s done es e stamps i p h r q.link) in
     let c = reported_nothing _ (kind_entry (attributes v e.entry.number) (label_of (v.class e.entry.number)) (entry_path (graph_of v) s e.entry.name)) q.kind in
-    ap (λ l. l ++ (told (is_extraneous v s (size_of done) e.entry.number) (extraneous (entry_path (graph_of v) s e.entry.name) (dir_path (graph_of v) e.entry.number))
-    ++ told (is_other_kind v e.entry) (kind_entry (attributes v e.entry.number) (label_of (v.class e.entry.number)) (entry_path (graph_of v) s e.entry.name)))) a
-    ∙ (ap (λ l. l ++ told (is_other_kind v e.entry) (kind_entry (attributes v e.entry.number) (label_of (v.class e.entry.number)) (entry_path (graph_of v) s e.entry.name))) b ∙ c)
+    ap (λ l. l ++ (reported (is_extraneous v s (size_of done) e.entry.number) (extraneous (entry_path (graph_of v) s e.entry.name) (dir_path (graph_of v) e.entry.number))
+    ++ reported (is_other_kind v e.entry) (kind_entry (attributes v e.entry.number) (label_of (v.class e.entry.number)) (entry_path (graph_of v) s e.entry.name)))) a
+    ∙ (ap (λ l. l ++ reported (is_other_kind v e.entry) (kind_entry (attributes v e.entry.number) (label_of (v.class e.entry.number)) (entry_path (graph_of v) s e.entry.name))) b ∙ c)
 
 plain_quiet : (v : Volume) (s : ℕ) (done es : List RoledEntry) (e : RoledEntry) (stamps : List ℕ) → IsEntry v s done e es → e.role ≡ Plain → AreStamped v s done stamps →
     is_plain_quiet v s stamps e.entry ≡ true → plain_lines v s (size_of done) e.entry ≡ []

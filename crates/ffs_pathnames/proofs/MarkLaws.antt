@@ -14,10 +14,10 @@ use Rattle.ffs_volume.specs.Directories.Search.{some_below, first_below}
 use Rattle.ffs_volume.proofs.SearchLaws.{first_below-is, some_below-false, first_below-some}
 use Rattle.ffs_volume.specs.Directories.Climb.{is_value}
 use Rattle.ffs_volume.proofs.ClimbLaws.{is_value-true, is_value-from}
-use Rattle.ffs_volume.specs.Directories.Graph.{names, names_in, parent, entry_place, first_place}
+use Rattle.ffs_volume.specs.Directories.Graph.{names, names_in, parent, entry_index, first_index}
 use Rattle.ffs_volume.specs.Directories.Parents.{graph_of, first_namer, is_first_name, is_from_parent}
 use Rattle.ffs_volume.specs.Directories.Paths.{dir_path, entry_path}
-use Rattle.ffs_volume.specs.Messages.Kinds.{told, out_of_range, whiteout, unallocated, extraneous, kind_entry}
+use Rattle.ffs_volume.specs.Messages.Kinds.{reported, out_of_range, whiteout, unallocated, extraneous, kind_entry}
 use Rattle.ffs_volume.specs.Directories.PathnameCheck.{attributes, label_of, is_bad_whiteout, suspect_reported, is_other_kind, roled_reported as lines_by_role, reports_suspect, is_extraneous, named_lines, plain_lines, roled_lines, entry_lines}
 use Rattle.ffs_pathnames.specs.Marks.{Marks, is_passed, is_due, after_name, after_roled, named_reported, plain_reported, role_reported, roled_reported, entries_reported, belongs}
 use Rattle.ffs_pathnames.specs.MarksRight.{AreRight}
@@ -67,9 +67,9 @@ names_in_it v s done es e i p =
     (ap (list_any (names x)) i.whole ∙ (list_any-append (names x) done (e ∷ es) ∙ here))
 
 place_is : (v : Volume) (s : ℕ) (done es : List RoledEntry) (e : RoledEntry) → IsEntry v s done e es → e.role ≡ Plain →
-    is_value (first_place (names e.entry.number) (roled_entries v s)) (size_of done) ≡ not (list_any (names e.entry.number) done)
+    is_value (first_index (names e.entry.number) (roled_entries v s)) (size_of done) ≡ not (list_any (names e.entry.number) done)
 place_is v s done es e i p =
-    ap (λ l. is_value (first_place (names e.entry.number) l) (size_of done)) i.whole ∙ first_here (names e.entry.number) done e es (names_it e p)
+    ap (λ l. is_value (first_index (names e.entry.number) l) (size_of done)) i.whole ∙ first_here (names e.entry.number) done e es (names_it e p)
 
 first_name_is : (v : Volume) (s : ℕ) (done es : List RoledEntry) (e : RoledEntry) → IsEntry v s done e es → e.role ≡ Plain →
     is_first_name (graph_of v) s (size_of done) e.entry.number
@@ -78,7 +78,7 @@ first_name_is v s done es e i p =
     let x = e.entry.number in
     let first : is_value (first_namer (graph_of v) x) s ≡ not (some_below (λ t. names_in (graph_of v) t x) s) =
     first_in (λ t. names_in (graph_of v) t x) v.count s i.below (names_in_it v s done es e i p) in
-    ap (λ b. b && is_value (first_place (names x) (roled_entries v s)) (size_of done)) first
+    ap (λ b. b && is_value (first_index (names x) (roled_entries v s)) (size_of done)) first
     ∙ (ap (λ b. not (some_below (λ t. names_in (graph_of v) t x) s) && b) (place_is v s done es e i p)
     ∙ not_or (some_below (λ t. names_in (graph_of v) t x) s) (list_any (names x) done))
 
@@ -88,12 +88,12 @@ pub from_parent_is : (v : Volume) (s : ℕ) (done es : List RoledEntry) (e : Rol
 from_parent_is v s done es e i p = one (e.entry.number == 2) refl (is_value (parent (graph_of v) e.entry.number) s) refl
   where
     one : (two : Bool) → (e.entry.number == 2) ≡ two → (b : Bool) → is_value (parent (graph_of v) e.entry.number) s ≡ b →
-        (b && is_value (if two then None else entry_place (graph_of v) e.entry.number (parent (graph_of v) e.entry.number)) (size_of done))
+        (b && is_value (if two then None else entry_index (graph_of v) e.entry.number (parent (graph_of v) e.entry.number)) (size_of done))
         ≡ ((not two && b) && not (list_any (names e.entry.number) done))
     one true q true r = refl
     one true q false r = refl
     one false q true r =
-        ap (λ o. is_value (entry_place (graph_of v) e.entry.number o) (size_of done)) (is_value-true (parent (graph_of v) e.entry.number) s r)
+        ap (λ o. is_value (entry_index (graph_of v) e.entry.number o) (size_of done)) (is_value-true (parent (graph_of v) e.entry.number) s r)
         ∙ place_is v s done es e i p
     one false q false r = refl
 
@@ -125,13 +125,13 @@ named_same : (v : Volume) (s : ℕ) (done es : List RoledEntry) (e : RoledEntry)
     named_lines v s (size_of done) e.entry ≡ named_reported v s m e.entry
 unfolding named_lines
 named_same v s done es e m i p h other r =
-    ap (λ b. told b (suspect_reported v e.entry.number (entry_path (graph_of v) s e.entry.name))
-    ++ (told (is_extraneous v s (size_of done) e.entry.number) (extraneous (entry_path (graph_of v) s e.entry.name) (dir_path (graph_of v) e.entry.number))
-    ++ told (is_other_kind v e.entry) (kind_entry (attributes v e.entry.number) (label_of (v.class e.entry.number)) (entry_path (graph_of v) s e.entry.name))))
+    ap (λ b. reported b (suspect_reported v e.entry.number (entry_path (graph_of v) s e.entry.name))
+    ++ (reported (is_extraneous v s (size_of done) e.entry.number) (extraneous (entry_path (graph_of v) s e.entry.name) (dir_path (graph_of v) e.entry.number))
+    ++ reported (is_other_kind v e.entry) (kind_entry (attributes v e.entry.number) (label_of (v.class e.entry.number)) (entry_path (graph_of v) s e.entry.name))))
     (suspect_same v s done es e m i p h other r)
-    ∙ ap (λ b. told (is_suspect v e.entry.number && (not (e.entry.number == 2) && not (is_passed m e.entry.number))) (suspect_reported v e.entry.number (entry_path (graph_of v) s e.entry.name))
-    ++ (told b (extraneous (entry_path (graph_of v) s e.entry.name) (dir_path (graph_of v) e.entry.number))
-    ++ told (is_other_kind v e.entry) (kind_entry (attributes v e.entry.number) (label_of (v.class e.entry.number)) (entry_path (graph_of v) s e.entry.name))))
+    ∙ ap (λ b. reported (is_suspect v e.entry.number && (not (e.entry.number == 2) && not (is_passed m e.entry.number))) (suspect_reported v e.entry.number (entry_path (graph_of v) s e.entry.name))
+    ++ (reported b (extraneous (entry_path (graph_of v) s e.entry.name) (dir_path (graph_of v) e.entry.number))
+    ++ reported (is_other_kind v e.entry) (kind_entry (attributes v e.entry.number) (label_of (v.class e.entry.number)) (entry_path (graph_of v) s e.entry.name))))
     (extraneous_same v s done es e m i p h r)
 
 plain_same : (v : Volume) (s : ℕ) (done es : List RoledEntry) (e : RoledEntry) (m : Marks) → IsEntry v s done e es → e.role ≡ Plain → AreRight v s done m →

@@ -10,7 +10,7 @@ use Rattle.ffs_volume.specs.Disk.Areas.{is_in_range}
 use Rattle.ffs_volume.specs.Disk.Geometry.{IsGeometry}
 use Rattle.ffs_volume.specs.Blocks.Inodes.{inode_of}
 use Rattle.ffs_volume.specs.Blocks.Steps.{steps_of}
-use Rattle.ffs_volume.specs.Directories.Entries.{Chunk, Entry, entry_at, entry_there, is_well_formed, name_at, chunks_of, size_taken}
+use Rattle.ffs_volume.specs.Directories.Entries.{Chunk, Entry, entry_at, entry_read, is_well_formed, name_at, chunks_of, size_taken}
 use Rattle.ffs_volume.specs.Encodings.Replay.{cut_at, fresh_replay, replayed_steps}
 use Rattle.ffs_volume.specs.Directories.Volumes.{volume_of}
 use Rattle.ffs_volume.proofs.Reading.{entries_end}
@@ -82,9 +82,9 @@ name_if false name h = h
 
 -- one byte says how long a name is
 pub name_short : (order : Order) (chunk : List ℕ) (place : ℕ) (e : Entry) → slice_index chunk (place + 7) ≤ 255 → entry_at order chunk place ≡ Some e → length e.name ≤ 255
-unfolding entry_at entry_there
+unfolding entry_at entry_read
 name_short order chunk place e h there =
-    subst (λ x. length x.name ≤ 255) (if_some (is_well_formed order chunk place) (entry_there order chunk place) e there)
+    subst (λ x. length x.name ≤ 255) (if_some (is_well_formed order chunk place) (entry_read order chunk place) e there)
     (name_if (u32_at order place chunk == 0) (name_at chunk place) (piece_short (place + 8) (slice_index chunk (place + 7)) chunk h))
 
 -- no entry is left

@@ -5,7 +5,7 @@ use Rattle.std.proofs.Common.{arith, sym, ◌∙◌, ap, inl, inr}
 use Rattle.std.proofs.lemmas.Bool.{cases_eq, ne_eqb, eq-eqb}
 use Rattle.ffs_volume.specs.Directories.Roles.{RoledEntry}
 use Rattle.ffs_volume.specs.Directories.Climb.{is_value}
-use Rattle.ffs_volume.specs.Directories.Graph.{first_place}
+use Rattle.ffs_volume.specs.Directories.Graph.{first_index}
 
 -- how many entries there are
 unfoldable pub size_of : List RoledEntry → ℕ
@@ -29,12 +29,12 @@ value_suc (Some j) k = same_suc j k
 
 -- an entry that passes is at its first place exactly where none before it passes
 pub first_here : (p : RoledEntry → Bool) (done : List RoledEntry) (e : RoledEntry) (es : List RoledEntry) → p e ≡ true →
-    is_value (first_place p (done ++ e ∷ es)) (size_of done) ≡ not (list_any p done)
+    is_value (first_index p (done ++ e ∷ es)) (size_of done) ≡ not (list_any p done)
 unfolding size_of
-first_here p [] e es h = ap (λ b. is_value (cond b (Some 0) (option_map suc (first_place p es))) zero) h ∙ eq-eqb 0 zero refl
+first_here p [] e es h = ap (λ b. is_value (cond b (Some 0) (option_map suc (first_index p es))) zero) h ∙ eq-eqb 0 zero refl
 first_here p (d ∷ ds) e es h = one (first_here p ds e es h) (p d) refl
   where
-    one : is_value (first_place p (ds ++ e ∷ es)) (size_of ds) ≡ not (list_any p ds) → (b : Bool) → p d ≡ b →
-        is_value (cond b (Some 0) (option_map suc (first_place p (ds ++ e ∷ es)))) (suc (size_of ds)) ≡ not (b || list_any p ds)
+    one : is_value (first_index p (ds ++ e ∷ es)) (size_of ds) ≡ not (list_any p ds) → (b : Bool) → p d ≡ b →
+        is_value (cond b (Some 0) (option_map suc (first_index p (ds ++ e ∷ es)))) (suc (size_of ds)) ≡ not (b || list_any p ds)
     one more true q = ne_eqb 0 (suc (size_of ds)) (λ z. absurd (omega (arith, z)))
-    one more false q = value_suc (first_place p (ds ++ e ∷ es)) (size_of ds) ∙ more
+    one more false q = value_suc (first_index p (ds ++ e ∷ es)) (size_of ds) ∙ more

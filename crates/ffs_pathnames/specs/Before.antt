@@ -1,7 +1,7 @@
 -- What is known between two directories of the pathname check.
 use Rattle.std.specs.Prelude.{◌≡◌, ℕ, Bool, false, not, ◌||◌, ◌==◌, if◌then◌else◌, List, [], ◌∷◌, Option, Some, slice_index}
 use Rattle.ffs_volume.specs.declared.Layout.{Layout}
-use Rattle.ffs_volume.specs.Messages.Kinds.{NameMessage, told, root_none, root_not_dir, root_suspect}
+use Rattle.ffs_volume.specs.Messages.Kinds.{NameMessage, reported, root_none, root_not_dir, root_suspect}
 use Rattle.ffs_volume.specs.Directories.Volumes.{volume_of}
 use Rattle.ffs_workspace.specs.declared.workspace.Workspace.{Workspace}
 use Rattle.ffs_workspace.specs.Holds.{bool_at, HoldsClaims, HoldsSurvey}
@@ -26,4 +26,4 @@ unfoldable pub root_said : ℕ → Bool → List NameMessage
 root_said kind marked =
     if kind == 0 then root_none ∷ []
     else (if not (is_dir_kind kind) then root_not_dir ∷ []
-    else told (marked || is_empty_dir_kind kind) root_suspect)
+    else reported (marked || is_empty_dir_kind kind) root_suspect)

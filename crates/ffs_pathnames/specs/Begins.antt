@@ -9,18 +9,18 @@ use Rattle.ffs_volume.specs.Messages.Kinds.{NameMessage}
 use Rattle.ffs_volume.specs.Directories.Parents.{graph_of}
 use Rattle.ffs_volume.specs.Directories.PathnameCheck.{attributes, are_sound}
 use Rattle.ffs_volume.specs.Directories.Paths.{dir_path}
-use Rattle.ffs_volume.specs.Directories.Roles.{Volume, entry_number, roled_entries, start_entry}
+use Rattle.ffs_volume.specs.Directories.Roles.{Volume, nth_entry, roled_entries, start_entry}
 use Rattle.ffs_volume.specs.Directories.Volumes.{volume_of}
 use Rattle.ffs_workspace.specs.declared.workspace.Workspace.{Workspace}
 use Rattle.ffs_pathnames.specs.declared.examine.DirectorySummary.{DirectorySummary}
 use Rattle.ffs_pathnames.specs.Gathers.{marks_of}
 use Rattle.ffs_pathnames.specs.Marks.{are_quiet, after_looks}
 use Rattle.ffs_pathnames.specs.Reads.{start_of}
-use Rattle.ffs_pathnames.specs.Starts.{starts_reported}
+use Rattle.ffs_pathnames.specs.Header.{header_reported}
 
 -- of its size, its Gaps, its chunks and its first two entries
 unfoldable pub dir_starts : Volume → ℕ → List NameMessage
-dir_starts v d = starts_reported (attributes v d) (dir_path (graph_of v) d) d (parent (graph_of v) d) (v.gap d) (are_sound (v.chunks d)) (start_entry v d 0) (start_entry v d 1)
+dir_starts v d = header_reported (attributes v d) (dir_path (graph_of v) d) d (parent (graph_of v) d) (v.gap d) (are_sound (v.chunks d)) (start_entry v d 0) (start_entry v d 1)
 
 -- 0 means no number
 abbrev pub number_if : ℕ → Option ℕ
@@ -28,7 +28,7 @@ number_if n = if n == 0 then None else Some n
 
 -- an entry of the chunk at the start of the file, if that was found
 abbrev pub started_entry : ℕ → Bool → Order → List ℕ → Option Entry
-started_entry i started order start = option_and_then (λ c. entry_number i c.entries) (start_of [] started order start)
+started_entry i started order start = option_and_then (λ c. nth_entry i c.entries) (start_of [] started order start)
 
 -- its inode is read, its entries were looked at, and each inode that belongs to it is stamped
 pub record IsBegun (v : Layout) (b : List ℕ) (d : ℕ) (old : Workspace) (e : DirectorySummary) (new : Workspace) : Type 0 where

@@ -5,8 +5,8 @@ use Rattle.ffs_volume.specs.Directories.Roles.{Volume}
 use Rattle.ffs_volume.specs.Directories.Parents.{graph_of}
 use Rattle.ffs_volume.specs.Directories.Paths.{dir_path, entry_path}
 use Rattle.ffs_volume.specs.Directories.PathnameCheck.{attributes}
-use Rattle.ffs_pathnames.specs.declared.judge.Verdict.{Verdict}
-use Rattle.ffs_pathnames.specs.declared.judge.Verdict.TheVariants.{OutOfRange, Whiteout, Fine, Unallocated, Named}
+use Rattle.ffs_pathnames.specs.declared.verdict.Verdict.{Verdict}
+use Rattle.ffs_pathnames.specs.declared.verdict.Verdict.TheVariants.{OutOfRange, Whiteout, Fine, Unallocated, Named}
 use Rattle.ffs_pathnames.specs.Verdicts.{verdict_reported}
 use Rattle.ffs_workspace.specs.declared.workspace.Workspace.{Workspace}
 use Rattle.ffs_pathnames.specs.Marks.{Marks}

@@ -2,7 +2,7 @@ pub mod Marks
 pub mod MarksRight
 pub mod SaysNames
 pub mod NameLines
-pub mod Starts
+pub mod Header
 pub mod Sees
 pub mod Verdicts
 pub mod Reads

@@ -10,7 +10,7 @@ use Rattle.ffs_volume.specs.Directories.Climb.{is_value}
 use Rattle.ffs_volume.specs.Directories.Graph.{parent}
 use Rattle.ffs_volume.specs.Directories.Parents.{graph_of}
 use Rattle.ffs_volume.specs.Directories.Paths.{dir_path, entry_path}
-use Rattle.ffs_volume.specs.Messages.Kinds.{NameMessage, told, out_of_range, whiteout, unallocated, extraneous, kind_entry}
+use Rattle.ffs_volume.specs.Messages.Kinds.{NameMessage, reported, out_of_range, whiteout, unallocated, extraneous, kind_entry}
 use Rattle.ffs_volume.specs.Directories.PathnameCheck.{attributes, label_of, is_bad_whiteout, suspect_reported, is_other_kind, extra_reported}
 
 -- which inodes a plain entry has named, and for each inode a directory whose entries to come have its parent entry
@@ -35,9 +35,9 @@ after_roled v s m e = if is_plain e.role && nat_lt e.entry.number v.count then a
 -- what is reported of an entry, by the marks
 abbrev pub named_reported : Volume → ℕ → Marks → Entry → List NameMessage
 named_reported v s m e =
-    told (is_suspect v e.number && (not (e.number == 2) && not (is_passed m e.number))) (suspect_reported v e.number (entry_path (graph_of v) s e.name))
-    ++ (told (is_dir v e.number && not (is_due s m e.number)) (extraneous (entry_path (graph_of v) s e.name) (dir_path (graph_of v) e.number))
-    ++ told (is_other_kind v e) (kind_entry (attributes v e.number) (label_of (v.class e.number)) (entry_path (graph_of v) s e.name)))
+    reported (is_suspect v e.number && (not (e.number == 2) && not (is_passed m e.number))) (suspect_reported v e.number (entry_path (graph_of v) s e.name))
+    ++ (reported (is_dir v e.number && not (is_due s m e.number)) (extraneous (entry_path (graph_of v) s e.name) (dir_path (graph_of v) e.number))
+    ++ reported (is_other_kind v e) (kind_entry (attributes v e.number) (label_of (v.class e.number)) (entry_path (graph_of v) s e.name)))
 
 abbrev pub plain_reported : Volume → ℕ → Marks → Entry → List NameMessage
 plain_reported v s m e =

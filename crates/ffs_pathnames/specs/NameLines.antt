@@ -1,6 +1,6 @@
 -- The messages of lines on directories and their entries.
 use Rattle.std.specs.Prelude.{List, ◌++◌}
-use Rattle.ffs_volume.specs.Messages.Kinds.{NameMessage, told}
+use Rattle.ffs_volume.specs.Messages.Kinds.{NameMessage, reported}
 use Rattle.ffs_report.specs.Lines.{directory_message, dot_message, entry_message}
 use Rattle.ffs_pathnames.specs.declared.say.NameLine.{NameLine}
 use Rattle.ffs_pathnames.specs.declared.say.NameLine.TheVariants.{Directory, Dot, Entry}
@@ -13,4 +13,4 @@ name_message (Entry line) = entry_message line
 
 -- two messages, each where its test holds
 abbrev pub two_reported : Check → Check → List NameMessage
-two_reported a b = told a.holds (name_message a.line) ++ told b.holds (name_message b.line)
+two_reported a b = reported a.holds (name_message a.line) ++ reported b.holds (name_message b.line)

@@ -18,14 +18,14 @@ ghost use Rattle.ffs_workspace.specs.Holds.{HoldsSurvey};
 ghost use Rattle.ffs_pathnames.specs.Begins.{dir_starts, number_if, started_entry, IsBegun};
 ghost use Rattle.ffs_workspace.specs.Leaves.{LeavesSurvey};
 ghost use Rattle.ffs_pathnames.specs.Examines.{LeavesMarks};
-ghost use Rattle.ffs_pathnames.specs.Starts.{starts_reported};
+ghost use Rattle.ffs_pathnames.specs.Header.{header_reported};
 ghost use Rattle.ffs_pathnames.specs.Gathers.{marks_of};
 ghost use Rattle.ffs_pathnames.specs.DirectoryContext.{DirectoryContext};
 ghost use Rattle.ffs_pathnames.specs.MarksRight.{AreRightBefore};
 
 use crate::again::report_directory;
 use crate::examine::{DirectorySummary, examine};
-use crate::starts::{Shape, is_in_order, say_starts};
+use crate::header::{DirectoryHeader, is_in_order, say_header};
 use crate::tell::gather_dir;
 use ffs_image::Image;
 use ffs_layout::{Entry, Geometry, entry_at};
@@ -78,7 +78,7 @@ fn first_two<'a>(
 }
 
 /// Prints the lines of a directory of this size that come before those of its entries.
-fn report_starts<I: Image, W: Output>(
+fn report_header<I: Image, W: Output>(
     geometry: &Geometry,
     image: &mut I,
     workspace: &mut Workspace,
@@ -87,7 +87,7 @@ fn report_starts<I: Image, W: Output>(
     dir: u32,
     parent: Option<u32>,
     size: u64,
-    shape: Shape<'_>,
+    shape: DirectoryHeader<'_>,
 ) -> Result<(), RunFault>
     requires made { IsFor geometry.now.layout workspace.old }
     requires volume { geometry.now.layout.size * geometry.now.layout.fsize
@@ -100,7 +100,7 @@ fn report_starts<I: Image, W: Output>(
     ensures text { PhaseReports (λ b. DirectoryContext geometry.now.layout
         (I.device image.old).contents workspace.old dir b
         × (size ≡ (inode_of geometry.now.layout b dir).size))
-        (λ b. map of_names (starts_reported (attributes (volume_of geometry.now.layout b) dir)
+        (λ b. map of_names (header_reported (attributes (volume_of geometry.now.layout b) dir)
         (dir_path (graph_of (volume_of geometry.now.layout b)) dir) dir parent
         shape.entry.gap shape.entry.sound (option_map entry_value shape.entry.first)
         (option_map entry_value shape.entry.second)))
@@ -116,7 +116,7 @@ fn report_starts<I: Image, W: Output>(
     }
     let mut path = PathText::new();
     let attr = gather_dir(geometry, image, workspace, siblings, dir, &mut path)?;
-    say_starts(report, dir, parent, attr, path.as_slice(), shape)?;
+    say_header(report, dir, parent, attr, path.as_slice(), shape)?;
     Ok(())
 }
 
@@ -155,13 +155,13 @@ fn begin_directory<I: Image, W: Output>(
     let examined = examine(geometry, image, workspace, dir, &mut start)?;
     let parent = parent_of(geometry, workspace, dir);
     let (first, second) = first_two(geometry.layout.order, &start, examined.found.started);
-    let shape = Shape {
+    let shape = DirectoryHeader {
         gap: examined.found.gap,
         sound: examined.found.sound,
         first,
         second,
     };
-    report_starts(
+    report_header(
         geometry,
         image,
         workspace,

@@ -27,7 +27,7 @@ use ffs_walk::{Blocks, Window};
 /// What a first look at a directory finds: whether nothing may be reported of its entries, whether all its chunks are sound,
 /// whether a hole of it is kept, and whether a chunk is at the start of the file.
 #[derive(Clone, Copy, Debug)]
-pub struct Found {
+pub struct FirstLook {
     pub quiet: bool,
     pub sound: bool,
     pub gap: bool,
@@ -59,7 +59,7 @@ pub fn look_directory<I: Image>(
     inode: &Inode,
     cut: u32,
     start: &mut [u8; 512],
-) -> Result<Found, ImageFault>
+) -> Result<FirstLook, ImageFault>
     requires volume { geometry.now.layout.size * geometry.now.layout.fsize
         ≤ (I.device image.old).size }
     requires room { HasRoom geometry.now.layout blocks.old }
@@ -107,7 +107,7 @@ pub fn look_directory<I: Image>(
         started = keep_start(offset, &chunk, started, start);
     }
     let gap = gap_of(image, blocks, &mut chunks)?;
-    Ok(Found {
+    Ok(FirstLook {
         quiet,
         sound,
         gap,

@@ -19,8 +19,8 @@ ghost use Rattle.ffs_pathnames.specs.DirectoryContext.{DirectoryContext, KnowsPa
 ghost use Rattle.ffs_pathnames.specs.Marks as marks;
 
 use crate::inodes::Inodes;
-use crate::judge::pass;
 use crate::tell::{report_extra, report_plain};
+use crate::verdict::pass;
 use ffs_image::Image;
 use ffs_layout::{Entry, Geometry, entry_at};
 use ffs_names::role_of;

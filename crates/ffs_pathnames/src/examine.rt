@@ -7,7 +7,7 @@ ghost use Rattle.ffs_workspace.specs.Lengths.{IsFor, HoldWindows};
 ghost use Rattle.ffs_workspace.specs.Holds.{HoldsClaims, HoldsSurvey};
 ghost use Rattle.ffs_pathnames.specs.Examines.{LeavesQueue, AreFound};
 
-use crate::directory::{Found, look_directory};
+use crate::directory::{FirstLook, look_directory};
 use crate::inodes::Inodes;
 use ffs_image::{Image, ImageFault};
 use ffs_layout::Geometry;
@@ -18,7 +18,7 @@ use ffs_workspace::Workspace;
 #[derive(Clone, Copy, Debug)]
 pub struct DirectorySummary {
     pub inode: Inode,
-    pub found: Found,
+    pub found: FirstLook,
 }
 
 /// Examines a directory, and puts the chunk at the start of the file into `start`, if it is there.

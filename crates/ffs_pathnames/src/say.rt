@@ -1,6 +1,6 @@
 // Messages on directories and their entries, reported where a test holds.
 ghost use Rattle.std.specs.Prelude.{◌≡◌, true};
-ghost use Rattle.ffs_volume.specs.Messages.Kinds.{told};
+ghost use Rattle.ffs_volume.specs.Messages.Kinds.{reported};
 ghost use Rattle.ffs_report.specs.Progress.{progress};
 ghost use Rattle.ffs_pathnames.specs.NameLines.{name_message, two_reported};
 ghost use Rattle.ffs_pathnames.specs.SaysNames.{SaysNames};
@@ -25,7 +25,7 @@ pub struct Check<'a> {
 /// Says a line.
 pub fn say_line<W: Output>(report: &mut Report<'_, W>, line: &NameLine<'_>) -> Result<(), OutFault>
     ensures { SaysNames (progress W.sink report.old) (progress W.sink report.new)
-        (told true (name_message line.now)) result }
+        (reported true (name_message line.now)) result }
 {
     match *line {
         NameLine::Directory(line) => report.say(&Line::Directory(line)),
@@ -37,7 +37,7 @@ pub fn say_line<W: Output>(report: &mut Report<'_, W>, line: &NameLine<'_>) -> R
 /// Says a line where its test holds.
 pub fn say_check<W: Output>(report: &mut Report<'_, W>, check: &Check<'_>) -> Result<(), OutFault>
     ensures { SaysNames (progress W.sink report.old) (progress W.sink report.new)
-        (told check.now.holds (name_message check.now.line)) result }
+        (reported check.now.holds (name_message check.now.line)) result }
 {
     if check.holds {
         return say_line(report, &check.line);

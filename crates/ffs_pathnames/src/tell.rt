@@ -22,10 +22,10 @@ ghost use Rattle.ffs_paths.specs.DirectoryPaths.{IsPathOf};
 ghost use Rattle.ffs_pathnames.specs.Marks.{plain_reported};
 ghost use Rattle.ffs_pathnames.specs.Verdicts.{verdict_reported};
 
-use crate::judge::{Verdict, judge};
+use crate::header::is_one_dot;
+use crate::lines::say_verdict;
 use crate::paths::path_text;
-use crate::starts::is_one_dot;
-use crate::told::say_verdict;
+use crate::verdict::{Verdict, entry_verdict};
 use crate::view::view;
 use ffs_image::{Image, ImageFault};
 use ffs_layout::{Entry, Geometry};
@@ -229,7 +229,7 @@ fn verdict_of(geometry: &Geometry, workspace: &Workspace, dir: u32, entry: &Entr
         → HoldsSurvey geometry.now.layout b workspace.now →
         IsTrue (asks_path result) → is_dir (volume_of geometry.now.layout b) entry.now.number
         ≡ true }
-    ensures told { (b : List ℕ) → HoldsClaims geometry.now.layout b workspace.now
+    ensures reported { (b : List ℕ) → HoldsClaims geometry.now.layout b workspace.now
         → HoldsSurvey geometry.now.layout b workspace.now →
         plain_reported (volume_of geometry.now.layout b) dir (marks_of workspace.now)
         (entry_value entry.now)
@@ -239,7 +239,7 @@ fn verdict_of(geometry: &Geometry, workspace: &Workspace, dir: u32, entry: &Entr
         (dir_path (graph_of (volume_of geometry.now.layout b)) entry.now.number) }
 {
     let inodes = view(geometry, workspace);
-    judge(
+    entry_verdict(
         &inodes,
         dir,
         workspace.leaders.as_slice(),

@@ -1,7 +1,7 @@
 -- A path with a name more at its end.
 use Rattle.std.proofs.Common.{◌≡◌, ℕ, suc, ◌+◌, ◌<◌, ◌≤◌, true, false, List, [], ◌∷◌, ◌++◌, length, drop, sym, ap, subst, ◌∙◌, arith}
 use Rattle.std.specs.Prelude.{max, if◌then◌else◌}
-use Rattle.ffs_volume.specs.Directories.Paths.{joined, longest_end, path_text}
+use Rattle.ffs_volume.specs.Directories.Paths.{joined, longest_end, path_bytes}
 use Rattle.ffs_paths.specs.declared.buffer.PathBuffer.{PathBuffer}
 use Rattle.ffs_paths.specs.Buffers.{HoldsNames}
 use Rattle.ffs_paths.specs.Slashes.{AreSingle, from_slash}
@@ -36,7 +36,7 @@ full_holds p names cut whole none short single =
 pub cut_tail : (p q : PathBuffer) (names : List (List ℕ)) (name : List ℕ) (from : ℕ) → length name ≤ 512 → HoldsNames q names → AreSingle names → 1024 < length (joined names) + suc (length name)
     → drop from q.bytes ≡ from_slash (drop (max q.short (length name + 2)) q.bytes)
     → p.cut ≡ true → drop p.short p.bytes ≡ drop from q.bytes ++ 47 ∷ name → HoldsNames p (names ++ name ∷ [])
-unfolding path_text
+unfolding path_bytes
 cut_tail p q names name from small held single over found cut bytes =
     let l = last-length names name in
     let high = over_is (length (joined (names ++ name ∷ []))) (omega arith) in

@@ -7,7 +7,7 @@ use Rattle.ffs_volume.specs.declared.Order.{Order}
 use Rattle.ffs_volume.specs.declared.Step.{Step}
 use Rattle.ffs_volume.specs.declared.Step.TheVariants.{Run, Tail, Gap}
 use Rattle.ffs_volume.specs.Disk.Areas.{is_in_range}
-use Rattle.ffs_volume.specs.Directories.Entries.{Chunk, Entry, Reading, chunk_of, chunks_of, entries_from, entries_with, entry_at, entry_there, is_held, is_length, is_well_formed, name_at, run_chunks, step_chunks}
+use Rattle.ffs_volume.specs.Directories.Entries.{Chunk, Entry, Reading, chunk_of, chunks_of, entries_from, entries_with, entry_at, entry_read, is_held, is_length, is_well_formed, name_at, run_chunks, step_chunks}
 use Rattle.ffs_volume.specs.Directories.Graph.{parent, parent_entry}
 use Rattle.ffs_volume.specs.Disk.Numbers.{u16_at, u32_at, piece}
 use Rattle.ffs_volume.specs.Directories.Parents.{graph_of, roled_at}
@@ -42,8 +42,8 @@ held_single chunk place length h =
     neither (list_any (λ b. b == 0) (name_at chunk place)) (list_any (λ b. b == 47) (name_at chunk place))
     (middle_of (not (slice_index chunk (place + 7) == 0)) _ (slice_index chunk (place + 8 + slice_index chunk (place + 7)) == 0) name)
 
-there_single : (order : Order) (chunk : List ℕ) (place : ℕ) → is_well_formed order chunk place ≡ true → has_slash (entry_there order chunk place).name ≡ false
-unfolding is_well_formed entry_there
+there_single : (order : Order) (chunk : List ℕ) (place : ℕ) → is_well_formed order chunk place ≡ true → has_slash (entry_read order chunk place).name ≡ false
+unfolding is_well_formed entry_read
 there_single order chunk place h =
     go (u32_at order place chunk == 0) (first_of_two (is_length place (u16_at order (place + 4) chunk)) _ h)
   where
@@ -61,7 +61,7 @@ if_some false x y P f h = absurd (cc)
 entry_single : (order : Order) (chunk : List ℕ) (place : ℕ) (e : Entry) → entry_at order chunk place ≡ Some e → has_slash e.name ≡ false
 unfolding entry_at
 entry_single order chunk place e h =
-    if_some (is_well_formed order chunk place) (entry_there order chunk place) e (λ x. has_slash x.name ≡ false) (there_single order chunk place) h
+    if_some (is_well_formed order chunk place) (entry_read order chunk place) e (λ x. has_slash x.name ≡ false) (there_single order chunk place) h
 
 -- ---- those of the entries of a chunk, of chunks, and of a directory
 abbrev AreSingleEntries : List Entry → Type 0

@@ -4,7 +4,7 @@ use Rattle.std.specs.Prelude.{nat_le, max, slice_index, if◌then◌else◌, ◌
 use Rattle.std.proofs.lemmas.Bool.{leb-true}
 use Rattle.std.proofs.lemmas.Bool.Decides.{nat_tests}
 use Rattle.std.proofs.lemmas.List.{drop-drop, drop_all, drop_more}
-use Rattle.ffs_volume.specs.Directories.Paths.{joined, longest_end, path_text}
+use Rattle.ffs_volume.specs.Directories.Paths.{joined, longest_end, path_bytes}
 use Rattle.ffs_paths.specs.Slashes.{AreSingle, from_slash, has_slash}
 use Rattle.ffs_paths.proofs.Ends.{end-all, end-more, joined-length, over_is, under_is, whole-length}
 
@@ -112,8 +112,8 @@ slash_end (name ∷ names) (suc from) h =
 -- ---- the path of an entry
 -- where all names have room
 pub entry-whole : (names : List (List ℕ)) (name : List ℕ) (start : ℕ) (bytes : List ℕ) → start ≤ 1024 → length bytes ≡ 1024 → drop start bytes ≡ joined names → length name < start
-    → path_text (names ++ name ∷ []) ≡ drop start bytes ++ 47 ∷ name
-unfolding path_text
+    → path_bytes (names ++ name ∷ []) ≡ drop start bytes ++ 47 ∷ name
+unfolding path_bytes
 entry-whole names name start bytes low size whole room =
     let n = whole-length names start bytes low size whole in
     let l = last-length names name in
@@ -121,15 +121,15 @@ entry-whole names name start bytes low size whole room =
     ∙ (joined-last names name ∙ ap (λ xs. xs ++ 47 ∷ name) (sym whole))
 
 entry-cut : (names : List (List ℕ)) (name : List ℕ) → length name ≤ 1022 → 1024 < length (joined names) + suc (length name)
-    → path_text (names ++ name ∷ []) ≡ 63 ∷ (joined (longest_end (1022 - length name) names) ++ 47 ∷ name)
-unfolding path_text
+    → path_bytes (names ++ name ∷ []) ≡ 63 ∷ (joined (longest_end (1022 - length name) names) ++ 47 ∷ name)
+unfolding path_bytes
 entry-cut names name short over =
     let l = last-length names name in
     ap (λ b. if b then 63 ∷ joined (longest_end 1023 (names ++ name ∷ [])) else joined (names ++ name ∷ [])) (over_is (length (joined (names ++ name ∷ []))) (omega arith))
     ∙ ap (λ xs. 63 ∷ xs) (ap joined (end-last names name short) ∙ joined-last (longest_end (1022 - length name) names) name)
 
-pub entry-past : (names : List (List ℕ)) (name : List ℕ) → 1022 < length name → 1024 < length (joined names) + suc (length name) → path_text (names ++ name ∷ []) ≡ 63 ∷ []
-unfolding path_text
+pub entry-past : (names : List (List ℕ)) (name : List ℕ) → 1022 < length name → 1024 < length (joined names) + suc (length name) → path_bytes (names ++ name ∷ []) ≡ 63 ∷ []
+unfolding path_bytes
 entry-past names name long over =
     let l = last-length names name in
     ap (λ b. if b then 63 ∷ joined (longest_end 1023 (names ++ name ∷ [])) else joined (names ++ name ∷ [])) (over_is (length (joined (names ++ name ∷ []))) (omega arith))
@@ -156,7 +156,7 @@ tail_at names short from bytes after low size held single =
 pub entry-tail : (names : List (List ℕ)) (name : List ℕ) (short start : ℕ) (bytes : List ℕ) → length name ≤ 1022 → short ≤ 1024 → length bytes ≡ 1024
     → drop short bytes ≡ joined (longest_end 1023 names) → AreSingle names → 1024 < length (joined names) + suc (length name)
     → drop start bytes ≡ from_slash (drop (max short (length name + 2)) bytes)
-    → path_text (names ++ name ∷ []) ≡ 63 ∷ (drop start bytes ++ 47 ∷ name)
+    → path_bytes (names ++ name ∷ []) ≡ 63 ∷ (drop start bytes ++ 47 ∷ name)
 entry-tail names name short start bytes small low size held single over found =
     let n = whole-length ends short bytes low size held in
     entry-cut names name small over ∙ ap (λ xs. 63 ∷ (xs ++ 47 ∷ name)) (sym (found ∙ le_or short (length name + 2)

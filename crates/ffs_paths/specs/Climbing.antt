@@ -2,7 +2,7 @@
 use Rattle.std.specs.Prelude.{◌≡◌, ◌*◌, ℕ, nat_lt, if◌then◌else◌, List, [], ◌∷◌, length, Option, Some, None, option_and_then, vec_len, slice_index}
 use Rattle.std.specs.Option.{unwrap_or}
 use Rattle.ffs_volume.specs.declared.Layout.{Layout}
-use Rattle.ffs_volume.specs.Directories.Graph.{Graph, names, first_place, parent}
+use Rattle.ffs_volume.specs.Directories.Graph.{Graph, names, first_index, parent}
 use Rattle.ffs_volume.specs.Directories.Parents.{graph_of, roled_at}
 use Rattle.ffs_volume.specs.Directories.Paths.{name_of, dir_path, entry_path}
 use Rattle.ffs_volume.specs.Encodings.Replay.{cut_at}
@@ -13,7 +13,7 @@ use Rattle.ffs_workspace.specs.declared.workspace.Windows.{Windows}
 
 -- the name of the first plain entry that names an inode, empty if there is none
 abbrev pub name_in : ℕ → List RoledEntry → List ℕ
-name_in d es = name_of (option_and_then (roled_at es) (first_place (names d) es))
+name_in d es = name_of (option_and_then (roled_at es) (first_index (names d) es))
 
 -- the windows are a block's, and hold what the image gives
 pub record AreOpen (v : Layout) (contents : Option (List ℕ)) (w : Windows) : Type 0 where

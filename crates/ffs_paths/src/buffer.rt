@@ -99,7 +99,7 @@ fn put_from(bytes: &[u8; 1024], start: usize, name: &[u8], text: &mut PathText)
 }
 
 impl PathBuffer {
-    ghost use Rattle.ffs_volume.specs.Directories.Paths.{dir_text, path_text};
+    ghost use Rattle.ffs_volume.specs.Directories.Paths.{dir_bytes, path_bytes};
     ghost use Rattle.ffs_paths.specs.Buffers.{HoldsNames};
     ghost use Rattle.ffs_paths.specs.Slashes.{AreSingle};
 
@@ -138,7 +138,7 @@ impl PathBuffer {
     pub fn put(&self, text: &mut PathText)
         requires { text.old.items ≡ [] }
         ensures { (names : List (List ℕ)) → HoldsNames self.now names → text.new.items
-            ≡ dir_text (Some names) }
+            ≡ dir_bytes (Some names) }
     {
         if self.cut {
             text.push(b'?');
@@ -156,7 +156,7 @@ impl PathBuffer {
     pub fn put_with(&self, name: &[u8], text: &mut PathText)
         requires { text.old.items ≡ [] }
         ensures { (names : List (List ℕ)) → HoldsNames self.now names → AreSingle names
-            → text.new.items ≡ path_text (names ++ name.now ∷ []) }
+            → text.new.items ≡ path_bytes (names ++ name.now ∷ []) }
     {
         if !self.cut && name.len() < self.start {
             put_from(&self.bytes, self.start, name, text);

@@ -6,4 +6,4 @@ mod Totals
 mod Queues
 mod Whole
 mod Walks
-mod Told
+mod UnrefLaws

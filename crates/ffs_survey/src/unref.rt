@@ -1,6 +1,6 @@
 //! Directories that hang below nothing.
 ghost use Rattle.std.specs.Prelude.{◌≡◌, ℕ, ◌<◌, ◌^◌, length, unwrap_or};
-ghost use Rattle.ffs_volume.specs.Directories.Graph.{Graph, named as is_named, reached as is_reached, parent as parent_of, dead, unref_dir};
+ghost use Rattle.ffs_volume.specs.Directories.Graph.{Graph, named as is_named, reached as is_reached, parent as parent_of, dead, is_unref_dir};
 ghost use Rattle.ffs_volume.specs.Directories.Climb.{leads_cycle};
 ghost use Rattle.ffs_survey.specs.Survey.{bool_at, number_at, suspect_at, dir_at, IsTree, AreNamed};
 ghost use Rattle.ffs_survey.specs.Cycles.{up_of};
@@ -47,7 +47,7 @@ pub fn is_unref(
         ≡ leads_cycle (up_of parents.now) (length parents.now) x }
     ensures { (graph : Graph) → AreNamed graph kinds.now named.now
         → IsTree graph kinds.now reached.now parents.now → result
-        ≡ unref_dir graph (suspect_at kinds.now marked.now) dir }
+        ≡ is_unref_dir graph (suspect_at kinds.now marked.now) dir }
 {
     if !is_dir(kinds, dir as usize) {
         return false;

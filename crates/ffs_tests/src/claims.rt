@@ -140,10 +140,10 @@ fn block_checks(rt: HostRuntime) -> Result<(), Fail> {
             [5, 2],
         ),
     ];
-    for (words, told, runs) in cases {
+    for (words, reported, runs) in cases {
         let mut image = Watched::new(image_with(words, rt.alloc())?);
         let (text, seen) = checked(&geometry, &mut image, rt.alloc())?;
-        assert_eq!(rt; text.as_slice(), told);
+        assert_eq!(rt; text.as_slice(), reported);
         assert_eq!(rt; seen, runs);
         assert!(rt; image.reads <= 100);
     }

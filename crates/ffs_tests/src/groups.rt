@@ -23,7 +23,7 @@ const BLOCK: [Number; 13] = [
     (184, 4, 0xffffffff),
 ];
 
-fn told(findings: Findings) -> [bool; 4] {
+fn reported(findings: Findings) -> [bool; 4] {
     [
         findings.magic,
         findings.counts,
@@ -76,7 +76,7 @@ fn group_of_a_root(rt: HostRuntime) -> Result<(), Fail> {
         put(Order::Little, &mut block, &BLOCK);
         put(Order::Little, &mut block, &[wrong]);
         let right = compare_group(&geometry, &used, &kinds, &counts, 0, &record, &block);
-        assert_eq!(rt; told(right), findings);
+        assert_eq!(rt; reported(right), findings);
     }
     Ok(())
 }

@@ -2,7 +2,7 @@
 
 use ffs_layout::Entry;
 use ffs_pathnames::inodes::Inodes;
-use ffs_pathnames::judge::{Faults, Verdict, judge, pass};
+use ffs_pathnames::verdict::{Faults, Verdict, entry_verdict, pass};
 use ffs_volume::{Label, Role};
 use std::test::Fail;
 
@@ -58,7 +58,7 @@ fn entries_of_the_root(rt: HostRuntime) -> Result<(), Fail> {
         (7, 8, named(Label::Name, false, false, false)),
     ];
     for (number, kind, want) in cases {
-        let verdict = judge(&inodes, 2, &passed, &stamps, &entry(number, kind));
+        let verdict = entry_verdict(&inodes, 2, &passed, &stamps, &entry(number, kind));
         assert_eq!(rt; verdict, want, "inode {number}, type {kind}");
     }
     Ok(())
@@ -84,7 +84,7 @@ fn second_names(rt: HostRuntime) -> Result<(), Fail> {
         label: Label::File,
     };
     assert_eq!(rt;
-        judge(&inodes, 2, &passed, &stamps, &file),
+        entry_verdict(&inodes, 2, &passed, &stamps, &file),
         Verdict::Named(first)
     );
     pass(
@@ -97,11 +97,11 @@ fn second_names(rt: HostRuntime) -> Result<(), Fail> {
     );
     pass(&inodes, 2, &mut passed, &mut stamps, Role::Plain, &file);
     assert_eq!(rt;
-        judge(&inodes, 2, &passed, &stamps, &directory),
+        entry_verdict(&inodes, 2, &passed, &stamps, &directory),
         named(Label::Dir, false, true, false)
     );
     assert_eq!(rt;
-        judge(&inodes, 2, &passed, &stamps, &file),
+        entry_verdict(&inodes, 2, &passed, &stamps, &file),
         Verdict::Named(Faults {
             suspect: false,
             ..first

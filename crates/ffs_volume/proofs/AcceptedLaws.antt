@@ -5,12 +5,12 @@ use Rattle.ffs_volume.specs.declared.Order.{Order}
 use Rattle.ffs_volume.specs.declared.SuperFault.{SuperFault}
 use Rattle.ffs_volume.specs.declared.SuperFault.TheVariants.{CannotRead}
 use Rattle.ffs_volume.specs.Disk.Superblock.{Superblock, layout_of, superblock_of, order_of}
-use Rattle.ffs_volume.specs.Disk.Outcome.{super_sector, super_bytes, layout_fault, copy_agrees, judged, outcome_in, outcome_of, outcome}
+use Rattle.ffs_volume.specs.Disk.Outcome.{super_sector, super_bytes, layout_fault, copy_agrees, super_verdict, outcome_in, outcome_of, outcome}
 use Rattle.ffs_volume.proofs.GeometryLaws.{geometry_holds}
 use Rattle.ffs_volume.specs.Laws.Accepted.{IsSound, AcceptedAreSound}
 
-judged_ok : (fault : Option SuperFault) (agrees : Bool) (super s : Superblock) → judged fault agrees super ≡ Ok s → (fault ≡ None) × (super ≡ s)
-unfolding judged
+judged_ok : (fault : Option SuperFault) (agrees : Bool) (super s : Superblock) → super_verdict fault agrees super ≡ Ok s → (fault ≡ None) × (super ≡ s)
+unfolding super_verdict
 judged_ok (Some fault) agrees super s e = absurd (cc)
 judged_ok None true super s e = (refl, cc)
 judged_ok None false super s e = absurd (cc)

@@ -5,7 +5,7 @@ use Rattle.std.proofs.lemmas.Bool.{both_ways, cases_lt, eqb-true, eq-eqb, leb-tr
 use Rattle.ffs_volume.specs.Directories.Search.{some_below}
 use Rattle.ffs_volume.proofs.SearchLaws.{some_below-gives, some_below-from, some_below-false, some_below-none}
 use Rattle.ffs_volume.proofs.Pigeon.{pigeon}
-use Rattle.ffs_volume.specs.Directories.Climb.{climb, is_value, none_or_at_least, leads_cycle, OnCycle, IsLeader, Goes}
+use Rattle.ffs_volume.specs.Directories.Climb.{climb, is_value, none_or_at_least, leads_cycle, OnCycle, IsLeader, StaysBelow}
 
 pub is_value-true : (o : Option ℕ) (k : ℕ) → is_value o k ≡ true → o ≡ Some k
 is_value-true None k e = absurd (cc)
@@ -112,7 +112,7 @@ leads_cycle-true f n d h =
     }
 
 -- the steps from d continue
-pub goes_on : (f : ℕ → Option ℕ) (p : ℕ → Bool) (n d : ℕ) → Goes f p n → p d ≡ true → (k : ℕ) → (s : ℕ) × (climb f k d ≡ Some s) × (p s ≡ true)
+pub goes_on : (f : ℕ → Option ℕ) (p : ℕ → Bool) (n d : ℕ) → StaysBelow f p n → p d ≡ true → (k : ℕ) → (s : ℕ) × (climb f k d ≡ Some s) × (p s ≡ true)
 goes_on f p n d g h zero = (d, climb-zero f d, h)
 goes_on f p n d g h (suc k) =
     let a = goes_on f p n d g h k in
@@ -120,7 +120,7 @@ goes_on f p n d g h (suc k) =
     (b.0, climb-suc f k d a.0 a.1 ∙ b.1, b.2)
 
 -- somewhere above d there is a cycle of at most n steps
-pub cycle_above : (f : ℕ → Option ℕ) (p : ℕ → Bool) (n d : ℕ) → Goes f p n → p d ≡ true → (x : ℕ) × (p x ≡ true) × ((c : OnCycle f x) × (c.length < n))
+pub cycle_above : (f : ℕ → Option ℕ) (p : ℕ → Bool) (n d : ℕ) → StaysBelow f p n → p d ≡ true → (x : ℕ) × (p x ≡ true) × ((c : OnCycle f x) × (c.length < n))
 cycle_above f p n d g h =
     let r = pigeon n (λ k. (goes_on f p n d g h k).0) (λ i l. let a = goes_on f p n d g h i in g.below a.0 a.2) in
     let a = goes_on f p n d g h r.first in
@@ -141,7 +141,7 @@ cycle_above f p n d g h =
     )
 
 -- the least number on a cycle
-pub leader_on : (f : ℕ → Option ℕ) (p : ℕ → Bool) (n x : ℕ) → Goes f p n → p x ≡ true → (c : OnCycle f x) → c.length < n → (e : ℕ) × (p e ≡ true) × (leads_cycle f n e ≡ true)
+pub leader_on : (f : ℕ → Option ℕ) (p : ℕ → Bool) (n x : ℕ) → StaysBelow f p n → p x ≡ true → (c : OnCycle f x) → c.length < n → (e : ℕ) × (p e ≡ true) × (leads_cycle f n e ≡ true)
 unfolding cycle-along
 leader_on f p n x g h c l =
     let t = λ (e : ℕ). some_below (λ k. is_value (climb f k x) e) n in
@@ -169,7 +169,7 @@ leader_on f p n x g h c l =
     } in
     (w.0, subst (λ y. p y ≡ true) eq a.2, leads_cycle-from f n w.0 i l)
 
-pub some_leader : (f : ℕ → Option ℕ) (p : ℕ → Bool) (n d : ℕ) → Goes f p n → p d ≡ true → (e : ℕ) × (p e ≡ true) × (leads_cycle f n e ≡ true)
+pub some_leader : (f : ℕ → Option ℕ) (p : ℕ → Bool) (n d : ℕ) → StaysBelow f p n → p d ≡ true → (e : ℕ) × (p e ≡ true) × (leads_cycle f n e ≡ true)
 some_leader f p n d g h =
     let a = cycle_above f p n d g h in
     leader_on f p n a.0 g a.1 a.2.0 a.2.1

@@ -6,8 +6,8 @@ use Rattle.std.proofs.lemmas.Bool.Decides.{nat_tests}
 use Rattle.ffs_volume.specs.declared.Layout.{Layout}
 use Rattle.ffs_volume.specs.Disk.Numbers.{natural, is_natural, all_below}
 use Rattle.ffs_volume.specs.Disk.Areas.{cgoffset_of}
-use Rattle.ffs_volume.specs.Disk.Outcome.{is_block_size, is_fragment_size, is_fragment_count, are_sizes, are_numbers, are_parts, are_cylinders, is_group, is_summary, is_shaped, layout_fault}
-use Rattle.ffs_volume.specs.Disk.Geometry.{HasSizes, HasNumbers, HasParts, HasGroup, HasSummary, IsGeometry}
+use Rattle.ffs_volume.specs.Disk.Outcome.{is_block_size, is_fragment_size, is_fragment_count, are_sizes, are_numbers, are_parts, are_cylinders, is_group, is_summary_area, is_shaped, layout_fault}
+use Rattle.ffs_volume.specs.Disk.Geometry.{HasSizes, HasNumbers, HasParts, HasGroup, HasSummaryArea, IsGeometry}
 
 -- no fault, so neither this one nor a later one
 pub no_fault : {X : Type 0} (b : Bool) (x : X) (rest : Option X) → cond (not b) (Some x) rest ≡ None → (b ≡ true) × (rest ≡ None)
@@ -88,8 +88,8 @@ group_holds v c e =
     let up : is_natural (cgoffset_of v c) ≡ true = grind (arith, nat_tests) in
     record { moved_up = natural_is (cgoffset_of v c) up; within_group = grind (arith, nat_tests); within_size = grind (arith, nat_tests) }
 
-pub summary_holds : (v : Layout) → is_summary v ≡ true → HasSummary v
-unfolding is_summary
+pub summary_holds : (v : Layout) → is_summary_area v ≡ true → HasSummaryArea v
+unfolding is_summary_area
 summary_holds v e = record {
   csaddr = grind (arith, nat_tests);
   room = grind (arith, nat_tests);
@@ -108,11 +108,11 @@ all_below-at (suc n) i test all h =
       | inr more ↦ let same : n ≡ i = omega arith in rw (← same) both.0
     ]
 
-shape_holds : (v : Layout) → is_shaped v ≡ true → (are_sizes v ≡ true) × (are_numbers v ≡ true) × (are_parts v ≡ true) × (all_below v.ncg (is_group v) ≡ true) × (is_summary v ≡ true)
+shape_holds : (v : Layout) → is_shaped v ≡ true → (are_sizes v ≡ true) × (are_numbers v ≡ true) × (are_parts v ≡ true) × (all_below v.ncg (is_group v) ≡ true) × (is_summary_area v ≡ true)
 unfolding is_shaped
 shape_holds v e =
     let a = and_parts _ (all_below v.ncg (is_group v)) e in
-    let b = and_parts _ (is_summary v) a.0 in
+    let b = and_parts _ (is_summary_area v) a.0 in
     let d = and_parts _ (are_parts v) b.0 in
     let f = and_parts (are_sizes v) (are_numbers v) d.0 in
     (f.0, f.1, d.1, a.1, b.1)

@@ -11,7 +11,7 @@ use Rattle.ffs_volume.specs.Disk.Areas.{cgbase}
 use Rattle.ffs_volume.proofs.PrefixLaws.{steps_first}
 use Rattle.ffs_volume.specs.Groups.Records.{is_whole, block_bits, block_numbers, right_summary}
 use Rattle.ffs_volume.proofs.LevelLaws.{level-some, level-is}
-use Rattle.ffs_volume.specs.Directories.Paths.{dir_names, dir_text, entry_text, dir_path, entry_path}
+use Rattle.ffs_volume.specs.Directories.Paths.{dir_names, dir_bytes, path_of_entry, dir_path, entry_path}
 use Rattle.ffs_volume.specs.Laws.Meanings.{KeptAreFirst, LevelsAreLeast, AllPathsFit, SumsAreWhole}
 use Rattle.ffs_volume.proofs.PathBound.{path_text-fits}
 
@@ -19,15 +19,15 @@ pub kept_first : KeptAreFirst
 kept_first v inode s steps = steps_first v inode s steps
 
 pub levels_least : LevelsAreLeast
-levels_least g k d = record { tells = λ e. level-some g k d e; told = λ low is. level-is g k d low is }
+levels_least g k d = record { is_least = λ e. level-some g k d e; is_found = λ low is. level-is g k d low is }
 
 -- PATHS
-dir_fits : (names : Option (List (List ℕ))) → length (dir_text names) ≤ 1024
+dir_fits : (names : Option (List (List ℕ))) → length (dir_bytes names) ≤ 1024
 dir_fits None = omega arith
 dir_fits (Some []) = omega arith
 dir_fits (Some (name ∷ names)) = path_text-fits (name ∷ names)
 
-entry_fits : (name : List ℕ) (names : Option (List (List ℕ))) → length name ≤ 255 → length (entry_text name names) ≤ 1024
+entry_fits : (name : List ℕ) (names : Option (List (List ℕ))) → length name ≤ 255 → length (path_of_entry name names) ≤ 1024
 entry_fits name None h = omega (arith, h)
 entry_fits name (Some names) h = path_text-fits (names ++ name ∷ [])
 

@@ -8,7 +8,7 @@ use Rattle.ffs_volume.specs.declared.SuperFault.{SuperFault}
 use Rattle.ffs_volume.specs.declared.SuperFault.TheVariants.{CannotRead, Magic, InodeFormat, Ncg, Cpg, Ncyl, TooLarge, Shape, Short, Disagree}
 use Rattle.ffs_volume.specs.Disk.Numbers.{piece}
 use Rattle.ffs_volume.specs.Disk.Superblock.{order_of, layout_of, superblock_of}
-use Rattle.ffs_volume.specs.Disk.Outcome.{super_sector, layout_fault, copy_agrees, judged, outcome_in, outcome_of, outcome}
+use Rattle.ffs_volume.specs.Disk.Outcome.{super_sector, layout_fault, copy_agrees, super_verdict, outcome_in, outcome_of, outcome}
 
 module _ (image : List ℕ) (sector : Option ℕ) where
   pub outcome_past_end : length image < super_sector sector * 512 + 1376 → outcome image sector ≡ Err (CannotRead (super_sector sector))
@@ -25,20 +25,20 @@ module _ (image : List ℕ) (sector : Option ℕ) where
     outcome_magic none = rw (read, none) refl
 
     module _ (order : Order) (order_is : order_of bytes ≡ Some order) where
-      offer_verdict : outcome image sector ≡ judged (layout_fault (layout_of order bytes) (length image)) (copy_agrees image sector order bytes) (superblock_of order bytes)
+      offer_verdict : outcome image sector ≡ super_verdict (layout_fault (layout_of order bytes) (length image)) (copy_agrees image sector order bytes) (superblock_of order bytes)
       unfolding outcome_of outcome_in
       offer_verdict = rw (read, order_is) refl
 
       pub outcome_fault : (fault : SuperFault) → layout_fault (layout_of order bytes) (length image) ≡ Some fault → outcome image sector ≡ Err fault
-      unfolding judged
+      unfolding super_verdict
       outcome_fault fault e = rw (offer_verdict, e) refl
 
       pub outcome_disagree : layout_fault (layout_of order bytes) (length image) ≡ None → copy_agrees image sector order bytes ≡ false → outcome image sector ≡ Err Disagree
-      unfolding judged
+      unfolding super_verdict
       outcome_disagree e differs = rw (offer_verdict, e, differs) refl
 
       pub outcome_ok : layout_fault (layout_of order bytes) (length image) ≡ None → copy_agrees image sector order bytes ≡ true → outcome image sector ≡ Ok (superblock_of order bytes)
-      unfolding judged
+      unfolding super_verdict
       outcome_ok e agrees = rw (offer_verdict, e, agrees) refl
 
 skip : {X : Type 0} (b : Bool) (x y : X) (rest : Option X) → (x ≡ y → ⊥) → cond b (Some x) rest ≡ Some y → rest ≡ Some y

@@ -8,7 +8,7 @@ use Rattle.ffs_volume.specs.declared.Step.{Step}
 use Rattle.ffs_volume.specs.declared.Step.TheVariants.{Run, Tail, Gap}
 use Rattle.ffs_volume.specs.Disk.Areas.{is_data_fragment, is_in_range}
 use Rattle.ffs_volume.specs.Blocks.Claims.{Claims, next_inode, is_open, is_set, after_offer, after_offers, after_step, after_steps}
-use Rattle.ffs_volume.specs.Blocks.BlockCheck.{Offer, offers_kept, step_kept, steps_kept}
+use Rattle.ffs_volume.specs.Blocks.BlockCheck.{Offer, kept_in_offers, kept_in_step, kept_in_steps}
 use Rattle.ffs_volume.specs.Blocks.FirstOffers.{offer_at}
 use Rattle.ffs_volume.proofs.PrefixLaws.{shut_steps}
 use Rattle.ffs_volume.specs.Blocks.KeptSteps.{is_kept_step, kept_steps}
@@ -237,16 +237,16 @@ replay_is_keeping v s steps = steps_replay v (next_inode s) steps (omega arith)
 
 -- kept offers of a Run are the first of its fragments
 first_kept : (v : Layout) (i : ℕ) (s : Claims) (start len : ℕ)
-    → offers_kept v i s (range_with_len start len) ≡ map (offer_at i) (range_with_len start ((after_offers v s (range_with_len start len)).kept - s.kept))
+    → kept_in_offers v i s (range_with_len start len) ≡ map (offer_at i) (range_with_len start ((after_offers v s (range_with_len start len)).kept - s.kept))
 first_kept v i s start zero = let none : s.kept - s.kept ≡ 0 = omega arith in rw none refl
 first_kept v i s start (suc len) = one (nat_lt s.dups 11) refl (λ t. first_kept v i t (start + 1) len)
   where
     one : (b : Bool) → nat_lt s.dups 11 ≡ b
-        → ((t : Claims) → offers_kept v i t (range_with_len (start + 1) len) ≡ map (offer_at i) (range_with_len (start + 1) ((after_offers v t (range_with_len (start + 1) len)).kept - t.kept)))
-        → (if nat_lt s.dups 11 then offer_at i start ∷ [] else []) ++ offers_kept v i (after_offer v s start) (range_with_len (start + 1) len)
+        → ((t : Claims) → kept_in_offers v i t (range_with_len (start + 1) len) ≡ map (offer_at i) (range_with_len (start + 1) ((after_offers v t (range_with_len (start + 1) len)).kept - t.kept)))
+        → (if nat_lt s.dups 11 then offer_at i start ∷ [] else []) ++ kept_in_offers v i (after_offer v s start) (range_with_len (start + 1) len)
         ≡ map (offer_at i) (range_with_len start ((after_offers v (after_offer v s start) (range_with_len (start + 1) len)).kept - s.kept))
     one true b next =
-        ap (λ x. (if x then offer_at i start ∷ [] else []) ++ offers_kept v i (after_offer v s start) (range_with_len (start + 1) len)) b
+        ap (λ x. (if x then offer_at i start ∷ [] else []) ++ kept_in_offers v i (after_offer v s start) (range_with_len (start + 1) len)) b
         ∙ on (after_offer v s start) (offer_rises v s start b) (next (after_offer v s start))
       where
         offer_rises : (v : Layout) (s : Claims) (f : ℕ) → nat_lt s.dups 11 ≡ true → (after_offer v s f).kept ≡ s.kept + 1
@@ -258,8 +258,8 @@ first_kept v i s start (suc len) = one (nat_lt s.dups 11) refl (λ t. first_kept
             two true k false u = rw (b, k, u) refl
 
         on : (t : Claims) → t.kept ≡ s.kept + 1
-            → offers_kept v i t (range_with_len (start + 1) len) ≡ map (offer_at i) (range_with_len (start + 1) ((after_offers v t (range_with_len (start + 1) len)).kept - t.kept))
-            → offer_at i start ∷ offers_kept v i t (range_with_len (start + 1) len) ≡ map (offer_at i) (range_with_len start ((after_offers v t (range_with_len (start + 1) len)).kept - s.kept))
+            → kept_in_offers v i t (range_with_len (start + 1) len) ≡ map (offer_at i) (range_with_len (start + 1) ((after_offers v t (range_with_len (start + 1) len)).kept - t.kept))
+            → offer_at i start ∷ kept_in_offers v i t (range_with_len (start + 1) len) ≡ map (offer_at i) (range_with_len start ((after_offers v t (range_with_len (start + 1) len)).kept - s.kept))
         on t o next =
             let n = (after_offers v t (range_with_len (start + 1) len)).kept in
             let m = run_moves v t (start + 1) len in
@@ -280,37 +280,37 @@ first_kept v i s start (suc len) = one (nat_lt s.dups 11) refl (λ t. first_kept
 
 -- the kept offers of a step are those of the replay
 step_offers : (v : Layout) (i : ℕ) (s : Claims) (step : Step) (steps : List Step) → s.dups ≤ s.kept
-    → replayed_step_offers v i (cut_of (after_steps v s (step ∷ steps))) (replay_of s) step ≡ step_kept v i s step
+    → replayed_step_offers v i (cut_of (after_steps v s (step ∷ steps))) (replay_of s) step ≡ kept_in_step v i s step
 step_offers v i s Gap steps few = refl
 step_offers v i s Tail steps few = refl
 step_offers v i s (Run start len block) steps few =
     ap (λ r. map (offer_at i) (range_with_len start (r.kept - s.kept))) (step_replays v s (Run start len block) steps few)
     ∙ one (is_open s) refl (is_in_range v start len) refl (s.bad == 10) refl
   where
-    from : (s' : Claims) (kept : List Offer) → after_step v s (Run start len block) ≡ s' → step_kept v i s (Run start len block) ≡ kept
+    from : (s' : Claims) (kept : List Offer) → after_step v s (Run start len block) ≡ s' → kept_in_step v i s (Run start len block) ≡ kept
         → map (offer_at i) (range_with_len start (s'.kept - s.kept)) ≡ kept
-        → map (offer_at i) (range_with_len start ((after_step v s (Run start len block)).kept - s.kept)) ≡ step_kept v i s (Run start len block)
+        → map (offer_at i) (range_with_len start ((after_step v s (Run start len block)).kept - s.kept)) ≡ kept_in_step v i s (Run start len block)
     from s' kept e k g = ap (λ x. map (offer_at i) (range_with_len start (x.kept - s.kept))) e ∙ (g ∙ sym k)
 
     nothing : (n : ℕ) → n ≡ s.kept → map (offer_at i) (range_with_len start (n - s.kept)) ≡ []
     nothing n e = let none : n - s.kept ≡ 0 = omega arith in rw none refl
 
     one : (o : Bool) → is_open s ≡ o → (r : Bool) → is_in_range v start len ≡ r → (z : Bool) → (s.bad == 10) ≡ z
-        → map (offer_at i) (range_with_len start ((after_step v s (Run start len block)).kept - s.kept)) ≡ step_kept v i s (Run start len block)
+        → map (offer_at i) (range_with_len start ((after_step v s (Run start len block)).kept - s.kept)) ≡ kept_in_step v i s (Run start len block)
     one false o r rq z zq = from s [] (rw o refl) (rw o refl) (nothing s.kept refl)
     one true o true r z zq =
         let t = record s { runs = s.runs + 1 } in
-        from (after_offers v t (range_with_len start len)) (offers_kept v i t (range_with_len start len)) (rw (o, r) refl) (rw (o, r) refl) (sym (first_kept v i t start len))
+        from (after_offers v t (range_with_len start len)) (kept_in_offers v i t (range_with_len start len)) (rw (o, r) refl) (rw (o, r) refl) (sym (first_kept v i t start len))
     one true o false r true z = from (record s { runs = s.runs + 1; bad = s.bad + 1 }) [] (rw (o, r, z) refl) (rw (o, r, z) refl) (nothing s.kept refl)
     one true o false r false z =
         let t = record s { runs = s.runs + 1; bad = s.bad + 1 } in
-        from (after_offers v t (range_with_len start len)) (offers_kept v i t (range_with_len start len)) (rw (o, r, z) refl) (rw (o, r, z) refl) (sym (first_kept v i t start len))
+        from (after_offers v t (range_with_len start len)) (kept_in_offers v i t (range_with_len start len)) (rw (o, r, z) refl) (rw (o, r, z) refl) (sym (first_kept v i t start len))
 
 steps_offers : (v : Layout) (i : ℕ) (s : Claims) (steps : List Step) → s.dups ≤ s.kept
-    → replayed_offers v i (cut_of (after_steps v s steps)) (replay_of s) steps ≡ steps_kept v i s steps
+    → replayed_offers v i (cut_of (after_steps v s steps)) (replay_of s) steps ≡ kept_in_steps v i s steps
 steps_offers v i s [] few = refl
 steps_offers v i s (step ∷ steps) few =
     let cut = cut_of (after_steps v s (step ∷ steps)) in
     ap (λ xs. xs ++ replayed_offers v i cut (replay_step v cut (replay_of s) step) steps) (step_offers v i s step steps few)
-    ∙ (ap (λ r. step_kept v i s step ++ replayed_offers v i cut r steps) (step_replays v s step steps few)
-    ∙ ap (λ xs. step_kept v i s step ++ xs) (steps_offers v i (after_step v s step) steps (step_few v s step few)))
+    ∙ (ap (λ r. kept_in_step v i s step ++ replayed_offers v i cut r steps) (step_replays v s step steps few)
+    ∙ ap (λ xs. kept_in_step v i s step ++ xs) (steps_offers v i (after_step v s step) steps (step_few v s step few)))

@@ -7,7 +7,7 @@ use Rattle.std.proofs.lemmas.Bool.{cases_lt}
 use Rattle.ffs_volume.specs.declared.Layout.{Layout}
 use Rattle.ffs_volume.specs.declared.Inode.{Inode}
 use Rattle.ffs_volume.specs.Disk.Geometry.{IsGeometry}
-use Rattle.ffs_volume.specs.Blocks.Inodes.{blocks_of, used_addresses}
+use Rattle.ffs_volume.specs.Blocks.Inodes.{logical_blocks_of, addresses_for}
 use Rattle.ffs_volume.specs.Blocks.Steps.{steps_of, steps_of_addresses, walks, last_of}
 
 -- there is an inode 2
@@ -30,8 +30,8 @@ no_blocks n b h e = ap (λ k. div_ceil k b) e ∙ ap (λ q. q + min 1 (0 % b)) (
 pub no_steps : (v : Layout) (image : List ℕ) (i : Inode) → 0 < v.bsize → i.size ≡ 0 → steps_of v i image ≡ []
 unfolding steps_of
 no_steps v image i h e =
-    ap (λ b. steps_of_addresses (record { geometry = v; blocks = b; last = last_of v i }) image i.addresses 0 (used_addresses v.nindir b)) (one (walks v i))
+    ap (λ b. steps_of_addresses (record { geometry = v; blocks = b; last = last_of v i }) image i.addresses 0 (addresses_for v.nindir b)) (one (walks v i))
   where
-    one : (w : Bool) → (if w then blocks_of v i else 0) ≡ 0
+    one : (w : Bool) → (if w then logical_blocks_of v i else 0) ≡ 0
     one true = no_blocks i.size v.bsize h e
     one false = refl

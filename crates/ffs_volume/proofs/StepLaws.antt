@@ -14,7 +14,7 @@ use Rattle.ffs_volume.specs.declared.Step.TheVariants.{Run, Tail, Gap}
 use Rattle.ffs_volume.specs.declared.Inode.{Inode}
 use Rattle.ffs_volume.specs.Disk.Areas.{is_in_range}
 use Rattle.ffs_volume.specs.Disk.Geometry.{IsGeometry}
-use Rattle.ffs_volume.specs.Blocks.Inodes.{blocks_of, used_addresses}
+use Rattle.ffs_volume.specs.Blocks.Inodes.{logical_blocks_of, addresses_for}
 use Rattle.ffs_volume.specs.Blocks.Lengths.{HasLength}
 use Rattle.ffs_volume.specs.Blocks.Steps.{Extent, block_bytes, word_at, used_words, tail_of, any_word_from, steps_under, data_length, span_of, data_step, indirect_steps, steps_at, level_of, first_block, steps_of_addresses, last_of, walks, steps_of}
 
@@ -202,16 +202,16 @@ last_fits v i g = one (nat_eq (i.size % v.bsize) 0) refl
           within (i.size % v.bsize) low (omega (arith, g.sizes.block)),
         )
 
-pub used_most : (words blocks : ℕ) → used_addresses words blocks ≤ 15
+pub used_most : (words blocks : ℕ) → addresses_for words blocks ≤ 15
 used_most words blocks = grind (arith, nat_tests)
 
 -- the steps of an inode
 pub steps_within : (v : Layout) (i : Inode) (bytes : List ℕ) → IsGeometry v → (high : ℕ) × Within v.frag 0 high (steps_of v i bytes)
 unfolding steps_of
-steps_within v i bytes g = one (used_addresses v.nindir (if walks v i then blocks_of v i else 0)) (used_most v.nindir (if walks v i then blocks_of v i else 0))
+steps_within v i bytes g = one (addresses_for v.nindir (if walks v i then logical_blocks_of v i else 0)) (used_most v.nindir (if walks v i then logical_blocks_of v i else 0))
   where
     t : Extent
-    t = record { geometry = v; blocks = if walks v i then blocks_of v i else 0; last = last_of v i }
+    t = record { geometry = v; blocks = if walks v i then logical_blocks_of v i else 0; last = last_of v i }
 
     one : (n : ℕ) → n ≤ 15 → (high : ℕ) × Within v.frag 0 high (steps_of_addresses t bytes i.addresses 0 n)
     one zero h = (0, omega arith)

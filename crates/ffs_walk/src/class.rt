@@ -8,9 +8,9 @@ use ffs_layout::Geometry;
 use ffs_volume::{Class, Inode};
 
 /// How many of the fifteen addresses are used by so many logical blocks.
-pub fn used_addresses(words: u64, blocks: u64) -> u32
+pub fn addresses_for(words: u64, blocks: u64) -> u32
     requires { words ≤ 16384 }
-    ensures value { result ≡ inodes.used_addresses words blocks }
+    ensures value { result ≡ inodes.addresses_for words blocks }
     ensures bound { result ≤ 15 }
 {
     if blocks < 13 {
@@ -80,8 +80,8 @@ fn greatest_size(geometry: &Geometry) -> u64
 
 /// How many logical blocks an inode of its size has.
 #[tactic(auto, using(crate::proofs::Sizes::blocks_small))]
-fn blocks_of(geometry: &Geometry, inode: &Inode) -> u64
-    ensures value { result ≡ inodes.blocks_of geometry.now.layout inode.now }
+fn logical_blocks_of(geometry: &Geometry, inode: &Inode) -> u64
+    ensures value { result ≡ inodes.logical_blocks_of geometry.now.layout inode.now }
     ensures small { result < 2 ^ 53 }
 {
     inode.size.div_ceil(u64::from(geometry.layout.bsize))
@@ -90,12 +90,12 @@ fn blocks_of(geometry: &Geometry, inode: &Inode) -> u64
 /// How many logical blocks of an inode of the class a walk goes over.
 pub fn walked_blocks(geometry: &Geometry, inode: &Inode, class: Class) -> u64
     requires { class ≡ inodes.class_of geometry.now.layout inode.now }
-    ensures value { result ≡ (if steps.walks geometry.now.layout inode.now then inodes.blocks_of
-        geometry.now.layout inode.now else 0) }
+    ensures value { result ≡ (if steps.walks geometry.now.layout inode.now
+        then inodes.logical_blocks_of geometry.now.layout inode.now else 0) }
     ensures small { result < 2 ^ 53 }
 {
     if has_steps(geometry, inode, class) {
-        blocks_of(geometry, inode)
+        logical_blocks_of(geometry, inode)
     } else {
         0
     }
@@ -110,13 +110,13 @@ fn addresses_used(geometry: &Geometry, inode: &Inode) -> usize
     if is_short_symlink(geometry, inode) {
         return inode.size.div_ceil(4) as usize;
     }
-    let blocks = blocks_of(geometry, inode);
+    let blocks = logical_blocks_of(geometry, inode);
     let counted = if kind == 2 || kind == 6 {
         blocks + 1
     } else {
         blocks
     };
-    used_addresses(u64::from(geometry.layout.nindir), counted) as usize
+    addresses_for(u64::from(geometry.layout.nindir), counted) as usize
 }
 
 fn is_known_type(kind: u16) -> bool

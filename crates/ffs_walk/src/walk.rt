@@ -1,11 +1,11 @@
 //! The walk over the blocks of an inode.
 
 ghost use Rattle.std.specs.Prelude.{◌≡◌, ◌-◌, ◌*◌, ◌+◌, ◌<◌, ◌≤◌, ◌^◌, ◌++◌, ◌∷◌, [], ℕ, List, length, vec_len, Ok, Err, None, OnOk, OnErr, IfOk, IfErr, IfSome, MatchOption, OnSome, IsTrue, false, ◌↔◌, if◌then◌else◌};
-ghost use Rattle.ffs_volume.specs.Blocks.Inodes.{used_addresses};
+ghost use Rattle.ffs_volume.specs.Blocks.Inodes.{addresses_for};
 ghost use Rattle.ffs_walk.specs.Fits.{FrameFits};
 
 use crate::blocks::Blocks;
-use crate::class::{class_of, last_length, used_addresses, walked_blocks};
+use crate::class::{addresses_for, class_of, last_length, walked_blocks};
 use crate::frame::{Frame, Item};
 use ffs_image::{Image, ImageFault};
 use ffs_layout::Geometry;
@@ -30,7 +30,7 @@ pub struct Walk {
     pub triple: Frame,
     ghost in_order: { next ≤ used },
     ghost in_array: { used ≤ 15 },
-    ghost used_fits: { used ≤ used_addresses geometry.layout.nindir blocks },
+    ghost used_fits: { used ≤ addresses_for geometry.layout.nindir blocks },
     ghost last_some: { 0 < last },
     ghost last_small: { last ≤ geometry.layout.frag },
     ghost blocks_small: { blocks < 2 ^ 53 },
@@ -43,7 +43,7 @@ impl Walk {
     ghost use Rattle.ffs_image.specs.Device.{Faulted, ForContents};
     ghost use Rattle.ffs_volume.specs.Blocks.Steps.{data_step, indirect_steps, steps_at, steps_of, walks};
     ghost use Rattle.ffs_volume.specs.Blocks.Inodes as inodes;
-    ghost use Rattle.ffs_volume.specs.Blocks.Inodes.{blocks_of};
+    ghost use Rattle.ffs_volume.specs.Blocks.Inodes.{logical_blocks_of};
     ghost use Rattle.ffs_volume.specs.declared.Step.{Step};
     ghost use Rattle.std.specs.Prelude.{Option, replicate};
     ghost use Rattle.ffs_volume.specs.declared.Step.TheVariants.{Gap};
@@ -369,8 +369,8 @@ impl Walk {
             ≡ steps_of geometry.now.layout inode.now bytes }
         ensures geometry { result.geometry ≡ geometry.now }
         ensures blocks { result.blocks
-            ≡ (if walks geometry.now.layout inode.now then blocks_of geometry.now.layout inode.now
-            else 0) }
+            ≡ (if walks geometry.now.layout inode.now
+            then logical_blocks_of geometry.now.layout inode.now else 0) }
     {
         Walk::of_class(geometry, inode, class_of(geometry, inode))
     }
@@ -384,8 +384,8 @@ impl Walk {
             ≡ steps_of geometry.now.layout inode.now bytes }
         ensures geometry { result.geometry ≡ geometry.now }
         ensures blocks { result.blocks
-            ≡ (if walks geometry.now.layout inode.now then blocks_of geometry.now.layout inode.now
-            else 0) }
+            ≡ (if walks geometry.now.layout inode.now
+            then logical_blocks_of geometry.now.layout inode.now else 0) }
     {
         let blocks = walked_blocks(geometry, inode, class);
         Walk {
@@ -394,7 +394,7 @@ impl Walk {
             blocks,
             last: last_length(geometry, inode),
             next: 0,
-            used: used_addresses(u64::from(geometry.layout.nindir), blocks),
+            used: addresses_for(u64::from(geometry.layout.nindir), blocks),
             single: Frame::spent(),
             double: Frame::spent(),
             triple: Frame::spent(),

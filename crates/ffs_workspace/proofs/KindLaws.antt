@@ -6,7 +6,7 @@ use Rattle.ffs_volume.specs.declared.Inode.{Inode}
 use Rattle.ffs_volume.specs.declared.Class.{Class}
 use Rattle.ffs_volume.specs.declared.Class.TheVariants.{Free, Partial, Unknown, File, Dir}
 use Rattle.ffs_volume.specs.Blocks.Inodes.{inode_of, type_of, class_of, is_file_or_dir, is_known_type, is_too_large, is_any_set, addresses_used, is_directory, is_allocated, is_unknown}
-use Rattle.ffs_volume.specs.Directories.Roles.{is_dir, is_some_inode, is_suspect}
+use Rattle.ffs_volume.specs.Directories.Roles.{is_dir, is_allocated_inode, is_suspect}
 use Rattle.ffs_volume.specs.Directories.Volumes.{class_at, is_inode_number, volume_of, volume_with, marked_at}
 use Rattle.ffs_volume.specs.Encodings.Kinds.{kind_of, kind_at, is_dir_kind, is_empty_dir_kind, is_allocated_kind, is_unknown_kind, class_of_kind, type_of_kind}
 
@@ -98,7 +98,7 @@ pub dir_is : (v : Layout) (image : List ℕ) (x : ℕ) → is_dir (volume_of v i
 unfolding volume_of volume_with
 dir_is v image x = class_inside v image x is_directory refl ∙ (reports_at v image x).dir
 
-pub some_is : (v : Layout) (image : List ℕ) (x : ℕ) → is_some_inode (volume_of v image) x ≡ is_allocated_kind (kind_at v image x)
+pub some_is : (v : Layout) (image : List ℕ) (x : ℕ) → is_allocated_inode (volume_of v image) x ≡ is_allocated_kind (kind_at v image x)
 unfolding volume_of volume_with
 some_is v image x = class_inside v image x is_allocated refl ∙ (reports_at v image x).allocated
 

@@ -47,46 +47,46 @@ pub record Offer : Type 0 where
   pub fragment : ℕ
 
 -- the kept offers of some fragments, of a Run, of a step, of steps and of owners, as the fold of `Claims` keeps them
-abbrev pub offers_kept : Layout → ℕ → Claims → List ℕ → List Offer
-offers_kept v inode s [] = []
-offers_kept v inode s (f ∷ fs) =
+abbrev pub kept_in_offers : Layout → ℕ → Claims → List ℕ → List Offer
+kept_in_offers v inode s [] = []
+kept_in_offers v inode s (f ∷ fs) =
     (if nat_lt s.dups (MAXDUP + 1) then record { inode = inode; fragment = f } ∷ [] else [])
-    ++ offers_kept v inode (after_offer v s f) fs
+    ++ kept_in_offers v inode (after_offer v s f) fs
 
-abbrev pub run_kept : Layout → ℕ → Claims → ℕ → ℕ → List Offer
-run_kept v inode s start len =
+abbrev pub kept_in_run : Layout → ℕ → Claims → ℕ → ℕ → List Offer
+kept_in_run v inode s start len =
     if is_in_range v start len
-    then offers_kept v inode (record s { runs = s.runs + 1 }) (range_with_len start len)
+    then kept_in_offers v inode (record s { runs = s.runs + 1 }) (range_with_len start len)
     else (if s.bad == MAXBAD then []
-    else offers_kept v inode (record s { runs = s.runs + 1; bad = s.bad + 1 }) (range_with_len start len))
+    else kept_in_offers v inode (record s { runs = s.runs + 1; bad = s.bad + 1 }) (range_with_len start len))
 
-abbrev pub step_kept : Layout → ℕ → Claims → Step → List Offer
-step_kept v inode s (Run start len block) = if is_open s then run_kept v inode s start len else []
-step_kept v inode s Tail = []
-step_kept v inode s Gap = []
+abbrev pub kept_in_step : Layout → ℕ → Claims → Step → List Offer
+kept_in_step v inode s (Run start len block) = if is_open s then kept_in_run v inode s start len else []
+kept_in_step v inode s Tail = []
+kept_in_step v inode s Gap = []
 
-abbrev pub steps_kept : Layout → ℕ → Claims → List Step → List Offer
-steps_kept v inode s [] = []
-steps_kept v inode s (step ∷ steps) =
-    step_kept v inode s step ++ steps_kept v inode (after_step v s step) steps
+abbrev pub kept_in_steps : Layout → ℕ → Claims → List Step → List Offer
+kept_in_steps v inode s [] = []
+kept_in_steps v inode s (step ∷ steps) =
+    kept_in_step v inode s step ++ kept_in_steps v inode (after_step v s step) steps
 
-abbrev pub owners_kept : Layout → Claims → List Owner → List Offer
-owners_kept v s [] = []
-owners_kept v s (o ∷ os) = steps_kept v o.number (next_inode s) o.steps ++ owners_kept v (after_owner v s o) os
+abbrev pub kept_in_owners : Layout → Claims → List Owner → List Offer
+kept_in_owners v s [] = []
+kept_in_owners v s (o ∷ os) = kept_in_steps v o.number (next_inode s) o.steps ++ kept_in_owners v (after_owner v s o) os
 
 -- a DUP for the first kept offer of each fragment that has a DUP in phase 1
-abbrev pub first_offers : List Bool → List Offer → List BlockMessage
-first_offers dup [] = []
-first_offers dup (o ∷ os) =
-    if is_set dup o.fragment then Dup o.fragment o.inode ∷ first_offers (slice_set dup o.fragment false) os
-    else first_offers dup os
+abbrev pub first_offer_lines : List Bool → List Offer → List BlockMessage
+first_offer_lines dup [] = []
+first_offer_lines dup (o ∷ os) =
+    if is_set dup o.fragment then Dup o.fragment o.inode ∷ first_offer_lines (slice_set dup o.fragment false) os
+    else first_offer_lines dup os
 
 -- the lines of phase 1 and of phase 1b
 unfoldable pub phase1_lines : Layout → List Owner → List BlockMessage
 phase1_lines v os = owners_lines v (no_claims v) os
 
 unfoldable pub phase1b_lines : Layout → List Owner → List BlockMessage
-phase1b_lines v os = first_offers (after_owners v (no_claims v) os).dup (owners_kept v (no_claims v) os)
+phase1b_lines v os = first_offer_lines (after_owners v (no_claims v) os).dup (kept_in_owners v (no_claims v) os)
 
 -- the line is a DUP
 abbrev pub is_dup_line : BlockMessage → Bool

@@ -81,12 +81,12 @@ abbrev pub is_short_symlink : Layout → Inode → Bool
 is_short_symlink v i = type_of i.mode == DT_LNK && nat_lt i.size v.maxsymlinklen
 
 -- how many logical blocks an inode of its size has
-abbrev pub blocks_of : Layout → Inode → ℕ
-blocks_of v i = div_ceil i.size v.bsize
+abbrev pub logical_blocks_of : Layout → Inode → ℕ
+logical_blocks_of v i = div_ceil i.size v.bsize
 
 -- how many of the fifteen addresses are used where there are this many logical blocks
-abbrev pub used_addresses : ℕ → ℕ → ℕ
-used_addresses words blocks =
+abbrev pub addresses_for : ℕ → ℕ → ℕ
+addresses_for words blocks =
     if nat_lt blocks (NDADDR + 1) then blocks
     else (if nat_lt (NDADDR + words) blocks
     then (if nat_lt (NDADDR + words + words * words) blocks then 15 else 14)
@@ -97,8 +97,8 @@ used_addresses words blocks =
 abbrev pub addresses_used : Layout → Inode → ℕ
 addresses_used v i =
     if is_short_symlink v i then div_ceil i.size 4
-    else used_addresses v.nindir
-    (if is_device (type_of i.mode) then blocks_of v i + 1 else blocks_of v i)
+    else addresses_for v.nindir
+    (if is_device (type_of i.mode) then logical_blocks_of v i + 1 else logical_blocks_of v i)
 
 -- an address isn't zero
 abbrev pub is_any_set : List ℕ → Bool

@@ -10,7 +10,7 @@ use Rattle.ffs_volume.specs.Blocks.Claims.{MAXBAD, MAXDUP}
 use Rattle.ffs_volume.specs.Blocks.BlockCheck.{Offer}
 
 -- an offer, and how many bad Runs of its inode are at or before its Run
-pub record Place : Type 0 where
+pub record CountedOffer : Type 0 where
   pub inode : ℕ
   pub fragment : ℕ
   pub bads : ℕ
@@ -21,23 +21,23 @@ bads_after v bads (Run start len block) = if is_in_range v start len then bads e
 bads_after v bads Tail = bads
 bads_after v bads Gap = bads
 
-abbrev pub place_of : ℕ → ℕ → ℕ → Place
-place_of inode bads f = record { inode = inode; fragment = f; bads = bads }
+abbrev pub counted_offer : ℕ → ℕ → ℕ → CountedOffer
+counted_offer inode bads f = record { inode = inode; fragment = f; bads = bads }
 
 -- the offers of a step, and of steps one after the other
-abbrev pub step_offers : Layout → ℕ → ℕ → Step → List Place
+abbrev pub step_offers : Layout → ℕ → ℕ → Step → List CountedOffer
 step_offers v inode bads (Run start len block) =
-    map (place_of inode (bads_after v bads (Run start len block))) (range_with_len start len)
+    map (counted_offer inode (bads_after v bads (Run start len block))) (range_with_len start len)
 step_offers v inode bads Tail = []
 step_offers v inode bads Gap = []
 
-abbrev pub steps_offers : Layout → ℕ → ℕ → List Step → List Place
+abbrev pub steps_offers : Layout → ℕ → ℕ → List Step → List CountedOffer
 steps_offers v inode bads [] = []
 steps_offers v inode bads (step ∷ steps) =
     step_offers v inode bads step ++ steps_offers v inode (bads_after v bads step) steps
 
 -- all offers, in order
-abbrev pub all_offers : Layout → List Owner → List Place
+abbrev pub all_offers : Layout → List Owner → List CountedOffer
 all_offers v os = flat_map (λ o. steps_offers v o.number 0 o.steps) os
 
 -- an offer with its verdict: whether it is dup, and whether it is kept
@@ -59,7 +59,7 @@ kept_of earlier i = count_by (λ j. j.kept && j.inode == i) earlier
 
 -- an offer of a data fragment is dup when it is reserved or an earlier kept offer has it; an offer is kept when
 -- at most ten bad Runs of its inode are at or before its Run and at most ten dup offers of the inode before it
-unfoldable pub offer_verdict : Layout → List OfferVerdict → Place → OfferVerdict
+unfoldable pub offer_verdict : Layout → List OfferVerdict → CountedOffer → OfferVerdict
 offer_verdict v earlier p = record {
   inode = p.inode;
   fragment = p.fragment;
@@ -68,17 +68,17 @@ offer_verdict v earlier p = record {
 }
 
 -- the verdicts on all offers so far, after some more; the last is first
-abbrev pub judged : Layout → List OfferVerdict → List Place → List OfferVerdict
-judged v earlier [] = earlier
-judged v earlier (p ∷ ps) = judged v (offer_verdict v earlier p ∷ earlier) ps
+abbrev pub verdicts : Layout → List OfferVerdict → List CountedOffer → List OfferVerdict
+verdicts v earlier [] = earlier
+verdicts v earlier (p ∷ ps) = verdicts v (offer_verdict v earlier p ∷ earlier) ps
 
 -- the offer alone
-abbrev pub offer_of : Place → Offer
+abbrev pub offer_of : CountedOffer → Offer
 offer_of p = record { inode = p.inode; fragment = p.fragment }
 
 -- the kept ones of some offers, in order
-abbrev pub kept_offers : Layout → List OfferVerdict → List Place → List Offer
-kept_offers v earlier [] = []
-kept_offers v earlier (p ∷ ps) =
+abbrev pub kept_by_rule : Layout → List OfferVerdict → List CountedOffer → List Offer
+kept_by_rule v earlier [] = []
+kept_by_rule v earlier (p ∷ ps) =
     (if (offer_verdict v earlier p).kept then offer_of p ∷ [] else [])
-    ++ kept_offers v (offer_verdict v earlier p ∷ earlier) ps
+    ++ kept_by_rule v (offer_verdict v earlier p ∷ earlier) ps

@@ -10,7 +10,7 @@ use Rattle.ffs_volume.specs.declared.Step.TheVariants.{Run, Tail, Gap}
 use Rattle.ffs_volume.specs.declared.Inode.{Inode}
 use Rattle.ffs_volume.specs.Disk.Numbers.{u32_at, piece}
 use Rattle.ffs_volume.specs.Disk.Areas.{is_in_range}
-use Rattle.ffs_volume.specs.Blocks.Inodes.{NDADDR, used_addresses, type_of, is_device, is_short_symlink, blocks_of, is_file_or_dir, class_of}
+use Rattle.ffs_volume.specs.Blocks.Inodes.{NDADDR, addresses_for, type_of, is_device, is_short_symlink, logical_blocks_of, is_file_or_dir, class_of}
 
 -- the bytes of the block at an address
 abbrev pub block_bytes : Layout → List ℕ → ℕ → List ℕ
@@ -107,6 +107,6 @@ last_of v i = if nat_eq (i.size % v.bsize) 0 then v.frag else div_ceil (i.size %
 -- the steps of an inode
 unfoldable pub steps_of : Layout → Inode → List ℕ → List Step
 steps_of v i image =
-    let blocks = if walks v i then blocks_of v i else 0 in
+    let blocks = if walks v i then logical_blocks_of v i else 0 in
     steps_of_addresses (record { geometry = v; blocks = blocks; last = last_of v i }) image i.addresses 0
-    (used_addresses v.nindir blocks)
+    (addresses_for v.nindir blocks)

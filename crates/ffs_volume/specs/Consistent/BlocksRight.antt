@@ -12,10 +12,10 @@ use Rattle.ffs_volume.specs.Blocks.Owners.{Owner, fragments_of, all_steps}
 use Rattle.ffs_volume.specs.Blocks.BlockCheck.{sectors}
 
 -- free, or a file or a directory
-abbrev pub is_whole_class : Class → Bool
-is_whole_class Partial = false
-is_whole_class Unknown = false
-is_whole_class _ = true
+abbrev pub is_right_class : Class → Bool
+is_right_class Partial = false
+is_right_class Unknown = false
+is_right_class _ = true
 
 -- a Run is in range
 abbrev pub run_in_range : Layout → Step → Bool
@@ -33,15 +33,15 @@ abbrev pub times : ℕ → List ℕ → ℕ
 times f fs = count_by (λ g. g == f) fs
 
 -- the blocks field of a file or directory is that of all its fragments
-abbrev pub is_counted : Layout → Owner → Bool
-is_counted v o = not (is_file_or_dir o.class) || o.blocks == sectors v (length (fragments_of o.steps))
+abbrev pub is_field_right : Layout → Owner → Bool
+is_field_right v o = not (is_file_or_dir o.class) || o.blocks == sectors v (length (fragments_of o.steps))
 
 -- the classes are right; and, as in AreRunsRight of `Volume`, all Runs are in range, no fragment is in two places or is
 -- reserved, there is no Tail, and each blocks field is that of the inode's fragments
 pub record BlocksRight (v : Layout) (os : List Owner) : Type 0 where
-  pub classes : list_all (λ o. is_whole_class o.class) os ≡ true
+  pub classes : list_all (λ o. is_right_class o.class) os ≡ true
   pub in_range : list_all (run_in_range v) (all_steps os) ≡ true
   pub no_tail : list_all is_no_tail (all_steps os) ≡ true
   pub alone : (f : ℕ) → times f (fragments_of (all_steps os)) ≤ 1
   pub unreserved : (f : ℕ) → is_reserved v f ≡ true → times f (fragments_of (all_steps os)) ≡ 0
-  pub counted : list_all (is_counted v) os ≡ true
+  pub counted : list_all (is_field_right v) os ≡ true

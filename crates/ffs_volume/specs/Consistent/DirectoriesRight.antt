@@ -4,13 +4,13 @@ use Rattle.ffs_volume.specs.declared.Class.TheVariants.{Partial, Unknown, Dir}
 use Rattle.ffs_volume.specs.declared.Role.TheVariants.{Extra, Plain}
 use Rattle.ffs_volume.specs.Blocks.Inodes.{ROOTINO, WINO, DT_DIR, DT_WHT, type_of}
 use Rattle.ffs_volume.specs.Directories.Entries.{DIRBLKSIZ, Entry}
-use Rattle.ffs_volume.specs.Directories.Roles.{Volume, RoledEntry, is_dir, is_some_inode, roled_entries, dot, dotdot, references}
+use Rattle.ffs_volume.specs.Directories.Roles.{Volume, RoledEntry, is_dir, is_allocated_inode, roled_entries, dot, dotdot, references}
 use Rattle.ffs_volume.specs.Directories.Graph.{reached, names_at, NamedOnce}
 use Rattle.ffs_volume.specs.Directories.Parents.{graph_of, roled_at}
 use Rattle.ffs_volume.specs.Directories.PathnameCheck.{are_sound}
 
 -- a directory's size is a positive multiple of 512
-pub record IsWhole (size : ℕ) : Type 0 where
+pub record IsDirSize (size : ℕ) : Type 0 where
   pub some : 0 < size
   pub whole : size % DIRBLKSIZ ≡ 0
 
@@ -18,11 +18,11 @@ pub record IsWhole (size : ℕ) : Type 0 where
 abbrev pub IsPlainRight : Volume → Entry → Type 0
 IsPlainRight v e =
     ((e.number ≡ WINO) × (e.kind ≡ DT_WHT))
-    ⊎ ((is_some_inode v e.number ≡ true) × (e.kind ≡ type_of (v.inode e.number).mode))
+    ⊎ ((is_allocated_inode v e.number ≡ true) × (e.kind ≡ type_of (v.inode e.number).mode))
 
 -- a directory holds what it should, whatever the others hold
 pub record IsDirRight (v : Volume) (d : ℕ) : Type 0 where
-  pub size : IsWhole (v.inode d).size
+  pub size : IsDirSize (v.inode d).size
   pub gap : v.gap d ≡ false
   pub sound : are_sound (v.chunks d) ≡ true
   pub dot_there : IsSomeAnd (dot v d) (λ e. (e.number ≡ d) × (e.kind ≡ DT_DIR))
@@ -55,14 +55,14 @@ pub record IsCountRight (v : Volume) (i : ℕ) : Type 0 where
   pub some : 1 ≤ references v i
 
 abbrev pub AreCountsRight : Volume → Type 0
-AreCountsRight v = (i : ℕ) → is_some_inode v i ≡ true → IsCountRight v i
+AreCountsRight v = (i : ℕ) → is_allocated_inode v i ≡ true → IsCountRight v i
 
 -- what is known of the volume of each image: there is an inode 2, a directory of size 0 has no entries, and no
 -- allocated inode of a known class has the type of a whiteout
 pub record IsVolume (v : Volume) : Type 0 where
   pub some : ROOTINO < v.count
   pub empty : (d : ℕ) → is_dir v d ≡ true → (v.inode d).size ≡ 0 → roled_entries v d ≡ []
-  pub kinds : (x : ℕ) → v.class x ≢ Unknown → is_some_inode v x ≡ true → type_of (v.inode x).mode ≢ DT_WHT
+  pub kinds : (x : ℕ) → v.class x ≢ Unknown → is_allocated_inode v x ≡ true → type_of (v.inode x).mode ≢ DT_WHT
 
 -- what the other conditions leave: nothing is marked, and each inode from 2 on is free, a file or a directory
 pub record IsUnmarked (v : Volume) : Type 0 where

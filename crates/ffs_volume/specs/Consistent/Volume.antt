@@ -5,7 +5,7 @@ use Rattle.ffs_volume.specs.declared.Layout.{Layout}
 use Rattle.ffs_volume.specs.Disk.Areas.{is_reserved}
 use Rattle.ffs_volume.specs.Disk.Superblock.{Superblock}
 use Rattle.ffs_volume.specs.Blocks.Owners.{Owner, owners_of, all_steps, fragments_of}
-use Rattle.ffs_volume.specs.Consistent.BlocksRight.{is_whole_class, run_in_range, is_no_tail, times, is_counted}
+use Rattle.ffs_volume.specs.Consistent.BlocksRight.{is_right_class, run_in_range, is_no_tail, times, is_field_right}
 use Rattle.ffs_volume.specs.Groups.Records.{GroupsRight}
 use Rattle.ffs_volume.specs.Groups.GroupCheck.{is_free_of_runs}
 use Rattle.ffs_volume.specs.Consistent.DirectoriesRight.{AreDirsRight, AreLinksRight, AreCountsRight}
@@ -24,12 +24,12 @@ pub record AreRunsRight (v : Layout) (os : List Owner) : Type 0 where
   pub no_tail : list_all is_no_tail (all_steps os) ≡ true
   pub alone : (f : ℕ) → times f (fragments_of (all_steps os)) ≤ 1
   pub unreserved : (f : ℕ) → is_reserved v f ≡ true → times f (fragments_of (all_steps os)) ≡ 0
-  pub counted : list_all (is_counted v) os ≡ true
+  pub counted : list_all (is_field_right v) os ≡ true
 
 -- the seven conditions of a consistent volume
 pub record IsConsistent (image : List ℕ) (s : Superblock) : Type 0 where
   pub settings : AreSettingsRight s
-  pub classes : list_all (λ o. is_whole_class o.class) (owners_of s.layout image) ≡ true
+  pub classes : list_all (λ o. is_right_class o.class) (owners_of s.layout image) ≡ true
   pub runs : AreRunsRight s.layout (owners_of s.layout image)
   pub dirs : AreDirsRight (whole_volume s.layout image)
   pub links : AreLinksRight (whole_volume s.layout image)

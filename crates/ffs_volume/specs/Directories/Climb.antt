@@ -33,6 +33,6 @@ pub record IsLeader (f : ℕ → Option ℕ) (d : ℕ) : Type 0 where
   pub least : (k s : ℕ) → climb f k d ≡ Some s → d ≤ s
 
 -- where the test holds, the number is below n and f leads to a number where it holds
-pub record Goes (f : ℕ → Option ℕ) (p : ℕ → Bool) (n : ℕ) : Type 0 where
+pub record StaysBelow (f : ℕ → Option ℕ) (p : ℕ → Bool) (n : ℕ) : Type 0 where
   pub below : (x : ℕ) → p x ≡ true → x < n
   pub next : (x : ℕ) → p x ≡ true → (s : ℕ) × (f x ≡ Some s) × (p s ≡ true)

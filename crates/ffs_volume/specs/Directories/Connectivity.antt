@@ -1,9 +1,9 @@
 -- What the check of connectivity reports.
 use Rattle.std.specs.Prelude.{ℕ, Bool, List}
 use Rattle.ffs_volume.specs.Directories.Roles.{Volume, is_suspect}
-use Rattle.ffs_volume.specs.Directories.Graph.{unref_dir as is_unref_dir, dead}
+use Rattle.ffs_volume.specs.Directories.Graph.{is_unref_dir, dead}
 use Rattle.ffs_volume.specs.Directories.Parents.{graph_of}
-use Rattle.ffs_volume.specs.Messages.Kinds.{NameMessage, told, lines_below, unref_dir}
+use Rattle.ffs_volume.specs.Messages.Kinds.{NameMessage, reported, lines_below, unref_dir}
 use Rattle.ffs_volume.specs.Directories.PathnameCheck.{attributes}
 
 -- suspect, other than 2, and named by no plain entry
@@ -11,9 +11,9 @@ abbrev pub is_dead : Volume → ℕ → Bool
 is_dead v x = dead (graph_of v) (is_suspect v) x
 
 -- UNREF DIR is reported of d
-abbrev pub is_cut_off : Volume → ℕ → Bool
-is_cut_off v d = is_unref_dir (graph_of v) (is_suspect v) d
+abbrev pub has_unref_line : Volume → ℕ → Bool
+has_unref_line v d = is_unref_dir (graph_of v) (is_suspect v) d
 
 -- the lines of phase 3
 unfoldable pub connectivity_lines : Volume → List NameMessage
-connectivity_lines v = lines_below (λ d. told (is_cut_off v d) (unref_dir (attributes v d))) v.count
+connectivity_lines v = lines_below (λ d. reported (has_unref_line v d) (unref_dir (attributes v d))) v.count

@@ -55,8 +55,8 @@ is_well_formed order chunk place =
     && ((u32_at order place chunk == 0) || is_held chunk place (u16_at order (place + 4) chunk))
 
 -- what the bytes at a place say, well formed or not; with the number 0 there is no name
-unfoldable pub entry_there : Order → List ℕ → ℕ → Entry
-entry_there order chunk place = record {
+unfoldable pub entry_read : Order → List ℕ → ℕ → Entry
+entry_read order chunk place = record {
   number = u32_at order place chunk;
   length = u16_at order (place + 4) chunk;
   kind = slice_index chunk (place + 6);
@@ -65,7 +65,7 @@ entry_there order chunk place = record {
 
 -- the well formed entry at a place
 unfoldable pub entry_at : Order → List ℕ → ℕ → Option Entry
-entry_at order chunk place = if is_well_formed order chunk place then Some (entry_there order chunk place) else None
+entry_at order chunk place = if is_well_formed order chunk place then Some (entry_read order chunk place) else None
 
 -- well formed entries that are one after the other from a place on
 abbrev pub AreEntries : Order → List ℕ → ℕ → List Entry → Type 0

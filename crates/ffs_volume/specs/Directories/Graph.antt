@@ -52,17 +52,17 @@ unfoldable pub parent : Graph → ℕ → Option ℕ
 parent g d = if d == ROOTINO then Some ROOTINO else parent_by g d (level g d)
 
 -- the index of the first entry that passes
-abbrev pub first_place : (RoledEntry → Bool) → List RoledEntry → Option ℕ
-first_place p [] = None
-first_place p (e ∷ es) = cond (p e) (Some 0) (option_map suc (first_place p es))
+abbrev pub first_index : (RoledEntry → Bool) → List RoledEntry → Option ℕ
+first_index p [] = None
+first_index p (e ∷ es) = cond (p e) (Some 0) (option_map suc (first_index p es))
 
 -- the index of the parent entry among the entries of the parent
-abbrev pub entry_place : Graph → ℕ → Option ℕ → Option ℕ
-entry_place g d None = None
-entry_place g d (Some s) = first_place (names d) (g.entries s)
+abbrev pub entry_index : Graph → ℕ → Option ℕ → Option ℕ
+entry_index g d None = None
+entry_index g d (Some s) = first_index (names d) (g.entries s)
 
 abbrev pub parent_entry : Graph → ℕ → Option ℕ
-parent_entry g d = if d == ROOTINO then None else entry_place g d (parent g d)
+parent_entry g d = if d == ROOTINO then None else entry_index g d (parent g d)
 
 -- some plain entry names x
 abbrev pub named : Graph → ℕ → Bool
@@ -82,8 +82,8 @@ none_or_dead g suspect None = true
 none_or_dead g suspect (Some s) = dead g suspect s
 
 -- the directories with a line UNREF DIR
-abbrev pub unref_dir : Graph → (ℕ → Bool) → ℕ → Bool
-unref_dir g suspect d = lost g suspect d && (none_or_dead g suspect (parent g d) || leads_cycle (parent g) g.count d)
+abbrev pub is_unref_dir : Graph → (ℕ → Bool) → ℕ → Bool
+is_unref_dir g suspect d = lost g suspect d && (none_or_dead g suspect (parent g d) || leads_cycle (parent g) g.count d)
 
 -- a directory has the number of an inode, and there is an inode 2
 pub record IsSane (g : Graph) : Type 0 where
@@ -100,7 +100,7 @@ NoneDead g suspect = (x : ℕ) → dead g suspect x ≡ false
 
 -- no directory has a line UNREF DIR
 abbrev pub NoUnrefDir : Graph → (ℕ → Bool) → Type 0
-NoUnrefDir g suspect = (d : ℕ) → unref_dir g suspect d ≡ false
+NoUnrefDir g suspect = (d : ℕ) → is_unref_dir g suspect d ≡ false
 
 -- whether the entry at index j passes
 abbrev pub test_at : (RoledEntry → Bool) → ℕ → List RoledEntry → Bool
@@ -113,12 +113,12 @@ abbrev pub names_at : Graph → ℕ → ℕ → ℕ → Bool
 names_at g s j x = g.is_dir s && test_at (names x) j (g.entries s)
 
 -- the entry at index j of s is the parent entry of d, as a fact
-abbrev pub is_parent_entry : Graph → ℕ → ℕ → ℕ → Type 0
-is_parent_entry g s j d = (parent g d ≡ Some s) × (parent_entry g d ≡ Some j)
+abbrev pub IsParentEntry : Graph → ℕ → ℕ → ℕ → Type 0
+IsParentEntry g s j d = (parent g d ≡ Some s) × (parent_entry g d ≡ Some j)
 
 -- each plain entry that names a directory is its parent entry
 abbrev pub NoExtraneous : Graph → Type 0
-NoExtraneous g = (s j d : ℕ) → names_at g s j d ≡ true → g.is_dir d ≡ true → is_parent_entry g s j d
+NoExtraneous g = (s j d : ℕ) → names_at g s j d ≡ true → g.is_dir d ≡ true → IsParentEntry g s j d
 
 -- exactly one plain entry names d
 pub record NamedOnce (g : Graph) (d : ℕ) : Type 0 where

@@ -3,7 +3,7 @@ use Rattle.std.specs.Prelude.{ℕ, zero, suc, Bool, ◌&&◌, List, [], ◌∷�
 use Rattle.ffs_volume.specs.Directories.Roles.{Volume, RoledEntry, is_dir, roled_entries}
 use Rattle.ffs_volume.specs.Directories.Search.{first_below}
 use Rattle.ffs_volume.specs.Directories.Climb.{is_value}
-use Rattle.ffs_volume.specs.Directories.Graph.{Graph, names, names_in, parent, parent_entry, first_place}
+use Rattle.ffs_volume.specs.Directories.Graph.{Graph, names, names_in, parent, parent_entry, first_index}
 
 -- the directories of a volume as a graph
 abbrev pub graph_of : Volume → Graph
@@ -21,7 +21,7 @@ first_namer g x = first_below (λ s. names_in g s x) g.count
 
 -- the entry at index j of s is the first of all plain entries that name x
 abbrev pub is_first_name : Graph → ℕ → ℕ → ℕ → Bool
-is_first_name g s j x = is_value (first_namer g x) s && is_value (first_place (names x) (g.entries s)) j
+is_first_name g s j x = is_value (first_namer g x) s && is_value (first_index (names x) (g.entries s)) j
 
 -- the entry at index j of s is the parent entry of x
 abbrev pub is_from_parent : Graph → ℕ → ℕ → ℕ → Bool

@@ -14,7 +14,7 @@ use Rattle.ffs_volume.specs.Directories.Roles.{Volume, RoledEntry, is_dir, is_su
 use Rattle.ffs_volume.specs.Directories.Graph.{parent}
 use Rattle.ffs_volume.specs.Directories.Parents.{graph_of, is_first_name, is_from_parent}
 use Rattle.ffs_volume.specs.Directories.Paths.{dir_path, entry_path}
-use Rattle.ffs_volume.specs.Messages.Kinds.{NameMessage, told, lines_below, root_none, root_not_dir, root_suspect, dir_short, dir_length, dir_empty, dir_corrupt, missing_dot, missing_dot_first, number_dot, kind_dot, missing_dotdot, missing_dotdot_second, number_dotdot, kind_dotdot, extra_dot, extra_dotdot, out_of_range, whiteout, unallocated, dup_bad, zero_dir, extraneous, kind_entry}
+use Rattle.ffs_volume.specs.Messages.Kinds.{NameMessage, reported, lines_below, root_none, root_not_dir, root_suspect, dir_short, dir_length, dir_empty, dir_corrupt, missing_dot, missing_dot_first, number_dot, kind_dot, missing_dotdot, missing_dotdot_second, number_dotdot, kind_dotdot, extra_dot, extra_dotdot, out_of_range, whiteout, unallocated, dup_bad, zero_dir, extraneous, kind_entry}
 
 -- what messages show of an inode, and how they call it
 unfoldable pub attributes : Volume → ℕ → Attr
@@ -39,7 +39,7 @@ root_reported v Free = root_none ∷ []
 root_reported v Partial = root_none ∷ []
 root_reported v File = root_not_dir ∷ []
 root_reported v Unknown = root_not_dir ∷ []
-root_reported v Dir = told (is_suspect v ROOTINO) root_suspect
+root_reported v Dir = reported (is_suspect v ROOTINO) root_suspect
 
 unfoldable pub root_lines : Volume → List NameMessage
 root_lines v = root_reported v (v.class ROOTINO)
@@ -52,18 +52,18 @@ goes_on v = is_directory (v.class ROOTINO)
 abbrev pub is_short : Volume → ℕ → Bool
 is_short v d = nat_lt (v.inode d).size MINDIRSIZE
 
-abbrev pub is_broken : Volume → ℕ → Bool
-is_broken v d = not (is_short v d) && not ((v.inode d).size % DIRBLKSIZ == 0)
+abbrev pub is_not_multiple : Volume → ℕ → Bool
+is_not_multiple v d = not (is_short v d) && not ((v.inode d).size % DIRBLKSIZ == 0)
 
 abbrev pub are_sound : List Chunk → Bool
 are_sound chunks = list_all (λ c. c.sound) chunks
 
 unfoldable pub shape_lines : Volume → ℕ → List NameMessage
 shape_lines v d =
-    told (is_short v d) (dir_short (attributes v d) (dir_path (graph_of v) d))
-    ++ (told (is_broken v d) (dir_length (dir_path (graph_of v) d) (v.inode d).size)
-    ++ (told (v.gap d) (dir_empty (dir_path (graph_of v) d))
-    ++ told (not (are_sound (v.chunks d))) (dir_corrupt (attributes v d) (dir_path (graph_of v) d))))
+    reported (is_short v d) (dir_short (attributes v d) (dir_path (graph_of v) d))
+    ++ (reported (is_not_multiple v d) (dir_length (dir_path (graph_of v) d) (v.inode d).size)
+    ++ (reported (v.gap d) (dir_empty (dir_path (graph_of v) d))
+    ++ reported (not (are_sound (v.chunks d))) (dir_corrupt (attributes v d) (dir_path (graph_of v) d))))
 
 -- where `.` isn't there: the message by the entry that is first
 abbrev pub missing_dot_reported : Attr → List ℕ → Option Entry → List NameMessage
@@ -76,8 +76,8 @@ missing_dot_reported about path (Some e) =
 abbrev pub dot_reported : Volume → ℕ → Option Entry → List NameMessage
 dot_reported v d None = missing_dot_reported (attributes v d) (dir_path (graph_of v) d) (start_entry v d 0)
 dot_reported v d (Some e) =
-    told (not (e.number == d)) (number_dot (attributes v d) (dir_path (graph_of v) d))
-    ++ told (not (e.kind == DT_DIR)) (kind_dot (attributes v d) (dir_path (graph_of v) d))
+    reported (not (e.number == d)) (number_dot (attributes v d) (dir_path (graph_of v) d))
+    ++ reported (not (e.kind == DT_DIR)) (kind_dot (attributes v d) (dir_path (graph_of v) d))
 
 unfoldable pub dot_lines : Volume → ℕ → List NameMessage
 dot_lines v d = dot_reported v d (dot v d)
@@ -98,8 +98,8 @@ is_other (Some s) n = not (s == n)
 abbrev pub dotdot_reported : Volume → ℕ → Option Entry → List NameMessage
 dotdot_reported v d None = missing_dotdot_reported (attributes v d) (dir_path (graph_of v) d) (start_entry v d 1)
 dotdot_reported v d (Some e) =
-    told (is_other (parent (graph_of v) d) e.number) (number_dotdot (attributes v d) (dir_path (graph_of v) d))
-    ++ told (not (e.kind == DT_DIR)) (kind_dotdot (attributes v d) (dir_path (graph_of v) d))
+    reported (is_other (parent (graph_of v) d) e.number) (number_dotdot (attributes v d) (dir_path (graph_of v) d))
+    ++ reported (not (e.kind == DT_DIR)) (kind_dotdot (attributes v d) (dir_path (graph_of v) d))
 
 unfoldable pub dotdot_lines : Volume → ℕ → List NameMessage
 dotdot_lines v d = dotdot_reported v d (dotdot v d)
@@ -134,10 +134,10 @@ is_other_kind v e = not (is_unknown (v.class e.number)) && not (e.kind == type_o
 -- of a plain entry at index j of the directory s, that names an allocated inode
 unfoldable pub named_lines : Volume → ℕ → ℕ → Entry → List NameMessage
 named_lines v s j e =
-    told (reports_suspect v s j e.number) (suspect_reported v e.number (entry_path (graph_of v) s e.name))
-    ++ (told (is_extraneous v s j e.number)
+    reported (reports_suspect v s j e.number) (suspect_reported v e.number (entry_path (graph_of v) s e.name))
+    ++ (reported (is_extraneous v s j e.number)
     (extraneous (entry_path (graph_of v) s e.name) (dir_path (graph_of v) e.number))
-    ++ told (is_other_kind v e)
+    ++ reported (is_other_kind v e)
     (kind_entry (attributes v e.number) (label_of (v.class e.number)) (entry_path (graph_of v) s e.name)))
 
 -- of any plain entry at index j of the directory s

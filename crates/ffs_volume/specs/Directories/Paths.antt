@@ -20,8 +20,8 @@ abbrev pub MAXPATHLEN : ℕ
 MAXPATHLEN = 1024
 
 -- a path of more than 1,024 bytes is cut to `?` and its end
-unfoldable pub path_text : List (List ℕ) → List ℕ
-path_text names =
+unfoldable pub path_bytes : List (List ℕ) → List ℕ
+path_bytes names =
     if nat_lt MAXPATHLEN (length (joined names)) then 63 ∷ joined (longest_end (MAXPATHLEN - 1) names)
     else joined names
 
@@ -45,18 +45,18 @@ abbrev pub dir_names : Graph → ℕ → Option (List (List ℕ))
 dir_names g d = option_map (λ k. names_down g k d) (level g d)
 
 -- the path of a directory, and of an entry, by the names of the directory: `?` where it isn't reached
-abbrev pub dir_text : Option (List (List ℕ)) → List ℕ
-dir_text None = 63 ∷ []
-dir_text (Some []) = 47 ∷ []
-dir_text (Some (name ∷ names)) = path_text (name ∷ names)
+abbrev pub dir_bytes : Option (List (List ℕ)) → List ℕ
+dir_bytes None = 63 ∷ []
+dir_bytes (Some []) = 47 ∷ []
+dir_bytes (Some (name ∷ names)) = path_bytes (name ∷ names)
 
-abbrev pub entry_text : List ℕ → Option (List (List ℕ)) → List ℕ
-entry_text name None = 63 ∷ 47 ∷ name
-entry_text name (Some names) = path_text (names ++ name ∷ [])
+abbrev pub path_of_entry : List ℕ → Option (List (List ℕ)) → List ℕ
+path_of_entry name None = 63 ∷ 47 ∷ name
+path_of_entry name (Some names) = path_bytes (names ++ name ∷ [])
 
 -- the path of a directory, and of an entry of it
 unfoldable pub dir_path : Graph → ℕ → List ℕ
-dir_path g d = dir_text (dir_names g d)
+dir_path g d = dir_bytes (dir_names g d)
 
 unfoldable pub entry_path : Graph → ℕ → List ℕ → List ℕ
-entry_path g d name = entry_text name (dir_names g d)
+entry_path g d name = path_of_entry name (dir_names g d)

@@ -1,8 +1,8 @@
 -- What the check of reference counts reports.
 use Rattle.std.specs.Prelude.{ℕ, ◌==◌, not, List, [], ◌∷◌, if◌then◌else◌}
-use Rattle.ffs_volume.specs.Disk.Numbers.{is_count}
-use Rattle.ffs_volume.specs.Directories.Roles.{Volume, is_some_inode, references}
-use Rattle.ffs_volume.specs.Messages.Kinds.{NameMessage, lines_below, told, dead_marked, dead_zero, unref, unref_zero, link_count}
+use Rattle.ffs_volume.specs.Disk.Numbers.{is_the_count}
+use Rattle.ffs_volume.specs.Directories.Roles.{Volume, is_allocated_inode, references}
+use Rattle.ffs_volume.specs.Messages.Kinds.{NameMessage, lines_below, reported, dead_marked, dead_zero, unref, unref_zero, link_count}
 use Rattle.ffs_volume.specs.Directories.PathnameCheck.{attributes, label_of}
 use Rattle.ffs_volume.specs.Directories.Connectivity.{is_dead}
 
@@ -14,7 +14,7 @@ dead_reported v i =
 -- of an inode without references
 abbrev pub unref_reported : Volume → ℕ → List NameMessage
 unref_reported v i =
-    if is_count (v.inode i).nlink 0 then unref_zero (label_of (v.class i)) (attributes v i) ∷ []
+    if is_the_count (v.inode i).nlink 0 then unref_zero (label_of (v.class i)) (attributes v i) ∷ []
     else unref (label_of (v.class i)) (attributes v i) ∷ []
 
 -- of an allocated inode: dead, without references, or with another count of links
@@ -22,12 +22,12 @@ unfoldable pub inode_lines : Volume → ℕ → List NameMessage
 inode_lines v i =
     if is_dead v i then dead_reported v i
     else (if references v i == 0 then unref_reported v i
-    else told (not (is_count (v.inode i).nlink (references v i)))
+    else reported (not (is_the_count (v.inode i).nlink (references v i)))
     (link_count (label_of (v.class i)) (attributes v i) (v.inode i).nlink (references v i)))
 
 -- of any number
 abbrev pub counted_lines : Volume → ℕ → List NameMessage
-counted_lines v i = if is_some_inode v i then inode_lines v i else []
+counted_lines v i = if is_allocated_inode v i then inode_lines v i else []
 
 -- the lines of phase 4 on inodes
 unfoldable pub reference_lines : Volume → List NameMessage

@@ -27,8 +27,8 @@ abbrev pub is_dir : Volume → ℕ → Bool
 is_dir v x = is_inode v x && is_directory (v.class x)
 
 -- the number of an inode that is allocated
-abbrev pub is_some_inode : Volume → ℕ → Bool
-is_some_inode v x = is_inode v x && is_allocated (v.class x)
+abbrev pub is_allocated_inode : Volume → ℕ → Bool
+is_allocated_inode v x = is_inode v x && is_allocated (v.class x)
 
 -- marked, or a directory of size 0
 abbrev pub is_suspect : Volume → ℕ → Bool
@@ -87,14 +87,14 @@ unfoldable pub roled_entries : Volume → ℕ → List RoledEntry
 roled_entries v d = flat_map roled_chunk (v.chunks d)
 
 -- the entry at an index of a list
-abbrev pub entry_number : ℕ → List Entry → Option Entry
-entry_number i [] = None
-entry_number zero (e ∷ es) = Some e
-entry_number (suc i) (e ∷ es) = entry_number i es
+abbrev pub nth_entry : ℕ → List Entry → Option Entry
+nth_entry i [] = None
+nth_entry zero (e ∷ es) = Some e
+nth_entry (suc i) (e ∷ es) = nth_entry i es
 
 -- the entry at an index of the chunk at the start of the file, where that chunk is there
 unfoldable pub start_entry : Volume → ℕ → ℕ → Option Entry
-start_entry v d i = option_and_then (λ c. entry_number i c.entries) (find (λ c. c.offset == 0) (v.chunks d))
+start_entry v d i = option_and_then (λ c. nth_entry i c.entries) (find (λ c. c.offset == 0) (v.chunks d))
 
 -- the entry, if it passes
 abbrev pub entry_if : (Entry → Bool) → Option Entry → Option Entry

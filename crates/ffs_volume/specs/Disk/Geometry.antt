@@ -49,7 +49,7 @@ pub record HasGroup (v : Layout) (c : ℕ) : Type 0 where
   pub within_size : cgdmin v c ≤ v.size
 
 -- the summary area begins where the data of group 0 does
-pub record HasSummary (v : Layout) : Type 0 where
+pub record HasSummaryArea (v : Layout) : Type 0 where
   pub csaddr : v.csaddr ≡ cgdmin v 0
   pub room : 16 * v.ncg ≤ v.cssize
   pub summary_in_group : v.csaddr + div_ceil v.cssize v.fsize ≤ cgbase v 1
@@ -67,4 +67,4 @@ pub record IsGeometry (v : Layout) : Type 0 where
   pub numbers : HasNumbers v
   pub parts : HasParts v
   pub groups : (c : ℕ) → c < v.ncg → HasGroup v c
-  pub summary : HasSummary v
+  pub summary : HasSummaryArea v

@@ -53,6 +53,6 @@ any_below zero test = false
 any_below (suc n) test = test n || any_below n test
 
 -- a signed number is n
-abbrev pub is_count : ℤ → ℕ → Bool
-is_count (pos k) n = k == n
-is_count (negsuc k) n = false
+abbrev pub is_the_count : ℤ → ℕ → Bool
+is_the_count (pos k) n = k == n
+is_the_count (negsuc k) n = false

@@ -58,14 +58,14 @@ unfoldable pub is_group : Layout → ℕ → Bool
 is_group v c = is_natural (cgoffset_of v c) && nat_le (cgdmin v c) (min (cgbase v (c + 1)) v.size)
 
 -- the summary area begins at group 0's data, has 16 bytes for each group, and ends within group 0 and the volume
-unfoldable pub is_summary : Layout → Bool
-is_summary v =
+unfoldable pub is_summary_area : Layout → Bool
+is_summary_area v =
     (v.csaddr == cgdmin v 0)
     && nat_le (16 * v.ncg) v.cssize
     && nat_le (v.csaddr + div_ceil v.cssize v.fsize) (min (cgbase v 1) v.size)
 
 unfoldable pub is_shaped : Layout → Bool
-is_shaped v = are_sizes v && are_numbers v && are_parts v && is_summary v && all_below v.ncg (is_group v)
+is_shaped v = are_sizes v && are_numbers v && are_parts v && is_summary_area v && all_below v.ncg (is_group v)
 
 -- the cylinders fill the groups
 unfoldable pub are_cylinders : Layout → Bool
@@ -106,15 +106,15 @@ copy_agrees image None order bytes = agree order bytes (piece (copy_place (layou
 copy_agrees image (Some sector) order bytes = true
 
 -- the verdict on a superblock: by the first fault of its layout, if any, and by whether the last copy agrees
-unfoldable pub judged : Option SuperFault → Bool → Superblock → Result Superblock SuperFault
-judged (Some fault) agrees super = Err fault
-judged None true super = Ok super
-judged None false super = Err Disagree
+unfoldable pub super_verdict : Option SuperFault → Bool → Superblock → Result Superblock SuperFault
+super_verdict (Some fault) agrees super = Err fault
+super_verdict None true super = Ok super
+super_verdict None false super = Err Disagree
 
 -- the superblock, or the first fault, where the order of bytes is known
 unfoldable pub outcome_in : List ℕ → Option ℕ → Order → List ℕ → Result Superblock SuperFault
 outcome_in image sector order bytes =
-    judged (layout_fault (layout_of order bytes) (length image)) (copy_agrees image sector order bytes)
+    super_verdict (layout_fault (layout_of order bytes) (length image)) (copy_agrees image sector order bytes)
     (superblock_of order bytes)
 
 -- the same, where no order has the magic number too

@@ -14,8 +14,8 @@ use Rattle.ffs_volume.specs.Blocks.Inodes.{inode_of, class_of}
 use Rattle.ffs_volume.specs.Blocks.Steps.{steps_of}
 use Rattle.ffs_volume.specs.Blocks.Owners.{Owner, owners_of}
 use Rattle.ffs_volume.specs.Blocks.Claims.{no_claims, is_set, after_owners}
-use Rattle.ffs_volume.specs.Blocks.BlockCheck.{phase1_lines, phase1b_lines, owners_kept}
-use Rattle.ffs_volume.specs.Blocks.Keeping.{all_offers, kept_offers}
+use Rattle.ffs_volume.specs.Blocks.BlockCheck.{phase1_lines, phase1b_lines, kept_in_owners}
+use Rattle.ffs_volume.specs.Blocks.Keeping.{all_offers, kept_by_rule}
 use Rattle.ffs_volume.specs.Groups.Records.{right_summary, right_frsum, right_total}
 use Rattle.ffs_volume.specs.Groups.GroupCheck.{phase5_lines, is_free_of_runs}
 use Rattle.ffs_volume.specs.Examples.Images.{word, zeros, base_layout, base_image, two_groups}
@@ -151,9 +151,9 @@ pub record ClaimExamples : Type 0 where
       ∷ record { number = 5; class = Free; steps = []; blocks = 1 } ∷ [])
       ≡ PartAlloc 3 ∷ UnknownType 4 ∷ []
   -- by the rule of keeping, the offers that the fold keeps
-  pub by_rule : owners_kept (base_layout Little) (no_claims (base_layout Little))
+  pub by_rule : kept_in_owners (base_layout Little) (no_claims (base_layout Little))
       (root ∷ file 3 (blocks_at 5 3) 7 ∷ [])
-      ≡ kept_offers (base_layout Little) [] (all_offers (base_layout Little) (root ∷ file 3 (blocks_at 5 3) 7 ∷ []))
+      ≡ kept_by_rule (base_layout Little) [] (all_offers (base_layout Little) (root ∷ file 3 (blocks_at 5 3) 7 ∷ []))
 
 -- the free fragments and the classes of the base volume, and of that of two groups
 unfoldable pub base_free : ℕ → Bool

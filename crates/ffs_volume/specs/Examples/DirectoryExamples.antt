@@ -12,7 +12,7 @@ use Rattle.ffs_volume.specs.Directories.Entries.{Entry, Chunk, Reading, entry_at
 use Rattle.ffs_volume.specs.Directories.Roles.{Volume, role_of, references}
 use Rattle.ffs_volume.specs.Directories.Graph.{level, parent}
 use Rattle.ffs_volume.specs.Directories.Parents.{graph_of}
-use Rattle.ffs_volume.specs.Directories.Paths.{path_text, dir_path, entry_path}
+use Rattle.ffs_volume.specs.Directories.Paths.{path_bytes, dir_path, entry_path}
 use Rattle.ffs_volume.specs.Messages.Kinds.{root_none, root_not_dir, root_suspect, missing_dot, missing_dot_first, number_dot, kind_dot, missing_dotdot, missing_dotdot_second, number_dotdot, kind_dotdot, extra_dot, extra_dotdot, out_of_range, whiteout, zero_dir, extraneous, kind_entry, unref_dir, dead_marked, dead_zero, unref, unref_zero, link_count}
 use Rattle.ffs_volume.specs.Directories.PathnameCheck.{pathname_lines}
 use Rattle.ffs_volume.specs.Directories.Connectivity.{connectivity_lines}
@@ -227,8 +227,8 @@ pub record PathnameExamples : Type 0 where
   pub root_file : pathname_lines (record (alone []) { class = λ i. File }) ≡ root_not_dir ∷ []
   pub root_marked : pathname_lines (record (alone (dots 2 2 [])) { marked = λ i. true }) ≡ root_suspect ∷ []
   -- four names of 255 bytes are whole, five are cut
-  pub four_names : length (path_text (long_name ∷ long_name ∷ long_name ∷ long_name ∷ [])) ≡ 1024
-  pub five_names : path_text (long_name ∷ long_name ∷ long_name ∷ long_name ∷ long_name ∷ []) ≡ 63 ∷ (47 ∷ long_name)
+  pub four_names : length (path_bytes (long_name ∷ long_name ∷ long_name ∷ long_name ∷ [])) ≡ 1024
+  pub five_names : path_bytes (long_name ∷ long_name ∷ long_name ∷ long_name ∷ long_name ∷ []) ≡ 63 ∷ (47 ∷ long_name)
       ++ ((47 ∷ long_name) ++ (47 ∷ long_name))
   -- paths of the root, of a directory, of a lost one and of its entry
   pub paths : (dir_path (graph_of twice) 2 ≡ 47 ∷ []) × (dir_path (graph_of twice) 3 ≡ 47 ∷ 97 ∷ [])

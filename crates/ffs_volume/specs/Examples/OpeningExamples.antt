@@ -101,7 +101,7 @@ pub record AreaExamples : Type 0 where
 
 pub record OpeningExamples : Type 0 where
   -- what is reported of the base image, of one at a sector, and of one that is refused. The image is called `t`
-  pub told : opening_lines (116 ∷ []) None (outcome (base_image Little) None)
+  pub reported : opening_lines (116 ∷ []) None (outcome (base_image Little) None)
       ≡ opening (116 ∷ []) ∷ mounted (47 ∷ 109 ∷ 110 ∷ 116 ∷ []) ∷ []
   pub unreadable : opening_lines (116 ∷ []) (Some 1) (outcome [] (Some 1))
       ≡ location 1 ∷ opening (116 ∷ []) ∷ cannot_read 1 ∷ []

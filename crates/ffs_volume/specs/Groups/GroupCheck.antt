@@ -16,8 +16,8 @@ unless true m = []
 unless false m = m ∷ []
 
 -- of a group whose magic number is right
-abbrev pub whole_group_lines : Layout → List ℕ → (ℕ → Bool) → (ℕ → Class) → ℕ → List BlockMessage
-whole_group_lines v image free class c =
+abbrev pub records_lines : Layout → List ℕ → (ℕ → Bool) → (ℕ → Class) → ℕ → List BlockMessage
+records_lines v image free class c =
     unless (is_record v free class c (summary_record v image c)) FreeCounts
     ++ (unless (are_places v (group_block v image c) && are_maps v free class c (group_block v image c)) MapsWrong
     ++ unless (are_sums v free class c (group_block v image c)) GroupSums)
@@ -25,7 +25,7 @@ whole_group_lines v image free class c =
 -- the lines of a group, repeated ones too; where its magic number is wrong, its summary record alone is compared
 abbrev pub group_lines : Layout → List ℕ → (ℕ → Bool) → (ℕ → Class) → ℕ → List BlockMessage
 group_lines v image free class c =
-    if is_magic v (group_block v image c) then whole_group_lines v image free class c
+    if is_magic v (group_block v image c) then records_lines v image free class c
     else GroupMagic c ∷ unless (is_record v free class c (summary_record v image c)) FreeCounts
 
 -- of all groups, and of the superblock's totals

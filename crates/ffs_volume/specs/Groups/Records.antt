@@ -6,7 +6,7 @@ use Rattle.std.specs.Int.{div_ceil}
 use Rattle.ffs_volume.specs.declared.TheConstants.{CG_MAGIC}
 use Rattle.ffs_volume.specs.declared.Layout.{Layout}
 use Rattle.ffs_volume.specs.declared.Class.{Class}
-use Rattle.ffs_volume.specs.Disk.Numbers.{u32_at, piece, all_below, is_count}
+use Rattle.ffs_volume.specs.Disk.Numbers.{u32_at, piece, all_below, is_the_count}
 use Rattle.ffs_volume.specs.Disk.Areas.{cgbase, group_place, summary_place}
 use Rattle.ffs_volume.specs.Blocks.Inodes.{is_directory, is_allocated}
 
@@ -15,8 +15,8 @@ abbrev pub is_used_inode : (ℕ → Class) → ℕ → Bool
 is_used_inode class x = nat_lt x 2 || is_allocated (class x)
 
 -- the inode is a directory
-abbrev pub is_dir : (ℕ → Class) → ℕ → Bool
-is_dir class x = nat_le 2 x && is_directory (class x)
+abbrev pub is_dir_inode : (ℕ → Class) → ℕ → Bool
+is_dir_inode class x = nat_le 2 x && is_directory (class x)
 
 -- how many fragments a group has
 abbrev pub group_size : Layout → ℕ → ℕ
@@ -57,7 +57,7 @@ group_inodes v c = range_with_len (c * v.ipg) v.ipg
 -- the right summary of group c
 unfoldable pub right_summary : Layout → (ℕ → Bool) → (ℕ → Class) → ℕ → Summary
 right_summary v free class c = record {
-  dirs = count_by (is_dir class) (group_inodes v c);
+  dirs = count_by (is_dir_inode class) (group_inodes v c);
   blocks = count_by (λ b. is_whole (block_bits v free c b)) (block_numbers v);
   inodes = count_by (λ x. not (is_used_inode class x)) (group_inodes v c);
   fragments =
@@ -147,9 +147,9 @@ is_record v free class c bytes = has_summary v 0 bytes (right_summary v free cla
 -- the totals of a superblock, in the order of a summary
 abbrev pub has_totals : List ℤ → Summary → Bool
 has_totals total s =
-    is_count (slice_index_or total 0 (pos 0)) s.dirs && (is_count (slice_index_or total 1 (pos 0)) s.blocks
-    && (is_count (slice_index_or total 2 (pos 0)) s.inodes
-    && is_count (slice_index_or total 3 (pos 0)) s.fragments))
+    is_the_count (slice_index_or total 0 (pos 0)) s.dirs && (is_the_count (slice_index_or total 1 (pos 0)) s.blocks
+    && (is_the_count (slice_index_or total 2 (pos 0)) s.inodes
+    && is_the_count (slice_index_or total 3 (pos 0)) s.fragments))
 
 -- the totals are right
 unfoldable pub is_total : Layout → (ℕ → Bool) → (ℕ → Class) → List ℤ → Bool

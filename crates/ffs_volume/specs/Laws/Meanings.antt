@@ -7,7 +7,7 @@ use Rattle.ffs_volume.specs.declared.Step.{Step}
 use Rattle.ffs_volume.specs.Disk.Areas.{cgbase}
 use Rattle.ffs_volume.specs.Blocks.Owners.{fragments_of}
 use Rattle.ffs_volume.specs.Blocks.Claims.{Claims, is_open, after_steps}
-use Rattle.ffs_volume.specs.Blocks.BlockCheck.{steps_kept}
+use Rattle.ffs_volume.specs.Blocks.BlockCheck.{kept_in_steps}
 use Rattle.ffs_volume.specs.Blocks.FirstOffers.{Firsts}
 use Rattle.ffs_volume.specs.Groups.Records.{right_summary}
 use Rattle.ffs_volume.specs.Directories.Graph.{Graph, level}
@@ -17,12 +17,12 @@ use Rattle.ffs_volume.specs.Directories.Paths.{MAXPATHLEN, dir_path, entry_path}
 -- the kept offers of an inode are the first of its offers, and all of them where it isn't cut
 abbrev pub KeptAreFirst : Type 0
 KeptAreFirst = (v : Layout) (inode : ℕ) (s : Claims) (steps : List Step) →
-    Firsts inode (steps_kept v inode s steps) (fragments_of steps) (not (is_open (after_steps v s steps)))
+    Firsts inode (kept_in_steps v inode s steps) (fragments_of steps) (not (is_open (after_steps v s steps)))
 
 -- a level is the least number of edges from inode 2, and is below the number of inodes
 pub record LevelMeaning (g : Graph) (k d : ℕ) : Type 0 where
-  pub tells : level g d ≡ Some k → IsLevel g k d × (k < g.count)
-  pub told : d < g.count → IsLevel g k d → level g d ≡ Some k
+  pub is_least : level g d ≡ Some k → IsLevel g k d × (k < g.count)
+  pub is_found : d < g.count → IsLevel g k d → level g d ≡ Some k
 
 abbrev pub LevelsAreLeast : Type 0
 LevelsAreLeast = (g : Graph) (k d : ℕ) → LevelMeaning g k d

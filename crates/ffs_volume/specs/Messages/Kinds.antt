@@ -86,9 +86,9 @@ abbrev pub has_defect : List Message → Bool
 has_defect messages = list_any is_defect messages
 
 -- a message that is reported where a condition holds
-abbrev pub told : Bool → NameMessage → List NameMessage
-told true m = m ∷ []
-told false m = []
+abbrev pub reported : Bool → NameMessage → List NameMessage
+reported true m = m ∷ []
+reported false m = []
 
 -- what is reported for the numbers below n, ascending
 unfoldable pub lines_below : (ℕ → List NameMessage) → ℕ → List NameMessage

@@ -24,14 +24,14 @@ abbrev pub is_minfree : Superblock → Bool
 is_minfree s = is_up_to 99 s.minfree
 
 -- `unless` of GroupCheck, for a Message
-abbrev pub unless_message : Bool → Message → List Message
-unless_message true message = []
-unless_message false message = message ∷ []
+abbrev pub message_unless : Bool → Message → List Message
+message_unless true message = []
+message_unless false message = message ∷ []
 
 -- the defects of the settings
 unfoldable pub setting_lines : Superblock → List Message
 setting_lines s =
-    unless_message (is_optimization s) optimization ++ unless_message (is_minfree s) (minfree s.minfree)
+    message_unless (is_optimization s) optimization ++ message_unless (is_minfree s) (minfree s.minfree)
 
 -- what is reported of an accepted superblock
 abbrev pub super_lines : Superblock → List Message

@@ -25,8 +25,8 @@ unfoldable pub file_count : Layout → List ℕ → ℕ
 file_count v image = count_by (λ x. is_file_or_dir (class_at v image x)) (inode_numbers v)
 
 -- how many Runs the block check looks at
-unfoldable pub claim_count : Layout → List ℕ → ℕ
-claim_count v image = (after_owners v (no_claims v) (owners_of v image)).runs
+unfoldable pub run_count : Layout → List ℕ → ℕ
+run_count v image = (after_owners v (no_claims v) (owners_of v image)).runs
 
 -- how many fragments are claimed beside the reserved ones
 unfoldable pub used_count : Layout → List ℕ → ℕ
@@ -89,20 +89,20 @@ unfoldable pub end_of : List ℕ → Superblock → End
 end_of image s = end_by (goes_on (volume_of s.layout image)) (has_defect (report_lines image s))
 
 -- what is reported of an image, and how the run ends, by the outcome of its superblock
-abbrev pub reported_of : List ℕ → Result Superblock SuperFault → List Message
-reported_of image (Ok s) = report_lines image s
-reported_of image (Err fault) = fault_line fault ∷ []
+abbrev pub lines_by_outcome : List ℕ → Result Superblock SuperFault → List Message
+lines_by_outcome image (Ok s) = report_lines image s
+lines_by_outcome image (Err fault) = fault_line fault ∷ []
 
-abbrev pub ends_of : List ℕ → Result Superblock SuperFault → End
-ends_of image (Ok s) = end_of image s
-ends_of image (Err fault) = Refused fault
+abbrev pub end_by_outcome : List ℕ → Result Superblock SuperFault → End
+end_by_outcome image (Ok s) = end_of image s
+end_by_outcome image (Err fault) = Refused fault
 
 -- the whole report of an image: its messages and its end
 unfoldable pub report_of : List ℕ → List ℕ → Option ℕ → List Message
-report_of image name sector = head_lines name sector ++ reported_of image (outcome image sector)
+report_of image name sector = head_lines name sector ++ lines_by_outcome image (outcome image sector)
 
 unfoldable pub report_end : List ℕ → Option ℕ → End
-report_end image sector = ends_of image (outcome image sector)
+report_end image sector = end_by_outcome image (outcome image sector)
 
 -- the exit status of an end
 abbrev pub status_of : End → ℕ

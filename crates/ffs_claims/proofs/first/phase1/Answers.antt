@@ -9,7 +9,7 @@ use Rattle.ffs_volume.specs.Blocks.Claims.{Claims, after_owner}
 use Rattle.ffs_volume.specs.Messages.Kinds.{Message, phase1}
 use Rattle.ffs_volume.specs.Blocks.Owners.{owner_of, owners_of}
 use Rattle.ffs_volume.specs.Encodings.Replay.{cut_at}
-use Rattle.ffs_volume.specs.Report.Whole.{claim_count}
+use Rattle.ffs_volume.specs.Report.Whole.{run_count}
 use Rattle.ffs_workspace.specs.Holds.{claims_of, all_claims, first_marked_at}
 use Rattle.ffs_volume.specs.Encodings.Kinds.{kind_at}
 use Rattle.ffs_workspace.specs.Lengths.{inodes_of}
@@ -149,7 +149,7 @@ returns-clause-runs g c =
     ]
 
 pub returns-clause-count : goal.returns-clause-count
-unfolding claim_count all_claims
+unfolding run_count all_claims
 returns-clause-count g c = λ bytes k. (returns-clause-holds g c bytes k).runs
 
 pub returns-clause-dups : goal.returns-clause-dups

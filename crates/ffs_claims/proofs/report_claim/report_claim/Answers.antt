@@ -10,8 +10,8 @@ returns-then-fragment-from-clause-said g c =
     let size = length_bits c.args.workspace.now.duplicates.words.items c.args.workspace.now.duplicates.size ∙ c.requires.made.duplicates in
     said_out (bits_of c.args.workspace.now.duplicates) c.args.number c.args.fragment _ (past_end (bits_of c.args.workspace.now.duplicates) c.args.fragment (omega (arith, size)))
 
-pub returns-then-fragment-from-clause-told : goal.returns-then-fragment-from-clause-told
-returns-then-fragment-from-clause-told g c =
+pub returns-then-fragment-from-clause-reported : goal.returns-then-fragment-from-clause-reported
+returns-then-fragment-from-clause-reported g c =
     let size = length_bits c.args.workspace.now.duplicates.words.items c.args.workspace.now.duplicates.size ∙ c.requires.made.duplicates in
     reported_out c.args.workspace.now c.args.workspace.now c.args.number c.args.fragment (past_end (bits_of c.args.workspace.now.duplicates) c.args.fragment (omega (arith, size))) refl refl
 
@@ -19,6 +19,6 @@ pub returns-then-not-get-clause-said : goal.returns-then-not-get-clause-said
 returns-then-not-get-clause-said g c =
     said_out (bits_of c.args.workspace.now.duplicates) c.args.number c.args.fragment _ (sym c.get.ensures ∙ c.if-not-get.true)
 
-pub returns-then-not-get-clause-told : goal.returns-then-not-get-clause-told
-returns-then-not-get-clause-told g c =
+pub returns-then-not-get-clause-reported : goal.returns-then-not-get-clause-reported
+returns-then-not-get-clause-reported g c =
     reported_out c.args.workspace.now c.args.workspace.now c.args.number c.args.fragment (sym c.get.ensures ∙ c.if-not-get.true) refl refl

@@ -1,7 +1,7 @@
 use Rattle.std.proofs.Common.{◌+◌, ◌-◌, ◌∷◌, [], arith, refl, ap, ◌∙◌, map, List, ℕ}
 use Rattle.std.specs.List.{range_with_len}
 use Rattle.std.proofs.lemmas.Result.{err_from_is_err_and}
-use Rattle.ffs_volume.specs.Blocks.BlockCheck.{Offer, first_offers}
+use Rattle.ffs_volume.specs.Blocks.BlockCheck.{Offer, first_offer_lines}
 use Rattle.ffs_volume.specs.Blocks.FirstOffers.{offer_at}
 use Rattle.ffs_maps.specs.Bits.{bits_of}
 use Rattle.ffs_phase.proofs.Reporting.{to_begins, to_says, to_stops, to_ends}
@@ -20,9 +20,9 @@ loop-place-init g c =
       windows = refl;
       claims = record { claimed = refl; kinds = refl; cut = refl; seen = refl };
       runs = refl;
-      told = reporting_same _ _ _ _ _ (reporting_begins (map (offer_at n) (range_with_len c.args.start c.args.len)) w) (ap (map (offer_at n)) (from_start c.args.start c.args.len));
-      said = to_same _ _ _ _ _ (to_begins (of_lines (first_offers (bits_of w.duplicates) (map (offer_at n) (range_with_len c.args.start c.args.len)))) _)
-          (ap (λ (fs : List ℕ). of_lines (first_offers (bits_of w.duplicates) (map (offer_at n) fs))) (from_start c.args.start c.args.len));
+      reported = reporting_same _ _ _ _ _ (reporting_begins (map (offer_at n) (range_with_len c.args.start c.args.len)) w) (ap (map (offer_at n)) (from_start c.args.start c.args.len));
+      said = to_same _ _ _ _ _ (to_begins (of_lines (first_offer_lines (bits_of w.duplicates) (map (offer_at n) (range_with_len c.args.start c.args.len)))) _)
+          (ap (λ (fs : List ℕ). of_lines (first_offer_lines (bits_of w.duplicates) (map (offer_at n) fs))) (from_start c.args.start c.args.len));
     }
 
 pub returns-in_err-report_claim-clause-said : goal.returns-in_err-report_claim-clause-said
@@ -32,8 +32,8 @@ returns-in_err-report_claim-clause-said g c =
     let f = c.from.result + c.from-in-loop-place.result in
     let d = bits_of c.loop-place.workspace.duplicates in
     let rest = map (offer_at n) (range_with_len (c.args.start + (c.loop-place.place + 1)) (c.args.len - (c.loop-place.place + 1))) in
-    rw (p.1) (to_stops _ (of_lines (first_offers (after_first d (offer_at n f ∷ [])) rest)) _ (of_lines (first_offers d (offer_at n f ∷ []))) _ _ _ c.loop-place.invariant.said
-    (ap (λ (os : List Offer). of_lines (first_offers d os)) (run_next n c.args.start c.args.len c.loop-place.place f c.loop-place-test.true (omega arith))
+    rw (p.1) (to_stops _ (of_lines (first_offer_lines (after_first d (offer_at n f ∷ [])) rest)) _ (of_lines (first_offer_lines d (offer_at n f ∷ []))) _ _ _ c.loop-place.invariant.said
+    (ap (λ (os : List Offer). of_lines (first_offer_lines d os)) (run_next n c.args.start c.args.len c.loop-place.place f c.loop-place-test.true (omega arith))
     ∙ lines_more d (after_first d (offer_at n f ∷ [])) (offer_at n f) rest refl)
     c.in_err-report_claim.ensures.said)
 
@@ -51,18 +51,18 @@ loop-place-preserved g c =
       windows = c.report_claim.ensures.windows ∙ inv.windows;
       claims = record { claimed = c.report_claim.ensures.claims.claimed ∙ inv.claims.claimed; kinds = c.report_claim.ensures.claims.kinds ∙ inv.claims.kinds; cut = c.report_claim.ensures.claims.cut ∙ inv.claims.cut; seen = c.report_claim.ensures.claims.seen ∙ inv.claims.seen };
       runs = c.report_claim.ensures.runs ∙ inv.runs;
-      told = reporting_more _ (offer_at n f ∷ []) rest _ _ _ _ inv.told next c.report_claim.ensures.told;
-      said = to_says _ (of_lines (first_offers d' rest)) _ (of_lines (first_offers d (offer_at n f ∷ []))) _ _ _ inv.said
-          (ap (λ (os : List Offer). of_lines (first_offers d os)) next ∙ lines_more d d' (offer_at n f) rest c.report_claim.ensures.told.dup)
+      reported = reporting_more _ (offer_at n f ∷ []) rest _ _ _ _ inv.reported next c.report_claim.ensures.reported;
+      said = to_says _ (of_lines (first_offer_lines d' rest)) _ (of_lines (first_offer_lines d (offer_at n f ∷ []))) _ _ _ inv.said
+          (ap (λ (os : List Offer). of_lines (first_offer_lines d os)) next ∙ lines_more d d' (offer_at n f) rest c.report_claim.ensures.reported.dup)
           c.in_ok-report_claim.ensures.said;
     }
 
 pub returns-clause-said : goal.returns-clause-said
 returns-clause-said g c =
     let inv = c.loop-place.invariant in
-    to_ends _ _ _ _ inv.said (ap (λ (os : List Offer). of_lines (first_offers (bits_of c.loop-place.workspace.duplicates) os)) (run_over c.args.number c.args.start c.args.len c.loop-place.place (omega arith)))
+    to_ends _ _ _ _ inv.said (ap (λ (os : List Offer). of_lines (first_offer_lines (bits_of c.loop-place.workspace.duplicates) os)) (run_over c.args.number c.args.start c.args.len c.loop-place.place (omega arith)))
 
-pub returns-clause-told : goal.returns-clause-told
-returns-clause-told g c =
+pub returns-clause-reported : goal.returns-clause-reported
+returns-clause-reported g c =
     let inv = c.loop-place.invariant in
-    reporting_ends _ _ _ _ inv.told (run_over c.args.number c.args.start c.args.len c.loop-place.place (omega arith))
+    reporting_ends _ _ _ _ inv.reported (run_over c.args.number c.args.start c.args.len c.loop-place.place (omega arith))

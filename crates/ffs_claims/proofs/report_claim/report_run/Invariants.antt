@@ -1,6 +1,6 @@
 use Rattle.std.proofs.Common.{◌≡◌, ◌+◌, ◌-◌, map}
 use Rattle.std.specs.List.{range_with_len}
-use Rattle.ffs_volume.specs.Blocks.BlockCheck.{first_offers}
+use Rattle.ffs_volume.specs.Blocks.BlockCheck.{first_offer_lines}
 use Rattle.ffs_volume.specs.Blocks.FirstOffers.{offer_at}
 use Rattle.ffs_report.specs.Progress.{progress}
 use Rattle.ffs_phase.specs.Runs.{SaidTo}
@@ -18,8 +18,8 @@ invariant-loop-place g l = record {
   windows : SameWindows l.initial.workspace l.workspace;
   claims : SameClaims l.initial.workspace l.workspace;
   runs : l.workspace.runs_again ≡ l.initial.workspace.runs_again;
-  told : Reporting (map (offer_at l.number) (range_with_len (l.start + l.place) (l.len - l.place))) (map (offer_at l.number) (range_with_len l.start l.len)) l.initial.workspace l.workspace;
-  said : SaidTo (of_lines (first_offers (bits_of l.workspace.duplicates) (map (offer_at l.number) (range_with_len (l.start + l.place) (l.len - l.place)))))
-      (of_lines (first_offers (bits_of l.initial.workspace.duplicates) (map (offer_at l.number) (range_with_len l.start l.len))))
+  reported : Reporting (map (offer_at l.number) (range_with_len (l.start + l.place) (l.len - l.place))) (map (offer_at l.number) (range_with_len l.start l.len)) l.initial.workspace l.workspace;
+  said : SaidTo (of_lines (first_offer_lines (bits_of l.workspace.duplicates) (map (offer_at l.number) (range_with_len (l.start + l.place) (l.len - l.place)))))
+      (of_lines (first_offer_lines (bits_of l.initial.workspace.duplicates) (map (offer_at l.number) (range_with_len l.start l.len))))
       (progress g.W.Output.sink l.initial.report) (progress g.W.Output.sink l.report);
 }

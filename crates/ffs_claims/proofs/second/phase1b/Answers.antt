@@ -3,7 +3,7 @@ use Rattle.std.specs.Prelude.{slice_index}
 use Rattle.std.proofs.lemmas.Result.{err_from_is_err_and}
 use Rattle.ffs_maps.specs.Bits.{bits_of}
 use Rattle.ffs_phase.proofs.Reporting.{of_begins, of_says, of_part, of_fault, of_stops, of_same, reports_knowing, said_knows}
-use Rattle.ffs_volume.specs.Blocks.BlockCheck.{Offer, first_offers, owners_kept, phase1b_lines}
+use Rattle.ffs_volume.specs.Blocks.BlockCheck.{Offer, first_offer_lines, kept_in_owners, phase1b_lines}
 use Rattle.ffs_volume.specs.Blocks.Claims.{no_claims}
 use Rattle.ffs_volume.specs.Blocks.Inodes.{inode_of}
 use Rattle.ffs_volume.specs.Blocks.KeptSteps.{claims_before}
@@ -62,8 +62,8 @@ loop-number-init g c =
       high = λ h. omega arith;
       runs = λ bytes k. omega arith;
       count = λ bytes k. omega (arith, looked_first v bytes d k.1.dup);
-      told = λ bytes k. reporting_same _ _ _ _ _ (reported_same c.args.workspace.now _ (owners_kept v (no_claims v) (owners_of v bytes)) refl refl) (sym (all_kept v bytes));
-      said = of_says _ (λ bytes. phase1b ∷ of_lines (phase1b_lines v (owners_of v bytes))) (λ bytes. of_lines (first_offers d (owners_kept v (claims_before v bytes 2) (owners_from v bytes 2)))) _ (phase1b ∷ []) _ _ _
+      reported = λ bytes k. reporting_same _ _ _ _ _ (reported_same c.args.workspace.now _ (kept_in_owners v (no_claims v) (owners_of v bytes)) refl refl) (sym (all_kept v bytes));
+      said = of_says _ (λ bytes. phase1b ∷ of_lines (phase1b_lines v (owners_of v bytes))) (λ bytes. of_lines (first_offer_lines d (kept_in_owners v (claims_before v bytes 2) (owners_from v bytes 2)))) _ (phase1b ∷ []) _ _ _
           (of_begins _ (λ bytes. phase1b ∷ of_lines (phase1b_lines v (owners_of v bytes))) _)
           (λ bytes k. ap (λ (xs : List Message). phase1b ∷ xs) (all_lines v bytes d k.1.dup))
           c.in_ok-say.ensures.said;
@@ -75,14 +75,14 @@ returns-then-is_reported-clause-text g c =
     let inv = c.loop-number.invariant in
     let none : set_count (bits_of c.loop-number.workspace.duplicates) ≡ 0 = sym inv.made.unreported ∙ c.is_reported.ensures.none c.if-is_reported.true in
     of_same _ _ (λ bytes. []) _ _ _ inv.said
-    (λ bytes k. lines_over (bits_of c.loop-number.workspace.duplicates) (owners_kept v (claims_before v bytes c.loop-number.number) (owners_from v bytes c.loop-number.number)) none)
+    (λ bytes k. lines_over (bits_of c.loop-number.workspace.duplicates) (kept_in_owners v (claims_before v bytes c.loop-number.number) (owners_from v bytes c.loop-number.number)) none)
 
 pub returns-then-is_reported-clause-holds : goal.returns-then-is_reported-clause-holds
 returns-then-is_reported-clause-holds g c = λ bytes k.
     let v = c.args.geometry.now.layout in
     let inv = c.loop-number.invariant in
     let none : set_count (bits_of c.loop-number.workspace.duplicates) ≡ 0 = sym inv.made.unreported ∙ c.is_reported.ensures.none c.if-is_reported.true in
-    claims_hold v bytes c.args.workspace.now c.loop-number.workspace k.1 inv.claims (reporting_over _ _ _ _ none (inv.told bytes k))
+    claims_hold v bytes c.args.workspace.now c.loop-number.workspace k.1 inv.claims (reporting_over _ _ _ _ none (inv.reported bytes k))
 
 pub returns-then-is_reported-clause-runs : goal.returns-then-is_reported-clause-runs
 returns-then-is_reported-clause-runs g c = λ bytes k.
@@ -100,9 +100,9 @@ returns-in_err-renumbered-clause-text g c =
     let lt : n < inodes_of v = omega arith in
     let inside = is_inside v n inv.low lt in
     let cut = ap (λ z. slice_index z.items n) inv.claims.cut in
-    rw (p.1, p.2) (of_fault (Unit {0}) (Unit {0}) _ (λ bytes. of_lines (first_offers d (owners_kept v (claims_before v bytes n) (owners_from v bytes n))))
-    (λ bytes. of_lines (first_offers d (offers_again v n (rescan (slice_index cuts n)) (steps_of v (inode_of v bytes n) bytes))))
-    (λ bytes. of_lines (first_offers (after_first d (offers_again v n (rescan (slice_index cuts n)) (steps_of v (inode_of v bytes n) bytes))) (owners_kept v (claims_before v bytes (n + 1)) (owners_from v bytes (n + 1)))))
+    rw (p.1, p.2) (of_fault (Unit {0}) (Unit {0}) _ (λ bytes. of_lines (first_offer_lines d (kept_in_owners v (claims_before v bytes n) (owners_from v bytes n))))
+    (λ bytes. of_lines (first_offer_lines d (offers_again v n (rescan (slice_index cuts n)) (steps_of v (inode_of v bytes n) bytes))))
+    (λ bytes. of_lines (first_offer_lines (after_first d (offers_again v n (rescan (slice_index cuts n)) (steps_of v (inode_of v bytes n) bytes))) (kept_in_owners v (claims_before v bytes (n + 1)) (owners_from v bytes (n + 1)))))
     _ _ _ _ c.in_err-renumbered.field-0.0
     inv.said
     (λ bytes k. lines_split d _ _ _ _ (kept_next v bytes cuts n c.args.geometry.now.sound inv.low lt inside (cut ∙ k.1.cut n)) refl)
@@ -140,7 +140,7 @@ loop-number-preserved g c =
     let on : ForBytes (λ bytes. IsContents (g.I.Image.device c.args.image.now).contents bytes × HoldsPhase1 v bytes c.args.workspace.now) (λ bytes.
     looked_at d (owners_runs v (claims_before v bytes n) (owners_from v bytes n))
     ≡ looked_at d (steps_runs_again v n (rescan (slice_index cuts n)) (steps_of v (inode_of v bytes n) bytes)) + looked_at d' (owners_runs v (claims_before v bytes (n + 1)) (owners_from v bytes (n + 1)))) =
-    λ bytes k. looked_on v bytes cuts n d d' c.args.geometry.now.sound inv.low lt inside (cut ∙ k.1.cut n) (c.in_ok-renumbered.ensures.told bytes (image ∙ k.0)).dup in
+    λ bytes k. looked_on v bytes cuts n d d' c.args.geometry.now.sound inv.low lt inside (cut ∙ k.1.cut n) (c.in_ok-renumbered.ensures.reported bytes (image ∙ k.0)).dup in
     record {
       made = c.renumbered.ensures.made;
       device = c.in_ok-renumbered.ensures.image ∙ inv.device;
@@ -153,12 +153,12 @@ loop-number-preserved g c =
           let fits : c.loop-number.workspace.runs_again + looked_at d (steps_runs_again v n (rescan (slice_index cuts n)) (steps_of v (inode_of v bytes n) bytes)) < 2 ^ 64 =
           omega (arith, inv.count bytes k, look_fits v bytes c.args.geometry.now.sound, on bytes k) in
           omega (arith, inv.count bytes k, on bytes k, (c.in_ok-renumbered.ensures.count bytes (image ∙ k.0)) fits);
-      told = λ bytes k. reporting_more _ (offers_again v n (rescan (slice_index cuts n)) (steps_of v (inode_of v bytes n) bytes)) (owners_kept v (claims_before v bytes (n + 1)) (owners_from v bytes (n + 1))) _ _ _ _
-          (inv.told bytes k) (kept_next v bytes cuts n c.args.geometry.now.sound inv.low lt inside (cut ∙ k.1.cut n)) (c.in_ok-renumbered.ensures.told bytes (image ∙ k.0));
-      said = of_part _ (λ bytes. of_lines (first_offers d (owners_kept v (claims_before v bytes n) (owners_from v bytes n))))
-          (λ bytes. of_lines (first_offers d (offers_again v n (rescan (slice_index cuts n)) (steps_of v (inode_of v bytes n) bytes))))
-          (λ bytes. of_lines (first_offers d' (owners_kept v (claims_before v bytes (n + 1)) (owners_from v bytes (n + 1))))) _ _ _ _ inv.said
-          (λ bytes k. lines_split d d' _ _ _ (kept_next v bytes cuts n c.args.geometry.now.sound inv.low lt inside (cut ∙ k.1.cut n)) (c.in_ok-renumbered.ensures.told bytes (image ∙ k.0)).dup)
+      reported = λ bytes k. reporting_more _ (offers_again v n (rescan (slice_index cuts n)) (steps_of v (inode_of v bytes n) bytes)) (kept_in_owners v (claims_before v bytes (n + 1)) (owners_from v bytes (n + 1))) _ _ _ _
+          (inv.reported bytes k) (kept_next v bytes cuts n c.args.geometry.now.sound inv.low lt inside (cut ∙ k.1.cut n)) (c.in_ok-renumbered.ensures.reported bytes (image ∙ k.0));
+      said = of_part _ (λ bytes. of_lines (first_offer_lines d (kept_in_owners v (claims_before v bytes n) (owners_from v bytes n))))
+          (λ bytes. of_lines (first_offer_lines d (offers_again v n (rescan (slice_index cuts n)) (steps_of v (inode_of v bytes n) bytes))))
+          (λ bytes. of_lines (first_offer_lines d' (kept_in_owners v (claims_before v bytes (n + 1)) (owners_from v bytes (n + 1))))) _ _ _ _ inv.said
+          (λ bytes k. lines_split d d' _ _ _ (kept_next v bytes cuts n c.args.geometry.now.sound inv.low lt inside (cut ∙ k.1.cut n)) (c.in_ok-renumbered.ensures.reported bytes (image ∙ k.0)).dup)
           (said_knows _ _ _ _ _ _ (λ bytes k. image ∙ k.0) c.in_ok-renumbered.ensures.text);
     }
 
@@ -167,14 +167,14 @@ returns-after-loop-number-clause-text g c =
     let v = c.args.geometry.now.layout in
     let inv = c.loop-number.invariant in
     of_same _ _ (λ bytes. []) _ _ _ inv.said
-    (λ bytes k. ap (λ (os : List Offer). of_lines (first_offers (bits_of c.loop-number.workspace.duplicates) os)) (kept_end v bytes (claims_before v bytes c.loop-number.number) c.loop-number.number (omega arith)))
+    (λ bytes k. ap (λ (os : List Offer). of_lines (first_offer_lines (bits_of c.loop-number.workspace.duplicates) os)) (kept_end v bytes (claims_before v bytes c.loop-number.number) c.loop-number.number (omega arith)))
 
 pub returns-after-loop-number-clause-holds : goal.returns-after-loop-number-clause-holds
 returns-after-loop-number-clause-holds g c = λ bytes k.
     let v = c.args.geometry.now.layout in
     let inv = c.loop-number.invariant in
     claims_hold v bytes c.args.workspace.now c.loop-number.workspace k.1 inv.claims
-    (reporting_ends _ _ _ _ (inv.told bytes k) (kept_end v bytes (claims_before v bytes c.loop-number.number) c.loop-number.number (omega arith)))
+    (reporting_ends _ _ _ _ (inv.reported bytes k) (kept_end v bytes (claims_before v bytes c.loop-number.number) c.loop-number.number (omega arith)))
 
 pub returns-after-loop-number-clause-runs : goal.returns-after-loop-number-clause-runs
 returns-after-loop-number-clause-runs g c = λ bytes k.

@@ -2,7 +2,7 @@ use Rattle.std.proofs.Common.{◌≡◌, ◌+◌, ◌<◌, ◌≤◌, ◌∷◌}
 use Rattle.ffs_report.specs.Progress.{progress}
 use Rattle.ffs_phase.specs.Known.{ForBytes, IsContents}
 use Rattle.ffs_phase.specs.Runs.{SaidOf}
-use Rattle.ffs_volume.specs.Blocks.BlockCheck.{first_offers, owners_kept, phase1b_lines}
+use Rattle.ffs_volume.specs.Blocks.BlockCheck.{first_offer_lines, kept_in_owners, phase1b_lines}
 use Rattle.ffs_volume.specs.Blocks.Claims.{no_claims}
 use Rattle.ffs_volume.specs.Blocks.KeptSteps.{claims_before}
 use Rattle.ffs_volume.specs.Messages.Kinds.{phase1b}
@@ -29,11 +29,11 @@ invariant-loop-number g l = record {
   count : ForBytes (λ bytes. IsContents (g.I.Image.device l.fn.image).contents bytes × HoldsPhase1 l.geometry.layout bytes l.fn.workspace) (λ bytes.
       l.workspace.runs_again + looked_at (bits_of l.workspace.duplicates) (owners_runs l.geometry.layout (claims_before l.geometry.layout bytes l.number) (owners_from l.geometry.layout bytes l.number))
       ≡ second_look l.geometry.layout bytes);
-  told : ForBytes (λ bytes. IsContents (g.I.Image.device l.fn.image).contents bytes × HoldsPhase1 l.geometry.layout bytes l.fn.workspace) (λ bytes.
-      Reporting (owners_kept l.geometry.layout (claims_before l.geometry.layout bytes l.number) (owners_from l.geometry.layout bytes l.number))
-      (owners_kept l.geometry.layout (no_claims l.geometry.layout) (owners_of l.geometry.layout bytes)) l.fn.workspace l.workspace);
+  reported : ForBytes (λ bytes. IsContents (g.I.Image.device l.fn.image).contents bytes × HoldsPhase1 l.geometry.layout bytes l.fn.workspace) (λ bytes.
+      Reporting (kept_in_owners l.geometry.layout (claims_before l.geometry.layout bytes l.number) (owners_from l.geometry.layout bytes l.number))
+      (kept_in_owners l.geometry.layout (no_claims l.geometry.layout) (owners_of l.geometry.layout bytes)) l.fn.workspace l.workspace);
   said : SaidOf (λ bytes. IsContents (g.I.Image.device l.fn.image).contents bytes × HoldsPhase1 l.geometry.layout bytes l.fn.workspace)
-      (λ bytes. of_lines (first_offers (bits_of l.workspace.duplicates) (owners_kept l.geometry.layout (claims_before l.geometry.layout bytes l.number) (owners_from l.geometry.layout bytes l.number))))
+      (λ bytes. of_lines (first_offer_lines (bits_of l.workspace.duplicates) (kept_in_owners l.geometry.layout (claims_before l.geometry.layout bytes l.number) (owners_from l.geometry.layout bytes l.number))))
       (λ bytes. phase1b ∷ of_lines (phase1b_lines l.geometry.layout (owners_of l.geometry.layout bytes)))
       (progress g.W.Output.sink l.fn.report) (progress g.W.Output.sink l.report);
 }

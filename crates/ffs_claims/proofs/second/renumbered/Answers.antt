@@ -2,7 +2,7 @@ use Rattle.std.proofs.Common.{◌≡◌, arith, refl, ap, subst, ◌∙◌, List
 use Rattle.std.specs.Prelude.{slice_index}
 use Rattle.std.proofs.lemmas.Result.{err_from_is_err_and}
 use Rattle.ffs_volume.specs.declared.Inode.{Inode}
-use Rattle.ffs_volume.specs.Blocks.BlockCheck.{Offer, first_offers}
+use Rattle.ffs_volume.specs.Blocks.BlockCheck.{Offer, first_offer_lines}
 use Rattle.ffs_volume.specs.Blocks.Inodes.{inode_of}
 use Rattle.ffs_volume.specs.Blocks.Steps.{steps_of}
 use Rattle.ffs_maps.specs.Bits.{bits_of}
@@ -18,7 +18,7 @@ use Rattle.ffs_claims.proofs.second.renumbered.Goals as goal
 pub returns-in_err-inode-clause-text : goal.returns-in_err-inode-clause-text
 returns-in_err-inode-clause-text g c =
     let p = err_from_is_err_and c.from_residual.result c.from_residual.ensures.1 in
-    rw (p.1, p.2) (of_reads _ _ _ _ _ (of_begins _ (λ bytes. of_lines (first_offers (bits_of c.args.workspace.now.duplicates) (offers_again c.args.geometry.now.layout c.args.number (rescan (slice_index c.args.workspace.now.cut.items c.args.number)) (steps_of c.args.geometry.now.layout (inode_of c.args.geometry.now.layout bytes c.args.number) bytes)))) _))
+    rw (p.1, p.2) (of_reads _ _ _ _ _ (of_begins _ (λ bytes. of_lines (first_offer_lines (bits_of c.args.workspace.now.duplicates) (offers_again c.args.geometry.now.layout c.args.number (rescan (slice_index c.args.workspace.now.cut.items c.args.number)) (steps_of c.args.geometry.now.layout (inode_of c.args.geometry.now.layout bytes c.args.number) bytes)))) _))
 
 pub returns-in_err-inode-clause-runs : goal.returns-in_err-inode-clause-runs
 returns-in_err-inode-clause-runs g c = λ bytes t. omega arith
@@ -28,14 +28,14 @@ returns-clause-text g c =
     let v = c.args.geometry.now.layout in
     let n = c.args.number in
     let d = bits_of c.args.workspace.now.duplicates in
-    reports_same (Unit {0}) _ (λ bytes. of_lines (first_offers d (offers_again v n (rescan c.cut_of-cut.result) (steps_of v c.in_ok-inode.inode bytes))))
-    (λ bytes. of_lines (first_offers d (offers_again v n (rescan (slice_index c.args.workspace.now.cut.items n)) (steps_of v (inode_of v bytes n) bytes)))) _ _ c.rewalk.result
-    (λ bytes t. ap (λ (k : ℕ). of_lines (first_offers d (offers_again v n (rescan k) (steps_of v c.in_ok-inode.inode bytes)))) c.cut_of-cut.ensures
-    ∙ ap (λ (i : Inode). of_lines (first_offers d (offers_again v n (rescan (slice_index c.args.workspace.now.cut.items n)) (steps_of v i bytes)))) (c.in_ok-inode.ensures.inode bytes t))
+    reports_same (Unit {0}) _ (λ bytes. of_lines (first_offer_lines d (offers_again v n (rescan c.cut_of-cut.result) (steps_of v c.in_ok-inode.inode bytes))))
+    (λ bytes. of_lines (first_offer_lines d (offers_again v n (rescan (slice_index c.args.workspace.now.cut.items n)) (steps_of v (inode_of v bytes n) bytes)))) _ _ c.rewalk.result
+    (λ bytes t. ap (λ (k : ℕ). of_lines (first_offer_lines d (offers_again v n (rescan k) (steps_of v c.in_ok-inode.inode bytes)))) c.cut_of-cut.ensures
+    ∙ ap (λ (i : Inode). of_lines (first_offer_lines d (offers_again v n (rescan (slice_index c.args.workspace.now.cut.items n)) (steps_of v i bytes)))) (c.in_ok-inode.ensures.inode bytes t))
     (reports_knowing (Unit {0}) _ _ _ _ _ c.rewalk.result (λ bytes t. ap (λ d. d.contents) c.in_ok-inode.ensures.ok ∙ t) c.rewalk.ensures.text)
 
-pub returns-clause-told : goal.returns-clause-told
-returns-clause-told g c =
+pub returns-clause-reported : goal.returns-clause-reported
+returns-clause-reported g c =
     let v = c.args.geometry.now.layout in
     let n = c.args.number in
     ok_where c.rewalk.result _ _
@@ -48,7 +48,7 @@ returns-clause-told g c =
     ∙ ap (λ (i : Inode). offers_again v n (rescan (slice_index c.args.workspace.now.cut.items n)) (steps_of v i bytes)) (c.in_ok-inode.ensures.inode bytes t) in
     subst (λ (os : List Offer). OffersReported os c.args.workspace.now c.rewalk.new.workspace) same
     (reported_from (offers_again v n (rescan c.cut_of-cut.result) (steps_of v c.in_ok-inode.inode bytes)) c.args.workspace.now (record c.args.workspace.now { windows = record c.args.workspace.now.windows { table = c.inode.new.self } }) c.rewalk.new.workspace h refl refl))
-    c.rewalk.ensures.told
+    c.rewalk.ensures.reported
 
 pub returns-clause-runs : goal.returns-clause-runs
 returns-clause-runs g c = λ bytes t.

@@ -1,6 +1,6 @@
 use Rattle.std.proofs.Common.{◌≡◌, ◌+◌, ◌∷◌, ◌++◌, replicate, [], arith, refl, ap, ◌∙◌, sym, List, ℕ}
 use Rattle.std.proofs.lemmas.Result.{err_from_is_err_and}
-use Rattle.ffs_volume.specs.Blocks.BlockCheck.{Offer, first_offers}
+use Rattle.ffs_volume.specs.Blocks.BlockCheck.{Offer, first_offer_lines}
 use Rattle.ffs_volume.specs.Blocks.Steps.{steps_of}
 use Rattle.ffs_maps.specs.Bits.{bits_of}
 use Rattle.ffs_walk.specs.Rests.{rest}
@@ -35,7 +35,7 @@ loop-next-init g c =
       device = refl;
       windows = c.requires.windows;
       claims = record { claimed = refl; kinds = refl; cut = refl; seen = refl };
-      told = λ bytes t. reporting_same _ _ _ _ _ (reporting_begins (offers_again v n (rescan c.args.cut) (steps_of v c.args.inode.now bytes)) w) (same bytes);
+      reported = λ bytes t. reporting_same _ _ _ _ _ (reporting_begins (offers_again v n (rescan c.args.cut) (steps_of v c.args.inode.now bytes)) w) (same bytes);
       runs = λ bytes t.
           let runs : runs_again v c.start-rescan.result (rest bytes c.start-walk.result) ≡ runs_again v (rescan c.args.cut) (steps_of v c.args.inode.now bytes) =
           ap (runs_again v c.start-rescan.result) (c.start-walk.ensures.steps bytes) ∙ ap (λ (x : Rescan). runs_again v x (steps_of v c.args.inode.now bytes)) begun in
@@ -45,8 +45,8 @@ loop-next-init g c =
           let looks : steps_runs_again v n c.start-rescan.result (rest bytes c.start-walk.result) ≡ steps_runs_again v n (rescan c.args.cut) (steps_of v c.args.inode.now bytes) =
           ap (steps_runs_again v n c.start-rescan.result) (c.start-walk.ensures.steps bytes) ∙ ap (λ (x : Rescan). steps_runs_again v n x (steps_of v c.args.inode.now bytes)) begun in
           ap (λ (k : List (List Offer)). w.runs_again + looked_at (bits_of w.duplicates) k) looks;
-      said = of_same _ _ _ _ _ _ (of_begins _ (λ bytes. of_lines (first_offers (bits_of w.duplicates) (offers_again v n (rescan c.args.cut) (steps_of v c.args.inode.now bytes)))) _)
-          (λ bytes t. ap (λ (os : List Offer). of_lines (first_offers (bits_of w.duplicates) os)) (same bytes));
+      said = of_same _ _ _ _ _ _ (of_begins _ (λ bytes. of_lines (first_offer_lines (bits_of w.duplicates) (offers_again v n (rescan c.args.cut) (steps_of v c.args.inode.now bytes)))) _)
+          (λ bytes t. ap (λ (os : List Offer). of_lines (first_offer_lines (bits_of w.duplicates) os)) (same bytes));
     }
 
 pub returns-in_err-next-clause-text : goal.returns-in_err-next-clause-text
@@ -68,8 +68,8 @@ returns-in_err-report_again-clause-text g c =
     let step = c.in-Some.next in
     let next : ForBytes (IsContents (g.I.Image.device c.args.image.now).contents) (λ bytes. rest bytes c.loop-next.walk ≡ c.in-Some.next ∷ rest bytes c.next.new.self) =
     rw (inv.device, c.in-Some.is) at c.in_ok-next.ensures.steps in
-    rw (p.1, p.2) (of_stops _ _ (λ bytes. of_lines (first_offers (after_first d (step_offers_again v n r step)) (offers_again v n (again v r step) (rest bytes c.next.new.self)))) _
-    (of_lines (first_offers d (step_offers_again v n r step))) _ _ _ inv.said
+    rw (p.1, p.2) (of_stops _ _ (λ bytes. of_lines (first_offer_lines (after_first d (step_offers_again v n r step)) (offers_again v n (again v r step) (rest bytes c.next.new.self)))) _
+    (of_lines (first_offer_lines d (step_offers_again v n r step))) _ _ _ inv.said
     (λ bytes t. lines_step v n r (again v r step) step (rest bytes c.loop-next.walk) (rest bytes c.next.new.self) d (after_first d (step_offers_again v n r step)) (next bytes t) refl refl)
     c.in_err-report_again.ensures.said)
 
@@ -118,8 +118,8 @@ loop-next-preserved g c =
         chunk = rw c.report_again.ensures.windows inv.windows.chunk;
       };
       claims = record { claimed = c.report_again.ensures.claims.claimed ∙ inv.claims.claimed; kinds = c.report_again.ensures.claims.kinds ∙ inv.claims.kinds; cut = c.report_again.ensures.claims.cut ∙ inv.claims.cut; seen = c.report_again.ensures.claims.seen ∙ inv.claims.seen };
-      told = λ bytes t. reporting_same _ _ _ _ _ (reporting_on v n r r' step (rest bytes c.loop-next.walk) (rest bytes c.next.new.self) _ _ c.loop-next.workspace c.report_again.new.workspace
-          (next bytes t) now (inv.told bytes t) (reported_from _ c.loop-next.workspace _ c.report_again.new.workspace c.in_ok-report_again.ensures.told refl refl)) (offers bytes t);
+      reported = λ bytes t. reporting_same _ _ _ _ _ (reporting_on v n r r' step (rest bytes c.loop-next.walk) (rest bytes c.next.new.self) _ _ c.loop-next.workspace c.report_again.new.workspace
+          (next bytes t) now (inv.reported bytes t) (reported_from _ c.loop-next.workspace _ c.report_again.new.workspace c.in_ok-report_again.ensures.reported refl refl)) (offers bytes t);
       runs = λ bytes t. omega (
         arith,
         inv.runs bytes t,
@@ -129,14 +129,14 @@ loop-next-preserved g c =
       );
       pending = c.is_reported.ensures.some c.if-is_reported.false;
       count = λ bytes t h.
-          let on = looked_next v n r r' step (rest bytes c.loop-next.walk) (rest bytes c.next.new.self) d d' (next bytes t) now inv.going (λ e. inv.pending (inv.made.unreported ∙ e)) c.in_ok-report_again.ensures.told.dup in
+          let on = looked_next v n r r' step (rest bytes c.loop-next.walk) (rest bytes c.next.new.self) d d' (next bytes t) now inv.going (λ e. inv.pending (inv.made.unreported ∙ e)) c.in_ok-report_again.ensures.reported.dup in
           let over = ap (looked_at d') (ap (steps_runs_again v n r') (gaps bytes t) ∙ gaps_looked v n r' c.skip_gaps.result (rest bytes c.skip_gaps.new.self)) in
           omega (arith, h, inv.count bytes t h, on, over, c.report_again.ensures.count);
-      said = of_same _ _ _ _ _ _ (of_says _ _ (λ bytes. of_lines (first_offers d' (offers_again v n r' (rest bytes c.next.new.self)))) _
-          (of_lines (first_offers d (step_offers_again v n r step))) _ _ _ inv.said
-          (λ bytes t. lines_step v n r r' step (rest bytes c.loop-next.walk) (rest bytes c.next.new.self) d d' (next bytes t) now c.in_ok-report_again.ensures.told.dup)
+      said = of_same _ _ _ _ _ _ (of_says _ _ (λ bytes. of_lines (first_offer_lines d' (offers_again v n r' (rest bytes c.next.new.self)))) _
+          (of_lines (first_offer_lines d (step_offers_again v n r step))) _ _ _ inv.said
+          (λ bytes t. lines_step v n r r' step (rest bytes c.loop-next.walk) (rest bytes c.next.new.self) d d' (next bytes t) now c.in_ok-report_again.ensures.reported.dup)
           c.in_ok-report_again.ensures.said)
-          (λ bytes t. ap (λ (os : List Offer). of_lines (first_offers d' os)) (offers bytes t));
+          (λ bytes t. ap (λ (os : List Offer). of_lines (first_offer_lines d' os)) (offers bytes t));
     }
 
 pub returns-then-not-is_going-clause-text : goal.returns-then-not-is_going-clause-text
@@ -152,14 +152,14 @@ returns-then-not-is_going-clause-text g c =
     let next : ForBytes (IsContents (g.I.Image.device c.args.image.now).contents) (λ bytes. rest bytes c.loop-next.walk ≡ c.in-Some.next ∷ rest bytes c.next.new.self) =
     rw (inv.device, c.in-Some.is) at c.in_ok-next.ensures.steps in
     of_same _ _ _ _ _ _
-    (of_says _ _ (λ bytes. of_lines (first_offers d' (offers_again v n r' (rest bytes c.next.new.self)))) _
-    (of_lines (first_offers d (step_offers_again v n r step))) _ _ _ inv.said
-    (λ bytes t. lines_step v n r r' step (rest bytes c.loop-next.walk) (rest bytes c.next.new.self) d d' (next bytes t) c.in_ok-report_again.ensures.again c.in_ok-report_again.ensures.told.dup)
+    (of_says _ _ (λ bytes. of_lines (first_offer_lines d' (offers_again v n r' (rest bytes c.next.new.self)))) _
+    (of_lines (first_offer_lines d (step_offers_again v n r step))) _ _ _ inv.said
+    (λ bytes t. lines_step v n r r' step (rest bytes c.loop-next.walk) (rest bytes c.next.new.self) d d' (next bytes t) c.in_ok-report_again.ensures.again c.in_ok-report_again.ensures.reported.dup)
     c.in_ok-report_again.ensures.said)
-    (λ bytes t. ap (λ (os : List Offer). of_lines (first_offers d' os)) (offers_stopped v n r' (rest bytes c.next.new.self) (sym c.is_going.ensures ∙ c.if-not-is_going.true)))
+    (λ bytes t. ap (λ (os : List Offer). of_lines (first_offer_lines d' os)) (offers_stopped v n r' (rest bytes c.next.new.self) (sym c.is_going.ensures ∙ c.if-not-is_going.true)))
 
-pub returns-then-not-is_going-clause-told : goal.returns-then-not-is_going-clause-told
-returns-then-not-is_going-clause-told g c =
+pub returns-then-not-is_going-clause-reported : goal.returns-then-not-is_going-clause-reported
+returns-then-not-is_going-clause-reported g c =
     let inv = c.loop-next.invariant in
     let v = c.args.geometry.now.layout in
     let n = c.args.number in
@@ -170,7 +170,7 @@ returns-then-not-is_going-clause-told g c =
     rw (inv.device, c.in-Some.is) at c.in_ok-next.ensures.steps in
     λ bytes t. reporting_ends _ _ _ _
     (reporting_on v n r r' step (rest bytes c.loop-next.walk) (rest bytes c.next.new.self) _ _ c.loop-next.workspace c.report_again.new.workspace
-    (next bytes t) c.in_ok-report_again.ensures.again (inv.told bytes t) (reported_from _ c.loop-next.workspace _ c.report_again.new.workspace c.in_ok-report_again.ensures.told refl refl))
+    (next bytes t) c.in_ok-report_again.ensures.again (inv.reported bytes t) (reported_from _ c.loop-next.workspace _ c.report_again.new.workspace c.in_ok-report_again.ensures.reported refl refl))
     (offers_stopped v n r' (rest bytes c.next.new.self) (sym c.is_going.ensures ∙ c.if-not-is_going.true))
 
 pub returns-then-not-is_going-clause-runs : goal.returns-then-not-is_going-clause-runs
@@ -197,14 +197,14 @@ returns-then-is_reported-clause-text g c =
     let next : ForBytes (IsContents (g.I.Image.device c.args.image.now).contents) (λ bytes. rest bytes c.loop-next.walk ≡ c.in-Some.next ∷ rest bytes c.next.new.self) =
     rw (inv.device, c.in-Some.is) at c.in_ok-next.ensures.steps in
     of_same _ _ _ _ _ _
-    (of_says _ _ (λ bytes. of_lines (first_offers d' (offers_again v n r' (rest bytes c.next.new.self)))) _
-    (of_lines (first_offers d (step_offers_again v n r step))) _ _ _ inv.said
-    (λ bytes t. lines_step v n r r' step (rest bytes c.loop-next.walk) (rest bytes c.next.new.self) d d' (next bytes t) c.in_ok-report_again.ensures.again c.in_ok-report_again.ensures.told.dup)
+    (of_says _ _ (λ bytes. of_lines (first_offer_lines d' (offers_again v n r' (rest bytes c.next.new.self)))) _
+    (of_lines (first_offer_lines d (step_offers_again v n r step))) _ _ _ inv.said
+    (λ bytes t. lines_step v n r r' step (rest bytes c.loop-next.walk) (rest bytes c.next.new.self) d d' (next bytes t) c.in_ok-report_again.ensures.again c.in_ok-report_again.ensures.reported.dup)
     c.in_ok-report_again.ensures.said)
     (λ bytes t. lines_over d' (offers_again v n r' (rest bytes c.next.new.self)) none)
 
-pub returns-then-is_reported-clause-told : goal.returns-then-is_reported-clause-told
-returns-then-is_reported-clause-told g c =
+pub returns-then-is_reported-clause-reported : goal.returns-then-is_reported-clause-reported
+returns-then-is_reported-clause-reported g c =
     let inv = c.loop-next.invariant in
     let v = c.args.geometry.now.layout in
     let n = c.args.number in
@@ -216,7 +216,7 @@ returns-then-is_reported-clause-told g c =
     rw (inv.device, c.in-Some.is) at c.in_ok-next.ensures.steps in
     λ bytes t. reporting_over _ _ _ _ none
     (reporting_on v n r r' step (rest bytes c.loop-next.walk) (rest bytes c.next.new.self) _ _ c.loop-next.workspace c.report_again.new.workspace
-    (next bytes t) c.in_ok-report_again.ensures.again (inv.told bytes t) (reported_from _ c.loop-next.workspace _ c.report_again.new.workspace c.in_ok-report_again.ensures.told refl refl))
+    (next bytes t) c.in_ok-report_again.ensures.again (inv.reported bytes t) (reported_from _ c.loop-next.workspace _ c.report_again.new.workspace c.in_ok-report_again.ensures.reported refl refl))
 
 pub returns-then-is_reported-clause-runs : goal.returns-then-is_reported-clause-runs
 returns-then-is_reported-clause-runs g c =
@@ -234,14 +234,14 @@ returns-in_default-clause-text g c =
     let over : ForBytes (IsContents (g.I.Image.device c.args.image.now).contents) (λ bytes. rest bytes c.loop-next.walk ≡ []) =
     rw (inv.device, c.in_default.is) at c.in_ok-next.ensures.steps in
     of_same _ _ _ _ _ _ inv.said
-    (λ bytes t. ap (λ (os : List Offer). of_lines (first_offers (bits_of c.loop-next.workspace.duplicates) os)) (offers_none c.args.geometry.now.layout c.args.number c.loop-next.rescan (rest bytes c.loop-next.walk) (over bytes t)))
+    (λ bytes t. ap (λ (os : List Offer). of_lines (first_offer_lines (bits_of c.loop-next.workspace.duplicates) os)) (offers_none c.args.geometry.now.layout c.args.number c.loop-next.rescan (rest bytes c.loop-next.walk) (over bytes t)))
 
-pub returns-in_default-clause-told : goal.returns-in_default-clause-told
-returns-in_default-clause-told g c =
+pub returns-in_default-clause-reported : goal.returns-in_default-clause-reported
+returns-in_default-clause-reported g c =
     let inv = c.loop-next.invariant in
     let over : ForBytes (IsContents (g.I.Image.device c.args.image.now).contents) (λ bytes. rest bytes c.loop-next.walk ≡ []) =
     rw (inv.device, c.in_default.is) at c.in_ok-next.ensures.steps in
-    λ bytes t. reported_to _ _ c.loop-next.workspace _ (reporting_ends _ _ _ _ (inv.told bytes t) (offers_none c.args.geometry.now.layout c.args.number c.loop-next.rescan (rest bytes c.loop-next.walk) (over bytes t))) refl refl
+    λ bytes t. reported_to _ _ c.loop-next.workspace _ (reporting_ends _ _ _ _ (inv.reported bytes t) (offers_none c.args.geometry.now.layout c.args.number c.loop-next.rescan (rest bytes c.loop-next.walk) (over bytes t))) refl refl
 
 pub returns-in_default-clause-runs : goal.returns-in_default-clause-runs
 returns-in_default-clause-runs g c = λ bytes t. omega (arith, c.loop-next.invariant.runs bytes t)
@@ -294,7 +294,7 @@ returns-then-not-is_going-clause-count g c = λ bytes t h.
     let step = c.in-Some.next in
     let next : ForBytes (IsContents (g.I.Image.device c.args.image.now).contents) (λ bytes. rest bytes c.loop-next.walk ≡ c.in-Some.next ∷ rest bytes c.next.new.self) =
     rw (inv.device, c.in-Some.is) at c.in_ok-next.ensures.steps in
-    let on = looked_next v n r r' step (rest bytes c.loop-next.walk) (rest bytes c.next.new.self) d d' (next bytes t) c.in_ok-report_again.ensures.again inv.going (λ e. inv.pending (inv.made.unreported ∙ e)) c.in_ok-report_again.ensures.told.dup in
+    let on = looked_next v n r r' step (rest bytes c.loop-next.walk) (rest bytes c.next.new.self) d d' (next bytes t) c.in_ok-report_again.ensures.again inv.going (λ e. inv.pending (inv.made.unreported ∙ e)) c.in_ok-report_again.ensures.reported.dup in
     let over = looked_stopped v n r' (rest bytes c.next.new.self) d' (sym c.is_going.ensures ∙ c.if-not-is_going.true) in
     omega (arith, h, inv.count bytes t h, on, over, c.report_again.ensures.count)
 
@@ -310,7 +310,7 @@ returns-then-is_reported-clause-count g c = λ bytes t h.
     let step = c.in-Some.next in
     let next : ForBytes (IsContents (g.I.Image.device c.args.image.now).contents) (λ bytes. rest bytes c.loop-next.walk ≡ c.in-Some.next ∷ rest bytes c.next.new.self) =
     rw (inv.device, c.in-Some.is) at c.in_ok-next.ensures.steps in
-    let on = looked_next v n r r' step (rest bytes c.loop-next.walk) (rest bytes c.next.new.self) d d' (next bytes t) c.in_ok-report_again.ensures.again inv.going (λ e. inv.pending (inv.made.unreported ∙ e)) c.in_ok-report_again.ensures.told.dup in
+    let on = looked_next v n r r' step (rest bytes c.loop-next.walk) (rest bytes c.next.new.self) d d' (next bytes t) c.in_ok-report_again.ensures.again inv.going (λ e. inv.pending (inv.made.unreported ∙ e)) c.in_ok-report_again.ensures.reported.dup in
     let none : set_count (bits_of c.report_again.new.workspace.duplicates) ≡ 0 = sym c.report_again.ensures.made.unreported ∙ c.is_reported.ensures.none c.if-is_reported.true in
     let over = looked_none d' (steps_runs_again v n r' (rest bytes c.next.new.self)) none in
     omega (arith, h, inv.count bytes t h, on, over, c.report_again.ensures.count)

@@ -1,5 +1,5 @@
 use Rattle.std.proofs.Common.{◌≡◌, ◌≢◌, ◌+◌, ◌<◌, ◌≤◌, ◌^◌, true}
-use Rattle.ffs_volume.specs.Blocks.BlockCheck.{first_offers}
+use Rattle.ffs_volume.specs.Blocks.BlockCheck.{first_offer_lines}
 use Rattle.ffs_volume.specs.Blocks.Steps.{steps_of}
 use Rattle.ffs_report.specs.Progress.{progress}
 use Rattle.ffs_phase.specs.Known.{ForBytes, IsContents}
@@ -22,7 +22,7 @@ invariant-loop-next g l = record {
   device : g.I.Image.device l.image ≡ g.I.Image.device l.initial.image;
   windows : HoldWindows l.geometry.layout (g.I.Image.device l.initial.image).contents l.workspace;
   claims : SameClaims l.initial.workspace l.workspace;
-  told : ForBytes (IsContents (g.I.Image.device l.initial.image).contents) (λ bytes.
+  reported : ForBytes (IsContents (g.I.Image.device l.initial.image).contents) (λ bytes.
       Reporting (offers_again l.geometry.layout l.number l.rescan (rest bytes l.walk)) (offers_again l.geometry.layout l.number (rescan l.cut) (steps_of l.geometry.layout l.inode bytes)) l.initial.workspace l.workspace);
   runs : ForBytes (IsContents (g.I.Image.device l.initial.image).contents) (λ bytes.
       l.workspace.runs_again + runs_again l.geometry.layout l.rescan (rest bytes l.walk) ≤ l.initial.workspace.runs_again + runs_again l.geometry.layout (rescan l.cut) (steps_of l.geometry.layout l.inode bytes));
@@ -32,8 +32,8 @@ invariant-loop-next g l = record {
       → l.workspace.runs_again + looked_at (bits_of l.workspace.duplicates) (steps_runs_again l.geometry.layout l.number l.rescan (rest bytes l.walk))
       ≡ l.initial.workspace.runs_again + looked_at (bits_of l.initial.workspace.duplicates) (steps_runs_again l.geometry.layout l.number (rescan l.cut) (steps_of l.geometry.layout l.inode bytes)));
   said : SaidOf (IsContents (g.I.Image.device l.initial.image).contents)
-      (λ bytes. of_lines (first_offers (bits_of l.workspace.duplicates) (offers_again l.geometry.layout l.number l.rescan (rest bytes l.walk))))
-      (λ bytes. of_lines (first_offers (bits_of l.initial.workspace.duplicates) (offers_again l.geometry.layout l.number (rescan l.cut) (steps_of l.geometry.layout l.inode bytes))))
+      (λ bytes. of_lines (first_offer_lines (bits_of l.workspace.duplicates) (offers_again l.geometry.layout l.number l.rescan (rest bytes l.walk))))
+      (λ bytes. of_lines (first_offer_lines (bits_of l.initial.workspace.duplicates) (offers_again l.geometry.layout l.number (rescan l.cut) (steps_of l.geometry.layout l.inode bytes))))
       (progress g.W.Output.sink l.initial.report) (progress g.W.Output.sink l.report);
 }
 

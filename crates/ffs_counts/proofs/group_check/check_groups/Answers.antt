@@ -41,7 +41,7 @@ loop-group-preserved g c =
       totals = totals_next c.args.superblock.now.geometry.layout (free_in (bits_of c.args.used.now) c.args.superblock.now.geometry.layout.size) (class_in c.args.kinds.now) c.loop-group.group c.loop-group.so_far.totals c.check_group.new.so_far.totals inv.totals c.check_group.ensures.added;
       said = of_part _ (λ bytes. rest_lines c.args.superblock.now.geometry.layout bytes c.args.superblock.now.cstotal (free_in (bits_of c.args.used.now) c.args.superblock.now.geometry.layout.size) (class_in c.args.kinds.now) (reported_of c.loop-group.so_far.once) c.loop-group.group (c.args.superblock.now.geometry.layout.ncg - c.loop-group.group)) (λ bytes. map of_blocks (reported_once (reported_of c.loop-group.so_far.once) (group_lines c.args.superblock.now.geometry.layout bytes (free_in (bits_of c.args.used.now) c.args.superblock.now.geometry.layout.size) (class_in c.args.kinds.now) c.loop-group.group))) (λ bytes. rest_lines c.args.superblock.now.geometry.layout bytes c.args.superblock.now.cstotal (free_in (bits_of c.args.used.now) c.args.superblock.now.geometry.layout.size) (class_in c.args.kinds.now) (reported_of c.check_group.new.so_far.once) (c.loop-group.group + 1) (c.args.superblock.now.geometry.layout.ncg - (c.loop-group.group + 1))) _ _ _ _ inv.said
           (λ bytes k. groups_go_on c.args.superblock.now.geometry.layout bytes c.args.superblock.now.cstotal (free_in (bits_of c.args.used.now) c.args.superblock.now.geometry.layout.size) (class_in c.args.kinds.now) (reported_of c.loop-group.so_far.once) (reported_of c.check_group.new.so_far.once) c.loop-group.group (c.args.superblock.now.geometry.layout.ncg - c.loop-group.group) (c.args.superblock.now.geometry.layout.ncg - (c.loop-group.group + 1)) (omega (arith, c.loop-group-test.true))
-          (c.in_ok-check_group.ensures.told bytes (ap (λ d. d.contents) inv.device ∙ k)))
+          (c.in_ok-check_group.ensures.reported bytes (ap (λ d. d.contents) inv.device ∙ k)))
           (said_knows _ _ _ (λ bytes. map of_blocks (reported_once (reported_of c.loop-group.so_far.once) (group_lines c.args.superblock.now.geometry.layout bytes (free_in (bits_of c.args.used.now) c.args.superblock.now.geometry.layout.size) (class_in c.args.kinds.now) c.loop-group.group))) _ _ (λ bytes k. ap (λ d. d.contents) inv.device ∙ k) c.in_ok-check_group.ensures.text);
     }
 

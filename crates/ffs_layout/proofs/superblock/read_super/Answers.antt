@@ -19,7 +19,7 @@ returns-in_default-order_of_magic-clause-answer g c =
     inr (
       c.in_default.ensures.ok,
       λ b e.
-          sym (magic _ _ _ _ (reported_length _ _ (g.met.I.Image.sized c.args.image.now)) c.first_sector-start.ensures.value _ c.in_default.ensures.inside c.in_default.ensures.told (sym c.in_default-order_of_magic.ensures) b e),
+          sym (magic _ _ _ _ (reported_length _ _ (g.met.I.Image.sized c.args.image.now)) c.first_sector-start.ensures.value _ c.in_default.ensures.inside c.in_default.ensures.reported (sym c.in_default-order_of_magic.ensures) b e),
     )
 
 pub returns-in-Err-new-clause-answer : goal.returns-in-Err-new-clause-answer
@@ -28,7 +28,7 @@ returns-in-Err-new-clause-answer g c =
     inr (
       c.in_default.ensures.ok,
       λ b e.
-          sym (fault _ _ _ _ (reported_length _ _ (g.met.I.Image.sized c.args.image.now)) c.first_sector-start.ensures.value _ c.in_default.ensures.inside c.in_default.ensures.told _ (sym c.in-Some.ensures) _ refused b e),
+          sym (fault _ _ _ _ (reported_length _ _ (g.met.I.Image.sized c.args.image.now)) c.first_sector-start.ensures.value _ c.in_default.ensures.inside c.in_default.ensures.reported _ (sym c.in-Some.ensures) _ refused b e),
     )
 
 pub returns-in-Err-check_copy-clause-answer : goal.returns-in-Err-check_copy-clause-answer
@@ -42,14 +42,14 @@ returns-in-Err-check_copy-clause-answer g c =
         λ b e.
             inr (
               c.in-Err-check_copy.ensures.sector.0,
-              copy_sector _ _ c.args.sector _ (reported_length _ _ (g.met.I.Image.sized c.args.image.now)) c.first_sector-start.ensures.value _ c.in_default.ensures.inside c.in_default.ensures.told _ (sym c.in-Some.ensures)
+              copy_sector _ _ c.args.sector _ (reported_length _ _ (g.met.I.Image.sized c.args.image.now)) c.first_sector-start.ensures.value _ c.in_default.ensures.inside c.in_default.ensures.reported _ (sym c.in-Some.ensures)
                   c.in-Ok.geometry.layout (c.in-Ok.ensures.layout ∙ c.decode.ensures) _ (c.in-Err-check_copy.ensures.sector.1 _ failed.0) b e,
             ),
       )
       | inr differs ↦ inr (
         differs.0,
         λ b e.
-            sym (disagree _ _ _ _ (reported_length _ _ (g.met.I.Image.sized c.args.image.now)) c.first_sector-start.ensures.value _ c.in_default.ensures.inside c.in_default.ensures.told _ (sym c.in-Some.ensures) good differs.2 b e
+            sym (disagree _ _ _ _ (reported_length _ _ (g.met.I.Image.sized c.args.image.now)) c.first_sector-start.ensures.value _ c.in_default.ensures.inside c.in_default.ensures.reported _ (sym c.in-Some.ensures) good differs.2 b e
             ∙ ap Err (sym differs.1)),
       )
     ]
@@ -67,7 +67,7 @@ returns-clause-answer g c =
     inr (
       c.in_default-check_copy.ensures.ok ∙ calm,
       λ b e.
-          sym (accepted _ _ _ _ (reported_length _ _ (g.met.I.Image.sized c.args.image.now)) c.first_sector-start.ensures.value _ c.in_default.ensures.inside c.in_default.ensures.told _ (sym c.in-Some.ensures) good agrees b e
+          sym (accepted _ _ _ _ (reported_length _ _ (g.met.I.Image.sized c.args.image.now)) c.first_sector-start.ensures.value _ c.in_default.ensures.inside c.in_default.ensures.reported _ (sym c.in-Some.ensures) good agrees b e
           ∙ ap Ok (sym c.make_super.ensures.seen)),
     )
 

@@ -9,8 +9,8 @@ use Rattle.ffs_workspace.proofs.Leaving.{survey_left}
 use Rattle.ffs_paths.proofs.Keeping.{siblings_on}
 use Rattle.ffs_pathnames.proofs.check.begin_directory.Goals as goal
 
-pub report_starts-requires-clause-siblings : goal.report_starts-requires-clause-siblings
-report_starts-requires-clause-siblings g c =
+pub report_header-requires-clause-siblings : goal.report_header-requires-clause-siblings
+report_header-requires-clause-siblings g c =
     let examined = c.in_ok-examined.ensures in
     siblings_on _ _ _ _ _ _ (ap (λ d. d.contents) examined.ok) examined.lists.survey c.requires.siblings
 
@@ -19,11 +19,11 @@ returns-in_err-examined-clause-text g c =
     let p = err_from_is_err_and c.from_residual.result c.from_residual.ensures.1 in
     rw (p.1, p.2) (of_reads _ _ _ _ _ (of_begins _ _ _))
 
-pub returns-in_err-report_starts-clause-text : goal.returns-in_err-report_starts-clause-text
-returns-in_err-report_starts-clause-text g c =
-    let p = err_from_is_err_and c.from_residual-in_err-report_starts.result c.from_residual-in_err-report_starts.ensures.1 in
+pub returns-in_err-report_header-clause-text : goal.returns-in_err-report_header-clause-text
+returns-in_err-report_header-clause-text g c =
+    let p = err_from_is_err_and c.from_residual-in_err-report_header.result c.from_residual-in_err-report_header.ensures.1 in
     let v = c.args.geometry.now.layout in
-    rw (p.1, p.2) (fault_same (Unit {0}) DirectorySummary _ _ _ _ _ _ c.in_err-report_starts.field-0.0
+    rw (p.1, p.2) (fault_same (Unit {0}) DirectorySummary _ _ _ _ _ _ c.in_err-report_header.field-0.0
     (λ b k. (
       knows_on v _ _ c.args.workspace.now c.examine.new.workspace c.args.dir b (ap (λ d. d.contents) c.in_ok-examined.ensures.ok) c.in_ok-examined.ensures.lists.survey k,
       ap (λ i. i.size) (c.in_ok-examined.ensures.found b k.reported_is k.claims k.survey k.dir).inode,
@@ -32,7 +32,7 @@ returns-in_err-report_starts-clause-text g c =
     (c.in_ok-examined.ensures.found b k.reported_is k.claims k.survey k.dir)
     (c.parent_of-parent.ensures b (survey_left v b c.args.workspace.now c.examine.new.workspace c.in_ok-examined.ensures.lists.survey k.survey))
     c.first_two.ensures.first c.first_two.ensures.second))
-    c.in_err-report_starts.ensures.text)
+    c.in_err-report_header.ensures.text)
 
 pub returns-clause-text : goal.returns-clause-text
 returns-clause-text g c =
@@ -46,9 +46,9 @@ returns-clause-text g c =
     (c.in_ok-examined.ensures.found b k.reported_is k.claims k.survey k.dir)
     (c.parent_of-parent.ensures b (survey_left v b c.args.workspace.now c.examine.new.workspace c.in_ok-examined.ensures.lists.survey k.survey))
     c.first_two.ensures.first c.first_two.ensures.second))
-    c.in_ok-report_starts.ensures.text
+    c.in_ok-report_header.ensures.text
 
 pub returns-clause-begun : goal.returns-clause-begun
 returns-clause-begun g c = λ b k.
     begun_is c.args.geometry.now.layout b c.args.dir c.args.workspace.now c.examine.new.workspace _ c.in_ok-examined.examined c.examine.new.start
-    (c.in_ok-examined.ensures.found b k.reported_is k.claims k.survey k.dir) c.in_ok-examined.ensures.lists c.in_ok-report_starts.ensures.lists
+    (c.in_ok-examined.ensures.found b k.reported_is k.claims k.survey k.dir) c.in_ok-examined.ensures.lists c.in_ok-report_header.ensures.lists

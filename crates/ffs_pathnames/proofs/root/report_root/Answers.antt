@@ -1,7 +1,7 @@
 use Rattle.std.proofs.Common.{ap, sym, ◌∙◌, subst}
 use Rattle.std.proofs.lemmas.Bool.{ne_eqb}
 use Rattle.ffs_report.specs.Progress.{progress}
-use Rattle.ffs_volume.specs.Messages.Kinds.{told, root_suspect}
+use Rattle.ffs_volume.specs.Messages.Kinds.{reported, root_suspect}
 use Rattle.ffs_pathnames.specs.SaysNames.{SaysNames}
 use Rattle.ffs_pathnames.proofs.RootLaws.{root_absent, root_other, root_dir}
 use Rattle.ffs_pathnames.proofs.root.report_root.Goals as goal
@@ -14,7 +14,7 @@ returns-then-kind-eq0 g c =
 pub returns-then-is_dir : goal.returns-then-is_dir
 returns-then-is_dir g c =
     subst (λ ms. SaysNames (progress g.W.Output.sink c.args.report.now) (progress g.W.Output.sink c.say_check.new.report) ms c.say_check.result)
-    (ap (λ b. told b root_suspect) c.is_suspect.ensures
+    (ap (λ b. reported b root_suspect) c.is_suspect.ensures
     ∙ root_dir c.args.kind c.args.marked (ne_eqb c.args.kind 0 c.if-kind-eq0.false) (sym c.is_dir.ensures ∙ c.if-is_dir.true))
     c.say_check.ensures
 

@@ -8,14 +8,14 @@ use Rattle.ffs_pathnames.proofs.tell.verdict_of.Goals as goal
 pub returns-clause-linked : goal.returns-clause-linked
 returns-clause-linked c = λ b h r q.
     let e = c.view-inodes.ensures in
-    c.judge.ensures.linked (volume_of c.args.geometry.now.layout b)
+    c.entry_verdict.ensures.linked (volume_of c.args.geometry.now.layout b)
     (sees c.args.geometry.now.layout b c.args.workspace.now c.view-inodes.result (record { kinds = e.kinds; marked = e.marked; parents = e.parents; count = e.count }) h r) q
 
-pub returns-clause-told : goal.returns-clause-told
-returns-clause-told c = λ b h r.
+pub returns-clause-reported : goal.returns-clause-reported
+returns-clause-reported c = λ b h r.
     let v = c.args.geometry.now.layout in
     let e = c.view-inodes.ensures in
     sym (ap (λ ms. plain_reported (volume_of v b) c.args.dir (record { passed = ms; stamps = c.args.workspace.now.queue.items }) (entry_value c.args.entry.now)) c.as_slice.ensures.value)
     ∙ (sym (ap (λ ms. plain_reported (volume_of v b) c.args.dir (record { passed = c.as_slice.result.now; stamps = ms }) (entry_value c.args.entry.now)) c.as_slice-2.ensures.value)
-    ∙ c.judge.ensures.told (volume_of v b)
+    ∙ c.entry_verdict.ensures.reported (volume_of v b)
     (sees v b c.args.workspace.now c.view-inodes.result (record { kinds = e.kinds; marked = e.marked; parents = e.parents; count = e.count }) h r))

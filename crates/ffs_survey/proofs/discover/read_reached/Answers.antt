@@ -10,9 +10,9 @@ loop-entry-preserved g c =
     let inv = c.loop-entry.invariant in
     let fell : g.D.Directories.left c.next.new.self < g.D.Directories.left c.loop-entry.directories = rw c.in-Some.is at c.in_ok-entry.ensures.left in
     let e : RoledEntry = roled_of c.in-Some.entry (g.D.Directories.name c.next.new.self) in
-    let told = rw inv.base at c.in_ok-entry.ensures.rest in
+    let reported = rw inv.base at c.in_ok-entry.ensures.rest in
     let cut = λ (b : List ℕ) (k : g.D.Directories.knows (g.D.Directories.base c.args.directories.now) b).
-    let q : g.D.Directories.rest c.loop-entry.directories b ≡ e ∷ g.D.Directories.rest c.next.new.self b = rw c.in-Some.is at (told b k) in q in
+    let q : g.D.Directories.rest c.loop-entry.directories b ≡ e ∷ g.D.Directories.rest c.next.new.self b = rw c.in-Some.is at (reported b k) in q in
     record {
       ready = search rules;
       base = search rules;

@@ -4,7 +4,7 @@ use Rattle.ffs_volume.specs.Directories.Climb.{leads_cycle}
 use Rattle.ffs_survey.specs.Cycles.{up_of}
 use Rattle.ffs_survey.specs.Survey.{suspect_at}
 use Rattle.ffs_volume.proofs.Unreached.{IsLost}
-use Rattle.ffs_survey.proofs.Told.{unref_is, parent-below}
+use Rattle.ffs_survey.proofs.UnrefLaws.{unref_is, parent-below}
 use Rattle.ffs_survey.proofs.unref.is_unref.Goals as goal
 
 pub returns-then-above-eq0 : goal.returns-then-above-eq0

@@ -5,7 +5,7 @@ use Rattle.ffs_walk.proofs.GapSteps.{gaps_passed}
 use Rattle.ffs_walk.proofs.frame.Frame.skip_gaps.Goals as goal
 
 pub returns-clause-steps : goal.returns-clause-steps
-returns-clause-steps c = λ told holds bytes e child span gap.
+returns-clause-steps c = λ reported holds bytes e child span gap.
     let here : held_address c.args.level c.args.blocks.now ≡ Some c.args.self.now.address = search rules in
     gaps_passed c.args.geometry.now.layout bytes child span (c.zeros_end-next.result - c.args.self.now.next) c.zeros_end-next.result c.args.self.now c.bytes.result.now gap
     c.if-self.false (omega (arith, c.zeros_end-next.ensures.from_next)) c.zeros_end-next.ensures.within

@@ -8,10 +8,10 @@ use Rattle.ffs_workspace.proofs.Requests.{both, all_is, at_first_map, at_second_
 use Rattle.ffs_workspace.proofs.workspace.Workspace.in_memory.Goals as goal
 
 pub returns-clause-windows : goal.returns-clause-windows
-returns-clause-windows g c = λ told. record {
-  table = c.in_ok-windows.ensures.table_holds told;
-  blocks = c.in_ok-windows.ensures.blocks_hold told;
-  chunk = c.in_ok-windows.ensures.chunk_holds told;
+returns-clause-windows g c = λ reported. record {
+  table = c.in_ok-windows.ensures.table_holds reported;
+  blocks = c.in_ok-windows.ensures.blocks_hold reported;
+  chunk = c.in_ok-windows.ensures.chunk_holds reported;
 }
 
 pub returns-in_err-claimed-clause-asks : goal.returns-in_err-claimed-clause-asks

@@ -7,7 +7,7 @@ ghost use Rattle.ffs_volume.specs.Directories.Roles as roles;
 ghost use Rattle.ffs_layout.specs.Entry.{entry_value};
 ghost use Rattle.ffs_report.specs.Progress.{progress};
 ghost use Rattle.ffs_pathnames.specs.SaysNames.{SaysNames};
-ghost use Rattle.ffs_pathnames.specs.Starts.{size_reported, chunks_reported, shape_reported, there_reported, above_reported, dot_in, dotdot_in, dot_said, dotdot_said, dots_reported, starts_reported};
+ghost use Rattle.ffs_pathnames.specs.Header.{size_reported, chunks_reported, shape_reported, there_reported, above_reported, dot_in, dotdot_in, dot_said, dotdot_said, dots_reported, header_reported};
 
 use crate::say::{Check, NameLine, say_two};
 use ffs_layout::Entry;
@@ -17,7 +17,7 @@ use ffs_volume::Attr;
 /// What a first look at a directory found: whether a hole is kept, whether all chunks are sound, and the first two
 /// entries at the start of the file.
 #[derive(Clone, Copy, Debug)]
-pub struct Shape<'a> {
+pub struct DirectoryHeader<'a> {
     pub gap: bool,
     pub sound: bool,
     pub first: Option<Entry<'a>>,
@@ -25,7 +25,7 @@ pub struct Shape<'a> {
 }
 
 /// Whether a size is no multiple of a chunk, and not too short.
-fn is_broken(size: u64) -> bool
+fn is_not_multiple(size: u64) -> bool
     ensures { result ≡ (not (nat_lt size 24) && not (size % 512 == 0)) }
 {
     size >= 24 && size % 512 != 0
@@ -48,7 +48,7 @@ fn say_size<W: Output>(report: &mut Report<'_, W>, attr: Attr, path: &[u8]) -> R
         line: NameLine::Directory(DirectoryLine::DirShort { attr, path }),
     };
     let broken = Check {
-        holds: is_broken(attr.size),
+        holds: is_not_multiple(attr.size),
         line: NameLine::Directory(DirectoryLine::DirLength {
             path,
             size: attr.size,
@@ -248,17 +248,17 @@ fn say_dots<W: Output>(
 }
 
 /// Says all lines of a directory that come before those of its entries.
-#[tactic(auto, unfolding(crate::specs::Starts::starts_reported))]
-pub fn say_starts<W: Output>(
+#[tactic(auto, unfolding(crate::specs::Header::header_reported))]
+pub fn say_header<W: Output>(
     report: &mut Report<'_, W>,
     number: u32,
     parent: Option<u32>,
     attr: Attr,
     path: &[u8],
-    shape: Shape<'_>,
+    shape: DirectoryHeader<'_>,
 ) -> Result<(), OutFault>
     ensures { SaysNames (progress W.sink report.old) (progress W.sink report.new)
-        (starts_reported attr path.now number parent shape.entry.gap shape.entry.sound
+        (header_reported attr path.now number parent shape.entry.gap shape.entry.sound
         (option_map entry_value shape.entry.first) (option_map entry_value shape.entry.second))
         result }
 {
@@ -312,9 +312,9 @@ fn is_shape_right(size: u64, gap: bool, sound: bool) -> bool
 }
 
 /// Whether nothing is reported of a directory of a size before its entries.
-pub fn is_in_order(number: u32, parent: Option<u32>, size: u64, shape: Shape<'_>) -> bool
+pub fn is_in_order(number: u32, parent: Option<u32>, size: u64, shape: DirectoryHeader<'_>) -> bool
     ensures { IsTrue result → (about : attrs.Attr) (path : List ℕ) → about.size ≡ size →
-        starts_reported about path number parent shape.entry.gap shape.entry.sound
+        header_reported about path number parent shape.entry.gap shape.entry.sound
         (option_map entry_value shape.entry.first) (option_map entry_value shape.entry.second)
         ≡ [] }
 {

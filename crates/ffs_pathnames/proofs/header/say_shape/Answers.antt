@@ -1,6 +1,6 @@
-use Rattle.ffs_pathnames.specs.Starts.{size_reported, chunks_reported}
+use Rattle.ffs_pathnames.specs.Header.{size_reported, chunks_reported}
 use Rattle.ffs_pathnames.proofs.Saying.{names_then, first_stops}
-use Rattle.ffs_pathnames.proofs.starts.say_shape.Goals as goal
+use Rattle.ffs_pathnames.proofs.header.say_shape.Goals as goal
 
 pub returns-in_err-say_size : goal.returns-in_err-say_size
 returns-in_err-say_size g c =

@@ -1,7 +1,7 @@
 use Rattle.std.proofs.Common.{sym, ◌∙◌, option_map}
 use Rattle.ffs_layout.specs.Entry.{entry_value}
 use Rattle.ffs_pathnames.proofs.InOrder.{in_order}
-use Rattle.ffs_pathnames.proofs.starts.is_in_order.Goals as goal
+use Rattle.ffs_pathnames.proofs.header.is_in_order.Goals as goal
 
 pub returns : goal.returns
 returns c = λ t about path e.

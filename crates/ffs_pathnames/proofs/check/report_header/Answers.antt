@@ -9,9 +9,9 @@ use Rattle.ffs_volume.specs.Directories.Volumes.{volume_of}
 use Rattle.ffs_layout.specs.Entry.{entry_value}
 use Rattle.ffs_report.proofs.Reports.{said_none}
 use Rattle.ffs_phase.proofs.Reporting.{of_begins, of_says, of_stops, of_reads}
-use Rattle.ffs_pathnames.specs.Starts.{starts_reported}
+use Rattle.ffs_pathnames.specs.Header.{header_reported}
 use Rattle.ffs_pathnames.proofs.Begun.{attr_size}
-use Rattle.ffs_pathnames.proofs.check.report_starts.Goals as goal
+use Rattle.ffs_pathnames.proofs.check.report_header.Goals as goal
 
 pub returns-then-is_in_order-clause-text : goal.returns-then-is_in_order-clause-text
 returns-then-is_in_order-clause-text g c =
@@ -28,29 +28,29 @@ returns-in_err-attr-clause-text g c =
     let p = err_from_is_err_and c.from_residual.result c.from_residual.ensures.1 in
     rw (p.1, p.2) (of_reads _ _ _ _ _ (of_begins _ _ _))
 
-pub returns-in_err-say_starts-clause-text : goal.returns-in_err-say_starts-clause-text
-returns-in_err-say_starts-clause-text g c =
+pub returns-in_err-say_header-clause-text : goal.returns-in_err-say_header-clause-text
+returns-in_err-say_header-clause-text g c =
     let v = c.args.geometry.now.layout in
     let s = c.args.shape in
-    let told : Attr → List ℕ → List NameMessage = λ about path. starts_reported about path c.args.dir c.args.parent s.gap s.sound (option_map entry_value s.first) (option_map entry_value s.second) in
-    let all = λ (b : List ℕ). map of_names (told (attributes (volume_of v b) c.args.dir) (dir_path (graph_of (volume_of v b)) c.args.dir)) in
-    let ms : List NameMessage = told c.in_ok-attr.attr c.as_slice.result.now in
-    let p = err_from_is_err_and c.from_residual-in_err-say_starts.result c.from_residual-in_err-say_starts.ensures.1 in
+    let reported : Attr → List ℕ → List NameMessage = λ about path. header_reported about path c.args.dir c.args.parent s.gap s.sound (option_map entry_value s.first) (option_map entry_value s.second) in
+    let all = λ (b : List ℕ). map of_names (reported (attributes (volume_of v b) c.args.dir) (dir_path (graph_of (volume_of v b)) c.args.dir)) in
+    let ms : List NameMessage = reported c.in_ok-attr.attr c.as_slice.result.now in
+    let p = err_from_is_err_and c.from_residual-in_err-say_header.result c.from_residual-in_err-say_header.ensures.1 in
     rw (p.1, p.2) (of_stops _ all (λ b. []) _ (map of_names ms) _ _ _ (of_begins _ all _)
-    (λ b k. ap (map of_names) (ap (λ q. told q (dir_path (graph_of (volume_of v b)) c.args.dir)) (sym (c.in_ok-attr.ensures.attr b k.0.reported_is))
-    ∙ ap (λ q. told c.in_ok-attr.attr q) (sym (c.as_slice.ensures.value ∙ c.in_ok-attr.ensures.path b k.0)))
+    (λ b k. ap (map of_names) (ap (λ q. reported q (dir_path (graph_of (volume_of v b)) c.args.dir)) (sym (c.in_ok-attr.ensures.attr b k.0.reported_is))
+    ∙ ap (λ q. reported c.in_ok-attr.attr q) (sym (c.as_slice.ensures.value ∙ c.in_ok-attr.ensures.path b k.0)))
     ∙ sym (append-nil (map of_names ms)))
-    c.in_err-say_starts.ensures)
+    c.in_err-say_header.ensures)
 
 pub returns-clause-text : goal.returns-clause-text
 returns-clause-text g c =
     let v = c.args.geometry.now.layout in
     let s = c.args.shape in
-    let told : Attr → List ℕ → List NameMessage = λ about path. starts_reported about path c.args.dir c.args.parent s.gap s.sound (option_map entry_value s.first) (option_map entry_value s.second) in
-    let all = λ (b : List ℕ). map of_names (told (attributes (volume_of v b) c.args.dir) (dir_path (graph_of (volume_of v b)) c.args.dir)) in
-    let ms : List NameMessage = told c.in_ok-attr.attr c.as_slice.result.now in
+    let reported : Attr → List ℕ → List NameMessage = λ about path. header_reported about path c.args.dir c.args.parent s.gap s.sound (option_map entry_value s.first) (option_map entry_value s.second) in
+    let all = λ (b : List ℕ). map of_names (reported (attributes (volume_of v b) c.args.dir) (dir_path (graph_of (volume_of v b)) c.args.dir)) in
+    let ms : List NameMessage = reported c.in_ok-attr.attr c.as_slice.result.now in
     of_says _ all (λ b. []) _ (map of_names ms) _ _ _ (of_begins _ all _)
-    (λ b k. ap (map of_names) (ap (λ q. told q (dir_path (graph_of (volume_of v b)) c.args.dir)) (sym (c.in_ok-attr.ensures.attr b k.0.reported_is))
-    ∙ ap (λ q. told c.in_ok-attr.attr q) (sym (c.as_slice.ensures.value ∙ c.in_ok-attr.ensures.path b k.0)))
+    (λ b k. ap (map of_names) (ap (λ q. reported q (dir_path (graph_of (volume_of v b)) c.args.dir)) (sym (c.in_ok-attr.ensures.attr b k.0.reported_is))
+    ∙ ap (λ q. reported c.in_ok-attr.attr q) (sym (c.as_slice.ensures.value ∙ c.in_ok-attr.ensures.path b k.0)))
     ∙ sym (append-nil (map of_names ms)))
-    c.in_ok-say_starts.ensures
+    c.in_ok-say_header.ensures

@@ -5,7 +5,7 @@ use Rattle.std.proofs.lemmas.Bool.{cases_eq, and_parts, both_ways, cond-true, co
 use mathlib.Core.Path.{fun_ext}
 use Rattle.ffs_volume.proofs.SearchLaws.{first_below-some}
 use Rattle.ffs_volume.specs.Directories.Climb.{leads_cycle, is_value}
-use Rattle.ffs_volume.specs.Directories.Graph.{Graph, IsSane, edge, parent, parent_by, level, dead, lost, none_or_dead, unref_dir}
+use Rattle.ffs_volume.specs.Directories.Graph.{Graph, IsSane, edge, parent, parent_by, level, dead, lost, none_or_dead, is_unref_dir}
 use Rattle.ffs_survey.specs.Survey.{number_at, IsTree}
 use Rattle.ffs_survey.specs.Cycles.{up_of}
 use Rattle.ffs_survey.proofs.Discovered.{dir_below}
@@ -77,7 +77,7 @@ parent-below v kinds r p d t = go (parent v d) refl
     go (Some s) e = let q : number_at p d ≡ s = t.ups d ∙ ap (λ o. unwrap_or o 0) e in let b = (parent-some v d s (tree-sane v kinds r p t) (tree-zero v kinds r p t) e).below in let c = t.count in omega arith
 
 pub unref_is : (v : Graph) (suspect : ℕ → Bool) (kinds : List ℕ) (r : List Bool) (p : List ℕ) (d : ℕ) → length p ≡ length kinds → IsTree v kinds r p → IsLost v suspect d
-    → unref_dir v suspect d ≡ (cond (number_at p d == 0) true (dead v suspect (number_at p d)) || leads_cycle (up_of p) (length p) d)
+    → is_unref_dir v suspect d ≡ (cond (number_at p d == 0) true (dead v suspect (number_at p d)) || leads_cycle (up_of p) (length p) d)
 unref_is v suspect kinds r p d lp t l =
     let sane = tree-sane v kinds r p t in
     let z = tree-zero v kinds r p t in

@@ -5,7 +5,7 @@ use Rattle.ffs_volume.specs.Directories.Volumes.{volume_of}
 use Rattle.ffs_phase.proofs.Reporting.{of_begins, of_same, reports_same, reports_knowing}
 use Rattle.ffs_connectivity.specs.Lines.{cut_off_lines}
 use Rattle.ffs_connectivity.proofs.CutOff.{silent, heard}
-use Rattle.ffs_connectivity.proofs.told.check_inode.Goals as goal
+use Rattle.ffs_connectivity.proofs.unref.check_inode.Goals as goal
 
 pub returns-then-is_cut_off-clause-text : goal.returns-then-is_cut_off-clause-text
 returns-then-is_cut_off-clause-text g c =

@@ -6,7 +6,7 @@ use Rattle.ffs_volume.specs.Directories.PathnameCheck.{attributes}
 use Rattle.ffs_volume.specs.Directories.Volumes.{volume_of}
 use Rattle.ffs_phase.proofs.Reporting.{of_begins, of_says, of_stops, of_reads}
 use Rattle.ffs_connectivity.proofs.CutOff.{attributes_are}
-use Rattle.ffs_connectivity.proofs.told.report_inode.Goals as goal
+use Rattle.ffs_connectivity.proofs.unref.report_inode.Goals as goal
 
 pub returns-in_err-inode-clause-text : goal.returns-in_err-inode-clause-text
 returns-in_err-inode-clause-text g c =

@@ -3,17 +3,17 @@ use Rattle.std.specs.Prelude.{ℕ, ◌%◌, ◌==◌, Bool, not, ◌&&◌, nat_l
 use Rattle.ffs_volume.specs.declared.Attr.{Attr}
 use Rattle.ffs_volume.specs.Directories.Entries.{Entry, is_live}
 use Rattle.ffs_volume.specs.Directories.Roles.{is_one_dot, is_two_dots, entry_if}
-use Rattle.ffs_volume.specs.Messages.Kinds.{NameMessage, told, dir_short, dir_length, dir_empty, dir_corrupt, number_dot, kind_dot, number_dotdot, kind_dotdot}
+use Rattle.ffs_volume.specs.Messages.Kinds.{NameMessage, reported, dir_short, dir_length, dir_empty, dir_corrupt, number_dot, kind_dot, number_dotdot, kind_dotdot}
 use Rattle.ffs_volume.specs.Directories.PathnameCheck.{missing_dot_reported, missing_dotdot_reported, is_other}
 
 -- of the size, of whether a Gap is kept, and of whether all chunks are sound
 abbrev pub size_reported : Attr → List ℕ → List NameMessage
 size_reported about path =
-    told (nat_lt about.size 24) (dir_short about path)
-    ++ told (not (nat_lt about.size 24) && not (about.size % 512 == 0)) (dir_length path about.size)
+    reported (nat_lt about.size 24) (dir_short about path)
+    ++ reported (not (nat_lt about.size 24) && not (about.size % 512 == 0)) (dir_length path about.size)
 
 abbrev pub chunks_reported : Attr → List ℕ → Bool → Bool → List NameMessage
-chunks_reported about path gap sound = told gap (dir_empty path) ++ told (not sound) (dir_corrupt about path)
+chunks_reported about path gap sound = reported gap (dir_empty path) ++ reported (not sound) (dir_corrupt about path)
 
 abbrev pub shape_reported : Attr → List ℕ → Bool → Bool → List NameMessage
 shape_reported about path gap sound = size_reported about path ++ chunks_reported about path gap sound
@@ -26,7 +26,7 @@ abbrev pub dotdot_in : Option Entry → Option Entry
 dotdot_in second = entry_if (λ e. is_live e && is_two_dots e.name) second
 
 abbrev pub there_reported : Attr → List ℕ → ℕ → Entry → List NameMessage
-there_reported about path d e = told (not (e.number == d)) (number_dot about path) ++ told (not (e.kind == 4)) (kind_dot about path)
+there_reported about path d e = reported (not (e.number == d)) (number_dot about path) ++ reported (not (e.kind == 4)) (kind_dot about path)
 
 abbrev pub dot_said : Attr → List ℕ → ℕ → Option Entry → Option Entry → List NameMessage
 dot_said about path d first None = missing_dot_reported about path first
@@ -34,7 +34,7 @@ dot_said about path d first (Some e) = there_reported about path d e
 
 -- `parent` is the directory's parent, if it has one
 abbrev pub above_reported : Attr → List ℕ → Option ℕ → Entry → List NameMessage
-above_reported about path parent e = told (is_other parent e.number) (number_dotdot about path) ++ told (not (e.kind == 4)) (kind_dotdot about path)
+above_reported about path parent e = reported (is_other parent e.number) (number_dotdot about path) ++ reported (not (e.kind == 4)) (kind_dotdot about path)
 
 abbrev pub dotdot_said : Attr → List ℕ → Option ℕ → Option Entry → Option Entry → List NameMessage
 dotdot_said about path parent second None = missing_dotdot_reported about path second
@@ -44,5 +44,5 @@ abbrev pub dots_reported : Attr → List ℕ → ℕ → Option ℕ → Option E
 dots_reported about path d parent first second = dot_said about path d first (dot_in first) ++ dotdot_said about path parent second (dotdot_in second)
 
 -- all that is reported before the entries
-unfoldable pub starts_reported : Attr → List ℕ → ℕ → Option ℕ → Bool → Bool → Option Entry → Option Entry → List NameMessage
-starts_reported about path d parent gap sound first second = shape_reported about path gap sound ++ dots_reported about path d parent first second
+unfoldable pub header_reported : Attr → List ℕ → ℕ → Option ℕ → Bool → Bool → Option Entry → Option Entry → List NameMessage
+header_reported about path d parent gap sound first second = shape_reported about path gap sound ++ dots_reported about path d parent first second

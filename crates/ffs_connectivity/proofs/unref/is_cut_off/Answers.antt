@@ -2,7 +2,7 @@ use Rattle.std.proofs.Common.{◌≡◌, ℕ, Bool, List, ◌∙◌, ap, length,
 use Rattle.ffs_workspace.specs.Holds.{bool_at}
 use Rattle.ffs_workspace.specs.Lengths.{inodes_of}
 use Rattle.ffs_connectivity.proofs.CutOff.{cut_off_is}
-use Rattle.ffs_connectivity.proofs.told.is_cut_off.Goals as goal
+use Rattle.ffs_connectivity.proofs.unref.is_cut_off.Goals as goal
 
 pub returns : goal.returns
 returns c = λ bytes h s.

@@ -1,8 +1,8 @@
 use Rattle.std.proofs.Common.{option_map}
 use Rattle.ffs_layout.specs.Entry.{entry_value}
-use Rattle.ffs_pathnames.specs.Starts.{dot_in, dotdot_in, dot_said, dotdot_said}
+use Rattle.ffs_pathnames.specs.Header.{dot_in, dotdot_in, dot_said, dotdot_said}
 use Rattle.ffs_pathnames.proofs.Saying.{names_then, first_stops}
-use Rattle.ffs_pathnames.proofs.starts.say_dots.Goals as goal
+use Rattle.ffs_pathnames.proofs.header.say_dots.Goals as goal
 
 pub returns-in_err-say_dot : goal.returns-in_err-say_dot
 returns-in_err-say_dot g c =

@@ -1,13 +1,13 @@
 // What is reported of an entry, by its verdict.
 ghost use Rattle.std.specs.Prelude.{◌≡◌, ◌++◌};
-ghost use Rattle.ffs_volume.specs.Messages.Kinds.{told};
+ghost use Rattle.ffs_volume.specs.Messages.Kinds.{reported};
 ghost use Rattle.ffs_report.specs.Progress.{progress};
 ghost use Rattle.ffs_pathnames.specs.NameLines.{name_message, two_reported};
 ghost use Rattle.ffs_pathnames.specs.SaysNames.{SaysNames};
 ghost use Rattle.ffs_pathnames.specs.Verdicts.{suspect_message, links_reported, faults_reported, verdict_reported};
 
-use crate::judge::{Faults, Verdict};
 use crate::say::{Check, NameLine, say_line, say_two};
+use crate::verdict::{Faults, Verdict};
 use ffs_report::{EntryLine, OutFault, Output, Report};
 use ffs_volume::Attr;
 
@@ -19,7 +19,7 @@ fn say_suspect<W: Output>(
     path: &[u8],
 ) -> Result<(), OutFault>
     ensures { SaysNames (progress W.sink report.old) (progress W.sink report.new)
-        (told faults.now.suspect (suspect_message faults.now attr path.now)) result }
+        (reported faults.now.suspect (suspect_message faults.now attr path.now)) result }
 {
     if !faults.suspect {
         return Ok(());

@@ -45,7 +45,7 @@ fn is_cut_off(workspace: &Workspace, geometry: &Geometry, number: u32) -> bool
     requires leaders { HasLeaders workspace.now }
     ensures { (bytes : List ℕ) → HoldsClaims geometry.now.layout bytes workspace.now
         → HoldsSurvey geometry.now.layout bytes workspace.now →
-        result ≡ connectivity.is_cut_off (volume_of geometry.now.layout bytes) number }
+        result ≡ connectivity.has_unref_line (volume_of geometry.now.layout bytes) number }
 {
     is_unref(
         number,

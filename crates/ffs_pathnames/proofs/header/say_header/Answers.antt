@@ -1,17 +1,17 @@
 use Rattle.std.proofs.Common.{option_map}
 use Rattle.ffs_layout.specs.Entry.{entry_value}
-use Rattle.ffs_pathnames.specs.Starts.{shape_reported, dots_reported, starts_reported}
+use Rattle.ffs_pathnames.specs.Header.{shape_reported, dots_reported, header_reported}
 use Rattle.ffs_pathnames.proofs.Saying.{names_then, first_stops}
-use Rattle.ffs_pathnames.proofs.starts.say_starts.Goals as goal
+use Rattle.ffs_pathnames.proofs.header.say_header.Goals as goal
 
 pub returns-in_err-say_shape : goal.returns-in_err-say_shape
-unfolding starts_reported
+unfolding header_reported
 returns-in_err-say_shape g c =
     first_stops _ _ (shape_reported c.args.attr c.args.path.now c.args.shape.gap c.args.shape.sound) (dots_reported c.args.attr c.args.path.now c.args.number c.args.parent (option_map entry_value c.args.shape.first) (option_map entry_value c.args.shape.second))
     c.from_residual.result c.from_residual.ensures.0 c.in_err-say_shape.ensures
 
 pub returns : goal.returns
-unfolding starts_reported
+unfolding header_reported
 returns g c =
     names_then _ _ _ (shape_reported c.args.attr c.args.path.now c.args.shape.gap c.args.shape.sound) (dots_reported c.args.attr c.args.path.now c.args.number c.args.parent (option_map entry_value c.args.shape.first) (option_map entry_value c.args.shape.second))
     _ c.in_ok-say_shape.ensures c.say_dots.ensures

@@ -90,7 +90,7 @@ fn faults_of(
 }
 
 /// The verdict on a plain entry of a directory.
-pub fn judge(
+pub fn entry_verdict(
     inodes: &Inodes<'_>,
     dir: u32,
     passed: &[bool],
@@ -102,7 +102,7 @@ pub fn judge(
     ensures below { IsTrue (asks_attr result) → entry.now.number < length inodes.now.kinds.now }
     ensures linked { (v : Volume) → Sees v inodes.now → IsTrue (asks_path result)
         → is_dir v entry.now.number ≡ true }
-    ensures told { (v : Volume) → Sees v inodes.now →
+    ensures reported { (v : Volume) → Sees v inodes.now →
         marks.plain_reported v dir (record { passed = passed.now; stamps = stamps.now })
         (entry_value entry.now)
         ≡ verdict_reported result entry.now.number (attributes v entry.now.number)
