@@ -12,5 +12,5 @@ pub mod Rescanned
 pub mod Whole
 pub mod Looks
 pub mod LookBounds
-pub mod Looked
+pub mod SecondLooks
 pub mod DataAreas

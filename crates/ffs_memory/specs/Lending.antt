@@ -11,6 +11,6 @@ module _ (T : RattleType) (list : MutBor (Vec T.Denot Global)) where
   abbrev pub LendsItems : MutBor (List T.Denot) → Fml
   LendsItems r = Lends (the_row T) (Array T 0) list r (with_items list.now)
 
-  -- it ends with its element i as the last value behind r
+  -- it ends with its element i as the last value that r refers to
   abbrev pub LendsItem : ℕ → MutBor T.Denot → Fml
   LendsItem i r = Lends (the_row T) T list r (with_item list.now i)

@@ -40,7 +40,7 @@ gap_unseen v cut r (Tail ∷ steps) h = gap_tail v cut r steps ∙ gap_unseen v 
 gap_unseen v cut r (Gap ∷ steps) h = ap (λ x. has_gap ((if x then Gap ∷ [] else []) ++ replayed_steps v cut r steps)) h ∙ gap_unseen v cut r steps h
 gap_unseen v cut r (Run start len block ∷ steps) h = rw h (gap_unseen v cut r steps h)
 
--- a walk goes on: to its end, over a Tail, over a Gap that is seen, to a Run
+-- a walk continues: to its end, over a Tail, over a Gap that is seen, to a Run
 pub gap_same : (v v' : Layout) (cut : ℕ) (r : Replay) (gap : Bool) (old new : List Step) → v' ≡ v → old ≡ new → (gap || kept_gap v' cut r new) ≡ (gap || kept_gap v cut r old)
 gap_same v v' cut r gap old new e o = ap (λ x. gap || kept_gap x cut r new) e ∙ ap (λ l. gap || kept_gap v cut r l) (sym o)
 

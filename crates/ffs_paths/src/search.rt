@@ -36,7 +36,7 @@ fn highest_with(highest: u32, entry: Named) -> u32
     highest
 }
 
-/// A reading of the entries of a directory, which goes on from one search to the next.
+/// A reading of the entries of a directory, which continues from one search to the next.
 #[derive(Drop)]
 pub struct Search {
     pub entries: Entries,

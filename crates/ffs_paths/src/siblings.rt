@@ -47,7 +47,7 @@ fn number_if(found: bool, number: u32) -> u32
     if found { number } else { 0 }
 }
 
-/// A directory with the children whose paths are made: its own path, and a reading of its entries that goes on from one
+/// A directory with the children whose paths are made: its own path, and a reading of its entries that continues from one
 /// child to the next.
 ///
 /// Where children come in the order of numbers, and are named in this order too, each entry is read once for all of them.

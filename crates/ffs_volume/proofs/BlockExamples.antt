@@ -10,7 +10,7 @@ use Rattle.ffs_volume.specs.Blocks.BlockCheck.{phase1_lines, phase1b_lines}
 use Rattle.ffs_volume.specs.Blocks.Keeping.{offer_verdict}
 use Rattle.ffs_volume.specs.Groups.Records.{right_summary, right_frsum, right_total, are_places, is_magic, are_maps, are_sums, is_record, is_total}
 use Rattle.ffs_volume.specs.Groups.GroupCheck.{phase5_lines}
-use Rattle.ffs_volume.specs.Examples.Images.{bytes_in, word, zeros, base_layout, base_super, base_summary, base_group, root_inode, root_chunk, base_image, two_groups}
+use Rattle.ffs_volume.specs.Examples.Images.{bytes_in, word, zeros, changed, base_layout, base_super, base_summary, base_group, root_inode, root_chunk, base_image, two_groups}
 use Rattle.ffs_volume.specs.Examples.BlockExamples.{inode, file_inode, words_at, root, file, blocks_at, first_reported, second_reported, base_free, two_free, base_class, groups_reported, ClassExamples, StepExamples, ClaimExamples, GroupExamples}
 
 pub class_examples : ClassExamples
@@ -44,7 +44,7 @@ claim_examples = record {
 }
 
 pub group_examples : GroupExamples
-unfolding bytes_in word zeros base_layout two_groups base_super base_summary base_group root_inode root_chunk base_image root base_free two_free base_class groups_reported number u16_at i16_at u32_at u64_at i32_at is_reserved is_data_fragment is_in_range is_group_metadata any_below all_below cgoffset_of cgbase cgstart right_summary right_frsum right_total are_places is_magic are_maps are_sums is_record is_total phase5_lines
+unfolding bytes_in word zeros changed base_layout two_groups base_super base_summary base_group root_inode root_chunk base_image root base_free two_free base_class groups_reported number u16_at i16_at u32_at u64_at i32_at is_reserved is_data_fragment is_in_range is_group_metadata any_below all_below cgoffset_of cgbase cgstart right_summary right_frsum right_total are_places is_magic are_maps are_sums is_record is_total phase5_lines
 group_examples = record {
   base_sums = refl;
   base_pieces = refl;
@@ -56,4 +56,7 @@ group_examples = record {
   total_wrong = refl;
   bit_wrong = refl;
   no_block = refl;
+  no_record = refl;
+  map_past_end = refl;
+  once = refl;
 }

@@ -12,7 +12,7 @@ use Rattle.ffs_volume.specs.Directories.PathnameCheck.{attributes, root_lines, s
 use Rattle.ffs_volume.specs.Directories.Connectivity.{connectivity_lines}
 use Rattle.ffs_volume.specs.Directories.ReferenceCheck.{inode_lines, reference_lines}
 use Rattle.ffs_volume.specs.Examples.Images.{bytes_in, word, zeros, root_chunk}
-use Rattle.ffs_volume.specs.Examples.DirectoryExamples.{entry_bytes, with_second, entry, two_chunks, dots, whole_chunk, class_in, small, about, alone, lost_entries, below_entries, lost_cycle, twice_entries, twice, sub_entries, sub, empty_dir, dead_entries, dead_parent, long_name, EntryExamples, PathnameExamples, ReferenceExamples}
+use Rattle.ffs_volume.specs.Examples.DirectoryExamples.{entry_bytes, with_second, entry, two_chunks, dots, whole_chunk, class_in, small, about, alone, lost_entries, below_entries, lost_cycle, twice_entries, twice, sub_entries, sub, empty_dir, dead_entries, dead_parent, sized, long_name, EntryExamples, PathnameExamples, ReferenceExamples}
 
 pub entry_examples : EntryExamples
 unfolding bytes_in word zeros root_chunk entry_bytes with_second entry two_chunks number u16_at u32_at is_well_formed entry_read entry_at entries_from role_of
@@ -47,7 +47,7 @@ entry_examples = record {
 }
 
 pub pathname_examples : PathnameExamples
-unfolding entry dots whole_chunk class_in small about alone lost_entries below_entries lost_cycle twice_entries twice sub_entries sub empty_dir dead_entries dead_parent long_name role_of roled_from roled_entries start_entry dot dotdot first_below earliest climb within level parent longest_end path_bytes names_down dir_path entry_path lines_below attributes root_lines shape_lines dot_lines dotdot_lines named_lines plain_lines roled_lines entry_lines dir_lines pathname_lines
+unfolding entry dots whole_chunk class_in small about alone lost_entries below_entries lost_cycle twice_entries twice sub_entries sub empty_dir dead_entries dead_parent sized long_name role_of roled_from roled_entries start_entry dot dotdot first_below earliest climb within level parent longest_end path_bytes names_down dir_path entry_path lines_below attributes root_lines shape_lines dot_lines dotdot_lines named_lines plain_lines roled_lines entry_lines dir_lines pathname_lines
 pathname_examples = record {
   base = refl;
   cycle = refl;
@@ -63,6 +63,11 @@ pathname_examples = record {
   no_root = refl;
   root_file = refl;
   root_marked = refl;
+  too_short = refl;
+  no_multiple = refl;
+  hole = refl;
+  marked_root_entered = refl;
+  unknown_type = refl;
   four_names = refl;
   five_names = refl;
   paths = (refl, refl, refl, refl);

@@ -1,5 +1,5 @@
 -- Classes and steps of inodes, and what the block check and the check of groups report.
-use Rattle.std.specs.Prelude.{◌≡◌, ℕ, ◌-◌, ◌==◌, ◌&&◌, not, List, [], ◌∷◌, ◌++◌, pos, Some, None, length, map, replicate, Bool, true, false, if◌then◌else◌}
+use Rattle.std.specs.Prelude.{◌≡◌, ℕ, ◌+◌, ◌-◌, ◌==◌, ◌&&◌, not, List, [], ◌∷◌, ◌++◌, pos, Some, None, length, map, replicate, Bool, true, false, if◌then◌else◌}
 use Rattle.std.specs.List.{range_with_len}
 use Rattle.ffs_volume.specs.declared.Order.{Order}
 use Rattle.ffs_volume.specs.declared.Order.TheVariants.{Little, Big}
@@ -17,8 +17,8 @@ use Rattle.ffs_volume.specs.Blocks.Claims.{no_claims, is_set, after_owners}
 use Rattle.ffs_volume.specs.Blocks.BlockCheck.{phase1_lines, phase1b_lines, kept_in_owners}
 use Rattle.ffs_volume.specs.Blocks.Keeping.{all_offers, kept_by_rule}
 use Rattle.ffs_volume.specs.Groups.Records.{right_summary, right_frsum, right_total}
-use Rattle.ffs_volume.specs.Groups.GroupCheck.{phase5_lines, is_free_of_runs}
-use Rattle.ffs_volume.specs.Examples.Images.{word, zeros, base_layout, base_image, two_groups}
+use Rattle.ffs_volume.specs.Groups.GroupCheck.{phase5_lines, is_free_of_runs, reported_once, unreported}
+use Rattle.ffs_volume.specs.Examples.Images.{word, zeros, changed, base_layout, base_image, two_groups}
 
 -- an inode of this mode and size with these addresses, and zeros after them
 unfoldable pub inode : ℕ → ℕ → List ℕ → Inode
@@ -193,3 +193,11 @@ pub record GroupExamples : Type 0 where
   pub no_block : phase5_lines (base_layout Little) (zeros 32768
       ++ (word Little 1 ++ (word Little 22 ++ (word Little 29 ++ word Little 6))))
       (pos 1 ∷ pos 22 ∷ pos 29 ∷ pos 6 ∷ []) base_free base_class ≡ GroupMagic 0 ∷ []
+  pub no_record : phase5_lines (base_layout Little) (zeros 32768) (pos 1 ∷ pos 22 ∷ pos 29 ∷ pos 6 ∷ []) base_free base_class
+      ≡ GroupMagic 0 ∷ FreeCounts ∷ []
+  -- nothing is free, and the map of fragments passes the end of its block
+  pub map_past_end : phase5_lines (base_layout Little) (changed Little (24576 + 96) 1020 (base_image Little))
+      (pos 1 ∷ pos 0 ∷ pos 29 ∷ pos 0 ∷ []) (λ f. false) base_class ≡ FreeCounts ∷ MapsWrong ∷ GroupSums ∷ []
+  -- three messages are reported once, that of a magic number for each group
+  pub once : reported_once unreported (FreeCounts ∷ MapsWrong ∷ GroupSums ∷ GroupMagic 1 ∷ FreeCounts ∷ MapsWrong
+      ∷ GroupSums ∷ GroupMagic 2 ∷ []) ≡ FreeCounts ∷ MapsWrong ∷ GroupSums ∷ GroupMagic 1 ∷ GroupMagic 2 ∷ []

@@ -4,7 +4,7 @@ use Rattle.ffs_volume.specs.declared.Order.{Order}
 use Rattle.ffs_volume.specs.declared.Order.TheVariants.{Little, Big}
 use Rattle.ffs_volume.specs.declared.Attr.{Attr}
 use Rattle.ffs_volume.specs.declared.Class.{Class}
-use Rattle.ffs_volume.specs.declared.Class.TheVariants.{Free, File, Dir}
+use Rattle.ffs_volume.specs.declared.Class.TheVariants.{Free, File, Dir, Unknown}
 use Rattle.ffs_volume.specs.declared.Label.TheVariants.{Dir as DirLabel, File as FileLabel}
 use Rattle.ffs_volume.specs.declared.Role.TheVariants.{Empty, Dot, Dotdot, Extra, Plain}
 use Rattle.ffs_volume.specs.declared.Step.TheVariants.{Run, Tail, Gap}
@@ -13,7 +13,7 @@ use Rattle.ffs_volume.specs.Directories.Roles.{Volume, role_of, references}
 use Rattle.ffs_volume.specs.Directories.Graph.{level, parent}
 use Rattle.ffs_volume.specs.Directories.Parents.{graph_of}
 use Rattle.ffs_volume.specs.Directories.Paths.{path_bytes, dir_path, entry_path}
-use Rattle.ffs_volume.specs.Messages.Kinds.{root_none, root_not_dir, root_suspect, missing_dot, missing_dot_first, number_dot, kind_dot, missing_dotdot, missing_dotdot_second, number_dotdot, kind_dotdot, extra_dot, extra_dotdot, out_of_range, whiteout, zero_dir, extraneous, kind_entry, unref_dir, dead_marked, dead_zero, unref, unref_zero, link_count}
+use Rattle.ffs_volume.specs.Messages.Kinds.{root_none, root_not_dir, root_suspect, dir_short, dir_length, dir_empty, missing_dot, missing_dot_first, number_dot, kind_dot, missing_dotdot, missing_dotdot_second, number_dotdot, kind_dotdot, extra_dot, extra_dotdot, out_of_range, whiteout, zero_dir, extraneous, kind_entry, unref_dir, dead_marked, dead_zero, unref, unref_zero, link_count}
 use Rattle.ffs_volume.specs.Directories.PathnameCheck.{pathname_lines}
 use Rattle.ffs_volume.specs.Directories.Connectivity.{connectivity_lines}
 use Rattle.ffs_volume.specs.Directories.ReferenceCheck.{reference_lines}
@@ -193,6 +193,20 @@ dead_parent = record {
   marked = λ i. i == 3;
 }
 
+-- the directory `a` of this size
+unfoldable pub sized : ℕ → Volume
+sized size = record (sub (dots 3 2 [])) {
+  inode = λ i. record {
+    mode = 16877;
+    nlink = pos (if i == 2 then 3 else 2);
+    size = if i == 3 then size else 512;
+    uid = 0;
+    mtime = pos 0;
+    addresses = [];
+    blocks = 0;
+  };
+}
+
 unfoldable pub long_name : List ℕ
 long_name = replicate 255 97
 
@@ -226,6 +240,15 @@ pub record PathnameExamples : Type 0 where
   pub no_root : pathname_lines (record (alone []) { class = λ i. Free }) ≡ root_none ∷ []
   pub root_file : pathname_lines (record (alone []) { class = λ i. File }) ≡ root_not_dir ∷ []
   pub root_marked : pathname_lines (record (alone (dots 2 2 [])) { marked = λ i. true }) ≡ root_suspect ∷ []
+  -- a size that is too short alone, one that is no multiple of 512, and a hole
+  pub too_short : pathname_lines (sized 23) ≡ dir_short (record (about 3) { size = 23 }) (47 ∷ 97 ∷ []) ∷ []
+  pub no_multiple : pathname_lines (sized 600) ≡ dir_length (47 ∷ 97 ∷ []) 600 ∷ []
+  pub hole : pathname_lines (record (sub (dots 3 2 [])) { gap = λ i. i == 3 }) ≡ dir_empty (47 ∷ 97 ∷ []) ∷ []
+  -- a marked root that is entered is extraneous there, and no more; the type of an unknown inode isn't compared
+  pub marked_root_entered : pathname_lines (record (alone (dots 2 2 (entry 2 4 (97 ∷ []) ∷ []))) { marked = λ i. true })
+      ≡ root_suspect ∷ extraneous (47 ∷ 97 ∷ []) (47 ∷ []) ∷ []
+  pub unknown_type : pathname_lines (record (small 4 (λ i. 2) (λ i. dots 2 2 (entry 3 8 (97 ∷ []) ∷ [])))
+      { class = λ i. if i == 2 then Dir else Unknown }) ≡ []
   -- four names of 255 bytes are whole, five are cut
   pub four_names : length (path_bytes (long_name ∷ long_name ∷ long_name ∷ long_name ∷ [])) ≡ 1024
   pub five_names : path_bytes (long_name ∷ long_name ∷ long_name ∷ long_name ∷ long_name ∷ []) ≡ 63 ∷ (47 ∷ long_name)

@@ -23,7 +23,7 @@ use Rattle.ffs_workspace.specs.Holds.{HoldsPhase1}
 use Rattle.ffs_claims.specs.SecondLook.{looked_at, owners_runs, steps_runs_again}
 use Rattle.ffs_claims.proofs.Looks.{looked_none}
 use Rattle.ffs_claims.proofs.LookBounds.{look_fits}
-use Rattle.ffs_claims.proofs.Looked.{looked_on, looked_end, looked_first}
+use Rattle.ffs_claims.proofs.SecondLooks.{looked_on, looked_end, looked_first}
 use Rattle.ffs_claims.proofs.second.phase1b.Goals as goal
 
 pub returns-in_err-say-clause-text : goal.returns-in_err-say-clause-text
