@@ -24,7 +24,6 @@ pub mod print;
 pub mod report;
 mod say;
 pub mod silent;
-mod words;
 
 pub use counted::Counted;
 pub use fuse::FuseWriter;

@@ -8,6 +8,7 @@
 #![tactic(auto)]
 
 pub mod laws;
+pub mod texts;
 
 /// The order of the bytes in the numbers of an image.
 #[derive(Clone, Copy, Debug, PartialEq, Eq)]
