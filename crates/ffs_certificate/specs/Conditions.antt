@@ -8,7 +8,7 @@ use Rattle.ffs_volume.specs.Disk.Superblock.{Superblock}
 use Rattle.ffs_volume.specs.Disk.Outcome.{outcome}
 use Rattle.ffs_volume.specs.Blocks.Owners.{owners_of}
 use Rattle.ffs_volume.specs.Blocks.BlockCheck.{phase1_lines}
-use Rattle.ffs_volume.specs.Consistent.BlocksRight.{is_right_class, BlocksRight}
+use Rattle.ffs_volume.specs.Consistent.BlocksRight.{is_right_class, AreRunsRight, BlocksRight}
 use Rattle.ffs_volume.specs.Groups.Records.{GroupsRight}
 use Rattle.ffs_volume.specs.Groups.GroupCheck.{phase5_lines, is_free_of_kept, is_free_of_runs}
 use Rattle.ffs_volume.specs.Directories.Entries.{Entry}
@@ -22,7 +22,7 @@ use Rattle.ffs_volume.specs.Directories.Connectivity.{has_unref_line}
 use Rattle.ffs_volume.specs.Disk.Numbers.{is_the_count}
 use Rattle.ffs_volume.specs.Consistent.DirectoriesRight.{AreDirsRight, AreLinksRight, AreCountsRight}
 use Rattle.ffs_volume.specs.Directories.Volumes.{class_at, volume_of, whole_volume}
-use Rattle.ffs_volume.specs.Consistent.Volume.{AreSettingsRight, AreRunsRight}
+use Rattle.ffs_volume.specs.Consistent.Volume.{AreSettingsRight}
 use Rattle.ffs_certificate.specs.DirsCertificate.{IsSilent}
 
 -- a message that speaks of an inode's class

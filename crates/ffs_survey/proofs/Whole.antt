@@ -6,7 +6,7 @@ use Rattle.std.proofs.lemmas.Bool.{both_ways, cases_Bool, cases_lt, and_left, an
 use Rattle.std.proofs.lemmas.List.{get_or_past}
 use Rattle.std.proofs.Math.Bool.{or-false}
 use Rattle.ffs_volume.specs.Directories.Roles.{RoledEntry}
-use Rattle.ffs_volume.specs.Directories.Search.{first_below, earliest, some_below}
+use Rattle.ffs_volume.specs.Disk.Search.{first_below, earliest, some_below}
 use Rattle.ffs_volume.proofs.SearchLaws.{some_below-suc, first_below-some, first_below-is_none}
 use Rattle.ffs_volume.specs.Directories.Graph.{Graph, IsSane, names, names_in, edge, level, reached, parent}
 use Rattle.ffs_volume.proofs.LevelLaws.{reached-edge, reached-root}

@@ -1,8 +1,8 @@
--- Laws of `specs/Directories/Search`.
+-- Laws of `specs/Disk/Search`.
 use Rattle.std.specs.Prelude.{◌≡◌, ℕ, zero, suc, ◌<◌, Bool, true, false, Option, None, Some, refl, is_some, ◌||◌}
 use Rattle.std.proofs.Common.{arith, sym, ap, subst, inl, inr}
 use Rattle.std.proofs.lemmas.Bool.{both_ways, cases_Bool, cases_order}
-use Rattle.ffs_volume.specs.Directories.Search.{earliest, first_below, some_below, IsFirst, FirstMeaning}
+use Rattle.ffs_volume.specs.Disk.Search.{earliest, first_below, some_below, IsFirst, FirstMeaning}
 
 earliest-tells : (p : ℕ → Bool) (n : ℕ) (o : Option ℕ) (b : Bool) → p n ≡ b → FirstMeaning p n o → FirstMeaning p (suc n) (earliest o b n)
 unfolding earliest

@@ -3,7 +3,7 @@ use Rattle.std.specs.Prelude.{◌≡◌, ◌≢◌, ℕ, zero, suc, ◌<◌, ◌
 use Rattle.std.specs.List.{list_any}
 use Rattle.ffs_volume.specs.Blocks.Inodes.{ROOTINO}
 use Rattle.ffs_volume.specs.Directories.Roles.{RoledEntry, is_plain}
-use Rattle.ffs_volume.specs.Directories.Search.{first_below, some_below}
+use Rattle.ffs_volume.specs.Disk.Search.{first_below, some_below}
 use Rattle.ffs_volume.specs.Directories.Climb.{is_value, leads_cycle}
 
 -- what levels and parents depend on: the number of inodes, which are directories, and the entries of each in order

@@ -12,7 +12,7 @@ unfolding earliest
 first_below p zero = None
 first_below p (suc n) = earliest (first_below p n) (p n) n
 
--- whether a number below n passes: `any_below`, by the search
+-- whether a number below n passes
 abbrev pub some_below : (ℕ → Bool) → ℕ → Bool
 some_below p n = is_some (first_below p n)
 
