@@ -18,7 +18,8 @@ use Rattle.ffs_volume.specs.Blocks.Inodes.{is_directory, is_allocated, is_unknow
 use Rattle.ffs_volume.specs.Directories.Roles.{Volume, is_dir, is_inode, is_suspect, dotdot, references}
 use Rattle.ffs_volume.specs.Directories.Climb.{is_value}
 use Rattle.ffs_volume.proofs.ClimbLaws.{is_value-true}
-use Rattle.ffs_volume.specs.Directories.Graph.{parent, parent_entry, NoExtraneous}
+use Rattle.ffs_volume.specs.Directories.Graph.{parent, parent_entry}
+use Rattle.ffs_volume.proofs.Graphs.{NoExtraneous}
 use Rattle.ffs_volume.specs.Directories.Parents.{graph_of, is_from_parent}
 use Rattle.ffs_volume.specs.Directories.PathnameCheck.{is_other, is_extraneous}
 use Rattle.ffs_volume.specs.Consistent.DirectoriesRight.{IsVolume, IsUnmarked, IsPlainRight, AreDirsRight, AreLinksRight, AreCountsRight}

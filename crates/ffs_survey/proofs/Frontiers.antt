@@ -11,7 +11,8 @@ use Rattle.ffs_volume.specs.Disk.Search.{first_below, some_below}
 use Rattle.ffs_volume.proofs.SearchLaws.{first_below-is, first_below-is_none, first_below-some, some_below-gives, some_below-from, some_below-none}
 use Rattle.ffs_volume.specs.Directories.Climb.{is_value}
 use Rattle.ffs_volume.proofs.ClimbLaws.{is_value-true, is_value-from}
-use Rattle.ffs_volume.specs.Directories.Graph.{Graph, IsSane, level_edge, edge, within, level, parent, parent_by}
+use Rattle.ffs_volume.specs.Directories.Graph.{Graph, level_edge, edge, within, level, parent, parent_by}
+use Rattle.ffs_volume.proofs.Graphs.{IsSane}
 use Rattle.ffs_volume.proofs.LevelLaws.{within-suc, within-zero, within-grows, within-step, within-more, level-some, level-from}
 use Rattle.ffs_volume.proofs.Unreached.{edge-parts}
 use Rattle.ffs_survey.specs.Survey.{bool_at, number_at, graph_with}

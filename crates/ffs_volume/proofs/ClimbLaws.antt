@@ -5,7 +5,12 @@ use Rattle.std.proofs.lemmas.Bool.{both_ways, cases_lt, eqb-true, eq-eqb, leb-tr
 use Rattle.ffs_volume.specs.Disk.Search.{some_below}
 use Rattle.ffs_volume.proofs.SearchLaws.{some_below-gives, some_below-from, some_below-false, some_below-none}
 use Rattle.ffs_volume.proofs.Pigeon.{pigeon}
-use Rattle.ffs_volume.specs.Directories.Climb.{climb, is_value, none_or_at_least, leads_cycle, OnCycle, IsLeader, StaysBelow}
+use Rattle.ffs_volume.specs.Directories.Climb.{climb, is_value, none_or_at_least, leads_cycle, OnCycle, IsLeader}
+
+-- where the test holds, the number is below n and f leads to a number where it holds
+pub record StaysBelow (f : ℕ → Option ℕ) (p : ℕ → Bool) (n : ℕ) : Type 0 where
+  pub below : (x : ℕ) → p x ≡ true → x < n
+  pub next : (x : ℕ) → p x ≡ true → (s : ℕ) × (f x ≡ Some s) × (p s ≡ true)
 
 pub is_value-true : (o : Option ℕ) (k : ℕ) → is_value o k ≡ true → o ≡ Some k
 is_value-true None k e = absurd (cc)

@@ -1,5 +1,5 @@
 -- When directories are consistent, in plain words: without order, firsts or parents.
-use Rattle.std.specs.Prelude.{ℕ, ◌≡◌, ◌≢◌, ◌≤◌, ◌<◌, ◌/◌, ◌%◌, true, false, pos, [], ◌⊎◌, IsSomeAnd, Some}
+use Rattle.std.specs.Prelude.{ℕ, ◌≡◌, ◌≢◌, ◌≤◌, ◌<◌, ◌%◌, true, false, pos, [], ◌⊎◌, IsSomeAnd, Some}
 use Rattle.ffs_volume.specs.declared.Class.TheVariants.{Partial, Unknown, Dir}
 use Rattle.ffs_volume.specs.declared.Role.TheVariants.{Extra, Plain}
 use Rattle.ffs_volume.specs.Blocks.Inodes.{ROOTINO, WINO, DT_DIR, DT_WHT, type_of}

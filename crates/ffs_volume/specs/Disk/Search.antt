@@ -1,5 +1,5 @@
 -- The least number below a bound that passes a test.
-use Rattle.std.specs.Prelude.{◌≡◌, ℕ, zero, suc, ◌<◌, Bool, true, false, cond, Option, None, Some, is_some}
+use Rattle.std.specs.Prelude.{ℕ, zero, suc, Bool, cond, Option, None, Some, is_some}
 
 -- the number found before, or else n where it passes
 unfoldable pub earliest : Option ℕ → Bool → ℕ → Option ℕ
@@ -15,14 +15,3 @@ first_below p (suc n) = earliest (first_below p n) (p n) n
 -- whether a number below n passes
 abbrev pub some_below : (ℕ → Bool) → ℕ → Bool
 some_below p n = is_some (first_below p n)
-
--- s is the least number below n that passes
-pub record IsFirst (p : ℕ → Bool) (n s : ℕ) : Type 0 where
-  pub below : s < n
-  pub passes : p s ≡ true
-  pub least : (t : ℕ) → t < s → p t ≡ false
-
--- what a search below n answers
-abbrev pub FirstMeaning : (ℕ → Bool) → ℕ → Option ℕ → Type 0
-FirstMeaning p n None = (t : ℕ) → t < n → p t ≡ false
-FirstMeaning p n (Some s) = IsFirst p n s
