@@ -1,5 +1,6 @@
 -- Following a function from numbers to numbers that may end, such as `parent`, and its cycles.
-use Rattle.std.specs.Prelude.{◌≡◌, ℕ, zero, suc, ◌≤◌, ◌==◌, nat_le, Bool, true, false, not, ◌&&◌, Option, None, Some, option_and_then}
+use Rattle.std.specs.Prelude.{◌≡◌, ℕ, zero, suc, ◌≤◌, ◌==◌, nat_le, Bool, true}
+use Rattle.std.specs.Prelude.{false, not, ◌&&◌, Option, None, Some, option_and_then}
 use Rattle.ffs_volume.specs.Disk.Search.{some_below}
 
 -- the number that following f k times leads to from d

@@ -1,5 +1,6 @@
 -- Where the parts of a volume lie, in fragments and in bytes.
-use Rattle.std.specs.Prelude.{ℕ, ◌+◌, ◌-◌, ◌*◌, ◌/◌, ◌%◌, Bool, ◌&&◌, ◌||◌, not, nat_lt, nat_le, ◌==◌, ℤ, pos, ◌*ℤ◌, bit_and}
+use Rattle.std.specs.Prelude.{ℕ, ◌+◌, ◌-◌, ◌*◌, ◌/◌, ◌%◌, Bool, ◌&&◌, ◌||◌}
+use Rattle.std.specs.Prelude.{not, nat_lt, nat_le, ◌==◌, ℤ, pos, ◌*ℤ◌, bit_and}
 use Rattle.std.specs.Int.{div_ceil}
 use Rattle.ffs_volume.specs.Disk.Numbers.{natural, all_below}
 use Rattle.ffs_volume.specs.Disk.Search.{some_below}

@@ -4,13 +4,24 @@ use Rattle.std.specs.List.{flat_map, concat}
 use Rattle.std.specs.Fmt.{signed_decimal}
 use Rattle.ffs_volume.specs.declared.Attr.{Attr}
 use Rattle.ffs_volume.specs.declared.BlockMessage.{BlockMessage}
-use Rattle.ffs_volume.specs.declared.BlockMessage.TheVariants.{PartAlloc, UnknownType, Bad, Dup, ManyBad, ManyDup, PartTrunc, BlockCount, GroupMagic, FreeCounts, MapsWrong, GroupSums}
+use Rattle.ffs_volume.specs.declared.BlockMessage.TheVariants.{PartAlloc, UnknownType, Bad, Dup, ManyBad}
+use Rattle.ffs_volume.specs.declared.BlockMessage.TheVariants.{ManyDup, PartTrunc, BlockCount, GroupMagic}
+use Rattle.ffs_volume.specs.declared.BlockMessage.TheVariants.{FreeCounts, MapsWrong, GroupSums}
 use Rattle.ffs_volume.specs.declared.Label.{Label}
 use Rattle.ffs_volume.specs.declared.Label.TheVariants.{Dir, File, Name}
 use Rattle.ffs_volume.specs.declared.SuperFault.{SuperFault}
-use Rattle.ffs_volume.specs.declared.SuperFault.TheVariants.{CannotRead, Magic, InodeFormat, Ncg, Cpg, Ncyl, TooLarge, Shape, Short, Disagree}
+use Rattle.ffs_volume.specs.declared.SuperFault.TheVariants.{CannotRead, Magic, InodeFormat, Ncg, Cpg}
+use Rattle.ffs_volume.specs.declared.SuperFault.TheVariants.{Ncyl, TooLarge, Shape, Short, Disagree}
 use Rattle.ffs_volume.specs.declared.texts.TheConstants as texts
-use Rattle.ffs_volume.specs.Messages.Kinds.{Message, location, opening, bad_super, cannot_read, cannot_alloc, optimization, minfree, mounted, phase1, phase1b, phase2, phase3, phase4, phase5, of_blocks, of_names, summary, NameMessage, root_none, root_not_dir, root_suspect, dir_short, dir_length, dir_empty, dir_corrupt, missing_dot, missing_dot_first, number_dot, kind_dot, missing_dotdot, missing_dotdot_second, number_dotdot, kind_dotdot, extra_dot, extra_dotdot, out_of_range, whiteout, unallocated, dup_bad, zero_dir, extraneous, kind_entry, unref_dir, dead_marked, dead_zero, unref, unref_zero, link_count}
+use Rattle.ffs_volume.specs.Messages.Kinds.{Message, location, opening, bad_super, cannot_read, cannot_alloc}
+use Rattle.ffs_volume.specs.Messages.Kinds.{optimization, minfree, mounted, phase1, phase1b, phase2, phase3}
+use Rattle.ffs_volume.specs.Messages.Kinds.{phase4, phase5, of_blocks, of_names, summary, NameMessage}
+use Rattle.ffs_volume.specs.Messages.Kinds.{root_none, root_not_dir, root_suspect, dir_short, dir_length}
+use Rattle.ffs_volume.specs.Messages.Kinds.{dir_empty, dir_corrupt, missing_dot, missing_dot_first}
+use Rattle.ffs_volume.specs.Messages.Kinds.{number_dot, kind_dot, missing_dotdot, missing_dotdot_second}
+use Rattle.ffs_volume.specs.Messages.Kinds.{number_dotdot, kind_dotdot, extra_dot, extra_dotdot, out_of_range}
+use Rattle.ffs_volume.specs.Messages.Kinds.{whiteout, unallocated, dup_bad, zero_dir, extraneous, kind_entry}
+use Rattle.ffs_volume.specs.Messages.Kinds.{unref_dir, dead_marked, dead_zero, unref, unref_zero, link_count}
 use Rattle.ffs_volume.specs.Messages.Shown.{shown, octal, sign_text}
 
 -- the line that shows a path begins with what the path is of
@@ -27,7 +38,8 @@ file_label Name = texts.FILE.now
 
 -- the attributes of an inode, the mode in octal
 abbrev pub attr_text : Attr → List ℕ
-attr_text a = concat (texts.INODE.now ∷ decimal a.number ∷ texts.OWNER.now ∷ decimal a.uid ∷ texts.MODE.now ∷ octal a.mode
+attr_text a = concat (
+    texts.INODE.now ∷ decimal a.number ∷ texts.OWNER.now ∷ decimal a.uid ∷ texts.MODE.now ∷ octal a.mode
     ∷ texts.SIZE.now ∷ decimal a.size ∷ texts.MTIME.now ∷ signed_decimal a.mtime ∷ [])
 
 -- an inode with its attributes
@@ -45,7 +57,8 @@ path_text head about label path tail = inode_text head about (concat (path_label
 -- a directory with its attributes and its path, and the name of the entry in the place of `.` or `..`
 abbrev pub name_in_the_way : List ℕ → Attr → List ℕ → List ℕ → List ℕ → List ℕ
 name_in_the_way head about path why name =
-    inode_text head about (concat (texts.PATH_OF_DIR.now ∷ map shown path ∷ why ∷ map shown name ∷ texts.LINE_END.now ∷ []))
+    inode_text head about (concat (
+    texts.PATH_OF_DIR.now ∷ map shown path ∷ why ∷ map shown name ∷ texts.LINE_END.now ∷ []))
 
 -- a number between two texts
 abbrev pub number_text : List ℕ → ℕ → List ℕ → List ℕ
