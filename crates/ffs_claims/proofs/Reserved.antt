@@ -65,7 +65,8 @@ one_below v groups f =
     swap : (a b d : Bool) → (a || (b || d)) ≡ ((b || a) || d)
     swap true true d = refl
     swap true false d = refl
-    swap false b d = refl
+    swap false true d = refl
+    swap false false d = refl
 
 reserved_is : (v : Layout) (f : ℕ) → is_reserved_below v v.ncg f ≡ is_reserved v f
 unfolding is_reserved is_group_metadata
