@@ -58,8 +58,8 @@ one_below v groups f =
     let more : groups + 1 ≡ suc groups = omega arith in
     let kept = λ (c : ℕ). is_in_run (cgsblock v c) (cgdmin v c) f in
     rw more (
-      swap (kept groups) (some_below kept groups) (is_first v f)
-      ∙ ap (λ (b : Bool). b || is_first v f) (sym (some_below-suc kept groups))
+    swap (kept groups) (some_below kept groups) (is_first v f)
+    ∙ ap (λ (b : Bool). b || is_first v f) (sym (some_below-suc kept groups))
     )
   where
     swap : (a b d : Bool) → (a || (b || d)) ≡ ((b || a) || d)
