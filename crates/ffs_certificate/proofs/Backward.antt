@@ -8,7 +8,8 @@ use Rattle.ffs_volume.specs.Blocks.Inodes.{is_allocated, is_unknown}
 use Rattle.ffs_volume.specs.Directories.Roles.{Volume, RoledEntry, is_dir, is_inode, is_allocated_inode, is_suspect, roled_entries, dotdot, references}
 use Rattle.ffs_volume.specs.Directories.Climb.{is_value}
 use Rattle.ffs_volume.proofs.ClimbLaws.{is_value-from}
-use Rattle.ffs_volume.specs.Directories.Graph.{parent, parent_entry, reached, AllReached, NoExtraneous}
+use Rattle.ffs_volume.specs.Directories.Graph.{parent, parent_entry, reached}
+use Rattle.ffs_volume.proofs.Graphs.{AllReached, NoExtraneous}
 use Rattle.ffs_volume.proofs.LevelLaws.{reached-root}
 use Rattle.ffs_certificate.proofs.Lost.{silent-reached}
 use Rattle.ffs_certificate.proofs.Links.{links-right}

@@ -69,35 +69,37 @@ quiet_right v os q =
     let new = fresh_new (reserved_map v) (fragments_of (all_steps os)) (rw long below) q.new in
     record {
       classes = q.classes;
-      in_range = q.in_range;
-      no_tail = q.no_tail;
-      alone = λ f. omega (arith, new f);
-      unreserved = λ f e. elim (cases_lt f v.size) [
-        | inl low ↦
-            let set : bit (is_set (reserved_map v) f) ≡ 1 = ap bit (reserved_bit v f ∙ and_from _ _ (lt-ltb f v.size low) e) in
-            omega (arith, new f)
-        | inr past ↦ times_past v.size f _ below past
-      ];
-      counted = q.counted;
+      runs = record {
+        in_range = q.in_range;
+        no_tail = q.no_tail;
+        alone = λ f. omega (arith, new f);
+        unreserved = λ f e. elim (cases_lt f v.size) [
+          | inl low ↦
+              let set : bit (is_set (reserved_map v) f) ≡ 1 = ap bit (reserved_bit v f ∙ and_from _ _ (lt-ltb f v.size low) e) in
+              omega (arith, new f)
+          | inr past ↦ times_past v.size f _ below past
+        ];
+        counted = q.counted;
+      };
     }
 
 pub right_quiet : (v : Layout) (os : List Owner) → BlocksRight v os → Quiet v (reserved_map v) os
 right_quiet v os r =
-    let below = runs_below v (all_steps os) r.in_range in
+    let below = runs_below v (all_steps os) r.runs.in_range in
     let long = reserved_length v in
     record {
       classes = r.classes;
-      in_range = r.in_range;
-      no_tail = r.no_tail;
+      in_range = r.runs.in_range;
+      no_tail = r.runs.no_tail;
       new = new_fresh (reserved_map v) (fragments_of (all_steps os)) (rw long below) (λ f. one f (is_set (reserved_map v) f) refl);
-      counted = r.counted;
+      counted = r.runs.counted;
     }
   where
     one : (f : ℕ) (b : Bool) → is_set (reserved_map v) f ≡ b → times f (fragments_of (all_steps os)) + bit b ≤ 1
-    one f false e = omega (arith, r.alone f)
+    one f false e = omega (arith, r.runs.alone f)
     one f true e =
         let held = and_parts (nat_lt f v.size) (is_reserved v f) (sym (reserved_bit v f) ∙ e) in
-        omega (arith, r.unreserved f held.1)
+        omega (arith, r.runs.unreserved f held.1)
 
 -- no line of phase 1, or of phases 1 and 1b
 pub phase1_silent : (v : Layout) (os : List Owner) → (phase1_lines v os ≡ []) ↔ BlocksRight v os

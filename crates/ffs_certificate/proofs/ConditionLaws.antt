@@ -18,12 +18,12 @@ use Rattle.ffs_volume.specs.Blocks.Inodes.{is_directory, is_allocated, is_unknow
 use Rattle.ffs_volume.specs.Directories.Roles.{Volume, is_dir, is_inode, is_suspect, dotdot, references}
 use Rattle.ffs_volume.specs.Directories.Climb.{is_value}
 use Rattle.ffs_volume.proofs.ClimbLaws.{is_value-true}
-use Rattle.ffs_volume.specs.Directories.Graph.{parent, parent_entry, NoExtraneous}
+use Rattle.ffs_volume.specs.Directories.Graph.{parent, parent_entry}
+use Rattle.ffs_volume.proofs.Graphs.{NoExtraneous}
 use Rattle.ffs_volume.specs.Directories.Parents.{graph_of, is_from_parent}
 use Rattle.ffs_volume.specs.Directories.PathnameCheck.{is_other, is_extraneous}
 use Rattle.ffs_volume.specs.Consistent.DirectoriesRight.{IsVolume, IsUnmarked, IsPlainRight, AreDirsRight, AreLinksRight, AreCountsRight}
 use Rattle.ffs_volume.specs.Directories.Volumes.{class_at, whole_volume}
-use Rattle.ffs_volume.specs.Consistent.Volume.{AreRunsRight}
 use Rattle.ffs_certificate.specs.DirsCertificate.{IsSilent}
 use Rattle.ffs_certificate.specs.Conditions.{IsPlainUnreported, AreDirsUnreported, AreLinksUnreported, AreCountsUnreported, ConditionsReported, ConditionsAreReported}
 use Rattle.ffs_certificate.proofs.Silence.{and_false-right, and_false-from}
@@ -40,7 +40,7 @@ use Rattle.ffs_certificate.proofs.BlocksSilent.{phase1_silent}
 use Rattle.ffs_certificate.proofs.GroupLaws.{phase5_silent, same_free}
 use Rattle.ffs_certificate.proofs.VolumeLaws.{whole_is_volume, whole_unmarked, same_whole}
 use Rattle.ffs_certificate.proofs.ClassLines.{classes_reported}
-use Rattle.ffs_certificate.proofs.ReportLaws.{settings_reported, runs_of}
+use Rattle.ffs_certificate.proofs.ReportLaws.{settings_reported}
 
 -- DIRECTORIES
 plain_right : (v : Volume) (e : Entry) → IsUnmarked v → e.number ≢ 0 → IsPlainUnreported v e → IsPlainRight v e
@@ -176,9 +176,6 @@ checks_reported v vol un = (
 )
 
 -- THE WHOLE
-blocks_from : (v : Layout) (os : List Owner) → list_all (λ o. is_right_class o.class) os ≡ true → AreRunsRight v os → BlocksRight v os
-blocks_from v os c r = record { classes = c; in_range = r.in_range; no_tail = r.no_tail; alone = r.alone; unreserved = r.unreserved; counted = r.counted }
-
 conditions : (image : List ℕ) (s : Superblock) → IsGeometry s.layout → ConditionsReported image s
 conditions image s g =
     let v = s.layout in
@@ -187,7 +184,7 @@ conditions image s g =
     record {
       settings = settings_reported s;
       classes = ((λ e. not-false _ (sym (classes_reported v os) ∙ e)), (λ c. classes_reported v os ∙ not_from_true _ c));
-      runs = λ c. ((λ e. runs_of v os ((phase1_silent v os).0 e)), (λ r. (phase1_silent v os).1 (blocks_from v os c r)));
+      runs = λ c. ((λ e. ((phase1_silent v os).0 e).runs), (λ r. (phase1_silent v os).1 (record { classes = c; runs = r })));
       whole = same_whole v image;
       checks = λ b. checks_reported w (whole_is_volume v image g) (whole_unmarked v image b);
       dirs = λ b. dirs_reported w (whole_is_volume v image g) (whole_unmarked v image b);

@@ -9,7 +9,8 @@ use Rattle.ffs_volume.specs.Blocks.Inodes.{is_directory, is_allocated, is_unknow
 use Rattle.ffs_volume.specs.Directories.Roles.{Volume, is_dir, is_inode, is_allocated_inode, is_suspect, dotdot, references}
 use Rattle.ffs_volume.specs.Directories.Climb.{is_value}
 use Rattle.ffs_volume.proofs.ClimbLaws.{is_value-true}
-use Rattle.ffs_volume.specs.Directories.Graph.{Graph, parent, parent_entry, lost, reached, AllReached, NoExtraneous, NamedOnce}
+use Rattle.ffs_volume.specs.Directories.Graph.{Graph, parent, parent_entry, lost, reached, NamedOnce}
+use Rattle.ffs_volume.proofs.Graphs.{AllReached, NoExtraneous}
 use Rattle.ffs_volume.proofs.Unreached.{lost-true}
 use Rattle.ffs_certificate.proofs.Lost.{silent-reached}
 use Rattle.ffs_certificate.proofs.Links.{links-right, has_parent_entry}

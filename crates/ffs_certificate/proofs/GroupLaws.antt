@@ -154,15 +154,15 @@ same_free v os r = fun_ext (λ f. one f (nat_lt f v.size) refl)
     set_bit f =
         let long = reserved_length v in
         ap (λ u. bit (is_set u f)) used_is
-        ∙ marked_bit (reserved_map v) (fragments_of (all_steps os)) (rw long (runs_below v (all_steps os) r.in_range)) quiet.new f
+        ∙ marked_bit (reserved_map v) (fragments_of (all_steps os)) (rw long (runs_below v (all_steps os) r.runs.in_range)) quiet.new f
 
     held : (f : ℕ) → nat_lt f v.size ≡ true → (a : Bool) → is_reserved v f ≡ a → bit (is_set (reserved_map v) f) ≡ bit a
     held f low a ea = ap bit (reserved_bit v f ∙ rw (low, ea) refl)
 
     two : (f : ℕ) → nat_lt f v.size ≡ true → (a : Bool) → is_reserved v f ≡ a → (b : Bool) → list_any (λ g. g == f) (fragments_of (all_steps os)) ≡ b →
         is_set (after_owners v (no_claims v) os).used f ≡ (a || b)
-    two f low true ea b eb = bit_one _ (omega (arith, set_bit f, held f low true ea, r.unreserved f ea))
-    two f low false ea true eb = bit_one _ (omega (arith, set_bit f, held f low false ea, any_times f (fragments_of (all_steps os)) eb, r.alone f))
+    two f low true ea b eb = bit_one _ (omega (arith, set_bit f, held f low true ea, r.runs.unreserved f ea))
+    two f low false ea true eb = bit_one _ (omega (arith, set_bit f, held f low false ea, any_times f (fragments_of (all_steps os)) eb, r.runs.alone f))
     two f low false ea false eb = bit_zero _ (omega (arith, set_bit f, held f low false ea, none_times f (fragments_of (all_steps os)) eb))
 
     one : (f : ℕ) (low : Bool) → nat_lt f v.size ≡ low → is_free_of_kept v os f ≡ is_free_of_runs v os f

@@ -1,6 +1,6 @@
 -- The fold over steps keeps what the rule keeps.
 use Rattle.std.proofs.Common.{inl, inr, ◌≡◌, ℕ, ◌+◌, ◌<◌, ◌≤◌, Bool, true, false, cond, arith, refl, sym, ap, subst, ◌∙◌, List, ◌∷◌, length}
-use Rattle.std.specs.Prelude.{nat_lt, nat_le, min, ◌&&◌, ◌||◌, ◌==◌, slice_set}
+use Rattle.std.specs.Prelude.{count_by, nat_lt, nat_le, min, ◌&&◌, ◌||◌, ◌==◌, slice_set}
 use Rattle.std.proofs.lemmas.Bool.{and_parts, cases_eq, both_ways, eq-eqb, ne_eqb, ltb-true, ltb-false, le-leb, lt-leb}
 use Rattle.std.proofs.lemmas.List.{get_or-set_same, get_or-set_other, length-set}
 use Rattle.std.proofs.lemmas.List.Sums.{sum_by-cons}
@@ -8,7 +8,11 @@ use Rattle.ffs_volume.specs.declared.Layout.{Layout}
 use Rattle.ffs_volume.specs.Disk.Areas.{is_data_fragment, is_reserved}
 use Rattle.ffs_volume.specs.Blocks.Claims.{Claims, is_set, after_offer}
 use Rattle.ffs_certificate.proofs.FreshLaws.{bit}
-use Rattle.ffs_volume.specs.Blocks.Keeping.{counted_offer, OfferVerdict, is_taken, dups_of, kept_of, offer_verdict}
+use Rattle.ffs_volume.specs.Blocks.Keeping.{counted_offer, OfferVerdict, is_taken, dups_of, offer_verdict}
+
+-- how many kept offers of an inode there are
+abbrev pub kept_of : List OfferVerdict → ℕ → ℕ
+kept_of earlier i = count_by (λ j. j.kept && j.inode == i) earlier
 
 pub dups_cons : (j : OfferVerdict) (e : List OfferVerdict) (i : ℕ) → dups_of (j ∷ e) i ≡ bit (j.dup && j.inode == i) + dups_of e i
 dups_cons j e i = sum_by-cons (λ k. cond (k.dup && k.inode == i) 1 0) j e

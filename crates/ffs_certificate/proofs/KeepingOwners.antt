@@ -9,8 +9,8 @@ use Rattle.ffs_volume.specs.declared.Step.TheVariants.{Run, Tail, Gap}
 use Rattle.ffs_volume.specs.Disk.Areas.{is_data_fragment, is_in_range, is_reserved}
 use Rattle.ffs_volume.specs.Blocks.Claims.{Claims, is_set, is_open, after_offer, after_offers, after_step}
 use Rattle.ffs_volume.specs.Blocks.BlockCheck.{kept_in_offers, kept_in_step}
-use Rattle.ffs_volume.specs.Blocks.Keeping.{CountedOffer, bads_after, counted_offer, step_offers, OfferVerdict, is_taken, dups_of, kept_of, offer_verdict, verdicts, offer_of, kept_by_rule}
-use Rattle.ffs_certificate.proofs.KeepingLaws.{dups_cons, kept_cons, OfferTie, not_taken, offer_tied}
+use Rattle.ffs_volume.specs.Blocks.Keeping.{CountedOffer, bads_after, counted_offer, step_offers, OfferVerdict, is_taken, dups_of, offer_verdict, verdicts, offer_of, kept_by_rule}
+use Rattle.ffs_certificate.proofs.KeepingLaws.{kept_of, dups_cons, kept_cons, OfferTie, not_taken, offer_tied}
 
 pub judged_append : (v : Layout) (e : List OfferVerdict) (ps qs : List CountedOffer) → verdicts v e (ps ++ qs) ≡ verdicts v (verdicts v e ps) qs
 judged_append v e [] qs = refl

@@ -12,9 +12,9 @@ use Rattle.ffs_volume.specs.Blocks.Claims.{Claims, is_set, next_inode, no_claims
 use Rattle.ffs_volume.specs.Blocks.BlockCheck.{kept_in_steps, kept_in_owners}
 use Rattle.ffs_certificate.proofs.FreshLaws.{bit}
 use Rattle.ffs_certificate.proofs.BlocksSilent.{reserved_length, reserved_bit}
-use Rattle.ffs_volume.specs.Blocks.Keeping.{CountedOffer, bads_after, counted_offer, step_offers, steps_offers, all_offers, OfferVerdict, is_taken, dups_of, kept_of, offer_verdict, verdicts, kept_by_rule}
+use Rattle.ffs_volume.specs.Blocks.Keeping.{CountedOffer, bads_after, counted_offer, step_offers, steps_offers, all_offers, OfferVerdict, is_taken, dups_of, offer_verdict, verdicts, kept_by_rule}
 use Rattle.ffs_certificate.specs.Certificate.{KeepsByRule}
-use Rattle.ffs_certificate.proofs.KeepingLaws.{dups_cons, kept_cons, ok_low}
+use Rattle.ffs_certificate.proofs.KeepingLaws.{kept_of, dups_cons, kept_cons, ok_low}
 use Rattle.ffs_certificate.proofs.KeepingOwners.{Tie, step_tied, judged_append, kept_append}
 
 -- how many bad Runs some steps have, where `bads` are before

@@ -6,7 +6,8 @@ use Rattle.std.proofs.lemmas.Bool.{cases_eq, cases_Bool, and_parts, and_from, bo
 use Rattle.ffs_volume.proofs.SearchLaws.{some_below-from, some_below-gives, first_below-is}
 use Rattle.ffs_volume.specs.Directories.Climb.{is_value}
 use Rattle.ffs_volume.proofs.ClimbLaws.{is_value-from}
-use Rattle.ffs_volume.specs.Directories.Graph.{Graph, AllReached, edge, names, names_in, parent, parent_by, level, level_edge, reached, entry_index, first_index, test_at, names_at, IsParentEntry, NoExtraneous, LinksRight}
+use Rattle.ffs_volume.specs.Directories.Graph.{Graph, edge, names, names_in, parent, parent_by, level, level_edge, reached, entry_index, first_index, test_at, names_at}
+use Rattle.ffs_volume.proofs.Graphs.{AllReached, IsParentEntry, NoExtraneous, LinksRight}
 use Rattle.ffs_volume.proofs.LevelLaws.{within-zero, level-some, level-before, level-is, reached-level}
 use Rattle.ffs_volume.specs.Directories.Roles.{RoledEntry}
 

@@ -1,6 +1,6 @@
 -- The examples of whole reports.
 use Rattle.std.proofs.Common.{refl, ap, ◌∙◌, ◌∷◌, ◌++◌, None}
-use Rattle.ffs_volume.specs.Disk.Numbers.{number, all_below, any_below, u16_at, i16_at, u32_at, u64_at, i32_at}
+use Rattle.ffs_volume.specs.Disk.Numbers.{number, all_below, u16_at, i16_at, u32_at, u64_at, i32_at}
 use Rattle.ffs_volume.specs.Disk.Areas.{cgoffset_of, cgbase, cgstart, is_group_metadata, is_data_fragment, is_in_range, is_reserved}
 use Rattle.ffs_volume.specs.Blocks.Inodes.{decoded, inode_of, class_of}
 use Rattle.ffs_volume.specs.Blocks.Steps.{steps_at, steps_of}
@@ -10,7 +10,7 @@ use Rattle.ffs_volume.specs.Blocks.BlockCheck.{phase1_lines, phase1b_lines, is_m
 use Rattle.ffs_volume.specs.Blocks.KeptSteps.{claims_before, kept_steps_of}
 use Rattle.ffs_volume.specs.Directories.Entries.{is_well_formed, entry_read, entry_at, entries_from}
 use Rattle.ffs_volume.specs.Directories.Roles.{role_of, roled_from, roled_entries, start_entry, dot, dotdot, references_below}
-use Rattle.ffs_volume.specs.Directories.Search.{first_below, earliest}
+use Rattle.ffs_volume.specs.Disk.Search.{first_below, earliest}
 use Rattle.ffs_volume.specs.Directories.Climb.{climb}
 use Rattle.ffs_volume.specs.Directories.Graph.{within, level, parent}
 use Rattle.ffs_volume.specs.Messages.Kinds.{lines_below, has_defect}
@@ -37,7 +37,7 @@ use Rattle.ffs_certificate.proofs.SharedReport.{shared_lines}
 use Rattle.ffs_certificate.proofs.DirReport.{named_pathnames, named_connected, named_references, unnamed}
 
 pub report_examples : ReportExamples
-unfolding bytes_in word zeros base_layout base_superblock base_super base_summary base_group root_inode root_chunk base_image entry_bytes inode_bytes dir_chunk two_dirs named_dir unnamed_dir shared_summary shared_group shared_image shared_superblock number all_below any_below u16_at i16_at u32_at u64_at i32_at cgoffset_of cgbase cgstart is_group_metadata is_data_fragment is_in_range is_reserved decoded inode_of class_of steps_at steps_of owner_of owners_of reserved_map no_claims phase1_lines phase1b_lines is_marked claims_before kept_steps_of is_well_formed entry_read entry_at entries_from role_of roled_from roled_entries reading_of volume_with volume_of start_entry dot dotdot references_below first_below earliest climb within level parent lines_below attributes root_lines shape_lines dot_lines dotdot_lines named_lines plain_lines roled_lines entry_lines dir_lines pathname_lines connectivity_lines inode_lines reference_lines right_summary right_frsum right_total are_places is_magic are_maps are_sums is_record is_total phase5_lines setting_lines file_count used_count later_lines text_lines report_lines report_of report_end
+unfolding bytes_in word zeros base_layout base_superblock base_super base_summary base_group root_inode root_chunk base_image entry_bytes inode_bytes dir_chunk two_dirs named_dir unnamed_dir shared_summary shared_group shared_image shared_superblock number all_below u16_at i16_at u32_at u64_at i32_at cgoffset_of cgbase cgstart is_group_metadata is_data_fragment is_in_range is_reserved decoded inode_of class_of steps_at steps_of owner_of owners_of reserved_map no_claims phase1_lines phase1b_lines is_marked claims_before kept_steps_of is_well_formed entry_read entry_at entries_from role_of roled_from roled_entries reading_of volume_with volume_of start_entry dot dotdot references_below first_below earliest climb within level parent lines_below attributes root_lines shape_lines dot_lines dotdot_lines named_lines plain_lines roled_lines entry_lines dir_lines pathname_lines connectivity_lines inode_lines reference_lines right_summary right_frsum right_total are_places is_magic are_maps are_sums is_record is_total phase5_lines setting_lines file_count used_count later_lines text_lines report_lines report_of report_end
 report_examples =
     let accepted = superblock_examples.accepted in
     let accepted_big = superblock_examples.accepted_big in

@@ -27,7 +27,7 @@ use Rattle.ffs_volume.specs.Directories.Connectivity.{connectivity_lines}
 use Rattle.ffs_volume.specs.Directories.ReferenceCheck.{reference_lines}
 use Rattle.ffs_certificate.specs.DirsCertificate.{IsSilent, AreDirectoriesRight}
 use Rattle.ffs_volume.specs.Directories.Volumes.{class_at, volume_of, whole_volume}
-use Rattle.ffs_volume.specs.Consistent.Volume.{AreSettingsRight, AreRunsRight, IsConsistent}
+use Rattle.ffs_volume.specs.Consistent.Volume.{AreSettingsRight, IsConsistent}
 use Rattle.ffs_volume.specs.Report.Whole.{rescan_lines, later_lines, text_lines, report_lines, end_by, end_of}
 use Rattle.ffs_certificate.specs.ReportRight.{IsCertified, ReportIsRight, StopIsReported}
 use Rattle.ffs_certificate.proofs.Silence.{nil-left}
@@ -109,17 +109,7 @@ root_there v h = reported_root v (v.class 2) (nil-left (root_reported v (v.class
 
 -- CONDITIONS 2 AND 3
 blocks_of_parts : (image : List ℕ) (super : Superblock) → IsConsistent image super → BlocksRight super.layout (owners_of super.layout image)
-blocks_of_parts image super c = record {
-  classes = c.classes;
-  in_range = c.runs.in_range;
-  no_tail = c.runs.no_tail;
-  alone = c.runs.alone;
-  unreserved = c.runs.unreserved;
-  counted = c.runs.counted;
-}
-
-pub runs_of : (v : Layout) (os : List Owner) → BlocksRight v os → AreRunsRight v os
-runs_of v os r = record { in_range = r.in_range; no_tail = r.no_tail; alone = r.alone; unreserved = r.unreserved; counted = r.counted }
+blocks_of_parts image super c = record { classes = c.classes; runs = c.runs }
 
 -- PHASES 3 TO 5
 record AreLaterSilent (image : List ℕ) (super : Superblock) : Type 0 where
@@ -187,7 +177,7 @@ forward image super g h =
     record {
       settings = settings_say super p.0;
       classes = blocks.classes;
-      runs = runs_of super.layout (owners_of super.layout image) blocks;
+      runs = blocks.runs;
       dirs = dirs.dirs;
       links = dirs.links;
       counts = dirs.counts;

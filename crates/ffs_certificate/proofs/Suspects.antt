@@ -10,7 +10,8 @@ use Rattle.ffs_volume.specs.Directories.Roles.{Volume, is_dir, is_inode, is_allo
 use Rattle.ffs_volume.proofs.SearchLaws.{some_below-gives, first_below-is}
 use Rattle.ffs_volume.specs.Directories.Climb.{is_value}
 use Rattle.ffs_volume.proofs.ClimbLaws.{is_value-from}
-use Rattle.ffs_volume.specs.Directories.Graph.{names, names_in, named, first_index, test_at, IsSane, NoneDead}
+use Rattle.ffs_volume.specs.Directories.Graph.{names, names_in, named, first_index, test_at}
+use Rattle.ffs_volume.proofs.Graphs.{IsSane, NoneDead}
 use Rattle.ffs_certificate.proofs.Links.{place_of}
 use Rattle.ffs_volume.specs.Directories.Parents.{graph_of, roled_at, first_namer, is_first_name}
 use Rattle.ffs_volume.specs.Directories.PathnameCheck.{reports_suspect}

@@ -16,13 +16,15 @@ abbrev pub BlocksAndGroups : Type 0
 BlocksAndGroups = (v : Layout) (image : List ℕ) (totals : List ℤ) →
     ((phase1_lines v (owners_of v image) ++ phase1b_lines v (owners_of v image))
     ++ phase5_lines v image totals (is_free_of_kept v (owners_of v image)) (class_at v image) ≡ [])
-    ↔ (BlocksRight v (owners_of v image) × GroupsRight v image totals (is_free_of_runs v (owners_of v image)) (class_at v image))
+    ↔ (BlocksRight v (owners_of v image)
+    × GroupsRight v image totals (is_free_of_runs v (owners_of v image)) (class_at v image))
 
 -- the fold keeps what the rule keeps: the offers in order, and so the fragments
 pub record KeepsByRule (v : Layout) (os : List Owner) : Type 0 where
   pub offers : kept_in_owners v (no_claims v) os ≡ kept_by_rule v [] (all_offers v os)
   pub used : (f : ℕ) → is_data_fragment v f ≡ true →
-      is_set (after_owners v (no_claims v) os).used f ≡ (is_reserved v f || is_taken (verdicts v [] (all_offers v os)) f)
+      is_set (after_owners v (no_claims v) os).used f
+      ≡ (is_reserved v f || is_taken (verdicts v [] (all_offers v os)) f)
 
 -- the fold's keeping is the rule's
 abbrev pub KeepingByRule : Type 0

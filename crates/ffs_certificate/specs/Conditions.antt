@@ -8,21 +8,23 @@ use Rattle.ffs_volume.specs.Disk.Superblock.{Superblock}
 use Rattle.ffs_volume.specs.Disk.Outcome.{outcome}
 use Rattle.ffs_volume.specs.Blocks.Owners.{owners_of}
 use Rattle.ffs_volume.specs.Blocks.BlockCheck.{phase1_lines}
-use Rattle.ffs_volume.specs.Consistent.BlocksRight.{is_right_class, BlocksRight}
+use Rattle.ffs_volume.specs.Consistent.BlocksRight.{is_right_class, AreRunsRight, BlocksRight}
 use Rattle.ffs_volume.specs.Groups.Records.{GroupsRight}
 use Rattle.ffs_volume.specs.Groups.GroupCheck.{phase5_lines, is_free_of_kept, is_free_of_runs}
 use Rattle.ffs_volume.specs.Directories.Entries.{Entry}
 use Rattle.ffs_volume.specs.Blocks.Inodes.{is_allocated}
-use Rattle.ffs_volume.specs.Directories.Roles.{Volume, RoledEntry, is_dir, is_allocated_inode, roled_entries, dot, dotdot, references}
+use Rattle.ffs_volume.specs.Directories.Roles.{Volume, RoledEntry, is_dir, is_allocated_inode}
+use Rattle.ffs_volume.specs.Directories.Roles.{roled_entries, dot, dotdot, references}
 use Rattle.ffs_volume.specs.Directories.Graph.{parent}
 use Rattle.ffs_volume.specs.Directories.Parents.{graph_of, roled_at}
 use Rattle.ffs_volume.specs.Report.Opening.{setting_lines}
-use Rattle.ffs_volume.specs.Directories.PathnameCheck.{goes_on, is_short, is_not_multiple, are_sound, is_other, is_bad_whiteout, is_extraneous, is_other_kind}
+use Rattle.ffs_volume.specs.Directories.PathnameCheck.{goes_on, is_short, is_not_multiple, are_sound, is_other}
+use Rattle.ffs_volume.specs.Directories.PathnameCheck.{is_bad_whiteout, is_extraneous, is_other_kind}
 use Rattle.ffs_volume.specs.Directories.Connectivity.{has_unref_line}
 use Rattle.ffs_volume.specs.Disk.Numbers.{is_the_count}
 use Rattle.ffs_volume.specs.Consistent.DirectoriesRight.{AreDirsRight, AreLinksRight, AreCountsRight}
 use Rattle.ffs_volume.specs.Directories.Volumes.{class_at, volume_of, whole_volume}
-use Rattle.ffs_volume.specs.Consistent.Volume.{AreSettingsRight, AreRunsRight}
+use Rattle.ffs_volume.specs.Consistent.Volume.{AreSettingsRight}
 use Rattle.ffs_certificate.specs.DirsCertificate.{IsSilent}
 
 -- a message that speaks of an inode's class
@@ -54,7 +56,8 @@ pub record IsDirUnreported (v : Volume) (d : ℕ) : Type 0 where
   pub dot_there : IsSomeAnd (dot v d) (λ e. (e.number ≡ d) × (e.kind ≡ 4))
   pub dotdot_there : IsSomeAnd (dotdot v d) (λ e. e.kind ≡ 4)
   pub no_extra : (j : ℕ) (s : RoledEntry) → roled_at (roled_entries v d) j ≡ Some s → s.role ≢ Extra
-  pub plain : (j : ℕ) (s : RoledEntry) → roled_at (roled_entries v d) j ≡ Some s → s.role ≡ Plain → IsPlainUnreported v s.entry
+  pub plain : (j : ℕ) (s : RoledEntry) → roled_at (roled_entries v d) j ≡ Some s → s.role ≡ Plain
+      → IsPlainUnreported v s.entry
 
 -- the root is no ROOT INODE UNALLOCATED or NOT DIRECTORY
 pub record AreDirsUnreported (v : Volume) : Type 0 where
@@ -63,8 +66,10 @@ pub record AreDirsUnreported (v : Volume) : Type 0 where
 
 -- Of condition 5: no BAD INODE NUMBER FOR '..', no EXTRANEOUS HARD LINK and no UNREF DIR
 pub record AreLinksUnreported (v : Volume) : Type 0 where
-  pub dotdots : (d : ℕ) → is_dir v d ≡ true → IsSomeAnd (dotdot v d) (λ e. is_other (parent (graph_of v) d) e.number ≡ false)
-  pub links : (s j : ℕ) (e : RoledEntry) → is_dir v s ≡ true → roled_at (roled_entries v s) j ≡ Some e → e.role ≡ Plain → is_extraneous v s j e.entry.number ≡ false
+  pub dotdots : (d : ℕ) → is_dir v d ≡ true
+      → IsSomeAnd (dotdot v d) (λ e. is_other (parent (graph_of v) d) e.number ≡ false)
+  pub links : (s j : ℕ) (e : RoledEntry) → is_dir v s ≡ true → roled_at (roled_entries v s) j ≡ Some e → e.role ≡ Plain
+      → is_extraneous v s j e.entry.number ≡ false
   pub lost : (d : ℕ) → has_unref_line v d ≡ false
 
 -- of condition 6: no UNREF and no LINK COUNT
@@ -75,8 +80,8 @@ pub record IsCountUnreported (v : Volume) (i : ℕ) : Type 0 where
 abbrev pub AreCountsUnreported : Volume → Type 0
 AreCountsUnreported v = (i : ℕ) → is_allocated_inode v i ≡ true → IsCountUnreported v i
 
--- Each condition and what is reported for it. Those of directories and groups are asked where the conditions on classes and Runs hold:
--- the volume that the checks see is then that of all steps, and what is free is free of all Runs
+-- Each condition and what is reported for it. Those of directories and groups are asked where the conditions on classes
+-- and Runs hold: the volume that the checks see is then that of all steps, and what is free is free of all Runs
 pub record ConditionsReported (image : List ℕ) (s : Superblock) : Type 0 where
   pub settings : (setting_lines s ≡ []) ↔ AreSettingsRight s
   pub classes : (list_any is_class_message (phase1_lines s.layout (owners_of s.layout image)) ≡ false)
@@ -85,15 +90,20 @@ pub record ConditionsReported (image : List ℕ) (s : Superblock) : Type 0 where
       (phase1_lines s.layout (owners_of s.layout image) ≡ []) ↔ AreRunsRight s.layout (owners_of s.layout image)
   pub whole : BlocksRight s.layout (owners_of s.layout image) → volume_of s.layout image ≡ whole_volume s.layout image
   pub checks : BlocksRight s.layout (owners_of s.layout image) → IsSilent (whole_volume s.layout image)
-      ↔ (AreDirsUnreported (whole_volume s.layout image) × AreLinksUnreported (whole_volume s.layout image) × AreCountsUnreported (whole_volume s.layout image))
-  pub dirs : BlocksRight s.layout (owners_of s.layout image) → AreDirsUnreported (whole_volume s.layout image) ↔ AreDirsRight (whole_volume s.layout image)
+      ↔ (AreDirsUnreported (whole_volume s.layout image) × AreLinksUnreported (whole_volume s.layout image)
+      × AreCountsUnreported (whole_volume s.layout image))
+  pub dirs : BlocksRight s.layout (owners_of s.layout image) → AreDirsUnreported (whole_volume s.layout image)
+      ↔ AreDirsRight (whole_volume s.layout image)
   pub links : BlocksRight s.layout (owners_of s.layout image) → AreDirsRight (whole_volume s.layout image) →
       AreLinksUnreported (whole_volume s.layout image) ↔ AreLinksRight (whole_volume s.layout image)
   pub counts : AreCountsUnreported (whole_volume s.layout image) ↔ AreCountsRight (whole_volume s.layout image)
   pub groups : BlocksRight s.layout (owners_of s.layout image) →
-      (phase5_lines s.layout image s.cstotal (is_free_of_kept s.layout (owners_of s.layout image)) (class_at s.layout image) ≡ [])
-      ↔ GroupsRight s.layout image s.cstotal (is_free_of_runs s.layout (owners_of s.layout image)) (class_at s.layout image)
+      (phase5_lines s.layout image s.cstotal (is_free_of_kept s.layout (owners_of s.layout image))
+      (class_at s.layout image) ≡ [])
+      ↔ GroupsRight s.layout image s.cstotal (is_free_of_runs s.layout (owners_of s.layout image))
+      (class_at s.layout image)
 
 -- for each accepted superblock
 abbrev pub ConditionsAreReported : Type 0
-ConditionsAreReported = (image : List ℕ) (sector : Option ℕ) (s : Superblock) → outcome image sector ≡ Ok s → ConditionsReported image s
+ConditionsAreReported = (image : List ℕ) (sector : Option ℕ) (s : Superblock) → outcome image sector ≡ Ok s
+    → ConditionsReported image s

@@ -4,7 +4,8 @@ use Rattle.ffs_volume.specs.Directories.Roles.{Volume}
 use Rattle.ffs_volume.specs.Directories.PathnameCheck.{pathname_lines}
 use Rattle.ffs_volume.specs.Directories.Connectivity.{connectivity_lines}
 use Rattle.ffs_volume.specs.Directories.ReferenceCheck.{reference_lines}
-use Rattle.ffs_volume.specs.Consistent.DirectoriesRight.{AreDirsRight, AreLinksRight, AreCountsRight, IsVolume, IsUnmarked}
+use Rattle.ffs_volume.specs.Consistent.DirectoriesRight.{AreDirsRight, AreLinksRight}
+use Rattle.ffs_volume.specs.Consistent.DirectoriesRight.{AreCountsRight, IsVolume, IsUnmarked}
 
 -- the three checks report nothing
 pub record IsSilent (v : Volume) : Type 0 where

@@ -14,6 +14,7 @@ kept_first steps = kept_steps (base_layout Little) (no_claims (base_layout Littl
 
 pub record KeptExamples : Type 0 where
   -- ten bad Runs are kept and the Gap before the eleventh, which isn't, nor what is after it
-  pub bad : kept_first (blocks_at 200 10 ++ (Gap ∷ Run 200 4 (Some 11) ∷ Gap ∷ Run 40 4 (Some 13) ∷ [])) ≡ blocks_at 200 10 ++ (Gap ∷ [])
+  pub bad : kept_first (blocks_at 200 10 ++ (Gap ∷ Run 200 4 (Some 11) ∷ Gap ∷ Run 40 4 (Some 13) ∷ []))
+      ≡ blocks_at 200 10 ++ (Gap ∷ [])
   -- a Run whose last offer is after the eleventh dup one isn't kept, nor the Tail of that Run
   pub dup : kept_first (blocks_at 5 3 ++ (Tail ∷ Gap ∷ Run 40 4 (Some 4) ∷ [])) ≡ blocks_at 5 2

@@ -7,20 +7,23 @@ use Rattle.ffs_volume.specs.declared.BlockMessage.TheVariants.{Dup}
 use Rattle.ffs_volume.specs.declared.End.TheVariants.{Consistent}
 use Rattle.ffs_volume.specs.declared.Label.TheVariants.{File as FileLabel}
 use Rattle.ffs_volume.specs.Disk.Superblock.{Superblock}
-use Rattle.ffs_volume.specs.Messages.Kinds.{Message, opening, mounted, phase1, phase1b, phase2, phase3, phase4, phase5, of_blocks, of_names, summary, dup_bad, root_none, unref_dir}
+use Rattle.ffs_volume.specs.Messages.Kinds.{Message, opening, mounted, phase1, phase1b, phase2, phase3, phase4}
+use Rattle.ffs_volume.specs.Messages.Kinds.{phase5, of_blocks, of_names, summary, dup_bad, root_none, unref_dir}
 use Rattle.ffs_volume.specs.Directories.PathnameCheck.{pathname_lines}
 use Rattle.ffs_volume.specs.Directories.Connectivity.{connectivity_lines}
 use Rattle.ffs_volume.specs.Directories.ReferenceCheck.{reference_lines}
 use Rattle.ffs_volume.specs.Directories.Volumes.{volume_of}
 use Rattle.ffs_volume.specs.Report.Whole.{text_lines, report_lines, report_of, report_end}
 use Rattle.ffs_volume.specs.Consistent.Volume.{IsConsistent}
-use Rattle.ffs_volume.specs.Examples.Images.{bytes_in, word, zeros, mount_bytes, base_layout, base_superblock, base_image, root_chunk}
+use Rattle.ffs_volume.specs.Examples.Images.{bytes_in, word, zeros, mount_bytes, base_layout}
+use Rattle.ffs_volume.specs.Examples.Images.{base_superblock, base_image, root_chunk}
 use Rattle.ffs_volume.specs.Examples.DirectoryExamples.{entry_bytes, one_dot, two_dots}
 
 -- an inode of this mode, count of links and size, with its first address
 unfoldable pub inode_bytes : Order → ℕ → ℕ → ℕ → ℕ → List ℕ
 inode_bytes o mode nlink size address =
-    bytes_in o 2 mode ++ (bytes_in o 2 nlink ++ (zeros 4 ++ (bytes_in o 8 size ++ (zeros 24 ++ (word o address ++ (zeros 60 ++ (word o 2 ++ zeros 20)))))))
+    bytes_in o 2 mode ++ (bytes_in o 2 nlink ++ (zeros 4 ++ (bytes_in o 8 size
+    ++ (zeros 24 ++ (word o address ++ (zeros 60 ++ (word o 2 ++ zeros 20)))))))
 
 -- a chunk with `.` and `..`, and these bytes of entries after them
 unfoldable pub dir_chunk : Order → ℕ → List ℕ → List ℕ
@@ -29,7 +32,8 @@ dir_chunk o d entries = entry_bytes o d 12 4 one_dot ++ (entry_bytes o 2 12 4 tw
 -- a directory inode 3 at fragment 37, and a root whose chunk this is. No superblock, and no group block
 unfoldable pub two_dirs : List ℕ → List ℕ
 two_dirs chunk =
-    zeros 28928 ++ (inode_bytes Little 16877 3 512 36 ++ (inode_bytes Little 16877 2 512 37 ++ (zeros 7680 ++ (chunk ++ (zeros 512
+    zeros 28928 ++ (inode_bytes Little 16877 3 512 36 ++ (inode_bytes Little 16877 2 512 37
+    ++ (zeros 7680 ++ (chunk ++ (zeros 512
     ++ (dir_chunk Little 3 (entry_bytes Little 0 488 0 []) ++ zeros 512))))))
 
 unfoldable pub named_dir : List ℕ
@@ -38,20 +42,24 @@ named_dir = two_dirs (dir_chunk Little 2 (entry_bytes Little 3 488 4 (100 ∷ []
 unfoldable pub unnamed_dir : List ℕ
 unnamed_dir = two_dirs (root_chunk Little)
 
--- two files `a` and `b` that share the fragment 37, in the big order, with a group block and a summary record that are right for it
+-- two files `a` and `b` that share the fragment 37, in the big order, with a group block and a summary record that are
+-- right for it
 unfoldable pub shared_summary : List ℕ
 shared_summary = word Big 1 ++ (word Big 22 ++ (word Big 27 ++ word Big 5))
 
 unfoldable pub shared_group : List ℕ
 shared_group =
-    zeros 4 ++ (word Big 590421 ++ (zeros 4 ++ (word Big 0 ++ (zeros 4 ++ (word Big 128 ++ (shared_summary ++ (zeros 12 ++ (word Big 0 ++ (word Big 0 ++ (word Big 1
+    zeros 4 ++ (word Big 590421 ++ (zeros 4 ++ (word Big 0 ++ (zeros 4
+    ++ (word Big 128 ++ (shared_summary ++ (zeros 12 ++ (word Big 0 ++ (word Big 0 ++ (word Big 1
     ++ (word Big 1 ++ (zeros 16 ++ (zeros 8 ++ (word Big 168 ++ (word Big 172 ++ (zeros 68
     ++ ((31 ∷ 0 ∷ 0 ∷ 0 ∷ 0 ∷ 0 ∷ 0 ∷ 0 ∷ 206 ∷ []) ++ replicate 11 255)))))))))))))))))
 
 unfoldable pub shared_image : List ℕ
 shared_image =
-    zeros 24576 ++ (shared_group ++ (zeros 4164 ++ (inode_bytes Big 16877 2 512 36 ++ (inode_bytes Big 33188 1 100 37 ++ (inode_bytes Big 33188 1 100 37 ++ (zeros 3456
-    ++ (shared_summary ++ (zeros 4080 ++ (dir_chunk Big 2 (entry_bytes Big 3 12 8 (97 ∷ []) ++ entry_bytes Big 4 476 8 (98 ∷ [])) ++ zeros 3584)))))))))
+    zeros 24576 ++ (shared_group ++ (zeros 4164 ++ (inode_bytes Big 16877 2 512 36
+    ++ (inode_bytes Big 33188 1 100 37 ++ (inode_bytes Big 33188 1 100 37 ++ (zeros 3456
+    ++ (shared_summary ++ (zeros 4080
+    ++ (dir_chunk Big 2 (entry_bytes Big 3 12 8 (97 ∷ []) ++ entry_bytes Big 4 476 8 (98 ∷ [])) ++ zeros 3584)))))))))
 
 unfoldable pub shared_superblock : Superblock
 shared_superblock = record {
@@ -67,7 +75,8 @@ about_file x = record { number = x; uid = 0; mode = 33188; size = 100; mtime = p
 
 -- a report without a defect
 abbrev pub clean_lines : List Message
-clean_lines = mounted mount_bytes ∷ phase1 ∷ phase2 ∷ phase3 ∷ phase4 ∷ phase5 ∷ summary 1 1 (pos 94) (pos 6) (pos 22) (pos 63) ∷ []
+clean_lines = mounted mount_bytes ∷ phase1 ∷ phase2 ∷ phase3 ∷ phase4 ∷ phase5
+    ∷ summary 1 1 (pos 94) (pos 6) (pos 22) (pos 63) ∷ []
 
 pub record ReportExamples : Type 0 where
   -- the base image, called t.img, in both orders: its report and its end, and so it is consistent
@@ -79,7 +88,8 @@ pub record ReportExamples : Type 0 where
   -- two files with one fragment
   pub shared : report_lines shared_image shared_superblock
       ≡ mounted mount_bytes ∷ phase1 ∷ of_blocks (Dup 37 4) ∷ phase1b ∷ of_blocks (Dup 37 3)
-      ∷ phase2 ∷ of_names (dup_bad (about_file 3) FileLabel (47 ∷ 97 ∷ [])) ∷ of_names (dup_bad (about_file 4) FileLabel (47 ∷ 98 ∷ []))
+      ∷ phase2 ∷ of_names (dup_bad (about_file 3) FileLabel (47 ∷ 97 ∷ []))
+      ∷ of_names (dup_bad (about_file 4) FileLabel (47 ∷ 98 ∷ []))
       ∷ phase3 ∷ phase4 ∷ phase5 ∷ summary 3 2 (pos 93) (pos 5) (pos 22) (pos 52) ∷ []
   -- no root: the run stops
   pub stopped : text_lines (zeros 40960) (base_superblock Little) ≡ phase1 ∷ phase2 ∷ of_names root_none ∷ []
@@ -87,4 +97,5 @@ pub record ReportExamples : Type 0 where
   pub named_pathnames : pathname_lines (volume_of (base_layout Little) named_dir) ≡ []
   pub named_connected : connectivity_lines (volume_of (base_layout Little) named_dir) ≡ []
   pub named_references : reference_lines (volume_of (base_layout Little) named_dir) ≡ []
-  pub unnamed : connectivity_lines (volume_of (base_layout Little) unnamed_dir) ≡ unref_dir (record { number = 3; uid = 0; mode = 16877; size = 512; mtime = pos 0 }) ∷ []
+  pub unnamed : connectivity_lines (volume_of (base_layout Little) unnamed_dir)
+      ≡ unref_dir (record { number = 3; uid = 0; mode = 16877; size = 512; mtime = pos 0 }) ∷ []

@@ -16,7 +16,8 @@ pub record IsCertified (image : List ℕ) (s : Superblock) : Type 0 where
 
 -- the certificate, for each accepted superblock
 abbrev pub ReportIsRight : Type 0
-ReportIsRight = (image : List ℕ) (sector : Option ℕ) (s : Superblock) → outcome image sector ≡ Ok s → IsCertified image s
+ReportIsRight = (image : List ℕ) (sector : Option ℕ) (s : Superblock) → outcome image sector ≡ Ok s
+    → IsCertified image s
 
 -- a run that stops after the root has reported a defect, and ends as such
 pub record IsReportedStop (image : List ℕ) (s : Superblock) : Type 0 where

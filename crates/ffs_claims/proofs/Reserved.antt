@@ -6,7 +6,8 @@ use Rattle.std.proofs.lemmas.List.FromFn.{length-map-range_with_len, get_or-map-
 use Rattle.std.proofs.lemmas.Bool.{cases_lt}
 use Rattle.std.proofs.lemmas.Bool.Decides.{nat_tests}
 use Rattle.ffs_volume.specs.declared.Layout.{Layout}
-use Rattle.ffs_volume.specs.Disk.Numbers.{any_below}
+use Rattle.ffs_volume.specs.Disk.Search.{first_below, some_below}
+use Rattle.ffs_volume.proofs.SearchLaws.{some_below-suc}
 use Rattle.ffs_volume.specs.Disk.Areas.{cgsblock, cgdmin, is_group_metadata, is_reserved}
 use Rattle.ffs_volume.specs.Blocks.Claims.{Claims, reserved_map, no_claims, next_inode}
 use Rattle.ffs_maps.specs.Bits.{set_run}
@@ -46,27 +47,32 @@ abbrev pub is_first : Layout → ℕ → Bool
 is_first v f = is_in_run v.csaddr (v.csaddr + div_ceil v.cssize v.fsize) f || (is_in_run 0 (cgdmin v 0) f || false)
 
 abbrev pub is_reserved_below : Layout → ℕ → ℕ → Bool
-is_reserved_below v groups f = any_below groups (λ c. is_in_run (cgsblock v c) (cgdmin v c) f) || is_first v f
+is_reserved_below v groups f = some_below (λ c. is_in_run (cgsblock v c) (cgdmin v c) f) groups || is_first v f
 
 pub none_below : (v : Layout) (f : ℕ) → is_first v f ≡ is_reserved_below v 0 f
-unfolding any_below
+unfolding first_below
 none_below v f = refl
 
 pub one_below : (v : Layout) (groups f : ℕ) → (is_in_run (cgsblock v groups) (cgdmin v groups) f || is_reserved_below v groups f) ≡ is_reserved_below v (groups + 1) f
-unfolding any_below
 one_below v groups f =
     let more : groups + 1 ≡ suc groups = omega arith in
-    rw more (sym (assoc (is_in_run (cgsblock v groups) (cgdmin v groups) f) (any_below groups (λ c. is_in_run (cgsblock v c) (cgdmin v c) f)) (is_first v f)))
+    let kept = λ (c : ℕ). is_in_run (cgsblock v c) (cgdmin v c) f in
+    rw more (
+    swap (kept groups) (some_below kept groups) (is_first v f)
+    ∙ ap (λ (b : Bool). b || is_first v f) (sym (some_below-suc kept groups))
+    )
   where
-    assoc : (a b d : Bool) → ((a || b) || d) ≡ (a || (b || d))
-    assoc true b d = refl
-    assoc false b d = refl
+    swap : (a b d : Bool) → (a || (b || d)) ≡ ((b || a) || d)
+    swap true true d = refl
+    swap true false d = refl
+    swap false true d = refl
+    swap false false d = refl
 
 reserved_is : (v : Layout) (f : ℕ) → is_reserved_below v v.ncg f ≡ is_reserved v f
 unfolding is_reserved is_group_metadata
 reserved_is v f =
-    ap (λ (z : Bool). any_below v.ncg (λ c. is_in_run (cgsblock v c) (cgdmin v c) f) || (is_in_run v.csaddr (v.csaddr + div_ceil v.cssize v.fsize) f || (z || false))) (from_zero (cgdmin v 0) f)
-    ∙ turn (nat_lt f (cgdmin v 0)) (is_in_run v.csaddr (v.csaddr + div_ceil v.cssize v.fsize) f) (any_below v.ncg (λ c. is_in_run (cgsblock v c) (cgdmin v c) f))
+    ap (λ (z : Bool). some_below (λ c. is_in_run (cgsblock v c) (cgdmin v c) f) v.ncg || (is_in_run v.csaddr (v.csaddr + div_ceil v.cssize v.fsize) f || (z || false))) (from_zero (cgdmin v 0) f)
+    ∙ turn (nat_lt f (cgdmin v 0)) (is_in_run v.csaddr (v.csaddr + div_ceil v.cssize v.fsize) f) (some_below (λ c. is_in_run (cgsblock v c) (cgdmin v c) f) v.ncg)
   where
     from_zero : (end f : ℕ) → is_in_run 0 end f ≡ nat_lt f end
     from_zero end f = grind (arith, nat_tests)

@@ -4,7 +4,7 @@ use Rattle.std.specs.Prelude.{◌&&◌, ◌||◌, ◌==◌, if◌then◌else◌,
 use Rattle.std.specs.List.{list_any}
 use mathlib.Core.Path.{fun_ext}
 use Rattle.ffs_volume.specs.Directories.Roles.{RoledEntry, refers}
-use Rattle.ffs_volume.specs.Directories.Search.{first_below, some_below}
+use Rattle.ffs_volume.specs.Disk.Search.{first_below, some_below}
 use Rattle.ffs_volume.specs.Directories.Climb.{is_value}
 use Rattle.ffs_volume.specs.Directories.Graph.{Graph, names, names_in, edge, within, level, parent, parent_by}
 use Rattle.ffs_survey.specs.Survey.{counted_in, references_below, IsSurvey}

@@ -10,7 +10,7 @@ use Rattle.ffs_volume.specs.declared.Role.{Role}
 use Rattle.ffs_volume.specs.declared.Role.TheVariants.{Empty, Dot, Dotdot, Extra, Plain}
 use Rattle.ffs_volume.specs.Blocks.Inodes.{is_allocated}
 use Rattle.ffs_volume.specs.Directories.Roles.{Volume, RoledEntry, is_dir, is_suspect, is_plain, roled_entries}
-use Rattle.ffs_volume.specs.Directories.Search.{some_below, first_below}
+use Rattle.ffs_volume.specs.Disk.Search.{some_below, first_below}
 use Rattle.ffs_volume.proofs.SearchLaws.{first_below-is, some_below-false, first_below-some}
 use Rattle.ffs_volume.specs.Directories.Climb.{is_value}
 use Rattle.ffs_volume.proofs.ClimbLaws.{is_value-true, is_value-from}

@@ -1,7 +1,7 @@
 -- When the marks of the pathname check are right.
 use Rattle.std.specs.Prelude.{◌≡◌, ◌≢◌, ℕ, ◌<◌, true, not, ◌&&◌, ◌||◌, List, length, slice_index}
 use Rattle.std.specs.List.{list_any}
-use Rattle.ffs_volume.specs.Directories.Search.{some_below}
+use Rattle.ffs_volume.specs.Disk.Search.{some_below}
 use Rattle.ffs_volume.specs.Directories.Roles.{Volume, RoledEntry, is_suspect}
 use Rattle.ffs_volume.specs.Directories.Graph.{names, names_in}
 use Rattle.ffs_volume.specs.Directories.Parents.{graph_of}

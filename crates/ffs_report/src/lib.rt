@@ -2,8 +2,9 @@
 //!
 //! `Report::say` writes exactly the bytes of its line, as one piece where it has room in a buffer of 2,048
 //! bytes, or a prefix of them and answers a fault;
-//! after a fault each later line fails and writes nothing. A `Line` is a message with its values; the
-//! texts are those of `Messages/Texts` in the definitions. A `FuseWriter` fails after some bytes.
+//! after a fault each later line fails and writes nothing. A `Line` is a message with its values; it prints
+//! the texts of `ffs_volume::texts` that `Messages/Texts` of the definitions gives it. A `FuseWriter` fails
+//! after some bytes.
 //!
 //! ```text
 //! let mut report = Report::new(&mut out);
@@ -24,7 +25,6 @@ pub mod print;
 pub mod report;
 mod say;
 pub mod silent;
-mod words;
 
 pub use counted::Counted;
 pub use fuse::FuseWriter;

@@ -10,20 +10,15 @@ use crate::line::{DirectoryLine, DotLine, EntryLine, ReferenceLine};
 use crate::output::{OutFault, Output};
 use crate::piece::Piece;
 use crate::print::{print, print_pieces};
-use crate::words::{
-    CLEAR, DEAD_MARKED, DEAD_ZERO, DIR_CORRUPT, DIR_SHORT, DUP_BAD, EXTRA_DOT, EXTRA_DOTDOT,
-    FIRST_ENTRY, FIX, KIND_DOT, KIND_DOTDOT, KIND_ENTRY, MISSING_DOT, MISSING_DOTDOT, NUMBER_DOT,
-    NUMBER_DOTDOT, OUT_OF_RANGE, RECONNECT, RECONNECT_OR_CLEAR, REMOVE, ROOT_NONE, ROOT_NOT_DIR,
-    ROOT_SUSPECT, SALVAGE, SECOND_ENTRY, UNALLOCATED, UNREF, UNREF_DIR, WHITEOUT, ZERO_DIR,
-};
+use ffs_volume::texts::*;
 use ffs_volume::{Attr, Label};
 
 fn file_label(label: Label) -> &'static [u8]
     ensures { result.now ≡ file_label label }
 {
     match label {
-        Label::Dir => b"DIR ",
-        Label::File | Label::Name => b"FILE ",
+        Label::Dir => DIR,
+        Label::File | Label::Name => FILE,
     }
 }
 
@@ -31,9 +26,9 @@ fn path_label(label: Label) -> &'static [u8]
     ensures { result.now ≡ path_label label }
 {
     match label {
-        Label::Dir => b"\nDIR=",
-        Label::File => b"\nFILE=",
-        Label::Name => b"\nNAME=",
+        Label::Dir => PATH_OF_DIR,
+        Label::File => PATH_OF_FILE,
+        Label::Name => PATH_OF_NAME,
     }
 }
 
@@ -43,15 +38,15 @@ fn print_attr<W: Output>(out: &mut W, attr: &Attr) -> Result<(), OutFault>
     print_pieces(
         out,
         &[
-            Piece::Text(b"I="),
+            Piece::Text(INODE),
             Piece::Number(attr.number as u64),
-            Piece::Text(b" OWNER="),
+            Piece::Text(OWNER),
             Piece::Number(attr.uid as u64),
-            Piece::Text(b" MODE="),
+            Piece::Text(MODE),
             Piece::Octal(attr.mode),
-            Piece::Text(b"\nSIZE="),
+            Piece::Text(SIZE),
             Piece::Number(attr.size),
-            Piece::Text(b" MTIME="),
+            Piece::Text(MTIME),
             Piece::Signed(attr.mtime as i64),
         ],
     )
@@ -128,11 +123,11 @@ fn print_in_the_way<'x, W: Output>(
         head,
         attr,
         &[
-            Piece::Text(b"\nDIR="),
+            Piece::Text(PATH_OF_DIR),
             Piece::Shown(path),
             Piece::Text(why),
             Piece::Shown(name),
-            Piece::Text(b"\n"),
+            Piece::Text(LINE_END),
         ],
     )
 }
@@ -143,11 +138,11 @@ fn print_length<W: Output>(out: &mut W, path: &[u8], size: u64) -> Result<(), Ou
     print_pieces(
         out,
         &[
-            Piece::Text(b"DIRECTORY "),
+            Piece::Text(DIRECTORY),
             Piece::Shown(path),
-            Piece::Text(b": LENGTH "),
+            Piece::Text(DIR_LENGTH),
             Piece::Number(size),
-            Piece::Text(b" NOT MULTIPLE OF 512\nADJUST? no\n\n"),
+            Piece::Text(NOT_MULTIPLE),
         ],
     )
 }
@@ -158,9 +153,9 @@ fn print_empty<W: Output>(out: &mut W, path: &[u8]) -> Result<(), OutFault>
     print_pieces(
         out,
         &[
-            Piece::Text(b"DIRECTORY "),
+            Piece::Text(DIRECTORY),
             Piece::Shown(path),
-            Piece::Text(b": CONTAINS EMPTY BLOCKS\nADJUST LENGTH? no\n\n"),
+            Piece::Text(DIR_EMPTY),
         ],
     )
 }
@@ -180,7 +175,7 @@ fn print_numbered<'x, W: Output>(
         &[
             Piece::Text(head),
             Piece::Number(number as u64),
-            Piece::Text(b"\nNAME="),
+            Piece::Text(PATH_OF_NAME),
             Piece::Shown(path),
             Piece::Text(tail),
         ],
@@ -198,9 +193,9 @@ fn print_extraneous<'x, W: Output>(
         out,
         &[
             Piece::Shown(path),
-            Piece::Text(b" IS AN EXTRANEOUS HARD LINK TO DIRECTORY "),
+            Piece::Text(EXTRANEOUS),
             Piece::Shown(dir),
-            Piece::Text(b"\nREMOVE? no\n\n"),
+            Piece::Text(REMOVE),
         ],
     )
 }
@@ -217,15 +212,15 @@ fn print_links<W: Output>(
 {
     print_kind(
         out,
-        b"LINK COUNT ",
+        LINK_COUNT,
         label,
         attr,
         &[
-            Piece::Text(b"\nCOUNT="),
+            Piece::Text(COUNT),
             Piece::Signed(count as i64),
-            Piece::Text(b" SHOULD BE "),
+            Piece::Text(SHOULD_BE),
             Piece::Number(right),
-            Piece::Text(b"\nADJUST? no\n\n"),
+            Piece::Text(ADJUST),
         ],
     )
 }

@@ -9,11 +9,8 @@ use crate::line_buffer::LineBuffer;
 use crate::names::{print_directory, print_dot, print_entry, print_reference};
 use crate::output::{OutFault, Output};
 use crate::piece::Piece;
-use crate::print::{print, print_both, print_pieces};
-use crate::words::{
-    CLEAR, CONTINUE, FREE_COUNTS, GROUP_SUMS, MANY_BAD, MANY_DUP, MAPS_WRONG, PART_ALLOC,
-    PART_TRUNC, SALVAGE, UNKNOWN_TYPE,
-};
+use crate::print::{print, print_pieces};
+use ffs_volume::texts::*;
 use ffs_volume::{BlockMessage, SuperFault};
 
 /// Prints a line and its questions as one piece, where they have room in the buffer.
@@ -36,22 +33,12 @@ fn print_line<W: Output>(out: &mut W, line: &Line<'_>) -> Result<(), OutFault>
     ensures { Prints (W.sink out.old) (W.sink out.new) (text_of (message_of line.now)) result }
 {
     match *line {
-        Line::Location { sector } => {
-            print_number(
-                out,
-                b"Alternate super block location: ",
-                sector as u64,
-                b"\n",
-            )
-        }
+        Line::Location { sector } => print_number(out, LOCATION, sector as u64, LINE_END),
         Line::Opening { name } => print_opening(out, name.as_bytes()),
         Line::BadSuper(fault) => print_fault(out, fault),
-        Line::CannotRead { sector } => print_number(out, b"CAN NOT READ: BLK ", sector, b"\n"),
-        Line::CannotAlloc => print(out, b"cannot alloc maps\n"),
-        Line::Optimization => print(
-            out,
-            b"UNDEFINED OPTIMIZATION IN SUPERBLOCK\nSET TO DEFAULT? no\n\n",
-        ),
+        Line::CannotRead { sector } => print_number(out, CANNOT_READ, sector, LINE_END),
+        Line::CannotAlloc => print(out, CANNOT_ALLOC),
+        Line::Optimization => print(out, OPTIMIZATION),
         Line::Minfree { value } => print_minfree(out, value),
         Line::Mounted { mount } => print_mounted(out, mount),
         Line::Heading(heading) => print_heading(out, heading),
@@ -93,9 +80,9 @@ fn print_opening<W: Output>(out: &mut W, name: &[u8]) -> Result<(), OutFault>
     print_pieces(
         out,
         &[
-            Piece::Text(b"** "),
+            Piece::Text(OPENING),
             Piece::Text(name),
-            Piece::Text(b" (NO WRITE)\n"),
+            Piece::Text(NO_WRITE),
         ],
     )
 }
@@ -106,9 +93,9 @@ fn print_mounted<W: Output>(out: &mut W, mount: &[u8]) -> Result<(), OutFault>
     print_pieces(
         out,
         &[
-            Piece::Text(b"** Last Mounted on "),
+            Piece::Text(MOUNTED),
             Piece::Shown(mount),
-            Piece::Text(b"\n"),
+            Piece::Text(LINE_END),
         ],
     )
 }
@@ -119,9 +106,9 @@ fn print_minfree<W: Output>(out: &mut W, value: i32) -> Result<(), OutFault>
     print_pieces(
         out,
         &[
-            Piece::Text(b"IMPOSSIBLE MINFREE="),
+            Piece::Text(MINFREE),
             Piece::Small(value),
-            Piece::Text(b" IN SUPERBLOCK\nSET TO DEFAULT? no\n\n"),
+            Piece::Text(SET_MINFREE),
         ],
     )
 }
@@ -130,21 +117,16 @@ fn print_fault<W: Output>(out: &mut W, fault: SuperFault) -> Result<(), OutFault
     ensures { Prints (W.sink out.old) (W.sink out.new) (fault_text fault) result }
 {
     match fault {
-        SuperFault::CannotRead { sector } => {
-            print_number(out, b"CAN NOT READ: BLK ", sector, b"\n")
-        }
-        SuperFault::Magic => print(out, b"BAD SUPER BLOCK: MAGIC NUMBER WRONG\n"),
-        SuperFault::InodeFormat => print(out, b"BAD SUPER BLOCK: INODE FORMAT NOT SUPPORTED\n"),
-        SuperFault::Ncg => print(out, b"BAD SUPER BLOCK: NCG OUT OF RANGE\n"),
-        SuperFault::Cpg => print(out, b"BAD SUPER BLOCK: CPG OUT OF RANGE\n"),
-        SuperFault::Ncyl => print(out, b"BAD SUPER BLOCK: NCYL DOES NOT JIVE WITH NCG*CPG\n"),
-        SuperFault::TooLarge => print(out, b"BAD SUPER BLOCK: SIZE PREPOSTEROUSLY LARGE\n"),
-        SuperFault::Shape => print(out, b"BAD SUPER BLOCK: GEOMETRY OUT OF RANGE\n"),
-        SuperFault::Short => print(out, b"BAD SUPER BLOCK: SIZE LARGER THAN IMAGE\n"),
-        SuperFault::Disagree => print(
-            out,
-            b"BAD SUPER BLOCK: VALUES DISAGREE WITH LAST ALTERNATE\n",
-        ),
+        SuperFault::CannotRead { sector } => print_number(out, CANNOT_READ, sector, LINE_END),
+        SuperFault::Magic => print(out, MAGIC),
+        SuperFault::InodeFormat => print(out, INODE_FORMAT),
+        SuperFault::Ncg => print(out, NCG),
+        SuperFault::Cpg => print(out, CPG),
+        SuperFault::Ncyl => print(out, NCYL),
+        SuperFault::TooLarge => print(out, TOO_LARGE),
+        SuperFault::Shape => print(out, SHAPE),
+        SuperFault::Short => print(out, SHORT),
+        SuperFault::Disagree => print(out, DISAGREE),
     }
 }
 
@@ -152,12 +134,12 @@ fn print_heading<W: Output>(out: &mut W, heading: Heading) -> Result<(), OutFaul
     ensures { Prints (W.sink out.old) (W.sink out.new) (text_of (heading_message heading)) result }
 {
     match heading {
-        Heading::Phase1 => print(out, b"** Phase 1 - Check Blocks and Sizes\n"),
-        Heading::Phase1b => print(out, b"** Phase 1b - Rescan For More DUPS\n"),
-        Heading::Phase2 => print(out, b"** Phase 2 - Check Pathnames\n"),
-        Heading::Phase3 => print(out, b"** Phase 3 - Check Connectivity\n"),
-        Heading::Phase4 => print(out, b"** Phase 4 - Check Reference Counts\n"),
-        Heading::Phase5 => print(out, b"** Phase 5 - Check Cyl groups\n"),
+        Heading::Phase1 => print(out, PHASE1),
+        Heading::Phase1b => print(out, PHASE1B),
+        Heading::Phase2 => print(out, PHASE2),
+        Heading::Phase3 => print(out, PHASE3),
+        Heading::Phase4 => print(out, PHASE4),
+        Heading::Phase5 => print(out, PHASE5),
     }
 }
 
@@ -175,7 +157,7 @@ fn print_claim<W: Output>(
             Piece::Number(fragment as u64),
             Piece::Text(what),
             Piece::Number(inode as u64),
-            Piece::Text(b"\n"),
+            Piece::Text(LINE_END),
         ],
     )
 }
@@ -186,13 +168,13 @@ fn print_count<W: Output>(out: &mut W, inode: u32, found: u32, right: u64) -> Re
     print_pieces(
         out,
         &[
-            Piece::Text(b"INCORRECT BLOCK COUNT I="),
+            Piece::Text(BLOCK_COUNT),
             Piece::Number(inode as u64),
-            Piece::Text(b" ("),
+            Piece::Text(FOUND),
             Piece::Number(found as u64),
-            Piece::Text(b" should be "),
+            Piece::Text(RIGHT),
             Piece::Number(right),
-            Piece::Text(b")\nCORRECT? no\n\n"),
+            Piece::Text(CORRECT),
         ],
     )
 }
@@ -203,8 +185,8 @@ fn print_block<W: Output>(out: &mut W, message: BlockMessage) -> Result<(), OutF
     match message {
         BlockMessage::PartAlloc { inode } => print_number(out, PART_ALLOC, inode as u64, CLEAR),
         BlockMessage::UnknownType { inode } => print_number(out, UNKNOWN_TYPE, inode as u64, CLEAR),
-        BlockMessage::Bad { fragment, inode } => print_claim(out, fragment, b" BAD I=", inode),
-        BlockMessage::Dup { fragment, inode } => print_claim(out, fragment, b" DUP I=", inode),
+        BlockMessage::Bad { fragment, inode } => print_claim(out, fragment, BAD, inode),
+        BlockMessage::Dup { fragment, inode } => print_claim(out, fragment, DUP, inode),
         BlockMessage::ManyBad { inode } => print_number(out, MANY_BAD, inode as u64, CONTINUE),
         BlockMessage::ManyDup { inode } => print_number(out, MANY_DUP, inode as u64, CONTINUE),
         BlockMessage::PartTrunc { inode } => print_number(out, PART_TRUNC, inode as u64, SALVAGE),
@@ -213,15 +195,10 @@ fn print_block<W: Output>(out: &mut W, message: BlockMessage) -> Result<(), OutF
             found,
             right,
         } => print_count(out, inode, found, right),
-        BlockMessage::GroupMagic { group } => print_number(
-            out,
-            b"CG ",
-            group as u64,
-            b": BAD MAGIC NUMBER\n",
-        ),
-        BlockMessage::FreeCounts => print_both(out, FREE_COUNTS, SALVAGE),
-        BlockMessage::MapsWrong => print_both(out, MAPS_WRONG, SALVAGE),
-        BlockMessage::GroupSums => print_both(out, GROUP_SUMS, SALVAGE),
+        BlockMessage::GroupMagic { group } => print_number(out, GROUP, group as u64, GROUP_MAGIC),
+        BlockMessage::FreeCounts => print(out, FREE_COUNTS),
+        BlockMessage::MapsWrong => print(out, MAPS_WRONG),
+        BlockMessage::GroupSums => print(out, GROUP_SUMS),
     }
 }
 
@@ -241,14 +218,14 @@ fn print_summary<W: Output>(
     print_pieces(
         out,
         &[
-            Piece::Count(files as u64, b" files, "),
-            Piece::Count(used as u64, b" used, "),
-            Piece::Total(free, b" free ("),
-            Piece::Total(frags as i64, b" frags, "),
-            Piece::Total(blocks as i64, b" blocks, "),
+            Piece::Count(files as u64, FILES),
+            Piece::Count(used as u64, USED),
+            Piece::Total(free, FREE),
+            Piece::Total(frags as i64, FRAGS),
+            Piece::Total(blocks as i64, BLOCKS),
             Piece::Sign(tenths),
-            Piece::Count(size / 10, b"."),
-            Piece::Count(size % 10, b"% fragmentation)\n"),
+            Piece::Count(size / 10, POINT),
+            Piece::Count(size % 10, FRAGMENTATION),
         ],
     )
 }

@@ -7,11 +7,12 @@ use Rattle.std.proofs.Common.{arith, sym, ◌∙◌, ap, subst, inl, inr, get_or
 use Rattle.std.proofs.lemmas.Bool.{both_ways, cases_Bool, cases_eq, cases_lt, eqb-true, eq-eqb, ne_eqb, and_parts, and_from, and_left, and_right, or_cases, or_left, or_right, or_from, not-true, not_from_false, cond-true, cond-false, false_from_ne_true}
 use Rattle.std.proofs.lemmas.List.Sums.{sum_by-cons, sum_by-append}
 use Rattle.std.proofs.Math.Bool.{or-false}
-use Rattle.ffs_volume.specs.Directories.Search.{first_below, some_below}
+use Rattle.ffs_volume.specs.Disk.Search.{first_below, some_below}
 use Rattle.ffs_volume.proofs.SearchLaws.{first_below-is, first_below-is_none, first_below-some, some_below-gives, some_below-from, some_below-none}
 use Rattle.ffs_volume.specs.Directories.Climb.{is_value}
 use Rattle.ffs_volume.proofs.ClimbLaws.{is_value-true, is_value-from}
-use Rattle.ffs_volume.specs.Directories.Graph.{Graph, IsSane, level_edge, edge, within, level, parent, parent_by}
+use Rattle.ffs_volume.specs.Directories.Graph.{Graph, level_edge, edge, within, level, parent, parent_by}
+use Rattle.ffs_volume.proofs.Graphs.{IsSane}
 use Rattle.ffs_volume.proofs.LevelLaws.{within-suc, within-zero, within-grows, within-step, within-more, level-some, level-from}
 use Rattle.ffs_volume.proofs.Unreached.{edge-parts}
 use Rattle.ffs_survey.specs.Survey.{bool_at, number_at, graph_with}

@@ -9,7 +9,8 @@ use Rattle.std.proofs.lemmas.Bool.{cond-false, and_left}
 use Rattle.std.proofs.lemmas.Grind.{common_steps}
 use Rattle.std.proofs.Math.Bool.{or-false}
 use Rattle.ffs_volume.specs.Directories.Roles.{RoledEntry, refers}
-use Rattle.ffs_volume.specs.Directories.Graph.{Graph, IsSane, names_in}
+use Rattle.ffs_volume.specs.Directories.Graph.{Graph, names_in}
+use Rattle.ffs_volume.proofs.Graphs.{IsSane}
 use Rattle.ffs_survey.specs.Survey.{bool_at, number_at, graph_with, dir_at, counted_in}
 use Rattle.ffs_survey.specs.Discover.{bit, times, from_dirs, nothing, Comes, IsFrontier, LevelsKnown, IsCount, Counts, IsReachedPart, count_of, any_of, none, never}
 use Rattle.ffs_survey.proofs.Frontiers.{next_level, front_from, queue_grows, IsNext}

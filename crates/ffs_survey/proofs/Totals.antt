@@ -4,7 +4,7 @@ use Rattle.std.specs.List.{list_any, sum_by}
 use Rattle.std.proofs.Common.{arith, sym, ◌∙◌, ap, inl, inr, add-zero}
 use Rattle.std.proofs.lemmas.Bool.{both_ways, cases_Bool, cases_eq, cases_lt, eq-eqb, ne_eqb, cond-true, cond-false, and_parts, and_from, or_left, or_right, or_cases, lt-ltb, le-ltb, false_from_ne_true}
 use Rattle.std.proofs.lemmas.List.Sums.{sum_by-cons}
-use Rattle.ffs_volume.specs.Directories.Search.{some_below, first_below}
+use Rattle.ffs_volume.specs.Disk.Search.{some_below, first_below}
 use Rattle.ffs_volume.proofs.SearchLaws.{some_below-suc, some_below-from, some_below-none}
 use Rattle.ffs_volume.specs.Directories.Graph.{Graph, names_in}
 use Rattle.ffs_survey.specs.Survey.{counted_in, references_below}

@@ -5,7 +5,8 @@ use Rattle.std.proofs.lemmas.Bool.{cases_eq, and_parts, both_ways, cond-true, co
 use mathlib.Core.Path.{fun_ext}
 use Rattle.ffs_volume.proofs.SearchLaws.{first_below-some}
 use Rattle.ffs_volume.specs.Directories.Climb.{leads_cycle, is_value}
-use Rattle.ffs_volume.specs.Directories.Graph.{Graph, IsSane, edge, parent, parent_by, level, dead, lost, none_or_dead, is_unref_dir}
+use Rattle.ffs_volume.specs.Directories.Graph.{Graph, edge, parent, parent_by, level, dead, lost, none_or_dead, is_unref_dir}
+use Rattle.ffs_volume.proofs.Graphs.{IsSane}
 use Rattle.ffs_survey.specs.Survey.{number_at, IsTree}
 use Rattle.ffs_survey.specs.Cycles.{up_of}
 use Rattle.ffs_survey.proofs.Discovered.{dir_below}

@@ -6,9 +6,10 @@ use Rattle.std.proofs.lemmas.Bool.{both_ways, cases_Bool, cases_lt, and_left, an
 use Rattle.std.proofs.lemmas.List.{get_or_past}
 use Rattle.std.proofs.Math.Bool.{or-false}
 use Rattle.ffs_volume.specs.Directories.Roles.{RoledEntry}
-use Rattle.ffs_volume.specs.Directories.Search.{first_below, earliest, some_below}
+use Rattle.ffs_volume.specs.Disk.Search.{first_below, earliest, some_below}
 use Rattle.ffs_volume.proofs.SearchLaws.{some_below-suc, first_below-some, first_below-is_none}
-use Rattle.ffs_volume.specs.Directories.Graph.{Graph, IsSane, names, names_in, edge, level, reached, parent}
+use Rattle.ffs_volume.specs.Directories.Graph.{Graph, names, names_in, edge, level, reached, parent}
+use Rattle.ffs_volume.proofs.Graphs.{IsSane}
 use Rattle.ffs_volume.proofs.LevelLaws.{reached-edge, reached-root}
 use Rattle.ffs_survey.specs.Survey.{bool_at, number_at, dir_at, is_dir_kind, graph_with, counted_in, IsSurvey}
 use Rattle.ffs_survey.specs.Discover.{Counts, count_in, any_in, none, never, counted_by, IsReachedPart, is_free, is_free_edge, IsRead}

@@ -2,7 +2,7 @@
 use Rattle.std.specs.Prelude.{◌≡◌, ◌≢◌, ℕ, suc, ◌<◌, ◌==◌, true, Option, Some, None, refl}
 use Rattle.std.proofs.Common.{arith, sym, ◌∙◌, ap}
 use Rattle.std.proofs.lemmas.Bool.{both_ways, and_parts, and_from, ne_eqb, cond-false, eq-eqb, eqb-true}
-use Rattle.ffs_volume.specs.Directories.Search.{first_below}
+use Rattle.ffs_volume.specs.Disk.Search.{first_below}
 use Rattle.ffs_volume.proofs.SearchLaws.{first_below-some, first_below-none}
 use Rattle.ffs_volume.specs.Directories.Climb.{is_value}
 use Rattle.ffs_volume.proofs.ClimbLaws.{is_value-true, is_value-from}

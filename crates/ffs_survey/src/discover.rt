@@ -2,7 +2,7 @@
 ghost use Rattle.std.specs.Prelude.{◌≡◌, ◌≢◌, ℕ, ◌+◌, ◌-◌, ◌*◌, ◌<◌, ◌≤◌, ◌^◌, ◌==◌, ◌&&◌, ◌||◌, not, cond, List, [], ◌∷◌, length, take, drop, All, true, false, IfOk, OnOk, IfErr};
 ghost use Rattle.ffs_image.specs.Device.{Faulted};
 ghost use Rattle.ffs_volume.specs.Directories.Roles.{refers, is_plain as is_plain_role};
-ghost use Rattle.ffs_volume.specs.Directories.Graph.{names, IsSane};
+ghost use Rattle.ffs_volume.specs.Directories.Graph.{names};
 ghost use Rattle.ffs_survey.specs.Reading.{roled_of};
 ghost use Rattle.ffs_survey.specs.Survey.{bool_at, number_at, dir_at, graph_with};
 ghost use Rattle.ffs_survey.specs.Discover.{bit, unset, times, Comes, from_entries, from_dirs, nothing, count_in, any_in, count_of, any_of, none, never, Counts, IsFrontier, LevelsKnown, is_free as is_free_at};

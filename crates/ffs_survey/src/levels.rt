@@ -1,8 +1,8 @@
 //! The survey: level after level from inode 2, and then the directories that are not reached.
 ghost use Rattle.std.specs.Prelude.{◌≡◌, ◌≢◌, ℕ, ◌+◌, ◌-◌, ◌*◌, ◌<◌, ◌≤◌, ◌^◌, ◌==◌, ◌&&◌, ◌||◌, not, cond, List, [], ◌∷◌, length, take, drop, All, true, false, IfOk, OnOk, IfErr, unwrap_or};
 ghost use Rattle.ffs_image.specs.Device.{Faulted};
-ghost use Rattle.ffs_volume.specs.Directories.Graph.{IsSane, names_in};
-ghost use Rattle.ffs_volume.specs.Directories.Search.{first_below, some_below};
+ghost use Rattle.ffs_volume.specs.Directories.Graph.{names_in};
+ghost use Rattle.ffs_volume.specs.Disk.Search.{first_below, some_below};
 ghost use Rattle.ffs_survey.specs.Survey.{bool_at, number_at, dir_at, graph_with, IsSurvey};
 ghost use Rattle.ffs_survey.specs.Discover.{unset, count_in, any_in, count_of, any_of, none, never, Counts, IsFrontier, LevelsKnown, IsReachedPart, counted_by, is_free as is_free_at, IsBlank, IsRead};
 

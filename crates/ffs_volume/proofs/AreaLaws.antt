@@ -1,5 +1,5 @@
 -- Laws of the areas of an accepted layout.
-use Rattle.std.proofs.Common.{zero, suc, inl, inr, ◌≡◌, ℕ, ◌+◌, ◌-◌, ◌*◌, ◌/◌, ◌<◌, ◌≤◌, Bool, true, false, arith, refl, sym}
+use Rattle.std.proofs.Common.{zero, suc, inl, inr, ◌≡◌, ◌∙◌, ℕ, ◌+◌, ◌-◌, ◌*◌, ◌/◌, ◌<◌, ◌≤◌, Bool, true, false, arith, refl, sym}
 use Rattle.std.proofs.Math.Nat.{div-eq_of_lt-le, mul-le-mul_right, mul_comm, div-add-mod', mod-lt}
 use Rattle.std.specs.Int.{div_ceil}
 use Rattle.ffs_volume.specs.Disk.Outcome.{copy_place}
@@ -8,20 +8,21 @@ use Rattle.std.specs.Prelude.{nat_lt, nat_le, ◌&&◌, ◌||◌}
 use Rattle.std.proofs.lemmas.Bool.{cases_lt}
 use Rattle.std.proofs.lemmas.Bool.Decides.{nat_tests}
 use Rattle.ffs_volume.specs.declared.Layout.{Layout}
-use Rattle.ffs_volume.specs.Disk.Numbers.{any_below}
+use Rattle.ffs_volume.specs.Disk.Search.{first_below, some_below}
+use Rattle.ffs_volume.proofs.SearchLaws.{some_below-suc}
 use Rattle.ffs_volume.specs.Disk.Areas.{cgbase, cgstart, cgsblock, cgdmin, is_group_metadata}
 use Rattle.ffs_volume.specs.Disk.Geometry.{IsGeometry}
 
 -- a test that at most one number passes
-any_below-only : (n i : ℕ) (test : ℕ → Bool) → ((c : ℕ) → c < n → test c ≡ true → c ≡ i) → any_below n test ≡ (nat_lt i n && test i)
-unfolding any_below
-any_below-only zero i test only = grind (arith, nat_tests)
-any_below-only (suc n) i test only =
-    let before = any_below-only n i test (λ c h e. only c (omega arith) e) in
+some_below-only : (n i : ℕ) (test : ℕ → Bool) → ((c : ℕ) → c < n → test c ≡ true → c ≡ i) → some_below test n ≡ (nat_lt i n && test i)
+unfolding first_below
+some_below-only zero i test only = grind (arith, nat_tests)
+some_below-only (suc n) i test only =
+    let before = some_below-only n i test (λ c h e. only c (omega arith) e) in
     let here : test n ≡ true → n ≡ i = only n (omega arith) in
-    one (test n) refl before here
+    some_below-suc test n ∙ one (test n) refl before here
   where
-    one : (b : Bool) → test n ≡ b → any_below n test ≡ (nat_lt i n && test i) → (test n ≡ true → n ≡ i) → (test n || any_below n test) ≡ (nat_lt i (suc n) && test i)
+    one : (b : Bool) → test n ≡ b → some_below test n ≡ (nat_lt i n && test i) → (test n ≡ true → n ≡ i) → (some_below test n || test n) ≡ (nat_lt i (suc n) && test i)
     one true e before here = let same : n ≡ i = here e in let p : test i ≡ true = rw (← same) e in grind (arith, nat_tests)
     one false e before here = elim (cases_lt i n) [ inl less ↦ grind (arith, nat_tests) | inr more ↦ grind (arith, nat_tests) ]
 
@@ -37,7 +38,7 @@ in_kept v c f = nat_le (cgsblock v c) f && nat_lt f (cgdmin v c)
 -- only a fragment's own group can keep it
 pub is_kept_group : (v : Layout) (f : ℕ) → IsGeometry v → is_group_metadata v f ≡ (nat_lt (f / v.fpg) v.ncg && in_kept v (f / v.fpg) f)
 unfolding is_group_metadata cgstart
-is_kept_group v f g = any_below-only v.ncg (f / v.fpg) (λ c. in_kept v c f) only
+is_kept_group v f g = some_below-only v.ncg (f / v.fpg) (λ c. in_kept v c f) only
   where
     only : (c : ℕ) → c < v.ncg → in_kept v c f ≡ true → c ≡ f / v.fpg
     only c h e =

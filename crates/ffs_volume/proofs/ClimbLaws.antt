@@ -2,10 +2,15 @@
 use Rattle.std.specs.Prelude.{◌≡◌, ℕ, zero, suc, ◌+◌, ◌-◌, ◌<◌, ◌≤◌, Bool, true, not, refl, Option, None, Some, option_and_then}
 use Rattle.std.proofs.Common.{arith, sym, ◌∙◌, ap, subst, inl, inr}
 use Rattle.std.proofs.lemmas.Bool.{both_ways, cases_lt, eqb-true, eq-eqb, leb-true, le-leb, and_parts, and_from, not-true, not-false, not_from_true, not_from_false}
-use Rattle.ffs_volume.specs.Directories.Search.{some_below}
+use Rattle.ffs_volume.specs.Disk.Search.{some_below}
 use Rattle.ffs_volume.proofs.SearchLaws.{some_below-gives, some_below-from, some_below-false, some_below-none}
 use Rattle.ffs_volume.proofs.Pigeon.{pigeon}
-use Rattle.ffs_volume.specs.Directories.Climb.{climb, is_value, none_or_at_least, leads_cycle, OnCycle, IsLeader, StaysBelow}
+use Rattle.ffs_volume.specs.Directories.Climb.{climb, is_value, none_or_at_least, leads_cycle, OnCycle, IsLeader}
+
+-- where the test holds, the number is below n and f leads to a number where it holds
+pub record StaysBelow (f : ℕ → Option ℕ) (p : ℕ → Bool) (n : ℕ) : Type 0 where
+  pub below : (x : ℕ) → p x ≡ true → x < n
+  pub next : (x : ℕ) → p x ≡ true → (s : ℕ) × (f x ≡ Some s) × (p s ≡ true)
 
 pub is_value-true : (o : Option ℕ) (k : ℕ) → is_value o k ≡ true → o ≡ Some k
 is_value-true None k e = absurd (cc)

@@ -3,7 +3,7 @@ use Rattle.std.proofs.Common.{refl}
 use Rattle.ffs_volume.specs.Disk.Numbers.{number, u16_at, u32_at}
 use Rattle.ffs_volume.specs.Directories.Entries.{is_well_formed, entry_read, entry_at, entries_from}
 use Rattle.ffs_volume.specs.Directories.Roles.{role_of, roled_from, roled_entries, start_entry, dot, dotdot, references_below}
-use Rattle.ffs_volume.specs.Directories.Search.{first_below, earliest}
+use Rattle.ffs_volume.specs.Disk.Search.{first_below, earliest}
 use Rattle.ffs_volume.specs.Directories.Climb.{climb}
 use Rattle.ffs_volume.specs.Directories.Graph.{within, level, parent}
 use Rattle.ffs_volume.specs.Directories.Paths.{longest_end, path_bytes, names_down, dir_path, entry_path}

@@ -2,7 +2,7 @@
 use Rattle.std.specs.Prelude.{◌≡◌, ℕ, zero, suc, ◌+◌, ◌-◌, ◌<◌, ◌≤◌, ◌==◌, true, ◌&&◌, ◌||◌, refl, Some, is_some}
 use Rattle.std.proofs.Common.{arith, sym, ◌∙◌, ap, subst, inl, inr}
 use Rattle.std.proofs.lemmas.Bool.{both_ways, cases_lt, eq-eqb, and_parts, and_from, or_cases, or_left, or_right, false_from_ne_true}
-use Rattle.ffs_volume.specs.Directories.Search.{some_below}
+use Rattle.ffs_volume.specs.Disk.Search.{some_below}
 use Rattle.ffs_volume.proofs.SearchLaws.{is_some-value, some_below-gives, some_below-from, first_below-is, first_below-some}
 use Rattle.ffs_volume.proofs.Pigeon.{pigeon}
 use Rattle.ffs_volume.specs.Directories.Graph.{Graph, within, level, edge, reached}

@@ -21,6 +21,7 @@ pub mod PrefixLaws
 pub mod SearchLaws
 pub mod ClimbLaws
 pub mod LevelLaws
+pub mod Graphs
 pub mod ReplayIsKeeping
 pub mod ReplayLaws
 pub mod AcceptedLaws

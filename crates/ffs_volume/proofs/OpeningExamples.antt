@@ -1,6 +1,7 @@
 -- The examples of superblocks, areas and the opening, by computation.
 use Rattle.std.proofs.Common.{refl}
-use Rattle.ffs_volume.specs.Disk.Numbers.{number, all_below, any_below, u32_at, i32_at, count_at}
+use Rattle.ffs_volume.specs.Disk.Numbers.{number, all_below, u32_at, i32_at, count_at}
+use Rattle.ffs_volume.specs.Disk.Search.{first_below, earliest}
 use Rattle.ffs_volume.specs.Disk.Superblock.{layout_of, superblock_of, order_of}
 use Rattle.ffs_volume.specs.Disk.Areas.{cgoffset_of, cgbase, cgstart, is_group_metadata, is_data_fragment, is_in_range, is_reserved}
 use Rattle.ffs_volume.specs.Disk.Outcome.{super_verdict, are_cylinders, is_block_size, is_fragment_size, is_fragment_count, are_sizes, are_numbers, are_parts, is_group, is_summary_area, is_shaped, layout_fault, agree, copy_agrees, outcome, outcome_in, outcome_of}
@@ -48,7 +49,7 @@ superblock_examples = record {
 }
 
 pub area_examples : AreaExamples
-unfolding base_layout two_groups is_data_fragment is_group_metadata any_below all_below cgoffset_of cgbase cgstart is_in_range is_reserved
+unfolding base_layout two_groups is_data_fragment is_group_metadata first_below earliest all_below cgoffset_of cgbase cgstart is_in_range is_reserved
 area_examples = record {
   ok = refl;
   reserved = refl;

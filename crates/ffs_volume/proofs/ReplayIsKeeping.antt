@@ -12,7 +12,23 @@ use Rattle.ffs_volume.specs.Blocks.BlockCheck.{Offer, kept_in_offers, kept_in_st
 use Rattle.ffs_volume.specs.Blocks.FirstOffers.{offer_at}
 use Rattle.ffs_volume.proofs.PrefixLaws.{shut_steps}
 use Rattle.ffs_volume.specs.Blocks.KeptSteps.{is_kept_step, kept_steps}
-use Rattle.ffs_volume.specs.Encodings.Replay.{replay_of, fresh_replay, cut_of, is_replay_open, taken_of, replay_run, replay_step, is_replayed, replayed_steps, replayed_step_offers, replayed_offers}
+use Rattle.ffs_volume.specs.Encodings.Replay.{Replay, fresh_replay, cut_of, is_replay_open, taken_of, replay_run, replay_step, is_replayed, replayed_steps}
+
+-- the replay of a fold
+abbrev pub replay_of : Claims → Replay
+replay_of s = record { bad = s.bad; kept = s.kept }
+
+-- the offers of a step that are kept: the first of its fragments
+abbrev pub replayed_step_offers : Layout → ℕ → ℕ → Replay → Step → List Offer
+replayed_step_offers v inode cut r (Run start len block) =
+    map (offer_at inode) (range_with_len start ((replay_step v cut r (Run start len block)).kept - r.kept))
+replayed_step_offers v inode cut r Tail = []
+replayed_step_offers v inode cut r Gap = []
+
+abbrev pub replayed_offers : Layout → ℕ → ℕ → Replay → List Step → List Offer
+replayed_offers v inode cut r [] = []
+replayed_offers v inode cut r (step ∷ steps) =
+    replayed_step_offers v inode cut r step ++ replayed_offers v inode cut (replay_step v cut r step) steps
 
 -- how the counts of an inode move over `n` offers
 record ClaimBound (s s' : Claims) (n : ℕ) : Type 0 where

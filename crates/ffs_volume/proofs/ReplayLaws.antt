@@ -9,9 +9,15 @@ use Rattle.ffs_volume.specs.declared.Step.TheVariants.{Run, Tail, Gap}
 use Rattle.ffs_volume.specs.Disk.Areas.{is_data_fragment, is_in_range}
 use Rattle.ffs_volume.specs.Blocks.Claims.{Claims, next_inode, is_open, is_set, after_offer, after_offers, after_run, after_step, after_steps}
 use Rattle.ffs_volume.specs.Blocks.FirstOffers.{offer_at}
-use Rattle.ffs_volume.specs.Encodings.Replay.{Replay, replay_of, fresh_replay, cut_of, replay_step, is_replayed, replayed_steps, replayed_step_offers, replayed_offers}
-use Rattle.ffs_volume.proofs.ReplayIsKeeping.{seen_replays, step_replays, step_few}
-use Rattle.ffs_volume.specs.Encodings.ReplayCounts.{seen_run, replayed_runs, counted_step, SameReplay}
+use Rattle.ffs_volume.specs.Encodings.Replay.{Replay, fresh_replay, cut_of, replay_step, is_replayed, replayed_steps}
+use Rattle.ffs_volume.proofs.ReplayIsKeeping.{replay_of, replayed_step_offers, replayed_offers, seen_replays, step_replays, step_few}
+use Rattle.ffs_volume.specs.Encodings.ReplayCounts.{seen_run, replayed_runs, counted_step}
+
+-- two replays that keep the same steps and offers and see as many Runs
+pub record SameReplay (v : Layout) (i cut : ℕ) (r q : Replay) (steps : List Step) : Type 0 where
+  pub steps_are : replayed_steps v cut r steps ≡ replayed_steps v cut q steps
+  pub offers_are : replayed_offers v i cut r steps ≡ replayed_offers v i cut q steps
+  pub runs_are : replayed_runs v cut r steps ≡ replayed_runs v cut q steps
 
 offers_runs : (v : Layout) (s : Claims) (fs : List ℕ) → (after_offers v s fs).runs ≡ s.runs
 offers_runs v s [] = refl

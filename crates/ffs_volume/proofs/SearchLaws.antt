@@ -1,8 +1,19 @@
--- Laws of `specs/Directories/Search`.
+-- Laws of `specs/Disk/Search`.
 use Rattle.std.specs.Prelude.{◌≡◌, ℕ, zero, suc, ◌<◌, Bool, true, false, Option, None, Some, refl, is_some, ◌||◌}
 use Rattle.std.proofs.Common.{arith, sym, ap, subst, inl, inr}
 use Rattle.std.proofs.lemmas.Bool.{both_ways, cases_Bool, cases_order}
-use Rattle.ffs_volume.specs.Directories.Search.{earliest, first_below, some_below, IsFirst, FirstMeaning}
+use Rattle.ffs_volume.specs.Disk.Search.{earliest, first_below, some_below}
+
+-- s is the least number below n that passes
+pub record IsFirst (p : ℕ → Bool) (n s : ℕ) : Type 0 where
+  pub below : s < n
+  pub passes : p s ≡ true
+  pub least : (t : ℕ) → t < s → p t ≡ false
+
+-- what a search below n answers
+abbrev pub FirstMeaning : (ℕ → Bool) → ℕ → Option ℕ → Type 0
+FirstMeaning p n None = (t : ℕ) → t < n → p t ≡ false
+FirstMeaning p n (Some s) = IsFirst p n s
 
 earliest-tells : (p : ℕ → Bool) (n : ℕ) (o : Option ℕ) (b : Bool) → p n ≡ b → FirstMeaning p n o → FirstMeaning p (suc n) (earliest o b n)
 unfolding earliest

@@ -2,7 +2,7 @@
 use Rattle.std.specs.Prelude.{◌≡◌, ◌≢◌, ℕ, ◌==◌, Bool, true, false, not, ◌&&◌, refl, Option, None, Some, is_some}
 use Rattle.std.proofs.Common.{◌∙◌, ap}
 use Rattle.std.proofs.lemmas.Bool.{and_parts, and_from, ne_eqb, not_from_false, not-true, eqb-false, cond-false}
-use Rattle.ffs_volume.specs.Directories.Search.{first_below}
+use Rattle.ffs_volume.specs.Disk.Search.{first_below}
 use Rattle.ffs_volume.specs.Directories.Graph.{Graph, level, edge, reached, parent, parent_by, lost, dead, names_in}
 
 pub edge-parts : (v : Graph) (s d : ℕ) → edge v s d ≡ true → (v.is_dir d ≡ true) × (v.is_dir s ≡ true)

@@ -1,7 +1,6 @@
 -- Directories: entries and their roles, levels and parents, paths, and the lines of phases 2, 3 and 4.
 pub mod Entries
 pub mod Roles
-pub mod Search
 pub mod Climb
 pub mod Graph
 pub mod Levels

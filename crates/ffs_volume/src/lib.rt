@@ -1,13 +1,14 @@
 //! What a UFS1 volume is: the definitions that contracts cite, and the types that they share with code.
 //!
 //! The definitions are a book, in `specs/`: folders by subject, in the order that `specs/Lib.antt` gives.
-//! Nothing here runs but `End::status`. `laws` states laws and worked examples of the definitions, and the
+//! Nothing here runs but `End::status`. `texts` has the texts of messages; `laws` states laws and worked examples of the definitions, and the
 //! lemmas that the crates above use are in `proofs/`.
 //!
 //! It rests on no other crate of this repository.
 #![tactic(auto)]
 
 pub mod laws;
+pub mod texts;
 
 /// The order of the bytes in the numbers of an image.
 #[derive(Clone, Copy, Debug, PartialEq, Eq)]

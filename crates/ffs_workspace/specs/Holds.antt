@@ -1,5 +1,6 @@
 -- What a workspace holds between the phases.
-use Rattle.std.specs.Prelude.{◌≡◌, ◌<◌, ℕ, Bool, false, not, ◌&&◌, ◌||◌, ◌==◌, List, if◌then◌else◌, replicate, slice_index}
+use Rattle.std.specs.Prelude.{◌≡◌, ◌<◌, ℕ, Bool, false, not, ◌&&◌, ◌||◌, ◌==◌}
+use Rattle.std.specs.Prelude.{List, if◌then◌else◌, replicate, slice_index}
 use Rattle.std.specs.Option.{unwrap_or}
 use Rattle.ffs_volume.specs.declared.Layout.{Layout}
 use Rattle.ffs_volume.specs.Blocks.Inodes.{inode_of, class_of, is_unknown}
@@ -45,15 +46,16 @@ has_blame s = not (s.bad == 0 && s.dups == 0)
 unfoldable pub first_marked_at : Layout → List ℕ → ℕ → Bool
 first_marked_at v image x =
     if is_inode_number v x
-    then is_unknown (class_of v (inode_of v image x)) || has_blame (after_owner v (claims_before v image x) (owner_of v image x))
+    then is_unknown (class_of v (inode_of v image x))
+        || has_blame (after_owner v (claims_before v image x) (owner_of v image x))
     else false
 
 -- the claims of all inodes
 unfoldable pub all_claims : Layout → List ℕ → Claims
 all_claims v image = after_owners v (no_claims v) (owners_of v image)
 
--- what phase 1 leaves: the fragments that are reserved or claimed and those with a Dup line, and for each inode its kind,
--- whether it is marked so far, and where dup offers cut it
+-- what phase 1 leaves: the fragments that are reserved or claimed and those with a Dup line, and for each inode its
+-- kind, whether it is marked so far, and where dup offers cut it
 pub record HoldsPhase1 (v : Layout) (image : List ℕ) (w : Workspace) : Type 0 where
   pub used : bits_of w.claimed ≡ (all_claims v image).used
   pub dup : bits_of w.duplicates ≡ (all_claims v image).dup
@@ -62,16 +64,16 @@ pub record HoldsPhase1 (v : Layout) (image : List ℕ) (w : Workspace) : Type 0 
   pub marked : (x : ℕ) → bool_at w.marked.items x ≡ first_marked_at v image x
   pub cut : (x : ℕ) → slice_index w.cut.items x ≡ cut_at v image x
 
--- what phases 1 and 1b leave: the fragments that are reserved or claimed, and for each inode its kind, whether it is marked,
--- and where dup offers cut it
+-- what phases 1 and 1b leave: the fragments that are reserved or claimed, and for each inode its kind, whether it is
+-- marked, and where dup offers cut it
 pub record HoldsClaims (v : Layout) (image : List ℕ) (w : Workspace) : Type 0 where
   pub used : bits_of w.claimed ≡ (after_owners v (no_claims v) (owners_of v image)).used
   pub kinds : (x : ℕ) → slice_index w.kinds.items x ≡ kind_at v image x
   pub marked : (x : ℕ) → bool_at w.marked.items x ≡ marked_at v image x
   pub cut : (x : ℕ) → slice_index w.cut.items x ≡ cut_at v image x
 
--- what the survey leaves: how often each inode is referred to, whether an entry names it, whether it is reached from the root,
--- and its parent, or 0 for none
+-- what the survey leaves: how often each inode is referred to, whether an entry names it, whether it is reached from
+-- the root, and its parent, or 0 for none
 pub record HoldsSurvey (v : Layout) (image : List ℕ) (w : Workspace) : Type 0 where
   pub references : (x : ℕ) → x < inodes_of v → slice_index w.references.items x ≡ references (volume_of v image) x
   pub named : (x : ℕ) → x < inodes_of v → bool_at w.named.items x ≡ named (graph_of (volume_of v image)) x

@@ -1,5 +1,6 @@
 -- Which fragments inodes get: the offers of their Runs, in order, and which of them are kept.
-use Rattle.std.specs.Prelude.{ℕ, Bool, true, false, ◌+◌, ◌&&◌, not, List, [], ◌∷◌, ◌++◌, ◌==◌, nat_lt, slice_set, if◌then◌else◌, map, replicate}
+use Rattle.std.specs.Prelude.{ℕ, Bool, true, false, ◌+◌, ◌&&◌, not, List, [], ◌∷◌, ◌++◌}
+use Rattle.std.specs.Prelude.{◌==◌, nat_lt, slice_set, if◌then◌else◌, map, replicate}
 use Rattle.std.specs.List.{range_with_len, slice_index_or}
 use Rattle.ffs_volume.specs.declared.Layout.{Layout}
 use Rattle.ffs_volume.specs.declared.Step.{Step}

@@ -1,5 +1,5 @@
 -- What it is for kept offers to be the first of the offers of some fragments.
-use Rattle.std.proofs.Common.{◌≡◌, ◌⊎◌, ℕ, ◌+◌, Bool, true, List, [], ◌++◌}
+use Rattle.std.proofs.Common.{◌≡◌, ◌⊎◌, ℕ, Bool, true, List, [], ◌++◌}
 use Rattle.std.specs.Prelude.{map}
 use Rattle.ffs_volume.specs.Blocks.BlockCheck.{Offer}
 

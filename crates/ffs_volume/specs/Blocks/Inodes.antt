@@ -1,5 +1,6 @@
 -- An inode, and its class.
-use Rattle.std.specs.Prelude.{ℕ, Bool, true, false, not, ◌+◌, ◌*◌, ◌/◌, ◌&&◌, ◌||◌, List, nat_lt, ◌==◌, if◌then◌else◌, drop, map}
+use Rattle.std.specs.Prelude.{ℕ, Bool, true, false, not, ◌+◌, ◌*◌, ◌/◌, ◌&&◌}
+use Rattle.std.specs.Prelude.{◌||◌, List, nat_lt, ◌==◌, if◌then◌else◌, drop, map}
 use Rattle.std.specs.List.{list_any, range_with_len}
 use Rattle.std.specs.Int.{div_ceil}
 use Rattle.ffs_volume.specs.declared.Order.{Order}

@@ -47,15 +47,12 @@ pub record OfferVerdict : Type 0 where
   pub dup : Bool
   pub kept : Bool
 
--- an earlier kept offer has the fragment; how many dup, or kept, offers of an inode there are
+-- an earlier kept offer has the fragment; how many dup offers of an inode there are
 abbrev pub is_taken : List OfferVerdict → ℕ → Bool
 is_taken earlier f = list_any (λ j. j.kept && j.fragment == f) earlier
 
 abbrev pub dups_of : List OfferVerdict → ℕ → ℕ
 dups_of earlier i = count_by (λ j. j.dup && j.inode == i) earlier
-
-abbrev pub kept_of : List OfferVerdict → ℕ → ℕ
-kept_of earlier i = count_by (λ j. j.kept && j.inode == i) earlier
 
 -- an offer of a data fragment is dup when it is reserved or an earlier kept offer has it; an offer is kept when
 -- at most ten bad Runs of its inode are at or before its Run and at most ten dup offers of the inode before it

@@ -1,7 +1,8 @@
 -- The steps over the addresses of an inode, after fs(5). A Run has its first fragment, its length and its logical
 -- block, or None where it is a block of addresses. A Gap is an address of zero: a hole. A Tail is a word of a block of
 -- addresses that is set, though no logical block lies under it.
-use Rattle.std.specs.Prelude.{ℕ, zero, suc, Bool, not, ◌+◌, ◌-◌, ◌*◌, ◌%◌, ◌&&◌, ◌||◌, List, [], ◌∷◌, ◌++◌, nat_eq, nat_lt, min, if◌then◌else◌, Some, None, slice_index}
+use Rattle.std.specs.Prelude.{ℕ, zero, suc, Bool, not, ◌+◌, ◌-◌, ◌*◌, ◌%◌, ◌&&◌, ◌||◌, List, [], ◌∷◌}
+use Rattle.std.specs.Prelude.{◌++◌, nat_eq, nat_lt, min, if◌then◌else◌, Some, None, slice_index}
 use Rattle.std.specs.List.{flat_map, range_with_len, list_any}
 use Rattle.std.specs.Int.{div_ceil}
 use Rattle.ffs_volume.specs.declared.Layout.{Layout}
@@ -10,7 +11,8 @@ use Rattle.ffs_volume.specs.declared.Step.TheVariants.{Run, Tail, Gap}
 use Rattle.ffs_volume.specs.declared.Inode.{Inode}
 use Rattle.ffs_volume.specs.Disk.Numbers.{u32_at, piece}
 use Rattle.ffs_volume.specs.Disk.Areas.{is_in_range}
-use Rattle.ffs_volume.specs.Blocks.Inodes.{NDADDR, addresses_for, type_of, is_device, is_short_symlink, logical_blocks_of, is_file_or_dir, class_of}
+use Rattle.ffs_volume.specs.Blocks.Inodes.{NDADDR, addresses_for, type_of, is_device, is_short_symlink}
+use Rattle.ffs_volume.specs.Blocks.Inodes.{logical_blocks_of, is_file_or_dir, class_of}
 
 -- the bytes of the block at an address
 abbrev pub block_bytes : Layout → List ℕ → ℕ → List ℕ

@@ -36,12 +36,16 @@ times f fs = count_by (λ g. g == f) fs
 abbrev pub is_field_right : Layout → Owner → Bool
 is_field_right v o = not (is_file_or_dir o.class) || o.blocks == sectors v (length (fragments_of o.steps))
 
--- the classes are right; and, as in AreRunsRight of `Volume`, all Runs are in range, no fragment is in two places or is
--- reserved, there is no Tail, and each blocks field is that of the inode's fragments
-pub record BlocksRight (v : Layout) (os : List Owner) : Type 0 where
-  pub classes : list_all (λ o. is_right_class o.class) os ≡ true
+-- all Runs are in range, no fragment is in two places or is reserved, there is no Tail,
+-- and each blocks field is that of the inode's fragments
+pub record AreRunsRight (v : Layout) (os : List Owner) : Type 0 where
   pub in_range : list_all (run_in_range v) (all_steps os) ≡ true
   pub no_tail : list_all is_no_tail (all_steps os) ≡ true
   pub alone : (f : ℕ) → times f (fragments_of (all_steps os)) ≤ 1
   pub unreserved : (f : ℕ) → is_reserved v f ≡ true → times f (fragments_of (all_steps os)) ≡ 0
   pub counted : list_all (is_field_right v) os ≡ true
+
+-- the classes are right, and all that their steps claim
+pub record BlocksRight (v : Layout) (os : List Owner) : Type 0 where
+  pub classes : list_all (λ o. is_right_class o.class) os ≡ true
+  pub runs : AreRunsRight v os

@@ -1,11 +1,9 @@
 -- When a whole volume is consistent: without order, keeping, firsts or messages.
-use Rattle.std.specs.Prelude.{◌≡◌, ℕ, ◌≤◌, true, List}
+use Rattle.std.specs.Prelude.{◌≡◌, ℕ, true, List}
 use Rattle.std.specs.List.{list_all}
-use Rattle.ffs_volume.specs.declared.Layout.{Layout}
-use Rattle.ffs_volume.specs.Disk.Areas.{is_reserved}
 use Rattle.ffs_volume.specs.Disk.Superblock.{Superblock}
-use Rattle.ffs_volume.specs.Blocks.Owners.{Owner, owners_of, all_steps, fragments_of}
-use Rattle.ffs_volume.specs.Consistent.BlocksRight.{is_right_class, run_in_range, is_no_tail, times, is_field_right}
+use Rattle.ffs_volume.specs.Blocks.Owners.{owners_of}
+use Rattle.ffs_volume.specs.Consistent.BlocksRight.{is_right_class, AreRunsRight}
 use Rattle.ffs_volume.specs.Groups.Records.{GroupsRight}
 use Rattle.ffs_volume.specs.Groups.GroupCheck.{is_free_of_runs}
 use Rattle.ffs_volume.specs.Consistent.DirectoriesRight.{AreDirsRight, AreLinksRight, AreCountsRight}
@@ -16,15 +14,6 @@ use Rattle.ffs_volume.specs.Report.Opening.{is_optimization, is_minfree}
 pub record AreSettingsRight (s : Superblock) : Type 0 where
   pub optimization : is_optimization s ≡ true
   pub minfree : is_minfree s ≡ true
-
--- all Runs are in range, no fragment is in two places or is reserved, there is no Tail,
--- and each blocks field is that of the inode's fragments
-pub record AreRunsRight (v : Layout) (os : List Owner) : Type 0 where
-  pub in_range : list_all (run_in_range v) (all_steps os) ≡ true
-  pub no_tail : list_all is_no_tail (all_steps os) ≡ true
-  pub alone : (f : ℕ) → times f (fragments_of (all_steps os)) ≤ 1
-  pub unreserved : (f : ℕ) → is_reserved v f ≡ true → times f (fragments_of (all_steps os)) ≡ 0
-  pub counted : list_all (is_field_right v) os ≡ true
 
 -- the seven conditions of a consistent volume
 pub record IsConsistent (image : List ℕ) (s : Superblock) : Type 0 where

@@ -1,6 +1,7 @@
 -- Following a function from numbers to numbers that may end, such as `parent`, and its cycles.
-use Rattle.std.specs.Prelude.{◌≡◌, ℕ, zero, suc, ◌<◌, ◌≤◌, ◌==◌, nat_le, Bool, true, false, not, ◌&&◌, Option, None, Some, option_and_then}
-use Rattle.ffs_volume.specs.Directories.Search.{some_below}
+use Rattle.std.specs.Prelude.{◌≡◌, ℕ, zero, suc, ◌≤◌, ◌==◌, nat_le, Bool, true}
+use Rattle.std.specs.Prelude.{false, not, ◌&&◌, Option, None, Some, option_and_then}
+use Rattle.ffs_volume.specs.Disk.Search.{some_below}
 
 -- the number that following f k times leads to from d
 unfoldable pub climb : (ℕ → Option ℕ) → ℕ → ℕ → Option ℕ
@@ -31,8 +32,3 @@ pub record OnCycle (f : ℕ → Option ℕ) (d : ℕ) : Type 0 where
 pub record IsLeader (f : ℕ → Option ℕ) (d : ℕ) : Type 0 where
   pub cycle : OnCycle f d
   pub least : (k s : ℕ) → climb f k d ≡ Some s → d ≤ s
-
--- where the test holds, the number is below n and f leads to a number where it holds
-pub record StaysBelow (f : ℕ → Option ℕ) (p : ℕ → Bool) (n : ℕ) : Type 0 where
-  pub below : (x : ℕ) → p x ≡ true → x < n
-  pub next : (x : ℕ) → p x ≡ true → (s : ℕ) × (f x ≡ Some s) × (p s ≡ true)

@@ -1,9 +1,10 @@
 -- Levels, parents and lost directories of a volume, read as a graph.
-use Rattle.std.specs.Prelude.{◌≡◌, ◌≢◌, ℕ, zero, suc, ◌<◌, ◌==◌, Bool, true, false, not, ◌&&◌, ◌||◌, List, Option, None, Some, is_some, cond, [], ◌∷◌, option_map, if◌then◌else◌, ◌↔◌}
+use Rattle.std.specs.Prelude.{◌≡◌, ℕ, zero, suc, ◌==◌, Bool, true, false, not, ◌&&◌, ◌||◌, List}
+use Rattle.std.specs.Prelude.{Option, None, Some, is_some, cond, [], ◌∷◌, option_map, if◌then◌else◌}
 use Rattle.std.specs.List.{list_any}
 use Rattle.ffs_volume.specs.Blocks.Inodes.{ROOTINO}
 use Rattle.ffs_volume.specs.Directories.Roles.{RoledEntry, is_plain}
-use Rattle.ffs_volume.specs.Directories.Search.{first_below, some_below}
+use Rattle.ffs_volume.specs.Disk.Search.{first_below, some_below}
 use Rattle.ffs_volume.specs.Directories.Climb.{is_value, leads_cycle}
 
 -- what levels and parents depend on: the number of inodes, which are directories, and the entries of each in order
@@ -85,23 +86,6 @@ none_or_dead g suspect (Some s) = dead g suspect s
 abbrev pub is_unref_dir : Graph → (ℕ → Bool) → ℕ → Bool
 is_unref_dir g suspect d = lost g suspect d && (none_or_dead g suspect (parent g d) || leads_cycle (parent g) g.count d)
 
--- a directory has the number of an inode, and there is an inode 2
-pub record IsSane (g : Graph) : Type 0 where
-  pub some : ROOTINO < g.count
-  pub dirs : (d : ℕ) → g.is_dir d ≡ true → d < g.count
-
--- each directory is reached from inode 2
-abbrev pub AllReached : Graph → Type 0
-AllReached g = (d : ℕ) → g.is_dir d ≡ true → reached g d ≡ true
-
--- no inode is dead
-abbrev pub NoneDead : Graph → (ℕ → Bool) → Type 0
-NoneDead g suspect = (x : ℕ) → dead g suspect x ≡ false
-
--- no directory has a line UNREF DIR
-abbrev pub NoUnrefDir : Graph → (ℕ → Bool) → Type 0
-NoUnrefDir g suspect = (d : ℕ) → is_unref_dir g suspect d ≡ false
-
 -- whether the entry at index j passes
 abbrev pub test_at : (RoledEntry → Bool) → ℕ → List RoledEntry → Bool
 test_at p j [] = false
@@ -112,22 +96,9 @@ test_at p (suc j) (e ∷ es) = test_at p j es
 abbrev pub names_at : Graph → ℕ → ℕ → ℕ → Bool
 names_at g s j x = g.is_dir s && test_at (names x) j (g.entries s)
 
--- the entry at index j of s is the parent entry of d, as a fact
-abbrev pub IsParentEntry : Graph → ℕ → ℕ → ℕ → Type 0
-IsParentEntry g s j d = (parent g d ≡ Some s) × (parent_entry g d ≡ Some j)
-
--- each plain entry that names a directory is its parent entry
-abbrev pub NoExtraneous : Graph → Type 0
-NoExtraneous g = (s j d : ℕ) → names_at g s j d ≡ true → g.is_dir d ≡ true → IsParentEntry g s j d
-
 -- exactly one plain entry names d
 pub record NamedOnce (g : Graph) (d : ℕ) : Type 0 where
   pub in_dir : ℕ
   pub place : ℕ
   pub there : names_at g in_dir place d ≡ true
   pub only : (s j : ℕ) → names_at g s j d ≡ true → (s ≡ in_dir) × (j ≡ place)
-
--- each directory but 2 is named by one plain entry, and 2 by none
-pub record LinksRight (g : Graph) : Type 0 where
-  pub once : (d : ℕ) → g.is_dir d ≡ true → d ≢ ROOTINO → NamedOnce g d
-  pub root : (s j : ℕ) → names_at g s j ROOTINO ≡ false

@@ -1,7 +1,7 @@
 -- The graph of a volume, and which entry is the first to name an inode, or is its parent entry.
 use Rattle.std.specs.Prelude.{ℕ, zero, suc, Bool, ◌&&◌, List, [], ◌∷◌, Option, Some, None}
 use Rattle.ffs_volume.specs.Directories.Roles.{Volume, RoledEntry, is_dir, roled_entries}
-use Rattle.ffs_volume.specs.Directories.Search.{first_below}
+use Rattle.ffs_volume.specs.Disk.Search.{first_below}
 use Rattle.ffs_volume.specs.Directories.Climb.{is_value}
 use Rattle.ffs_volume.specs.Directories.Graph.{Graph, names, names_in, parent, parent_entry, first_index}
 

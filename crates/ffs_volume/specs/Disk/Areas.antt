@@ -1,7 +1,9 @@
 -- Where the parts of a volume lie, in fragments and in bytes.
-use Rattle.std.specs.Prelude.{ℕ, ◌+◌, ◌-◌, ◌*◌, ◌/◌, ◌%◌, Bool, ◌&&◌, ◌||◌, not, nat_lt, nat_le, ◌==◌, ℤ, pos, ◌*ℤ◌, bit_and}
+use Rattle.std.specs.Prelude.{ℕ, ◌+◌, ◌-◌, ◌*◌, ◌/◌, ◌%◌, Bool, ◌&&◌, ◌||◌}
+use Rattle.std.specs.Prelude.{not, nat_lt, nat_le, ◌==◌, ℤ, pos, ◌*ℤ◌, bit_and}
 use Rattle.std.specs.Int.{div_ceil}
-use Rattle.ffs_volume.specs.Disk.Numbers.{natural, all_below, any_below}
+use Rattle.ffs_volume.specs.Disk.Numbers.{natural, all_below}
+use Rattle.ffs_volume.specs.Disk.Search.{some_below}
 use Rattle.ffs_volume.specs.declared.Layout.{Layout}
 
 -- how far the parts of group c are moved from its base: cgoffset * (c & ~cgmask)
@@ -34,7 +36,7 @@ inode_place v x = (cgstart v (x / v.ipg) + v.iblkno) * v.fsize + 128 * (x % v.ip
 
 -- f lies in the part of some group that is kept for its copy of the superblock, its group block and its inodes
 unfoldable pub is_group_metadata : Layout → ℕ → Bool
-is_group_metadata v f = any_below v.ncg (λ c. nat_le (cgsblock v c) f && nat_lt f (cgdmin v c))
+is_group_metadata v f = some_below (λ c. nat_le (cgsblock v c) f && nat_lt f (cgdmin v c)) v.ncg
 
 -- f is below the volume's size and no group's metadata: the boot area and the summary area are data fragments too
 unfoldable pub is_data_fragment : Layout → ℕ → Bool

@@ -1,5 +1,5 @@
 -- Numbers in the bytes of an image.
-use Rattle.std.specs.Prelude.{ℕ, zero, suc, ◌==◌, Bool, true, false, ◌&&◌, ◌||◌, List, drop, take, ℤ, pos, negsuc}
+use Rattle.std.specs.Prelude.{ℕ, zero, suc, ◌==◌, Bool, true, false, ◌&&◌, List, drop, take, ℤ, pos, negsuc}
 use Rattle.std.specs.Int.{w16, w32, cast_signed}
 use Rattle.byteorder.specs.Endian.{little_number, big_number}
 use Rattle.ffs_volume.specs.declared.Order.{Order}
@@ -43,14 +43,10 @@ is_natural (negsuc n) = false
 unfoldable pub count_at : Order → ℕ → List ℕ → ℕ
 count_at order place bytes = natural (i32_at order place bytes)
 
--- whether each, or some, number below n passes
+-- whether each number below n passes
 unfoldable pub all_below : ℕ → (ℕ → Bool) → Bool
 all_below zero test = true
 all_below (suc n) test = test n && all_below n test
-
-unfoldable pub any_below : ℕ → (ℕ → Bool) → Bool
-any_below zero test = false
-any_below (suc n) test = test n || any_below n test
 
 -- a signed number is n
 abbrev pub is_the_count : ℤ → ℕ → Bool

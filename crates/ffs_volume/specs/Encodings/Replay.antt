@@ -1,15 +1,12 @@
 -- The keeping of an inode's steps replayed, from the number of its kept offers where it was cut by dup offers.
 use Rattle.std.proofs.Common.{ℕ, ◌+◌, ◌-◌, Bool, List, [], ◌∷◌, ◌++◌}
-use Rattle.std.specs.Prelude.{nat_lt, ◌&&◌, ◌||◌, ◌==◌, min, if◌then◌else◌, map}
-use Rattle.std.specs.List.{range_with_len}
+use Rattle.std.specs.Prelude.{nat_lt, ◌&&◌, ◌||◌, ◌==◌, min, if◌then◌else◌}
 use Rattle.ffs_volume.specs.declared.Layout.{Layout}
 use Rattle.ffs_volume.specs.declared.Step.{Step}
 use Rattle.ffs_volume.specs.declared.Step.TheVariants.{Run, Tail, Gap}
 use Rattle.ffs_volume.specs.Disk.Areas.{is_in_range}
 use Rattle.ffs_volume.specs.Blocks.Owners.{owner_of}
 use Rattle.ffs_volume.specs.Blocks.Claims.{MAXBAD, MAXDUP, Claims, after_owner}
-use Rattle.ffs_volume.specs.Blocks.BlockCheck.{Offer}
-use Rattle.ffs_volume.specs.Blocks.FirstOffers.{offer_at}
 use Rattle.ffs_volume.specs.Blocks.KeptSteps.{claims_before}
 use Rattle.ffs_volume.specs.Directories.Volumes.{is_inode_number}
 
@@ -17,9 +14,6 @@ use Rattle.ffs_volume.specs.Directories.Volumes.{is_inode_number}
 pub record Replay : Type 0 where
   pub bad : ℕ
   pub kept : ℕ
-
-abbrev pub replay_of : Claims → Replay
-replay_of s = record { bad = s.bad; kept = s.kept }
 
 abbrev pub fresh_replay : Replay
 fresh_replay = record { bad = 0; kept = 0 }
@@ -63,18 +57,6 @@ replayed_steps v cut r [] = []
 replayed_steps v cut r (step ∷ steps) =
     (if is_replayed v cut r step then step ∷ [] else [])
     ++ replayed_steps v cut (replay_step v cut r step) steps
-
--- the offers of a step that are kept: the first of its fragments
-abbrev pub replayed_step_offers : Layout → ℕ → ℕ → Replay → Step → List Offer
-replayed_step_offers v inode cut r (Run start len block) =
-    map (offer_at inode) (range_with_len start ((replay_step v cut r (Run start len block)).kept - r.kept))
-replayed_step_offers v inode cut r Tail = []
-replayed_step_offers v inode cut r Gap = []
-
-abbrev pub replayed_offers : Layout → ℕ → ℕ → Replay → List Step → List Offer
-replayed_offers v inode cut r [] = []
-replayed_offers v inode cut r (step ∷ steps) =
-    replayed_step_offers v inode cut r step ++ replayed_offers v inode cut (replay_step v cut r step) steps
 
 -- the cut of the inode x, in 32 bits
 abbrev pub cut_at : Layout → List ℕ → ℕ → ℕ

@@ -1,12 +1,12 @@
 -- How many Runs a replay sees, and that it need count kept offers only where there is a cut.
-use Rattle.std.proofs.Common.{◌≡◌, ℕ, ◌+◌, ◌-◌, List, [], ◌∷◌}
+use Rattle.std.proofs.Common.{ℕ, ◌+◌, ◌-◌, List, [], ◌∷◌}
 use Rattle.std.specs.Prelude.{◌==◌, min, if◌then◌else◌}
 use Rattle.ffs_volume.specs.declared.Layout.{Layout}
 use Rattle.ffs_volume.specs.declared.Step.{Step}
 use Rattle.ffs_volume.specs.declared.Step.TheVariants.{Run, Tail, Gap}
 use Rattle.ffs_volume.specs.Disk.Areas.{is_in_range}
 use Rattle.ffs_volume.specs.Blocks.Claims.{MAXBAD}
-use Rattle.ffs_volume.specs.Encodings.Replay.{Replay, is_replay_open, replay_step, replayed_steps, replayed_offers}
+use Rattle.ffs_volume.specs.Encodings.Replay.{Replay, is_replay_open, replay_step}
 
 -- how many Runs are seen
 abbrev pub seen_run : ℕ → Replay → Step → ℕ
@@ -34,9 +34,3 @@ abbrev pub counted_step : Layout → ℕ → Replay → Step → Replay
 counted_step v cut r (Run start len block) = if is_replay_open cut r then counted_run v cut r start len else r
 counted_step v cut r Tail = r
 counted_step v cut r Gap = r
-
--- two replays that keep the same steps and offers and see as many Runs
-pub record SameReplay (v : Layout) (i cut : ℕ) (r q : Replay) (steps : List Step) : Type 0 where
-  pub steps_are : replayed_steps v cut r steps ≡ replayed_steps v cut q steps
-  pub offers_are : replayed_offers v i cut r steps ≡ replayed_offers v i cut q steps
-  pub runs_are : replayed_runs v cut r steps ≡ replayed_runs v cut q steps

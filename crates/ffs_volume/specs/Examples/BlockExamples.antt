@@ -1,5 +1,6 @@
 -- Classes and steps of inodes, and what the block check and the check of groups report.
-use Rattle.std.specs.Prelude.{◌≡◌, ℕ, ◌+◌, ◌-◌, ◌==◌, ◌&&◌, not, List, [], ◌∷◌, ◌++◌, pos, Some, None, length, map, replicate, Bool, true, false, if◌then◌else◌}
+use Rattle.std.specs.Prelude.{◌≡◌, ℕ, ◌+◌, ◌-◌, ◌==◌, ◌&&◌, not, List, [], ◌∷◌, ◌++◌, pos, Some}
+use Rattle.std.specs.Prelude.{None, length, map, replicate, Bool, true, false, if◌then◌else◌}
 use Rattle.std.specs.List.{range_with_len}
 use Rattle.ffs_volume.specs.declared.Order.{Order}
 use Rattle.ffs_volume.specs.declared.Order.TheVariants.{Little, Big}
@@ -9,7 +10,9 @@ use Rattle.ffs_volume.specs.declared.Class.TheVariants.{Free, Partial, Unknown, 
 use Rattle.ffs_volume.specs.declared.Step.{Step}
 use Rattle.ffs_volume.specs.declared.Step.TheVariants.{Run, Tail, Gap}
 use Rattle.ffs_volume.specs.declared.BlockMessage.{BlockMessage}
-use Rattle.ffs_volume.specs.declared.BlockMessage.TheVariants.{PartAlloc, UnknownType, Bad, Dup, ManyBad, ManyDup, PartTrunc, BlockCount, GroupMagic, FreeCounts, MapsWrong, GroupSums}
+use Rattle.ffs_volume.specs.declared.BlockMessage.TheVariants.{PartAlloc, UnknownType, Bad, Dup, ManyBad}
+use Rattle.ffs_volume.specs.declared.BlockMessage.TheVariants.{ManyDup, PartTrunc, BlockCount, GroupMagic}
+use Rattle.ffs_volume.specs.declared.BlockMessage.TheVariants.{FreeCounts, MapsWrong, GroupSums}
 use Rattle.ffs_volume.specs.Blocks.Inodes.{inode_of, class_of}
 use Rattle.ffs_volume.specs.Blocks.Steps.{steps_of}
 use Rattle.ffs_volume.specs.Blocks.Owners.{Owner, owners_of}
@@ -193,7 +196,8 @@ pub record GroupExamples : Type 0 where
   pub no_block : phase5_lines (base_layout Little) (zeros 32768
       ++ (word Little 1 ++ (word Little 22 ++ (word Little 29 ++ word Little 6))))
       (pos 1 ∷ pos 22 ∷ pos 29 ∷ pos 6 ∷ []) base_free base_class ≡ GroupMagic 0 ∷ []
-  pub no_record : phase5_lines (base_layout Little) (zeros 32768) (pos 1 ∷ pos 22 ∷ pos 29 ∷ pos 6 ∷ []) base_free base_class
+  pub no_record : phase5_lines (base_layout Little) (zeros 32768)
+      (pos 1 ∷ pos 22 ∷ pos 29 ∷ pos 6 ∷ []) base_free base_class
       ≡ GroupMagic 0 ∷ FreeCounts ∷ []
   -- nothing is free, and the map of fragments passes the end of its block
   pub map_past_end : phase5_lines (base_layout Little) (changed Little (24576 + 96) 1020 (base_image Little))

@@ -1,5 +1,6 @@
 -- The lines of phase 5.
-use Rattle.std.specs.Prelude.{ℕ, Bool, true, false, ◌&&◌, ◌||◌, ◌==◌, not, List, [], ◌∷◌, ◌++◌, nat_lt, if◌then◌else◌, ℤ}
+use Rattle.std.specs.Prelude.{ℕ, Bool, true, false, ◌&&◌, ◌||◌, ◌==◌, not}
+use Rattle.std.specs.Prelude.{List, [], ◌∷◌, ◌++◌, nat_lt, if◌then◌else◌, ℤ}
 use Rattle.std.specs.List.{flat_map, list_any}
 use Rattle.ffs_volume.specs.declared.Layout.{Layout}
 use Rattle.ffs_volume.specs.declared.Class.{Class}
@@ -8,7 +9,8 @@ use Rattle.ffs_volume.specs.declared.BlockMessage.TheVariants.{GroupMagic, FreeC
 use Rattle.ffs_volume.specs.Disk.Areas.{is_reserved}
 use Rattle.ffs_volume.specs.Blocks.Owners.{Owner, fragments_of, all_steps}
 use Rattle.ffs_volume.specs.Blocks.Claims.{is_set, no_claims, after_owners}
-use Rattle.ffs_volume.specs.Groups.Records.{group_block, summary_record, group_numbers, is_magic, are_places, are_maps, are_sums, is_record, is_total}
+use Rattle.ffs_volume.specs.Groups.Records.{group_block, summary_record, group_numbers, is_magic}
+use Rattle.ffs_volume.specs.Groups.Records.{are_places, are_maps, are_sums, is_record, is_total}
 
 -- a message where a test fails
 abbrev pub unless : Bool → BlockMessage → List BlockMessage

@@ -1,6 +1,7 @@
 -- What the records of cylinder groups should be. All is counted from two tests: `free` says which fragments are below
 -- the size and not used, and `class` is the class of an inode from 2 on.
-use Rattle.std.specs.Prelude.{ℕ, Bool, true, false, ◌+◌, ◌-◌, ◌*◌, ◌/◌, ◌%◌, ◌^◌, min, ◌&&◌, ◌||◌, not, List, [], ◌∷◌, ◌++◌, ◌==◌, nat_lt, nat_le, if◌then◌else◌, map, count_by, slice_index, ◌≡◌, ◌<◌, ℤ, pos}
+use Rattle.std.specs.Prelude.{ℕ, Bool, true, false, ◌+◌, ◌-◌, ◌*◌, ◌/◌, ◌%◌, ◌^◌, min, ◌&&◌, ◌||◌, not, List, [], ◌∷◌}
+use Rattle.std.specs.Prelude.{◌++◌, ◌==◌, nat_lt, nat_le, if◌then◌else◌, map, count_by, slice_index, ◌≡◌, ◌<◌, ℤ, pos}
 use Rattle.std.specs.List.{list_all, range_with_len, sum_by, slice_index_or}
 use Rattle.std.specs.Int.{div_ceil}
 use Rattle.ffs_volume.specs.declared.TheConstants.{CG_MAGIC}

@@ -1,33 +1,46 @@
 -- The bytes of the messages. A message is a line and its questions, each with its answer and an empty line after it.
-use Rattle.std.specs.Prelude.{ℕ, ℤ, ◌/◌, ◌%◌, List, [], ◌∷◌, ◌++◌, map, codes, decimal, unsigned_abs}
+use Rattle.std.specs.Prelude.{ℕ, ℤ, ◌/◌, ◌%◌, List, [], ◌∷◌, ◌++◌, map, decimal, unsigned_abs}
 use Rattle.std.specs.List.{flat_map, concat}
 use Rattle.std.specs.Fmt.{signed_decimal}
 use Rattle.ffs_volume.specs.declared.Attr.{Attr}
 use Rattle.ffs_volume.specs.declared.BlockMessage.{BlockMessage}
-use Rattle.ffs_volume.specs.declared.BlockMessage.TheVariants.{PartAlloc, UnknownType, Bad, Dup, ManyBad, ManyDup, PartTrunc, BlockCount, GroupMagic, FreeCounts, MapsWrong, GroupSums}
+use Rattle.ffs_volume.specs.declared.BlockMessage.TheVariants.{PartAlloc, UnknownType, Bad, Dup, ManyBad}
+use Rattle.ffs_volume.specs.declared.BlockMessage.TheVariants.{ManyDup, PartTrunc, BlockCount, GroupMagic}
+use Rattle.ffs_volume.specs.declared.BlockMessage.TheVariants.{FreeCounts, MapsWrong, GroupSums}
 use Rattle.ffs_volume.specs.declared.Label.{Label}
 use Rattle.ffs_volume.specs.declared.Label.TheVariants.{Dir, File, Name}
 use Rattle.ffs_volume.specs.declared.SuperFault.{SuperFault}
-use Rattle.ffs_volume.specs.declared.SuperFault.TheVariants.{CannotRead, Magic, InodeFormat, Ncg, Cpg, Ncyl, TooLarge, Shape, Short, Disagree}
-use Rattle.ffs_volume.specs.Messages.Kinds.{Message, location, opening, bad_super, cannot_read, cannot_alloc, optimization, minfree, mounted, phase1, phase1b, phase2, phase3, phase4, phase5, of_blocks, of_names, summary, NameMessage, root_none, root_not_dir, root_suspect, dir_short, dir_length, dir_empty, dir_corrupt, missing_dot, missing_dot_first, number_dot, kind_dot, missing_dotdot, missing_dotdot_second, number_dotdot, kind_dotdot, extra_dot, extra_dotdot, out_of_range, whiteout, unallocated, dup_bad, zero_dir, extraneous, kind_entry, unref_dir, dead_marked, dead_zero, unref, unref_zero, link_count}
+use Rattle.ffs_volume.specs.declared.SuperFault.TheVariants.{CannotRead, Magic, InodeFormat, Ncg, Cpg}
+use Rattle.ffs_volume.specs.declared.SuperFault.TheVariants.{Ncyl, TooLarge, Shape, Short, Disagree}
+use Rattle.ffs_volume.specs.declared.texts.TheConstants as texts
+use Rattle.ffs_volume.specs.Messages.Kinds.{Message, location, opening, bad_super, cannot_read, cannot_alloc}
+use Rattle.ffs_volume.specs.Messages.Kinds.{optimization, minfree, mounted, phase1, phase1b, phase2, phase3}
+use Rattle.ffs_volume.specs.Messages.Kinds.{phase4, phase5, of_blocks, of_names, summary, NameMessage}
+use Rattle.ffs_volume.specs.Messages.Kinds.{root_none, root_not_dir, root_suspect, dir_short, dir_length}
+use Rattle.ffs_volume.specs.Messages.Kinds.{dir_empty, dir_corrupt, missing_dot, missing_dot_first}
+use Rattle.ffs_volume.specs.Messages.Kinds.{number_dot, kind_dot, missing_dotdot, missing_dotdot_second}
+use Rattle.ffs_volume.specs.Messages.Kinds.{number_dotdot, kind_dotdot, extra_dot, extra_dotdot, out_of_range}
+use Rattle.ffs_volume.specs.Messages.Kinds.{whiteout, unallocated, dup_bad, zero_dir, extraneous, kind_entry}
+use Rattle.ffs_volume.specs.Messages.Kinds.{unref_dir, dead_marked, dead_zero, unref, unref_zero, link_count}
 use Rattle.ffs_volume.specs.Messages.Shown.{shown, octal, sign_text}
 
 -- the line that shows a path begins with what the path is of
 abbrev pub path_label : Label → List ℕ
-path_label Dir = codes "\nDIR="
-path_label File = codes "\nFILE="
-path_label Name = codes "\nNAME="
+path_label Dir = texts.PATH_OF_DIR.now
+path_label File = texts.PATH_OF_FILE.now
+path_label Name = texts.PATH_OF_NAME.now
 
 -- a directory or a file: all that is no directory is called a file
 abbrev pub file_label : Label → List ℕ
-file_label Dir = codes "DIR "
-file_label File = codes "FILE "
-file_label Name = codes "FILE "
+file_label Dir = texts.DIR.now
+file_label File = texts.FILE.now
+file_label Name = texts.FILE.now
 
 -- the attributes of an inode, the mode in octal
 abbrev pub attr_text : Attr → List ℕ
-attr_text a = concat (codes "I=" ∷ decimal a.number ∷ codes " OWNER=" ∷ decimal a.uid ∷ codes " MODE=" ∷ octal a.mode
-    ∷ codes "\nSIZE=" ∷ decimal a.size ∷ codes " MTIME=" ∷ signed_decimal a.mtime ∷ [])
+attr_text a = concat (
+    texts.INODE.now ∷ decimal a.number ∷ texts.OWNER.now ∷ decimal a.uid ∷ texts.MODE.now ∷ octal a.mode
+    ∷ texts.SIZE.now ∷ decimal a.size ∷ texts.MTIME.now ∷ signed_decimal a.mtime ∷ [])
 
 -- an inode with its attributes
 abbrev pub inode_text : List ℕ → Attr → List ℕ → List ℕ
@@ -44,7 +57,8 @@ path_text head about label path tail = inode_text head about (concat (path_label
 -- a directory with its attributes and its path, and the name of the entry in the place of `.` or `..`
 abbrev pub name_in_the_way : List ℕ → Attr → List ℕ → List ℕ → List ℕ → List ℕ
 name_in_the_way head about path why name =
-    inode_text head about (concat (codes "\nDIR=" ∷ map shown path ∷ why ∷ map shown name ∷ codes "\n" ∷ []))
+    inode_text head about (concat (
+    texts.PATH_OF_DIR.now ∷ map shown path ∷ why ∷ map shown name ∷ texts.LINE_END.now ∷ []))
 
 -- a number between two texts
 abbrev pub number_text : List ℕ → ℕ → List ℕ → List ℕ
@@ -52,144 +66,144 @@ number_text head number tail = concat (head ∷ decimal number ∷ tail ∷ [])
 
 -- the line of a superblock that is refused; `fault_line` of Opening makes another message of CannotRead
 abbrev pub fault_text : SuperFault → List ℕ
-fault_text (CannotRead sector) = number_text (codes "CAN NOT READ: BLK ") sector (codes "\n")
-fault_text Magic = codes "BAD SUPER BLOCK: MAGIC NUMBER WRONG\n"
-fault_text InodeFormat = codes "BAD SUPER BLOCK: INODE FORMAT NOT SUPPORTED\n"
-fault_text Ncg = codes "BAD SUPER BLOCK: NCG OUT OF RANGE\n"
-fault_text Cpg = codes "BAD SUPER BLOCK: CPG OUT OF RANGE\n"
-fault_text Ncyl = codes "BAD SUPER BLOCK: NCYL DOES NOT JIVE WITH NCG*CPG\n"
-fault_text TooLarge = codes "BAD SUPER BLOCK: SIZE PREPOSTEROUSLY LARGE\n"
-fault_text Shape = codes "BAD SUPER BLOCK: GEOMETRY OUT OF RANGE\n"
-fault_text Short = codes "BAD SUPER BLOCK: SIZE LARGER THAN IMAGE\n"
-fault_text Disagree = codes "BAD SUPER BLOCK: VALUES DISAGREE WITH LAST ALTERNATE\n"
+fault_text (CannotRead sector) = number_text texts.CANNOT_READ.now sector texts.LINE_END.now
+fault_text Magic = texts.MAGIC.now
+fault_text InodeFormat = texts.INODE_FORMAT.now
+fault_text Ncg = texts.NCG.now
+fault_text Cpg = texts.CPG.now
+fault_text Ncyl = texts.NCYL.now
+fault_text TooLarge = texts.TOO_LARGE.now
+fault_text Shape = texts.SHAPE.now
+fault_text Short = texts.SHORT.now
+fault_text Disagree = texts.DISAGREE.now
 
 -- a fragment, what is wrong with it, and the inode that has it
 abbrev pub claim_text : ℕ → List ℕ → ℕ → List ℕ
-claim_text fragment what inode = concat (decimal fragment ∷ what ∷ decimal inode ∷ codes "\n" ∷ [])
+claim_text fragment what inode = concat (decimal fragment ∷ what ∷ decimal inode ∷ texts.LINE_END.now ∷ [])
 
 -- an inode's own count of blocks, and the right one
 abbrev pub block_count_text : ℕ → ℕ → ℕ → List ℕ
 block_count_text inode found right = concat (
-    codes "INCORRECT BLOCK COUNT I=" ∷ decimal inode ∷ codes " (" ∷ decimal found
-    ∷ codes " should be " ∷ decimal right ∷ codes ")\nCORRECT? no\n\n" ∷ [])
+    texts.BLOCK_COUNT.now ∷ decimal inode ∷ texts.FOUND.now ∷ decimal found
+    ∷ texts.RIGHT.now ∷ decimal right ∷ texts.CORRECT.now ∷ [])
 
 -- the block check and the check of cylinder groups
 abbrev pub block_text : BlockMessage → List ℕ
-block_text (PartAlloc inode) = number_text (codes "PARTIALLY ALLOCATED INODE I=") inode (codes "\nCLEAR? no\n\n")
-block_text (UnknownType inode) = number_text (codes "UNKNOWN FILE TYPE I=") inode (codes "\nCLEAR? no\n\n")
-block_text (Bad fragment inode) = claim_text fragment (codes " BAD I=") inode
-block_text (Dup fragment inode) = claim_text fragment (codes " DUP I=") inode
-block_text (ManyBad inode) = number_text (codes "EXCESSIVE BAD BLKS I=") inode (codes "\nCONTINUE? yes\n\n")
-block_text (ManyDup inode) = number_text (codes "EXCESSIVE DUP BLKS I=") inode (codes "\nCONTINUE? yes\n\n")
-block_text (PartTrunc inode) = number_text (codes "PARTIALLY TRUNCATED INODE I=") inode (codes "\nSALVAGE? no\n\n")
+block_text (PartAlloc inode) = number_text texts.PART_ALLOC.now inode texts.CLEAR.now
+block_text (UnknownType inode) = number_text texts.UNKNOWN_TYPE.now inode texts.CLEAR.now
+block_text (Bad fragment inode) = claim_text fragment texts.BAD.now inode
+block_text (Dup fragment inode) = claim_text fragment texts.DUP.now inode
+block_text (ManyBad inode) = number_text texts.MANY_BAD.now inode texts.CONTINUE.now
+block_text (ManyDup inode) = number_text texts.MANY_DUP.now inode texts.CONTINUE.now
+block_text (PartTrunc inode) = number_text texts.PART_TRUNC.now inode texts.SALVAGE.now
 block_text (BlockCount inode found right) = block_count_text inode found right
-block_text (GroupMagic group) = number_text (codes "CG ") group (codes ": BAD MAGIC NUMBER\n")
-block_text FreeCounts = codes "FREE BLK COUNT(S) WRONG IN SUPERBLK\nSALVAGE? no\n\n"
-block_text MapsWrong = codes "BLK(S) MISSING IN BIT MAPS\nSALVAGE? no\n\n"
-block_text GroupSums = codes "SUMMARY INFORMATION BAD\nSALVAGE? no\n\n"
+block_text (GroupMagic group) = number_text texts.GROUP.now group texts.GROUP_MAGIC.now
+block_text FreeCounts = texts.FREE_COUNTS.now
+block_text MapsWrong = texts.MAPS_WRONG.now
+block_text GroupSums = texts.GROUP_SUMS.now
 
 -- a directory some of whose blocks are empty
 abbrev pub empty_text : List ℕ → List ℕ
 empty_text path =
-    concat (codes "DIRECTORY " ∷ map shown path ∷ codes ": CONTAINS EMPTY BLOCKS\nADJUST LENGTH? no\n\n" ∷ [])
+    concat (texts.DIRECTORY.now ∷ map shown path ∷ texts.DIR_EMPTY.now ∷ [])
 
 -- a directory whose size is no multiple of 512
 abbrev pub length_text : List ℕ → ℕ → List ℕ
 length_text path size = concat (
-    codes "DIRECTORY " ∷ map shown path ∷ codes ": LENGTH " ∷ decimal size
-    ∷ codes " NOT MULTIPLE OF 512\nADJUST? no\n\n" ∷ [])
+    texts.DIRECTORY.now ∷ map shown path ∷ texts.DIR_LENGTH.now ∷ decimal size
+    ∷ texts.NOT_MULTIPLE.now ∷ [])
 
 -- an entry by its number and its path
 abbrev pub entry_text : List ℕ → ℕ → List ℕ → List ℕ → List ℕ
-entry_text head number path tail = concat (head ∷ decimal number ∷ codes "\nNAME=" ∷ map shown path ∷ tail ∷ [])
+entry_text head number path tail = concat (head ∷ decimal number ∷ texts.PATH_OF_NAME.now ∷ map shown path ∷ tail ∷ [])
 
 -- an entry that is a further link to a directory
 abbrev pub extraneous_text : List ℕ → List ℕ → List ℕ
 extraneous_text path directory =
-    concat (map shown path ∷ codes " IS AN EXTRANEOUS HARD LINK TO DIRECTORY " ∷ map shown directory
-    ∷ codes "\nREMOVE? no\n\n" ∷ [])
+    concat (map shown path ∷ texts.EXTRANEOUS.now ∷ map shown directory
+    ∷ texts.REMOVE.now ∷ [])
 
 -- the count of links and the count of references
 abbrev pub counts_text : ℤ → ℕ → List ℕ
 counts_text nlink references = concat (
-    codes "\nCOUNT=" ∷ signed_decimal nlink ∷ codes " SHOULD BE " ∷ decimal references
-    ∷ codes "\nADJUST? no\n\n" ∷ [])
+    texts.COUNT.now ∷ signed_decimal nlink ∷ texts.SHOULD_BE.now ∷ decimal references
+    ∷ texts.ADJUST.now ∷ [])
 
 abbrev pub links_text : Label → Attr → ℤ → ℕ → List ℕ
-links_text label about nlink references = kind_text (codes "LINK COUNT ") label about (counts_text nlink references)
+links_text label about nlink references = kind_text texts.LINK_COUNT.now label about (counts_text nlink references)
 
 -- directories, their entries and references
 abbrev pub name_text : NameMessage → List ℕ
-name_text root_none = codes "ROOT INODE UNALLOCATED\nALLOCATE? no\n\n"
-name_text root_not_dir = codes "ROOT INODE NOT DIRECTORY\nREALLOCATE? no\n\nFIX? no\n\n"
-name_text root_suspect = codes "DUPS/BAD IN ROOT INODE\nREALLOCATE? no\n\nCONTINUE? yes\n\n"
-name_text (dir_short about path) = path_text (codes "DIRECTORY TOO SHORT ") about Dir path (codes "\nFIX? no\n\n")
+name_text root_none = texts.ROOT_NONE.now
+name_text root_not_dir = texts.ROOT_NOT_DIR.now
+name_text root_suspect = texts.ROOT_SUSPECT.now
+name_text (dir_short about path) = path_text texts.DIR_SHORT.now about Dir path texts.FIX.now
 name_text (dir_length path size) = length_text path size
 name_text (dir_empty path) = empty_text path
-name_text (dir_corrupt about path) = path_text (codes "DIRECTORY CORRUPTED ") about Dir path (codes "\nSALVAGE? no\n\n")
-name_text (missing_dot about path) = path_text (codes "MISSING '.' ") about Dir path (codes "\nFIX? no\n\n")
+name_text (dir_corrupt about path) = path_text texts.DIR_CORRUPT.now about Dir path texts.SALVAGE.now
+name_text (missing_dot about path) = path_text texts.MISSING_DOT.now about Dir path texts.FIX.now
 name_text (missing_dot_first about path name) =
-    name_in_the_way (codes "MISSING '.' ") about path (codes "\nCANNOT FIX, FIRST ENTRY IN DIRECTORY CONTAINS ") name
-name_text (number_dot about path) = path_text (codes "BAD INODE NUMBER FOR '.' ") about Dir path (codes "\nFIX? no\n\n")
-name_text (kind_dot about path) = path_text (codes "BAD TYPE VALUE FOR '.' ") about Dir path (codes "\nFIX? no\n\n")
-name_text (missing_dotdot about path) = path_text (codes "MISSING '..' ") about Dir path (codes "\nFIX? no\n\n")
+    name_in_the_way texts.MISSING_DOT.now about path texts.FIRST_ENTRY.now name
+name_text (number_dot about path) = path_text texts.NUMBER_DOT.now about Dir path texts.FIX.now
+name_text (kind_dot about path) = path_text texts.KIND_DOT.now about Dir path texts.FIX.now
+name_text (missing_dotdot about path) = path_text texts.MISSING_DOTDOT.now about Dir path texts.FIX.now
 name_text (missing_dotdot_second about path name) =
-    name_in_the_way (codes "MISSING '..' ") about path (codes "\nCANNOT FIX, SECOND ENTRY IN DIRECTORY CONTAINS ") name
+    name_in_the_way texts.MISSING_DOTDOT.now about path texts.SECOND_ENTRY.now name
 name_text (number_dotdot about path) =
-    path_text (codes "BAD INODE NUMBER FOR '..' ") about Dir path (codes "\nFIX? no\n\n")
-name_text (kind_dotdot about path) = path_text (codes "BAD TYPE VALUE FOR '..' ") about Dir path (codes "\nFIX? no\n\n")
-name_text (extra_dot about path) = path_text (codes "EXTRA '.' ENTRY ") about Dir path (codes "\nFIX? no\n\n")
-name_text (extra_dotdot about path) = path_text (codes "EXTRA '..' ENTRY ") about Dir path (codes "\nFIX? no\n\n")
-name_text (out_of_range number path) = entry_text (codes "I OUT OF RANGE I=") number path (codes "\nREMOVE? no\n\n")
-name_text (whiteout number path) = entry_text (codes "BAD WHITEOUT ENTRY I=") number path (codes "\nFIX? no\n\n")
-name_text (unallocated about path) = path_text (codes "UNALLOCATED ") about Name path (codes "\nREMOVE? no\n\n")
-name_text (dup_bad about label path) = path_text (codes "DUP/BAD ") about label path (codes "\nREMOVE? no\n\n")
-name_text (zero_dir about path) = path_text (codes "ZERO LENGTH DIRECTORY ") about Dir path (codes "\nREMOVE? no\n\n")
+    path_text texts.NUMBER_DOTDOT.now about Dir path texts.FIX.now
+name_text (kind_dotdot about path) = path_text texts.KIND_DOTDOT.now about Dir path texts.FIX.now
+name_text (extra_dot about path) = path_text texts.EXTRA_DOT.now about Dir path texts.FIX.now
+name_text (extra_dotdot about path) = path_text texts.EXTRA_DOTDOT.now about Dir path texts.FIX.now
+name_text (out_of_range number path) = entry_text texts.OUT_OF_RANGE.now number path texts.REMOVE.now
+name_text (whiteout number path) = entry_text texts.WHITEOUT.now number path texts.FIX.now
+name_text (unallocated about path) = path_text texts.UNALLOCATED.now about Name path texts.REMOVE.now
+name_text (dup_bad about label path) = path_text texts.DUP_BAD.now about label path texts.REMOVE.now
+name_text (zero_dir about path) = path_text texts.ZERO_DIR.now about Dir path texts.REMOVE.now
 name_text (extraneous path directory) = extraneous_text path directory
-name_text (kind_entry about label path) = path_text (codes "BAD TYPE VALUE ") about label path (codes "\nFIX? no\n\n")
-name_text (unref_dir about) = inode_text (codes "UNREF DIR ") about (codes "\nRECONNECT? no\n\n")
-name_text (dead_marked label about) = kind_text (codes "BAD/DUP ") label about (codes "\nCLEAR? no\n\n")
-name_text (dead_zero about) = inode_text (codes "ZERO LENGTH DIR ") about (codes "\nCLEAR? no\n\n")
-name_text (unref label about) = kind_text (codes "UNREF ") label about (codes "\nRECONNECT? no\n\nCLEAR? no\n\n")
-name_text (unref_zero label about) = kind_text (codes "UNREF ") label about (codes "\nCLEAR? no\n\n")
+name_text (kind_entry about label path) = path_text texts.KIND_ENTRY.now about label path texts.FIX.now
+name_text (unref_dir about) = inode_text texts.UNREF_DIR.now about texts.RECONNECT.now
+name_text (dead_marked label about) = kind_text texts.DEAD_MARKED.now label about texts.CLEAR.now
+name_text (dead_zero about) = inode_text texts.DEAD_ZERO.now about texts.CLEAR.now
+name_text (unref label about) = kind_text texts.UNREF.now label about texts.RECONNECT_OR_CLEAR.now
+name_text (unref_zero label about) = kind_text texts.UNREF.now label about texts.CLEAR.now
 name_text (link_count label about nlink references) = links_text label about nlink references
 
 -- each number with what is after it; the fragmentation in tenths of a percent, its sign first
 abbrev pub summary_text : (files used : ℕ) (free frags blocks tenths : ℤ) → List ℕ
 summary_text files used free frags blocks tenths = concat (
-    (decimal files ++ codes " files, ") ∷ (decimal used ++ codes " used, ") ∷ (signed_decimal free ++ codes " free (")
-    ∷ (signed_decimal frags ++ codes " frags, ") ∷ (signed_decimal blocks ++ codes " blocks, ")
-    ∷ sign_text tenths ∷ (decimal (unsigned_abs tenths / 10) ++ codes ".")
-    ∷ (decimal (unsigned_abs tenths % 10) ++ codes "% fragmentation)\n") ∷ [])
+    (decimal files ++ texts.FILES.now) ∷ (decimal used ++ texts.USED.now) ∷ (signed_decimal free ++ texts.FREE.now)
+    ∷ (signed_decimal frags ++ texts.FRAGS.now) ∷ (signed_decimal blocks ++ texts.BLOCKS.now)
+    ∷ sign_text tenths ∷ (decimal (unsigned_abs tenths / 10) ++ texts.POINT.now)
+    ∷ (decimal (unsigned_abs tenths % 10) ++ texts.FRAGMENTATION.now) ∷ [])
 
 -- the image's name is printed as it was given
 abbrev pub opening_text : List ℕ → List ℕ
-opening_text name = concat (codes "** " ∷ name ∷ codes " (NO WRITE)\n" ∷ [])
+opening_text name = concat (texts.OPENING.now ∷ name ∷ texts.NO_WRITE.now ∷ [])
 
 abbrev pub mounted_text : List ℕ → List ℕ
-mounted_text mount = concat (codes "** Last Mounted on " ∷ map shown mount ∷ codes "\n" ∷ [])
+mounted_text mount = concat (texts.MOUNTED.now ∷ map shown mount ∷ texts.LINE_END.now ∷ [])
 
 -- a minfree that is no percentage
 abbrev pub minfree_text : ℤ → List ℕ
 minfree_text value = concat (
-    codes "IMPOSSIBLE MINFREE=" ∷ signed_decimal value ∷ codes " IN SUPERBLOCK\nSET TO DEFAULT? no\n\n" ∷ [])
+    texts.MINFREE.now ∷ signed_decimal value ∷ texts.SET_MINFREE.now ∷ [])
 
 -- the bytes of a message
 abbrev pub text_of : Message → List ℕ
-text_of (location sector) = number_text (codes "Alternate super block location: ") sector (codes "\n")
+text_of (location sector) = number_text texts.LOCATION.now sector texts.LINE_END.now
 text_of (opening name) = opening_text name
 text_of (bad_super fault) = fault_text fault
-text_of (cannot_read sector) = number_text (codes "CAN NOT READ: BLK ") sector (codes "\n")
-text_of cannot_alloc = codes "cannot alloc maps\n"
-text_of optimization = codes "UNDEFINED OPTIMIZATION IN SUPERBLOCK\nSET TO DEFAULT? no\n\n"
+text_of (cannot_read sector) = number_text texts.CANNOT_READ.now sector texts.LINE_END.now
+text_of cannot_alloc = texts.CANNOT_ALLOC.now
+text_of optimization = texts.OPTIMIZATION.now
 text_of (minfree value) = minfree_text value
 text_of (mounted mount) = mounted_text mount
-text_of phase1 = codes "** Phase 1 - Check Blocks and Sizes\n"
-text_of phase1b = codes "** Phase 1b - Rescan For More DUPS\n"
-text_of phase2 = codes "** Phase 2 - Check Pathnames\n"
-text_of phase3 = codes "** Phase 3 - Check Connectivity\n"
-text_of phase4 = codes "** Phase 4 - Check Reference Counts\n"
-text_of phase5 = codes "** Phase 5 - Check Cyl groups\n"
+text_of phase1 = texts.PHASE1.now
+text_of phase1b = texts.PHASE1B.now
+text_of phase2 = texts.PHASE2.now
+text_of phase3 = texts.PHASE3.now
+text_of phase4 = texts.PHASE4.now
+text_of phase5 = texts.PHASE5.now
 text_of (of_blocks message) = block_text message
 text_of (of_names message) = name_text message
 text_of (summary files used free frags blocks tenths) = summary_text files used free frags blocks tenths

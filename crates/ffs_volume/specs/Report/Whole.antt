@@ -1,10 +1,12 @@
 -- The whole report of an image: its text as a list of messages, how the run ends, and its status.
-use Rattle.std.specs.Prelude.{ℕ, ◌*ℤ◌, ◌+ℤ◌, int_div, Bool, true, false, not, ◌&&◌, if◌then◌else◌, List, [], ◌∷◌, ◌++◌, map, count_by, ℤ, pos, Option, Result, Ok, Err}
+use Rattle.std.specs.Prelude.{ℕ, ◌*ℤ◌, ◌+ℤ◌, int_div, Bool, true, false, not, ◌&&◌, if◌then◌else◌}
+use Rattle.std.specs.Prelude.{List, [], ◌∷◌, ◌++◌, map, count_by, ℤ, pos, Option, Result, Ok, Err}
 use Rattle.std.specs.List.{range_with_len, slice_index_or}
 use Rattle.ffs_volume.specs.declared.Layout.{Layout}
 use Rattle.ffs_volume.specs.declared.SuperFault.{SuperFault}
 use Rattle.ffs_volume.specs.declared.End.{End}
-use Rattle.ffs_volume.specs.declared.End.TheVariants.{Consistent, Defects, Refused, RootStop, ReadFault, WriteFault, NoMemory}
+use Rattle.ffs_volume.specs.declared.End.TheVariants.{Consistent, Defects, Refused, RootStop}
+use Rattle.ffs_volume.specs.declared.End.TheVariants.{ReadFault, WriteFault, NoMemory}
 use Rattle.ffs_volume.specs.Disk.Areas.{is_reserved}
 use Rattle.ffs_volume.specs.Disk.Superblock.{Superblock}
 use Rattle.ffs_volume.specs.Disk.Outcome.{outcome}
@@ -13,7 +15,8 @@ use Rattle.ffs_volume.specs.Blocks.Owners.{owners_of, inode_numbers}
 use Rattle.ffs_volume.specs.Blocks.Claims.{is_set, no_claims, after_owners}
 use Rattle.ffs_volume.specs.Blocks.BlockCheck.{phase1_lines, phase1b_lines, has_rescan}
 use Rattle.ffs_volume.specs.Groups.GroupCheck.{phase5_lines, is_free_of_kept}
-use Rattle.ffs_volume.specs.Messages.Kinds.{Message, phase1, phase1b, phase2, phase3, phase4, phase5, of_blocks, of_names, summary, has_defect}
+use Rattle.ffs_volume.specs.Messages.Kinds.{Message, phase1, phase1b, phase2, phase3, phase4}
+use Rattle.ffs_volume.specs.Messages.Kinds.{phase5, of_blocks, of_names, summary, has_defect}
 use Rattle.ffs_volume.specs.Report.Opening.{super_lines, head_lines, fault_line}
 use Rattle.ffs_volume.specs.Directories.PathnameCheck.{pathname_lines, goes_on}
 use Rattle.ffs_volume.specs.Directories.Connectivity.{connectivity_lines}

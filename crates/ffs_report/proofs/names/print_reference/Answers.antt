@@ -2,9 +2,6 @@ use Rattle.std.proofs.Common.{◌≡◌, to_z, of_z, arith, w16}
 use Rattle.std.proofs.lemmas.Int.{to_z-of_z}
 use Rattle.ffs_report.proofs.names.print_reference.Goals as goal
 
-pub returns-in-Unref : goal.returns-in-Unref
-returns-in-Unref g c = rw (c.in-Unref.is) c.print_kind-in-Unref.ensures
-
 pub returns-in-LinkCount : goal.returns-in-LinkCount
 returns-in-LinkCount g c =
     let back : to_z w16 (of_z w16 c.in-LinkCount.count) ≡ c.in-LinkCount.count = grind (arith, to_z-of_z) in

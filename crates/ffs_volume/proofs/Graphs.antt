@@ -1,0 +1,34 @@
+-- Conditions on graphs of directories, which laws speak of.
+use Rattle.std.specs.Prelude.{◌≡◌, ◌≢◌, ℕ, ◌<◌, Bool, true, false, Some}
+use Rattle.ffs_volume.specs.Blocks.Inodes.{ROOTINO}
+use Rattle.ffs_volume.specs.Directories.Graph.{Graph, reached, parent, parent_entry, dead, is_unref_dir, names_at, NamedOnce}
+
+-- a directory has the number of an inode, and there is an inode 2
+pub record IsSane (g : Graph) : Type 0 where
+  pub some : ROOTINO < g.count
+  pub dirs : (d : ℕ) → g.is_dir d ≡ true → d < g.count
+
+-- each directory is reached from inode 2
+abbrev pub AllReached : Graph → Type 0
+AllReached g = (d : ℕ) → g.is_dir d ≡ true → reached g d ≡ true
+
+-- no inode is dead
+abbrev pub NoneDead : Graph → (ℕ → Bool) → Type 0
+NoneDead g suspect = (x : ℕ) → dead g suspect x ≡ false
+
+-- no directory has a line UNREF DIR
+abbrev pub NoUnrefDir : Graph → (ℕ → Bool) → Type 0
+NoUnrefDir g suspect = (d : ℕ) → is_unref_dir g suspect d ≡ false
+
+-- the entry at index j of s is the parent entry of d, as a fact
+abbrev pub IsParentEntry : Graph → ℕ → ℕ → ℕ → Type 0
+IsParentEntry g s j d = (parent g d ≡ Some s) × (parent_entry g d ≡ Some j)
+
+-- each plain entry that names a directory is its parent entry
+abbrev pub NoExtraneous : Graph → Type 0
+NoExtraneous g = (s j d : ℕ) → names_at g s j d ≡ true → g.is_dir d ≡ true → IsParentEntry g s j d
+
+-- each directory but 2 is named by one plain entry, and 2 by none
+pub record LinksRight (g : Graph) : Type 0 where
+  pub once : (d : ℕ) → g.is_dir d ≡ true → d ≢ ROOTINO → NamedOnce g d
+  pub root : (s j : ℕ) → names_at g s j ROOTINO ≡ false
