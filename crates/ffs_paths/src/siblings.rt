@@ -32,13 +32,6 @@ fn parent_above(workspace: &Workspace, dir: u32) -> Option<u32>
     Some(parent)
 }
 
-/// A number where it was found, else 0.
-fn number_if(found: bool, number: u32) -> u32
-    ensures { result ≡ (if found then number else 0) }
-{
-    if found { number } else { 0 }
-}
-
 /// A directory with the children whose paths are made: its own path, and a reading of its entries that continues from one
 /// child to the next.
 ///
@@ -157,7 +150,7 @@ impl Siblings {
     {
         self.continue_or_begin(geometry, image, workspace, parent, dir)?;
         let found = self.search.find(image, &mut workspace.windows, dir)?;
-        self.child = number_if(found, dir);
+        self.child = if found { dir } else { 0 };
         Ok(self.path.child(self.search.found_name(found)))
     }
 

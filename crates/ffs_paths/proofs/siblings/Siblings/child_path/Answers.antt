@@ -1,4 +1,4 @@
-use Rattle.std.proofs.Common.{◌∙◌, ◌++◌, ◌∷◌, [], Some, ap, sym, subst, arith}
+use Rattle.std.proofs.Common.{◌≡◌, if◌then◌else◌, ◌∙◌, ◌++◌, ◌∷◌, [], Some, ap, sym, subst, arith}
 use Rattle.std.proofs.lemmas.Result.{err_from_is_err_and}
 use Rattle.ffs_volume.specs.Directories.Parents.{graph_of}
 use Rattle.ffs_volume.specs.Directories.Volumes.{volume_of}
@@ -9,6 +9,7 @@ use Rattle.ffs_paths.specs.Siblings.{LeadsTo}
 use Rattle.ffs_paths.proofs.Children.{IsChild, child_is, dir_some, found_child}
 use Rattle.ffs_paths.proofs.Keeping.{reads_on}
 use Rattle.ffs_paths.proofs.siblings.Siblings.child_path.Goals as goal
+use Rattle.ffs_paths.proofs.siblings.Siblings.child_path.Goals.{then-found, else-found}
 
 pub returns-clause-path : goal.returns-clause-path
 returns-clause-path g c = λ b t claims survey.
@@ -41,9 +42,13 @@ returns-clause-siblings g c =
           let child = subst (IsChild v b c.args.dir) (sym begun.parent)
           (child_is v b c.args.dir c.args.parent (sym (survey.reached c.args.dir) ∙ of.reached) (omega arith) (of.is ∙ survey.parents c.args.dir)) in
           let name = sym (kept.above child.dir c.args.dir begun.highest) ∙ found.name b (ap (λ d. d.contents) begun.reads.read ∙ t) in
+          let is : c.if-found.self ≡ (if c.in_ok-found.found then c.args.dir else 0) = elim c.if-found.branch [
+            | then-found w ↦ rw w.if-found.true w.self-is
+            | else-found w ↦ rw w.if-found.false w.self-is
+          ] in
           record {
             path = kept.path;
-            child = λ held. found_child (LeadsTo (graph_of (volume_of v b)) s) c.in_ok-found.found _ c.args.dir _ _ c.number_if-self.ensures name held child.leads;
+            child = λ held. found_child (LeadsTo (graph_of (volume_of v b)) s) c.in_ok-found.found _ c.args.dir _ _ is name held child.leads;
             above = λ dir x h. sym (found.above b (ap (λ d. d.contents) begun.reads.read ∙ t) x h) ∙ kept.above dir x (omega arith);
           };
     }
