@@ -1,7 +1,5 @@
 use Rattle.std.proofs.Common.{◌∙◌, ap, sym, arith}
 use Rattle.ffs_names.specs.Entering.{to_come, last_name}
-use Rattle.ffs_names.proofs.Advances.{holds_on}
-use Rattle.ffs_names.proofs.Entered.{data_on}
 use Rattle.ffs_survey.specs.Reading.{roled_of}
 use Rattle.ffs_paths.specs.Climbing.{name_in}
 use Rattle.ffs_paths.proofs.Ways.{name_in-here, name_in-past}
