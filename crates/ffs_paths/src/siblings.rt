@@ -1,6 +1,6 @@
 //! The paths of directories, where one after another has the same parent.
 
-ghost use Rattle.std.specs.Prelude.{◌≡◌, ◌*◌, ◌<◌, ℕ, List, Option, IfOk, OnOk, IfSome, if◌then◌else◌, vec_len};
+ghost use Rattle.std.specs.Prelude.{◌≡◌, ◌*◌, ◌<◌, ℕ, List, Option, IfOk, OnOk, IfSome, vec_len};
 ghost use Rattle.ffs_volume.specs.Directories.Paths.{dir_path};
 ghost use Rattle.ffs_workspace.specs.declared.workspace.Workspace.{Workspace as WorkspaceIn};
 ghost use Rattle.ffs_workspace.specs.Ready.{IsReady};
