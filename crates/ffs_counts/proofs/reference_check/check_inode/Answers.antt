@@ -36,4 +36,4 @@ returns-clause-text g c =
     reports_same (Unit {0}) _ (λ bytes. map of_names (inode_lines (volume_of v bytes) c.args.number)) (λ bytes. map of_names (counted_lines (volume_of v bytes) c.args.number)) _ _ c.report_inode.result
     (λ bytes k. ap (λ (ls : List NameMessage). map of_names ls) (some_lines v bytes c.args.workspace.now c.args.number c.kind_held-kind.result k.1 kind c.if-kind-eq0.false))
     (reports_knowing (Unit {0}) _ _ (λ bytes. map of_names (inode_lines (volume_of v bytes) c.args.number)) _ _ c.report_inode.result
-    (λ bytes k. (ap (λ d. d.contents) ok.ok ∙ k.0, claims_held v bytes _ _ ok.held k.1, survey_held v bytes _ _ ok.held k.2)) c.report_inode.ensures.text)
+    (λ bytes k. (ap (λ d. d.contents) ok.read ∙ k.0, claims_held v bytes _ _ ok.held k.1, survey_held v bytes _ _ ok.held k.2)) c.report_inode.ensures.text)
