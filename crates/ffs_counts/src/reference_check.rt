@@ -21,27 +21,6 @@ use ffs_phase::RunFault;
 use ffs_report::{Heading, Line, Output, Report};
 use ffs_workspace::Workspace;
 
-fn kind_held(workspace: &Workspace, number: u32) -> u8
-    requires { number < vec_len workspace.now.kinds }
-    ensures { result ≡ slice_index workspace.now.kinds.items number }
-{
-    workspace.kinds[number as usize]
-}
-
-fn is_marked(workspace: &Workspace, number: u32) -> bool
-    requires { number < vec_len workspace.now.marked }
-    ensures { result ≡ bool_at workspace.now.marked.items number }
-{
-    workspace.marked[number as usize]
-}
-
-fn references_to(workspace: &Workspace, number: u32) -> u64
-    requires { number < vec_len workspace.now.references }
-    ensures { result ≡ slice_index workspace.now.references.items number }
-{
-    workspace.references[number as usize]
-}
-
 // Whether an inode is marked or a directory of size 0, and no entry names it.
 fn is_dead(workspace: &Workspace, number: u32) -> bool
     requires { HasPlace workspace.now number }
@@ -72,7 +51,7 @@ fn is_right<I: Image>(
     ensures ready { IsReady geometry.now.layout (I.device image.new) workspace.new }
     ensures read { ReadAfter (I.device image.old) (I.device image.new) result }
 {
-    let references = references_to(workspace, number);
+    let references = workspace.references[number as usize];
     if references == 0 || is_dead(workspace, number) {
         return Ok(false);
     }
@@ -100,10 +79,11 @@ fn report_inode<I: Image, W: Output>(
     ensures held { workspace.new ≡ record workspace.old { windows = workspace.new.windows } }
     ensures ready { IsReady geometry.now.layout (I.device image.new) workspace.new }
 {
+    let place = number as usize;
     let dead = is_dead(workspace, number);
-    let marked = is_marked(workspace, number);
-    let kind = kind_held(workspace, number);
-    let references = references_to(workspace, number);
+    let marked = workspace.marked[place];
+    let kind = workspace.kinds[place];
+    let references = workspace.references[place];
     let inode = workspace.windows.table.inode(geometry, number, image)?;
     let line = line_for(dead, marked, kind, references, number, &inode);
     say_line(report, line)?;
@@ -129,7 +109,7 @@ fn check_inode<I: Image, W: Output>(
     ensures held { workspace.new ≡ record workspace.old { windows = workspace.new.windows } }
     ensures ready { IsReady geometry.now.layout (I.device image.new) workspace.new }
 {
-    let kind = kind_held(workspace, number);
+    let kind = workspace.kinds[number as usize];
     if kind == 0 {
         return Ok(());
     }
