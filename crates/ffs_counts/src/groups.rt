@@ -31,12 +31,14 @@ pub fn read_group<I: Image>(
     requires counts { AreCounts geometry.now.layout
         (free_in (bits_of used.now) geometry.now.layout.size) (class_in kinds.now) group
         counts.now }
-    requires ready { AreReady geometry.now.layout (I.device image.old) windows.old used.now kinds.now }
+    requires ready { AreReady geometry.now.layout (I.device image.old) windows.old used.now
+        kinds.now }
     ensures found { IfOk result (λ f. ForContents (I.device image.old).contents (λ bytes.
         lines_of f group ≡ group_lines geometry.now.layout bytes
         (free_in (bits_of used.now) geometry.now.layout.size) (class_in kinds.now) group)) }
     ensures indirect { windows.new.blocks ≡ windows.old.blocks }
-    ensures ready { AreReady geometry.now.layout (I.device image.new) windows.new used.now kinds.now }
+    ensures ready { AreReady geometry.now.layout (I.device image.new) windows.new used.now
+        kinds.now }
     ensures read { ReadAfter (I.device image.old) (I.device image.new) result }
 {
     let place = geometry.summary_place(group);
