@@ -1,14 +1,19 @@
--- The parts of the text after the opening, as the calls that report them are nested.
-use Rattle.std.specs.Prelude.{ℕ, Bool, if◌then◌else◌, List, [], ◌∷◌, ◌++◌, map}
+-- The parts of the text after the opening, as the calls that report them are nested, and what is known of the image's bytes there.
+use Rattle.std.specs.Prelude.{◌≡◌, ◌==◌, not, ℕ, Bool, if◌then◌else◌, List, [], ◌∷◌, ◌++◌, map}
+use Rattle.ffs_image.specs.Device.{Device}
+use Rattle.ffs_phase.specs.Known.{IsContents}
+use Rattle.ffs_volume.specs.declared.Layout.{Layout}
 use Rattle.ffs_volume.specs.Disk.Superblock.{Superblock}
 use Rattle.ffs_volume.specs.Messages.Kinds.{Message, phase1, phase2, phase3, phase4, phase5, of_blocks, of_names}
-use Rattle.ffs_volume.specs.Blocks.BlockCheck.{phase1_lines}
+use Rattle.ffs_volume.specs.Blocks.BlockCheck.{has_rescan, phase1_lines}
 use Rattle.ffs_volume.specs.Blocks.Owners.{owners_of}
 use Rattle.ffs_volume.specs.Directories.Volumes.{volume_of}
 use Rattle.ffs_volume.specs.Directories.PathnameCheck.{pathname_lines, goes_on}
 use Rattle.ffs_volume.specs.Directories.Connectivity.{connectivity_lines}
 use Rattle.ffs_volume.specs.Directories.ReferenceCheck.{reference_lines}
 use Rattle.ffs_volume.specs.Report.Whole.{rescan_lines, group_check_lines, summary_of, file_count, used_count}
+use Rattle.ffs_workspace.specs.declared.workspace.Workspace.{Workspace}
+use Rattle.ffs_workspace.specs.Holds.{IsFresh, HoldsPhase1}
 
 -- what each phase reports, with its heading
 abbrev pub first_part : List ℕ → Superblock → List Message
@@ -55,3 +60,11 @@ named_lines image s = names_part image s ++ followed_lines (goes_on (volume_of s
 -- the second look at the blocks and what follows it
 abbrev pub scanned_lines : List ℕ → Superblock → List Message
 scanned_lines image s = again_part image s ++ named_lines image s
+
+-- where the phases begin: the image gives the bytes, and the workspace holds nothing yet
+abbrev pub IsBegun : Layout → Device → Workspace → List ℕ → Type 0
+IsBegun v d w bytes = IsContents d.contents bytes × IsFresh v w
+
+-- after phase 1: the image gives the bytes, and the workspace holds what the block check found, and whether it looks again
+abbrev pub IsScanned : Layout → Device → Workspace → List ℕ → Type 0
+IsScanned v d w bytes = IsContents d.contents bytes × HoldsPhase1 v bytes w × (not (w.unreported == 0) ≡ has_rescan v (owners_of v bytes))

@@ -9,15 +9,16 @@ use Rattle.ffs_survey.specs.Cycles.{up_of}
 use Rattle.ffs_workspace.specs.declared.workspace.Workspace.{Workspace}
 use Rattle.ffs_workspace.specs.Holds.{bool_at}
 use Rattle.ffs_workspace.specs.Lengths.{inodes_of}
-use Rattle.ffs_workspace.specs.Leaves.{LeavesSurvey}
 use Rattle.ffs_connectivity.specs.Leaders.{HasLeaders}
 use Rattle.ffs_connectivity.specs.Lines.{cut_off_lines}
 use Rattle.ffs_connectivity.proofs.CutOff.{count_is}
 use Rattle.ffs_volume.proofs.Numbered.{all_from_root}
 
-pub leaders_left : (old new : Workspace) → LeavesSurvey old new → new.leaders ≡ old.leaders → HasLeaders old → HasLeaders new
-leaders_left old new s e h = record {
-  cycles = λ x. ap (λ k. bool_at k.items x) e ∙ h.cycles x ∙ ap (λ k. leads_cycle (up_of k.items) (length k.items) x) (sym s.parents);
+-- where only the windows have changed
+pub leaders_held : (old new : Workspace) → new ≡ record old { windows = new.windows } → HasLeaders old → HasLeaders new
+leaders_held old new e h = record {
+  cycles = λ x. ap (λ (w : Workspace). bool_at w.leaders.items x) e ∙ h.cycles x
+      ∙ ap (λ (w : Workspace). leads_cycle (up_of w.parents.items) (length w.parents.items) x) (sym e);
 }
 
 -- all lines are those from inode 2 on

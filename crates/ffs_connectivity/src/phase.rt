@@ -1,6 +1,6 @@
 //! Phase 3: connectivity (fsck(8)).
 
-ghost use Rattle.std.specs.Prelude.{◌≡◌, ◌*◌, ◌≤◌, ◌∷◌, ℕ, List, map};
+ghost use Rattle.std.specs.Prelude.{◌≡◌, ◌∷◌, ℕ, List, map};
 ghost use Rattle.ffs_report.specs.Progress.{progress};
 ghost use Rattle.ffs_phase.specs.Known.{IsContents};
 ghost use Rattle.ffs_phase.specs.Runs.{ImageAfter, PhaseReports};
@@ -9,14 +9,15 @@ ghost use Rattle.ffs_volume.specs.Messages.Kinds as messages;
 ghost use Rattle.ffs_volume.specs.Messages.Kinds.{of_names};
 ghost use Rattle.ffs_volume.specs.Directories.Volumes.{volume_of};
 ghost use Rattle.ffs_workspace.specs.Holds.{HoldsClaims, HoldsSurvey};
-ghost use Rattle.ffs_workspace.specs.Lengths.{IsFor, HoldWindows};
 ghost use Rattle.ffs_workspace.specs.Leaves.{LeavesSurvey};
+ghost use Rattle.ffs_workspace.specs.Ready.{IsReady};
 
-use crate::unref::{check_inode, mark};
+use crate::unref::check_inode;
 use ffs_image::Image;
 use ffs_layout::Geometry;
 use ffs_phase::RunFault;
 use ffs_report::{Heading, Line, Output, Report};
+use ffs_survey::mark_leaders;
 use ffs_workspace::Workspace;
 
 /// Reports of each directory that is cut off from the root: it isn't reached from inode 2, it isn't dead itself, and it has
@@ -32,10 +33,7 @@ pub fn phase3<I: Image, W: Output>(
     workspace: &mut Workspace,
     report: &mut Report<'_, W>,
 ) -> Result<(), RunFault>
-    requires made { IsFor geometry.now.layout workspace.old }
-    requires volume { geometry.now.layout.size * geometry.now.layout.fsize
-        ≤ (I.device image.old).size }
-    requires windows { HoldWindows geometry.now.layout (I.device image.old).contents workspace.old }
+    requires ready { IsReady geometry.now.layout (I.device image.old) workspace.old }
     ensures image { ImageAfter (I.device image.old) (I.device image.new) result }
     ensures text { PhaseReports (λ bytes. IsContents (I.device image.old).contents bytes
         × HoldsClaims geometry.now.layout bytes workspace.old
@@ -44,10 +42,13 @@ pub fn phase3<I: Image, W: Output>(
         (connectivity_lines (volume_of geometry.now.layout bytes)))
         (progress W.sink report.old) (progress W.sink report.new) result }
     ensures survey { LeavesSurvey workspace.old workspace.new }
-    ensures made { IsFor geometry.now.layout workspace.new }
-    ensures windows { HoldWindows geometry.now.layout (I.device image.new).contents workspace.new }
+    ensures ready { IsReady geometry.now.layout (I.device image.new) workspace.new }
 {
-    mark(workspace, geometry);
+    mark_leaders(
+        &workspace.parents,
+        &mut workspace.queue,
+        &mut workspace.leaders,
+    );
     report.say(&Line::Heading(Heading::Phase3))?;
     for number in 2..geometry.layout.ncg * geometry.layout.ipg {
         check_inode(workspace, geometry, number, image, report)?;

@@ -9,15 +9,17 @@ use Rattle.ffs_volume.specs.Messages.Kinds.{Message, of_blocks}
 use Rattle.ffs_volume.specs.Directories.Volumes.{class_at}
 use Rattle.ffs_volume.specs.Blocks.Owners.{owners_of}
 use Rattle.ffs_volume.specs.Blocks.Claims.{no_claims, after_owners}
-use Rattle.ffs_volume.specs.Groups.Records.{right_summary, right_total, is_total, has_totals}
+use Rattle.ffs_volume.specs.Groups.Records.{Summary, right_summary, right_total, is_total, has_totals}
 use Rattle.ffs_volume.specs.Groups.GroupCheck.{ReportedOnce, group_lines, reported_once, unreported, unless, phase5_lines, is_free_of_kept}
+use Rattle.ffs_groups.specs.declared.counts.SummaryCounts.{SummaryCounts}
+use Rattle.ffs_groups.specs.Check.{counted}
 use Rattle.ffs_groups.specs.Free.{free_in}
 use Rattle.ffs_groups.specs.Inodes.{class_in}
 use Rattle.ffs_groups.proofs.Sums.{sum_more}
 use Rattle.ffs_volume.specs.Encodings.Kinds.{kind_at}
 use Rattle.ffs_counts.specs.declared.totals.Totals.{Totals}
 use Rattle.ffs_counts.specs.Once.{reported_after}
-use Rattle.ffs_counts.specs.Totals.{AreTotals, AreAdded, total_of}
+use Rattle.ffs_counts.specs.Totals.{AreTotals, total_of, with_counts}
 use Rattle.ffs_counts.proofs.Sifting.{sifted_append}
 use Rattle.ffs_counts.proofs.Classes.{by_kinds}
 
@@ -31,14 +33,17 @@ pub groups_begin : (v : Layout) (image : List ℕ) (totals : List ℤ) (free : �
 unfolding phase5_lines
 groups_begin v image totals free class t n e f = rw (e, f) refl
 
-pub groups_go_on : (v : Layout) (image : List ℕ) (totals : List ℤ) (free : ℕ → Bool) (class : ℕ → Class) (t t' : ReportedOnce) (c n m : ℕ) → n ≡ m + 1 → t' ≡ reported_after t (group_lines v image free class c) →
-    rest_lines v image totals free class t c n ≡ map of_blocks (reported_once t (group_lines v image free class c)) ++ rest_lines v image totals free class t' (c + 1) m
-groups_go_on v image totals free class t t' c n m e f =
+pub groups_go_on : (v : Layout) (image : List ℕ) (totals : List ℤ) (free : ℕ → Bool) (class : ℕ → Class) (t t' : ReportedOnce) (lines : List BlockMessage) (c n m : ℕ) →
+    n ≡ m + 1 → lines ≡ group_lines v image free class c → t' ≡ reported_after t lines →
+    rest_lines v image totals free class t c n ≡ map of_blocks (reported_once t lines) ++ rest_lines v image totals free class t' (c + 1) m
+groups_go_on v image totals free class t t' lines c n m e is f =
     let s : n ≡ suc m = omega (arith, e) in
+    let rest = flat_map (group_lines v image free class) (range_with_len (c + 1) m) in
+    let end = unless (is_total v free class totals) FreeCounts in
     ap (λ j. rest_lines v image totals free class t c j) s
     ∙ ap (λ (ms : List BlockMessage). map of_blocks (reported_once t ms))
-    (append_assoc (group_lines v image free class c) (flat_map (group_lines v image free class) (range_with_len (c + 1) m)) (unless (is_total v free class totals) FreeCounts))
-    ∙ sifted_append t t' (group_lines v image free class c) (flat_map (group_lines v image free class) (range_with_len (c + 1) m) ++ unless (is_total v free class totals) FreeCounts) f
+    (append_assoc (group_lines v image free class c) rest end ∙ ap (λ (ms : List BlockMessage). ms ++ (rest ++ end)) (sym is))
+    ∙ sifted_append t t' lines (rest ++ end) f
 
 pub groups_end : (v : Layout) (image : List ℕ) (totals : List ℤ) (free : ℕ → Bool) (class : ℕ → Class) (t : ReportedOnce) (c n : ℕ) (right : Bool) → n ≡ 0 → right ≡ is_total v free class totals →
     rest_lines v image totals free class t c n ≡ map of_blocks (reported_once t (unless right FreeCounts)) ++ []
@@ -50,12 +55,13 @@ next_sum f n old new e g =
     let at : f (0 + n) ≡ f n = let z : 0 + n ≡ n = omega arith in ap f z in
     omega (arith, e, g, at, sum_more f 0 n)
 
-pub totals_next : (v : Layout) (free : ℕ → Bool) (class : ℕ → Class) (n : ℕ) (old new : Totals) → AreTotals v free class n old → AreAdded v free class n old new → AreTotals v free class (n + 1) new
-totals_next v free class n old new a b = record {
-  dirs = next_sum (λ c. (right_summary v free class c).dirs) n old.dirs new.dirs a.dirs b.dirs;
-  blocks = next_sum (λ c. (right_summary v free class c).blocks) n old.blocks new.blocks a.blocks b.blocks;
-  inodes = next_sum (λ c. (right_summary v free class c).inodes) n old.inodes new.inodes a.inodes b.inodes;
-  fragments = next_sum (λ c. (right_summary v free class c).fragments) n old.fragments new.fragments a.fragments b.fragments;
+pub totals_next : (v : Layout) (free : ℕ → Bool) (class : ℕ → Class) (n : ℕ) (old new : Totals) (s : SummaryCounts) → AreTotals v free class n old →
+    new ≡ with_counts old s → counted s ≡ right_summary v free class n → AreTotals v free class (n + 1) new
+totals_next v free class n old new s a e right = record {
+  dirs = next_sum (λ c. (right_summary v free class c).dirs) n old.dirs new.dirs a.dirs (ap (λ t. t.dirs) e ∙ ap (λ (r : Summary). old.dirs + r.dirs) right);
+  blocks = next_sum (λ c. (right_summary v free class c).blocks) n old.blocks new.blocks a.blocks (ap (λ t. t.blocks) e ∙ ap (λ (r : Summary). old.blocks + r.blocks) right);
+  inodes = next_sum (λ c. (right_summary v free class c).inodes) n old.inodes new.inodes a.inodes (ap (λ t. t.inodes) e ∙ ap (λ (r : Summary). old.inodes + r.inodes) right);
+  fragments = next_sum (λ c. (right_summary v free class c).fragments) n old.fragments new.fragments a.fragments (ap (λ t. t.fragments) e ∙ ap (λ (r : Summary). old.fragments + r.fragments) right);
 }
 
 pub totals_right : (v : Layout) (free : ℕ → Bool) (class : ℕ → Class) (totals : List ℤ) (n : ℕ) (t : Totals) → AreTotals v free class n t → n ≡ v.ncg →

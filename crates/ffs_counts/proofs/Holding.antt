@@ -1,8 +1,11 @@
 -- What a workspace holds where only its windows have changed, and what is reported of an inode by it.
-use Rattle.std.proofs.Common.{◌≡◌, ℕ, ◌<◌, Bool, true, false, List, [], map, refl, ap, ◌∙◌, sym, slice_index, arith}
+use Rattle.std.proofs.Common.{◌≡◌, ℕ, ℤ, ◌-◌, ◌<◌, Bool, true, false, List, [], map, refl, ap, ◌∙◌, sym, slice_index, vec_len, arith}
 use Rattle.std.specs.Prelude.{◌&&◌, ◌||◌, ◌==◌, not, if◌then◌else◌}
+use Rattle.std.specs.List.{slice_index_or}
+use Rattle.std.specs.declared.alloc.Global.{Global}
+use Rattle.std.specs.declared.vec.Vec.{Vec}
+use Rattle.std.proofs.lemmas.List.{get_or_read}
 use Rattle.ffs_volume.specs.declared.Layout.{Layout}
-use Rattle.std.proofs.Common.{ℤ, ◌-◌}
 use Rattle.ffs_volume.specs.declared.Attr.{Attr}
 use Rattle.ffs_volume.specs.declared.Inode.{Inode}
 use Rattle.ffs_volume.specs.declared.Label.{Label}
@@ -25,6 +28,10 @@ use Rattle.ffs_counts.proofs.Classes.{same_test}
 
 pub held_on : (old mid new : Workspace) → mid ≡ record old { windows = mid.windows } → new ≡ record mid { windows = new.windows } → new ≡ record old { windows = new.windows }
 held_on old mid new e f = f ∙ ap (λ (w : Workspace). record w { windows = new.windows }) e
+
+-- what a list with a place for each inode has of one
+pub item_at : {X : Type 0} (list : Vec X Global) (i n : ℕ) (x d : X) → x ≡ slice_index_or list.items i x → i < n → vec_len list ≡ n → x ≡ slice_index_or list.items i d
+item_at list i n x d e low len = get_or_read list.items i x (omega (arith, list.ok.0)) e d
 
 pub inode_lines_are : (v : Layout) (b : List ℕ) (w : Workspace) (i : ℕ) (inode : Inode) (dead : Bool) → i < inodes_of v → HoldsClaims v b w → HoldsSurvey v b w → inode ≡ inode_of v b i →
     dead ≡ ((bool_at w.marked.items i || is_empty_dir_kind (slice_index w.kinds.items i)) && (not (i == 2) && not (bool_at w.named.items i))) →

@@ -1,7 +1,6 @@
 pub mod Places
 pub mod UsedCount
 pub mod Sifting
-pub mod Findings
 pub mod Classes
 pub mod GroupText
 pub mod Holding

@@ -1,7 +1,7 @@
 //! Phase 4: how often inodes are referred to.
 
-ghost use Rattle.std.specs.Prelude.{◌≡◌, ◌≤◌, ◌<◌, ◌*◌, [], ◌∷◌, ◌==◌, ◌||◌, ◌&&◌, not, List, ℕ, map, slice_index, IfOk, IfErr, OnOk, IsTrue};
-ghost use Rattle.ffs_image.specs.Device.{Faulted};
+ghost use Rattle.std.specs.Prelude.{◌≡◌, ◌<◌, [], ◌∷◌, ◌==◌, ◌||◌, ◌&&◌, not, List, ℕ, map, slice_index, vec_len, IfOk, IsTrue};
+ghost use Rattle.ffs_image.specs.Reads.{ReadAfter};
 ghost use Rattle.ffs_volume.specs.Messages.Kinds.{of_names, phase4 as phase4_heading};
 ghost use Rattle.ffs_volume.specs.Directories.ReferenceCheck.{counted_lines, inode_lines, reference_lines};
 ghost use Rattle.ffs_volume.specs.Directories.Volumes.{volume_of};
@@ -10,7 +10,9 @@ ghost use Rattle.ffs_phase.specs.Known.{IsContents};
 ghost use Rattle.ffs_phase.specs.Runs.{ImageAfter, PhaseReports};
 ghost use Rattle.ffs_workspace.specs.Holds.{HoldsClaims, HoldsSurvey, bool_at};
 ghost use Rattle.ffs_volume.specs.Encodings.Kinds.{is_empty_dir_kind};
-ghost use Rattle.ffs_workspace.specs.Lengths.{IsFor, HoldWindows, inodes_of};
+ghost use Rattle.ffs_workspace.specs.Lengths.{inodes_of};
+ghost use Rattle.ffs_workspace.specs.Ready.{IsReady};
+ghost use Rattle.ffs_counts.specs.Ready.{HasPlace};
 
 use crate::reference::{line_for, say_line};
 use ffs_image::{Image, ImageFault};
@@ -19,34 +21,9 @@ use ffs_phase::RunFault;
 use ffs_report::{Heading, Line, Output, Report};
 use ffs_workspace::Workspace;
 
-fn kind_held(workspace: &Workspace, geometry: &Geometry, number: u32) -> u8
-    requires made { IsFor geometry.now.layout workspace.now }
-    requires number { number < inodes_of geometry.now.layout }
-    ensures { result ≡ slice_index workspace.now.kinds.items number }
-{
-    workspace.kinds[number as usize]
-}
-
-fn is_marked(workspace: &Workspace, geometry: &Geometry, number: u32) -> bool
-    requires made { IsFor geometry.now.layout workspace.now }
-    requires number { number < inodes_of geometry.now.layout }
-    ensures { result ≡ bool_at workspace.now.marked.items number }
-{
-    workspace.marked[number as usize]
-}
-
-fn references_to(workspace: &Workspace, geometry: &Geometry, number: u32) -> u64
-    requires made { IsFor geometry.now.layout workspace.now }
-    requires number { number < inodes_of geometry.now.layout }
-    ensures { result ≡ slice_index workspace.now.references.items number }
-{
-    workspace.references[number as usize]
-}
-
 // Whether an inode is marked or a directory of size 0, and no entry names it.
-fn is_dead(workspace: &Workspace, geometry: &Geometry, number: u32) -> bool
-    requires made { IsFor geometry.now.layout workspace.now }
-    requires number { number < inodes_of geometry.now.layout }
+fn is_dead(workspace: &Workspace, number: u32) -> bool
+    requires { HasPlace workspace.now number }
     ensures { result ≡ ((bool_at workspace.now.marked.items number
         || is_empty_dir_kind (slice_index workspace.now.kinds.items number))
         && (not (number == 2) && not (bool_at workspace.now.named.items number))) }
@@ -63,25 +40,19 @@ fn is_right<I: Image>(
     number: u32,
     image: &mut I,
 ) -> Result<bool, ImageFault>
-    requires made { IsFor geometry.now.layout workspace.old }
+    requires ready { IsReady geometry.now.layout (I.device image.old) workspace.old }
     requires number { number < inodes_of geometry.now.layout }
-    requires volume { geometry.now.layout.size * geometry.now.layout.fsize
-        ≤ (I.device image.old).size }
-    requires windows { HoldWindows geometry.now.layout (I.device image.old).contents workspace.old }
     ensures quiet { IfOk result (λ right. IsTrue right → (bytes : List ℕ)
         → IsContents (I.device image.old).contents bytes
         → HoldsClaims geometry.now.layout bytes workspace.old
         → HoldsSurvey geometry.now.layout bytes workspace.old
         → inode_lines (volume_of geometry.now.layout bytes) number ≡ []) }
     ensures held { workspace.new ≡ record workspace.old { windows = workspace.new.windows } }
-    ensures made { IsFor geometry.now.layout workspace.new }
-    ensures windows { HoldWindows geometry.now.layout (I.device image.new).contents workspace.new }
-    ensures ok { OnOk result (I.device image.new ≡ I.device image.old) }
-    ensures err { IfErr result (λ fault. Faulted (I.device image.old) (I.device image.new)
-        fault.sector) }
+    ensures ready { IsReady geometry.now.layout (I.device image.new) workspace.new }
+    ensures read { ReadAfter (I.device image.old) (I.device image.new) result }
 {
-    let references = references_to(workspace, geometry, number);
-    if references == 0 || is_dead(workspace, geometry, number) {
+    let references = workspace.references[number as usize];
+    if references == 0 || is_dead(workspace, number) {
         return Ok(false);
     }
     let table = &mut workspace.windows.table;
@@ -97,11 +68,8 @@ fn report_inode<I: Image, W: Output>(
     image: &mut I,
     report: &mut Report<'_, W>,
 ) -> Result<(), RunFault>
-    requires made { IsFor geometry.now.layout workspace.old }
+    requires ready { IsReady geometry.now.layout (I.device image.old) workspace.old }
     requires number { number < inodes_of geometry.now.layout }
-    requires volume { geometry.now.layout.size * geometry.now.layout.fsize
-        ≤ (I.device image.old).size }
-    requires windows { HoldWindows geometry.now.layout (I.device image.old).contents workspace.old }
     ensures image { ImageAfter (I.device image.old) (I.device image.new) result }
     ensures text { PhaseReports (λ bytes. IsContents (I.device image.old).contents bytes
         × HoldsClaims geometry.now.layout bytes workspace.old
@@ -109,13 +77,13 @@ fn report_inode<I: Image, W: Output>(
         (λ bytes. map of_names (inode_lines (volume_of geometry.now.layout bytes) number))
         (progress W.sink report.old) (progress W.sink report.new) result }
     ensures held { workspace.new ≡ record workspace.old { windows = workspace.new.windows } }
-    ensures made { IsFor geometry.now.layout workspace.new }
-    ensures windows { HoldWindows geometry.now.layout (I.device image.new).contents workspace.new }
+    ensures ready { IsReady geometry.now.layout (I.device image.new) workspace.new }
 {
-    let dead = is_dead(workspace, geometry, number);
-    let marked = is_marked(workspace, geometry, number);
-    let kind = kind_held(workspace, geometry, number);
-    let references = references_to(workspace, geometry, number);
+    let place = number as usize;
+    let dead = is_dead(workspace, number);
+    let marked = workspace.marked[place];
+    let kind = workspace.kinds[place];
+    let references = workspace.references[place];
     let inode = workspace.windows.table.inode(geometry, number, image)?;
     let line = line_for(dead, marked, kind, references, number, &inode);
     say_line(report, line)?;
@@ -130,11 +98,8 @@ fn check_inode<I: Image, W: Output>(
     image: &mut I,
     report: &mut Report<'_, W>,
 ) -> Result<(), RunFault>
-    requires made { IsFor geometry.now.layout workspace.old }
+    requires ready { IsReady geometry.now.layout (I.device image.old) workspace.old }
     requires number { number < inodes_of geometry.now.layout }
-    requires volume { geometry.now.layout.size * geometry.now.layout.fsize
-        ≤ (I.device image.old).size }
-    requires windows { HoldWindows geometry.now.layout (I.device image.old).contents workspace.old }
     ensures image { ImageAfter (I.device image.old) (I.device image.new) result }
     ensures text { PhaseReports (λ bytes. IsContents (I.device image.old).contents bytes
         × HoldsClaims geometry.now.layout bytes workspace.old
@@ -142,10 +107,9 @@ fn check_inode<I: Image, W: Output>(
         (λ bytes. map of_names (counted_lines (volume_of geometry.now.layout bytes) number))
         (progress W.sink report.old) (progress W.sink report.new) result }
     ensures held { workspace.new ≡ record workspace.old { windows = workspace.new.windows } }
-    ensures made { IsFor geometry.now.layout workspace.new }
-    ensures windows { HoldWindows geometry.now.layout (I.device image.new).contents workspace.new }
+    ensures ready { IsReady geometry.now.layout (I.device image.new) workspace.new }
 {
-    let kind = kind_held(workspace, geometry, number);
+    let kind = workspace.kinds[number as usize];
     if kind == 0 {
         return Ok(());
     }
@@ -166,10 +130,7 @@ pub fn phase4<I: Image, W: Output>(
     workspace: &mut Workspace,
     report: &mut Report<'_, W>,
 ) -> Result<(), RunFault>
-    requires made { IsFor geometry.now.layout workspace.old }
-    requires volume { geometry.now.layout.size * geometry.now.layout.fsize
-        ≤ (I.device image.old).size }
-    requires windows { HoldWindows geometry.now.layout (I.device image.old).contents workspace.old }
+    requires ready { IsReady geometry.now.layout (I.device image.old) workspace.old }
     ensures image { ImageAfter (I.device image.old) (I.device image.new) result }
     ensures text { PhaseReports (λ bytes. IsContents (I.device image.old).contents bytes
         × HoldsClaims geometry.now.layout bytes workspace.old
@@ -178,8 +139,7 @@ pub fn phase4<I: Image, W: Output>(
         (reference_lines (volume_of geometry.now.layout bytes)))
         (progress W.sink report.old) (progress W.sink report.new) result }
     ensures held { workspace.new ≡ record workspace.old { windows = workspace.new.windows } }
-    ensures made { IsFor geometry.now.layout workspace.new }
-    ensures windows { HoldWindows geometry.now.layout (I.device image.new).contents workspace.new }
+    ensures ready { IsReady geometry.now.layout (I.device image.new) workspace.new }
 {
     report.say(&Line::Heading(Heading::Phase4))?;
     for number in 0..geometry.layout.ncg * geometry.layout.ipg {

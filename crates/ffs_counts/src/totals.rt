@@ -1,9 +1,9 @@
 //! The totals of a superblock.
 
-ghost use Rattle.std.specs.Prelude.{◌≡◌, ◌+◌, ◌<◌, ◌^◌};
+ghost use Rattle.std.specs.Prelude.{◌≡◌, ◌+◌, ◌-◌, ◌^◌, ℕ};
 ghost use Rattle.ffs_volume.specs.Disk.Numbers.{is_the_count};
 ghost use Rattle.ffs_volume.specs.Groups.Records.{has_totals};
-ghost use Rattle.ffs_counts.specs.Totals.{AreUpTo, total_of};
+ghost use Rattle.ffs_counts.specs.Totals.{AreUpTo, total_of, with_counts};
 
 use ffs_groups::SummaryCounts;
 
@@ -41,13 +41,10 @@ impl Totals {
     }
 
     /// Adds the counts of a group.
-    pub fn add(&mut self, group: u32, summary: &SummaryCounts)
-        requires { AreUpTo group self.old }
-        ensures dirs { self.new.dirs ≡ self.old.dirs + summary.now.dirs }
-        ensures blocks { self.new.blocks ≡ self.old.blocks + summary.now.blocks }
-        ensures inodes { self.new.inodes ≡ self.old.inodes + summary.now.inodes }
-        ensures fragments { self.new.fragments ≡ self.old.fragments + summary.now.fragments }
-        ensures up { AreUpTo (group + 1) self.new }
+    pub fn add(&mut self, summary: &SummaryCounts)
+        requires room { AreUpTo (2 ^ 32 - 1) self.old }
+        ensures sums { self.new ≡ with_counts self.old summary.now }
+        ensures up { (n : ℕ) → AreUpTo n self.old → AreUpTo (n + 1) self.new }
     {
         self.dirs += u64::from(summary.dirs);
         self.blocks += u64::from(summary.blocks);

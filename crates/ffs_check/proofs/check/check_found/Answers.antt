@@ -7,8 +7,8 @@ use Rattle.ffs_check.proofs.Endings.{ran_knows}
 use Rattle.ffs_check.proofs.Taken.{not_for_memory}
 use Rattle.ffs_check.proofs.check.check_found.Goals as goal
 
-pub run_rest-requires-clause-windows : goal.run_rest-requires-clause-windows
-run_rest-requires-clause-windows g c = c.in-Ok.ensures.windows _
+pub run_rest-requires : goal.run_rest-requires
+run_rest-requires g c = record { ready = record { made = c.in-Ok.ensures.made; volume = c.requires.volume; windows = c.in-Ok.ensures.windows _ } }
 
 pub returns-in-Ok-clause-followed : goal.returns-in-Ok-clause-followed
 returns-in-Ok-clause-followed g c =

@@ -1,13 +1,17 @@
-use Rattle.std.proofs.Common.{◌+◌, ◌-◌, ◌∷◌, [], List, map, refl, ap, ◌∙◌, arith, rules, Err}
+use Rattle.std.proofs.Common.{ℕ, Bool, length, ◌+◌, ◌-◌, ◌∷◌, [], List, map, refl, ap, ◌∙◌, arith, rules, Err}
+use Rattle.std.proofs.lemmas.List.{with_items_is}
 use Rattle.std.proofs.lemmas.Result.{err_from_is_err_and}
+use Rattle.ffs_volume.specs.Directories.Climb.{leads_cycle}
 use Rattle.ffs_volume.specs.Directories.Connectivity.{connectivity_lines}
 use Rattle.ffs_volume.specs.Messages.Kinds.{Message, of_names, phase3, lines_from}
 use Rattle.ffs_volume.specs.Directories.Volumes.{volume_of}
+use Rattle.ffs_survey.specs.Cycles.{up_of}
 use Rattle.ffs_phase.proofs.Reporting.{of_begins, of_says, of_stops, of_same, of_part, of_fault, said_knows, reports_knowing}
+use Rattle.ffs_workspace.specs.Holds.{bool_at}
 use Rattle.ffs_workspace.specs.Lengths.{inodes_of}
 use Rattle.ffs_connectivity.specs.Lines.{cut_off_lines}
-use Rattle.ffs_workspace.proofs.Leaving.{claims_left, survey_left, leaves_more}
-use Rattle.ffs_connectivity.proofs.Leaving.{leaders_left, lines_begin}
+use Rattle.ffs_workspace.proofs.Leaving.{claims_left, survey_left, leaves_more, windows_leave}
+use Rattle.ffs_connectivity.proofs.Leaving.{leaders_held, lines_begin}
 use Rattle.ffs_volume.proofs.Numbered.{from_next, from_end}
 use Rattle.ffs_connectivity.proofs.phase.phase3.Goals as goal
 
@@ -21,14 +25,15 @@ returns-in_err-say-clause-text g c =
 pub loop-number-init : goal.loop-number-init
 loop-number-init g c =
     let v = c.args.geometry.now.layout in
-    let same = c.mark.ensures.windows in
     record {
-      made = c.mark.ensures.made;
+      ready = search (rules, arith);
       device = refl;
-      windows = record { table = rw same c.requires.windows.table; blocks = rw same c.requires.windows.blocks; chunk = rw same c.requires.windows.chunk };
       low = omega arith;
-      survey = c.mark.ensures.survey;
-      leaders = c.mark.ensures.leaders;
+      survey = search rules;
+      leaders = record {
+        cycles = λ x. ap (λ (ls : List Bool). bool_at ls x) (with_items_is c.args.workspace.now.leaders c.mark_leaders.new.leaders (search rules)) ∙ c.mark_leaders.ensures x
+            ∙ ap (λ (ps : List ℕ). leads_cycle (up_of ps) (length ps) x) c.deref.ensures.value;
+      };
       said = of_says _ (λ bytes. phase3 ∷ map of_names (connectivity_lines (volume_of v bytes)))
           (λ bytes. map of_names (lines_from (cut_off_lines (volume_of v bytes)) 2 (inodes_of v - 2))) _ (phase3 ∷ []) _ _ _
           (of_begins _ (λ bytes. phase3 ∷ map of_names (connectivity_lines (volume_of v bytes))) _)
@@ -56,12 +61,11 @@ loop-number-preserved g c =
     let n = c.loop-number.number in
     let ok = c.in_ok-check_inode.ensures in
     record {
-      made = ok.made;
-      device = search rules;
-      windows = search rules;
+      ready = ok.ready;
+      device = ok.image ∙ inv.device;
       low = omega arith;
-      survey = leaves_more _ _ _ inv.survey ok.survey;
-      leaders = leaders_left _ _ ok.survey ok.leaders inv.leaders;
+      survey = leaves_more _ _ _ inv.survey (windows_leave _ _ ok.held);
+      leaders = leaders_held _ _ ok.held inv.leaders;
       said = of_part _ (λ bytes. map of_names (lines_from (cut_off_lines (volume_of v bytes)) n (inodes_of v - n)))
           (λ bytes. map of_names (cut_off_lines (volume_of v bytes) n))
           (λ bytes. map of_names (lines_from (cut_off_lines (volume_of v bytes)) (n + 1) (inodes_of v - (n + 1)))) _ _ _ _ inv.said

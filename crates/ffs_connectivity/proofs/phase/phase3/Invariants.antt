@@ -6,17 +6,17 @@ use Rattle.ffs_volume.specs.Directories.Connectivity.{connectivity_lines}
 use Rattle.ffs_volume.specs.Messages.Kinds.{of_names, phase3, lines_from}
 use Rattle.ffs_volume.specs.Directories.Volumes.{volume_of}
 use Rattle.ffs_workspace.specs.Holds.{HoldsClaims, HoldsSurvey}
-use Rattle.ffs_workspace.specs.Lengths.{IsFor, HoldWindows, inodes_of}
+use Rattle.ffs_workspace.specs.Lengths.{inodes_of}
 use Rattle.ffs_workspace.specs.Leaves.{LeavesSurvey}
+use Rattle.ffs_workspace.specs.Ready.{IsReady}
 use Rattle.ffs_connectivity.specs.Leaders.{HasLeaders}
 use Rattle.ffs_connectivity.specs.Lines.{cut_off_lines}
 use Rattle.ffs_connectivity.proofs.phase.phase3.Given as goal
 
 abbrev pub invariant-loop-number : goal.invariant-loop-number
 invariant-loop-number g l = record {
-  made : IsFor l.geometry.layout l.workspace;
+  ready : IsReady l.geometry.layout (g.I.Image.device l.image) l.workspace;
   device : g.I.Image.device l.image ≡ g.I.Image.device l.fn.image;
-  windows : HoldWindows l.geometry.layout (g.I.Image.device l.fn.image).contents l.workspace;
   low : 2 ≤ l.number;
   survey : LeavesSurvey l.fn.workspace l.workspace;
   leaders : HasLeaders l.workspace;

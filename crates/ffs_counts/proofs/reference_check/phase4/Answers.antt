@@ -1,4 +1,4 @@
-use Rattle.std.proofs.Common.{arith, rules, refl, ap, ◌∙◌, ◌∷◌, [], List, ◌+◌, ◌-◌, map, Err}
+use Rattle.std.proofs.Common.{arith, refl, ap, ◌∙◌, ◌∷◌, [], List, ◌+◌, ◌-◌, map, Err}
 use Rattle.std.proofs.lemmas.Result.{err_from_is_err_and}
 use Rattle.ffs_volume.specs.Messages.Kinds.{Message, of_names, phase4, lines_from}
 use Rattle.ffs_volume.specs.Directories.ReferenceCheck.{counted_lines, reference_lines}
@@ -21,9 +21,8 @@ pub loop-number-init : goal.loop-number-init
 loop-number-init g c =
     let v = c.args.geometry.now.layout in
     record {
-      made = c.requires.made;
+      ready = c.requires.ready;
       device = refl;
-      windows = c.requires.windows;
       held = refl;
       said = of_says _ (λ bytes. phase4 ∷ map of_names (reference_lines (volume_of v bytes))) (λ bytes. map of_names (lines_from (counted_lines (volume_of v bytes)) 0 (inodes_of v - 0))) _ (phase4 ∷ []) _ _ _
           (of_begins _ (λ bytes. phase4 ∷ map of_names (reference_lines (volume_of v bytes))) _)
@@ -48,9 +47,8 @@ loop-number-preserved g c =
     let n = c.loop-number.number in
     let ok = c.in_ok-check_inode.ensures in
     record {
-      made = ok.made;
-      device = search rules;
-      windows = search rules;
+      ready = ok.ready;
+      device = ok.image ∙ inv.device;
       held = held_on c.args.workspace.now c.loop-number.workspace c.check_inode.new.workspace inv.held ok.held;
       said = of_part _ (λ bytes. map of_names (lines_from (counted_lines (volume_of v bytes)) n (inodes_of v - n))) (λ bytes. map of_names (counted_lines (volume_of v bytes) n)) (λ bytes. map of_names (lines_from (counted_lines (volume_of v bytes)) (n + 1) (inodes_of v - (n + 1)))) _ _ _ _ inv.said
           (λ bytes k. from_next (counted_lines (volume_of v bytes)) n (inodes_of v) (omega (arith, c.loop-number-test.true)))

@@ -1,1 +1,0 @@
--- What is found in a group's records is what is reported of it.
