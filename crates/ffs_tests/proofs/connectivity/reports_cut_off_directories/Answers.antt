@@ -1,4 +1,5 @@
+use Rattle.std.proofs.Common.{arith, rules}
 use Rattle.ffs_tests.proofs.connectivity.reports_cut_off_directories.Goals as goal
 
-pub phase3-requires-clause-windows : goal.phase3-requires-clause-windows
-phase3-requires-clause-windows g c = c.in_ok-workspace.ensures.windows _
+pub phase3-requires : goal.phase3-requires
+phase3-requires g c = record { ready = record { made = c.in_ok-workspace.ensures.made; volume = search (rules, arith); windows = c.in_ok-workspace.ensures.windows _ } }
