@@ -1,20 +1,22 @@
 -- How offers, steps and inodes continue.
-use Rattle.std.proofs.Common.{◌≡◌, ℕ, zero, suc, ◌+◌, ◌-◌, ◌<◌, Bool, true, false, ◌==◌, List, [], ◌∷◌, ◌++◌, arith, rules, refl, ap, ◌∙◌, sym, Result, slice_set, replicate}
+use Rattle.std.proofs.Common.{◌≡◌, ℕ, zero, suc, ◌+◌, ◌-◌, ◌<◌, ◌≤◌, nat_lt, Bool, true, false, ◌==◌, List, [], ◌∷◌, ◌++◌, arith, rules, refl, ap, ◌∙◌, sym, Result, slice_set, replicate}
 use Rattle.std.specs.List.{range_with_len, slice_index_or}
+use Rattle.std.proofs.lemmas.Bool.{and_parts}
 use Rattle.ffs_volume.specs.declared.Layout.{Layout}
 use Rattle.ffs_volume.specs.declared.Step.{Step}
 use Rattle.ffs_volume.specs.declared.Step.TheVariants.{Run, Tail, Gap}
 use Rattle.ffs_volume.specs.declared.BlockMessage.{BlockMessage}
 use Rattle.ffs_volume.specs.declared.Inode.{Inode}
 use Rattle.ffs_volume.specs.Blocks.Steps.{steps_of, walks}
-use Rattle.ffs_volume.specs.Disk.Areas.{is_in_range}
-use Rattle.ffs_volume.specs.Blocks.Claims.{Claims, is_open, after_offer, after_offers, after_step, after_steps, offer_lines, offers_lines, step_lines, steps_lines, run_lines}
+use Rattle.ffs_volume.specs.Disk.Areas.{is_data_fragment, is_in_range}
+use Rattle.ffs_volume.specs.Blocks.Claims.{Claims, is_open, is_set, after_offer, after_offers, after_step, after_steps, offer_lines, offers_lines, step_lines, steps_lines, run_lines}
+use Rattle.ffs_volume.proofs.Weights.{ok_below}
 use Rattle.ffs_volume.specs.Messages.Kinds.{Message, of_blocks}
 use Rattle.ffs_report.specs.Progress.{Progress, Said, Stopped, Says}
 use Rattle.ffs_report.proofs.Reports.{stopped_more, says_then}
 use Rattle.ffs_phase.specs.Known.{ForBytes}
 use Rattle.ffs_phase.specs.Runs.{SaidTo}
-use Rattle.ffs_claims.specs.Lines.{of_lines, bad_lines}
+use Rattle.ffs_claims.specs.Lines.{of_lines, is_dup, bad_lines}
 
 pub lines_append : (xs ys : List BlockMessage) → of_lines (xs ++ ys) ≡ of_lines xs ++ of_lines ys
 lines_append [] ys = refl
@@ -28,6 +30,29 @@ set_again (b ∷ bits) (suc f) e = ap (λ (xs : List Bool). b ∷ xs) (set_again
 
 pub range_more : (j n m : ℕ) → n ≡ m + 1 → range_with_len j n ≡ j ∷ range_with_len (j + 1) m
 range_more j n m e = rw e (search rules)
+
+-- a dup offer is a fragment of the volume
+pub dup_below : (v : Layout) (s : Claims) (f : ℕ) → is_dup v s f ≡ true → f < v.size
+dup_below v s f e = ok_below v f (and_parts (is_data_fragment v f) (is_set s.used f) (and_parts (nat_lt s.dups 11) _ e).1).0
+
+-- an offer is kept at most once, and no Run is seen by it
+pub offer_kept : (v : Layout) (s s' : Claims) (f : ℕ) → s' ≡ after_offer v s f → s'.kept ≤ s.kept + 1
+offer_kept v s s' f now = rw now (one (nat_lt s.dups 11) refl (is_data_fragment v f) refl (is_set s.used f) refl)
+  where
+    one : (a : Bool) → nat_lt s.dups 11 ≡ a → (k : Bool) → is_data_fragment v f ≡ k → (u : Bool) → is_set s.used f ≡ u → (after_offer v s f).kept ≤ s.kept + 1
+    one false q k kq u uq = rw q (omega arith)
+    one true q false kq u uq = rw (q, kq) (omega arith)
+    one true q true kq false uq = rw (q, kq, uq) (omega arith)
+    one true q true kq true uq = rw (q, kq, uq) (omega arith)
+
+pub offer_runs : (v : Layout) (s s' : Claims) (f : ℕ) → s' ≡ after_offer v s f → s'.runs ≡ s.runs
+offer_runs v s s' f now = rw now (one (nat_lt s.dups 11) refl (is_data_fragment v f) refl (is_set s.used f) refl)
+  where
+    one : (a : Bool) → nat_lt s.dups 11 ≡ a → (k : Bool) → is_data_fragment v f ≡ k → (u : Bool) → is_set s.used f ≡ u → (after_offer v s f).runs ≡ s.runs
+    one false q k kq u uq = rw q refl
+    one true q false kq u uq = rw (q, kq) refl
+    one true q true kq false uq = rw (q, kq, uq) refl
+    one true q true kq true uq = rw (q, kq, uq) refl
 
 -- the next offer of a Run is taken
 pub offers_after : (v : Layout) (s s' : Claims) (start len place f : ℕ) → place < len → f ≡ start + place →

@@ -55,5 +55,5 @@ steps_runs_again v inode r (step ∷ steps) =
     step_runs_again v inode r step ++ steps_runs_again v inode (again v r step) steps
 
 -- a count rose by so many; it is exact as long as it is a u64's
-abbrev pub Rose : ℕ → ℕ → ℕ → Type 0
-Rose old new more = old + more < 2 ^ 64 → new ≡ old + more
+abbrev pub RoseBy : ℕ → ℕ → ℕ → Type 0
+RoseBy old new more = old + more < 2 ^ 64 → new ≡ old + more

@@ -4,7 +4,7 @@ use Rattle.ffs_volume.specs.Blocks.BlockCheck.{Offer, first_offer_lines}
 use Rattle.ffs_volume.specs.Blocks.Steps.{steps_of}
 use Rattle.ffs_maps.specs.Bits.{bits_of}
 use Rattle.ffs_walk.specs.Rests.{rest}
-use Rattle.ffs_walk.specs.Windows.{BlocksHold}
+use Rattle.ffs_workspace.specs.Ready.{IsReady}
 use Rattle.ffs_volume.specs.declared.Step.TheVariants.{Gap}
 use Rattle.ffs_phase.specs.Known.{ForBytes, IsContents}
 use Rattle.ffs_phase.proofs.Reporting.{of_begins, of_says, of_stops, of_reads, of_same}
@@ -13,6 +13,7 @@ use Rattle.ffs_claims.specs.declared.rescan.Rescan.{Rescan}
 use Rattle.ffs_claims.specs.Lines.{of_lines}
 use Rattle.ffs_claims.specs.Rescan.{rescan, again, step_offers_again, offers_again, runs_again}
 use Rattle.ffs_claims.specs.Reporting.{after_first}
+use Rattle.ffs_claims.proofs.Frames.{claims_still, claims_then, ready_still, ready_read}
 use Rattle.ffs_claims.proofs.Reportings.{reporting_begins, reporting_ends, reporting_same, reported_from, reported_to}
 use Rattle.ffs_claims.proofs.Rewalks.{going_first, gaps_offer, gaps_seen, runs_next, offers_none, offers_stopped, reporting_on, lines_step, reporting_over, lines_over}
 use Rattle.ffs_claims.specs.SecondLook.{looked_at, steps_runs_again}
@@ -29,11 +30,10 @@ loop-next-init g c =
     let same : (bytes : List ℕ) → offers_again v n (rescan c.args.cut) (steps_of v c.args.inode.now bytes) ≡ offers_again v n c.start-rescan.result (rest bytes c.start-walk.result) =
     λ bytes. ap (λ (x : Rescan). offers_again v n x (steps_of v c.args.inode.now bytes)) (sym begun) ∙ ap (offers_again v n c.start-rescan.result) (sym (c.start-walk.ensures.steps bytes)) in
     record {
-      made = c.requires.made;
+      ready = c.requires.ready;
       going = rw begun (going_first c.args.cut);
       geometry = c.start-walk.ensures.geometry;
       device = refl;
-      windows = c.requires.windows;
       claims = record { claimed = refl; kinds = refl; cut = refl; seen = refl };
       reported = λ bytes t. reporting_same _ _ _ _ _ (reporting_begins (offers_again v n (rescan c.args.cut) (steps_of v c.args.inode.now bytes)) w) (same bytes);
       runs = λ bytes t.
@@ -86,7 +86,7 @@ returns-in_err-report_again-clause-runs g c =
 pub skip_gaps-requires : goal.skip_gaps-requires
 skip_gaps-requires g c =
     let inv = c.loop-next.invariant in
-    record { room = record { blocks_fit = rw (c.in_ok-next.ensures.geometry ∙ inv.geometry, c.report_again.ensures.made.blocks) (omega arith) } }
+    record { room = record { blocks_fit = rw (c.in_ok-next.ensures.geometry ∙ inv.geometry, c.report_again.ensures.only.made.blocks) (omega arith) } }
 
 pub loop-next-preserved : goal.loop-next-preserved
 loop-next-preserved g c =
@@ -101,23 +101,20 @@ loop-next-preserved g c =
     let now = c.in_ok-report_again.ensures.again in
     let next : ForBytes (IsContents (g.I.Image.device c.args.image.now).contents) (λ bytes. rest bytes c.loop-next.walk ≡ c.in-Some.next ∷ rest bytes c.next.new.self) =
     rw (inv.device, c.in-Some.is) at c.in_ok-next.ensures.steps in
-    let blocks : BlocksHold v (g.I.Image.device c.args.image.now).contents c.report_again.new.workspace.windows.blocks =
-    rw c.report_again.ensures.windows (rw (inv.geometry, c.in_ok-next.ensures.ok, inv.device) at c.in_ok-next.ensures.holds) in
+    let ok = c.in_ok-next.ensures.ok in
+    let read = ready_read v (g.I.Image.device c.loop-next.image) (g.I.Image.device c.next.new.image) c.loop-next.workspace c.next.new.blocks
+    (ap (λ d. d.contents) ok) (ap (λ d. d.size) ok) c.next.ensures.size (rw inv.geometry at c.next.ensures.holds) inv.ready in
+    let ready : IsReady v (g.I.Image.device c.next.new.image) c.report_again.new.workspace = ready_still v _ _ _ c.report_again.ensures.only.made c.report_again.ensures.only.windows read in
     let gaps : ForBytes (IsContents (g.I.Image.device c.args.image.now).contents) (λ bytes. rest bytes c.next.new.self ≡ replicate c.skip_gaps.result Gap ++ rest bytes c.skip_gaps.new.self) =
-    c.skip_gaps.ensures.steps (g.I.Image.device c.args.image.now).contents (rw (c.in_ok-next.ensures.geometry ∙ inv.geometry) blocks) in
+    λ bytes t. c.skip_gaps.ensures.steps (g.I.Image.device c.next.new.image).contents (rw (c.in_ok-next.ensures.geometry ∙ inv.geometry) ready.windows.blocks) bytes (ap (λ d. d.contents) (ok ∙ inv.device) ∙ t) in
     let offers : ForBytes (IsContents (g.I.Image.device c.args.image.now).contents) (λ bytes. offers_again v n r' (rest bytes c.next.new.self) ≡ offers_again v n r' (rest bytes c.skip_gaps.new.self)) =
     λ bytes t. ap (offers_again v n r') (gaps bytes t) ∙ gaps_offer v n r' c.skip_gaps.result (rest bytes c.skip_gaps.new.self) in
     record {
-      made = c.report_again.ensures.made;
+      ready = ready;
       going = sym c.is_going.ensures ∙ c.if-not-is_going.false;
       geometry = c.skip_gaps.ensures.geometry ∙ c.in_ok-next.ensures.geometry ∙ inv.geometry;
       device = c.in_ok-next.ensures.ok ∙ inv.device;
-      windows = record {
-        table = rw c.report_again.ensures.windows inv.windows.table;
-        blocks = blocks;
-        chunk = rw c.report_again.ensures.windows inv.windows.chunk;
-      };
-      claims = record { claimed = c.report_again.ensures.claims.claimed ∙ inv.claims.claimed; kinds = c.report_again.ensures.claims.kinds ∙ inv.claims.kinds; cut = c.report_again.ensures.claims.cut ∙ inv.claims.cut; seen = c.report_again.ensures.claims.seen ∙ inv.claims.seen };
+      claims = claims_then _ _ _ (claims_still _ _ _ inv.claims) c.report_again.ensures.only.claims;
       reported = λ bytes t. reporting_same _ _ _ _ _ (reporting_on v n r r' step (rest bytes c.loop-next.walk) (rest bytes c.next.new.self) _ _ c.loop-next.workspace c.report_again.new.workspace
           (next bytes t) now (inv.reported bytes t) (reported_from _ c.loop-next.workspace _ c.report_again.new.workspace c.in_ok-report_again.ensures.reported refl refl)) (offers bytes t);
       runs = λ bytes t. omega (
@@ -127,9 +124,9 @@ loop-next-preserved g c =
         runs_next v r r' step (rest bytes c.loop-next.walk) (rest bytes c.next.new.self) (next bytes t) now,
         ap (runs_again v r') (gaps bytes t) ∙ gaps_seen v r' c.skip_gaps.result (rest bytes c.skip_gaps.new.self),
       );
-      pending = c.is_reported.ensures.some c.if-is_reported.false;
+      pending = c.if-workspace-eq0.false;
       count = λ bytes t h.
-          let on = looked_next v n r r' step (rest bytes c.loop-next.walk) (rest bytes c.next.new.self) d d' (next bytes t) now inv.going (λ e. inv.pending (inv.made.unreported ∙ e)) c.in_ok-report_again.ensures.reported.dup in
+          let on = looked_next v n r r' step (rest bytes c.loop-next.walk) (rest bytes c.next.new.self) d d' (next bytes t) now inv.going (λ e. inv.pending (inv.ready.made.unreported ∙ e)) c.in_ok-report_again.ensures.reported.dup in
           let over = ap (looked_at d') (ap (steps_runs_again v n r') (gaps bytes t) ∙ gaps_looked v n r' c.skip_gaps.result (rest bytes c.skip_gaps.new.self)) in
           omega (arith, h, inv.count bytes t h, on, over, c.report_again.ensures.count);
       said = of_same _ _ _ _ _ _ (of_says _ _ (λ bytes. of_lines (first_offer_lines d' (offers_again v n r' (rest bytes c.next.new.self)))) _
@@ -183,8 +180,8 @@ returns-then-not-is_going-clause-runs g c =
     rw (inv.device, c.in-Some.is) at c.in_ok-next.ensures.steps in
     λ bytes t. omega (arith, inv.runs bytes t, c.report_again.ensures.runs, runs_next v r (again v r step) step (rest bytes c.loop-next.walk) (rest bytes c.next.new.self) (next bytes t) refl)
 
-pub returns-then-is_reported-clause-text : goal.returns-then-is_reported-clause-text
-returns-then-is_reported-clause-text g c =
+pub returns-then-workspace-eq0-clause-text : goal.returns-then-workspace-eq0-clause-text
+returns-then-workspace-eq0-clause-text g c =
     let inv = c.loop-next.invariant in
     let v = c.args.geometry.now.layout in
     let n = c.args.number in
@@ -193,7 +190,7 @@ returns-then-is_reported-clause-text g c =
     let r = c.loop-next.rescan in
     let r' = c.report_again.new.rescan in
     let step = c.in-Some.next in
-    let none : set_count (bits_of c.report_again.new.workspace.duplicates) ≡ 0 = sym c.report_again.ensures.made.unreported ∙ c.is_reported.ensures.none c.if-is_reported.true in
+    let none : set_count (bits_of c.report_again.new.workspace.duplicates) ≡ 0 = sym c.report_again.ensures.only.made.unreported ∙ c.if-workspace-eq0.true in
     let next : ForBytes (IsContents (g.I.Image.device c.args.image.now).contents) (λ bytes. rest bytes c.loop-next.walk ≡ c.in-Some.next ∷ rest bytes c.next.new.self) =
     rw (inv.device, c.in-Some.is) at c.in_ok-next.ensures.steps in
     of_same _ _ _ _ _ _
@@ -203,23 +200,23 @@ returns-then-is_reported-clause-text g c =
     c.in_ok-report_again.ensures.said)
     (λ bytes t. lines_over d' (offers_again v n r' (rest bytes c.next.new.self)) none)
 
-pub returns-then-is_reported-clause-reported : goal.returns-then-is_reported-clause-reported
-returns-then-is_reported-clause-reported g c =
+pub returns-then-workspace-eq0-clause-reported : goal.returns-then-workspace-eq0-clause-reported
+returns-then-workspace-eq0-clause-reported g c =
     let inv = c.loop-next.invariant in
     let v = c.args.geometry.now.layout in
     let n = c.args.number in
     let r = c.loop-next.rescan in
     let r' = c.report_again.new.rescan in
     let step = c.in-Some.next in
-    let none : set_count (bits_of c.report_again.new.workspace.duplicates) ≡ 0 = sym c.report_again.ensures.made.unreported ∙ c.is_reported.ensures.none c.if-is_reported.true in
+    let none : set_count (bits_of c.report_again.new.workspace.duplicates) ≡ 0 = sym c.report_again.ensures.only.made.unreported ∙ c.if-workspace-eq0.true in
     let next : ForBytes (IsContents (g.I.Image.device c.args.image.now).contents) (λ bytes. rest bytes c.loop-next.walk ≡ c.in-Some.next ∷ rest bytes c.next.new.self) =
     rw (inv.device, c.in-Some.is) at c.in_ok-next.ensures.steps in
     λ bytes t. reporting_over _ _ _ _ none
     (reporting_on v n r r' step (rest bytes c.loop-next.walk) (rest bytes c.next.new.self) _ _ c.loop-next.workspace c.report_again.new.workspace
     (next bytes t) c.in_ok-report_again.ensures.again (inv.reported bytes t) (reported_from _ c.loop-next.workspace _ c.report_again.new.workspace c.in_ok-report_again.ensures.reported refl refl))
 
-pub returns-then-is_reported-clause-runs : goal.returns-then-is_reported-clause-runs
-returns-then-is_reported-clause-runs g c =
+pub returns-then-workspace-eq0-clause-runs : goal.returns-then-workspace-eq0-clause-runs
+returns-then-workspace-eq0-clause-runs g c =
     let inv = c.loop-next.invariant in
     let v = c.args.geometry.now.layout in
     let r = c.loop-next.rescan in
@@ -246,41 +243,72 @@ returns-in_default-clause-reported g c =
 pub returns-in_default-clause-runs : goal.returns-in_default-clause-runs
 returns-in_default-clause-runs g c = λ bytes t. omega (arith, c.loop-next.invariant.runs bytes t)
 
-pub returns-in_err-report_again-clause-windows : goal.returns-in_err-report_again-clause-windows
-returns-in_err-report_again-clause-windows g c =
+pub returns-in_err-report_again-clause-ready : goal.returns-in_err-report_again-clause-ready
+returns-in_err-report_again-clause-ready g c =
     let inv = c.loop-next.invariant in
-    rw (c.in_ok-next.ensures.ok, inv.device) (record {
-      table = rw c.report_again.ensures.windows inv.windows.table;
-      blocks = rw c.report_again.ensures.windows (rw (inv.geometry, c.in_ok-next.ensures.ok, inv.device) at c.in_ok-next.ensures.holds);
-      chunk = rw c.report_again.ensures.windows inv.windows.chunk;
-    })
+    let v = c.args.geometry.now.layout in
+    let ok = c.in_ok-next.ensures.ok in
+    ready_still v _ _ _ c.report_again.ensures.only.made c.report_again.ensures.only.windows
+    (ready_read v (g.I.Image.device c.loop-next.image) (g.I.Image.device c.next.new.image) c.loop-next.workspace c.next.new.blocks
+    (ap (λ d. d.contents) ok) (ap (λ d. d.size) ok) c.next.ensures.size (rw inv.geometry at c.next.ensures.holds) inv.ready)
 
-pub returns-then-not-is_going-clause-windows : goal.returns-then-not-is_going-clause-windows
-returns-then-not-is_going-clause-windows g c =
-    let inv = c.loop-next.invariant in
-    rw (c.in_ok-next.ensures.ok, inv.device) (record {
-      table = rw c.report_again.ensures.windows inv.windows.table;
-      blocks = rw c.report_again.ensures.windows (rw (inv.geometry, c.in_ok-next.ensures.ok, inv.device) at c.in_ok-next.ensures.holds);
-      chunk = rw c.report_again.ensures.windows inv.windows.chunk;
-    })
+pub returns-in_err-report_again-clause-claims : goal.returns-in_err-report_again-clause-claims
+returns-in_err-report_again-clause-claims g c = claims_then _ _ _ (claims_still _ _ _ c.loop-next.invariant.claims) c.report_again.ensures.only.claims
 
-pub returns-then-is_reported-clause-windows : goal.returns-then-is_reported-clause-windows
-returns-then-is_reported-clause-windows g c =
+pub returns-then-not-is_going-clause-ready : goal.returns-then-not-is_going-clause-ready
+returns-then-not-is_going-clause-ready g c =
     let inv = c.loop-next.invariant in
-    rw (c.in_ok-next.ensures.ok, inv.device) (record {
-      table = rw c.report_again.ensures.windows inv.windows.table;
-      blocks = rw c.report_again.ensures.windows (rw (inv.geometry, c.in_ok-next.ensures.ok, inv.device) at c.in_ok-next.ensures.holds);
-      chunk = rw c.report_again.ensures.windows inv.windows.chunk;
-    })
+    let v = c.args.geometry.now.layout in
+    let ok = c.in_ok-next.ensures.ok in
+    ready_still v _ _ _ c.report_again.ensures.only.made c.report_again.ensures.only.windows
+    (ready_read v (g.I.Image.device c.loop-next.image) (g.I.Image.device c.next.new.image) c.loop-next.workspace c.next.new.blocks
+    (ap (λ d. d.contents) ok) (ap (λ d. d.size) ok) c.next.ensures.size (rw inv.geometry at c.next.ensures.holds) inv.ready)
 
-pub returns-in_default-clause-windows : goal.returns-in_default-clause-windows
-returns-in_default-clause-windows g c =
+pub returns-then-not-is_going-clause-claims : goal.returns-then-not-is_going-clause-claims
+returns-then-not-is_going-clause-claims g c = claims_then _ _ _ (claims_still _ _ _ c.loop-next.invariant.claims) c.report_again.ensures.only.claims
+
+pub returns-then-workspace-eq0-clause-ready : goal.returns-then-workspace-eq0-clause-ready
+returns-then-workspace-eq0-clause-ready g c =
     let inv = c.loop-next.invariant in
-    rw (c.in_ok-next.ensures.ok, inv.device) (record {
-      table = inv.windows.table;
-      blocks = rw (inv.geometry, c.in_ok-next.ensures.ok, inv.device) at c.in_ok-next.ensures.holds;
-      chunk = inv.windows.chunk;
-    })
+    let v = c.args.geometry.now.layout in
+    let ok = c.in_ok-next.ensures.ok in
+    ready_still v _ _ _ c.report_again.ensures.only.made c.report_again.ensures.only.windows
+    (ready_read v (g.I.Image.device c.loop-next.image) (g.I.Image.device c.next.new.image) c.loop-next.workspace c.next.new.blocks
+    (ap (λ d. d.contents) ok) (ap (λ d. d.size) ok) c.next.ensures.size (rw inv.geometry at c.next.ensures.holds) inv.ready)
+
+pub returns-then-workspace-eq0-clause-claims : goal.returns-then-workspace-eq0-clause-claims
+returns-then-workspace-eq0-clause-claims g c = claims_then _ _ _ (claims_still _ _ _ c.loop-next.invariant.claims) c.report_again.ensures.only.claims
+
+pub returns-in_default-clause-ready : goal.returns-in_default-clause-ready
+returns-in_default-clause-ready g c =
+    let inv = c.loop-next.invariant in
+    let ok = c.in_ok-next.ensures.ok in
+    ready_read c.args.geometry.now.layout (g.I.Image.device c.loop-next.image) (g.I.Image.device c.next.new.image) c.loop-next.workspace c.next.new.blocks
+    (ap (λ d. d.contents) ok) (ap (λ d. d.size) ok) c.next.ensures.size (rw inv.geometry at c.next.ensures.holds) inv.ready
+
+pub returns-in_err-next-clause-ready : goal.returns-in_err-next-clause-ready
+returns-in_err-next-clause-ready g c =
+    let inv = c.loop-next.invariant in
+    let err = c.in_err-next.ensures.err in
+    ready_read c.args.geometry.now.layout (g.I.Image.device c.loop-next.image) (g.I.Image.device c.next.new.image) c.loop-next.workspace c.next.new.blocks
+    err.contents err.size c.next.ensures.size (rw inv.geometry at c.next.ensures.holds) inv.ready
+
+pub next-requires : goal.next-requires
+next-requires g c =
+    let inv = c.loop-next.invariant in
+    record {
+      volume = rw inv.geometry inv.ready.volume;
+      room = record { blocks_fit = rw (inv.geometry, inv.ready.made.blocks) (omega arith) };
+      holds = rw inv.geometry inv.ready.windows.blocks;
+    }
+
+pub report_again-requires-clause-made : goal.report_again-requires-clause-made
+report_again-requires-clause-made g c =
+    let inv = c.loop-next.invariant in
+    let ok = c.in_ok-next.ensures.ok in
+    let read = ready_read c.args.geometry.now.layout (g.I.Image.device c.loop-next.image) (g.I.Image.device c.next.new.image) c.loop-next.workspace c.next.new.blocks
+    (ap (λ d. d.contents) ok) (ap (λ d. d.size) ok) c.next.ensures.size (rw inv.geometry at c.next.ensures.holds) inv.ready in
+    read.made
 
 pub returns-then-not-is_going-clause-count : goal.returns-then-not-is_going-clause-count
 returns-then-not-is_going-clause-count g c = λ bytes t h.
@@ -294,12 +322,12 @@ returns-then-not-is_going-clause-count g c = λ bytes t h.
     let step = c.in-Some.next in
     let next : ForBytes (IsContents (g.I.Image.device c.args.image.now).contents) (λ bytes. rest bytes c.loop-next.walk ≡ c.in-Some.next ∷ rest bytes c.next.new.self) =
     rw (inv.device, c.in-Some.is) at c.in_ok-next.ensures.steps in
-    let on = looked_next v n r r' step (rest bytes c.loop-next.walk) (rest bytes c.next.new.self) d d' (next bytes t) c.in_ok-report_again.ensures.again inv.going (λ e. inv.pending (inv.made.unreported ∙ e)) c.in_ok-report_again.ensures.reported.dup in
+    let on = looked_next v n r r' step (rest bytes c.loop-next.walk) (rest bytes c.next.new.self) d d' (next bytes t) c.in_ok-report_again.ensures.again inv.going (λ e. inv.pending (inv.ready.made.unreported ∙ e)) c.in_ok-report_again.ensures.reported.dup in
     let over = looked_stopped v n r' (rest bytes c.next.new.self) d' (sym c.is_going.ensures ∙ c.if-not-is_going.true) in
     omega (arith, h, inv.count bytes t h, on, over, c.report_again.ensures.count)
 
-pub returns-then-is_reported-clause-count : goal.returns-then-is_reported-clause-count
-returns-then-is_reported-clause-count g c = λ bytes t h.
+pub returns-then-workspace-eq0-clause-count : goal.returns-then-workspace-eq0-clause-count
+returns-then-workspace-eq0-clause-count g c = λ bytes t h.
     let inv = c.loop-next.invariant in
     let v = c.args.geometry.now.layout in
     let n = c.args.number in
@@ -310,8 +338,8 @@ returns-then-is_reported-clause-count g c = λ bytes t h.
     let step = c.in-Some.next in
     let next : ForBytes (IsContents (g.I.Image.device c.args.image.now).contents) (λ bytes. rest bytes c.loop-next.walk ≡ c.in-Some.next ∷ rest bytes c.next.new.self) =
     rw (inv.device, c.in-Some.is) at c.in_ok-next.ensures.steps in
-    let on = looked_next v n r r' step (rest bytes c.loop-next.walk) (rest bytes c.next.new.self) d d' (next bytes t) c.in_ok-report_again.ensures.again inv.going (λ e. inv.pending (inv.made.unreported ∙ e)) c.in_ok-report_again.ensures.reported.dup in
-    let none : set_count (bits_of c.report_again.new.workspace.duplicates) ≡ 0 = sym c.report_again.ensures.made.unreported ∙ c.is_reported.ensures.none c.if-is_reported.true in
+    let on = looked_next v n r r' step (rest bytes c.loop-next.walk) (rest bytes c.next.new.self) d d' (next bytes t) c.in_ok-report_again.ensures.again inv.going (λ e. inv.pending (inv.ready.made.unreported ∙ e)) c.in_ok-report_again.ensures.reported.dup in
+    let none : set_count (bits_of c.report_again.new.workspace.duplicates) ≡ 0 = sym c.report_again.ensures.only.made.unreported ∙ c.if-workspace-eq0.true in
     let over = looked_none d' (steps_runs_again v n r' (rest bytes c.next.new.self)) none in
     omega (arith, h, inv.count bytes t h, on, over, c.report_again.ensures.count)
 

@@ -6,7 +6,7 @@ use Rattle.ffs_phase.specs.Known.{ForBytes, IsContents}
 use Rattle.ffs_phase.specs.Runs.{SaidOf}
 use Rattle.ffs_maps.specs.Bits.{bits_of}
 use Rattle.ffs_walk.specs.Rests.{rest, left}
-use Rattle.ffs_workspace.specs.Lengths.{IsFor, HoldWindows}
+use Rattle.ffs_workspace.specs.Ready.{IsReady}
 use Rattle.ffs_claims.specs.Lines.{of_lines}
 use Rattle.ffs_claims.specs.Rescan.{rescan, is_going, offers_again, runs_again}
 use Rattle.ffs_claims.specs.Reporting.{SameClaims}
@@ -16,11 +16,10 @@ use Rattle.ffs_claims.proofs.second.rewalk.Given as goal
 
 abbrev pub invariant-loop-next : goal.invariant-loop-next
 invariant-loop-next g l = record {
-  made : IsFor l.geometry.layout l.workspace;
+  ready : IsReady l.geometry.layout (g.I.Image.device l.image) l.workspace;
   going : is_going l.rescan ≡ true;
   geometry : l.walk.geometry ≡ l.geometry;
   device : g.I.Image.device l.image ≡ g.I.Image.device l.initial.image;
-  windows : HoldWindows l.geometry.layout (g.I.Image.device l.initial.image).contents l.workspace;
   claims : SameClaims l.initial.workspace l.workspace;
   reported : ForBytes (IsContents (g.I.Image.device l.initial.image).contents) (λ bytes.
       Reporting (offers_again l.geometry.layout l.number l.rescan (rest bytes l.walk)) (offers_again l.geometry.layout l.number (rescan l.cut) (steps_of l.geometry.layout l.inode bytes)) l.initial.workspace l.workspace);
