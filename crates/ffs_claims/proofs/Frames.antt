@@ -4,6 +4,7 @@ use Rattle.std.specs.declared.vec.Vec.{Vec}
 use Rattle.std.specs.declared.alloc.Global.{Global}
 use Rattle.std.specs.Prelude.{vec_len}
 use Rattle.ffs_volume.specs.declared.Layout.{Layout}
+use Rattle.ffs_layout.specs.declared.geometry.Geometry.{Geometry}
 use Rattle.ffs_volume.specs.declared.Class.{Class}
 use Rattle.ffs_volume.specs.declared.Inode.{Inode}
 use Rattle.ffs_maps.specs.Bits.{bits_of}
@@ -27,9 +28,15 @@ found_then u v w p q = record { kinds = q.kinds ∙ p.kinds; marked = q.marked �
 pub claims_then : (u v w : Workspace) → SameClaims u v → SameClaims v w → SameClaims u w
 claims_then u v w p q = record { claimed = q.claimed ∙ p.claimed; kinds = q.kinds ∙ p.kinds; cut = q.cut ∙ p.cut; seen = q.seen ∙ p.seen }
 
--- they are no part of the windows
+-- the windows are no part of it
+pub found_still : (u w : Workspace) (windows : Windows) → SameFound u w → SameFound u (record w { windows = windows })
+found_still u w windows p = record { kinds = p.kinds; marked = p.marked; cut = p.cut; again = p.again }
+
 pub claims_still : (u w : Workspace) (windows : Windows) → SameClaims u w → SameClaims u (record w { windows = windows })
 claims_still u w windows p = record { claimed = p.claimed; kinds = p.kinds; cut = p.cut; seen = p.seen }
+
+pub claims_none : (w : Workspace) → SameClaims w w
+claims_none w = record { claimed = refl; kinds = refl; cut = refl; seen = refl }
 
 pub only_none : (l : Layout) (w : Workspace) → IsFor l w → ClaimsOnly l w w
 only_none l w made = record { made = made; windows = refl; found = found_none w }
@@ -38,7 +45,7 @@ pub only_then : (l : Layout) (u v w : Workspace) → ClaimsOnly l u v → Claims
 only_then l u v w p q = record { made = q.made; windows = q.windows ∙ p.windows; found = found_then u v w p.found q.found }
 
 pub reports_none : (l : Layout) (w : Workspace) → IsFor l w → ReportsOnly l w w
-reports_none l w made = record { made = made; windows = refl; claims = record { claimed = refl; kinds = refl; cut = refl; seen = refl } }
+reports_none l w made = record { made = made; windows = refl; claims = claims_none w }
 
 pub reports_then : (l : Layout) (u v w : Workspace) → ReportsOnly l u v → ReportsOnly l v w → ReportsOnly l u w
 reports_then l u v w p q = record { made = q.made; windows = q.windows ∙ p.windows; claims = claims_then u v w p.claims q.claims }
@@ -63,6 +70,12 @@ ready_read l d d' w b e size room holds r =
       volume = rw size r.volume;
       windows = record { table = rw e r.windows.table; blocks = holds; chunk = rw e r.windows.chunk };
     }
+
+-- as a walk does
+pub ready_walked : (g k : Geometry) (d d' : Device) (w : Workspace) (b : Blocks) → k ≡ g → d' ≡ d →
+    vec_len b.buffer ≡ vec_len w.windows.blocks.buffer → BlocksHold k.layout d'.contents b → IsReady g.layout d w →
+    IsReady g.layout d' (record w { windows = record w.windows { blocks = b } })
+ready_walked g k d d' w b e same room holds r = ready_read g.layout d d' w b (ap (λ x. x.contents) same) (ap (λ x. x.size) same) room (rw e at holds) r
 
 -- or a block of the inode table
 pub ready_table : (l : Layout) (d d' : Device) (w : Workspace) (t : Table) → d'.contents ≡ d.contents → d'.size ≡ d.size →

@@ -15,7 +15,8 @@ use Rattle.ffs_volume.specs.Messages.Kinds.{Message, of_blocks}
 use Rattle.ffs_report.specs.Progress.{Progress, Said, Stopped, Says}
 use Rattle.ffs_report.proofs.Reports.{stopped_more, says_then}
 use Rattle.ffs_phase.specs.Known.{ForBytes}
-use Rattle.ffs_phase.specs.Runs.{SaidTo}
+use Rattle.ffs_phase.specs.Runs.{SaidOf, SaidTo}
+use Rattle.ffs_phase.proofs.Reporting.{of_says, of_same}
 use Rattle.ffs_claims.specs.Lines.{of_lines, is_dup, bad_lines}
 
 pub lines_append : (xs ys : List BlockMessage) → of_lines (xs ++ ys) ≡ of_lines xs ++ of_lines ys
@@ -117,12 +118,12 @@ pub run_ends : (v : Layout) (inode : ℕ) (s : Claims) (start len : ℕ) (a b : 
     Said a b (of_lines (bad_lines inode start (s.bad == 10))) → Said a b (of_lines (run_lines v inode s start len))
 run_ends v inode s start len a b h e p = rw (eleventh v inode s start len h e) (rw e at p)
 
--- the next step of a walk is taken
-pub claims_on : (knows : List ℕ → Type 0) (v : Layout) (s s' : Claims) (R R' : List ℕ → List Step) (end : List ℕ → Claims) (step : Step) →
+-- the next step of a walk is taken, and what is to come has another form
+pub claims_on : (knows : List ℕ → Type 0) (v : Layout) (s s' : Claims) (R R' : List ℕ → List Step) (rest end : List ℕ → Claims) (step : Step) →
     ForBytes knows (λ bytes. R bytes ≡ step ∷ R' bytes) → s' ≡ after_step v s step →
     ForBytes knows (λ bytes. after_steps v s (R bytes) ≡ end bytes) →
-    ForBytes knows (λ bytes. after_steps v s' (R' bytes) ≡ end bytes)
-claims_on knows v s s' R R' end step next now before = λ bytes t. rw now (rw (next bytes t) at (before bytes t))
+    ForBytes knows (λ bytes. after_steps v s' (R' bytes) ≡ rest bytes) → ForBytes knows (λ bytes. rest bytes ≡ end bytes)
+claims_on knows v s s' R R' rest end step next now before same = λ bytes t. sym (same bytes t) ∙ rw now (rw (next bytes t) at (before bytes t))
 
 -- and reported
 pub lines_on : (knows : List ℕ → Type 0) (v : Layout) (inode : ℕ) (s s' : Claims) (R R' : List ℕ → List Step) (step : Step) →
@@ -132,6 +133,16 @@ lines_on knows v inode s s' R R' step next now = λ bytes t.
     ap (λ (xs : List Step). of_lines (steps_lines v inode s xs)) (next bytes t)
     ∙ lines_append (step_lines v inode s step) (steps_lines v inode (after_step v s step) (R' bytes))
     ∙ ap (λ (x : Claims). of_lines (step_lines v inode s step) ++ of_lines (steps_lines v inode x (R' bytes))) (sym now)
+
+pub steps_said : (knows : List ℕ → Type 0) (v : Layout) (inode : ℕ) (s s' : Claims) (R R' : List ℕ → List Step) (rest : List ℕ → List BlockMessage)
+    (all : List ℕ → List Message) (step : Step) (a b c : Progress) → SaidOf knows (λ bytes. of_lines (steps_lines v inode s (R bytes))) all a b →
+    ForBytes knows (λ bytes. R bytes ≡ step ∷ R' bytes) → s' ≡ after_step v s step →
+    ForBytes knows (λ bytes. steps_lines v inode s' (R' bytes) ≡ rest bytes) → Said b c (of_lines (step_lines v inode s step)) →
+    SaidOf knows (λ bytes. of_lines (rest bytes)) all a c
+steps_said knows v inode s s' R R' rest all step a b c said next now same out =
+    of_same knows (λ bytes. of_lines (steps_lines v inode s' (R' bytes))) (λ bytes. of_lines (rest bytes)) all a c
+    (of_says knows _ (λ bytes. of_lines (steps_lines v inode s' (R' bytes))) all (of_lines (step_lines v inode s step)) a b c said
+    (lines_on knows v inode s s' R R' step next now) out) (λ bytes t. ap of_lines (same bytes t))
 
 -- what is to come has changed its form
 pub to_same : (rest rest' all : List Message) (a b : Progress) → SaidTo rest all a b → rest ≡ rest' → SaidTo rest' all a b

@@ -19,7 +19,7 @@ ghost use Rattle.ffs_claims.specs.Lines.{of_lines};
 ghost use Rattle.ffs_claims.specs.Rescan as rescans;
 ghost use Rattle.ffs_claims.specs.Rescan.{offers_again, step_offers_again, run_seen, runs_again};
 ghost use Rattle.ffs_claims.specs.Reporting.{OffersReported, SameClaims, ReportsOnly};
-ghost use Rattle.ffs_claims.specs.SecondLook.{RoseBy, looked_at, steps_runs_again, second_look};
+ghost use Rattle.ffs_claims.specs.SecondLook.{RoseBy, Rewalked, second_look};
 
 use crate::report_claim::report_run;
 use crate::rescan::Rescan;
@@ -85,17 +85,12 @@ fn rewalk<I: Image, W: Output>(
         (offers_again geometry.now.layout number (rescans.rescan cut)
         (steps_of geometry.now.layout inode.now bytes))))
         (progress W.sink report.old) (progress W.sink report.new) result }
-    ensures reported { OnOk result (ForBytes (IsContents (I.device image.old).contents) (λ bytes.
-        OffersReported (offers_again geometry.now.layout number (rescans.rescan cut)
-        (steps_of geometry.now.layout inode.now bytes)) workspace.old workspace.new)) }
+    ensures rewalked { OnOk result (ForBytes (IsContents (I.device image.old).contents) (λ bytes.
+        Rewalked geometry.now.layout number cut (steps_of geometry.now.layout inode.now bytes)
+        workspace.old workspace.new)) }
     ensures runs { ForBytes (IsContents (I.device image.old).contents) (λ bytes.
         workspace.new.runs_again ≤ workspace.old.runs_again + runs_again geometry.now.layout
         (rescans.rescan cut) (steps_of geometry.now.layout inode.now bytes)) }
-    ensures count { OnOk result (ForBytes (IsContents (I.device image.old).contents) (λ bytes.
-        RoseBy workspace.old.runs_again workspace.new.runs_again
-        (looked_at (bits_of workspace.old.duplicates)
-        (steps_runs_again geometry.now.layout number (rescans.rescan cut)
-        (steps_of geometry.now.layout inode.now bytes))))) }
     ensures ready { IsReady geometry.now.layout (I.device image.new) workspace.new }
     ensures claims { SameClaims workspace.old workspace.new }
 {
@@ -132,21 +127,14 @@ fn renumbered<I: Image, W: Output>(
         (rescans.rescan (slice_index workspace.old.cut.items number))
         (steps_of geometry.now.layout (inode_of geometry.now.layout bytes number) bytes))))
         (progress W.sink report.old) (progress W.sink report.new) result }
-    ensures reported { OnOk result (ForBytes (IsContents (I.device image.old).contents) (λ bytes.
-        OffersReported (offers_again geometry.now.layout number
-        (rescans.rescan (slice_index workspace.old.cut.items number))
-        (steps_of geometry.now.layout (inode_of geometry.now.layout bytes number) bytes))
+    ensures rewalked { OnOk result (ForBytes (IsContents (I.device image.old).contents) (λ bytes.
+        Rewalked geometry.now.layout number (slice_index workspace.old.cut.items number)
+        (steps_of geometry.now.layout (inode_of geometry.now.layout bytes number) bytes)
         workspace.old workspace.new)) }
     ensures runs { ForBytes (IsContents (I.device image.old).contents) (λ bytes.
         workspace.new.runs_again ≤ workspace.old.runs_again + runs_again geometry.now.layout
         (rescans.rescan (slice_index workspace.old.cut.items number))
         (steps_of geometry.now.layout (inode_of geometry.now.layout bytes number) bytes)) }
-    ensures count { OnOk result (ForBytes (IsContents (I.device image.old).contents) (λ bytes.
-        RoseBy workspace.old.runs_again workspace.new.runs_again
-        (looked_at (bits_of workspace.old.duplicates)
-        (steps_runs_again geometry.now.layout number
-        (rescans.rescan (slice_index workspace.old.cut.items number))
-        (steps_of geometry.now.layout (inode_of geometry.now.layout bytes number) bytes))))) }
     ensures ready { IsReady geometry.now.layout (I.device image.new) workspace.new }
     ensures claims { SameClaims workspace.old workspace.new }
 {

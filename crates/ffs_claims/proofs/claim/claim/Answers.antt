@@ -1,6 +1,5 @@
 use Rattle.std.proofs.Common.{arith, refl, ◌≡◌, ◌<◌, ◌∙◌, ap, sym, List, ◌∷◌, ◌++◌, [], true, false, replicate}
 use Rattle.std.proofs.lemmas.Result.{err_from_is_err_and}
-use Rattle.std.proofs.lemmas.List.Sums.{count_by-le-length}
 use Rattle.ffs_walk.specs.Rests.{rest, left}
 use Rattle.ffs_maps.proofs.Bits.{length_bits}
 use Rattle.ffs_volume.specs.declared.Step.{Step}
@@ -9,13 +8,13 @@ use Rattle.ffs_volume.specs.Blocks.Steps.{steps_of, walks}
 use Rattle.ffs_volume.specs.Blocks.Claims.{after_steps, after_step, steps_lines, step_lines, is_open}
 use Rattle.ffs_volume.proofs.Weights.{stays, kept_bound}
 use Rattle.ffs_phase.specs.Known.{ForBytes, IsContents}
-use Rattle.ffs_phase.proofs.Reporting.{of_begins, of_says, of_stops, of_reads, of_same}
+use Rattle.ffs_phase.proofs.Reporting.{of_begins, of_stops, of_reads, of_same}
 use Rattle.ffs_workspace.specs.Holds.{claims_of}
 use Rattle.ffs_workspace.specs.Ready.{IsReady}
 use Rattle.ffs_claims.specs.Lines.{of_lines}
-use Rattle.ffs_claims.proofs.Weights.{moves_on, bound_open}
-use Rattle.ffs_claims.proofs.Goes.{claims_on, lines_on, cut_stays, cut_silent, gaps_stay, gaps_silent, no_steps}
-use Rattle.ffs_claims.proofs.Frames.{found_none, ready_still, ready_read}
+use Rattle.ffs_claims.proofs.Weights.{moves_on, seen_bound, used_below}
+use Rattle.ffs_claims.proofs.Goes.{claims_on, lines_on, steps_said, cut_stays, cut_silent, gaps_stay, gaps_silent, no_steps}
+use Rattle.ffs_claims.proofs.Frames.{found_none, found_still, found_then, ready_still, ready_read, ready_walked}
 use Rattle.ffs_claims.proofs.claim.claim.Goals as goal
 
 pub returns-then-not-has_steps : goal.returns-then-not-has_steps
@@ -29,11 +28,7 @@ returns-then-not-has_steps g c =
           (λ bytes t. ap (λ (xs : List Step). of_lines (steps_lines v c.args.number s xs)) (no_steps v c.args.inode.now bytes none));
       claims = λ bytes t. sym (ap (after_steps v s) (no_steps v c.args.inode.now bytes none));
       moves = stays s;
-      bound = omega (
-        arith,
-        count_by-le-length (λ b. b) (claims_of c.args.workspace.now).used,
-        length_bits c.args.workspace.now.claimed.words.items c.args.workspace.now.claimed.size ∙ c.requires.ready.made.claimed,
-      );
+      bound = omega (arith, used_below v c.args.workspace.now c.requires.ready.made);
       ready = c.requires.ready;
       found = found_none c.args.workspace.now;
     }
@@ -77,13 +72,9 @@ returns-in_err-next g c =
       text = of_reads _ _ _ _ _ inv.said;
       claims = tt;
       moves = tt;
-      bound = omega (
-        arith,
-        bound_open (claims_of c.args.workspace.now) (claims_of c.loop-next.workspace) c.args.geometry.now.layout.size
-            (length_bits _ _ ∙ inv.ready.made.claimed) inv.open_still inv.moves,
-      );
+      bound = omega (arith, seen_bound c.args.geometry.now.layout c.args.workspace.now c.loop-next.workspace inv.ready.made inv.open_still inv.moves);
       ready = read;
-      found = record { kinds = inv.found.kinds; marked = inv.found.marked; cut = inv.found.cut; again = inv.found.again };
+      found = found_still _ _ _ inv.found;
     })
 
 pub step-requires : goal.step-requires
@@ -91,8 +82,7 @@ step-requires g c =
     let inv = c.loop-next.invariant in
     let ok = c.in_ok-next.ensures.ok in
     let sized = length_bits c.loop-next.workspace.claimed.words.items c.loop-next.workspace.claimed.size ∙ inv.ready.made.claimed in
-    let read = ready_read c.args.geometry.now.layout (g.I.Image.device c.loop-next.image) (g.I.Image.device c.next.new.image) c.loop-next.workspace c.next.new.blocks
-    (ap (λ d. d.contents) ok) (ap (λ d. d.size) ok) c.next.ensures.size (rw inv.geometry at c.next.ensures.holds) inv.ready in
+    let read = ready_walked c.args.geometry.now _ _ _ c.loop-next.workspace c.next.new.blocks inv.geometry ok c.next.ensures.size c.next.ensures.holds inv.ready in
     record {
       made = read.made;
       area = inv.area;
@@ -104,11 +94,7 @@ step-requires g c =
         kept_bound (claims_of c.args.workspace.now) (claims_of c.loop-next.workspace) c.args.geometry.now.layout.size
             sized (omega (arith, c.requires.begun.bad)) (omega (arith, c.requires.begun.dups)) c.requires.begun.kept inv.moves,
       );
-      runs = omega (
-        arith,
-        c.args.geometry.now.sound.numbers.size_below,
-        bound_open (claims_of c.args.workspace.now) (claims_of c.loop-next.workspace) c.args.geometry.now.layout.size sized inv.open_still inv.moves,
-      );
+      runs = omega (arith, c.args.geometry.now.sound.numbers.size_below, seen_bound c.args.geometry.now.layout c.args.workspace.now c.loop-next.workspace inv.ready.made inv.open_still inv.moves);
     }
 
 pub returns-in_err-step : goal.returns-in_err-step
@@ -119,9 +105,7 @@ returns-in_err-step g c =
     let ok = c.in_ok-next.ensures.ok in
     let next : ForBytes (IsContents (g.I.Image.device c.args.image.now).contents) (λ bytes. rest bytes c.loop-next.walk ≡ c.in-Some.next ∷ rest bytes c.next.new.self) =
     rw (inv.device, c.in-Some.is) at c.in_ok-next.ensures.steps in
-    let read = ready_read v (g.I.Image.device c.loop-next.image) (g.I.Image.device c.next.new.image) c.loop-next.workspace c.next.new.blocks
-    (ap (λ d. d.contents) ok) (ap (λ d. d.size) ok) c.next.ensures.size (rw inv.geometry at c.next.ensures.holds) inv.ready in
-    let found = c.step.ensures.only.found in
+    let read = ready_walked c.args.geometry.now _ _ _ c.loop-next.workspace c.next.new.blocks inv.geometry ok c.next.ensures.size c.next.ensures.holds inv.ready in
     rw (p.1, p.2) (record {
       image = ok ∙ inv.device;
       text = of_stops _ _ _ _ (of_lines (step_lines v c.args.number (claims_of c.loop-next.workspace) c.in-Some.next)) _ _ _ inv.said
@@ -130,14 +114,9 @@ returns-in_err-step g c =
           c.in_err-step.ensures.said;
       claims = tt;
       moves = tt;
-      bound = omega (
-        arith,
-        c.step.ensures.runs,
-        bound_open (claims_of c.args.workspace.now) (claims_of c.loop-next.workspace) c.args.geometry.now.layout.size
-            (length_bits _ _ ∙ inv.ready.made.claimed) inv.open_still inv.moves,
-      );
+      bound = omega (arith, c.step.ensures.runs, seen_bound c.args.geometry.now.layout c.args.workspace.now c.loop-next.workspace inv.ready.made inv.open_still inv.moves);
       ready = ready_still v _ _ _ c.step.ensures.only.made c.step.ensures.only.windows read;
-      found = record { kinds = found.kinds ∙ inv.found.kinds; marked = found.marked ∙ inv.found.marked; cut = found.cut ∙ inv.found.cut; again = found.again ∙ inv.found.again };
+      found = found_then _ _ _ (found_still _ _ _ inv.found) c.step.ensures.only.found;
     })
 
 pub skip_gaps-requires : goal.skip_gaps-requires
@@ -153,33 +132,23 @@ loop-next-preserved g c =
     let ok = c.in_ok-next.ensures.ok in
     let next : ForBytes (IsContents (g.I.Image.device c.args.image.now).contents) (λ bytes. rest bytes c.loop-next.walk ≡ c.in-Some.next ∷ rest bytes c.next.new.self) =
     rw (inv.device, c.in-Some.is) at c.in_ok-next.ensures.steps in
-    let read = ready_read v (g.I.Image.device c.loop-next.image) (g.I.Image.device c.next.new.image) c.loop-next.workspace c.next.new.blocks
-    (ap (λ d. d.contents) ok) (ap (λ d. d.size) ok) c.next.ensures.size (rw inv.geometry at c.next.ensures.holds) inv.ready in
+    let read = ready_walked c.args.geometry.now _ _ _ c.loop-next.workspace c.next.new.blocks inv.geometry ok c.next.ensures.size c.next.ensures.holds inv.ready in
     let ready : IsReady v (g.I.Image.device c.next.new.image) c.step.new.workspace = ready_still v _ _ _ c.step.ensures.only.made c.step.ensures.only.windows read in
     let gaps : ForBytes (IsContents (g.I.Image.device c.args.image.now).contents) (λ bytes. rest bytes c.next.new.self ≡ replicate c.skip_gaps.result Gap ++ rest bytes c.skip_gaps.new.self) =
     λ bytes t. c.skip_gaps.ensures.steps (g.I.Image.device c.next.new.image).contents (rw (c.in_ok-next.ensures.geometry ∙ inv.geometry) ready.windows.blocks) bytes (ap (λ d. d.contents) (ok ∙ inv.device) ∙ t) in
-    let found = c.step.ensures.only.found in
     record {
       ready = ready;
       area = c.step.ensures.area;
       open_still = sym c.is_open.ensures ∙ c.if-not-is_open.false;
       geometry = c.skip_gaps.ensures.geometry ∙ c.in_ok-next.ensures.geometry ∙ inv.geometry;
       device = ok ∙ inv.device;
-      found = record { kinds = found.kinds ∙ inv.found.kinds; marked = found.marked ∙ inv.found.marked; cut = found.cut ∙ inv.found.cut; again = found.again ∙ inv.found.again };
+      found = found_then _ _ _ (found_still _ _ _ inv.found) c.step.ensures.only.found;
       moves = moves_on v (claims_of c.args.workspace.now) (claims_of c.loop-next.workspace) (claims_of c.step.new.workspace) c.in-Some.next
           (length_bits _ _ ∙ inv.ready.made.claimed) c.args.geometry.now.sound.sizes.frag_high (rw (inv.geometry, c.in-Some.is) at c.in_ok-next.ensures.length) c.in_ok-step.ensures.claims inv.moves;
-      claims = λ bytes t. sym (ap (after_steps v s) (gaps bytes t) ∙ gaps_stay v s c.skip_gaps.result (rest bytes c.skip_gaps.new.self))
-          ∙ claims_on _ v (claims_of c.loop-next.workspace) (claims_of c.step.new.workspace)
-          (λ bytes. rest bytes c.loop-next.walk) (λ bytes. rest bytes c.next.new.self)
-          (λ bytes. after_steps v (claims_of c.args.workspace.now) (steps_of v c.args.inode.now bytes))
-          c.in-Some.next next c.in_ok-step.ensures.claims inv.claims bytes t;
-      said = of_same _ _ _ _ _ _
-          (of_says _ _ (λ bytes. of_lines (steps_lines v c.args.number (claims_of c.step.new.workspace) (rest bytes c.next.new.self))) _
-          (of_lines (step_lines v c.args.number (claims_of c.loop-next.workspace) c.in-Some.next)) _ _ _ inv.said
-          (lines_on _ v c.args.number (claims_of c.loop-next.workspace) (claims_of c.step.new.workspace)
-          (λ bytes. rest bytes c.loop-next.walk) (λ bytes. rest bytes c.next.new.self) c.in-Some.next next c.in_ok-step.ensures.claims)
-          c.in_ok-step.ensures.said)
-          (λ bytes t. ap of_lines (ap (steps_lines v c.args.number s) (gaps bytes t) ∙ gaps_silent v c.args.number s c.skip_gaps.result (rest bytes c.skip_gaps.new.self)));
+      claims = claims_on _ v (claims_of c.loop-next.workspace) s (λ bytes. rest bytes c.loop-next.walk) (λ bytes. rest bytes c.next.new.self) _ _ c.in-Some.next
+          next c.in_ok-step.ensures.claims inv.claims (λ bytes t. ap (after_steps v s) (gaps bytes t) ∙ gaps_stay v s c.skip_gaps.result (rest bytes c.skip_gaps.new.self));
+      said = steps_said _ v c.args.number (claims_of c.loop-next.workspace) s (λ bytes. rest bytes c.loop-next.walk) (λ bytes. rest bytes c.next.new.self) _ _ c.in-Some.next _ _ _
+          inv.said next c.in_ok-step.ensures.claims (λ bytes t. ap (steps_lines v c.args.number s) (gaps bytes t) ∙ gaps_silent v c.args.number s c.skip_gaps.result (rest bytes c.skip_gaps.new.self)) c.in_ok-step.ensures.said;
     }
 
 pub loop-next-smaller : goal.loop-next-smaller
@@ -196,33 +165,18 @@ returns-then-not-is_open g c =
     let cut : is_open (claims_of c.step.new.workspace) ≡ false = sym c.is_open.ensures ∙ c.if-not-is_open.true in
     let next : ForBytes (IsContents (g.I.Image.device c.args.image.now).contents) (λ bytes. rest bytes c.loop-next.walk ≡ c.in-Some.next ∷ rest bytes c.next.new.self) =
     rw (inv.device, c.in-Some.is) at c.in_ok-next.ensures.steps in
-    let read = ready_read v (g.I.Image.device c.loop-next.image) (g.I.Image.device c.next.new.image) c.loop-next.workspace c.next.new.blocks
-    (ap (λ d. d.contents) ok) (ap (λ d. d.size) ok) c.next.ensures.size (rw inv.geometry at c.next.ensures.holds) inv.ready in
-    let found = c.step.ensures.only.found in
+    let read = ready_walked c.args.geometry.now _ _ _ c.loop-next.workspace c.next.new.blocks inv.geometry ok c.next.ensures.size c.next.ensures.holds inv.ready in
     record {
       image = ok ∙ inv.device;
-      text = of_same _ _ _ _ _ _
-          (of_says _ _ (λ bytes. of_lines (steps_lines v c.args.number (claims_of c.step.new.workspace) (rest bytes c.next.new.self))) _
-          (of_lines (step_lines v c.args.number (claims_of c.loop-next.workspace) c.in-Some.next)) _ _ _ inv.said
-          (lines_on _ v c.args.number (claims_of c.loop-next.workspace) (claims_of c.step.new.workspace)
-          (λ bytes. rest bytes c.loop-next.walk) (λ bytes. rest bytes c.next.new.self) c.in-Some.next next c.in_ok-step.ensures.claims)
-          c.in_ok-step.ensures.said)
-          (λ bytes t. ap of_lines (cut_silent v c.args.number (claims_of c.step.new.workspace) (rest bytes c.next.new.self) cut));
-      claims = λ bytes t. sym (cut_stays v (claims_of c.step.new.workspace) (rest bytes c.next.new.self) cut)
-          ∙ claims_on _ v (claims_of c.loop-next.workspace) (claims_of c.step.new.workspace)
-          (λ bytes. rest bytes c.loop-next.walk) (λ bytes. rest bytes c.next.new.self)
-          (λ bytes. after_steps v (claims_of c.args.workspace.now) (steps_of v c.args.inode.now bytes))
-          c.in-Some.next next c.in_ok-step.ensures.claims inv.claims bytes t;
+      text = steps_said _ v c.args.number (claims_of c.loop-next.workspace) s (λ bytes. rest bytes c.loop-next.walk) (λ bytes. rest bytes c.next.new.self) _ _ c.in-Some.next _ _ _
+          inv.said next c.in_ok-step.ensures.claims (λ bytes t. cut_silent v c.args.number (claims_of c.step.new.workspace) (rest bytes c.next.new.self) cut) c.in_ok-step.ensures.said;
+      claims = claims_on _ v (claims_of c.loop-next.workspace) s (λ bytes. rest bytes c.loop-next.walk) (λ bytes. rest bytes c.next.new.self) _ _ c.in-Some.next
+          next c.in_ok-step.ensures.claims inv.claims (λ bytes t. cut_stays v s (rest bytes c.next.new.self) cut);
       moves = moves_on v (claims_of c.args.workspace.now) (claims_of c.loop-next.workspace) (claims_of c.step.new.workspace) c.in-Some.next
           (length_bits _ _ ∙ inv.ready.made.claimed) c.args.geometry.now.sound.sizes.frag_high (rw (inv.geometry, c.in-Some.is) at c.in_ok-next.ensures.length) c.in_ok-step.ensures.claims inv.moves;
-      bound = omega (
-        arith,
-        c.step.ensures.runs,
-        bound_open (claims_of c.args.workspace.now) (claims_of c.loop-next.workspace) c.args.geometry.now.layout.size
-            (length_bits _ _ ∙ inv.ready.made.claimed) inv.open_still inv.moves,
-      );
+      bound = omega (arith, c.step.ensures.runs, seen_bound c.args.geometry.now.layout c.args.workspace.now c.loop-next.workspace inv.ready.made inv.open_still inv.moves);
       ready = ready_still v _ _ _ c.step.ensures.only.made c.step.ensures.only.windows read;
-      found = record { kinds = found.kinds ∙ inv.found.kinds; marked = found.marked ∙ inv.found.marked; cut = found.cut ∙ inv.found.cut; again = found.again ∙ inv.found.again };
+      found = found_then _ _ _ (found_still _ _ _ inv.found) c.step.ensures.only.found;
     }
 
 pub returns-in_default : goal.returns-in_default
@@ -238,12 +192,7 @@ returns-in_default g c =
       text = of_same _ _ _ _ _ _ inv.said (λ bytes t. ap (λ (xs : List Step). of_lines (steps_lines v c.args.number s xs)) (over bytes t));
       claims = λ bytes t. sym (ap (after_steps v s) (over bytes t)) ∙ inv.claims bytes t;
       moves = inv.moves;
-      bound = omega (
-        arith,
-        bound_open (claims_of c.args.workspace.now) (claims_of c.loop-next.workspace) c.args.geometry.now.layout.size
-            (length_bits _ _ ∙ inv.ready.made.claimed) inv.open_still inv.moves,
-      );
-      ready = ready_read v _ _ c.loop-next.workspace c.next.new.blocks
-          (ap (λ d. d.contents) ok) (ap (λ d. d.size) ok) c.next.ensures.size (rw inv.geometry at c.next.ensures.holds) inv.ready;
-      found = record { kinds = inv.found.kinds; marked = inv.found.marked; cut = inv.found.cut; again = inv.found.again };
+      bound = omega (arith, seen_bound c.args.geometry.now.layout c.args.workspace.now c.loop-next.workspace inv.ready.made inv.open_still inv.moves);
+      ready = ready_walked c.args.geometry.now _ _ _ c.loop-next.workspace c.next.new.blocks inv.geometry ok c.next.ensures.size c.next.ensures.holds inv.ready;
+      found = found_still _ _ _ inv.found;
     }

@@ -1,6 +1,5 @@
 use Rattle.std.proofs.Common.{arith, refl, [], length, ap, ◌∙◌, ◌≡◌}
 use Rattle.std.proofs.lemmas.Result.{err_from_is_err_and}
-use Rattle.std.proofs.lemmas.List.Sums.{count_by-le-length}
 use Rattle.ffs_maps.proofs.Bits.{length_bits}
 use Rattle.ffs_volume.specs.Blocks.Steps.{steps_of}
 use Rattle.ffs_volume.specs.Blocks.BlockCheck.{count_lines}
@@ -10,6 +9,7 @@ use Rattle.ffs_phase.proofs.Reporting.{of_part, of_fault, of_says, of_stops}
 use Rattle.ffs_workspace.specs.Holds.{claims_of}
 use Rattle.ffs_claims.specs.Lines.{of_lines, counted_owner}
 use Rattle.ffs_claims.proofs.Inodes.{class_said, class_stopped, count_right}
+use Rattle.ffs_claims.proofs.Weights.{used_below}
 use Rattle.ffs_claims.proofs.Frames.{ready_begun, ready_stored}
 use Rattle.ffs_claims.proofs.claim.claim_read_inode.Goals as goal
 
@@ -22,7 +22,7 @@ returns-in_err-say_class-clause-text g c =
 pub returns-in_err-say_class-clause-bound : goal.returns-in_err-say_class-clause-bound
 returns-in_err-say_class-clause-bound g c =
     let same = ap (λ w. w.runs_seen) c.begin.ensures in
-    omega (arith, same, count_by-le-length (λ b. b) (claims_of c.args.workspace.now).used, length_bits c.args.workspace.now.claimed.words.items c.args.workspace.now.claimed.size ∙ c.requires.ready.made.claimed)
+    omega (arith, same, used_below c.args.geometry.now.layout c.args.workspace.now c.requires.ready.made)
 
 pub returns-in_err-claim-clause-text : goal.returns-in_err-claim-clause-text
 returns-in_err-claim-clause-text g c =

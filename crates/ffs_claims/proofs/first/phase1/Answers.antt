@@ -1,8 +1,6 @@
 use Rattle.std.proofs.Common.{inl, inr, arith, refl, sym, ◌∷◌, ◌+◌, ◌≤◌, ◌<◌, [], List, ap, ◌∙◌, Err, false}
 use Rattle.std.proofs.lemmas.Bool.{cases_lt}
 use Rattle.std.proofs.lemmas.Result.{err_from_is_err_and}
-use Rattle.std.proofs.lemmas.List.Sums.{count_by-le-length}
-use Rattle.ffs_maps.proofs.Bits.{length_bits}
 use Rattle.ffs_phase.proofs.Reporting.{of_begins, of_says, of_part, of_fault, of_stops, of_same, reports_knowing, said_knows}
 use Rattle.ffs_volume.specs.Blocks.BlockCheck.{owner_lines, owners_lines, phase1_lines}
 use Rattle.ffs_volume.specs.Blocks.Claims.{Claims, after_owner}
@@ -15,6 +13,7 @@ use Rattle.ffs_volume.specs.Encodings.Kinds.{kind_at}
 use Rattle.ffs_workspace.specs.Lengths.{inodes_of}
 use Rattle.ffs_claims.specs.Lines.{of_lines, owners_from}
 use Rattle.ffs_claims.proofs.Doubles.{dups_are}
+use Rattle.ffs_claims.proofs.Weights.{used_below}
 use Rattle.ffs_claims.proofs.Frames.{ready_still}
 use Rattle.ffs_claims.proofs.Numbers.{before_next, before_first, before_end, lines_next, lines_end, filled_next, filled_end, filled_begin, is_inside, is_outside, kind_out, kind_in, mark_out, mark_in, cut_out, cut_in, first_lines}
 use Rattle.ffs_claims.proofs.first.phase1.Goals as goal
@@ -57,8 +56,7 @@ claim_inode-requires-clause-runs g c =
       c.args.geometry.now.sound.numbers.inodes_below,
       c.args.geometry.now.sound.numbers.size_below,
       c.loop-number-test.true,
-      count_by-le-length (λ b. b) (claims_of c.loop-number.workspace).used,
-      length_bits c.loop-number.workspace.claimed.words.items c.loop-number.workspace.claimed.size ∙ inv.ready.made.claimed,
+      used_below c.args.geometry.now.layout c.loop-number.workspace inv.ready.made,
     )
 
 pub returns-in_err-claim_inode-clause-text : goal.returns-in_err-claim_inode-clause-text
@@ -139,11 +137,10 @@ returns-clause-holds g c = λ bytes k.
 pub returns-clause-runs : goal.returns-clause-runs
 returns-clause-runs g c =
     let inv = c.loop-number.invariant in
-    let used = count_by-le-length (λ b. b) (claims_of c.loop-number.workspace).used in
-    let size = length_bits c.loop-number.workspace.claimed.words.items c.loop-number.workspace.claimed.size ∙ inv.ready.made.claimed in
+    let used = used_below c.args.geometry.now.layout c.loop-number.workspace inv.ready.made in
     elim (cases_lt 2 c.loop-number.number) [
-      | inl h ↦ let most : c.loop-number.number ≤ inodes_of c.args.geometry.now.layout = inv.high h in omega (arith, inv.runs, most, used, size)
-      | inr h ↦ omega (arith, inv.runs, used, size)
+      | inl h ↦ let most : c.loop-number.number ≤ inodes_of c.args.geometry.now.layout = inv.high h in omega (arith, inv.runs, most, used)
+      | inr h ↦ omega (arith, inv.runs, used)
     ]
 
 pub returns-clause-count : goal.returns-clause-count

@@ -17,7 +17,8 @@ use Rattle.ffs_claims.specs.Reporting.{after_first}
 use Rattle.ffs_claims.proofs.Numbers.{is_inside}
 use Rattle.ffs_claims.proofs.Frames.{claims_then, ready_unseen}
 use Rattle.ffs_claims.proofs.Rescanned.{kept_next, kept_end, runs_on, runs_most, claims_hold, reported_same, all_lines, all_kept, lines_split}
-use Rattle.ffs_claims.proofs.Rewalks.{reporting_over, lines_over}
+use Rattle.ffs_claims.proofs.Rewalks.{reporting_over}
+use Rattle.ffs_claims.proofs.Doubles.{none_first}
 use Rattle.ffs_claims.proofs.Reportings.{reporting_more, reporting_ends, reporting_same}
 use Rattle.ffs_phase.specs.Known.{ForBytes, IsContents}
 use Rattle.ffs_workspace.specs.Holds.{HoldsPhase1}
@@ -59,7 +60,7 @@ returns-then-workspace-eq0-clause-text g c =
     let inv = c.loop-number.invariant in
     let none : set_count (bits_of c.loop-number.workspace.duplicates) ≡ 0 = sym inv.ready.made.unreported ∙ c.if-workspace-eq0.true in
     of_same _ _ (λ bytes. []) _ _ _ inv.said
-    (λ bytes k. lines_over (bits_of c.loop-number.workspace.duplicates) (kept_in_owners v (claims_before v bytes c.loop-number.number) (owners_from v bytes c.loop-number.number)) none)
+    (λ bytes k. ap of_lines (none_first (bits_of c.loop-number.workspace.duplicates) (kept_in_owners v (claims_before v bytes c.loop-number.number) (owners_from v bytes c.loop-number.number)) none))
 
 pub returns-then-workspace-eq0-clause-holds : goal.returns-then-workspace-eq0-clause-holds
 returns-then-workspace-eq0-clause-holds g c = λ bytes k.
@@ -124,7 +125,7 @@ loop-number-preserved g c =
     let on : ForBytes (λ bytes. IsContents (g.I.Image.device c.args.image.now).contents bytes × HoldsPhase1 v bytes c.args.workspace.now) (λ bytes.
     looked_at d (owners_runs v (claims_before v bytes n) (owners_from v bytes n))
     ≡ looked_at d (steps_runs_again v n (rescan (slice_index cuts n)) (steps_of v (inode_of v bytes n) bytes)) + looked_at d' (owners_runs v (claims_before v bytes (n + 1)) (owners_from v bytes (n + 1)))) =
-    λ bytes k. looked_on v bytes cuts n d d' c.args.geometry.now.sound inv.low lt inside (cut ∙ k.1.cut n) (c.in_ok-renumbered.ensures.reported bytes (image ∙ k.0)).dup in
+    λ bytes k. looked_on v bytes cuts n d d' c.args.geometry.now.sound inv.low lt inside (cut ∙ k.1.cut n) (c.in_ok-renumbered.ensures.rewalked bytes (image ∙ k.0)).reported.dup in
     record {
       ready = c.renumbered.ensures.ready;
       device = c.in_ok-renumbered.ensures.image ∙ inv.device;
@@ -135,13 +136,13 @@ loop-number-preserved g c =
       count = λ bytes k.
           let fits : c.loop-number.workspace.runs_again + looked_at d (steps_runs_again v n (rescan (slice_index cuts n)) (steps_of v (inode_of v bytes n) bytes)) < 2 ^ 64 =
           omega (arith, inv.count bytes k, look_fits v bytes c.args.geometry.now.sound, on bytes k) in
-          omega (arith, inv.count bytes k, on bytes k, (c.in_ok-renumbered.ensures.count bytes (image ∙ k.0)) fits);
+          omega (arith, inv.count bytes k, on bytes k, (c.in_ok-renumbered.ensures.rewalked bytes (image ∙ k.0)).count fits);
       reported = λ bytes k. reporting_more _ (offers_again v n (rescan (slice_index cuts n)) (steps_of v (inode_of v bytes n) bytes)) (kept_in_owners v (claims_before v bytes (n + 1)) (owners_from v bytes (n + 1))) _ _ _ _
-          (inv.reported bytes k) (kept_next v bytes cuts n c.args.geometry.now.sound inv.low lt inside (cut ∙ k.1.cut n)) (c.in_ok-renumbered.ensures.reported bytes (image ∙ k.0));
+          (inv.reported bytes k) (kept_next v bytes cuts n c.args.geometry.now.sound inv.low lt inside (cut ∙ k.1.cut n)) (c.in_ok-renumbered.ensures.rewalked bytes (image ∙ k.0)).reported;
       said = of_part _ (λ bytes. of_lines (first_offer_lines d (kept_in_owners v (claims_before v bytes n) (owners_from v bytes n))))
           (λ bytes. of_lines (first_offer_lines d (offers_again v n (rescan (slice_index cuts n)) (steps_of v (inode_of v bytes n) bytes))))
           (λ bytes. of_lines (first_offer_lines d' (kept_in_owners v (claims_before v bytes (n + 1)) (owners_from v bytes (n + 1))))) _ _ _ _ inv.said
-          (λ bytes k. lines_split d d' _ _ _ (kept_next v bytes cuts n c.args.geometry.now.sound inv.low lt inside (cut ∙ k.1.cut n)) (c.in_ok-renumbered.ensures.reported bytes (image ∙ k.0)).dup)
+          (λ bytes k. lines_split d d' _ _ _ (kept_next v bytes cuts n c.args.geometry.now.sound inv.low lt inside (cut ∙ k.1.cut n)) (c.in_ok-renumbered.ensures.rewalked bytes (image ∙ k.0)).reported.dup)
           (said_knows _ _ _ _ _ _ (λ bytes k. image ∙ k.0) c.in_ok-renumbered.ensures.text);
     }
 
