@@ -23,16 +23,27 @@ pub found_none : (w : Workspace) → SameFound w w
 found_none w = record { kinds = refl; marked = refl; cut = refl; again = refl }
 
 pub found_then : (u v w : Workspace) → SameFound u v → SameFound v w → SameFound u w
-found_then u v w p q = record { kinds = q.kinds ∙ p.kinds; marked = q.marked ∙ p.marked; cut = q.cut ∙ p.cut; again = q.again ∙ p.again }
+found_then u v w p q = record {
+  kinds = q.kinds ∙ p.kinds;
+  marked = q.marked ∙ p.marked;
+  cut = q.cut ∙ p.cut;
+  again = q.again ∙ p.again;
+}
 
 pub claims_then : (u v w : Workspace) → SameClaims u v → SameClaims v w → SameClaims u w
-claims_then u v w p q = record { claimed = q.claimed ∙ p.claimed; kinds = q.kinds ∙ p.kinds; cut = q.cut ∙ p.cut; seen = q.seen ∙ p.seen }
+claims_then u v w p q = record {
+  claimed = q.claimed ∙ p.claimed;
+  kinds = q.kinds ∙ p.kinds;
+  cut = q.cut ∙ p.cut;
+  seen = q.seen ∙ p.seen;
+}
 
 -- the windows are no part of it
 pub found_still : (u w : Workspace) (windows : Windows) → SameFound u w → SameFound u (record w { windows = windows })
 found_still u w windows p = record { kinds = p.kinds; marked = p.marked; cut = p.cut; again = p.again }
 
-pub claims_still : (u w : Workspace) (windows : Windows) → SameClaims u w → SameClaims u (record w { windows = windows })
+pub claims_still : (u w : Workspace) (windows : Windows) → SameClaims u w →
+    SameClaims u (record w { windows = windows })
 claims_still u w windows p = record { claimed = p.claimed; kinds = p.kinds; cut = p.cut; seen = p.seen }
 
 pub claims_none : (w : Workspace) → SameClaims w w
@@ -42,16 +53,25 @@ pub only_none : (l : Layout) (w : Workspace) → IsFor l w → ClaimsOnly l w w
 only_none l w made = record { made = made; windows = refl; found = found_none w }
 
 pub only_then : (l : Layout) (u v w : Workspace) → ClaimsOnly l u v → ClaimsOnly l v w → ClaimsOnly l u w
-only_then l u v w p q = record { made = q.made; windows = q.windows ∙ p.windows; found = found_then u v w p.found q.found }
+only_then l u v w p q = record {
+  made = q.made;
+  windows = q.windows ∙ p.windows;
+  found = found_then u v w p.found q.found;
+}
 
 pub reports_none : (l : Layout) (w : Workspace) → IsFor l w → ReportsOnly l w w
 reports_none l w made = record { made = made; windows = refl; claims = claims_none w }
 
 pub reports_then : (l : Layout) (u v w : Workspace) → ReportsOnly l u v → ReportsOnly l v w → ReportsOnly l u w
-reports_then l u v w p q = record { made = q.made; windows = q.windows ∙ p.windows; claims = claims_then u v w p.claims q.claims }
+reports_then l u v w p q = record {
+  made = q.made;
+  windows = q.windows ∙ p.windows;
+  claims = claims_then u v w p.claims q.claims;
+}
 
 -- it stays ready where its windows are as they were
-pub ready_still : (l : Layout) (d : Device) (u w : Workspace) → IsFor l w → w.windows ≡ u.windows → IsReady l d u → IsReady l d w
+pub ready_still : (l : Layout) (d : Device) (u w : Workspace) → IsFor l w → w.windows ≡ u.windows → IsReady l d u →
+    IsReady l d w
 ready_still l d u w made e r = record {
   made = made;
   volume = r.volume;
@@ -59,7 +79,8 @@ ready_still l d u w made e r = record {
 }
 
 -- and where an indirect block was read, or couldn't be
-pub ready_read : (l : Layout) (d d' : Device) (w : Workspace) (b : Blocks) → d'.contents ≡ d.contents → d'.size ≡ d.size →
+pub ready_read : (l : Layout) (d d' : Device) (w : Workspace) (b : Blocks) → d'.contents ≡ d.contents →
+    d'.size ≡ d.size →
     vec_len b.buffer ≡ vec_len w.windows.blocks.buffer → BlocksHold l d'.contents b → IsReady l d w →
     IsReady l d' (record w { windows = record w.windows { blocks = b } })
 ready_read l d d' w b e size room holds r =
@@ -75,10 +96,12 @@ ready_read l d d' w b e size room holds r =
 pub ready_walked : (g k : Geometry) (d d' : Device) (w : Workspace) (b : Blocks) → k ≡ g → d' ≡ d →
     vec_len b.buffer ≡ vec_len w.windows.blocks.buffer → BlocksHold k.layout d'.contents b → IsReady g.layout d w →
     IsReady g.layout d' (record w { windows = record w.windows { blocks = b } })
-ready_walked g k d d' w b e same room holds r = ready_read g.layout d d' w b (ap (λ x. x.contents) same) (ap (λ x. x.size) same) room (rw e at holds) r
+ready_walked g k d d' w b e same room holds r = ready_read g.layout d d' w b (ap (λ x. x.contents) same)
+    (ap (λ x. x.size) same) room (rw e at holds) r
 
 -- or a block of the inode table
-pub ready_table : (l : Layout) (d d' : Device) (w : Workspace) (t : Table) → d'.contents ≡ d.contents → d'.size ≡ d.size →
+pub ready_table : (l : Layout) (d d' : Device) (w : Workspace) (t : Table) → d'.contents ≡ d.contents →
+    d'.size ≡ d.size →
     vec_len t.window.buffer ≡ l.bsize → WindowHolds d'.contents t.window → IsReady l d w →
     IsReady l d' (record w { windows = record w.windows { table = t } })
 ready_table l d d' w t e size room holds r =
@@ -90,27 +113,32 @@ ready_table l d d' w t e size room holds r =
     }
 
 -- or where an inode begins
-pub ready_begun : (l : Layout) (d : Device) (u w : Workspace) → w ≡ record u { bad = 0; dups = 0; kept = 0; tail = false } → IsReady l d u → IsReady l d w
+pub ready_begun : (l : Layout) (d : Device) (u w : Workspace) →
+    w ≡ record u { bad = 0; dups = 0; kept = 0; tail = false } → IsReady l d u → IsReady l d w
 ready_begun l d u w e r =
     let m = r.made in
     let h = r.windows in
     rw e (record { made = search rules; volume = r.volume; windows = search rules })
 
 -- or its second count of Runs changes
-pub ready_unseen : (l : Layout) (d : Device) (w : Workspace) (runs : ℕ) → IsReady l d w → IsReady l d (record w { runs_again = runs })
+pub ready_unseen : (l : Layout) (d : Device) (w : Workspace) (runs : ℕ) → IsReady l d w →
+    IsReady l d (record w { runs_again = runs })
 ready_unseen l d w runs r =
     let m = r.made in
     let h = r.windows in
     record { made = search rules; volume = r.volume; windows = search rules }
 
-stored_length : {T : Type 0} (old new : Vec T Global) (number : ℕ) (x : T) (n : ℕ) → vec_len old ≡ n → new.items ≡ slice_set old.items number x → vec_len new ≡ n
+stored_length : {T : Type 0} (old new : Vec T Global) (number : ℕ) (x : T) (n : ℕ) → vec_len old ≡ n →
+    new.items ≡ slice_set old.items number x → vec_len new ≡ n
 stored_length old new number x n e s = omega (arith, ap length s, length-set old.items number x, old.ok, new.ok, e)
 
 -- or what was found of one is kept
-pub ready_stored : (l : Layout) (d : Device) (number : ℕ) (class : Class) (i : Inode) (u w : Workspace) → Stored number class i u w →
+pub ready_stored : (l : Layout) (d : Device) (number : ℕ) (class : Class) (i : Inode) (u w : Workspace) →
+    Stored number class i u w →
     w ≡ record u { kinds = w.kinds; marked = w.marked; cut = w.cut } → IsReady l d u → IsReady l d w
 ready_stored l d number class i u w s e r =
     let m = r.made in
+    let same : w.windows ≡ u.windows = ap (λ x. x.windows) e in
     record {
       made = record {
         claimed = ap (λ x. x.claimed.size) e ∙ m.claimed;
@@ -130,5 +158,9 @@ ready_stored l d number class i u w s e r =
         chunk = ap (λ x. vec_len x.windows.chunk.buffer) e ∙ m.chunk;
       };
       volume = r.volume;
-      windows = record { table = rw (ap (λ x. x.windows) e) r.windows.table; blocks = rw (ap (λ x. x.windows) e) r.windows.blocks; chunk = rw (ap (λ x. x.windows) e) r.windows.chunk };
+      windows = record {
+        table = rw same r.windows.table;
+        blocks = rw same r.windows.blocks;
+        chunk = rw same r.windows.chunk;
+      };
     }

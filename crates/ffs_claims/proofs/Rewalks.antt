@@ -84,7 +84,8 @@ gaps_seen v r zero R = refl
 gaps_seen v r (suc n) R = omega (arith, gaps_seen v r n R)
 
 -- where a second walk is, with the steps R that are left to it: what it reported, and how many Runs it looked at
-pub record Rewalking (v : Layout) (i cut : ℕ) (all : List Step) (r : Rescan) (R : List Step) (u w : Workspace) : Type 0 where
+pub record Rewalking (v : Layout) (i cut : ℕ) (all : List Step) (r : Rescan) (R : List Step) (u w : Workspace) :
+    Type 0 where
   pub reported : Reporting (offers_again v i r R) (offers_again v i (rescan cut) all) u w
   pub runs : w.runs_again + runs_again v r R ≤ u.runs_again + runs_again v (rescan cut) all
   pub count : RoseBy u.runs_again (w.runs_again + looked_at (bits_of w.duplicates) (steps_runs_again v i r R))
@@ -93,17 +94,31 @@ pub record Rewalking (v : Layout) (i cut : ℕ) (all : List Step) (r : Rescan) (
 pub rewalk_begins : (v : Layout) (i cut : ℕ) (all : List Step) (r : Rescan) (R : List Step) (w : Workspace) →
     r ≡ rescan cut → R ≡ all → Rewalking v i cut all r R w w
 rewalk_begins v i cut all r R w e same =
-    rw (e, same) (record { reported = reporting_begins (offers_again v i (rescan cut) all) w; runs = omega arith; count = λ _. refl })
+    rw (e, same) (record {
+      reported = reporting_begins (offers_again v i (rescan cut) all) w;
+      runs = omega arith;
+      count = λ _. refl;
+    })
 
-pub rewalk_on : (v : Layout) (i cut : ℕ) (all : List Step) (step : Step) (r r' : Rescan) (R R' : List Step) (u w : Workspace) (windows : Windows) (w' : Workspace) →
+pub rewalk_on : (v : Layout) (i cut : ℕ) (all : List Step) (step : Step) (r r' : Rescan) (R R' : List Step)
+    (u w : Workspace) (windows : Windows) (w' : Workspace) →
     R ≡ step ∷ R' → r' ≡ again v r step → is_going r ≡ true → set_count (bits_of w.duplicates) ≢ 0 →
-    OffersReported (step_offers_again v i r step) (record w { windows = windows }) w' → w'.runs_again ≤ w.runs_again + run_seen r step →
-    RoseBy w.runs_again w'.runs_again (run_seen r step) → Rewalking v i cut all r R u w → Rewalking v i cut all r' R' u w'
+    OffersReported (step_offers_again v i r step) (record w { windows = windows }) w' →
+    w'.runs_again ≤ w.runs_again + run_seen r step →
+    RoseBy w.runs_again w'.runs_again (run_seen r step) → Rewalking v i cut all r R u w →
+    Rewalking v i cut all r' R' u w'
 rewalk_on v i cut all step r r' R R' u w windows w' e now going some p most exact t = record {
   reported = reporting_on v i r r' step R R' (offers_again v i (rescan cut) all) u w w' e now t.reported
       (reported_from (step_offers_again v i r step) w (record w { windows = windows }) w' p refl refl);
   runs = omega (arith, t.runs, most, runs_next v r r' step R R' e now);
-  count = λ h. omega (arith, h, t.count h, exact, looked_next v i r r' step R R' (bits_of w.duplicates) (bits_of w'.duplicates) e now going some p.dup);
+  count = λ h. omega (
+    arith,
+    h,
+    t.count h,
+    exact,
+    looked_next v i r r' step R R' (bits_of w.duplicates)
+        (bits_of w'.duplicates) e now going some p.dup,
+  );
 }
 
 pub rewalk_gaps : (v : Layout) (i cut : ℕ) (all : List Step) (r : Rescan) (n : ℕ) (R R' : List Step) (u w : Workspace) →
@@ -119,14 +134,17 @@ rewalk_gaps v i cut all r n R R' u w e t =
     }
 
 -- it is over where no step is left to see, and where nothing is left to report
-pub rewalk_ends : (v : Layout) (i cut : ℕ) (all : List Step) (r : Rescan) (R : List Step) (u w : Workspace) → offers_again v i r R ≡ [] →
-    looked_at (bits_of w.duplicates) (steps_runs_again v i r R) ≡ 0 → Rewalking v i cut all r R u w → Rewalked v i cut all u w
+pub rewalk_ends : (v : Layout) (i cut : ℕ) (all : List Step) (r : Rescan) (R : List Step) (u w : Workspace) →
+    offers_again v i r R ≡ [] →
+    looked_at (bits_of w.duplicates) (steps_runs_again v i r R) ≡ 0 → Rewalking v i cut all r R u w →
+    Rewalked v i cut all u w
 rewalk_ends v i cut all r R u w none unseen t = record {
   reported = reporting_ends _ _ _ _ t.reported none;
   count = λ h. omega (arith, t.count h, unseen);
 }
 
-pub rewalk_over : (v : Layout) (i cut : ℕ) (all : List Step) (r : Rescan) (R : List Step) (u w : Workspace) → set_count (bits_of w.duplicates) ≡ 0 →
+pub rewalk_over : (v : Layout) (i cut : ℕ) (all : List Step) (r : Rescan) (R : List Step) (u w : Workspace) →
+    set_count (bits_of w.duplicates) ≡ 0 →
     Rewalking v i cut all r R u w → Rewalked v i cut all u w
 rewalk_over v i cut all r R u w e t = record {
   reported = reporting_over _ _ u w e t.reported;
@@ -134,21 +152,29 @@ rewalk_over v i cut all r R u w e t = record {
 }
 
 -- the windows are no part of it
-pub rewalked_to : (v : Layout) (i cut : ℕ) (all : List Step) (u w : Workspace) (windows : Windows) → Rewalked v i cut all u w → Rewalked v i cut all u (record w { windows = windows })
+pub rewalked_to : (v : Layout) (i cut : ℕ) (all : List Step) (u w : Workspace) (windows : Windows) →
+    Rewalked v i cut all u w → Rewalked v i cut all u (record w { windows = windows })
 rewalked_to v i cut all u w windows p = record { reported = reported_to _ u w _ p.reported refl refl; count = p.count }
 
-pub rewalked_from : (v : Layout) (i cut : ℕ) (all : List Step) (u w : Workspace) (windows : Windows) → Rewalked v i cut all (record u { windows = windows }) w → Rewalked v i cut all u w
-rewalked_from v i cut all u w windows p = record { reported = reported_from _ u (record u { windows = windows }) w p.reported refl refl; count = p.count }
+pub rewalked_from : (v : Layout) (i cut : ℕ) (all : List Step) (u w : Workspace) (windows : Windows) →
+    Rewalked v i cut all (record u { windows = windows }) w → Rewalked v i cut all u w
+rewalked_from v i cut all u w windows p =
+    record { reported = reported_from _ u (record u { windows = windows }) w p.reported refl refl; count = p.count }
 
 -- a step more is reported
-pub rewalk_said : (knows : List ℕ → Type 0) (v : Layout) (i : ℕ) (r r' : Rescan) (step : Step) (R R' : List ℕ → List Step) (d d' : List Bool)
+pub rewalk_said : (knows : List ℕ → Type 0) (v : Layout) (i : ℕ) (r r' : Rescan) (step : Step) (R R' : List ℕ →
+    List Step) (d d' : List Bool)
     (rest : List ℕ → List BlockMessage) (all : List ℕ → List Message) (a b c : Progress) →
     SaidOf knows (λ bytes. of_lines (first_offer_lines d (offers_again v i r (R bytes)))) all a b →
-    ForBytes knows (λ bytes. R bytes ≡ step ∷ R' bytes) → r' ≡ again v r step → d' ≡ after_first d (step_offers_again v i r step) →
+    ForBytes knows (λ bytes. R bytes ≡ step ∷ R' bytes) → r' ≡ again v r step →
+    d' ≡ after_first d (step_offers_again v i r step) →
     ForBytes knows (λ bytes. first_offer_lines d' (offers_again v i r' (R' bytes)) ≡ rest bytes) →
-    Said b c (of_lines (first_offer_lines d (step_offers_again v i r step))) → SaidOf knows (λ bytes. of_lines (rest bytes)) all a c
+    Said b c (of_lines (first_offer_lines d (step_offers_again v i r step))) →
+    SaidOf knows (λ bytes. of_lines (rest bytes)) all a c
 rewalk_said knows v i r r' step R R' d d' rest all a b c said next now after same out =
-    of_same knows (λ bytes. of_lines (first_offer_lines d' (offers_again v i r' (R' bytes)))) (λ bytes. of_lines (rest bytes)) all a c
-    (of_says knows _ (λ bytes. of_lines (first_offer_lines d' (offers_again v i r' (R' bytes)))) all (of_lines (first_offer_lines d (step_offers_again v i r step))) a b c said
+    of_same knows (λ bytes. of_lines (first_offer_lines d' (offers_again v i r' (R' bytes))))
+    (λ bytes. of_lines (rest bytes)) all a c
+    (of_says knows _ (λ bytes. of_lines (first_offer_lines d' (offers_again v i r' (R' bytes)))) all
+    (of_lines (first_offer_lines d (step_offers_again v i r step))) a b c said
     (λ bytes t. lines_step v i r r' step (R bytes) (R' bytes) d d' (next bytes t) now after) out)
     (λ bytes t. ap of_lines (same bytes t))

@@ -23,7 +23,8 @@ pub record SameFound (old new : Workspace) : Type 0 where
   pub cut : new.cut ≡ old.cut
   pub again : new.runs_again ≡ old.runs_again
 
--- the claims changed, and nothing else: the lists have their lengths, and the windows and what was found are as they were
+-- the claims changed, and nothing else: the lists have their lengths, and the windows and what was found are as they
+-- were
 pub record ClaimsOnly (v : Layout) (old new : Workspace) : Type 0 where
   pub made : IsFor v new
   pub windows : new.windows ≡ old.windows

@@ -64,4 +64,5 @@ RoseBy old new more = old + more < 2 ^ 64 → new ≡ old + more
 -- counted up to the one that reports the last of the marked fragments
 pub record Rewalked (v : Layout) (inode cut : ℕ) (steps : List Step) (old new : Workspace) : Type 0 where
   pub reported : OffersReported (offers_again v inode (rescan cut) steps) old new
-  pub count : RoseBy old.runs_again new.runs_again (looked_at (bits_of old.duplicates) (steps_runs_again v inode (rescan cut) steps))
+  pub count : RoseBy old.runs_again new.runs_again (looked_at (bits_of old.duplicates)
+      (steps_runs_again v inode (rescan cut) steps))

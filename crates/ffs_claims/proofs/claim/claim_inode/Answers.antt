@@ -46,9 +46,11 @@ inode-requires g c =
 pub returns-in_err-inode-clause-ready : goal.returns-in_err-inode-clause-ready
 returns-in_err-inode-clause-ready g c =
     let err = c.in_err-inode.ensures.err in
-    ready_table c.args.geometry.now.layout (g.I.Image.device c.args.image.now) _ c.args.workspace.now c.inode.new.self err.contents err.size c.inode.ensures.room c.inode.ensures.holds c.requires.ready
+    ready_table c.args.geometry.now.layout (g.I.Image.device c.args.image.now) _ c.args.workspace.now c.inode.new.self
+    err.contents err.size c.inode.ensures.room c.inode.ensures.holds c.requires.ready
 
 pub claim_read_inode-requires-clause-ready : goal.claim_read_inode-requires-clause-ready
 claim_read_inode-requires-clause-ready g c =
     let ok = c.in_ok-inode.ensures.ok in
-    ready_table c.args.geometry.now.layout (g.I.Image.device c.args.image.now) _ c.args.workspace.now c.inode.new.self (ap (λ d. d.contents) ok) (ap (λ d. d.size) ok) c.inode.ensures.room c.inode.ensures.holds c.requires.ready
+    ready_table c.args.geometry.now.layout (g.I.Image.device c.args.image.now) _ c.args.workspace.now c.inode.new.self
+    (ap (λ d. d.contents) ok) (ap (λ d. d.size) ok) c.inode.ensures.room c.inode.ensures.holds c.requires.ready

@@ -32,7 +32,8 @@ returns-in_err-claim-clause-text g c =
     rw (p.1, p.2) (of_fault (Unit {0}) (Unit {0}) _ _ (λ bytes. of_lines (steps_lines v c.args.number s1 (steps_of v c.args.inode.now bytes)))
     (λ bytes. of_lines (count_lines v (counted_owner c.args.number c.class_of-class.result c.args.inode.now.blocks) (after_steps v s1 (steps_of v c.args.inode.now bytes))))
     _ _ _ _ _
-    (class_said _ v c.args.number c.args.inode.now (claims_of c.args.workspace.now) s1 c.class_of-class.result _ _ (ap claims_of c.begin.ensures) c.class_of-class.ensures c.in_ok-say_class.ensures)
+    (class_said _ v c.args.number c.args.inode.now (claims_of c.args.workspace.now) s1 c.class_of-class.result _ _
+    (ap claims_of c.begin.ensures) c.class_of-class.ensures c.in_ok-say_class.ensures)
     (λ bytes t. refl) c.in_err-claim.ensures.text)
 
 pub returns-in_err-say_count-clause-text : goal.returns-in_err-say_count-clause-text
@@ -43,7 +44,8 @@ returns-in_err-say_count-clause-text g c =
     rw (p.1, p.2) (of_stops _ _ (λ bytes. []) _ (of_lines (count_lines v (counted_owner c.args.number c.class_of-class.result c.args.inode.now.blocks) (claims_of c.claim.new.workspace))) _ _ _
     (of_part _ _ (λ bytes. of_lines (steps_lines v c.args.number s1 (steps_of v c.args.inode.now bytes)))
     (λ bytes. of_lines (count_lines v (counted_owner c.args.number c.class_of-class.result c.args.inode.now.blocks) (after_steps v s1 (steps_of v c.args.inode.now bytes)))) _ _ _ _
-    (class_said _ v c.args.number c.args.inode.now (claims_of c.args.workspace.now) s1 c.class_of-class.result _ _ (ap claims_of c.begin.ensures) c.class_of-class.ensures c.in_ok-say_class.ensures)
+    (class_said _ v c.args.number c.args.inode.now (claims_of c.args.workspace.now) s1 c.class_of-class.result _ _
+    (ap claims_of c.begin.ensures) c.class_of-class.ensures c.in_ok-say_class.ensures)
     (λ bytes t. refl) c.in_ok-claim.ensures.text)
     (count_right _ v c.args.number c.args.inode.now s1 (claims_of c.claim.new.workspace) c.class_of-class.result c.in_ok-claim.ensures.claims)
     c.in_err-say_count.ensures)
@@ -55,7 +57,8 @@ returns-clause-text g c =
     of_says _ _ (λ bytes. []) _ (of_lines (count_lines v (counted_owner c.args.number c.class_of-class.result c.args.inode.now.blocks) (claims_of c.claim.new.workspace))) _ _ _
     (of_part _ _ (λ bytes. of_lines (steps_lines v c.args.number s1 (steps_of v c.args.inode.now bytes)))
     (λ bytes. of_lines (count_lines v (counted_owner c.args.number c.class_of-class.result c.args.inode.now.blocks) (after_steps v s1 (steps_of v c.args.inode.now bytes)))) _ _ _ _
-    (class_said _ v c.args.number c.args.inode.now (claims_of c.args.workspace.now) s1 c.class_of-class.result _ _ (ap claims_of c.begin.ensures) c.class_of-class.ensures c.in_ok-say_class.ensures)
+    (class_said _ v c.args.number c.args.inode.now (claims_of c.args.workspace.now) s1 c.class_of-class.result _ _
+    (ap claims_of c.begin.ensures) c.class_of-class.ensures c.in_ok-say_class.ensures)
     (λ bytes t. refl) c.in_ok-claim.ensures.text)
     (count_right _ v c.args.number c.args.inode.now s1 (claims_of c.claim.new.workspace) c.class_of-class.result c.in_ok-claim.ensures.claims)
     c.in_ok-say_count.ensures
@@ -64,7 +67,8 @@ pub say_count-requires : goal.say_count-requires
 say_count-requires g c =
     let m = c.in_ok-claim.ensures.moves in
     let used : length (claims_of c.claim.new.workspace).used ≡ c.args.geometry.now.layout.size =
-    length_bits c.claim.new.workspace.claimed.words.items c.claim.new.workspace.claimed.size ∙ c.claim.ensures.ready.made.claimed in
+    length_bits c.claim.new.workspace.claimed.words.items c.claim.new.workspace.claimed.size
+    ∙ c.claim.ensures.ready.made.claimed in
     let bad = ap (λ w. w.bad) c.begin.ensures in
     let dups = ap (λ w. w.dups) c.begin.ensures in
     let none = ap (λ w. w.kept) c.begin.ensures in
@@ -75,10 +79,15 @@ say_count-requires g c =
     )
 
 pub claim-requires-clause-ready : goal.claim-requires-clause-ready
-claim-requires-clause-ready g c = ready_begun c.args.geometry.now.layout (g.I.Image.device c.args.image.now) c.args.workspace.now c.begin.new.workspace c.begin.ensures c.requires.ready
+claim-requires-clause-ready g c = ready_begun c.args.geometry.now.layout (g.I.Image.device c.args.image.now)
+    c.args.workspace.now c.begin.new.workspace c.begin.ensures c.requires.ready
 
 pub claim-requires-clause-begun : goal.claim-requires-clause-begun
-claim-requires-clause-begun g c = record { bad = ap (λ w. w.bad) c.begin.ensures; dups = ap (λ w. w.dups) c.begin.ensures; kept = ap (λ w. w.kept) c.begin.ensures }
+claim-requires-clause-begun g c = record {
+  bad = ap (λ w. w.bad) c.begin.ensures;
+  dups = ap (λ w. w.dups) c.begin.ensures;
+  kept = ap (λ w. w.kept) c.begin.ensures;
+}
 
 pub claim-requires-clause-runs : goal.claim-requires-clause-runs
 claim-requires-clause-runs g c = let same = ap (λ w. w.runs_seen) c.begin.ensures in omega (arith, same)
@@ -86,16 +95,25 @@ claim-requires-clause-runs g c = let same = ap (λ w. w.runs_seen) c.begin.ensur
 pub store-requires : goal.store-requires
 store-requires g c =
     let made = c.claim.ensures.ready.made in
-    record { number = record { kinds = omega (arith, made.kinds); marked = omega (arith, made.marked); cut = omega (arith, made.cut) } }
+    record {
+      number = record {
+        kinds = omega (arith, made.kinds);
+        marked = omega (arith, made.marked);
+        cut = omega (arith, made.cut);
+      };
+    }
 
 pub returns-in_err-say_class-clause-ready : goal.returns-in_err-say_class-clause-ready
-returns-in_err-say_class-clause-ready g c = ready_begun c.args.geometry.now.layout (g.I.Image.device c.args.image.now) c.args.workspace.now c.begin.new.workspace c.begin.ensures c.requires.ready
+returns-in_err-say_class-clause-ready g c = ready_begun c.args.geometry.now.layout (g.I.Image.device c.args.image.now)
+    c.args.workspace.now c.begin.new.workspace c.begin.ensures c.requires.ready
 
 pub returns-clause-claims : goal.returns-clause-claims
 returns-clause-claims g c = λ bytes t.
     ap claims_of c.store.ensures.rest ∙ c.in_ok-claim.ensures.claims bytes t
-    ∙ ap (λ (s : Claims). after_steps c.args.geometry.now.layout s (steps_of c.args.geometry.now.layout c.args.inode.now bytes)) (ap claims_of c.begin.ensures)
+    ∙ ap (λ (s : Claims). after_steps c.args.geometry.now.layout s
+    (steps_of c.args.geometry.now.layout c.args.inode.now bytes)) (ap claims_of c.begin.ensures)
 
 pub returns-clause-ready : goal.returns-clause-ready
 returns-clause-ready g c =
-    ready_stored c.args.geometry.now.layout (g.I.Image.device c.claim.new.image) c.args.number _ _ c.claim.new.workspace c.store.new.workspace c.store.ensures.stored c.store.ensures.rest c.claim.ensures.ready
+    ready_stored c.args.geometry.now.layout (g.I.Image.device c.claim.new.image) c.args.number _ _ c.claim.new.workspace
+    c.store.new.workspace c.store.ensures.stored c.store.ensures.rest c.claim.ensures.ready

@@ -97,11 +97,14 @@ loop-number-preserved g c =
       again = c.claim_inode.ensures.again ∙ inv.again;
       claims = λ bytes k. now bytes (contents ∙ k.0) ∙ ap (λ (t : Claims). after_owner v t (owner_of v bytes n)) (inv.claims bytes k) ∙ sym (before_next v bytes n inv.low);
       kinds = λ bytes k. filled_next 0 (kind_at v bytes) c.loop-number.workspace.kinds.items c.claim_inode.new.workspace.kinds.items n _
-          (omega (arith, inv.ready.made.kinds)) (stored bytes (contents ∙ k.0)).kinds (kind_in v bytes n inside) (inv.kinds bytes k);
+          (omega (arith, inv.ready.made.kinds)) (stored bytes (contents ∙ k.0)).kinds (kind_in v bytes n inside)
+          (inv.kinds bytes k);
       marked = λ bytes k. filled_next false (first_marked_at v bytes) c.loop-number.workspace.marked.items c.claim_inode.new.workspace.marked.items n _
-          (omega (arith, inv.ready.made.marked)) (stored bytes (contents ∙ k.0)).marked (mark_in v bytes n s s' inside (inv.claims bytes k) (now bytes (contents ∙ k.0))) (inv.marked bytes k);
+          (omega (arith, inv.ready.made.marked)) (stored bytes (contents ∙ k.0)).marked
+          (mark_in v bytes n s s' inside (inv.claims bytes k) (now bytes (contents ∙ k.0))) (inv.marked bytes k);
       cut = λ bytes k. filled_next 0 (cut_at v bytes) c.loop-number.workspace.cut.items c.claim_inode.new.workspace.cut.items n _
-          (omega (arith, inv.ready.made.cut)) (stored bytes (contents ∙ k.0)).cut (cut_in v bytes n s s' inside (inv.claims bytes k) (now bytes (contents ∙ k.0))) (inv.cut bytes k);
+          (omega (arith, inv.ready.made.cut)) (stored bytes (contents ∙ k.0)).cut
+          (cut_in v bytes n s s' inside (inv.claims bytes k) (now bytes (contents ∙ k.0))) (inv.cut bytes k);
       said = of_same _ (λ bytes. of_lines (owners_lines v (after_owner v s (owner_of v bytes n)) (owners_from v bytes (n + 1)))) (λ bytes. of_lines (owners_lines v s' (owners_from v bytes (n + 1)))) _ _ _
           (of_part _ (λ bytes. of_lines (owners_lines v s (owners_from v bytes n))) (λ bytes. of_lines (owner_lines v s (owner_of v bytes n)))
           (λ bytes. of_lines (owners_lines v (after_owner v s (owner_of v bytes n)) (owners_from v bytes (n + 1)))) _ _ _ _ inv.said
@@ -139,7 +142,8 @@ returns-clause-runs g c =
     let inv = c.loop-number.invariant in
     let used = used_below c.args.geometry.now.layout c.loop-number.workspace inv.ready.made in
     elim (cases_lt 2 c.loop-number.number) [
-      | inl h ↦ let most : c.loop-number.number ≤ inodes_of c.args.geometry.now.layout = inv.high h in omega (arith, inv.runs, most, used)
+      | inl h ↦ let most : c.loop-number.number ≤ inodes_of c.args.geometry.now.layout = inv.high h in omega
+          (arith, inv.runs, most, used)
       | inr h ↦ omega (arith, inv.runs, used)
     ]
 
@@ -149,7 +153,9 @@ returns-clause-count g c = λ bytes k. (returns-clause-holds g c bytes k).runs
 
 pub returns-clause-dups : goal.returns-clause-dups
 returns-clause-dups g c = λ bytes k.
-    dups_are c.args.geometry.now.layout bytes c.loop-number.workspace c.loop-number.invariant.ready.made.unreported (returns-clause-holds g c bytes k)
+    dups_are c.args.geometry.now.layout bytes c.loop-number.workspace c.loop-number.invariant.ready.made.unreported
+    (returns-clause-holds g c bytes k)
 
 pub returns-in_err-say-clause-ready : goal.returns-in_err-say-clause-ready
-returns-in_err-say-clause-ready g c = ready_still c.args.geometry.now.layout _ _ _ c.reserve.ensures.only.made c.reserve.ensures.only.windows c.requires.ready
+returns-in_err-say-clause-ready g c = ready_still c.args.geometry.now.layout _ _ _ c.reserve.ensures.only.made
+    c.reserve.ensures.only.windows c.requires.ready

@@ -20,10 +20,12 @@ returns-in_err-offer-clause-said g c =
 
 pub returns-in_err-offer-clause-runs : goal.returns-in_err-offer-clause-runs
 returns-in_err-offer-clause-runs g c =
-    offer_runs c.args.geometry.now.layout (claims_of c.loop-place.workspace) (claims_of c.offer.new.workspace) _ c.offer.ensures.claims ∙ c.loop-place.invariant.runs
+    offer_runs c.args.geometry.now.layout (claims_of c.loop-place.workspace) (claims_of c.offer.new.workspace)
+    _ c.offer.ensures.claims ∙ c.loop-place.invariant.runs
 
 pub returns-in_err-offer-clause-only : goal.returns-in_err-offer-clause-only
-returns-in_err-offer-clause-only g c = only_then c.args.geometry.now.layout _ _ _ c.loop-place.invariant.only c.offer.ensures.only
+returns-in_err-offer-clause-only g c = only_then c.args.geometry.now.layout _ _ _ c.loop-place.invariant.only
+    c.offer.ensures.only
 
 pub loop-place-preserved : goal.loop-place-preserved
 loop-place-preserved g c =
@@ -32,8 +34,14 @@ loop-place-preserved g c =
     let now = c.offer.ensures.claims in
     record {
       only = only_then c.args.geometry.now.layout _ _ _ inv.only c.offer.ensures.only;
-      runs = offer_runs c.args.geometry.now.layout (claims_of c.loop-place.workspace) (claims_of c.offer.new.workspace) f now ∙ inv.runs;
-      kept = omega (arith, inv.kept, offer_kept c.args.geometry.now.layout (claims_of c.loop-place.workspace) (claims_of c.offer.new.workspace) f now);
+      runs = offer_runs c.args.geometry.now.layout (claims_of c.loop-place.workspace) (claims_of c.offer.new.workspace)
+          f now ∙ inv.runs;
+      kept = omega (
+        arith,
+        inv.kept,
+        offer_kept c.args.geometry.now.layout (claims_of c.loop-place.workspace)
+            (claims_of c.offer.new.workspace) f now,
+      );
       claims = inv.claims ∙ offers_after c.args.geometry.now.layout (claims_of c.loop-place.workspace) (claims_of c.offer.new.workspace) c.args.start c.args.len c.loop-place.place f
           c.loop-place-test.true (omega arith) c.offer.ensures.claims;
       said = to_says _ _ _ (of_lines (offer_lines c.args.geometry.now.layout c.args.number (claims_of c.loop-place.workspace) f)) _ _ _ inv.said

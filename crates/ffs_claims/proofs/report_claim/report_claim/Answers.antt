@@ -29,13 +29,21 @@ pub overflow_sub-workspace : goal.overflow_sub-workspace
 overflow_sub-workspace g c =
     let old = c.args.workspace.now.duplicates in
     let size = length_bits c.args.workspace.now.duplicates.words.items c.args.workspace.now.duplicates.size ∙ c.requires.made.duplicates in
-    omega (arith, c.requires.made.unreported, count_clear (bits_of c.args.workspace.now.duplicates) c.args.fragment (omega (arith, size)) (sym c.get.ensures ∙ c.if-not-get.false))
+    omega (
+      arith,
+      c.requires.made.unreported,
+      count_clear (bits_of c.args.workspace.now.duplicates) c.args.fragment
+          (omega (arith, size)) (sym c.get.ensures ∙ c.if-not-get.false),
+    )
 
 pub returns-clause-only : goal.returns-clause-only
 returns-clause-only g c =
     let m = c.requires.made in
-    let size = length_bits c.args.workspace.now.duplicates.words.items c.args.workspace.now.duplicates.size ∙ m.duplicates in
-    let one = count_clear (bits_of c.args.workspace.now.duplicates) c.args.fragment (omega (arith, size)) (sym c.get.ensures ∙ c.if-not-get.false) in
-    let count : c.args.workspace.now.unreported - 1 ≡ set_count (bits_of c.clear.new.self) = omega (arith, m.unreported, ap set_count c.clear.ensures.bits, one) in
+    let size = length_bits c.args.workspace.now.duplicates.words.items c.args.workspace.now.duplicates.size
+    ∙ m.duplicates in
+    let one = count_clear (bits_of c.args.workspace.now.duplicates) c.args.fragment (omega (arith, size))
+    (sym c.get.ensures ∙ c.if-not-get.false) in
+    let count : c.args.workspace.now.unreported - 1 ≡ set_count (bits_of c.clear.new.self) = omega
+    (arith, m.unreported, ap set_count c.clear.ensures.bits, one) in
     let kept = c.clear.ensures.size ∙ m.duplicates in
     search rules

@@ -37,7 +37,8 @@ returns-in_err-report_claim-clause-said g c =
     c.in_err-report_claim.ensures.said)
 
 pub returns-in_err-report_claim-clause-only : goal.returns-in_err-report_claim-clause-only
-returns-in_err-report_claim-clause-only g c = reports_then c.args.geometry.now.layout _ _ _ c.loop-place.invariant.only c.report_claim.ensures.only
+returns-in_err-report_claim-clause-only g c = reports_then c.args.geometry.now.layout _ _ _ c.loop-place.invariant.only
+    c.report_claim.ensures.only
 
 pub loop-place-preserved : goal.loop-place-preserved
 loop-place-preserved g c =

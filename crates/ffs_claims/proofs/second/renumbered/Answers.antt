@@ -28,9 +28,14 @@ returns-clause-text g c =
     let v = c.args.geometry.now.layout in
     let n = c.args.number in
     let d = bits_of c.args.workspace.now.duplicates in
-    reports_same (Unit {0}) _ (λ bytes. of_lines (first_offer_lines d (offers_again v n (rescan (slice_index c.as_slice.result.now c.args.number)) (steps_of v c.in_ok-inode.inode bytes))))
+    reports_same (Unit {0}) _
+    (λ bytes. of_lines (first_offer_lines d
+    (offers_again v n (rescan (slice_index c.as_slice.result.now c.args.number))
+    (steps_of v c.in_ok-inode.inode bytes))))
     (λ bytes. of_lines (first_offer_lines d (offers_again v n (rescan (slice_index c.args.workspace.now.cut.items n)) (steps_of v (inode_of v bytes n) bytes)))) _ _ c.rewalk.result
-    (λ bytes t. ap (λ (k : ℕ). of_lines (first_offer_lines d (offers_again v n (rescan k) (steps_of v c.in_ok-inode.inode bytes)))) (ap (λ (cuts : List ℕ). slice_index cuts c.args.number) c.as_slice.ensures.value)
+    (λ bytes t. ap (λ (k : ℕ). of_lines
+    (first_offer_lines d (offers_again v n (rescan k) (steps_of v c.in_ok-inode.inode bytes))))
+    (ap (λ (cuts : List ℕ). slice_index cuts c.args.number) c.as_slice.ensures.value)
     ∙ ap (λ (i : Inode). of_lines (first_offer_lines d (offers_again v n (rescan (slice_index c.args.workspace.now.cut.items n)) (steps_of v i bytes)))) (c.in_ok-inode.ensures.inode bytes t))
     (reports_knowing (Unit {0}) _ _ _ _ _ c.rewalk.result (λ bytes t. ap (λ d. d.contents) c.in_ok-inode.ensures.ok ∙ t) c.rewalk.ensures.text)
 
@@ -40,10 +45,14 @@ returns-clause-rewalked g c =
     let n = c.args.number in
     let w = c.args.workspace.now in
     let i = c.in_ok-inode.inode in
-    let cut : slice_index c.as_slice.result.now c.args.number ≡ slice_index c.args.workspace.now.cut.items c.args.number = ap (λ (cuts : List ℕ). slice_index cuts c.args.number) c.as_slice.ensures.value in
+    let cut : slice_index c.as_slice.result.now c.args.number ≡ slice_index c.args.workspace.now.cut.items
+    c.args.number = ap (λ (cuts : List ℕ). slice_index cuts c.args.number) c.as_slice.ensures.value in
     ok_where c.rewalk.result _ _
-    (λ bytes. Rewalked v n (slice_index c.as_slice.result.now n) (steps_of v c.in_ok-inode.inode bytes) (record c.args.workspace.now { windows = record c.args.workspace.now.windows { table = c.inode.new.self } }) c.rewalk.new.workspace)
-    (λ bytes. Rewalked v n (slice_index c.args.workspace.now.cut.items n) (steps_of v (inode_of v bytes n) bytes) c.args.workspace.now c.rewalk.new.workspace)
+    (λ bytes. Rewalked v n (slice_index c.as_slice.result.now n) (steps_of v c.in_ok-inode.inode bytes)
+    (record c.args.workspace.now { windows = record c.args.workspace.now.windows { table = c.inode.new.self } })
+    c.rewalk.new.workspace)
+    (λ bytes. Rewalked v n (slice_index c.args.workspace.now.cut.items n) (steps_of v (inode_of v bytes n) bytes)
+    c.args.workspace.now c.rewalk.new.workspace)
     (ap (λ d. d.contents) c.in_ok-inode.ensures.ok)
     (λ bytes t h. rewalked_from _ _ _ _ c.args.workspace.now _ _ (rw (cut, c.in_ok-inode.ensures.inode bytes t) at h))
     c.rewalk.ensures.rewalked
@@ -52,8 +61,11 @@ pub returns-clause-runs : goal.returns-clause-runs
 returns-clause-runs g c = λ bytes t.
     let v = c.args.geometry.now.layout in
     let n = c.args.number in
-    let same : runs_again v (rescan (slice_index c.as_slice.result.now c.args.number)) (steps_of v c.in_ok-inode.inode bytes) ≡ runs_again v (rescan (slice_index c.args.workspace.now.cut.items n)) (steps_of v (inode_of v bytes n) bytes) =
-    ap (λ (k : ℕ). runs_again v (rescan k) (steps_of v c.in_ok-inode.inode bytes)) (ap (λ (cuts : List ℕ). slice_index cuts c.args.number) c.as_slice.ensures.value)
+    let same : runs_again v (rescan (slice_index c.as_slice.result.now c.args.number))
+    (steps_of v c.in_ok-inode.inode bytes) ≡ runs_again v (rescan (slice_index c.args.workspace.now.cut.items n))
+    (steps_of v (inode_of v bytes n) bytes) =
+    ap (λ (k : ℕ). runs_again v (rescan k) (steps_of v c.in_ok-inode.inode bytes))
+    (ap (λ (cuts : List ℕ). slice_index cuts c.args.number) c.as_slice.ensures.value)
     ∙ ap (λ (i : Inode). runs_again v (rescan (slice_index c.args.workspace.now.cut.items n)) (steps_of v i bytes)) (c.in_ok-inode.ensures.inode bytes t) in
     omega (arith, c.rewalk.ensures.runs bytes (ap (λ d. d.contents) c.in_ok-inode.ensures.ok ∙ t), same)
 
@@ -65,9 +77,11 @@ inode-requires g c =
 pub returns-in_err-inode-clause-ready : goal.returns-in_err-inode-clause-ready
 returns-in_err-inode-clause-ready g c =
     let err = c.in_err-inode.ensures.err in
-    ready_table c.args.geometry.now.layout (g.I.Image.device c.args.image.now) _ c.args.workspace.now c.inode.new.self err.contents err.size c.inode.ensures.room c.inode.ensures.holds c.requires.ready
+    ready_table c.args.geometry.now.layout (g.I.Image.device c.args.image.now) _ c.args.workspace.now c.inode.new.self
+    err.contents err.size c.inode.ensures.room c.inode.ensures.holds c.requires.ready
 
 pub rewalk-requires-clause-ready : goal.rewalk-requires-clause-ready
 rewalk-requires-clause-ready g c =
     let ok = c.in_ok-inode.ensures.ok in
-    ready_table c.args.geometry.now.layout (g.I.Image.device c.args.image.now) _ c.args.workspace.now c.inode.new.self (ap (λ d. d.contents) ok) (ap (λ d. d.size) ok) c.inode.ensures.room c.inode.ensures.holds c.requires.ready
+    ready_table c.args.geometry.now.layout (g.I.Image.device c.args.image.now) _ c.args.workspace.now c.inode.new.self
+    (ap (λ d. d.contents) ok) (ap (λ d. d.size) ok) c.inode.ensures.room c.inode.ensures.holds c.requires.ready

@@ -32,11 +32,15 @@ loop-next-init g c =
       geometry = c.start-walk.ensures.geometry;
       device = refl;
       claims = claims_none c.args.workspace.now;
-      walk = λ bytes t. rewalk_begins v n c.args.cut (steps_of v c.args.inode.now bytes) c.start-rescan.result (rest bytes c.start-walk.result) c.args.workspace.now
+      walk = λ bytes t. rewalk_begins v n c.args.cut (steps_of v c.args.inode.now bytes) c.start-rescan.result
+          (rest bytes c.start-walk.result) c.args.workspace.now
           begun (c.start-walk.ensures.steps bytes);
-      said = of_same _ _ _ _ _ _ (of_begins _ (λ bytes. of_lines (first_offer_lines d (offers_again v n (rescan c.args.cut) (steps_of v c.args.inode.now bytes)))) _)
+      said = of_same _ _ _ _ _ _
+          (of_begins _ (λ bytes. of_lines
+          (first_offer_lines d (offers_again v n (rescan c.args.cut) (steps_of v c.args.inode.now bytes)))) _)
           (λ bytes t. ap (λ (os : List Offer). of_lines (first_offer_lines d os))
-          (ap (λ (x : Rescan). offers_again v n x (steps_of v c.args.inode.now bytes)) (sym begun) ∙ ap (offers_again v n c.start-rescan.result) (sym (c.start-walk.ensures.steps bytes))));
+          (ap (λ (x : Rescan). offers_again v n x (steps_of v c.args.inode.now bytes)) (sym begun)
+          ∙ ap (offers_again v n c.start-rescan.result) (sym (c.start-walk.ensures.steps bytes))));
     }
 
 pub next-requires : goal.next-requires
@@ -58,7 +62,8 @@ returns-in_err-next g c =
       text = of_reads _ _ _ _ _ inv.said;
       rewalked = tt;
       runs = λ bytes t. omega (arith, (inv.walk bytes t).runs);
-      ready = ready_read c.args.geometry.now.layout _ (g.I.Image.device c.next.new.image) c.loop-next.workspace c.next.new.blocks
+      ready = ready_read c.args.geometry.now.layout _ (g.I.Image.device c.next.new.image)
+          c.loop-next.workspace c.next.new.blocks
           err.contents err.size c.next.ensures.size (rw inv.geometry at c.next.ensures.holds) inv.ready;
       claims = claims_still _ _ _ inv.claims;
     })
@@ -66,7 +71,8 @@ returns-in_err-next g c =
 pub report_again-requires-clause-made : goal.report_again-requires-clause-made
 report_again-requires-clause-made g c =
     let inv = c.loop-next.invariant in
-    let read = ready_walked c.args.geometry.now _ _ _ c.loop-next.workspace c.next.new.blocks inv.geometry c.in_ok-next.ensures.ok c.next.ensures.size c.next.ensures.holds inv.ready in
+    let read = ready_walked c.args.geometry.now _ _ _ c.loop-next.workspace c.next.new.blocks inv.geometry
+    c.in_ok-next.ensures.ok c.next.ensures.size c.next.ensures.holds inv.ready in
     read.made
 
 pub returns-in_err-report_again : goal.returns-in_err-report_again
@@ -81,16 +87,24 @@ returns-in_err-report_again g c =
     let ok = c.in_ok-next.ensures.ok in
     let next : ForBytes (IsContents (g.I.Image.device c.args.image.now).contents) (λ bytes. rest bytes c.loop-next.walk ≡ c.in-Some.next ∷ rest bytes c.next.new.self) =
     rw (inv.device, c.in-Some.is) at c.in_ok-next.ensures.steps in
-    let read = ready_walked c.args.geometry.now _ _ _ c.loop-next.workspace c.next.new.blocks inv.geometry ok c.next.ensures.size c.next.ensures.holds inv.ready in
+    let read = ready_walked c.args.geometry.now _ _ _ c.loop-next.workspace c.next.new.blocks inv.geometry ok
+    c.next.ensures.size c.next.ensures.holds inv.ready in
     let only = c.report_again.ensures.only in
     rw (p.1, p.2) (record {
       image = ok ∙ inv.device;
-      text = of_stops _ _ (λ bytes. of_lines (first_offer_lines (after_first d (step_offers_again v n r step)) (offers_again v n (again v r step) (rest bytes c.next.new.self)))) _
+      text = of_stops _ _ (λ bytes. of_lines (first_offer_lines (after_first d (step_offers_again v n r step))
+          (offers_again v n (again v r step) (rest bytes c.next.new.self)))) _
           (of_lines (first_offer_lines d (step_offers_again v n r step))) _ _ _ inv.said
           (λ bytes t. lines_step v n r (again v r step) step (rest bytes c.loop-next.walk) (rest bytes c.next.new.self) d (after_first d (step_offers_again v n r step)) (next bytes t) refl refl)
           c.in_err-report_again.ensures.said;
       rewalked = tt;
-      runs = λ bytes t. omega (arith, (inv.walk bytes t).runs, c.report_again.ensures.runs, runs_next v r (again v r step) step (rest bytes c.loop-next.walk) (rest bytes c.next.new.self) (next bytes t) refl);
+      runs = λ bytes t. omega (
+        arith,
+        (inv.walk bytes t).runs,
+        c.report_again.ensures.runs,
+        runs_next v r
+            (again v r step) step (rest bytes c.loop-next.walk) (rest bytes c.next.new.self) (next bytes t) refl,
+      );
       ready = ready_still v _ _ _ only.made only.windows read;
       claims = claims_then _ _ _ (claims_still _ _ _ inv.claims) only.claims;
     })
@@ -98,7 +112,8 @@ returns-in_err-report_again g c =
 pub skip_gaps-requires : goal.skip_gaps-requires
 skip_gaps-requires g c =
     let inv = c.loop-next.invariant in
-    record { room = record { blocks_fit = rw (c.in_ok-next.ensures.geometry ∙ inv.geometry, c.report_again.ensures.only.made.blocks) (omega arith) } }
+    let same = c.in_ok-next.ensures.geometry ∙ inv.geometry in
+    record { room = record { blocks_fit = rw (same, c.report_again.ensures.only.made.blocks) (omega arith) } }
 
 pub loop-next-preserved : goal.loop-next-preserved
 loop-next-preserved g c =
@@ -113,10 +128,14 @@ loop-next-preserved g c =
     let only = c.report_again.ensures.only in
     let next : ForBytes (IsContents (g.I.Image.device c.args.image.now).contents) (λ bytes. rest bytes c.loop-next.walk ≡ c.in-Some.next ∷ rest bytes c.next.new.self) =
     rw (inv.device, c.in-Some.is) at c.in_ok-next.ensures.steps in
-    let read = ready_walked c.args.geometry.now _ _ _ c.loop-next.workspace c.next.new.blocks inv.geometry ok c.next.ensures.size c.next.ensures.holds inv.ready in
-    let ready : IsReady v (g.I.Image.device c.next.new.image) c.report_again.new.workspace = ready_still v _ _ _ only.made only.windows read in
+    let read = ready_walked c.args.geometry.now _ _ _ c.loop-next.workspace c.next.new.blocks inv.geometry ok
+    c.next.ensures.size c.next.ensures.holds inv.ready in
+    let ready : IsReady v (g.I.Image.device c.next.new.image) c.report_again.new.workspace =
+    ready_still v _ _ _ only.made only.windows read in
     let gaps : ForBytes (IsContents (g.I.Image.device c.args.image.now).contents) (λ bytes. rest bytes c.next.new.self ≡ replicate c.skip_gaps.result Gap ++ rest bytes c.skip_gaps.new.self) =
-    λ bytes t. c.skip_gaps.ensures.steps (g.I.Image.device c.next.new.image).contents (rw (c.in_ok-next.ensures.geometry ∙ inv.geometry) ready.windows.blocks) bytes (ap (λ d. d.contents) (ok ∙ inv.device) ∙ t) in
+    λ bytes t. c.skip_gaps.ensures.steps (g.I.Image.device c.next.new.image).contents
+    (rw (c.in_ok-next.ensures.geometry ∙ inv.geometry) ready.windows.blocks) bytes
+    (ap (λ d. d.contents) (ok ∙ inv.device) ∙ t) in
     record {
       ready = ready;
       going = sym c.is_going.ensures ∙ c.if-not-is_going.false;
@@ -124,12 +143,18 @@ loop-next-preserved g c =
       geometry = c.skip_gaps.ensures.geometry ∙ c.in_ok-next.ensures.geometry ∙ inv.geometry;
       device = ok ∙ inv.device;
       claims = claims_then _ _ _ (claims_still _ _ _ inv.claims) only.claims;
-      walk = λ bytes t. rewalk_gaps _ _ _ _ r' c.skip_gaps.result (rest bytes c.next.new.self) (rest bytes c.skip_gaps.new.self) _ _ (gaps bytes t)
-          (rewalk_on _ _ _ _ c.in-Some.next c.loop-next.rescan r' (rest bytes c.loop-next.walk) (rest bytes c.next.new.self) _ c.loop-next.workspace _ c.report_again.new.workspace
-          (next bytes t) now inv.going (λ e. inv.pending (inv.ready.made.unreported ∙ e)) c.in_ok-report_again.ensures.reported c.report_again.ensures.runs c.report_again.ensures.count (inv.walk bytes t));
-      said = rewalk_said _ v n c.loop-next.rescan r' c.in-Some.next (λ bytes. rest bytes c.loop-next.walk) (λ bytes. rest bytes c.next.new.self) d d' _ _ _ _ _
+      walk = λ bytes t. rewalk_gaps _ _ _ _ r' c.skip_gaps.result (rest bytes c.next.new.self)
+          (rest bytes c.skip_gaps.new.self) _ _ (gaps bytes t)
+          (rewalk_on _ _ _ _ c.in-Some.next c.loop-next.rescan r' (rest bytes c.loop-next.walk)
+          (rest bytes c.next.new.self) _ c.loop-next.workspace _ c.report_again.new.workspace
+          (next bytes t) now inv.going (λ e. inv.pending (inv.ready.made.unreported ∙ e))
+          c.in_ok-report_again.ensures.reported c.report_again.ensures.runs c.report_again.ensures.count
+          (inv.walk bytes t));
+      said = rewalk_said _ v n c.loop-next.rescan r' c.in-Some.next (λ bytes. rest bytes c.loop-next.walk)
+          (λ bytes. rest bytes c.next.new.self) d d' _ _ _ _ _
           inv.said next now c.in_ok-report_again.ensures.reported.dup
-          (λ bytes t. ap (first_offer_lines d') (ap (offers_again v n r') (gaps bytes t) ∙ gaps_offer v n r' c.skip_gaps.result (rest bytes c.skip_gaps.new.self)))
+          (λ bytes t. ap (first_offer_lines d') (ap (offers_again v n r') (gaps bytes t)
+          ∙ gaps_offer v n r' c.skip_gaps.result (rest bytes c.skip_gaps.new.self)))
           c.in_ok-report_again.ensures.said;
     }
 
@@ -147,17 +172,25 @@ returns-then-not-is_going g c =
     let cut = sym c.is_going.ensures ∙ c.if-not-is_going.true in
     let next : ForBytes (IsContents (g.I.Image.device c.args.image.now).contents) (λ bytes. rest bytes c.loop-next.walk ≡ c.in-Some.next ∷ rest bytes c.next.new.self) =
     rw (inv.device, c.in-Some.is) at c.in_ok-next.ensures.steps in
-    let read = ready_walked c.args.geometry.now _ _ _ c.loop-next.workspace c.next.new.blocks inv.geometry ok c.next.ensures.size c.next.ensures.holds inv.ready in
+    let read = ready_walked c.args.geometry.now _ _ _ c.loop-next.workspace c.next.new.blocks inv.geometry ok
+    c.next.ensures.size c.next.ensures.holds inv.ready in
     let walk : ForBytes (IsContents (g.I.Image.device c.args.image.now).contents) (λ bytes.
-    Rewalking v n c.args.cut (steps_of v c.args.inode.now bytes) c.report_again.new.rescan (rest bytes c.next.new.self) c.args.workspace.now c.report_again.new.workspace) =
-    λ bytes t. rewalk_on _ _ _ _ c.in-Some.next c.loop-next.rescan r' (rest bytes c.loop-next.walk) (rest bytes c.next.new.self) _ c.loop-next.workspace _ c.report_again.new.workspace
-    (next bytes t) now inv.going (λ e. inv.pending (inv.ready.made.unreported ∙ e)) c.in_ok-report_again.ensures.reported c.report_again.ensures.runs c.report_again.ensures.count (inv.walk bytes t) in
+    Rewalking v n c.args.cut (steps_of v c.args.inode.now bytes) c.report_again.new.rescan (rest bytes c.next.new.self)
+    c.args.workspace.now c.report_again.new.workspace) =
+    λ bytes t. rewalk_on _ _ _ _ c.in-Some.next c.loop-next.rescan r' (rest bytes c.loop-next.walk)
+    (rest bytes c.next.new.self) _ c.loop-next.workspace _ c.report_again.new.workspace
+    (next bytes t) now inv.going (λ e. inv.pending (inv.ready.made.unreported ∙ e))
+    c.in_ok-report_again.ensures.reported c.report_again.ensures.runs c.report_again.ensures.count
+    (inv.walk bytes t) in
     record {
       image = ok ∙ inv.device;
-      text = rewalk_said _ v n c.loop-next.rescan r' c.in-Some.next (λ bytes. rest bytes c.loop-next.walk) (λ bytes. rest bytes c.next.new.self) d d' _ _ _ _ _
+      text = rewalk_said _ v n c.loop-next.rescan r' c.in-Some.next (λ bytes. rest bytes c.loop-next.walk)
+          (λ bytes. rest bytes c.next.new.self) d d' _ _ _ _ _
           inv.said next now c.in_ok-report_again.ensures.reported.dup
-          (λ bytes t. ap (first_offer_lines d') (offers_stopped v n r' (rest bytes c.next.new.self) cut)) c.in_ok-report_again.ensures.said;
-      rewalked = λ bytes t. rewalk_ends _ _ _ _ r' (rest bytes c.next.new.self) _ _ (offers_stopped v n r' (rest bytes c.next.new.self) cut)
+          (λ bytes t. ap (first_offer_lines d') (offers_stopped v n r' (rest bytes c.next.new.self) cut))
+          c.in_ok-report_again.ensures.said;
+      rewalked = λ bytes t. rewalk_ends _ _ _ _ r' (rest bytes c.next.new.self) _ _
+          (offers_stopped v n r' (rest bytes c.next.new.self) cut)
           (looked_stopped v n r' (rest bytes c.next.new.self) d' cut) (walk bytes t);
       runs = λ bytes t. omega (arith, (walk bytes t).runs);
       ready = ready_still v _ _ _ only.made only.windows read;
@@ -175,18 +208,27 @@ returns-then-workspace-eq0 g c =
     let ok = c.in_ok-next.ensures.ok in
     let now = c.in_ok-report_again.ensures.again in
     let only = c.report_again.ensures.only in
-    let none : set_count (bits_of c.report_again.new.workspace.duplicates) ≡ 0 = sym only.made.unreported ∙ c.if-workspace-eq0.true in
+    let none : set_count (bits_of c.report_again.new.workspace.duplicates) ≡ 0 = sym only.made.unreported
+    ∙ c.if-workspace-eq0.true in
     let next : ForBytes (IsContents (g.I.Image.device c.args.image.now).contents) (λ bytes. rest bytes c.loop-next.walk ≡ c.in-Some.next ∷ rest bytes c.next.new.self) =
     rw (inv.device, c.in-Some.is) at c.in_ok-next.ensures.steps in
-    let read = ready_walked c.args.geometry.now _ _ _ c.loop-next.workspace c.next.new.blocks inv.geometry ok c.next.ensures.size c.next.ensures.holds inv.ready in
+    let read = ready_walked c.args.geometry.now _ _ _ c.loop-next.workspace c.next.new.blocks inv.geometry ok
+    c.next.ensures.size c.next.ensures.holds inv.ready in
     let walk : ForBytes (IsContents (g.I.Image.device c.args.image.now).contents) (λ bytes.
-    Rewalking v n c.args.cut (steps_of v c.args.inode.now bytes) c.report_again.new.rescan (rest bytes c.next.new.self) c.args.workspace.now c.report_again.new.workspace) =
-    λ bytes t. rewalk_on _ _ _ _ c.in-Some.next c.loop-next.rescan r' (rest bytes c.loop-next.walk) (rest bytes c.next.new.self) _ c.loop-next.workspace _ c.report_again.new.workspace
-    (next bytes t) now inv.going (λ e. inv.pending (inv.ready.made.unreported ∙ e)) c.in_ok-report_again.ensures.reported c.report_again.ensures.runs c.report_again.ensures.count (inv.walk bytes t) in
+    Rewalking v n c.args.cut (steps_of v c.args.inode.now bytes) c.report_again.new.rescan (rest bytes c.next.new.self)
+    c.args.workspace.now c.report_again.new.workspace) =
+    λ bytes t. rewalk_on _ _ _ _ c.in-Some.next c.loop-next.rescan r' (rest bytes c.loop-next.walk)
+    (rest bytes c.next.new.self) _ c.loop-next.workspace _ c.report_again.new.workspace
+    (next bytes t) now inv.going (λ e. inv.pending (inv.ready.made.unreported ∙ e))
+    c.in_ok-report_again.ensures.reported c.report_again.ensures.runs c.report_again.ensures.count
+    (inv.walk bytes t) in
     record {
       image = ok ∙ inv.device;
-      text = rewalk_said _ v n c.loop-next.rescan r' c.in-Some.next (λ bytes. rest bytes c.loop-next.walk) (λ bytes. rest bytes c.next.new.self) d d' _ _ _ _ _
-          inv.said next now c.in_ok-report_again.ensures.reported.dup (λ bytes t. none_first d' (offers_again v n r' (rest bytes c.next.new.self)) none) c.in_ok-report_again.ensures.said;
+      text = rewalk_said _ v n c.loop-next.rescan r' c.in-Some.next (λ bytes. rest bytes c.loop-next.walk)
+          (λ bytes. rest bytes c.next.new.self) d d' _ _ _ _ _
+          inv.said next now c.in_ok-report_again.ensures.reported.dup
+          (λ bytes t. none_first d' (offers_again v n r' (rest bytes c.next.new.self)) none)
+          c.in_ok-report_again.ensures.said;
       rewalked = λ bytes t. rewalk_over _ _ _ _ r' (rest bytes c.next.new.self) _ _ none (walk bytes t);
       runs = λ bytes t. omega (arith, (walk bytes t).runs);
       ready = ready_still v _ _ _ only.made only.windows read;
@@ -203,14 +245,18 @@ returns-in_default g c =
     let ok = c.in_ok-next.ensures.ok in
     let over : ForBytes (IsContents (g.I.Image.device c.args.image.now).contents) (λ bytes. rest bytes c.loop-next.walk ≡ []) =
     rw (inv.device, c.in_default.is) at c.in_ok-next.ensures.steps in
-    let none : ForBytes (IsContents (g.I.Image.device c.args.image.now).contents) (λ bytes. offers_again v n c.loop-next.rescan (rest bytes c.loop-next.walk) ≡ []) =
+    let none : ForBytes (IsContents (g.I.Image.device c.args.image.now).contents)
+    (λ bytes. offers_again v n c.loop-next.rescan (rest bytes c.loop-next.walk) ≡ []) =
     λ bytes t. offers_none v n r (rest bytes c.loop-next.walk) (over bytes t) in
     record {
       image = ok ∙ inv.device;
-      text = of_same _ _ _ _ _ _ inv.said (λ bytes t. ap (λ (os : List Offer). of_lines (first_offer_lines d os)) (none bytes t));
+      text = of_same _ _ _ _ _ _ inv.said (λ bytes t. ap (λ (os : List Offer). of_lines (first_offer_lines d os))
+          (none bytes t));
       rewalked = λ bytes t. rewalked_to _ _ _ _ _ c.loop-next.workspace _
-          (rewalk_ends _ _ _ _ r (rest bytes c.loop-next.walk) _ _ (none bytes t) (looked_over v n r (rest bytes c.loop-next.walk) d (over bytes t)) (inv.walk bytes t));
+          (rewalk_ends _ _ _ _ r (rest bytes c.loop-next.walk) _ _ (none bytes t)
+          (looked_over v n r (rest bytes c.loop-next.walk) d (over bytes t)) (inv.walk bytes t));
       runs = λ bytes t. omega (arith, (inv.walk bytes t).runs);
-      ready = ready_walked c.args.geometry.now _ _ _ c.loop-next.workspace c.next.new.blocks inv.geometry ok c.next.ensures.size c.next.ensures.holds inv.ready;
+      ready = ready_walked c.args.geometry.now _ _ _ c.loop-next.workspace c.next.new.blocks inv.geometry ok
+          c.next.ensures.size c.next.ensures.holds inv.ready;
       claims = claims_still _ _ _ inv.claims;
     }

@@ -22,7 +22,8 @@ invariant-loop-next g l = record {
   device : g.I.Image.device l.image ≡ g.I.Image.device l.initial.image;
   claims : SameClaims l.initial.workspace l.workspace;
   walk : ForBytes (IsContents (g.I.Image.device l.initial.image).contents) (λ bytes.
-      Rewalking l.geometry.layout l.number l.cut (steps_of l.geometry.layout l.inode bytes) l.rescan (rest bytes l.walk) l.initial.workspace l.workspace);
+      Rewalking l.geometry.layout l.number l.cut (steps_of l.geometry.layout l.inode bytes) l.rescan
+      (rest bytes l.walk) l.initial.workspace l.workspace);
   said : SaidOf (IsContents (g.I.Image.device l.initial.image).contents)
       (λ bytes. of_lines (first_offer_lines (bits_of l.workspace.duplicates) (offers_again l.geometry.layout l.number l.rescan (rest bytes l.walk))))
       (λ bytes. of_lines (first_offer_lines (bits_of l.initial.workspace.duplicates) (offers_again l.geometry.layout l.number (rescan l.cut) (steps_of l.geometry.layout l.inode bytes))))
