@@ -1,4 +1,4 @@
-use Rattle.std.proofs.Common.{arith, refl, ◌≡◌, ◌<◌, ◌∙◌, ap, sym, List, ◌∷◌, ◌++◌, [], true, false, replicate}
+use Rattle.std.proofs.Common.{arith, refl, ◌≡◌, ◌<◌, ◌∙◌, ap, sym, List, ◌++◌, true, false, replicate}
 use Rattle.std.proofs.lemmas.Result.{err_from_is_err_and}
 use Rattle.ffs_walk.specs.Rests.{rest, left}
 use Rattle.ffs_maps.proofs.Bits.{length_bits}
@@ -10,7 +10,6 @@ use Rattle.ffs_volume.proofs.Weights.{stays, kept_bound}
 use Rattle.ffs_phase.specs.Known.{ForBytes, IsContents}
 use Rattle.ffs_phase.proofs.Reporting.{of_begins, of_stops, of_reads, of_same}
 use Rattle.ffs_workspace.specs.Holds.{claims_of}
-use Rattle.ffs_workspace.specs.Ready.{IsReady}
 use Rattle.ffs_claims.specs.Lines.{of_lines}
 use Rattle.ffs_claims.proofs.Weights.{moves_on, seen_bound, used_below}
 use Rattle.ffs_claims.proofs.Goes.{claims_on, lines_on, steps_said, cut_stays, cut_silent, gaps_stay, gaps_silent, no_steps}
@@ -123,8 +122,7 @@ returns-in_err-step g c =
     let inv = c.loop-next.invariant in
     let v = c.args.geometry.now.layout in
     let ok = c.in_ok-next.ensures.ok in
-    let next : ForBytes (IsContents (g.I.Image.device c.args.image.now).contents) (λ bytes. rest bytes c.loop-next.walk ≡ c.in-Some.next ∷ rest bytes c.next.new.self) =
-    rw (inv.device, c.in-Some.is) at c.in_ok-next.ensures.steps in
+    let next = rw (inv.device, c.in-Some.is) at c.in_ok-next.ensures.steps in
     let read = ready_walked c.args.geometry.now _ _ _ c.loop-next.workspace c.next.new.blocks inv.geometry ok
     c.next.ensures.size c.next.ensures.holds inv.ready in
     rw (p.1, p.2) (record {
@@ -158,12 +156,10 @@ loop-next-preserved g c =
     let v = c.args.geometry.now.layout in
     let s = claims_of c.step.new.workspace in
     let ok = c.in_ok-next.ensures.ok in
-    let next : ForBytes (IsContents (g.I.Image.device c.args.image.now).contents) (λ bytes. rest bytes c.loop-next.walk ≡ c.in-Some.next ∷ rest bytes c.next.new.self) =
-    rw (inv.device, c.in-Some.is) at c.in_ok-next.ensures.steps in
+    let next = rw (inv.device, c.in-Some.is) at c.in_ok-next.ensures.steps in
     let read = ready_walked c.args.geometry.now _ _ _ c.loop-next.workspace c.next.new.blocks inv.geometry ok
     c.next.ensures.size c.next.ensures.holds inv.ready in
-    let ready : IsReady v (g.I.Image.device c.next.new.image) c.step.new.workspace =
-    ready_still v _ _ _ c.step.ensures.only.made c.step.ensures.only.windows read in
+    let ready = ready_still v _ _ _ c.step.ensures.only.made c.step.ensures.only.windows read in
     let gaps : ForBytes (IsContents (g.I.Image.device c.args.image.now).contents) (λ bytes. rest bytes c.next.new.self ≡ replicate c.skip_gaps.result Gap ++ rest bytes c.skip_gaps.new.self) =
     λ bytes t. c.skip_gaps.ensures.steps (g.I.Image.device c.next.new.image).contents
     (rw (c.in_ok-next.ensures.geometry ∙ inv.geometry) ready.windows.blocks) bytes
@@ -201,8 +197,7 @@ returns-then-not-is_open g c =
     let s = claims_of c.step.new.workspace in
     let ok = c.in_ok-next.ensures.ok in
     let cut : is_open (claims_of c.step.new.workspace) ≡ false = sym c.is_open.ensures ∙ c.if-not-is_open.true in
-    let next : ForBytes (IsContents (g.I.Image.device c.args.image.now).contents) (λ bytes. rest bytes c.loop-next.walk ≡ c.in-Some.next ∷ rest bytes c.next.new.self) =
-    rw (inv.device, c.in-Some.is) at c.in_ok-next.ensures.steps in
+    let next = rw (inv.device, c.in-Some.is) at c.in_ok-next.ensures.steps in
     let read = ready_walked c.args.geometry.now _ _ _ c.loop-next.workspace c.next.new.blocks inv.geometry ok
     c.next.ensures.size c.next.ensures.holds inv.ready in
     record {
@@ -233,8 +228,7 @@ returns-in_default g c =
     let v = c.args.geometry.now.layout in
     let s = claims_of c.loop-next.workspace in
     let ok = c.in_ok-next.ensures.ok in
-    let over : ForBytes (IsContents (g.I.Image.device c.args.image.now).contents) (λ bytes. rest bytes c.loop-next.walk ≡ []) =
-    rw (inv.device, c.in_default.is) at c.in_ok-next.ensures.steps in
+    let over = rw (inv.device, c.in_default.is) at c.in_ok-next.ensures.steps in
     record {
       image = ok ∙ inv.device;
       text = of_same _ _ _ _ _ _ inv.said

@@ -1,4 +1,4 @@
-use Rattle.std.proofs.Common.{◌≡◌, ◌∷◌, ◌++◌, replicate, [], arith, refl, ap, ◌∙◌, sym, List}
+use Rattle.std.proofs.Common.{◌≡◌, ◌++◌, replicate, [], arith, refl, ap, ◌∙◌, sym, List}
 use Rattle.std.proofs.lemmas.Result.{err_from_is_err_and}
 use Rattle.ffs_volume.specs.declared.Step.TheVariants.{Gap}
 use Rattle.ffs_volume.specs.Blocks.BlockCheck.{Offer, first_offer_lines}
@@ -8,7 +8,6 @@ use Rattle.ffs_walk.specs.Rests.{rest}
 use Rattle.ffs_phase.specs.Known.{ForBytes, IsContents}
 use Rattle.ffs_phase.proofs.Reporting.{of_begins, of_stops, of_reads, of_same}
 use Rattle.ffs_workspace.specs.Lengths.{set_count}
-use Rattle.ffs_workspace.specs.Ready.{IsReady}
 use Rattle.ffs_claims.specs.declared.rescan.Rescan.{Rescan}
 use Rattle.ffs_claims.specs.Lines.{of_lines}
 use Rattle.ffs_claims.specs.Rescan.{rescan, again, step_offers_again, offers_again}
@@ -85,8 +84,7 @@ returns-in_err-report_again g c =
     let r = c.loop-next.rescan in
     let step = c.in-Some.next in
     let ok = c.in_ok-next.ensures.ok in
-    let next : ForBytes (IsContents (g.I.Image.device c.args.image.now).contents) (λ bytes. rest bytes c.loop-next.walk ≡ c.in-Some.next ∷ rest bytes c.next.new.self) =
-    rw (inv.device, c.in-Some.is) at c.in_ok-next.ensures.steps in
+    let next = rw (inv.device, c.in-Some.is) at c.in_ok-next.ensures.steps in
     let read = ready_walked c.args.geometry.now _ _ _ c.loop-next.workspace c.next.new.blocks inv.geometry ok
     c.next.ensures.size c.next.ensures.holds inv.ready in
     let only = c.report_again.ensures.only in
@@ -126,12 +124,10 @@ loop-next-preserved g c =
     let ok = c.in_ok-next.ensures.ok in
     let now = c.in_ok-report_again.ensures.again in
     let only = c.report_again.ensures.only in
-    let next : ForBytes (IsContents (g.I.Image.device c.args.image.now).contents) (λ bytes. rest bytes c.loop-next.walk ≡ c.in-Some.next ∷ rest bytes c.next.new.self) =
-    rw (inv.device, c.in-Some.is) at c.in_ok-next.ensures.steps in
+    let next = rw (inv.device, c.in-Some.is) at c.in_ok-next.ensures.steps in
     let read = ready_walked c.args.geometry.now _ _ _ c.loop-next.workspace c.next.new.blocks inv.geometry ok
     c.next.ensures.size c.next.ensures.holds inv.ready in
-    let ready : IsReady v (g.I.Image.device c.next.new.image) c.report_again.new.workspace =
-    ready_still v _ _ _ only.made only.windows read in
+    let ready = ready_still v _ _ _ only.made only.windows read in
     let gaps : ForBytes (IsContents (g.I.Image.device c.args.image.now).contents) (λ bytes. rest bytes c.next.new.self ≡ replicate c.skip_gaps.result Gap ++ rest bytes c.skip_gaps.new.self) =
     λ bytes t. c.skip_gaps.ensures.steps (g.I.Image.device c.next.new.image).contents
     (rw (c.in_ok-next.ensures.geometry ∙ inv.geometry) ready.windows.blocks) bytes
@@ -170,8 +166,7 @@ returns-then-not-is_going g c =
     let now = c.in_ok-report_again.ensures.again in
     let only = c.report_again.ensures.only in
     let cut = sym c.is_going.ensures ∙ c.if-not-is_going.true in
-    let next : ForBytes (IsContents (g.I.Image.device c.args.image.now).contents) (λ bytes. rest bytes c.loop-next.walk ≡ c.in-Some.next ∷ rest bytes c.next.new.self) =
-    rw (inv.device, c.in-Some.is) at c.in_ok-next.ensures.steps in
+    let next = rw (inv.device, c.in-Some.is) at c.in_ok-next.ensures.steps in
     let read = ready_walked c.args.geometry.now _ _ _ c.loop-next.workspace c.next.new.blocks inv.geometry ok
     c.next.ensures.size c.next.ensures.holds inv.ready in
     let walk : ForBytes (IsContents (g.I.Image.device c.args.image.now).contents) (λ bytes.
@@ -210,8 +205,7 @@ returns-then-workspace-eq0 g c =
     let only = c.report_again.ensures.only in
     let none : set_count (bits_of c.report_again.new.workspace.duplicates) ≡ 0 = sym only.made.unreported
     ∙ c.if-workspace-eq0.true in
-    let next : ForBytes (IsContents (g.I.Image.device c.args.image.now).contents) (λ bytes. rest bytes c.loop-next.walk ≡ c.in-Some.next ∷ rest bytes c.next.new.self) =
-    rw (inv.device, c.in-Some.is) at c.in_ok-next.ensures.steps in
+    let next = rw (inv.device, c.in-Some.is) at c.in_ok-next.ensures.steps in
     let read = ready_walked c.args.geometry.now _ _ _ c.loop-next.workspace c.next.new.blocks inv.geometry ok
     c.next.ensures.size c.next.ensures.holds inv.ready in
     let walk : ForBytes (IsContents (g.I.Image.device c.args.image.now).contents) (λ bytes.
@@ -243,8 +237,7 @@ returns-in_default g c =
     let d = bits_of c.loop-next.workspace.duplicates in
     let r = c.loop-next.rescan in
     let ok = c.in_ok-next.ensures.ok in
-    let over : ForBytes (IsContents (g.I.Image.device c.args.image.now).contents) (λ bytes. rest bytes c.loop-next.walk ≡ []) =
-    rw (inv.device, c.in_default.is) at c.in_ok-next.ensures.steps in
+    let over = rw (inv.device, c.in_default.is) at c.in_ok-next.ensures.steps in
     let none : ForBytes (IsContents (g.I.Image.device c.args.image.now).contents)
     (λ bytes. offers_again v n c.loop-next.rescan (rest bytes c.loop-next.walk) ≡ []) =
     λ bytes t. offers_none v n r (rest bytes c.loop-next.walk) (over bytes t) in
