@@ -26,7 +26,7 @@ pub record SameClaims (old new : Workspace) : Type 0 where
   pub cut : new.cut ≡ old.cut
   pub seen : new.runs_seen ≡ old.runs_seen
 
--- the fragments left to report and the marks changed, and nothing else but the Runs of phase 1b
+-- what reporting leaves: the lists have their lengths, and the windows, the claims and the Runs of phase 1 are as they were
 pub record ReportsOnly (v : Layout) (old new : Workspace) : Type 0 where
   pub made : IsFor v new
   pub windows : new.windows ≡ old.windows
