@@ -1,20 +1,23 @@
 -- How offers, steps and inodes continue.
-use Rattle.std.proofs.Common.{◌≡◌, ℕ, zero, suc, ◌+◌, ◌-◌, ◌<◌, Bool, true, false, ◌==◌, List, [], ◌∷◌, ◌++◌, arith, rules, refl, ap, ◌∙◌, sym, Result, slice_set, replicate}
+use Rattle.std.proofs.Common.{◌≡◌, ℕ, zero, suc, ◌+◌, ◌-◌, ◌<◌, ◌≤◌, nat_lt, Bool, true, false, ◌==◌, List, [], ◌∷◌, ◌++◌, arith, rules, refl, ap, ◌∙◌, sym, Result, slice_set, replicate}
 use Rattle.std.specs.List.{range_with_len, slice_index_or}
+use Rattle.std.proofs.lemmas.Bool.{and_parts}
 use Rattle.ffs_volume.specs.declared.Layout.{Layout}
 use Rattle.ffs_volume.specs.declared.Step.{Step}
 use Rattle.ffs_volume.specs.declared.Step.TheVariants.{Run, Tail, Gap}
 use Rattle.ffs_volume.specs.declared.BlockMessage.{BlockMessage}
 use Rattle.ffs_volume.specs.declared.Inode.{Inode}
 use Rattle.ffs_volume.specs.Blocks.Steps.{steps_of, walks}
-use Rattle.ffs_volume.specs.Disk.Areas.{is_in_range}
-use Rattle.ffs_volume.specs.Blocks.Claims.{Claims, is_open, after_offer, after_offers, after_step, after_steps, offer_lines, offers_lines, step_lines, steps_lines, run_lines}
+use Rattle.ffs_volume.specs.Disk.Areas.{is_data_fragment, is_in_range}
+use Rattle.ffs_volume.specs.Blocks.Claims.{Claims, is_open, is_set, after_offer, after_offers, after_step, after_steps, offer_lines, offers_lines, step_lines, steps_lines, run_lines}
+use Rattle.ffs_volume.proofs.Weights.{ok_below}
 use Rattle.ffs_volume.specs.Messages.Kinds.{Message, of_blocks}
 use Rattle.ffs_report.specs.Progress.{Progress, Said, Stopped, Says}
 use Rattle.ffs_report.proofs.Reports.{stopped_more, says_then}
 use Rattle.ffs_phase.specs.Known.{ForBytes}
-use Rattle.ffs_phase.specs.Runs.{SaidTo}
-use Rattle.ffs_claims.specs.Lines.{of_lines, bad_lines}
+use Rattle.ffs_phase.specs.Runs.{SaidOf, SaidTo}
+use Rattle.ffs_phase.proofs.Reporting.{of_says, of_same}
+use Rattle.ffs_claims.specs.Lines.{of_lines, is_dup, bad_lines}
 
 pub lines_append : (xs ys : List BlockMessage) → of_lines (xs ++ ys) ≡ of_lines xs ++ of_lines ys
 lines_append [] ys = refl
@@ -28,6 +31,32 @@ set_again (b ∷ bits) (suc f) e = ap (λ (xs : List Bool). b ∷ xs) (set_again
 
 pub range_more : (j n m : ℕ) → n ≡ m + 1 → range_with_len j n ≡ j ∷ range_with_len (j + 1) m
 range_more j n m e = rw e (search rules)
+
+-- a dup offer is a fragment of the volume
+pub dup_below : (v : Layout) (s : Claims) (f : ℕ) → is_dup v s f ≡ true → f < v.size
+dup_below v s f e = ok_below v f (and_parts (is_data_fragment v f) (is_set s.used f)
+    (and_parts (nat_lt s.dups 11) _ e).1).0
+
+-- an offer is kept at most once, and no Run is seen by it
+pub offer_kept : (v : Layout) (s s' : Claims) (f : ℕ) → s' ≡ after_offer v s f → s'.kept ≤ s.kept + 1
+offer_kept v s s' f now = rw now (one (nat_lt s.dups 11) refl (is_data_fragment v f) refl (is_set s.used f) refl)
+  where
+    one : (a : Bool) → nat_lt s.dups 11 ≡ a → (k : Bool) → is_data_fragment v f ≡ k → (u : Bool) → is_set s.used f ≡ u →
+        (after_offer v s f).kept ≤ s.kept + 1
+    one false q k kq u uq = rw q (omega arith)
+    one true q false kq u uq = rw (q, kq) (omega arith)
+    one true q true kq false uq = rw (q, kq, uq) (omega arith)
+    one true q true kq true uq = rw (q, kq, uq) (omega arith)
+
+pub offer_runs : (v : Layout) (s s' : Claims) (f : ℕ) → s' ≡ after_offer v s f → s'.runs ≡ s.runs
+offer_runs v s s' f now = rw now (one (nat_lt s.dups 11) refl (is_data_fragment v f) refl (is_set s.used f) refl)
+  where
+    one : (a : Bool) → nat_lt s.dups 11 ≡ a → (k : Bool) → is_data_fragment v f ≡ k → (u : Bool) → is_set s.used f ≡ u →
+        (after_offer v s f).runs ≡ s.runs
+    one false q k kq u uq = rw q refl
+    one true q false kq u uq = rw (q, kq) refl
+    one true q true kq false uq = rw (q, kq, uq) refl
+    one true q true kq true uq = rw (q, kq, uq) refl
 
 -- the next offer of a Run is taken
 pub offers_after : (v : Layout) (s s' : Claims) (start len place f : ℕ) → place < len → f ≡ start + place →
@@ -88,16 +117,15 @@ run_says v inode s start len a b c r h few p q =
     rw (further v inode s start len h few)
     (says_then a b c (of_lines (bad_lines inode start false)) (of_lines (bad_rest v inode s start len)) r (rw few at p) q)
 
-pub run_ends : (v : Layout) (inode : ℕ) (s : Claims) (start len : ℕ) (a b : Progress) → is_in_range v start len ≡ false → (s.bad == 10) ≡ true →
-    Said a b (of_lines (bad_lines inode start (s.bad == 10))) → Said a b (of_lines (run_lines v inode s start len))
-run_ends v inode s start len a b h e p = rw (eleventh v inode s start len h e) (rw e at p)
-
--- the next step of a walk is taken
-pub claims_on : (knows : List ℕ → Type 0) (v : Layout) (s s' : Claims) (R R' : List ℕ → List Step) (end : List ℕ → Claims) (step : Step) →
+-- the next step of a walk is taken, and what is to come has another form
+pub claims_on : (knows : List ℕ → Type 0) (v : Layout) (s s' : Claims) (R R' : List ℕ → List Step) (rest end : List ℕ →
+    Claims) (step : Step) →
     ForBytes knows (λ bytes. R bytes ≡ step ∷ R' bytes) → s' ≡ after_step v s step →
     ForBytes knows (λ bytes. after_steps v s (R bytes) ≡ end bytes) →
-    ForBytes knows (λ bytes. after_steps v s' (R' bytes) ≡ end bytes)
-claims_on knows v s s' R R' end step next now before = λ bytes t. rw now (rw (next bytes t) at (before bytes t))
+    ForBytes knows (λ bytes. after_steps v s' (R' bytes) ≡ rest bytes) →
+    ForBytes knows (λ bytes. rest bytes ≡ end bytes)
+claims_on knows v s s' R R' rest end step next now before same = λ bytes t. sym (same bytes t)
+    ∙ rw now (rw (next bytes t) at (before bytes t))
 
 -- and reported
 pub lines_on : (knows : List ℕ → Type 0) (v : Layout) (inode : ℕ) (s s' : Claims) (R R' : List ℕ → List Step) (step : Step) →
@@ -107,6 +135,20 @@ lines_on knows v inode s s' R R' step next now = λ bytes t.
     ap (λ (xs : List Step). of_lines (steps_lines v inode s xs)) (next bytes t)
     ∙ lines_append (step_lines v inode s step) (steps_lines v inode (after_step v s step) (R' bytes))
     ∙ ap (λ (x : Claims). of_lines (step_lines v inode s step) ++ of_lines (steps_lines v inode x (R' bytes))) (sym now)
+
+pub steps_said : (knows : List ℕ → Type 0) (v : Layout) (inode : ℕ) (s s' : Claims) (R R' : List ℕ → List Step)
+    (rest : List ℕ → List BlockMessage)
+    (all : List ℕ → List Message) (step : Step) (a b c : Progress) →
+    SaidOf knows (λ bytes. of_lines (steps_lines v inode s (R bytes))) all a b →
+    ForBytes knows (λ bytes. R bytes ≡ step ∷ R' bytes) → s' ≡ after_step v s step →
+    ForBytes knows (λ bytes. steps_lines v inode s' (R' bytes) ≡ rest bytes) →
+    Said b c (of_lines (step_lines v inode s step)) →
+    SaidOf knows (λ bytes. of_lines (rest bytes)) all a c
+steps_said knows v inode s s' R R' rest all step a b c said next now same out =
+    of_same knows (λ bytes. of_lines (steps_lines v inode s' (R' bytes))) (λ bytes. of_lines (rest bytes)) all a c
+    (of_says knows _ (λ bytes. of_lines (steps_lines v inode s' (R' bytes))) all (of_lines (step_lines v inode s step))
+    a b c said
+    (lines_on knows v inode s s' R R' step next now) out) (λ bytes t. ap of_lines (same bytes t))
 
 -- what is to come has changed its form
 pub to_same : (rest rest' all : List Message) (a b : Progress) → SaidTo rest all a b → rest ≡ rest' → SaidTo rest' all a b

@@ -1,6 +1,6 @@
 -- How an inode's part of the block check continues.
 use Rattle.std.specs.Prelude.{OnOk}
-use Rattle.std.proofs.Common.{◌≡◌, ℕ, ◌+◌, ◌≤◌, List, [], ◌++◌, append-nil, Option, Result, Ok, Err, refl, ap, ◌∙◌, sym}
+use Rattle.std.proofs.Common.{◌≡◌, ℕ, List, [], ◌++◌, append-nil, Option, Result, Ok, Err, ap, ◌∙◌, sym}
 use Rattle.ffs_volume.specs.declared.Layout.{Layout}
 use Rattle.ffs_volume.specs.declared.Class.{Class}
 use Rattle.ffs_volume.specs.declared.Inode.{Inode}
@@ -10,7 +10,6 @@ use Rattle.ffs_volume.specs.Blocks.Owners.{owner_of}
 use Rattle.ffs_volume.specs.Blocks.Claims.{Claims, next_inode, after_steps, after_owner, steps_lines}
 use Rattle.ffs_volume.specs.Blocks.BlockCheck.{class_lines, count_lines, owner_lines}
 use Rattle.ffs_volume.specs.Messages.Kinds.{Message}
-use Rattle.ffs_volume.specs.Blocks.ClaimBounds.{ClaimBound, used_bits}
 use Rattle.ffs_report.specs.Progress.{Progress, Said, Stopped}
 use Rattle.ffs_phase.specs.Known.{ForBytes, IsContents}
 use Rattle.ffs_phase.specs.Runs.{SaidOf, StoppedOf}

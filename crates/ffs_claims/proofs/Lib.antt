@@ -1,3 +1,4 @@
+pub mod Frames
 pub mod Weights
 pub mod Rescans
 pub mod Goes

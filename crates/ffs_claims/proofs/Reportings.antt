@@ -1,9 +1,6 @@
 -- How phase 1b continues.
-use Rattle.std.proofs.Common.{◌≡◌, ◌⊎◌, inl, inr, append_assoc, append-nil, subst, ℕ, ◌+◌, ◌-◌, ◌<◌, ◌≤◌, Bool, true, false, ◌||◌, ◌==◌, if◌then◌else◌, List, [], ◌∷◌, ◌++◌, length, map, slice_set, arith, refl, ap, ◌∙◌, sym}
+use Rattle.std.proofs.Common.{◌≡◌, append_assoc, append-nil, subst, ℕ, ◌+◌, ◌-◌, ◌<◌, ◌≤◌, Bool, true, false, ◌||◌, if◌then◌else◌, List, [], ◌∷◌, ◌++◌, length, map, slice_set, arith, refl, ap, ◌∙◌, sym}
 use Rattle.std.specs.List.{range_with_len, list_any, slice_index_or}
-use Rattle.std.proofs.lemmas.List.{get_or-set_same, get_or-set_other}
-use Rattle.std.proofs.lemmas.Bool.{cases_eq}
-use Rattle.std.proofs.lemmas.Bool.Decides.{nat_tests}
 use Rattle.ffs_volume.specs.declared.BlockMessage.{BlockMessage}
 use Rattle.ffs_volume.specs.declared.BlockMessage.TheVariants.{Dup}
 use Rattle.ffs_volume.specs.Blocks.Claims.{is_set}

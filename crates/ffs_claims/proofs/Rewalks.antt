@@ -1,20 +1,28 @@
 -- How a second walk over an inode continues.
-use Rattle.std.proofs.Common.{◌≡◌, ℕ, zero, suc, replicate, ◌+◌, Bool, true, false, ◌==◌, if◌then◌else◌, List, [], ◌∷◌, ◌++◌, Some, None, append-nil, arith, refl, ap, ◌∙◌, sym}
+use Rattle.std.proofs.Common.{◌≡◌, ◌≢◌, ◌≤◌, ℕ, zero, suc, replicate, ◌+◌, Bool, true, false, ◌==◌, if◌then◌else◌, List, [], ◌∷◌, ◌++◌, Some, None, append-nil, arith, refl, ap, ◌∙◌, sym}
 use Rattle.std.proofs.lemmas.Bool.Decides.{nat_tests}
 use Rattle.ffs_volume.specs.declared.Layout.{Layout}
 use Rattle.ffs_volume.specs.declared.Step.{Step}
 use Rattle.ffs_volume.specs.declared.Step.TheVariants.{Run, Tail, Gap}
 use Rattle.ffs_volume.specs.Blocks.BlockCheck.{Offer, first_offer_lines}
+use Rattle.ffs_volume.specs.declared.BlockMessage.{BlockMessage}
+use Rattle.ffs_volume.specs.Messages.Kinds.{Message}
+use Rattle.ffs_report.specs.Progress.{Progress, Said}
+use Rattle.ffs_phase.specs.Known.{ForBytes}
+use Rattle.ffs_phase.specs.Runs.{SaidOf}
+use Rattle.ffs_phase.proofs.Reporting.{of_says, of_same}
 use Rattle.ffs_maps.specs.Bits.{bits_of}
 use Rattle.ffs_workspace.specs.declared.workspace.Workspace.{Workspace}
+use Rattle.ffs_workspace.specs.declared.workspace.Windows.{Windows}
 use Rattle.ffs_workspace.specs.Lengths.{set_count}
 use Rattle.ffs_claims.specs.declared.rescan.Rescan.{Rescan}
 use Rattle.ffs_claims.specs.Lines.{of_lines}
 use Rattle.ffs_claims.specs.Rescan.{rescan, is_left, is_going, again, step_offers_again, offers_again, run_seen, runs_again}
 use Rattle.ffs_claims.specs.Reporting.{after_first, OffersReported}
-use Rattle.ffs_claims.proofs.Doubles.{none_first}
 use Rattle.ffs_claims.proofs.Goes.{lines_append}
-use Rattle.ffs_claims.proofs.Reportings.{Reporting, reporting_more, reporting_ends, none_reported, first_append}
+use Rattle.ffs_claims.proofs.Reportings.{Reporting, reporting_begins, reporting_more, reporting_ends, reporting_same, reported_from, reported_to, none_reported, first_append}
+use Rattle.ffs_claims.specs.SecondLook.{RoseBy, Rewalked, looked_at, steps_runs_again}
+use Rattle.ffs_claims.proofs.Looks.{looked_none, looked_next, gaps_looked}
 
 pub going_first : (cut : ℕ) → is_going (rescan cut) ≡ true
 going_first cut = one (cut == 0) refl
@@ -64,9 +72,6 @@ pub reporting_over : (rest all : List Offer) (u w : Workspace) → set_count (bi
 reporting_over rest all u w e t =
     reporting_ends [] all u w (reporting_more rest rest [] all u w w t (sym (append-nil rest)) (none_reported w rest e)) refl
 
-pub lines_over : (dup : List Bool) (os : List Offer) → set_count dup ≡ 0 → of_lines (first_offer_lines dup os) ≡ []
-lines_over dup os e = ap of_lines (none_first dup os e)
-
 -- gaps in a row keep nothing
 pub gaps_offer : (v : Layout) (i : ℕ) (r : Rescan) (n : ℕ) (R : List Step) → offers_again v i r (replicate n Gap ++ R) ≡ offers_again v i r R
 unfolding offers_again
@@ -77,3 +82,99 @@ pub gaps_seen : (v : Layout) (r : Rescan) (n : ℕ) (R : List Step) → runs_aga
 unfolding runs_again
 gaps_seen v r zero R = refl
 gaps_seen v r (suc n) R = omega (arith, gaps_seen v r n R)
+
+-- where a second walk is, with the steps R that are left to it: what it reported, and how many Runs it looked at
+pub record Rewalking (v : Layout) (i cut : ℕ) (all : List Step) (r : Rescan) (R : List Step) (u w : Workspace) :
+    Type 0 where
+  pub reported : Reporting (offers_again v i r R) (offers_again v i (rescan cut) all) u w
+  pub runs : w.runs_again + runs_again v r R ≤ u.runs_again + runs_again v (rescan cut) all
+  pub count : RoseBy u.runs_again (w.runs_again + looked_at (bits_of w.duplicates) (steps_runs_again v i r R))
+      (looked_at (bits_of u.duplicates) (steps_runs_again v i (rescan cut) all))
+
+pub rewalk_begins : (v : Layout) (i cut : ℕ) (all : List Step) (r : Rescan) (R : List Step) (w : Workspace) →
+    r ≡ rescan cut → R ≡ all → Rewalking v i cut all r R w w
+rewalk_begins v i cut all r R w e same =
+    rw (e, same) (record {
+      reported = reporting_begins (offers_again v i (rescan cut) all) w;
+      runs = omega arith;
+      count = λ _. refl;
+    })
+
+pub rewalk_on : (v : Layout) (i cut : ℕ) (all : List Step) (step : Step) (r r' : Rescan) (R R' : List Step)
+    (u w : Workspace) (windows : Windows) (w' : Workspace) →
+    R ≡ step ∷ R' → r' ≡ again v r step → is_going r ≡ true → set_count (bits_of w.duplicates) ≢ 0 →
+    OffersReported (step_offers_again v i r step) (record w { windows = windows }) w' →
+    w'.runs_again ≤ w.runs_again + run_seen r step →
+    RoseBy w.runs_again w'.runs_again (run_seen r step) → Rewalking v i cut all r R u w →
+    Rewalking v i cut all r' R' u w'
+rewalk_on v i cut all step r r' R R' u w windows w' e now going some p most exact t = record {
+  reported = reporting_on v i r r' step R R' (offers_again v i (rescan cut) all) u w w' e now t.reported
+      (reported_from (step_offers_again v i r step) w (record w { windows = windows }) w' p refl refl);
+  runs = omega (arith, t.runs, most, runs_next v r r' step R R' e now);
+  count = λ h. omega (
+    arith,
+    h,
+    t.count h,
+    exact,
+    looked_next v i r r' step R R' (bits_of w.duplicates)
+        (bits_of w'.duplicates) e now going some p.dup,
+  );
+}
+
+pub rewalk_gaps : (v : Layout) (i cut : ℕ) (all : List Step) (r : Rescan) (n : ℕ) (R R' : List Step) (u w : Workspace) →
+    R ≡ replicate n Gap ++ R' → Rewalking v i cut all r R u w → Rewalking v i cut all r R' u w
+rewalk_gaps v i cut all r n R R' u w e t =
+    let seen = ap (runs_again v r) e ∙ gaps_seen v r n R' in
+    let looked = ap (λ (xs : List Step). looked_at (bits_of w.duplicates) (steps_runs_again v i r xs)) e
+    ∙ ap (looked_at (bits_of w.duplicates)) (gaps_looked v i r n R') in
+    record {
+      reported = reporting_same _ _ _ _ _ t.reported (ap (offers_again v i r) e ∙ gaps_offer v i r n R');
+      runs = omega (arith, t.runs, seen);
+      count = λ h. omega (arith, t.count h, looked);
+    }
+
+-- it is over where no step is left to see, and where nothing is left to report
+pub rewalk_ends : (v : Layout) (i cut : ℕ) (all : List Step) (r : Rescan) (R : List Step) (u w : Workspace) →
+    offers_again v i r R ≡ [] →
+    looked_at (bits_of w.duplicates) (steps_runs_again v i r R) ≡ 0 → Rewalking v i cut all r R u w →
+    Rewalked v i cut all u w
+rewalk_ends v i cut all r R u w none unseen t = record {
+  reported = reporting_ends _ _ _ _ t.reported none;
+  count = λ h. omega (arith, t.count h, unseen);
+}
+
+pub rewalk_over : (v : Layout) (i cut : ℕ) (all : List Step) (r : Rescan) (R : List Step) (u w : Workspace) →
+    set_count (bits_of w.duplicates) ≡ 0 →
+    Rewalking v i cut all r R u w → Rewalked v i cut all u w
+rewalk_over v i cut all r R u w e t = record {
+  reported = reporting_over _ _ u w e t.reported;
+  count = λ h. omega (arith, t.count h, looked_none (bits_of w.duplicates) (steps_runs_again v i r R) e);
+}
+
+-- the windows are no part of it
+pub rewalked_to : (v : Layout) (i cut : ℕ) (all : List Step) (u w : Workspace) (windows : Windows) →
+    Rewalked v i cut all u w → Rewalked v i cut all u (record w { windows = windows })
+rewalked_to v i cut all u w windows p = record { reported = reported_to _ u w _ p.reported refl refl; count = p.count }
+
+pub rewalked_from : (v : Layout) (i cut : ℕ) (all : List Step) (u w : Workspace) (windows : Windows) →
+    Rewalked v i cut all (record u { windows = windows }) w → Rewalked v i cut all u w
+rewalked_from v i cut all u w windows p =
+    record { reported = reported_from _ u (record u { windows = windows }) w p.reported refl refl; count = p.count }
+
+-- a step more is reported
+pub rewalk_said : (knows : List ℕ → Type 0) (v : Layout) (i : ℕ) (r r' : Rescan) (step : Step) (R R' : List ℕ →
+    List Step) (d d' : List Bool)
+    (rest : List ℕ → List BlockMessage) (all : List ℕ → List Message) (a b c : Progress) →
+    SaidOf knows (λ bytes. of_lines (first_offer_lines d (offers_again v i r (R bytes)))) all a b →
+    ForBytes knows (λ bytes. R bytes ≡ step ∷ R' bytes) → r' ≡ again v r step →
+    d' ≡ after_first d (step_offers_again v i r step) →
+    ForBytes knows (λ bytes. first_offer_lines d' (offers_again v i r' (R' bytes)) ≡ rest bytes) →
+    Said b c (of_lines (first_offer_lines d (step_offers_again v i r step))) →
+    SaidOf knows (λ bytes. of_lines (rest bytes)) all a c
+rewalk_said knows v i r r' step R R' d d' rest all a b c said next now after same out =
+    of_same knows (λ bytes. of_lines (first_offer_lines d' (offers_again v i r' (R' bytes))))
+    (λ bytes. of_lines (rest bytes)) all a c
+    (of_says knows _ (λ bytes. of_lines (first_offer_lines d' (offers_again v i r' (R' bytes)))) all
+    (of_lines (first_offer_lines d (step_offers_again v i r step))) a b c said
+    (λ bytes t. lines_step v i r r' step (R bytes) (R' bytes) d d' (next bytes t) now after) out)
+    (λ bytes t. ap of_lines (same bytes t))

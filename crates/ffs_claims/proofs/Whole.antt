@@ -8,7 +8,11 @@ use Rattle.ffs_volume.specs.Disk.Areas.{is_data_fragment, is_in_range}
 use Rattle.ffs_volume.specs.Blocks.Claims.{Claims, is_set, after_offer, after_offers, offer_lines, offers_lines}
 use Rattle.ffs_volume.proofs.Weights.{each_ok, ok_below}
 use Rattle.ffs_maps.specs.Bits.{set_run, AreClear}
-use Rattle.ffs_claims.specs.Whole.{IsWhole}
+
+-- all its fragments are unclaimed: its offers are claimed at once, and nothing is reported of them
+pub record IsWhole (v : Layout) (s : Claims) (start len : ℕ) : Type 0 where
+  pub claims : after_offers v s (range_with_len start len) ≡ record s { used = set_run s.used start len; kept = s.kept + len }
+  pub silent : (inode : ℕ) → offers_lines v inode s (range_with_len start len) ≡ []
 
 whole_from : (v : Layout) (s : Claims) (start len : ℕ) → nat_lt s.dups 11 ≡ true → ((k : ℕ) → k < len → is_data_fragment v (start + k) ≡ true) → AreClear s.used start len → IsWhole v s start len
 whole_from v s start zero few ok clear =

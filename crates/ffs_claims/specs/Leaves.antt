@@ -1,5 +1,6 @@
 -- What calls leave of a workspace as it was.
-use Rattle.std.specs.Prelude.{◌≡◌, ◌||◌, ℕ, min, slice_set}
+use Rattle.std.specs.Prelude.{◌≡◌, ◌<◌, ◌||◌, ℕ, min, slice_set, vec_len}
+use Rattle.ffs_volume.specs.declared.Layout.{Layout}
 use Rattle.ffs_volume.specs.declared.Class.{Class}
 use Rattle.ffs_volume.specs.declared.Inode.{Inode}
 use Rattle.ffs_volume.specs.Blocks.Inodes.{is_unknown}
@@ -7,17 +8,32 @@ use Rattle.ffs_volume.specs.Encodings.Replay.{cut_of}
 use Rattle.ffs_workspace.specs.declared.workspace.Workspace.{Workspace}
 use Rattle.ffs_volume.specs.Encodings.Kinds.{kind_of}
 use Rattle.ffs_workspace.specs.Holds.{claims_of, has_blame}
+use Rattle.ffs_workspace.specs.Lengths.{IsFor}
 
--- a call left the windows alone
-abbrev pub SameWindows : Workspace → Workspace → Type 0
-SameWindows old new = new.windows ≡ old.windows
+-- the current inode has no bad Run, no dup offer and no kept one yet
+pub record HasBegun (w : Workspace) : Type 0 where
+  pub bad : w.bad ≡ 0
+  pub dups : w.dups ≡ 0
+  pub kept : w.kept ≡ 0
 
--- and what was found of inodes, and the Runs of phase 1b
+-- what was found of inodes is as it was, and the Runs of phase 1b
 pub record SameFound (old new : Workspace) : Type 0 where
   pub kinds : new.kinds ≡ old.kinds
   pub marked : new.marked ≡ old.marked
   pub cut : new.cut ≡ old.cut
   pub again : new.runs_again ≡ old.runs_again
+
+-- what claiming leaves: the lists have their lengths, and the windows and what was found are as they were
+pub record ClaimsOnly (v : Layout) (old new : Workspace) : Type 0 where
+  pub made : IsFor v new
+  pub windows : new.windows ≡ old.windows
+  pub found : SameFound old new
+
+-- there is a place for what is found of an inode
+pub record HasInode (number : ℕ) (w : Workspace) : Type 0 where
+  pub kinds : number < vec_len w.kinds
+  pub marked : number < vec_len w.marked
+  pub cut : number < vec_len w.cut
 
 -- what was found of the current inode is kept
 pub record Stored (number : ℕ) (class : Class) (i : Inode) (old new : Workspace) : Type 0 where

@@ -3,5 +3,4 @@ pub mod Lines
 pub mod Leaves
 pub mod Reporting
 pub mod SecondLook
-pub mod Whole
 pub mod Area

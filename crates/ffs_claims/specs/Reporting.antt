@@ -1,11 +1,13 @@
 -- What phase 1b has reported, and what it leaves to report.
 use Rattle.std.specs.Prelude.{◌≡◌, ℕ, Bool, false, ◌||◌, if◌then◌else◌, List, [], ◌∷◌, slice_set}
 use Rattle.std.specs.List.{list_any}
+use Rattle.ffs_volume.specs.declared.Layout.{Layout}
 use Rattle.ffs_volume.specs.Blocks.Claims.{is_set}
 use Rattle.ffs_volume.specs.Blocks.BlockCheck.{Offer, blames, first_offer_lines}
 use Rattle.ffs_maps.specs.Bits.{bits_of}
 use Rattle.ffs_workspace.specs.declared.workspace.Workspace.{Workspace}
 use Rattle.ffs_workspace.specs.Holds.{bool_at}
+use Rattle.ffs_workspace.specs.Lengths.{IsFor}
 
 -- the fragments whose first claim is still to be reported, after some offers
 abbrev pub after_first : List Bool → List Offer → List Bool
@@ -23,3 +25,9 @@ pub record SameClaims (old new : Workspace) : Type 0 where
   pub kinds : new.kinds ≡ old.kinds
   pub cut : new.cut ≡ old.cut
   pub seen : new.runs_seen ≡ old.runs_seen
+
+-- what reporting leaves: the lists have their lengths, and the windows, the claims and the Runs of phase 1 are as they were
+pub record ReportsOnly (v : Layout) (old new : Workspace) : Type 0 where
+  pub made : IsFor v new
+  pub windows : new.windows ≡ old.windows
+  pub claims : SameClaims old new

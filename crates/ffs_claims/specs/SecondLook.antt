@@ -9,10 +9,12 @@ use Rattle.ffs_volume.specs.Blocks.Owners.{Owner, owners_of}
 use Rattle.ffs_volume.specs.Blocks.Claims.{Claims, no_claims, next_inode, is_open, after_step, after_owner, after_owners}
 use Rattle.ffs_volume.specs.Blocks.BlockCheck.{Offer, kept_in_run}
 use Rattle.ffs_volume.specs.Blocks.FirstOffers.{offer_at}
+use Rattle.ffs_maps.specs.Bits.{bits_of}
+use Rattle.ffs_workspace.specs.declared.workspace.Workspace.{Workspace}
 use Rattle.ffs_workspace.specs.Lengths.{set_count}
 use Rattle.ffs_claims.specs.declared.rescan.Rescan.{Rescan}
-use Rattle.ffs_claims.specs.Rescan.{is_going, run_taken, again}
-use Rattle.ffs_claims.specs.Reporting.{after_first}
+use Rattle.ffs_claims.specs.Rescan.{rescan, is_going, run_taken, again, offers_again}
+use Rattle.ffs_claims.specs.Reporting.{after_first, OffersReported}
 
 -- the kept offers of each Run that is seen: of a step, of steps, and of inodes
 abbrev pub step_runs : Layout → ℕ → Claims → Step → List (List Offer)
@@ -55,5 +57,12 @@ steps_runs_again v inode r (step ∷ steps) =
     step_runs_again v inode r step ++ steps_runs_again v inode (again v r step) steps
 
 -- a count rose by so many; it is exact as long as it is a u64's
-abbrev pub Rose : ℕ → ℕ → ℕ → Type 0
-Rose old new more = old + more < 2 ^ 64 → new ≡ old + more
+abbrev pub RoseBy : ℕ → ℕ → ℕ → Type 0
+RoseBy old new more = old + more < 2 ^ 64 → new ≡ old + more
+
+-- an inode that keeps so many fragments, or all for 0, was walked over again: its offers were gone over, and its Runs
+-- counted up to the one that reports the last of the marked fragments
+pub record Rewalked (v : Layout) (inode cut : ℕ) (steps : List Step) (old new : Workspace) : Type 0 where
+  pub reported : OffersReported (offers_again v inode (rescan cut) steps) old new
+  pub count : RoseBy old.runs_again new.runs_again (looked_at (bits_of old.duplicates)
+      (steps_runs_again v inode (rescan cut) steps))

@@ -24,10 +24,9 @@ impl DataArea {
     }
 
     /// The data fragments before the metadata of a Run's group, or after it, as the Run is.
-    #[tactic(auto, using(ffs_volume::proofs::AreaLaws::group_below, crate::proofs::Whole::run_below))]
-    fn around(geometry: &Geometry, start: u32, len: u32) -> DataArea
-        requires some { 0 < len }
-        requires in_range { is_in_range geometry.now.layout start len ≡ true }
+    #[tactic(auto, using(ffs_volume::proofs::AreaLaws::group_below))]
+    fn around(geometry: &Geometry, start: u32) -> DataArea
+        requires inside { start < geometry.now.layout.size }
         ensures { IsDataArea geometry.now.layout result }
     {
         let group = start / geometry.layout.fpg;
@@ -48,6 +47,7 @@ impl DataArea {
 
     /// Whether a Run is in range. If so, the area becomes the one round it.
     #[inline(always)]
+    #[tactic(auto, using(crate::proofs::Whole::run_below))]
     pub fn in_range(&mut self, geometry: &Geometry, start: u32, len: u32) -> bool
         requires some { 0 < len }
         requires area { IsDataArea geometry.now.layout self.old }
@@ -60,7 +60,7 @@ impl DataArea {
         if !geometry.in_range(start, len) {
             return false;
         }
-        *self = DataArea::around(geometry, start, len);
+        *self = DataArea::around(geometry, start);
         true
     }
 }

@@ -1,6 +1,6 @@
 //! What an inode claims, and what is reported of it.
 
-ghost use Rattle.std.specs.Prelude.{◌≡◌, ◌+◌, ◌-◌, ◌*◌, ◌<◌, ◌≤◌, ◌^◌, OnOk, true, ℕ, List};
+ghost use Rattle.std.specs.Prelude.{◌≡◌, ◌+◌, ◌<◌, ◌≤◌, ◌^◌, OnOk};
 ghost use Rattle.ffs_report.specs.Progress.{progress};
 ghost use Rattle.ffs_phase.specs.Known.{ForBytes, IsContents};
 ghost use Rattle.ffs_phase.specs.Runs.{ImageAfter, PhaseReports};
@@ -13,8 +13,9 @@ ghost use Rattle.ffs_volume.specs.Blocks.Claims.{after_owner, after_steps, steps
 ghost use Rattle.ffs_volume.specs.Blocks.ClaimBounds.{ClaimBound, used_bits};
 ghost use Rattle.ffs_volume.specs.Blocks.BlockCheck.{owner_lines};
 ghost use Rattle.ffs_workspace.specs.Holds.{claims_of};
-ghost use Rattle.ffs_workspace.specs.Lengths.{IsFor, HoldWindows, inodes_of};
-ghost use Rattle.ffs_claims.specs.Leaves.{SameFound, Stored};
+ghost use Rattle.ffs_workspace.specs.Lengths.{inodes_of};
+ghost use Rattle.ffs_workspace.specs.Ready.{IsReady};
+ghost use Rattle.ffs_claims.specs.Leaves.{HasBegun, SameFound, Stored};
 ghost use Rattle.ffs_claims.specs.Lines.{of_lines, owner_with};
 
 use crate::area::DataArea;
@@ -28,8 +29,9 @@ use ffs_volume::{Class, Inode};
 use ffs_walk::{Walk, class_of, has_steps};
 use ffs_workspace::Workspace;
 
-/// Walks over the blocks of an inode of the class, claims what its steps offer, and reports what is wrong with them.
-fn claim_steps<I: Image, W: Output>(
+/// Walks over the blocks of an inode of the class, where it has any, claims what its steps offer, and reports what is wrong
+/// with them.
+fn claim<I: Image, W: Output>(
     workspace: &mut Workspace,
     geometry: &Geometry,
     number: u32,
@@ -39,14 +41,9 @@ fn claim_steps<I: Image, W: Output>(
     report: &mut Report<'_, W>,
 ) -> Result<(), RunFault>
     requires class { class ≡ inodes.class_of geometry.now.layout inode.now }
-    requires made { IsFor geometry.now.layout workspace.old }
-    requires bad { workspace.old.bad ≡ 0 }
-    requires dups { workspace.old.dups ≡ 0 }
-    requires kept { workspace.old.kept ≡ 0 }
+    requires ready { IsReady geometry.now.layout (I.device image.old) workspace.old }
+    requires begun { HasBegun workspace.old }
     requires runs { workspace.old.runs_seen < 2 ^ 61 }
-    requires volume { geometry.now.layout.size * geometry.now.layout.fsize
-        ≤ (I.device image.old).size }
-    requires windows { HoldWindows geometry.now.layout (I.device image.old).contents workspace.old }
     ensures image { ImageAfter (I.device image.old) (I.device image.new) result }
     ensures text { PhaseReports (IsContents (I.device image.old).contents)
         (λ bytes. of_lines (steps_lines geometry.now.layout number (claims_of workspace.old)
@@ -58,10 +55,12 @@ fn claim_steps<I: Image, W: Output>(
     ensures moves { OnOk result (ClaimBound (claims_of workspace.old) (claims_of workspace.new)) }
     ensures bound { workspace.new.runs_seen + used_bits (claims_of workspace.old)
         ≤ workspace.old.runs_seen + geometry.now.layout.size + 22 }
-    ensures made { IsFor geometry.now.layout workspace.new }
-    ensures windows { HoldWindows geometry.now.layout (I.device image.new).contents workspace.new }
+    ensures ready { IsReady geometry.now.layout (I.device image.new) workspace.new }
     ensures found { SameFound workspace.old workspace.new }
 {
+    if !has_steps(geometry, inode, class) {
+        return Ok(());
+    }
     let mut walk = Walk::of_class(geometry, inode, class);
     let mut area = DataArea::empty();
     while let Some(next) = walk.next(image, &mut workspace.windows.blocks)? {
@@ -74,46 +73,6 @@ fn claim_steps<I: Image, W: Output>(
     Ok(())
 }
 
-/// Claims what the steps of an inode of the class offer, where it has any, and reports what is wrong with them.
-fn claim<I: Image, W: Output>(
-    workspace: &mut Workspace,
-    geometry: &Geometry,
-    number: u32,
-    inode: &Inode,
-    class: Class,
-    image: &mut I,
-    report: &mut Report<'_, W>,
-) -> Result<(), RunFault>
-    requires class { class ≡ inodes.class_of geometry.now.layout inode.now }
-    requires made { IsFor geometry.now.layout workspace.old }
-    requires bad { workspace.old.bad ≡ 0 }
-    requires dups { workspace.old.dups ≡ 0 }
-    requires kept { workspace.old.kept ≡ 0 }
-    requires runs { workspace.old.runs_seen < 2 ^ 61 }
-    requires volume { geometry.now.layout.size * geometry.now.layout.fsize
-        ≤ (I.device image.old).size }
-    requires windows { HoldWindows geometry.now.layout (I.device image.old).contents workspace.old }
-    ensures image { ImageAfter (I.device image.old) (I.device image.new) result }
-    ensures text { PhaseReports (IsContents (I.device image.old).contents)
-        (λ bytes. of_lines (steps_lines geometry.now.layout number (claims_of workspace.old)
-        (steps_of geometry.now.layout inode.now bytes)))
-        (progress W.sink report.old) (progress W.sink report.new) result }
-    ensures claims { OnOk result (ForBytes (IsContents (I.device image.old).contents) (λ bytes.
-        claims_of workspace.new ≡ after_steps geometry.now.layout (claims_of workspace.old)
-        (steps_of geometry.now.layout inode.now bytes))) }
-    ensures moves { OnOk result (ClaimBound (claims_of workspace.old) (claims_of workspace.new)) }
-    ensures bound { workspace.new.runs_seen + used_bits (claims_of workspace.old)
-        ≤ workspace.old.runs_seen + geometry.now.layout.size + 22 }
-    ensures made { IsFor geometry.now.layout workspace.new }
-    ensures windows { HoldWindows geometry.now.layout (I.device image.new).contents workspace.new }
-    ensures found { SameFound workspace.old workspace.new }
-{
-    if !has_steps(geometry, inode, class) {
-        return Ok(());
-    }
-    claim_steps(workspace, geometry, number, inode, class, image, report)
-}
-
 /// An inode that was read: what is reported of it, and what it claims.
 fn claim_read_inode<I: Image, W: Output>(
     workspace: &mut Workspace,
@@ -123,12 +82,9 @@ fn claim_read_inode<I: Image, W: Output>(
     image: &mut I,
     report: &mut Report<'_, W>,
 ) -> Result<(), RunFault>
-    requires made { IsFor geometry.now.layout workspace.old }
+    requires ready { IsReady geometry.now.layout (I.device image.old) workspace.old }
     requires number { number < inodes_of geometry.now.layout }
     requires runs { workspace.old.runs_seen < 2 ^ 40 }
-    requires volume { geometry.now.layout.size * geometry.now.layout.fsize
-        ≤ (I.device image.old).size }
-    requires windows { HoldWindows geometry.now.layout (I.device image.old).contents workspace.old }
     ensures image { ImageAfter (I.device image.old) (I.device image.new) result }
     ensures text { PhaseReports (IsContents (I.device image.old).contents)
         (λ bytes. of_lines (owner_lines geometry.now.layout (claims_of workspace.old)
@@ -144,15 +100,14 @@ fn claim_read_inode<I: Image, W: Output>(
     ensures bound { workspace.new.runs_seen + used_bits (claims_of workspace.old)
         ≤ workspace.old.runs_seen + geometry.now.layout.size + 22 }
     ensures again { workspace.new.runs_again ≡ workspace.old.runs_again }
-    ensures made { IsFor geometry.now.layout workspace.new }
-    ensures windows { HoldWindows geometry.now.layout (I.device image.new).contents workspace.new }
+    ensures ready { IsReady geometry.now.layout (I.device image.new) workspace.new }
 {
     let class = class_of(geometry, inode);
-    begin(workspace, geometry);
+    begin(workspace);
     say_class(report, number, class)?;
     claim(workspace, geometry, number, inode, class, image, report)?;
     say_count(workspace, geometry, number, class, inode.blocks, report)?;
-    store(workspace, geometry, number, class, inode);
+    store(workspace, number, class, inode);
     Ok(())
 }
 
@@ -164,12 +119,9 @@ pub fn claim_inode<I: Image, W: Output>(
     image: &mut I,
     report: &mut Report<'_, W>,
 ) -> Result<(), RunFault>
-    requires made { IsFor geometry.now.layout workspace.old }
+    requires ready { IsReady geometry.now.layout (I.device image.old) workspace.old }
     requires number { number < inodes_of geometry.now.layout }
     requires runs { workspace.old.runs_seen < 2 ^ 40 }
-    requires volume { geometry.now.layout.size * geometry.now.layout.fsize
-        ≤ (I.device image.old).size }
-    requires windows { HoldWindows geometry.now.layout (I.device image.old).contents workspace.old }
     ensures image { ImageAfter (I.device image.old) (I.device image.new) result }
     ensures text { PhaseReports (IsContents (I.device image.old).contents)
         (λ bytes. of_lines (owner_lines geometry.now.layout (claims_of workspace.old)
@@ -187,8 +139,7 @@ pub fn claim_inode<I: Image, W: Output>(
     ensures bound { workspace.new.runs_seen + used_bits (claims_of workspace.old)
         ≤ workspace.old.runs_seen + geometry.now.layout.size + 22 }
     ensures again { workspace.new.runs_again ≡ workspace.old.runs_again }
-    ensures made { IsFor geometry.now.layout workspace.new }
-    ensures windows { HoldWindows geometry.now.layout (I.device image.new).contents workspace.new }
+    ensures ready { IsReady geometry.now.layout (I.device image.new) workspace.new }
 {
     let inode = workspace.windows.table.inode(geometry, number, image)?;
     claim_read_inode(workspace, geometry, number, &inode, image, report)

@@ -10,7 +10,7 @@ ghost use Rattle.ffs_volume.specs.Report.Whole.{run_count};
 ghost use Rattle.ffs_volume.specs.Messages.Kinds as messages;
 ghost use Rattle.ffs_volume.specs.Blocks.Owners.{owners_of};
 ghost use Rattle.ffs_workspace.specs.Holds.{IsFresh, HoldsPhase1};
-ghost use Rattle.ffs_workspace.specs.Lengths.{IsFor, HoldWindows};
+ghost use Rattle.ffs_workspace.specs.Ready.{IsReady};
 ghost use Rattle.ffs_claims.specs.Lines.{of_lines};
 
 use crate::claim::claim_inode;
@@ -31,10 +31,7 @@ pub fn phase1<I: Image, W: Output>(
     workspace: &mut Workspace,
     report: &mut Report<'_, W>,
 ) -> Result<(), RunFault>
-    requires made { IsFor geometry.now.layout workspace.old }
-    requires volume { geometry.now.layout.size * geometry.now.layout.fsize
-        ≤ (I.device image.old).size }
-    requires windows { HoldWindows geometry.now.layout (I.device image.old).contents workspace.old }
+    requires ready { IsReady geometry.now.layout (I.device image.old) workspace.old }
     ensures image { ImageAfter (I.device image.old) (I.device image.new) result }
     ensures text { PhaseReports (λ bytes. IsContents (I.device image.old).contents bytes
         × IsFresh geometry.now.layout workspace.old)
@@ -56,8 +53,7 @@ pub fn phase1<I: Image, W: Output>(
         × IsFresh geometry.now.layout workspace.old)
         (λ bytes. workspace.new.runs_seen ≡ run_count geometry.now.layout bytes)) }
     ensures again { workspace.new.runs_again ≡ workspace.old.runs_again }
-    ensures made { IsFor geometry.now.layout workspace.new }
-    ensures windows { HoldWindows geometry.now.layout (I.device image.new).contents workspace.new }
+    ensures ready { IsReady geometry.now.layout (I.device image.new) workspace.new }
 {
     reserve(workspace, geometry);
     report.say(&Line::Heading(Heading::Phase1))?;

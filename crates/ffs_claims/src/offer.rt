@@ -1,18 +1,16 @@
 //! The offers of Runs, and what is reported of them.
 
-ghost use Rattle.std.specs.Prelude.{◌≡◌, ◌+◌, ◌<◌, ◌≤◌, ◌^◌, OnOk, IsTrue, true, false, slice_set};
+ghost use Rattle.std.specs.Prelude.{◌≡◌, ◌+◌, ◌<◌, ◌≤◌, ◌^◌, OnOk, true};
 ghost use Rattle.std.specs.List.{range_with_len};
-ghost use Rattle.ffs_volume.specs.Disk.Areas.{is_in_range, is_data_fragment};
+ghost use Rattle.ffs_volume.specs.Disk.Areas.{is_in_range};
 ghost use Rattle.ffs_volume.specs.Blocks.Lengths.{HasLength};
 ghost use Rattle.ffs_volume.specs.Blocks.Claims as claims;
 ghost use Rattle.ffs_volume.specs.Blocks.Claims.{after_offer, after_offers, after_run, after_step, offer_lines, offers_lines, run_lines, step_lines};
 ghost use Rattle.ffs_report.specs.Progress.{progress, Says};
-ghost use Rattle.ffs_maps.specs.Bits.{bits_of};
 ghost use Rattle.ffs_workspace.specs.Holds.{claims_of};
 ghost use Rattle.ffs_workspace.specs.Lengths.{IsFor};
-ghost use Rattle.ffs_claims.specs.Leaves.{SameWindows, SameFound};
+ghost use Rattle.ffs_claims.specs.Leaves.{ClaimsOnly};
 ghost use Rattle.ffs_claims.specs.Lines.{of_lines, is_dup, dup_lines, bad_lines};
-ghost use Rattle.ffs_claims.specs.Whole.{IsWhole};
 ghost use Rattle.ffs_claims.specs.Area.{IsDataArea};
 
 use crate::area::DataArea;
@@ -26,14 +24,6 @@ pub fn is_open(workspace: &Workspace) -> bool
     ensures { result ≡ claims.is_open (claims_of workspace.now) }
 {
     workspace.bad < 11 && workspace.dups < 11
-}
-
-#[tactic(auto, using(ffs_volume::proofs::Weights::ok_below))]
-fn is_data_fragment(geometry: &Geometry, fragment: u64) -> bool
-    ensures value { result ≡ is_data_fragment geometry.now.layout fragment }
-    ensures small { IsTrue result → fragment < geometry.now.layout.size }
-{
-    geometry.ok(fragment)
 }
 
 fn say_dup<W: Output>(
@@ -68,52 +58,35 @@ fn say_bad<W: Output>(
     Ok(())
 }
 
-/// Notes that a fragment has a DUP line.
-fn double(workspace: &mut Workspace, geometry: &Geometry, fragment: u32)
-    requires made { IsFor geometry.now.layout workspace.old }
-    requires inside { fragment < geometry.now.layout.size }
-    ensures dup { bits_of workspace.new.duplicates
-        ≡ slice_set (bits_of workspace.old.duplicates) fragment true }
-    ensures made { IsFor geometry.now.layout workspace.new }
-    ensures rest { workspace.new ≡ record workspace.old
-        { duplicates = workspace.new.duplicates; unreported = workspace.new.unreported } }
-{
-    if workspace.duplicates.get(fragment) {
-        return;
-    }
-    workspace.duplicates.set(fragment);
-    workspace.unreported += 1;
-}
-
 /// Takes an offer, and says whether it is dup.
+#[tactic(auto, using(ffs_volume::proofs::Weights::ok_below))]
 fn take(workspace: &mut Workspace, geometry: &Geometry, fragment: u64) -> bool
     requires made { IsFor geometry.now.layout workspace.old }
     requires room { workspace.old.kept < 2 ^ 63 }
     ensures claims { claims_of workspace.new
         ≡ after_offer geometry.now.layout (claims_of workspace.old) fragment }
     ensures dup { result ≡ is_dup geometry.now.layout (claims_of workspace.old) fragment }
-    ensures small { IsTrue result → fragment < geometry.now.layout.size }
-    ensures kept { workspace.new.kept ≤ workspace.old.kept + 1 }
-    ensures runs { workspace.new.runs_seen ≡ workspace.old.runs_seen }
-    ensures made { IsFor geometry.now.layout workspace.new }
-    ensures windows { SameWindows workspace.old workspace.new }
-    ensures found { SameFound workspace.old workspace.new }
+    ensures only { ClaimsOnly geometry.now.layout workspace.old workspace.new }
 {
     if workspace.dups >= 11 {
         return false;
     }
     workspace.kept += 1;
-    if !is_data_fragment(geometry, fragment) {
+    if !geometry.ok(fragment) {
         return false;
     }
     let index = fragment as u32;
-    if workspace.claimed.get(index) {
-        workspace.dups += 1;
-        double(workspace, geometry, index);
+    if !workspace.claimed.get(index) {
+        workspace.claimed.set(index);
+        return false;
+    }
+    workspace.dups += 1;
+    if workspace.duplicates.get(index) {
         return true;
     }
-    workspace.claimed.set(index);
-    false
+    workspace.duplicates.set(index);
+    workspace.unreported += 1;
+    true
 }
 
 /// One offer, and what is reported of it.
@@ -131,11 +104,7 @@ fn offer<W: Output>(
         result }
     ensures claims { claims_of workspace.new
         ≡ after_offer geometry.now.layout (claims_of workspace.old) fragment }
-    ensures kept { workspace.new.kept ≤ workspace.old.kept + 1 }
-    ensures runs { workspace.new.runs_seen ≡ workspace.old.runs_seen }
-    ensures made { IsFor geometry.now.layout workspace.new }
-    ensures windows { SameWindows workspace.old workspace.new }
-    ensures found { SameFound workspace.old workspace.new }
+    ensures only { ClaimsOnly geometry.now.layout workspace.old workspace.new }
 {
     let many = workspace.dups == 10;
     if !take(workspace, geometry, fragment) {
@@ -161,9 +130,7 @@ fn offers<W: Output>(
     ensures claims { OnOk result (claims_of workspace.new
         ≡ after_offers geometry.now.layout (claims_of workspace.old) (range_with_len start len)) }
     ensures runs { workspace.new.runs_seen ≡ workspace.old.runs_seen }
-    ensures made { IsFor geometry.now.layout workspace.new }
-    ensures windows { SameWindows workspace.old workspace.new }
-    ensures found { SameFound workspace.old workspace.new }
+    ensures only { ClaimsOnly geometry.now.layout workspace.old workspace.new }
 {
     for place in 0..len {
         offer(
@@ -177,32 +144,7 @@ fn offers<W: Output>(
     Ok(())
 }
 
-/// Claims a Run in range at once, where its fragments are all unclaimed and lie in one word of the map.
-fn claim_whole(workspace: &mut Workspace, geometry: &Geometry, start: u32, len: u32) -> bool
-    requires made { IsFor geometry.now.layout workspace.old }
-    requires some { 0 < len }
-    requires few { len ≤ 8 }
-    requires in_range { is_in_range geometry.now.layout start len ≡ true }
-    requires room { workspace.old.kept < 2 ^ 62 }
-    requires dups { workspace.old.dups < 11 }
-    ensures whole { IsTrue result → IsWhole geometry.now.layout (claims_of workspace.old) start
-        len }
-    ensures claims { IsTrue result → claims_of workspace.new
-        ≡ after_offers geometry.now.layout (claims_of workspace.old) (range_with_len start len) }
-    ensures kept { result ≡ false → workspace.new ≡ workspace.old }
-    ensures runs { workspace.new.runs_seen ≡ workspace.old.runs_seen }
-    ensures made { IsFor geometry.now.layout workspace.new }
-    ensures windows { SameWindows workspace.old workspace.new }
-    ensures found { SameFound workspace.old workspace.new }
-{
-    if !workspace.claimed.claim(start, len) {
-        return false;
-    }
-    workspace.kept += u64::from(len);
-    true
-}
-
-/// A Run in range of the current inode.
+/// A Run in range of the current inode: claimed at once where its fragments are all unclaimed and lie in one word of the map.
 fn run_in_range<W: Output>(
     workspace: &mut Workspace,
     geometry: &Geometry,
@@ -223,11 +165,10 @@ fn run_in_range<W: Output>(
     ensures claims { OnOk result (claims_of workspace.new
         ≡ after_offers geometry.now.layout (claims_of workspace.old) (range_with_len start len)) }
     ensures runs { workspace.new.runs_seen ≡ workspace.old.runs_seen }
-    ensures made { IsFor geometry.now.layout workspace.new }
-    ensures windows { SameWindows workspace.old workspace.new }
-    ensures found { SameFound workspace.old workspace.new }
+    ensures only { ClaimsOnly geometry.now.layout workspace.old workspace.new }
 {
-    if claim_whole(workspace, geometry, start, len) {
+    if workspace.claimed.claim(start, len) {
+        workspace.kept += u64::from(len);
         return Ok(());
     }
     offers(workspace, geometry, number, start, len, report)
@@ -258,9 +199,7 @@ fn run<W: Output>(
         ≡ after_run geometry.now.layout (claims_of workspace.old) start len) }
     ensures runs { workspace.new.runs_seen ≡ workspace.old.runs_seen + 1 }
     ensures area { IsDataArea geometry.now.layout area.new }
-    ensures made { IsFor geometry.now.layout workspace.new }
-    ensures windows { SameWindows workspace.old workspace.new }
-    ensures found { SameFound workspace.old workspace.new }
+    ensures only { ClaimsOnly geometry.now.layout workspace.old workspace.new }
 {
     workspace.runs_seen += 1;
     if area.in_range(geometry, start, len) {
@@ -296,9 +235,7 @@ pub fn step<W: Output>(
         ≡ after_step geometry.now.layout (claims_of workspace.old) step) }
     ensures runs { workspace.new.runs_seen ≤ workspace.old.runs_seen + 1 }
     ensures area { IsDataArea geometry.now.layout area.new }
-    ensures made { IsFor geometry.now.layout workspace.new }
-    ensures windows { SameWindows workspace.old workspace.new }
-    ensures found { SameFound workspace.old workspace.new }
+    ensures only { ClaimsOnly geometry.now.layout workspace.old workspace.new }
 {
     match step {
         Step::Run { start, len, .. } => {

@@ -1,41 +1,21 @@
 //! The first claims of fragments that are claimed twice, reported once each.
 
-ghost use Rattle.std.specs.Prelude.{◌≡◌, ◌+◌, ◌<◌, ◌≤◌, [], ◌∷◌, OnOk, map, slice_set, true, false};
-ghost use Rattle.std.specs.List.{range_with_len, slice_index_or};
+ghost use Rattle.std.specs.Prelude.{◌≡◌, ◌+◌, ◌<◌, ◌≤◌, [], ◌∷◌, OnOk, map};
+ghost use Rattle.std.specs.List.{range_with_len};
 ghost use Rattle.ffs_volume.specs.Blocks.BlockCheck.{first_offer_lines};
 ghost use Rattle.ffs_volume.specs.Blocks.FirstOffers.{offer_at};
 ghost use Rattle.ffs_report.specs.Progress.{progress, Says};
 ghost use Rattle.ffs_maps.specs.Bits.{bits_of};
 ghost use Rattle.ffs_workspace.specs.Lengths.{IsFor, inodes_of};
-ghost use Rattle.ffs_claims.specs.Leaves.{SameWindows};
 ghost use Rattle.ffs_claims.specs.Lines.{of_lines};
-ghost use Rattle.ffs_claims.specs.Reporting.{OffersReported, SameClaims};
+ghost use Rattle.ffs_claims.specs.Reporting.{OffersReported, ReportsOnly};
 
 use ffs_layout::Geometry;
 use ffs_report::{Line, OutFault, Output, Report};
 use ffs_volume::BlockMessage;
 use ffs_workspace::Workspace;
 
-/// Notes that the first claim of a fragment is reported, and marks its inode.
-fn note(workspace: &mut Workspace, geometry: &Geometry, number: u32, fragment: u32)
-    requires made { IsFor geometry.now.layout workspace.old }
-    requires number { number < inodes_of geometry.now.layout }
-    requires inside { fragment < geometry.now.layout.size }
-    requires duplicates { slice_index_or (bits_of workspace.old.duplicates) fragment false ≡ true }
-    ensures dup { bits_of workspace.new.duplicates
-        ≡ slice_set (bits_of workspace.old.duplicates) fragment false }
-    ensures marked { workspace.new.marked.items ≡ slice_set workspace.old.marked.items number true }
-    ensures runs { workspace.new.runs_again ≡ workspace.old.runs_again }
-    ensures made { IsFor geometry.now.layout workspace.new }
-    ensures windows { SameWindows workspace.old workspace.new }
-    ensures claims { SameClaims workspace.old workspace.new }
-{
-    workspace.duplicates.clear(fragment);
-    workspace.unreported -= 1;
-    workspace.marked[number as usize] = true;
-}
-
-/// One offer: it is reported where its fragment has a DUP line whose first claim isn't reported yet.
+/// One offer: it is reported, and its inode marked, where its fragment has a DUP line whose first claim isn't reported yet.
 fn report_claim<W: Output>(
     workspace: &mut Workspace,
     geometry: &Geometry,
@@ -51,9 +31,7 @@ fn report_claim<W: Output>(
         result }
     ensures reported { OffersReported (offer_at number fragment ∷ []) workspace.old workspace.new }
     ensures runs { workspace.new.runs_again ≡ workspace.old.runs_again }
-    ensures made { IsFor geometry.now.layout workspace.new }
-    ensures windows { SameWindows workspace.old workspace.new }
-    ensures claims { SameClaims workspace.old workspace.new }
+    ensures only { ReportsOnly geometry.now.layout workspace.old workspace.new }
 {
     if fragment >= u64::from(geometry.layout.size) {
         return Ok(());
@@ -62,7 +40,9 @@ fn report_claim<W: Output>(
     if !workspace.duplicates.get(index) {
         return Ok(());
     }
-    note(workspace, geometry, number, index);
+    workspace.duplicates.clear(index);
+    workspace.unreported -= 1;
+    workspace.marked[number as usize] = true;
     report.say(&Line::Block(BlockMessage::Dup {
         fragment: index,
         inode: number,
@@ -87,9 +67,7 @@ pub fn report_run<W: Output>(
         (map (offer_at number) (range_with_len start len))
         workspace.old workspace.new) }
     ensures runs { workspace.new.runs_again ≡ workspace.old.runs_again }
-    ensures made { IsFor geometry.now.layout workspace.new }
-    ensures windows { SameWindows workspace.old workspace.new }
-    ensures claims { SameClaims workspace.old workspace.new }
+    ensures only { ReportsOnly geometry.now.layout workspace.old workspace.new }
 {
     for place in 0..len {
         report_claim(

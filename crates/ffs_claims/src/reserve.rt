@@ -5,7 +5,7 @@ ghost use Rattle.ffs_volume.specs.Blocks.Claims.{no_claims, reserved_map};
 ghost use Rattle.ffs_maps.specs.Bits.{bits_of};
 ghost use Rattle.ffs_workspace.specs.Holds.{claims_of, IsFresh};
 ghost use Rattle.ffs_workspace.specs.Lengths.{IsFor};
-ghost use Rattle.ffs_claims.specs.Leaves.{SameWindows, SameFound};
+ghost use Rattle.ffs_claims.specs.Leaves.{ClaimsOnly};
 
 use crate::store::begin;
 use ffs_layout::Geometry;
@@ -34,11 +34,9 @@ pub fn reserve(workspace: &mut Workspace, geometry: &Geometry)
     ensures claims { IsFresh geometry.now.layout workspace.old → claims_of workspace.new
         ≡ no_claims geometry.now.layout }
     ensures runs { workspace.new.runs_seen ≡ 0 }
-    ensures made { IsFor geometry.now.layout workspace.new }
-    ensures windows { SameWindows workspace.old workspace.new }
-    ensures found { SameFound workspace.old workspace.new }
+    ensures only { ClaimsOnly geometry.now.layout workspace.old workspace.new }
 {
-    begin(workspace, geometry);
+    begin(workspace);
     workspace.runs_seen = 0;
     set_reserved(&mut workspace.claimed, geometry);
 }

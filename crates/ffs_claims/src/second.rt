@@ -1,6 +1,6 @@
 //! Phase 1b: rescan for more dups (fsck(8)).
 
-ghost use Rattle.std.specs.Prelude.{◌≡◌, ◌+◌, ◌*◌, ◌<◌, ◌≤◌, ◌≢◌, ◌∷◌, OnOk, true, false, ℕ, List, slice_index, vec_len};
+ghost use Rattle.std.specs.Prelude.{◌≡◌, ◌+◌, ◌*◌, ◌<◌, ◌≤◌, ◌≢◌, ◌∷◌, OnOk, true, false, ℕ, List, slice_index};
 ghost use Rattle.ffs_report.specs.Progress.{progress, Says};
 ghost use Rattle.ffs_phase.specs.Known.{ForBytes, IsContents};
 ghost use Rattle.ffs_phase.specs.Runs.{ImageAfter, PhaseReports};
@@ -13,13 +13,13 @@ ghost use Rattle.ffs_volume.specs.Blocks.Lengths.{HasLength};
 ghost use Rattle.ffs_volume.specs.Blocks.Steps.{steps_of};
 ghost use Rattle.ffs_maps.specs.Bits.{bits_of};
 ghost use Rattle.ffs_workspace.specs.Holds.{HoldsPhase1, HoldsClaims};
-ghost use Rattle.ffs_workspace.specs.Lengths.{IsFor, HoldWindows, inodes_of};
-ghost use Rattle.ffs_claims.specs.Leaves.{SameWindows};
+ghost use Rattle.ffs_workspace.specs.Lengths.{IsFor, inodes_of};
+ghost use Rattle.ffs_workspace.specs.Ready.{IsReady};
 ghost use Rattle.ffs_claims.specs.Lines.{of_lines};
 ghost use Rattle.ffs_claims.specs.Rescan as rescans;
 ghost use Rattle.ffs_claims.specs.Rescan.{offers_again, step_offers_again, run_seen, runs_again};
-ghost use Rattle.ffs_claims.specs.Reporting.{OffersReported, SameClaims};
-ghost use Rattle.ffs_claims.specs.SecondLook.{Rose, looked_at, steps_runs_again, second_look};
+ghost use Rattle.ffs_claims.specs.Reporting.{OffersReported, SameClaims, ReportsOnly};
+ghost use Rattle.ffs_claims.specs.SecondLook.{RoseBy, Rewalked, second_look};
 
 use crate::report_claim::report_run;
 use crate::rescan::Rescan;
@@ -30,14 +30,6 @@ use ffs_report::{Heading, Line, OutFault, Output, Report};
 use ffs_volume::{Inode, Step};
 use ffs_walk::Walk;
 use ffs_workspace::Workspace;
-
-/// Whether nothing is left to report.
-fn is_reported(workspace: &Workspace) -> bool
-    ensures none { result ≡ true → workspace.now.unreported ≡ 0 }
-    ensures some { result ≡ false → workspace.now.unreported ≢ 0 }
-{
-    workspace.unreported == 0
-}
 
 /// A step of the current inode: of the fragments that it keeps, those are reported whose first claim isn't reported yet.
 fn report_again<W: Output>(
@@ -60,11 +52,9 @@ fn report_again<W: Output>(
         workspace.new) }
     ensures again { OnOk result (rescan.new ≡ rescans.again geometry.now.layout rescan.old step) }
     ensures runs { workspace.new.runs_again ≤ workspace.old.runs_again + run_seen rescan.old step }
-    ensures count { Rose workspace.old.runs_again workspace.new.runs_again
+    ensures count { RoseBy workspace.old.runs_again workspace.new.runs_again
         (run_seen rescan.old step) }
-    ensures made { IsFor geometry.now.layout workspace.new }
-    ensures windows { SameWindows workspace.old workspace.new }
-    ensures claims { SameClaims workspace.old workspace.new }
+    ensures only { ReportsOnly geometry.now.layout workspace.old workspace.new }
 {
     match step {
         Step::Run { start, len, .. } => {
@@ -86,31 +76,22 @@ fn rewalk<I: Image, W: Output>(
     image: &mut I,
     report: &mut Report<'_, W>,
 ) -> Result<(), RunFault>
-    requires made { IsFor geometry.now.layout workspace.old }
+    requires ready { IsReady geometry.now.layout (I.device image.old) workspace.old }
     requires number { number < inodes_of geometry.now.layout }
     requires pending { workspace.old.unreported ≢ 0 }
-    requires volume { geometry.now.layout.size * geometry.now.layout.fsize
-        ≤ (I.device image.old).size }
-    requires windows { HoldWindows geometry.now.layout (I.device image.old).contents workspace.old }
     ensures image { ImageAfter (I.device image.old) (I.device image.new) result }
     ensures text { PhaseReports (IsContents (I.device image.old).contents)
         (λ bytes. of_lines (first_offer_lines (bits_of workspace.old.duplicates)
         (offers_again geometry.now.layout number (rescans.rescan cut)
         (steps_of geometry.now.layout inode.now bytes))))
         (progress W.sink report.old) (progress W.sink report.new) result }
-    ensures reported { OnOk result (ForBytes (IsContents (I.device image.old).contents) (λ bytes.
-        OffersReported (offers_again geometry.now.layout number (rescans.rescan cut)
-        (steps_of geometry.now.layout inode.now bytes)) workspace.old workspace.new)) }
+    ensures rewalked { OnOk result (ForBytes (IsContents (I.device image.old).contents) (λ bytes.
+        Rewalked geometry.now.layout number cut (steps_of geometry.now.layout inode.now bytes)
+        workspace.old workspace.new)) }
     ensures runs { ForBytes (IsContents (I.device image.old).contents) (λ bytes.
         workspace.new.runs_again ≤ workspace.old.runs_again + runs_again geometry.now.layout
         (rescans.rescan cut) (steps_of geometry.now.layout inode.now bytes)) }
-    ensures count { OnOk result (ForBytes (IsContents (I.device image.old).contents) (λ bytes.
-        Rose workspace.old.runs_again workspace.new.runs_again
-        (looked_at (bits_of workspace.old.duplicates)
-        (steps_runs_again geometry.now.layout number (rescans.rescan cut)
-        (steps_of geometry.now.layout inode.now bytes))))) }
-    ensures made { IsFor geometry.now.layout workspace.new }
-    ensures windows { HoldWindows geometry.now.layout (I.device image.new).contents workspace.new }
+    ensures ready { IsReady geometry.now.layout (I.device image.new) workspace.new }
     ensures claims { SameClaims workspace.old workspace.new }
 {
     let mut rescan = Rescan::start(cut);
@@ -120,20 +101,12 @@ fn rewalk<I: Image, W: Output>(
         if !rescan.is_going() {
             break;
         }
-        if is_reported(workspace) {
+        if workspace.unreported == 0 {
             break;
         }
         walk.skip_gaps(&workspace.windows.blocks);
     }
     Ok(())
-}
-
-/// How many fragments an inode keeps, or 0 for all.
-fn cut_of(workspace: &Workspace, number: u32) -> u32
-    requires { number < vec_len workspace.now.cut }
-    ensures { result ≡ slice_index workspace.now.cut.items number }
-{
-    workspace.cut.as_slice()[number as usize]
 }
 
 /// An inode by its number.
@@ -144,12 +117,9 @@ fn renumbered<I: Image, W: Output>(
     image: &mut I,
     report: &mut Report<'_, W>,
 ) -> Result<(), RunFault>
-    requires made { IsFor geometry.now.layout workspace.old }
+    requires ready { IsReady geometry.now.layout (I.device image.old) workspace.old }
     requires number { number < inodes_of geometry.now.layout }
     requires pending { workspace.old.unreported ≢ 0 }
-    requires volume { geometry.now.layout.size * geometry.now.layout.fsize
-        ≤ (I.device image.old).size }
-    requires windows { HoldWindows geometry.now.layout (I.device image.old).contents workspace.old }
     ensures image { ImageAfter (I.device image.old) (I.device image.new) result }
     ensures text { PhaseReports (IsContents (I.device image.old).contents)
         (λ bytes. of_lines (first_offer_lines (bits_of workspace.old.duplicates)
@@ -157,27 +127,19 @@ fn renumbered<I: Image, W: Output>(
         (rescans.rescan (slice_index workspace.old.cut.items number))
         (steps_of geometry.now.layout (inode_of geometry.now.layout bytes number) bytes))))
         (progress W.sink report.old) (progress W.sink report.new) result }
-    ensures reported { OnOk result (ForBytes (IsContents (I.device image.old).contents) (λ bytes.
-        OffersReported (offers_again geometry.now.layout number
-        (rescans.rescan (slice_index workspace.old.cut.items number))
-        (steps_of geometry.now.layout (inode_of geometry.now.layout bytes number) bytes))
+    ensures rewalked { OnOk result (ForBytes (IsContents (I.device image.old).contents) (λ bytes.
+        Rewalked geometry.now.layout number (slice_index workspace.old.cut.items number)
+        (steps_of geometry.now.layout (inode_of geometry.now.layout bytes number) bytes)
         workspace.old workspace.new)) }
     ensures runs { ForBytes (IsContents (I.device image.old).contents) (λ bytes.
         workspace.new.runs_again ≤ workspace.old.runs_again + runs_again geometry.now.layout
         (rescans.rescan (slice_index workspace.old.cut.items number))
         (steps_of geometry.now.layout (inode_of geometry.now.layout bytes number) bytes)) }
-    ensures count { OnOk result (ForBytes (IsContents (I.device image.old).contents) (λ bytes.
-        Rose workspace.old.runs_again workspace.new.runs_again
-        (looked_at (bits_of workspace.old.duplicates)
-        (steps_runs_again geometry.now.layout number
-        (rescans.rescan (slice_index workspace.old.cut.items number))
-        (steps_of geometry.now.layout (inode_of geometry.now.layout bytes number) bytes))))) }
-    ensures made { IsFor geometry.now.layout workspace.new }
-    ensures windows { HoldWindows geometry.now.layout (I.device image.new).contents workspace.new }
+    ensures ready { IsReady geometry.now.layout (I.device image.new) workspace.new }
     ensures claims { SameClaims workspace.old workspace.new }
 {
     let inode = workspace.windows.table.inode(geometry, number, image)?;
-    let cut = cut_of(workspace, number);
+    let cut = workspace.cut.as_slice()[number as usize];
     rewalk(workspace, geometry, number, cut, &inode, image, report)
 }
 
@@ -190,10 +152,7 @@ pub fn phase1b<I: Image, W: Output>(
     workspace: &mut Workspace,
     report: &mut Report<'_, W>,
 ) -> Result<(), RunFault>
-    requires made { IsFor geometry.now.layout workspace.old }
-    requires volume { geometry.now.layout.size * geometry.now.layout.fsize
-        ≤ (I.device image.old).size }
-    requires windows { HoldWindows geometry.now.layout (I.device image.old).contents workspace.old }
+    requires ready { IsReady geometry.now.layout (I.device image.old) workspace.old }
     ensures image { ImageAfter (I.device image.old) (I.device image.new) result }
     ensures text { PhaseReports (λ bytes. IsContents (I.device image.old).contents bytes
         × HoldsPhase1 geometry.now.layout bytes workspace.old)
@@ -212,13 +171,12 @@ pub fn phase1b<I: Image, W: Output>(
         × HoldsPhase1 geometry.now.layout bytes workspace.old)
         (λ bytes. workspace.new.runs_again ≡ second_look geometry.now.layout bytes)) }
     ensures seen { workspace.new.runs_seen ≡ workspace.old.runs_seen }
-    ensures made { IsFor geometry.now.layout workspace.new }
-    ensures windows { HoldWindows geometry.now.layout (I.device image.new).contents workspace.new }
+    ensures ready { IsReady geometry.now.layout (I.device image.new) workspace.new }
 {
     workspace.runs_again = 0;
     report.say(&Line::Heading(Heading::Phase1b))?;
     for number in 2..geometry.layout.ncg * geometry.layout.ipg {
-        if is_reported(workspace) {
+        if workspace.unreported == 0 {
             break;
         }
         renumbered(workspace, geometry, number, image, report)?;

@@ -1,15 +1,13 @@
 //! What is kept of each inode.
 
-ghost use Rattle.std.specs.Prelude.{◌≡◌, ◌+◌, ◌<◌, ◌*◌, ◌^◌, ◌||◌, min};
+ghost use Rattle.std.specs.Prelude.{◌≡◌, ◌<◌, ◌^◌, ◌||◌, false, min};
 ghost use Rattle.ffs_volume.specs.Blocks.BlockCheck.{class_lines, count_lines};
-ghost use Rattle.ffs_volume.specs.Blocks.Claims.{next_inode};
 ghost use Rattle.ffs_volume.specs.Blocks.Inodes.{is_file_or_dir, is_unknown};
 ghost use Rattle.ffs_volume.specs.Encodings.Replay.{cut_of};
 ghost use Rattle.ffs_report.specs.Progress.{progress, Says};
 ghost use Rattle.ffs_workspace.specs.Holds.{claims_of, has_blame};
 ghost use Rattle.ffs_volume.specs.Encodings.Kinds.{kind_of};
-ghost use Rattle.ffs_workspace.specs.Lengths.{IsFor};
-ghost use Rattle.ffs_claims.specs.Leaves.{SameWindows, SameFound, Stored};
+ghost use Rattle.ffs_claims.specs.Leaves.{HasInode, Stored};
 ghost use Rattle.ffs_claims.specs.Lines.{of_lines, counted_owner};
 
 use crate::offer::is_open;
@@ -19,12 +17,8 @@ use ffs_volume::{BlockMessage, Class, Inode};
 use ffs_workspace::Workspace;
 
 /// The next inode becomes the current one.
-pub fn begin(workspace: &mut Workspace, geometry: &Geometry)
-    requires made { IsFor geometry.now.layout workspace.old }
-    ensures claims { claims_of workspace.new ≡ next_inode (claims_of workspace.old) }
-    ensures made { IsFor geometry.now.layout workspace.new }
-    ensures windows { SameWindows workspace.old workspace.new }
-    ensures found { SameFound workspace.old workspace.new }
+pub fn begin(workspace: &mut Workspace)
+    ensures { workspace.new ≡ record workspace.old { bad = 0; dups = 0; kept = 0; tail = false } }
 {
     workspace.bad = 0;
     workspace.dups = 0;
@@ -113,20 +107,14 @@ fn cut_of(workspace: &Workspace) -> u32
 }
 
 /// Keeps what later phases want of the current inode.
-pub fn store(
-    workspace: &mut Workspace,
-    geometry: &Geometry,
-    number: u32,
-    class: Class,
-    inode: &Inode,
-)
-    requires made { IsFor geometry.now.layout workspace.old }
-    requires number { number < geometry.now.layout.ncg * geometry.now.layout.ipg }
-    ensures claims { claims_of workspace.new ≡ claims_of workspace.old }
+pub fn store(workspace: &mut Workspace, number: u32, class: Class, inode: &Inode)
+    requires number { HasInode number workspace.old }
     ensures stored { Stored number class inode.now workspace.old workspace.new }
-    ensures again { workspace.new.runs_again ≡ workspace.old.runs_again }
-    ensures made { IsFor geometry.now.layout workspace.new }
-    ensures windows { SameWindows workspace.old workspace.new }
+    ensures rest { workspace.new ≡ record workspace.old {
+      kinds = workspace.new.kinds;
+      marked = workspace.new.marked;
+      cut = workspace.new.cut;
+    } }
 {
     let kind = kind_of(class, inode);
     let marked = is_marked(workspace, class);

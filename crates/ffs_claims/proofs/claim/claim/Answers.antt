@@ -1,38 +1,246 @@
-use Rattle.std.proofs.Common.{arith, refl, ◌≡◌, ◌∙◌, ap, sym, List, [], false}
-use Rattle.std.proofs.lemmas.List.Sums.{count_by-le-length}
+use Rattle.std.proofs.Common.{arith, refl, ◌≡◌, ◌<◌, ◌∙◌, ap, sym, List, ◌++◌, true, false, replicate}
+use Rattle.std.proofs.lemmas.Result.{err_from_is_err_and}
+use Rattle.ffs_walk.specs.Rests.{rest, left}
 use Rattle.ffs_maps.proofs.Bits.{length_bits}
 use Rattle.ffs_volume.specs.declared.Step.{Step}
+use Rattle.ffs_volume.specs.declared.Step.TheVariants.{Gap}
 use Rattle.ffs_volume.specs.Blocks.Steps.{steps_of, walks}
-use Rattle.ffs_volume.specs.Blocks.Claims.{after_steps, steps_lines}
-use Rattle.ffs_volume.proofs.Weights.{stays}
-use Rattle.ffs_phase.proofs.Reporting.{of_begins, of_same}
+use Rattle.ffs_volume.specs.Blocks.Claims.{after_steps, after_step, steps_lines, step_lines, is_open}
+use Rattle.ffs_volume.proofs.Weights.{stays, kept_bound}
+use Rattle.ffs_phase.specs.Known.{ForBytes, IsContents}
+use Rattle.ffs_phase.proofs.Reporting.{of_begins, of_stops, of_reads, of_same}
 use Rattle.ffs_workspace.specs.Holds.{claims_of}
 use Rattle.ffs_claims.specs.Lines.{of_lines}
-use Rattle.ffs_claims.proofs.Goes.{no_steps}
+use Rattle.ffs_claims.proofs.Weights.{moves_on, seen_bound, used_below}
+use Rattle.ffs_claims.proofs.Goes.{claims_on, lines_on, steps_said, cut_stays, cut_silent, gaps_stay, gaps_silent, no_steps}
+use Rattle.ffs_claims.proofs.Frames.{found_none, found_still, found_then, ready_still, ready_read, ready_walked}
 use Rattle.ffs_claims.proofs.claim.claim.Goals as goal
 
-pub returns-then-not-has_steps-clause-text : goal.returns-then-not-has_steps-clause-text
-returns-then-not-has_steps-clause-text g c =
+pub returns-then-not-has_steps : goal.returns-then-not-has_steps
+returns-then-not-has_steps g c =
     let v = c.args.geometry.now.layout in
     let s = claims_of c.args.workspace.now in
     let none : walks v c.args.inode.now ≡ false = sym c.has_steps.ensures ∙ c.if-not-has_steps.true in
-    of_same _ _ _ _ _ _ (of_begins _ (λ bytes. of_lines (steps_lines v c.args.number s (steps_of v c.args.inode.now bytes))) _)
-    (λ bytes t. ap (λ (xs : List Step). of_lines (steps_lines v c.args.number s xs)) (no_steps v c.args.inode.now bytes none))
+    record {
+      image = refl;
+      text = of_same _ _ _ _ _ _
+          (of_begins _ (λ bytes. of_lines (steps_lines v c.args.number s (steps_of v c.args.inode.now bytes))) _)
+          (λ bytes t. ap (λ (xs : List Step). of_lines (steps_lines v c.args.number s xs))
+          (no_steps v c.args.inode.now bytes none));
+      claims = λ bytes t. sym (ap (after_steps v s) (no_steps v c.args.inode.now bytes none));
+      moves = stays s;
+      bound = omega (arith, used_below v c.args.workspace.now c.requires.ready.made);
+      ready = c.requires.ready;
+      found = found_none c.args.workspace.now;
+    }
 
-pub returns-then-not-has_steps-clause-claims : goal.returns-then-not-has_steps-clause-claims
-returns-then-not-has_steps-clause-claims g c =
+pub loop-next-init : goal.loop-next-init
+loop-next-init g c =
     let v = c.args.geometry.now.layout in
     let s = claims_of c.args.workspace.now in
-    let none : walks v c.args.inode.now ≡ false = sym c.has_steps.ensures ∙ c.if-not-has_steps.true in
-    λ bytes t. sym (ap (after_steps v s) (no_steps v c.args.inode.now bytes none))
+    let begun : is_open (claims_of c.args.workspace.now) ≡ true = rw (c.requires.begun.bad, c.requires.begun.dups)
+    refl in
+    record {
+      ready = c.requires.ready;
+      area = c.empty-area.ensures v;
+      open_still = begun;
+      geometry = c.of_class-walk.ensures.geometry;
+      device = refl;
+      found = found_none c.args.workspace.now;
+      moves = stays s;
+      claims = λ bytes t. ap (after_steps v s) (c.of_class-walk.ensures.steps bytes);
+      said = of_same _ _ _ _ _ _
+          (of_begins _ (λ bytes. of_lines (steps_lines v c.args.number s (steps_of v c.args.inode.now bytes))) _)
+          (λ bytes t. ap (λ (xs : List Step). of_lines (steps_lines v c.args.number s xs))
+          (sym (c.of_class-walk.ensures.steps bytes)));
+    }
 
-pub returns-then-not-has_steps-clause-moves : goal.returns-then-not-has_steps-clause-moves
-returns-then-not-has_steps-clause-moves g c = stays (claims_of c.args.workspace.now)
+pub next-requires : goal.next-requires
+next-requires g c =
+    let inv = c.loop-next.invariant in
+    record {
+      volume = rw inv.geometry inv.ready.volume;
+      room = record { blocks_fit = rw (inv.geometry, inv.ready.made.blocks) (omega arith) };
+      holds = rw inv.geometry inv.ready.windows.blocks;
+    }
 
-pub returns-then-not-has_steps-clause-bound : goal.returns-then-not-has_steps-clause-bound
-returns-then-not-has_steps-clause-bound g c =
-    omega (
-      arith,
-      count_by-le-length (λ b. b) (claims_of c.args.workspace.now).used,
-      length_bits c.args.workspace.now.claimed.words.items c.args.workspace.now.claimed.size ∙ c.requires.made.claimed,
-    )
+pub returns-in_err-next : goal.returns-in_err-next
+returns-in_err-next g c =
+    let v = c.args.geometry.now.layout in
+    let p = err_from_is_err_and c.from_residual.result c.from_residual.ensures.1 in
+    let inv = c.loop-next.invariant in
+    let err = c.in_err-next.ensures.err in
+    let read = ready_read v (g.I.Image.device c.loop-next.image) (g.I.Image.device c.next.new.image)
+    c.loop-next.workspace c.next.new.blocks
+    err.contents err.size c.next.ensures.size (rw inv.geometry at c.next.ensures.holds) inv.ready in
+    rw (p.1, p.2) (record {
+      image = rw inv.device at err;
+      text = of_reads _ _ _ _ _ inv.said;
+      claims = tt;
+      moves = tt;
+      bound = omega (
+        arith,
+        seen_bound v c.args.workspace.now c.loop-next.workspace inv.ready.made inv.open_still
+            inv.moves,
+      );
+      ready = read;
+      found = found_still _ _ _ inv.found;
+    })
+
+pub step-requires : goal.step-requires
+step-requires g c =
+    let v = c.args.geometry.now.layout in
+    let inv = c.loop-next.invariant in
+    let ok = c.in_ok-next.ensures.ok in
+    let sized = length_bits c.loop-next.workspace.claimed.words.items c.loop-next.workspace.claimed.size
+    ∙ inv.ready.made.claimed in
+    let read = ready_walked c.args.geometry.now _ _ _ c.loop-next.workspace c.next.new.blocks inv.geometry ok
+    c.next.ensures.size c.next.ensures.holds inv.ready in
+    record {
+      made = read.made;
+      area = inv.area;
+      «open» = inv.open_still;
+      length = rw (inv.geometry, c.in-Some.is) at c.in_ok-next.ensures.length;
+      room = omega (
+        arith,
+        c.args.geometry.now.sound.numbers.size_below,
+        kept_bound (claims_of c.args.workspace.now) (claims_of c.loop-next.workspace) v.size
+            sized (omega (arith, c.requires.begun.bad)) (omega (arith, c.requires.begun.dups)) c.requires.begun.kept
+            inv.moves,
+      );
+      runs = omega (
+        arith,
+        c.args.geometry.now.sound.numbers.size_below,
+        seen_bound v c.args.workspace.now
+            c.loop-next.workspace inv.ready.made inv.open_still inv.moves,
+      );
+    }
+
+pub returns-in_err-step : goal.returns-in_err-step
+returns-in_err-step g c =
+    let p = err_from_is_err_and c.from_residual-in_err-step.result c.from_residual-in_err-step.ensures.1 in
+    let inv = c.loop-next.invariant in
+    let v = c.args.geometry.now.layout in
+    let ok = c.in_ok-next.ensures.ok in
+    let next = rw (inv.device, c.in-Some.is) at c.in_ok-next.ensures.steps in
+    let read = ready_walked c.args.geometry.now _ _ _ c.loop-next.workspace c.next.new.blocks inv.geometry ok
+    c.next.ensures.size c.next.ensures.holds inv.ready in
+    rw (p.1, p.2) (record {
+      image = ok ∙ inv.device;
+      text = of_stops _ _ _ _ (of_lines (step_lines v c.args.number (claims_of c.loop-next.workspace) c.in-Some.next))
+          _ _ _ inv.said
+          (lines_on _ v c.args.number (claims_of c.loop-next.workspace) (after_step v (claims_of c.loop-next.workspace) c.in-Some.next)
+          (λ bytes. rest bytes c.loop-next.walk) (λ bytes. rest bytes c.next.new.self) c.in-Some.next next refl)
+          c.in_err-step.ensures.said;
+      claims = tt;
+      moves = tt;
+      bound = omega (
+        arith,
+        c.step.ensures.runs,
+        seen_bound v c.args.workspace.now c.loop-next.workspace inv.ready.made
+            inv.open_still inv.moves,
+      );
+      ready = ready_still v _ _ _ c.step.ensures.only.made c.step.ensures.only.windows read;
+      found = found_then _ _ _ (found_still _ _ _ inv.found) c.step.ensures.only.found;
+    })
+
+pub skip_gaps-requires : goal.skip_gaps-requires
+skip_gaps-requires g c =
+    let inv = c.loop-next.invariant in
+    let same = c.in_ok-next.ensures.geometry ∙ inv.geometry in
+    record { room = record { blocks_fit = rw (same, c.step.ensures.only.made.blocks) (omega arith) } }
+
+pub loop-next-preserved : goal.loop-next-preserved
+loop-next-preserved g c =
+    let inv = c.loop-next.invariant in
+    let v = c.args.geometry.now.layout in
+    let s = claims_of c.step.new.workspace in
+    let ok = c.in_ok-next.ensures.ok in
+    let next = rw (inv.device, c.in-Some.is) at c.in_ok-next.ensures.steps in
+    let read = ready_walked c.args.geometry.now _ _ _ c.loop-next.workspace c.next.new.blocks inv.geometry ok
+    c.next.ensures.size c.next.ensures.holds inv.ready in
+    let ready = ready_still v _ _ _ c.step.ensures.only.made c.step.ensures.only.windows read in
+    let gaps : ForBytes (IsContents (g.I.Image.device c.args.image.now).contents) (λ bytes. rest bytes c.next.new.self ≡ replicate c.skip_gaps.result Gap ++ rest bytes c.skip_gaps.new.self) =
+    λ bytes t. c.skip_gaps.ensures.steps (g.I.Image.device c.next.new.image).contents
+    (rw (c.in_ok-next.ensures.geometry ∙ inv.geometry) ready.windows.blocks) bytes
+    (ap (λ d. d.contents) (ok ∙ inv.device) ∙ t) in
+    record {
+      ready = ready;
+      area = c.step.ensures.area;
+      open_still = sym c.is_open.ensures ∙ c.if-not-is_open.false;
+      geometry = c.skip_gaps.ensures.geometry ∙ c.in_ok-next.ensures.geometry ∙ inv.geometry;
+      device = ok ∙ inv.device;
+      found = found_then _ _ _ (found_still _ _ _ inv.found) c.step.ensures.only.found;
+      moves = moves_on v (claims_of c.args.workspace.now) (claims_of c.loop-next.workspace) (claims_of c.step.new.workspace) c.in-Some.next
+          (length_bits _ _ ∙ inv.ready.made.claimed) c.args.geometry.now.sound.sizes.frag_high
+          (rw (inv.geometry, c.in-Some.is) at c.in_ok-next.ensures.length) c.in_ok-step.ensures.claims inv.moves;
+      claims = claims_on _ v (claims_of c.loop-next.workspace) s (λ bytes. rest bytes c.loop-next.walk)
+          (λ bytes. rest bytes c.next.new.self) _ _ c.in-Some.next
+          next c.in_ok-step.ensures.claims inv.claims (λ bytes t. ap (after_steps v s) (gaps bytes t)
+          ∙ gaps_stay v s c.skip_gaps.result (rest bytes c.skip_gaps.new.self));
+      said = steps_said _ v c.args.number (claims_of c.loop-next.workspace) s (λ bytes. rest bytes c.loop-next.walk)
+          (λ bytes. rest bytes c.next.new.self) _ _ c.in-Some.next _ _ _
+          inv.said next c.in_ok-step.ensures.claims (λ bytes t. ap (steps_lines v c.args.number s) (gaps bytes t)
+          ∙ gaps_silent v c.args.number s c.skip_gaps.result (rest bytes c.skip_gaps.new.self))
+          c.in_ok-step.ensures.said;
+    }
+
+pub loop-next-smaller : goal.loop-next-smaller
+loop-next-smaller g c =
+    let fell : left c.next.new.self < left c.loop-next.walk = rw c.in-Some.is at c.in_ok-next.ensures.falls in
+    omega (arith, fell, c.skip_gaps.ensures.falls)
+
+pub returns-then-not-is_open : goal.returns-then-not-is_open
+returns-then-not-is_open g c =
+    let inv = c.loop-next.invariant in
+    let v = c.args.geometry.now.layout in
+    let s = claims_of c.step.new.workspace in
+    let ok = c.in_ok-next.ensures.ok in
+    let cut : is_open (claims_of c.step.new.workspace) ≡ false = sym c.is_open.ensures ∙ c.if-not-is_open.true in
+    let next = rw (inv.device, c.in-Some.is) at c.in_ok-next.ensures.steps in
+    let read = ready_walked c.args.geometry.now _ _ _ c.loop-next.workspace c.next.new.blocks inv.geometry ok
+    c.next.ensures.size c.next.ensures.holds inv.ready in
+    record {
+      image = ok ∙ inv.device;
+      text = steps_said _ v c.args.number (claims_of c.loop-next.workspace) s (λ bytes. rest bytes c.loop-next.walk)
+          (λ bytes. rest bytes c.next.new.self) _ _ c.in-Some.next _ _ _
+          inv.said next c.in_ok-step.ensures.claims (λ bytes t. cut_silent v c.args.number
+          (claims_of c.step.new.workspace) (rest bytes c.next.new.self) cut) c.in_ok-step.ensures.said;
+      claims = claims_on _ v (claims_of c.loop-next.workspace) s (λ bytes. rest bytes c.loop-next.walk)
+          (λ bytes. rest bytes c.next.new.self) _ _ c.in-Some.next
+          next c.in_ok-step.ensures.claims inv.claims (λ bytes t. cut_stays v s (rest bytes c.next.new.self) cut);
+      moves = moves_on v (claims_of c.args.workspace.now) (claims_of c.loop-next.workspace) (claims_of c.step.new.workspace) c.in-Some.next
+          (length_bits _ _ ∙ inv.ready.made.claimed) c.args.geometry.now.sound.sizes.frag_high
+          (rw (inv.geometry, c.in-Some.is) at c.in_ok-next.ensures.length) c.in_ok-step.ensures.claims inv.moves;
+      bound = omega (
+        arith,
+        c.step.ensures.runs,
+        seen_bound v c.args.workspace.now c.loop-next.workspace inv.ready.made
+            inv.open_still inv.moves,
+      );
+      ready = ready_still v _ _ _ c.step.ensures.only.made c.step.ensures.only.windows read;
+      found = found_then _ _ _ (found_still _ _ _ inv.found) c.step.ensures.only.found;
+    }
+
+pub returns-in_default : goal.returns-in_default
+returns-in_default g c =
+    let inv = c.loop-next.invariant in
+    let v = c.args.geometry.now.layout in
+    let s = claims_of c.loop-next.workspace in
+    let ok = c.in_ok-next.ensures.ok in
+    let over = rw (inv.device, c.in_default.is) at c.in_ok-next.ensures.steps in
+    record {
+      image = ok ∙ inv.device;
+      text = of_same _ _ _ _ _ _ inv.said
+          (λ bytes t. ap (λ (xs : List Step). of_lines (steps_lines v c.args.number s xs)) (over bytes t));
+      claims = λ bytes t. sym (ap (after_steps v s) (over bytes t)) ∙ inv.claims bytes t;
+      moves = inv.moves;
+      bound = omega (
+        arith,
+        seen_bound v c.args.workspace.now c.loop-next.workspace inv.ready.made inv.open_still
+            inv.moves,
+      );
+      ready = ready_walked c.args.geometry.now _ _ _ c.loop-next.workspace c.next.new.blocks inv.geometry ok
+          c.next.ensures.size c.next.ensures.holds inv.ready;
+      found = found_still _ _ _ inv.found;
+    }

@@ -1,7 +1,5 @@
 use Rattle.std.proofs.Common.{◌≡◌, arith, ap, ◌∙◌}
 use Rattle.std.proofs.lemmas.Result.{err_from_is_err_and}
-use Rattle.std.proofs.lemmas.List.Sums.{count_by-le-length}
-use Rattle.ffs_maps.proofs.Bits.{length_bits}
 use Rattle.ffs_volume.specs.Blocks.Owners.{Owner, owner_of}
 use Rattle.ffs_volume.specs.Blocks.BlockCheck.{owner_lines}
 use Rattle.ffs_volume.specs.Blocks.Claims.{after_owner}
@@ -9,6 +7,8 @@ use Rattle.ffs_phase.proofs.Reporting.{of_begins, of_reads, reports_same, report
 use Rattle.ffs_workspace.specs.Holds.{claims_of}
 use Rattle.ffs_claims.specs.Lines.{of_lines, owner_with}
 use Rattle.ffs_claims.proofs.Inodes.{owner_is, ok_where}
+use Rattle.ffs_claims.proofs.Weights.{used_below}
+use Rattle.ffs_claims.proofs.Frames.{ready_table}
 use Rattle.ffs_claims.proofs.claim.claim_inode.Goals as goal
 
 pub returns-in_err-inode-clause-text : goal.returns-in_err-inode-clause-text
@@ -18,7 +18,7 @@ returns-in_err-inode-clause-text g c =
 
 pub returns-in_err-inode-clause-bound : goal.returns-in_err-inode-clause-bound
 returns-in_err-inode-clause-bound g c =
-    omega (arith, count_by-le-length (λ b. b) (claims_of c.args.workspace.now).used, length_bits c.args.workspace.now.claimed.words.items c.args.workspace.now.claimed.size ∙ c.requires.made.claimed)
+    omega (arith, used_below c.args.geometry.now.layout c.args.workspace.now c.requires.ready.made)
 
 pub returns-clause-text : goal.returns-clause-text
 returns-clause-text g c =
@@ -37,3 +37,20 @@ returns-clause-claims g c =
     (ap (λ d. d.contents) c.in_ok-inode.ensures.ok)
     (λ bytes t h. h ∙ ap (λ (o : Owner). after_owner v s o) (owner_is v bytes c.args.number c.in_ok-inode.inode (c.in_ok-inode.ensures.inode bytes t)))
     c.claim_read_inode.ensures.claims
+
+pub inode-requires : goal.inode-requires
+inode-requires g c =
+    let ready = c.requires.ready in
+    record { number = c.requires.number; volume = ready.volume; room = ready.made.table; holds = ready.windows.table }
+
+pub returns-in_err-inode-clause-ready : goal.returns-in_err-inode-clause-ready
+returns-in_err-inode-clause-ready g c =
+    let err = c.in_err-inode.ensures.err in
+    ready_table c.args.geometry.now.layout (g.I.Image.device c.args.image.now) _ c.args.workspace.now c.inode.new.self
+    err.contents err.size c.inode.ensures.room c.inode.ensures.holds c.requires.ready
+
+pub claim_read_inode-requires-clause-ready : goal.claim_read_inode-requires-clause-ready
+claim_read_inode-requires-clause-ready g c =
+    let ok = c.in_ok-inode.ensures.ok in
+    ready_table c.args.geometry.now.layout (g.I.Image.device c.args.image.now) _ c.args.workspace.now c.inode.new.self
+    (ap (λ d. d.contents) ok) (ap (λ d. d.size) ok) c.inode.ensures.room c.inode.ensures.holds c.requires.ready

@@ -1,15 +1,16 @@
 use Rattle.std.proofs.Common.{arith, refl, [], length, ap, ◌∙◌, ◌≡◌}
 use Rattle.std.proofs.lemmas.Result.{err_from_is_err_and}
-use Rattle.std.proofs.lemmas.List.Sums.{count_by-le-length}
 use Rattle.ffs_maps.proofs.Bits.{length_bits}
 use Rattle.ffs_volume.specs.Blocks.Steps.{steps_of}
 use Rattle.ffs_volume.specs.Blocks.BlockCheck.{count_lines}
-use Rattle.ffs_volume.specs.Blocks.Claims.{steps_lines, after_steps}
+use Rattle.ffs_volume.specs.Blocks.Claims.{Claims, steps_lines, after_steps}
 use Rattle.ffs_volume.proofs.Weights.{kept_bound}
 use Rattle.ffs_phase.proofs.Reporting.{of_part, of_fault, of_says, of_stops}
 use Rattle.ffs_workspace.specs.Holds.{claims_of}
 use Rattle.ffs_claims.specs.Lines.{of_lines, counted_owner}
 use Rattle.ffs_claims.proofs.Inodes.{class_said, class_stopped, count_right}
+use Rattle.ffs_claims.proofs.Weights.{used_below}
+use Rattle.ffs_claims.proofs.Frames.{ready_begun, ready_stored}
 use Rattle.ffs_claims.proofs.claim.claim_read_inode.Goals as goal
 
 pub returns-in_err-say_class-clause-text : goal.returns-in_err-say_class-clause-text
@@ -20,8 +21,8 @@ returns-in_err-say_class-clause-text g c =
 
 pub returns-in_err-say_class-clause-bound : goal.returns-in_err-say_class-clause-bound
 returns-in_err-say_class-clause-bound g c =
-    let same = ap (λ s. s.runs) c.begin.ensures.claims in
-    omega (arith, same, count_by-le-length (λ b. b) (claims_of c.args.workspace.now).used, length_bits c.args.workspace.now.claimed.words.items c.args.workspace.now.claimed.size ∙ c.requires.made.claimed)
+    let same = ap (λ w. w.runs_seen) c.begin.ensures in
+    omega (arith, same, used_below c.args.geometry.now.layout c.args.workspace.now c.requires.ready.made)
 
 pub returns-in_err-claim-clause-text : goal.returns-in_err-claim-clause-text
 returns-in_err-claim-clause-text g c =
@@ -31,7 +32,8 @@ returns-in_err-claim-clause-text g c =
     rw (p.1, p.2) (of_fault (Unit {0}) (Unit {0}) _ _ (λ bytes. of_lines (steps_lines v c.args.number s1 (steps_of v c.args.inode.now bytes)))
     (λ bytes. of_lines (count_lines v (counted_owner c.args.number c.class_of-class.result c.args.inode.now.blocks) (after_steps v s1 (steps_of v c.args.inode.now bytes))))
     _ _ _ _ _
-    (class_said _ v c.args.number c.args.inode.now (claims_of c.args.workspace.now) s1 c.class_of-class.result _ _ c.begin.ensures.claims c.class_of-class.ensures c.in_ok-say_class.ensures)
+    (class_said _ v c.args.number c.args.inode.now (claims_of c.args.workspace.now) s1 c.class_of-class.result _ _
+    (ap claims_of c.begin.ensures) c.class_of-class.ensures c.in_ok-say_class.ensures)
     (λ bytes t. refl) c.in_err-claim.ensures.text)
 
 pub returns-in_err-say_count-clause-text : goal.returns-in_err-say_count-clause-text
@@ -42,7 +44,8 @@ returns-in_err-say_count-clause-text g c =
     rw (p.1, p.2) (of_stops _ _ (λ bytes. []) _ (of_lines (count_lines v (counted_owner c.args.number c.class_of-class.result c.args.inode.now.blocks) (claims_of c.claim.new.workspace))) _ _ _
     (of_part _ _ (λ bytes. of_lines (steps_lines v c.args.number s1 (steps_of v c.args.inode.now bytes)))
     (λ bytes. of_lines (count_lines v (counted_owner c.args.number c.class_of-class.result c.args.inode.now.blocks) (after_steps v s1 (steps_of v c.args.inode.now bytes)))) _ _ _ _
-    (class_said _ v c.args.number c.args.inode.now (claims_of c.args.workspace.now) s1 c.class_of-class.result _ _ c.begin.ensures.claims c.class_of-class.ensures c.in_ok-say_class.ensures)
+    (class_said _ v c.args.number c.args.inode.now (claims_of c.args.workspace.now) s1 c.class_of-class.result _ _
+    (ap claims_of c.begin.ensures) c.class_of-class.ensures c.in_ok-say_class.ensures)
     (λ bytes t. refl) c.in_ok-claim.ensures.text)
     (count_right _ v c.args.number c.args.inode.now s1 (claims_of c.claim.new.workspace) c.class_of-class.result c.in_ok-claim.ensures.claims)
     c.in_err-say_count.ensures)
@@ -54,7 +57,8 @@ returns-clause-text g c =
     of_says _ _ (λ bytes. []) _ (of_lines (count_lines v (counted_owner c.args.number c.class_of-class.result c.args.inode.now.blocks) (claims_of c.claim.new.workspace))) _ _ _
     (of_part _ _ (λ bytes. of_lines (steps_lines v c.args.number s1 (steps_of v c.args.inode.now bytes)))
     (λ bytes. of_lines (count_lines v (counted_owner c.args.number c.class_of-class.result c.args.inode.now.blocks) (after_steps v s1 (steps_of v c.args.inode.now bytes)))) _ _ _ _
-    (class_said _ v c.args.number c.args.inode.now (claims_of c.args.workspace.now) s1 c.class_of-class.result _ _ c.begin.ensures.claims c.class_of-class.ensures c.in_ok-say_class.ensures)
+    (class_said _ v c.args.number c.args.inode.now (claims_of c.args.workspace.now) s1 c.class_of-class.result _ _
+    (ap claims_of c.begin.ensures) c.class_of-class.ensures c.in_ok-say_class.ensures)
     (λ bytes t. refl) c.in_ok-claim.ensures.text)
     (count_right _ v c.args.number c.args.inode.now s1 (claims_of c.claim.new.workspace) c.class_of-class.result c.in_ok-claim.ensures.claims)
     c.in_ok-say_count.ensures
@@ -63,12 +67,53 @@ pub say_count-requires : goal.say_count-requires
 say_count-requires g c =
     let m = c.in_ok-claim.ensures.moves in
     let used : length (claims_of c.claim.new.workspace).used ≡ c.args.geometry.now.layout.size =
-    length_bits c.claim.new.workspace.claimed.words.items c.claim.new.workspace.claimed.size ∙ c.claim.ensures.made.claimed in
-    let bad = ap (λ s. s.bad) c.begin.ensures.claims in
-    let dups = ap (λ s. s.dups) c.begin.ensures.claims in
-    let none = ap (λ s. s.kept) c.begin.ensures.claims in
+    length_bits c.claim.new.workspace.claimed.words.items c.claim.new.workspace.claimed.size
+    ∙ c.claim.ensures.ready.made.claimed in
+    let bad = ap (λ w. w.bad) c.begin.ensures in
+    let dups = ap (λ w. w.dups) c.begin.ensures in
+    let none = ap (λ w. w.kept) c.begin.ensures in
     omega (
       arith,
       c.args.geometry.now.sound.numbers.size_below,
       kept_bound (claims_of c.begin.new.workspace) (claims_of c.claim.new.workspace) c.args.geometry.now.layout.size used (omega (arith, bad)) (omega (arith, dups)) none m,
     )
+
+pub claim-requires-clause-ready : goal.claim-requires-clause-ready
+claim-requires-clause-ready g c = ready_begun c.args.geometry.now.layout (g.I.Image.device c.args.image.now)
+    c.args.workspace.now c.begin.new.workspace c.begin.ensures c.requires.ready
+
+pub claim-requires-clause-begun : goal.claim-requires-clause-begun
+claim-requires-clause-begun g c = record {
+  bad = ap (λ w. w.bad) c.begin.ensures;
+  dups = ap (λ w. w.dups) c.begin.ensures;
+  kept = ap (λ w. w.kept) c.begin.ensures;
+}
+
+pub claim-requires-clause-runs : goal.claim-requires-clause-runs
+claim-requires-clause-runs g c = let same = ap (λ w. w.runs_seen) c.begin.ensures in omega (arith, same)
+
+pub store-requires : goal.store-requires
+store-requires g c =
+    let made = c.claim.ensures.ready.made in
+    record {
+      number = record {
+        kinds = omega (arith, made.kinds);
+        marked = omega (arith, made.marked);
+        cut = omega (arith, made.cut);
+      };
+    }
+
+pub returns-in_err-say_class-clause-ready : goal.returns-in_err-say_class-clause-ready
+returns-in_err-say_class-clause-ready g c = ready_begun c.args.geometry.now.layout (g.I.Image.device c.args.image.now)
+    c.args.workspace.now c.begin.new.workspace c.begin.ensures c.requires.ready
+
+pub returns-clause-claims : goal.returns-clause-claims
+returns-clause-claims g c = λ bytes t.
+    ap claims_of c.store.ensures.rest ∙ c.in_ok-claim.ensures.claims bytes t
+    ∙ ap (λ (s : Claims). after_steps c.args.geometry.now.layout s
+    (steps_of c.args.geometry.now.layout c.args.inode.now bytes)) (ap claims_of c.begin.ensures)
+
+pub returns-clause-ready : goal.returns-clause-ready
+returns-clause-ready g c =
+    ready_stored c.args.geometry.now.layout (g.I.Image.device c.claim.new.image) c.args.number _ _ c.claim.new.workspace
+    c.store.new.workspace c.store.ensures.stored c.store.ensures.rest c.claim.ensures.ready

@@ -1,8 +1,6 @@
 use Rattle.std.proofs.Common.{inl, inr, arith, refl, sym, ◌∷◌, ◌+◌, ◌≤◌, ◌<◌, [], List, ap, ◌∙◌, Err, false}
 use Rattle.std.proofs.lemmas.Bool.{cases_lt}
 use Rattle.std.proofs.lemmas.Result.{err_from_is_err_and}
-use Rattle.std.proofs.lemmas.List.Sums.{count_by-le-length}
-use Rattle.ffs_maps.proofs.Bits.{length_bits}
 use Rattle.ffs_phase.proofs.Reporting.{of_begins, of_says, of_part, of_fault, of_stops, of_same, reports_knowing, said_knows}
 use Rattle.ffs_volume.specs.Blocks.BlockCheck.{owner_lines, owners_lines, phase1_lines}
 use Rattle.ffs_volume.specs.Blocks.Claims.{Claims, after_owner}
@@ -15,6 +13,8 @@ use Rattle.ffs_volume.specs.Encodings.Kinds.{kind_at}
 use Rattle.ffs_workspace.specs.Lengths.{inodes_of}
 use Rattle.ffs_claims.specs.Lines.{of_lines, owners_from}
 use Rattle.ffs_claims.proofs.Doubles.{dups_are}
+use Rattle.ffs_claims.proofs.Weights.{used_below}
+use Rattle.ffs_claims.proofs.Frames.{ready_still}
 use Rattle.ffs_claims.proofs.Numbers.{before_next, before_first, before_end, lines_next, lines_end, filled_next, filled_end, filled_begin, is_inside, is_outside, kind_out, kind_in, mark_out, mark_in, cut_out, cut_in, first_lines}
 use Rattle.ffs_claims.proofs.first.phase1.Goals as goal
 
@@ -29,12 +29,10 @@ pub loop-number-init : goal.loop-number-init
 loop-number-init g c =
     let v = c.args.geometry.now.layout in
     let s = claims_of c.reserve.new.workspace in
-    let same = c.reserve.ensures.windows in
-    let found = c.reserve.ensures.found in
+    let found = c.reserve.ensures.only.found in
     record {
-      made = c.reserve.ensures.made;
+      ready = ready_still v _ _ _ c.reserve.ensures.only.made c.reserve.ensures.only.windows c.requires.ready;
       device = refl;
-      windows = record { table = rw same c.requires.windows.table; blocks = rw same c.requires.windows.blocks; chunk = rw same c.requires.windows.chunk };
       low = omega arith;
       high = λ h. omega arith;
       runs = omega (arith, c.reserve.ensures.runs);
@@ -58,8 +56,7 @@ claim_inode-requires-clause-runs g c =
       c.args.geometry.now.sound.numbers.inodes_below,
       c.args.geometry.now.sound.numbers.size_below,
       c.loop-number-test.true,
-      count_by-le-length (λ b. b) (claims_of c.loop-number.workspace).used,
-      length_bits c.loop-number.workspace.claimed.words.items c.loop-number.workspace.claimed.size ∙ inv.made.claimed,
+      used_below c.args.geometry.now.layout c.loop-number.workspace inv.ready.made,
     )
 
 pub returns-in_err-claim_inode-clause-text : goal.returns-in_err-claim_inode-clause-text
@@ -92,20 +89,22 @@ loop-number-preserved g c =
     let now = c.in_ok-claim_inode.ensures.claims in
     let stored = c.in_ok-claim_inode.ensures.stored in
     record {
-      made = c.claim_inode.ensures.made;
+      ready = c.claim_inode.ensures.ready;
       device = c.in_ok-claim_inode.ensures.image ∙ inv.device;
-      windows = rw (c.in_ok-claim_inode.ensures.image, inv.device) at c.claim_inode.ensures.windows;
       low = omega arith;
       high = λ h. omega arith;
       runs = omega (arith, inv.runs, inv.low, c.in_ok-claim_inode.ensures.moves);
       again = c.claim_inode.ensures.again ∙ inv.again;
       claims = λ bytes k. now bytes (contents ∙ k.0) ∙ ap (λ (t : Claims). after_owner v t (owner_of v bytes n)) (inv.claims bytes k) ∙ sym (before_next v bytes n inv.low);
       kinds = λ bytes k. filled_next 0 (kind_at v bytes) c.loop-number.workspace.kinds.items c.claim_inode.new.workspace.kinds.items n _
-          (omega (arith, inv.made.kinds)) (stored bytes (contents ∙ k.0)).kinds (kind_in v bytes n inside) (inv.kinds bytes k);
+          (omega (arith, inv.ready.made.kinds)) (stored bytes (contents ∙ k.0)).kinds (kind_in v bytes n inside)
+          (inv.kinds bytes k);
       marked = λ bytes k. filled_next false (first_marked_at v bytes) c.loop-number.workspace.marked.items c.claim_inode.new.workspace.marked.items n _
-          (omega (arith, inv.made.marked)) (stored bytes (contents ∙ k.0)).marked (mark_in v bytes n s s' inside (inv.claims bytes k) (now bytes (contents ∙ k.0))) (inv.marked bytes k);
+          (omega (arith, inv.ready.made.marked)) (stored bytes (contents ∙ k.0)).marked
+          (mark_in v bytes n s s' inside (inv.claims bytes k) (now bytes (contents ∙ k.0))) (inv.marked bytes k);
       cut = λ bytes k. filled_next 0 (cut_at v bytes) c.loop-number.workspace.cut.items c.claim_inode.new.workspace.cut.items n _
-          (omega (arith, inv.made.cut)) (stored bytes (contents ∙ k.0)).cut (cut_in v bytes n s s' inside (inv.claims bytes k) (now bytes (contents ∙ k.0))) (inv.cut bytes k);
+          (omega (arith, inv.ready.made.cut)) (stored bytes (contents ∙ k.0)).cut
+          (cut_in v bytes n s s' inside (inv.claims bytes k) (now bytes (contents ∙ k.0))) (inv.cut bytes k);
       said = of_same _ (λ bytes. of_lines (owners_lines v (after_owner v s (owner_of v bytes n)) (owners_from v bytes (n + 1)))) (λ bytes. of_lines (owners_lines v s' (owners_from v bytes (n + 1)))) _ _ _
           (of_part _ (λ bytes. of_lines (owners_lines v s (owners_from v bytes n))) (λ bytes. of_lines (owner_lines v s (owner_of v bytes n)))
           (λ bytes. of_lines (owners_lines v (after_owner v s (owner_of v bytes n)) (owners_from v bytes (n + 1)))) _ _ _ _ inv.said
@@ -141,11 +140,11 @@ returns-clause-holds g c = λ bytes k.
 pub returns-clause-runs : goal.returns-clause-runs
 returns-clause-runs g c =
     let inv = c.loop-number.invariant in
-    let used = count_by-le-length (λ b. b) (claims_of c.loop-number.workspace).used in
-    let size = length_bits c.loop-number.workspace.claimed.words.items c.loop-number.workspace.claimed.size ∙ inv.made.claimed in
+    let used = used_below c.args.geometry.now.layout c.loop-number.workspace inv.ready.made in
     elim (cases_lt 2 c.loop-number.number) [
-      | inl h ↦ let most : c.loop-number.number ≤ inodes_of c.args.geometry.now.layout = inv.high h in omega (arith, inv.runs, most, used, size)
-      | inr h ↦ omega (arith, inv.runs, used, size)
+      | inl h ↦ let most : c.loop-number.number ≤ inodes_of c.args.geometry.now.layout = inv.high h in omega
+          (arith, inv.runs, most, used)
+      | inr h ↦ omega (arith, inv.runs, used)
     ]
 
 pub returns-clause-count : goal.returns-clause-count
@@ -154,4 +153,9 @@ returns-clause-count g c = λ bytes k. (returns-clause-holds g c bytes k).runs
 
 pub returns-clause-dups : goal.returns-clause-dups
 returns-clause-dups g c = λ bytes k.
-    dups_are c.args.geometry.now.layout bytes c.loop-number.workspace c.loop-number.invariant.made.unreported (returns-clause-holds g c bytes k)
+    dups_are c.args.geometry.now.layout bytes c.loop-number.workspace c.loop-number.invariant.ready.made.unreported
+    (returns-clause-holds g c bytes k)
+
+pub returns-in_err-say-clause-ready : goal.returns-in_err-say-clause-ready
+returns-in_err-say-clause-ready g c = ready_still c.args.geometry.now.layout _ _ _ c.reserve.ensures.only.made
+    c.reserve.ensures.only.windows c.requires.ready

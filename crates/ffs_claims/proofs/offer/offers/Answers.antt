@@ -5,7 +5,8 @@ use Rattle.ffs_volume.specs.Blocks.Claims.{offer_lines, offers_lines, after_offe
 use Rattle.ffs_workspace.specs.Holds.{claims_of}
 use Rattle.ffs_phase.proofs.Reporting.{to_begins, to_says, to_stops}
 use Rattle.ffs_claims.specs.Lines.{of_lines}
-use Rattle.ffs_claims.proofs.Goes.{offers_after, offers_more, to_same, from_start}
+use Rattle.ffs_claims.proofs.Goes.{offers_after, offers_more, offer_kept, offer_runs, to_same, from_start}
+use Rattle.ffs_claims.proofs.Frames.{only_none, only_then}
 use Rattle.ffs_claims.proofs.offer.offers.Goals as goal
 
 pub returns-in_err-offer-clause-said : goal.returns-in_err-offer-clause-said
@@ -17,16 +18,30 @@ returns-in_err-offer-clause-said g c =
     c.loop-place-test.true (omega arith) c.offer.ensures.claims)
     c.in_err-offer.ensures.said)
 
+pub returns-in_err-offer-clause-runs : goal.returns-in_err-offer-clause-runs
+returns-in_err-offer-clause-runs g c =
+    offer_runs c.args.geometry.now.layout (claims_of c.loop-place.workspace) (claims_of c.offer.new.workspace)
+    _ c.offer.ensures.claims ∙ c.loop-place.invariant.runs
+
+pub returns-in_err-offer-clause-only : goal.returns-in_err-offer-clause-only
+returns-in_err-offer-clause-only g c = only_then c.args.geometry.now.layout _ _ _ c.loop-place.invariant.only
+    c.offer.ensures.only
+
 pub loop-place-preserved : goal.loop-place-preserved
 loop-place-preserved g c =
     let inv = c.loop-place.invariant in
     let f = c.from.result + c.from-in-loop-place.result in
+    let now = c.offer.ensures.claims in
     record {
-      made = c.offer.ensures.made;
-      windows = c.offer.ensures.windows ∙ inv.windows;
-      found = record { kinds = c.offer.ensures.found.kinds ∙ inv.found.kinds; marked = c.offer.ensures.found.marked ∙ inv.found.marked; cut = c.offer.ensures.found.cut ∙ inv.found.cut; again = c.offer.ensures.found.again ∙ inv.found.again };
-      runs = c.offer.ensures.runs ∙ inv.runs;
-      kept = omega arith;
+      only = only_then c.args.geometry.now.layout _ _ _ inv.only c.offer.ensures.only;
+      runs = offer_runs c.args.geometry.now.layout (claims_of c.loop-place.workspace) (claims_of c.offer.new.workspace)
+          f now ∙ inv.runs;
+      kept = omega (
+        arith,
+        inv.kept,
+        offer_kept c.args.geometry.now.layout (claims_of c.loop-place.workspace)
+            (claims_of c.offer.new.workspace) f now,
+      );
       claims = inv.claims ∙ offers_after c.args.geometry.now.layout (claims_of c.loop-place.workspace) (claims_of c.offer.new.workspace) c.args.start c.args.len c.loop-place.place f
           c.loop-place-test.true (omega arith) c.offer.ensures.claims;
       said = to_says _ _ _ (of_lines (offer_lines c.args.geometry.now.layout c.args.number (claims_of c.loop-place.workspace) f)) _ _ _ inv.said
@@ -40,9 +55,7 @@ loop-place-init g c =
     let v = c.args.geometry.now.layout in
     let s = claims_of c.args.workspace.now in
     record {
-      made = c.requires.made;
-      windows = refl;
-      found = record { kinds = refl; marked = refl; cut = refl; again = refl };
+      only = only_none c.args.geometry.now.layout c.args.workspace.now c.requires.made;
       runs = refl;
       kept = omega arith;
       claims = ap (after_offers v s) (from_start c.args.start c.args.len);

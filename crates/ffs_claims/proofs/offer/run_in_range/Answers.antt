@@ -1,10 +1,34 @@
+use Rattle.std.proofs.Common.{◌≡◌, true, nat_lt, arith, sym}
+use Rattle.std.proofs.lemmas.Bool.Decides.{nat_tests}
 use Rattle.ffs_report.proofs.Reports.{said_none}
+use Rattle.ffs_workspace.specs.Holds.{claims_of}
+use Rattle.ffs_claims.proofs.Whole.{whole_is, run_below}
 use Rattle.ffs_claims.proofs.offer.run_in_range.Goals as goal
 
-pub returns-then-claim_whole-clause-said : goal.returns-then-claim_whole-clause-said
-returns-then-claim_whole-clause-said g c =
-    let whole = c.claim_whole.ensures.whole c.if-claim_whole.true in
+pub claim-requires-clause-below : goal.claim-requires-clause-below
+claim-requires-clause-below g c = omega (
+  arith,
+  run_below c.args.geometry.now.layout c.args.start c.args.len c.requires.some c.requires.in_range,
+  c.requires.made.claimed,
+)
+
+pub returns-then-claim-clause-said : goal.returns-then-claim-clause-said
+returns-then-claim-clause-said g c =
+    let few : nat_lt c.args.workspace.now.dups 11 ≡ true = grind (arith, nat_tests) in
+    let whole = whole_is c.args.geometry.now.layout (claims_of c.args.workspace.now) c.args.start c.args.len few
+    c.requires.in_range (c.claim.ensures.clear c.if-claim.true) in
     rw (whole.silent c.args.number) (said_none _)
 
+pub returns-then-claim-clause-claims : goal.returns-then-claim-clause-claims
+returns-then-claim-clause-claims g c =
+    let few : nat_lt c.args.workspace.now.dups 11 ≡ true = grind (arith, nat_tests) in
+    let whole = whole_is c.args.geometry.now.layout (claims_of c.args.workspace.now) c.args.start c.args.len few
+    c.requires.in_range (c.claim.ensures.clear c.if-claim.true) in
+    let more : c.from.result ≡ c.args.len = omega arith in
+    rw (c.claim.ensures.claimed c.if-claim.true, more) (sym whole.claims)
+
 pub returns-clause-said : goal.returns-clause-said
-returns-clause-said g c = rw (c.claim_whole.ensures.kept c.if-claim_whole.false) at c.offers.ensures.said
+returns-clause-said g c = rw (c.claim.ensures.kept c.if-claim.false) at c.offers.ensures.said
+
+pub returns-clause-claims : goal.returns-clause-claims
+returns-clause-claims g c = rw (c.claim.ensures.kept c.if-claim.false) at c.offers.ensures.claims

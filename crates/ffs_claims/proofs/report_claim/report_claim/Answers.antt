@@ -1,4 +1,6 @@
-use Rattle.std.proofs.Common.{arith, refl, sym, ◌∙◌}
+use Rattle.std.proofs.Common.{◌≡◌, ◌-◌, arith, rules, refl, sym, ap, ◌∙◌}
+use Rattle.ffs_workspace.specs.Lengths.{set_count}
+use Rattle.ffs_claims.proofs.Doubles.{count_clear}
 use Rattle.ffs_maps.specs.Bits.{bits_of}
 use Rattle.ffs_maps.proofs.Bits.{length_bits}
 use Rattle.ffs_claims.proofs.Reportings.{reported_out, said_out, past_end}
@@ -22,3 +24,26 @@ returns-then-not-get-clause-said g c =
 pub returns-then-not-get-clause-reported : goal.returns-then-not-get-clause-reported
 returns-then-not-get-clause-reported g c =
     reported_out c.args.workspace.now c.args.workspace.now c.args.number c.args.fragment (sym c.get.ensures ∙ c.if-not-get.true) refl refl
+
+pub overflow_sub-workspace : goal.overflow_sub-workspace
+overflow_sub-workspace g c =
+    let old = c.args.workspace.now.duplicates in
+    let size = length_bits c.args.workspace.now.duplicates.words.items c.args.workspace.now.duplicates.size ∙ c.requires.made.duplicates in
+    omega (
+      arith,
+      c.requires.made.unreported,
+      count_clear (bits_of c.args.workspace.now.duplicates) c.args.fragment
+          (omega (arith, size)) (sym c.get.ensures ∙ c.if-not-get.false),
+    )
+
+pub returns-clause-only : goal.returns-clause-only
+returns-clause-only g c =
+    let m = c.requires.made in
+    let size = length_bits c.args.workspace.now.duplicates.words.items c.args.workspace.now.duplicates.size
+    ∙ m.duplicates in
+    let one = count_clear (bits_of c.args.workspace.now.duplicates) c.args.fragment (omega (arith, size))
+    (sym c.get.ensures ∙ c.if-not-get.false) in
+    let count : c.args.workspace.now.unreported - 1 ≡ set_count (bits_of c.clear.new.self) = omega
+    (arith, m.unreported, ap set_count c.clear.ensures.bits, one) in
+    let kept = c.clear.ensures.size ∙ m.duplicates in
+    search rules

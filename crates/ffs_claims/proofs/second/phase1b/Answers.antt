@@ -1,4 +1,4 @@
-use Rattle.std.proofs.Common.{◌≡◌, ◌+◌, ◌^◌, ◌<◌, ◌∷◌, [], arith, refl, sym, ap, ◌∙◌, List, Err}
+use Rattle.std.proofs.Common.{◌≡◌, ◌≤◌, ◌+◌, ◌^◌, ◌<◌, ◌∷◌, [], arith, refl, sym, ap, ◌∙◌, List, Err}
 use Rattle.std.specs.Prelude.{slice_index}
 use Rattle.std.proofs.lemmas.Result.{err_from_is_err_and}
 use Rattle.ffs_maps.specs.Bits.{bits_of}
@@ -15,8 +15,10 @@ use Rattle.ffs_claims.specs.Lines.{of_lines, owners_from}
 use Rattle.ffs_claims.specs.Rescan.{rescan, offers_again}
 use Rattle.ffs_claims.specs.Reporting.{after_first}
 use Rattle.ffs_claims.proofs.Numbers.{is_inside}
+use Rattle.ffs_claims.proofs.Frames.{claims_then, ready_unseen}
 use Rattle.ffs_claims.proofs.Rescanned.{kept_next, kept_end, runs_on, runs_most, claims_hold, reported_same, all_lines, all_kept, lines_split}
-use Rattle.ffs_claims.proofs.Rewalks.{reporting_over, lines_over}
+use Rattle.ffs_claims.proofs.Rewalks.{reporting_over}
+use Rattle.ffs_claims.proofs.Doubles.{none_first}
 use Rattle.ffs_claims.proofs.Reportings.{reporting_more, reporting_ends, reporting_same}
 use Rattle.ffs_phase.specs.Known.{ForBytes, IsContents}
 use Rattle.ffs_workspace.specs.Holds.{HoldsPhase1}
@@ -38,25 +40,8 @@ loop-number-init g c =
     let v = c.args.geometry.now.layout in
     let d = bits_of c.args.workspace.now.duplicates in
     record {
-      made = record {
-        claimed = c.requires.made.claimed;
-        duplicates = c.requires.made.duplicates;
-        unreported = c.requires.made.unreported;
-        kinds = c.requires.made.kinds;
-        marked = c.requires.made.marked;
-        named = c.requires.made.named;
-        reached = c.requires.made.reached;
-        leaders = c.requires.made.leaders;
-        references = c.requires.made.references;
-        cut = c.requires.made.cut;
-        parents = c.requires.made.parents;
-        queue = c.requires.made.queue;
-        table = c.requires.made.table;
-        blocks = c.requires.made.blocks;
-        chunk = c.requires.made.chunk;
-      };
+      ready = ready_unseen v (g.I.Image.device c.args.image.now) c.args.workspace.now 0 c.requires.ready;
       device = refl;
-      windows = record { table = c.requires.windows.table; blocks = c.requires.windows.blocks; chunk = c.requires.windows.chunk };
       claims = record { claimed = refl; kinds = refl; cut = refl; seen = refl };
       low = omega arith;
       high = λ h. omega arith;
@@ -68,26 +53,6 @@ loop-number-init g c =
           (λ bytes k. ap (λ (xs : List Message). phase1b ∷ xs) (all_lines v bytes d k.1.dup))
           c.in_ok-say.ensures.said;
     }
-
-pub returns-then-is_reported-clause-text : goal.returns-then-is_reported-clause-text
-returns-then-is_reported-clause-text g c =
-    let v = c.args.geometry.now.layout in
-    let inv = c.loop-number.invariant in
-    let none : set_count (bits_of c.loop-number.workspace.duplicates) ≡ 0 = sym inv.made.unreported ∙ c.is_reported.ensures.none c.if-is_reported.true in
-    of_same _ _ (λ bytes. []) _ _ _ inv.said
-    (λ bytes k. lines_over (bits_of c.loop-number.workspace.duplicates) (kept_in_owners v (claims_before v bytes c.loop-number.number) (owners_from v bytes c.loop-number.number)) none)
-
-pub returns-then-is_reported-clause-holds : goal.returns-then-is_reported-clause-holds
-returns-then-is_reported-clause-holds g c = λ bytes k.
-    let v = c.args.geometry.now.layout in
-    let inv = c.loop-number.invariant in
-    let none : set_count (bits_of c.loop-number.workspace.duplicates) ≡ 0 = sym inv.made.unreported ∙ c.is_reported.ensures.none c.if-is_reported.true in
-    claims_hold v bytes c.args.workspace.now c.loop-number.workspace k.1 inv.claims (reporting_over _ _ _ _ none (inv.reported bytes k))
-
-pub returns-then-is_reported-clause-runs : goal.returns-then-is_reported-clause-runs
-returns-then-is_reported-clause-runs g c = λ bytes k.
-    let inv = c.loop-number.invariant in
-    omega (arith, inv.runs bytes k, runs_most c.args.geometry.now.layout bytes c.loop-number.number inv.low inv.high)
 
 pub returns-in_err-renumbered-clause-text : goal.returns-in_err-renumbered-clause-text
 returns-in_err-renumbered-clause-text g c =
@@ -140,56 +105,82 @@ loop-number-preserved g c =
     let on : ForBytes (λ bytes. IsContents (g.I.Image.device c.args.image.now).contents bytes × HoldsPhase1 v bytes c.args.workspace.now) (λ bytes.
     looked_at d (owners_runs v (claims_before v bytes n) (owners_from v bytes n))
     ≡ looked_at d (steps_runs_again v n (rescan (slice_index cuts n)) (steps_of v (inode_of v bytes n) bytes)) + looked_at d' (owners_runs v (claims_before v bytes (n + 1)) (owners_from v bytes (n + 1)))) =
-    λ bytes k. looked_on v bytes cuts n d d' c.args.geometry.now.sound inv.low lt inside (cut ∙ k.1.cut n) (c.in_ok-renumbered.ensures.reported bytes (image ∙ k.0)).dup in
+    λ bytes k. looked_on v bytes cuts n d d' c.args.geometry.now.sound inv.low lt inside (cut ∙ k.1.cut n)
+    (c.in_ok-renumbered.ensures.rewalked bytes (image ∙ k.0)).reported.dup in
     record {
-      made = c.renumbered.ensures.made;
+      ready = c.renumbered.ensures.ready;
       device = c.in_ok-renumbered.ensures.image ∙ inv.device;
-      windows = rw (c.in_ok-renumbered.ensures.image, inv.device) at c.renumbered.ensures.windows;
-      claims = record { claimed = c.renumbered.ensures.claims.claimed ∙ inv.claims.claimed; kinds = c.renumbered.ensures.claims.kinds ∙ inv.claims.kinds; cut = c.renumbered.ensures.claims.cut ∙ inv.claims.cut; seen = c.renumbered.ensures.claims.seen ∙ inv.claims.seen };
+      claims = claims_then _ _ _ inv.claims c.renumbered.ensures.claims;
       low = omega arith;
       high = λ h. omega arith;
       runs = λ bytes k. omega (arith, inv.runs bytes k, c.renumbered.ensures.runs bytes (image ∙ k.0), runs_on v bytes cuts n c.args.geometry.now.sound inv.low inside (cut ∙ k.1.cut n));
       count = λ bytes k.
           let fits : c.loop-number.workspace.runs_again + looked_at d (steps_runs_again v n (rescan (slice_index cuts n)) (steps_of v (inode_of v bytes n) bytes)) < 2 ^ 64 =
           omega (arith, inv.count bytes k, look_fits v bytes c.args.geometry.now.sound, on bytes k) in
-          omega (arith, inv.count bytes k, on bytes k, (c.in_ok-renumbered.ensures.count bytes (image ∙ k.0)) fits);
+          omega (
+            arith,
+            inv.count bytes k,
+            on bytes k,
+            (c.in_ok-renumbered.ensures.rewalked bytes (image ∙ k.0)).count
+                fits,
+          );
       reported = λ bytes k. reporting_more _ (offers_again v n (rescan (slice_index cuts n)) (steps_of v (inode_of v bytes n) bytes)) (kept_in_owners v (claims_before v bytes (n + 1)) (owners_from v bytes (n + 1))) _ _ _ _
-          (inv.reported bytes k) (kept_next v bytes cuts n c.args.geometry.now.sound inv.low lt inside (cut ∙ k.1.cut n)) (c.in_ok-renumbered.ensures.reported bytes (image ∙ k.0));
+          (inv.reported bytes k) (kept_next v bytes cuts n c.args.geometry.now.sound inv.low lt inside
+          (cut ∙ k.1.cut n)) (c.in_ok-renumbered.ensures.rewalked bytes (image ∙ k.0)).reported;
       said = of_part _ (λ bytes. of_lines (first_offer_lines d (kept_in_owners v (claims_before v bytes n) (owners_from v bytes n))))
           (λ bytes. of_lines (first_offer_lines d (offers_again v n (rescan (slice_index cuts n)) (steps_of v (inode_of v bytes n) bytes))))
           (λ bytes. of_lines (first_offer_lines d' (kept_in_owners v (claims_before v bytes (n + 1)) (owners_from v bytes (n + 1))))) _ _ _ _ inv.said
-          (λ bytes k. lines_split d d' _ _ _ (kept_next v bytes cuts n c.args.geometry.now.sound inv.low lt inside (cut ∙ k.1.cut n)) (c.in_ok-renumbered.ensures.reported bytes (image ∙ k.0)).dup)
+          (λ bytes k. lines_split d d' _ _ _ (kept_next v bytes cuts n c.args.geometry.now.sound inv.low lt inside
+          (cut ∙ k.1.cut n)) (c.in_ok-renumbered.ensures.rewalked bytes (image ∙ k.0)).reported.dup)
           (said_knows _ _ _ _ _ _ (λ bytes k. image ∙ k.0) c.in_ok-renumbered.ensures.text);
     }
 
-pub returns-after-loop-number-clause-text : goal.returns-after-loop-number-clause-text
-returns-after-loop-number-clause-text g c =
+pub returns-then-workspace-eq0 : goal.returns-then-workspace-eq0
+returns-then-workspace-eq0 g c =
     let v = c.args.geometry.now.layout in
     let inv = c.loop-number.invariant in
-    of_same _ _ (λ bytes. []) _ _ _ inv.said
-    (λ bytes k. ap (λ (os : List Offer). of_lines (first_offer_lines (bits_of c.loop-number.workspace.duplicates) os)) (kept_end v bytes (claims_before v bytes c.loop-number.number) c.loop-number.number (omega arith)))
+    let n = c.loop-number.number in
+    let d = bits_of c.loop-number.workspace.duplicates in
+    let none : set_count (bits_of c.loop-number.workspace.duplicates) ≡ 0 = sym inv.ready.made.unreported
+    ∙ c.if-workspace-eq0.true in
+    record {
+      image = inv.device;
+      text = of_same _ _ (λ bytes. []) _ _ _ inv.said
+          (λ bytes k. ap of_lines (none_first d (kept_in_owners v (claims_before v bytes n) (owners_from v bytes n))
+          none));
+      holds = λ bytes k. claims_hold v bytes c.args.workspace.now c.loop-number.workspace k.1 inv.claims
+          (reporting_over _ _ _ _ none (inv.reported bytes k));
+      runs = λ bytes k. omega (arith, inv.runs bytes k, runs_most v bytes n inv.low inv.high);
+      count = λ bytes k. omega (
+        arith,
+        inv.count bytes k,
+        looked_none d (owners_runs v (claims_before v bytes n)
+            (owners_from v bytes n)) none,
+      );
+      seen = inv.claims.seen;
+      ready = inv.ready;
+    }
 
-pub returns-after-loop-number-clause-holds : goal.returns-after-loop-number-clause-holds
-returns-after-loop-number-clause-holds g c = λ bytes k.
+pub returns-after-loop-number : goal.returns-after-loop-number
+returns-after-loop-number g c =
     let v = c.args.geometry.now.layout in
     let inv = c.loop-number.invariant in
-    claims_hold v bytes c.args.workspace.now c.loop-number.workspace k.1 inv.claims
-    (reporting_ends _ _ _ _ (inv.reported bytes k) (kept_end v bytes (claims_before v bytes c.loop-number.number) c.loop-number.number (omega arith)))
+    let n = c.loop-number.number in
+    let d = bits_of c.loop-number.workspace.duplicates in
+    let past : inodes_of v ≤ n = omega arith in
+    record {
+      image = inv.device;
+      text = of_same _ _ (λ bytes. []) _ _ _ inv.said
+          (λ bytes k. ap (λ (os : List Offer). of_lines (first_offer_lines d os))
+          (kept_end v bytes (claims_before v bytes n) n past));
+      holds = λ bytes k. claims_hold v bytes c.args.workspace.now c.loop-number.workspace k.1 inv.claims
+          (reporting_ends _ _ _ _ (inv.reported bytes k) (kept_end v bytes (claims_before v bytes n) n past));
+      runs = λ bytes k. omega (arith, inv.runs bytes k, runs_most v bytes n inv.low inv.high);
+      count = λ bytes k. omega (arith, inv.count bytes k, looked_end v bytes d (claims_before v bytes n) n past);
+      seen = inv.claims.seen;
+      ready = inv.ready;
+    }
 
-pub returns-after-loop-number-clause-runs : goal.returns-after-loop-number-clause-runs
-returns-after-loop-number-clause-runs g c = λ bytes k.
-    let inv = c.loop-number.invariant in
-    omega (arith, inv.runs bytes k, runs_most c.args.geometry.now.layout bytes c.loop-number.number inv.low inv.high)
-
-pub returns-then-is_reported-clause-count : goal.returns-then-is_reported-clause-count
-returns-then-is_reported-clause-count g c = λ bytes k.
-    let v = c.args.geometry.now.layout in
-    let inv = c.loop-number.invariant in
-    let none : set_count (bits_of c.loop-number.workspace.duplicates) ≡ 0 = sym inv.made.unreported ∙ c.is_reported.ensures.none c.if-is_reported.true in
-    omega (arith, inv.count bytes k, looked_none (bits_of c.loop-number.workspace.duplicates) (owners_runs v (claims_before v bytes c.loop-number.number) (owners_from v bytes c.loop-number.number)) none)
-
-pub returns-after-loop-number-clause-count : goal.returns-after-loop-number-clause-count
-returns-after-loop-number-clause-count g c = λ bytes k.
-    let v = c.args.geometry.now.layout in
-    let inv = c.loop-number.invariant in
-    omega (arith, inv.count bytes k, looked_end v bytes (bits_of c.loop-number.workspace.duplicates) (claims_before v bytes c.loop-number.number) c.loop-number.number (omega arith))
+pub returns-in_err-say-clause-ready : goal.returns-in_err-say-clause-ready
+returns-in_err-say-clause-ready g c = ready_unseen c.args.geometry.now.layout (g.I.Image.device c.args.image.now)
+    c.args.workspace.now 0 c.requires.ready

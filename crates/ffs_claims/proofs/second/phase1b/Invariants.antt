@@ -9,7 +9,8 @@ use Rattle.ffs_volume.specs.Messages.Kinds.{phase1b}
 use Rattle.ffs_volume.specs.Blocks.Owners.{owners_of}
 use Rattle.ffs_maps.specs.Bits.{bits_of}
 use Rattle.ffs_workspace.specs.Holds.{HoldsPhase1}
-use Rattle.ffs_workspace.specs.Lengths.{IsFor, HoldWindows, inodes_of}
+use Rattle.ffs_workspace.specs.Lengths.{inodes_of}
+use Rattle.ffs_workspace.specs.Ready.{IsReady}
 use Rattle.ffs_claims.specs.Lines.{of_lines, owners_from}
 use Rattle.ffs_claims.specs.Reporting.{SameClaims}
 use Rattle.ffs_claims.specs.SecondLook.{looked_at, owners_runs, second_look}
@@ -18,9 +19,8 @@ use Rattle.ffs_claims.proofs.second.phase1b.Given as goal
 
 abbrev pub invariant-loop-number : goal.invariant-loop-number
 invariant-loop-number g l = record {
-  made : IsFor l.geometry.layout l.workspace;
+  ready : IsReady l.geometry.layout (g.I.Image.device l.image) l.workspace;
   device : g.I.Image.device l.image ≡ g.I.Image.device l.fn.image;
-  windows : HoldWindows l.geometry.layout (g.I.Image.device l.fn.image).contents l.workspace;
   claims : SameClaims l.fn.workspace l.workspace;
   low : 2 ≤ l.number;
   high : 2 < l.number → l.number ≤ inodes_of l.geometry.layout;

@@ -1,18 +1,18 @@
-use Rattle.std.proofs.Common.{◌≡◌, arith, refl, ap, subst, ◌∙◌, List, ℕ}
+use Rattle.std.proofs.Common.{◌≡◌, arith, ap, ◌∙◌, List, ℕ}
 use Rattle.std.specs.Prelude.{slice_index}
 use Rattle.std.proofs.lemmas.Result.{err_from_is_err_and}
 use Rattle.ffs_volume.specs.declared.Inode.{Inode}
-use Rattle.ffs_volume.specs.Blocks.BlockCheck.{Offer, first_offer_lines}
+use Rattle.ffs_volume.specs.Blocks.BlockCheck.{first_offer_lines}
 use Rattle.ffs_volume.specs.Blocks.Inodes.{inode_of}
 use Rattle.ffs_volume.specs.Blocks.Steps.{steps_of}
 use Rattle.ffs_maps.specs.Bits.{bits_of}
 use Rattle.ffs_phase.proofs.Reporting.{of_begins, of_reads, reports_same, reports_knowing}
 use Rattle.ffs_claims.specs.Lines.{of_lines}
 use Rattle.ffs_claims.specs.Rescan.{rescan, offers_again, runs_again}
-use Rattle.ffs_claims.specs.Reporting.{OffersReported}
 use Rattle.ffs_claims.proofs.Inodes.{ok_where}
-use Rattle.ffs_claims.proofs.Reportings.{reported_from}
-use Rattle.ffs_claims.specs.SecondLook.{Rose, looked_at, steps_runs_again}
+use Rattle.ffs_claims.proofs.Frames.{ready_table}
+use Rattle.ffs_claims.proofs.Rewalks.{rewalked_from}
+use Rattle.ffs_claims.specs.SecondLook.{Rewalked}
 use Rattle.ffs_claims.proofs.second.renumbered.Goals as goal
 
 pub returns-in_err-inode-clause-text : goal.returns-in_err-inode-clause-text
@@ -28,50 +28,60 @@ returns-clause-text g c =
     let v = c.args.geometry.now.layout in
     let n = c.args.number in
     let d = bits_of c.args.workspace.now.duplicates in
-    reports_same (Unit {0}) _ (λ bytes. of_lines (first_offer_lines d (offers_again v n (rescan c.cut_of-cut.result) (steps_of v c.in_ok-inode.inode bytes))))
+    reports_same (Unit {0}) _
+    (λ bytes. of_lines (first_offer_lines d
+    (offers_again v n (rescan (slice_index c.as_slice.result.now c.args.number))
+    (steps_of v c.in_ok-inode.inode bytes))))
     (λ bytes. of_lines (first_offer_lines d (offers_again v n (rescan (slice_index c.args.workspace.now.cut.items n)) (steps_of v (inode_of v bytes n) bytes)))) _ _ c.rewalk.result
-    (λ bytes t. ap (λ (k : ℕ). of_lines (first_offer_lines d (offers_again v n (rescan k) (steps_of v c.in_ok-inode.inode bytes)))) c.cut_of-cut.ensures
+    (λ bytes t. ap (λ (k : ℕ). of_lines
+    (first_offer_lines d (offers_again v n (rescan k) (steps_of v c.in_ok-inode.inode bytes))))
+    (ap (λ (cuts : List ℕ). slice_index cuts c.args.number) c.as_slice.ensures.value)
     ∙ ap (λ (i : Inode). of_lines (first_offer_lines d (offers_again v n (rescan (slice_index c.args.workspace.now.cut.items n)) (steps_of v i bytes)))) (c.in_ok-inode.ensures.inode bytes t))
     (reports_knowing (Unit {0}) _ _ _ _ _ c.rewalk.result (λ bytes t. ap (λ d. d.contents) c.in_ok-inode.ensures.ok ∙ t) c.rewalk.ensures.text)
 
-pub returns-clause-reported : goal.returns-clause-reported
-returns-clause-reported g c =
+pub returns-clause-rewalked : goal.returns-clause-rewalked
+returns-clause-rewalked g c =
     let v = c.args.geometry.now.layout in
     let n = c.args.number in
+    let w = c.args.workspace.now in
+    let i = c.in_ok-inode.inode in
+    let cut : slice_index c.as_slice.result.now c.args.number ≡ slice_index c.args.workspace.now.cut.items
+    c.args.number = ap (λ (cuts : List ℕ). slice_index cuts c.args.number) c.as_slice.ensures.value in
     ok_where c.rewalk.result _ _
-    (λ bytes. OffersReported (offers_again v n (rescan c.cut_of-cut.result) (steps_of v c.in_ok-inode.inode bytes)) (record c.args.workspace.now { windows = record c.args.workspace.now.windows { table = c.inode.new.self } }) c.rewalk.new.workspace)
-    (λ bytes. OffersReported (offers_again v n (rescan (slice_index c.args.workspace.now.cut.items n)) (steps_of v (inode_of v bytes n) bytes)) c.args.workspace.now c.rewalk.new.workspace)
+    (λ bytes. Rewalked v n (slice_index c.as_slice.result.now n) (steps_of v c.in_ok-inode.inode bytes)
+    (record c.args.workspace.now { windows = record c.args.workspace.now.windows { table = c.inode.new.self } })
+    c.rewalk.new.workspace)
+    (λ bytes. Rewalked v n (slice_index c.args.workspace.now.cut.items n) (steps_of v (inode_of v bytes n) bytes)
+    c.args.workspace.now c.rewalk.new.workspace)
     (ap (λ d. d.contents) c.in_ok-inode.ensures.ok)
-    (λ bytes t h.
-    let same : offers_again v n (rescan c.cut_of-cut.result) (steps_of v c.in_ok-inode.inode bytes) ≡ offers_again v n (rescan (slice_index c.args.workspace.now.cut.items n)) (steps_of v (inode_of v bytes n) bytes) =
-    ap (λ (k : ℕ). offers_again v n (rescan k) (steps_of v c.in_ok-inode.inode bytes)) c.cut_of-cut.ensures
-    ∙ ap (λ (i : Inode). offers_again v n (rescan (slice_index c.args.workspace.now.cut.items n)) (steps_of v i bytes)) (c.in_ok-inode.ensures.inode bytes t) in
-    subst (λ (os : List Offer). OffersReported os c.args.workspace.now c.rewalk.new.workspace) same
-    (reported_from (offers_again v n (rescan c.cut_of-cut.result) (steps_of v c.in_ok-inode.inode bytes)) c.args.workspace.now (record c.args.workspace.now { windows = record c.args.workspace.now.windows { table = c.inode.new.self } }) c.rewalk.new.workspace h refl refl))
-    c.rewalk.ensures.reported
+    (λ bytes t h. rewalked_from _ _ _ _ c.args.workspace.now _ _ (rw (cut, c.in_ok-inode.ensures.inode bytes t) at h))
+    c.rewalk.ensures.rewalked
 
 pub returns-clause-runs : goal.returns-clause-runs
 returns-clause-runs g c = λ bytes t.
     let v = c.args.geometry.now.layout in
     let n = c.args.number in
-    let same : runs_again v (rescan c.cut_of-cut.result) (steps_of v c.in_ok-inode.inode bytes) ≡ runs_again v (rescan (slice_index c.args.workspace.now.cut.items n)) (steps_of v (inode_of v bytes n) bytes) =
-    ap (λ (k : ℕ). runs_again v (rescan k) (steps_of v c.in_ok-inode.inode bytes)) c.cut_of-cut.ensures
+    let same : runs_again v (rescan (slice_index c.as_slice.result.now c.args.number))
+    (steps_of v c.in_ok-inode.inode bytes) ≡ runs_again v (rescan (slice_index c.args.workspace.now.cut.items n))
+    (steps_of v (inode_of v bytes n) bytes) =
+    ap (λ (k : ℕ). runs_again v (rescan k) (steps_of v c.in_ok-inode.inode bytes))
+    (ap (λ (cuts : List ℕ). slice_index cuts c.args.number) c.as_slice.ensures.value)
     ∙ ap (λ (i : Inode). runs_again v (rescan (slice_index c.args.workspace.now.cut.items n)) (steps_of v i bytes)) (c.in_ok-inode.ensures.inode bytes t) in
     omega (arith, c.rewalk.ensures.runs bytes (ap (λ d. d.contents) c.in_ok-inode.ensures.ok ∙ t), same)
 
-pub returns-clause-count : goal.returns-clause-count
-returns-clause-count g c =
-    let v = c.args.geometry.now.layout in
-    let n = c.args.number in
-    let w = c.args.workspace.now in
-    let d = bits_of c.args.workspace.now.duplicates in
-    ok_where c.rewalk.result _ _
-    (λ bytes. Rose w.runs_again c.rewalk.new.workspace.runs_again (looked_at d (steps_runs_again v n (rescan c.cut_of-cut.result) (steps_of v c.in_ok-inode.inode bytes))))
-    (λ bytes. Rose w.runs_again c.rewalk.new.workspace.runs_again (looked_at d (steps_runs_again v n (rescan (slice_index w.cut.items n)) (steps_of v (inode_of v bytes n) bytes))))
-    (ap (λ d. d.contents) c.in_ok-inode.ensures.ok)
-    (λ bytes t h.
-    let same : steps_runs_again v n (rescan c.cut_of-cut.result) (steps_of v c.in_ok-inode.inode bytes) ≡ steps_runs_again v n (rescan (slice_index c.args.workspace.now.cut.items n)) (steps_of v (inode_of v bytes n) bytes) =
-    ap (λ (k : ℕ). steps_runs_again v n (rescan k) (steps_of v c.in_ok-inode.inode bytes)) c.cut_of-cut.ensures
-    ∙ ap (λ (i : Inode). steps_runs_again v n (rescan (slice_index c.args.workspace.now.cut.items n)) (steps_of v i bytes)) (c.in_ok-inode.ensures.inode bytes t) in
-    subst (λ (os : List (List Offer)). Rose w.runs_again c.rewalk.new.workspace.runs_again (looked_at d os)) same h)
-    c.rewalk.ensures.count
+pub inode-requires : goal.inode-requires
+inode-requires g c =
+    let ready = c.requires.ready in
+    record { number = c.requires.number; volume = ready.volume; room = ready.made.table; holds = ready.windows.table }
+
+pub returns-in_err-inode-clause-ready : goal.returns-in_err-inode-clause-ready
+returns-in_err-inode-clause-ready g c =
+    let err = c.in_err-inode.ensures.err in
+    ready_table c.args.geometry.now.layout (g.I.Image.device c.args.image.now) _ c.args.workspace.now c.inode.new.self
+    err.contents err.size c.inode.ensures.room c.inode.ensures.holds c.requires.ready
+
+pub rewalk-requires-clause-ready : goal.rewalk-requires-clause-ready
+rewalk-requires-clause-ready g c =
+    let ok = c.in_ok-inode.ensures.ok in
+    ready_table c.args.geometry.now.layout (g.I.Image.device c.args.image.now) _ c.args.workspace.now c.inode.new.self
+    (ap (λ d. d.contents) ok) (ap (λ d. d.size) ok) c.inode.ensures.room c.inode.ensures.holds c.requires.ready

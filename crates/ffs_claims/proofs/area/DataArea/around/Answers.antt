@@ -1,15 +1,13 @@
-use Rattle.std.proofs.Common.{arith, ◌≡◌, ◌+◌, ◌/◌, ◌<◌, ◌≤◌}
+use Rattle.std.proofs.Common.{arith, ◌≡◌, ◌+◌, ◌/◌, ◌<◌}
 use Rattle.ffs_volume.specs.Disk.Areas.{cgbase}
 use Rattle.ffs_volume.proofs.AreaLaws.{group_below}
 use Rattle.ffs_claims.proofs.DataAreas.{before_metadata, after_metadata, base_above}
-use Rattle.ffs_claims.proofs.Whole.{run_below}
 use Rattle.ffs_claims.proofs.area.DataArea.around.Goals as goal
 
 pub returns-then-start-data : goal.returns-then-start-data
 returns-then-start-data c =
     let v = c.args.geometry.now.layout in
-    let inside : c.args.start + c.args.len ≤ v.size = run_below v c.args.start c.args.len c.requires.some c.requires.in_range in
-    let group : c.args.start / v.fpg < v.ncg = group_below v c.args.start c.args.geometry.now.sound (omega (arith, c.requires.some)) in
+    let group : c.args.start / v.fpg < v.ncg = group_below v c.args.start c.args.geometry.now.sound c.requires.inside in
     record {
       runs = λ s n low high some.
           before_metadata v (c.args.start / v.fpg) s n c.args.geometry.now.sound group (rw c.cgbase-base.ensures.value at low) (rw c.cgsblock.ensures at high) some;
@@ -18,8 +16,7 @@ returns-then-start-data c =
 pub returns : goal.returns
 returns c =
     let v = c.args.geometry.now.layout in
-    let inside : c.args.start + c.args.len ≤ v.size = run_below v c.args.start c.args.len c.requires.some c.requires.in_range in
-    let group : c.args.start / v.fpg < v.ncg = group_below v c.args.start c.args.geometry.now.sound (omega (arith, c.requires.some)) in
+    let group : c.args.start / v.fpg < v.ncg = group_below v c.args.start c.args.geometry.now.sound c.requires.inside in
     let next : cgbase v (c.args.start / v.fpg + 1) ≡ cgbase v (c.args.start / v.fpg) + v.fpg = base_above v (c.args.start / v.fpg) in
     record {
       runs = λ s n low high some.

@@ -7,20 +7,19 @@ use Rattle.ffs_volume.specs.Blocks.Claims.{after_steps, steps_lines, is_open}
 use Rattle.ffs_volume.specs.Blocks.ClaimBounds.{ClaimBound}
 use Rattle.ffs_walk.specs.Rests.{rest, left}
 use Rattle.ffs_workspace.specs.Holds.{claims_of}
-use Rattle.ffs_workspace.specs.Lengths.{IsFor, HoldWindows}
+use Rattle.ffs_workspace.specs.Ready.{IsReady}
 use Rattle.ffs_claims.specs.Leaves.{SameFound}
 use Rattle.ffs_claims.specs.Lines.{of_lines}
 use Rattle.ffs_claims.specs.Area.{IsDataArea}
-use Rattle.ffs_claims.proofs.claim.claim_steps.Given as goal
+use Rattle.ffs_claims.proofs.claim.claim.Given as goal
 
 abbrev pub invariant-loop-next : goal.invariant-loop-next
 invariant-loop-next g l = record {
-  made : IsFor l.geometry.layout l.workspace;
+  ready : IsReady l.geometry.layout (g.I.Image.device l.image) l.workspace;
   area : IsDataArea l.geometry.layout l.area;
   open_still : is_open (claims_of l.workspace) ≡ true;
   geometry : l.walk.geometry ≡ l.geometry;
   device : g.I.Image.device l.image ≡ g.I.Image.device l.initial.image;
-  windows : HoldWindows l.geometry.layout (g.I.Image.device l.initial.image).contents l.workspace;
   found : SameFound l.initial.workspace l.workspace;
   moves : ClaimBound (claims_of l.initial.workspace) (claims_of l.workspace);
   claims : ForBytes (IsContents (g.I.Image.device l.initial.image).contents) (λ bytes.
