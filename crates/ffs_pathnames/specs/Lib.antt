@@ -12,3 +12,4 @@ pub mod DirectoryContext
 pub mod GoesOn
 pub mod Begins
 pub mod Before
+pub mod Ready

@@ -1,19 +1,18 @@
 // A first look at a directory.
-ghost use Rattle.std.specs.Prelude.{◌≡◌, ◌+◌, ◌*◌, ◌<◌, ◌≤◌, ◌^◌, ◌&&◌, ◌==◌, true, false, List, ℕ, [], ◌∷◌, length, vec_len, Some, None, Option, IfOk, OnOk, IfErr, Bool};
+ghost use Rattle.std.specs.Prelude.{◌≡◌, ◌*◌, ◌<◌, ◌≤◌, ◌^◌, ◌==◌, true, false, List, [], ◌∷◌, length, vec_len, Some, IfOk, OnOk};
 ghost use Rattle.std.specs.List.{flat_map, find};
-ghost use Rattle.ffs_image.specs.Device.{Faulted, ForContents};
+ghost use Rattle.ffs_image.specs.Device.{ForContents};
 ghost use Rattle.ffs_volume.specs.declared.Order.{Order};
-ghost use Rattle.ffs_volume.specs.Disk.Areas.{is_in_range};
-ghost use Rattle.ffs_volume.specs.Directories.Entries.{Chunk, chunk_of, chunks_of, has_gap, size_taken};
+ghost use Rattle.ffs_volume.specs.Directories.Entries.{Chunk, chunk_of, has_gap};
 ghost use Rattle.ffs_volume.specs.Blocks.Steps.{steps_of};
 ghost use Rattle.ffs_volume.specs.Encodings.Replay.{fresh_replay, replayed_steps};
 ghost use Rattle.ffs_volume.specs.Directories.Roles.{Volume, roled_chunk};
 ghost use Rattle.ffs_volume.specs.Directories.PathnameCheck.{are_sound};
 ghost use Rattle.ffs_walk.specs.Windows.{BlocksHold, HasRoom, WindowHolds};
-ghost use Rattle.ffs_names.specs.RunCursors.{reading_by};
 ghost use Rattle.ffs_pathnames.specs.Marks as marks;
 ghost use Rattle.ffs_pathnames.specs.Sees.{Sees};
 ghost use Rattle.ffs_pathnames.specs.Reads.{chunks_read, start_of};
+ghost use Rattle.ffs_image.specs.Reads.{ReadAfter};
 
 use crate::gap::gap_of;
 use crate::inodes::Inodes;
@@ -90,9 +89,7 @@ pub fn look_directory<I: Image>(
     ensures holds { BlocksHold geometry.now.layout (I.device image.new).contents blocks.new }
     ensures data_size { vec_len «data».new.buffer ≡ vec_len «data».old.buffer }
     ensures data_holds { WindowHolds (I.device image.new).contents «data».new }
-    ensures ok { OnOk result (I.device image.new ≡ I.device image.old) }
-    ensures err { IfErr result (λ fault. Faulted (I.device image.old) (I.device image.new)
-        fault.sector) }
+    ensures read { ReadAfter (I.device image.old) (I.device image.new) result }
 {
     let order = geometry.layout.order;
     let mut chunks = Chunks::start(geometry, inode, cut);

@@ -1,8 +1,9 @@
 // Whether a hole of a directory is kept.
-ghost use Rattle.std.specs.Prelude.{◌≡◌, ◌*◌, ◌≤◌, ◌+◌, ◌||◌, vec_len, Option, IfOk, OnOk, IfErr, true, ℕ, List};
-ghost use Rattle.ffs_image.specs.Device.{Faulted, ForContents};
+ghost use Rattle.std.specs.Prelude.{◌≡◌, ◌*◌, ◌≤◌, ◌||◌, vec_len, IfOk, true};
+ghost use Rattle.ffs_image.specs.Device.{ForContents};
 ghost use Rattle.ffs_walk.specs.Windows.{BlocksHold, HasRoom};
 ghost use Rattle.ffs_names.specs.Readings.{gap_left};
+ghost use Rattle.ffs_image.specs.Reads.{ReadAfter};
 
 use ffs_image::{Image, ImageFault};
 use ffs_names::Chunks;
@@ -26,9 +27,7 @@ pub fn gap_of<I: Image>(
     ensures size { vec_len blocks.new.buffer ≡ vec_len blocks.old.buffer }
     ensures holds { BlocksHold chunks.old.walk.geometry.layout (I.device image.new).contents
         blocks.new }
-    ensures ok { OnOk result (I.device image.new ≡ I.device image.old) }
-    ensures err { IfErr result (λ fault. Faulted (I.device image.old) (I.device image.new)
-        fault.sector) }
+    ensures read { ReadAfter (I.device image.old) (I.device image.new) result }
 {
     if chunks.gap {
         return Ok(true);

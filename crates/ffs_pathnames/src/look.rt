@@ -1,5 +1,5 @@
 // A first look at the entries of a directory: whether anything may be reported of them.
-ghost use Rattle.std.specs.Prelude.{◌≡◌, ◌+◌, ◌<◌, ◌≤◌, ◌==◌, ◌&&◌, ◌||◌, not, length, slice_index, true, IsTrue};
+ghost use Rattle.std.specs.Prelude.{◌≡◌, ◌+◌, ◌<◌, ◌≤◌, ◌==◌, ◌&&◌, ◌||◌, not, length, slice_index, true};
 ghost use Rattle.ffs_volume.specs.declared.Role.{Role};
 ghost use Rattle.ffs_volume.specs.Directories.Roles.{Volume, is_dir, roled_from};
 ghost use Rattle.ffs_volume.specs.Directories.Entries.{entries_of, is_sound};

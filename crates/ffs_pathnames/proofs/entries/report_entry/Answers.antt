@@ -1,4 +1,4 @@
-use Rattle.std.proofs.Common.{ap, refl, ◌∙◌}
+use Rattle.std.proofs.Common.{ap, refl, ◌∙◌, rules}
 use Rattle.std.proofs.lemmas.List.{with_items_is}
 use Rattle.ffs_volume.specs.Directories.Volumes.{volume_of}
 use Rattle.ffs_layout.specs.Entry.{entry_value}
@@ -8,20 +8,45 @@ use Rattle.ffs_pathnames.proofs.SeesLaws.{sees}
 use Rattle.ffs_paths.proofs.Keeping.{siblings_on}
 use Rattle.ffs_pathnames.proofs.entries.report_entry.Goals as goal
 
-pub returns-clause-siblings : goal.returns-clause-siblings
-returns-clause-siblings g c =
-    siblings_on _ _ _ c.say_entry.new.workspace _ _ refl (record {
-      claimed = refl;
-      kinds = refl;
-      marked = refl;
-      cut = refl;
-      references = refl;
-      named = refl;
-      reached = refl;
-      parents = refl;
-      runs_seen = refl;
-      runs_again = refl;
-    }) c.in_ok-say_entry.ensures.siblings
+pub returns-clause-ready : goal.returns-clause-ready
+returns-clause-ready g c =
+    let said = c.in_ok-say_entry.ensures.ready in
+    let made = said.ready.made in
+    record {
+      ready = record {
+        made = record {
+          claimed = made.claimed;
+          duplicates = made.duplicates;
+          unreported = made.unreported;
+          kinds = made.kinds;
+          marked = made.marked;
+          named = made.named;
+          reached = made.reached;
+          leaders = search rules;
+          references = made.references;
+          cut = made.cut;
+          parents = made.parents;
+          queue = search rules;
+          table = made.table;
+          blocks = made.blocks;
+          chunk = made.chunk;
+        };
+        volume = said.ready.volume;
+        windows = record { table = said.ready.windows.table; blocks = said.ready.windows.blocks; chunk = said.ready.windows.chunk };
+      };
+      siblings = siblings_on _ _ _ c.say_entry.new.workspace _ _ refl (record {
+        claimed = refl;
+        kinds = refl;
+        marked = refl;
+        cut = refl;
+        references = refl;
+        named = refl;
+        reached = refl;
+        parents = refl;
+        runs_seen = refl;
+        runs_again = refl;
+      }) said.siblings;
+    }
 
 pub returns-clause-marks : goal.returns-clause-marks
 returns-clause-marks g c = λ b k.
@@ -33,7 +58,7 @@ returns-clause-marks g c = λ b k.
       kinds = c.as_slice.ensures.value;
       marked = c.as_slice-2.ensures.value;
       parents = c.as_slice-3.ensures.value;
-      count = c.as_slice.ensures.len ∙ c.in_ok-say_entry.ensures.made.kinds;
+      count = c.as_slice.ensures.len ∙ c.in_ok-say_entry.ensures.ready.ready.made.kinds;
     }) (claims_left v b before here left.survey k.claims) (survey_left v b before here left.survey k.survey) in
     passes (volume_of v b) c.args.dir (record { role = c.args.role; entry = entry_value c.args.entry.now }) before.leaders.items _ _ _ before.queue.items _ _ _
     (c.as_mut_slice.ensures.value ∙ ap (λ x. x.items) left.leaders)

@@ -9,13 +9,16 @@ use Rattle.ffs_pathnames.proofs.tell.gather.Goals as goal
 pub returns-clause-enough : goal.returns-clause-enough
 returns-clause-enough g c = λ b dir t h r p l.
     let v = c.args.geometry.now.layout in
-    let t1 = ap (λ x. x.contents) c.in_ok-gather_path.ensures.ok ∙ t in
+    let t1 = ap (λ x. x.contents) c.in_ok-gather_path.ensures.read ∙ t in
     enough (volume_of v b) c.args.verdict.now dir c.args.entry.now.number c.args.entry.now.name.now c.in_ok-attr.attr c.put_entry.new.text.items c.gather_path.new.text.items
     (λ q. c.in_ok-attr.ensures.attr b t1 (c.asks-wants_attr.ensures.attr ∙ q))
     (c.put_entry.ensures (graph_of (volume_of v b)) dir p ∙ entry_in_room (graph_of (volume_of v b)) dir c.args.entry.now.name.now c.requires.name)
     (λ q. c.in_ok-gather_path.ensures.path b t h r (c.asks-wants_attr.ensures.directory ∙ q) (l q))
 
-pub returns-clause-siblings : goal.returns-clause-siblings
-returns-clause-siblings g c =
+pub returns-clause-ready : goal.returns-clause-ready
+returns-clause-ready g c =
     let attr = c.in_ok-attr.ensures in
-    siblings_on _ _ _ _ _ _ (ap (λ d. d.contents) attr.ok) attr.lists.survey c.in_ok-gather_path.ensures.siblings
+    record {
+      ready = attr.ready;
+      siblings = siblings_on _ _ _ _ _ _ (ap (λ d. d.contents) attr.read) attr.lists.survey c.in_ok-gather_path.ensures.ready.siblings;
+    }

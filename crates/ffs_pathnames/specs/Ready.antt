@@ -1,0 +1,18 @@
+-- When the paths of directories can be made too.
+use Rattle.std.specs.Prelude.{Result, Ok, Err}
+use Rattle.ffs_image.specs.Device.{Device}
+use Rattle.ffs_volume.specs.declared.Layout.{Layout}
+use Rattle.ffs_workspace.specs.declared.workspace.Workspace.{Workspace}
+use Rattle.ffs_workspace.specs.Ready.{IsReady}
+use Rattle.ffs_paths.specs.declared.siblings.Siblings.{Siblings}
+use Rattle.ffs_paths.specs.Siblings.{KeepSiblings}
+
+-- the workspace is ready, and what is kept of a directory and its children is right
+pub record ReadyWith (v : Layout) (d : Device) (w : Workspace) (s : Siblings) : Type 0 where
+  pub ready : IsReady v d w
+  pub siblings : KeepSiblings v d.contents w s
+
+-- the same after a call; where it failed, nothing of a directory and its children may be right
+abbrev pub ReadyAfter : {T E : Type 0} → Layout → Device → Workspace → Siblings → Result T E → Type 0
+ReadyAfter v d w s (Ok x) = ReadyWith v d w s
+ReadyAfter v d w s (Err e) = IsReady v d w
