@@ -4,6 +4,9 @@ use Rattle.ffs_image.specs.Device.{Device}
 use Rattle.ffs_volume.specs.declared.Layout.{Layout}
 use Rattle.ffs_workspace.specs.declared.workspace.Workspace.{Workspace}
 use Rattle.ffs_workspace.specs.Ready.{IsReady}
+use Rattle.ffs_workspace.specs.Leaves.{LeavesSurvey}
+use Rattle.ffs_phase.specs.Runs.{ImageAfter}
+use Rattle.ffs_phase.specs.declared.fault.RunFault.{RunFault}
 use Rattle.ffs_paths.specs.declared.siblings.Siblings.{Siblings}
 use Rattle.ffs_paths.specs.Siblings.{KeepSiblings}
 
@@ -16,3 +19,9 @@ pub record ReadyWith (v : Layout) (d : Device) (w : Workspace) (s : Siblings) : 
 abbrev pub ReadyAfter : {T E : Type 0} → Layout → Device → Workspace → Siblings → Result T E → Type 0
 ReadyAfter v d w s (Ok x) = ReadyWith v d w s
 ReadyAfter v d w s (Err e) = IsReady v d w
+
+-- what a call of the phase leaves: the image, but for a read that failed, what the block check and the survey found, and all that the next call asks for
+pub record PhaseLeaves {T : Type 0} (v : Layout) (d d' : Device) (w w' : Workspace) (s : Siblings) (result : Result T RunFault) : Type 0 where
+  pub image : ImageAfter d d' result
+  pub survey : LeavesSurvey w w'
+  pub ready : ReadyAfter v d' w' s result

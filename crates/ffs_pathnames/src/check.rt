@@ -15,13 +15,12 @@ ghost use Rattle.ffs_volume.specs.Directories.Paths.{dir_path};
 ghost use Rattle.ffs_layout.specs.Entry.{entry_value};
 ghost use Rattle.ffs_workspace.specs.Holds.{HoldsSurvey};
 ghost use Rattle.ffs_pathnames.specs.Begins.{dir_starts, number_if, started_entry, IsBegun};
-ghost use Rattle.ffs_workspace.specs.Leaves.{LeavesSurvey};
 ghost use Rattle.ffs_pathnames.specs.Examines.{LeavesMarks};
 ghost use Rattle.ffs_pathnames.specs.Header.{header_reported};
 ghost use Rattle.ffs_pathnames.specs.Gathers.{marks_of};
 ghost use Rattle.ffs_pathnames.specs.DirectoryContext.{DirectoryContext};
 ghost use Rattle.ffs_pathnames.specs.MarksRight.{AreRightBefore};
-ghost use Rattle.ffs_pathnames.specs.Ready.{ReadyWith, ReadyAfter};
+ghost use Rattle.ffs_pathnames.specs.Ready.{ReadyWith, ReadyAfter, PhaseLeaves};
 
 use crate::again::report_directory;
 use crate::examine::{DirectorySummary, examine};
@@ -124,7 +123,6 @@ fn begin_directory<I: Image, W: Output>(
     requires ready { ReadyWith geometry.now.layout (I.device image.old) workspace.old siblings.old }
     requires number { dir < geometry.now.layout.ncg * geometry.now.layout.ipg }
     requires dir { 2 ≤ dir }
-    ensures image { ImageAfter (I.device image.old) (I.device image.new) result }
     ensures text { PhaseReports (DirectoryContext geometry.now.layout (I.device image.old).contents
         workspace.old dir)
         (λ b. map of_names (dir_starts (volume_of geometry.now.layout b) dir))
@@ -132,9 +130,8 @@ fn begin_directory<I: Image, W: Output>(
     ensures begun { IfOk result (λ e. ForBytes
         (DirectoryContext geometry.now.layout (I.device image.old).contents workspace.old dir)
         (λ b. IsBegun geometry.now.layout b dir workspace.old e workspace.new)) }
-    ensures survey { LeavesSurvey workspace.old workspace.new }
-    ensures ready { ReadyAfter geometry.now.layout (I.device image.new) workspace.new siblings.new
-        result }
+    ensures leaves { PhaseLeaves geometry.now.layout (I.device image.old) (I.device image.new)
+        workspace.old workspace.new siblings.new result }
 {
     let mut start = [0u8; 512];
     let examined = examine(geometry, image, workspace, dir, &mut start)?;
@@ -172,7 +169,6 @@ pub fn check_directory<I: Image, W: Output>(
     requires ready { ReadyWith geometry.now.layout (I.device image.old) workspace.old siblings.old }
     requires number { dir < geometry.now.layout.ncg * geometry.now.layout.ipg }
     requires dir { 2 ≤ dir }
-    ensures image { ImageAfter (I.device image.old) (I.device image.new) result }
     ensures text { PhaseReports (λ b. DirectoryContext geometry.now.layout
         (I.device image.old).contents workspace.old dir b
         × AreRightBefore (volume_of geometry.now.layout b) dir (marks_of workspace.old))
@@ -183,9 +179,8 @@ pub fn check_directory<I: Image, W: Output>(
         × AreRightBefore (volume_of geometry.now.layout b) dir (marks_of workspace.old))
         (λ b. AreRightBefore (volume_of geometry.now.layout b) (suc dir)
         (marks_of workspace.new))) }
-    ensures survey { LeavesSurvey workspace.old workspace.new }
-    ensures ready { ReadyAfter geometry.now.layout (I.device image.new) workspace.new siblings.new
-        result }
+    ensures leaves { PhaseLeaves geometry.now.layout (I.device image.old) (I.device image.new)
+        workspace.old workspace.new siblings.new result }
 {
     let examined = begin_directory(geometry, image, workspace, siblings, report, dir)?;
     if examined.found.quiet {

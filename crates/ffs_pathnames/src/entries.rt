@@ -9,12 +9,11 @@ ghost use Rattle.ffs_layout.specs.Entry.{entry_value};
 ghost use Rattle.ffs_phase.specs.Known.{ForBytes};
 ghost use Rattle.ffs_phase.specs.Runs.{ImageAfter, PhaseReports};
 ghost use Rattle.ffs_report.specs.Progress.{progress};
-ghost use Rattle.ffs_workspace.specs.Leaves.{LeavesSurvey};
 ghost use Rattle.ffs_pathnames.specs.Examines.{LeavesMarks};
 ghost use Rattle.ffs_pathnames.specs.Gathers.{marks_of};
 ghost use Rattle.ffs_pathnames.specs.DirectoryContext.{DirectoryContext, KnowsPath};
 ghost use Rattle.ffs_pathnames.specs.Marks as marks;
-ghost use Rattle.ffs_pathnames.specs.Ready.{ReadyWith, ReadyAfter};
+ghost use Rattle.ffs_pathnames.specs.Ready.{ReadyWith, ReadyAfter, PhaseLeaves};
 
 use crate::inodes::Inodes;
 use crate::tell::{report_extra, report_plain};
@@ -79,7 +78,6 @@ pub fn report_entry<I: Image, W: Output>(
     requires ready { ReadyWith geometry.now.layout (I.device image.old) workspace.old siblings.old }
     requires dir { dir < geometry.now.layout.ncg * geometry.now.layout.ipg }
     requires name { length entry.now.name.now ≤ 255 }
-    ensures image { ImageAfter (I.device image.old) (I.device image.new) result }
     ensures text { PhaseReports (KnowsPath geometry.now.layout (I.device image.old).contents
         workspace.old dir path.now)
         (λ b. map of_names (marks.roled_reported (volume_of geometry.now.layout b) dir
@@ -89,9 +87,8 @@ pub fn report_entry<I: Image, W: Output>(
         (DirectoryContext geometry.now.layout (I.device image.old).contents workspace.old dir) (λ b.
         marks.after_roled (volume_of geometry.now.layout b) dir (marks_of workspace.old)
         (record { role = role; entry = entry_value entry.now }) ≡ marks_of workspace.new)) }
-    ensures survey { LeavesSurvey workspace.old workspace.new }
-    ensures ready { ReadyAfter geometry.now.layout (I.device image.new) workspace.new siblings.new
-        result }
+    ensures leaves { PhaseLeaves geometry.now.layout (I.device image.old) (I.device image.new)
+        workspace.old workspace.new siblings.new result }
 {
     say_entry(
         geometry, image, workspace, siblings, report, dir, path, role, entry,
@@ -135,7 +132,6 @@ pub fn report_chunk<I: Image, W: Output>(
 ) -> Result<(), RunFault>
     requires ready { ReadyWith geometry.now.layout (I.device image.old) workspace.old siblings.old }
     requires dir { dir < geometry.now.layout.ncg * geometry.now.layout.ipg }
-    ensures image { ImageAfter (I.device image.old) (I.device image.new) result }
     ensures text { PhaseReports (KnowsPath geometry.now.layout (I.device image.old).contents
         workspace.old dir path.now)
         (λ b. map of_names (marks.entries_reported (volume_of geometry.now.layout b) dir
@@ -147,9 +143,8 @@ pub fn report_chunk<I: Image, W: Output>(
         marks.after_entries (volume_of geometry.now.layout b) dir (marks_of workspace.old)
         (roled_from first 0 (entries_of geometry.now.layout.order chunk.now))
         ≡ marks_of workspace.new)) }
-    ensures survey { LeavesSurvey workspace.old workspace.new }
-    ensures ready { ReadyAfter geometry.now.layout (I.device image.new) workspace.new siblings.new
-        result }
+    ensures leaves { PhaseLeaves geometry.now.layout (I.device image.old) (I.device image.new)
+        workspace.old workspace.new siblings.new result }
 {
     let order = geometry.layout.order;
     let mut place = 0usize;

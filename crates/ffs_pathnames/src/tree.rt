@@ -12,7 +12,7 @@ ghost use Rattle.ffs_pathnames.specs.Before.{IsBefore};
 ghost use Rattle.ffs_workspace.specs.Leaves.{LeavesSurvey};
 ghost use Rattle.ffs_pathnames.specs.GoesOn.{AtReadFault, is_go};
 ghost use Rattle.ffs_workspace.specs.Ready.{IsReady};
-ghost use Rattle.ffs_pathnames.specs.Ready.{ReadyWith, ReadyAfter};
+ghost use Rattle.ffs_pathnames.specs.Ready.{ReadyWith, PhaseLeaves};
 
 use crate::check::check_directory;
 use crate::phase::Root;
@@ -44,7 +44,6 @@ fn check_inode<I: Image, W: Output>(
     requires ready { ReadyWith geometry.now.layout (I.device image.old) workspace.old siblings.old }
     requires low { 2 ≤ number }
     requires number { number < inodes_of geometry.now.layout }
-    ensures image { ImageAfter (I.device image.old) (I.device image.new) result }
     ensures text { PhaseReports (λ b. IsBefore geometry.now.layout (I.device image.old).contents
         workspace.old number b)
         (λ b. map of_names (lines_of (volume_of geometry.now.layout b) number))
@@ -53,9 +52,8 @@ fn check_inode<I: Image, W: Output>(
         (λ b. IsBefore geometry.now.layout (I.device image.old).contents workspace.old number b)
         (λ b. IsBefore geometry.now.layout (I.device image.old).contents workspace.new (suc number)
         b)) }
-    ensures survey { LeavesSurvey workspace.old workspace.new }
-    ensures ready { ReadyAfter geometry.now.layout (I.device image.new) workspace.new siblings.new
-        result }
+    ensures leaves { PhaseLeaves geometry.now.layout (I.device image.old) (I.device image.new)
+        workspace.old workspace.new siblings.new result }
 {
     if is_looked_at(workspace, number) {
         return check_directory(geometry, image, workspace, siblings, report, number);

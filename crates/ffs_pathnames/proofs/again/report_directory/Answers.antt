@@ -2,12 +2,14 @@ use Rattle.std.proofs.Common.{◌≡◌, ◌<◌, refl, sym, ap, subst, ◌∙�
 use Rattle.std.specs.List.{flat_map}
 use Rattle.std.proofs.lemmas.List.{get_or_read_under}
 use Rattle.std.proofs.lemmas.Result.{err_from_is_err_and}
+use Rattle.ffs_image.specs.Device.{Faulted}
 use Rattle.ffs_volume.specs.Directories.Entries.{Chunk, chunk_of}
 use Rattle.ffs_volume.specs.Blocks.Inodes.{inode_of}
 use Rattle.ffs_volume.specs.Messages.Kinds.{of_names}
 use Rattle.ffs_volume.specs.Directories.Roles.{roled_chunk, roled_entries}
 use Rattle.ffs_volume.specs.Directories.Volumes.{volume_of}
 use Rattle.ffs_names.specs.Readings.{rest}
+use Rattle.ffs_phase.specs.Runs.{ImageAfter}
 use Rattle.ffs_phase.proofs.Reporting.{of_begins, of_reads, of_same, of_part, of_fault, said_knows, reports_knowing}
 use Rattle.ffs_workspace.specs.Leaves.{LeavesSurvey}
 use Rattle.ffs_workspace.proofs.Leaving.{claims_left, leaves_more, windows_leave}
@@ -52,12 +54,16 @@ returns-in_err-offset-clause-text g c =
     let p = err_from_is_err_and c.from_residual-in_err-offset.result c.from_residual-in_err-offset.ensures.1 in
     rw (p.1, p.2) (of_reads _ _ _ _ _ c.chunks.invariant.said)
 
-pub returns-in_err-offset-clause-ready : goal.returns-in_err-offset-clause-ready
-returns-in_err-offset-clause-ready g c =
+pub returns-in_err-offset-clause-leaves : goal.returns-in_err-offset-clause-leaves
+returns-in_err-offset-clause-leaves g c =
     let inv = c.chunks.invariant in
     let read = c.in_err-offset.ensures in
     let p = err_from_is_err_and c.from_residual-in_err-offset.result c.from_residual-in_err-offset.ensures.1 in
-    rw p.1 (ready_read _ _ _ c.chunks.workspace _ _ inv.ready.ready read.err.contents read.err.size read.size (rw inv.geometry at read.holds) read.data_size read.data_holds)
+    rw (p.1, p.2) (record {
+      image = subst (λ d. Faulted d (g.I.Image.device c.next.new.image) c.in_err-offset.field-0.0.sector) inv.device read.err;
+      survey = leaves_more _ _ _ inv.survey (windows_leave c.chunks.workspace (with_chunk c.chunks.workspace c.next.new.blocks c.next.new.data) refl);
+      ready = ready_read _ _ _ c.chunks.workspace _ _ inv.ready.ready read.err.contents read.err.size read.size (rw inv.geometry at read.holds) read.data_size read.data_holds;
+    })
 
 pub report_chunk-requires-clause-ready : goal.report_chunk-requires-clause-ready
 report_chunk-requires-clause-ready g c =
@@ -65,11 +71,15 @@ report_chunk-requires-clause-ready g c =
     let read = c.in_ok-offset.ensures in
     ready_next _ _ _ c.chunks.workspace _ _ _ inv.ready read.ok read.size (rw inv.geometry at read.holds) read.data_size read.data_holds
 
-pub returns-clause-ready : goal.returns-clause-ready
-returns-clause-ready g c =
+pub returns-clause-leaves : goal.returns-clause-leaves
+returns-clause-leaves g c =
     let inv = c.chunks.invariant in
     let read = c.in_ok-offset.ensures in
-    ready_next _ _ _ c.chunks.workspace _ _ _ inv.ready read.ok read.size (rw inv.geometry at read.holds) read.data_size read.data_holds
+    record {
+      image = read.ok ∙ inv.device;
+      survey = leaves_more _ _ _ inv.survey (windows_leave c.chunks.workspace (with_chunk c.chunks.workspace c.next.new.blocks c.next.new.data) refl);
+      ready = ready_next _ _ _ c.chunks.workspace _ _ _ inv.ready read.ok read.size (rw inv.geometry at read.holds) read.data_size read.data_holds;
+    }
 
 pub chunks-preserved : goal.chunks-preserved
 chunks-preserved g c =
@@ -79,7 +89,7 @@ chunks-preserved g c =
     let ok = c.in_ok-report_chunk.ensures in
     let m = marks_of c.chunks.workspace in
     let m' = marks_of c.report_chunk.new.workspace in
-    let same = ok.image ∙ (read.ok ∙ inv.device) in
+    let same = ok.leaves.image ∙ (read.ok ∙ inv.device) in
     let between = with_chunk c.chunks.workspace c.next.new.blocks c.next.new.data in
     let kept : LeavesSurvey c.args.workspace.now between = leaves_more _ _ _ inv.survey (windows_leave c.chunks.workspace between refl) in
     let know = λ (b : List ℕ) (k : DirectoryContext v (g.I.Image.device c.args.image.now).contents c.args.workspace.now c.args.dir b × (c.args.inode.now ≡ inode_of v b c.args.dir)).
@@ -89,10 +99,10 @@ chunks-preserved g c =
     let next = λ (b : List ℕ) (k : DirectoryContext v (g.I.Image.device c.args.image.now).contents c.args.workspace.now c.args.dir b × (c.args.inode.now ≡ inode_of v b c.args.dir)).
     came b (ap (λ d. d.contents) inv.device ∙ k.0.reported_is) ∙ ap (λ q. chunk_of q.layout.order c.in-Some.offset c.next.new.chunk ∷ rest b c.next.new.self) inv.geometry in
     record {
-      ready = ok.ready;
+      ready = ok.leaves.ready;
       device = same;
       geometry = read.geometry ∙ inv.geometry;
-      survey = leaves_more _ _ _ kept ok.survey;
+      survey = leaves_more _ _ _ kept ok.leaves.survey;
       marks = λ b k. chunk_passed (volume_of v b) c.args.dir _ m m' here (rest b c.chunks.chunks) (rest b c.next.new.self) (next b k) (ok.marks b (know b k)) (inv.marks b k);
       said = of_part _ (λ (b : List ℕ). map of_names (entries_reported (volume_of v b) c.args.dir m (flat_map roled_chunk (rest b c.chunks.chunks))))
           (λ (b : List ℕ). map of_names (entries_reported (volume_of v b) c.args.dir m (roled_chunk here)))
@@ -123,6 +133,18 @@ returns-in_err-report_chunk-clause-text g c =
     (λ b k. chunk_reported (volume_of v b) c.args.dir m (after_entries (volume_of v b) c.args.dir m (roled_chunk here)) here (rest b c.chunks.chunks) (rest b c.next.new.self) (next b k) refl)
     (reports_knowing (Unit {0}) _ _ _ _ _ (Err c.in_err-report_chunk.field-0.0)
     (λ b k. record { knows = know b k; path = c.in_ok-path.ensures.path b k.0.reported_is k.0.claims k.0.survey }) c.in_err-report_chunk.ensures.text))
+
+pub returns-in_err-report_chunk-clause-leaves : goal.returns-in_err-report_chunk-clause-leaves
+returns-in_err-report_chunk-clause-leaves g c =
+    let inv = c.chunks.invariant in
+    let left = c.in_err-report_chunk.ensures.leaves in
+    let kept = leaves_more _ _ _ inv.survey (windows_leave c.chunks.workspace (with_chunk c.chunks.workspace c.next.new.blocks c.next.new.data) refl) in
+    let p = err_from_is_err_and c.from_residual-in_err-report_chunk.result c.from_residual-in_err-report_chunk.ensures.1 in
+    rw (p.1, p.2) (record {
+      image = subst (λ d. ImageAfter {T = Unit {0}} d (g.I.Image.device c.report_chunk.new.image) (Err c.in_err-report_chunk.field-0.0)) (c.in_ok-offset.ensures.ok ∙ inv.device) left.image;
+      survey = leaves_more _ _ _ kept left.survey;
+      ready = left.ready;
+    })
 
 pub returns-clause-text : goal.returns-clause-text
 returns-clause-text g c =

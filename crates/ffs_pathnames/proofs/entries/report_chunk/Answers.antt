@@ -68,9 +68,9 @@ entries-preserved g c =
     rw c.from-place.ensures (record {
       place = omega arith;
       index = omega arith;
-      ready = ok.ready;
-      device = ok.image ∙ inv.device;
-      survey = leaves_more _ _ _ inv.survey ok.survey;
+      ready = ok.leaves.ready;
+      device = ok.leaves.image ∙ inv.device;
+      survey = leaves_more _ _ _ inv.survey ok.leaves.survey;
       marks = λ b k. entry_passed (volume_of v b) c.args.dir _ m m' seen here there next (ok.marks b (know b k)) (inv.marks b k);
       said = of_part _ (λ (b : List ℕ). map of_names (entries_reported (volume_of v b) c.args.dir m here))
           (λ (b : List ℕ). map of_names (roled_reported (volume_of v b) c.args.dir m seen))

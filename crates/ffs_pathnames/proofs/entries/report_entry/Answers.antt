@@ -2,50 +2,57 @@ use Rattle.std.proofs.Common.{ap, refl, ◌∙◌, rules}
 use Rattle.std.proofs.lemmas.List.{with_items_is}
 use Rattle.ffs_volume.specs.Directories.Volumes.{volume_of}
 use Rattle.ffs_layout.specs.Entry.{entry_value}
-use Rattle.ffs_workspace.proofs.Leaving.{claims_left, survey_left}
+use Rattle.ffs_workspace.specs.Leaves.{LeavesSurvey}
+use Rattle.ffs_workspace.proofs.Leaving.{claims_left, survey_left, leaves_more}
 use Rattle.ffs_pathnames.proofs.Passed.{passes}
 use Rattle.ffs_pathnames.proofs.SeesLaws.{sees}
 use Rattle.ffs_paths.proofs.Keeping.{siblings_on}
 use Rattle.ffs_pathnames.proofs.entries.report_entry.Goals as goal
 
-pub returns-clause-ready : goal.returns-clause-ready
-returns-clause-ready g c =
+pub returns-clause-leaves : goal.returns-clause-leaves
+returns-clause-leaves g c =
     let said = c.in_ok-say_entry.ensures.ready in
     let made = said.ready.made in
+    let windows = said.ready.windows in
+    let marks : LeavesSurvey c.say_entry.new.workspace _ = record {
+      claimed = refl;
+      kinds = refl;
+      marked = refl;
+      cut = refl;
+      references = refl;
+      named = refl;
+      reached = refl;
+      parents = refl;
+      runs_seen = refl;
+      runs_again = refl;
+    } in
     record {
+      image = c.in_ok-say_entry.ensures.image;
+      survey = leaves_more _ _ _ c.in_ok-say_entry.ensures.lists.survey marks;
       ready = record {
-        made = record {
-          claimed = made.claimed;
-          duplicates = made.duplicates;
-          unreported = made.unreported;
-          kinds = made.kinds;
-          marked = made.marked;
-          named = made.named;
-          reached = made.reached;
-          leaders = search rules;
-          references = made.references;
-          cut = made.cut;
-          parents = made.parents;
-          queue = search rules;
-          table = made.table;
-          blocks = made.blocks;
-          chunk = made.chunk;
+        ready = record {
+          made = record {
+            claimed = made.claimed;
+            duplicates = made.duplicates;
+            unreported = made.unreported;
+            kinds = made.kinds;
+            marked = made.marked;
+            named = made.named;
+            reached = made.reached;
+            leaders = search rules;
+            references = made.references;
+            cut = made.cut;
+            parents = made.parents;
+            queue = search rules;
+            table = made.table;
+            blocks = made.blocks;
+            chunk = made.chunk;
+          };
+          volume = said.ready.volume;
+          windows = record { table = windows.table; blocks = windows.blocks; chunk = windows.chunk };
         };
-        volume = said.ready.volume;
-        windows = record { table = said.ready.windows.table; blocks = said.ready.windows.blocks; chunk = said.ready.windows.chunk };
+        siblings = siblings_on _ _ _ _ _ _ refl marks said.siblings;
       };
-      siblings = siblings_on _ _ _ c.say_entry.new.workspace _ _ refl (record {
-        claimed = refl;
-        kinds = refl;
-        marked = refl;
-        cut = refl;
-        references = refl;
-        named = refl;
-        reached = refl;
-        parents = refl;
-        runs_seen = refl;
-        runs_again = refl;
-      }) said.siblings;
     }
 
 pub returns-clause-marks : goal.returns-clause-marks

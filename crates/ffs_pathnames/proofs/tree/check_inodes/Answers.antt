@@ -43,10 +43,10 @@ loop-number-preserved g c =
     let ok = c.in_ok-check_inode.ensures in
     let q : suc n ≡ n + 1 = omega arith in
     record {
-      ready = ok.ready;
+      ready = ok.leaves.ready;
       device = search rules;
       low = omega arith;
-      survey = leaves_more _ _ _ inv.survey ok.survey;
+      survey = leaves_more _ _ _ inv.survey ok.leaves.survey;
       before = λ b k. subst (λ d. IsBefore v (g.I.Image.device c.args.image.now).contents c.check_inode.new.workspace d b) q
           (before_reported v _ _ _ (suc n) b (sym (ap (λ d. d.contents) inv.device)) (ok.before b (before_reported v _ _ _ n b (ap (λ d. d.contents) inv.device) (inv.before b k))));
       said = of_part _ (λ b. map of_names (lines_from (lines_of (volume_of v b)) n (inodes_of v - n)))
