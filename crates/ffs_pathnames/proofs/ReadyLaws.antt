@@ -9,9 +9,10 @@ use Rattle.ffs_walk.specs.Windows.{BlocksHold, WindowHolds}
 use Rattle.ffs_workspace.specs.declared.workspace.Workspace.{Workspace}
 use Rattle.ffs_workspace.specs.Lengths.{IsFor, HoldWindows}
 use Rattle.ffs_workspace.specs.Ready.{IsReady}
-use Rattle.ffs_workspace.proofs.Leaving.{windows_leave}
+use Rattle.ffs_workspace.proofs.Leaving.{windows_leave, leaves_more}
 use Rattle.ffs_paths.specs.declared.siblings.Siblings.{Siblings}
 use Rattle.ffs_paths.proofs.Keeping.{siblings_on}
+use Rattle.ffs_pathnames.specs.Examines.{LeavesMarks}
 use Rattle.ffs_pathnames.specs.Ready.{ReadyWith}
 
 -- a workspace with other blocks and another chunk in its windows
@@ -59,3 +60,7 @@ ready_next v d d' w s blocks chunk r e room holds chunk_room chunk_holds = recor
 -- after a call that left the image as it was
 pub ready_same : (v : Layout) (d d' : Device) (w w' : Workspace) → IsReady v d w → d' ≡ d → IsFor v w' → HoldWindows v d'.contents w' → IsReady v d' w'
 ready_same v d d' w w' r e made windows = record { made = made; volume = subst (λ x. v.size * v.fsize ≤ x.size) (sym e) r.volume; windows = windows }
+
+-- what two calls leave
+pub lists_more : (a b c : Workspace) → LeavesMarks a b → LeavesMarks b c → LeavesMarks a c
+lists_more a b c s t = record { survey = leaves_more a b c s.survey t.survey; leaders = t.leaders ∙ s.leaders; queue = t.queue ∙ s.queue }

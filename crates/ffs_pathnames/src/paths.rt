@@ -3,11 +3,9 @@ ghost use Rattle.std.specs.Prelude.{◌≡◌, ◌*◌, ◌<◌, ℕ, List, Some
 ghost use Rattle.ffs_volume.specs.Directories.Parents.{graph_of};
 ghost use Rattle.ffs_volume.specs.Directories.Volumes.{volume_of};
 ghost use Rattle.ffs_workspace.specs.Holds.{HoldsClaims, HoldsSurvey};
-ghost use Rattle.ffs_pathnames.specs.Examines.{LeavesMarks};
 ghost use Rattle.ffs_volume.specs.Directories.Paths.{dir_path};
 ghost use Rattle.ffs_paths.specs.DirectoryPaths.{IsPathOf};
-ghost use Rattle.ffs_image.specs.Reads.{ReadAfter};
-ghost use Rattle.ffs_pathnames.specs.Ready.{ReadyWith, ReadyAfter};
+ghost use Rattle.ffs_pathnames.specs.Ready.{ReadyWith, ReadLeaves};
 
 use ffs_image::{Image, ImageFault};
 use ffs_layout::Geometry;
@@ -29,10 +27,8 @@ pub fn path_text<I: Image>(
         → HoldsClaims geometry.now.layout b workspace.old
         → HoldsSurvey geometry.now.layout b workspace.old
         → text.new.items ≡ dir_path (graph_of (volume_of geometry.now.layout b)) dir) }
-    ensures lists { LeavesMarks workspace.old workspace.new }
-    ensures ready { ReadyAfter geometry.now.layout (I.device image.new) workspace.new siblings.new
-        result }
-    ensures read { ReadAfter (I.device image.old) (I.device image.new) result }
+    ensures leaves { ReadLeaves geometry.now.layout (I.device image.old) (I.device image.new)
+        workspace.old workspace.new siblings.new result }
 {
     siblings.put_path(geometry, image, workspace, dir, text)
 }
@@ -51,10 +47,8 @@ pub fn own_path<I: Image>(
         → HoldsClaims geometry.now.layout b workspace.old
         → HoldsSurvey geometry.now.layout b workspace.old →
         IsPathOf (graph_of (volume_of geometry.now.layout b)) dir path) }
-    ensures lists { LeavesMarks workspace.old workspace.new }
-    ensures ready { ReadyAfter geometry.now.layout (I.device image.new) workspace.new siblings.new
-        result }
-    ensures read { ReadAfter (I.device image.old) (I.device image.new) result }
+    ensures leaves { ReadLeaves geometry.now.layout (I.device image.old) (I.device image.new)
+        workspace.old workspace.new siblings.new result }
 {
     siblings.path_to(geometry, image, workspace, dir)
 }

@@ -21,7 +21,7 @@ ghost use Rattle.ffs_pathnames.specs.Marks.{plain_reported};
 ghost use Rattle.ffs_pathnames.specs.Verdicts.{verdict_reported};
 ghost use Rattle.ffs_workspace.specs.Ready.{IsReady};
 ghost use Rattle.ffs_image.specs.Reads.{ReadAfter};
-ghost use Rattle.ffs_pathnames.specs.Ready.{ReadyWith, ReadyAfter};
+ghost use Rattle.ffs_pathnames.specs.Ready.{ReadyWith, ReadyAfter, ReadLeaves};
 
 use crate::header::is_one_dot;
 use crate::lines::say_verdict;
@@ -134,10 +134,8 @@ fn gather_path<I: Image>(
         → HoldsSurvey geometry.now.layout b workspace.old →
         IsTrue wanted → is_dir (volume_of geometry.now.layout b) dir ≡ true → text.new.items
         ≡ dir_path (graph_of (volume_of geometry.now.layout b)) dir) }
-    ensures lists { LeavesMarks workspace.old workspace.new }
-    ensures ready { ReadyAfter geometry.now.layout (I.device image.new) workspace.new siblings.new
-        result }
-    ensures read { ReadAfter (I.device image.old) (I.device image.new) result }
+    ensures leaves { ReadLeaves geometry.now.layout (I.device image.old) (I.device image.new)
+        workspace.old workspace.new siblings.new result }
 {
     if !wanted {
         return Ok(());
@@ -171,10 +169,8 @@ fn gather<I: Image>(
         → is_dir (volume_of geometry.now.layout b) entry.now.number ≡ true) →
         IsEnough (volume_of geometry.now.layout b) verdict.now dir entry.now.number
         entry.now.name.now a text.new.items directory.new.items) }
-    ensures lists { LeavesMarks workspace.old workspace.new }
-    ensures ready { ReadyAfter geometry.now.layout (I.device image.new) workspace.new siblings.new
-        result }
-    ensures read { ReadAfter (I.device image.old) (I.device image.new) result }
+    ensures leaves { ReadLeaves geometry.now.layout (I.device image.old) (I.device image.new)
+        workspace.old workspace.new siblings.new result }
 {
     let (wants_attr, wants_path) = asks(verdict);
     path.put_entry(entry.name, text);
@@ -326,10 +322,8 @@ pub fn gather_dir<I: Image>(
     ensures path { OnOk result ((b : List ℕ)
         → DirectoryContext geometry.now.layout (I.device image.old).contents workspace.old dir b
         → path.new.items ≡ dir_path (graph_of (volume_of geometry.now.layout b)) dir) }
-    ensures lists { LeavesMarks workspace.old workspace.new }
-    ensures ready { ReadyAfter geometry.now.layout (I.device image.new) workspace.new siblings.new
-        result }
-    ensures read { ReadAfter (I.device image.old) (I.device image.new) result }
+    ensures leaves { ReadLeaves geometry.now.layout (I.device image.old) (I.device image.new)
+        workspace.old workspace.new siblings.new result }
 {
     path_text(geometry, image, workspace, siblings, dir, path)?;
     let attr = read_attr(geometry, image, workspace, dir)?;

@@ -28,7 +28,7 @@ returns-in_err-path-clause-text g c =
 pub chunks-init : goal.chunks-init
 chunks-init g c =
     let v = c.args.geometry.now.layout in
-    let ok = c.in_ok-path.ensures in
+    let ok = c.in_ok-path.ensures.leaves in
     let here = c.own_path.new.workspace in
     let m = marks_of c.args.workspace.now in
     let same = marks_on c.args.workspace.now here ok.lists in
