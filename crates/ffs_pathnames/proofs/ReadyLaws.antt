@@ -13,6 +13,7 @@ use Rattle.ffs_workspace.proofs.Leaving.{windows_leave, leaves_more}
 use Rattle.ffs_paths.specs.declared.siblings.Siblings.{Siblings}
 use Rattle.ffs_paths.proofs.Keeping.{siblings_on}
 use Rattle.ffs_pathnames.specs.Examines.{LeavesMarks}
+use Rattle.ffs_pathnames.specs.Windows.{CanWalk, CanReadChunks}
 use Rattle.ffs_pathnames.specs.Ready.{ReadyWith}
 
 -- a workspace with other blocks and another chunk in its windows
@@ -64,3 +65,13 @@ ready_same v d d' w w' r e made windows = record { made = made; volume = subst (
 -- what two calls leave
 pub lists_more : (a b c : Workspace) → LeavesMarks a b → LeavesMarks b c → LeavesMarks a c
 lists_more a b c s t = record { survey = leaves_more a b c s.survey t.survey; leaders = t.leaders ∙ s.leaders; queue = t.queue ∙ s.queue }
+
+-- a read of a block, and of a chunk
+pub walk_on : (v : Layout) (d d' : Device) (blocks blocks' : Blocks) → CanWalk v d blocks → d'.size ≡ d.size → vec_len blocks'.buffer ≡ vec_len blocks.buffer → BlocksHold v d'.contents blocks' →
+    CanWalk v d' blocks'
+walk_on v d d' blocks blocks' r e room holds = record { volume = subst (λ n. v.size * v.fsize ≤ n) (sym e) r.volume; room = room ∙ r.room; holds = holds }
+
+pub chunks_on : (v : Layout) (d d' : Device) (blocks blocks' : Blocks) (chunk chunk' : Window) → CanReadChunks v d blocks chunk → d'.size ≡ d.size →
+    vec_len blocks'.buffer ≡ vec_len blocks.buffer → BlocksHold v d'.contents blocks' → vec_len chunk'.buffer ≡ vec_len chunk.buffer → WindowHolds d'.contents chunk' → CanReadChunks v d' blocks' chunk'
+chunks_on v d d' blocks blocks' chunk chunk' r e room holds chunk_room chunk_holds =
+    record { walk = walk_on v d d' blocks blocks' r.walk e room holds; room = chunk_room ∙ r.room; holds = chunk_holds }

@@ -13,3 +13,5 @@ pub mod GoesOn
 pub mod Begins
 pub mod Before
 pub mod Ready
+pub mod Windows
+pub mod Looks

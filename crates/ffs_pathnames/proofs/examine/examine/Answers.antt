@@ -30,16 +30,17 @@ returns-clause-found g c = λ b t h r d.
       count = c.as_slice.ensures.len ∙ c.requires.ready.made.kinds;
     }) h r in
     let long = c.look_directory.auto.stamps ∙ c.as_mut_slice.ensures.len in
+    let found = c.in_ok-found.ensures.found b t1 in
     record {
       inode = inode;
-      gap = c.in_ok-found.ensures.gap b t1 ∙ gap_is v b c.args.dir c.in_ok-inode.inode c.index-cut.result.now sound number inode cut;
-      sound = c.in_ok-found.ensures.sound b t1 small ∙ ap are_sound chunks;
-      started = sym (ap (find (λ x. x.offset == 0)) chunks) ∙ c.in_ok-found.ensures.started b t1 small;
-      quiet = c.in_ok-found.ensures.quiet b t1 (volume_of v b) shows small
+      gap = found.gap ∙ gap_is v b c.args.dir c.in_ok-inode.inode c.index-cut.result.now sound number inode cut;
+      sound = found.sound small ∙ ap are_sound chunks;
+      started = sym (ap (find (λ x. x.offset == 0)) chunks) ∙ found.started small;
+      quiet = found.quiet (volume_of v b) shows small
           ∙ (ap (λ q. are_quiet (volume_of v b) c.args.dir q (flat_map roled_chunk (chunks_read c.args.geometry.now.layout c.in_ok-inode.inode c.index-cut.result.now b))) c.as_mut_slice.ensures.value
           ∙ ap (are_quiet (volume_of v b) c.args.dir c.args.workspace.now.queue.items) (seen_are v b c.args.dir _ chunks));
       stamps = with_items_is c.args.workspace.now.queue c.look_directory.new.stamps long
-          ∙ (c.in_ok-found.ensures.stamps b t1 (volume_of v b) shows small
+          ∙ (found.stamps (volume_of v b) shows small
           ∙ (ap (λ q. after_looks (volume_of v b) c.args.dir q (flat_map roled_chunk (chunks_read c.args.geometry.now.layout c.in_ok-inode.inode c.index-cut.result.now b))) c.as_mut_slice.ensures.value
           ∙ ap (after_looks (volume_of v b) c.args.dir c.args.workspace.now.queue.items) (seen_are v b c.args.dir _ chunks)));
     }
