@@ -1,7 +1,9 @@
 -- What is ready stays so where a chunk is read.
 use Rattle.std.proofs.Common.{◌≡◌, ◌*◌, ◌≤◌, refl, sym, ap, subst, ◌∙◌}
-use Rattle.std.specs.Prelude.{vec_len}
+use Rattle.std.specs.Prelude.{vec_len, Result}
 use Rattle.ffs_image.specs.Device.{Device}
+use Rattle.ffs_image.specs.Reads.{ReadAfter}
+use Rattle.ffs_image.specs.declared.image.ImageFault.{ImageFault}
 use Rattle.ffs_volume.specs.declared.Layout.{Layout}
 use Rattle.ffs_walk.specs.declared.blocks.Blocks.{Blocks}
 use Rattle.ffs_walk.specs.declared.window.Window.{Window}
@@ -9,10 +11,10 @@ use Rattle.ffs_walk.specs.Windows.{BlocksHold, WindowHolds}
 use Rattle.ffs_workspace.specs.declared.workspace.Workspace.{Workspace}
 use Rattle.ffs_workspace.specs.Lengths.{IsFor, HoldWindows}
 use Rattle.ffs_workspace.specs.Ready.{IsReady}
-use Rattle.ffs_workspace.proofs.Leaving.{windows_leave, leaves_more}
+use Rattle.ffs_workspace.proofs.Leaving.{windows_leave}
 use Rattle.ffs_paths.specs.declared.siblings.Siblings.{Siblings}
+use Rattle.ffs_paths.specs.Reads.{OnlyReads}
 use Rattle.ffs_paths.proofs.Keeping.{siblings_on}
-use Rattle.ffs_pathnames.specs.Examines.{LeavesMarks}
 use Rattle.ffs_pathnames.specs.Windows.{CanWalk, CanReadChunks}
 use Rattle.ffs_pathnames.specs.Ready.{ReadyWith}
 
@@ -62,9 +64,14 @@ ready_next v d d' w s blocks chunk r e room holds chunk_room chunk_holds = recor
 pub ready_same : (v : Layout) (d d' : Device) (w w' : Workspace) → IsReady v d w → d' ≡ d → IsFor v w' → HoldWindows v d'.contents w' → IsReady v d' w'
 ready_same v d d' w w' r e made windows = record { made = made; volume = subst (λ x. v.size * v.fsize ≤ x.size) (sym e) r.volume; windows = windows }
 
--- what two calls leave
-pub lists_more : (a b c : Workspace) → LeavesMarks a b → LeavesMarks b c → LeavesMarks a c
-lists_more a b c s t = record { survey = leaves_more a b c s.survey t.survey; leaders = t.leaders ∙ s.leaders; queue = t.queue ∙ s.queue }
+-- what two calls leave that read
+pub reads_more : {E : Type 0} (v : Layout) (d d' d'' : Device) (w w' w'' : Workspace) (q : Result E ImageFault) → d' ≡ d → w' ≡ record w { windows = w'.windows } →
+    OnlyReads v d' d'' w' w'' q → OnlyReads v d d'' w w'' q
+reads_more v d d' d'' w w' w'' q e lists s = record {
+  lists = s.lists ∙ ap (λ (x : Workspace). record x { windows = w''.windows }) lists;
+  ready = s.ready;
+  read = subst (λ x. ReadAfter x d'' q) e s.read;
+}
 
 -- a read of a block, and of a chunk
 pub walk_on : (v : Layout) (d d' : Device) (blocks blocks' : Blocks) → CanWalk v d blocks → d'.size ≡ d.size → vec_len blocks'.buffer ≡ vec_len blocks.buffer → BlocksHold v d'.contents blocks' →

@@ -1,7 +1,6 @@
 -- When the paths of directories can be made too.
-use Rattle.std.specs.Prelude.{Result, Ok, Err}
+use Rattle.std.specs.Prelude.{◌≡◌, Result, Ok, Err, OnOk}
 use Rattle.ffs_image.specs.Device.{Device}
-use Rattle.ffs_image.specs.Reads.{ReadAfter}
 use Rattle.ffs_image.specs.declared.image.ImageFault.{ImageFault}
 use Rattle.ffs_volume.specs.declared.Layout.{Layout}
 use Rattle.ffs_workspace.specs.declared.workspace.Workspace.{Workspace}
@@ -11,7 +10,7 @@ use Rattle.ffs_phase.specs.Runs.{ImageAfter}
 use Rattle.ffs_phase.specs.declared.fault.RunFault.{RunFault}
 use Rattle.ffs_paths.specs.declared.siblings.Siblings.{Siblings}
 use Rattle.ffs_paths.specs.Siblings.{KeepSiblings}
-use Rattle.ffs_pathnames.specs.Examines.{LeavesMarks}
+use Rattle.ffs_paths.specs.Reads.{OnlyReads}
 
 -- the workspace is ready, and what is kept of a directory and its children is right
 pub record ReadyWith (v : Layout) (d : Device) (w : Workspace) (s : Siblings) : Type 0 where
@@ -29,8 +28,13 @@ pub record PhaseLeaves {T : Type 0} (v : Layout) (d d' : Device) (w w' : Workspa
   pub survey : LeavesSurvey w w'
   pub ready : ReadyAfter v d' w' s result
 
--- what a call leaves that reads the image: all lists, and the same
-pub record ReadLeaves {T : Type 0} (v : Layout) (d d' : Device) (w w' : Workspace) (s : Siblings) (result : Result T ImageFault) : Type 0 where
-  pub lists : LeavesMarks w w'
-  pub read : ReadAfter d d' result
+-- the same of a call that changes nothing of the workspace but its windows
+pub record LinesLeave {T : Type 0} (v : Layout) (d d' : Device) (w w' : Workspace) (s : Siblings) (result : Result T RunFault) : Type 0 where
+  pub image : ImageAfter d d' result
+  pub lists : w' ≡ record w { windows = w'.windows }
   pub ready : ReadyAfter v d' w' s result
+
+-- what a call leaves that makes a path
+pub record PathLeaves {T : Type 0} (v : Layout) (d d' : Device) (w w' : Workspace) (s : Siblings) (result : Result T ImageFault) : Type 0 where
+  pub reads : OnlyReads v d d' w w' result
+  pub siblings : OnOk result (KeepSiblings v d'.contents w' s)

@@ -13,7 +13,6 @@ ghost use Rattle.ffs_pathnames.specs.Marks as marks;
 ghost use Rattle.ffs_pathnames.specs.Ready.{ReadyWith, PhaseLeaves};
 
 use crate::entries::report_chunk;
-use crate::paths::own_path;
 use ffs_image::Image;
 use ffs_layout::Geometry;
 use ffs_names::Chunks;
@@ -49,7 +48,7 @@ pub fn report_directory<I: Image, W: Output>(
     ensures leaves { PhaseLeaves geometry.now.layout (I.device image.old) (I.device image.new)
         workspace.old workspace.new siblings.new result }
 {
-    let path = own_path(geometry, image, workspace, siblings, dir)?;
+    let path = siblings.path_to(geometry, image, workspace, dir)?;
     let cut = workspace.cut[dir as usize];
     let mut chunks = Chunks::start(geometry, inode, cut);
     let mut chunk = [0u8; 512];

@@ -4,7 +4,7 @@ ghost use Rattle.ffs_volume.specs.Messages.Kinds.{of_names};
 ghost use Rattle.ffs_volume.specs.Directories.PathnameCheck.{dir_lines};
 ghost use Rattle.ffs_volume.specs.Directories.Volumes.{volume_of};
 ghost use Rattle.ffs_phase.specs.Known.{ForBytes};
-ghost use Rattle.ffs_phase.specs.Runs.{ImageAfter, PhaseReports};
+ghost use Rattle.ffs_phase.specs.Runs.{PhaseReports};
 ghost use Rattle.ffs_report.specs.Progress.{progress};
 ghost use Rattle.ffs_volume.specs.declared.Layout.{Layout};
 ghost use Rattle.ffs_volume.specs.Directories.Graph.{parent};
@@ -15,12 +15,11 @@ ghost use Rattle.ffs_volume.specs.Directories.Paths.{dir_path};
 ghost use Rattle.ffs_layout.specs.Entry.{entry_value};
 ghost use Rattle.ffs_workspace.specs.Holds.{HoldsSurvey};
 ghost use Rattle.ffs_pathnames.specs.Begins.{dir_starts, number_if, started_entry, IsBegun};
-ghost use Rattle.ffs_pathnames.specs.Examines.{LeavesMarks};
 ghost use Rattle.ffs_pathnames.specs.Header.{header_reported};
 ghost use Rattle.ffs_pathnames.specs.Gathers.{marks_of};
 ghost use Rattle.ffs_pathnames.specs.DirectoryContext.{DirectoryContext};
 ghost use Rattle.ffs_pathnames.specs.MarksRight.{AreRightBefore};
-ghost use Rattle.ffs_pathnames.specs.Ready.{ReadyWith, ReadyAfter, PhaseLeaves};
+ghost use Rattle.ffs_pathnames.specs.Ready.{ReadyWith, PhaseLeaves, LinesLeave};
 
 use crate::again::report_directory;
 use crate::examine::{DirectorySummary, examine};
@@ -89,7 +88,6 @@ fn report_header<I: Image, W: Output>(
 ) -> Result<(), RunFault>
     requires ready { ReadyWith geometry.now.layout (I.device image.old) workspace.old siblings.old }
     requires number { dir < geometry.now.layout.ncg * geometry.now.layout.ipg }
-    ensures image { ImageAfter (I.device image.old) (I.device image.new) result }
     ensures text { PhaseReports (λ b. DirectoryContext geometry.now.layout
         (I.device image.old).contents workspace.old dir b
         × (size ≡ (inode_of geometry.now.layout b dir).size))
@@ -98,9 +96,8 @@ fn report_header<I: Image, W: Output>(
         shape.entry.gap shape.entry.sound (option_map entry_value shape.entry.first)
         (option_map entry_value shape.entry.second)))
         (progress W.sink report.old) (progress W.sink report.new) result }
-    ensures lists { LeavesMarks workspace.old workspace.new }
-    ensures ready { ReadyAfter geometry.now.layout (I.device image.new) workspace.new siblings.new
-        result }
+    ensures leaves { LinesLeave geometry.now.layout (I.device image.old) (I.device image.new)
+        workspace.old workspace.new siblings.new result }
 {
     if is_in_order(dir, parent, size, shape) {
         return Ok(());

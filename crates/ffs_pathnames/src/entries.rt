@@ -7,13 +7,12 @@ ghost use Rattle.ffs_volume.specs.Directories.Roles.{roled_from};
 ghost use Rattle.ffs_volume.specs.Directories.Volumes.{volume_of};
 ghost use Rattle.ffs_layout.specs.Entry.{entry_value};
 ghost use Rattle.ffs_phase.specs.Known.{ForBytes};
-ghost use Rattle.ffs_phase.specs.Runs.{ImageAfter, PhaseReports};
+ghost use Rattle.ffs_phase.specs.Runs.{PhaseReports};
 ghost use Rattle.ffs_report.specs.Progress.{progress};
-ghost use Rattle.ffs_pathnames.specs.Examines.{LeavesMarks};
 ghost use Rattle.ffs_pathnames.specs.Gathers.{marks_of};
 ghost use Rattle.ffs_pathnames.specs.DirectoryContext.{DirectoryContext, KnowsPath};
 ghost use Rattle.ffs_pathnames.specs.Marks as marks;
-ghost use Rattle.ffs_pathnames.specs.Ready.{ReadyWith, ReadyAfter, PhaseLeaves};
+ghost use Rattle.ffs_pathnames.specs.Ready.{ReadyWith, PhaseLeaves, LinesLeave};
 
 use crate::inodes::Inodes;
 use crate::tell::{report_extra, report_plain};
@@ -42,15 +41,13 @@ fn say_entry<I: Image, W: Output>(
     requires ready { ReadyWith geometry.now.layout (I.device image.old) workspace.old siblings.old }
     requires dir { dir < geometry.now.layout.ncg * geometry.now.layout.ipg }
     requires name { length entry.now.name.now ≤ 255 }
-    ensures image { ImageAfter (I.device image.old) (I.device image.new) result }
     ensures text { PhaseReports (KnowsPath geometry.now.layout (I.device image.old).contents
         workspace.old dir path.now)
         (λ b. map of_names (marks.roled_reported (volume_of geometry.now.layout b) dir
         (marks_of workspace.old) (record { role = role; entry = entry_value entry.now })))
         (progress W.sink report.old) (progress W.sink report.new) result }
-    ensures lists { LeavesMarks workspace.old workspace.new }
-    ensures ready { ReadyAfter geometry.now.layout (I.device image.new) workspace.new siblings.new
-        result }
+    ensures leaves { LinesLeave geometry.now.layout (I.device image.old) (I.device image.new)
+        workspace.old workspace.new siblings.new result }
 {
     match role {
         Role::Empty => Ok(()),

@@ -21,7 +21,6 @@ pub mod header;
 pub mod inodes;
 pub mod lines;
 pub mod look;
-pub mod paths;
 pub mod phase;
 pub mod root;
 pub mod say;

@@ -13,19 +13,17 @@ ghost use Rattle.ffs_phase.specs.Runs.{ImageAfter, PhaseReports};
 ghost use Rattle.ffs_report.specs.Progress.{progress};
 ghost use Rattle.ffs_workspace.specs.Lengths.{IsFor};
 ghost use Rattle.ffs_workspace.specs.Holds.{HoldsClaims, HoldsSurvey};
-ghost use Rattle.ffs_pathnames.specs.Examines.{LeavesMarks};
 ghost use Rattle.ffs_pathnames.specs.Gathers.{IsEnough, marks_of, asks_attr, asks_path, is_silent};
 ghost use Rattle.ffs_pathnames.specs.DirectoryContext.{DirectoryContext, KnowsPath};
 ghost use Rattle.ffs_paths.specs.DirectoryPaths.{IsPathOf};
+ghost use Rattle.ffs_paths.specs.Reads.{ForTree, OnlyReads};
 ghost use Rattle.ffs_pathnames.specs.Marks.{plain_reported};
 ghost use Rattle.ffs_pathnames.specs.Verdicts.{verdict_reported};
 ghost use Rattle.ffs_workspace.specs.Ready.{IsReady};
-ghost use Rattle.ffs_image.specs.Reads.{ReadAfter};
-ghost use Rattle.ffs_pathnames.specs.Ready.{ReadyWith, ReadyAfter, ReadLeaves};
+ghost use Rattle.ffs_pathnames.specs.Ready.{ReadyWith, PathLeaves, LinesLeave};
 
 use crate::header::is_one_dot;
 use crate::lines::say_verdict;
-use crate::paths::path_text;
 use crate::verdict::{Verdict, entry_verdict};
 use crate::view::view;
 use ffs_image::{Image, ImageFault};
@@ -69,9 +67,8 @@ pub fn read_attr<I: Image>(
     requires number { number < geometry.now.layout.ncg * geometry.now.layout.ipg }
     ensures attr { IfOk result (λ a. ForContents (I.device image.old).contents
         (λ b. a ≡ attributes (volume_of geometry.now.layout b) number)) }
-    ensures lists { LeavesMarks workspace.old workspace.new }
-    ensures ready { IsReady geometry.now.layout (I.device image.new) workspace.new }
-    ensures read { ReadAfter (I.device image.old) (I.device image.new) result }
+    ensures reads { OnlyReads geometry.now.layout (I.device image.old) (I.device image.new)
+        workspace.old workspace.new result }
 {
     let inode = workspace.windows.table.inode(geometry, number, image)?;
     Ok(attr_of(number, &inode))
@@ -101,9 +98,8 @@ fn gather_attr<I: Image>(
     requires number { IsTrue wanted → number < geometry.now.layout.ncg * geometry.now.layout.ipg }
     ensures attr { IfOk result (λ a. ForContents (I.device image.old).contents
         (λ b. IsTrue wanted → a ≡ attributes (volume_of geometry.now.layout b) number)) }
-    ensures lists { LeavesMarks workspace.old workspace.new }
-    ensures ready { IsReady geometry.now.layout (I.device image.new) workspace.new }
-    ensures read { ReadAfter (I.device image.old) (I.device image.new) result }
+    ensures reads { OnlyReads geometry.now.layout (I.device image.old) (I.device image.new)
+        workspace.old workspace.new result }
 {
     if !wanted {
         return Ok(Attr {
@@ -129,18 +125,15 @@ fn gather_path<I: Image>(
 ) -> Result<(), ImageFault>
     requires ready { ReadyWith geometry.now.layout (I.device image.old) workspace.old siblings.old }
     requires number { IsTrue wanted → dir < geometry.now.layout.ncg * geometry.now.layout.ipg }
-    ensures path { OnOk result ((b : List ℕ) → (I.device image.old).contents ≡ Some b
-        → HoldsClaims geometry.now.layout b workspace.old
-        → HoldsSurvey geometry.now.layout b workspace.old →
-        IsTrue wanted → is_dir (volume_of geometry.now.layout b) dir ≡ true → text.new.items
-        ≡ dir_path (graph_of (volume_of geometry.now.layout b)) dir) }
-    ensures leaves { ReadLeaves geometry.now.layout (I.device image.old) (I.device image.new)
+    ensures path { OnOk result (ForTree geometry.now.layout (I.device image.old) workspace.old
+        (λ g. IsTrue wanted → text.new.items ≡ dir_path g dir)) }
+    ensures leaves { PathLeaves geometry.now.layout (I.device image.old) (I.device image.new)
         workspace.old workspace.new siblings.new result }
 {
     if !wanted {
         return Ok(());
     }
-    path_text(geometry, image, workspace, siblings, dir, text)
+    siblings.put_path(geometry, image, workspace, dir, text)
 }
 
 /// Gathers what the messages on an entry show: the entry's path into `text`, the path of the directory that it names into
@@ -164,12 +157,10 @@ fn gather<I: Image>(
     ensures enough { IfOk result (λ a. (b : List ℕ) (dir : ℕ) → (I.device image.old).contents
         ≡ Some b → HoldsClaims geometry.now.layout b workspace.old
         → HoldsSurvey geometry.now.layout b workspace.old →
-        IsPathOf (graph_of (volume_of geometry.now.layout b)) dir path.now
-        → (IsTrue (asks_path verdict.now)
-        → is_dir (volume_of geometry.now.layout b) entry.now.number ≡ true) →
+        IsPathOf (graph_of (volume_of geometry.now.layout b)) dir path.now →
         IsEnough (volume_of geometry.now.layout b) verdict.now dir entry.now.number
         entry.now.name.now a text.new.items directory.new.items) }
-    ensures leaves { ReadLeaves geometry.now.layout (I.device image.old) (I.device image.new)
+    ensures leaves { PathLeaves geometry.now.layout (I.device image.old) (I.device image.new)
         workspace.old workspace.new siblings.new result }
 {
     let (wants_attr, wants_path) = asks(verdict);
@@ -240,15 +231,13 @@ pub fn report_plain<I: Image, W: Output>(
     requires ready { ReadyWith geometry.now.layout (I.device image.old) workspace.old siblings.old }
     requires dir { dir < geometry.now.layout.ncg * geometry.now.layout.ipg }
     requires name { length entry.now.name.now ≤ 255 }
-    ensures image { ImageAfter (I.device image.old) (I.device image.new) result }
     ensures text { PhaseReports (KnowsPath geometry.now.layout (I.device image.old).contents
         workspace.old dir path.now)
         (λ b. map of_names (plain_reported (volume_of geometry.now.layout b) dir
         (marks_of workspace.old) (entry_value entry.now)))
         (progress W.sink report.old) (progress W.sink report.new) result }
-    ensures lists { LeavesMarks workspace.old workspace.new }
-    ensures ready { ReadyAfter geometry.now.layout (I.device image.new) workspace.new siblings.new
-        result }
+    ensures leaves { LinesLeave geometry.now.layout (I.device image.old) (I.device image.new)
+        workspace.old workspace.new siblings.new result }
 {
     let verdict = verdict_of(geometry, workspace, dir, entry);
     if is_silent(&verdict) {
@@ -296,7 +285,7 @@ pub fn report_extra<I: Image, W: Output>(
         (λ b. map of_names (extra_reported (attributes (volume_of geometry.now.layout b) dir)
         (dir_path (graph_of (volume_of geometry.now.layout b)) dir) (entry_value entry.now)))
         (progress W.sink report.old) (progress W.sink report.new) result }
-    ensures lists { LeavesMarks workspace.old workspace.new }
+    ensures lists { workspace.new ≡ record workspace.old { windows = workspace.new.windows } }
     ensures ready { IsReady geometry.now.layout (I.device image.new) workspace.new }
 {
     let mut text = PathText::new();
@@ -322,10 +311,10 @@ pub fn gather_dir<I: Image>(
     ensures path { OnOk result ((b : List ℕ)
         → DirectoryContext geometry.now.layout (I.device image.old).contents workspace.old dir b
         → path.new.items ≡ dir_path (graph_of (volume_of geometry.now.layout b)) dir) }
-    ensures leaves { ReadLeaves geometry.now.layout (I.device image.old) (I.device image.new)
+    ensures leaves { PathLeaves geometry.now.layout (I.device image.old) (I.device image.new)
         workspace.old workspace.new siblings.new result }
 {
-    path_text(geometry, image, workspace, siblings, dir, path)?;
+    siblings.put_path(geometry, image, workspace, dir, path)?;
     let attr = read_attr(geometry, image, workspace, dir)?;
     Ok(attr)
 }

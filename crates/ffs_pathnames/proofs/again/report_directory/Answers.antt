@@ -28,21 +28,21 @@ returns-in_err-path-clause-text g c =
 pub chunks-init : goal.chunks-init
 chunks-init g c =
     let v = c.args.geometry.now.layout in
-    let ok = c.in_ok-path.ensures.leaves in
-    let here = c.own_path.new.workspace in
+    let ok = c.in_ok-path.ensures.reads in
+    let here = c.path_to.new.workspace in
     let m = marks_of c.args.workspace.now in
     let same = marks_on c.args.workspace.now here ok.lists in
     let all = λ (b : List ℕ). map of_names (entries_reported (volume_of v b) c.args.dir m (roled_entries (volume_of v b) c.args.dir)) in
     let seen = λ (b : List ℕ) (k : DirectoryContext v (g.I.Image.device c.args.image.now).contents c.args.workspace.now c.args.dir b × (c.args.inode.now ≡ inode_of v b c.args.dir)).
     all_read v b c.args.dir c.args.inode.now c.index-cut.result.now (rest b c.start-chunks.result) c.args.geometry.now.sound k.0.dir k.1
-    (get_or_read_under here.cut.items c.args.dir _ c.index-cut.result.now 0 c.index-cut.ensures (subst (λ n. c.args.dir < n) (sym ok.ready.ready.made.cut) c.requires.dir)
-    here.cut.ok.0 ∙ (claims_left v b c.args.workspace.now here ok.lists.survey k.0.claims).cut c.args.dir)
+    (get_or_read_under here.cut.items c.args.dir _ c.index-cut.result.now 0 c.index-cut.ensures (subst (λ n. c.args.dir < n) (sym ok.ready.made.cut) c.requires.dir)
+    here.cut.ok.0 ∙ (claims_left v b c.args.workspace.now here (windows_leave _ _ ok.lists) k.0.claims).cut c.args.dir)
     (c.start-chunks.ensures.chunks b) in
     record {
-      ready = ok.ready;
+      ready = record { ready = ok.ready; siblings = c.in_ok-path.ensures.siblings };
       device = ok.read;
       geometry = c.start-chunks.ensures.geometry;
-      survey = ok.lists.survey;
+      survey = windows_leave _ _ ok.lists;
       marks = λ b k. ap (λ q. after_entries (volume_of v b) c.args.dir q (roled_entries (volume_of v b) c.args.dir)) same ∙ ap (after_entries (volume_of v b) c.args.dir (marks_of here)) (sym (seen b k));
       said = of_same _ all (λ (b : List ℕ). map of_names (entries_reported (volume_of v b) c.args.dir (marks_of here) (flat_map roled_chunk (rest b c.start-chunks.result)))) all _ _ (of_begins _ all _)
           (λ b k. ap (λ q. map of_names (entries_reported (volume_of v b) c.args.dir q (roled_entries (volume_of v b) c.args.dir))) same

@@ -54,4 +54,4 @@ returns-clause-text g c =
 pub returns-clause-begun : goal.returns-clause-begun
 returns-clause-begun g c = λ b k.
     begun_is c.args.geometry.now.layout b c.args.dir c.args.workspace.now c.examine.new.workspace _ c.in_ok-examined.examined c.examine.new.start
-    (c.in_ok-examined.ensures.found b k.reported_is k.claims k.survey k.dir) c.in_ok-examined.ensures.lists c.in_ok-report_header.ensures.lists
+    (c.in_ok-examined.ensures.found b k.reported_is k.claims k.survey k.dir) c.in_ok-examined.ensures.lists c.in_ok-report_header.ensures.leaves.lists

@@ -2,8 +2,9 @@ use Rattle.std.proofs.Common.{ap, refl, ◌∙◌, rules}
 use Rattle.std.proofs.lemmas.List.{with_items_is}
 use Rattle.ffs_volume.specs.Directories.Volumes.{volume_of}
 use Rattle.ffs_layout.specs.Entry.{entry_value}
+use Rattle.ffs_workspace.specs.declared.workspace.Workspace.{Workspace}
 use Rattle.ffs_workspace.specs.Leaves.{LeavesSurvey}
-use Rattle.ffs_workspace.proofs.Leaving.{claims_left, survey_left, leaves_more}
+use Rattle.ffs_workspace.proofs.Leaving.{claims_left, survey_left, leaves_more, windows_leave}
 use Rattle.ffs_pathnames.proofs.Passed.{passes}
 use Rattle.ffs_pathnames.proofs.SeesLaws.{sees}
 use Rattle.ffs_paths.proofs.Keeping.{siblings_on}
@@ -11,7 +12,8 @@ use Rattle.ffs_pathnames.proofs.entries.report_entry.Goals as goal
 
 pub returns-clause-leaves : goal.returns-clause-leaves
 returns-clause-leaves g c =
-    let said = c.in_ok-say_entry.ensures.ready in
+    let left = c.in_ok-say_entry.ensures.leaves in
+    let said = left.ready in
     let made = said.ready.made in
     let windows = said.ready.windows in
     let marks : LeavesSurvey c.say_entry.new.workspace _ = record {
@@ -27,8 +29,8 @@ returns-clause-leaves g c =
       runs_again = refl;
     } in
     record {
-      image = c.in_ok-say_entry.ensures.image;
-      survey = leaves_more _ _ _ c.in_ok-say_entry.ensures.lists.survey marks;
+      image = left.image;
+      survey = leaves_more _ _ _ (windows_leave _ _ left.lists) marks;
       ready = record {
         ready = record {
           made = record {
@@ -58,18 +60,19 @@ returns-clause-leaves g c =
 pub returns-clause-marks : goal.returns-clause-marks
 returns-clause-marks g c = λ b k.
     let v = c.args.geometry.now.layout in
-    let left = c.in_ok-say_entry.ensures.lists in
+    let left = c.in_ok-say_entry.ensures.leaves.lists in
+    let kept = windows_leave _ _ left in
     let before = c.args.workspace.now in
     let here = c.say_entry.new.workspace in
     let shows = sees v b here _ (record {
       kinds = c.as_slice.ensures.value;
       marked = c.as_slice-2.ensures.value;
       parents = c.as_slice-3.ensures.value;
-      count = c.as_slice.ensures.len ∙ c.in_ok-say_entry.ensures.ready.ready.made.kinds;
-    }) (claims_left v b before here left.survey k.claims) (survey_left v b before here left.survey k.survey) in
+      count = c.as_slice.ensures.len ∙ c.in_ok-say_entry.ensures.leaves.ready.ready.made.kinds;
+    }) (claims_left v b before here kept k.claims) (survey_left v b before here kept k.survey) in
     passes (volume_of v b) c.args.dir (record { role = c.args.role; entry = entry_value c.args.entry.now }) before.leaders.items _ _ _ before.queue.items _ _ _
-    (c.as_mut_slice.ensures.value ∙ ap (λ x. x.items) left.leaders)
-    (c.as_mut_slice-2.ensures.value ∙ ap (λ x. x.items) left.queue)
+    (c.as_mut_slice.ensures.value ∙ ap (λ (w : Workspace). w.leaders.items) left)
+    (c.as_mut_slice-2.ensures.value ∙ ap (λ (w : Workspace). w.queue.items) left)
     (c.pass.ensures (volume_of v b) shows)
     (with_items_is here.leaders c.pass.new.passed (c.pass.auto.passed ∙ c.as_mut_slice.ensures.len))
     (with_items_is here.queue c.pass.new.stamps (c.pass.auto.stamps ∙ c.as_mut_slice-2.ensures.len))

@@ -39,7 +39,7 @@ returns-in_err-say_verdict-clause-text g c =
     let p = err_from_is_err_and c.from_residual-in_err-say_verdict.result c.from_residual-in_err-say_verdict.ensures.1 in
     rw (p.1, p.2) (of_stops _ all (λ b. []) _ (map of_names ms) _ _ _ (of_begins _ all _)
     (λ b k. ap (map of_names) (c.verdict_of-verdict.ensures.reported b k.knows.claims k.knows.survey
-    ∙ (sym (c.in_ok-attr.ensures.enough b c.args.dir k.knows.reported_is k.knows.claims k.knows.survey k.path (c.verdict_of-verdict.ensures.linked b k.knows.claims k.knows.survey))
+    ∙ (sym (c.in_ok-attr.ensures.enough b c.args.dir k.knows.reported_is k.knows.claims k.knows.survey k.path)
     ∙ (ap (λ q. verdict_reported c.verdict_of-verdict.result c.args.entry.now.number c.in_ok-attr.attr q c.gather.new.directory.items) (sym c.as_slice.ensures.value)
     ∙ ap (λ q. verdict_reported c.verdict_of-verdict.result c.args.entry.now.number c.in_ok-attr.attr c.as_slice.result.now q) (sym c.as_slice-2.ensures.value))))
     ∙ sym (append-nil (map of_names ms)))
@@ -52,7 +52,7 @@ returns-clause-text g c =
     let ms : List NameMessage = verdict_reported c.verdict_of-verdict.result c.args.entry.now.number c.in_ok-attr.attr c.as_slice.result.now c.as_slice-2.result.now in
     of_says _ all (λ b. []) _ (map of_names ms) _ _ _ (of_begins _ all _)
     (λ b k. ap (map of_names) (c.verdict_of-verdict.ensures.reported b k.knows.claims k.knows.survey
-    ∙ (sym (c.in_ok-attr.ensures.enough b c.args.dir k.knows.reported_is k.knows.claims k.knows.survey k.path (c.verdict_of-verdict.ensures.linked b k.knows.claims k.knows.survey))
+    ∙ (sym (c.in_ok-attr.ensures.enough b c.args.dir k.knows.reported_is k.knows.claims k.knows.survey k.path)
     ∙ (ap (λ q. verdict_reported c.verdict_of-verdict.result c.args.entry.now.number c.in_ok-attr.attr q c.gather.new.directory.items) (sym c.as_slice.ensures.value)
     ∙ ap (λ q. verdict_reported c.verdict_of-verdict.result c.args.entry.now.number c.in_ok-attr.attr c.as_slice.result.now q) (sym c.as_slice-2.ensures.value))))
     ∙ sym (append-nil (map of_names ms)))
