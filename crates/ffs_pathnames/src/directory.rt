@@ -1,9 +1,10 @@
 // A first look at a directory.
-ghost use Rattle.std.specs.Prelude.{◌≡◌, ◌*◌, ◌<◌, ◌≤◌, ◌==◌, true, false, List, ◌∷◌, length, Some, IfOk};
+ghost use Rattle.std.specs.Prelude.{◌≡◌, ◌*◌, ◌<◌, ◌==◌, true, false, List, ◌∷◌, Some, IfOk};
 ghost use Rattle.ffs_image.specs.Device.{ForContents};
 ghost use Rattle.ffs_volume.specs.declared.Order.{Order};
 ghost use Rattle.ffs_volume.specs.Directories.Entries.{Chunk, chunk_of};
 ghost use Rattle.ffs_pathnames.specs.Windows.{CanReadChunks};
+ghost use Rattle.ffs_pathnames.specs.Sees.{CanStamp};
 ghost use Rattle.ffs_pathnames.specs.Looks.{IsFirstLook};
 ghost use Rattle.ffs_pathnames.specs.Marks as marks;
 ghost use Rattle.ffs_pathnames.specs.Reads.{start_of};
@@ -55,8 +56,7 @@ pub fn look_directory<I: Image>(
     start: &mut [u8; 512],
 ) -> Result<FirstLook, ImageFault>
     requires ready { CanReadChunks geometry.now.layout (I.device image.old) blocks.old «data».old }
-    requires stamps { length stamps.old ≡ length inodes.now.kinds.now }
-    requires dir { 2 ≤ dir }
+    requires stamps { CanStamp inodes.now dir stamps.old }
     ensures found { IfOk result (λ f. ForContents (I.device image.old).contents
         (λ b. IsFirstLook geometry.now.layout inodes.now dir inode.now cut b stamps.old f
         stamps.new start.new)) }

@@ -27,6 +27,5 @@ pub mod say;
 pub mod tell;
 pub mod tree;
 pub mod verdict;
-pub mod view;
 
 pub use phase::{Root, phase2};

@@ -1,31 +1,30 @@
 // The lines of a plain entry.
-ghost use Rattle.std.specs.Prelude.{◌≡◌, ◌*◌, ◌<◌, ◌≤◌, ℕ, List, [], true, false, length, Some, OnOk, IfOk, IsTrue, map};
+ghost use Rattle.std.specs.Prelude.{◌≡◌, ◌*◌, ◌<◌, ◌≤◌, ℕ, List, [], true, false, length, Some, OnOk, IfOk, IsTrue, map, vec_len};
 ghost use Rattle.ffs_image.specs.Device.{ForContents};
 ghost use Rattle.ffs_volume.specs.Messages.Kinds.{of_names};
 ghost use Rattle.ffs_volume.specs.Directories.PathnameCheck.{attributes, extra_reported};
 ghost use Rattle.ffs_pathnames.specs.SaysNames.{SaysNames};
-ghost use Rattle.ffs_volume.specs.Directories.Roles.{is_dir};
 ghost use Rattle.ffs_volume.specs.Directories.Parents.{graph_of};
-ghost use Rattle.ffs_volume.specs.Directories.Paths.{dir_path, entry_path};
+ghost use Rattle.ffs_volume.specs.Directories.Paths.{dir_path};
 ghost use Rattle.ffs_volume.specs.Directories.Volumes.{volume_of};
 ghost use Rattle.ffs_layout.specs.Entry.{entry_value};
 ghost use Rattle.ffs_phase.specs.Runs.{ImageAfter, PhaseReports};
 ghost use Rattle.ffs_report.specs.Progress.{progress};
+ghost use Rattle.ffs_volume.specs.declared.Layout.{Layout};
 ghost use Rattle.ffs_workspace.specs.Lengths.{IsFor};
 ghost use Rattle.ffs_workspace.specs.Holds.{HoldsClaims, HoldsSurvey};
-ghost use Rattle.ffs_pathnames.specs.Gathers.{IsEnough, marks_of, asks_attr, asks_path, is_silent};
+ghost use Rattle.ffs_pathnames.specs.Gathers.{IsEnough, IsVerdict, AreAsLong, marks_of, asks_attr, asks_path, is_silent};
 ghost use Rattle.ffs_pathnames.specs.DirectoryContext.{DirectoryContext, KnowsPath};
 ghost use Rattle.ffs_paths.specs.DirectoryPaths.{IsPathOf};
 ghost use Rattle.ffs_paths.specs.Reads.{ForTree, OnlyReads};
 ghost use Rattle.ffs_pathnames.specs.Marks.{plain_reported};
-ghost use Rattle.ffs_pathnames.specs.Verdicts.{verdict_reported};
 ghost use Rattle.ffs_workspace.specs.Ready.{IsReady};
 ghost use Rattle.ffs_pathnames.specs.Ready.{ReadyWith, PathLeaves, LinesLeave};
 
 use crate::header::is_one_dot;
+use crate::inodes::Inodes;
 use crate::lines::say_verdict;
 use crate::verdict::{Verdict, entry_verdict};
-use crate::view::view;
 use ffs_image::{Image, ImageFault};
 use ffs_layout::{Entry, Geometry};
 use ffs_paths::{DirectoryPath, PathText, Siblings};
@@ -179,24 +178,18 @@ fn gather<I: Image>(
 }
 
 /// The verdict on a plain entry, by what the workspace holds.
-fn verdict_of(geometry: &Geometry, workspace: &Workspace, dir: u32, entry: &Entry<'_>) -> Verdict
-    requires made { IsFor geometry.now.layout workspace.now }
-    ensures below { IsTrue (asks_attr result) → entry.now.number
-        < geometry.now.layout.ncg * geometry.now.layout.ipg }
-    ensures linked { (b : List ℕ) → HoldsClaims geometry.now.layout b workspace.now
-        → HoldsSurvey geometry.now.layout b workspace.now →
-        IsTrue (asks_path result) → is_dir (volume_of geometry.now.layout b) entry.now.number
-        ≡ true }
-    ensures reported { (b : List ℕ) → HoldsClaims geometry.now.layout b workspace.now
-        → HoldsSurvey geometry.now.layout b workspace.now →
-        plain_reported (volume_of geometry.now.layout b) dir (marks_of workspace.now)
-        (entry_value entry.now)
-        ≡ verdict_reported result entry.now.number
-        (attributes (volume_of geometry.now.layout b) entry.now.number)
-        (entry_path (graph_of (volume_of geometry.now.layout b)) dir entry.now.name.now)
-        (dir_path (graph_of (volume_of geometry.now.layout b)) entry.now.number) }
+fn verdict_of(workspace: &Workspace, dir: u32, entry: &Entry<'_>) -> Verdict
+    requires lists { AreAsLong workspace.now }
+    ensures below { IsTrue (asks_attr result) → entry.now.number < vec_len workspace.now.kinds }
+    ensures verdict { (v : Layout) (b : List ℕ) → IsFor v workspace.now
+        → HoldsClaims v b workspace.now → HoldsSurvey v b workspace.now
+        → IsVerdict (volume_of v b) dir (marks_of workspace.now) (entry_value entry.now) result }
 {
-    let inodes = view(geometry, workspace);
+    let inodes = Inodes {
+        kinds: workspace.kinds.as_slice(),
+        marked: workspace.marked.as_slice(),
+        parents: workspace.parents.as_slice(),
+    };
     entry_verdict(
         &inodes,
         dir,
@@ -239,7 +232,7 @@ pub fn report_plain<I: Image, W: Output>(
     ensures leaves { LinesLeave geometry.now.layout (I.device image.old) (I.device image.new)
         workspace.old workspace.new siblings.new result }
 {
-    let verdict = verdict_of(geometry, workspace, dir, entry);
+    let verdict = verdict_of(workspace, dir, entry);
     if is_silent(&verdict) {
         return Ok(());
     }

@@ -18,7 +18,7 @@ unfolding chunks_read
 chunks-init g c = record {
   same = refl;
   geometry = c.start-chunks.ensures.geometry;
-  stamps_long = c.requires.stamps;
+  stamps_long = c.requires.stamps.each;
   ready = c.requires.ready;
   quiet = λ b t v s h. ap (λ cs. are_quiet v c.args.dir c.args.stamps.now (flat_map roled_chunk cs)) (sym (c.start-chunks.ensures.chunks b h));
   stamps = λ b t v s h. ap (λ cs. after_looks v c.args.dir c.args.stamps.now (flat_map roled_chunk cs)) (sym (c.start-chunks.ensures.chunks b h));
