@@ -1,6 +1,6 @@
 -- What is kept of a directory and its children stays right where only other parts of a workspace change.
 use Rattle.std.proofs.Common.{◌≡◌, List, ℕ, sym, ap, subst, ◌∙◌}
-use Rattle.std.specs.Prelude.{Option, Result}
+use Rattle.std.specs.Prelude.{Option, Result, Ok}
 use Rattle.ffs_image.specs.Device.{Device}
 use Rattle.ffs_image.specs.Reads.{ReadAfter}
 use Rattle.ffs_image.specs.declared.image.ImageFault.{ImageFault}
@@ -8,7 +8,6 @@ use Rattle.ffs_volume.specs.declared.Layout.{Layout}
 use Rattle.ffs_workspace.specs.declared.workspace.Windows.{Windows}
 use Rattle.ffs_workspace.specs.declared.workspace.Workspace.{Workspace}
 use Rattle.ffs_workspace.specs.Leaves.{LeavesSurvey}
-use Rattle.ffs_workspace.specs.Lengths.{IsFor}
 use Rattle.ffs_workspace.proofs.Leaving.{claims_left, survey_left}
 use Rattle.ffs_paths.specs.Climbing.{AreOpen}
 use Rattle.ffs_paths.specs.Reads.{OnlyReads}
@@ -50,31 +49,34 @@ siblings_on v contents contents' old new s e left k =
     let back = leaves_back old new left in
     record { layout = k.layout; right = λ b t claims survey some. k.right b (sym e ∙ t) (claims_left v b new old back claims) (survey_left v b new old back survey) some }
 
--- a read into the windows, after a read that left only them
-pub reads_on : {T : Type 0} (v : Layout) (d d' d'' : Device) (old w : Workspace) (windows : Windows) (result : Result T ImageFault) → d' ≡ d → w ≡ record old { windows = w.windows } → IsFor v w
-    → AreOpen v d'' windows → ReadAfter d' d'' result → OnlyReads v d d'' old (record w { windows = windows }) result
-reads_on v d d' d'' old w windows result same lists made opened read = record {
-  lists = ap (λ (x : Workspace). record x { windows = windows }) lists;
-  ready = record {
-    made = record {
-      claimed = made.claimed;
-      duplicates = made.duplicates;
-      unreported = made.unreported;
-      kinds = made.kinds;
-      marked = made.marked;
-      named = made.named;
-      reached = made.reached;
-      leaders = made.leaders;
-      references = made.references;
-      cut = made.cut;
-      parents = made.parents;
-      queue = made.queue;
-      table = opened.table;
-      blocks = opened.blocks;
-      chunk = opened.chunk;
-    };
-    volume = opened.volume;
-    windows = record { table = opened.table_holds; blocks = opened.blocks_hold; chunk = opened.chunk_holds };
-  };
-  read = subst (λ x. ReadAfter x d'' result) same read;
-}
+-- a read into the windows, after a call that only read
+pub then_reads : {S T : Type 0} {v : Layout} {old first last : Device} {before w : Workspace} {windows : Windows} {x : S}
+    {result : Result T ImageFault} → OnlyReads v old first before w (Ok x) → AreOpen v last windows
+    → ReadAfter first last result → OnlyReads v old last before (record w { windows = windows }) result
+then_reads {last = last} {windows = windows} {result = result} one opened read =
+    let made = one.ready.made in
+    record {
+      lists = ap (λ (w : Workspace). record w { windows = windows }) one.lists;
+      ready = record {
+        made = record {
+          claimed = made.claimed;
+          duplicates = made.duplicates;
+          unreported = made.unreported;
+          kinds = made.kinds;
+          marked = made.marked;
+          named = made.named;
+          reached = made.reached;
+          leaders = made.leaders;
+          references = made.references;
+          cut = made.cut;
+          parents = made.parents;
+          queue = made.queue;
+          table = opened.table;
+          blocks = opened.blocks;
+          chunk = opened.chunk;
+        };
+        volume = opened.volume;
+        windows = record { table = opened.table_holds; blocks = opened.blocks_hold; chunk = opened.chunk_holds };
+      };
+      read = subst (λ d. ReadAfter d last result) one.read read;
+    }

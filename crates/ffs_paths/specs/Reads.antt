@@ -12,11 +12,13 @@ use Rattle.ffs_workspace.specs.Holds.{HoldsClaims, HoldsSurvey}
 use Rattle.ffs_workspace.specs.Ready.{IsReady}
 
 -- all of the workspace but its windows is as it was, and it is ready for the next read
-pub record OnlyReads {T : Type 0} (v : Layout) (old new : Device) (before after : Workspace) (result : Result T ImageFault) : Type 0 where
+pub record OnlyReads {T : Type 0} (v : Layout) (old new : Device) (before after : Workspace)
+    (result : Result T ImageFault) : Type 0 where
   pub lists : after ≡ record before { windows = after.windows }
   pub ready : IsReady v new after
   pub read : ReadAfter old new result
 
--- of the directory tree, where the image gives its bytes, and the workspace holds what the block check and the survey leave of them
+-- of the directory tree, where the image gives its bytes, and the workspace holds what the block check and the survey leave
 abbrev pub ForTree : Layout → Device → Workspace → (Graph → Type 0) → Type 0
-ForTree v d w P = (b : List ℕ) → d.contents ≡ Some b → HoldsClaims v b w → HoldsSurvey v b w → P (graph_of (volume_of v b))
+ForTree v d w P = (b : List ℕ) → d.contents ≡ Some b → HoldsClaims v b w → HoldsSurvey v b w
+    → P (graph_of (volume_of v b))

@@ -94,8 +94,8 @@ impl Siblings {
         Ok(())
     }
 
-    /// Begins a reading of a directory's entries, with its path, unless the one that is kept has not passed the first entry that
-    /// names a child.
+    /// Begins a reading of a directory's entries, with its path, unless that is the one that is kept and it hasn't passed the
+    /// first entry that names a child.
     fn continue_or_begin<I: Image>(
         &mut self,
         geometry: &Geometry,

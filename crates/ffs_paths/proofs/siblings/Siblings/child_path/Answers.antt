@@ -7,7 +7,7 @@ use Rattle.ffs_paths.specs.DirectoryPaths.{HoldsPath}
 use Rattle.ffs_paths.specs.Slashes.{AreSingle}
 use Rattle.ffs_paths.specs.Siblings.{LeadsTo}
 use Rattle.ffs_paths.proofs.Children.{IsChild, child_is, dir_some, found_child}
-use Rattle.ffs_paths.proofs.Keeping.{reads_on}
+use Rattle.ffs_paths.proofs.Keeping.{then_reads}
 use Rattle.ffs_paths.proofs.siblings.Siblings.child_path.Goals as goal
 use Rattle.ffs_paths.proofs.siblings.Siblings.child_path.Goals.{then-found, else-found}
 
@@ -58,12 +58,14 @@ returns-in_err-found-clause-reads g c =
     let begun = c.in_ok-continue_or_begin.ensures in
     let found = c.in_err-found.ensures in
     let err = err_from_is_err_and c.from_residual-in_err-found.result c.from_residual-in_err-found.ensures.1 in
-    let opened = subst (λ v. AreOpen v (g.I.Image.device c.find.new.image) c.find.new.windows) begun.siblings.layout found.windows in
-    reads_on _ _ _ _ _ c.continue_or_begin.new.workspace c.find.new.windows _ begun.reads.read begun.reads.lists begun.reads.ready.made opened (rw (err.1, err.2) found.read)
+    let opened = subst (λ v. AreOpen v (g.I.Image.device c.find.new.image) c.find.new.windows)
+    begun.siblings.layout found.windows in
+    then_reads begun.reads opened (rw (err.1, err.2) found.read)
 
 pub returns-clause-reads : goal.returns-clause-reads
 returns-clause-reads g c =
     let begun = c.in_ok-continue_or_begin.ensures in
     let found = c.in_ok-found.ensures in
-    let opened = subst (λ v. AreOpen v (g.I.Image.device c.find.new.image) c.find.new.windows) begun.siblings.layout found.windows in
-    reads_on _ _ _ _ _ c.continue_or_begin.new.workspace c.find.new.windows _ begun.reads.read begun.reads.lists begun.reads.ready.made opened found.read
+    let opened = subst (λ v. AreOpen v (g.I.Image.device c.find.new.image) c.find.new.windows)
+    begun.siblings.layout found.windows in
+    then_reads begun.reads opened found.read

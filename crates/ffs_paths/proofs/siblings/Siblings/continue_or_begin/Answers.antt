@@ -2,7 +2,7 @@ use Rattle.std.proofs.Common.{◌∙◌, ap, arith, rules}
 use Rattle.std.proofs.lemmas.List.{get_or_default}
 use Rattle.std.specs.Prelude.{slice_index}
 use Rattle.ffs_paths.specs.Climbing.{name_in}
-use Rattle.ffs_paths.proofs.Keeping.{reads_on}
+use Rattle.ffs_paths.proofs.Keeping.{then_reads}
 use Rattle.ffs_paths.proofs.siblings.Siblings.continue_or_begin.Goals as goal
 
 pub returns-clause-siblings : goal.returns-clause-siblings
@@ -25,12 +25,8 @@ returns-clause-siblings g c =
 
 pub returns-in_err-self-clause-reads : goal.returns-in_err-self-clause-reads
 returns-in_err-self-clause-reads g c =
-    let kept = c.in_ok-keep_path_of.ensures.reads in
-    let opened = c.in_err-self.ensures in
-    reads_on _ _ _ _ _ c.keep_path_of.new.workspace c.open.new.windows _ kept.read kept.lists kept.ready.made opened.windows (search rules)
+    then_reads c.in_ok-keep_path_of.ensures.reads c.in_err-self.ensures.windows (search rules)
 
 pub returns-clause-reads : goal.returns-clause-reads
 returns-clause-reads g c =
-    let kept = c.in_ok-keep_path_of.ensures.reads in
-    let opened = c.in_ok-self.ensures in
-    reads_on _ _ _ _ _ c.keep_path_of.new.workspace c.open.new.windows _ kept.read kept.lists kept.ready.made opened.windows opened.read
+    then_reads c.in_ok-keep_path_of.ensures.reads c.in_ok-self.ensures.windows c.in_ok-self.ensures.read
