@@ -22,7 +22,8 @@ abbrev pub ReadyAfter : {T E : Type 0} → Layout → Device → Workspace → S
 ReadyAfter v d w s (Ok x) = ReadyWith v d w s
 ReadyAfter v d w s (Err e) = IsReady v d w
 
--- what a call of the phase leaves: the image, but for a read that failed, what the block check and the survey found, and all that the next call asks for
+-- what a call of the phase leaves: the image, but for a read that failed, what the block check and the survey found,
+-- and all that the next call asks for
 pub record PhaseLeaves {T : Type 0} (v : Layout) (d d' : Device) (w w' : Workspace) (s : Siblings) (result : Result T RunFault) : Type 0 where
   pub image : ImageAfter d d' result
   pub survey : LeavesSurvey w w'
