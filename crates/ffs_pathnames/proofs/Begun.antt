@@ -21,7 +21,7 @@ use Rattle.ffs_report.specs.Progress.{Progress}
 use Rattle.ffs_workspace.specs.declared.workspace.Workspace.{Workspace}
 use Rattle.ffs_pathnames.specs.declared.examine.DirectorySummary.{DirectorySummary}
 use Rattle.ffs_pathnames.specs.Begins.{dir_starts, started_entry, IsBegun}
-use Rattle.ffs_pathnames.specs.Examines.{AreFound, LeavesQueue, LeavesMarks}
+use Rattle.ffs_pathnames.specs.Examines.{AreFound, LeavesQueue}
 use Rattle.ffs_pathnames.specs.Marks.{Marks, are_quiet, entries_reported, after_entries}
 use Rattle.ffs_pathnames.specs.MarksRight.{AreRightBefore}
 use Rattle.ffs_pathnames.specs.Header.{header_reported}
@@ -82,11 +82,11 @@ abbrev marks_with : List Bool → List ℕ → Marks
 marks_with passed stamps = record { passed = passed; stamps = stamps }
 
 pub begun_is : (v : Layout) (b : List ℕ) (d : ℕ) (old new more : Workspace) (e : DirectorySummary) (start : List ℕ) →
-    AreFound v b d old e new start → LeavesQueue old new → LeavesMarks new more → IsBegun v b d old e more
+    AreFound v b d old e new start → LeavesQueue old new → more ≡ record new { windows = more.windows } → IsBegun v b d old e more
 begun_is v b d old new more e start f q m = record {
   inode = f.inode;
   quiet = f.quiet;
-  marks = ap (λ l. marks_with l.items more.queue.items) (m.leaders ∙ q.leaders) ∙ ap (λ s. marks_with old.leaders.items s) (ap (λ k. k.items) m.queue ∙ f.stamps);
+  marks = ap (λ l. marks_with l.items more.queue.items) (ap (λ (w : Workspace). w.leaders) m ∙ q.leaders) ∙ ap (λ s. marks_with old.leaders.items s) (ap (λ (w : Workspace). w.queue.items) m ∙ f.stamps);
 }
 
 -- a directory among the inodes

@@ -19,7 +19,6 @@ use Rattle.ffs_names.proofs.DirLaws.{dir_is, dir_size, dir_seen}
 use Rattle.ffs_volume.specs.Messages.Kinds.{NameMessage, of_names}
 use Rattle.ffs_volume.specs.Directories.Roles.{Volume, RoledEntry, roled_chunk, roled_from, roled_entries, is_dir}
 use Rattle.ffs_workspace.specs.Leaves.{LeavesSurvey}
-use Rattle.ffs_pathnames.specs.Examines.{LeavesMarks}
 use Rattle.ffs_pathnames.specs.Gathers.{marks_of}
 use Rattle.ffs_pathnames.specs.DirectoryContext.{DirectoryContext}
 use Rattle.ffs_pathnames.specs.Marks.{Marks, after_roled, after_entries, roled_reported, entries_reported}
@@ -110,7 +109,5 @@ all_read v b d i cut cs g dir e k read =
     ap (flat_map roled_chunk) (read small) ∙ dir_seen v b d i cut g p.0 e k
 
 -- the marks stay where their lists do
-pub marks_on : (old new : Workspace) → LeavesMarks old new → marks_of old ≡ marks_of new
-marks_on old new s =
-    let passed : marks_of old ≡ record { passed = new.leaders.items; stamps = old.queue.items } = ap (λ l. record { passed = l.items; stamps = old.queue.items }) (sym s.leaders) in
-    passed ∙ ap (λ q. record { passed = new.leaders.items; stamps = q.items }) (sym s.queue)
+pub marks_on : (old new : Workspace) → new ≡ record old { windows = new.windows } → marks_of old ≡ marks_of new
+marks_on old new e = sym (ap marks_of e)

@@ -26,9 +26,3 @@ pub record AreFound (v : Layout) (b : List ℕ) (d : ℕ) (old : Workspace) (e :
   pub started : find (λ c. c.offset == 0) ((volume_of v b).chunks d) ≡ start_of [] e.found.started v.order start
   pub quiet : e.found.quiet ≡ are_quiet (volume_of v b) d old.queue.items (roled_entries (volume_of v b) d)
   pub stamps : new.queue.items ≡ after_looks (volume_of v b) d old.queue.items (roled_entries (volume_of v b) d)
-
--- all lists
-pub record LeavesMarks (old new : Workspace) : Type 0 where
-  pub survey : LeavesSurvey old new
-  pub leaders : new.leaders ≡ old.leaders
-  pub queue : new.queue ≡ old.queue

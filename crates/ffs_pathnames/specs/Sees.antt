@@ -1,5 +1,5 @@
 -- What the lists of a workspace show of a volume.
-use Rattle.std.specs.Prelude.{◌≡◌, ℕ, ◌≤◌, ◌/◌, ◌==◌, true, false, ◌||◌, length, slice_index}
+use Rattle.std.specs.Prelude.{◌≡◌, ℕ, List, ◌≤◌, ◌/◌, ◌==◌, true, false, ◌||◌, length, slice_index}
 use Rattle.ffs_volume.specs.Blocks.Inodes.{is_allocated, is_unknown}
 use Rattle.ffs_volume.specs.Directories.Roles.{Volume, is_dir, is_suspect}
 use Rattle.ffs_volume.specs.Directories.Climb.{is_value}
@@ -20,3 +20,8 @@ pub record Sees (v : Volume) (i : Inodes) : Type 0 where
   pub kind : (x : ℕ) → is_allocated (v.class x) ≡ true → is_unknown (v.class x) ≡ false → type_of_kind (slice_index i.kinds.now x) ≡ (v.inode x).mode / 4096
   pub class : (x : ℕ) → is_allocated (v.class x) ≡ true → v.class x ≡ class_of_kind (slice_index i.kinds.now x)
   pub parent_is : (x s : ℕ) → 2 ≤ s → is_value (parent (graph_of v) x) s ≡ (slice_index i.parents.now x == s)
+
+-- each inode has a stamp, and the directory that stamps is the root or one after it
+pub record CanStamp (i : Inodes) (s : ℕ) (stamps : List ℕ) : Type 0 where
+  pub each : length stamps ≡ length i.kinds.now
+  pub dir : 2 ≤ s

@@ -21,13 +21,11 @@ pub mod header;
 pub mod inodes;
 pub mod lines;
 pub mod look;
-pub mod paths;
 pub mod phase;
 pub mod root;
 pub mod say;
 pub mod tell;
 pub mod tree;
 pub mod verdict;
-pub mod view;
 
 pub use phase::{Root, phase2};

@@ -1,5 +1,5 @@
 // A first look at the entries of a directory: whether anything may be reported of them.
-ghost use Rattle.std.specs.Prelude.{◌≡◌, ◌+◌, ◌<◌, ◌≤◌, ◌==◌, ◌&&◌, ◌||◌, not, length, slice_index, true, IsTrue};
+ghost use Rattle.std.specs.Prelude.{◌≡◌, ◌+◌, ◌<◌, ◌==◌, ◌&&◌, ◌||◌, not, length, slice_index, true};
 ghost use Rattle.ffs_volume.specs.declared.Role.{Role};
 ghost use Rattle.ffs_volume.specs.Directories.Roles.{Volume, is_dir, roled_from};
 ghost use Rattle.ffs_volume.specs.Directories.Entries.{entries_of, is_sound};
@@ -7,7 +7,7 @@ ghost use Rattle.ffs_volume.specs.declared.Order.{Order};
 ghost use Rattle.ffs_volume.specs.Directories.PathnameCheck.{is_bad_whiteout};
 ghost use Rattle.ffs_layout.specs.Entry.{entry_value};
 ghost use Rattle.ffs_pathnames.specs.Marks as marks;
-ghost use Rattle.ffs_pathnames.specs.Sees.{Sees};
+ghost use Rattle.ffs_pathnames.specs.Sees.{Sees, CanStamp};
 
 use crate::inodes::Inodes;
 use ffs_layout::{Entry, entry_at};
@@ -24,8 +24,7 @@ pub fn is_bad_whiteout(entry: &Entry<'_>) -> bool
 /// Whether a link to a directory is its parent's, and the first one.
 fn is_quiet_link(inodes: &Inodes<'_>, dir: u32, stamps: &[u32], inode: u32) -> bool
     requires inode { inode < length inodes.now.kinds.now }
-    requires stamps { length stamps.now ≡ length inodes.now.kinds.now }
-    requires dir { 2 ≤ dir }
+    requires stamps { CanStamp inodes.now dir stamps.now }
     ensures { (v : Volume) → Sees v inodes.now → result
         ≡ (not (is_dir v inode) || (marks.belongs v dir inode
         && not (slice_index stamps.now inode == dir))) }
@@ -36,8 +35,7 @@ fn is_quiet_link(inodes: &Inodes<'_>, dir: u32, stamps: &[u32], inode: u32) -> b
 /// Whether nothing is reported of an inode that a plain entry names.
 fn is_quiet_inode(inodes: &Inodes<'_>, dir: u32, stamps: &[u32], entry: &Entry<'_>) -> bool
     requires inode { entry.now.number < length inodes.now.kinds.now }
-    requires stamps { length stamps.now ≡ length inodes.now.kinds.now }
-    requires dir { 2 ≤ dir }
+    requires stamps { CanStamp inodes.now dir stamps.now }
     ensures { (v : Volume) → Sees v inodes.now → result
         ≡ marks.is_inode_quiet v dir stamps.now (entry_value entry.now) }
 {
@@ -55,8 +53,7 @@ fn is_quiet_inode(inodes: &Inodes<'_>, dir: u32, stamps: &[u32], entry: &Entry<'
 
 /// Whether nothing is reported of a plain entry.
 fn is_quiet_plain(inodes: &Inodes<'_>, dir: u32, stamps: &[u32], entry: &Entry<'_>) -> bool
-    requires stamps { length stamps.now ≡ length inodes.now.kinds.now }
-    requires dir { 2 ≤ dir }
+    requires stamps { CanStamp inodes.now dir stamps.now }
     ensures { (v : Volume) → Sees v inodes.now → result
         ≡ marks.is_plain_quiet v dir stamps.now (entry_value entry.now) }
 {
@@ -78,8 +75,7 @@ pub fn is_quiet(
     role: Role,
     entry: &Entry<'_>,
 ) -> bool
-    requires stamps { length stamps.now ≡ length inodes.now.kinds.now }
-    requires dir { 2 ≤ dir }
+    requires stamps { CanStamp inodes.now dir stamps.now }
     ensures { (v : Volume) → Sees v inodes.now → result
         ≡ marks.is_quiet v dir stamps.now (record { role = role; entry = entry_value entry.now }) }
 {
@@ -92,8 +88,7 @@ pub fn is_quiet(
 
 /// Stamps the inode that an entry names, if it belongs to the directory.
 pub fn stamp(inodes: &Inodes<'_>, dir: u32, stamps: &mut [u32], role: Role, entry: &Entry<'_>)
-    requires stamps { length stamps.old ≡ length inodes.now.kinds.now }
-    requires dir { 2 ≤ dir }
+    requires stamps { CanStamp inodes.now dir stamps.old }
     ensures { (v : Volume) → Sees v inodes.now → stamps.new
         ≡ marks.after_look v dir stamps.old
         (record { role = role; entry = entry_value entry.now }) }
@@ -111,8 +106,7 @@ pub fn stamp(inodes: &Inodes<'_>, dir: u32, stamps: &mut [u32], role: Role, entr
 
 /// Looks at an entry: whether nothing is reported of it, and the stamp of the inode that it names.
 fn look_at(inodes: &Inodes<'_>, dir: u32, stamps: &mut [u32], role: Role, entry: &Entry<'_>) -> bool
-    requires stamps { length stamps.old ≡ length inodes.now.kinds.now }
-    requires dir { 2 ≤ dir }
+    requires stamps { CanStamp inodes.now dir stamps.old }
     ensures quiet { (v : Volume) → Sees v inodes.now → result
         ≡ marks.is_quiet v dir stamps.old (record { role = role; entry = entry_value entry.now }) }
     ensures stamps { (v : Volume) → Sees v inodes.now → stamps.new
@@ -122,12 +116,6 @@ fn look_at(inodes: &Inodes<'_>, dir: u32, stamps: &mut [u32], role: Role, entry:
     let quiet = is_quiet(inodes, dir, stamps, role, entry);
     stamp(inodes, dir, stamps, role, entry);
     quiet
-}
-
-pub fn both(a: bool, b: bool) -> bool
-    ensures { result ≡ (a && b) }
-{
-    a && b
 }
 
 /// What a look at the entries of a chunk finds: whether nothing may be reported of them, and whether they fill the chunk.
@@ -146,8 +134,7 @@ pub fn look_chunk(
     chunk: &[u8; 512],
     stamps: &mut [u32],
 ) -> EntriesSummary
-    requires stamps { length stamps.old ≡ length inodes.now.kinds.now }
-    requires dir { 2 ≤ dir }
+    requires stamps { CanStamp inodes.now dir stamps.old }
     ensures quiet { (v : Volume) → Sees v inodes.now → result.quiet
         ≡ marks.are_quiet v dir stamps.old (roled_from first 0 (entries_of order chunk.now)) }
     ensures stamps { (v : Volume) → Sees v inodes.now → stamps.new
@@ -160,7 +147,7 @@ pub fn look_chunk(
     'entries: while let Some(entry) = entry_at(order, chunk, place) {
         let role = role_of(first, index, &entry);
         let here = look_at(inodes, dir, stamps, role, &entry);
-        quiet = both(quiet, here);
+        quiet &= here;
         place += usize::from(entry.length);
         index += 1;
     }

@@ -1,32 +1,30 @@
 // The lines of a plain entry.
-ghost use Rattle.std.specs.Prelude.{◌≡◌, ◌*◌, ◌<◌, ◌≤◌, ℕ, List, [], true, false, length, Some, OnOk, IfOk, IfErr, IsTrue, map};
-ghost use Rattle.ffs_image.specs.Device.{Faulted, ForContents};
-ghost use Rattle.ffs_volume.specs.Blocks.Inodes.{inode_of};
+ghost use Rattle.std.specs.Prelude.{◌≡◌, ◌*◌, ◌<◌, ◌≤◌, ℕ, List, [], true, false, length, Some, OnOk, IfOk, IsTrue, map, vec_len};
+ghost use Rattle.ffs_image.specs.Device.{ForContents};
 ghost use Rattle.ffs_volume.specs.Messages.Kinds.{of_names};
 ghost use Rattle.ffs_volume.specs.Directories.PathnameCheck.{attributes, extra_reported};
 ghost use Rattle.ffs_pathnames.specs.SaysNames.{SaysNames};
-ghost use Rattle.ffs_volume.specs.Directories.Roles.{is_dir};
 ghost use Rattle.ffs_volume.specs.Directories.Parents.{graph_of};
-ghost use Rattle.ffs_volume.specs.Directories.Paths.{dir_path, entry_path};
+ghost use Rattle.ffs_volume.specs.Directories.Paths.{dir_path};
 ghost use Rattle.ffs_volume.specs.Directories.Volumes.{volume_of};
 ghost use Rattle.ffs_layout.specs.Entry.{entry_value};
 ghost use Rattle.ffs_phase.specs.Runs.{ImageAfter, PhaseReports};
 ghost use Rattle.ffs_report.specs.Progress.{progress};
-ghost use Rattle.ffs_paths.specs.Siblings.{KeepSiblings};
-ghost use Rattle.ffs_workspace.specs.Lengths.{IsFor, HoldWindows};
+ghost use Rattle.ffs_volume.specs.declared.Layout.{Layout};
+ghost use Rattle.ffs_workspace.specs.Lengths.{IsFor};
 ghost use Rattle.ffs_workspace.specs.Holds.{HoldsClaims, HoldsSurvey};
-ghost use Rattle.ffs_pathnames.specs.Examines.{LeavesMarks};
-ghost use Rattle.ffs_pathnames.specs.Gathers.{IsEnough, marks_of, asks_attr, asks_path, is_silent};
+ghost use Rattle.ffs_pathnames.specs.Gathers.{IsEnough, IsVerdict, AreAsLong, marks_of, asks_attr, asks_path, is_silent};
 ghost use Rattle.ffs_pathnames.specs.DirectoryContext.{DirectoryContext, KnowsPath};
 ghost use Rattle.ffs_paths.specs.DirectoryPaths.{IsPathOf};
+ghost use Rattle.ffs_paths.specs.Reads.{ForTree, OnlyReads};
 ghost use Rattle.ffs_pathnames.specs.Marks.{plain_reported};
-ghost use Rattle.ffs_pathnames.specs.Verdicts.{verdict_reported};
+ghost use Rattle.ffs_workspace.specs.Ready.{IsReady};
+ghost use Rattle.ffs_pathnames.specs.Ready.{ReadyWith, PathLeaves, LinesLeave};
 
 use crate::header::is_one_dot;
+use crate::inodes::Inodes;
 use crate::lines::say_verdict;
-use crate::paths::path_text;
 use crate::verdict::{Verdict, entry_verdict};
-use crate::view::view;
 use ffs_image::{Image, ImageFault};
 use ffs_layout::{Entry, Geometry};
 use ffs_paths::{DirectoryPath, PathText, Siblings};
@@ -64,19 +62,12 @@ pub fn read_attr<I: Image>(
     workspace: &mut Workspace,
     number: u32,
 ) -> Result<Attr, ImageFault>
-    requires made { IsFor geometry.now.layout workspace.old }
-    requires volume { geometry.now.layout.size * geometry.now.layout.fsize
-        ≤ (I.device image.old).size }
-    requires windows { HoldWindows geometry.now.layout (I.device image.old).contents workspace.old }
+    requires ready { IsReady geometry.now.layout (I.device image.old) workspace.old }
     requires number { number < geometry.now.layout.ncg * geometry.now.layout.ipg }
     ensures attr { IfOk result (λ a. ForContents (I.device image.old).contents
         (λ b. a ≡ attributes (volume_of geometry.now.layout b) number)) }
-    ensures lists { LeavesMarks workspace.old workspace.new }
-    ensures made { IsFor geometry.now.layout workspace.new }
-    ensures windows { HoldWindows geometry.now.layout (I.device image.new).contents workspace.new }
-    ensures ok { OnOk result (I.device image.new ≡ I.device image.old) }
-    ensures err { IfErr result (λ fault. Faulted (I.device image.old) (I.device image.new)
-        fault.sector) }
+    ensures reads { OnlyReads geometry.now.layout (I.device image.old) (I.device image.new)
+        workspace.old workspace.new result }
 {
     let inode = workspace.windows.table.inode(geometry, number, image)?;
     Ok(attr_of(number, &inode))
@@ -102,19 +93,12 @@ fn gather_attr<I: Image>(
     wanted: bool,
     number: u32,
 ) -> Result<Attr, ImageFault>
-    requires made { IsFor geometry.now.layout workspace.old }
-    requires volume { geometry.now.layout.size * geometry.now.layout.fsize
-        ≤ (I.device image.old).size }
-    requires windows { HoldWindows geometry.now.layout (I.device image.old).contents workspace.old }
+    requires ready { IsReady geometry.now.layout (I.device image.old) workspace.old }
     requires number { IsTrue wanted → number < geometry.now.layout.ncg * geometry.now.layout.ipg }
     ensures attr { IfOk result (λ a. ForContents (I.device image.old).contents
         (λ b. IsTrue wanted → a ≡ attributes (volume_of geometry.now.layout b) number)) }
-    ensures lists { LeavesMarks workspace.old workspace.new }
-    ensures made { IsFor geometry.now.layout workspace.new }
-    ensures windows { HoldWindows geometry.now.layout (I.device image.new).contents workspace.new }
-    ensures ok { OnOk result (I.device image.new ≡ I.device image.old) }
-    ensures err { IfErr result (λ fault. Faulted (I.device image.old) (I.device image.new)
-        fault.sector) }
+    ensures reads { OnlyReads geometry.now.layout (I.device image.old) (I.device image.new)
+        workspace.old workspace.new result }
 {
     if !wanted {
         return Ok(Attr {
@@ -138,31 +122,17 @@ fn gather_path<I: Image>(
     dir: u32,
     text: &mut PathText,
 ) -> Result<(), ImageFault>
-    requires made { IsFor geometry.now.layout workspace.old }
-    requires volume { geometry.now.layout.size * geometry.now.layout.fsize
-        ≤ (I.device image.old).size }
-    requires windows { HoldWindows geometry.now.layout (I.device image.old).contents workspace.old }
+    requires ready { ReadyWith geometry.now.layout (I.device image.old) workspace.old siblings.old }
     requires number { IsTrue wanted → dir < geometry.now.layout.ncg * geometry.now.layout.ipg }
-    requires siblings { KeepSiblings geometry.now.layout (I.device image.old).contents workspace.old
-        siblings.old }
-    ensures path { OnOk result ((b : List ℕ) → (I.device image.old).contents ≡ Some b
-        → HoldsClaims geometry.now.layout b workspace.old
-        → HoldsSurvey geometry.now.layout b workspace.old →
-        IsTrue wanted → is_dir (volume_of geometry.now.layout b) dir ≡ true → text.new.items
-        ≡ dir_path (graph_of (volume_of geometry.now.layout b)) dir) }
-    ensures lists { LeavesMarks workspace.old workspace.new }
-    ensures siblings { OnOk result (KeepSiblings geometry.now.layout (I.device image.new).contents
-        workspace.new siblings.new) }
-    ensures made { IsFor geometry.now.layout workspace.new }
-    ensures windows { HoldWindows geometry.now.layout (I.device image.new).contents workspace.new }
-    ensures ok { OnOk result (I.device image.new ≡ I.device image.old) }
-    ensures err { IfErr result (λ fault. Faulted (I.device image.old) (I.device image.new)
-        fault.sector) }
+    ensures path { OnOk result (ForTree geometry.now.layout (I.device image.old) workspace.old
+        (λ g. IsTrue wanted → text.new.items ≡ dir_path g dir)) }
+    ensures leaves { PathLeaves geometry.now.layout (I.device image.old) (I.device image.new)
+        workspace.old workspace.new siblings.new result }
 {
     if !wanted {
         return Ok(());
     }
-    path_text(geometry, image, workspace, siblings, dir, text)
+    siblings.put_path(geometry, image, workspace, dir, text)
 }
 
 /// Gathers what the messages on an entry show: the entry's path into `text`, the path of the directory that it names into
@@ -178,32 +148,19 @@ fn gather<I: Image>(
     text: &mut PathText,
     directory: &mut PathText,
 ) -> Result<Attr, ImageFault>
-    requires made { IsFor geometry.now.layout workspace.old }
-    requires volume { geometry.now.layout.size * geometry.now.layout.fsize
-        ≤ (I.device image.old).size }
-    requires windows { HoldWindows geometry.now.layout (I.device image.old).contents workspace.old }
+    requires ready { ReadyWith geometry.now.layout (I.device image.old) workspace.old siblings.old }
     requires number { IsTrue (asks_attr verdict.now) → entry.now.number
         < geometry.now.layout.ncg * geometry.now.layout.ipg }
     requires name { length entry.now.name.now ≤ 255 }
     requires empty { text.old.items ≡ [] }
-    requires siblings { KeepSiblings geometry.now.layout (I.device image.old).contents workspace.old
-        siblings.old }
     ensures enough { IfOk result (λ a. (b : List ℕ) (dir : ℕ) → (I.device image.old).contents
         ≡ Some b → HoldsClaims geometry.now.layout b workspace.old
         → HoldsSurvey geometry.now.layout b workspace.old →
-        IsPathOf (graph_of (volume_of geometry.now.layout b)) dir path.now
-        → (IsTrue (asks_path verdict.now)
-        → is_dir (volume_of geometry.now.layout b) entry.now.number ≡ true) →
+        IsPathOf (graph_of (volume_of geometry.now.layout b)) dir path.now →
         IsEnough (volume_of geometry.now.layout b) verdict.now dir entry.now.number
         entry.now.name.now a text.new.items directory.new.items) }
-    ensures lists { LeavesMarks workspace.old workspace.new }
-    ensures siblings { OnOk result (KeepSiblings geometry.now.layout (I.device image.new).contents
-        workspace.new siblings.new) }
-    ensures made { IsFor geometry.now.layout workspace.new }
-    ensures windows { HoldWindows geometry.now.layout (I.device image.new).contents workspace.new }
-    ensures ok { OnOk result (I.device image.new ≡ I.device image.old) }
-    ensures err { IfErr result (λ fault. Faulted (I.device image.old) (I.device image.new)
-        fault.sector) }
+    ensures leaves { PathLeaves geometry.now.layout (I.device image.old) (I.device image.new)
+        workspace.old workspace.new siblings.new result }
 {
     let (wants_attr, wants_path) = asks(verdict);
     path.put_entry(entry.name, text);
@@ -221,24 +178,18 @@ fn gather<I: Image>(
 }
 
 /// The verdict on a plain entry, by what the workspace holds.
-fn verdict_of(geometry: &Geometry, workspace: &Workspace, dir: u32, entry: &Entry<'_>) -> Verdict
-    requires made { IsFor geometry.now.layout workspace.now }
-    ensures below { IsTrue (asks_attr result) → entry.now.number
-        < geometry.now.layout.ncg * geometry.now.layout.ipg }
-    ensures linked { (b : List ℕ) → HoldsClaims geometry.now.layout b workspace.now
-        → HoldsSurvey geometry.now.layout b workspace.now →
-        IsTrue (asks_path result) → is_dir (volume_of geometry.now.layout b) entry.now.number
-        ≡ true }
-    ensures reported { (b : List ℕ) → HoldsClaims geometry.now.layout b workspace.now
-        → HoldsSurvey geometry.now.layout b workspace.now →
-        plain_reported (volume_of geometry.now.layout b) dir (marks_of workspace.now)
-        (entry_value entry.now)
-        ≡ verdict_reported result entry.now.number
-        (attributes (volume_of geometry.now.layout b) entry.now.number)
-        (entry_path (graph_of (volume_of geometry.now.layout b)) dir entry.now.name.now)
-        (dir_path (graph_of (volume_of geometry.now.layout b)) entry.now.number) }
+fn verdict_of(workspace: &Workspace, dir: u32, entry: &Entry<'_>) -> Verdict
+    requires lists { AreAsLong workspace.now }
+    ensures below { IsTrue (asks_attr result) → entry.now.number < vec_len workspace.now.kinds }
+    ensures verdict { (v : Layout) (b : List ℕ) → IsFor v workspace.now
+        → HoldsClaims v b workspace.now → HoldsSurvey v b workspace.now
+        → IsVerdict (volume_of v b) dir (marks_of workspace.now) (entry_value entry.now) result }
 {
-    let inodes = view(geometry, workspace);
+    let inodes = Inodes {
+        kinds: workspace.kinds.as_slice(),
+        marked: workspace.marked.as_slice(),
+        parents: workspace.parents.as_slice(),
+    };
     entry_verdict(
         &inodes,
         dir,
@@ -270,27 +221,18 @@ pub fn report_plain<I: Image, W: Output>(
     path: &DirectoryPath,
     entry: &Entry<'_>,
 ) -> Result<(), RunFault>
-    requires made { IsFor geometry.now.layout workspace.old }
-    requires volume { geometry.now.layout.size * geometry.now.layout.fsize
-        ≤ (I.device image.old).size }
-    requires windows { HoldWindows geometry.now.layout (I.device image.old).contents workspace.old }
+    requires ready { ReadyWith geometry.now.layout (I.device image.old) workspace.old siblings.old }
     requires dir { dir < geometry.now.layout.ncg * geometry.now.layout.ipg }
     requires name { length entry.now.name.now ≤ 255 }
-    requires siblings { KeepSiblings geometry.now.layout (I.device image.old).contents workspace.old
-        siblings.old }
-    ensures image { ImageAfter (I.device image.old) (I.device image.new) result }
     ensures text { PhaseReports (KnowsPath geometry.now.layout (I.device image.old).contents
         workspace.old dir path.now)
         (λ b. map of_names (plain_reported (volume_of geometry.now.layout b) dir
         (marks_of workspace.old) (entry_value entry.now)))
         (progress W.sink report.old) (progress W.sink report.new) result }
-    ensures lists { LeavesMarks workspace.old workspace.new }
-    ensures siblings { OnOk result (KeepSiblings geometry.now.layout (I.device image.new).contents
-        workspace.new siblings.new) }
-    ensures made { IsFor geometry.now.layout workspace.new }
-    ensures windows { HoldWindows geometry.now.layout (I.device image.new).contents workspace.new }
+    ensures leaves { LinesLeave geometry.now.layout (I.device image.old) (I.device image.new)
+        workspace.old workspace.new siblings.new result }
 {
-    let verdict = verdict_of(geometry, workspace, dir, entry);
+    let verdict = verdict_of(workspace, dir, entry);
     if is_silent(&verdict) {
         return Ok(());
     }
@@ -328,10 +270,7 @@ pub fn report_extra<I: Image, W: Output>(
     path: &DirectoryPath,
     entry: &Entry<'_>,
 ) -> Result<(), RunFault>
-    requires made { IsFor geometry.now.layout workspace.old }
-    requires volume { geometry.now.layout.size * geometry.now.layout.fsize
-        ≤ (I.device image.old).size }
-    requires windows { HoldWindows geometry.now.layout (I.device image.old).contents workspace.old }
+    requires ready { IsReady geometry.now.layout (I.device image.old) workspace.old }
     requires dir { dir < geometry.now.layout.ncg * geometry.now.layout.ipg }
     ensures image { ImageAfter (I.device image.old) (I.device image.new) result }
     ensures text { PhaseReports (KnowsPath geometry.now.layout (I.device image.old).contents
@@ -339,9 +278,8 @@ pub fn report_extra<I: Image, W: Output>(
         (λ b. map of_names (extra_reported (attributes (volume_of geometry.now.layout b) dir)
         (dir_path (graph_of (volume_of geometry.now.layout b)) dir) (entry_value entry.now)))
         (progress W.sink report.old) (progress W.sink report.new) result }
-    ensures lists { LeavesMarks workspace.old workspace.new }
-    ensures made { IsFor geometry.now.layout workspace.new }
-    ensures windows { HoldWindows geometry.now.layout (I.device image.new).contents workspace.new }
+    ensures lists { workspace.new ≡ record workspace.old { windows = workspace.new.windows } }
+    ensures ready { IsReady geometry.now.layout (I.device image.new) workspace.new }
 {
     let mut text = PathText::new();
     path.put(&mut text);
@@ -359,28 +297,17 @@ pub fn gather_dir<I: Image>(
     dir: u32,
     path: &mut PathText,
 ) -> Result<Attr, ImageFault>
-    requires made { IsFor geometry.now.layout workspace.old }
-    requires volume { geometry.now.layout.size * geometry.now.layout.fsize
-        ≤ (I.device image.old).size }
-    requires windows { HoldWindows geometry.now.layout (I.device image.old).contents workspace.old }
+    requires ready { ReadyWith geometry.now.layout (I.device image.old) workspace.old siblings.old }
     requires dir { dir < geometry.now.layout.ncg * geometry.now.layout.ipg }
-    requires siblings { KeepSiblings geometry.now.layout (I.device image.old).contents workspace.old
-        siblings.old }
     ensures attr { IfOk result (λ a. ForContents (I.device image.old).contents
         (λ b. a ≡ attributes (volume_of geometry.now.layout b) dir)) }
     ensures path { OnOk result ((b : List ℕ)
         → DirectoryContext geometry.now.layout (I.device image.old).contents workspace.old dir b
         → path.new.items ≡ dir_path (graph_of (volume_of geometry.now.layout b)) dir) }
-    ensures lists { LeavesMarks workspace.old workspace.new }
-    ensures siblings { OnOk result (KeepSiblings geometry.now.layout (I.device image.new).contents
-        workspace.new siblings.new) }
-    ensures made { IsFor geometry.now.layout workspace.new }
-    ensures windows { HoldWindows geometry.now.layout (I.device image.new).contents workspace.new }
-    ensures ok { OnOk result (I.device image.new ≡ I.device image.old) }
-    ensures err { IfErr result (λ fault. Faulted (I.device image.old) (I.device image.new)
-        fault.sector) }
+    ensures leaves { PathLeaves geometry.now.layout (I.device image.old) (I.device image.new)
+        workspace.old workspace.new siblings.new result }
 {
-    path_text(geometry, image, workspace, siblings, dir, path)?;
+    siblings.put_path(geometry, image, workspace, dir, path)?;
     let attr = read_attr(geometry, image, workspace, dir)?;
     Ok(attr)
 }
