@@ -1,5 +1,5 @@
 -- Whether an address from an index on isn't zero, by the bits of all of them.
-use Rattle.std.proofs.Common.{zero, suc, ◌≡◌, ◌==◌, ◌||◌, ◌+◌, ◌-◌, ◌<◌, ◌≤◌, ◌∙◌, ap, sym, refl, ℕ, List, length, get_or, take, drop, not, bit_or, arith, length-drop}
+use Rattle.std.proofs.Common.{zero, suc, ◌≡◌, ◌==◌, ◌||◌, ◌+◌, ◌-◌, ◌<◌, ◌≤◌, ◌∙◌, ap, refl, ℕ, List, length, get_or, take, drop, not, bit_or, arith, length-drop}
 use Rattle.std.proofs.lemmas.List.Folds.{list_any_more}
 use Rattle.std.proofs.lemmas.List.{get_or-drop}
 use Rattle.std.proofs.lemmas.Nat.{le_or_l}
