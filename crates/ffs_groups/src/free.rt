@@ -116,12 +116,15 @@ pub fn free_counts(geometry: &Geometry, used: &FragmentMap, group: u32) -> FreeC
         fragments: 0,
         runs: [0; 9],
     };
+    let each = 64 / frag;
     let mut block = 0;
-    while block < blocks {
-        let some = (64 / frag).min(blocks - block);
+    while each <= blocks - block {
         let word = used.clear_bits(base + u64::from(block) * u64::from(frag));
-        counts.add_word(word, some, frag);
-        block += some;
+        counts.add_word(word, each, frag);
+        block += each;
     }
+    let left = blocks - block;
+    let last = used.clear_bits(base + u64::from(block) * u64::from(frag));
+    counts.add_word(last, left, frag);
     counts
 }

@@ -4,7 +4,7 @@ ghost use Rattle.std.specs.Prelude.{◌≡◌, ◌+◌, ◌≤◌, ◌==◌, ◌
 ghost use Rattle.std.specs.List.{list_any};
 ghost use Rattle.ffs_volume.specs.Disk.Numbers.{piece};
 ghost use Rattle.ffs_volume.specs.Directories.Entries.{entry_at as entry_in, is_held as held, is_length as fits, is_name as named};
-ghost use Rattle.ffs_layout.specs.Entry.{entry_value};
+ghost use Rattle.ffs_layout.specs.Entry.{entry_value, has_mark};
 
 use crate::numbers::{u16_at, u32_at};
 use ffs_volume::Order;
@@ -29,9 +29,22 @@ fn is_length(place: usize, len: u16) -> bool
     len % 4 == 0 && 8 <= len && place + usize::from(len) <= 512
 }
 
-// Whether a byte is NUL or `/`, as none of a name is.
-fn has_nul_or_slash(bytes: &[u8]) -> bool
-    ensures { result ≡ (list_any (λ b. b == 0) bytes.now || list_any (λ b. b == 47) bytes.now) }
+// Whether one of eight bytes is NUL or `/`. All are looked at, with no test that ends the loop: the machine takes them at once.
+#[inline]
+fn has_mark_of_eight(part: &[u8; 8]) -> bool
+    ensures { result ≡ has_mark part.now }
+{
+    let mut has_mark = false;
+    for &byte in part {
+        has_mark |= byte == 0 || byte == b'/';
+    }
+    has_mark
+}
+
+// Whether one of a few bytes is NUL or `/`.
+#[inline]
+fn has_mark_of_few(bytes: &[u8]) -> bool
+    ensures { result ≡ has_mark bytes.now }
 {
     for &byte in bytes {
         if byte == 0 || byte == b'/' {
@@ -39,6 +52,20 @@ fn has_nul_or_slash(bytes: &[u8]) -> bool
         }
     }
     false
+}
+
+// Whether a byte is NUL or `/`, as none of a name is.
+#[inline]
+fn has_nul_or_slash(bytes: &[u8]) -> bool
+    ensures { result ≡ (list_any (λ b. b == 0) bytes.now || list_any (λ b. b == 47) bytes.now) }
+{
+    let (parts, rest) = bytes.as_chunks::<8>();
+    for part in parts {
+        if has_mark_of_eight(part) {
+            return true;
+        }
+    }
+    has_mark_of_few(rest)
 }
 
 // Whether the record at the place has a name.

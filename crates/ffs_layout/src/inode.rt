@@ -13,8 +13,21 @@ use ffs_volume::{Inode, Order};
 /// At byte 0 is the mode (u16), at 2 the link count (i16), at 8 the size in bytes (u64), at 24 the time of
 /// modification in seconds (i32), from 40 on twelve direct and three indirect addresses (u32 each), at 104
 /// the blocks in sectors of 512 bytes (u32), at 112 the owner (u32).
-#[tactic(auto, unfolding(ffs_volume::specs::Blocks::Inodes::decoded))]
 pub fn decode_inode(order: Order, bytes: &[u8]) -> Inode
+    requires { 128 ≤ length bytes.now }
+    ensures { result ≡ decoded order bytes.now }
+{
+    // The order is asked for once, and not for each number.
+    match order {
+        Order::Little => fields_of(Order::Little, bytes),
+        Order::Big => fields_of(Order::Big, bytes),
+    }
+}
+
+// The numbers of an inode.
+#[inline(always)]
+#[tactic(auto, unfolding(ffs_volume::specs::Blocks::Inodes::decoded))]
+fn fields_of(order: Order, bytes: &[u8]) -> Inode
     requires { 128 ≤ length bytes.now }
     ensures { result ≡ decoded order bytes.now }
 {
@@ -44,6 +57,7 @@ pub fn has_links(order: Order, bytes: &[u8], links: u64) -> bool
 }
 
 // The fifteen addresses, in their order.
+#[inline(always)]
 fn addresses_of(order: Order, bytes: &[u8]) -> [u32; 15]
     requires { 128 ≤ length bytes.now }
     ensures { result ≡ map (λ j. u32_in order (40 + 4 * j) bytes.now) (range_with_len 0 15) }

@@ -1,3 +1,4 @@
+pub mod AnySet
 pub mod Areas
 pub mod FrameSteps
 pub mod Ranges

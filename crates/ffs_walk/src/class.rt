@@ -1,6 +1,6 @@
 //! What an inode is, and which of its addresses it uses.
 
-ghost use Rattle.std.specs.Prelude.{◌≡◌, ◌*◌, ◌+◌, ◌<◌, ◌≤◌, ◌^◌, if◌then◌else◌};
+ghost use Rattle.std.specs.Prelude.{◌≡◌, ◌*◌, ◌+◌, ◌<◌, ◌≤◌, ◌^◌, drop, if◌then◌else◌};
 ghost use Rattle.ffs_volume.specs.Blocks.Inodes as inodes;
 ghost use Rattle.ffs_volume.specs.Blocks.Steps as steps;
 
@@ -46,10 +46,17 @@ fn is_short_symlink(geometry: &Geometry, inode: &Inode) -> bool
     inode.mode / 4096 == 10 && inode.size < u64::from(geometry.layout.maxsymlinklen)
 }
 
-fn is_any_set(addresses: &[u32]) -> bool
-    ensures { result ≡ inodes.is_any_set addresses.now }
+// Whether an address from an index on isn't zero. All fifteen are looked at, with no test of each that ends the loop: it is fast.
+fn is_any_set(addresses: &[u32; 15], from: usize) -> bool
+    ensures { result ≡ inodes.is_any_set (drop from addresses.now) }
 {
-    addresses.iter().any(|a| *a != 0)
+    let mut bits = 0;
+    for index in 0..15 {
+        if from <= index {
+            bits |= addresses[index];
+        }
+    }
+    bits != 0
 }
 
 /// Whether an inode of the class has steps.
@@ -133,7 +140,7 @@ pub fn class_of(geometry: &Geometry, inode: &Inode) -> Class
 {
     let kind = inode.mode / 4096;
     if kind == 0 {
-        return if inode.mode == 0 && inode.size == 0 && !is_any_set(&inode.addresses) {
+        return if inode.mode == 0 && inode.size == 0 && !is_any_set(&inode.addresses, 0) {
             Class::Free
         } else {
             Class::Partial
@@ -146,7 +153,7 @@ pub fn class_of(geometry: &Geometry, inode: &Inode) -> Class
         return Class::Unknown;
     }
     let used = addresses_used(geometry, inode);
-    if is_any_set(&inode.addresses[used..]) {
+    if is_any_set(&inode.addresses, used) {
         return Class::Unknown;
     }
     if kind == 4 { Class::Dir } else { Class::File }

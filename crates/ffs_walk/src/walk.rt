@@ -15,8 +15,6 @@ use ffs_volume::{Class, Inode, Step};
 #[derive(Clone, Copy, Debug)]
 pub struct Walk {
     pub geometry: Geometry,
-    /// The inode's addresses: twelve direct ones, and a single, a double and a triple indirect one (fs(5)).
-    pub addresses: [u32; 15],
     /// How many logical blocks the walk goes over.
     pub blocks: u64,
     /// How many fragments the last logical block has, where it is direct.
@@ -24,6 +22,8 @@ pub struct Walk {
     /// The index of the next address, and how many addresses are used.
     pub next: u32,
     pub used: u32,
+    /// The inode's addresses: twelve direct ones, and a single, a double and a triple indirect one (fs(5)).
+    pub addresses: [u32; 15],
     /// The indirect blocks that the walk is in, by their levels.
     pub single: Frame,
     pub double: Frame,
@@ -196,6 +196,7 @@ impl Walk {
     }
 
     /// The first step at the next of the inode's own addresses; the others go into a frame.
+    #[inline(always)]
     fn step_at_top(&mut self) -> Option<Step>
         requires single_spent { IsSpent self.old.single }
         requires double_spent { IsSpent self.old.double }
@@ -390,11 +391,11 @@ impl Walk {
         let blocks = walked_blocks(geometry, inode, class);
         Walk {
             geometry: *geometry,
-            addresses: inode.addresses,
             blocks,
             last: last_length(geometry, inode),
             next: 0,
             used: addresses_for(u64::from(geometry.layout.nindir), blocks),
+            addresses: inode.addresses,
             single: Frame::spent(),
             double: Frame::spent(),
             triple: Frame::spent(),

@@ -1,10 +1,7 @@
-use Rattle.std.proofs.Common.{◌≡◌, ◌==◌, take, false}
-use Rattle.std.specs.List.{list_any}
+use Rattle.std.proofs.Common.{◌≡◌, ◌*◌, drop}
+use Rattle.ffs_layout.specs.Entry.{has_mark}
 use Rattle.ffs_layout.proofs.entry.has_nul_or_slash.Given as goal
 
--- no byte so far is NUL or `/`
-abbrev pub invariant-loop-byte : goal.invariant-loop-byte
-invariant-loop-byte l = record {
-  nul : list_any (λ b. b == 0) (take l.byte-index l.bytes) ≡ false;
-  slash : list_any (λ b. b == 47) (take l.byte-index l.bytes) ≡ false;
-}
+-- what is left decides
+abbrev pub invariant-loop-part : goal.invariant-loop-part
+invariant-loop-part l = has_mark l.bytes ≡ has_mark (drop (l.part-index * 8) l.bytes)

@@ -1,0 +1,10 @@
+use Rattle.std.proofs.Common.{◌≡◌, ◌==◌, take, false}
+use Rattle.std.specs.List.{list_any}
+use Rattle.ffs_layout.proofs.entry.has_mark_of_few.Given as goal
+
+-- no byte so far is NUL or `/`
+abbrev pub invariant-loop-byte : goal.invariant-loop-byte
+invariant-loop-byte l = record {
+  nul : list_any (λ b. b == 0) (take l.byte-index l.bytes) ≡ false;
+  slash : list_any (λ b. b == 47) (take l.byte-index l.bytes) ≡ false;
+}
