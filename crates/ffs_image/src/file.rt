@@ -3,7 +3,7 @@ ghost use Rattle.std.specs.Prelude.{◌≡◌, IfOk};
 
 use crate::image::{Image, ImageFault};
 use crate::opened::OpenedFile;
-use crate::source::fill;
+use crate::source::{Source, fill};
 use std::fs::File;
 use std::rt::Files;
 
@@ -12,37 +12,38 @@ use std::rt::Files;
 #[error("the file can't be opened")]
 pub struct OpenFault;
 
-/// An image in a file, which is never written.
+/// An image whose bytes come from a source. It is never written.
 #[derive(Drop)]
-pub struct FileImage {
-    opened: OpenedFile,
+pub struct SourceImage<S> {
+    source: S,
     failed: u64,
 }
 
-impl FileImage {
+/// An image in a file.
+pub type FileImage = SourceImage<OpenedFile>;
+
+impl SourceImage<OpenedFile> {
     /// Opens a file for reading, and takes its size once: that of a block device too. A FIFO is refused, since its opening
     /// would wait for a writer.
     pub fn open<R: Files<File = File>>(files: &R, path: &str) -> Result<FileImage, OpenFault>
-        ensures { IfOk result (λ image. (image.opened.failures ≡ 0) × (image.failed ≡ 0)) }
+        ensures { IfOk result (λ image. (image.source.failures ≡ 0) × (image.failed ≡ 0)) }
     {
-        let opened = OpenedFile::open(files, path)?;
-        Ok(FileImage { opened, failed: 0 })
+        let source = OpenedFile::open(files, path)?;
+        Ok(SourceImage { source, failed: 0 })
     }
 }
 
-impl Image for FileImage {
-    ghost use Rattle.std.specs.Prelude.{None};
+impl<S: Source> Image for SourceImage<S> {
+    ghost device = { λ i. record { contents = S.contents i.source; size = S.size i.source; failures = S.failures i.source; failed = i.failed } };
 
-    ghost device = { λ f. record { contents = None; size = f.opened.size; failures = f.opened.failures; failed = f.failed } };
-
-    ghost sized = { λ _. tt };
+    ghost sized = { λ i. S.sized i.source };
 
     fn size(&self) -> u64 {
-        self.opened.size()
+        self.source.size()
     }
 
     fn failures(&self) -> u64 {
-        self.opened.failures()
+        self.source.failures()
     }
 
     fn failed(&self) -> u64 {
@@ -52,7 +53,7 @@ impl Image for FileImage {
     fn read_at(&mut self, at: u64, buf: &mut [u8]) -> Result<(), ImageFault> {
         let size = self.size();
         prove!(at <= size);
-        match fill(&mut self.opened, at, buf) {
+        match fill(&mut self.source, at, buf) {
             Ok(()) => Ok(()),
             Err(_) => {
                 self.failed = at / 512;

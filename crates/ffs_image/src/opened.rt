@@ -12,7 +12,7 @@ use std::{fs, io};
 
 /// A file that was opened for reading. What holds one can take its size and read it at a place, and nothing else.
 #[derive(Drop)]
-pub(crate) struct OpenedFile {
+pub struct OpenedFile {
     file: File,
     size: u64,
     failures: u64,
@@ -47,18 +47,6 @@ impl OpenedFile {
             failures: 0,
         })
     }
-
-    pub(crate) fn size(&self) -> u64
-        ensures { result ≡ self.now.size }
-    {
-        self.size
-    }
-
-    pub(crate) fn failures(&self) -> u64
-        ensures { result ≡ self.now.failures }
-    {
-        self.failures
-    }
 }
 
 impl Source for OpenedFile {
@@ -69,6 +57,16 @@ impl Source for OpenedFile {
     ghost size = { λ f. f.size };
 
     ghost failures = { λ f. f.failures };
+
+    ghost sized = { λ _. tt };
+
+    fn size(&self) -> u64 {
+        self.size
+    }
+
+    fn failures(&self) -> u64 {
+        self.failures
+    }
 
     fn read_some(&mut self, at: u64, buf: &mut [u8]) -> Result<usize, SourceFault> {
         for _ in 0..u64::MAX {

@@ -1,14 +1,14 @@
 // Where an image's bytes come from, and how a buffer is filled from there.
-ghost use Rattle.std.specs.Prelude.{◌≡◌, ◌+◌, ◌<◌, ◌≤◌, ◌^◌, ℕ, List, Option, length, take, IfOk, OnOk, OnErr};
+ghost use Rattle.std.specs.Prelude.{◌≡◌, ◌+◌, ◌<◌, ◌≤◌, ◌^◌, ℕ, List, Option, length, take, IfOk, OnOk, OnErr, IfSome};
 ghost use Rattle.ffs_image.specs.Device.{Rose};
 ghost use Rattle.ffs_image.specs.Source.{AreAt};
 
 /// A read of a source failed, or gave nothing.
 #[derive(Clone, Copy)]
-pub(crate) struct SourceFault;
+pub struct SourceFault;
 
 /// What can be read at a place, and nothing else.
-pub(crate) trait Source {
+pub trait Source {
     /// Its bytes, where it gives them.
     ghost contents: { Self → Option (List ℕ) };
 
@@ -17,6 +17,14 @@ pub(crate) trait Source {
 
     /// How many reads have failed.
     ghost failures: { Self → ℕ };
+
+    /// Its size in bytes.
+    fn size(&self) -> u64
+        ensures { result ≡ size self.now };
+
+    /// How many reads have failed, up to the last u64.
+    fn failures(&self) -> u64
+        ensures { result ≡ failures self.now };
 
     /// Reads some of the bytes at a place, at least one, and answers how many. An `Err` is counted once.
     fn read_some(&mut self, at: u64, buf: &mut [u8]) -> Result<usize, SourceFault>
@@ -27,6 +35,8 @@ pub(crate) trait Source {
         ensures size { size self.new ≡ size self.old }
         ensures ok { OnOk result (failures self.new ≡ failures self.old) }
         ensures err { OnErr result (Rose (failures self.old) (failures self.new)) };
+
+    ghost sized: { (source : Self) → IfSome (contents source) (λ b. length b ≡ size source) };
 }
 
 /// Fills the buffer with the bytes at a place. The first read that fails ends it.

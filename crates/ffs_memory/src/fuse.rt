@@ -1,6 +1,7 @@
 // A memory that refuses a request where it is reported to.
-ghost use Rattle.std.specs.Prelude.{◌≡◌, ◌+◌, ◌-◌, ◌^◌, min, if◌then◌else◌};
-ghost use Rattle.ffs_memory.specs.Fuse.{is_blown, left_after};
+ghost use Rattle.std.specs.Prelude.{◌≡◌, ◌+◌, ◌-◌, ◌*◌, ◌^◌, min, if◌then◌else◌, vec_len, IfOk, OnErr, replicate, false};
+ghost use Rattle.ffs_memory.specs.Account.{Asks};
+ghost use Rattle.ffs_memory.specs.Fuse.{Burns, is_blown, left_after};
 
 use crate::fixed_list::FixedList;
 use crate::memory::Memory;
@@ -60,28 +61,60 @@ impl<M: Memory> Memory for FuseMemory<M> {
         self.inner.refused().saturating_add(self.own)
     }
 
-    fn bytes(&mut self, n: usize) -> Result<FixedList<u8>, AllocError> {
+    fn bytes(&mut self, n: usize) -> Result<FixedList<u8>, AllocError>
+        ensures items { IfOk result (λ v. v.items ≡ replicate n 0) }
+        ensures len { IfOk result (λ v. vec_len v ≡ n) }
+        ensures asks { Asks (⟦<FuseMemory<M> as Memory>⟧.account self.old)
+            (⟦<FuseMemory<M> as Memory>⟧.account self.new) n result }
+        ensures err { OnErr result ((⟦<FuseMemory<M> as Memory>⟧.account self.new).granted
+            ≡ (⟦<FuseMemory<M> as Memory>⟧.account self.old).granted) }
+        ensures fuse { Burns M.account self.old self.new n result }
+    {
         if self.blows() {
             return Err(AllocError);
         }
         self.inner.bytes(n)
     }
 
-    fn flags(&mut self, n: usize) -> Result<FixedList<bool>, AllocError> {
+    fn flags(&mut self, n: usize) -> Result<FixedList<bool>, AllocError>
+        ensures items { IfOk result (λ v. v.items ≡ replicate n false) }
+        ensures len { IfOk result (λ v. vec_len v ≡ n) }
+        ensures asks { Asks (⟦<FuseMemory<M> as Memory>⟧.account self.old)
+            (⟦<FuseMemory<M> as Memory>⟧.account self.new) n result }
+        ensures err { OnErr result ((⟦<FuseMemory<M> as Memory>⟧.account self.new).granted
+            ≡ (⟦<FuseMemory<M> as Memory>⟧.account self.old).granted) }
+        ensures fuse { Burns M.account self.old self.new n result }
+    {
         if self.blows() {
             return Err(AllocError);
         }
         self.inner.flags(n)
     }
 
-    fn words(&mut self, n: usize) -> Result<FixedList<u32>, AllocError> {
+    fn words(&mut self, n: usize) -> Result<FixedList<u32>, AllocError>
+        ensures items { IfOk result (λ v. v.items ≡ replicate n 0) }
+        ensures len { IfOk result (λ v. vec_len v ≡ n) }
+        ensures asks { Asks (⟦<FuseMemory<M> as Memory>⟧.account self.old)
+            (⟦<FuseMemory<M> as Memory>⟧.account self.new) (4 * n) result }
+        ensures err { OnErr result ((⟦<FuseMemory<M> as Memory>⟧.account self.new).granted
+            ≡ (⟦<FuseMemory<M> as Memory>⟧.account self.old).granted) }
+        ensures fuse { Burns M.account self.old self.new (4 * n) result }
+    {
         if self.blows() {
             return Err(AllocError);
         }
         self.inner.words(n)
     }
 
-    fn long_words(&mut self, n: usize) -> Result<FixedList<u64>, AllocError> {
+    fn long_words(&mut self, n: usize) -> Result<FixedList<u64>, AllocError>
+        ensures items { IfOk result (λ v. v.items ≡ replicate n 0) }
+        ensures len { IfOk result (λ v. vec_len v ≡ n) }
+        ensures asks { Asks (⟦<FuseMemory<M> as Memory>⟧.account self.old)
+            (⟦<FuseMemory<M> as Memory>⟧.account self.new) (8 * n) result }
+        ensures err { OnErr result ((⟦<FuseMemory<M> as Memory>⟧.account self.new).granted
+            ≡ (⟦<FuseMemory<M> as Memory>⟧.account self.old).granted) }
+        ensures fuse { Burns M.account self.old self.new (8 * n) result }
+    {
         if self.blows() {
             return Err(AllocError);
         }
