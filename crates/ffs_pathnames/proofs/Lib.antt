@@ -10,7 +10,7 @@ pub mod SeesLaws
 pub mod ChunkLaws
 pub mod Enough
 pub mod VerdictLaws
-pub mod Listing
+pub mod ReadyLaws
 pub mod Passed
 pub mod Passing
 pub mod FirstTwo

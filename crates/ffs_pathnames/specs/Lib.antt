@@ -12,3 +12,6 @@ pub mod DirectoryContext
 pub mod GoesOn
 pub mod Begins
 pub mod Before
+pub mod Ready
+pub mod Windows
+pub mod Looks

@@ -1,13 +1,12 @@
 // The pathname check of one directory.
-ghost use Rattle.std.specs.Prelude.{suc, ◌≡◌, ◌+◌, ◌*◌, ◌<◌, ◌≤◌, ℕ, List, OnOk, IfOk, map, option_map};
+ghost use Rattle.std.specs.Prelude.{suc, ◌≡◌, ◌*◌, ◌<◌, ◌≤◌, ℕ, List, OnOk, IfOk, map, option_map, vec_len};
 ghost use Rattle.ffs_volume.specs.Messages.Kinds.{of_names};
 ghost use Rattle.ffs_volume.specs.Directories.PathnameCheck.{dir_lines};
 ghost use Rattle.ffs_volume.specs.Directories.Volumes.{volume_of};
 ghost use Rattle.ffs_phase.specs.Known.{ForBytes};
 ghost use Rattle.ffs_phase.specs.Runs.{ImageAfter, PhaseReports};
 ghost use Rattle.ffs_report.specs.Progress.{progress};
-ghost use Rattle.ffs_paths.specs.Siblings.{KeepSiblings};
-ghost use Rattle.ffs_workspace.specs.Lengths.{IsFor, HoldWindows};
+ghost use Rattle.ffs_volume.specs.declared.Layout.{Layout};
 ghost use Rattle.ffs_volume.specs.Directories.Graph.{parent};
 ghost use Rattle.ffs_volume.specs.Blocks.Inodes.{inode_of};
 ghost use Rattle.ffs_volume.specs.Directories.Parents.{graph_of};
@@ -16,12 +15,12 @@ ghost use Rattle.ffs_volume.specs.Directories.Paths.{dir_path};
 ghost use Rattle.ffs_layout.specs.Entry.{entry_value};
 ghost use Rattle.ffs_workspace.specs.Holds.{HoldsSurvey};
 ghost use Rattle.ffs_pathnames.specs.Begins.{dir_starts, number_if, started_entry, IsBegun};
-ghost use Rattle.ffs_workspace.specs.Leaves.{LeavesSurvey};
 ghost use Rattle.ffs_pathnames.specs.Examines.{LeavesMarks};
 ghost use Rattle.ffs_pathnames.specs.Header.{header_reported};
 ghost use Rattle.ffs_pathnames.specs.Gathers.{marks_of};
 ghost use Rattle.ffs_pathnames.specs.DirectoryContext.{DirectoryContext};
 ghost use Rattle.ffs_pathnames.specs.MarksRight.{AreRightBefore};
+ghost use Rattle.ffs_pathnames.specs.Ready.{ReadyWith, ReadyAfter, PhaseLeaves};
 
 use crate::again::report_directory;
 use crate::examine::{DirectorySummary, examine};
@@ -46,11 +45,10 @@ fn number_if(number: u32) -> Option<u32>
 }
 
 /// The parent of a directory, as the survey found it.
-fn parent_of(geometry: &Geometry, workspace: &Workspace, dir: u32) -> Option<u32>
-    requires made { IsFor geometry.now.layout workspace.now }
-    requires number { dir < geometry.now.layout.ncg * geometry.now.layout.ipg }
-    ensures { (b : List ℕ) → HoldsSurvey geometry.now.layout b workspace.now → result
-        ≡ parent (graph_of (volume_of geometry.now.layout b)) dir }
+fn parent_of(workspace: &Workspace, dir: u32) -> Option<u32>
+    requires { dir < vec_len workspace.now.parents }
+    ensures { (v : Layout) (b : List ℕ) → HoldsSurvey v b workspace.now → result
+        ≡ parent (graph_of (volume_of v b)) dir }
 {
     let parent = workspace.parents[dir as usize];
     number_if(parent)
@@ -89,13 +87,8 @@ fn report_header<I: Image, W: Output>(
     size: u64,
     shape: DirectoryHeader<'_>,
 ) -> Result<(), RunFault>
-    requires made { IsFor geometry.now.layout workspace.old }
-    requires volume { geometry.now.layout.size * geometry.now.layout.fsize
-        ≤ (I.device image.old).size }
-    requires windows { HoldWindows geometry.now.layout (I.device image.old).contents workspace.old }
+    requires ready { ReadyWith geometry.now.layout (I.device image.old) workspace.old siblings.old }
     requires number { dir < geometry.now.layout.ncg * geometry.now.layout.ipg }
-    requires siblings { KeepSiblings geometry.now.layout (I.device image.old).contents workspace.old
-        siblings.old }
     ensures image { ImageAfter (I.device image.old) (I.device image.new) result }
     ensures text { PhaseReports (λ b. DirectoryContext geometry.now.layout
         (I.device image.old).contents workspace.old dir b
@@ -106,10 +99,8 @@ fn report_header<I: Image, W: Output>(
         (option_map entry_value shape.entry.second)))
         (progress W.sink report.old) (progress W.sink report.new) result }
     ensures lists { LeavesMarks workspace.old workspace.new }
-    ensures siblings { OnOk result (KeepSiblings geometry.now.layout (I.device image.new).contents
-        workspace.new siblings.new) }
-    ensures made { IsFor geometry.now.layout workspace.new }
-    ensures windows { HoldWindows geometry.now.layout (I.device image.new).contents workspace.new }
+    ensures ready { ReadyAfter geometry.now.layout (I.device image.new) workspace.new siblings.new
+        result }
 {
     if is_in_order(dir, parent, size, shape) {
         return Ok(());
@@ -129,15 +120,9 @@ fn begin_directory<I: Image, W: Output>(
     report: &mut Report<'_, W>,
     dir: u32,
 ) -> Result<DirectorySummary, RunFault>
-    requires made { IsFor geometry.now.layout workspace.old }
-    requires volume { geometry.now.layout.size * geometry.now.layout.fsize
-        ≤ (I.device image.old).size }
-    requires windows { HoldWindows geometry.now.layout (I.device image.old).contents workspace.old }
+    requires ready { ReadyWith geometry.now.layout (I.device image.old) workspace.old siblings.old }
     requires number { dir < geometry.now.layout.ncg * geometry.now.layout.ipg }
     requires dir { 2 ≤ dir }
-    requires siblings { KeepSiblings geometry.now.layout (I.device image.old).contents workspace.old
-        siblings.old }
-    ensures image { ImageAfter (I.device image.old) (I.device image.new) result }
     ensures text { PhaseReports (DirectoryContext geometry.now.layout (I.device image.old).contents
         workspace.old dir)
         (λ b. map of_names (dir_starts (volume_of geometry.now.layout b) dir))
@@ -145,15 +130,12 @@ fn begin_directory<I: Image, W: Output>(
     ensures begun { IfOk result (λ e. ForBytes
         (DirectoryContext geometry.now.layout (I.device image.old).contents workspace.old dir)
         (λ b. IsBegun geometry.now.layout b dir workspace.old e workspace.new)) }
-    ensures survey { LeavesSurvey workspace.old workspace.new }
-    ensures siblings { OnOk result (KeepSiblings geometry.now.layout (I.device image.new).contents
-        workspace.new siblings.new) }
-    ensures made { IsFor geometry.now.layout workspace.new }
-    ensures windows { HoldWindows geometry.now.layout (I.device image.new).contents workspace.new }
+    ensures leaves { PhaseLeaves geometry.now.layout (I.device image.old) (I.device image.new)
+        workspace.old workspace.new siblings.new result }
 {
     let mut start = [0u8; 512];
     let examined = examine(geometry, image, workspace, dir, &mut start)?;
-    let parent = parent_of(geometry, workspace, dir);
+    let parent = parent_of(workspace, dir);
     let (first, second) = first_two(geometry.layout.order, &start, examined.found.started);
     let shape = DirectoryHeader {
         gap: examined.found.gap,
@@ -184,15 +166,9 @@ pub fn check_directory<I: Image, W: Output>(
     report: &mut Report<'_, W>,
     dir: u32,
 ) -> Result<(), RunFault>
-    requires made { IsFor geometry.now.layout workspace.old }
-    requires volume { geometry.now.layout.size * geometry.now.layout.fsize
-        ≤ (I.device image.old).size }
-    requires windows { HoldWindows geometry.now.layout (I.device image.old).contents workspace.old }
+    requires ready { ReadyWith geometry.now.layout (I.device image.old) workspace.old siblings.old }
     requires number { dir < geometry.now.layout.ncg * geometry.now.layout.ipg }
     requires dir { 2 ≤ dir }
-    requires siblings { KeepSiblings geometry.now.layout (I.device image.old).contents workspace.old
-        siblings.old }
-    ensures image { ImageAfter (I.device image.old) (I.device image.new) result }
     ensures text { PhaseReports (λ b. DirectoryContext geometry.now.layout
         (I.device image.old).contents workspace.old dir b
         × AreRightBefore (volume_of geometry.now.layout b) dir (marks_of workspace.old))
@@ -203,11 +179,8 @@ pub fn check_directory<I: Image, W: Output>(
         × AreRightBefore (volume_of geometry.now.layout b) dir (marks_of workspace.old))
         (λ b. AreRightBefore (volume_of geometry.now.layout b) (suc dir)
         (marks_of workspace.new))) }
-    ensures survey { LeavesSurvey workspace.old workspace.new }
-    ensures siblings { OnOk result (KeepSiblings geometry.now.layout (I.device image.new).contents
-        workspace.new siblings.new) }
-    ensures made { IsFor geometry.now.layout workspace.new }
-    ensures windows { HoldWindows geometry.now.layout (I.device image.new).contents workspace.new }
+    ensures leaves { PhaseLeaves geometry.now.layout (I.device image.old) (I.device image.new)
+        workspace.old workspace.new siblings.new result }
 {
     let examined = begin_directory(geometry, image, workspace, siblings, report, dir)?;
     if examined.found.quiet {

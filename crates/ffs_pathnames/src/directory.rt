@@ -1,23 +1,17 @@
 // A first look at a directory.
-ghost use Rattle.std.specs.Prelude.{◌≡◌, ◌+◌, ◌*◌, ◌<◌, ◌≤◌, ◌^◌, ◌&&◌, ◌==◌, true, false, List, ℕ, [], ◌∷◌, length, vec_len, Some, None, Option, IfOk, OnOk, IfErr, Bool};
-ghost use Rattle.std.specs.List.{flat_map, find};
-ghost use Rattle.ffs_image.specs.Device.{Faulted, ForContents};
+ghost use Rattle.std.specs.Prelude.{◌≡◌, ◌*◌, ◌<◌, ◌≤◌, ◌==◌, true, false, List, ◌∷◌, length, Some, IfOk};
+ghost use Rattle.ffs_image.specs.Device.{ForContents};
 ghost use Rattle.ffs_volume.specs.declared.Order.{Order};
-ghost use Rattle.ffs_volume.specs.Disk.Areas.{is_in_range};
-ghost use Rattle.ffs_volume.specs.Directories.Entries.{Chunk, chunk_of, chunks_of, has_gap, size_taken};
-ghost use Rattle.ffs_volume.specs.Blocks.Steps.{steps_of};
-ghost use Rattle.ffs_volume.specs.Encodings.Replay.{fresh_replay, replayed_steps};
-ghost use Rattle.ffs_volume.specs.Directories.Roles.{Volume, roled_chunk};
-ghost use Rattle.ffs_volume.specs.Directories.PathnameCheck.{are_sound};
-ghost use Rattle.ffs_walk.specs.Windows.{BlocksHold, HasRoom, WindowHolds};
-ghost use Rattle.ffs_names.specs.RunCursors.{reading_by};
+ghost use Rattle.ffs_volume.specs.Directories.Entries.{Chunk, chunk_of};
+ghost use Rattle.ffs_pathnames.specs.Windows.{CanReadChunks};
+ghost use Rattle.ffs_pathnames.specs.Looks.{IsFirstLook};
 ghost use Rattle.ffs_pathnames.specs.Marks as marks;
-ghost use Rattle.ffs_pathnames.specs.Sees.{Sees};
-ghost use Rattle.ffs_pathnames.specs.Reads.{chunks_read, start_of};
+ghost use Rattle.ffs_pathnames.specs.Reads.{start_of};
+ghost use Rattle.ffs_image.specs.Reads.{ReadAfter};
 
 use crate::gap::gap_of;
 use crate::inodes::Inodes;
-use crate::look::{both, look_chunk};
+use crate::look::look_chunk;
 use ffs_image::{Image, ImageFault};
 use ffs_layout::Geometry;
 use ffs_names::Chunks;
@@ -60,39 +54,14 @@ pub fn look_directory<I: Image>(
     cut: u32,
     start: &mut [u8; 512],
 ) -> Result<FirstLook, ImageFault>
-    requires volume { geometry.now.layout.size * geometry.now.layout.fsize
-        ≤ (I.device image.old).size }
-    requires room { HasRoom geometry.now.layout blocks.old }
-    requires holds { BlocksHold geometry.now.layout (I.device image.old).contents blocks.old }
-    requires data_room { geometry.now.layout.bsize ≤ vec_len «data».old.buffer }
-    requires data_holds { WindowHolds (I.device image.old).contents «data».old }
+    requires ready { CanReadChunks geometry.now.layout (I.device image.old) blocks.old «data».old }
     requires stamps { length stamps.old ≡ length inodes.now.kinds.now }
     requires dir { 2 ≤ dir }
-    ensures quiet { IfOk result (λ f. ForContents (I.device image.old).contents
-        (λ b. (v : Volume) → Sees v inodes.now → inode.now.size < 2 ^ 31 →
-        f.quiet ≡ marks.are_quiet v dir stamps.old
-        (flat_map roled_chunk (chunks_read geometry.now.layout inode.now cut b)))) }
-    ensures stamps { OnOk result (ForContents (I.device image.old).contents
-        (λ b. (v : Volume) → Sees v inodes.now → inode.now.size < 2 ^ 31 →
-        stamps.new ≡ marks.after_looks v dir stamps.old
-        (flat_map roled_chunk (chunks_read geometry.now.layout inode.now cut b)))) }
-    ensures sound { IfOk result (λ f. ForContents (I.device image.old).contents
-        (λ b. inode.now.size < 2 ^ 31 → f.sound
-        ≡ are_sound (chunks_read geometry.now.layout inode.now cut b))) }
-    ensures gap { IfOk result (λ f. ForContents (I.device image.old).contents (λ b.
-        f.gap ≡ has_gap (replayed_steps geometry.now.layout cut fresh_replay
-        (steps_of geometry.now.layout inode.now b)))) }
-    ensures started { IfOk result (λ f. ForContents (I.device image.old).contents
-        (λ b. inode.now.size < 2 ^ 31 →
-        find (λ c. c.offset == 0) (chunks_read geometry.now.layout inode.now cut b)
-        ≡ start_of [] f.started geometry.now.layout.order start.new)) }
-    ensures size { vec_len blocks.new.buffer ≡ vec_len blocks.old.buffer }
-    ensures holds { BlocksHold geometry.now.layout (I.device image.new).contents blocks.new }
-    ensures data_size { vec_len «data».new.buffer ≡ vec_len «data».old.buffer }
-    ensures data_holds { WindowHolds (I.device image.new).contents «data».new }
-    ensures ok { OnOk result (I.device image.new ≡ I.device image.old) }
-    ensures err { IfErr result (λ fault. Faulted (I.device image.old) (I.device image.new)
-        fault.sector) }
+    ensures found { IfOk result (λ f. ForContents (I.device image.old).contents
+        (λ b. IsFirstLook geometry.now.layout inodes.now dir inode.now cut b stamps.old f
+        stamps.new start.new)) }
+    ensures ready { CanReadChunks geometry.now.layout (I.device image.new) blocks.new «data».new }
+    ensures read { ReadAfter (I.device image.old) (I.device image.new) result }
 {
     let order = geometry.layout.order;
     let mut chunks = Chunks::start(geometry, inode, cut);
@@ -102,8 +71,8 @@ pub fn look_directory<I: Image>(
     let mut started = false;
     'chunks: while let Some(offset) = chunks.next(image, blocks, data, &mut chunk)? {
         let looked = look_chunk(inodes, dir, order, offset == 0, &chunk, stamps);
-        quiet = both(quiet, looked.quiet);
-        sound = both(sound, looked.sound);
+        quiet &= looked.quiet;
+        sound &= looked.sound;
         started = keep_start(offset, &chunk, started, start);
     }
     let gap = gap_of(image, blocks, &mut chunks)?;

@@ -1,11 +1,11 @@
 // What is found of a directory before anything is reported of it.
-ghost use Rattle.std.specs.Prelude.{◌≡◌, ◌*◌, ◌<◌, ◌≤◌, ◌==◌, ℕ, List, true, Some, length, vec_len, Option, IfOk, OnOk, IfErr};
-ghost use Rattle.ffs_image.specs.Device.{Faulted};
+ghost use Rattle.std.specs.Prelude.{◌≡◌, ◌*◌, ◌<◌, ◌≤◌, ℕ, List, true, Some, IfOk};
 ghost use Rattle.ffs_volume.specs.Directories.Roles.{is_dir};
 ghost use Rattle.ffs_volume.specs.Directories.Volumes.{volume_of};
-ghost use Rattle.ffs_workspace.specs.Lengths.{IsFor, HoldWindows};
 ghost use Rattle.ffs_workspace.specs.Holds.{HoldsClaims, HoldsSurvey};
 ghost use Rattle.ffs_pathnames.specs.Examines.{LeavesQueue, AreFound};
+ghost use Rattle.ffs_workspace.specs.Ready.{IsReady};
+ghost use Rattle.ffs_image.specs.Reads.{ReadAfter};
 
 use crate::directory::{FirstLook, look_directory};
 use crate::inodes::Inodes;
@@ -29,10 +29,7 @@ pub fn examine<I: Image>(
     dir: u32,
     start: &mut [u8; 512],
 ) -> Result<DirectorySummary, ImageFault>
-    requires made { IsFor geometry.now.layout workspace.old }
-    requires volume { geometry.now.layout.size * geometry.now.layout.fsize
-        ≤ (I.device image.old).size }
-    requires windows { HoldWindows geometry.now.layout (I.device image.old).contents workspace.old }
+    requires ready { IsReady geometry.now.layout (I.device image.old) workspace.old }
     requires number { dir < geometry.now.layout.ncg * geometry.now.layout.ipg }
     requires dir { 2 ≤ dir }
     ensures found { IfOk result (λ e. (b : List ℕ) → (I.device image.old).contents ≡ Some b
@@ -41,11 +38,8 @@ pub fn examine<I: Image>(
         is_dir (volume_of geometry.now.layout b) dir ≡ true
         → AreFound geometry.now.layout b dir workspace.old e workspace.new start.new) }
     ensures lists { LeavesQueue workspace.old workspace.new }
-    ensures made { IsFor geometry.now.layout workspace.new }
-    ensures windows { HoldWindows geometry.now.layout (I.device image.new).contents workspace.new }
-    ensures ok { OnOk result (I.device image.new ≡ I.device image.old) }
-    ensures err { IfErr result (λ fault. Faulted (I.device image.old) (I.device image.new)
-        fault.sector) }
+    ensures ready { IsReady geometry.now.layout (I.device image.new) workspace.new }
+    ensures read { ReadAfter (I.device image.old) (I.device image.new) result }
 {
     let inode = workspace.windows.table.inode(geometry, dir, image)?;
     let cut = workspace.cut[dir as usize];

@@ -1,8 +1,7 @@
 // What is reported of a directory before its entries.
 ghost use Rattle.std.specs.Prelude.{◌≡◌, ℕ, List, [], ◌%◌, ◌==◌, ◌&&◌, not, nat_lt, option_map, IsTrue};
 ghost use Rattle.ffs_volume.specs.declared.Attr as attrs;
-ghost use Rattle.ffs_volume.specs.Directories.Entries.{is_live};
-ghost use Rattle.ffs_volume.specs.Directories.PathnameCheck.{missing_dot_reported, missing_dotdot_reported, is_other};
+ghost use Rattle.ffs_volume.specs.Directories.PathnameCheck.{is_other};
 ghost use Rattle.ffs_volume.specs.Directories.Roles as roles;
 ghost use Rattle.ffs_layout.specs.Entry.{entry_value};
 ghost use Rattle.ffs_report.specs.Progress.{progress};

@@ -1,5 +1,5 @@
 // What is known of the inodes that entries name.
-ghost use Rattle.std.specs.Prelude.{◌≡◌, ◌<◌, ◌≤◌, length, slice_index, ◌==◌, ◌||◌, ◌&&◌, not};
+ghost use Rattle.std.specs.Prelude.{◌≡◌, ◌<◌, length, slice_index, ◌==◌, ◌||◌, ◌&&◌, not};
 
 /// Of each inode its kind, whether it is marked, and its parent (or 0 for none).
 #[derive(Clone, Copy)]
@@ -13,7 +13,6 @@ pub struct Inodes<'a> {
 }
 
 impl<'a> Inodes<'a> {
-    ghost use Rattle.ffs_volume.specs.declared.Role.{Role};
     ghost use Rattle.ffs_volume.specs.Encodings.Kinds.{is_dir_kind, is_empty_dir_kind, is_allocated_kind, is_unknown_kind, type_of_kind};
     ghost use Rattle.ffs_workspace.specs.Holds.{bool_at};
 

@@ -1,8 +1,6 @@
 // What is reported of an entry, by its verdict.
-ghost use Rattle.std.specs.Prelude.{◌≡◌, ◌++◌};
 ghost use Rattle.ffs_volume.specs.Messages.Kinds.{reported};
 ghost use Rattle.ffs_report.specs.Progress.{progress};
-ghost use Rattle.ffs_pathnames.specs.NameLines.{name_message, two_reported};
 ghost use Rattle.ffs_pathnames.specs.SaysNames.{SaysNames};
 ghost use Rattle.ffs_pathnames.specs.Verdicts.{suspect_message, links_reported, faults_reported, verdict_reported};
 

@@ -1,5 +1,5 @@
 // A first look at the entries of a directory: whether anything may be reported of them.
-ghost use Rattle.std.specs.Prelude.{◌≡◌, ◌+◌, ◌<◌, ◌≤◌, ◌==◌, ◌&&◌, ◌||◌, not, length, slice_index, true, IsTrue};
+ghost use Rattle.std.specs.Prelude.{◌≡◌, ◌+◌, ◌<◌, ◌≤◌, ◌==◌, ◌&&◌, ◌||◌, not, length, slice_index, true};
 ghost use Rattle.ffs_volume.specs.declared.Role.{Role};
 ghost use Rattle.ffs_volume.specs.Directories.Roles.{Volume, is_dir, roled_from};
 ghost use Rattle.ffs_volume.specs.Directories.Entries.{entries_of, is_sound};
@@ -124,12 +124,6 @@ fn look_at(inodes: &Inodes<'_>, dir: u32, stamps: &mut [u32], role: Role, entry:
     quiet
 }
 
-pub fn both(a: bool, b: bool) -> bool
-    ensures { result ≡ (a && b) }
-{
-    a && b
-}
-
 /// What a look at the entries of a chunk finds: whether nothing may be reported of them, and whether they fill the chunk.
 #[derive(Clone, Copy, Debug)]
 pub struct EntriesSummary {
@@ -160,7 +154,7 @@ pub fn look_chunk(
     'entries: while let Some(entry) = entry_at(order, chunk, place) {
         let role = role_of(first, index, &entry);
         let here = look_at(inodes, dir, stamps, role, &entry);
-        quiet = both(quiet, here);
+        quiet &= here;
         place += usize::from(entry.length);
         index += 1;
     }

@@ -1,14 +1,11 @@
 // Paths of entries and of directories.
-ghost use Rattle.std.specs.Prelude.{◌≡◌, ◌*◌, ◌<◌, ◌≤◌, ℕ, List, Some, IfOk, OnOk, IfErr};
-ghost use Rattle.ffs_image.specs.Device.{Faulted};
+ghost use Rattle.std.specs.Prelude.{◌≡◌, ◌*◌, ◌<◌, ℕ, List, Some, IfOk, OnOk};
 ghost use Rattle.ffs_volume.specs.Directories.Parents.{graph_of};
 ghost use Rattle.ffs_volume.specs.Directories.Volumes.{volume_of};
-ghost use Rattle.ffs_workspace.specs.Lengths.{IsFor, HoldWindows};
 ghost use Rattle.ffs_workspace.specs.Holds.{HoldsClaims, HoldsSurvey};
-ghost use Rattle.ffs_pathnames.specs.Examines.{LeavesMarks};
 ghost use Rattle.ffs_volume.specs.Directories.Paths.{dir_path};
 ghost use Rattle.ffs_paths.specs.DirectoryPaths.{IsPathOf};
-ghost use Rattle.ffs_paths.specs.Siblings.{KeepSiblings};
+ghost use Rattle.ffs_pathnames.specs.Ready.{ReadyWith, ReadLeaves};
 
 use ffs_image::{Image, ImageFault};
 use ffs_layout::Geometry;
@@ -24,25 +21,14 @@ pub fn path_text<I: Image>(
     dir: u32,
     text: &mut PathText,
 ) -> Result<(), ImageFault>
-    requires made { IsFor geometry.now.layout workspace.old }
-    requires volume { geometry.now.layout.size * geometry.now.layout.fsize
-        ≤ (I.device image.old).size }
-    requires windows { HoldWindows geometry.now.layout (I.device image.old).contents workspace.old }
+    requires ready { ReadyWith geometry.now.layout (I.device image.old) workspace.old siblings.old }
     requires number { dir < geometry.now.layout.ncg * geometry.now.layout.ipg }
-    requires siblings { KeepSiblings geometry.now.layout (I.device image.old).contents workspace.old
-        siblings.old }
     ensures path { OnOk result ((b : List ℕ) → (I.device image.old).contents ≡ Some b
         → HoldsClaims geometry.now.layout b workspace.old
         → HoldsSurvey geometry.now.layout b workspace.old
         → text.new.items ≡ dir_path (graph_of (volume_of geometry.now.layout b)) dir) }
-    ensures lists { LeavesMarks workspace.old workspace.new }
-    ensures siblings { OnOk result (KeepSiblings geometry.now.layout (I.device image.new).contents
-        workspace.new siblings.new) }
-    ensures made { IsFor geometry.now.layout workspace.new }
-    ensures windows { HoldWindows geometry.now.layout (I.device image.new).contents workspace.new }
-    ensures ok { OnOk result (I.device image.new ≡ I.device image.old) }
-    ensures err { IfErr result (λ fault. Faulted (I.device image.old) (I.device image.new)
-        fault.sector) }
+    ensures leaves { ReadLeaves geometry.now.layout (I.device image.old) (I.device image.new)
+        workspace.old workspace.new siblings.new result }
 {
     siblings.put_path(geometry, image, workspace, dir, text)
 }
@@ -55,25 +41,14 @@ pub fn own_path<I: Image>(
     siblings: &mut Siblings,
     dir: u32,
 ) -> Result<DirectoryPath, ImageFault>
-    requires made { IsFor geometry.now.layout workspace.old }
-    requires volume { geometry.now.layout.size * geometry.now.layout.fsize
-        ≤ (I.device image.old).size }
-    requires windows { HoldWindows geometry.now.layout (I.device image.old).contents workspace.old }
+    requires ready { ReadyWith geometry.now.layout (I.device image.old) workspace.old siblings.old }
     requires number { dir < geometry.now.layout.ncg * geometry.now.layout.ipg }
-    requires siblings { KeepSiblings geometry.now.layout (I.device image.old).contents workspace.old
-        siblings.old }
     ensures path { IfOk result (λ path. (b : List ℕ) → (I.device image.old).contents ≡ Some b
         → HoldsClaims geometry.now.layout b workspace.old
         → HoldsSurvey geometry.now.layout b workspace.old →
         IsPathOf (graph_of (volume_of geometry.now.layout b)) dir path) }
-    ensures lists { LeavesMarks workspace.old workspace.new }
-    ensures siblings { OnOk result (KeepSiblings geometry.now.layout (I.device image.new).contents
-        workspace.new siblings.new) }
-    ensures made { IsFor geometry.now.layout workspace.new }
-    ensures windows { HoldWindows geometry.now.layout (I.device image.new).contents workspace.new }
-    ensures ok { OnOk result (I.device image.new ≡ I.device image.old) }
-    ensures err { IfErr result (λ fault. Faulted (I.device image.old) (I.device image.new)
-        fault.sector) }
+    ensures leaves { ReadLeaves geometry.now.layout (I.device image.old) (I.device image.new)
+        workspace.old workspace.new siblings.new result }
 {
     siblings.path_to(geometry, image, workspace, dir)
 }

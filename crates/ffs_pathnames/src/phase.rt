@@ -1,6 +1,6 @@
 //! Phase 2: pathnames (fsck(8)).
 
-ghost use Rattle.std.specs.Prelude.{◌≡◌, ◌⊎◌, ◌*◌, ◌≤◌, [], ◌∷◌, ℕ, List, Bool, true, false, OnOk, IfOk, map};
+ghost use Rattle.std.specs.Prelude.{◌≡◌, ◌⊎◌, [], ◌∷◌, true, OnOk, IfOk, map};
 ghost use Rattle.ffs_phase.specs.Known.{IsContents, ForBytes};
 ghost use Rattle.ffs_phase.specs.Runs.{ImageAfter, PhaseReports};
 ghost use Rattle.ffs_report.specs.Progress.{Said, progress};
@@ -9,8 +9,8 @@ ghost use Rattle.ffs_volume.specs.Messages.Kinds.{of_names};
 ghost use Rattle.ffs_volume.specs.Directories.PathnameCheck.{goes_on, pathname_lines};
 ghost use Rattle.ffs_volume.specs.Directories.Volumes.{volume_of};
 ghost use Rattle.ffs_workspace.specs.Holds.{HoldsClaims, HoldsSurvey};
-ghost use Rattle.ffs_workspace.specs.Lengths.{IsFor, HoldWindows};
 ghost use Rattle.ffs_pathnames.specs.GoesOn.{AtReadFault, is_go};
+ghost use Rattle.ffs_workspace.specs.Ready.{IsReady};
 
 use crate::clear::clear_marks;
 use crate::tree::check_tree;
@@ -40,10 +40,7 @@ pub fn phase2<I: Image, W: Output>(
     workspace: &mut Workspace,
     report: &mut Report<'_, W>,
 ) -> Result<Root, RunFault>
-    requires made { IsFor geometry.now.layout workspace.old }
-    requires volume { geometry.now.layout.size * geometry.now.layout.fsize
-        ≤ (I.device image.old).size }
-    requires windows { HoldWindows geometry.now.layout (I.device image.old).contents workspace.old }
+    requires ready { IsReady geometry.now.layout (I.device image.old) workspace.old }
     ensures image { ImageAfter (I.device image.old) (I.device image.new) result }
     ensures text { PhaseReports (λ b. IsContents (I.device image.old).contents b
         × HoldsClaims geometry.now.layout b workspace.old)
@@ -65,11 +62,10 @@ pub fn phase2<I: Image, W: Output>(
         × HoldsClaims geometry.now.layout b workspace.old)
         (λ b. HoldsClaims geometry.now.layout b workspace.new
         × HoldsSurvey geometry.now.layout b workspace.new)) }
-    ensures made { IsFor geometry.now.layout workspace.new }
-    ensures windows { HoldWindows geometry.now.layout (I.device image.new).contents workspace.new }
+    ensures ready { IsReady geometry.now.layout (I.device image.new) workspace.new }
 {
     report.say(&Line::Heading(Heading::Phase2))?;
     survey(geometry, image, workspace)?;
-    clear_marks(workspace, geometry);
+    clear_marks(workspace);
     check_tree(geometry, image, workspace, report)
 }

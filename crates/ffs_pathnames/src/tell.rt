@@ -1,7 +1,6 @@
 // The lines of a plain entry.
-ghost use Rattle.std.specs.Prelude.{◌≡◌, ◌*◌, ◌<◌, ◌≤◌, ℕ, List, [], true, false, length, Some, OnOk, IfOk, IfErr, IsTrue, map};
-ghost use Rattle.ffs_image.specs.Device.{Faulted, ForContents};
-ghost use Rattle.ffs_volume.specs.Blocks.Inodes.{inode_of};
+ghost use Rattle.std.specs.Prelude.{◌≡◌, ◌*◌, ◌<◌, ◌≤◌, ℕ, List, [], true, false, length, Some, OnOk, IfOk, IsTrue, map};
+ghost use Rattle.ffs_image.specs.Device.{ForContents};
 ghost use Rattle.ffs_volume.specs.Messages.Kinds.{of_names};
 ghost use Rattle.ffs_volume.specs.Directories.PathnameCheck.{attributes, extra_reported};
 ghost use Rattle.ffs_pathnames.specs.SaysNames.{SaysNames};
@@ -12,8 +11,7 @@ ghost use Rattle.ffs_volume.specs.Directories.Volumes.{volume_of};
 ghost use Rattle.ffs_layout.specs.Entry.{entry_value};
 ghost use Rattle.ffs_phase.specs.Runs.{ImageAfter, PhaseReports};
 ghost use Rattle.ffs_report.specs.Progress.{progress};
-ghost use Rattle.ffs_paths.specs.Siblings.{KeepSiblings};
-ghost use Rattle.ffs_workspace.specs.Lengths.{IsFor, HoldWindows};
+ghost use Rattle.ffs_workspace.specs.Lengths.{IsFor};
 ghost use Rattle.ffs_workspace.specs.Holds.{HoldsClaims, HoldsSurvey};
 ghost use Rattle.ffs_pathnames.specs.Examines.{LeavesMarks};
 ghost use Rattle.ffs_pathnames.specs.Gathers.{IsEnough, marks_of, asks_attr, asks_path, is_silent};
@@ -21,6 +19,9 @@ ghost use Rattle.ffs_pathnames.specs.DirectoryContext.{DirectoryContext, KnowsPa
 ghost use Rattle.ffs_paths.specs.DirectoryPaths.{IsPathOf};
 ghost use Rattle.ffs_pathnames.specs.Marks.{plain_reported};
 ghost use Rattle.ffs_pathnames.specs.Verdicts.{verdict_reported};
+ghost use Rattle.ffs_workspace.specs.Ready.{IsReady};
+ghost use Rattle.ffs_image.specs.Reads.{ReadAfter};
+ghost use Rattle.ffs_pathnames.specs.Ready.{ReadyWith, ReadyAfter, ReadLeaves};
 
 use crate::header::is_one_dot;
 use crate::lines::say_verdict;
@@ -64,19 +65,13 @@ pub fn read_attr<I: Image>(
     workspace: &mut Workspace,
     number: u32,
 ) -> Result<Attr, ImageFault>
-    requires made { IsFor geometry.now.layout workspace.old }
-    requires volume { geometry.now.layout.size * geometry.now.layout.fsize
-        ≤ (I.device image.old).size }
-    requires windows { HoldWindows geometry.now.layout (I.device image.old).contents workspace.old }
+    requires ready { IsReady geometry.now.layout (I.device image.old) workspace.old }
     requires number { number < geometry.now.layout.ncg * geometry.now.layout.ipg }
     ensures attr { IfOk result (λ a. ForContents (I.device image.old).contents
         (λ b. a ≡ attributes (volume_of geometry.now.layout b) number)) }
     ensures lists { LeavesMarks workspace.old workspace.new }
-    ensures made { IsFor geometry.now.layout workspace.new }
-    ensures windows { HoldWindows geometry.now.layout (I.device image.new).contents workspace.new }
-    ensures ok { OnOk result (I.device image.new ≡ I.device image.old) }
-    ensures err { IfErr result (λ fault. Faulted (I.device image.old) (I.device image.new)
-        fault.sector) }
+    ensures ready { IsReady geometry.now.layout (I.device image.new) workspace.new }
+    ensures read { ReadAfter (I.device image.old) (I.device image.new) result }
 {
     let inode = workspace.windows.table.inode(geometry, number, image)?;
     Ok(attr_of(number, &inode))
@@ -102,19 +97,13 @@ fn gather_attr<I: Image>(
     wanted: bool,
     number: u32,
 ) -> Result<Attr, ImageFault>
-    requires made { IsFor geometry.now.layout workspace.old }
-    requires volume { geometry.now.layout.size * geometry.now.layout.fsize
-        ≤ (I.device image.old).size }
-    requires windows { HoldWindows geometry.now.layout (I.device image.old).contents workspace.old }
+    requires ready { IsReady geometry.now.layout (I.device image.old) workspace.old }
     requires number { IsTrue wanted → number < geometry.now.layout.ncg * geometry.now.layout.ipg }
     ensures attr { IfOk result (λ a. ForContents (I.device image.old).contents
         (λ b. IsTrue wanted → a ≡ attributes (volume_of geometry.now.layout b) number)) }
     ensures lists { LeavesMarks workspace.old workspace.new }
-    ensures made { IsFor geometry.now.layout workspace.new }
-    ensures windows { HoldWindows geometry.now.layout (I.device image.new).contents workspace.new }
-    ensures ok { OnOk result (I.device image.new ≡ I.device image.old) }
-    ensures err { IfErr result (λ fault. Faulted (I.device image.old) (I.device image.new)
-        fault.sector) }
+    ensures ready { IsReady geometry.now.layout (I.device image.new) workspace.new }
+    ensures read { ReadAfter (I.device image.old) (I.device image.new) result }
 {
     if !wanted {
         return Ok(Attr {
@@ -138,26 +127,15 @@ fn gather_path<I: Image>(
     dir: u32,
     text: &mut PathText,
 ) -> Result<(), ImageFault>
-    requires made { IsFor geometry.now.layout workspace.old }
-    requires volume { geometry.now.layout.size * geometry.now.layout.fsize
-        ≤ (I.device image.old).size }
-    requires windows { HoldWindows geometry.now.layout (I.device image.old).contents workspace.old }
+    requires ready { ReadyWith geometry.now.layout (I.device image.old) workspace.old siblings.old }
     requires number { IsTrue wanted → dir < geometry.now.layout.ncg * geometry.now.layout.ipg }
-    requires siblings { KeepSiblings geometry.now.layout (I.device image.old).contents workspace.old
-        siblings.old }
     ensures path { OnOk result ((b : List ℕ) → (I.device image.old).contents ≡ Some b
         → HoldsClaims geometry.now.layout b workspace.old
         → HoldsSurvey geometry.now.layout b workspace.old →
         IsTrue wanted → is_dir (volume_of geometry.now.layout b) dir ≡ true → text.new.items
         ≡ dir_path (graph_of (volume_of geometry.now.layout b)) dir) }
-    ensures lists { LeavesMarks workspace.old workspace.new }
-    ensures siblings { OnOk result (KeepSiblings geometry.now.layout (I.device image.new).contents
-        workspace.new siblings.new) }
-    ensures made { IsFor geometry.now.layout workspace.new }
-    ensures windows { HoldWindows geometry.now.layout (I.device image.new).contents workspace.new }
-    ensures ok { OnOk result (I.device image.new ≡ I.device image.old) }
-    ensures err { IfErr result (λ fault. Faulted (I.device image.old) (I.device image.new)
-        fault.sector) }
+    ensures leaves { ReadLeaves geometry.now.layout (I.device image.old) (I.device image.new)
+        workspace.old workspace.new siblings.new result }
 {
     if !wanted {
         return Ok(());
@@ -178,16 +156,11 @@ fn gather<I: Image>(
     text: &mut PathText,
     directory: &mut PathText,
 ) -> Result<Attr, ImageFault>
-    requires made { IsFor geometry.now.layout workspace.old }
-    requires volume { geometry.now.layout.size * geometry.now.layout.fsize
-        ≤ (I.device image.old).size }
-    requires windows { HoldWindows geometry.now.layout (I.device image.old).contents workspace.old }
+    requires ready { ReadyWith geometry.now.layout (I.device image.old) workspace.old siblings.old }
     requires number { IsTrue (asks_attr verdict.now) → entry.now.number
         < geometry.now.layout.ncg * geometry.now.layout.ipg }
     requires name { length entry.now.name.now ≤ 255 }
     requires empty { text.old.items ≡ [] }
-    requires siblings { KeepSiblings geometry.now.layout (I.device image.old).contents workspace.old
-        siblings.old }
     ensures enough { IfOk result (λ a. (b : List ℕ) (dir : ℕ) → (I.device image.old).contents
         ≡ Some b → HoldsClaims geometry.now.layout b workspace.old
         → HoldsSurvey geometry.now.layout b workspace.old →
@@ -196,14 +169,8 @@ fn gather<I: Image>(
         → is_dir (volume_of geometry.now.layout b) entry.now.number ≡ true) →
         IsEnough (volume_of geometry.now.layout b) verdict.now dir entry.now.number
         entry.now.name.now a text.new.items directory.new.items) }
-    ensures lists { LeavesMarks workspace.old workspace.new }
-    ensures siblings { OnOk result (KeepSiblings geometry.now.layout (I.device image.new).contents
-        workspace.new siblings.new) }
-    ensures made { IsFor geometry.now.layout workspace.new }
-    ensures windows { HoldWindows geometry.now.layout (I.device image.new).contents workspace.new }
-    ensures ok { OnOk result (I.device image.new ≡ I.device image.old) }
-    ensures err { IfErr result (λ fault. Faulted (I.device image.old) (I.device image.new)
-        fault.sector) }
+    ensures leaves { ReadLeaves geometry.now.layout (I.device image.old) (I.device image.new)
+        workspace.old workspace.new siblings.new result }
 {
     let (wants_attr, wants_path) = asks(verdict);
     path.put_entry(entry.name, text);
@@ -270,14 +237,9 @@ pub fn report_plain<I: Image, W: Output>(
     path: &DirectoryPath,
     entry: &Entry<'_>,
 ) -> Result<(), RunFault>
-    requires made { IsFor geometry.now.layout workspace.old }
-    requires volume { geometry.now.layout.size * geometry.now.layout.fsize
-        ≤ (I.device image.old).size }
-    requires windows { HoldWindows geometry.now.layout (I.device image.old).contents workspace.old }
+    requires ready { ReadyWith geometry.now.layout (I.device image.old) workspace.old siblings.old }
     requires dir { dir < geometry.now.layout.ncg * geometry.now.layout.ipg }
     requires name { length entry.now.name.now ≤ 255 }
-    requires siblings { KeepSiblings geometry.now.layout (I.device image.old).contents workspace.old
-        siblings.old }
     ensures image { ImageAfter (I.device image.old) (I.device image.new) result }
     ensures text { PhaseReports (KnowsPath geometry.now.layout (I.device image.old).contents
         workspace.old dir path.now)
@@ -285,10 +247,8 @@ pub fn report_plain<I: Image, W: Output>(
         (marks_of workspace.old) (entry_value entry.now)))
         (progress W.sink report.old) (progress W.sink report.new) result }
     ensures lists { LeavesMarks workspace.old workspace.new }
-    ensures siblings { OnOk result (KeepSiblings geometry.now.layout (I.device image.new).contents
-        workspace.new siblings.new) }
-    ensures made { IsFor geometry.now.layout workspace.new }
-    ensures windows { HoldWindows geometry.now.layout (I.device image.new).contents workspace.new }
+    ensures ready { ReadyAfter geometry.now.layout (I.device image.new) workspace.new siblings.new
+        result }
 {
     let verdict = verdict_of(geometry, workspace, dir, entry);
     if is_silent(&verdict) {
@@ -328,10 +288,7 @@ pub fn report_extra<I: Image, W: Output>(
     path: &DirectoryPath,
     entry: &Entry<'_>,
 ) -> Result<(), RunFault>
-    requires made { IsFor geometry.now.layout workspace.old }
-    requires volume { geometry.now.layout.size * geometry.now.layout.fsize
-        ≤ (I.device image.old).size }
-    requires windows { HoldWindows geometry.now.layout (I.device image.old).contents workspace.old }
+    requires ready { IsReady geometry.now.layout (I.device image.old) workspace.old }
     requires dir { dir < geometry.now.layout.ncg * geometry.now.layout.ipg }
     ensures image { ImageAfter (I.device image.old) (I.device image.new) result }
     ensures text { PhaseReports (KnowsPath geometry.now.layout (I.device image.old).contents
@@ -340,8 +297,7 @@ pub fn report_extra<I: Image, W: Output>(
         (dir_path (graph_of (volume_of geometry.now.layout b)) dir) (entry_value entry.now)))
         (progress W.sink report.old) (progress W.sink report.new) result }
     ensures lists { LeavesMarks workspace.old workspace.new }
-    ensures made { IsFor geometry.now.layout workspace.new }
-    ensures windows { HoldWindows geometry.now.layout (I.device image.new).contents workspace.new }
+    ensures ready { IsReady geometry.now.layout (I.device image.new) workspace.new }
 {
     let mut text = PathText::new();
     path.put(&mut text);
@@ -359,26 +315,15 @@ pub fn gather_dir<I: Image>(
     dir: u32,
     path: &mut PathText,
 ) -> Result<Attr, ImageFault>
-    requires made { IsFor geometry.now.layout workspace.old }
-    requires volume { geometry.now.layout.size * geometry.now.layout.fsize
-        ≤ (I.device image.old).size }
-    requires windows { HoldWindows geometry.now.layout (I.device image.old).contents workspace.old }
+    requires ready { ReadyWith geometry.now.layout (I.device image.old) workspace.old siblings.old }
     requires dir { dir < geometry.now.layout.ncg * geometry.now.layout.ipg }
-    requires siblings { KeepSiblings geometry.now.layout (I.device image.old).contents workspace.old
-        siblings.old }
     ensures attr { IfOk result (λ a. ForContents (I.device image.old).contents
         (λ b. a ≡ attributes (volume_of geometry.now.layout b) dir)) }
     ensures path { OnOk result ((b : List ℕ)
         → DirectoryContext geometry.now.layout (I.device image.old).contents workspace.old dir b
         → path.new.items ≡ dir_path (graph_of (volume_of geometry.now.layout b)) dir) }
-    ensures lists { LeavesMarks workspace.old workspace.new }
-    ensures siblings { OnOk result (KeepSiblings geometry.now.layout (I.device image.new).contents
-        workspace.new siblings.new) }
-    ensures made { IsFor geometry.now.layout workspace.new }
-    ensures windows { HoldWindows geometry.now.layout (I.device image.new).contents workspace.new }
-    ensures ok { OnOk result (I.device image.new ≡ I.device image.old) }
-    ensures err { IfErr result (λ fault. Faulted (I.device image.old) (I.device image.new)
-        fault.sector) }
+    ensures leaves { ReadLeaves geometry.now.layout (I.device image.old) (I.device image.new)
+        workspace.old workspace.new siblings.new result }
 {
     path_text(geometry, image, workspace, siblings, dir, path)?;
     let attr = read_attr(geometry, image, workspace, dir)?;

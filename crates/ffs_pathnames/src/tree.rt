@@ -1,5 +1,5 @@
 // The pathname check of the root, and of one directory after another.
-ghost use Rattle.std.specs.Prelude.{suc, ◌≡◌, ◌-◌, ◌*◌, ◌==◌, ◌<◌, ◌≤◌, ℕ, true, List, OnOk, IfOk, map, slice_index};
+ghost use Rattle.std.specs.Prelude.{suc, ◌≡◌, ◌-◌, ◌*◌, ◌==◌, ◌<◌, ◌≤◌, true, OnOk, IfOk, map, slice_index, vec_len};
 ghost use Rattle.ffs_phase.specs.Known.{ForBytes};
 ghost use Rattle.ffs_phase.specs.Runs.{ImageAfter, PhaseReports};
 ghost use Rattle.ffs_report.specs.Progress.{progress};
@@ -7,11 +7,12 @@ ghost use Rattle.ffs_volume.specs.Messages.Kinds.{of_names, lines_from};
 ghost use Rattle.ffs_volume.specs.Directories.PathnameCheck.{goes_on, lines_of, pathname_lines};
 ghost use Rattle.ffs_volume.specs.Directories.Volumes.{volume_of};
 ghost use Rattle.ffs_workspace.specs.Holds.{bool_at};
-ghost use Rattle.ffs_paths.specs.Siblings.{KeepSiblings};
-ghost use Rattle.ffs_workspace.specs.Lengths.{IsFor, HoldWindows, inodes_of};
+ghost use Rattle.ffs_workspace.specs.Lengths.{inodes_of};
 ghost use Rattle.ffs_pathnames.specs.Before.{IsBefore};
 ghost use Rattle.ffs_workspace.specs.Leaves.{LeavesSurvey};
 ghost use Rattle.ffs_pathnames.specs.GoesOn.{AtReadFault, is_go};
+ghost use Rattle.ffs_workspace.specs.Ready.{IsReady};
+ghost use Rattle.ffs_pathnames.specs.Ready.{ReadyWith, PhaseLeaves};
 
 use crate::check::check_directory;
 use crate::phase::Root;
@@ -24,9 +25,8 @@ use ffs_report::{Output, Report};
 use ffs_workspace::Workspace;
 
 /// Whether an inode is a directory that isn't of size 0.
-fn is_looked_at(workspace: &Workspace, geometry: &Geometry, number: u32) -> bool
-    requires made { IsFor geometry.now.layout workspace.now }
-    requires number { number < inodes_of geometry.now.layout }
+fn is_looked_at(workspace: &Workspace, number: u32) -> bool
+    requires { number < vec_len workspace.now.kinds }
     ensures { result ≡ (slice_index workspace.now.kinds.items number == 4) }
 {
     workspace.kinds[number as usize] == 4
@@ -41,15 +41,9 @@ fn check_inode<I: Image, W: Output>(
     report: &mut Report<'_, W>,
     number: u32,
 ) -> Result<(), RunFault>
-    requires made { IsFor geometry.now.layout workspace.old }
-    requires volume { geometry.now.layout.size * geometry.now.layout.fsize
-        ≤ (I.device image.old).size }
-    requires windows { HoldWindows geometry.now.layout (I.device image.old).contents workspace.old }
+    requires ready { ReadyWith geometry.now.layout (I.device image.old) workspace.old siblings.old }
     requires low { 2 ≤ number }
     requires number { number < inodes_of geometry.now.layout }
-    requires siblings { KeepSiblings geometry.now.layout (I.device image.old).contents workspace.old
-        siblings.old }
-    ensures image { ImageAfter (I.device image.old) (I.device image.new) result }
     ensures text { PhaseReports (λ b. IsBefore geometry.now.layout (I.device image.old).contents
         workspace.old number b)
         (λ b. map of_names (lines_of (volume_of geometry.now.layout b) number))
@@ -58,13 +52,10 @@ fn check_inode<I: Image, W: Output>(
         (λ b. IsBefore geometry.now.layout (I.device image.old).contents workspace.old number b)
         (λ b. IsBefore geometry.now.layout (I.device image.old).contents workspace.new (suc number)
         b)) }
-    ensures survey { LeavesSurvey workspace.old workspace.new }
-    ensures siblings { OnOk result (KeepSiblings geometry.now.layout (I.device image.new).contents
-        workspace.new siblings.new) }
-    ensures made { IsFor geometry.now.layout workspace.new }
-    ensures windows { HoldWindows geometry.now.layout (I.device image.new).contents workspace.new }
+    ensures leaves { PhaseLeaves geometry.now.layout (I.device image.old) (I.device image.new)
+        workspace.old workspace.new siblings.new result }
 {
-    if is_looked_at(workspace, geometry, number) {
+    if is_looked_at(workspace, number) {
         return check_directory(geometry, image, workspace, siblings, report, number);
     }
     Ok(())
@@ -77,10 +68,7 @@ fn check_inodes<I: Image, W: Output>(
     workspace: &mut Workspace,
     report: &mut Report<'_, W>,
 ) -> Result<(), RunFault>
-    requires made { IsFor geometry.now.layout workspace.old }
-    requires volume { geometry.now.layout.size * geometry.now.layout.fsize
-        ≤ (I.device image.old).size }
-    requires windows { HoldWindows geometry.now.layout (I.device image.old).contents workspace.old }
+    requires ready { IsReady geometry.now.layout (I.device image.old) workspace.old }
     ensures image { ImageAfter (I.device image.old) (I.device image.new) result }
     ensures text { PhaseReports (λ b. IsBefore geometry.now.layout (I.device image.old).contents
         workspace.old 2 b)
@@ -88,8 +76,7 @@ fn check_inodes<I: Image, W: Output>(
         (inodes_of geometry.now.layout - 2)))
         (progress W.sink report.old) (progress W.sink report.new) result }
     ensures survey { LeavesSurvey workspace.old workspace.new }
-    ensures made { IsFor geometry.now.layout workspace.new }
-    ensures windows { HoldWindows geometry.now.layout (I.device image.new).contents workspace.new }
+    ensures ready { IsReady geometry.now.layout (I.device image.new) workspace.new }
 {
     let mut siblings = Siblings::none(geometry);
     for number in 2..geometry.layout.ncg * geometry.layout.ipg {
@@ -99,16 +86,16 @@ fn check_inodes<I: Image, W: Output>(
 }
 
 /// The kind of the root.
-fn root_kind(workspace: &Workspace, geometry: &Geometry) -> u8
-    requires made { IsFor geometry.now.layout workspace.now }
+fn root_kind(workspace: &Workspace) -> u8
+    requires { 2 < vec_len workspace.now.kinds }
     ensures { result ≡ slice_index workspace.now.kinds.items 2 }
 {
     workspace.kinds[2]
 }
 
 /// Whether the root is marked.
-fn is_root_marked(workspace: &Workspace, geometry: &Geometry) -> bool
-    requires made { IsFor geometry.now.layout workspace.now }
+fn is_root_marked(workspace: &Workspace) -> bool
+    requires { 2 < vec_len workspace.now.marked }
     ensures { result ≡ bool_at workspace.now.marked.items 2 }
 {
     workspace.marked[2]
@@ -121,10 +108,7 @@ pub fn check_tree<I: Image, W: Output>(
     workspace: &mut Workspace,
     report: &mut Report<'_, W>,
 ) -> Result<Root, RunFault>
-    requires made { IsFor geometry.now.layout workspace.old }
-    requires volume { geometry.now.layout.size * geometry.now.layout.fsize
-        ≤ (I.device image.old).size }
-    requires windows { HoldWindows geometry.now.layout (I.device image.old).contents workspace.old }
+    requires ready { IsReady geometry.now.layout (I.device image.old) workspace.old }
     ensures image { ImageAfter (I.device image.old) (I.device image.new) result }
     ensures text { PhaseReports (λ b. IsBefore geometry.now.layout (I.device image.old).contents
         workspace.old 2 b)
@@ -139,11 +123,10 @@ pub fn check_tree<I: Image, W: Output>(
         (λ b. IsBefore geometry.now.layout (I.device image.old).contents workspace.old 2 b)
         (λ b. goes_on (volume_of geometry.now.layout b) ≡ true)) }
     ensures survey { LeavesSurvey workspace.old workspace.new }
-    ensures made { IsFor geometry.now.layout workspace.new }
-    ensures windows { HoldWindows geometry.now.layout (I.device image.new).contents workspace.new }
+    ensures ready { IsReady geometry.now.layout (I.device image.new) workspace.new }
 {
-    let kind = root_kind(workspace, geometry);
-    report_root(report, kind, is_root_marked(workspace, geometry))?;
+    let kind = root_kind(workspace);
+    report_root(report, kind, is_root_marked(workspace))?;
     match root_of(kind) {
         Root::Stop => Ok(Root::Stop),
         Root::Go => {

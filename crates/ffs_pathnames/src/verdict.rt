@@ -1,5 +1,5 @@
 // The verdict on a plain entry.
-ghost use Rattle.std.specs.Prelude.{◌≡◌, ◌<◌, ◌≤◌, ◌==◌, ◌&&◌, ◌||◌, not, length, slice_index, IsTrue, true};
+ghost use Rattle.std.specs.Prelude.{◌≡◌, ◌<◌, ◌==◌, ◌&&◌, not, length, IsTrue, true};
 ghost use Rattle.ffs_volume.specs.Blocks.Inodes.{is_allocated};
 ghost use Rattle.ffs_volume.specs.Directories.Roles.{Volume, is_dir, is_suspect};
 ghost use Rattle.ffs_volume.specs.declared.Role.{Role};
@@ -11,7 +11,7 @@ ghost use Rattle.ffs_volume.specs.Encodings.Kinds.{class_of_kind};
 ghost use Rattle.ffs_pathnames.specs.Gathers.{asks_attr, asks_path};
 ghost use Rattle.ffs_pathnames.specs.Marks as marks;
 ghost use Rattle.ffs_pathnames.specs.Sees.{Sees};
-ghost use Rattle.ffs_pathnames.specs.Verdicts.{verdict_reported, faults_reported};
+ghost use Rattle.ffs_pathnames.specs.Verdicts.{verdict_reported};
 
 use crate::inodes::Inodes;
 use crate::look::is_bad_whiteout;

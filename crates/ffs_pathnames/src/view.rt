@@ -1,5 +1,5 @@
 // The inodes as a workspace shows them.
-ghost use Rattle.std.specs.Prelude.{◌≡◌, ◌*◌, length};
+ghost use Rattle.std.specs.Prelude.{◌≡◌, length};
 ghost use Rattle.ffs_workspace.specs.Lengths.{IsFor, inodes_of};
 
 use crate::inodes::Inodes;

@@ -1,6 +1,7 @@
 -- What a climb to the root reads, and the path that it gives.
-use Rattle.std.specs.Prelude.{◌≡◌, ◌*◌, ℕ, nat_lt, if◌then◌else◌, List, [], ◌∷◌, length, Option, Some, None, option_and_then, vec_len, slice_index}
+use Rattle.std.specs.Prelude.{◌≡◌, ◌*◌, ◌<◌, ◌≤◌, ℕ, nat_lt, true, if◌then◌else◌, List, [], ◌∷◌, length, Option, Some, None, option_and_then, vec_len, slice_index}
 use Rattle.std.specs.Option.{unwrap_or}
+use Rattle.ffs_image.specs.Device.{Device}
 use Rattle.ffs_volume.specs.declared.Layout.{Layout}
 use Rattle.ffs_volume.specs.Directories.Graph.{Graph, names, first_index, parent}
 use Rattle.ffs_volume.specs.Directories.Parents.{graph_of, roled_at}
@@ -10,24 +11,35 @@ use Rattle.ffs_volume.specs.Directories.Roles.{RoledEntry}
 use Rattle.ffs_volume.specs.Directories.Volumes.{volume_of}
 use Rattle.ffs_walk.specs.Windows.{BlocksHold, WindowHolds}
 use Rattle.ffs_workspace.specs.declared.workspace.Windows.{Windows}
+use Rattle.ffs_workspace.specs.declared.workspace.Workspace.{Workspace}
+use Rattle.ffs_workspace.specs.Holds.{bool_at}
 
 -- the name of the first plain entry that names an inode, empty if there is none
 abbrev pub name_in : ℕ → List RoledEntry → List ℕ
 name_in d es = name_of (option_and_then (roled_at es) (first_index (names d) es))
 
--- the windows are a block's, and hold what the image gives
-pub record AreOpen (v : Layout) (contents : Option (List ℕ)) (w : Windows) : Type 0 where
+-- the windows are a block's, and hold what the image gives, which has all of the volume
+pub record AreOpen (v : Layout) (d : Device) (w : Windows) : Type 0 where
+  pub volume : v.size * v.fsize ≤ d.size
   pub table : vec_len w.table.window.buffer ≡ v.bsize
   pub blocks : vec_len w.blocks.buffer ≡ 3 * v.bsize
   pub chunk : vec_len w.chunk.buffer ≡ v.bsize
-  pub table_holds : WindowHolds contents w.table.window
-  pub blocks_hold : BlocksHold v contents w.blocks
-  pub chunk_holds : WindowHolds contents w.chunk
+  pub table_holds : WindowHolds d.contents w.table.window
+  pub blocks_hold : BlocksHold v d.contents w.blocks
+  pub chunk_holds : WindowHolds d.contents w.chunk
 
 -- these are the cuts of the inodes, and the parents of the directories, or 0
 pub record LeadUp (v : Layout) (b cut parents : List ℕ) : Type 0 where
   pub cuts : (x : ℕ) → slice_index cut x ≡ cut_at v b x
   pub above : (x : ℕ) → slice_index parents x ≡ unwrap_or (parent (graph_of (volume_of v b)) x) 0
+
+-- the survey found this parent of a directory that is reached and isn't the root
+pub record IsParentOf (w : Workspace) (dir parent : ℕ) : Type 0 where
+  pub below : 2 < dir
+  pub reached : bool_at w.reached.items dir ≡ true
+  pub is : parent ≡ slice_index w.parents.items dir
+  pub some : 0 < parent
+  pub inside : parent < vec_len w.parents
 
 -- a path of more than 1,024 bytes has no room, and `?` takes its place. No other than that of an entry of a directory that is
 -- not reached is so long, where the name has more than 1,022 bytes

@@ -1,6 +1,6 @@
 pub mod Buffers
 pub mod Climbing
 pub mod DirectoryPaths
-pub mod SameLists
+pub mod Reads
 pub mod Siblings
 pub mod Slashes

@@ -44,19 +44,6 @@ fn put_front(bytes: &mut [u8; 1024], end: usize, name: &[u8]) -> usize
     start
 }
 
-/// Puts a part before what is from `end` on. The answer is where it begins.
-fn put_before(bytes: &mut [u8; 1024], end: usize, part: &[u8]) -> usize
-    requires room { length part.now ≤ end }
-    requires end { end ≤ 1024 }
-    ensures start { result + length part.now ≡ end }
-    ensures len { length bytes.new ≡ 1024 }
-    ensures bytes { drop result bytes.new ≡ part.now ++ drop end bytes.old }
-{
-    let start = end - part.len();
-    bytes[start..end].copy_from_slice(part);
-    start
-}
-
 /// Where the first `/` from a place on is, or the end.
 fn slash_from(bytes: &[u8; 1024], place: usize) -> usize
     requires { place ≤ 1024 }
@@ -70,21 +57,6 @@ fn slash_from(bytes: &[u8; 1024], place: usize) -> usize
         }
     }
     1024
-}
-
-/// Where the longest end of at most 1,023 bytes begins of names that begin at `start`.
-fn short_from(bytes: &[u8; 1024], start: usize) -> usize
-    requires { start ≤ 1024 }
-    ensures all { 0 < start → result ≡ start }
-    ensures second { start ≡ 0 → drop result bytes.now ≡ from_slash (drop 1 bytes.now) }
-    ensures after { start ≤ result }
-    ensures some { 0 < result }
-    ensures end { result ≤ 1024 }
-{
-    if start > 0 {
-        return start;
-    }
-    slash_from(bytes, 1)
 }
 
 /// Writes what is from `start` on, `/` and a name.
@@ -184,8 +156,13 @@ impl PathBuffer {
     {
         let mut bytes = [0u8; 1024];
         let end = put_front(&mut bytes, 1024, name);
-        let start = put_before(&mut bytes, end, &self.bytes[from..]);
-        let short = short_from(&bytes, start);
+        let start = end - (1024 - from);
+        bytes[start..end].copy_from_slice(&self.bytes[from..]);
+        let short = if start > 0 {
+            start
+        } else {
+            slash_from(&bytes, 1)
+        };
         PathBuffer {
             bytes,
             start,

@@ -1,7 +1,8 @@
 //! The way from a directory up to the root.
 
-ghost use Rattle.std.specs.Prelude.{◌≡◌, ◌*◌, ◌<◌, ◌≤◌, ℕ, List, ◌∷◌, ◌++◌, true, length, Some, OnOk, IfErr};
-ghost use Rattle.ffs_image.specs.Device.{Faulted, ForContents};
+ghost use Rattle.std.specs.Prelude.{◌≡◌, ◌*◌, ◌<◌, ℕ, List, ◌∷◌, ◌++◌, true, length, Some, OnOk};
+ghost use Rattle.ffs_image.specs.Device.{ForContents};
+ghost use Rattle.ffs_image.specs.Reads.{ReadAfter};
 ghost use Rattle.ffs_volume.specs.Directories.Graph.{level};
 ghost use Rattle.ffs_volume.specs.Directories.Parents.{graph_of};
 ghost use Rattle.ffs_volume.specs.Directories.Paths.{names_down};
@@ -29,22 +30,18 @@ fn push_name<I: Image>(
     path: &mut PathBuffer,
 ) -> Result<(), ImageFault>
     requires number { parent < geometry.now.layout.ncg * geometry.now.layout.ipg }
-    requires volume { geometry.now.layout.size * geometry.now.layout.fsize
-        ≤ (I.device image.old).size }
-    requires windows { AreOpen geometry.now.layout (I.device image.old).contents windows.old }
+    requires windows { AreOpen geometry.now.layout (I.device image.old) windows.old }
     ensures path { OnOk result (ForContents (I.device image.old).contents
         (λ b. is_dir (volume_of geometry.now.layout b) parent ≡ true → cut
         ≡ cut_at geometry.now.layout b parent
         → (names : List (List ℕ)) → HoldsNames path.old names
         → HoldsNames path.new (name_in dir (roled_entries (volume_of geometry.now.layout b) parent)
         ∷ names))) }
-    ensures windows { AreOpen geometry.now.layout (I.device image.new).contents windows.new }
-    ensures ok { OnOk result (I.device image.new ≡ I.device image.old) }
-    ensures err { IfErr result (λ fault. Faulted (I.device image.old) (I.device image.new)
-        fault.sector) }
+    ensures windows { AreOpen geometry.now.layout (I.device image.new) windows.new }
+    ensures read { ReadAfter (I.device image.old) (I.device image.new) result }
 {
     let mut search = Search::open(geometry, image, windows, parent, cut)?;
-    let found = search.find(image, &mut windows.blocks, &mut windows.chunk, dir)?;
+    let found = search.find(image, windows, dir)?;
     path.push_front(search.found_name(found));
     Ok(())
 }
@@ -62,19 +59,15 @@ pub fn climb<I: Image>(
     requires number { dir < geometry.now.layout.ncg * geometry.now.layout.ipg }
     requires cut { length cut.now ≡ geometry.now.layout.ncg * geometry.now.layout.ipg }
     requires parents { length parents.now ≡ geometry.now.layout.ncg * geometry.now.layout.ipg }
-    requires volume { geometry.now.layout.size * geometry.now.layout.fsize
-        ≤ (I.device image.old).size }
-    requires windows { AreOpen geometry.now.layout (I.device image.old).contents windows.old }
+    requires windows { AreOpen geometry.now.layout (I.device image.old) windows.old }
     ensures path { OnOk result (ForContents (I.device image.old).contents
         (λ b. LeadUp geometry.now.layout b cut.now parents.now → (k : ℕ)
         → level (graph_of (volume_of geometry.now.layout b)) dir ≡ Some k
         → (names : List (List ℕ)) → HoldsNames path.old names
         → HoldsNames path.new (names_down (graph_of (volume_of geometry.now.layout b)) k dir
         ++ names))) }
-    ensures windows { AreOpen geometry.now.layout (I.device image.new).contents windows.new }
-    ensures ok { OnOk result (I.device image.new ≡ I.device image.old) }
-    ensures err { IfErr result (λ fault. Faulted (I.device image.old) (I.device image.new)
-        fault.sector) }
+    ensures windows { AreOpen geometry.now.layout (I.device image.new) windows.new }
+    ensures read { ReadAfter (I.device image.old) (I.device image.new) result }
 {
     let mut at = dir;
     'up: for step in 0..cut.len() {

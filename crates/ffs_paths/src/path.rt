@@ -1,14 +1,10 @@
 //! The path of a directory, or of an entry of it.
 
-ghost use Rattle.std.specs.Prelude.{◌≡◌, ◌*◌, ◌<◌, ◌≤◌, ℕ, List, Some, Option, option_map, IfOk, OnOk, IfErr};
-ghost use Rattle.ffs_image.specs.Device.{Faulted};
-ghost use Rattle.ffs_volume.specs.Directories.Parents.{graph_of};
-ghost use Rattle.ffs_volume.specs.Directories.Volumes.{volume_of};
-ghost use Rattle.ffs_workspace.specs.Holds.{HoldsClaims, HoldsSurvey};
-ghost use Rattle.ffs_workspace.specs.Lengths.{IsFor, HoldWindows};
-ghost use Rattle.ffs_paths.specs.SameLists.{SameLists};
+ghost use Rattle.std.specs.Prelude.{◌≡◌, ◌*◌, ◌<◌, option_map, IfOk, OnOk};
+ghost use Rattle.ffs_workspace.specs.Ready.{IsReady};
 ghost use Rattle.ffs_paths.specs.Climbing.{path_in};
 ghost use Rattle.ffs_paths.specs.DirectoryPaths.{IsPathOf};
+ghost use Rattle.ffs_paths.specs.Reads.{ForTree, OnlyReads};
 
 use crate::buffer::{PathBuffer, PathText};
 use crate::climb::climb;
@@ -27,21 +23,12 @@ pub fn directory_path<I: Image>(
     workspace: &mut Workspace,
     dir: u32,
 ) -> Result<DirectoryPath, ImageFault>
-    requires made { IsFor geometry.now.layout workspace.old }
-    requires volume { geometry.now.layout.size * geometry.now.layout.fsize
-        ≤ (I.device image.old).size }
-    requires windows { HoldWindows geometry.now.layout (I.device image.old).contents workspace.old }
+    requires ready { IsReady geometry.now.layout (I.device image.old) workspace.old }
     requires number { dir < geometry.now.layout.ncg * geometry.now.layout.ipg }
-    ensures path { IfOk result (λ path. (b : List ℕ) → (I.device image.old).contents ≡ Some b
-        → HoldsClaims geometry.now.layout b workspace.old
-        → HoldsSurvey geometry.now.layout b workspace.old
-        → IsPathOf (graph_of (volume_of geometry.now.layout b)) dir path) }
-    ensures lists { SameLists workspace.old workspace.new }
-    ensures made { IsFor geometry.now.layout workspace.new }
-    ensures windows { HoldWindows geometry.now.layout (I.device image.new).contents workspace.new }
-    ensures ok { OnOk result (I.device image.new ≡ I.device image.old) }
-    ensures err { IfErr result (λ fault. Faulted (I.device image.old) (I.device image.new)
-        fault.sector) }
+    ensures path { IfOk result (λ path.
+        ForTree geometry.now.layout (I.device image.old) workspace.old (λ g. IsPathOf g dir path)) }
+    ensures reads { OnlyReads geometry.now.layout (I.device image.old) (I.device image.new)
+        workspace.old workspace.new result }
 {
     let mut names = PathBuffer::new();
     let reached = workspace.reached[dir as usize];
@@ -72,22 +59,12 @@ pub fn path_of<I: Image>(
     name: Option<&[u8]>,
     text: &mut PathText,
 ) -> Result<(), ImageFault>
-    requires made { IsFor geometry.now.layout workspace.old }
-    requires volume { geometry.now.layout.size * geometry.now.layout.fsize
-        ≤ (I.device image.old).size }
-    requires windows { HoldWindows geometry.now.layout (I.device image.old).contents workspace.old }
+    requires ready { IsReady geometry.now.layout (I.device image.old) workspace.old }
     requires number { dir < geometry.now.layout.ncg * geometry.now.layout.ipg }
-    ensures path { OnOk result ((b : List ℕ) → (I.device image.old).contents ≡ Some b
-        → HoldsClaims geometry.now.layout b workspace.old
-        → HoldsSurvey geometry.now.layout b workspace.old
-        → text.new.items ≡ path_in (graph_of (volume_of geometry.now.layout b)) dir
-        (option_map (λ n. n.now) name.entry)) }
-    ensures lists { SameLists workspace.old workspace.new }
-    ensures made { IsFor geometry.now.layout workspace.new }
-    ensures windows { HoldWindows geometry.now.layout (I.device image.new).contents workspace.new }
-    ensures ok { OnOk result (I.device image.new ≡ I.device image.old) }
-    ensures err { IfErr result (λ fault. Faulted (I.device image.old) (I.device image.new)
-        fault.sector) }
+    ensures path { OnOk result (ForTree geometry.now.layout (I.device image.old) workspace.old
+        (λ g. text.new.items ≡ path_in g dir (option_map (λ n. n.now) name.entry))) }
+    ensures reads { OnlyReads geometry.now.layout (I.device image.old) (I.device image.new)
+        workspace.old workspace.new result }
 {
     let path = directory_path(geometry, image, workspace, dir)?;
     text.clear();

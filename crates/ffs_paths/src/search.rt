@@ -1,12 +1,12 @@
 //! A search for the entries of a directory that name inodes.
 
-ghost use Rattle.std.specs.Prelude.{◌≡◌, ◌*◌, ◌<◌, ◌≤◌, ℕ, List, [], true, false, if◌then◌else◌, length, vec_len, IfOk, OnOk, IfErr};
-ghost use Rattle.ffs_image.specs.Device.{Faulted, ForContents};
+ghost use Rattle.std.specs.Prelude.{◌≡◌, ◌*◌, ◌<◌, ◌≤◌, ℕ, List, [], true, false, if◌then◌else◌, length, IfOk, OnOk};
+ghost use Rattle.ffs_image.specs.Device.{ForContents};
+ghost use Rattle.ffs_image.specs.Reads.{ReadAfter};
 ghost use Rattle.ffs_volume.specs.Directories.Graph.{names as is_named};
 ghost use Rattle.ffs_volume.specs.Encodings.Replay.{cut_at};
 ghost use Rattle.ffs_volume.specs.Directories.Roles.{is_dir, roled_entries};
 ghost use Rattle.ffs_volume.specs.Directories.Volumes.{volume_of};
-ghost use Rattle.ffs_walk.specs.Windows.{BlocksHold, HasRoom, WindowHolds};
 ghost use Rattle.ffs_survey.specs.Reading.{roled_of};
 ghost use Rattle.ffs_names.specs.Entering.{to_come, last_name};
 ghost use Rattle.ffs_paths.specs.Climbing.{name_in, AreOpen};
@@ -15,7 +15,6 @@ use ffs_image::{Image, ImageFault};
 use ffs_layout::Geometry;
 use ffs_names::Entries;
 use ffs_survey::named::{Named, is_plain};
-use ffs_walk::{Blocks, Window};
 use ffs_workspace::Windows;
 
 /// Whether an entry names an inode in the directory tree.
@@ -64,9 +63,7 @@ impl Search {
         cut: u32,
     ) -> Result<Search, ImageFault>
         requires number { dir < geometry.now.layout.ncg * geometry.now.layout.ipg }
-        requires volume { geometry.now.layout.size * geometry.now.layout.fsize
-            ≤ (I.device image.old).size }
-        requires windows { AreOpen geometry.now.layout (I.device image.old).contents windows.old }
+        requires windows { AreOpen geometry.now.layout (I.device image.old) windows.old }
         ensures entries { IfOk result (λ search. ForContents (I.device image.old).contents
             (λ b. is_dir (volume_of geometry.now.layout b) dir ≡ true → cut
             ≡ cut_at geometry.now.layout b dir
@@ -74,10 +71,8 @@ impl Search {
         ensures highest { IfOk result (λ search. search.highest ≡ 0) }
         ensures geometry { IfOk result (λ search. search.entries.chunks.walk.geometry
             ≡ geometry.now) }
-        ensures windows { AreOpen geometry.now.layout (I.device image.new).contents windows.new }
-        ensures ok { OnOk result (I.device image.new ≡ I.device image.old) }
-        ensures err { IfErr result (λ fault. Faulted (I.device image.old) (I.device image.new)
-            fault.sector) }
+        ensures windows { AreOpen geometry.now.layout (I.device image.new) windows.new }
+        ensures read { ReadAfter (I.device image.old) (I.device image.new) result }
     {
         let inode = windows.table.inode(geometry, dir, image)?;
         Ok(Search {
@@ -90,18 +85,11 @@ impl Search {
     pub fn find<I: Image>(
         &mut self,
         image: &mut I,
-        blocks: &mut Blocks,
-        window: &mut Window,
+        windows: &mut Windows,
         number: u32,
     ) -> Result<bool, ImageFault>
-        requires volume { self.old.entries.chunks.walk.geometry.layout.size *
-            self.old.entries.chunks.walk.geometry.layout.fsize ≤ (I.device image.old).size }
-        requires room { HasRoom self.old.entries.chunks.walk.geometry.layout blocks.old }
-        requires holds { BlocksHold self.old.entries.chunks.walk.geometry.layout
-            (I.device image.old).contents blocks.old }
-        requires data_room { self.old.entries.chunks.walk.geometry.layout.bsize
-            ≤ vec_len window.old.buffer }
-        requires data_holds { WindowHolds (I.device image.old).contents window.old }
+        requires windows { AreOpen self.old.entries.chunks.walk.geometry.layout
+            (I.device image.old) windows.old }
         ensures name { IfOk result (λ found. ForContents (I.device image.old).contents
             (λ b. name_in number (to_come b self.old.entries)
             ≡ (if found then last_name self.new.entries else []))) }
@@ -114,16 +102,14 @@ impl Search {
         ensures grows { self.old.highest ≤ self.new.highest }
         ensures geometry { self.new.entries.chunks.walk.geometry
             ≡ self.old.entries.chunks.walk.geometry }
-        ensures size { vec_len blocks.new.buffer ≡ vec_len blocks.old.buffer }
-        ensures holds { BlocksHold self.old.entries.chunks.walk.geometry.layout
-            (I.device image.new).contents blocks.new }
-        ensures data_size { vec_len window.new.buffer ≡ vec_len window.old.buffer }
-        ensures data_holds { WindowHolds (I.device image.new).contents window.new }
-        ensures ok { OnOk result (I.device image.new ≡ I.device image.old) }
-        ensures err { IfErr result (λ fault. Faulted (I.device image.old) (I.device image.new)
-            fault.sector) }
+        ensures windows { AreOpen self.old.entries.chunks.walk.geometry.layout
+            (I.device image.new) windows.new }
+        ensures read { ReadAfter (I.device image.old) (I.device image.new) result }
     {
-        'entries: while let Some(entry) = self.entries.next(image, blocks, window)? {
+        'entries: while let Some(entry) = self
+            .entries
+            .next(image, &mut windows.blocks, &mut windows.chunk)?
+        {
             self.highest = highest_with(self.highest, entry);
             if names(entry, number) {
                 return Ok(true);

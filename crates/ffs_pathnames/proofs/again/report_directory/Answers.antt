@@ -2,24 +2,22 @@ use Rattle.std.proofs.Common.{◌≡◌, ◌<◌, refl, sym, ap, subst, ◌∙�
 use Rattle.std.specs.List.{flat_map}
 use Rattle.std.proofs.lemmas.List.{get_or_read_under}
 use Rattle.std.proofs.lemmas.Result.{err_from_is_err_and}
+use Rattle.ffs_image.specs.Device.{Faulted}
 use Rattle.ffs_volume.specs.Directories.Entries.{Chunk, chunk_of}
 use Rattle.ffs_volume.specs.Blocks.Inodes.{inode_of}
 use Rattle.ffs_volume.specs.Messages.Kinds.{of_names}
 use Rattle.ffs_volume.specs.Directories.Roles.{roled_chunk, roled_entries}
 use Rattle.ffs_volume.specs.Directories.Volumes.{volume_of}
-use Rattle.ffs_walk.specs.Windows.{WindowHolds}
 use Rattle.ffs_names.specs.Readings.{rest}
+use Rattle.ffs_phase.specs.Runs.{ImageAfter}
 use Rattle.ffs_phase.proofs.Reporting.{of_begins, of_reads, of_same, of_part, of_fault, said_knows, reports_knowing}
-use Rattle.ffs_workspace.specs.declared.workspace.Workspace.{Workspace}
-use Rattle.ffs_workspace.specs.Lengths.{HoldWindows}
 use Rattle.ffs_workspace.specs.Leaves.{LeavesSurvey}
 use Rattle.ffs_workspace.proofs.Leaving.{claims_left, leaves_more, windows_leave}
-use Rattle.ffs_paths.specs.Siblings.{KeepSiblings}
-use Rattle.ffs_paths.proofs.Keeping.{siblings_on}
 use Rattle.ffs_pathnames.specs.Gathers.{marks_of}
 use Rattle.ffs_pathnames.specs.DirectoryContext.{DirectoryContext}
 use Rattle.ffs_pathnames.specs.Marks.{after_entries, entries_reported}
 use Rattle.ffs_pathnames.proofs.Passing.{chunk_reported, chunk_passed, knows_on, all_read, marks_on}
+use Rattle.ffs_pathnames.proofs.ReadyLaws.{with_chunk, ready_next, ready_read}
 use Rattle.ffs_pathnames.proofs.again.report_directory.Goals as goal
 
 pub returns-in_err-path-clause-text : goal.returns-in_err-path-clause-text
@@ -30,23 +28,21 @@ returns-in_err-path-clause-text g c =
 pub chunks-init : goal.chunks-init
 chunks-init g c =
     let v = c.args.geometry.now.layout in
-    let ok = c.in_ok-path.ensures in
+    let ok = c.in_ok-path.ensures.leaves in
     let here = c.own_path.new.workspace in
     let m = marks_of c.args.workspace.now in
     let same = marks_on c.args.workspace.now here ok.lists in
     let all = λ (b : List ℕ). map of_names (entries_reported (volume_of v b) c.args.dir m (roled_entries (volume_of v b) c.args.dir)) in
     let seen = λ (b : List ℕ) (k : DirectoryContext v (g.I.Image.device c.args.image.now).contents c.args.workspace.now c.args.dir b × (c.args.inode.now ≡ inode_of v b c.args.dir)).
     all_read v b c.args.dir c.args.inode.now c.index-cut.result.now (rest b c.start-chunks.result) c.args.geometry.now.sound k.0.dir k.1
-    (get_or_read_under here.cut.items c.args.dir _ c.index-cut.result.now 0 c.index-cut.ensures (subst (λ n. c.args.dir < n) (sym ok.made.cut) c.requires.dir)
+    (get_or_read_under here.cut.items c.args.dir _ c.index-cut.result.now 0 c.index-cut.ensures (subst (λ n. c.args.dir < n) (sym ok.ready.ready.made.cut) c.requires.dir)
     here.cut.ok.0 ∙ (claims_left v b c.args.workspace.now here ok.lists.survey k.0.claims).cut c.args.dir)
     (c.start-chunks.ensures.chunks b) in
     record {
-      made = ok.made;
-      device = ok.ok;
+      ready = ok.ready;
+      device = ok.read;
       geometry = c.start-chunks.ensures.geometry;
-      windows = subst (λ d. HoldWindows v d.contents here) ok.ok ok.windows;
       survey = ok.lists.survey;
-      siblings = subst (λ d. KeepSiblings v d.contents here c.own_path.new.siblings) ok.ok ok.siblings;
       marks = λ b k. ap (λ q. after_entries (volume_of v b) c.args.dir q (roled_entries (volume_of v b) c.args.dir)) same ∙ ap (after_entries (volume_of v b) c.args.dir (marks_of here)) (sym (seen b k));
       said = of_same _ all (λ (b : List ℕ). map of_names (entries_reported (volume_of v b) c.args.dir (marks_of here) (flat_map roled_chunk (rest b c.start-chunks.result)))) all _ _ (of_begins _ all _)
           (λ b k. ap (λ q. map of_names (entries_reported (volume_of v b) c.args.dir q (roled_entries (volume_of v b) c.args.dir))) same
@@ -58,37 +54,32 @@ returns-in_err-offset-clause-text g c =
     let p = err_from_is_err_and c.from_residual-in_err-offset.result c.from_residual-in_err-offset.ensures.1 in
     rw (p.1, p.2) (of_reads _ _ _ _ _ c.chunks.invariant.said)
 
-pub returns-in_err-offset-clause-windows : goal.returns-in_err-offset-clause-windows
-returns-in_err-offset-clause-windows g c =
+pub returns-in_err-offset-clause-leaves : goal.returns-in_err-offset-clause-leaves
+returns-in_err-offset-clause-leaves g c =
     let inv = c.chunks.invariant in
-    let contents = c.in_err-offset.ensures.err.contents ∙ ap (λ d. d.contents) inv.device in
-    record {
-      table = subst (λ t. WindowHolds t c.chunks.workspace.windows.table.window) (sym contents) inv.windows.table;
-      blocks = rw inv.geometry at c.in_err-offset.ensures.holds;
-      chunk = c.in_err-offset.ensures.data_holds;
-    }
+    let read = c.in_err-offset.ensures in
+    let p = err_from_is_err_and c.from_residual-in_err-offset.result c.from_residual-in_err-offset.ensures.1 in
+    rw (p.1, p.2) (record {
+      image = subst (λ d. Faulted d (g.I.Image.device c.next.new.image) c.in_err-offset.field-0.0.sector) inv.device read.err;
+      survey = leaves_more _ _ _ inv.survey (windows_leave c.chunks.workspace (with_chunk c.chunks.workspace c.next.new.blocks c.next.new.data) refl);
+      ready = ready_read _ _ _ c.chunks.workspace _ _ inv.ready.ready read.err.contents read.err.size read.size (rw inv.geometry at read.holds) read.data_size read.data_holds;
+    })
 
-pub report_chunk-requires-clause-windows : goal.report_chunk-requires-clause-windows
-report_chunk-requires-clause-windows g c =
+pub report_chunk-requires-clause-ready : goal.report_chunk-requires-clause-ready
+report_chunk-requires-clause-ready g c =
+    let inv = c.chunks.invariant in
+    let read = c.in_ok-offset.ensures in
+    ready_next _ _ _ c.chunks.workspace _ _ _ inv.ready read.ok read.size (rw inv.geometry at read.holds) read.data_size read.data_holds
+
+pub returns-clause-leaves : goal.returns-clause-leaves
+returns-clause-leaves g c =
     let inv = c.chunks.invariant in
     let read = c.in_ok-offset.ensures in
     record {
-      table = subst (λ d. WindowHolds d.contents c.chunks.workspace.windows.table.window) (sym (read.ok ∙ inv.device)) inv.windows.table;
-      blocks = rw inv.geometry at read.holds;
-      chunk = read.data_holds;
+      image = read.ok ∙ inv.device;
+      survey = leaves_more _ _ _ inv.survey (windows_leave c.chunks.workspace (with_chunk c.chunks.workspace c.next.new.blocks c.next.new.data) refl);
+      ready = ready_next _ _ _ c.chunks.workspace _ _ _ inv.ready read.ok read.size (rw inv.geometry at read.holds) read.data_size read.data_holds;
     }
-
-pub report_chunk-requires-clause-siblings : goal.report_chunk-requires-clause-siblings
-report_chunk-requires-clause-siblings g c =
-    let inv = c.chunks.invariant in
-    let between : Workspace = record c.chunks.workspace { windows = record c.chunks.workspace.windows { blocks = c.next.new.blocks; chunk = c.next.new.data } } in
-    siblings_on _ _ _ _ between _ (ap (λ d. d.contents) (c.in_ok-offset.ensures.ok ∙ inv.device)) (windows_leave c.chunks.workspace between refl) inv.siblings
-
-pub returns-clause-siblings : goal.returns-clause-siblings
-returns-clause-siblings g c =
-    let inv = c.chunks.invariant in
-    let between : Workspace = record c.chunks.workspace { windows = record c.chunks.workspace.windows { blocks = c.next.new.blocks; chunk = c.next.new.data } } in
-    siblings_on _ _ _ _ between _ (ap (λ d. d.contents) (c.in_ok-offset.ensures.ok ∙ inv.device)) (windows_leave c.chunks.workspace between refl) inv.siblings
 
 pub chunks-preserved : goal.chunks-preserved
 chunks-preserved g c =
@@ -98,8 +89,8 @@ chunks-preserved g c =
     let ok = c.in_ok-report_chunk.ensures in
     let m = marks_of c.chunks.workspace in
     let m' = marks_of c.report_chunk.new.workspace in
-    let same = ok.image ∙ (read.ok ∙ inv.device) in
-    let between : Workspace = record c.chunks.workspace { windows = record c.chunks.workspace.windows { blocks = c.next.new.blocks; chunk = c.next.new.data } } in
+    let same = ok.leaves.image ∙ (read.ok ∙ inv.device) in
+    let between = with_chunk c.chunks.workspace c.next.new.blocks c.next.new.data in
     let kept : LeavesSurvey c.args.workspace.now between = leaves_more _ _ _ inv.survey (windows_leave c.chunks.workspace between refl) in
     let know = λ (b : List ℕ) (k : DirectoryContext v (g.I.Image.device c.args.image.now).contents c.args.workspace.now c.args.dir b × (c.args.inode.now ≡ inode_of v b c.args.dir)).
     knows_on v (g.I.Image.device c.args.image.now).contents (g.I.Image.device c.next.new.image).contents c.args.workspace.now between c.args.dir b (ap (λ d. d.contents) (read.ok ∙ inv.device)) kept k.0 in
@@ -108,12 +99,10 @@ chunks-preserved g c =
     let next = λ (b : List ℕ) (k : DirectoryContext v (g.I.Image.device c.args.image.now).contents c.args.workspace.now c.args.dir b × (c.args.inode.now ≡ inode_of v b c.args.dir)).
     came b (ap (λ d. d.contents) inv.device ∙ k.0.reported_is) ∙ ap (λ q. chunk_of q.layout.order c.in-Some.offset c.next.new.chunk ∷ rest b c.next.new.self) inv.geometry in
     record {
-      made = ok.made;
+      ready = ok.leaves.ready;
       device = same;
       geometry = read.geometry ∙ inv.geometry;
-      windows = subst (λ d. HoldWindows v d.contents c.report_chunk.new.workspace) same ok.windows;
-      survey = leaves_more _ _ _ kept ok.survey;
-      siblings = subst (λ d. KeepSiblings v d.contents c.report_chunk.new.workspace c.report_chunk.new.siblings) same ok.siblings;
+      survey = leaves_more _ _ _ kept ok.leaves.survey;
       marks = λ b k. chunk_passed (volume_of v b) c.args.dir _ m m' here (rest b c.chunks.chunks) (rest b c.next.new.self) (next b k) (ok.marks b (know b k)) (inv.marks b k);
       said = of_part _ (λ (b : List ℕ). map of_names (entries_reported (volume_of v b) c.args.dir m (flat_map roled_chunk (rest b c.chunks.chunks))))
           (λ (b : List ℕ). map of_names (entries_reported (volume_of v b) c.args.dir m (roled_chunk here)))
@@ -128,7 +117,7 @@ returns-in_err-report_chunk-clause-text g c =
     let inv = c.chunks.invariant in
     let read = c.in_ok-offset.ensures in
     let m = marks_of c.chunks.workspace in
-    let between : Workspace = record c.chunks.workspace { windows = record c.chunks.workspace.windows { blocks = c.next.new.blocks; chunk = c.next.new.data } } in
+    let between = with_chunk c.chunks.workspace c.next.new.blocks c.next.new.data in
     let kept : LeavesSurvey c.args.workspace.now between = leaves_more _ _ _ inv.survey (windows_leave c.chunks.workspace between refl) in
     let know = λ (b : List ℕ) (k : DirectoryContext v (g.I.Image.device c.args.image.now).contents c.args.workspace.now c.args.dir b × (c.args.inode.now ≡ inode_of v b c.args.dir)).
     knows_on v (g.I.Image.device c.args.image.now).contents (g.I.Image.device c.next.new.image).contents c.args.workspace.now between c.args.dir b (ap (λ d. d.contents) (read.ok ∙ inv.device)) kept k.0 in
@@ -145,6 +134,18 @@ returns-in_err-report_chunk-clause-text g c =
     (reports_knowing (Unit {0}) _ _ _ _ _ (Err c.in_err-report_chunk.field-0.0)
     (λ b k. record { knows = know b k; path = c.in_ok-path.ensures.path b k.0.reported_is k.0.claims k.0.survey }) c.in_err-report_chunk.ensures.text))
 
+pub returns-in_err-report_chunk-clause-leaves : goal.returns-in_err-report_chunk-clause-leaves
+returns-in_err-report_chunk-clause-leaves g c =
+    let inv = c.chunks.invariant in
+    let left = c.in_err-report_chunk.ensures.leaves in
+    let kept = leaves_more _ _ _ inv.survey (windows_leave c.chunks.workspace (with_chunk c.chunks.workspace c.next.new.blocks c.next.new.data) refl) in
+    let p = err_from_is_err_and c.from_residual-in_err-report_chunk.result c.from_residual-in_err-report_chunk.ensures.1 in
+    rw (p.1, p.2) (record {
+      image = subst (λ d. ImageAfter {T = Unit {0}} d (g.I.Image.device c.report_chunk.new.image) (Err c.in_err-report_chunk.field-0.0)) (c.in_ok-offset.ensures.ok ∙ inv.device) left.image;
+      survey = leaves_more _ _ _ kept left.survey;
+      ready = left.ready;
+    })
+
 pub returns-clause-text : goal.returns-clause-text
 returns-clause-text g c =
     let v = c.args.geometry.now.layout in
@@ -160,13 +161,3 @@ returns-clause-marks g c = λ b k.
     let inv = c.chunks.invariant in
     let came = rw c.in_default.is at c.in_ok-offset.ensures.chunks in
     inv.marks b k ∙ ap (λ cs. after_entries (volume_of v b) c.args.dir (marks_of c.chunks.workspace) (flat_map roled_chunk cs)) (came b (ap (λ d. d.contents) inv.device ∙ k.0.reported_is))
-
-pub returns-clause-windows : goal.returns-clause-windows
-returns-clause-windows g c =
-    let inv = c.chunks.invariant in
-    let read = c.in_ok-offset.ensures in
-    record {
-      table = subst (λ d. WindowHolds d.contents c.chunks.workspace.windows.table.window) (sym (read.ok ∙ inv.device)) inv.windows.table;
-      blocks = rw inv.geometry at read.holds;
-      chunk = read.data_holds;
-    }

@@ -7,10 +7,9 @@ use Rattle.ffs_volume.specs.Directories.Volumes.{volume_of}
 use Rattle.ffs_phase.specs.Known.{ForBytes}
 use Rattle.ffs_phase.specs.Runs.{SaidOf}
 use Rattle.ffs_report.specs.Progress.{progress}
-use Rattle.ffs_workspace.specs.Lengths.{IsFor, HoldWindows}
 use Rattle.ffs_names.specs.Readings.{rest}
 use Rattle.ffs_workspace.specs.Leaves.{LeavesSurvey}
-use Rattle.ffs_paths.specs.Siblings.{KeepSiblings}
+use Rattle.ffs_pathnames.specs.Ready.{ReadyWith}
 use Rattle.ffs_pathnames.specs.Gathers.{marks_of}
 use Rattle.ffs_pathnames.specs.DirectoryContext.{DirectoryContext}
 use Rattle.ffs_pathnames.specs.Marks.{after_entries, entries_reported}
@@ -18,12 +17,10 @@ use Rattle.ffs_pathnames.proofs.again.report_directory.Given as goal
 
 abbrev pub invariant-chunks : goal.invariant-chunks
 invariant-chunks g l = let reported_by = g.I.Image.device in let v = l.geometry.layout in record {
-  made : IsFor v l.workspace;
+  ready : ReadyWith v (reported_by l.image) l.workspace l.siblings;
   device : reported_by l.image ≡ reported_by l.fn.image;
   geometry : l.chunks.walk.geometry ≡ l.geometry;
-  windows : HoldWindows v (reported_by l.fn.image).contents l.workspace;
   survey : LeavesSurvey l.fn.workspace l.workspace;
-  siblings : KeepSiblings v (reported_by l.fn.image).contents l.workspace l.siblings;
   marks : ForBytes (λ b. DirectoryContext v (reported_by l.fn.image).contents l.fn.workspace l.dir b × (l.inode ≡ inode_of v b l.dir)) (λ b.
       after_entries (volume_of v b) l.dir (marks_of l.fn.workspace) (roled_entries (volume_of v b) l.dir)
       ≡ after_entries (volume_of v b) l.dir (marks_of l.workspace) (flat_map roled_chunk (rest b l.chunks)));

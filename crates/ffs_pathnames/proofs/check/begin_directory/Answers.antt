@@ -9,10 +9,13 @@ use Rattle.ffs_workspace.proofs.Leaving.{survey_left}
 use Rattle.ffs_paths.proofs.Keeping.{siblings_on}
 use Rattle.ffs_pathnames.proofs.check.begin_directory.Goals as goal
 
-pub report_header-requires-clause-siblings : goal.report_header-requires-clause-siblings
-report_header-requires-clause-siblings g c =
+pub report_header-requires-clause-ready : goal.report_header-requires-clause-ready
+report_header-requires-clause-ready g c =
     let examined = c.in_ok-examined.ensures in
-    siblings_on _ _ _ _ _ _ (ap (λ d. d.contents) examined.ok) examined.lists.survey c.requires.siblings
+    record {
+      ready = examined.ready;
+      siblings = siblings_on _ _ _ _ _ _ (ap (λ d. d.contents) examined.read) examined.lists.survey c.requires.ready.siblings;
+    }
 
 pub returns-in_err-examined-clause-text : goal.returns-in_err-examined-clause-text
 returns-in_err-examined-clause-text g c =
@@ -25,12 +28,12 @@ returns-in_err-report_header-clause-text g c =
     let v = c.args.geometry.now.layout in
     rw (p.1, p.2) (fault_same (Unit {0}) DirectorySummary _ _ _ _ _ _ c.in_err-report_header.field-0.0
     (λ b k. (
-      knows_on v _ _ c.args.workspace.now c.examine.new.workspace c.args.dir b (ap (λ d. d.contents) c.in_ok-examined.ensures.ok) c.in_ok-examined.ensures.lists.survey k,
+      knows_on v _ _ c.args.workspace.now c.examine.new.workspace c.args.dir b (ap (λ d. d.contents) c.in_ok-examined.ensures.read) c.in_ok-examined.ensures.lists.survey k,
       ap (λ i. i.size) (c.in_ok-examined.ensures.found b k.reported_is k.claims k.survey k.dir).inode,
     ))
     (λ b k. ap (map of_names) (starts_are v b c.args.dir c.args.workspace.now c.examine.new.workspace c.in_ok-examined.examined c.examine.new.start _ _ _
     (c.in_ok-examined.ensures.found b k.reported_is k.claims k.survey k.dir)
-    (c.parent_of-parent.ensures b (survey_left v b c.args.workspace.now c.examine.new.workspace c.in_ok-examined.ensures.lists.survey k.survey))
+    (c.parent_of-parent.ensures v b (survey_left v b c.args.workspace.now c.examine.new.workspace c.in_ok-examined.ensures.lists.survey k.survey))
     c.first_two.ensures.first c.first_two.ensures.second))
     c.in_err-report_header.ensures.text)
 
@@ -39,12 +42,12 @@ returns-clause-text g c =
     let v = c.args.geometry.now.layout in
     said_same _ _ _ _ _ _
     (λ b k. (
-      knows_on v _ _ c.args.workspace.now c.examine.new.workspace c.args.dir b (ap (λ d. d.contents) c.in_ok-examined.ensures.ok) c.in_ok-examined.ensures.lists.survey k,
+      knows_on v _ _ c.args.workspace.now c.examine.new.workspace c.args.dir b (ap (λ d. d.contents) c.in_ok-examined.ensures.read) c.in_ok-examined.ensures.lists.survey k,
       ap (λ i. i.size) (c.in_ok-examined.ensures.found b k.reported_is k.claims k.survey k.dir).inode,
     ))
     (λ b k. ap (map of_names) (starts_are v b c.args.dir c.args.workspace.now c.examine.new.workspace c.in_ok-examined.examined c.examine.new.start _ _ _
     (c.in_ok-examined.ensures.found b k.reported_is k.claims k.survey k.dir)
-    (c.parent_of-parent.ensures b (survey_left v b c.args.workspace.now c.examine.new.workspace c.in_ok-examined.ensures.lists.survey k.survey))
+    (c.parent_of-parent.ensures v b (survey_left v b c.args.workspace.now c.examine.new.workspace c.in_ok-examined.ensures.lists.survey k.survey))
     c.first_two.ensures.first c.first_two.ensures.second))
     c.in_ok-report_header.ensures.text
 

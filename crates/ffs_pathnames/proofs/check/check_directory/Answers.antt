@@ -50,7 +50,7 @@ returns-clause-text g c =
     (λ b k. refl)
     (reports_knowing _ _ _ _ _ _ c.report_directory.result
     (λ b k. (
-      knows_on v _ _ c.args.workspace.now c.begin_directory.new.workspace c.args.dir b (ap (λ d. d.contents) c.in_ok-examined.ensures.image) c.in_ok-examined.ensures.survey k.0,
+      knows_on v _ _ c.args.workspace.now c.begin_directory.new.workspace c.args.dir b (ap (λ d. d.contents) c.in_ok-examined.ensures.leaves.image) c.in_ok-examined.ensures.leaves.survey k.0,
       (c.in_ok-examined.ensures.begun b k.0).inode,
     ))
     c.report_directory.ensures.text)
@@ -62,7 +62,7 @@ returns-clause-marks g c =
     (λ p b k. reported_after (volume_of v b) c.args.dir (marks_of c.args.workspace.now) (marks_of c.begin_directory.new.workspace) (marks_of c.report_directory.new.workspace)
     (directory_is (volume_of v b) c.args.dir c.requires.dir k.0.dir) k.1 (c.in_ok-examined.ensures.begun b k.0).marks
     (p b (
-      knows_on v _ _ c.args.workspace.now c.begin_directory.new.workspace c.args.dir b (ap (λ d. d.contents) c.in_ok-examined.ensures.image) c.in_ok-examined.ensures.survey k.0,
+      knows_on v _ _ c.args.workspace.now c.begin_directory.new.workspace c.args.dir b (ap (λ d. d.contents) c.in_ok-examined.ensures.leaves.image) c.in_ok-examined.ensures.leaves.survey k.0,
       (c.in_ok-examined.ensures.begun b k.0).inode,
     )))
     c.report_directory.ensures.marks

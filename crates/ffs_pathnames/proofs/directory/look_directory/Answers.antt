@@ -1,13 +1,16 @@
-use Rattle.std.proofs.Common.{◌≡◌, refl, sym, ap, ◌∙◌, ℕ, List, ◌∷◌, Some}
+use Rattle.std.proofs.Common.{◌≡◌, refl, sym, ap, subst, ◌∙◌, ℕ, List, ◌∷◌, Some}
 use Rattle.std.specs.Prelude.{◌==◌, ◌||◌}
 use Rattle.std.specs.List.{flat_map, find}
 use Rattle.ffs_volume.specs.Directories.Entries.{Chunk, chunk_of}
 use Rattle.ffs_volume.specs.Directories.Roles.{roled_chunk}
 use Rattle.ffs_volume.specs.Directories.PathnameCheck.{are_sound}
 use Rattle.ffs_names.specs.Readings.{rest, gap_left}
+use Rattle.ffs_walk.specs.Windows.{WindowHolds}
+use Rattle.ffs_pathnames.specs.Windows.{CanWalk}
 use Rattle.ffs_pathnames.specs.Marks.{are_quiet, after_looks}
 use Rattle.ffs_pathnames.specs.Reads.{chunks_read, start_of}
 use Rattle.ffs_pathnames.proofs.Directories.{chunk_quiet, chunk_stamps, chunk_sound, all_quiet, all_stamps, all_sound}
+use Rattle.ffs_pathnames.proofs.ReadyLaws.{chunks_on}
 use Rattle.ffs_pathnames.proofs.directory.look_directory.Goals as goal
 
 pub chunks-init : goal.chunks-init
@@ -16,10 +19,7 @@ chunks-init g c = record {
   same = refl;
   geometry = c.start-chunks.ensures.geometry;
   stamps_long = c.requires.stamps;
-  size = refl;
-  holds = c.requires.holds;
-  data_size = refl;
-  data_holds = c.requires.data_holds;
+  ready = c.requires.ready;
   quiet = λ b t v s h. ap (λ cs. are_quiet v c.args.dir c.args.stamps.now (flat_map roled_chunk cs)) (sym (c.start-chunks.ensures.chunks b h));
   stamps = λ b t v s h. ap (λ cs. after_looks v c.args.dir c.args.stamps.now (flat_map roled_chunk cs)) (sym (c.start-chunks.ensures.chunks b h));
   sound = λ b t h. ap are_sound (sym (c.start-chunks.ensures.chunks b h));
@@ -36,14 +36,11 @@ chunks-preserved g c =
     let here : Chunk = chunk_of order c.in-Some.offset c.next.new.chunk in
     let next = λ (b : List ℕ) (t : (g.I.Image.device c.args.image.now).contents ≡ Some b).
     read b (now b t) ∙ ap (λ q. chunk_of q.layout.order c.in-Some.offset c.next.new.chunk ∷ rest b c.next.new.self) inv.geometry in
-    rw (c.both-quiet.ensures, c.both-sound.ensures) (record {
+    record {
       same = c.in_ok-offset.ensures.ok ∙ inv.same;
       geometry = c.in_ok-offset.ensures.geometry ∙ inv.geometry;
       stamps_long = c.look_chunk-looked.auto.stamps ∙ inv.stamps_long;
-      size = c.in_ok-offset.ensures.size ∙ inv.size;
-      holds = rw inv.geometry at c.in_ok-offset.ensures.holds;
-      data_size = c.in_ok-offset.ensures.data_size ∙ inv.data_size;
-      data_holds = c.in_ok-offset.ensures.data_holds;
+      ready = chunks_on _ _ _ _ _ _ _ inv.ready (ap (λ d. d.size) c.in_ok-offset.ensures.ok) c.in_ok-offset.ensures.size (rw inv.geometry at c.in_ok-offset.ensures.holds) c.in_ok-offset.ensures.data_size c.in_ok-offset.ensures.data_holds;
       quiet = λ b t v s h. chunk_quiet v c.args.dir c.chunks.stamps c.look_chunk-looked.new.stamps (rest b c.chunks.chunks) (rest b c.next.new.self) here
           _ c.chunks.quiet c.look_chunk-looked.result.quiet (next b t) (c.look_chunk-looked.ensures.quiet v s) (c.look_chunk-looked.ensures.stamps v s) (inv.quiet b t v s h);
       stamps = λ b t v s h. chunk_stamps v c.args.dir c.chunks.stamps c.look_chunk-looked.new.stamps _ (rest b c.chunks.chunks) (rest b c.next.new.self) here
@@ -53,35 +50,42 @@ chunks-preserved g c =
       gap = λ b t. inv.gap b t ∙ sym (c.in_ok-offset.ensures.gap b (now b t));
       started = λ b t h. inv.started b t h ∙ (ap (λ l. start_of l c.chunks.started order c.chunks.start) (next b t)
           ∙ c.keep_start-started.ensures order (rest b c.next.new.self));
-    })
+    }
 
-pub returns-clause-quiet : goal.returns-clause-quiet
-returns-clause-quiet g c = λ b t v s h.
-    let inv = c.chunks.invariant in
-    let read = rw c.in_default.is at c.in_ok-offset.ensures.chunks in
-    all_quiet v c.args.dir c.chunks.stamps (rest b c.chunks.chunks) _ c.chunks.quiet (read b (ap (λ d. d.contents) inv.same ∙ t)) (inv.quiet b t v s h)
-
-pub returns-clause-stamps : goal.returns-clause-stamps
-returns-clause-stamps g c = λ b t v s h.
-    let inv = c.chunks.invariant in
-    let read = rw c.in_default.is at c.in_ok-offset.ensures.chunks in
-    all_stamps v c.args.dir c.chunks.stamps _ (rest b c.chunks.chunks) (read b (ap (λ d. d.contents) inv.same ∙ t)) (inv.stamps b t v s h)
-
-pub returns-clause-sound : goal.returns-clause-sound
-returns-clause-sound g c = λ b t h.
-    let inv = c.chunks.invariant in
-    let read = rw c.in_default.is at c.in_ok-offset.ensures.chunks in
-    all_sound (rest b c.chunks.chunks) _ c.chunks.sound (read b (ap (λ d. d.contents) inv.same ∙ t)) (inv.sound b t h)
-
-pub returns-clause-started : goal.returns-clause-started
-returns-clause-started g c = λ b t h.
-    let inv = c.chunks.invariant in
-    let read = rw c.in_default.is at c.in_ok-offset.ensures.chunks in
-    inv.started b t h ∙ ap (λ l. start_of l c.chunks.started c.args.geometry.now.layout.order c.chunks.start) (read b (ap (λ d. d.contents) inv.same ∙ t))
-
-pub returns-clause-gap : goal.returns-clause-gap
-returns-clause-gap g c = λ b t.
+pub returns-clause-found : goal.returns-clause-found
+returns-clause-found g c = λ b t.
     let inv = c.chunks.invariant in
     let now = ap (λ d. d.contents) inv.same ∙ t in
     let later = ap (λ d. d.contents) (c.in_ok-offset.ensures.ok ∙ inv.same) ∙ t in
-    c.in_ok-gap.ensures.gap b later ∙ (c.in_ok-offset.ensures.gap b now ∙ sym (inv.gap b t))
+    let none = (rw c.in_default.is at c.in_ok-offset.ensures.chunks) b now in
+    record {
+      quiet = λ v s h. all_quiet v c.args.dir c.chunks.stamps (rest b c.chunks.chunks) _ c.chunks.quiet none (inv.quiet b t v s h);
+      stamps = λ v s h. all_stamps v c.args.dir c.chunks.stamps _ (rest b c.chunks.chunks) none (inv.stamps b t v s h);
+      sound = λ h. all_sound (rest b c.chunks.chunks) _ c.chunks.sound none (inv.sound b t h);
+      gap = c.in_ok-gap.ensures.gap b later ∙ (c.in_ok-offset.ensures.gap b now ∙ sym (inv.gap b t));
+      started = λ h. inv.started b t h ∙ ap (λ l. start_of l c.chunks.started c.args.geometry.now.layout.order c.chunks.start) none;
+    }
+
+pub returns-in_err-offset-clause-ready : goal.returns-in_err-offset-clause-ready
+returns-in_err-offset-clause-ready g c =
+    let inv = c.chunks.invariant in
+    let read = c.in_err-offset.ensures in
+    chunks_on _ _ _ _ _ _ _ inv.ready read.err.size read.size (rw inv.geometry at read.holds) read.data_size read.data_holds
+
+pub gap_of-requires : goal.gap_of-requires
+gap_of-requires g c =
+    let inv = c.chunks.invariant in
+    let read = c.in_ok-offset.ensures in
+    let on = chunks_on _ _ _ _ _ _ _ inv.ready (ap (λ d. d.size) read.ok) read.size (rw inv.geometry at read.holds) read.data_size read.data_holds in
+    record { ready = subst (λ q. CanWalk q.layout (g.I.Image.device c.next.new.image) c.next.new.blocks) (sym (read.geometry ∙ inv.geometry)) on.walk }
+
+pub returns-clause-ready : goal.returns-clause-ready
+returns-clause-ready g c =
+    let inv = c.chunks.invariant in
+    let read = c.in_ok-offset.ensures in
+    let gap = c.in_ok-gap.ensures in
+    record {
+      walk = subst (λ q. CanWalk q.layout (g.I.Image.device c.gap_of.new.image) c.gap_of.new.blocks) (read.geometry ∙ inv.geometry) gap.ready;
+      room = read.data_size ∙ inv.ready.room;
+      holds = subst (λ d. WindowHolds d.contents c.next.new.data) (sym gap.read) read.data_holds;
+    }

@@ -1,4 +1,4 @@
-use Rattle.std.proofs.Common.{◌≡◌, ◌<◌, ◌^◌, ◌&&◌, ◌||◌, length, vec_len}
+use Rattle.std.proofs.Common.{◌≡◌, ◌<◌, ◌^◌, ◌&&◌, ◌||◌, length}
 use Rattle.std.specs.Prelude.{◌==◌}
 use Rattle.std.specs.List.{flat_map, find}
 use Rattle.ffs_image.specs.Device.{ForContents}
@@ -7,7 +7,7 @@ use Rattle.ffs_volume.specs.Directories.PathnameCheck.{are_sound}
 use Rattle.ffs_volume.specs.Directories.Entries.{has_gap}
 use Rattle.ffs_volume.specs.Blocks.Steps.{steps_of}
 use Rattle.ffs_volume.specs.Encodings.Replay.{fresh_replay, replayed_steps}
-use Rattle.ffs_walk.specs.Windows.{BlocksHold, WindowHolds}
+use Rattle.ffs_pathnames.specs.Windows.{CanReadChunks}
 use Rattle.ffs_names.specs.Readings.{rest, gap_left}
 use Rattle.ffs_pathnames.specs.Marks.{are_quiet, after_looks}
 use Rattle.ffs_pathnames.specs.Sees.{Sees}
@@ -19,10 +19,7 @@ invariant-chunks g l = let device = g.I.Image.device in record {
   same : device l.image ≡ device l.initial.image;
   geometry : l.chunks.walk.geometry ≡ l.geometry;
   stamps_long : length l.stamps ≡ length l.inodes.kinds.now;
-  size : vec_len l.blocks.buffer ≡ vec_len l.initial.blocks.buffer;
-  holds : BlocksHold l.geometry.layout (device l.image).contents l.blocks;
-  data_size : vec_len l.data.buffer ≡ vec_len l.initial.data.buffer;
-  data_holds : WindowHolds (device l.image).contents l.data;
+  ready : CanReadChunks l.geometry.layout (device l.image) l.blocks l.data;
   quiet : ForContents (device l.initial.image).contents (λ b. (v : Volume) → Sees v l.inodes → l.inode.size < 2 ^ 31 →
       are_quiet v l.dir l.initial.stamps (flat_map roled_chunk (chunks_read l.geometry.layout l.inode l.cut b))
       ≡ (l.quiet && are_quiet v l.dir l.stamps (flat_map roled_chunk (rest b l.chunks))));

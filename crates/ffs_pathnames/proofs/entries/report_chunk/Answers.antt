@@ -1,4 +1,4 @@
-use Rattle.std.proofs.Common.{◌+◌, refl, ap, subst, ◌∙◌, arith, ℕ, List, [], map, Err}
+use Rattle.std.proofs.Common.{◌+◌, refl, ap, ◌∙◌, arith, ℕ, List, [], map, Err}
 use Rattle.std.proofs.lemmas.Result.{err_from_is_err_and}
 use Rattle.ffs_volume.specs.Directories.Entries.{entries_of}
 use Rattle.ffs_volume.specs.Messages.Kinds.{of_names}
@@ -6,8 +6,6 @@ use Rattle.ffs_volume.specs.Directories.Roles.{RoledEntry, roled_from}
 use Rattle.ffs_volume.specs.Directories.Volumes.{volume_of}
 use Rattle.ffs_layout.specs.Entry.{entry_value}
 use Rattle.ffs_phase.proofs.Reporting.{of_begins, of_same, of_part, of_fault, said_knows, reports_knowing}
-use Rattle.ffs_workspace.specs.Lengths.{HoldWindows}
-use Rattle.ffs_paths.specs.Siblings.{KeepSiblings}
 use Rattle.ffs_pathnames.specs.Gathers.{marks_of}
 use Rattle.ffs_pathnames.specs.DirectoryContext.{DirectoryContext}
 use Rattle.ffs_pathnames.specs.Marks.{after_roled, after_entries, roled_reported, entries_reported}
@@ -22,11 +20,9 @@ entries-init g c =
     record {
       place = omega arith;
       index = omega arith;
-      made = c.requires.made;
+      ready = c.requires.ready;
       device = refl;
-      windows = c.requires.windows;
       survey = leaves_all _;
-      siblings = c.requires.siblings;
       marks = λ b k. refl;
       said = of_begins _ (λ (b : List ℕ). map of_names (entries_reported (volume_of v b) c.args.dir (marks_of c.args.workspace.now) (roled_from c.args.first 0 (entries_of v.order c.args.chunk.now)))) _;
     }
@@ -72,11 +68,9 @@ entries-preserved g c =
     rw c.from-place.ensures (record {
       place = omega arith;
       index = omega arith;
-      made = ok.made;
-      device = ok.image ∙ inv.device;
-      windows = subst (λ d. HoldWindows v d.contents c.report_entry.new.workspace) (ok.image ∙ inv.device) ok.windows;
-      survey = leaves_more _ _ _ inv.survey ok.survey;
-      siblings = subst (λ d. KeepSiblings v d.contents c.report_entry.new.workspace c.report_entry.new.siblings) (ok.image ∙ inv.device) ok.siblings;
+      ready = ok.leaves.ready;
+      device = ok.leaves.image ∙ inv.device;
+      survey = leaves_more _ _ _ inv.survey ok.leaves.survey;
       marks = λ b k. entry_passed (volume_of v b) c.args.dir _ m m' seen here there next (ok.marks b (know b k)) (inv.marks b k);
       said = of_part _ (λ (b : List ℕ). map of_names (entries_reported (volume_of v b) c.args.dir m here))
           (λ (b : List ℕ). map of_names (roled_reported (volume_of v b) c.args.dir m seen))

@@ -6,9 +6,8 @@ use Rattle.ffs_volume.specs.Directories.Volumes.{volume_of}
 use Rattle.ffs_phase.specs.Known.{ForBytes}
 use Rattle.ffs_phase.specs.Runs.{SaidOf}
 use Rattle.ffs_report.specs.Progress.{progress}
-use Rattle.ffs_workspace.specs.Lengths.{IsFor, HoldWindows}
 use Rattle.ffs_workspace.specs.Leaves.{LeavesSurvey}
-use Rattle.ffs_paths.specs.Siblings.{KeepSiblings}
+use Rattle.ffs_pathnames.specs.Ready.{ReadyWith}
 use Rattle.ffs_pathnames.specs.Gathers.{marks_of}
 use Rattle.ffs_pathnames.specs.DirectoryContext.{DirectoryContext, KnowsPath}
 use Rattle.ffs_pathnames.specs.Marks.{after_entries, entries_reported}
@@ -19,11 +18,9 @@ abbrev pub invariant-entries : goal.invariant-entries
 invariant-entries g l = let reported_by = g.I.Image.device in let v = l.geometry.layout in record {
   place : l.place ≤ 512;
   index : l.index ≤ l.place;
-  made : IsFor v l.workspace;
+  ready : ReadyWith v (reported_by l.image) l.workspace l.siblings;
   device : reported_by l.image ≡ reported_by l.fn.image;
-  windows : HoldWindows v (reported_by l.fn.image).contents l.workspace;
   survey : LeavesSurvey l.fn.workspace l.workspace;
-  siblings : KeepSiblings v (reported_by l.fn.image).contents l.workspace l.siblings;
   marks : ForBytes (DirectoryContext v (reported_by l.fn.image).contents l.fn.workspace l.dir) (λ b.
       after_entries (volume_of v b) l.dir (marks_of l.fn.workspace) (roled_from l.first 0 (entries_of v.order l.chunk))
       ≡ after_entries (volume_of v b) l.dir (marks_of l.workspace) (roled_at_place v.order l.chunk l.first l.index l.place));

@@ -1,16 +1,20 @@
-use Rattle.std.proofs.Common.{ap, refl, ◌∙◌}
+use Rattle.std.proofs.Common.{ap, refl, ◌∙◌, rules}
 use Rattle.std.proofs.lemmas.List.{with_items_is}
 use Rattle.ffs_volume.specs.Directories.Volumes.{volume_of}
 use Rattle.ffs_layout.specs.Entry.{entry_value}
-use Rattle.ffs_workspace.proofs.Leaving.{claims_left, survey_left}
+use Rattle.ffs_workspace.specs.Leaves.{LeavesSurvey}
+use Rattle.ffs_workspace.proofs.Leaving.{claims_left, survey_left, leaves_more}
 use Rattle.ffs_pathnames.proofs.Passed.{passes}
 use Rattle.ffs_pathnames.proofs.SeesLaws.{sees}
 use Rattle.ffs_paths.proofs.Keeping.{siblings_on}
 use Rattle.ffs_pathnames.proofs.entries.report_entry.Goals as goal
 
-pub returns-clause-siblings : goal.returns-clause-siblings
-returns-clause-siblings g c =
-    siblings_on _ _ _ c.say_entry.new.workspace _ _ refl (record {
+pub returns-clause-leaves : goal.returns-clause-leaves
+returns-clause-leaves g c =
+    let said = c.in_ok-say_entry.ensures.ready in
+    let made = said.ready.made in
+    let windows = said.ready.windows in
+    let marks : LeavesSurvey c.say_entry.new.workspace _ = record {
       claimed = refl;
       kinds = refl;
       marked = refl;
@@ -21,7 +25,35 @@ returns-clause-siblings g c =
       parents = refl;
       runs_seen = refl;
       runs_again = refl;
-    }) c.in_ok-say_entry.ensures.siblings
+    } in
+    record {
+      image = c.in_ok-say_entry.ensures.image;
+      survey = leaves_more _ _ _ c.in_ok-say_entry.ensures.lists.survey marks;
+      ready = record {
+        ready = record {
+          made = record {
+            claimed = made.claimed;
+            duplicates = made.duplicates;
+            unreported = made.unreported;
+            kinds = made.kinds;
+            marked = made.marked;
+            named = made.named;
+            reached = made.reached;
+            leaders = search rules;
+            references = made.references;
+            cut = made.cut;
+            parents = made.parents;
+            queue = search rules;
+            table = made.table;
+            blocks = made.blocks;
+            chunk = made.chunk;
+          };
+          volume = said.ready.volume;
+          windows = record { table = windows.table; blocks = windows.blocks; chunk = windows.chunk };
+        };
+        siblings = siblings_on _ _ _ _ _ _ refl marks said.siblings;
+      };
+    }
 
 pub returns-clause-marks : goal.returns-clause-marks
 returns-clause-marks g c = λ b k.
@@ -33,7 +65,7 @@ returns-clause-marks g c = λ b k.
       kinds = c.as_slice.ensures.value;
       marked = c.as_slice-2.ensures.value;
       parents = c.as_slice-3.ensures.value;
-      count = c.as_slice.ensures.len ∙ c.in_ok-say_entry.ensures.made.kinds;
+      count = c.as_slice.ensures.len ∙ c.in_ok-say_entry.ensures.ready.ready.made.kinds;
     }) (claims_left v b before here left.survey k.claims) (survey_left v b before here left.survey k.survey) in
     passes (volume_of v b) c.args.dir (record { role = c.args.role; entry = entry_value c.args.entry.now }) before.leaders.items _ _ _ before.queue.items _ _ _
     (c.as_mut_slice.ensures.value ∙ ap (λ x. x.items) left.leaders)

@@ -21,25 +21,26 @@ returns-clause-found g c = λ b t h r d.
     let t1 = ap (λ x. x.contents) c.in_ok-inode.ensures.ok ∙ t in
     let inode = c.in_ok-inode.ensures.inode b t in
     let small = subst (λ i. i.size < 2 ^ 31) (sym inode) (dir_size v (inode_of v b c.args.dir) class) in
-    let cut = get_or_read_under c.args.workspace.now.cut.items c.args.dir _ c.index-cut.result.now 0 c.index-cut.ensures (subst (λ n. c.args.dir < n) (sym c.requires.made.cut) c.requires.number) c.args.workspace.now.cut.ok.0 ∙ h.cut c.args.dir in
+    let cut = get_or_read_under c.args.workspace.now.cut.items c.args.dir _ c.index-cut.result.now 0 c.index-cut.ensures (subst (λ n. c.args.dir < n) (sym c.requires.ready.made.cut) c.requires.number) c.args.workspace.now.cut.ok.0 ∙ h.cut c.args.dir in
     let chunks = chunks_are v b c.args.dir c.in_ok-inode.inode c.index-cut.result.now sound number inode cut in
     let shows = sees v b c.args.workspace.now _ (record {
       kinds = c.as_slice.ensures.value;
       marked = c.as_slice-2.ensures.value;
       parents = c.as_slice-3.ensures.value;
-      count = c.as_slice.ensures.len ∙ c.requires.made.kinds;
+      count = c.as_slice.ensures.len ∙ c.requires.ready.made.kinds;
     }) h r in
     let long = c.look_directory.auto.stamps ∙ c.as_mut_slice.ensures.len in
+    let found = c.in_ok-found.ensures.found b t1 in
     record {
       inode = inode;
-      gap = c.in_ok-found.ensures.gap b t1 ∙ gap_is v b c.args.dir c.in_ok-inode.inode c.index-cut.result.now sound number inode cut;
-      sound = c.in_ok-found.ensures.sound b t1 small ∙ ap are_sound chunks;
-      started = sym (ap (find (λ x. x.offset == 0)) chunks) ∙ c.in_ok-found.ensures.started b t1 small;
-      quiet = c.in_ok-found.ensures.quiet b t1 (volume_of v b) shows small
+      gap = found.gap ∙ gap_is v b c.args.dir c.in_ok-inode.inode c.index-cut.result.now sound number inode cut;
+      sound = found.sound small ∙ ap are_sound chunks;
+      started = sym (ap (find (λ x. x.offset == 0)) chunks) ∙ found.started small;
+      quiet = found.quiet (volume_of v b) shows small
           ∙ (ap (λ q. are_quiet (volume_of v b) c.args.dir q (flat_map roled_chunk (chunks_read c.args.geometry.now.layout c.in_ok-inode.inode c.index-cut.result.now b))) c.as_mut_slice.ensures.value
           ∙ ap (are_quiet (volume_of v b) c.args.dir c.args.workspace.now.queue.items) (seen_are v b c.args.dir _ chunks));
       stamps = with_items_is c.args.workspace.now.queue c.look_directory.new.stamps long
-          ∙ (c.in_ok-found.ensures.stamps b t1 (volume_of v b) shows small
+          ∙ (found.stamps (volume_of v b) shows small
           ∙ (ap (λ q. after_looks (volume_of v b) c.args.dir q (flat_map roled_chunk (chunks_read c.args.geometry.now.layout c.in_ok-inode.inode c.index-cut.result.now b))) c.as_mut_slice.ensures.value
           ∙ ap (after_looks (volume_of v b) c.args.dir c.args.workspace.now.queue.items) (seen_are v b c.args.dir _ chunks)));
     }

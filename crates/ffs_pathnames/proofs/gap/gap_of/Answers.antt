@@ -3,6 +3,7 @@ use Rattle.ffs_walk.specs.Rests.{rest}
 use Rattle.ffs_names.specs.Keepings.{replay_in}
 use Rattle.ffs_names.specs.Readings.{gap_left}
 use Rattle.ffs_names.proofs.GapsLeft.{gap_over_tail, gap_seen, gap_to_run, gap_past_run, gap_unseen}
+use Rattle.ffs_pathnames.proofs.ReadyLaws.{walk_on}
 use Rattle.ffs_pathnames.proofs.gap.gap_of.Goals as goal
 
 pub steps-preserved-in-Some-Run : goal.steps-preserved-in-Some-Run
@@ -15,8 +16,7 @@ steps-preserved-in-Some-Run g c =
     record {
       same = c.in_ok-next.ensures.ok ∙ inv.same;
       geometry = c.next.ensures.geometry ∙ inv.geometry;
-      size = c.next.ensures.size ∙ inv.size;
-      holds = rw inv.geometry at c.next.ensures.holds;
+      ready = walk_on _ _ _ _ _ inv.ready (ap (λ d. d.size) c.in_ok-next.ensures.ok) c.next.ensures.size (rw inv.geometry at c.next.ensures.holds);
       gap = λ b t. inv.gap b t
           ∙ (sym (gap_to_run s.walk.geometry.layout w.geometry.layout s.keeping.cut (replay_in s.keeping) false r.start r.len r._block (rest b s.walk) (rest b w)
           (ap (λ x. x.layout) c.next.ensures.geometry) (read b (ap (λ d. d.contents) inv.same ∙ t)))
@@ -34,8 +34,7 @@ steps-preserved g c =
     record {
       same = c.in_ok-next.ensures.ok ∙ inv.same;
       geometry = c.next.ensures.geometry ∙ inv.geometry;
-      size = c.next.ensures.size ∙ inv.size;
-      holds = rw inv.geometry at c.next.ensures.holds;
+      ready = walk_on _ _ _ _ _ inv.ready (ap (λ d. d.size) c.in_ok-next.ensures.ok) c.next.ensures.size (rw inv.geometry at c.next.ensures.holds);
       gap = λ b t. inv.gap b t
           ∙ sym (gap_over_tail s.walk.geometry.layout w.geometry.layout s.keeping.cut (replay_in s.keeping) false (rest b s.walk) (rest b w)
           (ap (λ x. x.layout) c.next.ensures.geometry) (read b (ap (λ d. d.contents) inv.same ∙ t)));

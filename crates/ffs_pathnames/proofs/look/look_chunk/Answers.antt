@@ -13,7 +13,7 @@ entries-preserved c =
     let high = room.1 in
     let next = seen_next c.args.order c.args.chunk.now c.args.first c.entries.index c.entries.place e c.role_of-role.result there c.role_of-role.ensures in
     let seen : RoledEntry = record { role = c.role_of-role.result; entry = e } in
-    rw (c.from-place.ensures, c.both-quiet.ensures) (record {
+    rw c.from-place.ensures (record {
       place = omega arith;
       index = omega arith;
       stamps_long = omega arith;

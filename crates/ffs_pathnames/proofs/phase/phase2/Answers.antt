@@ -7,6 +7,7 @@ use Rattle.ffs_volume.specs.Directories.Volumes.{volume_of}
 use Rattle.ffs_pathnames.specs.declared.phase.Root.{Root}
 use Rattle.ffs_pathnames.proofs.Carrying.{on_all, if_ok, at_fault, at_fault_more, claims_untouched, before_first}
 use Rattle.ffs_workspace.proofs.Leaving.{claims_left, survey_left}
+use Rattle.ffs_pathnames.proofs.ReadyLaws.{ready_same}
 use Rattle.ffs_pathnames.proofs.phase.phase2.Goals as goal
 
 pub returns-in_err-say-clause-text : goal.returns-in_err-say-clause-text
@@ -40,13 +41,14 @@ returns-clause-text g c =
     let all = λ (b : List ℕ). phase2 ∷ map of_names (pathname_lines (volume_of v b)) in
     let found = c.in_ok-survey.ensures in
     let clear = c.clear_marks.ensures in
+    let made = (clear.ready v _ (ready_same v _ _ _ _ c.requires.ready found.ok found.made found.windows)).made in
     of_last Root _ lines lines all _ _ _ c.check_tree.result
     (of_says _ all lines _ (phase2 ∷ []) _ _ _ (of_begins _ all _) (λ b k. refl) c.in_ok-say.ensures.said)
     (λ b k. refl)
     (reports_knowing Root _ _ lines _ _ c.check_tree.result
     (λ b k. before_first v _ b _ (ap (λ d. d.contents) found.ok ∙ k.0)
     (claims_left v b _ _ clear.survey (claims_untouched v b _ _ found.same k.1))
-    (survey_left v b _ _ clear.survey (found.survey b k.0 k.1)) clear.made clear.clear)
+    (survey_left v b _ _ clear.survey (found.survey b k.0 k.1)) made clear.clear)
     c.check_tree.ensures.text)
 
 pub returns-clause-goes : goal.returns-clause-goes
@@ -54,10 +56,11 @@ returns-clause-goes g c =
     let v = c.args.geometry.now.layout in
     let found = c.in_ok-survey.ensures in
     let clear = c.clear_marks.ensures in
+    let made = (clear.ready v _ (ready_same v _ _ _ _ c.requires.ready found.ok found.made found.windows)).made in
     if_ok c.check_tree.result _ _
     (λ root h b k. h b (before_first v _ b _ (ap (λ d. d.contents) found.ok ∙ k.0)
     (claims_left v b _ _ clear.survey (claims_untouched v b _ _ found.same k.1))
-    (survey_left v b _ _ clear.survey (found.survey b k.0 k.1)) clear.made clear.clear))
+    (survey_left v b _ _ clear.survey (found.survey b k.0 k.1)) made clear.clear))
     c.check_tree.ensures.goes
 
 pub returns-clause-fault : goal.returns-clause-fault
@@ -65,10 +68,11 @@ returns-clause-fault g c =
     let v = c.args.geometry.now.layout in
     let found = c.in_ok-survey.ensures in
     let clear = c.clear_marks.ensures in
+    let made = (clear.ready v _ (ready_same v _ _ _ _ c.requires.ready found.ok found.made found.windows)).made in
     at_fault_more c.check_tree.result _ _
     (λ h. inr (λ b k. h b (before_first v _ b _ (ap (λ d. d.contents) found.ok ∙ k.0)
     (claims_left v b _ _ clear.survey (claims_untouched v b _ _ found.same k.1))
-    (survey_left v b _ _ clear.survey (found.survey b k.0 k.1)) clear.made clear.clear)))
+    (survey_left v b _ _ clear.survey (found.survey b k.0 k.1)) made clear.clear)))
     c.check_tree.ensures.fault
 
 pub returns-clause-holds : goal.returns-clause-holds
@@ -82,3 +86,8 @@ returns-clause-holds g c =
       claims_left v b _ _ last (claims_left v b _ _ clear.survey (claims_untouched v b _ _ found.same k.1)),
       survey_left v b _ _ last (survey_left v b _ _ clear.survey (found.survey b k.0 k.1)),
     ))
+
+pub check_tree-requires : goal.check_tree-requires
+check_tree-requires g c =
+    let found = c.in_ok-survey.ensures in
+    record { ready = c.clear_marks.ensures.ready _ _ (ready_same _ _ _ _ _ c.requires.ready found.ok found.made found.windows) }

@@ -4,18 +4,24 @@ use Rattle.ffs_volume.specs.Directories.Volumes.{volume_of}
 use Rattle.ffs_paths.proofs.Keeping.{siblings_on}
 use Rattle.ffs_paths.proofs.Rooms.{entry_in_room}
 use Rattle.ffs_pathnames.proofs.Enough.{enough}
+use Rattle.ffs_pathnames.proofs.ReadyLaws.{lists_more}
 use Rattle.ffs_pathnames.proofs.tell.gather.Goals as goal
 
 pub returns-clause-enough : goal.returns-clause-enough
 returns-clause-enough g c = λ b dir t h r p l.
     let v = c.args.geometry.now.layout in
-    let t1 = ap (λ x. x.contents) c.in_ok-gather_path.ensures.ok ∙ t in
+    let t1 = ap (λ x. x.contents) c.in_ok-gather_path.ensures.leaves.read ∙ t in
     enough (volume_of v b) c.args.verdict.now dir c.args.entry.now.number c.args.entry.now.name.now c.in_ok-attr.attr c.put_entry.new.text.items c.gather_path.new.text.items
     (λ q. c.in_ok-attr.ensures.attr b t1 (c.asks-wants_attr.ensures.attr ∙ q))
     (c.put_entry.ensures (graph_of (volume_of v b)) dir p ∙ entry_in_room (graph_of (volume_of v b)) dir c.args.entry.now.name.now c.requires.name)
     (λ q. c.in_ok-gather_path.ensures.path b t h r (c.asks-wants_attr.ensures.directory ∙ q) (l q))
 
-pub returns-clause-siblings : goal.returns-clause-siblings
-returns-clause-siblings g c =
+pub returns-clause-leaves : goal.returns-clause-leaves
+returns-clause-leaves g c =
+    let path = c.in_ok-gather_path.ensures.leaves in
     let attr = c.in_ok-attr.ensures in
-    siblings_on _ _ _ _ _ _ (ap (λ d. d.contents) attr.ok) attr.lists.survey c.in_ok-gather_path.ensures.siblings
+    record {
+      lists = lists_more _ _ _ path.lists attr.lists;
+      read = attr.read ∙ path.read;
+      ready = record { ready = attr.ready; siblings = siblings_on _ _ _ _ _ _ (ap (λ d. d.contents) attr.read) attr.lists.survey path.ready.siblings };
+    }

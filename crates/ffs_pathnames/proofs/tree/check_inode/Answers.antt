@@ -20,7 +20,7 @@ returns-then-is_looked_at-clause-before g c =
     let v = c.args.geometry.now.layout in
     let looked = sym c.is_looked_at.ensures ∙ c.if-is_looked_at.true in
     on_ok c.check_directory.result _ _
-    (λ h b k. before_next v _ _ _ c.args.number b c.check_directory.ensures.survey (h b (directory_context v _ _ c.args.number b looked k, k.marks)) k)
+    (λ h b k. before_next v _ _ _ c.args.number b c.check_directory.ensures.leaves.survey (h b (directory_context v _ _ c.args.number b looked k, k.marks)) k)
     c.check_directory.ensures.marks
 
 pub returns-clause-text : goal.returns-clause-text

@@ -1,4 +1,4 @@
-use Rattle.std.proofs.Common.{◌∙◌, ◌+◌, ◌-◌, [], map, refl, sym, ap, subst, ◌≡◌, suc, arith, rules, Err}
+use Rattle.std.proofs.Common.{◌+◌, ◌-◌, [], map, refl, sym, ap, subst, ◌≡◌, suc, arith, rules, Err}
 use Rattle.std.proofs.lemmas.Result.{err_from_is_err_and}
 use Rattle.ffs_volume.proofs.Numbered.{from_next, from_end}
 use Rattle.ffs_phase.proofs.Reporting.{of_begins, of_same, of_part, of_fault, said_knows, reports_knowing}
@@ -6,7 +6,6 @@ use Rattle.ffs_volume.specs.Messages.Kinds.{of_names, lines_from}
 use Rattle.ffs_volume.specs.Directories.PathnameCheck.{lines_of}
 use Rattle.ffs_volume.specs.Directories.Volumes.{volume_of}
 use Rattle.ffs_workspace.specs.Lengths.{inodes_of}
-use Rattle.ffs_paths.specs.Siblings.{KeepSiblings}
 use Rattle.ffs_pathnames.specs.Before.{IsBefore}
 use Rattle.ffs_workspace.proofs.Leaving.{leaves_all, leaves_more}
 use Rattle.ffs_pathnames.proofs.Carrying.{before_reported}
@@ -15,12 +14,10 @@ use Rattle.ffs_pathnames.proofs.tree.check_inodes.Goals as goal
 pub loop-number-init : goal.loop-number-init
 loop-number-init g c =
     record {
-      made = c.requires.made;
+      ready = record { ready = c.requires.ready; siblings = c.none-siblings.ensures _ _ };
       device = refl;
-      windows = c.requires.windows;
       low = omega arith;
       survey = leaves_all _;
-      siblings = c.none-siblings.ensures _ _;
       before = λ b k. k;
       said = of_begins _ (λ b. map of_names (lines_from (lines_of (volume_of c.args.geometry.now.layout b)) 2 (inodes_of c.args.geometry.now.layout - 2))) _;
     }
@@ -46,12 +43,10 @@ loop-number-preserved g c =
     let ok = c.in_ok-check_inode.ensures in
     let q : suc n ≡ n + 1 = omega arith in
     record {
-      made = ok.made;
+      ready = ok.leaves.ready;
       device = search rules;
-      windows = search rules;
       low = omega arith;
-      survey = leaves_more _ _ _ inv.survey ok.survey;
-      siblings = subst (λ d. KeepSiblings v d.contents c.check_inode.new.workspace c.check_inode.new.siblings) (ok.image ∙ inv.device) ok.siblings;
+      survey = leaves_more _ _ _ inv.survey ok.leaves.survey;
       before = λ b k. subst (λ d. IsBefore v (g.I.Image.device c.args.image.now).contents c.check_inode.new.workspace d b) q
           (before_reported v _ _ _ (suc n) b (sym (ap (λ d. d.contents) inv.device)) (ok.before b (before_reported v _ _ _ n b (ap (λ d. d.contents) inv.device) (inv.before b k))));
       said = of_part _ (λ b. map of_names (lines_from (lines_of (volume_of v b)) n (inodes_of v - n)))

@@ -5,20 +5,18 @@ use Rattle.ffs_report.specs.Progress.{progress}
 use Rattle.ffs_volume.specs.Messages.Kinds.{of_names, lines_from}
 use Rattle.ffs_volume.specs.Directories.PathnameCheck.{lines_of}
 use Rattle.ffs_volume.specs.Directories.Volumes.{volume_of}
-use Rattle.ffs_workspace.specs.Lengths.{IsFor, HoldWindows, inodes_of}
-use Rattle.ffs_paths.specs.Siblings.{KeepSiblings}
+use Rattle.ffs_workspace.specs.Lengths.{inodes_of}
+use Rattle.ffs_pathnames.specs.Ready.{ReadyWith}
 use Rattle.ffs_pathnames.specs.Before.{IsBefore}
 use Rattle.ffs_workspace.specs.Leaves.{LeavesSurvey}
 use Rattle.ffs_pathnames.proofs.tree.check_inodes.Given as goal
 
 abbrev pub invariant-loop-number : goal.invariant-loop-number
 invariant-loop-number g l = record {
-  made : IsFor l.geometry.layout l.workspace;
+  ready : ReadyWith l.geometry.layout (g.I.Image.device l.image) l.workspace l.siblings;
   device : g.I.Image.device l.image ≡ g.I.Image.device l.fn.image;
-  windows : HoldWindows l.geometry.layout (g.I.Image.device l.fn.image).contents l.workspace;
   low : 2 ≤ l.number;
   survey : LeavesSurvey l.fn.workspace l.workspace;
-  siblings : KeepSiblings l.geometry.layout (g.I.Image.device l.fn.image).contents l.workspace l.siblings;
   before : ForBytes (λ b. IsBefore l.geometry.layout (g.I.Image.device l.fn.image).contents l.fn.workspace 2 b)
       (λ b. IsBefore l.geometry.layout (g.I.Image.device l.fn.image).contents l.workspace l.number b);
   said : SaidOf (λ b. IsBefore l.geometry.layout (g.I.Image.device l.fn.image).contents l.fn.workspace 2 b)

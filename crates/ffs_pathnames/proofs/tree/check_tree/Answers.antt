@@ -1,6 +1,7 @@
-use Rattle.std.proofs.Common.{[], List, ℕ, map, refl, sym, ◌∙◌, append-nil, true, false}
+use Rattle.std.proofs.Common.{[], List, ℕ, map, refl, sym, ◌∙◌, append-nil, true, false, arith}
 use Rattle.std.specs.Prelude.{◌-◌}
 use Rattle.std.proofs.lemmas.Result.{err_from_is_err_and}
+use Rattle.ffs_volume.proofs.Sizes.{some_inodes}
 use Rattle.ffs_phase.proofs.Reporting.{of_begins, of_says, of_stops, of_part, of_fault}
 use Rattle.ffs_volume.specs.Messages.Kinds.{of_names, lines_from}
 use Rattle.ffs_volume.specs.Directories.PathnameCheck.{lines_of, pathname_lines}
@@ -10,6 +11,12 @@ use Rattle.ffs_workspace.specs.Lengths.{inodes_of}
 use Rattle.ffs_pathnames.specs.Before.{root_said}
 use Rattle.ffs_pathnames.proofs.Carrying.{at_fault, goes_is, tree_is, tree_lines}
 use Rattle.ffs_pathnames.proofs.tree.check_tree.Goals as goal
+
+pub root_kind-kind-requires : goal.root_kind-kind-requires
+root_kind-kind-requires g c = let k = some_inodes c.args.geometry.now.layout c.args.geometry.now.sound in omega (arith, c.requires.ready.made.kinds, k)
+
+pub is_root_marked-requires : goal.is_root_marked-requires
+is_root_marked-requires g c = let k = some_inodes c.args.geometry.now.layout c.args.geometry.now.sound in omega (arith, c.requires.ready.made.marked, k)
 
 pub returns-in_err-report_root-clause-text : goal.returns-in_err-report_root-clause-text
 returns-in_err-report_root-clause-text g c =

@@ -3,7 +3,6 @@ use Rattle.std.specs.Prelude.{slice_index}
 use Rattle.std.specs.Option.{unwrap_or}
 use Rattle.ffs_volume.specs.Directories.Parents.{graph_of}
 use Rattle.ffs_volume.specs.Directories.Volumes.{volume_of}
-use Rattle.ffs_paths.specs.Climbing.{AreOpen}
 use Rattle.ffs_paths.proofs.Ways.{HasParent, way_root, way_cut, way_long, way_up, count_is}
 use Rattle.ffs_paths.proofs.climb.climb.Goals as goal
 
@@ -42,11 +41,11 @@ returns-clause-path g c = λ b t lead k l names h.
 pub up-preserved : goal.up-preserved
 up-preserved g c =
     let i = c.up.invariant in
-    let device = c.in_ok-push_name.ensures.ok ∙ i.device in
+    let device = c.in_ok-push_name.ensures.read ∙ i.device in
     let v = c.args.geometry.now.layout in
     record {
       at = c.if-parent-cut.false;
-      windows = subst (λ x. AreOpen v x c.push_name.new.windows) (ap (λ d. d.contents) device) c.push_name.ensures.windows;
+      windows = c.push_name.ensures.windows;
       device = device;
       path = λ b t lead k l names h.
           let G = graph_of (volume_of v b) in

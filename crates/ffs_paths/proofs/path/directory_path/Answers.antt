@@ -12,7 +12,7 @@ pub returns-in_ok-climb-clause-path : goal.returns-in_ok-climb-clause-path
 returns-in_ok-climb-clause-path g c = λ b t claims survey.
     let v = c.args.geometry.now.layout in
     let G = graph_of (volume_of v b) in
-    let long = c.requires.made.reached in
+    let long = c.requires.ready.made.reached in
     let dir = c.requires.number in
     let on = sym (c.index-reached.ensures ∙ get_or_default c.args.workspace.now.reached.items c.args.dir c.index-reached.result.now false (omega arith)) ∙ c.if-reached.true in
     let k = level_of G c.args.dir (sym (survey.reached c.args.dir) ∙ on) in

@@ -54,10 +54,14 @@ entries-preserved g c =
           i.above b t x (omega arith) ∙ (ap (name_in x) (o b u) ∙ name_in-past x e (to_come b c.next.new.self) (c.highest_with-self.ensures.passed x h));
       grows = omega arith;
       geometry = c.next.ensures.geometry ∙ i.geometry;
-      size = c.next.ensures.size ∙ i.size;
-      holds = holds_on c.args.self.now.entries.chunks.walk.geometry c.entries.self.entries.chunks.walk.geometry (g.I.Image.device c.args.image.now).contents (g.I.Image.device c.next.new.image).contents c.next.new.blocks
-          i.geometry (ap (λ d. d.contents) device) c.next.ensures.holds;
-      data_size = c.next.ensures.data_size ∙ i.data_size;
-      data_holds = data_on (g.I.Image.device c.args.image.now).contents (g.I.Image.device c.next.new.image).contents c.next.new.window (ap (λ d. d.contents) device) c.next.ensures.data_holds;
+      windows = record {
+        volume = rw c.in_ok-entry.ensures.ok i.windows.volume;
+        table = i.windows.table;
+        blocks = c.next.ensures.size ∙ i.windows.blocks;
+        chunk = c.next.ensures.data_size ∙ i.windows.chunk;
+        table_holds = rw c.in_ok-entry.ensures.ok i.windows.table_holds;
+        blocks_hold = rw (← i.geometry) c.next.ensures.holds;
+        chunk_holds = c.next.ensures.data_holds;
+      };
       device = device;
     }

@@ -1,9 +1,7 @@
 use Rattle.std.proofs.Common.{◌≡◌, ◌≤◌, ◌<◌, ℕ}
-use Rattle.std.specs.Prelude.{vec_len}
 use Rattle.ffs_image.specs.Device.{ForContents}
-use Rattle.ffs_walk.specs.Windows.{BlocksHold, WindowHolds}
 use Rattle.ffs_names.specs.Entering.{to_come, left}
-use Rattle.ffs_paths.specs.Climbing.{name_in}
+use Rattle.ffs_paths.specs.Climbing.{name_in, AreOpen}
 use Rattle.ffs_paths.proofs.search.Search.find.Given as goal
 
 abbrev pub invariant-entries : goal.invariant-entries
@@ -12,10 +10,7 @@ invariant-entries g l = record {
   above : ForContents (g.I.Image.device l.fn.image).contents (λ b. (x : ℕ) → l.self.highest < x → name_in x (to_come b l.fn.self.entries) ≡ name_in x (to_come b l.self.entries));
   grows : l.fn.self.highest ≤ l.self.highest;
   geometry : l.self.entries.chunks.walk.geometry ≡ l.fn.self.entries.chunks.walk.geometry;
-  size : vec_len l.blocks.buffer ≡ vec_len l.fn.blocks.buffer;
-  holds : BlocksHold l.fn.self.entries.chunks.walk.geometry.layout (g.I.Image.device l.fn.image).contents l.blocks;
-  data_size : vec_len l.window.buffer ≡ vec_len l.fn.window.buffer;
-  data_holds : WindowHolds (g.I.Image.device l.fn.image).contents l.window;
+  windows : AreOpen l.fn.self.entries.chunks.walk.geometry.layout (g.I.Image.device l.image) l.windows;
   device : g.I.Image.device l.image ≡ g.I.Image.device l.fn.image;
 }
 

@@ -1,1 +1,0 @@
--- A path leaves the lists.

@@ -1,0 +1,24 @@
+-- What a first look at a directory finds.
+use Rattle.std.specs.Prelude.{◌≡◌, ℕ, ◌<◌, ◌^◌, ◌==◌, List, []}
+use Rattle.std.specs.List.{flat_map, find}
+use Rattle.ffs_volume.specs.declared.Layout.{Layout}
+use Rattle.ffs_volume.specs.declared.Inode.{Inode}
+use Rattle.ffs_volume.specs.Blocks.Steps.{steps_of}
+use Rattle.ffs_volume.specs.Directories.Entries.{has_gap}
+use Rattle.ffs_volume.specs.Directories.PathnameCheck.{are_sound}
+use Rattle.ffs_volume.specs.Directories.Roles.{Volume, roled_chunk}
+use Rattle.ffs_volume.specs.Encodings.Replay.{fresh_replay, replayed_steps}
+use Rattle.ffs_pathnames.specs.declared.directory.FirstLook.{FirstLook}
+use Rattle.ffs_pathnames.specs.declared.inodes.Inodes.{Inodes}
+use Rattle.ffs_pathnames.specs.Marks.{are_quiet, after_looks}
+use Rattle.ffs_pathnames.specs.Reads.{chunks_read, start_of}
+use Rattle.ffs_pathnames.specs.Sees.{Sees}
+
+-- of the chunks of an inode that keeps `cut` offers: whether nothing may be reported of their entries, whether they are all sound, whether a
+-- Gap is kept, the chunk at the start of the file; and each inode that belongs to the directory d is stamped
+pub record IsFirstLook (v : Layout) (inodes : Inodes) (d : ℕ) (i : Inode) (cut : ℕ) (b : List ℕ) (old : List ℕ) (f : FirstLook) (new start : List ℕ) : Type 0 where
+  pub quiet : (volume : Volume) → Sees volume inodes → i.size < 2 ^ 31 → f.quiet ≡ are_quiet volume d old (flat_map roled_chunk (chunks_read v i cut b))
+  pub stamps : (volume : Volume) → Sees volume inodes → i.size < 2 ^ 31 → new ≡ after_looks volume d old (flat_map roled_chunk (chunks_read v i cut b))
+  pub sound : i.size < 2 ^ 31 → f.sound ≡ are_sound (chunks_read v i cut b)
+  pub gap : f.gap ≡ has_gap (replayed_steps v cut fresh_replay (steps_of v i b))
+  pub started : i.size < 2 ^ 31 → find (λ c. c.offset == 0) (chunks_read v i cut b) ≡ start_of [] f.started v.order start

@@ -1,0 +1,36 @@
+-- When the paths of directories can be made too.
+use Rattle.std.specs.Prelude.{Result, Ok, Err}
+use Rattle.ffs_image.specs.Device.{Device}
+use Rattle.ffs_image.specs.Reads.{ReadAfter}
+use Rattle.ffs_image.specs.declared.image.ImageFault.{ImageFault}
+use Rattle.ffs_volume.specs.declared.Layout.{Layout}
+use Rattle.ffs_workspace.specs.declared.workspace.Workspace.{Workspace}
+use Rattle.ffs_workspace.specs.Ready.{IsReady}
+use Rattle.ffs_workspace.specs.Leaves.{LeavesSurvey}
+use Rattle.ffs_phase.specs.Runs.{ImageAfter}
+use Rattle.ffs_phase.specs.declared.fault.RunFault.{RunFault}
+use Rattle.ffs_paths.specs.declared.siblings.Siblings.{Siblings}
+use Rattle.ffs_paths.specs.Siblings.{KeepSiblings}
+use Rattle.ffs_pathnames.specs.Examines.{LeavesMarks}
+
+-- the workspace is ready, and what is kept of a directory and its children is right
+pub record ReadyWith (v : Layout) (d : Device) (w : Workspace) (s : Siblings) : Type 0 where
+  pub ready : IsReady v d w
+  pub siblings : KeepSiblings v d.contents w s
+
+-- the same after a call; where it failed, nothing of a directory and its children may be right
+abbrev pub ReadyAfter : {T E : Type 0} → Layout → Device → Workspace → Siblings → Result T E → Type 0
+ReadyAfter v d w s (Ok x) = ReadyWith v d w s
+ReadyAfter v d w s (Err e) = IsReady v d w
+
+-- what a call of the phase leaves: the image, but for a read that failed, what the block check and the survey found, and all that the next call asks for
+pub record PhaseLeaves {T : Type 0} (v : Layout) (d d' : Device) (w w' : Workspace) (s : Siblings) (result : Result T RunFault) : Type 0 where
+  pub image : ImageAfter d d' result
+  pub survey : LeavesSurvey w w'
+  pub ready : ReadyAfter v d' w' s result
+
+-- what a call leaves that reads the image: all lists, and the same
+pub record ReadLeaves {T : Type 0} (v : Layout) (d d' : Device) (w w' : Workspace) (s : Siblings) (result : Result T ImageFault) : Type 0 where
+  pub lists : LeavesMarks w w'
+  pub read : ReadAfter d d' result
+  pub ready : ReadyAfter v d' w' s result

@@ -1,0 +1,19 @@
+-- When the windows of a directory's blocks and chunks can be read into.
+use Rattle.std.specs.Prelude.{◌≡◌, ◌*◌, ◌≤◌, vec_len}
+use Rattle.ffs_image.specs.Device.{Device}
+use Rattle.ffs_volume.specs.declared.Layout.{Layout}
+use Rattle.ffs_walk.specs.declared.blocks.Blocks.{Blocks}
+use Rattle.ffs_walk.specs.declared.window.Window.{Window}
+use Rattle.ffs_walk.specs.Windows.{BlocksHold, WindowHolds}
+
+-- the image has all of the volume, and the buffer of indirect blocks has a block of each level and holds what the image gives
+pub record CanWalk (v : Layout) (d : Device) (blocks : Blocks) : Type 0 where
+  pub volume : v.size * v.fsize ≤ d.size
+  pub room : vec_len blocks.buffer ≡ 3 * v.bsize
+  pub holds : BlocksHold v d.contents blocks
+
+-- and so has that of chunks a block
+pub record CanReadChunks (v : Layout) (d : Device) (blocks : Blocks) (chunk : Window) : Type 0 where
+  pub walk : CanWalk v d blocks
+  pub room : vec_len chunk.buffer ≡ v.bsize
+  pub holds : WindowHolds d.contents chunk
