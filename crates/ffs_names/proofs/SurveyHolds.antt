@@ -14,7 +14,7 @@ use Rattle.ffs_workspace.specs.declared.workspace.Workspace.{Workspace}
 use Rattle.ffs_survey.specs.Survey.{bool_at, dir_at, graph_with, IsSurvey}
 use Rattle.ffs_survey.specs.SurveyLaws.{survey_is, references_is}
 use Rattle.ffs_names.specs.Trees.{Base, dir_entries, dir_sound}
-use Rattle.ffs_names.specs.RightShapes.{is_right_shape}
+use Rattle.ffs_names.specs.RightShapes.{is_right_shape, is_right_directory}
 use Rattle.ffs_names.specs.Surveys.{FlagsCalm}
 use Rattle.ffs_survey.specs.Calm.{IsCalm, AreCalm}
 use Rattle.std.proofs.lemmas.Bool.{and_parts}
@@ -59,16 +59,17 @@ holds_survey v b w counts flags marks ups c f m u s = record {
 
 -- flags of a survey of a volume
 pub volume_calm : (t : Base) (b kinds : List ℕ) (marked marks : List Bool) (ups : List ℕ) (flags : List Bool) → AreCalm kinds marked marks ups (dir_entries t b) (dir_sound t b) flags
-    → AreCalm kinds marked marks ups (roled_entries (volume_of t.layout b)) (is_right_shape (volume_of t.layout b)) flags
+    → AreCalm kinds marked marks ups (roled_entries (volume_of t.layout b)) (is_right_directory (volume_of t.layout b)) flags
 volume_calm t b kinds marked marks ups flags h d set =
     let c = h d set in
     let v = volume_of t.layout b in
     let p = and_parts (is_dir v d) (is_right_shape v d) c.shape_right in
     let es : dir_entries t b d ≡ roled_entries v d = ap (λ x. if x then roled_entries v d else []) p.0 in
-    subst (λ l. IsCalm kinds marked marks ups l (is_right_shape v d) d) es (record {
+    subst (λ l. IsCalm kinds marked marks ups l (is_right_directory v d) d) es (record {
       before = c.before;
+      begins = c.begins;
       entries_right = c.entries_right;
-      shape_right = p.1;
+      shape_right = c.shape_right;
       is_reached = c.is_reached;
       below = c.below;
     })
@@ -76,10 +77,10 @@ volume_calm t b kinds marked marks ups flags h d set =
 -- flags in a workspace
 pub holds_calm : (v : Layout) (b : List ℕ) (w : Workspace) (kinds : List ℕ) (marked marks : List Bool) (ups : List ℕ) (flags : List Bool)
     → w.kinds.items ≡ kinds → w.marked.items ≡ marked → w.reached.items ≡ marks → w.parents.items ≡ ups → w.leaders.items ≡ flags
-    → AreCalm kinds marked marks ups (roled_entries (volume_of v b)) (is_right_shape (volume_of v b)) flags → FlagsCalm v b w
+    → AreCalm kinds marked marks ups (roled_entries (volume_of v b)) (is_right_directory (volume_of v b)) flags → FlagsCalm v b w
 holds_calm v b w kinds marked marks ups flags k m r p f h =
     let es = roled_entries (volume_of v b) in
-    let right = is_right_shape (volume_of v b) in
+    let right = is_right_directory (volume_of v b) in
     record {
       calm = subst (λ z. AreCalm z w.marked.items w.reached.items w.parents.items es right w.leaders.items) (sym k)
           (subst (λ z. AreCalm kinds z w.reached.items w.parents.items es right w.leaders.items) (sym m)

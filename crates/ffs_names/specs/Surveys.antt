@@ -4,7 +4,7 @@ use Rattle.ffs_volume.specs.declared.Layout.{Layout}
 use Rattle.ffs_volume.specs.Directories.Roles.{roled_entries}
 use Rattle.ffs_volume.specs.Directories.Volumes.{volume_of}
 use Rattle.ffs_survey.specs.Calm.{AreCalm}
-use Rattle.ffs_names.specs.RightShapes.{is_right_shape}
+use Rattle.ffs_names.specs.RightShapes.{is_right_directory}
 use Rattle.ffs_workspace.specs.declared.workspace.Workspace.{Workspace}
 
 -- the claims, kinds, marks and cuts of a workspace, and its counts of Runs
@@ -20,4 +20,4 @@ pub record IsUntouched (old new : Workspace) : Type 0 where
 
 -- the list `leaders` flags only directories that the survey found calm, by the kinds and marks of the workspace
 pub record FlagsCalm (v : Layout) (b : List ℕ) (w : Workspace) : Type 0 where
-  pub calm : AreCalm w.kinds.items w.marked.items w.reached.items w.parents.items (roled_entries (volume_of v b)) (is_right_shape (volume_of v b)) w.leaders.items
+  pub calm : AreCalm w.kinds.items w.marked.items w.reached.items w.parents.items (roled_entries (volume_of v b)) (is_right_directory (volume_of v b)) w.leaders.items

@@ -33,7 +33,7 @@ calm_kind_dir k kind r d e h =
     last true h = absurd (cc)
     last false h = refl
 
-calm_names_new : (s : Sight) (reached : ℕ → Bool) (i x : ℕ) (role : Role) (number kind : ℕ) → is_calm_role s reached i role number kind ≡ true → dir_at s.kinds x ≡ true → (is_plain role && (number == x)) ≡ true → reached x ≡ false
+pub calm_names_new : (s : Sight) (reached : ℕ → Bool) (i x : ℕ) (role : Role) (number kind : ℕ) → is_calm_role s reached i role number kind ≡ true → dir_at s.kinds x ≡ true → (is_plain role && (number == x)) ≡ true → reached x ≡ false
 calm_names_new s reached i x Empty number kind c d n = absurd (cc)
 calm_names_new s reached i x Dot number kind c d n = absurd (cc)
 calm_names_new s reached i x Dotdot number kind c d n = absurd (cc)
@@ -82,6 +82,7 @@ comes_stays a r r' p p' q q' c = record {
 pub calm_stays : (kinds : List ℕ) (m r r' : List Bool) (p p' : List ℕ) (es : List RoledEntry) (sound : Bool) (d : ℕ) → Stays r p r' p' → IsCalm kinds m r p es sound d → IsCalm kinds m r' p' es sound d
 calm_stays kinds m r r' p p' es sound d s c = record {
   before = c.before;
+  begins = c.begins;
   entries_right = subst (λ n. are_calm (record { kinds = kinds; marked = m; dir = d; above = n }) c.before 0 es ≡ true) (sym (s.parents d c.is_reached)) c.entries_right;
   shape_right = c.shape_right;
   is_reached = s.reached d c.is_reached;
@@ -111,6 +112,7 @@ calm_found kinds m r r' p p' q q' es sound d c h calm right =
     let s = comes_stays (from_entries kinds d es) r r' p p' q q' c in
     record {
       before = bool_at r;
+      begins = h;
       entries_right = subst (λ n. are_calm (record { kinds = kinds; marked = m; dir = d; above = n }) (bool_at r) 0 es ≡ true) (sym (s.parents d h)) calm;
       shape_right = right;
       is_reached = s.reached d h;

@@ -7,4 +7,4 @@ mod Queues
 mod Whole
 mod Walks
 mod UnrefLaws
-mod CalmLaws
+pub mod CalmLaws

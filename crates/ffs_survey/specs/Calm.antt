@@ -48,6 +48,7 @@ are_calm s reached i (e ∷ es) = is_calm_entry s reached i e && are_calm s (rea
 -- each directory that it names is reached from it.
 pub record IsCalm (kinds : List ℕ) (marked reached : List Bool) (parents : List ℕ) (entries : List RoledEntry) (sound : Bool) (d : ℕ) : Type 0 where
   pub before : ℕ → Bool
+  pub begins : before d ≡ true
   pub entries_right : are_calm (record { kinds = kinds; marked = marked; dir = d; above = number_at parents d }) before 0 entries ≡ true
   pub shape_right : sound ≡ true
   pub is_reached : bool_at reached d ≡ true
