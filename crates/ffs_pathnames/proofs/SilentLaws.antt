@@ -287,11 +287,11 @@ first_two s reached (c ∷ cs) solid sound h = go c.entries refl h
   where
     go : (es : List Entry) → c.entries ≡ es → are_calm s reached 0 (roled_from (c.offset == 0) 0 es ++ flat_map roled_chunk cs) ≡ true → AreFirst s (c ∷ cs)
     go [] e k = absurd (solid.0 (and_parts c.sound _ sound).0 e)
-    go (x ∷ []) e k = absurd (no_second s _ cs solid.1 (and_parts c.sound _ sound).1 (and_parts _ _ k).1)
+    go (x ∷ []) e k = absurd (no_second s (reached_after s.kinds reached (record { role = role_of (c.offset == 0) 0 x; entry = x })) cs solid.1 (and_parts c.sound (are_sound cs) sound).1 (and_parts (is_calm_role s reached 0 (role_of (c.offset == 0) 0 x) x.number x.kind) (are_calm s (reached_after s.kinds reached (record { role = role_of (c.offset == 0) 0 x; entry = x })) 1 (flat_map roled_chunk cs)) k).1)
     go (x ∷ y ∷ ys) e k =
         let p = and_parts (is_calm_role s reached 0 (role_of (c.offset == 0) 0 x) x.number x.kind) _ k in
         let here = calm_first s reached (role_of (c.offset == 0) 0 x) x.number x.kind p.0 in
-        let next = calm_second s _ (role_of (c.offset == 0) 1 y) y.number y.kind (and_parts _ _ p.1).0 in
+        let next = calm_second s (reached_after s.kinds reached (record { role = role_of (c.offset == 0) 0 x; entry = x })) (role_of (c.offset == 0) 1 y) y.number y.kind (and_parts _ _ p.1).0 in
         let r = role_dot (c.offset == 0) 0 x here.0 in
         let q = role_dotdot (c.offset == 0) 1 y next.0 in
         let start : (c.offset == 0) ≡ true = (and_parts (c.offset == 0) _ r.1.1).0 in
