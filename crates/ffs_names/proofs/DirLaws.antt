@@ -12,7 +12,7 @@ use Rattle.ffs_volume.specs.Disk.Areas.{is_in_range}
 use Rattle.ffs_volume.specs.Disk.Geometry.{IsGeometry}
 use Rattle.ffs_volume.specs.Blocks.Inodes.{inode_of, class_of, type_of, is_known_type, is_any_set, is_too_large, addresses_used, is_directory}
 use Rattle.ffs_volume.specs.Blocks.Steps.{steps_of}
-use Rattle.ffs_volume.specs.Directories.Entries.{chunks_of, size_taken}
+use Rattle.ffs_volume.specs.Directories.Entries.{chunks_of, has_gap, size_taken}
 use Rattle.ffs_volume.specs.Directories.Roles.{is_dir, roled_chunk, roled_entries}
 use Rattle.ffs_volume.specs.Directories.Volumes.{is_inode_number, volume_of, volume_with, reading_of}
 use Rattle.ffs_volume.specs.Encodings.Replay.{cut_at, fresh_replay, replayed_steps}
@@ -20,6 +20,9 @@ use Rattle.ffs_volume.proofs.CutLaws.{replay_at}
 use Rattle.ffs_volume.specs.Encodings.Kinds.{kind_at}
 use Rattle.ffs_survey.specs.Survey.{dir_at}
 use Rattle.ffs_survey.specs.SurveyLaws.{dirs_of_kinds}
+use Rattle.ffs_volume.specs.declared.Step.{Step}
+use Rattle.ffs_volume.specs.Directories.PathnameCheck.{are_sound}
+use Rattle.ffs_names.specs.RightShapes.{is_right_size, is_right_shape}
 use Rattle.ffs_names.specs.RunCursors.{reading_by}
 
 class_by : Bool → Bool → Bool → Bool → Class
@@ -73,3 +76,16 @@ dir_seen v b d i cut g n e c =
 pub kind_dirs : (v : Layout) (b kinds : List ℕ) (x : ℕ) → slice_index kinds x ≡ kind_at v b x → dir_at kinds x ≡ is_dir (volume_of v b) x
 unfolding kind_at
 kind_dirs v b kinds x h = dirs_of_kinds v b kinds x h
+
+-- the shape of a directory
+pub shape_seen : (v : Layout) (b : List ℕ) (d : ℕ) (i : Inode) (cut : ℕ) → IsGeometry v → is_inode_number v d ≡ true → i ≡ inode_of v b d → cut ≡ cut_at v b d
+    → (is_right_size i.size && (are_sound (chunks_of (reading_by v b (size_taken i.size)) (is_in_range v) (replayed_steps v cut fresh_replay (steps_of v i b)))
+    && not (has_gap (replayed_steps v cut fresh_replay (steps_of v i b))))) ≡ is_right_shape (volume_of v b) d
+unfolding volume_of volume_with reading_of
+shape_seen v b d i cut g n e c =
+    ap (λ (x : Inode). by x (replayed_steps v cut fresh_replay (steps_of v x b))) e
+    ∙ (ap (λ x. by (inode_of v b d) (replayed_steps v x fresh_replay (steps_of v (inode_of v b d) b))) c
+    ∙ ap (by (inode_of v b d)) (replay_at v b d g n))
+  where
+    by : Inode → List Step → Bool
+    by x steps = is_right_size x.size && (are_sound (chunks_of (reading_by v b (size_taken x.size)) (is_in_range v) steps) && not (has_gap steps))

@@ -9,3 +9,4 @@ pub mod SameGraphs
 pub mod SurveyHolds
 pub mod RunsSeen
 pub mod GapsLeft
+mod Shaped

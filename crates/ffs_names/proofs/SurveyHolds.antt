@@ -1,8 +1,8 @@
 -- A survey fills a workspace.
-use Rattle.std.proofs.Common.{◌≡◌, ℕ, Bool, true, List, [], Result, Ok, Err, Option, refl, sym, ap, ◌∙◌}
-use Rattle.std.specs.Prelude.{OnOk, if◌then◌else◌, slice_index, length}
+use Rattle.std.proofs.Common.{◌≡◌, ℕ, Bool, true, List, [], Result, Ok, Err, Option, Some, None, refl, sym, ap, ◌∙◌, subst}
+use Rattle.std.specs.Prelude.{OnOk, IfOk, IfNone, if◌then◌else◌, slice_index, length}
 use Rattle.ffs_volume.specs.declared.Layout.{Layout}
-use Rattle.ffs_volume.specs.Directories.Roles.{roled_entries}
+use Rattle.ffs_volume.specs.Directories.Roles.{is_dir, roled_entries}
 use Rattle.ffs_volume.specs.Directories.Parents.{graph_of}
 use Rattle.ffs_volume.specs.Directories.Volumes.{volume_of, volume_with}
 use Rattle.ffs_walk.specs.declared.blocks.Blocks.{Blocks}
@@ -13,13 +13,22 @@ use Rattle.ffs_workspace.specs.Holds.{HoldsSurvey}
 use Rattle.ffs_workspace.specs.declared.workspace.Workspace.{Workspace}
 use Rattle.ffs_survey.specs.Survey.{bool_at, dir_at, graph_with, IsSurvey}
 use Rattle.ffs_survey.specs.SurveyLaws.{survey_is, references_is}
-use Rattle.ffs_names.specs.Trees.{Base, dir_entries}
+use Rattle.ffs_names.specs.Trees.{Base, dir_entries, dir_sound}
+use Rattle.ffs_names.specs.RightShapes.{is_right_shape, is_right_directory}
+use Rattle.ffs_names.specs.Surveys.{FlagsCalm}
+use Rattle.ffs_survey.specs.Calm.{IsCalm, AreCalm}
+use Rattle.std.proofs.lemmas.Bool.{and_parts}
 use Rattle.ffs_names.proofs.DirLaws.{kind_dirs}
 use Rattle.ffs_names.proofs.SameGraphs.{survey_same}
 
 pub on_ok : {T E : Type 0} (r : Result T E) (P Q : Type 0) → (P → Q) → OnOk r P → OnOk r Q
 on_ok (Ok x) P Q f h = f h
 on_ok (Err e) P Q f h = h
+
+pub if_ended : {T E : Type 0} (r : Result (Option T) E) (P Q : Type 0) → (P → Q) → IfOk r (λ o. IfNone o P) → IfOk r (λ o. IfNone o Q)
+if_ended (Ok None) P Q f h = f h
+if_ended (Ok (Some x)) P Q f h = h
+if_ended (Err e) P Q f h = h
 
 pub blocks_in : (v v' : Layout) (contents contents' : Option (List ℕ)) (blocks : Blocks) → v' ≡ v → contents ≡ contents' → BlocksHold v' contents' blocks → BlocksHold v contents blocks
 blocks_in v v' contents contents' blocks e t h = rw (t, ← e) h
@@ -47,3 +56,35 @@ holds_survey v b w counts flags marks ups c f m u s = record {
   reached = λ x. ap (λ xs. bool_at xs x) m ∙ s.reaches x;
   parents = λ x. ap (λ xs. slice_index xs x) u ∙ s.ups x;
 }
+
+-- flags of a survey of a volume
+pub volume_calm : (t : Base) (b kinds : List ℕ) (marked marks : List Bool) (ups : List ℕ) (flags : List Bool) → AreCalm kinds marked marks ups (dir_entries t b) (dir_sound t b) flags
+    → AreCalm kinds marked marks ups (roled_entries (volume_of t.layout b)) (is_right_directory (volume_of t.layout b)) flags
+volume_calm t b kinds marked marks ups flags h d set =
+    let c = h d set in
+    let v = volume_of t.layout b in
+    let p = and_parts (is_dir v d) (is_right_shape v d) c.shape_right in
+    let es : dir_entries t b d ≡ roled_entries v d = ap (λ x. if x then roled_entries v d else []) p.0 in
+    subst (λ l. IsCalm kinds marked marks ups l (is_right_directory v d) d) es (record {
+      before = c.before;
+      begins = c.begins;
+      entries_right = c.entries_right;
+      shape_right = c.shape_right;
+      is_reached = c.is_reached;
+      below = c.below;
+    })
+
+-- flags in a workspace
+pub holds_calm : (v : Layout) (b : List ℕ) (w : Workspace) (kinds : List ℕ) (marked marks : List Bool) (ups : List ℕ) (flags : List Bool)
+    → w.kinds.items ≡ kinds → w.marked.items ≡ marked → w.reached.items ≡ marks → w.parents.items ≡ ups → w.leaders.items ≡ flags
+    → AreCalm kinds marked marks ups (roled_entries (volume_of v b)) (is_right_directory (volume_of v b)) flags → FlagsCalm v b w
+holds_calm v b w kinds marked marks ups flags k m r p f h =
+    let es = roled_entries (volume_of v b) in
+    let right = is_right_directory (volume_of v b) in
+    record {
+      calm = subst (λ z. AreCalm z w.marked.items w.reached.items w.parents.items es right w.leaders.items) (sym k)
+          (subst (λ z. AreCalm kinds z w.reached.items w.parents.items es right w.leaders.items) (sym m)
+          (subst (λ z. AreCalm kinds marked z w.parents.items es right w.leaders.items) (sym r)
+          (subst (λ z. AreCalm kinds marked marks z es right w.leaders.items) (sym p)
+          (subst (λ z. AreCalm kinds marked marks ups es right z) (sym f) h))));
+    }

@@ -3,6 +3,8 @@ pub mod Fits
 pub mod RunCursors
 pub mod Readings
 pub mod Entering
+pub mod RightShapes
+pub mod Shapes
 pub mod Trees
 pub mod Surveys
 pub mod SeenRuns

@@ -1,5 +1,10 @@
--- What a survey leaves as it was.
-use Rattle.std.specs.Prelude.{◌≡◌}
+-- What a survey leaves as it was, and which directories it flags.
+use Rattle.std.specs.Prelude.{◌≡◌, ℕ, List}
+use Rattle.ffs_volume.specs.declared.Layout.{Layout}
+use Rattle.ffs_volume.specs.Directories.Roles.{roled_entries}
+use Rattle.ffs_volume.specs.Directories.Volumes.{volume_of}
+use Rattle.ffs_survey.specs.Calm.{AreCalm}
+use Rattle.ffs_names.specs.RightShapes.{is_right_directory}
 use Rattle.ffs_workspace.specs.declared.workspace.Workspace.{Workspace}
 
 -- the claims, kinds, marks and cuts of a workspace, and its counts of Runs
@@ -9,7 +14,10 @@ pub record IsUntouched (old new : Workspace) : Type 0 where
   pub unreported : new.unreported ≡ old.unreported
   pub kinds : new.kinds ≡ old.kinds
   pub marked : new.marked ≡ old.marked
-  pub leaders : new.leaders ≡ old.leaders
   pub cut : new.cut ≡ old.cut
   pub runs_seen : new.runs_seen ≡ old.runs_seen
   pub runs_again : new.runs_again ≡ old.runs_again
+
+-- the list `leaders` flags only directories that the survey found calm, by the kinds and marks of the workspace
+pub record FlagsCalm (v : Layout) (b : List ℕ) (w : Workspace) : Type 0 where
+  pub calm : AreCalm w.kinds.items w.marked.items w.reached.items w.parents.items (roled_entries (volume_of v b)) (is_right_directory (volume_of v b)) w.leaders.items

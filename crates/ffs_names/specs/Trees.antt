@@ -1,5 +1,5 @@
 -- The directories of a volume that a survey reads.
-use Rattle.std.specs.Prelude.{◌≡◌, ◌*◌, ◌≤◌, ℕ, List, [], Option, Some, slice_index, if◌then◌else◌, vec_len, length}
+use Rattle.std.specs.Prelude.{◌≡◌, ◌*◌, ◌≤◌, ℕ, List, [], Option, Some, slice_index, if◌then◌else◌, Bool, vec_len, length}
 use Rattle.std.specs.Borrow.{GName}
 use Rattle.ffs_image.specs.Device.{Device}
 use Rattle.ffs_volume.specs.declared.Layout.{Layout}
@@ -9,6 +9,7 @@ use Rattle.ffs_volume.specs.Encodings.Replay.{cut_at}
 use Rattle.ffs_walk.specs.Windows.{BlocksHold, WindowHolds}
 use Rattle.ffs_volume.specs.Encodings.Kinds.{kind_at}
 use Rattle.ffs_workspace.specs.Lengths.{inodes_of}
+use Rattle.ffs_names.specs.RightShapes.{is_right_directory}
 use Rattle.ffs_workspace.specs.declared.workspace.Windows.{Windows}
 
 -- what it is over: a layout, the image's bytes where it gives them, the kinds and cuts of inodes, and what it was lent
@@ -29,6 +30,10 @@ pub record KnowsTree (t : Base) (b : List ℕ) : Type 0 where
 -- the entries of a directory, and none of another inode
 abbrev pub dir_entries : Base → List ℕ → ℕ → List RoledEntry
 dir_entries t b d = if is_dir (volume_of t.layout b) d then roled_entries (volume_of t.layout b) d else []
+
+-- it is a directory of a right shape
+abbrev pub dir_sound : Base → List ℕ → ℕ → Bool
+dir_sound t b = is_right_directory (volume_of t.layout b)
 
 -- the windows have room, and hold what the image gives; its lists have a place for each inode
 pub record IsReady (v : Layout) (device : Device) (windows : Windows) (kinds cut : List ℕ) : Type 0 where

@@ -1,18 +1,21 @@
 //! The entries of a directory.
 
-ghost use Rattle.std.specs.Prelude.{◌≡◌, ◌+◌, ◌*◌, ◌<◌, ◌≤◌, ◌^◌, ◌∷◌, ◌++◌, ℕ, List, [], false, vec_len, length, IfOk, OnOk, IfErr, IfNone, IfSome, is_some, MatchOption};
+ghost use Rattle.std.specs.Prelude.{◌≡◌, ◌+◌, ◌*◌, ◌<◌, ◌≤◌, ◌^◌, ◌∷◌, ◌++◌, ℕ, List, [], true, false, not, ◌&&◌, ◌||◌, vec_len, length, IfOk, OnOk, IfErr, IfNone, IfSome, is_some, MatchOption};
 ghost use Rattle.std.specs.List.{flat_map};
 ghost use Rattle.ffs_image.specs.Device.{Faulted, ForContents};
 ghost use Rattle.ffs_volume.specs.Disk.Areas.{is_in_range};
 ghost use Rattle.ffs_volume.specs.Blocks.Steps.{steps_of};
-ghost use Rattle.ffs_volume.specs.Directories.Entries.{Chunk, chunks_of, entry_at as entry_in, size_taken};
+ghost use Rattle.ffs_volume.specs.Directories.Entries.{Chunk, chunks_of, has_gap, entry_at as entry_in, size_taken};
 ghost use Rattle.ffs_volume.specs.Directories.Roles.{roled_chunk};
 ghost use Rattle.ffs_volume.specs.Encodings.Replay.{fresh_replay, replayed_steps};
 ghost use Rattle.ffs_walk.specs.Windows.{BlocksHold, HasRoom, WindowHolds};
 ghost use Rattle.ffs_names.specs.RunCursors.{reading_by};
 ghost use Rattle.ffs_names.specs.Readings.{rest};
+ghost use Rattle.ffs_volume.specs.Directories.PathnameCheck.{are_sound};
+ghost use Rattle.ffs_names.specs.RightShapes.{is_right_size};
 
 use crate::chunks::Chunks;
+use crate::gap::gap_of;
 use crate::role::role_of;
 use ffs_image::{Image, ImageFault};
 use ffs_layout::{Geometry, entry_at};
@@ -32,6 +35,8 @@ pub struct Entries {
     pub index: usize,
     /// Whether the chunk is at the start of the file.
     pub first: bool,
+    /// Whether the size is right, and the entries of each chunk before fill it.
+    pub sound: bool,
     /// Where the name of the last entry is in the chunk.
     pub name_place: usize,
     pub name_len: usize,
@@ -41,8 +46,16 @@ pub struct Entries {
     ghost same_order: { order ≡ chunks.walk.geometry.layout.order },
 }
 
+/// Whether a directory isn't shorter than `.` and `..`, and has whole chunks.
+fn has_right_size(inode: &Inode) -> bool
+    ensures { result ≡ is_right_size inode.now.size }
+{
+    inode.size >= 24 && inode.size % 512 == 0
+}
+
 impl Entries {
     ghost use Rattle.ffs_survey.specs.Reading.{roled_of};
+    ghost use Rattle.ffs_names.specs.Shapes.{fills, has_right_shape, HasEnded};
     ghost use Rattle.ffs_names.specs.Entering.{to_come, left, last_name};
 
     /// A reading of the directory with this inode, of which no offer is kept after the cut (0 for none).
@@ -64,6 +77,7 @@ impl Entries {
             place: 512,
             index: 0,
             first: false,
+            sound: has_right_size(inode),
             name_place: 0,
             name_len: 0,
         }
@@ -97,6 +111,14 @@ impl Entries {
             (is_in_range self.old.chunks.walk.geometry.layout)
             (replayed_steps self.old.chunks.walk.geometry.layout cut fresh_replay
             (steps_of self.old.chunks.walk.geometry.layout inode.now b))) }
+        ensures shape { (b : List ℕ) → inode.now.size < 2 ^ 31 → has_right_shape b self.new
+            ≡ (is_right_size inode.now.size && (are_sound (chunks_of
+            (reading_by self.old.chunks.walk.geometry.layout b (size_taken inode.now.size))
+            (is_in_range self.old.chunks.walk.geometry.layout)
+            (replayed_steps self.old.chunks.walk.geometry.layout cut fresh_replay
+            (steps_of self.old.chunks.walk.geometry.layout inode.now b)))
+            && not (has_gap (replayed_steps self.old.chunks.walk.geometry.layout cut fresh_replay
+            (steps_of self.old.chunks.walk.geometry.layout inode.now b))))) }
         ensures left { left self.new ≤ 2 ^ 28 }
         ensures geometry { self.new.chunks.walk.geometry ≡ self.old.chunks.walk.geometry }
     {
@@ -105,16 +127,19 @@ impl Entries {
         self.place = 512;
         self.index = 0;
         self.first = false;
+        self.sound = has_right_size(inode);
     }
 
     /// No entry comes any more.
     pub fn stop(&mut self)
         ensures entries { (b : List ℕ) → to_come b self.new ≡ [] }
+        ensures shape { (b : List ℕ) → has_right_shape b self.new ≡ false }
         ensures left { left self.new ≤ 2 ^ 28 }
         ensures geometry { self.new.chunks.walk.geometry ≡ self.old.chunks.walk.geometry }
     {
         self.place = 512;
         self.chunks.budget = 0;
+        self.sound = false;
     }
 
     /// Takes the entry at `place`, if one is there.
@@ -127,6 +152,8 @@ impl Entries {
             (entry_in self.new.order self.new.chunk self.new.place) ≡ false) }
         ensures left { IfSome result (λ _. left self.new < left self.old) }
         ensures chunks { self.new.chunks ≡ self.old.chunks }
+        ensures fills { fills self.new ≡ fills self.old }
+        ensures sound { self.new.sound ≡ self.old.sound }
     {
         let Some(entry) = entry_at(self.order, &self.chunk, self.place) else {
             return None;
@@ -169,6 +196,10 @@ impl Entries {
             (λ named. to_come b self.old ≡ roled_of named (last_name self.new)
             ∷ to_come b self.new))) }
         ensures left { IfOk result (λ o. IfSome o (λ _. left self.new < left self.old)) }
+        ensures shape { OnOk result (ForContents (I.device image.old).contents
+            (λ b. has_right_shape b self.new ≡ has_right_shape b self.old)) }
+        ensures ended { IfOk result (λ o. IfNone o (ForContents (I.device image.old).contents
+            (λ b. HasEnded b self.new))) }
         ensures geometry { self.new.chunks.walk.geometry ≡ self.old.chunks.walk.geometry }
         ensures size { vec_len blocks.new.buffer ≡ vec_len blocks.old.buffer }
         ensures holds { BlocksHold self.old.chunks.walk.geometry.layout
@@ -182,7 +213,10 @@ impl Entries {
         'chunks: loop {
             match self.take() {
                 Some(named) => return Ok(Some(named)),
-                None => self.place = 512,
+                None => {
+                    self.sound &= self.place == 512;
+                    self.place = 512;
+                }
             }
             match self.chunks.next(image, blocks, window, &mut self.chunk)? {
                 None => return Ok(None),
@@ -193,6 +227,37 @@ impl Entries {
                 }
             }
         }
+    }
+
+    /// Whether the directory, of which no entry is left, has a right size, sound chunks and no hole.
+    ///
+    /// # Errors
+    /// A read of the image that failed.
+    pub fn is_sound<I: Image>(
+        &mut self,
+        image: &mut I,
+        blocks: &mut Blocks,
+    ) -> Result<bool, ImageFault>
+        requires volume { self.old.chunks.walk.geometry.layout.size *
+            self.old.chunks.walk.geometry.layout.fsize ≤ (I.device image.old).size }
+        requires room { HasRoom self.old.chunks.walk.geometry.layout blocks.old }
+        requires holds { BlocksHold self.old.chunks.walk.geometry.layout
+            (I.device image.old).contents blocks.old }
+        ensures sound { IfOk result (λ right. ForContents (I.device image.old).contents
+            (λ b. HasEnded b self.old → right ≡ has_right_shape b self.old)) }
+        ensures geometry { self.new.chunks.walk.geometry ≡ self.old.chunks.walk.geometry }
+        ensures size { vec_len blocks.new.buffer ≡ vec_len blocks.old.buffer }
+        ensures holds { BlocksHold self.old.chunks.walk.geometry.layout
+            (I.device image.new).contents blocks.new }
+        ensures ok { OnOk result (I.device image.new ≡ I.device image.old) }
+        ensures err { IfErr result (λ fault. Faulted (I.device image.old) (I.device image.new)
+            fault.sector) }
+    {
+        if !self.sound {
+            return Ok(false);
+        }
+        let gap = gap_of(image, blocks, &mut self.chunks)?;
+        Ok(!gap)
     }
 
     /// The name of the last entry.

@@ -4,7 +4,7 @@ ghost use Rattle.std.specs.Prelude.{◌≡◌, ◌*◌, ◌≤◌, ℕ, List, On
 ghost use Rattle.ffs_image.specs.Device.{Faulted, ForContents};
 ghost use Rattle.ffs_workspace.specs.Lengths.{IsFor, HoldWindows};
 ghost use Rattle.ffs_workspace.specs.Holds.{HoldsClaims, HoldsSurvey};
-ghost use Rattle.ffs_names.specs.Surveys.{IsUntouched};
+ghost use Rattle.ffs_names.specs.Surveys.{IsUntouched, FlagsCalm};
 
 use crate::entries::Entries;
 use crate::tree::Tree;
@@ -13,7 +13,8 @@ use ffs_layout::Geometry;
 use ffs_workspace::Workspace;
 
 /// Finds how often each inode is referred to, which inodes an entry names, which directories are reached from the root,
-/// and their parents. Each directory is read once. The rest of the workspace stays as it was.
+/// and their parents. Each directory is read once. The list `leaders` flags directories of which nothing can be
+/// reported. The rest of the workspace stays as it was.
 ///
 /// # Errors
 /// A read of the image that failed.
@@ -29,6 +30,9 @@ pub fn survey<I: Image>(
     ensures survey { OnOk result (ForContents (I.device image.old).contents
         (λ b. HoldsClaims geometry.now.layout b workspace.old
         → HoldsSurvey geometry.now.layout b workspace.new)) }
+    ensures calm { OnOk result (ForContents (I.device image.old).contents
+        (λ b. HoldsClaims geometry.now.layout b workspace.old
+        → FlagsCalm geometry.now.layout b workspace.new)) }
     ensures same { IsUntouched workspace.old workspace.new }
     ensures made { IsFor geometry.now.layout workspace.new }
     ensures windows { HoldWindows geometry.now.layout (I.device image.new).contents workspace.new }
@@ -47,10 +51,12 @@ pub fn survey<I: Image>(
     ffs_survey::survey(
         &mut tree,
         &workspace.kinds,
+        &workspace.marked,
         &mut workspace.references,
         &mut workspace.named,
         &mut workspace.reached,
         &mut workspace.parents,
+        &mut workspace.leaders,
         &mut workspace.queue,
     )
 }

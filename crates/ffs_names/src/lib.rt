@@ -12,6 +12,7 @@
 
 pub mod chunks;
 pub mod entries;
+pub mod gap;
 pub mod graph;
 pub mod keeping;
 pub mod role;
@@ -20,5 +21,6 @@ pub mod tree;
 
 pub use chunks::Chunks;
 pub use entries::Entries;
+pub use gap::gap_of;
 pub use graph::survey;
 pub use role::role_of;

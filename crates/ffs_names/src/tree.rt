@@ -23,7 +23,8 @@ pub struct Tree<'a, I> {
 }
 
 impl<I: Image> Directories for Tree<'_, I> {
-    ghost use Rattle.ffs_names.specs.Trees.{Base as TreeBase, KnowsTree, dir_entries, IsReady};
+    ghost use Rattle.ffs_names.specs.Trees.{Base as TreeBase, KnowsTree, dir_entries, dir_sound, IsReady};
+    ghost use Rattle.ffs_names.specs.Shapes.{has_right_shape, HasEnded};
     ghost use Rattle.ffs_names.specs.Entering.{to_come, left as entries_left, last_name};
 
     ghost Base = { TreeBase };
@@ -34,6 +35,8 @@ impl<I: Image> Directories for Tree<'_, I> {
 
     ghost entries = { dir_entries };
 
+    ghost sound = { dir_sound };
+
     ghost device = { λ t. I.device t.image.now };
 
     ghost ready = { λ t. IsReady t.geometry.layout (I.device t.image.now) t.windows.now t.kinds.now t.cut.now × (t.entries.chunks.walk.geometry ≡ t.geometry) };
@@ -43,6 +46,10 @@ impl<I: Image> Directories for Tree<'_, I> {
     ghost left = { λ t. entries_left t.entries };
 
     ghost name = { λ t. last_name t.entries };
+
+    ghost sound_so_far = { λ t b. has_right_shape b t.entries };
+
+    ghost ended = { λ t b. HasEnded b t.entries };
 
     fn start(&mut self, dir: u32) -> Result<(), ImageFault> {
         if !is_dir(self.kinds, dir as usize) {
@@ -59,5 +66,9 @@ impl<I: Image> Directories for Tree<'_, I> {
         let windows = &mut *self.windows;
         self.entries
             .next(self.image, &mut windows.blocks, &mut windows.chunk)
+    }
+
+    fn is_sound(&mut self) -> Result<bool, ImageFault> {
+        self.entries.is_sound(self.image, &mut self.windows.blocks)
     }
 }

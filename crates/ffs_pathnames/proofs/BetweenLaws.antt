@@ -4,7 +4,7 @@ use Rattle.std.specs.List.{list_any}
 use Rattle.std.proofs.Common.{arith, sym, ◌∙◌, ap, subst, inl, inr, append_assoc, append-nil}
 use Rattle.std.proofs.lemmas.List.{get_or-set_other, get_or-set_same, set_past}
 use Rattle.std.proofs.lemmas.Bool.{cases_eq, cases_lt, ne_eqb, eq-eqb, and_parts, cond-false}
-use Rattle.ffs_volume.specs.Directories.Roles.{Volume, RoledEntry, is_dir, is_plain, roled_entries}
+use Rattle.ffs_volume.specs.Directories.Roles.{Volume, RoledEntry, is_dir, is_suspect, is_plain, roled_entries}
 use Rattle.ffs_volume.specs.Disk.Search.{some_below}
 use Rattle.ffs_volume.proofs.SearchLaws.{some_below-suc, first_below-some}
 use Rattle.ffs_volume.specs.Directories.Climb.{is_value}
@@ -12,6 +12,7 @@ use Rattle.ffs_volume.proofs.ClimbLaws.{is_value-true}
 use Rattle.ffs_volume.specs.Directories.Graph.{Graph, names, names_in, edge, level, level_edge, parent, parent_by}
 use Rattle.ffs_volume.specs.Directories.Parents.{graph_of}
 use Rattle.ffs_pathnames.specs.Marks.{Marks, after_roled, after_name, after_entries, belongs, after_look, after_looks, are_quiet}
+use Rattle.ffs_pathnames.specs.Calm.{IsSilent}
 use Rattle.ffs_pathnames.specs.MarksRight.{AreRight, AreRightBefore}
 use Rattle.ffs_pathnames.proofs.MarkLaws.{IsDirectory, or_false, and_false, right_after}
 use Rattle.ffs_pathnames.proofs.LookLaws.{AreStamped, stamped_all, looks_all_long, suspects_unnamed}
@@ -91,6 +92,36 @@ entries_small v s (e ∷ es) m x h = entries_small v s es (after_roled v s m e) 
     one true = two (slice_index m.stamps e.entry.number == s)
     one false = h
 
+-- THE STAMP 1 IS NEVER SET
+set_calm : (n a x : ℕ) (stamps : List ℕ) → a ≢ 1 → slice_index (slice_set stamps n a) x ≡ 1 → slice_index stamps x ≡ 1
+set_calm n a x stamps na h = elim (cases_eq x n) [
+  | inl z ↦ elim (cases_lt n (length stamps)) [
+    | inl inside ↦ absurd (na (sym (ap (λ k. slice_index (slice_set stamps n a) k) z ∙ get_or-set_same stamps n a 0 inside) ∙ h))
+    | inr past ↦ subst (λ l. slice_index l x ≡ 1) (set_past stamps n a past) h
+  ]
+  | inr o ↦ sym (get_or-set_other stamps n x a 0 o) ∙ h
+]
+
+looks_calm : (v : Volume) (s : ℕ) (es : List RoledEntry) (stamps : List ℕ) (x : ℕ) → 2 ≤ s → slice_index (after_looks v s stamps es) x ≡ 1 → slice_index stamps x ≡ 1
+looks_calm v s [] stamps x two h = h
+looks_calm v s (e ∷ es) stamps x two h = one (is_plain e.role && belongs v s e.entry.number) (looks_calm v s es (after_look v s stamps e) x two h)
+  where
+    one : (b : Bool) → slice_index (if b then slice_set stamps e.entry.number s else stamps) x ≡ 1 → slice_index stamps x ≡ 1
+    one true k = set_calm e.entry.number s x stamps (λ z. absurd (omega (arith, z, two))) k
+    one false k = k
+
+entries_calm : (v : Volume) (s : ℕ) (es : List RoledEntry) (m : Marks) (x : ℕ) → slice_index (after_entries v s m es).stamps x ≡ 1 → slice_index m.stamps x ≡ 1
+entries_calm v s [] m x h = h
+entries_calm v s (e ∷ es) m x h = one (is_plain e.role && nat_lt e.entry.number v.count) (entries_calm v s es (after_roled v s m e) x h)
+  where
+    two : (b : Bool) → slice_index (if b then slice_set m.stamps e.entry.number 0 else m.stamps) x ≡ 1 → slice_index m.stamps x ≡ 1
+    two true k = set_calm e.entry.number 0 x m.stamps (λ z. absurd (omega (arith, z))) k
+    two false k = k
+
+    one : (b : Bool) → slice_index (if b then after_name s m e.entry.number else m).stamps x ≡ 1 → slice_index m.stamps x ≡ 1
+    one true k = two (slice_index m.stamps e.entry.number == s) k
+    one false k = k
+
 -- THE NEXT DIRECTORY
 pub right_end : (v : Volume) (s : ℕ) (done es : List RoledEntry) (m : Marks) → 2 ≤ s → AreRight v s done m → AreRight v s (done ++ es) (after_entries v s m es)
 right_end v s done [] m two r = subst (λ l. AreRight v s l m) (sym (append-nil done)) r
@@ -111,6 +142,7 @@ reported_next v s m d r =
       stamps = λ x h. small_next s _ (entries_small v s (roled_entries v s) (looked v s m) x (looks_small v s (roled_entries v s) m.stamps x (small x (r.stamps x h))));
       passed_length = whole.passed_length;
       stamps_length = whole.stamps_length;
+      calm = λ x h. r.calm x (looks_calm v s (roled_entries v s) m.stamps x d.from_two (entries_calm v s (roled_entries v s) (looked v s m) x h));
     }
   where
     small : (x : ℕ) → slice_index m.stamps x < s → slice_index m.stamps x ≤ s
@@ -126,21 +158,33 @@ quiet_next v s m d r h = record {
   stamps = λ x l. small_next s _ (looks_small v s (roled_entries v s) m.stamps x (small x (r.stamps x l)));
   passed_length = r.passed_length;
   stamps_length = looks_all_long v s (roled_entries v s) m.stamps ∙ r.stamps_length;
+  calm = λ x h. r.calm x (looks_calm v s (roled_entries v s) m.stamps x d.from_two h);
 }
   where
     small : (x : ℕ) → slice_index m.stamps x < s → slice_index m.stamps x ≤ s
     small x h = omega arith
 
--- after an inode that is no directory, or has no entries
-pub other_next : (v : Volume) (s : ℕ) (m : Marks) → ((x : ℕ) → names_in (graph_of v) s x ≡ false) → AreRightBefore v s m → AreRightBefore v (suc s) m
+-- after an inode that names no suspect, and isn't looked at
+pub other_next : (v : Volume) (s : ℕ) (m : Marks) → ((x : ℕ) → is_suspect v x ≡ true → x ≢ 1 → names_in (graph_of v) s x ≡ false) → AreRightBefore v s m → AreRightBefore v (suc s) m
 other_next v s m none r = record {
   passed = λ x h q n o. r.passed x h q n o
       ∙ sym (some_below-suc (λ t. names_in (graph_of v) t x) s
-      ∙ (ap (λ b. some_below (λ t. names_in (graph_of v) t x) s || b) (none x) ∙ or_false (some_below (λ t. names_in (graph_of v) t x) s)));
+      ∙ (ap (λ b. some_below (λ t. names_in (graph_of v) t x) s || b) (none x q n) ∙ or_false (some_below (λ t. names_in (graph_of v) t x) s)));
   stamps = λ x h. small_next s _ (small x (r.stamps x h));
   passed_length = r.passed_length;
   stamps_length = r.stamps_length;
+  calm = r.calm;
 }
   where
     small : (x : ℕ) → slice_index m.stamps x < s → slice_index m.stamps x ≤ s
     small x h = omega arith
+
+-- nothing is stamped by s before it is looked at
+pub silent_quiet : (v : Volume) (s : ℕ) (m : Marks) → IsSilent v s → AreRightBefore v s m → are_quiet v s m.stamps (roled_entries v s) ≡ true
+silent_quiet v s m silent r = silent.entries m.stamps (λ y h. let low = r.stamps y h in ne_eqb (slice_index m.stamps y) s (λ z. absurd (omega (arith, z, low))))
+
+-- after a directory that is left out
+pub silent_next : (v : Volume) (s : ℕ) (m : Marks) → IsSilent v s → AreRightBefore v s m → AreRightBefore v (suc s) m
+silent_next v s m silent r =
+    other_next v s m
+    (λ x q n. ap (λ b. is_dir v s && b) (suspects_unnamed v s (roled_entries v s) m.stamps x (silent_quiet v s m silent r) q n) ∙ and_false (is_dir v s)) r

@@ -29,8 +29,12 @@ use Rattle.ffs_pathnames.specs.Before.{AreClear, IsBefore, root_said}
 use Rattle.ffs_workspace.specs.Leaves.{LeavesSurvey}
 use Rattle.ffs_pathnames.specs.Gathers.{marks_of}
 use Rattle.ffs_pathnames.specs.DirectoryContext.{DirectoryContext}
+use Rattle.ffs_pathnames.specs.Calm.{IsSilent}
 use Rattle.ffs_pathnames.specs.MarksRight.{AreRightBefore}
-use Rattle.ffs_pathnames.proofs.BetweenLaws.{other_next}
+use Rattle.std.proofs.lemmas.Bool.{cases_Bool, eqb-true}
+use Rattle.std.proofs.Common.{inl, inr, ◌≤◌}
+use Rattle.ffs_pathnames.proofs.Begun.{directory_is, quiet_parts}
+use Rattle.ffs_pathnames.proofs.BetweenLaws.{other_next, silent_next, silent_quiet}
 use Rattle.ffs_pathnames.proofs.EmptyLaws.{looked_is, looked_dir, names_none}
 use Rattle.ffs_workspace.proofs.Leaving.{claims_left, survey_left}
 
@@ -69,20 +73,30 @@ low_dir v zero h = refl
 low_dir v (suc zero) h = refl
 low_dir v (suc (suc d)) h = absurd (omega arith)
 
+-- what a stamp of 1 says before the first directory
+flag_small : (b : Bool) (n : ℕ) → n ≡ (if b then 1 else 0) → n < 2
+flag_small true n e = omega (arith, e)
+flag_small false n e = omega (arith, e)
+
+flag_set : (b : Bool) (n : ℕ) → n ≡ (if b then 1 else 0) → n ≡ 1 → b ≡ true
+flag_set true n e h = refl
+flag_set false n e h = absurd (omega (arith, e, h))
+
 -- without marks all is right before the first directory
-clear_right : (v : Layout) (b : List ℕ) (w : Workspace) → IsFor v w → AreClear w → AreRightBefore (volume_of v b) 2 (marks_of w)
+clear_right : (v : Layout) (b : List ℕ) (old w : Workspace) → IsFor v w → AreClear old w → ((x : ℕ) → bool_at old.leaders.items x ≡ true → IsSilent (volume_of v b) x) → AreRightBefore (volume_of v b) 2 (marks_of w)
 unfolding volume_of volume_with
-clear_right v b w m c = record {
+clear_right v b old w m c silent = record {
   passed = λ x h q n o. c.passed x ∙ sym (some_below-none (λ t. names_in (graph_of (volume_of v b)) t x) 2
       (λ t l. ap (λ d. d && list_any (names x) (roled_entries (volume_of v b) t)) (low_dir (volume_of v b) t l)));
-  stamps = λ x h. let none = c.stamps x in omega arith;
+  stamps = λ x h. flag_small (bool_at old.leaders.items x) _ (c.stamps x);
   passed_length = sym w.leaders.ok.0 ∙ m.leaders;
   stamps_length = sym w.queue.ok.0 ∙ m.queue;
+  calm = λ x h. silent x (flag_set (bool_at old.leaders.items x) _ (c.stamps x) h);
 }
 
-pub before_first : (v : Layout) (contents : Option (List ℕ)) (b : List ℕ) (w : Workspace) → contents ≡ Some b → HoldsClaims v b w → HoldsSurvey v b w → IsFor v w → AreClear w →
-    IsBefore v contents w 2 b
-before_first v contents b w t h s m c = record { reported_is = t; claims = h; survey = s; marks = clear_right v b w m c }
+pub before_first : (v : Layout) (contents : Option (List ℕ)) (b : List ℕ) (old w : Workspace) → contents ≡ Some b → HoldsClaims v b w → HoldsSurvey v b w → IsFor v w → AreClear old w →
+    ((x : ℕ) → bool_at old.leaders.items x ≡ true → IsSilent (volume_of v b) x) → IsBefore v contents w 2 b
+before_first v contents b old w t h s m c silent = record { reported_is = t; claims = h; survey = s; marks = clear_right v b old w m c silent }
 
 -- what is known of a directory that is looked at
 kind_known : (v : Layout) (b : List ℕ) (w : Workspace) (d : ℕ) (looked : Bool) → HoldsClaims v b w → (slice_index w.kinds.items d == 4) ≡ looked → (kind_at v b d == 4) ≡ looked
@@ -110,8 +124,42 @@ before_other v contents w d b g e k = record {
   reported_is = k.reported_is;
   claims = k.claims;
   survey = k.survey;
-  marks = other_next (volume_of v b) d (marks_of w) (names_none v b d g (kind_known v b w d false k.claims e)) k.marks;
+  marks = other_next (volume_of v b) d (marks_of w) (λ x q n. names_none v b d g (kind_known v b w d false k.claims e) x) k.marks;
 }
+
+-- a directory that is left out
+pub lines_left_out : (v : Layout) (contents : Option (List ℕ)) (w : Workspace) (d : ℕ) (b : List ℕ) → 2 ≤ d → (slice_index w.kinds.items d == 4) ≡ true → slice_index w.queue.items d ≡ 1 → IsBefore v contents w d b →
+    map of_names (lines_of (volume_of v b) d) ≡ []
+lines_left_out v contents w d b two e stamp k =
+    let silent = k.marks.calm d stamp in
+    let dir = directory_is (volume_of v b) d two (directory_context v contents w d b e k).dir in
+    ap (map of_names) (lines_looked v contents w d b e k)
+    ∙ (sym (quiet_parts (volume_of v b) d (marks_of w) dir k.marks (silent_quiet (volume_of v b) d (marks_of w) silent k.marks)) ∙ ap (map of_names) silent.starts)
+
+left_out : (a b : Bool) → (a && not b) ≡ false → a ≡ true → b ≡ true
+left_out true true h e = refl
+left_out true false h e = absurd (cc)
+left_out false b h e = absurd (cc)
+
+-- an inode that isn't looked at, or is left out
+pub lines_skipped : (v : Layout) (contents : Option (List ℕ)) (w : Workspace) (d : ℕ) (b : List ℕ) → 2 ≤ d → ((slice_index w.kinds.items d == 4) && not (slice_index w.queue.items d == 1)) ≡ false → IsBefore v contents w d b →
+    map of_names (lines_of (volume_of v b) d) ≡ []
+lines_skipped v contents w d b two h k = elim (cases_Bool (slice_index w.kinds.items d == 4)) [
+  | inl e ↦ lines_left_out v contents w d b two e (eqb-true (slice_index w.queue.items d) 1 (left_out _ _ h e)) k
+  | inr e ↦ ap (map of_names) (lines_other v contents w d b e k)
+]
+
+pub before_skipped : (v : Layout) (contents : Option (List ℕ)) (w : Workspace) (d : ℕ) (b : List ℕ) → IsGeometry v → ((slice_index w.kinds.items d == 4) && not (slice_index w.queue.items d == 1)) ≡ false → IsBefore v contents w d b →
+    IsBefore v contents w (suc d) b
+before_skipped v contents w d b g h k = elim (cases_Bool (slice_index w.kinds.items d == 4)) [
+  | inl e ↦ record {
+      reported_is = k.reported_is;
+      claims = k.claims;
+      survey = k.survey;
+      marks = silent_next (volume_of v b) d (marks_of w) (k.marks.calm d (eqb-true (slice_index w.queue.items d) 1 (left_out _ _ h e))) k.marks;
+    }
+  | inr e ↦ before_other v contents w d b g e k
+]
 
 -- an image that gives the same
 pub before_reported : (v : Layout) (contents contents' : Option (List ℕ)) (w : Workspace) (d : ℕ) (b : List ℕ) → contents' ≡ contents → IsBefore v contents w d b → IsBefore v contents' w d b

@@ -10,10 +10,10 @@ use Rattle.ffs_volume.specs.Messages.Kinds.{NameMessage, reported}
 use Rattle.ffs_volume.specs.Directories.PathnameCheck.{is_other}
 use Rattle.ffs_pathnames.specs.Header.{dot_in, dotdot_in, dot_said, dotdot_said, header_reported}
 
-silent : (b : Bool) (m : NameMessage) → b ≡ false → reported b m ≡ []
+pub silent : (b : Bool) (m : NameMessage) → b ≡ false → reported b m ≡ []
 silent b m e = ap (λ t. reported t m) e
 
-two : (xs ys : List NameMessage) → xs ≡ [] → ys ≡ [] → xs ++ ys ≡ []
+pub two : (xs ys : List NameMessage) → xs ≡ [] → ys ≡ [] → xs ++ ys ≡ []
 two xs ys p q = ap (λ l. l ++ ys) p ∙ q
 
 -- `..`

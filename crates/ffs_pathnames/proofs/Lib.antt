@@ -19,3 +19,4 @@ pub mod Begun
 pub mod EmptyLaws
 pub mod RootLaws
 pub mod Carrying
+mod SilentLaws

@@ -9,10 +9,10 @@ use Rattle.ffs_volume.specs.Encodings.Kinds.{is_dir_kind, is_empty_dir_kind}
 use Rattle.ffs_pathnames.specs.Gathers.{marks_of}
 use Rattle.ffs_pathnames.specs.MarksRight.{AreRightBefore}
 
--- nothing is marked yet: no inode is passed, and none is stamped
-pub record AreClear (w : Workspace) : Type 0 where
-  pub passed : (x : ℕ) → bool_at w.leaders.items x ≡ false
-  pub stamps : (x : ℕ) → slice_index w.queue.items x ≡ 0
+-- no inode is passed yet; what had a flag is stamped by 1, and nothing else is stamped
+pub record AreClear (old new : Workspace) : Type 0 where
+  pub passed : (x : ℕ) → bool_at new.leaders.items x ≡ false
+  pub stamps : (x : ℕ) → slice_index new.queue.items x ≡ (if bool_at old.leaders.items x then 1 else 0)
 
 -- the image gives the bytes, the workspace holds what the block check and the survey leave, and its marks are right before d
 pub record IsBefore (v : Layout) (contents : Option (List ℕ)) (w : Workspace) (d : ℕ) (b : List ℕ) : Type 0 where

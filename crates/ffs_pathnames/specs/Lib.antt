@@ -1,5 +1,4 @@
 pub mod Marks
-pub mod MarksRight
 pub mod SaysNames
 pub mod NameLines
 pub mod Header
@@ -11,6 +10,8 @@ pub mod Gathers
 pub mod DirectoryContext
 pub mod GoesOn
 pub mod Begins
+pub mod Calm
+pub mod MarksRight
 pub mod Before
 pub mod Ready
 pub mod Windows

@@ -1,5 +1,5 @@
 // The pathname check of the root, and of one directory after another.
-ghost use Rattle.std.specs.Prelude.{suc, ◌≡◌, ◌-◌, ◌*◌, ◌==◌, ◌<◌, ◌≤◌, true, OnOk, IfOk, map, slice_index, vec_len};
+ghost use Rattle.std.specs.Prelude.{suc, ◌≡◌, ◌-◌, ◌*◌, ◌==◌, ◌<◌, ◌≤◌, ◌&&◌, not, true, OnOk, IfOk, map, slice_index, vec_len};
 ghost use Rattle.ffs_phase.specs.Known.{ForBytes};
 ghost use Rattle.ffs_phase.specs.Runs.{ImageAfter, PhaseReports};
 ghost use Rattle.ffs_report.specs.Progress.{progress};
@@ -15,6 +15,7 @@ ghost use Rattle.ffs_workspace.specs.Ready.{IsReady};
 ghost use Rattle.ffs_pathnames.specs.Ready.{ReadyWith, PhaseLeaves};
 
 use crate::check::check_directory;
+use crate::clear::CALM;
 use crate::phase::Root;
 use crate::root::{report_root, root_of};
 use ffs_image::Image;
@@ -24,12 +25,14 @@ use ffs_phase::RunFault;
 use ffs_report::{Output, Report};
 use ffs_workspace::Workspace;
 
-/// Whether an inode is a directory that isn't of size 0.
+/// Whether an inode is a directory that isn't of size 0, and that the survey didn't find calm.
 fn is_looked_at(workspace: &Workspace, number: u32) -> bool
-    requires { number < vec_len workspace.now.kinds }
-    ensures { result ≡ (slice_index workspace.now.kinds.items number == 4) }
+    requires kinds { number < vec_len workspace.now.kinds }
+    requires queue { number < vec_len workspace.now.queue }
+    ensures { result ≡ ((slice_index workspace.now.kinds.items number == 4)
+        && not (slice_index workspace.now.queue.items number == 1)) }
 {
-    workspace.kinds[number as usize] == 4
+    workspace.kinds[number as usize] == 4 && workspace.queue[number as usize] != CALM
 }
 
 /// Prints the lines of an inode as a directory, and of its entries.

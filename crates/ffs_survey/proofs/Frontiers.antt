@@ -248,11 +248,14 @@ within-dir v (suc k) x sane two h =
           (edge-parts v w.0 x (and_parts (within v k w.0) (edge v w.0 x) w.1.passes).1).0
     ]
 
-pub front_dirs : (v : Graph) (k : ℕ) (xs : List ℕ) → IsSane v → v.is_dir 2 ≡ true → IsFrontier v k xs → (i d : ℕ) → i < length xs → v.is_dir (get_or xs i d) ≡ true
-front_dirs v k xs sane two f i d l =
+pub front_within : (v : Graph) (k : ℕ) (xs : List ℕ) → IsFrontier v k xs → (i d : ℕ) → i < length xs → within v k (get_or xs i d) ≡ true
+front_within v k xs f i d l =
     let x = get_or xs i d in
     let lv = is_value-true _ k (bit-one _ _ (f.members x) (times-at xs i d l)) in
-    within-dir v k x sane two (level-some v k x lv).0.within_k
+    (level-some v k x lv).0.within_k
+
+pub front_dirs : (v : Graph) (k : ℕ) (xs : List ℕ) → IsSane v → v.is_dir 2 ≡ true → IsFrontier v k xs → (i d : ℕ) → i < length xs → v.is_dir (get_or xs i d) ≡ true
+front_dirs v k xs sane two f i d l = within-dir v k (get_or xs i d) sane two (front_within v k xs f i d l)
 
 pub front_from : (v : Graph) (k : ℕ) (xs ys : List ℕ) → ((x : ℕ) → times x xs ≡ bit (is_value (level v x) k)) → IsPermutation xs ys → IsNonDecreasing ys → IsFrontier v k ys
 unfolding times

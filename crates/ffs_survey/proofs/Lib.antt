@@ -7,3 +7,4 @@ mod Queues
 mod Whole
 mod Walks
 mod UnrefLaws
+pub mod CalmLaws

@@ -4,3 +4,4 @@ pub mod Discover
 pub mod Cycles
 pub mod SurveyLaws
 pub mod ParentLaws
+pub mod Calm

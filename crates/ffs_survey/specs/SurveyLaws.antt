@@ -1,5 +1,5 @@
 -- A survey of a volume's directories, from kinds and marks that the volume gives.
-use Rattle.std.specs.Prelude.{◌≡◌, ℕ, zero, suc, ◌+◌, ◌*◌, ◌<◌, ◌==◌, Bool, true, false, not, ◌&&◌, ◌||◌, nat_le, nat_lt, if◌then◌else◌, List, length, refl, count_by}
+use Rattle.std.specs.Prelude.{◌≡◌, ℕ, zero, suc, ◌+◌, ◌*◌, ◌==◌, Bool, true, false, not, ◌&&◌, ◌||◌, nat_le, nat_lt, if◌then◌else◌, List, length, refl, count_by}
 use Rattle.std.proofs.Common.{◌∙◌, ap, subst, inl, inr}
 use Rattle.std.proofs.lemmas.Bool.{or_cases, eqb-true, or_parts, false_from_ne_true}
 use mathlib.Core.Path.{fun_ext}
@@ -12,7 +12,7 @@ use Rattle.ffs_volume.specs.Directories.Roles.{Volume, RoledEntry, roled_entries
 use Rattle.ffs_volume.specs.Directories.Volumes.{class_at, marked_at, volume_of, volume_with}
 use Rattle.ffs_volume.specs.Directories.Graph.{Graph}
 use Rattle.ffs_volume.specs.Directories.Parents.{graph_of}
-use Rattle.ffs_survey.specs.Survey.{bool_at, number_at, is_dir_kind, dir_at, suspect_at, graph_with, references_below, references_to, IsSurvey, IsTree, AreNamed}
+use Rattle.ffs_survey.specs.Survey.{bool_at, number_at, is_dir_kind, dir_at, suspect_at, graph_with, references_below, references_to, IsSurvey}
 
 -- the graph of a volume's directories, from kinds and entries
 pub graph_is : (v : Volume) (kinds : List ℕ) (entries : ℕ → List RoledEntry) → length kinds ≡ v.count → ((x : ℕ) → dir_at kinds x ≡ is_dir v x) → ((d : ℕ) → entries d ≡ roled_entries v d) → graph_with kinds entries ≡ graph_of v

@@ -8,7 +8,7 @@ use ffs_image::ImageFault;
 /// list of bytes that the base knows to be the image's; without such knowledge a reader hands out some entries, and
 /// still no more of a directory than `left` allows.
 pub trait Directories {
-    ghost use Rattle.std.specs.Prelude.{ℕ, List, ◌≡◌, ◌<◌, ◌≤◌, ◌^◌, [], ◌∷◌, MatchOption, IfSome, IfOk, OnOk, IfErr};
+    ghost use Rattle.std.specs.Prelude.{ℕ, Bool, List, ◌≡◌, ◌<◌, ◌≤◌, ◌^◌, [], ◌∷◌, MatchOption, IfSome, IfNone, IfOk, OnOk, IfErr};
     ghost use Rattle.ffs_image.specs.Device.{Device, Faulted};
     ghost use Rattle.ffs_volume.specs.Directories.Roles.{RoledEntry};
     ghost use Rattle.ffs_survey.specs.declared.named.Named.{Named};
@@ -22,6 +22,8 @@ pub trait Directories {
 
     ghost entries: { Base → List ℕ → ℕ → List RoledEntry };
 
+    ghost sound: { Base → List ℕ → ℕ → Bool };
+
     ghost device: { Self → Device };
 
     ghost ready: { Self → Type 0 };
@@ -31,6 +33,10 @@ pub trait Directories {
     ghost left: { Self → ℕ };
 
     ghost name: { Self → List ℕ };
+
+    ghost sound_so_far: { Self → List ℕ → Bool };
+
+    ghost ended: { Self → List ℕ → Type 0 };
 
     /// Begins a directory.
     ///
@@ -42,6 +48,8 @@ pub trait Directories {
         ensures rest { OnOk result ((b : List ℕ) → knows (base self.old) b → rest self.new b
             ≡ entries (base self.old) b dir) }
         ensures left { OnOk result (left self.new ≤ 2 ^ 28) }
+        ensures sound { OnOk result ((b : List ℕ) → knows (base self.old) b
+            → sound_so_far self.new b ≡ sound (base self.old) b dir) }
         ensures base { base self.new ≡ base self.old }
         ensures device { OnOk result (device self.new ≡ device self.old) }
         ensures fault { IfErr result (λ fault. Faulted (device self.old) (device self.new)
@@ -58,6 +66,24 @@ pub trait Directories {
             → MatchOption o (rest self.old b ≡ [])
             (λ e. rest self.old b ≡ roled_of e (name self.new) ∷ rest self.new b)) }
         ensures left { IfOk result (λ o. IfSome o (λ e. left self.new < left self.old)) }
+        ensures sound { OnOk result ((b : List ℕ) → knows (base self.old) b
+            → sound_so_far self.new b ≡ sound_so_far self.old b) }
+        ensures ended { IfOk result (λ o. IfNone o ((b : List ℕ) → knows (base self.old) b
+            → ended self.new b)) }
+        ensures base { base self.new ≡ base self.old }
+        ensures device { OnOk result (device self.new ≡ device self.old) }
+        ensures fault { IfErr result (λ fault. Faulted (device self.old) (device self.new)
+            fault.sector) };
+
+    /// Whether the directory that was begun, of which no entry is left, has a right size, no hole and sound chunks.
+    ///
+    /// # Errors
+    /// A read of the image that failed.
+    fn is_sound(&mut self) -> Result<bool, ImageFault>
+        requires ready { ready self.old }
+        ensures ready { ready self.new }
+        ensures sound { IfOk result (λ right. (b : List ℕ) → knows (base self.old) b
+            → ended self.old b → right ≡ sound_so_far self.old b) }
         ensures base { base self.new ≡ base self.old }
         ensures device { OnOk result (device self.new ≡ device self.old) }
         ensures fault { IfErr result (λ fault. Faulted (device self.old) (device self.new)

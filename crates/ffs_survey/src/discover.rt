@@ -1,15 +1,17 @@
 //! What one directory, and one level of directories, names.
-ghost use Rattle.std.specs.Prelude.{◌≡◌, ◌≢◌, ℕ, ◌+◌, ◌-◌, ◌*◌, ◌<◌, ◌≤◌, ◌^◌, ◌==◌, ◌&&◌, ◌||◌, not, cond, List, [], ◌∷◌, length, take, drop, All, true, false, IfOk, OnOk, IfErr};
+ghost use Rattle.std.specs.Prelude.{◌≡◌, ◌≢◌, ℕ, ◌+◌, ◌-◌, ◌*◌, ◌<◌, ◌≤◌, ◌^◌, ◌==◌, ◌&&◌, ◌||◌, not, nat_le, cond, List, [], ◌∷◌, length, take, drop, All, true, false, IfOk, OnOk, IfErr};
 ghost use Rattle.ffs_image.specs.Device.{Faulted};
 ghost use Rattle.ffs_volume.specs.Directories.Roles.{refers, is_plain as is_plain_role};
 ghost use Rattle.ffs_volume.specs.Directories.Graph.{names};
 ghost use Rattle.ffs_survey.specs.Reading.{roled_of};
 ghost use Rattle.ffs_survey.specs.Survey.{bool_at, number_at, dir_at, graph_with};
+ghost use Rattle.ffs_survey.specs.Calm.{is_calm_kind, is_calm_plain, is_calm_entry, AreCalm, IsFlagged};
 ghost use Rattle.ffs_survey.specs.Discover.{bit, unset, times, Comes, from_entries, from_dirs, nothing, count_in, any_in, count_of, any_of, none, never, Counts, IsFrontier, LevelsKnown, is_free as is_free_at};
 
 use crate::directories::Directories;
 use crate::named::{Named, is_counted, is_dir, is_plain};
 use ffs_image::ImageFault;
+use ffs_volume::Role;
 
 /// Counts an entry for the inode that it names.
 fn count_reference(entry: Named, references: &mut [u64])
@@ -80,19 +82,112 @@ fn visit(
     top + 1
 }
 
-/// Reads the directory `from` of a level: counts its entries, and discovers what they name.
+/// Whether a plain entry of a type can name an inode of that type: one that is allocated, of a known type and no directory
+/// of size 0. A directory mustn't be reached already, since its parent entry was before then.
+fn is_calm_kind(kind: u8, reached: bool) -> bool
+    ensures { result ≡ is_calm_kind kind reached }
+{
+    kind != 0 && kind != 5 && kind != 14 && kind != 15 && !(kind == 4 && reached)
+}
+
+/// Whether nothing can be reported of a plain entry.
+fn is_calm_plain(entry: Named, kinds: &[u8], marked: &[bool], reached: &[bool]) -> bool
+    requires marked { length marked.now ≡ length kinds.now }
+    requires reached { length reached.now ≡ length kinds.now }
+    ensures { result ≡ is_calm_plain kinds.now marked.now (bool_at reached.now) entry.number
+        entry.kind }
+{
+    let number = entry.number as usize;
+    if number < 2 || number >= kinds.len() {
+        return false;
+    }
+    !marked[number] && kinds[number] == entry.kind && is_calm_kind(entry.kind, reached[number])
+}
+
+/// Whether nothing can be reported of the entry at an index of the directory `from`, whose parent is `above`.
+fn is_calm(
+    entry: Named,
+    index: u32,
+    from: u32,
+    above: u32,
+    kinds: &[u8],
+    marked: &[bool],
+    reached: &[bool],
+) -> bool
+    requires marked { length marked.now ≡ length kinds.now }
+    requires reached { length reached.now ≡ length kinds.now }
+    ensures { result ≡ is_calm_entry (record {
+      kinds = kinds.now;
+      marked = marked.now;
+      dir = from;
+      above = above;
+    }) (bool_at reached.now) index (roled_of entry []) }
+{
+    match entry.role {
+        Role::Dot => index == 0 && entry.number == from && entry.kind == 4,
+        Role::Dotdot => index == 1 && entry.number == above && entry.kind == 4,
+        Role::Extra => false,
+        Role::Empty => index >= 2,
+        Role::Plain => index >= 2 && is_calm_plain(entry, kinds, marked, reached),
+    }
+}
+
+/// The parent of a directory, 0 for none.
+fn parent_of(parents: &[u32], dir: u32) -> u32
+    ensures { result ≡ number_at parents.now dir }
+{
+    if dir as usize >= parents.len() {
+        return 0;
+    }
+    parents[dir as usize]
+}
+
+/// Flags the directory `from`, all of whose `count` entries are read, if these are calm and its shape is right.
+fn flag_calm<D: Directories>(
+    directories: &mut D,
+    from: u32,
+    quiet: bool,
+    count: u32,
+    calm: &mut [bool],
+) -> Result<(), ImageFault>
+    requires ready { D.ready directories.old }
+    ensures flags { OnOk result ((b : List ℕ) → D.knows (D.base directories.old) b
+        → D.ended directories.old b → IsFlagged from (quiet && nat_le 2 count)
+        (D.sound_so_far directories.old b) calm.old calm.new) }
+    ensures length { length calm.new ≡ length calm.old }
+    ensures ready { D.ready directories.new }
+    ensures base { D.base directories.new ≡ D.base directories.old }
+    ensures device { OnOk result (D.device directories.new ≡ D.device directories.old) }
+    ensures fault { IfErr result (λ fault. Faulted (D.device directories.old)
+        (D.device directories.new) fault.sector) }
+{
+    let number = from as usize;
+    if !quiet || count < 2 || number >= calm.len() {
+        return Ok(());
+    }
+    if directories.is_sound()? {
+        calm[number] = true;
+    }
+    Ok(())
+}
+
+/// Reads the directory `from` of a level: counts its entries, discovers what they name, and flags it in `calm` if
+/// nothing can be reported of it.
 fn read_reached<D: Directories>(
     directories: &mut D,
     from: u32,
     kinds: &[u8],
+    marked: &[bool],
     references: &mut [u64],
     named: &mut [bool],
     reached: &mut [bool],
     parents: &mut [u32],
+    calm: &mut [bool],
     queue: &mut [u32],
     top: usize,
 ) -> Result<usize, ImageFault>
     requires ready { D.ready directories.old }
+    requires marked { length marked.now ≡ length kinds.now }
     requires references { length references.old ≡ length kinds.now }
     requires named { length named.old ≡ length kinds.now }
     requires reached { length reached.old ≡ length kinds.now }
@@ -110,19 +205,31 @@ fn read_reached<D: Directories>(
         → Counts (length kinds.now) (count_in (D.entries (D.base directories.old) b from))
         (any_in (D.entries (D.base directories.old) b from)) references.old named.old none never
         references.new named.new) }
+    ensures calm { OnOk result ((b : List ℕ) → D.knows (D.base directories.old) b
+        → bool_at reached.old from ≡ true
+        → AreCalm kinds.now marked.now reached.old parents.old
+        (D.entries (D.base directories.old) b) (D.sound (D.base directories.old) b) calm.old
+        → AreCalm kinds.now marked.now reached.new parents.new
+        (D.entries (D.base directories.old) b) (D.sound (D.base directories.old) b) calm.new) }
     ensures ready { D.ready directories.new }
     ensures base { D.base directories.new ≡ D.base directories.old }
     ensures device { OnOk result (D.device directories.new ≡ D.device directories.old) }
     ensures fault { IfErr result (λ fault. Faulted (D.device directories.old)
         (D.device directories.new) fault.sector) }
 {
+    let above = parent_of(parents, from);
     let mut high = top;
+    let mut quiet = true;
+    let mut count = 0u32;
     directories.start(from)?;
     while let Some(entry) = directories.next()? {
         count_reference(entry, references);
         mark_named(entry, named);
+        quiet &= is_calm(entry, count, from, above, kinds, marked, reached);
         high = visit(entry, from, kinds, reached, parents, queue, high);
+        count += 1;
     }
+    flag_calm(directories, from, quiet, count, calm)?;
     Ok(high)
 }
 
@@ -131,13 +238,16 @@ pub fn read_level<D: Directories>(
     directories: &mut D,
     frontier: &[u32],
     kinds: &[u8],
+    marked: &[bool],
     references: &mut [u64],
     named: &mut [bool],
     reached: &mut [bool],
     parents: &mut [u32],
+    calm: &mut [bool],
     queue: &mut [u32],
 ) -> Result<usize, ImageFault>
     requires ready { D.ready directories.old }
+    requires marked { length marked.now ≡ length kinds.now }
     requires references { length references.old ≡ length kinds.now }
     requires named { length named.old ≡ length kinds.now }
     requires reached { length reached.old ≡ length kinds.now }
@@ -147,6 +257,8 @@ pub fn read_level<D: Directories>(
     requires room { unset reached.old ≤ length queue.old }
     requires frontier { (b : List ℕ) → D.knows (D.base directories.old) b
         → All (λ s. dir_at kinds.now s ≡ true) frontier.now }
+    requires reached_before { (b : List ℕ) → D.knows (D.base directories.old) b
+        → All (λ s. bool_at reached.old s ≡ true) frontier.now }
     ensures grown { OnOk result ((x : ℕ) → x < length kinds.now → number_at references.new x
         ≤ number_at references.old x + length frontier.now * 2 ^ 28) }
     ensures top { IfOk result (λ n. n + unset reached.new ≡ unset reached.old) }
@@ -159,6 +271,11 @@ pub fn read_level<D: Directories>(
         (graph_with kinds.now (D.entries (D.base directories.old) b)) frontier.now)
         (any_of (graph_with kinds.now (D.entries (D.base directories.old) b)) frontier.now)
         references.old named.old none never references.new named.new) }
+    ensures calm { OnOk result ((b : List ℕ) → D.knows (D.base directories.old) b
+        → AreCalm kinds.now marked.now reached.old parents.old
+        (D.entries (D.base directories.old) b) (D.sound (D.base directories.old) b) calm.old
+        → AreCalm kinds.now marked.now reached.new parents.new
+        (D.entries (D.base directories.old) b) (D.sound (D.base directories.old) b) calm.new) }
     ensures ready { D.ready directories.new }
     ensures base { D.base directories.new ≡ D.base directories.old }
     ensures device { OnOk result (D.device directories.new ≡ D.device directories.old) }
@@ -171,10 +288,12 @@ pub fn read_level<D: Directories>(
             directories,
             *s,
             kinds,
+            marked,
             references,
             named,
             reached,
             parents,
+            calm,
             queue,
             top,
         )?;

@@ -4,6 +4,7 @@ ghost use Rattle.ffs_image.specs.Device.{Faulted};
 ghost use Rattle.ffs_volume.specs.Directories.Graph.{names_in};
 ghost use Rattle.ffs_volume.specs.Disk.Search.{first_below, some_below};
 ghost use Rattle.ffs_survey.specs.Survey.{bool_at, number_at, dir_at, graph_with, IsSurvey};
+ghost use Rattle.ffs_survey.specs.Calm.{AreCalm};
 ghost use Rattle.ffs_survey.specs.Discover.{unset, count_in, any_in, count_of, any_of, none, never, Counts, IsFrontier, LevelsKnown, IsReachedPart, counted_by, is_free as is_free_at, IsBlank, IsRead};
 
 use crate::directories::Directories;
@@ -16,10 +17,12 @@ use ffs_image::ImageFault;
 fn next_level<D: Directories>(
     directories: &mut D,
     kinds: &[u8],
+    marked: &[bool],
     references: &mut [u64],
     named: &mut [bool],
     reached: &mut [bool],
     parents: &mut [u32],
+    calm: &mut [bool],
     queue: &mut [u32],
     low: usize,
     high: usize,
@@ -29,6 +32,7 @@ fn next_level<D: Directories>(
     requires some { 2 < length kinds.now }
     requires few { length kinds.now < 2 ^ 31 }
     requires root { dir_at kinds.now 2 ≡ true }
+    requires marked { length marked.now ≡ length kinds.now }
     requires references { length references.old ≡ length kinds.now }
     requires named { length named.old ≡ length kinds.now }
     requires reached { length reached.old ≡ length kinds.now }
@@ -62,6 +66,11 @@ fn next_level<D: Directories>(
         (any_of (graph_with kinds.now (D.entries (D.base directories.old) b))
         (drop low (take high queue.old))) references.old named.old none never references.new
         named.new) }
+    ensures calm { OnOk result ((b : List ℕ) → D.knows (D.base directories.old) b
+        → AreCalm kinds.now marked.now reached.old parents.old
+        (D.entries (D.base directories.old) b) (D.sound (D.base directories.old) b) calm.old
+        → AreCalm kinds.now marked.now reached.new parents.new
+        (D.entries (D.base directories.old) b) (D.sound (D.base directories.old) b) calm.new) }
     ensures ready { D.ready directories.new }
     ensures base { D.base directories.new ≡ D.base directories.old }
     ensures device { OnOk result (D.device directories.new ≡ D.device directories.old) }
@@ -73,10 +82,12 @@ fn next_level<D: Directories>(
         directories,
         &left[low..],
         kinds,
+        marked,
         references,
         named,
         reached,
         parents,
+        calm,
         right,
     )?;
     right[..found].sort_unstable();
@@ -87,15 +98,18 @@ fn next_level<D: Directories>(
 fn survey_reached<D: Directories>(
     directories: &mut D,
     kinds: &[u8],
+    marked: &[bool],
     references: &mut [u64],
     named: &mut [bool],
     reached: &mut [bool],
     parents: &mut [u32],
+    calm: &mut [bool],
     queue: &mut [u32],
 ) -> Result<(), ImageFault>
     requires ready { D.ready directories.old }
     requires some { 2 < length kinds.now }
     requires few { length kinds.now < 2 ^ 31 }
+    requires marked { length marked.now ≡ length kinds.now }
     requires references { length references.old ≡ length kinds.now }
     requires named { length named.old ≡ length kinds.now }
     requires reached { length reached.old ≡ length kinds.now }
@@ -105,11 +119,15 @@ fn survey_reached<D: Directories>(
     requires none_named { (x : ℕ) → bool_at named.old x ≡ false }
     requires none_reached { (x : ℕ) → bool_at reached.old x ≡ false }
     requires no_parents { (x : ℕ) → number_at parents.old x ≡ 0 }
+    requires none_calm { (x : ℕ) → bool_at calm.old x ≡ false }
     ensures counted { OnOk result ((x : ℕ) → x < length kinds.now → number_at references.new x
         ≤ 2 ^ 59) }
     ensures part { OnOk result ((b : List ℕ) → D.knows (D.base directories.old) b
         → IsReachedPart (graph_with kinds.now (D.entries (D.base directories.old) b)) references.new
         named.new reached.new parents.new) }
+    ensures calm { OnOk result ((b : List ℕ) → D.knows (D.base directories.old) b
+        → AreCalm kinds.now marked.now reached.new parents.new
+        (D.entries (D.base directories.old) b) (D.sound (D.base directories.old) b) calm.new) }
     ensures ready { D.ready directories.new }
     ensures base { D.base directories.new ≡ D.base directories.old }
     ensures device { OnOk result (D.device directories.new ≡ D.device directories.old) }
@@ -129,10 +147,12 @@ fn survey_reached<D: Directories>(
         let end = next_level(
             directories,
             kinds,
+            marked,
             references,
             named,
             reached,
             parents,
+            calm,
             queue,
             low,
             high,
@@ -184,20 +204,25 @@ fn survey_unreached<D: Directories>(
 /// Finds for each inode how many entries name it, whether a plain one does, whether it is reached from inode 2, and its
 /// parent, 0 for none. Each directory is read once, and what the lists held before is forgotten.
 ///
+/// `calm` flags directories of which nothing can be reported: reached ones that were right as they were read.
+///
 /// # Errors
 /// A read of the image that failed. What the lists hold is then open.
 pub fn survey<D: Directories>(
     directories: &mut D,
     kinds: &[u8],
+    marked: &[bool],
     references: &mut [u64],
     named: &mut [bool],
     reached: &mut [bool],
     parents: &mut [u32],
+    calm: &mut [bool],
     queue: &mut [u32],
 ) -> Result<(), ImageFault>
     requires ready { D.ready directories.old }
     requires some { 2 < length kinds.now }
     requires few { length kinds.now < 2 ^ 31 }
+    requires marked { length marked.now ≡ length kinds.now }
     requires references { length references.old ≡ length kinds.now }
     requires named { length named.old ≡ length kinds.now }
     requires reached { length reached.old ≡ length kinds.now }
@@ -206,6 +231,9 @@ pub fn survey<D: Directories>(
     ensures survey { OnOk result ((b : List ℕ) → D.knows (D.base directories.old) b
         → IsSurvey (graph_with kinds.now (D.entries (D.base directories.old) b)) references.new
         named.new reached.new parents.new) }
+    ensures calm { OnOk result ((b : List ℕ) → D.knows (D.base directories.old) b
+        → AreCalm kinds.now marked.now reached.new parents.new
+        (D.entries (D.base directories.old) b) (D.sound (D.base directories.old) b) calm.new) }
     ensures ready { D.ready directories.new }
     ensures base { D.base directories.new ≡ D.base directories.old }
     ensures device { OnOk result (D.device directories.new ≡ D.device directories.old) }
@@ -216,13 +244,16 @@ pub fn survey<D: Directories>(
     named.fill(false);
     reached.fill(false);
     parents.fill(0);
+    calm.fill(false);
     survey_reached(
         directories,
         kinds,
+        marked,
         references,
         named,
         reached,
         parents,
+        calm,
         queue,
     )?;
     survey_unreached(directories, kinds, references, named, reached, parents)?;

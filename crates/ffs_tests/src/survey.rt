@@ -16,7 +16,7 @@ struct Listed {
 }
 
 impl Directories for Listed {
-    ghost use Rattle.std.specs.Prelude.{[], None, ◌-◌};
+    ghost use Rattle.std.specs.Prelude.{[], None, true, ◌-◌};
 
     ghost Base = { Unit {0} };
 
@@ -25,6 +25,8 @@ impl Directories for Listed {
     ghost knows = { λ _ _. ⊥ };
 
     ghost entries = { λ _ _ _. [] };
+
+    ghost sound = { λ _ _ _. true };
 
     ghost device = { λ _. record { contents = None; size = 0; failures = 0; failed = 0 } };
 
@@ -35,6 +37,10 @@ impl Directories for Listed {
     ghost left = { λ listed. 4 - listed.place };
 
     ghost name = { λ _. [] };
+
+    ghost sound_so_far = { λ _ _. true };
+
+    ghost ended = { λ _ _. Unit {0} };
 
     fn start(&mut self, dir: u32) -> Result<(), ImageFault> {
         self.dir = dir as usize;
@@ -49,6 +55,10 @@ impl Directories for Listed {
         let entry = self.entries[self.dir][self.place];
         self.place += 1;
         Ok(Some(entry))
+    }
+
+    fn is_sound(&mut self) -> Result<bool, ImageFault> {
+        Ok(true)
     }
 }
 
@@ -108,20 +118,27 @@ fn surveys_a_tree_and_a_cycle(rt: HostRuntime) {
     let mut named = [true; 8];
     let mut reached = [true; 8];
     let mut parents = [7; 8];
+    let mut calm = [true; 8];
     let mut queue = [7; 8];
     let answer = survey(
         &mut small_volume(),
         &KINDS,
+        &[false; 8],
         &mut references,
         &mut named,
         &mut reached,
         &mut parents,
+        &mut calm,
         &mut queue,
     );
     assert!(rt; answer.is_ok());
     assert_eq!(rt; references, [0, 0, 3, 2, 1, 3, 3, 0]);
     assert_eq!(rt; parents, PARENTS);
     assert_eq!(rt; (named, reached), (NAMED, REACHED));
+    assert_eq!(rt;
+        calm,
+        [false, false, true, false, false, false, false, false]
+    );
 }
 
 // The least number of each cycle leads it: the root's own, and that of 5 and 6.

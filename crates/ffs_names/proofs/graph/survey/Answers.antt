@@ -2,7 +2,7 @@ use Rattle.std.proofs.Common.{◌∙◌, ap, sym, rules, arith}
 use Rattle.std.specs.Prelude.{slice_index}
 use Rattle.std.proofs.lemmas.List.{with_items_is}
 use Rattle.ffs_volume.proofs.Sizes.{some_inodes}
-use Rattle.ffs_names.proofs.SurveyHolds.{on_ok, blocks_in, volume_survey, holds_survey}
+use Rattle.ffs_names.proofs.SurveyHolds.{on_ok, blocks_in, volume_survey, holds_survey, volume_calm, holds_calm}
 use Rattle.ffs_names.proofs.graph.survey.Goals as goal
 
 pub returns-clause-ok : goal.returns-clause-ok
@@ -43,6 +43,28 @@ returns-clause-survey g c = on_ok c.survey.result _ _ (λ s b t h.
     holds_survey c.args.geometry.now.layout b _ n.references n.named n.reached n.parents
     (with_items_is w.references n.references (search rules)) (with_items_is w.named n.named (search rules)) (with_items_is w.reached n.reached (search rules)) (with_items_is w.parents n.parents (search rules)) survey)
     c.survey.ensures.survey
+
+pub returns-clause-calm : goal.returns-clause-calm
+returns-clause-calm g c = on_ok c.survey.result _ _ (λ s b t h.
+    let w = c.args.workspace.now in
+    let n = c.survey.new in
+    let found = s b (record {
+      bytes = t;
+      kinds = λ x. ap (λ ks. slice_index ks x) c.deref.ensures.value ∙ h.kinds x;
+      cut = λ x. ap (λ ks. slice_index ks x) c.deref-2.ensures.value ∙ h.cut x;
+    }) in
+    let calm = volume_calm (record {
+      layout = c.args.geometry.now.layout;
+      contents = (g.I.Image.device c.args.image.now).contents;
+      kinds = c.deref.result.now;
+      cut = c.deref-2.result.now;
+      image_lent = c.tree-2-1.given;
+      windows_lent = c.tree-3-1.given.0;
+    }) b c.deref-3.result.now c.deref-4.result.now n.reached n.parents n.calm found in
+    holds_calm c.args.geometry.now.layout b _ c.deref-3.result.now c.deref-4.result.now n.reached n.parents n.calm
+    (sym c.deref-3.ensures.value) (sym c.deref-4.ensures.value)
+    (with_items_is w.reached n.reached (search rules)) (with_items_is w.parents n.parents (search rules)) (with_items_is w.leaders n.calm (search rules)) calm)
+    c.survey.ensures.calm
 
 pub survey-requires-clause-some : goal.survey-requires-clause-some
 survey-requires-clause-some g c = let k = some_inodes c.args.geometry.now.layout c.args.geometry.now.sound in omega (arith, c.deref-3.ensures.len, c.requires.made.kinds, k)

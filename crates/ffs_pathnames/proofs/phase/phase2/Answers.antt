@@ -8,6 +8,7 @@ use Rattle.ffs_pathnames.specs.declared.phase.Root.{Root}
 use Rattle.ffs_pathnames.proofs.Carrying.{on_all, if_ok, at_fault, at_fault_more, claims_untouched, before_first}
 use Rattle.ffs_workspace.proofs.Leaving.{claims_left, survey_left}
 use Rattle.ffs_pathnames.proofs.ReadyLaws.{ready_same}
+use Rattle.ffs_pathnames.proofs.SilentLaws.{calm_silent}
 use Rattle.ffs_pathnames.proofs.phase.phase2.Goals as goal
 
 pub returns-in_err-say-clause-text : goal.returns-in_err-say-clause-text
@@ -46,9 +47,9 @@ returns-clause-text g c =
     (of_says _ all lines _ (phase2 ∷ []) _ _ _ (of_begins _ all _) (λ b k. refl) c.in_ok-say.ensures.said)
     (λ b k. refl)
     (reports_knowing Root _ _ lines _ _ c.check_tree.result
-    (λ b k. before_first v _ b _ (ap (λ d. d.contents) found.ok ∙ k.0)
+    (λ b k. before_first v _ b _ _ (ap (λ d. d.contents) found.ok ∙ k.0)
     (claims_left v b _ _ clear.survey (claims_untouched v b _ _ found.same k.1))
-    (survey_left v b _ _ clear.survey (found.survey b k.0 k.1)) made clear.clear)
+    (survey_left v b _ _ clear.survey (found.survey b k.0 k.1)) made clear.clear (λ x set. calm_silent v b _ c.args.geometry.now.sound found.made (claims_untouched v b _ _ found.same k.1) (found.survey b k.0 k.1) (found.calm b k.0 k.1) x set))
     c.check_tree.ensures.text)
 
 pub returns-clause-goes : goal.returns-clause-goes
@@ -58,9 +59,9 @@ returns-clause-goes g c =
     let clear = c.clear_marks.ensures in
     let made = (clear.ready v _ (ready_same v _ _ _ _ c.requires.ready found.ok found.made found.windows)).made in
     if_ok c.check_tree.result _ _
-    (λ root h b k. h b (before_first v _ b _ (ap (λ d. d.contents) found.ok ∙ k.0)
+    (λ root h b k. h b (before_first v _ b _ _ (ap (λ d. d.contents) found.ok ∙ k.0)
     (claims_left v b _ _ clear.survey (claims_untouched v b _ _ found.same k.1))
-    (survey_left v b _ _ clear.survey (found.survey b k.0 k.1)) made clear.clear))
+    (survey_left v b _ _ clear.survey (found.survey b k.0 k.1)) made clear.clear (λ x set. calm_silent v b _ c.args.geometry.now.sound found.made (claims_untouched v b _ _ found.same k.1) (found.survey b k.0 k.1) (found.calm b k.0 k.1) x set)))
     c.check_tree.ensures.goes
 
 pub returns-clause-fault : goal.returns-clause-fault
@@ -70,9 +71,9 @@ returns-clause-fault g c =
     let clear = c.clear_marks.ensures in
     let made = (clear.ready v _ (ready_same v _ _ _ _ c.requires.ready found.ok found.made found.windows)).made in
     at_fault_more c.check_tree.result _ _
-    (λ h. inr (λ b k. h b (before_first v _ b _ (ap (λ d. d.contents) found.ok ∙ k.0)
+    (λ h. inr (λ b k. h b (before_first v _ b _ _ (ap (λ d. d.contents) found.ok ∙ k.0)
     (claims_left v b _ _ clear.survey (claims_untouched v b _ _ found.same k.1))
-    (survey_left v b _ _ clear.survey (found.survey b k.0 k.1)) made clear.clear)))
+    (survey_left v b _ _ clear.survey (found.survey b k.0 k.1)) made clear.clear (λ x set. calm_silent v b _ c.args.geometry.now.sound found.made (claims_untouched v b _ _ found.same k.1) (found.survey b k.0 k.1) (found.calm b k.0 k.1) x set))))
     c.check_tree.ensures.fault
 
 pub returns-clause-holds : goal.returns-clause-holds

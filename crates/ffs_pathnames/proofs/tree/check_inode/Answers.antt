@@ -1,16 +1,17 @@
 use Rattle.std.proofs.Common.{sym, ap, ◌∙◌, map, []}
+use Rattle.std.proofs.lemmas.Bool.{and_parts}
 use Rattle.ffs_names.proofs.SurveyHolds.{on_ok}
 use Rattle.ffs_phase.proofs.Reporting.{of_begins, of_same, reports_same, reports_knowing}
 use Rattle.ffs_volume.specs.Messages.Kinds.{of_names}
 use Rattle.ffs_volume.specs.Directories.PathnameCheck.{dir_lines, lines_of}
 use Rattle.ffs_volume.specs.Directories.Volumes.{volume_of}
-use Rattle.ffs_pathnames.proofs.Carrying.{directory_context, lines_looked, lines_other, before_next, before_other}
+use Rattle.ffs_pathnames.proofs.Carrying.{directory_context, lines_looked, lines_skipped, before_next, before_skipped}
 use Rattle.ffs_pathnames.proofs.tree.check_inode.Goals as goal
 
 pub returns-then-is_looked_at-clause-text : goal.returns-then-is_looked_at-clause-text
 returns-then-is_looked_at-clause-text g c =
     let v = c.args.geometry.now.layout in
-    let looked = sym c.is_looked_at.ensures ∙ c.if-is_looked_at.true in
+    let looked = (and_parts _ _ (sym c.is_looked_at.ensures ∙ c.if-is_looked_at.true)).0 in
     reports_same (Unit {0}) _ (λ b. map of_names (dir_lines (volume_of v b) c.args.number)) (λ b. map of_names (lines_of (volume_of v b) c.args.number)) _ _ c.check_directory.result
     (λ b k. sym (ap (map of_names) (lines_looked v _ _ c.args.number b looked k)))
     (reports_knowing (Unit {0}) _ _ _ _ _ c.check_directory.result (λ b k. (directory_context v _ _ c.args.number b looked k, k.marks)) c.check_directory.ensures.text)
@@ -18,7 +19,7 @@ returns-then-is_looked_at-clause-text g c =
 pub returns-then-is_looked_at-clause-before : goal.returns-then-is_looked_at-clause-before
 returns-then-is_looked_at-clause-before g c =
     let v = c.args.geometry.now.layout in
-    let looked = sym c.is_looked_at.ensures ∙ c.if-is_looked_at.true in
+    let looked = (and_parts _ _ (sym c.is_looked_at.ensures ∙ c.if-is_looked_at.true)).0 in
     on_ok c.check_directory.result _ _
     (λ h b k. before_next v _ _ _ c.args.number b c.check_directory.ensures.leaves.survey (h b (directory_context v _ _ c.args.number b looked k, k.marks)) k)
     c.check_directory.ensures.marks
@@ -29,8 +30,8 @@ returns-clause-text g c =
     let other = sym c.is_looked_at.ensures ∙ c.if-is_looked_at.false in
     of_same _ (λ b. map of_names (lines_of (volume_of v b) c.args.number)) (λ b. []) _ _ _
     (of_begins _ (λ b. map of_names (lines_of (volume_of v b) c.args.number)) _)
-    (λ b k. ap (map of_names) (lines_other v _ _ c.args.number b other k))
+    (λ b k. lines_skipped v _ _ c.args.number b c.requires.low other k)
 
 pub returns-clause-before : goal.returns-clause-before
 returns-clause-before g c = λ b k.
-    before_other c.args.geometry.now.layout _ _ c.args.number b c.args.geometry.now.sound (sym c.is_looked_at.ensures ∙ c.if-is_looked_at.false) k
+    before_skipped c.args.geometry.now.layout _ _ c.args.number b c.args.geometry.now.sound (sym c.is_looked_at.ensures ∙ c.if-is_looked_at.false) k

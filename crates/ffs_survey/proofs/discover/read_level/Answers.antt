@@ -1,5 +1,6 @@
 use Rattle.std.proofs.Common.{arith, rules, length}
 use Rattle.ffs_survey.proofs.Discovered.{level_step}
+use Rattle.ffs_survey.proofs.CalmLaws.{comes_stays}
 use Rattle.ffs_survey.proofs.Tally.{dir_counted}
 use Rattle.ffs_survey.proofs.discover.read_level.Goals as goal
 
@@ -9,6 +10,7 @@ loop-s-preserved g c =
     let done = c.in_ok-top.ensures in
     let comes = rw inv.base at done.comes in
     let counts = rw inv.base at done.counts in
+    let calm = rw inv.base at done.calm in
     record {
       ready = search rules;
       base = search rules;
@@ -21,4 +23,6 @@ loop-s-preserved g c =
       counts = λ b k.
           dir_counted (length c.args.kinds.now) _ _ c.args.kinds.now (g.D.Directories.entries (g.D.Directories.base c.args.directories.now) b) c.args.frontier.now c.loop-s.s-index _ _ _ _ _ _
           c.loop-s-test.true (c.requires.frontier b k c.loop-s.s-index 0 c.loop-s-test.true) (inv.counts b k) (counts b k);
+      still = λ b k i d l. (comes_stays _ _ _ _ _ _ _ (comes b k)).reached _ (inv.still b k i d l);
+      calm = λ b k old. calm b k (inv.still b k c.loop-s.s-index 0 c.loop-s-test.true) (inv.calm b k old);
     }

@@ -1,7 +1,8 @@
-use Rattle.std.proofs.Common.{arith, rules, ◌≡◌, ◌∷◌, ◌<◌, List, ℕ, take, length}
+use Rattle.std.proofs.Common.{arith, [], ◌∙◌, ap, ◌&&◌, rules, ◌≡◌, ◌∷◌, ◌<◌, List, ℕ, take, length}
 use Rattle.ffs_volume.specs.Directories.Roles.{RoledEntry, refers}
 use Rattle.ffs_survey.specs.Reading.{roled_of}
 use Rattle.ffs_survey.proofs.Discovered.{entry_step}
+use Rattle.ffs_survey.proofs.CalmLaws.{calm_step, calm_read, read_whole}
 use Rattle.ffs_survey.proofs.Tally.{entry_counted, bit-le}
 use Rattle.ffs_survey.proofs.discover.read_reached.Goals as goal
 
@@ -23,6 +24,7 @@ loop-entry-preserved g c =
           let new = c.count_reference.ensures x (omega (arith, l)) in
           let one = bit-le (refers x e) in
           omega (arith, old, new, one, fell);
+      counted = let n = inv.counted in omega (arith, n, fell);
       high = let h = c.visit-high.ensures.top in let i = inv.high in omega (arith, h, i);
       comes = λ b k.
           entry_step _ c.args.kinds.now c.args.from e (g.D.Directories.rest c.next.new.self b) c.args.reached.now c.loop-entry.reached _ c.args.parents.now c.loop-entry.parents _ (take c.args.top c.args.queue.now) (take c.loop-entry.high c.loop-entry.queue) _
@@ -30,4 +32,24 @@ loop-entry-preserved g c =
       counts = λ b k.
           entry_counted (length c.args.kinds.now) _ _ e (g.D.Directories.rest c.next.new.self b) c.args.references.now c.loop-entry.references _ c.args.named.now c.loop-entry.named _
           (rw (cut b k) at (inv.counts b k)) (λ x l. c.count_reference.ensures x (omega (arith, l))) (λ x l. c.mark_named.ensures x (omega (arith, l)));
+      quiet = λ b k.
+          calm_step (record { kinds = c.args.kinds.now; marked = c.args.marked.now; dir = c.args.from; above = c.parent_of-above.result }) c.loop-entry.reached _ c.loop-entry.parents _ (take c.loop-entry.high c.loop-entry.queue) _ c.loop-entry.count e (g.D.Directories.rest c.next.new.self b) c.loop-entry.quiet _ _
+          c.visit-high.ensures.comes (ap (λ z. c.loop-entry.quiet && z) c.is_calm-quiet.ensures) (rw (cut b k) at (inv.quiet b k));
+      sound = let s = rw inv.base at c.in_ok-entry.ensures.sound in λ b k. s b k ∙ inv.sound b k;
     }
+
+pub returns-clause-calm : goal.returns-clause-calm
+returns-clause-calm g c = λ b k h old.
+    let inv = c.loop-entry.invariant in
+    let reported = rw inv.base at c.in_ok-entry.ensures.rest in
+    let ended = rw inv.base at c.in_ok-entry.ensures.ended in
+    let right = rw inv.base at c.in_ok-entry.ensures.sound in
+    let flags = rw (c.in_ok-entry.ensures.base, inv.base) at c.in_ok-flag_calm.ensures.flags in
+    let entries = g.D.Directories.entries (g.D.Directories.base c.args.directories.now) b in
+    let none : g.D.Directories.rest c.loop-entry.directories b ≡ [] = rw c.in_default.is at (reported b k) in
+    let end : g.D.Directories.ended c.next.new.self b = rw c.in_default.is at ended b k in
+    let w = read_whole c.args.kinds.now c.args.marked.now c.args.reached.now c.loop-entry.reached c.args.parents.now c.loop-entry.parents (take c.args.top c.args.queue.now) (take c.loop-entry.high c.loop-entry.queue) (entries c.args.from) (g.D.Directories.rest c.loop-entry.directories b) c.args.from c.parent_of-above.result c.loop-entry.count c.loop-entry.quiet
+    c.parent_of-above.ensures none (inv.comes b k) (inv.quiet b k) in
+    calm_read c.args.kinds.now c.args.marked.now c.args.reached.now c.loop-entry.reached c.args.parents.now c.loop-entry.parents (take c.args.top c.args.queue.now) (take c.loop-entry.high c.loop-entry.queue) entries
+    (g.D.Directories.sound (g.D.Directories.base c.args.directories.now) b) c.args.from _ (g.D.Directories.sound_so_far c.next.new.self b) _ _
+    w.comes h w.quiet_is (right b k ∙ inv.sound b k) (flags b k end) old

@@ -2,6 +2,7 @@ use Rattle.std.proofs.Common.{rules, ◌≡◌, ℕ, List, take, set, arith, sym
 use Rattle.ffs_survey.specs.Survey.{graph_with}
 use Rattle.ffs_survey.specs.Discover.{IsFrontier, LevelsKnown, IsCount}
 use Rattle.ffs_survey.proofs.Discovered.{unset-set}
+use Rattle.ffs_survey.proofs.CalmLaws.{calm_none}
 use Rattle.ffs_survey.proofs.Frontiers.{sane_of}
 use Rattle.ffs_survey.proofs.Ends.{levels_start, frontier_start, queue_start, unset-le}
 use Rattle.ffs_survey.proofs.Queues.{counted_on, reached_part, alone_part, none_counted, no_front}
@@ -25,6 +26,7 @@ loop-low-init g c = record {
       subst (λ q. LevelsKnown v 0 (set c.args.reached.now 2 true) (set c.args.parents.now 2 2) q) (sym (queue_start c.args.queue.now (omega arith)))
       (levels_start v c.args.reached.now c.args.parents.now (omega arith) (omega arith) c.requires.none_reached c.requires.no_parents);
   counts = λ b k. none_counted (graph_with c.args.kinds.now (g.D.Directories.entries (g.D.Directories.base c.args.directories.now) b)) c.args.references.now c.args.named.now c.requires.none_counted c.requires.none_named;
+  calm = λ b k. calm_none c.args.kinds.now c.args.marked.now _ _ _ _ c.args.calm.now c.requires.none_calm;
 }
 
 pub loop-low-preserved : goal.loop-low-preserved
@@ -34,6 +36,7 @@ loop-low-preserved g c =
     let frontier = rw inv.base at done.frontier in
     let levels = rw inv.base at done.levels in
     let counts = rw inv.base at done.counts in
+    let calm = rw inv.base at done.calm in
     let test = c.loop-low-test.true in
     record {
       ready = search rules;
@@ -49,6 +52,7 @@ loop-low-preserved g c =
       counts = λ b k.
           counted_on (graph_with c.args.kinds.now (g.D.Directories.entries (g.D.Directories.base c.args.directories.now) b)) c.loop-low.low c.loop-low.high c.loop-low.queue _ c.loop-low.references _ c.loop-low.named _
           inv.ordered done.kept (inv.counts b k) (counts b k);
+      calm = λ b k. calm b k (inv.calm b k);
     }
 
 pub returns-clause-part : goal.returns-clause-part
@@ -71,3 +75,6 @@ returns-then-not-is_dir-clause-part g c = λ b k.
     (sane_of c.args.kinds.now es c.requires.some) (sym c.is_dir.ensures ∙ c.if-not-is_dir.true)
     (levels_start (graph_with c.args.kinds.now es) c.args.reached.now c.args.parents.now (omega arith) (omega arith) c.requires.none_reached c.requires.no_parents)
     c.requires.none_counted c.requires.none_named
+
+pub returns-then-not-is_dir-clause-calm : goal.returns-then-not-is_dir-clause-calm
+returns-then-not-is_dir-clause-calm g c = λ b k. calm_none c.args.kinds.now c.args.marked.now _ _ _ _ c.args.calm.now c.requires.none_calm

@@ -1,6 +1,7 @@
 use Rattle.std.proofs.Common.{◌≡◌, ℕ, ◌+◌, ◌-◌, ◌*◌, ◌<◌, ◌≤◌, ◌^◌, List, length, take, drop}
 use Rattle.ffs_survey.specs.Survey.{number_at, graph_with}
 use Rattle.ffs_survey.specs.Discover.{unset, IsFrontier, LevelsKnown, IsCount}
+use Rattle.ffs_survey.specs.Calm.{AreCalm}
 use Rattle.ffs_survey.proofs.levels.survey_reached.Given as goal
 
 abbrev pub invariant-loop-low : goal.invariant-loop-low
@@ -16,6 +17,7 @@ invariant-loop-low g l = record {
   frontier : (b : List ℕ) → g.D.Directories.knows (g.D.Directories.base l.fn.directories) b → IsFrontier (graph_with l.kinds (g.D.Directories.entries (g.D.Directories.base l.fn.directories) b)) l.depth (drop l.low (take l.high l.queue));
   levels : (b : List ℕ) → g.D.Directories.knows (g.D.Directories.base l.fn.directories) b → LevelsKnown (graph_with l.kinds (g.D.Directories.entries (g.D.Directories.base l.fn.directories) b)) l.depth l.reached l.parents (take l.high l.queue);
   counts : (b : List ℕ) → g.D.Directories.knows (g.D.Directories.base l.fn.directories) b → IsCount (graph_with l.kinds (g.D.Directories.entries (g.D.Directories.base l.fn.directories) b)) (take l.low l.queue) l.references l.named;
+  calm : (b : List ℕ) → g.D.Directories.knows (g.D.Directories.base l.fn.directories) b → AreCalm l.kinds l.marked l.reached l.parents (g.D.Directories.entries (g.D.Directories.base l.fn.directories) b) (g.D.Directories.sound (g.D.Directories.base l.fn.directories) b) l.calm;
 }
 
 abbrev pub decreases-loop-low : goal.decreases-loop-low

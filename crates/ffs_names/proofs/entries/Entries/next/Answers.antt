@@ -2,6 +2,7 @@ use Rattle.std.proofs.Common.{◌∙◌, ap, sym, arith}
 use Rattle.ffs_names.specs.Readings.{rest}
 use Rattle.ffs_names.proofs.Advances.{holds_on}
 use Rattle.ffs_names.proofs.Entered.{none_came, chunk_came, data_on}
+use Rattle.ffs_names.proofs.Shaped.{shape_came, shape_ended, shape_same, fills_whole}
 use Rattle.ffs_names.proofs.entries.Entries.next.Goals as goal
 
 pub returns-in-Some-clause-entries : goal.returns-in-Some-clause-entries
@@ -28,6 +29,12 @@ chunks-preserved g c =
           chunk_came s.first s.index s.order s.chunks.walk.geometry.layout.order s.chunk s.place (rest b s.chunks) c.in-Some-2.offset c.next.new.chunk (rest b c.next.new.self)
           c.in-None.ensures.none (sym s.same_order) (o b (ap (λ d. d.contents) c.chunks.invariant.device ∙ t))
           ∙ (c.in-None.ensures.entries b ∙ c.chunks.invariant.entries b t);
+      shape = λ b t.
+          let u = ap (λ d. d.contents) c.chunks.invariant.device ∙ t in
+          let o = rw c.in-Some-2.is at c.in_ok-next.ensures.chunks in
+          shape_came s.sound s.order s.chunks.walk.geometry.layout.order s.chunk s.place (rest b s.chunks) c.in-Some-2.offset c.next.new.chunk (rest b c.next.new.self) _ _
+          c.in-None.ensures.none (sym s.same_order) (o b u) (c.in_ok-next.ensures.gap b u)
+          ∙ (shape_same b _ _ _ _ _ _ c.in-None.ensures.sound c.in-None.ensures.fills c.in-None.ensures.chunks ∙ c.chunks.invariant.shape b t);
       left = let f = rw c.in-Some-2.is at c.in_ok-next.ensures.falls in let k = ap (λ x. x.budget) c.take.ensures.chunks in omega (arith, f, k, c.chunks.invariant.left);
       geometry = c.next.ensures.geometry ∙ geometry;
       size = c.next.ensures.size ∙ c.chunks.invariant.size;
@@ -37,3 +44,22 @@ chunks-preserved g c =
       data_holds = data_on (g.I.Image.device c.args.image.now).contents (g.I.Image.device c.next.new.image).contents c.next.new.data (ap (λ d. d.contents) device) c.next.ensures.data_holds;
       device = device;
     }
+
+pub returns-in-Some-clause-shape : goal.returns-in-Some-clause-shape
+returns-in-Some-clause-shape g c = λ b t. shape_same b _ _ _ _ _ _ c.in-Some.ensures.sound c.in-Some.ensures.fills c.in-Some.ensures.chunks ∙ c.chunks.invariant.shape b t
+
+pub returns-in-None-2-clause-shape : goal.returns-in-None-2-clause-shape
+returns-in-None-2-clause-shape g c = λ b t.
+    let s = c.take.new.self in
+    let u = ap (λ d. d.contents) c.chunks.invariant.device ∙ t in
+    let o = rw c.in-None-2.is at c.in_ok-next.ensures.chunks in
+    let n = rw c.in-None-2.is at c.in_ok-next.ensures.none in
+    shape_ended s.sound s.order s.chunk c.next.new.chunk s.place (rest b s.chunks) (rest b c.next.new.self) _ _ c.in-None.ensures.none (o b u) (n b u) (c.in_ok-next.ensures.gap b u)
+    ∙ (shape_same b _ _ _ _ _ _ c.in-None.ensures.sound c.in-None.ensures.fills c.in-None.ensures.chunks ∙ c.chunks.invariant.shape b t)
+
+pub returns-in-None-2-clause-ended : goal.returns-in-None-2-clause-ended
+returns-in-None-2-clause-ended g c = λ b t.
+    let s = c.take.new.self in
+    let u = ap (λ d. d.contents) c.chunks.invariant.device ∙ t in
+    let n = rw c.in-None-2.is at c.in_ok-next.ensures.none in
+    record { chunks = n b u; current = fills_whole s.order c.next.new.chunk }

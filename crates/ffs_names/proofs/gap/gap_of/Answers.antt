@@ -1,0 +1,59 @@
+use Rattle.std.proofs.Common.{sym, ap, ◌∙◌, ◌||◌, false}
+use Rattle.ffs_walk.specs.Rests.{rest}
+use Rattle.ffs_names.specs.Keepings.{replay_in}
+use Rattle.ffs_names.specs.Readings.{gap_left}
+use Rattle.ffs_names.proofs.GapsLeft.{gap_over_tail, gap_seen, gap_to_run, gap_past_run, gap_unseen}
+use Rattle.ffs_names.proofs.gap.gap_of.Goals as goal
+
+pub steps-preserved-in-Some-Run : goal.steps-preserved-in-Some-Run
+steps-preserved-in-Some-Run g c =
+    let inv = c.steps.invariant in
+    let s = c.steps.chunks in
+    let w = c.next.new.self in
+    let r = c.in-Some-Run in
+    let read = rw r.field-0-is at (rw r.is at c.in_ok-next.ensures.steps) in
+    record {
+      same = c.in_ok-next.ensures.ok ∙ inv.same;
+      geometry = c.next.ensures.geometry ∙ inv.geometry;
+      size = c.next.ensures.size ∙ inv.size;
+      holds = rw inv.geometry at c.next.ensures.holds;
+      gap = λ b t. inv.gap b t
+          ∙ (sym (gap_to_run s.walk.geometry.layout w.geometry.layout s.keeping.cut (replay_in s.keeping) false r.start r.len r._block (rest b s.walk) (rest b w)
+          (ap (λ x. x.layout) c.next.ensures.geometry) (read b (ap (λ d. d.contents) inv.same ∙ t)))
+          ∙ sym (gap_past_run w.geometry.layout s.keeping.cut c.take-kept.new.self.cut (replay_in s.keeping) (replay_in c.take-kept.new.self) (rest b w) r.start r.len r._block false
+          (c.take-kept.ensures.after r._block) c.take-kept.ensures.cut));
+    }
+
+pub steps-preserved : goal.steps-preserved
+steps-preserved g c =
+    let inv = c.steps.invariant in
+    let s = c.steps.chunks in
+    let w = c.next.new.self in
+    let r = c.in-Some-Tail in
+    let read = rw r.field-0-is at (rw r.is at c.in_ok-next.ensures.steps) in
+    record {
+      same = c.in_ok-next.ensures.ok ∙ inv.same;
+      geometry = c.next.ensures.geometry ∙ inv.geometry;
+      size = c.next.ensures.size ∙ inv.size;
+      holds = rw inv.geometry at c.next.ensures.holds;
+      gap = λ b t. inv.gap b t
+          ∙ sym (gap_over_tail s.walk.geometry.layout w.geometry.layout s.keeping.cut (replay_in s.keeping) false (rest b s.walk) (rest b w)
+          (ap (λ x. x.layout) c.next.ensures.geometry) (read b (ap (λ d. d.contents) inv.same ∙ t)));
+    }
+
+pub returns-in-Some-Gap-clause-gap : goal.returns-in-Some-Gap-clause-gap
+returns-in-Some-Gap-clause-gap g c = λ b t.
+    let inv = c.steps.invariant in
+    let s = c.steps.chunks in
+    let r = c.in-Some-Gap in
+    let read = rw r.field-0-is at (rw r.is at c.in_ok-next.ensures.steps) in
+    gap_seen s.walk.geometry.layout s.walk.geometry.layout s.keeping.cut (replay_in s.keeping) false (rest b s.walk) (rest b c.next.new.self)
+    (sym c.is_replay_open.ensures ∙ c.steps-test.true) (read b (ap (λ d. d.contents) inv.same ∙ t))
+    ∙ (sym (inv.gap b t) ∙ sym (ap (λ x. x || gap_left b c.args.chunks.now) c.if-chunks.false))
+
+pub returns-clause-gap : goal.returns-clause-gap
+returns-clause-gap g c = λ b t.
+    let inv = c.steps.invariant in
+    let s = c.steps.chunks in
+    sym (ap (λ x. x || gap_left b c.args.chunks.now) c.if-chunks.false
+    ∙ (inv.gap b t ∙ gap_unseen s.walk.geometry.layout s.keeping.cut (replay_in s.keeping) (rest b s.walk) (sym c.is_replay_open.ensures ∙ c.steps-test.false)))

@@ -1,0 +1,65 @@
+-- A directory of which nothing can be reported, by what a survey sees where it reads it.
+use Rattle.std.specs.Prelude.{◌≡◌, ℕ, suc, ◌==◌, Bool, true, false, not, ◌&&◌, ◌||◌, nat_le, nat_lt, List, [], ◌∷◌, length, ◌⊎◌}
+use Rattle.std.specs.List.{list_any}
+use Rattle.ffs_volume.specs.declared.Role.{Role}
+use Rattle.ffs_volume.specs.declared.Role.TheVariants.{Empty, Dot, Dotdot, Extra, Plain}
+use Rattle.ffs_volume.specs.Directories.Roles.{RoledEntry}
+use Rattle.ffs_volume.specs.Directories.Graph.{names}
+use Rattle.ffs_survey.specs.Survey.{bool_at, number_at, dir_at}
+
+-- the kinds of inodes and which are marked, a directory and its parent
+pub record Sight : Type 0 where
+  pub kinds : List ℕ
+  pub marked : List Bool
+  pub dir : ℕ
+  pub above : ℕ
+
+-- neither unallocated, nor a directory of size 0, a whiteout or of unknown type, nor a directory that is reached
+abbrev pub is_calm_kind : ℕ → Bool → Bool
+is_calm_kind kind reached =
+    not (kind == 0) && (not (kind == 5) && (not (kind == 14) && (not (kind == 15) && not ((kind == 4) && reached))))
+
+-- the inode that a plain entry names isn't marked, and has the type of the entry
+abbrev pub is_calm_plain : List ℕ → List Bool → (ℕ → Bool) → ℕ → ℕ → Bool
+is_calm_plain kinds marked reached x kind =
+    nat_le 2 x && (nat_lt x (length kinds) && (not (bool_at marked x) && ((number_at kinds x == kind) && is_calm_kind kind (reached x))))
+
+-- an entry at an index of the directory: `.` is the first, `..` the second, and all others are empty or plain
+abbrev pub is_calm_role : Sight → (ℕ → Bool) → ℕ → Role → ℕ → ℕ → Bool
+is_calm_role s reached i Dot number kind = (i == 0) && ((number == s.dir) && (kind == 4))
+is_calm_role s reached i Dotdot number kind = (i == 1) && ((number == s.above) && (kind == 4))
+is_calm_role s reached i Extra number kind = false
+is_calm_role s reached i Empty number kind = nat_le 2 i
+is_calm_role s reached i Plain number kind = nat_le 2 i && is_calm_plain s.kinds s.marked reached number kind
+
+abbrev pub is_calm_entry : Sight → (ℕ → Bool) → ℕ → RoledEntry → Bool
+is_calm_entry s reached i e = is_calm_role s reached i e.role e.entry.number e.entry.kind
+
+-- what is reached after an entry: a directory that it names, too
+abbrev pub reached_after : List ℕ → (ℕ → Bool) → RoledEntry → ℕ → Bool
+reached_after kinds reached e x = reached x || (dir_at kinds x && names x e)
+
+-- all entries from an index on, where this is reached before them; the first two aren't missing
+abbrev pub are_calm : Sight → (ℕ → Bool) → ℕ → List RoledEntry → Bool
+are_calm s reached i [] = nat_le 2 i
+are_calm s reached i (e ∷ es) = is_calm_entry s reached i e && are_calm s (reached_after s.kinds reached e) (suc i) es
+
+-- The directory d is calm: its shape is right, and so are its entries, by what was reached before it. It is reached, and
+-- each directory that it names is reached from it.
+pub record IsCalm (kinds : List ℕ) (marked reached : List Bool) (parents : List ℕ) (entries : List RoledEntry) (sound : Bool) (d : ℕ) : Type 0 where
+  pub before : ℕ → Bool
+  pub begins : before d ≡ true
+  pub entries_right : are_calm (record { kinds = kinds; marked = marked; dir = d; above = number_at parents d }) before 0 entries ≡ true
+  pub shape_right : sound ≡ true
+  pub is_reached : bool_at reached d ≡ true
+  pub below : (x : ℕ) → dir_at kinds x ≡ true → list_any (names x) entries ≡ true → (bool_at reached x ≡ true) × (number_at parents x ≡ d)
+
+-- all directories with a flag are calm
+abbrev pub AreCalm : List ℕ → List Bool → List Bool → List ℕ → (ℕ → List RoledEntry) → (ℕ → Bool) → List Bool → Type 0
+AreCalm kinds marked reached parents entries sound calm =
+    (d : ℕ) → bool_at calm d ≡ true → IsCalm kinds marked reached parents (entries d) (sound d) d
+
+-- at most the flag of d is set, and only where its entries and its shape are right
+abbrev pub IsFlagged : ℕ → Bool → Bool → List Bool → List Bool → Type 0
+IsFlagged d quiet sound old new =
+    (x : ℕ) → bool_at new x ≡ true → (bool_at old x ≡ true) ⊎ ((x ≡ d) × ((quiet ≡ true) × (sound ≡ true)))
