@@ -69,6 +69,7 @@ pub record MessageExamples : Type 0 where
       ≡ false ∷ false ∷ false ∷ true ∷ true ∷ true ∷ []
   -- ends and statuses; what a check of the base volume may hold and look at
   pub ends : (end_by true false ≡ Consistent) × (end_by true true ≡ Defects) × (end_by false true ≡ RootStop)
-  pub statuses : map status_of (Consistent ∷ Defects ∷ Refused Magic ∷ RootStop ∷ ReadFault 5 ∷ WriteFault ∷ NoMemory ∷ [])
+  pub statuses : map status_of (Consistent ∷ Defects ∷ Refused Magic ∷ RootStop ∷ ReadFault 5 ∷ WriteFault ∷ NoMemory
+      ∷ [])
       ≡ 0 ∷ 1 ∷ 8 ∷ 8 ∷ 8 ∷ 8 ∷ 8 ∷ []
   pub limits : (held_limit (base_layout Little) ≡ 37712) × (runs_limit (base_layout Little) ≡ 832)

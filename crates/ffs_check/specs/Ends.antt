@@ -1,6 +1,6 @@
 -- How the phases of a run end, and what has been said or printed of their text by then. `knows` is what is known of the
--- image's bytes, `lines` the text that they determine, and `goes` whether the run continues after the root. What was reported
--- before is `before`: of it, a report keeps whether it reported a defect.
+-- image's bytes, `lines` the text that they determine, and `goes` whether the run continues after the root. What was
+-- reported before is `before`: of it, a report keeps whether it reported a defect.
 use Rattle.std.specs.Prelude.{◌≡◌, ◌⊎◌, ◌<◌, ℕ, Bool, ◌||◌, List, [], ◌∷◌, ◌++◌, length, Result, Ok, Err}
 use Rattle.ffs_image.specs.Device.{Device, Faulted}
 use Rattle.ffs_volume.specs.declared.End.{End}
@@ -36,8 +36,8 @@ pub record IsCut (knows : List ℕ → Type 0) (text said : List Message) (image
   pub whole : said ++ rest ≡ text
   pub more : ForBytes knows (λ bytes. 0 < length rest)
 
--- all of a text was said; the end is by whether the run continued after the root, and whether a defect was reported before
--- or said
+-- all of a text was said; the end is by whether the run continued after the root, and whether a defect was reported
+-- before or said
 pub record SaidWhole (before : Bool) (knows : List ℕ → Type 0) (goes : List ℕ → Bool) (text : List Message)
     (image image' : Device) (old new : Progress) (end : End) : Type 0 where
   pub unread : image' ≡ image
@@ -82,8 +82,8 @@ pub record Ran (before : Bool) (knows : List ℕ → Type 0) (lines : List ℕ �
       ⊎ (SaidPart text image image' old new end
       ⊎ SaidInLine knows text image image' old new end))
 
--- all of a text was printed; the end is by whether the run continued after the root, and whether what was reported before or the
--- text reports a defect
+-- all of a text was printed; the end is by whether the run continued after the root, and whether what was reported
+-- before or the text reports a defect
 pub record PrintedWhole (before : List Message) (knows : List ℕ → Type 0) (goes : List ℕ → Bool)
     (text : List Message) (image image' : Device) (out out' : Sink) (end : End) : Type 0 where
   pub unread : image' ≡ image
@@ -107,7 +107,8 @@ pub record PrintedPart (text : List Message) (image image' : Device) (out out' :
   pub broke_off : BrokeOff out out' (texts_of text)
   pub end_is : end ≡ WriteFault
 
--- a read failed, and then the output, in the line that says so: the messages before it went out whole, and of it a prefix
+-- a read failed, and then the output, in the line that says so: the messages before it went out whole, and of it a
+-- prefix
 pub record PrintedInLine (knows : List ℕ → Type 0) (text : List Message) (image image' : Device) (out out' : Sink)
     (end : End) : Type 0 where
   pub sector : ℕ

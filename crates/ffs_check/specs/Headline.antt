@@ -3,7 +3,8 @@ use Rattle.std.specs.Prelude.{◌≡◌, ◌⊎◌, ◌↔◌, ◌<◌, ℕ, Boo
 use Rattle.ffs_image.specs.Device.{Device, Faulted, ForContents}
 use Rattle.ffs_volume.specs.declared.SuperFault.TheVariants.{CannotRead}
 use Rattle.ffs_volume.specs.declared.End.{End}
-use Rattle.ffs_volume.specs.declared.End.TheVariants.{Consistent, Defects, Refused, RootStop, ReadFault, WriteFault, NoMemory}
+use Rattle.ffs_volume.specs.declared.End.TheVariants.{Consistent, Defects, Refused, RootStop}
+use Rattle.ffs_volume.specs.declared.End.TheVariants.{ReadFault, WriteFault, NoMemory}
 use Rattle.ffs_volume.specs.Disk.Superblock.{Superblock}
 use Rattle.ffs_volume.specs.Disk.Outcome.{outcome}
 use Rattle.ffs_volume.specs.Consistent.Volume.{IsConsistent}
@@ -40,7 +41,8 @@ pub record Reported (image image' : Device) (sector : Option ℕ) (text : List M
   pub took : Took out out' (texts_of text)
   pub completed : is_completed end ≡ true
   pub end_is : ForContents image.contents (λ bytes. end ≡ report_end bytes sector)
-  pub certifies : ForContents image.contents (λ bytes. (s : Superblock) → outcome bytes sector ≡ Ok s → Certifies bytes s text end)
+  pub certifies : ForContents image.contents (λ bytes. (s : Superblock) → outcome bytes sector ≡ Ok s
+      → Certifies bytes s text end)
 
 -- a read of the superblock, or of its last copy, failed: what is said before the fault's line is the opening line
 pub record IsCutAtSuper (image image' : Device) (name : List ℕ) (sector : Option ℕ) (said : List Message)
@@ -59,8 +61,8 @@ pub record CutAtSuper (image image' : Device) (name : List ℕ) (sector : Option
   pub took : Took out out' (texts_of (said ++ (line ∷ [])))
   pub end_is : end ≡ Refused (CannotRead image'.failed)
 
--- a later read failed: what is said before the fault's line is the opening, through the mount line, and whole messages of the
--- report. Messages are missing: no read fails after the report's last one
+-- a later read failed: what is said before the fault's line is the opening, through the mount line, and whole messages
+-- of the report. Messages are missing: no read fails after the report's last one
 pub record IsCutLater (image image' : Device) (name : List ℕ) (sector : Option ℕ) (text said : List Message)
     (line : Message) : Type 0 where
   pub faulted : Faulted image image' image'.failed
@@ -113,8 +115,8 @@ pub record BrokenOff (image image' : Device) (text : List Message) (out out' : S
   pub broke_off : BrokeOff out out' (texts_of text)
   pub end_is : end ≡ WriteFault
 
--- a read failed or the memory was refused, and then the output failed in the line that says so: what is said before that line
--- went out whole, then a prefix of the line, and nothing more
+-- a read failed or the memory was refused, and then the output failed in the line that says so: what is said before
+-- that line went out whole, then a prefix of the line, and nothing more
 pub record BrokenInLine (image image' : Device) (name : List ℕ) (sector : Option ℕ) (text : List Message)
     (out out' : Sink) (end : End) : Type 0 where
   pub said : List Message

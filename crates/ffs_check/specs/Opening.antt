@@ -3,7 +3,8 @@ use Rattle.std.specs.Prelude.{◌≡◌, ◌⊎◌, ℕ, List, [], ◌∷◌, Op
 use Rattle.ffs_image.specs.Device.{Device, ForContents}
 use Rattle.ffs_volume.specs.declared.SuperFault.{SuperFault}
 use Rattle.ffs_volume.specs.declared.End.{End}
-use Rattle.ffs_volume.specs.declared.End.TheVariants.{Consistent, Defects, Refused, RootStop, ReadFault, WriteFault, NoMemory}
+use Rattle.ffs_volume.specs.declared.End.TheVariants.{Consistent, Defects, Refused, RootStop}
+use Rattle.ffs_volume.specs.declared.End.TheVariants.{ReadFault, WriteFault, NoMemory}
 use Rattle.ffs_volume.specs.Disk.Superblock.{Superblock}
 use Rattle.ffs_volume.specs.Disk.Outcome.{outcome}
 use Rattle.ffs_volume.specs.Messages.Texts.{text_of, texts_of}
@@ -32,7 +33,8 @@ pub record OpeningStoppedInLine (old new : Progress) (name : List ℕ) (sector :
 -- the answer for what was found, with its messages: all of them, or a prefix of their bytes where the output failed
 abbrev pub OpeningSays : Device → Device → Progress → Progress → List ℕ → Option ℕ → Result Superblock SuperFault →
     Result Super End → Type 0
-OpeningSays image image' old new name sector found (Ok super) = Said old new (opening_lines name sector found) × (found ≡ Ok (seen super))
+OpeningSays image image' old new name sector found (Ok super) = Said old new (opening_lines name sector found)
+    × (found ≡ Ok (seen super))
 OpeningSays image image' old new name sector found (Err (Refused fault)) = Said old new (opening_lines name sector found) × (found ≡ Err fault)
 OpeningSays image image' old new name sector found (Err WriteFault) =
     OpeningStopped image image' old new name sector found ⊎ OpeningStoppedInLine old new name sector found
@@ -56,7 +58,8 @@ pub record OpeningBrokeOff (image image' : Device) (old new : Sink) (name : List
   pub outcome_is : ForContents image.contents (λ bytes. found ≡ outcome bytes sector)
   pub broke_off : BrokeOff old new (texts_of (opening_lines name sector found))
 
--- the output failed in the line of the superblock's fault: the opening line went out whole, and of the fault's line a prefix
+-- the output failed in the line of the superblock's fault: the opening line went out whole, and of the fault's line a
+-- prefix
 pub record OpeningBrokeInLine (old new : Sink) (name : List ℕ) (sector : Option ℕ)
     (found : Result Superblock SuperFault) : Type 0 where
   pub fault : SuperFault

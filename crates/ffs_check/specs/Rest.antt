@@ -1,4 +1,5 @@
--- The parts of the text after the opening, as the calls that report them are nested, and what is known of the image's bytes there.
+-- The parts of the text after the opening, as the calls that report them are nested, and what is known of the image's
+-- bytes there.
 use Rattle.std.specs.Prelude.{◌≡◌, ◌==◌, not, ℕ, Bool, if◌then◌else◌, List, [], ◌∷◌, ◌++◌, map}
 use Rattle.ffs_image.specs.Device.{Device}
 use Rattle.ffs_phase.specs.Known.{IsContents}
@@ -65,6 +66,8 @@ scanned_lines image s = again_part image s ++ named_lines image s
 abbrev pub IsBegun : Layout → Device → Workspace → List ℕ → Type 0
 IsBegun v d w bytes = IsContents d.contents bytes × IsFresh v w
 
--- after phase 1: the image gives the bytes, and the workspace holds what the block check found, and whether it looks again
+-- after phase 1: the image gives the bytes, and the workspace holds what the block check found, and whether it looks
+-- again
 abbrev pub IsScanned : Layout → Device → Workspace → List ℕ → Type 0
-IsScanned v d w bytes = IsContents d.contents bytes × HoldsPhase1 v bytes w × (not (w.unreported == 0) ≡ has_rescan v (owners_of v bytes))
+IsScanned v d w bytes = IsContents d.contents bytes × HoldsPhase1 v bytes w
+    × (not (w.unreported == 0) ≡ has_rescan v (owners_of v bytes))

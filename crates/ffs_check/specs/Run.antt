@@ -19,7 +19,8 @@ abbrev pub IsPrinted : Sink → Sink → List ℕ → Type 0
 IsPrinted out out' text = Took out out' text ⊎ BrokeOff out out' text
 
 -- an image was opened under a name and checked, and the status is that of its end
-pub record IsChecked (I : Type 0) (device : I → Device) (opens : List ℕ → I → Type 0) (name : List ℕ) (sector : Option ℕ)
+pub record IsChecked (I : Type 0) (device : I → Device) (opens : List ℕ → I
+    → Type 0) (name : List ℕ) (sector : Option ℕ)
     (out out' : Sink) (status : ℕ) : Type 0 where
   pub image : I
   pub image' : I
@@ -35,12 +36,14 @@ pub record IsUnopened (refuses : List ℕ → Type 0) (name : List ℕ) (out out
   pub status_is : status ≡ 8
 
 -- the image of a name was checked, or couldn't be opened
-abbrev pub CheckedBy : {I : Type 0} → (I → Device) → (List ℕ → I → Type 0) → (List ℕ → Type 0) → List ℕ → Option ℕ → Sink → Sink → ℕ → Type 0
+abbrev pub CheckedBy : {I : Type 0} → (I → Device) → (List ℕ → I → Type 0) → (List ℕ → Type 0) → List ℕ → Option ℕ
+    → Sink → Sink → ℕ → Type 0
 CheckedBy {I} device opens refuses name sector out out' status =
     IsChecked I device opens name sector out out' status ⊎ IsUnopened refuses name out out' status
 
 -- the words ask for an image and a sector, and that image was checked at that sector, or couldn't be opened
-pub record Answers (I : Type 0) (device : I → Device) (opens : List ℕ → I → Type 0) (refuses : List ℕ → Type 0) (words : List (List ℕ))
+pub record Answers (I : Type 0) (device : I → Device) (opens : List ℕ → I → Type 0) (refuses : List ℕ
+    → Type 0) (words : List (List ℕ))
     (out out' : Sink) (status : ℕ) : Type 0 where
   pub name : List ℕ
   pub sector : Option ℕ
@@ -59,12 +62,15 @@ pub record HasNoWords (out out' : Sink) (status : ℕ) : Type 0 where
   pub status_is : status ≡ 8
 
 -- how a run ends
-abbrev pub Ran : {I : Type 0} → (I → Device) → (List ℕ → I → Type 0) → (List ℕ → Type 0) → List (List ℕ) → Sink → Sink → ℕ → Type 0
+abbrev pub Ran : {I : Type 0} → (I → Device) → (List ℕ → I → Type 0) → (List ℕ → Type 0) → List (List ℕ) → Sink → Sink
+    → ℕ → Type 0
 Ran {I} device opens refuses words out out' status =
-    Answers I device opens refuses words out out' status ⊎ (IsRefused words out out' status ⊎ HasNoWords out out' status)
+    Answers I device opens refuses words out out' status ⊎ (IsRefused words out out' status
+        ⊎ HasNoWords out out' status)
 
 -- the same over a std writer, of which only the bytes that it took can be known; a failed flush makes the status 8
-pub record RanOver {I : Type 0} (device : I → Device) (words : List (List ℕ)) (taken taken' : Option (List ℕ)) (status : ℕ) : Type 0 where
+pub record RanOver {I : Type 0} (device : I
+    → Device) (words : List (List ℕ)) (taken taken' : Option (List ℕ)) (status : ℕ) : Type 0 where
   pub out : Sink
   pub out' : Sink
   pub before : out.taken ≡ taken

@@ -11,7 +11,8 @@ use Rattle.ffs_workspace.specs.Lengths.{held_of}
 abbrev pub Asked : Account → Account → ℕ → Type 0
 Asked old new bytes = Granted old new bytes ⊎ GaveUp old new bytes
 
--- what the workspace of an accepted volume holds was granted and no byte more, which is within the limit, or a request was refused
+-- what the workspace of an accepted volume holds was granted and no byte more, which is within the limit, or a request
+-- was refused
 pub record TakesWorkspace (image : Device) (sector : Option ℕ) (old new : Account) : Type 0 where
   pub found : Superblock
   pub accepted : ForContents image.contents (λ bytes. outcome bytes sector ≡ Ok found)

@@ -1,7 +1,8 @@
 -- What the words after the program's name ask for, as `clap` reads them: `-n [-b sector] image`.
 use Rattle.std.specs.Prelude.{◌≡◌, ◌<◌, ◌^◌, ℕ, pos, true, List, [], ◌∷◌, Option, Some, None, codes, unwrap_or}
 use Rattle.std.specs.Str.Parse.{IsNumeral, digits_value, without_leading_plus}
-use Rattle.clap.specs.Words.{App, Kinds, Rule, Text, fault_of, first_of, matches_of, new_app, new_rule, one_of, with_rule}
+use Rattle.clap.specs.Words.{App, Kinds, Rule, Text, fault_of, first_of}
+use Rattle.clap.specs.Words.{matches_of, new_app, new_rule, one_of, with_rule}
 use Rattle.clap.specs.declared.builder.ArgAction.TheVariants.{Set, Count}
 use Rattle.clap.specs.declared.builder.value_parser.ValueParser.TheVariants.{Signed}
 

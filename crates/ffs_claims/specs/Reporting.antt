@@ -17,7 +17,8 @@ after_first dup (o ∷ os) = after_first (if is_set dup o.fragment then slice_se
 -- offers were gone over: their fragments are reported, and their inodes marked
 pub record OffersReported (offers : List Offer) (old new : Workspace) : Type 0 where
   pub dup : bits_of new.duplicates ≡ after_first (bits_of old.duplicates) offers
-  pub marked : (x : ℕ) → bool_at new.marked.items x ≡ (bool_at old.marked.items x || list_any (blames x) (first_offer_lines (bits_of old.duplicates) offers))
+  pub marked : (x : ℕ) → bool_at new.marked.items x ≡ (bool_at old.marked.items x
+      || list_any (blames x) (first_offer_lines (bits_of old.duplicates) offers))
 
 -- a call left the claims alone, what each inode is, where it is cut, and the Runs of phase 1
 pub record SameClaims (old new : Workspace) : Type 0 where
@@ -26,7 +27,8 @@ pub record SameClaims (old new : Workspace) : Type 0 where
   pub cut : new.cut ≡ old.cut
   pub seen : new.runs_seen ≡ old.runs_seen
 
--- what reporting leaves: the lists have their lengths, and the windows, the claims and the Runs of phase 1 are as they were
+-- what reporting leaves: the lists have their lengths, and the windows, the claims and the Runs of phase 1 are as they
+-- were
 pub record ReportsOnly (v : Layout) (old new : Workspace) : Type 0 where
   pub made : IsFor v new
   pub windows : new.windows ≡ old.windows

@@ -7,8 +7,8 @@ use Rattle.ffs_walk.specs.Windows.{WindowHolds}
 use Rattle.ffs_workspace.specs.declared.workspace.Windows.{Windows}
 use Rattle.ffs_workspace.specs.declared.workspace.Workspace.{Workspace}
 
--- the groups of a volume can be checked: the map of used fragments and the kinds of inodes have its lengths, the image has all
--- of it, and the windows have room for a block each and hold what the image gives
+-- the groups of a volume can be checked: the map of used fragments and the kinds of inodes have its lengths, the image
+-- has all of it, and the windows have room for a block each and hold what the image gives
 pub record AreReady (v : Layout) (d : Device) (w : Windows) (used : FragmentMap) (kinds : List ℕ) : Type 0 where
   pub fragments : used.size ≡ v.size
   pub inodes : length kinds ≡ v.ncg * v.ipg

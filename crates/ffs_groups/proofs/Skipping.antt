@@ -4,10 +4,9 @@ use Rattle.std.specs.Prelude.{◌&&◌, ◌||◌, ◌==◌, not, nat_le, nat_lt}
 use Rattle.std.specs.List.{range_with_len}
 use Rattle.std.specs.Int.{bit_at}
 use Rattle.std.proofs.lemmas.Bool.{cases_lt}
-use Rattle.std.proofs.lemmas.Nat.Bits.{bit_at-zero, bit_at_ones}
+use Rattle.std.proofs.lemmas.Nat.Bits.{bit_at_ones}
 use Rattle.ffs_volume.specs.Blocks.Inodes.{is_allocated, is_directory}
-use Rattle.ffs_volume.specs.declared.Class.TheVariants.{Unknown, File, Dir}
-use Rattle.ffs_volume.specs.Encodings.Kinds.{class_of_kind, is_dir_kind}
+use Rattle.ffs_volume.specs.Encodings.Kinds.{class_of_kind}
 use Rattle.ffs_volume.specs.Groups.Records.{is_used_inode, is_dir_inode}
 use Rattle.ffs_groups.specs.Inodes.{class_in}
 use Rattle.ffs_groups.proofs.Sums.{sum_split}
@@ -61,23 +60,5 @@ no_dir_below kinds x h = ap (λ b. b && is_directory (class_of_kind (slice_index
 pub none_free_below : (kinds : List ℕ) (x : ℕ) → x < 2 → not (is_used_inode (class_in kinds) x) ≡ false
 none_free_below kinds x h = ap (λ b. not (b || is_allocated (class_of_kind (slice_index kinds x)))) (under_two x h)
 
--- ---- kinds that are all of inodes in use, or all of free ones
-pub free_kind : (kind most : ℕ) → kind ≤ most → most ≡ 0 → is_allocated (class_of_kind kind) ≡ false
-free_kind kind most h e = let none : kind ≡ 0 = omega (arith, h, e) in ap (λ k. is_allocated (class_of_kind k)) none
-
-some_kind : (kind : ℕ) → 0 < kind → (kind == 0) ≡ false
-some_kind kind h = grind arith
-
-allocated : (a b : Bool) → is_allocated (cond a Unknown (cond b Dir File)) ≡ true
-allocated true b = refl
-allocated false true = refl
-allocated false false = refl
-
-pub used_kind : (kind least : ℕ) → least ≤ kind → 0 < least → is_allocated (class_of_kind kind) ≡ true
-used_kind kind least h some = rw (some_kind kind (omega (arith, h, some))) (allocated (kind == 15) (is_dir_kind kind))
-
 pub all_bits : (word k : ℕ) → word ≡ 2 ^ 64 - 1 → k < 64 → nat_eq (bit_at word k) 1 ≡ true
 all_bits word k e h = ap (λ w. nat_eq (bit_at w k) 1) e ∙ ap (λ x. nat_eq x 1) (bit_at_ones 64 k h)
-
-pub no_bits : (word k : ℕ) → word ≡ 0 → nat_eq (bit_at word k) 1 ≡ false
-no_bits word k e = ap (λ w. nat_eq (bit_at w k) 1) e ∙ ap (λ x. nat_eq x 1) (bit_at-zero k)

@@ -6,7 +6,8 @@ use Rattle.ffs_volume.specs.declared.Layout.{Layout}
 use Rattle.ffs_volume.specs.declared.Class.{Class}
 use Rattle.ffs_volume.specs.declared.BlockMessage.{BlockMessage}
 use Rattle.ffs_volume.specs.declared.BlockMessage.TheVariants.{GroupMagic, FreeCounts, MapsWrong, GroupSums}
-use Rattle.ffs_volume.specs.Groups.Records.{Summary, right_summary, right_frsum, is_magic, is_record, are_places, are_maps, are_sums}
+use Rattle.ffs_volume.specs.Groups.Records.{Summary, right_summary, right_frsum, is_magic}
+use Rattle.ffs_volume.specs.Groups.Records.{is_record, are_places, are_maps, are_sums}
 use Rattle.ffs_volume.specs.Groups.GroupCheck.{unless}
 use Rattle.ffs_layout.specs.declared.group.GroupSummary.{GroupSummary}
 use Rattle.ffs_groups.specs.declared.counts.Counts.{Counts}
@@ -43,7 +44,8 @@ lines_of f c =
     else GroupMagic c ∷ unless f.counts FreeCounts
 
 -- each finding says whether the records of group c are right: in the summary area, and in its group block
-pub record AreFound (v : Layout) (free : ℕ → Bool) (class : ℕ → Class) (c : ℕ) (summary block : List ℕ) (f : Findings) : Type 0 where
+pub record AreFound (v : Layout) (free : ℕ → Bool) (class : ℕ
+    → Class) (c : ℕ) (summary block : List ℕ) (f : Findings) : Type 0 where
   pub magic : f.magic ≡ is_magic v block
   pub counts : f.counts ≡ is_record v free class c summary
   pub maps : f.maps ≡ (are_places v block && are_maps v free class c block)

@@ -1,5 +1,6 @@
 -- What the free fragments of blocks add to the counts of a group.
-use Rattle.std.specs.Prelude.{ℕ, ◌≡◌, ◌+◌, ◌<◌, Bool, not, ◌&&◌, List, map, nat_eq, nat_lt, ◌==◌, if◌then◌else◌, slice_index, count_by}
+use Rattle.std.specs.Prelude.{ℕ, ◌≡◌, ◌+◌, ◌<◌, Bool, not, ◌&&◌, List, map, nat_eq}
+use Rattle.std.specs.Prelude.{nat_lt, ◌==◌, if◌then◌else◌, slice_index, count_by}
 use Rattle.std.specs.List.{range_with_len, sum_by}
 use Rattle.std.specs.Int.{bit_at}
 use Rattle.ffs_volume.specs.Groups.Records.{is_whole, free_runs, block_bits, block_numbers, right_frsum}
@@ -35,7 +36,8 @@ pub record AreBelow (limit : ℕ) (counts : FreeCounts) : Type 0 where
 pub record Added (bits : ℕ → List Bool) (from n : ℕ) (old new : FreeCounts) : Type 0 where
   pub blocks : new.blocks ≡ old.blocks + sum_by (λ b. whole_in (bits b)) (range_with_len from n)
   pub fragments : new.fragments ≡ old.fragments + sum_by (λ b. loose_in (bits b)) (range_with_len from n)
-  pub runs : (k : ℕ) → slice_index new.runs k ≡ slice_index old.runs k + sum_by (λ b. runs_in k (bits b)) (range_with_len from n)
+  pub runs : (k : ℕ) → slice_index new.runs k
+      ≡ slice_index old.runs k + sum_by (λ b. runs_in k (bits b)) (range_with_len from n)
 
 -- what is free in group c is counted
 pub record AreFree (v : Layout) (free : ℕ → Bool) (c : ℕ) (counts : FreeCounts) : Type 0 where

@@ -32,4 +32,5 @@ Answers old new sector found =
 
 -- Why the superblock at a sector can't be read: a read failed there, or it lies past the end.
 abbrev pub IsUnread : Device → Device → Option ℕ → ℕ → Type 0
-IsUnread old new sector at = Faulted old new at ⊎ ((new ≡ old) × (at ≡ super_sector sector) × (old.size < at * 512 + 1376))
+IsUnread old new sector at = Faulted old new at ⊎ ((new ≡ old) × (at ≡ super_sector sector)
+    × (old.size < at * 512 + 1376))

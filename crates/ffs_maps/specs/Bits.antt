@@ -1,4 +1,5 @@
-use Rattle.std.specs.Prelude.{◌≡◌, ℕ, zero, suc, ◌+◌, ◌/◌, ◌%◌, ◌<◌, Bool, true, false, not, ◌&&◌, List, map, nat_eq, nat_lt, slice_index, slice_set}
+use Rattle.std.specs.Prelude.{◌≡◌, ℕ, zero, suc, ◌+◌, ◌/◌, ◌%◌, ◌<◌, Bool, true, false}
+use Rattle.std.specs.Prelude.{not, ◌&&◌, List, map, nat_eq, nat_lt, slice_index, slice_set}
 use Rattle.std.specs.List.{range_with_len, slice_index_or}
 use Rattle.std.specs.Int.{bit_at}
 use Rattle.ffs_maps.specs.declared.FragmentMap.{FragmentMap}

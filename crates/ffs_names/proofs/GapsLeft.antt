@@ -68,7 +68,3 @@ gap_past_run v cut cut' r q steps start len block gap n c =
 
 pub walked_gap : (b : List ℕ) (c : Chunks) (w : Walk) → c.walk ≡ w → (c.gap || gap_left b c) ≡ (c.gap || gap_after c (steps_left b w))
 walked_gap b c w e = ap (λ x. c.gap || gap_after c (steps_left b x)) e
-
-pub gap_begun : (v v' : Layout) (cut cut' : ℕ) (r : Replay) (steps all : List Step) → v' ≡ v → cut' ≡ cut → r ≡ fresh_replay → steps ≡ all → kept_gap v' cut' r steps ≡ kept_gap v cut fresh_replay all
-gap_begun v v' cut cut' r steps all e c f s =
-    ap (λ x. kept_gap x cut' r steps) e ∙ (ap (λ x. kept_gap v x r steps) c ∙ (ap (λ x. kept_gap v cut x steps) f ∙ ap (kept_gap v cut fresh_replay) s))

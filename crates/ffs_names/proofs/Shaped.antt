@@ -76,11 +76,6 @@ shape_begun s s' order chunk cs cs' gap left left' q e g l =
     ∙ (ap (λ z. s && (are_sound cs' && not z)) l
     ∙ ap (λ z. z && (are_sound cs' && not left')) q))))
 
--- a reading has ended
-pub shape_known : (s fills gap : Bool) (cs : List Chunk) → cs ≡ [] → fills ≡ true → (s && not gap) ≡ ((s && fills) && (are_sound cs && not gap))
-shape_known s fills gap cs e f =
-    sym (ap (λ z. (s && z) && (are_sound cs && not gap)) f ∙ (ap (λ z. z && (are_sound cs && not gap)) (and-true s) ∙ ap (λ z. s && (are_sound z && not gap)) e))
-
 -- an entry was taken
 pub shape_same : (b : List ℕ) (s s' f f' : Bool) (c c' : Chunks) → s' ≡ s → f' ≡ f → c' ≡ c
     → ((s' && f') && (are_sound (rest b c') && not (c'.gap || gap_left b c'))) ≡ ((s && f) && (are_sound (rest b c) && not (c.gap || gap_left b c)))

@@ -1,5 +1,6 @@
 -- The directories of a volume that a survey reads.
-use Rattle.std.specs.Prelude.{◌≡◌, ◌*◌, ◌≤◌, ℕ, List, [], Option, Some, slice_index, if◌then◌else◌, Bool, vec_len, length}
+use Rattle.std.specs.Prelude.{◌≡◌, ◌*◌, ◌≤◌, ℕ, List, [], Option, Some}
+use Rattle.std.specs.Prelude.{slice_index, if◌then◌else◌, Bool, vec_len, length}
 use Rattle.std.specs.Borrow.{GName}
 use Rattle.ffs_image.specs.Device.{Device}
 use Rattle.ffs_volume.specs.declared.Layout.{Layout}

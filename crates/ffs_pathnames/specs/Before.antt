@@ -1,5 +1,6 @@
 -- What is known between two directories of the pathname check.
-use Rattle.std.specs.Prelude.{◌≡◌, ℕ, Bool, false, not, ◌||◌, ◌==◌, if◌then◌else◌, List, [], ◌∷◌, Option, Some, slice_index}
+use Rattle.std.specs.Prelude.{◌≡◌, ℕ, Bool, false, not, ◌||◌, ◌==◌, if◌then◌else◌}
+use Rattle.std.specs.Prelude.{List, [], ◌∷◌, Option, Some, slice_index}
 use Rattle.ffs_volume.specs.declared.Layout.{Layout}
 use Rattle.ffs_volume.specs.Messages.Kinds.{NameMessage, reported, root_none, root_not_dir, root_suspect}
 use Rattle.ffs_volume.specs.Directories.Volumes.{volume_of}
@@ -14,7 +15,8 @@ pub record AreClear (old new : Workspace) : Type 0 where
   pub passed : (x : ℕ) → bool_at new.leaders.items x ≡ false
   pub stamps : (x : ℕ) → slice_index new.queue.items x ≡ (if bool_at old.leaders.items x then 1 else 0)
 
--- the image gives the bytes, the workspace holds what the block check and the survey leave, and its marks are right before d
+-- the image gives the bytes, the workspace holds what the block check and the survey leave, and its marks are right
+-- before d
 pub record IsBefore (v : Layout) (contents : Option (List ℕ)) (w : Workspace) (d : ℕ) (b : List ℕ) : Type 0 where
   pub reported_is : contents ≡ Some b
   pub claims : HoldsClaims v b w

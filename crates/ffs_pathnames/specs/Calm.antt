@@ -7,4 +7,5 @@ use Rattle.ffs_pathnames.specs.Marks.{are_quiet}
 -- nothing is reported before the entries of x, and nothing of these, where no inode is stamped by x yet
 pub record IsSilent (v : Volume) (x : ℕ) : Type 0 where
   pub starts : dir_starts v x ≡ []
-  pub entries : (stamps : List ℕ) → ((y : ℕ) → y < v.count → (slice_index stamps y == x) ≡ false) → are_quiet v x stamps (roled_entries v x) ≡ true
+  pub entries : (stamps : List ℕ) → ((y : ℕ) → y < v.count → (slice_index stamps y == x) ≡ false)
+      → are_quiet v x stamps (roled_entries v x) ≡ true

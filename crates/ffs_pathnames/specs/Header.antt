@@ -3,7 +3,8 @@ use Rattle.std.specs.Prelude.{ℕ, ◌%◌, ◌==◌, Bool, not, ◌&&◌, nat_l
 use Rattle.ffs_volume.specs.declared.Attr.{Attr}
 use Rattle.ffs_volume.specs.Directories.Entries.{Entry, is_live}
 use Rattle.ffs_volume.specs.Directories.Roles.{is_one_dot, is_two_dots, entry_if}
-use Rattle.ffs_volume.specs.Messages.Kinds.{NameMessage, reported, dir_short, dir_length, dir_empty, dir_corrupt, number_dot, kind_dot, number_dotdot, kind_dotdot}
+use Rattle.ffs_volume.specs.Messages.Kinds.{NameMessage, reported, dir_short, dir_length, dir_empty}
+use Rattle.ffs_volume.specs.Messages.Kinds.{dir_corrupt, number_dot, kind_dot, number_dotdot, kind_dotdot}
 use Rattle.ffs_volume.specs.Directories.PathnameCheck.{missing_dot_reported, missing_dotdot_reported, is_other}
 
 -- of the size, of whether a Gap is kept, and of whether all chunks are sound
@@ -26,7 +27,8 @@ abbrev pub dotdot_in : Option Entry → Option Entry
 dotdot_in second = entry_if (λ e. is_live e && is_two_dots e.name) second
 
 abbrev pub there_reported : Attr → List ℕ → ℕ → Entry → List NameMessage
-there_reported about path d e = reported (not (e.number == d)) (number_dot about path) ++ reported (not (e.kind == 4)) (kind_dot about path)
+there_reported about path d e = reported (not (e.number == d)) (number_dot about path)
+    ++ reported (not (e.kind == 4)) (kind_dot about path)
 
 abbrev pub dot_said : Attr → List ℕ → ℕ → Option Entry → Option Entry → List NameMessage
 dot_said about path d first None = missing_dot_reported about path first
@@ -34,15 +36,19 @@ dot_said about path d first (Some e) = there_reported about path d e
 
 -- `parent` is the directory's parent, if it has one
 abbrev pub above_reported : Attr → List ℕ → Option ℕ → Entry → List NameMessage
-above_reported about path parent e = reported (is_other parent e.number) (number_dotdot about path) ++ reported (not (e.kind == 4)) (kind_dotdot about path)
+above_reported about path parent e = reported (is_other parent e.number) (number_dotdot about path)
+    ++ reported (not (e.kind == 4)) (kind_dotdot about path)
 
 abbrev pub dotdot_said : Attr → List ℕ → Option ℕ → Option Entry → Option Entry → List NameMessage
 dotdot_said about path parent second None = missing_dotdot_reported about path second
 dotdot_said about path parent second (Some e) = above_reported about path parent e
 
 abbrev pub dots_reported : Attr → List ℕ → ℕ → Option ℕ → Option Entry → Option Entry → List NameMessage
-dots_reported about path d parent first second = dot_said about path d first (dot_in first) ++ dotdot_said about path parent second (dotdot_in second)
+dots_reported about path d parent first second = dot_said about path d first (dot_in first)
+    ++ dotdot_said about path parent second (dotdot_in second)
 
 -- all that is reported before the entries
-unfoldable pub header_reported : Attr → List ℕ → ℕ → Option ℕ → Bool → Bool → Option Entry → Option Entry → List NameMessage
-header_reported about path d parent gap sound first second = shape_reported about path gap sound ++ dots_reported about path d parent first second
+unfoldable pub header_reported : Attr → List ℕ → ℕ → Option ℕ → Bool → Bool → Option Entry → Option Entry
+    → List NameMessage
+header_reported about path d parent gap sound first second = shape_reported about path gap sound
+    ++ dots_reported about path d parent first second

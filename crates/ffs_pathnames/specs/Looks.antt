@@ -18,8 +18,11 @@ use Rattle.ffs_pathnames.specs.Sees.{Sees}
 -- are all sound, whether a
 -- Gap is kept, the chunk at the start of the file; and each inode that belongs to the directory d is stamped
 pub record IsFirstLook (v : Layout) (inodes : Inodes) (d : ℕ) (i : Inode) (cut : ℕ) (b : List ℕ) (old : List ℕ) (f : FirstLook) (new start : List ℕ) : Type 0 where
-  pub quiet : (volume : Volume) → Sees volume inodes → i.size < 2 ^ 31 → f.quiet ≡ are_quiet volume d old (flat_map roled_chunk (chunks_read v i cut b))
-  pub stamps : (volume : Volume) → Sees volume inodes → i.size < 2 ^ 31 → new ≡ after_looks volume d old (flat_map roled_chunk (chunks_read v i cut b))
+  pub quiet : (volume : Volume) → Sees volume inodes → i.size < 2 ^ 31
+      → f.quiet ≡ are_quiet volume d old (flat_map roled_chunk (chunks_read v i cut b))
+  pub stamps : (volume : Volume) → Sees volume inodes → i.size < 2 ^ 31
+      → new ≡ after_looks volume d old (flat_map roled_chunk (chunks_read v i cut b))
   pub sound : i.size < 2 ^ 31 → f.sound ≡ are_sound (chunks_read v i cut b)
   pub gap : f.gap ≡ has_gap (replayed_steps v cut fresh_replay (steps_of v i b))
-  pub started : i.size < 2 ^ 31 → find (λ c. c.offset == 0) (chunks_read v i cut b) ≡ start_of [] f.started v.order start
+  pub started : i.size < 2 ^ 31 → find (λ c. c.offset == 0) (chunks_read v i cut b)
+      ≡ start_of [] f.started v.order start

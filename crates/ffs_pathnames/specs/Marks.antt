@@ -1,5 +1,6 @@
 -- The pathname check by marks: what it remembers of the entries that it has passed, and what it reports by that.
-use Rattle.std.specs.Prelude.{ℕ, ◌==◌, Bool, true, false, not, ◌&&◌, ◌||◌, nat_lt, if◌then◌else◌, List, [], ◌∷◌, ◌++◌, slice_index, slice_set}
+use Rattle.std.specs.Prelude.{ℕ, ◌==◌, Bool, true, false, not, ◌&&◌, ◌||◌, nat_lt}
+use Rattle.std.specs.Prelude.{if◌then◌else◌, List, [], ◌∷◌, ◌++◌, slice_index, slice_set}
 use Rattle.std.specs.List.{slice_index_or}
 use Rattle.ffs_volume.specs.declared.Role.{Role}
 use Rattle.ffs_volume.specs.declared.Role.TheVariants.{Empty, Dot, Dotdot, Extra, Plain}
@@ -10,8 +11,10 @@ use Rattle.ffs_volume.specs.Directories.Climb.{is_value}
 use Rattle.ffs_volume.specs.Directories.Graph.{parent}
 use Rattle.ffs_volume.specs.Directories.Parents.{graph_of}
 use Rattle.ffs_volume.specs.Directories.Paths.{dir_path, entry_path}
-use Rattle.ffs_volume.specs.Messages.Kinds.{NameMessage, reported, out_of_range, whiteout, unallocated, extraneous, kind_entry}
-use Rattle.ffs_volume.specs.Directories.PathnameCheck.{attributes, label_of, is_bad_whiteout, suspect_reported, is_other_kind, extra_reported}
+use Rattle.ffs_volume.specs.Messages.Kinds.{NameMessage, reported, out_of_range, whiteout}
+use Rattle.ffs_volume.specs.Messages.Kinds.{unallocated, extraneous, kind_entry}
+use Rattle.ffs_volume.specs.Directories.PathnameCheck.{attributes, label_of, is_bad_whiteout}
+use Rattle.ffs_volume.specs.Directories.PathnameCheck.{suspect_reported, is_other_kind, extra_reported}
 
 -- which inodes a plain entry has named, and for each inode a directory whose entries to come have its parent entry
 pub record Marks : Type 0 where
@@ -35,8 +38,11 @@ after_roled v s m e = if is_plain e.role && nat_lt e.entry.number v.count then a
 -- what is reported of an entry, by the marks
 abbrev pub named_reported : Volume → ℕ → Marks → Entry → List NameMessage
 named_reported v s m e =
-    reported (is_suspect v e.number && (not (e.number == 2) && not (is_passed m e.number))) (suspect_reported v e.number (entry_path (graph_of v) s e.name))
-    ++ (reported (is_dir v e.number && not (is_due s m e.number)) (extraneous (entry_path (graph_of v) s e.name) (dir_path (graph_of v) e.number))
+    reported (is_suspect v e.number
+    && (not (e.number == 2)
+    && not (is_passed m e.number))) (suspect_reported v e.number (entry_path (graph_of v) s e.name))
+    ++ (reported (is_dir v e.number
+    && not (is_due s m e.number)) (extraneous (entry_path (graph_of v) s e.name) (dir_path (graph_of v) e.number))
     ++ reported (is_other_kind v e) (kind_entry (attributes v e.number) (label_of (v.class e.number)) (entry_path (graph_of v) s e.name)))
 
 abbrev pub plain_reported : Volume → ℕ → Marks → Entry → List NameMessage
@@ -72,7 +78,8 @@ belongs v s x = is_dir v x && (not (x == 2) && is_value (parent (graph_of v) x) 
 
 -- a first look at the entries of s stamps each inode that belongs to s
 abbrev pub after_look : Volume → ℕ → List ℕ → RoledEntry → List ℕ
-after_look v s stamps e = if is_plain e.role && belongs v s e.entry.number then slice_set stamps e.entry.number s else stamps
+after_look v s stamps e = if is_plain e.role
+    && belongs v s e.entry.number then slice_set stamps e.entry.number s else stamps
 
 abbrev pub after_looks : Volume → ℕ → List ℕ → List RoledEntry → List ℕ
 after_looks v s stamps [] = stamps
@@ -82,7 +89,8 @@ after_looks v s stamps (e ∷ es) = after_looks v s (after_look v s stamps e) es
 abbrev pub is_inode_quiet : Volume → ℕ → List ℕ → Entry → Bool
 is_inode_quiet v s stamps e =
     is_allocated (v.class e.number) && (not (is_suspect v e.number)
-    && ((not (is_dir v e.number) || (belongs v s e.number && not (slice_index stamps e.number == s))) && not (is_other_kind v e)))
+    && ((not (is_dir v e.number) || (belongs v s e.number && not (slice_index stamps e.number == s)))
+    && not (is_other_kind v e)))
 
 abbrev pub is_plain_quiet : Volume → ℕ → List ℕ → Entry → Bool
 is_plain_quiet v s stamps e =

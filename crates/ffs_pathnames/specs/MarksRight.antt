@@ -18,7 +18,8 @@ pub record AreRight (v : Volume) (s : ℕ) (done : List RoledEntry) (m : Marks) 
 
 -- between directories, before s
 pub record AreRightBefore (v : Volume) (s : ℕ) (m : Marks) : Type 0 where
-  pub passed : (x : ℕ) → x < v.count → is_suspect v x ≡ true → x ≢ 1 → x ≢ 2 → is_passed m x ≡ some_below (λ t. names_in (graph_of v) t x) s
+  pub passed : (x : ℕ) → x < v.count → is_suspect v x ≡ true → x ≢ 1 → x ≢ 2
+      → is_passed m x ≡ some_below (λ t. names_in (graph_of v) t x) s
   pub stamps : (x : ℕ) → x < v.count → slice_index m.stamps x < s
   pub passed_length : length m.passed ≡ v.count
   pub stamps_length : length m.stamps ≡ v.count

@@ -5,7 +5,8 @@ use Rattle.ffs_volume.specs.Directories.Roles.{Volume, is_dir, is_suspect}
 use Rattle.ffs_volume.specs.Directories.Climb.{is_value}
 use Rattle.ffs_volume.specs.Directories.Graph.{parent}
 use Rattle.ffs_volume.specs.Directories.Parents.{graph_of}
-use Rattle.ffs_volume.specs.Encodings.Kinds.{is_dir_kind, is_empty_dir_kind, is_allocated_kind, is_unknown_kind, type_of_kind, class_of_kind}
+use Rattle.ffs_volume.specs.Encodings.Kinds.{is_dir_kind, is_empty_dir_kind, is_allocated_kind}
+use Rattle.ffs_volume.specs.Encodings.Kinds.{is_unknown_kind, type_of_kind, class_of_kind}
 use Rattle.ffs_workspace.specs.Holds.{bool_at}
 use Rattle.ffs_pathnames.specs.declared.inodes.Inodes.{Inodes}
 
@@ -17,7 +18,8 @@ pub record Sees (v : Volume) (i : Inodes) : Type 0 where
   pub unknown : (x : ℕ) → is_unknown (v.class x) ≡ is_unknown_kind (slice_index i.kinds.now x)
   pub suspect : (x : ℕ) → is_suspect v x ≡ (bool_at i.marked.now x || is_empty_dir_kind (slice_index i.kinds.now x))
   pub marked : (x : ℕ) → v.marked x ≡ bool_at i.marked.now x
-  pub kind : (x : ℕ) → is_allocated (v.class x) ≡ true → is_unknown (v.class x) ≡ false → type_of_kind (slice_index i.kinds.now x) ≡ (v.inode x).mode / 4096
+  pub kind : (x : ℕ) → is_allocated (v.class x) ≡ true → is_unknown (v.class x) ≡ false
+      → type_of_kind (slice_index i.kinds.now x) ≡ (v.inode x).mode / 4096
   pub class : (x : ℕ) → is_allocated (v.class x) ≡ true → v.class x ≡ class_of_kind (slice_index i.kinds.now x)
   pub parent_is : (x s : ℕ) → 2 ≤ s → is_value (parent (graph_of v) x) s ≡ (slice_index i.parents.now x == s)
 

@@ -1,7 +1,8 @@
 -- The verdict on a plain entry, by the marks and by the lists of a workspace.
 use Rattle.std.specs.Prelude.{ℕ, if◌then◌else◌, List, [], ◌∷◌, ◌++◌}
 use Rattle.ffs_volume.specs.declared.Attr.{Attr}
-use Rattle.ffs_volume.specs.Messages.Kinds.{NameMessage, reported, out_of_range, whiteout, unallocated, dup_bad, zero_dir, extraneous, kind_entry}
+use Rattle.ffs_volume.specs.Messages.Kinds.{NameMessage, reported, out_of_range, whiteout}
+use Rattle.ffs_volume.specs.Messages.Kinds.{unallocated, dup_bad, zero_dir, extraneous, kind_entry}
 use Rattle.ffs_pathnames.specs.declared.verdict.Verdict.{Verdict}
 use Rattle.ffs_pathnames.specs.declared.verdict.Verdict.TheVariants.{OutOfRange, Whiteout, Fine, Unallocated, Named}
 use Rattle.ffs_pathnames.specs.declared.verdict.Faults.{Faults}
@@ -11,7 +12,8 @@ abbrev pub suspect_message : Faults → Attr → List ℕ → NameMessage
 suspect_message n about path = if n.marked then dup_bad about n.label path else zero_dir about path
 
 abbrev pub links_reported : Faults → Attr → List ℕ → List ℕ → List NameMessage
-links_reported n about path directory = reported n.extraneous (extraneous path directory) ++ reported n.kind (kind_entry about n.label path)
+links_reported n about path directory = reported n.extraneous (extraneous path directory)
+    ++ reported n.kind (kind_entry about n.label path)
 
 abbrev pub faults_reported : Faults → Attr → List ℕ → List ℕ → List NameMessage
 faults_reported n about path directory =

@@ -83,16 +83,7 @@ ends_same names n from = le_or n from (longest_end (length (joined names) - (fro
     (λ past. ap (λ i. longest_end i names) (omega arith))
     (λ within. end-whole (length (joined names) - (from - n)) names (omega arith) ∙ sym (end-whole (n + length (joined names) - from) names (omega arith)))
 
--- it continues after another byte, and ends at a `/` or where nothing is left
-pub slash-here : (bytes : List ℕ) (at : ℕ) → at < length bytes → slice_index bytes at ≡ 47 → from_slash (drop at bytes) ≡ drop at bytes
-slash-here bytes at h e =
-    let parts = drop_more bytes at 0 h in
-    ap from_slash parts ∙ (ap (λ x. from_slash (x ∷ drop (at + 1) bytes)) e ∙ sym (parts ∙ ap (λ x. x ∷ drop (at + 1) bytes) e))
-
-pub slash-next : (bytes : List ℕ) (at : ℕ) → at < length bytes → (slice_index bytes at == 47) ≡ false → from_slash (drop at bytes) ≡ from_slash (drop (at + 1) bytes)
-slash-next bytes at h e =
-    ap from_slash (drop_more bytes at 0 h) ∙ ap (λ b. if b then slice_index bytes at ∷ drop (at + 1) bytes else from_slash (drop (at + 1) bytes)) e
-
+-- nothing is left to look at
 pub slash-none : (bytes : List ℕ) (at end : ℕ) → length bytes ≤ at → length bytes ≤ end → drop end bytes ≡ from_slash (drop at bytes)
 slash-none bytes at end h k = drop_all end bytes k ∙ sym (ap from_slash (drop_all at bytes h))
 

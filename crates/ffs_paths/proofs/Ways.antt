@@ -135,13 +135,6 @@ pub found_is : (g : Graph) (d k : ℕ) (p : DirectoryPath) → level g d ≡ Som
 found_is g d k p l r h s =
     subst (HoldsPath p) (sym (ap (option_map (λ n. names_down g n d)) l)) (r, subst (HoldsNames p.names) (append_none (names_down g k d)) h, s)
 
-pub lost_is : (g : Graph) (d : ℕ) (p : DirectoryPath) → reached g d ≡ false → p.reached ≡ false → IsPathOf g d p
-lost_is g d p h r = go (level g d) h
-  where
-    go : (o : Option ℕ) → is_some o ≡ false → HoldsPath p (option_map (λ n. names_down g n d) o)
-    go (Some k) e = absurd (cc)
-    go None e = r
-
 -- what is written of it
 pub put_is : (g : Graph) (d : ℕ) (p : DirectoryPath) (text : List ℕ) → IsPathOf g d p → p.reached ≡ true → ((names : List (List ℕ)) → HoldsNames p.names names → text ≡ dir_bytes (Some names))
     → text ≡ dir_path g d

@@ -1,5 +1,6 @@
 -- What a climb to the root reads, and the path that it gives.
-use Rattle.std.specs.Prelude.{◌≡◌, ◌*◌, ◌<◌, ◌≤◌, ℕ, nat_lt, true, if◌then◌else◌, List, [], ◌∷◌, length, Option, Some, None, option_and_then, vec_len, slice_index}
+use Rattle.std.specs.Prelude.{◌≡◌, ◌*◌, ◌<◌, ◌≤◌, ℕ, nat_lt, true, if◌then◌else◌, List, [], ◌∷◌}
+use Rattle.std.specs.Prelude.{length, Option, Some, None, option_and_then, vec_len, slice_index}
 use Rattle.std.specs.Option.{unwrap_or}
 use Rattle.ffs_image.specs.Device.{Device}
 use Rattle.ffs_volume.specs.declared.Layout.{Layout}
@@ -41,8 +42,8 @@ pub record IsParentOf (w : Workspace) (dir parent : ℕ) : Type 0 where
   pub some : 0 < parent
   pub inside : parent < vec_len w.parents
 
--- a path of more than 1,024 bytes has no room, and `?` takes its place. No other than that of an entry of a directory that is
--- not reached is so long, where the name has more than 1,022 bytes
+-- a path of more than 1,024 bytes has no room, and `?` takes its place. No other than that of an entry of a directory
+-- that is not reached is so long, where the name has more than 1,022 bytes
 abbrev pub in_room : List ℕ → List ℕ
 in_room path = if nat_lt 1024 (length path) then 63 ∷ [] else path
 

@@ -21,15 +21,18 @@ pub record LeadsTo (g : Graph) (s d : ℕ) (name : List ℕ) : Type 0 where
   pub below : dir_names g d ≡ Some (names ++ name ∷ [])
   pub single : AreSingle (names ++ name ∷ [])
 
--- the parent's path, and a reading of its entries: of a number above all that were passed, the first plain entry that names it
--- is still to come; and the child that was found last has the name that was found
+-- the parent's path, and a reading of its entries: of a number above all that were passed, the first plain entry that
+-- names it is still to come; and the child that was found last has the name that was found
 pub record AreSiblings (v : Layout) (b : List ℕ) (s : Siblings) : Type 0 where
   pub path : IsPathOf (graph_of (volume_of v b)) s.parent s.path
   pub above : is_dir (volume_of v b) s.parent ≡ true
-      → (x : ℕ) → s.search.highest < x → name_in x (to_come b s.search.entries) ≡ name_in x (roled_entries (volume_of v b) s.parent)
+      → (x : ℕ) → s.search.highest < x → name_in x (to_come b s.search.entries)
+      ≡ name_in x (roled_entries (volume_of v b) s.parent)
   pub child : 0 < s.child → LeadsTo (graph_of (volume_of v b)) s.parent s.child (last_name s.search.entries)
 
--- they are those of the volume, where the image gives these bytes and the workspace holds what the block check and the survey leave
+-- they are those of the volume, where the image gives these bytes and the workspace holds what the block check and the
+-- survey leave
 pub record KeepSiblings (v : Layout) (contents : Option (List ℕ)) (w : Workspace) (s : Siblings) : Type 0 where
   pub layout : s.search.entries.chunks.walk.geometry.layout ≡ v
-  pub right : (b : List ℕ) → contents ≡ Some b → HoldsClaims v b w → HoldsSurvey v b w → 0 < s.parent → AreSiblings v b s
+  pub right : (b : List ℕ) → contents ≡ Some b → HoldsClaims v b w → HoldsSurvey v b w → 0 < s.parent
+      → AreSiblings v b s

@@ -1,5 +1,6 @@
 -- A directory of which nothing can be reported, by what a survey sees where it reads it.
-use Rattle.std.specs.Prelude.{◌≡◌, ℕ, suc, ◌==◌, Bool, true, false, not, ◌&&◌, ◌||◌, nat_le, nat_lt, List, [], ◌∷◌, length, ◌⊎◌}
+use Rattle.std.specs.Prelude.{◌≡◌, ℕ, suc, ◌==◌, Bool, true, false, not, ◌&&◌}
+use Rattle.std.specs.Prelude.{◌||◌, nat_le, nat_lt, List, [], ◌∷◌, length, ◌⊎◌}
 use Rattle.std.specs.List.{list_any}
 use Rattle.ffs_volume.specs.declared.Role.{Role}
 use Rattle.ffs_volume.specs.declared.Role.TheVariants.{Empty, Dot, Dotdot, Extra, Plain}
@@ -22,7 +23,8 @@ is_calm_kind kind reached =
 -- the inode that a plain entry names isn't marked, and has the type of the entry
 abbrev pub is_calm_plain : List ℕ → List Bool → (ℕ → Bool) → ℕ → ℕ → Bool
 is_calm_plain kinds marked reached x kind =
-    nat_le 2 x && (nat_lt x (length kinds) && (not (bool_at marked x) && ((number_at kinds x == kind) && is_calm_kind kind (reached x))))
+    nat_le 2 x && (nat_lt x (length kinds) && (not (bool_at marked x)
+        && ((number_at kinds x == kind) && is_calm_kind kind (reached x))))
 
 -- an entry at an index of the directory: `.` is the first, `..` the second, and all others are empty or plain
 abbrev pub is_calm_role : Sight → (ℕ → Bool) → ℕ → Role → ℕ → ℕ → Bool
@@ -44,15 +46,16 @@ abbrev pub are_calm : Sight → (ℕ → Bool) → ℕ → List RoledEntry → B
 are_calm s reached i [] = nat_le 2 i
 are_calm s reached i (e ∷ es) = is_calm_entry s reached i e && are_calm s (reached_after s.kinds reached e) (suc i) es
 
--- The directory d is calm: its shape is right, and so are its entries, by what was reached before it. It is reached, and
--- each directory that it names is reached from it.
+-- The directory d is calm: its shape is right, and so are its entries, by what was reached before it. It is reached,
+-- and each directory that it names is reached from it.
 pub record IsCalm (kinds : List ℕ) (marked reached : List Bool) (parents : List ℕ) (entries : List RoledEntry) (sound : Bool) (d : ℕ) : Type 0 where
   pub before : ℕ → Bool
   pub begins : before d ≡ true
   pub entries_right : are_calm (record { kinds = kinds; marked = marked; dir = d; above = number_at parents d }) before 0 entries ≡ true
   pub shape_right : sound ≡ true
   pub is_reached : bool_at reached d ≡ true
-  pub below : (x : ℕ) → dir_at kinds x ≡ true → list_any (names x) entries ≡ true → (bool_at reached x ≡ true) × (number_at parents x ≡ d)
+  pub below : (x : ℕ) → dir_at kinds x ≡ true → list_any (names x) entries ≡ true
+      → (bool_at reached x ≡ true) × (number_at parents x ≡ d)
 
 -- all directories with a flag are calm
 abbrev pub AreCalm : List ℕ → List Bool → List Bool → List ℕ → (ℕ → List RoledEntry) → (ℕ → Bool) → List Bool → Type 0

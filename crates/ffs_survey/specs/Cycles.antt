@@ -7,7 +7,8 @@ use Rattle.ffs_survey.specs.Discover.{bit}
 
 -- the parents that a list holds: 0 and numbers past the list are none
 abbrev pub up_of : List ℕ → ℕ → Option ℕ
-up_of parents x = cond ((number_at parents x == 0) || nat_le (length parents) (number_at parents x)) None (Some (number_at parents x))
+up_of parents x = cond ((number_at parents x == 0)
+    || nat_le (length parents) (number_at parents x)) None (Some (number_at parents x))
 
 -- how many are 0
 unfoldable pub zeros : List ℕ → ℕ

@@ -1,5 +1,6 @@
 -- What a walk over directories discovers and counts, said by what is still to go.
-use Rattle.std.specs.Prelude.{◌≡◌, ℕ, zero, suc, ◌+◌, ◌<◌, ◌≤◌, ◌==◌, Bool, true, false, not, cond, ◌&&◌, ◌||◌, if◌then◌else◌, List, [], ◌∷◌, Option, None, Some, is_some, unwrap_or, find, count_by}
+use Rattle.std.specs.Prelude.{◌≡◌, ℕ, zero, suc, ◌+◌, ◌<◌, ◌≤◌, ◌==◌, Bool, true, false, not, cond, ◌&&◌, ◌||◌}
+use Rattle.std.specs.Prelude.{if◌then◌else◌, List, [], ◌∷◌, Option, None, Some, is_some, unwrap_or, find, count_by}
 use Rattle.std.specs.List.{list_any, sum_by}
 use Rattle.ffs_volume.specs.Directories.Roles.{RoledEntry, refers}
 use Rattle.ffs_volume.specs.Disk.Search.{first_below}
@@ -33,10 +34,13 @@ abbrev pub nothing : ℕ → Option ℕ
 nothing x = None
 
 -- With a to go, the marks r, the parents p and the queue q become what r', p' and q' become with c to go.
-pub record Comes (a : ℕ → Option ℕ) (r : List Bool) (p q : List ℕ) (c : ℕ → Option ℕ) (r' : List Bool) (p' q' : List ℕ) : Type 0 where
+pub record Comes (a : ℕ → Option ℕ) (r : List Bool) (p q : List ℕ) (c : ℕ
+    → Option ℕ) (r' : List Bool) (p' q' : List ℕ) : Type 0 where
   pub reached : (x : ℕ) → (bool_at r' x || is_some (c x)) ≡ (bool_at r x || is_some (a x))
-  pub parent : (x : ℕ) → cond (bool_at r' x) (number_at p' x) (unwrap_or (c x) (number_at p' x)) ≡ cond (bool_at r x) (number_at p x) (unwrap_or (a x) (number_at p x))
-  pub queue : (x : ℕ) → times x q' + bit (is_some (c x) && not (bool_at r' x)) ≡ times x q + bit (is_some (a x) && not (bool_at r x))
+  pub parent : (x : ℕ) → cond (bool_at r' x) (number_at p' x) (unwrap_or (c x) (number_at p' x))
+      ≡ cond (bool_at r x) (number_at p x) (unwrap_or (a x) (number_at p x))
+  pub queue : (x : ℕ) → times x q' + bit (is_some (c x) && not (bool_at r' x))
+      ≡ times x q + bit (is_some (a x) && not (bool_at r x))
 
 -- how many of these entries that count name x, and whether a plain one does
 abbrev pub count_in : List RoledEntry → ℕ → ℕ
@@ -59,8 +63,10 @@ none x = 0
 abbrev pub never : ℕ → Bool
 never x = false
 
--- With c and a to go, the counts f and the flags m of the numbers below n become what f' and m' become with c' and a' to go.
-pub record Counts (n : ℕ) (c : ℕ → ℕ) (a : ℕ → Bool) (f : List ℕ) (m : List Bool) (c' : ℕ → ℕ) (a' : ℕ → Bool) (f' : List ℕ) (m' : List Bool) : Type 0 where
+-- With c and a to go, the counts f and the flags m of the numbers below n become what f' and m' become with c' and a'
+-- to go.
+pub record Counts (n : ℕ) (c : ℕ → ℕ) (a : ℕ → Bool) (f : List ℕ) (m : List Bool) (c' : ℕ → ℕ) (a' : ℕ
+    → Bool) (f' : List ℕ) (m' : List Bool) : Type 0 where
   pub references : (x : ℕ) → x < n → number_at f' x + c' x ≡ number_at f x + c x
   pub named : (x : ℕ) → x < n → (bool_at m' x || a' x) ≡ (bool_at m x || a x)
 
@@ -116,5 +122,7 @@ IsBlank kinds r p = (x : ℕ) → is_free kinds r x ≡ true → number_at p x �
 -- what the directories below n without a mark add to counts and flags, and which parents they give
 pub record IsRead (g : Graph) (kinds : List ℕ) (r : List Bool) (n : ℕ) (f : List ℕ) (m : List Bool) (p f' : List ℕ) (m' : List Bool) (p' : List ℕ) : Type 0 where
   pub references : (x : ℕ) → x < g.count → number_at f' x ≡ number_at f x + counted_by (λ s. not (bool_at r s)) g x n
-  pub named : (x : ℕ) → x < g.count → bool_at m' x ≡ (bool_at m x || is_some (first_below (λ s. not (bool_at r s) && names_in g s x) n))
-  pub parents : (x : ℕ) → x < g.count → number_at p' x ≡ unwrap_or (first_below (is_free_edge g kinds r x) n) (number_at p x)
+  pub named : (x : ℕ) → x < g.count → bool_at m' x ≡ (bool_at m x
+      || is_some (first_below (λ s. not (bool_at r s) && names_in g s x) n))
+  pub parents : (x : ℕ) → x < g.count
+      → number_at p' x ≡ unwrap_or (first_below (is_free_edge g kinds r x) n) (number_at p x)

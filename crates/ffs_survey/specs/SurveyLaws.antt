@@ -1,5 +1,6 @@
 -- A survey of a volume's directories, from kinds and marks that the volume gives.
-use Rattle.std.specs.Prelude.{◌≡◌, ℕ, zero, suc, ◌+◌, ◌*◌, ◌==◌, Bool, true, false, not, ◌&&◌, ◌||◌, nat_le, nat_lt, if◌then◌else◌, List, length, refl, count_by}
+use Rattle.std.specs.Prelude.{◌≡◌, ℕ, zero, suc, ◌+◌, ◌*◌, ◌==◌, Bool, true, false, not, ◌&&◌}
+use Rattle.std.specs.Prelude.{◌||◌, nat_le, nat_lt, if◌then◌else◌, List, length, refl, count_by}
 use Rattle.std.proofs.Common.{◌∙◌, ap, subst, inl, inr}
 use Rattle.std.proofs.lemmas.Bool.{or_cases, eqb-true, or_parts, false_from_ne_true}
 use mathlib.Core.Path.{fun_ext}
@@ -8,21 +9,27 @@ use Rattle.ffs_volume.specs.declared.Inode.{Inode}
 use Rattle.ffs_volume.specs.declared.Class.{Class}
 use Rattle.ffs_volume.specs.declared.Class.TheVariants.{Free, Partial, Unknown, File, Dir}
 use Rattle.ffs_volume.specs.Blocks.Inodes.{inode_of, class_of, type_of, is_known_type, is_any_set, is_directory}
-use Rattle.ffs_volume.specs.Directories.Roles.{Volume, RoledEntry, roled_entries, is_dir, is_suspect, refers, references, references_below as volume_references_below}
+use Rattle.ffs_volume.specs.Directories.Roles.{Volume, RoledEntry, roled_entries, is_dir, is_suspect, refers}
+use Rattle.ffs_volume.specs.Directories.Roles.{references, references_below as volume_references_below}
 use Rattle.ffs_volume.specs.Directories.Volumes.{class_at, marked_at, volume_of, volume_with}
 use Rattle.ffs_volume.specs.Directories.Graph.{Graph}
 use Rattle.ffs_volume.specs.Directories.Parents.{graph_of}
-use Rattle.ffs_survey.specs.Survey.{bool_at, number_at, is_dir_kind, dir_at, suspect_at, graph_with, references_below, references_to, IsSurvey}
+use Rattle.ffs_survey.specs.Survey.{bool_at, number_at, is_dir_kind, dir_at, suspect_at}
+use Rattle.ffs_survey.specs.Survey.{graph_with, references_below, references_to, IsSurvey}
 
 -- the graph of a volume's directories, from kinds and entries
-pub graph_is : (v : Volume) (kinds : List ℕ) (entries : ℕ → List RoledEntry) → length kinds ≡ v.count → ((x : ℕ) → dir_at kinds x ≡ is_dir v x) → ((d : ℕ) → entries d ≡ roled_entries v d) → graph_with kinds entries ≡ graph_of v
+pub graph_is : (v : Volume) (kinds : List ℕ) (entries : ℕ → List RoledEntry) → length kinds ≡ v.count
+    → ((x : ℕ) → dir_at kinds x ≡ is_dir v x) → ((d : ℕ) → entries d ≡ roled_entries v d)
+    → graph_with kinds entries ≡ graph_of v
 graph_is v kinds entries n d e = ap (λ z. with_count z (dir_at kinds) entries) n ∙ (ap (λ z. with_count v.count z entries) (fun_ext d) ∙ ap (λ z. with_count v.count (is_dir v) z) (fun_ext e))
   where
     with_count : ℕ → (ℕ → Bool) → (ℕ → List RoledEntry) → Graph
     with_count n d e = record { count = n; is_dir = d; entries = e }
 
 -- the survey of that graph is one of the volume
-pub survey_is : (v : Volume) (kinds : List ℕ) (entries : ℕ → List RoledEntry) (f : List ℕ) (m r : List Bool) (p : List ℕ) → length kinds ≡ v.count → ((x : ℕ) → dir_at kinds x ≡ is_dir v x) → ((d : ℕ) → entries d ≡ roled_entries v d)
+pub survey_is : (v : Volume) (kinds : List ℕ) (entries : ℕ
+    → List RoledEntry) (f : List ℕ) (m r : List Bool) (p : List ℕ) → length kinds ≡ v.count
+    → ((x : ℕ) → dir_at kinds x ≡ is_dir v x) → ((d : ℕ) → entries d ≡ roled_entries v d)
     → IsSurvey (graph_with kinds entries) f m r p → IsSurvey (graph_of v) f m r p
 survey_is v kinds entries f m r p n d e s = subst (λ g. IsSurvey g f m r p) (graph_is v kinds entries n d e) s
 
@@ -35,8 +42,8 @@ references_is v x = go v.count
     go zero = refl
     go (suc n) = ap (λ k. k + (if is_dir v n then count_by (refers x) (roled_entries v n) else 0)) (go n)
 
--- the kind of an inode: 0 for an unallocated one, 15 for an unknown one, 4 for a directory with a size, 5 for one of size 0,
--- and else the type of its mode
+-- the kind of an inode: 0 for an unallocated one, 15 for an unknown one, 4 for a directory with a size, 5 for one of
+-- size 0, and else the type of its mode
 abbrev pub kind_by : Class → Inode → ℕ
 kind_by Free i = 0
 kind_by Partial i = 0
@@ -82,16 +89,21 @@ kind_is_dir v i Dir e = empty_kind (i.size == 0)
 kind_is_dir v i File e = file_kind v i e
 
 -- kinds that the volume gives say which inodes are directories
-pub dirs_of_kinds : (v : Layout) (image : List ℕ) (kinds : List ℕ) (x : ℕ) → number_at kinds x ≡ kind_by (class_at v image x) (inode_of v image x) → dir_at kinds x ≡ is_dir (volume_of v image) x
+pub dirs_of_kinds : (v : Layout) (image : List ℕ) (kinds : List ℕ) (x : ℕ)
+    → number_at kinds x ≡ kind_by (class_at v image x) (inode_of v image x)
+    → dir_at kinds x ≡ is_dir (volume_of v image) x
 unfolding volume_of volume_with
 dirs_of_kinds v image kinds x h = ap (λ k. nat_le 2 x && is_dir_kind k) h ∙ go (nat_le 2 x) (nat_lt x (v.ncg * v.ipg))
   where
-    go : (a b : Bool) → (a && is_dir_kind (kind_by (if a && b then class_of v (inode_of v image x) else Free) (inode_of v image x))) ≡ ((a && b) && is_directory (if a && b then class_of v (inode_of v image x) else Free))
+    go : (a b : Bool) → (a
+        && is_dir_kind (kind_by (if a && b then class_of v (inode_of v image x) else Free) (inode_of v image x)))
+        ≡ ((a && b) && is_directory (if a && b then class_of v (inode_of v image x) else Free))
     go false b = refl
     go true false = refl
     go true true = kind_is_dir v (inode_of v image x) (class_of v (inode_of v image x)) refl
 
-kind_is_empty : (v : Layout) (i : Inode) (c : Class) → class_of v i ≡ c → (kind_by c i == 5) ≡ (is_directory c && (i.size == 0))
+kind_is_empty : (v : Layout) (i : Inode) (c : Class) → class_of v i ≡ c
+    → (kind_by c i == 5) ≡ (is_directory c && (i.size == 0))
 kind_is_empty v i Free e = refl
 kind_is_empty v i Partial e = refl
 kind_is_empty v i Unknown e = refl
@@ -103,11 +115,18 @@ kind_is_empty v i Dir e = go (i.size == 0)
 kind_is_empty v i File e = (or_parts (type_of i.mode == 4) (type_of i.mode == 5) (file_kind v i e)).1
 
 -- kinds and marks that the volume gives say which inodes are suspect
-pub suspects_of_kinds : (v : Layout) (image : List ℕ) (kinds : List ℕ) (marked : List Bool) (x : ℕ) → number_at kinds x ≡ kind_by (class_at v image x) (inode_of v image x) → bool_at marked x ≡ marked_at v image x → suspect_at kinds marked x ≡ is_suspect (volume_of v image) x
+pub suspects_of_kinds : (v : Layout) (image : List ℕ) (kinds : List ℕ) (marked : List Bool) (x : ℕ)
+    → number_at kinds x ≡ kind_by (class_at v image x) (inode_of v image x) → bool_at marked x ≡ marked_at v image x
+    → suspect_at kinds marked x ≡ is_suspect (volume_of v image) x
 unfolding volume_of volume_with
-suspects_of_kinds v image kinds marked x h m = ap (λ b. b || (nat_le 2 x && (number_at kinds x == 5))) m ∙ (ap (λ k. marked_at v image x || (nat_le 2 x && (k == 5))) h ∙ ap (λ b. marked_at v image x || b) (go (nat_le 2 x) (nat_lt x (v.ncg * v.ipg))))
+suspects_of_kinds v image kinds marked x h m = ap (λ b. b || (nat_le 2 x
+    && (number_at kinds x == 5))) m ∙ (ap (λ k. marked_at v image x
+    || (nat_le 2 x && (k == 5))) h ∙ ap (λ b. marked_at v image x || b) (go (nat_le 2 x) (nat_lt x (v.ncg * v.ipg))))
   where
-    go : (a b : Bool) → (a && (kind_by (if a && b then class_of v (inode_of v image x) else Free) (inode_of v image x) == 5)) ≡ (((a && b) && is_directory (if a && b then class_of v (inode_of v image x) else Free)) && ((inode_of v image x).size == 0))
+    go : (a b : Bool) → (a
+        && (kind_by (if a && b then class_of v (inode_of v image x) else Free) (inode_of v image x) == 5))
+        ≡ (((a && b) && is_directory (if a && b then class_of v (inode_of v image x) else Free))
+        && ((inode_of v image x).size == 0))
     go false b = refl
     go true false = refl
     go true true = kind_is_empty v (inode_of v image x) (class_of v (inode_of v image x)) refl

@@ -26,7 +26,8 @@ held_address level blocks = get_or blocks.held level None
 
 -- each block that is held is the image's block at its address, where the image gives its bytes
 pub record BlocksHold (v : Layout) (contents : Option (List ℕ)) (blocks : Blocks) : Type 0 where
-  pub block : (level : ℕ) → level < 3 → (address : ℕ) → held_address level blocks ≡ Some address → ForContents contents (λ b. level_bytes v level blocks ≡ block_bytes v b address)
+  pub block : (level : ℕ) → level < 3 → (address : ℕ) → held_address level blocks ≡ Some address
+      → ForContents contents (λ b. level_bytes v level blocks ≡ block_bytes v b address)
 
 -- the buffer has room for a block of each level
 pub record HasRoom (v : Layout) (blocks : Blocks) : Type 0 where

@@ -47,7 +47,7 @@ unfoldable pub first_marked_at : Layout → List ℕ → ℕ → Bool
 first_marked_at v image x =
     if is_inode_number v x
     then is_unknown (class_of v (inode_of v image x))
-        || has_blame (after_owner v (claims_before v image x) (owner_of v image x))
+    || has_blame (after_owner v (claims_before v image x) (owner_of v image x))
     else false
 
 -- the claims of all inodes

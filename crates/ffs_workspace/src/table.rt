@@ -107,7 +107,8 @@ impl Table {
         requires room { vec_len self.old.window.buffer ≡ geometry.now.layout.bsize }
         requires holds { WindowHolds (I.device image.old).contents self.old.window }
         ensures links { IfOk result (λ same. ForContents (I.device image.old).contents
-            (λ bytes. same ≡ is_the_count (inode_of geometry.now.layout bytes number).nlink links)) }
+            (λ bytes. same
+            ≡ is_the_count (inode_of geometry.now.layout bytes number).nlink links)) }
         ensures room { vec_len self.new.window.buffer ≡ geometry.now.layout.bsize }
         ensures holds { WindowHolds (I.device image.new).contents self.new.window }
         ensures ok { OnOk result (I.device image.new ≡ I.device image.old) }
