@@ -153,11 +153,11 @@ pub before_skipped : (v : Layout) (contents : Option (List ℕ)) (w : Workspace)
     IsBefore v contents w (suc d) b
 before_skipped v contents w d b g h k = elim (cases_Bool (slice_index w.kinds.items d == 4)) [
   | inl e ↦ record {
-      reported_is = k.reported_is;
-      claims = k.claims;
-      survey = k.survey;
-      marks = silent_next (volume_of v b) d (marks_of w) (k.marks.calm d (eqb-true (slice_index w.queue.items d) 1 (left_out _ _ h e))) k.marks;
-    }
+    reported_is = k.reported_is;
+    claims = k.claims;
+    survey = k.survey;
+    marks = silent_next (volume_of v b) d (marks_of w) (k.marks.calm d (eqb-true (slice_index w.queue.items d) 1 (left_out _ _ h e))) k.marks;
+  }
   | inr e ↦ before_other v contents w d b g e k
 ]
 

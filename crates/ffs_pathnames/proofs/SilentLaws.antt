@@ -348,8 +348,8 @@ calm_belongs v kinds marked reached parents sound d x two sh c dir named =
     let up : number_at parents x ≡ d = (c.below x at named).1 in
     let new : c.before x ≡ false = calm_new (record { kinds = kinds; marked = marked; dir = d; above = number_at parents d }) c.before 0 x (roled_entries v d) c.entries_right at named in
     let none : x ≢ 2 = λ z.
-        let root : 2 ≡ d = sym (root_up v) ∙ (sym (sh.parent_is 2) ∙ (ap (number_at parents) (sym z) ∙ up)) in
-        both_ways (c.before x) new (ap c.before (z ∙ root) ∙ c.begins) in
+    let root : 2 ≡ d = sym (root_up v) ∙ (sym (sh.parent_is 2) ∙ (ap (number_at parents) (sym z) ∙ up)) in
+    both_ways (c.before x) new (ap c.before (z ∙ root) ∙ c.begins) in
     and_from (is_dir v x) _ dir (and_from (not (x == 2)) _ (ap not (ne_eqb x 2 none)) (value_of (parent (graph_of v) x) d two (sym (sh.parent_is x) ∙ up)))
 
 -- the entries by the chunks
