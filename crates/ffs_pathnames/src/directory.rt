@@ -10,12 +10,11 @@ ghost use Rattle.ffs_pathnames.specs.Marks as marks;
 ghost use Rattle.ffs_pathnames.specs.Reads.{start_of};
 ghost use Rattle.ffs_image.specs.Reads.{ReadAfter};
 
-use crate::gap::gap_of;
 use crate::inodes::Inodes;
 use crate::look::look_chunk;
 use ffs_image::{Image, ImageFault};
 use ffs_layout::Geometry;
-use ffs_names::Chunks;
+use ffs_names::{Chunks, gap_of};
 use ffs_volume::Inode;
 use ffs_walk::{Blocks, Window};
 

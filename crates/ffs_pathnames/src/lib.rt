@@ -16,7 +16,6 @@ pub mod clear;
 pub mod directory;
 pub mod entries;
 pub mod examine;
-pub mod gap;
 pub mod header;
 pub mod inodes;
 pub mod lines;

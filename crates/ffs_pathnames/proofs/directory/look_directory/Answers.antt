@@ -1,12 +1,11 @@
-use Rattle.std.proofs.Common.{◌≡◌, refl, sym, ap, subst, ◌∙◌, ℕ, List, ◌∷◌, Some}
+use Rattle.std.proofs.Common.{◌≡◌, ◌*◌, ◌≤◌, arith, refl, sym, ap, subst, ◌∙◌, ℕ, List, ◌∷◌, Some}
 use Rattle.std.specs.Prelude.{◌==◌, ◌||◌}
 use Rattle.std.specs.List.{flat_map, find}
 use Rattle.ffs_volume.specs.Directories.Entries.{Chunk, chunk_of}
 use Rattle.ffs_volume.specs.Directories.Roles.{roled_chunk}
 use Rattle.ffs_volume.specs.Directories.PathnameCheck.{are_sound}
 use Rattle.ffs_names.specs.Readings.{rest, gap_left}
-use Rattle.ffs_walk.specs.Windows.{WindowHolds}
-use Rattle.ffs_pathnames.specs.Windows.{CanWalk}
+use Rattle.ffs_walk.specs.Windows.{BlocksHold, HasRoom, WindowHolds}
 use Rattle.ffs_pathnames.specs.Marks.{are_quiet, after_looks}
 use Rattle.ffs_pathnames.specs.Reads.{chunks_read, start_of}
 use Rattle.ffs_pathnames.proofs.Directories.{chunk_quiet, chunk_stamps, chunk_sound, all_quiet, all_stamps, all_sound}
@@ -72,20 +71,37 @@ returns-in_err-offset-clause-ready g c =
     let read = c.in_err-offset.ensures in
     chunks_on _ _ _ _ _ _ _ inv.ready read.err.size read.size (rw inv.geometry at read.holds) read.data_size read.data_holds
 
-pub gap_of-requires : goal.gap_of-requires
-gap_of-requires g c =
+pub gap_of-requires-clause-volume : goal.gap_of-requires-clause-volume
+gap_of-requires-clause-volume g c =
     let inv = c.chunks.invariant in
     let read = c.in_ok-offset.ensures in
-    let on = chunks_on _ _ _ _ _ _ _ inv.ready (ap (λ d. d.size) read.ok) read.size (rw inv.geometry at read.holds) read.data_size read.data_holds in
-    record { ready = subst (λ q. CanWalk q.layout (g.I.Image.device c.next.new.image) c.next.new.blocks) (sym (read.geometry ∙ inv.geometry)) on.walk }
+    subst (λ q. q.layout.size * q.layout.fsize ≤ (g.I.Image.device c.next.new.image).size) (sym (read.geometry ∙ inv.geometry))
+    (subst (λ n. c.args.geometry.now.layout.size * c.args.geometry.now.layout.fsize ≤ n) (sym (ap (λ d. d.size) read.ok)) inv.ready.walk.volume)
+
+pub gap_of-requires-clause-room : goal.gap_of-requires-clause-room
+gap_of-requires-clause-room g c =
+    let inv = c.chunks.invariant in
+    let read = c.in_ok-offset.ensures in
+    subst (λ q. HasRoom q.layout c.next.new.blocks) (sym (read.geometry ∙ inv.geometry))
+    (record { blocks_fit = omega (arith, read.size, inv.ready.walk.room) })
+
+pub gap_of-requires-clause-holds : goal.gap_of-requires-clause-holds
+gap_of-requires-clause-holds g c = rw c.in_ok-offset.ensures.geometry c.in_ok-offset.ensures.holds
+
+pub returns-in_err-gap-clause-ready : goal.returns-in_err-gap-clause-ready
+returns-in_err-gap-clause-ready g c =
+    let inv = c.chunks.invariant in
+    let read = c.in_ok-offset.ensures in
+    let gap = c.in_err-gap.ensures in
+    chunks_on _ _ _ _ _ _ _ inv.ready (gap.err.size ∙ ap (λ d. d.size) read.ok) (gap.size ∙ read.size)
+    (subst (λ q. BlocksHold q.layout (g.I.Image.device c.gap_of.new.image).contents c.gap_of.new.blocks) (read.geometry ∙ inv.geometry) gap.holds)
+    read.data_size (subst (λ xs. WindowHolds xs c.next.new.data) (sym gap.err.contents) read.data_holds)
 
 pub returns-clause-ready : goal.returns-clause-ready
 returns-clause-ready g c =
     let inv = c.chunks.invariant in
     let read = c.in_ok-offset.ensures in
     let gap = c.in_ok-gap.ensures in
-    record {
-      walk = subst (λ q. CanWalk q.layout (g.I.Image.device c.gap_of.new.image) c.gap_of.new.blocks) (read.geometry ∙ inv.geometry) gap.ready;
-      room = read.data_size ∙ inv.ready.room;
-      holds = subst (λ d. WindowHolds d.contents c.next.new.data) (sym gap.read) read.data_holds;
-    }
+    chunks_on _ _ _ _ _ _ _ inv.ready (ap (λ d. d.size) (gap.ok ∙ read.ok)) (gap.size ∙ read.size)
+    (subst (λ q. BlocksHold q.layout (g.I.Image.device c.gap_of.new.image).contents c.gap_of.new.blocks) (read.geometry ∙ inv.geometry) gap.holds)
+    read.data_size (subst (λ d. WindowHolds d.contents c.next.new.data) (sym gap.ok) read.data_holds)
