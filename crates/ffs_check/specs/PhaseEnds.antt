@@ -14,7 +14,7 @@ use Rattle.ffs_pathnames.specs.GoesOn.{is_go}
 abbrev pub FaultReported : Progress → Progress → ℕ → End → Type 0
 FaultReported old new sector end =
     (Said old new (cannot_read sector ∷ []) × (end ≡ ReadFault sector))
-        ⊎ (Stopped old new (cannot_read sector ∷ []) × (end ≡ WriteFault))
+    ⊎ (Stopped old new (cannot_read sector ∷ []) × (end ≡ WriteFault))
 
 -- the end that an answer of the phases makes, where a defect was reported before or not; a read's fault is reported
 abbrev pub EndsAs : Bool → Progress → Progress → Result Root RunFault → End → Type 0

@@ -66,7 +66,7 @@ abbrev pub Ran : {I : Type 0} → (I → Device) → (List ℕ → I → Type 0)
     → ℕ → Type 0
 Ran {I} device opens refuses words out out' status =
     Answers I device opens refuses words out out' status ⊎ (IsRefused words out out' status
-        ⊎ HasNoWords out out' status)
+    ⊎ HasNoWords out out' status)
 
 -- the same over a std writer, of which only the bytes that it took can be known; a failed flush makes the status 8
 pub record RanOver {I : Type 0} (device : I

@@ -24,7 +24,7 @@ is_calm_kind kind reached =
 abbrev pub is_calm_plain : List ℕ → List Bool → (ℕ → Bool) → ℕ → ℕ → Bool
 is_calm_plain kinds marked reached x kind =
     nat_le 2 x && (nat_lt x (length kinds) && (not (bool_at marked x)
-        && ((number_at kinds x == kind) && is_calm_kind kind (reached x))))
+    && ((number_at kinds x == kind) && is_calm_kind kind (reached x))))
 
 -- an entry at an index of the directory: `.` is the first, `..` the second, and all others are empty or plain
 abbrev pub is_calm_role : Sight → (ℕ → Bool) → ℕ → Role → ℕ → ℕ → Bool
