@@ -1,4 +1,4 @@
 use Rattle.ffs_tests.proofs.claims.checked.Goals as goal
 
-pub phase1-requires-clause-windows : goal.phase1-requires-clause-windows
-phase1-requires-clause-windows g c = c.in_ok-workspace.ensures.windows _
+pub phase1-requires : goal.phase1-requires
+phase1-requires g c = record { ready = record { made = c.in_ok-workspace.ensures.made; volume = c.requires; windows = c.in_ok-workspace.ensures.windows _ } }

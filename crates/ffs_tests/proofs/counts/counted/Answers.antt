@@ -1,4 +1,5 @@
+use Rattle.std.proofs.Common.{arith, rules}
 use Rattle.ffs_tests.proofs.counts.counted.Goals as goal
 
-pub phase1-requires-clause-windows : goal.phase1-requires-clause-windows
-phase1-requires-clause-windows c = c.in_ok-workspace.ensures.windows _
+pub phase1-requires : goal.phase1-requires
+phase1-requires c = record { ready = record { made = c.in_ok-workspace.ensures.made; volume = search (rules, arith); windows = c.in_ok-workspace.ensures.windows _ } }
