@@ -1,7 +1,5 @@
 -- How a report continues. (For the layers above.)
-use Rattle.std.proofs.Common.{◌≡◌, inl, inr, refl, ◌∙◌, ◌+◌, ◌<◌, ℕ, suc, sym, ap, subst, List, [], ◌∷◌, ◌++◌, length, take, drop, get_or, map, append_assoc, Bool, true, false, ◌||◌, Result, Ok, Err}
-use Rattle.std.proofs.Math.Seq.{drop-cons}
-use Rattle.std.proofs.lemmas.List.{take-append-drop, map-append, map_more}
+use Rattle.std.proofs.Common.{◌≡◌, inl, inr, refl, ◌∙◌, sym, ap, List, [], ◌∷◌, ◌++◌, append_assoc, Bool, true, false, ◌||◌, Result, Ok, Err}
 use Rattle.std.proofs.lemmas.List.Concat.{flat_map-append}
 use Rattle.std.proofs.Math.Bool.{or_assoc}
 use Rattle.ffs_volume.specs.Messages.Kinds.{Message, is_defect, has_defect}

@@ -1,5 +1,7 @@
 -- How bytes are shown run by run: `from` is where the run begins that has not gone out yet.
-use Rattle.std.proofs.Common.{◌≡◌, ◌∙◌, ◌+◌, ◌-◌, ◌<◌, ℕ, List, [], ◌∷◌, ◌++◌, length, take, drop, get_or, map, refl, sym, ap, subst, arith, append_assoc, true, Result}
+use Rattle.std.proofs.Common.{◌≡◌, ◌∙◌, ◌+◌, ◌-◌, ◌<◌, ℕ, List, [], ◌∷◌, ◌++◌, length, take, drop, get_or, map, refl, sym, ap, subst, arith, append_assoc, true, false, Bool, if◌then◌else◌, Result}
+use Rattle.std.specs.List.{list_any}
+use Rattle.std.proofs.lemmas.Bool.{or_parts}
 use Rattle.std.proofs.lemmas.List.{take-append-drop, take_all, map-append, map_more}
 use Rattle.ffs_volume.specs.Messages.Shown.{is_control, shown}
 use Rattle.ffs_report.specs.Sink.{Sink, Took, BrokeOff, Prints}
@@ -15,6 +17,14 @@ IsRun bytes from at = map shown (take at bytes) ≡ map shown (take from bytes) 
 
 control_byte : (byte : ℕ) → is_control byte ≡ true → shown byte ≡ 63
 control_byte byte e = rw e refl
+
+-- bytes without a control byte show as they are
+pub shown_plain : (bytes : List ℕ) → list_any is_control bytes ≡ false → map shown bytes ≡ bytes
+shown_plain [] e = refl
+shown_plain (b ∷ bytes) e =
+    let p = or_parts (is_control b) (list_any is_control bytes) e in
+    ap (λ (control : Bool). (if control then 63 else b) ∷ map shown bytes) p.0
+    ∙ ap (λ (xs : List ℕ). b ∷ xs) (shown_plain bytes p.1)
 
 -- a run and the question mark after it
 whole_run : (bytes : List ℕ) (from at : ℕ) → at < length bytes → is_control (get_or bytes at 0) ≡ true → IsRun bytes from at →
