@@ -134,6 +134,7 @@ fn is_known_type(kind: u16) -> bool
 }
 
 /// The class of an inode, by its mode, its size and its addresses (fs(5)).
+#[inline(always)]
 #[tactic(auto, unfolding(ffs_volume::specs::Blocks::Inodes::class_of))]
 pub fn class_of(geometry: &Geometry, inode: &Inode) -> Class
     ensures { result ≡ inodes.class_of geometry.now.layout inode.now }

@@ -14,6 +14,7 @@ use ffs_volume::Inode;
 use ffs_walk::Window;
 
 /// Where the block of the inode table is that has an inode, in bytes.
+#[inline(always)]
 #[tactic(auto, using(crate::proofs::Places::block_inside, crate::proofs::Places::block_of, ffs_volume::proofs::AreaLaws::inode_group))]
 fn block_place(geometry: &Geometry, number: u32) -> u64
     requires { number < geometry.now.layout.ncg * geometry.now.layout.ipg }
@@ -37,7 +38,7 @@ pub struct Table {
 impl Table {
     // Reads the block of the table that has an inode, unless it is the one that was read last. Its answer is where the inode's
     // bytes are in the window.
-    #[inline]
+    #[inline(always)]
     fn load<I: Image>(
         &mut self,
         geometry: &Geometry,
@@ -67,6 +68,7 @@ impl Table {
     }
 
     /// The inode of a number (fs(5)). Its block of the table is read, unless it is the one that was read last.
+    #[inline(always)]
     #[tactic(auto, unfolding(ffs_volume::specs::Blocks::Inodes::inode_of))]
     pub fn inode<I: Image>(
         &mut self,
