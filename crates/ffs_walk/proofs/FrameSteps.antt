@@ -10,7 +10,7 @@ use Rattle.ffs_volume.specs.Blocks.Steps.{tail_of, any_word_from, steps_under, w
 use Rattle.ffs_walk.specs.declared.frame.Item.{Item}
 use Rattle.ffs_walk.specs.declared.frame.Item.TheVariants.{Missing, Word}
 use Rattle.ffs_walk.specs.Fits.{FrameFits, IsBelow, IsSpent}
-use Rattle.ffs_walk.specs.Frames.{IsFrom}
+use Rattle.ffs_walk.specs.Frames.{IsFrom, IsSameBlock}
 use Rattle.ffs_volume.specs.Blocks.Steps.{used_words}
 use Rattle.std.specs.Int.{div_ceil}
 use Rattle.std.proofs.lemmas.Grind.{div_ceil_times}
@@ -87,12 +87,12 @@ pub falls_by : (i s' s r : ℕ) → i + s' ≤ s → i ≡ 1 → s' + r < s + r
 falls_by i s' s r h e = omega arith
 
 -- a frame that takes an item still fits
-pub kept_fits : (g : Layout) (blocks span : ℕ) (f f' : Frame) → f.next < f.used → (f'.address ≡ f.address) × (f'.first ≡ f.first) × (f'.used ≡ f.used)
+pub kept_fits : (g : Layout) (blocks span : ℕ) (f f' : Frame) → f.next < f.used → IsSameBlock f f'
     → FrameFits g blocks span f → FrameFits g blocks span f'
 kept_fits g blocks span f f' some same fits = record {
-  words = rw (same.2, same.1) fits.words;
-  in_range_there = λ _. rw same.0 (fits.in_range_there some);
-  indirect = λ _. rw same.1 (fits.indirect some);
+  words = rw (same.used, same.first) fits.words;
+  in_range_there = λ _. rw same.address (fits.in_range_there some);
+  indirect = λ _. rw same.first (fits.indirect some);
 }
 
 -- a walk falls where its double or triple frame takes an item, and what the item means goes below

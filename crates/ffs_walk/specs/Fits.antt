@@ -17,7 +17,11 @@ pub record FrameFits (g : Layout) (blocks span : ℕ) (f : Frame) : Type 0 where
 abbrev pub IsSpent : Frame → Type 0
 IsSpent f = (f.next ≡ f.used) × (f.fresh ≡ false)
 
+-- a logical block of an inode with so many, which isn't direct
+abbrev pub IsIndirect : ℕ → ℕ → Type 0
+IsIndirect blocks block = (12 ≤ block) × (block < blocks)
+
 -- the item's logical block is one of the inode, and isn't direct
 abbrev pub IsBelow : ℕ → Item → Type 0
 IsBelow blocks Missing = Unit {0}
-IsBelow blocks (Word address block) = (12 ≤ block) × (block < blocks)
+IsBelow blocks (Word address block) = IsIndirect blocks block

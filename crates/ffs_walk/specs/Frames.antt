@@ -32,3 +32,9 @@ item_left most (Word address block) = most
 abbrev pub IsFrom : Frame → ℕ → Item → Type 0
 IsFrom f span Missing = f.fresh ≡ true
 IsFrom f span (Word address block) = (f.next < f.used) × (block ≡ f.first + f.next * span)
+
+-- the frames are in the same block, with as many used words
+pub record IsSameBlock (old new : Frame) : Type 0 where
+  pub address : new.address ≡ old.address
+  pub first : new.first ≡ old.first
+  pub used : new.used ≡ old.used

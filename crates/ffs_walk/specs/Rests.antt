@@ -45,3 +45,14 @@ pub record IsOver (w : Walk) : Type 0 where
   pub double : IsSpent w.double
   pub triple : IsSpent w.triple
   pub top : w.next ≡ w.used
+
+-- none of its indirect blocks has an item left: the next step is at one of the inode's own addresses
+pub record IsAtTop (w : Walk) : Type 0 where
+  pub single : IsSpent w.single
+  pub double : IsSpent w.double
+  pub triple : IsSpent w.triple
+
+-- the walks are over as many logical blocks of the same volume
+pub record SameExtent (old new : Walk) : Type 0 where
+  pub geometry : new.geometry ≡ old.geometry
+  pub blocks : new.blocks ≡ old.blocks

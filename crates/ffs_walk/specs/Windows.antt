@@ -1,6 +1,6 @@
 -- What is kept of an image between reads.
 use Rattle.std.specs.Prelude.{◌≡◌, ◌*◌, ◌<◌, ◌≤◌, ℕ, List, take, Option, Some, None, vec_len, get_or}
-use Rattle.ffs_image.specs.Device.{ForContents}
+use Rattle.ffs_image.specs.Device.{Device, ForContents}
 use Rattle.ffs_volume.specs.declared.Layout.{Layout}
 use Rattle.ffs_volume.specs.Disk.Numbers.{piece}
 use Rattle.ffs_volume.specs.Blocks.Steps.{block_bytes}
@@ -32,3 +32,14 @@ pub record BlocksHold (v : Layout) (contents : Option (List ℕ)) (blocks : Bloc
 -- the buffer has room for a block of each level
 pub record HasRoom (v : Layout) (blocks : Blocks) : Type 0 where
   pub blocks_fit : 3 * v.bsize ≤ vec_len blocks.buffer
+
+-- the image has all of the volume, and the buffer has room for indirect blocks and holds what the image gives
+pub record CanWalk (v : Layout) (d : Device) (blocks : Blocks) : Type 0 where
+  pub volume : v.size * v.fsize ≤ d.size
+  pub room : HasRoom v blocks
+  pub holds : BlocksHold v d.contents blocks
+
+-- the buffer has the size that it had, and holds what the image gives
+pub record KeepsBlocks (v : Layout) (contents : Option (List ℕ)) (before after : Blocks) : Type 0 where
+  pub size : vec_len after.buffer ≡ vec_len before.buffer
+  pub holds : BlocksHold v contents after

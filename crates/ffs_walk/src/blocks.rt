@@ -1,7 +1,8 @@
 //! The indirect blocks that a walk is in.
 
 ghost use Rattle.std.specs.Prelude.{◌≡◌, ◌-◌, ◌*◌, ◌+◌, ◌<◌, ◌≤◌, ℕ, List, Option, length, vec_len, OnOk, IfErr, IsTrue};
-ghost use Rattle.ffs_image.specs.Device.{Faulted, ForContents};
+ghost use Rattle.ffs_image.specs.Device.{ForContents};
+ghost use Rattle.ffs_image.specs.Reads.{ReadAfter};
 ghost use Rattle.ffs_volume.specs.Disk.Areas.{is_in_range};
 ghost use Rattle.ffs_volume.specs.Blocks.Steps.{block_bytes};
 ghost use Rattle.ffs_volume.specs.declared.Layout.{Layout};
@@ -19,7 +20,7 @@ pub struct Blocks {
 }
 
 impl Blocks {
-    ghost use Rattle.ffs_walk.specs.Windows.{BlocksHold, HasRoom, level_bytes};
+    ghost use Rattle.ffs_walk.specs.Windows.{BlocksHold, CanWalk, HasRoom, KeepsBlocks, level_bytes};
 
     /// Blocks that hold nothing, over a buffer of at least three blocks' bytes. It takes no memory.
     pub fn over(buffer: FixedList<u8>) -> Blocks
@@ -47,18 +48,12 @@ impl Blocks {
         requires level { level < 3 }
         requires in_range { IsTrue (is_in_range geometry.now.layout address
             geometry.now.layout.frag) }
-        requires volume { geometry.now.layout.size * geometry.now.layout.fsize
-            ≤ (I.device image.old).size }
-        requires room { HasRoom geometry.now.layout self.old }
-        requires holds { BlocksHold geometry.now.layout (I.device image.old).contents self.old }
-        ensures size { vec_len self.new.buffer ≡ vec_len self.old.buffer }
-        ensures holds { BlocksHold geometry.now.layout (I.device image.new).contents self.new }
+        requires ready { CanWalk geometry.now.layout (I.device image.old) self.old }
         ensures bytes { OnOk result (ForContents (I.device image.old).contents
             (λ b. level_bytes geometry.now.layout level self.new
             ≡ block_bytes geometry.now.layout b address)) }
-        ensures ok { OnOk result (I.device image.new ≡ I.device image.old) }
-        ensures err { IfErr result (λ fault. Faulted (I.device image.old) (I.device image.new)
-            fault.sector) }
+        ensures kept { KeepsBlocks geometry.now.layout (I.device image.new).contents self.old self.new }
+        ensures read { ReadAfter (I.device image.old) (I.device image.new) result }
     {
         if self.held[level] == Some(address) {
             return Ok(());

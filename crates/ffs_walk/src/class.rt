@@ -29,8 +29,7 @@ pub fn addresses_for(words: u64, blocks: u64) -> u32
 /// How many fragments the last logical block has, where it is direct.
 pub fn last_length(geometry: &Geometry, inode: &Inode) -> u32
     ensures value { result ≡ steps.last_of geometry.now.layout inode.now }
-    ensures some { 0 < result }
-    ensures small { result ≤ geometry.now.layout.frag }
+    ensures within { (0 < result) × (result ≤ geometry.now.layout.frag) }
 {
     let over = inode.size % u64::from(geometry.layout.bsize);
     if over == 0 {
@@ -47,6 +46,7 @@ fn is_short_symlink(geometry: &Geometry, inode: &Inode) -> bool
 }
 
 // Whether an address from an index on isn't zero. All fifteen are looked at, with no test of each that ends the loop: it is fast.
+#[inline(always)]
 fn is_any_set(addresses: &[u32; 15], from: usize) -> bool
     ensures { result ≡ inodes.is_any_set (drop from addresses.now) }
 {

@@ -35,19 +35,19 @@ pub enum Item {
 impl Frame {
     ghost use Rattle.std.specs.Prelude.{MatchResult, Option, replicate};
     ghost use Rattle.ffs_volume.specs.declared.Step.TheVariants.{Gap};
-    ghost use Rattle.ffs_image.specs.Device.{Faulted, ForContents};
+    ghost use Rattle.ffs_image.specs.Device.{ForContents};
+    ghost use Rattle.ffs_image.specs.Reads.{ReadAfter};
     ghost use Rattle.ffs_volume.specs.Disk.Areas.{is_in_range};
     ghost use Rattle.ffs_volume.specs.declared.Step.{Step};
     ghost use Rattle.ffs_walk.specs.Fits.{IsSpent};
-    ghost use Rattle.ffs_walk.specs.Windows.{BlocksHold, HasRoom};
+    ghost use Rattle.ffs_walk.specs.Windows.{BlocksHold, CanWalk, HasRoom, KeepsBlocks};
     ghost use Rattle.ffs_walk.specs.declared.frame.Item.TheVariants.{Missing, Word};
-    ghost use Rattle.ffs_walk.specs.Frames.{frame_rest, frame_left, item_steps, item_left, IsFrom};
+    ghost use Rattle.ffs_walk.specs.Frames.{frame_rest, frame_left, item_steps, item_left, IsFrom, IsSameBlock};
 
     /// A frame of no words.
     pub fn spent() -> Frame
-        ensures next { result.next ≡ 0 }
         ensures used { result.used ≡ 0 }
-        ensures fresh { result.fresh ≡ false }
+        ensures spent { IsSpent result }
     {
         Frame {
             address: 0,
@@ -82,12 +82,7 @@ impl Frame {
         requires words { self.old.used ≤ geometry.now.layout.nindir }
         requires fits { self.old.first + self.old.next * span < 2 ^ 64 }
         requires level { level < 3 }
-        requires volume { geometry.now.layout.size * geometry.now.layout.fsize
-            ≤ (I.device image.old).size }
-        requires room { HasRoom geometry.now.layout blocks.old }
-        requires holds { BlocksHold geometry.now.layout (I.device image.old).contents blocks.old }
-        ensures size { vec_len blocks.new.buffer ≡ vec_len blocks.old.buffer }
-        ensures holds { BlocksHold geometry.now.layout (I.device image.new).contents blocks.new }
+        requires ready { CanWalk geometry.now.layout (I.device image.old) blocks.old }
         ensures item { IfOk result (λ item. IsFrom self.old span item) }
         ensures steps { IfOk result (λ item. ForContents (I.device image.old).contents
             (λ bytes. (child : ℕ → ℕ → List Step) →
@@ -95,11 +90,9 @@ impl Frame {
             ++ frame_rest geometry.now.layout bytes child span self.new)) }
         ensures falls { IfOk result (λ item. (most : ℕ)
             → item_left most item + frame_left most self.new ≤ frame_left most self.old) }
-        ensures place { (self.new.address ≡ self.old.address) × (self.new.first ≡ self.old.first)
-            × (self.new.used ≡ self.old.used) }
-        ensures ok { OnOk result (I.device image.new ≡ I.device image.old) }
-        ensures err { IfErr result (λ fault. Faulted (I.device image.old) (I.device image.new)
-            fault.sector) }
+        ensures same { IsSameBlock self.old self.new }
+        ensures kept { KeepsBlocks geometry.now.layout (I.device image.new).contents blocks.old blocks.new }
+        ensures read { ReadAfter (I.device image.old) (I.device image.new) result }
     {
         blocks.fill(geometry, level, self.address, image)?;
         let block = blocks.bytes(geometry, level);
@@ -128,9 +121,7 @@ impl Frame {
             ++ frame_rest geometry.now.layout bytes child span self.new) }
         ensures falls { (most : ℕ) → frame_left most self.new ≤ frame_left most self.old }
         ensures next { self.new.next ≡ self.old.next + result }
-        ensures place { (self.new.address ≡ self.old.address) × (self.new.first ≡ self.old.first)
-            × (self.new.used ≡ self.old.used) }
-        ensures fresh { self.new.fresh ≡ self.old.fresh }
+        ensures same { IsSameBlock self.old self.new × (self.new.fresh ≡ self.old.fresh) }
     {
         if self.fresh || blocks.held[level] != Some(self.address) {
             return 0;

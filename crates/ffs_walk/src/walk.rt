@@ -40,26 +40,25 @@ pub struct Walk {
 }
 
 impl Walk {
-    ghost use Rattle.ffs_image.specs.Device.{Faulted, ForContents};
+    ghost use Rattle.ffs_image.specs.Device.{ForContents};
+    ghost use Rattle.ffs_image.specs.Reads.{ReadAfter};
     ghost use Rattle.ffs_volume.specs.Blocks.Steps.{data_step, indirect_steps, steps_at, steps_of, walks};
     ghost use Rattle.ffs_volume.specs.Blocks.Inodes as inodes;
     ghost use Rattle.ffs_volume.specs.Blocks.Inodes.{logical_blocks_of};
     ghost use Rattle.ffs_volume.specs.declared.Step.{Step};
     ghost use Rattle.std.specs.Prelude.{Option, replicate};
     ghost use Rattle.ffs_volume.specs.declared.Step.TheVariants.{Gap};
-    ghost use Rattle.ffs_volume.specs.Blocks.Lengths.{HasLength};
-    ghost use Rattle.ffs_walk.specs.Fits.{IsSpent, IsBelow};
-    ghost use Rattle.ffs_walk.specs.Lengths.{IsWithin};
+    ghost use Rattle.ffs_walk.specs.Fits.{IsSpent, IsBelow, IsIndirect};
+    ghost use Rattle.ffs_walk.specs.Lengths.{IsStepOf};
     ghost use Rattle.ffs_walk.specs.Frames.{frame_rest, frame_left, item_steps, item_left};
-    ghost use Rattle.ffs_walk.specs.Rests.{rest, left, most_at, extent_of, IsOver};
-    ghost use Rattle.ffs_walk.specs.Windows.{BlocksHold, HasRoom};
+    ghost use Rattle.ffs_walk.specs.Rests.{rest, left, most_at, extent_of, IsAtTop, IsOver, SameExtent};
+    ghost use Rattle.ffs_walk.specs.Windows.{BlocksHold, CanWalk, HasRoom, KeepsBlocks};
 
     /// The step at the address of a data block.
     fn data(&self, address: u32, block: u64) -> Step
         requires { block < self.now.blocks }
         ensures step { result ≡ data_step (extent_of self.now) address block }
-        ensures length { HasLength self.now.geometry.layout.frag result }
-        ensures within { IsWithin self.now.blocks result }
+        ensures fits { IsStepOf self.now.geometry.layout.frag self.now.blocks result }
     {
         if address == 0 {
             return Step::Gap;
@@ -78,11 +77,9 @@ impl Walk {
 
     /// The step at the address of a data block that isn't direct.
     fn indirect_data(&self, address: u32, block: u64) -> Step
-        requires indirect { 12 ≤ block }
-        requires below { block < self.now.blocks }
+        requires { IsIndirect self.now.blocks block }
         ensures step { result ≡ data_step (extent_of self.now) address block }
-        ensures length { HasLength self.now.geometry.layout.frag result }
-        ensures within { IsWithin self.now.blocks result }
+        ensures fits { IsStepOf self.now.geometry.layout.frag self.now.blocks result }
     {
         if address == 0 {
             return Step::Gap;
@@ -97,13 +94,11 @@ impl Walk {
     /// The first step at the address of an indirect block, and the frame for the others.
     fn enter(&self, span: u64, address: u32, first: u64) -> (Step, Frame)
         requires span { 0 < span }
-        requires indirect { 12 ≤ first }
-        requires first { first < self.now.blocks }
+        requires first { IsIndirect self.now.blocks first }
         ensures steps { (bytes : List ℕ) (child : ℕ → ℕ → List Step) →
             indirect_steps (extent_of self.now) bytes child span address first
             ≡ result.0 ∷ frame_rest self.now.geometry.layout bytes child span result.1 }
-        ensures length { HasLength self.now.geometry.layout.frag result.0 }
-        ensures within { IsWithin self.now.blocks result.0 }
+        ensures step { IsStepOf self.now.geometry.layout.frag self.now.blocks result.0 }
         ensures left { (most : ℕ) → frame_left most result.1
             ≤ 1 + self.now.geometry.layout.nindir * most }
         ensures fits { FrameFits self.now.geometry.layout self.now.blocks span result.1 }
@@ -138,8 +133,7 @@ impl Walk {
         requires { IsBelow self.now.blocks item }
         ensures steps { (bytes : List ℕ) → item_steps (steps_at (extent_of self.now) bytes 0) item
             ≡ result ∷ [] }
-        ensures length { HasLength self.now.geometry.layout.frag result }
-        ensures within { IsWithin self.now.blocks result }
+        ensures fits { IsStepOf self.now.geometry.layout.frag self.now.blocks result }
     {
         match item {
             Item::Missing => Step::Tail,
@@ -153,12 +147,10 @@ impl Walk {
         requires below { IsBelow self.old.blocks item }
         ensures steps { (bytes : List ℕ) → item_steps (steps_at (extent_of self.old) bytes 1) item
             ++ rest bytes self.old ≡ result ∷ rest bytes self.new }
-        ensures length { HasLength self.old.geometry.layout.frag result }
-        ensures within { IsWithin self.old.blocks result }
+        ensures fits { IsStepOf self.old.geometry.layout.frag self.old.blocks result }
         ensures left { 1 + left self.new
             ≤ item_left (most_at self.old.geometry.layout.nindir 1) item + left self.old }
-        ensures geometry { self.new.geometry ≡ self.old.geometry }
-        ensures blocks { self.new.blocks ≡ self.old.blocks }
+        ensures same { SameExtent self.old self.new }
     {
         match item {
             Item::Missing => Step::Tail,
@@ -172,17 +164,14 @@ impl Walk {
 
     /// The first step that an item of the triple frame means; the others go into the double frame.
     fn step_in_triple(&mut self, item: Item) -> Step
-        requires single_spent { IsSpent self.old.single }
-        requires double_spent { IsSpent self.old.double }
+        requires spent { (IsSpent self.old.single) × (IsSpent self.old.double) }
         requires below { IsBelow self.old.blocks item }
         ensures steps { (bytes : List ℕ) → item_steps (steps_at (extent_of self.old) bytes 2) item
             ++ rest bytes self.old ≡ result ∷ rest bytes self.new }
-        ensures length { HasLength self.old.geometry.layout.frag result }
-        ensures within { IsWithin self.old.blocks result }
+        ensures fits { IsStepOf self.old.geometry.layout.frag self.old.blocks result }
         ensures left { 1 + left self.new
             ≤ item_left (most_at self.old.geometry.layout.nindir 2) item + left self.old }
-        ensures geometry { self.new.geometry ≡ self.old.geometry }
-        ensures blocks { self.new.blocks ≡ self.old.blocks }
+        ensures same { SameExtent self.old self.new }
     {
         match item {
             Item::Missing => Step::Tail,
@@ -198,19 +187,15 @@ impl Walk {
     /// The first step at the next of the inode's own addresses; the others go into a frame.
     #[inline(always)]
     fn step_at_top(&mut self) -> Option<Step>
-        requires single_spent { IsSpent self.old.single }
-        requires double_spent { IsSpent self.old.double }
-        requires triple_spent { IsSpent self.old.triple }
+        requires { IsAtTop self.old }
         ensures steps { (bytes : List ℕ)
             → MatchOption result (rest bytes self.old ≡ [])
             (λ step. rest bytes self.old ≡ step ∷ rest bytes self.new) }
-        ensures length { IfSome result (λ step. HasLength self.old.geometry.layout.frag step) }
-        ensures within { IfSome result (λ step. IsWithin self.old.blocks step) }
+        ensures fits { IfSome result (IsStepOf self.old.geometry.layout.frag self.old.blocks) }
         ensures left { MatchOption result (left self.old ≡ 0) (λ _. left self.new < left self.old) }
         ensures none { result ≡ None → self.new ≡ self.old }
         ensures over { (self.old.next ≡ self.old.used) ↔ (result ≡ None) }
-        ensures geometry { self.new.geometry ≡ self.old.geometry }
-        ensures blocks { self.new.blocks ≡ self.old.blocks }
+        ensures same { SameExtent self.old self.new }
     {
         if self.next >= self.used {
             return None;
@@ -248,28 +233,19 @@ impl Walk {
         image: &mut I,
         blocks: &mut Blocks,
     ) -> Result<Option<Step>, ImageFault>
-        requires volume { self.old.geometry.layout.size * self.old.geometry.layout.fsize
-            ≤ (I.device image.old).size }
-        requires room { HasRoom self.old.geometry.layout blocks.old }
-        requires holds { BlocksHold self.old.geometry.layout (I.device image.old).contents
-            blocks.old }
+        requires { CanWalk self.old.geometry.layout (I.device image.old) blocks.old }
         ensures steps { IfOk result (λ o. ForContents (I.device image.old).contents (λ bytes.
             MatchOption o (rest bytes self.old ≡ [])
             (λ step. rest bytes self.old ≡ step ∷ rest bytes self.new))) }
-        ensures length { IfOk result (λ o. IfSome o
-            (λ step. HasLength self.old.geometry.layout.frag step)) }
-        ensures within { IfOk result (λ o. IfSome o (λ step. IsWithin self.old.blocks step)) }
+        ensures fits { IfOk result (λ o. IfSome o
+            (IsStepOf self.old.geometry.layout.frag self.old.blocks)) }
         ensures left { IfOk result (λ o. IfSome o (λ _. left self.new < left self.old)) }
         ensures none { result ≡ Ok None → IsOver self.new }
         ensures over { IsOver self.old → (result ≡ Ok None) × (self.new ≡ self.old) }
-        ensures geometry { self.new.geometry ≡ self.old.geometry }
-        ensures blocks { self.new.blocks ≡ self.old.blocks }
-        ensures size { vec_len blocks.new.buffer ≡ vec_len blocks.old.buffer }
-        ensures holds { BlocksHold self.old.geometry.layout (I.device image.new).contents
+        ensures same { SameExtent self.old self.new }
+        ensures kept { KeepsBlocks self.old.geometry.layout (I.device image.new).contents blocks.old
             blocks.new }
-        ensures ok { OnOk result (I.device image.new ≡ I.device image.old) }
-        ensures err { IfErr result (λ fault. Faulted (I.device image.old) (I.device image.new)
-            fault.sector) }
+        ensures read { ReadAfter (I.device image.old) (I.device image.new) result }
     {
         let words = u64::from(self.geometry.layout.nindir);
         if self.single.is_left() {
@@ -292,8 +268,7 @@ impl Walk {
     /// Ends the walk.
     fn stop(&mut self)
         ensures over { IsOver self.new }
-        ensures geometry { self.new.geometry ≡ self.old.geometry }
-        ensures blocks { self.new.blocks ≡ self.old.blocks }
+        ensures same { SameExtent self.old self.new }
     {
         self.single = Frame::spent();
         self.double = Frame::spent();
@@ -310,29 +285,20 @@ impl Walk {
         image: &mut I,
         blocks: &mut Blocks,
     ) -> Result<Option<Step>, ImageFault>
-        requires volume { self.old.geometry.layout.size * self.old.geometry.layout.fsize
-            ≤ (I.device image.old).size }
-        requires room { HasRoom self.old.geometry.layout blocks.old }
-        requires holds { BlocksHold self.old.geometry.layout (I.device image.old).contents
-            blocks.old }
+        requires { CanWalk self.old.geometry.layout (I.device image.old) blocks.old }
         ensures steps { IfOk result (λ o. ForContents (I.device image.old).contents (λ bytes.
             MatchOption o (rest bytes self.old ≡ [])
             (λ step. rest bytes self.old ≡ step ∷ rest bytes self.new))) }
-        ensures length { IfOk result (λ o. IfSome o
-            (λ step. HasLength self.old.geometry.layout.frag step)) }
-        ensures within { IfOk result (λ o. IfSome o (λ step. IsWithin self.old.blocks step)) }
+        ensures fits { IfOk result (λ o. IfSome o
+            (IsStepOf self.old.geometry.layout.frag self.old.blocks)) }
         ensures falls { IfOk result (λ o. IfSome o (λ _. left self.new < left self.old)) }
         ensures none { result ≡ Ok None → IsOver self.new }
         ensures over { IsOver self.old → result ≡ Ok None }
         ensures fault { OnErr result (IsOver self.new) }
-        ensures geometry { self.new.geometry ≡ self.old.geometry }
-        ensures blocks { self.new.blocks ≡ self.old.blocks }
-        ensures size { vec_len blocks.new.buffer ≡ vec_len blocks.old.buffer }
-        ensures holds { BlocksHold self.old.geometry.layout (I.device image.new).contents
+        ensures same { SameExtent self.old self.new }
+        ensures kept { KeepsBlocks self.old.geometry.layout (I.device image.new).contents blocks.old
             blocks.new }
-        ensures ok { OnOk result (I.device image.new ≡ I.device image.old) }
-        ensures err { IfErr result (λ fault. Faulted (I.device image.old) (I.device image.new)
-            fault.sector) }
+        ensures read { ReadAfter (I.device image.old) (I.device image.new) result }
     {
         match self.advance(image, blocks) {
             Ok(step) => Ok(step),
@@ -352,8 +318,7 @@ impl Walk {
             → ForContents contents (λ bytes.
             rest bytes self.old ≡ replicate result Gap ++ rest bytes self.new) }
         ensures falls { left self.new ≤ left self.old }
-        ensures geometry { self.new.geometry ≡ self.old.geometry }
-        ensures blocks { self.new.blocks ≡ self.old.blocks }
+        ensures same { SameExtent self.old self.new }
     {
         if self.single.is_left() {
             return self.single.skip_gaps(&self.geometry, 0, blocks);
@@ -365,6 +330,7 @@ impl Walk {
     }
 
     /// A walk over the blocks of an inode. Only a file or a directory has steps, and no device or short symlink.
+    #[inline(always)]
     pub fn start(geometry: &Geometry, inode: &Inode) -> Walk
         ensures steps { (bytes : List ℕ) → rest bytes result
             ≡ steps_of geometry.now.layout inode.now bytes }

@@ -1,7 +1,8 @@
 //! A window on an image.
 
 ghost use Rattle.std.specs.Prelude.{◌≡◌, ◌+◌, ◌≤◌, ℕ, true, List, Option, length, vec_len, OnOk, OnErr, IfErr};
-ghost use Rattle.ffs_image.specs.Device.{Faulted, ForContents};
+ghost use Rattle.ffs_image.specs.Device.{ForContents};
+ghost use Rattle.ffs_image.specs.Reads.{ReadAfter};
 ghost use Rattle.ffs_volume.specs.Disk.Numbers.{piece};
 
 use ffs_image::{Image, ImageFault};
@@ -35,8 +36,7 @@ impl Window {
 
     // Whether it holds just these bytes.
     fn is_at(&self, place: u64, length: usize) -> bool
-        ensures place { result ≡ true → self.now.place ≡ place }
-        ensures length { result ≡ true → self.now.length ≡ length }
+        ensures { result ≡ true → (self.now.place ≡ place) × (self.now.length ≡ length) }
     {
         self.place == place && self.length == length
     }
@@ -55,14 +55,11 @@ impl Window {
         requires holds { WindowHolds (I.device image.old).contents self.old }
         ensures bytes { OnOk result (ForContents (I.device image.old).contents
             (λ b. held_bytes self.new ≡ piece place length b)) }
-        ensures length { OnOk result (self.new.length ≡ length) }
-        ensures place { OnOk result (self.new.place ≡ place) }
+        ensures place { OnOk result ((self.new.place ≡ place) × (self.new.length ≡ length)) }
         ensures empty { OnErr result (self.new.length ≡ 0) }
         ensures room { vec_len self.new.buffer ≡ vec_len self.old.buffer }
         ensures holds { WindowHolds (I.device image.new).contents self.new }
-        ensures ok { OnOk result (I.device image.new ≡ I.device image.old) }
-        ensures err { IfErr result (λ fault. Faulted (I.device image.old) (I.device image.new)
-            fault.sector) }
+        ensures read { ReadAfter (I.device image.old) (I.device image.new) result }
     {
         if self.is_at(place, length) {
             return Ok(());

@@ -38,10 +38,8 @@ pub fn any_from(geometry: &Geometry, block: &[u8], used: u32) -> bool
 /// The first index from `next` on whose word isn't zero, and `used` where there is none below it.
 pub fn zeros_end(geometry: &Geometry, block: &[u8], next: u32, used: u32) -> u32
     requires block { length block.now ≡ geometry.now.layout.bsize }
-    requires order { next ≤ used }
-    requires used { used ≤ geometry.now.layout.nindir }
-    ensures from_next { next ≤ result }
-    ensures within { result ≤ used }
+    requires words { (next ≤ used) × (used ≤ geometry.now.layout.nindir) }
+    ensures within { (next ≤ result) × (result ≤ used) }
     ensures zeros { (k : ℕ) → next ≤ k → k < result → word_of geometry.now.layout block.now k ≡ 0 }
 {
     for j in next..used {

@@ -71,7 +71,7 @@ invariant_of-self g c =
       last_some = w.last_some;
       last_small = w.last_small;
       blocks_small = w.blocks_small;
-      single_fits = kept_fits w.geometry.layout w.blocks 1 w.single c.take.new.self (c.if-is_left.ensures.left.0 refl) c.take.ensures.place w.single_fits;
+      single_fits = kept_fits w.geometry.layout w.blocks 1 w.single c.take.new.self (c.if-is_left.ensures.left.0 refl) c.take.ensures.same w.single_fits;
       double_fits = w.double_fits;
       triple_fits = w.triple_fits;
     }
@@ -93,7 +93,7 @@ invariant_of-self-then-is_left-2 g c =
       last_small = w.last_small;
       blocks_small = w.blocks_small;
       single_fits = w.single_fits;
-      double_fits = kept_fits w.geometry.layout w.blocks w.geometry.layout.nindir w.double c.take-then-is_left-2.new.self (c.if-is_left-2.ensures.left.0 refl) c.take-then-is_left-2.ensures.place w.double_fits;
+      double_fits = kept_fits w.geometry.layout w.blocks w.geometry.layout.nindir w.double c.take-then-is_left-2.new.self (c.if-is_left-2.ensures.left.0 refl) c.take-then-is_left-2.ensures.same w.double_fits;
       triple_fits = w.triple_fits;
     }
 
@@ -115,7 +115,7 @@ invariant_of-self-then-is_left-3 g c =
       blocks_small = w.blocks_small;
       single_fits = w.single_fits;
       double_fits = w.double_fits;
-      triple_fits = kept_fits w.geometry.layout w.blocks (w.geometry.layout.nindir * w.geometry.layout.nindir) w.triple c.take-then-is_left-3.new.self (c.if-is_left-3.ensures.left.0 refl) c.take-then-is_left-3.ensures.place w.triple_fits;
+      triple_fits = kept_fits w.geometry.layout w.blocks (w.geometry.layout.nindir * w.geometry.layout.nindir) w.triple c.take-then-is_left-3.new.self (c.if-is_left-3.ensures.left.0 refl) c.take-then-is_left-3.ensures.same w.triple_fits;
     }
 
 pub returns-in_err-item-3-clause-over : goal.returns-in_err-item-3-clause-over
@@ -156,14 +156,8 @@ take-requires-clause-words g c =
     let w = c.args.self.now in
     words_fit w.geometry.layout w.blocks 1 w.single w.single_fits
 
-pub take-requires-clause-volume : goal.take-requires-clause-volume
-take-requires-clause-volume g c = c.requires.volume
-
-pub take-requires-clause-room : goal.take-requires-clause-room
-take-requires-clause-room g c = c.requires.room
-
-pub take-requires-clause-holds : goal.take-requires-clause-holds
-take-requires-clause-holds g c = c.requires.holds
+pub take-requires-clause-ready : goal.take-requires-clause-ready
+take-requires-clause-ready g c = c.requires
 
 pub take-requires-then-is_left-2-clause-left : goal.take-requires-then-is_left-2-clause-left
 take-requires-then-is_left-2-clause-left g c = c.if-is_left-2.ensures.left.0 refl
@@ -176,14 +170,8 @@ take-requires-then-is_left-2-clause-words g c =
     let w = c.args.self.now in
     words_fit w.geometry.layout w.blocks w.geometry.layout.nindir w.double w.double_fits
 
-pub take-requires-then-is_left-2-clause-volume : goal.take-requires-then-is_left-2-clause-volume
-take-requires-then-is_left-2-clause-volume g c = c.requires.volume
-
-pub take-requires-then-is_left-2-clause-room : goal.take-requires-then-is_left-2-clause-room
-take-requires-then-is_left-2-clause-room g c = c.requires.room
-
-pub take-requires-then-is_left-2-clause-holds : goal.take-requires-then-is_left-2-clause-holds
-take-requires-then-is_left-2-clause-holds g c = c.requires.holds
+pub take-requires-then-is_left-2-clause-ready : goal.take-requires-then-is_left-2-clause-ready
+take-requires-then-is_left-2-clause-ready g c = c.requires
 
 pub take-requires-then-is_left-3-clause-left : goal.take-requires-then-is_left-3-clause-left
 take-requires-then-is_left-3-clause-left g c = c.if-is_left-3.ensures.left.0 refl
@@ -196,14 +184,8 @@ take-requires-then-is_left-3-clause-words g c =
     let w = c.args.self.now in
     words_fit w.geometry.layout w.blocks (w.geometry.layout.nindir * w.geometry.layout.nindir) w.triple w.triple_fits
 
-pub take-requires-then-is_left-3-clause-volume : goal.take-requires-then-is_left-3-clause-volume
-take-requires-then-is_left-3-clause-volume g c = c.requires.volume
-
-pub take-requires-then-is_left-3-clause-room : goal.take-requires-then-is_left-3-clause-room
-take-requires-then-is_left-3-clause-room g c = c.requires.room
-
-pub take-requires-then-is_left-3-clause-holds : goal.take-requires-then-is_left-3-clause-holds
-take-requires-then-is_left-3-clause-holds g c = c.requires.holds
+pub take-requires-then-is_left-3-clause-ready : goal.take-requires-then-is_left-3-clause-ready
+take-requires-then-is_left-3-clause-ready g c = c.requires
 
 pub take-requires-clause-fits : goal.take-requires-clause-fits
 take-requires-clause-fits g c =
@@ -213,17 +195,13 @@ take-requires-clause-fits g c =
 pub step_in_double-requires-clause-spent : goal.step_in_double-requires-clause-spent
 step_in_double-requires-clause-spent g c = c.is_left.ensures.spent c.if-is_left.false
 
-pub step_in_triple-requires-clause-single_spent : goal.step_in_triple-requires-clause-single_spent
-step_in_triple-requires-clause-single_spent g c = c.is_left.ensures.spent c.if-is_left.false
+pub step_in_triple-requires-clause-spent : goal.step_in_triple-requires-clause-spent
+step_in_triple-requires-clause-spent g c =
+    (c.is_left.ensures.spent c.if-is_left.false, c.is_left-2.ensures.spent c.if-is_left-2.false)
 
-pub step_in_triple-requires-clause-double_spent : goal.step_in_triple-requires-clause-double_spent
-step_in_triple-requires-clause-double_spent g c = c.is_left-2.ensures.spent c.if-is_left-2.false
-
-pub step_at_top-requires-clause-single_spent : goal.step_at_top-requires-clause-single_spent
-step_at_top-requires-clause-single_spent g c = c.is_left.ensures.spent c.if-is_left.false
-
-pub step_at_top-requires-clause-double_spent : goal.step_at_top-requires-clause-double_spent
-step_at_top-requires-clause-double_spent g c = c.is_left-2.ensures.spent c.if-is_left-2.false
-
-pub step_at_top-requires-clause-triple_spent : goal.step_at_top-requires-clause-triple_spent
-step_at_top-requires-clause-triple_spent g c = c.is_left-3.ensures.spent c.if-is_left-3.false
+pub step_at_top-requires : goal.step_at_top-requires
+step_at_top-requires g c = record {
+  single = c.is_left.ensures.spent c.if-is_left.false;
+  double = c.is_left-2.ensures.spent c.if-is_left-2.false;
+  triple = c.is_left-3.ensures.spent c.if-is_left-3.false;
+}

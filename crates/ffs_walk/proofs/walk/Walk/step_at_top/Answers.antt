@@ -6,30 +6,30 @@ use Rattle.ffs_walk.proofs.WalkSteps.{top_ends, top_data, top_single, top_double
 use Rattle.ffs_walk.proofs.walk.Walk.step_at_top.Goals as goal
 
 pub returns-then-self-clause-steps : goal.returns-then-self-clause-steps
-returns-then-self-clause-steps c = λ bytes. top_ends bytes c.args.self.now c.if-self.true c.requires.single_spent c.requires.double_spent c.requires.triple_spent
+returns-then-self-clause-steps c = λ bytes. top_ends bytes c.args.self.now c.if-self.true c.requires.single c.requires.double c.requires.triple
 
 pub returns-then-index-lt12-clause-steps : goal.returns-then-index-lt12-clause-steps
 returns-then-index-lt12-clause-steps c =
     λ bytes. top_data bytes c.args.self.now _ c.from.result c.data.result c.if-self.false c.if-index-lt12.true
-    c.requires.single_spent c.requires.double_spent c.requires.triple_spent refl c.from.ensures c.data.ensures.step
+    c.requires.single c.requires.double c.requires.triple refl c.from.ensures c.data.ensures.step
 
 pub returns-in-12-clause-steps : goal.returns-in-12-clause-steps
 returns-in-12-clause-steps c =
     λ bytes. top_single bytes c.args.self.now c.enter-step.result.0 c.enter-step.result.1 c.if-self.false c.in-12.is
-    c.requires.single_spent c.requires.double_spent c.requires.triple_spent
+    c.requires.single c.requires.double c.requires.triple
     (c.enter-step.ensures.steps bytes (steps_at (extent_of c.args.self.now) bytes 0))
 
 pub returns-in-13-clause-steps : goal.returns-in-13-clause-steps
 returns-in-13-clause-steps c =
     λ bytes. top_double bytes c.args.self.now c.from-words.result c.enter-step-in-13.result.0 c.enter-step-in-13.result.1 c.if-self.false c.in-13.is
-    c.from-words.ensures c.requires.single_spent c.requires.double_spent c.requires.triple_spent
+    c.from-words.ensures c.requires.single c.requires.double c.requires.triple
     (c.enter-step-in-13.ensures.steps bytes (steps_at (extent_of c.args.self.now) bytes 1))
 
 pub returns-in_default-clause-steps : goal.returns-in_default-clause-steps
 returns-in_default-clause-steps c =
     let last : c.args.self.now.next ≡ 14 = omega (arith, c.args.self.now.in_array) in
     λ bytes. top_triple bytes c.args.self.now c.from-words.result c.enter-step-in_default.result.0 c.enter-step-in_default.result.1 c.if-self.false last
-    c.from-words.ensures c.requires.single_spent c.requires.double_spent c.requires.triple_spent
+    c.from-words.ensures c.requires.single c.requires.double c.requires.triple
     (c.enter-step-in_default.ensures.steps bytes (steps_at (extent_of c.args.self.now) bytes 2))
 
 pub returns-then-index-lt12-clause-left : goal.returns-then-index-lt12-clause-left
@@ -69,7 +69,7 @@ returns-in_default-clause-left c =
     (omega (arith, most_below words (some_words c.args.self.now.geometry.layout c.args.self.now.geometry.sound), c.enter-step-in_default.ensures.left (most_at words 2)))
 
 pub returns-then-self-clause-left : goal.returns-then-self-clause-left
-returns-then-self-clause-left c = top_over c.args.self.now c.if-self.true c.requires.single_spent c.requires.double_spent c.requires.triple_spent
+returns-then-self-clause-left c = top_over c.args.self.now c.if-self.true c.requires.single c.requires.double c.requires.triple
 
 pub invariant_of-self : goal.invariant_of-self
 invariant_of-self c =
@@ -158,15 +158,18 @@ returns-in_default-clause-over c = not_over c.args.self.now.next c.args.self.now
 pub enter-step-requires-clause-first : goal.enter-step-requires-clause-first
 enter-step-requires-clause-first c =
     let w = c.args.self.now in
-    single_below w.geometry.layout.nindir w.blocks w.next w.used c.if-self.false w.used_fits c.in-12.is
+    let below = single_below w.geometry.layout.nindir w.blocks w.next w.used c.if-self.false w.used_fits c.in-12.is in
+    (omega arith, omega (arith, below))
 
 pub enter-step-requires-in-13-clause-first : goal.enter-step-requires-in-13-clause-first
 enter-step-requires-in-13-clause-first c =
     let w = c.args.self.now in
-    double_below w.geometry.layout.nindir c.from-words.result w.blocks w.next w.used c.if-self.false w.used_fits c.in-13.is c.from-words.ensures
+    let below = double_below w.geometry.layout.nindir c.from-words.result w.blocks w.next w.used c.if-self.false w.used_fits c.in-13.is c.from-words.ensures in
+    (omega arith, omega (arith, below))
 
 pub enter-step-requires-in_default-clause-first : goal.enter-step-requires-in_default-clause-first
 enter-step-requires-in_default-clause-first c =
     let w = c.args.self.now in
     let last : w.next ≡ 14 = omega (arith, w.in_array) in
-    triple_below w.geometry.layout.nindir c.from-words.result w.blocks w.next w.used c.if-self.false w.used_fits last c.from-words.ensures
+    let below = triple_below w.geometry.layout.nindir c.from-words.result w.blocks w.next w.used c.if-self.false w.used_fits last c.from-words.ensures in
+    (omega arith, omega (arith, below))
