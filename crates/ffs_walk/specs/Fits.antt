@@ -1,5 +1,5 @@
 -- How a frame fits into a walk.
-use Rattle.std.specs.Prelude.{ℕ, ◌<◌, ◌≤◌, ◌≡◌, false, IsTrue}
+use Rattle.std.specs.Prelude.{ℕ, ◌+◌, ◌*◌, ◌^◌, ◌<◌, ◌≤◌, ◌≡◌, false, IsTrue}
 use Rattle.ffs_volume.specs.declared.Layout.{Layout}
 use Rattle.ffs_volume.specs.Disk.Areas.{is_in_range}
 use Rattle.ffs_volume.specs.Blocks.Steps.{used_words}
@@ -25,3 +25,10 @@ IsIndirect blocks block = (12 ≤ block) × (block < blocks)
 abbrev pub IsBelow : ℕ → Item → Type 0
 IsBelow blocks Missing = Unit {0}
 IsBelow blocks (Word address block) = IsIndirect blocks block
+
+-- the frame has an item left, of a block in range, and its logical block is a number
+pub record HasItem (g : Layout) (span : ℕ) (f : Frame) : Type 0 where
+  pub left : f.next < f.used
+  pub in_range : IsTrue (is_in_range g f.address g.frag)
+  pub words : f.used ≤ g.nindir
+  pub small : f.first + f.next * span < 2 ^ 64

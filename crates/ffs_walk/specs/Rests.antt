@@ -1,7 +1,10 @@
 -- What is left of a walk.
-use Rattle.std.specs.Prelude.{◌≡◌, ℕ, zero, suc, ◌+◌, ◌-◌, ◌*◌, List, ◌++◌}
+use Rattle.std.specs.Prelude.{◌≡◌, ℕ, zero, suc, ◌+◌, ◌-◌, ◌*◌, List, ◌++◌, if◌then◌else◌}
 use Rattle.ffs_volume.specs.declared.Step.{Step}
-use Rattle.ffs_volume.specs.Blocks.Steps.{Extent, steps_at, steps_of_addresses}
+use Rattle.ffs_volume.specs.declared.Inode.{Inode}
+use Rattle.ffs_volume.specs.Blocks.Inodes.{logical_blocks_of}
+use Rattle.ffs_volume.specs.Blocks.Steps.{Extent, steps_at, steps_of, steps_of_addresses, walks}
+use Rattle.ffs_layout.specs.declared.geometry.Geometry.{Geometry}
 use Rattle.ffs_walk.specs.declared.walk.Walk.{Walk}
 use Rattle.ffs_walk.specs.Frames.{frame_rest, frame_left}
 use Rattle.ffs_walk.specs.Fits.{IsSpent}
@@ -56,3 +59,9 @@ pub record IsAtTop (w : Walk) : Type 0 where
 pub record SameExtent (old new : Walk) : Type 0 where
   pub geometry : new.geometry ≡ old.geometry
   pub blocks : new.blocks ≡ old.blocks
+
+-- a walk that has all steps of an inode left
+pub record IsWalkOf (g : Geometry) (inode : Inode) (w : Walk) : Type 0 where
+  pub steps : (bytes : List ℕ) → rest bytes w ≡ steps_of g.layout inode bytes
+  pub geometry : w.geometry ≡ g
+  pub blocks : w.blocks ≡ (if walks g.layout inode then logical_blocks_of g.layout inode else 0)

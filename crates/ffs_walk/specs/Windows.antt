@@ -4,6 +4,7 @@ use Rattle.ffs_image.specs.Device.{Device, ForContents}
 use Rattle.ffs_volume.specs.declared.Layout.{Layout}
 use Rattle.ffs_volume.specs.Disk.Numbers.{piece}
 use Rattle.ffs_volume.specs.Blocks.Steps.{block_bytes}
+use Rattle.ffs_memory.specs.declared.fixed_list.FixedList.{FixedList}
 use Rattle.ffs_walk.specs.declared.window.Window.{Window}
 use Rattle.ffs_walk.specs.declared.blocks.Blocks.{Blocks}
 
@@ -43,3 +44,14 @@ pub record CanWalk (v : Layout) (d : Device) (blocks : Blocks) : Type 0 where
 pub record KeepsBlocks (v : Layout) (contents : Option (List ℕ)) (before after : Blocks) : Type 0 where
   pub size : vec_len after.buffer ≡ vec_len before.buffer
   pub holds : BlocksHold v contents after
+
+-- a window over a list that holds nothing, and so what any image gives
+pub record IsEmptyWindow (list : FixedList ℕ) (w : Window) : Type 0 where
+  pub buffer : w.buffer ≡ list
+  pub empty : w.length ≡ 0
+  pub holds : (contents : Option (List ℕ)) → WindowHolds contents w
+
+-- blocks over a list that hold nothing, and so what any image of any layout gives
+pub record AreEmptyBlocks (list : FixedList ℕ) (blocks : Blocks) : Type 0 where
+  pub buffer : blocks.buffer ≡ list
+  pub holds : (v : Layout) (contents : Option (List ℕ)) → BlocksHold v contents blocks

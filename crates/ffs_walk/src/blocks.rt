@@ -20,13 +20,11 @@ pub struct Blocks {
 }
 
 impl Blocks {
-    ghost use Rattle.ffs_walk.specs.Windows.{BlocksHold, CanWalk, HasRoom, KeepsBlocks, level_bytes};
+    ghost use Rattle.ffs_walk.specs.Windows.{AreEmptyBlocks, CanWalk, HasRoom, KeepsBlocks, level_bytes};
 
     /// Blocks that hold nothing, over a buffer of at least three blocks' bytes. It takes no memory.
     pub fn over(buffer: FixedList<u8>) -> Blocks
-        ensures buffer { result.buffer ≡ buffer }
-        ensures holds { (layout : Layout) (contents : Option (List ℕ))
-            → BlocksHold layout contents result }
+        ensures { AreEmptyBlocks buffer result }
     {
         Blocks {
             buffer,

@@ -37,9 +37,8 @@ impl Frame {
     ghost use Rattle.ffs_volume.specs.declared.Step.TheVariants.{Gap};
     ghost use Rattle.ffs_image.specs.Device.{ForContents};
     ghost use Rattle.ffs_image.specs.Reads.{ReadAfter};
-    ghost use Rattle.ffs_volume.specs.Disk.Areas.{is_in_range};
     ghost use Rattle.ffs_volume.specs.declared.Step.{Step};
-    ghost use Rattle.ffs_walk.specs.Fits.{IsSpent};
+    ghost use Rattle.ffs_walk.specs.Fits.{HasItem, IsSpent};
     ghost use Rattle.ffs_walk.specs.Windows.{BlocksHold, CanWalk, HasRoom, KeepsBlocks};
     ghost use Rattle.ffs_walk.specs.declared.frame.Item.TheVariants.{Missing, Word};
     ghost use Rattle.ffs_walk.specs.Frames.{frame_rest, frame_left, item_steps, item_left, IsFrom, IsSameBlock};
@@ -76,11 +75,7 @@ impl Frame {
         image: &mut I,
         blocks: &mut Blocks,
     ) -> Result<Item, ImageFault>
-        requires left { self.old.next < self.old.used }
-        requires in_range { IsTrue (is_in_range geometry.now.layout self.old.address
-            geometry.now.layout.frag) }
-        requires words { self.old.used ≤ geometry.now.layout.nindir }
-        requires fits { self.old.first + self.old.next * span < 2 ^ 64 }
+        requires item { HasItem geometry.now.layout span self.old }
         requires level { level < 3 }
         requires ready { CanWalk geometry.now.layout (I.device image.old) blocks.old }
         ensures item { IfOk result (λ item. IsFrom self.old span item) }

@@ -51,7 +51,7 @@ impl Walk {
     ghost use Rattle.ffs_walk.specs.Fits.{IsSpent, IsBelow, IsIndirect};
     ghost use Rattle.ffs_walk.specs.Lengths.{IsStepOf};
     ghost use Rattle.ffs_walk.specs.Frames.{frame_rest, frame_left, item_steps, item_left};
-    ghost use Rattle.ffs_walk.specs.Rests.{rest, left, most_at, extent_of, IsAtTop, IsOver, SameExtent};
+    ghost use Rattle.ffs_walk.specs.Rests.{rest, left, most_at, extent_of, IsAtTop, IsOver, IsWalkOf, SameExtent};
     ghost use Rattle.ffs_walk.specs.Windows.{BlocksHold, CanWalk, HasRoom, KeepsBlocks};
 
     /// The step at the address of a data block.
@@ -332,12 +332,7 @@ impl Walk {
     /// A walk over the blocks of an inode. Only a file or a directory has steps, and no device or short symlink.
     #[inline(always)]
     pub fn start(geometry: &Geometry, inode: &Inode) -> Walk
-        ensures steps { (bytes : List ℕ) → rest bytes result
-            ≡ steps_of geometry.now.layout inode.now bytes }
-        ensures geometry { result.geometry ≡ geometry.now }
-        ensures blocks { result.blocks
-            ≡ (if walks geometry.now.layout inode.now
-            then logical_blocks_of geometry.now.layout inode.now else 0) }
+        ensures { IsWalkOf geometry.now inode.now result }
     {
         Walk::of_class(geometry, inode, class_of(geometry, inode))
     }
@@ -347,12 +342,7 @@ impl Walk {
     #[tactic(auto, unfolding(ffs_volume::specs::Blocks::Steps::steps_of))]
     pub fn of_class(geometry: &Geometry, inode: &Inode, class: Class) -> Walk
         requires { class ≡ inodes.class_of geometry.now.layout inode.now }
-        ensures steps { (bytes : List ℕ) → rest bytes result
-            ≡ steps_of geometry.now.layout inode.now bytes }
-        ensures geometry { result.geometry ≡ geometry.now }
-        ensures blocks { result.blocks
-            ≡ (if walks geometry.now.layout inode.now
-            then logical_blocks_of geometry.now.layout inode.now else 0) }
+        ensures { IsWalkOf geometry.now inode.now result }
     {
         let blocks = walked_blocks(geometry, inode, class);
         Walk {

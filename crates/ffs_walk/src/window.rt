@@ -19,13 +19,11 @@ pub struct Window {
 }
 
 impl Window {
-    ghost use Rattle.ffs_walk.specs.Windows.{held_bytes, WindowHolds};
+    ghost use Rattle.ffs_walk.specs.Windows.{held_bytes, IsEmptyWindow, WindowHolds};
 
     /// A window that holds nothing. It takes no memory.
     pub fn over(buffer: FixedList<u8>) -> Window
-        ensures buffer { result.buffer ≡ buffer }
-        ensures empty { result.length ≡ 0 }
-        ensures holds { (contents : Option (List ℕ)) → WindowHolds contents result }
+        ensures { IsEmptyWindow buffer result }
     {
         Window {
             buffer,

@@ -69,10 +69,10 @@ returns-in_err-next g c =
     let v = c.args.geometry.now.layout in
     let p = err_from_is_err_and c.from_residual.result c.from_residual.ensures.1 in
     let inv = c.loop-next.invariant in
-    let err = c.in_err-next.ensures.err in
+    let err = c.in_err-next.ensures.read in
     let read = ready_read v (g.I.Image.device c.loop-next.image) (g.I.Image.device c.next.new.image)
     c.loop-next.workspace c.next.new.blocks
-    err.contents err.size c.next.ensures.size (rw inv.geometry at c.next.ensures.holds) inv.ready in
+    err.contents err.size c.next.ensures.kept.size (rw inv.geometry at c.next.ensures.kept.holds) inv.ready in
     rw (p.1, p.2) (record {
       image = rw inv.device at err;
       text = of_reads _ _ _ _ _ inv.said;
@@ -91,16 +91,16 @@ pub step-requires : goal.step-requires
 step-requires g c =
     let v = c.args.geometry.now.layout in
     let inv = c.loop-next.invariant in
-    let ok = c.in_ok-next.ensures.ok in
+    let ok = c.in_ok-next.ensures.read in
     let sized = length_bits c.loop-next.workspace.claimed.words.items c.loop-next.workspace.claimed.size
     ∙ inv.ready.made.claimed in
     let read = ready_walked c.args.geometry.now _ _ _ c.loop-next.workspace c.next.new.blocks inv.geometry ok
-    c.next.ensures.size c.next.ensures.holds inv.ready in
+    c.next.ensures.kept.size c.next.ensures.kept.holds inv.ready in
     record {
       made = read.made;
       area = inv.area;
       «open» = inv.open_still;
-      length = rw (inv.geometry, c.in-Some.is) at c.in_ok-next.ensures.length;
+      length = (rw (inv.geometry, c.in-Some.is) at c.in_ok-next.ensures.fits).length;
       room = omega (
         arith,
         c.args.geometry.now.sound.numbers.size_below,
@@ -121,10 +121,10 @@ returns-in_err-step g c =
     let p = err_from_is_err_and c.from_residual-in_err-step.result c.from_residual-in_err-step.ensures.1 in
     let inv = c.loop-next.invariant in
     let v = c.args.geometry.now.layout in
-    let ok = c.in_ok-next.ensures.ok in
+    let ok = c.in_ok-next.ensures.read in
     let next = rw (inv.device, c.in-Some.is) at c.in_ok-next.ensures.steps in
     let read = ready_walked c.args.geometry.now _ _ _ c.loop-next.workspace c.next.new.blocks inv.geometry ok
-    c.next.ensures.size c.next.ensures.holds inv.ready in
+    c.next.ensures.kept.size c.next.ensures.kept.holds inv.ready in
     rw (p.1, p.2) (record {
       image = ok ∙ inv.device;
       text = of_stops _ _ _ _ (of_lines (step_lines v c.args.number (claims_of c.loop-next.workspace) c.in-Some.next))
@@ -147,7 +147,7 @@ returns-in_err-step g c =
 pub skip_gaps-requires : goal.skip_gaps-requires
 skip_gaps-requires g c =
     let inv = c.loop-next.invariant in
-    let same = c.in_ok-next.ensures.geometry ∙ inv.geometry in
+    let same = c.in_ok-next.ensures.same.geometry ∙ inv.geometry in
     record { room = record { blocks_fit = rw (same, c.step.ensures.only.made.blocks) (omega arith) } }
 
 pub loop-next-preserved : goal.loop-next-preserved
@@ -155,25 +155,25 @@ loop-next-preserved g c =
     let inv = c.loop-next.invariant in
     let v = c.args.geometry.now.layout in
     let s = claims_of c.step.new.workspace in
-    let ok = c.in_ok-next.ensures.ok in
+    let ok = c.in_ok-next.ensures.read in
     let next = rw (inv.device, c.in-Some.is) at c.in_ok-next.ensures.steps in
     let read = ready_walked c.args.geometry.now _ _ _ c.loop-next.workspace c.next.new.blocks inv.geometry ok
-    c.next.ensures.size c.next.ensures.holds inv.ready in
+    c.next.ensures.kept.size c.next.ensures.kept.holds inv.ready in
     let ready = ready_still v _ _ _ c.step.ensures.only.made c.step.ensures.only.windows read in
     let gaps : ForBytes (IsContents (g.I.Image.device c.args.image.now).contents) (λ bytes. rest bytes c.next.new.self ≡ replicate c.skip_gaps.result Gap ++ rest bytes c.skip_gaps.new.self) =
     λ bytes t. c.skip_gaps.ensures.steps (g.I.Image.device c.next.new.image).contents
-    (rw (c.in_ok-next.ensures.geometry ∙ inv.geometry) ready.windows.blocks) bytes
+    (rw (c.in_ok-next.ensures.same.geometry ∙ inv.geometry) ready.windows.blocks) bytes
     (ap (λ d. d.contents) (ok ∙ inv.device) ∙ t) in
     record {
       ready = ready;
       area = c.step.ensures.area;
       open_still = sym c.is_open.ensures ∙ c.if-not-is_open.false;
-      geometry = c.skip_gaps.ensures.geometry ∙ c.in_ok-next.ensures.geometry ∙ inv.geometry;
+      geometry = c.skip_gaps.ensures.same.geometry ∙ c.in_ok-next.ensures.same.geometry ∙ inv.geometry;
       device = ok ∙ inv.device;
       found = found_then _ _ _ (found_still _ _ _ inv.found) c.step.ensures.only.found;
       moves = moves_on v (claims_of c.args.workspace.now) (claims_of c.loop-next.workspace) (claims_of c.step.new.workspace) c.in-Some.next
           (length_bits _ _ ∙ inv.ready.made.claimed) c.args.geometry.now.sound.sizes.frag_high
-          (rw (inv.geometry, c.in-Some.is) at c.in_ok-next.ensures.length) c.in_ok-step.ensures.claims inv.moves;
+          (rw (inv.geometry, c.in-Some.is) at c.in_ok-next.ensures.fits).length c.in_ok-step.ensures.claims inv.moves;
       claims = claims_on _ v (claims_of c.loop-next.workspace) s (λ bytes. rest bytes c.loop-next.walk)
           (λ bytes. rest bytes c.next.new.self) _ _ c.in-Some.next
           next c.in_ok-step.ensures.claims inv.claims (λ bytes t. ap (after_steps v s) (gaps bytes t)
@@ -195,11 +195,11 @@ returns-then-not-is_open g c =
     let inv = c.loop-next.invariant in
     let v = c.args.geometry.now.layout in
     let s = claims_of c.step.new.workspace in
-    let ok = c.in_ok-next.ensures.ok in
+    let ok = c.in_ok-next.ensures.read in
     let cut : is_open (claims_of c.step.new.workspace) ≡ false = sym c.is_open.ensures ∙ c.if-not-is_open.true in
     let next = rw (inv.device, c.in-Some.is) at c.in_ok-next.ensures.steps in
     let read = ready_walked c.args.geometry.now _ _ _ c.loop-next.workspace c.next.new.blocks inv.geometry ok
-    c.next.ensures.size c.next.ensures.holds inv.ready in
+    c.next.ensures.kept.size c.next.ensures.kept.holds inv.ready in
     record {
       image = ok ∙ inv.device;
       text = steps_said _ v c.args.number (claims_of c.loop-next.workspace) s (λ bytes. rest bytes c.loop-next.walk)
@@ -211,7 +211,7 @@ returns-then-not-is_open g c =
           next c.in_ok-step.ensures.claims inv.claims (λ bytes t. cut_stays v s (rest bytes c.next.new.self) cut);
       moves = moves_on v (claims_of c.args.workspace.now) (claims_of c.loop-next.workspace) (claims_of c.step.new.workspace) c.in-Some.next
           (length_bits _ _ ∙ inv.ready.made.claimed) c.args.geometry.now.sound.sizes.frag_high
-          (rw (inv.geometry, c.in-Some.is) at c.in_ok-next.ensures.length) c.in_ok-step.ensures.claims inv.moves;
+          (rw (inv.geometry, c.in-Some.is) at c.in_ok-next.ensures.fits).length c.in_ok-step.ensures.claims inv.moves;
       bound = omega (
         arith,
         c.step.ensures.runs,
@@ -227,7 +227,7 @@ returns-in_default g c =
     let inv = c.loop-next.invariant in
     let v = c.args.geometry.now.layout in
     let s = claims_of c.loop-next.workspace in
-    let ok = c.in_ok-next.ensures.ok in
+    let ok = c.in_ok-next.ensures.read in
     let over = rw (inv.device, c.in_default.is) at c.in_ok-next.ensures.steps in
     record {
       image = ok ∙ inv.device;
@@ -241,6 +241,6 @@ returns-in_default g c =
             inv.moves,
       );
       ready = ready_walked c.args.geometry.now _ _ _ c.loop-next.workspace c.next.new.blocks inv.geometry ok
-          c.next.ensures.size c.next.ensures.holds inv.ready;
+          c.next.ensures.kept.size c.next.ensures.kept.holds inv.ready;
       found = found_still _ _ _ inv.found;
     }

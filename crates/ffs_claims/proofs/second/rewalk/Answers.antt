@@ -55,7 +55,7 @@ pub returns-in_err-next : goal.returns-in_err-next
 returns-in_err-next g c =
     let p = err_from_is_err_and c.from_residual.result c.from_residual.ensures.1 in
     let inv = c.loop-next.invariant in
-    let err = c.in_err-next.ensures.err in
+    let err = c.in_err-next.ensures.read in
     rw (p.1, p.2) (record {
       image = rw inv.device at err;
       text = of_reads _ _ _ _ _ inv.said;
@@ -63,7 +63,7 @@ returns-in_err-next g c =
       runs = λ bytes t. omega (arith, (inv.walk bytes t).runs);
       ready = ready_read c.args.geometry.now.layout _ (g.I.Image.device c.next.new.image)
           c.loop-next.workspace c.next.new.blocks
-          err.contents err.size c.next.ensures.size (rw inv.geometry at c.next.ensures.holds) inv.ready;
+          err.contents err.size c.next.ensures.kept.size (rw inv.geometry at c.next.ensures.kept.holds) inv.ready;
       claims = claims_still _ _ _ inv.claims;
     })
 
@@ -71,7 +71,7 @@ pub report_again-requires-clause-made : goal.report_again-requires-clause-made
 report_again-requires-clause-made g c =
     let inv = c.loop-next.invariant in
     let read = ready_walked c.args.geometry.now _ _ _ c.loop-next.workspace c.next.new.blocks inv.geometry
-    c.in_ok-next.ensures.ok c.next.ensures.size c.next.ensures.holds inv.ready in
+    c.in_ok-next.ensures.read c.next.ensures.kept.size c.next.ensures.kept.holds inv.ready in
     read.made
 
 pub returns-in_err-report_again : goal.returns-in_err-report_again
@@ -83,10 +83,10 @@ returns-in_err-report_again g c =
     let d = bits_of c.loop-next.workspace.duplicates in
     let r = c.loop-next.rescan in
     let step = c.in-Some.next in
-    let ok = c.in_ok-next.ensures.ok in
+    let ok = c.in_ok-next.ensures.read in
     let next = rw (inv.device, c.in-Some.is) at c.in_ok-next.ensures.steps in
     let read = ready_walked c.args.geometry.now _ _ _ c.loop-next.workspace c.next.new.blocks inv.geometry ok
-    c.next.ensures.size c.next.ensures.holds inv.ready in
+    c.next.ensures.kept.size c.next.ensures.kept.holds inv.ready in
     let only = c.report_again.ensures.only in
     rw (p.1, p.2) (record {
       image = ok ∙ inv.device;
@@ -110,7 +110,7 @@ returns-in_err-report_again g c =
 pub skip_gaps-requires : goal.skip_gaps-requires
 skip_gaps-requires g c =
     let inv = c.loop-next.invariant in
-    let same = c.in_ok-next.ensures.geometry ∙ inv.geometry in
+    let same = c.in_ok-next.ensures.same.geometry ∙ inv.geometry in
     record { room = record { blocks_fit = rw (same, c.report_again.ensures.only.made.blocks) (omega arith) } }
 
 pub loop-next-preserved : goal.loop-next-preserved
@@ -121,22 +121,22 @@ loop-next-preserved g c =
     let d = bits_of c.loop-next.workspace.duplicates in
     let d' = bits_of c.report_again.new.workspace.duplicates in
     let r' = c.report_again.new.rescan in
-    let ok = c.in_ok-next.ensures.ok in
+    let ok = c.in_ok-next.ensures.read in
     let now = c.in_ok-report_again.ensures.again in
     let only = c.report_again.ensures.only in
     let next = rw (inv.device, c.in-Some.is) at c.in_ok-next.ensures.steps in
     let read = ready_walked c.args.geometry.now _ _ _ c.loop-next.workspace c.next.new.blocks inv.geometry ok
-    c.next.ensures.size c.next.ensures.holds inv.ready in
+    c.next.ensures.kept.size c.next.ensures.kept.holds inv.ready in
     let ready = ready_still v _ _ _ only.made only.windows read in
     let gaps : ForBytes (IsContents (g.I.Image.device c.args.image.now).contents) (λ bytes. rest bytes c.next.new.self ≡ replicate c.skip_gaps.result Gap ++ rest bytes c.skip_gaps.new.self) =
     λ bytes t. c.skip_gaps.ensures.steps (g.I.Image.device c.next.new.image).contents
-    (rw (c.in_ok-next.ensures.geometry ∙ inv.geometry) ready.windows.blocks) bytes
+    (rw (c.in_ok-next.ensures.same.geometry ∙ inv.geometry) ready.windows.blocks) bytes
     (ap (λ d. d.contents) (ok ∙ inv.device) ∙ t) in
     record {
       ready = ready;
       going = sym c.is_going.ensures ∙ c.if-not-is_going.false;
       pending = c.if-workspace-eq0.false;
-      geometry = c.skip_gaps.ensures.geometry ∙ c.in_ok-next.ensures.geometry ∙ inv.geometry;
+      geometry = c.skip_gaps.ensures.same.geometry ∙ c.in_ok-next.ensures.same.geometry ∙ inv.geometry;
       device = ok ∙ inv.device;
       claims = claims_then _ _ _ (claims_still _ _ _ inv.claims) only.claims;
       walk = λ bytes t. rewalk_gaps _ _ _ _ r' c.skip_gaps.result (rest bytes c.next.new.self)
@@ -162,13 +162,13 @@ returns-then-not-is_going g c =
     let d = bits_of c.loop-next.workspace.duplicates in
     let d' = bits_of c.report_again.new.workspace.duplicates in
     let r' = c.report_again.new.rescan in
-    let ok = c.in_ok-next.ensures.ok in
+    let ok = c.in_ok-next.ensures.read in
     let now = c.in_ok-report_again.ensures.again in
     let only = c.report_again.ensures.only in
     let cut = sym c.is_going.ensures ∙ c.if-not-is_going.true in
     let next = rw (inv.device, c.in-Some.is) at c.in_ok-next.ensures.steps in
     let read = ready_walked c.args.geometry.now _ _ _ c.loop-next.workspace c.next.new.blocks inv.geometry ok
-    c.next.ensures.size c.next.ensures.holds inv.ready in
+    c.next.ensures.kept.size c.next.ensures.kept.holds inv.ready in
     let walk : ForBytes (IsContents (g.I.Image.device c.args.image.now).contents) (λ bytes.
     Rewalking v n c.args.cut (steps_of v c.args.inode.now bytes) c.report_again.new.rescan (rest bytes c.next.new.self)
     c.args.workspace.now c.report_again.new.workspace) =
@@ -200,14 +200,14 @@ returns-then-workspace-eq0 g c =
     let d = bits_of c.loop-next.workspace.duplicates in
     let d' = bits_of c.report_again.new.workspace.duplicates in
     let r' = c.report_again.new.rescan in
-    let ok = c.in_ok-next.ensures.ok in
+    let ok = c.in_ok-next.ensures.read in
     let now = c.in_ok-report_again.ensures.again in
     let only = c.report_again.ensures.only in
     let none : set_count (bits_of c.report_again.new.workspace.duplicates) ≡ 0 = sym only.made.unreported
     ∙ c.if-workspace-eq0.true in
     let next = rw (inv.device, c.in-Some.is) at c.in_ok-next.ensures.steps in
     let read = ready_walked c.args.geometry.now _ _ _ c.loop-next.workspace c.next.new.blocks inv.geometry ok
-    c.next.ensures.size c.next.ensures.holds inv.ready in
+    c.next.ensures.kept.size c.next.ensures.kept.holds inv.ready in
     let walk : ForBytes (IsContents (g.I.Image.device c.args.image.now).contents) (λ bytes.
     Rewalking v n c.args.cut (steps_of v c.args.inode.now bytes) c.report_again.new.rescan (rest bytes c.next.new.self)
     c.args.workspace.now c.report_again.new.workspace) =
@@ -236,7 +236,7 @@ returns-in_default g c =
     let n = c.args.number in
     let d = bits_of c.loop-next.workspace.duplicates in
     let r = c.loop-next.rescan in
-    let ok = c.in_ok-next.ensures.ok in
+    let ok = c.in_ok-next.ensures.read in
     let over = rw (inv.device, c.in_default.is) at c.in_ok-next.ensures.steps in
     let none : ForBytes (IsContents (g.I.Image.device c.args.image.now).contents)
     (λ bytes. offers_again v n c.loop-next.rescan (rest bytes c.loop-next.walk) ≡ []) =
@@ -250,6 +250,6 @@ returns-in_default g c =
           (looked_over v n r (rest bytes c.loop-next.walk) d (over bytes t)) (inv.walk bytes t));
       runs = λ bytes t. omega (arith, (inv.walk bytes t).runs);
       ready = ready_walked c.args.geometry.now _ _ _ c.loop-next.workspace c.next.new.blocks inv.geometry ok
-          c.next.ensures.size c.next.ensures.holds inv.ready;
+          c.next.ensures.kept.size c.next.ensures.kept.holds inv.ready;
       claims = claims_still _ _ _ inv.claims;
     }

@@ -13,13 +13,13 @@ steps-preserved-in-Some-Run g c =
     let r = c.in-Some-Run in
     let read = rw r.field-0-is at (rw r.is at c.in_ok-next.ensures.steps) in
     record {
-      same = c.in_ok-next.ensures.ok ∙ inv.same;
-      geometry = c.next.ensures.geometry ∙ inv.geometry;
-      size = c.next.ensures.size ∙ inv.size;
-      holds = rw inv.geometry at c.next.ensures.holds;
+      same = c.in_ok-next.ensures.read ∙ inv.same;
+      geometry = c.next.ensures.same.geometry ∙ inv.geometry;
+      size = c.next.ensures.kept.size ∙ inv.size;
+      holds = rw inv.geometry at c.next.ensures.kept.holds;
       gap = λ b t. inv.gap b t
           ∙ (sym (gap_to_run s.walk.geometry.layout w.geometry.layout s.keeping.cut (replay_in s.keeping) false r.start r.len r._block (rest b s.walk) (rest b w)
-          (ap (λ x. x.layout) c.next.ensures.geometry) (read b (ap (λ d. d.contents) inv.same ∙ t)))
+          (ap (λ x. x.layout) c.next.ensures.same.geometry) (read b (ap (λ d. d.contents) inv.same ∙ t)))
           ∙ sym (gap_past_run w.geometry.layout s.keeping.cut c.take-kept.new.self.cut (replay_in s.keeping) (replay_in c.take-kept.new.self) (rest b w) r.start r.len r._block false
           (c.take-kept.ensures.after r._block) c.take-kept.ensures.cut));
     }
@@ -32,13 +32,13 @@ steps-preserved g c =
     let r = c.in-Some-Tail in
     let read = rw r.field-0-is at (rw r.is at c.in_ok-next.ensures.steps) in
     record {
-      same = c.in_ok-next.ensures.ok ∙ inv.same;
-      geometry = c.next.ensures.geometry ∙ inv.geometry;
-      size = c.next.ensures.size ∙ inv.size;
-      holds = rw inv.geometry at c.next.ensures.holds;
+      same = c.in_ok-next.ensures.read ∙ inv.same;
+      geometry = c.next.ensures.same.geometry ∙ inv.geometry;
+      size = c.next.ensures.kept.size ∙ inv.size;
+      holds = rw inv.geometry at c.next.ensures.kept.holds;
       gap = λ b t. inv.gap b t
           ∙ sym (gap_over_tail s.walk.geometry.layout w.geometry.layout s.keeping.cut (replay_in s.keeping) false (rest b s.walk) (rest b w)
-          (ap (λ x. x.layout) c.next.ensures.geometry) (read b (ap (λ d. d.contents) inv.same ∙ t)));
+          (ap (λ x. x.layout) c.next.ensures.same.geometry) (read b (ap (λ d. d.contents) inv.same ∙ t)));
     }
 
 pub returns-in-Some-Gap-clause-gap : goal.returns-in-Some-Gap-clause-gap

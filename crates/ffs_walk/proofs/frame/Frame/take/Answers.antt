@@ -13,7 +13,7 @@ returns-clause-steps g c =
     ] in
     rw c.from.ensures
     (word_taken c.args.geometry.now.layout _ c.args.span c.args.self.now c.bytes-block.result.now c.word-address.result
-    c.requires.left (λ b tells. c.bytes-block.ensures.bytes ∙ c.in_ok-fill.ensures.bytes b tells) no c.word-address.ensures)
+    c.requires.item.left (λ b tells. c.bytes-block.ensures.bytes ∙ c.in_ok-fill.ensures.bytes b tells) no c.word-address.ensures)
 
 pub returns-clause-falls : goal.returns-clause-falls
-returns-clause-falls g c = λ most. less_left most c.args.self.now c.requires.left
+returns-clause-falls g c = λ most. less_left most c.args.self.now c.requires.item.left

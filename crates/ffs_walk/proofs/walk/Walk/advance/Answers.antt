@@ -17,13 +17,6 @@ returns-then-is_left-2-clause-steps g c =
     (λ bytes. rest bytes c.step_in_double.new.self)
     c.from-words.ensures (c.is_left.ensures.spent c.if-is_left.false) c.in_ok-item-2.ensures.steps c.step_in_double.ensures.steps
 
-pub take-requires-then-is_left-3-clause-fits : goal.take-requires-then-is_left-3-clause-fits
-take-requires-then-is_left-3-clause-fits g c =
-    let w = c.args.self.now in
-    rw c.from-words.ensures
-    (word_fits w.geometry.layout w.blocks (w.geometry.layout.nindir * w.geometry.layout.nindir) w.triple (square_some w.geometry.layout.nindir (some_words w.geometry.layout w.geometry.sound))
-    w.triple_fits w.blocks_small (c.if-is_left-3.ensures.left.0 refl))
-
 pub step_in_triple-requires-clause-below : goal.step_in_triple-requires-clause-below
 step_in_triple-requires-clause-below g c =
     let w = c.args.self.now in
@@ -45,13 +38,6 @@ returns-then-is_left-clause-left g c =
     falls_by (item_left 1 c.in_ok-item.item) (frame_left 1 c.take.new.self) (frame_left 1 w.single)
     (frame_left (most_at words 1) w.double + (frame_left (most_at words 2) w.triple + (w.used - w.next) * most_at words 3))
     (c.in_ok-item.ensures.falls 1) (item_one c.in_ok-item.item)
-
-pub take-requires-then-is_left-2-clause-fits : goal.take-requires-then-is_left-2-clause-fits
-take-requires-then-is_left-2-clause-fits g c =
-    let w = c.args.self.now in
-    rw c.from-words.ensures
-    (word_fits w.geometry.layout w.blocks w.geometry.layout.nindir w.double (some_words w.geometry.layout w.geometry.sound)
-    w.double_fits w.blocks_small (c.if-is_left-2.ensures.left.0 refl))
 
 pub returns-clause-steps : goal.returns-clause-steps
 returns-clause-steps g c = λ bytes tells. c.step_at_top.ensures.steps bytes
@@ -145,52 +131,14 @@ returns-then-is_left-3-clause-left g c =
     (frame_left (most_at words 0) w.single) (frame_left (most_at words 1) w.double) (frame_left (most_at words 2) w.triple) ((w.used - w.next) * most_at words 3) (left c.step_in_triple.new.self)
     c.step_in_triple.ensures.left (c.in_ok-item-3.ensures.falls (most_at words 2))
 
-pub take-requires-clause-left : goal.take-requires-clause-left
-take-requires-clause-left g c = c.if-is_left.ensures.left.0 refl
-
-pub take-requires-clause-in_range : goal.take-requires-clause-in_range
-take-requires-clause-in_range g c = c.args.self.now.single_fits.in_range_there (c.if-is_left.ensures.left.0 refl)
-
-pub take-requires-clause-words : goal.take-requires-clause-words
-take-requires-clause-words g c =
-    let w = c.args.self.now in
-    words_fit w.geometry.layout w.blocks 1 w.single w.single_fits
-
 pub take-requires-clause-ready : goal.take-requires-clause-ready
 take-requires-clause-ready g c = c.requires
-
-pub take-requires-then-is_left-2-clause-left : goal.take-requires-then-is_left-2-clause-left
-take-requires-then-is_left-2-clause-left g c = c.if-is_left-2.ensures.left.0 refl
-
-pub take-requires-then-is_left-2-clause-in_range : goal.take-requires-then-is_left-2-clause-in_range
-take-requires-then-is_left-2-clause-in_range g c = c.args.self.now.double_fits.in_range_there (c.if-is_left-2.ensures.left.0 refl)
-
-pub take-requires-then-is_left-2-clause-words : goal.take-requires-then-is_left-2-clause-words
-take-requires-then-is_left-2-clause-words g c =
-    let w = c.args.self.now in
-    words_fit w.geometry.layout w.blocks w.geometry.layout.nindir w.double w.double_fits
 
 pub take-requires-then-is_left-2-clause-ready : goal.take-requires-then-is_left-2-clause-ready
 take-requires-then-is_left-2-clause-ready g c = c.requires
 
-pub take-requires-then-is_left-3-clause-left : goal.take-requires-then-is_left-3-clause-left
-take-requires-then-is_left-3-clause-left g c = c.if-is_left-3.ensures.left.0 refl
-
-pub take-requires-then-is_left-3-clause-in_range : goal.take-requires-then-is_left-3-clause-in_range
-take-requires-then-is_left-3-clause-in_range g c = c.args.self.now.triple_fits.in_range_there (c.if-is_left-3.ensures.left.0 refl)
-
-pub take-requires-then-is_left-3-clause-words : goal.take-requires-then-is_left-3-clause-words
-take-requires-then-is_left-3-clause-words g c =
-    let w = c.args.self.now in
-    words_fit w.geometry.layout w.blocks (w.geometry.layout.nindir * w.geometry.layout.nindir) w.triple w.triple_fits
-
 pub take-requires-then-is_left-3-clause-ready : goal.take-requires-then-is_left-3-clause-ready
 take-requires-then-is_left-3-clause-ready g c = c.requires
-
-pub take-requires-clause-fits : goal.take-requires-clause-fits
-take-requires-clause-fits g c =
-    let w = c.args.self.now in
-    word_fits w.geometry.layout w.blocks 1 w.single one_some w.single_fits w.blocks_small (c.if-is_left.ensures.left.0 refl)
 
 pub step_in_double-requires-clause-spent : goal.step_in_double-requires-clause-spent
 step_in_double-requires-clause-spent g c = c.is_left.ensures.spent c.if-is_left.false
@@ -205,3 +153,37 @@ step_at_top-requires g c = record {
   double = c.is_left-2.ensures.spent c.if-is_left-2.false;
   triple = c.is_left-3.ensures.spent c.if-is_left-3.false;
 }
+
+pub take-requires-then-is_left-3-clause-item : goal.take-requires-then-is_left-3-clause-item
+take-requires-then-is_left-3-clause-item g c =
+    let w = c.args.self.now in
+    record {
+      left = c.if-is_left-3.ensures.left.0 refl;
+      in_range = c.args.self.now.triple_fits.in_range_there (c.if-is_left-3.ensures.left.0 refl);
+      words = words_fit w.geometry.layout w.blocks (w.geometry.layout.nindir * w.geometry.layout.nindir) w.triple w.triple_fits;
+      small = rw c.from-words.ensures
+          (word_fits w.geometry.layout w.blocks (w.geometry.layout.nindir * w.geometry.layout.nindir) w.triple (square_some w.geometry.layout.nindir (some_words w.geometry.layout w.geometry.sound))
+          w.triple_fits w.blocks_small (c.if-is_left-3.ensures.left.0 refl));
+    }
+
+pub take-requires-then-is_left-2-clause-item : goal.take-requires-then-is_left-2-clause-item
+take-requires-then-is_left-2-clause-item g c =
+    let w = c.args.self.now in
+    record {
+      left = c.if-is_left-2.ensures.left.0 refl;
+      in_range = c.args.self.now.double_fits.in_range_there (c.if-is_left-2.ensures.left.0 refl);
+      words = words_fit w.geometry.layout w.blocks w.geometry.layout.nindir w.double w.double_fits;
+      small = rw c.from-words.ensures
+          (word_fits w.geometry.layout w.blocks w.geometry.layout.nindir w.double (some_words w.geometry.layout w.geometry.sound)
+          w.double_fits w.blocks_small (c.if-is_left-2.ensures.left.0 refl));
+    }
+
+pub take-requires-clause-item : goal.take-requires-clause-item
+take-requires-clause-item g c =
+    let w = c.args.self.now in
+    record {
+      left = c.if-is_left.ensures.left.0 refl;
+      in_range = c.args.self.now.single_fits.in_range_there (c.if-is_left.ensures.left.0 refl);
+      words = words_fit w.geometry.layout w.blocks 1 w.single w.single_fits;
+      small = word_fits w.geometry.layout w.blocks 1 w.single one_some w.single_fits w.blocks_small (c.if-is_left.ensures.left.0 refl);
+    }
