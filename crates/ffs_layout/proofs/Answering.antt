@@ -15,17 +15,6 @@ use Rattle.ffs_volume.proofs.OutcomeLaws.{outcome_past_end, outcome_magic, outco
 pub taken : (at n : ℕ) (b xs : List ℕ) → length xs ≡ n → xs ≡ take (length xs) (drop at b) → xs ≡ piece at n b
 taken at n b xs long is = is ∙ ap (λ count. take count (drop at b)) long
 
-pub no_disagree : (at : ℕ) → Disagree ≡ CannotRead at → ⊥
-no_disagree at e = cc
-
-pub read_at : (count start at : ℕ) (sector : Option ℕ) → CannotRead start ≡ CannotRead at → start ≡ super_sector sector → count < start * 512 + 1376 → (at ≡ super_sector sector) × (count < at * 512 + 1376)
-read_at count start at sector e start_is h =
-    let same : start ≡ at = cc in
-    (sym same ∙ start_is, omega arith)
-
-pub sector_is : (at sector : ℕ) → CannotRead at ≡ CannotRead sector → at ≡ sector
-sector_is at sector e = cc
-
 module _ (contents : Option (List ℕ)) (count : ℕ) (sector : Option ℕ) (start : ℕ) (long : (b : List ℕ) → contents ≡ Some b → length b ≡ count) (start_is : start ≡ super_sector sector) where
   pub past_end : count < start * 512 + 1376 → (b : List ℕ) → contents ≡ Some b → outcome b sector ≡ Err (CannotRead start)
   past_end h b e =

@@ -1,6 +1,6 @@
 //! The rules that a layout has to meet.
 
-ghost use Rattle.std.specs.Prelude.{IsTrue, ◌≡◌, ◌<◌, ◌≤◌, ◌-◌, ◌*◌, ◌^◌};
+ghost use Rattle.std.specs.Prelude.{◌≡◌, ◌<◌};
 ghost use Rattle.ffs_volume.specs.Disk.Outcome.{are_cylinders, are_numbers, are_parts, are_sizes, is_block_size, is_fragment_count, is_fragment_size, is_shaped, is_summary_area, layout_fault};
 
 use crate::groups::groups_fit;
@@ -8,32 +8,28 @@ use ffs_volume::{Layout, SuperFault};
 
 #[tactic(auto, unfolding(ffs_volume::specs::Disk::Outcome::is_block_size))]
 fn can_be_block_size(n: u32) -> bool
-    ensures value { result ≡ is_block_size n }
-    ensures above { IsTrue result → 4096 ≤ n }
+    ensures { result ≡ is_block_size n }
 {
     matches!(n, 4096 | 8192 | 16384 | 32768 | 65536)
 }
 
 #[tactic(auto, unfolding(ffs_volume::specs::Disk::Outcome::is_fragment_size))]
 fn can_be_fragment_size(n: u32) -> bool
-    ensures value { result ≡ is_fragment_size n }
-    ensures above { IsTrue result → 512 ≤ n }
+    ensures { result ≡ is_fragment_size n }
 {
     matches!(n, 512 | 1024 | 2048 | 4096 | 8192 | 16384 | 32768 | 65536)
 }
 
 #[tactic(auto, unfolding(ffs_volume::specs::Disk::Outcome::is_fragment_count))]
 fn can_be_fragment_count(n: u32) -> bool
-    ensures value { result ≡ is_fragment_count n }
-    ensures above { IsTrue result → 1 ≤ n }
+    ensures { result ≡ is_fragment_count n }
 {
     matches!(n, 1 | 2 | 4 | 8)
 }
 
-#[tactic(auto, unfolding(ffs_volume::specs::Disk::Outcome::are_sizes))]
+#[tactic(auto, using(crate::proofs::Shapes::block_size_above, crate::proofs::Shapes::fragment_count_above), unfolding(ffs_volume::specs::Disk::Outcome::are_sizes))]
 fn has_sizes(v: &Layout) -> bool
-    ensures value { result ≡ are_sizes v.now }
-    ensures above { IsTrue result → 512 ≤ v.now.fsize }
+    ensures { result ≡ are_sizes v.now }
 {
     can_be_block_size(v.bsize)
         && can_be_fragment_size(v.fsize)
@@ -50,8 +46,7 @@ fn has_sizes(v: &Layout) -> bool
 #[tactic(auto, unfolding(ffs_volume::specs::Disk::Outcome::are_numbers))]
 fn has_numbers(v: &Layout) -> bool
     requires { 0 < v.now.ncg }
-    ensures value { result ≡ are_numbers v.now }
-    ensures below { IsTrue result → (v.now.ncg - 1) * v.now.fpg < 2 ^ 31 }
+    ensures { result ≡ are_numbers v.now }
 {
     let ncg = u64::from(v.ncg);
     let fpg = u64::from(v.fpg);
@@ -94,7 +89,7 @@ fn has_summary(v: &Layout) -> bool
         && end <= u64::from(v.fpg.min(v.size))
 }
 
-#[tactic(auto, unfolding(ffs_volume::specs::Disk::Outcome::is_shaped))]
+#[tactic(auto, using(crate::proofs::Shapes::fragments_above, crate::proofs::Shapes::bases_below), unfolding(ffs_volume::specs::Disk::Outcome::is_shaped))]
 fn has_shape(v: &Layout) -> bool
     requires { 0 < v.now.ncg }
     ensures { result ≡ is_shaped v.now }
