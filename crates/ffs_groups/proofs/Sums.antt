@@ -1,5 +1,6 @@
 -- Sums over numbers in a row.
-use Rattle.std.proofs.Common.{◌≡◌, ℕ, zero, suc, ◌+◌, ◌*◌, ◌<◌, ◌≤◌, Bool, [], ◌∷◌, map, cond, arith, refl, ap, ◌∙◌, count_by, ◌^◌}
+use mir.Val.{bool_byte}
+use Rattle.std.proofs.Common.{◌≡◌, ℕ, zero, suc, ◌+◌, ◌*◌, ◌<◌, ◌≤◌, Bool, true, false, [], ◌∷◌, map, cond, arith, refl, ap, ◌∙◌, count_by, ◌^◌}
 use Rattle.std.specs.List.{range_with_len, sum_by}
 use Rattle.std.proofs.lemmas.List.Sums.{sum_by-cons, count_by-le-length}
 use Rattle.std.proofs.lemmas.List.FromFn.{length-range_with_len}
@@ -54,3 +55,8 @@ count_more p a n count r b e f g =
 
 pub count_fits : (p : ℕ → Bool) (a n m count r : ℕ) (b : Bool) → count ≡ count_by p (range_with_len a n) → r ≡ cond b 1 0 → b ≡ p (a + n) → n < m → m < 2 ^ 32 → count + r < 2 ^ 32
 count_fits p a n m count r b e f g h fits = omega (arith, count_more p a n count r b e f g, count_within p a (n + 1))
+
+-- what a test is as a number
+pub one_if : (b : Bool) (n : ℕ) → n ≡ bool_byte b → n ≡ cond b 1 0
+one_if true n e = e
+one_if false n e = e

@@ -1,14 +1,14 @@
 -- Words with no free fragment or only free ones, and blocks past the end of the volume.
-use Rattle.std.proofs.Common.{◌≡◌, inl, inr, ℕ, zero, suc, ◌+◌, ◌-◌, ◌*◌, ◌/◌, ◌%◌, ◌^◌, ◌<◌, ◌≤◌, Bool, true, false, List, map, arith, refl, ap, ◌∙◌, sym, count_by, nat_eq, nat_lt, min, slice_index}
+use Rattle.std.proofs.Common.{◌≡◌, inl, inr, ℕ, zero, suc, ◌+◌, ◌-◌, ◌*◌, ◌/◌, ◌%◌, ◌^◌, ◌<◌, ◌≤◌, Bool, true, false, List, map, arith, refl, ap, ◌∙◌, sym, count_by, nat_eq, nat_lt, min, bit_and, slice_index}
 use Rattle.std.specs.Prelude.{◌==◌, ◌&&◌, not}
 use Rattle.std.specs.List.{range_with_len, sum_by}
 use Rattle.std.specs.Int.{bit_at, div_ceil}
 use Rattle.std.proofs.lemmas.Bool.{cases_lt}
 use Rattle.std.proofs.lemmas.Grind.{div_ceil_times}
 use Rattle.std.proofs.lemmas.Nat.{mul-add-lt, mul-le, div-add-mod'}
-use Rattle.std.proofs.lemmas.Nat.Bits.{bit_at-zero, bit_at_ones}
+use Rattle.std.proofs.lemmas.Nat.Bits.{bit_at-zero, bit_at_and, bit_at_ones}
 use Rattle.std.proofs.lemmas.List.Sums.{sum_by-cons}
-use Rattle.ffs_maps.proofs.Words.{bit_shr}
+use Rattle.ffs_maps.proofs.Words.{bit_shr, small}
 use Rattle.ffs_volume.specs.Blocks.Claims.{is_set}
 use Rattle.ffs_volume.specs.Disk.Areas.{cgbase}
 use Rattle.ffs_volume.specs.declared.Layout.{Layout}
@@ -112,6 +112,20 @@ pub full_word : (word frag n : ℕ) (old new : FreeCounts) → word ≡ 2 ^ 64 -
 full_word word frag n old new e fits blocks fragments runs =
     added_all (λ b. word_bits (word / 2 ^ (b * frag)) 0 frag) n old new (λ b h. adds_all (λ k. nat_eq (bit_at (word / 2 ^ (b * frag)) k) 1) 0 frag (λ k l. one_bit word frag n b k e fits h l)) blocks fragments runs
 
+-- ---- a block of which no fragment is free, by the mask that the code computes
+zero_of_min : (a b : ℕ) → b ≡ 1 → min a b ≡ 0 → a ≡ 0
+zero_of_min a b e h = omega arith
+
+pub none_by_mask : (bits n : ℕ) → n ≤ 8 → 0 < n → bit_and bits (1 * 2 ^ n % 2 ^ 64 - 1) ≡ 0 →
+    (whole_in (word_bits bits 0 n) ≡ 0) × (loose_in (word_bits bits 0 n) ≡ 0) × ((j : ℕ) → runs_in j (word_bits bits 0 n) ≡ 0)
+none_by_mask bits n few some e =
+    let mask : 1 * 2 ^ n % 2 ^ 64 - 1 ≡ 2 ^ n - 1 = small n (omega arith) in
+    let none : bit_and bits (2 ^ n - 1) ≡ 0 = ap (λ m. bit_and bits m) (sym mask) ∙ e in
+    adds_none (λ k. nat_eq (bit_at bits k) 1) 0 n some (λ k h.
+    let at : 0 + k ≡ k = omega arith in
+    let clear : bit_at bits k ≡ 0 = zero_of_min _ _ (bit_at_ones n k h) (sym (bit_at_and bits (2 ^ n - 1) k) ∙ ap (λ x. bit_at x k) none ∙ bit_at-zero k) in
+    ap (λ j. nat_eq (bit_at bits j) 1) at ∙ ap (λ x. nat_eq x 1) clear)
+
 -- ---- blocks past the end of the volume
 past : (used : List Bool) (size f : ℕ) → size ≤ f → free_in used size f ≡ false
 past used size f h = let e : nat_lt f size ≡ false = grind arith in ap (λ b. b && not (is_set used f)) e
@@ -155,9 +169,10 @@ next_base fpg c = omega arith
 pub free_there : (v : Layout) (used : List Bool) (c n fragments : ℕ) (new : FreeCounts) → 0 < v.frag → v.fpg % v.frag ≡ 0 → n ≡ div_ceil fragments v.frag → fragments ≤ v.fpg →
     fragments ≡ group_size v c → new.blocks ≡ sum_by (λ b. whole_in (block_bits v (free_in used v.size) c b)) (range_with_len 0 n) →
     new.fragments ≡ sum_by (λ b. loose_in (block_bits v (free_in used v.size) c b)) (range_with_len 0 n) →
-    ((k : ℕ) → slice_index new.runs k ≡ sum_by (λ b. runs_in k (block_bits v (free_in used v.size) c b)) (range_with_len 0 n)) → AreFree v (free_in used v.size) c new
+    ((k : ℕ) → slice_index new.runs k ≡ sum_by (λ b. runs_in k (block_bits v (free_in used v.size) c b)) (range_with_len 0 n)) →
+    new.blocks < 2 ^ 32 → new.fragments < 2 ^ 32 → AreFree v (free_in used v.size) c new
 unfolding right_frsum cgbase
-free_there v used c n fragments new some whole is within size blocks frags runs =
+free_there v used c n fragments new some whole is within size blocks frags runs blocks_fit fragments_fit =
     let cover = blocks_cover n fragments v.frag some is in
     let few : n ≤ v.fpg / v.frag = few_blocks n fragments v.frag v.fpg some cover.1 within whole in
     let ends : (b : ℕ) → n ≤ b → b < v.fpg / v.frag → v.size - v.fpg * c ≤ n * v.frag = λ b l h. ends_before n b fragments v.frag v.fpg (v.fpg * c) (v.fpg * (c + 1)) v.size some cover.0 l h (next_base v.fpg c) size in
@@ -165,6 +180,8 @@ free_there v used c n fragments new some whole is within size blocks frags runs 
       blocks = blocks ∙ sum_ends (λ b. whole_in (block_bits v (free_in used v.size) c b)) n (v.fpg / v.frag) few (λ b l h. (past_adds used (v.fpg * c) v.size v.frag n b some (ends b l h) l).0);
       fragments = frags ∙ sum_ends (λ b. loose_in (block_bits v (free_in used v.size) c b)) n (v.fpg / v.frag) few (λ b l h. (past_adds used (v.fpg * c) v.size v.frag n b some (ends b l h) l).1);
       runs = λ k. runs k ∙ sum_ends (λ b. runs_in k (block_bits v (free_in used v.size) c b)) n (v.fpg / v.frag) few (λ b l h. (past_adds used (v.fpg * c) v.size v.frag n b some (ends b l h) l).2 k);
+      blocks_fit = blocks_fit;
+      fragments_fit = fragments_fit;
     }
 
 pub fits_blocks : (x s n fragments frag size next base : ℕ) → x ≡ s → s ≤ n → 0 < frag → frag ≤ 8 → n ≡ div_ceil fragments frag → fragments ≡ min next size - base → size < 2 ^ 31 → x < 2 ^ 32

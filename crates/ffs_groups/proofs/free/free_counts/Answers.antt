@@ -53,31 +53,24 @@ all_added c =
     (c.from-base.ensures ∙ c.cgbase.ensures.value) c.from-2.ensures c.from-3.ensures))
     h (word_fits left c.args.geometry.now.layout.frag (omega (arith, c.loop-block-test.false)))))
 
-pub returns-clause-right : goal.returns-clause-right
-returns-clause-right c =
+pub returns : goal.returns
+returns c =
+    let v = c.args.geometry.now.layout in
+    let free = free_in (bits_of c.args.used.now) v.size in
+    let bits = block_bits v free c.args.group in
+    let n = c.div_ceil-blocks.result in
     let all = all_added c in
-    free_there c.args.geometry.now.layout (bits_of c.args.used.now) c.args.group c.div_ceil-blocks.result c.group_fragments.result c.add_word-2.new.self
-    c.args.geometry.now.sound.sizes.frag_low c.args.geometry.now.sound.sizes.whole_blocks c.div_ceil-blocks.ensures c.group_fragments.ensures.within c.group_fragments.ensures.value
-    (all.blocks ∙ count_start (λ b. whole_in (block_bits c.args.geometry.now.layout (free_in (bits_of c.args.used.now) c.args.geometry.now.layout.size) c.args.group b)) c.div_ceil-blocks.result c.div_ceil-blocks.result 0 refl refl)
-    (all.fragments ∙ count_start (λ b. loose_in (block_bits c.args.geometry.now.layout (free_in (bits_of c.args.used.now) c.args.geometry.now.layout.size) c.args.group b)) c.div_ceil-blocks.result c.div_ceil-blocks.result 0 refl refl)
-    (λ k. all.runs k ∙ count_start (λ b. runs_in k (block_bits c.args.geometry.now.layout (free_in (bits_of c.args.used.now) c.args.geometry.now.layout.size) c.args.group b)) c.div_ceil-blocks.result c.div_ceil-blocks.result _ (no_runs k) refl)
-
-pub returns-clause-blocks_fit : goal.returns-clause-blocks_fit
-returns-clause-blocks_fit c =
-    let all = all_added c in
-    fits_blocks c.add_word-2.new.self.blocks _ c.div_ceil-blocks.result c.group_fragments.result c.args.geometry.now.layout.frag c.args.geometry.now.layout.size _ _
-    (all.blocks ∙ count_start (λ b. whole_in (block_bits c.args.geometry.now.layout (free_in (bits_of c.args.used.now) c.args.geometry.now.layout.size) c.args.group b)) c.div_ceil-blocks.result c.div_ceil-blocks.result 0 refl refl)
-    (whole_fits (block_bits c.args.geometry.now.layout (free_in (bits_of c.args.used.now) c.args.geometry.now.layout.size) c.args.group) c.div_ceil-blocks.result)
-    c.args.geometry.now.sound.sizes.frag_low c.args.geometry.now.sound.sizes.frag_high c.div_ceil-blocks.ensures c.group_fragments.ensures.value c.args.geometry.now.sound.numbers.size_below
-
-pub returns-clause-fragments_fit : goal.returns-clause-fragments_fit
-returns-clause-fragments_fit c =
-    let all = all_added c in
-    fits_fragments c.add_word-2.new.self.fragments _ c.div_ceil-blocks.result c.group_fragments.result c.args.geometry.now.layout.frag c.args.geometry.now.layout.size _ _
-    (all.fragments ∙ count_start (λ b. loose_in (block_bits c.args.geometry.now.layout (free_in (bits_of c.args.used.now) c.args.geometry.now.layout.size) c.args.group b)) c.div_ceil-blocks.result c.div_ceil-blocks.result 0 refl refl)
-    (loose_fits (block_bits c.args.geometry.now.layout (free_in (bits_of c.args.used.now) c.args.geometry.now.layout.size) c.args.group) c.args.geometry.now.layout.frag c.div_ceil-blocks.result
-    (λ b. length-map-range_with_len (free_in (bits_of c.args.used.now) c.args.geometry.now.layout.size) (cgbase c.args.geometry.now.layout c.args.group + b * c.args.geometry.now.layout.frag) c.args.geometry.now.layout.frag))
-    c.args.geometry.now.sound.sizes.frag_low c.args.geometry.now.sound.sizes.frag_high c.div_ceil-blocks.ensures c.group_fragments.ensures.value c.args.geometry.now.sound.numbers.size_below
+    let blocks = all.blocks ∙ count_start (λ b. whole_in (bits b)) n n 0 refl refl in
+    let fragments = all.fragments ∙ count_start (λ b. loose_in (bits b)) n n 0 refl refl in
+    let sizes = c.args.geometry.now.sound.sizes in
+    free_there v (bits_of c.args.used.now) c.args.group n c.group_fragments.result c.add_word-2.new.self
+    sizes.frag_low sizes.whole_blocks c.div_ceil-blocks.ensures c.group_fragments.ensures.within c.group_fragments.ensures.value
+    blocks fragments (λ k. all.runs k ∙ count_start (λ b. runs_in k (bits b)) n n _ (no_runs k) refl)
+    (fits_blocks c.add_word-2.new.self.blocks _ n c.group_fragments.result v.frag v.size _ _ blocks (whole_fits bits n)
+    sizes.frag_low sizes.frag_high c.div_ceil-blocks.ensures c.group_fragments.ensures.value c.args.geometry.now.sound.numbers.size_below)
+    (fits_fragments c.add_word-2.new.self.fragments _ n c.group_fragments.result v.frag v.size _ _ fragments
+    (loose_fits bits v.frag n (λ b. length-map-range_with_len free (cgbase v c.args.group + b * v.frag) v.frag))
+    sizes.frag_low sizes.frag_high c.div_ceil-blocks.ensures c.group_fragments.ensures.value c.args.geometry.now.sound.numbers.size_below)
 
 pub add_word-requires-2-clause-below : goal.add_word-requires-2-clause-below
 add_word-requires-2-clause-below c =

@@ -43,6 +43,6 @@ loop-place-preserved c =
         fragments = omega (arith, w.end_run.ensures.fragments, c.loop-place.invariant.fragments, used_next c.args.bits c.loop-place.place (c.args.frag - c.loop-place.place) (c.args.frag - (c.loop-place.place + 1)) left (bit_clear c.args.bits c.loop-place.place w.if-bits-place-eq1.false));
         runs = λ k. omega (arith, w.end_run.ensures.runs k, c.loop-place.invariant.runs k, run_ends c.args.bits c.loop-place.place (c.args.frag - c.loop-place.place) (c.args.frag - (c.loop-place.place + 1)) c.loop-place.run k left (bit_clear c.args.bits c.loop-place.place w.if-bits-place-eq1.false));
         run = omega arith;
-        blocks = w.end_run.ensures.blocks ∙ c.loop-place.invariant.blocks;
+        blocks = omega (arith, w.end_run.ensures.blocks, c.loop-place.invariant.blocks);
       })
     ]
