@@ -1,5 +1,7 @@
 -- Blocks of one fragment.
-use Rattle.std.proofs.Common.{◌≡◌, inl, inr, ℕ, zero, suc, ◌+◌, ◌-◌, ◌*◌, ◌/◌, ◌^◌, ◌<◌, ◌≤◌, Bool, true, false, List, [], ◌∷◌, map, cond, get_or, arith, refl, ap, ◌∙◌, sym, nat_eq, min, bit_and, count_ones, count_by, slice_index}
+use Rattle.std.proofs.Common.{◌≡◌, inl, inr, ℕ, zero, suc, ◌+◌, ◌-◌, ◌*◌, ◌/◌, ◌^◌, ◌<◌, ◌≤◌, Bool, true, false, List}
+use Rattle.std.proofs.Common.{[], ◌∷◌, map, cond, get_or, arith, refl, ap, ◌∙◌, sym, nat_eq, min, bit_and, count_ones}
+use Rattle.std.proofs.Common.{count_by, slice_index}
 use Rattle.std.specs.List.{range_with_len, sum_by}
 use Rattle.std.specs.Int.{bit_at}
 use Rattle.std.proofs.lemmas.Bool.{cases_lt}
@@ -30,21 +32,27 @@ abbrev pub set_in : ℕ → ℕ → Bool
 set_in word k = nat_eq (bit_at word k) 1
 
 -- the set ones of the lowest n bits
-pub ones_below : (word n : ℕ) → n ≤ 64 → count_ones (bit_and word ((2 ^ 64 - 1) / 2 ^ (64 - n))) ≡ count_by (set_in word) (range_with_len 0 n)
+pub ones_below : (word n : ℕ) → n ≤ 64 →
+    count_ones (bit_and word ((2 ^ 64 - 1) / 2 ^ (64 - n))) ≡ count_by (set_in word) (range_with_len 0 n)
 ones_below word n h =
     let twice : 64 - (64 - n) ≡ n = omega arith in
-    let mask : (2 ^ 64 - 1) / 2 ^ (64 - n) ≡ 2 ^ n - 1 = ones_shr 64 (64 - n) (omega arith) ∙ ap (λ k. 2 ^ k - 1) twice in
+    let mask : (2 ^ 64 - 1) / 2 ^ (64 - n) ≡ 2 ^ n - 1 = ones_shr 64 (64 - n) (omega arith)
+    ∙ ap (λ k. 2 ^ k - 1) twice in
     ap (λ m. count_ones (bit_and word m)) mask
-    ∙ ap count_ones (same_from_bits (bit_and word (2 ^ n - 1)) (mask_l (map (set_in word) (range_with_len 0 n))) (λ i. at i ∙ sym (bit_mask_l (map (set_in word) (range_with_len 0 n)) i)))
+    ∙ ap count_ones (same_from_bits (bit_and word (2 ^ n - 1)) (mask_l (map (set_in word) (range_with_len 0 n)))
+    (λ i. at i ∙ sym (bit_mask_l (map (set_in word) (range_with_len 0 n)) i)))
     ∙ ones-mask_l (set_in word) (range_with_len 0 n)
   where
-    at : (i : ℕ) → bit_at (bit_and word (2 ^ n - 1)) i ≡ cond (get_or (map (set_in word) (range_with_len 0 n)) i false) 1 0
+    at : (i : ℕ) → bit_at (bit_and word (2 ^ n - 1)) i ≡ cond
+        (get_or (map (set_in word) (range_with_len 0 n)) i false) 1 0
     at i = elim (cases_lt i n) [
       | inl low ↦ bit_at_and word (2 ^ n - 1) i ∙ min_left _ _ (bit_at-lt word i) (bit_at_ones n i low)
           ∙ one_bit (bit_at word i) (bit_at-lt word i)
           ∙ ap (λ b. cond b 1 0) (sym (get_or-map-range_with_len (set_in word) 0 n i i false low (omega arith)))
       | inr past ↦ bit_at_and word (2 ^ n - 1) i ∙ min_zero (bit_at word i) _ (bit_at_ones_above n i past)
-          ∙ ap (λ b. cond b 1 0) (sym (get_or_past (map (set_in word) (range_with_len 0 n)) i false (omega (arith, past, length-map-range_with_len (set_in word) 0 n))))
+          ∙ ap (λ b. cond b 1 0)
+          (sym (get_or_past (map (set_in word) (range_with_len 0 n)) i false
+          (omega (arith, past, length-map-range_with_len (set_in word) 0 n))))
     ]
 
 -- what one fragment is as a block
@@ -64,28 +72,46 @@ first_bit : (word k : ℕ) → nat_eq (bit_at (word / 2 ^ k) 0) 1 ≡ nat_eq (bi
 first_bit word k = let at : 0 + k ≡ k = omega arith in ap (λ x. nat_eq x 1) (bit_shr word k 0 ∙ ap (bit_at word) at)
 
 -- blocks of one fragment are counted by the bits of a word
-pub added_single : (word n : ℕ) (old new : FreeCounts) → n ≤ 64 → new.blocks ≡ old.blocks + count_ones (bit_and word ((2 ^ 64 - 1) / 2 ^ (64 - n))) →
+pub added_single : (word n : ℕ) (old new : FreeCounts) → n ≤ 64 →
+    new.blocks ≡ old.blocks + count_ones (bit_and word ((2 ^ 64 - 1) / 2 ^ (64 - n))) →
     new.fragments ≡ old.fragments → ((j : ℕ) → slice_index new.runs j ≡ slice_index old.runs j) →
     Added (λ b. word_bits (word / 2 ^ b) 0 1) 0 n old new
 added_single word n old new h blocks fragments runs =
-    let whole : sum_by (λ b. whole_in (word_bits (word / 2 ^ b) 0 1)) (range_with_len 0 n) ≡ count_by (set_in word) (range_with_len 0 n) =
+    let whole : sum_by (λ b. whole_in (word_bits (word / 2 ^ b) 0 1)) (range_with_len 0 n) ≡ count_by (set_in word)
+    (range_with_len 0 n) =
     sum_same (λ b. whole_in (word_bits (word / 2 ^ b) 0 1)) (λ k. cond (set_in word k) 1 0) 0 0 n
     (λ k l. whole_one (nat_eq (bit_at (word / 2 ^ (0 + k)) 0) 1) ∙ ap (λ b. cond b 1 0) (first_bit word (0 + k))) in
     record {
       blocks = omega (arith, blocks, whole, ones_below word n h);
-      fragments = omega (arith, fragments, sum_const (λ b. loose_in (word_bits (word / 2 ^ b) 0 1)) 0 0 n (λ k l. loose_none (nat_eq (bit_at (word / 2 ^ (0 + k)) 0) 1)));
-      runs = λ j. omega (arith, runs j, sum_const (λ b. runs_in j (word_bits (word / 2 ^ b) 0 1)) 0 0 n (λ k l. run_none j (nat_eq (bit_at (word / 2 ^ (0 + k)) 0) 1)));
+      fragments = omega (
+        arith,
+        fragments,
+        sum_const (λ b. loose_in (word_bits (word / 2 ^ b) 0 1)) 0 0 n
+            (λ k l. loose_none (nat_eq (bit_at (word / 2 ^ (0 + k)) 0) 1)),
+      );
+      runs = λ j. omega (
+        arith,
+        runs j,
+        sum_const (λ b. runs_in j (word_bits (word / 2 ^ b) 0 1)) 0 0 n
+            (λ k l. run_none j (nat_eq (bit_at (word / 2 ^ (0 + k)) 0) 1)),
+      );
     }
 
 -- the same blocks, said otherwise
-added_same : (bits other : ℕ → List Bool) (n : ℕ) (old new : FreeCounts) → ((b : ℕ) → other b ≡ bits b) → Added other 0 n old new → Added bits 0 n old new
+added_same : (bits other : ℕ → List Bool) (n : ℕ) (old new : FreeCounts) → ((b : ℕ) → other b ≡ bits b) →
+    Added other 0 n old new → Added bits 0 n old new
 added_same bits other n old new same a = record {
-  blocks = a.blocks ∙ ap (λ s. old.blocks + s) (sum_same (λ b. whole_in (other b)) (λ b. whole_in (bits b)) 0 0 n (λ k h. ap whole_in (same (0 + k))));
-  fragments = a.fragments ∙ ap (λ s. old.fragments + s) (sum_same (λ b. loose_in (other b)) (λ b. loose_in (bits b)) 0 0 n (λ k h. ap loose_in (same (0 + k))));
-  runs = λ j. a.runs j ∙ ap (λ s. slice_index old.runs j + s) (sum_same (λ b. runs_in j (other b)) (λ b. runs_in j (bits b)) 0 0 n (λ k h. ap (runs_in j) (same (0 + k))));
+  blocks = a.blocks ∙ ap (λ s. old.blocks + s)
+      (sum_same (λ b. whole_in (other b)) (λ b. whole_in (bits b)) 0 0 n (λ k h. ap whole_in (same (0 + k))));
+  fragments = a.fragments
+      ∙ ap (λ s. old.fragments + s)
+      (sum_same (λ b. loose_in (other b)) (λ b. loose_in (bits b)) 0 0 n (λ k h. ap loose_in (same (0 + k))));
+  runs = λ j. a.runs j ∙ ap (λ s. slice_index old.runs j + s)
+      (sum_same (λ b. runs_in j (other b)) (λ b. runs_in j (bits b)) 0 0 n (λ k h. ap (runs_in j) (same (0 + k))));
 }
 
-pub added_of_one : (word frag n : ℕ) (old new : FreeCounts) → frag ≡ 1 → Added (λ b. word_bits (word / 2 ^ b) 0 1) 0 n old new →
+pub added_of_one : (word frag n : ℕ) (old new : FreeCounts) → frag ≡ 1 →
+    Added (λ b. word_bits (word / 2 ^ b) 0 1) 0 n old new →
     Added (λ b. word_bits (word / 2 ^ (b * frag)) 0 frag) 0 n old new
 added_of_one word frag n old new one a =
     added_same (λ b. word_bits (word / 2 ^ (b * frag)) 0 frag) (λ b. word_bits (word / 2 ^ b) 0 1) n old new

@@ -1,6 +1,6 @@
 //! The free blocks and fragments of a cylinder group.
 
-ghost use Rattle.std.specs.Prelude.{◌-◌, ◌*◌, ◌/◌, ◌^◌, ◌<◌, ◌≤◌, count_by, ◌==◌};
+ghost use Rattle.std.specs.Prelude.{◌-◌, ◌*◌, ◌/◌, ◌^◌, ◌≤◌, count_by, ◌==◌};
 ghost use Rattle.ffs_volume.specs.Groups.Records.{free_runs, run_of};
 ghost use Rattle.ffs_maps.specs.Bits.{bits_of};
 ghost use Rattle.ffs_groups.specs.Free.{word_bits, whole_in, loose_in, runs_in, AreBelow, HasBlocks, Grown, Added, AreFree, free_in};
@@ -56,8 +56,7 @@ impl FreeCounts {
 
     // Counts a block.
     fn add_block(&mut self, bits: u64, frag: u32)
-        requires some { 0 < frag }
-        requires frag { frag ≤ 8 }
+        requires block { HasBlocks 1 frag }
         requires below { AreBelow (2 ^ 63) self.old }
         ensures { Grown (whole_in (word_bits bits 0 frag)) (loose_in (word_bits bits 0 frag))
             (λ k. runs_in k (word_bits bits 0 frag)) self.old self.new }
@@ -71,15 +70,20 @@ impl FreeCounts {
         }
     }
 
-    // Counts the blocks of a word, each of one fragment.
-    fn add_single(&mut self, word: u64, blocks: u32)
-        requires blocks { blocks ≤ 64 }
+    // Counts the blocks of a word, of which some have free fragments.
+    #[inline(never)]
+    fn add_mixed(&mut self, word: u64, blocks: u32, frag: u32)
+        requires blocks { HasBlocks blocks frag }
         requires below { AreBelow (2 ^ 62) self.old }
-        ensures { Added (λ b. word_bits (word / 2 ^ b) 0 1) 0 blocks self.old self.new }
+        ensures { Added (λ b. word_bits (word / 2 ^ (b * frag)) 0 frag) 0 blocks self.old self.new }
     {
-        if blocks > 0 {
+        if frag == 1 && blocks > 0 {
             let free = word & (u64::MAX >> (64 - blocks));
             self.blocks += u64::from(free.count_ones());
+            return;
+        }
+        for block in 0..blocks {
+            self.add_block(word >> (block * frag), frag);
         }
     }
 
@@ -96,13 +100,7 @@ impl FreeCounts {
             self.blocks += u64::from(blocks);
             return;
         }
-        if frag == 1 {
-            self.add_single(word, blocks);
-            return;
-        }
-        for block in 0..blocks {
-            self.add_block(word >> (block * frag), frag);
-        }
+        self.add_mixed(word, blocks, frag);
     }
 }
 

@@ -23,8 +23,10 @@ pub faulted_there : (old new : Device) (sector : ℕ) → Faulted old new sector
 faulted_there old new sector f = record { contents = f.contents; size = f.size; failed = refl; rose = f.rose }
 
 -- a copy that isn't read is one whose read fails, since an accepted volume holds its copies
-pub copy_fault : (v : Layout) (old new : Device) (sector : Option ℕ) (order : Order) (bytes : List ℕ) (answer : SuperFault) (at : ℕ) → IsGeometry v →
-    v ≡ layout_of order bytes → v.size * v.fsize ≤ old.size → is_some sector ≡ false → at ≡ copy_place v → IsUnreadCopy old new at answer →
+pub copy_fault : (v : Layout) (old new : Device) (sector : Option ℕ) (order : Order) (bytes : List ℕ)
+    (answer : SuperFault) (at : ℕ) → IsGeometry v →
+    v ≡ layout_of order bytes → v.size * v.fsize ≤ old.size → is_some sector ≡ false → at ≡ copy_place v →
+    IsUnreadCopy old new at answer →
     IsCopyFault old new sector order bytes answer
 copy_fault v old new sector order bytes answer at geometry v_is inside none at_is unread =
     let place : at ≡ copy_place (layout_of order bytes) = at_is ∙ ap copy_place v_is in
@@ -37,6 +39,7 @@ copy_fault v old new sector order bytes answer at geometry v_is inside none at_i
       | inr past ↦ let held = copy_inside v geometry in absurd (omega (arith, past.1))
     ]
 
-pub seen_layout : (super : Super) (order : Order) (bytes : List ℕ) → seen super ≡ superblock_of order bytes → super.geometry.layout ≡ layout_of order bytes
+pub seen_layout : (super : Super) (order : Order) (bytes : List ℕ) → seen super ≡ superblock_of order bytes →
+    super.geometry.layout ≡ layout_of order bytes
 unfolding superblock_of
 seen_layout super order bytes e = ap (λ s. s.layout) e

@@ -25,13 +25,15 @@ pub record CopyAgrees (old new : Device) (sector : Option ℕ) (order : Order) (
   pub agrees : ForContents old.contents (λ b. copy_agrees b sector order bytes ≡ true)
 
 -- the last copy is compared, and the read of it fails
-pub record CopyUnread (old new : Device) (sector : Option ℕ) (order : Order) (bytes : List ℕ) (answer : SuperFault) : Type 0 where
+pub record CopyUnread (old new : Device) (sector : Option ℕ) (order : Order) (bytes : List ℕ)
+    (answer : SuperFault) : Type 0 where
   pub compared : sector ≡ None
   pub fault : answer ≡ CannotRead (copy_place (layout_of order bytes) / DEV_BSIZE)
   pub failed : Faulted old new (copy_place (layout_of order bytes) / DEV_BSIZE)
 
 -- the last copy differs
-pub record CopyDiffers (old new : Device) (sector : Option ℕ) (order : Order) (bytes : List ℕ) (answer : SuperFault) : Type 0 where
+pub record CopyDiffers (old new : Device) (sector : Option ℕ) (order : Order) (bytes : List ℕ)
+    (answer : SuperFault) : Type 0 where
   pub same : new ≡ old
   pub fault : answer ≡ Disagree
   pub differs : ForContents old.contents (λ b. copy_agrees b sector order bytes ≡ false)

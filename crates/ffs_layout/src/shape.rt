@@ -45,7 +45,6 @@ fn has_sizes(v: &Layout) -> bool
 
 #[tactic(auto, unfolding(ffs_volume::specs::Disk::Outcome::are_numbers))]
 fn has_numbers(v: &Layout) -> bool
-    requires { 0 < v.now.ncg }
     ensures { result ≡ are_numbers v.now }
 {
     let ncg = u64::from(v.ncg);
@@ -55,7 +54,7 @@ fn has_numbers(v: &Layout) -> bool
         && v.maxsymlinklen <= 60
         && v.postblformat == 1
         && v.sbsize >= 1376
-        && (ncg - 1) * fpg < size
+        && ncg.saturating_sub(1) * fpg < size
         && size <= ncg * fpg
         && size < 1 << 31
         && ncg * u64::from(v.ipg) < 1 << 31
@@ -91,7 +90,6 @@ fn has_summary(v: &Layout) -> bool
 
 #[tactic(auto, using(crate::proofs::Shapes::fragments_above, crate::proofs::Shapes::bases_below), unfolding(ffs_volume::specs::Disk::Outcome::is_shaped))]
 fn has_shape(v: &Layout) -> bool
-    requires { 0 < v.now.ncg }
     ensures { result ≡ is_shaped v.now }
 {
     // The summary area bounds the number of groups by the size of one.
@@ -129,11 +127,10 @@ pub fn fault_of(v: &Layout, image_size: u64) -> Option<SuperFault>
 
 #[tactic(auto, unfolding(ffs_volume::specs::Disk::Outcome::are_cylinders))]
 fn has_cylinders(v: &Layout) -> bool
-    requires { 0 < v.now.ncg }
     ensures { result ≡ are_cylinders v.now }
 {
     let ncg = u64::from(v.ncg);
     let cpg = u64::from(v.cpg);
     let ncyl = u64::from(v.ncyl);
-    ncyl <= ncg * cpg && (ncg - 1) * cpg < ncyl
+    ncyl <= ncg * cpg && ncg.saturating_sub(1) * cpg < ncyl
 }

@@ -19,7 +19,11 @@ returns-in_err-read_copy-clause-answer g c =
         (unread.fault ∙ ap CannotRead (sym failed.failed), faulted_there _ _ _ failed),
         λ b e. inl (failed.failed ∙ back ∙ start),
       )
-      | inr past ↦ inr (past.0, λ b e. sym (past_end _ _ c.args.sector _ long start past.1 b e ∙ ap Err (sym (unread.fault ∙ ap CannotRead back))))
+      | inr past ↦ inr (
+        past.0,
+        λ b e. sym (past_end _ _ c.args.sector _ long start past.1 b e
+            ∙ ap Err (sym (unread.fault ∙ ap CannotRead back))),
+      )
     ])
 
 pub returns-in_default-clause-answer : goal.returns-in_default-clause-answer
@@ -27,7 +31,11 @@ returns-in_default-clause-answer g c =
     let copy = c.in_ok-read_copy.ensures in
     let start = c.from-start.ensures ∙ c.first_sector.ensures in
     let long = reported_length _ _ (g.met.I.Image.sized c.args.image.now) in
-    inr (copy.same, λ b e. sym (magic _ _ c.args.sector _ long start _ copy.inside copy.bytes (sym c.in_default.ensures) b e))
+    inr (
+      copy.same,
+      λ b e. sym
+          (magic _ _ c.args.sector _ long start _ copy.inside copy.bytes (sym c.in_default.ensures) b e),
+    )
 
 pub returns-in_err-geometry-clause-unread : goal.returns-in_err-geometry-clause-unread
 returns-in_err-geometry-clause-unread g c =
@@ -41,7 +49,11 @@ returns-in_err-geometry-clause-answer g c =
     let start = c.from-start.ensures ∙ c.first_sector.ensures in
     let long = reported_length _ _ (g.met.I.Image.sized c.args.image.now) in
     let refused = rw (c.decode.ensures, c.size.ensures, copy.same) at c.in_err-geometry.ensures in
-    rw (p.1, p.2) (inr (copy.same, λ b e. sym (fault _ _ c.args.sector _ long start _ copy.inside copy.bytes _ (sym c.in-Some.ensures) _ refused b e)))
+    rw (p.1, p.2) (inr (
+      copy.same,
+      λ b e. sym (fault _ _ c.args.sector _ long start _ copy.inside copy.bytes _
+          (sym c.in-Some.ensures) _ refused b e),
+    ))
 
 pub returns-in_err-check_copy-clause-answer : goal.returns-in_err-check_copy-clause-answer
 returns-in_err-check_copy-clause-answer g c =
@@ -57,13 +69,15 @@ returns-in_err-check_copy-clause-answer g c =
         λ b e.
             inr (
               unread.compared,
-              copy_sector _ _ c.args.sector _ long start _ copy.inside copy.bytes _ (sym c.in-Some.ensures) _ refl _ unread.failed.failed b e,
+              copy_sector _ _ c.args.sector _ long start _ copy.inside copy.bytes _
+                  (sym c.in-Some.ensures) _ refl _ unread.failed.failed b e,
             ),
       )
       | inr differs ↦ inr (
         differs.same,
         λ b e.
-            sym (disagree _ _ c.args.sector _ long start _ copy.inside copy.bytes _ (sym c.in-Some.ensures) good differs.differs b e
+            sym (disagree _ _ c.args.sector _ long start _ copy.inside copy.bytes _
+            (sym c.in-Some.ensures) good differs.differs b e
             ∙ ap Err (sym differs.fault)),
       )
     ])
@@ -72,7 +86,8 @@ pub returns-clause-in_image : goal.returns-clause-in_image
 returns-clause-in_image g c =
     let copy = c.in_ok-read_copy.ensures in
     let inside = rw (c.size.ensures, copy.same) at c.in_ok-geometry.ensures.in_image in
-    let layout = seen_layout c.make_super.result c.in-Some.order _ c.make_super.ensures ∙ sym (c.in_ok-geometry.ensures.layout ∙ c.decode.ensures) in
+    let layout = seen_layout c.make_super.result c.in-Some.order _ c.make_super.ensures
+    ∙ sym (c.in_ok-geometry.ensures.layout ∙ c.decode.ensures) in
     rw layout inside
 
 pub returns-clause-answer : goal.returns-clause-answer
@@ -85,6 +100,7 @@ returns-clause-answer g c =
     inr (
       compared.same,
       λ b e.
-          sym (accepted _ _ c.args.sector _ long start _ copy.inside copy.bytes _ (sym c.in-Some.ensures) good compared.agrees b e
+          sym (accepted _ _ c.args.sector _ long start _ copy.inside copy.bytes _
+          (sym c.in-Some.ensures) good compared.agrees b e
           ∙ ap Ok (sym c.make_super.ensures)),
     )
