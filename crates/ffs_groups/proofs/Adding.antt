@@ -1,5 +1,6 @@
 -- Blocks are added one after the other, and word after word.
-use Rattle.std.proofs.Common.{◌≡◌, ℕ, zero, suc, ◌+◌, ◌*◌, ◌/◌, ◌%◌, ◌^◌, ◌<◌, ◌≤◌, Bool, true, false, List, [], ◌∷◌, map, length, cond, arith, refl, ap, ◌∙◌, sym, count_by, nat_eq, slice_index}
+use Rattle.std.proofs.Common.{◌≡◌, ℕ, zero, suc, ◌+◌, ◌*◌, ◌/◌, ◌%◌, ◌^◌, ◌<◌, ◌≤◌, Bool, true, false, List, [], ◌∷◌}
+use Rattle.std.proofs.Common.{map, length, cond, arith, refl, ap, ◌∙◌, sym, count_by, nat_eq, slice_index}
 use Rattle.std.specs.Prelude.{◌==◌, ◌&&◌}
 use Rattle.std.specs.List.{range_with_len, sum_by}
 use Rattle.std.specs.Int.{bit_at}
@@ -14,7 +15,8 @@ use Rattle.ffs_groups.proofs.Sums.{sum_split, sum_more, sum_same, sum_within, ma
 use Rattle.ffs_groups.proofs.MapWords.{map_parts}
 use Rattle.ffs_groups.proofs.Runs.{runs_few}
 
-from_zero : (f : ℕ → ℕ) (n m : ℕ) → sum_by f (range_with_len 0 (n + m)) ≡ sum_by f (range_with_len 0 n) + sum_by f (range_with_len n m)
+from_zero : (f : ℕ → ℕ) (n m : ℕ) →
+    sum_by f (range_with_len 0 (n + m)) ≡ sum_by f (range_with_len 0 n) + sum_by f (range_with_len n m)
 from_zero f n m =
     let at : 0 + n ≡ n = omega arith in
     sum_split f 0 n m (n + m) refl ∙ ap (λ j. sum_by f (range_with_len 0 n) + sum_by f (range_with_len j m)) at
@@ -32,25 +34,33 @@ pub added_more : (bits : ℕ → List Bool) (n : ℕ) (old mid new : FreeCounts)
     new.blocks ≡ mid.blocks + whole_in (bits n) → new.fragments ≡ mid.fragments + loose_in (bits n) →
     ((k : ℕ) → slice_index new.runs k ≡ slice_index mid.runs k + runs_in k (bits n)) → Added bits 0 (n + 1) old new
 added_more bits n old mid new a blocks fragments runs = record {
-  blocks = add_up new.blocks mid.blocks old.blocks _ (whole_in (bits n)) _ a.blocks blocks (one_from_zero (λ b. whole_in (bits b)) n);
-  fragments = add_up new.fragments mid.fragments old.fragments _ (loose_in (bits n)) _ a.fragments fragments (one_from_zero (λ b. loose_in (bits b)) n);
-  runs = λ k. add_up (slice_index new.runs k) (slice_index mid.runs k) (slice_index old.runs k) _ (runs_in k (bits n)) _ (a.runs k) (runs k) (one_from_zero (λ b. runs_in k (bits b)) n);
+  blocks = add_up new.blocks mid.blocks old.blocks _ (whole_in (bits n)) _ a.blocks blocks
+      (one_from_zero (λ b. whole_in (bits b)) n);
+  fragments = add_up new.fragments mid.fragments old.fragments _ (loose_in (bits n)) _ a.fragments fragments
+      (one_from_zero (λ b. loose_in (bits b)) n);
+  runs = λ k. add_up (slice_index new.runs k) (slice_index mid.runs k) (slice_index old.runs k) _ (runs_in k (bits n)) _
+      (a.runs k) (runs k) (one_from_zero (λ b. runs_in k (bits b)) n);
 }
 
 joined_sums : (f : List Bool → ℕ) (bits other : ℕ → List Bool) (n m : ℕ) → ((k : ℕ) → k < m → other k ≡ bits (n + k)) →
-    sum_by (λ b. f (bits b)) (range_with_len 0 (n + m)) ≡ sum_by (λ b. f (bits b)) (range_with_len 0 n) + sum_by (λ b. f (other b)) (range_with_len 0 m)
+    sum_by (λ b. f (bits b)) (range_with_len 0 (n + m)) ≡ sum_by (λ b. f (bits b)) (range_with_len 0 n) + sum_by
+    (λ b. f (other b)) (range_with_len 0 m)
 joined_sums f bits other n m same =
     from_zero (λ b. f (bits b)) n m
     ∙ ap (λ x. sum_by (λ b. f (bits b)) (range_with_len 0 n) + x)
-    (sum_same (λ b. f (bits b)) (λ b. f (other b)) n 0 m (λ k h. let at : 0 + k ≡ k = omega arith in sym (ap (λ j. f (other j)) at ∙ ap f (same k h))))
+    (sum_same (λ b. f (bits b)) (λ b. f (other b)) n 0 m
+    (λ k h. let at : 0 + k ≡ k = omega arith in sym (ap (λ j. f (other j)) at ∙ ap f (same k h))))
 
 -- the blocks of a word more
-pub added_join : (bits other : ℕ → List Bool) (n m : ℕ) (old mid new : FreeCounts) → Added bits 0 n old mid → Added other 0 m mid new →
+pub added_join : (bits other : ℕ → List Bool) (n m : ℕ) (old mid new : FreeCounts) → Added bits 0 n old mid →
+    Added other 0 m mid new →
     ((k : ℕ) → k < m → other k ≡ bits (n + k)) → Added bits 0 (n + m) old new
 added_join bits other n m old mid new a b same = record {
   blocks = add_up new.blocks mid.blocks old.blocks _ _ _ a.blocks b.blocks (joined_sums whole_in bits other n m same);
-  fragments = add_up new.fragments mid.fragments old.fragments _ _ _ a.fragments b.fragments (joined_sums loose_in bits other n m same);
-  runs = λ k. add_up (slice_index new.runs k) (slice_index mid.runs k) (slice_index old.runs k) _ _ _ (a.runs k) (b.runs k) (joined_sums (runs_in k) bits other n m same);
+  fragments = add_up new.fragments mid.fragments old.fragments _ _ _ a.fragments b.fragments
+      (joined_sums loose_in bits other n m same);
+  runs = λ k. add_up (slice_index new.runs k) (slice_index mid.runs k) (slice_index old.runs k) _ _ _ (a.runs k)
+      (b.runs k) (joined_sums (runs_in k) bits other n m same);
 }
 
 whole_few : (bits : List Bool) → whole_in bits ≤ 8
@@ -78,17 +88,23 @@ below_more : (new old s n limit low : ℕ) → new ≡ old + s → s ≤ n * 8 �
 below_more new old s n limit low e h l fits = omega arith
 
 -- n blocks add at most 8 times n to any count
-pub added_below : (bits : ℕ → List Bool) (n low limit : ℕ) (old new : FreeCounts) → Added bits 0 n old new → ((b : ℕ) → length (bits b) ≤ 8) →
+pub added_below : (bits : ℕ → List Bool) (n low limit : ℕ) (old new : FreeCounts) → Added bits 0 n old new →
+    ((b : ℕ) → length (bits b) ≤ 8) →
     AreBelow low old → low + 8 * n ≤ limit → AreBelow limit new
 added_below bits n low limit old new a short l fits = record {
-  blocks = below_more new.blocks old.blocks _ n limit low a.blocks (sum_within (λ b. whole_in (bits b)) 8 0 n (λ k. whole_few (bits k))) l.blocks fits;
-  fragments = below_more new.fragments old.fragments _ n limit low a.fragments (sum_within (λ b. loose_in (bits b)) 8 0 n (λ k. loose_few (bits k) (short k))) l.fragments fits;
-  runs = λ j. below_more (slice_index new.runs j) (slice_index old.runs j) _ n limit low (a.runs j) (sum_within (λ b. runs_in j (bits b)) 8 0 n (λ k. run_few j (bits k) (short k))) (l.runs j) fits;
+  blocks = below_more new.blocks old.blocks _ n limit low a.blocks
+      (sum_within (λ b. whole_in (bits b)) 8 0 n (λ k. whole_few (bits k))) l.blocks fits;
+  fragments = below_more new.fragments old.fragments _ n limit low a.fragments
+      (sum_within (λ b. loose_in (bits b)) 8 0 n (λ k. loose_few (bits k) (short k))) l.fragments fits;
+  runs = λ j. below_more (slice_index new.runs j) (slice_index old.runs j) _ n limit low (a.runs j)
+      (sum_within (λ b. runs_in j (bits b)) 8 0 n (λ k. run_few j (bits k) (short k))) (l.runs j) fits;
 }
 
 -- a block of a word, in the numbers of the volume
-pub word_block : (free : ℕ → Bool) (word start frag block k some : ℕ) → ((j : ℕ) → j < 64 → nat_eq (bit_at word j) 1 ≡ free (start + block * frag + j)) →
-    k < some → some * frag ≤ 64 → word_bits (word / 2 ^ (k * frag)) 0 frag ≡ map free (range_with_len (start + (block + k) * frag) frag)
+pub word_block : (free : ℕ → Bool) (word start frag block k some : ℕ) →
+    ((j : ℕ) → j < 64 → nat_eq (bit_at word j) 1 ≡ free (start + block * frag + j)) →
+    k < some → some * frag ≤ 64 →
+    word_bits (word / 2 ^ (k * frag)) 0 frag ≡ map free (range_with_len (start + (block + k) * frag) frag)
 word_block free word start frag block k some has low fits =
     map_same (λ j. nat_eq (bit_at (word / 2 ^ (k * frag)) j) 1) free 0 (start + (block + k) * frag) frag (λ j h.
     let at : 0 + j ≡ j = omega arith in
@@ -111,12 +127,15 @@ no_runs (suc (suc (suc (suc (suc (suc (suc zero))))))) = refl
 no_runs (suc (suc (suc (suc (suc (suc (suc (suc zero)))))))) = refl
 no_runs (suc (suc (suc (suc (suc (suc (suc (suc (suc k))))))))) = refl
 
-pub count_start : (f : ℕ → ℕ) (n m z : ℕ) → z ≡ 0 → n ≡ m → z + sum_by f (range_with_len 0 n) ≡ sum_by f (range_with_len 0 m)
+pub count_start : (f : ℕ → ℕ) (n m z : ℕ) → z ≡ 0 → n ≡ m →
+    z + sum_by f (range_with_len 0 n) ≡ sum_by f (range_with_len 0 m)
 count_start f n m z e same =
-    let last : sum_by f (range_with_len 0 n) ≡ sum_by f (range_with_len 0 m) = ap (λ j. sum_by f (range_with_len 0 j)) same in
+    let last : sum_by f (range_with_len 0 n) ≡ sum_by f (range_with_len 0 m) =
+    ap (λ j. sum_by f (range_with_len 0 j)) same in
     omega (arith, e, last)
 
-pub clear_as_free : (used : List Bool) (size size' f g : ℕ) → size ≡ size' → f ≡ g → is_clear used size f ≡ free_in used size' g
+pub clear_as_free : (used : List Bool) (size size' f g : ℕ) → size ≡ size' → f ≡ g →
+    is_clear used size f ≡ free_in used size' g
 clear_as_free used size size' f g e at = rw (e, at) refl
 
 pub place_is : (a b f a' b' f' j : ℕ) → a ≡ a' → b ≡ b' → f ≡ f' → a + b * f + j ≡ a' + b' * f' + j
@@ -139,17 +158,23 @@ whole_one bits = go (is_whole bits)
     go true = omega arith
     go false = omega arith
 
-pub loose_fits : (bits : ℕ → List Bool) (frag n : ℕ) → ((b : ℕ) → length (bits b) ≡ frag) → sum_by (λ b. loose_in (bits b)) (range_with_len 0 n) ≤ n * frag
-loose_fits bits frag n len = omega (arith, sum_within (λ b. loose_in (bits b)) frag 0 n (λ k. omega (arith, loose_length (bits k), len k)))
+pub loose_fits : (bits : ℕ → List Bool) (frag n : ℕ) → ((b : ℕ) → length (bits b) ≡ frag) →
+    sum_by (λ b. loose_in (bits b)) (range_with_len 0 n) ≤ n * frag
+loose_fits bits frag n len =
+    omega (arith, sum_within (λ b. loose_in (bits b)) frag 0 n (λ k. omega (arith, loose_length (bits k), len k)))
 
 pub whole_fits : (bits : ℕ → List Bool) (n : ℕ) → sum_by (λ b. whole_in (bits b)) (range_with_len 0 n) ≤ n
 whole_fits bits n = omega (arith, sum_within (λ b. whole_in (bits b)) 1 0 n (λ k. whole_one (bits k)))
 
 -- a map of fragments, by its whole words and the bits after them
-pub fragment_map : (used : List Bool) (size size' : ℕ) (block : List ℕ) (place n n' base base' last at : ℕ) (first end : Bool) → size ≡ size' → n ≡ n' → base ≡ base' →
-    last ≡ base + 64 * (n / 64) → at ≡ place + 8 * (n / 64) → first ≡ has_bits block place (64 * (n / 64)) (λ k. free_in used size (base + k)) →
-    end ≡ has_bits block at (n % 64) (λ k. free_in used size (last + k)) → (first && end) ≡ has_bits block place n' (λ k. free_in used size' (base' + k))
-fragment_map used size size' block place n n' base base' last at first end sizes fragments bases is_last is_at is_first is_end =
+pub fragment_map : (used : List Bool) (size size' : ℕ) (block : List ℕ) (place n n' base base' last at : ℕ)
+    (first end : Bool) → size ≡ size' → n ≡ n' → base ≡ base' →
+    last ≡ base + 64 * (n / 64) → at ≡ place + 8 * (n / 64) →
+    first ≡ has_bits block place (64 * (n / 64)) (λ k. free_in used size (base + k)) →
+    end ≡ has_bits block at (n % 64) (λ k. free_in used size (last + k)) →
+    (first && end) ≡ has_bits block place n' (λ k. free_in used size' (base' + k))
+fragment_map used size size' block place n n' base base' last at first end sizes fragments bases is_last is_at is_first
+    is_end =
     ap (λ b. b && end) is_first
     ∙ ap (λ b. has_bits block place (64 * (n / 64)) (λ k. free_in used size (base + k)) && b)
     (is_end ∙ ap (λ j. has_bits block at (n % 64) (λ k. free_in used size (j + k))) is_last)

@@ -1,5 +1,6 @@
 -- A word of a map that is read at once.
-use Rattle.std.proofs.Common.{◌≡◌, inl, inr, ℕ, zero, suc, ◌+◌, ◌-◌, ◌*◌, ◌/◌, ◌%◌, ◌^◌, ◌<◌, List, drop, slice_index, arith, ap, ◌∙◌, nat_eq}
+use Rattle.std.proofs.Common.{◌≡◌, inl, inr, ℕ, zero, suc, ◌+◌, ◌-◌, ◌*◌, ◌/◌, ◌%◌, ◌^◌, ◌<◌, List, drop, slice_index}
+use Rattle.std.proofs.Common.{arith, ap, ◌∙◌, nat_eq}
 use Rattle.std.specs.Int.{bit_at}
 use Rattle.std.proofs.lemmas.Bool.{cases_lt}
 use Rattle.std.proofs.lemmas.List.{get_or-drop}
@@ -33,7 +34,8 @@ little_bit (suc n) i xs fits k h =
     ]
 
 -- the bits of eight bytes of a map
-pub whole_word : (map : List ℕ) (place word : ℕ) → ((j : ℕ) → slice_index map j < 256) → word ≡ little_from 0 8 (drop place map) →
+pub whole_word : (map : List ℕ) (place word : ℕ) → ((j : ℕ) → slice_index map j < 256) →
+    word ≡ little_from 0 8 (drop place map) →
     (k : ℕ) → k < 64 → nat_eq (bit_at word k) 1 ≡ map_bit map place k
 whole_word map place word fits is k h =
     ap (λ x. nat_eq (bit_at x k) 1) is
@@ -41,7 +43,9 @@ whole_word map place word fits is k h =
     ∙ ap (λ x. nat_eq (bit_at x (k % 8)) 1) (at (k / 8))
   where
     at : (j : ℕ) → slice_index (drop place map) (0 + j) ≡ slice_index map (place + j)
-    at j = let same : 0 + j ≡ j = omega arith in ap (λ i. slice_index (drop place map) i) same ∙ get_or-drop place map j 0
+    at j = let same : 0 + j ≡ j = omega arith in ap (λ i. slice_index (drop place map) i) same
+        ∙ get_or-drop place map j 0
 
     moved : (j : ℕ) → slice_index (drop place map) j < 256
-    moved j = let e : slice_index (drop place map) j ≡ slice_index map (place + j) = get_or-drop place map j 0 in omega (arith, e, fits (place + j))
+    moved j = let e : slice_index (drop place map) j ≡ slice_index map (place + j) =
+        get_or-drop place map j 0 in omega (arith, e, fits (place + j))

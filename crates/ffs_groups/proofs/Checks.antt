@@ -15,7 +15,8 @@ use Rattle.ffs_groups.proofs.MapWords.{same_below}
 use Rattle.ffs_groups.proofs.Signs.{bits_are}
 
 -- the summary of an image is compared as the words in its bytes
-pub summary_as : (v : Layout) (place : ℕ) (bytes : List ℕ) (right : SummaryCounts) → ((k : ℕ) → slice_index bytes k < 256) →
+pub summary_as : (v : Layout) (place : ℕ) (bytes : List ℕ) (right : SummaryCounts) →
+    ((k : ℕ) → slice_index bytes k < 256) →
     same_counts (summary_of v.order place bytes) right ≡ has_summary v place bytes (counted right)
 summary_as v place bytes right h = rw (
   bits_are v.order place bytes right.dirs h,
@@ -25,12 +26,15 @@ summary_as v place bytes right h = rw (
 ) refl
 
 run_as : (v : Layout) (block : List ℕ) (runs : List ℕ) (k : ℕ) → ((k : ℕ) → slice_index block k < 256) → k < 8 →
-    same_run (map (λ j. i32_at v.order (52 + 4 * j) block) (range_with_len 0 8)) runs k ≡ (u32_at v.order (52 + 4 * k) block == slice_index runs k)
+    same_run (map (λ j. i32_at v.order (52 + 4 * j) block) (range_with_len 0 8)) runs k ≡
+    (u32_at v.order (52 + 4 * k) block == slice_index runs k)
 run_as v block runs k h l =
-    ap (λ x. has_bits_of x (slice_index runs k)) (get_or-map-range_with_len (λ j. i32_at v.order (52 + 4 * j) block) 0 8 k k (pos 0) l (omega arith))
+    ap (λ x. has_bits_of x (slice_index runs k))
+    (get_or-map-range_with_len (λ j. i32_at v.order (52 + 4 * j) block) 0 8 k k (pos 0) l (omega arith))
     ∙ bits_are v.order (52 + 4 * k) block (slice_index runs k) h
 
-pub sums_as : (v : Layout) (free : ℕ → Bool) (class : ℕ → Class) (c : ℕ) (block : List ℕ) (counts : Counts) → ((k : ℕ) → slice_index block k < 256) → AreCounts v free class c counts →
+pub sums_as : (v : Layout) (free : ℕ → Bool) (class : ℕ → Class) (c : ℕ) (block : List ℕ) (counts : Counts) →
+    ((k : ℕ) → slice_index block k < 256) → AreCounts v free class c counts →
     (has_bits_of (i32_at v.order 12 block) c && (has_bits_of (i32_at v.order 20 block) (group_size v c)
     && (same_counts (summary_of v.order 24 block) counts.summary
     && all_below 8 (λ k. same_run (map (λ j. i32_at v.order (52 + 4 * j) block) (range_with_len 0 8)) counts.runs k))))
@@ -39,12 +43,15 @@ unfolding are_sums
 sums_as v free class c block counts h right =
     all_four _ _ _ _ _ _ _ _ (bits_are v.order 12 block c h) (bits_are v.order 20 block (group_size v c) h)
     (summary_as v 24 block counts.summary h ∙ ap (has_summary v 24 block) right.summary)
-    (same_below 8 (λ k. same_run (map (λ j. i32_at v.order (52 + 4 * j) block) (range_with_len 0 8)) counts.runs k) (λ k. u32_at v.order (52 + 4 * k) block == right_frsum v free c k)
+    (same_below 8 (λ k. same_run (map (λ j. i32_at v.order (52 + 4 * j) block) (range_with_len 0 8)) counts.runs k)
+    (λ k. u32_at v.order (52 + 4 * k) block == right_frsum v free c k)
     (λ k l. run_as v block counts.runs k h l ∙ ap (λ x. u32_at v.order (52 + 4 * k) block == x) (right.runs k)))
   where
-    all_four : (a b c d a' b' c' d' : Bool) → a ≡ a' → b ≡ b' → c ≡ c' → d ≡ d' → (a && (b && (c && d))) ≡ (a' && (b' && (c' && d')))
+    all_four : (a b c d a' b' c' d' : Bool) → a ≡ a' → b ≡ b' → c ≡ c' → d ≡ d' →
+        (a && (b && (c && d))) ≡ (a' && (b' && (c' && d')))
     all_four a b c d a' b' c' d' p q r s = rw (p, q, r, s) refl
 
 pub same_summary_of : (a b i f a' b' i' f' : ℕ) → a ≡ a' → b ≡ b' → i ≡ i' → f ≡ f' →
-    Path Summary (record { dirs = a; blocks = b; inodes = i; fragments = f }) (record { dirs = a'; blocks = b'; inodes = i'; fragments = f' })
+    Path Summary (record { dirs = a; blocks = b; inodes = i; fragments = f })
+    (record { dirs = a'; blocks = b'; inodes = i'; fragments = f' })
 same_summary_of a b i f a' b' i' f' p q r s = rw (p, q, r, s) refl

@@ -8,3 +8,4 @@ pub mod Checks
 pub mod Words
 pub mod Bytes
 pub mod Skipping
+pub mod Single

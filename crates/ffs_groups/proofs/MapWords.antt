@@ -1,10 +1,12 @@
 -- The words of a map.
-use Rattle.std.proofs.Common.{◌≡◌, inl, inr, ℕ, zero, suc, ◌+◌, ◌-◌, ◌*◌, ◌/◌, ◌%◌, ◌^◌, ◌<◌, ◌≤◌, Bool, true, false, List, arith, refl, ap, ◌∙◌, sym, nat_eq, min, max, bit_and, bit_or, slice_index}
+use Rattle.std.proofs.Common.{◌≡◌, inl, inr, ℕ, zero, suc, ◌+◌, ◌-◌, ◌*◌, ◌/◌, ◌%◌, ◌^◌, ◌<◌, ◌≤◌, Bool, true, false}
+use Rattle.std.proofs.Common.{List, arith, refl, ap, ◌∙◌, sym, nat_eq, min, max, bit_and, bit_or, slice_index}
 use Rattle.std.specs.Prelude.{◌&&◌}
 use Rattle.std.specs.Int.{bit_at, w64}
 use Rattle.std.specs.Int.RustNames.{bit_xor}
 use Rattle.std.proofs.lemmas.Bool.{cases_lt, and_parts, true≢false}
-use Rattle.std.proofs.lemmas.Nat.Bits.{bit_at_and, bit_at_or, bit_at_xor, bit_at-lt, bit_at-zero, bit_at_ones, bit_at_ones_above, bit_at_above, same_from_bits, ones_shr, bit_at_set_same}
+use Rattle.std.proofs.lemmas.Nat.Bits.{bit_at_and, bit_at_or, bit_at_xor, bit_at-lt, bit_at-zero, bit_at_ones}
+use Rattle.std.proofs.lemmas.Nat.Bits.{bit_at_ones_above, bit_at_above, same_from_bits, ones_shr, bit_at_set_same}
 use Rattle.ffs_maps.proofs.Words.{bit_mod, bit_shl_low, bit_shl_high}
 use Rattle.ffs_volume.specs.Disk.Numbers.{all_below}
 use Rattle.ffs_volume.specs.Groups.Records.{bit_at as map_bit, same_bit}
@@ -20,16 +22,21 @@ mod_small x = omega arith
 
 -- a byte is put into a word
 pub byte_low : (bytes : List ℕ) (place byte word b : ℕ) → byte < 8 → b ≡ slice_index bytes (place + byte) →
-    ((k : ℕ) → k < 8 * byte → nat_eq (bit_at word k) 1 ≡ map_bit bytes place k) → ((k : ℕ) → 8 * byte ≤ k → bit_at word k ≡ 0) →
-    (k : ℕ) → k < 8 * (byte + 1) → nat_eq (bit_at (bit_or word (b * 2 ^ (8 * byte) % 2 ^ 64)) k) 1 ≡ map_bit bytes place k
+    ((k : ℕ) → k < 8 * byte → nat_eq (bit_at word k) 1 ≡ map_bit bytes place k) →
+    ((k : ℕ) → 8 * byte ≤ k → bit_at word k ≡ 0) →
+    (k : ℕ) → k < 8 * (byte + 1) →
+    nat_eq (bit_at (bit_or word (b * 2 ^ (8 * byte) % 2 ^ 64)) k) 1 ≡ map_bit bytes place k
 byte_low bytes place byte word b h is low high k below =
     ap (λ x. nat_eq x 1) (bit_at_or word (b * 2 ^ (8 * byte) % 2 ^ 64) k)
     ∙ elim (cases_lt k (8 * byte)) [
-      | inl inside ↦ ap (λ x. nat_eq x 1) (max_low _ _ (bit_mod (b * 2 ^ (8 * byte)) 64 k (omega arith) ∙ bit_shl_low b (8 * byte) k inside)) ∙ low k inside
+      | inl inside ↦ ap (λ x. nat_eq x 1)
+          (max_low _ _ (bit_mod (b * 2 ^ (8 * byte)) 64 k (omega arith) ∙ bit_shl_low b (8 * byte) k inside))
+          ∙ low k inside
       | inr above ↦
           let at : k / 8 ≡ byte = omega arith in
           let bit : k - 8 * byte ≡ k % 8 = omega arith in
-          ap (λ x. nat_eq x 1) (max_high _ _ (high k above) ∙ bit_mod (b * 2 ^ (8 * byte)) 64 k (omega arith) ∙ bit_shl_high b (8 * byte) k above)
+          ap (λ x. nat_eq x 1) (max_high _ _ (high k above) ∙ bit_mod (b * 2 ^ (8 * byte)) 64 k (omega arith)
+          ∙ bit_shl_high b (8 * byte) k above)
           ∙ ap (λ x. nat_eq (bit_at x (k - 8 * byte)) 1) is
           ∙ ap (λ j. nat_eq (bit_at (slice_index bytes (place + byte)) j) 1) bit
           ∙ ap (λ j. nat_eq (bit_at (slice_index bytes (place + j)) (k % 8)) 1) (sym at)
@@ -41,7 +48,8 @@ byte_high byte word b h fits high k above =
     bit_at_or word (b * 2 ^ (8 * byte) % 2 ^ 64) k
     ∙ max_high _ _ (high k (omega arith))
     ∙ elim (cases_lt k 64) [
-      | inl inside ↦ bit_mod (b * 2 ^ (8 * byte)) 64 k inside ∙ bit_shl_high b (8 * byte) k (omega arith) ∙ bit_at_above b 8 (k - 8 * byte) fits (omega arith)
+      | inl inside ↦ bit_mod (b * 2 ^ (8 * byte)) 64 k inside ∙ bit_shl_high b (8 * byte) k (omega arith)
+          ∙ bit_at_above b 8 (k - 8 * byte) fits (omega arith)
       | inr past ↦ bit_at_above (b * 2 ^ (8 * byte) % 2 ^ 64) 64 k (mod_small (b * 2 ^ (8 * byte))) past
     ]
 
@@ -49,7 +57,8 @@ byte_high byte word b h fits high k above =
 all_true : (n : ℕ) (test : ℕ → Bool) → ((k : ℕ) → k < n → test k ≡ true) → all_below n test ≡ true
 unfolding all_below
 all_true zero test e = refl
-all_true (suc n) test e = ap (λ b. b && all_below n test) (e n (omega arith)) ∙ all_true n test (λ k h. e k (omega arith))
+all_true (suc n) test e = ap (λ b. b && all_below n test) (e n (omega arith))
+    ∙ all_true n test (λ k h. e k (omega arith))
 
 pub true_at : (n k : ℕ) (test : ℕ → Bool) → all_below n test ≡ true → k < n → test k ≡ true
 unfolding all_below
@@ -62,7 +71,8 @@ true_at (suc n) k test all h = elim (cases_lt k n) [
 pub same_below : (n : ℕ) (f g : ℕ → Bool) → ((k : ℕ) → k < n → f k ≡ g k) → all_below n f ≡ all_below n g
 unfolding all_below
 same_below zero f g e = refl
-same_below (suc n) f g e = ap (λ b. b && all_below n f) (e n (omega arith)) ∙ ap (λ b. g n && b) (same_below n f g (λ k h. e k (omega arith)))
+same_below (suc n) f g e = ap (λ b. b && all_below n f) (e n (omega arith))
+    ∙ ap (λ b. g n && b) (same_below n f g (λ k h. e k (omega arith)))
 
 and_end : (a : Bool) → a ≡ (a && true)
 and_end true = refl
@@ -75,9 +85,11 @@ and_swap false true b = refl
 and_swap false false b = refl
 
 -- the first n, and those after them
-pub all_join : (n m t : ℕ) (test : ℕ → Bool) → t ≡ n + m → all_below t test ≡ (all_below n test && all_below m (λ k. test (n + k)))
+pub all_join : (n m t : ℕ) (test : ℕ → Bool) → t ≡ n + m →
+    all_below t test ≡ (all_below n test && all_below m (λ k. test (n + k)))
 unfolding all_below
-all_join n zero t test e = let same : t ≡ n = omega (arith, e) in ap (λ j. all_below j test) same ∙ and_end (all_below n test)
+all_join n zero t test e = let same : t ≡ n = omega (arith, e) in ap (λ j. all_below j test) same
+    ∙ and_end (all_below n test)
 all_join n (suc m) zero test e = absurd (omega arith)
 all_join n (suc m) (suc t) test e =
     let same : t ≡ n + m = omega (arith, e) in
@@ -110,16 +122,24 @@ min_low a b e = omega arith
 min_high : (a b : ℕ) → b ≡ 0 → min a b ≡ 0
 min_high a b e = omega arith
 
-same_from_zero : (a b n : ℕ) → bit_and (bit_xor a b) (2 ^ n - 1) ≡ 0 → (k : ℕ) → k < n → same_bit (nat_eq (bit_at a k) 1) (nat_eq (bit_at b k) 1) ≡ true
+same_from_zero : (a b n : ℕ) → bit_and (bit_xor a b) (2 ^ n - 1) ≡ 0 → (k : ℕ) → k < n →
+    same_bit (nat_eq (bit_at a k) 1) (nat_eq (bit_at b k) 1) ≡ true
 same_from_zero a b n e k h =
-    let none : bit_at (bit_xor a b) k ≡ 0 = zero_of_min _ _ (bit_at-lt (bit_xor a b) k) (bit_at_ones n k h) (sym (bit_at_and (bit_xor a b) (2 ^ n - 1) k) ∙ ap (λ x. bit_at x k) e ∙ bit_at-zero k) in
+    let none : bit_at (bit_xor a b) k ≡ 0 =
+    zero_of_min _ _ (bit_at-lt (bit_xor a b) k) (bit_at_ones n k h)
+    (sym (bit_at_and (bit_xor a b) (2 ^ n - 1) k) ∙ ap (λ x. bit_at x k) e ∙ bit_at-zero k) in
     small_bits (bit_at a k) (bit_at b k) (bit_at-lt a k) (bit_at-lt b k) (sym (bit_at_xor a b k) ∙ none)
 
-zero_from_same : (a b n : ℕ) → ((k : ℕ) → k < n → same_bit (nat_eq (bit_at a k) 1) (nat_eq (bit_at b k) 1) ≡ true) → bit_and (bit_xor a b) (2 ^ n - 1) ≡ 0
-zero_from_same a b n same = same_from_bits (bit_and (bit_xor a b) (2 ^ n - 1)) 0 (λ k. bit_at_and (bit_xor a b) (2 ^ n - 1) k ∙ elim (cases_lt k n) [
-  | inl low ↦ min_low _ _ (bit_at_xor a b k ∙ no_difference (bit_at a k) (bit_at b k) (bit_at-lt a k) (bit_at-lt b k) (same k low)) ∙ sym (bit_at-zero k)
-  | inr past ↦ min_high _ _ (bit_at_ones_above n k past) ∙ sym (bit_at-zero k)
-])
+zero_from_same : (a b n : ℕ) → ((k : ℕ) → k < n → same_bit (nat_eq (bit_at a k) 1) (nat_eq (bit_at b k) 1) ≡ true) →
+    bit_and (bit_xor a b) (2 ^ n - 1) ≡ 0
+zero_from_same a b n same =
+    same_from_bits (bit_and (bit_xor a b) (2 ^ n - 1)) 0
+    (λ k. bit_at_and (bit_xor a b) (2 ^ n - 1) k ∙ elim (cases_lt k n) [
+      | inl low ↦ min_low _ _
+          (bit_at_xor a b k ∙ no_difference (bit_at a k) (bit_at b k) (bit_at-lt a k) (bit_at-lt b k) (same k low))
+          ∙ sym (bit_at-zero k)
+      | inr past ↦ min_high _ _ (bit_at_ones_above n k past) ∙ sym (bit_at-zero k)
+    ])
 
 zero_test : (x : ℕ) → x ≡ 0 → nat_eq x 0 ≡ true
 zero_test x e = rw e refl
@@ -130,33 +150,46 @@ suc_not_zero x e = omega arith
 one_test : (x : ℕ) → nat_eq (suc x) 0 ≡ false
 one_test x = grind arith
 
-pub is_same_word : (a b n : ℕ) → nat_eq (bit_and (bit_xor a b) (2 ^ n - 1)) 0 ≡ all_below n (λ k. same_bit (nat_eq (bit_at a k) 1) (nat_eq (bit_at b k) 1))
+pub is_same_word : (a b n : ℕ) →
+    nat_eq (bit_and (bit_xor a b) (2 ^ n - 1)) 0 ≡ all_below n
+    (λ k. same_bit (nat_eq (bit_at a k) 1) (nat_eq (bit_at b k) 1))
 is_same_word a b n = go (bit_and (bit_xor a b) (2 ^ n - 1)) refl
   where
-    other : (x : Bool) → (all_below n (λ k. same_bit (nat_eq (bit_at a k) 1) (nat_eq (bit_at b k) 1))) ≡ x → (bit_and (bit_xor a b) (2 ^ n - 1) ≡ 0 → ⊥) → false ≡ x
-    other true e apart = absurd (apart (zero_from_same a b n (λ k h. true_at n k (λ k. same_bit (nat_eq (bit_at a k) 1) (nat_eq (bit_at b k) 1)) e h)))
+    other : (x : Bool) → (all_below n (λ k. same_bit (nat_eq (bit_at a k) 1) (nat_eq (bit_at b k) 1))) ≡ x →
+        (bit_and (bit_xor a b) (2 ^ n - 1) ≡ 0 → ⊥) → false ≡ x
+    other true e apart = absurd
+        (apart (zero_from_same a b n
+        (λ k h. true_at n k (λ k. same_bit (nat_eq (bit_at a k) 1) (nat_eq (bit_at b k) 1)) e h)))
     other false e apart = refl
 
-    go : (x : ℕ) → bit_and (bit_xor a b) (2 ^ n - 1) ≡ x → nat_eq (bit_and (bit_xor a b) (2 ^ n - 1)) 0 ≡ all_below n (λ k. same_bit (nat_eq (bit_at a k) 1) (nat_eq (bit_at b k) 1))
-    go zero e = zero_test _ e ∙ sym (all_true n (λ k. same_bit (nat_eq (bit_at a k) 1) (nat_eq (bit_at b k) 1)) (same_from_zero a b n e))
+    go : (x : ℕ) → bit_and (bit_xor a b) (2 ^ n - 1) ≡ x →
+        nat_eq (bit_and (bit_xor a b) (2 ^ n - 1)) 0 ≡ all_below n
+        (λ k. same_bit (nat_eq (bit_at a k) 1) (nat_eq (bit_at b k) 1))
+    go zero e = zero_test _ e
+        ∙ sym (all_true n (λ k. same_bit (nat_eq (bit_at a k) 1) (nat_eq (bit_at b k) 1)) (same_from_zero a b n e))
     go (suc x) e = ap (λ y. nat_eq y 0) e ∙ one_test x ∙ other _ refl (λ z. suc_not_zero x (sym e ∙ z))
 
 pub set_same : (word k : ℕ) → k < 64 → nat_eq (bit_at (bit_or word (1 * 2 ^ k % 2 ^ 64)) k) 1 ≡ true
 set_same word k h = ap (λ x. nat_eq x 1) (bit_at_set_same w64 word k h)
 
 -- by the mask that the code computes
-pub same_by_mask : (a b n : ℕ) → n ≤ 64 → nat_eq (bit_and (bit_xor a b) ((2 ^ 64 - 1) / 2 ^ (64 - n))) 0 ≡ all_below n (λ k. same_bit (nat_eq (bit_at a k) 1) (nat_eq (bit_at b k) 1))
+pub same_by_mask : (a b n : ℕ) → n ≤ 64 →
+    nat_eq (bit_and (bit_xor a b) ((2 ^ 64 - 1) / 2 ^ (64 - n))) 0 ≡ all_below n
+    (λ k. same_bit (nat_eq (bit_at a k) 1) (nat_eq (bit_at b k) 1))
 same_by_mask a b n h =
     let twice : 64 - (64 - n) ≡ n = omega arith in
-    let mask : (2 ^ 64 - 1) / 2 ^ (64 - n) ≡ 2 ^ n - 1 = ones_shr 64 (64 - n) (omega arith) ∙ ap (λ k. 2 ^ k - 1) twice in
+    let mask : (2 ^ 64 - 1) / 2 ^ (64 - n) ≡ 2 ^ n - 1 = ones_shr 64 (64 - n) (omega arith)
+    ∙ ap (λ k. 2 ^ k - 1) twice in
     ap (λ m. nat_eq (bit_and (bit_xor a b) m) 0) mask ∙ is_same_word a b n
 
 -- ---- a map, word after word
-moved_bit : (block : List ℕ) (place word k : ℕ) → map_bit block (place + 8 * word) k ≡ map_bit block place (64 * word + k)
+moved_bit : (block : List ℕ) (place word k : ℕ) →
+    map_bit block (place + 8 * word) k ≡ map_bit block place (64 * word + k)
 moved_bit block place word k =
     let byte : place + 8 * word + k / 8 ≡ place + (64 * word + k) / 8 = omega arith in
     let bit : k % 8 ≡ (64 * word + k) % 8 = omega arith in
-    ap (λ j. nat_eq (bit_at (slice_index block j) (k % 8)) 1) byte ∙ ap (λ j. nat_eq (bit_at (slice_index block (place + (64 * word + k) / 8)) j) 1) bit
+    ap (λ j. nat_eq (bit_at (slice_index block j) (k % 8)) 1) byte
+    ∙ ap (λ j. nat_eq (bit_at (slice_index block (place + (64 * word + k) / 8)) j) 1) bit
 
 -- the words before this one are right: then the map up to this word's end is as the word is
 pub word_is : (block : List ℕ) (place n word count found right : ℕ) (bits : ℕ → Bool) → 64 * word < n →
@@ -170,7 +203,8 @@ word_is block place n word count found right bits h before is_found is_right =
     all_join (64 * word) count (64 * word + count) (λ k. same_bit (map_bit block place k) (bits k)) refl
     ∙ ap (λ b. b && all_below count (λ k. same_bit (map_bit block place (64 * word + k)) (bits (64 * word + k))))
     (ap (λ j. all_below j (λ k. same_bit (map_bit block place k) (bits k))) low ∙ before)
-    ∙ same_below count (λ k. same_bit (map_bit block place (64 * word + k)) (bits (64 * word + k))) (λ k. same_bit (nat_eq (bit_at found k) 1) (nat_eq (bit_at right k) 1))
+    ∙ same_below count (λ k. same_bit (map_bit block place (64 * word + k)) (bits (64 * word + k)))
+    (λ k. same_bit (nat_eq (bit_at found k) 1) (nat_eq (bit_at right k) 1))
     (λ k l. sym (ap (λ b. same_bit b (nat_eq (bit_at right k) 1)) (is_found k l ∙ moved_bit block place word k)
     ∙ ap (λ b. same_bit (map_bit block place (64 * word + k)) b) (is_right k l)))
 
@@ -209,13 +243,16 @@ one_more n test all e = all_true (n + 1) test (λ k h. elim (cases_lt k n) [
 ])
 
 -- a map, by its whole words and the bits after them
-pub map_parts : (block : List ℕ) (place words count n at first : ℕ) (bits : ℕ → Bool) → n ≡ 64 * words + count → at ≡ place + 8 * words →
+pub map_parts : (block : List ℕ) (place words count n at first : ℕ) (bits : ℕ → Bool) → n ≡ 64 * words + count →
+    at ≡ place + 8 * words →
     all_below n (λ k. same_bit (map_bit block place k) (bits (first + k)))
     ≡ (all_below (64 * words) (λ k. same_bit (map_bit block place k) (bits (first + k)))
     && all_below count (λ k. same_bit (map_bit block at k) (bits (first + 64 * words + k))))
 map_parts block place words count n at first bits e is =
     all_join (64 * words) count n (λ k. same_bit (map_bit block place k) (bits (first + k))) e
     ∙ ap (λ b. all_below (64 * words) (λ k. same_bit (map_bit block place k) (bits (first + k))) && b)
-    (same_below count (λ k. same_bit (map_bit block place (64 * words + k)) (bits (first + (64 * words + k)))) (λ k. same_bit (map_bit block at k) (bits (first + 64 * words + k)))
-    (λ k l. ap (λ b. same_bit b (bits (first + (64 * words + k)))) (sym (moved_bit block place words k) ∙ ap (λ j. map_bit block j k) (sym is))
+    (same_below count (λ k. same_bit (map_bit block place (64 * words + k)) (bits (first + (64 * words + k))))
+    (λ k. same_bit (map_bit block at k) (bits (first + 64 * words + k)))
+    (λ k l. ap (λ b. same_bit b (bits (first + (64 * words + k))))
+    (sym (moved_bit block place words k) ∙ ap (λ j. map_bit block j k) (sym is))
     ∙ ap (λ b. same_bit (map_bit block at k) b) (sym (moved_in bits first words k))))

@@ -1,5 +1,6 @@
 -- The runs of free fragments in a block.
-use Rattle.std.proofs.Common.{◌≡◌, ℕ, zero, suc, ◌+◌, ◌-◌, ◌<◌, ◌≤◌, Bool, true, false, List, [], ◌∷◌, length, cond, arith, refl, ap, ◌∙◌, sym, count_by, nat_eq, min, length-append, bit_and, ◌/◌, ◌^◌}
+use Rattle.std.proofs.Common.{◌≡◌, ℕ, zero, suc, ◌+◌, ◌-◌, ◌<◌, ◌≤◌, Bool, true, false, List, [], ◌∷◌, length, cond}
+use Rattle.std.proofs.Common.{arith, refl, ap, ◌∙◌, sym, count_by, nat_eq, min, length-append, bit_and, ◌/◌, ◌^◌}
 use Rattle.std.specs.Prelude.{◌==◌}
 use Rattle.std.specs.Int.{bit_at}
 use Rattle.std.proofs.lemmas.List.Sums.{sum_by-cons, sum_by-append, count_by-le-length}
@@ -32,19 +33,25 @@ length_bits word k n = length-map-range_with_len (λ j. nat_eq (bit_at word j) 1
 -- what is still to be counted, where the next fragment is free, and where it isn't
 pub free_next : (word k n m : ℕ) → n ≡ m + 1 → nat_eq (bit_at word k) 1 ≡ true →
     count_by (λ f. f) (word_bits word k n) ≡ 1 + count_by (λ f. f) (word_bits word (k + 1) m)
-free_next word k n m e set_ = rw (bits_next word k n m e, set_) (sum_by-cons (λ f. cond f 1 0) true (word_bits word (k + 1) m))
+free_next word k n m e set_ =
+    rw (bits_next word k n m e, set_) (sum_by-cons (λ f. cond f 1 0) true (word_bits word (k + 1) m))
 
 pub used_next : (word k n m : ℕ) → n ≡ m + 1 → nat_eq (bit_at word k) 1 ≡ false →
     count_by (λ f. f) (word_bits word k n) ≡ count_by (λ f. f) (word_bits word (k + 1) m)
-used_next word k n m e clear_ = rw (bits_next word k n m e, clear_) (omega (arith, sum_by-cons (λ f. cond f 1 0) false (word_bits word (k + 1) m)))
+used_next word k n m e clear_ =
+    rw (bits_next word k n m e, clear_) (omega (arith, sum_by-cons (λ f. cond f 1 0) false (word_bits word (k + 1) m)))
 
 pub run_grows : (word k n m r j : ℕ) → n ≡ m + 1 → nat_eq (bit_at word k) 1 ≡ true →
-    count_by (λ x. x == j) (free_runs r (word_bits word k n)) ≡ count_by (λ x. x == j) (free_runs (r + 1) (word_bits word (k + 1) m))
+    count_by (λ x. x == j) (free_runs r (word_bits word k n)) ≡ count_by (λ x. x == j)
+    (free_runs (r + 1) (word_bits word (k + 1) m))
 run_grows word k n m r j e set_ = rw (bits_next word k n m e, set_) refl
 
 pub run_ends : (word k n m r j : ℕ) → n ≡ m + 1 → nat_eq (bit_at word k) 1 ≡ false →
-    count_by (λ x. x == j) (free_runs r (word_bits word k n)) ≡ count_by (λ x. x == j) (run_of r) + count_by (λ x. x == j) (free_runs 0 (word_bits word (k + 1) m))
-run_ends word k n m r j e clear_ = rw (bits_next word k n m e, clear_) (sum_by-append (λ x. cond (x == j) 1 0) (run_of r) (free_runs 0 (word_bits word (k + 1) m)))
+    count_by (λ x. x == j) (free_runs r (word_bits word k n)) ≡ count_by (λ x. x == j) (run_of r) + count_by
+    (λ x. x == j) (free_runs 0 (word_bits word (k + 1) m))
+run_ends word k n m r j e clear_ =
+    rw (bits_next word k n m e, clear_)
+    (sum_by-append (λ x. cond (x == j) 1 0) (run_of r) (free_runs 0 (word_bits word (k + 1) m)))
 
 pub runs_within : (word n j : ℕ) → count_by (λ x. x == j) (free_runs 0 (word_bits word 0 n)) ≤ n
 runs_within word n j = omega (arith, runs_few j (word_bits word 0 n), length_bits word 0 n)

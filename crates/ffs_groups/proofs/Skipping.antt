@@ -1,6 +1,7 @@
 -- Inodes whose kinds are not looked at, and words of inodes that are all in use or all free.
-use Rattle.std.proofs.Common.{◌≡◌, inl, inr, ℕ, ◌+◌, ◌-◌, ◌*◌, ◌^◌, ◌<◌, ◌≤◌, Bool, true, false, List, cond, arith, refl, ap, ◌∙◌, sym, count_by, nat_eq, max, slice_index}
-use Rattle.std.specs.Prelude.{◌&&◌, ◌||◌, ◌==◌, not, nat_le, nat_lt}
+use Rattle.std.proofs.Common.{◌≡◌, inl, inr, ℕ, ◌+◌, ◌-◌, ◌*◌, ◌^◌, ◌<◌, ◌≤◌, Bool, true, false, List, cond, arith, ap}
+use Rattle.std.proofs.Common.{◌∙◌, sym, count_by, nat_eq, max, slice_index}
+use Rattle.std.specs.Prelude.{◌&&◌, ◌||◌, not, nat_le, nat_lt}
 use Rattle.std.specs.List.{range_with_len}
 use Rattle.std.specs.Int.{bit_at}
 use Rattle.std.proofs.lemmas.Bool.{cases_lt}
@@ -14,11 +15,13 @@ use Rattle.ffs_groups.proofs.Words.{sum_const}
 
 none_counted : (p : ℕ → Bool) (a n : ℕ) → ((k : ℕ) → k < n → p (a + k) ≡ false) → count_by p (range_with_len a n) ≡ 0
 none_counted p a n none =
-    let zeros : count_by p (range_with_len a n) ≡ n * 0 = sum_const (λ x. cond (p x) 1 0) 0 a n (λ k h. ap (λ b. cond b 1 0) (none k h)) in
+    let zeros : count_by p (range_with_len a n) ≡ n * 0 =
+    sum_const (λ x. cond (p x) 1 0) 0 a n (λ k h. ap (λ b. cond b 1 0) (none k h)) in
     omega (arith, zeros)
 
 -- a count of numbers from 2 on is a count of all, where neither 0 nor 1 counts
-pub count_from_two : (p : ℕ → Bool) (first len start n count : ℕ) → ((x : ℕ) → x < 2 → p x ≡ false) → start ≡ max first 2 → n ≡ max (first + len) start - start →
+pub count_from_two : (p : ℕ → Bool) (first len start n count : ℕ) → ((x : ℕ) → x < 2 → p x ≡ false) →
+    start ≡ max first 2 → n ≡ max (first + len) start - start →
     count ≡ count_by p (range_with_len start n) → count ≡ count_by p (range_with_len first len)
 count_from_two p first len start n count low is many e = elim (cases_lt len (start - first)) [
   | inl few ↦
@@ -28,10 +31,13 @@ count_from_two p first len start n count low is many e = elim (cases_lt len (sta
   | inr more ↦
       let rest : len ≡ start - first + n = omega (arith, is, many) in
       let at : first + (start - first) ≡ start = omega (arith, is) in
-      let none : count_by p (range_with_len first (start - first)) ≡ 0 = none_counted p first (start - first) (λ k h. low (first + k) (omega (arith, is, h))) in
-      let split : count_by p (range_with_len first len) ≡ count_by p (range_with_len first (start - first)) + count_by p (range_with_len (first + (start - first)) n) =
+      let none : count_by p (range_with_len first (start - first)) ≡ 0 =
+      none_counted p first (start - first) (λ k h. low (first + k) (omega (arith, is, h))) in
+      let split : count_by p (range_with_len first len) ≡ count_by p (range_with_len first (start - first)) + count_by p
+      (range_with_len (first + (start - first)) n) =
       sum_split (λ x. cond (p x) 1 0) first (start - first) n len rest in
-      let same : count_by p (range_with_len (first + (start - first)) n) ≡ count_by p (range_with_len start n) = ap (λ j. count_by p (range_with_len j n)) at in
+      let same : count_by p (range_with_len (first + (start - first)) n) ≡ count_by p (range_with_len start n) =
+      ap (λ j. count_by p (range_with_len j n)) at in
       omega (arith, e, none, split, same)
 ]
 
@@ -48,10 +54,12 @@ below_two x h = grind arith
 under_two : (x : ℕ) → x < 2 → nat_lt x 2 ≡ true
 under_two x h = grind arith
 
-pub used_by_kind : (kinds : List ℕ) (x : ℕ) → 2 ≤ x → is_used_inode (class_in kinds) x ≡ is_allocated (class_of_kind (slice_index kinds x))
+pub used_by_kind : (kinds : List ℕ) (x : ℕ) → 2 ≤ x →
+    is_used_inode (class_in kinds) x ≡ is_allocated (class_of_kind (slice_index kinds x))
 used_by_kind kinds x h = ap (λ b. b || is_allocated (class_of_kind (slice_index kinds x))) (past_two x h)
 
-pub dir_by_kind : (kinds : List ℕ) (x : ℕ) → 2 ≤ x → is_dir_inode (class_in kinds) x ≡ is_directory (class_of_kind (slice_index kinds x))
+pub dir_by_kind : (kinds : List ℕ) (x : ℕ) → 2 ≤ x →
+    is_dir_inode (class_in kinds) x ≡ is_directory (class_of_kind (slice_index kinds x))
 dir_by_kind kinds x h = ap (λ b. b && is_directory (class_of_kind (slice_index kinds x))) (from_two x h)
 
 pub no_dir_below : (kinds : List ℕ) (x : ℕ) → x < 2 → is_dir_inode (class_in kinds) x ≡ false

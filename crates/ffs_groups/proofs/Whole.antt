@@ -1,5 +1,6 @@
 -- Blocks whose fragments are all free, or none.
-use Rattle.std.proofs.Common.{◌≡◌, inl, inr, ℕ, zero, suc, ◌+◌, ◌-◌, ◌*◌, ◌%◌, ◌^◌, ◌<◌, ◌≤◌, Bool, true, false, map, arith, refl, ap, ◌∙◌, sym, nat_eq, min, bit_and}
+use Rattle.std.proofs.Common.{◌≡◌, inl, inr, ℕ, zero, suc, ◌+◌, ◌-◌, ◌*◌, ◌%◌, ◌^◌, ◌<◌, ◌≤◌, Bool, true, false, map}
+use Rattle.std.proofs.Common.{arith, refl, ap, ◌∙◌, sym, nat_eq, min, bit_and}
 use Rattle.std.specs.Prelude.{◌&&◌}
 use Rattle.std.specs.List.{range_with_len, list_all}
 use Rattle.std.specs.Int.{bit_at}
@@ -11,7 +12,8 @@ use Rattle.ffs_maps.proofs.Words.{small}
 use Rattle.ffs_volume.specs.Groups.Records.{is_whole}
 use Rattle.ffs_groups.specs.Free.{word_bits}
 
-pub all_set : (f : ℕ → Bool) (a n : ℕ) → ((k : ℕ) → k < n → f (a + k) ≡ true) → list_all (λ b. b) (map f (range_with_len a n)) ≡ true
+pub all_set : (f : ℕ → Bool) (a n : ℕ) → ((k : ℕ) → k < n → f (a + k) ≡ true) →
+    list_all (λ b. b) (map f (range_with_len a n)) ≡ true
 all_set f a zero e = refl
 all_set f a (suc n) e =
     let rest : list_all (λ b. b) (map f (range_with_len (a + 1) n)) ≡ true =
@@ -24,7 +26,10 @@ each_set f n k all h = go (f k) refl
   where
     go : (b : Bool) → f k ≡ b → f k ≡ true
     go true e = e
-    go false e = absurd (true≢false (sym all ∙ list_all_at (λ b. b) (map f (range_with_len 0 n)) k false (omega (arith, h, length-map-range_with_len f 0 n)) (get_or-map-range_with_len f 0 n k k false h (omega arith) ∙ e)))
+    go false e = absurd (true≢false
+        (sym all ∙ list_all_at (λ b. b) (map f (range_with_len 0 n)) k false
+        (omega (arith, h, length-map-range_with_len f 0 n))
+        (get_or-map-range_with_len f 0 n k k false h (omega arith) ∙ e)))
 
 bit_one : (x k : ℕ) → nat_eq (bit_at x k) 1 ≡ true → bit_at x k ≡ 1
 bit_one x k e = grind arith
@@ -41,17 +46,23 @@ no_min a b e = omega arith
 -- a word with the lowest n bits set
 ones_of : (word n k : ℕ) → bit_and word (2 ^ n - 1) ≡ 2 ^ n - 1 → k < n → nat_eq (bit_at word k) 1 ≡ true
 ones_of word n k e h =
-    let one : bit_at word k ≡ 1 = one_of_min (bit_at word k) (bit_at (2 ^ n - 1) k) (bit_at-lt word k) (sym (bit_at_and word (2 ^ n - 1) k) ∙ ap (λ x. bit_at x k) e ∙ bit_at_ones n k h) in
+    let one : bit_at word k ≡ 1 =
+    one_of_min (bit_at word k) (bit_at (2 ^ n - 1) k) (bit_at-lt word k)
+    (sym (bit_at_and word (2 ^ n - 1) k) ∙ ap (λ x. bit_at x k) e ∙ bit_at_ones n k h) in
     ap (λ x. nat_eq x 1) one
 
 pub whole_word : (word n : ℕ) → bit_and word (2 ^ n - 1) ≡ 2 ^ n - 1 → is_whole (word_bits word 0 n) ≡ true
-whole_word word n e = all_set (λ k. nat_eq (bit_at word k) 1) 0 n (λ k h. let l : 0 + k ≡ k = omega arith in ap (λ j. nat_eq (bit_at word j) 1) l ∙ ones_of word n k e h)
+whole_word word n e =
+    all_set (λ k. nat_eq (bit_at word k) 1) 0 n
+    (λ k h. let l : 0 + k ≡ k = omega arith in ap (λ j. nat_eq (bit_at word j) 1) l ∙ ones_of word n k e h)
 
 mask_of : (word n : ℕ) → is_whole (word_bits word 0 n) ≡ true → bit_and word (2 ^ n - 1) ≡ 2 ^ n - 1
-mask_of word n whole = same_from_bits (bit_and word (2 ^ n - 1)) (2 ^ n - 1) (λ k. bit_at_and word (2 ^ n - 1) k ∙ elim (cases_lt k n) [
-  | inl low ↦ both_ones _ _ (bit_one word k (each_set (λ j. nat_eq (bit_at word j) 1) n k whole low)) (bit_at_ones n k low)
-  | inr past ↦ no_min _ _ (bit_at_ones_above n k past)
-])
+mask_of word n whole =
+    same_from_bits (bit_and word (2 ^ n - 1)) (2 ^ n - 1) (λ k. bit_at_and word (2 ^ n - 1) k ∙ elim (cases_lt k n) [
+      | inl low ↦ both_ones _ _ (bit_one word k (each_set (λ j. nat_eq (bit_at word j) 1) n k whole low))
+          (bit_at_ones n k low)
+      | inr past ↦ no_min _ _ (bit_at_ones_above n k past)
+    ])
 
 pub not_whole : (word n : ℕ) → (bit_and word (2 ^ n - 1) ≡ 2 ^ n - 1 → ⊥) → is_whole (word_bits word 0 n) ≡ false
 not_whole word n apart = go (is_whole (word_bits word 0 n)) refl
@@ -61,8 +72,12 @@ not_whole word n apart = go (is_whole (word_bits word 0 n)) refl
     go false e = e
 
 -- the same, by the mask that the code computes
-pub whole_by_mask : (word n : ℕ) → n ≤ 8 → bit_and word (1 * 2 ^ n % 2 ^ 64 - 1) ≡ 1 * 2 ^ n % 2 ^ 64 - 1 → is_whole (word_bits word 0 n) ≡ true
-whole_by_mask word n h e = let s : 1 * 2 ^ n % 2 ^ 64 - 1 ≡ 2 ^ n - 1 = small n (omega arith) in whole_word word n (sym (ap (λ m. bit_and word m) s) ∙ e ∙ s)
+pub whole_by_mask : (word n : ℕ) → n ≤ 8 → bit_and word (1 * 2 ^ n % 2 ^ 64 - 1) ≡ 1 * 2 ^ n % 2 ^ 64 - 1 →
+    is_whole (word_bits word 0 n) ≡ true
+whole_by_mask word n h e = let s : 1 * 2 ^ n % 2 ^ 64 - 1 ≡ 2 ^ n - 1 =
+    small n (omega arith) in whole_word word n (sym (ap (λ m. bit_and word m) s) ∙ e ∙ s)
 
-pub not_whole_by_mask : (word n : ℕ) → n ≤ 8 → (bit_and word (1 * 2 ^ n % 2 ^ 64 - 1) ≡ 1 * 2 ^ n % 2 ^ 64 - 1 → ⊥) → is_whole (word_bits word 0 n) ≡ false
-not_whole_by_mask word n h apart = let s : 1 * 2 ^ n % 2 ^ 64 - 1 ≡ 2 ^ n - 1 = small n (omega arith) in not_whole word n (λ e. apart (ap (λ m. bit_and word m) s ∙ e ∙ sym s))
+pub not_whole_by_mask : (word n : ℕ) → n ≤ 8 → (bit_and word (1 * 2 ^ n % 2 ^ 64 - 1) ≡ 1 * 2 ^ n % 2 ^ 64 - 1 → ⊥) →
+    is_whole (word_bits word 0 n) ≡ false
+not_whole_by_mask word n h apart = let s : 1 * 2 ^ n % 2 ^ 64 - 1 ≡ 2 ^ n - 1 =
+    small n (omega arith) in not_whole word n (λ e. apart (ap (λ m. bit_and word m) s ∙ e ∙ sym s))

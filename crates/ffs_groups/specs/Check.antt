@@ -1,5 +1,5 @@
 -- What is found in the records of a group.
-use Rattle.std.specs.Prelude.{ℕ, ◌≡◌, Bool, ◌&&◌, ◌==◌, List, ◌∷◌, ◌++◌, if◌then◌else◌, slice_index, ℤ, pos}
+use Rattle.std.specs.Prelude.{ℕ, ◌≡◌, Bool, ◌&&◌, ◌==◌, List, ◌∷◌, ◌++◌, if◌then◌else◌, slice_index, length, ℤ, pos}
 use Rattle.std.specs.Int.{cast_unsigned, w32}
 use Rattle.std.specs.List.{slice_index_or}
 use Rattle.ffs_volume.specs.declared.Layout.{Layout}
@@ -42,6 +42,11 @@ abbrev pub lines_of : Findings → ℕ → List BlockMessage
 lines_of f c =
     if f.magic then unless f.counts FreeCounts ++ (unless f.maps MapsWrong ++ unless f.sums GroupSums)
     else GroupMagic c ∷ unless f.counts FreeCounts
+
+-- a record of the summary area and a group block, each of its length
+pub record HasRecords (v : Layout) (csum cg : List ℕ) : Type 0 where
+  pub summary : length csum ≡ 16
+  pub block : length cg ≡ v.cgsize
 
 -- each finding says whether the records of group c are right: in the summary area, and in its group block
 pub record AreFound (v : Layout) (free : ℕ → Bool) (class : ℕ

@@ -1,5 +1,5 @@
 -- What the free fragments of blocks add to the counts of a group.
-use Rattle.std.specs.Prelude.{ℕ, ◌≡◌, ◌+◌, ◌<◌, Bool, not, ◌&&◌, List, map, nat_eq}
+use Rattle.std.specs.Prelude.{ℕ, ◌≡◌, ◌+◌, ◌*◌, ◌^◌, ◌<◌, ◌≤◌, Bool, not, ◌&&◌, List, map, nat_eq}
 use Rattle.std.specs.Prelude.{nat_lt, ◌==◌, if◌then◌else◌, slice_index, count_by}
 use Rattle.std.specs.List.{range_with_len, sum_by}
 use Rattle.std.specs.Int.{bit_at}
@@ -32,6 +32,18 @@ pub record AreBelow (limit : ℕ) (counts : FreeCounts) : Type 0 where
   pub fragments : counts.fragments < limit
   pub runs : (k : ℕ) → slice_index counts.runs k < limit
 
+-- b blocks, f other fragments and, for each k, r k runs of length k are added
+pub record Grown (b f : ℕ) (r : ℕ → ℕ) (old new : FreeCounts) : Type 0 where
+  pub blocks : new.blocks ≡ old.blocks + b
+  pub fragments : new.fragments ≡ old.fragments + f
+  pub runs : (k : ℕ) → slice_index new.runs k ≡ slice_index old.runs k + r k
+
+-- a word has room for so many blocks
+pub record HasBlocks (blocks frag : ℕ) : Type 0 where
+  pub some : 0 < frag
+  pub few : frag ≤ 8
+  pub room : blocks * frag ≤ 64
+
 -- n blocks from one on are added
 pub record Added (bits : ℕ → List Bool) (from n : ℕ) (old new : FreeCounts) : Type 0 where
   pub blocks : new.blocks ≡ old.blocks + sum_by (λ b. whole_in (bits b)) (range_with_len from n)
@@ -44,3 +56,5 @@ pub record AreFree (v : Layout) (free : ℕ → Bool) (c : ℕ) (counts : FreeCo
   pub blocks : counts.blocks ≡ sum_by (λ b. whole_in (block_bits v free c b)) (block_numbers v)
   pub fragments : counts.fragments ≡ sum_by (λ b. loose_in (block_bits v free c b)) (block_numbers v)
   pub runs : (k : ℕ) → slice_index counts.runs k ≡ right_frsum v free c k
+  pub blocks_fit : counts.blocks < 2 ^ 32
+  pub fragments_fit : counts.fragments < 2 ^ 32

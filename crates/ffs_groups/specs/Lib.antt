@@ -1,3 +1,4 @@
+pub mod Inputs
 pub mod Check
 pub mod Free
 pub mod Inodes

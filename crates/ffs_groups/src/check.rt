@@ -6,9 +6,10 @@ ghost use Rattle.ffs_volume.specs.Disk.Areas.{cgbase};
 ghost use Rattle.ffs_volume.specs.Disk.Numbers.{all_below};
 ghost use Rattle.ffs_volume.specs.Groups.Records.{has_bits, is_used_inode, group_size};
 ghost use Rattle.ffs_maps.specs.Bits.{bits_of};
-ghost use Rattle.ffs_groups.specs.Check.{AreCounts, AreFound, has_bits_of, same_counts, same_run};
+ghost use Rattle.ffs_groups.specs.Check.{AreCounts, AreFound, HasRecords, has_bits_of, same_counts, same_run};
 ghost use Rattle.ffs_groups.specs.Free.{free_in};
 ghost use Rattle.ffs_groups.specs.Inodes.{class_in};
+ghost use Rattle.ffs_groups.specs.Inputs.{HasMaps};
 
 use crate::counts::{Counts, SummaryCounts};
 use crate::maps::{group_fragments, same_fragment_map, same_inode_map};
@@ -78,9 +79,7 @@ fn maps_are_right(
     found: &Group,
     block: &[u8],
 ) -> bool
-    requires group { group < geometry.now.layout.ncg }
-    requires size { used.now.size ≡ geometry.now.layout.size }
-    requires kinds { length kinds.now ≡ geometry.now.layout.ncg * geometry.now.layout.ipg }
+    requires maps { HasMaps geometry.now.layout used.now.size kinds.now group }
     requires block { length block.now ≡ geometry.now.layout.cgsize }
     ensures { result
         ≡ ((nat_le (found.now.iusedoff + div_ceil geometry.now.layout.ipg 8)
@@ -121,14 +120,11 @@ pub fn compare_group(
     summary: &[u8],
     block: &[u8],
 ) -> Findings
-    requires group { group < geometry.now.layout.ncg }
-    requires size { used.now.size ≡ geometry.now.layout.size }
-    requires kinds { length kinds.now ≡ geometry.now.layout.ncg * geometry.now.layout.ipg }
+    requires maps { HasMaps geometry.now.layout used.now.size kinds.now group }
     requires counts { AreCounts geometry.now.layout
         (free_in (bits_of used.now) geometry.now.layout.size) (class_in kinds.now) group
         counts.now }
-    requires summary { length summary.now ≡ 16 }
-    requires block { length block.now ≡ geometry.now.layout.cgsize }
+    requires records { HasRecords geometry.now.layout summary.now block.now }
     ensures { AreFound geometry.now.layout (free_in (bits_of used.now) geometry.now.layout.size)
         (class_in kinds.now) group summary.now block.now result }
 {

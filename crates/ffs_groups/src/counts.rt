@@ -1,10 +1,10 @@
 //! The right counts of a cylinder group.
 
-ghost use Rattle.std.specs.Prelude.{◌≡◌, ◌*◌, ◌<◌, ◌≤◌, length};
 ghost use Rattle.ffs_maps.specs.Bits.{bits_of};
 ghost use Rattle.ffs_groups.specs.Check.{AreCounts};
 ghost use Rattle.ffs_groups.specs.Free.{free_in};
 ghost use Rattle.ffs_groups.specs.Inodes.{class_in};
+ghost use Rattle.ffs_groups.specs.Inputs.{HasMaps};
 
 use crate::free::free_counts;
 use crate::inodes::inode_counts;
@@ -33,9 +33,7 @@ pub struct Counts {
 
 /// The right counts of a group: of the fragments that are not used, and of the inodes' kinds.
 pub fn group_counts(geometry: &Geometry, used: &FragmentMap, kinds: &[u8], group: u32) -> Counts
-    requires group { group < geometry.now.layout.ncg }
-    requires size { used.now.size ≡ geometry.now.layout.size }
-    requires kinds { length kinds.now ≡ geometry.now.layout.ncg * geometry.now.layout.ipg }
+    requires { HasMaps geometry.now.layout used.now.size kinds.now group }
     ensures { AreCounts geometry.now.layout (free_in (bits_of used.now) geometry.now.layout.size)
         (class_in kinds.now) group result }
 {

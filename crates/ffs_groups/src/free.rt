@@ -1,9 +1,10 @@
 //! The free blocks and fragments of a cylinder group.
 
-ghost use Rattle.std.specs.Prelude.{ℕ, ◌≡◌, ◌+◌, ◌-◌, ◌*◌, ◌/◌, ◌^◌, ◌<◌, ◌≤◌, true, false, slice_index, length, count_by, ◌==◌};
-ghost use Rattle.ffs_volume.specs.Groups.Records.{is_whole, free_runs, run_of, right_summary, right_frsum, block_bits};
+ghost use Rattle.std.specs.Prelude.{◌-◌, ◌*◌, ◌/◌, ◌^◌, ◌≤◌, count_by, ◌==◌};
+ghost use Rattle.ffs_volume.specs.Groups.Records.{free_runs, run_of};
 ghost use Rattle.ffs_maps.specs.Bits.{bits_of};
-ghost use Rattle.ffs_groups.specs.Free.{word_bits, whole_in, loose_in, runs_in, AreBelow, Added, AreFree, free_in};
+ghost use Rattle.ffs_groups.specs.Free.{word_bits, whole_in, loose_in, runs_in, AreBelow, HasBlocks, Grown, Added, AreFree, free_in};
+ghost use Rattle.ffs_groups.specs.Inputs.{HasFragments};
 
 use crate::maps::group_fragments;
 use ffs_layout::Geometry;
@@ -25,10 +26,7 @@ impl FreeCounts {
     fn end_run(&mut self, run: u32)
         requires run { run ≤ 8 }
         requires below { AreBelow (2 ^ 64 - 1) self.old }
-        ensures blocks { self.new.blocks ≡ self.old.blocks }
-        ensures fragments { self.new.fragments ≡ self.old.fragments }
-        ensures runs { (k : ℕ) → slice_index self.new.runs k
-            ≡ slice_index self.old.runs k + count_by (λ n. n == k) (run_of run) }
+        ensures { Grown 0 0 (λ k. count_by (λ n. n == k) (run_of run)) self.old self.new }
     {
         if run > 0 {
             self.runs[run as usize] += 1;
@@ -39,12 +37,9 @@ impl FreeCounts {
     fn add_loose(&mut self, bits: u64, frag: u32)
         requires frag { frag ≤ 8 }
         requires below { AreBelow (2 ^ 63) self.old }
-        ensures blocks { self.new.blocks ≡ self.old.blocks }
-        ensures fragments { self.new.fragments
-            ≡ self.old.fragments + count_by (λ f. f) (word_bits bits 0 frag) }
-        ensures runs { (k : ℕ) → slice_index self.new.runs k
-            ≡ slice_index self.old.runs k + count_by (λ n. n == k)
-            (free_runs 0 (word_bits bits 0 frag)) }
+        ensures { Grown 0 (count_by (λ f. f) (word_bits bits 0 frag))
+            (λ k. count_by (λ n. n == k) (free_runs 0 (word_bits bits 0 frag))) self.old
+            self.new }
     {
         let mut run = 0;
         for place in 0..frag {
@@ -61,27 +56,40 @@ impl FreeCounts {
 
     // Counts a block.
     fn add_block(&mut self, bits: u64, frag: u32)
-        requires frag { frag ≤ 8 }
+        requires block { HasBlocks 1 frag }
         requires below { AreBelow (2 ^ 63) self.old }
-        ensures blocks { self.new.blocks ≡ self.old.blocks + whole_in (word_bits bits 0 frag) }
-        ensures fragments { self.new.fragments
-            ≡ self.old.fragments + loose_in (word_bits bits 0 frag) }
-        ensures runs { (k : ℕ) → slice_index self.new.runs k
-            ≡ slice_index self.old.runs k + runs_in k (word_bits bits 0 frag) }
+        ensures { Grown (whole_in (word_bits bits 0 frag)) (loose_in (word_bits bits 0 frag))
+            (λ k. runs_in k (word_bits bits 0 frag)) self.old self.new }
     {
         let full = (1u64 << frag) - 1;
-        if bits & full == full {
+        let free = bits & full;
+        if free == full {
             self.blocks += 1;
-        } else {
+        } else if free != 0 {
             self.add_loose(bits, frag);
+        }
+    }
+
+    // Counts the blocks of a word, of which some have free fragments.
+    #[inline(never)]
+    fn add_mixed(&mut self, word: u64, blocks: u32, frag: u32)
+        requires blocks { HasBlocks blocks frag }
+        requires below { AreBelow (2 ^ 62) self.old }
+        ensures { Added (λ b. word_bits (word / 2 ^ (b * frag)) 0 frag) 0 blocks self.old self.new }
+    {
+        if frag == 1 && blocks > 0 {
+            let free = word & (u64::MAX >> (64 - blocks));
+            self.blocks += u64::from(free.count_ones());
+            return;
+        }
+        for block in 0..blocks {
+            self.add_block(word >> (block * frag), frag);
         }
     }
 
     // Counts the blocks of a word. Most words have no free fragment, or only free ones.
     fn add_word(&mut self, word: u64, blocks: u32, frag: u32)
-        requires frag { frag ≤ 8 }
-        requires blocks { blocks * frag ≤ 64 }
-        requires some { 0 < frag }
+        requires blocks { HasBlocks blocks frag }
         requires below { AreBelow (2 ^ 62) self.old }
         ensures { Added (λ b. word_bits (word / 2 ^ (b * frag)) 0 frag) 0 blocks self.old self.new }
     {
@@ -92,20 +100,15 @@ impl FreeCounts {
             self.blocks += u64::from(blocks);
             return;
         }
-        for block in 0..blocks {
-            self.add_block(word >> (block * frag), frag);
-        }
+        self.add_mixed(word, blocks, frag);
     }
 }
 
 /// What is free in a group: the fragments below the volume's size that are not used. Only the group's blocks that the volume
 /// has are looked at.
 pub fn free_counts(geometry: &Geometry, used: &FragmentMap, group: u32) -> FreeCounts
-    requires group { group < geometry.now.layout.ncg }
-    requires size { used.now.size ≡ geometry.now.layout.size }
-    ensures blocks_fit { result.blocks < 2 ^ 32 }
-    ensures fragments_fit { result.fragments < 2 ^ 32 }
-    ensures right { AreFree geometry.now.layout
+    requires { HasFragments geometry.now.layout used.now.size group }
+    ensures { AreFree geometry.now.layout
         (free_in (bits_of used.now) geometry.now.layout.size) group result }
 {
     let frag = geometry.layout.frag;

@@ -1,10 +1,11 @@
 //! The inodes of a cylinder group.
 
-ghost use Rattle.std.specs.Prelude.{ℕ, ◌≡◌, ◌+◌, ◌*◌, ◌<◌, length, count_by, not, slice_index, IfSome, if◌then◌else◌};
+ghost use Rattle.std.specs.Prelude.{ℕ, ◌≡◌, ◌<◌, length, slice_index, IfSome};
 ghost use Rattle.ffs_volume.specs.Blocks.Inodes.{is_directory, is_allocated};
-ghost use Rattle.ffs_volume.specs.Groups.Records.{is_used_inode, is_dir_inode, group_inodes};
+ghost use Rattle.ffs_volume.specs.Groups.Records.{is_used_inode};
 ghost use Rattle.ffs_volume.specs.Encodings.Kinds.{class_of_kind};
-ghost use Rattle.ffs_groups.specs.Inodes.{class_in};
+ghost use Rattle.ffs_groups.specs.Inodes.{AreInodes, class_in};
+ghost use Rattle.ffs_groups.specs.Inputs.{HasInodes};
 
 use ffs_layout::Geometry;
 
@@ -52,27 +53,17 @@ pub fn are_used(kinds: &[u8]) -> Option<bool>
     if least > 0 { Some(true) } else { None }
 }
 
-fn one_if(holds: bool) -> u32
-    ensures { result ≡ (if holds then 1 else 0) }
-{
-    u32::from(holds)
-}
-
 /// The directories and the free inodes of a group. Inodes 0 and 1 are neither.
 pub fn inode_counts(geometry: &Geometry, kinds: &[u8], group: u32) -> InodeCounts
-    requires group { group < geometry.now.layout.ncg }
-    requires kinds { length kinds.now ≡ geometry.now.layout.ncg * geometry.now.layout.ipg }
-    ensures dirs { result.dirs ≡ count_by (is_dir_inode (class_in kinds.now))
-        (group_inodes geometry.now.layout group) }
-    ensures free { result.free ≡ count_by (λ x. not (is_used_inode (class_in kinds.now) x))
-        (group_inodes geometry.now.layout group) }
+    requires { HasInodes geometry.now.layout kinds.now group }
+    ensures { AreInodes geometry.now.layout (class_in kinds.now) group result }
 {
     let first = group as usize * geometry.layout.ipg as usize;
     let end = first + geometry.layout.ipg as usize;
     let mut counts = InodeCounts { dirs: 0, free: 0 };
     for inode in first.max(2)..end {
-        counts.dirs += one_if(is_dir_kind(kinds[inode]));
-        counts.free += one_if(!is_used_kind(kinds[inode]));
+        counts.dirs += u32::from(is_dir_kind(kinds[inode]));
+        counts.free += u32::from(!is_used_kind(kinds[inode]));
     }
     counts
 }

@@ -10,6 +10,7 @@ ghost use Rattle.ffs_volume.specs.Groups.Records.{bit_at as map_bit, same_bit, h
 ghost use Rattle.ffs_maps.specs.Bits.{bits_of};
 ghost use Rattle.ffs_groups.specs.Free.{free_in};
 ghost use Rattle.ffs_groups.specs.Inodes.{class_in};
+ghost use Rattle.ffs_groups.specs.Inputs.{HasFragments, HasInodes};
 
 use crate::inodes::{are_used, is_used_at};
 use byteorder::{ByteOrder, LittleEndian};
@@ -86,8 +87,7 @@ pub fn same_inode_map(
     block: &[u8],
     place: u32,
 ) -> bool
-    requires group { group < geometry.now.layout.ncg }
-    requires kinds { length kinds.now ≡ geometry.now.layout.ncg * geometry.now.layout.ipg }
+    requires inodes { HasInodes geometry.now.layout kinds.now group }
     requires inside { place + div_ceil geometry.now.layout.ipg 8 ≤ length block.now }
     ensures { result ≡ has_bits block.now place geometry.now.layout.ipg
         (λ k. is_used_inode (class_in kinds.now) (group * geometry.now.layout.ipg + k)) }
@@ -162,8 +162,7 @@ pub fn same_fragment_map(
     block: &[u8],
     place: u32,
 ) -> bool
-    requires group { group < geometry.now.layout.ncg }
-    requires size { used.now.size ≡ geometry.now.layout.size }
+    requires fragments { HasFragments geometry.now.layout used.now.size group }
     requires inside { place + div_ceil geometry.now.layout.fpg 8 ≤ length block.now }
     ensures { result ≡ has_bits block.now place (group_size geometry.now.layout group)
         (λ k. free_in (bits_of used.now) geometry.now.layout.size

@@ -1,5 +1,6 @@
 -- The outcome, from what a read gives.
-use Rattle.std.proofs.Common.{◌≡◌, ℕ, ◌+◌, ◌*◌, ◌/◌, ◌<◌, ◌≤◌, true, false, List, length, Option, Some, None, Ok, Err, arith, sym, ◌∙◌, ap}
+use Rattle.std.proofs.Common.{◌≡◌, ℕ, ◌+◌, ◌*◌, ◌/◌, ◌<◌, ◌≤◌, true, false, List, length, Option, Some, None, Ok, Err}
+use Rattle.std.proofs.Common.{arith, sym, ◌∙◌, ap}
 use Rattle.ffs_volume.specs.declared.Order.{Order}
 use Rattle.ffs_volume.specs.declared.Layout.{Layout}
 use Rattle.ffs_layout.specs.Super.{IsCopySector}
@@ -15,25 +16,17 @@ use Rattle.ffs_volume.proofs.OutcomeLaws.{outcome_past_end, outcome_magic, outco
 pub taken : (at n : ℕ) (b xs : List ℕ) → length xs ≡ n → xs ≡ take (length xs) (drop at b) → xs ≡ piece at n b
 taken at n b xs long is = is ∙ ap (λ count. take count (drop at b)) long
 
-pub no_disagree : (at : ℕ) → Disagree ≡ CannotRead at → ⊥
-no_disagree at e = cc
-
-pub read_at : (count start at : ℕ) (sector : Option ℕ) → CannotRead start ≡ CannotRead at → start ≡ super_sector sector → count < start * 512 + 1376 → (at ≡ super_sector sector) × (count < at * 512 + 1376)
-read_at count start at sector e start_is h =
-    let same : start ≡ at = cc in
-    (sym same ∙ start_is, omega arith)
-
-pub sector_is : (at sector : ℕ) → CannotRead at ≡ CannotRead sector → at ≡ sector
-sector_is at sector e = cc
-
-module _ (contents : Option (List ℕ)) (count : ℕ) (sector : Option ℕ) (start : ℕ) (long : (b : List ℕ) → contents ≡ Some b → length b ≡ count) (start_is : start ≡ super_sector sector) where
-  pub past_end : count < start * 512 + 1376 → (b : List ℕ) → contents ≡ Some b → outcome b sector ≡ Err (CannotRead start)
+module _ (contents : Option (List ℕ)) (count : ℕ) (sector : Option ℕ) (start : ℕ)
+    (long : (b : List ℕ) → contents ≡ Some b → length b ≡ count) (start_is : start ≡ super_sector sector) where
+  pub past_end : count < start * 512 + 1376 → (b : List ℕ) → contents ≡ Some b →
+      outcome b sector ≡ Err (CannotRead start)
   past_end h b e =
       let size = long b e in
       let short : length b < super_sector sector * 512 + 1376 = omega arith in
       outcome_past_end b sector short ∙ ap (λ (at : ℕ). Err (CannotRead at)) (sym start_is)
 
-  module _ (bytes : List ℕ) (inside : start * 512 + 1376 ≤ count) (read : (b : List ℕ) → contents ≡ Some b → bytes ≡ piece (start * 512) 1376 b) where
+  module _ (bytes : List ℕ) (inside : start * 512 + 1376 ≤ count)
+      (read : (b : List ℕ) → contents ≡ Some b → bytes ≡ piece (start * 512) 1376 b) where
     fits : (b : List ℕ) → contents ≡ Some b → super_sector sector * 512 + 1376 ≤ length b
     fits b e = let size = long b e in omega arith
 
@@ -44,15 +37,22 @@ module _ (contents : Option (List ℕ)) (count : ℕ) (sector : Option ℕ) (sta
     magic none b e = outcome_magic b sector bytes (fits b e) (same b e) none
 
     module _ (order : Order) (order_is : order_of bytes ≡ Some order) where
-      pub fault : (f : SuperFault) → layout_fault (layout_of order bytes) count ≡ Some f → (b : List ℕ) → contents ≡ Some b → outcome b sector ≡ Err f
-      fault f h b e = outcome_fault b sector bytes (fits b e) (same b e) order order_is f (ap (layout_fault (layout_of order bytes)) (long b e) ∙ h)
+      pub fault : (f : SuperFault) → layout_fault (layout_of order bytes) count ≡ Some f → (b : List ℕ) →
+          contents ≡ Some b → outcome b sector ≡ Err f
+      fault f h b e = outcome_fault b sector bytes (fits b e) (same b e) order order_is f
+          (ap (layout_fault (layout_of order bytes)) (long b e) ∙ h)
 
-      pub copy_sector : (v : Layout) → v ≡ layout_of order bytes → (failed : ℕ) → failed ≡ copy_place v / 512 → (b : List ℕ) → contents ≡ Some b → IsCopySector (super_bytes b sector) failed
+      pub copy_sector : (v : Layout) → v ≡ layout_of order bytes → (failed : ℕ) → failed ≡ copy_place v / 512 →
+          (b : List ℕ) → contents ≡ Some b → IsCopySector (super_bytes b sector) failed
       copy_sector v v_is failed h b e = rw (← same b e, order_is) (rw v_is at h)
 
       module _ (good : layout_fault (layout_of order bytes) count ≡ None) where
-        pub disagree : ((b : List ℕ) → contents ≡ Some b → copy_agrees b sector order bytes ≡ false) → (b : List ℕ) → contents ≡ Some b → outcome b sector ≡ Err Disagree
-        disagree h b e = outcome_disagree b sector bytes (fits b e) (same b e) order order_is (ap (layout_fault (layout_of order bytes)) (long b e) ∙ good) (h b e)
+        pub disagree : ((b : List ℕ) → contents ≡ Some b → copy_agrees b sector order bytes ≡ false) → (b : List ℕ) →
+            contents ≡ Some b → outcome b sector ≡ Err Disagree
+        disagree h b e = outcome_disagree b sector bytes (fits b e) (same b e) order order_is
+            (ap (layout_fault (layout_of order bytes)) (long b e) ∙ good) (h b e)
 
-        pub accepted : ((b : List ℕ) → contents ≡ Some b → copy_agrees b sector order bytes ≡ true) → (b : List ℕ) → contents ≡ Some b → outcome b sector ≡ Ok (superblock_of order bytes)
-        accepted h b e = outcome_ok b sector bytes (fits b e) (same b e) order order_is (ap (layout_fault (layout_of order bytes)) (long b e) ∙ good) (h b e)
+        pub accepted : ((b : List ℕ) → contents ≡ Some b → copy_agrees b sector order bytes ≡ true) → (b : List ℕ) →
+            contents ≡ Some b → outcome b sector ≡ Ok (superblock_of order bytes)
+        accepted h b e = outcome_ok b sector bytes (fits b e) (same b e) order order_is
+            (ap (layout_fault (layout_of order bytes)) (long b e) ∙ good) (h b e)

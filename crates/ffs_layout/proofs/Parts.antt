@@ -1,5 +1,6 @@
 -- A list in parts of eight bytes, as a loop goes over them.
-use Rattle.std.proofs.Common.{zero, suc, ◌≡◌, ◌||◌, ◌++◌, ◌+◌, ◌*◌, ◌<◌, ◌∙◌, ap, sym, refl, ℕ, List, get_or, take, drop, arith, true, false, Bool}
+use Rattle.std.proofs.Common.{zero, suc, ◌≡◌, ◌||◌, ◌++◌, ◌+◌, ◌*◌, ◌<◌, ◌∙◌, ap, sym, refl, ℕ, List, get_or, take}
+use Rattle.std.proofs.Common.{drop, arith, true, false, Bool}
 use Rattle.std.specs.Simd.{first_chunks}
 use Rattle.std.proofs.lemmas.List.{drop-drop, take-append-drop}
 use Rattle.std.proofs.lemmas.List.Folds.{list_any-append}

@@ -5,12 +5,15 @@ use Rattle.std.specs.List.{list_all}
 use Rattle.std.proofs.lemmas.List.Folds.{list_all_at}
 use Rattle.std.proofs.lemmas.Bool.Decides.{nat_tests}
 
-pub list_all-passes : (test : ℕ → Bool) (xs : List ℕ) (i : ℕ) → list_all test xs ≡ true → i < length xs → test (get_or xs i 0) ≡ true
+pub list_all-passes : (test : ℕ → Bool) (xs : List ℕ) (i : ℕ) → list_all test xs ≡ true → i < length xs →
+    test (get_or xs i 0) ≡ true
 list_all-passes test xs i all h = known (test (get_or xs i 0)) refl
   where
     known : (b : Bool) → test (get_or xs i 0) ≡ b → b ≡ true
     known true e = refl
     known false e = let none = list_all_at test xs i 0 h e in cc
 
-pub place_within : (xs : List ℕ) (i : ℕ) → list_all (λ place. nat_le (place + 4) 1376) xs ≡ true → i < length xs → get_or xs i 0 + 4 ≤ 1376
-place_within xs i all h = let e = list_all-passes (λ place. nat_le (place + 4) 1376) xs i all h in grind (arith, nat_tests)
+pub place_within : (xs : List ℕ) (i : ℕ) → list_all (λ place. nat_le (place + 4) 1376) xs ≡ true → i < length xs →
+    get_or xs i 0 + 4 ≤ 1376
+place_within xs i all h = let e =
+    list_all-passes (λ place. nat_le (place + 4) 1376) xs i all h in grind (arith, nat_tests)

@@ -1,5 +1,6 @@
 -- Products of a signed and an unsigned number of 32 bits, in 64 bits.
-use Rattle.std.proofs.Common.{◌≡◌, ◌<◌, ◌≤◌, ◌^◌, ℕ, lit<, w32, w64, ℤ, pos, negsuc, ◌*ℤ◌, FitsSigned, to_z, of_z, arith, refl}
+use Rattle.std.proofs.Common.{◌≡◌, ◌<◌, ◌≤◌, ◌^◌, ℕ, lit<, w32, w64, ℤ, pos, negsuc, ◌*ℤ◌, FitsSigned, to_z, of_z}
+use Rattle.std.proofs.Common.{arith, refl}
 use Rattle.std.specs.Prelude.{unsigned_abs}
 use lib.Signed.{mag}
 use Rattle.std.proofs.lemmas.Int.{fits_signed_mul, to_z-of_z, fits_signed_from_abs}
@@ -15,7 +16,8 @@ abs_bound (negsuc n) f = let h : n < 2 ^ 31 = f.sfits in omega arith
 fits_product : (x : ℤ) (n : ℕ) → FitsSigned w32 x → n < 2 ^ 32 → FitsSigned w64 (x *ℤ pos n)
 fits_product x n f small = fits_signed_mul w64 x (pos n) (2 ^ 31) 4294967295 (abs_bound x f) (omega arith) (lit< tt)
 
-module _ (a b x : ℤ) (n : ℕ) (fits : FitsSigned w32 x) (small : n < 2 ^ 32) (a_is : a ≡ to_z w32 (of_z w32 x)) (b_is : b ≡ pos n) where
+module _ (a b x : ℤ) (n : ℕ) (fits : FitsSigned w32 x) (small : n < 2 ^ 32) (a_is : a ≡ to_z w32 (of_z w32 x))
+    (b_is : b ≡ pos n) where
   parts : to_z w64 (of_z w64 a) *ℤ to_z w64 (of_z w64 b) ≡ x *ℤ pos n
   parts =
       let wide : FitsSigned w64 x = widens x fits in

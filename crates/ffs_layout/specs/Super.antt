@@ -8,7 +8,14 @@ use Rattle.ffs_layout.specs.declared.superblock.Super.{Super}
 use Rattle.ffs_volume.specs.Disk.Superblock.{Superblock, order_of, layout_of}
 
 abbrev pub seen : Super → Superblock
-seen s = record { layout = s.geometry.layout; optim = s.optim; minfree = s.minfree; cstotal = s.cstotal; mount = s.mount }
+seen s = record {
+  layout = s.geometry.layout;
+  optim = s.optim;
+  minfree = s.minfree;
+  cstotal = s.cstotal;
+  mount =
+      s.mount;
+}
 
 -- The superblock of an answer, or its fault.
 abbrev pub found_of : Result Super SuperFault → Result Superblock SuperFault

@@ -1,6 +1,6 @@
 //! One entry of a directory.
 
-ghost use Rattle.std.specs.Prelude.{◌≡◌, ◌+◌, ◌≤◌, ◌==◌, ◌||◌, length, option_map, slice_index, IfSome, Some};
+ghost use Rattle.std.specs.Prelude.{IsTrue, ◌≡◌, ◌+◌, ◌≤◌, ◌==◌, ◌||◌, length, option_map, slice_index, IfSome, Some};
 ghost use Rattle.std.specs.List.{list_any};
 ghost use Rattle.ffs_volume.specs.Disk.Numbers.{piece};
 ghost use Rattle.ffs_volume.specs.Directories.Entries.{entry_at as entry_in, is_held as held, is_length as fits, is_name as named};
@@ -80,8 +80,7 @@ fn is_name(chunk: &[u8; 512], place: usize) -> bool
 
 // Whether the record at the place holds its name, and has a type.
 fn is_held(chunk: &[u8; 512], place: usize, len: u16) -> bool
-    requires room { place + len ≤ 512 }
-    requires header { 8 ≤ len }
+    requires { IsTrue (fits place len) }
     ensures { result ≡ held chunk.now place len }
 {
     8 + (usize::from(chunk[place + 7]) + 4) / 4 * 4 <= usize::from(len)

@@ -1,11 +1,12 @@
 //! An accepted layout, and where the parts of its volume lie.
 
-ghost use Rattle.std.specs.Prelude.{IsTrue, MatchResult, ◌≡◌, ◌<◌, ◌≤◌, ◌+◌, ◌-◌, ◌*◌, ◌^◌};
+ghost use Rattle.std.specs.Prelude.{MatchResult, ◌≡◌, ◌<◌, ◌≤◌, ◌*◌, ◌+◌};
 ghost use Rattle.ffs_volume.specs.Disk.Outcome.{layout_fault};
 ghost use Rattle.ffs_volume.specs.Disk.Areas.{cgbase, cgdmin, cgsblock, cgstart, group_place, inode_place, is_in_range, is_group_metadata, is_data_fragment, is_reserved, summary_place};
 ghost use Rattle.ffs_volume.specs.Disk.Geometry.{IsGeometry};
+ghost use Rattle.ffs_layout.specs.Accepted.{IsAccepted};
 
-use crate::groups::start_of;
+use crate::groups::shift_of;
 use crate::shape::fault_of;
 use ffs_volume::{Layout, Order, SuperFault};
 
@@ -24,11 +25,8 @@ impl Geometry {
     /// Errors: the first rule that refuses it.
     #[tactic(auto, using(ffs_volume::proofs::GeometryLaws::geometry_holds))]
     pub fn new(layout: Layout, image_size: u64) -> Result<Geometry, SuperFault>
-        ensures fault { MatchResult result (λ _. layout_fault layout image_size ≡ None)
-            (λ e. layout_fault layout image_size ≡ Some e) }
-        ensures layout { MatchResult result (λ g. g.layout ≡ layout) (λ _. Unit {0}) }
-        ensures in_image { MatchResult result (λ g. g.layout.size * g.layout.fsize ≤ image_size)
-            (λ _. Unit {0}) }
+        ensures { MatchResult result (λ g. IsAccepted layout image_size g.layout)
+            (λ fault. layout_fault layout image_size ≡ Some fault) }
     {
         match fault_of(&layout, image_size) {
             Some(fault) => Err(fault),
@@ -54,11 +52,12 @@ impl Geometry {
     }
 
     /// The fragment from which the places of the group's parts are counted (fs(5), `cgstart`).
+    #[tactic(auto, using(crate::proofs::Starts::abs_is), unfolding(ffs_volume::specs::Disk::Areas::cgstart, ffs_volume::specs::Disk::Areas::cgbase))]
     pub fn cgstart(&self, group: u32) -> u32
         requires { group < self.now.layout.ncg }
         ensures { result ≡ cgstart self.now.layout group }
     {
-        start_of(&self.layout, group)
+        self.cgbase(group) + shift_of(&self.layout, group).unsigned_abs() as u32
     }
 
     /// The first fragment of the group's copy of the superblock (fs(5), `cgsblock`).

@@ -1,14 +1,15 @@
 //! Where the parts of each group lie.
 
-ghost use Rattle.std.specs.Prelude.{pos, IsTrue, ◌≡◌, ◌<◌, ◌≤◌, ◌+◌, ◌-◌, ◌*◌, ◌^◌};
+ghost use Rattle.std.specs.Prelude.{◌≡◌, ◌<◌, ◌-◌, ◌*◌, ◌^◌};
 ghost use Rattle.ffs_volume.specs.Disk.Outcome.{is_group};
-ghost use Rattle.ffs_volume.specs.Disk.Areas.{cgstart, cgoffset_of};
-ghost use Rattle.ffs_volume.specs.Disk.Numbers.{all_below, natural};
+ghost use Rattle.ffs_volume.specs.Disk.Areas.{cgoffset_of};
+ghost use Rattle.ffs_volume.specs.Disk.Numbers.{all_below};
 
 use ffs_volume::Layout;
 
+/// By how many fragments the parts of a group are moved.
 #[tactic(auto, unfolding(ffs_volume::specs::Disk::Areas::cgoffset_of))]
-fn shift_of(v: &Layout, group: u32) -> i64
+pub fn shift_of(v: &Layout, group: u32) -> i64
     ensures { result ≡ cgoffset_of v.now group }
 {
     i64::from(v.cgoffset) * i64::from(group & !v.cgmask)
@@ -28,6 +29,7 @@ fn group_fits(v: &Layout, group: u32) -> bool
     data <= (base + u64::from(v.fpg)).min(u64::from(v.size))
 }
 
+/// Whether the metadata of each group ends within the group and the volume.
 pub fn groups_fit(v: &Layout) -> bool
     requires { (v.now.ncg - 1) * v.now.fpg < 2 ^ 31 }
     ensures { result ≡ all_below v.now.ncg (is_group v.now) }
@@ -38,23 +40,4 @@ pub fn groups_fit(v: &Layout) -> bool
         }
     }
     true
-}
-
-// A shift that isn't negative.
-#[tactic(auto, using(crate::proofs::Starts::abs_is))]
-fn shift_up(v: &Layout, group: u32) -> u64
-    requires { cgoffset_of v.now group ≡ pos (natural (cgoffset_of v.now group)) }
-    ensures { result ≡ natural (cgoffset_of v.now group) }
-{
-    shift_of(v, group).unsigned_abs()
-}
-
-/// Where the parts of an accepted group begin.
-#[tactic(auto, unfolding(ffs_volume::specs::Disk::Areas::cgstart, ffs_volume::specs::Disk::Areas::cgbase))]
-pub fn start_of(v: &Layout, group: u32) -> u32
-    requires within { cgstart v.now group < 2 ^ 31 }
-    requires up { cgoffset_of v.now group ≡ pos (natural (cgoffset_of v.now group)) }
-    ensures { result ≡ cgstart v.now group }
-{
-    (u64::from(v.fpg) * u64::from(group) + shift_up(v, group)) as u32
 }

@@ -1,6 +1,6 @@
 //! The rules that a layout has to meet.
 
-ghost use Rattle.std.specs.Prelude.{IsTrue, ◌≡◌, ◌<◌, ◌≤◌, ◌-◌, ◌*◌, ◌^◌};
+ghost use Rattle.std.specs.Prelude.{◌≡◌, ◌<◌};
 ghost use Rattle.ffs_volume.specs.Disk.Outcome.{are_cylinders, are_numbers, are_parts, are_sizes, is_block_size, is_fragment_count, is_fragment_size, is_shaped, is_summary_area, layout_fault};
 
 use crate::groups::groups_fit;
@@ -8,32 +8,28 @@ use ffs_volume::{Layout, SuperFault};
 
 #[tactic(auto, unfolding(ffs_volume::specs::Disk::Outcome::is_block_size))]
 fn can_be_block_size(n: u32) -> bool
-    ensures value { result ≡ is_block_size n }
-    ensures above { IsTrue result → 4096 ≤ n }
+    ensures { result ≡ is_block_size n }
 {
     matches!(n, 4096 | 8192 | 16384 | 32768 | 65536)
 }
 
 #[tactic(auto, unfolding(ffs_volume::specs::Disk::Outcome::is_fragment_size))]
 fn can_be_fragment_size(n: u32) -> bool
-    ensures value { result ≡ is_fragment_size n }
-    ensures above { IsTrue result → 512 ≤ n }
+    ensures { result ≡ is_fragment_size n }
 {
     matches!(n, 512 | 1024 | 2048 | 4096 | 8192 | 16384 | 32768 | 65536)
 }
 
 #[tactic(auto, unfolding(ffs_volume::specs::Disk::Outcome::is_fragment_count))]
 fn can_be_fragment_count(n: u32) -> bool
-    ensures value { result ≡ is_fragment_count n }
-    ensures above { IsTrue result → 1 ≤ n }
+    ensures { result ≡ is_fragment_count n }
 {
     matches!(n, 1 | 2 | 4 | 8)
 }
 
-#[tactic(auto, unfolding(ffs_volume::specs::Disk::Outcome::are_sizes))]
+#[tactic(auto, using(crate::proofs::Shapes::block_size_above, crate::proofs::Shapes::fragment_count_above), unfolding(ffs_volume::specs::Disk::Outcome::are_sizes))]
 fn has_sizes(v: &Layout) -> bool
-    ensures value { result ≡ are_sizes v.now }
-    ensures above { IsTrue result → 512 ≤ v.now.fsize }
+    ensures { result ≡ are_sizes v.now }
 {
     can_be_block_size(v.bsize)
         && can_be_fragment_size(v.fsize)
@@ -49,9 +45,7 @@ fn has_sizes(v: &Layout) -> bool
 
 #[tactic(auto, unfolding(ffs_volume::specs::Disk::Outcome::are_numbers))]
 fn has_numbers(v: &Layout) -> bool
-    requires { 0 < v.now.ncg }
-    ensures value { result ≡ are_numbers v.now }
-    ensures below { IsTrue result → (v.now.ncg - 1) * v.now.fpg < 2 ^ 31 }
+    ensures { result ≡ are_numbers v.now }
 {
     let ncg = u64::from(v.ncg);
     let fpg = u64::from(v.fpg);
@@ -60,7 +54,7 @@ fn has_numbers(v: &Layout) -> bool
         && v.maxsymlinklen <= 60
         && v.postblformat == 1
         && v.sbsize >= 1376
-        && (ncg - 1) * fpg < size
+        && ncg.saturating_sub(1) * fpg < size
         && size <= ncg * fpg
         && size < 1 << 31
         && ncg * u64::from(v.ipg) < 1 << 31
@@ -94,9 +88,8 @@ fn has_summary(v: &Layout) -> bool
         && end <= u64::from(v.fpg.min(v.size))
 }
 
-#[tactic(auto, unfolding(ffs_volume::specs::Disk::Outcome::is_shaped))]
+#[tactic(auto, using(crate::proofs::Shapes::fragments_above, crate::proofs::Shapes::bases_below), unfolding(ffs_volume::specs::Disk::Outcome::is_shaped))]
 fn has_shape(v: &Layout) -> bool
-    requires { 0 < v.now.ncg }
     ensures { result ≡ is_shaped v.now }
 {
     // The summary area bounds the number of groups by the size of one.
@@ -134,11 +127,10 @@ pub fn fault_of(v: &Layout, image_size: u64) -> Option<SuperFault>
 
 #[tactic(auto, unfolding(ffs_volume::specs::Disk::Outcome::are_cylinders))]
 fn has_cylinders(v: &Layout) -> bool
-    requires { 0 < v.now.ncg }
     ensures { result ≡ are_cylinders v.now }
 {
     let ncg = u64::from(v.ncg);
     let cpg = u64::from(v.cpg);
     let ncyl = u64::from(v.ncyl);
-    ncyl <= ncg * cpg && (ncg - 1) * cpg < ncyl
+    ncyl <= ncg * cpg && ncg.saturating_sub(1) * cpg < ncyl
 }

@@ -1,11 +1,12 @@
 //! The superblock of an image.
 
-ghost use Rattle.ffs_layout.specs.Reads.{ReadFailed};
-ghost use Rattle.std.specs.Prelude.{true, false, IsErrAnd, OnOk, OnErr, IfErr, ℕ, ◌^◌, IsTrue, nat_le, ◌==◌, ◌≡◌, ◌+◌, ◌*◌, ◌/◌, ◌<◌, ◌≤◌, ◌⊎◌, length, List, IfOk, Option, Some, None, MatchResult};
-ghost use Rattle.ffs_volume.specs.Disk.Outcome.{agree, copy_agrees, copy_place, outcome, super_sector};
-ghost use Rattle.ffs_volume.specs.Disk.Numbers.{piece, u32_at};
+ghost use Rattle.std.specs.Prelude.{IfErr, ℕ, ◌^◌, IsTrue, nat_le, ◌==◌, ◌≡◌, ◌+◌, ◌*◌, ◌<◌, ◌≤◌, IfOk, MatchResult};
+ghost use Rattle.ffs_volume.specs.Disk.Outcome.{agree, super_sector};
+ghost use Rattle.ffs_volume.specs.Disk.Numbers.{u32_at};
 ghost use Rattle.std.specs.List.{list_all};
 ghost use Rattle.ffs_volume.specs.Disk.Superblock.{layout_of, order_of, superblock_of};
+ghost use Rattle.ffs_layout.specs.Accepted.{IsAccepted};
+ghost use Rattle.ffs_layout.specs.Copies.{IsCopy, IsUnreadCopy, CopyAgrees, IsCopyFault};
 ghost use Rattle.ffs_layout.specs.Super.{Answers, IsUnread, found_of, seen};
 
 use crate::geometry::Geometry;
@@ -13,6 +14,11 @@ use crate::layout::decode;
 use crate::numbers::{i32_at, u32_at};
 use ffs_image::Image;
 use ffs_volume::{FS_MAGIC, LAYOUT_PLACES, Order, SuperFault};
+
+// The bytes of a sector, and the sector of the primary superblock.
+const SECTOR: u64 = 512;
+
+const PRIMARY_SECTOR: u32 = 16;
 
 // The order in which the magic number reads right.
 #[tactic(auto, unfolding(ffs_volume::specs::Disk::Superblock::order_of))]
@@ -54,17 +60,13 @@ fn layouts_agree(order: Order, bytes: &[u8; 1376], copy: &[u8; 1376]) -> bool
 // Reads a superblock.
 fn read_copy<I: Image>(image: &mut I, at: u64, out: &mut [u8; 1376]) -> Result<(), SuperFault>
     requires { at < 2 ^ 63 }
-    ensures length { length out.new ≡ 1376 }
-    ensures ok { OnOk result (I.device image.new ≡ I.device image.old) }
-    ensures inside { OnOk result (at + 1376 ≤ (I.device image.old).size) }
-    ensures reported { OnOk result ((b : List ℕ) → (I.device image.old).contents ≡ Some b → out.new
-        ≡ piece at 1376 b) }
-    ensures fault { IfErr result (λ fault. fault ≡ SuperFault.CannotRead (at / 512)) }
-    ensures failed { OnErr result (ReadFailed result (I.device image.old) (I.device image.new)
-        ⊎ ((I.device image.new ≡ I.device image.old) × ((I.device image.old).size < at + 1376))) }
+    ensures { MatchResult result (λ _. IsCopy (I.device image.old) (I.device image.new) at out.new)
+        (IsUnreadCopy (I.device image.old) (I.device image.new) at) }
 {
     if image.size() < at + 1376 {
-        return Err(SuperFault::CannotRead { sector: at / 512 });
+        return Err(SuperFault::CannotRead {
+            sector: at / SECTOR,
+        });
     }
     match image.read_at(at, out) {
         Ok(()) => Ok(()),
@@ -118,8 +120,7 @@ impl Super {
 #[tactic(auto, unfolding(ffs_volume::specs::Disk::Superblock::superblock_of))]
 fn make_super(order: Order, bytes: &[u8; 1376], geometry: Geometry) -> Super
     requires { geometry.layout ≡ layout_of order bytes.now }
-    ensures seen { seen result ≡ superblock_of order bytes.now }
-    ensures geometry { result.geometry.layout ≡ geometry.layout }
+    ensures { seen result ≡ superblock_of order bytes.now }
 {
     let mut mount = [0; 512];
     mount.copy_from_slice(&bytes[212..724]);
@@ -138,7 +139,7 @@ fn make_super(order: Order, bytes: &[u8; 1376], geometry: Geometry) -> Super
 }
 
 // Compares the last copy, where no sector was asked for.
-#[tactic(auto, using(ffs_volume::proofs::AreaLaws::copy_inside), unfolding(ffs_volume::specs::Disk::Outcome::copy_agrees))]
+#[tactic(auto, unfolding(ffs_volume::specs::Disk::Outcome::copy_agrees))]
 fn check_copy<I: Image>(
     image: &mut I,
     sector: Option<u32>,
@@ -146,20 +147,11 @@ fn check_copy<I: Image>(
     bytes: &[u8; 1376],
     geometry: &Geometry,
 ) -> Result<(), SuperFault>
-    requires layout { geometry.now.layout ≡ layout_of order bytes.now }
-    requires in_image { geometry.now.layout.size * geometry.now.layout.fsize
-        ≤ (I.device image.old).size }
-    ensures ok { OnOk result (I.device image.new ≡ I.device image.old) }
-    ensures sector { IfErr result (λ fault. (sector ≡ None)
-        × ((at : ℕ) → fault ≡ SuperFault.CannotRead at → at
-        ≡ copy_place geometry.now.layout / 512)) }
-    ensures agrees { OnOk result ((b : List ℕ) → (I.device image.old).contents ≡ Some b
-        → copy_agrees b sector order bytes.now ≡ true) }
-    ensures failed { OnErr result (ReadFailed result (I.device image.old) (I.device image.new)
-        ⊎ ((I.device image.new ≡ I.device image.old)
-        × IsErrAnd result (λ fault. fault ≡ SuperFault.Disagree)
-        × ((b : List ℕ) → (I.device image.old).contents ≡ Some b
-        → copy_agrees b sector order bytes.now ≡ false))) }
+    requires { IsAccepted (layout_of order bytes.now) (I.device image.old).size
+        geometry.now.layout }
+    ensures { MatchResult result
+        (λ _. CopyAgrees (I.device image.old) (I.device image.new) sector order bytes.now)
+        (IsCopyFault (I.device image.old) (I.device image.new) sector order bytes.now) }
 {
     if sector.is_some() {
         return Ok(());
@@ -175,14 +167,10 @@ fn check_copy<I: Image>(
     }
 }
 
-fn first_sector(sector: Option<u32>) -> u64
-    ensures value { result ≡ super_sector sector }
-    ensures small { result < 2 ^ 32 }
+fn first_sector(sector: Option<u32>) -> u32
+    ensures { result ≡ super_sector sector }
 {
-    match sector {
-        Some(sector) => u64::from(sector),
-        None => 16,
-    }
+    sector.unwrap_or(PRIMARY_SECTOR)
 }
 
 /// The superblock at a sector, or the primary one.
@@ -198,20 +186,13 @@ pub fn read_super<I: Image>(image: &mut I, sector: Option<u32>) -> Result<Super,
     // A failed read is answered, by its sector. With none, the answer is the outcome, where the bytes are given.
     ensures answer { Answers (I.device image.old) (I.device image.new) sector (found_of result) }
 {
-    let start = first_sector(sector);
+    let start = u64::from(first_sector(sector)) * SECTOR;
     let mut bytes = [0; 1376];
-    if let Err(fault) = read_copy(image, start * 512, &mut bytes) {
-        return Err(fault);
-    }
+    read_copy(image, start, &mut bytes)?;
     let Some(order) = order_of_magic(&bytes) else {
         return Err(SuperFault::Magic);
     };
-    let geometry = match Geometry::new(decode(order, &bytes), image.size()) {
-        Ok(geometry) => geometry,
-        Err(fault) => return Err(fault),
-    };
-    if let Err(fault) = check_copy(image, sector, order, &bytes, &geometry) {
-        return Err(fault);
-    }
+    let geometry = Geometry::new(decode(order, &bytes), image.size())?;
+    check_copy(image, sector, order, &bytes, &geometry)?;
     Ok(make_super(order, &bytes, geometry))
 }

@@ -13,8 +13,12 @@ unfolding is_magic is_record are_places are_maps
 returns c = record {
   magic = ap (λ g. nat_eq g.magic 590421) c.decode-found.ensures;
   counts = c.same_summary.ensures ∙ ap (λ r. same_counts r c.args.counts.now.summary) c.decode-record.ensures
-      ∙ summary_as c.args.geometry.now.layout 0 c.args.summary.now c.args.counts.now.summary (λ k. Fits-lt-pow (c.type_inv.summary k)) ∙ ap (has_summary c.args.geometry.now.layout 0 c.args.summary.now) c.requires.counts.summary;
+      ∙ summary_as c.args.geometry.now.layout 0 c.args.summary.now c.args.counts.now.summary
+      (λ k. Fits-lt-pow (c.type_inv.summary k))
+      ∙ ap (has_summary c.args.geometry.now.layout 0 c.args.summary.now) c.requires.counts.summary;
   maps = rw c.decode-found.ensures at c.maps_are_right.ensures;
   sums = (rw c.decode-found.ensures at c.sums_are_right.ensures)
-      ∙ sums_as c.args.geometry.now.layout (free_in (bits_of c.args.used.now) c.args.geometry.now.layout.size) (class_in c.args.kinds.now) c.args.group c.args.block.now c.args.counts.now (λ k. Fits-lt-pow (c.type_inv.block k)) c.requires.counts;
+      ∙ sums_as c.args.geometry.now.layout (free_in (bits_of c.args.used.now) c.args.geometry.now.layout.size)
+      (class_in c.args.kinds.now) c.args.group c.args.block.now c.args.counts.now
+      (λ k. Fits-lt-pow (c.type_inv.block k)) c.requires.counts;
 }

@@ -12,7 +12,8 @@ pub returns-then-from-right : goal.returns-then-from-right
 unfolding has_bits_of
 returns-then-from-right c =
     let differ : same_run c.args.found.now c.args.right.now c.loop-length.length ≡ false = search (rules, arith) in
-    sym (fails_at 8 c.loop-length.length (λ k. same_run c.args.found.now c.args.right.now k) c.loop-length-test.true differ)
+    sym (fails_at 8 c.loop-length.length
+    (λ k. same_run c.args.found.now c.args.right.now k) c.loop-length-test.true differ)
 
 pub loop-length-preserved : goal.loop-length-preserved
 unfolding has_bits_of

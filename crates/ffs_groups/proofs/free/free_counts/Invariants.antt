@@ -6,7 +6,8 @@ use Rattle.ffs_groups.proofs.free.free_counts.Given as goal
 
 abbrev pub invariant-loop-block : goal.invariant-loop-block
 invariant-loop-block l = record {
-  added : Added (block_bits l.geometry.layout (free_in (bits_of l.used) l.geometry.layout.size) l.group) 0 l.block l.initial.counts l.counts;
+  added : Added (block_bits l.geometry.layout (free_in (bits_of l.used) l.geometry.layout.size) l.group) 0 l.block
+      l.initial.counts l.counts;
   within : l.block ≤ l.blocks;
 }
 

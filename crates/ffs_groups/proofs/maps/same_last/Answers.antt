@@ -17,7 +17,11 @@ pub returns : goal.returns
 returns c =
     let free = free_in (bits_of c.args.used.now) c.args.used.now.size in
     c.same_bits.ensures
-    ∙ same_below c.args.count (λ k. same_bit (nat_eq (bit_at c.word_at-found.result k) 1) (nat_eq (bit_at c.clear_bits-right.result k) 1)) (λ k. same_bit (map_bit c.args.block.now c.args.place k) (free (c.args.base + k)))
-    (λ k h. ap (λ b. same_bit b (nat_eq (bit_at c.clear_bits-right.result k) 1)) (c.word_at-found.ensures k (omega (arith, h, c.div_ceil.ensures)))
+    ∙ same_below c.args.count
+    (λ k. same_bit (nat_eq (bit_at c.word_at-found.result k) 1) (nat_eq (bit_at c.clear_bits-right.result k) 1))
+    (λ k. same_bit (map_bit c.args.block.now c.args.place k) (free (c.args.base + k)))
+    (λ k h. ap (λ b. same_bit b (nat_eq (bit_at c.clear_bits-right.result k) 1))
+    (c.word_at-found.ensures k (omega (arith, h, c.div_ceil.ensures)))
     ∙ ap (λ b. same_bit (map_bit c.args.block.now c.args.place k) b)
-    (c.clear_bits-right.ensures k (omega (arith, h, c.requires.count)) ∙ clear_as_free (bits_of c.args.used.now) c.args.used.now.size c.args.used.now.size _ _ refl refl))
+    (c.clear_bits-right.ensures k (omega (arith, h, c.requires.count))
+    ∙ clear_as_free (bits_of c.args.used.now) c.args.used.now.size c.args.used.now.size _ _ refl refl))

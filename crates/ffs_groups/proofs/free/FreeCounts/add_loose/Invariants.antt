@@ -6,8 +6,11 @@ use Rattle.ffs_groups.proofs.free.FreeCounts.add_loose.Given as goal
 
 abbrev pub invariant-loop-place : goal.invariant-loop-place
 invariant-loop-place l = record {
-  fragments : l.self.fragments + count_by (λ f. f) (word_bits l.bits l.place (l.frag - l.place)) ≡ l.initial.self.fragments + count_by (λ f. f) (word_bits l.bits 0 l.frag);
-  runs : (k : ℕ) → slice_index l.self.runs k + count_by (λ n. n == k) (free_runs l.run (word_bits l.bits l.place (l.frag - l.place)))
+  fragments : l.self.fragments + count_by (λ f. f)
+      (word_bits l.bits l.place (l.frag - l.place)) ≡ l.initial.self.fragments + count_by (λ f. f)
+      (word_bits l.bits 0 l.frag);
+  runs : (k : ℕ) → slice_index l.self.runs k + count_by (λ n. n == k)
+      (free_runs l.run (word_bits l.bits l.place (l.frag - l.place)))
       ≡ slice_index l.initial.self.runs k + count_by (λ n. n == k) (free_runs 0 (word_bits l.bits 0 l.frag));
   run : l.run ≤ l.place;
   blocks : l.self.blocks ≡ l.initial.self.blocks;

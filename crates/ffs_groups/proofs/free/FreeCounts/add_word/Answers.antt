@@ -1,28 +1,13 @@
-use Rattle.std.proofs.Common.{arith, refl, ap, ◌≡◌, ◌+◌, ◌*◌, ◌/◌, ◌^◌, ◌≤◌}
-use Rattle.ffs_groups.specs.Free.{word_bits}
-use Rattle.ffs_groups.proofs.Runs.{length_bits}
-use Rattle.ffs_groups.proofs.Adding.{added_more, added_below}
+use Rattle.std.proofs.Common.{refl, ap, ◌+◌}
 use Rattle.ffs_groups.proofs.Words.{zero_word, full_word}
 use Rattle.ffs_groups.proofs.free.FreeCounts.add_word.Goals as goal
 
-pub add_block-requires-clause-below : goal.add_block-requires-clause-below
-add_block-requires-clause-below c =
-    let few : c.loop-block.block ≤ 64 = grind arith in
-    added_below (λ b. word_bits (c.args.word / 2 ^ (b * c.args.frag)) 0 c.args.frag) c.loop-block.block (2 ^ 62) (2 ^ 63) c.args.self.now c.loop-block.self c.loop-block.invariant
-    (λ b. omega (arith, length_bits (c.args.word / 2 ^ (b * c.args.frag)) 0 c.args.frag, c.requires.frag)) c.requires.below (omega (arith, few))
-
-pub loop-block-preserved : goal.loop-block-preserved
-loop-block-preserved c =
-    added_more (λ b. word_bits (c.args.word / 2 ^ (b * c.args.frag)) 0 c.args.frag) c.loop-block.block c.args.self.now c.loop-block.self c.add_block.new.self c.loop-block.invariant
-    c.add_block.ensures.blocks c.add_block.ensures.fragments c.add_block.ensures.runs
-
 pub returns-then-word-eq0 : goal.returns-then-word-eq0
-returns-then-word-eq0 c = zero_word c.args.word c.args.frag c.args.blocks c.args.self.now c.if-word-eq0.true c.requires.some
+returns-then-word-eq0 c =
+    zero_word c.args.word c.args.frag c.args.blocks c.args.self.now c.if-word-eq0.true c.requires.blocks.some
 
 pub returns-then-word-eq18446744073709551615 : goal.returns-then-word-eq18446744073709551615
 returns-then-word-eq18446744073709551615 c =
-    full_word c.args.word c.args.frag c.args.blocks c.args.self.now _ c.if-word-eq18446744073709551615.true c.requires.blocks
+    full_word c.args.word c.args.frag c.args.blocks c.args.self.now _ c.if-word-eq18446744073709551615.true
+    c.requires.blocks.room
     (ap (λ n. c.args.self.now.blocks + n) c.from.ensures) refl (λ j. refl)
-
-pub returns : goal.returns
-returns c = let all : c.loop-block.block ≡ c.args.blocks = omega arith in rw all at c.loop-block.invariant

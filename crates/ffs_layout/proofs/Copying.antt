@@ -1,0 +1,45 @@
+-- Copies of a superblock that are read, and faults of them.
+use Rattle.std.proofs.Common.{◌≡◌, ℕ, ◌*◌, ◌/◌, ◌≤◌, false, List, Option, Some, None, arith, refl, ap, ◌∙◌, inl, inr}
+use Rattle.std.specs.Option.{is_some}
+use Rattle.ffs_image.specs.Device.{Device, Faulted}
+use Rattle.ffs_volume.specs.declared.Layout.{Layout}
+use Rattle.ffs_volume.specs.declared.Order.{Order}
+use Rattle.ffs_volume.specs.declared.SuperFault.{SuperFault}
+use Rattle.ffs_volume.specs.declared.SuperFault.TheVariants.{CannotRead}
+use Rattle.ffs_volume.specs.Disk.Geometry.{IsGeometry}
+use Rattle.ffs_volume.specs.Disk.Outcome.{copy_place}
+use Rattle.ffs_volume.specs.Disk.Superblock.{layout_of, superblock_of}
+use Rattle.ffs_volume.proofs.AreaLaws.{copy_inside}
+use Rattle.ffs_layout.specs.declared.superblock.Super.{Super}
+use Rattle.ffs_layout.specs.Copies.{IsUnreadCopy, IsCopyFault}
+use Rattle.ffs_layout.specs.Super.{seen}
+
+none_asked : (sector : Option ℕ) → is_some sector ≡ false → sector ≡ None
+none_asked None e = refl
+none_asked (Some sector) e = cc
+
+-- the fault is in the sector that the image now gives
+pub faulted_there : (old new : Device) (sector : ℕ) → Faulted old new sector → Faulted old new new.failed
+faulted_there old new sector f = record { contents = f.contents; size = f.size; failed = refl; rose = f.rose }
+
+-- a copy that isn't read is one whose read fails, since an accepted volume holds its copies
+pub copy_fault : (v : Layout) (old new : Device) (sector : Option ℕ) (order : Order) (bytes : List ℕ)
+    (answer : SuperFault) (at : ℕ) → IsGeometry v →
+    v ≡ layout_of order bytes → v.size * v.fsize ≤ old.size → is_some sector ≡ false → at ≡ copy_place v →
+    IsUnreadCopy old new at answer →
+    IsCopyFault old new sector order bytes answer
+copy_fault v old new sector order bytes answer at geometry v_is inside none at_is unread =
+    let place : at ≡ copy_place (layout_of order bytes) = at_is ∙ ap copy_place v_is in
+    elim unread.cause [
+      | inl failed ↦ inl (record {
+        compared = none_asked sector none;
+        fault = unread.fault ∙ ap (λ (n : ℕ). CannotRead (n / 512)) place;
+        failed = rw place at failed;
+      })
+      | inr past ↦ let held = copy_inside v geometry in absurd (omega (arith, past.1))
+    ]
+
+pub seen_layout : (super : Super) (order : Order) (bytes : List ℕ) → seen super ≡ superblock_of order bytes →
+    super.geometry.layout ≡ layout_of order bytes
+unfolding superblock_of
+seen_layout super order bytes e = ap (λ s. s.layout) e

@@ -1,0 +1,43 @@
+-- What is read and compared of a superblock and its copies.
+use Rattle.std.specs.Prelude.{◌≡◌, ℕ, ◌+◌, ◌<◌, ◌≤◌, ◌/◌, ◌⊎◌, true, false, List, Option, None}
+use Rattle.ffs_image.specs.Device.{Device, Faulted, ForContents}
+use Rattle.ffs_volume.specs.declared.Order.{Order}
+use Rattle.ffs_volume.specs.declared.SuperFault.{SuperFault}
+use Rattle.ffs_volume.specs.declared.SuperFault.TheVariants.{CannotRead, Disagree}
+use Rattle.ffs_volume.specs.Disk.Numbers.{piece}
+use Rattle.ffs_volume.specs.Disk.Outcome.{copy_agrees, copy_place}
+use Rattle.ffs_volume.specs.Disk.Superblock.{SBSIZE, DEV_BSIZE, layout_of}
+
+-- the bytes of the superblock at a place, which lies in the image
+pub record IsCopy (old new : Device) (at : ℕ) (copy : List ℕ) : Type 0 where
+  pub same : new ≡ old
+  pub inside : at + SBSIZE ≤ old.size
+  pub bytes : ForContents old.contents (λ b. copy ≡ piece at SBSIZE b)
+
+-- the superblock at a place can't be read: the read fails, or it lies past the end
+pub record IsUnreadCopy (old new : Device) (at : ℕ) (answer : SuperFault) : Type 0 where
+  pub fault : answer ≡ CannotRead (at / DEV_BSIZE)
+  pub cause : Faulted old new (at / DEV_BSIZE) ⊎ ((new ≡ old) × (old.size < at + SBSIZE))
+
+-- the last copy agrees, where it is compared
+pub record CopyAgrees (old new : Device) (sector : Option ℕ) (order : Order) (bytes : List ℕ) : Type 0 where
+  pub same : new ≡ old
+  pub agrees : ForContents old.contents (λ b. copy_agrees b sector order bytes ≡ true)
+
+-- the last copy is compared, and the read of it fails
+pub record CopyUnread (old new : Device) (sector : Option ℕ) (order : Order) (bytes : List ℕ)
+    (answer : SuperFault) : Type 0 where
+  pub compared : sector ≡ None
+  pub fault : answer ≡ CannotRead (copy_place (layout_of order bytes) / DEV_BSIZE)
+  pub failed : Faulted old new (copy_place (layout_of order bytes) / DEV_BSIZE)
+
+-- the last copy differs
+pub record CopyDiffers (old new : Device) (sector : Option ℕ) (order : Order) (bytes : List ℕ)
+    (answer : SuperFault) : Type 0 where
+  pub same : new ≡ old
+  pub fault : answer ≡ Disagree
+  pub differs : ForContents old.contents (λ b. copy_agrees b sector order bytes ≡ false)
+
+abbrev pub IsCopyFault : Device → Device → Option ℕ → Order → List ℕ → SuperFault → Type 0
+IsCopyFault old new sector order bytes answer =
+    CopyUnread old new sector order bytes answer ⊎ CopyDiffers old new sector order bytes answer
