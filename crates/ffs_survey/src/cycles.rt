@@ -1,7 +1,7 @@
 //! Cycles of parents.
-ghost use Rattle.std.specs.Prelude.{◌≡◌, ◌≢◌, ℕ, ◌+◌, ◌-◌, ◌<◌, ◌≤◌, ◌^◌, length, All, MatchOption, IfSome, false};
+ghost use Rattle.std.specs.Prelude.{◌≡◌, ◌<◌, ◌+◌, ℕ, ◌^◌, length, MatchOption, false};
 ghost use Rattle.ffs_volume.specs.Directories.Climb.{OnCycle, leads_cycle};
-ghost use Rattle.ffs_survey.specs.Survey.{bool_at, number_at};
+ghost use Rattle.ffs_survey.specs.Survey.{bool_at};
 ghost use Rattle.ffs_survey.specs.Cycles.{up_of, CanWalk, ComesBack, IsNew, Walked, FindsCycle, IsLeastOn, Marks};
 
 /// Walks up from `start` and stamps what it passes, until there is nothing above or a stamp. Answers a number on the

@@ -1,13 +1,12 @@
 //! What one directory, and one level of directories, names.
-ghost use Rattle.std.specs.Prelude.{◌≡◌, ◌≢◌, ℕ, ◌+◌, ◌-◌, ◌*◌, ◌<◌, ◌≤◌, ◌^◌, ◌==◌, ◌&&◌, ◌||◌, not, nat_le, cond, List, [], ◌∷◌, length, take, drop, All, true, false, IfOk, OnOk, IfErr};
-ghost use Rattle.ffs_image.specs.Device.{Faulted};
+ghost use Rattle.std.specs.Prelude.{◌≡◌, ◌==◌, ◌*◌, ◌+◌, ℕ, ◌<◌, ◌≤◌, ◌^◌, ◌&&◌, ◌||◌, nat_le, cond, List, [], ◌∷◌, length, take, All, true, false, IfOk, OnOk};
 ghost use Rattle.ffs_volume.specs.Directories.Roles.{refers, is_plain as is_plain_role};
 ghost use Rattle.ffs_volume.specs.Directories.Graph.{names};
 ghost use Rattle.ffs_survey.specs.Reading.{roled_of, ForKnown, LeavesReader};
 ghost use Rattle.ffs_survey.specs.Lists.{MarkLists, TreeLists, EntryLists};
-ghost use Rattle.ffs_survey.specs.Survey.{bool_at, number_at, dir_at, graph_with};
+ghost use Rattle.ffs_survey.specs.Survey.{bool_at, number_at, graph_with};
 ghost use Rattle.ffs_survey.specs.Calm.{is_calm_kind, is_calm_plain, is_calm_entry, are_calm, AreCalm, IsFlagged};
-ghost use Rattle.ffs_survey.specs.Discover.{bit, unset, times, Comes, from_entries, from_dirs, nothing, count_in, any_in, count_of, any_of, none, never, Counts, IsReachedDir, is_free as is_free_at};
+ghost use Rattle.ffs_survey.specs.Discover.{bit, unset, Comes, from_entries, from_dirs, nothing, count_in, any_in, count_of, any_of, none, never, Counts, IsReachedDir, is_free as is_free_at};
 
 use crate::directories::Directories;
 use crate::named::{Named, is_counted, is_dir, is_plain};
@@ -87,7 +86,11 @@ fn visit(
 fn is_calm_kind(kind: u8, reached: bool) -> bool
     ensures { result ≡ is_calm_kind kind reached }
 {
-    kind != 0 && kind != 5 && kind != 14 && kind != 15 && !(kind == 4 && reached)
+    match kind {
+        0 | 5 | 14 | 15 => false,
+        4 => !reached,
+        _ => true,
+    }
 }
 
 /// Whether nothing can be reported of a plain entry.

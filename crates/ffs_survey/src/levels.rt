@@ -1,13 +1,10 @@
 //! The survey: level after level from inode 2, and then the directories that are not reached.
-ghost use Rattle.std.specs.Prelude.{◌≡◌, ◌≢◌, ℕ, ◌+◌, ◌-◌, ◌*◌, ◌<◌, ◌≤◌, ◌^◌, ◌==◌, ◌&&◌, ◌||◌, not, cond, List, [], ◌∷◌, length, take, drop, All, true, false, IfOk, OnOk, IfErr, unwrap_or};
-ghost use Rattle.ffs_image.specs.Device.{Faulted};
-ghost use Rattle.ffs_volume.specs.Directories.Graph.{names_in};
-ghost use Rattle.ffs_volume.specs.Disk.Search.{first_below, some_below};
-ghost use Rattle.ffs_survey.specs.Survey.{bool_at, number_at, dir_at, graph_with, IsSurvey};
+ghost use Rattle.std.specs.Prelude.{◌≡◌, ◌<◌, ◌*◌, ◌+◌, ℕ, ◌≤◌, ◌^◌, not, length, take, drop, true, false, IfOk, OnOk};
+ghost use Rattle.ffs_survey.specs.Survey.{number_at, dir_at, graph_with, IsSurvey};
 ghost use Rattle.ffs_survey.specs.Calm.{AreCalm};
 ghost use Rattle.ffs_survey.specs.Reading.{ForKnown, LeavesReader};
 ghost use Rattle.ffs_survey.specs.Lists.{EntryLists, SurveyLists};
-ghost use Rattle.ffs_survey.specs.Discover.{unset, count_in, any_in, count_of, any_of, none, never, Counts, HasRoom, AtLevel, NothingFound, IsReachedPart, is_free as is_free_at, IsBlank, IsRead};
+ghost use Rattle.ffs_survey.specs.Discover.{count_of, any_of, none, never, Counts, HasRoom, AtLevel, NothingFound, IsReachedPart, IsBlank, IsRead};
 
 use crate::directories::Directories;
 use crate::discover::{is_free, read_level, read_unreached};
@@ -153,11 +150,19 @@ fn survey_unreached<D: Directories>(
     ensures reader { LeavesReader (D.ready directories.new) (D.base directories.old)
         (D.base directories.new) (D.device directories.old) (D.device directories.new) result }
 {
-    for s in 0..kinds.len() as u32 {
-        if !is_free(kinds, reached, s as usize) {
+    for s in 0..kinds.len() {
+        if !is_free(kinds, reached, s) {
             continue;
         }
-        read_unreached(directories, s, kinds, references, named, reached, parents)?;
+        read_unreached(
+            directories,
+            s as u32,
+            kinds,
+            references,
+            named,
+            reached,
+            parents,
+        )?;
     }
     Ok(())
 }
