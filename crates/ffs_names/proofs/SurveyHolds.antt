@@ -1,6 +1,9 @@
 -- A survey fills a workspace.
 use Rattle.std.proofs.Common.{◌≡◌, ℕ, Bool, true, List, [], Result, Ok, Err, Option, Some, None, refl, sym, ap, ◌∙◌, subst}
-use Rattle.std.specs.Prelude.{OnOk, IfOk, IfNone, if◌then◌else◌, slice_index, length}
+use Rattle.ffs_image.specs.Device.{Device, Faulted}
+use Rattle.ffs_image.specs.Reads.{ReadAfter}
+use Rattle.ffs_image.specs.declared.image.ImageFault.{ImageFault}
+use Rattle.std.specs.Prelude.{OnOk, IfErr, IfOk, IfNone, if◌then◌else◌, slice_index, length}
 use Rattle.ffs_volume.specs.declared.Layout.{Layout}
 use Rattle.ffs_volume.specs.Directories.Roles.{is_dir, roled_entries}
 use Rattle.ffs_volume.specs.Directories.Parents.{graph_of}
@@ -24,6 +27,15 @@ use Rattle.ffs_names.proofs.SameGraphs.{survey_same}
 pub on_ok : {T E : Type 0} (r : Result T E) (P Q : Type 0) → (P → Q) → OnOk r P → OnOk r Q
 on_ok (Ok x) P Q f h = f h
 on_ok (Err e) P Q f h = h
+
+-- what is left of an image, for each of the two answers
+pub read_ok : {T : Type 0} (r : Result T ImageFault) (old new : Device) → ReadAfter old new r → OnOk r (new ≡ old)
+read_ok (Ok x) old new h = h
+read_ok (Err e) old new h = tt
+
+pub read_err : {T : Type 0} (r : Result T ImageFault) (old new : Device) → ReadAfter old new r → IfErr r (λ fault. Faulted old new fault.sector)
+read_err (Ok x) old new h = tt
+read_err (Err e) old new h = h
 
 pub if_ended : {T E : Type 0} (r : Result (Option T) E) (P Q : Type 0) → (P → Q) → IfOk r (λ o. IfNone o P) → IfOk r (λ o. IfNone o Q)
 if_ended (Ok None) P Q f h = f h

@@ -1,7 +1,7 @@
 -- Directories that are called calm are calm, and stay so.
 use Rattle.std.specs.Prelude.{◌≡◌, ℕ, suc, ◌+◌, ◌<◌, ◌==◌, Bool, true, false, not, cond, ◌&&◌, ◌||◌, nat_le, nat_lt, List, [], ◌∷◌, length, Option, None, Some, is_some, unwrap_or, refl}
 use Rattle.std.specs.List.{list_any}
-use Rattle.std.proofs.Common.{arith, sym, ◌∙◌, ap, subst, inl, inr, get_or}
+use Rattle.std.proofs.Common.{◌⊎◌, arith, sym, ◌∙◌, ap, subst, inl, inr, get_or}
 use Rattle.std.proofs.lemmas.Bool.{both_ways, cases_lt, eqb-true, and_parts, or_cases, or_parts, not-true}
 use mathlib.Core.Path.{fun_ext}
 use Rattle.ffs_volume.specs.declared.Role.{Role}
@@ -148,16 +148,27 @@ read_whole kinds m r r' p p' q q' es rest d above count quiet up none c e = reco
       (subst (λ z. (quiet && are_calm (record { kinds = kinds; marked = m; dir = d; above = above }) (bool_at r') count z) ≡ are_calm (record { kinds = kinds; marked = m; dir = d; above = above }) (bool_at r) 0 es) none e);
 }
 
+-- a flag that is set is an old one, or the one that was set now
+flag_cases : (x d : ℕ) (old low quiet sound : Bool) → (old || ((x == d) && (low && (quiet && sound)))) ≡ true
+    → (old ≡ true) ⊎ ((x ≡ d) × ((quiet ≡ true) × (sound ≡ true)))
+flag_cases x d old low quiet sound h = elim (or_cases old _ h) [
+  | inl before ↦ inl before
+  | inr now ↦
+      let p = and_parts (x == d) _ now in
+      let q = and_parts low _ p.1 in
+      inr (eqb-true x d p.0, and_parts quiet sound q.1)
+]
+
 -- the flags after a directory is read
-pub calm_read : (kinds : List ℕ) (m r r' : List Bool) (p p' q q' : List ℕ) (entries : ℕ → List RoledEntry) (sound : ℕ → Bool) (d : ℕ) (quiet right : Bool) (f f' : List Bool)
+pub calm_read : (kinds : List ℕ) (m r r' : List Bool) (p p' q q' : List ℕ) (entries : ℕ → List RoledEntry) (sound : ℕ → Bool) (d : ℕ) (f f' : List Bool)
     → Comes (from_entries kinds d (entries d)) r p q nothing r' p' q' → bool_at r d ≡ true
-    → quiet ≡ are_calm (record { kinds = kinds; marked = m; dir = d; above = number_at p d }) (bool_at r) 0 (entries d) → right ≡ sound d
-    → IsFlagged d quiet right f f' → AreCalm kinds m r p entries sound f → AreCalm kinds m r' p' entries sound f'
-calm_read kinds m r r' p p' q q' entries sound d quiet right f f' c h e s flagged old x set =
-    elim (flagged x set) [
+    → IsFlagged d (are_calm (record { kinds = kinds; marked = m; dir = d; above = number_at p d }) (bool_at r) 0 (entries d)) (sound d) f f'
+    → AreCalm kinds m r p entries sound f → AreCalm kinds m r' p' entries sound f'
+calm_read kinds m r r' p p' q q' entries sound d f f' c h flagged old x set =
+    elim (flag_cases x d (bool_at f x) (nat_lt d (length f)) (are_calm (record { kinds = kinds; marked = m; dir = d; above = number_at p d }) (bool_at r) 0 (entries d)) (sound d) (sym (flagged x) ∙ set)) [
       | inl before ↦ calm_stays kinds m r r' p p' (entries x) (sound x) x (comes_stays (from_entries kinds d (entries d)) r r' p p' q q' c) (old x before)
       | inr now ↦ subst (λ z. IsCalm kinds m r' p' (entries z) (sound z) z) (sym now.0)
-          (calm_found kinds m r r' p p' q q' (entries d) (sound d) d c h (sym e ∙ now.1.0) (sym s ∙ now.1.1))
+          (calm_found kinds m r r' p p' q q' (entries d) (sound d) d c h now.1.0 now.1.1)
     ]
 
 abbrev none_given : ℕ → Option ℕ

@@ -142,13 +142,14 @@ no_cycle_old f start mark steps place next x old new cl s h o i c =
     closed-climb f old k.0 next x cl o k.1 i.was
 
 -- the walk's own stamp above: a cycle
-pub finds_cycle : (f : ℕ → Option ℕ) (start mark steps place next n : ℕ) (old new : List ℕ) → mark ≢ 0 → steps < n → Stamped f start mark steps place old new → f place ≡ Some next → number_at old next ≡ 0 → number_at new next ≡ mark → FindsCycle f n old new next
-finds_cycle f start mark steps place next n old new m l s h o e =
+pub finds_cycle : (f : ℕ → Option ℕ) (start mark steps place next n : ℕ) (old new : List ℕ) → mark ≢ 0 → steps < n → Stamped f start mark steps place old new → f place ≡ Some next → number_at old next ≡ 0 → number_at new next ≡ mark → next < n → FindsCycle f n old new next
+finds_cycle f start mark steps place next n old new m l s h o e low =
     let i : IsNew old new next = record { was = o; is = (λ z. m (sym e ∙ z)) } in
     let p = s.passed next i in
     let b = p.1 in
     let q : suc (steps - p.0) + p.0 ≡ suc steps = omega arith in
     record {
+      low = low;
       fresh = i;
       cycle = record { length = steps - p.0; returns = sym (climb-add f (suc (steps - p.0)) p.0 start next p.2) ∙ (ap (λ k. climb f k start) q ∙ (climb-suc f steps start place s.place_is ∙ h)) };
       short = omega arith;
@@ -240,14 +241,15 @@ round_short f found steps place least n c l r m =
     ]
 
 -- back at `found`, the least so far is the least of all
-pub round_end : (f : ℕ → Option ℕ) (found steps place least n : ℕ) (c : OnCycle f found) → c.length < n → Rounding f found steps place least → place ≡ found → IsLeastOn f n found least
+pub round_end : (f : ℕ → Option ℕ) (found steps place least n : ℕ) (c : OnCycle f found) → c.length < n → Rounding f found steps place least → place ≡ found → least < n → IsLeastOn f n found least
 unfolding cycle-along
-round_end f found steps place least n c l r e =
+round_end f found steps place least n c l r e low =
     let p = r.moved in
     let q : suc (steps - 1) ≡ steps = omega arith in
     let d : OnCycle f found = record { length = steps - 1; returns = ap (λ k. climb f k found) q ∙ (r.place_is ∙ ap Some e) } in
     let a = r.among in
     record {
+      low = low;
       leader = record {
         cycle = cycle-along f a.0 found least c a.2;
         least = λ k s h.

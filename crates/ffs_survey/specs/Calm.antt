@@ -1,6 +1,6 @@
 -- A directory of which nothing can be reported, by what a survey sees where it reads it.
 use Rattle.std.specs.Prelude.{◌≡◌, ℕ, suc, ◌==◌, Bool, true, false, not, ◌&&◌}
-use Rattle.std.specs.Prelude.{◌||◌, nat_le, nat_lt, List, [], ◌∷◌, length, ◌⊎◌}
+use Rattle.std.specs.Prelude.{◌||◌, nat_le, nat_lt, List, [], ◌∷◌, length}
 use Rattle.std.specs.List.{list_any}
 use Rattle.ffs_volume.specs.declared.Role.{Role}
 use Rattle.ffs_volume.specs.declared.Role.TheVariants.{Empty, Dot, Dotdot, Extra, Plain}
@@ -62,7 +62,7 @@ abbrev pub AreCalm : List ℕ → List Bool → List Bool → List ℕ → (ℕ 
 AreCalm kinds marked reached parents entries sound calm =
     (d : ℕ) → bool_at calm d ≡ true → IsCalm kinds marked reached parents (entries d) (sound d) d
 
--- at most the flag of d is set, and only where its entries and its shape are right
+-- the flag of d is set where its entries and its shape are right, and no other flag changes
 abbrev pub IsFlagged : ℕ → Bool → Bool → List Bool → List Bool → Type 0
 IsFlagged d quiet sound old new =
-    (x : ℕ) → bool_at new x ≡ true → (bool_at old x ≡ true) ⊎ ((x ≡ d) × ((quiet ≡ true) × (sound ≡ true)))
+    (x : ℕ) → bool_at new x ≡ (bool_at old x || ((x == d) && (nat_lt d (length old) && (quiet && sound))))

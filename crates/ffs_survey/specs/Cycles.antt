@@ -1,5 +1,5 @@
 -- Walks along parents that mark where they have been.
-use Rattle.std.specs.Prelude.{◌≡◌, ◌≢◌, ℕ, ◌<◌, ◌==◌, ◌||◌, nat_le, Bool, false, cond, List, length, Option, None, Some}
+use Rattle.std.specs.Prelude.{◌≡◌, ◌≢◌, ℕ, ◌<◌, ◌≤◌, ◌^◌, ◌==◌, ◌||◌, nat_le, Bool, false, cond, List, length, All, Option, None, Some}
 use Rattle.std.specs.List.{sum_by}
 use Rattle.ffs_volume.specs.Directories.Climb.{climb, OnCycle, IsLeader, leads_cycle}
 use Rattle.ffs_survey.specs.Survey.{number_at, bool_at}
@@ -30,8 +30,25 @@ pub record Walked (f : ℕ → Option ℕ) (start mark : ℕ) (old new : List �
   pub begun : number_at new start ≢ 0
   pub closed : IsClosed f new
 
+-- a walk from `start` can begin: it has no stamp, no other start came later, and what is above a stamp is stamped
+pub record CanWalk (parents stamp : List ℕ) (start : ℕ) : Type 0 where
+  pub few : length parents < 2 ^ 31
+  pub stamps : length stamp ≡ length parents
+  pub low : start < length parents
+  pub free : number_at stamp start ≡ 0
+  pub older : All (λ s. s ≤ start) stamp
+  pub closed : IsClosed (up_of parents) stamp
+
+-- a walk from `found` comes back to it, within the list
+pub record ComesBack (parents : List ℕ) (found : ℕ) : Type 0 where
+  pub few : length parents < 2 ^ 31
+  pub low : found < length parents
+  pub cycle : OnCycle (up_of parents) found
+  pub short : cycle.length < length parents
+
 -- `found` is on a cycle, and each newly stamped number on a cycle is on that one
 pub record FindsCycle (f : ℕ → Option ℕ) (n : ℕ) (old new : List ℕ) (found : ℕ) : Type 0 where
+  pub low : found < n
   pub fresh : IsNew old new found
   pub cycle : OnCycle f found
   pub short : cycle.length < n
@@ -39,6 +56,7 @@ pub record FindsCycle (f : ℕ → Option ℕ) (n : ℕ) (old new : List ℕ) (f
 
 -- e is the least number on the cycle of `found`
 pub record IsLeastOn (f : ℕ → Option ℕ) (n found e : ℕ) : Type 0 where
+  pub low : e < n
   pub leader : IsLeader f e
   pub short : leader.cycle.length < n
   pub on : (k : ℕ) × (climb f k found ≡ Some e)

@@ -1,5 +1,5 @@
 -- What a walk over directories discovers and counts, said by what is still to go.
-use Rattle.std.specs.Prelude.{◌≡◌, ℕ, zero, suc, ◌+◌, ◌<◌, ◌≤◌, ◌==◌, Bool, true, false, not, cond, ◌&&◌, ◌||◌}
+use Rattle.std.specs.Prelude.{◌≡◌, ℕ, zero, suc, ◌+◌, ◌<◌, ◌≤◌, ◌==◌, Bool, true, false, not, cond, ◌&&◌, ◌||◌, length, take, drop}
 use Rattle.std.specs.Prelude.{if◌then◌else◌, List, [], ◌∷◌, Option, None, Some, is_some, unwrap_or, find, count_by}
 use Rattle.std.specs.List.{list_any, sum_by}
 use Rattle.ffs_volume.specs.Directories.Roles.{RoledEntry, refers}
@@ -126,3 +126,26 @@ pub record IsRead (g : Graph) (kinds : List ℕ) (r : List Bool) (n : ℕ) (f : 
       || is_some (first_below (λ s. not (bool_at r s) && names_in g s x) n))
   pub parents : (x : ℕ) → x < g.count
       → number_at p' x ≡ unwrap_or (first_below (is_free_edge g kinds r x) n) (number_at p x)
+
+-- a level is in the queue from `low` to `high`, and behind it there is room for all that isn't reached yet
+pub record HasRoom (low high : ℕ) (r : List Bool) (q : List ℕ) : Type 0 where
+  pub ordered : low ≤ high
+  pub room : high + unset r ≤ length q
+
+-- all levels up to k are known, and the queue has level k from `low` to `high`
+pub record AtLevel (g : Graph) (k low high : ℕ) (r : List Bool) (p q : List ℕ) : Type 0 where
+  pub frontier : IsFrontier g k (drop low (take high q))
+  pub levels : LevelsKnown g k r p (take high q)
+
+-- a directory that is reached
+pub record IsReachedDir (kinds : List ℕ) (r : List Bool) (d : ℕ) : Type 0 where
+  pub dir : dir_at kinds d ≡ true
+  pub marked : bool_at r d ≡ true
+
+-- nothing is found yet
+pub record NothingFound (f : List ℕ) (n r : List Bool) (p : List ℕ) (flags : List Bool) : Type 0 where
+  pub counted : (x : ℕ) → number_at f x ≡ 0
+  pub named : (x : ℕ) → bool_at n x ≡ false
+  pub reached : (x : ℕ) → bool_at r x ≡ false
+  pub parents : (x : ℕ) → number_at p x ≡ 0
+  pub calm : (x : ℕ) → bool_at flags x ≡ false

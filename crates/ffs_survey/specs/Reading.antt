@@ -1,8 +1,24 @@
--- An entry as a reader hands it out, and its name beside it.
-use Rattle.std.specs.Prelude.{ℕ, List}
+-- An entry as a reader hands it out, what a reader's base knows, and what a call leaves of a reader.
+use Rattle.std.specs.Prelude.{◌≡◌, ℕ, Bool, List, Result}
+use Rattle.ffs_image.specs.Device.{Device}
+use Rattle.ffs_image.specs.Reads.{ReadAfter}
+use Rattle.ffs_image.specs.declared.image.ImageFault.{ImageFault}
 use Rattle.ffs_volume.specs.Directories.Roles.{RoledEntry}
 use Rattle.ffs_survey.specs.declared.named.Named.{Named}
 
 -- the entry with its name
 abbrev pub roled_of : Named → List ℕ → RoledEntry
 roled_of e name = record { role = e.role; entry = record { number = e.number; length = e.length; kind = e.kind; name = name } }
+
+-- of the entries of each directory, and of which directories have a sound shape, by each list of bytes that a reader's base
+-- knows to be the image's
+abbrev pub ForKnown : {B : Type 0} → (B → List ℕ → Type 0) → (B → List ℕ → ℕ → List RoledEntry) → (B → List ℕ → ℕ → Bool) → B
+    → ((ℕ → List RoledEntry) → (ℕ → Bool) → Type 0) → Type 0
+ForKnown knows entries sound base P = (b : List ℕ) → knows base b → P (entries base b) (sound base b)
+
+-- the reader is ready for the next call, over the same base, and the call only read the image
+pub record LeavesReader {B T : Type 0} (ready : Type 0) (base base' : B) (device device' : Device)
+    (result : Result T ImageFault) : Type 0 where
+  pub is_ready : ready
+  pub same : base' ≡ base
+  pub read : ReadAfter device device' result

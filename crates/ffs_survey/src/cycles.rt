@@ -1,20 +1,14 @@
 //! Cycles of parents.
-ghost use Rattle.std.specs.Prelude.{◌≡◌, ◌≢◌, ℕ, ◌+◌, ◌-◌, ◌<◌, ◌≤◌, ◌^◌, length, All, MatchOption, IfSome, false};
+ghost use Rattle.std.specs.Prelude.{◌≡◌, ◌<◌, ◌+◌, ℕ, ◌^◌, length, MatchOption, false};
 ghost use Rattle.ffs_volume.specs.Directories.Climb.{OnCycle, leads_cycle};
-ghost use Rattle.ffs_survey.specs.Survey.{bool_at, number_at};
-ghost use Rattle.ffs_survey.specs.Cycles.{up_of, IsClosed, IsNew, Walked, FindsCycle, IsLeastOn, Marks};
+ghost use Rattle.ffs_survey.specs.Survey.{bool_at};
+ghost use Rattle.ffs_survey.specs.Cycles.{up_of, CanWalk, ComesBack, IsNew, Walked, FindsCycle, IsLeastOn, Marks};
 
 /// Walks up from `start` and stamps what it passes, until there is nothing above or a stamp. Answers a number on the
 /// cycle that it closed, if it closed one.
 fn walk(start: u32, parents: &[u32], stamp: &mut [u32]) -> Option<u32>
-    requires few { length parents.now < 2 ^ 31 }
-    requires stamps { length stamp.old ≡ length parents.now }
-    requires start { start < length parents.now }
-    requires free { number_at stamp.old start ≡ 0 }
-    requires older { All (λ s. s ≤ start) stamp.old }
-    requires closed { IsClosed (up_of parents.now) stamp.old }
+    requires { CanWalk parents.now stamp.old start }
     ensures walked { Walked (up_of parents.now) start (start + 1) stamp.old stamp.new }
-    ensures bound { IfSome result (λ found. found < length parents.now) }
     ensures cycle { MatchOption result
         ((x : ℕ) → IsNew stamp.old stamp.new x → OnCycle (up_of parents.now) x → ⊥)
         (λ found. FindsCycle (up_of parents.now) (length parents.now) stamp.old stamp.new found) }
@@ -44,11 +38,8 @@ fn walk(start: u32, parents: &[u32], stamp: &mut [u32]) -> Option<u32>
 
 /// The least number on the cycle of `found`.
 fn least_on(found: u32, parents: &[u32]) -> u32
-    requires few { length parents.now < 2 ^ 31 }
-    requires found { found < length parents.now }
-    requires cycle { (c : OnCycle (up_of parents.now) found) × (c.length < length parents.now) }
-    ensures least { IsLeastOn (up_of parents.now) (length parents.now) found result }
-    ensures bound { result < length parents.now }
+    requires { ComesBack parents.now found }
+    ensures { IsLeastOn (up_of parents.now) (length parents.now) found result }
 {
     let mut least = found;
     let mut place = parents[found as usize];
@@ -65,13 +56,8 @@ fn least_on(found: u32, parents: &[u32]) -> u32
 
 /// Walks up from `start`, and marks the least number of the cycle that the walk closes, if it closes one.
 fn mark_from(start: u32, parents: &[u32], stamp: &mut [u32], leaders: &mut [bool])
-    requires few { length parents.now < 2 ^ 31 }
-    requires stamps { length stamp.old ≡ length parents.now }
+    requires walk { CanWalk parents.now stamp.old start }
     requires leaders { length leaders.old ≡ length parents.now }
-    requires start { start < length parents.now }
-    requires free { number_at stamp.old start ≡ 0 }
-    requires older { All (λ s. s ≤ start) stamp.old }
-    requires closed { IsClosed (up_of parents.now) stamp.old }
     requires marks { Marks (up_of parents.now) (length parents.now) stamp.old leaders.old }
     ensures walked { Walked (up_of parents.now) start (start + 1) stamp.old stamp.new }
     ensures marks { Marks (up_of parents.now) (length parents.now) stamp.new leaders.new }

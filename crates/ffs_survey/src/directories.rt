@@ -8,11 +8,11 @@ use ffs_image::ImageFault;
 /// list of bytes that the base knows to be the image's; without such knowledge a reader hands out some entries, and
 /// still no more of a directory than `left` allows.
 pub trait Directories {
-    ghost use Rattle.std.specs.Prelude.{ℕ, Bool, List, ◌≡◌, ◌<◌, ◌≤◌, ◌^◌, [], ◌∷◌, MatchOption, IfSome, IfNone, IfOk, OnOk, IfErr};
-    ghost use Rattle.ffs_image.specs.Device.{Device, Faulted};
+    ghost use Rattle.std.specs.Prelude.{ℕ, ◌<◌, Bool, List, ◌≡◌, ◌≤◌, ◌^◌, [], ◌∷◌, MatchOption, IfSome, IfNone, IfOk, OnOk};
+    ghost use Rattle.ffs_image.specs.Device.{Device};
     ghost use Rattle.ffs_volume.specs.Directories.Roles.{RoledEntry};
     ghost use Rattle.ffs_survey.specs.declared.named.Named.{Named};
-    ghost use Rattle.ffs_survey.specs.Reading.{roled_of};
+    ghost use Rattle.ffs_survey.specs.Reading.{roled_of, LeavesReader};
 
     ghost Base: { Type 0 };
 
@@ -44,16 +44,13 @@ pub trait Directories {
     /// A read of the image that failed.
     fn start(&mut self, dir: u32) -> Result<(), ImageFault>
         requires ready { ready self.old }
-        ensures ready { ready self.new }
+        ensures reader { LeavesReader (ready self.new) (base self.old) (base self.new)
+            (device self.old) (device self.new) result }
         ensures rest { OnOk result ((b : List ℕ) → knows (base self.old) b → rest self.new b
             ≡ entries (base self.old) b dir) }
         ensures left { OnOk result (left self.new ≤ 2 ^ 28) }
         ensures sound { OnOk result ((b : List ℕ) → knows (base self.old) b
-            → sound_so_far self.new b ≡ sound (base self.old) b dir) }
-        ensures base { base self.new ≡ base self.old }
-        ensures device { OnOk result (device self.new ≡ device self.old) }
-        ensures fault { IfErr result (λ fault. Faulted (device self.old) (device self.new)
-            fault.sector) };
+            → sound_so_far self.new b ≡ sound (base self.old) b dir) };
 
     /// The next entry of the directory that was begun, if there is one.
     ///
@@ -61,7 +58,8 @@ pub trait Directories {
     /// A read of the image that failed.
     fn next(&mut self) -> Result<Option<Named>, ImageFault>
         requires ready { ready self.old }
-        ensures ready { ready self.new }
+        ensures reader { LeavesReader (ready self.new) (base self.old) (base self.new)
+            (device self.old) (device self.new) result }
         ensures rest { IfOk result (λ o. (b : List ℕ) → knows (base self.old) b
             → MatchOption o (rest self.old b ≡ [])
             (λ e. rest self.old b ≡ roled_of e (name self.new) ∷ rest self.new b)) }
@@ -69,11 +67,7 @@ pub trait Directories {
         ensures sound { OnOk result ((b : List ℕ) → knows (base self.old) b
             → sound_so_far self.new b ≡ sound_so_far self.old b) }
         ensures ended { IfOk result (λ o. IfNone o ((b : List ℕ) → knows (base self.old) b
-            → ended self.new b)) }
-        ensures base { base self.new ≡ base self.old }
-        ensures device { OnOk result (device self.new ≡ device self.old) }
-        ensures fault { IfErr result (λ fault. Faulted (device self.old) (device self.new)
-            fault.sector) };
+            → ended self.new b)) };
 
     /// Whether the directory that was begun, of which no entry is left, has a right size, no hole and sound chunks.
     ///
@@ -81,11 +75,8 @@ pub trait Directories {
     /// A read of the image that failed.
     fn is_sound(&mut self) -> Result<bool, ImageFault>
         requires ready { ready self.old }
-        ensures ready { ready self.new }
+        ensures reader { LeavesReader (ready self.new) (base self.old) (base self.new)
+            (device self.old) (device self.new) result }
         ensures sound { IfOk result (λ right. (b : List ℕ) → knows (base self.old) b
-            → ended self.old b → right ≡ sound_so_far self.old b) }
-        ensures base { base self.new ≡ base self.old }
-        ensures device { OnOk result (device self.new ≡ device self.old) }
-        ensures fault { IfErr result (λ fault. Faulted (device self.old) (device self.new)
-            fault.sector) };
+            → ended self.old b → right ≡ sound_so_far self.old b) };
 }

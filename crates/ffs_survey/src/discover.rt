@@ -1,12 +1,12 @@
 //! What one directory, and one level of directories, names.
-ghost use Rattle.std.specs.Prelude.{◌≡◌, ◌≢◌, ℕ, ◌+◌, ◌-◌, ◌*◌, ◌<◌, ◌≤◌, ◌^◌, ◌==◌, ◌&&◌, ◌||◌, not, nat_le, cond, List, [], ◌∷◌, length, take, drop, All, true, false, IfOk, OnOk, IfErr};
-ghost use Rattle.ffs_image.specs.Device.{Faulted};
+ghost use Rattle.std.specs.Prelude.{◌≡◌, ◌==◌, ◌*◌, ◌+◌, ℕ, ◌<◌, ◌≤◌, ◌^◌, ◌&&◌, ◌||◌, nat_le, cond, List, [], ◌∷◌, length, take, All, true, false, IfOk, OnOk};
 ghost use Rattle.ffs_volume.specs.Directories.Roles.{refers, is_plain as is_plain_role};
 ghost use Rattle.ffs_volume.specs.Directories.Graph.{names};
-ghost use Rattle.ffs_survey.specs.Reading.{roled_of};
-ghost use Rattle.ffs_survey.specs.Survey.{bool_at, number_at, dir_at, graph_with};
-ghost use Rattle.ffs_survey.specs.Calm.{is_calm_kind, is_calm_plain, is_calm_entry, AreCalm, IsFlagged};
-ghost use Rattle.ffs_survey.specs.Discover.{bit, unset, times, Comes, from_entries, from_dirs, nothing, count_in, any_in, count_of, any_of, none, never, Counts, IsFrontier, LevelsKnown, is_free as is_free_at};
+ghost use Rattle.ffs_survey.specs.Reading.{roled_of, ForKnown, LeavesReader};
+ghost use Rattle.ffs_survey.specs.Lists.{MarkLists, TreeLists, EntryLists};
+ghost use Rattle.ffs_survey.specs.Survey.{bool_at, number_at, graph_with};
+ghost use Rattle.ffs_survey.specs.Calm.{is_calm_kind, is_calm_plain, is_calm_entry, are_calm, AreCalm, IsFlagged};
+ghost use Rattle.ffs_survey.specs.Discover.{bit, unset, Comes, from_entries, from_dirs, nothing, count_in, any_in, count_of, any_of, none, never, Counts, IsReachedDir, is_free as is_free_at};
 
 use crate::directories::Directories;
 use crate::named::{Named, is_counted, is_dir, is_plain};
@@ -65,8 +65,7 @@ fn visit(
     queue: &mut [u32],
     top: usize,
 ) -> usize
-    requires reached { length reached.old ≡ length kinds.now }
-    requires parents { length parents.old ≡ length kinds.now }
+    requires lists { TreeLists kinds.now reached.old parents.old }
     requires room { top + unset reached.old ≤ length queue.old }
     ensures top { result + unset reached.new ≡ top + unset reached.old }
     ensures comes { Comes (from_entries kinds.now from (roled_of entry [] ∷ [])) reached.old
@@ -87,13 +86,16 @@ fn visit(
 fn is_calm_kind(kind: u8, reached: bool) -> bool
     ensures { result ≡ is_calm_kind kind reached }
 {
-    kind != 0 && kind != 5 && kind != 14 && kind != 15 && !(kind == 4 && reached)
+    match kind {
+        0 | 5 | 14 | 15 => false,
+        4 => !reached,
+        _ => true,
+    }
 }
 
 /// Whether nothing can be reported of a plain entry.
 fn is_calm_plain(entry: Named, kinds: &[u8], marked: &[bool], reached: &[bool]) -> bool
-    requires marked { length marked.now ≡ length kinds.now }
-    requires reached { length reached.now ≡ length kinds.now }
+    requires { MarkLists kinds.now marked.now reached.now }
     ensures { result ≡ is_calm_plain kinds.now marked.now (bool_at reached.now) entry.number
         entry.kind }
 {
@@ -114,8 +116,7 @@ fn is_calm(
     marked: &[bool],
     reached: &[bool],
 ) -> bool
-    requires marked { length marked.now ≡ length kinds.now }
-    requires reached { length reached.now ≡ length kinds.now }
+    requires { MarkLists kinds.now marked.now reached.now }
     ensures { result ≡ is_calm_entry (record {
       kinds = kinds.now;
       marked = marked.now;
@@ -154,12 +155,8 @@ fn flag_calm<D: Directories>(
     ensures flags { OnOk result ((b : List ℕ) → D.knows (D.base directories.old) b
         → D.ended directories.old b → IsFlagged from (quiet && nat_le 2 count)
         (D.sound_so_far directories.old b) calm.old calm.new) }
-    ensures length { length calm.new ≡ length calm.old }
-    ensures ready { D.ready directories.new }
-    ensures base { D.base directories.new ≡ D.base directories.old }
-    ensures device { OnOk result (D.device directories.new ≡ D.device directories.old) }
-    ensures fault { IfErr result (λ fault. Faulted (D.device directories.old)
-        (D.device directories.new) fault.sector) }
+    ensures reader { LeavesReader (D.ready directories.new) (D.base directories.old)
+        (D.base directories.new) (D.device directories.old) (D.device directories.new) result }
 {
     let number = from as usize;
     if !quiet || count < 2 || number >= calm.len() {
@@ -188,34 +185,27 @@ fn read_reached<D: Directories>(
 ) -> Result<usize, ImageFault>
     requires ready { D.ready directories.old }
     requires marked { length marked.now ≡ length kinds.now }
-    requires references { length references.old ≡ length kinds.now }
-    requires named { length named.old ≡ length kinds.now }
-    requires reached { length reached.old ≡ length kinds.now }
-    requires parents { length parents.old ≡ length kinds.now }
+    requires lists { EntryLists kinds.now references.old named.old reached.old parents.old }
     requires few { (x : ℕ) → x < length kinds.now → number_at references.old x ≤ 2 ^ 60 }
     requires room { top + unset reached.old ≤ length queue.old }
     ensures grown { OnOk result ((x : ℕ) → x < length kinds.now → number_at references.new x
         ≤ number_at references.old x + 2 ^ 28) }
     ensures top { IfOk result (λ n. n + unset reached.new ≡ top + unset reached.old) }
-    ensures comes { IfOk result (λ n. (b : List ℕ) → D.knows (D.base directories.old) b
-        → Comes (from_entries kinds.now from (D.entries (D.base directories.old) b from))
-        reached.old parents.old (take top queue.old) nothing reached.new parents.new
-        (take n queue.new)) }
-    ensures counts { OnOk result ((b : List ℕ) → D.knows (D.base directories.old) b
-        → Counts (length kinds.now) (count_in (D.entries (D.base directories.old) b from))
-        (any_in (D.entries (D.base directories.old) b from)) references.old named.old none never
-        references.new named.new) }
-    ensures calm { OnOk result ((b : List ℕ) → D.knows (D.base directories.old) b
-        → bool_at reached.old from ≡ true
-        → AreCalm kinds.now marked.now reached.old parents.old
-        (D.entries (D.base directories.old) b) (D.sound (D.base directories.old) b) calm.old
-        → AreCalm kinds.now marked.now reached.new parents.new
-        (D.entries (D.base directories.old) b) (D.sound (D.base directories.old) b) calm.new) }
-    ensures ready { D.ready directories.new }
-    ensures base { D.base directories.new ≡ D.base directories.old }
-    ensures device { OnOk result (D.device directories.new ≡ D.device directories.old) }
-    ensures fault { IfErr result (λ fault. Faulted (D.device directories.old)
-        (D.device directories.new) fault.sector) }
+    ensures comes { IfOk result (λ n. ForKnown D.knows D.entries D.sound (D.base directories.old)
+        (λ entries sound. Comes (from_entries kinds.now from (entries from)) reached.old
+        parents.old (take top queue.old) nothing reached.new parents.new (take n queue.new))) }
+    ensures counts { OnOk result (ForKnown D.knows D.entries D.sound (D.base directories.old)
+        (λ entries sound. Counts (length kinds.now) (count_in (entries from))
+        (any_in (entries from)) references.old named.old none never references.new named.new)) }
+    ensures calm { OnOk result (ForKnown D.knows D.entries D.sound (D.base directories.old)
+        (λ entries sound. IsFlagged from (are_calm (record {
+          kinds = kinds.now;
+          marked = marked.now;
+          dir = from;
+          above = number_at parents.old from;
+        }) (bool_at reached.old) 0 (entries from)) (sound from) calm.old calm.new)) }
+    ensures reader { LeavesReader (D.ready directories.new) (D.base directories.old)
+        (D.base directories.new) (D.device directories.old) (D.device directories.new) result }
 {
     let above = parent_of(parents, from);
     let mut high = top;
@@ -248,39 +238,28 @@ pub fn read_level<D: Directories>(
 ) -> Result<usize, ImageFault>
     requires ready { D.ready directories.old }
     requires marked { length marked.now ≡ length kinds.now }
-    requires references { length references.old ≡ length kinds.now }
-    requires named { length named.old ≡ length kinds.now }
-    requires reached { length reached.old ≡ length kinds.now }
-    requires parents { length parents.old ≡ length kinds.now }
+    requires lists { EntryLists kinds.now references.old named.old reached.old parents.old }
     requires few { length frontier.now < 2 ^ 31 }
     requires counted { (x : ℕ) → x < length kinds.now → number_at references.old x ≤ 2 ^ 59 }
     requires room { unset reached.old ≤ length queue.old }
-    requires frontier { (b : List ℕ) → D.knows (D.base directories.old) b
-        → All (λ s. dir_at kinds.now s ≡ true) frontier.now }
-    requires reached_before { (b : List ℕ) → D.knows (D.base directories.old) b
-        → All (λ s. bool_at reached.old s ≡ true) frontier.now }
+    requires frontier { ForKnown D.knows D.entries D.sound (D.base directories.old)
+        (λ entries sound. All (IsReachedDir kinds.now reached.old) frontier.now) }
     ensures grown { OnOk result ((x : ℕ) → x < length kinds.now → number_at references.new x
         ≤ number_at references.old x + length frontier.now * 2 ^ 28) }
     ensures top { IfOk result (λ n. n + unset reached.new ≡ unset reached.old) }
-    ensures comes { IfOk result (λ n. (b : List ℕ) → D.knows (D.base directories.old) b
-        → Comes (from_dirs (graph_with kinds.now (D.entries (D.base directories.old) b))
-        frontier.now) reached.old parents.old [] nothing reached.new parents.new
-        (take n queue.new)) }
-    ensures counts { OnOk result ((b : List ℕ) → D.knows (D.base directories.old) b
-        → Counts (length kinds.now) (count_of
-        (graph_with kinds.now (D.entries (D.base directories.old) b)) frontier.now)
-        (any_of (graph_with kinds.now (D.entries (D.base directories.old) b)) frontier.now)
-        references.old named.old none never references.new named.new) }
-    ensures calm { OnOk result ((b : List ℕ) → D.knows (D.base directories.old) b
-        → AreCalm kinds.now marked.now reached.old parents.old
-        (D.entries (D.base directories.old) b) (D.sound (D.base directories.old) b) calm.old
-        → AreCalm kinds.now marked.now reached.new parents.new
-        (D.entries (D.base directories.old) b) (D.sound (D.base directories.old) b) calm.new) }
-    ensures ready { D.ready directories.new }
-    ensures base { D.base directories.new ≡ D.base directories.old }
-    ensures device { OnOk result (D.device directories.new ≡ D.device directories.old) }
-    ensures fault { IfErr result (λ fault. Faulted (D.device directories.old)
-        (D.device directories.new) fault.sector) }
+    ensures comes { IfOk result (λ n. ForKnown D.knows D.entries D.sound (D.base directories.old)
+        (λ entries sound. Comes (from_dirs (graph_with kinds.now entries) frontier.now)
+        reached.old parents.old [] nothing reached.new parents.new (take n queue.new))) }
+    ensures counts { OnOk result (ForKnown D.knows D.entries D.sound (D.base directories.old)
+        (λ entries sound. let graph = graph_with kinds.now entries in Counts (length kinds.now)
+        (count_of graph frontier.now) (any_of graph frontier.now) references.old named.old none
+        never references.new named.new)) }
+    ensures calm { OnOk result (ForKnown D.knows D.entries D.sound (D.base directories.old)
+        (λ entries sound.
+        AreCalm kinds.now marked.now reached.old parents.old entries sound calm.old
+        → AreCalm kinds.now marked.now reached.new parents.new entries sound calm.new)) }
+    ensures reader { LeavesReader (D.ready directories.new) (D.base directories.old)
+        (D.base directories.new) (D.device directories.old) (D.device directories.new) result }
 {
     let mut top = 0;
     for s in frontier {
@@ -303,8 +282,7 @@ pub fn read_level<D: Directories>(
 
 /// Gives what an entry of the directory `from` names its parent: a directory without a mark that has none yet.
 fn adopt(entry: Named, from: u32, kinds: &[u8], reached: &[bool], parents: &mut [u32])
-    requires reached { length reached.now ≡ length kinds.now }
-    requires parents { length parents.old ≡ length kinds.now }
+    requires { TreeLists kinds.now reached.now parents.old }
     ensures { (x : ℕ) → x < length kinds.now → number_at parents.new x
         ≡ cond ((number_at parents.old x == 0)
         && (is_free_at kinds.now reached.now x && names x (roled_of entry []))) from
@@ -331,28 +309,21 @@ pub fn read_unreached<D: Directories>(
     parents: &mut [u32],
 ) -> Result<(), ImageFault>
     requires ready { D.ready directories.old }
-    requires references { length references.old ≡ length kinds.now }
-    requires named { length named.old ≡ length kinds.now }
-    requires reached { length reached.now ≡ length kinds.now }
-    requires parents { length parents.old ≡ length kinds.now }
+    requires lists { EntryLists kinds.now references.old named.old reached.now parents.old }
     requires few { (x : ℕ) → x < length kinds.now → number_at references.old x ≤ 2 ^ 60 }
     requires from { 0 < from }
     ensures grown { OnOk result ((x : ℕ) → x < length kinds.now → number_at references.new x
         ≤ number_at references.old x + 2 ^ 28) }
-    ensures counts { OnOk result ((b : List ℕ) → D.knows (D.base directories.old) b
-        → Counts (length kinds.now) (count_in (D.entries (D.base directories.old) b from))
-        (any_in (D.entries (D.base directories.old) b from)) references.old named.old none never
-        references.new named.new) }
-    ensures parents { OnOk result ((b : List ℕ) → D.knows (D.base directories.old) b → (x : ℕ) → x
-        < length kinds.now → number_at parents.new x
+    ensures counts { OnOk result (ForKnown D.knows D.entries D.sound (D.base directories.old)
+        (λ entries sound. Counts (length kinds.now) (count_in (entries from))
+        (any_in (entries from)) references.old named.old none never references.new named.new)) }
+    ensures parents { OnOk result (ForKnown D.knows D.entries D.sound (D.base directories.old)
+        (λ entries sound. (x : ℕ) → x < length kinds.now → number_at parents.new x
         ≡ cond ((number_at parents.old x == 0)
-        && (is_free_at kinds.now reached.now x
-        && any_in (D.entries (D.base directories.old) b from) x)) from (number_at parents.old x)) }
-    ensures ready { D.ready directories.new }
-    ensures base { D.base directories.new ≡ D.base directories.old }
-    ensures device { OnOk result (D.device directories.new ≡ D.device directories.old) }
-    ensures fault { IfErr result (λ fault. Faulted (D.device directories.old)
-        (D.device directories.new) fault.sector) }
+        && (is_free_at kinds.now reached.now x && any_in (entries from) x)) from
+        (number_at parents.old x))) }
+    ensures reader { LeavesReader (D.ready directories.new) (D.base directories.old)
+        (D.base directories.new) (D.device directories.old) (D.device directories.new) result }
 {
     directories.start(from)?;
     while let Some(entry) = directories.next()? {

@@ -1,11 +1,10 @@
 //! The survey: level after level from inode 2, and then the directories that are not reached.
-ghost use Rattle.std.specs.Prelude.{◌≡◌, ◌≢◌, ℕ, ◌+◌, ◌-◌, ◌*◌, ◌<◌, ◌≤◌, ◌^◌, ◌==◌, ◌&&◌, ◌||◌, not, cond, List, [], ◌∷◌, length, take, drop, All, true, false, IfOk, OnOk, IfErr, unwrap_or};
-ghost use Rattle.ffs_image.specs.Device.{Faulted};
-ghost use Rattle.ffs_volume.specs.Directories.Graph.{names_in};
-ghost use Rattle.ffs_volume.specs.Disk.Search.{first_below, some_below};
-ghost use Rattle.ffs_survey.specs.Survey.{bool_at, number_at, dir_at, graph_with, IsSurvey};
+ghost use Rattle.std.specs.Prelude.{◌≡◌, ◌<◌, ◌*◌, ◌+◌, ℕ, ◌≤◌, ◌^◌, not, length, take, drop, true, false, IfOk, OnOk};
+ghost use Rattle.ffs_survey.specs.Survey.{number_at, dir_at, graph_with, IsSurvey};
 ghost use Rattle.ffs_survey.specs.Calm.{AreCalm};
-ghost use Rattle.ffs_survey.specs.Discover.{unset, count_in, any_in, count_of, any_of, none, never, Counts, IsFrontier, LevelsKnown, IsReachedPart, counted_by, is_free as is_free_at, IsBlank, IsRead};
+ghost use Rattle.ffs_survey.specs.Reading.{ForKnown, LeavesReader};
+ghost use Rattle.ffs_survey.specs.Lists.{EntryLists, SurveyLists};
+ghost use Rattle.ffs_survey.specs.Discover.{count_of, any_of, none, never, Counts, HasRoom, AtLevel, NothingFound, IsReachedPart, IsBlank, IsRead};
 
 use crate::directories::Directories;
 use crate::discover::{is_free, read_level, read_unreached};
@@ -29,53 +28,32 @@ fn next_level<D: Directories>(
     depth: u32,
 ) -> Result<usize, ImageFault>
     requires ready { D.ready directories.old }
-    requires some { 2 < length kinds.now }
-    requires few { length kinds.now < 2 ^ 31 }
+    requires lists { SurveyLists kinds.now marked.now references.old named.old reached.old
+        parents.old queue.old }
     requires root { dir_at kinds.now 2 ≡ true }
-    requires marked { length marked.now ≡ length kinds.now }
-    requires references { length references.old ≡ length kinds.now }
-    requires named { length named.old ≡ length kinds.now }
-    requires reached { length reached.old ≡ length kinds.now }
-    requires parents { length parents.old ≡ length kinds.now }
-    requires queue { length queue.old ≡ length kinds.now }
-    requires low { low ≤ high }
-    requires room { high + unset reached.old ≤ length queue.old }
+    requires room { HasRoom low high reached.old queue.old }
     requires counted { (x : ℕ) → x < length kinds.now → number_at references.old x ≤ low * 2 ^ 28 }
-    requires frontier { (b : List ℕ) → D.knows (D.base directories.old) b
-        → IsFrontier (graph_with kinds.now (D.entries (D.base directories.old) b)) depth
-        (drop low (take high queue.old)) }
-    requires levels { (b : List ℕ) → D.knows (D.base directories.old) b
-        → LevelsKnown (graph_with kinds.now (D.entries (D.base directories.old) b)) depth
-        reached.old parents.old (take high queue.old) }
-    ensures end { IfOk result (λ n. high ≤ n) }
-    ensures room { IfOk result (λ n. n + unset reached.new ≤ length queue.new) }
+    requires levels { ForKnown D.knows D.entries D.sound (D.base directories.old)
+        (λ entries sound. AtLevel (graph_with kinds.now entries) depth low high reached.old
+        parents.old queue.old) }
+    ensures room { IfOk result (λ n. HasRoom high n reached.new queue.new) }
     ensures counted { OnOk result ((x : ℕ) → x < length kinds.now → number_at references.new x
         ≤ high * 2 ^ 28) }
     ensures kept { OnOk result (take high queue.new ≡ take high queue.old) }
-    ensures frontier { IfOk result
-        (λ n. (b : List ℕ) → D.knows (D.base directories.old) b
-        → IsFrontier (graph_with kinds.now (D.entries (D.base directories.old) b)) (depth + 1)
-        (drop high (take n queue.new))) }
-    ensures levels { IfOk result (λ n. (b : List ℕ) → D.knows (D.base directories.old) b
-        → LevelsKnown (graph_with kinds.now (D.entries (D.base directories.old) b)) (depth + 1)
-        reached.new parents.new (take n queue.new)) }
-    ensures counts { OnOk result ((b : List ℕ) → D.knows (D.base directories.old) b
-        → Counts (length kinds.now) (count_of
-        (graph_with kinds.now (D.entries (D.base directories.old) b))
-        (drop low (take high queue.old)))
-        (any_of (graph_with kinds.now (D.entries (D.base directories.old) b))
-        (drop low (take high queue.old))) references.old named.old none never references.new
-        named.new) }
-    ensures calm { OnOk result ((b : List ℕ) → D.knows (D.base directories.old) b
-        → AreCalm kinds.now marked.now reached.old parents.old
-        (D.entries (D.base directories.old) b) (D.sound (D.base directories.old) b) calm.old
-        → AreCalm kinds.now marked.now reached.new parents.new
-        (D.entries (D.base directories.old) b) (D.sound (D.base directories.old) b) calm.new) }
-    ensures ready { D.ready directories.new }
-    ensures base { D.base directories.new ≡ D.base directories.old }
-    ensures device { OnOk result (D.device directories.new ≡ D.device directories.old) }
-    ensures fault { IfErr result (λ fault. Faulted (D.device directories.old)
-        (D.device directories.new) fault.sector) }
+    ensures levels { IfOk result (λ n. ForKnown D.knows D.entries D.sound (D.base directories.old)
+        (λ entries sound. AtLevel (graph_with kinds.now entries) (depth + 1) high n reached.new
+        parents.new queue.new)) }
+    ensures counts { OnOk result (ForKnown D.knows D.entries D.sound (D.base directories.old)
+        (λ entries sound. let graph = graph_with kinds.now entries in
+        let frontier = drop low (take high queue.old) in
+        Counts (length kinds.now) (count_of graph frontier) (any_of graph frontier)
+        references.old named.old none never references.new named.new)) }
+    ensures calm { OnOk result (ForKnown D.knows D.entries D.sound (D.base directories.old)
+        (λ entries sound.
+        AreCalm kinds.now marked.now reached.old parents.old entries sound calm.old
+        → AreCalm kinds.now marked.now reached.new parents.new entries sound calm.new)) }
+    ensures reader { LeavesReader (D.ready directories.new) (D.base directories.old)
+        (D.base directories.new) (D.device directories.old) (D.device directories.new) result }
 {
     let (left, right) = queue.split_at_mut(high);
     let found = read_level(
@@ -107,32 +85,19 @@ fn survey_reached<D: Directories>(
     queue: &mut [u32],
 ) -> Result<(), ImageFault>
     requires ready { D.ready directories.old }
-    requires some { 2 < length kinds.now }
-    requires few { length kinds.now < 2 ^ 31 }
-    requires marked { length marked.now ≡ length kinds.now }
-    requires references { length references.old ≡ length kinds.now }
-    requires named { length named.old ≡ length kinds.now }
-    requires reached { length reached.old ≡ length kinds.now }
-    requires parents { length parents.old ≡ length kinds.now }
-    requires queue { length queue.old ≡ length kinds.now }
-    requires none_counted { (x : ℕ) → number_at references.old x ≡ 0 }
-    requires none_named { (x : ℕ) → bool_at named.old x ≡ false }
-    requires none_reached { (x : ℕ) → bool_at reached.old x ≡ false }
-    requires no_parents { (x : ℕ) → number_at parents.old x ≡ 0 }
-    requires none_calm { (x : ℕ) → bool_at calm.old x ≡ false }
+    requires lists { SurveyLists kinds.now marked.now references.old named.old reached.old
+        parents.old queue.old }
+    requires begins { NothingFound references.old named.old reached.old parents.old calm.old }
     ensures counted { OnOk result ((x : ℕ) → x < length kinds.now → number_at references.new x
         ≤ 2 ^ 59) }
-    ensures part { OnOk result ((b : List ℕ) → D.knows (D.base directories.old) b
-        → IsReachedPart (graph_with kinds.now (D.entries (D.base directories.old) b)) references.new
-        named.new reached.new parents.new) }
-    ensures calm { OnOk result ((b : List ℕ) → D.knows (D.base directories.old) b
-        → AreCalm kinds.now marked.now reached.new parents.new
-        (D.entries (D.base directories.old) b) (D.sound (D.base directories.old) b) calm.new) }
-    ensures ready { D.ready directories.new }
-    ensures base { D.base directories.new ≡ D.base directories.old }
-    ensures device { OnOk result (D.device directories.new ≡ D.device directories.old) }
-    ensures fault { IfErr result (λ fault. Faulted (D.device directories.old)
-        (D.device directories.new) fault.sector) }
+    ensures part { OnOk result (ForKnown D.knows D.entries D.sound (D.base directories.old)
+        (λ entries sound. IsReachedPart (graph_with kinds.now entries) references.new named.new
+        reached.new parents.new)) }
+    ensures calm { OnOk result (ForKnown D.knows D.entries D.sound (D.base directories.old)
+        (λ entries sound.
+        AreCalm kinds.now marked.now reached.new parents.new entries sound calm.new)) }
+    ensures reader { LeavesReader (D.ready directories.new) (D.base directories.old)
+        (D.base directories.new) (D.device directories.old) (D.device directories.new) result }
 {
     reached[2] = true;
     parents[2] = 2;
@@ -176,27 +141,28 @@ fn survey_unreached<D: Directories>(
 ) -> Result<(), ImageFault>
     requires ready { D.ready directories.old }
     requires few { length kinds.now < 2 ^ 31 }
-    requires references { length references.old ≡ length kinds.now }
-    requires named { length named.old ≡ length kinds.now }
-    requires reached { length reached.now ≡ length kinds.now }
-    requires parents { length parents.old ≡ length kinds.now }
+    requires lists { EntryLists kinds.now references.old named.old reached.now parents.old }
     requires counted { (x : ℕ) → x < length kinds.now → number_at references.old x ≤ 2 ^ 59 }
-    ensures read { OnOk result ((b : List ℕ) → D.knows (D.base directories.old) b
-        → IsBlank kinds.now reached.now parents.old
-        → IsRead (graph_with kinds.now (D.entries (D.base directories.old) b)) kinds.now reached.now
-        (length kinds.now) references.old named.old parents.old references.new named.new
-        parents.new) }
-    ensures ready { D.ready directories.new }
-    ensures base { D.base directories.new ≡ D.base directories.old }
-    ensures device { OnOk result (D.device directories.new ≡ D.device directories.old) }
-    ensures fault { IfErr result (λ fault. Faulted (D.device directories.old)
-        (D.device directories.new) fault.sector) }
+    ensures read { OnOk result (ForKnown D.knows D.entries D.sound (D.base directories.old)
+        (λ entries sound. IsBlank kinds.now reached.now parents.old
+        → IsRead (graph_with kinds.now entries) kinds.now reached.now (length kinds.now)
+        references.old named.old parents.old references.new named.new parents.new)) }
+    ensures reader { LeavesReader (D.ready directories.new) (D.base directories.old)
+        (D.base directories.new) (D.device directories.old) (D.device directories.new) result }
 {
-    for s in 0..kinds.len() as u32 {
-        if !is_free(kinds, reached, s as usize) {
+    for s in 0..kinds.len() {
+        if !is_free(kinds, reached, s) {
             continue;
         }
-        read_unreached(directories, s, kinds, references, named, reached, parents)?;
+        read_unreached(
+            directories,
+            s as u32,
+            kinds,
+            references,
+            named,
+            reached,
+            parents,
+        )?;
     }
     Ok(())
 }
@@ -220,25 +186,16 @@ pub fn survey<D: Directories>(
     queue: &mut [u32],
 ) -> Result<(), ImageFault>
     requires ready { D.ready directories.old }
-    requires some { 2 < length kinds.now }
-    requires few { length kinds.now < 2 ^ 31 }
-    requires marked { length marked.now ≡ length kinds.now }
-    requires references { length references.old ≡ length kinds.now }
-    requires named { length named.old ≡ length kinds.now }
-    requires reached { length reached.old ≡ length kinds.now }
-    requires parents { length parents.old ≡ length kinds.now }
-    requires queue { length queue.old ≡ length kinds.now }
-    ensures survey { OnOk result ((b : List ℕ) → D.knows (D.base directories.old) b
-        → IsSurvey (graph_with kinds.now (D.entries (D.base directories.old) b)) references.new
-        named.new reached.new parents.new) }
-    ensures calm { OnOk result ((b : List ℕ) → D.knows (D.base directories.old) b
-        → AreCalm kinds.now marked.now reached.new parents.new
-        (D.entries (D.base directories.old) b) (D.sound (D.base directories.old) b) calm.new) }
-    ensures ready { D.ready directories.new }
-    ensures base { D.base directories.new ≡ D.base directories.old }
-    ensures device { OnOk result (D.device directories.new ≡ D.device directories.old) }
-    ensures fault { IfErr result (λ fault. Faulted (D.device directories.old)
-        (D.device directories.new) fault.sector) }
+    requires lists { SurveyLists kinds.now marked.now references.old named.old reached.old
+        parents.old queue.old }
+    ensures survey { OnOk result (ForKnown D.knows D.entries D.sound (D.base directories.old)
+        (λ entries sound. IsSurvey (graph_with kinds.now entries) references.new named.new
+        reached.new parents.new)) }
+    ensures calm { OnOk result (ForKnown D.knows D.entries D.sound (D.base directories.old)
+        (λ entries sound.
+        AreCalm kinds.now marked.now reached.new parents.new entries sound calm.new)) }
+    ensures reader { LeavesReader (D.ready directories.new) (D.base directories.old)
+        (D.base directories.new) (D.device directories.old) (D.device directories.new) result }
 {
     references.fill(0);
     named.fill(false);

@@ -1,9 +1,8 @@
 //! Directories that hang below nothing.
-ghost use Rattle.std.specs.Prelude.{◌≡◌, ℕ, ◌<◌, ◌^◌, length, unwrap_or};
-ghost use Rattle.ffs_volume.specs.Directories.Graph.{Graph, named as is_named, reached as is_reached, parent as parent_of, dead, is_unref_dir};
-ghost use Rattle.ffs_volume.specs.Directories.Climb.{leads_cycle};
-ghost use Rattle.ffs_survey.specs.Survey.{bool_at, number_at, suspect_at, dir_at, IsTree, AreNamed};
-ghost use Rattle.ffs_survey.specs.Cycles.{up_of};
+ghost use Rattle.std.specs.Prelude.{◌≡◌, ◌<◌, length};
+ghost use Rattle.ffs_volume.specs.Directories.Graph.{Graph, dead, is_unref_dir};
+ghost use Rattle.ffs_survey.specs.Survey.{suspect_at, IsTree, AreNamed};
+ghost use Rattle.ffs_survey.specs.Lists.{DeadLists, FoundLists};
 
 use crate::named::is_dir;
 
@@ -18,8 +17,7 @@ pub fn is_suspect(kinds: &[u8], marked: &[bool], number: usize) -> bool
 /// Whether an inode is dead: suspect, and named by no plain entry.
 pub fn is_dead(number: u32, kinds: &[u8], marked: &[bool], named: &[bool]) -> bool
     requires number { number < length kinds.now }
-    requires marked { length marked.now ≡ length kinds.now }
-    requires named { length named.now ≡ length kinds.now }
+    requires lists { DeadLists kinds.now marked.now named.now }
     ensures { (graph : Graph) → AreNamed graph kinds.now named.now → result
         ≡ dead graph (suspect_at kinds.now marked.now) number }
 {
@@ -38,13 +36,8 @@ pub fn is_unref(
     leaders: &[bool],
 ) -> bool
     requires dir { dir < length kinds.now }
-    requires marked { length marked.now ≡ length kinds.now }
-    requires named { length named.now ≡ length kinds.now }
-    requires reached { length reached.now ≡ length kinds.now }
-    requires parents { length parents.now ≡ length kinds.now }
-    requires leaders { length leaders.now ≡ length kinds.now }
-    requires cycles { (x : ℕ) → bool_at leaders.now x
-        ≡ leads_cycle (up_of parents.now) (length parents.now) x }
+    requires lists { FoundLists kinds.now marked.now named.now reached.now parents.now
+        leaders.now }
     ensures { (graph : Graph) → AreNamed graph kinds.now named.now
         → IsTree graph kinds.now reached.now parents.now → result
         ≡ is_unref_dir graph (suspect_at kinds.now marked.now) dir }

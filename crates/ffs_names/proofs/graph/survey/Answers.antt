@@ -2,23 +2,23 @@ use Rattle.std.proofs.Common.{◌∙◌, ap, sym, rules, arith}
 use Rattle.std.specs.Prelude.{slice_index}
 use Rattle.std.proofs.lemmas.List.{with_items_is}
 use Rattle.ffs_volume.proofs.Sizes.{some_inodes}
-use Rattle.ffs_names.proofs.SurveyHolds.{on_ok, blocks_in, volume_survey, holds_survey, volume_calm, holds_calm}
+use Rattle.ffs_names.proofs.SurveyHolds.{on_ok, read_ok, read_err, blocks_in, volume_survey, holds_survey, volume_calm, holds_calm}
 use Rattle.ffs_names.proofs.graph.survey.Goals as goal
 
 pub returns-clause-ok : goal.returns-clause-ok
-returns-clause-ok g c = rw (c.image-1.given.1 (sym (ap (λ x. x.image_lent) c.survey.ensures.base))) c.survey.ensures.device
+returns-clause-ok g c = rw (c.image-1.given.1 (sym (ap (λ x. x.image_lent) c.survey.ensures.reader.same))) (read_ok c.survey.result _ _ c.survey.ensures.reader.read)
 
 pub returns-clause-err : goal.returns-clause-err
-returns-clause-err g c = rw (c.image-1.given.1 (sym (ap (λ x. x.image_lent) c.survey.ensures.base))) c.survey.ensures.fault
+returns-clause-err g c = rw (c.image-1.given.1 (sym (ap (λ x. x.image_lent) c.survey.ensures.reader.same))) (read_err c.survey.result _ _ c.survey.ensures.reader.read)
 
 pub returns-clause-windows : goal.returns-clause-windows
 returns-clause-windows g c =
-    let image = c.image-1.given.1 (sym (ap (λ x. x.image_lent) c.survey.ensures.base)) in
-    let r = c.survey.ensures.ready.0 in
+    let image = c.image-1.given.1 (sym (ap (λ x. x.image_lent) c.survey.ensures.reader.same)) in
+    let r = c.survey.ensures.reader.is_ready.0 in
     record {
       table = rw image r.table_holds;
       blocks = blocks_in c.args.geometry.now.layout c.survey.new.directories.geometry.layout (g.I.Image.device c.image-1.given.0).contents (g.I.Image.device c.survey.new.directories.image.now).contents c.survey.new.directories.windows.now.blocks
-          (ap (λ x. x.layout) c.survey.ensures.base) (ap (λ x. (g.I.Image.device x).contents) image) r.blocks_hold;
+          (ap (λ x. x.layout) c.survey.ensures.reader.same) (ap (λ x. (g.I.Image.device x).contents) image) r.blocks_hold;
       chunk = rw image r.chunk_holds;
     }
 
@@ -66,5 +66,14 @@ returns-clause-calm g c = on_ok c.survey.result _ _ (λ s b t h.
     (with_items_is w.reached n.reached (search rules)) (with_items_is w.parents n.parents (search rules)) (with_items_is w.leaders n.calm (search rules)) calm)
     c.survey.ensures.calm
 
-pub survey-requires-clause-some : goal.survey-requires-clause-some
-survey-requires-clause-some g c = let k = some_inodes c.args.geometry.now.layout c.args.geometry.now.sound in omega (arith, c.deref-3.ensures.len, c.requires.made.kinds, k)
+pub survey-requires-clause-lists : goal.survey-requires-clause-lists
+survey-requires-clause-lists g c = record {
+  some = let k = some_inodes c.args.geometry.now.layout c.args.geometry.now.sound in omega (arith, c.deref-3.ensures.len, c.requires.made.kinds, k);
+  few = search (rules, arith);
+  marked = search (rules, arith);
+  references = search (rules, arith);
+  named = search (rules, arith);
+  reached = search (rules, arith);
+  parents = search (rules, arith);
+  queue = search (rules, arith);
+}

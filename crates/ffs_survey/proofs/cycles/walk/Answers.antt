@@ -36,48 +36,48 @@ walked_some parent start steps place old new h n b s =
     (λ y u. let q : Some (number_at parent place) ≡ Some y = sym e ∙ u in let p : number_at parent place ≡ y = cc in subst (λ z. number_at (set new place (start + 1)) z ≢ 0) p s)
 
 pub up-init : goal.up-init
-up-init c = record { bound = c.requires.start; walking = walk_start (up_of c.args.parents.now) c.args.start (c.args.start + 1) c.args.stamp.now c.requires.free }
+up-init c = record { bound = c.requires.low; walking = walk_start (up_of c.args.parents.now) c.args.start (c.args.start + 1) c.args.stamp.now c.requires.free }
 
 pub returns-then-next-eq0-clause-walked : goal.returns-then-next-eq0-clause-walked
 returns-then-next-eq0-clause-walked c =
-    let h = here c.args.parents.now c.args.start c.up.steps c.up.place c.args.stamp.now c.up.stamp c.up.invariant.bound c.requires.stamps (omega arith) c.requires.closed c.up.invariant.walking in
+    let h = here c.args.parents.now c.args.start c.up.steps c.up.place c.args.stamp.now c.up.stamp c.up.invariant.bound c.requires.stamps (omega (arith, c.requires.stamps)) c.requires.closed c.up.invariant.walking in
     (walked_none _ _ _ _ _ _ h (inl c.if-next-eq0.true)).0
 
 pub returns-then-next-eq0-clause-cycle : goal.returns-then-next-eq0-clause-cycle
 returns-then-next-eq0-clause-cycle c = λ x i cy.
-    let h = here c.args.parents.now c.args.start c.up.steps c.up.place c.args.stamp.now c.up.stamp c.up.invariant.bound c.requires.stamps (omega arith) c.requires.closed c.up.invariant.walking in
+    let h = here c.args.parents.now c.args.start c.up.steps c.up.place c.args.stamp.now c.up.stamp c.up.invariant.bound c.requires.stamps (omega (arith, c.requires.stamps)) c.requires.closed c.up.invariant.walking in
     (walked_none _ _ _ _ _ _ h (inl c.if-next-eq0.true)).1 x i cy
 
 pub returns-then-seen-start-clause-walked : goal.returns-then-seen-start-clause-walked
 returns-then-seen-start-clause-walked c =
-    let h = here c.args.parents.now c.args.start c.up.steps c.up.place c.args.stamp.now c.up.stamp c.up.invariant.bound c.requires.stamps (omega arith) c.requires.closed c.up.invariant.walking in
+    let h = here c.args.parents.now c.args.start c.up.steps c.up.place c.args.stamp.now c.up.stamp c.up.invariant.bound c.requires.stamps (omega (arith, c.requires.stamps)) c.requires.closed c.up.invariant.walking in
     walked_some _ _ _ _ _ _ h c.if-next-eq0.false (omega arith) (λ z. absurd (let t = c.if-seen-start.true in omega arith))
 
 pub returns-then-seen-start-clause-cycle : goal.returns-then-seen-start-clause-cycle
 returns-then-seen-start-clause-cycle c =
-    let h = here c.args.parents.now c.args.start c.up.steps c.up.place c.args.stamp.now c.up.stamp c.up.invariant.bound c.requires.stamps (omega arith) c.requires.closed c.up.invariant.walking in
+    let h = here c.args.parents.now c.args.start c.up.steps c.up.place c.args.stamp.now c.up.stamp c.up.invariant.bound c.requires.stamps (omega (arith, c.requires.stamps)) c.requires.closed c.up.invariant.walking in
     let p = number_at c.args.parents.now c.up.place in
     let low : p < length c.args.parents.now = omega arith in
     let old = c.requires.older p 0 (omega (arith, low, c.requires.stamps)) in
     let z = stamp_new _ _ _ _ _ p _ _ h.state (omega (arith, old)) c.if-seen-start.true in
     finds_cycle (up_of c.args.parents.now) c.args.start (c.args.start + 1) c.up.steps c.up.place p (length c.args.parents.now) c.args.stamp.now _ (mark_some c.args.start) h.short h.state
-    (up_of-some c.args.parents.now c.up.place c.if-next-eq0.false low) z c.if-seen-start.true
+    (up_of-some c.args.parents.now c.up.place c.if-next-eq0.false low) z c.if-seen-start.true low
 
 pub returns-then-seen-ne0-clause-walked : goal.returns-then-seen-ne0-clause-walked
 returns-then-seen-ne0-clause-walked c =
-    let h = here c.args.parents.now c.args.start c.up.steps c.up.place c.args.stamp.now c.up.stamp c.up.invariant.bound c.requires.stamps (omega arith) c.requires.closed c.up.invariant.walking in
+    let h = here c.args.parents.now c.args.start c.up.steps c.up.place c.args.stamp.now c.up.stamp c.up.invariant.bound c.requires.stamps (omega (arith, c.requires.stamps)) c.requires.closed c.up.invariant.walking in
     walked_some _ _ _ _ _ _ h c.if-next-eq0.false (omega arith) c.if-seen-ne0.true
 
 pub returns-then-seen-ne0-clause-cycle : goal.returns-then-seen-ne0-clause-cycle
 returns-then-seen-ne0-clause-cycle c = λ x i cy.
-    let h = here c.args.parents.now c.args.start c.up.steps c.up.place c.args.stamp.now c.up.stamp c.up.invariant.bound c.requires.stamps (omega arith) c.requires.closed c.up.invariant.walking in
+    let h = here c.args.parents.now c.args.start c.up.steps c.up.place c.args.stamp.now c.up.stamp c.up.invariant.bound c.requires.stamps (omega (arith, c.requires.stamps)) c.requires.closed c.up.invariant.walking in
     let p = number_at c.args.parents.now c.up.place in
     no_cycle_old (up_of c.args.parents.now) c.args.start (c.args.start + 1) c.up.steps c.up.place p x c.args.stamp.now _ h.closed h.state
     (up_of-some c.args.parents.now c.up.place c.if-next-eq0.false (omega arith)) (stamp_old _ _ _ _ _ p _ _ h.state c.if-seen-ne0.true c.if-seen-start.false) i cy
 
 pub overflow_add-steps : goal.overflow_add-steps
 overflow_add-steps c =
-    let h = here c.args.parents.now c.args.start c.up.steps c.up.place c.args.stamp.now c.up.stamp c.up.invariant.bound c.requires.stamps (omega arith) c.requires.closed c.up.invariant.walking in
+    let h = here c.args.parents.now c.args.start c.up.steps c.up.place c.args.stamp.now c.up.stamp c.up.invariant.bound c.requires.stamps (omega (arith, c.requires.stamps)) c.requires.closed c.up.invariant.walking in
     let s = h.short in let f = c.requires.few in omega arith
 
 pub up-smaller : goal.up-smaller
@@ -87,7 +87,7 @@ up-smaller c =
 
 pub up-preserved : goal.up-preserved
 up-preserved c =
-    let h = here c.args.parents.now c.args.start c.up.steps c.up.place c.args.stamp.now c.up.stamp c.up.invariant.bound c.requires.stamps (omega arith) c.requires.closed c.up.invariant.walking in
+    let h = here c.args.parents.now c.args.start c.up.steps c.up.place c.args.stamp.now c.up.stamp c.up.invariant.bound c.requires.stamps (omega (arith, c.requires.stamps)) c.requires.closed c.up.invariant.walking in
     let p = number_at c.args.parents.now c.up.place in
     let one : suc c.up.steps ≡ c.up.steps + 1 = omega arith in
     record {
@@ -98,10 +98,10 @@ up-preserved c =
 
 pub returns-then-next-parents-clause-walked : goal.returns-then-next-parents-clause-walked
 returns-then-next-parents-clause-walked c =
-    let h = here c.args.parents.now c.args.start c.up.steps c.up.place c.args.stamp.now c.up.stamp c.up.invariant.bound c.requires.stamps (omega arith) c.requires.closed c.up.invariant.walking in
+    let h = here c.args.parents.now c.args.start c.up.steps c.up.place c.args.stamp.now c.up.stamp c.up.invariant.bound c.requires.stamps (omega (arith, c.requires.stamps)) c.requires.closed c.up.invariant.walking in
     (walked_none _ _ _ _ _ _ h (inr (omega arith))).0
 
 pub returns-then-next-parents-clause-cycle : goal.returns-then-next-parents-clause-cycle
 returns-then-next-parents-clause-cycle c = λ x i cy.
-    let h = here c.args.parents.now c.args.start c.up.steps c.up.place c.args.stamp.now c.up.stamp c.up.invariant.bound c.requires.stamps (omega arith) c.requires.closed c.up.invariant.walking in
+    let h = here c.args.parents.now c.args.start c.up.steps c.up.place c.args.stamp.now c.up.stamp c.up.invariant.bound c.requires.stamps (omega (arith, c.requires.stamps)) c.requires.closed c.up.invariant.walking in
     (walked_none _ _ _ _ _ _ h (inr (omega arith))).1 x i cy

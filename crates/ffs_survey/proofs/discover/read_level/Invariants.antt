@@ -1,6 +1,6 @@
-use Rattle.std.proofs.Common.{◌≡◌, ℕ, ◌+◌, ◌*◌, ◌<◌, ◌≤◌, ◌^◌, List, length, take, drop, [], All, true}
-use Rattle.ffs_survey.specs.Survey.{number_at, bool_at, graph_with}
-use Rattle.ffs_survey.specs.Discover.{Comes, Counts, from_dirs, unset, count_of, any_of}
+use Rattle.std.proofs.Common.{◌≡◌, ℕ, ◌+◌, ◌*◌, ◌<◌, ◌≤◌, ◌^◌, List, length, take, drop, [], All}
+use Rattle.ffs_survey.specs.Survey.{number_at, graph_with}
+use Rattle.ffs_survey.specs.Discover.{Comes, IsReachedDir, Counts, from_dirs, unset, count_of, any_of}
 use Rattle.ffs_survey.specs.Calm.{AreCalm}
 use Rattle.ffs_survey.proofs.discover.read_level.Given as goal
 
@@ -13,6 +13,6 @@ invariant-loop-s g l = record {
   top : l.top + unset l.reached ≡ unset l.fn.reached;
   comes : (b : List ℕ) → g.D.Directories.knows (g.D.Directories.base l.fn.directories) b → Comes (from_dirs (graph_with l.kinds (g.D.Directories.entries (g.D.Directories.base l.fn.directories) b)) l.frontier) l.fn.reached l.fn.parents [] (from_dirs (graph_with l.kinds (g.D.Directories.entries (g.D.Directories.base l.fn.directories) b)) (drop l.s-index l.frontier)) l.reached l.parents (take l.top l.queue);
   counts : (b : List ℕ) → g.D.Directories.knows (g.D.Directories.base l.fn.directories) b → Counts (length l.kinds) (count_of (graph_with l.kinds (g.D.Directories.entries (g.D.Directories.base l.fn.directories) b)) l.frontier) (any_of (graph_with l.kinds (g.D.Directories.entries (g.D.Directories.base l.fn.directories) b)) l.frontier) l.fn.references l.fn.named (count_of (graph_with l.kinds (g.D.Directories.entries (g.D.Directories.base l.fn.directories) b)) (drop l.s-index l.frontier)) (any_of (graph_with l.kinds (g.D.Directories.entries (g.D.Directories.base l.fn.directories) b)) (drop l.s-index l.frontier)) l.references l.named;
-  still : (b : List ℕ) → g.D.Directories.knows (g.D.Directories.base l.fn.directories) b → All (λ s. bool_at l.reached s ≡ true) l.frontier;
+  still : (b : List ℕ) → g.D.Directories.knows (g.D.Directories.base l.fn.directories) b → All (IsReachedDir l.kinds l.reached) l.frontier;
   calm : (b : List ℕ) → g.D.Directories.knows (g.D.Directories.base l.fn.directories) b → AreCalm l.kinds l.marked l.fn.reached l.fn.parents (g.D.Directories.entries (g.D.Directories.base l.fn.directories) b) (g.D.Directories.sound (g.D.Directories.base l.fn.directories) b) l.fn.calm → AreCalm l.kinds l.marked l.reached l.parents (g.D.Directories.entries (g.D.Directories.base l.fn.directories) b) (g.D.Directories.sound (g.D.Directories.base l.fn.directories) b) l.calm;
 }

@@ -1,8 +1,9 @@
-use Rattle.std.proofs.Common.{arith, [], ◌∙◌, ap, ◌&&◌, rules, ◌≡◌, ◌∷◌, ◌<◌, List, ℕ, take, length}
+use Rattle.std.proofs.Common.{arith, subst, [], ◌∙◌, ap, ◌&&◌, nat_le, rules, ◌≡◌, ◌∷◌, ◌<◌, List, ℕ, take, length}
 use Rattle.ffs_volume.specs.Directories.Roles.{RoledEntry, refers}
 use Rattle.ffs_survey.specs.Reading.{roled_of}
+use Rattle.ffs_survey.specs.Calm.{IsFlagged}
 use Rattle.ffs_survey.proofs.Discovered.{entry_step}
-use Rattle.ffs_survey.proofs.CalmLaws.{calm_step, calm_read, read_whole}
+use Rattle.ffs_survey.proofs.CalmLaws.{calm_step, read_whole}
 use Rattle.ffs_survey.proofs.Tally.{entry_counted, bit-le}
 use Rattle.ffs_survey.proofs.discover.read_reached.Goals as goal
 
@@ -39,17 +40,16 @@ loop-entry-preserved g c =
     }
 
 pub returns-clause-calm : goal.returns-clause-calm
-returns-clause-calm g c = λ b k h old.
+returns-clause-calm g c = λ b k.
     let inv = c.loop-entry.invariant in
     let reported = rw inv.base at c.in_ok-entry.ensures.rest in
     let ended = rw inv.base at c.in_ok-entry.ensures.ended in
     let right = rw inv.base at c.in_ok-entry.ensures.sound in
-    let flags = rw (c.in_ok-entry.ensures.base, inv.base) at c.in_ok-flag_calm.ensures.flags in
+    let flags = rw (c.in_ok-entry.ensures.reader.same, inv.base) at c.in_ok-flag_calm.ensures.flags in
     let entries = g.D.Directories.entries (g.D.Directories.base c.args.directories.now) b in
     let none : g.D.Directories.rest c.loop-entry.directories b ≡ [] = rw c.in_default.is at (reported b k) in
     let end : g.D.Directories.ended c.next.new.self b = rw c.in_default.is at ended b k in
     let w = read_whole c.args.kinds.now c.args.marked.now c.args.reached.now c.loop-entry.reached c.args.parents.now c.loop-entry.parents (take c.args.top c.args.queue.now) (take c.loop-entry.high c.loop-entry.queue) (entries c.args.from) (g.D.Directories.rest c.loop-entry.directories b) c.args.from c.parent_of-above.result c.loop-entry.count c.loop-entry.quiet
     c.parent_of-above.ensures none (inv.comes b k) (inv.quiet b k) in
-    calm_read c.args.kinds.now c.args.marked.now c.args.reached.now c.loop-entry.reached c.args.parents.now c.loop-entry.parents (take c.args.top c.args.queue.now) (take c.loop-entry.high c.loop-entry.queue) entries
-    (g.D.Directories.sound (g.D.Directories.base c.args.directories.now) b) c.args.from _ (g.D.Directories.sound_so_far c.next.new.self b) _ _
-    w.comes h w.quiet_is (right b k ∙ inv.sound b k) (flags b k end) old
+    subst (λ z. IsFlagged c.args.from z (g.D.Directories.sound (g.D.Directories.base c.args.directories.now) b c.args.from) c.args.calm.now c.flag_calm.new.calm) w.quiet_is
+    (subst (λ z. IsFlagged c.args.from (c.loop-entry.quiet && nat_le 2 c.loop-entry.count) z c.args.calm.now c.flag_calm.new.calm) (right b k ∙ inv.sound b k) (flags b k end))

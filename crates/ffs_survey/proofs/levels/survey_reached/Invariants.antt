@@ -1,6 +1,6 @@
-use Rattle.std.proofs.Common.{◌≡◌, ℕ, ◌+◌, ◌-◌, ◌*◌, ◌<◌, ◌≤◌, ◌^◌, List, length, take, drop}
+use Rattle.std.proofs.Common.{◌≡◌, ℕ, ◌-◌, ◌*◌, ◌<◌, ◌≤◌, ◌^◌, List, length, take}
 use Rattle.ffs_survey.specs.Survey.{number_at, graph_with}
-use Rattle.ffs_survey.specs.Discover.{unset, IsFrontier, LevelsKnown, IsCount}
+use Rattle.ffs_survey.specs.Discover.{HasRoom, AtLevel, IsCount}
 use Rattle.ffs_survey.specs.Calm.{AreCalm}
 use Rattle.ffs_survey.proofs.levels.survey_reached.Given as goal
 
@@ -10,12 +10,10 @@ invariant-loop-low g l = record {
   base : g.D.Directories.base l.directories ≡ g.D.Directories.base l.fn.directories;
   device : g.D.Directories.device l.directories ≡ g.D.Directories.device l.fn.directories;
   lengths : length l.reached ≡ length l.kinds;
-  ordered : l.low ≤ l.high;
   deep : l.depth ≤ l.low;
-  room : l.high + unset l.reached ≤ length l.queue;
+  room : HasRoom l.low l.high l.reached l.queue;
   counted : (x : ℕ) → x < length l.kinds → number_at l.references x ≤ l.low * 2 ^ 28;
-  frontier : (b : List ℕ) → g.D.Directories.knows (g.D.Directories.base l.fn.directories) b → IsFrontier (graph_with l.kinds (g.D.Directories.entries (g.D.Directories.base l.fn.directories) b)) l.depth (drop l.low (take l.high l.queue));
-  levels : (b : List ℕ) → g.D.Directories.knows (g.D.Directories.base l.fn.directories) b → LevelsKnown (graph_with l.kinds (g.D.Directories.entries (g.D.Directories.base l.fn.directories) b)) l.depth l.reached l.parents (take l.high l.queue);
+  levels : (b : List ℕ) → g.D.Directories.knows (g.D.Directories.base l.fn.directories) b → AtLevel (graph_with l.kinds (g.D.Directories.entries (g.D.Directories.base l.fn.directories) b)) l.depth l.low l.high l.reached l.parents l.queue;
   counts : (b : List ℕ) → g.D.Directories.knows (g.D.Directories.base l.fn.directories) b → IsCount (graph_with l.kinds (g.D.Directories.entries (g.D.Directories.base l.fn.directories) b)) (take l.low l.queue) l.references l.named;
   calm : (b : List ℕ) → g.D.Directories.knows (g.D.Directories.base l.fn.directories) b → AreCalm l.kinds l.marked l.reached l.parents (g.D.Directories.entries (g.D.Directories.base l.fn.directories) b) (g.D.Directories.sound (g.D.Directories.base l.fn.directories) b) l.calm;
 }

@@ -1,4 +1,4 @@
-use Rattle.std.proofs.Common.{◌∙◌, ◌<◌, ap, sym, subst, []}
+use Rattle.std.proofs.Common.{rules, ◌∙◌, ◌<◌, ap, sym, subst, []}
 use Rattle.std.specs.Prelude.{if◌then◌else◌, ◌&&◌, slice_index}
 use Rattle.ffs_volume.specs.declared.Inode.{Inode}
 use Rattle.ffs_volume.specs.Blocks.Inodes.{inode_of}
@@ -14,23 +14,28 @@ returns-then-not-is_dir-clause-rest g c = λ b k.
     let none = sym (kind_dirs v b c.args.self.now.kinds.now c.args.dir (k.kinds c.args.dir)) ∙ (sym c.is_dir.ensures ∙ c.if-not-is_dir.true) in
     c.stop.ensures.entries b ∙ sym (ap (λ x. if x then roled_entries (volume_of v b) c.args.dir else []) none)
 
-pub returns-clause-ready : goal.returns-clause-ready
-returns-clause-ready g c =
+pub returns-clause-reader : goal.returns-clause-reader
+returns-clause-reader g c =
     let r = c.requires.ready.0 in
-    let device = c.in_ok-inode.ensures.ok in (
-      record {
-        volume = rw device r.volume;
-        table = c.inode.ensures.room;
-        blocks = r.blocks;
-        chunk = r.chunk;
-        table_holds = c.inode.ensures.holds;
-        blocks_hold = rw device r.blocks_hold;
-        chunk_holds = rw device r.chunk_holds;
-        kinds_long = r.kinds_long;
-        cut_long = r.cut_long;
-      },
-      c.restart.ensures.geometry ∙ c.requires.ready.1,
-    )
+    let device = c.in_ok-inode.ensures.ok in
+    record {
+      is_ready = (
+        record {
+          volume = rw device r.volume;
+          table = c.inode.ensures.room;
+          blocks = r.blocks;
+          chunk = r.chunk;
+          table_holds = c.inode.ensures.holds;
+          blocks_hold = rw device r.blocks_hold;
+          chunk_holds = rw device r.chunk_holds;
+          kinds_long = r.kinds_long;
+          cut_long = r.cut_long;
+        },
+        c.restart.ensures.geometry ∙ c.requires.ready.1,
+      );
+      same = search rules;
+      read = device;
+    }
 
 pub returns-clause-rest : goal.returns-clause-rest
 returns-clause-rest g c = λ b k.

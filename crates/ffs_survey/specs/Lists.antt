@@ -1,0 +1,47 @@
+-- The lists of a survey: each has a place for every inode.
+use Rattle.std.specs.Prelude.{◌≡◌, ℕ, ◌<◌, ◌^◌, Bool, List, length}
+use Rattle.ffs_volume.specs.Directories.Climb.{leads_cycle}
+use Rattle.ffs_survey.specs.Survey.{bool_at}
+use Rattle.ffs_survey.specs.Cycles.{up_of}
+
+-- which inodes are marked, and which are reached
+pub record MarkLists (kinds : List ℕ) (m r : List Bool) : Type 0 where
+  pub marked : length m ≡ length kinds
+  pub reached : length r ≡ length kinds
+
+-- which inodes are reached, and their parents
+pub record TreeLists (kinds : List ℕ) (r : List Bool) (p : List ℕ) : Type 0 where
+  pub reached : length r ≡ length kinds
+  pub parents : length p ≡ length kinds
+
+-- the references of each inode and whether an entry names it, and the lists of the tree
+pub record EntryLists (kinds f : List ℕ) (n r : List Bool) (p : List ℕ) : Type 0 where
+  pub references : length f ≡ length kinds
+  pub named : length n ≡ length kinds
+  pub reached : length r ≡ length kinds
+  pub parents : length p ≡ length kinds
+
+-- all lists of a survey: inode 2 is there, and numbers of inodes and places in the queue fit into 31 bits
+pub record SurveyLists (kinds : List ℕ) (m : List Bool) (f : List ℕ) (n r : List Bool) (p q : List ℕ) : Type 0 where
+  pub some : 2 < length kinds
+  pub few : length kinds < 2 ^ 31
+  pub marked : length m ≡ length kinds
+  pub references : length f ≡ length kinds
+  pub named : length n ≡ length kinds
+  pub reached : length r ≡ length kinds
+  pub parents : length p ≡ length kinds
+  pub queue : length q ≡ length kinds
+
+-- which inodes are marked, and which an entry names
+pub record DeadLists (kinds : List ℕ) (m n : List Bool) : Type 0 where
+  pub marked : length m ≡ length kinds
+  pub named : length n ≡ length kinds
+
+-- what a survey found, and for each inode whether it is the least number on a cycle of parents
+pub record FoundLists (kinds : List ℕ) (m n r : List Bool) (p : List ℕ) (leaders : List Bool) : Type 0 where
+  pub marked : length m ≡ length kinds
+  pub named : length n ≡ length kinds
+  pub reached : length r ≡ length kinds
+  pub parents : length p ≡ length kinds
+  pub leaders_long : length leaders ≡ length kinds
+  pub cycles : (x : ℕ) → bool_at leaders x ≡ leads_cycle (up_of p) (length p) x
