@@ -1,5 +1,6 @@
 -- Where the Runs round another Run are in range.
-use Rattle.std.proofs.Common.{◌≡◌, ℕ, ◌+◌, ◌/◌, ◌<◌, ◌≤◌, true, arith, ◌∙◌}
+use Rattle.std.proofs.Common.{◌≡◌, ℕ, ◌+◌, ◌/◌, ◌<◌, ◌≤◌, true, arith, sym, ◌∙◌}
+use Rattle.std.proofs.Math.Nat.{mul-div-le}
 use Rattle.std.proofs.lemmas.Bool.Decides.{nat_tests}
 use Rattle.ffs_volume.specs.declared.Layout.{Layout}
 use Rattle.ffs_volume.specs.Disk.Areas.{cgbase, cgstart, cgsblock, cgdmin, is_in_range}
@@ -33,3 +34,25 @@ after_metadata v c start len g h low high inside some =
 pub base_above : (v : Layout) (c : ℕ) → cgbase v (c + 1) ≡ cgbase v c + v.fpg
 unfolding cgbase
 base_above v c = grind arith
+
+-- where a Run in range lies: in its group and in the volume, and before the group's metadata where it begins there
+pub record Lies (v : Layout) (start len : ℕ) : Type 0 where
+  pub base : cgbase v (start / v.fpg) ≤ start
+  pub volume : start + len ≤ v.size
+  pub group : start + len ≤ cgbase v (start / v.fpg) + v.fpg
+  pub before : start < cgdmin v (start / v.fpg) → start + len ≤ cgsblock v (start / v.fpg)
+
+base_below : (v : Layout) (start : ℕ) → cgbase v (start / v.fpg) ≤ start
+unfolding cgbase
+base_below v start = mul-div-le start v.fpg
+
+pub lies : (v : Layout) (start len : ℕ) → IsGeometry v → 0 < len → is_in_range v start len ≡ true → Lies v start len
+lies v start len g some fits =
+    let apart : is_apart v start len ≡ true = sym (in_range_is v g start len some) ∙ fits in
+    let within : start + len ≤ cgbase v (start / v.fpg + 1) = grind (arith, nat_tests) in
+    record {
+      base = base_below v start;
+      volume = grind (arith, nat_tests);
+      group = omega (arith, within, base_above v (start / v.fpg));
+      before = λ low. grind (arith, nat_tests);
+    }

@@ -16,8 +16,8 @@ use Rattle.ffs_workspace.specs.declared.workspace.Workspace.{Workspace}
 use Rattle.ffs_workspace.specs.declared.workspace.Windows.{Windows}
 use Rattle.ffs_workspace.specs.Lengths.{IsFor, set_count}
 use Rattle.ffs_workspace.specs.Ready.{IsReady}
-use Rattle.ffs_claims.specs.Leaves.{SameFound, ClaimsOnly, Stored}
-use Rattle.ffs_claims.specs.Reporting.{SameClaims, ReportsOnly}
+use Rattle.ffs_claims.specs.Leaves.{SameFound, ClaimsOnly, Stored, OffersOnly}
+use Rattle.ffs_claims.specs.Reporting.{SameClaims, ReportsOnly, OffersReportedOnly}
 
 pub found_none : (w : Workspace) → SameFound w w
 found_none w = record { kinds = refl; marked = refl; cut = refl; again = refl }
@@ -59,6 +59,12 @@ only_then l u v w p q = record {
   found = found_then u v w p.found q.found;
 }
 
+pub offers_none : (l : Layout) (w : Workspace) → IsFor l w → OffersOnly l w w
+offers_none l w made = record { claiming = only_none l w made; runs = refl }
+
+pub offers_then : (l : Layout) (u v w : Workspace) → OffersOnly l u v → OffersOnly l v w → OffersOnly l u w
+offers_then l u v w p q = record { claiming = only_then l u v w p.claiming q.claiming; runs = q.runs ∙ p.runs }
+
 pub reports_none : (l : Layout) (w : Workspace) → IsFor l w → ReportsOnly l w w
 reports_none l w made = record { made = made; windows = refl; claims = claims_none w }
 
@@ -70,6 +76,16 @@ reports_then l u v w p q = record {
 }
 
 -- it stays ready where its windows are as they were
+
+pub offers_reported_none : (l : Layout) (w : Workspace) → IsFor l w → OffersReportedOnly l w w
+offers_reported_none l w made = record { reporting = reports_none l w made; runs = refl }
+
+pub offers_reported_then : (l : Layout) (u v w : Workspace) → OffersReportedOnly l u v → OffersReportedOnly l v w → OffersReportedOnly l u w
+offers_reported_then l u v w p q = record {
+  reporting = reports_then l u v w p.reporting q.reporting;
+  runs = q.runs ∙ p.runs;
+}
+
 pub ready_still : (l : Layout) (d : Device) (u w : Workspace) → IsFor l w → w.windows ≡ u.windows → IsReady l d u →
     IsReady l d w
 ready_still l d u w made e r = record {

@@ -48,16 +48,6 @@ offer_kept v s s' f now = rw now (one (nat_lt s.dups 11) refl (is_data_fragment 
     one true q true kq false uq = rw (q, kq, uq) (omega arith)
     one true q true kq true uq = rw (q, kq, uq) (omega arith)
 
-pub offer_runs : (v : Layout) (s s' : Claims) (f : ℕ) → s' ≡ after_offer v s f → s'.runs ≡ s.runs
-offer_runs v s s' f now = rw now (one (nat_lt s.dups 11) refl (is_data_fragment v f) refl (is_set s.used f) refl)
-  where
-    one : (a : Bool) → nat_lt s.dups 11 ≡ a → (k : Bool) → is_data_fragment v f ≡ k → (u : Bool) → is_set s.used f ≡ u →
-        (after_offer v s f).runs ≡ s.runs
-    one false q k kq u uq = rw q refl
-    one true q false kq u uq = rw (q, kq) refl
-    one true q true kq false uq = rw (q, kq, uq) refl
-    one true q true kq true uq = rw (q, kq, uq) refl
-
 -- the next offer of a Run is taken
 pub offers_after : (v : Layout) (s s' : Claims) (start len place f : ℕ) → place < len → f ≡ start + place →
     s' ≡ after_offer v s f →

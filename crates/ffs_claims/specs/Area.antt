@@ -7,3 +7,8 @@ use Rattle.ffs_claims.specs.declared.area.DataArea.{DataArea}
 -- each Run that lies in the area is in range
 pub record IsDataArea (v : Layout) (area : DataArea) : Type 0 where
   pub runs : (start len : ℕ) → area.start ≤ start → start + len ≤ area.end → 0 < len → is_in_range v start len ≡ true
+
+-- a Run lies in the area
+pub record HasRun (area : DataArea) (start len : ℕ) : Type 0 where
+  pub first : area.start ≤ start
+  pub last : start + len ≤ area.end

@@ -29,6 +29,11 @@ pub record ClaimsOnly (v : Layout) (old new : Workspace) : Type 0 where
   pub windows : new.windows ≡ old.windows
   pub found : SameFound old new
 
+-- what the offers of a Run leave: what claiming does, and no Run more is seen
+pub record OffersOnly (v : Layout) (old new : Workspace) : Type 0 where
+  pub claiming : ClaimsOnly v old new
+  pub runs : new.runs_seen ≡ old.runs_seen
+
 -- there is a place for what is found of an inode
 pub record HasInode (number : ℕ) (w : Workspace) : Type 0 where
   pub kinds : number < vec_len w.kinds

@@ -33,3 +33,8 @@ pub record ReportsOnly (v : Layout) (old new : Workspace) : Type 0 where
   pub made : IsFor v new
   pub windows : new.windows ≡ old.windows
   pub claims : SameClaims old new
+
+-- what the offers of a Run leave: what reporting does, and no Run more is looked at
+pub record OffersReportedOnly (v : Layout) (old new : Workspace) : Type 0 where
+  pub reporting : ReportsOnly v old new
+  pub runs : new.runs_again ≡ old.runs_again

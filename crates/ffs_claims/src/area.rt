@@ -1,6 +1,6 @@
 //! The data fragments round the last Run in range.
 
-ghost use Rattle.std.specs.Prelude.{◌≡◌, ◌<◌, true};
+ghost use Rattle.std.specs.Prelude.{◌≡◌, ◌<◌, IsTrue, true, ℕ};
 ghost use Rattle.ffs_volume.specs.declared.Layout.{Layout};
 ghost use Rattle.ffs_volume.specs.Disk.Areas.{is_in_range};
 
@@ -14,7 +14,7 @@ pub struct DataArea {
 }
 
 impl DataArea {
-    ghost use Rattle.ffs_claims.specs.Area.{IsDataArea};
+    ghost use Rattle.ffs_claims.specs.Area.{IsDataArea, HasRun};
 
     /// No fragments.
     pub fn empty() -> DataArea
@@ -27,7 +27,9 @@ impl DataArea {
     #[tactic(auto, using(ffs_volume::proofs::AreaLaws::group_below))]
     fn around(geometry: &Geometry, start: u32) -> DataArea
         requires inside { start < geometry.now.layout.size }
-        ensures { IsDataArea geometry.now.layout result }
+        ensures area { IsDataArea geometry.now.layout result }
+        ensures run { (len : ℕ) → 0 < len → is_in_range geometry.now.layout start len ≡ true
+            → HasRun result start len }
     {
         let group = start / geometry.layout.fpg;
         let base = geometry.cgbase(group);
@@ -45,7 +47,7 @@ impl DataArea {
         }
     }
 
-    /// Whether a Run is in range. If so, the area becomes the one round it.
+    /// Whether a Run is in range. If so, it lies in the area from then on.
     #[inline(always)]
     #[tactic(auto, using(crate::proofs::Whole::run_below))]
     pub fn in_range(&mut self, geometry: &Geometry, start: u32, len: u32) -> bool
@@ -53,6 +55,7 @@ impl DataArea {
         requires area { IsDataArea geometry.now.layout self.old }
         ensures value { result ≡ is_in_range geometry.now.layout start len }
         ensures area { IsDataArea geometry.now.layout self.new }
+        ensures run { IsTrue result → HasRun self.new start len }
     {
         if self.start <= start && u64::from(start) + u64::from(len) <= u64::from(self.end) {
             return true;

@@ -25,7 +25,7 @@ use ffs_image::Image;
 use ffs_layout::Geometry;
 use ffs_phase::RunFault;
 use ffs_report::{Output, Report};
-use ffs_volume::{Class, Inode};
+use ffs_volume::{Class, Inode, Step};
 use ffs_walk::{Walk, class_of, has_steps};
 use ffs_workspace::Workspace;
 
@@ -68,7 +68,9 @@ fn claim<I: Image, W: Output>(
         if !is_open(workspace) {
             break;
         }
-        walk.skip_gaps(&workspace.windows.blocks);
+        if matches!(next, Step::Gap) {
+            walk.skip_gaps(&workspace.windows.blocks);
+        }
     }
     Ok(())
 }

@@ -9,7 +9,7 @@ ghost use Rattle.ffs_volume.specs.Blocks.Claims.{after_offer, after_offers, afte
 ghost use Rattle.ffs_report.specs.Progress.{progress, Says};
 ghost use Rattle.ffs_workspace.specs.Holds.{claims_of};
 ghost use Rattle.ffs_workspace.specs.Lengths.{IsFor};
-ghost use Rattle.ffs_claims.specs.Leaves.{ClaimsOnly};
+ghost use Rattle.ffs_claims.specs.Leaves.{ClaimsOnly, OffersOnly};
 ghost use Rattle.ffs_claims.specs.Lines.{of_lines, is_dup, dup_lines, bad_lines};
 ghost use Rattle.ffs_claims.specs.Area.{IsDataArea};
 
@@ -66,7 +66,7 @@ fn take(workspace: &mut Workspace, geometry: &Geometry, fragment: u64) -> bool
     ensures claims { claims_of workspace.new
         ≡ after_offer geometry.now.layout (claims_of workspace.old) fragment }
     ensures dup { result ≡ is_dup geometry.now.layout (claims_of workspace.old) fragment }
-    ensures only { ClaimsOnly geometry.now.layout workspace.old workspace.new }
+    ensures only { OffersOnly geometry.now.layout workspace.old workspace.new }
 {
     if workspace.dups >= 11 {
         return false;
@@ -104,7 +104,7 @@ fn offer<W: Output>(
         result }
     ensures claims { claims_of workspace.new
         ≡ after_offer geometry.now.layout (claims_of workspace.old) fragment }
-    ensures only { ClaimsOnly geometry.now.layout workspace.old workspace.new }
+    ensures only { OffersOnly geometry.now.layout workspace.old workspace.new }
 {
     let many = workspace.dups == 10;
     if !take(workspace, geometry, fragment) {
@@ -129,8 +129,7 @@ fn offers<W: Output>(
         (range_with_len start len))) result }
     ensures claims { OnOk result (claims_of workspace.new
         ≡ after_offers geometry.now.layout (claims_of workspace.old) (range_with_len start len)) }
-    ensures runs { workspace.new.runs_seen ≡ workspace.old.runs_seen }
-    ensures only { ClaimsOnly geometry.now.layout workspace.old workspace.new }
+    ensures only { OffersOnly geometry.now.layout workspace.old workspace.new }
 {
     for place in 0..len {
         offer(
@@ -155,7 +154,6 @@ fn run_in_range<W: Output>(
 ) -> Result<(), OutFault>
     requires made { IsFor geometry.now.layout workspace.old }
     requires some { 0 < len }
-    requires few { len ≤ 8 }
     requires in_range { is_in_range geometry.now.layout start len ≡ true }
     requires room { workspace.old.kept < 2 ^ 62 }
     requires dups { workspace.old.dups < 11 }
@@ -164,8 +162,7 @@ fn run_in_range<W: Output>(
         (range_with_len start len))) result }
     ensures claims { OnOk result (claims_of workspace.new
         ≡ after_offers geometry.now.layout (claims_of workspace.old) (range_with_len start len)) }
-    ensures runs { workspace.new.runs_seen ≡ workspace.old.runs_seen }
-    ensures only { ClaimsOnly geometry.now.layout workspace.old workspace.new }
+    ensures only { OffersOnly geometry.now.layout workspace.old workspace.new }
 {
     if workspace.claimed.claim(start, len) {
         workspace.kept += u64::from(len);
@@ -187,7 +184,6 @@ fn run<W: Output>(
     requires made { IsFor geometry.now.layout workspace.old }
     requires area { IsDataArea geometry.now.layout area.old }
     requires some { 0 < len }
-    requires few { len ≤ 8 }
     requires room { workspace.old.kept < 2 ^ 62 }
     requires runs { workspace.old.runs_seen < 2 ^ 62 }
     requires bad { workspace.old.bad < 11 }

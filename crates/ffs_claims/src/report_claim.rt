@@ -8,7 +8,7 @@ ghost use Rattle.ffs_report.specs.Progress.{progress, Says};
 ghost use Rattle.ffs_maps.specs.Bits.{bits_of};
 ghost use Rattle.ffs_workspace.specs.Lengths.{IsFor, inodes_of};
 ghost use Rattle.ffs_claims.specs.Lines.{of_lines};
-ghost use Rattle.ffs_claims.specs.Reporting.{OffersReported, ReportsOnly};
+ghost use Rattle.ffs_claims.specs.Reporting.{OffersReported, OffersReportedOnly};
 
 use ffs_layout::Geometry;
 use ffs_report::{Line, OutFault, Output, Report};
@@ -30,8 +30,7 @@ fn report_claim<W: Output>(
         (offer_at number fragment ∷ [])))
         result }
     ensures reported { OffersReported (offer_at number fragment ∷ []) workspace.old workspace.new }
-    ensures runs { workspace.new.runs_again ≡ workspace.old.runs_again }
-    ensures only { ReportsOnly geometry.now.layout workspace.old workspace.new }
+    ensures only { OffersReportedOnly geometry.now.layout workspace.old workspace.new }
 {
     if fragment >= u64::from(geometry.layout.size) {
         return Ok(());
@@ -66,8 +65,7 @@ pub fn report_run<W: Output>(
     ensures reported { OnOk result (OffersReported
         (map (offer_at number) (range_with_len start len))
         workspace.old workspace.new) }
-    ensures runs { workspace.new.runs_again ≡ workspace.old.runs_again }
-    ensures only { ReportsOnly geometry.now.layout workspace.old workspace.new }
+    ensures only { OffersReportedOnly geometry.now.layout workspace.old workspace.new }
 {
     for place in 0..len {
         report_claim(

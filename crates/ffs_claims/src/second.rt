@@ -104,7 +104,9 @@ fn rewalk<I: Image, W: Output>(
         if workspace.unreported == 0 {
             break;
         }
-        walk.skip_gaps(&workspace.windows.blocks);
+        if matches!(next, Step::Gap) {
+            walk.skip_gaps(&workspace.windows.blocks);
+        }
     }
     Ok(())
 }

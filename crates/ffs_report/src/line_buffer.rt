@@ -1,8 +1,7 @@
 // The bytes of one line, gathered before they go out.
-ghost use Rattle.std.specs.Prelude.{◌≡◌, []};
+ghost use Rattle.std.specs.Prelude.{◌≡◌, ◌≤◌, length, take};
 
 use crate::output::{OutFault, Output};
-use arrayvec::ArrayVec;
 
 /// The room for a line and its questions, in bytes. A path has at most 1,024 and a name 255; only the name of an image may be
 /// longer.
@@ -11,50 +10,58 @@ const LINE_ROOM: usize = 2048;
 /// An output in memory that has room for one line. A piece for which no room is left is refused.
 #[derive(Drop)]
 pub struct LineBuffer {
-    bytes: ArrayVec<u8, LINE_ROOM>,
+    room: [u8; LINE_ROOM],
+    /// How many bytes it holds, from the start of its room on.
+    used: usize,
     failures: u64,
+    ghost in_room: { used ≤ 2048 },
+    ghost long: { length room ≡ 2048 },
 }
 
 impl LineBuffer {
     /// A buffer that holds nothing.
     pub fn new() -> LineBuffer
-        ensures { result.bytes.items ≡ [] }
+        ensures { result.used ≡ 0 }
     {
         LineBuffer {
-            bytes: ArrayVec::new(),
+            room: [0; LINE_ROOM],
+            used: 0,
             failures: 0,
         }
     }
 
     /// Drops what it holds.
     pub fn clear(&mut self)
-        ensures { self.new.bytes.items ≡ [] }
+        ensures { self.new.used ≡ 0 }
     {
-        self.bytes.clear();
+        self.used = 0;
     }
 
     /// What it holds.
     pub fn bytes(&self) -> &[u8]
-        ensures { result.now ≡ self.now.bytes.items }
+        ensures { result.now ≡ take self.now.used self.now.room }
     {
-        self.bytes.as_slice()
+        &self.room[..self.used]
     }
 }
 
 impl Output for LineBuffer {
     ghost use Rattle.std.specs.Prelude.{Some, None};
 
-    ghost sink = { λ b. record { taken = Some b.bytes.items; failures = b.failures; lent = None } };
+    ghost sink = { λ b. record { taken = Some (take b.used b.room); failures = b.failures; lent = None } };
 
     fn failures(&self) -> u64 {
         self.failures
     }
 
     fn put(&mut self, piece: &[u8]) -> Result<usize, OutFault> {
-        if self.bytes.try_extend_from_slice(piece).is_ok() {
-            return Ok(piece.len());
+        if piece.len() > LINE_ROOM - self.used {
+            self.failures = self.failures.saturating_add(1);
+            return Err(OutFault);
         }
-        self.failures = self.failures.saturating_add(1);
-        Err(OutFault)
+        let end = self.used + piece.len();
+        self.room[self.used..end].copy_from_slice(piece);
+        self.used = end;
+        Ok(piece.len())
     }
 }

@@ -39,14 +39,11 @@ fn print_attr<W: Output>(out: &mut W, attr: &Attr) -> Result<(), OutFault>
         out,
         &[
             Piece::Text(INODE),
-            Piece::Number(attr.number as u64),
-            Piece::Text(OWNER),
-            Piece::Number(attr.uid as u64),
-            Piece::Text(MODE),
+            Piece::Count(attr.number as u64, OWNER),
+            Piece::Count(attr.uid as u64, MODE),
             Piece::Octal(attr.mode),
             Piece::Text(SIZE),
-            Piece::Number(attr.size),
-            Piece::Text(MTIME),
+            Piece::Count(attr.size, MTIME),
             Piece::Signed(attr.mtime as i64),
         ],
     )
@@ -141,8 +138,7 @@ fn print_length<W: Output>(out: &mut W, path: &[u8], size: u64) -> Result<(), Ou
             Piece::Text(DIRECTORY),
             Piece::Shown(path),
             Piece::Text(DIR_LENGTH),
-            Piece::Number(size),
-            Piece::Text(NOT_MULTIPLE),
+            Piece::Count(size, NOT_MULTIPLE),
         ],
     )
 }
@@ -174,8 +170,7 @@ fn print_numbered<'x, W: Output>(
         out,
         &[
             Piece::Text(head),
-            Piece::Number(number as u64),
-            Piece::Text(PATH_OF_NAME),
+            Piece::Count(number as u64, PATH_OF_NAME),
             Piece::Shown(path),
             Piece::Text(tail),
         ],

@@ -68,10 +68,7 @@ fn print_number<'x, W: Output>(
     ensures { Prints (W.sink out.old) (W.sink out.new) (number_text head.now number tail.now)
         result }
 {
-    print_pieces(
-        out,
-        &[Piece::Text(head), Piece::Number(number), Piece::Text(tail)],
-    )
+    print_pieces(out, &[Piece::Text(head), Piece::Count(number, tail)])
 }
 
 fn print_opening<W: Output>(out: &mut W, name: &[u8]) -> Result<(), OutFault>
@@ -154,10 +151,8 @@ fn print_claim<W: Output>(
     print_pieces(
         out,
         &[
-            Piece::Number(fragment as u64),
-            Piece::Text(what),
-            Piece::Number(inode as u64),
-            Piece::Text(LINE_END),
+            Piece::Count(fragment as u64, what),
+            Piece::Count(inode as u64, LINE_END),
         ],
     )
 }

@@ -5,8 +5,8 @@ use Rattle.ffs_volume.specs.Blocks.Claims.{offer_lines, offers_lines, after_offe
 use Rattle.ffs_workspace.specs.Holds.{claims_of}
 use Rattle.ffs_phase.proofs.Reporting.{to_begins, to_says, to_stops}
 use Rattle.ffs_claims.specs.Lines.{of_lines}
-use Rattle.ffs_claims.proofs.Goes.{offers_after, offers_more, offer_kept, offer_runs, to_same, from_start}
-use Rattle.ffs_claims.proofs.Frames.{only_none, only_then}
+use Rattle.ffs_claims.proofs.Goes.{offers_after, offers_more, offer_kept, to_same, from_start}
+use Rattle.ffs_claims.proofs.Frames.{offers_none, offers_then}
 use Rattle.ffs_claims.proofs.offer.offers.Goals as goal
 
 pub returns-in_err-offer-clause-said : goal.returns-in_err-offer-clause-said
@@ -18,13 +18,8 @@ returns-in_err-offer-clause-said g c =
     c.loop-place-test.true (omega arith) c.offer.ensures.claims)
     c.in_err-offer.ensures.said)
 
-pub returns-in_err-offer-clause-runs : goal.returns-in_err-offer-clause-runs
-returns-in_err-offer-clause-runs g c =
-    offer_runs c.args.geometry.now.layout (claims_of c.loop-place.workspace) (claims_of c.offer.new.workspace)
-    _ c.offer.ensures.claims ∙ c.loop-place.invariant.runs
-
 pub returns-in_err-offer-clause-only : goal.returns-in_err-offer-clause-only
-returns-in_err-offer-clause-only g c = only_then c.args.geometry.now.layout _ _ _ c.loop-place.invariant.only
+returns-in_err-offer-clause-only g c = offers_then c.args.geometry.now.layout _ _ _ c.loop-place.invariant.only
     c.offer.ensures.only
 
 pub loop-place-preserved : goal.loop-place-preserved
@@ -33,9 +28,7 @@ loop-place-preserved g c =
     let f = c.from.result + c.from-in-loop-place.result in
     let now = c.offer.ensures.claims in
     record {
-      only = only_then c.args.geometry.now.layout _ _ _ inv.only c.offer.ensures.only;
-      runs = offer_runs c.args.geometry.now.layout (claims_of c.loop-place.workspace) (claims_of c.offer.new.workspace)
-          f now ∙ inv.runs;
+      only = offers_then c.args.geometry.now.layout _ _ _ inv.only c.offer.ensures.only;
       kept = omega (
         arith,
         inv.kept,
@@ -55,8 +48,7 @@ loop-place-init g c =
     let v = c.args.geometry.now.layout in
     let s = claims_of c.args.workspace.now in
     record {
-      only = only_none c.args.geometry.now.layout c.args.workspace.now c.requires.made;
-      runs = refl;
+      only = offers_none c.args.geometry.now.layout c.args.workspace.now c.requires.made;
       kept = omega arith;
       claims = ap (after_offers v s) (from_start c.args.start c.args.len);
       said = to_same _ _ _ _ _ (to_begins (of_lines (offers_lines v c.args.number s (range_with_len c.args.start c.args.len))) _)

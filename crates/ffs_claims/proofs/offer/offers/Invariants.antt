@@ -4,14 +4,13 @@ use Rattle.ffs_report.specs.Progress.{progress}
 use Rattle.ffs_phase.specs.Runs.{SaidTo}
 use Rattle.ffs_volume.specs.Blocks.Claims.{after_offers, offers_lines}
 use Rattle.ffs_workspace.specs.Holds.{claims_of}
-use Rattle.ffs_claims.specs.Leaves.{ClaimsOnly}
+use Rattle.ffs_claims.specs.Leaves.{OffersOnly}
 use Rattle.ffs_claims.specs.Lines.{of_lines}
 use Rattle.ffs_claims.proofs.offer.offers.Given as goal
 
 abbrev pub invariant-loop-place : goal.invariant-loop-place
 invariant-loop-place g l = record {
-  only : ClaimsOnly l.geometry.layout l.initial.workspace l.workspace;
-  runs : l.workspace.runs_seen ≡ l.initial.workspace.runs_seen;
+  only : OffersOnly l.geometry.layout l.initial.workspace l.workspace;
   kept : l.workspace.kept ≤ l.initial.workspace.kept + l.place;
   claims : after_offers l.geometry.layout (claims_of l.initial.workspace) (range_with_len l.start l.len)
       ≡ after_offers l.geometry.layout (claims_of l.workspace) (range_with_len (l.start + l.place) (l.len - l.place));

@@ -6,14 +6,13 @@ use Rattle.ffs_report.specs.Progress.{progress}
 use Rattle.ffs_phase.specs.Runs.{SaidTo}
 use Rattle.ffs_maps.specs.Bits.{bits_of}
 use Rattle.ffs_claims.specs.Lines.{of_lines}
-use Rattle.ffs_claims.specs.Reporting.{ReportsOnly}
+use Rattle.ffs_claims.specs.Reporting.{OffersReportedOnly}
 use Rattle.ffs_claims.proofs.Reportings.{Reporting}
 use Rattle.ffs_claims.proofs.report_claim.report_run.Given as goal
 
 abbrev pub invariant-loop-place : goal.invariant-loop-place
 invariant-loop-place g l = record {
-  only : ReportsOnly l.geometry.layout l.initial.workspace l.workspace;
-  runs : l.workspace.runs_again ≡ l.initial.workspace.runs_again;
+  only : OffersReportedOnly l.geometry.layout l.initial.workspace l.workspace;
   reported : Reporting (map (offer_at l.number) (range_with_len (l.start + l.place) (l.len - l.place))) (map (offer_at l.number) (range_with_len l.start l.len)) l.initial.workspace l.workspace;
   said : SaidTo (of_lines (first_offer_lines (bits_of l.workspace.duplicates) (map (offer_at l.number) (range_with_len (l.start + l.place) (l.len - l.place)))))
       (of_lines (first_offer_lines (bits_of l.initial.workspace.duplicates) (map (offer_at l.number) (range_with_len l.start l.len))))

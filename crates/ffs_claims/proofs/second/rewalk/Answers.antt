@@ -113,8 +113,8 @@ skip_gaps-requires g c =
     let same = c.in_ok-next.ensures.same.geometry ∙ inv.geometry in
     record { room = record { blocks_fit = rw (same, c.report_again.ensures.only.made.blocks) (omega arith) } }
 
-pub loop-next-preserved : goal.loop-next-preserved
-loop-next-preserved g c =
+pub loop-next-preserved-then-matches : goal.loop-next-preserved-then-matches
+loop-next-preserved-then-matches g c =
     let inv = c.loop-next.invariant in
     let v = c.args.geometry.now.layout in
     let n = c.args.number in
@@ -151,6 +151,40 @@ loop-next-preserved g c =
           inv.said next now c.in_ok-report_again.ensures.reported.dup
           (λ bytes t. ap (first_offer_lines d') (ap (offers_again v n r') (gaps bytes t)
           ∙ gaps_offer v n r' c.skip_gaps.result (rest bytes c.skip_gaps.new.self)))
+          c.in_ok-report_again.ensures.said;
+    }
+
+pub loop-next-preserved : goal.loop-next-preserved
+loop-next-preserved g c =
+    let inv = c.loop-next.invariant in
+    let v = c.args.geometry.now.layout in
+    let n = c.args.number in
+    let d = bits_of c.loop-next.workspace.duplicates in
+    let d' = bits_of c.report_again.new.workspace.duplicates in
+    let r' = c.report_again.new.rescan in
+    let ok = c.in_ok-next.ensures.ok in
+    let now = c.in_ok-report_again.ensures.again in
+    let only = c.report_again.ensures.only in
+    let next = rw (inv.device, c.in-Some.is) at c.in_ok-next.ensures.steps in
+    let read = ready_walked c.args.geometry.now _ _ _ c.loop-next.workspace c.next.new.blocks inv.geometry ok
+    c.next.ensures.size c.next.ensures.holds inv.ready in
+    let ready = ready_still v _ _ _ only.made only.windows read in
+    record {
+      ready = ready;
+      going = sym c.is_going.ensures ∙ c.if-not-is_going.false;
+      pending = c.if-workspace-eq0.false;
+      geometry = c.in_ok-next.ensures.geometry ∙ inv.geometry;
+      device = ok ∙ inv.device;
+      claims = claims_then _ _ _ (claims_still _ _ _ inv.claims) only.claims;
+      walk = λ bytes t. rewalk_on _ _ _ _ c.in-Some.next c.loop-next.rescan r' (rest bytes c.loop-next.walk)
+          (rest bytes c.next.new.self) _ c.loop-next.workspace _ c.report_again.new.workspace
+          (next bytes t) now inv.going (λ e. inv.pending (inv.ready.made.unreported ∙ e))
+          c.in_ok-report_again.ensures.reported c.report_again.ensures.runs c.report_again.ensures.count
+          (inv.walk bytes t);
+      said = rewalk_said _ v n c.loop-next.rescan r' c.in-Some.next (λ bytes. rest bytes c.loop-next.walk)
+          (λ bytes. rest bytes c.next.new.self) d d' _ _ _ _ _
+          inv.said next now c.in_ok-report_again.ensures.reported.dup
+          (λ bytes t. refl)
           c.in_ok-report_again.ensures.said;
     }
 

@@ -1,7 +1,7 @@
 use Rattle.std.proofs.Common.{arith, ◌≡◌, ◌+◌, ◌/◌, ◌<◌}
 use Rattle.ffs_volume.specs.Disk.Areas.{cgbase}
 use Rattle.ffs_volume.proofs.AreaLaws.{group_below}
-use Rattle.ffs_claims.proofs.DataAreas.{before_metadata, after_metadata, base_above}
+use Rattle.ffs_claims.proofs.DataAreas.{before_metadata, after_metadata, base_above, lies}
 use Rattle.ffs_claims.proofs.area.DataArea.around.Goals as goal
 
 pub returns-then-start-data : goal.returns-then-start-data
@@ -9,8 +9,16 @@ returns-then-start-data c =
     let v = c.args.geometry.now.layout in
     let group : c.args.start / v.fpg < v.ncg = group_below v c.args.start c.args.geometry.now.sound c.requires.inside in
     record {
-      runs = λ s n low high some.
-          before_metadata v (c.args.start / v.fpg) s n c.args.geometry.now.sound group (rw c.cgbase-base.ensures.value at low) (rw c.cgsblock.ensures at high) some;
+      area = record {
+        runs = λ s n low high some.
+            before_metadata v (c.args.start / v.fpg) s n c.args.geometry.now.sound group (rw c.cgbase-base.ensures.value at low) (rw c.cgsblock.ensures at high) some;
+      };
+      run = λ n some fits.
+          let at = lies v c.args.start n c.args.geometry.now.sound some fits in
+          record {
+            first = omega (arith, at.base, c.cgbase-base.ensures.value);
+            last = omega (arith, at.before (omega (arith, c.cgdmin-data.ensures.value)), c.cgsblock.ensures);
+          };
     }
 
 pub returns : goal.returns
@@ -19,6 +27,14 @@ returns c =
     let group : c.args.start / v.fpg < v.ncg = group_below v c.args.start c.args.geometry.now.sound c.requires.inside in
     let next : cgbase v (c.args.start / v.fpg + 1) ≡ cgbase v (c.args.start / v.fpg) + v.fpg = base_above v (c.args.start / v.fpg) in
     record {
-      runs = λ s n low high some.
-          after_metadata v (c.args.start / v.fpg) s n c.args.geometry.now.sound group (rw c.cgdmin-data.ensures.value at low) (omega (arith, next, high)) (omega (arith, high)) some;
+      area = record {
+        runs = λ s n low high some.
+            after_metadata v (c.args.start / v.fpg) s n c.args.geometry.now.sound group (rw c.cgdmin-data.ensures.value at low) (omega (arith, next, high)) (omega (arith, high)) some;
+      };
+      run = λ n some fits.
+          let at = lies v c.args.start n c.args.geometry.now.sound some fits in
+          record {
+            first = omega arith;
+            last = omega (arith, at.volume, at.group, c.cgbase-base.ensures.value);
+          };
     }
