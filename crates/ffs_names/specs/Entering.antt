@@ -1,5 +1,5 @@
 -- The entries that a reading of a directory has still to give.
-use Rattle.std.specs.Prelude.{ℕ, List, ◌≡◌, ◌<◌, ◌++◌, ◌+◌, ◌-◌, ◌*◌, ◌/◌}
+use Rattle.std.specs.Prelude.{ℕ, List, ◌≡◌, ◌<◌, ◌≤◌, ◌++◌, ◌+◌, ◌-◌, ◌*◌, ◌/◌}
 use Rattle.std.specs.List.{flat_map}
 use Rattle.ffs_volume.specs.Disk.Numbers.{piece}
 use Rattle.ffs_volume.specs.Directories.Entries.{entries_from}
@@ -31,6 +31,11 @@ IsHeld b r = r.chunk ≡ piece (last_place r.chunks.run_cursor) 512 b
 -- so it is if an entry of it may still come
 abbrev pub MayTake : List ℕ → Entries → Type 0
 MayTake b r = r.place < 512 → IsHeld b r
+
+-- the current chunk is in the volume
+abbrev pub IsInside : Entries → Type 0
+IsInside r =
+    last_place r.chunks.run_cursor + 512 ≤ r.chunks.walk.geometry.layout.size * r.chunks.walk.geometry.layout.fsize
 
 -- where the name of the last entry is in the image, in bytes
 abbrev pub name_place : Entries → ℕ

@@ -132,6 +132,8 @@ impl Chunks {
             ∷ all_chunks b self.new))) }
         ensures place { IfOk result (λ o. IfSome o (λ _. ForContents (I.device image.old).contents
             (λ b. chunk.new ≡ piece (last_place self.new.run_cursor) 512 b))) }
+        ensures inside { IfOk result (λ o. IfSome o (λ _. last_place self.new.run_cursor + 512
+            ≤ self.old.walk.geometry.layout.size * self.old.walk.geometry.layout.fsize)) }
         ensures none { IfOk result (λ o. IfNone o
             (ForContents (I.device image.old).contents (λ b. all_chunks b self.new ≡ []))) }
         ensures runs { OnOk result (ForContents (I.device image.old).contents
@@ -219,6 +221,8 @@ impl Chunks {
         // The chunk is there in the image.
         ensures place { IfOk result (λ o. IfSome o (λ _. ForContents (I.device image.old).contents
             (λ b. chunk.new ≡ piece (last_place self.new.run_cursor) 512 b))) }
+        ensures inside { IfOk result (λ o. IfSome o (λ _. last_place self.new.run_cursor + 512
+            ≤ self.old.walk.geometry.layout.size * self.old.walk.geometry.layout.fsize)) }
         ensures none { IfOk result (λ o. IfNone o
             (ForContents (I.device image.old).contents (λ b. rest b self.new ≡ []))) }
         ensures falls { IfOk result (λ o. IfSome o (λ _. self.new.budget + 1 ≡ self.old.budget)) }

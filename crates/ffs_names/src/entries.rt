@@ -56,7 +56,7 @@ fn has_right_size(inode: &Inode) -> bool
 impl Entries {
     ghost use Rattle.ffs_survey.specs.Reading.{roled_of};
     ghost use Rattle.ffs_names.specs.Shapes.{fills, has_right_shape, HasEnded};
-    ghost use Rattle.ffs_names.specs.Entering.{to_come, left, last_name, IsHeld, MayTake, name_place};
+    ghost use Rattle.ffs_names.specs.Entering.{to_come, left, last_name, IsHeld, IsInside, MayTake, name_place};
 
     /// A reading of the directory with this inode, of which no offer is kept after the cut (0 for none).
     pub fn start(geometry: &Geometry, inode: &Inode, cut: u32) -> Entries
@@ -200,6 +200,8 @@ impl Entries {
             ∷ to_come b self.new))) }
         ensures place { IfOk result (λ o. IfSome o (λ _. ForContents (I.device image.old).contents
             (λ b. MayTake b self.old → IsHeld b self.new))) }
+        ensures inside { IfOk result (λ o. IfSome o (λ _.
+            (self.old.place < 512 → IsInside self.old) → IsInside self.new)) }
         ensures left { IfOk result (λ o. IfSome o (λ _. left self.new < left self.old)) }
         ensures shape { OnOk result (ForContents (I.device image.old).contents
             (λ b. has_right_shape b self.new ≡ has_right_shape b self.old)) }
