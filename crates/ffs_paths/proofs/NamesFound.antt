@@ -1,26 +1,44 @@
 -- A reading of a directory that finds where it names its children.
-use Rattle.std.proofs.Common.{◌≡◌, ◌≢◌, ℕ, zero, suc, ◌+◌, ◌-◌, ◌*◌, ◌<◌, ◌≤◌, ◌==◌, ◌&&◌, Bool, true, false, List, [], ◌∷◌, Option, Some, None, refl, sym, ap, subst, ◌∙◌, arith, replicate, get_or}
-use Rattle.std.specs.Prelude.{vec_len}
+use Rattle.std.proofs.Common.{◌≡◌, ◌≢◌, ℕ, zero, suc, ◌-◌, ◌*◌, ◌≤◌, ◌==◌, ◌&&◌, Bool, true, false, List, [], ◌∷◌, ◌++◌, length, take, Option, Some, None, refl, sym, ap, subst, ◌∙◌, arith, replicate, get_or}
+use Rattle.std.specs.Prelude.{vec_len, Result, Ok, Err, IfOk, OnOk}
+use Rattle.std.proofs.lemmas.List.{length-take}
 use Rattle.std.specs.Option.{unwrap_or}
 use Rattle.std.proofs.lemmas.Bool.{and_parts, both_ways, eq-eqb, eqb-true}
 use Rattle.ffs_image.specs.Device.{Device}
+use Rattle.ffs_image.specs.Reads.{ReadAfter}
+use Rattle.ffs_image.specs.declared.image.ImageFault.{ImageFault}
 use Rattle.ffs_volume.specs.declared.Layout.{Layout}
 use Rattle.ffs_volume.specs.declared.Role.{Role}
 use Rattle.ffs_volume.specs.Disk.Numbers.{piece}
-use Rattle.ffs_volume.specs.Directories.Roles.{RoledEntry, is_plain}
+use Rattle.ffs_volume.specs.Directories.Roles.{RoledEntry, Volume, is_dir, is_plain, roled_entries}
+use Rattle.ffs_volume.specs.Directories.Parents.{graph_of}
+use Rattle.ffs_volume.specs.Directories.Volumes.{volume_of}
 use Rattle.ffs_volume.specs.Directories.Graph.{names}
 use Rattle.ffs_walk.specs.declared.window.Window.{Window}
 use Rattle.ffs_walk.specs.declared.blocks.Blocks.{Blocks}
 use Rattle.ffs_walk.specs.Windows.{BlocksHold, WindowHolds}
 use Rattle.ffs_workspace.specs.declared.workspace.Windows.{Windows}
+use Rattle.ffs_workspace.specs.declared.workspace.Workspace.{Workspace}
+use Rattle.ffs_workspace.specs.Holds.{HoldsClaims, HoldsSurvey}
+use Rattle.ffs_workspace.specs.Leaves.{LeavesSurvey}
+use Rattle.ffs_workspace.specs.Ready.{IsReady}
+use Rattle.ffs_workspace.proofs.Leaving.{claims_left, survey_left}
 use Rattle.ffs_workspace.proofs.Places.{piece_of}
 use Rattle.ffs_names.specs.declared.entries.Entries.{Entries}
 use Rattle.ffs_names.specs.Entering.{last_name, IsHeld, IsInside as IsInsideEntries, name_place}
 use Rattle.ffs_names.specs.RunCursors.{last_place}
 use Rattle.ffs_paths.specs.declared.child_names.NamePlace.{NamePlace}
 use Rattle.ffs_paths.specs.declared.child_names.ChildNames.{ChildNames}
-use Rattle.ffs_paths.specs.ChildNames.{place_at, Covers, AreNamesOf, IsInside, AreInside, IsEmpty}
-use Rattle.ffs_paths.specs.Climbing.{name_in, AreOpen}
+use Rattle.ffs_paths.specs.ChildNames.{place_at, Covers, AreNamesOf, AreAllNamesOf, IsInside, AreInside, IsEmpty}
+use Rattle.ffs_paths.specs.Climbing.{name_in, AreOpen, IsParentOf}
+use Rattle.ffs_paths.specs.Siblings.{KeepSiblings}
+use Rattle.ffs_paths.specs.declared.siblings.Siblings.{Siblings}
+use Rattle.ffs_paths.specs.DirectoryPaths.{HoldsPath, IsPathOf}
+use Rattle.ffs_paths.specs.Reads.{ForTree, OnlyReads}
+use Rattle.ffs_paths.specs.Slashes.{AreSingle}
+use Rattle.ffs_paths.specs.declared.kept.DirectoryPath.{DirectoryPath}
+use Rattle.ffs_paths.proofs.Children.{IsChild, child_is, dir_some}
+use Rattle.ffs_paths.proofs.Keeping.{then_reads}
 use Rattle.ffs_paths.proofs.Ways.{name_in-here, name_in-past}
 
 none_some : (p : NamePlace) → None ≡ Some p → ⊥
@@ -126,3 +144,64 @@ kept_is e q old new plain first this others = record {
 -- the place of a name
 pub place_inside : (r : Entries) → IsInsideEntries r → IsInside r.chunks.walk.geometry.layout (record { place = name_place r; length = r.name_len })
 place_inside r h = let fits = r.name_in_chunk in record { volume = omega arith; short = omega arith }
+
+-- no directory has the number 0
+pub no_directory : (v : Volume) (n : ℕ) → n ≡ 0 → is_dir v n ≡ true → ⊥
+no_directory v n e h = let some = dir_some v n h in omega arith
+
+-- a directory is the child with the name that was found
+pub named_child : (v : Layout) (b : List ℕ) (s d : ℕ) (name : List ℕ) (above made : DirectoryPath) → IsChild v b d s → name ≡ name_in d (roled_entries (volume_of v b) s) → IsPathOf (graph_of (volume_of v b)) s above
+    → ((names : List (List ℕ)) → HoldsPath above (Some names) → AreSingle (names ++ name ∷ []) → HoldsPath made (Some (names ++ name ∷ []))) → IsPathOf (graph_of (volume_of v b)) d made
+named_child v b s d name above made child is path makes =
+    let leads = child.leads in
+    let longer = makes leads.names (subst (HoldsPath above) leads.above path) (subst (λ n. AreSingle (leads.names ++ n ∷ [])) (sym is) leads.single) in
+    subst (HoldsPath made) (sym leads.below) (subst (λ n. HoldsPath made (Some (leads.names ++ n ∷ []))) is longer)
+
+-- a name was read into the window of chunks
+pub name_read : {T : Type 0} (v : Layout) (d d' : Device) (w : Workspace) (chunk : Window) (result : Result T ImageFault) → IsReady v d w → d'.size ≡ d.size → d'.contents ≡ d.contents → vec_len chunk.buffer ≡ vec_len w.windows.chunk.buffer
+    → WindowHolds d'.contents chunk → ReadAfter d d' result → OnlyReads v d d' w (record w { windows = record w.windows { chunk = chunk } }) result
+name_read {T} v d d' w chunk result ready size contents long holds read =
+    let made = ready.made in
+    let one : OnlyReads {T = Unit {0}} v d d w w (Ok tt) = record { lists = refl; ready = ready; read = refl } in
+    let opened : AreOpen v d w.windows = record {
+      volume = ready.volume;
+      table = made.table;
+      blocks = made.blocks;
+      chunk = made.chunk;
+      table_holds = ready.windows.table;
+      blocks_hold = ready.windows.blocks;
+      chunk_holds = ready.windows.chunk;
+    } in
+    then_reads one (open_on v d d' w.windows w.windows.blocks chunk opened size contents refl (subst (λ c. BlocksHold v c w.windows.blocks) (sym contents) ready.windows.blocks) long holds) read
+
+-- a name is read whole
+pub take_whole : (n m : ℕ) (xs : List ℕ) → n ≡ m → m ≤ 512 → length (take n xs) ≤ 512
+take_whole n m xs e short = let l = length-take n xs in omega arith
+
+-- what is known of a child of the directory whose names are found
+pub record NamesOfParent (v : Layout) (b : List ℕ) (d : ℕ) (s : Siblings) : Type 0 where
+  pub child : IsChild v b d s.parent
+  pub path : IsPathOf (graph_of (volume_of v b)) s.parent s.path
+  pub names : AreAllNamesOf b (roled_entries (volume_of v b) s.parent) s.names
+
+pub names_of_parent : (v : Layout) (b : List ℕ) (device : Device) (w : Workspace) (s : Siblings) (d : ℕ) → device.contents ≡ Some b → HoldsClaims v b w → HoldsSurvey v b w → IsParentOf w d s.parent → KeepSiblings v device.contents w s → s.names.parent ≡ s.parent
+    → NamesOfParent v b d s
+names_of_parent v b device w s d t claims survey of kept e =
+    let below = of.below in
+    let child = child_is v b d s.parent (sym (survey.reached d) ∙ of.reached) (omega arith) (of.is ∙ survey.parents d) in
+    let some = dir_some (volume_of v b) s.parent child.dir in
+    record {
+      child = child;
+      path = (kept.right b t claims survey some).path;
+      names = subst (λ p. AreAllNamesOf b (roled_entries (volume_of v b) p) s.names) e (kept.names.right b t claims (ap (is_dir (volume_of v b)) e ∙ child.dir));
+    }
+
+-- what a call answers is right of the workspace before it, too
+pub path_before : (v : Layout) (d d' : Device) (w w' : Workspace) (x : ℕ) (result : Result DirectoryPath ImageFault) → d'.contents ≡ d.contents → LeavesSurvey w w'
+    → IfOk result (λ path. ForTree v d' w' (λ g. IsPathOf g x path)) → IfOk result (λ path. ForTree v d w (λ g. IsPathOf g x path))
+path_before v d d' w w' x (Ok path) e left h = λ b t claims survey. h b (e ∙ t) (claims_left v b w w' left claims) (survey_left v b w w' left survey)
+path_before v d d' w w' x (Err fault) e left h = tt
+
+pub on_ok : {T : Type 0} (result : Result T ImageFault) (P : Type 0) → P → OnOk result P
+on_ok (Ok x) P h = h
+on_ok (Err e) P h = tt

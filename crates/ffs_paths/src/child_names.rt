@@ -1,6 +1,6 @@
 //! Where a directory names its children.
 
-ghost use Rattle.std.specs.Prelude.{◌≡◌, ◌≢◌, ◌+◌, ◌-◌, ◌*◌, ◌<◌, ◌≤◌, ℕ, List, Some, None, true, false, [], length, get_or, IfOk, OnOk, IfSome};
+ghost use Rattle.std.specs.Prelude.{◌≡◌, ◌≢◌, ◌+◌, ◌-◌, ◌*◌, ◌<◌, ◌≤◌, ◌==◌, ◌&&◌, nat_le, nat_lt, ℕ, List, Some, None, true, false, [], length, get_or, IfOk, OnOk, IfSome};
 ghost use Rattle.std.specs.Option.{unwrap_or};
 ghost use Rattle.ffs_image.specs.Device.{ForContents};
 ghost use Rattle.ffs_image.specs.Reads.{ReadAfter};
@@ -44,7 +44,7 @@ pub struct ChildNames {
 }
 
 impl ChildNames {
-    ghost use Rattle.ffs_paths.specs.ChildNames.{place_at, Covers, AreNamesOf, AreInside, IsEmpty};
+    ghost use Rattle.ffs_paths.specs.ChildNames.{place_at, Covers, AreAllNamesOf, AreInside, IsEmpty};
 
     /// No name is found yet.
     pub fn of(parent: u32, first: u32) -> ChildNames
@@ -61,25 +61,18 @@ impl ChildNames {
 
     /// Whether an inode of the directory is among those that it is for.
     pub fn covers(&self, parent: u32, number: u32) -> bool
-        ensures { result ≡ true → self.now.parent ≡ parent }
+        ensures { result ≡ ((self.now.parent == parent)
+            && (nat_le self.now.first number && nat_lt (number - self.now.first) 512)) }
     {
-        self.parent == parent
-            && self.first <= number
-            && ((number - self.first) as usize) < COVERED
+        self.parent == parent && self.first <= number && ((number - self.first) as usize) < COVERED
     }
 
-    /// Where an inode is named, if that is found.
+    /// Where an inode is named, if an entry names it.
     pub fn place_of(&self, number: u32) -> Option<NamePlace>
-        ensures { IfSome result (λ p. Covers self.now number × (place_at self.now number ≡ Some p)) }
+        requires { Covers self.now number }
+        ensures { result ≡ place_at self.now number }
     {
-        if number < self.first {
-            return None;
-        }
-        let index = (number - self.first) as usize;
-        if index >= COVERED {
-            return None;
-        }
-        self.places[index]
+        self.places[(number - self.first) as usize]
     }
 
     /// An inode is named at a place. The first place is kept.
@@ -136,7 +129,7 @@ impl ChildNames {
         requires windows { AreOpen entries.old.chunks.walk.geometry.layout
             (I.device image.old) windows.old }
         ensures names { OnOk result (ForContents (I.device image.old).contents
-            (λ b. AreNamesOf b (to_come b entries.old) self.new)) }
+            (λ b. AreAllNamesOf b (to_come b entries.old) self.new)) }
         ensures inside { OnOk result (AreInside entries.old.chunks.walk.geometry.layout self.new) }
         ensures parent { self.new.parent ≡ self.old.parent }
         ensures first { self.new.first ≡ self.old.first }
@@ -144,9 +137,11 @@ impl ChildNames {
             (I.device image.new) windows.new }
         ensures read { ReadAfter (I.device image.old) (I.device image.new) result }
     {
-        'entries: while let Some(entry) =
-            entries.next(image, &mut windows.blocks, &mut windows.chunk)?
-        {
+        'entries: while let Some(entry) = entries.next(
+            image,
+            &mut windows.blocks,
+            &mut windows.chunk,
+        )? {
             self.keep_entry(entry, entries);
         }
         Ok(())
@@ -170,9 +165,10 @@ impl ChildNames {
         ensures names { IfOk result (λ names. ForContents (I.device image.old).contents
             (λ b. is_dir (volume_of geometry.now.layout b) parent ≡ true → cut
             ≡ cut_at geometry.now.layout b parent
-            → AreNamesOf b (roled_entries (volume_of geometry.now.layout b) parent) names)) }
+            → AreAllNamesOf b (roled_entries (volume_of geometry.now.layout b) parent) names)) }
         ensures inside { IfOk result (λ names. AreInside geometry.now.layout names) }
         ensures parent { IfOk result (λ names. names.parent ≡ parent) }
+        ensures first { IfOk result (λ names. names.first ≡ first) }
         ensures windows { AreOpen geometry.now.layout (I.device image.new) windows.new }
         ensures read { ReadAfter (I.device image.old) (I.device image.new) result }
     {

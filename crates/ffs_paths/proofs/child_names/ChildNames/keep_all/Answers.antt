@@ -1,9 +1,9 @@
-use Rattle.std.proofs.Common.{◌≡◌, ◌<◌, sym, ap, subst, ◌∙◌, arith, List, ℕ, Some, [], refl}
+use Rattle.std.proofs.Common.{sym, ap, subst, ◌∙◌, arith, [], refl}
 use Rattle.ffs_survey.specs.Reading.{roled_of}
-use Rattle.ffs_names.specs.Entering.{to_come, last_name, name_place}
+use Rattle.ffs_names.specs.Entering.{last_name, name_place}
 use Rattle.ffs_walk.specs.Windows.{BlocksHold}
 use Rattle.ffs_paths.specs.ChildNames.{AreInside}
-use Rattle.ffs_paths.specs.Climbing.{AreOpen}
+use Rattle.ffs_paths.specs.Climbing.{name_in}
 use Rattle.ffs_paths.specs.declared.child_names.NamePlace.{NamePlace}
 use Rattle.ffs_paths.proofs.NamesFound.{empty_names, empty_inside, IsKept, names_on, unseen_on, name_there, open_on}
 use Rattle.ffs_paths.proofs.child_names.ChildNames.keep_all.Goals as goal
@@ -74,3 +74,10 @@ returns-clause-windows g c =
     let next = c.in_ok-entry.ensures in
     open_on _ _ _ c.entries.windows _ _ i.windows (ap (λ d. d.size) next.ok) (ap (λ d. d.contents) next.ok) next.size
     (subst (λ q. BlocksHold q.layout (g.I.Image.device c.next.new.image).contents c.next.new.blocks) i.geometry next.holds) next.data_size next.data_holds
+
+pub returns-clause-names : goal.returns-clause-names
+returns-clause-names g c = λ b t.
+    let i = c.entries.invariant in
+    let u = ap (λ d. d.contents) i.device ∙ t in
+    let come = (rw c.in_default.is at c.in_ok-entry.ensures.entries) b u in
+    record { names = i.names b t; none = λ x s n. (i.unseen b t).still x s n ∙ ap (name_in x) come }

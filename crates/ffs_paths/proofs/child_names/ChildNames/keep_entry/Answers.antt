@@ -1,4 +1,4 @@
-use Rattle.std.proofs.Common.{◌+◌, [], sym, ap, ◌∙◌, subst}
+use Rattle.std.proofs.Common.{[], sym, ◌∙◌, subst}
 use Rattle.ffs_survey.specs.Reading.{roled_of}
 use Rattle.ffs_paths.specs.ChildNames.{IsInside}
 use Rattle.ffs_paths.specs.declared.child_names.NamePlace.{NamePlace}
