@@ -1,10 +1,11 @@
 -- The entries that a reading of a directory has still to give.
-use Rattle.std.specs.Prelude.{ℕ, List, ◌++◌, ◌+◌, ◌-◌, ◌*◌, ◌/◌}
+use Rattle.std.specs.Prelude.{ℕ, List, ◌≡◌, ◌<◌, ◌≤◌, ◌++◌, ◌+◌, ◌-◌, ◌*◌, ◌/◌}
 use Rattle.std.specs.List.{flat_map}
 use Rattle.ffs_volume.specs.Disk.Numbers.{piece}
 use Rattle.ffs_volume.specs.Directories.Entries.{entries_from}
 use Rattle.ffs_volume.specs.Directories.Roles.{RoledEntry, roled_from, roled_chunk}
 use Rattle.ffs_names.specs.Readings.{rest}
+use Rattle.ffs_names.specs.RunCursors.{last_place}
 use Rattle.ffs_names.specs.declared.entries.Entries.{Entries}
 
 -- those of the current chunk
@@ -22,3 +23,20 @@ left r = 64 * r.chunks.budget + (512 - r.place) / 8
 -- the name of the entry that it gave last
 abbrev pub last_name : Entries → List ℕ
 last_name r = piece r.name_place r.name_len r.chunk
+
+-- the current chunk is what an image of these bytes has at its place
+abbrev pub IsHeld : List ℕ → Entries → Type 0
+IsHeld b r = r.chunk ≡ piece (last_place r.chunks.run_cursor) 512 b
+
+-- so it is if an entry of it may still come
+abbrev pub MayTake : List ℕ → Entries → Type 0
+MayTake b r = r.place < 512 → IsHeld b r
+
+-- the current chunk is in the volume
+abbrev pub IsInside : Entries → Type 0
+IsInside r =
+    last_place r.chunks.run_cursor + 512 ≤ r.chunks.walk.geometry.layout.size * r.chunks.walk.geometry.layout.fsize
+
+-- where the name of the last entry is in the image, in bytes
+abbrev pub name_place : Entries → ℕ
+name_place r = last_place r.chunks.run_cursor + r.name_place

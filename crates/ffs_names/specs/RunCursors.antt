@@ -13,3 +13,7 @@ hand_chunks v b h = map (λ k. chunk_of v.order (h.offset + 512 * k) (piece (h.p
 -- a directory of which this many bytes are read
 abbrev pub reading_by : Layout → List ℕ → ℕ → Reading
 reading_by v b taken = record { order = v.order; image = b; bsize = v.bsize; fsize = v.fsize; taken = taken }
+
+-- where in the image the chunk is that was given last, in bytes
+abbrev pub last_place : RunCursor → ℕ
+last_place h = h.place + 512 * (h.next - 1)

@@ -3,6 +3,7 @@
 ghost use Rattle.std.specs.Prelude.{◌≡◌, ◌+◌, ◌*◌, ◌<◌, ◌≤◌, ◌^◌, ◌++◌, ◌∷◌, ◌↔◌, ◌||◌, ℕ, List, [], true, false, IsTrue, Option, Ok, None, Some, vec_len, length, IfOk, OnOk, IfErr, OnErr, IfNone, IfSome, MatchOption};
 ghost use Rattle.ffs_image.specs.Device.{Faulted, ForContents};
 ghost use Rattle.ffs_volume.specs.Disk.Areas.{is_in_range};
+ghost use Rattle.ffs_volume.specs.Disk.Numbers.{piece};
 ghost use Rattle.ffs_volume.specs.Blocks.Steps.{steps_of};
 ghost use Rattle.ffs_volume.specs.Directories.Entries.{chunk_of, chunks_of, has_gap, run_chunks, size_taken};
 ghost use Rattle.ffs_volume.specs.declared.Step.{Step as StepIn};
@@ -40,7 +41,7 @@ pub struct Chunks {
 
 impl Chunks {
     ghost use Rattle.ffs_names.specs.Keepings.{replay_in};
-    ghost use Rattle.ffs_names.specs.RunCursors.{hand_chunks, reading_by};
+    ghost use Rattle.ffs_names.specs.RunCursors.{hand_chunks, last_place, reading_by};
     ghost use Rattle.ffs_names.specs.Readings.{all_chunks, chunks_after, rest, runs_left, runs_after, gap_left, gap_after, IsSame};
 
     /// A Run is seen.
@@ -129,6 +130,10 @@ impl Chunks {
             (λ offset. all_chunks b self.old
             ≡ chunk_of self.old.walk.geometry.layout.order offset chunk.new
             ∷ all_chunks b self.new))) }
+        ensures place { IfOk result (λ o. IfSome o (λ _. ForContents (I.device image.old).contents
+            (λ b. chunk.new ≡ piece (last_place self.new.run_cursor) 512 b))) }
+        ensures inside { IfOk result (λ o. IfSome o (λ _. last_place self.new.run_cursor + 512
+            ≤ self.old.walk.geometry.layout.size * self.old.walk.geometry.layout.fsize)) }
         ensures none { IfOk result (λ o. IfNone o
             (ForContents (I.device image.old).contents (λ b. all_chunks b self.new ≡ []))) }
         ensures runs { OnOk result (ForContents (I.device image.old).contents
@@ -212,6 +217,12 @@ impl Chunks {
             (λ b. MatchOption o (rest b self.old ≡ [])
             (λ offset. rest b self.old ≡ chunk_of self.old.walk.geometry.layout.order offset
             chunk.new ∷ rest b self.new))) }
+
+        // The chunk is there in the image.
+        ensures place { IfOk result (λ o. IfSome o (λ _. ForContents (I.device image.old).contents
+            (λ b. chunk.new ≡ piece (last_place self.new.run_cursor) 512 b))) }
+        ensures inside { IfOk result (λ o. IfSome o (λ _. last_place self.new.run_cursor + 512
+            ≤ self.old.walk.geometry.layout.size * self.old.walk.geometry.layout.fsize)) }
         ensures none { IfOk result (λ o. IfNone o
             (ForContents (I.device image.old).contents (λ b. rest b self.new ≡ []))) }
         ensures falls { IfOk result (λ o. IfSome o (λ _. self.new.budget + 1 ≡ self.old.budget)) }
@@ -249,6 +260,14 @@ impl Chunks {
                 Err(fault)
             }
         }
+    }
+
+    /// Where the chunk that it gave last is in the image, in bytes.
+    pub fn last_place(&self) -> u64
+        ensures value { result ≡ last_place self.now.run_cursor }
+        ensures small { result + 512 < 2 ^ 64 }
+    {
+        self.run_cursor.place + 512 * u64::from(self.run_cursor.next.saturating_sub(1))
     }
 
     /// How many Runs were looked at.

@@ -56,7 +56,7 @@ fn has_right_size(inode: &Inode) -> bool
 impl Entries {
     ghost use Rattle.ffs_survey.specs.Reading.{roled_of};
     ghost use Rattle.ffs_names.specs.Shapes.{fills, has_right_shape, HasEnded};
-    ghost use Rattle.ffs_names.specs.Entering.{to_come, left, last_name};
+    ghost use Rattle.ffs_names.specs.Entering.{to_come, left, last_name, IsHeld, IsInside, MayTake, name_place};
 
     /// A reading of the directory with this inode, of which no offer is kept after the cut (0 for none).
     pub fn start(geometry: &Geometry, inode: &Inode, cut: u32) -> Entries
@@ -67,6 +67,7 @@ impl Entries {
             (replayed_steps geometry.now.layout cut fresh_replay
             (steps_of geometry.now.layout inode.now b))) }
         ensures left { left result ≤ 2 ^ 28 }
+        ensures place { result.place ≡ 512 }
         ensures geometry { result.chunks.walk.geometry ≡ geometry.now }
     {
         let chunks = Chunks::start(geometry, inode, cut);
@@ -152,6 +153,8 @@ impl Entries {
             (entry_in self.new.order self.new.chunk self.new.place) ≡ false) }
         ensures left { IfSome result (λ _. left self.new < left self.old) }
         ensures chunks { self.new.chunks ≡ self.old.chunks }
+        ensures chunk { self.new.chunk ≡ self.old.chunk }
+        ensures place { IfSome result (λ _. self.old.place < 512) }
         ensures fills { fills self.new ≡ fills self.old }
         ensures sound { self.new.sound ≡ self.old.sound }
     {
@@ -195,6 +198,10 @@ impl Entries {
             (λ b. MatchOption o (to_come b self.old ≡ [])
             (λ named. to_come b self.old ≡ roled_of named (last_name self.new)
             ∷ to_come b self.new))) }
+        ensures place { IfOk result (λ o. IfSome o (λ _. ForContents (I.device image.old).contents
+            (λ b. MayTake b self.old → IsHeld b self.new))) }
+        ensures inside { IfOk result (λ o. IfSome o (λ _.
+            (self.old.place < 512 → IsInside self.old) → IsInside self.new)) }
         ensures left { IfOk result (λ o. IfSome o (λ _. left self.new < left self.old)) }
         ensures shape { OnOk result (ForContents (I.device image.old).contents
             (λ b. has_right_shape b self.new ≡ has_right_shape b self.old)) }
@@ -265,5 +272,12 @@ impl Entries {
         ensures { result.now ≡ last_name self.now }
     {
         &self.chunk[self.name_place..][..self.name_len]
+    }
+
+    /// Where the name of the last entry is in the image, in bytes.
+    pub fn name_place(&self) -> u64
+        ensures { result ≡ name_place self.now }
+    {
+        self.chunks.last_place() + self.name_place as u64
     }
 }

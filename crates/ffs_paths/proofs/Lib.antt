@@ -2,6 +2,7 @@ pub mod Children
 pub mod Ends
 pub mod Keeping
 pub mod Longer
+pub mod NamesFound
 pub mod Rooms
 pub mod Single
 pub mod Tails

@@ -1,9 +1,9 @@
 -- The path of an entry: the longest end of the names before it that leaves room for its own.
 use Rattle.std.proofs.Common.{◌≡◌, ℕ, zero, suc, ◌+◌, ◌-◌, ◌<◌, ◌≤◌, ◌==◌, Bool, true, false, List, [], ◌∷◌, ◌++◌, length, drop, refl, sym, ap, ◌∙◌, arith, append_assoc, append-nil, length-append}
-use Rattle.std.specs.Prelude.{nat_le, max, slice_index, if◌then◌else◌, ◌||◌}
+use Rattle.std.specs.Prelude.{nat_le, max, if◌then◌else◌, ◌||◌}
 use Rattle.std.proofs.lemmas.Bool.{leb-true}
 use Rattle.std.proofs.lemmas.Bool.Decides.{nat_tests}
-use Rattle.std.proofs.lemmas.List.{drop-drop, drop_all, drop_more}
+use Rattle.std.proofs.lemmas.List.{drop-drop, drop_all}
 use Rattle.ffs_volume.specs.Directories.Paths.{joined, longest_end, path_bytes}
 use Rattle.ffs_paths.specs.Slashes.{AreSingle, from_slash, has_slash}
 use Rattle.ffs_paths.proofs.Ends.{end-all, end-more, joined-length, over_is, under_is, whole-length}

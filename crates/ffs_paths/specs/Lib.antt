@@ -1,4 +1,5 @@
 pub mod Buffers
+pub mod ChildNames
 pub mod Climbing
 pub mod DirectoryPaths
 pub mod Reads

@@ -9,6 +9,8 @@ use Rattle.ffs_volume.specs.Directories.Volumes.{volume_of}
 use Rattle.ffs_names.specs.Entering.{to_come, last_name}
 use Rattle.ffs_workspace.specs.declared.workspace.Workspace.{Workspace}
 use Rattle.ffs_workspace.specs.Holds.{HoldsClaims, HoldsSurvey}
+use Rattle.ffs_paths.specs.ChildNames.{AreAllNamesOf, AreInside}
+use Rattle.ffs_paths.specs.declared.child_names.ChildNames.{ChildNames}
 use Rattle.ffs_paths.specs.Climbing.{name_in}
 use Rattle.ffs_paths.specs.DirectoryPaths.{IsPathOf}
 use Rattle.ffs_paths.specs.Slashes.{AreSingle}
@@ -30,9 +32,17 @@ pub record AreSiblings (v : Layout) (b : List ℕ) (s : Siblings) : Type 0 where
       ≡ name_in x (roled_entries (volume_of v b) s.parent)
   pub child : 0 < s.child → LeadsTo (graph_of (volume_of v b)) s.parent s.child (last_name s.search.entries)
 
+-- the places are those of the names in the directory, where the image gives these bytes and the workspace holds what the
+-- block check leaves
+pub record HoldNames (v : Layout) (contents : Option (List ℕ)) (w : Workspace) (c : ChildNames) : Type 0 where
+  pub right : (b : List ℕ) → contents ≡ Some b → HoldsClaims v b w → is_dir (volume_of v b) c.parent ≡ true
+      → AreAllNamesOf b (roled_entries (volume_of v b) c.parent) c
+  pub inside : AreInside v c
+
 -- they are those of the volume, where the image gives these bytes and the workspace holds what the block check and the
 -- survey leave
 pub record KeepSiblings (v : Layout) (contents : Option (List ℕ)) (w : Workspace) (s : Siblings) : Type 0 where
   pub layout : s.search.entries.chunks.walk.geometry.layout ≡ v
   pub right : (b : List ℕ) → contents ≡ Some b → HoldsClaims v b w → HoldsSurvey v b w → 0 < s.parent
       → AreSiblings v b s
+  pub names : HoldNames v contents w s.names

@@ -8,6 +8,7 @@
 #![tactic(auto)]
 
 pub mod buffer;
+pub mod child_names;
 pub mod climb;
 pub mod kept;
 pub mod path;

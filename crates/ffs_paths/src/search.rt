@@ -69,6 +69,7 @@ impl Search {
             ≡ cut_at geometry.now.layout b dir
             → to_come b search.entries ≡ roled_entries (volume_of geometry.now.layout b) dir)) }
         ensures highest { IfOk result (λ search. search.highest ≡ 0) }
+        ensures place { IfOk result (λ search. search.entries.place ≡ 512) }
         ensures geometry { IfOk result (λ search. search.entries.chunks.walk.geometry
             ≡ geometry.now) }
         ensures windows { AreOpen geometry.now.layout (I.device image.new) windows.new }

@@ -1,6 +1,6 @@
 //! The paths of directories, where one after another has the same parent.
 
-ghost use Rattle.std.specs.Prelude.{◌≡◌, ◌*◌, ◌<◌, ℕ, List, Option, IfOk, OnOk, IfSome, vec_len};
+ghost use Rattle.std.specs.Prelude.{◌≡◌, ◌*◌, ◌<◌, true, ℕ, List, Option, Some, IfOk, OnOk, IfSome, vec_len};
 ghost use Rattle.ffs_volume.specs.Directories.Paths.{dir_path};
 ghost use Rattle.ffs_workspace.specs.declared.workspace.Workspace.{Workspace as WorkspaceIn};
 ghost use Rattle.ffs_workspace.specs.Ready.{IsReady};
@@ -9,6 +9,7 @@ ghost use Rattle.ffs_paths.specs.DirectoryPaths.{IsPathOf};
 ghost use Rattle.ffs_paths.specs.Reads.{ForTree, OnlyReads};
 
 use crate::buffer::{PathBuffer, PathText};
+use crate::child_names::ChildNames;
 use crate::kept::DirectoryPath;
 use crate::path::directory_path;
 use crate::search::Search;
@@ -35,7 +36,8 @@ fn parent_above(workspace: &Workspace, dir: u32) -> Option<u32>
 /// A directory with the children whose paths are made: its own path, and a reading of its entries that continues from one
 /// child to the next.
 ///
-/// Where children come in the order of numbers, and are named in this order too, each entry is read once for all of them.
+/// Where children come in the order of numbers, and are named in this order too, each entry is read once for all of them. In
+/// another order one more reading finds the names of many children.
 #[derive(Drop)]
 pub struct Siblings {
     /// The directory, or 0 for none.
@@ -44,10 +46,13 @@ pub struct Siblings {
     pub search: Search,
     /// The child that was found last, or 0.
     pub child: u32,
+    /// Where a directory names its children, if that was asked for.
+    pub names: ChildNames,
     ghost has_parent: { 0 < child → 0 < parent },
 }
 
 impl Siblings {
+    ghost use Rattle.ffs_paths.specs.ChildNames.{Covers};
     ghost use Rattle.ffs_paths.specs.Siblings.{KeepSiblings};
 
     /// Of no directory.
@@ -63,6 +68,7 @@ impl Siblings {
             },
             search: Search::none(geometry),
             child: 0,
+            names: ChildNames::of(0, 0),
         }
     }
 
@@ -80,6 +86,7 @@ impl Siblings {
             workspace.old self.old }
         ensures path { OnOk result (ForTree geometry.now.layout (I.device image.old) workspace.old
             (λ g. 0 < dir → IsPathOf g dir self.new.path)) }
+        ensures names { self.new.names ≡ self.old.names }
         ensures reads { OnlyReads geometry.now.layout (I.device image.old) (I.device image.new)
             workspace.old workspace.new result }
     {
@@ -127,8 +134,75 @@ impl Siblings {
         Ok(())
     }
 
-    /// The path of a directory, by its name in its parent.
-    fn child_path<I: Image>(
+    /// Whether the path of the directory is kept, and its reading has passed the first entry that names a child.
+    fn has_passed(&self, parent: u32, child: u32) -> bool
+        ensures { result ≡ true → self.now.parent ≡ parent }
+    {
+        self.parent == parent && self.search.highest >= child
+    }
+
+    /// Finds where a directory names a child and the inodes of the next numbers, unless that is found already.
+    fn find_names<I: Image>(
+        &mut self,
+        geometry: &Geometry,
+        image: &mut I,
+        workspace: &mut Workspace,
+        parent: u32,
+        child: u32,
+    ) -> Result<(), ImageFault>
+        requires ready { IsReady geometry.now.layout (I.device image.old) workspace.old }
+        requires number { parent < geometry.now.layout.ncg * geometry.now.layout.ipg }
+        requires siblings { KeepSiblings geometry.now.layout (I.device image.old).contents
+            workspace.old self.old }
+        ensures siblings { OnOk result (KeepSiblings geometry.now.layout
+            (I.device image.old).contents workspace.old self.new) }
+        ensures parent { self.new.parent ≡ self.old.parent }
+        ensures path { self.new.path ≡ self.old.path }
+        ensures names { OnOk result (self.new.names.parent ≡ parent) }
+        ensures covers { OnOk result (Covers self.new.names child) }
+        ensures reads { OnlyReads geometry.now.layout (I.device image.old) (I.device image.new)
+            workspace.old workspace.new result }
+    {
+        if self.names.covers(parent, child) {
+            return Ok(());
+        }
+        let cut = workspace.cut[parent as usize];
+        let windows = &mut workspace.windows;
+        let names = ChildNames::read(geometry, image, windows, parent, cut, child)?;
+        self.names = names;
+        Ok(())
+    }
+
+    /// The path of a child of the directory that is kept, by the place of its name.
+    fn path_by_names<I: Image>(
+        &self,
+        geometry: &Geometry,
+        image: &mut I,
+        workspace: &mut Workspace,
+        dir: u32,
+    ) -> Result<DirectoryPath, ImageFault>
+        requires ready { IsReady geometry.now.layout (I.device image.old) workspace.old }
+        requires parent { IsParentOf workspace.old dir self.now.parent }
+        requires siblings { KeepSiblings geometry.now.layout (I.device image.old).contents
+            workspace.old self.now }
+        requires names { self.now.names.parent ≡ self.now.parent }
+        requires covers { Covers self.now.names dir }
+        ensures path { IfOk result (λ path.
+            ForTree geometry.now.layout (I.device image.old) workspace.old
+            (λ g. IsPathOf g dir path)) }
+        ensures reads { OnlyReads geometry.now.layout (I.device image.old) (I.device image.new)
+            workspace.old workspace.new result }
+    {
+        let Some(place) = self.names.place_of(dir) else {
+            return Ok(self.path.child(&[]));
+        };
+        let window = &mut workspace.windows.chunk;
+        window.fill(image, place.place, place.length)?;
+        Ok(self.path.child(window.bytes()))
+    }
+
+    /// The path of a directory, by the first entry of its parent that names it.
+    fn path_by_search<I: Image>(
         &mut self,
         geometry: &Geometry,
         image: &mut I,
@@ -152,6 +226,34 @@ impl Siblings {
         let found = self.search.find(image, &mut workspace.windows, dir)?;
         self.child = if found { dir } else { 0 };
         Ok(self.path.child(self.search.found_name(found)))
+    }
+
+    /// The path of a directory, by its name in its parent.
+    fn child_path<I: Image>(
+        &mut self,
+        geometry: &Geometry,
+        image: &mut I,
+        workspace: &mut Workspace,
+        parent: u32,
+        dir: u32,
+    ) -> Result<DirectoryPath, ImageFault>
+        requires ready { IsReady geometry.now.layout (I.device image.old) workspace.old }
+        requires parent { IsParentOf workspace.old dir parent }
+        requires siblings { KeepSiblings geometry.now.layout (I.device image.old).contents
+            workspace.old self.old }
+        ensures path { IfOk result (λ path.
+            ForTree geometry.now.layout (I.device image.old) workspace.old
+            (λ g. IsPathOf g dir path)) }
+        ensures siblings { OnOk result (KeepSiblings geometry.now.layout
+            (I.device image.old).contents workspace.old self.new) }
+        ensures reads { OnlyReads geometry.now.layout (I.device image.old) (I.device image.new)
+            workspace.old workspace.new result }
+    {
+        if !self.has_passed(parent, dir) {
+            return self.path_by_search(geometry, image, workspace, parent, dir);
+        }
+        self.find_names(geometry, image, workspace, parent, dir)?;
+        self.path_by_names(geometry, image, workspace, dir)
     }
 
     /// The path of a directory, for all lines on it and on its entries.

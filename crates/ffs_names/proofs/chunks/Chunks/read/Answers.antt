@@ -1,4 +1,5 @@
-use Rattle.std.proofs.Common.{◌∙◌, ap, sym, arith}
+use Rattle.std.proofs.Common.{◌∙◌, ◌+◌, ◌*◌, ap, sym, arith}
+use Rattle.ffs_volume.specs.Disk.Numbers.{piece}
 use Rattle.ffs_walk.specs.Windows.{held_bytes}
 use Rattle.ffs_walk.specs.Rests.{rest as steps_left}
 use Rattle.ffs_names.specs.Readings.{all_chunks, chunks_after}
@@ -25,3 +26,12 @@ returns-then-not-branch-clause-none g c = c.in_ok-advance.ensures.none c.if-not-
 
 pub returns-then-not-branch-clause-runs : goal.returns-then-not-branch-clause-runs
 returns-then-not-branch-clause-runs g c = c.in_ok-advance.ensures.runs
+
+pub returns-clause-place : goal.returns-clause-place
+returns-clause-place g c = λ b t.
+    let h = c.advance.new.self.run_cursor in
+    let more = c.in_ok-advance.ensures.some c.if-not-branch.false in
+    let fits = h.in_run in
+    chunk_held h.place h.length h.next b (held_bytes c.fill.new.self) c.copy_from_slice.new.self c.bytes.result.now (omega arith) c.copy_from_slice.ensures.after c.bytes.ensures
+    (c.in_ok-fill.ensures.bytes b (ap (λ d. d.contents) c.in_ok-advance.ensures.ok ∙ t))
+    ∙ ap (λ n. piece (h.place + 512 * n) 512 b) (omega arith)

@@ -1,15 +1,17 @@
-use Rattle.std.proofs.Common.{◌≡◌, ◌≤◌}
+use Rattle.std.proofs.Common.{◌≡◌, ◌≤◌, ◌<◌}
 use Rattle.std.specs.Prelude.{vec_len}
 use Rattle.ffs_image.specs.Device.{ForContents}
 use Rattle.ffs_walk.specs.Windows.{BlocksHold, WindowHolds}
 use Rattle.ffs_names.specs.Shapes.{has_right_shape}
-use Rattle.ffs_names.specs.Entering.{to_come, left}
+use Rattle.ffs_names.specs.Entering.{to_come, left, IsInside, MayTake}
 use Rattle.ffs_names.proofs.entries.Entries.next.Given as goal
 
 abbrev pub invariant-chunks : goal.invariant-chunks
 invariant-chunks g l = record {
   entries : ForContents (g.I.Image.device l.fn.image).contents (λ b. to_come b l.self ≡ to_come b l.fn.self);
   shape : ForContents (g.I.Image.device l.fn.image).contents (λ b. has_right_shape b l.self ≡ has_right_shape b l.fn.self);
+  place : ForContents (g.I.Image.device l.fn.image).contents (λ b. MayTake b l.fn.self → MayTake b l.self);
+  inside : (l.fn.self.place < 512 → IsInside l.fn.self) → l.self.place < 512 → IsInside l.self;
   left : left l.self ≤ left l.fn.self;
   geometry : l.self.chunks.walk.geometry ≡ l.fn.self.chunks.walk.geometry;
   size : vec_len l.blocks.buffer ≡ vec_len l.fn.blocks.buffer;

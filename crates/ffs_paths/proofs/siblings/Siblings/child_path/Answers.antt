@@ -1,71 +1,20 @@
-use Rattle.std.proofs.Common.{◌≡◌, if◌then◌else◌, ◌∙◌, ◌++◌, ◌∷◌, [], Some, ap, sym, subst, arith}
-use Rattle.std.proofs.lemmas.Result.{err_from_is_err_and}
-use Rattle.ffs_volume.specs.Directories.Parents.{graph_of}
-use Rattle.ffs_volume.specs.Directories.Volumes.{volume_of}
-use Rattle.ffs_paths.specs.Climbing.{AreOpen}
-use Rattle.ffs_paths.specs.DirectoryPaths.{HoldsPath}
-use Rattle.ffs_paths.specs.Slashes.{AreSingle}
-use Rattle.ffs_paths.specs.Siblings.{LeadsTo}
-use Rattle.ffs_paths.proofs.Children.{IsChild, child_is, dir_some, found_child}
-use Rattle.ffs_paths.proofs.Keeping.{then_reads}
+use Rattle.std.proofs.Common.{ap}
+use Rattle.ffs_paths.proofs.Keeping.{lists_leave, reads_then, siblings_on}
+use Rattle.ffs_paths.proofs.NamesFound.{on_ok, path_before}
 use Rattle.ffs_paths.proofs.siblings.Siblings.child_path.Goals as goal
-use Rattle.ffs_paths.proofs.siblings.Siblings.child_path.Goals.{then-found, else-found}
+
+pub path_by_names-requires-clause-siblings : goal.path_by_names-requires-clause-siblings
+path_by_names-requires-clause-siblings g c =
+    let found = c.in_ok-find_names.ensures in
+    siblings_on _ _ _ _ _ _ (ap (λ d. d.contents) found.reads.read) (lists_leave _ _ found.reads.lists) found.siblings
 
 pub returns-clause-path : goal.returns-clause-path
-returns-clause-path g c = λ b t claims survey.
-    let v = c.args.geometry.now.layout in
-    let begun = c.in_ok-continue_or_begin.ensures in
-    let of = c.requires.parent in
-    let some = of.below in
-    let s = c.continue_or_begin.new.self.parent in
-    let child = subst (IsChild v b c.args.dir) (sym begun.parent)
-    (child_is v b c.args.dir c.args.parent (sym (survey.reached c.args.dir) ∙ of.reached) (omega arith) (of.is ∙ survey.parents c.args.dir)) in
-    let kept = begun.siblings.right b t claims survey (dir_some (volume_of v b) s child.dir) in
-    let name = c.found_name.ensures.value ∙ (sym (c.in_ok-found.ensures.name b (ap (λ d. d.contents) begun.reads.read ∙ t)) ∙ kept.above child.dir c.args.dir begun.highest) in
-    let leads = child.leads in
-    let path = c.child.ensures leads.names (subst (HoldsPath c.continue_or_begin.new.self.path) leads.above kept.path) (subst (λ n. AreSingle (leads.names ++ n ∷ [])) (sym name) leads.single) in
-    subst (HoldsPath c.child.result) (sym leads.below) (subst (λ n. HoldsPath c.child.result (Some (leads.names ++ n ∷ []))) name path)
+returns-clause-path g c =
+    let found = c.in_ok-find_names.ensures in
+    path_before _ (g.I.Image.device c.args.image.now) (g.I.Image.device c.find_names.new.image) _ _ _ c.path_by_names.result (ap (λ d. d.contents) found.reads.read) (lists_leave _ _ found.reads.lists) c.path_by_names.ensures.path
 
 pub returns-clause-siblings : goal.returns-clause-siblings
-returns-clause-siblings g c =
-    let begun = c.in_ok-continue_or_begin.ensures in
-    let found = c.in_ok-found.ensures in
-    let grows = found.grows in
-    let v = c.args.geometry.now.layout in
-    let of = c.requires.parent in
-    let some = of.below in
-    record {
-      layout = ap (λ w. w.layout) found.geometry ∙ begun.siblings.layout;
-      right = λ b t claims survey some.
-          let s = c.continue_or_begin.new.self.parent in
-          let kept = begun.siblings.right b t claims survey some in
-          let child = subst (IsChild v b c.args.dir) (sym begun.parent)
-          (child_is v b c.args.dir c.args.parent (sym (survey.reached c.args.dir) ∙ of.reached) (omega arith) (of.is ∙ survey.parents c.args.dir)) in
-          let name = sym (kept.above child.dir c.args.dir begun.highest) ∙ found.name b (ap (λ d. d.contents) begun.reads.read ∙ t) in
-          let is : c.if-found.self ≡ (if c.in_ok-found.found then c.args.dir else 0) = elim c.if-found.branch [
-            | then-found w ↦ rw w.if-found.true w.self-is
-            | else-found w ↦ rw w.if-found.false w.self-is
-          ] in
-          record {
-            path = kept.path;
-            child = λ held. found_child (LeadsTo (graph_of (volume_of v b)) s) c.in_ok-found.found _ c.args.dir _ _ is name held child.leads;
-            above = λ dir x h. sym (found.above b (ap (λ d. d.contents) begun.reads.read ∙ t) x h) ∙ kept.above dir x (omega arith);
-          };
-    }
-
-pub returns-in_err-found-clause-reads : goal.returns-in_err-found-clause-reads
-returns-in_err-found-clause-reads g c =
-    let begun = c.in_ok-continue_or_begin.ensures in
-    let found = c.in_err-found.ensures in
-    let err = err_from_is_err_and c.from_residual-in_err-found.result c.from_residual-in_err-found.ensures.1 in
-    let opened = subst (λ v. AreOpen v (g.I.Image.device c.find.new.image) c.find.new.windows)
-    begun.siblings.layout found.windows in
-    then_reads begun.reads opened (rw (err.1, err.2) found.read)
+returns-clause-siblings g c = on_ok c.path_by_names.result _ c.in_ok-find_names.ensures.siblings
 
 pub returns-clause-reads : goal.returns-clause-reads
-returns-clause-reads g c =
-    let begun = c.in_ok-continue_or_begin.ensures in
-    let found = c.in_ok-found.ensures in
-    let opened = subst (λ v. AreOpen v (g.I.Image.device c.find.new.image) c.find.new.windows)
-    begun.siblings.layout found.windows in
-    then_reads begun.reads opened found.read
+returns-clause-reads g c = reads_then c.in_ok-find_names.ensures.reads c.path_by_names.ensures.reads

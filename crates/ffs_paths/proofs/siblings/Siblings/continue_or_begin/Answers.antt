@@ -1,7 +1,8 @@
-use Rattle.std.proofs.Common.{◌∙◌, ap, arith, rules}
+use Rattle.std.proofs.Common.{◌∙◌, ap, sym, subst, arith, rules}
 use Rattle.std.proofs.lemmas.List.{get_or_default}
 use Rattle.std.specs.Prelude.{slice_index}
 use Rattle.ffs_paths.specs.Climbing.{name_in}
+use Rattle.ffs_paths.specs.Siblings.{HoldNames}
 use Rattle.ffs_paths.proofs.Keeping.{then_reads}
 use Rattle.ffs_paths.proofs.siblings.Siblings.continue_or_begin.Goals as goal
 
@@ -13,6 +14,7 @@ returns-clause-siblings g c =
     let number = c.requires.number in
     record {
       layout = ap (λ w. w.layout) opened.geometry;
+      names = subst (HoldNames c.args.geometry.now.layout (g.I.Image.device c.args.image.now).contents c.args.workspace.now) (sym kept.names) c.requires.siblings.names;
       right = λ b t claims survey some. record {
         path = kept.path b t claims survey some;
         above = λ dir x h. ap (name_in x) (opened.entries b (ap (λ d. d.contents) kept.reads.read ∙ t) dir
