@@ -7,6 +7,7 @@ ghost use Rattle.ffs_volume.specs.Encodings.Kinds.{class_of_kind};
 ghost use Rattle.ffs_groups.specs.Inodes.{class_in};
 
 use ffs_layout::Geometry;
+use ffs_volume::constants::{DT_DIR, EMPTY_DIR};
 
 /// How many inodes of a group are directories, and how many are free.
 #[derive(Clone, Copy, Debug)]
@@ -18,7 +19,7 @@ pub struct InodeCounts {
 fn is_dir_kind(kind: u8) -> bool
     ensures { result ≡ is_directory (class_of_kind kind) }
 {
-    kind == 4 || kind == 5
+    kind == DT_DIR || kind == EMPTY_DIR
 }
 
 fn is_used_kind(kind: u8) -> bool

@@ -12,11 +12,12 @@ use crate::geometry::Geometry;
 use crate::layout::decode;
 use crate::numbers::{i32_at, u32_at};
 use ffs_image::Image;
-use ffs_volume::{FS_MAGIC, LAYOUT_PLACES, Order, SuperFault};
+use ffs_volume::constants::{DEV_BSIZE, FS_MAGIC, MAXMNTLEN, SBSIZE};
+use ffs_volume::{LAYOUT_PLACES, Order, SuperFault};
 
 // The order in which the magic number reads right.
 #[tactic(auto, unfolding(ffs_volume::specs::Disk::Superblock::order_of))]
-fn order_of_magic(bytes: &[u8; 1376]) -> Option<Order>
+fn order_of_magic(bytes: &[u8; SBSIZE]) -> Option<Order>
     ensures { result ≡ order_of bytes.now }
 {
     if u32_at(Order::Little, 1372, bytes) == FS_MAGIC {
@@ -29,7 +30,7 @@ fn order_of_magic(bytes: &[u8; 1376]) -> Option<Order>
 }
 
 // Whether the two agree in the numbers at these places.
-fn agree_at(order: Order, places: &[u16], bytes: &[u8; 1376], copy: &[u8; 1376]) -> bool
+fn agree_at(order: Order, places: &[u16], bytes: &[u8; SBSIZE], copy: &[u8; SBSIZE]) -> bool
     requires { IsTrue (list_all (λ place. nat_le (place + 4) 1376) places.now) }
     ensures { result ≡ list_all (λ place. u32_at order place bytes.now == u32_at order place
         copy.now) places.now }
@@ -45,14 +46,14 @@ fn agree_at(order: Order, places: &[u16], bytes: &[u8; 1376], copy: &[u8; 1376])
 
 // Whether the copy agrees in each number of the layout.
 #[tactic(auto, unfolding(ffs_volume::specs::Disk::Outcome::agree))]
-fn layouts_agree(order: Order, bytes: &[u8; 1376], copy: &[u8; 1376]) -> bool
+fn layouts_agree(order: Order, bytes: &[u8; SBSIZE], copy: &[u8; SBSIZE]) -> bool
     ensures { result ≡ agree order bytes.now copy.now }
 {
     agree_at(order, &LAYOUT_PLACES, bytes, copy)
 }
 
 // Reads a superblock.
-fn read_copy<I: Image>(image: &mut I, at: u64, out: &mut [u8; 1376]) -> Result<(), SuperFault>
+fn read_copy<I: Image>(image: &mut I, at: u64, out: &mut [u8; SBSIZE]) -> Result<(), SuperFault>
     requires { at < 2 ^ 63 }
     ensures length { length out.new ≡ 1376 }
     ensures ok { OnOk result (I.device image.new ≡ I.device image.old) }
@@ -63,8 +64,10 @@ fn read_copy<I: Image>(image: &mut I, at: u64, out: &mut [u8; 1376]) -> Result<(
     ensures failed { OnErr result (ReadFailed result (I.device image.old) (I.device image.new)
         ⊎ ((I.device image.new ≡ I.device image.old) × ((I.device image.old).size < at + 1376))) }
 {
-    if image.size() < at + 1376 {
-        return Err(SuperFault::CannotRead { sector: at / 512 });
+    if image.size() < at + SBSIZE as u64 {
+        return Err(SuperFault::CannotRead {
+            sector: at / DEV_BSIZE,
+        });
     }
     match image.read_at(at, out) {
         Ok(()) => Ok(()),
@@ -85,7 +88,7 @@ pub struct Super {
     /// Directories, free blocks, free inodes and free fragments of the volume.
     pub cstotal: [i32; 4],
     /// Where the volume was mounted last, up to the first NUL.
-    pub mount: [u8; 512],
+    pub mount: [u8; MAXMNTLEN],
 }
 
 impl Super {
@@ -116,12 +119,12 @@ impl Super {
 
 // The superblock in the bytes, whose layout is accepted.
 #[tactic(auto, unfolding(ffs_volume::specs::Disk::Superblock::superblock_of))]
-fn make_super(order: Order, bytes: &[u8; 1376], geometry: Geometry) -> Super
+fn make_super(order: Order, bytes: &[u8; SBSIZE], geometry: Geometry) -> Super
     requires { geometry.layout ≡ layout_of order bytes.now }
     ensures seen { seen result ≡ superblock_of order bytes.now }
     ensures geometry { result.geometry.layout ≡ geometry.layout }
 {
-    let mut mount = [0; 512];
+    let mut mount = [0; MAXMNTLEN];
     mount.copy_from_slice(&bytes[212..724]);
     Super {
         geometry,
@@ -143,7 +146,7 @@ fn check_copy<I: Image>(
     image: &mut I,
     sector: Option<u32>,
     order: Order,
-    bytes: &[u8; 1376],
+    bytes: &[u8; SBSIZE],
     geometry: &Geometry,
 ) -> Result<(), SuperFault>
     requires layout { geometry.now.layout ≡ layout_of order bytes.now }
@@ -166,7 +169,7 @@ fn check_copy<I: Image>(
     }
     let group = geometry.layout.ncg - 1;
     let at = u64::from(geometry.cgsblock(group)) * u64::from(geometry.layout.fsize);
-    let mut copy = [0; 1376];
+    let mut copy = [0; SBSIZE];
     read_copy(image, at, &mut copy)?;
     if layouts_agree(order, bytes, &copy) {
         Ok(())
@@ -199,8 +202,8 @@ pub fn read_super<I: Image>(image: &mut I, sector: Option<u32>) -> Result<Super,
     ensures answer { Answers (I.device image.old) (I.device image.new) sector (found_of result) }
 {
     let start = first_sector(sector);
-    let mut bytes = [0; 1376];
-    if let Err(fault) = read_copy(image, start * 512, &mut bytes) {
+    let mut bytes = [0; SBSIZE];
+    if let Err(fault) = read_copy(image, start * DEV_BSIZE, &mut bytes) {
         return Err(fault);
     }
     let Some(order) = order_of_magic(&bytes) else {
