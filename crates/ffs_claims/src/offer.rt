@@ -16,6 +16,7 @@ ghost use Rattle.ffs_claims.specs.Area.{IsDataArea};
 use crate::area::DataArea;
 use ffs_layout::Geometry;
 use ffs_report::{Line, OutFault, Output, Report};
+use ffs_volume::constants::{MAXBAD, MAXDUP};
 use ffs_volume::{BlockMessage, Step};
 use ffs_workspace::Workspace;
 
@@ -23,7 +24,7 @@ use ffs_workspace::Workspace;
 pub fn is_open(workspace: &Workspace) -> bool
     ensures { result ≡ claims.is_open (claims_of workspace.now) }
 {
-    workspace.bad < 11 && workspace.dups < 11
+    workspace.bad <= MAXBAD && workspace.dups <= MAXDUP
 }
 
 fn say_dup<W: Output>(
@@ -68,7 +69,7 @@ fn take(workspace: &mut Workspace, geometry: &Geometry, fragment: u64) -> bool
     ensures dup { result ≡ is_dup geometry.now.layout (claims_of workspace.old) fragment }
     ensures only { OffersOnly geometry.now.layout workspace.old workspace.new }
 {
-    if workspace.dups >= 11 {
+    if workspace.dups > MAXDUP {
         return false;
     }
     workspace.kept += 1;
@@ -106,7 +107,7 @@ fn offer<W: Output>(
         ≡ after_offer geometry.now.layout (claims_of workspace.old) fragment }
     ensures only { OffersOnly geometry.now.layout workspace.old workspace.new }
 {
-    let many = workspace.dups == 10;
+    let many = workspace.dups == MAXDUP;
     if !take(workspace, geometry, fragment) {
         return Ok(());
     }
@@ -201,7 +202,7 @@ fn run<W: Output>(
     if area.in_range(geometry, start, len) {
         return run_in_range(workspace, geometry, number, start, len, report);
     }
-    let many = workspace.bad == 10;
+    let many = workspace.bad == MAXBAD;
     workspace.bad += 1;
     say_bad(report, number, start, many)?;
     if many {

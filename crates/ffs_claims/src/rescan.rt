@@ -4,6 +4,7 @@ ghost use Rattle.std.specs.Prelude.{◌≡◌, ◌<◌};
 ghost use Rattle.ffs_claims.specs.Rescan as rescans;
 
 use ffs_layout::Geometry;
+use ffs_volume::constants::MAXBAD;
 
 /// What is left of the keeping of the current inode.
 #[derive(Clone, Copy, Debug)]
@@ -27,7 +28,7 @@ impl Rescan {
     pub fn is_going(&self) -> bool
         ensures { result ≡ rescans.is_going self.now }
     {
-        self.bad < 11 && self.left != Some(0)
+        self.bad <= MAXBAD && self.left != Some(0)
     }
 
     /// How many of some fragments are kept.
@@ -54,8 +55,8 @@ impl Rescan {
         if geometry.in_range(start, len) {
             return self.keep(len);
         }
-        if self.bad == 10 {
-            self.bad = 11;
+        if self.bad == MAXBAD {
+            self.bad = MAXBAD + 1;
             return 0;
         }
         self.bad += 1;

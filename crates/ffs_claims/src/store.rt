@@ -13,6 +13,7 @@ ghost use Rattle.ffs_claims.specs.Lines.{of_lines, counted_owner};
 use crate::offer::is_open;
 use ffs_layout::Geometry;
 use ffs_report::{Line, OutFault, Output, Report};
+use ffs_volume::constants::{DEV_BSIZE, DT_DIR, EMPTY_DIR, MAXDUP, UNKNOWN_TYPE};
 use ffs_volume::{BlockMessage, Class, Inode};
 use ffs_workspace::Workspace;
 
@@ -65,7 +66,7 @@ pub fn say_count<W: Output>(
         (of_lines (count_lines geometry.now.layout (counted_owner number class found)
         (claims_of workspace.now))) result }
 {
-    let right = workspace.kept * u64::from(geometry.layout.fsize / 512);
+    let right = workspace.kept * (u64::from(geometry.layout.fsize) / DEV_BSIZE);
     if is_file_or_dir(class) && is_open(workspace) && u64::from(found) != right {
         return report.say(&Line::Block(BlockMessage::BlockCount {
             inode: number,
@@ -81,8 +82,8 @@ fn kind_of(class: Class, inode: &Inode) -> u8
 {
     match class {
         Class::Free | Class::Partial => 0,
-        Class::Unknown => 15,
-        Class::Dir => if inode.size == 0 { 5 } else { 4 },
+        Class::Unknown => UNKNOWN_TYPE,
+        Class::Dir => if inode.size == 0 { EMPTY_DIR } else { DT_DIR },
         Class::File => (inode.mode / 4096) as u8,
     }
 }
@@ -100,7 +101,7 @@ fn is_marked(workspace: &Workspace, class: Class) -> bool
 fn cut_of(workspace: &Workspace) -> u32
     ensures { result ≡ min (cut_of (claims_of workspace.now)) 4294967295 }
 {
-    if workspace.dups < 11 {
+    if workspace.dups <= MAXDUP {
         return 0;
     }
     workspace.kept.min(4294967295) as u32

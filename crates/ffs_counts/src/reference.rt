@@ -9,14 +9,15 @@ ghost use Rattle.ffs_volume.specs.Encodings.Kinds.{class_of_kind};
 ghost use Rattle.ffs_counts.specs.References.{attr_with, lines_as, reference_reported};
 
 use ffs_report::{Line, OutFault, Output, ReferenceLine, Report};
+use ffs_volume::constants::{DT_DIR, EMPTY_DIR, UNKNOWN_TYPE};
 use ffs_volume::{Attr, Inode, Label};
 
 fn label_for(kind: u8) -> Label
     ensures { result ≡ label_of (class_of_kind kind) }
 {
     match kind {
-        4 | 5 => Label::Dir,
-        0 | 15 => Label::Name,
+        DT_DIR | EMPTY_DIR => Label::Dir,
+        0 | UNKNOWN_TYPE => Label::Name,
         _ => Label::File,
     }
 }

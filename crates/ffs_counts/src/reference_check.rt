@@ -19,6 +19,7 @@ use ffs_image::{Image, ImageFault};
 use ffs_layout::Geometry;
 use ffs_phase::RunFault;
 use ffs_report::{Heading, Line, Output, Report};
+use ffs_volume::constants::{EMPTY_DIR, ROOTINO};
 use ffs_workspace::Workspace;
 
 // Whether an inode is marked or a directory of size 0, and no entry names it.
@@ -29,8 +30,8 @@ fn is_dead(workspace: &Workspace, number: u32) -> bool
         && (not (number == 2) && not (bool_at workspace.now.named.items number))) }
 {
     let place = number as usize;
-    let suspect = workspace.marked[place] || workspace.kinds[place] == 5;
-    suspect && number != 2 && !workspace.named[place]
+    let suspect = workspace.marked[place] || workspace.kinds[place] == EMPTY_DIR;
+    suspect && number != ROOTINO && !workspace.named[place]
 }
 
 // Whether an inode that is allocated isn't dead, is referred to, and has a link for each reference: nothing is reported of it.

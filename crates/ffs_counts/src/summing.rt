@@ -24,12 +24,13 @@ use ffs_layout::{Geometry, Super};
 use ffs_maps::FragmentMap;
 use ffs_phase::RunFault;
 use ffs_report::{Line, Output, Report};
+use ffs_volume::constants::UNKNOWN_TYPE;
 use ffs_workspace::Workspace;
 
 fn is_file_or_dir_kind(kind: u8) -> bool
     ensures { result ≡ is_file_or_dir (class_of_kind kind) }
 {
-    kind != 0 && kind != 15
+    kind != 0 && kind != UNKNOWN_TYPE
 }
 
 // How many files and directories there are.

@@ -15,7 +15,7 @@ use crate::counts::{Counts, SummaryCounts};
 use crate::maps::{group_fragments, same_fragment_map, same_inode_map};
 use ffs_layout::{Geometry, Group, GroupSummary};
 use ffs_maps::FragmentMap;
-use ffs_volume::CG_MAGIC;
+use ffs_volume::constants::CG_MAGIC;
 
 /// What is found in the records of a group: each is true where nothing is wrong.
 #[derive(Clone, Copy, Debug)]

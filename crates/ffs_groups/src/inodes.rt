@@ -8,6 +8,7 @@ ghost use Rattle.ffs_groups.specs.Inodes.{AreInodes, class_in};
 ghost use Rattle.ffs_groups.specs.Inputs.{HasInodes};
 
 use ffs_layout::Geometry;
+use ffs_volume::constants::{DT_DIR, EMPTY_DIR};
 
 /// How many inodes of a group are directories, and how many are free.
 #[derive(Clone, Copy, Debug)]
@@ -19,7 +20,7 @@ pub struct InodeCounts {
 fn is_dir_kind(kind: u8) -> bool
     ensures { result ≡ is_directory (class_of_kind kind) }
 {
-    kind == 4 || kind == 5
+    kind == DT_DIR || kind == EMPTY_DIR
 }
 
 fn is_used_kind(kind: u8) -> bool

@@ -8,6 +8,7 @@ ghost use Rattle.ffs_layout.specs.Entry.{entry_value, has_mark};
 
 use crate::numbers::{u16_at, u32_at};
 use ffs_volume::Order;
+use ffs_volume::constants::{DIRBLKSIZ, DIRENT_HEADER};
 
 /// An entry of a directory (dir(5), `struct direct`). Its name lies in the chunk; an entry with the number 0 has none.
 #[derive(Clone, Copy, Debug)]
@@ -26,7 +27,7 @@ fn is_length(place: usize, len: u16) -> bool
     requires { place ≤ 512 }
     ensures { result ≡ fits place len }
 {
-    len % 4 == 0 && 8 <= len && place + usize::from(len) <= 512
+    len % 4 == 0 && 8 <= len && place + usize::from(len) <= DIRBLKSIZ
 }
 
 // Whether one of eight bytes is NUL or `/`. All are looked at, with no test that ends the loop: the machine takes them at once.
@@ -69,13 +70,13 @@ fn has_nul_or_slash(bytes: &[u8]) -> bool
 }
 
 // Whether the record at the place has a name.
-fn is_name(chunk: &[u8; 512], place: usize) -> bool
+fn is_name(chunk: &[u8; DIRBLKSIZ], place: usize) -> bool
     requires { place + (8 + slice_index chunk.now (place + 7)) + 1 ≤ 512 }
     ensures { result ≡ named chunk.now place }
 {
     let len = usize::from(chunk[place + 7]);
-    let name = &chunk[place + 8..][..len];
-    len != 0 && !has_nul_or_slash(name) && chunk[place + 8 + len] == 0
+    let name = &chunk[place + DIRENT_HEADER..][..len];
+    len != 0 && !has_nul_or_slash(name) && chunk[place + DIRENT_HEADER + len] == 0
 }
 
 // Whether the record at the place holds its name, and has a type.
@@ -83,7 +84,7 @@ fn is_held(chunk: &[u8; 512], place: usize, len: u16) -> bool
     requires { IsTrue (fits place len) }
     ensures { result ≡ held chunk.now place len }
 {
-    8 + (usize::from(chunk[place + 7]) + 4) / 4 * 4 <= usize::from(len)
+    DIRENT_HEADER + (usize::from(chunk[place + 7]) + 4) / 4 * 4 <= usize::from(len)
         && chunk[place + 6] <= 15
         && is_name(chunk, place)
 }
@@ -93,7 +94,7 @@ fn is_held(chunk: &[u8; 512], place: usize, len: u16) -> bool
 /// At byte 0 is the number (u32), at 4 the record's length (u16), at 6 the type (u8), at 7 the name's
 /// length (u8), from 8 on the name and a NUL. The name of an entry with the number 0 is empty.
 #[tactic(auto, unfolding(ffs_volume::specs::Directories::Entries::entry_at, ffs_volume::specs::Directories::Entries::is_well_formed, ffs_volume::specs::Directories::Entries::entry_read))]
-pub fn entry_at(order: Order, chunk: &[u8; 512], place: usize) -> Option<Entry<'_>>
+pub fn entry_at(order: Order, chunk: &[u8; DIRBLKSIZ], place: usize) -> Option<Entry<'_>>
     requires { place ≤ 512 }
     ensures value { option_map entry_value result ≡ entry_in order chunk.now place }
     ensures some { IfSome result (λ e. entry_in order chunk.now place ≡ Some (entry_value e)) }
@@ -102,7 +103,7 @@ pub fn entry_at(order: Order, chunk: &[u8; 512], place: usize) -> Option<Entry<'
         e. (e.name.now ≡ piece (place + 8) (length e.name.now) chunk.now)
         × (place + 8 + length e.name.now ≤ 512)) }
 {
-    if place > 504 {
+    if place > DIRBLKSIZ - DIRENT_HEADER {
         return None;
     }
     let length = u16_at(order, place + 4, chunk);
@@ -122,7 +123,7 @@ pub fn entry_at(order: Order, chunk: &[u8; 512], place: usize) -> Option<Entry<'
     if !is_held(chunk, place, length) {
         return None;
     }
-    let name = &chunk[place + 8..][..usize::from(chunk[place + 7])];
+    let name = &chunk[place + DIRENT_HEADER..][..usize::from(chunk[place + 7])];
     Some(Entry {
         number,
         length,

@@ -8,6 +8,7 @@ ghost use Rattle.ffs_layout.specs.Accepted.{IsAccepted};
 
 use crate::groups::shift_of;
 use crate::shape::fault_of;
+use ffs_volume::constants::DINODE_SIZE;
 use ffs_volume::{Layout, Order, SuperFault};
 
 /// A layout that is accepted: each value of this type meets the rules of a superblock (fs(5)).
@@ -101,7 +102,7 @@ impl Geometry {
     {
         let group = self.cgstart(inode / self.layout.ipg);
         u64::from(group + self.layout.iblkno) * u64::from(self.layout.fsize)
-            + 128 * u64::from(inode % self.layout.ipg)
+            + DINODE_SIZE as u64 * u64::from(inode % self.layout.ipg)
     }
 
     // Whether the fragment lies in the part that its group keeps for itself.

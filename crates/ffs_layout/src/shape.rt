@@ -4,6 +4,7 @@ ghost use Rattle.std.specs.Prelude.{◌≡◌, ◌<◌};
 ghost use Rattle.ffs_volume.specs.Disk.Outcome.{are_cylinders, are_numbers, are_parts, are_sizes, is_block_size, is_fragment_count, is_fragment_size, is_shaped, is_summary_area, layout_fault};
 
 use crate::groups::groups_fit;
+use ffs_volume::constants::DINODE_SIZE;
 use ffs_volume::{Layout, SuperFault};
 
 #[tactic(auto, unfolding(ffs_volume::specs::Disk::Outcome::is_block_size))]
@@ -72,7 +73,7 @@ fn has_parts(v: &Layout) -> bool
     sblkno > 0
         && sblkno + u64::from(v.sbsize).div_ceil(fsize) <= cblkno
         && cblkno + u64::from(v.cgsize).div_ceil(fsize) <= iblkno
-        && iblkno + u64::from(v.ipg) * 128 / fsize <= u64::from(v.dblkno)
+        && iblkno + u64::from(v.ipg) * DINODE_SIZE as u64 / fsize <= u64::from(v.dblkno)
         && v.cgsize >= 168
         && v.cgsize <= v.bsize
 }

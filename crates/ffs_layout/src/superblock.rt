@@ -13,7 +13,8 @@ use crate::geometry::Geometry;
 use crate::layout::decode;
 use crate::numbers::{i32_at, u32_at};
 use ffs_image::Image;
-use ffs_volume::{FS_MAGIC, LAYOUT_PLACES, Order, SuperFault};
+use ffs_volume::constants::{DEV_BSIZE, FS_MAGIC, MAXMNTLEN, SBSIZE};
+use ffs_volume::{LAYOUT_PLACES, Order, SuperFault};
 
 // The bytes of a sector, and the sector of the primary superblock.
 const SECTOR: u64 = 512;
@@ -22,7 +23,7 @@ const PRIMARY_SECTOR: u32 = 16;
 
 // The order in which the magic number reads right.
 #[tactic(auto, unfolding(ffs_volume::specs::Disk::Superblock::order_of))]
-fn order_of_magic(bytes: &[u8; 1376]) -> Option<Order>
+fn order_of_magic(bytes: &[u8; SBSIZE]) -> Option<Order>
     ensures { result ≡ order_of bytes.now }
 {
     if u32_at(Order::Little, 1372, bytes) == FS_MAGIC {
@@ -35,7 +36,7 @@ fn order_of_magic(bytes: &[u8; 1376]) -> Option<Order>
 }
 
 // Whether the two agree in the numbers at these places.
-fn agree_at(order: Order, places: &[u16], bytes: &[u8; 1376], copy: &[u8; 1376]) -> bool
+fn agree_at(order: Order, places: &[u16], bytes: &[u8; SBSIZE], copy: &[u8; SBSIZE]) -> bool
     requires { IsTrue (list_all (λ place. nat_le (place + 4) 1376) places.now) }
     ensures { result ≡ list_all (λ place. u32_at order place bytes.now == u32_at order place
         copy.now) places.now }
@@ -51,14 +52,14 @@ fn agree_at(order: Order, places: &[u16], bytes: &[u8; 1376], copy: &[u8; 1376])
 
 // Whether the copy agrees in each number of the layout.
 #[tactic(auto, unfolding(ffs_volume::specs::Disk::Outcome::agree))]
-fn layouts_agree(order: Order, bytes: &[u8; 1376], copy: &[u8; 1376]) -> bool
+fn layouts_agree(order: Order, bytes: &[u8; SBSIZE], copy: &[u8; SBSIZE]) -> bool
     ensures { result ≡ agree order bytes.now copy.now }
 {
     agree_at(order, &LAYOUT_PLACES, bytes, copy)
 }
 
 // Reads a superblock.
-fn read_copy<I: Image>(image: &mut I, at: u64, out: &mut [u8; 1376]) -> Result<(), SuperFault>
+fn read_copy<I: Image>(image: &mut I, at: u64, out: &mut [u8; SBSIZE]) -> Result<(), SuperFault>
     requires { at < 2 ^ 63 }
     ensures { MatchResult result (λ _. IsCopy (I.device image.old) (I.device image.new) at out.new)
         (IsUnreadCopy (I.device image.old) (I.device image.new) at) }
@@ -87,7 +88,7 @@ pub struct Super {
     /// Directories, free blocks, free inodes and free fragments of the volume.
     pub cstotal: [i32; 4],
     /// Where the volume was mounted last, up to the first NUL.
-    pub mount: [u8; 512],
+    pub mount: [u8; MAXMNTLEN],
 }
 
 impl Super {
@@ -118,11 +119,11 @@ impl Super {
 
 // The superblock in the bytes, whose layout is accepted.
 #[tactic(auto, unfolding(ffs_volume::specs::Disk::Superblock::superblock_of))]
-fn make_super(order: Order, bytes: &[u8; 1376], geometry: Geometry) -> Super
+fn make_super(order: Order, bytes: &[u8; SBSIZE], geometry: Geometry) -> Super
     requires { geometry.layout ≡ layout_of order bytes.now }
     ensures { seen result ≡ superblock_of order bytes.now }
 {
-    let mut mount = [0; 512];
+    let mut mount = [0; MAXMNTLEN];
     mount.copy_from_slice(&bytes[212..724]);
     Super {
         geometry,
@@ -144,7 +145,7 @@ fn check_copy<I: Image>(
     image: &mut I,
     sector: Option<u32>,
     order: Order,
-    bytes: &[u8; 1376],
+    bytes: &[u8; SBSIZE],
     geometry: &Geometry,
 ) -> Result<(), SuperFault>
     requires { IsAccepted (layout_of order bytes.now) (I.device image.old).size
@@ -158,7 +159,7 @@ fn check_copy<I: Image>(
     }
     let group = geometry.layout.ncg - 1;
     let at = u64::from(geometry.cgsblock(group)) * u64::from(geometry.layout.fsize);
-    let mut copy = [0; 1376];
+    let mut copy = [0; SBSIZE];
     read_copy(image, at, &mut copy)?;
     if layouts_agree(order, bytes, &copy) {
         Ok(())

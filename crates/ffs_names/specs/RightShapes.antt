@@ -1,6 +1,6 @@
 -- Whether a directory has a right size, sound chunks and no Gap.
 use Rattle.std.specs.Prelude.{ℕ, ◌%◌, ◌==◌, Bool, not, ◌&&◌, nat_lt}
-use Rattle.ffs_volume.specs.Directories.Entries.{DIRBLKSIZ, MINDIRSIZE}
+use Rattle.ffs_volume.specs.declared.constants.TheConstants.{DIRBLKSIZ, MINDIRSIZE}
 use Rattle.ffs_volume.specs.Directories.Roles.{Volume, is_dir}
 use Rattle.ffs_volume.specs.Directories.PathnameCheck.{are_sound}
 

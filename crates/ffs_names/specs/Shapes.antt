@@ -1,6 +1,7 @@
 -- What a reading of a directory shows of its shape.
 use Rattle.std.specs.Prelude.{◌≡◌, ℕ, ◌+◌, ◌==◌, Bool, true, not, ◌&&◌, ◌||◌, List, [], sum_by}
-use Rattle.ffs_volume.specs.Directories.Entries.{DIRBLKSIZ, entries_from}
+use Rattle.ffs_volume.specs.declared.constants.TheConstants.{DIRBLKSIZ}
+use Rattle.ffs_volume.specs.Directories.Entries.{entries_from}
 use Rattle.ffs_volume.specs.Directories.PathnameCheck.{are_sound}
 use Rattle.ffs_names.specs.Readings.{rest, gap_left}
 use Rattle.ffs_names.specs.declared.entries.Entries.{Entries}

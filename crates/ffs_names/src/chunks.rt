@@ -18,6 +18,7 @@ use crate::keeping::Keeping;
 use crate::run_cursor::RunCursor;
 use ffs_image::{Image, ImageFault};
 use ffs_layout::Geometry;
+use ffs_volume::constants::{DIRBLKSIZ, MINDIRSIZE};
 use ffs_volume::{Inode, Step};
 use ffs_walk::{Blocks, Walk, Window};
 
@@ -116,7 +117,7 @@ impl Chunks {
         image: &mut I,
         blocks: &mut Blocks,
         data: &mut Window,
-        chunk: &mut [u8; 512],
+        chunk: &mut [u8; DIRBLKSIZ],
     ) -> Result<Option<u64>, ImageFault>
         requires volume { self.old.walk.geometry.layout.size * self.old.walk.geometry.layout.fsize
             ≤ (I.device image.old).size }
@@ -158,10 +159,10 @@ impl Chunks {
         }
         let run_cursor = self.run_cursor;
         data.fill(image, run_cursor.place, run_cursor.length as usize)?;
-        let at = 512 * run_cursor.next as usize;
-        chunk.copy_from_slice(&data.bytes()[at..at + 512]);
+        let at = DIRBLKSIZ * run_cursor.next as usize;
+        chunk.copy_from_slice(&data.bytes()[at..at + DIRBLKSIZ]);
         self.run_cursor.next += 1;
-        Ok(Some(run_cursor.offset + 512 * u64::from(run_cursor.next)))
+        Ok(Some(run_cursor.offset + DIRBLKSIZ as u64 * u64::from(run_cursor.next)))
     }
 
     /// A reading of the directory with this inode, of which no offer is kept after the cut (0 for none).
@@ -187,7 +188,7 @@ impl Chunks {
             walk: Walk::start(geometry, inode),
             keeping: Keeping::start(cut),
             taken,
-            budget: (taken / 512) as u32,
+            budget: (taken / DIRBLKSIZ as u64) as u32,
             run_cursor: RunCursor::empty(),
             runs: 0,
             gap: false,
@@ -204,7 +205,7 @@ impl Chunks {
         image: &mut I,
         blocks: &mut Blocks,
         data: &mut Window,
-        chunk: &mut [u8; 512],
+        chunk: &mut [u8; DIRBLKSIZ],
     ) -> Result<Option<u64>, ImageFault>
         requires volume { self.old.walk.geometry.layout.size * self.old.walk.geometry.layout.fsize
             ≤ (I.device image.old).size }
@@ -286,7 +287,7 @@ fn taken_of(size: u64) -> u64
     if size >= 1 << 31 {
         return 0;
     }
-    if size < 24 {
+    if size < MINDIRSIZE {
         return 512;
     }
     size.div_ceil(512) * 512

@@ -20,6 +20,7 @@ use crate::role::role_of;
 use ffs_image::{Image, ImageFault};
 use ffs_layout::{Geometry, entry_at};
 use ffs_survey::Named;
+use ffs_volume::constants::{DIRBLKSIZ, MINDIRSIZE};
 use ffs_volume::{Inode, Order};
 use ffs_walk::{Blocks, Window};
 
@@ -29,7 +30,7 @@ pub struct Entries {
     pub order: Order,
     pub chunks: Chunks,
     /// The current chunk.
-    pub chunk: [u8; 512],
+    pub chunk: [u8; DIRBLKSIZ],
     /// Where the next entry of the chunk would be, and how many are before it.
     pub place: usize,
     pub index: usize,
@@ -50,7 +51,7 @@ pub struct Entries {
 fn has_right_size(inode: &Inode) -> bool
     ensures { result ≡ is_right_size inode.now.size }
 {
-    inode.size >= 24 && inode.size % 512 == 0
+    inode.size >= MINDIRSIZE && inode.size % DIRBLKSIZ as u64 == 0
 }
 
 impl Entries {
@@ -74,8 +75,8 @@ impl Entries {
         Entries {
             order: chunks.walk.geometry.layout.order,
             chunks,
-            chunk: [0; 512],
-            place: 512,
+            chunk: [0; DIRBLKSIZ],
+            place: DIRBLKSIZ,
             index: 0,
             first: false,
             sound: has_right_size(inode),
@@ -125,7 +126,7 @@ impl Entries {
     {
         let geometry = self.chunks.walk.geometry;
         self.chunks = Chunks::start(&geometry, inode, cut);
-        self.place = 512;
+        self.place = DIRBLKSIZ;
         self.index = 0;
         self.first = false;
         self.sound = has_right_size(inode);
@@ -138,7 +139,7 @@ impl Entries {
         ensures left { left self.new ≤ 2 ^ 28 }
         ensures geometry { self.new.chunks.walk.geometry ≡ self.old.chunks.walk.geometry }
     {
-        self.place = 512;
+        self.place = DIRBLKSIZ;
         self.chunks.budget = 0;
         self.sound = false;
     }
@@ -221,8 +222,8 @@ impl Entries {
             match self.take() {
                 Some(named) => return Ok(Some(named)),
                 None => {
-                    self.sound &= self.place == 512;
-                    self.place = 512;
+                    self.sound &= self.place == DIRBLKSIZ;
+                    self.place = DIRBLKSIZ;
                 }
             }
             match self.chunks.next(image, blocks, window, &mut self.chunk)? {

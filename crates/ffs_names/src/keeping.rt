@@ -6,6 +6,7 @@ ghost use Rattle.ffs_volume.specs.Encodings.Replay.{is_replay_open as is_seen_in
 ghost use Rattle.ffs_volume.specs.Encodings.ReplayCounts.{counted_step};
 
 use ffs_layout::Geometry;
+use ffs_volume::constants::MAXBAD;
 
 /// What is known of an inode that is walked again: the number of offers that it keeps where its eleventh dup offer cut
 /// it, else 0, and its bad Runs and kept offers so far. Kept offers are counted only where there is a cut.
@@ -37,7 +38,7 @@ impl Keeping {
     pub fn is_replay_open(&self) -> bool
         ensures { result ≡ is_seen_in self.now.cut (replay_in self.now) }
     {
-        self.bad < 11 && (self.cut == 0 || self.kept < self.cut)
+        self.bad <= MAXBAD && (self.cut == 0 || self.kept < self.cut)
     }
 
     /// A Run is seen; the answer says whether it is kept.
@@ -53,7 +54,7 @@ impl Keeping {
         ensures cut { self.new.cut ≡ self.old.cut }
     {
         if !geometry.in_range(start, len) {
-            let last = self.bad == 10;
+            let last = self.bad == MAXBAD;
             self.bad += 1;
             if last {
                 return false;

@@ -6,6 +6,7 @@ ghost use Rattle.ffs_volume.specs.Directories.Entries.{run_chunks, step_chunks};
 ghost use Rattle.ffs_volume.specs.declared.Step.TheVariants.{Run};
 
 use ffs_layout::Geometry;
+use ffs_volume::constants::DIRBLKSIZ;
 
 /// The chunks of the current Run: where the Run is in the image, in bytes, and in the file; how many chunks it has,
 /// and which is the next.
@@ -61,7 +62,7 @@ impl RunCursor {
         }
         let place = u64::from(start) * u64::from(geometry.layout.fsize);
         let length = u64::from(len) * u64::from(geometry.layout.fsize);
-        let count = (length / 512).min((taken - offset) / 512);
+        let count = (length / DIRBLKSIZ as u64).min((taken - offset) / DIRBLKSIZ as u64);
         RunCursor {
             place,
             length,

@@ -20,6 +20,7 @@ use ffs_paths::Siblings;
 use ffs_phase::RunFault;
 use ffs_report::{Output, Report};
 use ffs_volume::Inode;
+use ffs_volume::constants::DIRBLKSIZ;
 use ffs_workspace::Workspace;
 
 /// Prints the lines of the entries of a directory, chunk by chunk, and marks them as passed.
@@ -51,7 +52,7 @@ pub fn report_directory<I: Image, W: Output>(
     let path = siblings.path_to(geometry, image, workspace, dir)?;
     let cut = workspace.cut[dir as usize];
     let mut chunks = Chunks::start(geometry, inode, cut);
-    let mut chunk = [0u8; 512];
+    let mut chunk = [0u8; DIRBLKSIZ];
     'chunks: while let Some(offset) = chunks.next(
         image,
         &mut workspace.windows.blocks,

@@ -31,6 +31,7 @@ use ffs_paths::{PathText, Siblings};
 use ffs_phase::RunFault;
 use ffs_report::{Output, Report};
 use ffs_volume::Order;
+use ffs_volume::constants::DIRBLKSIZ;
 use ffs_workspace::Workspace;
 
 /// A number, if it isn't 0.
@@ -56,7 +57,7 @@ fn parent_of(workspace: &Workspace, dir: u32) -> Option<u32>
 /// The first two entries of the chunk at the start of a directory, if that was found.
 fn first_two<'a>(
     order: Order,
-    start: &'a [u8; 512],
+    start: &'a [u8; DIRBLKSIZ],
     started: bool,
 ) -> (Option<Entry<'a>>, Option<Entry<'a>>)
     ensures first { option_map entry_value result.0 ≡ started_entry 0 started order start.now }
@@ -130,7 +131,7 @@ fn begin_directory<I: Image, W: Output>(
     ensures leaves { PhaseLeaves geometry.now.layout (I.device image.old) (I.device image.new)
         workspace.old workspace.new siblings.new result }
 {
-    let mut start = [0u8; 512];
+    let mut start = [0u8; DIRBLKSIZ];
     let examined = examine(geometry, image, workspace, dir, &mut start)?;
     let parent = parent_of(workspace, dir);
     let (first, second) = first_two(geometry.layout.order, &start, examined.found.started);

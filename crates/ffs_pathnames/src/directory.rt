@@ -16,6 +16,7 @@ use ffs_image::{Image, ImageFault};
 use ffs_layout::Geometry;
 use ffs_names::{Chunks, gap_of};
 use ffs_volume::Inode;
+use ffs_volume::constants::DIRBLKSIZ;
 use ffs_walk::{Blocks, Window};
 
 /// What a first look at a directory finds: whether nothing may be reported of its entries, whether all its chunks are sound,
@@ -29,7 +30,12 @@ pub struct FirstLook {
 }
 
 /// Keeps a chunk that is at the start of the file, if none is kept yet; the answer says whether one is.
-fn keep_start(offset: u64, chunk: &[u8; 512], started: bool, start: &mut [u8; 512]) -> bool
+fn keep_start(
+    offset: u64,
+    chunk: &[u8; DIRBLKSIZ],
+    started: bool,
+    start: &mut [u8; DIRBLKSIZ],
+) -> bool
     ensures { (order : Order) (cs : List Chunk)
         → start_of (chunk_of order offset chunk.now ∷ cs) started order start.old
         ≡ start_of cs result order start.new }
@@ -52,7 +58,7 @@ pub fn look_directory<I: Image>(
     dir: u32,
     inode: &Inode,
     cut: u32,
-    start: &mut [u8; 512],
+    start: &mut [u8; DIRBLKSIZ],
 ) -> Result<FirstLook, ImageFault>
     requires ready { CanReadChunks geometry.now.layout (I.device image.old) blocks.old «data».old }
     requires stamps { CanStamp inodes.now dir stamps.old }
@@ -64,7 +70,7 @@ pub fn look_directory<I: Image>(
 {
     let order = geometry.layout.order;
     let mut chunks = Chunks::start(geometry, inode, cut);
-    let mut chunk = [0u8; 512];
+    let mut chunk = [0u8; DIRBLKSIZ];
     let mut quiet = true;
     let mut sound = true;
     let mut started = false;

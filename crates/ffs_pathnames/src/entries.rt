@@ -24,6 +24,7 @@ use ffs_paths::{DirectoryPath, Siblings};
 use ffs_phase::RunFault;
 use ffs_report::{Output, Report};
 use ffs_volume::Role;
+use ffs_volume::constants::DIRBLKSIZ;
 use ffs_workspace::Workspace;
 
 /// Prints the lines of an entry, by its role.
@@ -107,7 +108,7 @@ pub fn report_entry<I: Image, W: Output>(
 }
 
 /// How long the name of the record at a place is: one byte says it.
-fn name_length(chunk: &[u8; 512], place: usize) -> u8
+fn name_length(chunk: &[u8; DIRBLKSIZ], place: usize) -> u8
     requires { place + 8 ≤ 512 }
     ensures value { result ≡ slice_index chunk.now (place + 7) }
     ensures short { slice_index chunk.now (place + 7) ≤ 255 }
@@ -125,7 +126,7 @@ pub fn report_chunk<I: Image, W: Output>(
     dir: u32,
     path: &DirectoryPath,
     first: bool,
-    chunk: &[u8; 512],
+    chunk: &[u8; DIRBLKSIZ],
 ) -> Result<(), RunFault>
     requires ready { ReadyWith geometry.now.layout (I.device image.old) workspace.old siblings.old }
     requires dir { dir < geometry.now.layout.ncg * geometry.now.layout.ipg }

@@ -12,6 +12,7 @@ use crate::inodes::Inodes;
 use ffs_image::{Image, ImageFault};
 use ffs_layout::Geometry;
 use ffs_volume::Inode;
+use ffs_volume::constants::DIRBLKSIZ;
 use ffs_workspace::Workspace;
 
 /// A directory's inode, and what a first look at its chunks finds.
@@ -27,7 +28,7 @@ pub fn examine<I: Image>(
     image: &mut I,
     workspace: &mut Workspace,
     dir: u32,
-    start: &mut [u8; 512],
+    start: &mut [u8; DIRBLKSIZ],
 ) -> Result<DirectorySummary, ImageFault>
     requires ready { IsReady geometry.now.layout (I.device image.old) workspace.old }
     requires number { dir < geometry.now.layout.ncg * geometry.now.layout.ipg }

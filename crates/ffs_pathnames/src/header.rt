@@ -12,6 +12,7 @@ use crate::say::{Check, NameLine, say_two};
 use ffs_layout::Entry;
 use ffs_report::{DirectoryLine, DotLine, Line, OutFault, Output, Report};
 use ffs_volume::Attr;
+use ffs_volume::constants::{DIRBLKSIZ, DT_DIR, MINDIRSIZE};
 
 /// What a first look at a directory found: whether a hole is kept, whether all chunks are sound, and the first two
 /// entries at the start of the file.
@@ -27,7 +28,7 @@ pub struct DirectoryHeader<'a> {
 fn is_not_multiple(size: u64) -> bool
     ensures { result ≡ (not (nat_lt size 24) && not (size % 512 == 0)) }
 {
-    size >= 24 && size % 512 != 0
+    size >= MINDIRSIZE && size % DIRBLKSIZ as u64 != 0
 }
 
 /// Whether a size can't hold `.` and `..`.
@@ -123,7 +124,7 @@ fn say_there<W: Output>(
         line: NameLine::Dot(DotLine::NumberDot { attr, path }),
     };
     let kind = Check {
-        holds: entry.kind != 4,
+        holds: entry.kind != DT_DIR,
         line: NameLine::Dot(DotLine::KindDot { attr, path }),
     };
     say_two(report, &other, &kind)
@@ -179,7 +180,7 @@ fn say_above<W: Output>(
         line: NameLine::Dot(DotLine::NumberDotdot { attr, path }),
     };
     let kind = Check {
-        holds: entry.kind != 4,
+        holds: entry.kind != DT_DIR,
         line: NameLine::Dot(DotLine::KindDotdot { attr, path }),
     };
     say_two(report, &other, &kind)
@@ -284,7 +285,7 @@ fn is_dot_right(number: u32, first: Option<Entry<'_>>) -> bool
         Some(entry) => entry.number != 0
             && is_one_dot(entry.name)
             && entry.number == number
-            && entry.kind == 4,
+            && entry.kind == DT_DIR,
     }
 }
 
@@ -299,7 +300,7 @@ fn is_dotdot_right(parent: Option<u32>, second: Option<Entry<'_>>) -> bool
         Some(entry) => entry.number != 0
             && is_two_dots(entry.name)
             && !is_other(parent, entry.number)
-            && entry.kind == 4,
+            && entry.kind == DT_DIR,
     }
 }
 
@@ -307,7 +308,7 @@ fn is_dotdot_right(parent: Option<u32>, second: Option<Entry<'_>>) -> bool
 fn is_shape_right(size: u64, gap: bool, sound: bool) -> bool
     ensures { result ≡ (not (nat_lt size 24) && ((size % 512 == 0) && (not gap && sound))) }
 {
-    size >= 24 && size % 512 == 0 && !gap && sound
+    size >= MINDIRSIZE && size % DIRBLKSIZ as u64 == 0 && !gap && sound
 }
 
 /// Whether nothing is reported of a directory of a size before its entries.

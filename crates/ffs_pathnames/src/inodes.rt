@@ -1,3 +1,4 @@
+use ffs_volume::constants::{DT_DIR, EMPTY_DIR, ROOTINO, UNKNOWN_TYPE};
 // What is known of the inodes that entries name.
 ghost use Rattle.std.specs.Prelude.{◌≡◌, ◌<◌, length, slice_index, ◌==◌, ◌||◌, ◌&&◌, not};
 
@@ -29,7 +30,7 @@ impl<'a> Inodes<'a> {
         ensures { result ≡ is_dir_kind (slice_index self.now.kinds.now inode) }
     {
         let kind = self.kinds[inode as usize];
-        kind == 4 || kind == 5
+        kind == DT_DIR || kind == EMPTY_DIR
     }
 
     /// Whether the inode is marked, or a directory of size 0.
@@ -38,7 +39,7 @@ impl<'a> Inodes<'a> {
         ensures { result ≡ (bool_at self.now.marked.now inode
             || is_empty_dir_kind (slice_index self.now.kinds.now inode)) }
     {
-        self.marked[inode as usize] || self.kinds[inode as usize] == 5
+        self.marked[inode as usize] || self.kinds[inode as usize] == EMPTY_DIR
     }
 
     /// Whether the inode is allocated.
@@ -56,10 +57,10 @@ impl<'a> Inodes<'a> {
             && not (kind == type_of_kind (slice_index self.now.kinds.now inode))) }
     {
         let own = self.kinds[inode as usize];
-        if own == 15 {
+        if own == UNKNOWN_TYPE {
             return false;
         }
-        kind != if own == 4 || own == 5 { 4 } else { own }
+        kind != if own == EMPTY_DIR { DT_DIR } else { own }
     }
 
     /// Whether the inode is a directory other than the root, with this parent.
@@ -68,6 +69,6 @@ impl<'a> Inodes<'a> {
         ensures { result ≡ (is_dir_kind (slice_index self.now.kinds.now inode)
             && (not (inode == 2) && slice_index self.now.parents.now inode == parent)) }
     {
-        self.is_dir(inode) && inode != 2 && self.parents[inode as usize] == parent
+        self.is_dir(inode) && inode != ROOTINO && self.parents[inode as usize] == parent
     }
 }

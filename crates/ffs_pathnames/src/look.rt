@@ -12,13 +12,14 @@ ghost use Rattle.ffs_pathnames.specs.Sees.{Sees, CanStamp};
 use crate::inodes::Inodes;
 use ffs_layout::{Entry, entry_at};
 use ffs_names::role_of;
+use ffs_volume::constants::{DIRBLKSIZ, DT_WHT, WINO};
 use ffs_volume::{Order, Role};
 
 /// Whether an entry has the number or the type of a whiteout, and not both.
 pub fn is_bad_whiteout(entry: &Entry<'_>) -> bool
     ensures { result ≡ is_bad_whiteout (entry_value entry.now) }
 {
-    (entry.number == 1 && entry.kind != 14) || (entry.kind == 14 && entry.number != 1)
+    (entry.number == WINO) != (entry.kind == DT_WHT)
 }
 
 /// Whether a link to a directory is its parent's, and the first one.
@@ -131,7 +132,7 @@ pub fn look_chunk(
     dir: u32,
     order: Order,
     first: bool,
-    chunk: &[u8; 512],
+    chunk: &[u8; DIRBLKSIZ],
     stamps: &mut [u32],
 ) -> EntriesSummary
     requires stamps { CanStamp inodes.now dir stamps.old }
@@ -153,6 +154,6 @@ pub fn look_chunk(
     }
     EntriesSummary {
         quiet,
-        sound: place == 512,
+        sound: place == DIRBLKSIZ,
     }
 }

@@ -9,12 +9,13 @@ ghost use Rattle.ffs_pathnames.specs.SaysNames.{SaysNames};
 use crate::phase::Root;
 use crate::say::{Check, NameLine, say_check, say_line};
 use ffs_report::{DirectoryLine, OutFault, Output, Report};
+use ffs_volume::constants::{DT_DIR, EMPTY_DIR};
 
 /// Whether the kind is that of a directory.
 fn is_dir(kind: u8) -> bool
     ensures { result ≡ is_dir_kind kind }
 {
-    kind == 4 || kind == 5
+    kind == DT_DIR || kind == EMPTY_DIR
 }
 
 /// Whether a directory is marked or of size 0.

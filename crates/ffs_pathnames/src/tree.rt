@@ -23,6 +23,7 @@ use ffs_layout::Geometry;
 use ffs_paths::Siblings;
 use ffs_phase::RunFault;
 use ffs_report::{Output, Report};
+use ffs_volume::constants::DT_DIR;
 use ffs_workspace::Workspace;
 
 /// Whether an inode is a directory that isn't of size 0, and that the survey didn't find calm.
@@ -32,7 +33,7 @@ fn is_looked_at(workspace: &Workspace, number: u32) -> bool
     ensures { result ≡ ((slice_index workspace.now.kinds.items number == 4)
         && not (slice_index workspace.now.queue.items number == 1)) }
 {
-    workspace.kinds[number as usize] == 4 && workspace.queue[number as usize] != CALM
+    workspace.kinds[number as usize] == DT_DIR && workspace.queue[number as usize] != CALM
 }
 
 /// Prints the lines of an inode as a directory, and of its entries.

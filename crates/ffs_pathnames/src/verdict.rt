@@ -16,6 +16,7 @@ ghost use Rattle.ffs_pathnames.specs.Verdicts.{verdict_reported};
 use crate::inodes::Inodes;
 use crate::look::is_bad_whiteout;
 use ffs_layout::Entry;
+use ffs_volume::constants::{DT_DIR, EMPTY_DIR, ROOTINO, UNKNOWN_TYPE};
 use ffs_volume::{Label, Role};
 
 /// What is wrong with an allocated inode that an entry names: it is suspect and named here first; it is a directory with
@@ -44,8 +45,8 @@ fn label_of_kind(kind: u8) -> Label
     ensures { result ≡ label_of (class_of_kind kind) }
 {
     match kind {
-        0 | 15 => Label::Name,
-        4 | 5 => Label::Dir,
+        0 | UNKNOWN_TYPE => Label::Name,
+        DT_DIR | EMPTY_DIR => Label::Dir,
         _ => Label::File,
     }
 }
@@ -78,7 +79,7 @@ fn faults_of(
         ≡ label_of (v.class entry.now.number) }
 {
     let index = entry.number as usize;
-    let suspect = inodes.is_suspect(entry.number) && entry.number != 2 && !passed[index];
+    let suspect = inodes.is_suspect(entry.number) && entry.number != ROOTINO && !passed[index];
     let extraneous = inodes.is_dir(entry.number) && stamps[index] != dir;
     Faults {
         suspect,

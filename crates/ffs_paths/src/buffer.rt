@@ -4,19 +4,20 @@ ghost use Rattle.std.specs.Prelude.{◌≡◌, ◌+◌, ◌-◌, ◌<◌, ◌≤
 ghost use Rattle.ffs_paths.specs.Slashes.{from_slash};
 
 use arrayvec::ArrayVec;
+use ffs_volume::constants::MAXPATHLEN;
 
 /// The text of a path.
-pub type PathText = ArrayVec<u8, 1024>;
+pub type PathText = ArrayVec<u8, MAXPATHLEN>;
 
 /// The bytes of the longest name that has room after `?/`.
-pub const LONGEST_NAME: usize = 1022;
+pub const LONGEST_NAME: usize = MAXPATHLEN - 2;
 
 /// The names of a path, each after a `/`, as far as they are known: the last one first.
 ///
 /// Where they take more than 1,024 bytes it keeps the longest end of whole names of at most 1,023 bytes.
 #[derive(Drop)]
 pub struct PathBuffer {
-    pub bytes: [u8; 1024],
+    pub bytes: [u8; MAXPATHLEN],
     /// Where the names begin, if all have room.
     pub start: usize,
     /// Where the longest end of at most 1,023 bytes begins.
@@ -30,7 +31,7 @@ pub struct PathBuffer {
 }
 
 /// Puts `/` and a name before what is from `end` on. The answer is where they begin.
-fn put_front(bytes: &mut [u8; 1024], end: usize, name: &[u8]) -> usize
+fn put_front(bytes: &mut [u8; MAXPATHLEN], end: usize, name: &[u8]) -> usize
     requires room { length name.now < end }
     requires end { end ≤ 1024 }
     ensures start { result + length name.now + 1 ≡ end }
@@ -45,7 +46,7 @@ fn put_front(bytes: &mut [u8; 1024], end: usize, name: &[u8]) -> usize
 }
 
 /// Where the first `/` from a place on is, or the end.
-fn slash_from(bytes: &[u8; 1024], place: usize) -> usize
+fn slash_from(bytes: &[u8; MAXPATHLEN], place: usize) -> usize
     requires { place ≤ 1024 }
     ensures first { drop result bytes.now ≡ from_slash (drop place bytes.now) }
     ensures after { place ≤ result }
@@ -60,7 +61,7 @@ fn slash_from(bytes: &[u8; 1024], place: usize) -> usize
 }
 
 /// Writes what is from `start` on, `/` and a name.
-fn put_from(bytes: &[u8; 1024], start: usize, name: &[u8], text: &mut PathText)
+fn put_from(bytes: &[u8; MAXPATHLEN], start: usize, name: &[u8], text: &mut PathText)
     requires start { start ≤ 1024 }
     requires room { length text.old.items + (1024 - start) + 1 + length name.now ≤ 1024 }
     ensures { text.new.items ≡ text.old.items ++ drop start bytes.now ++ 47 ∷ name.now }
@@ -80,9 +81,9 @@ impl PathBuffer {
         ensures { HoldsNames result [] }
     {
         PathBuffer {
-            bytes: [0; 1024],
-            start: 1024,
-            short: 1024,
+            bytes: [0; MAXPATHLEN],
+            start: MAXPATHLEN,
+            short: MAXPATHLEN,
             cut: false,
         }
     }
@@ -116,7 +117,7 @@ impl PathBuffer {
             text.push(b'?');
             text.try_extend_from_slice(&self.bytes[self.short..])
                 .unwrap();
-        } else if self.start == 1024 {
+        } else if self.start == MAXPATHLEN {
             text.push(b'/');
         } else {
             text.try_extend_from_slice(&self.bytes[self.start..])
@@ -154,9 +155,9 @@ impl PathBuffer {
             ≡ from_slash (drop 1 result.bytes) }
         ensures cut { result.cut ≡ cut }
     {
-        let mut bytes = [0u8; 1024];
-        let end = put_front(&mut bytes, 1024, name);
-        let start = end - (1024 - from);
+        let mut bytes = [0u8; MAXPATHLEN];
+        let end = put_front(&mut bytes, MAXPATHLEN, name);
+        let start = end - (MAXPATHLEN - from);
         bytes[start..end].copy_from_slice(&self.bytes[from..]);
         let short = if start > 0 {
             start

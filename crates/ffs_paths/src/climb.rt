@@ -16,6 +16,7 @@ use crate::buffer::PathBuffer;
 use crate::search::Search;
 use ffs_image::{Image, ImageFault};
 use ffs_layout::Geometry;
+use ffs_volume::constants::ROOTINO;
 use ffs_workspace::Windows;
 
 /// Puts the name of a directory in its parent before a path. `cut` is how many offers the parent keeps where
@@ -71,7 +72,7 @@ pub fn climb<I: Image>(
 {
     let mut at = dir;
     'up: for step in 0..cut.len() {
-        if at == 2 {
+        if at == ROOTINO {
             return Ok(());
         }
         if path.cut {

@@ -15,6 +15,7 @@ use crate::path::directory_path;
 use crate::search::Search;
 use ffs_image::{Image, ImageFault};
 use ffs_layout::Geometry;
+use ffs_volume::constants::ROOTINO;
 use ffs_workspace::Workspace;
 
 /// The parent of a directory that is reached and isn't the root.
@@ -23,7 +24,7 @@ fn parent_above(workspace: &Workspace, dir: u32) -> Option<u32>
     requires parents { dir < vec_len workspace.now.parents }
     ensures { IfSome result (λ p. IsParentOf workspace.now dir p) }
 {
-    if dir <= 2 || !workspace.reached[dir as usize] {
+    if dir <= ROOTINO || !workspace.reached[dir as usize] {
         return None;
     }
     let parent = workspace.parents[dir as usize];

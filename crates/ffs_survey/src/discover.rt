@@ -12,6 +12,7 @@ use crate::directories::Directories;
 use crate::named::{Named, is_counted, is_dir, is_plain};
 use ffs_image::ImageFault;
 use ffs_volume::Role;
+use ffs_volume::constants::{DT_DIR, DT_WHT, EMPTY_DIR, ROOTINO, UNKNOWN_TYPE};
 
 /// Counts an entry for the inode that it names.
 fn count_reference(entry: Named, references: &mut [u64])
@@ -100,7 +101,7 @@ fn is_calm_plain(entry: Named, kinds: &[u8], marked: &[bool], reached: &[bool]) 
         entry.kind }
 {
     let number = entry.number as usize;
-    if number < 2 || number >= kinds.len() {
+    if number < ROOTINO as usize || number >= kinds.len() {
         return false;
     }
     !marked[number] && kinds[number] == entry.kind && is_calm_kind(entry.kind, reached[number])
@@ -125,8 +126,8 @@ fn is_calm(
     }) (bool_at reached.now) index (roled_of entry []) }
 {
     match entry.role {
-        Role::Dot => index == 0 && entry.number == from && entry.kind == 4,
-        Role::Dotdot => index == 1 && entry.number == above && entry.kind == 4,
+        Role::Dot => index == 0 && entry.number == from && entry.kind == DT_DIR,
+        Role::Dotdot => index == 1 && entry.number == above && entry.kind == DT_DIR,
         Role::Extra => false,
         Role::Empty => index >= 2,
         Role::Plain => index >= 2 && is_calm_plain(entry, kinds, marked, reached),

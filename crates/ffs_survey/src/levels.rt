@@ -10,6 +10,7 @@ use crate::directories::Directories;
 use crate::discover::{is_free, read_level, read_unreached};
 use crate::named::is_dir;
 use ffs_image::ImageFault;
+use ffs_volume::constants::ROOTINO;
 
 /// Reads the level that is in `queue[low..high]`, puts the next one after it, ascending, and answers where that
 /// ends. `depth` is the level's number.
@@ -100,9 +101,9 @@ fn survey_reached<D: Directories>(
         (D.base directories.new) (D.device directories.old) (D.device directories.new) result }
 {
     reached[2] = true;
-    parents[2] = 2;
-    queue[0] = 2;
-    if !is_dir(kinds, 2) {
+    parents[ROOTINO as usize] = ROOTINO;
+    queue[0] = ROOTINO;
+    if !is_dir(kinds, ROOTINO as usize) {
         return Ok(());
     }
     let mut low = 0;

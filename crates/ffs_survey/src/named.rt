@@ -4,6 +4,7 @@ ghost use Rattle.ffs_volume.specs.Directories.Roles.{is_plain as is_plain_role, 
 ghost use Rattle.ffs_survey.specs.Survey.{dir_at};
 
 use ffs_volume::Role;
+use ffs_volume::constants::{DT_DIR, EMPTY_DIR, ROOTINO};
 
 /// An entry of a directory without its name: its role, the inode that it names, its length in bytes and
 /// its type (dir(5)).
@@ -46,5 +47,7 @@ pub fn is_counted(role: Role) -> bool
 pub fn is_dir(kinds: &[u8], number: usize) -> bool
     ensures { result ≡ dir_at kinds.now number }
 {
-    number >= 2 && number < kinds.len() && (kinds[number] == 4 || kinds[number] == 5)
+    number >= ROOTINO as usize
+        && number < kinds.len()
+        && (kinds[number] == DT_DIR || kinds[number] == EMPTY_DIR)
 }

@@ -5,13 +5,15 @@ ghost use Rattle.ffs_survey.specs.Survey.{suspect_at, IsTree, AreNamed};
 ghost use Rattle.ffs_survey.specs.Lists.{DeadLists, FoundLists};
 
 use crate::named::is_dir;
+use ffs_volume::constants::{EMPTY_DIR, ROOTINO};
 
 /// Whether an inode is suspect: marked, or a directory of size 0.
 pub fn is_suspect(kinds: &[u8], marked: &[bool], number: usize) -> bool
     requires { length marked.now ≡ length kinds.now }
     ensures { result ≡ suspect_at kinds.now marked.now number }
 {
-    number < kinds.len() && (marked[number] || (number >= 2 && kinds[number] == 5))
+    number < kinds.len()
+        && (marked[number] || (number >= ROOTINO as usize && kinds[number] == EMPTY_DIR))
 }
 
 /// Whether an inode is dead: suspect, and named by no plain entry.
@@ -21,7 +23,7 @@ pub fn is_dead(number: u32, kinds: &[u8], marked: &[bool], named: &[bool]) -> bo
     ensures { (graph : Graph) → AreNamed graph kinds.now named.now → result
         ≡ dead graph (suspect_at kinds.now marked.now) number }
 {
-    is_suspect(kinds, marked, number as usize) && number != 2 && !named[number as usize]
+    is_suspect(kinds, marked, number as usize) && number != ROOTINO && !named[number as usize]
 }
 
 /// Whether a directory is reported as unreferenced: neither reached nor dead, and without a parent, with a dead one, or
@@ -45,7 +47,7 @@ pub fn is_unref(
     if !is_dir(kinds, dir as usize) {
         return false;
     }
-    if dir == 2 {
+    if dir == ROOTINO {
         return false;
     }
     if reached[dir as usize] {

@@ -1,6 +1,6 @@
 -- Conditions on graphs of directories, which laws speak of.
 use Rattle.std.specs.Prelude.{◌≡◌, ◌≢◌, ℕ, ◌<◌, Bool, true, false, Some}
-use Rattle.ffs_volume.specs.Blocks.Inodes.{ROOTINO}
+use Rattle.ffs_volume.specs.declared.constants.TheConstants.{ROOTINO}
 use Rattle.ffs_volume.specs.Directories.Graph.{Graph, reached, parent, parent_entry, dead, is_unref_dir, names_at, NamedOnce}
 
 -- a directory has the number of an inode, and there is an inode 2

@@ -7,6 +7,7 @@
 //! It rests on no other crate of this repository.
 #![tactic(auto)]
 
+pub mod constants;
 pub mod laws;
 pub mod texts;
 
@@ -62,12 +63,6 @@ pub struct Layout {
     pub inodefmt: u32,
     pub postblformat: u32,
 }
-
-/// The magic number of a superblock (fs(5), `FS_MAGIC`).
-pub const FS_MAGIC: u32 = 0x011954;
-
-/// The magic number of a group block (fs(5), `CG_MAGIC`).
-pub const CG_MAGIC: u32 = 0x090255;
 
 /// The places of the numbers in which the last copy of a superblock must agree.
 pub const LAYOUT_PLACES: [u16; 25] = [

@@ -5,6 +5,7 @@ ghost use Rattle.ffs_volume.specs.Blocks.Inodes as inodes;
 ghost use Rattle.ffs_volume.specs.Blocks.Steps as steps;
 
 use ffs_layout::Geometry;
+use ffs_volume::constants::DT_LNK;
 use ffs_volume::{Class, Inode};
 
 /// How many of the fifteen addresses are used by so many logical blocks.
@@ -42,7 +43,7 @@ pub fn last_length(geometry: &Geometry, inode: &Inode) -> u32
 fn is_short_symlink(geometry: &Geometry, inode: &Inode) -> bool
     ensures { result ≡ inodes.is_short_symlink geometry.now.layout inode.now }
 {
-    inode.mode / 4096 == 10 && inode.size < u64::from(geometry.layout.maxsymlinklen)
+    inode.mode / 4096 == u16::from(DT_LNK) && inode.size < u64::from(geometry.layout.maxsymlinklen)
 }
 
 // Whether an address from an index on isn't zero. All fifteen are looked at, with no test of each that ends the loop: it is fast.

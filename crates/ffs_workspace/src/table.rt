@@ -11,6 +11,7 @@ ghost use Rattle.ffs_walk.specs.Windows.{WindowHolds, held_bytes};
 use ffs_image::{Image, ImageFault};
 use ffs_layout::{Geometry, decode_inode, has_links};
 use ffs_volume::Inode;
+use ffs_volume::constants::DINODE_SIZE;
 use ffs_walk::Window;
 
 /// Where the block of the inode table is that has an inode, in bytes.
@@ -61,7 +62,7 @@ impl Table {
             fault.sector) }
     {
         let place = block_place(geometry, number);
-        let at = 128 * (number % geometry.layout.ipg % geometry.layout.inopb) as usize;
+        let at = DINODE_SIZE * (number % geometry.layout.ipg % geometry.layout.inopb) as usize;
         self.window
             .fill(image, place, geometry.layout.bsize as usize)?;
         Ok(at)
@@ -91,7 +92,7 @@ impl Table {
     {
         let at = self.load(geometry, number, image)?;
         let bytes = self.window.bytes();
-        Ok(decode_inode(geometry.layout.order, &bytes[at..at + 128]))
+        Ok(decode_inode(geometry.layout.order, &bytes[at..at + DINODE_SIZE]))
     }
 
     /// Whether an inode has this link count. Its other numbers are not decoded.
@@ -119,6 +120,6 @@ impl Table {
     {
         let at = self.load(geometry, number, image)?;
         let bytes = self.window.bytes();
-        Ok(has_links(geometry.layout.order, &bytes[at..at + 128], links))
+        Ok(has_links(geometry.layout.order, &bytes[at..at + DINODE_SIZE], links))
     }
 }

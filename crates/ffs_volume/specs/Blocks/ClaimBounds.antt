@@ -1,6 +1,7 @@
 -- Why the Runs that are seen are bounded: each raises the potential by one at least.
 use Rattle.std.specs.Prelude.{◌≡◌, ◌+◌, ◌*◌, ◌≤◌, ℕ, length, count_by}
-use Rattle.ffs_volume.specs.Blocks.Claims.{MAXBAD, MAXDUP, Claims}
+use Rattle.ffs_volume.specs.declared.constants.TheConstants.{MAXBAD, MAXDUP}
+use Rattle.ffs_volume.specs.Blocks.Claims.{Claims}
 
 -- how many fragments are reserved or claimed
 abbrev pub used_bits : Claims → ℕ

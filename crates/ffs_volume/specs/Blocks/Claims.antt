@@ -2,6 +2,7 @@
 use Rattle.std.specs.Prelude.{ℕ, Bool, true, false, ◌+◌, ◌&&◌, not, List, [], ◌∷◌, ◌++◌}
 use Rattle.std.specs.Prelude.{◌==◌, nat_lt, slice_set, if◌then◌else◌, map, replicate}
 use Rattle.std.specs.List.{range_with_len, slice_index_or}
+use Rattle.ffs_volume.specs.declared.constants.TheConstants.{MAXBAD, MAXDUP}
 use Rattle.ffs_volume.specs.declared.Layout.{Layout}
 use Rattle.ffs_volume.specs.declared.Step.{Step}
 use Rattle.ffs_volume.specs.declared.Step.TheVariants.{Run, Tail, Gap}
@@ -45,13 +46,6 @@ next_inode s = record s { bad = 0; dups = 0; kept = 0; tail = false }
 -- the bit of f
 abbrev pub is_set : List Bool → ℕ → Bool
 is_set bits f = slice_index_or bits f false
-
--- how many bad Runs, and how many dup offers, an inode may have and not be cut
-abbrev pub MAXBAD : ℕ
-MAXBAD = 10
-
-abbrev pub MAXDUP : ℕ
-MAXDUP = 10
 
 -- the inode isn't cut: it has at most ten bad Runs and at most ten dup offers, and its next step is seen
 abbrev pub is_open : Claims → Bool

@@ -3,6 +3,8 @@ use Rattle.std.specs.Prelude.{ℕ, Bool, true, false, not, ◌+◌, ◌*◌, ◌
 use Rattle.std.specs.Prelude.{◌||◌, List, nat_lt, ◌==◌, if◌then◌else◌, drop, map}
 use Rattle.std.specs.List.{list_any, range_with_len}
 use Rattle.std.specs.Int.{div_ceil}
+use Rattle.ffs_volume.specs.declared.constants.TheConstants.{NDADDR, DT_FIFO, DT_CHR, DT_DIR, DT_BLK, DT_REG, DT_LNK}
+use Rattle.ffs_volume.specs.declared.constants.TheConstants.{DT_SOCK}
 use Rattle.ffs_volume.specs.declared.Order.{Order}
 use Rattle.ffs_volume.specs.declared.Layout.{Layout}
 use Rattle.ffs_volume.specs.declared.Inode.{Inode}
@@ -26,42 +28,6 @@ decoded order bytes = record {
 -- the inode x of an image
 unfoldable pub inode_of : Layout → List ℕ → ℕ → Inode
 inode_of v image x = decoded v.order (piece (inode_place v x) 128 image)
-
--- the number of inode 1, which whiteouts name, and that of the root directory
-abbrev pub WINO : ℕ
-WINO = 1
-
-abbrev pub ROOTINO : ℕ
-ROOTINO = 2
-
--- how many of the fifteen addresses are direct
-abbrev pub NDADDR : ℕ
-NDADDR = 12
-
--- the types of files, after dir(5)
-abbrev pub DT_FIFO : ℕ
-DT_FIFO = 1
-
-abbrev pub DT_CHR : ℕ
-DT_CHR = 2
-
-abbrev pub DT_DIR : ℕ
-DT_DIR = 4
-
-abbrev pub DT_BLK : ℕ
-DT_BLK = 6
-
-abbrev pub DT_REG : ℕ
-DT_REG = 8
-
-abbrev pub DT_LNK : ℕ
-DT_LNK = 10
-
-abbrev pub DT_SOCK : ℕ
-DT_SOCK = 12
-
-abbrev pub DT_WHT : ℕ
-DT_WHT = 14
 
 -- the type bits of a mode, as a directory's entry has them
 abbrev pub type_of : ℕ → ℕ

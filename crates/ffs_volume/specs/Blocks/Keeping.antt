@@ -1,12 +1,12 @@
 -- The kept offers of `BlockCheck` once more, by a rule on each offer; `keeping_is_by_rule` says that both are the same.
 use Rattle.std.specs.Prelude.{ℕ, Bool, ◌+◌, ◌&&◌, ◌||◌, List, [], ◌∷◌, ◌++◌, ◌==◌, nat_le, if◌then◌else◌, map, count_by}
 use Rattle.std.specs.List.{list_any, flat_map, range_with_len}
+use Rattle.ffs_volume.specs.declared.constants.TheConstants.{MAXBAD, MAXDUP}
 use Rattle.ffs_volume.specs.declared.Layout.{Layout}
 use Rattle.ffs_volume.specs.declared.Step.{Step}
 use Rattle.ffs_volume.specs.declared.Step.TheVariants.{Run, Tail, Gap}
 use Rattle.ffs_volume.specs.Disk.Areas.{is_data_fragment, is_in_range, is_reserved}
 use Rattle.ffs_volume.specs.Blocks.Owners.{Owner}
-use Rattle.ffs_volume.specs.Blocks.Claims.{MAXBAD, MAXDUP}
 use Rattle.ffs_volume.specs.Blocks.BlockCheck.{Offer}
 
 -- an offer, and how many bad Runs of its inode are at or before its Run

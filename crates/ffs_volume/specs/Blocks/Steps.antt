@@ -5,13 +5,14 @@ use Rattle.std.specs.Prelude.{ℕ, zero, suc, Bool, not, ◌+◌, ◌-◌, ◌*�
 use Rattle.std.specs.Prelude.{◌++◌, nat_eq, nat_lt, min, if◌then◌else◌, Some, None, slice_index}
 use Rattle.std.specs.List.{flat_map, range_with_len, list_any}
 use Rattle.std.specs.Int.{div_ceil}
+use Rattle.ffs_volume.specs.declared.constants.TheConstants.{NDADDR}
 use Rattle.ffs_volume.specs.declared.Layout.{Layout}
 use Rattle.ffs_volume.specs.declared.Step.{Step}
 use Rattle.ffs_volume.specs.declared.Step.TheVariants.{Run, Tail, Gap}
 use Rattle.ffs_volume.specs.declared.Inode.{Inode}
 use Rattle.ffs_volume.specs.Disk.Numbers.{u32_at, piece}
 use Rattle.ffs_volume.specs.Disk.Areas.{is_in_range}
-use Rattle.ffs_volume.specs.Blocks.Inodes.{NDADDR, addresses_for, type_of, is_device, is_short_symlink}
+use Rattle.ffs_volume.specs.Blocks.Inodes.{addresses_for, type_of, is_device, is_short_symlink}
 use Rattle.ffs_volume.specs.Blocks.Inodes.{logical_blocks_of, is_file_or_dir, class_of}
 
 -- the bytes of the block at an address

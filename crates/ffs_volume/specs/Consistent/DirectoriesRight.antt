@@ -1,9 +1,10 @@
 -- When directories are consistent, in plain words: without order, firsts or parents.
 use Rattle.std.specs.Prelude.{ℕ, ◌≡◌, ◌≢◌, ◌≤◌, ◌<◌, ◌%◌, true, false, pos, [], ◌⊎◌, IsSomeAnd, Some}
+use Rattle.ffs_volume.specs.declared.constants.TheConstants.{WINO, ROOTINO, DIRBLKSIZ, DT_DIR, DT_WHT}
 use Rattle.ffs_volume.specs.declared.Class.TheVariants.{Partial, Unknown, Dir}
 use Rattle.ffs_volume.specs.declared.Role.TheVariants.{Extra, Plain}
-use Rattle.ffs_volume.specs.Blocks.Inodes.{ROOTINO, WINO, DT_DIR, DT_WHT, type_of}
-use Rattle.ffs_volume.specs.Directories.Entries.{DIRBLKSIZ, Entry}
+use Rattle.ffs_volume.specs.Blocks.Inodes.{type_of}
+use Rattle.ffs_volume.specs.Directories.Entries.{Entry}
 use Rattle.ffs_volume.specs.Directories.Roles.{Volume, RoledEntry, is_dir, is_allocated_inode}
 use Rattle.ffs_volume.specs.Directories.Roles.{roled_entries, dot, dotdot, references}
 use Rattle.ffs_volume.specs.Directories.Graph.{reached, names_at, NamedOnce}

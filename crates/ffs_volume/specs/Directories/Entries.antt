@@ -4,17 +4,11 @@ use Rattle.std.specs.Prelude.{false, not, ◌&&◌, ◌||◌, nat_le, nat_lt, if
 use Rattle.std.specs.Prelude.{◌∷◌, ◌++◌, map, length, slice_index, sum_by, Option, Some, None}
 use Rattle.std.specs.List.{range_with_len, flat_map, list_any}
 use Rattle.std.specs.Int.{div_ceil}
+use Rattle.ffs_volume.specs.declared.constants.TheConstants.{DIRBLKSIZ, MINDIRSIZE}
 use Rattle.ffs_volume.specs.declared.Order.{Order}
 use Rattle.ffs_volume.specs.declared.Step.{Step}
 use Rattle.ffs_volume.specs.declared.Step.TheVariants.{Run, Tail, Gap}
 use Rattle.ffs_volume.specs.Disk.Numbers.{u16_at, u32_at, piece}
-
--- the bytes of a chunk, and the size of the entries `.` and `..`, which is the least of a directory
-abbrev pub DIRBLKSIZ : ℕ
-DIRBLKSIZ = 512
-
-abbrev pub MINDIRSIZE : ℕ
-MINDIRSIZE = 24
 
 -- an entry: the number that it names, its record's length, its type and its name
 pub record Entry : Type 0 where

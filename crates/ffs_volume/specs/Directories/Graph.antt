@@ -2,7 +2,7 @@
 use Rattle.std.specs.Prelude.{◌≡◌, ℕ, zero, suc, ◌==◌, Bool, true, false, not, ◌&&◌, ◌||◌, List}
 use Rattle.std.specs.Prelude.{Option, None, Some, is_some, cond, [], ◌∷◌, option_map, if◌then◌else◌}
 use Rattle.std.specs.List.{list_any}
-use Rattle.ffs_volume.specs.Blocks.Inodes.{ROOTINO}
+use Rattle.ffs_volume.specs.declared.constants.TheConstants.{ROOTINO}
 use Rattle.ffs_volume.specs.Directories.Roles.{RoledEntry, is_plain}
 use Rattle.ffs_volume.specs.Disk.Search.{first_below, some_below}
 use Rattle.ffs_volume.specs.Directories.Climb.{is_value, leads_cycle}

@@ -2,6 +2,7 @@
 use Rattle.std.specs.Prelude.{ℕ, suc, ◌%◌, ◌==◌, Bool, false, not, ◌&&◌, ◌||◌, nat_lt}
 use Rattle.std.specs.Prelude.{if◌then◌else◌, List, [], ◌∷◌, ◌++◌, Option, Some, None}
 use Rattle.std.specs.List.{list_all}
+use Rattle.ffs_volume.specs.declared.constants.TheConstants.{WINO, ROOTINO, DIRBLKSIZ, MINDIRSIZE, DT_DIR, DT_WHT}
 use Rattle.ffs_volume.specs.declared.Attr.{Attr}
 use Rattle.ffs_volume.specs.declared.Class.{Class}
 use Rattle.ffs_volume.specs.declared.Class.TheVariants.{Free, Partial, Unknown, File, Dir}
@@ -9,8 +10,8 @@ use Rattle.ffs_volume.specs.declared.Label.{Label}
 use Rattle.ffs_volume.specs.declared.Label.TheVariants.{Dir as DirLabel, File as FileLabel, Name as NameLabel}
 use Rattle.ffs_volume.specs.declared.Role.{Role}
 use Rattle.ffs_volume.specs.declared.Role.TheVariants.{Empty, Dot, Dotdot, Extra, Plain}
-use Rattle.ffs_volume.specs.Directories.Entries.{DIRBLKSIZ, MINDIRSIZE, Entry, Chunk, is_live}
-use Rattle.ffs_volume.specs.Blocks.Inodes.{ROOTINO, WINO, DT_DIR, DT_WHT, type_of}
+use Rattle.ffs_volume.specs.Directories.Entries.{Entry, Chunk, is_live}
+use Rattle.ffs_volume.specs.Blocks.Inodes.{type_of}
 use Rattle.ffs_volume.specs.Blocks.Inodes.{is_directory, is_allocated, is_unknown}
 use Rattle.ffs_volume.specs.Directories.Roles.{Volume, RoledEntry, is_dir, is_suspect, is_one_dot}
 use Rattle.ffs_volume.specs.Directories.Roles.{is_two_dots, start_entry, dot, dotdot, roled_entries}

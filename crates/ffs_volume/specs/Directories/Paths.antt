@@ -2,6 +2,7 @@
 use Rattle.std.specs.Prelude.{ℕ, zero, suc, ◌-◌, nat_le, nat_lt, if◌then◌else◌, List, [], ◌∷◌}
 use Rattle.std.specs.Prelude.{◌++◌, length, Option, Some, None, option_map, option_and_then}
 use Rattle.std.specs.List.{flat_map}
+use Rattle.ffs_volume.specs.declared.constants.TheConstants.{MAXPATHLEN}
 use Rattle.ffs_volume.specs.Directories.Roles.{RoledEntry}
 use Rattle.ffs_volume.specs.Directories.Graph.{Graph, level, parent, parent_entry}
 use Rattle.ffs_volume.specs.Directories.Parents.{roled_at}
@@ -15,10 +16,6 @@ unfoldable pub longest_end : ℕ → List (List ℕ) → List (List ℕ)
 longest_end most [] = []
 longest_end most (name ∷ names) =
     if nat_le (length (joined (name ∷ names))) most then name ∷ names else longest_end most names
-
--- the most bytes of a path
-abbrev pub MAXPATHLEN : ℕ
-MAXPATHLEN = 1024
 
 -- a path of more than 1,024 bytes is cut to `?` and its end
 unfoldable pub path_bytes : List (List ℕ) → List ℕ

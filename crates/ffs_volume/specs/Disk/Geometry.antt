@@ -1,9 +1,9 @@
 -- The conditions of `Outcome` as facts of an accepted layout: what the law `accepted_are_sound` gives.
 use Rattle.std.proofs.Common.{◌≡◌, ℕ, ◌+◌, ◌-◌, ◌*◌, ◌/◌, ◌%◌, ◌^◌, ◌<◌, ◌≤◌, true, pos}
 use Rattle.std.specs.Int.{div_ceil}
+use Rattle.ffs_volume.specs.declared.constants.TheConstants.{SBSIZE}
 use Rattle.ffs_volume.specs.declared.Layout.{Layout}
 use Rattle.ffs_volume.specs.Disk.Numbers.{natural}
-use Rattle.ffs_volume.specs.Disk.Superblock.{SBSIZE}
 use Rattle.ffs_volume.specs.Disk.Areas.{cgoffset_of, cgbase, cgdmin}
 use Rattle.ffs_volume.specs.Disk.Outcome.{is_shaped}
 

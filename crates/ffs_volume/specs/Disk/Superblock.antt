@@ -1,20 +1,10 @@
 -- The superblock, after fs(5): 1,376 bytes of it are looked at.
 use Rattle.std.specs.Prelude.{ℕ, ◌==◌, if◌then◌else◌, List, [], ◌∷◌, ℤ, Option, Some, None}
-use Rattle.ffs_volume.specs.declared.TheConstants.{FS_MAGIC}
+use Rattle.ffs_volume.specs.declared.constants.TheConstants.{FS_MAGIC, MAXMNTLEN}
 use Rattle.ffs_volume.specs.declared.Order.{Order}
 use Rattle.ffs_volume.specs.declared.Order.TheVariants.{Little, Big}
 use Rattle.ffs_volume.specs.declared.Layout.{Layout}
 use Rattle.ffs_volume.specs.Disk.Numbers.{u32_at, i32_at, count_at, piece}
-
--- the bytes of the superblock that are looked at, those of a sector, and those of the mount point
-abbrev pub SBSIZE : ℕ
-SBSIZE = 1376
-
-abbrev pub DEV_BSIZE : ℕ
-DEV_BSIZE = 512
-
-abbrev pub MAXMNTLEN : ℕ
-MAXMNTLEN = 512
 
 -- a superblock; cstotal has its counts of directories, free blocks, free inodes and free fragments
 pub record Superblock : Type 0 where

@@ -1,12 +1,13 @@
 -- The keeping of an inode's steps replayed, from the number of its kept offers where it was cut by dup offers.
 use Rattle.std.proofs.Common.{ℕ, ◌+◌, ◌-◌, Bool, List, [], ◌∷◌, ◌++◌}
 use Rattle.std.specs.Prelude.{nat_lt, ◌&&◌, ◌||◌, ◌==◌, min, if◌then◌else◌}
+use Rattle.ffs_volume.specs.declared.constants.TheConstants.{MAXBAD, MAXDUP}
 use Rattle.ffs_volume.specs.declared.Layout.{Layout}
 use Rattle.ffs_volume.specs.declared.Step.{Step}
 use Rattle.ffs_volume.specs.declared.Step.TheVariants.{Run, Tail, Gap}
 use Rattle.ffs_volume.specs.Disk.Areas.{is_in_range}
 use Rattle.ffs_volume.specs.Blocks.Owners.{owner_of}
-use Rattle.ffs_volume.specs.Blocks.Claims.{MAXBAD, MAXDUP, Claims, after_owner}
+use Rattle.ffs_volume.specs.Blocks.Claims.{Claims, after_owner}
 use Rattle.ffs_volume.specs.Blocks.KeptSteps.{claims_before}
 use Rattle.ffs_volume.specs.Directories.Volumes.{is_inode_number}
 

@@ -1,11 +1,11 @@
 -- How many Runs a replay sees, and that it need count kept offers only where there is a cut.
 use Rattle.std.proofs.Common.{ℕ, ◌+◌, ◌-◌, List, [], ◌∷◌}
 use Rattle.std.specs.Prelude.{◌==◌, min, if◌then◌else◌}
+use Rattle.ffs_volume.specs.declared.constants.TheConstants.{MAXBAD}
 use Rattle.ffs_volume.specs.declared.Layout.{Layout}
 use Rattle.ffs_volume.specs.declared.Step.{Step}
 use Rattle.ffs_volume.specs.declared.Step.TheVariants.{Run, Tail, Gap}
 use Rattle.ffs_volume.specs.Disk.Areas.{is_in_range}
-use Rattle.ffs_volume.specs.Blocks.Claims.{MAXBAD}
 use Rattle.ffs_volume.specs.Encodings.Replay.{Replay, is_replay_open, replay_step}
 
 -- how many Runs are seen

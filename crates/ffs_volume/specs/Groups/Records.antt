@@ -4,7 +4,7 @@ use Rattle.std.specs.Prelude.{ℕ, Bool, true, false, ◌+◌, ◌-◌, ◌*◌,
 use Rattle.std.specs.Prelude.{◌++◌, ◌==◌, nat_lt, nat_le, if◌then◌else◌, map, count_by, slice_index, ◌≡◌, ◌<◌, ℤ, pos}
 use Rattle.std.specs.List.{list_all, range_with_len, sum_by, slice_index_or}
 use Rattle.std.specs.Int.{div_ceil}
-use Rattle.ffs_volume.specs.declared.TheConstants.{CG_MAGIC}
+use Rattle.ffs_volume.specs.declared.constants.TheConstants.{CG_MAGIC}
 use Rattle.ffs_volume.specs.declared.Layout.{Layout}
 use Rattle.ffs_volume.specs.declared.Class.{Class}
 use Rattle.ffs_volume.specs.Disk.Numbers.{u32_at, piece, all_below, is_the_count}

@@ -1,6 +1,7 @@
 -- Laws that say of definitions what they are meant to say.
 use Rattle.std.specs.Prelude.{◌≡◌, ◌≤◌, ◌<◌, ℕ, ◌+◌, ◌*◌, ◌%◌, not, Bool, List, length, count_by, Some}
 use Rattle.std.specs.List.{range_with_len}
+use Rattle.ffs_volume.specs.declared.constants.TheConstants.{MAXPATHLEN}
 use Rattle.ffs_volume.specs.declared.Layout.{Layout}
 use Rattle.ffs_volume.specs.declared.Class.{Class}
 use Rattle.ffs_volume.specs.declared.Step.{Step}
@@ -12,7 +13,7 @@ use Rattle.ffs_volume.specs.Blocks.FirstOffers.{Firsts}
 use Rattle.ffs_volume.specs.Groups.Records.{right_summary}
 use Rattle.ffs_volume.specs.Directories.Graph.{Graph, level}
 use Rattle.ffs_volume.specs.Directories.Levels.{IsLevel}
-use Rattle.ffs_volume.specs.Directories.Paths.{MAXPATHLEN, dir_path, entry_path}
+use Rattle.ffs_volume.specs.Directories.Paths.{dir_path, entry_path}
 
 -- the kept offers of an inode are the first of its offers, and all of them where it isn't cut
 abbrev pub KeptAreFirst : Type 0

@@ -6,10 +6,10 @@ use Rattle.ffs_volume.specs.Directories.Volumes.{volume_of}
 use Rattle.ffs_paths.proofs.Ways.{HasParent, way_root, way_cut, way_long, way_up, count_is}
 use Rattle.ffs_paths.proofs.climb.climb.Goals as goal
 
-pub returns-then-at-eq2-clause-path : goal.returns-then-at-eq2-clause-path
-returns-then-at-eq2-clause-path g c = λ b t lead k l names h.
+pub returns-then-at-eq-ROOTINO-clause-path : goal.returns-then-at-eq-ROOTINO-clause-path
+returns-then-at-eq-ROOTINO-clause-path g c = λ b t lead k l names h.
     let w = c.up.invariant.path b t lead k l names h in
-    way_root (graph_of (volume_of c.args.geometry.now.layout b)) k c.args.dir c.up.at c.up.step names c.up.path w c.if-at-eq2.true
+    way_root (graph_of (volume_of c.args.geometry.now.layout b)) k c.args.dir c.up.at c.up.step names c.up.path w c.if-at-eq-ROOTINO.true
 
 pub returns-then-path-clause-path : goal.returns-then-path-clause-path
 returns-then-path-clause-path g c = λ b t lead k l names h.
@@ -20,7 +20,7 @@ pub returns-then-parent-cut-clause-path : goal.returns-then-parent-cut-clause-pa
 returns-then-parent-cut-clause-path g c = λ b t lead k l names h.
     let v = c.args.geometry.now.layout in
     let w = c.up.invariant.path b t lead k l names h in
-    let u = way_up (graph_of (volume_of v b)) k c.args.dir c.up.at c.up.step names c.up.path w c.if-at-eq2.false in
+    let u = way_up (graph_of (volume_of v b)) k c.args.dir c.up.at c.up.step names c.up.path w c.if-at-eq-ROOTINO.false in
     let e : slice_index c.args.parents.now c.up.at ≡ u.0 = lead.above c.up.at ∙ ap (λ o. unwrap_or o 0) u.1.is in
     let below = u.1.below in
     let count = count_is v b in
@@ -50,7 +50,7 @@ up-preserved g c =
       path = λ b t lead k l names h.
           let G = graph_of (volume_of v b) in
           let w = i.path b t lead k l names h in
-          let u = way_up G k c.args.dir c.up.at c.up.step names c.up.path w c.if-at-eq2.false in
+          let u = way_up G k c.args.dir c.up.at c.up.step names c.up.path w c.if-at-eq-ROOTINO.false in
           let p : ℕ = slice_index c.args.parents.now c.up.at in
           let e : p ≡ u.0 = lead.above c.up.at ∙ ap (λ o. unwrap_or o 0) u.1.is in
           let up = subst (λ s. HasParent G k c.args.dir c.up.at c.up.step names c.up.path s) (sym e) u.1 in

@@ -1,0 +1,76 @@
+//! The numbers of the format that have a name in the field: each is stated here once, for code and definitions.
+
+/// The magic number of a superblock (fs(5)).
+pub const FS_MAGIC: u32 = 0x011954;
+
+/// The magic number of a group block (fs(5)).
+pub const CG_MAGIC: u32 = 0x090255;
+
+/// The bytes of a sector: reads and faults count by it (fs(5)).
+pub const DEV_BSIZE: u64 = 512;
+
+/// The bytes of a superblock that are looked at (fs(5)).
+pub const SBSIZE: usize = 1376;
+
+/// The bytes of the mount point in a superblock (fs(5)).
+pub const MAXMNTLEN: usize = 512;
+
+/// The inode that whiteouts name (dir(5)).
+pub const WINO: u32 = 1;
+
+/// The inode of the root directory (fs(5)).
+pub const ROOTINO: u32 = 2;
+
+/// The bytes of an inode in a volume (inode(5)).
+pub const DINODE_SIZE: usize = 128;
+
+/// How many of the fifteen addresses of an inode are direct (inode(5)).
+pub const NDADDR: u32 = 12;
+
+/// How many bad Runs an inode may have before the rest of it is passed over (fsck(8)).
+pub const MAXBAD: u32 = 10;
+
+/// How many duplicates an inode may have before the rest of it is passed over (fsck(8)).
+pub const MAXDUP: u32 = 10;
+
+/// The bytes of a directory's chunk, in which no entry crosses the end (dir(5)).
+pub const DIRBLKSIZ: usize = 512;
+
+/// The size of the entries `.` and `..`: no directory is smaller (dir(5)).
+pub const MINDIRSIZE: u64 = 24;
+
+/// The bytes of an entry before its name (dir(5)).
+pub const DIRENT_HEADER: usize = 8;
+
+/// The most bytes of a path that is printed (fsck(8)).
+pub const MAXPATHLEN: usize = 1024;
+
+/// The type of a named pipe, in an entry and in a mode (dir(5)).
+pub const DT_FIFO: u8 = 1;
+
+/// The type of a character device.
+pub const DT_CHR: u8 = 2;
+
+/// The type of a directory.
+pub const DT_DIR: u8 = 4;
+
+/// The type of a block device.
+pub const DT_BLK: u8 = 6;
+
+/// The type of a regular file.
+pub const DT_REG: u8 = 8;
+
+/// The type of a symbolic link.
+pub const DT_LNK: u8 = 10;
+
+/// The type of a socket.
+pub const DT_SOCK: u8 = 12;
+
+/// The type of a whiteout.
+pub const DT_WHT: u8 = 14;
+
+/// What a workspace keeps as the type of a directory whose size is 0.
+pub const EMPTY_DIR: u8 = 5;
+
+/// What a workspace keeps as the type of an inode whose type is unknown.
+pub const UNKNOWN_TYPE: u8 = 15;
