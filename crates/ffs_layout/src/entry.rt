@@ -80,7 +80,7 @@ fn is_name(chunk: &[u8; DIRBLKSIZ], place: usize) -> bool
 }
 
 // Whether the record at the place holds its name, and has a type.
-fn is_held(chunk: &[u8; 512], place: usize, len: u16) -> bool
+fn is_held(chunk: &[u8; DIRBLKSIZ], place: usize, len: u16) -> bool
     requires { IsTrue (fits place len) }
     ensures { result ≡ held chunk.now place len }
 {

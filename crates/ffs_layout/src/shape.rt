@@ -4,7 +4,7 @@ ghost use Rattle.std.specs.Prelude.{◌≡◌, ◌<◌};
 ghost use Rattle.ffs_volume.specs.Disk.Outcome.{are_cylinders, are_numbers, are_parts, are_sizes, is_block_size, is_fragment_count, is_fragment_size, is_shaped, is_summary_area, layout_fault};
 
 use crate::groups::groups_fit;
-use ffs_volume::constants::DINODE_SIZE;
+use ffs_volume::constants::{DINODE_SIZE, SBSIZE};
 use ffs_volume::{Layout, SuperFault};
 
 #[tactic(auto, unfolding(ffs_volume::specs::Disk::Outcome::is_block_size))]
@@ -54,7 +54,7 @@ fn has_numbers(v: &Layout) -> bool
     v.dsize >= 1
         && v.maxsymlinklen <= 60
         && v.postblformat == 1
-        && v.sbsize >= 1376
+        && v.sbsize >= SBSIZE as u32
         && ncg.saturating_sub(1) * fpg < size
         && size <= ncg * fpg
         && size < 1 << 31

@@ -16,9 +16,6 @@ use ffs_image::Image;
 use ffs_volume::constants::{DEV_BSIZE, FS_MAGIC, MAXMNTLEN, SBSIZE};
 use ffs_volume::{LAYOUT_PLACES, Order, SuperFault};
 
-// The bytes of a sector, and the sector of the primary superblock.
-const SECTOR: u64 = 512;
-
 const PRIMARY_SECTOR: u32 = 16;
 
 // The order in which the magic number reads right.
@@ -64,9 +61,9 @@ fn read_copy<I: Image>(image: &mut I, at: u64, out: &mut [u8; SBSIZE]) -> Result
     ensures { MatchResult result (λ _. IsCopy (I.device image.old) (I.device image.new) at out.new)
         (IsUnreadCopy (I.device image.old) (I.device image.new) at) }
 {
-    if image.size() < at + 1376 {
+    if image.size() < at + SBSIZE as u64 {
         return Err(SuperFault::CannotRead {
-            sector: at / SECTOR,
+            sector: at / DEV_BSIZE,
         });
     }
     match image.read_at(at, out) {
@@ -187,8 +184,8 @@ pub fn read_super<I: Image>(image: &mut I, sector: Option<u32>) -> Result<Super,
     // A failed read is answered, by its sector. With none, the answer is the outcome, where the bytes are given.
     ensures answer { Answers (I.device image.old) (I.device image.new) sector (found_of result) }
 {
-    let start = u64::from(first_sector(sector)) * SECTOR;
-    let mut bytes = [0; 1376];
+    let start = u64::from(first_sector(sector)) * DEV_BSIZE;
+    let mut bytes = [0; SBSIZE];
     read_copy(image, start, &mut bytes)?;
     let Some(order) = order_of_magic(&bytes) else {
         return Err(SuperFault::Magic);

@@ -268,7 +268,7 @@ impl Chunks {
         ensures value { result ≡ last_place self.now.run_cursor }
         ensures small { result + 512 < 2 ^ 64 }
     {
-        self.run_cursor.place + 512 * u64::from(self.run_cursor.next.saturating_sub(1))
+        self.run_cursor.place + DIRBLKSIZ as u64 * u64::from(self.run_cursor.next.saturating_sub(1))
     }
 
     /// How many Runs were looked at.
@@ -288,9 +288,9 @@ fn taken_of(size: u64) -> u64
         return 0;
     }
     if size < MINDIRSIZE {
-        return 512;
+        return DIRBLKSIZ as u64;
     }
-    size.div_ceil(512) * 512
+    size.div_ceil(DIRBLKSIZ as u64) * DIRBLKSIZ as u64
 }
 
 /// A reading of a directory looks at no more Runs than the block check sees in it: `Chunks::start` and `Chunks::next`

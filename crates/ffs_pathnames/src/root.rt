@@ -22,7 +22,7 @@ fn is_dir(kind: u8) -> bool
 fn is_suspect(kind: u8, marked: bool) -> bool
     ensures { result ≡ (marked || is_empty_dir_kind kind) }
 {
-    marked || kind == 5
+    marked || kind == EMPTY_DIR
 }
 
 /// Whether the run continues after a root of this kind.

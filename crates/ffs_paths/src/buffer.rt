@@ -52,12 +52,12 @@ fn slash_from(bytes: &[u8; MAXPATHLEN], place: usize) -> usize
     ensures after { place ≤ result }
     ensures end { result ≤ 1024 }
 {
-    for at in place..1024 {
+    for at in place..MAXPATHLEN {
         if bytes[at] == b'/' {
             return at;
         }
     }
-    1024
+    MAXPATHLEN
 }
 
 /// Writes what is from `start` on, `/` and a name.

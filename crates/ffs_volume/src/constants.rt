@@ -25,7 +25,7 @@ pub const ROOTINO: u32 = 2;
 pub const DINODE_SIZE: usize = 128;
 
 /// How many of the fifteen addresses of an inode are direct (inode(5)).
-pub const NDADDR: u32 = 12;
+pub const NDADDR: u64 = 12;
 
 /// How many bad Runs an inode may have before the rest of it is passed over (fsck(8)).
 pub const MAXBAD: u32 = 10;

@@ -5,7 +5,7 @@ ghost use Rattle.ffs_volume.specs.Blocks.Inodes as inodes;
 ghost use Rattle.ffs_volume.specs.Blocks.Steps as steps;
 
 use ffs_layout::Geometry;
-use ffs_volume::constants::DT_LNK;
+use ffs_volume::constants::{DT_BLK, DT_CHR, DT_DIR, DT_FIFO, DT_LNK, DT_REG, DT_SOCK, NDADDR};
 use ffs_volume::{Class, Inode};
 
 /// How many of the fifteen addresses are used by so many logical blocks.
@@ -14,10 +14,10 @@ pub fn addresses_for(words: u64, blocks: u64) -> u32
     ensures value { result ≡ inodes.addresses_for words blocks }
     ensures bound { result ≤ 15 }
 {
-    if blocks < 13 {
+    if blocks <= NDADDR {
         blocks as u32
-    } else if 12 + words < blocks {
-        if 12 + words + words * words < blocks {
+    } else if NDADDR + words < blocks {
+        if NDADDR + words + words * words < blocks {
             15
         } else {
             14
@@ -38,6 +38,12 @@ pub fn last_length(geometry: &Geometry, inode: &Inode) -> u32
     } else {
         over.div_ceil(u64::from(geometry.layout.fsize)) as u32
     }
+}
+
+fn is_device(kind: u16) -> bool
+    ensures { result ≡ inodes.is_device kind }
+{
+    kind == u16::from(DT_CHR) || kind == u16::from(DT_BLK)
 }
 
 fn is_short_symlink(geometry: &Geometry, inode: &Inode) -> bool
@@ -65,12 +71,11 @@ pub fn has_steps(geometry: &Geometry, inode: &Inode, class: Class) -> bool
     requires { class ≡ inodes.class_of geometry.now.layout inode.now }
     ensures { result ≡ steps.walks geometry.now.layout inode.now }
 {
-    let kind = inode.mode / 4096;
     let walks = match class {
         Class::File | Class::Dir => true,
         _ => false,
     };
-    walks && !(kind == 2 || kind == 6 || is_short_symlink(geometry, inode))
+    walks && !(is_device(inode.mode / 4096) || is_short_symlink(geometry, inode))
 }
 
 /// The greatest size that the addresses can serve.
@@ -83,7 +88,7 @@ fn greatest_size(geometry: &Geometry) -> u64
     let words = u64::from(geometry.layout.nindir);
     let squared = words * words;
     let cubed = squared * words;
-    (12 + words + squared + cubed) * u64::from(geometry.layout.bsize)
+    (NDADDR + words + squared + cubed) * u64::from(geometry.layout.bsize)
 }
 
 /// How many logical blocks an inode of its size has.
@@ -114,12 +119,11 @@ fn addresses_used(geometry: &Geometry, inode: &Inode) -> usize
     ensures value { result ≡ inodes.addresses_used geometry.now.layout inode.now }
     ensures bound { result ≤ 15 }
 {
-    let kind = inode.mode / 4096;
     if is_short_symlink(geometry, inode) {
         return inode.size.div_ceil(4) as usize;
     }
     let blocks = logical_blocks_of(geometry, inode);
-    let counted = if kind == 2 || kind == 6 {
+    let counted = if is_device(inode.mode / 4096) {
         blocks + 1
     } else {
         blocks
@@ -130,8 +134,12 @@ fn addresses_used(geometry: &Geometry, inode: &Inode) -> usize
 fn is_known_type(kind: u16) -> bool
     ensures { result ≡ inodes.is_known_type kind }
 {
-    kind == 1
-        || (kind == 2 || (kind == 4 || (kind == 6 || (kind == 8 || (kind == 10 || kind == 12)))))
+    kind == u16::from(DT_FIFO)
+        || is_device(kind)
+        || kind == u16::from(DT_DIR)
+        || kind == u16::from(DT_REG)
+        || kind == u16::from(DT_LNK)
+        || kind == u16::from(DT_SOCK)
 }
 
 /// The class of an inode, by its mode, its size and its addresses (fs(5)).
@@ -151,12 +159,18 @@ pub fn class_of(geometry: &Geometry, inode: &Inode) -> Class
     if !is_known_type(kind) {
         return Class::Unknown;
     }
-    if greatest_size(geometry) < inode.size || kind == 4 && 2147483647 < inode.size {
+    if greatest_size(geometry) < inode.size
+        || kind == u16::from(DT_DIR) && 2147483647 < inode.size
+    {
         return Class::Unknown;
     }
     let used = addresses_used(geometry, inode);
     if is_any_set(&inode.addresses, used) {
         return Class::Unknown;
     }
-    if kind == 4 { Class::Dir } else { Class::File }
+    if kind == u16::from(DT_DIR) {
+        Class::Dir
+    } else {
+        Class::File
+    }
 }

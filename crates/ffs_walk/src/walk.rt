@@ -9,6 +9,7 @@ use crate::class::{addresses_for, class_of, last_length, walked_blocks};
 use crate::frame::{Frame, Item};
 use ffs_image::{Image, ImageFault};
 use ffs_layout::Geometry;
+use ffs_volume::constants::NDADDR;
 use ffs_volume::{Class, Inode, Step};
 
 /// A walk over the blocks of an inode: its position in the inode's own addresses, and in one indirect block of each level.
@@ -63,7 +64,7 @@ impl Walk {
         if address == 0 {
             return Step::Gap;
         }
-        let len = if block < 12 && block + 1 == self.blocks {
+        let len = if block < NDADDR && block + 1 == self.blocks {
             self.last
         } else {
             self.geometry.layout.frag
@@ -203,23 +204,27 @@ impl Walk {
         let index = self.next;
         let address = self.addresses[index as usize];
         self.next += 1;
-        if index < 12 {
+        if u64::from(index) < NDADDR {
             return Some(self.data(address, u64::from(index)));
         }
         let words = u64::from(self.geometry.layout.nindir);
         match index {
             12 => {
-                let (step, frame) = self.enter(1, address, 12);
+                let (step, frame) = self.enter(1, address, NDADDR);
                 self.single = frame;
                 Some(step)
             }
             13 => {
-                let (step, frame) = self.enter(words, address, 12 + words);
+                let (step, frame) = self.enter(words, address, NDADDR + words);
                 self.double = frame;
                 Some(step)
             }
             _ => {
-                let (step, frame) = self.enter(words * words, address, 12 + words + words * words);
+                let (step, frame) = self.enter(
+                    words * words,
+                    address,
+                    NDADDR + words + words * words,
+                );
                 self.triple = frame;
                 Some(step)
             }

@@ -10,7 +10,7 @@ returns-then-self-clause-steps c = λ bytes. top_ends bytes c.args.self.now c.if
 
 pub returns-then-index-lt12-clause-steps : goal.returns-then-index-lt12-clause-steps
 returns-then-index-lt12-clause-steps c =
-    λ bytes. top_data bytes c.args.self.now _ c.from.result c.data.result c.if-self.false c.if-index-lt12.true
+    λ bytes. top_data bytes c.args.self.now _ c.from.result c.data.result c.if-self.false c.if-index-lt-NDADDR.true
     c.requires.single c.requires.double c.requires.triple refl c.from.ensures c.data.ensures.step
 
 pub returns-in-12-clause-steps : goal.returns-in-12-clause-steps
