@@ -50,7 +50,8 @@ impl Blocks {
         ensures bytes { OnOk result (ForContents (I.device image.old).contents
             (λ b. level_bytes geometry.now.layout level self.new
             ≡ block_bytes geometry.now.layout b address)) }
-        ensures kept { KeepsBlocks geometry.now.layout (I.device image.new).contents self.old self.new }
+        ensures kept { KeepsBlocks geometry.now.layout (I.device image.new).contents self.old
+            self.new }
         ensures read { ReadAfter (I.device image.old) (I.device image.new) result }
     {
         if self.held[level] == Some(address) {

@@ -86,7 +86,8 @@ impl Frame {
         ensures falls { IfOk result (λ item. (most : ℕ)
             → item_left most item + frame_left most self.new ≤ frame_left most self.old) }
         ensures same { IsSameBlock self.old self.new }
-        ensures kept { KeepsBlocks geometry.now.layout (I.device image.new).contents blocks.old blocks.new }
+        ensures kept { KeepsBlocks geometry.now.layout (I.device image.new).contents blocks.old
+            blocks.new }
         ensures read { ReadAfter (I.device image.old) (I.device image.new) result }
     {
         blocks.fill(geometry, level, self.address, image)?;
