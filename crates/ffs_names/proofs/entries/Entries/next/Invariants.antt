@@ -1,7 +1,6 @@
 use Rattle.std.proofs.Common.{◌≡◌, ◌≤◌}
-use Rattle.std.specs.Prelude.{vec_len}
 use Rattle.ffs_image.specs.Device.{ForContents}
-use Rattle.ffs_walk.specs.Windows.{BlocksHold, WindowHolds}
+use Rattle.ffs_names.specs.Windows.{CanReadChunks}
 use Rattle.ffs_names.specs.Shapes.{has_right_shape}
 use Rattle.ffs_names.specs.Entering.{to_come, left}
 use Rattle.ffs_names.proofs.entries.Entries.next.Given as goal
@@ -12,10 +11,7 @@ invariant-chunks g l = record {
   shape : ForContents (g.I.Image.device l.fn.image).contents (λ b. has_right_shape b l.self ≡ has_right_shape b l.fn.self);
   left : left l.self ≤ left l.fn.self;
   geometry : l.self.chunks.walk.geometry ≡ l.fn.self.chunks.walk.geometry;
-  size : vec_len l.blocks.buffer ≡ vec_len l.fn.blocks.buffer;
-  holds : BlocksHold l.fn.self.chunks.walk.geometry.layout (g.I.Image.device l.fn.image).contents l.blocks;
-  data_size : vec_len l.window.buffer ≡ vec_len l.fn.window.buffer;
-  data_holds : WindowHolds (g.I.Image.device l.fn.image).contents l.window;
+  ready : CanReadChunks l.fn.self.chunks.walk.geometry.layout (g.I.Image.device l.image) l.blocks l.window;
   device : g.I.Image.device l.image ≡ g.I.Image.device l.fn.image;
 }
 
