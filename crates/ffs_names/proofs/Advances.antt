@@ -1,5 +1,5 @@
 -- How a reading of chunks goes from step to step.
-use Rattle.std.proofs.Common.{◌≡◌, ℕ, ◌+◌, ◌-◌, ◌*◌, Bool, true, false, List, [], ◌∷◌, ◌++◌, Option, arith, refl, sym, ap, ◌∙◌}
+use Rattle.std.proofs.Common.{◌≡◌, ℕ, ◌+◌, ◌-◌, ◌*◌, Bool, true, false, List, [], ◌∷◌, ◌++◌, arith, refl, sym, ap, ◌∙◌}
 use Rattle.std.specs.Prelude.{if◌then◌else◌}
 use Rattle.ffs_volume.specs.declared.Layout.{Layout}
 use Rattle.ffs_volume.specs.declared.Step.{Step}
@@ -9,10 +9,7 @@ use Rattle.ffs_volume.specs.Blocks.Steps.{steps_at, steps_of_addresses}
 use Rattle.ffs_volume.specs.Directories.Entries.{Chunk, chunks_of}
 use Rattle.ffs_volume.specs.Encodings.Replay.{Replay, is_replay_open, replayed_steps}
 use Rattle.ffs_volume.specs.Encodings.ReplayCounts.{replayed_runs}
-use Rattle.ffs_layout.specs.declared.geometry.Geometry.{Geometry}
 use Rattle.ffs_walk.specs.declared.walk.Walk.{Walk}
-use Rattle.ffs_walk.specs.declared.blocks.Blocks.{Blocks}
-use Rattle.ffs_walk.specs.Windows.{BlocksHold}
 use Rattle.ffs_walk.specs.Rests.{IsOver, extent_of, rest as steps_left, single_rest, double_rest, triple_rest, top_rest}
 use Rattle.ffs_walk.proofs.WalkSteps.{spent_rest}
 use Rattle.ffs_names.specs.declared.run_cursor.RunCursor.{RunCursor}
@@ -75,11 +72,13 @@ pub gap_on : (v v' : Layout) (b : List ℕ) (h : RunCursor) (taken cut : ℕ) (r
     → hand_chunks v' b h ++ following v' b taken cut r new ≡ hand_chunks v b h ++ following v b taken cut r old
 gap_on v v' b h taken cut r old new e o = still_on v v' b h taken cut r Gap old new e o (gap_behind v b taken cut r new)
 
--- where no step is left
-pub end_on : (v v' : Layout) (b : List ℕ) (h : RunCursor) (taken cut : ℕ) (r : Replay) (old new : List Step) → v' ≡ v → old ≡ [] → new ≡ []
+-- where the steps are the same
+pub steps_on : (v v' : Layout) (b : List ℕ) (h : RunCursor) (taken cut : ℕ) (r : Replay) (old new : List Step)
+    → v' ≡ v → old ≡ new
     → hand_chunks v' b h ++ following v' b taken cut r new ≡ hand_chunks v b h ++ following v b taken cut r old
-end_on v v' b h taken cut r old new e o n =
-    ap (λ x. hand_chunks x b h ++ following x b taken cut r new) e ∙ ap (λ x. hand_chunks v b h ++ following v b taken cut r x) (n ∙ sym o)
+steps_on v v' b h taken cut r old new e o =
+    ap (λ x. hand_chunks x b h ++ following x b taken cut r new) e ∙ ap
+    (λ x. hand_chunks v b h ++ following v b taken cut r x) (sym o)
 
 pub end_none : (v : Layout) (b : List ℕ) (h : RunCursor) (taken cut : ℕ) (r : Replay) (new : List Step) → h.next ≡ h.count → new ≡ [] → hand_chunks v b h ++ following v b taken cut r new ≡ []
 end_none v b h taken cut r new e n = ap (λ x. x ++ following v b taken cut r new) (no_run_cursor v b h e) ∙ ap (following v b taken cut r) n
@@ -87,13 +86,6 @@ end_none v b h taken cut r new e n = ap (λ x. x ++ following v b taken cut r ne
 pub unseen_none : (v : Layout) (b : List ℕ) (h : RunCursor) (taken cut : ℕ) (r : Replay) (steps : List Step) → h.next ≡ h.count → is_replay_open cut r ≡ false
     → hand_chunks v b h ++ following v b taken cut r steps ≡ []
 unseen_none v b h taken cut r steps e n = ap (λ x. x ++ following v b taken cut r steps) (no_run_cursor v b h e) ∙ none_seen v b taken cut r steps n
-
--- where a Run was seen
-pub run_on : (v v' : Layout) (b : List ℕ) (h : RunCursor) (taken cut : ℕ) (r : Replay) (start len : ℕ) (block : Option ℕ) (old new : List Step) → v' ≡ v → old ≡ Run start len block ∷ new → h.next ≡ h.count
-    → following v' b taken cut r (Run start len block ∷ new) ≡ hand_chunks v b h ++ following v b taken cut r old
-run_on v v' b h taken cut r start len block old new e o n =
-    ap (λ x. following x b taken cut r (Run start len block ∷ new)) e
-    ∙ (ap (following v b taken cut r) (sym o) ∙ ap (λ x. x ++ following v b taken cut r old) (sym (no_run_cursor v b h n)))
 
 pub runs_on : (v v' : Layout) (cut : ℕ) (r : Replay) (old steps : List Step) → v' ≡ v → old ≡ steps → replayed_runs v' cut r steps ≡ replayed_runs v cut r old
 runs_on v v' cut r old steps e o = ap (λ x. replayed_runs x cut r steps) e ∙ ap (replayed_runs v cut r) (sym o)
@@ -116,7 +108,3 @@ runs_gap v v' cut r old new e o = ap (λ x. replayed_runs x cut r new) e ∙ (ze
   where
     zero_more : (n : ℕ) → n ≡ 0 + n
     zero_more n = omega arith
-
--- what blocks hold, in other words
-pub holds_on : (g g' : Geometry) (contents contents' : Option (List ℕ)) (blocks : Blocks) → g' ≡ g → contents' ≡ contents → BlocksHold g'.layout contents' blocks → BlocksHold g.layout contents blocks
-holds_on g g' contents contents' blocks e t h = rw (← e, ← t) h

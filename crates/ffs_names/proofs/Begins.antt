@@ -11,7 +11,7 @@ use Rattle.ffs_volume.specs.Disk.Geometry.{IsGeometry}
 use Rattle.ffs_volume.specs.Blocks.Steps.{steps_of}
 use Rattle.ffs_volume.proofs.StepLaws.{Within, within_lower, steps_within}
 use Rattle.ffs_volume.proofs.ChunkLaws.{chunks_few}
-use Rattle.ffs_volume.specs.Directories.Entries.{Chunk, chunks_of, size_taken}
+use Rattle.ffs_volume.specs.Directories.Entries.{Chunk, chunks_of, has_gap, size_taken}
 use Rattle.ffs_volume.specs.Encodings.Replay.{Replay, fresh_replay, is_replayed, replay_step, replayed_steps}
 use Rattle.ffs_volume.specs.Encodings.ReplayCounts.{replayed_runs}
 use Rattle.ffs_names.specs.RunCursors.{reading_by}
@@ -74,3 +74,11 @@ pub runs_begun : (v v' : Layout) (cut cut' : ℕ) (r : Replay) (steps all : List
     → replayed_runs v' cut' r steps ≡ replayed_runs v cut fresh_replay all
 runs_begun v v' cut cut' r steps all e c f s =
     ap (λ x. replayed_runs x cut' r steps) e ∙ (ap (λ x. replayed_runs v x r steps) c ∙ (ap (λ x. replayed_runs v cut x steps) f ∙ ap (replayed_runs v cut fresh_replay) s))
+
+pub gap_begun : (v v' : Layout) (cut cut' : ℕ) (r : Replay) (steps all : List Step) → v' ≡ v → cut' ≡ cut
+    → r ≡ fresh_replay → steps ≡ all
+    → has_gap (replayed_steps v' cut' r steps) ≡ has_gap (replayed_steps v cut fresh_replay all)
+gap_begun v v' cut cut' r steps all e c f s =
+    ap (λ x. has_gap (replayed_steps x cut' r steps)) e
+    ∙ (ap (λ x. has_gap (replayed_steps v x r steps)) c ∙ (ap (λ x. has_gap (replayed_steps v cut x steps)) f ∙ ap
+    (λ x. has_gap (replayed_steps v cut fresh_replay x)) s))

@@ -7,8 +7,6 @@ use Rattle.ffs_volume.specs.declared.Role.{Role}
 use Rattle.ffs_volume.specs.Disk.Numbers.{piece}
 use Rattle.ffs_volume.specs.Directories.Entries.{Entry, Chunk, chunk_of, entry_at, entries_from}
 use Rattle.ffs_volume.specs.Directories.Roles.{role_of, roled_from, roled_chunk}
-use Rattle.ffs_walk.specs.declared.window.Window.{Window}
-use Rattle.ffs_walk.specs.Windows.{WindowHolds}
 use Rattle.ffs_volume.proofs.Longest.{entry-length}
 use Rattle.ffs_volume.proofs.Reading.{entries_next, entries_end}
 
@@ -67,7 +65,3 @@ chunk_came first index order other chunk place old offset next rest h q r =
 pub none_came : (first : Bool) (index : ℕ) (order : Order) (chunk : List ℕ) (place : ℕ) (old : List Chunk) → is_some (entry_at order chunk place) ≡ false → old ≡ []
     → roled_from first index (entries_from order chunk 64 place) ++ flat_map roled_chunk old ≡ []
 none_came first index order chunk place old h r = none_seen first index order chunk place old (none_from _ h) ∙ ap (flat_map roled_chunk) r
-
--- what a window holds, in other words
-pub data_on : (contents contents' : Option (List ℕ)) (w : Window) → contents' ≡ contents → WindowHolds contents' w → WindowHolds contents w
-data_on contents contents' w t h = rw (← t) h

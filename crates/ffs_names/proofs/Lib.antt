@@ -9,4 +9,5 @@ pub mod SameGraphs
 pub mod SurveyHolds
 pub mod RunsSeen
 pub mod GapsLeft
+pub mod Continuing
 mod Shaped

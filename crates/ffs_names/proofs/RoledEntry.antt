@@ -1,5 +1,5 @@
 -- What a step that is seen gives of chunks.
-use Rattle.std.proofs.Common.{◌≡◌, ℕ, ◌+◌, ◌-◌, ◌*◌, ◌≤◌, Bool, true, false, List, [], ◌∷◌, ◌++◌, Option, arith, refl, sym, ap, ◌∙◌}
+use Rattle.std.proofs.Common.{◌≡◌, ℕ, ◌+◌, ◌-◌, ◌*◌, ◌≤◌, Bool, true, false, List, [], ◌∷◌, ◌++◌, Option, Some, None, arith, refl, sym, ap, ◌∙◌}
 use Rattle.std.specs.Prelude.{if◌then◌else◌, map}
 use Rattle.std.specs.List.{range_with_len}
 use Rattle.ffs_volume.specs.declared.Layout.{Layout}
@@ -7,7 +7,7 @@ use Rattle.ffs_volume.specs.declared.Step.{Step}
 use Rattle.ffs_volume.specs.declared.Step.TheVariants.{Run}
 use Rattle.ffs_volume.specs.Disk.Numbers.{piece}
 use Rattle.ffs_volume.specs.Disk.Areas.{is_in_range}
-use Rattle.ffs_volume.specs.Directories.Entries.{Chunk, chunk_of, step_chunks, chunks_of}
+use Rattle.ffs_volume.specs.Directories.Entries.{Chunk, chunk_of, run_chunks, step_chunks, chunks_of}
 use Rattle.ffs_volume.specs.Encodings.Replay.{Replay, is_replay_open, is_replayed, replay_step, replayed_steps}
 use Rattle.ffs_volume.specs.Encodings.ReplayCounts.{counted_step, replayed_runs, seen_run}
 use Rattle.ffs_volume.proofs.ReplayLaws.{counted_same}
@@ -51,3 +51,58 @@ runs_seen v cut cut' r q steps start len block runs runs' s n c l =
     let same : replayed_runs v cut' q steps ≡ replayed_runs v cut (replay_step v cut r (Run start len block)) steps =
     ap (λ x. replayed_runs v x q steps) c ∙ (ap (λ x. replayed_runs v cut x steps) n ∙ sym (counted_same v 0 cut r (Run start len block) steps).runs_are) in
     omega arith
+
+pub run_continues : (v : Layout) (b : List ℕ) (h h' : RunCursor) (taken cut cut' : ℕ) (r q : Replay)
+    (steps : List Step) (start len : ℕ) (block : Option ℕ) (kept : Bool)
+    → h.next ≡ h.count → kept ≡ is_replayed v cut r (Run start len block)
+    → q ≡ counted_step v cut r (Run start len block) → cut' ≡ cut
+    → hand_chunks v b h' ≡ (if kept then step_chunks (reading_by v b taken) (is_in_range v) (Run start len block)
+    else [])
+    → hand_chunks v b h' ++ chunks_of (reading_by v b taken) (is_in_range v) (replayed_steps v cut' q steps)
+    ≡ hand_chunks v b h ++ chunks_of (reading_by v b taken) (is_in_range v)
+    (replayed_steps v cut r (Run start len block ∷ steps))
+run_continues v b h h' taken cut cut' r q steps start len block kept e k n c f =
+    run_seen v b taken cut cut' r q steps start len block kept (hand_chunks v b h') k n c f
+    ∙ ap (λ x. x ++ chunks_of (reading_by v b taken) (is_in_range v)
+    (replayed_steps v cut r (Run start len block ∷ steps))) (sym (no_run_cursor v b h e))
+
+-- the chunks of a Run: of one that is kept and in range, and none of another
+pub kept_run : (v : Layout) (b : List ℕ) (taken start len place : ℕ) (block : Option ℕ) (kept passes : Bool)
+    (found : List Chunk)
+    → block ≡ Some place → kept ≡ true → passes ≡ true → passes ≡ is_in_range v start len
+    → found ≡ run_chunks (reading_by v b taken) start len (place * v.bsize)
+    → found ≡ (if kept then step_chunks (reading_by v b taken) (is_in_range v) (Run start len block) else [])
+kept_run v b taken start len place block kept passes found e k p i f =
+    f ∙ sym (ap (λ x. if x then step_chunks (reading_by v b taken) (is_in_range v) (Run start len block) else []) k
+    ∙ (ap (λ x. step_chunks (reading_by v b taken) (is_in_range v) (Run start len x)) e
+    ∙ ap (λ x. if x then run_chunks (reading_by v b taken) start len (place * v.bsize) else []) (sym i ∙ p)))
+
+pub no_kept_run : (v : Layout) (b : List ℕ) (taken start len : ℕ) (block : Option ℕ) (kept : Bool) (found : List Chunk)
+    → kept ≡ false → found ≡ [] → found ≡ (if kept then step_chunks (reading_by v b taken) (is_in_range v)
+    (Run start len block) else [])
+no_kept_run v b taken start len block kept found k f = f ∙ sym
+    (ap (λ x. if x then step_chunks (reading_by v b taken) (is_in_range v) (Run start len block) else []) k)
+
+pub no_data_run : (v : Layout) (b : List ℕ) (taken start len : ℕ) (block : Option ℕ) (kept passes : Bool)
+    (found : List Chunk)
+    → passes ≡ false → passes ≡ is_in_range v start len → found ≡ []
+    → found ≡ (if kept then step_chunks (reading_by v b taken) (is_in_range v) (Run start len block) else [])
+no_data_run v b taken start len block kept passes found p i f = f ∙ sym (none block kept)
+  where
+    none : (block : Option ℕ) (x : Bool) → (if x then step_chunks (reading_by v b taken) (is_in_range v)
+        (Run start len block) else []) ≡ []
+    none block false = refl
+    none None true = refl
+    none (Some place) true = ap (λ x. if x then run_chunks (reading_by v b taken) start len (place * v.bsize) else
+        []) (sym i ∙ p)
+
+pub no_block_run : (v : Layout) (b : List ℕ) (taken start len : ℕ) (block : Option ℕ) (kept : Bool) (found : List Chunk)
+    → block ≡ None → found ≡ [] → found ≡ (if kept then step_chunks (reading_by v b taken) (is_in_range v)
+    (Run start len block) else [])
+no_block_run v b taken start len block kept found e f =
+    f ∙ sym (ap (λ x. if kept then step_chunks (reading_by v b taken) (is_in_range v) (Run start len x) else []) e ∙
+    none kept)
+  where
+    none : (x : Bool) → (if x then step_chunks (reading_by v b taken) (is_in_range v) (Run start len None) else []) ≡ []
+    none true = refl
+    none false = refl

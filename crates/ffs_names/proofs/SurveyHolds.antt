@@ -1,9 +1,9 @@
 -- A survey fills a workspace.
-use Rattle.std.proofs.Common.{◌≡◌, ℕ, Bool, true, List, [], Result, Ok, Err, Option, Some, None, refl, sym, ap, ◌∙◌, subst}
+use Rattle.std.proofs.Common.{◌≡◌, ◌*◌, ◌≤◌, ℕ, Bool, true, List, [], Result, Ok, Err, Option, Some, None, refl, sym, ap, ◌∙◌, subst}
+use Rattle.std.specs.Prelude.{OnOk, IfOk, IfErr, IfNone, if◌then◌else◌, slice_index, length}
 use Rattle.ffs_image.specs.Device.{Device, Faulted}
 use Rattle.ffs_image.specs.Reads.{ReadAfter}
 use Rattle.ffs_image.specs.declared.image.ImageFault.{ImageFault}
-use Rattle.std.specs.Prelude.{OnOk, IfErr, IfOk, IfNone, if◌then◌else◌, slice_index, length}
 use Rattle.ffs_volume.specs.declared.Layout.{Layout}
 use Rattle.ffs_volume.specs.Directories.Roles.{is_dir, roled_entries}
 use Rattle.ffs_volume.specs.Directories.Parents.{graph_of}
@@ -28,19 +28,28 @@ pub on_ok : {T E : Type 0} (r : Result T E) (P Q : Type 0) → (P → Q) → OnO
 on_ok (Ok x) P Q f h = f h
 on_ok (Err e) P Q f h = h
 
--- what is left of an image, for each of the two answers
-pub read_ok : {T : Type 0} (r : Result T ImageFault) (old new : Device) → ReadAfter old new r → OnOk r (new ≡ old)
-read_ok (Ok x) old new h = h
-read_ok (Err e) old new h = tt
+pub if_ok : {T E : Type 0} (r : Result T E) (P Q : T → Type 0) → IfOk r P → ((x : T) → P x → Q x) → IfOk r Q
+if_ok (Ok x) P Q h f = f x h
+if_ok (Err e) P Q h f = h
 
-pub read_err : {T : Type 0} (r : Result T ImageFault) (old new : Device) → ReadAfter old new r → IfErr r (λ fault. Faulted old new fault.sector)
-read_err (Ok x) old new h = tt
-read_err (Err e) old new h = h
+pub ok_on : {T E : Type 0} (r : Result T E) (P : T → Type 0) (Q : Type 0) → IfOk r P → ((x : T) → P x → Q) → OnOk r Q
+ok_on (Ok x) P Q h f = f x h
+ok_on (Err e) P Q h f = h
 
-pub if_ended : {T E : Type 0} (r : Result (Option T) E) (P Q : Type 0) → (P → Q) → IfOk r (λ o. IfNone o P) → IfOk r (λ o. IfNone o Q)
-if_ended (Ok None) P Q f h = f h
-if_ended (Ok (Some x)) P Q f h = h
-if_ended (Err e) P Q f h = h
+pub none_ended : {T A : Type 0} {K : A → Type 0} (o : Option T) (P : A → Type 0) → ((b : A) → K b → IfNone o (P b))
+    → IfNone o ((b : A) → K b → P b)
+none_ended None P f = f
+none_ended (Some x) P f = tt
+
+-- what a call leaves of an image, by both outcomes
+pub read_after : {T : Type 0} (r : Result T ImageFault) (d d' : Device) → OnOk r (d' ≡ d)
+    → IfErr r (λ fault. Faulted d d' fault.sector) → ReadAfter d d' r
+read_after (Ok x) d d' ok err = ok
+read_after (Err fault) d d' ok err = err
+
+pub volume_in : (v v' : Layout) (d d' : Device) → v' ≡ v → d ≡ d' → v'.size * v'.fsize ≤ d'.size
+    → v.size * v.fsize ≤ d.size
+volume_in v v' d d' e t h = rw (t, ← e) h
 
 pub blocks_in : (v v' : Layout) (contents contents' : Option (List ℕ)) (blocks : Blocks) → v' ≡ v → contents ≡ contents' → BlocksHold v' contents' blocks → BlocksHold v contents blocks
 blocks_in v v' contents contents' blocks e t h = rw (t, ← e) h

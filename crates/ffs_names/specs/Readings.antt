@@ -1,9 +1,12 @@
 -- What a reading of a directory has still to give.
-use Rattle.std.specs.Prelude.{◌≡◌, ℕ, Bool, List, ◌++◌, take}
+use Rattle.std.specs.Prelude.{◌≡◌, ◌<◌, ◌≤◌, ◌^◌, ℕ, ◌+◌, Bool, false, ◌||◌, List, [], ◌∷◌, ◌++◌, take, Option, MatchOption}
+use Rattle.ffs_volume.specs.declared.Layout.{Layout}
+use Rattle.ffs_volume.specs.declared.Inode.{Inode}
 use Rattle.ffs_volume.specs.declared.Step.{Step}
 use Rattle.ffs_volume.specs.Disk.Areas.{is_in_range}
-use Rattle.ffs_volume.specs.Directories.Entries.{Chunk, chunks_of, has_gap}
-use Rattle.ffs_volume.specs.Encodings.Replay.{replayed_steps}
+use Rattle.ffs_volume.specs.Blocks.Steps.{steps_of}
+use Rattle.ffs_volume.specs.Directories.Entries.{Chunk, chunk_of, chunks_of, has_gap, size_taken}
+use Rattle.ffs_volume.specs.Encodings.Replay.{fresh_replay, replayed_steps}
 use Rattle.ffs_volume.specs.Encodings.ReplayCounts.{replayed_runs}
 use Rattle.ffs_walk.specs.Rests.{rest as steps_left}
 use Rattle.ffs_names.specs.Keepings.{replay_in}
@@ -43,3 +46,37 @@ pub record IsSame (old new : Chunks) : Type 0 where
   pub cut : new.keeping.cut ≡ old.keeping.cut
   pub taken : new.taken ≡ old.taken
   pub budget : new.budget ≡ old.budget
+
+-- a reading of an image of these bytes with these steps to come continues as one that has these
+pub record Continues (b : List ℕ) (old : Chunks) (before : List Step) (new : Chunks) (after : List Step) : Type 0 where
+  pub chunks : hand_chunks new.walk.geometry.layout b new.run_cursor ++ chunks_after b new after
+      ≡ hand_chunks old.walk.geometry.layout b old.run_cursor ++ chunks_after b old before
+  pub runs : new.runs + runs_after new after ≤ old.runs + runs_after old before
+  pub gap : (new.gap || gap_after new after) ≡ (old.gap || gap_after old before)
+
+-- it continues by its own walk
+abbrev pub ContinuesTo : List ℕ → Chunks → Chunks → Type 0
+ContinuesTo b old new = Continues b old (steps_left b old.walk) new (steps_left b new.walk)
+
+-- a chunk was read of those to come in an image of these bytes; the answer is its place in the file, and None where
+-- there is none
+pub record GivesChunk (b : List ℕ) (to_come : Chunks → List Chunk) (old new : Chunks)
+    (chunk : List ℕ) (answer : Option ℕ) : Type 0 where
+  pub chunks : MatchOption answer ((to_come old ≡ []) × (to_come new ≡ []))
+      (λ offset. to_come old ≡ chunk_of old.walk.geometry.layout.order offset chunk ∷ to_come new)
+  pub runs : new.runs + runs_left b new ≤ old.runs + runs_left b old
+  pub gap : (new.gap || gap_left b new) ≡ (old.gap || gap_left b old)
+
+-- the chunks of a directory with this inode and this cut
+abbrev pub chunks_in : Layout → List ℕ → Inode → ℕ → List Chunk
+chunks_in v b inode cut =
+    chunks_of (reading_by v b (size_taken inode.size)) (is_in_range v)
+    (replayed_steps v cut fresh_replay (steps_of v inode b))
+
+-- a reading of that directory begins
+pub record BeginsAt (v : Layout) (inode : Inode) (cut : ℕ) (c : Chunks) : Type 0 where
+  pub chunks : (b : List ℕ) → inode.size < 2 ^ 31 → rest b c ≡ chunks_in v b inode cut
+  pub runs : c.runs ≡ 0
+  pub runs_left : (b : List ℕ) → runs_left b c ≡ replayed_runs v cut fresh_replay (steps_of v inode b)
+  pub gap : c.gap ≡ false
+  pub gap_left : (b : List ℕ) → gap_left b c ≡ has_gap (replayed_steps v cut fresh_replay (steps_of v inode b))

@@ -1,9 +1,18 @@
 -- What a reading of a directory shows of its shape.
-use Rattle.std.specs.Prelude.{◌≡◌, ℕ, ◌+◌, ◌==◌, Bool, true, not, ◌&&◌, ◌||◌, List, [], sum_by}
-use Rattle.ffs_volume.specs.declared.constants.TheConstants.{DIRBLKSIZ}
-use Rattle.ffs_volume.specs.Directories.Entries.{entries_from}
+use Rattle.std.specs.Prelude.{◌≡◌, ◌<◌, ◌^◌, ℕ, ◌+◌, ◌==◌, Bool, true, not, ◌&&◌, ◌||◌, List, [], ◌∷◌, sum_by, Option, MatchOption, IfNone}
+use Rattle.std.specs.List.{flat_map}
+use Rattle.ffs_volume.specs.declared.Layout.{Layout}
+use Rattle.ffs_volume.specs.declared.Inode.{Inode}
+use Rattle.ffs_volume.specs.Blocks.Steps.{steps_of}
+use Rattle.ffs_volume.specs.Directories.Entries.{DIRBLKSIZ, entries_from, has_gap}
+use Rattle.ffs_volume.specs.Directories.Roles.{roled_chunk}
 use Rattle.ffs_volume.specs.Directories.PathnameCheck.{are_sound}
-use Rattle.ffs_names.specs.Readings.{rest, gap_left}
+use Rattle.ffs_volume.specs.Encodings.Replay.{fresh_replay, replayed_steps}
+use Rattle.ffs_survey.specs.declared.named.Named.{Named}
+use Rattle.ffs_survey.specs.Reading.{roled_of}
+use Rattle.ffs_names.specs.RightShapes.{is_right_size}
+use Rattle.ffs_names.specs.Readings.{rest, gap_left, chunks_in}
+use Rattle.ffs_names.specs.Entering.{to_come, last_name}
 use Rattle.ffs_names.specs.declared.entries.Entries.{Entries}
 
 -- the entries of the current chunk fill it
@@ -18,3 +27,23 @@ has_right_shape b r = (r.sound && fills r) && (are_sound (rest b r.chunks) && no
 pub record HasEnded (b : List ℕ) (r : Entries) : Type 0 where
   pub chunks : rest b r.chunks ≡ []
   pub current : fills r ≡ true
+
+-- a reading of the directory with this inode and this cut begins
+pub record BeginsDirectory (v : Layout) (inode : Inode) (cut : ℕ) (r : Entries) : Type 0 where
+  pub entries : (b : List ℕ) → inode.size < 2 ^ 31 → to_come b r ≡ flat_map roled_chunk (chunks_in v b inode cut)
+  pub shape : (b : List ℕ) → inode.size < 2 ^ 31 → has_right_shape b r
+      ≡ (is_right_size inode.size && (are_sound (chunks_in v b inode cut)
+      && not (has_gap (replayed_steps v cut fresh_replay (steps_of v inode b)))))
+
+-- the first of the entries to come in an image of these bytes was read; the answer is None where there is none
+pub record GivesEntry (b : List ℕ) (old new : Entries) (answer : Option Named) : Type 0 where
+  pub entries : MatchOption answer (to_come b old ≡ [])
+      (λ named. to_come b old ≡ roled_of named (last_name new) ∷ to_come b new)
+  pub shape : has_right_shape b new ≡ has_right_shape b old
+  pub ended : IfNone answer (HasEnded b new)
+
+-- what taking an entry of the current chunk leaves as it was
+pub record IsSameChunk (old new : Entries) : Type 0 where
+  pub chunks : new.chunks ≡ old.chunks
+  pub sound : new.sound ≡ old.sound
+  pub fills : fills new ≡ fills old

@@ -1,18 +1,16 @@
 //! The chunks of a directory.
 
-ghost use Rattle.std.specs.Prelude.{◌≡◌, ◌+◌, ◌*◌, ◌<◌, ◌≤◌, ◌^◌, ◌++◌, ◌∷◌, ◌↔◌, ◌||◌, ℕ, List, [], true, false, IsTrue, Option, Ok, None, Some, vec_len, length, IfOk, OnOk, IfErr, OnErr, IfNone, IfSome, MatchOption};
-ghost use Rattle.ffs_image.specs.Device.{Faulted, ForContents};
-ghost use Rattle.ffs_volume.specs.Disk.Areas.{is_in_range};
-ghost use Rattle.ffs_volume.specs.Disk.Numbers.{piece};
-ghost use Rattle.ffs_volume.specs.Blocks.Steps.{steps_of};
-ghost use Rattle.ffs_volume.specs.Directories.Entries.{chunk_of, chunks_of, has_gap, run_chunks, size_taken};
+ghost use Rattle.std.specs.Prelude.{◌≡◌, ◌+◌, ◌≤◌, ◌<◌, ◌^◌, ◌∷◌, ℕ, List, [], true, Ok, None, OnOk, IfOk, OnErr, MatchBool, MatchOption, MatchResult};
+ghost use Rattle.ffs_image.specs.Device.{ForContents};
+ghost use Rattle.ffs_image.specs.Reads.{ReadAfter};
+ghost use Rattle.ffs_volume.specs.Blocks.Lengths.{HasLength};
+ghost use Rattle.ffs_volume.specs.Directories.Entries.{size_taken};
 ghost use Rattle.ffs_volume.specs.declared.Step.{Step as StepIn};
 ghost use Rattle.ffs_volume.specs.declared.Step.TheVariants.{Run};
-ghost use Rattle.ffs_volume.specs.Encodings.Replay.{is_replay_open as is_seen_in, fresh_replay, replayed_steps};
-ghost use Rattle.ffs_volume.specs.Encodings.ReplayCounts.{replayed_runs};
+ghost use Rattle.ffs_volume.specs.Encodings.Replay.{is_replay_open as is_seen_in};
 ghost use Rattle.ffs_names.specs.Fits.{HandFits};
 ghost use Rattle.ffs_names.specs.SeenRuns.{RunsAreSeen};
-ghost use Rattle.ffs_walk.specs.Windows.{BlocksHold, HasRoom, WindowHolds};
+ghost use Rattle.ffs_names.specs.Windows.{CanWalk, CanReadChunks};
 
 use crate::keeping::Keeping;
 use crate::run_cursor::RunCursor;
@@ -37,65 +35,51 @@ pub struct Chunks {
     /// Whether a hole was seen.
     pub gap: bool,
     ghost taken_small: { taken ≤ 2 ^ 31 },
+    ghost few: { budget ≤ 2 ^ 22 },
     ghost hand_fits: { HandFits walk.geometry.layout run_cursor },
 }
 
 impl Chunks {
     ghost use Rattle.ffs_names.specs.Keepings.{replay_in};
-    ghost use Rattle.ffs_names.specs.RunCursors.{hand_chunks, last_place, reading_by};
-    ghost use Rattle.ffs_names.specs.Readings.{all_chunks, chunks_after, rest, runs_left, runs_after, gap_left, gap_after, IsSame};
+    ghost use Rattle.ffs_names.specs.Readings.{all_chunks, rest, runs_left, IsSame, Continues, ContinuesTo, GivesChunk, BeginsAt};
 
-    /// A Run is seen.
+    /// A Run is seen. Only one of data that is kept whole, and is in range, has chunks.
     fn see(&mut self, start: u32, len: u32, block: Option<u64>)
-        requires some { 0 < len }
-        requires short { len ≤ self.old.walk.geometry.layout.frag }
+        requires length { HasLength self.old.walk.geometry.layout.frag (Run start len block) }
         requires seen { is_seen_in self.old.keeping.cut (replay_in self.old.keeping) ≡ true }
         requires empty { self.old.run_cursor.next ≡ self.old.run_cursor.count }
-        ensures chunks { (b : List ℕ) (steps : List StepIn)
-            → hand_chunks self.new.walk.geometry.layout b self.new.run_cursor
-            ++ chunks_after b self.new steps
-            ≡ chunks_after b self.old (Run start len block ∷ steps) }
-        ensures runs { (steps : List StepIn) → self.new.runs + runs_after self.new steps
-            ≤ self.old.runs + runs_after self.old (Run start len block ∷ steps) }
-        ensures gap { (steps : List StepIn) → (self.new.gap || gap_after self.new steps)
-            ≡ (self.old.gap || gap_after self.old (Run start len block ∷ steps)) }
+        ensures continues { (b : List ℕ) (steps : List StepIn)
+            → Continues b self.old (Run start len block ∷ steps) self.new steps }
         ensures same { IsSame self.old self.new }
         ensures walk { self.new.walk ≡ self.old.walk }
     {
         let geometry = self.walk.geometry;
+        let in_range = geometry.in_range(start, len);
         self.runs = self.runs.saturating_add(1);
-        if self.keeping.take(&geometry, start, len) {
-            self.run_cursor = RunCursor::of_step(&geometry, self.taken, start, len, block);
+        if !self.keeping.take(len, in_range) {
+            return;
+        }
+        if !in_range {
+            return;
+        }
+        if let Some(block) = block {
+            self.run_cursor = RunCursor::of_run(&geometry, self.taken, start, len, block);
         }
     }
 
     /// Moves on to a Run with a chunk, if the current Run has none left. The answer says whether there is one.
     fn advance<I: Image>(&mut self, image: &mut I, blocks: &mut Blocks) -> Result<bool, ImageFault>
-        requires volume { self.old.walk.geometry.layout.size * self.old.walk.geometry.layout.fsize
-            ≤ (I.device image.old).size }
-        requires room { HasRoom self.old.walk.geometry.layout blocks.old }
-        requires holds { BlocksHold self.old.walk.geometry.layout (I.device image.old).contents
-            blocks.old }
-        ensures chunks { OnOk result (ForContents (I.device image.old).contents
-            (λ b. all_chunks b self.new ≡ all_chunks b self.old)) }
-        ensures some { IfOk result (λ found. found ≡ true → self.new.run_cursor.next
-            < self.new.run_cursor.count) }
-        ensures none { IfOk result (λ found. found ≡ false
-            → ForContents (I.device image.old).contents (λ b. all_chunks b self.new ≡ [])) }
-        ensures runs { OnOk result (ForContents (I.device image.old).contents
+        requires { CanWalk self.old.walk.geometry.layout (I.device image.old) blocks.old }
+        ensures continues { OnOk result (ForContents (I.device image.old).contents
+            (λ b. ContinuesTo b self.old self.new)) }
+        ensures found { IfOk result (λ found. MatchBool found
+            (self.new.run_cursor.next < self.new.run_cursor.count)
+            (ForContents (I.device image.old).contents (λ b. all_chunks b self.new ≡ []))) }
+        ensures runs { OnErr result (ForContents (I.device image.old).contents
             (λ b. self.new.runs + runs_left b self.new ≤ self.old.runs + runs_left b self.old)) }
-        ensures gap { OnOk result (ForContents (I.device image.old).contents
-            (λ b. (self.new.gap || gap_left b self.new) ≡ (self.old.gap || gap_left b self.old))) }
-        ensures runs_seen { OnErr result
-            (ForContents (I.device image.old).contents
-            (λ b. self.new.runs ≤ self.old.runs + runs_left b self.old)) }
         ensures same { IsSame self.old self.new }
-        ensures size { vec_len blocks.new.buffer ≡ vec_len blocks.old.buffer }
-        ensures holds { BlocksHold self.old.walk.geometry.layout (I.device image.new).contents
-            blocks.new }
-        ensures ok { OnOk result (I.device image.new ≡ I.device image.old) }
-        ensures err { IfErr result (λ fault. Faulted (I.device image.old) (I.device image.new)
-            fault.sector) }
+        ensures ready { CanWalk self.old.walk.geometry.layout (I.device image.new) blocks.new }
+        ensures read { ReadAfter (I.device image.old) (I.device image.new) result }
     {
         'steps: while self.run_cursor.next == self.run_cursor.count {
             if !self.keeping.is_replay_open() {
@@ -119,40 +103,16 @@ impl Chunks {
         data: &mut Window,
         chunk: &mut [u8; DIRBLKSIZ],
     ) -> Result<Option<u64>, ImageFault>
-        requires volume { self.old.walk.geometry.layout.size * self.old.walk.geometry.layout.fsize
-            ≤ (I.device image.old).size }
-        requires room { HasRoom self.old.walk.geometry.layout blocks.old }
-        requires holds { BlocksHold self.old.walk.geometry.layout (I.device image.old).contents
-            blocks.old }
-        requires data_room { self.old.walk.geometry.layout.bsize ≤ vec_len «data».old.buffer }
-        requires data_holds { WindowHolds (I.device image.old).contents «data».old }
-        ensures chunks { IfOk result (λ o. ForContents (I.device image.old).contents
-            (λ b. MatchOption o (all_chunks b self.old ≡ [])
-            (λ offset. all_chunks b self.old
-            ≡ chunk_of self.old.walk.geometry.layout.order offset chunk.new
-            ∷ all_chunks b self.new))) }
-        ensures place { IfOk result (λ o. IfSome o (λ _. ForContents (I.device image.old).contents
-            (λ b. chunk.new ≡ piece (last_place self.new.run_cursor) 512 b))) }
-        ensures inside { IfOk result (λ o. IfSome o (λ _. last_place self.new.run_cursor + 512
-            ≤ self.old.walk.geometry.layout.size * self.old.walk.geometry.layout.fsize)) }
-        ensures none { IfOk result (λ o. IfNone o
-            (ForContents (I.device image.old).contents (λ b. all_chunks b self.new ≡ []))) }
-        ensures runs { OnOk result (ForContents (I.device image.old).contents
+        requires { CanReadChunks self.old.walk.geometry.layout (I.device image.old) blocks.old
+            «data».old }
+        ensures chunk { IfOk result (λ offset. ForContents (I.device image.old).contents
+            (λ b. GivesChunk b (all_chunks b) self.old self.new chunk.new offset)) }
+        ensures runs { OnErr result (ForContents (I.device image.old).contents
             (λ b. self.new.runs + runs_left b self.new ≤ self.old.runs + runs_left b self.old)) }
-        ensures gap { OnOk result (ForContents (I.device image.old).contents
-            (λ b. (self.new.gap || gap_left b self.new) ≡ (self.old.gap || gap_left b self.old))) }
-        ensures runs_seen { OnErr result
-            (ForContents (I.device image.old).contents
-            (λ b. self.new.runs ≤ self.old.runs + runs_left b self.old)) }
         ensures same { IsSame self.old self.new }
-        ensures size { vec_len blocks.new.buffer ≡ vec_len blocks.old.buffer }
-        ensures holds { BlocksHold self.old.walk.geometry.layout (I.device image.new).contents
-            blocks.new }
-        ensures data_size { vec_len «data».new.buffer ≡ vec_len «data».old.buffer }
-        ensures data_holds { WindowHolds (I.device image.new).contents «data».new }
-        ensures ok { OnOk result (I.device image.new ≡ I.device image.old) }
-        ensures err { IfErr result (λ fault. Faulted (I.device image.old) (I.device image.new)
-            fault.sector) }
+        ensures ready { CanReadChunks self.old.walk.geometry.layout (I.device image.new) blocks.new
+            «data».new }
+        ensures read { ReadAfter (I.device image.old) (I.device image.new) result }
     {
         if !self.advance(image, blocks)? {
             return Ok(None);
@@ -167,20 +127,7 @@ impl Chunks {
 
     /// A reading of the directory with this inode, of which no offer is kept after the cut (0 for none).
     pub fn start(geometry: &Geometry, inode: &Inode, cut: u32) -> Chunks
-        ensures chunks { (b : List ℕ) → inode.now.size < 2 ^ 31 → rest b result
-            ≡ chunks_of (reading_by geometry.now.layout b (size_taken inode.now.size))
-            (is_in_range geometry.now.layout)
-            (replayed_steps geometry.now.layout cut fresh_replay
-            (steps_of geometry.now.layout inode.now b)) }
-        ensures runs { result.runs ≡ 0 }
-        ensures runs_left { (b : List ℕ) → runs_left b result
-            ≡ replayed_runs geometry.now.layout cut fresh_replay
-            (steps_of geometry.now.layout inode.now b) }
-        ensures gap { result.gap ≡ false }
-        ensures gap_left { (b : List ℕ) → gap_left b result
-            ≡ has_gap (replayed_steps geometry.now.layout cut fresh_replay
-            (steps_of geometry.now.layout inode.now b)) }
-        ensures budget { result.budget ≤ 2 ^ 22 }
+        ensures begins { BeginsAt geometry.now.layout inode.now cut result }
         ensures geometry { result.walk.geometry ≡ geometry.now }
     {
         let taken = taken_of(inode.size);
@@ -207,45 +154,21 @@ impl Chunks {
         data: &mut Window,
         chunk: &mut [u8; DIRBLKSIZ],
     ) -> Result<Option<u64>, ImageFault>
-        requires volume { self.old.walk.geometry.layout.size * self.old.walk.geometry.layout.fsize
-            ≤ (I.device image.old).size }
-        requires room { HasRoom self.old.walk.geometry.layout blocks.old }
-        requires holds { BlocksHold self.old.walk.geometry.layout (I.device image.old).contents
-            blocks.old }
-        requires data_room { self.old.walk.geometry.layout.bsize ≤ vec_len «data».old.buffer }
-        requires data_holds { WindowHolds (I.device image.old).contents «data».old }
-        ensures chunks { IfOk result (λ o. ForContents (I.device image.old).contents
-            (λ b. MatchOption o (rest b self.old ≡ [])
-            (λ offset. rest b self.old ≡ chunk_of self.old.walk.geometry.layout.order offset
-            chunk.new ∷ rest b self.new))) }
-
-        // The chunk is there in the image.
-        ensures place { IfOk result (λ o. IfSome o (λ _. ForContents (I.device image.old).contents
-            (λ b. chunk.new ≡ piece (last_place self.new.run_cursor) 512 b))) }
-        ensures inside { IfOk result (λ o. IfSome o (λ _. last_place self.new.run_cursor + 512
-            ≤ self.old.walk.geometry.layout.size * self.old.walk.geometry.layout.fsize)) }
-        ensures none { IfOk result (λ o. IfNone o
-            (ForContents (I.device image.old).contents (λ b. rest b self.new ≡ []))) }
-        ensures falls { IfOk result (λ o. IfSome o (λ _. self.new.budget + 1 ≡ self.old.budget)) }
-        ensures few { self.new.budget ≤ self.old.budget }
-        ensures over { self.old.budget ≡ 0 → result ≡ Ok None }
-        ensures fault { OnErr result (self.new.budget ≡ 0) }
-        ensures runs { OnOk result (ForContents (I.device image.old).contents
+        requires { CanReadChunks self.old.walk.geometry.layout (I.device image.old) blocks.old
+            «data».old }
+        ensures chunk { IfOk result (λ offset. ForContents (I.device image.old).contents
+            (λ b. GivesChunk b (rest b) self.old self.new chunk.new offset)) }
+        ensures runs { OnErr result (ForContents (I.device image.old).contents
             (λ b. self.new.runs + runs_left b self.new ≤ self.old.runs + runs_left b self.old)) }
-        ensures gap { OnOk result (ForContents (I.device image.old).contents
-            (λ b. (self.new.gap || gap_left b self.new) ≡ (self.old.gap || gap_left b self.old))) }
-        ensures runs_seen { OnErr result
-            (ForContents (I.device image.old).contents
-            (λ b. self.new.runs ≤ self.old.runs + runs_left b self.old)) }
+        ensures budget { MatchResult result
+            (λ o. MatchOption o (self.new.budget ≡ self.old.budget)
+            (λ _. self.new.budget + 1 ≡ self.old.budget))
+            (λ _. self.new.budget ≡ 0) }
+        ensures over { self.old.budget ≡ 0 → result ≡ Ok None }
         ensures geometry { self.new.walk.geometry ≡ self.old.walk.geometry }
-        ensures size { vec_len blocks.new.buffer ≡ vec_len blocks.old.buffer }
-        ensures holds { BlocksHold self.old.walk.geometry.layout (I.device image.new).contents
-            blocks.new }
-        ensures data_size { vec_len «data».new.buffer ≡ vec_len «data».old.buffer }
-        ensures data_holds { WindowHolds (I.device image.new).contents «data».new }
-        ensures ok { OnOk result (I.device image.new ≡ I.device image.old) }
-        ensures err { IfErr result (λ fault. Faulted (I.device image.old) (I.device image.new)
-            fault.sector) }
+        ensures ready { CanReadChunks self.old.walk.geometry.layout (I.device image.new) blocks.new
+            «data».new }
+        ensures read { ReadAfter (I.device image.old) (I.device image.new) result }
     {
         if self.budget == 0 {
             return Ok(None);

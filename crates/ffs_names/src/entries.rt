@@ -1,18 +1,11 @@
 //! The entries of a directory.
 
-ghost use Rattle.std.specs.Prelude.{◌≡◌, ◌+◌, ◌*◌, ◌<◌, ◌≤◌, ◌^◌, ◌∷◌, ◌++◌, ℕ, List, [], true, false, not, ◌&&◌, ◌||◌, vec_len, length, IfOk, OnOk, IfErr, IfNone, IfSome, is_some, MatchOption};
-ghost use Rattle.std.specs.List.{flat_map};
-ghost use Rattle.ffs_image.specs.Device.{Faulted, ForContents};
-ghost use Rattle.ffs_volume.specs.Disk.Areas.{is_in_range};
-ghost use Rattle.ffs_volume.specs.Blocks.Steps.{steps_of};
-ghost use Rattle.ffs_volume.specs.Directories.Entries.{Chunk, chunks_of, has_gap, entry_at as entry_in, size_taken};
-ghost use Rattle.ffs_volume.specs.Directories.Roles.{roled_chunk};
-ghost use Rattle.ffs_volume.specs.Encodings.Replay.{fresh_replay, replayed_steps};
-ghost use Rattle.ffs_walk.specs.Windows.{BlocksHold, HasRoom, WindowHolds};
-ghost use Rattle.ffs_names.specs.RunCursors.{reading_by};
-ghost use Rattle.ffs_names.specs.Readings.{rest};
-ghost use Rattle.ffs_volume.specs.Directories.PathnameCheck.{are_sound};
+ghost use Rattle.std.specs.Prelude.{◌≡◌, ◌+◌, ◌-◌, ◌*◌, ◌/◌, ◌<◌, ◌≤◌, ◌^◌, ◌∷◌, ℕ, List, [], false, IfOk, IfSome, is_some, MatchOption};
+ghost use Rattle.ffs_image.specs.Device.{ForContents};
+ghost use Rattle.ffs_image.specs.Reads.{ReadAfter};
+ghost use Rattle.ffs_volume.specs.Directories.Entries.{entry_at as entry_in};
 ghost use Rattle.ffs_names.specs.RightShapes.{is_right_size};
+ghost use Rattle.ffs_names.specs.Windows.{CanWalk, CanReadChunks};
 
 use crate::chunks::Chunks;
 use crate::gap::gap_of;
@@ -43,6 +36,7 @@ pub struct Entries {
     pub name_len: usize,
     ghost in_chunk: { place ≤ 512 },
     ghost counted: { index ≤ place },
+    ghost few: { 64 * chunks.budget + (512 - place) / 8 ≤ 2 ^ 28 },
     ghost name_in_chunk: { name_place + name_len ≤ 512 },
     ghost same_order: { order ≡ chunks.walk.geometry.layout.order },
 }
@@ -56,19 +50,12 @@ fn has_right_size(inode: &Inode) -> bool
 
 impl Entries {
     ghost use Rattle.ffs_survey.specs.Reading.{roled_of};
-    ghost use Rattle.ffs_names.specs.Shapes.{fills, has_right_shape, HasEnded};
-    ghost use Rattle.ffs_names.specs.Entering.{to_come, left, last_name, IsHeld, IsInside, MayTake, name_place};
+    ghost use Rattle.ffs_names.specs.Shapes.{has_right_shape, HasEnded, BeginsDirectory, GivesEntry, IsSameChunk};
+    ghost use Rattle.ffs_names.specs.Entering.{to_come, left, last_name};
 
     /// A reading of the directory with this inode, of which no offer is kept after the cut (0 for none).
     pub fn start(geometry: &Geometry, inode: &Inode, cut: u32) -> Entries
-        ensures entries { (b : List ℕ) → inode.now.size < 2 ^ 31 → to_come b result
-            ≡ flat_map roled_chunk (chunks_of
-            (reading_by geometry.now.layout b (size_taken inode.now.size))
-            (is_in_range geometry.now.layout)
-            (replayed_steps geometry.now.layout cut fresh_replay
-            (steps_of geometry.now.layout inode.now b))) }
-        ensures left { left result ≤ 2 ^ 28 }
-        ensures place { result.place ≡ 512 }
+        ensures begins { BeginsDirectory geometry.now.layout inode.now cut result }
         ensures geometry { result.chunks.walk.geometry ≡ geometry.now }
     {
         let chunks = Chunks::start(geometry, inode, cut);
@@ -88,7 +75,6 @@ impl Entries {
     /// A reading of no entries.
     pub fn none(geometry: &Geometry) -> Entries
         ensures entries { (b : List ℕ) → to_come b result ≡ [] }
-        ensures left { left result ≤ 2 ^ 28 }
         ensures geometry { result.chunks.walk.geometry ≡ geometry.now }
     {
         let inode = Inode {
@@ -107,27 +93,14 @@ impl Entries {
 
     /// Begins a reading of another directory of the same volume, as `start` does, in place.
     pub fn restart(&mut self, inode: &Inode, cut: u32)
-        ensures entries { (b : List ℕ) → inode.now.size < 2 ^ 31 → to_come b self.new
-            ≡ flat_map roled_chunk (chunks_of
-            (reading_by self.old.chunks.walk.geometry.layout b (size_taken inode.now.size))
-            (is_in_range self.old.chunks.walk.geometry.layout)
-            (replayed_steps self.old.chunks.walk.geometry.layout cut fresh_replay
-            (steps_of self.old.chunks.walk.geometry.layout inode.now b))) }
-        ensures shape { (b : List ℕ) → inode.now.size < 2 ^ 31 → has_right_shape b self.new
-            ≡ (is_right_size inode.now.size && (are_sound (chunks_of
-            (reading_by self.old.chunks.walk.geometry.layout b (size_taken inode.now.size))
-            (is_in_range self.old.chunks.walk.geometry.layout)
-            (replayed_steps self.old.chunks.walk.geometry.layout cut fresh_replay
-            (steps_of self.old.chunks.walk.geometry.layout inode.now b)))
-            && not (has_gap (replayed_steps self.old.chunks.walk.geometry.layout cut fresh_replay
-            (steps_of self.old.chunks.walk.geometry.layout inode.now b))))) }
-        ensures left { left self.new ≤ 2 ^ 28 }
+        ensures begins { BeginsDirectory self.old.chunks.walk.geometry.layout inode.now cut
+            self.new }
         ensures geometry { self.new.chunks.walk.geometry ≡ self.old.chunks.walk.geometry }
     {
         let geometry = self.chunks.walk.geometry;
-        self.chunks = Chunks::start(&geometry, inode, cut);
-        self.place = DIRBLKSIZ;
+        self.place = 512;
         self.index = 0;
+        self.chunks = Chunks::start(&geometry, inode, cut);
         self.first = false;
         self.sound = has_right_size(inode);
     }
@@ -136,7 +109,6 @@ impl Entries {
     pub fn stop(&mut self)
         ensures entries { (b : List ℕ) → to_come b self.new ≡ [] }
         ensures shape { (b : List ℕ) → has_right_shape b self.new ≡ false }
-        ensures left { left self.new ≤ 2 ^ 28 }
         ensures geometry { self.new.chunks.walk.geometry ≡ self.old.chunks.walk.geometry }
     {
         self.place = DIRBLKSIZ;
@@ -150,14 +122,10 @@ impl Entries {
             ((b : List ℕ) → to_come b self.new ≡ to_come b self.old)
             (λ named. (b : List ℕ) → to_come b self.old ≡ roled_of named (last_name self.new)
             ∷ to_come b self.new) }
-        ensures none { IfNone result (is_some
-            (entry_in self.new.order self.new.chunk self.new.place) ≡ false) }
-        ensures left { IfSome result (λ _. left self.new < left self.old) }
-        ensures chunks { self.new.chunks ≡ self.old.chunks }
-        ensures chunk { self.new.chunk ≡ self.old.chunk }
-        ensures place { IfSome result (λ _. self.old.place < 512) }
-        ensures fills { fills self.new ≡ fills self.old }
-        ensures sound { self.new.sound ≡ self.old.sound }
+        ensures left { MatchOption result
+            (is_some (entry_in self.new.order self.new.chunk self.new.place) ≡ false)
+            (λ _. left self.new < left self.old) }
+        ensures same { IsSameChunk self.old self.new }
     {
         let Some(entry) = entry_at(self.order, &self.chunk, self.place) else {
             return None;
@@ -187,36 +155,15 @@ impl Entries {
         blocks: &mut Blocks,
         window: &mut Window,
     ) -> Result<Option<Named>, ImageFault>
-        requires volume { self.old.chunks.walk.geometry.layout.size *
-            self.old.chunks.walk.geometry.layout.fsize ≤ (I.device image.old).size }
-        requires room { HasRoom self.old.chunks.walk.geometry.layout blocks.old }
-        requires holds { BlocksHold self.old.chunks.walk.geometry.layout
-            (I.device image.old).contents blocks.old }
-        requires data_room { self.old.chunks.walk.geometry.layout.bsize
-            ≤ vec_len window.old.buffer }
-        requires data_holds { WindowHolds (I.device image.old).contents window.old }
-        ensures entries { IfOk result (λ o. ForContents (I.device image.old).contents
-            (λ b. MatchOption o (to_come b self.old ≡ [])
-            (λ named. to_come b self.old ≡ roled_of named (last_name self.new)
-            ∷ to_come b self.new))) }
-        ensures place { IfOk result (λ o. IfSome o (λ _. ForContents (I.device image.old).contents
-            (λ b. MayTake b self.old → IsHeld b self.new))) }
-        ensures inside { IfOk result (λ o. IfSome o (λ _.
-            (self.old.place < 512 → IsInside self.old) → IsInside self.new)) }
-        ensures left { IfOk result (λ o. IfSome o (λ _. left self.new < left self.old)) }
-        ensures shape { OnOk result (ForContents (I.device image.old).contents
-            (λ b. has_right_shape b self.new ≡ has_right_shape b self.old)) }
-        ensures ended { IfOk result (λ o. IfNone o (ForContents (I.device image.old).contents
-            (λ b. HasEnded b self.new))) }
+        requires { CanReadChunks self.old.chunks.walk.geometry.layout (I.device image.old)
+            blocks.old window.old }
+        ensures entry { IfOk result (λ named. ForContents (I.device image.old).contents
+            (λ b. GivesEntry b self.old self.new named)) }
+        ensures left { IfOk result (λ named. IfSome named (λ _. left self.new < left self.old)) }
         ensures geometry { self.new.chunks.walk.geometry ≡ self.old.chunks.walk.geometry }
-        ensures size { vec_len blocks.new.buffer ≡ vec_len blocks.old.buffer }
-        ensures holds { BlocksHold self.old.chunks.walk.geometry.layout
-            (I.device image.new).contents blocks.new }
-        ensures data_size { vec_len window.new.buffer ≡ vec_len window.old.buffer }
-        ensures data_holds { WindowHolds (I.device image.new).contents window.new }
-        ensures ok { OnOk result (I.device image.new ≡ I.device image.old) }
-        ensures err { IfErr result (λ fault. Faulted (I.device image.old) (I.device image.new)
-            fault.sector) }
+        ensures ready { CanReadChunks self.old.chunks.walk.geometry.layout (I.device image.new)
+            blocks.new window.new }
+        ensures read { ReadAfter (I.device image.old) (I.device image.new) result }
     {
         'chunks: loop {
             match self.take() {
@@ -246,20 +193,13 @@ impl Entries {
         image: &mut I,
         blocks: &mut Blocks,
     ) -> Result<bool, ImageFault>
-        requires volume { self.old.chunks.walk.geometry.layout.size *
-            self.old.chunks.walk.geometry.layout.fsize ≤ (I.device image.old).size }
-        requires room { HasRoom self.old.chunks.walk.geometry.layout blocks.old }
-        requires holds { BlocksHold self.old.chunks.walk.geometry.layout
-            (I.device image.old).contents blocks.old }
+        requires { CanWalk self.old.chunks.walk.geometry.layout (I.device image.old) blocks.old }
         ensures sound { IfOk result (λ right. ForContents (I.device image.old).contents
             (λ b. HasEnded b self.old → right ≡ has_right_shape b self.old)) }
         ensures geometry { self.new.chunks.walk.geometry ≡ self.old.chunks.walk.geometry }
-        ensures size { vec_len blocks.new.buffer ≡ vec_len blocks.old.buffer }
-        ensures holds { BlocksHold self.old.chunks.walk.geometry.layout
-            (I.device image.new).contents blocks.new }
-        ensures ok { OnOk result (I.device image.new ≡ I.device image.old) }
-        ensures err { IfErr result (λ fault. Faulted (I.device image.old) (I.device image.new)
-            fault.sector) }
+        ensures ready { CanWalk self.old.chunks.walk.geometry.layout (I.device image.new)
+            blocks.new }
+        ensures read { ReadAfter (I.device image.old) (I.device image.new) result }
     {
         if !self.sound {
             return Ok(false);

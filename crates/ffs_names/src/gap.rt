@@ -1,8 +1,9 @@
 //! Whether a hole of a directory is kept.
-ghost use Rattle.std.specs.Prelude.{◌≡◌, ◌*◌, ◌≤◌, ◌+◌, ◌||◌, vec_len, Option, IfOk, OnOk, IfErr, true, ℕ, List};
-ghost use Rattle.ffs_image.specs.Device.{Faulted, ForContents};
-ghost use Rattle.ffs_walk.specs.Windows.{BlocksHold, HasRoom};
-ghost use Rattle.ffs_names.specs.Readings.{gap_left};
+ghost use Rattle.std.specs.Prelude.{◌≡◌, ◌||◌, IfOk};
+ghost use Rattle.ffs_image.specs.Device.{ForContents};
+ghost use Rattle.ffs_image.specs.Reads.{ReadAfter};
+ghost use Rattle.ffs_names.specs.Windows.{CanWalk};
+ghost use Rattle.ffs_names.specs.Readings.{gap_left, IsSame};
 
 use crate::chunks::Chunks;
 use ffs_image::{Image, ImageFault};
@@ -16,20 +17,12 @@ pub fn gap_of<I: Image>(
     blocks: &mut Blocks,
     chunks: &mut Chunks,
 ) -> Result<bool, ImageFault>
-    requires volume { chunks.old.walk.geometry.layout.size * chunks.old.walk.geometry.layout.fsize
-        ≤ (I.device image.old).size }
-    requires room { HasRoom chunks.old.walk.geometry.layout blocks.old }
-    requires holds { BlocksHold chunks.old.walk.geometry.layout (I.device image.old).contents
-        blocks.old }
+    requires { CanWalk chunks.old.walk.geometry.layout (I.device image.old) blocks.old }
     ensures gap { IfOk result (λ g. ForContents (I.device image.old).contents (λ b.
         g ≡ (chunks.old.gap || gap_left b chunks.old))) }
-    ensures geometry { chunks.new.walk.geometry ≡ chunks.old.walk.geometry }
-    ensures size { vec_len blocks.new.buffer ≡ vec_len blocks.old.buffer }
-    ensures holds { BlocksHold chunks.old.walk.geometry.layout (I.device image.new).contents
-        blocks.new }
-    ensures ok { OnOk result (I.device image.new ≡ I.device image.old) }
-    ensures err { IfErr result (λ fault. Faulted (I.device image.old) (I.device image.new)
-        fault.sector) }
+    ensures same { IsSame chunks.old chunks.new }
+    ensures ready { CanWalk chunks.old.walk.geometry.layout (I.device image.new) blocks.new }
+    ensures read { ReadAfter (I.device image.old) (I.device image.new) result }
 {
     if chunks.gap {
         return Ok(true);
@@ -44,8 +37,8 @@ pub fn gap_of<I: Image>(
                     block: _block,
                 },
             ) => {
-                let geometry = chunks.walk.geometry;
-                let _kept = chunks.keeping.take(&geometry, start, len);
+                let in_range = chunks.walk.geometry.in_range(start, len);
+                let _kept = chunks.keeping.take(len, in_range);
             }
             Some(Step::Tail) => {}
             Some(Step::Gap) => return Ok(true),

@@ -1,8 +1,9 @@
 //! The survey of a volume's directories.
 
-ghost use Rattle.std.specs.Prelude.{◌≡◌, ◌*◌, ◌≤◌, ℕ, List, OnOk, IfErr};
-ghost use Rattle.ffs_image.specs.Device.{Faulted, ForContents};
-ghost use Rattle.ffs_workspace.specs.Lengths.{IsFor, HoldWindows};
+ghost use Rattle.std.specs.Prelude.{OnOk};
+ghost use Rattle.ffs_image.specs.Device.{ForContents};
+ghost use Rattle.ffs_image.specs.Reads.{ReadAfter};
+ghost use Rattle.ffs_workspace.specs.Ready.{IsReady};
 ghost use Rattle.ffs_workspace.specs.Holds.{HoldsClaims, HoldsSurvey};
 ghost use Rattle.ffs_names.specs.Surveys.{IsUntouched, FlagsCalm};
 
@@ -23,10 +24,7 @@ pub fn survey<I: Image>(
     image: &mut I,
     workspace: &mut Workspace,
 ) -> Result<(), ImageFault>
-    requires made { IsFor geometry.now.layout workspace.old }
-    requires volume { geometry.now.layout.size * geometry.now.layout.fsize
-        ≤ (I.device image.old).size }
-    requires windows { HoldWindows geometry.now.layout (I.device image.old).contents workspace.old }
+    requires { IsReady geometry.now.layout (I.device image.old) workspace.old }
     ensures survey { OnOk result (ForContents (I.device image.old).contents
         (λ b. HoldsClaims geometry.now.layout b workspace.old
         → HoldsSurvey geometry.now.layout b workspace.new)) }
@@ -34,11 +32,8 @@ pub fn survey<I: Image>(
         (λ b. HoldsClaims geometry.now.layout b workspace.old
         → FlagsCalm geometry.now.layout b workspace.new)) }
     ensures same { IsUntouched workspace.old workspace.new }
-    ensures made { IsFor geometry.now.layout workspace.new }
-    ensures windows { HoldWindows geometry.now.layout (I.device image.new).contents workspace.new }
-    ensures ok { OnOk result (I.device image.new ≡ I.device image.old) }
-    ensures err { IfErr result (λ fault. Faulted (I.device image.old) (I.device image.new)
-        fault.sector) }
+    ensures ready { IsReady geometry.now.layout (I.device image.new) workspace.new }
+    ensures read { ReadAfter (I.device image.old) (I.device image.new) result }
 {
     let mut tree = Tree {
         geometry: *geometry,

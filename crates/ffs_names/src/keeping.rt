@@ -1,12 +1,11 @@
 //! Which steps of an inode are kept, replayed.
 
 ghost use Rattle.std.specs.Prelude.{◌≡◌, ◌<◌, ◌≤◌, ℕ, true, Option};
+ghost use Rattle.ffs_volume.specs.declared.Layout.{Layout};
 ghost use Rattle.ffs_volume.specs.declared.Step.TheVariants.{Run};
+ghost use Rattle.ffs_volume.specs.Disk.Areas.{is_in_range as is_in_range_of};
 ghost use Rattle.ffs_volume.specs.Encodings.Replay.{is_replay_open as is_seen_in, is_replayed, fresh_replay};
 ghost use Rattle.ffs_volume.specs.Encodings.ReplayCounts.{counted_step};
-
-use ffs_layout::Geometry;
-use ffs_volume::constants::MAXBAD;
 
 /// What is known of an inode that is walked again: the number of offers that it keeps where its eleventh dup offer cut
 /// it, else 0, and its bad Runs and kept offers so far. Kept offers are counted only where there is a cut.
@@ -41,20 +40,21 @@ impl Keeping {
         self.bad <= MAXBAD && (self.cut == 0 || self.kept < self.cut)
     }
 
-    /// A Run is seen; the answer says whether it is kept.
-    pub fn take(&mut self, geometry: &Geometry, start: u32, len: u32) -> bool
+    /// A Run of `len` fragments is seen, in range or not; the answer says whether it is kept.
+    pub fn take(&mut self, len: u32, in_range: bool) -> bool
         requires some { 0 < len }
         requires seen { is_seen_in self.old.cut (replay_in self.old) ≡ true }
-        ensures kept { (block : Option ℕ) → result
-            ≡ is_replayed geometry.now.layout self.old.cut (replay_in self.old)
-            (Run start len block) }
-        ensures after { (block : Option ℕ) → replay_in self.new
-            ≡ counted_step geometry.now.layout self.old.cut (replay_in self.old)
-            (Run start len block) }
+        ensures kept { (layout : Layout) (start : ℕ) (block : Option ℕ)
+            → in_range ≡ is_in_range_of layout start len
+            → result ≡ is_replayed layout self.old.cut (replay_in self.old) (Run start len block) }
+        ensures after { (layout : Layout) (start : ℕ) (block : Option ℕ)
+            → in_range ≡ is_in_range_of layout start len
+            → replay_in self.new
+            ≡ counted_step layout self.old.cut (replay_in self.old) (Run start len block) }
         ensures cut { self.new.cut ≡ self.old.cut }
     {
-        if !geometry.in_range(start, len) {
-            let last = self.bad == MAXBAD;
+        if !in_range {
+            let last = self.bad == 10;
             self.bad += 1;
             if last {
                 return false;

@@ -2,8 +2,7 @@
 
 ghost use Rattle.std.specs.Prelude.{◌≡◌, ◌+◌, ◌*◌, ◌<◌, ◌≤◌, ◌^◌, ℕ, List, [], IsTrue};
 ghost use Rattle.ffs_volume.specs.Disk.Areas.{is_in_range};
-ghost use Rattle.ffs_volume.specs.Directories.Entries.{run_chunks, step_chunks};
-ghost use Rattle.ffs_volume.specs.declared.Step.TheVariants.{Run};
+ghost use Rattle.ffs_volume.specs.Directories.Entries.{run_chunks};
 
 use ffs_layout::Geometry;
 use ffs_volume::constants::DIRBLKSIZ;
@@ -69,33 +68,6 @@ impl RunCursor {
             offset,
             next: 0,
             count: count as u32,
-        }
-    }
-
-    /// The chunks of a Run that is kept. A Run of addresses has none, nor has one that is not in range.
-    pub fn of_step(
-        geometry: &Geometry,
-        taken: u64,
-        start: u32,
-        len: u32,
-        block: Option<u64>,
-    ) -> RunCursor
-        requires some { 0 < len }
-        requires short { len ≤ geometry.now.layout.frag }
-        requires taken { taken ≤ 2 ^ 31 }
-        ensures chunks { (b : List ℕ) → hand_chunks geometry.now.layout b result
-            ≡ step_chunks (reading_by geometry.now.layout b taken) (is_in_range geometry.now.layout)
-            (Run start len block) }
-        ensures fits { HandFits geometry.now.layout result }
-    {
-        match block {
-            None => RunCursor::empty(),
-            Some(block) => {
-                if !geometry.in_range(start, len) {
-                    return RunCursor::empty();
-                }
-                RunCursor::of_run(geometry, taken, start, len, block)
-            }
         }
     }
 }

@@ -1,31 +1,29 @@
 -- What is ready stays so where a chunk is read.
-use Rattle.std.proofs.Common.{◌≡◌, ◌*◌, ◌≤◌, refl, sym, ap, subst, ◌∙◌}
-use Rattle.std.specs.Prelude.{vec_len, Result}
+use Rattle.std.proofs.Common.{◌≡◌, refl, sym, ap, subst, ◌∙◌}
+use Rattle.std.specs.Prelude.{Result}
 use Rattle.ffs_image.specs.Device.{Device}
 use Rattle.ffs_image.specs.Reads.{ReadAfter}
 use Rattle.ffs_image.specs.declared.image.ImageFault.{ImageFault}
 use Rattle.ffs_volume.specs.declared.Layout.{Layout}
 use Rattle.ffs_walk.specs.declared.blocks.Blocks.{Blocks}
 use Rattle.ffs_walk.specs.declared.window.Window.{Window}
-use Rattle.ffs_walk.specs.Windows.{BlocksHold, WindowHolds}
+use Rattle.ffs_walk.specs.Windows.{WindowHolds}
 use Rattle.ffs_workspace.specs.declared.workspace.Workspace.{Workspace}
-use Rattle.ffs_workspace.specs.Lengths.{IsFor, HoldWindows}
 use Rattle.ffs_workspace.specs.Ready.{IsReady}
 use Rattle.ffs_workspace.proofs.Leaving.{windows_leave}
 use Rattle.ffs_paths.specs.declared.siblings.Siblings.{Siblings}
 use Rattle.ffs_paths.specs.Reads.{OnlyReads}
 use Rattle.ffs_paths.proofs.Keeping.{siblings_on}
-use Rattle.ffs_pathnames.specs.Windows.{CanWalk, CanReadChunks}
+use Rattle.ffs_names.specs.Windows.{CanReadChunks}
 use Rattle.ffs_pathnames.specs.Ready.{ReadyWith}
 
 -- a workspace with other blocks and another chunk in its windows
 abbrev pub with_chunk : Workspace → Blocks → Window → Workspace
 with_chunk w blocks chunk = record w { windows = record w.windows { blocks = blocks; chunk = chunk } }
 
-pub ready_read : (v : Layout) (d d' : Device) (w : Workspace) (blocks : Blocks) (chunk : Window) → IsReady v d w → d'.contents ≡ d.contents → d'.size ≡ d.size →
-    vec_len blocks.buffer ≡ vec_len w.windows.blocks.buffer → BlocksHold v d'.contents blocks →
-    vec_len chunk.buffer ≡ vec_len w.windows.chunk.buffer → WindowHolds d'.contents chunk → IsReady v d' (with_chunk w blocks chunk)
-ready_read v d d' w blocks chunk r same size room holds chunk_room chunk_holds = record {
+pub ready_read : (v : Layout) (d d' : Device) (w : Workspace) (blocks : Blocks) (chunk : Window) → IsReady v d w
+    → d'.contents ≡ d.contents → CanReadChunks v d' blocks chunk → IsReady v d' (with_chunk w blocks chunk)
+ready_read v d d' w blocks chunk r same can = record {
   made = record {
     claimed = r.made.claimed;
     duplicates = r.made.duplicates;
@@ -40,29 +38,33 @@ ready_read v d d' w blocks chunk r same size room holds chunk_room chunk_holds =
     parents = r.made.parents;
     queue = r.made.queue;
     table = r.made.table;
-    blocks = room ∙ r.made.blocks;
-    chunk = chunk_room ∙ r.made.chunk;
+    blocks = can.walk.room;
+    chunk = can.room;
   };
-  volume = subst (λ n. v.size * v.fsize ≤ n) (sym size) r.volume;
+  volume = can.walk.volume;
   windows = record {
     table = subst (λ t. WindowHolds t w.windows.table.window) (sym same) r.windows.table;
-    blocks = holds;
-    chunk = chunk_holds;
+    blocks = can.walk.holds;
+    chunk = can.holds;
   };
 }
 
 -- and so is what is kept of a directory and its children
-pub ready_next : (v : Layout) (d d' : Device) (w : Workspace) (s : Siblings) (blocks : Blocks) (chunk : Window) → ReadyWith v d w s → d' ≡ d →
-    vec_len blocks.buffer ≡ vec_len w.windows.blocks.buffer → BlocksHold v d'.contents blocks →
-    vec_len chunk.buffer ≡ vec_len w.windows.chunk.buffer → WindowHolds d'.contents chunk → ReadyWith v d' (with_chunk w blocks chunk) s
-ready_next v d d' w s blocks chunk r e room holds chunk_room chunk_holds = record {
-  ready = ready_read v d d' w blocks chunk r.ready (ap (λ x. x.contents) e) (ap (λ x. x.size) e) room holds chunk_room chunk_holds;
+pub ready_next : (v : Layout) (d d' : Device) (w : Workspace) (s : Siblings) (blocks : Blocks) (chunk : Window)
+    → ReadyWith v d w s → d' ≡ d → CanReadChunks v d' blocks chunk → ReadyWith v d' (with_chunk w blocks chunk) s
+ready_next v d d' w s blocks chunk r e can = record {
+  ready = ready_read v d d' w blocks chunk r.ready (ap (λ x. x.contents) e) can;
   siblings = siblings_on v _ _ w (with_chunk w blocks chunk) s (ap (λ x. x.contents) e) (windows_leave w (with_chunk w blocks chunk) refl) r.siblings;
 }
 
--- after a call that left the image as it was
-pub ready_same : (v : Layout) (d d' : Device) (w w' : Workspace) → IsReady v d w → d' ≡ d → IsFor v w' → HoldWindows v d'.contents w' → IsReady v d' w'
-ready_same v d d' w w' r e made windows = record { made = made; volume = subst (λ x. v.size * v.fsize ≤ x.size) (sym e) r.volume; windows = windows }
+-- what is ready for reading chunks
+pub can_read_in : (v : Layout) (d : Device) (w : Workspace) → IsReady v d w
+    → CanReadChunks v d w.windows.blocks w.windows.chunk
+can_read_in v d w r = record {
+  walk = record { volume = r.volume; room = r.made.blocks; holds = r.windows.blocks };
+  room = r.made.chunk;
+  holds = r.windows.chunk;
+}
 
 -- what two calls leave that read
 pub reads_more : {E : Type 0} (v : Layout) (d d' d'' : Device) (w w' w'' : Workspace) (q : Result E ImageFault) → d' ≡ d → w' ≡ record w { windows = w'.windows } →
@@ -72,13 +74,3 @@ reads_more v d d' d'' w w' w'' q e lists s = record {
   ready = s.ready;
   read = subst (λ x. ReadAfter x d'' q) e s.read;
 }
-
--- a read of a block, and of a chunk
-pub walk_on : (v : Layout) (d d' : Device) (blocks blocks' : Blocks) → CanWalk v d blocks → d'.size ≡ d.size → vec_len blocks'.buffer ≡ vec_len blocks.buffer → BlocksHold v d'.contents blocks' →
-    CanWalk v d' blocks'
-walk_on v d d' blocks blocks' r e room holds = record { volume = subst (λ n. v.size * v.fsize ≤ n) (sym e) r.volume; room = room ∙ r.room; holds = holds }
-
-pub chunks_on : (v : Layout) (d d' : Device) (blocks blocks' : Blocks) (chunk chunk' : Window) → CanReadChunks v d blocks chunk → d'.size ≡ d.size →
-    vec_len blocks'.buffer ≡ vec_len blocks.buffer → BlocksHold v d'.contents blocks' → vec_len chunk'.buffer ≡ vec_len chunk.buffer → WindowHolds d'.contents chunk' → CanReadChunks v d' blocks' chunk'
-chunks_on v d d' blocks blocks' chunk chunk' r e room holds chunk_room chunk_holds =
-    record { walk = walk_on v d d' blocks blocks' r.walk e room holds; room = chunk_room ∙ r.room; holds = chunk_holds }

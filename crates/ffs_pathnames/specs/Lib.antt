@@ -14,5 +14,4 @@ pub mod Calm
 pub mod MarksRight
 pub mod Before
 pub mod Ready
-pub mod Windows
 pub mod Looks

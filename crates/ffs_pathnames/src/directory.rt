@@ -3,7 +3,7 @@ ghost use Rattle.std.specs.Prelude.{◌≡◌, ◌*◌, ◌<◌, ◌==◌, true,
 ghost use Rattle.ffs_image.specs.Device.{ForContents};
 ghost use Rattle.ffs_volume.specs.declared.Order.{Order};
 ghost use Rattle.ffs_volume.specs.Directories.Entries.{Chunk, chunk_of};
-ghost use Rattle.ffs_pathnames.specs.Windows.{CanReadChunks};
+ghost use Rattle.ffs_names.specs.Windows.{CanReadChunks};
 ghost use Rattle.ffs_pathnames.specs.Sees.{CanStamp};
 ghost use Rattle.ffs_pathnames.specs.Looks.{IsFirstLook};
 ghost use Rattle.ffs_pathnames.specs.Marks as marks;

@@ -3,7 +3,19 @@ use Rattle.ffs_walk.specs.Rests.{rest}
 use Rattle.ffs_names.specs.Keepings.{replay_in}
 use Rattle.ffs_names.specs.Readings.{gap_left}
 use Rattle.ffs_names.proofs.GapsLeft.{gap_over_tail, gap_seen, gap_to_run, gap_past_run, gap_unseen}
+use Rattle.ffs_names.proofs.Continuing.{walk_volume, walk_room, walk_holds, walk_on}
 use Rattle.ffs_names.proofs.gap.gap_of.Goals as goal
+
+pub next-requires : goal.next-requires
+next-requires g c =
+    let inv = c.steps.invariant in
+    let first = c.args.chunks.now.walk.geometry in
+    let here = c.steps.chunks.walk.geometry in
+    record {
+      volume = walk_volume first here _ _ inv.ready inv.kept.geometry;
+      room = walk_room first here _ _ inv.ready inv.kept.geometry;
+      holds = walk_holds first here _ _ inv.ready inv.kept.geometry;
+    }
 
 pub steps-preserved-in-Some-Run : goal.steps-preserved-in-Some-Run
 steps-preserved-in-Some-Run g c =
@@ -13,15 +25,22 @@ steps-preserved-in-Some-Run g c =
     let r = c.in-Some-Run in
     let read = rw r.field-0-is at (rw r.is at c.in_ok-next.ensures.steps) in
     record {
-      same = c.in_ok-next.ensures.read ∙ inv.same;
-      geometry = c.next.ensures.same.geometry ∙ inv.geometry;
-      size = c.next.ensures.kept.size ∙ inv.size;
-      holds = rw inv.geometry at c.next.ensures.kept.holds;
+      same = c.in_ok-next.ensures.ok ∙ inv.same;
+      kept = record {
+        geometry = c.next.ensures.geometry ∙ inv.kept.geometry;
+        cut = c.take-kept.ensures.cut ∙
+            inv.kept.cut;
+        taken = inv.kept.taken;
+        budget = inv.kept.budget;
+      };
+      ready = walk_on _ _ _ _ _ _ inv.ready inv.kept.geometry (ap (λ d. d.size) c.in_ok-next.ensures.ok)
+          c.next.ensures.size c.next.ensures.holds;
       gap = λ b t. inv.gap b t
           ∙ (sym (gap_to_run s.walk.geometry.layout w.geometry.layout s.keeping.cut (replay_in s.keeping) false r.start r.len r._block (rest b s.walk) (rest b w)
           (ap (λ x. x.layout) c.next.ensures.same.geometry) (read b (ap (λ d. d.contents) inv.same ∙ t)))
           ∙ sym (gap_past_run w.geometry.layout s.keeping.cut c.take-kept.new.self.cut (replay_in s.keeping) (replay_in c.take-kept.new.self) (rest b w) r.start r.len r._block false
-          (c.take-kept.ensures.after r._block) c.take-kept.ensures.cut));
+          (c.take-kept.ensures.after w.geometry.layout r.start r._block c.in_range-in_range.ensures)
+          c.take-kept.ensures.cut));
     }
 
 pub steps-preserved : goal.steps-preserved
@@ -32,10 +51,16 @@ steps-preserved g c =
     let r = c.in-Some-Tail in
     let read = rw r.field-0-is at (rw r.is at c.in_ok-next.ensures.steps) in
     record {
-      same = c.in_ok-next.ensures.read ∙ inv.same;
-      geometry = c.next.ensures.same.geometry ∙ inv.geometry;
-      size = c.next.ensures.kept.size ∙ inv.size;
-      holds = rw inv.geometry at c.next.ensures.kept.holds;
+      same = c.in_ok-next.ensures.ok ∙ inv.same;
+      kept = record {
+        geometry = c.next.ensures.geometry ∙ inv.kept.geometry;
+        cut = inv.kept.cut;
+        taken =
+            inv.kept.taken;
+        budget = inv.kept.budget;
+      };
+      ready = walk_on _ _ _ _ _ _ inv.ready inv.kept.geometry (ap (λ d. d.size) c.in_ok-next.ensures.ok)
+          c.next.ensures.size c.next.ensures.holds;
       gap = λ b t. inv.gap b t
           ∙ sym (gap_over_tail s.walk.geometry.layout w.geometry.layout s.keeping.cut (replay_in s.keeping) false (rest b s.walk) (rest b w)
           (ap (λ x. x.layout) c.next.ensures.same.geometry) (read b (ap (λ d. d.contents) inv.same ∙ t)));

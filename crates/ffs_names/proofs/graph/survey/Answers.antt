@@ -2,24 +2,30 @@ use Rattle.std.proofs.Common.{◌∙◌, ap, sym, rules, arith}
 use Rattle.std.specs.Prelude.{slice_index}
 use Rattle.std.proofs.lemmas.List.{with_items_is}
 use Rattle.ffs_volume.proofs.Sizes.{some_inodes}
-use Rattle.ffs_names.proofs.SurveyHolds.{on_ok, read_ok, read_err, blocks_in, volume_survey, holds_survey, volume_calm, holds_calm}
+use Rattle.ffs_names.proofs.SurveyHolds.{on_ok, read_after, volume_in, blocks_in, volume_survey, holds_survey, volume_calm, holds_calm}
 use Rattle.ffs_names.proofs.graph.survey.Goals as goal
 
-pub returns-clause-ok : goal.returns-clause-ok
-returns-clause-ok g c = rw (c.image-1.given.1 (sym (ap (λ x. x.image_lent) c.survey.ensures.reader.same))) (read_ok c.survey.result _ _ c.survey.ensures.reader.read)
+pub returns-clause-read : goal.returns-clause-read
+returns-clause-read g c =
+    let image = c.image-1.given.1 (sym (ap (λ x. x.image_lent) c.survey.ensures.base)) in
+    read_after c.survey.result _ _ (rw image c.survey.ensures.device) (rw image c.survey.ensures.fault)
 
-pub returns-clause-err : goal.returns-clause-err
-returns-clause-err g c = rw (c.image-1.given.1 (sym (ap (λ x. x.image_lent) c.survey.ensures.reader.same))) (read_err c.survey.result _ _ c.survey.ensures.reader.read)
-
-pub returns-clause-windows : goal.returns-clause-windows
-returns-clause-windows g c =
-    let image = c.image-1.given.1 (sym (ap (λ x. x.image_lent) c.survey.ensures.reader.same)) in
-    let r = c.survey.ensures.reader.is_ready.0 in
+pub returns-clause-ready : goal.returns-clause-ready
+returns-clause-ready g c =
+    let v = c.args.geometry.now.layout in
+    let image = c.image-1.given.1 (sym (ap (λ x. x.image_lent) c.survey.ensures.base)) in
+    let same = ap (λ x. x.layout) c.survey.ensures.base in
+    let r = c.survey.ensures.ready.0 in
     record {
-      table = rw image r.table_holds;
-      blocks = blocks_in c.args.geometry.now.layout c.survey.new.directories.geometry.layout (g.I.Image.device c.image-1.given.0).contents (g.I.Image.device c.survey.new.directories.image.now).contents c.survey.new.directories.windows.now.blocks
-          (ap (λ x. x.layout) c.survey.ensures.reader.same) (ap (λ x. (g.I.Image.device x).contents) image) r.blocks_hold;
-      chunk = rw image r.chunk_holds;
+      made = search rules;
+      volume = volume_in v _ _ _ same (ap g.I.Image.device image) r.volume;
+      windows = record {
+        table = rw image r.table_holds;
+        blocks = blocks_in v c.survey.new.directories.geometry.layout (g.I.Image.device c.image-1.given.0).contents
+            (g.I.Image.device c.survey.new.directories.image.now).contents c.survey.new.directories.windows.now.blocks
+            same (ap (λ x. (g.I.Image.device x).contents) image) r.blocks_hold;
+        chunk = rw image r.chunk_holds;
+      };
     }
 
 pub returns-clause-survey : goal.returns-clause-survey

@@ -17,7 +17,7 @@ use Rattle.ffs_pathnames.specs.Gathers.{marks_of}
 use Rattle.ffs_pathnames.specs.DirectoryContext.{DirectoryContext}
 use Rattle.ffs_pathnames.specs.Marks.{after_entries, entries_reported}
 use Rattle.ffs_pathnames.proofs.Passing.{chunk_reported, chunk_passed, knows_on, all_read, marks_on}
-use Rattle.ffs_pathnames.proofs.ReadyLaws.{with_chunk, ready_next, ready_read}
+use Rattle.ffs_pathnames.proofs.ReadyLaws.{with_chunk, can_read_in, ready_next, ready_read}
 use Rattle.ffs_pathnames.proofs.again.report_directory.Goals as goal
 
 pub returns-in_err-path-clause-text : goal.returns-in_err-path-clause-text
@@ -37,7 +37,7 @@ chunks-init g c =
     all_read v b c.args.dir c.args.inode.now c.index-cut.result.now (rest b c.start-chunks.result) c.args.geometry.now.sound k.0.dir k.1
     (get_or_read_under here.cut.items c.args.dir _ c.index-cut.result.now 0 c.index-cut.ensures (subst (λ n. c.args.dir < n) (sym ok.ready.made.cut) c.requires.dir)
     here.cut.ok.0 ∙ (claims_left v b c.args.workspace.now here (windows_leave _ _ ok.lists) k.0.claims).cut c.args.dir)
-    (c.start-chunks.ensures.chunks b) in
+    (c.start-chunks.ensures.begins.chunks b) in
     record {
       ready = record { ready = ok.ready; siblings = c.in_ok-path.ensures.siblings };
       device = ok.read;
@@ -60,25 +60,30 @@ returns-in_err-offset-clause-leaves g c =
     let read = c.in_err-offset.ensures in
     let p = err_from_is_err_and c.from_residual-in_err-offset.result c.from_residual-in_err-offset.ensures.1 in
     rw (p.1, p.2) (record {
-      image = subst (λ d. Faulted d (g.I.Image.device c.next.new.image) c.in_err-offset.field-0.0.sector) inv.device read.err;
+      image = subst (λ d. Faulted d (g.I.Image.device c.next.new.image) c.in_err-offset.field-0.0.sector) inv.device
+          read.read;
       survey = leaves_more _ _ _ inv.survey (windows_leave c.chunks.workspace (with_chunk c.chunks.workspace c.next.new.blocks c.next.new.data) refl);
-      ready = ready_read _ _ _ c.chunks.workspace _ _ inv.ready.ready read.err.contents read.err.size read.size (rw inv.geometry at read.holds) read.data_size read.data_holds;
+      ready = ready_read _ _ _ c.chunks.workspace _ _ inv.ready.ready read.read.contents
+          (rw inv.geometry at read.ready);
     })
+
+pub next-requires : goal.next-requires
+next-requires g c = let inv = c.chunks.invariant in rw inv.geometry (can_read_in _ _ _ inv.ready.ready)
 
 pub report_chunk-requires-clause-ready : goal.report_chunk-requires-clause-ready
 report_chunk-requires-clause-ready g c =
     let inv = c.chunks.invariant in
     let read = c.in_ok-offset.ensures in
-    ready_next _ _ _ c.chunks.workspace _ _ _ inv.ready read.ok read.size (rw inv.geometry at read.holds) read.data_size read.data_holds
+    ready_next _ _ _ c.chunks.workspace _ _ _ inv.ready read.read (rw inv.geometry at read.ready)
 
 pub returns-clause-leaves : goal.returns-clause-leaves
 returns-clause-leaves g c =
     let inv = c.chunks.invariant in
     let read = c.in_ok-offset.ensures in
     record {
-      image = read.ok ∙ inv.device;
+      image = read.read ∙ inv.device;
       survey = leaves_more _ _ _ inv.survey (windows_leave c.chunks.workspace (with_chunk c.chunks.workspace c.next.new.blocks c.next.new.data) refl);
-      ready = ready_next _ _ _ c.chunks.workspace _ _ _ inv.ready read.ok read.size (rw inv.geometry at read.holds) read.data_size read.data_holds;
+      ready = ready_next _ _ _ c.chunks.workspace _ _ _ inv.ready read.read (rw inv.geometry at read.ready);
     }
 
 pub chunks-preserved : goal.chunks-preserved
@@ -89,15 +94,17 @@ chunks-preserved g c =
     let ok = c.in_ok-report_chunk.ensures in
     let m = marks_of c.chunks.workspace in
     let m' = marks_of c.report_chunk.new.workspace in
-    let same = ok.leaves.image ∙ (read.ok ∙ inv.device) in
+    let same = ok.leaves.image ∙ (read.read ∙ inv.device) in
     let between = with_chunk c.chunks.workspace c.next.new.blocks c.next.new.data in
     let kept : LeavesSurvey c.args.workspace.now between = leaves_more _ _ _ inv.survey (windows_leave c.chunks.workspace between refl) in
     let know = λ (b : List ℕ) (k : DirectoryContext v (g.I.Image.device c.args.image.now).contents c.args.workspace.now c.args.dir b × (c.args.inode.now ≡ inode_of v b c.args.dir)).
-    knows_on v (g.I.Image.device c.args.image.now).contents (g.I.Image.device c.next.new.image).contents c.args.workspace.now between c.args.dir b (ap (λ d. d.contents) (read.ok ∙ inv.device)) kept k.0 in
+    knows_on v (g.I.Image.device c.args.image.now).contents (g.I.Image.device c.next.new.image).contents
+    c.args.workspace.now between c.args.dir b (ap (λ d. d.contents) (read.read ∙ inv.device)) kept k.0 in
     let here : Chunk = chunk_of v.order c.in-Some.offset c.next.new.chunk in
-    let came = rw c.in-Some.is at read.chunks in
+    let came = rw c.in-Some.is at read.chunk in
     let next = λ (b : List ℕ) (k : DirectoryContext v (g.I.Image.device c.args.image.now).contents c.args.workspace.now c.args.dir b × (c.args.inode.now ≡ inode_of v b c.args.dir)).
-    came b (ap (λ d. d.contents) inv.device ∙ k.0.reported_is) ∙ ap (λ q. chunk_of q.layout.order c.in-Some.offset c.next.new.chunk ∷ rest b c.next.new.self) inv.geometry in
+    (came b (ap (λ d. d.contents) inv.device ∙ k.0.reported_is)).chunks ∙ ap
+    (λ q. chunk_of q.layout.order c.in-Some.offset c.next.new.chunk ∷ rest b c.next.new.self) inv.geometry in
     record {
       ready = ok.leaves.ready;
       device = same;
@@ -120,11 +127,13 @@ returns-in_err-report_chunk-clause-text g c =
     let between = with_chunk c.chunks.workspace c.next.new.blocks c.next.new.data in
     let kept : LeavesSurvey c.args.workspace.now between = leaves_more _ _ _ inv.survey (windows_leave c.chunks.workspace between refl) in
     let know = λ (b : List ℕ) (k : DirectoryContext v (g.I.Image.device c.args.image.now).contents c.args.workspace.now c.args.dir b × (c.args.inode.now ≡ inode_of v b c.args.dir)).
-    knows_on v (g.I.Image.device c.args.image.now).contents (g.I.Image.device c.next.new.image).contents c.args.workspace.now between c.args.dir b (ap (λ d. d.contents) (read.ok ∙ inv.device)) kept k.0 in
+    knows_on v (g.I.Image.device c.args.image.now).contents (g.I.Image.device c.next.new.image).contents
+    c.args.workspace.now between c.args.dir b (ap (λ d. d.contents) (read.read ∙ inv.device)) kept k.0 in
     let here : Chunk = chunk_of v.order c.in-Some.offset c.next.new.chunk in
-    let came = rw c.in-Some.is at read.chunks in
+    let came = rw c.in-Some.is at read.chunk in
     let next = λ (b : List ℕ) (k : DirectoryContext v (g.I.Image.device c.args.image.now).contents c.args.workspace.now c.args.dir b × (c.args.inode.now ≡ inode_of v b c.args.dir)).
-    came b (ap (λ d. d.contents) inv.device ∙ k.0.reported_is) ∙ ap (λ q. chunk_of q.layout.order c.in-Some.offset c.next.new.chunk ∷ rest b c.next.new.self) inv.geometry in
+    (came b (ap (λ d. d.contents) inv.device ∙ k.0.reported_is)).chunks ∙ ap
+    (λ q. chunk_of q.layout.order c.in-Some.offset c.next.new.chunk ∷ rest b c.next.new.self) inv.geometry in
     let p = err_from_is_err_and c.from_residual-in_err-report_chunk.result c.from_residual-in_err-report_chunk.ensures.1 in
     rw (p.1, p.2) (of_fault (Unit {0}) (Unit {0}) _ (λ (b : List ℕ). map of_names (entries_reported (volume_of v b) c.args.dir m (flat_map roled_chunk (rest b c.chunks.chunks))))
     (λ (b : List ℕ). map of_names (entries_reported (volume_of v b) c.args.dir m (roled_chunk here)))
@@ -141,7 +150,8 @@ returns-in_err-report_chunk-clause-leaves g c =
     let kept = leaves_more _ _ _ inv.survey (windows_leave c.chunks.workspace (with_chunk c.chunks.workspace c.next.new.blocks c.next.new.data) refl) in
     let p = err_from_is_err_and c.from_residual-in_err-report_chunk.result c.from_residual-in_err-report_chunk.ensures.1 in
     rw (p.1, p.2) (record {
-      image = subst (λ d. ImageAfter {T = Unit {0}} d (g.I.Image.device c.report_chunk.new.image) (Err c.in_err-report_chunk.field-0.0)) (c.in_ok-offset.ensures.ok ∙ inv.device) left.image;
+      image = subst (λ d. ImageAfter {T = Unit {0}} d (g.I.Image.device c.report_chunk.new.image)
+          (Err c.in_err-report_chunk.field-0.0)) (c.in_ok-offset.ensures.read ∙ inv.device) left.image;
       survey = leaves_more _ _ _ kept left.survey;
       ready = left.ready;
     })
@@ -151,13 +161,15 @@ returns-clause-text g c =
     let v = c.args.geometry.now.layout in
     let inv = c.chunks.invariant in
     let m = marks_of c.chunks.workspace in
-    let came = rw c.in_default.is at c.in_ok-offset.ensures.chunks in
+    let came = rw c.in_default.is at c.in_ok-offset.ensures.chunk in
     of_same _ (λ (b : List ℕ). map of_names (entries_reported (volume_of v b) c.args.dir m (flat_map roled_chunk (rest b c.chunks.chunks)))) (λ b. []) _ _ _ inv.said
-    (λ b k. ap (λ cs. map of_names (entries_reported (volume_of v b) c.args.dir m (flat_map roled_chunk cs))) (came b (ap (λ d. d.contents) inv.device ∙ k.0.reported_is)))
+    (λ b k. ap (λ cs. map of_names (entries_reported (volume_of v b) c.args.dir m (flat_map roled_chunk cs)))
+    (came b (ap (λ d. d.contents) inv.device ∙ k.0.reported_is)).chunks.0)
 
 pub returns-clause-marks : goal.returns-clause-marks
 returns-clause-marks g c = λ b k.
     let v = c.args.geometry.now.layout in
     let inv = c.chunks.invariant in
-    let came = rw c.in_default.is at c.in_ok-offset.ensures.chunks in
-    inv.marks b k ∙ ap (λ cs. after_entries (volume_of v b) c.args.dir (marks_of c.chunks.workspace) (flat_map roled_chunk cs)) (came b (ap (λ d. d.contents) inv.device ∙ k.0.reported_is))
+    let came = rw c.in_default.is at c.in_ok-offset.ensures.chunk in
+    inv.marks b k ∙ ap (λ cs. after_entries (volume_of v b) c.args.dir (marks_of c.chunks.workspace)
+    (flat_map roled_chunk cs)) (came b (ap (λ d. d.contents) inv.device ∙ k.0.reported_is)).chunks.0

@@ -1,15 +1,14 @@
-use Rattle.std.proofs.Common.{◌≡◌, ◌*◌, ◌≤◌, arith, refl, sym, ap, subst, ◌∙◌, ℕ, List, ◌∷◌, Some}
+use Rattle.std.proofs.Common.{◌≡◌, refl, sym, ap, subst, ◌∙◌, ℕ, List, ◌∷◌, Some}
 use Rattle.std.specs.Prelude.{◌==◌, ◌||◌}
 use Rattle.std.specs.List.{flat_map, find}
 use Rattle.ffs_volume.specs.Directories.Entries.{Chunk, chunk_of}
 use Rattle.ffs_volume.specs.Directories.Roles.{roled_chunk}
 use Rattle.ffs_volume.specs.Directories.PathnameCheck.{are_sound}
 use Rattle.ffs_names.specs.Readings.{rest, gap_left}
-use Rattle.ffs_walk.specs.Windows.{BlocksHold, HasRoom, WindowHolds}
+use Rattle.ffs_walk.specs.Windows.{WindowHolds}
 use Rattle.ffs_pathnames.specs.Marks.{are_quiet, after_looks}
 use Rattle.ffs_pathnames.specs.Reads.{chunks_read, start_of}
 use Rattle.ffs_pathnames.proofs.Directories.{chunk_quiet, chunk_stamps, chunk_sound, all_quiet, all_stamps, all_sound}
-use Rattle.ffs_pathnames.proofs.ReadyLaws.{chunks_on}
 use Rattle.ffs_pathnames.proofs.directory.look_directory.Goals as goal
 
 pub chunks-init : goal.chunks-init
@@ -19,34 +18,38 @@ chunks-init g c = record {
   geometry = c.start-chunks.ensures.geometry;
   stamps_long = c.requires.stamps.each;
   ready = c.requires.ready;
-  quiet = λ b t v s h. ap (λ cs. are_quiet v c.args.dir c.args.stamps.now (flat_map roled_chunk cs)) (sym (c.start-chunks.ensures.chunks b h));
-  stamps = λ b t v s h. ap (λ cs. after_looks v c.args.dir c.args.stamps.now (flat_map roled_chunk cs)) (sym (c.start-chunks.ensures.chunks b h));
-  sound = λ b t h. ap are_sound (sym (c.start-chunks.ensures.chunks b h));
-  gap = λ b t. sym (ap (λ x. x || gap_left b c.start-chunks.result) c.start-chunks.ensures.gap ∙ c.start-chunks.ensures.gap_left b);
-  started = λ b t h. ap (find (λ x. x.offset == 0)) (sym (c.start-chunks.ensures.chunks b h));
+  quiet = λ b t v s h. ap (λ cs. are_quiet v c.args.dir c.args.stamps.now (flat_map roled_chunk cs))
+      (sym (c.start-chunks.ensures.begins.chunks b h));
+  stamps = λ b t v s h. ap (λ cs. after_looks v c.args.dir c.args.stamps.now (flat_map roled_chunk cs))
+      (sym (c.start-chunks.ensures.begins.chunks b h));
+  sound = λ b t h. ap are_sound (sym (c.start-chunks.ensures.begins.chunks b h));
+  gap = λ b t. sym (ap (λ x. x || gap_left b c.start-chunks.result) c.start-chunks.ensures.begins.gap ∙
+      c.start-chunks.ensures.begins.gap_left b);
+  started = λ b t h. ap (find (λ x. x.offset == 0)) (sym (c.start-chunks.ensures.begins.chunks b h));
 }
 
 pub chunks-preserved : goal.chunks-preserved
 chunks-preserved g c =
     let inv = c.chunks.invariant in
     let now = λ (b : List ℕ) (t : (g.I.Image.device c.args.image.now).contents ≡ Some b). ap (λ d. d.contents) inv.same ∙ t in
-    let read = rw c.in-Some.is at c.in_ok-offset.ensures.chunks in
+    let read = rw c.in-Some.is at c.in_ok-offset.ensures.chunk in
     let order = c.args.geometry.now.layout.order in
     let here : Chunk = chunk_of order c.in-Some.offset c.next.new.chunk in
     let next = λ (b : List ℕ) (t : (g.I.Image.device c.args.image.now).contents ≡ Some b).
-    read b (now b t) ∙ ap (λ q. chunk_of q.layout.order c.in-Some.offset c.next.new.chunk ∷ rest b c.next.new.self) inv.geometry in
+    (read b (now b t)).chunks ∙ ap (λ q. chunk_of q.layout.order c.in-Some.offset c.next.new.chunk ∷ rest b
+    c.next.new.self) inv.geometry in
     record {
-      same = c.in_ok-offset.ensures.ok ∙ inv.same;
+      same = c.in_ok-offset.ensures.read ∙ inv.same;
       geometry = c.in_ok-offset.ensures.geometry ∙ inv.geometry;
       stamps_long = c.look_chunk-looked.auto.stamps ∙ inv.stamps_long;
-      ready = chunks_on _ _ _ _ _ _ _ inv.ready (ap (λ d. d.size) c.in_ok-offset.ensures.ok) c.in_ok-offset.ensures.size (rw inv.geometry at c.in_ok-offset.ensures.holds) c.in_ok-offset.ensures.data_size c.in_ok-offset.ensures.data_holds;
+      ready = rw inv.geometry at c.in_ok-offset.ensures.ready;
       quiet = λ b t v s h. chunk_quiet v c.args.dir c.chunks.stamps c.look_chunk-looked.new.stamps (rest b c.chunks.chunks) (rest b c.next.new.self) here
           _ c.chunks.quiet c.look_chunk-looked.result.quiet (next b t) (c.look_chunk-looked.ensures.quiet v s) (c.look_chunk-looked.ensures.stamps v s) (inv.quiet b t v s h);
       stamps = λ b t v s h. chunk_stamps v c.args.dir c.chunks.stamps c.look_chunk-looked.new.stamps _ (rest b c.chunks.chunks) (rest b c.next.new.self) here
           (next b t) (c.look_chunk-looked.ensures.stamps v s) (inv.stamps b t v s h);
       sound = λ b t h. chunk_sound (rest b c.chunks.chunks) (rest b c.next.new.self) here _ c.chunks.sound c.look_chunk-looked.result.sound
           (next b t) c.look_chunk-looked.ensures.sound (inv.sound b t h);
-      gap = λ b t. inv.gap b t ∙ sym (c.in_ok-offset.ensures.gap b (now b t));
+      gap = λ b t. inv.gap b t ∙ sym (read b (now b t)).gap;
       started = λ b t h. inv.started b t h ∙ (ap (λ l. start_of l c.chunks.started order c.chunks.start) (next b t)
           ∙ c.keep_start-started.ensures order (rest b c.next.new.self));
     }
@@ -55,53 +58,47 @@ pub returns-clause-found : goal.returns-clause-found
 returns-clause-found g c = λ b t.
     let inv = c.chunks.invariant in
     let now = ap (λ d. d.contents) inv.same ∙ t in
-    let later = ap (λ d. d.contents) (c.in_ok-offset.ensures.ok ∙ inv.same) ∙ t in
-    let none = (rw c.in_default.is at c.in_ok-offset.ensures.chunks) b now in
+    let later = ap (λ d. d.contents) (c.in_ok-offset.ensures.read ∙ inv.same) ∙ t in
+    let read = (rw c.in_default.is at c.in_ok-offset.ensures.chunk) b now in
+    let none = read.chunks.0 in
     record {
       quiet = λ v s h. all_quiet v c.args.dir c.chunks.stamps (rest b c.chunks.chunks) _ c.chunks.quiet none (inv.quiet b t v s h);
       stamps = λ v s h. all_stamps v c.args.dir c.chunks.stamps _ (rest b c.chunks.chunks) none (inv.stamps b t v s h);
       sound = λ h. all_sound (rest b c.chunks.chunks) _ c.chunks.sound none (inv.sound b t h);
-      gap = c.in_ok-gap.ensures.gap b later ∙ (c.in_ok-offset.ensures.gap b now ∙ sym (inv.gap b t));
+      gap = c.in_ok-gap.ensures.gap b later ∙ (read.gap ∙ sym (inv.gap b t));
       started = λ h. inv.started b t h ∙ ap (λ l. start_of l c.chunks.started c.args.geometry.now.layout.order c.chunks.start) none;
     }
 
+pub next-requires : goal.next-requires
+next-requires g c = let inv = c.chunks.invariant in rw inv.geometry inv.ready
+
 pub returns-in_err-offset-clause-ready : goal.returns-in_err-offset-clause-ready
-returns-in_err-offset-clause-ready g c =
-    let inv = c.chunks.invariant in
-    let read = c.in_err-offset.ensures in
-    chunks_on _ _ _ _ _ _ _ inv.ready read.err.size read.size (rw inv.geometry at read.holds) read.data_size read.data_holds
+returns-in_err-offset-clause-ready g c = let inv = c.chunks.invariant in rw inv.geometry at
+    c.in_err-offset.ensures.ready
 
-pub gap_of-requires-clause-volume : goal.gap_of-requires-clause-volume
-gap_of-requires-clause-volume g c =
-    let inv = c.chunks.invariant in
-    let read = c.in_ok-offset.ensures in
-    subst (λ q. q.layout.size * q.layout.fsize ≤ (g.I.Image.device c.next.new.image).size) (sym (read.geometry ∙ inv.geometry))
-    (subst (λ n. c.args.geometry.now.layout.size * c.args.geometry.now.layout.fsize ≤ n) (sym (ap (λ d. d.size) read.ok)) inv.ready.walk.volume)
-
-pub gap_of-requires-clause-room : goal.gap_of-requires-clause-room
-gap_of-requires-clause-room g c =
-    let inv = c.chunks.invariant in
-    let read = c.in_ok-offset.ensures in
-    subst (λ q. HasRoom q.layout c.next.new.blocks) (sym (read.geometry ∙ inv.geometry))
-    (record { blocks_fit = omega (arith, read.size, inv.ready.walk.room) })
-
-pub gap_of-requires-clause-holds : goal.gap_of-requires-clause-holds
-gap_of-requires-clause-holds g c = rw c.in_ok-offset.ensures.geometry c.in_ok-offset.ensures.holds
+pub gap_of-requires : goal.gap_of-requires
+gap_of-requires g c = let read = c.in_ok-offset.ensures in rw read.geometry read.ready.walk
 
 pub returns-in_err-gap-clause-ready : goal.returns-in_err-gap-clause-ready
 returns-in_err-gap-clause-ready g c =
     let inv = c.chunks.invariant in
     let read = c.in_ok-offset.ensures in
+    let chunk = rw inv.geometry at read.ready in
     let gap = c.in_err-gap.ensures in
-    chunks_on _ _ _ _ _ _ _ inv.ready (gap.err.size ∙ ap (λ d. d.size) read.ok) (gap.size ∙ read.size)
-    (subst (λ q. BlocksHold q.layout (g.I.Image.device c.gap_of.new.image).contents c.gap_of.new.blocks) (read.geometry ∙ inv.geometry) gap.holds)
-    read.data_size (subst (λ xs. WindowHolds xs c.next.new.data) (sym gap.err.contents) read.data_holds)
+    record {
+      walk = rw (read.geometry ∙ inv.geometry) at gap.ready;
+      room = chunk.room;
+      holds = subst (λ xs. WindowHolds xs c.next.new.data) (sym gap.read.contents) chunk.holds;
+    }
 
 pub returns-clause-ready : goal.returns-clause-ready
 returns-clause-ready g c =
     let inv = c.chunks.invariant in
     let read = c.in_ok-offset.ensures in
+    let chunk = rw inv.geometry at read.ready in
     let gap = c.in_ok-gap.ensures in
-    chunks_on _ _ _ _ _ _ _ inv.ready (ap (λ d. d.size) (gap.ok ∙ read.ok)) (gap.size ∙ read.size)
-    (subst (λ q. BlocksHold q.layout (g.I.Image.device c.gap_of.new.image).contents c.gap_of.new.blocks) (read.geometry ∙ inv.geometry) gap.holds)
-    read.data_size (subst (λ d. WindowHolds d.contents c.next.new.data) (sym gap.ok) read.data_holds)
+    record {
+      walk = rw (read.geometry ∙ inv.geometry) at gap.ready;
+      room = chunk.room;
+      holds = subst (λ d. WindowHolds d.contents c.next.new.data) (sym gap.read) chunk.holds;
+    }

@@ -7,7 +7,6 @@ use Rattle.ffs_volume.specs.Directories.Volumes.{volume_of}
 use Rattle.ffs_pathnames.specs.declared.phase.Root.{Root}
 use Rattle.ffs_pathnames.proofs.Carrying.{on_all, if_ok, at_fault, at_fault_more, claims_untouched, before_first}
 use Rattle.ffs_workspace.proofs.Leaving.{claims_left, survey_left}
-use Rattle.ffs_pathnames.proofs.ReadyLaws.{ready_same}
 use Rattle.ffs_pathnames.proofs.SilentLaws.{calm_silent}
 use Rattle.ffs_pathnames.proofs.phase.phase2.Goals as goal
 
@@ -42,14 +41,16 @@ returns-clause-text g c =
     let all = λ (b : List ℕ). phase2 ∷ map of_names (pathname_lines (volume_of v b)) in
     let found = c.in_ok-survey.ensures in
     let clear = c.clear_marks.ensures in
-    let made = (clear.ready v _ (ready_same v _ _ _ _ c.requires.ready found.ok found.made found.windows)).made in
+    let made = (clear.ready v _ found.ready).made in
     of_last Root _ lines lines all _ _ _ c.check_tree.result
     (of_says _ all lines _ (phase2 ∷ []) _ _ _ (of_begins _ all _) (λ b k. refl) c.in_ok-say.ensures.said)
     (λ b k. refl)
     (reports_knowing Root _ _ lines _ _ c.check_tree.result
-    (λ b k. before_first v _ b _ _ (ap (λ d. d.contents) found.ok ∙ k.0)
+    (λ b k. before_first v _ b _ _ (ap (λ d. d.contents) found.read ∙ k.0)
     (claims_left v b _ _ clear.survey (claims_untouched v b _ _ found.same k.1))
-    (survey_left v b _ _ clear.survey (found.survey b k.0 k.1)) made clear.clear (λ x set. calm_silent v b _ c.args.geometry.now.sound found.made (claims_untouched v b _ _ found.same k.1) (found.survey b k.0 k.1) (found.calm b k.0 k.1) x set))
+    (survey_left v b _ _ clear.survey (found.survey b k.0 k.1)) made clear.clear
+    (λ x set. calm_silent v b _ c.args.geometry.now.sound found.ready.made
+    (claims_untouched v b _ _ found.same k.1) (found.survey b k.0 k.1) (found.calm b k.0 k.1) x set))
     c.check_tree.ensures.text)
 
 pub returns-clause-goes : goal.returns-clause-goes
@@ -57,11 +58,13 @@ returns-clause-goes g c =
     let v = c.args.geometry.now.layout in
     let found = c.in_ok-survey.ensures in
     let clear = c.clear_marks.ensures in
-    let made = (clear.ready v _ (ready_same v _ _ _ _ c.requires.ready found.ok found.made found.windows)).made in
+    let made = (clear.ready v _ found.ready).made in
     if_ok c.check_tree.result _ _
-    (λ root h b k. h b (before_first v _ b _ _ (ap (λ d. d.contents) found.ok ∙ k.0)
+    (λ root h b k. h b (before_first v _ b _ _ (ap (λ d. d.contents) found.read ∙ k.0)
     (claims_left v b _ _ clear.survey (claims_untouched v b _ _ found.same k.1))
-    (survey_left v b _ _ clear.survey (found.survey b k.0 k.1)) made clear.clear (λ x set. calm_silent v b _ c.args.geometry.now.sound found.made (claims_untouched v b _ _ found.same k.1) (found.survey b k.0 k.1) (found.calm b k.0 k.1) x set)))
+    (survey_left v b _ _ clear.survey (found.survey b k.0 k.1)) made clear.clear
+    (λ x set. calm_silent v b _ c.args.geometry.now.sound found.ready.made
+    (claims_untouched v b _ _ found.same k.1) (found.survey b k.0 k.1) (found.calm b k.0 k.1) x set)))
     c.check_tree.ensures.goes
 
 pub returns-clause-fault : goal.returns-clause-fault
@@ -69,11 +72,13 @@ returns-clause-fault g c =
     let v = c.args.geometry.now.layout in
     let found = c.in_ok-survey.ensures in
     let clear = c.clear_marks.ensures in
-    let made = (clear.ready v _ (ready_same v _ _ _ _ c.requires.ready found.ok found.made found.windows)).made in
+    let made = (clear.ready v _ found.ready).made in
     at_fault_more c.check_tree.result _ _
-    (λ h. inr (λ b k. h b (before_first v _ b _ _ (ap (λ d. d.contents) found.ok ∙ k.0)
+    (λ h. inr (λ b k. h b (before_first v _ b _ _ (ap (λ d. d.contents) found.read ∙ k.0)
     (claims_left v b _ _ clear.survey (claims_untouched v b _ _ found.same k.1))
-    (survey_left v b _ _ clear.survey (found.survey b k.0 k.1)) made clear.clear (λ x set. calm_silent v b _ c.args.geometry.now.sound found.made (claims_untouched v b _ _ found.same k.1) (found.survey b k.0 k.1) (found.calm b k.0 k.1) x set))))
+    (survey_left v b _ _ clear.survey (found.survey b k.0 k.1)) made clear.clear
+    (λ x set. calm_silent v b _ c.args.geometry.now.sound found.ready.made
+    (claims_untouched v b _ _ found.same k.1) (found.survey b k.0 k.1) (found.calm b k.0 k.1) x set))))
     c.check_tree.ensures.fault
 
 pub returns-clause-holds : goal.returns-clause-holds
@@ -91,4 +96,4 @@ returns-clause-holds g c =
 pub check_tree-requires : goal.check_tree-requires
 check_tree-requires g c =
     let found = c.in_ok-survey.ensures in
-    record { ready = c.clear_marks.ensures.ready _ _ (ready_same _ _ _ _ _ c.requires.ready found.ok found.made found.windows) }
+    record { ready = c.clear_marks.ensures.ready _ _ found.ready }

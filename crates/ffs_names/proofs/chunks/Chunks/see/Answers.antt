@@ -1,50 +1,87 @@
-use Rattle.std.proofs.Common.{◌∙◌, ap, sym, arith, []}
-use Rattle.std.specs.Prelude.{if◌then◌else◌}
-use Rattle.ffs_volume.specs.Disk.Areas.{is_in_range}
-use Rattle.ffs_volume.specs.Directories.Entries.{step_chunks}
-use Rattle.ffs_volume.specs.declared.Step.TheVariants.{Run}
+use Rattle.std.proofs.Common.{arith}
 use Rattle.ffs_names.specs.Keepings.{replay_in}
-use Rattle.ffs_names.specs.RunCursors.{hand_chunks, reading_by}
-use Rattle.ffs_names.proofs.RoledEntry.{no_run_cursor, run_seen, runs_seen}
+use Rattle.ffs_names.proofs.RoledEntry.{no_run_cursor, run_continues, kept_run, no_kept_run, no_data_run, no_block_run, runs_seen}
 use Rattle.ffs_names.proofs.GapsLeft.{gap_past_run}
 use Rattle.ffs_names.proofs.chunks.Chunks.see.Goals as goal
 
-pub returns-then-take-clause-chunks : goal.returns-then-take-clause-chunks
-returns-then-take-clause-chunks c = λ b steps.
+pub returns-in-Some-clause-continues : goal.returns-in-Some-clause-continues
+returns-in-Some-clause-continues c = λ b steps.
     let s = c.args.self.now in
     let v = s.walk.geometry.layout in
-    run_seen v b s.taken s.keeping.cut c.take.new.self.cut (replay_in s.keeping) (replay_in c.take.new.self) steps c.args.start c.args.len c.args.block c.take.result (hand_chunks v b c.of_step-self.result)
-    (c.take.ensures.kept c.args.block) (c.take.ensures.after c.args.block) c.take.ensures.cut
-    (c.of_step-self.ensures.chunks b ∙ sym (ap (λ x. if x then step_chunks (reading_by v b s.taken) (is_in_range v) (Run c.args.start c.args.len c.args.block) else []) c.if-take.true))
+    let kept = c.take.ensures.kept v c.args.start c.args.block c.in_range-in_range.ensures in
+    let after = c.take.ensures.after v c.args.start c.args.block c.in_range-in_range.ensures in
+    record {
+      chunks = run_continues v b s.run_cursor c.of_run-self.result s.taken s.keeping.cut c.take.new.self.cut
+          (replay_in s.keeping) (replay_in c.take.new.self) steps c.args.start c.args.len c.args.block c.take.result
+          c.requires.empty kept after c.take.ensures.cut
+          (kept_run v b s.taken c.args.start c.args.len c.in-Some.block c.args.block c.take.result
+          c.in_range-in_range.result _
+          c.in-Some.is c.if-not-take.false c.if-not-in_range.false c.in_range-in_range.ensures
+          (c.of_run-self.ensures.chunks b));
+      runs = runs_seen v s.keeping.cut c.take.new.self.cut (replay_in s.keeping) (replay_in c.take.new.self) steps
+          c.args.start c.args.len c.args.block s.runs c.saturating_add-self.result
+          c.requires.seen after c.take.ensures.cut (omega (arith, c.saturating_add-self.ensures));
+      gap = gap_past_run v s.keeping.cut c.take.new.self.cut (replay_in s.keeping) (replay_in c.take.new.self) steps
+          c.args.start c.args.len c.args.block s.gap
+          after c.take.ensures.cut;
+    }
 
-pub returns-else-take-clause-chunks : goal.returns-else-take-clause-chunks
-returns-else-take-clause-chunks c = λ b steps.
+pub returns-in_default-clause-continues : goal.returns-in_default-clause-continues
+returns-in_default-clause-continues c = λ b steps.
     let s = c.args.self.now in
     let v = s.walk.geometry.layout in
-    run_seen v b s.taken s.keeping.cut c.take.new.self.cut (replay_in s.keeping) (replay_in c.take.new.self) steps c.args.start c.args.len c.args.block c.take.result (hand_chunks v b s.run_cursor)
-    (c.take.ensures.kept c.args.block) (c.take.ensures.after c.args.block) c.take.ensures.cut
-    (no_run_cursor v b s.run_cursor c.requires.empty ∙ sym (ap (λ x. if x then step_chunks (reading_by v b s.taken) (is_in_range v) (Run c.args.start c.args.len c.args.block) else []) c.if-take.false))
+    let kept = c.take.ensures.kept v c.args.start c.args.block c.in_range-in_range.ensures in
+    let after = c.take.ensures.after v c.args.start c.args.block c.in_range-in_range.ensures in
+    record {
+      chunks = run_continues v b s.run_cursor s.run_cursor s.taken s.keeping.cut c.take.new.self.cut
+          (replay_in s.keeping) (replay_in c.take.new.self) steps c.args.start c.args.len c.args.block c.take.result
+          c.requires.empty kept after c.take.ensures.cut
+          (no_block_run v b s.taken c.args.start c.args.len c.args.block c.take.result _ c.in_default.is
+          (no_run_cursor v b s.run_cursor c.requires.empty));
+      runs = runs_seen v s.keeping.cut c.take.new.self.cut (replay_in s.keeping) (replay_in c.take.new.self) steps
+          c.args.start c.args.len c.args.block s.runs c.saturating_add-self.result
+          c.requires.seen after c.take.ensures.cut (omega (arith, c.saturating_add-self.ensures));
+      gap = gap_past_run v s.keeping.cut c.take.new.self.cut (replay_in s.keeping) (replay_in c.take.new.self) steps
+          c.args.start c.args.len c.args.block s.gap
+          after c.take.ensures.cut;
+    }
 
-pub returns-then-take-clause-runs : goal.returns-then-take-clause-runs
-returns-then-take-clause-runs c = λ steps.
+pub returns-then-not-take-clause-continues : goal.returns-then-not-take-clause-continues
+returns-then-not-take-clause-continues c = λ b steps.
     let s = c.args.self.now in
-    runs_seen s.walk.geometry.layout s.keeping.cut c.take.new.self.cut (replay_in s.keeping) (replay_in c.take.new.self) steps c.args.start c.args.len c.args.block s.runs c.saturating_add-self.result
-    c.requires.seen (c.take.ensures.after c.args.block) c.take.ensures.cut (omega (arith, c.saturating_add-self.ensures))
+    let v = s.walk.geometry.layout in
+    let kept = c.take.ensures.kept v c.args.start c.args.block c.in_range-in_range.ensures in
+    let after = c.take.ensures.after v c.args.start c.args.block c.in_range-in_range.ensures in
+    record {
+      chunks = run_continues v b s.run_cursor s.run_cursor s.taken s.keeping.cut c.take.new.self.cut
+          (replay_in s.keeping) (replay_in c.take.new.self) steps c.args.start c.args.len c.args.block c.take.result
+          c.requires.empty kept after c.take.ensures.cut
+          (no_kept_run v b s.taken c.args.start c.args.len c.args.block c.take.result _ c.if-not-take.true
+          (no_run_cursor v b s.run_cursor c.requires.empty));
+      runs = runs_seen v s.keeping.cut c.take.new.self.cut (replay_in s.keeping) (replay_in c.take.new.self) steps
+          c.args.start c.args.len c.args.block s.runs c.saturating_add-self.result
+          c.requires.seen after c.take.ensures.cut (omega (arith, c.saturating_add-self.ensures));
+      gap = gap_past_run v s.keeping.cut c.take.new.self.cut (replay_in s.keeping) (replay_in c.take.new.self) steps
+          c.args.start c.args.len c.args.block s.gap
+          after c.take.ensures.cut;
+    }
 
-pub returns-else-take-clause-runs : goal.returns-else-take-clause-runs
-returns-else-take-clause-runs c = λ steps.
+pub returns-then-not-in_range-clause-continues : goal.returns-then-not-in_range-clause-continues
+returns-then-not-in_range-clause-continues c = λ b steps.
     let s = c.args.self.now in
-    runs_seen s.walk.geometry.layout s.keeping.cut c.take.new.self.cut (replay_in s.keeping) (replay_in c.take.new.self) steps c.args.start c.args.len c.args.block s.runs c.saturating_add-self.result
-    c.requires.seen (c.take.ensures.after c.args.block) c.take.ensures.cut (omega (arith, c.saturating_add-self.ensures))
-
-pub returns-then-take-clause-gap : goal.returns-then-take-clause-gap
-returns-then-take-clause-gap c = λ steps.
-    let s = c.args.self.now in
-    gap_past_run s.walk.geometry.layout s.keeping.cut c.take.new.self.cut (replay_in s.keeping) (replay_in c.take.new.self) steps c.args.start c.args.len c.args.block s.gap
-    (c.take.ensures.after c.args.block) c.take.ensures.cut
-
-pub returns-else-take-clause-gap : goal.returns-else-take-clause-gap
-returns-else-take-clause-gap c = λ steps.
-    let s = c.args.self.now in
-    gap_past_run s.walk.geometry.layout s.keeping.cut c.take.new.self.cut (replay_in s.keeping) (replay_in c.take.new.self) steps c.args.start c.args.len c.args.block s.gap
-    (c.take.ensures.after c.args.block) c.take.ensures.cut
+    let v = s.walk.geometry.layout in
+    let kept = c.take.ensures.kept v c.args.start c.args.block c.in_range-in_range.ensures in
+    let after = c.take.ensures.after v c.args.start c.args.block c.in_range-in_range.ensures in
+    record {
+      chunks = run_continues v b s.run_cursor s.run_cursor s.taken s.keeping.cut c.take.new.self.cut
+          (replay_in s.keeping) (replay_in c.take.new.self) steps c.args.start c.args.len c.args.block c.take.result
+          c.requires.empty kept after c.take.ensures.cut
+          (no_data_run v b s.taken c.args.start c.args.len c.args.block c.take.result c.in_range-in_range.result _
+          c.if-not-in_range.true c.in_range-in_range.ensures (no_run_cursor v b s.run_cursor c.requires.empty));
+      runs = runs_seen v s.keeping.cut c.take.new.self.cut (replay_in s.keeping) (replay_in c.take.new.self) steps
+          c.args.start c.args.len c.args.block s.runs c.saturating_add-self.result
+          c.requires.seen after c.take.ensures.cut (omega (arith, c.saturating_add-self.ensures));
+      gap = gap_past_run v s.keeping.cut c.take.new.self.cut (replay_in s.keeping) (replay_in c.take.new.self) steps
+          c.args.start c.args.len c.args.block s.gap
+          after c.take.ensures.cut;
+    }

@@ -1,7 +1,6 @@
-use Rattle.std.proofs.Common.{◌≡◌, ◌≤◌, ◌<◌}
-use Rattle.std.specs.Prelude.{vec_len}
+use Rattle.std.proofs.Common.{◌≡◌, ◌≤◌}
 use Rattle.ffs_image.specs.Device.{ForContents}
-use Rattle.ffs_walk.specs.Windows.{BlocksHold, WindowHolds}
+use Rattle.ffs_names.specs.Windows.{CanReadChunks}
 use Rattle.ffs_names.specs.Shapes.{has_right_shape}
 use Rattle.ffs_names.specs.Entering.{to_come, left, IsInside, MayTake}
 use Rattle.ffs_names.proofs.entries.Entries.next.Given as goal
@@ -14,10 +13,7 @@ invariant-chunks g l = record {
   inside : (l.fn.self.place < 512 → IsInside l.fn.self) → l.self.place < 512 → IsInside l.self;
   left : left l.self ≤ left l.fn.self;
   geometry : l.self.chunks.walk.geometry ≡ l.fn.self.chunks.walk.geometry;
-  size : vec_len l.blocks.buffer ≡ vec_len l.fn.blocks.buffer;
-  holds : BlocksHold l.fn.self.chunks.walk.geometry.layout (g.I.Image.device l.fn.image).contents l.blocks;
-  data_size : vec_len l.window.buffer ≡ vec_len l.fn.window.buffer;
-  data_holds : WindowHolds (g.I.Image.device l.fn.image).contents l.window;
+  ready : CanReadChunks l.fn.self.chunks.walk.geometry.layout (g.I.Image.device l.image) l.blocks l.window;
   device : g.I.Image.device l.image ≡ g.I.Image.device l.fn.image;
 }
 

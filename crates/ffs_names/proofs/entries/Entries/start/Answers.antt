@@ -2,7 +2,12 @@ use Rattle.std.proofs.Common.{◌∙◌, ap}
 use Rattle.std.specs.List.{flat_map}
 use Rattle.ffs_volume.specs.Directories.Roles.{roled_chunk}
 use Rattle.ffs_names.proofs.Entered.{end_seen}
+use Rattle.ffs_names.proofs.Shaped.{shape_begun}
 use Rattle.ffs_names.proofs.entries.Entries.start.Goals as goal
 
-pub returns-clause-entries : goal.returns-clause-entries
-returns-clause-entries c = λ b size. end_seen _ _ _ _ _ ∙ ap (flat_map roled_chunk) (c.start-chunks.ensures.chunks b size)
+pub returns-clause-begins : goal.returns-clause-begins
+returns-clause-begins c = let begins = c.start-chunks.ensures.begins in record {
+  entries = λ b size. end_seen _ _ _ _ _ ∙ ap (flat_map roled_chunk) (begins.chunks b size);
+  shape = λ b size. shape_begun _ _ _ _ _ _ _ _ _ c.has_right_size.ensures (begins.chunks b size) begins.gap
+      (begins.gap_left b);
+}

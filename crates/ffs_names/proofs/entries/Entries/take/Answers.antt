@@ -1,3 +1,4 @@
+use Rattle.std.proofs.Common.{refl}
 use Rattle.ffs_layout.specs.Entry.{entry_value}
 use Rattle.ffs_names.specs.Readings.{rest}
 use Rattle.ffs_names.proofs.Entered.{take_reported}
@@ -9,5 +10,10 @@ returns-clause-entries c =
     let s = c.args.self.now in
     λ b. take_reported s.first s.index s.order s.chunk s.place (entry_value c.in-Some.entry) c.role_of-role.result (rest b s.chunks) c.in-Some.ensures.some c.role_of-role.ensures c.in-Some.ensures.name.0
 
-pub returns-clause-fills : goal.returns-clause-fills
-returns-clause-fills c = let s = c.args.self.now in fills_next s.order s.chunk s.place (entry_value c.in-Some.entry) c.in-Some.ensures.some
+pub returns-clause-same : goal.returns-clause-same
+returns-clause-same c = let s = c.args.self.now in record {
+  chunks = refl;
+  sound = refl;
+  fills = fills_next s.order
+      s.chunk s.place (entry_value c.in-Some.entry) c.in-Some.ensures.some;
+}

@@ -1,5 +1,12 @@
-use Rattle.ffs_names.proofs.SurveyHolds.{if_ended}
+use Rattle.ffs_names.proofs.SurveyHolds.{if_ok, ok_on, none_ended}
 use Rattle.ffs_names.proofs.tree.TreeDirectories.next.Goals as goal
 
+pub returns-clause-rest : goal.returns-clause-rest
+returns-clause-rest g c = if_ok c.next.result _ _ c.next.ensures.entry (λ o h b k. (h b k.bytes).entries)
+
+pub returns-clause-sound : goal.returns-clause-sound
+returns-clause-sound g c = ok_on c.next.result _ _ c.next.ensures.entry (λ o h b k. (h b k.bytes).shape)
+
 pub returns-clause-ended : goal.returns-clause-ended
-returns-clause-ended g c = if_ended c.next.result _ _ (λ h b k. h b k.bytes) c.next.ensures.ended
+returns-clause-ended g c = if_ok c.next.result _ _ c.next.ensures.entry
+    (λ o h. none_ended o _ (λ b k. (h b k.bytes).ended))

@@ -44,7 +44,7 @@ returns-clause-rest g c = λ b k.
     let dir = sym (kind_dirs v b t.kinds.now c.args.dir (k.kinds c.args.dir)) ∙ (sym c.is_dir.ensures ∙ c.if-not-is_dir.false) in
     let is = dir_is v b c.args.dir dir in
     let inode = c.in_ok-inode.ensures.inode b k.bytes in
-    let entries = rw c.requires.ready.1 at (c.restart.ensures.entries b) in
+    let entries = rw c.requires.ready.1 at (c.restart.ensures.begins.entries b) in
     entries (subst (λ (x : Inode). x.size < 2147483648) (sym inode) (dir_size v (inode_of v b c.args.dir) is.1))
     ∙ (dir_seen v b c.args.dir c.in_ok-inode.inode (slice_index t.cut.now c.args.dir) t.geometry.sound is.0 inode (k.cut c.args.dir) ∙ sym (ap (λ x. if x then roled_entries (volume_of v b) c.args.dir else []) dir))
 
@@ -61,6 +61,6 @@ returns-clause-sound g c = λ b k.
     let dir = sym (kind_dirs v b t.kinds.now c.args.dir (k.kinds c.args.dir)) ∙ (sym c.is_dir.ensures ∙ c.if-not-is_dir.false) in
     let is = dir_is v b c.args.dir dir in
     let inode = c.in_ok-inode.ensures.inode b k.bytes in
-    let shape = rw c.requires.ready.1 at (c.restart.ensures.shape b) in
+    let shape = rw c.requires.ready.1 at (c.restart.ensures.begins.shape b) in
     shape (subst (λ (x : Inode). x.size < 2147483648) (sym inode) (dir_size v (inode_of v b c.args.dir) is.1))
     ∙ (shape_seen v b c.args.dir c.in_ok-inode.inode (slice_index t.cut.now c.args.dir) t.geometry.sound is.0 inode (k.cut c.args.dir) ∙ sym (ap (λ x. x && is_right_shape (volume_of v b) c.args.dir) dir))

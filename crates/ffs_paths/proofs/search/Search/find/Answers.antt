@@ -8,58 +8,64 @@ use Rattle.ffs_paths.proofs.search.Search.find.Goals as goal
 pub returns-then-names-clause-name : goal.returns-then-names-clause-name
 returns-then-names-clause-name g c = λ b t.
     let u = ap (λ d. d.contents) c.entries.invariant.device ∙ t in
-    let o = rw c.in-Some.is at c.in_ok-entry.ensures.entries in
+    let o = rw c.in-Some.is at c.in_ok-entry.ensures.entry in
     let e = roled_of c.in-Some.entry (last_name c.next.new.self) in
-    c.entries.invariant.name b t ∙ (ap (name_in c.args.number) (o b u) ∙ name_in-here c.args.number e (to_come b c.next.new.self) (sym c.names.ensures ∙ c.if-names.true))
+    c.entries.invariant.name b t ∙ (ap (name_in c.args.number) (o b u).entries ∙ name_in-here c.args.number e
+    (to_come b c.next.new.self) (sym c.names.ensures ∙ c.if-names.true))
 
 pub returns-then-names-clause-above : goal.returns-then-names-clause-above
 returns-then-names-clause-above g c = λ b t x h.
     let u = ap (λ d. d.contents) c.entries.invariant.device ∙ t in
-    let o = rw c.in-Some.is at c.in_ok-entry.ensures.entries in
+    let o = rw c.in-Some.is at c.in_ok-entry.ensures.entry in
     let e = roled_of c.in-Some.entry (last_name c.next.new.self) in
     let grows = c.highest_with-self.ensures.grows in
-    c.entries.invariant.above b t x (omega arith) ∙ (ap (name_in x) (o b u) ∙ name_in-past x e (to_come b c.next.new.self) (c.highest_with-self.ensures.passed x h))
+    c.entries.invariant.above b t x (omega arith) ∙ (ap (name_in x) (o b u).entries ∙ name_in-past x e
+    (to_come b c.next.new.self) (c.highest_with-self.ensures.passed x h))
 
 pub returns-clause-name : goal.returns-clause-name
 returns-clause-name g c = λ b t.
     let u = ap (λ d. d.contents) c.entries.invariant.device ∙ t in
-    let o = rw c.in_default.is at c.in_ok-entry.ensures.entries in
-    c.entries.invariant.name b t ∙ ap (name_in c.args.number) (o b u)
+    let o = rw c.in_default.is at c.in_ok-entry.ensures.entry in
+    c.entries.invariant.name b t ∙ ap (name_in c.args.number) (o b u).entries
 
 -- no entry is left
 pub returns-clause-above : goal.returns-clause-above
 returns-clause-above g c = λ b t x h.
     let u = ap (λ d. d.contents) c.entries.invariant.device ∙ t in
-    let o = rw c.in_default.is at c.in_ok-entry.ensures.entries in
-    c.entries.invariant.above b t x h ∙ (ap (name_in x) (o b u) ∙ sym (ap (name_in x) (c.stop.ensures.entries b)))
+    let o = rw c.in_default.is at c.in_ok-entry.ensures.entry in
+    c.entries.invariant.above b t x h ∙ (ap (name_in x) (o b u).entries ∙ sym
+    (ap (name_in x) (c.stop.ensures.entries b)))
 
 pub entries-preserved : goal.entries-preserved
 entries-preserved g c =
     let i = c.entries.invariant in
-    let device = c.in_ok-entry.ensures.ok ∙ i.device in
+    let device = c.in_ok-entry.ensures.read ∙ i.device in
     let low = c.highest_with-self.ensures.grows in
     let before = i.grows in
+    let ready = rw i.geometry at c.next.ensures.ready in
     record {
       name = λ b t.
           let u = ap (λ d. d.contents) i.device ∙ t in
-          let o = rw c.in-Some.is at c.in_ok-entry.ensures.entries in
+          let o = rw c.in-Some.is at c.in_ok-entry.ensures.entry in
           let e = roled_of c.in-Some.entry (last_name c.next.new.self) in
-          i.name b t ∙ (ap (name_in c.args.number) (o b u) ∙ name_in-past c.args.number e (to_come b c.next.new.self) (sym c.names.ensures ∙ c.if-names.false));
+          i.name b t ∙ (ap (name_in c.args.number) (o b u).entries ∙ name_in-past c.args.number e
+          (to_come b c.next.new.self) (sym c.names.ensures ∙ c.if-names.false));
       above = λ b t x h.
           let u = ap (λ d. d.contents) i.device ∙ t in
-          let o = rw c.in-Some.is at c.in_ok-entry.ensures.entries in
+          let o = rw c.in-Some.is at c.in_ok-entry.ensures.entry in
           let e = roled_of c.in-Some.entry (last_name c.next.new.self) in
-          i.above b t x (omega arith) ∙ (ap (name_in x) (o b u) ∙ name_in-past x e (to_come b c.next.new.self) (c.highest_with-self.ensures.passed x h));
+          i.above b t x (omega arith) ∙ (ap (name_in x) (o b u).entries ∙ name_in-past x e
+          (to_come b c.next.new.self) (c.highest_with-self.ensures.passed x h));
       grows = omega arith;
       geometry = c.next.ensures.geometry ∙ i.geometry;
       windows = record {
-        volume = rw c.in_ok-entry.ensures.ok i.windows.volume;
+        volume = ready.walk.volume;
         table = i.windows.table;
-        blocks = c.next.ensures.size ∙ i.windows.blocks;
-        chunk = c.next.ensures.data_size ∙ i.windows.chunk;
-        table_holds = rw c.in_ok-entry.ensures.ok i.windows.table_holds;
-        blocks_hold = rw (← i.geometry) c.next.ensures.holds;
-        chunk_holds = c.next.ensures.data_holds;
+        blocks = ready.walk.room;
+        chunk = ready.room;
+        table_holds = rw c.in_ok-entry.ensures.read i.windows.table_holds;
+        blocks_hold = ready.walk.holds;
+        chunk_holds = ready.holds;
       };
       device = device;
     }

@@ -9,5 +9,6 @@ returns-clause-entries g c = λ b t dir cut.
     let v = c.args.geometry.now.layout in
     let is = dir_is v b c.args.dir dir in
     let inode = c.in_ok-inode.ensures.inode b t in
-    c.start.ensures.entries b (subst (λ (x : Inode). x.size < 2147483648) (sym inode) (dir_size v (inode_of v b c.args.dir) is.1))
+    c.start.ensures.begins.entries b (subst (λ (x : Inode). x.size < 2147483648) (sym inode)
+    (dir_size v (inode_of v b c.args.dir) is.1))
     ∙ dir_seen v b c.args.dir c.in_ok-inode.inode c.args.cut c.args.geometry.now.sound is.0 inode cut
