@@ -41,12 +41,6 @@ pub none_ended : {T A : Type 0} {K : A → Type 0} (o : Option T) (P : A → Typ
 none_ended None P f = f
 none_ended (Some x) P f = tt
 
--- what a call leaves of an image, by both outcomes
-pub read_after : {T : Type 0} (r : Result T ImageFault) (d d' : Device) → OnOk r (d' ≡ d)
-    → IfErr r (λ fault. Faulted d d' fault.sector) → ReadAfter d d' r
-read_after (Ok x) d d' ok err = ok
-read_after (Err fault) d d' ok err = err
-
 pub volume_in : (v v' : Layout) (d d' : Device) → v' ≡ v → d ≡ d' → v'.size * v'.fsize ≤ d'.size
     → v.size * v.fsize ≤ d.size
 volume_in v v' d d' e t h = rw (t, ← e) h

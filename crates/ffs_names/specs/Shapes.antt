@@ -4,7 +4,8 @@ use Rattle.std.specs.List.{flat_map}
 use Rattle.ffs_volume.specs.declared.Layout.{Layout}
 use Rattle.ffs_volume.specs.declared.Inode.{Inode}
 use Rattle.ffs_volume.specs.Blocks.Steps.{steps_of}
-use Rattle.ffs_volume.specs.Directories.Entries.{DIRBLKSIZ, entries_from, has_gap}
+use Rattle.ffs_volume.specs.declared.constants.TheConstants.{DIRBLKSIZ}
+use Rattle.ffs_volume.specs.Directories.Entries.{entries_from, has_gap}
 use Rattle.ffs_volume.specs.Directories.Roles.{roled_chunk}
 use Rattle.ffs_volume.specs.Directories.PathnameCheck.{are_sound}
 use Rattle.ffs_volume.specs.Encodings.Replay.{fresh_replay, replayed_steps}

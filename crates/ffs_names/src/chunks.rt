@@ -1,9 +1,10 @@
 //! The chunks of a directory.
 
-ghost use Rattle.std.specs.Prelude.{◌≡◌, ◌+◌, ◌≤◌, ◌<◌, ◌^◌, ◌∷◌, ℕ, List, [], true, Ok, None, OnOk, IfOk, OnErr, MatchBool, MatchOption, MatchResult};
+ghost use Rattle.std.specs.Prelude.{◌≡◌, ◌+◌, ◌*◌, ◌≤◌, ◌<◌, ◌^◌, ◌∷◌, ℕ, List, [], true, Ok, None, OnOk, IfOk, IfSome, OnErr, MatchBool, MatchOption, MatchResult};
 ghost use Rattle.ffs_image.specs.Device.{ForContents};
 ghost use Rattle.ffs_image.specs.Reads.{ReadAfter};
 ghost use Rattle.ffs_volume.specs.Blocks.Lengths.{HasLength};
+ghost use Rattle.ffs_volume.specs.Disk.Numbers.{piece};
 ghost use Rattle.ffs_volume.specs.Directories.Entries.{size_taken};
 ghost use Rattle.ffs_volume.specs.declared.Step.{Step as StepIn};
 ghost use Rattle.ffs_volume.specs.declared.Step.TheVariants.{Run};
@@ -41,6 +42,7 @@ pub struct Chunks {
 
 impl Chunks {
     ghost use Rattle.ffs_names.specs.Keepings.{replay_in};
+    ghost use Rattle.ffs_names.specs.RunCursors.{last_place};
     ghost use Rattle.ffs_names.specs.Readings.{all_chunks, rest, runs_left, IsSame, Continues, ContinuesTo, GivesChunk, BeginsAt};
 
     /// A Run is seen. Only one of data that is kept whole, and is in range, has chunks.
@@ -107,6 +109,10 @@ impl Chunks {
             «data».old }
         ensures chunk { IfOk result (λ offset. ForContents (I.device image.old).contents
             (λ b. GivesChunk b (all_chunks b) self.old self.new chunk.new offset)) }
+        ensures place { IfOk result (λ o. IfSome o (λ _. ForContents (I.device image.old).contents
+            (λ b. chunk.new ≡ piece (last_place self.new.run_cursor) 512 b))) }
+        ensures inside { IfOk result (λ o. IfSome o (λ _. last_place self.new.run_cursor + 512
+            ≤ self.old.walk.geometry.layout.size * self.old.walk.geometry.layout.fsize)) }
         ensures runs { OnErr result (ForContents (I.device image.old).contents
             (λ b. self.new.runs + runs_left b self.new ≤ self.old.runs + runs_left b self.old)) }
         ensures same { IsSame self.old self.new }
@@ -158,6 +164,10 @@ impl Chunks {
             «data».old }
         ensures chunk { IfOk result (λ offset. ForContents (I.device image.old).contents
             (λ b. GivesChunk b (rest b) self.old self.new chunk.new offset)) }
+        ensures place { IfOk result (λ o. IfSome o (λ _. ForContents (I.device image.old).contents
+            (λ b. chunk.new ≡ piece (last_place self.new.run_cursor) 512 b))) }
+        ensures inside { IfOk result (λ o. IfSome o (λ _. last_place self.new.run_cursor + 512
+            ≤ self.old.walk.geometry.layout.size * self.old.walk.geometry.layout.fsize)) }
         ensures runs { OnErr result (ForContents (I.device image.old).contents
             (λ b. self.new.runs + runs_left b self.new ≤ self.old.runs + runs_left b self.old)) }
         ensures budget { MatchResult result

@@ -51,11 +51,12 @@ fn has_right_size(inode: &Inode) -> bool
 impl Entries {
     ghost use Rattle.ffs_survey.specs.Reading.{roled_of};
     ghost use Rattle.ffs_names.specs.Shapes.{has_right_shape, HasEnded, BeginsDirectory, GivesEntry, IsSameChunk};
-    ghost use Rattle.ffs_names.specs.Entering.{to_come, left, last_name};
+    ghost use Rattle.ffs_names.specs.Entering.{to_come, left, last_name, IsHeld, IsInside, MayTake, name_place};
 
     /// A reading of the directory with this inode, of which no offer is kept after the cut (0 for none).
     pub fn start(geometry: &Geometry, inode: &Inode, cut: u32) -> Entries
         ensures begins { BeginsDirectory geometry.now.layout inode.now cut result }
+        ensures place { result.place ≡ 512 }
         ensures geometry { result.chunks.walk.geometry ≡ geometry.now }
     {
         let chunks = Chunks::start(geometry, inode, cut);
@@ -98,7 +99,7 @@ impl Entries {
         ensures geometry { self.new.chunks.walk.geometry ≡ self.old.chunks.walk.geometry }
     {
         let geometry = self.chunks.walk.geometry;
-        self.place = 512;
+        self.place = DIRBLKSIZ;
         self.index = 0;
         self.chunks = Chunks::start(&geometry, inode, cut);
         self.first = false;
@@ -125,6 +126,8 @@ impl Entries {
         ensures left { MatchOption result
             (is_some (entry_in self.new.order self.new.chunk self.new.place) ≡ false)
             (λ _. left self.new < left self.old) }
+        ensures chunk { self.new.chunk ≡ self.old.chunk }
+        ensures place { IfSome result (λ _. self.old.place < 512) }
         ensures same { IsSameChunk self.old self.new }
     {
         let Some(entry) = entry_at(self.order, &self.chunk, self.place) else {
@@ -159,6 +162,10 @@ impl Entries {
             blocks.old window.old }
         ensures entry { IfOk result (λ named. ForContents (I.device image.old).contents
             (λ b. GivesEntry b self.old self.new named)) }
+        ensures place { IfOk result (λ o. IfSome o (λ _. ForContents (I.device image.old).contents
+            (λ b. MayTake b self.old → IsHeld b self.new))) }
+        ensures inside { IfOk result (λ o. IfSome o (λ _.
+            (self.old.place < 512 → IsInside self.old) → IsInside self.new)) }
         ensures left { IfOk result (λ named. IfSome named (λ _. left self.new < left self.old)) }
         ensures geometry { self.new.chunks.walk.geometry ≡ self.old.chunks.walk.geometry }
         ensures ready { CanReadChunks self.old.chunks.walk.geometry.layout (I.device image.new)

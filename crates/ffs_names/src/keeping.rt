@@ -7,6 +7,8 @@ ghost use Rattle.ffs_volume.specs.Disk.Areas.{is_in_range as is_in_range_of};
 ghost use Rattle.ffs_volume.specs.Encodings.Replay.{is_replay_open as is_seen_in, is_replayed, fresh_replay};
 ghost use Rattle.ffs_volume.specs.Encodings.ReplayCounts.{counted_step};
 
+use ffs_volume::constants::MAXBAD;
+
 /// What is known of an inode that is walked again: the number of offers that it keeps where its eleventh dup offer cut
 /// it, else 0, and its bad Runs and kept offers so far. Kept offers are counted only where there is a cut.
 #[derive(Clone, Copy, Debug)]
@@ -54,7 +56,7 @@ impl Keeping {
         ensures cut { self.new.cut ≡ self.old.cut }
     {
         if !in_range {
-            let last = self.bad == 10;
+            let last = self.bad == MAXBAD;
             self.bad += 1;
             if last {
                 return false;

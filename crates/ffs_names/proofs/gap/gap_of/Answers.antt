@@ -25,16 +25,16 @@ steps-preserved-in-Some-Run g c =
     let r = c.in-Some-Run in
     let read = rw r.field-0-is at (rw r.is at c.in_ok-next.ensures.steps) in
     record {
-      same = c.in_ok-next.ensures.ok ∙ inv.same;
+      same = c.in_ok-next.ensures.read ∙ inv.same;
       kept = record {
-        geometry = c.next.ensures.geometry ∙ inv.kept.geometry;
+        geometry = c.next.ensures.same.geometry ∙ inv.kept.geometry;
         cut = c.take-kept.ensures.cut ∙
             inv.kept.cut;
         taken = inv.kept.taken;
         budget = inv.kept.budget;
       };
-      ready = walk_on _ _ _ _ _ _ inv.ready inv.kept.geometry (ap (λ d. d.size) c.in_ok-next.ensures.ok)
-          c.next.ensures.size c.next.ensures.holds;
+      ready = walk_on _ _ _ _ _ _ inv.ready inv.kept.geometry (ap (λ d. d.size) c.in_ok-next.ensures.read)
+          c.next.ensures.kept.size c.next.ensures.kept.holds;
       gap = λ b t. inv.gap b t
           ∙ (sym (gap_to_run s.walk.geometry.layout w.geometry.layout s.keeping.cut (replay_in s.keeping) false r.start r.len r._block (rest b s.walk) (rest b w)
           (ap (λ x. x.layout) c.next.ensures.same.geometry) (read b (ap (λ d. d.contents) inv.same ∙ t)))
@@ -51,16 +51,16 @@ steps-preserved g c =
     let r = c.in-Some-Tail in
     let read = rw r.field-0-is at (rw r.is at c.in_ok-next.ensures.steps) in
     record {
-      same = c.in_ok-next.ensures.ok ∙ inv.same;
+      same = c.in_ok-next.ensures.read ∙ inv.same;
       kept = record {
-        geometry = c.next.ensures.geometry ∙ inv.kept.geometry;
+        geometry = c.next.ensures.same.geometry ∙ inv.kept.geometry;
         cut = inv.kept.cut;
         taken =
             inv.kept.taken;
         budget = inv.kept.budget;
       };
-      ready = walk_on _ _ _ _ _ _ inv.ready inv.kept.geometry (ap (λ d. d.size) c.in_ok-next.ensures.ok)
-          c.next.ensures.size c.next.ensures.holds;
+      ready = walk_on _ _ _ _ _ _ inv.ready inv.kept.geometry (ap (λ d. d.size) c.in_ok-next.ensures.read)
+          c.next.ensures.kept.size c.next.ensures.kept.holds;
       gap = λ b t. inv.gap b t
           ∙ sym (gap_over_tail s.walk.geometry.layout w.geometry.layout s.keeping.cut (replay_in s.keeping) false (rest b s.walk) (rest b w)
           (ap (λ x. x.layout) c.next.ensures.same.geometry) (read b (ap (λ d. d.contents) inv.same ∙ t)));

@@ -2,20 +2,19 @@ use Rattle.std.proofs.Common.{◌∙◌, ap, sym, rules, arith}
 use Rattle.std.specs.Prelude.{slice_index}
 use Rattle.std.proofs.lemmas.List.{with_items_is}
 use Rattle.ffs_volume.proofs.Sizes.{some_inodes}
-use Rattle.ffs_names.proofs.SurveyHolds.{on_ok, read_after, volume_in, blocks_in, volume_survey, holds_survey, volume_calm, holds_calm}
+use Rattle.ffs_names.proofs.SurveyHolds.{on_ok, volume_in, blocks_in, volume_survey, holds_survey, volume_calm, holds_calm}
 use Rattle.ffs_names.proofs.graph.survey.Goals as goal
 
 pub returns-clause-read : goal.returns-clause-read
 returns-clause-read g c =
-    let image = c.image-1.given.1 (sym (ap (λ x. x.image_lent) c.survey.ensures.base)) in
-    read_after c.survey.result _ _ (rw image c.survey.ensures.device) (rw image c.survey.ensures.fault)
+    rw (c.image-1.given.1 (sym (ap (λ x. x.image_lent) c.survey.ensures.reader.same))) c.survey.ensures.reader.read
 
 pub returns-clause-ready : goal.returns-clause-ready
 returns-clause-ready g c =
     let v = c.args.geometry.now.layout in
-    let image = c.image-1.given.1 (sym (ap (λ x. x.image_lent) c.survey.ensures.base)) in
-    let same = ap (λ x. x.layout) c.survey.ensures.base in
-    let r = c.survey.ensures.ready.0 in
+    let image = c.image-1.given.1 (sym (ap (λ x. x.image_lent) c.survey.ensures.reader.same)) in
+    let same = ap (λ x. x.layout) c.survey.ensures.reader.same in
+    let r = c.survey.ensures.reader.is_ready.0 in
     record {
       made = search rules;
       volume = volume_in v _ _ _ same (ap g.I.Image.device image) r.volume;

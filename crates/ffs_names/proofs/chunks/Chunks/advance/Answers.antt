@@ -34,7 +34,7 @@ steps-preserved-in-Some-Tail g c =
     let w = c.next.new.self in
     let v = s.walk.geometry.layout in
     let r = replay_in s.keeping in
-    let same = ap (λ x. x.layout) c.next.ensures.geometry in
+    let same = ap (λ x. x.layout) c.next.ensures.same.geometry in
     let steps = λ (b : List ℕ) (t : (g.I.Image.device c.args.image.now).contents ≡ Some b).
     (rw c.in-Some-Tail.field-0-is at (rw c.in-Some-Tail.is at c.in_ok-next.ensures.steps)) b
     (ap (λ d. d.contents) i.device ∙ t) in
@@ -48,14 +48,14 @@ steps-preserved-in-Some-Tail g c =
             (steps b t);
       });
       same = record {
-        geometry = c.next.ensures.geometry ∙ i.same.geometry;
+        geometry = c.next.ensures.same.geometry ∙ i.same.geometry;
         cut = i.same.cut;
         taken = i.same.taken;
         budget = i.same.budget;
       };
-      ready = walk_on _ _ _ _ _ _ i.ready i.same.geometry (ap (λ d. d.size) c.in_ok-next.ensures.ok)
-          c.next.ensures.size c.next.ensures.holds;
-      device = c.in_ok-next.ensures.ok ∙ i.device;
+      ready = walk_on _ _ _ _ _ _ i.ready i.same.geometry (ap (λ d. d.size) c.in_ok-next.ensures.read)
+          c.next.ensures.kept.size c.next.ensures.kept.holds;
+      device = c.in_ok-next.ensures.read ∙ i.device;
     }
 
 pub steps-preserved : goal.steps-preserved
@@ -65,7 +65,7 @@ steps-preserved g c =
     let w = c.next.new.self in
     let v = s.walk.geometry.layout in
     let r = replay_in s.keeping in
-    let same = ap (λ x. x.layout) c.next.ensures.geometry in
+    let same = ap (λ x. x.layout) c.next.ensures.same.geometry in
     let steps = λ (b : List ℕ) (t : (g.I.Image.device c.args.image.now).contents ≡ Some b).
     (rw c.in-Some-Gap.field-0-is at (rw c.in-Some-Gap.is at c.in_ok-next.ensures.steps)) b
     (ap (λ d. d.contents) i.device ∙ t) in
@@ -79,14 +79,14 @@ steps-preserved g c =
             (sym c.is_replay_open.ensures ∙ c.if-not-is_replay_open.false) (steps b t);
       });
       same = record {
-        geometry = c.next.ensures.geometry ∙ i.same.geometry;
+        geometry = c.next.ensures.same.geometry ∙ i.same.geometry;
         cut = i.same.cut;
         taken = i.same.taken;
         budget = i.same.budget;
       };
-      ready = walk_on _ _ _ _ _ _ i.ready i.same.geometry (ap (λ d. d.size) c.in_ok-next.ensures.ok)
-          c.next.ensures.size c.next.ensures.holds;
-      device = c.in_ok-next.ensures.ok ∙ i.device;
+      ready = walk_on _ _ _ _ _ _ i.ready i.same.geometry (ap (λ d. d.size) c.in_ok-next.ensures.read)
+          c.next.ensures.kept.size c.next.ensures.kept.holds;
+      device = c.in_ok-next.ensures.read ∙ i.device;
     }
 
 pub steps-preserved-in-Some-Run : goal.steps-preserved-in-Some-Run
@@ -97,7 +97,7 @@ steps-preserved-in-Some-Run g c =
     let v = s.walk.geometry.layout in
     let x = c.in-Some-Run in
     let r = replay_in s.keeping in
-    let same = ap (λ x. x.layout) c.next.ensures.geometry in
+    let same = ap (λ x. x.layout) c.next.ensures.same.geometry in
     let steps = λ (b : List ℕ) (t : (g.I.Image.device c.args.image.now).contents ≡ Some b).
     (rw x.field-0-is at (rw x.is at c.in_ok-next.ensures.steps)) b (ap (λ d. d.contents) i.device ∙ t) in
     record {
@@ -117,14 +117,14 @@ steps-preserved-in-Some-Run g c =
                 (steps b t) ∙ old.gap));
           };
       same = record {
-        geometry = c.see.ensures.same.geometry ∙ (c.next.ensures.geometry ∙ i.same.geometry);
+        geometry = c.see.ensures.same.geometry ∙ (c.next.ensures.same.geometry ∙ i.same.geometry);
         cut = c.see.ensures.same.cut ∙ i.same.cut;
         taken = c.see.ensures.same.taken ∙ i.same.taken;
         budget = c.see.ensures.same.budget ∙ i.same.budget;
       };
-      ready = walk_on _ _ _ _ _ _ i.ready i.same.geometry (ap (λ d. d.size) c.in_ok-next.ensures.ok)
-          c.next.ensures.size c.next.ensures.holds;
-      device = c.in_ok-next.ensures.ok ∙ i.device;
+      ready = walk_on _ _ _ _ _ _ i.ready i.same.geometry (ap (λ d. d.size) c.in_ok-next.ensures.read)
+          c.next.ensures.kept.size c.next.ensures.kept.holds;
+      device = c.in_ok-next.ensures.read ∙ i.device;
     }
 
 pub returns-then-not-is_replay_open-clause-found : goal.returns-then-not-is_replay_open-clause-found
@@ -151,7 +151,7 @@ returns-in-None-clause-continues g c = λ b t.
     let w = c.next.new.self in
     let v = s.walk.geometry.layout in
     let r = replay_in s.keeping in
-    let same = ap (λ x. x.layout) c.next.ensures.geometry in
+    let same = ap (λ x. x.layout) c.next.ensures.same.geometry in
     let none = c.next.ensures.none (c.in_ok-next.was ∙ ap (λ x. Ok x) c.in-None.is) in
     let steps = (rw c.in-None.is at c.in_ok-next.ensures.steps) b (ap (λ d. d.contents) i.device ∙ t) ∙ sym
     (over_rest b w none) in

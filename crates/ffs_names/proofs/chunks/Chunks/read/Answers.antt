@@ -30,3 +30,13 @@ returns-then-not-branch-clause-chunk g c = λ b t.
     let went = c.in_ok-advance.ensures.continues b t in
     let none = (rw c.if-not-branch.true at c.in_ok-advance.ensures.found) b t in
     record { chunks = (sym went.chunks ∙ none, none); runs = went.runs; gap = went.gap }
+
+pub returns-clause-place : goal.returns-clause-place
+returns-clause-place g c = λ b t.
+    let h = c.advance.new.self.run_cursor in
+    let more = rw c.if-not-branch.false at c.in_ok-advance.ensures.found in
+    let fits = h.in_run in
+    chunk_held h.place h.length h.next b (held_bytes c.fill.new.self) c.copy_from_slice.new.self c.bytes.result.now
+    (omega arith) c.copy_from_slice.ensures.after c.bytes.ensures
+    (c.in_ok-fill.ensures.bytes b (ap (λ d. d.contents) c.in_ok-advance.ensures.read ∙ t))
+    ∙ ap (λ n. piece (h.place + 512 * n) 512 b) (omega arith)

@@ -1,6 +1,7 @@
 use Rattle.std.proofs.Common.{◌∙◌, ◌+◌, ◌*◌, ◌≤◌, ap, sym, subst, arith}
 use Rattle.ffs_volume.specs.Disk.Numbers.{piece}
 use Rattle.ffs_names.specs.Readings.{rest}
+use Rattle.ffs_names.specs.RunCursors.{last_place}
 use Rattle.ffs_names.proofs.Continuing.{can_read, can_read_here}
 use Rattle.ffs_names.proofs.Entered.{none_came, chunk_came}
 use Rattle.ffs_names.proofs.Shaped.{shape_came, shape_ended, shape_same, fills_whole}
@@ -54,9 +55,26 @@ chunks-preserved g c =
           shape_came s.sound s.order s.chunks.walk.geometry.layout.order s.chunk s.place (rest b s.chunks) c.in-Some-2.offset c.next.new.chunk (rest b c.next.new.self) _ _
           none (sym s.same_order) o.chunks o.gap
           ∙ (shape_same b _ _ _ _ _ _ same.sound same.fills same.chunks ∙ i.shape b t);
+      place = λ b t held low.
+          let o = rw c.in-Some-2.is at c.in_ok-next.ensures.place in
+          o b (ap (λ d. d.contents) i.device ∙ t);
+      inside = λ held low.
+          let o = rw c.in-Some-2.is at c.in_ok-next.ensures.inside in
+          subst (λ q. last_place c.next.new.self.run_cursor + 512 ≤ q.layout.size * q.layout.fsize)
+          (sym c.next.ensures.geometry) o;
       left = let f = rw c.in-Some-2.is at c.in_ok-next.ensures.budget in let k = ap (λ x. x.budget) same.chunks in
           omega (arith, f, k, i.left);
       geometry = c.next.ensures.geometry ∙ geometry;
       ready = can_read_here _ _ _ _ _ c.next.ensures.ready geometry;
       device = c.in_ok-next.ensures.read ∙ i.device;
     }
+
+pub returns-in-Some-clause-place : goal.returns-in-Some-clause-place
+returns-in-Some-clause-place g c = λ b t held.
+    c.take.ensures.chunk ∙ (c.chunks.invariant.place b t held c.in-Some.ensures.place
+    ∙ ap (λ x. piece (last_place x.run_cursor) 512 b) (sym c.take.ensures.same.chunks))
+
+pub returns-in-Some-clause-inside : goal.returns-in-Some-clause-inside
+returns-in-Some-clause-inside g c = λ held.
+    subst (λ x. last_place x.run_cursor + 512 ≤ x.walk.geometry.layout.size * x.walk.geometry.layout.fsize)
+    (sym c.take.ensures.same.chunks) (c.chunks.invariant.inside held c.in-Some.ensures.place)
