@@ -6,11 +6,15 @@ use Rattle.std.proofs.lemmas.List.FromFn.{get_or-map-range_with_len}
 use Rattle.ffs_volume.specs.declared.Layout.{Layout}
 use Rattle.ffs_volume.specs.declared.Class.{Class}
 use Rattle.ffs_volume.specs.Disk.Numbers.{i32_at, u32_at, all_below}
-use Rattle.ffs_volume.specs.Groups.Records.{Summary, has_summary, right_frsum, group_size, are_sums}
+use Rattle.ffs_volume.specs.Groups.Records.{Summary, has_summary, right_summary, right_frsum, group_size, are_sums}
 use Rattle.ffs_layout.specs.Group.{summary_of}
 use Rattle.ffs_groups.specs.declared.counts.Counts.{Counts}
 use Rattle.ffs_groups.specs.Check.{AreCounts, counted, has_bits_of, same_counts, same_run}
 use Rattle.ffs_groups.specs.declared.counts.SummaryCounts.{SummaryCounts}
+use Rattle.ffs_groups.specs.declared.free.FreeCounts.{FreeCounts}
+use Rattle.ffs_groups.specs.declared.inodes.InodeCounts.{InodeCounts}
+use Rattle.ffs_groups.specs.Free.{AreFree}
+use Rattle.ffs_groups.specs.Inodes.{AreInodes}
 use Rattle.ffs_groups.proofs.MapWords.{same_below}
 use Rattle.ffs_groups.proofs.Signs.{bits_are}
 
@@ -51,7 +55,20 @@ sums_as v free class c block counts h right =
         (a && (b && (c && d))) ≡ (a' && (b' && (c' && d')))
     all_four a b c d a' b' c' d' p q r s = rw (p, q, r, s) refl
 
-pub same_summary_of : (a b i f a' b' i' f' : ℕ) → a ≡ a' → b ≡ b' → i ≡ i' → f ≡ f' →
+same_summary_of : (a b i f a' b' i' f' : ℕ) → a ≡ a' → b ≡ b' → i ≡ i' → f ≡ f' →
     Path Summary (record { dirs = a; blocks = b; inodes = i; fragments = f })
     (record { dirs = a'; blocks = b'; inodes = i'; fragments = f' })
 same_summary_of a b i f a' b' i' f' p q r s = rw (p, q, r, s) refl
+
+-- counts of fragments and of inodes are the counts of a group
+pub are_counts : (v : Layout) (free : ℕ → Bool) (class : ℕ → Class) (c : ℕ) (f : FreeCounts) (i : InodeCounts) →
+    AreFree v free c f → AreInodes v class c i →
+    AreCounts v free class c (record {
+      summary = record { dirs = i.dirs; blocks = f.blocks; inodes = i.free; fragments = f.fragments };
+      runs = f.runs;
+    })
+unfolding right_summary
+are_counts v free class c f i fragments inodes = record {
+  summary = same_summary_of _ _ _ _ _ _ _ _ inodes.dirs fragments.blocks inodes.free fragments.fragments;
+  runs = fragments.runs;
+}
