@@ -1,6 +1,6 @@
 //! Phase 4: how often inodes are referred to.
 
-ghost use Rattle.std.specs.Prelude.{◌≡◌, ◌<◌, [], ◌∷◌, ◌==◌, ◌||◌, ◌&&◌, not, List, ℕ, ◌+◌, ◌≤◌, map, slice_index, length, true, false, if◌then◌else◌, IfOk};
+ghost use Rattle.std.specs.Prelude.{◌≡◌, ◌<◌, [], ◌∷◌, ◌==◌, ◌||◌, ◌&&◌, not, List, ℕ, map, slice_index, length, true, if◌then◌else◌, IfOk};
 ghost use Rattle.ffs_image.specs.Reads.{ReadAfter};
 ghost use Rattle.ffs_volume.specs.Messages.Kinds.{of_names, phase4 as phase4_heading};
 ghost use Rattle.ffs_volume.specs.Directories.ReferenceCheck.{counted_lines, inode_lines, reference_lines};
@@ -13,7 +13,7 @@ ghost use Rattle.ffs_volume.specs.Blocks.Inodes.{is_allocated};
 ghost use Rattle.ffs_volume.specs.Encodings.Kinds.{class_of_kind, is_empty_dir_kind};
 ghost use Rattle.ffs_workspace.specs.Lengths.{inodes_of};
 ghost use Rattle.ffs_workspace.specs.Ready.{IsReady};
-ghost use Rattle.ffs_counts.specs.Ready.{HasPlace};
+ghost use Rattle.ffs_counts.specs.Ready.{HasPlace, IsFreeRun};
 
 use crate::reference::{line_for, say_line};
 use ffs_groups::inodes::are_used;
@@ -104,10 +104,7 @@ const FREE_RUN: usize = 64;
 // How many inodes from one on are passed over, since they are free: 64, or only the first, or none.
 fn free_run(kinds: &[u8], first: usize) -> usize
     requires { first < length kinds.now }
-    ensures within { first + result ≤ length kinds.now }
-    ensures free { (k : ℕ) → k < result
-        → is_allocated (class_of_kind (slice_index kinds.now (first + k))) ≡ false }
-    ensures used { result ≡ 0 → is_allocated (class_of_kind (slice_index kinds.now first)) ≡ true }
+    ensures { IsFreeRun kinds.now first result }
 {
     if kinds[first] != 0 {
         return 0;
