@@ -1,5 +1,5 @@
 -- What a workspace holds where only its windows have changed, and what is reported of an inode by it.
-use Rattle.std.proofs.Common.{◌≡◌, ℕ, ℤ, ◌-◌, ◌<◌, Bool, true, false, List, [], map, refl, ap, ◌∙◌, sym, slice_index, vec_len, arith}
+use Rattle.std.proofs.Common.{◌≡◌, ℕ, ℤ, zero, suc, ◌+◌, ◌-◌, ◌<◌, ◌≤◌, Bool, true, false, List, [], ◌∷◌, ◌++◌, length, map, refl, ap, ◌∙◌, sym, slice_index, vec_len, arith}
 use Rattle.std.specs.Prelude.{◌&&◌, ◌||◌, ◌==◌, not, if◌then◌else◌}
 use Rattle.std.specs.List.{slice_index_or}
 use Rattle.std.specs.declared.alloc.Global.{Global}
@@ -7,11 +7,11 @@ use Rattle.std.specs.declared.vec.Vec.{Vec}
 use Rattle.std.proofs.lemmas.List.{get_or_read}
 use Rattle.ffs_volume.specs.declared.Layout.{Layout}
 use Rattle.ffs_volume.specs.declared.Attr.{Attr}
+use Rattle.ffs_volume.specs.declared.Class.TheVariants.{Free, Unknown, File, Dir}
 use Rattle.ffs_volume.specs.declared.Inode.{Inode}
-use Rattle.ffs_volume.specs.declared.Label.{Label}
 use Rattle.ffs_volume.specs.Disk.Numbers.{is_the_count}
-use Rattle.ffs_volume.specs.Messages.Kinds.{NameMessage, of_names, lines_from}
-use Rattle.ffs_volume.specs.Blocks.Inodes.{inode_of}
+use Rattle.ffs_volume.specs.Messages.Kinds.{NameMessage, of_names, lines_from, reported, dead_marked, dead_zero, unref, unref_zero, link_count}
+use Rattle.ffs_volume.specs.Blocks.Inodes.{inode_of, is_allocated}
 use Rattle.ffs_volume.specs.Directories.Roles.{is_allocated_inode, is_suspect}
 use Rattle.ffs_volume.specs.Directories.PathnameCheck.{label_of, attributes}
 use Rattle.ffs_volume.specs.Directories.Volumes.{class_at, marked_at, volume_of, volume_with}
@@ -19,7 +19,7 @@ use Rattle.ffs_volume.specs.Directories.ReferenceCheck.{inode_lines, counted_lin
 use Rattle.ffs_volume.specs.Directories.Connectivity.{is_dead}
 use Rattle.ffs_workspace.specs.declared.workspace.Workspace.{Workspace}
 use Rattle.ffs_workspace.specs.Holds.{HoldsClaims, HoldsSurvey, bool_at}
-use Rattle.ffs_volume.specs.Encodings.Kinds.{kind_at, class_of_kind, is_empty_dir_kind, is_allocated_kind}
+use Rattle.ffs_volume.specs.Encodings.Kinds.{kind_at, class_of_kind, is_allocated_kind, is_dir_kind, is_empty_dir_kind}
 use Rattle.ffs_workspace.specs.Lengths.{inodes_of}
 use Rattle.ffs_workspace.proofs.KindLaws.{suspect_is, some_is}
 use Rattle.ffs_counts.specs.References.{reference_reported, attr_with}
@@ -45,18 +45,48 @@ inode_lines_are v b w i inode dead low h s is e =
     let label : label_of (class_of_kind (slice_index w.kinds.items i)) ≡ label_of (class_at v b i) = ap (λ k. label_of (class_of_kind k)) (h.kinds i) ∙ same_test label_of refl v b i in
     rw (is_dead_is, h.marked i, label, is, s.references i low) refl
 
-pub no_lines : (v : Layout) (b : List ℕ) (w : Workspace) (i kind : ℕ) → HoldsClaims v b w → kind ≡ slice_index w.kinds.items i → kind ≡ 0 → counted_lines (volume_of v b) i ≡ []
-no_lines v b w i kind h is e =
-    let none : is_allocated_inode (volume_of v b) i ≡ false = some_is v b i ∙ ap is_allocated_kind (sym (h.kinds i) ∙ sym is ∙ e) in
-    ap (λ t. if t then inode_lines (volume_of v b) i else []) none
+-- whether an inode is allocated, by the kind that a workspace holds
+kind_tests : (free unknown dir : Bool) → is_allocated (if free then Free else (if unknown then Unknown else (if dir then Dir else File))) ≡ not free
+kind_tests true unknown dir = refl
+kind_tests false true dir = refl
+kind_tests false false true = refl
+kind_tests false false false = refl
 
-not_zero : (k : ℕ) → (k ≡ 0 → ⊥) → (k == 0) ≡ false
-not_zero k apart = grind (arith, apart)
+allocated_is : (v : Layout) (b : List ℕ) (w : Workspace) (i : ℕ) → HoldsClaims v b w → is_allocated_inode (volume_of v b) i ≡ is_allocated (class_of_kind (slice_index w.kinds.items i))
+allocated_is v b w i h =
+    let k = slice_index w.kinds.items i in
+    some_is v b i ∙ ap is_allocated_kind (sym (h.kinds i)) ∙ sym (kind_tests (k == 0) (k == 15) (is_dir_kind k))
 
-pub some_lines : (v : Layout) (b : List ℕ) (w : Workspace) (i kind : ℕ) → HoldsClaims v b w → kind ≡ slice_index w.kinds.items i → (kind ≡ 0 → ⊥) → inode_lines (volume_of v b) i ≡ counted_lines (volume_of v b) i
-some_lines v b w i kind h is apart =
-    let some : is_allocated_inode (volume_of v b) i ≡ true = some_is v b i ∙ ap is_allocated_kind (sym (h.kinds i) ∙ sym is) ∙ ap not (not_zero kind apart) in
-    ap (λ t. if t then inode_lines (volume_of v b) i else []) (sym some)
+pub no_lines : (v : Layout) (b : List ℕ) (w : Workspace) (i : ℕ) → HoldsClaims v b w → is_allocated (class_of_kind (slice_index w.kinds.items i)) ≡ false → counted_lines (volume_of v b) i ≡ []
+no_lines v b w i h e = ap (λ t. if t then inode_lines (volume_of v b) i else []) (allocated_is v b w i h ∙ e)
+
+pub some_lines : (v : Layout) (b : List ℕ) (w : Workspace) (i : ℕ) → HoldsClaims v b w → is_allocated (class_of_kind (slice_index w.kinds.items i)) ≡ true → inode_lines (volume_of v b) i ≡ counted_lines (volume_of v b) i
+some_lines v b w i h e = ap (λ t. if t then inode_lines (volume_of v b) i else []) (sym (allocated_is v b w i h ∙ e))
+
+-- free inodes have no lines: those of the numbers from d on are those of the numbers after them
+skip_none : (lines : ℕ → List NameMessage) (k d n : ℕ) → ((j : ℕ) → j < k → lines (d + j) ≡ []) → lines_from lines d (k + n) ≡ lines_from lines (d + k) n
+unfolding lines_from
+skip_none lines zero d n none =
+    let q : d ≡ d + 0 = omega arith in
+    let z : 0 + n ≡ n = omega arith in
+    ap (lines_from lines d) z ∙ ap (λ (e : ℕ). lines_from lines e n) q
+skip_none lines (suc k) d n none =
+    let z : d ≡ d + 0 = omega arith in
+    let first : lines d ≡ [] = ap lines z ∙ none 0 (omega arith) in
+    let rest : lines_from lines (suc d) (k + n) ≡ lines_from lines (suc d + k) n = skip_none lines k (suc d) n
+    (λ j h. let q : suc d + j ≡ d + suc j = omega arith in ap lines q ∙ none (suc j) (omega (arith, h))) in
+    let at : suc d + k ≡ d + suc k = omega arith in
+    let more : suc k + n ≡ suc (k + n) = omega arith in
+    ap (lines_from lines d) more ∙ ap (λ (xs : List NameMessage). xs ++ lines_from lines (suc d) (k + n)) first ∙ rest ∙ ap (λ (e : ℕ). lines_from lines e n) at
+
+pub free_lines : (v : Layout) (b : List ℕ) (w : Workspace) (kinds : List ℕ) (d k n : ℕ) → HoldsClaims v b w → kinds ≡ w.kinds.items →
+    ((j : ℕ) → j < k → is_allocated (class_of_kind (slice_index kinds (d + j))) ≡ false) → d + k ≤ n →
+    map of_names (lines_from (counted_lines (volume_of v b)) d (n - d)) ≡ map of_names (lines_from (counted_lines (volume_of v b)) (d + k) (n - (d + k)))
+free_lines v b w kinds d k n h e none low =
+    let q : n - d ≡ k + (n - (d + k)) = omega (arith, low) in
+    ap (λ (m : ℕ). map of_names (lines_from (counted_lines (volume_of v b)) d m)) q
+    ∙ ap (λ (xs : List NameMessage). map of_names xs)
+    (skip_none (counted_lines (volume_of v b)) k d (n - (d + k)) (λ j l. no_lines v b w (d + j) h (ap (λ (ks : List ℕ). is_allocated (class_of_kind (slice_index ks (d + j)))) (sym e) ∙ none j l)))
 
 pub same_reported : (dead m m' : Bool) (k k' : ℕ) (attr : Attr) (nlink : ℤ) (r r' : ℕ) → m ≡ m' → k ≡ k' → r ≡ r' →
     reference_reported dead m' (label_of (class_of_kind k')) attr nlink r' ≡ reference_reported dead m (label_of (class_of_kind k)) attr nlink r
@@ -66,14 +96,37 @@ pub lines_begin : (v : Layout) (b : List ℕ) → map of_names (reference_lines 
 unfolding reference_lines volume_of volume_with
 lines_begin v b = ap (λ (ls : List NameMessage). map of_names ls) (all_from (counted_lines (volume_of v b)) (inodes_of v))
 
--- nothing is reported of an inode that isn't dead, is referred to, and has a link for each reference
-none_reported : (dead m : Bool) (label : Label) (attr : Attr) (nlink : ℤ) (r : ℕ) → dead ≡ false → (r == 0) ≡ false → is_the_count nlink r ≡ true → reference_reported dead m label attr nlink r ≡ []
-none_reported dead m label attr nlink r e f g = rw (e, f, g) refl
+-- there is one message, or none where an inode isn't dead, is referred to, and has a link for each reference
+one_reported : (dead m never none same : Bool) (a b c d e : NameMessage) →
+    length (if dead then (if m then a ∷ [] else b ∷ []) else (if never then (if none then c ∷ [] else d ∷ []) else reported (not same) e)) ≡ (if same && (not never && not dead) then 0 else 1)
+one_reported true true true none true a b c d e = refl
+one_reported true true false none true a b c d e = refl
+one_reported true false true none true a b c d e = refl
+one_reported true false false none true a b c d e = refl
+one_reported true true never none false a b c d e = refl
+one_reported true false never none false a b c d e = refl
+one_reported false m true true true a b c d e = refl
+one_reported false m true true false a b c d e = refl
+one_reported false m true false true a b c d e = refl
+one_reported false m true false false a b c d e = refl
+one_reported false m false none true a b c d e = refl
+one_reported false m false none false a b c d e = refl
 
 pub right_lines : (v : Layout) (b : List ℕ) (w : Workspace) (i r : ℕ) (dead same : Bool) → i < inodes_of v → HoldsClaims v b w → HoldsSurvey v b w →
-    dead ≡ ((bool_at w.marked.items i || is_empty_dir_kind (slice_index w.kinds.items i)) && (not (i == 2) && not (bool_at w.named.items i))) → dead ≡ false →
-    r ≡ slice_index w.references.items i → (r ≡ 0 → ⊥) → same ≡ is_the_count (inode_of v b i).nlink r → same ≡ true → inode_lines (volume_of v b) i ≡ []
-right_lines v b w i r dead same low h s is alive refs some counted right =
-    inode_lines_are v b w i (inode_of v b i) dead low h s refl is
-    ∙ none_reported dead (bool_at w.marked.items i) (label_of (class_of_kind (slice_index w.kinds.items i))) (attr_with i (inode_of v b i)) (inode_of v b i).nlink (slice_index w.references.items i)
-    alive (ap (λ n. n == 0) (sym refs) ∙ not_zero r some) (ap (is_the_count (inode_of v b i).nlink) (sym refs) ∙ sym counted ∙ right)
+    dead ≡ ((bool_at w.marked.items i || is_empty_dir_kind (slice_index w.kinds.items i)) && (not (i == 2) && not (bool_at w.named.items i))) →
+    r ≡ slice_index w.references.items i → same ≡ is_the_count (inode_of v b i).nlink r →
+    length (inode_lines (volume_of v b) i) ≡ (if same && (not (r == 0) && not dead) then 0 else 1)
+right_lines v b w i r dead same low h s is refs counted =
+    let label = label_of (class_of_kind (slice_index w.kinds.items i)) in
+    let attr = attr_with i (inode_of v b i) in
+    let nlink = (inode_of v b i).nlink in
+    ap (λ (ls : List NameMessage). length ls) (inode_lines_are v b w i (inode_of v b i) dead low h s refl is
+    ∙ ap (λ n. reference_reported dead (bool_at w.marked.items i) label attr nlink n) (sym refs))
+    ∙ one_reported dead (bool_at w.marked.items i) (r == 0) (is_the_count nlink 0) (is_the_count nlink r)
+    (dead_marked label attr) (dead_zero attr) (unref_zero label attr) (unref label attr) (link_count label attr nlink r)
+    ∙ ap (λ (t : Bool). if t && (not (r == 0) && not dead) then 0 else 1) (sym counted)
+
+-- a list of no length
+pub none_of : (lines : List NameMessage) → length lines ≡ 0 → lines ≡ []
+none_of [] e = refl
+none_of (x ∷ xs) e = absurd (omega (arith, e))

@@ -1,8 +1,10 @@
 -- What the check of groups and the check of references need of a workspace.
-use Rattle.std.specs.Prelude.{ℕ, ◌≡◌, ◌*◌, ◌<◌, ◌≤◌, List, length, vec_len}
+use Rattle.std.specs.Prelude.{ℕ, ◌≡◌, ◌+◌, ◌*◌, ◌<◌, ◌≤◌, List, length, vec_len, true, false}
 use Rattle.ffs_image.specs.Device.{Device}
 use Rattle.ffs_maps.specs.declared.FragmentMap.{FragmentMap}
+use Rattle.ffs_volume.specs.Blocks.Inodes.{is_allocated}
 use Rattle.ffs_volume.specs.declared.Layout.{Layout}
+use Rattle.ffs_groups.specs.Inodes.{class_in}
 use Rattle.ffs_walk.specs.Windows.{WindowHolds}
 use Rattle.ffs_workspace.specs.declared.workspace.Windows.{Windows}
 use Rattle.ffs_workspace.specs.declared.workspace.Workspace.{Workspace}
@@ -23,3 +25,9 @@ pub record HasPlace (w : Workspace) (number : ℕ) : Type 0 where
   pub kinds : number < vec_len w.kinds
   pub marked : number < vec_len w.marked
   pub named : number < vec_len w.named
+
+-- so many inodes from one on are free, and there are none only where that one is allocated
+pub record IsFreeRun (kinds : List ℕ) (first n : ℕ) : Type 0 where
+  pub within : first + n ≤ length kinds
+  pub free : (k : ℕ) → k < n → is_allocated (class_in kinds (first + k)) ≡ false
+  pub used : n ≡ 0 → is_allocated (class_in kinds first) ≡ true

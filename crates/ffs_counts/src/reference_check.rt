@@ -1,6 +1,6 @@
 //! Phase 4: how often inodes are referred to.
 
-ghost use Rattle.std.specs.Prelude.{◌≡◌, ◌<◌, [], ◌∷◌, ◌==◌, ◌||◌, ◌&&◌, not, List, ℕ, map, slice_index, vec_len, IfOk, IsTrue};
+ghost use Rattle.std.specs.Prelude.{◌≡◌, ◌<◌, [], ◌∷◌, ◌==◌, ◌||◌, ◌&&◌, not, List, ℕ, map, slice_index, length, true, if◌then◌else◌, IfOk};
 ghost use Rattle.ffs_image.specs.Reads.{ReadAfter};
 ghost use Rattle.ffs_volume.specs.Messages.Kinds.{of_names, phase4 as phase4_heading};
 ghost use Rattle.ffs_volume.specs.Directories.ReferenceCheck.{counted_lines, inode_lines, reference_lines};
@@ -9,12 +9,14 @@ ghost use Rattle.ffs_report.specs.Progress.{progress};
 ghost use Rattle.ffs_phase.specs.Known.{IsContents};
 ghost use Rattle.ffs_phase.specs.Runs.{ImageAfter, PhaseReports};
 ghost use Rattle.ffs_workspace.specs.Holds.{HoldsClaims, HoldsSurvey, bool_at};
-ghost use Rattle.ffs_volume.specs.Encodings.Kinds.{is_empty_dir_kind};
+ghost use Rattle.ffs_volume.specs.Blocks.Inodes.{is_allocated};
+ghost use Rattle.ffs_volume.specs.Encodings.Kinds.{class_of_kind, is_empty_dir_kind};
 ghost use Rattle.ffs_workspace.specs.Lengths.{inodes_of};
 ghost use Rattle.ffs_workspace.specs.Ready.{IsReady};
-ghost use Rattle.ffs_counts.specs.Ready.{HasPlace};
+ghost use Rattle.ffs_counts.specs.Ready.{HasPlace, IsFreeRun};
 
 use crate::reference::{line_for, say_line};
+use ffs_groups::inodes::are_used;
 use ffs_image::{Image, ImageFault};
 use ffs_layout::Geometry;
 use ffs_phase::RunFault;
@@ -34,7 +36,14 @@ fn is_dead(workspace: &Workspace, number: u32) -> bool
     suspect && number != ROOTINO && !workspace.named[place]
 }
 
-// Whether an inode that is allocated isn't dead, is referred to, and has a link for each reference: nothing is reported of it.
+// Whether nothing is reported of an inode that is allocated: it isn't dead, is referred to, and has a link for each reference.
+fn is_quiet(dead: bool, references: u64, linked: bool) -> bool
+    ensures { result ≡ (linked && (not (references == 0) && not dead)) }
+{
+    linked && references != 0 && !dead
+}
+
+// Whether nothing is reported of an inode that is allocated. Otherwise it has one line.
 fn is_right<I: Image>(
     workspace: &mut Workspace,
     geometry: &Geometry,
@@ -43,25 +52,24 @@ fn is_right<I: Image>(
 ) -> Result<bool, ImageFault>
     requires ready { IsReady geometry.now.layout (I.device image.old) workspace.old }
     requires number { number < inodes_of geometry.now.layout }
-    ensures quiet { IfOk result (λ right. IsTrue right → (bytes : List ℕ)
+    ensures lines { IfOk result (λ right. (bytes : List ℕ)
         → IsContents (I.device image.old).contents bytes
         → HoldsClaims geometry.now.layout bytes workspace.old
         → HoldsSurvey geometry.now.layout bytes workspace.old
-        → inode_lines (volume_of geometry.now.layout bytes) number ≡ []) }
+        → length (inode_lines (volume_of geometry.now.layout bytes) number)
+        ≡ (if right then 0 else 1)) }
     ensures held { workspace.new ≡ record workspace.old { windows = workspace.new.windows } }
     ensures ready { IsReady geometry.now.layout (I.device image.new) workspace.new }
     ensures read { ReadAfter (I.device image.old) (I.device image.new) result }
 {
     let references = workspace.references[number as usize];
-    if references == 0 || is_dead(workspace, number) {
-        return Ok(false);
-    }
+    let dead = is_dead(workspace, number);
     let table = &mut workspace.windows.table;
     let linked = table.has_links(geometry, number, references, image)?;
-    Ok(linked)
+    Ok(is_quiet(dead, references, linked))
 }
 
-// What is reported of an inode that is allocated.
+// Says what is reported of an inode that is allocated.
 fn report_inode<I: Image, W: Output>(
     workspace: &mut Workspace,
     geometry: &Geometry,
@@ -91,7 +99,27 @@ fn report_inode<I: Image, W: Output>(
     Ok(())
 }
 
-// What is reported of an inode.
+/// How many free inodes are passed over at once.
+const FREE_RUN: usize = 64;
+
+// How many inodes from one on are passed over, since they are free: 64, or only the first, or none.
+fn free_run(kinds: &[u8], first: usize) -> usize
+    requires { first < length kinds.now }
+    ensures { IsFreeRun kinds.now first result }
+{
+    if kinds[first] != 0 {
+        return 0;
+    }
+    if kinds.len() - first < FREE_RUN {
+        return 1;
+    }
+    match are_used(&kinds[first..first + FREE_RUN]) {
+        Some(false) => FREE_RUN,
+        _ => 1,
+    }
+}
+
+// What is reported of an inode that is allocated.
 fn check_inode<I: Image, W: Output>(
     workspace: &mut Workspace,
     geometry: &Geometry,
@@ -101,6 +129,8 @@ fn check_inode<I: Image, W: Output>(
 ) -> Result<(), RunFault>
     requires ready { IsReady geometry.now.layout (I.device image.old) workspace.old }
     requires number { number < inodes_of geometry.now.layout }
+    requires used { is_allocated (class_of_kind (slice_index workspace.old.kinds.items number))
+        ≡ true }
     ensures image { ImageAfter (I.device image.old) (I.device image.new) result }
     ensures text { PhaseReports (λ bytes. IsContents (I.device image.old).contents bytes
         × HoldsClaims geometry.now.layout bytes workspace.old
@@ -110,10 +140,6 @@ fn check_inode<I: Image, W: Output>(
     ensures held { workspace.new ≡ record workspace.old { windows = workspace.new.windows } }
     ensures ready { IsReady geometry.now.layout (I.device image.new) workspace.new }
 {
-    let kind = workspace.kinds[number as usize];
-    if kind == 0 {
-        return Ok(());
-    }
     if is_right(workspace, geometry, number, image)? {
         return Ok(());
     }
@@ -143,8 +169,16 @@ pub fn phase4<I: Image, W: Output>(
     ensures ready { IsReady geometry.now.layout (I.device image.new) workspace.new }
 {
     report.say(&Line::Heading(Heading::Phase4))?;
-    for number in 0..geometry.layout.ncg * geometry.layout.ipg {
-        check_inode(workspace, geometry, number, image, report)?;
+    let inodes = geometry.layout.ncg * geometry.layout.ipg;
+    let mut number = 0;
+    while number < inodes {
+        let free = free_run(&workspace.kinds, number as usize);
+        if free == 0 {
+            check_inode(workspace, geometry, number, image, report)?;
+            number += 1;
+        } else {
+            number += free as u32;
+        }
     }
     Ok(())
 }

@@ -4,9 +4,10 @@ use Rattle.ffs_volume.specs.Messages.Kinds.{Message, of_names, phase4, lines_fro
 use Rattle.ffs_volume.specs.Directories.ReferenceCheck.{counted_lines, reference_lines}
 use Rattle.ffs_volume.specs.Directories.Volumes.{volume_of}
 use Rattle.ffs_phase.proofs.Reporting.{of_begins, of_says, of_stops, of_same, of_part, of_fault, said_knows, reports_knowing}
+use Rattle.ffs_workspace.specs.declared.workspace.Workspace.{Workspace}
 use Rattle.ffs_workspace.specs.Lengths.{inodes_of}
 use Rattle.ffs_workspace.proofs.Leaving.{claims_held, survey_held}
-use Rattle.ffs_counts.proofs.Holding.{held_on, lines_begin}
+use Rattle.ffs_counts.proofs.Holding.{free_lines, held_on, lines_begin}
 use Rattle.ffs_volume.proofs.Numbered.{from_next, from_end}
 use Rattle.ffs_counts.proofs.reference_check.phase4.Goals as goal
 
@@ -21,6 +22,7 @@ pub loop-number-init : goal.loop-number-init
 loop-number-init g c =
     let v = c.args.geometry.now.layout in
     record {
+      within = omega arith;
       ready = c.requires.ready;
       device = refl;
       held = refl;
@@ -40,19 +42,38 @@ returns-in_err-check_inode-clause-text g c =
     inv.said (λ bytes k. from_next (counted_lines (volume_of v bytes)) n (inodes_of v) (omega (arith, c.loop-number-test.true)))
     (reports_knowing (Unit {0}) _ _ _ _ _ (Err c.in_err-check_inode.field-0.0) (λ bytes k. (ap (λ d. d.contents) inv.device ∙ k.0, claims_held v bytes _ _ inv.held k.1, survey_held v bytes _ _ inv.held k.2)) c.in_err-check_inode.ensures.text))
 
-pub loop-number-preserved : goal.loop-number-preserved
-loop-number-preserved g c =
+pub loop-number-preserved-then-free-eq0 : goal.loop-number-preserved-then-free-eq0
+loop-number-preserved-then-free-eq0 g c =
     let v = c.args.geometry.now.layout in
     let inv = c.loop-number.invariant in
     let n = c.loop-number.number in
     let ok = c.in_ok-check_inode.ensures in
     record {
+      within = omega (arith, c.loop-number-test.true);
       ready = ok.ready;
       device = ok.image ∙ inv.device;
       held = held_on c.args.workspace.now c.loop-number.workspace c.check_inode.new.workspace inv.held ok.held;
       said = of_part _ (λ bytes. map of_names (lines_from (counted_lines (volume_of v bytes)) n (inodes_of v - n))) (λ bytes. map of_names (counted_lines (volume_of v bytes) n)) (λ bytes. map of_names (lines_from (counted_lines (volume_of v bytes)) (n + 1) (inodes_of v - (n + 1)))) _ _ _ _ inv.said
           (λ bytes k. from_next (counted_lines (volume_of v bytes)) n (inodes_of v) (omega (arith, c.loop-number-test.true)))
           (said_knows _ _ _ _ _ _ (λ bytes k. (ap (λ d. d.contents) inv.device ∙ k.0, claims_held v bytes _ _ inv.held k.1, survey_held v bytes _ _ inv.held k.2)) ok.text);
+    }
+
+pub loop-number-preserved : goal.loop-number-preserved
+loop-number-preserved g c =
+    let v = c.args.geometry.now.layout in
+    let inv = c.loop-number.invariant in
+    let n = c.loop-number.number in
+    let free = c.free_run-free.result in
+    record {
+      within = omega (arith, c.free_run-free.ensures.within, c.deref.ensures.len, inv.ready.made.kinds);
+      ready = inv.ready;
+      device = inv.device;
+      held = inv.held;
+      said = of_same _ (λ bytes. map of_names (lines_from (counted_lines (volume_of v bytes)) n (inodes_of v - n)))
+          (λ bytes. map of_names (lines_from (counted_lines (volume_of v bytes)) (n + free) (inodes_of v - (n + free)))) _ _ _ inv.said
+          (λ bytes k. free_lines v bytes c.args.workspace.now c.deref.result.now n free (inodes_of v) k.1
+          (c.deref.ensures.value ∙ ap (λ (w : Workspace). w.kinds.items) inv.held) c.free_run-free.ensures.free
+          (omega (arith, c.free_run-free.ensures.within, c.deref.ensures.len, inv.ready.made.kinds)));
     }
 
 pub returns-clause-text : goal.returns-clause-text

@@ -1,4 +1,4 @@
-use Rattle.std.proofs.Common.{◌≡◌, ◌-◌, ◌∷◌, map}
+use Rattle.std.proofs.Common.{◌≡◌, ◌-◌, ◌≤◌, ◌∷◌, map}
 use Rattle.ffs_report.specs.Progress.{progress}
 use Rattle.ffs_phase.specs.Known.{IsContents}
 use Rattle.ffs_phase.specs.Runs.{SaidOf}
@@ -12,6 +12,7 @@ use Rattle.ffs_counts.proofs.reference_check.phase4.Given as goal
 
 abbrev pub invariant-loop-number : goal.invariant-loop-number
 invariant-loop-number g l = record {
+  within : l.number ≤ l.inodes;
   ready : IsReady l.geometry.layout (g.I.Image.device l.image) l.workspace;
   device : g.I.Image.device l.image ≡ g.I.Image.device l.fn.image;
   held : l.workspace ≡ record l.fn.workspace { windows = l.workspace.windows };
@@ -20,3 +21,6 @@ invariant-loop-number g l = record {
       (λ bytes. phase4 ∷ map of_names (reference_lines (volume_of l.geometry.layout bytes)))
       (progress g.W.Output.sink l.fn.report) (progress g.W.Output.sink l.report);
 }
+
+abbrev pub decreases-loop-number : goal.decreases-loop-number
+decreases-loop-number g l = l.inodes - l.number
