@@ -49,7 +49,8 @@ is_data_fragment v f = nat_lt f v.size && not (is_group_metadata v f)
 
 -- the fragments of a Run are all in range, and in one group
 unfoldable pub is_in_range : (v : Layout) (start len : ℕ) → Bool
-is_in_range v start len = all_below len (λ k. is_data_fragment v (start + k) && ((start + k) / v.fpg == start / v.fpg))
+is_in_range v start len =
+    all_below len (λ k. is_data_fragment v (start + k) && ((start + k) / v.fpg == start / v.fpg))
 
 -- no file may have f: it is before the data of group 0, in the summary area, or metadata of a group
 unfoldable pub is_reserved : Layout → ℕ → Bool

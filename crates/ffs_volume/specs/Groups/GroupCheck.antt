@@ -35,7 +35,8 @@ group_lines v image free class c =
 -- the lines of all groups, and of the superblock's totals, repeated ones too
 abbrev pub all_group_lines : Layout → List ℕ → List ℤ → (ℕ → Bool) → (ℕ → Class) → List BlockMessage
 all_group_lines v image totals free class =
-    flat_map (group_lines v image free class) (group_numbers v) ++ unless (is_total v free class totals) FreeCounts
+    flat_map (group_lines v image free class) (group_numbers v)
+    ++ unless (is_total v free class totals) FreeCounts
 
 -- which of the messages that a report has only once were reported
 pub record ReportedOnce : Type 0 where
