@@ -1,4 +1,4 @@
--- What a workspace keeps: the class of an inode as a number, and its kept offers as one number, from which they are
+-- What a workspace stores: the class of an inode as a number, and its kept offers as one number, from which they are
 -- replayed.
 pub mod Kinds
 pub mod Lists

@@ -1,4 +1,4 @@
--- The report: its opening, the text of a whole run, its end and its status, and the memory of a check.
+-- The report: its opening, its messages, its end and its status, and the bounds on memory and on Runs.
 pub mod Opening
 pub mod Whole
 pub mod Memory

@@ -18,7 +18,8 @@ pub enum Order {
     Big,
 }
 
-/// Why a superblock is refused.
+/// Why a superblock is refused. `Shape` is a layout whose parts don't fit each other (`is_shaped`), `Short` a volume that is larger
+/// than its image, and `Disagree` a last copy that has other numbers.
 #[derive(Clone, Copy, Debug, PartialEq, Eq)]
 pub enum SuperFault {
     CannotRead { sector: u64 },
@@ -33,7 +34,7 @@ pub enum SuperFault {
     Disagree,
 }
 
-/// The numbers of a superblock that say where a volume's parts lie.
+/// The numbers of a superblock that say where a volume's parts lie, and those that must be right for it, under their names of fs(5).
 #[derive(Clone, Copy, Debug, PartialEq, Eq)]
 pub struct Layout {
     pub order: Order,
@@ -64,7 +65,8 @@ pub struct Layout {
     pub postblformat: u32,
 }
 
-/// The places of the numbers in which the last copy of a superblock must agree.
+/// The offsets of the numbers in which the last copy of a superblock must agree: the magic number, and all of a `Layout` but
+/// `maxsymlinklen`, in the order of the fields.
 pub const LAYOUT_PLACES: [u16; 25] = [
     8, 12, 16, 20, 24, 28, 36, 40, 44, 48, 52, 56, 104, 116, 120, 152, 156, 160, 176, 180, 184,
     188, 1324, 1356, 1372,
@@ -73,22 +75,30 @@ pub const LAYOUT_PLACES: [u16; 25] = [
 /// One step of a walk over the addresses of an inode.
 #[derive(Clone, Copy, Debug, PartialEq, Eq)]
 pub enum Step {
+    /// Consecutive fragments at one address; `block` is None for an indirect block.
     Run {
         start: u32,
         len: u32,
         block: Option<u64>,
     },
+    /// The indirect block before it has an address past the end of the file.
     Tail,
+    /// An address of zero, a hole.
     Gap,
 }
 
 /// The class of an inode, by its mode, size and addresses.
 #[derive(Clone, Copy, Debug, PartialEq, Eq)]
 pub enum Class {
+    /// Its mode, size and addresses are 0.
     Free,
+    /// Its mode has no type, but something is set.
     Partial,
+    /// Its type isn't valid, or it is too large, or an address is set that its size doesn't use.
     Unknown,
+    /// Any other that is no directory.
     File,
+    /// A directory.
     Dir,
 }
 
@@ -100,11 +110,12 @@ pub struct Inode {
     pub size: u64,
     pub mtime: i32,
     pub addresses: [u32; 15],
+    /// In sectors of 512 bytes.
     pub blocks: u32,
     pub uid: u32,
 }
 
-/// How a run ends.
+/// How a check ends.
 #[derive(Clone, Copy, Debug, PartialEq, Eq)]
 pub enum End {
     /// No defect was reported.
@@ -113,7 +124,7 @@ pub enum End {
     Defects,
     /// The superblock is refused.
     Refused(SuperFault),
-    /// Inode 2 is no directory, and the run stopped after the pathname check.
+    /// Inode 2 is no directory, and the check stopped after phase 2.
     RootStop,
     /// A read at this sector failed.
     ReadFault(u64),
@@ -127,7 +138,7 @@ impl End {
     ghost use Rattle.ffs_volume.specs.Report.Whole.{status_of};
     ghost use Rattle.std.specs.Prelude.{◌≡◌};
 
-    /// The exit status of a run that ends so: 0 consistent, 1 defects, 8 for a run that isn't completed (fsck(8)).
+    /// The exit status of a check that ends so: 0 consistent, 1 defects, 8 for a check that isn't completed (as in fsck(8)).
     pub fn status(&self) -> u8
         ensures { result ≡ status_of self.now }
     {
@@ -149,6 +160,7 @@ pub enum BlockMessage {
     ManyBad { inode: u32 },
     ManyDup { inode: u32 },
     PartTrunc { inode: u32 },
+    /// `found` is what the inode has in its blocks field.
     BlockCount { inode: u32, found: u32, right: u64 },
     GroupMagic { group: u32 },
     FreeCounts,
@@ -171,10 +183,15 @@ pub struct Attr {
 /// The role of an entry of a directory.
 #[derive(Clone, Copy, Debug, PartialEq, Eq)]
 pub enum Role {
+    /// Its inode number is 0.
     Empty,
+    /// `.` in its place, the first.
     Dot,
+    /// `..` in its place, the second.
     Dotdot,
+    /// `.` or `..` in another place.
     Extra,
+    /// Any other.
     Plain,
 }
 
@@ -183,6 +200,7 @@ pub enum Role {
 pub enum Label {
     Dir,
     File,
+    /// Of no known type: its path is shown as that of a name.
     Name,
 }
 

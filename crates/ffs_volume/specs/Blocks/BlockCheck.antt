@@ -16,7 +16,7 @@ use Rattle.ffs_volume.specs.Blocks.Owners.{Owner, owners_of}
 use Rattle.ffs_volume.specs.Blocks.Claims.{Claims, no_claims, next_inode, is_open, is_set}
 use Rattle.ffs_volume.specs.Blocks.Claims.{after_offer, after_step, after_owner, after_owners, steps_lines}
 
--- what the class of an inode says
+-- the line of an inode's class
 abbrev pub class_lines : ℕ → Class → List BlockMessage
 class_lines inode Partial = PartAlloc inode ∷ []
 class_lines inode Unknown = UnknownType inode ∷ []
@@ -26,19 +26,20 @@ class_lines inode _ = []
 abbrev pub sectors : Layout → ℕ → ℕ
 sectors v fragments = fragments * (v.fsize / DEV_BSIZE)
 
--- the blocks field of a file or directory that wasn't cut, against its kept offers
+-- the line of a file or directory that wasn't cut, and whose blocks field isn't that of its kept offers
 abbrev pub count_lines : Layout → Owner → Claims → List BlockMessage
 count_lines v o end =
     if is_file_or_dir o.class && (is_open end && not (o.blocks == sectors v end.kept))
     then BlockCount o.number o.blocks (sectors v end.kept) ∷ []
     else []
 
--- the lines of an inode in phase 1, and of inodes one after the other
+-- the lines of an inode in phase 1
 abbrev pub owner_lines : Layout → Claims → Owner → List BlockMessage
 owner_lines v s o =
     class_lines o.number o.class
     ++ (steps_lines v o.number (next_inode s) o.steps ++ count_lines v o (after_owner v s o))
 
+-- the lines of inodes, one after the other
 abbrev pub owners_lines : Layout → Claims → List Owner → List BlockMessage
 owners_lines v s [] = []
 owners_lines v s (o ∷ os) = owner_lines v s o ++ owners_lines v (after_owner v s o) os
@@ -48,14 +49,14 @@ pub record Offer : Type 0 where
   pub inode : ℕ
   pub fragment : ℕ
 
--- the kept offers of some fragments, of a Run, of a step, of steps and of owners, as the fold of `Claims` keeps them
-abbrev pub kept_in_offers : Layout → ℕ → Claims → List ℕ → List Offer
+-- The kept offers, walking as `Claims` does: of some fragments, of a Run, of a step, of steps, and of inodes
+abbrev pub kept_in_offers : (v : Layout) (inode : ℕ) (s : Claims) (fs : List ℕ) → List Offer
 kept_in_offers v inode s [] = []
 kept_in_offers v inode s (f ∷ fs) =
     (if nat_lt s.dups (MAXDUP + 1) then record { inode = inode; fragment = f } ∷ [] else [])
     ++ kept_in_offers v inode (after_offer v s f) fs
 
-abbrev pub kept_in_run : Layout → ℕ → Claims → ℕ → ℕ → List Offer
+abbrev pub kept_in_run : (v : Layout) (inode : ℕ) (s : Claims) (start len : ℕ) → List Offer
 kept_in_run v inode s start len =
     if is_in_range v start len
     then kept_in_offers v inode (record s { runs = s.runs + 1 }) (range_with_len start len)
@@ -83,10 +84,11 @@ first_offer_lines dup (o ∷ os) =
     if is_set dup o.fragment then Dup o.fragment o.inode ∷ first_offer_lines (slice_set dup o.fragment false) os
     else first_offer_lines dup os
 
--- the lines of phase 1 and of phase 1b
+-- the lines of phase 1
 unfoldable pub phase1_lines : Layout → List Owner → List BlockMessage
 phase1_lines v os = owners_lines v (no_claims v) os
 
+-- the lines of phase 1b
 unfoldable pub phase1b_lines : Layout → List Owner → List BlockMessage
 phase1b_lines v os = first_offer_lines (after_owners v (no_claims v) os).dup (kept_in_owners v (no_claims v) os)
 
@@ -105,8 +107,8 @@ blames x (Bad fragment inode) = inode == x
 blames x (Dup fragment inode) = inode == x
 blames x _ = false
 
--- the inode is of an unknown type, or a line of phase 1 or 1b blames it
-unfoldable pub is_marked : Layout → List ℕ → ℕ → Bool
+-- the inode has the class Unknown, or a line of phase 1 or 1b blames it: what fsck(8) would clear
+unfoldable pub is_marked : (v : Layout) (image : List ℕ) (x : ℕ) → Bool
 is_marked v image x =
     is_unknown (class_of v (inode_of v image x))
     || list_any (blames x) (phase1_lines v (owners_of v image) ++ phase1b_lines v (owners_of v image))

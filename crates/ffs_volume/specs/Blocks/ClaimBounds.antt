@@ -1,4 +1,4 @@
--- Why the Runs that are seen are bounded: each raises the potential by one at least.
+-- A bound on the Runs that are seen: each raises the potential by at least one.
 use Rattle.std.specs.Prelude.{◌≡◌, ◌+◌, ◌*◌, ◌≤◌, ℕ, length, count_by}
 use Rattle.ffs_volume.specs.declared.constants.TheConstants.{MAXBAD, MAXDUP}
 use Rattle.ffs_volume.specs.Blocks.Claims.{Claims}

@@ -13,7 +13,7 @@ use Rattle.ffs_volume.specs.declared.Class.TheVariants.{Free, Partial, Unknown, 
 use Rattle.ffs_volume.specs.Disk.Numbers.{u16_at, i16_at, u32_at, i32_at, u64_at, piece}
 use Rattle.ffs_volume.specs.Disk.Areas.{inode_place}
 
--- the inode in 128 bytes, of which the numbers have this order
+-- an inode from its 128 bytes, whose numbers are in this order of bytes
 unfoldable pub decoded : Order → List ℕ → Inode
 decoded order bytes = record {
   mode = u16_at order 0 bytes;
@@ -26,7 +26,7 @@ decoded order bytes = record {
 }
 
 -- the inode x of an image
-unfoldable pub inode_of : Layout → List ℕ → ℕ → Inode
+unfoldable pub inode_of : (v : Layout) (image : List ℕ) (x : ℕ) → Inode
 inode_of v image x = decoded v.order (piece (inode_place v x) 128 image)
 
 -- the type bits of a mode, as a directory's entry has them
@@ -43,7 +43,7 @@ is_known_type kind =
 abbrev pub is_device : ℕ → Bool
 is_device kind = kind == DT_CHR || kind == DT_BLK
 
--- a symlink whose text is in the room of the addresses
+-- a symlink whose text is stored in place of the addresses
 abbrev pub is_short_symlink : Layout → Inode → Bool
 is_short_symlink v i = type_of i.mode == DT_LNK && nat_lt i.size v.maxsymlinklen
 
@@ -51,8 +51,9 @@ is_short_symlink v i = type_of i.mode == DT_LNK && nat_lt i.size v.maxsymlinklen
 abbrev pub logical_blocks_of : Layout → Inode → ℕ
 logical_blocks_of v i = div_ceil i.size v.bsize
 
--- how many of the fifteen addresses are used where there are this many logical blocks
-abbrev pub addresses_for : ℕ → ℕ → ℕ
+-- how many of the fifteen addresses are used where there are this many logical blocks, and a block has room for `words`
+-- addresses
+abbrev pub addresses_for : (words blocks : ℕ) → ℕ
 addresses_for words blocks =
     if nat_lt blocks (NDADDR + 1) then blocks
     else (if nat_lt (NDADDR + words) blocks
@@ -67,7 +68,7 @@ addresses_used v i =
     else addresses_for v.nindir
     (if is_device (type_of i.mode) then logical_blocks_of v i + 1 else logical_blocks_of v i)
 
--- an address isn't zero
+-- some address isn't zero
 abbrev pub is_any_set : List ℕ → Bool
 is_any_set addresses = list_any (λ a. not (a == 0)) addresses
 
@@ -77,7 +78,9 @@ is_too_large v i =
     nat_lt ((NDADDR + v.nindir + v.nindir * v.nindir + v.nindir * v.nindir * v.nindir) * v.bsize) i.size
     || (type_of i.mode == DT_DIR && nat_lt 2147483647 i.size)
 
--- the class of an inode
+-- The class of an inode. Free: its mode, size and addresses are 0. Partial: its mode has no type, but something is set.
+-- Unknown: its type isn't valid, or it is too large, or an address is set that its size doesn't use. Dir: a directory.
+-- File: any other
 unfoldable pub class_of : Layout → Inode → Class
 class_of v i =
     if type_of i.mode == 0
@@ -87,17 +90,18 @@ class_of v i =
     then Unknown
     else (if type_of i.mode == DT_DIR then Dir else File))
 
--- a file or a directory
+-- the class is File or Dir
 abbrev pub is_file_or_dir : Class → Bool
 is_file_or_dir File = true
 is_file_or_dir Dir = true
 is_file_or_dir _ = false
 
--- a directory, and an inode of an unknown type
+-- the class is Dir
 abbrev pub is_directory : Class → Bool
 is_directory Dir = true
 is_directory _ = false
 
+-- the class is Unknown
 abbrev pub is_unknown : Class → Bool
 is_unknown Unknown = true
 is_unknown _ = false

@@ -1,4 +1,5 @@
--- The kept offers of `BlockCheck` once more, by a rule on each offer; `keeping_is_by_rule` says that both are the same.
+-- The kept offers of `BlockCheck` once more, by a rule on each offer (`offer_verdict`); `keeping_is_by_rule` says that
+-- both are the same.
 use Rattle.std.specs.Prelude.{ℕ, Bool, ◌+◌, ◌&&◌, ◌||◌, List, [], ◌∷◌, ◌++◌, ◌==◌, nat_le, if◌then◌else◌, map, count_by}
 use Rattle.std.specs.List.{list_any, flat_map, range_with_len}
 use Rattle.ffs_volume.specs.declared.constants.TheConstants.{MAXBAD, MAXDUP}
@@ -15,23 +16,25 @@ pub record CountedOffer : Type 0 where
   pub fragment : ℕ
   pub bads : ℕ
 
--- how many bad Runs there are after a step
+-- how many bad Runs an inode has after a step
 abbrev pub bads_after : Layout → ℕ → Step → ℕ
 bads_after v bads (Run start len block) = if is_in_range v start len then bads else bads + 1
 bads_after v bads Tail = bads
 bads_after v bads Gap = bads
 
-abbrev pub counted_offer : ℕ → ℕ → ℕ → CountedOffer
+-- the offer of f to an inode with so many bad Runs
+abbrev pub counted_offer : (inode bads f : ℕ) → CountedOffer
 counted_offer inode bads f = record { inode = inode; fragment = f; bads = bads }
 
--- the offers of a step, and of steps one after the other
-abbrev pub step_offers : Layout → ℕ → ℕ → Step → List CountedOffer
+-- the offers of a step
+abbrev pub step_offers : (v : Layout) (inode bads : ℕ) → Step → List CountedOffer
 step_offers v inode bads (Run start len block) =
     map (counted_offer inode (bads_after v bads (Run start len block))) (range_with_len start len)
 step_offers v inode bads Tail = []
 step_offers v inode bads Gap = []
 
-abbrev pub steps_offers : Layout → ℕ → ℕ → List Step → List CountedOffer
+-- the offers of steps, one after the other
+abbrev pub steps_offers : (v : Layout) (inode bads : ℕ) (steps : List Step) → List CountedOffer
 steps_offers v inode bads [] = []
 steps_offers v inode bads (step ∷ steps) =
     step_offers v inode bads step ++ steps_offers v inode (bads_after v bads step) steps
@@ -47,15 +50,17 @@ pub record OfferVerdict : Type 0 where
   pub dup : Bool
   pub kept : Bool
 
--- an earlier kept offer has the fragment; how many dup offers of an inode there are
+-- an earlier kept offer has the fragment
 abbrev pub is_taken : List OfferVerdict → ℕ → Bool
 is_taken earlier f = list_any (λ j. j.kept && j.fragment == f) earlier
 
+-- how many dup offers of the inode there were
 abbrev pub dups_of : List OfferVerdict → ℕ → ℕ
 dups_of earlier i = count_by (λ j. j.dup && j.inode == i) earlier
 
--- an offer of a data fragment is dup when it is reserved or an earlier kept offer has it; an offer is kept when
--- at most ten bad Runs of its inode are at or before its Run and at most ten dup offers of the inode before it
+-- an offer of a fragment in range is dup where the fragment is reserved or an earlier kept offer has it. An offer is
+-- kept where at most ten bad Runs of its inode are at or before its Run, and at most ten dup offers of the inode
+-- before it
 unfoldable pub offer_verdict : Layout → List OfferVerdict → CountedOffer → OfferVerdict
 offer_verdict v earlier p = record {
   inode = p.inode;
@@ -64,7 +69,7 @@ offer_verdict v earlier p = record {
   kept = nat_le p.bads MAXBAD && nat_le (dups_of earlier p.inode) MAXDUP;
 }
 
--- the verdicts on all offers so far, after some more; the last is first
+-- the verdicts on all offers so far, the newest first, after some more offers
 abbrev pub verdicts : Layout → List OfferVerdict → List CountedOffer → List OfferVerdict
 verdicts v earlier [] = earlier
 verdicts v earlier (p ∷ ps) = verdicts v (offer_verdict v earlier p ∷ earlier) ps
@@ -73,7 +78,7 @@ verdicts v earlier (p ∷ ps) = verdicts v (offer_verdict v earlier p ∷ earlie
 abbrev pub offer_of : CountedOffer → Offer
 offer_of p = record { inode = p.inode; fragment = p.fragment }
 
--- the kept ones of some offers, in order
+-- those of some offers that the rule keeps, in order
 abbrev pub kept_by_rule : Layout → List OfferVerdict → List CountedOffer → List Offer
 kept_by_rule v earlier [] = []
 kept_by_rule v earlier (p ∷ ps) =

@@ -15,16 +15,16 @@ is_kept_step v s (Run start len block) = is_open s && (after_step v s (Run start
 is_kept_step v s Tail = is_open s
 is_kept_step v s Gap = is_open s
 
--- the kept ones of some steps
+-- those of some steps that are kept
 abbrev pub kept_steps : Layout → Claims → List Step → List Step
 kept_steps v s [] = []
 kept_steps v s (step ∷ steps) =
     (if is_kept_step v s step then step ∷ [] else []) ++ kept_steps v (after_step v s step) steps
 
--- what is known before the inode x
-unfoldable pub claims_before : Layout → List ℕ → ℕ → Claims
+-- the state before the inode x
+unfoldable pub claims_before : (v : Layout) (image : List ℕ) (x : ℕ) → Claims
 claims_before v image x = after_owners v (no_claims v) (map (owner_of v image) (range_with_len 2 (x - 2)))
 
 -- the kept steps of the inode x
-unfoldable pub kept_steps_of : Layout → List ℕ → ℕ → List Step
+unfoldable pub kept_steps_of : (v : Layout) (image : List ℕ) (x : ℕ) → List Step
 kept_steps_of v image x = kept_steps v (next_inode (claims_before v image x)) (steps_of v (inode_of v image x) image)

@@ -3,7 +3,7 @@ use Rattle.std.specs.Prelude.{ℕ, ◌<◌, ◌≤◌}
 use Rattle.ffs_volume.specs.declared.Step.{Step}
 use Rattle.ffs_volume.specs.declared.Step.TheVariants.{Run, Tail, Gap}
 
--- a Run has a fragment at least, and a block's fragments at most
+-- a Run has at least one fragment, and at most those of a block
 abbrev pub HasLength : ℕ → Step → Type 0
 HasLength frag (Run start len block) = (0 < len) × (len ≤ frag)
 HasLength frag Tail = Unit {0}

@@ -1,4 +1,4 @@
--- The inodes of an image, as those that may own fragments.
+-- The inodes of an image, as phase 1 sees them.
 use Rattle.std.specs.Prelude.{ℕ, ◌*◌, ◌-◌, List, [], map}
 use Rattle.std.specs.List.{flat_map, range_with_len}
 use Rattle.ffs_volume.specs.declared.Layout.{Layout}
@@ -8,14 +8,15 @@ use Rattle.ffs_volume.specs.declared.Step.TheVariants.{Run, Tail, Gap}
 use Rattle.ffs_volume.specs.Blocks.Inodes.{inode_of, class_of}
 use Rattle.ffs_volume.specs.Blocks.Steps.{steps_of}
 
--- an inode's number, class, steps and blocks field
+-- what phase 1 uses of an inode, also of a free one: its number, class, steps and blocks field, in sectors
 pub record Owner : Type 0 where
   pub number : ℕ
   pub class : Class
   pub steps : List Step
   pub blocks : ℕ
 
-unfoldable pub owner_of : Layout → List ℕ → ℕ → Owner
+-- the inode x of an image
+unfoldable pub owner_of : (v : Layout) (image : List ℕ) (x : ℕ) → Owner
 owner_of v image x = record {
   number = x;
   class = class_of v (inode_of v image x);
@@ -27,7 +28,7 @@ owner_of v image x = record {
 abbrev pub inode_numbers : Layout → List ℕ
 inode_numbers v = range_with_len 2 (v.ncg * v.ipg - 2)
 
--- their owners
+-- all inodes from 2 on, ascending
 unfoldable pub owners_of : Layout → List ℕ → List Owner
 owners_of v image = map (owner_of v image) (inode_numbers v)
 
@@ -41,6 +42,6 @@ step_fragments Gap = []
 abbrev pub fragments_of : List Step → List ℕ
 fragments_of steps = flat_map step_fragments steps
 
--- the steps of all owners, in order
+-- the steps of all inodes, in order
 abbrev pub all_steps : List Owner → List Step
 all_steps owners = flat_map (λ o. o.steps) owners

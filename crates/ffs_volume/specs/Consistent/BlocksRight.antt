@@ -1,4 +1,4 @@
--- Where every fragment has one owner at most, without order and keeping.
+-- When blocks are consistent. Nothing here depends on the order in which inodes are read, nor on what they keep.
 use Rattle.std.specs.Prelude.{◌≡◌, ℕ, ◌≤◌, Bool, true, false, ◌||◌, not, List, ◌==◌, length, count_by}
 use Rattle.std.specs.List.{list_all}
 use Rattle.ffs_volume.specs.declared.Layout.{Layout}
@@ -11,7 +11,7 @@ use Rattle.ffs_volume.specs.Blocks.Inodes.{is_file_or_dir}
 use Rattle.ffs_volume.specs.Blocks.Owners.{Owner, fragments_of, all_steps}
 use Rattle.ffs_volume.specs.Blocks.BlockCheck.{sectors}
 
--- free, or a file or a directory
+-- the class is Free, File or Dir
 abbrev pub is_right_class : Class → Bool
 is_right_class Partial = false
 is_right_class Unknown = false
@@ -29,7 +29,7 @@ is_no_tail Tail = false
 is_no_tail _ = true
 
 -- how often a number occurs
-abbrev pub times : ℕ → List ℕ → ℕ
+abbrev pub times : (f : ℕ) (fs : List ℕ) → ℕ
 times f fs = count_by (λ g. g == f) fs
 
 -- the blocks field of a file or directory is that of all its fragments
@@ -45,7 +45,7 @@ pub record AreRunsRight (v : Layout) (os : List Owner) : Type 0 where
   pub unreserved : (f : ℕ) → is_reserved v f ≡ true → times f (fragments_of (all_steps os)) ≡ 0
   pub counted : list_all (is_field_right v) os ≡ true
 
--- the classes are right, and all that their steps claim
+-- the classes of all inodes are right, and all that their steps claim
 pub record BlocksRight (v : Layout) (os : List Owner) : Type 0 where
   pub classes : list_all (λ o. is_right_class o.class) os ≡ true
   pub runs : AreRunsRight v os

@@ -1,4 +1,5 @@
--- When directories are consistent, in plain words: without order, firsts or parents.
+-- When directories are consistent. Nothing here depends on the order of directories, on which entry is the first to
+-- name an inode, or on parents.
 use Rattle.std.specs.Prelude.{ℕ, ◌≡◌, ◌≢◌, ◌≤◌, ◌<◌, ◌%◌, true, false, pos, [], ◌⊎◌, IsSomeAnd, Some}
 use Rattle.ffs_volume.specs.declared.constants.TheConstants.{WINO, ROOTINO, DIRBLKSIZ, DT_DIR, DT_WHT}
 use Rattle.ffs_volume.specs.declared.Class.TheVariants.{Partial, Unknown, Dir}
@@ -51,22 +52,23 @@ pub record AreLinksRight (v : Volume) : Type 0 where
   pub root : (s j : ℕ) → names_at (graph_of v) s j ROOTINO ≡ false
   pub root_dotdot : IsSomeAnd (dotdot v ROOTINO) (λ e. e.number ≡ ROOTINO)
 
--- the count of links of each file and directory is that of its references, and at least 1
+-- the count of links of an inode is that of its references, and at least 1
 pub record IsCountRight (v : Volume) (i : ℕ) : Type 0 where
   pub same : (v.inode i).nlink ≡ pos (references v i)
   pub some : 1 ≤ references v i
 
+-- the count of links of each allocated inode is right
 abbrev pub AreCountsRight : Volume → Type 0
 AreCountsRight v = (i : ℕ) → is_allocated_inode v i ≡ true → IsCountRight v i
 
--- what is known of the volume of each image: there is an inode 2, a directory of size 0 has no entries, and no
+-- what holds of the volume of each image: there is an inode 2, a directory of size 0 has no entries, and no
 -- allocated inode of a known class has the type of a whiteout
 pub record IsVolume (v : Volume) : Type 0 where
   pub some : ROOTINO < v.count
   pub empty : (d : ℕ) → is_dir v d ≡ true → (v.inode d).size ≡ 0 → roled_entries v d ≡ []
   pub kinds : (x : ℕ) → v.class x ≢ Unknown → is_allocated_inode v x ≡ true → type_of (v.inode x).mode ≢ DT_WHT
 
--- what the other conditions leave: nothing is marked, and each inode from 2 on is free, a file or a directory
+-- what holds of a volume whose blocks are consistent: nothing is marked, and no inode is Unknown or Partial
 pub record IsUnmarked (v : Volume) : Type 0 where
   pub marked : (x : ℕ) → v.marked x ≡ false
   pub known : (x : ℕ) → v.class x ≢ Unknown

@@ -1,4 +1,4 @@
--- When a whole volume is consistent: without order, keeping, firsts or messages.
+-- When a volume is consistent, said without the phases of a check and without its messages.
 use Rattle.std.specs.Prelude.{◌≡◌, ℕ, true, List}
 use Rattle.std.specs.List.{list_all}
 use Rattle.ffs_volume.specs.Disk.Superblock.{Superblock}
@@ -17,11 +17,18 @@ pub record AreSettingsRight (s : Superblock) : Type 0 where
 
 -- the seven conditions of a consistent volume
 pub record IsConsistent (image : List ℕ) (s : Superblock) : Type 0 where
+  -- optim and minfree are possible ones
   pub settings : AreSettingsRight s
+  -- each inode is free, a file or a directory
   pub classes : list_all (λ o. is_right_class o.class) (owners_of s.layout image) ≡ true
+  -- each Run is in range, no fragment is reserved or used twice, there is no Tail, and each blocks field is right
   pub runs : AreRunsRight s.layout (owners_of s.layout image)
+  -- inode 2 is a directory, and each directory holds what it should
   pub dirs : AreDirsRight (whole_volume s.layout image)
+  -- each directory but 2 has exactly one entry beside `.` and `..`, is reached, and has the right `..`
   pub links : AreLinksRight (whole_volume s.layout image)
+  -- each count of links is that of the references
   pub counts : AreCountsRight (whole_volume s.layout image)
+  -- the groups' records and the superblock's totals are right
   pub groups : GroupsRight s.layout image s.cstotal (is_free_of_runs s.layout (owners_of s.layout image))
       (class_at s.layout image)

@@ -6,7 +6,7 @@ use Rattle.ffs_volume.specs.Directories.Parents.{graph_of}
 use Rattle.ffs_volume.specs.Messages.Kinds.{NameMessage, reported, lines_below, unref_dir}
 use Rattle.ffs_volume.specs.Directories.PathnameCheck.{attributes}
 
--- suspect, other than 2, and named by no plain entry
+-- x is dead: suspect, other than 2, and named by no plain entry
 abbrev pub is_dead : Volume → ℕ → Bool
 is_dead v x = dead (graph_of v) (is_suspect v) x
 

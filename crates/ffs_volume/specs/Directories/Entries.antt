@@ -1,4 +1,5 @@
--- The chunks of a directory and the entries in them, after dir(5).
+-- The chunks of a directory and the entries in them, after dir(5). In an entry the inode number is at byte 0, the
+-- length of the record at 4, the type at 6, the length of the name at 7, and the name from 8 on.
 use Rattle.std.specs.Prelude.{ℕ, zero, suc, ◌≡◌, ◌+◌, ◌-◌, ◌*◌, ◌/◌, ◌%◌, ◌==◌, min, Bool, true}
 use Rattle.std.specs.Prelude.{false, not, ◌&&◌, ◌||◌, nat_le, nat_lt, if◌then◌else◌, List, []}
 use Rattle.std.specs.Prelude.{◌∷◌, ◌++◌, map, length, slice_index, sum_by, Option, Some, None}
@@ -10,7 +11,7 @@ use Rattle.ffs_volume.specs.declared.Step.{Step}
 use Rattle.ffs_volume.specs.declared.Step.TheVariants.{Run, Tail, Gap}
 use Rattle.ffs_volume.specs.Disk.Numbers.{u16_at, u32_at, piece}
 
--- an entry: the number that it names, its record's length, its type and its name
+-- an entry: its inode number, the length of its record, its type and its name
 pub record Entry : Type 0 where
   pub number : ℕ
   pub length : ℕ
@@ -22,36 +23,35 @@ abbrev pub is_live : Entry → Bool
 is_live e = not (e.number == 0)
 
 -- the name bytes of the entry at a place
-abbrev pub name_at : List ℕ → ℕ → List ℕ
+abbrev pub name_at : (chunk : List ℕ) (place : ℕ) → List ℕ
 name_at chunk place = piece (place + 8) (slice_index chunk (place + 7)) chunk
 
--- a name has 1 byte or more, none of them NUL or `/`, and a NUL after it. 255 bytes are the most that its length can
--- be
-abbrev pub is_name : List ℕ → ℕ → Bool
+-- a name has at least one byte, none of them NUL or `/`, and a NUL after it. Its length is one byte, so at most 255
+abbrev pub is_name : (chunk : List ℕ) (place : ℕ) → Bool
 is_name chunk place =
     not (slice_index chunk (place + 7) == 0)
     && not (list_any (λ b. b == 0) (name_at chunk place) || list_any (λ b. b == 47) (name_at chunk place))
     && (slice_index chunk (place + 8 + slice_index chunk (place + 7)) == 0)
 
--- a record's length is a multiple of 4, at least 8, and stays in the chunk
-abbrev pub is_length : ℕ → ℕ → Bool
+-- the length of a record is a multiple of 4 and at least 8, and the record ends within the chunk
+abbrev pub is_length : (place length : ℕ) → Bool
 is_length place length = (length % 4 == 0) && nat_le 8 length && nat_le (place + length) DIRBLKSIZ
 
--- a record holds its name with the NUL, and has one of sixteen types
-abbrev pub is_held : List ℕ → ℕ → ℕ → Bool
+-- a record has room for its name and the NUL, one of sixteen types, and a valid name
+abbrev pub is_held : (chunk : List ℕ) (place length : ℕ) → Bool
 is_held chunk place length =
     nat_le (8 + (slice_index chunk (place + 7) + 4) / 4 * 4) length
     && nat_le (slice_index chunk (place + 6)) 15
     && is_name chunk place
 
 -- an entry's record length is valid, and so are its name and type where its number isn't 0
-unfoldable pub is_well_formed : Order → List ℕ → ℕ → Bool
+unfoldable pub is_well_formed : (order : Order) (chunk : List ℕ) (place : ℕ) → Bool
 is_well_formed order chunk place =
     is_length place (u16_at order (place + 4) chunk)
     && ((u32_at order place chunk == 0) || is_held chunk place (u16_at order (place + 4) chunk))
 
--- what the bytes at a place say, well formed or not; with the number 0 there is no name
-unfoldable pub entry_read : Order → List ℕ → ℕ → Entry
+-- the entry that the bytes at a place say, well formed or not; with the number 0 its name is empty
+unfoldable pub entry_read : (order : Order) (chunk : List ℕ) (place : ℕ) → Entry
 entry_read order chunk place = record {
   number = u32_at order place chunk;
   length = u16_at order (place + 4) chunk;
@@ -60,21 +60,23 @@ entry_read order chunk place = record {
 }
 
 -- the well formed entry at a place
-unfoldable pub entry_at : Order → List ℕ → ℕ → Option Entry
+unfoldable pub entry_at : (order : Order) (chunk : List ℕ) (place : ℕ) → Option Entry
 entry_at order chunk place = if is_well_formed order chunk place then Some (entry_read order chunk place) else None
 
--- well formed entries that are one after the other from a place on
-abbrev pub AreEntries : Order → List ℕ → ℕ → List Entry → Type 0
+-- the list has well formed entries, one after the other from a place on
+abbrev pub AreEntries : (order : Order) (chunk : List ℕ) (place : ℕ) (es : List Entry) → Type 0
 AreEntries order chunk place [] = Unit {0}
 AreEntries order chunk place (e ∷ es) =
     (entry_at order chunk place ≡ Some e) × AreEntries order chunk (place + e.length) es
 
-abbrev pub entries_with : Order → List ℕ → ℕ → (ℕ → List Entry) → Option Entry → List Entry
+-- an entry, if there is one, and what `next` gives from its end on
+abbrev pub entries_with : (order : Order) (chunk : List ℕ) (place : ℕ) (next : ℕ → List Entry) → Option Entry →
+    List Entry
 entries_with order chunk place next None = []
 entries_with order chunk place next (Some e) = e ∷ next (place + e.length)
 
--- the longest list of them, of at most `most` entries
-unfoldable pub entries_from : Order → List ℕ → ℕ → ℕ → List Entry
+-- the longest list of well formed entries from a place on, of at most `most` of them
+unfoldable pub entries_from : (order : Order) (chunk : List ℕ) (most place : ℕ) → List Entry
 entries_from order chunk zero place = []
 entries_from order chunk (suc most) place =
     entries_with order chunk place (entries_from order chunk most) (entry_at order chunk place)
@@ -83,7 +85,7 @@ entries_from order chunk (suc most) place =
 abbrev pub entries_of : Order → List ℕ → List Entry
 entries_of order chunk = entries_from order chunk 64 0
 
--- a list of well formed entries from the start, of which each other such list is a beginning
+-- a list of well formed entries from the start, of which each other such list is a prefix
 pub record IsLongest (order : Order) (chunk : List ℕ) (entries : List Entry) : Type 0 where
   pub are : AreEntries order chunk 0 entries
   pub longest : (es : List Entry) → AreEntries order chunk 0 es → (rest : List Entry) × (entries ≡ es ++ rest)
@@ -92,24 +94,24 @@ pub record IsLongest (order : Order) (chunk : List ℕ) (entries : List Entry) :
 abbrev pub AreLongest : Type 0
 AreLongest = (order : Order) (chunk : List ℕ) → IsLongest order chunk (entries_of order chunk)
 
--- they fill the chunk
+-- the well formed entries of a chunk fill it
 abbrev pub is_sound : Order → List ℕ → Bool
 is_sound order chunk = sum_by (λ e. e.length) (entries_of order chunk) == DIRBLKSIZ
 
--- a chunk of a directory: its place in the file, its entries, and whether they fill it
+-- a chunk of a directory: its offset in the file, its entries, and whether they fill it
 pub record Chunk : Type 0 where
   pub offset : ℕ
   pub entries : List Entry
   pub sound : Bool
 
-abbrev pub chunk_of : Order → ℕ → List ℕ → Chunk
+abbrev pub chunk_of : (order : Order) (offset : ℕ) (bytes : List ℕ) → Chunk
 chunk_of order offset bytes = record { offset = offset; entries = entries_of order bytes; sound = is_sound order bytes }
 
 -- how many bytes of a directory are read, by its size
 abbrev pub size_taken : ℕ → ℕ
 size_taken size = if nat_lt size MINDIRSIZE then DIRBLKSIZ else div_ceil size DIRBLKSIZ * DIRBLKSIZ
 
--- what the chunks of a directory depend on beside its steps
+-- what the chunks of a directory are read from, beside its steps
 pub record Reading : Type 0 where
   pub order : Order
   pub image : List ℕ
@@ -118,12 +120,12 @@ pub record Reading : Type 0 where
   pub taken : ℕ  -- how much of the directory is read
 
 -- the chunks of `len` fragments from `start` on, that are at `offset` of the file
-abbrev pub run_chunks : Reading → ℕ → ℕ → ℕ → List Chunk
+abbrev pub run_chunks : (r : Reading) (start len offset : ℕ) → List Chunk
 run_chunks r start len offset =
     map (λ k. chunk_of r.order (offset + DIRBLKSIZ * k) (piece (start * r.fsize + DIRBLKSIZ * k) DIRBLKSIZ r.image))
     (range_with_len 0 (min (len * r.fsize / DIRBLKSIZ) ((r.taken - offset) / DIRBLKSIZ)))
 
--- the chunks of a step: of a Run of data that passes the test
+-- the chunks of a step: those of a Run of data that passes the test, which is `is_in_range` of the volume
 abbrev pub step_chunks : Reading → (ℕ → ℕ → Bool) → Step → List Chunk
 step_chunks r passes (Run start len (Some block)) =
     if passes start len then run_chunks r start len (block * r.bsize) else []
@@ -135,11 +137,12 @@ step_chunks r passes Gap = []
 abbrev pub chunks_of : Reading → (ℕ → ℕ → Bool) → List Step → List Chunk
 chunks_of r passes steps = flat_map (step_chunks r passes) steps
 
+-- the step is a Gap
 abbrev pub is_gap : Step → Bool
 is_gap Gap = true
 is_gap Tail = false
 is_gap (Run start len block) = false
 
--- a Gap is among them
+-- a Gap is among the steps
 abbrev pub has_gap : List Step → Bool
 has_gap steps = list_any is_gap steps

@@ -13,42 +13,44 @@ pub record Graph : Type 0 where
   pub is_dir : ℕ → Bool
   pub entries : ℕ → List RoledEntry
 
--- a plain entry that names d
+-- the entry is a plain one, and names d
 abbrev pub names : ℕ → RoledEntry → Bool
 names d e = is_plain e.role && (e.entry.number == d)
 
--- a directory s has a plain entry that names x
-abbrev pub names_in : Graph → ℕ → ℕ → Bool
+-- the directory s has a plain entry that names x
+abbrev pub names_in : (g : Graph) (s x : ℕ) → Bool
 names_in g s x = g.is_dir s && list_any (names x) (g.entries s)
 
 -- an edge from s to d: a plain entry of s that names a directory d
-abbrev pub edge : Graph → ℕ → ℕ → Bool
+abbrev pub edge : (g : Graph) (s d : ℕ) → Bool
 edge g s d = g.is_dir d && names_in g s d
 
 -- d is at most k edges from inode 2
-unfoldable pub within : Graph → ℕ → ℕ → Bool
+unfoldable pub within : (g : Graph) (k d : ℕ) → Bool
 within g zero d = d == ROOTINO
 within g (suc k) d = within g k d || some_below (λ s. within g k s && edge g s d) g.count
 
--- the least number of edges from inode 2, if d is reached. A least walk visits no inode twice, so it has fewer edges
+-- the least number of edges from inode 2, if d is reached. A shortest path visits no inode twice, so it has fewer edges
 -- than there are inodes
 unfoldable pub level : Graph → ℕ → Option ℕ
 level g d = first_below (λ k. within g k d) g.count
 
+-- d has a level
 abbrev pub reached : Graph → ℕ → Bool
 reached g d = is_some (level g d)
 
--- a directory of level k with an edge to x
-abbrev pub level_edge : Graph → ℕ → ℕ → ℕ → Bool
+-- s is a directory of level k with an edge to x
+abbrev pub level_edge : (g : Graph) (k x s : ℕ) → Bool
 level_edge g k x s = is_value (level g s) k && edge g s x
 
--- the parent of a directory other than 2, by its level
-abbrev pub parent_by : Graph → ℕ → Option ℕ → Option ℕ
+-- the parent of a directory other than 2. Of one with a level it is the least directory one level above that has an
+-- edge to it; of one without, the least directory that has one
+abbrev pub parent_by : (g : Graph) (d : ℕ) → Option ℕ → Option ℕ
 parent_by g d None = first_below (λ s. edge g s d) g.count
 parent_by g d (Some zero) = None
 parent_by g d (Some (suc k)) = first_below (λ s. level_edge g k d s) g.count
 
--- the parent of a directory; that of 2 is 2
+-- the parent of a directory, by entries and not by its `..`; that of 2 is 2
 unfoldable pub parent : Graph → ℕ → Option ℕ
 parent g d = if d == ROOTINO then Some ROOTINO else parent_by g d (level g d)
 
@@ -57,11 +59,12 @@ abbrev pub first_index : (RoledEntry → Bool) → List RoledEntry → Option �
 first_index p [] = None
 first_index p (e ∷ es) = cond (p e) (Some 0) (option_map suc (first_index p es))
 
--- the index of the parent entry among the entries of the parent
-abbrev pub entry_index : Graph → ℕ → Option ℕ → Option ℕ
+-- the index, in a directory, of the first plain entry that names d
+abbrev pub entry_index : (g : Graph) (d : ℕ) → Option ℕ → Option ℕ
 entry_index g d None = None
 entry_index g d (Some s) = first_index (names d) (g.entries s)
 
+-- the index, in the parent of d, of the first plain entry that names d: its parent entry. 2 has none
 abbrev pub parent_entry : Graph → ℕ → Option ℕ
 parent_entry g d = if d == ROOTINO then None else entry_index g d (parent g d)
 
@@ -77,26 +80,27 @@ dead g suspect x = suspect x && (not (x == ROOTINO) && not (named g x))
 abbrev pub lost : Graph → (ℕ → Bool) → ℕ → Bool
 lost g suspect d = g.is_dir d && (not (d == ROOTINO) && (not (reached g d) && not (dead g suspect d)))
 
--- there is none, or it is dead
+-- the directory has no parent, or a dead one
 abbrev pub none_or_dead : Graph → (ℕ → Bool) → Option ℕ → Bool
 none_or_dead g suspect None = true
 none_or_dead g suspect (Some s) = dead g suspect s
 
--- the directories with a line UNREF DIR
+-- d is reported as UNREF DIR, as one of each lost tree or cycle: it is lost, and has no parent, or a dead one, or is
+-- the least on its cycle of parents
 abbrev pub is_unref_dir : Graph → (ℕ → Bool) → ℕ → Bool
 is_unref_dir g suspect d = lost g suspect d && (none_or_dead g suspect (parent g d) || leads_cycle (parent g) g.count d)
 
--- whether the entry at index j passes
+-- there is an entry at index j, and it passes
 abbrev pub test_at : (RoledEntry → Bool) → ℕ → List RoledEntry → Bool
 test_at p j [] = false
 test_at p zero (e ∷ es) = p e
 test_at p (suc j) (e ∷ es) = test_at p j es
 
 -- the entry at index j of the directory s is a plain one that names x
-abbrev pub names_at : Graph → ℕ → ℕ → ℕ → Bool
+abbrev pub names_at : (g : Graph) (s j x : ℕ) → Bool
 names_at g s j x = g.is_dir s && test_at (names x) j (g.entries s)
 
--- exactly one plain entry names d
+-- exactly one plain entry names d: the one at the index `place` of `in_dir`
 pub record NamedOnce (g : Graph) (d : ℕ) : Type 0 where
   pub in_dir : ℕ
   pub place : ℕ

@@ -1,4 +1,4 @@
--- The graph of a volume, and which entry is the first to name an inode, or is its parent entry.
+-- The graph of a volume, and which entry is the first of all plain ones to name an inode, or is its parent entry.
 use Rattle.std.specs.Prelude.{ℕ, zero, suc, Bool, ◌&&◌, List, [], ◌∷◌, Option, Some, None}
 use Rattle.ffs_volume.specs.Directories.Roles.{Volume, RoledEntry, is_dir, roled_entries}
 use Rattle.ffs_volume.specs.Disk.Search.{first_below}
@@ -20,9 +20,9 @@ abbrev pub first_namer : Graph → ℕ → Option ℕ
 first_namer g x = first_below (λ s. names_in g s x) g.count
 
 -- the entry at index j of s is the first of all plain entries that name x
-abbrev pub is_first_name : Graph → ℕ → ℕ → ℕ → Bool
+abbrev pub is_first_name : (g : Graph) (s j x : ℕ) → Bool
 is_first_name g s j x = is_value (first_namer g x) s && is_value (first_index (names x) (g.entries s)) j
 
 -- the entry at index j of s is the parent entry of x
-abbrev pub is_from_parent : Graph → ℕ → ℕ → ℕ → Bool
+abbrev pub is_from_parent : (g : Graph) (s j x : ℕ) → Bool
 is_from_parent g s j x = is_value (parent g x) s && is_value (parent_entry g x) j

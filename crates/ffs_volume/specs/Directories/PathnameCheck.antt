@@ -25,7 +25,7 @@ use Rattle.ffs_volume.specs.Messages.Kinds.{missing_dotdot, missing_dotdot_secon
 use Rattle.ffs_volume.specs.Messages.Kinds.{kind_dotdot, extra_dot, extra_dotdot, out_of_range, whiteout}
 use Rattle.ffs_volume.specs.Messages.Kinds.{unallocated, dup_bad, zero_dir, extraneous, kind_entry}
 
--- what messages show of an inode, and how they call it
+-- what messages show of an inode
 unfoldable pub attributes : Volume → ℕ → Attr
 attributes v i = record {
   number = i;
@@ -35,6 +35,7 @@ attributes v i = record {
   mtime = (v.inode i).mtime;
 }
 
+-- how messages call an inode
 abbrev pub label_of : Class → Label
 label_of Dir = DirLabel
 label_of File = FileLabel
@@ -42,7 +43,7 @@ label_of Unknown = NameLabel
 label_of Partial = NameLabel
 label_of Free = NameLabel
 
--- of the root
+-- the message on the root, by its class
 abbrev pub root_reported : Volume → Class → List NameMessage
 root_reported v Free = root_none ∷ []
 root_reported v Partial = root_none ∷ []
@@ -50,23 +51,27 @@ root_reported v File = root_not_dir ∷ []
 root_reported v Unknown = root_not_dir ∷ []
 root_reported v Dir = reported (is_suspect v ROOTINO) root_suspect
 
+-- the message on the root
 unfoldable pub root_lines : Volume → List NameMessage
 root_lines v = root_reported v (v.class ROOTINO)
 
--- the run continues after the root
+-- the check continues after the root: it is a directory
 abbrev pub goes_on : Volume → Bool
 goes_on v = is_directory (v.class ROOTINO)
 
--- of a directory's size, Gaps and chunks
+-- the size of a directory is less than that of `.` and `..`
 abbrev pub is_short : Volume → ℕ → Bool
 is_short v d = nat_lt (v.inode d).size MINDIRSIZE
 
+-- the size of a directory that isn't short is no multiple of 512
 abbrev pub is_not_multiple : Volume → ℕ → Bool
 is_not_multiple v d = not (is_short v d) && not ((v.inode d).size % DIRBLKSIZ == 0)
 
+-- each chunk is sound
 abbrev pub are_sound : List Chunk → Bool
 are_sound chunks = list_all (λ c. c.sound) chunks
 
+-- the messages on a directory's size, Gaps and chunks
 unfoldable pub shape_lines : Volume → ℕ → List NameMessage
 shape_lines v d =
     reported (is_short v d) (dir_short (attributes v d) (dir_path (graph_of v) d))
@@ -74,74 +79,76 @@ shape_lines v d =
     ++ (reported (v.gap d) (dir_empty (dir_path (graph_of v) d))
     ++ reported (not (are_sound (v.chunks d))) (dir_corrupt (attributes v d) (dir_path (graph_of v) d))))
 
--- where `.` isn't there: the message by the entry that is first
+-- the message where there is no `.`, by the entry that is first
 abbrev pub missing_dot_reported : Attr → List ℕ → Option Entry → List NameMessage
 missing_dot_reported about path None = missing_dot about path ∷ []
 missing_dot_reported about path (Some e) =
     if is_live e && not (is_two_dots e.name) then missing_dot_first about path e.name ∷ []
     else missing_dot about path ∷ []
 
--- the lines of `.`
+-- the messages on `.`, by whether there is one
 abbrev pub dot_reported : Volume → ℕ → Option Entry → List NameMessage
 dot_reported v d None = missing_dot_reported (attributes v d) (dir_path (graph_of v) d) (start_entry v d 0)
 dot_reported v d (Some e) =
     reported (not (e.number == d)) (number_dot (attributes v d) (dir_path (graph_of v) d))
     ++ reported (not (e.kind == DT_DIR)) (kind_dot (attributes v d) (dir_path (graph_of v) d))
 
+-- the messages on `.`
 unfoldable pub dot_lines : Volume → ℕ → List NameMessage
 dot_lines v d = dot_reported v d (dot v d)
 
--- where `..` isn't there: the message by the entry that is second
+-- the message where there is no `..`, by the entry that is second
 abbrev pub missing_dotdot_reported : Attr → List ℕ → Option Entry → List NameMessage
 missing_dotdot_reported about path None = missing_dotdot about path ∷ []
 missing_dotdot_reported about path (Some e) =
     if is_live e && not (is_one_dot e.name) then missing_dotdot_second about path e.name ∷ []
     else missing_dotdot about path ∷ []
 
--- a directory has a parent, and the number isn't it
-abbrev pub is_other : Option ℕ → ℕ → Bool
+-- there is a parent, and it isn't n
+abbrev pub is_other : Option ℕ → (n : ℕ) → Bool
 is_other None n = false
 is_other (Some s) n = not (s == n)
 
--- the lines of `..`
+-- the messages on `..`, by whether there is one
 abbrev pub dotdot_reported : Volume → ℕ → Option Entry → List NameMessage
 dotdot_reported v d None = missing_dotdot_reported (attributes v d) (dir_path (graph_of v) d) (start_entry v d 1)
 dotdot_reported v d (Some e) =
     reported (is_other (parent (graph_of v) d) e.number) (number_dotdot (attributes v d) (dir_path (graph_of v) d))
     ++ reported (not (e.kind == DT_DIR)) (kind_dotdot (attributes v d) (dir_path (graph_of v) d))
 
+-- the messages on `..`
 unfoldable pub dotdot_lines : Volume → ℕ → List NameMessage
 dotdot_lines v d = dotdot_reported v d (dotdot v d)
 
--- of an extra entry
+-- the message on an extra entry
 abbrev pub extra_reported : Attr → List ℕ → Entry → List NameMessage
 extra_reported about path e =
     if is_one_dot e.name then extra_dot about path ∷ [] else extra_dotdot about path ∷ []
 
--- a whiteout has the number 1 and the type 14: one of the two holds without the other
+-- the entry has the number of a whiteout without its type, or the type without the number
 abbrev pub is_bad_whiteout : Entry → Bool
 is_bad_whiteout e =
     ((e.number == WINO) && not (e.kind == DT_WHT)) || ((e.kind == DT_WHT) && not (e.number == WINO))
 
--- the inode that it names is marked, or a directory of size 0, and this is the first plain entry that names it
-abbrev pub reports_suspect : Volume → ℕ → ℕ → ℕ → Bool
+-- x, which this entry names, is a suspect other than 2, and this is the first plain entry that names x
+abbrev pub reports_suspect : (v : Volume) (s j x : ℕ) → Bool
 reports_suspect v s j x = is_suspect v x && (not (x == ROOTINO) && is_first_name (graph_of v) s j x)
 
--- the line of a suspect that an entry names
-abbrev pub suspect_reported : Volume → ℕ → List ℕ → NameMessage
+-- the message on a suspect that an entry names
+abbrev pub suspect_reported : (v : Volume) (x : ℕ) (path : List ℕ) → NameMessage
 suspect_reported v x path =
     if v.marked x then dup_bad (attributes v x) (label_of (v.class x)) path else zero_dir (attributes v x) path
 
--- a directory that this entry, which isn't its parent entry, names
-abbrev pub is_extraneous : Volume → ℕ → ℕ → ℕ → Bool
+-- x is a directory, and this entry, which names it, isn't its parent entry
+abbrev pub is_extraneous : (v : Volume) (s j x : ℕ) → Bool
 is_extraneous v s j x = is_dir v x && not (is_from_parent (graph_of v) s j x)
 
--- the type of the entry isn't that of the inode, where it is known
+-- the type of the inode is known, and the entry has another
 abbrev pub is_other_kind : Volume → Entry → Bool
 is_other_kind v e = not (is_unknown (v.class e.number)) && not (e.kind == type_of (v.inode e.number).mode)
 
--- of a plain entry at index j of the directory s, that names an allocated inode
-unfoldable pub named_lines : Volume → ℕ → ℕ → Entry → List NameMessage
+-- the messages on a plain entry at index j of the directory s, which names an allocated inode
+unfoldable pub named_lines : (v : Volume) (s j : ℕ) (e : Entry) → List NameMessage
 named_lines v s j e =
     reported (reports_suspect v s j e.number) (suspect_reported v e.number (entry_path (graph_of v) s e.name))
     ++ (reported (is_extraneous v s j e.number)
@@ -149,8 +156,8 @@ named_lines v s j e =
     ++ reported (is_other_kind v e)
     (kind_entry (attributes v e.number) (label_of (v.class e.number)) (entry_path (graph_of v) s e.name)))
 
--- of any plain entry at index j of the directory s
-unfoldable pub plain_lines : Volume → ℕ → ℕ → Entry → List NameMessage
+-- the messages on any plain entry at index j of the directory s
+unfoldable pub plain_lines : (v : Volume) (s j : ℕ) (e : Entry) → List NameMessage
 plain_lines v s j e =
     if not (nat_lt e.number v.count) then out_of_range e.number (entry_path (graph_of v) s e.name) ∷ []
     else (if is_bad_whiteout e then whiteout e.number (entry_path (graph_of v) s e.name) ∷ []
@@ -159,30 +166,32 @@ plain_lines v s j e =
     then unallocated (attributes v e.number) (entry_path (graph_of v) s e.name) ∷ []
     else named_lines v s j e)))
 
--- of an entry at index j of the directory s, by its role
-abbrev pub roled_reported : Volume → ℕ → ℕ → Role → Entry → List NameMessage
+-- the messages on an entry at index j of the directory s, by its role
+abbrev pub roled_reported : (v : Volume) (s j : ℕ) → Role → (e : Entry) → List NameMessage
 roled_reported v s j Empty e = []
 roled_reported v s j Dot e = []
 roled_reported v s j Dotdot e = []
 roled_reported v s j Extra e = extra_reported (attributes v s) (dir_path (graph_of v) s) e
 roled_reported v s j Plain e = plain_lines v s j e
 
-unfoldable pub roled_lines : Volume → ℕ → ℕ → RoledEntry → List NameMessage
+-- the messages on an entry at index j of the directory s
+unfoldable pub roled_lines : (v : Volume) (s j : ℕ) (e : RoledEntry) → List NameMessage
 roled_lines v s j e = roled_reported v s j e.role e.entry
 
--- of the entries of s from index j on
-unfoldable pub entry_lines : Volume → ℕ → ℕ → List RoledEntry → List NameMessage
+-- the messages on the entries of s from index j on
+unfoldable pub entry_lines : (v : Volume) (s j : ℕ) (es : List RoledEntry) → List NameMessage
 entry_lines v s j [] = []
 entry_lines v s j (e ∷ es) = roled_lines v s j e ++ entry_lines v s (suc j) es
 
--- of a directory whose size isn't 0
+-- the messages on a directory whose size isn't 0
 unfoldable pub dir_lines : Volume → ℕ → List NameMessage
 dir_lines v d = shape_lines v d ++ (dot_lines v d ++ (dotdot_lines v d ++ entry_lines v d 0 (roled_entries v d)))
 
--- a directory whose size isn't 0
+-- d is a directory whose size isn't 0
 abbrev pub is_looked_at : Volume → ℕ → Bool
 is_looked_at v d = is_dir v d && not ((v.inode d).size == 0)
 
+-- the messages on d: none where d is no directory, or has the size 0
 abbrev pub lines_of : Volume → ℕ → List NameMessage
 lines_of v d = if is_looked_at v d then dir_lines v d else []
 

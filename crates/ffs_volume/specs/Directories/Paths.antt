@@ -11,30 +11,30 @@ use Rattle.ffs_volume.specs.Directories.Parents.{roled_at}
 abbrev pub joined : List (List ℕ) → List ℕ
 joined names = flat_map (λ name. 47 ∷ name) names
 
--- the longest end of whole names that fits
+-- the last of the names, as many as fit in `most` bytes
 unfoldable pub longest_end : ℕ → List (List ℕ) → List (List ℕ)
 longest_end most [] = []
 longest_end most (name ∷ names) =
     if nat_le (length (joined (name ∷ names))) most then name ∷ names else longest_end most names
 
--- a path of more than 1,024 bytes is cut to `?` and its end
+-- the path of these names; one of more than 1,024 bytes is cut to `?` and its last names
 unfoldable pub path_bytes : List (List ℕ) → List ℕ
 path_bytes names =
     if nat_lt MAXPATHLEN (length (joined names)) then 63 ∷ joined (longest_end (MAXPATHLEN - 1) names)
     else joined names
 
--- the name of an entry, and none of no entry
+-- the name of an entry; empty where there is none
 abbrev pub name_of : Option RoledEntry → List ℕ
 name_of None = []
 name_of (Some s) = s.entry.name
 
 -- the names down to a directory by its parent: those of the parent, and the name of the parent entry
-abbrev pub names_above : Graph → (ℕ → List (List ℕ)) → ℕ → Option ℕ → List (List ℕ)
+abbrev pub names_above : (g : Graph) (above : ℕ → List (List ℕ)) (d : ℕ) → Option ℕ → List (List ℕ)
 names_above g above d None = []
 names_above g above d (Some s) = above s ++ name_of (option_and_then (roled_at (g.entries s)) (parent_entry g d)) ∷ []
 
 -- the names from 2 down to a directory that is k edges below
-unfoldable pub names_down : Graph → ℕ → ℕ → List (List ℕ)
+unfoldable pub names_down : (g : Graph) (k d : ℕ) → List (List ℕ)
 names_down g zero d = []
 names_down g (suc k) d = names_above g (names_down g k) d (parent g d)
 
@@ -42,19 +42,21 @@ names_down g (suc k) d = names_above g (names_down g k) d (parent g d)
 abbrev pub dir_names : Graph → ℕ → Option (List (List ℕ))
 dir_names g d = option_map (λ k. names_down g k d) (level g d)
 
--- the path of a directory, and of an entry, by the names of the directory: `?` where it isn't reached
+-- the path of a directory by its names: `?` where it isn't reached
 abbrev pub dir_bytes : Option (List (List ℕ)) → List ℕ
 dir_bytes None = 63 ∷ []
 dir_bytes (Some []) = 47 ∷ []
 dir_bytes (Some (name ∷ names)) = path_bytes (name ∷ names)
 
+-- the path of an entry by its name and the names of its directory
 abbrev pub path_of_entry : List ℕ → Option (List (List ℕ)) → List ℕ
 path_of_entry name None = 63 ∷ 47 ∷ name
 path_of_entry name (Some names) = path_bytes (names ++ name ∷ [])
 
--- the path of a directory, and of an entry of it
+-- the path of a directory
 unfoldable pub dir_path : Graph → ℕ → List ℕ
 dir_path g d = dir_bytes (dir_names g d)
 
-unfoldable pub entry_path : Graph → ℕ → List ℕ → List ℕ
+-- the path of an entry of a directory, by the name of the entry
+unfoldable pub entry_path : (g : Graph) (d : ℕ) (name : List ℕ) → List ℕ
 entry_path g d name = path_of_entry name (dir_names g d)

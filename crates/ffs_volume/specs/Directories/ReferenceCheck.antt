@@ -7,18 +7,18 @@ use Rattle.ffs_volume.specs.Messages.Kinds.{dead_zero, unref, unref_zero, link_c
 use Rattle.ffs_volume.specs.Directories.PathnameCheck.{attributes, label_of}
 use Rattle.ffs_volume.specs.Directories.Connectivity.{is_dead}
 
--- of a dead inode
+-- the message on a dead inode
 abbrev pub dead_reported : Volume → ℕ → List NameMessage
 dead_reported v i =
     if v.marked i then dead_marked (label_of (v.class i)) (attributes v i) ∷ [] else dead_zero (attributes v i) ∷ []
 
--- of an inode without references
+-- the message on an inode without references
 abbrev pub unref_reported : Volume → ℕ → List NameMessage
 unref_reported v i =
     if is_the_count (v.inode i).nlink 0 then unref_zero (label_of (v.class i)) (attributes v i) ∷ []
     else unref (label_of (v.class i)) (attributes v i) ∷ []
 
--- of an allocated inode: dead, without references, or with another count of links
+-- the message on an allocated inode: it is dead, has no references, or another count of links
 unfoldable pub inode_lines : Volume → ℕ → List NameMessage
 inode_lines v i =
     if is_dead v i then dead_reported v i
@@ -26,7 +26,7 @@ inode_lines v i =
     else reported (not (is_the_count (v.inode i).nlink (references v i)))
     (link_count (label_of (v.class i)) (attributes v i) (v.inode i).nlink (references v i)))
 
--- of any number
+-- the message on the number i: none where it isn't that of an allocated inode
 abbrev pub counted_lines : Volume → ℕ → List NameMessage
 counted_lines v i = if is_allocated_inode v i then inode_lines v i else []
 

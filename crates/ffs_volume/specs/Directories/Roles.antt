@@ -19,7 +19,7 @@ pub record Volume : Type 0 where
   pub chunks : ℕ → List Chunk
   pub marked : ℕ → Bool
 
--- a number of an inode: those from 2 on have a class
+-- the number of an inode: the numbers 0 and 1 have none
 abbrev pub is_inode : Volume → ℕ → Bool
 is_inode v x = nat_le 2 x && nat_lt x v.count
 
@@ -35,12 +35,13 @@ is_allocated_inode v x = is_inode v x && is_allocated (v.class x)
 abbrev pub is_suspect : Volume → ℕ → Bool
 is_suspect v x = v.marked x || (is_dir v x && ((v.inode x).size == 0))
 
--- the names `.` and `..`
+-- the name is `.`
 abbrev pub is_one_dot : List ℕ → Bool
 is_one_dot [] = false
 is_one_dot (a ∷ []) = a == 46
 is_one_dot (a ∷ b ∷ rest) = false
 
+-- the name is `..`
 abbrev pub is_two_dots : List ℕ → Bool
 is_two_dots [] = false
 is_two_dots (a ∷ []) = false
@@ -48,13 +49,14 @@ is_two_dots (a ∷ b ∷ []) = (a == 46) && (b == 46)
 is_two_dots (a ∷ b ∷ c ∷ rest) = false
 
 -- the role of an entry at an index of its chunk; `first` says that the chunk is at the start of the file
-unfoldable pub role_of : Bool → ℕ → Entry → Role
+unfoldable pub role_of : (first : Bool) (index : ℕ) (e : Entry) → Role
 role_of first index e =
     if not (is_live e) then Empty
     else (if is_one_dot e.name then (if first && (index == 0) then Dot else Extra)
     else (if is_two_dots e.name then (if first && (index == 1) then Dotdot else Extra)
     else Plain))
 
+-- the role is Plain
 abbrev pub is_plain : Role → Bool
 is_plain Plain = true
 is_plain Dot = false
@@ -62,7 +64,7 @@ is_plain Dotdot = false
 is_plain Extra = false
 is_plain Empty = false
 
--- an entry that counts as a reference: neither extra nor empty
+-- an entry of the role counts as a reference: it is neither Extra nor Empty
 abbrev pub is_counted : Role → Bool
 is_counted Plain = true
 is_counted Dot = true
@@ -76,7 +78,7 @@ pub record RoledEntry : Type 0 where
   pub entry : Entry
 
 -- the entries from an index of a chunk on, with their roles
-unfoldable pub roled_from : Bool → ℕ → List Entry → List RoledEntry
+unfoldable pub roled_from : (first : Bool) (index : ℕ) (es : List Entry) → List RoledEntry
 roled_from first index [] = []
 roled_from first index (e ∷ es) = record { role = role_of first index e; entry = e } ∷ roled_from first (suc index) es
 
@@ -93,8 +95,8 @@ nth_entry i [] = None
 nth_entry zero (e ∷ es) = Some e
 nth_entry (suc i) (e ∷ es) = nth_entry i es
 
--- the entry at an index of the chunk at the start of the file, where that chunk is there
-unfoldable pub start_entry : Volume → ℕ → ℕ → Option Entry
+-- the entry at an index of the chunk at the start of the file, if there is one
+unfoldable pub start_entry : (v : Volume) (d i : ℕ) → Option Entry
 start_entry v d i = option_and_then (λ c. nth_entry i c.entries) (find (λ c. c.offset == 0) (v.chunks d))
 
 -- the entry, if it passes
@@ -102,21 +104,24 @@ abbrev pub entry_if : (Entry → Bool) → Option Entry → Option Entry
 entry_if p None = None
 entry_if p (Some e) = cond (p e) (Some e) None
 
--- the entries `.` and `..` of a directory
+-- the entry `.` of a directory: the one with the role Dot
 unfoldable pub dot : Volume → ℕ → Option Entry
 dot v d = entry_if (λ e. is_live e && is_one_dot e.name) (start_entry v d 0)
 
+-- the entry `..` of a directory: the one with the role Dotdot
 unfoldable pub dotdot : Volume → ℕ → Option Entry
 dotdot v d = entry_if (λ e. is_live e && is_two_dots e.name) (start_entry v d 1)
 
--- an entry that counts names x; how many such entries there are
+-- the entry counts as a reference, and its inode number is x
 abbrev pub refers : ℕ → RoledEntry → Bool
 refers x s = is_counted s.role && (s.entry.number == x)
 
-unfoldable pub references_below : Volume → ℕ → ℕ → ℕ
+-- how many such entries the directories below a number have
+unfoldable pub references_below : (v : Volume) (x s : ℕ) → ℕ
 references_below v x zero = 0
 references_below v x (suc s) =
     references_below v x s + (if is_dir v s then count_by (refers x) (roled_entries v s) else 0)
 
+-- how many references there are to x: its right count of links
 abbrev pub references : Volume → ℕ → ℕ
 references v x = references_below v x v.count

@@ -12,26 +12,28 @@ use Rattle.ffs_volume.specs.Blocks.KeptSteps.{kept_steps_of}
 use Rattle.ffs_volume.specs.Directories.Entries.{Reading, chunks_of, has_gap, size_taken}
 use Rattle.ffs_volume.specs.Directories.Roles.{Volume}
 
--- the numbers of inodes: those from 2 on
+-- the number of an inode: one from 2 on
 abbrev pub is_inode_number : Layout → ℕ → Bool
 is_inode_number v x = nat_le 2 x && nat_lt x (v.ncg * v.ipg)
 
--- the class of an inode, and whether it is marked
-abbrev pub class_at : Layout → List ℕ → ℕ → Class
+-- the class of an inode; Free for a number that isn't an inode's
+abbrev pub class_at : (v : Layout) (image : List ℕ) (x : ℕ) → Class
 class_at v image x = if is_inode_number v x then class_of v (inode_of v image x) else Free
 
-abbrev pub marked_at : Layout → List ℕ → ℕ → Bool
+-- the number is that of a marked inode
+abbrev pub marked_at : (v : Layout) (image : List ℕ) (x : ℕ) → Bool
 marked_at v image x = if is_inode_number v x then is_marked v image x else false
 
--- the steps of an inode, and those of them that are kept
-abbrev pub steps_at_number : Layout → List ℕ → ℕ → List Step
+-- the steps of an inode; none for a number that isn't an inode's
+abbrev pub steps_at_number : (v : Layout) (image : List ℕ) (x : ℕ) → List Step
 steps_at_number v image x = if is_inode_number v x then steps_of v (inode_of v image x) image else []
 
-abbrev pub kept_at_number : Layout → List ℕ → ℕ → List Step
+-- the kept steps of an inode; none for a number that isn't an inode's
+abbrev pub kept_at_number : (v : Layout) (image : List ℕ) (x : ℕ) → List Step
 kept_at_number v image x = if is_inode_number v x then kept_steps_of v image x else []
 
--- how the chunks of a directory are read
-unfoldable pub reading_of : Layout → List ℕ → ℕ → Reading
+-- what the chunks of the directory d are read from
+unfoldable pub reading_of : (v : Layout) (image : List ℕ) (d : ℕ) → Reading
 reading_of v image d = record {
   order = v.order;
   image = image;
@@ -40,7 +42,7 @@ reading_of v image d = record {
   taken = size_taken (inode_of v image d).size;
 }
 
--- the volume by the steps that are looked at and the inodes that are marked
+-- the volume where each inode has these steps, and these inodes are marked
 unfoldable pub volume_with : Layout → List ℕ → (ℕ → List Step) → (ℕ → Bool) → Volume
 volume_with v image steps marked = record {
   count = v.ncg * v.ipg;
@@ -51,10 +53,10 @@ volume_with v image steps marked = record {
   marked = marked;
 }
 
--- the volume that the checks see: of the kept steps
+-- the volume that the checks see: of the kept steps, with the marked inodes
 unfoldable pub volume_of : Layout → List ℕ → Volume
 volume_of v image = volume_with v image (kept_at_number v image) (marked_at v image)
 
--- the volume without keeping: of all steps, with nothing marked
+-- the volume of all steps, kept or not, with nothing marked
 unfoldable pub whole_volume : Layout → List ℕ → Volume
 whole_volume v image = volume_with v image (steps_at_number v image) (λ x. false)

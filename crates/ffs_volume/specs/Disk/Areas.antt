@@ -10,43 +10,49 @@ use Rattle.ffs_volume.specs.declared.Layout.{Layout}
 unfoldable pub cgoffset_of : Layout → ℕ → ℤ
 cgoffset_of v c = v.cgoffset *ℤ pos (bit_and c (4294967295 - v.cgmask))
 
--- the first fragment of group c, where its parts are counted from, and where its superblock and its data begin
+-- the first fragment of group c
 unfoldable pub cgbase : Layout → ℕ → ℕ
 cgbase v c = v.fpg * c
 
+-- the fragment from which the parts of group c are counted
 unfoldable pub cgstart : Layout → ℕ → ℕ
 cgstart v c = cgbase v c + natural (cgoffset_of v c)
 
+-- where the copy of the superblock in group c begins
 abbrev pub cgsblock : Layout → ℕ → ℕ
 cgsblock v c = cgstart v c + v.sblkno
 
+-- the first fragment after the inodes of group c. Those of the group before `cgsblock` hold data too
 abbrev pub cgdmin : Layout → ℕ → ℕ
 cgdmin v c = cgstart v c + v.dblkno
 
--- where the group block of c and its summary record are, in bytes
+-- the byte where the group block of c begins
 abbrev pub group_place : Layout → ℕ → ℕ
 group_place v c = (cgstart v c + v.cblkno) * v.fsize
 
+-- the byte of the summary area where the record of group c begins
 abbrev pub summary_place : Layout → ℕ → ℕ
 summary_place v c = v.csaddr * v.fsize + 16 * c
 
--- where the inode x is, in bytes
+-- the byte where the inode x begins
 abbrev pub inode_place : Layout → ℕ → ℕ
 inode_place v x = (cgstart v (x / v.ipg) + v.iblkno) * v.fsize + 128 * (x % v.ipg)
 
--- f lies in the part of some group that is kept for its copy of the superblock, its group block and its inodes
+-- f lies in the part of some group that is set aside for its copy of the superblock, its group block and its inodes
 unfoldable pub is_group_metadata : Layout → ℕ → Bool
 is_group_metadata v f = some_below (λ c. nat_le (cgsblock v c) f && nat_lt f (cgdmin v c)) v.ncg
 
--- f is below the volume's size and no group's metadata: the boot area and the summary area are data fragments too
+-- f is in range: below the volume's size and in no group's metadata. The boot area and the summary area are in range,
+-- but reserved: a Run there isn't bad, and its offers are dup
 unfoldable pub is_data_fragment : Layout → ℕ → Bool
 is_data_fragment v f = nat_lt f v.size && not (is_group_metadata v f)
 
--- all fragments of the run are data fragments of one group
-unfoldable pub is_in_range : Layout → ℕ → ℕ → Bool
-is_in_range v start len = all_below len (λ k. is_data_fragment v (start + k) && ((start + k) / v.fpg == start / v.fpg))
+-- the fragments of a Run are all in range, and in one group
+unfoldable pub is_in_range : (v : Layout) (start len : ℕ) → Bool
+is_in_range v start len =
+    all_below len (λ k. is_data_fragment v (start + k) && ((start + k) / v.fpg == start / v.fpg))
 
--- no file can have f: it is below the data of group 0, in the summary area, or metadata of a group
+-- no file may have f: it is before the data of group 0, in the summary area, or metadata of a group
 unfoldable pub is_reserved : Layout → ℕ → Bool
 is_reserved v f =
     nat_lt f (cgdmin v 0)

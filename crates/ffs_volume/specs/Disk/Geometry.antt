@@ -1,4 +1,4 @@
--- The conditions of `Outcome` as facts of an accepted layout: what the law `accepted_are_sound` gives.
+-- What the conditions of `Outcome` give for an accepted layout: the law `accepted_are_sound` says so.
 use Rattle.std.proofs.Common.{◌≡◌, ℕ, ◌+◌, ◌-◌, ◌*◌, ◌/◌, ◌%◌, ◌^◌, ◌<◌, ◌≤◌, true, pos}
 use Rattle.std.specs.Int.{div_ceil}
 use Rattle.ffs_volume.specs.declared.constants.TheConstants.{SBSIZE}
@@ -7,7 +7,7 @@ use Rattle.ffs_volume.specs.Disk.Numbers.{natural}
 use Rattle.ffs_volume.specs.Disk.Areas.{cgoffset_of, cgbase, cgdmin}
 use Rattle.ffs_volume.specs.Disk.Outcome.{is_shaped}
 
--- the facts of the sizes
+-- what `are_sizes` gives
 pub record HasSizes (v : Layout) : Type 0 where
   pub bsize_low : 4096 ≤ v.bsize
   pub bsize_high : v.bsize ≤ 65536
@@ -23,7 +23,7 @@ pub record HasSizes (v : Layout) : Type 0 where
   pub some_fragments : 0 < v.fpg
   pub whole_blocks : v.fpg % v.frag ≡ 0
 
--- the facts of `are_numbers`
+-- what `are_numbers` gives
 pub record HasNumbers (v : Layout) : Type 0 where
   pub some_data : 1 ≤ v.dsize
   pub short_links : v.maxsymlinklen ≤ 60
@@ -55,7 +55,7 @@ pub record HasSummaryArea (v : Layout) : Type 0 where
   pub summary_in_group : v.csaddr + div_ceil v.cssize v.fsize ≤ cgbase v 1
   pub summary_in_size : v.csaddr + div_ceil v.cssize v.fsize ≤ v.size
 
--- all these facts of a layout
+-- a valid layout: the conditions themselves (`shaped`), and what they give
 pub record IsGeometry (v : Layout) : Type 0 where
   pub shaped : is_shaped v ≡ true
   pub some_groups : 0 < v.ncg

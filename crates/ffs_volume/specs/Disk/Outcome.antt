@@ -14,20 +14,23 @@ use Rattle.ffs_volume.specs.Disk.Superblock.{Superblock, layout_of, superblock_o
 use Rattle.ffs_volume.specs.declared.TheConstants.{LAYOUT_PLACES}
 use Rattle.ffs_volume.specs.Disk.Areas.{cgoffset_of, cgbase, cgsblock, cgdmin}
 
-abbrev pub is_among : List ℕ → ℕ → Bool
+-- x is one of the numbers
+abbrev pub is_among : (xs : List ℕ) (x : ℕ) → Bool
 is_among xs x = list_any (λ y. x == y) xs
 
--- the powers of two that the bytes of a block, the bytes of a fragment and the fragments of a block may be
+-- a valid size of a block, in bytes
 unfoldable pub is_block_size : ℕ → Bool
 is_block_size n = is_among (4096 ∷ 8192 ∷ 16384 ∷ 32768 ∷ 65536 ∷ []) n
 
+-- a valid size of a fragment, in bytes
 unfoldable pub is_fragment_size : ℕ → Bool
 is_fragment_size n = is_among (512 ∷ 1024 ∷ 2048 ∷ 4096 ∷ 8192 ∷ 16384 ∷ 32768 ∷ 65536 ∷ []) n
 
+-- a valid number of fragments in a block
 unfoldable pub is_fragment_count : ℕ → Bool
 is_fragment_count n = is_among (1 ∷ 2 ∷ 4 ∷ 8 ∷ []) n
 
--- the sizes of blocks, fragments and groups
+-- the sizes of blocks, fragments and groups are valid and fit each other: an inode has 128 bytes
 unfoldable pub are_sizes : Layout → Bool
 are_sizes v =
     is_block_size v.bsize && is_fragment_size v.fsize && is_fragment_count v.frag
@@ -37,7 +40,9 @@ are_sizes v =
     && (nat_lt 0 v.ipg && (v.ipg % v.inopb == 0))
     && (nat_lt 0 v.fpg && (v.fpg % v.frag == 0))
 
--- size ends in the last group; fragments and inodes are below 2^31; the room of the fifteen addresses is 60 bytes
+-- there is a data fragment; the text of a symlink fits the 60 bytes of the fifteen addresses; the tables of rotational
+-- positions are in the dynamic format (1); a superblock has at least the bytes that are read; the volume ends in its
+-- last group; fragments and inodes are fewer than 2^31
 unfoldable pub are_numbers : Layout → Bool
 are_numbers v =
     nat_le 1 v.dsize
@@ -47,7 +52,7 @@ are_numbers v =
     && (nat_lt ((v.ncg - 1) * v.fpg) v.size && nat_le v.size (v.ncg * v.fpg))
     && (nat_lt v.size (2 ^ 31) && nat_lt (v.ncg * v.ipg) (2 ^ 31))
 
--- the parts of a group, one after the other; a group block has at least 168 bytes before its maps
+-- the parts of a group are one after the other, and a group block has room for the 168 bytes before its maps
 unfoldable pub are_parts : Layout → Bool
 are_parts v =
     nat_lt 0 v.sblkno
@@ -67,14 +72,16 @@ is_summary_area v =
     && nat_le (16 * v.ncg) v.cssize
     && nat_le (v.csaddr + div_ceil v.cssize v.fsize) (min (cgbase v 1) v.size)
 
+-- all these conditions: else the fault is Shape
 unfoldable pub is_shaped : Layout → Bool
 is_shaped v = are_sizes v && are_numbers v && are_parts v && is_summary_area v && all_below v.ncg (is_group v)
 
--- the cylinders fill the groups
+-- the cylinders end in the last group
 unfoldable pub are_cylinders : Layout → Bool
 are_cylinders v = nat_le v.ncyl (v.ncg * v.cpg) && nat_lt ((v.ncg - 1) * v.cpg) v.ncyl
 
--- the first of the faults that the layout shows, in an image of this size in bytes
+-- the first fault of a layout, in an image of this size in bytes. 2 is the format of inodes since 4.4BSD, 8,192 the
+-- most bytes of a superblock
 unfoldable pub layout_fault : Layout → ℕ → Option SuperFault
 layout_fault v image_size =
     if not (v.inodefmt == 2) then Some InodeFormat
@@ -87,10 +94,10 @@ layout_fault v image_size =
     else None))))))
 
 -- two superblocks agree in the numbers at LAYOUT_PLACES: the magic number, and all of a layout but maxsymlinklen
-unfoldable pub agree : Order → List ℕ → List ℕ → Bool
+unfoldable pub agree : (order : Order) (bytes copy : List ℕ) → Bool
 agree order bytes copy = list_all (λ place. u32_at order place bytes == u32_at order place copy) LAYOUT_PLACES
 
--- the sector of the superblock in effect
+-- the sector of the superblock in effect: the one asked for, or 16
 abbrev pub super_sector : Option ℕ → ℕ
 super_sector None = 16
 super_sector (Some sector) = sector
@@ -100,11 +107,11 @@ abbrev pub copy_place : Layout → ℕ
 copy_place v = cgsblock v (v.ncg - 1) * v.fsize
 
 -- the bytes of the superblock in effect
-abbrev pub super_bytes : List ℕ → Option ℕ → List ℕ
+abbrev pub super_bytes : (image : List ℕ) (sector : Option ℕ) → List ℕ
 super_bytes image sector = piece (super_sector sector * DEV_BSIZE) SBSIZE image
 
 -- with no sector asked for, the last copy is compared
-unfoldable pub copy_agrees : List ℕ → Option ℕ → Order → List ℕ → Bool
+unfoldable pub copy_agrees : (image : List ℕ) → Option ℕ → (order : Order) (bytes : List ℕ) → Bool
 copy_agrees image None order bytes = agree order bytes (piece (copy_place (layout_of order bytes)) SBSIZE image)
 copy_agrees image (Some sector) order bytes = true
 
@@ -114,19 +121,21 @@ super_verdict (Some fault) agrees super = Err fault
 super_verdict None true super = Ok super
 super_verdict None false super = Err Disagree
 
--- the superblock, or the first fault, where the order of bytes is known
-unfoldable pub outcome_in : List ℕ → Option ℕ → Order → List ℕ → Result Superblock SuperFault
+-- the superblock, or its first fault, where the order of bytes is known
+unfoldable pub outcome_in : (image : List ℕ) (sector : Option ℕ) (order : Order) (bytes : List ℕ) →
+    Result Superblock SuperFault
 outcome_in image sector order bytes =
     super_verdict (layout_fault (layout_of order bytes) (length image)) (copy_agrees image sector order bytes)
     (superblock_of order bytes)
 
--- the same, where no order has the magic number too
-unfoldable pub outcome_of : List ℕ → Option ℕ → List ℕ → Option Order → Result Superblock SuperFault
+-- the same; where the magic number is right in neither order of bytes, the fault is Magic
+unfoldable pub outcome_of : (image : List ℕ) (sector : Option ℕ) (bytes : List ℕ) → Option Order →
+    Result Superblock SuperFault
 outcome_of image sector bytes None = Err Magic
 outcome_of image sector bytes (Some order) = outcome_in image sector order bytes
 
--- the same of an image
-unfoldable pub outcome : List ℕ → Option ℕ → Result Superblock SuperFault
+-- the superblock of an image, or its first fault
+unfoldable pub outcome : (image : List ℕ) (sector : Option ℕ) → Result Superblock SuperFault
 outcome image sector =
     if nat_lt (length image) (super_sector sector * DEV_BSIZE + SBSIZE) then Err (CannotRead (super_sector sector))
     else outcome_of image sector (super_bytes image sector) (order_of (super_bytes image sector))

@@ -1,8 +1,8 @@
 -- The least number below a bound that passes a test.
 use Rattle.std.specs.Prelude.{ℕ, zero, suc, Bool, cond, Option, None, Some, is_some}
 
--- the number found before, or else n where it passes
-unfoldable pub earliest : Option ℕ → Bool → ℕ → Option ℕ
+-- the number that was found before, if any, else n where it passes
+unfoldable pub earliest : Option ℕ → (b : Bool) (n : ℕ) → Option ℕ
 earliest (Some s) b n = Some s
 earliest None b n = cond b (Some n) None
 
@@ -12,6 +12,6 @@ unfolding earliest
 first_below p zero = None
 first_below p (suc n) = earliest (first_below p n) (p n) n
 
--- whether a number below n passes
+-- some number below n passes
 abbrev pub some_below : (ℕ → Bool) → ℕ → Bool
 some_below p n = is_some (first_below p n)

@@ -1,4 +1,5 @@
--- The superblock, after fs(5): 1,376 bytes of it are looked at.
+-- The superblock, after fs(5): its first 1,376 bytes, which end with the magic number. The numbers below are the
+-- offsets of its fields, in bytes.
 use Rattle.std.specs.Prelude.{ℕ, ◌==◌, if◌then◌else◌, List, [], ◌∷◌, ℤ, Option, Some, None}
 use Rattle.ffs_volume.specs.declared.constants.TheConstants.{FS_MAGIC, MAXMNTLEN}
 use Rattle.ffs_volume.specs.declared.Order.{Order}
@@ -6,7 +7,8 @@ use Rattle.ffs_volume.specs.declared.Order.TheVariants.{Little, Big}
 use Rattle.ffs_volume.specs.declared.Layout.{Layout}
 use Rattle.ffs_volume.specs.Disk.Numbers.{u32_at, i32_at, count_at, piece}
 
--- a superblock; cstotal has its counts of directories, free blocks, free inodes and free fragments
+-- a superblock. cstotal has its four totals, in the order of a `struct csum`: directories, free blocks, free inodes,
+-- and free fragments of other blocks
 pub record Superblock : Type 0 where
   pub layout : Layout
   pub optim : ℤ
@@ -14,9 +16,9 @@ pub record Superblock : Type 0 where
   pub cstotal : List ℤ
   pub mount : List ℕ
 
--- The layout: the numbers that say where the parts of a volume lie. A negative number is read as 0, and where `Outcome`
--- refuses a negative number it refuses 0 too. cgoffset keeps its sign; cgmask is unsigned, and so is maxsymlinklen
--- here, where 0 is good and 2^31 isn't.
+-- The layout: the numbers that say where the parts of a volume lie, and those that must be right for it. A negative
+-- number is read as 0, which is refused for each field that is read so. cgoffset may be negative, and cgmask is a mask
+-- of bits. maxsymlinklen is read unsigned: 0 is valid for it, and a negative number is refused as too large.
 unfoldable pub layout_of : Order → List ℕ → Layout
 layout_of order bytes = record {
   order = order;
@@ -56,7 +58,7 @@ superblock_of order bytes = record {
   mount = piece 212 MAXMNTLEN bytes;
 }
 
--- the magic number 0x011954 at its place shows the order of bytes
+-- the order of bytes in which the magic number is right, if there is one
 unfoldable pub order_of : List ℕ → Option Order
 order_of bytes =
     if u32_at Little 1372 bytes == FS_MAGIC then Some Little

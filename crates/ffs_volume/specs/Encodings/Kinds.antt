@@ -7,8 +7,8 @@ use Rattle.ffs_volume.specs.declared.Class.TheVariants.{Free, Partial, Unknown, 
 use Rattle.ffs_volume.specs.Blocks.Inodes.{inode_of, type_of}
 use Rattle.ffs_volume.specs.Directories.Volumes.{class_at}
 
--- 0 where nothing is allocated, 15 for an unknown type, 5 for a directory of size 0 and 4 for another; else the file's
--- type
+-- 0 where nothing is allocated, 15 for the class Unknown, 5 for a directory of size 0 and 4 for another; else the
+-- file's type
 abbrev pub kind_of : Class → Inode → ℕ
 kind_of Free i = 0
 kind_of Partial i = 0
@@ -16,27 +16,27 @@ kind_of Unknown i = 15
 kind_of Dir i = if i.size == 0 then 5 else 4
 kind_of File i = type_of i.mode
 
--- the kind of the inode x of an image, and 0 where x is no inode's number
-unfoldable pub kind_at : Layout → List ℕ → ℕ → ℕ
+-- the number for the inode x of an image, and 0 where x is no inode's number
+unfoldable pub kind_at : (v : Layout) (image : List ℕ) (x : ℕ) → ℕ
 kind_at v image x = kind_of (class_at v image x) (inode_of v image x)
 
--- a directory
+-- the number is one of a directory
 abbrev pub is_dir_kind : ℕ → Bool
 is_dir_kind k = k == 4 || k == 5
 
--- a directory of size 0
+-- the number is that of a directory of size 0
 abbrev pub is_empty_dir_kind : ℕ → Bool
 is_empty_dir_kind k = k == 5
 
--- an inode that is allocated
+-- the number is one of an allocated inode
 abbrev pub is_allocated_kind : ℕ → Bool
 is_allocated_kind k = not (k == 0)
 
--- an inode of an unknown type
+-- the number is that of the class Unknown
 abbrev pub is_unknown_kind : ℕ → Bool
 is_unknown_kind k = k == 15
 
--- the class, where nothing allocated is Free
+-- the class of a number; Partial comes back as Free
 abbrev pub class_of_kind : ℕ → Class
 class_of_kind k =
     if k == 0 then Free

@@ -19,7 +19,8 @@ pub record Replay : Type 0 where
 abbrev pub fresh_replay : Replay
 fresh_replay = record { bad = 0; kept = 0 }
 
--- how many offers an inode keeps that ends so, if its eleventh dup offer cut it, and else 0
+-- the cut of an inode that ends in this state: the number of its kept offers where its eleventh dup offer cut it, else
+-- 0
 abbrev pub cut_of : Claims → ℕ
 cut_of end = if nat_lt end.dups (MAXDUP + 1) then 0 else end.kept
 
@@ -27,12 +28,12 @@ cut_of end = if nat_lt end.dups (MAXDUP + 1) then 0 else end.kept
 abbrev pub is_replay_open : ℕ → Replay → Bool
 is_replay_open cut r = nat_lt r.bad (MAXBAD + 1) && ((cut == 0) || nat_lt r.kept cut)
 
--- how many of the next `len` offers are kept
-abbrev pub taken_of : ℕ → ℕ → ℕ → ℕ
+-- how many of the next `len` offers are kept, after `kept` of them
+abbrev pub taken_of : (cut kept len : ℕ) → ℕ
 taken_of cut kept len = if cut == 0 then len else min len (cut - kept)
 
--- a Run is seen; the eleventh bad Run offers nothing
-abbrev pub replay_run : Layout → ℕ → Replay → ℕ → ℕ → Replay
+-- the state after a Run is seen; the eleventh bad Run offers nothing
+abbrev pub replay_run : (v : Layout) (cut : ℕ) (r : Replay) (start len : ℕ) → Replay
 replay_run v cut r start len =
     if is_in_range v start len
     then record { bad = r.bad; kept = r.kept + taken_of cut r.kept len }
@@ -40,6 +41,7 @@ replay_run v cut r start len =
     then record { bad = r.bad + 1; kept = r.kept }
     else record { bad = r.bad + 1; kept = r.kept + taken_of cut r.kept len })
 
+-- the state after a step
 abbrev pub replay_step : Layout → ℕ → Replay → Step → Replay
 replay_step v cut r (Run start len block) = if is_replay_open cut r then replay_run v cut r start len else r
 replay_step v cut r Tail = r
@@ -60,7 +62,7 @@ replayed_steps v cut r (step ∷ steps) =
     ++ replayed_steps v cut (replay_step v cut r step) steps
 
 -- the cut of the inode x, in 32 bits
-abbrev pub cut_at : Layout → List ℕ → ℕ → ℕ
+abbrev pub cut_at : (v : Layout) (image : List ℕ) (x : ℕ) → ℕ
 cut_at v image x =
     if is_inode_number v x
     then min (cut_of (after_owner v (claims_before v image x) (owner_of v image x))) 4294967295

@@ -1,4 +1,4 @@
--- How many Runs a replay sees, and that it need count kept offers only where there is a cut.
+-- How many Runs a replay sees, and a replay that counts kept offers only where there is a cut.
 use Rattle.std.proofs.Common.{ℕ, ◌+◌, ◌-◌, List, [], ◌∷◌}
 use Rattle.std.specs.Prelude.{◌==◌, min, if◌then◌else◌}
 use Rattle.ffs_volume.specs.declared.constants.TheConstants.{MAXBAD}
@@ -8,21 +8,23 @@ use Rattle.ffs_volume.specs.declared.Step.TheVariants.{Run, Tail, Gap}
 use Rattle.ffs_volume.specs.Disk.Areas.{is_in_range}
 use Rattle.ffs_volume.specs.Encodings.Replay.{Replay, is_replay_open, replay_step}
 
--- how many Runs are seen
+-- 1 for a Run that is seen, else 0
 abbrev pub seen_run : ℕ → Replay → Step → ℕ
 seen_run cut r (Run start len block) = if is_replay_open cut r then 1 else 0
 seen_run cut r Tail = 0
 seen_run cut r Gap = 0
 
+-- how many Runs of some steps are seen
 abbrev pub replayed_runs : Layout → ℕ → Replay → List Step → ℕ
 replayed_runs v cut r [] = 0
 replayed_runs v cut r (step ∷ steps) = seen_run cut r step + replayed_runs v cut (replay_step v cut r step) steps
 
 -- the kept offers after a Run: counted up to the cut, and left as they are where there is none
-abbrev pub counted_of : ℕ → ℕ → ℕ → ℕ
+abbrev pub counted_of : (cut kept len : ℕ) → ℕ
 counted_of cut kept len = if cut == 0 then kept else kept + min len (cut - kept)
 
-abbrev pub counted_run : Layout → ℕ → Replay → ℕ → ℕ → Replay
+-- the state after a Run, counted so
+abbrev pub counted_run : (v : Layout) (cut : ℕ) (r : Replay) (start len : ℕ) → Replay
 counted_run v cut r start len =
     if is_in_range v start len
     then record { bad = r.bad; kept = counted_of cut r.kept len }
@@ -30,6 +32,7 @@ counted_run v cut r start len =
     then record { bad = r.bad + 1; kept = r.kept }
     else record { bad = r.bad + 1; kept = counted_of cut r.kept len })
 
+-- the state after a step, counted so
 abbrev pub counted_step : Layout → ℕ → Replay → Step → Replay
 counted_step v cut r (Run start len block) = if is_replay_open cut r then counted_run v cut r start len else r
 counted_step v cut r Tail = r

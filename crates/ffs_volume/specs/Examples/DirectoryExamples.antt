@@ -100,17 +100,20 @@ pub record EntryExamples : Type 0 where
   pub roles_later : map (λ i. role_of false i (entry 2 4 one_dot)) (0 ∷ 1 ∷ []) ≡ Extra ∷ Extra ∷ []
   pub roles_plain : (role_of true 0 (entry 2 4 (97 ∷ [])) ≡ Plain) × (role_of true 0 (entry 0 4 one_dot) ≡ Empty)
 
--- volumes of directories with one chunk each: those from 2 to n - 1, of 512 bytes, with these counts of links and
--- these entries
+-- `.`, `..` and further entries
 unfoldable pub dots : ℕ → ℕ → List Entry → List Entry
 dots d up rest = entry d 4 one_dot ∷ entry up 4 two_dots ∷ rest
 
+-- one chunk, which these entries fill
 unfoldable pub whole_chunk : List Entry → List Chunk
 whole_chunk es = record { offset = 0; entries = es; sound = true } ∷ []
 
+-- the inodes from 2 to n - 1 are directories
 unfoldable pub class_in : ℕ → ℕ → Class
 class_in n i = if nat_lt i 2 then Free else (if nat_lt i n then Dir else Free)
 
+-- a volume of directories with one chunk each: those from 2 to n - 1, of 512 bytes, with these counts of links and
+-- these entries
 unfoldable pub small : ℕ → (ℕ → ℕ) → (ℕ → List Entry) → Volume
 small n links es = record {
   count = n;
@@ -199,7 +202,7 @@ dead_parent = record {
   marked = λ i. i == 3;
 }
 
--- the directory `a` of this size
+-- the volume of `sub` whose directory `a` has this size
 unfoldable pub sized : ℕ → Volume
 sized size = record (sub (dots 3 2 [])) {
   inode = λ i. record {
@@ -213,6 +216,7 @@ sized size = record (sub (dots 3 2 [])) {
   };
 }
 
+-- the longest name
 unfoldable pub long_name : List ℕ
 long_name = replicate 255 97
 

@@ -77,7 +77,7 @@ base_super o =
     (zeros 4 ++ ((mount_bytes ++ zeros 508) ++ (zeros 596 ++ (word o 60 ++ (word o 2 ++ (zeros 28
     ++ (word o 1 ++ (zeros 12 ++ word o 72020))))))))))))))))))))))))))))))))))))))))))
 
--- superblocks with another number at a place
+-- bytes with another number at a place
 unfoldable pub changed : Order → ℕ → ℕ → List ℕ → List ℕ
 changed order place number bytes = take place bytes ++ (word order number ++ drop (place + 4) bytes)
 

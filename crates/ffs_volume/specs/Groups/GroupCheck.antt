@@ -17,38 +17,41 @@ abbrev pub unless : Bool → BlockMessage → List BlockMessage
 unless true m = []
 unless false m = m ∷ []
 
--- of a group whose magic number is right
-abbrev pub records_lines : Layout → List ℕ → (ℕ → Bool) → (ℕ → Class) → ℕ → List BlockMessage
+-- the lines of a group whose magic number is right
+abbrev pub records_lines : (v : Layout) (image : List ℕ) (free : ℕ → Bool) (class : ℕ → Class) (c : ℕ) →
+    List BlockMessage
 records_lines v image free class c =
     unless (is_record v free class c (summary_record v image c)) FreeCounts
     ++ (unless (are_places v (group_block v image c) && are_maps v free class c (group_block v image c)) MapsWrong
     ++ unless (are_sums v free class c (group_block v image c)) GroupSums)
 
 -- the lines of a group, repeated ones too; where its magic number is wrong, its summary record alone is compared
-abbrev pub group_lines : Layout → List ℕ → (ℕ → Bool) → (ℕ → Class) → ℕ → List BlockMessage
+abbrev pub group_lines : (v : Layout) (image : List ℕ) (free : ℕ → Bool) (class : ℕ → Class) (c : ℕ) →
+    List BlockMessage
 group_lines v image free class c =
     if is_magic v (group_block v image c) then records_lines v image free class c
     else GroupMagic c ∷ unless (is_record v free class c (summary_record v image c)) FreeCounts
 
--- of all groups, and of the superblock's totals
+-- the lines of all groups, and of the superblock's totals, repeated ones too
 abbrev pub all_group_lines : Layout → List ℕ → List ℤ → (ℕ → Bool) → (ℕ → Class) → List BlockMessage
 all_group_lines v image totals free class =
-    flat_map (group_lines v image free class) (group_numbers v) ++ unless (is_total v free class totals) FreeCounts
+    flat_map (group_lines v image free class) (group_numbers v)
+    ++ unless (is_total v free class totals) FreeCounts
 
--- which of the messages that come once were reported
+-- which of the messages that a report has only once were reported
 pub record ReportedOnce : Type 0 where
   pub counts : Bool
   pub maps : Bool
   pub sums : Bool
 
--- the message is one of them
+-- the message was reported
 abbrev pub is_reported : ReportedOnce → BlockMessage → Bool
 is_reported t FreeCounts = t.counts
 is_reported t MapsWrong = t.maps
 is_reported t GroupSums = t.sums
 is_reported t _ = false
 
--- they and this message
+-- the message is noted as reported
 abbrev pub note_reported : ReportedOnce → BlockMessage → ReportedOnce
 note_reported t FreeCounts = record t { counts = true }
 note_reported t MapsWrong = record t { maps = true }
@@ -68,10 +71,11 @@ unreported = record { counts = false; maps = false; sums = false }
 unfoldable pub phase5_lines : Layout → List ℕ → List ℤ → (ℕ → Bool) → (ℕ → Class) → List BlockMessage
 phase5_lines v image totals free class = reported_once unreported (all_group_lines v image totals free class)
 
--- the fragments that are neither reserved nor of a kept offer, and those that are neither reserved nor of a Run
+-- f is neither reserved nor claimed by a kept offer
 abbrev pub is_free_of_kept : Layout → List Owner → ℕ → Bool
 is_free_of_kept v os f = nat_lt f v.size && not (is_set (after_owners v (no_claims v) os).used f)
 
+-- f is neither reserved nor in a Run
 abbrev pub is_free_of_runs : Layout → List Owner → ℕ → Bool
 is_free_of_runs v os f =
     nat_lt f v.size && not (is_reserved v f || list_any (λ g. g == f) (fragments_of (all_steps os)))

@@ -1,5 +1,5 @@
--- What the records of cylinder groups should be. All is counted from two tests: `free` says which fragments are below
--- the size and not used, and `class` is the class of an inode from 2 on.
+-- What the records of cylinder groups should be. All is counted by two functions: `free` says which fragments are below
+-- the size and not used, and `class` gives the class of an inode from 2 on.
 use Rattle.std.specs.Prelude.{ℕ, Bool, true, false, ◌+◌, ◌-◌, ◌*◌, ◌/◌, ◌%◌, ◌^◌, min, ◌&&◌, ◌||◌, not, List, [], ◌∷◌}
 use Rattle.std.specs.Prelude.{◌++◌, ◌==◌, nat_lt, nat_le, if◌then◌else◌, map, count_by, slice_index, ◌≡◌, ◌<◌, ℤ, pos}
 use Rattle.std.specs.List.{list_all, range_with_len, sum_by, slice_index_or}
@@ -23,28 +23,29 @@ is_dir_inode class x = nat_le 2 x && is_directory (class x)
 abbrev pub group_size : Layout → ℕ → ℕ
 group_size v c = min (cgbase v (c + 1)) v.size - cgbase v c
 
--- the numbers of the blocks of a group, and which fragments of a block are free
+-- the numbers of the blocks of a group
 abbrev pub block_numbers : Layout → List ℕ
 block_numbers v = range_with_len 0 (v.fpg / v.frag)
 
-abbrev pub block_bits : Layout → (ℕ → Bool) → ℕ → ℕ → List Bool
+-- which fragments of a block are free
+abbrev pub block_bits : (v : Layout) (free : ℕ → Bool) (c b : ℕ) → List Bool
 block_bits v free c b = map free (range_with_len (cgbase v c + b * v.frag) v.frag)
 
 -- all fragments of a block are free
 abbrev pub is_whole : List Bool → Bool
 is_whole bits = list_all (λ b. b) bits
 
--- the run that n free fragments make, if there are any
+-- the length of the run that n free fragments make, if there are any
 abbrev pub run_of : ℕ → List ℕ
 run_of n = if n == 0 then [] else n ∷ []
 
--- the lengths of the longest runs of free fragments, where n free ones are before
-abbrev pub free_runs : ℕ → List Bool → List ℕ
+-- the lengths of the maximal runs of free fragments, in order, where n free ones come just before
+abbrev pub free_runs : (n : ℕ) (bits : List Bool) → List ℕ
 free_runs n [] = run_of n
 free_runs n (true ∷ bits) = free_runs (n + 1) bits
 free_runs n (false ∷ bits) = run_of n ++ free_runs 0 bits
 
--- a summary (struct csum), in its order: directories, free blocks, free inodes, free fragments of other blocks
+-- the counts of a group (struct csum): directories, free blocks, free inodes, free fragments of other blocks
 pub record Summary : Type 0 where
   pub dirs : ℕ
   pub blocks : ℕ
@@ -55,7 +56,7 @@ pub record Summary : Type 0 where
 abbrev pub group_inodes : Layout → ℕ → List ℕ
 group_inodes v c = range_with_len (c * v.ipg) v.ipg
 
--- the right summary of group c
+-- the right counts of group c
 unfoldable pub right_summary : Layout → (ℕ → Bool) → (ℕ → Class) → ℕ → Summary
 right_summary v free class c = record {
   dirs = count_by (is_dir_inode class) (group_inodes v c);
@@ -67,12 +68,13 @@ right_summary v free class c = record {
 }
 
 -- the right frsum[k]: how many runs of exactly k free fragments there are in the blocks that aren't all free
-unfoldable pub right_frsum : Layout → (ℕ → Bool) → ℕ → ℕ → ℕ
+unfoldable pub right_frsum : (v : Layout) (free : ℕ → Bool) (c k : ℕ) → ℕ
 right_frsum v free c k =
     sum_by (λ b. if is_whole (block_bits v free c b) then 0
     else count_by (λ n. n == k) (free_runs 0 (block_bits v free c b)))
     (block_numbers v)
 
+-- the numbers of all groups
 abbrev pub group_numbers : Layout → List ℕ
 group_numbers v = range_with_len 0 v.ncg
 
@@ -85,36 +87,39 @@ right_total v free class = record {
   fragments = sum_by (λ c. (right_summary v free class c).fragments) (group_numbers v);
 }
 
--- what the image has: a group block, its summary record, a summary, bits of a map
-abbrev pub group_block : Layout → List ℕ → ℕ → List ℕ
+-- the group block of c, as the image has it
+abbrev pub group_block : (v : Layout) (image : List ℕ) (c : ℕ) → List ℕ
 group_block v image c = piece (group_place v c) v.cgsize image
 
-abbrev pub summary_record : Layout → List ℕ → ℕ → List ℕ
+-- the record of group c in the summary area, as the image has it
+abbrev pub summary_record : (v : Layout) (image : List ℕ) (c : ℕ) → List ℕ
 summary_record v image c = piece (summary_place v c) 16 image
 
--- the four counts at a place are those of s, which are below 2^31: so their bytes are those of the signed numbers
-abbrev pub has_summary : Layout → ℕ → List ℕ → Summary → Bool
+-- the four counts at a place are those of s. They are signed in the image, but those of s are below 2^31, so to compare
+-- them as unsigned numbers is the same
+abbrev pub has_summary : (v : Layout) (place : ℕ) (bytes : List ℕ) (s : Summary) → Bool
 has_summary v place bytes s =
     u32_at v.order place bytes == s.dirs && (u32_at v.order (place + 4) bytes == s.blocks
     && (u32_at v.order (place + 8) bytes == s.inodes && u32_at v.order (place + 12) bytes == s.fragments))
 
 -- bit k of the map at a place
-abbrev pub bit_at : List ℕ → ℕ → ℕ → Bool
+abbrev pub bit_at : (block : List ℕ) (place k : ℕ) → Bool
 bit_at block place k = (slice_index block (place + k / 8) / 2 ^ (k % 8)) % 2 == 1
 
 -- both are set, or neither is
-abbrev pub same_bit : Bool → Bool → Bool
+abbrev pub same_bit : Bool → (b : Bool) → Bool
 same_bit true b = b
 same_bit false b = not b
 
 -- the first n bits of the map at a place are as the test says
-abbrev pub has_bits : List ℕ → ℕ → ℕ → (ℕ → Bool) → Bool
+abbrev pub has_bits : (block : List ℕ) (place n : ℕ) (bits : ℕ → Bool) → Bool
 has_bits block place n bits = all_below n (λ k. same_bit (bit_at block place k) (bits k))
 
--- where the group's maps are in its block: iusedoff and freeoff
+-- where the map of inodes is in a group block (iusedoff)
 abbrev pub inode_map_place : Layout → List ℕ → ℕ
 inode_map_place v block = u32_at v.order 92 block
 
+-- where the map of fragments is in a group block (freeoff)
 abbrev pub fragment_map_place : Layout → List ℕ → ℕ
 fragment_map_place v block = u32_at v.order 96 block
 
@@ -129,23 +134,23 @@ unfoldable pub is_magic : Layout → List ℕ → Bool
 is_magic v block = u32_at v.order 4 block == CG_MAGIC
 
 -- both maps are right
-unfoldable pub are_maps : Layout → (ℕ → Bool) → (ℕ → Class) → ℕ → List ℕ → Bool
+unfoldable pub are_maps : (v : Layout) (free : ℕ → Bool) (class : ℕ → Class) (c : ℕ) (block : List ℕ) → Bool
 are_maps v free class c block =
     has_bits block (inode_map_place v block) v.ipg (λ k. is_used_inode class (c * v.ipg + k))
     && has_bits block (fragment_map_place v block) (group_size v c) (λ k. free (cgbase v c + k))
 
 -- the group's number, its number of fragments, its summary and its frsum are right (cgx, ndblk, cs, frsum)
-unfoldable pub are_sums : Layout → (ℕ → Bool) → (ℕ → Class) → ℕ → List ℕ → Bool
+unfoldable pub are_sums : (v : Layout) (free : ℕ → Bool) (class : ℕ → Class) (c : ℕ) (block : List ℕ) → Bool
 are_sums v free class c block =
     u32_at v.order 12 block == c && (u32_at v.order 20 block == group_size v c
     && (has_summary v 24 block (right_summary v free class c)
     && all_below 8 (λ k. u32_at v.order (52 + 4 * k) block == right_frsum v free c k)))
 
--- the bytes of the group's summary record are right
-unfoldable pub is_record : Layout → (ℕ → Bool) → (ℕ → Class) → ℕ → List ℕ → Bool
+-- the bytes of the group's record in the summary area are right
+unfoldable pub is_record : (v : Layout) (free : ℕ → Bool) (class : ℕ → Class) (c : ℕ) (bytes : List ℕ) → Bool
 is_record v free class c bytes = has_summary v 0 bytes (right_summary v free class c)
 
--- the totals of a superblock, in the order of a summary
+-- the totals of a superblock are these counts
 abbrev pub has_totals : List ℤ → Summary → Bool
 has_totals total s =
     is_the_count (slice_index_or total 0 (pos 0)) s.dirs && (is_the_count (slice_index_or total 1 (pos 0)) s.blocks

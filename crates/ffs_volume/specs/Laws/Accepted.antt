@@ -1,16 +1,16 @@
--- An accepted superblock has a sound layout, whose fragments lie in the image.
+-- An accepted superblock has a valid layout, whose fragments lie in the image.
 use Rattle.std.proofs.Common.{◌≡◌, ℕ, ◌*◌, ◌≤◌, List, length, Option, Ok}
 use Rattle.ffs_volume.specs.declared.Layout.{Layout}
 use Rattle.ffs_volume.specs.Disk.Superblock.{Superblock}
 use Rattle.ffs_volume.specs.Disk.Outcome.{outcome}
 use Rattle.ffs_volume.specs.Disk.Geometry.{IsGeometry}
 
--- a layout with all the conditions of a sound one, in an image of this size
+-- a valid layout, of a volume that lies in an image of this size
 pub record IsSound (v : Layout) (size : ℕ) : Type 0 where
   pub geometry : IsGeometry v
   pub inside : v.size * v.fsize ≤ size
 
--- each accepted superblock has one
+-- the layout of each accepted superblock is so
 abbrev pub AcceptedAreSound : Type 0
 AcceptedAreSound = (image : List ℕ) (sector : Option ℕ) (s : Superblock) → outcome image sector ≡ Ok s
     → IsSound s.layout (length image)

@@ -6,38 +6,38 @@ use Rattle.ffs_volume.specs.declared.BlockMessage.{BlockMessage}
 use Rattle.ffs_volume.specs.declared.Label.{Label}
 use Rattle.ffs_volume.specs.declared.SuperFault.{SuperFault}
 
--- a message on directories, their entries or references. Paths and names are kept as they are; the text of a message
--- shows them
+-- a message on directories, their entries or references. Paths and names have the bytes of the image; the text of a
+-- message has `?` in place of control bytes. `Texts` has all words of each message
 pub data NameMessage : Type 0 where
   root_none : NameMessage
   root_not_dir : NameMessage
-  root_suspect : NameMessage
+  root_suspect : NameMessage  -- DUPS/BAD IN ROOT INODE
   dir_short : (about : Attr) (path : List ℕ) → NameMessage
   dir_length : (path : List ℕ) (size : ℕ) → NameMessage
-  dir_empty : (path : List ℕ) → NameMessage
+  dir_empty : (path : List ℕ) → NameMessage  -- CONTAINS EMPTY BLOCKS: it has a Gap
   dir_corrupt : (about : Attr) (path : List ℕ) → NameMessage
   missing_dot : (about : Attr) (path : List ℕ) → NameMessage
-  missing_dot_first : (about : Attr) (path name : List ℕ) → NameMessage
+  missing_dot_first : (about : Attr) (path name : List ℕ) → NameMessage  -- MISSING '.', another entry is first
   number_dot : (about : Attr) (path : List ℕ) → NameMessage
-  kind_dot : (about : Attr) (path : List ℕ) → NameMessage
+  kind_dot : (about : Attr) (path : List ℕ) → NameMessage  -- BAD TYPE VALUE FOR '.'
   missing_dotdot : (about : Attr) (path : List ℕ) → NameMessage
-  missing_dotdot_second : (about : Attr) (path name : List ℕ) → NameMessage
+  missing_dotdot_second : (about : Attr) (path name : List ℕ) → NameMessage  -- MISSING '..', another is second
   number_dotdot : (about : Attr) (path : List ℕ) → NameMessage
-  kind_dotdot : (about : Attr) (path : List ℕ) → NameMessage
+  kind_dotdot : (about : Attr) (path : List ℕ) → NameMessage  -- BAD TYPE VALUE FOR '..'
   extra_dot : (about : Attr) (path : List ℕ) → NameMessage
   extra_dotdot : (about : Attr) (path : List ℕ) → NameMessage
-  out_of_range : (number : ℕ) (path : List ℕ) → NameMessage
-  whiteout : (number : ℕ) (path : List ℕ) → NameMessage
+  out_of_range : (number : ℕ) (path : List ℕ) → NameMessage  -- I OUT OF RANGE
+  whiteout : (number : ℕ) (path : List ℕ) → NameMessage  -- BAD WHITEOUT ENTRY
   unallocated : (about : Attr) (path : List ℕ) → NameMessage
-  dup_bad : (about : Attr) (label : Label) (path : List ℕ) → NameMessage
-  zero_dir : (about : Attr) (path : List ℕ) → NameMessage
-  extraneous : (path directory : List ℕ) → NameMessage
-  kind_entry : (about : Attr) (label : Label) (path : List ℕ) → NameMessage
+  dup_bad : (about : Attr) (label : Label) (path : List ℕ) → NameMessage  -- DUP/BAD, in phase 2
+  zero_dir : (about : Attr) (path : List ℕ) → NameMessage  -- ZERO LENGTH DIRECTORY, in phase 2
+  extraneous : (path directory : List ℕ) → NameMessage  -- IS AN EXTRANEOUS HARD LINK
+  kind_entry : (about : Attr) (label : Label) (path : List ℕ) → NameMessage  -- BAD TYPE VALUE
   unref_dir : (about : Attr) → NameMessage
-  dead_marked : (label : Label) (about : Attr) → NameMessage
-  dead_zero : (about : Attr) → NameMessage
-  unref : (label : Label) (about : Attr) → NameMessage
-  unref_zero : (label : Label) (about : Attr) → NameMessage
+  dead_marked : (label : Label) (about : Attr) → NameMessage  -- BAD/DUP, in phase 4
+  dead_zero : (about : Attr) → NameMessage  -- ZERO LENGTH DIR, in phase 4
+  unref : (label : Label) (about : Attr) → NameMessage  -- UNREF, with links: reconnect it?
+  unref_zero : (label : Label) (about : Attr) → NameMessage  -- UNREF, without links: clear it?
   link_count : (label : Label) (about : Attr) (nlink : ℤ) (references : ℕ) → NameMessage
 
 -- a message of a report: of the opening, a heading, a message of a phase, the summary, or the end of a run that isn't
@@ -85,7 +85,7 @@ is_defect (summary files used free frags blocks tenths) = false
 abbrev pub has_defect : List Message → Bool
 has_defect messages = list_any is_defect messages
 
--- a message that is reported where a condition holds
+-- the message, where the condition holds
 abbrev pub reported : Bool → NameMessage → List NameMessage
 reported true m = m ∷ []
 reported false m = []
@@ -95,7 +95,7 @@ unfoldable pub lines_below : (ℕ → List NameMessage) → ℕ → List NameMes
 lines_below lines zero = []
 lines_below lines (suc n) = lines_below lines n ++ lines n
 
--- what is reported for that many numbers from d on, ascending
-unfoldable pub lines_from : (ℕ → List NameMessage) → ℕ → ℕ → List NameMessage
+-- what is reported for the k numbers from d on, ascending
+unfoldable pub lines_from : (lines : ℕ → List NameMessage) (d k : ℕ) → List NameMessage
 lines_from lines d zero = []
 lines_from lines d (suc k) = lines d ++ lines_from lines (suc d) k

@@ -1,4 +1,4 @@
--- The bytes of the messages. A message is a line and its questions, each with its answer and an empty line after it.
+-- The texts of messages, in bytes: the line of a message, then each of its questions with its answer and an empty line.
 use Rattle.std.specs.Prelude.{ℕ, ℤ, ◌/◌, ◌%◌, List, [], ◌∷◌, ◌++◌, map, decimal, unsigned_abs}
 use Rattle.std.specs.List.{flat_map, concat}
 use Rattle.std.specs.Fmt.{signed_decimal}
@@ -24,13 +24,13 @@ use Rattle.ffs_volume.specs.Messages.Kinds.{whiteout, unallocated, dup_bad, zero
 use Rattle.ffs_volume.specs.Messages.Kinds.{unref_dir, dead_marked, dead_zero, unref, unref_zero, link_count}
 use Rattle.ffs_volume.specs.Messages.Shown.{shown, octal, sign_text}
 
--- the line that shows a path begins with what the path is of
+-- the label before a path
 abbrev pub path_label : Label → List ℕ
 path_label Dir = texts.PATH_OF_DIR.now
 path_label File = texts.PATH_OF_FILE.now
 path_label Name = texts.PATH_OF_NAME.now
 
--- a directory or a file: all that is no directory is called a file
+-- DIR for a directory, FILE for all else
 abbrev pub file_label : Label → List ℕ
 file_label Dir = texts.DIR.now
 file_label File = texts.FILE.now
@@ -42,29 +42,29 @@ attr_text a = concat (
     texts.INODE.now ∷ decimal a.number ∷ texts.OWNER.now ∷ decimal a.uid ∷ texts.MODE.now ∷ octal a.mode
     ∷ texts.SIZE.now ∷ decimal a.size ∷ texts.MTIME.now ∷ signed_decimal a.mtime ∷ [])
 
--- an inode with its attributes
-abbrev pub inode_text : List ℕ → Attr → List ℕ → List ℕ
+-- `head`, the attributes of an inode, and `tail`
+abbrev pub inode_text : (head : List ℕ) (about : Attr) (tail : List ℕ) → List ℕ
 inode_text head about tail = head ++ (attr_text about ++ tail)
 
--- the same, of an inode that is called a directory or a file
-abbrev pub kind_text : List ℕ → Label → Attr → List ℕ → List ℕ
+-- the same, with DIR or FILE before the attributes
+abbrev pub kind_text : (head : List ℕ) (label : Label) (about : Attr) (tail : List ℕ) → List ℕ
 kind_text head label about tail = head ++ inode_text (file_label label) about tail
 
--- an inode with its attributes and its path
-abbrev pub path_text : List ℕ → Attr → Label → List ℕ → List ℕ → List ℕ
+-- `head`, the attributes of an inode, its path, and `tail`
+abbrev pub path_text : (head : List ℕ) (about : Attr) (label : Label) (path tail : List ℕ) → List ℕ
 path_text head about label path tail = inode_text head about (concat (path_label label ∷ map shown path ∷ tail ∷ []))
 
--- a directory with its attributes and its path, and the name of the entry in the place of `.` or `..`
-abbrev pub name_in_the_way : List ℕ → Attr → List ℕ → List ℕ → List ℕ → List ℕ
+-- `head`, the attributes of a directory, its path, and the name of the entry in the place of `.` or `..`, after `why`
+abbrev pub name_in_the_way : (head : List ℕ) (about : Attr) (path why name : List ℕ) → List ℕ
 name_in_the_way head about path why name =
     inode_text head about (concat (
     texts.PATH_OF_DIR.now ∷ map shown path ∷ why ∷ map shown name ∷ texts.LINE_END.now ∷ []))
 
--- a number between two texts
-abbrev pub number_text : List ℕ → ℕ → List ℕ → List ℕ
+-- `head`, a number, and `tail`
+abbrev pub number_text : (head : List ℕ) (number : ℕ) (tail : List ℕ) → List ℕ
 number_text head number tail = concat (head ∷ decimal number ∷ tail ∷ [])
 
--- the line of a superblock that is refused; `fault_line` of Opening makes another message of CannotRead
+-- the line of a refused superblock. A report has that of CannotRead as a message of its own, `cannot_read`
 abbrev pub fault_text : SuperFault → List ℕ
 fault_text (CannotRead sector) = number_text texts.CANNOT_READ.now sector texts.LINE_END.now
 fault_text Magic = texts.MAGIC.now
@@ -78,16 +78,16 @@ fault_text Short = texts.SHORT.now
 fault_text Disagree = texts.DISAGREE.now
 
 -- a fragment, what is wrong with it, and the inode that has it
-abbrev pub claim_text : ℕ → List ℕ → ℕ → List ℕ
+abbrev pub claim_text : (fragment : ℕ) (what : List ℕ) (inode : ℕ) → List ℕ
 claim_text fragment what inode = concat (decimal fragment ∷ what ∷ decimal inode ∷ texts.LINE_END.now ∷ [])
 
 -- an inode's own count of blocks, and the right one
-abbrev pub block_count_text : ℕ → ℕ → ℕ → List ℕ
+abbrev pub block_count_text : (inode found right : ℕ) → List ℕ
 block_count_text inode found right = concat (
     texts.BLOCK_COUNT.now ∷ decimal inode ∷ texts.FOUND.now ∷ decimal found
     ∷ texts.RIGHT.now ∷ decimal right ∷ texts.CORRECT.now ∷ [])
 
--- the block check and the check of cylinder groups
+-- a message of the block check or of the check of cylinder groups
 abbrev pub block_text : BlockMessage → List ℕ
 block_text (PartAlloc inode) = number_text texts.PART_ALLOC.now inode texts.CLEAR.now
 block_text (UnknownType inode) = number_text texts.UNKNOWN_TYPE.now inode texts.CLEAR.now
@@ -102,23 +102,23 @@ block_text FreeCounts = texts.FREE_COUNTS.now
 block_text MapsWrong = texts.MAPS_WRONG.now
 block_text GroupSums = texts.GROUP_SUMS.now
 
--- a directory some of whose blocks are empty
+-- a directory that has a Gap
 abbrev pub empty_text : List ℕ → List ℕ
 empty_text path =
     concat (texts.DIRECTORY.now ∷ map shown path ∷ texts.DIR_EMPTY.now ∷ [])
 
 -- a directory whose size is no multiple of 512
-abbrev pub length_text : List ℕ → ℕ → List ℕ
+abbrev pub length_text : (path : List ℕ) (size : ℕ) → List ℕ
 length_text path size = concat (
     texts.DIRECTORY.now ∷ map shown path ∷ texts.DIR_LENGTH.now ∷ decimal size
     ∷ texts.NOT_MULTIPLE.now ∷ [])
 
 -- an entry by its number and its path
-abbrev pub entry_text : List ℕ → ℕ → List ℕ → List ℕ → List ℕ
+abbrev pub entry_text : (head : List ℕ) (number : ℕ) (path tail : List ℕ) → List ℕ
 entry_text head number path tail = concat (head ∷ decimal number ∷ texts.PATH_OF_NAME.now ∷ map shown path ∷ tail ∷ [])
 
 -- an entry that is a further link to a directory
-abbrev pub extraneous_text : List ℕ → List ℕ → List ℕ
+abbrev pub extraneous_text : (path directory : List ℕ) → List ℕ
 extraneous_text path directory =
     concat (map shown path ∷ texts.EXTRANEOUS.now ∷ map shown directory
     ∷ texts.REMOVE.now ∷ [])
@@ -132,7 +132,7 @@ counts_text nlink references = concat (
 abbrev pub links_text : Label → Attr → ℤ → ℕ → List ℕ
 links_text label about nlink references = kind_text texts.LINK_COUNT.now label about (counts_text nlink references)
 
--- directories, their entries and references
+-- a message on directories, their entries or references
 abbrev pub name_text : NameMessage → List ℕ
 name_text root_none = texts.ROOT_NONE.now
 name_text root_not_dir = texts.ROOT_NOT_DIR.now
@@ -176,10 +176,11 @@ summary_text files used free frags blocks tenths = concat (
     ∷ sign_text tenths ∷ (decimal (unsigned_abs tenths / 10) ++ texts.POINT.now)
     ∷ (decimal (unsigned_abs tenths % 10) ++ texts.FRAGMENTATION.now) ∷ [])
 
--- the image's name is printed as it was given
+-- the name of the image, as it was given
 abbrev pub opening_text : List ℕ → List ℕ
 opening_text name = concat (texts.OPENING.now ∷ name ∷ texts.NO_WRITE.now ∷ [])
 
+-- the mount point of the superblock
 abbrev pub mounted_text : List ℕ → List ℕ
 mounted_text mount = concat (texts.MOUNTED.now ∷ map shown mount ∷ texts.LINE_END.now ∷ [])
 
@@ -208,6 +209,7 @@ text_of (of_blocks message) = block_text message
 text_of (of_names message) = name_text message
 text_of (summary files used free frags blocks tenths) = summary_text files used free frags blocks tenths
 
--- the bytes of messages, one after another; those of `report_of` are the output of a completed run
+-- the bytes of messages, one after another; those of a report are what is printed where no read, no
+-- write and no request for memory fails
 abbrev pub texts_of : List Message → List ℕ
 texts_of messages = flat_map text_of messages

@@ -8,6 +8,6 @@ use Rattle.ffs_volume.specs.declared.Layout.{Layout}
 abbrev pub held_limit : Layout → ℕ
 held_limit v = 3 * (8 * div_ceil v.size 64) + 25 * (v.ncg * v.ipg) + 8 * v.bsize + 4096
 
--- the most Runs that a check of blocks looks at: one for each fragment, and eleven bad and eleven dup ones an inode
+-- the most Runs that are seen: one for each fragment, and for each inode eleven that are bad and eleven with dup offers
 abbrev pub runs_limit : Layout → ℕ
 runs_limit v = v.size + 22 * (v.ncg * v.ipg)

@@ -26,7 +26,7 @@ is_optimization s = is_up_to 1 s.optim
 abbrev pub is_minfree : Superblock → Bool
 is_minfree s = is_up_to 99 s.minfree
 
--- `unless` of GroupCheck, for a Message
+-- a message where a test fails
 abbrev pub message_unless : Bool → Message → List Message
 message_unless true message = []
 message_unless false message = message ∷ []
@@ -53,13 +53,13 @@ fault_line Shape = bad_super Shape
 fault_line Short = bad_super Short
 fault_line Disagree = bad_super Disagree
 
--- where a sector is asked for, it is reported first; then the image's name
+-- where a sector is asked for, it is reported first
 abbrev pub location_lines : Option ℕ → List Message
 location_lines None = []
 location_lines (Some sector) = location sector ∷ []
 
--- the lines before the superblock is read
-abbrev pub head_lines : List ℕ → Option ℕ → List Message
+-- the messages before the superblock is read: the sector, if one is asked for, and the image's name
+abbrev pub head_lines : (name : List ℕ) (sector : Option ℕ) → List Message
 head_lines name sector = location_lines sector ++ opening name ∷ []
 
 -- what is reported of what was found: a superblock or its fault
@@ -68,9 +68,9 @@ found_lines (Ok s) = super_lines s
 found_lines (Err fault) = fault_line fault ∷ []
 
 -- the opening, where a superblock or its fault was found
-abbrev pub opening_lines : List ℕ → Option ℕ → Result Superblock SuperFault → List Message
+abbrev pub opening_lines : (name : List ℕ) (sector : Option ℕ) (found : Result Superblock SuperFault) → List Message
 opening_lines name sector found = head_lines name sector ++ found_lines found
 
 -- the opening of an image
-abbrev pub opening_of : List ℕ → List ℕ → Option ℕ → List Message
+abbrev pub opening_of : (image name : List ℕ) (sector : Option ℕ) → List Message
 opening_of image name sector = opening_lines name sector (outcome image sector)

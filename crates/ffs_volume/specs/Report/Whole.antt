@@ -1,4 +1,4 @@
--- The whole report of an image: its text as a list of messages, how the run ends, and its status.
+-- The whole report of an image: its text as a list of messages, how the check ends, and its status.
 use Rattle.std.specs.Prelude.{ℕ, ◌*ℤ◌, ◌+ℤ◌, int_div, Bool, true, false, not, ◌&&◌, if◌then◌else◌}
 use Rattle.std.specs.Prelude.{List, [], ◌∷◌, ◌++◌, map, count_by, ℤ, pos, Option, Result, Ok, Err}
 use Rattle.std.specs.List.{range_with_len, slice_index_or}
@@ -27,7 +27,7 @@ use Rattle.ffs_volume.specs.Directories.Volumes.{class_at, volume_of}
 unfoldable pub file_count : Layout → List ℕ → ℕ
 file_count v image = count_by (λ x. is_file_or_dir (class_at v image x)) (inode_numbers v)
 
--- how many Runs the block check looks at
+-- how many Runs are seen
 unfoldable pub run_count : Layout → List ℕ → ℕ
 run_count v image = (after_owners v (no_claims v) (owners_of v image)).runs
 
@@ -37,15 +37,17 @@ used_count v image =
     count_by (λ f. is_set (after_owners v (no_claims v) (owners_of v image)).used f && not (is_reserved v f))
     (range_with_len 0 v.size)
 
--- the superblock's own counts of free fragments and of free blocks
+-- the superblock's own count of free fragments of blocks that aren't all free
 abbrev pub free_frags : Superblock → ℤ
 free_frags s = slice_index_or s.cstotal 3 (pos 0)
 
+-- the superblock's own count of free blocks
 abbrev pub free_blocks : Superblock → ℤ
 free_blocks s = slice_index_or s.cstotal 1 (pos 0)
 
--- the summary: free fragments in all, and the share of the loose ones in tenths of a percent, rounded toward zero
-abbrev pub summary_of : Superblock → ℕ → ℕ → Message
+-- the summary, the last message of a report: free fragments in all, and the share of those that are in blocks that
+-- aren't all free, in tenths of a percent, rounded toward zero
+abbrev pub summary_of : (s : Superblock) (files used : ℕ) → Message
 summary_of s files used =
     summary files used (free_frags s +ℤ pos s.layout.frag *ℤ free_blocks s) (free_frags s) (free_blocks s)
     (int_div (free_frags s *ℤ pos 1000) (pos s.layout.dsize))
@@ -69,7 +71,7 @@ later_lines image s =
     ++ (phase5 ∷ (group_check_lines image s
     ++ (summary_of s (file_count s.layout image) (used_count s.layout image) ∷ []))))))
 
--- all that follows the opening; the run stops after phase 2 where inode 2 isn't a directory
+-- the phases and the summary; the check stops after phase 2 where inode 2 isn't a directory
 unfoldable pub text_lines : List ℕ → Superblock → List Message
 text_lines image s =
     phase1 ∷ (map of_blocks (phase1_lines s.layout (owners_of s.layout image))
@@ -77,34 +79,36 @@ text_lines image s =
     ++ (phase2 ∷ (map of_names (pathname_lines (volume_of s.layout image))
     ++ (if goes_on (volume_of s.layout image) then later_lines image s else [])))))
 
--- the report on an accepted superblock, after the opening line
+-- the report on an accepted superblock, after `head_lines`
 unfoldable pub report_lines : List ℕ → Superblock → List Message
 report_lines image s = super_lines s ++ text_lines image s
 
--- how a run ends, by whether it continues after the root and whether it has reported a defect
-abbrev pub end_by : Bool → Bool → End
+-- how the check ends, by whether it continues after the root and whether it has reported a defect
+abbrev pub end_by : (continues defect : Bool) → End
 end_by true true = Defects
 end_by true false = Consistent
 end_by false defect = RootStop
 
--- how the run on an accepted superblock ends
+-- how the check of an accepted superblock ends
 unfoldable pub end_of : List ℕ → Superblock → End
 end_of image s = end_by (goes_on (volume_of s.layout image)) (has_defect (report_lines image s))
 
--- what is reported of an image, and how the run ends, by the outcome of its superblock
+-- what is reported of an image after `head_lines`, by the outcome of its superblock
 abbrev pub lines_by_outcome : List ℕ → Result Superblock SuperFault → List Message
 lines_by_outcome image (Ok s) = report_lines image s
 lines_by_outcome image (Err fault) = fault_line fault ∷ []
 
+-- how the check ends, by the outcome of the superblock
 abbrev pub end_by_outcome : List ℕ → Result Superblock SuperFault → End
 end_by_outcome image (Ok s) = end_of image s
 end_by_outcome image (Err fault) = Refused fault
 
--- the whole report of an image: its messages and its end
-unfoldable pub report_of : List ℕ → List ℕ → Option ℕ → List Message
+-- the messages of the whole report of an image
+unfoldable pub report_of : (image name : List ℕ) (sector : Option ℕ) → List Message
 report_of image name sector = head_lines name sector ++ lines_by_outcome image (outcome image sector)
 
-unfoldable pub report_end : List ℕ → Option ℕ → End
+-- how the check of an image ends
+unfoldable pub report_end : (image : List ℕ) (sector : Option ℕ) → End
 report_end image sector = end_by_outcome image (outcome image sector)
 
 -- the exit status of an end
