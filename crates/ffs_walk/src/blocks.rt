@@ -1,6 +1,6 @@
 //! The indirect blocks that a walk is in.
 
-ghost use Rattle.std.specs.Prelude.{◌≡◌, ◌-◌, ◌*◌, ◌+◌, ◌<◌, ◌≤◌, ℕ, List, Option, length, vec_len, OnOk, IfErr, IsTrue};
+ghost use Rattle.std.specs.Prelude.{Some, ◌≡◌, ◌-◌, ◌*◌, ◌+◌, ◌<◌, ◌≤◌, ℕ, List, Option, length, vec_len, OnOk, IfErr, IsTrue};
 ghost use Rattle.ffs_image.specs.Device.{ForContents};
 ghost use Rattle.ffs_image.specs.Reads.{ReadAfter};
 ghost use Rattle.ffs_volume.specs.Disk.Areas.{is_in_range};
@@ -20,7 +20,7 @@ pub struct Blocks {
 }
 
 impl Blocks {
-    ghost use Rattle.ffs_walk.specs.Windows.{AreEmptyBlocks, CanWalk, HasRoom, KeepsBlocks, level_bytes};
+    ghost use Rattle.ffs_walk.specs.Windows.{AreEmptyBlocks, CanWalk, HasRoom, KeepsBlocks, held_address, level_bytes};
 
     /// Blocks that hold nothing, over a buffer of at least three blocks' bytes. It takes no memory.
     pub fn over(buffer: FixedList<u8>) -> Blocks
@@ -50,6 +50,7 @@ impl Blocks {
         ensures bytes { OnOk result (ForContents (I.device image.old).contents
             (λ b. level_bytes geometry.now.layout level self.new
             ≡ block_bytes geometry.now.layout b address)) }
+        ensures held { OnOk result (held_address level self.new ≡ Some address) }
         ensures kept { KeepsBlocks geometry.now.layout (I.device image.new).contents self.old
             self.new }
         ensures read { ReadAfter (I.device image.old) (I.device image.new) result }

@@ -335,7 +335,6 @@ impl Walk {
     }
 
     /// A walk over the blocks of an inode. Only a file or a directory has steps, and no device or short symlink.
-    #[inline(always)]
     pub fn start(geometry: &Geometry, inode: &Inode) -> Walk
         ensures { IsWalkOf geometry.now inode.now result }
     {
