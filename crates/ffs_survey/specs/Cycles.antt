@@ -1,5 +1,6 @@
 -- Walks along parents that mark where they have been.
-use Rattle.std.specs.Prelude.{◌≡◌, ◌≢◌, ℕ, ◌<◌, ◌≤◌, ◌^◌, ◌==◌, ◌||◌, nat_le, Bool, false, cond, List, length, All, Option, None, Some}
+use Rattle.std.specs.Prelude.{◌≡◌, ◌≢◌, ℕ, ◌<◌, ◌≤◌, ◌^◌, ◌==◌, ◌||◌, nat_le, Bool, false, cond}
+use Rattle.std.specs.Prelude.{List, length, All, Option, None, Some}
 use Rattle.std.specs.List.{sum_by}
 use Rattle.ffs_volume.specs.Directories.Climb.{climb, OnCycle, IsLeader, leads_cycle}
 use Rattle.ffs_survey.specs.Survey.{number_at, bool_at}

@@ -1,5 +1,6 @@
 -- What a walk over directories discovers and counts, said by what is still to go.
-use Rattle.std.specs.Prelude.{◌≡◌, ℕ, zero, suc, ◌+◌, ◌<◌, ◌≤◌, ◌==◌, Bool, true, false, not, cond, ◌&&◌, ◌||◌, length, take, drop}
+use Rattle.std.specs.Prelude.{◌≡◌, ℕ, zero, suc, ◌+◌, ◌<◌, ◌≤◌, ◌==◌, Bool, true, false, not, cond}
+use Rattle.std.specs.Prelude.{◌&&◌, ◌||◌, length, take, drop}
 use Rattle.std.specs.Prelude.{if◌then◌else◌, List, [], ◌∷◌, Option, None, Some, is_some, unwrap_or, find, count_by}
 use Rattle.std.specs.List.{list_any, sum_by}
 use Rattle.ffs_volume.specs.Directories.Roles.{RoledEntry, refers}
