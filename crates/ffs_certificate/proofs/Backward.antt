@@ -8,14 +8,14 @@ use Rattle.ffs_volume.specs.Blocks.Inodes.{is_allocated, is_unknown}
 use Rattle.ffs_volume.specs.Directories.Roles.{Volume, RoledEntry, is_dir, is_inode, is_allocated_inode, is_suspect, roled_entries, dotdot, references}
 use Rattle.ffs_volume.specs.Directories.Climb.{is_value}
 use Rattle.ffs_volume.proofs.ClimbLaws.{is_value-from}
-use Rattle.ffs_volume.specs.Directories.Graph.{parent, parent_entry, reached}
+use Rattle.ffs_volume.specs.Directories.Graph.{parent, parent_entry_index, reached}
 use Rattle.ffs_volume.proofs.Graphs.{AllReached, NoExtraneous}
 use Rattle.ffs_volume.proofs.LevelLaws.{reached-root}
 use Rattle.ffs_certificate.proofs.Lost.{silent-reached}
 use Rattle.ffs_certificate.proofs.Links.{links-right}
 use Rattle.ffs_volume.specs.Directories.Parents.{graph_of, roled_at}
-use Rattle.ffs_volume.specs.Directories.PathnameCheck.{is_short, is_bad_whiteout, is_extraneous, is_other}
-use Rattle.ffs_volume.specs.Directories.Connectivity.{has_unref_line}
+use Rattle.ffs_volume.specs.Directories.PathnameCheck.{is_short, is_bad_whiteout, is_extraneous, is_wrong_parent}
+use Rattle.ffs_volume.specs.Directories.Connectivity.{is_unref_dir_of}
 use Rattle.ffs_volume.specs.Consistent.DirectoriesRight.{IsVolume, IsUnmarked, IsPlainRight, IsDirRight, AreDirsRight, AreLinksRight, AreCountsRight}
 use Rattle.ffs_certificate.proofs.Silence.{and_false-from}
 use Rattle.ffs_certificate.proofs.Entries.{names_at-from, IsPlainQuiet}
@@ -96,8 +96,8 @@ plain_quiet v t s j e d there role r =
               link = and_false-from (is_dir v e.entry.number) _ (λ h.
                   let at = names_at-from v s j e.entry.number (record { dir = d; entry = e; there = there; role = role; number = refl }) in
                   let b = parent_entries v t s j e.entry.number at h in
-                  not_from_true _ (and_from (is_value (parent (graph_of v) e.entry.number) s) (is_value (parent_entry (graph_of v) e.entry.number) j)
-                  (is_value-from (parent (graph_of v) e.entry.number) s b.0) (is_value-from (parent_entry (graph_of v) e.entry.number) j b.1)));
+                  not_from_true _ (and_from (is_value (parent (graph_of v) e.entry.number) s) (is_value (parent_entry_index (graph_of v) e.entry.number) j)
+                  (is_value-from (parent (graph_of v) e.entry.number) s b.0) (is_value-from (parent_entry_index (graph_of v) e.entry.number) j b.1)));
               kind = and_false-from (not (is_unknown (v.class e.entry.number))) _ (λ h. not_from_true _ (eq-eqb e.entry.kind ((v.inode e.entry.number).mode / 4096) w.1));
             };
           })
@@ -108,13 +108,13 @@ link_quiet v t s j e d there role r =
     and_false-from (is_dir v e.entry.number) _ (λ h.
     let at = names_at-from v s j e.entry.number (record { dir = d; entry = e; there = there; role = role; number = refl }) in
     let b = parent_entries v t s j e.entry.number at h in
-    not_from_true _ (and_from (is_value (parent (graph_of v) e.entry.number) s) (is_value (parent_entry (graph_of v) e.entry.number) j)
-    (is_value-from (parent (graph_of v) e.entry.number) s b.0) (is_value-from (parent_entry (graph_of v) e.entry.number) j b.1)))
+    not_from_true _ (and_from (is_value (parent (graph_of v) e.entry.number) s) (is_value (parent_entry_index (graph_of v) e.entry.number) j)
+    (is_value-from (parent (graph_of v) e.entry.number) s b.0) (is_value-from (parent_entry_index (graph_of v) e.entry.number) j b.1)))
 
 -- `..`
 dotdot_from : (v : Volume) (d s : ℕ) → parent (graph_of v) d ≡ Some s → IsSomeAnd (dotdot v d) (λ e. e.number ≡ s) → IsSomeAnd (dotdot v d) (λ e. e.kind ≡ 4) → IsDotdotQuiet v d (dotdot v d)
 dotdot_from v d s p n k =
-    some-both _ _ _ (dotdot v d) (λ e a b. (ap (λ o. is_other o e.number) p ∙ not_from_true _ (eq-eqb s e.number (sym a)), b)) n k
+    some-both _ _ _ (dotdot v d) (λ e a b. (ap (λ o. is_wrong_parent o e.number) p ∙ not_from_true _ (eq-eqb s e.number (sym a)), b)) n k
 
 pub dotdot_quiet : (v : Volume) → IsFileOrDir v → (d : ℕ) → is_dir v d ≡ true → IsDotdotQuiet v d (dotdot v d)
 dotdot_quiet v t d h =
@@ -139,7 +139,7 @@ quiet_pathnames v t = record {
       };
 }
 
-pub quiet_connectivity : (v : Volume) → IsFileOrDir v → (d : ℕ) → has_unref_line v d ≡ false
+pub quiet_connectivity : (v : Volume) → IsFileOrDir v → (d : ℕ) → is_unref_dir_of v d ≡ false
 quiet_connectivity v t = (silent-reached (graph_of v) (is_suspect v) (is_sane v t.volume) (none_dead v (calm v t))).1 (all_reached v t)
 
 pub quiet_references : (v : Volume) → IsFileOrDir v → AreCountsRight v → (i : ℕ) → is_allocated_inode v i ≡ true → IsCountQuiet v i

@@ -9,11 +9,11 @@ use Rattle.std.proofs.lemmas.List.Folds.{list_all-append}
 use Rattle.ffs_volume.specs.declared.Layout.{Layout}
 use Rattle.ffs_volume.specs.declared.Step.{Step}
 use Rattle.ffs_volume.specs.declared.Step.TheVariants.{Run, Tail, Gap}
-use Rattle.ffs_volume.specs.Disk.Areas.{is_data_fragment, is_reserved}
+use Rattle.ffs_volume.specs.Disk.Areas.{is_fragment_in_range, is_reserved}
 use Rattle.ffs_volume.specs.Blocks.Owners.{Owner, fragments_of, all_steps}
 use Rattle.ffs_volume.specs.Blocks.Claims.{is_set, reserved_map, no_claims}
 use Rattle.ffs_volume.specs.Blocks.BlockCheck.{Offer, first_offer_lines, kept_in_owners, phase1_lines, phase1b_lines}
-use Rattle.ffs_volume.specs.Consistent.BlocksRight.{run_in_range, times, BlocksRight}
+use Rattle.ffs_volume.specs.Consistent.BlocksRight.{is_step_in_range, times, BlocksRight}
 use Rattle.ffs_certificate.proofs.BlockLaws.{is_nil, nil_append, run_ok}
 use Rattle.ffs_certificate.proofs.OwnerLaws.{owners_say, owners_claim, Quiet, owners_parts, owners_from}
 use Rattle.ffs_certificate.proofs.FreshLaws.{bit, are_below, fresh_new, new_fresh, times_past}
@@ -22,18 +22,18 @@ pub nil_is : {X : Type 0} (xs : List X) → is_nil xs ≡ true → xs ≡ []
 nil_is [] e = refl
 nil_is (x ∷ xs) e = absurd (cc)
 
-ok_below : (v : Layout) (fs : List ℕ) → list_all (is_data_fragment v) fs ≡ true → are_below v.size fs ≡ true
-unfolding is_data_fragment
+ok_below : (v : Layout) (fs : List ℕ) → list_all (is_fragment_in_range v) fs ≡ true → are_below v.size fs ≡ true
+unfolding is_fragment_in_range
 ok_below v [] e = refl
 ok_below v (f ∷ fs) e =
-    let a = and_parts (is_data_fragment v f) (list_all (is_data_fragment v) fs) e in
+    let a = and_parts (is_fragment_in_range v f) (list_all (is_fragment_in_range v) fs) e in
     and_from (nat_lt f v.size) _ (and_parts (nat_lt f v.size) _ a.0).0 (ok_below v fs a.1)
 
 -- the fragments of Runs in range are below the size
-pub runs_below : (v : Layout) (steps : List Step) → list_all (run_in_range v) steps ≡ true → are_below v.size (fragments_of steps) ≡ true
+pub runs_below : (v : Layout) (steps : List Step) → list_all (is_step_in_range v) steps ≡ true → are_below v.size (fragments_of steps) ≡ true
 runs_below v [] e = refl
 runs_below v (Run start len block ∷ steps) e =
-    let a = and_parts (run_in_range v (Run start len block)) (list_all (run_in_range v) steps) e in
+    let a = and_parts (is_step_in_range v (Run start len block)) (list_all (is_step_in_range v) steps) e in
     list_all-append (λ f. nat_lt f v.size) (range_with_len start len) (fragments_of steps)
     ∙ and_from _ _ (ok_below v (range_with_len start len) (run_ok v start len a.0)) (runs_below v steps a.1)
 runs_below v (Tail ∷ steps) e = runs_below v steps e

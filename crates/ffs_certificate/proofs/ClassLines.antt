@@ -11,11 +11,11 @@ use Rattle.ffs_volume.specs.declared.Step.{Step}
 use Rattle.ffs_volume.specs.declared.Step.TheVariants.{Run, Tail, Gap}
 use Rattle.ffs_volume.specs.declared.BlockMessage.{BlockMessage}
 use Rattle.ffs_volume.specs.declared.BlockMessage.TheVariants.{Bad, Dup, ManyBad, ManyDup, PartTrunc, BlockCount}
-use Rattle.ffs_volume.specs.Disk.Areas.{is_data_fragment, is_in_range}
+use Rattle.ffs_volume.specs.Disk.Areas.{is_fragment_in_range, is_run_in_range}
 use Rattle.ffs_volume.specs.Blocks.Inodes.{is_file_or_dir}
 use Rattle.ffs_volume.specs.Blocks.Owners.{Owner}
-use Rattle.ffs_volume.specs.Blocks.Claims.{Claims, no_claims, next_inode, is_open, is_set, after_offer, offer_lines, offers_lines, run_lines, after_step, step_lines, steps_lines, after_owner}
-use Rattle.ffs_volume.specs.Blocks.BlockCheck.{class_lines, count_lines, sectors, owner_lines, owners_lines, phase1_lines}
+use Rattle.ffs_volume.specs.Blocks.Claims.{Claims, no_claims, next_inode, is_open, is_set, after_offer, offer_lines, lines_of_offers, run_lines, after_step, step_lines, lines_of_steps, after_owner}
+use Rattle.ffs_volume.specs.Blocks.BlockCheck.{class_lines, count_lines, sectors, owner_lines, lines_of_owners, phase1_lines}
 use Rattle.ffs_volume.specs.Consistent.BlocksRight.{is_right_class}
 use Rattle.ffs_certificate.specs.Conditions.{is_class_message}
 
@@ -23,22 +23,22 @@ none_append : (xs ys : List BlockMessage) → list_any is_class_message xs ≡ f
 none_append xs ys g h = list_any-append is_class_message xs ys ∙ or_from (list_any is_class_message xs) (list_any is_class_message ys) g h
 
 offer_none : (v : Layout) (i : ℕ) (s : Claims) (f : ℕ) → list_any is_class_message (offer_lines v i s f) ≡ false
-offer_none v i s f = one (nat_lt s.dups 11 && (is_data_fragment v f && is_set s.used f)) (s.dups == 10)
+offer_none v i s f = one (nat_lt s.dups 11 && (is_fragment_in_range v f && is_set s.used f)) (s.dups == 10)
   where
     one : (a b : Bool) → list_any is_class_message (if a then Dup f i ∷ (if b then ManyDup i ∷ [] else []) else []) ≡ false
     one true true = refl
     one true false = refl
     one false b = refl
 
-offers_none : (v : Layout) (i : ℕ) (s : Claims) (fs : List ℕ) → list_any is_class_message (offers_lines v i s fs) ≡ false
+offers_none : (v : Layout) (i : ℕ) (s : Claims) (fs : List ℕ) → list_any is_class_message (lines_of_offers v i s fs) ≡ false
 offers_none v i s [] = refl
-offers_none v i s (f ∷ fs) = none_append (offer_lines v i s f) (offers_lines v i (after_offer v s f) fs) (offer_none v i s f) (offers_none v i (after_offer v s f) fs)
+offers_none v i s (f ∷ fs) = none_append (offer_lines v i s f) (lines_of_offers v i (after_offer v s f) fs) (offer_none v i s f) (offers_none v i (after_offer v s f) fs)
 
 run_none : (v : Layout) (i : ℕ) (s : Claims) (start len : ℕ) → list_any is_class_message (run_lines v i s start len) ≡ false
-run_none v i s start len = one (is_in_range v start len) (s.bad == 10)
+run_none v i s start len = one (is_run_in_range v start len) (s.bad == 10)
   where
-    one : (a b : Bool) → list_any is_class_message (if a then offers_lines v i (record s { runs = s.runs + 1 }) (range_with_len start len)
-        else Bad start i ∷ (if b then ManyBad i ∷ [] else offers_lines v i (record s { runs = s.runs + 1; bad = s.bad + 1 }) (range_with_len start len))) ≡ false
+    one : (a b : Bool) → list_any is_class_message (if a then lines_of_offers v i (record s { runs = s.runs + 1 }) (range_with_len start len)
+        else Bad start i ∷ (if b then ManyBad i ∷ [] else lines_of_offers v i (record s { runs = s.runs + 1; bad = s.bad + 1 }) (range_with_len start len))) ≡ false
     one true b = offers_none v i (record s { runs = s.runs + 1 }) (range_with_len start len)
     one false true = refl
     one false false = offers_none v i (record s { runs = s.runs + 1; bad = s.bad + 1 }) (range_with_len start len)
@@ -56,9 +56,9 @@ step_none v i s (Run start len block) = one (is_open s)
     one true = run_none v i s start len
     one false = refl
 
-steps_none : (v : Layout) (i : ℕ) (s : Claims) (steps : List Step) → list_any is_class_message (steps_lines v i s steps) ≡ false
+steps_none : (v : Layout) (i : ℕ) (s : Claims) (steps : List Step) → list_any is_class_message (lines_of_steps v i s steps) ≡ false
 steps_none v i s [] = refl
-steps_none v i s (step ∷ steps) = none_append (step_lines v i s step) (steps_lines v i (after_step v s step) steps) (step_none v i s step) (steps_none v i (after_step v s step) steps)
+steps_none v i s (step ∷ steps) = none_append (step_lines v i s step) (lines_of_steps v i (after_step v s step) steps) (step_none v i s step) (steps_none v i (after_step v s step) steps)
 
 count_none : (v : Layout) (o : Owner) (end : Claims) → list_any is_class_message (count_lines v o end) ≡ false
 count_none v o end = one (is_file_or_dir o.class && (is_open end && not (o.blocks == sectors v end.kept)))
@@ -76,10 +76,10 @@ class_some i Dir = refl
 
 owner_some : (v : Layout) (s : Claims) (o : Owner) → list_any is_class_message (owner_lines v s o) ≡ not (is_right_class o.class)
 owner_some v s o =
-    list_any-append is_class_message (class_lines o.number o.class) (steps_lines v o.number (next_inode s) o.steps ++ count_lines v o (after_owner v s o))
+    list_any-append is_class_message (class_lines o.number o.class) (lines_of_steps v o.number (next_inode s) o.steps ++ count_lines v o (after_owner v s o))
     ∙ rw (
       class_some o.number o.class,
-      none_append (steps_lines v o.number (next_inode s) o.steps) (count_lines v o (after_owner v s o)) (steps_none v o.number (next_inode s) o.steps) (count_none v o (after_owner v s o)),
+      none_append (lines_of_steps v o.number (next_inode s) o.steps) (count_lines v o (after_owner v s o)) (steps_none v o.number (next_inode s) o.steps) (count_none v o (after_owner v s o)),
     )
     (or_false (not (is_right_class o.class)))
   where
@@ -87,10 +87,10 @@ owner_some v s o =
     or_false true = refl
     or_false false = refl
 
-owners_some : (v : Layout) (s : Claims) (os : List Owner) → list_any is_class_message (owners_lines v s os) ≡ not (list_all (λ o. is_right_class o.class) os)
+owners_some : (v : Layout) (s : Claims) (os : List Owner) → list_any is_class_message (lines_of_owners v s os) ≡ not (list_all (λ o. is_right_class o.class) os)
 owners_some v s [] = refl
 owners_some v s (o ∷ os) =
-    list_any-append is_class_message (owner_lines v s o) (owners_lines v (after_owner v s o) os)
+    list_any-append is_class_message (owner_lines v s o) (lines_of_owners v (after_owner v s o) os)
     ∙ rw (owner_some v s o, owners_some v (after_owner v s o) os) (both (is_right_class o.class) (list_all (λ o. is_right_class o.class) os))
   where
     both : (a b : Bool) → (not a || not b) ≡ not (a && b)

@@ -7,7 +7,7 @@ use Rattle.ffs_volume.specs.declared.Layout.{Layout}
 use Rattle.ffs_volume.specs.declared.Class.{Class}
 use Rattle.ffs_volume.specs.declared.Class.TheVariants.{Free, Partial, Unknown, File, Dir}
 use Rattle.ffs_volume.specs.Disk.Superblock.{Superblock}
-use Rattle.ffs_volume.specs.Disk.Geometry.{IsGeometry}
+use Rattle.ffs_volume.specs.Disk.Geometry.{IsValidLayout}
 use Rattle.ffs_volume.proofs.AcceptedLaws.{accepted_sound}
 use Rattle.ffs_volume.specs.Blocks.Owners.{Owner, owners_of}
 use Rattle.ffs_volume.specs.Consistent.BlocksRight.{is_right_class, BlocksRight}
@@ -18,10 +18,10 @@ use Rattle.ffs_volume.specs.Blocks.Inodes.{is_directory, is_allocated, is_unknow
 use Rattle.ffs_volume.specs.Directories.Roles.{Volume, is_dir, is_inode, is_suspect, dotdot, references}
 use Rattle.ffs_volume.specs.Directories.Climb.{is_value}
 use Rattle.ffs_volume.proofs.ClimbLaws.{is_value-true}
-use Rattle.ffs_volume.specs.Directories.Graph.{parent, parent_entry}
+use Rattle.ffs_volume.specs.Directories.Graph.{parent, parent_entry_index}
 use Rattle.ffs_volume.proofs.Graphs.{NoExtraneous}
 use Rattle.ffs_volume.specs.Directories.Parents.{graph_of, is_from_parent}
-use Rattle.ffs_volume.specs.Directories.PathnameCheck.{is_other, is_extraneous}
+use Rattle.ffs_volume.specs.Directories.PathnameCheck.{is_wrong_parent, is_extraneous}
 use Rattle.ffs_volume.specs.Consistent.DirectoriesRight.{IsVolume, IsUnmarked, IsPlainRight, AreDirsRight, AreLinksRight, AreCountsRight}
 use Rattle.ffs_volume.specs.Directories.Volumes.{class_at, whole_volume}
 use Rattle.ffs_certificate.specs.DirsCertificate.{IsSilent}
@@ -143,11 +143,12 @@ links_right v vol un r q =
         let m = names_at-gives v s j d t in
         let link : is_extraneous v s j d ≡ false = subst (λ x. is_extraneous v s j x ≡ false) m.number (q.links s j m.entry m.dir m.there m.role) in
         let from = not-false _ (and_false-right (is_dir v d) (not (is_from_parent (graph_of v) s j d)) link h) in
-        let both = and_parts (is_value (parent (graph_of v) d) s) (is_value (parent_entry (graph_of v) d) j) from in
-        (is_value-true (parent (graph_of v) d) s both.0, is_value-true (parent_entry (graph_of v) d) j both.1)
+        let both = and_parts (is_value (parent (graph_of v) d) s) (is_value (parent_entry_index (graph_of v) d) j)
+            from in
+        (is_value-true (parent (graph_of v) d) s both.0, is_value-true (parent_entry_index (graph_of v) d) j both.1)
 
-    dotdot_same : (v : Volume) (d s : ℕ) → parent (graph_of v) d ≡ Some s → IsSomeAnd (dotdot v d) (λ e. is_other (parent (graph_of v) d) e.number ≡ false) → IsSomeAnd (dotdot v d) (λ e. e.number ≡ s)
-    dotdot_same v d s p q = some-map _ _ (dotdot v d) (λ e b. sym (eqb-true s e.number (not-false _ (sym (ap (λ o. is_other o e.number) p) ∙ b)))) q
+    dotdot_same : (v : Volume) (d s : ℕ) → parent (graph_of v) d ≡ Some s → IsSomeAnd (dotdot v d) (λ e. is_wrong_parent (parent (graph_of v) d) e.number ≡ false) → IsSomeAnd (dotdot v d) (λ e. e.number ≡ s)
+    dotdot_same v d s p q = some-map _ _ (dotdot v d) (λ e b. sym (eqb-true s e.number (not-false _ (sym (ap (λ o. is_wrong_parent o e.number) p) ∙ b)))) q
 
 links_unreported : (v : Volume) → IsVolume v → IsUnmarked v → AreDirsRight v → AreLinksRight v → AreLinksUnreported v
 links_unreported v vol un r l =
@@ -176,7 +177,7 @@ checks_reported v vol un = (
 )
 
 -- THE WHOLE
-conditions : (image : List ℕ) (s : Superblock) → IsGeometry s.layout → ConditionsReported image s
+conditions : (image : List ℕ) (s : Superblock) → IsValidLayout s.layout → ConditionsReported image s
 conditions image s g =
     let v = s.layout in
     let os = owners_of s.layout image in

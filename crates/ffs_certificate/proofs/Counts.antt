@@ -4,26 +4,26 @@ use Rattle.std.proofs.Common.{sym, ap, subst}
 use Rattle.std.proofs.lemmas.Bool.{eqb-true, eqb-false, eq-eqb, ne_eqb, ltb-true, and_parts, not-false, not_from_true}
 use Rattle.ffs_volume.specs.Blocks.Inodes.{is_allocated}
 use Rattle.ffs_volume.specs.Directories.Roles.{Volume, is_inode, is_allocated_inode, references}
-use Rattle.ffs_volume.specs.Messages.Kinds.{NameMessage, reported, unref_dir, dead_marked, dead_zero, unref, unref_zero, link_count}
+use Rattle.ffs_volume.specs.Messages.Kinds.{NameMessage, reported, unref_dir, dead_marked, dead_zero, unref, unref_unlinked, link_count}
 use Rattle.ffs_volume.specs.Directories.PathnameCheck.{attributes, label_of}
-use Rattle.ffs_volume.specs.Directories.Connectivity.{is_dead, has_unref_line, connectivity_lines}
-use Rattle.ffs_volume.specs.Disk.Numbers.{is_the_count}
+use Rattle.ffs_volume.specs.Directories.Connectivity.{is_dead, is_unref_dir_of, connectivity_lines}
+use Rattle.ffs_volume.specs.Disk.Numbers.{equals_natural}
 use Rattle.ffs_volume.specs.Directories.ReferenceCheck.{dead_reported, unref_reported, inode_lines, counted_lines, reference_lines}
 use Rattle.ffs_certificate.proofs.Silence.{reported-quiet, reported-silent, if-silent, then-quiet, then-silent, lines-quiet, lines-silent}
 
-pub connectivity-quiet : (v : Volume) → connectivity_lines v ≡ [] → (d : ℕ) → d < v.count → has_unref_line v d ≡ false
+pub connectivity-quiet : (v : Volume) → connectivity_lines v ≡ [] → (d : ℕ) → d < v.count → is_unref_dir_of v d ≡ false
 unfolding connectivity_lines
-connectivity-quiet v h d l = reported-quiet _ (unref_dir (attributes v d)) (lines-quiet (λ d. reported (has_unref_line v d) (unref_dir (attributes v d))) v.count h d l)
+connectivity-quiet v h d l = reported-quiet _ (unref_dir (attributes v d)) (lines-quiet (λ d. reported (is_unref_dir_of v d) (unref_dir (attributes v d))) v.count h d l)
 
-pub connectivity-silent : (v : Volume) → ((d : ℕ) → has_unref_line v d ≡ false) → connectivity_lines v ≡ []
+pub connectivity-silent : (v : Volume) → ((d : ℕ) → is_unref_dir_of v d ≡ false) → connectivity_lines v ≡ []
 unfolding connectivity_lines
-connectivity-silent v h = lines-silent (λ d. reported (has_unref_line v d) (unref_dir (attributes v d))) v.count (λ d l. reported-silent _ (unref_dir (attributes v d)) (h d))
+connectivity-silent v h = lines-silent (λ d. reported (is_unref_dir_of v d) (unref_dir (attributes v d))) v.count (λ d l. reported-silent _ (unref_dir (attributes v d)) (h d))
 
 -- an inode that is allocated
 pub record IsCountQuiet (v : Volume) (i : ℕ) : Type 0 where
   pub alive : is_dead v i ≡ false
   pub some : references v i ≢ 0
-  pub same : is_the_count (v.inode i).nlink (references v i) ≡ true
+  pub same : equals_natural (v.inode i).nlink (references v i) ≡ true
 
 either-some : (b : Bool) (m n : NameMessage) → (if b then m ∷ [] else n ∷ []) ≡ [] → ⊥
 either-some true m n h = absurd (cc)
@@ -39,7 +39,7 @@ unfolding inode_lines
 count-quiet v i h =
     let m = link_count (label_of (v.class i)) (attributes v i) (v.inode i).nlink (references v i) in
     let a = first-quiet (is_dead v i) (dead_reported v i) _ (either-some (v.marked i) (dead_marked (label_of (v.class i)) (attributes v i)) (dead_zero (attributes v i))) h in
-    let b = first-quiet (references v i == 0) (unref_reported v i) _ (either-some (is_the_count (v.inode i).nlink 0) (unref_zero (label_of (v.class i)) (attributes v i)) (unref (label_of (v.class i)) (attributes v i))) a.1 in
+    let b = first-quiet (references v i == 0) (unref_reported v i) _ (either-some (equals_natural (v.inode i).nlink 0) (unref_unlinked (label_of (v.class i)) (attributes v i)) (unref (label_of (v.class i)) (attributes v i))) a.1 in
     record { alive = a.0; some = eqb-false (references v i) 0 b.0; same = not-false _ (reported-quiet _ m b.1) }
 
 count-silent : (v : Volume) (i : ℕ) → IsCountQuiet v i → inode_lines v i ≡ []
@@ -61,9 +61,9 @@ unfolding reference_lines
 reference-silent v h = lines-silent (counted_lines v) v.count (λ i l. then-silent (is_allocated_inode v i) (inode_lines v i) (λ k. count-silent v i (h i k)))
 
 -- a count and a number
-pub count-true : (z : ℤ) (n : ℕ) → is_the_count z n ≡ true → z ≡ pos n
+pub count-true : (z : ℤ) (n : ℕ) → equals_natural z n ≡ true → z ≡ pos n
 count-true (pos k) n h = ap pos (eqb-true k n h)
 count-true (negsuc k) n h = absurd (cc)
 
-pub count-from : (z : ℤ) (n : ℕ) → z ≡ pos n → is_the_count z n ≡ true
-count-from z n h = subst (λ x. is_the_count x n ≡ true) (sym h) (eq-eqb n n refl)
+pub count-from : (z : ℤ) (n : ℕ) → z ≡ pos n → equals_natural z n ≡ true
+count-from z n h = subst (λ x. equals_natural x n ≡ true) (sym h) (eq-eqb n n refl)

@@ -12,7 +12,7 @@ use Rattle.ffs_volume.specs.Directories.Graph.{parent}
 use Rattle.ffs_volume.specs.Directories.Parents.{graph_of, roled_at}
 use Rattle.ffs_volume.specs.Directories.Paths.{dir_path}
 use Rattle.ffs_volume.specs.Messages.Kinds.{reported, lines_below, root_suspect, dir_short, dir_length, dir_empty, dir_corrupt, missing_dot, missing_dot_first, number_dot, kind_dot, missing_dotdot, missing_dotdot_second, number_dotdot, kind_dotdot}
-use Rattle.ffs_volume.specs.Directories.PathnameCheck.{attributes, root_lines, root_reported, goes_on, is_short, is_not_multiple, are_sound, shape_lines, dot_lines, dot_reported, missing_dot_reported, is_other, dotdot_lines, dotdot_reported, missing_dotdot_reported, entry_lines, dir_lines, is_looked_at, lines_of, pathname_lines}
+use Rattle.ffs_volume.specs.Directories.PathnameCheck.{attributes, root_lines, root_reported, continues_after_root, is_short, is_not_multiple, are_sound, shape_lines, dot_lines, dot_reported, missing_dot_reported, is_wrong_parent, dotdot_lines, dotdot_reported, missing_dotdot_reported, lines_of_entries, dir_lines, is_looked_at, lines_of, pathname_lines}
 use Rattle.ffs_certificate.proofs.Silence.{nil-left, nil-right, nil-both, reported-quiet, reported-silent, then-quiet, then-silent, lines-quiet, lines-silent}
 use Rattle.ffs_certificate.proofs.Entries.{IsSeenQuiet, entries-quiet, entries-silent}
 
@@ -89,15 +89,15 @@ dot-silent v d (Some e) q =
 
 -- `..` is there, with its type, and it is the parent if there is one
 abbrev pub IsDotdotQuiet : Volume → ℕ → Option Entry → Type 0
-IsDotdotQuiet v d o = IsSomeAnd o (λ e. (is_other (parent (graph_of v) d) e.number ≡ false) × (e.kind ≡ 4))
+IsDotdotQuiet v d o = IsSomeAnd o (λ e. (is_wrong_parent (parent (graph_of v) d) e.number ≡ false) × (e.kind ≡ 4))
 
 dotdot-quiet : (v : Volume) (d : ℕ) (o : Option Entry) → dotdot_reported v d o ≡ [] → IsDotdotQuiet v d o
 dotdot-quiet v d None h = absurd (missing_dotdot-some (attributes v d) (dir_path (graph_of v) d) (start_entry v d 1) h)
 dotdot-quiet v d (Some e) h =
     let m = number_dotdot (attributes v d) (dir_path (graph_of v) d) in
     let k = kind_dotdot (attributes v d) (dir_path (graph_of v) d) in (
-      reported-quiet _ m (nil-left (reported (is_other (parent (graph_of v) d) e.number) m) (reported (not (e.kind == 4)) k) h),
-      eqb-true e.kind 4 (not-false _ (reported-quiet _ k (nil-right (reported (is_other (parent (graph_of v) d) e.number) m) (reported (not (e.kind == 4)) k) h))),
+      reported-quiet _ m (nil-left (reported (is_wrong_parent (parent (graph_of v) d) e.number) m) (reported (not (e.kind == 4)) k) h),
+      eqb-true e.kind 4 (not-false _ (reported-quiet _ k (nil-right (reported (is_wrong_parent (parent (graph_of v) d) e.number) m) (reported (not (e.kind == 4)) k) h))),
     )
 
 dotdot-silent : (v : Volume) (d : ℕ) (o : Option Entry) → IsDotdotQuiet v d o → dotdot_reported v d o ≡ []
@@ -105,7 +105,7 @@ dotdot-silent v d None q = absurd q
 dotdot-silent v d (Some e) q =
     let m = number_dotdot (attributes v d) (dir_path (graph_of v) d) in
     let k = kind_dotdot (attributes v d) (dir_path (graph_of v) d) in
-    nil-both (reported (is_other (parent (graph_of v) d) e.number) m) (reported (not (e.kind == 4)) k)
+    nil-both (reported (is_wrong_parent (parent (graph_of v) d) e.number) m) (reported (not (e.kind == 4)) k)
     (reported-silent _ m q.0) (reported-silent _ k (not_from_true _ (eq-eqb e.kind 4 q.1)))
 
 -- a directory
@@ -122,8 +122,8 @@ dir-quiet v d h =
     let b = nil-right (shape_lines v d) _ h in
     let c = nil-left (dot_lines v d) _ b in
     let e = nil-right (dot_lines v d) _ b in
-    let f = nil-left (dotdot_lines v d) (entry_lines v d 0 (roled_entries v d)) e in
-    let g = nil-right (dotdot_lines v d) (entry_lines v d 0 (roled_entries v d)) e in
+    let f = nil-left (dotdot_lines v d) (lines_of_entries v d 0 (roled_entries v d)) e in
+    let g = nil-right (dotdot_lines v d) (lines_of_entries v d 0 (roled_entries v d)) e in
     record {
       shape = shape-quiet v d a;
       dot_there = dot-quiet v d (dot v d) c;
@@ -136,7 +136,8 @@ unfolding dir_lines dot_lines dotdot_lines
 dir-silent v d q =
     nil-both (shape_lines v d) _ (shape-silent v d q.shape)
     (nil-both (dot_lines v d) _ (dot-silent v d (dot v d) q.dot_there)
-    (nil-both (dotdot_lines v d) (entry_lines v d 0 (roled_entries v d)) (dotdot-silent v d (dotdot v d) q.dotdot_there)
+    (nil-both (dotdot_lines v d) (lines_of_entries v d 0 (roled_entries v d))
+        (dotdot-silent v d (dotdot v d) q.dotdot_there)
     (entries-silent v d 0 (roled_entries v d) (λ j x t. let z : j ≡ 0 + j = omega arith in subst (λ n. IsSeenQuiet v d n x) z (q.entries j x t)))))
 
 -- the whole check: the root, and each directory that isn't empty
@@ -159,7 +160,7 @@ pub pathname-quiet : (v : Volume) → pathname_lines v ≡ [] → IsPathnameQuie
 unfolding pathname_lines root_lines
 pathname-quiet v h =
     let r = root-quiet v (v.class 2) (nil-left (root_lines v) _ h) in
-    let a = then-quiet (goes_on v) (lines_below (lines_of v) v.count) (nil-right (root_lines v) _ h) (ap is_directory r.0) in
+    let a = then-quiet (continues_after_root v) (lines_below (lines_of v) v.count) (nil-right (root_lines v) _ h) (ap is_directory r.0) in
     record {
       root = r.0;
       suspect = r.1;
@@ -172,7 +173,7 @@ pub pathname-silent : (v : Volume) → IsPathnameQuiet v → pathname_lines v �
 unfolding pathname_lines root_lines
 pathname-silent v q =
     nil-both (root_lines v) _ (ap (root_reported v) q.root ∙ reported-silent _ root_suspect q.suspect)
-    (then-silent (goes_on v) (lines_below (lines_of v) v.count) (λ g.
+    (then-silent (continues_after_root v) (lines_below (lines_of v) v.count) (λ g.
     lines-silent (lines_of v) v.count (λ d l. then-silent (is_looked_at v d) (dir_lines v d) (λ k.
     let p = and_parts (is_dir v d) (not ((v.inode d).size == 0)) k in
     dir-silent v d (q.each d p.0 (eqb-false (v.inode d).size 0 (not-true _ p.1)))))))

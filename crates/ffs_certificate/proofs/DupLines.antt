@@ -10,12 +10,12 @@ use Rattle.ffs_volume.specs.declared.Step.{Step}
 use Rattle.ffs_volume.specs.declared.Step.TheVariants.{Run, Tail, Gap}
 use Rattle.ffs_volume.specs.declared.BlockMessage.{BlockMessage}
 use Rattle.ffs_volume.specs.declared.BlockMessage.TheVariants.{PartAlloc, UnknownType, Bad, Dup, ManyBad, ManyDup, PartTrunc, BlockCount, GroupMagic, FreeCounts, MapsWrong, GroupSums}
-use Rattle.ffs_volume.specs.Disk.Areas.{is_data_fragment, is_in_range, is_reserved}
+use Rattle.ffs_volume.specs.Disk.Areas.{is_fragment_in_range, is_run_in_range, is_reserved}
 use Rattle.ffs_volume.specs.Blocks.Inodes.{is_file_or_dir}
 use Rattle.ffs_volume.specs.Blocks.Owners.{Owner, owners_of}
-use Rattle.ffs_volume.specs.Blocks.Claims.{Claims, no_claims, is_set, is_open, next_inode, after_offer, after_step, after_owner, offer_lines, offers_lines, step_lines, steps_lines}
-use Rattle.ffs_volume.specs.Blocks.BlockCheck.{Offer, class_lines, count_lines, owner_lines, owners_lines, phase1_lines, sectors}
-use Rattle.ffs_volume.specs.Blocks.Keeping.{CountedOffer, bads_after, counted_offer, step_offers, steps_offers, all_offers, OfferVerdict, is_taken, offer_verdict, verdicts, offer_of}
+use Rattle.ffs_volume.specs.Blocks.Claims.{Claims, no_claims, is_set, is_open, next_inode, after_offer, after_step, after_owner, offer_lines, lines_of_offers, step_lines, lines_of_steps}
+use Rattle.ffs_volume.specs.Blocks.BlockCheck.{Offer, class_lines, count_lines, owner_lines, lines_of_owners, phase1_lines, sectors}
+use Rattle.ffs_volume.specs.Blocks.Keeping.{CountedOffer, bad_runs_after, counted_offer, step_offers, offers_of_steps, all_offers, OfferVerdict, is_claimed_before, offer_verdict, verdicts, offer_of}
 use Rattle.ffs_certificate.proofs.KeepingLaws.{OfferTie, offer_tied}
 use Rattle.ffs_certificate.proofs.KeepingOwners.{Tie, Closed, not_kept, still_closed, shut_closed, closed_more, step_tied}
 use Rattle.ffs_certificate.proofs.KeepingWhole.{Agrees, are_before, before_more, judged_before, steps_before, begins, owner_tied, Rising, start_agrees, rising_range}

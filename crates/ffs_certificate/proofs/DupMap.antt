@@ -11,10 +11,11 @@ use Rattle.ffs_volume.specs.declared.Step.{Step}
 use Rattle.ffs_volume.specs.declared.Step.TheVariants.{Run, Tail, Gap}
 use Rattle.ffs_volume.specs.declared.BlockMessage.{BlockMessage}
 use Rattle.ffs_volume.specs.declared.BlockMessage.TheVariants.{Bad, ManyBad, PartTrunc}
-use Rattle.ffs_volume.specs.Disk.Areas.{is_data_fragment, is_in_range}
+use Rattle.ffs_volume.specs.Disk.Areas.{is_fragment_in_range, is_run_in_range}
 use Rattle.ffs_volume.specs.Blocks.Owners.{Owner}
-use Rattle.ffs_volume.specs.Blocks.Claims.{Claims, no_claims, is_set, is_open, next_inode, after_offer, after_offers, after_step, after_steps, after_owner, after_owners, offer_lines, offers_lines, step_lines, steps_lines}
-use Rattle.ffs_volume.specs.Blocks.BlockCheck.{Offer, class_lines, count_lines, owner_lines, owners_lines, phase1_lines}
+use Rattle.ffs_volume.specs.Blocks.Claims.{Claims, no_claims, is_set, is_open, next_inode, after_offer, after_offers, after_step, after_steps, after_owner, after_owners, offer_lines, lines_of_offers, step_lines, lines_of_steps}
+use Rattle.ffs_volume.specs.Blocks.BlockCheck.{Offer, class_lines, count_lines, owner_lines, lines_of_owners}
+use Rattle.ffs_volume.specs.Blocks.BlockCheck.{phase1_lines}
 use Rattle.ffs_certificate.proofs.KeepingLaws.{ok_low}
 use Rattle.ffs_certificate.proofs.BlocksSilent.{unset}
 

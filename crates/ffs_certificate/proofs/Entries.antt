@@ -12,7 +12,7 @@ use Rattle.ffs_volume.specs.Directories.Graph.{names, names_at, test_at}
 use Rattle.ffs_volume.specs.Directories.Parents.{graph_of, roled_at}
 use Rattle.ffs_volume.specs.Directories.Paths.{dir_path, entry_path}
 use Rattle.ffs_volume.specs.Messages.Kinds.{reported, out_of_range, whiteout, unallocated, extraneous, kind_entry, extra_dot, extra_dotdot}
-use Rattle.ffs_volume.specs.Directories.PathnameCheck.{attributes, label_of, roled_lines, roled_reported, entry_lines, plain_lines, named_lines, is_bad_whiteout, reports_suspect, suspect_reported, is_extraneous, is_other_kind, extra_reported}
+use Rattle.ffs_volume.specs.Directories.PathnameCheck.{attributes, label_of, roled_lines, roled_reported, lines_of_entries, plain_lines, named_lines, is_bad_whiteout, reports_suspect, suspect_reported, is_extraneous, has_wrong_type, extra_reported}
 use Rattle.ffs_certificate.proofs.Silence.{nil-left, nil-right, nil-both, reported-quiet, reported-silent, if-quiet, if-silent, else-quiet, else-silent}
 
 -- a plain entry that names an inode from 2 on
@@ -20,7 +20,7 @@ pub record IsNamedQuiet (v : Volume) (s j : ℕ) (e : Entry) : Type 0 where
   pub allocated : is_allocated (v.class e.number) ≡ true
   pub suspect : reports_suspect v s j e.number ≡ false
   pub link : is_extraneous v s j e.number ≡ false
-  pub kind : is_other_kind v e ≡ false
+  pub kind : has_wrong_type v e ≡ false
 
 -- a plain entry
 pub record IsPlainQuiet (v : Volume) (s j : ℕ) (e : Entry) : Type 0 where
@@ -104,8 +104,8 @@ seen-silent v s j e q = go e.role refl
     go Plain x = plain-silent v s j e.entry (q.plain x)
 
 -- the entries of a list that is from the place j on
-pub entries-quiet : (v : Volume) (s j : ℕ) (es : List RoledEntry) → entry_lines v s j es ≡ [] → (k : ℕ) (e : RoledEntry) → roled_at es k ≡ Some e → IsSeenQuiet v s (j + k) e
-unfolding entry_lines
+pub entries-quiet : (v : Volume) (s j : ℕ) (es : List RoledEntry) → lines_of_entries v s j es ≡ [] → (k : ℕ) (e : RoledEntry) → roled_at es k ≡ Some e → IsSeenQuiet v s (j + k) e
+unfolding lines_of_entries
 entries-quiet v s j [] h k e x = absurd (cc)
 entries-quiet v s j (f ∷ es) h zero e x =
     let q : f ≡ e = cc in
@@ -115,8 +115,8 @@ entries-quiet v s j (f ∷ es) h (suc k) e x =
     let z : suc j + k ≡ j + suc k = omega arith in
     subst (λ n. IsSeenQuiet v s n e) z (entries-quiet v s (suc j) es (nil-right (roled_lines v s j f) _ h) k e x)
 
-pub entries-silent : (v : Volume) (s j : ℕ) (es : List RoledEntry) → ((k : ℕ) (e : RoledEntry) → roled_at es k ≡ Some e → IsSeenQuiet v s (j + k) e) → entry_lines v s j es ≡ []
-unfolding entry_lines
+pub entries-silent : (v : Volume) (s j : ℕ) (es : List RoledEntry) → ((k : ℕ) (e : RoledEntry) → roled_at es k ≡ Some e → IsSeenQuiet v s (j + k) e) → lines_of_entries v s j es ≡ []
+unfolding lines_of_entries
 entries-silent v s j [] h = refl
 entries-silent v s j (f ∷ es) h =
     let z : j + 0 ≡ j = omega arith in

@@ -9,14 +9,14 @@ use Rattle.ffs_volume.specs.Blocks.Inodes.{is_directory, is_allocated, is_unknow
 use Rattle.ffs_volume.specs.Directories.Roles.{Volume, is_dir, is_inode, is_allocated_inode, is_suspect, dotdot, references}
 use Rattle.ffs_volume.specs.Directories.Climb.{is_value}
 use Rattle.ffs_volume.proofs.ClimbLaws.{is_value-true}
-use Rattle.ffs_volume.specs.Directories.Graph.{Graph, parent, parent_entry, lost, reached, NamedOnce}
+use Rattle.ffs_volume.specs.Directories.Graph.{Graph, parent, parent_entry_index, lost, reached, NamedOnce}
 use Rattle.ffs_volume.proofs.Graphs.{AllReached, NoExtraneous}
 use Rattle.ffs_volume.proofs.Unreached.{lost-true}
 use Rattle.ffs_certificate.proofs.Lost.{silent-reached}
 use Rattle.ffs_certificate.proofs.Links.{links-right, has_parent_entry}
 use Rattle.ffs_volume.specs.Directories.Parents.{graph_of, is_from_parent}
-use Rattle.ffs_volume.specs.Directories.PathnameCheck.{is_short, is_bad_whiteout, is_other, is_extraneous, is_other_kind}
-use Rattle.ffs_volume.specs.Directories.Connectivity.{has_unref_line}
+use Rattle.ffs_volume.specs.Directories.PathnameCheck.{is_short, is_bad_whiteout, is_wrong_parent, is_extraneous, has_wrong_type}
+use Rattle.ffs_volume.specs.Directories.Connectivity.{is_unref_dir_of}
 use Rattle.ffs_volume.specs.Consistent.DirectoriesRight.{IsVolume, IsUnmarked, IsDirSize, IsPlainRight, AreDirsRight, AreLinksRight, AreCountsRight}
 use Rattle.ffs_certificate.proofs.Silence.{and_false-right}
 use Rattle.ffs_certificate.proofs.Live.{plain-live}
@@ -28,7 +28,7 @@ use Rattle.ffs_certificate.proofs.Suspects.{is_sane, dir-from_two, none_empty, n
 -- what silence gives
 pub record IsQuiet (v : Volume) : Type 0 where
   pub pathnames : IsPathnameQuiet v
-  pub connectivity : (d : ℕ) → d < v.count → has_unref_line v d ≡ false
+  pub connectivity : (d : ℕ) → d < v.count → is_unref_dir_of v d ≡ false
   pub references : (i : ℕ) → is_allocated_inode v i ≡ true → IsCountQuiet v i
 
 pub some-map : (P Q : Entry → Type 0) (o : Option Entry) → ((e : Entry) → P e → Q e) → IsSomeAnd o P → IsSomeAnd o Q
@@ -64,7 +64,7 @@ plain_right v s j e un live q =
       | inl y ↦ inl (y, whiteout_kind e q.no_whiteout y)
       | inr n ↦
           let m = q.named (ne_eqb e.number 1 n) in
-          let k : is_other_kind v e ≡ false = m.kind in
+          let k : has_wrong_type v e ≡ false = m.kind in
           let u = known-false (v.class e.number) (un.known e.number) in
           inr (
             and_from (is_inode v e.number) (is_allocated (v.class e.number)) (and_from (nat_le 2 e.number) (nat_lt e.number v.count) (le-leb 2 e.number (let a : e.number ≢ 1 = n in omega arith)) q.below) m.allocated,
@@ -94,9 +94,9 @@ dirs_right v vol un q = record {
 pub all_reached : (v : Volume) → IsVolume v → IsUnmarked v → IsQuiet v → AllReached (graph_of v)
 all_reached v vol un q =
     let quiet = none_suspect v un (none_empty v vol q.pathnames q.references) in
-    (silent-reached (graph_of v) (is_suspect v) (is_sane v vol) (none_dead v quiet)).0 (λ d. false_from_ne_true (has_unref_line v d) (λ t.
+    (silent-reached (graph_of v) (is_suspect v) (is_sane v vol) (none_dead v quiet)).0 (λ d. false_from_ne_true (is_unref_dir_of v d) (λ t.
     let l = lost-true (graph_of v) (is_suspect v) d (and_parts (lost (graph_of v) (is_suspect v) d) _ t).0 in
-    both_ways (has_unref_line v d) (q.connectivity d (dir-below v d l.dir)) t))
+    both_ways (is_unref_dir_of v d) (q.connectivity d (dir-below v d l.dir)) t))
 
 -- each plain entry that names a directory is its parent entry
 pub no_extraneous : (v : Volume) → IsVolume v → IsUnmarked v → IsQuiet v → NoExtraneous (graph_of v)
@@ -108,8 +108,8 @@ no_extraneous v vol un q s j d t h =
     let not_one : (m.entry.entry.number == 1) ≡ false = ne_eqb m.entry.entry.number 1 (omega arith) in
     let link : is_extraneous v s j d ≡ false = subst (λ x. is_extraneous v s j x ≡ false) number (p.named not_one).link in
     let from = not-false _ (and_false-right (is_dir v d) (not (is_from_parent (graph_of v) s j d)) link h) in
-    let both = and_parts (is_value (parent (graph_of v) d) s) (is_value (parent_entry (graph_of v) d) j) from in
-    (is_value-true (parent (graph_of v) d) s both.0, is_value-true (parent_entry (graph_of v) d) j both.1)
+    let both = and_parts (is_value (parent (graph_of v) d) s) (is_value (parent_entry_index (graph_of v) d) j) from in
+    (is_value-true (parent (graph_of v) d) s both.0, is_value-true (parent_entry_index (graph_of v) d) j both.1)
 
 -- the parent of a directory that is named once is where that name is
 pub parent_once : (v : Volume) (d : ℕ) → d ≢ 2 → reached (graph_of v) d ≡ true → (o : NamedOnce (graph_of v) d) → parent (graph_of v) d ≡ Some o.in_dir
@@ -123,7 +123,7 @@ parent_root g = refl
 
 -- `..` is the parent
 dotdot_is : (v : Volume) (d s : ℕ) → parent (graph_of v) d ≡ Some s → IsDotdotQuiet v d (dotdot v d) → IsSomeAnd (dotdot v d) (λ e. e.number ≡ s)
-dotdot_is v d s p q = some-map _ _ (dotdot v d) (λ e b. sym (eqb-true s e.number (not-false _ (sym (ap (λ o. is_other o e.number) p) ∙ b.0)))) q
+dotdot_is v d s p q = some-map _ _ (dotdot v d) (λ e b. sym (eqb-true s e.number (not-false _ (sym (ap (λ o. is_wrong_parent o e.number) p) ∙ b.0)))) q
 
 -- the links between directories are right
 pub links_right : (v : Volume) → IsVolume v → IsUnmarked v → IsQuiet v → AreLinksRight v

@@ -17,7 +17,7 @@ use Rattle.ffs_certificate.proofs.BlockLaws.{is_nil, nil_append, mark}
 use Rattle.ffs_certificate.proofs.OwnerLaws.{owners_claim, owners_from, Quiet}
 use Rattle.ffs_certificate.proofs.FreshLaws.{bit, times_cons, marked_bit}
 use Rattle.ffs_certificate.proofs.BlocksSilent.{nil_is, right_quiet, runs_below, reserved_length, reserved_bit, blocks_silent}
-use Rattle.ffs_volume.specs.Groups.Records.{group_block, summary_record, group_numbers, is_magic, are_places, are_maps, are_sums, is_record, is_total, GroupRight, GroupsRight}
+use Rattle.ffs_volume.specs.Groups.Records.{group_block, summary_record, group_numbers, has_right_magic, maps_fit, has_right_maps, has_right_sums, has_right_record, has_right_totals, GroupRight, GroupsRight}
 use Rattle.ffs_volume.specs.Groups.GroupCheck.{unless, group_lines, all_group_lines, is_reported, reported_once, unreported, phase5_lines, is_free_of_kept, is_free_of_runs}
 
 nil_flat : {X Y : Type 0} (f : X → List Y) (xs : List X) → is_nil (flat_map f xs) ≡ list_all (λ x. is_nil (f x)) xs
@@ -71,37 +71,38 @@ shape false b d e m = refl
 
 abbrev pub is_group_right : Layout → List ℕ → (ℕ → Bool) → (ℕ → Class) → ℕ → Bool
 is_group_right v image free class c =
-    is_magic v (group_block v image c)
-    && (is_record v free class c (summary_record v image c)
-    && ((are_places v (group_block v image c) && are_maps v free class c (group_block v image c)) && are_sums v free class c (group_block v image c)))
+    has_right_magic v (group_block v image c)
+    && (has_right_record v free class c (summary_record v image c)
+    && ((maps_fit v (group_block v image c) && has_right_maps v free class c (group_block v image c)) && has_right_sums v free class c (group_block v image c)))
 
 module _ (v : Layout) (image : List ℕ) (totals : List ℤ) (free : ℕ → Bool) (class : ℕ → Class) where
   group_says : (c : ℕ) → is_nil (group_lines v image free class c) ≡ is_group_right v image free class c
-  group_says c = shape (is_magic v (group_block v image c)) (is_record v free class c (summary_record v image c))
-      (are_places v (group_block v image c) && are_maps v free class c (group_block v image c)) (are_sums v free class c (group_block v image c)) (GroupMagic c)
+  group_says c = shape (has_right_magic v (group_block v image c))
+      (has_right_record v free class c (summary_record v image c))
+      (maps_fit v (group_block v image c) && has_right_maps v free class c (group_block v image c)) (has_right_sums v free class c (group_block v image c)) (GroupMagic c)
 
   group_facts : (c : ℕ) → is_group_right v image free class c ≡ true → GroupRight v image free class c
   group_facts c e =
-      let a = and_parts (is_magic v (group_block v image c)) _ e in
-      let b = and_parts (is_record v free class c (summary_record v image c)) _ a.1 in
-      let d = and_parts (are_places v (group_block v image c) && are_maps v free class c (group_block v image c)) _ b.1 in
-      let f = and_parts (are_places v (group_block v image c)) _ d.0 in
+      let a = and_parts (has_right_magic v (group_block v image c)) _ e in
+      let b = and_parts (has_right_record v free class c (summary_record v image c)) _ a.1 in
+      let d = and_parts (maps_fit v (group_block v image c) && has_right_maps v free class c (group_block v image c)) _ b.1 in
+      let f = and_parts (maps_fit v (group_block v image c)) _ d.0 in
       record { magic = a.0; places = f.0; maps = f.1; sums = d.1; record_is = b.0 }
 
   group_test : (c : ℕ) → GroupRight v image free class c → is_group_right v image free class c ≡ true
   group_test c g = and_from _ _ g.magic (and_from _ _ g.record_is (and_from _ _ (and_from _ _ g.places g.maps) g.sums))
 
-  all_say : is_nil (phase5_lines v image totals free class) ≡ (list_all (λ c. is_nil (group_lines v image free class c)) (group_numbers v) && is_total v free class totals)
+  all_say : is_nil (phase5_lines v image totals free class) ≡ (list_all (λ c. is_nil (group_lines v image free class c)) (group_numbers v) && has_right_totals v free class totals)
   unfolding phase5_lines
   all_say =
       once_nil (all_group_lines v image totals free class)
-      ∙ (nil_append (flat_map (group_lines v image free class) (group_numbers v)) (unless (is_total v free class totals) FreeCounts)
-      ∙ rw (nil_flat (group_lines v image free class) (group_numbers v), nil_unless (is_total v free class totals) FreeCounts) refl)
+      ∙ (nil_append (flat_map (group_lines v image free class) (group_numbers v)) (unless (has_right_totals v free class totals) FreeCounts)
+      ∙ rw (nil_flat (group_lines v image free class) (group_numbers v), nil_unless (has_right_totals v free class totals) FreeCounts) refl)
 
   pub phase5_silent : (phase5_lines v image totals free class ≡ []) ↔ GroupsRight v image totals free class
   phase5_silent = (
     (λ e.
-        let parts = and_parts (list_all (λ c. is_nil (group_lines v image free class c)) (group_numbers v)) (is_total v free class totals) (sym all_say ∙ ap is_nil e) in
+        let parts = and_parts (list_all (λ c. is_nil (group_lines v image free class c)) (group_numbers v)) (has_right_totals v free class totals) (sym all_say ∙ ap is_nil e) in
         record {
           groups = λ c lt. group_facts c (sym (group_says c) ∙ all_at (λ k. is_nil (group_lines v image free class k)) 0 v.ncg c parts.0 (omega arith) (omega arith));
           total = parts.1;

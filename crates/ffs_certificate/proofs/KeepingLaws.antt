@@ -5,10 +5,10 @@ use Rattle.std.proofs.lemmas.Bool.{and_parts, cases_eq, both_ways, eq-eqb, ne_eq
 use Rattle.std.proofs.lemmas.List.{get_or-set_same, get_or-set_other, length-set}
 use Rattle.std.proofs.lemmas.List.Sums.{sum_by-cons}
 use Rattle.ffs_volume.specs.declared.Layout.{Layout}
-use Rattle.ffs_volume.specs.Disk.Areas.{is_data_fragment, is_reserved}
+use Rattle.ffs_volume.specs.Disk.Areas.{is_fragment_in_range, is_reserved}
 use Rattle.ffs_volume.specs.Blocks.Claims.{Claims, is_set, after_offer}
 use Rattle.ffs_certificate.proofs.FreshLaws.{bit}
-use Rattle.ffs_volume.specs.Blocks.Keeping.{counted_offer, OfferVerdict, is_taken, dups_of, offer_verdict}
+use Rattle.ffs_volume.specs.Blocks.Keeping.{counted_offer, OfferVerdict, is_claimed_before, dups_of, offer_verdict}
 
 -- how many kept offers of an inode there are
 abbrev pub kept_of : List OfferVerdict → ℕ → ℕ
@@ -22,22 +22,23 @@ kept_cons j e i = sum_by-cons (λ k. cond (k.kept && k.inode == i) 1 0) j e
 
 -- the fold's state in the midst of a Run, and what was judged
 pub record OfferTie (v : Layout) (i : ℕ) (s : Claims) (e : List OfferVerdict) : Type 0 where
-  pub used : (f : ℕ) → is_data_fragment v f ≡ true → is_set s.used f ≡ (is_reserved v f || is_taken e f)
+  pub used : (f : ℕ) → is_fragment_in_range v f ≡ true → is_set s.used f ≡ (is_reserved v f || is_claimed_before e f)
   pub long : length s.used ≡ v.size
   pub kept : s.kept ≡ kept_of e i
   pub capped : s.dups ≡ min 11 (dups_of e i)
 
-pub not_taken : (j : OfferVerdict) (e : List OfferVerdict) (f : ℕ) → j.kept ≡ false → is_taken (j ∷ e) f ≡ is_taken e f
+pub not_taken : (j : OfferVerdict) (e : List OfferVerdict) (f : ℕ) → j.kept ≡ false → is_claimed_before (j ∷ e) f
+    ≡ is_claimed_before e f
 not_taken j e f k = rw k refl
 
-taken_other : (j : OfferVerdict) (e : List OfferVerdict) (f : ℕ) → (j.fragment ≡ f → ⊥) → is_taken (j ∷ e) f ≡ is_taken e f
+taken_other : (j : OfferVerdict) (e : List OfferVerdict) (f : ℕ) → (j.fragment ≡ f → ⊥) → is_claimed_before (j ∷ e) f ≡ is_claimed_before e f
 taken_other j e f other = rw (ne_eqb j.fragment f other) (one j.kept)
   where
-    one : (b : Bool) → ((b && false) || is_taken e f) ≡ is_taken e f
+    one : (b : Bool) → ((b && false) || is_claimed_before e f) ≡ is_claimed_before e f
     one true = refl
     one false = refl
 
-taken_here : (j : OfferVerdict) (e : List OfferVerdict) → j.kept ≡ true → is_taken (j ∷ e) j.fragment ≡ true
+taken_here : (j : OfferVerdict) (e : List OfferVerdict) → j.kept ≡ true → is_claimed_before (j ∷ e) j.fragment ≡ true
 taken_here j e k = rw (k, eq-eqb j.fragment j.fragment refl) refl
 
 or_true : (b : Bool) → (b || true) ≡ true
@@ -63,11 +64,11 @@ module _ (v : Layout) (i : ℕ) (s : Claims) (e : List OfferVerdict) (j : OfferV
       omega (arith, t.kept, kept_cons j e i)
 
   -- a kept one that isn't ok
-  tie_past : j.kept ≡ true → j.dup ≡ false → is_data_fragment v j.fragment ≡ false → OfferTie v i (record s { kept = s.kept + 1 }) (j ∷ e)
+  tie_past : j.kept ≡ true → j.dup ≡ false → is_fragment_in_range v j.fragment ≡ false → OfferTie v i (record s { kept = s.kept + 1 }) (j ∷ e)
   tie_past k d bad =
       let none : bit (j.dup && j.inode == i) ≡ 0 = rw d refl in
       record {
-        used = λ f ok. t.used f ok ∙ ap (λ b. is_reserved v f || b) (sym (taken_other j e f (λ q. both_ways (is_data_fragment v f) (subst (λ x. is_data_fragment v x ≡ false) q bad) ok)));
+        used = λ f ok. t.used f ok ∙ ap (λ b. is_reserved v f || b) (sym (taken_other j e f (λ q. both_ways (is_fragment_in_range v f) (subst (λ x. is_fragment_in_range v x ≡ false) q bad) ok)));
         long = t.long;
         kept = kept_more k;
         capped = omega (arith, t.capped, dups_cons j e i);
@@ -80,7 +81,7 @@ module _ (v : Layout) (i : ℕ) (s : Claims) (e : List OfferVerdict) (j : OfferV
       let one : bit (j.dup && j.inode == i) ≡ 1 = rw (d, here) refl in
       record {
         used = λ f ok. elim (cases_eq j.fragment f) [
-          | inl same ↦ subst (λ x. is_set s.used x ≡ (is_reserved v x || is_taken (j ∷ e) x)) same
+          | inl same ↦ subst (λ x. is_set s.used x ≡ (is_reserved v x || is_claimed_before (j ∷ e) x)) same
               (set ∙ sym (ap (λ b. is_reserved v j.fragment || b) (taken_here j e k) ∙ or_true (is_reserved v j.fragment)))
           | inr other ↦ t.used f ok ∙ ap (λ b. is_reserved v f || b) (sym (taken_other j e f other))
         ];
@@ -97,7 +98,7 @@ module _ (v : Layout) (i : ℕ) (s : Claims) (e : List OfferVerdict) (j : OfferV
       let long = t.long in
       record {
         used = λ f ok. elim (cases_eq j.fragment f) [
-          | inl same ↦ subst (λ x. is_set (slice_set s.used j.fragment true) x ≡ (is_reserved v x || is_taken (j ∷ e) x)) same
+          | inl same ↦ subst (λ x. is_set (slice_set s.used j.fragment true) x ≡ (is_reserved v x || is_claimed_before (j ∷ e) x)) same
               (get_or-set_same s.used j.fragment true false (omega arith)
               ∙ sym (ap (λ b. is_reserved v j.fragment || b) (taken_here j e k) ∙ or_true (is_reserved v j.fragment)))
           | inr other ↦ get_or-set_other s.used j.fragment f true false (λ q. other (sym q)) ∙ (t.used f ok ∙ ap (λ b. is_reserved v f || b) (sym (taken_other j e f other)))
@@ -107,15 +108,15 @@ module _ (v : Layout) (i : ℕ) (s : Claims) (e : List OfferVerdict) (j : OfferV
         capped = omega (arith, t.capped, dups_cons j e i);
       }
 
-pub ok_low : (v : Layout) (f : ℕ) → is_data_fragment v f ≡ true → f < v.size
-unfolding is_data_fragment
+pub ok_low : (v : Layout) (f : ℕ) → is_fragment_in_range v f ≡ true → f < v.size
+unfolding is_fragment_in_range
 ok_low v f e = ltb-true f v.size (and_parts (nat_lt f v.size) _ e).0
 
 -- one offer of a Run after at most ten bad Runs
 pub offer_tied : (v : Layout) (i b f : ℕ) (s : Claims) (e : List OfferVerdict) → b ≤ 10 → OfferTie v i s e →
     OfferTie v i (after_offer v s f) (offer_verdict v e (counted_offer i b f) ∷ e) × ((offer_verdict v e (counted_offer i b f)).kept ≡ nat_lt s.dups 11)
 unfolding offer_verdict
-offer_tied v i b f s e few t = go (nat_lt s.dups 11) refl (is_data_fragment v f) refl (is_set s.used f) refl
+offer_tied v i b f s e few t = go (nat_lt s.dups 11) refl (is_fragment_in_range v f) refl (is_set s.used f) refl
   where
     j : OfferVerdict
     j = offer_verdict v e (counted_offer i b f)
@@ -127,7 +128,8 @@ offer_tied v i b f s e few t = go (nat_lt s.dups 11) refl (is_data_fragment v f)
     kept_is true q = let lt = ltb-true s.dups 11 q in rw low (le-leb (dups_of e i) 10 (omega (arith, t.capped, lt)))
     kept_is false q = let ge = ltb-false s.dups 11 q in rw low (lt-leb (dups_of e i) 10 (omega (arith, t.capped, ge)))
 
-    go : (a : Bool) → nat_lt s.dups 11 ≡ a → (o : Bool) → is_data_fragment v f ≡ o → (u : Bool) → is_set s.used f ≡ u →
+    go : (a : Bool) → nat_lt s.dups 11 ≡ a → (o : Bool) → is_fragment_in_range v f ≡ o → (u : Bool) → is_set s.used f
+        ≡ u →
         OfferTie v i (after_offer v s f) (offer_verdict v e (counted_offer i b f) ∷ e) × ((nat_le b 10 && nat_le (dups_of e i) 10) ≡ nat_lt s.dups 11)
     go false qa o qo u qu =
         let ge = ltb-false s.dups 11 qa in

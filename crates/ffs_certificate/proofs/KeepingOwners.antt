@@ -6,10 +6,10 @@ use Rattle.std.proofs.lemmas.Bool.{and_parts, and_cases, cases_eq, cases_lt, bot
 use Rattle.ffs_volume.specs.declared.Layout.{Layout}
 use Rattle.ffs_volume.specs.declared.Step.{Step}
 use Rattle.ffs_volume.specs.declared.Step.TheVariants.{Run, Tail, Gap}
-use Rattle.ffs_volume.specs.Disk.Areas.{is_data_fragment, is_in_range, is_reserved}
+use Rattle.ffs_volume.specs.Disk.Areas.{is_fragment_in_range, is_run_in_range, is_reserved}
 use Rattle.ffs_volume.specs.Blocks.Claims.{Claims, is_set, is_open, after_offer, after_offers, after_step}
 use Rattle.ffs_volume.specs.Blocks.BlockCheck.{kept_in_offers, kept_in_step}
-use Rattle.ffs_volume.specs.Blocks.Keeping.{CountedOffer, bads_after, counted_offer, step_offers, OfferVerdict, is_taken, dups_of, offer_verdict, verdicts, offer_of, kept_by_rule}
+use Rattle.ffs_volume.specs.Blocks.Keeping.{CountedOffer, bad_runs_after, counted_offer, step_offers, OfferVerdict, is_claimed_before, dups_of, offer_verdict, verdicts, offer_of, kept_by_rule}
 use Rattle.ffs_certificate.proofs.KeepingLaws.{kept_of, dups_cons, kept_cons, OfferTie, not_taken, offer_tied}
 
 pub judged_append : (v : Layout) (e : List OfferVerdict) (ps qs : List CountedOffer) → verdicts v e (ps ++ qs) ≡ verdicts v (verdicts v e ps) qs
@@ -35,9 +35,9 @@ offers_tied v i b s e (f ∷ fs) few t =
     )
 
 offer_bad : (v : Layout) (s : Claims) (f : ℕ) → (after_offer v s f).bad ≡ s.bad
-offer_bad v s f = one (nat_lt s.dups 11) refl (is_data_fragment v f) refl (is_set s.used f) refl
+offer_bad v s f = one (nat_lt s.dups 11) refl (is_fragment_in_range v f) refl (is_set s.used f) refl
   where
-    one : (a : Bool) → nat_lt s.dups 11 ≡ a → (o : Bool) → is_data_fragment v f ≡ o → (u : Bool) → is_set s.used f ≡ u → (after_offer v s f).bad ≡ s.bad
+    one : (a : Bool) → nat_lt s.dups 11 ≡ a → (o : Bool) → is_fragment_in_range v f ≡ o → (u : Bool) → is_set s.used f ≡ u → (after_offer v s f).bad ≡ s.bad
     one false qa o qo u qu = rw qa refl
     one true qa false qo u qu = rw (qa, qo) refl
     one true qa true qo true qu = rw (qa, qo, qu) refl
@@ -49,7 +49,7 @@ offers_bad v s (f ∷ fs) = offers_bad v (after_offer v s f) fs ∙ offer_bad v 
 
 -- what holds also after the cut
 pub record Held (v : Layout) (i : ℕ) (s : Claims) (e : List OfferVerdict) : Type 0 where
-  pub used : (f : ℕ) → is_data_fragment v f ≡ true → is_set s.used f ≡ (is_reserved v f || is_taken e f)
+  pub used : (f : ℕ) → is_fragment_in_range v f ≡ true → is_set s.used f ≡ (is_reserved v f || is_claimed_before e f)
   pub long : length s.used ≡ v.size
   pub kept : s.kept ≡ kept_of e i
 
@@ -118,7 +118,7 @@ closed_more i b b' e le (inl many) = inl (omega arith)
 closed_more i b b' e le (inr many) = inr many
 
 abbrev StepTied : Layout → ℕ → ℕ → Claims → List OfferVerdict → Step → Type 0
-StepTied v i b s e step = Tie v i (bads_after v b step) (after_step v s step) (verdicts v e (step_offers v i b step)) × (kept_in_step v i s step ≡ kept_by_rule v e (step_offers v i b step))
+StepTied v i b s e step = Tie v i (bad_runs_after v b step) (after_step v s step) (verdicts v e (step_offers v i b step)) × (kept_in_step v i s step ≡ kept_by_rule v e (step_offers v i b step))
 
 pub step_tied : (v : Layout) (i b : ℕ) (s : Claims) (e : List OfferVerdict) (step : Step) → Tie v i b s e → StepTied v i b s e step
 step_tied v i b s e Gap t = (t, refl)
@@ -131,27 +131,29 @@ step_tied v i b s e Tail t = one (is_open s) refl
     one false q =
         let next : after_step v s Tail ≡ s = rw q refl in
         (subst (λ x. Tie v i b x e) (sym next) t, refl)
-step_tied v i b s e (Run start len block) t = one (is_open s) refl (is_in_range v start len) refl
+step_tied v i b s e (Run start len block) t = one (is_open s) refl (is_run_in_range v start len) refl
   where
     fs : List ℕ
     fs = range_with_len start len
 
-    more : b ≤ bads_after v b (Run start len block)
-    more = go (is_in_range v start len)
+    more : b ≤ bad_runs_after v b (Run start len block)
+    more = go (is_run_in_range v start len)
       where
         go : (r : Bool) → b ≤ (if r then b else b + 1)
         go true = omega arith
         go false = omega arith
 
-    one : (o : Bool) → is_open s ≡ o → (r : Bool) → is_in_range v start len ≡ r → StepTied v i b s e (Run start len block)
+    one : (o : Bool) → is_open s ≡ o → (r : Bool) → is_run_in_range v start len ≡ r → StepTied v i b s e (Run start len block)
     one false q r qr =
         let next : after_step v s (Run start len block) ≡ s = rw q refl in
         let none : kept_in_step v i s (Run start len block) ≡ [] = rw q refl in
-        let b' = bads_after v b (Run start len block) in
-        let c = closed_more i b (bads_after v b (Run start len block)) e more (shut_closed i b e (sym t.ready ∙ q)) in
-        let done = skip_offers v i (bads_after v b (Run start len block)) s e (range_with_len start len) c t.held in (
-          subst (λ x. Tie v i (bads_after v b (Run start len block)) x (verdicts v e (step_offers v i b (Run start len block)))) (sym next)
-              (closed_tie v i (bads_after v b (Run start len block)) s _ q done.1 done.0),
+        let b' = bad_runs_after v b (Run start len block) in
+        let c = closed_more i b (bad_runs_after v b (Run start len block)) e more
+            (shut_closed i b e (sym t.ready ∙ q)) in
+        let done = skip_offers v i (bad_runs_after v b (Run start len block)) s e (range_with_len start len) c t.held
+            in (
+          subst (λ x. Tie v i (bad_runs_after v b (Run start len block)) x (verdicts v e (step_offers v i b (Run start len block)))) (sym next)
+              (closed_tie v i (bad_runs_after v b (Run start len block)) s _ q done.1 done.0),
           none ∙ sym done.2,
         )
     one true q true qr =
@@ -161,7 +163,7 @@ step_tied v i b s e (Run start len block) t = one (is_open s) refl (is_in_range 
         let high = ltb-true s.dups 11 lows.1 in
         let next : after_step v s (Run start len block) ≡ after_offers v (record s { runs = s.runs + 1 }) (range_with_len start len) = rw (q, qr) refl in
         let some : kept_in_step v i s (Run start len block) ≡ kept_in_offers v i (record s { runs = s.runs + 1 }) (range_with_len start len) = rw (q, qr) refl in
-        let still : bads_after v b (Run start len block) ≡ b = rw qr refl in
+        let still : bad_runs_after v b (Run start len block) ≡ b = rw qr refl in
         let done = offers_tied v i b (record s { runs = s.runs + 1 }) e (range_with_len start len) (omega (arith, same.0, low))
         (record { used = t.held.used; long = t.held.long; kept = t.held.kept; capped = omega (arith, same.1, high) }) in
         subst (λ n. Tie v i n (after_step v s (Run start len block)) (verdicts v e (map (counted_offer i n) (range_with_len start len)))
@@ -181,7 +183,7 @@ step_tied v i b s e (Run start len block) t = one (is_open s) refl (is_in_range 
         high : s.dups < 11
         high = ltb-true s.dups 11 (and_parts (nat_lt s.bad 11) (nat_lt s.dups 11) q).1
 
-        up : bads_after v b (Run start len block) ≡ b + 1
+        up : bad_runs_after v b (Run start len block) ≡ b + 1
         up = rw qr refl
 
         two : (z : Bool) → (s.bad == 10) ≡ z → StepTied v i b s e (Run start len block)

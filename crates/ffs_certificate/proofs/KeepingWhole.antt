@@ -6,39 +6,40 @@ use Rattle.std.proofs.lemmas.Bool.{and_parts, and_from, ne_eqb, ltb-true, lt-ltb
 use Rattle.ffs_volume.specs.declared.Layout.{Layout}
 use Rattle.ffs_volume.specs.declared.Step.{Step}
 use Rattle.ffs_volume.specs.declared.Step.TheVariants.{Run, Tail, Gap}
-use Rattle.ffs_volume.specs.Disk.Areas.{is_data_fragment, is_reserved}
+use Rattle.ffs_volume.specs.Disk.Areas.{is_fragment_in_range, is_reserved}
 use Rattle.ffs_volume.specs.Blocks.Owners.{Owner, owner_of, owners_of}
 use Rattle.ffs_volume.specs.Blocks.Claims.{Claims, is_set, next_inode, no_claims, after_step, after_steps, after_owner, after_owners}
 use Rattle.ffs_volume.specs.Blocks.BlockCheck.{kept_in_steps, kept_in_owners}
 use Rattle.ffs_certificate.proofs.FreshLaws.{bit}
 use Rattle.ffs_certificate.proofs.BlocksSilent.{reserved_length, reserved_bit}
-use Rattle.ffs_volume.specs.Blocks.Keeping.{CountedOffer, bads_after, counted_offer, step_offers, steps_offers, all_offers, OfferVerdict, is_taken, dups_of, offer_verdict, verdicts, kept_by_rule}
+use Rattle.ffs_volume.specs.Blocks.Keeping.{CountedOffer, bad_runs_after, counted_offer, step_offers, offers_of_steps, all_offers, OfferVerdict, is_claimed_before, dups_of, offer_verdict, verdicts, kept_by_rule}
 use Rattle.ffs_certificate.specs.Certificate.{KeepsByRule}
 use Rattle.ffs_certificate.proofs.KeepingLaws.{kept_of, dups_cons, kept_cons, ok_low}
 use Rattle.ffs_certificate.proofs.KeepingOwners.{Tie, step_tied, judged_append, kept_append}
 
--- how many bad Runs some steps have, where `bads` are before
+-- how many bad Runs some steps have, where `bad_runs` are before
 abbrev pub bads_of : Layout → ℕ → List Step → ℕ
-bads_of v bads [] = bads
-bads_of v bads (step ∷ steps) = bads_of v (bads_after v bads step) steps
+bads_of v bad_runs [] = bad_runs
+bads_of v bad_runs (step ∷ steps) = bads_of v (bad_runs_after v bad_runs step) steps
 
 pub steps_tied : (v : Layout) (i b : ℕ) (s : Claims) (e : List OfferVerdict) (steps : List Step) → Tie v i b s e →
-    Tie v i (bads_of v b steps) (after_steps v s steps) (verdicts v e (steps_offers v i b steps))
-    × (kept_in_steps v i s steps ≡ kept_by_rule v e (steps_offers v i b steps))
+    Tie v i (bads_of v b steps) (after_steps v s steps) (verdicts v e (offers_of_steps v i b steps))
+    × (kept_in_steps v i s steps ≡ kept_by_rule v e (offers_of_steps v i b steps))
 steps_tied v i b s e [] t = (t, refl)
 steps_tied v i b s e (step ∷ steps) t =
     let one = step_tied v i b s e step t in
-    let rest = steps_tied v i (bads_after v b step) (after_step v s step) (verdicts v e (step_offers v i b step)) steps one.0 in (
-      subst (λ x. Tie v i (bads_of v (bads_after v b step) steps) (after_steps v (after_step v s step) steps) x)
-          (sym (judged_append v e (step_offers v i b step) (steps_offers v i (bads_after v b step) steps))) rest.0,
+    let rest = steps_tied v i (bad_runs_after v b step) (after_step v s step) (verdicts v e (step_offers v i b step)) steps one.0 in (
+      subst (λ x. Tie v i (bads_of v (bad_runs_after v b step) steps) (after_steps v (after_step v s step) steps) x)
+          (sym (judged_append v e (step_offers v i b step) (offers_of_steps v i (bad_runs_after v b step) steps)))
+              rest.0,
       ap (λ z. z ++ kept_in_steps v i (after_step v s step) steps) one.1
           ∙ (ap (λ z. kept_by_rule v e (step_offers v i b step) ++ z) rest.1
-          ∙ sym (kept_append v e (step_offers v i b step) (steps_offers v i (bads_after v b step) steps))),
+          ∙ sym (kept_append v e (step_offers v i b step) (offers_of_steps v i (bad_runs_after v b step) steps))),
     )
 
 -- the fold between inodes, and what was judged
 pub record Agrees (v : Layout) (s : Claims) (e : List OfferVerdict) : Type 0 where
-  pub used : (f : ℕ) → is_data_fragment v f ≡ true → is_set s.used f ≡ (is_reserved v f || is_taken e f)
+  pub used : (f : ℕ) → is_fragment_in_range v f ≡ true → is_set s.used f ≡ (is_reserved v f || is_claimed_before e f)
   pub long : length s.used ≡ v.size
 
 abbrev pub are_before : ℕ → List OfferVerdict → Bool
@@ -85,13 +86,15 @@ places_append n (p ∷ ps) qs h g =
     and_from (nat_lt p.inode n) _ parts.0 (places_append n ps qs parts.1 g)
 
 step_before : (v : Layout) (i b : ℕ) (step : Step) → places_before (i + 1) (step_offers v i b step) ≡ true
-step_before v i b (Run start len block) = map_before i (bads_after v b (Run start len block)) (range_with_len start len)
+step_before v i b (Run start len block) =
+    map_before i (bad_runs_after v b (Run start len block)) (range_with_len start len)
 step_before v i b Tail = refl
 step_before v i b Gap = refl
 
-pub steps_before : (v : Layout) (i b : ℕ) (steps : List Step) → places_before (i + 1) (steps_offers v i b steps) ≡ true
+pub steps_before : (v : Layout) (i b : ℕ) (steps : List Step) → places_before (i + 1) (offers_of_steps v i b steps)
+    ≡ true
 steps_before v i b [] = refl
-steps_before v i b (step ∷ steps) = places_append (i + 1) (step_offers v i b step) _ (step_before v i b step) (steps_before v i (bads_after v b step) steps)
+steps_before v i b (step ∷ steps) = places_append (i + 1) (step_offers v i b step) _ (step_before v i b step) (steps_before v i (bad_runs_after v b step) steps)
 
 -- an inode begins
 pub begins : (v : Layout) (s : Claims) (e : List OfferVerdict) (o : Owner) → Agrees v s e → are_before o.number e ≡ true → Tie v o.number 0 (next_inode s) e
@@ -105,8 +108,8 @@ begins v s e o a h =
 
 -- the state and the judged offers at the end of an inode
 pub owner_tied : (v : Layout) (s : Claims) (e : List OfferVerdict) (o : Owner) → Agrees v s e → are_before o.number e ≡ true →
-    Tie v o.number (bads_of v 0 o.steps) (after_owner v s o) (verdicts v e (steps_offers v o.number 0 o.steps))
-    × (kept_in_steps v o.number (next_inode s) o.steps ≡ kept_by_rule v e (steps_offers v o.number 0 o.steps))
+    Tie v o.number (bads_of v 0 o.steps) (after_owner v s o) (verdicts v e (offers_of_steps v o.number 0 o.steps))
+    × (kept_in_steps v o.number (next_inode s) o.steps ≡ kept_by_rule v e (offers_of_steps v o.number 0 o.steps))
 owner_tied v s e o a h = steps_tied v o.number 0 (next_inode s) e o.steps (begins v s e o a h)
 
 -- the numbers of inodes rise
@@ -119,17 +122,17 @@ pub owners_tied : (v : Layout) (n : ℕ) (s : Claims) (e : List OfferVerdict) (o
 owners_tied v n s e [] a h r = (a, refl)
 owners_tied v n s e (o ∷ os) a h r =
     let one = owner_tied v s e o a (before_more n o.number e r.0 h) in
-    let after = judged_before v (o.number + 1) e (steps_offers v o.number 0 o.steps) (before_more n (o.number + 1) e (omega (arith, r.0)) h) (steps_before v o.number 0 o.steps) in
-    let rest = owners_tied v (o.number + 1) (after_owner v s o) (verdicts v e (steps_offers v o.number 0 o.steps)) os
+    let after = judged_before v (o.number + 1) e (offers_of_steps v o.number 0 o.steps) (before_more n (o.number + 1) e (omega (arith, r.0)) h) (steps_before v o.number 0 o.steps) in
+    let rest = owners_tied v (o.number + 1) (after_owner v s o) (verdicts v e (offers_of_steps v o.number 0 o.steps)) os
     (record { used = one.0.held.used; long = one.0.held.long }) after r.1 in (
-      subst (λ x. Agrees v (after_owners v (after_owner v s o) os) x) (sym (judged_append v e (steps_offers v o.number 0 o.steps) (all_offers v os))) rest.0,
+      subst (λ x. Agrees v (after_owners v (after_owner v s o) os) x) (sym (judged_append v e (offers_of_steps v o.number 0 o.steps) (all_offers v os))) rest.0,
       ap (λ z. z ++ kept_in_owners v (after_owner v s o) os) one.1
-          ∙ (ap (λ z. kept_by_rule v e (steps_offers v o.number 0 o.steps) ++ z) rest.1
-          ∙ sym (kept_append v e (steps_offers v o.number 0 o.steps) (all_offers v os))),
+          ∙ (ap (λ z. kept_by_rule v e (offers_of_steps v o.number 0 o.steps) ++ z) rest.1
+          ∙ sym (kept_append v e (offers_of_steps v o.number 0 o.steps) (all_offers v os))),
     )
 
 pub start_agrees : (v : Layout) → Agrees v (no_claims v) []
-unfolding no_claims is_data_fragment
+unfolding no_claims is_fragment_in_range
 start_agrees v = record {
   used = λ f ok. reserved_bit v f ∙ (rw (lt-ltb f v.size (ok_low v f ok)) (one (is_reserved v f)));
   long = reserved_length v;

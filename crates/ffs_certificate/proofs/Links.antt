@@ -6,7 +6,7 @@ use Rattle.std.proofs.lemmas.Bool.{cases_eq, cases_Bool, and_parts, and_from, bo
 use Rattle.ffs_volume.proofs.SearchLaws.{some_below-from, some_below-gives, first_below-is}
 use Rattle.ffs_volume.specs.Directories.Climb.{is_value}
 use Rattle.ffs_volume.proofs.ClimbLaws.{is_value-from}
-use Rattle.ffs_volume.specs.Directories.Graph.{Graph, edge, names, names_in, parent, parent_by, level, level_edge, reached, entry_index, first_index, test_at, names_at}
+use Rattle.ffs_volume.specs.Directories.Graph.{Graph, edge, names, names_in, parent, parent_by, level, level_edge, reached, index_in_parent, first_index, test_at, names_at}
 use Rattle.ffs_volume.proofs.Graphs.{AllReached, IsParentEntry, NoExtraneous, LinksRight}
 use Rattle.ffs_volume.proofs.LevelLaws.{within-zero, level-some, level-before, level-is, reached-level}
 use Rattle.ffs_volume.specs.Directories.Roles.{RoledEntry}
@@ -48,7 +48,8 @@ has_parent_entry v d n r =
     let p = place_of (names d) (v.entries e.0) b.1 in (
       e.0,
       p.0,
-      (e.1, cond-false (d == 2) None (entry_index v d (parent v d)) (ne_eqb d 2 n) ∙ (ap (entry_index v d) e.1 ∙ p.1)),
+      (e.1, cond-false (d == 2) None (index_in_parent v d (parent v d)) (ne_eqb d 2 n)
+          ∙ (ap (index_in_parent v d) e.1 ∙ p.1)),
       and_from (v.is_dir e.0) (test_at (names d) p.0 (v.entries e.0)) b.0 p.2,
     )
 

@@ -11,9 +11,9 @@ use Rattle.ffs_volume.specs.declared.Step.{Step}
 use Rattle.ffs_volume.specs.declared.BlockMessage.{BlockMessage}
 use Rattle.ffs_volume.specs.Blocks.Inodes.{is_file_or_dir}
 use Rattle.ffs_volume.specs.Blocks.Owners.{Owner, step_fragments, fragments_of, all_steps}
-use Rattle.ffs_volume.specs.Blocks.Claims.{Claims, next_inode, after_owner, after_owners, steps_lines}
-use Rattle.ffs_volume.specs.Blocks.BlockCheck.{class_lines, count_lines, owner_lines, owners_lines, sectors}
-use Rattle.ffs_volume.specs.Consistent.BlocksRight.{is_right_class, run_in_range, is_no_tail, is_field_right}
+use Rattle.ffs_volume.specs.Blocks.Claims.{Claims, next_inode, after_owner, after_owners, lines_of_steps}
+use Rattle.ffs_volume.specs.Blocks.BlockCheck.{class_lines, count_lines, owner_lines, lines_of_owners, sectors}
+use Rattle.ffs_volume.specs.Consistent.BlocksRight.{is_right_class, is_step_in_range, is_no_tail, is_field_right}
 use Rattle.ffs_certificate.proofs.BlockLaws.{is_nil, nil_append, mark, fresh, fresh_append, mark_append, Calm, Claimed, calm_open, fits, step_quiet, steps_quiet, steps_say, steps_claim}
 
 abbrev pub owner_quiet : Layout → List Bool → Owner → Bool
@@ -47,7 +47,7 @@ count_says v s end o done =
 owner_says : (v : Layout) (s : Claims) (o : Owner) → is_nil (owner_lines v s o) ≡ owner_quiet v s.used o
 owner_says v s o =
     nil_append (class_lines o.number o.class) _
-    ∙ (ap (λ b. is_nil (class_lines o.number o.class) && b) (nil_append (steps_lines v o.number (next_inode s) o.steps) (count_lines v o (after_owner v s o)))
+    ∙ (ap (λ b. is_nil (class_lines o.number o.class) && b) (nil_append (lines_of_steps v o.number (next_inode s) o.steps) (count_lines v o (after_owner v s o)))
     ∙ rw (class_says o.number o.class, steps_say v o.number (next_inode s) o.steps (start_calm s))
     (ap (λ b. is_right_class o.class && b) (one (steps_quiet v s.used o.steps) refl)))
   where
@@ -60,15 +60,17 @@ owner_claims v s o e =
     let parts = and_parts (is_right_class o.class) (steps_quiet v s.used o.steps && is_field_right v o) e in
     steps_claim v (next_inode s) o.steps (start_calm s) (and_parts (steps_quiet v s.used o.steps) (is_field_right v o) parts.1).0
 
-pub owners_say : (v : Layout) (s : Claims) (os : List Owner) → is_nil (owners_lines v s os) ≡ owners_quiet v s.used os
+pub owners_say : (v : Layout) (s : Claims) (os : List Owner) → is_nil (lines_of_owners v s os)
+    ≡ owners_quiet v s.used os
 owners_say v s [] = refl
 owners_say v s (o ∷ os) =
-    nil_append (owner_lines v s o) (owners_lines v (after_owner v s o) os) ∙ one (owner_quiet v s.used o) refl (owner_says v s o)
+    nil_append (owner_lines v s o) (lines_of_owners v (after_owner v s o) os) ∙ one (owner_quiet v s.used o) refl (owner_says v s o)
     (λ e. owners_say v (after_owner v s o) os ∙ ap (λ u. owners_quiet v u os) (owner_claims v s o e).used)
   where
     one : (b : Bool) → owner_quiet v s.used o ≡ b → is_nil (owner_lines v s o) ≡ owner_quiet v s.used o →
-        (owner_quiet v s.used o ≡ true → is_nil (owners_lines v (after_owner v s o) os) ≡ owners_quiet v (mark s.used (fragments_of o.steps)) os) →
-        (is_nil (owner_lines v s o) && is_nil (owners_lines v (after_owner v s o) os)) ≡ owners_quiet v s.used (o ∷ os)
+        (owner_quiet v s.used o ≡ true → is_nil (lines_of_owners v (after_owner v s o) os) ≡ owners_quiet v (mark s.used (fragments_of o.steps)) os) →
+        (is_nil (owner_lines v s o) && is_nil (lines_of_owners v (after_owner v s o) os))
+            ≡ owners_quiet v s.used (o ∷ os)
     one true e says rest = rw (says, e) (rest e)
     one false e says rest = rw (says, e) refl
 
@@ -91,30 +93,30 @@ owners_claim v s (o ∷ os) e =
 
 -- the parts of quietness
 steps_parts : (v : Layout) (used : List Bool) (steps : List Step) → steps_quiet v used steps ≡ true →
-    (list_all (run_in_range v) steps ≡ true) × (list_all is_no_tail steps ≡ true) × (fresh used (fragments_of steps) ≡ true)
+    (list_all (is_step_in_range v) steps ≡ true) × (list_all is_no_tail steps ≡ true) × (fresh used (fragments_of steps) ≡ true)
 steps_parts v used [] e = (refl, refl, refl)
 steps_parts v used (x ∷ xs) e =
     let a = and_parts (step_quiet v used x) (steps_quiet v (mark used (step_fragments x)) xs) e in
     let b = and_parts (fits v x) (fresh used (step_fragments x)) a.0 in
-    let c = and_parts (run_in_range v x) (is_no_tail x) b.0 in
+    let c = and_parts (is_step_in_range v x) (is_no_tail x) b.0 in
     let rest = steps_parts v (mark used (step_fragments x)) xs a.1 in (
-      and_from (run_in_range v x) _ c.0 rest.0,
+      and_from (is_step_in_range v x) _ c.0 rest.0,
       and_from (is_no_tail x) _ c.1 rest.1,
       fresh_append used (step_fragments x) (fragments_of xs) ∙ and_from _ _ b.1 rest.2,
     )
 
-steps_from : (v : Layout) (used : List Bool) (steps : List Step) → list_all (run_in_range v) steps ≡ true → list_all is_no_tail steps ≡ true →
+steps_from : (v : Layout) (used : List Bool) (steps : List Step) → list_all (is_step_in_range v) steps ≡ true → list_all is_no_tail steps ≡ true →
     fresh used (fragments_of steps) ≡ true → steps_quiet v used steps ≡ true
 steps_from v used [] r t f = refl
 steps_from v used (x ∷ xs) r t f =
-    let a = and_parts (run_in_range v x) (list_all (run_in_range v) xs) r in
+    let a = and_parts (is_step_in_range v x) (list_all (is_step_in_range v) xs) r in
     let b = and_parts (is_no_tail x) (list_all is_no_tail xs) t in
     let c = and_parts (fresh used (step_fragments x)) (fresh (mark used (step_fragments x)) (fragments_of xs)) (sym (fresh_append used (step_fragments x) (fragments_of xs)) ∙ f) in
     and_from _ _ (and_from _ _ (and_from _ _ a.0 b.0) c.0) (steps_from v (mark used (step_fragments x)) xs a.1 b.1 c.1)
 
 pub record Quiet (v : Layout) (used : List Bool) (os : List Owner) : Type 0 where
   pub classes : list_all (λ o. is_right_class o.class) os ≡ true
-  pub in_range : list_all (run_in_range v) (all_steps os) ≡ true
+  pub in_range : list_all (is_step_in_range v) (all_steps os) ≡ true
   pub no_tail : list_all is_no_tail (all_steps os) ≡ true
   pub new : fresh used (fragments_of (all_steps os)) ≡ true
   pub counted : list_all (is_field_right v) os ≡ true
@@ -129,7 +131,7 @@ owners_parts v used (o ∷ os) e =
     let rest = owners_parts v (mark used (fragments_of o.steps)) os a.1 in
     record {
       classes = and_from (is_right_class o.class) _ b.0 rest.classes;
-      in_range = list_all-append (run_in_range v) o.steps (all_steps os) ∙ and_from _ _ d.0 rest.in_range;
+      in_range = list_all-append (is_step_in_range v) o.steps (all_steps os) ∙ and_from _ _ d.0 rest.in_range;
       no_tail = list_all-append is_no_tail o.steps (all_steps os) ∙ and_from _ _ d.1 rest.no_tail;
       new = ap (fresh used) (fragments_append o.steps (all_steps os)) ∙ (fresh_append used (fragments_of o.steps) (fragments_of (all_steps os)) ∙ and_from _ _ d.2 rest.new);
       counted = and_from (is_field_right v o) _ c.1 rest.counted;
@@ -139,7 +141,7 @@ pub owners_from : (v : Layout) (used : List Bool) (os : List Owner) → Quiet v 
 owners_from v used [] q = refl
 owners_from v used (o ∷ os) q =
     let a = and_parts (is_right_class o.class) (list_all (λ p. is_right_class p.class) os) q.classes in
-    let b = and_parts (list_all (run_in_range v) o.steps) (list_all (run_in_range v) (all_steps os)) (sym (list_all-append (run_in_range v) o.steps (all_steps os)) ∙ q.in_range) in
+    let b = and_parts (list_all (is_step_in_range v) o.steps) (list_all (is_step_in_range v) (all_steps os)) (sym (list_all-append (is_step_in_range v) o.steps (all_steps os)) ∙ q.in_range) in
     let c = and_parts (list_all is_no_tail o.steps) (list_all is_no_tail (all_steps os)) (sym (list_all-append is_no_tail o.steps (all_steps os)) ∙ q.no_tail) in
     let d = and_parts (fresh used (fragments_of o.steps)) (fresh (mark used (fragments_of o.steps)) (fragments_of (all_steps os)))
     (sym (fresh_append used (fragments_of o.steps) (fragments_of (all_steps os))) ∙ (ap (fresh used) (sym (fragments_append o.steps (all_steps os))) ∙ q.new)) in

@@ -9,7 +9,7 @@ use Rattle.ffs_volume.specs.declared.Class.TheVariants.{Free, Partial, Unknown, 
 use Rattle.ffs_volume.specs.declared.BlockMessage.{BlockMessage}
 use Rattle.ffs_volume.specs.declared.End.TheVariants.{Consistent}
 use Rattle.ffs_volume.specs.Disk.Superblock.{Superblock}
-use Rattle.ffs_volume.specs.Disk.Geometry.{IsGeometry}
+use Rattle.ffs_volume.specs.Disk.Geometry.{IsValidLayout}
 use Rattle.ffs_volume.proofs.AcceptedLaws.{accepted_sound}
 use Rattle.ffs_volume.specs.Blocks.Owners.{Owner, owners_of}
 use Rattle.ffs_volume.specs.Blocks.BlockCheck.{phase1_lines, phase1b_lines, has_rescan}
@@ -22,13 +22,13 @@ use Rattle.ffs_volume.specs.Messages.Kinds.{Message, NameMessage, optimization, 
 use Rattle.ffs_volume.specs.Report.Opening.{before_nul, is_optimization, is_minfree, message_unless, setting_lines, super_lines}
 use Rattle.ffs_volume.specs.Blocks.Inodes.{is_directory}
 use Rattle.ffs_volume.specs.Directories.Roles.{Volume}
-use Rattle.ffs_volume.specs.Directories.PathnameCheck.{root_reported, root_lines, pathname_lines, goes_on}
+use Rattle.ffs_volume.specs.Directories.PathnameCheck.{root_reported, root_lines, pathname_lines, continues_after_root}
 use Rattle.ffs_volume.specs.Directories.Connectivity.{connectivity_lines}
 use Rattle.ffs_volume.specs.Directories.ReferenceCheck.{reference_lines}
 use Rattle.ffs_certificate.specs.DirsCertificate.{IsSilent, AreDirectoriesRight}
 use Rattle.ffs_volume.specs.Directories.Volumes.{class_at, volume_of, whole_volume}
 use Rattle.ffs_volume.specs.Consistent.Volume.{AreSettingsRight, IsConsistent}
-use Rattle.ffs_volume.specs.Report.Whole.{rescan_lines, later_lines, text_lines, report_lines, end_by, end_of}
+use Rattle.ffs_volume.specs.Report.Whole.{rescan_lines, later_phase_lines, phase_lines, report_lines, end_by, end_of}
 use Rattle.ffs_certificate.specs.ReportRight.{IsCertified, ReportIsRight, StopIsReported}
 use Rattle.ffs_certificate.proofs.Silence.{nil-left}
 use Rattle.ffs_certificate.proofs.DirsCertificate.{silent_right}
@@ -103,7 +103,7 @@ reported_root v File h = absurd (cc)
 reported_root v Unknown h = absurd (cc)
 reported_root v Dir h = refl
 
-root_there : (v : Volume) → pathname_lines v ≡ [] → goes_on v ≡ true
+root_there : (v : Volume) → pathname_lines v ≡ [] → continues_after_root v ≡ true
 unfolding pathname_lines root_lines
 root_there v h = reported_root v (v.class 2) (nil-left (root_reported v (v.class 2)) _ h)
 
@@ -117,16 +117,16 @@ record AreLaterSilent (image : List ℕ) (super : Superblock) : Type 0 where
   references : reference_lines (volume_of super.layout image) ≡ []
   groups : phase5_lines super.layout image super.cstotal (is_free_of_kept super.layout (owners_of super.layout image)) (class_at super.layout image) ≡ []
 
-later_say : (image : List ℕ) (super : Superblock) → has_defect (later_lines image super) ≡ false → AreLaterSilent image super
-unfolding later_lines
+later_say : (image : List ℕ) (super : Superblock) → has_defect (later_phase_lines image super) ≡ false → AreLaterSilent image super
+unfolding later_phase_lines
 later_say image super h =
     let p = quiet_parts (map of_names (connectivity_lines (volume_of super.layout image))) _ h in
     let q = quiet_parts (map of_names (reference_lines (volume_of super.layout image))) _ p.1 in
     let r = quiet_parts (map of_blocks (phase5_lines super.layout image super.cstotal (is_free_of_kept super.layout (owners_of super.layout image)) (class_at super.layout image))) _ q.1 in
     record { connectivity = silent_names _ p.0; references = silent_names _ q.0; groups = silent_blocks _ r.0 }
 
-later_quiet : (image : List ℕ) (super : Superblock) → AreLaterSilent image super → has_defect (later_lines image super) ≡ false
-unfolding later_lines
+later_quiet : (image : List ℕ) (super : Superblock) → AreLaterSilent image super → has_defect (later_phase_lines image super) ≡ false
+unfolding later_phase_lines
 later_quiet image super s =
     quiet_from (map of_names (connectivity_lines (volume_of super.layout image))) _ (quiet_names _ s.connectivity)
     (quiet_from (map of_names (reference_lines (volume_of super.layout image))) _ (quiet_names _ s.references)
@@ -138,8 +138,8 @@ record IsWholeSilent (image : List ℕ) (super : Superblock) : Type 0 where
   pathnames : pathname_lines (volume_of super.layout image) ≡ []
   later : AreLaterSilent image super
 
-text_say : (image : List ℕ) (super : Superblock) → has_defect (text_lines image super) ≡ false → IsWholeSilent image super
-unfolding text_lines
+text_say : (image : List ℕ) (super : Superblock) → has_defect (phase_lines image super) ≡ false → IsWholeSilent image super
+unfolding phase_lines
 text_say image super h =
     let p = quiet_parts (map of_blocks (phase1_lines super.layout (owners_of super.layout image))) _ h in
     let q = quiet_parts (rescan_lines super.layout image) _ p.1 in
@@ -148,7 +148,7 @@ text_say image super h =
     record {
       blocks = silent_blocks _ p.0;
       pathnames = names;
-      later = later_say image super (sym (ap (λ b. has_defect (if b then later_lines image super else [])) (root_there (volume_of super.layout image) names)) ∙ r.1);
+      later = later_say image super (sym (ap (λ b. has_defect (if b then later_phase_lines image super else [])) (root_there (volume_of super.layout image) names)) ∙ r.1);
     }
 
 rescan_quiet : (v : Layout) (image : List ℕ) → phase1b_lines v (owners_of v image) ≡ [] → has_defect (rescan_lines v image) ≡ false
@@ -158,15 +158,15 @@ rescan_quiet v image e = one (has_rescan v (owners_of v image))
     one true = quiet_blocks (phase1b_lines v (owners_of v image)) e
     one false = refl
 
-text_quiet : (image : List ℕ) (super : Superblock) → phase1b_lines super.layout (owners_of super.layout image) ≡ [] → IsWholeSilent image super → has_defect (text_lines image super) ≡ false
-unfolding text_lines
+text_quiet : (image : List ℕ) (super : Superblock) → phase1b_lines super.layout (owners_of super.layout image) ≡ [] → IsWholeSilent image super → has_defect (phase_lines image super) ≡ false
+unfolding phase_lines
 text_quiet image super again s =
     quiet_from (map of_blocks (phase1_lines super.layout (owners_of super.layout image))) _ (quiet_blocks _ s.blocks)
     (quiet_from (rescan_lines super.layout image) _ (rescan_quiet super.layout image again)
     (quiet_from (map of_names (pathname_lines (volume_of super.layout image))) _ (quiet_names _ s.pathnames)
-    (ap (λ b. has_defect (if b then later_lines image super else [])) (root_there (volume_of super.layout image) s.pathnames) ∙ later_quiet image super s.later)))
+    (ap (λ b. has_defect (if b then later_phase_lines image super else [])) (root_there (volume_of super.layout image) s.pathnames) ∙ later_quiet image super s.later)))
 
-forward : (image : List ℕ) (super : Superblock) → IsGeometry super.layout → has_defect (report_lines image super) ≡ false → IsConsistent image super
+forward : (image : List ℕ) (super : Superblock) → IsValidLayout super.layout → has_defect (report_lines image super) ≡ false → IsConsistent image super
 unfolding report_lines
 forward image super g h =
     let p = quiet_parts (super_lines super) _ h in
@@ -185,7 +185,7 @@ forward image super g h =
           ((phase5_silent super.layout image super.cstotal (is_free_of_kept super.layout (owners_of super.layout image)) (class_at super.layout image)).0 s.later.groups);
     }
 
-backward : (image : List ℕ) (super : Superblock) → IsGeometry super.layout → IsConsistent image super → has_defect (report_lines image super) ≡ false
+backward : (image : List ℕ) (super : Superblock) → IsValidLayout super.layout → IsConsistent image super → has_defect (report_lines image super) ≡ false
 unfolding report_lines
 backward image super g c =
     let blocks = blocks_of_parts image super c in
@@ -207,18 +207,18 @@ end_quiet true true e = absurd (cc)
 end_quiet true false e = refl
 end_quiet false defect e = absurd (cc)
 
-goes_on_quiet : (image : List ℕ) (super : Superblock) → has_defect (report_lines image super) ≡ false → goes_on (volume_of super.layout image) ≡ true
+goes_on_quiet : (image : List ℕ) (super : Superblock) → has_defect (report_lines image super) ≡ false → continues_after_root (volume_of super.layout image) ≡ true
 unfolding report_lines
 goes_on_quiet image super h =
     root_there (volume_of super.layout image) (text_say image super (quiet_parts (super_lines super) _ h).1).pathnames
 
 end_consistent : (image : List ℕ) (super : Superblock) → has_defect (report_lines image super) ≡ false → end_of image super ≡ Consistent
 unfolding end_of
-end_consistent image super h = ap (end_by (goes_on (volume_of super.layout image))) h ∙ ap (λ b. end_by b false) (goes_on_quiet image super h)
+end_consistent image super h = ap (end_by (continues_after_root (volume_of super.layout image))) h ∙ ap (λ b. end_by b false) (goes_on_quiet image super h)
 
 consistent_end : (image : List ℕ) (super : Superblock) → end_of image super ≡ Consistent → has_defect (report_lines image super) ≡ false
 unfolding end_of
-consistent_end image super e = end_quiet (goes_on (volume_of super.layout image)) (has_defect (report_lines image super)) e
+consistent_end image super e = end_quiet (continues_after_root (volume_of super.layout image)) (has_defect (report_lines image super)) e
 
 -- a run that stops after the root has reported a defect
 pub stop_reported : StopIsReported
@@ -229,7 +229,7 @@ stop_reported image super h = record {
   end_is = ap (λ on. end_by on (has_defect (report_lines image super))) h;
 }
 
-pub report_right : (image : List ℕ) (super : Superblock) → IsGeometry super.layout → IsCertified image super
+pub report_right : (image : List ℕ) (super : Superblock) → IsValidLayout super.layout → IsCertified image super
 report_right image super g = record {
   silent = (forward image super g, backward image super g);
   end_is = ((λ e. forward image super g (consistent_end image super e)), (λ c. end_consistent image super (backward image super g c)));

@@ -10,9 +10,9 @@ use Rattle.std.proofs.lemmas.Grind.{div_ceil_times}
 use Rattle.std.proofs.lemmas.List.Folds.{list_all-append}
 use Rattle.ffs_volume.specs.declared.Step.{Step}
 use Rattle.ffs_volume.specs.declared.Step.TheVariants.{Run, Gap}
-use Rattle.ffs_volume.specs.Disk.Areas.{is_in_range}
+use Rattle.ffs_volume.specs.Disk.Areas.{is_run_in_range}
 use Rattle.ffs_volume.specs.Blocks.Inodes.{logical_blocks_of, addresses_for}
-use Rattle.ffs_volume.specs.Blocks.Steps.{Extent, word_at, block_bytes, any_word_from, used_words, tail_of, data_length, span_of, steps_at, level_of, first_block, steps_of_addresses, walks, last_of, steps_of}
+use Rattle.ffs_volume.specs.Blocks.Steps.{FileBlocks, address_at, block_bytes, any_address_from, used_addresses, tail_of, data_length, span_of, steps_at, indirection_of, first_block, steps_of_addresses, walks, last_of, steps_of}
 use Rattle.ffs_volume.proofs.StepLaws.{one_more, span_more, next_first, used_most}
 use Rattle.ffs_certificate.specs.BlocksRise.{step_blocks, blocks_in, AreRising, AllBlocksRise}
 
@@ -70,7 +70,7 @@ span_some words (suc level) some =
     omega (arith, rest, more, whole)
 
 -- the logical blocks under a word that is used
-word_below : (words nb first span j : ℕ) → 0 < span → j < used_words words nb first span → first + j * span < nb
+word_below : (words nb first span j : ℕ) → 0 < span → j < used_addresses words nb first span → first + j * span < nb
 word_below words nb first span j some lt =
     let few : j + 1 ≤ div_ceil (nb - first) span = omega (arith, lt) in
     let bound = (div_ceil_times (nb - first) span some).1 in
@@ -93,7 +93,7 @@ under_within nb span first f next (suc count) h =
     (subst (λ k. Within nb (first + (next + 1) * span) (first + k * span) (flat_map f (range_with_len (next + 1) count))) end rest)
 
 -- a level of indirection
-at_within : (t : Extent) (bytes : List ℕ) (level address first : ℕ) → first < t.blocks →
+at_within : (t : FileBlocks) (bytes : List ℕ) (level address first : ℕ) → first < t.blocks →
     Within t.blocks first (first + span_of t.geometry.nindir level) (steps_at t bytes level address first)
 unfolding steps_at
 at_within t bytes zero address first lt = one (nat_eq address 0)
@@ -110,13 +110,14 @@ at_within t bytes (suc level) address first lt = one (nat_eq address 0) (λ a b 
     span = span_of t.geometry.nindir level
 
     used : ℕ
-    used = used_words t.geometry.nindir t.blocks first (span_of t.geometry.nindir level)
+    used = used_addresses t.geometry.nindir t.blocks first (span_of t.geometry.nindir level)
 
     found : Bool
-    found = any_word_from t.geometry (block_bytes t.geometry bytes address) (used_words t.geometry.nindir t.blocks first (span_of t.geometry.nindir level))
+    found = any_address_from t.geometry (block_bytes t.geometry bytes address) (used_addresses t.geometry.nindir t.blocks first (span_of t.geometry.nindir level))
 
     f : ℕ → List Step
-    f = λ j. steps_at t bytes level (word_at t.geometry bytes address j) (first + j * span_of t.geometry.nindir level)
+    f = λ j. steps_at t bytes level (address_at t.geometry bytes address j)
+        (first + j * span_of t.geometry.nindir level)
 
     high : ℕ
     high = first + span_of t.geometry.nindir (suc level)
@@ -132,7 +133,7 @@ at_within t bytes (suc level) address first lt = one (nat_eq address 0) (λ a b 
     under child =
         let all = under_within t.blocks span first f 0 used (λ j low lt_used.
         let enough : 0 < words = omega (arith, lt_used) in
-        child (word_at t.geometry bytes address j) (first + j * span) (word_below words t.blocks first span j (span_some words level enough) (omega (arith, lt_used)))) in
+        child (address_at t.geometry bytes address j) (first + j * span) (word_below words t.blocks first span j (span_some words level enough) (omega (arith, lt_used)))) in
         let most : used * span ≤ words * span = mul-le-mul_right span (let u : used ≤ words = omega arith in u) in
         let whole = span_more words level in
         let start : first + 0 * span ≡ first = omega arith in
@@ -149,9 +150,9 @@ at_within t bytes (suc level) address first lt = one (nat_eq address 0) (λ a b 
     below false child = within_none t.blocks first high wide
 
     one : (b : Bool) → ((a b : ℕ) → b < t.blocks → Within t.blocks b (b + span) (steps_at t bytes level a b)) →
-        Within t.blocks first high (if b then Gap ∷ [] else Run address t.geometry.frag None ∷ (if is_in_range t.geometry address t.geometry.frag then tail_of found ++ flat_map f (range_with_len 0 used) else []))
+        Within t.blocks first high (if b then Gap ∷ [] else Run address t.geometry.frag None ∷ (if is_run_in_range t.geometry address t.geometry.frag then tail_of found ++ flat_map f (range_with_len 0 used) else []))
     one true child = record { rises = wide; below = refl }
-    one false child = let r = below (is_in_range t.geometry address t.geometry.frag) child in record { rises = r.rises; below = r.below }
+    one false child = let r = below (is_run_in_range t.geometry address t.geometry.frag) child in record { rises = r.rises; below = r.below }
 
 -- the fifteen addresses: where one ends, the next begins
 low_first : (words i : ℕ) → i < 13 → first_block words i ≡ i
@@ -182,29 +183,29 @@ first_below words blocks i h = one (nat_lt blocks 13) refl h
     one false e lt = middle (nat_lt (12 + words) blocks) refl (ltb-false blocks 13 e) lt
 
 -- all addresses from one on
-record Goes (t : Extent) (low : ℕ) (steps : List Step) : Type 0 where
+record Goes (t : FileBlocks) (low : ℕ) (steps : List Step) : Type 0 where
   rising : AreRising low (blocks_in steps)
   below : list_all (λ b. nat_lt b t.blocks) (blocks_in steps) ≡ true
 
-after : (t : Extent) (bytes addresses : List ℕ) (next n : ℕ) → next + suc n ≤ 15 →
+after : (t : FileBlocks) (bytes addresses : List ℕ) (next n : ℕ) → next + suc n ≤ 15 →
     AreRising (first_block t.geometry.nindir (next + 1)) (blocks_in (steps_of_addresses t bytes addresses (next + 1) n)) →
-    AreRising (first_block t.geometry.nindir next + span_of t.geometry.nindir (level_of next)) (blocks_in (steps_of_addresses t bytes addresses (next + 1) n))
+    AreRising (first_block t.geometry.nindir next + span_of t.geometry.nindir (indirection_of next)) (blocks_in (steps_of_addresses t bytes addresses (next + 1) n))
 after t bytes addresses next zero le r = tt
 after t bytes addresses next (suc n) le r =
     subst (λ a. AreRising a (blocks_in (steps_of_addresses t bytes addresses (next + 1) (suc n)))) (sym (next_first t.geometry.nindir next (omega (arith, le)))) r
 
-addresses_go : (t : Extent) (bytes addresses : List ℕ) (next count : ℕ) → next + count ≤ 15 → next + count ≤ addresses_for t.geometry.nindir t.blocks →
+addresses_go : (t : FileBlocks) (bytes addresses : List ℕ) (next count : ℕ) → next + count ≤ 15 → next + count ≤ addresses_for t.geometry.nindir t.blocks →
     Goes t (first_block t.geometry.nindir next) (steps_of_addresses t bytes addresses next count)
 addresses_go t bytes addresses next zero le used = record { rising = tt; below = refl }
 addresses_go t bytes addresses next (suc count) le used =
     let words = t.geometry.nindir in
-    let here = at_within t bytes (level_of next) (slice_index addresses next) (first_block words next) (first_below words t.blocks next (omega (arith, used))) in
+    let here = at_within t bytes (indirection_of next) (slice_index addresses next) (first_block words next) (first_below words t.blocks next (omega (arith, used))) in
     let rest = addresses_go t bytes addresses (next + 1) count (omega (arith, le)) (omega (arith, used)) in
-    let xs = steps_at t bytes (level_of next) (slice_index addresses next) (first_block words next) in
+    let xs = steps_at t bytes (indirection_of next) (slice_index addresses next) (first_block words next) in
     let ys = steps_of_addresses t bytes addresses (next + 1) count in
     record {
       rising = subst (AreRising (first_block words next)) (sym (blocks_append xs ys))
-          (rising_join (first_block words next) (first_block words next + span_of words (level_of next)) (blocks_in xs) (blocks_in ys) here.rises (after t bytes addresses next count le rest.rising));
+          (rising_join (first_block words next) (first_block words next + span_of words (indirection_of next)) (blocks_in xs) (blocks_in ys) here.rises (after t bytes addresses next count le rest.rising));
       below = ap (list_all (λ b. nat_lt b t.blocks)) (blocks_append xs ys)
           ∙ (list_all-append (λ b. nat_lt b t.blocks) (blocks_in xs) (blocks_in ys) ∙ and_from _ _ here.below rest.below);
     }
@@ -223,7 +224,7 @@ all_blocks_rise v i image = record { rising = steps.rising; below = below_more n
     nb : ℕ
     nb = if walks v i then logical_blocks_of v i else 0
 
-    t : Extent
+    t : FileBlocks
     t = record { geometry = v; blocks = nb; last = last_of v i }
 
     most : (b : Bool) → (if b then logical_blocks_of v i else 0) ≤ logical_blocks_of v i

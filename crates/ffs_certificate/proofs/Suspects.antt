@@ -13,7 +13,7 @@ use Rattle.ffs_volume.proofs.ClimbLaws.{is_value-from}
 use Rattle.ffs_volume.specs.Directories.Graph.{names, names_in, named, first_index, test_at}
 use Rattle.ffs_volume.proofs.Graphs.{IsSane, NoneDead}
 use Rattle.ffs_certificate.proofs.Links.{place_of}
-use Rattle.ffs_volume.specs.Directories.Parents.{graph_of, roled_at, first_namer, is_first_name}
+use Rattle.ffs_volume.specs.Directories.Parents.{graph_of, roled_at, first_naming_dir, is_first_name}
 use Rattle.ffs_volume.specs.Directories.PathnameCheck.{reports_suspect}
 use Rattle.ffs_volume.specs.Directories.Connectivity.{is_dead}
 use Rattle.ffs_volume.specs.Consistent.DirectoriesRight.{IsVolume, IsUnmarked}
@@ -50,8 +50,8 @@ first_name v x h =
     let q = place_of (names x) (roled_entries v w.0) p.1 in (
       w.0,
       q.0,
-      and_from (is_value (first_namer g x) w.0) (is_value (first_index (names x) (roled_entries v w.0)) q.0)
-          (is_value-from (first_namer g x) w.0 (first_below-is (λ s. names_in g s x) v.count w.0 w.1))
+      and_from (is_value (first_naming_dir g x) w.0) (is_value (first_index (names x) (roled_entries v w.0)) q.0)
+          (is_value-from (first_naming_dir g x) w.0 (first_below-is (λ s. names_in g s x) v.count w.0 w.1))
           (is_value-from (first_index (names x) (roled_entries v w.0)) q.0 q.1),
       names_at-gives v w.0 q.0 x (and_from (is_dir v w.0) (test_at (names x) q.0 (roled_entries v w.0)) p.0 q.2),
     )

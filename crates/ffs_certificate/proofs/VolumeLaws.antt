@@ -9,8 +9,8 @@ use Rattle.ffs_volume.specs.declared.Layout.{Layout}
 use Rattle.ffs_volume.specs.declared.Class.TheVariants.{Free, Unknown}
 use Rattle.ffs_volume.specs.declared.Step.{Step}
 use Rattle.ffs_volume.specs.declared.Inode.{Inode}
-use Rattle.ffs_volume.specs.Disk.Areas.{is_in_range}
-use Rattle.ffs_volume.specs.Disk.Geometry.{IsGeometry}
+use Rattle.ffs_volume.specs.Disk.Areas.{is_run_in_range}
+use Rattle.ffs_volume.specs.Disk.Geometry.{IsValidLayout}
 use Rattle.ffs_volume.specs.Blocks.Inodes.{inode_of, class_of, type_of, is_known_type, is_too_large, is_any_set, addresses_used, is_directory, is_allocated}
 use Rattle.ffs_volume.specs.Blocks.Steps.{steps_of}
 use Rattle.ffs_volume.specs.Blocks.Owners.{owner_of, owners_of}
@@ -24,7 +24,7 @@ use Rattle.ffs_certificate.proofs.SilentLaws.{all_kept, none_marked}
 use Rattle.ffs_volume.specs.Directories.Entries.{chunks_of}
 use Rattle.ffs_volume.specs.Directories.Roles.{roled_chunk, roled_entries}
 use Rattle.ffs_volume.specs.Consistent.DirectoriesRight.{IsVolume, IsUnmarked}
-use Rattle.ffs_volume.specs.Directories.Volumes.{is_inode_number, class_at, marked_at, steps_at_number, kept_at_number, reading_of, volume_with, volume_of, whole_volume}
+use Rattle.ffs_volume.specs.Directories.Volumes.{is_inode_number, class_at, marked_at, steps_of_inode, kept_steps_of_inode, chunk_source_of, volume_with, volume_of, whole_volume}
 
 -- no type that has a class is 14
 kind_known : (v : Layout) (i : Inode) → class_of v i ≢ Unknown → type_of i.mode ≢ 14
@@ -39,26 +39,26 @@ class_number : (v : Layout) (image : List ℕ) (x : ℕ) → is_inode_number v x
 class_number v image x h = ap (λ b. if b then class_of v (inode_of v image x) else Free) h
 
 -- each volume of an image is one of those that the laws on directories speak of
-volume_is : (v : Layout) (image : List ℕ) (steps : ℕ → List Step) (marked : ℕ → Bool) → IsGeometry v →
+volume_is : (v : Layout) (image : List ℕ) (steps : ℕ → List Step) (marked : ℕ → Bool) → IsValidLayout v →
     ((d : ℕ) → is_inode_number v d ≡ true → (inode_of v image d).size ≡ 0 → steps d ≡ []) → IsVolume (volume_with v image steps marked)
 unfolding volume_with roled_entries
 volume_is v image steps marked g none = record {
   some = some_inodes v g;
   empty = λ d h z.
       let number = (and_parts (is_inode_number v d) (is_directory (class_at v image d)) h).0 in
-      ap (λ ss. flat_map roled_chunk (chunks_of (reading_of v image d) (is_in_range v) ss)) (none d number z);
+      ap (λ ss. flat_map roled_chunk (chunks_of (chunk_source_of v image d) (is_run_in_range v) ss)) (none d number z);
   kinds = λ x known h.
       let number = (and_parts (is_inode_number v x) (is_allocated (class_at v image x)) h).0 in
       kind_known v (inode_of v image x) (λ e. known (class_number v image x number ∙ e));
 }
 
-steps_none : (v : Layout) (image : List ℕ) → IsGeometry v → (d : ℕ) → is_inode_number v d ≡ true → (inode_of v image d).size ≡ 0 → steps_of v (inode_of v image d) image ≡ []
+steps_none : (v : Layout) (image : List ℕ) → IsValidLayout v → (d : ℕ) → is_inode_number v d ≡ true → (inode_of v image d).size ≡ 0 → steps_of v (inode_of v image d) image ≡ []
 steps_none v image g d number z = let low = g.sizes.bsize_low in no_steps v image (inode_of v image d) (omega arith) z
 
-pub whole_is_volume : (v : Layout) (image : List ℕ) → IsGeometry v → IsVolume (whole_volume v image)
+pub whole_is_volume : (v : Layout) (image : List ℕ) → IsValidLayout v → IsVolume (whole_volume v image)
 unfolding whole_volume
 whole_is_volume v image g =
-    volume_is v image (steps_at_number v image) (λ x. false) g
+    volume_is v image (steps_of_inode v image) (λ x. false) g
     (λ d number z. ap (λ b. if b then steps_of v (inode_of v image d) image else []) number ∙ steps_none v image g d number z)
 
 -- where the blocks are right, each inode is free, a file or a directory
@@ -90,7 +90,7 @@ whole_unmarked v image r = record {
 }
 
 -- where the blocks are right, the volume of the kept steps is that of all steps
-same_steps : (v : Layout) (image : List ℕ) → BlocksRight v (owners_of v image) → kept_at_number v image ≡ steps_at_number v image
+same_steps : (v : Layout) (image : List ℕ) → BlocksRight v (owners_of v image) → kept_steps_of_inode v image ≡ steps_of_inode v image
 same_steps v image r = fun_ext (λ x. one x (is_inode_number v x) refl)
   where
     one : (x : ℕ) (b : Bool) → is_inode_number v x ≡ b → (if b then kept_steps_of v image x else []) ≡ (if b then steps_of v (inode_of v image x) image else [])
@@ -108,4 +108,4 @@ pub same_whole : (v : Layout) (image : List ℕ) → BlocksRight v (owners_of v 
 unfolding volume_of whole_volume
 same_whole v image r =
     ap (λ steps. volume_with v image steps (marked_at v image)) (same_steps v image r)
-    ∙ ap (volume_with v image (steps_at_number v image)) (same_marks v image r)
+    ∙ ap (volume_with v image (steps_of_inode v image)) (same_marks v image r)

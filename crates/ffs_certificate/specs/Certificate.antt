@@ -1,14 +1,14 @@
 -- What the laws on blocks and groups say, for an image.
 use Rattle.std.specs.Prelude.{◌≡◌, ◌↔◌, ℕ, ℤ, true, ◌||◌, List, [], ◌++◌}
 use Rattle.ffs_volume.specs.declared.Layout.{Layout}
-use Rattle.ffs_volume.specs.Disk.Areas.{is_data_fragment, is_reserved}
+use Rattle.ffs_volume.specs.Disk.Areas.{is_fragment_in_range, is_reserved}
 use Rattle.ffs_volume.specs.Blocks.Owners.{Owner, owners_of}
 use Rattle.ffs_volume.specs.Blocks.Claims.{is_set, no_claims, after_owners}
 use Rattle.ffs_volume.specs.Blocks.BlockCheck.{phase1_lines, phase1b_lines, kept_in_owners}
 use Rattle.ffs_volume.specs.Consistent.BlocksRight.{BlocksRight}
 use Rattle.ffs_volume.specs.Groups.Records.{GroupsRight}
 use Rattle.ffs_volume.specs.Groups.GroupCheck.{phase5_lines, is_free_of_kept, is_free_of_runs}
-use Rattle.ffs_volume.specs.Blocks.Keeping.{all_offers, is_taken, verdicts, kept_by_rule}
+use Rattle.ffs_volume.specs.Blocks.Keeping.{all_offers, is_claimed_before, verdicts, kept_by_rule}
 use Rattle.ffs_volume.specs.Directories.Volumes.{class_at}
 
 -- no line of phases 1, 1b and 5 exactly where blocks and groups are right
@@ -22,9 +22,9 @@ BlocksAndGroups = (v : Layout) (image : List ℕ) (totals : List ℤ) →
 -- the fold keeps what the rule keeps: the offers in order, and so the fragments
 pub record KeepsByRule (v : Layout) (os : List Owner) : Type 0 where
   pub offers : kept_in_owners v (no_claims v) os ≡ kept_by_rule v [] (all_offers v os)
-  pub used : (f : ℕ) → is_data_fragment v f ≡ true →
+  pub used : (f : ℕ) → is_fragment_in_range v f ≡ true →
       is_set (after_owners v (no_claims v) os).used f
-      ≡ (is_reserved v f || is_taken (verdicts v [] (all_offers v os)) f)
+      ≡ (is_reserved v f || is_claimed_before (verdicts v [] (all_offers v os)) f)
 
 -- the fold's keeping is the rule's
 abbrev pub KeepingByRule : Type 0

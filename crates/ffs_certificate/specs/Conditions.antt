@@ -18,10 +18,11 @@ use Rattle.ffs_volume.specs.Directories.Roles.{roled_entries, dot, dotdot, refer
 use Rattle.ffs_volume.specs.Directories.Graph.{parent}
 use Rattle.ffs_volume.specs.Directories.Parents.{graph_of, roled_at}
 use Rattle.ffs_volume.specs.Report.Opening.{setting_lines}
-use Rattle.ffs_volume.specs.Directories.PathnameCheck.{goes_on, is_short, is_not_multiple, are_sound, is_other}
-use Rattle.ffs_volume.specs.Directories.PathnameCheck.{is_bad_whiteout, is_extraneous, is_other_kind}
-use Rattle.ffs_volume.specs.Directories.Connectivity.{has_unref_line}
-use Rattle.ffs_volume.specs.Disk.Numbers.{is_the_count}
+use Rattle.ffs_volume.specs.Directories.PathnameCheck.{continues_after_root, is_short, is_not_multiple, are_sound}
+use Rattle.ffs_volume.specs.Directories.PathnameCheck.{is_wrong_parent}
+use Rattle.ffs_volume.specs.Directories.PathnameCheck.{is_bad_whiteout, is_extraneous, has_wrong_type}
+use Rattle.ffs_volume.specs.Directories.Connectivity.{is_unref_dir_of}
+use Rattle.ffs_volume.specs.Disk.Numbers.{equals_natural}
 use Rattle.ffs_volume.specs.Consistent.DirectoriesRight.{AreDirsRight, AreLinksRight, AreCountsRight}
 use Rattle.ffs_volume.specs.Directories.Volumes.{class_at, volume_of, whole_volume}
 use Rattle.ffs_volume.specs.Consistent.Volume.{AreSettingsRight}
@@ -37,7 +38,7 @@ is_class_message _ = false
 -- A plain entry isn't reported as UNALLOCATED or BAD TYPE VALUE
 pub record IsNameUnreported (v : Volume) (e : Entry) : Type 0 where
   pub allocated : is_allocated (v.class e.number) ≡ true
-  pub kind : is_other_kind v e ≡ false
+  pub kind : has_wrong_type v e ≡ false
 
 -- nor as I OUT OF RANGE or BAD WHITEOUT ENTRY
 pub record IsPlainUnreported (v : Volume) (e : Entry) : Type 0 where
@@ -61,21 +62,21 @@ pub record IsDirUnreported (v : Volume) (d : ℕ) : Type 0 where
 
 -- the root is no ROOT INODE UNALLOCATED or NOT DIRECTORY
 pub record AreDirsUnreported (v : Volume) : Type 0 where
-  pub root : goes_on v ≡ true
+  pub root : continues_after_root v ≡ true
   pub each : (d : ℕ) → is_dir v d ≡ true → IsDirUnreported v d
 
 -- Of condition 5: no BAD INODE NUMBER FOR '..', no EXTRANEOUS HARD LINK and no UNREF DIR
 pub record AreLinksUnreported (v : Volume) : Type 0 where
   pub dotdots : (d : ℕ) → is_dir v d ≡ true
-      → IsSomeAnd (dotdot v d) (λ e. is_other (parent (graph_of v) d) e.number ≡ false)
+      → IsSomeAnd (dotdot v d) (λ e. is_wrong_parent (parent (graph_of v) d) e.number ≡ false)
   pub links : (s j : ℕ) (e : RoledEntry) → is_dir v s ≡ true → roled_at (roled_entries v s) j ≡ Some e → e.role ≡ Plain
       → is_extraneous v s j e.entry.number ≡ false
-  pub lost : (d : ℕ) → has_unref_line v d ≡ false
+  pub lost : (d : ℕ) → is_unref_dir_of v d ≡ false
 
 -- of condition 6: no UNREF and no LINK COUNT
 pub record IsCountUnreported (v : Volume) (i : ℕ) : Type 0 where
   pub some : references v i ≢ 0
-  pub same : is_the_count (v.inode i).nlink (references v i) ≡ true
+  pub same : equals_natural (v.inode i).nlink (references v i) ≡ true
 
 abbrev pub AreCountsUnreported : Volume → Type 0
 AreCountsUnreported v = (i : ℕ) → is_allocated_inode v i ≡ true → IsCountUnreported v i

@@ -13,7 +13,7 @@ use Rattle.ffs_volume.specs.Directories.PathnameCheck.{pathname_lines}
 use Rattle.ffs_volume.specs.Directories.Connectivity.{connectivity_lines}
 use Rattle.ffs_volume.specs.Directories.ReferenceCheck.{reference_lines}
 use Rattle.ffs_volume.specs.Directories.Volumes.{volume_of}
-use Rattle.ffs_volume.specs.Report.Whole.{text_lines, report_lines, report_of, report_end}
+use Rattle.ffs_volume.specs.Report.Whole.{phase_lines, report_lines, report_of, report_end}
 use Rattle.ffs_volume.specs.Consistent.Volume.{IsConsistent}
 use Rattle.ffs_volume.specs.Examples.Images.{bytes_in, word, zeros, mount_bytes, base_layout}
 use Rattle.ffs_volume.specs.Examples.Images.{base_superblock, base_image, root_chunk}
@@ -92,7 +92,7 @@ pub record ReportExamples : Type 0 where
       ∷ of_names (dup_bad (about_file 4) FileLabel (47 ∷ 98 ∷ []))
       ∷ phase3 ∷ phase4 ∷ phase5 ∷ summary 3 2 (pos 93) (pos 5) (pos 22) (pos 52) ∷ []
   -- no root: the run stops
-  pub stopped : text_lines (zeros 40960) (base_superblock Little) ≡ phase1 ∷ phase2 ∷ of_names root_none ∷ []
+  pub stopped : phase_lines (zeros 40960) (base_superblock Little) ≡ phase1 ∷ phase2 ∷ of_names root_none ∷ []
   -- a directory below the root, and the same without its name
   pub named_pathnames : pathname_lines (volume_of (base_layout Little) named_dir) ≡ []
   pub named_connected : connectivity_lines (volume_of (base_layout Little) named_dir) ≡ []

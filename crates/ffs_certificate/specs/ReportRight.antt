@@ -5,8 +5,8 @@ use Rattle.ffs_volume.specs.Disk.Superblock.{Superblock}
 use Rattle.ffs_volume.specs.Disk.Outcome.{outcome}
 use Rattle.ffs_volume.specs.Consistent.Volume.{IsConsistent}
 use Rattle.ffs_volume.specs.Messages.Kinds.{has_defect}
-use Rattle.ffs_volume.specs.Report.Whole.{text_lines, report_lines, end_of}
-use Rattle.ffs_volume.specs.Directories.PathnameCheck.{goes_on}
+use Rattle.ffs_volume.specs.Report.Whole.{phase_lines, report_lines, end_of}
+use Rattle.ffs_volume.specs.Directories.PathnameCheck.{continues_after_root}
 use Rattle.ffs_volume.specs.Directories.Volumes.{volume_of}
 
 -- no defect is reported, or the run ends as Consistent, exactly where the volume is consistent
@@ -21,9 +21,10 @@ ReportIsRight = (image : List ℕ) (sector : Option ℕ) (s : Superblock) → ou
 
 -- a run that stops after the root has reported a defect, and ends as such
 pub record IsReportedStop (image : List ℕ) (s : Superblock) : Type 0 where
-  pub reported : has_defect (text_lines image s) ≡ true
+  pub reported : has_defect (phase_lines image s) ≡ true
   pub end_is : end_of image s ≡ RootStop
 
 -- where inode 2 is no directory
 abbrev pub StopIsReported : Type 0
-StopIsReported = (image : List ℕ) (s : Superblock) → goes_on (volume_of s.layout image) ≡ false → IsReportedStop image s
+StopIsReported = (image : List ℕ) (s : Superblock) → continues_after_root (volume_of s.layout image) ≡ false
+    → IsReportedStop image s

@@ -8,8 +8,8 @@ use Rattle.ffs_volume.specs.Disk.Superblock.{Superblock}
 use Rattle.ffs_volume.specs.Disk.Outcome.{outcome}
 use Rattle.ffs_volume.specs.Messages.Kinds.{Message, cannot_read, cannot_alloc}
 use Rattle.ffs_volume.specs.Report.Opening.{opening_lines}
-use Rattle.ffs_volume.specs.Directories.PathnameCheck.{goes_on}
-use Rattle.ffs_volume.specs.Report.Whole.{text_lines, end_by, report_of, report_end}
+use Rattle.ffs_volume.specs.Directories.PathnameCheck.{continues_after_root}
+use Rattle.ffs_volume.specs.Report.Whole.{phase_lines, end_by, report_of, report_end}
 use Rattle.ffs_volume.specs.Directories.Volumes.{volume_of}
 use Rattle.std.specs.Borrow.{GName}
 use Rattle.ffs_volume.specs.Messages.Texts.{texts_of}
@@ -32,8 +32,8 @@ module _ (image : Device) (name : List ℕ) (sector : Option ℕ) (output : GNam
   -- the memory was refused
   unstarted : (end : End) → image' ≡ image → RefusalReported p new end → Headline image image' name sector sink new.sink end
   unstarted end still (inl reported) = record {
-    text = opened_lines name sector s ++ at_reported image.contents (λ bytes. text_lines bytes s);
-    is_report = λ bytes t. whole_there bytes name sector s _ (accepted bytes t) (at_reported_is image.contents (λ bytes. text_lines bytes s) bytes t);
+    text = opened_lines name sector s ++ at_reported image.contents (λ bytes. phase_lines bytes s);
+    is_report = λ bytes t. whole_there bytes name sector s _ (accepted bytes t) (at_reported_is image.contents (λ bytes. phase_lines bytes s) bytes t);
     ends = inr (inr (inr (inl (record {
       said = opened_lines name sector s;
       line = cannot_alloc;
@@ -43,8 +43,8 @@ module _ (image : Device) (name : List ℕ) (sector : Option ℕ) (output : GNam
     }))));
   }
   unstarted end still (inr unreported) = record {
-    text = opened_lines name sector s ++ at_reported image.contents (λ bytes. text_lines bytes s);
-    is_report = λ bytes t. whole_there bytes name sector s _ (accepted bytes t) (at_reported_is image.contents (λ bytes. text_lines bytes s) bytes t);
+    text = opened_lines name sector s ++ at_reported image.contents (λ bytes. phase_lines bytes s);
+    is_report = λ bytes t. whole_there bytes name sector s _ (accepted bytes t) (at_reported_is image.contents (λ bytes. phase_lines bytes s) bytes t);
     ends = inr (inr (inr (inr (inr (record {
       said = opened_lines name sector s;
       line = cannot_alloc;
@@ -56,11 +56,11 @@ module _ (image : Device) (name : List ℕ) (sector : Option ℕ) (output : GNam
     })))));
   }
 
-  module _ (end : End) (text : List Message) (right : ForContents image.contents (λ bytes. text ≡ text_lines bytes s)) where
+  module _ (end : End) (text : List Message) (right : ForContents image.contents (λ bytes. text ≡ phase_lines bytes s)) where
     report : ForContents image.contents (λ bytes. opened_lines name sector s ++ text ≡ report_of bytes name sector)
     report bytes t = whole_there bytes name sector s text (accepted bytes t) (right bytes t)
 
-    whole : SaidWhole false (IsContents image.contents) (λ bytes. goes_on (volume_of s.layout bytes)) text image image' p new end → Headline image image' name sector sink new.sink end
+    whole : SaidWhole false (IsContents image.contents) (λ bytes. continues_after_root (volume_of s.layout bytes)) text image image' p new end → Headline image image' name sector sink new.sink end
     whole all =
         let said = said_then (starts output sink) p new (opened_lines name sector s) text opened all.said in
         let last : ForContents image.contents (λ bytes. end ≡ report_end bytes sector) = λ bytes t.

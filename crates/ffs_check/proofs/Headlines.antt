@@ -9,8 +9,8 @@ use Rattle.ffs_volume.specs.Disk.Superblock.{Superblock}
 use Rattle.ffs_volume.specs.Disk.Outcome.{outcome}
 use Rattle.ffs_volume.specs.Messages.Kinds.{Message, cannot_read, has_defect}
 use Rattle.ffs_volume.specs.Report.Opening.{head_lines, super_lines, fault_line, opening_lines}
-use Rattle.ffs_volume.specs.Directories.PathnameCheck.{goes_on}
-use Rattle.ffs_volume.specs.Report.Whole.{text_lines, report_lines, end_by, end_of, lines_by_outcome, end_by_outcome, report_of, report_end}
+use Rattle.ffs_volume.specs.Directories.PathnameCheck.{continues_after_root}
+use Rattle.ffs_volume.specs.Report.Whole.{phase_lines, report_lines, end_by, end_of, lines_by_outcome, end_by_outcome, report_of, report_end}
 use Rattle.ffs_volume.specs.Messages.Texts.{texts_of}
 use Rattle.ffs_volume.specs.Directories.Volumes.{volume_of}
 use Rattle.std.specs.Borrow.{GName}
@@ -39,29 +39,29 @@ end_there bytes sector found e = ap (end_by_outcome bytes) e
 
 -- what follows the opening
 more_of : List ℕ → Result Superblock SuperFault → List Message
-more_of bytes (Ok s) = text_lines bytes s
+more_of bytes (Ok s) = phase_lines bytes s
 more_of bytes (Err fault) = []
 
 opening_then : (bytes name : List ℕ) (sector : Option ℕ) (found : Result Superblock SuperFault) → opening_lines name sector found ++ more_of bytes found ≡ head_lines name sector ++ lines_by_outcome bytes found
 unfolding report_lines more_of
-opening_then bytes name sector (Ok s) = append_assoc (head_lines name sector) (super_lines s) (text_lines bytes s)
+opening_then bytes name sector (Ok s) = append_assoc (head_lines name sector) (super_lines s) (phase_lines bytes s)
 opening_then bytes name sector (Err fault) = append-nil (head_lines name sector ++ (fault_line fault ∷ []))
 
-pub whole_there : (bytes name : List ℕ) (sector : Option ℕ) (s : Superblock) (text : List Message) → Ok s ≡ outcome bytes sector → text ≡ text_lines bytes s →
+pub whole_there : (bytes name : List ℕ) (sector : Option ℕ) (s : Superblock) (text : List Message) → Ok s ≡ outcome bytes sector → text ≡ phase_lines bytes s →
     opened_lines name sector s ++ text ≡ report_of bytes name sector
 unfolding report_lines
 whole_there bytes name sector s text e t =
-    ap (λ xs. opened_lines name sector s ++ xs) t ∙ append_assoc (head_lines name sector) (super_lines s) (text_lines bytes s) ∙ report_there bytes name sector (Ok s) e
+    ap (λ xs. opened_lines name sector s ++ xs) t ∙ append_assoc (head_lines name sector) (super_lines s) (phase_lines bytes s) ∙ report_there bytes name sector (Ok s) e
 
-pub defect_there : (bytes name : List ℕ) (sector : Option ℕ) (s : Superblock) (text : List Message) → text ≡ text_lines bytes s → has_defect (opened_lines name sector s ++ text) ≡ has_defect (report_lines bytes s)
+pub defect_there : (bytes name : List ℕ) (sector : Option ℕ) (s : Superblock) (text : List Message) → text ≡ phase_lines bytes s → has_defect (opened_lines name sector s ++ text) ≡ has_defect (report_lines bytes s)
 unfolding report_lines
 defect_there bytes name sector s text t =
-    ap (λ xs. has_defect (opened_lines name sector s ++ xs)) t ∙ ap has_defect (append_assoc (head_lines name sector) (super_lines s) (text_lines bytes s))
-    ∙ no_defect_head name sector (super_lines s ++ text_lines bytes s)
+    ap (λ xs. has_defect (opened_lines name sector s ++ xs)) t ∙ ap has_defect (append_assoc (head_lines name sector) (super_lines s) (phase_lines bytes s))
+    ∙ no_defect_head name sector (super_lines s ++ phase_lines bytes s)
 
-pub end_of_there : (bytes : List ℕ) (s : Superblock) (on defect : Bool) → on ≡ goes_on (volume_of s.layout bytes) → defect ≡ has_defect (report_lines bytes s) → end_by on defect ≡ end_of bytes s
+pub end_of_there : (bytes : List ℕ) (s : Superblock) (on defect : Bool) → on ≡ continues_after_root (volume_of s.layout bytes) → defect ≡ has_defect (report_lines bytes s) → end_by on defect ≡ end_of bytes s
 unfolding end_of
-end_of_there bytes s on defect e d = ap (λ b. end_by b defect) e ∙ ap (λ b. end_by (goes_on (volume_of s.layout bytes)) b) d
+end_of_there bytes s on defect e d = ap (λ b. end_by b defect) e ∙ ap (λ b. end_by (continues_after_root (volume_of s.layout bytes)) b) d
 
 pub completed_by : (on defect : Bool) → is_completed (end_by on defect) ≡ true
 completed_by true true = refl

@@ -3,7 +3,7 @@ use Rattle.std.specs.Prelude.{OnOk}
 use Rattle.std.proofs.Common.{◌≡◌, refl, ℕ, List, ◌++◌, Result, Ok, Err}
 use Rattle.ffs_image.specs.Device.{Device}
 use Rattle.ffs_volume.specs.Disk.Superblock.{Superblock}
-use Rattle.ffs_volume.specs.Report.Whole.{text_lines, later_lines}
+use Rattle.ffs_volume.specs.Report.Whole.{phase_lines, later_phase_lines}
 use Rattle.ffs_phase.specs.Known.{ForBytes}
 use Rattle.ffs_phase.specs.Runs.{ImageAfter}
 use Rattle.ffs_phase.specs.declared.fault.RunFault.{RunFault}
@@ -24,6 +24,6 @@ reads_fault T E old new (Read fault) h = h
 reads_fault T E old new (Out fault) h = h
 
 -- the whole text: phase 1, and what follows it
-pub text_parts : (bytes : List ℕ) (s : Superblock) → text_lines bytes s ≡ first_part bytes s ++ scanned_lines bytes s
-unfolding text_lines later_lines
+pub text_parts : (bytes : List ℕ) (s : Superblock) → phase_lines bytes s ≡ first_part bytes s ++ scanned_lines bytes s
+unfolding phase_lines later_phase_lines
 text_parts bytes s = refl

@@ -5,7 +5,8 @@ use Rattle.ffs_volume.specs.declared.Class.TheVariants.{Free, Partial, Unknown, 
 use Rattle.ffs_volume.specs.Blocks.Inodes.{is_directory}
 use Rattle.ffs_volume.specs.Messages.Kinds.{Message, NameMessage, lines_below, of_names, root_none, root_not_dir}
 use Rattle.ffs_volume.specs.Directories.Roles.{Volume}
-use Rattle.ffs_volume.specs.Directories.PathnameCheck.{goes_on, lines_of, pathname_lines, root_lines, root_reported}
+use Rattle.ffs_volume.specs.Directories.PathnameCheck.{continues_after_root, lines_of, pathname_lines, root_lines}
+use Rattle.ffs_volume.specs.Directories.PathnameCheck.{root_reported}
 use Rattle.ffs_report.specs.Progress.{Progress, Said}
 use Rattle.ffs_phase.specs.Known.{ForBytes}
 use Rattle.ffs_phase.specs.Runs.{PhaseReports}
@@ -25,7 +26,7 @@ some_root v File lines rest h = some_more (of_names root_not_dir) _
 some_root v Unknown lines rest h = some_more (of_names root_not_dir) _
 some_root v Dir lines rest h = more_after _ (rest true) h
 
-pub root_or_more : (v : Volume) (rest : Bool → List Message) → 0 < length (rest true) → 0 < length (map of_names (pathname_lines v) ++ rest (goes_on v))
+pub root_or_more : (v : Volume) (rest : Bool → List Message) → 0 < length (rest true) → 0 < length (map of_names (pathname_lines v) ++ rest (continues_after_root v))
 unfolding pathname_lines root_lines
 root_or_more v rest h = some_root v (v.class 2) (λ on. if on then lines_below (lines_of v) v.count else []) rest h
 

@@ -5,8 +5,8 @@ use Rattle.ffs_volume.specs.declared.End.{End}
 use Rattle.ffs_volume.specs.declared.End.TheVariants.{WriteFault, NoMemory}
 use Rattle.ffs_volume.specs.Disk.Superblock.{Superblock}
 use Rattle.ffs_volume.specs.Messages.Kinds.{cannot_alloc}
-use Rattle.ffs_volume.specs.Directories.PathnameCheck.{goes_on}
-use Rattle.ffs_volume.specs.Report.Whole.{text_lines}
+use Rattle.ffs_volume.specs.Directories.PathnameCheck.{continues_after_root}
+use Rattle.ffs_volume.specs.Report.Whole.{phase_lines}
 use Rattle.ffs_volume.specs.Directories.Volumes.{volume_of}
 use Rattle.ffs_report.specs.Progress.{Progress, Said, Stopped}
 use Rattle.ffs_phase.specs.Known.{IsContents}
@@ -21,4 +21,4 @@ RefusalReported old new end =
 abbrev pub Followed : Superblock → Device → Device → Progress → Progress → End → Type 0
 Followed s image image' old new end =
     ((image' ≡ image) × RefusalReported old new end)
-    ⊎ Ran false (IsContents image.contents) (λ bytes. text_lines bytes s) (λ bytes. goes_on (volume_of s.layout bytes)) image image' old new end
+    ⊎ Ran false (IsContents image.contents) (λ bytes. phase_lines bytes s) (λ bytes. continues_after_root (volume_of s.layout bytes)) image image' old new end

@@ -9,7 +9,7 @@ use Rattle.ffs_volume.specs.Messages.Kinds.{Message, phase1, phase2, phase3, pha
 use Rattle.ffs_volume.specs.Blocks.BlockCheck.{has_rescan, phase1_lines}
 use Rattle.ffs_volume.specs.Blocks.Owners.{owners_of}
 use Rattle.ffs_volume.specs.Directories.Volumes.{volume_of}
-use Rattle.ffs_volume.specs.Directories.PathnameCheck.{pathname_lines, goes_on}
+use Rattle.ffs_volume.specs.Directories.PathnameCheck.{pathname_lines, continues_after_root}
 use Rattle.ffs_volume.specs.Directories.Connectivity.{connectivity_lines}
 use Rattle.ffs_volume.specs.Directories.ReferenceCheck.{reference_lines}
 use Rattle.ffs_volume.specs.Report.Whole.{rescan_lines, group_check_lines, summary_of, file_count, used_count}
@@ -56,7 +56,7 @@ followed_lines goes image s = if goes then linked_lines image s else []
 
 -- phase 2 and what follows it
 abbrev pub named_lines : List ℕ → Superblock → List Message
-named_lines image s = names_part image s ++ followed_lines (goes_on (volume_of s.layout image)) image s
+named_lines image s = names_part image s ++ followed_lines (continues_after_root (volume_of s.layout image)) image s
 
 -- the second look at the blocks and what follows it
 abbrev pub scanned_lines : List ℕ → Superblock → List Message

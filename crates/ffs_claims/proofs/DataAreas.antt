@@ -3,14 +3,14 @@ use Rattle.std.proofs.Common.{◌≡◌, ℕ, ◌+◌, ◌/◌, ◌<◌, ◌≤�
 use Rattle.std.proofs.Math.Nat.{mul-div-le}
 use Rattle.std.proofs.lemmas.Bool.Decides.{nat_tests}
 use Rattle.ffs_volume.specs.declared.Layout.{Layout}
-use Rattle.ffs_volume.specs.Disk.Areas.{cgbase, cgstart, cgsblock, cgdmin, is_in_range}
-use Rattle.ffs_volume.specs.Disk.Geometry.{IsGeometry}
+use Rattle.ffs_volume.specs.Disk.Areas.{cgbase, cgstart, cgsblock, cgdmin, is_run_in_range}
+use Rattle.ffs_volume.specs.Disk.Geometry.{IsValidLayout}
 use Rattle.ffs_volume.proofs.AreaLaws.{group_is}
 use Rattle.ffs_volume.proofs.RunLaws.{in_range_is, is_apart}
 
 -- a Run before the metadata of a group
-pub before_metadata : (v : Layout) (c start len : ℕ) → IsGeometry v → c < v.ncg → cgbase v c ≤ start → start + len ≤ cgsblock v c → 0 < len →
-    is_in_range v start len ≡ true
+pub before_metadata : (v : Layout) (c start len : ℕ) → IsValidLayout v → c < v.ncg → cgbase v c ≤ start → start + len ≤ cgsblock v c → 0 < len →
+    is_run_in_range v start len ≡ true
 before_metadata v c start len g h low high some =
     let group = g.groups c h in
     let end : cgsblock v c ≤ cgdmin v c = omega (arith, g.parts.super_fits, g.parts.block_fits, g.parts.inodes_fit) in
@@ -21,8 +21,8 @@ before_metadata v c start len g h low high some =
     in_range_is v g start len some ∙ apart
 
 -- a Run after the metadata of a group
-pub after_metadata : (v : Layout) (c start len : ℕ) → IsGeometry v → c < v.ncg → cgdmin v c ≤ start → start + len ≤ cgbase v (c + 1) → start + len ≤ v.size → 0 < len →
-    is_in_range v start len ≡ true
+pub after_metadata : (v : Layout) (c start len : ℕ) → IsValidLayout v → c < v.ncg → cgdmin v c ≤ start → start + len ≤ cgbase v (c + 1) → start + len ≤ v.size → 0 < len →
+    is_run_in_range v start len ≡ true
 unfolding cgstart
 after_metadata v c start len g h low high inside some =
     let base : cgbase v c ≤ start = omega arith in
@@ -46,7 +46,8 @@ base_below : (v : Layout) (start : ℕ) → cgbase v (start / v.fpg) ≤ start
 unfolding cgbase
 base_below v start = mul-div-le start v.fpg
 
-pub lies : (v : Layout) (start len : ℕ) → IsGeometry v → 0 < len → is_in_range v start len ≡ true → Lies v start len
+pub lies : (v : Layout) (start len : ℕ) → IsValidLayout v → 0 < len → is_run_in_range v start len ≡ true
+    → Lies v start len
 lies v start len g some fits =
     let apart : is_apart v start len ≡ true = sym (in_range_is v g start len some) ∙ fits in
     let within : start + len ≤ cgbase v (start / v.fpg + 1) = grind (arith, nat_tests) in

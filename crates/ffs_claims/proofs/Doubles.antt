@@ -13,12 +13,12 @@ use Rattle.ffs_volume.specs.declared.Step.{Step}
 use Rattle.ffs_volume.specs.declared.Step.TheVariants.{Run, Tail, Gap}
 use Rattle.ffs_volume.specs.declared.BlockMessage.{BlockMessage}
 use Rattle.ffs_volume.specs.declared.BlockMessage.TheVariants.{Bad, Dup, ManyBad, ManyDup, PartTrunc}
-use Rattle.ffs_volume.specs.Disk.Areas.{is_data_fragment, is_in_range}
+use Rattle.ffs_volume.specs.Disk.Areas.{is_fragment_in_range, is_run_in_range}
 use Rattle.ffs_volume.specs.Blocks.Inodes.{is_file_or_dir}
 use Rattle.ffs_volume.specs.Blocks.Owners.{Owner, owners_of}
-use Rattle.ffs_volume.specs.Blocks.Claims.{Claims, no_claims, next_inode, is_open, is_set, after_offer, after_offers, after_run, after_step, after_steps, after_owner, after_owners, offer_lines, offers_lines, run_lines, step_lines, steps_lines}
+use Rattle.ffs_volume.specs.Blocks.Claims.{Claims, no_claims, next_inode, is_open, is_set, after_offer, after_offers, after_run, after_step, after_steps, after_owner, after_owners, offer_lines, lines_of_offers, run_lines, step_lines, lines_of_steps}
 use Rattle.ffs_volume.proofs.Weights.{cond_holds, ok_below, count_set}
-use Rattle.ffs_volume.specs.Blocks.BlockCheck.{Offer, class_lines, count_lines, owner_lines, owners_lines, kept_in_owners, phase1_lines, phase1b_lines, is_dup_line, has_rescan, blames, first_offer_lines}
+use Rattle.ffs_volume.specs.Blocks.BlockCheck.{Offer, class_lines, count_lines, owner_lines, lines_of_owners, kept_in_owners, phase1_lines, phase1b_lines, is_dup_line, has_rescan, blames, first_offer_lines}
 use Rattle.ffs_volume.specs.Directories.Volumes.{is_inode_number}
 use Rattle.ffs_workspace.specs.Holds.{first_marked_at, all_claims, HoldsPhase1, HoldsClaims}
 use Rattle.ffs_workspace.specs.declared.workspace.Workspace.{Workspace}
@@ -58,12 +58,12 @@ doubles_then s t u xs ys p q = (
 )
 
 offer_doubles : (v : Layout) (i : ℕ) (s : Claims) (f : ℕ) → length s.dup ≡ v.size → Doubles s (offer_lines v i s f) (after_offer v s f)
-offer_doubles v i s f h = one (nat_lt s.dups 11) refl (is_data_fragment v f) refl (is_set s.used f) refl
+offer_doubles v i s f h = one (nat_lt s.dups 11) refl (is_fragment_in_range v f) refl (is_set s.used f) refl
   where
     from : (lines : List BlockMessage) (t : Claims) → offer_lines v i s f ≡ lines → after_offer v s f ≡ t → Doubles s lines t → Doubles s (offer_lines v i s f) (after_offer v s f)
     from lines t e now d = rw (e, now) d
 
-    one : (a : Bool) → nat_lt s.dups 11 ≡ a → (k : Bool) → is_data_fragment v f ≡ k → (u : Bool) → is_set s.used f ≡ u → Doubles s (offer_lines v i s f) (after_offer v s f)
+    one : (a : Bool) → nat_lt s.dups 11 ≡ a → (k : Bool) → is_fragment_in_range v f ≡ k → (u : Bool) → is_set s.used f ≡ u → Doubles s (offer_lines v i s f) (after_offer v s f)
     one false q k kq u uq = from [] s (rw q refl) (rw q refl) (refl, refl)
     one true q false kq u uq = from [] (record s { kept = s.kept + 1 }) (rw (q, kq) refl) (rw (q, kq) refl) (refl, refl)
     one true q true kq false uq = from [] (record s { kept = s.kept + 1; used = slice_set s.used f true }) (rw (q, kq, uq) refl) (rw (q, kq, uq) refl) (refl, refl)
@@ -72,23 +72,23 @@ offer_doubles v i s f h = one (nat_lt s.dups 11) refl (is_data_fragment v f) ref
         from (Dup f i ∷ (if s.dups == 10 then ManyDup i ∷ [] else [])) (record s { kept = s.kept + 1; dups = s.dups + 1; dup = slice_set s.dup f true }) (rw (q, kq, uq) refl) (rw (q, kq, uq) refl)
         (sym (set_any s.dup f (omega arith)), length-set s.dup f true)
 
-offers_double : (v : Layout) (i : ℕ) (s : Claims) (fs : List ℕ) → length s.dup ≡ v.size → Doubles s (offers_lines v i s fs) (after_offers v s fs)
+offers_double : (v : Layout) (i : ℕ) (s : Claims) (fs : List ℕ) → length s.dup ≡ v.size → Doubles s (lines_of_offers v i s fs) (after_offers v s fs)
 offers_double v i s [] h = (refl, refl)
 offers_double v i s (f ∷ fs) h =
     let one = offer_doubles v i s f h in
-    doubles_then s (after_offer v s f) (after_offers v (after_offer v s f) fs) (offer_lines v i s f) (offers_lines v i (after_offer v s f) fs) one (offers_double v i (after_offer v s f) fs (one.1 ∙ h))
+    doubles_then s (after_offer v s f) (after_offers v (after_offer v s f) fs) (offer_lines v i s f) (lines_of_offers v i (after_offer v s f) fs) one (offers_double v i (after_offer v s f) fs (one.1 ∙ h))
 
 run_doubles : (v : Layout) (i : ℕ) (s : Claims) (start len : ℕ) → length s.dup ≡ v.size → Doubles s (run_lines v i s start len) (after_run v s start len)
-run_doubles v i s start len h = one (is_in_range v start len) refl (s.bad == 10) refl
+run_doubles v i s start len h = one (is_run_in_range v start len) refl (s.bad == 10) refl
   where
     from : (lines : List BlockMessage) (t : Claims) → run_lines v i s start len ≡ lines → after_run v s start len ≡ t → Doubles s lines t → Doubles s (run_lines v i s start len) (after_run v s start len)
     from lines t e now d = rw (e, now) d
 
-    one : (r : Bool) → is_in_range v start len ≡ r → (z : Bool) → (s.bad == 10) ≡ z → Doubles s (run_lines v i s start len) (after_run v s start len)
-    one true q z zq = from (offers_lines v i (record s { runs = s.runs + 1 }) (range_with_len start len)) (after_offers v (record s { runs = s.runs + 1 }) (range_with_len start len)) (rw q refl) (rw q refl)
+    one : (r : Bool) → is_run_in_range v start len ≡ r → (z : Bool) → (s.bad == 10) ≡ z → Doubles s (run_lines v i s start len) (after_run v s start len)
+    one true q z zq = from (lines_of_offers v i (record s { runs = s.runs + 1 }) (range_with_len start len)) (after_offers v (record s { runs = s.runs + 1 }) (range_with_len start len)) (rw q refl) (rw q refl)
         (offers_double v i (record s { runs = s.runs + 1 }) (range_with_len start len) h)
     one false q true zq = from (Bad start i ∷ (ManyBad i ∷ [])) (record s { runs = s.runs + 1; bad = s.bad + 1 }) (rw (q, zq) refl) (rw (q, zq) refl) (refl, refl)
-    one false q false zq = from (Bad start i ∷ offers_lines v i (record s { runs = s.runs + 1; bad = s.bad + 1 }) (range_with_len start len))
+    one false q false zq = from (Bad start i ∷ lines_of_offers v i (record s { runs = s.runs + 1; bad = s.bad + 1 }) (range_with_len start len))
         (after_offers v (record s { runs = s.runs + 1; bad = s.bad + 1 }) (range_with_len start len)) (rw (q, zq) refl) (rw (q, zq) refl)
         (offers_double v i (record s { runs = s.runs + 1; bad = s.bad + 1 }) (range_with_len start len) h)
 
@@ -111,11 +111,11 @@ step_doubles v i s (Run start len block) h = one (is_open s) refl
     one true q = rw q (run_doubles v i s start len h)
     one false q = rw q (refl, refl)
 
-steps_double : (v : Layout) (i : ℕ) (s : Claims) (steps : List Step) → length s.dup ≡ v.size → Doubles s (steps_lines v i s steps) (after_steps v s steps)
+steps_double : (v : Layout) (i : ℕ) (s : Claims) (steps : List Step) → length s.dup ≡ v.size → Doubles s (lines_of_steps v i s steps) (after_steps v s steps)
 steps_double v i s [] h = (refl, refl)
 steps_double v i s (step ∷ steps) h =
     let one = step_doubles v i s step h in
-    doubles_then s (after_step v s step) (after_steps v (after_step v s step) steps) (step_lines v i s step) (steps_lines v i (after_step v s step) steps) one (steps_double v i (after_step v s step) steps (one.1 ∙ h))
+    doubles_then s (after_step v s step) (after_steps v (after_step v s step) steps) (step_lines v i s step) (lines_of_steps v i (after_step v s step) steps) one (steps_double v i (after_step v s step) steps (one.1 ∙ h))
 
 class_none : (i : ℕ) (class : Class) → list_any is_dup_line (class_lines i class) ≡ false
 class_none i Free = refl
@@ -129,17 +129,17 @@ count_none v o end = cond_holds (λ (ls : List BlockMessage). list_any is_dup_li
 
 owner_doubles : (v : Layout) (s : Claims) (o : Owner) → length s.dup ≡ v.size → Doubles s (owner_lines v s o) (after_owner v s o)
 owner_doubles v s o h =
-    doubles_then s s (after_owner v s o) (class_lines o.number o.class) (steps_lines v o.number (next_inode s) o.steps ++ count_lines v o (after_owner v s o))
+    doubles_then s s (after_owner v s o) (class_lines o.number o.class) (lines_of_steps v o.number (next_inode s) o.steps ++ count_lines v o (after_owner v s o))
     (ap (λ (b : Bool). b || any_set s.dup) (class_none o.number o.class), refl)
-    (doubles_then s (after_owner v s o) (after_owner v s o) (steps_lines v o.number (next_inode s) o.steps) (count_lines v o (after_owner v s o))
+    (doubles_then s (after_owner v s o) (after_owner v s o) (lines_of_steps v o.number (next_inode s) o.steps) (count_lines v o (after_owner v s o))
     (steps_double v o.number (next_inode s) o.steps h)
     (ap (λ (b : Bool). b || any_set (after_owner v s o).dup) (count_none v o (after_owner v s o)), refl))
 
-owners_double : (v : Layout) (s : Claims) (os : List Owner) → length s.dup ≡ v.size → Doubles s (owners_lines v s os) (after_owners v s os)
+owners_double : (v : Layout) (s : Claims) (os : List Owner) → length s.dup ≡ v.size → Doubles s (lines_of_owners v s os) (after_owners v s os)
 owners_double v s [] h = (refl, refl)
 owners_double v s (o ∷ os) h =
     let one = owner_doubles v s o h in
-    doubles_then s (after_owner v s o) (after_owners v (after_owner v s o) os) (owner_lines v s o) (owners_lines v (after_owner v s o) os) one (owners_double v (after_owner v s o) os (one.1 ∙ h))
+    doubles_then s (after_owner v s o) (after_owners v (after_owner v s o) os) (owner_lines v s o) (lines_of_owners v (after_owner v s o) os) one (owners_double v (after_owner v s o) os (one.1 ∙ h))
 
 none_set : (n : ℕ) → set_count (replicate n false) ≡ 0
 none_set zero = refl
@@ -155,7 +155,7 @@ unfolding all_claims phase1_lines no_claims
 rescan_is v image =
     let all = owners_double v (no_claims v) (owners_of v image) (length-replicate v.size false) in
     let clear : any_set (replicate v.size false) ≡ false = ap (λ (n : ℕ). not (n == 0)) (none_set v.size) in
-    sym all.0 ∙ ap (λ (b : Bool). list_any is_dup_line (owners_lines v (no_claims v) (owners_of v image)) || b) clear ∙ or_false _
+    sym all.0 ∙ ap (λ (b : Bool). list_any is_dup_line (lines_of_owners v (no_claims v) (owners_of v image)) || b) clear ∙ or_false _
 
 -- ---- what is left to report
 pub none_clear : (bits : List Bool) (f : ℕ) → set_count bits ≡ 0 → is_set bits f ≡ false

@@ -8,8 +8,8 @@ use Rattle.ffs_volume.specs.declared.Step.TheVariants.{Run, Tail, Gap}
 use Rattle.ffs_volume.specs.declared.BlockMessage.{BlockMessage}
 use Rattle.ffs_volume.specs.declared.Inode.{Inode}
 use Rattle.ffs_volume.specs.Blocks.Steps.{steps_of, walks}
-use Rattle.ffs_volume.specs.Disk.Areas.{is_data_fragment, is_in_range}
-use Rattle.ffs_volume.specs.Blocks.Claims.{Claims, is_open, is_set, after_offer, after_offers, after_step, after_steps, offer_lines, offers_lines, step_lines, steps_lines, run_lines}
+use Rattle.ffs_volume.specs.Disk.Areas.{is_fragment_in_range, is_run_in_range}
+use Rattle.ffs_volume.specs.Blocks.Claims.{Claims, is_open, is_set, after_offer, after_offers, after_step, after_steps, offer_lines, lines_of_offers, step_lines, lines_of_steps, run_lines}
 use Rattle.ffs_volume.proofs.Weights.{ok_below}
 use Rattle.ffs_volume.specs.Messages.Kinds.{Message, of_blocks}
 use Rattle.ffs_report.specs.Progress.{Progress, Said, Stopped, Says}
@@ -34,14 +34,15 @@ range_more j n m e = rw e (search rules)
 
 -- a dup offer is a fragment of the volume
 pub dup_below : (v : Layout) (s : Claims) (f : ℕ) → is_dup v s f ≡ true → f < v.size
-dup_below v s f e = ok_below v f (and_parts (is_data_fragment v f) (is_set s.used f)
+dup_below v s f e = ok_below v f (and_parts (is_fragment_in_range v f) (is_set s.used f)
     (and_parts (nat_lt s.dups 11) _ e).1).0
 
 -- an offer is kept at most once, and no Run is seen by it
 pub offer_kept : (v : Layout) (s s' : Claims) (f : ℕ) → s' ≡ after_offer v s f → s'.kept ≤ s.kept + 1
-offer_kept v s s' f now = rw now (one (nat_lt s.dups 11) refl (is_data_fragment v f) refl (is_set s.used f) refl)
+offer_kept v s s' f now = rw now (one (nat_lt s.dups 11) refl (is_fragment_in_range v f) refl (is_set s.used f) refl)
   where
-    one : (a : Bool) → nat_lt s.dups 11 ≡ a → (k : Bool) → is_data_fragment v f ≡ k → (u : Bool) → is_set s.used f ≡ u →
+    one : (a : Bool) → nat_lt s.dups 11 ≡ a → (k : Bool) → is_fragment_in_range v f ≡ k → (u : Bool) → is_set s.used f
+        ≡ u →
         (after_offer v s f).kept ≤ s.kept + 1
     one false q k kq u uq = rw q (omega arith)
     one true q false kq u uq = rw (q, kq) (omega arith)
@@ -59,13 +60,13 @@ offers_after v s s' start len place f h is_place now =
 -- and reported
 pub offers_more : (v : Layout) (inode : ℕ) (s s' : Claims) (start len place f : ℕ) → place < len → f ≡ start + place →
     s' ≡ after_offer v s f →
-    of_lines (offers_lines v inode s (range_with_len (start + place) (len - place)))
-    ≡ of_lines (offer_lines v inode s f) ++ of_lines (offers_lines v inode s' (range_with_len (start + (place + 1)) (len - (place + 1))))
+    of_lines (lines_of_offers v inode s (range_with_len (start + place) (len - place)))
+    ≡ of_lines (offer_lines v inode s f) ++ of_lines (lines_of_offers v inode s' (range_with_len (start + (place + 1)) (len - (place + 1))))
 offers_more v inode s s' start len place f h is_place now =
     let k : start + (place + 1) ≡ start + place + 1 = omega arith in
-    let lines : offers_lines v inode s (range_with_len (start + place) (len - place)) ≡ offer_lines v inode s f ++ offers_lines v inode s' (range_with_len (start + (place + 1)) (len - (place + 1))) =
+    let lines : lines_of_offers v inode s (range_with_len (start + place) (len - place)) ≡ offer_lines v inode s f ++ lines_of_offers v inode s' (range_with_len (start + (place + 1)) (len - (place + 1))) =
     rw (range_more (start + place) (len - place) (len - (place + 1)) (omega arith), k, now, is_place) refl in
-    ap of_lines lines ∙ lines_append (offer_lines v inode s f) (offers_lines v inode s' (range_with_len (start + (place + 1)) (len - (place + 1))))
+    ap of_lines lines ∙ lines_append (offer_lines v inode s f) (lines_of_offers v inode s' (range_with_len (start + (place + 1)) (len - (place + 1))))
 
 -- once an inode is cut its steps change nothing, and nothing is reported of them
 pub cut_stays : (v : Layout) (s : Claims) (steps : List Step) → is_open s ≡ false → after_steps v s steps ≡ s
@@ -74,7 +75,7 @@ cut_stays v s (Run start len block ∷ steps) h = rw h (cut_stays v s steps h)
 cut_stays v s (Tail ∷ steps) h = rw h (cut_stays v s steps h)
 cut_stays v s (Gap ∷ steps) h = cut_stays v s steps h
 
-pub cut_silent : (v : Layout) (inode : ℕ) (s : Claims) (steps : List Step) → is_open s ≡ false → steps_lines v inode s steps ≡ []
+pub cut_silent : (v : Layout) (inode : ℕ) (s : Claims) (steps : List Step) → is_open s ≡ false → lines_of_steps v inode s steps ≡ []
 cut_silent v inode s [] h = refl
 cut_silent v inode s (Run start len block ∷ steps) h = rw h (cut_silent v inode s steps h)
 cut_silent v inode s (Tail ∷ steps) h = rw h (cut_silent v inode s steps h)
@@ -82,17 +83,17 @@ cut_silent v inode s (Gap ∷ steps) h = cut_silent v inode s steps h
 
 -- the lines of a Run that is bad: the first ones, and those of its offers
 abbrev bad_rest : Layout → ℕ → Claims → ℕ → ℕ → List BlockMessage
-bad_rest v inode s start len = offers_lines v inode (record s { runs = s.runs + 1; bad = s.bad + 1 }) (range_with_len start len)
+bad_rest v inode s start len = lines_of_offers v inode (record s { runs = s.runs + 1; bad = s.bad + 1 }) (range_with_len start len)
 
-eleventh : (v : Layout) (inode : ℕ) (s : Claims) (start len : ℕ) → is_in_range v start len ≡ false → (s.bad == 10) ≡ true →
+eleventh : (v : Layout) (inode : ℕ) (s : Claims) (start len : ℕ) → is_run_in_range v start len ≡ false → (s.bad == 10) ≡ true →
     run_lines v inode s start len ≡ bad_lines inode start true
 eleventh v inode s start len h e = rw (h, e) refl
 
-further : (v : Layout) (inode : ℕ) (s : Claims) (start len : ℕ) → is_in_range v start len ≡ false → (s.bad == 10) ≡ false →
+further : (v : Layout) (inode : ℕ) (s : Claims) (start len : ℕ) → is_run_in_range v start len ≡ false → (s.bad == 10) ≡ false →
     run_lines v inode s start len ≡ bad_lines inode start false ++ bad_rest v inode s start len
 further v inode s start len h e = rw (h, e) refl
 
-pub run_stops : (v : Layout) (inode : ℕ) (s : Claims) (start len : ℕ) (a b : Progress) → is_in_range v start len ≡ false →
+pub run_stops : (v : Layout) (inode : ℕ) (s : Claims) (start len : ℕ) (a b : Progress) → is_run_in_range v start len ≡ false →
     Stopped a b (of_lines (bad_lines inode start (s.bad == 10))) → Stopped a b (of_lines (run_lines v inode s start len))
 run_stops v inode s start len a b h p = one (s.bad == 10) refl p
   where
@@ -101,7 +102,7 @@ run_stops v inode s start len a b h p = one (s.bad == 10) refl p
     one false e q = rw (further v inode s start len h e) (stopped_more a b (of_lines (bad_lines inode start false)) (of_lines (bad_rest v inode s start len)) q)
 
 pub run_says : {T E : Type 0} (v : Layout) (inode : ℕ) (s : Claims) (start len : ℕ) (a b c : Progress) (r : Result T E) →
-    is_in_range v start len ≡ false → (s.bad == 10) ≡ false → Said a b (of_lines (bad_lines inode start (s.bad == 10))) →
+    is_run_in_range v start len ≡ false → (s.bad == 10) ≡ false → Said a b (of_lines (bad_lines inode start (s.bad == 10))) →
     Says b c (of_lines (bad_rest v inode s start len)) r → Says a c (of_lines (run_lines v inode s start len)) r
 run_says v inode s start len a b c r h few p q =
     rw (further v inode s start len h few)
@@ -120,23 +121,25 @@ claims_on knows v s s' R R' rest end step next now before same = λ bytes t. sym
 -- and reported
 pub lines_on : (knows : List ℕ → Type 0) (v : Layout) (inode : ℕ) (s s' : Claims) (R R' : List ℕ → List Step) (step : Step) →
     ForBytes knows (λ bytes. R bytes ≡ step ∷ R' bytes) → s' ≡ after_step v s step →
-    ForBytes knows (λ bytes. of_lines (steps_lines v inode s (R bytes)) ≡ of_lines (step_lines v inode s step) ++ of_lines (steps_lines v inode s' (R' bytes)))
+    ForBytes knows (λ bytes. of_lines (lines_of_steps v inode s (R bytes)) ≡ of_lines (step_lines v inode s step) ++ of_lines (lines_of_steps v inode s' (R' bytes)))
 lines_on knows v inode s s' R R' step next now = λ bytes t.
-    ap (λ (xs : List Step). of_lines (steps_lines v inode s xs)) (next bytes t)
-    ∙ lines_append (step_lines v inode s step) (steps_lines v inode (after_step v s step) (R' bytes))
-    ∙ ap (λ (x : Claims). of_lines (step_lines v inode s step) ++ of_lines (steps_lines v inode x (R' bytes))) (sym now)
+    ap (λ (xs : List Step). of_lines (lines_of_steps v inode s xs)) (next bytes t)
+    ∙ lines_append (step_lines v inode s step) (lines_of_steps v inode (after_step v s step) (R' bytes))
+    ∙ ap (λ (x : Claims). of_lines (step_lines v inode s step) ++ of_lines (lines_of_steps v inode x (R' bytes)))
+    (sym now)
 
 pub steps_said : (knows : List ℕ → Type 0) (v : Layout) (inode : ℕ) (s s' : Claims) (R R' : List ℕ → List Step)
     (rest : List ℕ → List BlockMessage)
     (all : List ℕ → List Message) (step : Step) (a b c : Progress) →
-    SaidOf knows (λ bytes. of_lines (steps_lines v inode s (R bytes))) all a b →
+    SaidOf knows (λ bytes. of_lines (lines_of_steps v inode s (R bytes))) all a b →
     ForBytes knows (λ bytes. R bytes ≡ step ∷ R' bytes) → s' ≡ after_step v s step →
-    ForBytes knows (λ bytes. steps_lines v inode s' (R' bytes) ≡ rest bytes) →
+    ForBytes knows (λ bytes. lines_of_steps v inode s' (R' bytes) ≡ rest bytes) →
     Said b c (of_lines (step_lines v inode s step)) →
     SaidOf knows (λ bytes. of_lines (rest bytes)) all a c
 steps_said knows v inode s s' R R' rest all step a b c said next now same out =
-    of_same knows (λ bytes. of_lines (steps_lines v inode s' (R' bytes))) (λ bytes. of_lines (rest bytes)) all a c
-    (of_says knows _ (λ bytes. of_lines (steps_lines v inode s' (R' bytes))) all (of_lines (step_lines v inode s step))
+    of_same knows (λ bytes. of_lines (lines_of_steps v inode s' (R' bytes))) (λ bytes. of_lines (rest bytes)) all a c
+    (of_says knows _ (λ bytes. of_lines (lines_of_steps v inode s' (R' bytes))) all
+    (of_lines (step_lines v inode s step))
     a b c said
     (lines_on knows v inode s s' R R' step next now) out) (λ bytes t. ap of_lines (same bytes t))
 
@@ -160,7 +163,7 @@ pub gaps_stay : (v : Layout) (s : Claims) (n : ℕ) (steps : List Step) → afte
 gaps_stay v s zero steps = refl
 gaps_stay v s (suc n) steps = gaps_stay v s n steps
 
-pub gaps_silent : (v : Layout) (inode : ℕ) (s : Claims) (n : ℕ) (steps : List Step) → steps_lines v inode s (replicate n Gap ++ steps) ≡ steps_lines v inode s steps
+pub gaps_silent : (v : Layout) (inode : ℕ) (s : Claims) (n : ℕ) (steps : List Step) → lines_of_steps v inode s (replicate n Gap ++ steps) ≡ lines_of_steps v inode s steps
 gaps_silent v inode s zero steps = refl
 gaps_silent v inode s (suc n) steps = gaps_silent v inode s n steps
 

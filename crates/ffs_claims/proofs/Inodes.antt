@@ -7,7 +7,7 @@ use Rattle.ffs_volume.specs.declared.Inode.{Inode}
 use Rattle.ffs_volume.specs.Blocks.Inodes.{class_of, inode_of}
 use Rattle.ffs_volume.specs.Blocks.Steps.{steps_of}
 use Rattle.ffs_volume.specs.Blocks.Owners.{owner_of}
-use Rattle.ffs_volume.specs.Blocks.Claims.{Claims, next_inode, after_steps, after_owner, steps_lines}
+use Rattle.ffs_volume.specs.Blocks.Claims.{Claims, next_inode, after_steps, after_owner, lines_of_steps}
 use Rattle.ffs_volume.specs.Blocks.BlockCheck.{class_lines, count_lines, owner_lines}
 use Rattle.ffs_volume.specs.Messages.Kinds.{Message}
 use Rattle.ffs_report.specs.Progress.{Progress, Said, Stopped}
@@ -20,14 +20,14 @@ use Rattle.ffs_claims.proofs.Goes.{lines_append}
 -- the lines of an inode's steps and of its count, once its class is reported
 abbrev pub rest_lines : Layout → ℕ → Inode → Class → Claims → List ℕ → List Message
 rest_lines v number i class s1 bytes =
-    of_lines (steps_lines v number s1 (steps_of v i bytes)) ++ of_lines (count_lines v (counted_owner number class i.blocks) (after_steps v s1 (steps_of v i bytes)))
+    of_lines (lines_of_steps v number s1 (steps_of v i bytes)) ++ of_lines (count_lines v (counted_owner number class i.blocks) (after_steps v s1 (steps_of v i bytes)))
 
 parts : (v : Layout) (number : ℕ) (i : Inode) (s : Claims) (bytes : List ℕ) →
     of_lines (owner_lines v s (owner_with v bytes number i)) ≡ of_lines (class_lines number (class_of v i)) ++ rest_lines v number i (class_of v i) (next_inode s) bytes
 parts v number i s bytes =
     lines_append (class_lines number (class_of v i)) _
     ∙ ap (λ (xs : List Message). of_lines (class_lines number (class_of v i)) ++ xs)
-    (lines_append (steps_lines v number (next_inode s) (steps_of v i bytes)) (count_lines v (owner_with v bytes number i) (after_owner v s (owner_with v bytes number i))))
+    (lines_append (lines_of_steps v number (next_inode s) (steps_of v i bytes)) (count_lines v (owner_with v bytes number i) (after_owner v s (owner_with v bytes number i))))
 
 pub class_said : (knows : List ℕ → Type 0) (v : Layout) (number : ℕ) (i : Inode) (s s1 : Claims) (class : Class) (a b : Progress) →
     s1 ≡ next_inode s → class ≡ class_of v i → Said a b (of_lines (class_lines number class)) →

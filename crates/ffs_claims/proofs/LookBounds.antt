@@ -7,8 +7,8 @@ use Rattle.std.proofs.lemmas.List.Sums.{count_by-le-length}
 use Rattle.ffs_volume.specs.declared.Layout.{Layout}
 use Rattle.ffs_volume.specs.declared.Step.{Step}
 use Rattle.ffs_volume.specs.declared.Step.TheVariants.{Run, Tail, Gap}
-use Rattle.ffs_volume.specs.Disk.Areas.{is_in_range, is_reserved}
-use Rattle.ffs_volume.specs.Disk.Geometry.{IsGeometry}
+use Rattle.ffs_volume.specs.Disk.Areas.{is_run_in_range, is_reserved}
+use Rattle.ffs_volume.specs.Disk.Geometry.{IsValidLayout}
 use Rattle.ffs_volume.specs.Blocks.Owners.{Owner, owner_of, owners_of, inode_numbers}
 use Rattle.ffs_volume.specs.Blocks.Claims.{Claims, no_claims, reserved_map, next_inode, is_open, after_step, after_steps, after_owner, after_owners}
 use Rattle.ffs_volume.specs.Blocks.ClaimBounds.{used_bits}
@@ -29,9 +29,9 @@ step_seen v i s Tail = one (is_open s) refl
     one : (o : Bool) → is_open s ≡ o → s.runs + length (step_runs v i s Tail) ≡ (after_step v s Tail).runs
     one true q = rw q (omega arith)
     one false q = rw q (omega arith)
-step_seen v i s (Run start len block) = one (is_open s) refl (is_in_range v start len) refl (s.bad == 10) refl
+step_seen v i s (Run start len block) = one (is_open s) refl (is_run_in_range v start len) refl (s.bad == 10) refl
   where
-    one : (o : Bool) → is_open s ≡ o → (f : Bool) → is_in_range v start len ≡ f → (z : Bool) → (s.bad == 10) ≡ z →
+    one : (o : Bool) → is_open s ≡ o → (f : Bool) → is_run_in_range v start len ≡ f → (z : Bool) → (s.bad == 10) ≡ z →
         s.runs + length (step_runs v i s (Run start len block)) ≡ (after_step v s (Run start len block)).runs
     one false q f qf z qz = rw q (omega arith)
     one true q true qf z qz = rw (q, qf) (sym (offers_runs v (record s { runs = s.runs + 1 })
@@ -82,7 +82,7 @@ look_most v bytes =
     )
 
 -- and each Run that is seen uses up a fragment, a bad Run or a dup offer
-inodes_move : (v : Layout) (image : List ℕ) (s : Claims) (xs : List ℕ) → IsGeometry v → length s.used ≡ v.size →
+inodes_move : (v : Layout) (image : List ℕ) (s : Claims) (xs : List ℕ) → IsValidLayout v → length s.used ≡ v.size →
     ((after_owners v s (map (owner_of v image) xs)).runs + used_bits s ≤ s.runs
     + used_bits (after_owners v s (map (owner_of v image) xs)) + 22 * length xs)
     × (length (after_owners v s (map (owner_of v image) xs)).used ≡ v.size)
@@ -94,7 +94,7 @@ inodes_move v image s (x ∷ xs) g h =
     let few_dups = one.dups_cap (omega arith) in
     (omega (arith, one.weighs, more.0, few, few_dups), more.1)
 
-pub look_fits : (v : Layout) (bytes : List ℕ) → IsGeometry v → second_look v bytes < 2 ^ 64
+pub look_fits : (v : Layout) (bytes : List ℕ) → IsValidLayout v → second_look v bytes < 2 ^ 64
 unfolding run_count owners_of no_claims reserved_map
 look_fits v bytes g =
     let all = inodes_move v bytes (no_claims v) (inode_numbers v) g

@@ -10,11 +10,11 @@ use Rattle.ffs_volume.specs.declared.Step.{Step}
 use Rattle.ffs_volume.specs.declared.Step.TheVariants.{Run, Tail, Gap}
 use Rattle.ffs_volume.specs.declared.BlockMessage.{BlockMessage}
 use Rattle.ffs_volume.specs.declared.BlockMessage.TheVariants.{Bad, Dup, ManyBad, ManyDup, PartTrunc}
-use Rattle.ffs_volume.specs.Disk.Areas.{is_data_fragment, is_in_range}
+use Rattle.ffs_volume.specs.Disk.Areas.{is_fragment_in_range, is_run_in_range}
 use Rattle.ffs_volume.specs.Blocks.Inodes.{is_file_or_dir, inode_of, class_of, is_unknown}
 use Rattle.ffs_volume.specs.Blocks.Owners.{Owner, owner_of, owners_of}
-use Rattle.ffs_volume.specs.Blocks.Claims.{Claims, next_inode, is_open, is_set, after_offer, after_offers, after_run, after_step, after_steps, after_owner, offer_lines, offers_lines, run_lines, step_lines, steps_lines}
-use Rattle.ffs_volume.specs.Blocks.BlockCheck.{blames, class_lines, count_lines, owner_lines, owners_lines, phase1_lines, phase1b_lines, is_marked}
+use Rattle.ffs_volume.specs.Blocks.Claims.{Claims, next_inode, is_open, is_set, after_offer, after_offers, after_run, after_step, after_steps, after_owner, offer_lines, lines_of_offers, run_lines, step_lines, lines_of_steps}
+use Rattle.ffs_volume.specs.Blocks.BlockCheck.{blames, class_lines, count_lines, owner_lines, lines_of_owners, phase1_lines, phase1b_lines, is_marked}
 use Rattle.ffs_volume.specs.Blocks.KeptSteps.{claims_before}
 use Rattle.ffs_volume.specs.Directories.Volumes.{is_inode_number, marked_at}
 use Rattle.ffs_volume.proofs.Weights.{cond_holds}
@@ -76,12 +76,12 @@ more_bad : (n d : ℕ) → not (n + 1 == 0 && d == 0) ≡ true
 more_bad n d = let apart : (n + 1 == 0) ≡ false = grind (arith, nat_tests) in ap (λ (b : Bool). not (b && d == 0)) apart
 
 offer_blames : (v : Layout) (x i : ℕ) (s : Claims) (f : ℕ) → Blames x i s (offer_lines v i s f) (after_offer v s f)
-offer_blames v x i s f = one (nat_lt s.dups 11) refl (is_data_fragment v f) refl (is_set s.used f) refl
+offer_blames v x i s f = one (nat_lt s.dups 11) refl (is_fragment_in_range v f) refl (is_set s.used f) refl
   where
     silent : (t : Claims) → offer_lines v i s f ≡ [] → after_offer v s f ≡ t → has_blame t ≡ has_blame s → Blames x i s (offer_lines v i s f) (after_offer v s f)
     silent t e now same = ap (λ (ls : List BlockMessage). list_any (blames x) ls || blamed x i s) e ∙ ap (λ (b : Bool). (i == x) && b) (sym same) ∙ ap (blamed x i) (sym now)
 
-    one : (a : Bool) → nat_lt s.dups 11 ≡ a → (k : Bool) → is_data_fragment v f ≡ k → (u : Bool) → is_set s.used f ≡ u → Blames x i s (offer_lines v i s f) (after_offer v s f)
+    one : (a : Bool) → nat_lt s.dups 11 ≡ a → (k : Bool) → is_fragment_in_range v f ≡ k → (u : Bool) → is_set s.used f ≡ u → Blames x i s (offer_lines v i s f) (after_offer v s f)
     one false q k kq u uq = silent s (rw q refl) (rw q refl) refl
     one true q false kq u uq = silent (record s { kept = s.kept + 1 }) (rw (q, kq) refl) (rw (q, kq) refl) refl
     one true q true kq false uq = silent (record s { kept = s.kept + 1; used = slice_set s.used f true }) (rw (q, kq, uq) refl) (rw (q, kq, uq) refl) refl
@@ -92,26 +92,26 @@ offer_blames v x i s f = one (nat_lt s.dups 11) refl (is_data_fragment v f) refl
         ∙ reported_blame x i s (record s { kept = s.kept + 1; dups = s.dups + 1; dup = slice_set s.dup f true }) (if s.dups == 10 then ManyDup i ∷ [] else []) (Dup f i) refl (many_dup x i (s.dups == 10)) (more_dups s)
         ∙ ap (blamed x i) (sym now)
 
-offers_blame : (v : Layout) (x i : ℕ) (s : Claims) (fs : List ℕ) → Blames x i s (offers_lines v i s fs) (after_offers v s fs)
+offers_blame : (v : Layout) (x i : ℕ) (s : Claims) (fs : List ℕ) → Blames x i s (lines_of_offers v i s fs) (after_offers v s fs)
 offers_blame v x i s [] = refl
 offers_blame v x i s (f ∷ fs) =
-    blames_then x i s (after_offer v s f) (after_offers v (after_offer v s f) fs) (offer_lines v i s f) (offers_lines v i (after_offer v s f) fs)
+    blames_then x i s (after_offer v s f) (after_offers v (after_offer v s f) fs) (offer_lines v i s f) (lines_of_offers v i (after_offer v s f) fs)
     (offer_blames v x i s f) (offers_blame v x i (after_offer v s f) fs)
 
 run_blames : (v : Layout) (x i : ℕ) (s : Claims) (start len : ℕ) → Blames x i s (run_lines v i s start len) (after_run v s start len)
-run_blames v x i s start len = one (is_in_range v start len) refl (s.bad == 10) refl
+run_blames v x i s start len = one (is_run_in_range v start len) refl (s.bad == 10) refl
   where
     from : (lines : List BlockMessage) (t : Claims) → run_lines v i s start len ≡ lines → after_run v s start len ≡ t → Blames x i s lines t → Blames x i s (run_lines v i s start len) (after_run v s start len)
     from lines t e now b = ap (λ (ls : List BlockMessage). list_any (blames x) ls || blamed x i s) e ∙ b ∙ ap (blamed x i) (sym now)
 
-    one : (r : Bool) → is_in_range v start len ≡ r → (z : Bool) → (s.bad == 10) ≡ z → Blames x i s (run_lines v i s start len) (after_run v s start len)
-    one true q z zq = from (offers_lines v i (record s { runs = s.runs + 1 }) (range_with_len start len)) (after_offers v (record s { runs = s.runs + 1 }) (range_with_len start len)) (rw q refl) (rw q refl)
+    one : (r : Bool) → is_run_in_range v start len ≡ r → (z : Bool) → (s.bad == 10) ≡ z → Blames x i s (run_lines v i s start len) (after_run v s start len)
+    one true q z zq = from (lines_of_offers v i (record s { runs = s.runs + 1 }) (range_with_len start len)) (after_offers v (record s { runs = s.runs + 1 }) (range_with_len start len)) (rw q refl) (rw q refl)
         (offers_blame v x i (record s { runs = s.runs + 1 }) (range_with_len start len))
     one false q true zq = from (Bad start i ∷ (ManyBad i ∷ [])) (record s { runs = s.runs + 1; bad = s.bad + 1 }) (rw (q, zq) refl) (rw (q, zq) refl)
         (reported_blame x i s (record s { runs = s.runs + 1; bad = s.bad + 1 }) (ManyBad i ∷ []) (Bad start i) refl refl (more_bad s.bad s.dups))
-    one false q false zq = from ((Bad start i ∷ []) ++ offers_lines v i (record s { runs = s.runs + 1; bad = s.bad + 1 }) (range_with_len start len))
+    one false q false zq = from ((Bad start i ∷ []) ++ lines_of_offers v i (record s { runs = s.runs + 1; bad = s.bad + 1 }) (range_with_len start len))
         (after_offers v (record s { runs = s.runs + 1; bad = s.bad + 1 }) (range_with_len start len)) (rw (q, zq) refl) (rw (q, zq) refl)
-        (blames_then x i s (record s { runs = s.runs + 1; bad = s.bad + 1 }) (after_offers v (record s { runs = s.runs + 1; bad = s.bad + 1 }) (range_with_len start len)) (Bad start i ∷ []) (offers_lines v i (record s { runs = s.runs + 1; bad = s.bad + 1 }) (range_with_len start len))
+        (blames_then x i s (record s { runs = s.runs + 1; bad = s.bad + 1 }) (after_offers v (record s { runs = s.runs + 1; bad = s.bad + 1 }) (range_with_len start len)) (Bad start i ∷ []) (lines_of_offers v i (record s { runs = s.runs + 1; bad = s.bad + 1 }) (range_with_len start len))
         (reported_blame x i s (record s { runs = s.runs + 1; bad = s.bad + 1 }) [] (Bad start i) refl refl (more_bad s.bad s.dups))
         (offers_blame v x i (record s { runs = s.runs + 1; bad = s.bad + 1 }) (range_with_len start len)))
 
@@ -134,10 +134,10 @@ step_blames v x i s (Run start len block) = one (is_open s) refl
     one true q = rw q (run_blames v x i s start len)
     one false q = rw q refl
 
-steps_blame : (v : Layout) (x i : ℕ) (s : Claims) (steps : List Step) → Blames x i s (steps_lines v i s steps) (after_steps v s steps)
+steps_blame : (v : Layout) (x i : ℕ) (s : Claims) (steps : List Step) → Blames x i s (lines_of_steps v i s steps) (after_steps v s steps)
 steps_blame v x i s [] = refl
 steps_blame v x i s (step ∷ steps) =
-    blames_then x i s (after_step v s step) (after_steps v (after_step v s step) steps) (step_lines v i s step) (steps_lines v i (after_step v s step) steps)
+    blames_then x i s (after_step v s step) (after_steps v (after_step v s step) steps) (step_lines v i s step) (lines_of_steps v i (after_step v s step) steps)
     (step_blames v x i s step) (steps_blame v x i (after_step v s step) steps)
 
 class_silent : (x i : ℕ) (class : Class) → list_any (blames x) (class_lines i class) ≡ false
@@ -160,15 +160,15 @@ and_none false = refl
 
 owner_blames : (v : Layout) (x : ℕ) (s : Claims) (o : Owner) → list_any (blames x) (owner_lines v s o) ≡ ((o.number == x) && has_blame (after_owner v s o))
 owner_blames v x s o =
-    any_append (blames x) (class_lines o.number o.class) (steps_lines v o.number (next_inode s) o.steps ++ count_lines v o (after_owner v s o))
-    ∙ ap (λ (b : Bool). b || list_any (blames x) (steps_lines v o.number (next_inode s) o.steps ++ count_lines v o (after_owner v s o))) (class_silent x o.number o.class)
-    ∙ any_append (blames x) (steps_lines v o.number (next_inode s) o.steps) (count_lines v o (after_owner v s o))
-    ∙ ap (λ (b : Bool). list_any (blames x) (steps_lines v o.number (next_inode s) o.steps) || b) (count_silent v x o (after_owner v s o) ∙ sym (and_none (o.number == x)))
+    any_append (blames x) (class_lines o.number o.class) (lines_of_steps v o.number (next_inode s) o.steps ++ count_lines v o (after_owner v s o))
+    ∙ ap (λ (b : Bool). b || list_any (blames x) (lines_of_steps v o.number (next_inode s) o.steps ++ count_lines v o (after_owner v s o))) (class_silent x o.number o.class)
+    ∙ any_append (blames x) (lines_of_steps v o.number (next_inode s) o.steps) (count_lines v o (after_owner v s o))
+    ∙ ap (λ (b : Bool). list_any (blames x) (lines_of_steps v o.number (next_inode s) o.steps) || b) (count_silent v x o (after_owner v s o) ∙ sym (and_none (o.number == x)))
     ∙ steps_blame v x o.number (next_inode s) o.steps
 
 -- of the inodes one after another
 owners_blame : (v : Layout) (bytes : List ℕ) (x n k : ℕ) → 2 ≤ n →
-    list_any (blames x) (owners_lines v (claims_before v bytes n) (map (owner_of v bytes) (range_with_len n k)))
+    list_any (blames x) (lines_of_owners v (claims_before v bytes n) (map (owner_of v bytes) (range_with_len n k)))
     ≡ ((nat_le n x && nat_lt x (n + k)) && has_blame (after_owner v (claims_before v bytes x) (owner_of v bytes x)))
 unfolding owner_of
 owners_blame v bytes x n zero low = none (nat_le n x && nat_lt x (n + 0)) (grind (arith, nat_tests))
@@ -177,9 +177,9 @@ owners_blame v bytes x n zero low = none (nat_le n x && nat_lt x (n + 0)) (grind
     none b e = sym (ap (λ (c : Bool). c && has_blame (after_owner v (claims_before v bytes x) (owner_of v bytes x))) e)
 owners_blame v bytes x n (suc k) low =
     let more = owners_blame v bytes x (n + 1) k (omega arith) in
-    any_append (blames x) (owner_lines v (claims_before v bytes n) (owner_of v bytes n)) (owners_lines v (after_owner v (claims_before v bytes n) (owner_of v bytes n)) (map (owner_of v bytes) (range_with_len (n + 1) k)))
-    ∙ ap (λ (b : Bool). b || list_any (blames x) (owners_lines v (after_owner v (claims_before v bytes n) (owner_of v bytes n)) (map (owner_of v bytes) (range_with_len (n + 1) k)))) (owner_blames v x (claims_before v bytes n) (owner_of v bytes n))
-    ∙ ap (λ (t : Claims). ((n == x) && has_blame (after_owner v (claims_before v bytes n) (owner_of v bytes n))) || list_any (blames x) (owners_lines v t (map (owner_of v bytes) (range_with_len (n + 1) k)))) (sym (before_next v bytes n low))
+    any_append (blames x) (owner_lines v (claims_before v bytes n) (owner_of v bytes n)) (lines_of_owners v (after_owner v (claims_before v bytes n) (owner_of v bytes n)) (map (owner_of v bytes) (range_with_len (n + 1) k)))
+    ∙ ap (λ (b : Bool). b || list_any (blames x) (lines_of_owners v (after_owner v (claims_before v bytes n) (owner_of v bytes n)) (map (owner_of v bytes) (range_with_len (n + 1) k)))) (owner_blames v x (claims_before v bytes n) (owner_of v bytes n))
+    ∙ ap (λ (t : Claims). ((n == x) && has_blame (after_owner v (claims_before v bytes n) (owner_of v bytes n))) || list_any (blames x) (lines_of_owners v t (map (owner_of v bytes) (range_with_len (n + 1) k)))) (sym (before_next v bytes n low))
     ∙ ap (λ (b : Bool). ((n == x) && has_blame (after_owner v (claims_before v bytes n) (owner_of v bytes n))) || b) more
     ∙ split (cases_eq n x)
   where
@@ -205,7 +205,7 @@ first_blames : (v : Layout) (bytes : List ℕ) (x : ℕ) → is_inode_number v x
 unfolding phase1_lines owners_of
 first_blames v bytes x inside =
     let all : (nat_le 2 x && nat_lt x (2 + (inodes_of v - 2))) ≡ true = grind (arith, nat_tests) in
-    ap (λ (t : Claims). list_any (blames x) (owners_lines v t (map (owner_of v bytes) (range_with_len 2 (inodes_of v - 2))))) (sym (before_first v bytes))
+    ap (λ (t : Claims). list_any (blames x) (lines_of_owners v t (map (owner_of v bytes) (range_with_len 2 (inodes_of v - 2))))) (sym (before_first v bytes))
     ∙ owners_blame v bytes x 2 (inodes_of v - 2) (omega arith)
     ∙ ap (λ (b : Bool). b && has_blame (after_owner v (claims_before v bytes x) (owner_of v bytes x))) all
 

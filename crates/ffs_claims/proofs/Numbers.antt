@@ -9,7 +9,7 @@ use Rattle.ffs_volume.specs.declared.Class.TheVariants.{Free}
 use Rattle.ffs_volume.specs.Blocks.Inodes.{inode_of, class_of, is_unknown}
 use Rattle.ffs_volume.specs.Blocks.Owners.{Owner, owner_of, owners_of}
 use Rattle.ffs_volume.specs.Blocks.Claims.{Claims, no_claims, after_owner, after_owners}
-use Rattle.ffs_volume.specs.Blocks.BlockCheck.{owner_lines, owners_lines, phase1_lines}
+use Rattle.ffs_volume.specs.Blocks.BlockCheck.{owner_lines, lines_of_owners, phase1_lines}
 use Rattle.ffs_volume.specs.Blocks.KeptSteps.{claims_before}
 use Rattle.ffs_volume.specs.Encodings.Replay.{cut_of, cut_at}
 use Rattle.ffs_volume.specs.Directories.Volumes.{is_inode_number}
@@ -57,16 +57,16 @@ before_end v bytes x past exact low =
 
 -- the lines of the next inode, and of those after it
 pub lines_next : (v : Layout) (bytes : List ℕ) (s s' : Claims) (x : ℕ) → x < inodes_of v → s' ≡ after_owner v s (owner_of v bytes x) →
-    of_lines (owners_lines v s (owners_from v bytes x)) ≡ of_lines (owner_lines v s (owner_of v bytes x)) ++ of_lines (owners_lines v s' (owners_from v bytes (x + 1)))
+    of_lines (lines_of_owners v s (owners_from v bytes x)) ≡ of_lines (owner_lines v s (owner_of v bytes x)) ++ of_lines (lines_of_owners v s' (owners_from v bytes (x + 1)))
 lines_next v bytes s s' x low now =
-    ap (λ (xs : List ℕ). of_lines (owners_lines v s (map (owner_of v bytes) xs))) (range_more x (inodes_of v - x) (inodes_of v - (x + 1)) (omega arith))
-    ∙ lines_append (owner_lines v s (owner_of v bytes x)) (owners_lines v (after_owner v s (owner_of v bytes x)) (owners_from v bytes (x + 1)))
-    ∙ ap (λ (t : Claims). of_lines (owner_lines v s (owner_of v bytes x)) ++ of_lines (owners_lines v t (owners_from v bytes (x + 1)))) (sym now)
+    ap (λ (xs : List ℕ). of_lines (lines_of_owners v s (map (owner_of v bytes) xs))) (range_more x (inodes_of v - x) (inodes_of v - (x + 1)) (omega arith))
+    ∙ lines_append (owner_lines v s (owner_of v bytes x)) (lines_of_owners v (after_owner v s (owner_of v bytes x)) (owners_from v bytes (x + 1)))
+    ∙ ap (λ (t : Claims). of_lines (owner_lines v s (owner_of v bytes x)) ++ of_lines (lines_of_owners v t (owners_from v bytes (x + 1)))) (sym now)
 
-pub lines_end : (v : Layout) (bytes : List ℕ) (s : Claims) (x : ℕ) → inodes_of v ≤ x → of_lines (owners_lines v s (owners_from v bytes x)) ≡ []
+pub lines_end : (v : Layout) (bytes : List ℕ) (s : Claims) (x : ℕ) → inodes_of v ≤ x → of_lines (lines_of_owners v s (owners_from v bytes x)) ≡ []
 lines_end v bytes s x past =
     let none : inodes_of v - x ≡ 0 = omega arith in
-    ap (λ (n : ℕ). of_lines (owners_lines v s (map (owner_of v bytes) (range_with_len x n)))) none
+    ap (λ (n : ℕ). of_lines (lines_of_owners v s (map (owner_of v bytes) (range_with_len x n)))) none
 
 -- ---- lists that are filled up to a number
 abbrev pub FilledTo : {A : Type 0} → A → (ℕ → A) → List A → ℕ → Type 0
@@ -144,6 +144,6 @@ cut_in v bytes x s s' inside before now =
     ∙ sym (ap (λ (b : Bool). if b then min (cut_of (after_owner v (claims_before v bytes x) (owner_of v bytes x))) 4294967295 else 0) inside)
 
 -- the lines of all inodes
-pub first_lines : (v : Layout) (bytes : List ℕ) (s : Claims) → s ≡ no_claims v → of_lines (phase1_lines v (owners_of v bytes)) ≡ of_lines (owners_lines v s (owners_from v bytes 2))
+pub first_lines : (v : Layout) (bytes : List ℕ) (s : Claims) → s ≡ no_claims v → of_lines (phase1_lines v (owners_of v bytes)) ≡ of_lines (lines_of_owners v s (owners_from v bytes 2))
 unfolding phase1_lines owners_of
-first_lines v bytes s e = ap (λ (t : Claims). of_lines (owners_lines v t (owners_from v bytes 2))) (sym e)
+first_lines v bytes s e = ap (λ (t : Claims). of_lines (lines_of_owners v t (owners_from v bytes 2))) (sym e)

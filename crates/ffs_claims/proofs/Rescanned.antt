@@ -8,8 +8,8 @@ use Rattle.ffs_volume.specs.declared.Layout.{Layout}
 use Rattle.ffs_volume.specs.declared.Step.{Step}
 use Rattle.ffs_volume.specs.declared.Step.TheVariants.{Run, Tail, Gap}
 use Rattle.ffs_volume.specs.declared.BlockMessage.{BlockMessage}
-use Rattle.ffs_volume.specs.Disk.Areas.{is_in_range}
-use Rattle.ffs_volume.specs.Disk.Geometry.{IsGeometry}
+use Rattle.ffs_volume.specs.Disk.Areas.{is_run_in_range}
+use Rattle.ffs_volume.specs.Disk.Geometry.{IsValidLayout}
 use Rattle.ffs_volume.specs.Blocks.Inodes.{inode_of}
 use Rattle.ffs_volume.specs.Blocks.Steps.{steps_of}
 use Rattle.ffs_volume.specs.Blocks.Owners.{owner_of, owners_of}
@@ -35,7 +35,7 @@ use Rattle.ffs_claims.proofs.Rescans.{inode_replayed}
 use Rattle.ffs_claims.proofs.Reportings.{Reporting, first_append}
 
 -- the offers of the next inode, replayed by its cut, and those of the inodes after it
-pub kept_next : (v : Layout) (bytes : List ℕ) (cuts : List ℕ) (n : ℕ) → IsGeometry v → 2 ≤ n → n < inodes_of v → is_inode_number v n ≡ true → slice_index cuts n ≡ cut_at v bytes n →
+pub kept_next : (v : Layout) (bytes : List ℕ) (cuts : List ℕ) (n : ℕ) → IsValidLayout v → 2 ≤ n → n < inodes_of v → is_inode_number v n ≡ true → slice_index cuts n ≡ cut_at v bytes n →
     kept_in_owners v (claims_before v bytes n) (owners_from v bytes n)
     ≡ offers_again v n (rescan (slice_index cuts n)) (steps_of v (inode_of v bytes n) bytes) ++ kept_in_owners v (claims_before v bytes (n + 1)) (owners_from v bytes (n + 1))
 unfolding owner_of
@@ -53,7 +53,7 @@ kept_end v bytes s n past =
     let none : inodes_of v - n ≡ 0 = omega arith in
     ap (λ (k : ℕ). kept_in_owners v s (map (owner_of v bytes) (range_with_len n k))) none
 
-pub runs_on : (v : Layout) (bytes : List ℕ) (cuts : List ℕ) (n : ℕ) → IsGeometry v → 2 ≤ n → is_inode_number v n ≡ true → slice_index cuts n ≡ cut_at v bytes n →
+pub runs_on : (v : Layout) (bytes : List ℕ) (cuts : List ℕ) (n : ℕ) → IsValidLayout v → 2 ≤ n → is_inode_number v n ≡ true → slice_index cuts n ≡ cut_at v bytes n →
     (claims_before v bytes (n + 1)).runs ≡ (claims_before v bytes n).runs + runs_again v (rescan (slice_index cuts n)) (steps_of v (inode_of v bytes n) bytes)
 unfolding owner_of
 runs_on v bytes cuts n g low inside e =
@@ -109,7 +109,7 @@ step_none_of v x i s Tail e = refl
 step_none_of v x i s Gap e = refl
 step_none_of v x i s (Run start len block) e =
     cond_holds (λ (os : List Offer). no_offer x os ≡ true) (is_open s) _ _
-    (λ _. cond_holds (λ (os : List Offer). no_offer x os ≡ true) (is_in_range v start len) _ _
+    (λ _. cond_holds (λ (os : List Offer). no_offer x os ≡ true) (is_run_in_range v start len) _ _
     (λ _. offers_none_of v x i (record s { runs = s.runs + 1 }) (range_with_len start len) e)
     (λ _. cond_holds (λ (os : List Offer). no_offer x os ≡ true) (s.bad == 10) _ _
     (λ _. refl)

@@ -6,7 +6,7 @@ use Rattle.std.proofs.lemmas.Bool.Decides.{nat_tests}
 use Rattle.ffs_volume.specs.declared.Layout.{Layout}
 use Rattle.ffs_volume.specs.declared.Step.{Step}
 use Rattle.ffs_volume.specs.declared.Step.TheVariants.{Run, Tail, Gap}
-use Rattle.ffs_volume.specs.Disk.Areas.{is_data_fragment, is_in_range}
+use Rattle.ffs_volume.specs.Disk.Areas.{is_fragment_in_range, is_run_in_range}
 use Rattle.ffs_volume.specs.Blocks.Claims.{Claims, next_inode, is_open, is_set, after_offer, after_offers, after_run, after_step, after_steps}
 use Rattle.ffs_volume.proofs.Weights.{cond_holds}
 use Rattle.ffs_volume.specs.Blocks.BlockCheck.{Offer, kept_in_offers, kept_in_run, kept_in_step, kept_in_steps}
@@ -46,7 +46,7 @@ offer_grows : (v : Layout) (s : Claims) (f : ℕ) → Grows s (after_offer v s f
 offer_grows v s f =
     cond_holds (Grows s) (nat_lt s.dups 11) _ _
     (λ few. let low : s.dups < 11 = ltb-true s.dups 11 few in
-    cond_holds (Grows s) (is_data_fragment v f) _ _
+    cond_holds (Grows s) (is_fragment_in_range v f) _ _
     (λ _. cond_holds (Grows s) (is_set s.used f) _ _
     (λ _. record { kept_low = omega arith; dups_low = omega arith; cap = λ c. omega arith; strict = λ l. omega arith; shut = λ h. absurd (omega arith); shut_dups = λ h. absurd (omega arith) })
     (λ _. record { kept_low = omega arith; dups_low = omega arith; cap = λ c. c; strict = λ l. omega arith; shut = λ h. absurd (omega arith); shut_dups = λ h. refl }))
@@ -60,7 +60,7 @@ offers_grow v s (f ∷ fs) = grows_then s (after_offer v s f) (after_offers v (a
 -- an offer is kept, or the inode is cut
 offer_kept : (v : Layout) (s : Claims) (f : ℕ) → nat_lt s.dups 11 ≡ true → (after_offer v s f).kept ≡ s.kept + 1
 offer_kept v s f few =
-    rw few (cond_holds (λ (t : Claims). t.kept ≡ s.kept + 1) (is_data_fragment v f) _ _
+    rw few (cond_holds (λ (t : Claims). t.kept ≡ s.kept + 1) (is_fragment_in_range v f) _ _
     (λ _. cond_holds (λ (t : Claims). t.kept ≡ s.kept + 1) (is_set s.used f) _ _ (λ _. refl) (λ _. refl))
     (λ _. refl))
 
@@ -165,7 +165,7 @@ left_is s s' end len take before after cap = one (end.dups == 11) refl (cases_lt
 -- ---- steps
 run_grows : (v : Layout) (s : Claims) (start len : ℕ) → Grows s (after_run v s start len)
 run_grows v s start len =
-    cond_holds (Grows s) (is_in_range v start len) _ _
+    cond_holds (Grows s) (is_run_in_range v start len) _ _
     (λ _. grows_then s (record s { runs = s.runs + 1 }) _ (grows_not s (record s { runs = s.runs + 1 }) refl refl) (offers_grow v (record s { runs = s.runs + 1 }) (range_with_len start len)))
     (λ _. cond_holds (Grows s) (s.bad == 10) _ _
     (λ _. grows_not s (record s { runs = s.runs + 1; bad = s.bad + 1 }) refl refl)
@@ -185,7 +185,7 @@ steps_grow v s (step ∷ steps) = grows_then s (after_step v s step) _ (step_gro
 offer_runs : (v : Layout) (s : Claims) (f : ℕ) → ((after_offer v s f).runs ≡ s.runs) × ((after_offer v s f).bad ≡ s.bad)
 offer_runs v s f =
     cond_holds (λ (t : Claims). (t.runs ≡ s.runs) × (t.bad ≡ s.bad)) (nat_lt s.dups 11) _ _
-    (λ _. cond_holds (λ (t : Claims). (t.runs ≡ s.runs) × (t.bad ≡ s.bad)) (is_data_fragment v f) _ _
+    (λ _. cond_holds (λ (t : Claims). (t.runs ≡ s.runs) × (t.bad ≡ s.bad)) (is_fragment_in_range v f) _ _
     (λ _. cond_holds (λ (t : Claims). (t.runs ≡ s.runs) × (t.bad ≡ s.bad)) (is_set s.used f) _ _ (λ _. (refl, refl)) (λ _. (refl, refl)))
     (λ _. (refl, refl)))
     (λ _. (refl, refl))
@@ -205,7 +205,7 @@ pub record Replayed (v : Layout) (i : ℕ) (s end : Claims) (r : Rescan) (step :
 
 run_replayed : (v : Layout) (i : ℕ) (s end : Claims) (r : Rescan) (start len : ℕ) (block : Option ℕ) →
     Grows (after_step v s (Run start len block)) end → end.dups ≤ 11 → Tied s end r → is_going r ≡ is_open s → Replayed v i s end r (Run start len block)
-run_replayed v i s end r start len block after cap t going = one (is_open s) refl (is_in_range v start len) refl (s.bad == 10) refl
+run_replayed v i s end r start len block after cap t going = one (is_open s) refl (is_run_in_range v start len) refl (s.bad == 10) refl
   where
     from : (mid : Claims) → (mid.kept ≡ s.kept) → (mid.dups ≡ s.dups) → mid.runs ≡ s.runs + 1 → (bad : ℕ) → mid.bad ≡ bad → is_open s ≡ true →
         after_step v s (Run start len block) ≡ after_offers v mid (range_with_len start len) →
@@ -236,7 +236,7 @@ run_replayed v i s end r start len block after cap t going = one (is_open s) ref
           };
         }
 
-    one : (o : Bool) → is_open s ≡ o → (f : Bool) → is_in_range v start len ≡ f → (z : Bool) → (s.bad == 10) ≡ z → Replayed v i s end r (Run start len block)
+    one : (o : Bool) → is_open s ≡ o → (f : Bool) → is_run_in_range v start len ≡ f → (z : Bool) → (s.bad == 10) ≡ z → Replayed v i s end r (Run start len block)
     one false q f qf z qz =
         let shut : is_going r ≡ false = going ∙ q in
         let now : after_step v s (Run start len block) ≡ s = rw q refl in

@@ -2,7 +2,7 @@
 use Rattle.std.proofs.Common.{◌≡◌, ℕ, ◌+◌, ◌-◌, ◌<◌, ◌≤◌, true, List, ◌++◌, map, slice_index, arith, ap, ◌∙◌, sym, Bool}
 use Rattle.std.specs.List.{range_with_len}
 use Rattle.ffs_volume.specs.declared.Layout.{Layout}
-use Rattle.ffs_volume.specs.Disk.Geometry.{IsGeometry}
+use Rattle.ffs_volume.specs.Disk.Geometry.{IsValidLayout}
 use Rattle.ffs_volume.specs.Blocks.Inodes.{inode_of}
 use Rattle.ffs_volume.specs.Blocks.Steps.{steps_of}
 use Rattle.ffs_volume.specs.Blocks.Owners.{owner_of, owners_of}
@@ -24,7 +24,7 @@ use Rattle.ffs_claims.proofs.Looks.{looked_both, runs_leave}
 use Rattle.ffs_claims.proofs.Rescans.{inode_replayed}
 
 -- the Runs of the next inode, replayed by its cut, and those of the inodes after it
-runs_next_inode : (v : Layout) (bytes : List ℕ) (cuts : List ℕ) (n : ℕ) → IsGeometry v → 2 ≤ n → n < inodes_of v →
+runs_next_inode : (v : Layout) (bytes : List ℕ) (cuts : List ℕ) (n : ℕ) → IsValidLayout v → 2 ≤ n → n < inodes_of v →
     is_inode_number v n ≡ true → slice_index cuts n ≡ cut_at v bytes n →
     owners_runs v (claims_before v bytes n) (owners_from v bytes n)
     ≡ steps_runs_again v n (rescan (slice_index cuts n)) (steps_of v (inode_of v bytes n) bytes)
@@ -42,7 +42,7 @@ runs_next_inode v bytes cuts n g low high inside e =
     ∙ ap (λ (t : Claims). steps_runs_again v n (rescan (slice_index cuts n)) (steps_of v (inode_of v bytes n) bytes)
     ++ owners_runs v t (owners_from v bytes (n + 1))) (sym (before_next v bytes n low))
 
-pub looked_on : (v : Layout) (bytes : List ℕ) (cuts : List ℕ) (n : ℕ) (dup dup' : List Bool) → IsGeometry v → 2 ≤ n →
+pub looked_on : (v : Layout) (bytes : List ℕ) (cuts : List ℕ) (n : ℕ) (dup dup' : List Bool) → IsValidLayout v → 2 ≤ n →
     n < inodes_of v → is_inode_number v n ≡ true → slice_index cuts n ≡ cut_at v bytes n →
     dup' ≡ after_first dup (offers_again v n (rescan (slice_index cuts n)) (steps_of v (inode_of v bytes n) bytes)) →
     looked_at dup (owners_runs v (claims_before v bytes n) (owners_from v bytes n))

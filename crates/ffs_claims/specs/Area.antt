@@ -1,12 +1,13 @@
 -- Fragments where each Run is in range.
 use Rattle.std.specs.Prelude.{◌≡◌, ℕ, ◌+◌, ◌<◌, ◌≤◌, true}
 use Rattle.ffs_volume.specs.declared.Layout.{Layout}
-use Rattle.ffs_volume.specs.Disk.Areas.{is_in_range}
+use Rattle.ffs_volume.specs.Disk.Areas.{is_run_in_range}
 use Rattle.ffs_claims.specs.declared.area.DataArea.{DataArea}
 
 -- each Run that lies in the area is in range
 pub record IsDataArea (v : Layout) (area : DataArea) : Type 0 where
-  pub runs : (start len : ℕ) → area.start ≤ start → start + len ≤ area.end → 0 < len → is_in_range v start len ≡ true
+  pub runs : (start len : ℕ) → area.start ≤ start → start + len ≤ area.end → 0 < len → is_run_in_range v start len
+      ≡ true
 
 -- a Run lies in the area
 pub record HasRun (area : DataArea) (start len : ℕ) : Type 0 where

@@ -6,7 +6,7 @@ use Rattle.ffs_volume.specs.declared.Inode.{Inode}
 use Rattle.ffs_volume.specs.declared.Class.{Class}
 use Rattle.ffs_volume.specs.declared.BlockMessage.{BlockMessage}
 use Rattle.ffs_volume.specs.declared.BlockMessage.TheVariants.{Bad, Dup, ManyBad, ManyDup}
-use Rattle.ffs_volume.specs.Disk.Areas.{is_data_fragment}
+use Rattle.ffs_volume.specs.Disk.Areas.{is_fragment_in_range}
 use Rattle.ffs_volume.specs.Blocks.Inodes.{class_of}
 use Rattle.ffs_volume.specs.Blocks.Steps.{steps_of}
 use Rattle.ffs_volume.specs.Blocks.Owners.{Owner, owner_of}
@@ -20,7 +20,7 @@ of_lines lines = map of_blocks lines
 
 -- an offer is dup
 abbrev pub is_dup : Layout → Claims → ℕ → Bool
-is_dup v s f = nat_lt s.dups 11 && (is_data_fragment v f && is_set s.used f)
+is_dup v s f = nat_lt s.dups 11 && (is_fragment_in_range v f && is_set s.used f)
 
 -- what is reported of a dup offer and of a bad Run, the eleventh one or not
 abbrev pub dup_lines : ℕ → ℕ → Bool → List BlockMessage

@@ -5,7 +5,7 @@ use Rattle.std.specs.List.{range_with_len}
 use Rattle.ffs_volume.specs.declared.Layout.{Layout}
 use Rattle.ffs_volume.specs.declared.Step.{Step}
 use Rattle.ffs_volume.specs.declared.Step.TheVariants.{Run, Tail, Gap}
-use Rattle.ffs_volume.specs.Disk.Areas.{is_in_range}
+use Rattle.ffs_volume.specs.Disk.Areas.{is_run_in_range}
 use Rattle.ffs_claims.specs.declared.rescan.Rescan.{Rescan}
 use Rattle.ffs_volume.specs.Blocks.BlockCheck.{Offer}
 use Rattle.ffs_volume.specs.Blocks.FirstOffers.{offer_at}
@@ -34,12 +34,12 @@ left_after (Some n) len = Some (n - len)
 -- how many offers of a Run are kept: the first ones
 abbrev pub run_taken : Layout → Rescan → ℕ → ℕ → ℕ
 run_taken v r start len =
-    if is_in_range v start len then taken_of r.left len
+    if is_run_in_range v start len then taken_of r.left len
     else (if r.bad == 10 then 0 else taken_of r.left len)
 
 abbrev pub after_run_again : Layout → Rescan → ℕ → ℕ → Rescan
 after_run_again v r start len =
-    if is_in_range v start len then record { bad = r.bad; left = left_after r.left len }
+    if is_run_in_range v start len then record { bad = r.bad; left = left_after r.left len }
     else (if r.bad == 10 then record { bad = 11; left = r.left } else record { bad = r.bad + 1; left = left_after r.left len })
 
 abbrev pub again : Layout → Rescan → Step → Rescan

@@ -2,7 +2,7 @@
 
 ghost use Rattle.std.specs.Prelude.{◌≡◌, ◌<◌, IsTrue, true, ℕ};
 ghost use Rattle.ffs_volume.specs.declared.Layout.{Layout};
-ghost use Rattle.ffs_volume.specs.Disk.Areas.{is_in_range};
+ghost use Rattle.ffs_volume.specs.Disk.Areas.{is_run_in_range};
 
 use ffs_layout::Geometry;
 
@@ -28,7 +28,7 @@ impl DataArea {
     fn around(geometry: &Geometry, start: u32) -> DataArea
         requires inside { start < geometry.now.layout.size }
         ensures area { IsDataArea geometry.now.layout result }
-        ensures run { (len : ℕ) → 0 < len → is_in_range geometry.now.layout start len ≡ true
+        ensures run { (len : ℕ) → 0 < len → is_run_in_range geometry.now.layout start len ≡ true
             → HasRun result start len }
     {
         let group = start / geometry.layout.fpg;
@@ -53,7 +53,7 @@ impl DataArea {
     pub fn in_range(&mut self, geometry: &Geometry, start: u32, len: u32) -> bool
         requires some { 0 < len }
         requires area { IsDataArea geometry.now.layout self.old }
-        ensures value { result ≡ is_in_range geometry.now.layout start len }
+        ensures value { result ≡ is_run_in_range geometry.now.layout start len }
         ensures area { IsDataArea geometry.now.layout self.new }
         ensures run { IsTrue result → HasRun self.new start len }
     {

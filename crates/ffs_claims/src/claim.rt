@@ -9,7 +9,7 @@ ghost use Rattle.ffs_volume.specs.Blocks.Inodes.{inode_of};
 ghost use Rattle.ffs_volume.specs.Blocks.Steps.{steps_of};
 ghost use Rattle.ffs_volume.specs.Blocks.Owners.{owner_of};
 ghost use Rattle.ffs_volume.specs.Blocks.Claims as claims;
-ghost use Rattle.ffs_volume.specs.Blocks.Claims.{after_owner, after_steps, steps_lines};
+ghost use Rattle.ffs_volume.specs.Blocks.Claims.{after_owner, after_steps, lines_of_steps};
 ghost use Rattle.ffs_volume.specs.Blocks.ClaimBounds.{ClaimBound, used_bits};
 ghost use Rattle.ffs_volume.specs.Blocks.BlockCheck.{owner_lines};
 ghost use Rattle.ffs_workspace.specs.Holds.{claims_of};
@@ -46,7 +46,7 @@ fn claim<I: Image, W: Output>(
     requires runs { workspace.old.runs_seen < 2 ^ 61 }
     ensures image { ImageAfter (I.device image.old) (I.device image.new) result }
     ensures text { PhaseReports (IsContents (I.device image.old).contents)
-        (λ bytes. of_lines (steps_lines geometry.now.layout number (claims_of workspace.old)
+        (λ bytes. of_lines (lines_of_steps geometry.now.layout number (claims_of workspace.old)
         (steps_of geometry.now.layout inode.now bytes)))
         (progress W.sink report.old) (progress W.sink report.new) result }
     ensures claims { OnOk result (ForBytes (IsContents (I.device image.old).contents) (λ bytes.

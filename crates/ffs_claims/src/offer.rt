@@ -2,10 +2,10 @@
 
 ghost use Rattle.std.specs.Prelude.{◌≡◌, ◌+◌, ◌<◌, ◌≤◌, ◌^◌, OnOk, true};
 ghost use Rattle.std.specs.List.{range_with_len};
-ghost use Rattle.ffs_volume.specs.Disk.Areas.{is_in_range};
+ghost use Rattle.ffs_volume.specs.Disk.Areas.{is_run_in_range};
 ghost use Rattle.ffs_volume.specs.Blocks.Lengths.{HasLength};
 ghost use Rattle.ffs_volume.specs.Blocks.Claims as claims;
-ghost use Rattle.ffs_volume.specs.Blocks.Claims.{after_offer, after_offers, after_run, after_step, offer_lines, offers_lines, run_lines, step_lines};
+ghost use Rattle.ffs_volume.specs.Blocks.Claims.{after_offer, after_offers, after_run, after_step, offer_lines, lines_of_offers, run_lines, step_lines};
 ghost use Rattle.ffs_report.specs.Progress.{progress, Says};
 ghost use Rattle.ffs_workspace.specs.Holds.{claims_of};
 ghost use Rattle.ffs_workspace.specs.Lengths.{IsFor};
@@ -126,7 +126,7 @@ fn offers<W: Output>(
     requires made { IsFor geometry.now.layout workspace.old }
     requires room { workspace.old.kept + len < 2 ^ 63 }
     ensures said { Says (progress W.sink report.old) (progress W.sink report.new)
-        (of_lines (offers_lines geometry.now.layout number (claims_of workspace.old)
+        (of_lines (lines_of_offers geometry.now.layout number (claims_of workspace.old)
         (range_with_len start len))) result }
     ensures claims { OnOk result (claims_of workspace.new
         ≡ after_offers geometry.now.layout (claims_of workspace.old) (range_with_len start len)) }
@@ -155,11 +155,11 @@ fn run_in_range<W: Output>(
 ) -> Result<(), OutFault>
     requires made { IsFor geometry.now.layout workspace.old }
     requires some { 0 < len }
-    requires in_range { is_in_range geometry.now.layout start len ≡ true }
+    requires in_range { is_run_in_range geometry.now.layout start len ≡ true }
     requires room { workspace.old.kept < 2 ^ 62 }
     requires dups { workspace.old.dups < 11 }
     ensures said { Says (progress W.sink report.old) (progress W.sink report.new)
-        (of_lines (offers_lines geometry.now.layout number (claims_of workspace.old)
+        (of_lines (lines_of_offers geometry.now.layout number (claims_of workspace.old)
         (range_with_len start len))) result }
     ensures claims { OnOk result (claims_of workspace.new
         ≡ after_offers geometry.now.layout (claims_of workspace.old) (range_with_len start len)) }

@@ -21,7 +21,7 @@ use Rattle.ffs_volume.specs.Disk.Numbers.{u32_at, all_below}
 use Rattle.ffs_volume.specs.Disk.Areas.{cgbase}
 use Rattle.ffs_volume.specs.Blocks.Inodes.{inode_of}
 use Rattle.ffs_volume.specs.Directories.Volumes.{class_at}
-use Rattle.ffs_volume.specs.Groups.Records.{Summary, is_used_inode, is_dir_inode, is_whole, block_bits, block_numbers, group_inodes, group_numbers, group_size, right_summary, right_frsum, right_total, has_summary, has_totals, has_bits, inode_map_place, fragment_map_place, is_record, are_maps, are_sums, is_total, summary_record, group_block}
+use Rattle.ffs_volume.specs.Groups.Records.{GroupCounts, is_used_inode, is_dir_inode, is_free_block, block_bits, block_numbers, group_inodes, group_numbers, group_size, right_group_counts, right_frsum, right_total, has_summary, has_totals, has_bits, inode_map_place, fragment_map_place, has_right_record, has_right_maps, has_right_sums, has_right_totals, summary_record, group_block}
 use Rattle.ffs_volume.specs.Groups.GroupCheck.{group_lines, reported_once, unreported, unless, phase5_lines}
 use Rattle.ffs_volume.specs.Encodings.Kinds.{kind_at, kind_of, class_of_kind}
 use Rattle.ffs_workspace.proofs.KindLaws.{class_is}
@@ -56,38 +56,38 @@ dirs_same v image kinds e = fun_ext (λ x. ap (λ k. nat_le 2 x && is_directory 
 used_same : (v : Layout) (image kinds : List ℕ) → ((x : ℕ) → slice_index kinds x ≡ kind_at v image x) → is_used_inode (class_in kinds) ≡ is_used_inode (class_at v image)
 used_same v image kinds e = fun_ext (λ x. ap (λ k. nat_lt x 2 || is_allocated (class_of_kind k)) (e x) ∙ ap (λ t. nat_lt x 2 || t) (same_test is_allocated refl v image x))
 
-same_right : (v : Layout) (free : ℕ → Bool) (a b : ℕ → Class) → is_dir_inode a ≡ is_dir_inode b → is_used_inode a ≡ is_used_inode b → (c : ℕ) → right_summary v free a c ≡ right_summary v free b c
-unfolding right_summary
+same_right : (v : Layout) (free : ℕ → Bool) (a b : ℕ → Class) → is_dir_inode a ≡ is_dir_inode b → is_used_inode a ≡ is_used_inode b → (c : ℕ) → right_group_counts v free a c ≡ right_group_counts v free b c
+unfolding right_group_counts
 same_right v free a b d u c =
     ap (λ (p : ℕ → Bool). summary_by v free p (is_used_inode a) c) d ∙ ap (λ (q : ℕ → Bool). summary_by v free (is_dir_inode b) q c) u
   where
-    summary_by : Layout → (ℕ → Bool) → (ℕ → Bool) → (ℕ → Bool) → ℕ → Summary
+    summary_by : Layout → (ℕ → Bool) → (ℕ → Bool) → (ℕ → Bool) → ℕ → GroupCounts
     summary_by v free p q c = record {
       dirs = count_by p (group_inodes v c);
-      blocks = count_by (λ b. is_whole (block_bits v free c b)) (block_numbers v);
+      blocks = count_by (λ b. is_free_block (block_bits v free c b)) (block_numbers v);
       inodes = count_by (λ x. not (q x)) (group_inodes v c);
-      fragments = (right_summary v free a c).fragments;
+      fragments = (right_group_counts v free a c).fragments;
     }
 
-same_record : (v : Layout) (free : ℕ → Bool) (a b : ℕ → Class) → ((c : ℕ) → right_summary v free a c ≡ right_summary v free b c) → (c : ℕ) (bytes : List ℕ) → is_record v free a c bytes ≡ is_record v free b c bytes
-unfolding is_record
-same_record v free a b s c bytes = ap (λ (x : Summary). has_summary v 0 bytes x) (s c)
+same_record : (v : Layout) (free : ℕ → Bool) (a b : ℕ → Class) → ((c : ℕ) → right_group_counts v free a c ≡ right_group_counts v free b c) → (c : ℕ) (bytes : List ℕ) → has_right_record v free a c bytes ≡ has_right_record v free b c bytes
+unfolding has_right_record
+same_record v free a b s c bytes = ap (λ (x : GroupCounts). has_summary v 0 bytes x) (s c)
 
-same_maps : (v : Layout) (free : ℕ → Bool) (a b : ℕ → Class) → is_used_inode a ≡ is_used_inode b → (c : ℕ) (block : List ℕ) → are_maps v free a c block ≡ are_maps v free b c block
-unfolding are_maps
+same_maps : (v : Layout) (free : ℕ → Bool) (a b : ℕ → Class) → is_used_inode a ≡ is_used_inode b → (c : ℕ) (block : List ℕ) → has_right_maps v free a c block ≡ has_right_maps v free b c block
+unfolding has_right_maps
 same_maps v free a b u c block = ap (λ (q : ℕ → Bool). has_bits block (inode_map_place v block) v.ipg (λ k. q (c * v.ipg + k))
     && has_bits block (fragment_map_place v block) (group_size v c) (λ k. free (cgbase v c + k))) u
 
-same_sums : (v : Layout) (free : ℕ → Bool) (a b : ℕ → Class) → ((c : ℕ) → right_summary v free a c ≡ right_summary v free b c) → (c : ℕ) (block : List ℕ) → are_sums v free a c block ≡ are_sums v free b c block
-unfolding are_sums
-same_sums v free a b s c block = ap (λ (x : Summary). u32_at v.order 12 block == c && (u32_at v.order 20 block == group_size v c
+same_sums : (v : Layout) (free : ℕ → Bool) (a b : ℕ → Class) → ((c : ℕ) → right_group_counts v free a c ≡ right_group_counts v free b c) → (c : ℕ) (block : List ℕ) → has_right_sums v free a c block ≡ has_right_sums v free b c block
+unfolding has_right_sums
+same_sums v free a b s c block = ap (λ (x : GroupCounts). u32_at v.order 12 block == c && (u32_at v.order 20 block == group_size v c
     && (has_summary v 24 block x && all_below 8 (λ k. u32_at v.order (52 + 4 * k) block == right_frsum v free c k)))) (s c)
 
-same_group : (v : Layout) (image : List ℕ) (free : ℕ → Bool) (a b : ℕ → Class) → ((c : ℕ) → right_summary v free a c ≡ right_summary v free b c) → is_used_inode a ≡ is_used_inode b →
+same_group : (v : Layout) (image : List ℕ) (free : ℕ → Bool) (a b : ℕ → Class) → ((c : ℕ) → right_group_counts v free a c ≡ right_group_counts v free b c) → is_used_inode a ≡ is_used_inode b →
     (c : ℕ) → group_lines v image free a c ≡ group_lines v image free b c
 same_group v image free a b s u c = rw (same_record v free a b s c (summary_record v image c), same_maps v free a b u c (group_block v image c), same_sums v free a b s c (group_block v image c)) refl
 
-total_by : Layout → (ℕ → Summary) → Summary
+total_by : Layout → (ℕ → GroupCounts) → GroupCounts
 total_by v right = record {
   dirs = sum_by (λ c. (right c).dirs) (group_numbers v);
   blocks = sum_by (λ c. (right c).blocks) (group_numbers v);
@@ -95,15 +95,15 @@ total_by v right = record {
   fragments = sum_by (λ c. (right c).fragments) (group_numbers v);
 }
 
-same_total : (v : Layout) (free : ℕ → Bool) (a b : ℕ → Class) (totals : List ℤ) → ((c : ℕ) → right_summary v free a c ≡ right_summary v free b c) → is_total v free a totals ≡ is_total v free b totals
-unfolding is_total right_total total_by
-same_total v free a b totals s = ap (λ (f : ℕ → Summary). has_totals totals (total_by v f)) (fun_ext s)
+same_total : (v : Layout) (free : ℕ → Bool) (a b : ℕ → Class) (totals : List ℤ) → ((c : ℕ) → right_group_counts v free a c ≡ right_group_counts v free b c) → has_right_totals v free a totals ≡ has_right_totals v free b totals
+unfolding has_right_totals right_total total_by
+same_total v free a b totals s = ap (λ (f : ℕ → GroupCounts). has_totals totals (total_by v f)) (fun_ext s)
 
 same_phase5 : (v : Layout) (image : List ℕ) (totals : List ℤ) (free : ℕ → Bool) (a b : ℕ → Class) → is_dir_inode a ≡ is_dir_inode b → is_used_inode a ≡ is_used_inode b →
     phase5_lines v image totals free a ≡ phase5_lines v image totals free b
 unfolding phase5_lines
 same_phase5 v image totals free a b d u =
-    ap (λ (f : ℕ → List BlockMessage). reported_once unreported (flat_map f (group_numbers v) ++ unless (is_total v free a totals) FreeCounts))
+    ap (λ (f : ℕ → List BlockMessage). reported_once unreported (flat_map f (group_numbers v) ++ unless (has_right_totals v free a totals) FreeCounts))
     (fun_ext (same_group v image free a b (same_right v free a b d u) u))
     ∙ ap (λ (t : Bool). reported_once unreported (flat_map (group_lines v image free b) (group_numbers v) ++ unless t FreeCounts)) (same_total v free a b totals (same_right v free a b d u))
 

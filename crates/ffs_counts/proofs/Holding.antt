@@ -9,8 +9,8 @@ use Rattle.ffs_volume.specs.declared.Layout.{Layout}
 use Rattle.ffs_volume.specs.declared.Attr.{Attr}
 use Rattle.ffs_volume.specs.declared.Class.TheVariants.{Free, Unknown, File, Dir}
 use Rattle.ffs_volume.specs.declared.Inode.{Inode}
-use Rattle.ffs_volume.specs.Disk.Numbers.{is_the_count}
-use Rattle.ffs_volume.specs.Messages.Kinds.{NameMessage, of_names, lines_from, reported, dead_marked, dead_zero, unref, unref_zero, link_count}
+use Rattle.ffs_volume.specs.Disk.Numbers.{equals_natural}
+use Rattle.ffs_volume.specs.Messages.Kinds.{NameMessage, of_names, lines_from, reported, dead_marked, dead_zero, unref, unref_unlinked, link_count}
 use Rattle.ffs_volume.specs.Blocks.Inodes.{inode_of, is_allocated}
 use Rattle.ffs_volume.specs.Directories.Roles.{is_allocated_inode, is_suspect}
 use Rattle.ffs_volume.specs.Directories.PathnameCheck.{label_of, attributes}
@@ -114,7 +114,7 @@ one_reported false m false none false a b c d e = refl
 
 pub right_lines : (v : Layout) (b : List ℕ) (w : Workspace) (i r : ℕ) (dead same : Bool) → i < inodes_of v → HoldsClaims v b w → HoldsSurvey v b w →
     dead ≡ ((bool_at w.marked.items i || is_empty_dir_kind (slice_index w.kinds.items i)) && (not (i == 2) && not (bool_at w.named.items i))) →
-    r ≡ slice_index w.references.items i → same ≡ is_the_count (inode_of v b i).nlink r →
+    r ≡ slice_index w.references.items i → same ≡ equals_natural (inode_of v b i).nlink r →
     length (inode_lines (volume_of v b) i) ≡ (if same && (not (r == 0) && not dead) then 0 else 1)
 right_lines v b w i r dead same low h s is refs counted =
     let label = label_of (class_of_kind (slice_index w.kinds.items i)) in
@@ -122,8 +122,9 @@ right_lines v b w i r dead same low h s is refs counted =
     let nlink = (inode_of v b i).nlink in
     ap (λ (ls : List NameMessage). length ls) (inode_lines_are v b w i (inode_of v b i) dead low h s refl is
     ∙ ap (λ n. reference_reported dead (bool_at w.marked.items i) label attr nlink n) (sym refs))
-    ∙ one_reported dead (bool_at w.marked.items i) (r == 0) (is_the_count nlink 0) (is_the_count nlink r)
-    (dead_marked label attr) (dead_zero attr) (unref_zero label attr) (unref label attr) (link_count label attr nlink r)
+    ∙ one_reported dead (bool_at w.marked.items i) (r == 0) (equals_natural nlink 0) (equals_natural nlink r)
+    (dead_marked label attr) (dead_zero attr) (unref_unlinked label attr) (unref label attr)
+    (link_count label attr nlink r)
     ∙ ap (λ (t : Bool). if t && (not (r == 0) && not dead) then 0 else 1) (sym counted)
 
 -- a list of no length

@@ -9,7 +9,7 @@ use Rattle.ffs_volume.specs.declared.Layout.{Layout}
 use Rattle.ffs_volume.specs.Disk.Areas.{cgbase, cgstart, cgsblock, cgdmin, is_group_metadata, is_reserved}
 use Rattle.ffs_volume.proofs.AreaLaws.{in_kept, is_kept_group, group_is}
 use Rattle.ffs_volume.specs.Blocks.Claims.{is_set}
-use Rattle.ffs_volume.specs.Disk.Geometry.{IsGeometry}
+use Rattle.ffs_volume.specs.Disk.Geometry.{IsValidLayout}
 use Rattle.ffs_volume.specs.Groups.Records.{group_size}
 use Rattle.ffs_maps.proofs.Counting.{count_join_at}
 use Rattle.ffs_groups.proofs.Sums.{sum_same}
@@ -57,21 +57,22 @@ first_not : (a b : Bool) → a ≡ false → (a && b) ≡ false
 first_not a b e = rw e refl
 
 -- in group 0, all up to the end of the summary area
-first_reserved : (v : Layout) (f : ℕ) → IsGeometry v → f < v.csaddr + div_ceil v.cssize v.fsize → is_reserved v f ≡ true
+first_reserved : (v : Layout) (f : ℕ) → IsValidLayout v → f < v.csaddr + div_ceil v.cssize v.fsize → is_reserved v f
+    ≡ true
 unfolding is_reserved
 first_reserved v f g h = elim (cases_lt f v.csaddr) [
   | inl low ↦ any_of _ _ (is_group_metadata v f) (inl (before f (cgdmin v 0) (omega (arith, low, g.summary.csaddr))))
   | inr past ↦ any_of _ _ (is_group_metadata v f) (inr (both_are _ _ (from_ v.csaddr f past) (before f _ h)))
 ]
 
-kept_in : (v : Layout) (c f : ℕ) → IsGeometry v → cgbase v c ≤ f → f < cgbase v (c + 1) → is_group_metadata v f ≡ (nat_lt c v.ncg && in_kept v c f)
+kept_in : (v : Layout) (c f : ℕ) → IsValidLayout v → cgbase v c ≤ f → f < cgbase v (c + 1) → is_group_metadata v f ≡ (nat_lt c v.ncg && in_kept v c f)
 kept_in v c f g low high = is_kept_group v f g ∙ ap (λ j. nat_lt j v.ncg && in_kept v j f) (group_is v c f low high)
 
 pub base_zero : (v : Layout) → cgbase v 0 ≡ 0
 unfolding cgbase
 base_zero v = omega arith
 
-first_free : (v : Layout) (f : ℕ) → IsGeometry v → v.csaddr + div_ceil v.cssize v.fsize ≤ f → f < cgbase v (0 + 1) → is_reserved v f ≡ false
+first_free : (v : Layout) (f : ℕ) → IsValidLayout v → v.csaddr + div_ceil v.cssize v.fsize ≤ f → f < cgbase v (0 + 1) → is_reserved v f ≡ false
 unfolding is_reserved
 first_free v f g low high =
     none_of _ _ (is_group_metadata v f)
@@ -88,7 +89,7 @@ unfolding cgstart
 parts_up v c = omega arith
 
 -- in any other group, the part that it keeps
-group_reserved : (v : Layout) (c f : ℕ) → IsGeometry v → c < v.ncg → cgsblock v c ≤ f → f < cgdmin v c → is_reserved v f ≡ true
+group_reserved : (v : Layout) (c f : ℕ) → IsValidLayout v → c < v.ncg → cgsblock v c ≤ f → f < cgdmin v c → is_reserved v f ≡ true
 unfolding is_reserved
 group_reserved v c f g h low high =
     let group = g.groups c h in
@@ -97,7 +98,7 @@ group_reserved v c f g h low high =
     ap (λ k. (nat_lt f (cgdmin v 0) || (nat_le v.csaddr f && nat_lt f (v.csaddr + div_ceil v.cssize v.fsize))) || k) kept
     ∙ last_of (nat_lt f (cgdmin v 0)) (nat_le v.csaddr f && nat_lt f (v.csaddr + div_ceil v.cssize v.fsize))
 
-group_free : (v : Layout) (c f : ℕ) → IsGeometry v → 1 ≤ c → cgbase v c ≤ f → f < cgbase v (c + 1) → (f < cgsblock v c) ⊎ (cgdmin v c ≤ f) → is_reserved v f ≡ false
+group_free : (v : Layout) (c f : ℕ) → IsValidLayout v → 1 ≤ c → cgbase v c ≤ f → f < cgbase v (c + 1) → (f < cgsblock v c) ⊎ (cgdmin v c ≤ f) → is_reserved v f ≡ false
 unfolding is_reserved
 group_free v c f g some low high apart =
     let past_summary : v.csaddr + div_ceil v.cssize v.fsize ≤ f = omega (arith, g.summary.summary_in_group, base_up v c some, low) in
@@ -131,7 +132,7 @@ none_reserved v used a n all =
     omega (arith, none)
 
 -- ---- a group
-pub used_first : (v : Layout) (used : List Bool) (start end n : ℕ) → IsGeometry v → start ≡ v.csaddr + div_ceil v.cssize v.fsize → end ≤ cgbase v (0 + 1) → start ≤ end →
+pub used_first : (v : Layout) (used : List Bool) (start end n : ℕ) → IsValidLayout v → start ≡ v.csaddr + div_ceil v.cssize v.fsize → end ≤ cgbase v (0 + 1) → start ≤ end →
     n ≡ count_by (λ f. is_set used f) (range_with_len start (end - start)) → n ≡ count_by (is_used v used) (range_with_len 0 (end - 0))
 used_first v used start end n g is within order counted =
     let before_ : 0 ≡ count_by (is_used v used) (range_with_len 0 (start - 0)) =
@@ -142,7 +143,7 @@ used_first v used start end n g is within order counted =
     count_join_at (is_used v used) 0 start end (end - start) 0 n (omega arith) (omega (arith, order)) before_ rest in
     omega (arith, whole)
 
-pub used_other : (v : Layout) (used : List Bool) (c end x y : ℕ) → IsGeometry v → c < v.ncg → 1 ≤ c → end ≤ cgbase v (c + 1) → cgdmin v c ≤ end →
+pub used_other : (v : Layout) (used : List Bool) (c end x y : ℕ) → IsValidLayout v → c < v.ncg → 1 ≤ c → end ≤ cgbase v (c + 1) → cgdmin v c ≤ end →
     x ≡ count_by (λ f. is_set used f) (range_with_len (cgbase v c) (cgsblock v c - cgbase v c)) →
     y ≡ count_by (λ f. is_set used f) (range_with_len (cgdmin v c) (end - cgdmin v c)) → x + y ≡ count_by (is_used v used) (range_with_len (cgbase v c) (end - cgbase v c))
 used_other v used c end x y g h some within order counted counted' =
@@ -164,14 +165,14 @@ used_other v used c end x y g h some within order counted counted' =
     omega (arith, whole)
 
 -- ---- the groups one after the other
-pub base_within : (v : Layout) (c : ℕ) → IsGeometry v → c < v.ncg → min (cgbase v c) v.size ≡ cgbase v c
+pub base_within : (v : Layout) (c : ℕ) → IsValidLayout v → c < v.ncg → min (cgbase v c) v.size ≡ cgbase v c
 unfolding cgbase
 base_within v c g h = omega (arith, g.numbers.size_above, mul-le c v.fpg (v.ncg - 1) v.fpg (omega arith) (omega arith), mul_comm c v.fpg)
 
 pub groups_begin : (v : Layout) → min (cgbase v 0) v.size ≡ 0
 groups_begin v = omega (arith, base_zero v)
 
-pub groups_end : (v : Layout) → IsGeometry v → min (cgbase v v.ncg) v.size ≡ v.size
+pub groups_end : (v : Layout) → IsValidLayout v → min (cgbase v v.ncg) v.size ≡ v.size
 unfolding cgbase
 groups_end v g = omega (arith, g.numbers.size_within, mul_comm v.ncg v.fpg)
 
@@ -179,7 +180,7 @@ base_order : (v : Layout) (c : ℕ) → cgbase v c ≤ cgbase v (c + 1)
 unfolding cgbase
 base_order v c = omega (arith, mul-le v.fpg c v.fpg (c + 1) (omega arith) (omega arith))
 
-pub group_more : (v : Layout) (used : List Bool) (c x y : ℕ) → IsGeometry v → c < v.ncg →
+pub group_more : (v : Layout) (used : List Bool) (c x y : ℕ) → IsValidLayout v → c < v.ncg →
     x ≡ count_by (is_used v used) (range_with_len 0 (min (cgbase v c) v.size)) → y ≡ count_by (is_used v used) (range_with_len (cgbase v c) (group_size v c)) →
     x + y ≡ count_by (is_used v used) (range_with_len 0 (min (cgbase v (c + 1)) v.size))
 group_more v used c x y g h counted counted' =
@@ -191,18 +192,18 @@ group_more v used c x y g h counted counted' =
     ∙ ap (λ j. count_by (is_used v used) (range_with_len 0 j)) end
 
 -- the parts of a group, in their order
-pub parts_order : (v : Layout) (c : ℕ) → IsGeometry v → c < v.ncg → (cgbase v c ≤ cgsblock v c) × (cgsblock v c ≤ cgdmin v c)
+pub parts_order : (v : Layout) (c : ℕ) → IsValidLayout v → c < v.ncg → (cgbase v c ≤ cgsblock v c) × (cgsblock v c ≤ cgdmin v c)
 parts_order v c g h = (parts_up v c, omega (arith, g.parts.super_fits, g.parts.block_fits, g.parts.inodes_fit))
 
 -- where a group ends
-pub group_ends : (v : Layout) (c base n end : ℕ) → IsGeometry v → c < v.ncg → base ≡ cgbase v c → n ≡ group_size v c → end ≡ base + n → end ≡ min (cgbase v (c + 1)) v.size
+pub group_ends : (v : Layout) (c base n end : ℕ) → IsValidLayout v → c < v.ncg → base ≡ cgbase v c → n ≡ group_size v c → end ≡ base + n → end ≡ min (cgbase v (c + 1)) v.size
 group_ends v c base n end g h e f k = omega (arith, e, f, k, base_within v c g h, base_order v c)
 
 counted_at : (v : Layout) (used : List Bool) (n a b x y : ℕ) → n ≡ count_by (is_used v used) (range_with_len a b) → a ≡ x → b ≡ y → n ≡ count_by (is_used v used) (range_with_len x y)
 counted_at v used n a b x y e f g = e ∙ ap (λ j. count_by (is_used v used) (range_with_len j b)) f ∙ ap (λ j. count_by (is_used v used) (range_with_len x j)) g
 
 -- what the code counts, in group 0 and in another
-pub first_group : (v : Layout) (used : List Bool) (c base m start n : ℕ) → IsGeometry v → c < v.ncg → c ≡ 0 → base ≡ cgbase v c → m ≡ group_size v c →
+pub first_group : (v : Layout) (used : List Bool) (c base m start n : ℕ) → IsValidLayout v → c < v.ncg → c ≡ 0 → base ≡ cgbase v c → m ≡ group_size v c →
     start ≡ v.csaddr + div_ceil v.cssize v.fsize → n ≡ count_by (λ f. is_set used f) (range_with_len start (base + m - start)) →
     n ≡ count_by (is_used v used) (range_with_len (cgbase v c) (group_size v c))
 first_group v used c base m start n g h z e f is counted =
@@ -213,7 +214,7 @@ first_group v used c base m start n g h z e f is counted =
     (used_first v used start (base + m) n g is (omega (arith, end, next)) (omega (arith, end, next, is, g.summary.summary_in_group, g.summary.summary_in_size)) counted)
     (sym zero_) (omega (arith, e, f, zero_))
 
-pub other_group : (v : Layout) (used : List Bool) (c base m first past x y : ℕ) → IsGeometry v → c < v.ncg → (c ≡ 0 → ⊥) → base ≡ cgbase v c → m ≡ group_size v c →
+pub other_group : (v : Layout) (used : List Bool) (c base m first past x y : ℕ) → IsValidLayout v → c < v.ncg → (c ≡ 0 → ⊥) → base ≡ cgbase v c → m ≡ group_size v c →
     first ≡ cgsblock v c → past ≡ cgdmin v c → x ≡ count_by (λ f. is_set used f) (range_with_len base (first - base)) →
     y ≡ count_by (λ f. is_set used f) (range_with_len past (base + m - past)) → x + y ≡ count_by (is_used v used) (range_with_len (cgbase v c) (group_size v c))
 other_group v used c base m first past x y g h apart e f is is' counted counted' =

@@ -3,9 +3,9 @@ use Rattle.std.specs.Prelude.{ℕ, ◌==◌, Bool, not, List, [], ◌∷◌, Opt
 use Rattle.ffs_volume.specs.declared.Attr.{Attr}
 use Rattle.ffs_volume.specs.declared.Inode.{Inode}
 use Rattle.ffs_volume.specs.declared.Label.{Label}
-use Rattle.ffs_volume.specs.Disk.Numbers.{is_the_count}
+use Rattle.ffs_volume.specs.Disk.Numbers.{equals_natural}
 use Rattle.ffs_volume.specs.Messages.Kinds.{NameMessage, reported, dead_marked}
-use Rattle.ffs_volume.specs.Messages.Kinds.{dead_zero, unref, unref_zero, link_count}
+use Rattle.ffs_volume.specs.Messages.Kinds.{dead_zero, unref, unref_unlinked, link_count}
 use Rattle.ffs_report.specs.Lines.{reference_message}
 use Rattle.ffs_report.specs.declared.line.ReferenceLine.{ReferenceLine}
 
@@ -13,8 +13,8 @@ use Rattle.ffs_report.specs.declared.line.ReferenceLine.{ReferenceLine}
 abbrev pub reference_reported : Bool → Bool → Label → Attr → ℤ → ℕ → List NameMessage
 reference_reported dead marked label attr nlink refs =
     if dead then (if marked then dead_marked label attr ∷ [] else dead_zero attr ∷ [])
-    else (if refs == 0 then (if is_the_count nlink 0 then unref_zero label attr ∷ [] else unref label attr ∷ [])
-    else reported (not (is_the_count nlink refs)) (link_count label attr nlink refs))
+    else (if refs == 0 then (if equals_natural nlink 0 then unref_unlinked label attr ∷ [] else unref label attr ∷ [])
+    else reported (not (equals_natural nlink refs)) (link_count label attr nlink refs))
 
 -- what messages show of an inode
 abbrev pub attr_with : ℕ → Inode → Attr

@@ -2,7 +2,7 @@
 
 ghost use Rattle.std.specs.Prelude.{◌≡◌, ◌==◌, ◌||◌, ◌&&◌, not, map};
 ghost use Rattle.ffs_volume.specs.Messages.Kinds.{of_names};
-ghost use Rattle.ffs_volume.specs.Disk.Numbers.{is_the_count};
+ghost use Rattle.ffs_volume.specs.Disk.Numbers.{equals_natural};
 ghost use Rattle.ffs_volume.specs.Directories.PathnameCheck.{label_of};
 ghost use Rattle.ffs_report.specs.Progress.{progress, Says};
 ghost use Rattle.ffs_volume.specs.Encodings.Kinds.{class_of_kind};
@@ -36,7 +36,7 @@ fn attr_for(number: u32, inode: &Inode) -> Attr
 
 // Whether a count of links is this number.
 fn is_links(nlink: i16, references: u64) -> bool
-    ensures { result ≡ is_the_count nlink references }
+    ensures { result ≡ equals_natural nlink references }
 {
     if nlink < 0 {
         false

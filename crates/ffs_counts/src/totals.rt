@@ -1,7 +1,7 @@
 //! The totals of a superblock.
 
 ghost use Rattle.std.specs.Prelude.{◌≡◌, ◌+◌, ◌-◌, ◌^◌, ℕ};
-ghost use Rattle.ffs_volume.specs.Disk.Numbers.{is_the_count};
+ghost use Rattle.ffs_volume.specs.Disk.Numbers.{equals_natural};
 ghost use Rattle.ffs_volume.specs.Groups.Records.{has_totals};
 ghost use Rattle.ffs_counts.specs.Totals.{AreUpTo, total_of, with_counts};
 
@@ -18,7 +18,7 @@ pub struct Totals {
 
 // Whether a number of the superblock is this count.
 fn is_count_of(found: i32, right: u64) -> bool
-    ensures { result ≡ is_the_count found right }
+    ensures { result ≡ equals_natural found right }
 {
     if found < 0 {
         false

@@ -8,7 +8,7 @@ use Rattle.std.proofs.lemmas.Nat.{mul-add-lt, mul-le, div-add-mod'}
 use Rattle.std.proofs.lemmas.List.Sums.{count_by-le-length}
 use Rattle.ffs_maps.specs.Bits.{is_clear}
 use Rattle.ffs_maps.proofs.Words.{bit_shr}
-use Rattle.ffs_volume.specs.Groups.Records.{has_bits, is_whole, free_runs}
+use Rattle.ffs_volume.specs.Groups.Records.{has_bits, is_free_block, free_stretches}
 use Rattle.ffs_groups.specs.declared.free.FreeCounts.{FreeCounts}
 use Rattle.ffs_groups.specs.Free.{word_bits, whole_in, loose_in, runs_in, AreBelow, Added, free_in}
 use Rattle.ffs_groups.proofs.Sums.{sum_split, sum_more, sum_same, sum_within, map_same}
@@ -64,23 +64,23 @@ added_join bits other n m old mid new a b same = record {
 }
 
 whole_few : (bits : List Bool) → whole_in bits ≤ 8
-whole_few bits = go (is_whole bits)
+whole_few bits = go (is_free_block bits)
   where
     go : (b : Bool) → cond b 1 0 ≤ 8
     go true = omega arith
     go false = omega arith
 
 loose_few : (bits : List Bool) → length bits ≤ 8 → loose_in bits ≤ 8
-loose_few bits h = go (is_whole bits)
+loose_few bits h = go (is_free_block bits)
   where
     go : (b : Bool) → cond b 0 (count_by (λ f. f) bits) ≤ 8
     go true = omega arith
     go false = omega (arith, h, count_by-le-length (λ f. f) bits)
 
 run_few : (k : ℕ) (bits : List Bool) → length bits ≤ 8 → runs_in k bits ≤ 8
-run_few k bits h = go (is_whole bits)
+run_few k bits h = go (is_free_block bits)
   where
-    go : (b : Bool) → cond b 0 (count_by (λ n. n == k) (free_runs 0 bits)) ≤ 8
+    go : (b : Bool) → cond b 0 (count_by (λ n. n == k) (free_stretches 0 bits)) ≤ 8
     go true = omega arith
     go false = omega (arith, h, runs_few k bits)
 
@@ -145,14 +145,14 @@ pub word_fits : (some frag : ℕ) → some ≤ 64 / frag → some * frag ≤ 64
 word_fits some frag h = omega (arith, mul-le some frag (64 / frag) frag h (omega arith), div-add-mod' 64 frag)
 
 loose_length : (bits : List Bool) → loose_in bits ≤ length bits
-loose_length bits = go (is_whole bits)
+loose_length bits = go (is_free_block bits)
   where
     go : (b : Bool) → cond b 0 (count_by (λ f. f) bits) ≤ length bits
     go true = omega arith
     go false = count_by-le-length (λ f. f) bits
 
 whole_one : (bits : List Bool) → whole_in bits ≤ 1
-whole_one bits = go (is_whole bits)
+whole_one bits = go (is_free_block bits)
   where
     go : (b : Bool) → cond b 1 0 ≤ 1
     go true = omega arith

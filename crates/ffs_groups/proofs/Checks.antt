@@ -6,7 +6,8 @@ use Rattle.std.proofs.lemmas.List.FromFn.{get_or-map-range_with_len}
 use Rattle.ffs_volume.specs.declared.Layout.{Layout}
 use Rattle.ffs_volume.specs.declared.Class.{Class}
 use Rattle.ffs_volume.specs.Disk.Numbers.{i32_at, u32_at, all_below}
-use Rattle.ffs_volume.specs.Groups.Records.{Summary, has_summary, right_summary, right_frsum, group_size, are_sums}
+use Rattle.ffs_volume.specs.Groups.Records.{GroupCounts, has_summary, right_group_counts, right_frsum, group_size}
+use Rattle.ffs_volume.specs.Groups.Records.{has_right_sums}
 use Rattle.ffs_layout.specs.Group.{summary_of}
 use Rattle.ffs_groups.specs.declared.counts.Counts.{Counts}
 use Rattle.ffs_groups.specs.Check.{AreCounts, counted, has_bits_of, same_counts, same_run}
@@ -42,8 +43,8 @@ pub sums_as : (v : Layout) (free : ℕ → Bool) (class : ℕ → Class) (c : �
     (has_bits_of (i32_at v.order 12 block) c && (has_bits_of (i32_at v.order 20 block) (group_size v c)
     && (same_counts (summary_of v.order 24 block) counts.summary
     && all_below 8 (λ k. same_run (map (λ j. i32_at v.order (52 + 4 * j) block) (range_with_len 0 8)) counts.runs k))))
-    ≡ are_sums v free class c block
-unfolding are_sums
+    ≡ has_right_sums v free class c block
+unfolding has_right_sums
 sums_as v free class c block counts h right =
     all_four _ _ _ _ _ _ _ _ (bits_are v.order 12 block c h) (bits_are v.order 20 block (group_size v c) h)
     (summary_as v 24 block counts.summary h ∙ ap (has_summary v 24 block) right.summary)
@@ -56,7 +57,7 @@ sums_as v free class c block counts h right =
     all_four a b c d a' b' c' d' p q r s = rw (p, q, r, s) refl
 
 same_summary_of : (a b i f a' b' i' f' : ℕ) → a ≡ a' → b ≡ b' → i ≡ i' → f ≡ f' →
-    Path Summary (record { dirs = a; blocks = b; inodes = i; fragments = f })
+    Path GroupCounts (record { dirs = a; blocks = b; inodes = i; fragments = f })
     (record { dirs = a'; blocks = b'; inodes = i'; fragments = f' })
 same_summary_of a b i f a' b' i' f' p q r s = rw (p, q, r, s) refl
 
@@ -67,7 +68,7 @@ pub are_counts : (v : Layout) (free : ℕ → Bool) (class : ℕ → Class) (c :
       summary = record { dirs = i.dirs; blocks = f.blocks; inodes = i.free; fragments = f.fragments };
       runs = f.runs;
     })
-unfolding right_summary
+unfolding right_group_counts
 are_counts v free class c f i fragments inodes = record {
   summary = same_summary_of _ _ _ _ _ _ _ _ inodes.dirs fragments.blocks inodes.free fragments.fragments;
   runs = fragments.runs;

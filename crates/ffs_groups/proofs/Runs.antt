@@ -6,23 +6,24 @@ use Rattle.std.specs.Int.{bit_at}
 use Rattle.std.proofs.lemmas.List.Sums.{sum_by-cons, sum_by-append, count_by-le-length}
 use Rattle.std.proofs.lemmas.List.FromFn.{length-map-range_with_len}
 use Rattle.std.proofs.lemmas.Nat.Bits.{shr_and_one}
-use Rattle.ffs_volume.specs.Groups.Records.{free_runs, run_of}
+use Rattle.ffs_volume.specs.Groups.Records.{free_stretches, stretch_of}
 use Rattle.ffs_groups.specs.Free.{word_bits}
 
-one_run : (n : ℕ) → length (run_of (suc n)) ≤ min (suc n) 1
+one_run : (n : ℕ) → length (stretch_of (suc n)) ≤ min (suc n) 1
 one_run n = let e : (suc n == 0) ≡ false = grind arith in rw e (omega arith)
 
-pub run_len : (n : ℕ) → length (run_of n) ≤ min n 1
+pub run_len : (n : ℕ) → length (stretch_of n) ≤ min n 1
 run_len zero = omega arith
 run_len (suc n) = one_run n
 
-pub runs_len : (n : ℕ) (bits : List Bool) → length (free_runs n bits) ≤ min n 1 + length bits
+pub runs_len : (n : ℕ) (bits : List Bool) → length (free_stretches n bits) ≤ min n 1 + length bits
 runs_len n [] = omega (arith, run_len n)
 runs_len n (true ∷ bits) = omega (arith, runs_len (n + 1) bits)
-runs_len n (false ∷ bits) = omega (arith, run_len n, runs_len 0 bits, length-append (run_of n) (free_runs 0 bits))
+runs_len n (false ∷ bits) =
+    omega (arith, run_len n, runs_len 0 bits, length-append (stretch_of n) (free_stretches 0 bits))
 
-pub runs_few : (k : ℕ) (bits : List Bool) → count_by (λ n. n == k) (free_runs 0 bits) ≤ length bits
-runs_few k bits = omega (arith, runs_len 0 bits, count_by-le-length (λ n. n == k) (free_runs 0 bits))
+pub runs_few : (k : ℕ) (bits : List Bool) → count_by (λ n. n == k) (free_stretches 0 bits) ≤ length bits
+runs_few k bits = omega (arith, runs_len 0 bits, count_by-le-length (λ n. n == k) (free_stretches 0 bits))
 
 pub bits_next : (word k n m : ℕ) → n ≡ m + 1 → word_bits word k n ≡ nat_eq (bit_at word k) 1 ∷ word_bits word (k + 1) m
 bits_next word k n m e = let s : n ≡ suc m = omega (arith, e) in ap (λ j. word_bits word k j) s
@@ -42,18 +43,18 @@ used_next word k n m e clear_ =
     rw (bits_next word k n m e, clear_) (omega (arith, sum_by-cons (λ f. cond f 1 0) false (word_bits word (k + 1) m)))
 
 pub run_grows : (word k n m r j : ℕ) → n ≡ m + 1 → nat_eq (bit_at word k) 1 ≡ true →
-    count_by (λ x. x == j) (free_runs r (word_bits word k n)) ≡ count_by (λ x. x == j)
-    (free_runs (r + 1) (word_bits word (k + 1) m))
+    count_by (λ x. x == j) (free_stretches r (word_bits word k n)) ≡ count_by (λ x. x == j)
+    (free_stretches (r + 1) (word_bits word (k + 1) m))
 run_grows word k n m r j e set_ = rw (bits_next word k n m e, set_) refl
 
 pub run_ends : (word k n m r j : ℕ) → n ≡ m + 1 → nat_eq (bit_at word k) 1 ≡ false →
-    count_by (λ x. x == j) (free_runs r (word_bits word k n)) ≡ count_by (λ x. x == j) (run_of r) + count_by
-    (λ x. x == j) (free_runs 0 (word_bits word (k + 1) m))
+    count_by (λ x. x == j) (free_stretches r (word_bits word k n)) ≡ count_by (λ x. x == j) (stretch_of r) + count_by
+    (λ x. x == j) (free_stretches 0 (word_bits word (k + 1) m))
 run_ends word k n m r j e clear_ =
     rw (bits_next word k n m e, clear_)
-    (sum_by-append (λ x. cond (x == j) 1 0) (run_of r) (free_runs 0 (word_bits word (k + 1) m)))
+    (sum_by-append (λ x. cond (x == j) 1 0) (stretch_of r) (free_stretches 0 (word_bits word (k + 1) m)))
 
-pub runs_within : (word n j : ℕ) → count_by (λ x. x == j) (free_runs 0 (word_bits word 0 n)) ≤ n
+pub runs_within : (word n j : ℕ) → count_by (λ x. x == j) (free_stretches 0 (word_bits word 0 n)) ≤ n
 runs_within word n j = omega (arith, runs_few j (word_bits word 0 n), length_bits word 0 n)
 
 pub free_within : (word n : ℕ) → count_by (λ f. f) (word_bits word 0 n) ≤ n

@@ -9,7 +9,7 @@ use Rattle.std.proofs.lemmas.List.Folds.{list_all_at}
 use Rattle.std.proofs.lemmas.List.FromFn.{length-map-range_with_len, get_or-map-range_with_len}
 use Rattle.std.proofs.lemmas.Nat.Bits.{bit_at_and, bit_at-lt, bit_at_ones, bit_at_ones_above, same_from_bits}
 use Rattle.ffs_maps.proofs.Words.{small}
-use Rattle.ffs_volume.specs.Groups.Records.{is_whole}
+use Rattle.ffs_volume.specs.Groups.Records.{is_free_block}
 use Rattle.ffs_groups.specs.Free.{word_bits}
 
 pub all_set : (f : ℕ → Bool) (a n : ℕ) → ((k : ℕ) → k < n → f (a + k) ≡ true) →
@@ -51,12 +51,12 @@ ones_of word n k e h =
     (sym (bit_at_and word (2 ^ n - 1) k) ∙ ap (λ x. bit_at x k) e ∙ bit_at_ones n k h) in
     ap (λ x. nat_eq x 1) one
 
-pub whole_word : (word n : ℕ) → bit_and word (2 ^ n - 1) ≡ 2 ^ n - 1 → is_whole (word_bits word 0 n) ≡ true
+pub whole_word : (word n : ℕ) → bit_and word (2 ^ n - 1) ≡ 2 ^ n - 1 → is_free_block (word_bits word 0 n) ≡ true
 whole_word word n e =
     all_set (λ k. nat_eq (bit_at word k) 1) 0 n
     (λ k h. let l : 0 + k ≡ k = omega arith in ap (λ j. nat_eq (bit_at word j) 1) l ∙ ones_of word n k e h)
 
-mask_of : (word n : ℕ) → is_whole (word_bits word 0 n) ≡ true → bit_and word (2 ^ n - 1) ≡ 2 ^ n - 1
+mask_of : (word n : ℕ) → is_free_block (word_bits word 0 n) ≡ true → bit_and word (2 ^ n - 1) ≡ 2 ^ n - 1
 mask_of word n whole =
     same_from_bits (bit_and word (2 ^ n - 1)) (2 ^ n - 1) (λ k. bit_at_and word (2 ^ n - 1) k ∙ elim (cases_lt k n) [
       | inl low ↦ both_ones _ _ (bit_one word k (each_set (λ j. nat_eq (bit_at word j) 1) n k whole low))
@@ -64,20 +64,20 @@ mask_of word n whole =
       | inr past ↦ no_min _ _ (bit_at_ones_above n k past)
     ])
 
-pub not_whole : (word n : ℕ) → (bit_and word (2 ^ n - 1) ≡ 2 ^ n - 1 → ⊥) → is_whole (word_bits word 0 n) ≡ false
-not_whole word n apart = go (is_whole (word_bits word 0 n)) refl
+pub not_whole : (word n : ℕ) → (bit_and word (2 ^ n - 1) ≡ 2 ^ n - 1 → ⊥) → is_free_block (word_bits word 0 n) ≡ false
+not_whole word n apart = go (is_free_block (word_bits word 0 n)) refl
   where
-    go : (b : Bool) → is_whole (word_bits word 0 n) ≡ b → is_whole (word_bits word 0 n) ≡ false
+    go : (b : Bool) → is_free_block (word_bits word 0 n) ≡ b → is_free_block (word_bits word 0 n) ≡ false
     go true e = absurd (apart (mask_of word n e))
     go false e = e
 
 -- the same, by the mask that the code computes
 pub whole_by_mask : (word n : ℕ) → n ≤ 8 → bit_and word (1 * 2 ^ n % 2 ^ 64 - 1) ≡ 1 * 2 ^ n % 2 ^ 64 - 1 →
-    is_whole (word_bits word 0 n) ≡ true
+    is_free_block (word_bits word 0 n) ≡ true
 whole_by_mask word n h e = let s : 1 * 2 ^ n % 2 ^ 64 - 1 ≡ 2 ^ n - 1 =
     small n (omega arith) in whole_word word n (sym (ap (λ m. bit_and word m) s) ∙ e ∙ s)
 
 pub not_whole_by_mask : (word n : ℕ) → n ≤ 8 → (bit_and word (1 * 2 ^ n % 2 ^ 64 - 1) ≡ 1 * 2 ^ n % 2 ^ 64 - 1 → ⊥) →
-    is_whole (word_bits word 0 n) ≡ false
+    is_free_block (word_bits word 0 n) ≡ false
 not_whole_by_mask word n h apart = let s : 1 * 2 ^ n % 2 ^ 64 - 1 ≡ 2 ^ n - 1 =
     small n (omega arith) in not_whole word n (λ e. apart (ap (λ m. bit_and word m) s ∙ e ∙ sym s))

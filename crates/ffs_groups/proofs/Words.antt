@@ -13,7 +13,7 @@ use Rattle.ffs_maps.proofs.Words.{bit_shr, small}
 use Rattle.ffs_volume.specs.Blocks.Claims.{is_set}
 use Rattle.ffs_volume.specs.Disk.Areas.{cgbase}
 use Rattle.ffs_volume.specs.declared.Layout.{Layout}
-use Rattle.ffs_volume.specs.Groups.Records.{is_whole, free_runs, block_bits, right_frsum, group_size}
+use Rattle.ffs_volume.specs.Groups.Records.{is_free_block, free_stretches, block_bits, right_frsum, group_size}
 use Rattle.ffs_groups.specs.declared.free.FreeCounts.{FreeCounts}
 use Rattle.ffs_groups.specs.Free.{word_bits, whole_in, loose_in, runs_in, Added, AreFree, free_in}
 use Rattle.ffs_groups.proofs.Sums.{sum_split}
@@ -32,7 +32,7 @@ sum_const f m a (suc n) e =
 
 -- ---- fragments none of which is free
 pub none_whole : (f : ℕ → Bool) (a n : ℕ) → 0 < n → ((k : ℕ) → k < n → f (a + k) ≡ false) →
-    is_whole (map f (range_with_len a n)) ≡ false
+    is_free_block (map f (range_with_len a n)) ≡ false
 none_whole f a zero some e = absurd (omega arith)
 none_whole f a (suc n) some e = let at : a ≡ a + 0 = omega arith in rw (ap f at ∙ e 0 (omega arith)) refl
 
@@ -46,7 +46,7 @@ none_counted f a (suc n) e =
     (λ k h. let l : a + 1 + k ≡ a + (k + 1) = omega arith in ap f l ∙ e (k + 1) (omega arith)))
 
 pub none_run : (f : ℕ → Bool) (j a n : ℕ) → ((k : ℕ) → k < n → f (a + k) ≡ false) →
-    count_by (λ x. x == j) (free_runs 0 (map f (range_with_len a n))) ≡ 0
+    count_by (λ x. x == j) (free_stretches 0 (map f (range_with_len a n))) ≡ 0
 none_run f j a zero e = refl
 none_run f j a (suc n) e =
     let at : a ≡ a + 0 = omega arith in

@@ -6,8 +6,8 @@ use Rattle.ffs_volume.specs.declared.Layout.{Layout}
 use Rattle.ffs_volume.specs.declared.Class.{Class}
 use Rattle.ffs_volume.specs.declared.BlockMessage.{BlockMessage}
 use Rattle.ffs_volume.specs.declared.BlockMessage.TheVariants.{GroupMagic, FreeCounts, MapsWrong, GroupSums}
-use Rattle.ffs_volume.specs.Groups.Records.{Summary, right_summary, right_frsum, is_magic}
-use Rattle.ffs_volume.specs.Groups.Records.{is_record, are_places, are_maps, are_sums}
+use Rattle.ffs_volume.specs.Groups.Records.{GroupCounts, right_group_counts, right_frsum, has_right_magic}
+use Rattle.ffs_volume.specs.Groups.Records.{has_right_record, maps_fit, has_right_maps, has_right_sums}
 use Rattle.ffs_volume.specs.Groups.GroupCheck.{unless}
 use Rattle.ffs_layout.specs.declared.group.GroupSummary.{GroupSummary}
 use Rattle.ffs_groups.specs.declared.counts.Counts.{Counts}
@@ -15,7 +15,7 @@ use Rattle.ffs_groups.specs.declared.counts.SummaryCounts.{SummaryCounts}
 use Rattle.ffs_groups.specs.declared.check.Findings.{Findings}
 
 -- the four counts
-abbrev pub counted : SummaryCounts → Summary
+abbrev pub counted : SummaryCounts → GroupCounts
 counted s = record { dirs = s.dirs; blocks = s.blocks; inodes = s.inodes; fragments = s.fragments }
 
 -- the bits of a signed number are those of a count
@@ -34,7 +34,7 @@ same_run found right length = has_bits_of (slice_index_or found length (pos 0)) 
 
 -- the counts of group c are right
 pub record AreCounts (v : Layout) (free : ℕ → Bool) (class : ℕ → Class) (c : ℕ) (counts : Counts) : Type 0 where
-  pub summary : counted counts.summary ≡ right_summary v free class c
+  pub summary : counted counts.summary ≡ right_group_counts v free class c
   pub runs : (k : ℕ) → slice_index counts.runs k ≡ right_frsum v free c k
 
 -- what is reported of a group where such things are found
@@ -51,7 +51,7 @@ pub record HasRecords (v : Layout) (csum cg : List ℕ) : Type 0 where
 -- each finding says whether the records of group c are right: in the summary area, and in its group block
 pub record AreFound (v : Layout) (free : ℕ → Bool) (class : ℕ
     → Class) (c : ℕ) (summary block : List ℕ) (f : Findings) : Type 0 where
-  pub magic : f.magic ≡ is_magic v block
-  pub counts : f.counts ≡ is_record v free class c summary
-  pub maps : f.maps ≡ (are_places v block && are_maps v free class c block)
-  pub sums : f.sums ≡ are_sums v free class c block
+  pub magic : f.magic ≡ has_right_magic v block
+  pub counts : f.counts ≡ has_right_record v free class c summary
+  pub maps : f.maps ≡ (maps_fit v block && has_right_maps v free class c block)
+  pub sums : f.sums ≡ has_right_sums v free class c block

@@ -3,7 +3,7 @@ use Rattle.std.specs.Prelude.{ℕ, ◌≡◌, ◌+◌, ◌*◌, ◌^◌, ◌<◌
 use Rattle.std.specs.Prelude.{nat_lt, ◌==◌, if◌then◌else◌, slice_index, count_by}
 use Rattle.std.specs.List.{range_with_len, sum_by}
 use Rattle.std.specs.Int.{bit_at}
-use Rattle.ffs_volume.specs.Groups.Records.{is_whole, free_runs, block_bits, block_numbers, right_frsum}
+use Rattle.ffs_volume.specs.Groups.Records.{is_free_block, free_stretches, block_bits, block_numbers, right_frsum}
 use Rattle.ffs_volume.specs.declared.Layout.{Layout}
 use Rattle.ffs_volume.specs.Blocks.Claims.{is_set}
 use Rattle.ffs_groups.specs.declared.free.FreeCounts.{FreeCounts}
@@ -18,13 +18,13 @@ word_bits word place n = map (λ k. nat_eq (bit_at word k) 1) (range_with_len pl
 
 -- what a block adds to the free blocks, to the free fragments of other blocks, and to their runs of length k
 abbrev pub whole_in : List Bool → ℕ
-whole_in bits = if is_whole bits then 1 else 0
+whole_in bits = if is_free_block bits then 1 else 0
 
 abbrev pub loose_in : List Bool → ℕ
-loose_in bits = if is_whole bits then 0 else count_by (λ f. f) bits
+loose_in bits = if is_free_block bits then 0 else count_by (λ f. f) bits
 
 abbrev pub runs_in : ℕ → List Bool → ℕ
-runs_in k bits = if is_whole bits then 0 else count_by (λ n. n == k) (free_runs 0 bits)
+runs_in k bits = if is_free_block bits then 0 else count_by (λ n. n == k) (free_stretches 0 bits)
 
 -- each count is below a limit
 pub record AreBelow (limit : ℕ) (counts : FreeCounts) : Type 0 where

@@ -1,7 +1,7 @@
 //! The free blocks and fragments of a cylinder group.
 
 ghost use Rattle.std.specs.Prelude.{◌-◌, ◌*◌, ◌/◌, ◌^◌, ◌≤◌, count_by, ◌==◌};
-ghost use Rattle.ffs_volume.specs.Groups.Records.{free_runs, run_of};
+ghost use Rattle.ffs_volume.specs.Groups.Records.{free_stretches, stretch_of};
 ghost use Rattle.ffs_maps.specs.Bits.{bits_of};
 ghost use Rattle.ffs_groups.specs.Free.{word_bits, whole_in, loose_in, runs_in, AreBelow, HasBlocks, Grown, Added, AreFree, free_in};
 ghost use Rattle.ffs_groups.specs.Inputs.{HasFragments};
@@ -26,7 +26,7 @@ impl FreeCounts {
     fn end_run(&mut self, run: u32)
         requires run { run ≤ 8 }
         requires below { AreBelow (2 ^ 64 - 1) self.old }
-        ensures { Grown 0 0 (λ k. count_by (λ n. n == k) (run_of run)) self.old self.new }
+        ensures { Grown 0 0 (λ k. count_by (λ n. n == k) (stretch_of run)) self.old self.new }
     {
         if run > 0 {
             self.runs[run as usize] += 1;
@@ -38,7 +38,7 @@ impl FreeCounts {
         requires frag { frag ≤ 8 }
         requires below { AreBelow (2 ^ 63) self.old }
         ensures { Grown 0 (count_by (λ f. f) (word_bits bits 0 frag))
-            (λ k. count_by (λ n. n == k) (free_runs 0 (word_bits bits 0 frag))) self.old
+            (λ k. count_by (λ n. n == k) (free_stretches 0 (word_bits bits 0 frag))) self.old
             self.new }
     {
         let mut run = 0;

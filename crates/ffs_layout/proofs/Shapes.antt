@@ -2,7 +2,7 @@
 use Rattle.std.proofs.Common.{◌≡◌, ◌-◌, ◌*◌, ◌^◌, ◌<◌, ◌≤◌, ℕ, true, arith}
 use Rattle.std.proofs.lemmas.Bool.Decides.{nat_tests}
 use Rattle.ffs_volume.specs.declared.Layout.{Layout}
-use Rattle.ffs_volume.specs.Disk.Outcome.{is_block_size, is_fragment_count, are_sizes, are_numbers}
+use Rattle.ffs_volume.specs.Disk.Outcome.{is_block_size, is_fragment_count, has_valid_sizes, has_valid_numbers}
 use Rattle.ffs_volume.proofs.GeometryLaws.{sizes_hold, numbers_hold}
 
 pub block_size_above : (n : ℕ) → is_block_size n ≡ true → 4096 ≤ n
@@ -13,9 +13,9 @@ pub fragment_count_above : (n : ℕ) → is_fragment_count n ≡ true → 1 ≤ 
 unfolding is_fragment_count
 fragment_count_above n e = grind (arith, nat_tests)
 
-pub fragments_above : (v : Layout) → are_sizes v ≡ true → 0 < v.fsize
+pub fragments_above : (v : Layout) → has_valid_sizes v ≡ true → 0 < v.fsize
 fragments_above v e = let sizes = sizes_hold v e in omega arith
 
 -- the base of the last group
-pub bases_below : (v : Layout) → are_numbers v ≡ true → (v.ncg - 1) * v.fpg < 2 ^ 31
+pub bases_below : (v : Layout) → has_valid_numbers v ≡ true → (v.ncg - 1) * v.fpg < 2 ^ 31
 bases_below v e = let numbers = numbers_hold v e in omega arith

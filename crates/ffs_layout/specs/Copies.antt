@@ -6,18 +6,18 @@ use Rattle.ffs_volume.specs.declared.SuperFault.{SuperFault}
 use Rattle.ffs_volume.specs.declared.SuperFault.TheVariants.{CannotRead, Disagree}
 use Rattle.ffs_volume.specs.Disk.Numbers.{piece}
 use Rattle.ffs_volume.specs.Disk.Outcome.{copy_agrees, copy_place}
-use Rattle.ffs_volume.specs.Disk.Superblock.{SBSIZE, DEV_BSIZE, layout_of}
+use Rattle.ffs_volume.specs.Disk.Superblock.{SUPERBLOCK_BYTES, DEV_BSIZE, layout_of}
 
 -- the bytes of the superblock at a place, which lies in the image
 pub record IsCopy (old new : Device) (at : ℕ) (copy : List ℕ) : Type 0 where
   pub same : new ≡ old
-  pub inside : at + SBSIZE ≤ old.size
-  pub bytes : ForContents old.contents (λ b. copy ≡ piece at SBSIZE b)
+  pub inside : at + SUPERBLOCK_BYTES ≤ old.size
+  pub bytes : ForContents old.contents (λ b. copy ≡ piece at SUPERBLOCK_BYTES b)
 
 -- the superblock at a place can't be read: the read fails, or it lies past the end
 pub record IsUnreadCopy (old new : Device) (at : ℕ) (answer : SuperFault) : Type 0 where
   pub fault : answer ≡ CannotRead (at / DEV_BSIZE)
-  pub cause : Faulted old new (at / DEV_BSIZE) ⊎ ((new ≡ old) × (old.size < at + SBSIZE))
+  pub cause : Faulted old new (at / DEV_BSIZE) ⊎ ((new ≡ old) × (old.size < at + SUPERBLOCK_BYTES))
 
 -- the last copy agrees, where it is compared
 pub record CopyAgrees (old new : Device) (sector : Option ℕ) (order : Order) (bytes : List ℕ) : Type 0 where

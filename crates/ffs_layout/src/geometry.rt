@@ -2,8 +2,8 @@
 
 ghost use Rattle.std.specs.Prelude.{MatchResult, ◌≡◌, ◌<◌, ◌≤◌, ◌*◌, ◌+◌};
 ghost use Rattle.ffs_volume.specs.Disk.Outcome.{layout_fault};
-ghost use Rattle.ffs_volume.specs.Disk.Areas.{cgbase, cgdmin, cgsblock, cgstart, group_place, inode_place, is_in_range, is_group_metadata, is_data_fragment, is_reserved, summary_place};
-ghost use Rattle.ffs_volume.specs.Disk.Geometry.{IsGeometry};
+ghost use Rattle.ffs_volume.specs.Disk.Areas.{cgbase, cgdmin, cgsblock, cgstart, group_place, inode_place, is_run_in_range, is_group_metadata, is_fragment_in_range, is_reserved, summary_place};
+ghost use Rattle.ffs_volume.specs.Disk.Geometry.{IsValidLayout};
 ghost use Rattle.ffs_layout.specs.Accepted.{IsAccepted};
 
 use crate::groups::shift_of;
@@ -17,7 +17,7 @@ use ffs_volume::{Layout, Order, SuperFault};
 #[derive(Clone, Copy, Debug)]
 pub struct Geometry {
     pub layout: Layout,
-    pub ghost sound: { IsGeometry layout },
+    pub ghost sound: { IsValidLayout layout },
 }
 
 impl Geometry {
@@ -116,9 +116,9 @@ impl Geometry {
     }
 
     /// Whether the fragment can belong to a file: it is in the volume, and no group keeps it for itself.
-    #[tactic(auto, unfolding(ffs_volume::specs::Disk::Areas::is_data_fragment))]
+    #[tactic(auto, unfolding(ffs_volume::specs::Disk::Areas::is_fragment_in_range))]
     pub fn ok(&self, fragment: u64) -> bool
-        ensures { result ≡ is_data_fragment self.now.layout fragment }
+        ensures { result ≡ is_fragment_in_range self.now.layout fragment }
     {
         fragment < u64::from(self.layout.size) && !self.is_group_metadata(fragment as u32)
     }
@@ -127,7 +127,7 @@ impl Geometry {
     #[tactic(auto, using(ffs_volume::proofs::RunLaws::in_range_is, ffs_volume::proofs::AreaLaws::group_below), unfolding(ffs_volume::specs::Disk::Areas::cgbase))]
     pub fn in_range(&self, start: u32, len: u32) -> bool
         requires { 0 < len }
-        ensures { result ≡ is_in_range self.now.layout start len }
+        ensures { result ≡ is_run_in_range self.now.layout start len }
     {
         let end = u64::from(start) + u64::from(len);
         if end > u64::from(self.layout.size) {

@@ -1,7 +1,7 @@
 //! Where the parts of each group lie.
 
 ghost use Rattle.std.specs.Prelude.{◌≡◌, ◌<◌, ◌-◌, ◌*◌, ◌^◌};
-ghost use Rattle.ffs_volume.specs.Disk.Outcome.{is_group};
+ghost use Rattle.ffs_volume.specs.Disk.Outcome.{has_valid_group};
 ghost use Rattle.ffs_volume.specs.Disk.Areas.{cgoffset_of};
 ghost use Rattle.ffs_volume.specs.Disk.Numbers.{all_below};
 
@@ -15,10 +15,10 @@ pub fn shift_of(v: &Layout, group: u32) -> i64
     i64::from(v.cgoffset) * i64::from(group & !v.cgmask)
 }
 
-#[tactic(auto, unfolding(ffs_volume::specs::Disk::Outcome::is_group, ffs_volume::specs::Disk::Areas::cgstart, ffs_volume::specs::Disk::Areas::cgbase))]
+#[tactic(auto, unfolding(ffs_volume::specs::Disk::Outcome::has_valid_group, ffs_volume::specs::Disk::Areas::cgstart, ffs_volume::specs::Disk::Areas::cgbase))]
 fn group_fits(v: &Layout, group: u32) -> bool
     requires { v.now.fpg * group < 2 ^ 32 }
-    ensures { result ≡ is_group v.now group }
+    ensures { result ≡ has_valid_group v.now group }
 {
     let cgoffset_of = shift_of(v, group);
     if cgoffset_of < 0 {
@@ -32,7 +32,7 @@ fn group_fits(v: &Layout, group: u32) -> bool
 /// Whether the metadata of each group ends within the group and the volume.
 pub fn groups_fit(v: &Layout) -> bool
     requires { (v.now.ncg - 1) * v.now.fpg < 2 ^ 31 }
-    ensures { result ≡ all_below v.now.ncg (is_group v.now) }
+    ensures { result ≡ all_below v.now.ncg (has_valid_group v.now) }
 {
     for group in 0..v.ncg {
         if !group_fits(v, group) {

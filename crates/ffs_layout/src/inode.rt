@@ -2,8 +2,8 @@
 
 ghost use Rattle.std.specs.Prelude.{◌≡◌, ◌≤◌, ◌+◌, ◌*◌, length, map};
 ghost use Rattle.std.specs.List.{range_with_len};
-ghost use Rattle.ffs_volume.specs.Blocks.Inodes.{decoded};
-ghost use Rattle.ffs_volume.specs.Disk.Numbers.{is_the_count, u32_at as u32_in};
+ghost use Rattle.ffs_volume.specs.Blocks.Inodes.{inode_from_bytes};
+ghost use Rattle.ffs_volume.specs.Disk.Numbers.{equals_natural, u32_at as u32_in};
 
 use crate::numbers::{i16_at, i32_at, u16_at, u32_at, u64_at};
 use ffs_volume::{Inode, Order};
@@ -16,7 +16,7 @@ use ffs_volume::{Inode, Order};
 #[inline(always)]
 pub fn decode_inode(order: Order, bytes: &[u8]) -> Inode
     requires { 128 ≤ length bytes.now }
-    ensures { result ≡ decoded order bytes.now }
+    ensures { result ≡ inode_from_bytes order bytes.now }
 {
     // The order is asked for once, and not for each number.
     match order {
@@ -27,10 +27,10 @@ pub fn decode_inode(order: Order, bytes: &[u8]) -> Inode
 
 // The numbers of an inode.
 #[inline(always)]
-#[tactic(auto, unfolding(ffs_volume::specs::Blocks::Inodes::decoded))]
+#[tactic(auto, unfolding(ffs_volume::specs::Blocks::Inodes::inode_from_bytes))]
 fn fields_of(order: Order, bytes: &[u8]) -> Inode
     requires { 128 ≤ length bytes.now }
-    ensures { result ≡ decoded order bytes.now }
+    ensures { result ≡ inode_from_bytes order bytes.now }
 {
     Inode {
         mode: u16_at(order, 0, bytes),
@@ -44,10 +44,10 @@ fn fields_of(order: Order, bytes: &[u8]) -> Inode
 }
 
 /// Whether the inode in the first 128 bytes has this link count (fs(5), `struct dinode`).
-#[tactic(auto, unfolding(ffs_volume::specs::Blocks::Inodes::decoded))]
+#[tactic(auto, unfolding(ffs_volume::specs::Blocks::Inodes::inode_from_bytes))]
 pub fn has_links(order: Order, bytes: &[u8], links: u64) -> bool
     requires { 128 ≤ length bytes.now }
-    ensures { result ≡ is_the_count (decoded order bytes.now).nlink links }
+    ensures { result ≡ equals_natural (inode_from_bytes order bytes.now).nlink links }
 {
     let nlink = i16_at(order, 2, bytes);
     if nlink < 0 {

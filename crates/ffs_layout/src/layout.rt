@@ -4,11 +4,11 @@ ghost use Rattle.std.specs.Prelude.{◌≡◌};
 ghost use Rattle.ffs_volume.specs.Disk.Superblock.{layout_of};
 
 use crate::numbers::{count_at, i32_at, u32_at};
-use ffs_volume::constants::SBSIZE;
+use ffs_volume::constants::SUPERBLOCK_BYTES;
 use ffs_volume::{Layout, Order};
 
 #[tactic(auto, unfolding(ffs_volume::specs::Disk::Superblock::layout_of))]
-pub fn decode(order: Order, bytes: &[u8; SBSIZE]) -> Layout
+pub fn decode(order: Order, bytes: &[u8; SUPERBLOCK_BYTES]) -> Layout
     ensures { result ≡ layout_of order bytes.now }
 {
     Layout {

@@ -1,10 +1,10 @@
 //! The rules that a layout has to meet.
 
 ghost use Rattle.std.specs.Prelude.{◌≡◌, ◌<◌};
-ghost use Rattle.ffs_volume.specs.Disk.Outcome.{are_cylinders, are_numbers, are_parts, are_sizes, is_block_size, is_fragment_count, is_fragment_size, is_shaped, is_summary_area, layout_fault};
+ghost use Rattle.ffs_volume.specs.Disk.Outcome.{has_valid_cylinders, has_valid_numbers, has_valid_parts, has_valid_sizes, is_block_size, is_fragment_count, is_fragment_size, is_valid_layout, has_valid_summary_area, layout_fault};
 
 use crate::groups::groups_fit;
-use ffs_volume::constants::{DINODE_SIZE, SBSIZE};
+use ffs_volume::constants::{DINODE_SIZE, SUPERBLOCK_BYTES};
 use ffs_volume::{Layout, SuperFault};
 
 #[tactic(auto, unfolding(ffs_volume::specs::Disk::Outcome::is_block_size))]
@@ -28,9 +28,9 @@ fn can_be_fragment_count(n: u32) -> bool
     matches!(n, 1 | 2 | 4 | 8)
 }
 
-#[tactic(auto, using(crate::proofs::Shapes::block_size_above, crate::proofs::Shapes::fragment_count_above), unfolding(ffs_volume::specs::Disk::Outcome::are_sizes))]
+#[tactic(auto, using(crate::proofs::Shapes::block_size_above, crate::proofs::Shapes::fragment_count_above), unfolding(ffs_volume::specs::Disk::Outcome::has_valid_sizes))]
 fn has_sizes(v: &Layout) -> bool
-    ensures { result ≡ are_sizes v.now }
+    ensures { result ≡ has_valid_sizes v.now }
 {
     can_be_block_size(v.bsize)
         && can_be_fragment_size(v.fsize)
@@ -44,9 +44,9 @@ fn has_sizes(v: &Layout) -> bool
         && v.fpg % v.frag == 0
 }
 
-#[tactic(auto, unfolding(ffs_volume::specs::Disk::Outcome::are_numbers))]
+#[tactic(auto, unfolding(ffs_volume::specs::Disk::Outcome::has_valid_numbers))]
 fn has_numbers(v: &Layout) -> bool
-    ensures { result ≡ are_numbers v.now }
+    ensures { result ≡ has_valid_numbers v.now }
 {
     let ncg = u64::from(v.ncg);
     let fpg = u64::from(v.fpg);
@@ -54,17 +54,17 @@ fn has_numbers(v: &Layout) -> bool
     v.dsize >= 1
         && v.maxsymlinklen <= 60
         && v.postblformat == 1
-        && v.sbsize >= SBSIZE as u32
+        && v.sbsize >= SUPERBLOCK_BYTES as u32
         && ncg.saturating_sub(1) * fpg < size
         && size <= ncg * fpg
         && size < 1 << 31
         && ncg * u64::from(v.ipg) < 1 << 31
 }
 
-#[tactic(auto, unfolding(ffs_volume::specs::Disk::Outcome::are_parts))]
+#[tactic(auto, unfolding(ffs_volume::specs::Disk::Outcome::has_valid_parts))]
 fn has_parts(v: &Layout) -> bool
     requires { 0 < v.now.fsize }
-    ensures { result ≡ are_parts v.now }
+    ensures { result ≡ has_valid_parts v.now }
 {
     let fsize = u64::from(v.fsize);
     let sblkno = u64::from(v.sblkno);
@@ -78,10 +78,10 @@ fn has_parts(v: &Layout) -> bool
         && v.cgsize <= v.bsize
 }
 
-#[tactic(auto, using(crate::proofs::Starts::data_start), unfolding(ffs_volume::specs::Disk::Outcome::is_summary_area, ffs_volume::specs::Disk::Areas::cgbase))]
+#[tactic(auto, using(crate::proofs::Starts::data_start), unfolding(ffs_volume::specs::Disk::Outcome::has_valid_summary_area, ffs_volume::specs::Disk::Areas::cgbase))]
 fn has_summary(v: &Layout) -> bool
     requires { 0 < v.now.fsize }
-    ensures { result ≡ is_summary_area v.now }
+    ensures { result ≡ has_valid_summary_area v.now }
 {
     let end = u64::from(v.csaddr) + u64::from(v.cssize).div_ceil(u64::from(v.fsize));
     v.csaddr == v.dblkno
@@ -89,9 +89,9 @@ fn has_summary(v: &Layout) -> bool
         && end <= u64::from(v.fpg.min(v.size))
 }
 
-#[tactic(auto, using(crate::proofs::Shapes::fragments_above, crate::proofs::Shapes::bases_below), unfolding(ffs_volume::specs::Disk::Outcome::is_shaped))]
+#[tactic(auto, using(crate::proofs::Shapes::fragments_above, crate::proofs::Shapes::bases_below), unfolding(ffs_volume::specs::Disk::Outcome::is_valid_layout))]
 fn has_shape(v: &Layout) -> bool
-    ensures { result ≡ is_shaped v.now }
+    ensures { result ≡ is_valid_layout v.now }
 {
     // The summary area bounds the number of groups by the size of one.
     has_sizes(v) && has_numbers(v) && has_parts(v) && has_summary(v) && groups_fit(v)
@@ -126,9 +126,9 @@ pub fn fault_of(v: &Layout, image_size: u64) -> Option<SuperFault>
     None
 }
 
-#[tactic(auto, unfolding(ffs_volume::specs::Disk::Outcome::are_cylinders))]
+#[tactic(auto, unfolding(ffs_volume::specs::Disk::Outcome::has_valid_cylinders))]
 fn has_cylinders(v: &Layout) -> bool
-    ensures { result ≡ are_cylinders v.now }
+    ensures { result ≡ has_valid_cylinders v.now }
 {
     let ncg = u64::from(v.ncg);
     let cpg = u64::from(v.cpg);

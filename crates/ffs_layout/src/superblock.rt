@@ -13,14 +13,14 @@ use crate::geometry::Geometry;
 use crate::layout::decode;
 use crate::numbers::{i32_at, u32_at};
 use ffs_image::Image;
-use ffs_volume::constants::{DEV_BSIZE, FS_MAGIC, MAXMNTLEN, SBSIZE};
+use ffs_volume::constants::{DEV_BSIZE, FS_MAGIC, MAXMNTLEN, SUPERBLOCK_BYTES};
 use ffs_volume::{LAYOUT_PLACES, Order, SuperFault};
 
 const PRIMARY_SECTOR: u32 = 16;
 
 // The order in which the magic number reads right.
 #[tactic(auto, unfolding(ffs_volume::specs::Disk::Superblock::order_of))]
-fn order_of_magic(bytes: &[u8; SBSIZE]) -> Option<Order>
+fn order_of_magic(bytes: &[u8; SUPERBLOCK_BYTES]) -> Option<Order>
     ensures { result ≡ order_of bytes.now }
 {
     if u32_at(Order::Little, 1372, bytes) == FS_MAGIC {
@@ -33,7 +33,12 @@ fn order_of_magic(bytes: &[u8; SBSIZE]) -> Option<Order>
 }
 
 // Whether the two agree in the numbers at these places.
-fn agree_at(order: Order, places: &[u16], bytes: &[u8; SBSIZE], copy: &[u8; SBSIZE]) -> bool
+fn agree_at(
+    order: Order,
+    places: &[u16],
+    bytes: &[u8; SUPERBLOCK_BYTES],
+    copy: &[u8; SUPERBLOCK_BYTES],
+) -> bool
     requires { IsTrue (list_all (λ place. nat_le (place + 4) 1376) places.now) }
     ensures { result ≡ list_all (λ place. u32_at order place bytes.now == u32_at order place
         copy.now) places.now }
@@ -49,19 +54,27 @@ fn agree_at(order: Order, places: &[u16], bytes: &[u8; SBSIZE], copy: &[u8; SBSI
 
 // Whether the copy agrees in each number of the layout.
 #[tactic(auto, unfolding(ffs_volume::specs::Disk::Outcome::agree))]
-fn layouts_agree(order: Order, bytes: &[u8; SBSIZE], copy: &[u8; SBSIZE]) -> bool
+fn layouts_agree(
+    order: Order,
+    bytes: &[u8; SUPERBLOCK_BYTES],
+    copy: &[u8; SUPERBLOCK_BYTES],
+) -> bool
     ensures { result ≡ agree order bytes.now copy.now }
 {
     agree_at(order, &LAYOUT_PLACES, bytes, copy)
 }
 
 // Reads a superblock.
-fn read_copy<I: Image>(image: &mut I, at: u64, out: &mut [u8; SBSIZE]) -> Result<(), SuperFault>
+fn read_copy<I: Image>(
+    image: &mut I,
+    at: u64,
+    out: &mut [u8; SUPERBLOCK_BYTES],
+) -> Result<(), SuperFault>
     requires { at < 2 ^ 63 }
     ensures { MatchResult result (λ _. IsCopy (I.device image.old) (I.device image.new) at out.new)
         (IsUnreadCopy (I.device image.old) (I.device image.new) at) }
 {
-    if image.size() < at + SBSIZE as u64 {
+    if image.size() < at + SUPERBLOCK_BYTES as u64 {
         return Err(SuperFault::CannotRead {
             sector: at / DEV_BSIZE,
         });
@@ -116,7 +129,7 @@ impl Super {
 
 // The superblock in the bytes, whose layout is accepted.
 #[tactic(auto, unfolding(ffs_volume::specs::Disk::Superblock::superblock_of))]
-fn make_super(order: Order, bytes: &[u8; SBSIZE], geometry: Geometry) -> Super
+fn make_super(order: Order, bytes: &[u8; SUPERBLOCK_BYTES], geometry: Geometry) -> Super
     requires { geometry.layout ≡ layout_of order bytes.now }
     ensures { seen result ≡ superblock_of order bytes.now }
 {
@@ -142,7 +155,7 @@ fn check_copy<I: Image>(
     image: &mut I,
     sector: Option<u32>,
     order: Order,
-    bytes: &[u8; SBSIZE],
+    bytes: &[u8; SUPERBLOCK_BYTES],
     geometry: &Geometry,
 ) -> Result<(), SuperFault>
     requires { IsAccepted (layout_of order bytes.now) (I.device image.old).size
@@ -156,7 +169,7 @@ fn check_copy<I: Image>(
     }
     let group = geometry.layout.ncg - 1;
     let at = u64::from(geometry.cgsblock(group)) * u64::from(geometry.layout.fsize);
-    let mut copy = [0; SBSIZE];
+    let mut copy = [0; SUPERBLOCK_BYTES];
     read_copy(image, at, &mut copy)?;
     if layouts_agree(order, bytes, &copy) {
         Ok(())
@@ -185,7 +198,7 @@ pub fn read_super<I: Image>(image: &mut I, sector: Option<u32>) -> Result<Super,
     ensures answer { Answers (I.device image.old) (I.device image.new) sector (found_of result) }
 {
     let start = u64::from(first_sector(sector)) * DEV_BSIZE;
-    let mut bytes = [0; SBSIZE];
+    let mut bytes = [0; SUPERBLOCK_BYTES];
     read_copy(image, start, &mut bytes)?;
     let Some(order) = order_of_magic(&bytes) else {
         return Err(SuperFault::Magic);

@@ -4,7 +4,7 @@ use Rattle.std.specs.Prelude.{if◌then◌else◌}
 use Rattle.ffs_volume.specs.declared.Layout.{Layout}
 use Rattle.ffs_volume.specs.declared.Step.{Step}
 use Rattle.ffs_volume.specs.declared.Step.TheVariants.{Run, Tail, Gap}
-use Rattle.ffs_volume.specs.Disk.Areas.{is_in_range}
+use Rattle.ffs_volume.specs.Disk.Areas.{is_run_in_range}
 use Rattle.ffs_volume.specs.Blocks.Steps.{steps_at, steps_of_addresses}
 use Rattle.ffs_volume.specs.Directories.Entries.{Chunk, chunks_of}
 use Rattle.ffs_volume.specs.Encodings.Replay.{Replay, is_replay_open, replayed_steps}
@@ -20,7 +20,7 @@ use Rattle.ffs_names.proofs.RoledEntry.{no_run_cursor}
 
 -- the chunks of steps, of a layout and a replay
 abbrev pub following : Layout → List ℕ → ℕ → ℕ → Replay → List Step → List Chunk
-following v b taken cut r steps = chunks_of (reading_by v b taken) (is_in_range v) (replayed_steps v cut r steps)
+following v b taken cut r steps = chunks_of (reading_by v b taken) (is_run_in_range v) (replayed_steps v cut r steps)
 
 -- a walk that is over has no steps left
 pub over_rest : (b : List ℕ) (w : Walk) → IsOver w → steps_left b w ≡ []
@@ -39,14 +39,14 @@ over_rest b w o =
 pub tail_behind : (v : Layout) (b : List ℕ) (taken cut : ℕ) (r : Replay) (steps : List Step) → following v b taken cut r (Tail ∷ steps) ≡ following v b taken cut r steps
 tail_behind v b taken cut r steps = one (is_replay_open cut r)
   where
-    one : (x : Bool) → chunks_of (reading_by v b taken) (is_in_range v) ((if x then Tail ∷ [] else []) ++ replayed_steps v cut r steps) ≡ following v b taken cut r steps
+    one : (x : Bool) → chunks_of (reading_by v b taken) (is_run_in_range v) ((if x then Tail ∷ [] else []) ++ replayed_steps v cut r steps) ≡ following v b taken cut r steps
     one true = refl
     one false = refl
 
 pub gap_behind : (v : Layout) (b : List ℕ) (taken cut : ℕ) (r : Replay) (steps : List Step) → following v b taken cut r (Gap ∷ steps) ≡ following v b taken cut r steps
 gap_behind v b taken cut r steps = one (is_replay_open cut r)
   where
-    one : (x : Bool) → chunks_of (reading_by v b taken) (is_in_range v) ((if x then Gap ∷ [] else []) ++ replayed_steps v cut r steps) ≡ following v b taken cut r steps
+    one : (x : Bool) → chunks_of (reading_by v b taken) (is_run_in_range v) ((if x then Gap ∷ [] else []) ++ replayed_steps v cut r steps) ≡ following v b taken cut r steps
     one true = refl
     one false = refl
 

@@ -6,12 +6,12 @@ use Rattle.ffs_volume.specs.declared.Layout.{Layout}
 use Rattle.ffs_volume.specs.declared.Inode.{Inode}
 use Rattle.ffs_volume.specs.declared.Step.{Step}
 use Rattle.ffs_volume.specs.declared.Step.TheVariants.{Run, Tail, Gap}
-use Rattle.ffs_volume.specs.Disk.Areas.{is_in_range}
-use Rattle.ffs_volume.specs.Disk.Geometry.{IsGeometry}
+use Rattle.ffs_volume.specs.Disk.Areas.{is_run_in_range}
+use Rattle.ffs_volume.specs.Disk.Geometry.{IsValidLayout}
 use Rattle.ffs_volume.specs.Blocks.Steps.{steps_of}
 use Rattle.ffs_volume.proofs.StepLaws.{Within, within_lower, steps_within}
 use Rattle.ffs_volume.proofs.ChunkLaws.{chunks_few}
-use Rattle.ffs_volume.specs.Directories.Entries.{Chunk, chunks_of, has_gap, size_taken}
+use Rattle.ffs_volume.specs.Directories.Entries.{Chunk, chunks_of, has_gap, bytes_read}
 use Rattle.ffs_volume.specs.Encodings.Replay.{Replay, fresh_replay, is_replayed, replay_step, replayed_steps}
 use Rattle.ffs_volume.specs.Encodings.ReplayCounts.{replayed_runs}
 use Rattle.ffs_names.specs.RunCursors.{reading_by}
@@ -50,25 +50,28 @@ all_taken zero (x ∷ xs) h = absurd (omega arith)
 all_taken (suc n) [] h = refl
 all_taken (suc n) (x ∷ xs) h = ap (λ ys. x ∷ ys) (all_taken n xs (omega arith))
 
-pub begun : (v v' : Layout) (i : Inode) (b : List ℕ) (cut cut' : ℕ) (r : Replay) (taken : ℕ) (run_cursor : List Chunk) (steps : List Step) → IsGeometry v
-    → v' ≡ v → cut' ≡ cut → r ≡ fresh_replay → taken ≡ size_taken i.size → run_cursor ≡ [] → steps ≡ steps_of v i b
-    → take (taken / 512) (run_cursor ++ chunks_of (reading_by v' b taken) (is_in_range v') (replayed_steps v' cut' r steps))
-    ≡ chunks_of (reading_by v b (size_taken i.size)) (is_in_range v) (replayed_steps v cut fresh_replay (steps_of v i b))
+pub begun : (v v' : Layout) (i : Inode) (b : List ℕ) (cut cut' : ℕ) (r : Replay) (taken : ℕ) (run_cursor : List Chunk) (steps : List Step) → IsValidLayout v
+    → v' ≡ v → cut' ≡ cut → r ≡ fresh_replay → taken ≡ bytes_read i.size → run_cursor ≡ [] → steps ≡ steps_of v i b
+    → take (taken / 512) (run_cursor ++ chunks_of (reading_by v' b taken) (is_run_in_range v') (replayed_steps v' cut' r steps))
+    ≡ chunks_of (reading_by v b (bytes_read i.size)) (is_run_in_range v) (replayed_steps v cut fresh_replay (steps_of v i b))
 begun v v' i b cut cut' r taken run_cursor steps g e c f t h s =
-    ap (λ x. take (taken / 512) (x ++ chunks_of (reading_by v' b taken) (is_in_range v') (replayed_steps v' cut' r steps))) h
-    ∙ (ap (λ x. take (taken / 512) (chunks_of (reading_by x b taken) (is_in_range x) (replayed_steps x cut' r steps))) e
-    ∙ (ap (λ x. take (taken / 512) (chunks_of (reading_by v b taken) (is_in_range v) (replayed_steps v x r steps))) c
-    ∙ (ap (λ x. take (taken / 512) (chunks_of (reading_by v b taken) (is_in_range v) (replayed_steps v cut x steps))) f
-    ∙ (ap (λ x. take (taken / 512) (chunks_of (reading_by v b taken) (is_in_range v) (replayed_steps v cut fresh_replay x))) s
-    ∙ (ap (λ x. take (x / 512) (chunks_of (reading_by v b x) (is_in_range v) (replayed_steps v cut fresh_replay (steps_of v i b)))) t
-    ∙ all_taken (size_taken i.size / 512) (chunks_of (reading_by v b (size_taken i.size)) (is_in_range v) (replayed_steps v cut fresh_replay (steps_of v i b))) few)))))
+    ap (λ x. take (taken / 512) (x ++ chunks_of (reading_by v' b taken) (is_run_in_range v') (replayed_steps v' cut' r steps))) h
+    ∙ (ap (λ x. take (taken / 512) (chunks_of (reading_by x b taken) (is_run_in_range x)
+    (replayed_steps x cut' r steps))) e
+    ∙ (ap (λ x. take (taken / 512) (chunks_of (reading_by v b taken) (is_run_in_range v)
+    (replayed_steps v x r steps))) c
+    ∙ (ap (λ x. take (taken / 512) (chunks_of (reading_by v b taken) (is_run_in_range v)
+    (replayed_steps v cut x steps))) f
+    ∙ (ap (λ x. take (taken / 512) (chunks_of (reading_by v b taken) (is_run_in_range v) (replayed_steps v cut fresh_replay x))) s
+    ∙ (ap (λ x. take (x / 512) (chunks_of (reading_by v b x) (is_run_in_range v) (replayed_steps v cut fresh_replay (steps_of v i b)))) t
+    ∙ all_taken (bytes_read i.size / 512) (chunks_of (reading_by v b (bytes_read i.size)) (is_run_in_range v) (replayed_steps v cut fresh_replay (steps_of v i b))) few)))))
   where
-    few : length (chunks_of (reading_by v b (size_taken i.size)) (is_in_range v) (replayed_steps v cut fresh_replay (steps_of v i b))) ≤ size_taken i.size / 512
+    few : length (chunks_of (reading_by v b (bytes_read i.size)) (is_run_in_range v) (replayed_steps v cut fresh_replay (steps_of v i b))) ≤ bytes_read i.size / 512
     few =
         let w = steps_within v i b g in
         let k = within_replayed v cut fresh_replay v.frag 0 w.0 (steps_of v i b) w.1 in
-        let n = chunks_few (reading_by v b (size_taken i.size)) (is_in_range v) v.frag 0 w.0 (replayed_steps v cut fresh_replay (steps_of v i b)) (omega (arith, g.sizes.block)) k in
-        le-div (length (chunks_of (reading_by v b (size_taken i.size)) (is_in_range v) (replayed_steps v cut fresh_replay (steps_of v i b)))) (size_taken i.size) 512 (omega arith) (omega arith)
+        let n = chunks_few (reading_by v b (bytes_read i.size)) (is_run_in_range v) v.frag 0 w.0 (replayed_steps v cut fresh_replay (steps_of v i b)) (omega (arith, g.sizes.block)) k in
+        le-div (length (chunks_of (reading_by v b (bytes_read i.size)) (is_run_in_range v) (replayed_steps v cut fresh_replay (steps_of v i b)))) (bytes_read i.size) 512 (omega arith) (omega arith)
 
 pub runs_begun : (v v' : Layout) (cut cut' : ℕ) (r : Replay) (steps all : List Step) → v' ≡ v → cut' ≡ cut → r ≡ fresh_replay → steps ≡ all
     → replayed_runs v' cut' r steps ≡ replayed_runs v cut fresh_replay all

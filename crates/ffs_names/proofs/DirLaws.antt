@@ -8,13 +8,13 @@ use Rattle.ffs_volume.specs.declared.Layout.{Layout}
 use Rattle.ffs_volume.specs.declared.Inode.{Inode}
 use Rattle.ffs_volume.specs.declared.Class.{Class}
 use Rattle.ffs_volume.specs.declared.Class.TheVariants.{Free, Partial, Unknown, File, Dir}
-use Rattle.ffs_volume.specs.Disk.Areas.{is_in_range}
-use Rattle.ffs_volume.specs.Disk.Geometry.{IsGeometry}
+use Rattle.ffs_volume.specs.Disk.Areas.{is_run_in_range}
+use Rattle.ffs_volume.specs.Disk.Geometry.{IsValidLayout}
 use Rattle.ffs_volume.specs.Blocks.Inodes.{inode_of, class_of, type_of, is_known_type, is_any_set, is_too_large, addresses_used, is_directory}
 use Rattle.ffs_volume.specs.Blocks.Steps.{steps_of}
-use Rattle.ffs_volume.specs.Directories.Entries.{chunks_of, has_gap, size_taken}
+use Rattle.ffs_volume.specs.Directories.Entries.{chunks_of, has_gap, bytes_read}
 use Rattle.ffs_volume.specs.Directories.Roles.{is_dir, roled_chunk, roled_entries}
-use Rattle.ffs_volume.specs.Directories.Volumes.{is_inode_number, volume_of, volume_with, reading_of}
+use Rattle.ffs_volume.specs.Directories.Volumes.{is_inode_number, volume_of, volume_with, chunk_source_of}
 use Rattle.ffs_volume.specs.Encodings.Replay.{cut_at, fresh_replay, replayed_steps}
 use Rattle.ffs_volume.proofs.CutLaws.{replay_at}
 use Rattle.ffs_volume.specs.Encodings.Kinds.{kind_at}
@@ -64,13 +64,13 @@ unfolding volume_of volume_with
 dir_is v b d h = dir_number (is_inode_number v d) (class_of v (inode_of v b d)) h
 
 -- the entries of a directory
-pub dir_seen : (v : Layout) (b : List ℕ) (d : ℕ) (i : Inode) (cut : ℕ) → IsGeometry v → is_inode_number v d ≡ true → i ≡ inode_of v b d → cut ≡ cut_at v b d
-    → flat_map roled_chunk (chunks_of (reading_by v b (size_taken i.size)) (is_in_range v) (replayed_steps v cut fresh_replay (steps_of v i b))) ≡ roled_entries (volume_of v b) d
-unfolding volume_of volume_with reading_of roled_entries
+pub dir_seen : (v : Layout) (b : List ℕ) (d : ℕ) (i : Inode) (cut : ℕ) → IsValidLayout v → is_inode_number v d ≡ true → i ≡ inode_of v b d → cut ≡ cut_at v b d
+    → flat_map roled_chunk (chunks_of (reading_by v b (bytes_read i.size)) (is_run_in_range v) (replayed_steps v cut fresh_replay (steps_of v i b))) ≡ roled_entries (volume_of v b) d
+unfolding volume_of volume_with chunk_source_of roled_entries
 dir_seen v b d i cut g n e c =
-    ap (λ (x : Inode). flat_map roled_chunk (chunks_of (reading_by v b (size_taken x.size)) (is_in_range v) (replayed_steps v cut fresh_replay (steps_of v x b)))) e
-    ∙ (ap (λ x. flat_map roled_chunk (chunks_of (reading_by v b (size_taken (inode_of v b d).size)) (is_in_range v) (replayed_steps v x fresh_replay (steps_of v (inode_of v b d) b)))) c
-    ∙ ap (λ xs. flat_map roled_chunk (chunks_of (reading_by v b (size_taken (inode_of v b d).size)) (is_in_range v) xs)) (replay_at v b d g n))
+    ap (λ (x : Inode). flat_map roled_chunk (chunks_of (reading_by v b (bytes_read x.size)) (is_run_in_range v) (replayed_steps v cut fresh_replay (steps_of v x b)))) e
+    ∙ (ap (λ x. flat_map roled_chunk (chunks_of (reading_by v b (bytes_read (inode_of v b d).size)) (is_run_in_range v) (replayed_steps v x fresh_replay (steps_of v (inode_of v b d) b)))) c
+    ∙ ap (λ xs. flat_map roled_chunk (chunks_of (reading_by v b (bytes_read (inode_of v b d).size)) (is_run_in_range v) xs)) (replay_at v b d g n))
 
 -- kinds say which inodes are directories
 pub kind_dirs : (v : Layout) (b kinds : List ℕ) (x : ℕ) → slice_index kinds x ≡ kind_at v b x → dir_at kinds x ≡ is_dir (volume_of v b) x
@@ -78,14 +78,14 @@ unfolding kind_at
 kind_dirs v b kinds x h = dirs_of_kinds v b kinds x h
 
 -- the shape of a directory
-pub shape_seen : (v : Layout) (b : List ℕ) (d : ℕ) (i : Inode) (cut : ℕ) → IsGeometry v → is_inode_number v d ≡ true → i ≡ inode_of v b d → cut ≡ cut_at v b d
-    → (is_right_size i.size && (are_sound (chunks_of (reading_by v b (size_taken i.size)) (is_in_range v) (replayed_steps v cut fresh_replay (steps_of v i b)))
+pub shape_seen : (v : Layout) (b : List ℕ) (d : ℕ) (i : Inode) (cut : ℕ) → IsValidLayout v → is_inode_number v d ≡ true → i ≡ inode_of v b d → cut ≡ cut_at v b d
+    → (is_right_size i.size && (are_sound (chunks_of (reading_by v b (bytes_read i.size)) (is_run_in_range v) (replayed_steps v cut fresh_replay (steps_of v i b)))
     && not (has_gap (replayed_steps v cut fresh_replay (steps_of v i b))))) ≡ is_right_shape (volume_of v b) d
-unfolding volume_of volume_with reading_of
+unfolding volume_of volume_with chunk_source_of
 shape_seen v b d i cut g n e c =
     ap (λ (x : Inode). by x (replayed_steps v cut fresh_replay (steps_of v x b))) e
     ∙ (ap (λ x. by (inode_of v b d) (replayed_steps v x fresh_replay (steps_of v (inode_of v b d) b))) c
     ∙ ap (by (inode_of v b d)) (replay_at v b d g n))
   where
     by : Inode → List Step → Bool
-    by x steps = is_right_size x.size && (are_sound (chunks_of (reading_by v b (size_taken x.size)) (is_in_range v) steps) && not (has_gap steps))
+    by x steps = is_right_size x.size && (are_sound (chunks_of (reading_by v b (bytes_read x.size)) (is_run_in_range v) steps) && not (has_gap steps))

@@ -6,7 +6,7 @@ use Rattle.ffs_volume.specs.declared.Step.{Step}
 use Rattle.ffs_volume.specs.declared.Step.TheVariants.{Run, Tail, Gap}
 use Rattle.ffs_volume.specs.Directories.Entries.{has_gap}
 use Rattle.ffs_volume.specs.Encodings.Replay.{Replay, is_replay_open, is_replayed, replay_step, replayed_steps}
-use Rattle.ffs_volume.specs.Encodings.ReplayCounts.{counted_step}
+use Rattle.ffs_volume.specs.Encodings.ReplayCounts.{replay_step_by_cut}
 use Rattle.ffs_volume.proofs.ReplayLaws.{counted_same}
 use Rattle.ffs_walk.specs.declared.walk.Walk.{Walk}
 use Rattle.ffs_walk.specs.Rests.{rest as steps_left}
@@ -24,7 +24,8 @@ gap_tail v cut r steps = one (is_replay_open cut r)
     one false = refl
 
 gap_run : (v : Layout) (cut : ℕ) (r : Replay) (start len : ℕ) (block : Option ℕ) (steps : List Step) →
-    kept_gap v cut r (Run start len block ∷ steps) ≡ kept_gap v cut (counted_step v cut r (Run start len block)) steps
+    kept_gap v cut r (Run start len block ∷ steps)
+    ≡ kept_gap v cut (replay_step_by_cut v cut r (Run start len block)) steps
 gap_run v cut r start len block steps =
     one (is_replayed v cut r (Run start len block)) ∙ ap has_gap (counted_same v 0 cut r (Run start len block) steps).steps_are
   where
@@ -61,7 +62,7 @@ pub gap_to_run : (v v' : Layout) (cut : ℕ) (r : Replay) (gap : Bool) (start le
 gap_to_run v v' cut r gap start len block old new e o = gap_same v v' cut r gap old (Run start len block ∷ new) e o
 
 -- a Run is seen
-pub gap_past_run : (v : Layout) (cut cut' : ℕ) (r q : Replay) (steps : List Step) (start len : ℕ) (block : Option ℕ) (gap : Bool) → q ≡ counted_step v cut r (Run start len block) → cut' ≡ cut →
+pub gap_past_run : (v : Layout) (cut cut' : ℕ) (r q : Replay) (steps : List Step) (start len : ℕ) (block : Option ℕ) (gap : Bool) → q ≡ replay_step_by_cut v cut r (Run start len block) → cut' ≡ cut →
     (gap || kept_gap v cut' q steps) ≡ (gap || kept_gap v cut r (Run start len block ∷ steps))
 gap_past_run v cut cut' r q steps start len block gap n c =
     ap (λ x. gap || kept_gap v x q steps) c ∙ (ap (λ x. gap || kept_gap v cut x steps) n ∙ ap (λ x. gap || x) (sym (gap_run v cut r start len block steps)))

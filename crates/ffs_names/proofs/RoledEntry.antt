@@ -6,10 +6,10 @@ use Rattle.ffs_volume.specs.declared.Layout.{Layout}
 use Rattle.ffs_volume.specs.declared.Step.{Step}
 use Rattle.ffs_volume.specs.declared.Step.TheVariants.{Run}
 use Rattle.ffs_volume.specs.Disk.Numbers.{piece}
-use Rattle.ffs_volume.specs.Disk.Areas.{is_in_range}
+use Rattle.ffs_volume.specs.Disk.Areas.{is_run_in_range}
 use Rattle.ffs_volume.specs.Directories.Entries.{Chunk, chunk_of, run_chunks, step_chunks, chunks_of}
 use Rattle.ffs_volume.specs.Encodings.Replay.{Replay, is_replay_open, is_replayed, replay_step, replayed_steps}
-use Rattle.ffs_volume.specs.Encodings.ReplayCounts.{counted_step, replayed_runs, seen_run}
+use Rattle.ffs_volume.specs.Encodings.ReplayCounts.{replay_step_by_cut, replayed_runs, seen_run}
 use Rattle.ffs_volume.proofs.ReplayLaws.{counted_same}
 use Rattle.ffs_names.specs.declared.run_cursor.RunCursor.{RunCursor}
 use Rattle.ffs_names.specs.RunCursors.{hand_chunks, reading_by}
@@ -21,10 +21,11 @@ no_run_cursor v b h e =
     ap (λ n. map (λ k. chunk_of v.order (h.offset + 512 * k) (piece (h.place + 512 * k) 512 b)) (range_with_len h.next n)) z
 
 pub run_seen : (v : Layout) (b : List ℕ) (taken cut cut' : ℕ) (r q : Replay) (steps : List Step) (start len : ℕ) (block : Option ℕ) (kept : Bool) (found : List Chunk)
-    → kept ≡ is_replayed v cut r (Run start len block) → q ≡ counted_step v cut r (Run start len block) → cut' ≡ cut
-    → found ≡ (if kept then step_chunks (reading_by v b taken) (is_in_range v) (Run start len block) else [])
-    → found ++ chunks_of (reading_by v b taken) (is_in_range v) (replayed_steps v cut' q steps)
-    ≡ chunks_of (reading_by v b taken) (is_in_range v) (replayed_steps v cut r (Run start len block ∷ steps))
+    → kept ≡ is_replayed v cut r (Run start len block) → q ≡ replay_step_by_cut v cut r (Run start len block) → cut'
+    ≡ cut
+    → found ≡ (if kept then step_chunks (reading_by v b taken) (is_run_in_range v) (Run start len block) else [])
+    → found ++ chunks_of (reading_by v b taken) (is_run_in_range v) (replayed_steps v cut' q steps)
+    ≡ chunks_of (reading_by v b taken) (is_run_in_range v) (replayed_steps v cut r (Run start len block ∷ steps))
 run_seen v b taken cut cut' r q steps start len block kept found k n c f =
     ap (λ x. x ++ chunks (replayed_steps v cut' q steps)) f
     ∙ (ap (λ x. part kept ++ chunks (replayed_steps v x q steps)) c
@@ -33,10 +34,10 @@ run_seen v b taken cut cut' r q steps start len block kept found k n c f =
     ∙ (parted kept ∙ ap (λ x. chunks ((if x then Run start len block ∷ [] else []) ++ replayed_steps v cut (replay_step v cut r (Run start len block)) steps)) k))))
   where
     chunks : List Step → List Chunk
-    chunks steps = chunks_of (reading_by v b taken) (is_in_range v) steps
+    chunks steps = chunks_of (reading_by v b taken) (is_run_in_range v) steps
 
     part : Bool → List Chunk
-    part x = if x then step_chunks (reading_by v b taken) (is_in_range v) (Run start len block) else []
+    part x = if x then step_chunks (reading_by v b taken) (is_run_in_range v) (Run start len block) else []
 
     parted : (x : Bool) → part x ++ chunks (replayed_steps v cut (replay_step v cut r (Run start len block)) steps)
         ≡ chunks ((if x then Run start len block ∷ [] else []) ++ replayed_steps v cut (replay_step v cut r (Run start len block)) steps)
@@ -44,7 +45,7 @@ run_seen v b taken cut cut' r q steps start len block kept found k n c f =
     parted false = refl
 
 pub runs_seen : (v : Layout) (cut cut' : ℕ) (r q : Replay) (steps : List Step) (start len : ℕ) (block : Option ℕ) (runs runs' : ℕ)
-    → is_replay_open cut r ≡ true → q ≡ counted_step v cut r (Run start len block) → cut' ≡ cut → runs' ≤ runs + 1
+    → is_replay_open cut r ≡ true → q ≡ replay_step_by_cut v cut r (Run start len block) → cut' ≡ cut → runs' ≤ runs + 1
     → runs' + replayed_runs v cut' q steps ≤ runs + replayed_runs v cut r (Run start len block ∷ steps)
 runs_seen v cut cut' r q steps start len block runs runs' s n c l =
     let one : seen_run cut r (Run start len block) ≡ 1 = ap (λ x. if x then 1 else 0) s in
@@ -55,41 +56,41 @@ runs_seen v cut cut' r q steps start len block runs runs' s n c l =
 pub run_continues : (v : Layout) (b : List ℕ) (h h' : RunCursor) (taken cut cut' : ℕ) (r q : Replay)
     (steps : List Step) (start len : ℕ) (block : Option ℕ) (kept : Bool)
     → h.next ≡ h.count → kept ≡ is_replayed v cut r (Run start len block)
-    → q ≡ counted_step v cut r (Run start len block) → cut' ≡ cut
-    → hand_chunks v b h' ≡ (if kept then step_chunks (reading_by v b taken) (is_in_range v) (Run start len block)
+    → q ≡ replay_step_by_cut v cut r (Run start len block) → cut' ≡ cut
+    → hand_chunks v b h' ≡ (if kept then step_chunks (reading_by v b taken) (is_run_in_range v) (Run start len block)
     else [])
-    → hand_chunks v b h' ++ chunks_of (reading_by v b taken) (is_in_range v) (replayed_steps v cut' q steps)
-    ≡ hand_chunks v b h ++ chunks_of (reading_by v b taken) (is_in_range v)
+    → hand_chunks v b h' ++ chunks_of (reading_by v b taken) (is_run_in_range v) (replayed_steps v cut' q steps)
+    ≡ hand_chunks v b h ++ chunks_of (reading_by v b taken) (is_run_in_range v)
     (replayed_steps v cut r (Run start len block ∷ steps))
 run_continues v b h h' taken cut cut' r q steps start len block kept e k n c f =
     run_seen v b taken cut cut' r q steps start len block kept (hand_chunks v b h') k n c f
-    ∙ ap (λ x. x ++ chunks_of (reading_by v b taken) (is_in_range v)
+    ∙ ap (λ x. x ++ chunks_of (reading_by v b taken) (is_run_in_range v)
     (replayed_steps v cut r (Run start len block ∷ steps))) (sym (no_run_cursor v b h e))
 
 -- the chunks of a Run: of one that is kept and in range, and none of another
 pub kept_run : (v : Layout) (b : List ℕ) (taken start len place : ℕ) (block : Option ℕ) (kept passes : Bool)
     (found : List Chunk)
-    → block ≡ Some place → kept ≡ true → passes ≡ true → passes ≡ is_in_range v start len
+    → block ≡ Some place → kept ≡ true → passes ≡ true → passes ≡ is_run_in_range v start len
     → found ≡ run_chunks (reading_by v b taken) start len (place * v.bsize)
-    → found ≡ (if kept then step_chunks (reading_by v b taken) (is_in_range v) (Run start len block) else [])
+    → found ≡ (if kept then step_chunks (reading_by v b taken) (is_run_in_range v) (Run start len block) else [])
 kept_run v b taken start len place block kept passes found e k p i f =
-    f ∙ sym (ap (λ x. if x then step_chunks (reading_by v b taken) (is_in_range v) (Run start len block) else []) k
-    ∙ (ap (λ x. step_chunks (reading_by v b taken) (is_in_range v) (Run start len x)) e
+    f ∙ sym (ap (λ x. if x then step_chunks (reading_by v b taken) (is_run_in_range v) (Run start len block) else []) k
+    ∙ (ap (λ x. step_chunks (reading_by v b taken) (is_run_in_range v) (Run start len x)) e
     ∙ ap (λ x. if x then run_chunks (reading_by v b taken) start len (place * v.bsize) else []) (sym i ∙ p)))
 
 pub no_kept_run : (v : Layout) (b : List ℕ) (taken start len : ℕ) (block : Option ℕ) (kept : Bool) (found : List Chunk)
-    → kept ≡ false → found ≡ [] → found ≡ (if kept then step_chunks (reading_by v b taken) (is_in_range v)
+    → kept ≡ false → found ≡ [] → found ≡ (if kept then step_chunks (reading_by v b taken) (is_run_in_range v)
     (Run start len block) else [])
 no_kept_run v b taken start len block kept found k f = f ∙ sym
-    (ap (λ x. if x then step_chunks (reading_by v b taken) (is_in_range v) (Run start len block) else []) k)
+    (ap (λ x. if x then step_chunks (reading_by v b taken) (is_run_in_range v) (Run start len block) else []) k)
 
 pub no_data_run : (v : Layout) (b : List ℕ) (taken start len : ℕ) (block : Option ℕ) (kept passes : Bool)
     (found : List Chunk)
-    → passes ≡ false → passes ≡ is_in_range v start len → found ≡ []
-    → found ≡ (if kept then step_chunks (reading_by v b taken) (is_in_range v) (Run start len block) else [])
+    → passes ≡ false → passes ≡ is_run_in_range v start len → found ≡ []
+    → found ≡ (if kept then step_chunks (reading_by v b taken) (is_run_in_range v) (Run start len block) else [])
 no_data_run v b taken start len block kept passes found p i f = f ∙ sym (none block kept)
   where
-    none : (block : Option ℕ) (x : Bool) → (if x then step_chunks (reading_by v b taken) (is_in_range v)
+    none : (block : Option ℕ) (x : Bool) → (if x then step_chunks (reading_by v b taken) (is_run_in_range v)
         (Run start len block) else []) ≡ []
     none block false = refl
     none None true = refl
@@ -97,12 +98,13 @@ no_data_run v b taken start len block kept passes found p i f = f ∙ sym (none 
         []) (sym i ∙ p)
 
 pub no_block_run : (v : Layout) (b : List ℕ) (taken start len : ℕ) (block : Option ℕ) (kept : Bool) (found : List Chunk)
-    → block ≡ None → found ≡ [] → found ≡ (if kept then step_chunks (reading_by v b taken) (is_in_range v)
+    → block ≡ None → found ≡ [] → found ≡ (if kept then step_chunks (reading_by v b taken) (is_run_in_range v)
     (Run start len block) else [])
 no_block_run v b taken start len block kept found e f =
-    f ∙ sym (ap (λ x. if kept then step_chunks (reading_by v b taken) (is_in_range v) (Run start len x) else []) e ∙
+    f ∙ sym (ap (λ x. if kept then step_chunks (reading_by v b taken) (is_run_in_range v) (Run start len x) else []) e ∙
     none kept)
   where
-    none : (x : Bool) → (if x then step_chunks (reading_by v b taken) (is_in_range v) (Run start len None) else []) ≡ []
+    none : (x : Bool) → (if x then step_chunks (reading_by v b taken) (is_run_in_range v) (Run start len None)
+        else []) ≡ []
     none true = refl
     none false = refl

@@ -3,9 +3,9 @@ use Rattle.std.specs.Prelude.{◌≡◌, ◌<◌, ◌≤◌, ◌^◌, ℕ, ◌+�
 use Rattle.ffs_volume.specs.declared.Layout.{Layout}
 use Rattle.ffs_volume.specs.declared.Inode.{Inode}
 use Rattle.ffs_volume.specs.declared.Step.{Step}
-use Rattle.ffs_volume.specs.Disk.Areas.{is_in_range}
+use Rattle.ffs_volume.specs.Disk.Areas.{is_run_in_range}
 use Rattle.ffs_volume.specs.Blocks.Steps.{steps_of}
-use Rattle.ffs_volume.specs.Directories.Entries.{Chunk, chunk_of, chunks_of, has_gap, size_taken}
+use Rattle.ffs_volume.specs.Directories.Entries.{Chunk, chunk_of, chunks_of, has_gap, bytes_read}
 use Rattle.ffs_volume.specs.Encodings.Replay.{fresh_replay, replayed_steps}
 use Rattle.ffs_volume.specs.Encodings.ReplayCounts.{replayed_runs}
 use Rattle.ffs_walk.specs.Rests.{rest as steps_left}
@@ -16,7 +16,7 @@ use Rattle.ffs_names.specs.declared.chunks.Chunks.{Chunks}
 -- the chunks of steps to come
 abbrev pub chunks_after : List ℕ → Chunks → List Step → List Chunk
 chunks_after b c steps =
-    chunks_of (reading_by c.walk.geometry.layout b c.taken) (is_in_range c.walk.geometry.layout) (replayed_steps c.walk.geometry.layout c.keeping.cut (replay_in c.keeping) steps)
+    chunks_of (reading_by c.walk.geometry.layout b c.taken) (is_run_in_range c.walk.geometry.layout) (replayed_steps c.walk.geometry.layout c.keeping.cut (replay_in c.keeping) steps)
 
 -- the chunks of the current Run, and of the steps to come
 abbrev pub all_chunks : List ℕ → Chunks → List Chunk
@@ -70,7 +70,7 @@ pub record GivesChunk (b : List ℕ) (to_come : Chunks → List Chunk) (old new 
 -- the chunks of a directory with this inode and this cut
 abbrev pub chunks_in : Layout → List ℕ → Inode → ℕ → List Chunk
 chunks_in v b inode cut =
-    chunks_of (reading_by v b (size_taken inode.size)) (is_in_range v)
+    chunks_of (reading_by v b (bytes_read inode.size)) (is_run_in_range v)
     (replayed_steps v cut fresh_replay (steps_of v inode b))
 
 -- a reading of that directory begins

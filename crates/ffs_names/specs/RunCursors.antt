@@ -3,7 +3,7 @@ use Rattle.std.specs.Prelude.{ℕ, ◌+◌, ◌-◌, ◌*◌, List, map}
 use Rattle.std.specs.List.{range_with_len}
 use Rattle.ffs_volume.specs.declared.Layout.{Layout}
 use Rattle.ffs_volume.specs.Disk.Numbers.{piece}
-use Rattle.ffs_volume.specs.Directories.Entries.{Chunk, Reading, chunk_of}
+use Rattle.ffs_volume.specs.Directories.Entries.{Chunk, ChunkSource, chunk_of}
 use Rattle.ffs_names.specs.declared.run_cursor.RunCursor.{RunCursor}
 
 -- the chunks of the current Run, in an image of these bytes
@@ -11,7 +11,7 @@ abbrev pub hand_chunks : Layout → List ℕ → RunCursor → List Chunk
 hand_chunks v b h = map (λ k. chunk_of v.order (h.offset + 512 * k) (piece (h.place + 512 * k) 512 b)) (range_with_len h.next (h.count - h.next))
 
 -- a directory of which this many bytes are read
-abbrev pub reading_by : Layout → List ℕ → ℕ → Reading
+abbrev pub reading_by : Layout → List ℕ → ℕ → ChunkSource
 reading_by v b taken = record { order = v.order; image = b; bsize = v.bsize; fsize = v.fsize; taken = taken }
 
 -- where in the image the chunk is that was given last, in bytes

@@ -5,7 +5,7 @@ ghost use Rattle.ffs_image.specs.Device.{ForContents};
 ghost use Rattle.ffs_image.specs.Reads.{ReadAfter};
 ghost use Rattle.ffs_volume.specs.Blocks.Lengths.{HasLength};
 ghost use Rattle.ffs_volume.specs.Disk.Numbers.{piece};
-ghost use Rattle.ffs_volume.specs.Directories.Entries.{size_taken};
+ghost use Rattle.ffs_volume.specs.Directories.Entries.{bytes_read};
 ghost use Rattle.ffs_volume.specs.declared.Step.{Step as StepIn};
 ghost use Rattle.ffs_volume.specs.declared.Step.TheVariants.{Run};
 ghost use Rattle.ffs_volume.specs.Encodings.Replay.{is_replay_open as is_seen_in};
@@ -214,7 +214,7 @@ impl Chunks {
 
 /// How many bytes of a directory of a size are read: whole chunks, and one at least. No directory has 2^31 bytes.
 fn taken_of(size: u64) -> u64
-    ensures taken { size < 2 ^ 31 → result ≡ size_taken size }
+    ensures taken { size < 2 ^ 31 → result ≡ bytes_read size }
     ensures small { result ≤ 2 ^ 31 }
 {
     if size >= 1 << 31 {

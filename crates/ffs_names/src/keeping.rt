@@ -3,9 +3,9 @@
 ghost use Rattle.std.specs.Prelude.{◌≡◌, ◌<◌, ◌≤◌, ℕ, true, Option};
 ghost use Rattle.ffs_volume.specs.declared.Layout.{Layout};
 ghost use Rattle.ffs_volume.specs.declared.Step.TheVariants.{Run};
-ghost use Rattle.ffs_volume.specs.Disk.Areas.{is_in_range as is_in_range_of};
+ghost use Rattle.ffs_volume.specs.Disk.Areas.{is_run_in_range as is_in_range_of};
 ghost use Rattle.ffs_volume.specs.Encodings.Replay.{is_replay_open as is_seen_in, is_replayed, fresh_replay};
-ghost use Rattle.ffs_volume.specs.Encodings.ReplayCounts.{counted_step};
+ghost use Rattle.ffs_volume.specs.Encodings.ReplayCounts.{replay_step_by_cut};
 
 use ffs_volume::constants::MAXBAD;
 
@@ -52,7 +52,7 @@ impl Keeping {
         ensures after { (layout : Layout) (start : ℕ) (block : Option ℕ)
             → in_range ≡ is_in_range_of layout start len
             → replay_in self.new
-            ≡ counted_step layout self.old.cut (replay_in self.old) (Run start len block) }
+            ≡ replay_step_by_cut layout self.old.cut (replay_in self.old) (Run start len block) }
         ensures cut { self.new.cut ≡ self.old.cut }
     {
         if !in_range {

@@ -9,7 +9,7 @@ use Rattle.ffs_volume.specs.Directories.Graph.{parent}
 use Rattle.ffs_volume.specs.Blocks.Inodes.{inode_of, is_directory}
 use Rattle.ffs_volume.specs.Messages.Kinds.{Message, NameMessage, of_names}
 use Rattle.ffs_volume.specs.Directories.Parents.{graph_of}
-use Rattle.ffs_volume.specs.Directories.PathnameCheck.{attributes, are_sound, dir_lines, entry_lines}
+use Rattle.ffs_volume.specs.Directories.PathnameCheck.{attributes, are_sound, dir_lines, lines_of_entries}
 use Rattle.ffs_volume.specs.Directories.Paths.{dir_path}
 use Rattle.ffs_volume.specs.Directories.Roles.{Volume, nth_entry, is_dir, is_inode, roled_entries, start_entry}
 use Rattle.ffs_volume.specs.Directories.Volumes.{volume_of, volume_with}
@@ -97,18 +97,18 @@ directory_is v d two h =
     record { dir = h; below = ltb-true d v.count b.1; from_two = two }
 
 -- its lines: first those before its entries, then those of its entries
-pub lines_parts : (v : Volume) (d : ℕ) (ms : List NameMessage) → entry_lines v d 0 (roled_entries v d) ≡ ms →
+pub lines_parts : (v : Volume) (d : ℕ) (ms : List NameMessage) → lines_of_entries v d 0 (roled_entries v d) ≡ ms →
     map of_names (dir_lines v d) ≡ map of_names (dir_starts v d) ++ map of_names ms
 unfolding dir_starts
 lines_parts v d ms e =
     ap (map of_names) (dir_parts v d ∙ ap (λ l. header_reported (attributes v d) (dir_path (graph_of v) d) d (parent (graph_of v) d) (v.gap d) (are_sound (v.chunks d)) (start_entry v d 0) (start_entry v d 1) ++ l) e)
     ∙ map-append of_names (header_reported (attributes v d) (dir_path (graph_of v) d) d (parent (graph_of v) d) (v.gap d) (are_sound (v.chunks d)) (start_entry v d 0) (start_entry v d 1)) ms
 
-pub quiet_lines : (v : Volume) (d : ℕ) (m : Marks) → IsDirectory v d → AreRightBefore v d m → are_quiet v d m.stamps (roled_entries v d) ≡ true → entry_lines v d 0 (roled_entries v d) ≡ []
+pub quiet_lines : (v : Volume) (d : ℕ) (m : Marks) → IsDirectory v d → AreRightBefore v d m → are_quiet v d m.stamps (roled_entries v d) ≡ true → lines_of_entries v d 0 (roled_entries v d) ≡ []
 unfolding size_of
 quiet_lines v d m dir r h = quiet_silent v d [] (roled_entries v d) m.stamps dir refl r.stamps_length (unstamped v d m r) h
 
-pub reported_lines : (v : Volume) (d : ℕ) (m : Marks) → IsDirectory v d → AreRightBefore v d m → entry_lines v d 0 (roled_entries v d) ≡ entries_reported v d (looked v d m) (roled_entries v d)
+pub reported_lines : (v : Volume) (d : ℕ) (m : Marks) → IsDirectory v d → AreRightBefore v d m → lines_of_entries v d 0 (roled_entries v d) ≡ entries_reported v d (looked v d m) (roled_entries v d)
 unfolding size_of
 reported_lines v d m dir r = right_reported v d [] (roled_entries v d) (looked v d m) dir refl (looked_right v d m r)
 

@@ -5,11 +5,11 @@ use Rattle.std.specs.List.{list_any}
 use Rattle.ffs_volume.specs.declared.Layout.{Layout}
 use Rattle.ffs_volume.specs.declared.Class.{Class}
 use Rattle.ffs_volume.specs.declared.Class.TheVariants.{Free, Partial, Unknown, File, Dir}
-use Rattle.ffs_volume.specs.Disk.Geometry.{IsGeometry}
+use Rattle.ffs_volume.specs.Disk.Geometry.{IsValidLayout}
 use Rattle.ffs_volume.specs.Directories.Graph.{names, names_in}
 use Rattle.ffs_volume.specs.Messages.Kinds.{NameMessage, of_names, lines_below, reported, root_none, root_not_dir, root_suspect, lines_from}
 use Rattle.ffs_volume.specs.Directories.Parents.{graph_of}
-use Rattle.ffs_volume.specs.Directories.PathnameCheck.{dir_lines, goes_on, lines_of, pathname_lines, root_lines, root_reported}
+use Rattle.ffs_volume.specs.Directories.PathnameCheck.{dir_lines, continues_after_root, lines_of, pathname_lines, root_lines, root_reported}
 use Rattle.ffs_volume.specs.Blocks.Inodes.{is_directory, is_allocated}
 use Rattle.ffs_volume.specs.Directories.Roles.{Volume, is_dir, is_suspect, roled_entries}
 use Rattle.ffs_volume.proofs.SearchLaws.{some_below-none}
@@ -118,7 +118,7 @@ pub before_next : (v : Layout) (contents : Option (List ℕ)) (old new : Workspa
     IsBefore v contents old d b → IsBefore v contents new (suc d) b
 before_next v contents old new d b s r k = record { reported_is = k.reported_is; claims = claims_left v b old new s k.claims; survey = survey_left v b old new s k.survey; marks = r }
 
-pub before_other : (v : Layout) (contents : Option (List ℕ)) (w : Workspace) (d : ℕ) (b : List ℕ) → IsGeometry v → (slice_index w.kinds.items d == 4) ≡ false → IsBefore v contents w d b →
+pub before_other : (v : Layout) (contents : Option (List ℕ)) (w : Workspace) (d : ℕ) (b : List ℕ) → IsValidLayout v → (slice_index w.kinds.items d == 4) ≡ false → IsBefore v contents w d b →
     IsBefore v contents w (suc d) b
 before_other v contents w d b g e k = record {
   reported_is = k.reported_is;
@@ -149,7 +149,7 @@ lines_skipped v contents w d b two h k = elim (cases_Bool (slice_index w.kinds.i
   | inr e ↦ ap (map of_names) (lines_other v contents w d b e k)
 ]
 
-pub before_skipped : (v : Layout) (contents : Option (List ℕ)) (w : Workspace) (d : ℕ) (b : List ℕ) → IsGeometry v → ((slice_index w.kinds.items d == 4) && not (slice_index w.queue.items d == 1)) ≡ false → IsBefore v contents w d b →
+pub before_skipped : (v : Layout) (contents : Option (List ℕ)) (w : Workspace) (d : ℕ) (b : List ℕ) → IsValidLayout v → ((slice_index w.kinds.items d == 4) && not (slice_index w.queue.items d == 1)) ≡ false → IsBefore v contents w d b →
     IsBefore v contents w (suc d) b
 before_skipped v contents w d b g h k = elim (cases_Bool (slice_index w.kinds.items d == 4)) [
   | inl e ↦ record {
@@ -198,7 +198,7 @@ root_is v b w k m e f h =
     ∙ (ap (root_said (kind_at v b 2)) (f ∙ h.marked 2)
     ∙ root_by (volume_of v b) (class_at v b 2) (kind_at v b 2) (marked_at v b 2) t.dir t.allocated (suspect_is v b 2))
 
-pub goes_is : (v : Layout) (b : List ℕ) (w : Workspace) (k : ℕ) → k ≡ slice_index w.kinds.items 2 → HoldsClaims v b w → is_dir_kind k ≡ goes_on (volume_of v b)
+pub goes_is : (v : Layout) (b : List ℕ) (w : Workspace) (k : ℕ) → k ≡ slice_index w.kinds.items 2 → HoldsClaims v b w → is_dir_kind k ≡ continues_after_root (volume_of v b)
 unfolding volume_of volume_with
 goes_is v b w k e h = ap is_dir_kind (e ∙ h.kinds 2) ∙ sym (reports_at v b 2).dir
 
@@ -215,7 +215,7 @@ pub tree_is : (v : Layout) (b : List ℕ) (w : Workspace) (k : ℕ) (m goes : Bo
 unfolding pathname_lines
 tree_is v b w k m goes e f h q =
     let lines = lines_of (volume_of v b) in
-    ap (λ r. map of_names (r ++ (if goes_on (volume_of v b) then lines_below lines (volume_of v b).count else []))) (sym (root_is v b w k m e f h))
+    ap (λ r. map of_names (r ++ (if continues_after_root (volume_of v b) then lines_below lines (volume_of v b).count else []))) (sym (root_is v b w k m e f h))
     ∙ (ap (λ g. map of_names (root_said k m ++ (if g then lines_below lines (volume_of v b).count else []))) (sym (q ∙ goes_is v b w k e h))
     ∙ (ap (λ l. map of_names (root_said k m ++ (if goes then l else []))) (lines_begin v b)
     ∙ names_append (root_said k m) (tree_lines v b goes)))

@@ -4,8 +4,8 @@ use Rattle.std.specs.List.{flat_map, list_any}
 use Rattle.std.proofs.lemmas.Bool.{eqb-true}
 use Rattle.std.proofs.lemmas.Bool.Decides.{nat_tests}
 use Rattle.ffs_volume.specs.declared.Layout.{Layout}
-use Rattle.ffs_volume.specs.Disk.Areas.{is_in_range}
-use Rattle.ffs_volume.specs.Disk.Geometry.{IsGeometry}
+use Rattle.ffs_volume.specs.Disk.Areas.{is_run_in_range}
+use Rattle.ffs_volume.specs.Disk.Geometry.{IsValidLayout}
 use Rattle.ffs_volume.specs.Blocks.Inodes.{inode_of}
 use Rattle.ffs_volume.specs.Blocks.Claims.{next_inode}
 use Rattle.ffs_volume.specs.Blocks.KeptSteps.{kept_steps, kept_steps_of, claims_before}
@@ -14,12 +14,13 @@ use Rattle.ffs_volume.specs.Directories.Roles.{is_dir, roled_chunk, roled_entrie
 use Rattle.ffs_volume.specs.Directories.Graph.{names, names_in}
 use Rattle.ffs_volume.specs.Directories.Parents.{graph_of}
 use Rattle.ffs_volume.specs.Directories.PathnameCheck.{is_looked_at}
-use Rattle.ffs_volume.specs.Directories.Volumes.{is_inode_number, kept_at_number, reading_of, volume_with, volume_of}
+use Rattle.ffs_volume.specs.Directories.Volumes.{is_inode_number, kept_steps_of_inode, chunk_source_of, volume_with}
+use Rattle.ffs_volume.specs.Directories.Volumes.{volume_of}
 use Rattle.ffs_volume.specs.Encodings.Kinds.{kind_at, is_dir_kind, is_empty_dir_kind}
 use Rattle.ffs_volume.proofs.Sizes.{no_steps}
 use Rattle.ffs_workspace.proofs.KindLaws.{dir_is, empty_is}
 
-none_kept : (v : Layout) (b : List ℕ) (d : ℕ) → 0 < v.bsize → (inode_of v b d).size ≡ 0 → kept_at_number v b d ≡ []
+none_kept : (v : Layout) (b : List ℕ) (d : ℕ) → 0 < v.bsize → (inode_of v b d).size ≡ 0 → kept_steps_of_inode v b d ≡ []
 unfolding kept_steps_of
 none_kept v b d h z = one (is_inode_number v d)
   where
@@ -28,11 +29,12 @@ none_kept v b d h z = one (is_inode_number v d)
     one false = refl
 
 -- no entries where the size is 0
-none_seen : (v : Layout) (b : List ℕ) (d : ℕ) → IsGeometry v → ((volume_of v b).inode d).size ≡ 0 → roled_entries (volume_of v b) d ≡ []
+none_seen : (v : Layout) (b : List ℕ) (d : ℕ) → IsValidLayout v → ((volume_of v b).inode d).size ≡ 0 → roled_entries (volume_of v b) d ≡ []
 unfolding volume_of volume_with roled_entries
 none_seen v b d g z =
     let low = g.sizes.bsize_low in
-    ap (λ ss. flat_map roled_chunk (chunks_of (reading_of v b d) (is_in_range v) ss)) (none_kept v b d (omega arith) z)
+    ap (λ ss. flat_map roled_chunk (chunks_of (chunk_source_of v b d) (is_run_in_range v) ss))
+    (none_kept v b d (omega arith) z)
 
 -- of two tests of a directory and its kind
 kind_looked : (dir empty : Bool) (k : ℕ) → dir ≡ is_dir_kind k → (dir && empty) ≡ is_empty_dir_kind k → (dir && not empty) ≡ (k == 4)
@@ -53,7 +55,7 @@ pub looked_dir : (v : Layout) (b : List ℕ) (d : ℕ) → (kind_at v b d == 4) 
 looked_dir v b d h = looked_parts (is_dir (volume_of v b) d) (((volume_of v b).inode d).size == 0) (looked_is v b d ∙ h)
 
 -- an inode that isn't looked at names nothing
-pub names_none : (v : Layout) (b : List ℕ) (d : ℕ) → IsGeometry v → (kind_at v b d == 4) ≡ false → (x : ℕ) → names_in (graph_of (volume_of v b)) d x ≡ false
+pub names_none : (v : Layout) (b : List ℕ) (d : ℕ) → IsValidLayout v → (kind_at v b d == 4) ≡ false → (x : ℕ) → names_in (graph_of (volume_of v b)) d x ≡ false
 names_none v b d g h x =
     go (is_dir (volume_of v b) d) (((volume_of v b).inode d).size == 0) refl (looked_is v b d ∙ h)
   where

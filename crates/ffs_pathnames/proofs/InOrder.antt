@@ -7,7 +7,7 @@ use Rattle.ffs_volume.specs.declared.Attr.{Attr}
 use Rattle.ffs_volume.specs.Directories.Entries.{Entry, is_live}
 use Rattle.ffs_volume.specs.Directories.Roles.{is_two_dots}
 use Rattle.ffs_volume.specs.Messages.Kinds.{NameMessage, reported}
-use Rattle.ffs_volume.specs.Directories.PathnameCheck.{is_other}
+use Rattle.ffs_volume.specs.Directories.PathnameCheck.{is_wrong_parent}
 use Rattle.ffs_pathnames.specs.Header.{dot_in, dotdot_in, dot_said, dotdot_said, header_reported}
 
 pub silent : (b : Bool) (m : NameMessage) → b ≡ false → reported b m ≡ []
@@ -17,7 +17,7 @@ pub two : (xs ys : List NameMessage) → xs ≡ [] → ys ≡ [] → xs ++ ys �
 two xs ys p q = ap (λ l. l ++ ys) p ∙ q
 
 -- `..`
-pub dotdot_right : (about : Attr) (path : List ℕ) (parent : Option ℕ) (e : Entry) → is_live e ≡ true → is_two_dots e.name ≡ true → is_other parent e.number ≡ false → (e.kind == 4) ≡ true →
+pub dotdot_right : (about : Attr) (path : List ℕ) (parent : Option ℕ) (e : Entry) → is_live e ≡ true → is_two_dots e.name ≡ true → is_wrong_parent parent e.number ≡ false → (e.kind == 4) ≡ true →
     dotdot_said about path parent (Some e) (dotdot_in (Some e)) ≡ []
 dotdot_right about path parent e live name number kind =
     ap (λ t. dotdot_said about path parent (Some e) (cond t (Some e) None)) (ap (λ t. t && is_two_dots e.name) live ∙ name)

@@ -15,7 +15,7 @@ use Rattle.ffs_volume.specs.Directories.Graph.{names, parent}
 use Rattle.ffs_volume.specs.Directories.Parents.{graph_of, is_from_parent, is_first_name}
 use Rattle.ffs_volume.specs.Directories.Paths.{dir_path, entry_path}
 use Rattle.ffs_volume.specs.Messages.Kinds.{NameMessage, reported, out_of_range, whiteout, unallocated, extraneous, kind_entry}
-use Rattle.ffs_volume.specs.Directories.PathnameCheck.{attributes, label_of, is_bad_whiteout, suspect_reported, is_other_kind, reports_suspect, is_extraneous, named_lines, plain_lines, roled_lines, entry_lines, roled_reported as lines_by_role}
+use Rattle.ffs_volume.specs.Directories.PathnameCheck.{attributes, label_of, is_bad_whiteout, suspect_reported, has_wrong_type, reports_suspect, is_extraneous, named_lines, plain_lines, roled_lines, lines_of_entries, roled_reported as lines_by_role}
 use Rattle.ffs_pathnames.specs.Marks.{belongs, after_look, after_looks, is_plain_quiet, is_role_quiet, is_quiet, are_quiet}
 use Rattle.ffs_pathnames.proofs.Places.{size_of, size_more}
 use Rattle.ffs_pathnames.proofs.MarkLaws.{IsEntry, IsDirectory, from_parent_is, any_more, or_true, or_false, other_number}
@@ -81,7 +81,7 @@ record IsNamedQuiet (v : Volume) (s : ℕ) (stamps : List ℕ) (e : Entry) : Typ
   allocated : is_allocated (v.class e.number) ≡ true
   suspect : is_suspect v e.number ≡ false
   link : (not (is_dir v e.number) || (belongs v s e.number && not (slice_index stamps e.number == s))) ≡ true
-  kind : is_other_kind v e ≡ false
+  kind : has_wrong_type v e ≡ false
 
 record IsPlainQuiet (v : Volume) (s : ℕ) (stamps : List ℕ) (e : Entry) : Type 0 where
   below : e.number < v.count
@@ -100,8 +100,8 @@ quiet_parts v s stamps e h =
         | inr q ↦
             let c = and_parts (is_allocated (v.class e.number)) _ q.1 in
             let d = and_parts (not (is_suspect v e.number)) _ c.1 in
-            let f = and_parts (not (is_dir v e.number) || (belongs v s e.number && not (slice_index stamps e.number == s))) (not (is_other_kind v e)) d.1 in
-            inr (record { allocated = c.0; suspect = not-true (is_suspect v e.number) d.0; link = f.0; kind = not-true (is_other_kind v e) f.1 })
+            let f = and_parts (not (is_dir v e.number) || (belongs v s e.number && not (slice_index stamps e.number == s))) (not (has_wrong_type v e)) d.1 in
+            inr (record { allocated = c.0; suspect = not-true (is_suspect v e.number) d.0; link = f.0; kind = not-true (has_wrong_type v e) f.1 })
       ];
     }
 
@@ -140,8 +140,8 @@ named_quiet v s done es e stamps i p h r q =
     let b = reported_nothing _ (extraneous (entry_path (graph_of v) s e.entry.name) (dir_path (graph_of v) e.entry.number)) (link_quiet v s done es e stamps i p h r q.link) in
     let c = reported_nothing _ (kind_entry (attributes v e.entry.number) (label_of (v.class e.entry.number)) (entry_path (graph_of v) s e.entry.name)) q.kind in
     ap (λ l. l ++ (reported (is_extraneous v s (size_of done) e.entry.number) (extraneous (entry_path (graph_of v) s e.entry.name) (dir_path (graph_of v) e.entry.number))
-    ++ reported (is_other_kind v e.entry) (kind_entry (attributes v e.entry.number) (label_of (v.class e.entry.number)) (entry_path (graph_of v) s e.entry.name)))) a
-    ∙ (ap (λ l. l ++ reported (is_other_kind v e.entry) (kind_entry (attributes v e.entry.number) (label_of (v.class e.entry.number)) (entry_path (graph_of v) s e.entry.name))) b ∙ c)
+    ++ reported (has_wrong_type v e.entry) (kind_entry (attributes v e.entry.number) (label_of (v.class e.entry.number)) (entry_path (graph_of v) s e.entry.name)))) a
+    ∙ (ap (λ l. l ++ reported (has_wrong_type v e.entry) (kind_entry (attributes v e.entry.number) (label_of (v.class e.entry.number)) (entry_path (graph_of v) s e.entry.name))) b ∙ c)
 
 plain_quiet : (v : Volume) (s : ℕ) (done es : List RoledEntry) (e : RoledEntry) (stamps : List ℕ) → IsEntry v s done e es → e.role ≡ Plain → AreStamped v s done stamps →
     is_plain_quiet v s stamps e.entry ≡ true → plain_lines v s (size_of done) e.entry ≡ []
@@ -188,15 +188,15 @@ seen_quiet v s done es e stamps i r h = one e.role refl h
 
 -- where all entries are quiet, nothing is reported of them
 pub quiet_silent : (v : Volume) (s : ℕ) (done es : List RoledEntry) (stamps : List ℕ) → IsDirectory v s → roled_entries v s ≡ done ++ es → length stamps ≡ v.count → AreStamped v s done stamps →
-    are_quiet v s stamps es ≡ true → entry_lines v s (size_of done) es ≡ []
-unfolding entry_lines
+    are_quiet v s stamps es ≡ true → lines_of_entries v s (size_of done) es ≡ []
+unfolding lines_of_entries
 quiet_silent v s done [] stamps d whole long r h = refl
 quiet_silent v s done (e ∷ es) stamps d whole long r h =
     let q = and_parts (is_quiet v s stamps e) (are_quiet v s (after_look v s stamps e) es) h in
     let here = seen_quiet v s done es e stamps (record { dir = d.dir; below = d.below; from_two = d.from_two; whole = whole }) r q.0 in
     let rest = quiet_silent v s (done ++ e ∷ []) es (after_look v s stamps e) d (whole ∙ sym (append_assoc done (e ∷ []) es)) (looks_long v s stamps e ∙ long)
     (stamped_after v s done e stamps long r) q.1 in
-    ap (λ ls. ls ++ entry_lines v s (suc (size_of done)) es) here ∙ (ap (λ j. entry_lines v s j es) (sym (size_more done e)) ∙ rest)
+    ap (λ ls. ls ++ lines_of_entries v s (suc (size_of done)) es) here ∙ (ap (λ j. lines_of_entries v s j es) (sym (size_more done e)) ∙ rest)
 
 -- and no suspect is named
 suspect_unnamed : (v : Volume) (s : ℕ) (stamps : List ℕ) (e : RoledEntry) (x : ℕ) → is_quiet v s stamps e ≡ true → is_suspect v x ≡ true → x ≢ 1 → names x e ≡ false

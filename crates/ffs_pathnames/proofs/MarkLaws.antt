@@ -14,11 +14,11 @@ use Rattle.ffs_volume.specs.Disk.Search.{some_below, first_below}
 use Rattle.ffs_volume.proofs.SearchLaws.{first_below-is, some_below-false, first_below-some}
 use Rattle.ffs_volume.specs.Directories.Climb.{is_value}
 use Rattle.ffs_volume.proofs.ClimbLaws.{is_value-true, is_value-from}
-use Rattle.ffs_volume.specs.Directories.Graph.{names, names_in, parent, entry_index, first_index}
-use Rattle.ffs_volume.specs.Directories.Parents.{graph_of, first_namer, is_first_name, is_from_parent}
+use Rattle.ffs_volume.specs.Directories.Graph.{names, names_in, parent, index_in_parent, first_index}
+use Rattle.ffs_volume.specs.Directories.Parents.{graph_of, first_naming_dir, is_first_name, is_from_parent}
 use Rattle.ffs_volume.specs.Directories.Paths.{dir_path, entry_path}
 use Rattle.ffs_volume.specs.Messages.Kinds.{reported, out_of_range, whiteout, unallocated, extraneous, kind_entry}
-use Rattle.ffs_volume.specs.Directories.PathnameCheck.{attributes, label_of, is_bad_whiteout, suspect_reported, is_other_kind, roled_reported as lines_by_role, reports_suspect, is_extraneous, named_lines, plain_lines, roled_lines, entry_lines}
+use Rattle.ffs_volume.specs.Directories.PathnameCheck.{attributes, label_of, is_bad_whiteout, suspect_reported, has_wrong_type, roled_reported as lines_by_role, reports_suspect, is_extraneous, named_lines, plain_lines, roled_lines, lines_of_entries}
 use Rattle.ffs_pathnames.specs.Marks.{Marks, is_passed, is_due, after_name, after_roled, named_reported, plain_reported, role_reported, roled_reported, entries_reported, belongs}
 use Rattle.ffs_pathnames.specs.MarksRight.{AreRight}
 use Rattle.ffs_pathnames.proofs.Places.{size_of, size_more, first_here}
@@ -76,7 +76,7 @@ first_name_is : (v : Volume) (s : ℕ) (done es : List RoledEntry) (e : RoledEnt
     ≡ not (some_below (λ t. names_in (graph_of v) t e.entry.number) s || list_any (names e.entry.number) done)
 first_name_is v s done es e i p =
     let x = e.entry.number in
-    let first : is_value (first_namer (graph_of v) x) s ≡ not (some_below (λ t. names_in (graph_of v) t x) s) =
+    let first : is_value (first_naming_dir (graph_of v) x) s ≡ not (some_below (λ t. names_in (graph_of v) t x) s) =
     first_in (λ t. names_in (graph_of v) t x) v.count s i.below (names_in_it v s done es e i p) in
     ap (λ b. b && is_value (first_index (names x) (roled_entries v s)) (size_of done)) first
     ∙ (ap (λ b. not (some_below (λ t. names_in (graph_of v) t x) s) && b) (place_is v s done es e i p)
@@ -88,12 +88,12 @@ pub from_parent_is : (v : Volume) (s : ℕ) (done es : List RoledEntry) (e : Rol
 from_parent_is v s done es e i p = one (e.entry.number == 2) refl (is_value (parent (graph_of v) e.entry.number) s) refl
   where
     one : (two : Bool) → (e.entry.number == 2) ≡ two → (b : Bool) → is_value (parent (graph_of v) e.entry.number) s ≡ b →
-        (b && is_value (if two then None else entry_index (graph_of v) e.entry.number (parent (graph_of v) e.entry.number)) (size_of done))
+        (b && is_value (if two then None else index_in_parent (graph_of v) e.entry.number (parent (graph_of v) e.entry.number)) (size_of done))
         ≡ ((not two && b) && not (list_any (names e.entry.number) done))
     one true q true r = refl
     one true q false r = refl
     one false q true r =
-        ap (λ o. is_value (entry_index (graph_of v) e.entry.number o) (size_of done)) (is_value-true (parent (graph_of v) e.entry.number) s r)
+        ap (λ o. is_value (index_in_parent (graph_of v) e.entry.number o) (size_of done)) (is_value-true (parent (graph_of v) e.entry.number) s r)
         ∙ place_is v s done es e i p
     one false q false r = refl
 
@@ -127,11 +127,11 @@ unfolding named_lines
 named_same v s done es e m i p h other r =
     ap (λ b. reported b (suspect_reported v e.entry.number (entry_path (graph_of v) s e.entry.name))
     ++ (reported (is_extraneous v s (size_of done) e.entry.number) (extraneous (entry_path (graph_of v) s e.entry.name) (dir_path (graph_of v) e.entry.number))
-    ++ reported (is_other_kind v e.entry) (kind_entry (attributes v e.entry.number) (label_of (v.class e.entry.number)) (entry_path (graph_of v) s e.entry.name))))
+    ++ reported (has_wrong_type v e.entry) (kind_entry (attributes v e.entry.number) (label_of (v.class e.entry.number)) (entry_path (graph_of v) s e.entry.name))))
     (suspect_same v s done es e m i p h other r)
     ∙ ap (λ b. reported (is_suspect v e.entry.number && (not (e.entry.number == 2) && not (is_passed m e.entry.number))) (suspect_reported v e.entry.number (entry_path (graph_of v) s e.entry.name))
     ++ (reported b (extraneous (entry_path (graph_of v) s e.entry.name) (dir_path (graph_of v) e.entry.number))
-    ++ reported (is_other_kind v e.entry) (kind_entry (attributes v e.entry.number) (label_of (v.class e.entry.number)) (entry_path (graph_of v) s e.entry.name))))
+    ++ reported (has_wrong_type v e.entry) (kind_entry (attributes v e.entry.number) (label_of (v.class e.entry.number)) (entry_path (graph_of v) s e.entry.name))))
     (extraneous_same v s done es e m i p h r)
 
 plain_same : (v : Volume) (s : ℕ) (done es : List RoledEntry) (e : RoledEntry) (m : Marks) → IsEntry v s done e es → e.role ≡ Plain → AreRight v s done m →
@@ -309,11 +309,11 @@ pub record IsDirectory (v : Volume) (s : ℕ) : Type 0 where
   pub from_two : 2 ≤ s
 
 pub right_reported : (v : Volume) (s : ℕ) (done es : List RoledEntry) (m : Marks) → IsDirectory v s → roled_entries v s ≡ done ++ es → AreRight v s done m →
-    entry_lines v s (size_of done) es ≡ entries_reported v s m es
-unfolding entry_lines
+    lines_of_entries v s (size_of done) es ≡ entries_reported v s m es
+unfolding lines_of_entries
 right_reported v s done [] m d whole r = refl
 right_reported v s done (e ∷ es) m d whole r =
     let here = seen_same v s done es e m (record { dir = d.dir; below = d.below; from_two = d.from_two; whole = whole }) r in
     let rest = right_reported v s (done ++ e ∷ []) es (after_roled v s m e) d (whole ∙ sym (append_assoc done (e ∷ []) es)) (right_after v s done e m d.from_two r) in
-    ap (λ ls. ls ++ entry_lines v s (suc (size_of done)) es) here
-    ∙ ap (λ ls. roled_reported v s m e ++ ls) (ap (λ j. entry_lines v s j es) (sym (size_more done e)) ∙ rest)
+    ap (λ ls. ls ++ lines_of_entries v s (suc (size_of done)) es) here
+    ∙ ap (λ ls. roled_reported v s m e ++ ls) (ap (λ j. lines_of_entries v s j es) (sym (size_more done e)) ∙ rest)

@@ -6,11 +6,11 @@ use Rattle.ffs_volume.specs.declared.Order.{Order}
 use Rattle.ffs_volume.specs.Disk.Numbers.{u32_at, piece}
 use Rattle.ffs_volume.specs.declared.Layout.{Layout}
 use Rattle.ffs_volume.specs.declared.Inode.{Inode}
-use Rattle.ffs_volume.specs.Disk.Areas.{is_in_range}
-use Rattle.ffs_volume.specs.Disk.Geometry.{IsGeometry}
+use Rattle.ffs_volume.specs.Disk.Areas.{is_run_in_range}
+use Rattle.ffs_volume.specs.Disk.Geometry.{IsValidLayout}
 use Rattle.ffs_volume.specs.Blocks.Inodes.{inode_of}
 use Rattle.ffs_volume.specs.Blocks.Steps.{steps_of}
-use Rattle.ffs_volume.specs.Directories.Entries.{Chunk, Entry, entry_at, entry_read, is_well_formed, name_at, chunks_of, size_taken}
+use Rattle.ffs_volume.specs.Directories.Entries.{Chunk, Entry, entry_at, entry_read, is_well_formed, name_at, chunks_of, bytes_read}
 use Rattle.ffs_volume.specs.Encodings.Replay.{cut_at, fresh_replay, replayed_steps}
 use Rattle.ffs_volume.specs.Directories.Volumes.{volume_of}
 use Rattle.ffs_volume.proofs.Reading.{entries_end}
@@ -101,8 +101,8 @@ knows_on v contents contents' old new d b e s k = record {
 }
 
 -- the entries of all chunks that a reading of a directory gives
-pub all_read : (v : Layout) (b : List ℕ) (d : ℕ) (i : Inode) (cut : ℕ) (cs : List Chunk) → IsGeometry v → is_dir (volume_of v b) d ≡ true → i ≡ inode_of v b d → cut ≡ cut_at v b d →
-    (i.size < 2 ^ 31 → cs ≡ chunks_of (reading_by v b (size_taken i.size)) (is_in_range v) (replayed_steps v cut fresh_replay (steps_of v i b))) → flat_map roled_chunk cs ≡ roled_entries (volume_of v b) d
+pub all_read : (v : Layout) (b : List ℕ) (d : ℕ) (i : Inode) (cut : ℕ) (cs : List Chunk) → IsValidLayout v → is_dir (volume_of v b) d ≡ true → i ≡ inode_of v b d → cut ≡ cut_at v b d →
+    (i.size < 2 ^ 31 → cs ≡ chunks_of (reading_by v b (bytes_read i.size)) (is_run_in_range v) (replayed_steps v cut fresh_replay (steps_of v i b))) → flat_map roled_chunk cs ≡ roled_entries (volume_of v b) d
 all_read v b d i cut cs g dir e k read =
     let p = dir_is v b d dir in
     let small : i.size < 2 ^ 31 = subst (λ (x : Inode). x.size < 2 ^ 31) (sym e) (dir_size v (inode_of v b d) p.1) in

@@ -11,19 +11,20 @@ use Rattle.ffs_volume.specs.declared.Step.{Step}
 use Rattle.ffs_volume.specs.declared.Step.TheVariants.{Run, Tail, Gap}
 use Rattle.ffs_volume.specs.declared.Role.{Role}
 use Rattle.ffs_volume.specs.declared.Role.TheVariants.{Empty, Dot, Dotdot, Extra, Plain}
-use Rattle.ffs_volume.specs.Disk.Geometry.{IsGeometry}
-use Rattle.ffs_volume.specs.Disk.Areas.{is_in_range}
+use Rattle.ffs_volume.specs.Disk.Geometry.{IsValidLayout}
+use Rattle.ffs_volume.specs.Disk.Areas.{is_run_in_range}
 use Rattle.ffs_volume.specs.Blocks.Steps.{steps_of}
 use Rattle.ffs_names.specs.RunCursors.{reading_by}
 use Rattle.ffs_volume.specs.Blocks.Inodes.{is_allocated, is_unknown, is_file_or_dir, inode_of}
 use Rattle.ffs_volume.specs.declared.Class.{Class}
 use Rattle.ffs_volume.specs.declared.Class.TheVariants.{Free, Partial, Unknown, File, Dir}
 use Rattle.ffs_volume.specs.Directories.Climb.{is_value}
-use Rattle.ffs_volume.specs.Directories.Entries.{Entry, Chunk, Reading, chunk_of, chunks_of, run_chunks, step_chunks, entries_of, is_sound, is_live, size_taken}
+use Rattle.ffs_volume.specs.Directories.Entries.{Entry, Chunk, ChunkSource, chunk_of, chunks_of, run_chunks, step_chunks, entries_of, is_sound, is_live, bytes_read}
 use Rattle.ffs_volume.specs.Directories.Graph.{names, parent}
 use Rattle.ffs_volume.specs.Directories.Parents.{graph_of}
 use Rattle.ffs_volume.specs.Directories.Paths.{dir_path}
-use Rattle.ffs_volume.specs.Directories.PathnameCheck.{attributes, are_sound, is_bad_whiteout, is_other_kind, is_other}
+use Rattle.ffs_volume.specs.Directories.PathnameCheck.{attributes, are_sound, is_bad_whiteout, has_wrong_type}
+use Rattle.ffs_volume.specs.Directories.PathnameCheck.{is_wrong_parent}
 use Rattle.ffs_volume.specs.Directories.Roles.{Volume, RoledEntry, is_dir, is_suspect, is_plain, is_one_dot, is_two_dots, role_of, roled_from, roled_chunk, roled_entries, nth_entry, start_entry}
 use Rattle.ffs_volume.specs.Directories.Volumes.{class_at, volume_of, volume_with}
 use Rattle.ffs_volume.specs.Encodings.Kinds.{kind_at, is_dir_kind, is_empty_dir_kind, is_allocated_kind, is_unknown_kind, type_of_kind}
@@ -121,7 +122,7 @@ plain_quiet v s parents stamps reached e sh c mine new =
     let known : is_unknown (v.class x) ≡ false = sh.unknown x ∙ (ap (λ n. n == 15) is ∙ k.known) in
     let suspect : is_suspect v x ≡ false = sh.suspect x ∙ (ap (λ z. z || (number_at s.kinds x == 5)) (not-true _ c3.0) ∙ (ap (λ n. n == 5) is ∙ k.not_empty)) in
     let type : e.kind ≡ (v.inode x).mode / 4096 = sym (kind_stays e.kind k.not_empty) ∙ (ap type_of_kind (sym is) ∙ sh.kind x allocated known) in
-    let other : is_other_kind v e ≡ false = ap (λ z. not (is_unknown (v.class x)) && not z) (eq-eqb e.kind _ type) ∙ and_no (not (is_unknown (v.class x))) in
+    let other : has_wrong_type v e ≡ false = ap (λ z. not (is_unknown (v.class x)) && not z) (eq-eqb e.kind _ type) ∙ and_no (not (is_unknown (v.class x))) in
     and_from (nat_lt x v.count) _ (ap (nat_lt x) sh.count ∙ c2.0)
     (and_from (not (is_bad_whiteout e)) _ (ap not (whiteout_none e one k.no_whiteout))
     (or_right (x == 1) _
@@ -196,7 +197,7 @@ solid_map : (order : Order) (offset : ℕ → ℕ) (bytes : ℕ → List ℕ) (k
 solid_map order offset bytes [] = tt
 solid_map order offset bytes (k ∷ ks) = (solid_chunk order (bytes k), solid_map order offset bytes ks)
 
-solid_step : (r : Reading) (passes : ℕ → ℕ → Bool) (step : Step) → Solid (step_chunks r passes step)
+solid_step : (r : ChunkSource) (passes : ℕ → ℕ → Bool) (step : Step) → Solid (step_chunks r passes step)
 solid_step r passes Tail = tt
 solid_step r passes Gap = tt
 solid_step r passes (Run start len None) = tt
@@ -206,14 +207,14 @@ solid_step r passes (Run start len (Some block)) = one (passes start len)
     one true = solid_map r.order _ _ _
     one false = tt
 
-solid_all : (r : Reading) (passes : ℕ → ℕ → Bool) (steps : List Step) → Solid (chunks_of r passes steps)
+solid_all : (r : ChunkSource) (passes : ℕ → ℕ → Bool) (steps : List Step) → Solid (chunks_of r passes steps)
 solid_all r passes [] = tt
 solid_all r passes (x ∷ xs) = solid_append (step_chunks r passes x) (chunks_of r passes xs) (solid_step r passes x) (solid_all r passes xs)
 
-solid_dir : (v : Layout) (b : List ℕ) (d : ℕ) → IsGeometry v → is_dir (volume_of v b) d ≡ true → Solid ((volume_of v b).chunks d)
+solid_dir : (v : Layout) (b : List ℕ) (d : ℕ) → IsValidLayout v → is_dir (volume_of v b) d ≡ true → Solid ((volume_of v b).chunks d)
 unfolding chunks_read
 solid_dir v b d g h =
-    subst Solid (chunks_are v b d (inode_of v b d) (cut_at v b d) g (dirs.dir_is v b d h).0 refl refl) (solid_all (reading_by v b (size_taken (inode_of v b d).size)) (is_in_range v) (replayed_steps v (cut_at v b d) fresh_replay (steps_of v (inode_of v b d) b)))
+    subst Solid (chunks_are v b d (inode_of v b d) (cut_at v b d) g (dirs.dir_is v b d h).0 refl refl) (solid_all (reading_by v b (bytes_read (inode_of v b d).size)) (is_run_in_range v) (replayed_steps v (cut_at v b d) fresh_replay (steps_of v (inode_of v b d) b)))
 
 abbrev role_by : Bool → Bool → Bool → Bool → Bool → Role
 role_by live dot zero dots one = if not live then Empty else (if dot then (if zero then Dot else Extra) else (if dots then (if one then Dotdot else Extra) else Plain))
@@ -311,7 +312,7 @@ dot_right about path d e live name number kind =
     ap (λ t. dot_said about path d (Some e) (cond t (Some e) None)) (ap (λ t. t && is_one_dot e.name) live ∙ name)
     ∙ two _ _ (silent _ _ (ap not number)) (silent _ _ (ap not kind))
 
-other_not : (o : Option ℕ) (n above : ℕ) → (n == above) ≡ true → above ≡ unwrap_or o 0 → is_other o n ≡ false
+other_not : (o : Option ℕ) (n above : ℕ) → (n == above) ≡ true → above ≡ unwrap_or o 0 → is_wrong_parent o n ≡ false
 other_not None n above h e = refl
 other_not (Some s) n above h e = ap not (eq-eqb s n (sym e ∙ sym (eqb-true n above h)))
 
@@ -357,7 +358,7 @@ by_chunks : (v : Volume) (d : ℕ) (s : Sight) (r : ℕ → Bool) → are_calm s
 unfolding roled_entries
 by_chunks v d s r h = h
 
-pub calm_silent : (v : Layout) (b : List ℕ) (w : Workspace) → IsGeometry v → IsFor v w → HoldsClaims v b w → HoldsSurvey v b w → FlagsCalm v b w → (d : ℕ) → bool_at w.leaders.items d ≡ true → IsSilent (volume_of v b) d
+pub calm_silent : (v : Layout) (b : List ℕ) (w : Workspace) → IsValidLayout v → IsFor v w → HoldsClaims v b w → HoldsSurvey v b w → FlagsCalm v b w → (d : ℕ) → bool_at w.leaders.items d ≡ true → IsSilent (volume_of v b) d
 calm_silent v b w g m h r f d set =
     let sh = shown v b w m h r in
     let c = f.calm d set in

@@ -5,7 +5,7 @@ use Rattle.ffs_volume.specs.Directories.Entries.{Entry, is_live}
 use Rattle.ffs_volume.specs.Directories.Roles.{is_one_dot, is_two_dots, entry_if}
 use Rattle.ffs_volume.specs.Messages.Kinds.{NameMessage, reported, dir_short, dir_length, dir_empty}
 use Rattle.ffs_volume.specs.Messages.Kinds.{dir_corrupt, number_dot, kind_dot, number_dotdot, kind_dotdot}
-use Rattle.ffs_volume.specs.Directories.PathnameCheck.{missing_dot_reported, missing_dotdot_reported, is_other}
+use Rattle.ffs_volume.specs.Directories.PathnameCheck.{missing_dot_reported, missing_dotdot_reported, is_wrong_parent}
 
 -- of the size, of whether a Gap is kept, and of whether all chunks are sound
 abbrev pub size_reported : Attr → List ℕ → List NameMessage
@@ -36,7 +36,7 @@ dot_said about path d first (Some e) = there_reported about path d e
 
 -- `parent` is the directory's parent, if it has one
 abbrev pub above_reported : Attr → List ℕ → Option ℕ → Entry → List NameMessage
-above_reported about path parent e = reported (is_other parent e.number) (number_dotdot about path)
+above_reported about path parent e = reported (is_wrong_parent parent e.number) (number_dotdot about path)
     ++ reported (not (e.kind == 4)) (kind_dotdot about path)
 
 abbrev pub dotdot_said : Attr → List ℕ → Option ℕ → Option Entry → Option Entry → List NameMessage

@@ -14,7 +14,7 @@ use Rattle.ffs_volume.specs.Directories.Paths.{dir_path, entry_path}
 use Rattle.ffs_volume.specs.Messages.Kinds.{NameMessage, reported, out_of_range, whiteout}
 use Rattle.ffs_volume.specs.Messages.Kinds.{unallocated, extraneous, kind_entry}
 use Rattle.ffs_volume.specs.Directories.PathnameCheck.{attributes, label_of, is_bad_whiteout}
-use Rattle.ffs_volume.specs.Directories.PathnameCheck.{suspect_reported, is_other_kind, extra_reported}
+use Rattle.ffs_volume.specs.Directories.PathnameCheck.{suspect_reported, has_wrong_type, extra_reported}
 
 -- which inodes a plain entry has named, and for each inode a directory whose entries to come have its parent entry
 pub record Marks : Type 0 where
@@ -43,7 +43,7 @@ named_reported v s m e =
     && not (is_passed m e.number))) (suspect_reported v e.number (entry_path (graph_of v) s e.name))
     ++ (reported (is_dir v e.number
     && not (is_due s m e.number)) (extraneous (entry_path (graph_of v) s e.name) (dir_path (graph_of v) e.number))
-    ++ reported (is_other_kind v e) (kind_entry (attributes v e.number) (label_of (v.class e.number)) (entry_path (graph_of v) s e.name)))
+    ++ reported (has_wrong_type v e) (kind_entry (attributes v e.number) (label_of (v.class e.number)) (entry_path (graph_of v) s e.name)))
 
 abbrev pub plain_reported : Volume → ℕ → Marks → Entry → List NameMessage
 plain_reported v s m e =
@@ -90,7 +90,7 @@ abbrev pub is_inode_quiet : Volume → ℕ → List ℕ → Entry → Bool
 is_inode_quiet v s stamps e =
     is_allocated (v.class e.number) && (not (is_suspect v e.number)
     && ((not (is_dir v e.number) || (belongs v s e.number && not (slice_index stamps e.number == s)))
-    && not (is_other_kind v e)))
+    && not (has_wrong_type v e)))
 
 abbrev pub is_plain_quiet : Volume → ℕ → List ℕ → Entry → Bool
 is_plain_quiet v s stamps e =

@@ -4,15 +4,15 @@ use Rattle.std.specs.List.{find}
 use Rattle.ffs_volume.specs.declared.Layout.{Layout}
 use Rattle.ffs_volume.specs.declared.Order.{Order}
 use Rattle.ffs_volume.specs.declared.Inode.{Inode}
-use Rattle.ffs_volume.specs.Disk.Areas.{is_in_range}
-use Rattle.ffs_volume.specs.Directories.Entries.{Chunk, chunk_of, chunks_of, size_taken}
+use Rattle.ffs_volume.specs.Disk.Areas.{is_run_in_range}
+use Rattle.ffs_volume.specs.Directories.Entries.{Chunk, chunk_of, chunks_of, bytes_read}
 use Rattle.ffs_volume.specs.Blocks.Steps.{steps_of}
 use Rattle.ffs_volume.specs.Encodings.Replay.{fresh_replay, replayed_steps}
 use Rattle.ffs_names.specs.RunCursors.{reading_by}
 
 -- the chunks of an inode that keeps `cut` offers, or all if that is 0
 unfoldable pub chunks_read : Layout → Inode → ℕ → List ℕ → List Chunk
-chunks_read v i cut b = chunks_of (reading_by v b (size_taken i.size)) (is_in_range v) (replayed_steps v cut fresh_replay (steps_of v i b))
+chunks_read v i cut b = chunks_of (reading_by v b (bytes_read i.size)) (is_run_in_range v) (replayed_steps v cut fresh_replay (steps_of v i b))
 
 -- the chunk at the start of the file: the one that was found, or else the first of those to come
 abbrev pub start_of : List Chunk → Bool → Order → List ℕ → Option Chunk

@@ -1,7 +1,7 @@
 // What is reported of a directory before its entries.
 ghost use Rattle.std.specs.Prelude.{◌≡◌, ℕ, List, [], ◌%◌, ◌==◌, ◌&&◌, not, nat_lt, option_map, IsTrue};
 ghost use Rattle.ffs_volume.specs.declared.Attr as attrs;
-ghost use Rattle.ffs_volume.specs.Directories.PathnameCheck.{is_other};
+ghost use Rattle.ffs_volume.specs.Directories.PathnameCheck.{is_wrong_parent};
 ghost use Rattle.ffs_volume.specs.Directories.Roles as roles;
 ghost use Rattle.ffs_layout.specs.Entry.{entry_value};
 ghost use Rattle.ffs_report.specs.Progress.{progress};
@@ -176,7 +176,7 @@ fn say_above<W: Output>(
         (above_reported attr path.now parent (entry_value entry.now)) result }
 {
     let other = Check {
-        holds: is_other(parent, entry.number),
+        holds: is_wrong_parent(parent, entry.number),
         line: NameLine::Dot(DotLine::NumberDotdot { attr, path }),
     };
     let kind = Check {
@@ -187,8 +187,8 @@ fn say_above<W: Output>(
 }
 
 /// Whether there is a parent, and the number isn't its.
-fn is_other(parent: Option<u32>, number: u32) -> bool
-    ensures { result ≡ is_other parent number }
+fn is_wrong_parent(parent: Option<u32>, number: u32) -> bool
+    ensures { result ≡ is_wrong_parent parent number }
 {
     match parent {
         None => false,
@@ -299,7 +299,7 @@ fn is_dotdot_right(parent: Option<u32>, second: Option<Entry<'_>>) -> bool
         None => false,
         Some(entry) => entry.number != 0
             && is_two_dots(entry.name)
-            && !is_other(parent, entry.number)
+            && !is_wrong_parent(parent, entry.number)
             && entry.kind == DT_DIR,
     }
 }

@@ -51,7 +51,7 @@ impl<'a> Inodes<'a> {
     }
 
     /// Whether the inode has a known type, which isn't this one.
-    pub fn is_other_kind(&self, inode: u32, kind: u8) -> bool
+    pub fn has_wrong_type(&self, inode: u32, kind: u8) -> bool
         requires { inode < length self.now.kinds.now }
         ensures { result ≡ (not (is_unknown_kind (slice_index self.now.kinds.now inode))
             && not (kind == type_of_kind (slice_index self.now.kinds.now inode))) }

@@ -49,7 +49,7 @@ fn is_quiet_inode(inodes: &Inodes<'_>, dir: u32, stamps: &[u32], entry: &Entry<'
     if !is_quiet_link(inodes, dir, stamps, entry.number) {
         return false;
     }
-    !inodes.is_other_kind(entry.number, entry.kind)
+    !inodes.has_wrong_type(entry.number, entry.kind)
 }
 
 /// Whether nothing is reported of a plain entry.

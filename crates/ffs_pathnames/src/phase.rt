@@ -6,7 +6,7 @@ ghost use Rattle.ffs_phase.specs.Runs.{ImageAfter, PhaseReports};
 ghost use Rattle.ffs_report.specs.Progress.{Said, progress};
 ghost use Rattle.ffs_volume.specs.Messages.Kinds as messages;
 ghost use Rattle.ffs_volume.specs.Messages.Kinds.{of_names};
-ghost use Rattle.ffs_volume.specs.Directories.PathnameCheck.{goes_on, pathname_lines};
+ghost use Rattle.ffs_volume.specs.Directories.PathnameCheck.{continues_after_root, pathname_lines};
 ghost use Rattle.ffs_volume.specs.Directories.Volumes.{volume_of};
 ghost use Rattle.ffs_workspace.specs.Holds.{HoldsClaims, HoldsSurvey};
 ghost use Rattle.ffs_pathnames.specs.GoesOn.{AtReadFault, is_go};
@@ -49,14 +49,14 @@ pub fn phase2<I: Image, W: Output>(
     ensures goes { IfOk result (λ root. ForBytes
         (λ b. IsContents (I.device image.old).contents b
         × HoldsClaims geometry.now.layout b workspace.old)
-        (λ b. is_go root ≡ goes_on (volume_of geometry.now.layout b))) }
+        (λ b. is_go root ≡ continues_after_root (volume_of geometry.now.layout b))) }
 
     // Where a read failed, the heading alone was said, or the run continues after the root.
     ensures fault { AtReadFault result (Said (progress W.sink report.old)
         (progress W.sink report.new) (messages.phase2 ∷ [])
         ⊎ ForBytes (λ b. IsContents (I.device image.old).contents b
         × HoldsClaims geometry.now.layout b workspace.old)
-        (λ b. goes_on (volume_of geometry.now.layout b) ≡ true)) }
+        (λ b. continues_after_root (volume_of geometry.now.layout b) ≡ true)) }
     ensures holds { OnOk result (ForBytes
         (λ b. IsContents (I.device image.old).contents b
         × HoldsClaims geometry.now.layout b workspace.old)

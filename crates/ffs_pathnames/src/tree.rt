@@ -4,7 +4,7 @@ ghost use Rattle.ffs_phase.specs.Known.{ForBytes};
 ghost use Rattle.ffs_phase.specs.Runs.{ImageAfter, PhaseReports};
 ghost use Rattle.ffs_report.specs.Progress.{progress};
 ghost use Rattle.ffs_volume.specs.Messages.Kinds.{of_names, lines_from};
-ghost use Rattle.ffs_volume.specs.Directories.PathnameCheck.{goes_on, lines_of, pathname_lines};
+ghost use Rattle.ffs_volume.specs.Directories.PathnameCheck.{continues_after_root, lines_of, pathname_lines};
 ghost use Rattle.ffs_volume.specs.Directories.Volumes.{volume_of};
 ghost use Rattle.ffs_workspace.specs.Holds.{bool_at};
 ghost use Rattle.ffs_workspace.specs.Lengths.{inodes_of};
@@ -120,12 +120,12 @@ pub fn check_tree<I: Image, W: Output>(
         (progress W.sink report.old) (progress W.sink report.new) result }
     ensures goes { IfOk result (λ root. ForBytes
         (λ b. IsBefore geometry.now.layout (I.device image.old).contents workspace.old 2 b)
-        (λ b. is_go root ≡ goes_on (volume_of geometry.now.layout b))) }
+        (λ b. is_go root ≡ continues_after_root (volume_of geometry.now.layout b))) }
 
     // A read failed only where the run continues after the root.
     ensures fault { AtReadFault result (ForBytes
         (λ b. IsBefore geometry.now.layout (I.device image.old).contents workspace.old 2 b)
-        (λ b. goes_on (volume_of geometry.now.layout b) ≡ true)) }
+        (λ b. continues_after_root (volume_of geometry.now.layout b) ≡ true)) }
     ensures survey { LeavesSurvey workspace.old workspace.new }
     ensures ready { IsReady geometry.now.layout (I.device image.new) workspace.new }
 {

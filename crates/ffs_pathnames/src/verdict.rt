@@ -3,7 +3,7 @@ ghost use Rattle.std.specs.Prelude.{◌≡◌, ◌<◌, ◌==◌, ◌&&◌, not,
 ghost use Rattle.ffs_volume.specs.Blocks.Inodes.{is_allocated};
 ghost use Rattle.ffs_volume.specs.Directories.Roles.{Volume, is_dir, is_suspect};
 ghost use Rattle.ffs_volume.specs.declared.Role.{Role};
-ghost use Rattle.ffs_volume.specs.Directories.PathnameCheck.{attributes, label_of, is_other_kind};
+ghost use Rattle.ffs_volume.specs.Directories.PathnameCheck.{attributes, label_of, has_wrong_type};
 ghost use Rattle.ffs_volume.specs.Directories.Parents.{graph_of};
 ghost use Rattle.ffs_volume.specs.Directories.Paths.{dir_path, entry_path};
 ghost use Rattle.ffs_layout.specs.Entry.{entry_value};
@@ -73,7 +73,7 @@ fn faults_of(
         (marks.is_due dir (record { passed = passed.now; stamps = stamps.now }) entry.now.number)) }
     ensures kind { (v : Volume) → Sees v inodes.now
         → IsTrue (is_allocated (v.class entry.now.number)) → result.kind
-        ≡ is_other_kind v (entry_value entry.now) }
+        ≡ has_wrong_type v (entry_value entry.now) }
     ensures label { (v : Volume) → Sees v inodes.now
         → IsTrue (is_allocated (v.class entry.now.number)) → result.label
         ≡ label_of (v.class entry.now.number) }
@@ -85,7 +85,7 @@ fn faults_of(
         suspect,
         marked: inodes.marked[index],
         extraneous,
-        kind: inodes.is_other_kind(entry.number, entry.kind),
+        kind: inodes.has_wrong_type(entry.number, entry.kind),
         label: label_of_kind(inodes.kinds[index]),
     }
 }

@@ -4,7 +4,7 @@ use Rattle.std.specs.Prelude.{nat_lt, nat_le, Some, if◌then◌else◌}
 use Rattle.std.proofs.lemmas.Bool.Decides.{nat_tests}
 use lib.Seq.{take_all}
 use borrow.Rule.Slice.PartMut.{mid_of}
-use Rattle.ffs_volume.specs.Directories.Paths.{joined, longest_end, path_bytes, dir_bytes}
+use Rattle.ffs_volume.specs.Directories.Paths.{joined, longest_end, path_bytes, dir_path_of_names}
 
 pub over_1024 : (n : ℕ) → nat_lt 1024 n ≡ true → 1024 < n
 over_1024 n h = grind (arith, nat_tests)
@@ -68,16 +68,16 @@ pub end-full : (name : List ℕ) (names : List (List ℕ)) → length name + 1 +
 end-full name names h = let l = joined-length name names in end-more 1023 name names (omega arith)
 
 -- the text of names that are cut, of none, and of names that have room
-pub text-cut : (names : List (List ℕ)) → nat_lt 1024 (length (joined names)) ≡ true → dir_bytes (Some names) ≡ 63 ∷ joined (longest_end 1023 names)
+pub text-cut : (names : List (List ℕ)) → nat_lt 1024 (length (joined names)) ≡ true → dir_path_of_names (Some names) ≡ 63 ∷ joined (longest_end 1023 names)
 unfolding path_bytes
 text-cut [] h = absurd (cc)
 text-cut (name ∷ names) h = ap (λ b. if b then 63 ∷ joined (longest_end 1023 (name ∷ names)) else joined (name ∷ names)) h
 
-pub text-none : (names : List (List ℕ)) → length (joined names) ≡ 0 → dir_bytes (Some names) ≡ 47 ∷ []
+pub text-none : (names : List (List ℕ)) → length (joined names) ≡ 0 → dir_path_of_names (Some names) ≡ 47 ∷ []
 text-none [] h = refl
 text-none (name ∷ names) h = absurd (omega arith)
 
-pub text-whole : (names : List (List ℕ)) → nat_lt 1024 (length (joined names)) ≡ false → 0 < length (joined names) → dir_bytes (Some names) ≡ joined names
+pub text-whole : (names : List (List ℕ)) → nat_lt 1024 (length (joined names)) ≡ false → 0 < length (joined names) → dir_path_of_names (Some names) ≡ joined names
 unfolding path_bytes
 text-whole [] h l = absurd (omega arith)
 text-whole (name ∷ names) h l = ap (λ b. if b then 63 ∷ joined (longest_end 1023 (name ∷ names)) else joined (name ∷ names)) h

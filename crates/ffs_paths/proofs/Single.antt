@@ -6,14 +6,14 @@ use Rattle.ffs_volume.specs.declared.Layout.{Layout}
 use Rattle.ffs_volume.specs.declared.Order.{Order}
 use Rattle.ffs_volume.specs.declared.Step.{Step}
 use Rattle.ffs_volume.specs.declared.Step.TheVariants.{Run, Tail, Gap}
-use Rattle.ffs_volume.specs.Disk.Areas.{is_in_range}
-use Rattle.ffs_volume.specs.Directories.Entries.{Chunk, Entry, Reading, chunk_of, chunks_of, entries_from, entries_with, entry_at, entry_read, is_held, is_length, is_well_formed, name_at, run_chunks, step_chunks}
-use Rattle.ffs_volume.specs.Directories.Graph.{parent, parent_entry}
+use Rattle.ffs_volume.specs.Disk.Areas.{is_run_in_range}
+use Rattle.ffs_volume.specs.Directories.Entries.{Chunk, Entry, ChunkSource, chunk_of, chunks_of, entries_from, entries_with, entry_at, entry_read, is_held, is_length, is_well_formed, name_at, run_chunks, step_chunks}
+use Rattle.ffs_volume.specs.Directories.Graph.{parent, parent_entry_index}
 use Rattle.ffs_volume.specs.Disk.Numbers.{u16_at, u32_at, piece}
 use Rattle.ffs_volume.specs.Directories.Parents.{graph_of, roled_at}
 use Rattle.ffs_volume.specs.Directories.Paths.{names_down, names_above, name_of}
 use Rattle.ffs_volume.specs.Directories.Roles.{RoledEntry, roled_chunk, roled_from, roled_entries}
-use Rattle.ffs_volume.specs.Directories.Volumes.{volume_of, volume_with, reading_of, kept_at_number}
+use Rattle.ffs_volume.specs.Directories.Volumes.{volume_of, volume_with, chunk_source_of, kept_steps_of_inode}
 use Rattle.ffs_paths.specs.Slashes.{AreSingle, has_slash}
 
 -- ---- the name of a well formed entry
@@ -107,27 +107,27 @@ mapped_single : (order : Order) (offset : ℕ → ℕ) (bytes : ℕ → List ℕ
 mapped_single order offset bytes [] = tt
 mapped_single order offset bytes (k ∷ ks) = (entries_single order (bytes k) 64 0, mapped_single order offset bytes ks)
 
-run_single : (r : Reading) (start len offset : ℕ) → AreSingleChunks (run_chunks r start len offset)
+run_single : (r : ChunkSource) (start len offset : ℕ) → AreSingleChunks (run_chunks r start len offset)
 run_single r start len offset =
     mapped_single r.order (λ k. offset + 512 * k) (λ k. piece (start * r.fsize + 512 * k) 512 r.image) (range_with_len 0 (min (len * r.fsize / 512) ((r.taken - offset) / 512)))
 
-step_single : (r : Reading) (is_in_range : ℕ → ℕ → Bool) (step : Step) → AreSingleChunks (step_chunks r is_in_range step)
-step_single r is_in_range (Run start len (Some block)) = go (is_in_range start len)
+step_single : (r : ChunkSource) (is_run_in_range : ℕ → ℕ → Bool) (step : Step) → AreSingleChunks (step_chunks r is_run_in_range step)
+step_single r is_run_in_range (Run start len (Some block)) = go (is_run_in_range start len)
   where
     go : (b : Bool) → AreSingleChunks (if b then run_chunks r start len (block * r.bsize) else [])
     go true = run_single r start len (block * r.bsize)
     go false = tt
-step_single r is_in_range (Run start len None) = tt
-step_single r is_in_range Tail = tt
-step_single r is_in_range Gap = tt
+step_single r is_run_in_range (Run start len None) = tt
+step_single r is_run_in_range Tail = tt
+step_single r is_run_in_range Gap = tt
 
-steps_single : (r : Reading) (is_in_range : ℕ → ℕ → Bool) (steps : List Step) → AreSingleChunks (chunks_of r is_in_range steps)
-steps_single r is_in_range [] = tt
-steps_single r is_in_range (s ∷ ss) = chunks_append (step_chunks r is_in_range s) (chunks_of r is_in_range ss) (step_single r is_in_range s) (steps_single r is_in_range ss)
+steps_single : (r : ChunkSource) (is_run_in_range : ℕ → ℕ → Bool) (steps : List Step) → AreSingleChunks (chunks_of r is_run_in_range steps)
+steps_single r is_run_in_range [] = tt
+steps_single r is_run_in_range (s ∷ ss) = chunks_append (step_chunks r is_run_in_range s) (chunks_of r is_run_in_range ss) (step_single r is_run_in_range s) (steps_single r is_run_in_range ss)
 
 in_single : (v : Layout) (b : List ℕ) (d : ℕ) → AreSingleSeen (roled_entries (volume_of v b) d)
 unfolding roled_entries volume_of volume_with
-in_single v b d = chunks_seen (chunks_of (reading_of v b d) (is_in_range v) (kept_at_number v b d)) (steps_single (reading_of v b d) (is_in_range v) (kept_at_number v b d))
+in_single v b d = chunks_seen (chunks_of (chunk_source_of v b d) (is_run_in_range v) (kept_steps_of_inode v b d)) (steps_single (chunk_source_of v b d) (is_run_in_range v) (kept_steps_of_inode v b d))
 
 -- ---- those of a path
 at_single : (es : List RoledEntry) → AreSingleSeen es → (i : ℕ) → has_slash (name_of (roled_at es i)) ≡ false
@@ -151,4 +151,4 @@ down_single v b (suc k) d = go (λ s. down_single v b k s) (parent (graph_of (vo
     go : ((s : ℕ) → AreSingle (names_down (graph_of (volume_of v b)) k s)) → (o : Option ℕ) → AreSingle (names_above (graph_of (volume_of v b)) (names_down (graph_of (volume_of v b)) k) d o)
     go above None = tt
     go above (Some s) =
-        names_append (names_down (graph_of (volume_of v b)) k s) _ (above s) (place_single (roled_entries (volume_of v b) s) (in_single v b s) (parent_entry (graph_of (volume_of v b)) d))
+        names_append (names_down (graph_of (volume_of v b)) k s) _ (above s) (place_single (roled_entries (volume_of v b) s) (in_single v b s) (parent_entry_index (graph_of (volume_of v b)) d))

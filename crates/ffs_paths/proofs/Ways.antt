@@ -7,10 +7,10 @@ use Rattle.std.proofs.lemmas.Bool.{both_ways, and_parts, ne_eqb, cond-false, eq-
 use Rattle.ffs_volume.specs.declared.Layout.{Layout}
 use Rattle.ffs_volume.specs.Directories.Roles.{RoledEntry}
 use Rattle.ffs_volume.specs.Directories.Volumes.{volume_of, volume_with}
-use Rattle.ffs_volume.specs.Directories.Graph.{Graph, level, reached, names, names_in, parent, parent_entry, entry_index, first_index}
+use Rattle.ffs_volume.specs.Directories.Graph.{Graph, level, reached, names, names_in, parent, parent_entry_index, index_in_parent, first_index}
 use Rattle.ffs_volume.proofs.LevelLaws.{level-some, within-zero}
 use Rattle.ffs_volume.specs.Directories.Parents.{roled_at, graph_of}
-use Rattle.ffs_volume.specs.Directories.Paths.{joined, names_down, names_above, name_of, dir_names, dir_path, entry_path, dir_bytes, path_of_entry, path_bytes}
+use Rattle.ffs_volume.specs.Directories.Paths.{joined, names_down, names_above, name_of, path_names, dir_path, entry_path, dir_path_of_names, entry_path_of_names, path_bytes}
 use Rattle.ffs_survey.specs.ParentLaws.{parent_above, root_level}
 use Rattle.ffs_paths.specs.declared.buffer.PathBuffer.{PathBuffer}
 use Rattle.ffs_paths.specs.Buffers.{HoldsNames}
@@ -83,7 +83,7 @@ on_front (x ∷ xs) n ys = ap (λ zs. x ∷ zs) (on_front xs n ys)
 pub down_is : (g : Graph) (j at s : ℕ) → at ≢ 2 → parent g at ≡ Some s → names_down g (suc j) at ≡ names_down g j s ++ name_in at (g.entries s) ∷ []
 unfolding names_down
 down_is g j at s n e =
-    let place : parent_entry g at ≡ first_index (names at) (g.entries s) = cond-false (at == 2) None (entry_index g at (parent g at)) (ne_eqb at 2 n) ∙ ap (entry_index g at) e in
+    let place : parent_entry_index g at ≡ first_index (names at) (g.entries s) = cond-false (at == 2) None (index_in_parent g at (parent g at)) (ne_eqb at 2 n) ∙ ap (index_in_parent g at) e in
     ap (names_above g (names_down g j) at) e ∙ ap (λ o. names_down g j s ++ name_of (option_and_then (roled_at (g.entries s)) o) ∷ []) place
 
 pub way_up : (g : Graph) (k d at step : ℕ) (ends : List (List ℕ)) (p : PathBuffer) → IsOnWay g k d at step ends p → at ≢ 2 → (s : ℕ) × HasParent g k d at step ends p s
@@ -136,38 +136,38 @@ found_is g d k p l r h s =
     subst (HoldsPath p) (sym (ap (option_map (λ n. names_down g n d)) l)) (r, subst (HoldsNames p.names) (append_none (names_down g k d)) h, s)
 
 -- what is written of it
-pub put_is : (g : Graph) (d : ℕ) (p : DirectoryPath) (text : List ℕ) → IsPathOf g d p → p.reached ≡ true → ((names : List (List ℕ)) → HoldsNames p.names names → text ≡ dir_bytes (Some names))
+pub put_is : (g : Graph) (d : ℕ) (p : DirectoryPath) (text : List ℕ) → IsPathOf g d p → p.reached ≡ true → ((names : List (List ℕ)) → HoldsNames p.names names → text ≡ dir_path_of_names (Some names))
     → text ≡ dir_path g d
 unfolding dir_path
-put_is g d p text h r f = go (dir_names g d) h
+put_is g d p text h r f = go (path_names g d) h
   where
-    go : (o : Option (List (List ℕ))) → HoldsPath p o → text ≡ dir_bytes o
+    go : (o : Option (List (List ℕ))) → HoldsPath p o → text ≡ dir_path_of_names o
     go None k = absurd (both_ways _ k r)
     go (Some names) k = f names k.1
 
 pub put_lost : (g : Graph) (d : ℕ) (p : DirectoryPath) (text : List ℕ) → IsPathOf g d p → p.reached ≡ false → text ≡ 63 ∷ [] → text ≡ dir_path g d
 unfolding dir_path
-put_lost g d p text h r e = go (dir_names g d) h
+put_lost g d p text h r e = go (path_names g d) h
   where
-    go : (o : Option (List (List ℕ))) → HoldsPath p o → text ≡ dir_bytes o
+    go : (o : Option (List (List ℕ))) → HoldsPath p o → text ≡ dir_path_of_names o
     go None k = e
     go (Some names) k = absurd (both_ways _ r k.0)
 
 pub entry_is : (g : Graph) (d : ℕ) (name : List ℕ) (p : DirectoryPath) (text : List ℕ) → IsPathOf g d p → p.reached ≡ true
     → ((names : List (List ℕ)) → HoldsNames p.names names → AreSingle names → text ≡ path_bytes (names ++ name ∷ [])) → text ≡ in_room (entry_path g d name)
 unfolding entry_path
-entry_is g d name p text h r f = go (dir_names g d) h
+entry_is g d name p text h r f = go (path_names g d) h
   where
-    go : (o : Option (List (List ℕ))) → HoldsPath p o → text ≡ in_room (path_of_entry name o)
+    go : (o : Option (List (List ℕ))) → HoldsPath p o → text ≡ in_room (entry_path_of_names name o)
     go None k = absurd (both_ways _ k r)
     go (Some names) k = f names k.1 k.2 ∙ fits (path_bytes (names ++ name ∷ [])) (path_text-fits (names ++ name ∷ []))
 
 -- of a directory that is not reached
 lost_by : (g : Graph) (d : ℕ) (name : List ℕ) (p : DirectoryPath) (text : List ℕ) → IsPathOf g d p → p.reached ≡ false → text ≡ in_room (63 ∷ 47 ∷ name) → text ≡ in_room (entry_path g d name)
 unfolding entry_path
-lost_by g d name p text h r e = go (dir_names g d) h
+lost_by g d name p text h r e = go (path_names g d) h
   where
-    go : (o : Option (List (List ℕ))) → HoldsPath p o → text ≡ in_room (path_of_entry name o)
+    go : (o : Option (List (List ℕ))) → HoldsPath p o → text ≡ in_room (entry_path_of_names name o)
     go None k = e
     go (Some names) k = absurd (both_ways _ r k.0)
 

@@ -1,7 +1,7 @@
 -- What the path of a directory holds that is kept.
 use Rattle.std.specs.Prelude.{◌≡◌, ℕ, true, false, List, Option, Some, None}
 use Rattle.ffs_volume.specs.Directories.Graph.{Graph}
-use Rattle.ffs_volume.specs.Directories.Paths.{dir_names}
+use Rattle.ffs_volume.specs.Directories.Paths.{path_names}
 use Rattle.ffs_paths.specs.Buffers.{HoldsNames}
 use Rattle.ffs_paths.specs.Slashes.{AreSingle}
 use Rattle.ffs_paths.specs.declared.kept.DirectoryPath.{DirectoryPath}
@@ -13,4 +13,4 @@ HoldsPath p (Some names) = (p.reached ≡ true) × HoldsNames p.names names × A
 
 -- the path of the directory d
 abbrev pub IsPathOf : Graph → ℕ → DirectoryPath → Type 0
-IsPathOf g d p = HoldsPath p (dir_names g d)
+IsPathOf g d p = HoldsPath p (path_names g d)

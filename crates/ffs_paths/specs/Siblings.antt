@@ -3,7 +3,7 @@ use Rattle.std.specs.Prelude.{◌≡◌, ◌<◌, ℕ, true, List, [], ◌∷◌
 use Rattle.ffs_volume.specs.declared.Layout.{Layout}
 use Rattle.ffs_volume.specs.Directories.Graph.{Graph}
 use Rattle.ffs_volume.specs.Directories.Parents.{graph_of}
-use Rattle.ffs_volume.specs.Directories.Paths.{dir_names}
+use Rattle.ffs_volume.specs.Directories.Paths.{path_names}
 use Rattle.ffs_volume.specs.Directories.Roles.{is_dir, roled_entries}
 use Rattle.ffs_volume.specs.Directories.Volumes.{volume_of}
 use Rattle.ffs_names.specs.Entering.{to_come, last_name}
@@ -19,8 +19,8 @@ use Rattle.ffs_paths.specs.declared.siblings.Siblings.{Siblings}
 -- the names down to d are those down to s, and one more
 pub record LeadsTo (g : Graph) (s d : ℕ) (name : List ℕ) : Type 0 where
   pub names : List (List ℕ)
-  pub above : dir_names g s ≡ Some names
-  pub below : dir_names g d ≡ Some (names ++ name ∷ [])
+  pub above : path_names g s ≡ Some names
+  pub below : path_names g d ≡ Some (names ++ name ∷ [])
   pub single : AreSingle (names ++ name ∷ [])
 
 -- the parent's path, and a reading of its entries: of a number above all that were passed, the first plain entry that

@@ -72,7 +72,7 @@ fn put_from(bytes: &[u8; MAXPATHLEN], start: usize, name: &[u8], text: &mut Path
 }
 
 impl PathBuffer {
-    ghost use Rattle.ffs_volume.specs.Directories.Paths.{dir_bytes, path_bytes};
+    ghost use Rattle.ffs_volume.specs.Directories.Paths.{dir_path_of_names, path_bytes};
     ghost use Rattle.ffs_paths.specs.Buffers.{HoldsNames};
     ghost use Rattle.ffs_paths.specs.Slashes.{AreSingle};
 
@@ -111,7 +111,7 @@ impl PathBuffer {
     pub fn put(&self, text: &mut PathText)
         requires { text.old.items ≡ [] }
         ensures { (names : List (List ℕ)) → HoldsNames self.now names → text.new.items
-            ≡ dir_bytes (Some names) }
+            ≡ dir_path_of_names (Some names) }
     {
         if self.cut {
             text.push(b'?');

@@ -4,7 +4,7 @@ ghost use Rattle.ffs_report.specs.Sink.{Prints};
 ghost use Rattle.ffs_report.specs.Piece.{pieces_text};
 ghost use Rattle.ffs_report.specs.Lines.{directory_message, dot_message, entry_message, reference_message};
 ghost use Rattle.ffs_volume.specs.declared.Label.TheVariants.{Dir};
-ghost use Rattle.ffs_volume.specs.Messages.Texts.{path_label, file_label, attr_text, inode_text, kind_text, path_text, name_in_the_way, length_text, empty_text, entry_text, extraneous_text, links_text, name_text};
+ghost use Rattle.ffs_volume.specs.Messages.Texts.{path_label, file_label, attr_text, inode_text, labelled_text, path_text, name_in_the_way, length_text, empty_text, entry_text, extraneous_text, links_text, name_message_text};
 
 use crate::line::{DirectoryLine, DotLine, EntryLine, ReferenceLine};
 use crate::output::{OutFault, Output};
@@ -73,7 +73,7 @@ fn print_kind<W: Output>(
     tail: &[Piece<'_>],
 ) -> Result<(), OutFault>
     ensures { Prints (W.sink out.old) (W.sink out.new)
-        (kind_text head.now label attr.now (pieces_text tail.now)) result }
+        (labelled_text head.now label attr.now (pieces_text tail.now)) result }
 {
     print(out, head)?;
     print_inode(out, file_label(label), attr, tail)
@@ -236,7 +236,7 @@ fn print_dir<'x, W: Output>(
 
 /// What is wrong with a directory as a whole.
 pub fn print_directory<W: Output>(out: &mut W, line: &DirectoryLine<'_>) -> Result<(), OutFault>
-    ensures { Prints (W.sink out.old) (W.sink out.new) (name_text (directory_message line.now))
+    ensures { Prints (W.sink out.old) (W.sink out.new) (name_message_text (directory_message line.now))
         result }
 {
     match *line {
@@ -258,7 +258,7 @@ pub fn print_directory<W: Output>(out: &mut W, line: &DirectoryLine<'_>) -> Resu
 
 /// What is wrong with the entries `.` and `..` of a directory.
 pub fn print_dot<W: Output>(out: &mut W, line: &DotLine<'_>) -> Result<(), OutFault>
-    ensures { Prints (W.sink out.old) (W.sink out.new) (name_text (dot_message line.now)) result }
+    ensures { Prints (W.sink out.old) (W.sink out.new) (name_message_text (dot_message line.now)) result }
 {
     match *line {
         DotLine::MissingDot { attr, path } => print_dir(out, MISSING_DOT, &attr, path, FIX),
@@ -290,7 +290,7 @@ pub fn print_dot<W: Output>(out: &mut W, line: &DotLine<'_>) -> Result<(), OutFa
 
 /// What is wrong with a further entry of a directory.
 pub fn print_entry<W: Output>(out: &mut W, line: &EntryLine<'_>) -> Result<(), OutFault>
-    ensures { Prints (W.sink out.old) (W.sink out.new) (name_text (entry_message line.now)) result }
+    ensures { Prints (W.sink out.old) (W.sink out.new) (name_message_text (entry_message line.now)) result }
 {
     match *line {
         EntryLine::OutOfRange { number, path } => print_numbered(
@@ -322,7 +322,7 @@ pub fn print_entry<W: Output>(out: &mut W, line: &EntryLine<'_>) -> Result<(), O
 
 /// What is wrong with an inode by the entries that name it.
 pub fn print_reference<W: Output>(out: &mut W, line: &ReferenceLine) -> Result<(), OutFault>
-    ensures { Prints (W.sink out.old) (W.sink out.new) (name_text (reference_message line.now))
+    ensures { Prints (W.sink out.old) (W.sink out.new) (name_message_text (reference_message line.now))
         result }
 {
     match *line {

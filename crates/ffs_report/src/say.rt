@@ -2,7 +2,7 @@
 ghost use Rattle.std.specs.Prelude.{◌≡◌};
 ghost use Rattle.ffs_report.specs.Sink.{Prints};
 ghost use Rattle.ffs_report.specs.Lines.{message_of, heading_message};
-ghost use Rattle.ffs_volume.specs.Messages.Texts.{text_of, number_text, fault_text, opening_text, mounted_text, minfree_text, claim_text, block_count_text, block_text, summary_text};
+ghost use Rattle.ffs_volume.specs.Messages.Texts.{text_of, number_text, fault_text, opening_text, mounted_text, minfree_text, claim_text, block_count_text, block_message_text, summary_text};
 
 use crate::line::{Heading, Line};
 use crate::line_buffer::LineBuffer;
@@ -175,7 +175,7 @@ fn print_count<W: Output>(out: &mut W, inode: u32, found: u32, right: u64) -> Re
 }
 
 fn print_block<W: Output>(out: &mut W, message: BlockMessage) -> Result<(), OutFault>
-    ensures { Prints (W.sink out.old) (W.sink out.new) (block_text message) result }
+    ensures { Prints (W.sink out.old) (W.sink out.new) (block_message_text message) result }
 {
     match message {
         BlockMessage::PartAlloc { inode } => print_number(out, PART_ALLOC, inode as u64, CLEAR),

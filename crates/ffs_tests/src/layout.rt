@@ -200,7 +200,7 @@ fn places(rt: HostRuntime) -> Result<(), Fail> {
 #[test]
 fn areas(rt: HostRuntime) -> Result<(), Fail> {
     let geometry = found_with(Some(16), &TWO_GROUPS, 256000, rt.alloc())?.geometry;
-    for (fragment, is_data_fragment, is_reserved) in [
+    for (fragment, is_fragment_in_range, is_reserved) in [
         (0, true, true),
         (15, true, true),
         (16, false, true),
@@ -212,7 +212,7 @@ fn areas(rt: HostRuntime) -> Result<(), Fail> {
         (249, true, false),
         (250, false, false),
     ] {
-        assert_eq!(rt; geometry.ok(fragment), is_data_fragment);
+        assert_eq!(rt; geometry.ok(fragment), is_fragment_in_range);
         assert_eq!(rt; geometry.reserved(fragment), is_reserved);
     }
     assert_eq!(rt;

@@ -7,7 +7,7 @@ use Rattle.ffs_volume.specs.declared.SuperFault.TheVariants.{CannotRead}
 use Rattle.ffs_volume.specs.Disk.Superblock.{Superblock, layout_of, superblock_of, order_of}
 use Rattle.ffs_volume.specs.Disk.Outcome.{super_sector, super_bytes, layout_fault, copy_agrees, super_verdict, outcome_in, outcome_of, outcome}
 use Rattle.ffs_volume.proofs.GeometryLaws.{geometry_holds}
-use Rattle.ffs_volume.specs.Laws.Accepted.{IsSound, AcceptedAreSound}
+use Rattle.ffs_volume.specs.Laws.Accepted.{FitsImage, AcceptedAreSound}
 
 judged_ok : (fault : Option SuperFault) (agrees : Bool) (super s : Superblock) → super_verdict fault agrees super ≡ Ok s → (fault ≡ None) × (super ≡ s)
 unfolding super_verdict
@@ -15,13 +15,13 @@ judged_ok (Some fault) agrees super s e = absurd (cc)
 judged_ok None true super s e = (refl, cc)
 judged_ok None false super s e = absurd (cc)
 
-super_layout : (image : List ℕ) (sector : Option ℕ) (bytes : List ℕ) (order : Option Order) (s : Superblock) → outcome_of image sector bytes order ≡ Ok s → IsSound s.layout (length image)
+super_layout : (image : List ℕ) (sector : Option ℕ) (bytes : List ℕ) (order : Option Order) (s : Superblock) → outcome_of image sector bytes order ≡ Ok s → FitsImage s.layout (length image)
 unfolding outcome_of outcome_in superblock_of
 super_layout image sector bytes None s e = absurd (cc)
 super_layout image sector bytes (Some order) s e =
     let p = judged_ok (layout_fault (layout_of order bytes) (length image)) (copy_agrees image sector order bytes) (superblock_of order bytes) s e in
     let g = geometry_holds (layout_of order bytes) (length image) p.0 in
-    subst (λ v. IsSound v (length image)) (ap (λ q. q.layout) p.1) (record { geometry = g.0; inside = g.1 })
+    subst (λ v. FitsImage v (length image)) (ap (λ q. q.layout) p.1) (record { geometry = g.0; inside = g.1 })
 
 in_image : (b : Bool) (fault : SuperFault) (r : Result Superblock SuperFault) (s : Superblock) → (if b then Err fault else r) ≡ Ok s → r ≡ Ok s
 in_image true fault r s e = absurd (cc)

@@ -9,16 +9,16 @@ use Rattle.ffs_volume.specs.declared.Step.{Step}
 use Rattle.ffs_volume.specs.declared.Step.TheVariants.{Run, Tail, Gap}
 use Rattle.ffs_volume.specs.Disk.Numbers.{piece}
 use Rattle.ffs_volume.proofs.StepLaws.{Within}
-use Rattle.ffs_volume.specs.Directories.Entries.{Reading, chunk_of, run_chunks, chunks_of}
+use Rattle.ffs_volume.specs.Directories.Entries.{ChunkSource, chunk_of, run_chunks, chunks_of}
 
 -- how many chunks a Run has
-run_length : (r : Reading) (start len offset : ℕ) → length (run_chunks r start len offset) ≡ min (len * r.fsize / 512) ((r.taken - offset) / 512)
+run_length : (r : ChunkSource) (start len offset : ℕ) → length (run_chunks r start len offset) ≡ min (len * r.fsize / 512) ((r.taken - offset) / 512)
 run_length r start len offset =
     length-map (range_with_len 0 (min (len * r.fsize / 512) ((r.taken - offset) / 512))) (λ k. chunk_of r.order (offset + 512 * k) (piece (start * r.fsize + 512 * k) 512 r.image))
     ∙ length-range_with_len 0 (min (len * r.fsize / 512) ((r.taken - offset) / 512))
 
 -- the chunks of steps in the order of their blocks
-pub chunks_few : (r : Reading) (test : ℕ → ℕ → Bool) (frag low high : ℕ) (steps : List Step) → frag * r.fsize ≤ r.bsize → Within frag low high steps
+pub chunks_few : (r : ChunkSource) (test : ℕ → ℕ → Bool) (frag low high : ℕ) (steps : List Step) → frag * r.fsize ≤ r.bsize → Within frag low high steps
     → 512 * length (chunks_of r test steps) ≤ r.taken - low * r.bsize
 chunks_few r test frag low high [] f w = omega arith
 chunks_few r test frag low high (Run start len None ∷ steps) f w = chunks_few r test frag low high steps f w.1

@@ -8,7 +8,7 @@ use Rattle.ffs_volume.specs.Directories.Climb.{climb}
 use Rattle.ffs_volume.specs.Directories.Graph.{within, level, parent}
 use Rattle.ffs_volume.specs.Directories.Paths.{longest_end, path_bytes, names_down, dir_path, entry_path}
 use Rattle.ffs_volume.specs.Messages.Kinds.{lines_below}
-use Rattle.ffs_volume.specs.Directories.PathnameCheck.{attributes, root_lines, shape_lines, dot_lines, dotdot_lines, named_lines, plain_lines, roled_lines, entry_lines, dir_lines, pathname_lines}
+use Rattle.ffs_volume.specs.Directories.PathnameCheck.{attributes, root_lines, shape_lines, dot_lines, dotdot_lines, named_lines, plain_lines, roled_lines, lines_of_entries, dir_lines, pathname_lines}
 use Rattle.ffs_volume.specs.Directories.Connectivity.{connectivity_lines}
 use Rattle.ffs_volume.specs.Directories.ReferenceCheck.{inode_lines, reference_lines}
 use Rattle.ffs_volume.specs.Examples.Images.{bytes_in, word, zeros, root_chunk}
@@ -47,7 +47,7 @@ entry_examples = record {
 }
 
 pub pathname_examples : PathnameExamples
-unfolding entry dots whole_chunk class_in small about alone lost_entries below_entries lost_cycle twice_entries twice sub_entries sub empty_dir dead_entries dead_parent sized long_name role_of roled_from roled_entries start_entry dot dotdot first_below earliest climb within level parent longest_end path_bytes names_down dir_path entry_path lines_below attributes root_lines shape_lines dot_lines dotdot_lines named_lines plain_lines roled_lines entry_lines dir_lines pathname_lines
+unfolding entry dots whole_chunk class_in small about alone lost_entries below_entries lost_cycle twice_entries twice sub_entries sub empty_dir dead_entries dead_parent sized long_name role_of roled_from roled_entries start_entry dot dotdot first_below earliest climb within level parent longest_end path_bytes names_down dir_path entry_path lines_below attributes root_lines shape_lines dot_lines dotdot_lines named_lines plain_lines roled_lines lines_of_entries dir_lines pathname_lines
 pathname_examples = record {
   base = refl;
   cycle = refl;

@@ -4,10 +4,10 @@ use Rattle.std.specs.Prelude.{nat_lt, ◌==◌, not}
 use Rattle.std.proofs.lemmas.Bool.{cases_lt, and_parts}
 use Rattle.std.proofs.lemmas.Bool.Decides.{nat_tests}
 use Rattle.ffs_volume.specs.declared.Layout.{Layout}
-use Rattle.ffs_volume.specs.Disk.Numbers.{natural, is_natural, all_below}
+use Rattle.ffs_volume.specs.Disk.Numbers.{zero_if_negative, is_nonnegative, all_below}
 use Rattle.ffs_volume.specs.Disk.Areas.{cgoffset_of}
-use Rattle.ffs_volume.specs.Disk.Outcome.{is_block_size, is_fragment_size, is_fragment_count, are_sizes, are_numbers, are_parts, are_cylinders, is_group, is_summary_area, is_shaped, layout_fault}
-use Rattle.ffs_volume.specs.Disk.Geometry.{HasSizes, HasNumbers, HasParts, HasGroup, HasSummaryArea, IsGeometry}
+use Rattle.ffs_volume.specs.Disk.Outcome.{is_block_size, is_fragment_size, is_fragment_count, has_valid_sizes, has_valid_numbers, has_valid_parts, has_valid_cylinders, has_valid_group, has_valid_summary_area, is_valid_layout, layout_fault}
+use Rattle.ffs_volume.specs.Disk.Geometry.{HasSizes, HasNumbers, HasParts, HasGroup, HasSummaryArea, IsValidLayout}
 
 -- no fault, so neither this one nor a later one
 pub no_fault : {X : Type 0} (b : Bool) (x : X) (rest : Option X) → cond (not b) (Some x) rest ≡ None → (b ≡ true) × (rest ≡ None)
@@ -30,8 +30,8 @@ fragment_count : (n : ℕ) → is_fragment_count n ≡ true → (1 ≤ n) × (n 
 unfolding is_fragment_count
 fragment_count n e = grind (arith, nat_tests)
 
-pub sizes_hold : (v : Layout) → are_sizes v ≡ true → HasSizes v
-unfolding are_sizes
+pub sizes_hold : (v : Layout) → has_valid_sizes v ≡ true → HasSizes v
+unfolding has_valid_sizes
 sizes_hold v e =
     let b : is_block_size v.bsize ≡ true = grind (arith, nat_tests) in
     let f : is_fragment_size v.fsize ≡ true = grind (arith, nat_tests) in
@@ -55,8 +55,8 @@ sizes_hold v e =
       whole_blocks = grind (arith, nat_tests);
     }
 
-pub numbers_hold : (v : Layout) → are_numbers v ≡ true → HasNumbers v
-unfolding are_numbers
+pub numbers_hold : (v : Layout) → has_valid_numbers v ≡ true → HasNumbers v
+unfolding has_valid_numbers
 numbers_hold v e = record {
   some_data = grind (arith, nat_tests);
   short_links = grind (arith, nat_tests);
@@ -67,8 +67,8 @@ numbers_hold v e = record {
   inodes_below = grind (arith, nat_tests);
 }
 
-pub parts_hold : (v : Layout) → are_parts v ≡ true → HasParts v
-unfolding are_parts
+pub parts_hold : (v : Layout) → has_valid_parts v ≡ true → HasParts v
+unfolding has_valid_parts
 parts_hold v e = record {
   super_above = grind (arith, nat_tests);
   super_fits = grind (arith, nat_tests);
@@ -78,18 +78,18 @@ parts_hold v e = record {
   cgsize_high = grind (arith, nat_tests);
 }
 
-natural_is : (z : ℤ) → is_natural z ≡ true → z ≡ pos (natural z)
+natural_is : (z : ℤ) → is_nonnegative z ≡ true → z ≡ pos (zero_if_negative z)
 natural_is (pos n) e = refl
 natural_is (negsuc n) e = cc
 
-pub group_holds : (v : Layout) (c : ℕ) → is_group v c ≡ true → HasGroup v c
-unfolding is_group
+pub group_holds : (v : Layout) (c : ℕ) → has_valid_group v c ≡ true → HasGroup v c
+unfolding has_valid_group
 group_holds v c e =
-    let up : is_natural (cgoffset_of v c) ≡ true = grind (arith, nat_tests) in
+    let up : is_nonnegative (cgoffset_of v c) ≡ true = grind (arith, nat_tests) in
     record { moved_up = natural_is (cgoffset_of v c) up; within_group = grind (arith, nat_tests); within_size = grind (arith, nat_tests) }
 
-pub summary_holds : (v : Layout) → is_summary_area v ≡ true → HasSummaryArea v
-unfolding is_summary_area
+pub summary_holds : (v : Layout) → has_valid_summary_area v ≡ true → HasSummaryArea v
+unfolding has_valid_summary_area
 summary_holds v e = record {
   csaddr = grind (arith, nat_tests);
   room = grind (arith, nat_tests);
@@ -108,25 +108,25 @@ all_below-at (suc n) i test all h =
       | inr more ↦ let same : n ≡ i = omega arith in rw (← same) both.0
     ]
 
-shape_holds : (v : Layout) → is_shaped v ≡ true → (are_sizes v ≡ true) × (are_numbers v ≡ true) × (are_parts v ≡ true) × (all_below v.ncg (is_group v) ≡ true) × (is_summary_area v ≡ true)
-unfolding is_shaped
+shape_holds : (v : Layout) → is_valid_layout v ≡ true → (has_valid_sizes v ≡ true) × (has_valid_numbers v ≡ true) × (has_valid_parts v ≡ true) × (all_below v.ncg (has_valid_group v) ≡ true) × (has_valid_summary_area v ≡ true)
+unfolding is_valid_layout
 shape_holds v e =
-    let a = and_parts _ (all_below v.ncg (is_group v)) e in
-    let b = and_parts _ (is_summary_area v) a.0 in
-    let d = and_parts _ (are_parts v) b.0 in
-    let f = and_parts (are_sizes v) (are_numbers v) d.0 in
+    let a = and_parts _ (all_below v.ncg (has_valid_group v)) e in
+    let b = and_parts _ (has_valid_summary_area v) a.0 in
+    let d = and_parts _ (has_valid_parts v) b.0 in
+    let f = and_parts (has_valid_sizes v) (has_valid_numbers v) d.0 in
     (f.0, f.1, d.1, a.1, b.1)
 
 -- a layout without a fault is a geometry, whose fragments lie in the image
-pub geometry_holds : (v : Layout) (n : ℕ) → layout_fault v n ≡ None → IsGeometry v × (v.size * v.fsize ≤ n)
-unfolding layout_fault are_cylinders
+pub geometry_holds : (v : Layout) (n : ℕ) → layout_fault v n ≡ None → IsValidLayout v × (v.size * v.fsize ≤ n)
+unfolding layout_fault has_valid_cylinders
 geometry_holds v n e =
     let a = no_fault (v.inodefmt == 2) _ _ e in
     let b = no_fault_if (nat_lt v.ncg 1) _ _ a.1 in
     let d = no_fault_if (nat_lt v.cpg 1) _ _ b.1 in
-    let f = no_fault (are_cylinders v) _ _ d.1 in
+    let f = no_fault (has_valid_cylinders v) _ _ d.1 in
     let g = no_fault_if (nat_lt 8192 v.sbsize) _ _ f.1 in
-    let h = no_fault (is_shaped v) _ _ g.1 in
+    let h = no_fault (is_valid_layout v) _ _ g.1 in
     let k = no_fault_if (nat_lt n (v.size * v.fsize)) _ _ h.1 in
     let s = shape_holds v h.0 in (
       record {
@@ -139,7 +139,7 @@ geometry_holds v n e =
         sizes = sizes_hold v s.0;
         numbers = numbers_hold v s.1;
         parts = parts_hold v s.2;
-        groups = λ c lt. group_holds v c (all_below-at v.ncg c (is_group v) s.3 lt);
+        groups = λ c lt. group_holds v c (all_below-at v.ncg c (has_valid_group v) s.3 lt);
         summary = summary_holds v s.4;
       },
       grind (arith, nat_tests, k.0),

@@ -1,7 +1,7 @@
 -- Conditions on graphs of directories, which laws speak of.
 use Rattle.std.specs.Prelude.{◌≡◌, ◌≢◌, ℕ, ◌<◌, Bool, true, false, Some}
 use Rattle.ffs_volume.specs.declared.constants.TheConstants.{ROOTINO}
-use Rattle.ffs_volume.specs.Directories.Graph.{Graph, reached, parent, parent_entry, dead, is_unref_dir, names_at, NamedOnce}
+use Rattle.ffs_volume.specs.Directories.Graph.{Graph, reached, parent, parent_entry_index, dead, is_unref_dir, names_at, NamedOnce}
 
 -- a directory has the number of an inode, and there is an inode 2
 pub record IsSane (g : Graph) : Type 0 where
@@ -22,7 +22,7 @@ NoUnrefDir g suspect = (d : ℕ) → is_unref_dir g suspect d ≡ false
 
 -- the entry at index j of s is the parent entry of d, as a fact
 abbrev pub IsParentEntry : Graph → ℕ → ℕ → ℕ → Type 0
-IsParentEntry g s j d = (parent g d ≡ Some s) × (parent_entry g d ≡ Some j)
+IsParentEntry g s j d = (parent g d ≡ Some s) × (parent_entry_index g d ≡ Some j)
 
 -- each plain entry that names a directory is its parent entry
 abbrev pub NoExtraneous : Graph → Type 0

@@ -9,9 +9,9 @@ use Rattle.std.proofs.lemmas.List.Sums.{sum_by-cons}
 use Rattle.std.proofs.lemmas.List.FromFn.{length-map-range_with_len}
 use Rattle.ffs_volume.specs.Disk.Areas.{cgbase}
 use Rattle.ffs_volume.proofs.PrefixLaws.{steps_first}
-use Rattle.ffs_volume.specs.Groups.Records.{is_whole, block_bits, block_numbers, right_summary}
+use Rattle.ffs_volume.specs.Groups.Records.{is_free_block, block_bits, block_numbers, right_group_counts}
 use Rattle.ffs_volume.proofs.LevelLaws.{level-some, level-is}
-use Rattle.ffs_volume.specs.Directories.Paths.{dir_names, dir_bytes, path_of_entry, dir_path, entry_path}
+use Rattle.ffs_volume.specs.Directories.Paths.{path_names, dir_path_of_names, entry_path_of_names, dir_path, entry_path}
 use Rattle.ffs_volume.specs.Laws.Meanings.{KeptAreFirst, LevelsAreLeast, AllPathsFit, SumsAreWhole}
 use Rattle.ffs_volume.proofs.PathBound.{path_text-fits}
 
@@ -22,18 +22,18 @@ pub levels_least : LevelsAreLeast
 levels_least g k d = record { is_least = λ e. level-some g k d e; is_found = λ low is. level-is g k d low is }
 
 -- PATHS
-dir_fits : (names : Option (List (List ℕ))) → length (dir_bytes names) ≤ 1024
+dir_fits : (names : Option (List (List ℕ))) → length (dir_path_of_names names) ≤ 1024
 dir_fits None = omega arith
 dir_fits (Some []) = omega arith
 dir_fits (Some (name ∷ names)) = path_text-fits (name ∷ names)
 
-entry_fits : (name : List ℕ) (names : Option (List (List ℕ))) → length name ≤ 255 → length (path_of_entry name names) ≤ 1024
+entry_fits : (name : List ℕ) (names : Option (List (List ℕ))) → length name ≤ 255 → length (entry_path_of_names name names) ≤ 1024
 entry_fits name None h = omega (arith, h)
 entry_fits name (Some names) h = path_text-fits (names ++ name ∷ [])
 
 pub paths_fit : AllPathsFit
 unfolding dir_path entry_path
-paths_fit g d = record { of_dir = dir_fits (dir_names g d); of_entry = λ name h. entry_fits name (dir_names g d) h }
+paths_fit g d = record { of_dir = dir_fits (path_names g d); of_entry = λ name h. entry_fits name (path_names g d) h }
 
 -- SUMS OF A GROUP
 bit_count : (p : ℕ → Bool) (xs : List ℕ) → count_by (λ b. b) (map p xs) ≡ count_by p xs
@@ -74,7 +74,7 @@ blocks_join p a frag k (suc n) =
 abbrev bit : Bool → ℕ
 bit b = cond b 1 0
 
-whole_count : (bits : List Bool) → is_whole bits ≡ true → count_by (λ b. b) bits ≡ length bits
+whole_count : (bits : List Bool) → is_free_block bits ≡ true → count_by (λ b. b) bits ≡ length bits
 whole_count [] e = refl
 whole_count (b ∷ bits) e =
     let parts = and_parts b (list_all (λ c. c) bits) e in
@@ -104,9 +104,9 @@ both_kinds whole some frag h (b ∷ bs) = one (whole b) refl (both_kinds whole s
         omega (arith, product, other, sum_by-cons some b bs, rest)
 
 pub sums_whole : SumsAreWhole
-unfolding right_summary
+unfolding right_group_counts
 sums_whole v free class c some even =
-    let kinds = both_kinds (λ b. is_whole (block_bits v free c b)) (λ b. count_by (λ f. f) (block_bits v free c b)) v.frag
+    let kinds = both_kinds (λ b. is_free_block (block_bits v free c b)) (λ b. count_by (λ f. f) (block_bits v free c b)) v.frag
     (λ b e. whole_count (block_bits v free c b) e ∙ length-map-range_with_len free (cgbase v c + b * v.frag) v.frag) (block_numbers v) in
     let joined = blocks_join free (cgbase v c) v.frag 0 (v.fpg / v.frag) in
     let start : cgbase v c + 0 * v.frag ≡ cgbase v c = omega arith in

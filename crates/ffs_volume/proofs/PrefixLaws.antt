@@ -6,11 +6,11 @@ use Rattle.std.proofs.lemmas.Bool.{eqb-true}
 use Rattle.ffs_volume.specs.declared.Layout.{Layout}
 use Rattle.ffs_volume.specs.declared.Step.{Step}
 use Rattle.ffs_volume.specs.declared.Step.TheVariants.{Run, Tail, Gap}
-use Rattle.ffs_volume.specs.Disk.Areas.{is_in_range}
+use Rattle.ffs_volume.specs.Disk.Areas.{is_run_in_range}
 use Rattle.ffs_volume.specs.Blocks.Owners.{fragments_of, step_fragments}
 use Rattle.ffs_volume.specs.Blocks.Claims.{Claims, is_open, after_offer, after_offers, after_step, after_steps}
 use Rattle.ffs_volume.specs.Blocks.BlockCheck.{Offer, kept_in_offers, kept_in_step, kept_in_steps}
-use Rattle.ffs_volume.specs.Blocks.FirstOffers.{offer_at, Firsts}
+use Rattle.ffs_volume.specs.Blocks.FirstOffers.{offer_at, KeptPrefix}
 
 map_append : (i : ℕ) (fs gs : List ℕ) → map (offer_at i) (fs ++ gs) ≡ map (offer_at i) fs ++ map (offer_at i) gs
 map_append i [] gs = refl
@@ -25,12 +25,12 @@ full_offers v i s (f ∷ fs) q =
       ap (λ x. after_offers v x fs) stay ∙ rest.1,
     )
 
-offers_first : (v : Layout) (i : ℕ) (s : Claims) (fs : List ℕ) → Firsts i (kept_in_offers v i s fs) fs (not (nat_lt (after_offers v s fs).dups 11))
+offers_first : (v : Layout) (i : ℕ) (s : Claims) (fs : List ℕ) → KeptPrefix i (kept_in_offers v i s fs) fs (not (nat_lt (after_offers v s fs).dups 11))
 offers_first v i s [] = record { rest = []; whole = refl; end = inl refl }
 offers_first v i s (f ∷ fs) = one (nat_lt s.dups 11) refl (offers_first v i (after_offer v s f) fs)
   where
-    one : (b : Bool) → nat_lt s.dups 11 ≡ b → Firsts i (kept_in_offers v i (after_offer v s f) fs) fs (not (nat_lt (after_offers v (after_offer v s f) fs).dups 11)) →
-        Firsts i (kept_in_offers v i s (f ∷ fs)) (f ∷ fs) (not (nat_lt (after_offers v s (f ∷ fs)).dups 11))
+    one : (b : Bool) → nat_lt s.dups 11 ≡ b → KeptPrefix i (kept_in_offers v i (after_offer v s f) fs) fs (not (nat_lt (after_offers v (after_offer v s f) fs).dups 11)) →
+        KeptPrefix i (kept_in_offers v i s (f ∷ fs)) (f ∷ fs) (not (nat_lt (after_offers v s (f ∷ fs)).dups 11))
     one false q r =
         let full = full_offers v i s (f ∷ fs) q in
         record {
@@ -48,22 +48,22 @@ shut_and : (a b : Bool) → not b ≡ true → not (a && b) ≡ true
 shut_and true b e = e
 shut_and false b e = refl
 
-step_first : (v : Layout) (i : ℕ) (s : Claims) (step : Step) → Firsts i (kept_in_step v i s step) (step_fragments step) (not (is_open (after_step v s step)))
+step_first : (v : Layout) (i : ℕ) (s : Claims) (step : Step) → KeptPrefix i (kept_in_step v i s step) (step_fragments step) (not (is_open (after_step v s step)))
 step_first v i s Tail = record { rest = []; whole = refl; end = inl refl }
 step_first v i s Gap = record { rest = []; whole = refl; end = inl refl }
-step_first v i s (Run start len block) = one (is_open s) refl (is_in_range v start len) refl (s.bad == 10) refl
+step_first v i s (Run start len block) = one (is_open s) refl (is_run_in_range v start len) refl (s.bad == 10) refl
   where
     from : (kept : List Offer) (s' : Claims) → kept_in_step v i s (Run start len block) ≡ kept → after_step v s (Run start len block) ≡ s' →
-        Firsts i kept (range_with_len start len) (not (nat_lt s'.dups 11)) →
-        Firsts i (kept_in_step v i s (Run start len block)) (range_with_len start len) (not (is_open (after_step v s (Run start len block))))
+        KeptPrefix i kept (range_with_len start len) (not (nat_lt s'.dups 11)) →
+        KeptPrefix i (kept_in_step v i s (Run start len block)) (range_with_len start len) (not (is_open (after_step v s (Run start len block))))
     from kept s' same next f = record {
       rest = f.rest;
       whole = ap (λ z. z ++ f.rest) same ∙ f.whole;
       end = elim f.end [ inl e ↦ inl e | inr e ↦ inr (ap (λ x. not (is_open x)) next ∙ shut_and (nat_lt s'.bad 11) (nat_lt s'.dups 11) e) ];
     }
 
-    one : (o : Bool) → is_open s ≡ o → (r : Bool) → is_in_range v start len ≡ r → (z : Bool) → (s.bad == 10) ≡ z →
-        Firsts i (kept_in_step v i s (Run start len block)) (range_with_len start len) (not (is_open (after_step v s (Run start len block))))
+    one : (o : Bool) → is_open s ≡ o → (r : Bool) → is_run_in_range v start len ≡ r → (z : Bool) → (s.bad == 10) ≡ z →
+        KeptPrefix i (kept_in_step v i s (Run start len block)) (range_with_len start len) (not (is_open (after_step v s (Run start len block))))
     one false q r qr z qz =
         let next : after_step v s (Run start len block) ≡ s = rw q refl in
         let none : kept_in_step v i s (Run start len block) ≡ [] = rw q refl in
@@ -102,13 +102,13 @@ shut_steps v i s (step ∷ steps) q =
       ap (λ x. after_steps v x steps) one.1 ∙ rest.1,
     )
 
-pub steps_first : (v : Layout) (i : ℕ) (s : Claims) (steps : List Step) → Firsts i (kept_in_steps v i s steps) (fragments_of steps) (not (is_open (after_steps v s steps)))
+pub steps_first : (v : Layout) (i : ℕ) (s : Claims) (steps : List Step) → KeptPrefix i (kept_in_steps v i s steps) (fragments_of steps) (not (is_open (after_steps v s steps)))
 steps_first v i s [] = record { rest = []; whole = refl; end = inl refl }
 steps_first v i s (step ∷ steps) = one (step_first v i s step) (steps_first v i (after_step v s step) steps)
   where
-    one : Firsts i (kept_in_step v i s step) (step_fragments step) (not (is_open (after_step v s step))) →
-        Firsts i (kept_in_steps v i (after_step v s step) steps) (fragments_of steps) (not (is_open (after_steps v (after_step v s step) steps))) →
-        Firsts i (kept_in_steps v i s (step ∷ steps)) (fragments_of (step ∷ steps)) (not (is_open (after_steps v s (step ∷ steps))))
+    one : KeptPrefix i (kept_in_step v i s step) (step_fragments step) (not (is_open (after_step v s step))) →
+        KeptPrefix i (kept_in_steps v i (after_step v s step) steps) (fragments_of steps) (not (is_open (after_steps v (after_step v s step) steps))) →
+        KeptPrefix i (kept_in_steps v i s (step ∷ steps)) (fragments_of (step ∷ steps)) (not (is_open (after_steps v s (step ∷ steps))))
     one f g = elim f.end [
       | inl none ↦ record {
         rest = g.rest;

@@ -6,7 +6,7 @@ use Rattle.std.proofs.lemmas.Bool.Decides.{nat_tests}
 use Rattle.ffs_volume.specs.declared.Layout.{Layout}
 use Rattle.ffs_volume.specs.declared.Step.{Step}
 use Rattle.ffs_volume.specs.declared.Step.TheVariants.{Run, Tail, Gap}
-use Rattle.ffs_volume.specs.Disk.Areas.{is_data_fragment, is_in_range}
+use Rattle.ffs_volume.specs.Disk.Areas.{is_fragment_in_range, is_run_in_range}
 use Rattle.ffs_volume.specs.Blocks.Claims.{Claims, next_inode, is_open, is_set, after_offer, after_offers, after_step, after_steps}
 use Rattle.ffs_volume.specs.Blocks.BlockCheck.{Offer, kept_in_offers, kept_in_step, kept_in_steps}
 use Rattle.ffs_volume.specs.Blocks.FirstOffers.{offer_at}
@@ -45,12 +45,12 @@ none_moves : (s : Claims) → ClaimBound s s 0
 none_moves s = record { bad = refl; kept_low = omega arith; kept_high = omega arith; dups_low = omega arith; rise = omega arith; whole = λ e. omega arith }
 
 offer_moves : (v : Layout) (s : Claims) (f : ℕ) → ClaimBound s (after_offer v s f) 1
-offer_moves v s f = one (nat_lt s.dups 11) refl (is_data_fragment v f) refl (is_set s.used f) refl
+offer_moves v s f = one (nat_lt s.dups 11) refl (is_fragment_in_range v f) refl (is_set s.used f) refl
   where
     from : (s' : Claims) → after_offer v s f ≡ s' → ClaimBound s s' 1 → ClaimBound s (after_offer v s f) 1
     from s' e m = rw e m
 
-    one : (o : Bool) → nat_lt s.dups 11 ≡ o → (k : Bool) → is_data_fragment v f ≡ k → (u : Bool) → is_set s.used f ≡ u → ClaimBound s (after_offer v s f) 1
+    one : (o : Bool) → nat_lt s.dups 11 ≡ o → (k : Bool) → is_fragment_in_range v f ≡ k → (u : Bool) → is_set s.used f ≡ u → ClaimBound s (after_offer v s f) 1
     one false o k kq u uq = from s (rw o refl) (record { bad = refl; kept_low = omega arith; kept_high = omega arith; dups_low = omega arith; rise = omega arith; whole = λ e. cc })
     one true o false k u uq =
         from (record s { kept = s.kept + 1 }) (rw (o, k) refl)
@@ -109,12 +109,12 @@ step_grows v s Tail = one (is_open s) refl
     one : (o : Bool) → is_open s ≡ o → Grows s (if is_open s then record s { tail = true } else s)
     one true o = rw o (record { kept_low = omega arith; dups_low = omega arith; rise = omega arith })
     one false o = rw o (same_grows s)
-step_grows v s (Run start len block) = one (is_open s) refl (is_in_range v start len) refl (s.bad == 10) refl
+step_grows v s (Run start len block) = one (is_open s) refl (is_run_in_range v start len) refl (s.bad == 10) refl
   where
     from : (s' : Claims) → after_step v s (Run start len block) ≡ s' → Grows s s' → Grows s (after_step v s (Run start len block))
     from s' e g = rw e g
 
-    one : (o : Bool) → is_open s ≡ o → (r : Bool) → is_in_range v start len ≡ r → (z : Bool) → (s.bad == 10) ≡ z → Grows s (after_step v s (Run start len block))
+    one : (o : Bool) → is_open s ≡ o → (r : Bool) → is_run_in_range v start len ≡ r → (z : Bool) → (s.bad == 10) ≡ z → Grows s (after_step v s (Run start len block))
     one false o r rq z zq = from s (rw o refl) (same_grows s)
     one true o true r z zq =
         from (after_offers v (record s { runs = s.runs + 1 }) (range_with_len start len)) (rw (o, r) refl)
@@ -195,7 +195,7 @@ step_replays v s Tail steps few = one (is_open s) refl
     one true o = rw o refl
     one false o = rw o refl
 step_replays v s (Run start len block) steps few =
-    one (is_open s) refl (is_in_range v start len) refl (s.bad == 10) refl (seen_replays v s (Run start len block ∷ steps) few)
+    one (is_open s) refl (is_run_in_range v start len) refl (s.bad == 10) refl (seen_replays v s (Run start len block ∷ steps) few)
   where
     from : (s' : Claims) (o : Bool) → after_step v s (Run start len block) ≡ s' → is_replay_open (cut_of (after_steps v s (Run start len block ∷ steps))) (replay_of s) ≡ o
         → (if o then replay_run v (cut_of (after_steps v s' steps)) (replay_of s) start len else replay_of s) ≡ replay_of s'
@@ -204,7 +204,7 @@ step_replays v s (Run start len block) steps few =
         ap (λ x. if x then replay_run v (cut_of (after_steps v (after_step v s (Run start len block)) steps)) (replay_of s) start len else replay_of s) q
         ∙ (ap (λ x. if o then replay_run v (cut_of (after_steps v x steps)) (replay_of s) start len else replay_of s) e ∙ (g ∙ ap replay_of (sym e)))
 
-    one : (o : Bool) → is_open s ≡ o → (r : Bool) → is_in_range v start len ≡ r → (z : Bool) → (s.bad == 10) ≡ z → is_replay_open (cut_of (after_steps v s (Run start len block ∷ steps))) (replay_of s) ≡ is_open s
+    one : (o : Bool) → is_open s ≡ o → (r : Bool) → is_run_in_range v start len ≡ r → (z : Bool) → (s.bad == 10) ≡ z → is_replay_open (cut_of (after_steps v s (Run start len block ∷ steps))) (replay_of s) ≡ is_open s
         → replay_step v (cut_of (after_steps v s (Run start len block ∷ steps))) (replay_of s) (Run start len block) ≡ replay_of (after_step v s (Run start len block))
     one false o r rq z zq q = from s false (rw o refl) (q ∙ o) refl
     one true o true r z zq q =
@@ -266,9 +266,9 @@ first_kept v i s start (suc len) = one (nat_lt s.dups 11) refl (λ t. first_kept
         ∙ on (after_offer v s start) (offer_rises v s start b) (next (after_offer v s start))
       where
         offer_rises : (v : Layout) (s : Claims) (f : ℕ) → nat_lt s.dups 11 ≡ true → (after_offer v s f).kept ≡ s.kept + 1
-        offer_rises v s f b = two (is_data_fragment v f) refl (is_set s.used f) refl
+        offer_rises v s f b = two (is_fragment_in_range v f) refl (is_set s.used f) refl
           where
-            two : (k : Bool) → is_data_fragment v f ≡ k → (u : Bool) → is_set s.used f ≡ u → (after_offer v s f).kept ≡ s.kept + 1
+            two : (k : Bool) → is_fragment_in_range v f ≡ k → (u : Bool) → is_set s.used f ≡ u → (after_offer v s f).kept ≡ s.kept + 1
             two false k u uq = rw (b, k) refl
             two true k true u = rw (b, k, u) refl
             two true k false u = rw (b, k, u) refl

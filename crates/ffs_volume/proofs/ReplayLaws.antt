@@ -6,12 +6,12 @@ use Rattle.std.proofs.lemmas.Bool.Decides.{nat_tests}
 use Rattle.ffs_volume.specs.declared.Layout.{Layout}
 use Rattle.ffs_volume.specs.declared.Step.{Step}
 use Rattle.ffs_volume.specs.declared.Step.TheVariants.{Run, Tail, Gap}
-use Rattle.ffs_volume.specs.Disk.Areas.{is_data_fragment, is_in_range}
+use Rattle.ffs_volume.specs.Disk.Areas.{is_fragment_in_range, is_run_in_range}
 use Rattle.ffs_volume.specs.Blocks.Claims.{Claims, next_inode, is_open, is_set, after_offer, after_offers, after_run, after_step, after_steps}
 use Rattle.ffs_volume.specs.Blocks.FirstOffers.{offer_at}
 use Rattle.ffs_volume.specs.Encodings.Replay.{Replay, fresh_replay, cut_of, replay_step, is_replayed, replayed_steps}
 use Rattle.ffs_volume.proofs.ReplayIsKeeping.{replay_of, replayed_step_offers, replayed_offers, seen_replays, step_replays, step_few}
-use Rattle.ffs_volume.specs.Encodings.ReplayCounts.{seen_run, replayed_runs, counted_step}
+use Rattle.ffs_volume.specs.Encodings.ReplayCounts.{seen_run, replayed_runs, replay_step_by_cut}
 
 -- two replays that keep the same steps and offers and see as many Runs
 pub record SameReplay (v : Layout) (i cut : ℕ) (r q : Replay) (steps : List Step) : Type 0 where
@@ -21,18 +21,18 @@ pub record SameReplay (v : Layout) (i cut : ℕ) (r q : Replay) (steps : List St
 
 offers_runs : (v : Layout) (s : Claims) (fs : List ℕ) → (after_offers v s fs).runs ≡ s.runs
 offers_runs v s [] = refl
-offers_runs v s (f ∷ fs) = offers_runs v (after_offer v s f) fs ∙ one (nat_lt s.dups 11) refl (is_data_fragment v f) refl (is_set s.used f) refl
+offers_runs v s (f ∷ fs) = offers_runs v (after_offer v s f) fs ∙ one (nat_lt s.dups 11) refl (is_fragment_in_range v f) refl (is_set s.used f) refl
   where
-    one : (a : Bool) → nat_lt s.dups 11 ≡ a → (b : Bool) → is_data_fragment v f ≡ b → (c : Bool) → is_set s.used f ≡ c → (after_offer v s f).runs ≡ s.runs
+    one : (a : Bool) → nat_lt s.dups 11 ≡ a → (b : Bool) → is_fragment_in_range v f ≡ b → (c : Bool) → is_set s.used f ≡ c → (after_offer v s f).runs ≡ s.runs
     one false a b bq c cq = rw a refl
     one true a false b c cq = rw (a, b) refl
     one true a true b true c = rw (a, b, c) refl
     one true a true b false c = rw (a, b, c) refl
 
 run_runs : (v : Layout) (s : Claims) (start len : ℕ) → (after_run v s start len).runs ≡ s.runs + 1
-run_runs v s start len = one (is_in_range v start len) refl (s.bad == 10) refl
+run_runs v s start len = one (is_run_in_range v start len) refl (s.bad == 10) refl
   where
-    one : (a : Bool) → is_in_range v start len ≡ a → (b : Bool) → (s.bad == 10) ≡ b → (after_run v s start len).runs ≡ s.runs + 1
+    one : (a : Bool) → is_run_in_range v start len ≡ a → (b : Bool) → (s.bad == 10) ≡ b → (after_run v s start len).runs ≡ s.runs + 1
     one true a b bq = rw a (offers_runs v (record s { runs = s.runs + 1 }) (range_with_len start len))
     one false a true b = rw (a, b) refl
     one false a false b = rw (a, b) (offers_runs v (record s { runs = s.runs + 1; bad = s.bad + 1 }) (range_with_len start len))
@@ -77,7 +77,7 @@ record Alike (r q : Replay) : Type 0 where
 alike_next : (v : Layout) (r q : Replay) (step : Step) → Alike r q → Alike (replay_step v 0 r step) (replay_step v 0 q step)
 alike_next v r q Gap a = a
 alike_next v r q Tail a = a
-alike_next v r q (Run start len block) a = rw a.bad (one (nat_lt q.bad 11 && true) (is_in_range v start len) (q.bad == 10))
+alike_next v r q (Run start len block) a = rw a.bad (one (nat_lt q.bad 11 && true) (is_run_in_range v start len) (q.bad == 10))
   where
     one : (o i t : Bool) →
         Alike (run_by o i t q.bad r.kept len)
@@ -100,7 +100,7 @@ self_test k = grind (arith, nat_tests)
 alike_replayed : (v : Layout) (r q : Replay) (step : Step) → Alike r q → is_replayed v 0 r step ≡ is_replayed v 0 q step
 alike_replayed v r q Gap a = ap (λ n. nat_lt n 11 && true) a.bad
 alike_replayed v r q Tail a = ap (λ n. nat_lt n 11 && true) a.bad
-alike_replayed v r q (Run start len block) a = rw a.bad (one (nat_lt q.bad 11 && true) (is_in_range v start len) (q.bad == 10))
+alike_replayed v r q (Run start len block) a = rw a.bad (one (nat_lt q.bad 11 && true) (is_run_in_range v start len) (q.bad == 10))
   where
     one : (o i t : Bool) →
         (o && (run_by o i t q.bad r.kept len).kept == r.kept + len)
@@ -113,7 +113,7 @@ alike_replayed v r q (Run start len block) a = rw a.bad (one (nat_lt q.bad 11 &&
 alike_offers : (v : Layout) (i : ℕ) (r q : Replay) (step : Step) → Alike r q → replayed_step_offers v i 0 r step ≡ replayed_step_offers v i 0 q step
 alike_offers v i r q Gap a = refl
 alike_offers v i r q Tail a = refl
-alike_offers v i r q (Run start len block) a = ap (λ n. map (offer_at i) (range_with_len start n)) (rw a.bad (one (nat_lt q.bad 11 && true) (is_in_range v start len) (q.bad == 10)))
+alike_offers v i r q (Run start len block) a = ap (λ n. map (offer_at i) (range_with_len start n)) (rw a.bad (one (nat_lt q.bad 11 && true) (is_run_in_range v start len) (q.bad == 10)))
   where
     more : (k n : ℕ) → (k + n) - k ≡ n
     more k n = omega arith
@@ -148,10 +148,10 @@ alike_same v i r q (step ∷ steps) a =
       runs_are = omega arith;
     }
 
-counted_alike : (v : Layout) (r : Replay) (step : Step) → Alike (replay_step v 0 r step) (counted_step v 0 r step)
+counted_alike : (v : Layout) (r : Replay) (step : Step) → Alike (replay_step v 0 r step) (replay_step_by_cut v 0 r step)
 counted_alike v r Gap = record { bad = refl }
 counted_alike v r Tail = record { bad = refl }
-counted_alike v r (Run start len block) = one (nat_lt r.bad 11 && true) (is_in_range v start len) (r.bad == 10)
+counted_alike v r (Run start len block) = one (nat_lt r.bad 11 && true) (is_run_in_range v start len) (r.bad == 10)
   where
     one : (o i t : Bool) →
         Alike (if o then (if i then record { bad = r.bad; kept = r.kept + len } else (if t then record { bad = r.bad + 1; kept = r.kept } else record { bad = r.bad + 1; kept = r.kept + len })) else r)
@@ -162,9 +162,9 @@ counted_alike v r (Run start len block) = one (nat_lt r.bad 11 && true) (is_in_r
     one true false false = record { bad = refl }
 
 -- a replay continues in the same way from the kept offers that are counted only where there is a cut
-pub counted_same : (v : Layout) (i cut : ℕ) (r : Replay) (step : Step) (steps : List Step) → SameReplay v i cut (replay_step v cut r step) (counted_step v cut r step) steps
-counted_same v i zero r step steps = alike_same v i (replay_step v 0 r step) (counted_step v 0 r step) steps (counted_alike v r step)
-counted_same v i (suc cut) r step steps = from (counted_step v (suc cut) r step) (equal step)
+pub counted_same : (v : Layout) (i cut : ℕ) (r : Replay) (step : Step) (steps : List Step) → SameReplay v i cut (replay_step v cut r step) (replay_step_by_cut v cut r step) steps
+counted_same v i zero r step steps = alike_same v i (replay_step v 0 r step) (replay_step_by_cut v 0 r step) steps (counted_alike v r step)
+counted_same v i (suc cut) r step steps = from (replay_step_by_cut v (suc cut) r step) (equal step)
   where
     from : (q : Replay) → replay_step v (suc cut) r step ≡ q → SameReplay v i (suc cut) (replay_step v (suc cut) r step) q steps
     from q e = record {
@@ -176,7 +176,7 @@ counted_same v i (suc cut) r step steps = from (counted_step v (suc cut) r step)
     some : (suc cut == 0) ≡ false
     some = grind (arith, nat_tests)
 
-    equal : (step : Step) → replay_step v (suc cut) r step ≡ counted_step v (suc cut) r step
+    equal : (step : Step) → replay_step v (suc cut) r step ≡ replay_step_by_cut v (suc cut) r step
     equal Gap = refl
     equal Tail = refl
     equal (Run start len block) = rw some refl

@@ -6,8 +6,9 @@ use Rattle.std.proofs.lemmas.Bool.Decides.{nat_tests}
 use Rattle.std.specs.Prelude.{nat_le, ◌&&◌, ◌||◌, ◌==◌}
 use Rattle.ffs_volume.specs.declared.Layout.{Layout}
 use Rattle.ffs_volume.specs.Disk.Numbers.{all_below}
-use Rattle.ffs_volume.specs.Disk.Areas.{cgbase, cgsblock, cgdmin, is_group_metadata, is_data_fragment, is_in_range}
-use Rattle.ffs_volume.specs.Disk.Geometry.{IsGeometry}
+use Rattle.ffs_volume.specs.Disk.Areas.{cgbase, cgsblock, cgdmin, is_group_metadata, is_fragment_in_range}
+use Rattle.ffs_volume.specs.Disk.Areas.{is_run_in_range}
+use Rattle.ffs_volume.specs.Disk.Geometry.{IsValidLayout}
 use Rattle.ffs_volume.proofs.GeometryLaws.{all_below-at}
 use Rattle.ffs_volume.proofs.AreaLaws.{in_kept, is_kept_group, group_below, group_is}
 
@@ -25,16 +26,16 @@ all_below-from (suc n) test h =
     rw here (all_below-from n test (λ k lt. h k (omega arith)))
 
 abbrev fits : Layout → ℕ → ℕ → Bool
-fits v start k = is_data_fragment v (start + k) && ((start + k) / v.fpg == start / v.fpg)
+fits v start k = is_fragment_in_range v (start + k) && ((start + k) / v.fpg == start / v.fpg)
 
-module _ (v : Layout) (g : IsGeometry v) (start len : ℕ) where
+module _ (v : Layout) (g : IsValidLayout v) (start len : ℕ) where
   base_low : cgbase v (start / v.fpg) ≤ start
   unfolding cgbase
   base_low = mul-div-le start v.fpg
 
   -- what is apart fits at each place
   apart_fits : is_apart v start len ≡ true → (k : ℕ) → k < len → fits v start k ≡ true
-  unfolding is_data_fragment
+  unfolding is_fragment_in_range
   apart_fits h k lt =
       let below : start + len ≤ v.size = grind (arith, nat_tests) in
       let within : start + len ≤ cgbase v (start / v.fpg + 1) = grind (arith, nat_tests) in
@@ -47,7 +48,7 @@ module _ (v : Layout) (g : IsGeometry v) (start len : ℕ) where
 
   -- a fragment that fits is below size, of the run's group, and not kept by it
   fit_facts : (k : ℕ) → fits v start k ≡ true → (start + k < v.size) × ((start + k) / v.fpg ≡ start / v.fpg) × (in_kept v (start / v.fpg) (start + k) ≡ false)
-  unfolding is_data_fragment
+  unfolding is_fragment_in_range
   fit_facts k h =
       let below : start + k < v.size = grind (arith, nat_tests) in
       let same : (start + k) / v.fpg ≡ start / v.fpg = grind (arith, nat_tests) in
@@ -79,8 +80,8 @@ module _ (v : Layout) (g : IsGeometry v) (start len : ℕ) where
             ]
       ]
 
-  pub in_range_is : 0 < len → is_in_range v start len ≡ is_apart v start len
-  unfolding is_in_range
+  pub in_range_is : 0 < len → is_run_in_range v start len ≡ is_apart v start len
+  unfolding is_run_in_range
   in_range_is some = both (all_below len (fits v start)) refl (is_apart v start len) refl
     where
       both : (a : Bool) → all_below len (fits v start) ≡ a → (b : Bool) → is_apart v start len ≡ b → a ≡ b

@@ -6,12 +6,12 @@ use Rattle.std.proofs.Math.Nat.{mod-eq_of_lt, zero-div, zero-mod, mul-le-mul_rig
 use Rattle.std.proofs.lemmas.Bool.{cases_lt}
 use Rattle.ffs_volume.specs.declared.Layout.{Layout}
 use Rattle.ffs_volume.specs.declared.Inode.{Inode}
-use Rattle.ffs_volume.specs.Disk.Geometry.{IsGeometry}
+use Rattle.ffs_volume.specs.Disk.Geometry.{IsValidLayout}
 use Rattle.ffs_volume.specs.Blocks.Inodes.{logical_blocks_of, addresses_for}
 use Rattle.ffs_volume.specs.Blocks.Steps.{steps_of, steps_of_addresses, walks, last_of}
 
 -- there is an inode 2
-pub some_inodes : (v : Layout) → IsGeometry v → 2 < v.ncg * v.ipg
+pub some_inodes : (v : Layout) → IsValidLayout v → 2 < v.ncg * v.ipg
 some_inodes v g =
     let low = g.sizes.bsize_low in
     let per = g.sizes.inopb in

@@ -12,11 +12,11 @@ use Rattle.ffs_volume.specs.declared.Layout.{Layout}
 use Rattle.ffs_volume.specs.declared.Step.{Step}
 use Rattle.ffs_volume.specs.declared.Step.TheVariants.{Run, Tail, Gap}
 use Rattle.ffs_volume.specs.declared.Inode.{Inode}
-use Rattle.ffs_volume.specs.Disk.Areas.{is_in_range}
-use Rattle.ffs_volume.specs.Disk.Geometry.{IsGeometry}
+use Rattle.ffs_volume.specs.Disk.Areas.{is_run_in_range}
+use Rattle.ffs_volume.specs.Disk.Geometry.{IsValidLayout}
 use Rattle.ffs_volume.specs.Blocks.Inodes.{logical_blocks_of, addresses_for}
 use Rattle.ffs_volume.specs.Blocks.Lengths.{HasLength}
-use Rattle.ffs_volume.specs.Blocks.Steps.{Extent, block_bytes, word_at, used_words, tail_of, any_word_from, steps_under, data_length, span_of, data_step, indirect_steps, steps_at, level_of, first_block, steps_of_addresses, last_of, walks, steps_of}
+use Rattle.ffs_volume.specs.Blocks.Steps.{FileBlocks, block_bytes, address_at, used_addresses, tail_of, any_address_from, steps_under, data_length, span_of, data_step, indirect_steps, steps_at, indirection_of, first_block, steps_of_addresses, last_of, walks, steps_of}
 
 -- the blocks of the data are from `low` on, ascending, and below `high`; each Run has a fragment at least, and `frag` at most
 abbrev pub Within : ℕ → ℕ → ℕ → List Step → Type 0
@@ -58,17 +58,17 @@ pub one_more : (a b : ℕ) → (a + 1) * b ≡ a * b + b
 one_more a b = grind arith
 
 -- the last block has a fragment at least, and a block's fragments at most
-abbrev IsFit : Extent → Type 0
+abbrev IsFit : FileBlocks → Type 0
 IsFit t = (0 < t.last) × (t.last ≤ t.geometry.frag)
 
-data_long : (t : Extent) (address block : ℕ) → IsFit t → HasLength t.geometry.frag (Run address (data_length t block) (Some block))
+data_long : (t : FileBlocks) (address block : ℕ) → IsFit t → HasLength t.geometry.frag (Run address (data_length t block) (Some block))
 data_long t address block l = one (nat_lt block 12 && nat_eq (block + 1) t.blocks)
   where
     one : (b : Bool) → (0 < (if b then t.last else t.geometry.frag)) × ((if b then t.last else t.geometry.frag) ≤ t.geometry.frag)
     one true = l
     one false = (omega (arith, l.0, l.1), omega arith)
 
-data_within : (t : Extent) (address block : ℕ) → IsFit t → Within t.geometry.frag block (block + 1) (data_step t address block ∷ [])
+data_within : (t : FileBlocks) (address block : ℕ) → IsFit t → Within t.geometry.frag block (block + 1) (data_step t address block ∷ [])
 data_within t address block l = one (nat_eq address 0)
   where
     one : (b : Bool) → Within t.geometry.frag block (block + 1) ((if b then Gap else Run address (data_length t block) (Some block)) ∷ [])
@@ -80,7 +80,7 @@ tail_within frag first true = omega arith
 tail_within frag first false = omega arith
 
 -- the steps under the words of an indirect block
-under_within : (t : Extent) (bytes : List ℕ) (child : ℕ → ℕ → List Step) (span address first next count : ℕ)
+under_within : (t : FileBlocks) (bytes : List ℕ) (child : ℕ → ℕ → List Step) (span address first next count : ℕ)
     → ((a f : ℕ) → Within t.geometry.frag f (f + span) (child a f))
     → Within t.geometry.frag (first + next * span) (first + (next + count) * span) (steps_under t.geometry bytes child span address first next count)
 under_within t bytes child span address first next zero h = let e : next + 0 ≡ next = omega arith in rw e (omega arith)
@@ -89,19 +89,19 @@ under_within t bytes child span address first next (suc count) h =
     let m : first + (next + 1) * span ≡ first + next * span + span = omega (arith, one_more next span) in
     let rest = under_within t bytes child span address first (next + 1) count h in
     rw e (within_append t.geometry.frag (first + next * span) (first + next * span + span) (first + ((next + 1) + count) * span)
-    (child (word_at t.geometry bytes address next) (first + next * span)) (steps_under t.geometry bytes child span address first (next + 1) count)
-    (h (word_at t.geometry bytes address next) (first + next * span)) (rw m at rest))
+    (child (address_at t.geometry bytes address next) (first + next * span)) (steps_under t.geometry bytes child span address first (next + 1) count)
+    (h (address_at t.geometry bytes address next) (first + next * span)) (rw m at rest))
 
-indirect_within : (t : Extent) (bytes : List ℕ) (child : ℕ → ℕ → List Step) (span address first : ℕ) → IsFit t
+indirect_within : (t : FileBlocks) (bytes : List ℕ) (child : ℕ → ℕ → List Step) (span address first : ℕ) → IsFit t
     → ((a f : ℕ) → Within t.geometry.frag f (f + span) (child a f))
     → Within t.geometry.frag first (first + t.geometry.nindir * span) (indirect_steps t bytes child span address first)
-indirect_within t bytes child span address first l h = one (nat_eq address 0) (is_in_range t.geometry address t.geometry.frag)
+indirect_within t bytes child span address first l h = one (nat_eq address 0) (is_run_in_range t.geometry address t.geometry.frag)
   where
     used : ℕ
-    used = used_words t.geometry.nindir t.blocks first span
+    used = used_addresses t.geometry.nindir t.blocks first span
 
     inner : Within t.geometry.frag first (first + t.geometry.nindir * span)
-        (tail_of (any_word_from t.geometry (block_bytes t.geometry bytes address) used) ++ steps_under t.geometry bytes child span address first 0 used)
+        (tail_of (any_address_from t.geometry (block_bytes t.geometry bytes address) used) ++ steps_under t.geometry bytes child span address first 0 used)
     inner =
         let few : used ≤ t.geometry.nindir = omega arith in
         let most : used * span ≤ t.geometry.nindir * span = mul-le-mul_right span few in
@@ -109,13 +109,13 @@ indirect_within t bytes child span address first l h = one (nat_eq address 0) (i
         let z : first + 0 * span ≡ first = omega arith in
         let y : (0 + used) ≡ used = omega arith in
         within_append t.geometry.frag first first (first + t.geometry.nindir * span)
-        (tail_of (any_word_from t.geometry (block_bytes t.geometry bytes address) used)) (steps_under t.geometry bytes child span address first 0 used)
-        (tail_within t.geometry.frag first (any_word_from t.geometry (block_bytes t.geometry bytes address) used))
+        (tail_of (any_address_from t.geometry (block_bytes t.geometry bytes address) used)) (steps_under t.geometry bytes child span address first 0 used)
+        (tail_within t.geometry.frag first (any_address_from t.geometry (block_bytes t.geometry bytes address) used))
         (within_higher t.geometry.frag first (first + used * span) (first + t.geometry.nindir * span) (steps_under t.geometry bytes child span address first 0 used) (omega arith) (rw (z, y) at u))
 
     one : (a b : Bool) → Within t.geometry.frag first (first + t.geometry.nindir * span)
         (if a then Gap ∷ [] else Run address t.geometry.frag None ∷
-        (if b then tail_of (any_word_from t.geometry (block_bytes t.geometry bytes address) used) ++ steps_under t.geometry bytes child span address first 0 used else []))
+        (if b then tail_of (any_address_from t.geometry (block_bytes t.geometry bytes address) used) ++ steps_under t.geometry bytes child span address first 0 used else []))
     one true b = omega arith
     one false true = ((omega (arith, l.0, l.1), omega arith), inner)
     one false false = ((omega (arith, l.0, l.1), omega arith), omega arith)
@@ -124,7 +124,7 @@ pub span_more : (words level : ℕ) → words * span_of words level ≡ span_of 
 span_more words zero = omega arith
 span_more words (suc level) = refl
 
-at_within : (t : Extent) (bytes : List ℕ) (level address first : ℕ) → IsFit t
+at_within : (t : FileBlocks) (bytes : List ℕ) (level address first : ℕ) → IsFit t
     → Within t.geometry.frag first (first + span_of t.geometry.nindir level) (steps_at t bytes level address first)
 unfolding steps_at
 at_within t bytes zero address first l = data_within t address first l
@@ -133,9 +133,10 @@ at_within t bytes (suc level) address first l =
 
 -- where the blocks under an address end
 top_of : ℕ → ℕ → ℕ
-top_of words i = if nat_lt i 14 then first_block words (i + 1) else first_block words i + span_of words (level_of i)
+top_of words i =
+    if nat_lt i 14 then first_block words (i + 1) else first_block words i + span_of words (indirection_of i)
 
-address_top : (words i : ℕ) → i < 15 → first_block words i + span_of words (level_of i) ≡ top_of words i
+address_top : (words i : ℕ) → i < 15 → first_block words i + span_of words (indirection_of i) ≡ top_of words i
 unfolding top_of
 address_top words i h = elim (cases_lt i 12) [
   | inl low ↦
@@ -158,27 +159,30 @@ unfolding top_of
 top_here words i h = let a : nat_lt i 14 ≡ true = grind (arith, nat_tests) in rw a refl
 
 -- where the blocks under an address end, those under the next begin
-pub next_first : (words i : ℕ) → i < 14 → first_block words i + span_of words (level_of i) ≡ first_block words (i + 1)
+pub next_first : (words i : ℕ) → i < 14 → first_block words i + span_of words (indirection_of i)
+    ≡ first_block words (i + 1)
 next_first words i h = address_top words i (omega arith) ∙ top_here words i h
 
 -- the steps under some of the fifteen addresses
-addresses_within : (t : Extent) (bytes addresses : List ℕ) (next count : ℕ) → IsFit t → next + suc count ≤ 15
+addresses_within : (t : FileBlocks) (bytes addresses : List ℕ) (next count : ℕ) → IsFit t → next + suc count ≤ 15
     → Within t.geometry.frag (first_block t.geometry.nindir next) (top_of t.geometry.nindir (next + count)) (steps_of_addresses t bytes addresses next (suc count))
 addresses_within t bytes addresses next zero l h =
-    let w = at_within t bytes (level_of next) (slice_index addresses next) (first_block t.geometry.nindir next) l in
+    let w = at_within t bytes (indirection_of next) (slice_index addresses next) (first_block t.geometry.nindir next)
+    l in
     let e = address_top t.geometry.nindir next (omega arith) in
     let n : next + 0 ≡ next = omega arith in
     rw n (within_append t.geometry.frag (first_block t.geometry.nindir next) (top_of t.geometry.nindir next) (top_of t.geometry.nindir next)
-    (steps_at t bytes (level_of next) (slice_index addresses next) (first_block t.geometry.nindir next)) [] (rw e at w) (omega arith))
+    (steps_at t bytes (indirection_of next) (slice_index addresses next) (first_block t.geometry.nindir next)) [] (rw e at w) (omega arith))
 addresses_within t bytes addresses next (suc count) l h =
-    let w = at_within t bytes (level_of next) (slice_index addresses next) (first_block t.geometry.nindir next) l in
+    let w = at_within t bytes (indirection_of next) (slice_index addresses next) (first_block t.geometry.nindir next)
+    l in
     let n : next + suc count ≡ (next + 1) + count = omega arith in
     let rest = addresses_within t bytes addresses (next + 1) count l (omega arith) in
     rw n (within_append t.geometry.frag (first_block t.geometry.nindir next) (first_block t.geometry.nindir (next + 1)) (top_of t.geometry.nindir ((next + 1) + count))
-    (steps_at t bytes (level_of next) (slice_index addresses next) (first_block t.geometry.nindir next)) (steps_of_addresses t bytes addresses (next + 1) (suc count))
+    (steps_at t bytes (indirection_of next) (slice_index addresses next) (first_block t.geometry.nindir next)) (steps_of_addresses t bytes addresses (next + 1) (suc count))
     (rw (next_first t.geometry.nindir next (omega arith)) at w) rest)
 
-last_fits : (v : Layout) (i : Inode) → IsGeometry v → (0 < last_of v i) × (last_of v i ≤ v.frag)
+last_fits : (v : Layout) (i : Inode) → IsValidLayout v → (0 < last_of v i) × (last_of v i ≤ v.frag)
 last_fits v i g = one (nat_eq (i.size % v.bsize) 0) refl
   where
     some : (k n : ℕ) → n ≤ k * v.fsize → (n ≡ 0 → ⊥) → 0 < k
@@ -206,11 +210,11 @@ pub used_most : (words blocks : ℕ) → addresses_for words blocks ≤ 15
 used_most words blocks = grind (arith, nat_tests)
 
 -- the steps of an inode
-pub steps_within : (v : Layout) (i : Inode) (bytes : List ℕ) → IsGeometry v → (high : ℕ) × Within v.frag 0 high (steps_of v i bytes)
+pub steps_within : (v : Layout) (i : Inode) (bytes : List ℕ) → IsValidLayout v → (high : ℕ) × Within v.frag 0 high (steps_of v i bytes)
 unfolding steps_of
 steps_within v i bytes g = one (addresses_for v.nindir (if walks v i then logical_blocks_of v i else 0)) (used_most v.nindir (if walks v i then logical_blocks_of v i else 0))
   where
-    t : Extent
+    t : FileBlocks
     t = record { geometry = v; blocks = if walks v i then logical_blocks_of v i else 0; last = last_of v i }
 
     one : (n : ℕ) → n ≤ 15 → (high : ℕ) × Within v.frag 0 high (steps_of_addresses t bytes i.addresses 0 n)
@@ -218,5 +222,6 @@ steps_within v i bytes g = one (addresses_for v.nindir (if walks v i then logica
     one (suc n) h = (top_of v.nindir (0 + n), addresses_within t bytes i.addresses 0 n (last_fits v i g) (omega arith))
 
 -- each of them has a length
-pub steps_long : (v : Layout) (i : Inode) (bytes : List ℕ) → IsGeometry v → All (HasLength v.frag) (steps_of v i bytes)
+pub steps_long : (v : Layout) (i : Inode) (bytes : List ℕ) → IsValidLayout v
+    → All (HasLength v.frag) (steps_of v i bytes)
 steps_long v i bytes g = let w = steps_within v i bytes g in within_long v.frag 0 w.0 (steps_of v i bytes) w.1

@@ -8,8 +8,8 @@ use Rattle.std.proofs.lemmas.Bool.{ltb-true, and_parts}
 use Rattle.ffs_volume.specs.declared.Layout.{Layout}
 use Rattle.ffs_volume.specs.declared.Step.{Step}
 use Rattle.ffs_volume.specs.declared.Step.TheVariants.{Run, Tail, Gap}
-use Rattle.ffs_volume.specs.Disk.Areas.{is_data_fragment, is_in_range}
-use Rattle.ffs_volume.specs.Disk.Geometry.{IsGeometry}
+use Rattle.ffs_volume.specs.Disk.Areas.{is_fragment_in_range, is_run_in_range}
+use Rattle.ffs_volume.specs.Disk.Geometry.{IsValidLayout}
 use Rattle.ffs_volume.proofs.GeometryLaws.{all_below-at}
 use Rattle.ffs_volume.specs.Blocks.Inodes.{inode_of}
 use Rattle.ffs_volume.specs.Blocks.Lengths.{HasLength}
@@ -31,14 +31,14 @@ count_set bits f h e =
     let k = sum_by-set (λ b. if b then 1 else 0) bits f true false h in
     omega (arith, rw e at k)
 
-pub ok_below : (v : Layout) (f : ℕ) → is_data_fragment v f ≡ true → f < v.size
-unfolding is_data_fragment
+pub ok_below : (v : Layout) (f : ℕ) → is_fragment_in_range v f ≡ true → f < v.size
+unfolding is_fragment_in_range
 ok_below v f h = grind (arith, nat_tests)
 
 -- each fragment of a Run in range is ok
-pub each_ok : (v : Layout) (start len k : ℕ) → is_in_range v start len ≡ true → k < len → is_data_fragment v (start + k) ≡ true
-unfolding is_in_range
-each_ok v start len k h low = (and_parts (is_data_fragment v (start + k)) _ (all_below-at len k _ h low)).0
+pub each_ok : (v : Layout) (start len k : ℕ) → is_run_in_range v start len ≡ true → k < len → is_fragment_in_range v (start + k) ≡ true
+unfolding is_run_in_range
+each_ok v start len k h low = (and_parts (is_fragment_in_range v (start + k)) _ (all_below-at len k _ h low)).0
 
 -- what offers don't change, or take away, and how many of them are kept
 record Keeps (s s' : Claims) (len : ℕ) : Type 0 where
@@ -54,7 +54,7 @@ offer_keeps : (v : Layout) (s : Claims) (f : ℕ) → length s.used ≡ v.size �
 offer_keeps v s f h =
     cond_holds (λ s'. Keeps s s' 1) (nat_lt s.dups 11) _ _
     (λ more_dups. let low : s.dups < 11 = ltb-true s.dups 11 more_dups in
-    cond_holds (λ s'. Keeps s s' 1) (is_data_fragment v f) _ _
+    cond_holds (λ s'. Keeps s s' 1) (is_fragment_in_range v f) _ _
     (λ ok. let below : f < length s.used = omega (arith, h, ok_below v f ok) in
     cond_holds (λ s'. Keeps s s' 1) (is_set s.used f) _ _
     (λ set. record { weighs = omega arith; used_length = refl; dup_length = length-set s.dup f true; runs_is = refl; bad_is = refl; dups_cap = λ _. omega arith; most = omega arith })
@@ -71,7 +71,7 @@ offer_keeps v s f h =
     (λ _. record { weighs = omega arith; used_length = refl; dup_length = refl; runs_is = refl; bad_is = refl; dups_cap = λ c. c; most = omega arith })
 
 -- an ok offer that is kept weighs
-offer_weighs : (v : Layout) (s : Claims) (f : ℕ) → length s.used ≡ v.size → nat_lt s.dups 11 ≡ true → is_data_fragment v f ≡ true →
+offer_weighs : (v : Layout) (s : Claims) (f : ℕ) → length s.used ≡ v.size → nat_lt s.dups 11 ≡ true → is_fragment_in_range v f ≡ true →
     potential s + 1 ≤ potential (after_offer v s f)
 offer_weighs v s f h more_dups ok =
     let below : f < length s.used = omega (arith, h, ok_below v f ok) in
@@ -81,7 +81,7 @@ offer_weighs v s f h more_dups ok =
     (λ clear. omega (arith, count_set s.used f below clear)))
 
 -- and weighs as much as it is kept
-offer_level : (v : Layout) (s : Claims) (f : ℕ) → length s.used ≡ v.size → is_data_fragment v f ≡ true →
+offer_level : (v : Layout) (s : Claims) (f : ℕ) → length s.used ≡ v.size → is_fragment_in_range v f ≡ true →
     (after_offer v s f).kept + offers_potential s ≤ s.kept + offers_potential (after_offer v s f)
 offer_level v s f h ok =
     let below : f < length s.used = omega (arith, h, ok_below v f ok) in
@@ -107,7 +107,7 @@ offers_keep v s start (suc len) h =
       most = omega (arith, one.most, more.most);
     }
 
-offers_weigh : (v : Layout) (s : Claims) (start len : ℕ) → length s.used ≡ v.size → nat_lt s.dups 11 ≡ true → is_data_fragment v start ≡ true → 0 < len →
+offers_weigh : (v : Layout) (s : Claims) (start len : ℕ) → length s.used ≡ v.size → nat_lt s.dups 11 ≡ true → is_fragment_in_range v start ≡ true → 0 < len →
     potential s + 1 ≤ potential (after_offers v s (range_with_len start len))
 offers_weigh v s start zero h more_dups ok some = absurd (omega arith)
 offers_weigh v s start (suc len) h more_dups ok some =
@@ -115,12 +115,12 @@ offers_weigh v s start (suc len) h more_dups ok some =
     let more = offers_keep v (after_offer v s start) (start + 1) len (one.used_length ∙ h) in
     omega (arith, offer_weighs v s start h more_dups ok, more.weighs)
 
-offers_level : (v : Layout) (s : Claims) (start len : ℕ) → length s.used ≡ v.size → ((k : ℕ) → k < len → is_data_fragment v (start + k) ≡ true) →
+offers_level : (v : Layout) (s : Claims) (start len : ℕ) → length s.used ≡ v.size → ((k : ℕ) → k < len → is_fragment_in_range v (start + k) ≡ true) →
     (after_offers v s (range_with_len start len)).kept + offers_potential s ≤ s.kept + offers_potential (after_offers v s (range_with_len start len))
 offers_level v s start zero h ok = omega arith
 offers_level v s start (suc len) h ok =
-    let first : is_data_fragment v start ≡ true = ap (is_data_fragment v) (omega arith) ∙ ok 0 (omega arith) in
-    let rest : (k : ℕ) → k < len → is_data_fragment v (start + 1 + k) ≡ true = λ k low. ap (is_data_fragment v) (omega arith) ∙ ok (k + 1) (omega arith) in
+    let first : is_fragment_in_range v start ≡ true = ap (is_fragment_in_range v) (omega arith) ∙ ok 0 (omega arith) in
+    let rest : (k : ℕ) → k < len → is_fragment_in_range v (start + 1 + k) ≡ true = λ k low. ap (is_fragment_in_range v) (omega arith) ∙ ok (k + 1) (omega arith) in
     let one = offer_keeps v s start h in
     let more = offers_level v (after_offer v s start) (start + 1) len (one.used_length ∙ h) rest in
     omega (arith, offer_level v s start h first, more)
@@ -132,11 +132,11 @@ run_moves : (v : Layout) (s : Claims) (start len : ℕ) → length s.used ≡ v.
     ClaimBound s (after_run v s start len)
 run_moves v s start len h some small few more_dups =
     let low : s.bad < 11 = ltb-true s.bad 11 few in
-    cond_holds (ClaimBound s) (is_in_range v start len) _ _
+    cond_holds (ClaimBound s) (is_run_in_range v start len) _ _
     (λ fits.
     let seen : Claims = record s { runs = s.runs + 1 } in
     let keep = offers_keep v seen start len h in
-    let first : is_data_fragment v start ≡ true = ap (is_data_fragment v) (omega arith) ∙ each_ok v start len 0 fits some in
+    let first : is_fragment_in_range v start ≡ true = ap (is_fragment_in_range v) (omega arith) ∙ each_ok v start len 0 fits some in
     let more = offers_weigh v seen start len h more_dups first some in
     let level = offers_level v seen start len h (λ k lt. each_ok v start len k fits lt) in
     record {
@@ -192,7 +192,7 @@ steps_move v s (step ∷ steps) h small long =
     (steps_move v (after_step v s step) steps (one.used_length ∙ h) small (All-tail (HasLength v.frag) step steps long))
 
 -- the steps of an inode
-pub owner_moves : (v : Layout) (image : List ℕ) (s : Claims) (x : ℕ) → IsGeometry v → length s.used ≡ v.size → ClaimBound (next_inode s) (after_owner v s (owner_of v image x))
+pub owner_moves : (v : Layout) (image : List ℕ) (s : Claims) (x : ℕ) → IsValidLayout v → length s.used ≡ v.size → ClaimBound (next_inode s) (after_owner v s (owner_of v image x))
 unfolding owner_of
 owner_moves v image s x g h = steps_move v (next_inode s) (steps_of v (inode_of v image x) image) h g.sizes.frag_high (steps_long v (inode_of v image x) image g)
 

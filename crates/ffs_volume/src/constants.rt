@@ -10,7 +10,7 @@ pub const CG_MAGIC: u32 = 0x090255;
 pub const DEV_BSIZE: u64 = 512;
 
 /// The bytes of a superblock that are looked at (fs(5)).
-pub const SBSIZE: usize = 1376;
+pub const SUPERBLOCK_BYTES: usize = 1376;
 
 /// The bytes of the mount point in a superblock (fs(5)).
 pub const MAXMNTLEN: usize = 512;

@@ -18,7 +18,7 @@ pub enum Order {
     Big,
 }
 
-/// Why a superblock is refused. `Shape` is a layout whose parts don't fit each other (`is_shaped`), `Short` a volume that is larger
+/// Why a superblock is refused. `Shape` is a layout whose parts don't fit each other (`is_valid_layout`), `Short` a volume that is larger
 /// than its image, and `Disagree` a last copy that has other numbers.
 #[derive(Clone, Copy, Debug, PartialEq, Eq)]
 pub enum SuperFault {

@@ -3,14 +3,14 @@ use Rattle.std.proofs.Common.{◌≡◌, ℕ, zero, suc, ◌+◌, ◌-◌, ◌*�
 use Rattle.ffs_volume.specs.declared.Layout.{Layout}
 use Rattle.ffs_volume.specs.declared.Step.{Step}
 use Rattle.ffs_volume.specs.declared.Step.TheVariants.{Gap}
-use Rattle.ffs_volume.specs.Blocks.Steps.{Extent, block_bytes, word_of, word_at, tail_of, any_word_from, steps_under, steps_at}
+use Rattle.ffs_volume.specs.Blocks.Steps.{FileBlocks, block_bytes, address_in, address_at, tail_of, any_address_from, steps_under, steps_at}
 use Rattle.ffs_walk.specs.declared.frame.Frame.{Frame}
 use Rattle.ffs_walk.specs.Frames.{frame_rest}
 use Rattle.ffs_walk.proofs.FrameSteps.{next_word}
 
 -- so many words of zero in a row
 gaps_under : (g : Layout) (bytes : List ℕ) (child : ℕ → ℕ → List Step) (span address first used n next : ℕ) → ((block : ℕ) → child 0 block ≡ Gap ∷ []) → next + n ≤ used →
-    ((k : ℕ) → next ≤ k → k < next + n → word_at g bytes address k ≡ 0) →
+    ((k : ℕ) → next ≤ k → k < next + n → address_at g bytes address k ≡ 0) →
     steps_under g bytes child span address first next (used - next) ≡ replicate n Gap ++ steps_under g bytes child span address first (next + n) (used - (next + n))
 gaps_under g bytes child span address first used zero next gap h zeros =
     let at : next ≡ next + 0 = omega arith in ap (λ j. steps_under g bytes child span address first j (used - j)) at
@@ -29,14 +29,14 @@ not_fresh g bytes child span f e = rw e refl
 
 pub gaps_passed : (g : Layout) (bytes : List ℕ) (child : ℕ → ℕ → List Step) (span n next : ℕ) (f : Frame) (block : List ℕ) → ((block : ℕ) → child 0 block ≡ Gap ∷ []) →
     f.fresh ≡ false → next ≡ f.next + n → next ≤ f.used → block ≡ block_bytes g bytes f.address →
-    ((k : ℕ) → f.next ≤ k → k < next → word_of g block k ≡ 0) →
+    ((k : ℕ) → f.next ≤ k → k < next → address_in g block k ≡ 0) →
     frame_rest g bytes child span f
-    ≡ replicate n Gap ++ ((if f.fresh then tail_of (any_word_from g (block_bytes g bytes f.address) f.used) else []) ++ steps_under g bytes child span f.address f.first next (f.used - next))
+    ≡ replicate n Gap ++ ((if f.fresh then tail_of (any_address_from g (block_bytes g bytes f.address) f.used) else []) ++ steps_under g bytes child span f.address f.first next (f.used - next))
 gaps_passed g bytes child span n next f block gap fresh moved h is zeros =
     not_fresh g bytes child span f fresh
-    ∙ gaps_under g bytes child span f.address f.first f.used n f.next gap (omega (arith, h, moved)) (λ k l m. ap (λ b. word_of g b k) (sym is) ∙ zeros k l (omega (arith, m, moved)))
+    ∙ gaps_under g bytes child span f.address f.first f.used n f.next gap (omega (arith, h, moved)) (λ k l m. ap (λ b. address_in g b k) (sym is) ∙ zeros k l (omega (arith, m, moved)))
     ∙ ap (λ j. replicate n Gap ++ steps_under g bytes child span f.address f.first j (f.used - j)) (sym moved)
-    ∙ ap (λ b. replicate n Gap ++ ((if b then tail_of (any_word_from g (block_bytes g bytes f.address) f.used) else []) ++ steps_under g bytes child span f.address f.first next (f.used - next))) (sym fresh)
+    ∙ ap (λ b. replicate n Gap ++ ((if b then tail_of (any_address_from g (block_bytes g bytes f.address) f.used) else []) ++ steps_under g bytes child span f.address f.first next (f.used - next))) (sym fresh)
 
 -- ---- in a walk, the frames before are spent
 pub in_first : (s s' o r : List Step) → s ≡ r ++ s' → s ++ o ≡ r ++ (s' ++ o)
@@ -49,7 +49,7 @@ pub in_third : (s d t t' o r : List Step) → s ≡ [] → d ≡ [] → t ≡ r 
 in_third s d t t' o r none none' e = rw (none, none') (in_first t t' o r e)
 
 -- an address of zero is a gap, at every level
-pub zero_gap : (t : Extent) (bytes : List ℕ) (level block : ℕ) → steps_at t bytes level 0 block ≡ Gap ∷ []
+pub zero_gap : (t : FileBlocks) (bytes : List ℕ) (level block : ℕ) → steps_at t bytes level 0 block ≡ Gap ∷ []
 unfolding steps_at
 zero_gap t bytes zero block = refl
 zero_gap t bytes (suc level) block = refl

@@ -2,7 +2,7 @@ use Rattle.std.proofs.Common.{◌≡◌, ℕ, ◌+◌, ◌-◌, ◌*◌, ◌<◌
 use Rattle.std.specs.Prelude.{◌↔◌}
 use Rattle.ffs_volume.specs.declared.Layout.{Layout}
 use Rattle.ffs_image.specs.Device.{ForContents}
-use Rattle.ffs_volume.specs.Disk.Geometry.{IsGeometry}
+use Rattle.ffs_volume.specs.Disk.Geometry.{IsValidLayout}
 use Rattle.ffs_volume.specs.declared.Step.{Step}
 use Rattle.ffs_walk.specs.declared.frame.Frame.{Frame}
 use Rattle.ffs_walk.specs.declared.walk.Walk.{Walk}
@@ -11,25 +11,25 @@ use Rattle.ffs_walk.specs.Fits.{IsSpent}
 use Rattle.ffs_walk.specs.declared.frame.Item.{Item}
 use Rattle.ffs_walk.specs.Frames.{frame_rest, frame_left, item_steps}
 use Rattle.ffs_walk.specs.Rests.{extent_of, rest, single_rest, double_rest, triple_rest, top_rest, most_at, left}
-use Rattle.ffs_volume.specs.Blocks.Steps.{Extent, data_step, indirect_steps, steps_at, steps_of_addresses, level_of, first_block}
+use Rattle.ffs_volume.specs.Blocks.Steps.{FileBlocks, data_step, indirect_steps, steps_at, steps_of_addresses, indirection_of, first_block}
 use Rattle.std.proofs.lemmas.Bool.Decides.{nat_tests}
 use Rattle.std.proofs.Math.Nat.{mul-le-mul_right}
 use Rattle.ffs_walk.proofs.Ranges.{flat_map_step}
 
-pub steps_zero : (t : Extent) (bytes : List ℕ) (a f : ℕ) → steps_at t bytes 0 a f ≡ data_step t a f ∷ []
+pub steps_zero : (t : FileBlocks) (bytes : List ℕ) (a f : ℕ) → steps_at t bytes 0 a f ≡ data_step t a f ∷ []
 unfolding steps_at
 steps_zero t bytes a f = refl
 
-pub steps_one : (t : Extent) (bytes : List ℕ) (a f : ℕ) → steps_at t bytes 1 a f ≡ indirect_steps t bytes (steps_at t bytes 0) 1 a f
+pub steps_one : (t : FileBlocks) (bytes : List ℕ) (a f : ℕ) → steps_at t bytes 1 a f ≡ indirect_steps t bytes (steps_at t bytes 0) 1 a f
 unfolding steps_at
 steps_one t bytes a f = refl
 
-pub steps_two : (t : Extent) (bytes : List ℕ) (a f : ℕ) →
+pub steps_two : (t : FileBlocks) (bytes : List ℕ) (a f : ℕ) →
     steps_at t bytes 2 a f ≡ indirect_steps t bytes (steps_at t bytes 1) t.geometry.nindir a f
 unfolding steps_at
 steps_two t bytes a f = refl
 
-pub steps_three : (t : Extent) (bytes : List ℕ) (a f : ℕ) →
+pub steps_three : (t : FileBlocks) (bytes : List ℕ) (a f : ℕ) →
     steps_at t bytes 3 a f ≡ indirect_steps t bytes (steps_at t bytes 2) (t.geometry.nindir * t.geometry.nindir) a f
 unfolding steps_at
 steps_three t bytes a f = refl
@@ -82,19 +82,19 @@ rest_at_top bytes w s d t =
       spent_rest w.geometry.layout bytes (steps_at (extent_of w) bytes 2) (w.geometry.layout.nindir * w.geometry.layout.nindir) w.triple t,
     ) refl
 
-pub next_address : (t : Extent) (bytes addresses : List ℕ) (next used : ℕ) → next < used →
+pub next_address : (t : FileBlocks) (bytes addresses : List ℕ) (next used : ℕ) → next < used →
     steps_of_addresses t bytes addresses next (used - next)
-    ≡ steps_at t bytes (level_of next) (slice_index addresses next) (first_block t.geometry.nindir next)
+    ≡ steps_at t bytes (indirection_of next) (slice_index addresses next) (first_block t.geometry.nindir next)
     ++ steps_of_addresses t bytes addresses (next + 1) (used - (next + 1))
 next_address t bytes addresses next used h =
-    flat_map_step (λ i. steps_at t bytes (level_of i) (slice_index addresses i) (first_block t.geometry.nindir i)) next used h
+    flat_map_step (λ i. steps_at t bytes (indirection_of i) (slice_index addresses i) (first_block t.geometry.nindir i)) next used h
 
 -- the steps of the addresses after the next one
 abbrev pub later_rest : List ℕ → Walk → List Step
 later_rest bytes w = steps_of_addresses (extent_of w) bytes w.addresses (w.next + 1) (w.used - (w.next + 1))
 
 pub at_top : (bytes : List ℕ) (w : Walk) → w.next < w.used → IsSpent w.single → IsSpent w.double → IsSpent w.triple →
-    rest bytes w ≡ steps_at (extent_of w) bytes (level_of w.next) (slice_index w.addresses w.next) (first_block w.geometry.layout.nindir w.next) ++ later_rest bytes w
+    rest bytes w ≡ steps_at (extent_of w) bytes (indirection_of w.next) (slice_index w.addresses w.next) (first_block w.geometry.layout.nindir w.next) ++ later_rest bytes w
 at_top bytes w h s d t = rest_at_top bytes w s d t ∙ next_address (extent_of w) bytes w.addresses w.next w.used h
 
 pub top_ends : (bytes : List ℕ) (w : Walk) → w.used ≤ w.next → IsSpent w.single → IsSpent w.double → IsSpent w.triple → rest bytes w ≡ []
@@ -108,7 +108,7 @@ pub top_data : (bytes : List ℕ) (w : Walk) (address first : ℕ) (step : Step)
     step ≡ data_step (extent_of w) address first →
     rest bytes w ≡ step ∷ (single_rest bytes w ++ (double_rest bytes w ++ (triple_rest bytes w ++ later_rest bytes w)))
 top_data bytes w address first step h low s d t is_address is_first e =
-    let level : level_of w.next ≡ 0 = omega arith in
+    let level : indirection_of w.next ≡ 0 = omega arith in
     let place : first_block w.geometry.layout.nindir w.next ≡ w.next = grind (arith, nat_tests) in
     at_top bytes w h s d t
     ∙ rw (
@@ -130,7 +130,7 @@ pub top_single : (bytes : List ℕ) (w : Walk) (step : Step) (f : Frame) →
     ≡ step ∷ frame_rest w.geometry.layout bytes (steps_at (extent_of w) bytes 0) 1 f →
     rest bytes w ≡ step ∷ (frame_rest w.geometry.layout bytes (steps_at (extent_of w) bytes 0) 1 f ++ (double_rest bytes w ++ (triple_rest bytes w ++ later_rest bytes w)))
 top_single bytes w step f h is s d t e =
-    let level : level_of w.next ≡ 1 = omega arith in
+    let level : indirection_of w.next ≡ 1 = omega arith in
     let place : first_block w.geometry.layout.nindir w.next ≡ 12 = grind (arith, nat_tests) in
     at_top bytes w h s d t
     ∙ rw (
@@ -148,7 +148,7 @@ pub top_double : (bytes : List ℕ) (w : Walk) (words : ℕ) (step : Step) (f : 
     ≡ step ∷ frame_rest w.geometry.layout bytes (steps_at (extent_of w) bytes 1) words f →
     rest bytes w ≡ step ∷ (single_rest bytes w ++ (frame_rest w.geometry.layout bytes (steps_at (extent_of w) bytes 1) w.geometry.layout.nindir f ++ (triple_rest bytes w ++ later_rest bytes w)))
 top_double bytes w words step f h is is_words s d t e =
-    let level : level_of w.next ≡ 2 = omega arith in
+    let level : indirection_of w.next ≡ 2 = omega arith in
     let place : first_block w.geometry.layout.nindir w.next ≡ 12 + w.geometry.layout.nindir = rw is refl in
     at_top bytes w h s d t
     ∙ rw (
@@ -166,7 +166,7 @@ pub top_triple : (bytes : List ℕ) (w : Walk) (words : ℕ) (step : Step) (f : 
     ≡ step ∷ frame_rest w.geometry.layout bytes (steps_at (extent_of w) bytes 2) (words * words) f →
     rest bytes w ≡ step ∷ (single_rest bytes w ++ (double_rest bytes w ++ (frame_rest w.geometry.layout bytes (steps_at (extent_of w) bytes 2) (w.geometry.layout.nindir * w.geometry.layout.nindir) f ++ later_rest bytes w)))
 top_triple bytes w words step f h is is_words s d t e =
-    let level : level_of w.next ≡ 3 = omega arith in
+    let level : indirection_of w.next ≡ 3 = omega arith in
     let place : first_block w.geometry.layout.nindir w.next ≡ 12 + w.geometry.layout.nindir + w.geometry.layout.nindir * w.geometry.layout.nindir = rw is refl in
     at_top bytes w h s d t
     ∙ rw (
@@ -248,7 +248,7 @@ square_some n h =
     omega (arith, scaled)
 
 -- a block has words
-pub some_words : (v : Layout) → IsGeometry v → 0 < v.nindir
+pub some_words : (v : Layout) → IsValidLayout v → 0 < v.nindir
 some_words v sound = omega (arith, sound.sizes.nindir, sound.sizes.bsize_low)
 
 -- nothing is left at the end

@@ -1,16 +1,16 @@
 -- How a frame fits into a walk.
 use Rattle.std.specs.Prelude.{ℕ, ◌+◌, ◌*◌, ◌^◌, ◌<◌, ◌≤◌, ◌≡◌, false, IsTrue}
 use Rattle.ffs_volume.specs.declared.Layout.{Layout}
-use Rattle.ffs_volume.specs.Disk.Areas.{is_in_range}
-use Rattle.ffs_volume.specs.Blocks.Steps.{used_words}
+use Rattle.ffs_volume.specs.Disk.Areas.{is_run_in_range}
+use Rattle.ffs_volume.specs.Blocks.Steps.{used_addresses}
 use Rattle.ffs_walk.specs.declared.frame.Frame.{Frame}
 use Rattle.ffs_walk.specs.declared.frame.Item.{Item}
 use Rattle.ffs_walk.specs.declared.frame.Item.TheVariants.{Missing, Word}
 
 -- the frame is in a block in range, counts only words that are used, and has no direct block under it
 pub record FrameFits (g : Layout) (blocks span : ℕ) (f : Frame) : Type 0 where
-  pub words : f.used ≤ used_words g.nindir blocks f.first span
-  pub in_range_there : f.next < f.used → IsTrue (is_in_range g f.address g.frag)
+  pub words : f.used ≤ used_addresses g.nindir blocks f.first span
+  pub in_range_there : f.next < f.used → IsTrue (is_run_in_range g f.address g.frag)
   pub indirect : f.next < f.used → 12 ≤ f.first
 
 -- nothing is left in the frame
@@ -29,6 +29,6 @@ IsBelow blocks (Word address block) = IsIndirect blocks block
 -- the frame has an item left, of a block in range, and its logical block is a number
 pub record HasItem (g : Layout) (span : ℕ) (f : Frame) : Type 0 where
   pub left : f.next < f.used
-  pub in_range : IsTrue (is_in_range g f.address g.frag)
+  pub in_range : IsTrue (is_run_in_range g f.address g.frag)
   pub words : f.used ≤ g.nindir
   pub small : f.first + f.next * span < 2 ^ 64

@@ -3,13 +3,13 @@ use Rattle.std.specs.Prelude.{◌≡◌, ℕ, zero, suc, ◌+◌, ◌-◌, ◌*�
 use Rattle.ffs_volume.specs.declared.Step.{Step}
 use Rattle.ffs_volume.specs.declared.Inode.{Inode}
 use Rattle.ffs_volume.specs.Blocks.Inodes.{logical_blocks_of}
-use Rattle.ffs_volume.specs.Blocks.Steps.{Extent, steps_at, steps_of, steps_of_addresses, walks}
+use Rattle.ffs_volume.specs.Blocks.Steps.{FileBlocks, steps_at, steps_of, steps_of_addresses, walks}
 use Rattle.ffs_layout.specs.declared.geometry.Geometry.{Geometry}
 use Rattle.ffs_walk.specs.declared.walk.Walk.{Walk}
 use Rattle.ffs_walk.specs.Frames.{frame_rest, frame_left}
 use Rattle.ffs_walk.specs.Fits.{IsSpent}
 
-abbrev pub extent_of : Walk → Extent
+abbrev pub extent_of : Walk → FileBlocks
 extent_of w = record { geometry = w.geometry.layout; blocks = w.blocks; last = w.last }
 
 -- the steps that the frames of a walk have left

@@ -3,7 +3,7 @@
 ghost use Rattle.std.specs.Prelude.{Some, ◌≡◌, ◌-◌, ◌*◌, ◌+◌, ◌<◌, ◌≤◌, ℕ, List, Option, length, vec_len, OnOk, IfErr, IsTrue};
 ghost use Rattle.ffs_image.specs.Device.{ForContents};
 ghost use Rattle.ffs_image.specs.Reads.{ReadAfter};
-ghost use Rattle.ffs_volume.specs.Disk.Areas.{is_in_range};
+ghost use Rattle.ffs_volume.specs.Disk.Areas.{is_run_in_range};
 ghost use Rattle.ffs_volume.specs.Blocks.Steps.{block_bytes};
 ghost use Rattle.ffs_volume.specs.declared.Layout.{Layout};
 
@@ -44,7 +44,7 @@ impl Blocks {
         image: &mut I,
     ) -> Result<(), ImageFault>
         requires level { level < 3 }
-        requires in_range { IsTrue (is_in_range geometry.now.layout address
+        requires in_range { IsTrue (is_run_in_range geometry.now.layout address
             geometry.now.layout.frag) }
         requires ready { CanWalk geometry.now.layout (I.device image.old) self.old }
         ensures bytes { OnOk result (ForContents (I.device image.old).contents

@@ -1,7 +1,7 @@
 //! The words of an indirect block.
 
 ghost use Rattle.std.specs.Prelude.{ℕ, ◌≡◌, ◌*◌, ◌+◌, ◌<◌, ◌≤◌, length};
-ghost use Rattle.ffs_volume.specs.Blocks.Steps.{any_word_from, word_of};
+ghost use Rattle.ffs_volume.specs.Blocks.Steps.{any_address_from, address_in};
 
 use byteorder::{BigEndian, ByteOrder, LittleEndian};
 use ffs_layout::Geometry;
@@ -11,7 +11,7 @@ use ffs_volume::Order;
 #[tactic(auto, unfolding(ffs_volume::specs::Disk::Numbers::number, ffs_volume::specs::Disk::Numbers::u32_at))]
 pub fn word(geometry: &Geometry, block: &[u8], index: u32) -> u32
     requires { 4 * index + 4 ≤ length block.now }
-    ensures { result ≡ word_of geometry.now.layout block.now index }
+    ensures { result ≡ address_in geometry.now.layout block.now index }
 {
     let place = 4 * index as usize;
     match geometry.layout.order {
@@ -24,7 +24,7 @@ pub fn word(geometry: &Geometry, block: &[u8], index: u32) -> u32
 #[inline(never)]
 pub fn any_from(geometry: &Geometry, block: &[u8], used: u32) -> bool
     requires { length block.now ≡ geometry.now.layout.bsize }
-    ensures { result ≡ any_word_from geometry.now.layout block.now used }
+    ensures { result ≡ any_address_from geometry.now.layout block.now used }
 {
     let words = geometry.layout.nindir;
     for j in used..words {
@@ -40,7 +40,7 @@ pub fn zeros_end(geometry: &Geometry, block: &[u8], next: u32, used: u32) -> u32
     requires block { length block.now ≡ geometry.now.layout.bsize }
     requires words { (next ≤ used) × (used ≤ geometry.now.layout.nindir) }
     ensures within { (next ≤ result) × (result ≤ used) }
-    ensures zeros { (k : ℕ) → next ≤ k → k < result → word_of geometry.now.layout block.now k ≡ 0 }
+    ensures zeros { (k : ℕ) → next ≤ k → k < result → address_in geometry.now.layout block.now k ≡ 0 }
 {
     for j in next..used {
         if word(geometry, block, j) != 0 {

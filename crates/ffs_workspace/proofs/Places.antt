@@ -7,26 +7,26 @@ use Rattle.std.proofs.lemmas.Bool.Decides.{nat_tests}
 use Rattle.ffs_volume.specs.declared.Layout.{Layout}
 use Rattle.std.specs.List.{slice_range}
 use Rattle.ffs_volume.specs.declared.Inode.{Inode}
-use Rattle.ffs_volume.specs.Blocks.Inodes.{decoded, inode_of}
+use Rattle.ffs_volume.specs.Blocks.Inodes.{inode_from_bytes, inode_of}
 use Rattle.ffs_volume.specs.Disk.Numbers.{piece}
 use Rattle.ffs_volume.specs.Disk.Areas.{cgstart, cgdmin, inode_place}
-use Rattle.ffs_volume.specs.Disk.Outcome.{is_block_size, are_sizes, is_shaped}
-use Rattle.ffs_volume.specs.Disk.Geometry.{IsGeometry}
+use Rattle.ffs_volume.specs.Disk.Outcome.{is_block_size, has_valid_sizes, is_valid_layout}
+use Rattle.ffs_volume.specs.Disk.Geometry.{IsValidLayout}
 
 -- a block holds whole inodes
 block_whole : (n : ℕ) → is_block_size n ≡ true → 128 * (n / 128) ≡ n
 unfolding is_block_size
 block_whole n h = grind (arith, nat_tests)
 
-sizes_are : (v : Layout) → is_shaped v ≡ true → are_sizes v ≡ true
-unfolding is_shaped
+sizes_are : (v : Layout) → is_valid_layout v ≡ true → has_valid_sizes v ≡ true
+unfolding is_valid_layout
 sizes_are v h = grind (arith, nat_tests)
 
-block_is : (v : Layout) → are_sizes v ≡ true → is_block_size v.bsize ≡ true
-unfolding are_sizes
+block_is : (v : Layout) → has_valid_sizes v ≡ true → is_block_size v.bsize ≡ true
+unfolding has_valid_sizes
 block_is v h = grind (arith, nat_tests)
 
-pub inodes_whole : (v : Layout) → IsGeometry v → 128 * v.inopb ≡ v.bsize
+pub inodes_whole : (v : Layout) → IsValidLayout v → 128 * v.inopb ≡ v.bsize
 inodes_whole v g =
     let size : is_block_size v.bsize ≡ true = block_is v (sizes_are v g.shaped) in
     let same : v.inopb ≡ v.bsize / 128 = g.sizes.inopb in
@@ -52,7 +52,7 @@ block_ends i ipg n b some below e same =
     grind arith
 
 -- and the table ends before the data of its group
-table_fits : (v : Layout) → IsGeometry v → v.iblkno * v.fsize + v.ipg / v.inopb * v.bsize ≤ v.dblkno * v.fsize
+table_fits : (v : Layout) → IsValidLayout v → v.iblkno * v.fsize + v.ipg / v.inopb * v.bsize ≤ v.dblkno * v.fsize
 table_fits v g =
     let all : v.inopb * (v.ipg / v.inopb) ≡ v.ipg = whole_blocks v.ipg v.inopb g.sizes.inode_blocks in
     let same : 128 * v.inopb ≡ v.bsize = inodes_whole v g in
@@ -68,7 +68,7 @@ table_fits v g =
         grind (arith, spread, scaled)
 
 -- the block of an inode ends in the volume
-pub block_inside : (v : Layout) (x : ℕ) → IsGeometry v → x / v.ipg < v.ncg →
+pub block_inside : (v : Layout) (x : ℕ) → IsValidLayout v → x / v.ipg < v.ncg →
     (cgstart v (x / v.ipg) + v.iblkno) * v.fsize + x % v.ipg / v.inopb * v.bsize + v.bsize ≤ v.size * v.fsize
 block_inside v x g group =
     let parts = g.groups (x / v.ipg) group in
@@ -82,13 +82,13 @@ block_inside v x g group =
     grind (arith)
 
 -- where the inode is in it
-pub block_of : (v : Layout) (x : ℕ) → IsGeometry v →
+pub block_of : (v : Layout) (x : ℕ) → IsValidLayout v →
     (cgstart v (x / v.ipg) + v.iblkno) * v.fsize + x % v.ipg / v.inopb * v.bsize + 128 * (x % v.ipg % v.inopb) ≡ inode_place v x
 block_of v x g =
     let place = split (x % v.ipg) v.inopb v.bsize (inodes_whole v g) in
     omega arith
 
-pub inside_block : (v : Layout) (x : ℕ) → IsGeometry v → 128 * (x % v.ipg % v.inopb) + 128 ≤ v.bsize
+pub inside_block : (v : Layout) (x : ℕ) → IsValidLayout v → 128 * (x % v.ipg % v.inopb) + 128 ≤ v.bsize
 inside_block v x g =
     let same : 128 * v.inopb ≡ v.bsize = inodes_whole v g in
     let low : x % v.ipg % v.inopb < v.inopb = mod-lt (x % v.ipg) (omega arith) in
@@ -104,7 +104,7 @@ piece_of place length at n bytes h =
     ∙ ap (λ (xs : List ℕ). take n xs) (drop-drop at place bytes)
 
 -- the bytes of an inode, in its block
-pub bytes_there : (v : Layout) (x place at : ℕ) (bytes held : List ℕ) → IsGeometry v → at ≡ 128 * (x % v.ipg % v.inopb) →
+pub bytes_there : (v : Layout) (x place at : ℕ) (bytes held : List ℕ) → IsValidLayout v → at ≡ 128 * (x % v.ipg % v.inopb) →
     place + 128 * (x % v.ipg % v.inopb) ≡ inode_place v x → held ≡ piece place v.bsize bytes → slice_range held at (at + 128) ≡ piece (inode_place v x) 128 bytes
 bytes_there v x place at bytes held g is_at is_place is_held =
     let inside : at + 128 ≤ v.bsize = omega (arith, inside_block v x g) in
@@ -117,7 +117,7 @@ bytes_there v x place at bytes held g is_at is_place is_held =
 
 -- a value of the bytes of an inode that are held is its value of the inode
 pub inode_there : {T : Type 0} (value : Inode → T) (v : Layout) (x at : ℕ) (bytes held held' : List ℕ) (i : T) → held' ≡ held → slice_range held at (at + 128) ≡ piece (inode_place v x) 128 bytes →
-    i ≡ value (decoded v.order (slice_range held' at (at + 128))) → i ≡ value (inode_of v bytes x)
+    i ≡ value (inode_from_bytes v.order (slice_range held' at (at + 128))) → i ≡ value (inode_of v bytes x)
 unfolding inode_of
 inode_there value v x at bytes held held' i same there is =
-    is ∙ ap (λ (xs : List ℕ). value (decoded v.order (slice_range xs at (at + 128)))) same ∙ ap (λ (xs : List ℕ). value (decoded v.order xs)) there
+    is ∙ ap (λ (xs : List ℕ). value (inode_from_bytes v.order (slice_range xs at (at + 128)))) same ∙ ap (λ (xs : List ℕ). value (inode_from_bytes v.order xs)) there

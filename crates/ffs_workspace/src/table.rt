@@ -4,7 +4,7 @@ ghost use Rattle.std.specs.Prelude.{◌≡◌, ◌*◌, ◌+◌, ◌%◌, ◌<�
 ghost use Rattle.std.specs.List.{slice_range};
 ghost use Rattle.ffs_image.specs.Device.{Faulted, ForContents};
 ghost use Rattle.ffs_volume.specs.Disk.Areas.{inode_place};
-ghost use Rattle.ffs_volume.specs.Disk.Numbers.{is_the_count, piece};
+ghost use Rattle.ffs_volume.specs.Disk.Numbers.{equals_natural, piece};
 ghost use Rattle.ffs_volume.specs.Blocks.Inodes.{inode_of};
 ghost use Rattle.ffs_walk.specs.Windows.{WindowHolds, held_bytes};
 
@@ -111,7 +111,7 @@ impl Table {
         requires holds { WindowHolds (I.device image.old).contents self.old.window }
         ensures links { IfOk result (λ same. ForContents (I.device image.old).contents
             (λ bytes. same
-            ≡ is_the_count (inode_of geometry.now.layout bytes number).nlink links)) }
+            ≡ equals_natural (inode_of geometry.now.layout bytes number).nlink links)) }
         ensures room { vec_len self.new.window.buffer ≡ geometry.now.layout.bsize }
         ensures holds { WindowHolds (I.device image.new).contents self.new.window }
         ensures ok { OnOk result (I.device image.new ≡ I.device image.old) }

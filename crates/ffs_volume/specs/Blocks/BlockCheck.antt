@@ -10,11 +10,11 @@ use Rattle.ffs_volume.specs.declared.Step.{Step}
 use Rattle.ffs_volume.specs.declared.Step.TheVariants.{Run, Tail, Gap}
 use Rattle.ffs_volume.specs.declared.BlockMessage.{BlockMessage}
 use Rattle.ffs_volume.specs.declared.BlockMessage.TheVariants.{PartAlloc, UnknownType, Bad, Dup, BlockCount}
-use Rattle.ffs_volume.specs.Disk.Areas.{is_in_range}
+use Rattle.ffs_volume.specs.Disk.Areas.{is_run_in_range}
 use Rattle.ffs_volume.specs.Blocks.Inodes.{is_file_or_dir, inode_of, class_of, is_unknown}
 use Rattle.ffs_volume.specs.Blocks.Owners.{Owner, owners_of}
 use Rattle.ffs_volume.specs.Blocks.Claims.{Claims, no_claims, next_inode, is_open, is_set}
-use Rattle.ffs_volume.specs.Blocks.Claims.{after_offer, after_step, after_owner, after_owners, steps_lines}
+use Rattle.ffs_volume.specs.Blocks.Claims.{after_offer, after_step, after_owner, after_owners, lines_of_steps}
 
 -- the line of an inode's class
 abbrev pub class_lines : ℕ → Class → List BlockMessage
@@ -37,12 +37,12 @@ count_lines v o end =
 abbrev pub owner_lines : Layout → Claims → Owner → List BlockMessage
 owner_lines v s o =
     class_lines o.number o.class
-    ++ (steps_lines v o.number (next_inode s) o.steps ++ count_lines v o (after_owner v s o))
+    ++ (lines_of_steps v o.number (next_inode s) o.steps ++ count_lines v o (after_owner v s o))
 
 -- the lines of inodes, one after the other
-abbrev pub owners_lines : Layout → Claims → List Owner → List BlockMessage
-owners_lines v s [] = []
-owners_lines v s (o ∷ os) = owner_lines v s o ++ owners_lines v (after_owner v s o) os
+abbrev pub lines_of_owners : Layout → Claims → List Owner → List BlockMessage
+lines_of_owners v s [] = []
+lines_of_owners v s (o ∷ os) = owner_lines v s o ++ lines_of_owners v (after_owner v s o) os
 
 -- an offer: one fragment of a Run, and the inode of the Run
 pub record Offer : Type 0 where
@@ -58,7 +58,7 @@ kept_in_offers v inode s (f ∷ fs) =
 
 abbrev pub kept_in_run : (v : Layout) (inode : ℕ) (s : Claims) (start len : ℕ) → List Offer
 kept_in_run v inode s start len =
-    if is_in_range v start len
+    if is_run_in_range v start len
     then kept_in_offers v inode (record s { runs = s.runs + 1 }) (range_with_len start len)
     else (if s.bad == MAXBAD then []
     else kept_in_offers v inode (record s { runs = s.runs + 1; bad = s.bad + 1 }) (range_with_len start len))
@@ -86,7 +86,7 @@ first_offer_lines dup (o ∷ os) =
 
 -- the lines of phase 1
 unfoldable pub phase1_lines : Layout → List Owner → List BlockMessage
-phase1_lines v os = owners_lines v (no_claims v) os
+phase1_lines v os = lines_of_owners v (no_claims v) os
 
 -- the lines of phase 1b
 unfoldable pub phase1b_lines : Layout → List Owner → List BlockMessage

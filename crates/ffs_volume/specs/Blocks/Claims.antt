@@ -11,7 +11,7 @@ use Rattle.ffs_volume.specs.declared.Step.{Step}
 use Rattle.ffs_volume.specs.declared.Step.TheVariants.{Run, Tail, Gap}
 use Rattle.ffs_volume.specs.declared.BlockMessage.{BlockMessage}
 use Rattle.ffs_volume.specs.declared.BlockMessage.TheVariants.{Bad, Dup, ManyBad, ManyDup, PartTrunc}
-use Rattle.ffs_volume.specs.Disk.Areas.{is_data_fragment, is_in_range, is_reserved}
+use Rattle.ffs_volume.specs.Disk.Areas.{is_fragment_in_range, is_run_in_range, is_reserved}
 use Rattle.ffs_volume.specs.Blocks.Owners.{Owner}
 
 -- the state after some steps: maps of the volume's fragments, how many Runs were seen, and counts of the current inode
@@ -57,7 +57,7 @@ is_open s = nat_lt s.bad (MAXBAD + 1) && nat_lt s.dups (MAXDUP + 1)
 abbrev pub after_offer : Layout → Claims → ℕ → Claims
 after_offer v s f =
     if nat_lt s.dups (MAXDUP + 1)
-    then (if is_data_fragment v f
+    then (if is_fragment_in_range v f
     then (if is_set s.used f
     then record s { kept = s.kept + 1; dups = s.dups + 1; dup = slice_set s.dup f true }
     else record s { kept = s.kept + 1; used = slice_set s.used f true })
@@ -67,7 +67,7 @@ after_offer v s f =
 -- the lines of one offer
 abbrev pub offer_lines : (v : Layout) (inode : ℕ) (s : Claims) (f : ℕ) → List BlockMessage
 offer_lines v inode s f =
-    if nat_lt s.dups (MAXDUP + 1) && (is_data_fragment v f && is_set s.used f)
+    if nat_lt s.dups (MAXDUP + 1) && (is_fragment_in_range v f && is_set s.used f)
     then Dup f inode ∷ (if s.dups == MAXDUP then ManyDup inode ∷ [] else [])
     else []
 
@@ -77,15 +77,15 @@ after_offers v s [] = s
 after_offers v s (f ∷ fs) = after_offers v (after_offer v s f) fs
 
 -- the lines of offers, one after the other
-abbrev pub offers_lines : (v : Layout) (inode : ℕ) (s : Claims) (fs : List ℕ) → List BlockMessage
-offers_lines v inode s [] = []
-offers_lines v inode s (f ∷ fs) = offer_lines v inode s f ++ offers_lines v inode (after_offer v s f) fs
+abbrev pub lines_of_offers : (v : Layout) (inode : ℕ) (s : Claims) (fs : List ℕ) → List BlockMessage
+lines_of_offers v inode s [] = []
+lines_of_offers v inode s (f ∷ fs) = offer_lines v inode s f ++ lines_of_offers v inode (after_offer v s f) fs
 
 -- the state after a Run is seen. One that isn't in range is bad, and offers its fragments as any other, unless it is
 -- the eleventh
 abbrev pub after_run : (v : Layout) (s : Claims) (start len : ℕ) → Claims
 after_run v s start len =
-    if is_in_range v start len
+    if is_run_in_range v start len
     then after_offers v (record s { runs = s.runs + 1 }) (range_with_len start len)
     else (if s.bad == MAXBAD
     then record s { runs = s.runs + 1; bad = s.bad + 1 }
@@ -94,10 +94,10 @@ after_run v s start len =
 -- the lines of a Run
 abbrev pub run_lines : (v : Layout) (inode : ℕ) (s : Claims) (start len : ℕ) → List BlockMessage
 run_lines v inode s start len =
-    if is_in_range v start len
-    then offers_lines v inode (record s { runs = s.runs + 1 }) (range_with_len start len)
+    if is_run_in_range v start len
+    then lines_of_offers v inode (record s { runs = s.runs + 1 }) (range_with_len start len)
     else Bad start inode ∷ (if s.bad == MAXBAD then ManyBad inode ∷ []
-    else offers_lines v inode (record s { runs = s.runs + 1; bad = s.bad + 1 }) (range_with_len start len))
+    else lines_of_offers v inode (record s { runs = s.runs + 1; bad = s.bad + 1 }) (range_with_len start len))
 
 -- the state after one step
 abbrev pub after_step : Layout → Claims → Step → Claims
@@ -117,9 +117,10 @@ after_steps v s [] = s
 after_steps v s (step ∷ steps) = after_steps v (after_step v s step) steps
 
 -- the lines of steps, one after the other
-abbrev pub steps_lines : Layout → ℕ → Claims → List Step → List BlockMessage
-steps_lines v inode s [] = []
-steps_lines v inode s (step ∷ steps) = step_lines v inode s step ++ steps_lines v inode (after_step v s step) steps
+abbrev pub lines_of_steps : Layout → ℕ → Claims → List Step → List BlockMessage
+lines_of_steps v inode s [] = []
+lines_of_steps v inode s (step ∷ steps) =
+    step_lines v inode s step ++ lines_of_steps v inode (after_step v s step) steps
 
 -- the state after an inode
 abbrev pub after_owner : Layout → Claims → Owner → Claims

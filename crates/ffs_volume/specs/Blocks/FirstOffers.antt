@@ -9,7 +9,7 @@ offer_at i f = record { inode = i; fragment = f }
 
 -- the kept offers are a prefix of the offers of the fragments fs to inode i, and all of them unless the inode is cut
 -- (`over`)
-pub record Firsts (i : ℕ) (kept : List Offer) (fs : List ℕ) (over : Bool) : Type 0 where
+pub record KeptPrefix (i : ℕ) (kept : List Offer) (fs : List ℕ) (over : Bool) : Type 0 where
   pub rest : List Offer
   pub whole : kept ++ rest ≡ map (offer_at i) fs
   pub end : (rest ≡ []) ⊎ (over ≡ true)

@@ -14,8 +14,8 @@ use Rattle.ffs_volume.specs.Disk.Numbers.{u16_at, i16_at, u32_at, i32_at, u64_at
 use Rattle.ffs_volume.specs.Disk.Areas.{inode_place}
 
 -- an inode from its 128 bytes, whose numbers are in this order of bytes
-unfoldable pub decoded : Order → List ℕ → Inode
-decoded order bytes = record {
+unfoldable pub inode_from_bytes : Order → List ℕ → Inode
+inode_from_bytes order bytes = record {
   mode = u16_at order 0 bytes;
   nlink = i16_at order 2 bytes;
   size = u64_at order 8 bytes;
@@ -27,7 +27,7 @@ decoded order bytes = record {
 
 -- the inode x of an image
 unfoldable pub inode_of : (v : Layout) (image : List ℕ) (x : ℕ) → Inode
-inode_of v image x = decoded v.order (piece (inode_place v x) 128 image)
+inode_of v image x = inode_from_bytes v.order (piece (inode_place v x) 128 image)
 
 -- the type bits of a mode, as a directory's entry has them
 abbrev pub type_of : ℕ → ℕ

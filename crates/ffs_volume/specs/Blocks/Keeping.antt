@@ -6,7 +6,7 @@ use Rattle.ffs_volume.specs.declared.constants.TheConstants.{MAXBAD, MAXDUP}
 use Rattle.ffs_volume.specs.declared.Layout.{Layout}
 use Rattle.ffs_volume.specs.declared.Step.{Step}
 use Rattle.ffs_volume.specs.declared.Step.TheVariants.{Run, Tail, Gap}
-use Rattle.ffs_volume.specs.Disk.Areas.{is_data_fragment, is_in_range, is_reserved}
+use Rattle.ffs_volume.specs.Disk.Areas.{is_fragment_in_range, is_run_in_range, is_reserved}
 use Rattle.ffs_volume.specs.Blocks.Owners.{Owner}
 use Rattle.ffs_volume.specs.Blocks.BlockCheck.{Offer}
 
@@ -14,34 +14,34 @@ use Rattle.ffs_volume.specs.Blocks.BlockCheck.{Offer}
 pub record CountedOffer : Type 0 where
   pub inode : ℕ
   pub fragment : ℕ
-  pub bads : ℕ
+  pub bad_runs : ℕ
 
 -- how many bad Runs an inode has after a step
-abbrev pub bads_after : Layout → ℕ → Step → ℕ
-bads_after v bads (Run start len block) = if is_in_range v start len then bads else bads + 1
-bads_after v bads Tail = bads
-bads_after v bads Gap = bads
+abbrev pub bad_runs_after : Layout → ℕ → Step → ℕ
+bad_runs_after v bad_runs (Run start len block) = if is_run_in_range v start len then bad_runs else bad_runs + 1
+bad_runs_after v bad_runs Tail = bad_runs
+bad_runs_after v bad_runs Gap = bad_runs
 
 -- the offer of f to an inode with so many bad Runs
-abbrev pub counted_offer : (inode bads f : ℕ) → CountedOffer
-counted_offer inode bads f = record { inode = inode; fragment = f; bads = bads }
+abbrev pub counted_offer : (inode bad_runs f : ℕ) → CountedOffer
+counted_offer inode bad_runs f = record { inode = inode; fragment = f; bad_runs = bad_runs }
 
 -- the offers of a step
-abbrev pub step_offers : (v : Layout) (inode bads : ℕ) → Step → List CountedOffer
-step_offers v inode bads (Run start len block) =
-    map (counted_offer inode (bads_after v bads (Run start len block))) (range_with_len start len)
-step_offers v inode bads Tail = []
-step_offers v inode bads Gap = []
+abbrev pub step_offers : (v : Layout) (inode bad_runs : ℕ) → Step → List CountedOffer
+step_offers v inode bad_runs (Run start len block) =
+    map (counted_offer inode (bad_runs_after v bad_runs (Run start len block))) (range_with_len start len)
+step_offers v inode bad_runs Tail = []
+step_offers v inode bad_runs Gap = []
 
 -- the offers of steps, one after the other
-abbrev pub steps_offers : (v : Layout) (inode bads : ℕ) (steps : List Step) → List CountedOffer
-steps_offers v inode bads [] = []
-steps_offers v inode bads (step ∷ steps) =
-    step_offers v inode bads step ++ steps_offers v inode (bads_after v bads step) steps
+abbrev pub offers_of_steps : (v : Layout) (inode bad_runs : ℕ) (steps : List Step) → List CountedOffer
+offers_of_steps v inode bad_runs [] = []
+offers_of_steps v inode bad_runs (step ∷ steps) =
+    step_offers v inode bad_runs step ++ offers_of_steps v inode (bad_runs_after v bad_runs step) steps
 
 -- all offers, in order
 abbrev pub all_offers : Layout → List Owner → List CountedOffer
-all_offers v os = flat_map (λ o. steps_offers v o.number 0 o.steps) os
+all_offers v os = flat_map (λ o. offers_of_steps v o.number 0 o.steps) os
 
 -- an offer with its verdict: whether it is dup, and whether it is kept
 pub record OfferVerdict : Type 0 where
@@ -51,8 +51,8 @@ pub record OfferVerdict : Type 0 where
   pub kept : Bool
 
 -- an earlier kept offer has the fragment
-abbrev pub is_taken : List OfferVerdict → ℕ → Bool
-is_taken earlier f = list_any (λ j. j.kept && j.fragment == f) earlier
+abbrev pub is_claimed_before : List OfferVerdict → ℕ → Bool
+is_claimed_before earlier f = list_any (λ j. j.kept && j.fragment == f) earlier
 
 -- how many dup offers of the inode there were
 abbrev pub dups_of : List OfferVerdict → ℕ → ℕ
@@ -65,8 +65,8 @@ unfoldable pub offer_verdict : Layout → List OfferVerdict → CountedOffer →
 offer_verdict v earlier p = record {
   inode = p.inode;
   fragment = p.fragment;
-  dup = is_data_fragment v p.fragment && (is_reserved v p.fragment || is_taken earlier p.fragment);
-  kept = nat_le p.bads MAXBAD && nat_le (dups_of earlier p.inode) MAXDUP;
+  dup = is_fragment_in_range v p.fragment && (is_reserved v p.fragment || is_claimed_before earlier p.fragment);
+  kept = nat_le p.bad_runs MAXBAD && nat_le (dups_of earlier p.inode) MAXDUP;
 }
 
 -- the verdicts on all offers so far, the newest first, after some more offers

@@ -12,7 +12,7 @@ use Rattle.ffs_volume.specs.declared.Step.{Step}
 use Rattle.ffs_volume.specs.declared.Step.TheVariants.{Run, Tail, Gap}
 use Rattle.ffs_volume.specs.declared.Inode.{Inode}
 use Rattle.ffs_volume.specs.Disk.Numbers.{u32_at, piece}
-use Rattle.ffs_volume.specs.Disk.Areas.{is_in_range}
+use Rattle.ffs_volume.specs.Disk.Areas.{is_run_in_range}
 use Rattle.ffs_volume.specs.Blocks.Inodes.{addresses_for, type_of, is_device, is_short_symlink}
 use Rattle.ffs_volume.specs.Blocks.Inodes.{logical_blocks_of, is_file_or_dir, class_of}
 
@@ -21,41 +21,41 @@ abbrev pub block_bytes : (v : Layout) (image : List ℕ) (address : ℕ) → Lis
 block_bytes v image address = piece (address * v.fsize) v.bsize image
 
 -- the address at an index of an indirect block
-abbrev pub word_of : (v : Layout) (block : List ℕ) (j : ℕ) → ℕ
-word_of v block j = u32_at v.order (4 * j) block
+abbrev pub address_in : (v : Layout) (block : List ℕ) (j : ℕ) → ℕ
+address_in v block j = u32_at v.order (4 * j) block
 
 -- the address at an index of the indirect block that is at an address
-abbrev pub word_at : (v : Layout) (image : List ℕ) (address j : ℕ) → ℕ
-word_at v image address j = word_of v (block_bytes v image address) j
+abbrev pub address_at : (v : Layout) (image : List ℕ) (address j : ℕ) → ℕ
+address_at v image address j = address_in v (block_bytes v image address) j
 
 -- how far a file reaches: the layout, the number of its logical blocks, and how many fragments the last of them has
 -- where its address is direct
-pub record Extent : Type 0 where
+pub record FileBlocks : Type 0 where
   pub geometry : Layout
   pub blocks : ℕ
   pub last : ℕ
 
 -- how many addresses of an indirect block are used, of the `words` that it has: it covers the logical blocks from
 -- `first` on, and `span` of them lie under each address (`-` stops at 0)
-abbrev pub used_words : (words blocks first span : ℕ) → ℕ
-used_words words blocks first span = min words (div_ceil (blocks - first) span)
+abbrev pub used_addresses : (words blocks first span : ℕ) → ℕ
+used_addresses words blocks first span = min words (div_ceil (blocks - first) span)
 
 -- a Tail, where an address past the used ones was found
 abbrev pub tail_of : Bool → List Step
 tail_of found = if found then Tail ∷ [] else []
 
 -- an address of an indirect block from index `used` on isn't zero
-abbrev pub any_word_from : (v : Layout) (block : List ℕ) (used : ℕ) → Bool
-any_word_from v block used = list_any (λ j. not (word_of v block j == 0)) (range_with_len used (v.nindir - used))
+abbrev pub any_address_from : (v : Layout) (block : List ℕ) (used : ℕ) → Bool
+any_address_from v block used = list_any (λ j. not (address_in v block j == 0)) (range_with_len used (v.nindir - used))
 
 -- the steps under `count` addresses of an indirect block, from index `next` on; `child` gives those under one
 abbrev pub steps_under : (v : Layout) (image : List ℕ) (child : ℕ → ℕ → List Step) (span address first next count : ℕ)
     → List Step
 steps_under v image child span address first next count =
-    flat_map (λ j. child (word_at v image address j) (first + j * span)) (range_with_len next count)
+    flat_map (λ j. child (address_at v image address j) (first + j * span)) (range_with_len next count)
 
 -- how many fragments a block of data has
-abbrev pub data_length : Extent → ℕ → ℕ
+abbrev pub data_length : FileBlocks → ℕ → ℕ
 data_length t block = if nat_lt block NDADDR && block + 1 == t.blocks then t.last else t.geometry.frag
 
 -- how many logical blocks lie under an address of a level of indirection: `words` to the power of the level
@@ -65,32 +65,32 @@ span_of words (suc zero) = words
 span_of words (suc (suc level)) = words * span_of words (suc level)
 
 -- the step at the address of a data block
-abbrev pub data_step : (t : Extent) (address block : ℕ) → Step
+abbrev pub data_step : (t : FileBlocks) (address block : ℕ) → Step
 data_step t address block = if address == 0 then Gap else Run address (data_length t block) (Some block)
 
 -- the steps at the address of an indirect block: a Gap, or its Run and, where that is in range, a Tail if there is one,
 -- and then the steps under its used addresses in order; `child` gives those under one
-abbrev pub indirect_steps : (t : Extent) (image : List ℕ) (child : ℕ → ℕ → List Step) (span address first : ℕ) →
+abbrev pub indirect_steps : (t : FileBlocks) (image : List ℕ) (child : ℕ → ℕ → List Step) (span address first : ℕ) →
     List Step
 indirect_steps t image child span address first =
     if address == 0
     then Gap ∷ []
     else Run address t.geometry.frag None ∷
-    (if is_in_range t.geometry address t.geometry.frag
-    then tail_of (any_word_from t.geometry (block_bytes t.geometry image address)
-    (used_words t.geometry.nindir t.blocks first span))
-    ++ steps_under t.geometry image child span address first 0 (used_words t.geometry.nindir t.blocks first span)
+    (if is_run_in_range t.geometry address t.geometry.frag
+    then tail_of (any_address_from t.geometry (block_bytes t.geometry image address)
+    (used_addresses t.geometry.nindir t.blocks first span))
+    ++ steps_under t.geometry image child span address first 0 (used_addresses t.geometry.nindir t.blocks first span)
     else [])
 
 -- the steps at an address of a level of indirection, `first` being the first logical block under it
-unfoldable pub steps_at : (t : Extent) (image : List ℕ) (level address first : ℕ) → List Step
+unfoldable pub steps_at : (t : FileBlocks) (image : List ℕ) (level address first : ℕ) → List Step
 steps_at t image zero address first = data_step t address first ∷ []
 steps_at t image (suc level) address first =
     indirect_steps t image (steps_at t image level) (span_of t.geometry.nindir level) address first
 
 -- the level of indirection of the address at index i: 0 for the direct ones (`-` stops at 0), then 1, 2 and 3
-abbrev pub level_of : ℕ → ℕ
-level_of i = i - (NDADDR - 1)
+abbrev pub indirection_of : ℕ → ℕ
+indirection_of i = i - (NDADDR - 1)
 
 -- the first logical block under the address at index i
 abbrev pub first_block : (words i : ℕ) → ℕ
@@ -99,9 +99,9 @@ first_block words i =
     else (if i == NDADDR + 1 then NDADDR + words else NDADDR + words + words * words)
 
 -- the steps of `count` addresses of an inode, from index `next` on
-abbrev pub steps_of_addresses : (t : Extent) (image addresses : List ℕ) (next count : ℕ) → List Step
+abbrev pub steps_of_addresses : (t : FileBlocks) (image addresses : List ℕ) (next count : ℕ) → List Step
 steps_of_addresses t image addresses next count =
-    flat_map (λ i. steps_at t image (level_of i) (slice_index addresses i) (first_block t.geometry.nindir i))
+    flat_map (λ i. steps_at t image (indirection_of i) (slice_index addresses i) (first_block t.geometry.nindir i))
     (range_with_len next count)
 
 -- the inode has steps: it is a file or directory, but no device, and no symlink with its text in place of the addresses

@@ -6,7 +6,7 @@ use Rattle.ffs_volume.specs.declared.Class.{Class}
 use Rattle.ffs_volume.specs.declared.Class.TheVariants.{Partial, Unknown}
 use Rattle.ffs_volume.specs.declared.Step.{Step}
 use Rattle.ffs_volume.specs.declared.Step.TheVariants.{Run, Tail, Gap}
-use Rattle.ffs_volume.specs.Disk.Areas.{is_in_range, is_reserved}
+use Rattle.ffs_volume.specs.Disk.Areas.{is_run_in_range, is_reserved}
 use Rattle.ffs_volume.specs.Blocks.Inodes.{is_file_or_dir}
 use Rattle.ffs_volume.specs.Blocks.Owners.{Owner, fragments_of, all_steps}
 use Rattle.ffs_volume.specs.Blocks.BlockCheck.{sectors}
@@ -18,10 +18,10 @@ is_right_class Unknown = false
 is_right_class _ = true
 
 -- a Run is in range
-abbrev pub run_in_range : Layout → Step → Bool
-run_in_range v (Run start len block) = is_in_range v start len
-run_in_range v Tail = true
-run_in_range v Gap = true
+abbrev pub is_step_in_range : Layout → Step → Bool
+is_step_in_range v (Run start len block) = is_run_in_range v start len
+is_step_in_range v Tail = true
+is_step_in_range v Gap = true
 
 -- a step is no Tail
 abbrev pub is_no_tail : Step → Bool
@@ -39,7 +39,7 @@ is_field_right v o = not (is_file_or_dir o.class) || o.blocks == sectors v (leng
 -- all Runs are in range, no fragment is in two places or is reserved, there is no Tail,
 -- and each blocks field is that of the inode's fragments
 pub record AreRunsRight (v : Layout) (os : List Owner) : Type 0 where
-  pub in_range : list_all (run_in_range v) (all_steps os) ≡ true
+  pub in_range : list_all (is_step_in_range v) (all_steps os) ≡ true
   pub no_tail : list_all is_no_tail (all_steps os) ≡ true
   pub alone : (f : ℕ) → times f (fragments_of (all_steps os)) ≤ 1
   pub unreserved : (f : ℕ) → is_reserved v f ≡ true → times f (fragments_of (all_steps os)) ≡ 0

@@ -11,9 +11,9 @@ abbrev pub is_dead : Volume → ℕ → Bool
 is_dead v x = dead (graph_of v) (is_suspect v) x
 
 -- UNREF DIR is reported of d
-abbrev pub has_unref_line : Volume → ℕ → Bool
-has_unref_line v d = is_unref_dir (graph_of v) (is_suspect v) d
+abbrev pub is_unref_dir_of : Volume → ℕ → Bool
+is_unref_dir_of v d = is_unref_dir (graph_of v) (is_suspect v) d
 
 -- the lines of phase 3
 unfoldable pub connectivity_lines : Volume → List NameMessage
-connectivity_lines v = lines_below (λ d. reported (has_unref_line v d) (unref_dir (attributes v d))) v.count
+connectivity_lines v = lines_below (λ d. reported (is_unref_dir_of v d) (unref_dir (attributes v d))) v.count

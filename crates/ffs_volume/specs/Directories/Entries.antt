@@ -108,11 +108,11 @@ abbrev pub chunk_of : (order : Order) (offset : ℕ) (bytes : List ℕ) → Chun
 chunk_of order offset bytes = record { offset = offset; entries = entries_of order bytes; sound = is_sound order bytes }
 
 -- how many bytes of a directory are read, by its size
-abbrev pub size_taken : ℕ → ℕ
-size_taken size = if nat_lt size MINDIRSIZE then DIRBLKSIZ else div_ceil size DIRBLKSIZ * DIRBLKSIZ
+abbrev pub bytes_read : ℕ → ℕ
+bytes_read size = if nat_lt size MINDIRSIZE then DIRBLKSIZ else div_ceil size DIRBLKSIZ * DIRBLKSIZ
 
 -- what the chunks of a directory are read from, beside its steps
-pub record Reading : Type 0 where
+pub record ChunkSource : Type 0 where
   pub order : Order
   pub image : List ℕ
   pub bsize : ℕ
@@ -120,13 +120,13 @@ pub record Reading : Type 0 where
   pub taken : ℕ  -- how much of the directory is read
 
 -- the chunks of `len` fragments from `start` on, that are at `offset` of the file
-abbrev pub run_chunks : (r : Reading) (start len offset : ℕ) → List Chunk
+abbrev pub run_chunks : (r : ChunkSource) (start len offset : ℕ) → List Chunk
 run_chunks r start len offset =
     map (λ k. chunk_of r.order (offset + DIRBLKSIZ * k) (piece (start * r.fsize + DIRBLKSIZ * k) DIRBLKSIZ r.image))
     (range_with_len 0 (min (len * r.fsize / DIRBLKSIZ) ((r.taken - offset) / DIRBLKSIZ)))
 
--- the chunks of a step: those of a Run of data that passes the test, which is `is_in_range` of the volume
-abbrev pub step_chunks : Reading → (ℕ → ℕ → Bool) → Step → List Chunk
+-- the chunks of a step: those of a Run of data that passes the test, which is `is_run_in_range` of the volume
+abbrev pub step_chunks : ChunkSource → (ℕ → ℕ → Bool) → Step → List Chunk
 step_chunks r passes (Run start len (Some block)) =
     if passes start len then run_chunks r start len (block * r.bsize) else []
 step_chunks r passes (Run start len None) = []
@@ -134,7 +134,7 @@ step_chunks r passes Tail = []
 step_chunks r passes Gap = []
 
 -- the chunks of steps
-abbrev pub chunks_of : Reading → (ℕ → ℕ → Bool) → List Step → List Chunk
+abbrev pub chunks_of : ChunkSource → (ℕ → ℕ → Bool) → List Step → List Chunk
 chunks_of r passes steps = flat_map (step_chunks r passes) steps
 
 -- the step is a Gap

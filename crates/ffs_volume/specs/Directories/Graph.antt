@@ -60,13 +60,13 @@ first_index p [] = None
 first_index p (e ∷ es) = cond (p e) (Some 0) (option_map suc (first_index p es))
 
 -- the index, in a directory, of the first plain entry that names d
-abbrev pub entry_index : (g : Graph) (d : ℕ) → Option ℕ → Option ℕ
-entry_index g d None = None
-entry_index g d (Some s) = first_index (names d) (g.entries s)
+abbrev pub index_in_parent : (g : Graph) (d : ℕ) → Option ℕ → Option ℕ
+index_in_parent g d None = None
+index_in_parent g d (Some s) = first_index (names d) (g.entries s)
 
 -- the index, in the parent of d, of the first plain entry that names d: its parent entry. 2 has none
-abbrev pub parent_entry : Graph → ℕ → Option ℕ
-parent_entry g d = if d == ROOTINO then None else entry_index g d (parent g d)
+abbrev pub parent_entry_index : Graph → ℕ → Option ℕ
+parent_entry_index g d = if d == ROOTINO then None else index_in_parent g d (parent g d)
 
 -- some plain entry names x
 abbrev pub named : Graph → ℕ → Bool

@@ -3,7 +3,7 @@ use Rattle.std.specs.Prelude.{ℕ, zero, suc, Bool, ◌&&◌, List, [], ◌∷�
 use Rattle.ffs_volume.specs.Directories.Roles.{Volume, RoledEntry, is_dir, roled_entries}
 use Rattle.ffs_volume.specs.Disk.Search.{first_below}
 use Rattle.ffs_volume.specs.Directories.Climb.{is_value}
-use Rattle.ffs_volume.specs.Directories.Graph.{Graph, names, names_in, parent, parent_entry, first_index}
+use Rattle.ffs_volume.specs.Directories.Graph.{Graph, names, names_in, parent, parent_entry_index, first_index}
 
 -- the directories of a volume as a graph
 abbrev pub graph_of : Volume → Graph
@@ -16,13 +16,13 @@ roled_at (e ∷ es) zero = Some e
 roled_at (e ∷ es) (suc j) = roled_at es j
 
 -- the directory with the first of all plain entries that name x
-abbrev pub first_namer : Graph → ℕ → Option ℕ
-first_namer g x = first_below (λ s. names_in g s x) g.count
+abbrev pub first_naming_dir : Graph → ℕ → Option ℕ
+first_naming_dir g x = first_below (λ s. names_in g s x) g.count
 
 -- the entry at index j of s is the first of all plain entries that name x
 abbrev pub is_first_name : (g : Graph) (s j x : ℕ) → Bool
-is_first_name g s j x = is_value (first_namer g x) s && is_value (first_index (names x) (g.entries s)) j
+is_first_name g s j x = is_value (first_naming_dir g x) s && is_value (first_index (names x) (g.entries s)) j
 
 -- the entry at index j of s is the parent entry of x
 abbrev pub is_from_parent : (g : Graph) (s j x : ℕ) → Bool
-is_from_parent g s j x = is_value (parent g x) s && is_value (parent_entry g x) j
+is_from_parent g s j x = is_value (parent g x) s && is_value (parent_entry_index g x) j

@@ -56,8 +56,8 @@ unfoldable pub root_lines : Volume → List NameMessage
 root_lines v = root_reported v (v.class ROOTINO)
 
 -- the check continues after the root: it is a directory
-abbrev pub goes_on : Volume → Bool
-goes_on v = is_directory (v.class ROOTINO)
+abbrev pub continues_after_root : Volume → Bool
+continues_after_root v = is_directory (v.class ROOTINO)
 
 -- the size of a directory is less than that of `.` and `..`
 abbrev pub is_short : Volume → ℕ → Bool
@@ -105,15 +105,16 @@ missing_dotdot_reported about path (Some e) =
     else missing_dotdot about path ∷ []
 
 -- there is a parent, and it isn't n
-abbrev pub is_other : Option ℕ → (n : ℕ) → Bool
-is_other None n = false
-is_other (Some s) n = not (s == n)
+abbrev pub is_wrong_parent : Option ℕ → (n : ℕ) → Bool
+is_wrong_parent None n = false
+is_wrong_parent (Some s) n = not (s == n)
 
 -- the messages on `..`, by whether there is one
 abbrev pub dotdot_reported : Volume → ℕ → Option Entry → List NameMessage
 dotdot_reported v d None = missing_dotdot_reported (attributes v d) (dir_path (graph_of v) d) (start_entry v d 1)
 dotdot_reported v d (Some e) =
-    reported (is_other (parent (graph_of v) d) e.number) (number_dotdot (attributes v d) (dir_path (graph_of v) d))
+    reported (is_wrong_parent (parent (graph_of v) d) e.number)
+    (number_dotdot (attributes v d) (dir_path (graph_of v) d))
     ++ reported (not (e.kind == DT_DIR)) (kind_dotdot (attributes v d) (dir_path (graph_of v) d))
 
 -- the messages on `..`
@@ -144,8 +145,8 @@ abbrev pub is_extraneous : (v : Volume) (s j x : ℕ) → Bool
 is_extraneous v s j x = is_dir v x && not (is_from_parent (graph_of v) s j x)
 
 -- the type of the inode is known, and the entry has another
-abbrev pub is_other_kind : Volume → Entry → Bool
-is_other_kind v e = not (is_unknown (v.class e.number)) && not (e.kind == type_of (v.inode e.number).mode)
+abbrev pub has_wrong_type : Volume → Entry → Bool
+has_wrong_type v e = not (is_unknown (v.class e.number)) && not (e.kind == type_of (v.inode e.number).mode)
 
 -- the messages on a plain entry at index j of the directory s, which names an allocated inode
 unfoldable pub named_lines : (v : Volume) (s j : ℕ) (e : Entry) → List NameMessage
@@ -153,7 +154,7 @@ named_lines v s j e =
     reported (reports_suspect v s j e.number) (suspect_reported v e.number (entry_path (graph_of v) s e.name))
     ++ (reported (is_extraneous v s j e.number)
     (extraneous (entry_path (graph_of v) s e.name) (dir_path (graph_of v) e.number))
-    ++ reported (is_other_kind v e)
+    ++ reported (has_wrong_type v e)
     (kind_entry (attributes v e.number) (label_of (v.class e.number)) (entry_path (graph_of v) s e.name)))
 
 -- the messages on any plain entry at index j of the directory s
@@ -179,13 +180,13 @@ unfoldable pub roled_lines : (v : Volume) (s j : ℕ) (e : RoledEntry) → List 
 roled_lines v s j e = roled_reported v s j e.role e.entry
 
 -- the messages on the entries of s from index j on
-unfoldable pub entry_lines : (v : Volume) (s j : ℕ) (es : List RoledEntry) → List NameMessage
-entry_lines v s j [] = []
-entry_lines v s j (e ∷ es) = roled_lines v s j e ++ entry_lines v s (suc j) es
+unfoldable pub lines_of_entries : (v : Volume) (s j : ℕ) (es : List RoledEntry) → List NameMessage
+lines_of_entries v s j [] = []
+lines_of_entries v s j (e ∷ es) = roled_lines v s j e ++ lines_of_entries v s (suc j) es
 
 -- the messages on a directory whose size isn't 0
 unfoldable pub dir_lines : Volume → ℕ → List NameMessage
-dir_lines v d = shape_lines v d ++ (dot_lines v d ++ (dotdot_lines v d ++ entry_lines v d 0 (roled_entries v d)))
+dir_lines v d = shape_lines v d ++ (dot_lines v d ++ (dotdot_lines v d ++ lines_of_entries v d 0 (roled_entries v d)))
 
 -- d is a directory whose size isn't 0
 abbrev pub is_looked_at : Volume → ℕ → Bool
@@ -197,4 +198,4 @@ lines_of v d = if is_looked_at v d then dir_lines v d else []
 
 -- the whole pathname check: the root, and then each directory
 unfoldable pub pathname_lines : Volume → List NameMessage
-pathname_lines v = root_lines v ++ (if goes_on v then lines_below (lines_of v) v.count else [])
+pathname_lines v = root_lines v ++ (if continues_after_root v then lines_below (lines_of v) v.count else [])

@@ -4,7 +4,7 @@ use Rattle.std.specs.Prelude.{◌++◌, length, Option, Some, None, option_map, 
 use Rattle.std.specs.List.{flat_map}
 use Rattle.ffs_volume.specs.declared.constants.TheConstants.{MAXPATHLEN}
 use Rattle.ffs_volume.specs.Directories.Roles.{RoledEntry}
-use Rattle.ffs_volume.specs.Directories.Graph.{Graph, level, parent, parent_entry}
+use Rattle.ffs_volume.specs.Directories.Graph.{Graph, level, parent, parent_entry_index}
 use Rattle.ffs_volume.specs.Directories.Parents.{roled_at}
 
 -- names, each after a `/`
@@ -31,7 +31,8 @@ name_of (Some s) = s.entry.name
 -- the names down to a directory by its parent: those of the parent, and the name of the parent entry
 abbrev pub names_above : (g : Graph) (above : ℕ → List (List ℕ)) (d : ℕ) → Option ℕ → List (List ℕ)
 names_above g above d None = []
-names_above g above d (Some s) = above s ++ name_of (option_and_then (roled_at (g.entries s)) (parent_entry g d)) ∷ []
+names_above g above d (Some s) =
+    above s ++ name_of (option_and_then (roled_at (g.entries s)) (parent_entry_index g d)) ∷ []
 
 -- the names from 2 down to a directory that is k edges below
 unfoldable pub names_down : (g : Graph) (k d : ℕ) → List (List ℕ)
@@ -39,24 +40,24 @@ names_down g zero d = []
 names_down g (suc k) d = names_above g (names_down g k) d (parent g d)
 
 -- the names from 2 down, if the directory is reached
-abbrev pub dir_names : Graph → ℕ → Option (List (List ℕ))
-dir_names g d = option_map (λ k. names_down g k d) (level g d)
+abbrev pub path_names : Graph → ℕ → Option (List (List ℕ))
+path_names g d = option_map (λ k. names_down g k d) (level g d)
 
 -- the path of a directory by its names: `?` where it isn't reached
-abbrev pub dir_bytes : Option (List (List ℕ)) → List ℕ
-dir_bytes None = 63 ∷ []
-dir_bytes (Some []) = 47 ∷ []
-dir_bytes (Some (name ∷ names)) = path_bytes (name ∷ names)
+abbrev pub dir_path_of_names : Option (List (List ℕ)) → List ℕ
+dir_path_of_names None = 63 ∷ []
+dir_path_of_names (Some []) = 47 ∷ []
+dir_path_of_names (Some (name ∷ names)) = path_bytes (name ∷ names)
 
 -- the path of an entry by its name and the names of its directory
-abbrev pub path_of_entry : List ℕ → Option (List (List ℕ)) → List ℕ
-path_of_entry name None = 63 ∷ 47 ∷ name
-path_of_entry name (Some names) = path_bytes (names ++ name ∷ [])
+abbrev pub entry_path_of_names : List ℕ → Option (List (List ℕ)) → List ℕ
+entry_path_of_names name None = 63 ∷ 47 ∷ name
+entry_path_of_names name (Some names) = path_bytes (names ++ name ∷ [])
 
 -- the path of a directory
 unfoldable pub dir_path : Graph → ℕ → List ℕ
-dir_path g d = dir_bytes (dir_names g d)
+dir_path g d = dir_path_of_names (path_names g d)
 
 -- the path of an entry of a directory, by the name of the entry
 unfoldable pub entry_path : (g : Graph) (d : ℕ) (name : List ℕ) → List ℕ
-entry_path g d name = path_of_entry name (dir_names g d)
+entry_path g d name = entry_path_of_names name (path_names g d)

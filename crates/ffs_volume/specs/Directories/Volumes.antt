@@ -4,12 +4,12 @@ use Rattle.ffs_volume.specs.declared.Layout.{Layout}
 use Rattle.ffs_volume.specs.declared.Class.{Class}
 use Rattle.ffs_volume.specs.declared.Class.TheVariants.{Free}
 use Rattle.ffs_volume.specs.declared.Step.{Step}
-use Rattle.ffs_volume.specs.Disk.Areas.{is_in_range}
+use Rattle.ffs_volume.specs.Disk.Areas.{is_run_in_range}
 use Rattle.ffs_volume.specs.Blocks.Inodes.{inode_of, class_of}
 use Rattle.ffs_volume.specs.Blocks.Steps.{steps_of}
 use Rattle.ffs_volume.specs.Blocks.BlockCheck.{is_marked}
 use Rattle.ffs_volume.specs.Blocks.KeptSteps.{kept_steps_of}
-use Rattle.ffs_volume.specs.Directories.Entries.{Reading, chunks_of, has_gap, size_taken}
+use Rattle.ffs_volume.specs.Directories.Entries.{ChunkSource, chunks_of, has_gap, bytes_read}
 use Rattle.ffs_volume.specs.Directories.Roles.{Volume}
 
 -- the number of an inode: one from 2 on
@@ -25,21 +25,21 @@ abbrev pub marked_at : (v : Layout) (image : List ℕ) (x : ℕ) → Bool
 marked_at v image x = if is_inode_number v x then is_marked v image x else false
 
 -- the steps of an inode; none for a number that isn't an inode's
-abbrev pub steps_at_number : (v : Layout) (image : List ℕ) (x : ℕ) → List Step
-steps_at_number v image x = if is_inode_number v x then steps_of v (inode_of v image x) image else []
+abbrev pub steps_of_inode : (v : Layout) (image : List ℕ) (x : ℕ) → List Step
+steps_of_inode v image x = if is_inode_number v x then steps_of v (inode_of v image x) image else []
 
 -- the kept steps of an inode; none for a number that isn't an inode's
-abbrev pub kept_at_number : (v : Layout) (image : List ℕ) (x : ℕ) → List Step
-kept_at_number v image x = if is_inode_number v x then kept_steps_of v image x else []
+abbrev pub kept_steps_of_inode : (v : Layout) (image : List ℕ) (x : ℕ) → List Step
+kept_steps_of_inode v image x = if is_inode_number v x then kept_steps_of v image x else []
 
 -- what the chunks of the directory d are read from
-unfoldable pub reading_of : (v : Layout) (image : List ℕ) (d : ℕ) → Reading
-reading_of v image d = record {
+unfoldable pub chunk_source_of : (v : Layout) (image : List ℕ) (d : ℕ) → ChunkSource
+chunk_source_of v image d = record {
   order = v.order;
   image = image;
   bsize = v.bsize;
   fsize = v.fsize;
-  taken = size_taken (inode_of v image d).size;
+  taken = bytes_read (inode_of v image d).size;
 }
 
 -- the volume where each inode has these steps, and these inodes are marked
@@ -49,14 +49,14 @@ volume_with v image steps marked = record {
   class = class_at v image;
   inode = inode_of v image;
   gap = λ d. has_gap (steps d);
-  chunks = λ d. chunks_of (reading_of v image d) (is_in_range v) (steps d);
+  chunks = λ d. chunks_of (chunk_source_of v image d) (is_run_in_range v) (steps d);
   marked = marked;
 }
 
 -- the volume that the checks see: of the kept steps, with the marked inodes
 unfoldable pub volume_of : Layout → List ℕ → Volume
-volume_of v image = volume_with v image (kept_at_number v image) (marked_at v image)
+volume_of v image = volume_with v image (kept_steps_of_inode v image) (marked_at v image)
 
 -- the volume of all steps, kept or not, with nothing marked
 unfoldable pub whole_volume : Layout → List ℕ → Volume
-whole_volume v image = volume_with v image (steps_at_number v image) (λ x. false)
+whole_volume v image = volume_with v image (steps_of_inode v image) (λ x. false)

@@ -2,7 +2,7 @@
 use Rattle.std.specs.Prelude.{ℕ, ◌+◌, ◌-◌, ◌*◌, ◌/◌, ◌%◌, Bool, ◌&&◌, ◌||◌}
 use Rattle.std.specs.Prelude.{not, nat_lt, nat_le, ◌==◌, ℤ, pos, ◌*ℤ◌, bit_and}
 use Rattle.std.specs.Int.{div_ceil}
-use Rattle.ffs_volume.specs.Disk.Numbers.{natural, all_below}
+use Rattle.ffs_volume.specs.Disk.Numbers.{zero_if_negative, all_below}
 use Rattle.ffs_volume.specs.Disk.Search.{some_below}
 use Rattle.ffs_volume.specs.declared.Layout.{Layout}
 
@@ -16,7 +16,7 @@ cgbase v c = v.fpg * c
 
 -- the fragment from which the parts of group c are counted
 unfoldable pub cgstart : Layout → ℕ → ℕ
-cgstart v c = cgbase v c + natural (cgoffset_of v c)
+cgstart v c = cgbase v c + zero_if_negative (cgoffset_of v c)
 
 -- where the copy of the superblock in group c begins
 abbrev pub cgsblock : Layout → ℕ → ℕ
@@ -44,13 +44,13 @@ is_group_metadata v f = some_below (λ c. nat_le (cgsblock v c) f && nat_lt f (c
 
 -- f is in range: below the volume's size and in no group's metadata. The boot area and the summary area are in range,
 -- but reserved: a Run there isn't bad, and its offers are dup
-unfoldable pub is_data_fragment : Layout → ℕ → Bool
-is_data_fragment v f = nat_lt f v.size && not (is_group_metadata v f)
+unfoldable pub is_fragment_in_range : Layout → ℕ → Bool
+is_fragment_in_range v f = nat_lt f v.size && not (is_group_metadata v f)
 
 -- the fragments of a Run are all in range, and in one group
-unfoldable pub is_in_range : (v : Layout) (start len : ℕ) → Bool
-is_in_range v start len =
-    all_below len (λ k. is_data_fragment v (start + k) && ((start + k) / v.fpg == start / v.fpg))
+unfoldable pub is_run_in_range : (v : Layout) (start len : ℕ) → Bool
+is_run_in_range v start len =
+    all_below len (λ k. is_fragment_in_range v (start + k) && ((start + k) / v.fpg == start / v.fpg))
 
 -- no file may have f: it is before the data of group 0, in the summary area, or metadata of a group
 unfoldable pub is_reserved : Layout → ℕ → Bool

@@ -1,13 +1,13 @@
 -- What the conditions of `Outcome` give for an accepted layout: the law `accepted_are_sound` says so.
 use Rattle.std.proofs.Common.{◌≡◌, ℕ, ◌+◌, ◌-◌, ◌*◌, ◌/◌, ◌%◌, ◌^◌, ◌<◌, ◌≤◌, true, pos}
 use Rattle.std.specs.Int.{div_ceil}
-use Rattle.ffs_volume.specs.declared.constants.TheConstants.{SBSIZE}
+use Rattle.ffs_volume.specs.declared.constants.TheConstants.{SUPERBLOCK_BYTES}
 use Rattle.ffs_volume.specs.declared.Layout.{Layout}
-use Rattle.ffs_volume.specs.Disk.Numbers.{natural}
+use Rattle.ffs_volume.specs.Disk.Numbers.{zero_if_negative}
 use Rattle.ffs_volume.specs.Disk.Areas.{cgoffset_of, cgbase, cgdmin}
-use Rattle.ffs_volume.specs.Disk.Outcome.{is_shaped}
+use Rattle.ffs_volume.specs.Disk.Outcome.{is_valid_layout}
 
--- what `are_sizes` gives
+-- what `has_valid_sizes` gives
 pub record HasSizes (v : Layout) : Type 0 where
   pub bsize_low : 4096 ≤ v.bsize
   pub bsize_high : v.bsize ≤ 65536
@@ -23,11 +23,11 @@ pub record HasSizes (v : Layout) : Type 0 where
   pub some_fragments : 0 < v.fpg
   pub whole_blocks : v.fpg % v.frag ≡ 0
 
--- what `are_numbers` gives
+-- what `has_valid_numbers` gives
 pub record HasNumbers (v : Layout) : Type 0 where
   pub some_data : 1 ≤ v.dsize
   pub short_links : v.maxsymlinklen ≤ 60
-  pub sbsize_low : SBSIZE ≤ v.sbsize
+  pub sbsize_low : SUPERBLOCK_BYTES ≤ v.sbsize
   pub size_above : (v.ncg - 1) * v.fpg < v.size
   pub size_within : v.size ≤ v.ncg * v.fpg
   pub size_below : v.size < 2 ^ 31
@@ -44,7 +44,7 @@ pub record HasParts (v : Layout) : Type 0 where
 
 -- the parts of a group begin at its base or above it, and its metadata ends within the group and the volume
 pub record HasGroup (v : Layout) (c : ℕ) : Type 0 where
-  pub moved_up : cgoffset_of v c ≡ pos (natural (cgoffset_of v c))
+  pub moved_up : cgoffset_of v c ≡ pos (zero_if_negative (cgoffset_of v c))
   pub within_group : cgdmin v c ≤ cgbase v (c + 1)
   pub within_size : cgdmin v c ≤ v.size
 
@@ -56,8 +56,8 @@ pub record HasSummaryArea (v : Layout) : Type 0 where
   pub summary_in_size : v.csaddr + div_ceil v.cssize v.fsize ≤ v.size
 
 -- a valid layout: the conditions themselves (`shaped`), and what they give
-pub record IsGeometry (v : Layout) : Type 0 where
-  pub shaped : is_shaped v ≡ true
+pub record IsValidLayout (v : Layout) : Type 0 where
+  pub shaped : is_valid_layout v ≡ true
   pub some_groups : 0 < v.ncg
   pub some_cylinders : 0 < v.cpg
   pub ncyl_within : v.ncyl ≤ v.ncg * v.cpg

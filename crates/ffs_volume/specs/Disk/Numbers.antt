@@ -31,18 +31,18 @@ abbrev pub piece : (place n : ℕ) (bytes : List ℕ) → List ℕ
 piece place n bytes = take n (drop place bytes)
 
 -- the number, or 0 where it is negative
-abbrev pub natural : ℤ → ℕ
-natural (pos n) = n
-natural (negsuc n) = 0
+abbrev pub zero_if_negative : ℤ → ℕ
+zero_if_negative (pos n) = n
+zero_if_negative (negsuc n) = 0
 
 -- the number isn't negative
-abbrev pub is_natural : ℤ → Bool
-is_natural (pos n) = true
-is_natural (negsuc n) = false
+abbrev pub is_nonnegative : ℤ → Bool
+is_nonnegative (pos n) = true
+is_nonnegative (negsuc n) = false
 
 -- the signed number of four bytes at a place, or 0 where it is negative
 unfoldable pub count_at : (order : Order) (place : ℕ) (bytes : List ℕ) → ℕ
-count_at order place bytes = natural (i32_at order place bytes)
+count_at order place bytes = zero_if_negative (i32_at order place bytes)
 
 -- each number below n passes
 unfoldable pub all_below : ℕ → (ℕ → Bool) → Bool
@@ -50,6 +50,6 @@ all_below zero test = true
 all_below (suc n) test = test n && all_below n test
 
 -- the signed number is n
-abbrev pub is_the_count : ℤ → ℕ → Bool
-is_the_count (pos k) n = k == n
-is_the_count (negsuc k) n = false
+abbrev pub equals_natural : ℤ → ℕ → Bool
+equals_natural (pos k) n = k == n
+equals_natural (negsuc k) n = false

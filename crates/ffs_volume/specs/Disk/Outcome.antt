@@ -3,13 +3,13 @@ use Rattle.std.specs.Prelude.{ℕ, ◌+◌, ◌-◌, ◌*◌, ◌/◌, ◌%◌, 
 use Rattle.std.specs.Prelude.{◌==◌, if◌then◌else◌, List, [], ◌∷◌, length, Option, Some, None, Result, Ok, Err}
 use Rattle.std.specs.List.{list_all, list_any}
 use Rattle.std.specs.Int.{div_ceil}
-use Rattle.ffs_volume.specs.declared.constants.TheConstants.{DEV_BSIZE, SBSIZE}
+use Rattle.ffs_volume.specs.declared.constants.TheConstants.{DEV_BSIZE, SUPERBLOCK_BYTES}
 use Rattle.ffs_volume.specs.declared.Order.{Order}
 use Rattle.ffs_volume.specs.declared.SuperFault.{SuperFault}
 use Rattle.ffs_volume.specs.declared.SuperFault.TheVariants.{CannotRead, Magic, InodeFormat, Ncg, Cpg}
 use Rattle.ffs_volume.specs.declared.SuperFault.TheVariants.{Ncyl, TooLarge, Shape, Short, Disagree}
 use Rattle.ffs_volume.specs.declared.Layout.{Layout}
-use Rattle.ffs_volume.specs.Disk.Numbers.{u32_at, piece, is_natural, all_below}
+use Rattle.ffs_volume.specs.Disk.Numbers.{u32_at, piece, is_nonnegative, all_below}
 use Rattle.ffs_volume.specs.Disk.Superblock.{Superblock, layout_of, superblock_of, order_of}
 use Rattle.ffs_volume.specs.declared.TheConstants.{LAYOUT_PLACES}
 use Rattle.ffs_volume.specs.Disk.Areas.{cgoffset_of, cgbase, cgsblock, cgdmin}
@@ -31,8 +31,8 @@ unfoldable pub is_fragment_count : ℕ → Bool
 is_fragment_count n = is_among (1 ∷ 2 ∷ 4 ∷ 8 ∷ []) n
 
 -- the sizes of blocks, fragments and groups are valid and fit each other: an inode has 128 bytes
-unfoldable pub are_sizes : Layout → Bool
-are_sizes v =
+unfoldable pub has_valid_sizes : Layout → Bool
+has_valid_sizes v =
     is_block_size v.bsize && is_fragment_size v.fsize && is_fragment_count v.frag
     && (v.bsize == v.frag * v.fsize)
     && (v.nindir == v.bsize / 4)
@@ -43,18 +43,18 @@ are_sizes v =
 -- there is a data fragment; the text of a symlink fits the 60 bytes of the fifteen addresses; the tables of rotational
 -- positions are in the dynamic format (1); a superblock has at least the bytes that are read; the volume ends in its
 -- last group; fragments and inodes are fewer than 2^31
-unfoldable pub are_numbers : Layout → Bool
-are_numbers v =
+unfoldable pub has_valid_numbers : Layout → Bool
+has_valid_numbers v =
     nat_le 1 v.dsize
     && nat_le v.maxsymlinklen 60
     && (v.postblformat == 1)
-    && nat_le SBSIZE v.sbsize
+    && nat_le SUPERBLOCK_BYTES v.sbsize
     && (nat_lt ((v.ncg - 1) * v.fpg) v.size && nat_le v.size (v.ncg * v.fpg))
     && (nat_lt v.size (2 ^ 31) && nat_lt (v.ncg * v.ipg) (2 ^ 31))
 
 -- the parts of a group are one after the other, and a group block has room for the 168 bytes before its maps
-unfoldable pub are_parts : Layout → Bool
-are_parts v =
+unfoldable pub has_valid_parts : Layout → Bool
+has_valid_parts v =
     nat_lt 0 v.sblkno
     && nat_le (v.sblkno + div_ceil v.sbsize v.fsize) v.cblkno
     && nat_le (v.cblkno + div_ceil v.cgsize v.fsize) v.iblkno
@@ -62,23 +62,24 @@ are_parts v =
     && (nat_le 168 v.cgsize && nat_le v.cgsize v.bsize)
 
 -- the parts of group c begin at its base or above it, and its metadata ends within the group and the volume
-unfoldable pub is_group : Layout → ℕ → Bool
-is_group v c = is_natural (cgoffset_of v c) && nat_le (cgdmin v c) (min (cgbase v (c + 1)) v.size)
+unfoldable pub has_valid_group : Layout → ℕ → Bool
+has_valid_group v c = is_nonnegative (cgoffset_of v c) && nat_le (cgdmin v c) (min (cgbase v (c + 1)) v.size)
 
 -- the summary area begins at group 0's data, has 16 bytes for each group, and ends within group 0 and the volume
-unfoldable pub is_summary_area : Layout → Bool
-is_summary_area v =
+unfoldable pub has_valid_summary_area : Layout → Bool
+has_valid_summary_area v =
     (v.csaddr == cgdmin v 0)
     && nat_le (16 * v.ncg) v.cssize
     && nat_le (v.csaddr + div_ceil v.cssize v.fsize) (min (cgbase v 1) v.size)
 
 -- all these conditions: else the fault is Shape
-unfoldable pub is_shaped : Layout → Bool
-is_shaped v = are_sizes v && are_numbers v && are_parts v && is_summary_area v && all_below v.ncg (is_group v)
+unfoldable pub is_valid_layout : Layout → Bool
+is_valid_layout v = has_valid_sizes v && has_valid_numbers v && has_valid_parts v && has_valid_summary_area v
+    && all_below v.ncg (has_valid_group v)
 
 -- the cylinders end in the last group
-unfoldable pub are_cylinders : Layout → Bool
-are_cylinders v = nat_le v.ncyl (v.ncg * v.cpg) && nat_lt ((v.ncg - 1) * v.cpg) v.ncyl
+unfoldable pub has_valid_cylinders : Layout → Bool
+has_valid_cylinders v = nat_le v.ncyl (v.ncg * v.cpg) && nat_lt ((v.ncg - 1) * v.cpg) v.ncyl
 
 -- the first fault of a layout, in an image of this size in bytes. 2 is the format of inodes since 4.4BSD, 8,192 the
 -- most bytes of a superblock
@@ -87,9 +88,9 @@ layout_fault v image_size =
     if not (v.inodefmt == 2) then Some InodeFormat
     else (if nat_lt v.ncg 1 then Some Ncg
     else (if nat_lt v.cpg 1 then Some Cpg
-    else (if not (are_cylinders v) then Some Ncyl
+    else (if not (has_valid_cylinders v) then Some Ncyl
     else (if nat_lt 8192 v.sbsize then Some TooLarge
-    else (if not (is_shaped v) then Some Shape
+    else (if not (is_valid_layout v) then Some Shape
     else (if nat_lt image_size (v.size * v.fsize) then Some Short
     else None))))))
 
@@ -108,11 +109,12 @@ copy_place v = cgsblock v (v.ncg - 1) * v.fsize
 
 -- the bytes of the superblock in effect
 abbrev pub super_bytes : (image : List ℕ) (sector : Option ℕ) → List ℕ
-super_bytes image sector = piece (super_sector sector * DEV_BSIZE) SBSIZE image
+super_bytes image sector = piece (super_sector sector * DEV_BSIZE) SUPERBLOCK_BYTES image
 
 -- with no sector asked for, the last copy is compared
 unfoldable pub copy_agrees : (image : List ℕ) → Option ℕ → (order : Order) (bytes : List ℕ) → Bool
-copy_agrees image None order bytes = agree order bytes (piece (copy_place (layout_of order bytes)) SBSIZE image)
+copy_agrees image None order bytes =
+    agree order bytes (piece (copy_place (layout_of order bytes)) SUPERBLOCK_BYTES image)
 copy_agrees image (Some sector) order bytes = true
 
 -- the verdict on a superblock: by the first fault of its layout, if any, and by whether the last copy agrees
@@ -137,5 +139,6 @@ outcome_of image sector bytes (Some order) = outcome_in image sector order bytes
 -- the superblock of an image, or its first fault
 unfoldable pub outcome : (image : List ℕ) (sector : Option ℕ) → Result Superblock SuperFault
 outcome image sector =
-    if nat_lt (length image) (super_sector sector * DEV_BSIZE + SBSIZE) then Err (CannotRead (super_sector sector))
+    if nat_lt (length image) (super_sector sector * DEV_BSIZE + SUPERBLOCK_BYTES)
+    then Err (CannotRead (super_sector sector))
     else outcome_of image sector (super_bytes image sector) (order_of (super_bytes image sector))

@@ -5,7 +5,7 @@ use Rattle.ffs_volume.specs.declared.constants.TheConstants.{MAXBAD, MAXDUP}
 use Rattle.ffs_volume.specs.declared.Layout.{Layout}
 use Rattle.ffs_volume.specs.declared.Step.{Step}
 use Rattle.ffs_volume.specs.declared.Step.TheVariants.{Run, Tail, Gap}
-use Rattle.ffs_volume.specs.Disk.Areas.{is_in_range}
+use Rattle.ffs_volume.specs.Disk.Areas.{is_run_in_range}
 use Rattle.ffs_volume.specs.Blocks.Owners.{owner_of}
 use Rattle.ffs_volume.specs.Blocks.Claims.{Claims, after_owner}
 use Rattle.ffs_volume.specs.Blocks.KeptSteps.{claims_before}
@@ -35,7 +35,7 @@ taken_of cut kept len = if cut == 0 then len else min len (cut - kept)
 -- the state after a Run is seen; the eleventh bad Run offers nothing
 abbrev pub replay_run : (v : Layout) (cut : ℕ) (r : Replay) (start len : ℕ) → Replay
 replay_run v cut r start len =
-    if is_in_range v start len
+    if is_run_in_range v start len
     then record { bad = r.bad; kept = r.kept + taken_of cut r.kept len }
     else (if r.bad == MAXBAD
     then record { bad = r.bad + 1; kept = r.kept }

@@ -5,7 +5,7 @@ use Rattle.ffs_volume.specs.declared.constants.TheConstants.{MAXBAD}
 use Rattle.ffs_volume.specs.declared.Layout.{Layout}
 use Rattle.ffs_volume.specs.declared.Step.{Step}
 use Rattle.ffs_volume.specs.declared.Step.TheVariants.{Run, Tail, Gap}
-use Rattle.ffs_volume.specs.Disk.Areas.{is_in_range}
+use Rattle.ffs_volume.specs.Disk.Areas.{is_run_in_range}
 use Rattle.ffs_volume.specs.Encodings.Replay.{Replay, is_replay_open, replay_step}
 
 -- 1 for a Run that is seen, else 0
@@ -20,20 +20,21 @@ replayed_runs v cut r [] = 0
 replayed_runs v cut r (step ∷ steps) = seen_run cut r step + replayed_runs v cut (replay_step v cut r step) steps
 
 -- the kept offers after a Run: counted up to the cut, and left as they are where there is none
-abbrev pub counted_of : (cut kept len : ℕ) → ℕ
-counted_of cut kept len = if cut == 0 then kept else kept + min len (cut - kept)
+abbrev pub kept_by_cut : (cut kept len : ℕ) → ℕ
+kept_by_cut cut kept len = if cut == 0 then kept else kept + min len (cut - kept)
 
 -- the state after a Run, counted so
-abbrev pub counted_run : (v : Layout) (cut : ℕ) (r : Replay) (start len : ℕ) → Replay
-counted_run v cut r start len =
-    if is_in_range v start len
-    then record { bad = r.bad; kept = counted_of cut r.kept len }
+abbrev pub replay_run_by_cut : (v : Layout) (cut : ℕ) (r : Replay) (start len : ℕ) → Replay
+replay_run_by_cut v cut r start len =
+    if is_run_in_range v start len
+    then record { bad = r.bad; kept = kept_by_cut cut r.kept len }
     else (if r.bad == MAXBAD
     then record { bad = r.bad + 1; kept = r.kept }
-    else record { bad = r.bad + 1; kept = counted_of cut r.kept len })
+    else record { bad = r.bad + 1; kept = kept_by_cut cut r.kept len })
 
 -- the state after a step, counted so
-abbrev pub counted_step : Layout → ℕ → Replay → Step → Replay
-counted_step v cut r (Run start len block) = if is_replay_open cut r then counted_run v cut r start len else r
-counted_step v cut r Tail = r
-counted_step v cut r Gap = r
+abbrev pub replay_step_by_cut : Layout → ℕ → Replay → Step → Replay
+replay_step_by_cut v cut r (Run start len block) =
+    if is_replay_open cut r then replay_run_by_cut v cut r start len else r
+replay_step_by_cut v cut r Tail = r
+replay_step_by_cut v cut r Gap = r

@@ -19,7 +19,7 @@ use Rattle.ffs_volume.specs.Blocks.Owners.{Owner, owners_of}
 use Rattle.ffs_volume.specs.Blocks.Claims.{no_claims, is_set, after_owners}
 use Rattle.ffs_volume.specs.Blocks.BlockCheck.{phase1_lines, phase1b_lines, kept_in_owners}
 use Rattle.ffs_volume.specs.Blocks.Keeping.{all_offers, kept_by_rule}
-use Rattle.ffs_volume.specs.Groups.Records.{right_summary, right_frsum, right_total}
+use Rattle.ffs_volume.specs.Groups.Records.{right_group_counts, right_frsum, right_total}
 use Rattle.ffs_volume.specs.Groups.GroupCheck.{phase5_lines, is_free_of_runs, reported_once, unreported}
 use Rattle.ffs_volume.specs.Examples.Images.{word, zeros, changed, base_layout, base_image, two_groups}
 
@@ -175,12 +175,12 @@ groups_reported order free loose = phase5_lines (base_layout order) (base_image 
     (pos 1 ∷ pos 22 ∷ pos 29 ∷ pos loose ∷ []) free base_class
 
 pub record GroupExamples : Type 0 where
-  pub base_sums : right_summary (base_layout Little) base_free base_class 0
+  pub base_sums : right_group_counts (base_layout Little) base_free base_class 0
       ≡ record { dirs = 1; blocks = 22; inodes = 29; fragments = 6 }
   pub base_pieces : map (right_frsum (base_layout Little) base_free 0) (range_with_len 0 8)
       ≡ 0 ∷ 0 ∷ 0 ∷ 2 ∷ 0 ∷ 0 ∷ 0 ∷ 0 ∷ []
   -- the second group's last block is cut short by the size
-  pub second_sums : right_summary (two_groups Little) two_free base_class 1
+  pub second_sums : right_group_counts (two_groups Little) two_free base_class 1
       ≡ record { dirs = 0; blocks = 26; inodes = 32; fragments = 2 }
   pub second_pieces : map (right_frsum (two_groups Little) two_free 1) (range_with_len 0 8)
       ≡ 0 ∷ 0 ∷ 1 ∷ 0 ∷ 0 ∷ 0 ∷ 0 ∷ 0 ∷ []

@@ -9,8 +9,8 @@ use Rattle.ffs_volume.specs.declared.Class.TheVariants.{Free, File, Dir, Unknown
 use Rattle.ffs_volume.specs.declared.Label.TheVariants.{Dir as DirLabel, File as FileLabel}
 use Rattle.ffs_volume.specs.declared.Role.TheVariants.{Empty, Dot, Dotdot, Extra, Plain}
 use Rattle.ffs_volume.specs.declared.Step.TheVariants.{Run, Tail, Gap}
-use Rattle.ffs_volume.specs.Directories.Entries.{Entry, Chunk, Reading, entry_at, entries_of}
-use Rattle.ffs_volume.specs.Directories.Entries.{is_sound, chunks_of, has_gap, size_taken}
+use Rattle.ffs_volume.specs.Directories.Entries.{Entry, Chunk, ChunkSource, entry_at, entries_of}
+use Rattle.ffs_volume.specs.Directories.Entries.{is_sound, chunks_of, has_gap, bytes_read}
 use Rattle.ffs_volume.specs.Directories.Roles.{Volume, role_of, references}
 use Rattle.ffs_volume.specs.Directories.Graph.{level, parent}
 use Rattle.ffs_volume.specs.Directories.Parents.{graph_of}
@@ -19,7 +19,7 @@ use Rattle.ffs_volume.specs.Messages.Kinds.{root_none, root_not_dir, root_suspec
 use Rattle.ffs_volume.specs.Messages.Kinds.{missing_dot, missing_dot_first, number_dot, kind_dot, missing_dotdot}
 use Rattle.ffs_volume.specs.Messages.Kinds.{missing_dotdot_second, number_dotdot, kind_dotdot, extra_dot}
 use Rattle.ffs_volume.specs.Messages.Kinds.{extra_dotdot, out_of_range, whiteout, zero_dir, extraneous, kind_entry}
-use Rattle.ffs_volume.specs.Messages.Kinds.{unref_dir, dead_marked, dead_zero, unref, unref_zero, link_count}
+use Rattle.ffs_volume.specs.Messages.Kinds.{unref_dir, dead_marked, dead_zero, unref, unref_unlinked, link_count}
 use Rattle.ffs_volume.specs.Directories.PathnameCheck.{pathname_lines}
 use Rattle.ffs_volume.specs.Directories.Connectivity.{connectivity_lines}
 use Rattle.ffs_volume.specs.Directories.ReferenceCheck.{reference_lines}
@@ -48,7 +48,7 @@ abbrev pub last_entry : ℕ → ℕ → List ℕ → Entry
 last_entry x kind name = record { number = x; length = 500; kind = kind; name = name }
 
 -- two chunks at fragment 2, read as far as this
-unfoldable pub two_chunks : ℕ → Reading
+unfoldable pub two_chunks : ℕ → ChunkSource
 two_chunks taken = record {
   order = Little;
   image = zeros 1024 ++ (root_chunk Little ++ root_chunk Little);
@@ -92,7 +92,7 @@ pub record EntryExamples : Type 0 where
   pub part : map (λ c. c.offset) (chunks_of (two_chunks 512) (λ start len. true) (Run 2 2 (Some 0) ∷ [])) ≡ 0 ∷ []
   pub not_in_range : chunks_of (two_chunks 512) (λ start len. false) (Run 2 2 (Some 0) ∷ []) ≡ []
   pub indirect : chunks_of (two_chunks 512) (λ start len. true) (Run 2 2 None ∷ []) ≡ []
-  pub taken : map size_taken (1 ∷ 23 ∷ 24 ∷ 512 ∷ 513 ∷ []) ≡ 512 ∷ 512 ∷ 512 ∷ 512 ∷ 1024 ∷ []
+  pub taken : map bytes_read (1 ∷ 23 ∷ 24 ∷ 512 ∷ 513 ∷ []) ≡ 512 ∷ 512 ∷ 512 ∷ 512 ∷ 1024 ∷ []
   pub gaps : (has_gap (Run 2 2 (Some 0) ∷ Tail ∷ []) ≡ false) × (has_gap (Run 2 2 (Some 0) ∷ Gap ∷ []) ≡ true)
   -- `..` is second in the first chunk, and `.` first
   pub roles : map (λ i. role_of true i (entry 2 4 one_dot)) (0 ∷ 1 ∷ []) ≡ Dot ∷ Extra ∷ []
@@ -295,4 +295,4 @@ pub record ReferenceExamples : Type 0 where
       ≡ unref FileLabel (about 3) ∷ []
   pub unlinked : reference_lines (record (small 4 (λ i. if i == 2 then 2 else 0)
       (λ i. if i == 2 then dots 2 2 [] else [])) { class = λ i. if i == 2 then Dir else File })
-      ≡ unref_zero FileLabel (about 3) ∷ []
+      ≡ unref_unlinked FileLabel (about 3) ∷ []

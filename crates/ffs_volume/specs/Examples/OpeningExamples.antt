@@ -7,7 +7,7 @@ use Rattle.ffs_volume.specs.declared.SuperFault.{SuperFault}
 use Rattle.ffs_volume.specs.declared.SuperFault.TheVariants.{CannotRead, Magic, InodeFormat, Ncg, Cpg}
 use Rattle.ffs_volume.specs.declared.SuperFault.TheVariants.{Ncyl, TooLarge, Shape, Short, Disagree}
 use Rattle.ffs_volume.specs.Disk.Areas.{cgstart, cgsblock, cgdmin, group_place, summary_place}
-use Rattle.ffs_volume.specs.Disk.Areas.{inode_place, is_data_fragment, is_in_range, is_reserved}
+use Rattle.ffs_volume.specs.Disk.Areas.{inode_place, is_fragment_in_range, is_run_in_range, is_reserved}
 use Rattle.ffs_volume.specs.Disk.Outcome.{outcome}
 use Rattle.ffs_volume.specs.Messages.Kinds.{location, opening, mounted, bad_super}
 use Rattle.ffs_volume.specs.Messages.Kinds.{cannot_read, optimization, minfree, summary}
@@ -89,19 +89,20 @@ pub record SuperblockExamples : Type 0 where
 
 pub record AreaExamples : Type 0 where
   -- which fragments are data fragments
-  pub ok : map (is_data_fragment (base_layout Little)) (0 ∷ 15 ∷ 16 ∷ 31 ∷ 32 ∷ 127 ∷ 128 ∷ [])
+  pub ok : map (is_fragment_in_range (base_layout Little)) (0 ∷ 15 ∷ 16 ∷ 31 ∷ 32 ∷ 127 ∷ 128 ∷ [])
       ≡ true ∷ true ∷ false ∷ false ∷ true ∷ true ∷ false ∷ []
   pub reserved : map (is_reserved (base_layout Little)) (0 ∷ 31 ∷ 32 ∷ 33 ∷ 127 ∷ [])
       ≡ true ∷ true ∷ true ∷ false ∷ false ∷ []
-  pub in_range : (is_in_range (base_layout Little) 124 4 ≡ true) × (is_in_range (base_layout Little) 126 4 ≡ false)
-      × (is_in_range (base_layout Little) 13 4 ≡ false)
+  pub in_range : (is_run_in_range (base_layout Little) 124 4 ≡ true)
+      × (is_run_in_range (base_layout Little) 126 4 ≡ false)
+      × (is_run_in_range (base_layout Little) 13 4 ≡ false)
   -- two groups: the second one's parts, and a run that crosses into it
   pub second : (cgstart (two_groups Little) 1 ≡ 132) × (cgsblock (two_groups Little) 1 ≡ 148)
       × (cgdmin (two_groups Little) 1 ≡ 164)
   pub second_places : (group_place (two_groups Little) 1 ≡ 159744) × (summary_place (two_groups Little) 1 ≡ 32784)
       × (inode_place (two_groups Little) 33 ≡ 163968)
-  pub crosses : (map (is_data_fragment (two_groups Little)) (range_with_len 126 4) ≡ true ∷ true ∷ true ∷ true ∷ [])
-      × (is_in_range (two_groups Little) 126 4 ≡ false)
+  pub crosses : (map (is_fragment_in_range (two_groups Little)) (range_with_len 126 4) ≡ true ∷ true ∷ true ∷ true ∷ [])
+      × (is_run_in_range (two_groups Little) 126 4 ≡ false)
   pub base_inode : inode_place (base_layout Little) 2 ≡ 28928
 
 pub record OpeningExamples : Type 0 where

@@ -9,8 +9,9 @@ use Rattle.ffs_volume.specs.declared.BlockMessage.TheVariants.{GroupMagic, FreeC
 use Rattle.ffs_volume.specs.Disk.Areas.{is_reserved}
 use Rattle.ffs_volume.specs.Blocks.Owners.{Owner, fragments_of, all_steps}
 use Rattle.ffs_volume.specs.Blocks.Claims.{is_set, no_claims, after_owners}
-use Rattle.ffs_volume.specs.Groups.Records.{group_block, summary_record, group_numbers, is_magic}
-use Rattle.ffs_volume.specs.Groups.Records.{are_places, are_maps, are_sums, is_record, is_total}
+use Rattle.ffs_volume.specs.Groups.Records.{group_block, summary_record, group_numbers, has_right_magic}
+use Rattle.ffs_volume.specs.Groups.Records.{maps_fit, has_right_maps, has_right_sums, has_right_record}
+use Rattle.ffs_volume.specs.Groups.Records.{has_right_totals}
 
 -- a message where a test fails
 abbrev pub unless : Bool → BlockMessage → List BlockMessage
@@ -21,22 +22,22 @@ unless false m = m ∷ []
 abbrev pub records_lines : (v : Layout) (image : List ℕ) (free : ℕ → Bool) (class : ℕ → Class) (c : ℕ) →
     List BlockMessage
 records_lines v image free class c =
-    unless (is_record v free class c (summary_record v image c)) FreeCounts
-    ++ (unless (are_places v (group_block v image c) && are_maps v free class c (group_block v image c)) MapsWrong
-    ++ unless (are_sums v free class c (group_block v image c)) GroupSums)
+    unless (has_right_record v free class c (summary_record v image c)) FreeCounts
+    ++ (unless (maps_fit v (group_block v image c) && has_right_maps v free class c (group_block v image c)) MapsWrong
+    ++ unless (has_right_sums v free class c (group_block v image c)) GroupSums)
 
 -- the lines of a group, repeated ones too; where its magic number is wrong, its summary record alone is compared
 abbrev pub group_lines : (v : Layout) (image : List ℕ) (free : ℕ → Bool) (class : ℕ → Class) (c : ℕ) →
     List BlockMessage
 group_lines v image free class c =
-    if is_magic v (group_block v image c) then records_lines v image free class c
-    else GroupMagic c ∷ unless (is_record v free class c (summary_record v image c)) FreeCounts
+    if has_right_magic v (group_block v image c) then records_lines v image free class c
+    else GroupMagic c ∷ unless (has_right_record v free class c (summary_record v image c)) FreeCounts
 
 -- the lines of all groups, and of the superblock's totals, repeated ones too
 abbrev pub all_group_lines : Layout → List ℕ → List ℤ → (ℕ → Bool) → (ℕ → Class) → List BlockMessage
 all_group_lines v image totals free class =
     flat_map (group_lines v image free class) (group_numbers v)
-    ++ unless (is_total v free class totals) FreeCounts
+    ++ unless (has_right_totals v free class totals) FreeCounts
 
 -- which of the messages that a report has only once were reported
 pub record ReportedOnce : Type 0 where

@@ -7,7 +7,7 @@ use Rattle.std.specs.Int.{div_ceil}
 use Rattle.ffs_volume.specs.declared.constants.TheConstants.{CG_MAGIC}
 use Rattle.ffs_volume.specs.declared.Layout.{Layout}
 use Rattle.ffs_volume.specs.declared.Class.{Class}
-use Rattle.ffs_volume.specs.Disk.Numbers.{u32_at, piece, all_below, is_the_count}
+use Rattle.ffs_volume.specs.Disk.Numbers.{u32_at, piece, all_below, equals_natural}
 use Rattle.ffs_volume.specs.Disk.Areas.{cgbase, group_place, summary_place}
 use Rattle.ffs_volume.specs.Blocks.Inodes.{is_directory, is_allocated}
 
@@ -32,21 +32,21 @@ abbrev pub block_bits : (v : Layout) (free : ℕ → Bool) (c b : ℕ) → List 
 block_bits v free c b = map free (range_with_len (cgbase v c + b * v.frag) v.frag)
 
 -- all fragments of a block are free
-abbrev pub is_whole : List Bool → Bool
-is_whole bits = list_all (λ b. b) bits
+abbrev pub is_free_block : List Bool → Bool
+is_free_block bits = list_all (λ b. b) bits
 
 -- the length of the run that n free fragments make, if there are any
-abbrev pub run_of : ℕ → List ℕ
-run_of n = if n == 0 then [] else n ∷ []
+abbrev pub stretch_of : ℕ → List ℕ
+stretch_of n = if n == 0 then [] else n ∷ []
 
 -- the lengths of the maximal runs of free fragments, in order, where n free ones come just before
-abbrev pub free_runs : (n : ℕ) (bits : List Bool) → List ℕ
-free_runs n [] = run_of n
-free_runs n (true ∷ bits) = free_runs (n + 1) bits
-free_runs n (false ∷ bits) = run_of n ++ free_runs 0 bits
+abbrev pub free_stretches : (n : ℕ) (bits : List Bool) → List ℕ
+free_stretches n [] = stretch_of n
+free_stretches n (true ∷ bits) = free_stretches (n + 1) bits
+free_stretches n (false ∷ bits) = stretch_of n ++ free_stretches 0 bits
 
 -- the counts of a group (struct csum): directories, free blocks, free inodes, free fragments of other blocks
-pub record Summary : Type 0 where
+pub record GroupCounts : Type 0 where
   pub dirs : ℕ
   pub blocks : ℕ
   pub inodes : ℕ
@@ -57,21 +57,21 @@ abbrev pub group_inodes : Layout → ℕ → List ℕ
 group_inodes v c = range_with_len (c * v.ipg) v.ipg
 
 -- the right counts of group c
-unfoldable pub right_summary : Layout → (ℕ → Bool) → (ℕ → Class) → ℕ → Summary
-right_summary v free class c = record {
+unfoldable pub right_group_counts : Layout → (ℕ → Bool) → (ℕ → Class) → ℕ → GroupCounts
+right_group_counts v free class c = record {
   dirs = count_by (is_dir_inode class) (group_inodes v c);
-  blocks = count_by (λ b. is_whole (block_bits v free c b)) (block_numbers v);
+  blocks = count_by (λ b. is_free_block (block_bits v free c b)) (block_numbers v);
   inodes = count_by (λ x. not (is_used_inode class x)) (group_inodes v c);
   fragments =
-      sum_by (λ b. if is_whole (block_bits v free c b) then 0 else count_by (λ f. f) (block_bits v free c b))
+      sum_by (λ b. if is_free_block (block_bits v free c b) then 0 else count_by (λ f. f) (block_bits v free c b))
       (block_numbers v);
 }
 
 -- the right frsum[k]: how many runs of exactly k free fragments there are in the blocks that aren't all free
 unfoldable pub right_frsum : (v : Layout) (free : ℕ → Bool) (c k : ℕ) → ℕ
 right_frsum v free c k =
-    sum_by (λ b. if is_whole (block_bits v free c b) then 0
-    else count_by (λ n. n == k) (free_runs 0 (block_bits v free c b)))
+    sum_by (λ b. if is_free_block (block_bits v free c b) then 0
+    else count_by (λ n. n == k) (free_stretches 0 (block_bits v free c b)))
     (block_numbers v)
 
 -- the numbers of all groups
@@ -79,12 +79,12 @@ abbrev pub group_numbers : Layout → List ℕ
 group_numbers v = range_with_len 0 v.ncg
 
 -- the right totals of the superblock: the sums over all groups
-unfoldable pub right_total : Layout → (ℕ → Bool) → (ℕ → Class) → Summary
+unfoldable pub right_total : Layout → (ℕ → Bool) → (ℕ → Class) → GroupCounts
 right_total v free class = record {
-  dirs = sum_by (λ c. (right_summary v free class c).dirs) (group_numbers v);
-  blocks = sum_by (λ c. (right_summary v free class c).blocks) (group_numbers v);
-  inodes = sum_by (λ c. (right_summary v free class c).inodes) (group_numbers v);
-  fragments = sum_by (λ c. (right_summary v free class c).fragments) (group_numbers v);
+  dirs = sum_by (λ c. (right_group_counts v free class c).dirs) (group_numbers v);
+  blocks = sum_by (λ c. (right_group_counts v free class c).blocks) (group_numbers v);
+  inodes = sum_by (λ c. (right_group_counts v free class c).inodes) (group_numbers v);
+  fragments = sum_by (λ c. (right_group_counts v free class c).fragments) (group_numbers v);
 }
 
 -- the group block of c, as the image has it
@@ -97,7 +97,7 @@ summary_record v image c = piece (summary_place v c) 16 image
 
 -- the four counts at a place are those of s. They are signed in the image, but those of s are below 2^31, so to compare
 -- them as unsigned numbers is the same
-abbrev pub has_summary : (v : Layout) (place : ℕ) (bytes : List ℕ) (s : Summary) → Bool
+abbrev pub has_summary : (v : Layout) (place : ℕ) (bytes : List ℕ) (s : GroupCounts) → Bool
 has_summary v place bytes s =
     u32_at v.order place bytes == s.dirs && (u32_at v.order (place + 4) bytes == s.blocks
     && (u32_at v.order (place + 8) bytes == s.inodes && u32_at v.order (place + 12) bytes == s.fragments))
@@ -124,53 +124,53 @@ abbrev pub fragment_map_place : Layout → List ℕ → ℕ
 fragment_map_place v block = u32_at v.order 96 block
 
 -- the maps end within the group block
-unfoldable pub are_places : Layout → List ℕ → Bool
-are_places v block =
+unfoldable pub maps_fit : Layout → List ℕ → Bool
+maps_fit v block =
     nat_le (inode_map_place v block + div_ceil v.ipg 8) v.cgsize
     && nat_le (fragment_map_place v block + div_ceil v.fpg 8) v.cgsize
 
 -- the magic number of a group block is right
-unfoldable pub is_magic : Layout → List ℕ → Bool
-is_magic v block = u32_at v.order 4 block == CG_MAGIC
+unfoldable pub has_right_magic : Layout → List ℕ → Bool
+has_right_magic v block = u32_at v.order 4 block == CG_MAGIC
 
 -- both maps are right
-unfoldable pub are_maps : (v : Layout) (free : ℕ → Bool) (class : ℕ → Class) (c : ℕ) (block : List ℕ) → Bool
-are_maps v free class c block =
+unfoldable pub has_right_maps : (v : Layout) (free : ℕ → Bool) (class : ℕ → Class) (c : ℕ) (block : List ℕ) → Bool
+has_right_maps v free class c block =
     has_bits block (inode_map_place v block) v.ipg (λ k. is_used_inode class (c * v.ipg + k))
     && has_bits block (fragment_map_place v block) (group_size v c) (λ k. free (cgbase v c + k))
 
 -- the group's number, its number of fragments, its summary and its frsum are right (cgx, ndblk, cs, frsum)
-unfoldable pub are_sums : (v : Layout) (free : ℕ → Bool) (class : ℕ → Class) (c : ℕ) (block : List ℕ) → Bool
-are_sums v free class c block =
+unfoldable pub has_right_sums : (v : Layout) (free : ℕ → Bool) (class : ℕ → Class) (c : ℕ) (block : List ℕ) → Bool
+has_right_sums v free class c block =
     u32_at v.order 12 block == c && (u32_at v.order 20 block == group_size v c
-    && (has_summary v 24 block (right_summary v free class c)
+    && (has_summary v 24 block (right_group_counts v free class c)
     && all_below 8 (λ k. u32_at v.order (52 + 4 * k) block == right_frsum v free c k)))
 
 -- the bytes of the group's record in the summary area are right
-unfoldable pub is_record : (v : Layout) (free : ℕ → Bool) (class : ℕ → Class) (c : ℕ) (bytes : List ℕ) → Bool
-is_record v free class c bytes = has_summary v 0 bytes (right_summary v free class c)
+unfoldable pub has_right_record : (v : Layout) (free : ℕ → Bool) (class : ℕ → Class) (c : ℕ) (bytes : List ℕ) → Bool
+has_right_record v free class c bytes = has_summary v 0 bytes (right_group_counts v free class c)
 
 -- the totals of a superblock are these counts
-abbrev pub has_totals : List ℤ → Summary → Bool
+abbrev pub has_totals : List ℤ → GroupCounts → Bool
 has_totals total s =
-    is_the_count (slice_index_or total 0 (pos 0)) s.dirs && (is_the_count (slice_index_or total 1 (pos 0)) s.blocks
-    && (is_the_count (slice_index_or total 2 (pos 0)) s.inodes
-    && is_the_count (slice_index_or total 3 (pos 0)) s.fragments))
+    equals_natural (slice_index_or total 0 (pos 0)) s.dirs && (equals_natural (slice_index_or total 1 (pos 0)) s.blocks
+    && (equals_natural (slice_index_or total 2 (pos 0)) s.inodes
+    && equals_natural (slice_index_or total 3 (pos 0)) s.fragments))
 
 -- the totals are right
-unfoldable pub is_total : Layout → (ℕ → Bool) → (ℕ → Class) → List ℤ → Bool
-is_total v free class total = has_totals total (right_total v free class)
+unfoldable pub has_right_totals : Layout → (ℕ → Bool) → (ℕ → Class) → List ℤ → Bool
+has_right_totals v free class total = has_totals total (right_total v free class)
 
 -- the group block and the summary record of group c are right
 pub record GroupRight (v : Layout) (image : List ℕ) (free : ℕ → Bool) (class : ℕ → Class) (c : ℕ) : Type 0 where
-  pub magic : is_magic v (group_block v image c) ≡ true
-  pub places : are_places v (group_block v image c) ≡ true
-  pub maps : are_maps v free class c (group_block v image c) ≡ true
-  pub sums : are_sums v free class c (group_block v image c) ≡ true
-  pub record_is : is_record v free class c (summary_record v image c) ≡ true
+  pub magic : has_right_magic v (group_block v image c) ≡ true
+  pub places : maps_fit v (group_block v image c) ≡ true
+  pub maps : has_right_maps v free class c (group_block v image c) ≡ true
+  pub sums : has_right_sums v free class c (group_block v image c) ≡ true
+  pub record_is : has_right_record v free class c (summary_record v image c) ≡ true
 
 -- all groups are right, and so are the superblock's totals
 pub record GroupsRight (v : Layout) (image : List ℕ) (totals : List ℤ) (free : ℕ → Bool) (class : ℕ → Class)
     : Type 0 where
   pub groups : (c : ℕ) → c < v.ncg → GroupRight v image free class c
-  pub total : is_total v free class totals ≡ true
+  pub total : has_right_totals v free class totals ≡ true

@@ -9,8 +9,8 @@ use Rattle.ffs_volume.specs.Disk.Areas.{cgbase}
 use Rattle.ffs_volume.specs.Blocks.Owners.{fragments_of}
 use Rattle.ffs_volume.specs.Blocks.Claims.{Claims, is_open, after_steps}
 use Rattle.ffs_volume.specs.Blocks.BlockCheck.{kept_in_steps}
-use Rattle.ffs_volume.specs.Blocks.FirstOffers.{Firsts}
-use Rattle.ffs_volume.specs.Groups.Records.{right_summary}
+use Rattle.ffs_volume.specs.Blocks.FirstOffers.{KeptPrefix}
+use Rattle.ffs_volume.specs.Groups.Records.{right_group_counts}
 use Rattle.ffs_volume.specs.Directories.Graph.{Graph, level}
 use Rattle.ffs_volume.specs.Directories.Levels.{IsLevel}
 use Rattle.ffs_volume.specs.Directories.Paths.{dir_path, entry_path}
@@ -18,7 +18,7 @@ use Rattle.ffs_volume.specs.Directories.Paths.{dir_path, entry_path}
 -- the kept offers of an inode are the first of its offers, and all of them where it isn't cut
 abbrev pub KeptAreFirst : Type 0
 KeptAreFirst = (v : Layout) (inode : ℕ) (s : Claims) (steps : List Step) →
-    Firsts inode (kept_in_steps v inode s steps) (fragments_of steps) (not (is_open (after_steps v s steps)))
+    KeptPrefix inode (kept_in_steps v inode s steps) (fragments_of steps) (not (is_open (after_steps v s steps)))
 
 -- a level is the least number of edges from inode 2, and is below the number of inodes
 pub record LevelMeaning (g : Graph) (k d : ℕ) : Type 0 where
@@ -39,5 +39,5 @@ AllPathsFit = (g : Graph) (d : ℕ) → PathsFit g d
 -- the free blocks and loose fragments of a group are all its free fragments
 abbrev pub SumsAreWhole : Type 0
 SumsAreWhole = (v : Layout) (free : ℕ → Bool) (class : ℕ → Class) (c : ℕ) → 0 < v.frag → v.fpg % v.frag ≡ 0 →
-    v.frag * (right_summary v free class c).blocks + (right_summary v free class c).fragments
+    v.frag * (right_group_counts v free class c).blocks + (right_group_counts v free class c).fragments
     ≡ count_by free (range_with_len (cgbase v c) v.fpg)

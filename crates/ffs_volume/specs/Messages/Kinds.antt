@@ -37,7 +37,7 @@ pub data NameMessage : Type 0 where
   dead_marked : (label : Label) (about : Attr) → NameMessage  -- BAD/DUP, in phase 4
   dead_zero : (about : Attr) → NameMessage  -- ZERO LENGTH DIR, in phase 4
   unref : (label : Label) (about : Attr) → NameMessage  -- UNREF, with links: reconnect it?
-  unref_zero : (label : Label) (about : Attr) → NameMessage  -- UNREF, without links: clear it?
+  unref_unlinked : (label : Label) (about : Attr) → NameMessage  -- UNREF, without links: clear it?
   link_count : (label : Label) (about : Attr) (nlink : ℤ) (references : ℕ) → NameMessage
 
 -- a message of a report: of the opening, a heading, a message of a phase, the summary, or the end of a run that isn't

@@ -21,7 +21,7 @@ use Rattle.ffs_volume.specs.Messages.Kinds.{dir_empty, dir_corrupt, missing_dot,
 use Rattle.ffs_volume.specs.Messages.Kinds.{number_dot, kind_dot, missing_dotdot, missing_dotdot_second}
 use Rattle.ffs_volume.specs.Messages.Kinds.{number_dotdot, kind_dotdot, extra_dot, extra_dotdot, out_of_range}
 use Rattle.ffs_volume.specs.Messages.Kinds.{whiteout, unallocated, dup_bad, zero_dir, extraneous, kind_entry}
-use Rattle.ffs_volume.specs.Messages.Kinds.{unref_dir, dead_marked, dead_zero, unref, unref_zero, link_count}
+use Rattle.ffs_volume.specs.Messages.Kinds.{unref_dir, dead_marked, dead_zero, unref, unref_unlinked, link_count}
 use Rattle.ffs_volume.specs.Messages.Shown.{shown, octal, sign_text}
 
 -- the label before a path
@@ -47,8 +47,8 @@ abbrev pub inode_text : (head : List ℕ) (about : Attr) (tail : List ℕ) → L
 inode_text head about tail = head ++ (attr_text about ++ tail)
 
 -- the same, with DIR or FILE before the attributes
-abbrev pub kind_text : (head : List ℕ) (label : Label) (about : Attr) (tail : List ℕ) → List ℕ
-kind_text head label about tail = head ++ inode_text (file_label label) about tail
+abbrev pub labelled_text : (head : List ℕ) (label : Label) (about : Attr) (tail : List ℕ) → List ℕ
+labelled_text head label about tail = head ++ inode_text (file_label label) about tail
 
 -- `head`, the attributes of an inode, its path, and `tail`
 abbrev pub path_text : (head : List ℕ) (about : Attr) (label : Label) (path tail : List ℕ) → List ℕ
@@ -88,19 +88,19 @@ block_count_text inode found right = concat (
     ∷ texts.RIGHT.now ∷ decimal right ∷ texts.CORRECT.now ∷ [])
 
 -- a message of the block check or of the check of cylinder groups
-abbrev pub block_text : BlockMessage → List ℕ
-block_text (PartAlloc inode) = number_text texts.PART_ALLOC.now inode texts.CLEAR.now
-block_text (UnknownType inode) = number_text texts.UNKNOWN_TYPE.now inode texts.CLEAR.now
-block_text (Bad fragment inode) = claim_text fragment texts.BAD.now inode
-block_text (Dup fragment inode) = claim_text fragment texts.DUP.now inode
-block_text (ManyBad inode) = number_text texts.MANY_BAD.now inode texts.CONTINUE.now
-block_text (ManyDup inode) = number_text texts.MANY_DUP.now inode texts.CONTINUE.now
-block_text (PartTrunc inode) = number_text texts.PART_TRUNC.now inode texts.SALVAGE.now
-block_text (BlockCount inode found right) = block_count_text inode found right
-block_text (GroupMagic group) = number_text texts.GROUP.now group texts.GROUP_MAGIC.now
-block_text FreeCounts = texts.FREE_COUNTS.now
-block_text MapsWrong = texts.MAPS_WRONG.now
-block_text GroupSums = texts.GROUP_SUMS.now
+abbrev pub block_message_text : BlockMessage → List ℕ
+block_message_text (PartAlloc inode) = number_text texts.PART_ALLOC.now inode texts.CLEAR.now
+block_message_text (UnknownType inode) = number_text texts.UNKNOWN_TYPE.now inode texts.CLEAR.now
+block_message_text (Bad fragment inode) = claim_text fragment texts.BAD.now inode
+block_message_text (Dup fragment inode) = claim_text fragment texts.DUP.now inode
+block_message_text (ManyBad inode) = number_text texts.MANY_BAD.now inode texts.CONTINUE.now
+block_message_text (ManyDup inode) = number_text texts.MANY_DUP.now inode texts.CONTINUE.now
+block_message_text (PartTrunc inode) = number_text texts.PART_TRUNC.now inode texts.SALVAGE.now
+block_message_text (BlockCount inode found right) = block_count_text inode found right
+block_message_text (GroupMagic group) = number_text texts.GROUP.now group texts.GROUP_MAGIC.now
+block_message_text FreeCounts = texts.FREE_COUNTS.now
+block_message_text MapsWrong = texts.MAPS_WRONG.now
+block_message_text GroupSums = texts.GROUP_SUMS.now
 
 -- a directory that has a Gap
 abbrev pub empty_text : List ℕ → List ℕ
@@ -130,43 +130,43 @@ counts_text nlink references = concat (
     ∷ texts.ADJUST.now ∷ [])
 
 abbrev pub links_text : Label → Attr → ℤ → ℕ → List ℕ
-links_text label about nlink references = kind_text texts.LINK_COUNT.now label about (counts_text nlink references)
+links_text label about nlink references = labelled_text texts.LINK_COUNT.now label about (counts_text nlink references)
 
 -- a message on directories, their entries or references
-abbrev pub name_text : NameMessage → List ℕ
-name_text root_none = texts.ROOT_NONE.now
-name_text root_not_dir = texts.ROOT_NOT_DIR.now
-name_text root_suspect = texts.ROOT_SUSPECT.now
-name_text (dir_short about path) = path_text texts.DIR_SHORT.now about Dir path texts.FIX.now
-name_text (dir_length path size) = length_text path size
-name_text (dir_empty path) = empty_text path
-name_text (dir_corrupt about path) = path_text texts.DIR_CORRUPT.now about Dir path texts.SALVAGE.now
-name_text (missing_dot about path) = path_text texts.MISSING_DOT.now about Dir path texts.FIX.now
-name_text (missing_dot_first about path name) =
+abbrev pub name_message_text : NameMessage → List ℕ
+name_message_text root_none = texts.ROOT_NONE.now
+name_message_text root_not_dir = texts.ROOT_NOT_DIR.now
+name_message_text root_suspect = texts.ROOT_SUSPECT.now
+name_message_text (dir_short about path) = path_text texts.DIR_SHORT.now about Dir path texts.FIX.now
+name_message_text (dir_length path size) = length_text path size
+name_message_text (dir_empty path) = empty_text path
+name_message_text (dir_corrupt about path) = path_text texts.DIR_CORRUPT.now about Dir path texts.SALVAGE.now
+name_message_text (missing_dot about path) = path_text texts.MISSING_DOT.now about Dir path texts.FIX.now
+name_message_text (missing_dot_first about path name) =
     name_in_the_way texts.MISSING_DOT.now about path texts.FIRST_ENTRY.now name
-name_text (number_dot about path) = path_text texts.NUMBER_DOT.now about Dir path texts.FIX.now
-name_text (kind_dot about path) = path_text texts.KIND_DOT.now about Dir path texts.FIX.now
-name_text (missing_dotdot about path) = path_text texts.MISSING_DOTDOT.now about Dir path texts.FIX.now
-name_text (missing_dotdot_second about path name) =
+name_message_text (number_dot about path) = path_text texts.NUMBER_DOT.now about Dir path texts.FIX.now
+name_message_text (kind_dot about path) = path_text texts.KIND_DOT.now about Dir path texts.FIX.now
+name_message_text (missing_dotdot about path) = path_text texts.MISSING_DOTDOT.now about Dir path texts.FIX.now
+name_message_text (missing_dotdot_second about path name) =
     name_in_the_way texts.MISSING_DOTDOT.now about path texts.SECOND_ENTRY.now name
-name_text (number_dotdot about path) =
+name_message_text (number_dotdot about path) =
     path_text texts.NUMBER_DOTDOT.now about Dir path texts.FIX.now
-name_text (kind_dotdot about path) = path_text texts.KIND_DOTDOT.now about Dir path texts.FIX.now
-name_text (extra_dot about path) = path_text texts.EXTRA_DOT.now about Dir path texts.FIX.now
-name_text (extra_dotdot about path) = path_text texts.EXTRA_DOTDOT.now about Dir path texts.FIX.now
-name_text (out_of_range number path) = entry_text texts.OUT_OF_RANGE.now number path texts.REMOVE.now
-name_text (whiteout number path) = entry_text texts.WHITEOUT.now number path texts.FIX.now
-name_text (unallocated about path) = path_text texts.UNALLOCATED.now about Name path texts.REMOVE.now
-name_text (dup_bad about label path) = path_text texts.DUP_BAD.now about label path texts.REMOVE.now
-name_text (zero_dir about path) = path_text texts.ZERO_DIR.now about Dir path texts.REMOVE.now
-name_text (extraneous path directory) = extraneous_text path directory
-name_text (kind_entry about label path) = path_text texts.KIND_ENTRY.now about label path texts.FIX.now
-name_text (unref_dir about) = inode_text texts.UNREF_DIR.now about texts.RECONNECT.now
-name_text (dead_marked label about) = kind_text texts.DEAD_MARKED.now label about texts.CLEAR.now
-name_text (dead_zero about) = inode_text texts.DEAD_ZERO.now about texts.CLEAR.now
-name_text (unref label about) = kind_text texts.UNREF.now label about texts.RECONNECT_OR_CLEAR.now
-name_text (unref_zero label about) = kind_text texts.UNREF.now label about texts.CLEAR.now
-name_text (link_count label about nlink references) = links_text label about nlink references
+name_message_text (kind_dotdot about path) = path_text texts.KIND_DOTDOT.now about Dir path texts.FIX.now
+name_message_text (extra_dot about path) = path_text texts.EXTRA_DOT.now about Dir path texts.FIX.now
+name_message_text (extra_dotdot about path) = path_text texts.EXTRA_DOTDOT.now about Dir path texts.FIX.now
+name_message_text (out_of_range number path) = entry_text texts.OUT_OF_RANGE.now number path texts.REMOVE.now
+name_message_text (whiteout number path) = entry_text texts.WHITEOUT.now number path texts.FIX.now
+name_message_text (unallocated about path) = path_text texts.UNALLOCATED.now about Name path texts.REMOVE.now
+name_message_text (dup_bad about label path) = path_text texts.DUP_BAD.now about label path texts.REMOVE.now
+name_message_text (zero_dir about path) = path_text texts.ZERO_DIR.now about Dir path texts.REMOVE.now
+name_message_text (extraneous path directory) = extraneous_text path directory
+name_message_text (kind_entry about label path) = path_text texts.KIND_ENTRY.now about label path texts.FIX.now
+name_message_text (unref_dir about) = inode_text texts.UNREF_DIR.now about texts.RECONNECT.now
+name_message_text (dead_marked label about) = labelled_text texts.DEAD_MARKED.now label about texts.CLEAR.now
+name_message_text (dead_zero about) = inode_text texts.DEAD_ZERO.now about texts.CLEAR.now
+name_message_text (unref label about) = labelled_text texts.UNREF.now label about texts.RECONNECT_OR_CLEAR.now
+name_message_text (unref_unlinked label about) = labelled_text texts.UNREF.now label about texts.CLEAR.now
+name_message_text (link_count label about nlink references) = links_text label about nlink references
 
 -- each number with what is after it; the fragmentation in tenths of a percent, its sign first
 abbrev pub summary_text : (files used : ℕ) (free frags blocks tenths : ℤ) → List ℕ
@@ -205,8 +205,8 @@ text_of phase2 = texts.PHASE2.now
 text_of phase3 = texts.PHASE3.now
 text_of phase4 = texts.PHASE4.now
 text_of phase5 = texts.PHASE5.now
-text_of (of_blocks message) = block_text message
-text_of (of_names message) = name_text message
+text_of (of_blocks message) = block_message_text message
+text_of (of_names message) = name_message_text message
 text_of (summary files used free frags blocks tenths) = summary_text files used free frags blocks tenths
 
 -- the bytes of messages, one after another; those of a report are what is printed where no read, no

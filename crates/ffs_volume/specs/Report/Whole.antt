@@ -18,7 +18,7 @@ use Rattle.ffs_volume.specs.Groups.GroupCheck.{phase5_lines, is_free_of_kept}
 use Rattle.ffs_volume.specs.Messages.Kinds.{Message, phase1, phase1b, phase2, phase3, phase4}
 use Rattle.ffs_volume.specs.Messages.Kinds.{phase5, of_blocks, of_names, summary, has_defect}
 use Rattle.ffs_volume.specs.Report.Opening.{super_lines, head_lines, fault_line}
-use Rattle.ffs_volume.specs.Directories.PathnameCheck.{pathname_lines, goes_on}
+use Rattle.ffs_volume.specs.Directories.PathnameCheck.{pathname_lines, continues_after_root}
 use Rattle.ffs_volume.specs.Directories.Connectivity.{connectivity_lines}
 use Rattle.ffs_volume.specs.Directories.ReferenceCheck.{reference_lines}
 use Rattle.ffs_volume.specs.Directories.Volumes.{class_at, volume_of}
@@ -64,24 +64,24 @@ group_check_lines image s =
     (class_at s.layout image))
 
 -- phases 3 to 5 and the summary
-unfoldable pub later_lines : List ℕ → Superblock → List Message
-later_lines image s =
+unfoldable pub later_phase_lines : List ℕ → Superblock → List Message
+later_phase_lines image s =
     phase3 ∷ (map of_names (connectivity_lines (volume_of s.layout image))
     ++ (phase4 ∷ (map of_names (reference_lines (volume_of s.layout image))
     ++ (phase5 ∷ (group_check_lines image s
     ++ (summary_of s (file_count s.layout image) (used_count s.layout image) ∷ []))))))
 
 -- the phases and the summary; the check stops after phase 2 where inode 2 isn't a directory
-unfoldable pub text_lines : List ℕ → Superblock → List Message
-text_lines image s =
+unfoldable pub phase_lines : List ℕ → Superblock → List Message
+phase_lines image s =
     phase1 ∷ (map of_blocks (phase1_lines s.layout (owners_of s.layout image))
     ++ (rescan_lines s.layout image
     ++ (phase2 ∷ (map of_names (pathname_lines (volume_of s.layout image))
-    ++ (if goes_on (volume_of s.layout image) then later_lines image s else [])))))
+    ++ (if continues_after_root (volume_of s.layout image) then later_phase_lines image s else [])))))
 
 -- the report on an accepted superblock, after `head_lines`
 unfoldable pub report_lines : List ℕ → Superblock → List Message
-report_lines image s = super_lines s ++ text_lines image s
+report_lines image s = super_lines s ++ phase_lines image s
 
 -- how the check ends, by whether it continues after the root and whether it has reported a defect
 abbrev pub end_by : (continues defect : Bool) → End
@@ -91,7 +91,7 @@ end_by false defect = RootStop
 
 -- how the check of an accepted superblock ends
 unfoldable pub end_of : List ℕ → Superblock → End
-end_of image s = end_by (goes_on (volume_of s.layout image)) (has_defect (report_lines image s))
+end_of image s = end_by (continues_after_root (volume_of s.layout image)) (has_defect (report_lines image s))
 
 -- what is reported of an image after `head_lines`, by the outcome of its superblock
 abbrev pub lines_by_outcome : List ℕ → Result Superblock SuperFault → List Message

@@ -1,7 +1,7 @@
 use Rattle.std.proofs.Common.{inl, inr, false}
 use Rattle.ffs_layout.specs.Super.{seen}
-use Rattle.ffs_volume.specs.Directories.PathnameCheck.{goes_on}
-use Rattle.ffs_volume.specs.Report.Whole.{text_lines}
+use Rattle.ffs_volume.specs.Directories.PathnameCheck.{continues_after_root}
+use Rattle.ffs_volume.specs.Report.Whole.{phase_lines}
 use Rattle.ffs_volume.specs.Directories.Volumes.{volume_of}
 use Rattle.ffs_check.proofs.Endings.{ran_knows}
 use Rattle.ffs_check.proofs.Taken.{not_for_memory}
@@ -13,7 +13,7 @@ run_rest-requires g c = record { ready = record { made = c.in-Ok.ensures.made; v
 pub returns-in-Ok-clause-followed : goal.returns-in-Ok-clause-followed
 returns-in-Ok-clause-followed g c =
     let s = seen c.args.found.now in
-    inr (ran_knows false _ _ (λ bytes. text_lines bytes s) (λ bytes. goes_on (volume_of s.layout bytes)) _ _ _ _ _ (λ bytes t. (t, c.in-Ok.ensures.fresh)) c.run_rest.ensures.ran)
+    inr (ran_knows false _ _ (λ bytes. phase_lines bytes s) (λ bytes. continues_after_root (volume_of s.layout bytes)) _ _ _ _ _ (λ bytes t. (t, c.in-Ok.ensures.fresh)) c.run_rest.ensures.ran)
 
 pub returns-in-Ok-clause-refused : goal.returns-in-Ok-clause-refused
 returns-in-Ok-clause-refused g c e = absurd (not_for_memory _ _ _ _ _ _ _ _ c.run_rest.ensures.ran e)

@@ -1,8 +1,8 @@
 use Rattle.std.proofs.Common.{rules, ◌∙◌}
 use Rattle.ffs_layout.specs.Super.{seen}
 use Rattle.ffs_report.specs.Progress.{progress}
-use Rattle.ffs_volume.specs.Directories.PathnameCheck.{goes_on}
-use Rattle.ffs_volume.specs.Report.Whole.{text_lines}
+use Rattle.ffs_volume.specs.Directories.PathnameCheck.{continues_after_root}
+use Rattle.ffs_volume.specs.Report.Whole.{phase_lines}
 use Rattle.ffs_volume.specs.Directories.Volumes.{volume_of}
 use Rattle.ffs_check.proofs.Endings.{opening_defect, runs_through, runs_at}
 use Rattle.ffs_check.proofs.check.check_rest.Goals as goal
@@ -10,6 +10,6 @@ use Rattle.ffs_check.proofs.check.check_rest.Goals as goal
 pub returns-clause-runs : goal.returns-clause-runs
 returns-clause-runs g c =
     let s = seen c.args.found.now in
-    runs_at _ _ (λ bytes. text_lines bytes s) (λ bytes. goes_on (volume_of s.layout bytes)) _ _ _ (g.W.Output.sink c.run_rest.new.report.out.now) _ _ (search rules)
-    (runs_through _ _ (c.opening_defects.ensures ∙ opening_defect s) _ (λ bytes. text_lines bytes s) (λ bytes. goes_on (volume_of s.layout bytes)) _ _
+    runs_at _ _ (λ bytes. phase_lines bytes s) (λ bytes. continues_after_root (volume_of s.layout bytes)) _ _ _ (g.W.Output.sink c.run_rest.new.report.out.now) _ _ (search rules)
+    (runs_through _ _ (c.opening_defects.ensures ∙ opening_defect s) _ (λ bytes. phase_lines bytes s) (λ bytes. continues_after_root (volume_of s.layout bytes)) _ _
     _ (g.W.Output.sink c.args.out.now) (progress g.W.Output.sink c.run_rest.new.report) _ (rw c.new-report.ensures at c.run_rest.ensures.ran))

@@ -1,6 +1,6 @@
 use Rattle.ffs_layout.specs.Super.{seen}
-use Rattle.ffs_volume.specs.Directories.PathnameCheck.{goes_on}
-use Rattle.ffs_volume.specs.Report.Whole.{text_lines}
+use Rattle.ffs_volume.specs.Directories.PathnameCheck.{continues_after_root}
+use Rattle.ffs_volume.specs.Report.Whole.{phase_lines}
 use Rattle.ffs_volume.specs.Directories.Volumes.{volume_of}
 use Rattle.ffs_check.proofs.Endings.{ran}
 use Rattle.ffs_check.proofs.check.run_rest.Goals as goal
@@ -8,5 +8,5 @@ use Rattle.ffs_check.proofs.check.run_rest.Goals as goal
 pub returns-clause-ran : goal.returns-clause-ran
 returns-clause-ran g c =
     let s = seen c.args.found.now in
-    ran c.args.before _ (λ bytes. text_lines bytes s) (λ bytes. goes_on (volume_of s.layout bytes)) _ _ (λ bytes k. k.0) _ _ _ _
+    ran c.args.before _ (λ bytes. phase_lines bytes s) (λ bytes. continues_after_root (volume_of s.layout bytes)) _ _ (λ bytes k. k.0) _ _ _ _
     c.run_phases-answer.result c.run_phases-answer.ensures.text c.run_phases-answer.ensures.image c.run_phases-answer.ensures.goes c.end_run.ensures

@@ -5,7 +5,7 @@ use Rattle.ffs_maps.proofs.Bits.{length_bits}
 use Rattle.ffs_volume.specs.declared.Step.{Step}
 use Rattle.ffs_volume.specs.declared.Step.TheVariants.{Gap}
 use Rattle.ffs_volume.specs.Blocks.Steps.{steps_of, walks}
-use Rattle.ffs_volume.specs.Blocks.Claims.{after_steps, after_step, steps_lines, step_lines, is_open}
+use Rattle.ffs_volume.specs.Blocks.Claims.{after_steps, after_step, lines_of_steps, step_lines, is_open}
 use Rattle.ffs_volume.proofs.Weights.{stays, kept_bound}
 use Rattle.ffs_phase.specs.Known.{ForBytes, IsContents}
 use Rattle.ffs_phase.proofs.Reporting.{of_begins, of_stops, of_reads, of_same}
@@ -24,8 +24,8 @@ returns-then-not-has_steps g c =
     record {
       image = refl;
       text = of_same _ _ _ _ _ _
-          (of_begins _ (λ bytes. of_lines (steps_lines v c.args.number s (steps_of v c.args.inode.now bytes))) _)
-          (λ bytes t. ap (λ (xs : List Step). of_lines (steps_lines v c.args.number s xs))
+          (of_begins _ (λ bytes. of_lines (lines_of_steps v c.args.number s (steps_of v c.args.inode.now bytes))) _)
+          (λ bytes t. ap (λ (xs : List Step). of_lines (lines_of_steps v c.args.number s xs))
           (no_steps v c.args.inode.now bytes none));
       claims = λ bytes t. sym (ap (after_steps v s) (no_steps v c.args.inode.now bytes none));
       moves = stays s;
@@ -50,8 +50,8 @@ loop-next-init g c =
       moves = stays s;
       claims = λ bytes t. ap (after_steps v s) (c.of_class-walk.ensures.steps bytes);
       said = of_same _ _ _ _ _ _
-          (of_begins _ (λ bytes. of_lines (steps_lines v c.args.number s (steps_of v c.args.inode.now bytes))) _)
-          (λ bytes t. ap (λ (xs : List Step). of_lines (steps_lines v c.args.number s xs))
+          (of_begins _ (λ bytes. of_lines (lines_of_steps v c.args.number s (steps_of v c.args.inode.now bytes))) _)
+          (λ bytes t. ap (λ (xs : List Step). of_lines (lines_of_steps v c.args.number s xs))
           (sym (c.of_class-walk.ensures.steps bytes)));
     }
 
@@ -180,7 +180,7 @@ loop-next-preserved-then-matches g c =
           ∙ gaps_stay v s c.skip_gaps.result (rest bytes c.skip_gaps.new.self));
       said = steps_said _ v c.args.number (claims_of c.loop-next.workspace) s (λ bytes. rest bytes c.loop-next.walk)
           (λ bytes. rest bytes c.next.new.self) _ _ c.in-Some.next _ _ _
-          inv.said next c.in_ok-step.ensures.claims (λ bytes t. ap (steps_lines v c.args.number s) (gaps bytes t)
+          inv.said next c.in_ok-step.ensures.claims (λ bytes t. ap (lines_of_steps v c.args.number s) (gaps bytes t)
           ∙ gaps_silent v c.args.number s c.skip_gaps.result (rest bytes c.skip_gaps.new.self))
           c.in_ok-step.ensures.said;
     }
@@ -266,7 +266,7 @@ returns-in_default g c =
     record {
       image = ok ∙ inv.device;
       text = of_same _ _ _ _ _ _ inv.said
-          (λ bytes t. ap (λ (xs : List Step). of_lines (steps_lines v c.args.number s xs)) (over bytes t));
+          (λ bytes t. ap (λ (xs : List Step). of_lines (lines_of_steps v c.args.number s xs)) (over bytes t));
       claims = λ bytes t. sym (ap (after_steps v s) (over bytes t)) ∙ inv.claims bytes t;
       moves = inv.moves;
       bound = omega (

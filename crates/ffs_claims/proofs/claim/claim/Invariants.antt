@@ -3,7 +3,7 @@ use Rattle.ffs_report.specs.Progress.{progress}
 use Rattle.ffs_phase.specs.Known.{ForBytes, IsContents}
 use Rattle.ffs_phase.specs.Runs.{SaidOf}
 use Rattle.ffs_volume.specs.Blocks.Steps.{steps_of}
-use Rattle.ffs_volume.specs.Blocks.Claims.{after_steps, steps_lines, is_open}
+use Rattle.ffs_volume.specs.Blocks.Claims.{after_steps, lines_of_steps, is_open}
 use Rattle.ffs_volume.specs.Blocks.ClaimBounds.{ClaimBound}
 use Rattle.ffs_walk.specs.Rests.{rest, left}
 use Rattle.ffs_workspace.specs.Holds.{claims_of}
@@ -26,8 +26,8 @@ invariant-loop-next g l = record {
       after_steps l.geometry.layout (claims_of l.workspace) (rest bytes l.walk)
       ≡ after_steps l.geometry.layout (claims_of l.initial.workspace) (steps_of l.geometry.layout l.inode bytes));
   said : SaidOf (IsContents (g.I.Image.device l.initial.image).contents)
-      (λ bytes. of_lines (steps_lines l.geometry.layout l.number (claims_of l.workspace) (rest bytes l.walk)))
-      (λ bytes. of_lines (steps_lines l.geometry.layout l.number (claims_of l.initial.workspace) (steps_of l.geometry.layout l.inode bytes)))
+      (λ bytes. of_lines (lines_of_steps l.geometry.layout l.number (claims_of l.workspace) (rest bytes l.walk)))
+      (λ bytes. of_lines (lines_of_steps l.geometry.layout l.number (claims_of l.initial.workspace) (steps_of l.geometry.layout l.inode bytes)))
       (progress g.W.Output.sink l.initial.report) (progress g.W.Output.sink l.report);
 }
 

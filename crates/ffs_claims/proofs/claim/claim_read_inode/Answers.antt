@@ -3,7 +3,7 @@ use Rattle.std.proofs.lemmas.Result.{err_from_is_err_and}
 use Rattle.ffs_maps.proofs.Bits.{length_bits}
 use Rattle.ffs_volume.specs.Blocks.Steps.{steps_of}
 use Rattle.ffs_volume.specs.Blocks.BlockCheck.{count_lines}
-use Rattle.ffs_volume.specs.Blocks.Claims.{Claims, steps_lines, after_steps}
+use Rattle.ffs_volume.specs.Blocks.Claims.{Claims, lines_of_steps, after_steps}
 use Rattle.ffs_volume.proofs.Weights.{kept_bound}
 use Rattle.ffs_phase.proofs.Reporting.{of_part, of_fault, of_says, of_stops}
 use Rattle.ffs_workspace.specs.Holds.{claims_of}
@@ -29,7 +29,7 @@ returns-in_err-claim-clause-text g c =
     let p = err_from_is_err_and c.from_residual-in_err-claim.result c.from_residual-in_err-claim.ensures.1 in
     let v = c.args.geometry.now.layout in
     let s1 = claims_of c.begin.new.workspace in
-    rw (p.1, p.2) (of_fault (Unit {0}) (Unit {0}) _ _ (λ bytes. of_lines (steps_lines v c.args.number s1 (steps_of v c.args.inode.now bytes)))
+    rw (p.1, p.2) (of_fault (Unit {0}) (Unit {0}) _ _ (λ bytes. of_lines (lines_of_steps v c.args.number s1 (steps_of v c.args.inode.now bytes)))
     (λ bytes. of_lines (count_lines v (counted_owner c.args.number c.class_of-class.result c.args.inode.now.blocks) (after_steps v s1 (steps_of v c.args.inode.now bytes))))
     _ _ _ _ _
     (class_said _ v c.args.number c.args.inode.now (claims_of c.args.workspace.now) s1 c.class_of-class.result _ _
@@ -42,7 +42,7 @@ returns-in_err-say_count-clause-text g c =
     let v = c.args.geometry.now.layout in
     let s1 = claims_of c.begin.new.workspace in
     rw (p.1, p.2) (of_stops _ _ (λ bytes. []) _ (of_lines (count_lines v (counted_owner c.args.number c.class_of-class.result c.args.inode.now.blocks) (claims_of c.claim.new.workspace))) _ _ _
-    (of_part _ _ (λ bytes. of_lines (steps_lines v c.args.number s1 (steps_of v c.args.inode.now bytes)))
+    (of_part _ _ (λ bytes. of_lines (lines_of_steps v c.args.number s1 (steps_of v c.args.inode.now bytes)))
     (λ bytes. of_lines (count_lines v (counted_owner c.args.number c.class_of-class.result c.args.inode.now.blocks) (after_steps v s1 (steps_of v c.args.inode.now bytes)))) _ _ _ _
     (class_said _ v c.args.number c.args.inode.now (claims_of c.args.workspace.now) s1 c.class_of-class.result _ _
     (ap claims_of c.begin.ensures) c.class_of-class.ensures c.in_ok-say_class.ensures)
@@ -55,7 +55,7 @@ returns-clause-text g c =
     let v = c.args.geometry.now.layout in
     let s1 = claims_of c.begin.new.workspace in
     of_says _ _ (λ bytes. []) _ (of_lines (count_lines v (counted_owner c.args.number c.class_of-class.result c.args.inode.now.blocks) (claims_of c.claim.new.workspace))) _ _ _
-    (of_part _ _ (λ bytes. of_lines (steps_lines v c.args.number s1 (steps_of v c.args.inode.now bytes)))
+    (of_part _ _ (λ bytes. of_lines (lines_of_steps v c.args.number s1 (steps_of v c.args.inode.now bytes)))
     (λ bytes. of_lines (count_lines v (counted_owner c.args.number c.class_of-class.result c.args.inode.now.blocks) (after_steps v s1 (steps_of v c.args.inode.now bytes)))) _ _ _ _
     (class_said _ v c.args.number c.args.inode.now (claims_of c.args.workspace.now) s1 c.class_of-class.result _ _
     (ap claims_of c.begin.ensures) c.class_of-class.ensures c.in_ok-say_class.ensures)

@@ -2,7 +2,7 @@ use Rattle.std.proofs.Common.{inl, inr, arith, refl, sym, ◌∷◌, ◌+◌, �
 use Rattle.std.proofs.lemmas.Bool.{cases_lt}
 use Rattle.std.proofs.lemmas.Result.{err_from_is_err_and}
 use Rattle.ffs_phase.proofs.Reporting.{of_begins, of_says, of_part, of_fault, of_stops, of_same, reports_knowing, said_knows}
-use Rattle.ffs_volume.specs.Blocks.BlockCheck.{owner_lines, owners_lines, phase1_lines}
+use Rattle.ffs_volume.specs.Blocks.BlockCheck.{owner_lines, lines_of_owners, phase1_lines}
 use Rattle.ffs_volume.specs.Blocks.Claims.{Claims, after_owner}
 use Rattle.ffs_volume.specs.Messages.Kinds.{Message, phase1}
 use Rattle.ffs_volume.specs.Blocks.Owners.{owner_of, owners_of}
@@ -41,7 +41,7 @@ loop-number-init g c =
       kinds = λ bytes k. filled_begin 0 (kind_at v bytes) c.reserve.new.workspace.kinds.items (inodes_of v) (ap (λ w. w.items) found.kinds ∙ k.1.kinds) (λ x low. kind_out v bytes x (is_outside v x (inl low)));
       marked = λ bytes k. filled_begin false (first_marked_at v bytes) c.reserve.new.workspace.marked.items (inodes_of v) (ap (λ w. w.items) found.marked ∙ k.1.marked) (λ x low. mark_out v bytes x (is_outside v x (inl low)));
       cut = λ bytes k. filled_begin 0 (cut_at v bytes) c.reserve.new.workspace.cut.items (inodes_of v) (ap (λ w. w.items) found.cut ∙ k.1.cut) (λ x low. cut_out v bytes x (is_outside v x (inl low)));
-      said = of_says _ (λ bytes. phase1 ∷ of_lines (phase1_lines v (owners_of v bytes))) (λ bytes. of_lines (owners_lines v s (owners_from v bytes 2))) _ (phase1 ∷ []) _ _ _
+      said = of_says _ (λ bytes. phase1 ∷ of_lines (phase1_lines v (owners_of v bytes))) (λ bytes. of_lines (lines_of_owners v s (owners_from v bytes 2))) _ (phase1 ∷ []) _ _ _
           (of_begins _ (λ bytes. phase1 ∷ of_lines (phase1_lines v (owners_of v bytes))) _)
           (λ bytes k. ap (λ (xs : List Message). phase1 ∷ xs) (first_lines v bytes s (c.reserve.ensures.claims k.1)))
           c.in_ok-say.ensures.said;
@@ -66,8 +66,8 @@ returns-in_err-claim_inode-clause-text g c =
     let inv = c.loop-number.invariant in
     let s = claims_of c.loop-number.workspace in
     let n = c.loop-number.number in
-    rw (p.1, p.2) (of_fault (Unit {0}) (Unit {0}) _ (λ bytes. of_lines (owners_lines v s (owners_from v bytes n))) (λ bytes. of_lines (owner_lines v s (owner_of v bytes n)))
-    (λ bytes. of_lines (owners_lines v (after_owner v s (owner_of v bytes n)) (owners_from v bytes (n + 1)))) _ _ _ _ c.in_err-claim_inode.field-0.0
+    rw (p.1, p.2) (of_fault (Unit {0}) (Unit {0}) _ (λ bytes. of_lines (lines_of_owners v s (owners_from v bytes n))) (λ bytes. of_lines (owner_lines v s (owner_of v bytes n)))
+    (λ bytes. of_lines (lines_of_owners v (after_owner v s (owner_of v bytes n)) (owners_from v bytes (n + 1)))) _ _ _ _ c.in_err-claim_inode.field-0.0
     inv.said (λ bytes t. lines_next v bytes s (after_owner v s (owner_of v bytes n)) n (omega arith) refl)
     (reports_knowing (Unit {0}) _ _ _ _ _ (Err c.in_err-claim_inode.field-0.0) (λ bytes k. ap (λ d. d.contents) inv.device ∙ k.0) c.in_err-claim_inode.ensures.text))
 
@@ -105,12 +105,12 @@ loop-number-preserved g c =
       cut = λ bytes k. filled_next 0 (cut_at v bytes) c.loop-number.workspace.cut.items c.claim_inode.new.workspace.cut.items n _
           (omega (arith, inv.ready.made.cut)) (stored bytes (contents ∙ k.0)).cut
           (cut_in v bytes n s s' inside (inv.claims bytes k) (now bytes (contents ∙ k.0))) (inv.cut bytes k);
-      said = of_same _ (λ bytes. of_lines (owners_lines v (after_owner v s (owner_of v bytes n)) (owners_from v bytes (n + 1)))) (λ bytes. of_lines (owners_lines v s' (owners_from v bytes (n + 1)))) _ _ _
-          (of_part _ (λ bytes. of_lines (owners_lines v s (owners_from v bytes n))) (λ bytes. of_lines (owner_lines v s (owner_of v bytes n)))
-          (λ bytes. of_lines (owners_lines v (after_owner v s (owner_of v bytes n)) (owners_from v bytes (n + 1)))) _ _ _ _ inv.said
+      said = of_same _ (λ bytes. of_lines (lines_of_owners v (after_owner v s (owner_of v bytes n)) (owners_from v bytes (n + 1)))) (λ bytes. of_lines (lines_of_owners v s' (owners_from v bytes (n + 1)))) _ _ _
+          (of_part _ (λ bytes. of_lines (lines_of_owners v s (owners_from v bytes n))) (λ bytes. of_lines (owner_lines v s (owner_of v bytes n)))
+          (λ bytes. of_lines (lines_of_owners v (after_owner v s (owner_of v bytes n)) (owners_from v bytes (n + 1)))) _ _ _ _ inv.said
           (λ bytes k. lines_next v bytes s (after_owner v s (owner_of v bytes n)) n lt refl)
           (said_knows _ _ _ _ _ _ (λ bytes k. contents ∙ k.0) c.in_ok-claim_inode.ensures.text))
-          (λ bytes k. ap (λ (t : Claims). of_lines (owners_lines v t (owners_from v bytes (n + 1)))) (sym (now bytes (contents ∙ k.0))));
+          (λ bytes k. ap (λ (t : Claims). of_lines (lines_of_owners v t (owners_from v bytes (n + 1)))) (sym (now bytes (contents ∙ k.0))));
     }
 
 pub returns-clause-text : goal.returns-clause-text
@@ -118,7 +118,7 @@ returns-clause-text g c =
     let v = c.args.geometry.now.layout in
     let inv = c.loop-number.invariant in
     let s = claims_of c.loop-number.workspace in
-    of_same _ (λ bytes. of_lines (owners_lines v s (owners_from v bytes c.loop-number.number))) (λ bytes. []) _ _ _ inv.said
+    of_same _ (λ bytes. of_lines (lines_of_owners v s (owners_from v bytes c.loop-number.number))) (λ bytes. []) _ _ _ inv.said
     (λ bytes k. lines_end v bytes s c.loop-number.number (omega arith))
 
 pub returns-clause-holds : goal.returns-clause-holds

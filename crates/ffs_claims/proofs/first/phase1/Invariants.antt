@@ -2,7 +2,7 @@ use Rattle.std.proofs.Common.{◌≡◌, ◌+◌, ◌-◌, ◌*◌, ◌<◌, ◌
 use Rattle.ffs_report.specs.Progress.{progress}
 use Rattle.ffs_phase.specs.Known.{ForBytes, IsContents}
 use Rattle.ffs_phase.specs.Runs.{SaidOf}
-use Rattle.ffs_volume.specs.Blocks.BlockCheck.{owners_lines, phase1_lines}
+use Rattle.ffs_volume.specs.Blocks.BlockCheck.{lines_of_owners, phase1_lines}
 use Rattle.ffs_volume.specs.Blocks.KeptSteps.{claims_before}
 use Rattle.ffs_volume.specs.Messages.Kinds.{phase1}
 use Rattle.ffs_volume.specs.Blocks.Owners.{owners_of}
@@ -33,7 +33,7 @@ invariant-loop-number g l = record {
   cut : ForBytes (λ bytes. IsContents (g.I.Image.device l.fn.image).contents bytes × IsFresh l.geometry.layout l.fn.workspace) (λ bytes.
       FilledTo 0 (cut_at l.geometry.layout bytes) l.workspace.cut.items l.number);
   said : SaidOf (λ bytes. IsContents (g.I.Image.device l.fn.image).contents bytes × IsFresh l.geometry.layout l.fn.workspace)
-      (λ bytes. of_lines (owners_lines l.geometry.layout (claims_of l.workspace) (owners_from l.geometry.layout bytes l.number)))
+      (λ bytes. of_lines (lines_of_owners l.geometry.layout (claims_of l.workspace) (owners_from l.geometry.layout bytes l.number)))
       (λ bytes. phase1 ∷ of_lines (phase1_lines l.geometry.layout (owners_of l.geometry.layout bytes)))
       (progress g.W.Output.sink l.fn.report) (progress g.W.Output.sink l.report);
 }

@@ -1,7 +1,7 @@
 use Rattle.std.proofs.Common.{arith, refl, ap, ◌+◌, ◌∙◌, List, ℕ}
 use Rattle.std.specs.List.{range_with_len}
 use Rattle.std.proofs.lemmas.Result.{err_from_is_err_and}
-use Rattle.ffs_volume.specs.Blocks.Claims.{offer_lines, offers_lines, after_offers}
+use Rattle.ffs_volume.specs.Blocks.Claims.{offer_lines, lines_of_offers, after_offers}
 use Rattle.ffs_workspace.specs.Holds.{claims_of}
 use Rattle.ffs_phase.proofs.Reporting.{to_begins, to_says, to_stops}
 use Rattle.ffs_claims.specs.Lines.{of_lines}
@@ -51,6 +51,6 @@ loop-place-init g c =
       only = offers_none c.args.geometry.now.layout c.args.workspace.now c.requires.made;
       kept = omega arith;
       claims = ap (after_offers v s) (from_start c.args.start c.args.len);
-      said = to_same _ _ _ _ _ (to_begins (of_lines (offers_lines v c.args.number s (range_with_len c.args.start c.args.len))) _)
-          (ap (λ (fs : List ℕ). of_lines (offers_lines v c.args.number s fs)) (from_start c.args.start c.args.len));
+      said = to_same _ _ _ _ _ (to_begins (of_lines (lines_of_offers v c.args.number s (range_with_len c.args.start c.args.len))) _)
+          (ap (λ (fs : List ℕ). of_lines (lines_of_offers v c.args.number s fs)) (from_start c.args.start c.args.len));
     }

@@ -2,7 +2,7 @@ use Rattle.std.proofs.Common.{◌≡◌, ◌+◌, ◌≤◌, ◌-◌}
 use Rattle.std.specs.List.{range_with_len}
 use Rattle.ffs_report.specs.Progress.{progress}
 use Rattle.ffs_phase.specs.Runs.{SaidTo}
-use Rattle.ffs_volume.specs.Blocks.Claims.{after_offers, offers_lines}
+use Rattle.ffs_volume.specs.Blocks.Claims.{after_offers, lines_of_offers}
 use Rattle.ffs_workspace.specs.Holds.{claims_of}
 use Rattle.ffs_claims.specs.Leaves.{OffersOnly}
 use Rattle.ffs_claims.specs.Lines.{of_lines}
@@ -14,7 +14,7 @@ invariant-loop-place g l = record {
   kept : l.workspace.kept ≤ l.initial.workspace.kept + l.place;
   claims : after_offers l.geometry.layout (claims_of l.initial.workspace) (range_with_len l.start l.len)
       ≡ after_offers l.geometry.layout (claims_of l.workspace) (range_with_len (l.start + l.place) (l.len - l.place));
-  said : SaidTo (of_lines (offers_lines l.geometry.layout l.number (claims_of l.workspace) (range_with_len (l.start + l.place) (l.len - l.place))))
-      (of_lines (offers_lines l.geometry.layout l.number (claims_of l.initial.workspace) (range_with_len l.start l.len)))
+  said : SaidTo (of_lines (lines_of_offers l.geometry.layout l.number (claims_of l.workspace) (range_with_len (l.start + l.place) (l.len - l.place))))
+      (of_lines (lines_of_offers l.geometry.layout l.number (claims_of l.initial.workspace) (range_with_len l.start l.len)))
       (progress g.W.Output.sink l.initial.report) (progress g.W.Output.sink l.report);
 }

@@ -1,6 +1,6 @@
 use Rattle.std.proofs.Common.{ap, ◌∙◌, nat_eq}
 use Rattle.std.proofs.Math.Facts.{Fits-lt-pow}
-use Rattle.ffs_volume.specs.Groups.Records.{is_magic, is_record, are_places, are_maps, has_summary}
+use Rattle.ffs_volume.specs.Groups.Records.{has_right_magic, has_right_record, maps_fit, has_right_maps, has_summary}
 use Rattle.ffs_maps.specs.Bits.{bits_of}
 use Rattle.ffs_groups.specs.Check.{same_counts}
 use Rattle.ffs_groups.specs.Free.{free_in}
@@ -9,7 +9,7 @@ use Rattle.ffs_groups.proofs.Checks.{sums_as, summary_as}
 use Rattle.ffs_groups.proofs.check.compare_group.Goals as goal
 
 pub returns : goal.returns
-unfolding is_magic is_record are_places are_maps
+unfolding has_right_magic has_right_record maps_fit has_right_maps
 returns c = record {
   magic = ap (λ g. nat_eq g.magic 590421) c.decode-found.ensures;
   counts = c.same_summary.ensures ∙ ap (λ r. same_counts r c.args.counts.now.summary) c.decode-record.ensures

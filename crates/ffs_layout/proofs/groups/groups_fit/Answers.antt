@@ -1,5 +1,5 @@
 use Rattle.std.proofs.Common.{sym, rules, arith, refl, ◌≡◌, true, false}
-use Rattle.ffs_volume.specs.Disk.Outcome.{is_group}
+use Rattle.ffs_volume.specs.Disk.Outcome.{has_valid_group}
 use Rattle.ffs_volume.specs.Disk.Numbers.{all_below}
 use Rattle.ffs_layout.proofs.Below.{all_below-more, all_below-fails}
 use Rattle.ffs_layout.proofs.groups.groups_fit.Goals as goal
@@ -10,10 +10,10 @@ loop-group-init c = refl
 
 pub returns-then-not-group_fits : goal.returns-then-not-group_fits
 returns-then-not-group_fits c =
-    let fails : is_group c.args.v.now c.loop-group.group ≡ false = search rules in
-    sym (all_below-fails c.args.v.now.ncg c.loop-group.group (is_group c.args.v.now) (omega arith) fails)
+    let fails : has_valid_group c.args.v.now c.loop-group.group ≡ false = search rules in
+    sym (all_below-fails c.args.v.now.ncg c.loop-group.group (has_valid_group c.args.v.now) (omega arith) fails)
 
 pub loop-group-preserved : goal.loop-group-preserved
 loop-group-preserved c =
-    let passes : is_group c.args.v.now c.loop-group.group ≡ true = search rules in
-    all_below-more c.loop-group.group (is_group c.args.v.now) c.loop-group.invariant passes
+    let passes : has_valid_group c.args.v.now c.loop-group.group ≡ true = search rules in
+    all_below-more c.loop-group.group (has_valid_group c.args.v.now) c.loop-group.invariant passes

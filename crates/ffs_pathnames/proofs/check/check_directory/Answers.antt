@@ -1,7 +1,7 @@
 use Rattle.std.proofs.Common.{refl, sym, ap, ◌∙◌, ℕ, List, map, Err}
 use Rattle.std.proofs.lemmas.Result.{err_from_is_err_and}
 use Rattle.ffs_volume.specs.Messages.Kinds.{of_names}
-use Rattle.ffs_volume.specs.Directories.PathnameCheck.{dir_lines, entry_lines}
+use Rattle.ffs_volume.specs.Directories.PathnameCheck.{dir_lines, lines_of_entries}
 use Rattle.ffs_volume.specs.Directories.Roles.{roled_entries}
 use Rattle.ffs_volume.specs.Directories.Volumes.{volume_of}
 use Rattle.ffs_phase.proofs.Reporting.{of_begins, of_part, of_fault, of_last, said_knows, reports_knowing}
@@ -19,8 +19,8 @@ returns-in_err-examined-clause-text g c =
     let v = c.args.geometry.now.layout in
     let all = λ (b : List ℕ). map of_names (dir_lines (volume_of v b) c.args.dir) in
     rw (p.1, p.2) (of_fault DirectorySummary (Unit {0}) _ all (λ b. map of_names (dir_starts (volume_of v b) c.args.dir))
-    (λ b. map of_names (entry_lines (volume_of v b) c.args.dir 0 (roled_entries (volume_of v b) c.args.dir))) all _ _ _ c.in_err-examined.field-0.0 (of_begins _ all _)
-    (λ b k. lines_parts (volume_of v b) c.args.dir (entry_lines (volume_of v b) c.args.dir 0 (roled_entries (volume_of v b) c.args.dir)) refl)
+    (λ b. map of_names (lines_of_entries (volume_of v b) c.args.dir 0 (roled_entries (volume_of v b) c.args.dir))) all _ _ _ c.in_err-examined.field-0.0 (of_begins _ all _)
+    (λ b k. lines_parts (volume_of v b) c.args.dir (lines_of_entries (volume_of v b) c.args.dir 0 (roled_entries (volume_of v b) c.args.dir)) refl)
     (reports_knowing DirectorySummary _ _ _ _ _ (Err c.in_err-examined.field-0.0) (λ b k. k.0) c.in_err-examined.ensures.text))
 
 pub returns-then-examined-clause-text : goal.returns-then-examined-clause-text

@@ -1,6 +1,6 @@
 use Rattle.std.proofs.Common.{ℕ, ◌≡◌, ◌+◌, ◌-◌, ◌≤◌, slice_index, count_by}
 use Rattle.std.specs.Prelude.{◌==◌}
-use Rattle.ffs_volume.specs.Groups.Records.{free_runs}
+use Rattle.ffs_volume.specs.Groups.Records.{free_stretches}
 use Rattle.ffs_groups.specs.Free.{word_bits}
 use Rattle.ffs_groups.proofs.free.FreeCounts.add_loose.Given as goal
 
@@ -10,8 +10,8 @@ invariant-loop-place l = record {
       (word_bits l.bits l.place (l.frag - l.place)) ≡ l.initial.self.fragments + count_by (λ f. f)
       (word_bits l.bits 0 l.frag);
   runs : (k : ℕ) → slice_index l.self.runs k + count_by (λ n. n == k)
-      (free_runs l.run (word_bits l.bits l.place (l.frag - l.place)))
-      ≡ slice_index l.initial.self.runs k + count_by (λ n. n == k) (free_runs 0 (word_bits l.bits 0 l.frag));
+      (free_stretches l.run (word_bits l.bits l.place (l.frag - l.place)))
+      ≡ slice_index l.initial.self.runs k + count_by (λ n. n == k) (free_stretches 0 (word_bits l.bits 0 l.frag));
   run : l.run ≤ l.place;
   blocks : l.self.blocks ≡ l.initial.self.blocks;
 }
