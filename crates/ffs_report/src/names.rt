@@ -236,8 +236,8 @@ fn print_dir<'x, W: Output>(
 
 /// What is wrong with a directory as a whole.
 pub fn print_directory<W: Output>(out: &mut W, line: &DirectoryLine<'_>) -> Result<(), OutFault>
-    ensures { Prints (W.sink out.old) (W.sink out.new) (name_message_text (directory_message line.now))
-        result }
+    ensures { Prints (W.sink out.old) (W.sink out.new) (name_message_text
+        (directory_message line.now)) result }
 {
     match *line {
         DirectoryLine::RootNone => print(out, ROOT_NONE),
@@ -258,7 +258,8 @@ pub fn print_directory<W: Output>(out: &mut W, line: &DirectoryLine<'_>) -> Resu
 
 /// What is wrong with the entries `.` and `..` of a directory.
 pub fn print_dot<W: Output>(out: &mut W, line: &DotLine<'_>) -> Result<(), OutFault>
-    ensures { Prints (W.sink out.old) (W.sink out.new) (name_message_text (dot_message line.now)) result }
+    ensures { Prints (W.sink out.old) (W.sink out.new) (name_message_text
+        (dot_message line.now)) result }
 {
     match *line {
         DotLine::MissingDot { attr, path } => print_dir(out, MISSING_DOT, &attr, path, FIX),
@@ -290,7 +291,8 @@ pub fn print_dot<W: Output>(out: &mut W, line: &DotLine<'_>) -> Result<(), OutFa
 
 /// What is wrong with a further entry of a directory.
 pub fn print_entry<W: Output>(out: &mut W, line: &EntryLine<'_>) -> Result<(), OutFault>
-    ensures { Prints (W.sink out.old) (W.sink out.new) (name_message_text (entry_message line.now)) result }
+    ensures { Prints (W.sink out.old) (W.sink out.new) (name_message_text
+        (entry_message line.now)) result }
 {
     match *line {
         EntryLine::OutOfRange { number, path } => print_numbered(
@@ -322,8 +324,8 @@ pub fn print_entry<W: Output>(out: &mut W, line: &EntryLine<'_>) -> Result<(), O
 
 /// What is wrong with an inode by the entries that name it.
 pub fn print_reference<W: Output>(out: &mut W, line: &ReferenceLine) -> Result<(), OutFault>
-    ensures { Prints (W.sink out.old) (W.sink out.new) (name_message_text (reference_message line.now))
-        result }
+    ensures { Prints (W.sink out.old) (W.sink out.new) (name_message_text
+        (reference_message line.now)) result }
 {
     match *line {
         ReferenceLine::UnrefDir { attr } => print_inode(

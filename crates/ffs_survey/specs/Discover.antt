@@ -128,7 +128,7 @@ pub record IsRead (g : Graph) (kinds : List ℕ) (r : List Bool) (n : ℕ) (f : 
   pub parents : (x : ℕ) → x < g.count
       → number_at p' x ≡ unwrap_or (first_below (is_free_edge g kinds r x) n) (number_at p x)
 
--- a level is in the queue from `low` to `high`, and behind it there is room for all that isn't reached yet
+-- a level is in the queue from `low` to `high`, and after it there is room for all that isn't reached yet
 pub record HasRoom (low high : ℕ) (r : List Bool) (q : List ℕ) : Type 0 where
   pub ordered : low ≤ high
   pub room : high + unset r ≤ length q

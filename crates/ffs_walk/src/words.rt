@@ -40,7 +40,8 @@ pub fn zeros_end(geometry: &Geometry, block: &[u8], next: u32, used: u32) -> u32
     requires block { length block.now ≡ geometry.now.layout.bsize }
     requires words { (next ≤ used) × (used ≤ geometry.now.layout.nindir) }
     ensures within { (next ≤ result) × (result ≤ used) }
-    ensures zeros { (k : ℕ) → next ≤ k → k < result → address_in geometry.now.layout block.now k ≡ 0 }
+    ensures zeros { (k : ℕ) → next ≤ k → k < result
+        → address_in geometry.now.layout block.now k ≡ 0 }
 {
     for j in next..used {
         if word(geometry, block, j) != 0 {
