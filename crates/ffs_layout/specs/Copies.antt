@@ -6,7 +6,8 @@ use Rattle.ffs_volume.specs.declared.SuperFault.{SuperFault}
 use Rattle.ffs_volume.specs.declared.SuperFault.TheVariants.{CannotRead, Disagree}
 use Rattle.ffs_volume.specs.Disk.Numbers.{piece}
 use Rattle.ffs_volume.specs.Disk.Outcome.{copy_agrees, copy_place}
-use Rattle.ffs_volume.specs.Disk.Superblock.{SUPERBLOCK_BYTES, DEV_BSIZE, layout_of}
+use Rattle.ffs_volume.specs.Disk.Superblock.{layout_of}
+use Rattle.ffs_volume.specs.declared.constants.TheConstants.{SUPERBLOCK_BYTES, DEV_BSIZE}
 
 -- the bytes of the superblock at a place, which lies in the image
 pub record IsCopy (old new : Device) (at : ℕ) (copy : List ℕ) : Type 0 where
