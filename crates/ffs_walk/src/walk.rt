@@ -204,8 +204,9 @@ impl Walk {
         let index = self.next;
         let address = self.addresses[index as usize];
         self.next += 1;
-        if u64::from(index) < NDADDR {
-            return Some(self.data(address, u64::from(index)));
+        let block = u64::from(index);
+        if block < NDADDR {
+            return Some(self.data(address, block));
         }
         let words = u64::from(self.geometry.layout.nindir);
         match index {

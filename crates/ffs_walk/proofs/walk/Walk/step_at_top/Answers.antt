@@ -8,9 +8,9 @@ use Rattle.ffs_walk.proofs.walk.Walk.step_at_top.Goals as goal
 pub returns-then-self-clause-steps : goal.returns-then-self-clause-steps
 returns-then-self-clause-steps c = λ bytes. top_ends bytes c.args.self.now c.if-self.true c.requires.single c.requires.double c.requires.triple
 
-pub returns-then-from-lt-NDADDR-clause-steps : goal.returns-then-from-lt-NDADDR-clause-steps
-returns-then-from-lt-NDADDR-clause-steps c =
-    λ bytes. top_data bytes c.args.self.now _ c.from.result c.data.result c.if-self.false c.if-from-lt-NDADDR.true
+pub returns-then-block-lt-NDADDR-clause-steps : goal.returns-then-block-lt-NDADDR-clause-steps
+returns-then-block-lt-NDADDR-clause-steps c =
+    λ bytes. top_data bytes c.args.self.now _ c.from.result c.data.result c.if-self.false c.if-block-lt-NDADDR.true
     c.requires.single c.requires.double c.requires.triple refl c.from.ensures c.data.ensures.step
 
 pub returns-in-12-clause-steps : goal.returns-in-12-clause-steps
@@ -32,8 +32,8 @@ returns-in_default-clause-steps c =
     c.from-words.ensures c.requires.single c.requires.double c.requires.triple
     (c.enter-step-in_default.ensures.steps bytes (steps_at (extent_of c.args.self.now) bytes 2))
 
-pub returns-then-from-lt-NDADDR-clause-left : goal.returns-then-from-lt-NDADDR-clause-left
-returns-then-from-lt-NDADDR-clause-left c =
+pub returns-then-block-lt-NDADDR-clause-left : goal.returns-then-block-lt-NDADDR-clause-left
+returns-then-block-lt-NDADDR-clause-left c =
     let words = c.args.self.now.geometry.layout.nindir in
     let s = frame_left (most_at words 0) c.args.self.now.single in
     let d = frame_left (most_at words 1) c.args.self.now.double in
@@ -86,11 +86,11 @@ invariant_of-self c =
       triple_fits = w.triple_fits;
     }
 
-pub returns-then-from-lt-NDADDR-clause-none : goal.returns-then-from-lt-NDADDR-clause-none
-returns-then-from-lt-NDADDR-clause-none c = λ e. absurd (no_step c.data.result e)
+pub returns-then-block-lt-NDADDR-clause-none : goal.returns-then-block-lt-NDADDR-clause-none
+returns-then-block-lt-NDADDR-clause-none c = λ e. absurd (no_step c.data.result e)
 
-pub returns-then-from-lt-NDADDR-clause-over : goal.returns-then-from-lt-NDADDR-clause-over
-returns-then-from-lt-NDADDR-clause-over c = not_over c.args.self.now.next c.args.self.now.used c.data.result c.if-self.false
+pub returns-then-block-lt-NDADDR-clause-over : goal.returns-then-block-lt-NDADDR-clause-over
+returns-then-block-lt-NDADDR-clause-over c = not_over c.args.self.now.next c.args.self.now.used c.data.result c.if-self.false
 
 pub invariant_of-self-in-12 : goal.invariant_of-self-in-12
 invariant_of-self-in-12 c =
