@@ -10,8 +10,9 @@ returns-then-self-clause-steps c = λ bytes. top_ends bytes c.args.self.now c.if
 
 pub returns-then-block-lt-NDADDR-clause-steps : goal.returns-then-block-lt-NDADDR-clause-steps
 returns-then-block-lt-NDADDR-clause-steps c =
-    λ bytes. top_data bytes c.args.self.now _ c.from-block.result c.data.result c.if-self.false c.if-block-lt-NDADDR.true
-    c.requires.single c.requires.double c.requires.triple refl c.from.ensures c.data.ensures.step
+    λ bytes. top_data bytes c.args.self.now _ c.from-block.result c.data.result c.if-self.false
+    (rw c.from-block.ensures at c.if-block-lt-NDADDR.true)
+    c.requires.single c.requires.double c.requires.triple refl c.from-block.ensures c.data.ensures.step
 
 pub returns-in-12-clause-steps : goal.returns-in-12-clause-steps
 returns-in-12-clause-steps c =
