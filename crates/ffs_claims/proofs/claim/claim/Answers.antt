@@ -190,21 +190,21 @@ loop-next-preserved g c =
     let inv = c.loop-next.invariant in
     let v = c.args.geometry.now.layout in
     let s = claims_of c.step.new.workspace in
-    let ok = c.in_ok-next.ensures.ok in
+    let ok = c.in_ok-next.ensures.read in
     let next = rw (inv.device, c.in-Some.is) at c.in_ok-next.ensures.steps in
     let read = ready_walked c.args.geometry.now _ _ _ c.loop-next.workspace c.next.new.blocks inv.geometry ok
-    c.next.ensures.size c.next.ensures.holds inv.ready in
+    c.next.ensures.kept.size c.next.ensures.kept.holds inv.ready in
     let ready = ready_still v _ _ _ c.step.ensures.only.made c.step.ensures.only.windows read in
     record {
       ready = ready;
       area = c.step.ensures.area;
       open_still = sym c.is_open.ensures ∙ c.if-not-is_open.false;
-      geometry = c.in_ok-next.ensures.geometry ∙ inv.geometry;
+      geometry = c.in_ok-next.ensures.same.geometry ∙ inv.geometry;
       device = ok ∙ inv.device;
       found = found_then _ _ _ (found_still _ _ _ inv.found) c.step.ensures.only.found;
       moves = moves_on v (claims_of c.args.workspace.now) (claims_of c.loop-next.workspace) (claims_of c.step.new.workspace) c.in-Some.next
           (length_bits _ _ ∙ inv.ready.made.claimed) c.args.geometry.now.sound.sizes.frag_high
-          (rw (inv.geometry, c.in-Some.is) at c.in_ok-next.ensures.length) c.in_ok-step.ensures.claims inv.moves;
+          (rw (inv.geometry, c.in-Some.is) at c.in_ok-next.ensures.fits).length c.in_ok-step.ensures.claims inv.moves;
       claims = claims_on _ v (claims_of c.loop-next.workspace) s (λ bytes. rest bytes c.loop-next.walk)
           (λ bytes. rest bytes c.next.new.self) _ _ c.in-Some.next
           next c.in_ok-step.ensures.claims inv.claims (λ bytes t. refl);

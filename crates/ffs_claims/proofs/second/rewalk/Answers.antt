@@ -162,18 +162,18 @@ loop-next-preserved g c =
     let d = bits_of c.loop-next.workspace.duplicates in
     let d' = bits_of c.report_again.new.workspace.duplicates in
     let r' = c.report_again.new.rescan in
-    let ok = c.in_ok-next.ensures.ok in
+    let ok = c.in_ok-next.ensures.read in
     let now = c.in_ok-report_again.ensures.again in
     let only = c.report_again.ensures.only in
     let next = rw (inv.device, c.in-Some.is) at c.in_ok-next.ensures.steps in
     let read = ready_walked c.args.geometry.now _ _ _ c.loop-next.workspace c.next.new.blocks inv.geometry ok
-    c.next.ensures.size c.next.ensures.holds inv.ready in
+    c.next.ensures.kept.size c.next.ensures.kept.holds inv.ready in
     let ready = ready_still v _ _ _ only.made only.windows read in
     record {
       ready = ready;
       going = sym c.is_going.ensures ∙ c.if-not-is_going.false;
       pending = c.if-workspace-eq0.false;
-      geometry = c.in_ok-next.ensures.geometry ∙ inv.geometry;
+      geometry = c.in_ok-next.ensures.same.geometry ∙ inv.geometry;
       device = ok ∙ inv.device;
       claims = claims_then _ _ _ (claims_still _ _ _ inv.claims) only.claims;
       walk = λ bytes t. rewalk_on _ _ _ _ c.in-Some.next c.loop-next.rescan r' (rest bytes c.loop-next.walk)
