@@ -27,6 +27,7 @@ use Rattle.ffs_workspace.proofs.Places.{piece_of}
 use Rattle.ffs_names.specs.declared.entries.Entries.{Entries}
 use Rattle.ffs_names.specs.Entering.{last_name, IsHeld, IsInside as IsInsideEntries, name_place}
 use Rattle.ffs_names.specs.RunCursors.{last_place}
+use Rattle.ffs_names.specs.Windows.{CanReadChunks}
 use Rattle.ffs_paths.specs.declared.child_names.NamePlace.{NamePlace}
 use Rattle.ffs_paths.specs.declared.child_names.ChildNames.{ChildNames}
 use Rattle.ffs_paths.specs.ChildNames.{place_at, Covers, AreNamesOf, AreAllNamesOf, IsInside, AreInside, IsEmpty}
@@ -127,6 +128,19 @@ open_on v d d' w blocks chunk o size contents long holds chunk_long chunk_holds 
   table_holds = subst (λ c. WindowHolds c w.table.window) (sym contents) o.table_holds;
   blocks_hold = holds;
   chunk_holds = chunk_holds;
+}
+
+pub open_next : (v : Layout) (d d' : Device) (w : Windows) (blocks : Blocks) (chunk : Window) → AreOpen v d w
+    → d'.contents ≡ d.contents → CanReadChunks v d' blocks chunk
+    → AreOpen v d' (record { table = w.table; blocks = blocks; chunk = chunk })
+open_next v d d' w blocks chunk o contents ready = record {
+  volume = ready.walk.volume;
+  table = o.table;
+  blocks = ready.walk.room;
+  chunk = ready.room;
+  table_holds = subst (λ c. WindowHolds c w.table.window) (sym contents) o.table_holds;
+  blocks_hold = ready.walk.holds;
+  chunk_holds = ready.holds;
 }
 
 -- a plain entry is kept where only its number gets a place

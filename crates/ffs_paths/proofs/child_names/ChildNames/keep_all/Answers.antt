@@ -1,11 +1,10 @@
 use Rattle.std.proofs.Common.{sym, ap, subst, ◌∙◌, arith, [], refl}
 use Rattle.ffs_survey.specs.Reading.{roled_of}
 use Rattle.ffs_names.specs.Entering.{last_name, name_place}
-use Rattle.ffs_walk.specs.Windows.{BlocksHold}
 use Rattle.ffs_paths.specs.ChildNames.{AreInside}
 use Rattle.ffs_paths.specs.Climbing.{name_in}
 use Rattle.ffs_paths.specs.declared.child_names.NamePlace.{NamePlace}
-use Rattle.ffs_paths.proofs.NamesFound.{empty_names, empty_inside, IsKept, names_on, unseen_on, name_there, open_on}
+use Rattle.ffs_paths.proofs.NamesFound.{empty_names, empty_inside, IsKept, names_on, unseen_on, name_there, open_next}
 use Rattle.ffs_paths.proofs.child_names.ChildNames.keep_all.Goals as goal
 
 pub entries-init : goal.entries-init
@@ -40,15 +39,15 @@ entries-preserved g c =
       others = kept.others;
       this = kept.this;
     } in
-    let come = rw c.in-Some.is at next.entries in
+    let given = rw c.in-Some.is at next.entry in
     let placed = rw c.in-Some.is at next.place in
     record {
       names = λ b t.
           let u = ap (λ d. d.contents) i.device ∙ t in
-          names_on b _ _ _ (roled_of c.in-Some.entry (last_name r)) q _ _ named (come b u) (name_there b r (placed b u (i.held b t))) (i.unseen b t) (i.names b t);
+          names_on b _ _ _ (roled_of c.in-Some.entry (last_name r)) q _ _ named (given b u).entries (name_there b r (placed b u (i.held b t))) (i.unseen b t) (i.names b t);
       unseen = λ b t.
           let u = ap (λ d. d.contents) i.device ∙ t in
-          unseen_on _ _ _ (roled_of c.in-Some.entry (last_name r)) q _ _ named (come b u) (i.unseen b t);
+          unseen_on _ _ _ (roled_of c.in-Some.entry (last_name r)) q _ _ named (given b u).entries (i.unseen b t);
       held = λ b t low. placed b (ap (λ d. d.contents) i.device ∙ t) (i.held b t);
       within = λ low. (rw c.in-Some.is at next.inside) i.within;
       inside = subst (λ q. AreInside q.layout c.keep_entry.new.self) (next.geometry ∙ i.geometry)
@@ -56,28 +55,26 @@ entries-preserved g c =
       parent = c.keep_entry.ensures.parent ∙ i.parent;
       first = c.keep_entry.ensures.first ∙ i.first;
       geometry = next.geometry ∙ i.geometry;
-      windows = open_on _ _ _ c.entries.windows _ _ i.windows (ap (λ d. d.size) next.ok) (ap (λ d. d.contents) next.ok) next.size
-          (subst (λ q. BlocksHold q.layout (g.I.Image.device c.next.new.image).contents c.next.new.blocks) i.geometry next.holds) next.data_size next.data_holds;
-      device = next.ok ∙ i.device;
+      windows = open_next _ _ _ c.entries.windows _ _ i.windows (ap (λ d. d.contents) next.read)
+          (rw i.geometry at next.ready);
+      device = next.read ∙ i.device;
     }
 
 pub returns-in_err-entry-clause-windows : goal.returns-in_err-entry-clause-windows
 returns-in_err-entry-clause-windows g c =
     let i = c.entries.invariant in
     let next = c.in_err-entry.ensures in
-    open_on _ _ _ c.entries.windows _ _ i.windows next.err.size next.err.contents next.size
-    (subst (λ q. BlocksHold q.layout (g.I.Image.device c.next.new.image).contents c.next.new.blocks) i.geometry next.holds) next.data_size next.data_holds
+    open_next _ _ _ c.entries.windows _ _ i.windows next.read.contents (rw i.geometry at next.ready)
 
 pub returns-clause-windows : goal.returns-clause-windows
 returns-clause-windows g c =
     let i = c.entries.invariant in
     let next = c.in_ok-entry.ensures in
-    open_on _ _ _ c.entries.windows _ _ i.windows (ap (λ d. d.size) next.ok) (ap (λ d. d.contents) next.ok) next.size
-    (subst (λ q. BlocksHold q.layout (g.I.Image.device c.next.new.image).contents c.next.new.blocks) i.geometry next.holds) next.data_size next.data_holds
+    open_next _ _ _ c.entries.windows _ _ i.windows (ap (λ d. d.contents) next.read) (rw i.geometry at next.ready)
 
 pub returns-clause-names : goal.returns-clause-names
 returns-clause-names g c = λ b t.
     let i = c.entries.invariant in
     let u = ap (λ d. d.contents) i.device ∙ t in
-    let come = (rw c.in_default.is at c.in_ok-entry.ensures.entries) b u in
+    let come = ((rw c.in_default.is at c.in_ok-entry.ensures.entry) b u).entries in
     record { names = i.names b t; none = λ x s n. (i.unseen b t).still x s n ∙ ap (name_in x) come }

@@ -20,7 +20,7 @@ fill-requires-clause-inside g c =
 pub child-requires-2 : goal.child-requires-2
 child-requires-2 g c =
     let inside = c.requires.siblings.names.inside.each c.args.dir c.requires.covers c.in-Some.place (sym c.place_of.ensures ∙ c.in-Some.is) in
-    rw c.bytes.ensures (take_whole c.fill.new.self.length c.in-Some.place.length c.fill.new.self.buffer.items c.in_ok-fill.ensures.length inside.short)
+    rw c.bytes.ensures (take_whole c.fill.new.self.length c.in-Some.place.length c.fill.new.self.buffer.items c.in_ok-fill.ensures.place.1 inside.short)
 
 pub returns-clause-path : goal.returns-clause-path
 returns-clause-path g c = λ b t claims survey.
@@ -40,9 +40,9 @@ returns-in_default-clause-path g c = λ b t claims survey.
 pub returns-clause-reads : goal.returns-clause-reads
 returns-clause-reads g c =
     let read = c.in_ok-fill.ensures in
-    name_read c.args.geometry.now.layout _ _ c.args.workspace.now c.fill.new.self _ c.requires.ready (ap (λ d. d.size) read.ok) (ap (λ d. d.contents) read.ok) read.room read.holds read.ok
+    name_read c.args.geometry.now.layout _ _ c.args.workspace.now c.fill.new.self _ c.requires.ready (ap (λ d. d.size) read.read) (ap (λ d. d.contents) read.read) read.room read.holds read.read
 
 pub returns-in_err-fill-clause-reads : goal.returns-in_err-fill-clause-reads
 returns-in_err-fill-clause-reads g c =
     let read = c.in_err-fill.ensures in
-    name_read c.args.geometry.now.layout _ _ c.args.workspace.now c.fill.new.self _ c.requires.ready read.err.size read.err.contents read.room read.holds (search rules)
+    name_read c.args.geometry.now.layout _ _ c.args.workspace.now c.fill.new.self _ c.requires.ready read.read.size read.read.contents read.room read.holds (search rules)
