@@ -1,11 +1,14 @@
 -- Where the directories are consistent, the checks are silent.
-use Rattle.std.specs.Prelude.{◌≡◌, ◌≢◌, ℕ, ◌==◌, ◌/◌, ◌%◌, true, false, not, ◌&&◌, nat_lt, nat_le, refl, Option, Some, None, IsSomeAnd}
+use Rattle.std.specs.Prelude.{◌≡◌, ◌≢◌, ℕ, ◌==◌, ◌/◌, ◌%◌, true, false, not, ◌&&◌, nat_lt, nat_le, refl, Option, Some}
+use Rattle.std.specs.Prelude.{None, IsSomeAnd}
 use Rattle.std.proofs.Common.{arith, sym, ◌∙◌, ap, subst, inl, inr}
-use Rattle.std.proofs.lemmas.Bool.{both_ways, cases_eq, eqb-true, eq-eqb, leb-true, lt-ltb, le-ltb, and_parts, and_from, or_from, not_from_true}
+use Rattle.std.proofs.lemmas.Bool.{both_ways, cases_eq, eqb-true, eq-eqb, leb-true, lt-ltb, le-ltb, and_parts, and_from}
+use Rattle.std.proofs.lemmas.Bool.{or_from, not_from_true}
 use Rattle.ffs_volume.specs.declared.Role.TheVariants.{Plain}
 use Rattle.ffs_volume.specs.Directories.Entries.{Entry}
 use Rattle.ffs_volume.specs.Blocks.Inodes.{is_allocated, is_unknown}
-use Rattle.ffs_volume.specs.Directories.Roles.{Volume, RoledEntry, is_dir, is_inode, is_allocated_inode, is_suspect, roled_entries, dotdot, references}
+use Rattle.ffs_volume.specs.Directories.Roles.{Volume, RoledEntry, is_dir, is_inode, is_allocated_inode, is_suspect}
+use Rattle.ffs_volume.specs.Directories.Roles.{roled_entries, dotdot, references}
 use Rattle.ffs_volume.specs.Directories.Climb.{is_value}
 use Rattle.ffs_volume.proofs.ClimbLaws.{is_value-from}
 use Rattle.ffs_volume.specs.Directories.Graph.{parent, parent_entry_index, reached}
@@ -16,7 +19,8 @@ use Rattle.ffs_certificate.proofs.Links.{links-right}
 use Rattle.ffs_volume.specs.Directories.Parents.{graph_of, roled_at}
 use Rattle.ffs_volume.specs.Directories.PathnameCheck.{is_short, is_bad_whiteout, is_extraneous, is_wrong_parent}
 use Rattle.ffs_volume.specs.Directories.Connectivity.{is_unref_dir_of}
-use Rattle.ffs_volume.specs.Consistent.DirectoriesRight.{IsVolume, IsUnmarked, IsPlainRight, IsDirRight, AreDirsRight, AreLinksRight, AreCountsRight}
+use Rattle.ffs_volume.specs.Consistent.DirectoriesRight.{IsVolume, IsUnmarked, IsPlainRight, IsDirRight, AreDirsRight}
+use Rattle.ffs_volume.specs.Consistent.DirectoriesRight.{AreLinksRight, AreCountsRight}
 use Rattle.ffs_certificate.proofs.Silence.{and_false-from}
 use Rattle.ffs_certificate.proofs.Entries.{names_at-from, IsPlainQuiet}
 use Rattle.ffs_certificate.proofs.Dirs.{IsShapeQuiet, IsPathnameQuiet, IsDotdotQuiet}
@@ -24,7 +28,8 @@ use Rattle.ffs_certificate.proofs.Counts.{IsCountQuiet, count-from}
 use Rattle.ffs_certificate.proofs.Suspects.{is_sane, none_suspect, none_dead}
 use Rattle.ffs_certificate.proofs.Forward.{root_is_dir, parent_once, parent_root}
 
-some-both : (P Q R : Entry → Type 0) (o : Option Entry) → ((e : Entry) → P e → Q e → R e) → IsSomeAnd o P → IsSomeAnd o Q → IsSomeAnd o R
+some-both : (P Q R : Entry → Type 0) (o : Option Entry) → ((e : Entry) → P e → Q e → R e) → IsSomeAnd o P →
+    IsSomeAnd o Q → IsSomeAnd o R
 some-both P Q R None f h k = h
 some-both P Q R (Some e) f h k = f e h k
 
@@ -35,7 +40,8 @@ shape_quiet v d r =
     let whole = r.size.whole in
     record {
       short = le-ltb (v.inode d).size 24 (omega arith);
-      broken = and_false-from (not (is_short v d)) (not ((v.inode d).size % 512 == 0)) (λ h. not_from_true _ (eq-eqb ((v.inode d).size % 512) 0 whole));
+      broken = and_false-from (not (is_short v d)) (not ((v.inode d).size % 512 == 0))
+          (λ h. not_from_true _ (eq-eqb ((v.inode d).size % 512) 0 whole));
       gap = r.gap;
       sound = r.sound;
     }
@@ -59,7 +65,8 @@ all_reached v t d h =
 
 parent_entries : (v : Volume) → IsFileOrDir v → NoExtraneous (graph_of v)
 parent_entries v t =
-    (links-right (graph_of v) (root_is_dir v t.volume t.dirs.root) (all_reached v t)).1 (record { once = λ d h n. (t.links.each d h n).once; root = t.links.root })
+    (links-right (graph_of v) (root_is_dir v t.volume t.dirs.root) (all_reached v t)).1
+    (record { once = λ d h n. (t.links.each d h n).once; root = t.links.root })
 
 -- ENTRIES
 pub whiteout_good : (e : Entry) → e.number ≡ 1 → e.kind ≡ 14 → is_bad_whiteout e ≡ false
@@ -74,7 +81,8 @@ other_good e n k =
     (and_false-from (e.number == 1) (not (e.kind == 14)) (λ h. absurd (n (eqb-true e.number 1 h))))
     (and_false-from (e.kind == 14) (not (e.number == 1)) (λ h. absurd (k (eqb-true e.kind 14 h))))
 
-plain_quiet : (v : Volume) → IsFileOrDir v → (s j : ℕ) (e : RoledEntry) → is_dir v s ≡ true → roled_at (roled_entries v s) j ≡ Some e → e.role ≡ Plain → IsPlainRight v e.entry → IsPlainQuiet v s j e.entry
+plain_quiet : (v : Volume) → IsFileOrDir v → (s j : ℕ) (e : RoledEntry) → is_dir v s ≡ true →
+    roled_at (roled_entries v s) j ≡ Some e → e.role ≡ Plain → IsPlainRight v e.entry → IsPlainQuiet v s j e.entry
 plain_quiet v t s j e d there role r =
     elim r [
       | inl w ↦ (let some = t.volume.some in let n = w.0 in record {
@@ -92,37 +100,52 @@ plain_quiet v t s j e d there role r =
             no_whiteout = other_good e.entry (omega arith) (λ k. t.volume.kinds e.entry.number known w.0 (sym w.1 ∙ k));
             named = λ m. record {
               allocated = p.1;
-              suspect = and_false-from (is_suspect v e.entry.number) _ (λ h. absurd (both_ways (is_suspect v e.entry.number) (calm v t e.entry.number) h));
+              suspect = and_false-from (is_suspect v e.entry.number) _
+                  (λ h. absurd (both_ways (is_suspect v e.entry.number) (calm v t e.entry.number) h));
               link = and_false-from (is_dir v e.entry.number) _ (λ h.
-                  let at = names_at-from v s j e.entry.number (record { dir = d; entry = e; there = there; role = role; number = refl }) in
+                  let at = names_at-from v s j e.entry.number
+                  (record { dir = d; entry = e; there = there; role = role; number = refl }) in
                   let b = parent_entries v t s j e.entry.number at h in
-                  not_from_true _ (and_from (is_value (parent (graph_of v) e.entry.number) s) (is_value (parent_entry_index (graph_of v) e.entry.number) j)
-                  (is_value-from (parent (graph_of v) e.entry.number) s b.0) (is_value-from (parent_entry_index (graph_of v) e.entry.number) j b.1)));
-              kind = and_false-from (not (is_unknown (v.class e.entry.number))) _ (λ h. not_from_true _ (eq-eqb e.entry.kind ((v.inode e.entry.number).mode / 4096) w.1));
+                  not_from_true _ (and_from (is_value (parent (graph_of v) e.entry.number) s)
+                  (is_value (parent_entry_index (graph_of v) e.entry.number) j)
+                  (is_value-from (parent (graph_of v) e.entry.number) s b.0)
+                  (is_value-from (parent_entry_index (graph_of v) e.entry.number) j b.1)));
+              kind = and_false-from (not (is_unknown (v.class e.entry.number))) _
+                  (λ h. not_from_true _ (eq-eqb e.entry.kind ((v.inode e.entry.number).mode / 4096) w.1));
             };
           })
     ]
 
-pub link_quiet : (v : Volume) → IsFileOrDir v → (s j : ℕ) (e : RoledEntry) → is_dir v s ≡ true → roled_at (roled_entries v s) j ≡ Some e → e.role ≡ Plain → IsPlainRight v e.entry → is_extraneous v s j e.entry.number ≡ false
+pub link_quiet : (v : Volume) → IsFileOrDir v → (s j : ℕ) (e : RoledEntry) → is_dir v s ≡ true →
+    roled_at (roled_entries v s) j ≡ Some e → e.role ≡ Plain → IsPlainRight v e.entry →
+    is_extraneous v s j e.entry.number ≡ false
 link_quiet v t s j e d there role r =
     and_false-from (is_dir v e.entry.number) _ (λ h.
-    let at = names_at-from v s j e.entry.number (record { dir = d; entry = e; there = there; role = role; number = refl }) in
+    let at = names_at-from v s j e.entry.number
+    (record { dir = d; entry = e; there = there; role = role; number = refl }) in
     let b = parent_entries v t s j e.entry.number at h in
-    not_from_true _ (and_from (is_value (parent (graph_of v) e.entry.number) s) (is_value (parent_entry_index (graph_of v) e.entry.number) j)
-    (is_value-from (parent (graph_of v) e.entry.number) s b.0) (is_value-from (parent_entry_index (graph_of v) e.entry.number) j b.1)))
+    not_from_true _ (and_from (is_value (parent (graph_of v) e.entry.number) s)
+    (is_value (parent_entry_index (graph_of v) e.entry.number) j)
+    (is_value-from (parent (graph_of v) e.entry.number) s b.0)
+    (is_value-from (parent_entry_index (graph_of v) e.entry.number) j b.1)))
 
 -- `..`
-dotdot_from : (v : Volume) (d s : ℕ) → parent (graph_of v) d ≡ Some s → IsSomeAnd (dotdot v d) (λ e. e.number ≡ s) → IsSomeAnd (dotdot v d) (λ e. e.kind ≡ 4) → IsDotdotQuiet v d (dotdot v d)
+dotdot_from : (v : Volume) (d s : ℕ) → parent (graph_of v) d ≡ Some s → IsSomeAnd (dotdot v d) (λ e. e.number ≡ s) →
+    IsSomeAnd (dotdot v d) (λ e. e.kind ≡ 4) → IsDotdotQuiet v d (dotdot v d)
 dotdot_from v d s p n k =
-    some-both _ _ _ (dotdot v d) (λ e a b. (ap (λ o. is_wrong_parent o e.number) p ∙ not_from_true _ (eq-eqb s e.number (sym a)), b)) n k
+    some-both _ _ _ (dotdot v d)
+    (λ e a b. (ap (λ o. is_wrong_parent o e.number) p ∙ not_from_true _ (eq-eqb s e.number (sym a)), b)) n k
 
 pub dotdot_quiet : (v : Volume) → IsFileOrDir v → (d : ℕ) → is_dir v d ≡ true → IsDotdotQuiet v d (dotdot v d)
 dotdot_quiet v t d h =
     elim (cases_eq d 2) [
-      | inl e ↦ dotdot_from v d 2 (ap (parent (graph_of v)) e ∙ parent_root (graph_of v)) (subst (λ x. IsSomeAnd (dotdot v x) (λ e. e.number ≡ 2)) (sym e) t.links.root_dotdot) (t.dirs.each d h).dotdot_there
+      | inl e ↦ dotdot_from v d 2 (ap (parent (graph_of v)) e ∙ parent_root (graph_of v))
+          (subst (λ x. IsSomeAnd (dotdot v x) (λ e. e.number ≡ 2)) (sym e) t.links.root_dotdot)
+          (t.dirs.each d h).dotdot_there
       | inr n ↦
           let l = t.links.each d h n in
-          dotdot_from v d l.once.in_dir (parent_once v d n l.reached_from_root l.once) l.dotdot_right (t.dirs.each d h).dotdot_there
+          dotdot_from v d l.once.in_dir (parent_once v d n l.reached_from_root l.once) l.dotdot_right
+          (t.dirs.each d h).dotdot_there
     ]
 
 pub quiet_pathnames : (v : Volume) → IsFileOrDir v → IsPathnameQuiet v
@@ -135,15 +158,24 @@ quiet_pathnames v t = record {
         shape = shape_quiet v d r;
         dot_there = r.dot_there;
         dotdot_there = dotdot_quiet v t d h;
-        entries = λ j e there. record { no_extra = r.no_extra j e there; plain = λ role. plain_quiet v t d j e h there role (r.plain j e there role) };
+        entries = λ j e there. record {
+          no_extra = r.no_extra j e there;
+          plain = λ role. plain_quiet v t d j e h there role (r.plain j e there role);
+        };
       };
 }
 
 pub quiet_connectivity : (v : Volume) → IsFileOrDir v → (d : ℕ) → is_unref_dir_of v d ≡ false
-quiet_connectivity v t = (silent-reached (graph_of v) (is_suspect v) (is_sane v t.volume) (none_dead v (calm v t))).1 (all_reached v t)
+quiet_connectivity v t = (silent-reached (graph_of v) (is_suspect v) (is_sane v t.volume) (none_dead v (calm v t))).1
+    (all_reached v t)
 
-pub quiet_references : (v : Volume) → IsFileOrDir v → AreCountsRight v → (i : ℕ) → is_allocated_inode v i ≡ true → IsCountQuiet v i
+pub quiet_references : (v : Volume) → IsFileOrDir v → AreCountsRight v → (i : ℕ) → is_allocated_inode v i ≡ true →
+    IsCountQuiet v i
 quiet_references v t counts i h =
     let c = counts i h in
     let some = c.some in
-    record { alive = none_dead v (calm v t) i; some = omega arith; same = count-from (v.inode i).nlink (references v i) c.same }
+    record {
+      alive = none_dead v (calm v t) i;
+      some = omega arith;
+      same = count-from (v.inode i).nlink (references v i) c.same;
+    }

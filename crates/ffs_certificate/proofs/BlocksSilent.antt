@@ -1,5 +1,6 @@
 -- Phases 1 and 1b report nothing exactly where every fragment has one owner at most.
-use Rattle.std.proofs.Common.{inl, inr, ◌≡◌, ℕ, ◌+◌, ◌≤◌, Bool, true, false, arith, refl, sym, ap, ◌∙◌, List, [], ◌∷◌, ◌++◌, length, ◌↔◌}
+use Rattle.std.proofs.Common.{inl, inr, ◌≡◌, ℕ, ◌+◌, ◌≤◌, Bool, true, false, arith, refl, sym, ap, ◌∙◌, List, [], ◌∷◌}
+use Rattle.std.proofs.Common.{◌++◌, length, ◌↔◌}
 use Rattle.std.specs.Prelude.{nat_lt, ◌&&◌, map, replicate}
 use Rattle.std.specs.List.{list_all, range_with_len}
 use Rattle.std.proofs.lemmas.Bool.{and_parts, and_from, cases_lt, lt-ltb, le-ltb}
@@ -30,7 +31,8 @@ ok_below v (f ∷ fs) e =
     and_from (nat_lt f v.size) _ (and_parts (nat_lt f v.size) _ a.0).0 (ok_below v fs a.1)
 
 -- the fragments of Runs in range are below the size
-pub runs_below : (v : Layout) (steps : List Step) → list_all (is_step_in_range v) steps ≡ true → are_below v.size (fragments_of steps) ≡ true
+pub runs_below : (v : Layout) (steps : List Step) → list_all (is_step_in_range v) steps ≡ true →
+    are_below v.size (fragments_of steps) ≡ true
 runs_below v [] e = refl
 runs_below v (Run start len block ∷ steps) e =
     let a = and_parts (is_step_in_range v (Run start len block)) (list_all (is_step_in_range v) steps) e in
@@ -46,8 +48,15 @@ reserved_length v = length-map-range_with_len (is_reserved v) 0 v.size
 pub reserved_bit : (v : Layout) (f : ℕ) → is_set (reserved_map v) f ≡ (nat_lt f v.size && is_reserved v f)
 unfolding reserved_map
 reserved_bit v f = elim (cases_lt f v.size) [
-  | inl below ↦ rw (get_or-map-range_with_len (is_reserved v) 0 v.size f f false below (omega arith), lt-ltb f v.size below) refl
-  | inr past ↦ rw (get_or_past (map (is_reserved v) (range_with_len 0 v.size)) f false (rw (length-map-range_with_len (is_reserved v) 0 v.size) past), le-ltb f v.size past) refl
+  | inl below ↦ rw (
+    get_or-map-range_with_len (is_reserved v) 0 v.size f f false below (omega arith),
+    lt-ltb f v.size below,
+  ) refl
+  | inr past ↦ rw (
+    get_or_past (map (is_reserved v) (range_with_len 0 v.size)) f false
+        (rw (length-map-range_with_len (is_reserved v) 0 v.size) past),
+    le-ltb f v.size past,
+  ) refl
 ]
 
 -- no bit of a list of unset bits is set
@@ -75,7 +84,8 @@ quiet_right v os q =
         alone = λ f. omega (arith, new f);
         unreserved = λ f e. elim (cases_lt f v.size) [
           | inl low ↦
-              let set : bit (is_set (reserved_map v) f) ≡ 1 = ap bit (reserved_bit v f ∙ and_from _ _ (lt-ltb f v.size low) e) in
+              let set : bit (is_set (reserved_map v) f) ≡ 1 =
+              ap bit (reserved_bit v f ∙ and_from _ _ (lt-ltb f v.size low) e) in
               omega (arith, new f)
           | inr past ↦ times_past v.size f _ below past
         ];
@@ -91,7 +101,8 @@ right_quiet v os r =
       classes = r.classes;
       in_range = r.runs.in_range;
       no_tail = r.runs.no_tail;
-      new = new_fresh (reserved_map v) (fragments_of (all_steps os)) (rw long below) (λ f. one f (is_set (reserved_map v) f) refl);
+      new = new_fresh (reserved_map v) (fragments_of (all_steps os)) (rw long below)
+          (λ f. one f (is_set (reserved_map v) f) refl);
       counted = r.runs.counted;
     }
   where
@@ -117,7 +128,8 @@ phase1b_silent v os r =
 
 pub blocks_silent : (v : Layout) (os : List Owner) → (phase1_lines v os ++ phase1b_lines v os ≡ []) ↔ BlocksRight v os
 blocks_silent v os = (
-  (λ e. let parts = and_parts (is_nil (phase1_lines v os)) (is_nil (phase1b_lines v os)) (sym (nil_append (phase1_lines v os) (phase1b_lines v os)) ∙ ap is_nil e) in
+  (λ e. let parts = and_parts (is_nil (phase1_lines v os)) (is_nil (phase1b_lines v os))
+      (sym (nil_append (phase1_lines v os) (phase1b_lines v os)) ∙ ap is_nil e) in
       (phase1_silent v os).0 (nil_is _ parts.0)),
   (λ r. let first = (phase1_silent v os).1 r in let second = phase1b_silent v os r in rw (first, second) refl),
 )

@@ -1,5 +1,6 @@
 -- The class messages of the block check, among all its messages.
-use Rattle.std.specs.Prelude.{◌≡◌, ℕ, ◌+◌, Bool, true, false, not, ◌&&◌, ◌||◌, nat_lt, ◌==◌, refl, if◌then◌else◌, List, [], ◌∷◌, ◌++◌}
+use Rattle.std.specs.Prelude.{◌≡◌, ℕ, ◌+◌, Bool, true, false, not, ◌&&◌, ◌||◌, nat_lt, ◌==◌, refl, if◌then◌else◌, List}
+use Rattle.std.specs.Prelude.{[], ◌∷◌, ◌++◌}
 use Rattle.std.specs.List.{list_all, list_any, range_with_len}
 use Rattle.std.proofs.Common.{◌∙◌}
 use Rattle.std.proofs.lemmas.Bool.{or_from}
@@ -14,31 +15,43 @@ use Rattle.ffs_volume.specs.declared.BlockMessage.TheVariants.{Bad, Dup, ManyBad
 use Rattle.ffs_volume.specs.Disk.Areas.{is_fragment_in_range, is_run_in_range}
 use Rattle.ffs_volume.specs.Blocks.Inodes.{is_file_or_dir}
 use Rattle.ffs_volume.specs.Blocks.Owners.{Owner}
-use Rattle.ffs_volume.specs.Blocks.Claims.{Claims, no_claims, next_inode, is_open, is_set, after_offer, offer_lines, lines_of_offers, run_lines, after_step, step_lines, lines_of_steps, after_owner}
-use Rattle.ffs_volume.specs.Blocks.BlockCheck.{class_lines, count_lines, sectors, owner_lines, lines_of_owners, phase1_lines}
+use Rattle.ffs_volume.specs.Blocks.Claims.{Claims, no_claims, next_inode, is_open, is_set, after_offer, offer_lines}
+use Rattle.ffs_volume.specs.Blocks.Claims.{lines_of_offers, run_lines, after_step, step_lines, lines_of_steps}
+use Rattle.ffs_volume.specs.Blocks.Claims.{after_owner}
+use Rattle.ffs_volume.specs.Blocks.BlockCheck.{class_lines, count_lines, sectors, owner_lines, lines_of_owners}
+use Rattle.ffs_volume.specs.Blocks.BlockCheck.{phase1_lines}
 use Rattle.ffs_volume.specs.Consistent.BlocksRight.{is_right_class}
 use Rattle.ffs_certificate.specs.Conditions.{is_class_message}
 
-none_append : (xs ys : List BlockMessage) → list_any is_class_message xs ≡ false → list_any is_class_message ys ≡ false → list_any is_class_message (xs ++ ys) ≡ false
-none_append xs ys g h = list_any-append is_class_message xs ys ∙ or_from (list_any is_class_message xs) (list_any is_class_message ys) g h
+none_append : (xs ys : List BlockMessage) → list_any is_class_message xs ≡ false → list_any is_class_message ys ≡ false
+    → list_any is_class_message (xs ++ ys) ≡ false
+none_append xs ys g h = list_any-append is_class_message xs ys
+    ∙ or_from (list_any is_class_message xs) (list_any is_class_message ys) g h
 
 offer_none : (v : Layout) (i : ℕ) (s : Claims) (f : ℕ) → list_any is_class_message (offer_lines v i s f) ≡ false
 offer_none v i s f = one (nat_lt s.dups 11 && (is_fragment_in_range v f && is_set s.used f)) (s.dups == 10)
   where
-    one : (a b : Bool) → list_any is_class_message (if a then Dup f i ∷ (if b then ManyDup i ∷ [] else []) else []) ≡ false
+    one : (a b : Bool) → list_any is_class_message (if a then Dup f i ∷ (if b then ManyDup i ∷ [] else []) else [])
+        ≡ false
     one true true = refl
     one true false = refl
     one false b = refl
 
-offers_none : (v : Layout) (i : ℕ) (s : Claims) (fs : List ℕ) → list_any is_class_message (lines_of_offers v i s fs) ≡ false
+offers_none : (v : Layout) (i : ℕ) (s : Claims) (fs : List ℕ) → list_any is_class_message (lines_of_offers v i s fs)
+    ≡ false
 offers_none v i s [] = refl
-offers_none v i s (f ∷ fs) = none_append (offer_lines v i s f) (lines_of_offers v i (after_offer v s f) fs) (offer_none v i s f) (offers_none v i (after_offer v s f) fs)
+offers_none v i s (f ∷ fs) = none_append (offer_lines v i s f) (lines_of_offers v i (after_offer v s f) fs)
+    (offer_none v i s f) (offers_none v i (after_offer v s f) fs)
 
-run_none : (v : Layout) (i : ℕ) (s : Claims) (start len : ℕ) → list_any is_class_message (run_lines v i s start len) ≡ false
+run_none : (v : Layout) (i : ℕ) (s : Claims) (start len : ℕ) → list_any is_class_message (run_lines v i s start len)
+    ≡ false
 run_none v i s start len = one (is_run_in_range v start len) (s.bad == 10)
   where
-    one : (a b : Bool) → list_any is_class_message (if a then lines_of_offers v i (record s { runs = s.runs + 1 }) (range_with_len start len)
-        else Bad start i ∷ (if b then ManyBad i ∷ [] else lines_of_offers v i (record s { runs = s.runs + 1; bad = s.bad + 1 }) (range_with_len start len))) ≡ false
+    one : (a b : Bool) → list_any is_class_message
+        (if a then lines_of_offers v i (record s { runs = s.runs + 1 }) (range_with_len start len)
+        else Bad start i ∷ (if b then ManyBad i ∷ []
+        else lines_of_offers v i (record s { runs = s.runs + 1; bad = s.bad + 1 }) (range_with_len start len)))
+        ≡ false
     one true b = offers_none v i (record s { runs = s.runs + 1 }) (range_with_len start len)
     one false true = refl
     one false false = offers_none v i (record s { runs = s.runs + 1; bad = s.bad + 1 }) (range_with_len start len)
@@ -56,14 +69,17 @@ step_none v i s (Run start len block) = one (is_open s)
     one true = run_none v i s start len
     one false = refl
 
-steps_none : (v : Layout) (i : ℕ) (s : Claims) (steps : List Step) → list_any is_class_message (lines_of_steps v i s steps) ≡ false
+steps_none : (v : Layout) (i : ℕ) (s : Claims) (steps : List Step) →
+    list_any is_class_message (lines_of_steps v i s steps) ≡ false
 steps_none v i s [] = refl
-steps_none v i s (step ∷ steps) = none_append (step_lines v i s step) (lines_of_steps v i (after_step v s step) steps) (step_none v i s step) (steps_none v i (after_step v s step) steps)
+steps_none v i s (step ∷ steps) = none_append (step_lines v i s step) (lines_of_steps v i (after_step v s step) steps)
+    (step_none v i s step) (steps_none v i (after_step v s step) steps)
 
 count_none : (v : Layout) (o : Owner) (end : Claims) → list_any is_class_message (count_lines v o end) ≡ false
 count_none v o end = one (is_file_or_dir o.class && (is_open end && not (o.blocks == sectors v end.kept)))
   where
-    one : (a : Bool) → list_any is_class_message (if a then BlockCount o.number o.blocks (sectors v end.kept) ∷ [] else []) ≡ false
+    one : (a : Bool) → list_any is_class_message
+        (if a then BlockCount o.number o.blocks (sectors v end.kept) ∷ [] else []) ≡ false
     one true = refl
     one false = refl
 
@@ -74,12 +90,15 @@ class_some i Unknown = refl
 class_some i File = refl
 class_some i Dir = refl
 
-owner_some : (v : Layout) (s : Claims) (o : Owner) → list_any is_class_message (owner_lines v s o) ≡ not (is_right_class o.class)
+owner_some : (v : Layout) (s : Claims) (o : Owner) → list_any is_class_message (owner_lines v s o)
+    ≡ not (is_right_class o.class)
 owner_some v s o =
-    list_any-append is_class_message (class_lines o.number o.class) (lines_of_steps v o.number (next_inode s) o.steps ++ count_lines v o (after_owner v s o))
+    list_any-append is_class_message (class_lines o.number o.class)
+    (lines_of_steps v o.number (next_inode s) o.steps ++ count_lines v o (after_owner v s o))
     ∙ rw (
       class_some o.number o.class,
-      none_append (lines_of_steps v o.number (next_inode s) o.steps) (count_lines v o (after_owner v s o)) (steps_none v o.number (next_inode s) o.steps) (count_none v o (after_owner v s o)),
+      none_append (lines_of_steps v o.number (next_inode s) o.steps) (count_lines v o (after_owner v s o))
+          (steps_none v o.number (next_inode s) o.steps) (count_none v o (after_owner v s o)),
     )
     (or_false (not (is_right_class o.class)))
   where
@@ -87,17 +106,20 @@ owner_some v s o =
     or_false true = refl
     or_false false = refl
 
-owners_some : (v : Layout) (s : Claims) (os : List Owner) → list_any is_class_message (lines_of_owners v s os) ≡ not (list_all (λ o. is_right_class o.class) os)
+owners_some : (v : Layout) (s : Claims) (os : List Owner) → list_any is_class_message (lines_of_owners v s os)
+    ≡ not (list_all (λ o. is_right_class o.class) os)
 owners_some v s [] = refl
 owners_some v s (o ∷ os) =
     list_any-append is_class_message (owner_lines v s o) (lines_of_owners v (after_owner v s o) os)
-    ∙ rw (owner_some v s o, owners_some v (after_owner v s o) os) (both (is_right_class o.class) (list_all (λ o. is_right_class o.class) os))
+    ∙ rw (owner_some v s o, owners_some v (after_owner v s o) os)
+    (both (is_right_class o.class) (list_all (λ o. is_right_class o.class) os))
   where
     both : (a b : Bool) → (not a || not b) ≡ not (a && b)
     both true b = refl
     both false b = refl
 
 -- a class message is reported exactly where a class isn't right
-pub classes_reported : (v : Layout) (os : List Owner) → list_any is_class_message (phase1_lines v os) ≡ not (list_all (λ o. is_right_class o.class) os)
+pub classes_reported : (v : Layout) (os : List Owner) → list_any is_class_message (phase1_lines v os)
+    ≡ not (list_all (λ o. is_right_class o.class) os)
 unfolding phase1_lines
 classes_reported v os = owners_some v (no_claims v) os

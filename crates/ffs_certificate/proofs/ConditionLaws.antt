@@ -1,8 +1,10 @@
 -- Each condition of a consistent volume holds exactly where nothing is reported for it.
-use Rattle.std.specs.Prelude.{◌≡◌, ◌≢◌, ◌↔◌, ℕ, ◌==◌, ◌/◌, true, false, not, nat_lt, nat_le, refl, List, [], Some, IsSomeAnd}
+use Rattle.std.specs.Prelude.{◌≡◌, ◌≢◌, ◌↔◌, ℕ, ◌==◌, ◌/◌, true, false, not, nat_lt, nat_le, refl, List, [], Some}
+use Rattle.std.specs.Prelude.{IsSomeAnd}
 use Rattle.std.specs.List.{list_all}
 use Rattle.std.proofs.Common.{arith, sym, ◌∙◌, ap, subst, inl, inr}
-use Rattle.std.proofs.lemmas.Bool.{both_ways, cases_eq, eqb-true, eq-eqb, ne_eqb, lt-ltb, le-leb, leb-true, and_parts, and_from, not-false, not_from_true, not_from_false}
+use Rattle.std.proofs.lemmas.Bool.{both_ways, cases_eq, eqb-true, eq-eqb, ne_eqb, lt-ltb, le-leb, leb-true, and_parts}
+use Rattle.std.proofs.lemmas.Bool.{and_from, not-false, not_from_true, not_from_false}
 use Rattle.ffs_volume.specs.declared.Layout.{Layout}
 use Rattle.ffs_volume.specs.declared.Class.{Class}
 use Rattle.ffs_volume.specs.declared.Class.TheVariants.{Free, Partial, Unknown, File, Dir}
@@ -22,10 +24,12 @@ use Rattle.ffs_volume.specs.Directories.Graph.{parent, parent_entry_index}
 use Rattle.ffs_volume.proofs.Graphs.{NoExtraneous}
 use Rattle.ffs_volume.specs.Directories.Parents.{graph_of, is_from_parent}
 use Rattle.ffs_volume.specs.Directories.PathnameCheck.{is_wrong_parent, is_extraneous}
-use Rattle.ffs_volume.specs.Consistent.DirectoriesRight.{IsVolume, IsUnmarked, IsPlainRight, AreDirsRight, AreLinksRight, AreCountsRight}
+use Rattle.ffs_volume.specs.Consistent.DirectoriesRight.{IsVolume, IsUnmarked, IsPlainRight, AreDirsRight}
+use Rattle.ffs_volume.specs.Consistent.DirectoriesRight.{AreLinksRight, AreCountsRight}
 use Rattle.ffs_volume.specs.Directories.Volumes.{class_at, whole_volume}
 use Rattle.ffs_certificate.specs.DirsCertificate.{IsSilent}
-use Rattle.ffs_certificate.specs.Conditions.{IsPlainUnreported, AreDirsUnreported, AreLinksUnreported, AreCountsUnreported, ConditionsReported, ConditionsAreReported}
+use Rattle.ffs_certificate.specs.Conditions.{IsPlainUnreported, AreDirsUnreported, AreLinksUnreported}
+use Rattle.ffs_certificate.specs.Conditions.{AreCountsUnreported, ConditionsReported, ConditionsAreReported}
 use Rattle.ffs_certificate.proofs.Silence.{and_false-right, and_false-from}
 use Rattle.ffs_certificate.proofs.Live.{plain-live}
 use Rattle.ffs_certificate.proofs.Lost.{silent-reached}
@@ -33,8 +37,10 @@ use Rattle.ffs_certificate.proofs.Links.{links-right}
 use Rattle.ffs_certificate.proofs.Entries.{names_at-gives}
 use Rattle.ffs_certificate.proofs.Counts.{count-true, count-from}
 use Rattle.ffs_certificate.proofs.Suspects.{is_sane, none_suspect, none_dead}
-use Rattle.ffs_certificate.proofs.Forward.{some-map, root_is_dir, whole, whiteout_kind, known-false, parent_once, parent_root}
-use Rattle.ffs_certificate.proofs.Backward.{IsFileOrDir, shape_quiet, whiteout_good, other_good, link_quiet, dotdot_quiet, quiet_connectivity}
+use Rattle.ffs_certificate.proofs.Forward.{some-map, root_is_dir, whole, whiteout_kind, known-false, parent_once}
+use Rattle.ffs_certificate.proofs.Forward.{parent_root}
+use Rattle.ffs_certificate.proofs.Backward.{IsFileOrDir, shape_quiet, whiteout_good, other_good, link_quiet}
+use Rattle.ffs_certificate.proofs.Backward.{dotdot_quiet, quiet_connectivity}
 use Rattle.ffs_certificate.proofs.DirsCertificate.{silent_right}
 use Rattle.ffs_certificate.proofs.BlocksSilent.{phase1_silent}
 use Rattle.ffs_certificate.proofs.GroupLaws.{phase5_silent, same_free}
@@ -51,8 +57,12 @@ plain_right v e un live q =
           let m = q.named (ne_eqb e.number 1 n) in
           let u = known-false (v.class e.number) (un.known e.number) in
           inr (
-            and_from (is_inode v e.number) (is_allocated (v.class e.number)) (and_from (nat_le 2 e.number) (nat_lt e.number v.count) (le-leb 2 e.number (let a : e.number ≢ 1 = n in omega arith)) q.below) m.allocated,
-            eqb-true e.kind ((v.inode e.number).mode / 4096) (not-false _ (and_false-right (not (is_unknown (v.class e.number))) (not (e.kind == (v.inode e.number).mode / 4096)) m.kind (not_from_false _ u))),
+            and_from (is_inode v e.number) (is_allocated (v.class e.number))
+                (and_from (nat_le 2 e.number) (nat_lt e.number v.count)
+                (le-leb 2 e.number (let a : e.number ≢ 1 = n in omega arith)) q.below) m.allocated,
+            eqb-true e.kind ((v.inode e.number).mode / 4096)
+                (not-false _ (and_false-right (not (is_unknown (v.class e.number)))
+                (not (e.kind == (v.inode e.number).mode / 4096)) m.kind (not_from_false _ u))),
           )
     ]
 
@@ -73,7 +83,8 @@ plain_unreported v e vol un r =
             no_whiteout = other_good e (omega arith) (λ k. vol.kinds e.number (un.known e.number) w.0 (sym w.1 ∙ k));
             named = λ m. record {
               allocated = p.1;
-              kind = and_false-from (not (is_unknown (v.class e.number))) _ (λ h. not_from_true _ (eq-eqb e.kind ((v.inode e.number).mode / 4096) w.1));
+              kind = and_false-from (not (is_unknown (v.class e.number))) _
+                  (λ h. not_from_true _ (eq-eqb e.kind ((v.inode e.number).mode / 4096) w.1));
             };
           })
     ]
@@ -133,7 +144,11 @@ links_right v vol un r q =
     record {
       each = λ d h n.
           let o = links.once d h n in
-          record { once = o; reached_from_root = all d h; dotdot_right = dotdot_same v d o.in_dir (parent_once v d n (all d h) o) (q.dotdots d h) };
+          record {
+            once = o;
+            reached_from_root = all d h;
+            dotdot_right = dotdot_same v d o.in_dir (parent_once v d n (all d h) o) (q.dotdots d h);
+          };
       root = links.root;
       root_dotdot = dotdot_same v 2 2 (parent_root (graph_of v)) (q.dotdots 2 root);
     }
@@ -141,14 +156,18 @@ links_right v vol un r q =
     one_entry : (v : Volume) → AreLinksUnreported v → NoExtraneous (graph_of v)
     one_entry v q s j d t h =
         let m = names_at-gives v s j d t in
-        let link : is_extraneous v s j d ≡ false = subst (λ x. is_extraneous v s j x ≡ false) m.number (q.links s j m.entry m.dir m.there m.role) in
+        let link : is_extraneous v s j d ≡ false =
+        subst (λ x. is_extraneous v s j x ≡ false) m.number (q.links s j m.entry m.dir m.there m.role) in
         let from = not-false _ (and_false-right (is_dir v d) (not (is_from_parent (graph_of v) s j d)) link h) in
         let both = and_parts (is_value (parent (graph_of v) d) s) (is_value (parent_entry_index (graph_of v) d) j)
-            from in
+        from in
         (is_value-true (parent (graph_of v) d) s both.0, is_value-true (parent_entry_index (graph_of v) d) j both.1)
 
-    dotdot_same : (v : Volume) (d s : ℕ) → parent (graph_of v) d ≡ Some s → IsSomeAnd (dotdot v d) (λ e. is_wrong_parent (parent (graph_of v) d) e.number ≡ false) → IsSomeAnd (dotdot v d) (λ e. e.number ≡ s)
-    dotdot_same v d s p q = some-map _ _ (dotdot v d) (λ e b. sym (eqb-true s e.number (not-false _ (sym (ap (λ o. is_wrong_parent o e.number) p) ∙ b)))) q
+    dotdot_same : (v : Volume) (d s : ℕ) → parent (graph_of v) d ≡ Some s →
+        IsSomeAnd (dotdot v d) (λ e. is_wrong_parent (parent (graph_of v) d) e.number ≡ false) →
+        IsSomeAnd (dotdot v d) (λ e. e.number ≡ s)
+    dotdot_same v d s p q = some-map _ _ (dotdot v d)
+        (λ e b. sym (eqb-true s e.number (not-false _ (sym (ap (λ o. is_wrong_parent o e.number) p) ∙ b)))) q
 
 links_unreported : (v : Volume) → IsVolume v → IsUnmarked v → AreDirsRight v → AreLinksRight v → AreLinksUnreported v
 links_unreported v vol un r l =
@@ -162,18 +181,22 @@ links_unreported v vol un r l =
 -- COUNTS
 counts_reported : (v : Volume) → AreCountsUnreported v ↔ AreCountsRight v
 counts_reported v = (
-  (λ q i h. let c = q i h in let n = c.some in record { same = count-true (v.inode i).nlink (references v i) c.same; some = omega arith }),
-  (λ r i h. let c = r i h in let n = c.some in record { some = omega arith; same = count-from (v.inode i).nlink (references v i) c.same }),
+  (λ q i h. let c = q i h in
+      let n = c.some in record { same = count-true (v.inode i).nlink (references v i) c.same; some = omega arith }),
+  (λ r i h. let c = r i h in
+      let n = c.some in record { some = omega arith; same = count-from (v.inode i).nlink (references v i) c.same }),
 )
 
-checks_reported : (v : Volume) → IsVolume v → IsUnmarked v → IsSilent v ↔ (AreDirsUnreported v × AreLinksUnreported v × AreCountsUnreported v)
+checks_reported : (v : Volume) → IsVolume v → IsUnmarked v →
+    IsSilent v ↔ (AreDirsUnreported v × AreLinksUnreported v × AreCountsUnreported v)
 checks_reported v vol un = (
   (λ s.
       let r = (silent_right v vol un).0 s in
       ((dirs_reported v vol un).1 r.dirs, links_unreported v vol un r.dirs r.links, (counts_reported v).1 r.counts)),
   (λ q.
       let dirs = (dirs_reported v vol un).0 q.0 in
-      (silent_right v vol un).1 (record { dirs = dirs; links = links_right v vol un dirs q.1; counts = (counts_reported v).0 q.2 })),
+      (silent_right v vol un).1
+      (record { dirs = dirs; links = links_right v vol un dirs q.1; counts = (counts_reported v).0 q.2 })),
 )
 
 -- THE WHOLE
@@ -184,14 +207,24 @@ conditions image s g =
     let w = whole_volume s.layout image in
     record {
       settings = settings_reported s;
-      classes = ((λ e. not-false _ (sym (classes_reported v os) ∙ e)), (λ c. classes_reported v os ∙ not_from_true _ c));
-      runs = λ c. ((λ e. ((phase1_silent v os).0 e).runs), (λ r. (phase1_silent v os).1 (record { classes = c; runs = r })));
+      classes = (
+        (λ e. not-false _ (sym (classes_reported v os) ∙ e)),
+        (λ c. classes_reported v os ∙ not_from_true _ c),
+      );
+      runs = λ c. (
+        (λ e. ((phase1_silent v os).0 e).runs),
+        (λ r. (phase1_silent v os).1 (record { classes = c; runs = r })),
+      );
       whole = same_whole v image;
       checks = λ b. checks_reported w (whole_is_volume v image g) (whole_unmarked v image b);
       dirs = λ b. dirs_reported w (whole_is_volume v image g) (whole_unmarked v image b);
-      links = λ b r. (links_right w (whole_is_volume v image g) (whole_unmarked v image b) r, links_unreported w (whole_is_volume v image g) (whole_unmarked v image b) r);
+      links = λ b r. (
+        links_right w (whole_is_volume v image g) (whole_unmarked v image b) r,
+        links_unreported w (whole_is_volume v image g) (whole_unmarked v image b) r,
+      );
       counts = counts_reported w;
-      groups = λ b. subst (λ free. (phase5_lines v image s.cstotal (is_free_of_kept v os) (class_at v image) ≡ []) ↔ GroupsRight v image s.cstotal free (class_at v image))
+      groups = λ b. subst (λ free. (phase5_lines v image s.cstotal (is_free_of_kept v os) (class_at v image) ≡ []) ↔
+          GroupsRight v image s.cstotal free (class_at v image))
           (same_free v os b) (phase5_silent v image s.cstotal (is_free_of_kept v os) (class_at v image));
     }
 

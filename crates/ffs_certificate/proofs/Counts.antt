@@ -1,23 +1,29 @@
 -- When the messages on connectivity and on references are silent.
-use Rattle.std.specs.Prelude.{◌≡◌, ◌≢◌, ℕ, ◌<◌, ◌==◌, Bool, true, false, nat_lt, nat_le, refl, ℤ, pos, negsuc, List, [], ◌∷◌, if◌then◌else◌}
+use Rattle.std.specs.Prelude.{◌≡◌, ◌≢◌, ℕ, ◌<◌, ◌==◌, Bool, true, false, nat_lt, nat_le, refl, ℤ, pos, negsuc, List, []}
+use Rattle.std.specs.Prelude.{◌∷◌, if◌then◌else◌}
 use Rattle.std.proofs.Common.{sym, ap, subst}
 use Rattle.std.proofs.lemmas.Bool.{eqb-true, eqb-false, eq-eqb, ne_eqb, ltb-true, and_parts, not-false, not_from_true}
 use Rattle.ffs_volume.specs.Blocks.Inodes.{is_allocated}
 use Rattle.ffs_volume.specs.Directories.Roles.{Volume, is_inode, is_allocated_inode, references}
-use Rattle.ffs_volume.specs.Messages.Kinds.{NameMessage, reported, unref_dir, dead_marked, dead_zero, unref, unref_unlinked, link_count}
+use Rattle.ffs_volume.specs.Messages.Kinds.{NameMessage, reported, unref_dir, dead_marked, dead_zero, unref}
+use Rattle.ffs_volume.specs.Messages.Kinds.{unref_unlinked, link_count}
 use Rattle.ffs_volume.specs.Directories.PathnameCheck.{attributes, label_of}
 use Rattle.ffs_volume.specs.Directories.Connectivity.{is_dead, is_unref_dir_of, connectivity_lines}
 use Rattle.ffs_volume.specs.Disk.Numbers.{equals_natural}
-use Rattle.ffs_volume.specs.Directories.ReferenceCheck.{dead_reported, unref_reported, inode_lines, counted_lines, reference_lines}
-use Rattle.ffs_certificate.proofs.Silence.{reported-quiet, reported-silent, if-silent, then-quiet, then-silent, lines-quiet, lines-silent}
+use Rattle.ffs_volume.specs.Directories.ReferenceCheck.{dead_reported, unref_reported, inode_lines, counted_lines}
+use Rattle.ffs_volume.specs.Directories.ReferenceCheck.{reference_lines}
+use Rattle.ffs_certificate.proofs.Silence.{reported-quiet, reported-silent, if-silent, then-quiet, then-silent}
+use Rattle.ffs_certificate.proofs.Silence.{lines-quiet, lines-silent}
 
 pub connectivity-quiet : (v : Volume) → connectivity_lines v ≡ [] → (d : ℕ) → d < v.count → is_unref_dir_of v d ≡ false
 unfolding connectivity_lines
-connectivity-quiet v h d l = reported-quiet _ (unref_dir (attributes v d)) (lines-quiet (λ d. reported (is_unref_dir_of v d) (unref_dir (attributes v d))) v.count h d l)
+connectivity-quiet v h d l = reported-quiet _ (unref_dir (attributes v d))
+    (lines-quiet (λ d. reported (is_unref_dir_of v d) (unref_dir (attributes v d))) v.count h d l)
 
 pub connectivity-silent : (v : Volume) → ((d : ℕ) → is_unref_dir_of v d ≡ false) → connectivity_lines v ≡ []
 unfolding connectivity_lines
-connectivity-silent v h = lines-silent (λ d. reported (is_unref_dir_of v d) (unref_dir (attributes v d))) v.count (λ d l. reported-silent _ (unref_dir (attributes v d)) (h d))
+connectivity-silent v h = lines-silent (λ d. reported (is_unref_dir_of v d) (unref_dir (attributes v d))) v.count
+    (λ d l. reported-silent _ (unref_dir (attributes v d)) (h d))
 
 -- an inode that is allocated
 pub record IsCountQuiet (v : Volume) (i : ℕ) : Type 0 where
@@ -30,7 +36,8 @@ either-some true m n h = absurd (cc)
 either-some false m n h = absurd (cc)
 
 -- the first of two is never silent
-first-quiet : (b : Bool) (xs ys : List NameMessage) → (xs ≡ [] → ⊥) → (if b then xs else ys) ≡ [] → (b ≡ false) × (ys ≡ [])
+first-quiet : (b : Bool) (xs ys : List NameMessage) → (xs ≡ [] → ⊥) → (if b then xs else ys) ≡ [] → (b ≡ false)
+    × (ys ≡ [])
 first-quiet true xs ys n h = absurd (n h)
 first-quiet false xs ys n h = (refl, h)
 
@@ -38,8 +45,11 @@ count-quiet : (v : Volume) (i : ℕ) → inode_lines v i ≡ [] → IsCountQuiet
 unfolding inode_lines
 count-quiet v i h =
     let m = link_count (label_of (v.class i)) (attributes v i) (v.inode i).nlink (references v i) in
-    let a = first-quiet (is_dead v i) (dead_reported v i) _ (either-some (v.marked i) (dead_marked (label_of (v.class i)) (attributes v i)) (dead_zero (attributes v i))) h in
-    let b = first-quiet (references v i == 0) (unref_reported v i) _ (either-some (equals_natural (v.inode i).nlink 0) (unref_unlinked (label_of (v.class i)) (attributes v i)) (unref (label_of (v.class i)) (attributes v i))) a.1 in
+    let a = first-quiet (is_dead v i) (dead_reported v i) _
+    (either-some (v.marked i) (dead_marked (label_of (v.class i)) (attributes v i)) (dead_zero (attributes v i))) h in
+    let b = first-quiet (references v i == 0) (unref_reported v i) _
+    (either-some (equals_natural (v.inode i).nlink 0) (unref_unlinked (label_of (v.class i)) (attributes v i))
+    (unref (label_of (v.class i)) (attributes v i))) a.1 in
     record { alive = a.0; some = eqb-false (references v i) 0 b.0; same = not-false _ (reported-quiet _ m b.1) }
 
 count-silent : (v : Volume) (i : ℕ) → IsCountQuiet v i → inode_lines v i ≡ []
@@ -47,18 +57,24 @@ unfolding inode_lines
 count-silent v i q =
     let m = link_count (label_of (v.class i)) (attributes v i) (v.inode i).nlink (references v i) in
     if-silent (is_dead v i) (dead_reported v i) _ q.alive
-    (if-silent (references v i == 0) (unref_reported v i) _ (ne_eqb (references v i) 0 q.some) (reported-silent _ m (not_from_true _ q.same)))
+    (if-silent (references v i == 0) (unref_reported v i) _ (ne_eqb (references v i) 0 q.some)
+    (reported-silent _ m (not_from_true _ q.same)))
 
 pub some-below : (v : Volume) (i : ℕ) → is_allocated_inode v i ≡ true → i < v.count
-some-below v i h = ltb-true i v.count (and_parts (nat_le 2 i) (nat_lt i v.count) (and_parts (is_inode v i) (is_allocated (v.class i)) h).0).1
+some-below v i h = ltb-true i v.count
+    (and_parts (nat_le 2 i) (nat_lt i v.count) (and_parts (is_inode v i) (is_allocated (v.class i)) h).0).1
 
 pub reference-quiet : (v : Volume) → reference_lines v ≡ [] → (i : ℕ) → is_allocated_inode v i ≡ true → IsCountQuiet v i
 unfolding reference_lines
-reference-quiet v h i k = count-quiet v i (then-quiet (is_allocated_inode v i) (inode_lines v i) (lines-quiet (counted_lines v) v.count h i (some-below v i k)) k)
+reference-quiet v h i k =
+    count-quiet v i (then-quiet (is_allocated_inode v i) (inode_lines v i)
+    (lines-quiet (counted_lines v) v.count h i (some-below v i k)) k)
 
-pub reference-silent : (v : Volume) → ((i : ℕ) → is_allocated_inode v i ≡ true → IsCountQuiet v i) → reference_lines v ≡ []
+pub reference-silent : (v : Volume) → ((i : ℕ) → is_allocated_inode v i ≡ true → IsCountQuiet v i) →
+    reference_lines v ≡ []
 unfolding reference_lines
-reference-silent v h = lines-silent (counted_lines v) v.count (λ i l. then-silent (is_allocated_inode v i) (inode_lines v i) (λ k. count-silent v i (h i k)))
+reference-silent v h = lines-silent (counted_lines v) v.count
+    (λ i l. then-silent (is_allocated_inode v i) (inode_lines v i) (λ k. count-silent v i (h i k)))
 
 -- a count and a number
 pub count-true : (z : ℤ) (n : ℕ) → equals_natural z n ≡ true → z ≡ pos n

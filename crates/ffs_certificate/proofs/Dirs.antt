@@ -1,19 +1,30 @@
 -- When the messages on directories are silent.
-use Rattle.std.specs.Prelude.{◌≡◌, ◌≢◌, ℕ, ◌+◌, ◌<◌, ◌==◌, Bool, true, false, not, ◌&&◌, nat_lt, nat_le, refl, List, [], ◌∷◌, Option, Some, None, if◌then◌else◌, IsSomeAnd}
+use Rattle.std.specs.Prelude.{◌≡◌, ◌≢◌, ℕ, ◌+◌, ◌<◌, ◌==◌, Bool, true, false, not, ◌&&◌, nat_lt, nat_le, refl, List, []}
+use Rattle.std.specs.Prelude.{◌∷◌, Option, Some, None, if◌then◌else◌, IsSomeAnd}
 use Rattle.std.proofs.Common.{arith, ◌∙◌, ap, subst}
-use Rattle.std.proofs.lemmas.Bool.{eqb-true, eqb-false, eq-eqb, ne_eqb, ltb-true, and_parts, and_from, not-true, not-false, not_from_true, not_from_false}
+use Rattle.std.proofs.lemmas.Bool.{eqb-true, eqb-false, eq-eqb, ne_eqb, ltb-true, and_parts, and_from, not-true}
+use Rattle.std.proofs.lemmas.Bool.{not-false, not_from_true, not_from_false}
 use Rattle.ffs_volume.specs.declared.Attr.{Attr}
 use Rattle.ffs_volume.specs.declared.Class.{Class}
 use Rattle.ffs_volume.specs.declared.Class.TheVariants.{Free, Partial, Unknown, File, Dir}
 use Rattle.ffs_volume.specs.Directories.Entries.{Entry, is_live}
 use Rattle.ffs_volume.specs.Blocks.Inodes.{is_directory}
-use Rattle.ffs_volume.specs.Directories.Roles.{Volume, RoledEntry, is_dir, is_inode, is_suspect, is_one_dot, is_two_dots, roled_entries, dot, dotdot, start_entry}
+use Rattle.ffs_volume.specs.Directories.Roles.{Volume, RoledEntry, is_dir, is_inode, is_suspect, is_one_dot}
+use Rattle.ffs_volume.specs.Directories.Roles.{is_two_dots, roled_entries, dot, dotdot, start_entry}
 use Rattle.ffs_volume.specs.Directories.Graph.{parent}
 use Rattle.ffs_volume.specs.Directories.Parents.{graph_of, roled_at}
 use Rattle.ffs_volume.specs.Directories.Paths.{dir_path}
-use Rattle.ffs_volume.specs.Messages.Kinds.{reported, lines_below, root_suspect, dir_short, dir_length, dir_empty, dir_corrupt, missing_dot, missing_dot_first, number_dot, kind_dot, missing_dotdot, missing_dotdot_second, number_dotdot, kind_dotdot}
-use Rattle.ffs_volume.specs.Directories.PathnameCheck.{attributes, root_lines, root_reported, continues_after_root, is_short, is_not_multiple, are_sound, shape_lines, dot_lines, dot_reported, missing_dot_reported, is_wrong_parent, dotdot_lines, dotdot_reported, missing_dotdot_reported, lines_of_entries, dir_lines, is_looked_at, lines_of, pathname_lines}
-use Rattle.ffs_certificate.proofs.Silence.{nil-left, nil-right, nil-both, reported-quiet, reported-silent, then-quiet, then-silent, lines-quiet, lines-silent}
+use Rattle.ffs_volume.specs.Messages.Kinds.{reported, lines_below, root_suspect, dir_short, dir_length, dir_empty}
+use Rattle.ffs_volume.specs.Messages.Kinds.{dir_corrupt, missing_dot, missing_dot_first, number_dot, kind_dot}
+use Rattle.ffs_volume.specs.Messages.Kinds.{missing_dotdot, missing_dotdot_second, number_dotdot, kind_dotdot}
+use Rattle.ffs_volume.specs.Directories.PathnameCheck.{attributes, root_lines, root_reported, continues_after_root}
+use Rattle.ffs_volume.specs.Directories.PathnameCheck.{is_short, is_not_multiple, are_sound, shape_lines, dot_lines}
+use Rattle.ffs_volume.specs.Directories.PathnameCheck.{dot_reported, missing_dot_reported, is_wrong_parent}
+use Rattle.ffs_volume.specs.Directories.PathnameCheck.{dotdot_lines, dotdot_reported, missing_dotdot_reported}
+use Rattle.ffs_volume.specs.Directories.PathnameCheck.{lines_of_entries, dir_lines, is_looked_at, lines_of}
+use Rattle.ffs_volume.specs.Directories.PathnameCheck.{pathname_lines}
+use Rattle.ffs_certificate.proofs.Silence.{nil-left, nil-right, nil-both, reported-quiet, reported-silent, then-quiet}
+use Rattle.ffs_certificate.proofs.Silence.{then-silent, lines-quiet, lines-silent}
 use Rattle.ffs_certificate.proofs.Entries.{IsSeenQuiet, entries-quiet, entries-silent}
 
 -- of a directory's size, Gaps and chunks
@@ -44,8 +55,10 @@ shape-silent : (v : Volume) (d : ℕ) → IsShapeQuiet v d → shape_lines v d �
 unfolding shape_lines
 shape-silent v d q =
     let p = dir_path (graph_of v) d in
-    nil-both (reported (is_short v d) (dir_short (attributes v d) p)) _ (reported-silent _ (dir_short (attributes v d) p) q.short)
-    (nil-both (reported (is_not_multiple v d) (dir_length p (v.inode d).size)) _ (reported-silent _ (dir_length p (v.inode d).size) q.broken)
+    nil-both (reported (is_short v d) (dir_short (attributes v d) p)) _
+    (reported-silent _ (dir_short (attributes v d) p) q.short)
+    (nil-both (reported (is_not_multiple v d) (dir_length p (v.inode d).size)) _
+    (reported-silent _ (dir_length p (v.inode d).size) q.broken)
     (nil-both (reported (v.gap d) (dir_empty p)) _ (reported-silent _ (dir_empty p) q.gap)
     (reported-silent _ (dir_corrupt (attributes v d) p) (not_from_true _ q.sound))))
 
@@ -62,7 +75,8 @@ missing_dotdot-some : (about : Attr) (path : List ℕ) (o : Option Entry) → mi
 missing_dotdot-some about path None h = absurd (cc)
 missing_dotdot-some about path (Some e) h = go (is_live e && not (is_one_dot e.name)) h
   where
-    go : (b : Bool) → (if b then missing_dotdot_second about path e.name ∷ [] else missing_dotdot about path ∷ []) ≡ [] → ⊥
+    go : (b : Bool) → (if b then missing_dotdot_second about path e.name ∷ [] else missing_dotdot about path ∷ []) ≡ []
+        → ⊥
     go true h = absurd (cc)
     go false h = absurd (cc)
 
@@ -75,8 +89,10 @@ dot-quiet v d None h = absurd (missing_dot-some (attributes v d) (dir_path (grap
 dot-quiet v d (Some e) h =
     let m = number_dot (attributes v d) (dir_path (graph_of v) d) in
     let k = kind_dot (attributes v d) (dir_path (graph_of v) d) in (
-      eqb-true e.number d (not-false _ (reported-quiet _ m (nil-left (reported (not (e.number == d)) m) (reported (not (e.kind == 4)) k) h))),
-      eqb-true e.kind 4 (not-false _ (reported-quiet _ k (nil-right (reported (not (e.number == d)) m) (reported (not (e.kind == 4)) k) h))),
+      eqb-true e.number d (not-false _
+          (reported-quiet _ m (nil-left (reported (not (e.number == d)) m) (reported (not (e.kind == 4)) k) h))),
+      eqb-true e.kind 4 (not-false _
+          (reported-quiet _ k (nil-right (reported (not (e.number == d)) m) (reported (not (e.kind == 4)) k) h))),
     )
 
 dot-silent : (v : Volume) (d : ℕ) (o : Option Entry) → IsDotQuiet d o → dot_reported v d o ≡ []
@@ -85,7 +101,8 @@ dot-silent v d (Some e) q =
     let m = number_dot (attributes v d) (dir_path (graph_of v) d) in
     let k = kind_dot (attributes v d) (dir_path (graph_of v) d) in
     nil-both (reported (not (e.number == d)) m) (reported (not (e.kind == 4)) k)
-    (reported-silent _ m (not_from_true _ (eq-eqb e.number d q.0))) (reported-silent _ k (not_from_true _ (eq-eqb e.kind 4 q.1)))
+    (reported-silent _ m (not_from_true _ (eq-eqb e.number d q.0)))
+    (reported-silent _ k (not_from_true _ (eq-eqb e.kind 4 q.1)))
 
 -- `..` is there, with its type, and it is the parent if there is one
 abbrev pub IsDotdotQuiet : Volume → ℕ → Option Entry → Type 0
@@ -96,8 +113,11 @@ dotdot-quiet v d None h = absurd (missing_dotdot-some (attributes v d) (dir_path
 dotdot-quiet v d (Some e) h =
     let m = number_dotdot (attributes v d) (dir_path (graph_of v) d) in
     let k = kind_dotdot (attributes v d) (dir_path (graph_of v) d) in (
-      reported-quiet _ m (nil-left (reported (is_wrong_parent (parent (graph_of v) d) e.number) m) (reported (not (e.kind == 4)) k) h),
-      eqb-true e.kind 4 (not-false _ (reported-quiet _ k (nil-right (reported (is_wrong_parent (parent (graph_of v) d) e.number) m) (reported (not (e.kind == 4)) k) h))),
+      reported-quiet _ m (nil-left (reported (is_wrong_parent (parent (graph_of v) d) e.number) m)
+          (reported (not (e.kind == 4)) k) h),
+      eqb-true e.kind 4 (not-false _
+          (reported-quiet _ k (nil-right (reported (is_wrong_parent (parent (graph_of v) d) e.number) m)
+          (reported (not (e.kind == 4)) k) h))),
     )
 
 dotdot-silent : (v : Volume) (d : ℕ) (o : Option Entry) → IsDotdotQuiet v d o → dotdot_reported v d o ≡ []
@@ -128,7 +148,8 @@ dir-quiet v d h =
       shape = shape-quiet v d a;
       dot_there = dot-quiet v d (dot v d) c;
       dotdot_there = dotdot-quiet v d (dotdot v d) f;
-      entries = λ j x t. let z : 0 + j ≡ j = omega arith in subst (λ n. IsSeenQuiet v d n x) z (entries-quiet v d 0 (roled_entries v d) g j x t);
+      entries = λ j x t. let z : 0 + j ≡ j = omega arith in
+          subst (λ n. IsSeenQuiet v d n x) z (entries-quiet v d 0 (roled_entries v d) g j x t);
     }
 
 dir-silent : (v : Volume) (d : ℕ) → IsDirQuiet v d → dir_lines v d ≡ []
@@ -137,8 +158,9 @@ dir-silent v d q =
     nil-both (shape_lines v d) _ (shape-silent v d q.shape)
     (nil-both (dot_lines v d) _ (dot-silent v d (dot v d) q.dot_there)
     (nil-both (dotdot_lines v d) (lines_of_entries v d 0 (roled_entries v d))
-        (dotdot-silent v d (dotdot v d) q.dotdot_there)
-    (entries-silent v d 0 (roled_entries v d) (λ j x t. let z : j ≡ 0 + j = omega arith in subst (λ n. IsSeenQuiet v d n x) z (q.entries j x t)))))
+    (dotdot-silent v d (dotdot v d) q.dotdot_there)
+    (entries-silent v d 0 (roled_entries v d)
+    (λ j x t. let z : j ≡ 0 + j = omega arith in subst (λ n. IsSeenQuiet v d n x) z (q.entries j x t)))))
 
 -- the whole check: the root, and each directory that isn't empty
 pub record IsPathnameQuiet (v : Volume) : Type 0 where
@@ -154,18 +176,21 @@ root-quiet v Partial h = absurd (cc)
 root-quiet v Free h = absurd (cc)
 
 pub dir-below : (v : Volume) (d : ℕ) → is_dir v d ≡ true → d < v.count
-dir-below v d h = ltb-true d v.count (and_parts (nat_le 2 d) (nat_lt d v.count) (and_parts (is_inode v d) (is_directory (v.class d)) h).0).1
+dir-below v d h = ltb-true d v.count
+    (and_parts (nat_le 2 d) (nat_lt d v.count) (and_parts (is_inode v d) (is_directory (v.class d)) h).0).1
 
 pub pathname-quiet : (v : Volume) → pathname_lines v ≡ [] → IsPathnameQuiet v
 unfolding pathname_lines root_lines
 pathname-quiet v h =
     let r = root-quiet v (v.class 2) (nil-left (root_lines v) _ h) in
-    let a = then-quiet (continues_after_root v) (lines_below (lines_of v) v.count) (nil-right (root_lines v) _ h) (ap is_directory r.0) in
+    let a = then-quiet (continues_after_root v) (lines_below (lines_of v) v.count) (nil-right (root_lines v) _ h)
+    (ap is_directory r.0) in
     record {
       root = r.0;
       suspect = r.1;
       each = λ d k n.
-          dir-quiet v d (then-quiet (is_looked_at v d) (dir_lines v d) (lines-quiet (lines_of v) v.count a d (dir-below v d k))
+          dir-quiet v d (then-quiet (is_looked_at v d) (dir_lines v d)
+          (lines-quiet (lines_of v) v.count a d (dir-below v d k))
           (and_from (is_dir v d) (not ((v.inode d).size == 0)) k (not_from_false _ (ne_eqb (v.inode d).size 0 n))));
     }
 

@@ -9,11 +9,16 @@ use Rattle.ffs_certificate.proofs.Forward.{IsQuiet, dirs_right, links_right, cou
 use Rattle.ffs_certificate.proofs.Backward.{IsFileOrDir, quiet_pathnames, quiet_connectivity, quiet_references}
 
 quiet : (v : Volume) → IsSilent v → IsQuiet v
-quiet v s = record { pathnames = pathname-quiet v s.pathnames; connectivity = connectivity-quiet v s.connectivity; references = reference-quiet v s.references }
+quiet v s = record {
+  pathnames = pathname-quiet v s.pathnames;
+  connectivity = connectivity-quiet v s.connectivity;
+  references = reference-quiet v s.references;
+}
 
 pub silent_right : (v : Volume) → IsVolume v → IsUnmarked v → IsSilent v ↔ AreDirectoriesRight v
 silent_right v vol un = (
-  (λ s. let q = quiet v s in record { dirs = dirs_right v vol un q; links = links_right v vol un q; counts = counts_right v q }),
+  (λ s. let q = quiet v s in
+      record { dirs = dirs_right v vol un q; links = links_right v vol un q; counts = counts_right v q }),
   (λ r.
       let t : IsFileOrDir v = record { volume = vol; unmarked = un; dirs = r.dirs; links = r.links } in
       record {

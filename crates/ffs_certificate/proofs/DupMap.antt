@@ -1,5 +1,6 @@
 -- The fragments that the fold marks as dup are those with a Dup line.
-use Rattle.std.proofs.Common.{inl, inr, ◌≡◌, ℕ, ◌+◌, Bool, true, false, arith, refl, sym, ap, subst, ◌∙◌, List, [], ◌∷◌, ◌++◌, length}
+use Rattle.std.proofs.Common.{inl, inr, ◌≡◌, ℕ, ◌+◌, Bool, true, false, arith, refl, sym, ap, subst, ◌∙◌, List, [], ◌∷◌}
+use Rattle.std.proofs.Common.{◌++◌, length}
 use Rattle.std.specs.Prelude.{nat_lt, ◌&&◌, ◌||◌, ◌==◌, not, if◌then◌else◌, slice_set}
 use Rattle.std.specs.List.{range_with_len, list_any}
 use Rattle.std.proofs.lemmas.Bool.{cases_eq, eq-eqb, ne_eqb}
@@ -13,7 +14,9 @@ use Rattle.ffs_volume.specs.declared.BlockMessage.{BlockMessage}
 use Rattle.ffs_volume.specs.declared.BlockMessage.TheVariants.{Bad, ManyBad, PartTrunc}
 use Rattle.ffs_volume.specs.Disk.Areas.{is_fragment_in_range, is_run_in_range}
 use Rattle.ffs_volume.specs.Blocks.Owners.{Owner}
-use Rattle.ffs_volume.specs.Blocks.Claims.{Claims, no_claims, is_set, is_open, next_inode, after_offer, after_offers, after_step, after_steps, after_owner, after_owners, offer_lines, lines_of_offers, step_lines, lines_of_steps}
+use Rattle.ffs_volume.specs.Blocks.Claims.{Claims, no_claims, is_set, is_open, next_inode, after_offer, after_offers}
+use Rattle.ffs_volume.specs.Blocks.Claims.{after_step, after_steps, after_owner, after_owners, offer_lines}
+use Rattle.ffs_volume.specs.Blocks.Claims.{lines_of_offers, step_lines, lines_of_steps}
 use Rattle.ffs_volume.specs.Blocks.BlockCheck.{Offer, class_lines, count_lines, owner_lines, lines_of_owners}
 use Rattle.ffs_volume.specs.Blocks.BlockCheck.{phase1_lines}
 use Rattle.ffs_certificate.proofs.KeepingLaws.{ok_low}

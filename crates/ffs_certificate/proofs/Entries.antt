@@ -1,5 +1,6 @@
 -- When the messages on the entries of directories are silent.
-use Rattle.std.specs.Prelude.{◌≡◌, ◌≢◌, ℕ, zero, suc, ◌+◌, ◌==◌, Bool, true, false, not, nat_lt, refl, List, [], ◌∷◌, Some, if◌then◌else◌}
+use Rattle.std.specs.Prelude.{◌≡◌, ◌≢◌, ℕ, zero, suc, ◌+◌, ◌==◌, Bool, true, false, not, nat_lt, refl, List, [], ◌∷◌}
+use Rattle.std.specs.Prelude.{Some, if◌then◌else◌}
 use Rattle.std.proofs.Common.{arith, sym, ◌∙◌, ap, subst}
 use Rattle.std.proofs.lemmas.Bool.{eqb-true, eq-eqb, and_parts, and_from, not-false, not_from_true}
 use Rattle.ffs_volume.specs.declared.Attr.{Attr}
@@ -11,9 +12,14 @@ use Rattle.ffs_volume.specs.Directories.Roles.{Volume, RoledEntry, is_dir, is_pl
 use Rattle.ffs_volume.specs.Directories.Graph.{names, names_at, test_at}
 use Rattle.ffs_volume.specs.Directories.Parents.{graph_of, roled_at}
 use Rattle.ffs_volume.specs.Directories.Paths.{dir_path, entry_path}
-use Rattle.ffs_volume.specs.Messages.Kinds.{reported, out_of_range, whiteout, unallocated, extraneous, kind_entry, extra_dot, extra_dotdot}
-use Rattle.ffs_volume.specs.Directories.PathnameCheck.{attributes, label_of, roled_lines, roled_reported, lines_of_entries, plain_lines, named_lines, is_bad_whiteout, reports_suspect, suspect_reported, is_extraneous, has_wrong_type, extra_reported}
-use Rattle.ffs_certificate.proofs.Silence.{nil-left, nil-right, nil-both, reported-quiet, reported-silent, if-quiet, if-silent, else-quiet, else-silent}
+use Rattle.ffs_volume.specs.Messages.Kinds.{reported, out_of_range, whiteout, unallocated, extraneous, kind_entry}
+use Rattle.ffs_volume.specs.Messages.Kinds.{extra_dot, extra_dotdot}
+use Rattle.ffs_volume.specs.Directories.PathnameCheck.{attributes, label_of, roled_lines, roled_reported}
+use Rattle.ffs_volume.specs.Directories.PathnameCheck.{lines_of_entries, plain_lines, named_lines, is_bad_whiteout}
+use Rattle.ffs_volume.specs.Directories.PathnameCheck.{reports_suspect, suspect_reported, is_extraneous, has_wrong_type}
+use Rattle.ffs_volume.specs.Directories.PathnameCheck.{extra_reported}
+use Rattle.ffs_certificate.proofs.Silence.{nil-left, nil-right, nil-both, reported-quiet, reported-silent, if-quiet}
+use Rattle.ffs_certificate.proofs.Silence.{if-silent, else-quiet, else-silent}
 
 -- a plain entry that names an inode from 2 on
 pub record IsNamedQuiet (v : Volume) (s j : ℕ) (e : Entry) : Type 0 where
@@ -28,40 +34,51 @@ pub record IsPlainQuiet (v : Volume) (s j : ℕ) (e : Entry) : Type 0 where
   pub no_whiteout : is_bad_whiteout e ≡ false
   pub named : (e.number == 1) ≡ false → IsNamedQuiet v s j e
 
-named-quiet : (v : Volume) (s j : ℕ) (e : Entry) → is_allocated (v.class e.number) ≡ true → named_lines v s j e ≡ [] → IsNamedQuiet v s j e
+named-quiet : (v : Volume) (s j : ℕ) (e : Entry) → is_allocated (v.class e.number) ≡ true → named_lines v s j e ≡ [] →
+    IsNamedQuiet v s j e
 unfolding named_lines
 named-quiet v s j e a h =
-    let one = nil-left (reported (reports_suspect v s j e.number) (suspect_reported v e.number (entry_path (graph_of v) s e.name))) _ h in
-    let rest = nil-right (reported (reports_suspect v s j e.number) (suspect_reported v e.number (entry_path (graph_of v) s e.name))) _ h in
-    let two = nil-left (reported (is_extraneous v s j e.number) (extraneous (entry_path (graph_of v) s e.name) (dir_path (graph_of v) e.number))) _ rest in
-    let three = nil-right (reported (is_extraneous v s j e.number) (extraneous (entry_path (graph_of v) s e.name) (dir_path (graph_of v) e.number))) _ rest in
+    let one = nil-left (reported (reports_suspect v s j e.number)
+    (suspect_reported v e.number (entry_path (graph_of v) s e.name))) _ h in
+    let rest = nil-right (reported (reports_suspect v s j e.number)
+    (suspect_reported v e.number (entry_path (graph_of v) s e.name))) _ h in
+    let two = nil-left (reported (is_extraneous v s j e.number)
+    (extraneous (entry_path (graph_of v) s e.name) (dir_path (graph_of v) e.number))) _ rest in
+    let three = nil-right (reported (is_extraneous v s j e.number)
+    (extraneous (entry_path (graph_of v) s e.name) (dir_path (graph_of v) e.number))) _ rest in
     record {
       allocated = a;
       suspect = reported-quiet _ (suspect_reported v e.number (entry_path (graph_of v) s e.name)) one;
       link = reported-quiet _ (extraneous (entry_path (graph_of v) s e.name) (dir_path (graph_of v) e.number)) two;
-      kind = reported-quiet _ (kind_entry (attributes v e.number) (label_of (v.class e.number)) (entry_path (graph_of v) s e.name)) three;
+      kind = reported-quiet _ (kind_entry (attributes v e.number) (label_of (v.class e.number))
+          (entry_path (graph_of v) s e.name)) three;
     }
 
 named-silent : (v : Volume) (s j : ℕ) (e : Entry) → IsNamedQuiet v s j e → named_lines v s j e ≡ []
 unfolding named_lines
 named-silent v s j e q =
-    nil-both (reported (reports_suspect v s j e.number) (suspect_reported v e.number (entry_path (graph_of v) s e.name))) _
+    nil-both (reported (reports_suspect v s j e.number)
+    (suspect_reported v e.number (entry_path (graph_of v) s e.name))) _
     (reported-silent _ (suspect_reported v e.number (entry_path (graph_of v) s e.name)) q.suspect)
-    (nil-both (reported (is_extraneous v s j e.number) (extraneous (entry_path (graph_of v) s e.name) (dir_path (graph_of v) e.number))) _
+    (nil-both (reported (is_extraneous v s j e.number)
+    (extraneous (entry_path (graph_of v) s e.name) (dir_path (graph_of v) e.number))) _
     (reported-silent _ (extraneous (entry_path (graph_of v) s e.name) (dir_path (graph_of v) e.number)) q.link)
-    (reported-silent _ (kind_entry (attributes v e.number) (label_of (v.class e.number)) (entry_path (graph_of v) s e.name)) q.kind))
+    (reported-silent _ (kind_entry (attributes v e.number) (label_of (v.class e.number))
+    (entry_path (graph_of v) s e.name)) q.kind))
 
 pub plain-quiet : (v : Volume) (s j : ℕ) (e : Entry) → plain_lines v s j e ≡ [] → IsPlainQuiet v s j e
 unfolding plain_lines
 plain-quiet v s j e h =
-    let a = if-quiet (not (nat_lt e.number v.count)) (out_of_range e.number (entry_path (graph_of v) s e.name)) [] _ h in
+    let a = if-quiet (not (nat_lt e.number v.count)) (out_of_range e.number (entry_path (graph_of v) s e.name)) [] _
+    h in
     let b = if-quiet (is_bad_whiteout e) (whiteout e.number (entry_path (graph_of v) s e.name)) [] _ a.1 in
     record {
       below = not-false _ a.0;
       no_whiteout = b.0;
       named = λ n.
           let c = else-quiet (e.number == 1) _ b.1 n in
-          let d = if-quiet (not (is_allocated (v.class e.number))) (unallocated (attributes v e.number) (entry_path (graph_of v) s e.name)) [] _ c in
+          let d = if-quiet (not (is_allocated (v.class e.number)))
+          (unallocated (attributes v e.number) (entry_path (graph_of v) s e.name)) [] _ c in
           named-quiet v s j e (not-false _ d.0) d.1;
     }
 
@@ -71,7 +88,8 @@ plain-silent v s j e q =
     if-silent (not (nat_lt e.number v.count)) _ _ (not_from_true _ q.below)
     (if-silent (is_bad_whiteout e) _ _ q.no_whiteout
     (else-silent (e.number == 1) _ (λ n.
-    if-silent (not (is_allocated (v.class e.number))) _ _ (not_from_true _ (q.named n).allocated) (named-silent v s j e (q.named n)))))
+    if-silent (not (is_allocated (v.class e.number))) _ _ (not_from_true _ (q.named n).allocated)
+    (named-silent v s j e (q.named n)))))
 
 -- an entry: not extra, and quiet if it is plain
 pub record IsSeenQuiet (v : Volume) (s j : ℕ) (e : RoledEntry) : Type 0 where
@@ -88,7 +106,8 @@ extra_reported-some about path e h = go (is_one_dot e.name) h
 pub seen-quiet : (v : Volume) (s j : ℕ) (e : RoledEntry) → roled_lines v s j e ≡ [] → IsSeenQuiet v s j e
 unfolding roled_lines
 seen-quiet v s j e h = record {
-  no_extra = λ x. extra_reported-some (attributes v s) (dir_path (graph_of v) s) e.entry (sym (ap (λ r. roled_reported v s j r e.entry) x) ∙ h);
+  no_extra = λ x. extra_reported-some (attributes v s) (dir_path (graph_of v) s) e.entry
+      (sym (ap (λ r. roled_reported v s j r e.entry) x) ∙ h);
   plain = λ x. plain-quiet v s j e.entry (sym (ap (λ r. roled_reported v s j r e.entry) x) ∙ h);
 }
 
@@ -104,18 +123,21 @@ seen-silent v s j e q = go e.role refl
     go Plain x = plain-silent v s j e.entry (q.plain x)
 
 -- the entries of a list that is from the place j on
-pub entries-quiet : (v : Volume) (s j : ℕ) (es : List RoledEntry) → lines_of_entries v s j es ≡ [] → (k : ℕ) (e : RoledEntry) → roled_at es k ≡ Some e → IsSeenQuiet v s (j + k) e
+pub entries-quiet : (v : Volume) (s j : ℕ) (es : List RoledEntry) → lines_of_entries v s j es ≡ [] →
+    (k : ℕ) (e : RoledEntry) → roled_at es k ≡ Some e → IsSeenQuiet v s (j + k) e
 unfolding lines_of_entries
 entries-quiet v s j [] h k e x = absurd (cc)
 entries-quiet v s j (f ∷ es) h zero e x =
     let q : f ≡ e = cc in
     let z : j ≡ j + 0 = omega arith in
-    subst (λ n. IsSeenQuiet v s n e) z (subst (λ y. IsSeenQuiet v s j y) q (seen-quiet v s j f (nil-left (roled_lines v s j f) _ h)))
+    subst (λ n. IsSeenQuiet v s n e) z
+    (subst (λ y. IsSeenQuiet v s j y) q (seen-quiet v s j f (nil-left (roled_lines v s j f) _ h)))
 entries-quiet v s j (f ∷ es) h (suc k) e x =
     let z : suc j + k ≡ j + suc k = omega arith in
     subst (λ n. IsSeenQuiet v s n e) z (entries-quiet v s (suc j) es (nil-right (roled_lines v s j f) _ h) k e x)
 
-pub entries-silent : (v : Volume) (s j : ℕ) (es : List RoledEntry) → ((k : ℕ) (e : RoledEntry) → roled_at es k ≡ Some e → IsSeenQuiet v s (j + k) e) → lines_of_entries v s j es ≡ []
+pub entries-silent : (v : Volume) (s j : ℕ) (es : List RoledEntry) →
+    ((k : ℕ) (e : RoledEntry) → roled_at es k ≡ Some e → IsSeenQuiet v s (j + k) e) → lines_of_entries v s j es ≡ []
 unfolding lines_of_entries
 entries-silent v s j [] h = refl
 entries-silent v s j (f ∷ es) h =
@@ -134,12 +156,14 @@ plain-true Dotdot h = absurd (cc)
 plain-true Extra h = absurd (cc)
 plain-true Empty h = absurd (cc)
 
-test-gives : (p : RoledEntry → Bool) (j : ℕ) (es : List RoledEntry) → test_at p j es ≡ true → (e : RoledEntry) × (roled_at es j ≡ Some e) × (p e ≡ true)
+test-gives : (p : RoledEntry → Bool) (j : ℕ) (es : List RoledEntry) → test_at p j es ≡ true → (e : RoledEntry)
+    × (roled_at es j ≡ Some e) × (p e ≡ true)
 test-gives p j [] h = absurd (cc)
 test-gives p zero (e ∷ es) h = (e, refl, h)
 test-gives p (suc j) (e ∷ es) h = test-gives p j es h
 
-test-from : (p : RoledEntry → Bool) (j : ℕ) (es : List RoledEntry) (e : RoledEntry) → roled_at es j ≡ Some e → p e ≡ true → test_at p j es ≡ true
+test-from : (p : RoledEntry → Bool) (j : ℕ) (es : List RoledEntry) (e : RoledEntry) → roled_at es j ≡ Some e →
+    p e ≡ true → test_at p j es ≡ true
 test-from p j [] e x h = absurd (cc)
 test-from p zero (f ∷ es) e x h = let q : e ≡ f = cc in subst (λ y. p y ≡ true) q h
 test-from p (suc j) (f ∷ es) e x h = test-from p j es e x h
@@ -164,4 +188,5 @@ pub names_at-from : (v : Volume) (s j x : ℕ) → IsNamer v s j x → names_at 
 names_at-from v s j x n =
     and_from (is_dir v s) (test_at (names x) j (roled_entries v s)) n.dir
     (test-from (names x) j (roled_entries v s) n.entry n.there
-    (and_from (is_plain n.entry.role) (n.entry.entry.number == x) (ap is_plain n.role) (eq-eqb n.entry.entry.number x n.number)))
+    (and_from (is_plain n.entry.role) (n.entry.entry.number == x) (ap is_plain n.role)
+    (eq-eqb n.entry.entry.number x n.number)))

@@ -1,5 +1,6 @@
 -- When each number of a list is new.
-use Rattle.std.proofs.Common.{inl, inr, ◌≡◌, ℕ, ◌+◌, ◌<◌, ◌≤◌, Bool, true, false, cond, arith, refl, sym, ap, ◌∙◌, List, [], ◌∷◌, length}
+use Rattle.std.proofs.Common.{inl, inr, ◌≡◌, ℕ, ◌+◌, ◌<◌, ◌≤◌, Bool, true, false, cond, arith, refl, sym, ap, ◌∙◌, List}
+use Rattle.std.proofs.Common.{[], ◌∷◌, length}
 use Rattle.std.specs.Prelude.{nat_lt, ◌==◌, not, slice_set}
 use Rattle.std.specs.List.{list_all}
 use Rattle.std.proofs.lemmas.Bool.{and_parts, cases_eq, eq-eqb, ne_eqb, ltb-true}
@@ -35,7 +36,8 @@ bit_small : (b : Bool) → bit b ≤ 1
 bit_small true = omega arith
 bit_small false = omega arith
 
-pub fresh_new : (used : List Bool) (fs : List ℕ) → are_below (length used) fs ≡ true → fresh used fs ≡ true → IsNew used fs
+pub fresh_new : (used : List Bool) (fs : List ℕ) → are_below (length used) fs ≡ true → fresh used fs ≡ true →
+    IsNew used fs
 fresh_new used [] below e = λ f. omega (arith, bit_small (is_set used f))
 fresh_new used (g ∷ fs) below e =
     let a = and_parts (nat_lt g (length used)) (are_below (length used) fs) below in
@@ -44,7 +46,8 @@ fresh_new used (g ∷ fs) below e =
     let rest = fresh_new (slice_set used g true) fs (ap (λ n. are_below n fs) (length-set used g true) ∙ a.1) b.1 in
     λ f. omega (arith, rest f, times_cons f g fs, bit_set used g f (ltb-true g (length used) a.0) free)
 
-pub new_fresh : (used : List Bool) (fs : List ℕ) → are_below (length used) fs ≡ true → IsNew used fs → fresh used fs ≡ true
+pub new_fresh : (used : List Bool) (fs : List ℕ) → are_below (length used) fs ≡ true → IsNew used fs →
+    fresh used fs ≡ true
 new_fresh used [] below new = refl
 new_fresh used (g ∷ fs) below new =
     let a = and_parts (nat_lt g (length used)) (are_below (length used) fs) below in

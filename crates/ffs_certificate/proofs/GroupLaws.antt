@@ -1,5 +1,6 @@
 -- Phase 5 reports nothing exactly where all groups are right.
-use Rattle.std.proofs.Common.{zero, suc, inl, inr, ◌≡◌, ℕ, ◌+◌, ◌<◌, ◌≤◌, Bool, true, false, arith, refl, sym, ap, subst, ◌∙◌, List, [], ◌∷◌, ◌++◌, ◌↔◌}
+use Rattle.std.proofs.Common.{zero, suc, inl, inr, ◌≡◌, ℕ, ◌+◌, ◌<◌, ◌≤◌, Bool, true, false, arith, refl, sym, ap}
+use Rattle.std.proofs.Common.{subst, ◌∙◌, List, [], ◌∷◌, ◌++◌, ◌↔◌}
 use Rattle.std.specs.Prelude.{nat_lt, ◌&&◌, ◌||◌, ◌==◌, not, if◌then◌else◌, ℤ}
 use Rattle.std.specs.List.{list_all, list_any, flat_map, range_with_len}
 use Rattle.std.proofs.Math.Path.{fun_ext}
@@ -7,7 +8,9 @@ use Rattle.std.proofs.lemmas.Bool.{and_parts, and_from, cases_eq}
 use Rattle.ffs_volume.specs.declared.Layout.{Layout}
 use Rattle.ffs_volume.specs.declared.Class.{Class}
 use Rattle.ffs_volume.specs.declared.BlockMessage.{BlockMessage}
-use Rattle.ffs_volume.specs.declared.BlockMessage.TheVariants.{PartAlloc, UnknownType, Bad, Dup, ManyBad, ManyDup, PartTrunc, BlockCount, GroupMagic, FreeCounts, MapsWrong, GroupSums}
+use Rattle.ffs_volume.specs.declared.BlockMessage.TheVariants.{PartAlloc, UnknownType, Bad, Dup, ManyBad, ManyDup}
+use Rattle.ffs_volume.specs.declared.BlockMessage.TheVariants.{PartTrunc, BlockCount, GroupMagic, FreeCounts, MapsWrong}
+use Rattle.ffs_volume.specs.declared.BlockMessage.TheVariants.{GroupSums}
 use Rattle.ffs_volume.specs.Disk.Areas.{is_reserved}
 use Rattle.ffs_volume.specs.Blocks.Owners.{Owner, fragments_of, all_steps}
 use Rattle.ffs_volume.specs.Blocks.Claims.{is_set, reserved_map, no_claims, after_owners}
@@ -16,9 +19,13 @@ use Rattle.ffs_volume.specs.Consistent.BlocksRight.{times, BlocksRight}
 use Rattle.ffs_certificate.proofs.BlockLaws.{is_nil, nil_append, mark}
 use Rattle.ffs_certificate.proofs.OwnerLaws.{owners_claim, owners_from, Quiet}
 use Rattle.ffs_certificate.proofs.FreshLaws.{bit, times_cons, marked_bit}
-use Rattle.ffs_certificate.proofs.BlocksSilent.{nil_is, right_quiet, runs_below, reserved_length, reserved_bit, blocks_silent}
-use Rattle.ffs_volume.specs.Groups.Records.{group_block, summary_record, group_numbers, has_right_magic, maps_fit, has_right_maps, has_right_sums, has_right_record, has_right_totals, GroupRight, GroupsRight}
-use Rattle.ffs_volume.specs.Groups.GroupCheck.{unless, group_lines, all_group_lines, is_reported, reported_once, unreported, phase5_lines, is_free_of_kept, is_free_of_runs}
+use Rattle.ffs_certificate.proofs.BlocksSilent.{nil_is, right_quiet, runs_below, reserved_length, reserved_bit}
+use Rattle.ffs_certificate.proofs.BlocksSilent.{blocks_silent}
+use Rattle.ffs_volume.specs.Groups.Records.{group_block, summary_record, group_numbers, has_right_magic, maps_fit}
+use Rattle.ffs_volume.specs.Groups.Records.{has_right_maps, has_right_sums, has_right_record, has_right_totals}
+use Rattle.ffs_volume.specs.Groups.Records.{GroupRight, GroupsRight}
+use Rattle.ffs_volume.specs.Groups.GroupCheck.{unless, group_lines, all_group_lines, is_reported, reported_once}
+use Rattle.ffs_volume.specs.Groups.GroupCheck.{unreported, phase5_lines, is_free_of_kept, is_free_of_runs}
 
 nil_flat : {X Y : Type 0} (f : X → List Y) (xs : List X) → is_nil (flat_map f xs) ≡ list_all (λ x. is_nil (f x)) xs
 nil_flat f [] = refl
@@ -34,9 +41,11 @@ all_at p a (suc n) c e low high =
       | inr other ↦ all_at p (a + 1) n c parts.1 (omega arith) (omega arith)
     ]
 
-all_from : (p : ℕ → Bool) (a n : ℕ) → ((c : ℕ) → a ≤ c → c < a + n → p c ≡ true) → list_all p (range_with_len a n) ≡ true
+all_from : (p : ℕ → Bool) (a n : ℕ) → ((c : ℕ) → a ≤ c → c < a + n → p c ≡ true) → list_all p (range_with_len a n)
+    ≡ true
 all_from p a zero h = refl
-all_from p a (suc n) h = and_from (p a) _ (h a (omega arith) (omega arith)) (all_from p (a + 1) n (λ c low high. h c (omega arith) (omega arith)))
+all_from p a (suc n) h = and_from (p a) _ (h a (omega arith) (omega arith))
+    (all_from p (a + 1) n (λ c low high. h c (omega arith) (omega arith)))
 
 first_reported : (m : BlockMessage) → is_reported unreported m ≡ false
 first_reported (PartAlloc _) = refl
@@ -62,7 +71,8 @@ nil_unless true m = refl
 nil_unless false m = refl
 
 shape : (a b d e : Bool) (m : BlockMessage) →
-    is_nil (if a then unless b FreeCounts ++ (unless d MapsWrong ++ unless e GroupSums) else m ∷ unless b FreeCounts) ≡ (a && (b && (d && e)))
+    is_nil (if a then unless b FreeCounts ++ (unless d MapsWrong ++ unless e GroupSums) else m ∷ unless b FreeCounts)
+    ≡ (a && (b && (d && e)))
 shape true true true true m = refl
 shape true true true false m = refl
 shape true true false e m = refl
@@ -73,41 +83,55 @@ abbrev pub is_group_right : Layout → List ℕ → (ℕ → Bool) → (ℕ → 
 is_group_right v image free class c =
     has_right_magic v (group_block v image c)
     && (has_right_record v free class c (summary_record v image c)
-    && ((maps_fit v (group_block v image c) && has_right_maps v free class c (group_block v image c)) && has_right_sums v free class c (group_block v image c)))
+    && ((maps_fit v (group_block v image c) && has_right_maps v free class c (group_block v image c))
+    && has_right_sums v free class c (group_block v image c)))
 
 module _ (v : Layout) (image : List ℕ) (totals : List ℤ) (free : ℕ → Bool) (class : ℕ → Class) where
   group_says : (c : ℕ) → is_nil (group_lines v image free class c) ≡ is_group_right v image free class c
   group_says c = shape (has_right_magic v (group_block v image c))
       (has_right_record v free class c (summary_record v image c))
-      (maps_fit v (group_block v image c) && has_right_maps v free class c (group_block v image c)) (has_right_sums v free class c (group_block v image c)) (GroupMagic c)
+      (maps_fit v (group_block v image c) && has_right_maps v free class c (group_block v image c))
+      (has_right_sums v free class c (group_block v image c)) (GroupMagic c)
 
   group_facts : (c : ℕ) → is_group_right v image free class c ≡ true → GroupRight v image free class c
   group_facts c e =
       let a = and_parts (has_right_magic v (group_block v image c)) _ e in
       let b = and_parts (has_right_record v free class c (summary_record v image c)) _ a.1 in
-      let d = and_parts (maps_fit v (group_block v image c) && has_right_maps v free class c (group_block v image c)) _ b.1 in
+      let d = and_parts (maps_fit v (group_block v image c) && has_right_maps v free class c (group_block v image c)) _
+      b.1 in
       let f = and_parts (maps_fit v (group_block v image c)) _ d.0 in
       record { magic = a.0; places = f.0; maps = f.1; sums = d.1; record_is = b.0 }
 
   group_test : (c : ℕ) → GroupRight v image free class c → is_group_right v image free class c ≡ true
   group_test c g = and_from _ _ g.magic (and_from _ _ g.record_is (and_from _ _ (and_from _ _ g.places g.maps) g.sums))
 
-  all_say : is_nil (phase5_lines v image totals free class) ≡ (list_all (λ c. is_nil (group_lines v image free class c)) (group_numbers v) && has_right_totals v free class totals)
+  all_say : is_nil (phase5_lines v image totals free class)
+      ≡ (list_all (λ c. is_nil (group_lines v image free class c)) (group_numbers v) && has_right_totals v free class
+      totals)
   unfolding phase5_lines
   all_say =
       once_nil (all_group_lines v image totals free class)
-      ∙ (nil_append (flat_map (group_lines v image free class) (group_numbers v)) (unless (has_right_totals v free class totals) FreeCounts)
-      ∙ rw (nil_flat (group_lines v image free class) (group_numbers v), nil_unless (has_right_totals v free class totals) FreeCounts) refl)
+      ∙ (nil_append (flat_map (group_lines v image free class) (group_numbers v))
+      (unless (has_right_totals v free class totals) FreeCounts)
+      ∙ rw (
+        nil_flat (group_lines v image free class) (group_numbers v),
+        nil_unless (has_right_totals v free class totals) FreeCounts,
+      ) refl)
 
   pub phase5_silent : (phase5_lines v image totals free class ≡ []) ↔ GroupsRight v image totals free class
   phase5_silent = (
     (λ e.
-        let parts = and_parts (list_all (λ c. is_nil (group_lines v image free class c)) (group_numbers v)) (has_right_totals v free class totals) (sym all_say ∙ ap is_nil e) in
+        let parts = and_parts (list_all (λ c. is_nil (group_lines v image free class c)) (group_numbers v))
+        (has_right_totals v free class totals) (sym all_say ∙ ap is_nil e) in
         record {
-          groups = λ c lt. group_facts c (sym (group_says c) ∙ all_at (λ k. is_nil (group_lines v image free class k)) 0 v.ncg c parts.0 (omega arith) (omega arith));
+          groups = λ c lt. group_facts c
+              (sym (group_says c) ∙ all_at (λ k. is_nil (group_lines v image free class k)) 0 v.ncg c parts.0
+              (omega arith) (omega arith));
           total = parts.1;
         }),
-    (λ g. nil_is _ (all_say ∙ and_from _ _ (all_from (λ k. is_nil (group_lines v image free class k)) 0 v.ncg (λ c low high. group_says c ∙ group_test c (g.groups c (omega arith)))) g.total)),
+    (λ g. nil_is _ (all_say ∙ and_from _ _
+        (all_from (λ k. is_nil (group_lines v image free class k)) 0 v.ncg
+        (λ c low high. group_says c ∙ group_test c (g.groups c (omega arith)))) g.total)),
   )
 
 -- whether a number is in a list, and how often
@@ -151,24 +175,36 @@ same_free v os r = fun_ext (λ f. one f (nat_lt f v.size) refl)
     used_is : (after_owners v (no_claims v) os).used ≡ mark (reserved_map v) (fragments_of (all_steps os))
     used_is = (owners_claim v (no_claims v) os (owners_from v (reserved_map v) os quiet)).0
 
-    set_bit : (f : ℕ) → bit (is_set (after_owners v (no_claims v) os).used f) ≡ times f (fragments_of (all_steps os)) + bit (is_set (reserved_map v) f)
+    set_bit : (f : ℕ) → bit (is_set (after_owners v (no_claims v) os).used f) ≡ times f (fragments_of (all_steps os))
+        + bit (is_set (reserved_map v) f)
     set_bit f =
         let long = reserved_length v in
         ap (λ u. bit (is_set u f)) used_is
-        ∙ marked_bit (reserved_map v) (fragments_of (all_steps os)) (rw long (runs_below v (all_steps os) r.runs.in_range)) quiet.new f
+        ∙ marked_bit (reserved_map v) (fragments_of (all_steps os))
+        (rw long (runs_below v (all_steps os) r.runs.in_range)) quiet.new f
 
     held : (f : ℕ) → nat_lt f v.size ≡ true → (a : Bool) → is_reserved v f ≡ a → bit (is_set (reserved_map v) f) ≡ bit a
     held f low a ea = ap bit (reserved_bit v f ∙ rw (low, ea) refl)
 
-    two : (f : ℕ) → nat_lt f v.size ≡ true → (a : Bool) → is_reserved v f ≡ a → (b : Bool) → list_any (λ g. g == f) (fragments_of (all_steps os)) ≡ b →
+    two : (f : ℕ) → nat_lt f v.size ≡ true → (a : Bool) → is_reserved v f ≡ a → (b : Bool) →
+        list_any (λ g. g == f) (fragments_of (all_steps os)) ≡ b →
         is_set (after_owners v (no_claims v) os).used f ≡ (a || b)
     two f low true ea b eb = bit_one _ (omega (arith, set_bit f, held f low true ea, r.runs.unreserved f ea))
-    two f low false ea true eb = bit_one _ (omega (arith, set_bit f, held f low false ea, any_times f (fragments_of (all_steps os)) eb, r.runs.alone f))
-    two f low false ea false eb = bit_zero _ (omega (arith, set_bit f, held f low false ea, none_times f (fragments_of (all_steps os)) eb))
+    two f low false ea true eb =
+        bit_one _ (omega (
+          arith,
+          set_bit f,
+          held f low false ea,
+          any_times f (fragments_of (all_steps os)) eb,
+          r.runs.alone f,
+        ))
+    two f low false ea false eb =
+        bit_zero _ (omega (arith, set_bit f, held f low false ea, none_times f (fragments_of (all_steps os)) eb))
 
     one : (f : ℕ) (low : Bool) → nat_lt f v.size ≡ low → is_free_of_kept v os f ≡ is_free_of_runs v os f
     one f false e = rw e refl
-    one f true e = ap (λ b. nat_lt f v.size && not b) (two f e (is_reserved v f) refl (list_any (λ g. g == f) (fragments_of (all_steps os))) refl)
+    one f true e = ap (λ b. nat_lt f v.size && not b)
+        (two f e (is_reserved v f) refl (list_any (λ g. g == f) (fragments_of (all_steps os))) refl)
 
 -- the lines of the blocks and of the groups, together
 abbrev pub block_and_group_lines : Layout → List ℕ → List ℤ → List Owner → (ℕ → Class) → List BlockMessage
@@ -176,13 +212,19 @@ block_and_group_lines v image totals os class =
     (phase1_lines v os ++ phase1b_lines v os) ++ phase5_lines v image totals (is_free_of_kept v os) class
 
 pub blocks_and_groups : (v : Layout) (image : List ℕ) (totals : List ℤ) (os : List Owner) (class : ℕ → Class) →
-    (block_and_group_lines v image totals os class ≡ []) ↔ (BlocksRight v os × GroupsRight v image totals (is_free_of_runs v os) class)
+    (block_and_group_lines v image totals os class ≡ []) ↔
+    (BlocksRight v os × GroupsRight v image totals (is_free_of_runs v os) class)
 blocks_and_groups v image totals os class = (
   (λ e.
-      let parts = and_parts (is_nil (phase1_lines v os ++ phase1b_lines v os)) (is_nil (phase5_lines v image totals (is_free_of_kept v os) class))
-      (sym (nil_append (phase1_lines v os ++ phase1b_lines v os) (phase5_lines v image totals (is_free_of_kept v os) class)) ∙ ap is_nil e) in
-      let right = (blocks_silent v os).0 (nil_is _ parts.0) in
-      (right, subst (λ free. GroupsRight v image totals free class) (same_free v os right) ((phase5_silent v image totals (is_free_of_kept v os) class).0 (nil_is _ parts.1)))),
+      let parts = and_parts (is_nil (phase1_lines v os ++ phase1b_lines v os))
+      (is_nil (phase5_lines v image totals (is_free_of_kept v os) class))
+      (sym (nil_append (phase1_lines v os ++ phase1b_lines v os)
+      (phase5_lines v image totals (is_free_of_kept v os) class)) ∙ ap is_nil e) in
+      let right = (blocks_silent v os).0 (nil_is _ parts.0) in (
+        right,
+        subst (λ free. GroupsRight v image totals free class) (same_free v os right)
+            ((phase5_silent v image totals (is_free_of_kept v os) class).0 (nil_is _ parts.1)),
+      )),
   (λ r.
       let first = (blocks_silent v os).1 r.0 in
       let groups = subst (λ free. GroupsRight v image totals free class) (sym (same_free v os r.0)) r.1 in

@@ -1,5 +1,6 @@
 -- The fold over steps keeps what the rule keeps: an inode, and all inodes.
-use Rattle.std.proofs.Common.{zero, suc, ◌≡◌, ℕ, ◌+◌, ◌-◌, ◌*◌, ◌≤◌, Bool, true, false, arith, refl, sym, ap, subst, ◌∙◌, List, [], ◌∷◌, ◌++◌, length}
+use Rattle.std.proofs.Common.{zero, suc, ◌≡◌, ℕ, ◌+◌, ◌-◌, ◌*◌, ◌≤◌, Bool, true, false, arith, refl, sym, ap, subst}
+use Rattle.std.proofs.Common.{◌∙◌, List, [], ◌∷◌, ◌++◌, length}
 use Rattle.std.specs.Prelude.{nat_lt, ◌&&◌, ◌||◌, ◌==◌, map}
 use Rattle.std.specs.List.{list_all, range_with_len}
 use Rattle.std.proofs.lemmas.Bool.{and_parts, and_from, ne_eqb, ltb-true, lt-ltb}
@@ -8,11 +9,14 @@ use Rattle.ffs_volume.specs.declared.Step.{Step}
 use Rattle.ffs_volume.specs.declared.Step.TheVariants.{Run, Tail, Gap}
 use Rattle.ffs_volume.specs.Disk.Areas.{is_fragment_in_range, is_reserved}
 use Rattle.ffs_volume.specs.Blocks.Owners.{Owner, owner_of, owners_of}
-use Rattle.ffs_volume.specs.Blocks.Claims.{Claims, is_set, next_inode, no_claims, after_step, after_steps, after_owner, after_owners}
+use Rattle.ffs_volume.specs.Blocks.Claims.{Claims, is_set, next_inode, no_claims, after_step, after_steps, after_owner}
+use Rattle.ffs_volume.specs.Blocks.Claims.{after_owners}
 use Rattle.ffs_volume.specs.Blocks.BlockCheck.{kept_in_steps, kept_in_owners}
 use Rattle.ffs_certificate.proofs.FreshLaws.{bit}
 use Rattle.ffs_certificate.proofs.BlocksSilent.{reserved_length, reserved_bit}
-use Rattle.ffs_volume.specs.Blocks.Keeping.{CountedOffer, bad_runs_after, counted_offer, step_offers, offers_of_steps, all_offers, OfferVerdict, is_claimed_before, dups_of, offer_verdict, verdicts, kept_by_rule}
+use Rattle.ffs_volume.specs.Blocks.Keeping.{CountedOffer, bad_runs_after, counted_offer, step_offers, offers_of_steps}
+use Rattle.ffs_volume.specs.Blocks.Keeping.{all_offers, OfferVerdict, is_claimed_before, dups_of, offer_verdict}
+use Rattle.ffs_volume.specs.Blocks.Keeping.{verdicts, kept_by_rule}
 use Rattle.ffs_certificate.specs.Certificate.{KeepsByRule}
 use Rattle.ffs_certificate.proofs.KeepingLaws.{kept_of, dups_cons, kept_cons, ok_low}
 use Rattle.ffs_certificate.proofs.KeepingOwners.{Tie, step_tied, judged_append, kept_append}
@@ -28,10 +32,11 @@ pub steps_tied : (v : Layout) (i b : ℕ) (s : Claims) (e : List OfferVerdict) (
 steps_tied v i b s e [] t = (t, refl)
 steps_tied v i b s e (step ∷ steps) t =
     let one = step_tied v i b s e step t in
-    let rest = steps_tied v i (bad_runs_after v b step) (after_step v s step) (verdicts v e (step_offers v i b step)) steps one.0 in (
+    let rest = steps_tied v i (bad_runs_after v b step) (after_step v s step) (verdicts v e (step_offers v i b step))
+    steps one.0 in (
       subst (λ x. Tie v i (bads_of v (bad_runs_after v b step) steps) (after_steps v (after_step v s step) steps) x)
           (sym (judged_append v e (step_offers v i b step) (offers_of_steps v i (bad_runs_after v b step) steps)))
-              rest.0,
+          rest.0,
       ap (λ z. z ++ kept_in_steps v i (after_step v s step) steps) one.1
           ∙ (ap (λ z. kept_by_rule v e (step_offers v i b step) ++ z) rest.1
           ∙ sym (kept_append v e (step_offers v i b step) (offers_of_steps v i (bad_runs_after v b step) steps))),
@@ -68,7 +73,8 @@ before_more n m (j ∷ e) le h =
 abbrev places_before : ℕ → List CountedOffer → Bool
 places_before n ps = list_all (λ p. nat_lt p.inode n) ps
 
-pub judged_before : (v : Layout) (n : ℕ) (e : List OfferVerdict) (ps : List CountedOffer) → are_before n e ≡ true → places_before n ps ≡ true → are_before n (verdicts v e ps) ≡ true
+pub judged_before : (v : Layout) (n : ℕ) (e : List OfferVerdict) (ps : List CountedOffer) → are_before n e ≡ true →
+    places_before n ps ≡ true → are_before n (verdicts v e ps) ≡ true
 unfolding offer_verdict
 judged_before v n e [] h g = h
 judged_before v n e (p ∷ ps) h g =
@@ -79,7 +85,8 @@ map_before : (i b : ℕ) (fs : List ℕ) → places_before (i + 1) (map (counted
 map_before i b [] = refl
 map_before i b (f ∷ fs) = and_from (nat_lt i (i + 1)) _ (lt-ltb i (i + 1) (omega arith)) (map_before i b fs)
 
-places_append : (n : ℕ) (ps qs : List CountedOffer) → places_before n ps ≡ true → places_before n qs ≡ true → places_before n (ps ++ qs) ≡ true
+places_append : (n : ℕ) (ps qs : List CountedOffer) → places_before n ps ≡ true → places_before n qs ≡ true →
+    places_before n (ps ++ qs) ≡ true
 places_append n [] qs h g = g
 places_append n (p ∷ ps) qs h g =
     let parts = and_parts (nat_lt p.inode n) (places_before n ps) h in
@@ -94,10 +101,12 @@ step_before v i b Gap = refl
 pub steps_before : (v : Layout) (i b : ℕ) (steps : List Step) → places_before (i + 1) (offers_of_steps v i b steps)
     ≡ true
 steps_before v i b [] = refl
-steps_before v i b (step ∷ steps) = places_append (i + 1) (step_offers v i b step) _ (step_before v i b step) (steps_before v i (bad_runs_after v b step) steps)
+steps_before v i b (step ∷ steps) = places_append (i + 1) (step_offers v i b step) _ (step_before v i b step)
+    (steps_before v i (bad_runs_after v b step) steps)
 
 -- an inode begins
-pub begins : (v : Layout) (s : Claims) (e : List OfferVerdict) (o : Owner) → Agrees v s e → are_before o.number e ≡ true → Tie v o.number 0 (next_inode s) e
+pub begins : (v : Layout) (s : Claims) (e : List OfferVerdict) (o : Owner) → Agrees v s e → are_before o.number e ≡ true
+    → Tie v o.number 0 (next_inode s) e
 begins v s e o a h =
     let none = none_before o.number e h in
     record {
@@ -107,7 +116,8 @@ begins v s e o a h =
     }
 
 -- the state and the judged offers at the end of an inode
-pub owner_tied : (v : Layout) (s : Claims) (e : List OfferVerdict) (o : Owner) → Agrees v s e → are_before o.number e ≡ true →
+pub owner_tied : (v : Layout) (s : Claims) (e : List OfferVerdict) (o : Owner) → Agrees v s e →
+    are_before o.number e ≡ true →
     Tie v o.number (bads_of v 0 o.steps) (after_owner v s o) (verdicts v e (offers_of_steps v o.number 0 o.steps))
     × (kept_in_steps v o.number (next_inode s) o.steps ≡ kept_by_rule v e (offers_of_steps v o.number 0 o.steps))
 owner_tied v s e o a h = steps_tied v o.number 0 (next_inode s) e o.steps (begins v s e o a h)
@@ -117,15 +127,19 @@ abbrev pub Rising : ℕ → List Owner → Type 0
 Rising n [] = Unit {0}
 Rising n (o ∷ os) = (n ≤ o.number) × Rising (o.number + 1) os
 
-pub owners_tied : (v : Layout) (n : ℕ) (s : Claims) (e : List OfferVerdict) (os : List Owner) → Agrees v s e → are_before n e ≡ true → Rising n os →
-    Agrees v (after_owners v s os) (verdicts v e (all_offers v os)) × (kept_in_owners v s os ≡ kept_by_rule v e (all_offers v os))
+pub owners_tied : (v : Layout) (n : ℕ) (s : Claims) (e : List OfferVerdict) (os : List Owner) → Agrees v s e →
+    are_before n e ≡ true → Rising n os →
+    Agrees v (after_owners v s os) (verdicts v e (all_offers v os))
+    × (kept_in_owners v s os ≡ kept_by_rule v e (all_offers v os))
 owners_tied v n s e [] a h r = (a, refl)
 owners_tied v n s e (o ∷ os) a h r =
     let one = owner_tied v s e o a (before_more n o.number e r.0 h) in
-    let after = judged_before v (o.number + 1) e (offers_of_steps v o.number 0 o.steps) (before_more n (o.number + 1) e (omega (arith, r.0)) h) (steps_before v o.number 0 o.steps) in
+    let after = judged_before v (o.number + 1) e (offers_of_steps v o.number 0 o.steps)
+    (before_more n (o.number + 1) e (omega (arith, r.0)) h) (steps_before v o.number 0 o.steps) in
     let rest = owners_tied v (o.number + 1) (after_owner v s o) (verdicts v e (offers_of_steps v o.number 0 o.steps)) os
     (record { used = one.0.held.used; long = one.0.held.long }) after r.1 in (
-      subst (λ x. Agrees v (after_owners v (after_owner v s o) os) x) (sym (judged_append v e (offers_of_steps v o.number 0 o.steps) (all_offers v os))) rest.0,
+      subst (λ x. Agrees v (after_owners v (after_owner v s o) os) x)
+          (sym (judged_append v e (offers_of_steps v o.number 0 o.steps) (all_offers v os))) rest.0,
       ap (λ z. z ++ kept_in_owners v (after_owner v s o) os) one.1
           ∙ (ap (λ z. kept_by_rule v e (offers_of_steps v o.number 0 o.steps) ++ z) rest.1
           ∙ sym (kept_append v e (offers_of_steps v o.number 0 o.steps) (all_offers v os))),
@@ -150,5 +164,6 @@ rising_range v image n (suc k) = (omega arith, rising_range v image (n + 1) k)
 pub keeps_by_rule : (v : Layout) (image : List ℕ) → KeepsByRule v (owners_of v image)
 unfolding owners_of
 keeps_by_rule v image =
-    let all = owners_tied v 2 (no_claims v) [] (owners_of v image) (start_agrees v) refl (rising_range v image 2 (v.ncg * v.ipg - 2)) in
+    let all = owners_tied v 2 (no_claims v) [] (owners_of v image) (start_agrees v) refl
+    (rising_range v image 2 (v.ncg * v.ipg - 2)) in
     record { offers = all.1; used = all.0.used }

@@ -1,34 +1,46 @@
--- With all directories reached, no line EXTRANEOUS HARD LINK means that each directory but 2 has exactly one plain entry.
-use Rattle.std.specs.Prelude.{◌≡◌, ◌≢◌, ℕ, zero, suc, ◌==◌, Bool, true, ◌||◌, List, [], ◌∷◌, None, Some, ◌↔◌, option_map}
+-- With all directories reached, no line EXTRANEOUS HARD LINK means that each directory but 2 has exactly one plain
+-- entry.
+use Rattle.std.specs.Prelude.{◌≡◌, ◌≢◌, ℕ, zero, suc, ◌==◌, Bool, true, ◌||◌, List, [], ◌∷◌, None, Some, ◌↔◌}
+use Rattle.std.specs.Prelude.{option_map}
 use Rattle.std.specs.List.{list_any}
 use Rattle.std.proofs.Common.{sym, ◌∙◌, ap, subst, inl, inr}
-use Rattle.std.proofs.lemmas.Bool.{cases_eq, cases_Bool, and_parts, and_from, both_ways, cond-true, cond-false, ne_eqb, eqb-true, false_from_ne_true}
+use Rattle.std.proofs.lemmas.Bool.{cases_eq, cases_Bool, and_parts, and_from, both_ways, cond-true, cond-false, ne_eqb}
+use Rattle.std.proofs.lemmas.Bool.{eqb-true, false_from_ne_true}
 use Rattle.ffs_volume.proofs.SearchLaws.{some_below-from, some_below-gives, first_below-is}
 use Rattle.ffs_volume.specs.Directories.Climb.{is_value}
 use Rattle.ffs_volume.proofs.ClimbLaws.{is_value-from}
-use Rattle.ffs_volume.specs.Directories.Graph.{Graph, edge, names, names_in, parent, parent_by, level, level_edge, reached, index_in_parent, first_index, test_at, names_at}
+use Rattle.ffs_volume.specs.Directories.Graph.{Graph, edge, names, names_in, parent, parent_by, level, level_edge}
+use Rattle.ffs_volume.specs.Directories.Graph.{reached, index_in_parent, first_index, test_at, names_at}
 use Rattle.ffs_volume.proofs.Graphs.{AllReached, IsParentEntry, NoExtraneous, LinksRight}
 use Rattle.ffs_volume.proofs.LevelLaws.{within-zero, level-some, level-before, level-is, reached-level}
 use Rattle.ffs_volume.specs.Directories.Roles.{RoledEntry}
 
 -- a reached directory has a parent, with an edge
-pub parent_edge : (v : Graph) (d : ℕ) → d ≢ 2 → reached v d ≡ true → (s : ℕ) × (parent v d ≡ Some s) × (edge v s d ≡ true)
+pub parent_edge : (v : Graph) (d : ℕ) → d ≢ 2 → reached v d ≡ true → (s : ℕ) × (parent v d ≡ Some s)
+    × (edge v s d ≡ true)
 unfolding parent
 parent_edge v d n r =
     let k = reached-level v d r in
     let start = cond-false (d == 2) (Some 2) (parent_by v d (level v d)) (ne_eqb d 2 n) in
     go k.0 k.1 start
   where
-    go : (k : ℕ) → level v d ≡ Some k → parent v d ≡ parent_by v d (level v d) → (s : ℕ) × (parent v d ≡ Some s) × (edge v s d ≡ true)
+    go : (k : ℕ) → level v d ≡ Some k → parent v d ≡ parent_by v d (level v d) → (s : ℕ) × (parent v d ≡ Some s)
+        × (edge v s d ≡ true)
     go zero e start = absurd (n (eqb-true d 2 (sym (within-zero v d) ∙ (level-some v 0 d e).0.within_k)))
     go (suc k) e start =
         let l = level-some v (suc k) d e in
         let b = level-before v k d l.0 in
         let lev = level-is v k b.0 b.1 b.2 in
-        let w = some_below-gives (level_edge v k d) v.count (some_below-from (level_edge v k d) v.count b.0 b.1 (and_from (is_value (level v b.0) k) (edge v b.0 d) (is_value-from (level v b.0) k lev) b.3)) in
-        (w.0, start ∙ (ap (parent_by v d) e ∙ first_below-is (level_edge v k d) v.count w.0 w.1), (and_parts (is_value (level v w.0) k) (edge v w.0 d) w.1.passes).1)
+        let w = some_below-gives (level_edge v k d) v.count
+        (some_below-from (level_edge v k d) v.count b.0 b.1
+        (and_from (is_value (level v b.0) k) (edge v b.0 d) (is_value-from (level v b.0) k lev) b.3)) in (
+          w.0,
+          start ∙ (ap (parent_by v d) e ∙ first_below-is (level_edge v k d) v.count w.0 w.1),
+          (and_parts (is_value (level v w.0) k) (edge v w.0 d) w.1.passes).1,
+        )
 
-pub place_of : (p : RoledEntry → Bool) (es : List RoledEntry) → list_any p es ≡ true → (j : ℕ) × (first_index p es ≡ Some j) × (test_at p j es ≡ true)
+pub place_of : (p : RoledEntry → Bool) (es : List RoledEntry) → list_any p es ≡ true →
+    (j : ℕ) × (first_index p es ≡ Some j) × (test_at p j es ≡ true)
 place_of p [] h = absurd (cc)
 place_of p (e ∷ es) h =
     elim (cases_Bool (p e)) [
@@ -40,7 +52,8 @@ place_of p (e ∷ es) h =
     ]
 
 -- a reached directory has a parent entry, which names it
-pub has_parent_entry : (v : Graph) (d : ℕ) → d ≢ 2 → reached v d ≡ true → (s : ℕ) × (j : ℕ) × IsParentEntry v s j d × (names_at v s j d ≡ true)
+pub has_parent_entry : (v : Graph) (d : ℕ) → d ≢ 2 → reached v d ≡ true → (s : ℕ) × (j : ℕ) × IsParentEntry v s j d
+    × (names_at v s j d ≡ true)
 has_parent_entry v d n r =
     let e = parent_edge v d n r in
     let a = and_parts (v.is_dir d) (names_in v e.0 d) e.2 in
@@ -48,8 +61,11 @@ has_parent_entry v d n r =
     let p = place_of (names d) (v.entries e.0) b.1 in (
       e.0,
       p.0,
-      (e.1, cond-false (d == 2) None (index_in_parent v d (parent v d)) (ne_eqb d 2 n)
-          ∙ (ap (index_in_parent v d) e.1 ∙ p.1)),
+      (
+        e.1,
+        cond-false (d == 2) None (index_in_parent v d (parent v d)) (ne_eqb d 2 n)
+            ∙ (ap (index_in_parent v d) e.1 ∙ p.1),
+      ),
       and_from (v.is_dir e.0) (test_at (names d) p.0 (v.entries e.0)) b.0 p.2,
     )
 
@@ -68,7 +84,8 @@ links-right v two all = (
               let b : Some j ≡ Some e.1 = sym q.1 ∙ e.2.1 in
               (cc, cc);
         };
-    root = λ s j. false_from_ne_true (names_at v s j 2) (λ t. let q = none s j 2 t two in let z : None ≡ Some j = q.1 in cc);
+    root = λ s j. false_from_ne_true (names_at v s j 2) (λ t. let q = none s j 2 t two in let z : None ≡ Some j = q.1 in
+        cc);
   }),
   (λ right s j d t h. elim (cases_eq d 2) [
     | inl y ↦ absurd (both_ways (names_at v s j 2) (right.root s j) (subst (λ x. names_at v s j x ≡ true) y t))

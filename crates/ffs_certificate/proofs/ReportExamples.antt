@@ -1,7 +1,8 @@
 -- The examples of whole reports.
 use Rattle.std.proofs.Common.{refl, ap, ◌∙◌, ◌∷◌, ◌++◌, None}
 use Rattle.ffs_volume.specs.Disk.Numbers.{number, all_below, u16_at, i16_at, u32_at, u64_at, i32_at}
-use Rattle.ffs_volume.specs.Disk.Areas.{cgoffset_of, cgbase, cgstart, is_group_metadata, is_fragment_in_range, is_run_in_range, is_reserved}
+use Rattle.ffs_volume.specs.Disk.Areas.{cgoffset_of, cgbase, cgstart, is_group_metadata, is_fragment_in_range}
+use Rattle.ffs_volume.specs.Disk.Areas.{is_run_in_range, is_reserved}
 use Rattle.ffs_volume.specs.Blocks.Inodes.{inode_from_bytes, inode_of, class_of}
 use Rattle.ffs_volume.specs.Blocks.Steps.{steps_at, steps_of}
 use Rattle.ffs_volume.specs.Blocks.Owners.{owner_of, owners_of}
@@ -9,22 +10,30 @@ use Rattle.ffs_volume.specs.Blocks.Claims.{reserved_map, no_claims}
 use Rattle.ffs_volume.specs.Blocks.BlockCheck.{phase1_lines, phase1b_lines, is_marked}
 use Rattle.ffs_volume.specs.Blocks.KeptSteps.{claims_before, kept_steps_of}
 use Rattle.ffs_volume.specs.Directories.Entries.{is_well_formed, entry_read, entry_at, entries_from}
-use Rattle.ffs_volume.specs.Directories.Roles.{role_of, roled_from, roled_entries, start_entry, dot, dotdot, references_below}
+use Rattle.ffs_volume.specs.Directories.Roles.{role_of, roled_from, roled_entries, start_entry, dot, dotdot}
+use Rattle.ffs_volume.specs.Directories.Roles.{references_below}
 use Rattle.ffs_volume.specs.Disk.Search.{first_below, earliest}
 use Rattle.ffs_volume.specs.Directories.Climb.{climb}
 use Rattle.ffs_volume.specs.Directories.Graph.{within, level, parent}
 use Rattle.ffs_volume.specs.Messages.Kinds.{lines_below, has_defect}
-use Rattle.ffs_volume.specs.Directories.PathnameCheck.{attributes, root_lines, shape_lines, dot_lines, dotdot_lines, named_lines, plain_lines, roled_lines, lines_of_entries, dir_lines, pathname_lines}
+use Rattle.ffs_volume.specs.Directories.PathnameCheck.{attributes, root_lines, shape_lines, dot_lines, dotdot_lines}
+use Rattle.ffs_volume.specs.Directories.PathnameCheck.{named_lines, plain_lines, roled_lines, lines_of_entries}
+use Rattle.ffs_volume.specs.Directories.PathnameCheck.{dir_lines, pathname_lines}
 use Rattle.ffs_volume.specs.Directories.Connectivity.{connectivity_lines}
 use Rattle.ffs_volume.specs.Directories.ReferenceCheck.{inode_lines, reference_lines}
-use Rattle.ffs_volume.specs.Groups.Records.{right_group_counts, right_frsum, right_total, maps_fit, has_right_magic, has_right_maps, has_right_sums, has_right_record, has_right_totals}
+use Rattle.ffs_volume.specs.Groups.Records.{right_group_counts, right_frsum, right_total, maps_fit, has_right_magic}
+use Rattle.ffs_volume.specs.Groups.Records.{has_right_maps, has_right_sums, has_right_record, has_right_totals}
 use Rattle.ffs_volume.specs.Groups.GroupCheck.{phase5_lines}
 use Rattle.ffs_volume.specs.Directories.Volumes.{chunk_source_of, volume_with, volume_of}
 use Rattle.ffs_volume.specs.Report.Opening.{setting_lines}
-use Rattle.ffs_volume.specs.Report.Whole.{file_count, used_count, later_phase_lines, phase_lines, report_lines, report_of, report_end}
-use Rattle.ffs_volume.specs.Examples.Images.{bytes_in, word, zeros, base_layout, base_superblock, base_super, base_summary, base_group, root_inode, root_chunk, base_image}
+use Rattle.ffs_volume.specs.Report.Whole.{file_count, used_count, later_phase_lines, phase_lines, report_lines}
+use Rattle.ffs_volume.specs.Report.Whole.{report_of, report_end}
+use Rattle.ffs_volume.specs.Examples.Images.{bytes_in, word, zeros, base_layout, base_superblock, base_super}
+use Rattle.ffs_volume.specs.Examples.Images.{base_summary, base_group, root_inode, root_chunk, base_image}
 use Rattle.ffs_volume.specs.Examples.DirectoryExamples.{entry_bytes}
-use Rattle.ffs_certificate.specs.ReportExamples.{ReportExamples, inode_bytes, dir_chunk, two_dirs, named_dir, unnamed_dir, shared_summary, shared_group, shared_image, shared_superblock}
+use Rattle.ffs_certificate.specs.ReportExamples.{ReportExamples, inode_bytes, dir_chunk, two_dirs, named_dir}
+use Rattle.ffs_certificate.specs.ReportExamples.{unnamed_dir, shared_summary, shared_group, shared_image}
+use Rattle.ffs_certificate.specs.ReportExamples.{shared_superblock}
 use Rattle.ffs_volume.specs.declared.Order.TheVariants.{Little, Big}
 use Rattle.ffs_volume.specs.Messages.Kinds.{opening}
 use Rattle.ffs_volume.specs.Report.Opening.{head_lines}
@@ -37,7 +46,17 @@ use Rattle.ffs_certificate.proofs.SharedReport.{shared_lines}
 use Rattle.ffs_certificate.proofs.DirReport.{named_pathnames, named_connected, named_references, unnamed}
 
 pub report_examples : ReportExamples
-unfolding bytes_in word zeros base_layout base_superblock base_super base_summary base_group root_inode root_chunk base_image entry_bytes inode_bytes dir_chunk two_dirs named_dir unnamed_dir shared_summary shared_group shared_image shared_superblock number all_below u16_at i16_at u32_at u64_at i32_at cgoffset_of cgbase cgstart is_group_metadata is_fragment_in_range is_run_in_range is_reserved inode_from_bytes inode_of class_of steps_at steps_of owner_of owners_of reserved_map no_claims phase1_lines phase1b_lines is_marked claims_before kept_steps_of is_well_formed entry_read entry_at entries_from role_of roled_from roled_entries chunk_source_of volume_with volume_of start_entry dot dotdot references_below first_below earliest climb within level parent lines_below attributes root_lines shape_lines dot_lines dotdot_lines named_lines plain_lines roled_lines lines_of_entries dir_lines pathname_lines connectivity_lines inode_lines reference_lines right_group_counts right_frsum right_total maps_fit has_right_magic has_right_maps has_right_sums has_right_record has_right_totals phase5_lines setting_lines file_count used_count later_phase_lines phase_lines report_lines report_of report_end
+unfolding bytes_in word zeros base_layout base_superblock base_super base_summary base_group root_inode root_chunk
+    base_image entry_bytes inode_bytes dir_chunk two_dirs named_dir unnamed_dir shared_summary shared_group shared_image
+    shared_superblock number all_below u16_at i16_at u32_at u64_at i32_at cgoffset_of cgbase cgstart is_group_metadata
+    is_fragment_in_range is_run_in_range is_reserved inode_from_bytes inode_of class_of steps_at steps_of owner_of
+    owners_of reserved_map no_claims phase1_lines phase1b_lines is_marked claims_before kept_steps_of is_well_formed
+    entry_read entry_at entries_from role_of roled_from roled_entries chunk_source_of volume_with volume_of start_entry
+    dot dotdot references_below first_below earliest climb within level parent lines_below attributes root_lines
+    shape_lines dot_lines dotdot_lines named_lines plain_lines roled_lines lines_of_entries dir_lines pathname_lines
+    connectivity_lines inode_lines reference_lines right_group_counts right_frsum right_total maps_fit has_right_magic
+    has_right_maps has_right_sums has_right_record has_right_totals phase5_lines setting_lines file_count used_count
+    later_phase_lines phase_lines report_lines report_of report_end
 report_examples =
     let accepted = superblock_examples.accepted in
     let accepted_big = superblock_examples.accepted_big in
@@ -45,8 +64,10 @@ report_examples =
     let right_big = (certified (base_image Big) None (base_superblock Big) accepted_big) in
     let silent = right.silent.0 (ap has_defect base_lines) in
     record {
-      base = ap (λ r. head_lines (codes "t.img") None ++ lines_by_outcome (base_image Little) r) accepted ∙ ap (λ ls. opening (codes "t.img") ∷ ls) base_lines;
-      base_big = ap (λ r. head_lines (codes "t.img") None ++ lines_by_outcome (base_image Big) r) accepted_big ∙ ap (λ ls. opening (codes "t.img") ∷ ls) base_big_lines;
+      base = ap (λ r. head_lines (codes "t.img") None ++ lines_by_outcome (base_image Little) r) accepted
+          ∙ ap (λ ls. opening (codes "t.img") ∷ ls) base_lines;
+      base_big = ap (λ r. head_lines (codes "t.img") None ++ lines_by_outcome (base_image Big) r) accepted_big
+          ∙ ap (λ ls. opening (codes "t.img") ∷ ls) base_big_lines;
       base_end = ap (end_by_outcome (base_image Little)) accepted ∙ right.end_is.1 silent;
       base_right = silent;
       base_big_right = right_big.silent.0 (ap has_defect base_big_lines);

@@ -18,8 +18,10 @@ use Rattle.ffs_certificate.proofs.BlocksSilent.{phase1_silent, phase1b_silent}
 use Rattle.ffs_volume.specs.Groups.Records.{GroupsRight}
 use Rattle.ffs_volume.specs.Groups.GroupCheck.{phase5_lines, is_free_of_kept}
 use Rattle.ffs_certificate.proofs.GroupLaws.{phase5_silent, same_free}
-use Rattle.ffs_volume.specs.Messages.Kinds.{Message, NameMessage, optimization, minfree, mounted, phase1b, of_blocks, of_names, is_defect, has_defect}
-use Rattle.ffs_volume.specs.Report.Opening.{before_nul, is_optimization, is_minfree, message_unless, setting_lines, super_lines}
+use Rattle.ffs_volume.specs.Messages.Kinds.{Message, NameMessage, optimization, minfree, mounted, phase1b, of_blocks}
+use Rattle.ffs_volume.specs.Messages.Kinds.{of_names, is_defect, has_defect}
+use Rattle.ffs_volume.specs.Report.Opening.{before_nul, is_optimization, is_minfree, message_unless, setting_lines}
+use Rattle.ffs_volume.specs.Report.Opening.{super_lines}
 use Rattle.ffs_volume.specs.Blocks.Inodes.{is_directory}
 use Rattle.ffs_volume.specs.Directories.Roles.{Volume}
 use Rattle.ffs_volume.specs.Directories.PathnameCheck.{root_reported, root_lines, pathname_lines, continues_after_root}
@@ -67,15 +69,21 @@ settings_say : (super : Superblock) → has_defect (super_lines super) ≡ false
 unfolding setting_lines
 settings_say super h =
     let a = quiet_parts (setting_lines super) (mounted (before_nul super.mount) ∷ []) h in
-    let p = quiet_parts (message_unless (is_optimization super) optimization) (message_unless (is_minfree super) (minfree super.minfree)) a.0 in
-    record { optimization = kept_line (is_optimization super) optimization refl p.0; minfree = kept_line (is_minfree super) (minfree super.minfree) refl p.1 }
+    let p = quiet_parts (message_unless (is_optimization super) optimization)
+    (message_unless (is_minfree super) (minfree super.minfree)) a.0 in
+    record {
+      optimization = kept_line (is_optimization super) optimization refl p.0;
+      minfree = kept_line (is_minfree super) (minfree super.minfree) refl p.1;
+    }
 
 settings_quiet : (super : Superblock) → AreSettingsRight super → has_defect (super_lines super) ≡ false
 unfolding setting_lines
 settings_quiet super s =
     quiet_from (setting_lines super) (mounted (before_nul super.mount) ∷ [])
-    (quiet_from (message_unless (is_optimization super) optimization) (message_unless (is_minfree super) (minfree super.minfree))
-    (no_line (is_optimization super) optimization s.optimization) (no_line (is_minfree super) (minfree super.minfree) s.minfree)) refl
+    (quiet_from (message_unless (is_optimization super) optimization)
+    (message_unless (is_minfree super) (minfree super.minfree))
+    (no_line (is_optimization super) optimization s.optimization)
+    (no_line (is_minfree super) (minfree super.minfree) s.minfree)) refl
 
 nil_message : (b : Bool) (message : Message) → message_unless b message ≡ [] → b ≡ true
 nil_message true message h = refl
@@ -90,9 +98,14 @@ pub settings_reported : (super : Superblock) → (setting_lines super ≡ []) �
 unfolding setting_lines
 settings_reported super = (
   (λ h.
-      let p = nil_parts (message_unless (is_optimization super) optimization) (message_unless (is_minfree super) (minfree super.minfree)) h in
-      record { optimization = nil_message (is_optimization super) optimization p.0; minfree = nil_message (is_minfree super) (minfree super.minfree) p.1 }),
-  (λ r. ap (λ b. message_unless b optimization ++ message_unless (is_minfree super) (minfree super.minfree)) r.optimization ∙ ap (λ b. message_unless b (minfree super.minfree)) r.minfree),
+      let p = nil_parts (message_unless (is_optimization super) optimization)
+      (message_unless (is_minfree super) (minfree super.minfree)) h in
+      record {
+        optimization = nil_message (is_optimization super) optimization p.0;
+        minfree = nil_message (is_minfree super) (minfree super.minfree) p.1;
+      }),
+  (λ r. ap (λ b. message_unless b optimization ++ message_unless (is_minfree super) (minfree super.minfree))
+      r.optimization ∙ ap (λ b. message_unless b (minfree super.minfree)) r.minfree),
 )
 
 -- THE ROOT: a run that stops after it has reported so
@@ -108,29 +121,37 @@ unfolding pathname_lines root_lines
 root_there v h = reported_root v (v.class 2) (nil-left (root_reported v (v.class 2)) _ h)
 
 -- CONDITIONS 2 AND 3
-blocks_of_parts : (image : List ℕ) (super : Superblock) → IsConsistent image super → BlocksRight super.layout (owners_of super.layout image)
+blocks_of_parts : (image : List ℕ) (super : Superblock) → IsConsistent image super →
+    BlocksRight super.layout (owners_of super.layout image)
 blocks_of_parts image super c = record { classes = c.classes; runs = c.runs }
 
 -- PHASES 3 TO 5
 record AreLaterSilent (image : List ℕ) (super : Superblock) : Type 0 where
   connectivity : connectivity_lines (volume_of super.layout image) ≡ []
   references : reference_lines (volume_of super.layout image) ≡ []
-  groups : phase5_lines super.layout image super.cstotal (is_free_of_kept super.layout (owners_of super.layout image)) (class_at super.layout image) ≡ []
+  groups : phase5_lines super.layout image super.cstotal (is_free_of_kept super.layout (owners_of super.layout image))
+      (class_at super.layout image) ≡ []
 
-later_say : (image : List ℕ) (super : Superblock) → has_defect (later_phase_lines image super) ≡ false → AreLaterSilent image super
+later_say : (image : List ℕ) (super : Superblock) → has_defect (later_phase_lines image super) ≡ false →
+    AreLaterSilent image super
 unfolding later_phase_lines
 later_say image super h =
     let p = quiet_parts (map of_names (connectivity_lines (volume_of super.layout image))) _ h in
     let q = quiet_parts (map of_names (reference_lines (volume_of super.layout image))) _ p.1 in
-    let r = quiet_parts (map of_blocks (phase5_lines super.layout image super.cstotal (is_free_of_kept super.layout (owners_of super.layout image)) (class_at super.layout image))) _ q.1 in
+    let r = quiet_parts (map of_blocks
+    (phase5_lines super.layout image super.cstotal (is_free_of_kept super.layout (owners_of super.layout image))
+    (class_at super.layout image))) _ q.1 in
     record { connectivity = silent_names _ p.0; references = silent_names _ q.0; groups = silent_blocks _ r.0 }
 
-later_quiet : (image : List ℕ) (super : Superblock) → AreLaterSilent image super → has_defect (later_phase_lines image super) ≡ false
+later_quiet : (image : List ℕ) (super : Superblock) → AreLaterSilent image super →
+    has_defect (later_phase_lines image super) ≡ false
 unfolding later_phase_lines
 later_quiet image super s =
     quiet_from (map of_names (connectivity_lines (volume_of super.layout image))) _ (quiet_names _ s.connectivity)
     (quiet_from (map of_names (reference_lines (volume_of super.layout image))) _ (quiet_names _ s.references)
-    (quiet_from (map of_blocks (phase5_lines super.layout image super.cstotal (is_free_of_kept super.layout (owners_of super.layout image)) (class_at super.layout image))) _ (quiet_blocks _ s.groups) refl))
+    (quiet_from (map of_blocks
+    (phase5_lines super.layout image super.cstotal (is_free_of_kept super.layout (owners_of super.layout image))
+    (class_at super.layout image))) _ (quiet_blocks _ s.groups) refl))
 
 -- THE WHOLE
 record IsWholeSilent (image : List ℕ) (super : Superblock) : Type 0 where
@@ -138,7 +159,8 @@ record IsWholeSilent (image : List ℕ) (super : Superblock) : Type 0 where
   pathnames : pathname_lines (volume_of super.layout image) ≡ []
   later : AreLaterSilent image super
 
-text_say : (image : List ℕ) (super : Superblock) → has_defect (phase_lines image super) ≡ false → IsWholeSilent image super
+text_say : (image : List ℕ) (super : Superblock) → has_defect (phase_lines image super) ≡ false →
+    IsWholeSilent image super
 unfolding phase_lines
 text_say image super h =
     let p = quiet_parts (map of_blocks (phase1_lines super.layout (owners_of super.layout image))) _ h in
@@ -148,32 +170,41 @@ text_say image super h =
     record {
       blocks = silent_blocks _ p.0;
       pathnames = names;
-      later = later_say image super (sym (ap (λ b. has_defect (if b then later_phase_lines image super else [])) (root_there (volume_of super.layout image) names)) ∙ r.1);
+      later = later_say image super
+          (sym (ap (λ b. has_defect (if b then later_phase_lines image super else []))
+          (root_there (volume_of super.layout image) names)) ∙ r.1);
     }
 
-rescan_quiet : (v : Layout) (image : List ℕ) → phase1b_lines v (owners_of v image) ≡ [] → has_defect (rescan_lines v image) ≡ false
+rescan_quiet : (v : Layout) (image : List ℕ) → phase1b_lines v (owners_of v image) ≡ [] →
+    has_defect (rescan_lines v image) ≡ false
 rescan_quiet v image e = one (has_rescan v (owners_of v image))
   where
-    one : (b : Bool) → has_defect (if b then phase1b ∷ map of_blocks (phase1b_lines v (owners_of v image)) else []) ≡ false
+    one : (b : Bool) → has_defect (if b then phase1b ∷ map of_blocks (phase1b_lines v (owners_of v image)) else [])
+        ≡ false
     one true = quiet_blocks (phase1b_lines v (owners_of v image)) e
     one false = refl
 
-text_quiet : (image : List ℕ) (super : Superblock) → phase1b_lines super.layout (owners_of super.layout image) ≡ [] → IsWholeSilent image super → has_defect (phase_lines image super) ≡ false
+text_quiet : (image : List ℕ) (super : Superblock) → phase1b_lines super.layout (owners_of super.layout image) ≡ [] →
+    IsWholeSilent image super → has_defect (phase_lines image super) ≡ false
 unfolding phase_lines
 text_quiet image super again s =
     quiet_from (map of_blocks (phase1_lines super.layout (owners_of super.layout image))) _ (quiet_blocks _ s.blocks)
     (quiet_from (rescan_lines super.layout image) _ (rescan_quiet super.layout image again)
     (quiet_from (map of_names (pathname_lines (volume_of super.layout image))) _ (quiet_names _ s.pathnames)
-    (ap (λ b. has_defect (if b then later_phase_lines image super else [])) (root_there (volume_of super.layout image) s.pathnames) ∙ later_quiet image super s.later)))
+    (ap (λ b. has_defect (if b then later_phase_lines image super else []))
+    (root_there (volume_of super.layout image) s.pathnames) ∙ later_quiet image super s.later)))
 
-forward : (image : List ℕ) (super : Superblock) → IsValidLayout super.layout → has_defect (report_lines image super) ≡ false → IsConsistent image super
+forward : (image : List ℕ) (super : Superblock) → IsValidLayout super.layout → has_defect (report_lines image super)
+    ≡ false → IsConsistent image super
 unfolding report_lines
 forward image super g h =
     let p = quiet_parts (super_lines super) _ h in
     let s = text_say image super p.1 in
     let blocks = (phase1_silent super.layout (owners_of super.layout image)).0 s.blocks in
-    let silent : IsSilent (volume_of super.layout image) = record { pathnames = s.pathnames; connectivity = s.later.connectivity; references = s.later.references } in
-    let dirs = (silent_right (whole_volume super.layout image) (whole_is_volume super.layout image g) (whole_unmarked super.layout image blocks)).0 (subst IsSilent (same_whole super.layout image blocks) silent) in
+    let silent : IsSilent (volume_of super.layout image) =
+    record { pathnames = s.pathnames; connectivity = s.later.connectivity; references = s.later.references } in
+    let dirs = (silent_right (whole_volume super.layout image) (whole_is_volume super.layout image g)
+    (whole_unmarked super.layout image blocks)).0 (subst IsSilent (same_whole super.layout image blocks) silent) in
     record {
       settings = settings_say super p.0;
       classes = blocks.classes;
@@ -181,18 +212,26 @@ forward image super g h =
       dirs = dirs.dirs;
       links = dirs.links;
       counts = dirs.counts;
-      groups = subst (λ free. GroupsRight super.layout image super.cstotal free (class_at super.layout image)) (same_free super.layout (owners_of super.layout image) blocks)
-          ((phase5_silent super.layout image super.cstotal (is_free_of_kept super.layout (owners_of super.layout image)) (class_at super.layout image)).0 s.later.groups);
+      groups = subst (λ free. GroupsRight super.layout image super.cstotal free (class_at super.layout image))
+          (same_free super.layout (owners_of super.layout image) blocks)
+          ((phase5_silent super.layout image super.cstotal (is_free_of_kept super.layout (owners_of super.layout image))
+          (class_at super.layout image)).0 s.later.groups);
     }
 
-backward : (image : List ℕ) (super : Superblock) → IsValidLayout super.layout → IsConsistent image super → has_defect (report_lines image super) ≡ false
+backward : (image : List ℕ) (super : Superblock) → IsValidLayout super.layout → IsConsistent image super →
+    has_defect (report_lines image super) ≡ false
 unfolding report_lines
 backward image super g c =
     let blocks = blocks_of_parts image super c in
-    let right : AreDirectoriesRight (whole_volume super.layout image) = record { dirs = c.dirs; links = c.links; counts = c.counts } in
-    let silent = subst IsSilent (sym (same_whole super.layout image blocks)) ((silent_right (whole_volume super.layout image) (whole_is_volume super.layout image g) (whole_unmarked super.layout image blocks)).1 right) in
-    let groups = (phase5_silent super.layout image super.cstotal (is_free_of_kept super.layout (owners_of super.layout image)) (class_at super.layout image)).1
-    (subst (λ free. GroupsRight super.layout image super.cstotal free (class_at super.layout image)) (sym (same_free super.layout (owners_of super.layout image) blocks)) c.groups) in
+    let right : AreDirectoriesRight (whole_volume super.layout image) =
+    record { dirs = c.dirs; links = c.links; counts = c.counts } in
+    let silent = subst IsSilent (sym (same_whole super.layout image blocks))
+    ((silent_right (whole_volume super.layout image) (whole_is_volume super.layout image g)
+    (whole_unmarked super.layout image blocks)).1 right) in
+    let groups = (phase5_silent super.layout image super.cstotal
+    (is_free_of_kept super.layout (owners_of super.layout image)) (class_at super.layout image)).1
+    (subst (λ free. GroupsRight super.layout image super.cstotal free (class_at super.layout image))
+    (sym (same_free super.layout (owners_of super.layout image) blocks)) c.groups) in
     quiet_from (super_lines super) _ (settings_quiet super c.settings)
     (text_quiet image super (phase1b_silent super.layout (owners_of super.layout image) blocks)
     (record {
@@ -207,32 +246,41 @@ end_quiet true true e = absurd (cc)
 end_quiet true false e = refl
 end_quiet false defect e = absurd (cc)
 
-goes_on_quiet : (image : List ℕ) (super : Superblock) → has_defect (report_lines image super) ≡ false → continues_after_root (volume_of super.layout image) ≡ true
+goes_on_quiet : (image : List ℕ) (super : Superblock) → has_defect (report_lines image super) ≡ false →
+    continues_after_root (volume_of super.layout image) ≡ true
 unfolding report_lines
 goes_on_quiet image super h =
     root_there (volume_of super.layout image) (text_say image super (quiet_parts (super_lines super) _ h).1).pathnames
 
-end_consistent : (image : List ℕ) (super : Superblock) → has_defect (report_lines image super) ≡ false → end_of image super ≡ Consistent
+end_consistent : (image : List ℕ) (super : Superblock) → has_defect (report_lines image super) ≡ false →
+    end_of image super ≡ Consistent
 unfolding end_of
-end_consistent image super h = ap (end_by (continues_after_root (volume_of super.layout image))) h ∙ ap (λ b. end_by b false) (goes_on_quiet image super h)
+end_consistent image super h = ap (end_by (continues_after_root (volume_of super.layout image))) h
+    ∙ ap (λ b. end_by b false) (goes_on_quiet image super h)
 
-consistent_end : (image : List ℕ) (super : Superblock) → end_of image super ≡ Consistent → has_defect (report_lines image super) ≡ false
+consistent_end : (image : List ℕ) (super : Superblock) → end_of image super ≡ Consistent →
+    has_defect (report_lines image super) ≡ false
 unfolding end_of
-consistent_end image super e = end_quiet (continues_after_root (volume_of super.layout image)) (has_defect (report_lines image super)) e
+consistent_end image super e = end_quiet (continues_after_root (volume_of super.layout image))
+    (has_defect (report_lines image super)) e
 
 -- a run that stops after the root has reported a defect
 pub stop_reported : StopIsReported
 unfolding end_of
 stop_reported image super h = record {
   reported = true_from_ne_false _
-      (λ q. (let w : true ≡ false = sym (root_there (volume_of super.layout image) (text_say image super q).pathnames) ∙ h in cc));
+      (λ q. (let w : true ≡ false = sym (root_there (volume_of super.layout image) (text_say image super q).pathnames)
+      ∙ h in cc));
   end_is = ap (λ on. end_by on (has_defect (report_lines image super))) h;
 }
 
 pub report_right : (image : List ℕ) (super : Superblock) → IsValidLayout super.layout → IsCertified image super
 report_right image super g = record {
   silent = (forward image super g, backward image super g);
-  end_is = ((λ e. forward image super g (consistent_end image super e)), (λ c. end_consistent image super (backward image super g c)));
+  end_is = (
+    (λ e. forward image super g (consistent_end image super e)),
+    (λ c. end_consistent image super (backward image super g c)),
+  );
 }
 
 pub certified : ReportIsRight

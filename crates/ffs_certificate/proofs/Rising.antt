@@ -1,5 +1,6 @@
 -- The logical blocks of an inode's Runs rise, and are below the number of its logical blocks.
-use Rattle.std.proofs.Common.{zero, suc, inl, inr, ◌≡◌, ℕ, ◌+◌, ◌-◌, ◌*◌, ◌<◌, ◌≤◌, Bool, true, false, arith, refl, sym, ap, subst, ◌∙◌, List, [], ◌∷◌, ◌++◌, Some, None}
+use Rattle.std.proofs.Common.{zero, suc, inl, inr, ◌≡◌, ℕ, ◌+◌, ◌-◌, ◌*◌, ◌<◌, ◌≤◌, Bool, true, false, arith, refl, sym}
+use Rattle.std.proofs.Common.{ap, subst, ◌∙◌, List, [], ◌∷◌, ◌++◌, Some, None}
 use Rattle.std.specs.Prelude.{nat_lt, nat_eq, if◌then◌else◌, slice_index}
 use Rattle.std.specs.List.{list_all, flat_map, range_with_len}
 use Rattle.std.specs.Int.{div_ceil}
@@ -12,7 +13,9 @@ use Rattle.ffs_volume.specs.declared.Step.{Step}
 use Rattle.ffs_volume.specs.declared.Step.TheVariants.{Run, Gap}
 use Rattle.ffs_volume.specs.Disk.Areas.{is_run_in_range}
 use Rattle.ffs_volume.specs.Blocks.Inodes.{logical_blocks_of, addresses_for}
-use Rattle.ffs_volume.specs.Blocks.Steps.{FileBlocks, address_at, block_bytes, any_address_from, used_addresses, tail_of, data_length, span_of, steps_at, indirection_of, first_block, steps_of_addresses, walks, last_of, steps_of}
+use Rattle.ffs_volume.specs.Blocks.Steps.{FileBlocks, address_at, block_bytes, any_address_from, used_addresses}
+use Rattle.ffs_volume.specs.Blocks.Steps.{tail_of, data_length, span_of, steps_at, indirection_of, first_block}
+use Rattle.ffs_volume.specs.Blocks.Steps.{steps_of_addresses, walks, last_of, steps_of}
 use Rattle.ffs_volume.proofs.StepLaws.{one_more, span_more, next_first, used_most}
 use Rattle.ffs_certificate.specs.BlocksRise.{step_blocks, blocks_in, AreRising, AllBlocksRise}
 
@@ -43,7 +46,8 @@ rising_join a b (x ∷ xs) ys r s = (r.0, rising_join (x + 1) b xs ys r.1 s)
 
 blocks_append : (xs ys : List Step) → blocks_in (xs ++ ys) ≡ blocks_in xs ++ blocks_in ys
 blocks_append [] ys = refl
-blocks_append (x ∷ xs) ys = ap (λ z. step_blocks x ++ z) (blocks_append xs ys) ∙ sym (append_assoc (step_blocks x) (blocks_in xs) (blocks_in ys))
+blocks_append (x ∷ xs) ys = ap (λ z. step_blocks x ++ z) (blocks_append xs ys)
+    ∙ sym (append_assoc (step_blocks x) (blocks_in xs) (blocks_in ys))
 
 -- what some steps have: blocks from low to high, all below the number of blocks
 record Within (nb low high : ℕ) (steps : List Step) : Type 0 where
@@ -82,15 +86,18 @@ under_within : (nb span first : ℕ) (f : ℕ → List Step) (next count : ℕ) 
     Within nb (first + next * span) (first + (next + count) * span) (flat_map f (range_with_len next count))
 under_within nb span first f next zero h =
     let same : next + zero ≡ next = omega arith in
-    within_none nb (first + next * span) (first + (next + zero) * span) (let e = ap (λ k. first + k * span) same in omega (arith, e))
+    within_none nb (first + next * span) (first + (next + zero) * span)
+    (let e = ap (λ k. first + k * span) same in omega (arith, e))
 under_within nb span first f next (suc count) h =
     let here = h next (omega arith) (omega arith) in
     let rest = under_within nb span first f (next + 1) count (λ j low high. h j (omega arith) (omega arith)) in
     let step : first + next * span + span ≡ first + (next + 1) * span = omega (arith, one_more next span) in
     let end : next + 1 + count ≡ next + suc count = omega arith in
-    within_join nb (first + next * span) (first + (next + 1) * span) (first + (next + suc count) * span) (f next) (flat_map f (range_with_len (next + 1) count))
+    within_join nb (first + next * span) (first + (next + 1) * span) (first + (next + suc count) * span) (f next)
+    (flat_map f (range_with_len (next + 1) count))
     (subst (λ b. Within nb (first + next * span) b (f next)) step here)
-    (subst (λ k. Within nb (first + (next + 1) * span) (first + k * span) (flat_map f (range_with_len (next + 1) count))) end rest)
+    (subst (λ k. Within nb (first + (next + 1) * span) (first + k * span)
+    (flat_map f (range_with_len (next + 1) count))) end rest)
 
 -- a level of indirection
 at_within : (t : FileBlocks) (bytes : List ℕ) (level address first : ℕ) → first < t.blocks →
@@ -98,7 +105,8 @@ at_within : (t : FileBlocks) (bytes : List ℕ) (level address first : ℕ) → 
 unfolding steps_at
 at_within t bytes zero address first lt = one (nat_eq address 0)
   where
-    one : (b : Bool) → Within t.blocks first (first + 1) ((if b then Gap else Run address (data_length t first) (Some first)) ∷ [])
+    one : (b : Bool) → Within t.blocks first (first + 1)
+        ((if b then Gap else Run address (data_length t first) (Some first)) ∷ [])
     one true = record { rises = omega arith; below = refl }
     one false = record { rises = (omega arith, omega arith); below = and_from _ _ (lt-ltb first t.blocks lt) refl }
 at_within t bytes (suc level) address first lt = one (nat_eq address 0) (λ a b le. at_within t bytes level a b le)
@@ -113,7 +121,8 @@ at_within t bytes (suc level) address first lt = one (nat_eq address 0) (λ a b 
     used = used_addresses t.geometry.nindir t.blocks first (span_of t.geometry.nindir level)
 
     found : Bool
-    found = any_address_from t.geometry (block_bytes t.geometry bytes address) (used_addresses t.geometry.nindir t.blocks first (span_of t.geometry.nindir level))
+    found = any_address_from t.geometry (block_bytes t.geometry bytes address)
+        (used_addresses t.geometry.nindir t.blocks first (span_of t.geometry.nindir level))
 
     f : ℕ → List Step
     f = λ j. steps_at t bytes level (address_at t.geometry bytes address j)
@@ -129,57 +138,77 @@ at_within t bytes (suc level) address first lt = one (nat_eq address 0) (λ a b 
     tail_within true = record { rises = omega arith; below = refl }
     tail_within false = record { rises = omega arith; below = refl }
 
-    under : ((a b : ℕ) → b < t.blocks → Within t.blocks b (b + span) (steps_at t bytes level a b)) → Within t.blocks first high (flat_map f (range_with_len 0 used))
+    under : ((a b : ℕ) → b < t.blocks → Within t.blocks b (b + span) (steps_at t bytes level a b)) →
+        Within t.blocks first high (flat_map f (range_with_len 0 used))
     under child =
         let all = under_within t.blocks span first f 0 used (λ j low lt_used.
         let enough : 0 < words = omega (arith, lt_used) in
-        child (address_at t.geometry bytes address j) (first + j * span) (word_below words t.blocks first span j (span_some words level enough) (omega (arith, lt_used)))) in
+        child (address_at t.geometry bytes address j) (first + j * span)
+        (word_below words t.blocks first span j (span_some words level enough) (omega (arith, lt_used)))) in
         let most : used * span ≤ words * span = mul-le-mul_right span (let u : used ≤ words = omega arith in u) in
         let whole = span_more words level in
         let start : first + 0 * span ≡ first = omega arith in
-        let end : first + (0 + used) * span ≤ high = (let z : 0 + used ≡ used = omega arith in let e = ap (λ k. k * span) z in omega (arith, most, whole, e)) in
+        let end : first + (0 + used) * span ≤ high =
+        (let z : 0 + used ≡ used = omega arith in let e = ap (λ k. k * span) z in omega (arith, most, whole, e)) in
         record {
           rises = rise_upper first (first + (0 + used) * span) high (blocks_in (flat_map f (range_with_len 0 used))) end
-              (subst (λ a. Rises a (first + (0 + used) * span) (blocks_in (flat_map f (range_with_len 0 used)))) start all.rises);
+              (subst (λ a. Rises a (first + (0 + used) * span) (blocks_in (flat_map f (range_with_len 0 used)))) start
+              all.rises);
           below = all.below;
         }
 
     below : (b : Bool) → ((a b : ℕ) → b < t.blocks → Within t.blocks b (b + span) (steps_at t bytes level a b)) →
         Within t.blocks first high (if b then tail_of found ++ flat_map f (range_with_len 0 used) else [])
-    below true child = within_join t.blocks first first high (tail_of found) (flat_map f (range_with_len 0 used)) (tail_within found) (under child)
+    below true child = within_join t.blocks first first high (tail_of found) (flat_map f (range_with_len 0 used))
+        (tail_within found) (under child)
     below false child = within_none t.blocks first high wide
 
     one : (b : Bool) → ((a b : ℕ) → b < t.blocks → Within t.blocks b (b + span) (steps_at t bytes level a b)) →
-        Within t.blocks first high (if b then Gap ∷ [] else Run address t.geometry.frag None ∷ (if is_run_in_range t.geometry address t.geometry.frag then tail_of found ++ flat_map f (range_with_len 0 used) else []))
+        Within t.blocks first high
+        (if b then Gap ∷ [] else Run address t.geometry.frag None
+        ∷ (if is_run_in_range t.geometry address t.geometry.frag
+        then tail_of found ++ flat_map f (range_with_len 0 used) else []))
     one true child = record { rises = wide; below = refl }
-    one false child = let r = below (is_run_in_range t.geometry address t.geometry.frag) child in record { rises = r.rises; below = r.below }
+    one false child = let r = below (is_run_in_range t.geometry address t.geometry.frag) child in
+        record { rises = r.rises; below = r.below }
 
 -- the fifteen addresses: where one ends, the next begins
 low_first : (words i : ℕ) → i < 13 → first_block words i ≡ i
-low_first words i h = ap (λ b. if b then i else (if nat_eq i 13 then 12 + words else 12 + words + words * words)) (lt-ltb i 13 h)
+low_first words i h = ap (λ b. if b then i else (if nat_eq i 13 then 12 + words else 12 + words + words * words))
+    (lt-ltb i 13 h)
 
 first_below : (words blocks i : ℕ) → i < addresses_for words blocks → first_block words i < blocks
 first_below words blocks i h = one (nat_lt blocks 13) refl h
   where
-    top : (c : Bool) → nat_lt (12 + words + words * words) blocks ≡ c → nat_lt (12 + words) blocks ≡ true → 13 ≤ blocks → i < (if c then 15 else 14) → first_block words i < blocks
+    top : (c : Bool) → nat_lt (12 + words + words * words) blocks ≡ c → nat_lt (12 + words) blocks ≡ true → 13 ≤ blocks
+        → i < (if c then 15 else 14) → first_block words i < blocks
     top c e two low lt = elim (cases_lt i 13) [
       | inl small ↦ omega (arith, low_first words i small, low)
       | inr large ↦ elim (cases_lt i 14) [
-        | inl single ↦ (let is : 13 ≡ i = omega arith in subst (λ k. first_block words k < blocks) is (ltb-true (12 + words) blocks two))
+        | inl single ↦ (let is : 13 ≡ i = omega arith in
+            subst (λ k. first_block words k < blocks) is (ltb-true (12 + words) blocks two))
         | inr last ↦ triple c e lt last
       ]
     ]
       where
-        triple : (c : Bool) → nat_lt (12 + words + words * words) blocks ≡ c → i < (if c then 15 else 14) → 14 ≤ i → first_block words i < blocks
-        triple true e lt last = let is : 14 ≡ i = omega arith in subst (λ k. first_block words k < blocks) is (ltb-true (12 + words + words * words) blocks e)
+        triple : (c : Bool) → nat_lt (12 + words + words * words) blocks ≡ c → i < (if c then 15 else 14) → 14 ≤ i →
+            first_block words i < blocks
+        triple true e lt last = let is : 14 ≡ i = omega arith in
+            subst (λ k. first_block words k < blocks) is (ltb-true (12 + words + words * words) blocks e)
         triple false e lt last = absurd (omega arith)
 
-    middle : (b : Bool) → nat_lt (12 + words) blocks ≡ b → 13 ≤ blocks → i < (if b then (if nat_lt (12 + words + words * words) blocks then 15 else 14) else 13) → first_block words i < blocks
+    middle : (b : Bool) → nat_lt (12 + words) blocks ≡ b → 13 ≤ blocks →
+        i < (if b then (if nat_lt (12 + words + words * words) blocks then 15 else 14) else 13) →
+        first_block words i < blocks
     middle true e low lt = top (nat_lt (12 + words + words * words) blocks) refl e low lt
     middle false e low lt = omega (arith, low_first words i lt, low, lt)
 
-    one : (a : Bool) → nat_lt blocks 13 ≡ a → i < (if a then blocks else (if nat_lt (12 + words) blocks then (if nat_lt (12 + words + words * words) blocks then 15 else 14) else 13)) → first_block words i < blocks
-    one true e lt = (let few = ltb-true blocks 13 e in let small : i < 13 = omega (arith, few, lt) in omega (arith, low_first words i small, lt))
+    one : (a : Bool) → nat_lt blocks 13 ≡ a →
+        i < (if a then blocks else
+        (if nat_lt (12 + words) blocks then (if nat_lt (12 + words + words * words) blocks then 15 else 14) else 13)) →
+        first_block words i < blocks
+    one true e lt = (let few = ltb-true blocks 13 e in let small : i < 13 = omega (arith, few, lt) in
+        omega (arith, low_first words i small, lt))
     one false e lt = middle (nat_lt (12 + words) blocks) refl (ltb-false blocks 13 e) lt
 
 -- all addresses from one on
@@ -188,29 +217,37 @@ record Goes (t : FileBlocks) (low : ℕ) (steps : List Step) : Type 0 where
   below : list_all (λ b. nat_lt b t.blocks) (blocks_in steps) ≡ true
 
 after : (t : FileBlocks) (bytes addresses : List ℕ) (next n : ℕ) → next + suc n ≤ 15 →
-    AreRising (first_block t.geometry.nindir (next + 1)) (blocks_in (steps_of_addresses t bytes addresses (next + 1) n)) →
-    AreRising (first_block t.geometry.nindir next + span_of t.geometry.nindir (indirection_of next)) (blocks_in (steps_of_addresses t bytes addresses (next + 1) n))
+    AreRising (first_block t.geometry.nindir (next + 1)) (blocks_in (steps_of_addresses t bytes addresses (next + 1) n))
+    →
+    AreRising (first_block t.geometry.nindir next + span_of t.geometry.nindir (indirection_of next))
+    (blocks_in (steps_of_addresses t bytes addresses (next + 1) n))
 after t bytes addresses next zero le r = tt
 after t bytes addresses next (suc n) le r =
-    subst (λ a. AreRising a (blocks_in (steps_of_addresses t bytes addresses (next + 1) (suc n)))) (sym (next_first t.geometry.nindir next (omega (arith, le)))) r
+    subst (λ a. AreRising a (blocks_in (steps_of_addresses t bytes addresses (next + 1) (suc n))))
+    (sym (next_first t.geometry.nindir next (omega (arith, le)))) r
 
-addresses_go : (t : FileBlocks) (bytes addresses : List ℕ) (next count : ℕ) → next + count ≤ 15 → next + count ≤ addresses_for t.geometry.nindir t.blocks →
+addresses_go : (t : FileBlocks) (bytes addresses : List ℕ) (next count : ℕ) → next + count ≤ 15 →
+    next + count ≤ addresses_for t.geometry.nindir t.blocks →
     Goes t (first_block t.geometry.nindir next) (steps_of_addresses t bytes addresses next count)
 addresses_go t bytes addresses next zero le used = record { rising = tt; below = refl }
 addresses_go t bytes addresses next (suc count) le used =
     let words = t.geometry.nindir in
-    let here = at_within t bytes (indirection_of next) (slice_index addresses next) (first_block words next) (first_below words t.blocks next (omega (arith, used))) in
+    let here = at_within t bytes (indirection_of next) (slice_index addresses next) (first_block words next)
+    (first_below words t.blocks next (omega (arith, used))) in
     let rest = addresses_go t bytes addresses (next + 1) count (omega (arith, le)) (omega (arith, used)) in
     let xs = steps_at t bytes (indirection_of next) (slice_index addresses next) (first_block words next) in
     let ys = steps_of_addresses t bytes addresses (next + 1) count in
     record {
       rising = subst (AreRising (first_block words next)) (sym (blocks_append xs ys))
-          (rising_join (first_block words next) (first_block words next + span_of words (indirection_of next)) (blocks_in xs) (blocks_in ys) here.rises (after t bytes addresses next count le rest.rising));
+          (rising_join (first_block words next) (first_block words next + span_of words (indirection_of next))
+          (blocks_in xs) (blocks_in ys) here.rises (after t bytes addresses next count le rest.rising));
       below = ap (list_all (λ b. nat_lt b t.blocks)) (blocks_append xs ys)
-          ∙ (list_all-append (λ b. nat_lt b t.blocks) (blocks_in xs) (blocks_in ys) ∙ and_from _ _ here.below rest.below);
+          ∙ (list_all-append (λ b. nat_lt b t.blocks) (blocks_in xs) (blocks_in ys)
+          ∙ and_from _ _ here.below rest.below);
     }
 
-below_more : (n m : ℕ) (xs : List ℕ) → n ≤ m → list_all (λ b. nat_lt b n) xs ≡ true → list_all (λ b. nat_lt b m) xs ≡ true
+below_more : (n m : ℕ) (xs : List ℕ) → n ≤ m → list_all (λ b. nat_lt b n) xs ≡ true →
+    list_all (λ b. nat_lt b m) xs ≡ true
 below_more n m [] le h = refl
 below_more n m (x ∷ xs) le h =
     let p = and_parts (nat_lt x n) (list_all (λ b. nat_lt b n) xs) h in
@@ -219,7 +256,8 @@ below_more n m (x ∷ xs) le h =
 
 pub all_blocks_rise : AllBlocksRise
 unfolding steps_of
-all_blocks_rise v i image = record { rising = steps.rising; below = below_more nb (logical_blocks_of v i) _ (most (walks v i)) steps.below }
+all_blocks_rise v i image =
+    record { rising = steps.rising; below = below_more nb (logical_blocks_of v i) _ (most (walks v i)) steps.below }
   where
     nb : ℕ
     nb = if walks v i then logical_blocks_of v i else 0

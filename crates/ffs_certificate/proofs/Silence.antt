@@ -1,5 +1,6 @@
 -- When a list of messages is empty.
-use Rattle.std.specs.Prelude.{◌≡◌, ◌≢◌, ℕ, zero, suc, ◌<◌, Bool, true, false, ◌&&◌, refl, List, [], ◌∷◌, ◌++◌, if◌then◌else◌}
+use Rattle.std.specs.Prelude.{◌≡◌, ◌≢◌, ℕ, zero, suc, ◌<◌, Bool, true, false, ◌&&◌, refl, List, [], ◌∷◌, ◌++◌}
+use Rattle.std.specs.Prelude.{if◌then◌else◌}
 use Rattle.std.proofs.Common.{arith, sym, ◌∙◌, ap, inl, inr}
 use Rattle.std.proofs.lemmas.Bool.{cases_eq}
 use Rattle.ffs_volume.specs.Messages.Kinds.{NameMessage, reported, lines_below}
@@ -24,7 +25,8 @@ pub reported-silent : (b : Bool) (m : NameMessage) → b ≡ false → reported 
 reported-silent b m h = ap (λ x. reported x m) h
 
 -- one of two, where the first has a message
-pub if-quiet : (b : Bool) (m : NameMessage) (ms ys : List NameMessage) → (if b then m ∷ ms else ys) ≡ [] → (b ≡ false) × (ys ≡ [])
+pub if-quiet : (b : Bool) (m : NameMessage) (ms ys : List NameMessage) → (if b then m ∷ ms else ys) ≡ [] → (b ≡ false)
+    × (ys ≡ [])
 if-quiet true m ms ys h = absurd (cc)
 if-quiet false m ms ys h = (refl, h)
 
@@ -58,7 +60,8 @@ lines-quiet f (suc n) h i l =
 pub lines-silent : (f : ℕ → List NameMessage) (n : ℕ) → ((i : ℕ) → i < n → f i ≡ []) → lines_below f n ≡ []
 unfolding lines_below
 lines-silent f zero h = refl
-lines-silent f (suc n) h = nil-both (lines_below f n) (f n) (lines-silent f n (λ i l. h i (omega arith))) (h n (omega arith))
+lines-silent f (suc n) h = nil-both (lines_below f n) (f n) (lines-silent f n (λ i l. h i (omega arith)))
+    (h n (omega arith))
 
 pub and_false-right : (a b : Bool) → (a && b) ≡ false → a ≡ true → b ≡ false
 and_false-right true b h e = h

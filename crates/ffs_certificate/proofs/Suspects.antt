@@ -2,7 +2,8 @@
 use Rattle.std.specs.Prelude.{◌≡◌, ◌≢◌, ℕ, ◌≤◌, ◌==◌, true, false, not, ◌&&◌, nat_lt, nat_le, refl, Some, None}
 use Rattle.std.specs.List.{list_any}
 use Rattle.std.proofs.Common.{arith, sym, ◌∙◌, ap, subst, inl, inr}
-use Rattle.std.proofs.lemmas.Bool.{both_ways, cases_Bool, cases_eq, eq-eqb, ne_eqb, leb-true, and_parts, and_from, or_from, or_right, not_from_false}
+use Rattle.std.proofs.lemmas.Bool.{both_ways, cases_Bool, cases_eq, eq-eqb, ne_eqb, leb-true, and_parts, and_from}
+use Rattle.std.proofs.lemmas.Bool.{or_from, or_right, not_from_false}
 use Rattle.ffs_volume.specs.declared.Class.{Class}
 use Rattle.ffs_volume.specs.declared.Class.TheVariants.{Free, Partial, Unknown, File, Dir}
 use Rattle.ffs_volume.specs.Blocks.Inodes.{is_directory, is_allocated}
@@ -27,7 +28,8 @@ is_sane v vol = record { some = vol.some; dirs = dir-below v }
 
 -- a directory has a number from 2 on, and is allocated
 pub dir-from_two : (v : Volume) (d : ℕ) → is_dir v d ≡ true → 2 ≤ d
-dir-from_two v d h = leb-true 2 d (and_parts (nat_le 2 d) (nat_lt d v.count) (and_parts (is_inode v d) (is_directory (v.class d)) h).0).0
+dir-from_two v d h = leb-true 2 d
+    (and_parts (nat_le 2 d) (nat_lt d v.count) (and_parts (is_inode v d) (is_directory (v.class d)) h).0).0
 
 directory-allocated : (c : Class) → is_directory c ≡ true → is_allocated c ≡ true
 directory-allocated Dir h = refl
@@ -42,7 +44,8 @@ dir-allocated v d h =
     and_from (is_inode v d) (is_allocated (v.class d)) p.0 (directory-allocated (v.class d) p.1)
 
 -- what some plain entry names, a first one names
-first_name : (v : Volume) (x : ℕ) → named (graph_of v) x ≡ true → (s : ℕ) × (j : ℕ) × (is_first_name (graph_of v) s j x ≡ true) × IsNamer v s j x
+first_name : (v : Volume) (x : ℕ) → named (graph_of v) x ≡ true → (s : ℕ) × (j : ℕ)
+    × (is_first_name (graph_of v) s j x ≡ true) × IsNamer v s j x
 first_name v x h =
     let g = graph_of v in
     let w = some_below-gives (λ s. names_in g s x) v.count h in
@@ -57,24 +60,30 @@ first_name v x h =
     )
 
 pub zero-suspect : (v : Volume) (d : ℕ) → is_dir v d ≡ true → (v.inode d).size ≡ 0 → is_suspect v d ≡ true
-zero-suspect v d h z = or_right (v.marked d) _ (and_from (is_dir v d) ((v.inode d).size == 0) h (eq-eqb (v.inode d).size 0 z))
+zero-suspect v d h z = or_right (v.marked d) _
+    (and_from (is_dir v d) ((v.inode d).size == 0) h (eq-eqb (v.inode d).size 0 z))
 
 -- a suspect that is named is reported at its first name
-named_reported : (v : Volume) → IsVolume v → IsPathnameQuiet v → ((d : ℕ) → d ≢ 2 → is_dir v d ≡ true → (v.inode d).size ≡ 0 → named (graph_of v) d ≡ true → ⊥)
+named_reported : (v : Volume) → IsVolume v → IsPathnameQuiet v →
+    ((d : ℕ) → d ≢ 2 → is_dir v d ≡ true → (v.inode d).size ≡ 0 → named (graph_of v) d ≡ true → ⊥)
 named_reported v vol p d n h z t =
     let f = first_name v d t in
     let m = f.3 in
-    let big : (v.inode f.0).size ≢ 0 = (λ e. let q : None ≡ Some m.entry = sym (ap (λ l. roled_at l f.1) (vol.empty f.0 m.dir e)) ∙ m.there in cc) in
+    let big : (v.inode f.0).size ≢ 0 =
+    (λ e. let q : None ≡ Some m.entry = sym (ap (λ l. roled_at l f.1) (vol.empty f.0 m.dir e)) ∙ m.there in cc) in
     let quiet = ((p.each f.0 m.dir big).entries f.1 m.entry m.there).plain m.role in
     let two = dir-from_two v d h in
     let number = m.number in
     let not_one : (m.entry.entry.number == 1) ≡ false = ne_eqb m.entry.entry.number 1 (omega arith) in
-    let tells : reports_suspect v f.0 f.1 d ≡ true = and_from (is_suspect v d) (not (d == 2) && is_first_name (graph_of v) f.0 f.1 d) (zero-suspect v d h z)
+    let tells : reports_suspect v f.0 f.1 d ≡ true =
+    and_from (is_suspect v d) (not (d == 2) && is_first_name (graph_of v) f.0 f.1 d) (zero-suspect v d h z)
     (and_from (not (d == 2)) (is_first_name (graph_of v) f.0 f.1 d) (not_from_false _ (ne_eqb d 2 n)) f.2) in
-    both_ways (reports_suspect v f.0 f.1 d) (subst (λ x. reports_suspect v f.0 f.1 x ≡ false) number (quiet.named not_one).suspect) tells
+    both_ways (reports_suspect v f.0 f.1 d)
+    (subst (λ x. reports_suspect v f.0 f.1 x ≡ false) number (quiet.named not_one).suspect) tells
 
 -- no directory has size 0
-pub none_empty : (v : Volume) → IsVolume v → IsPathnameQuiet v → ((i : ℕ) → is_allocated_inode v i ≡ true → IsCountQuiet v i) → (d : ℕ) → is_dir v d ≡ true → (v.inode d).size ≢ 0
+pub none_empty : (v : Volume) → IsVolume v → IsPathnameQuiet v →
+    ((i : ℕ) → is_allocated_inode v i ≡ true → IsCountQuiet v i) → (d : ℕ) → is_dir v d ≡ true → (v.inode d).size ≢ 0
 none_empty v vol p r d h z =
     elim (cases_eq d 2) [
       | inl e ↦ both_ways (is_suspect v 2) p.suspect (subst (λ x. is_suspect v x ≡ true) e (zero-suspect v d h z))
@@ -82,12 +91,14 @@ none_empty v vol p r d h z =
         | inl t ↦ named_reported v vol p d n h z t
         | inr t ↦ both_ways (is_dead v d) (r d (dir-allocated v d h)).alive
             (and_from (is_suspect v d) (not (d == 2) && not (named (graph_of v) d)) (zero-suspect v d h z)
-            (and_from (not (d == 2)) (not (named (graph_of v) d)) (not_from_false _ (ne_eqb d 2 n)) (not_from_false _ t)))
+            (and_from (not (d == 2)) (not (named (graph_of v) d)) (not_from_false _ (ne_eqb d 2 n))
+            (not_from_false _ t)))
       ]
     ]
 
 -- with nothing marked and no directory of size 0, nothing is suspect
-pub none_suspect : (v : Volume) → IsUnmarked v → ((d : ℕ) → is_dir v d ≡ true → (v.inode d).size ≢ 0) → (x : ℕ) → is_suspect v x ≡ false
+pub none_suspect : (v : Volume) → IsUnmarked v → ((d : ℕ) → is_dir v d ≡ true → (v.inode d).size ≢ 0) → (x : ℕ) →
+    is_suspect v x ≡ false
 none_suspect v un sizes x =
     or_from (v.marked x) (is_dir v x && ((v.inode x).size == 0)) (un.marked x)
     (and_false-from (is_dir v x) ((v.inode x).size == 0) (λ h. ne_eqb (v.inode x).size 0 (sizes x h)))

@@ -15,7 +15,8 @@ use Rattle.ffs_certificate.proofs.BlocksSilent.{reserved_length}
 
 -- over inodes, what is beside a first claim is at most 22 for each
 inodes_move : (v : Layout) (image : List ℕ) (s : Claims) (xs : List ℕ) → IsValidLayout v → length s.used ≡ v.size →
-    ((after_owners v s (map (owner_of v image) xs)).runs + used_bits s ≤ s.runs + used_bits (after_owners v s (map (owner_of v image) xs)) + 22 * length xs)
+    ((after_owners v s (map (owner_of v image) xs)).runs + used_bits s ≤ s.runs + used_bits
+    (after_owners v s (map (owner_of v image) xs)) + 22 * length xs)
     × (length (after_owners v s (map (owner_of v image) xs)).used ≡ v.size)
 inodes_move v image s [] g h = (omega arith, h)
 inodes_move v image s (x ∷ xs) g h =
@@ -30,4 +31,10 @@ unfolding run_count owners_of no_claims
 claims_bounded v image g =
     let all = inodes_move v image (no_claims v) (inode_numbers v) g (reserved_length v) in
     let many = length-range_with_len 2 (v.ncg * v.ipg - 2) in
-    omega (arith, all.0, all.1, many, count_by-le-length (λ b. b) (after_owners v (no_claims v) (map (owner_of v image) (inode_numbers v))).used)
+    omega (
+      arith,
+      all.0,
+      all.1,
+      many,
+      count_by-le-length (λ b. b) (after_owners v (no_claims v) (map (owner_of v image) (inode_numbers v))).used,
+    )

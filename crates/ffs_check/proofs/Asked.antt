@@ -1,10 +1,12 @@
 -- What the matches of the words say of the image and of the sector.
-use Rattle.std.proofs.Common.{◌≡◌, ◌∙◌, ◌++◌, ◌∷◌, [], ℕ, List, Option, Some, None, Ok, Err, Result, refl, ap, subst, inl, inr, true, map}
+use Rattle.std.proofs.Common.{◌≡◌, ◌∙◌, ◌++◌, ◌∷◌, [], ℕ, List, Option, Some, None, Ok, Err, Result, refl, ap, subst}
+use Rattle.std.proofs.Common.{inl, inr, true, map}
 use Rattle.std.proofs.lemmas.List.{map-append}
 use Rattle.std.specs.Prelude.{option_map, unwrap_or}
 use Rattle.std.specs.Borrow.{Bor}
 use Rattle.std.specs.Str.Parse.{ParsesUnsigned}
-use Rattle.clap.specs.Words.{AddsShortAliases, HasKind, IsAmong, Kinds, ReadsOne, is_simple, is_simple_and_free, kind_of, rule_of}
+use Rattle.clap.specs.Words.{AddsShortAliases, HasKind, IsAmong, Kinds, ReadsOne, is_simple, is_simple_and_free}
+use Rattle.clap.specs.Words.{kind_of, rule_of}
 use Rattle.clap.specs.declared.builder.arg.Arg.{Arg}
 use Rattle.clap.specs.declared.builder.value_parser.ValueParser.{ValueParser}
 use Rattle.clap.specs.declared.error.Error.{Error}
@@ -21,14 +23,17 @@ unfolding clap_on_literals
 free = refl
 
 -- the text of a word that is there, and of an empty one where none is
-pub text_or : (found : Option (Bor (List ℕ))) (other word : Bor (List ℕ)) → word ≡ unwrap_or found other → other.now ≡ []
+pub text_or : (found : Option (Bor (List ℕ))) (other word : Bor (List ℕ)) → word ≡ unwrap_or found other →
+    other.now ≡ []
     → word.now ≡ unwrap_or (option_map (λ s. s.now) found) []
 text_or None other word is empty = ap (λ s. s.now) is ∙ empty
 text_or (Some x) other word is empty = ap (λ s. s.now) is
 
 -- a text that is read as a number of 32 bits
-pub sector_read : {E : Type 0} (gives : List ℕ → Result ℕ E → Type 0) → ((t : List ℕ) (r : Result ℕ E) → gives t r → ParsesUnsigned 32 10 t r)
-    → (text : Option (List ℕ)) (sector : Option ℕ) → (text ≡ None → sector ≡ None) → ((t : List ℕ) → text ≡ Some t → ReadsOne gives t sector)
+pub sector_read : {E : Type 0} (gives : List ℕ → Result ℕ E → Type 0) →
+    ((t : List ℕ) (r : Result ℕ E) → gives t r → ParsesUnsigned 32 10 t r)
+    → (text : Option (List ℕ)) (sector : Option ℕ) → (text ≡ None → sector ≡ None) →
+    ((t : List ℕ) → text ≡ Some t → ReadsOne gives t sector)
     → IsSector text sector
 sector_read gives parses None sector none some = none refl
 sector_read gives parses (Some t) (Some n) none some = λ numeral small. ap Some (parses t (Ok n) (some t refl)).1
@@ -39,7 +44,8 @@ sector_read gives parses (Some t) None none some = λ numeral small.
 pub lettered : (a b : Arg) (letter : ℕ) → AddsShortAliases a b ((letter, true) ∷ [])
     → rule_of b ≡ record (rule_of a) { short_aliases = (rule_of a).short_aliases ++ letter ∷ [] }
 lettered a b letter adds = ap rule_of adds.0
-    ∙ ap (λ xs. record (rule_of a) { short_aliases = xs }) (ap (map (λ alias. alias.0)) adds.1 ∙ map-append (λ alias. alias.0) a.short_aliases.items ((letter, true) ∷ []))
+    ∙ ap (λ xs. record (rule_of a) { short_aliases = xs })
+    (ap (map (λ alias. alias.0)) adds.1 ∙ map-append (λ alias. alias.0) a.short_aliases.items ((letter, true) ∷ []))
 
 -- an argument with a parser
 pub parsed : (a b : Arg) (q : ValueParser) → b ≡ record a { value_parser = b.value_parser } → b.value_parser ≡ Some q

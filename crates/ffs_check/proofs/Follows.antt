@@ -1,9 +1,11 @@
 -- The headline, of a run after an accepted superblock.
-use Rattle.std.proofs.Common.{◌≡◌, inl, inr, refl, ◌∙◌, sym, ap, subst, ℕ, Bool, true, false, List, [], ◌∷◌, ◌++◌, append_assoc, Option, Ok}
+use Rattle.std.proofs.Common.{◌≡◌, inl, inr, refl, ◌∙◌, sym, ap, subst, ℕ, Bool, true, false, List, [], ◌∷◌, ◌++◌}
+use Rattle.std.proofs.Common.{append_assoc, Option, Ok}
 use Rattle.ffs_image.specs.Device.{Device, ForContents}
 use Rattle.ffs_volume.specs.declared.SuperFault.{SuperFault}
 use Rattle.ffs_volume.specs.declared.End.{End}
-use Rattle.ffs_volume.specs.declared.End.TheVariants.{Consistent, Defects, Refused, RootStop, ReadFault, WriteFault, NoMemory}
+use Rattle.ffs_volume.specs.declared.End.TheVariants.{Consistent, Defects, Refused, RootStop, ReadFault, WriteFault}
+use Rattle.ffs_volume.specs.declared.End.TheVariants.{NoMemory}
 use Rattle.ffs_volume.specs.Disk.Superblock.{Superblock}
 use Rattle.ffs_volume.specs.Disk.Outcome.{outcome}
 use Rattle.ffs_volume.specs.Messages.Kinds.{Message, cannot_read, cannot_alloc}
@@ -27,28 +29,46 @@ use Rattle.ffs_check.proofs.Openings.{broke_off, broke_in_line, found_of, still_
 use Rattle.ffs_check.proofs.Endings.{at_reported, at_reported_is, faulted_there}
 use Rattle.ffs_check.proofs.Headlines.{whole_there, defect_there, end_of_there, end_there, completed_by, certifies}
 
-module _ (image : Device) (name : List ℕ) (sector : Option ℕ) (output : GName) (sink : Sink) (s : Superblock) (accepted : ForContents image.contents (λ bytes. Ok s ≡ outcome bytes sector))
-    (p : Progress) (opened : Said (starts output sink) p (opened_lines name sector s)) (image' : Device) (new : Progress) where
+module _ (image : Device) (name : List ℕ) (sector : Option ℕ) (output : GName) (sink : Sink) (s : Superblock)
+    (accepted : ForContents image.contents (λ bytes. Ok s ≡ outcome bytes sector))
+    (p : Progress) (opened : Said (starts output sink) p (opened_lines name sector s)) (image' : Device)
+    (new : Progress) where
   -- the memory was refused
-  unstarted : (end : End) → image' ≡ image → RefusalReported p new end → Headline image image' name sector sink new.sink end
+  unstarted : (end : End) → image' ≡ image → RefusalReported p new end →
+      Headline image image' name sector sink new.sink end
   unstarted end still (inl reported) = record {
     text = opened_lines name sector s ++ at_reported image.contents (λ bytes. phase_lines bytes s);
-    is_report = λ bytes t. whole_there bytes name sector s _ (accepted bytes t) (at_reported_is image.contents (λ bytes. phase_lines bytes s) bytes t);
+    is_report = λ bytes t. whole_there bytes name sector s _ (accepted bytes t)
+        (at_reported_is image.contents (λ bytes. phase_lines bytes s) bytes t);
     ends = inr (inr (inr (inl (record {
       said = opened_lines name sector s;
       line = cannot_alloc;
-      cut = record { unread = still; found = s; accepted = λ bytes t. sym (accepted bytes t); said_is = refl; line_is = refl };
-      took = (said_then (starts output sink) p new (opened_lines name sector s) (cannot_alloc ∷ []) opened reported.0).took;
+      cut = record {
+        unread = still;
+        found = s;
+        accepted = λ bytes t. sym (accepted bytes t);
+        said_is = refl;
+        line_is = refl;
+      };
+      took = (said_then (starts output sink) p new (opened_lines name sector s) (cannot_alloc ∷ []) opened
+          reported.0).took;
       end_is = reported.1;
     }))));
   }
   unstarted end still (inr unreported) = record {
     text = opened_lines name sector s ++ at_reported image.contents (λ bytes. phase_lines bytes s);
-    is_report = λ bytes t. whole_there bytes name sector s _ (accepted bytes t) (at_reported_is image.contents (λ bytes. phase_lines bytes s) bytes t);
+    is_report = λ bytes t. whole_there bytes name sector s _ (accepted bytes t)
+        (at_reported_is image.contents (λ bytes. phase_lines bytes s) bytes t);
     ends = inr (inr (inr (inr (inr (record {
       said = opened_lines name sector s;
       line = cannot_alloc;
-      cut = inr (inr (record { unread = still; found = s; accepted = λ bytes t. sym (accepted bytes t); said_is = refl; line_is = refl }));
+      cut = inr (inr (record {
+        unread = still;
+        found = s;
+        accepted = λ bytes t. sym (accepted bytes t);
+        said_is = refl;
+        line_is = refl;
+      }));
       between = p.sink;
       took = opened.took;
       broke_off = broke_in_line output sink p new (opened_lines name sector s) cannot_alloc opened unreported.0;
@@ -56,15 +76,18 @@ module _ (image : Device) (name : List ℕ) (sector : Option ℕ) (output : GNam
     })))));
   }
 
-  module _ (end : End) (text : List Message) (right : ForContents image.contents (λ bytes. text ≡ phase_lines bytes s)) where
+  module _ (end : End) (text : List Message)
+      (right : ForContents image.contents (λ bytes. text ≡ phase_lines bytes s)) where
     report : ForContents image.contents (λ bytes. opened_lines name sector s ++ text ≡ report_of bytes name sector)
     report bytes t = whole_there bytes name sector s text (accepted bytes t) (right bytes t)
 
-    whole : SaidWhole false (IsContents image.contents) (λ bytes. continues_after_root (volume_of s.layout bytes)) text image image' p new end → Headline image image' name sector sink new.sink end
+    whole : SaidWhole false (IsContents image.contents) (λ bytes. continues_after_root (volume_of s.layout bytes)) text
+        image image' p new end → Headline image image' name sector sink new.sink end
     whole all =
         let said = said_then (starts output sink) p new (opened_lines name sector s) text opened all.said in
         let last : ForContents image.contents (λ bytes. end ≡ report_end bytes sector) = λ bytes t.
-        all.end_is ∙ end_of_there bytes s all.on new.defect (all.went bytes t) (said.defect ∙ defect_there bytes name sector s text (right bytes t))
+        all.end_is ∙ end_of_there bytes s all.on new.defect (all.went bytes t)
+        (said.defect ∙ defect_there bytes name sector s text (right bytes t))
         ∙ end_there bytes sector (Ok s) (accepted bytes t) in
         record {
           text = opened_lines name sector s ++ text;
@@ -74,13 +97,16 @@ module _ (image : Device) (name : List ℕ) (sector : Option ℕ) (output : GNam
             took = said.took;
             completed = ap is_completed all.end_is ∙ completed_by all.on new.defect;
             end_is = last;
-            certifies = λ bytes t. certifies bytes name sector (opened_lines name sector s ++ text) end (report bytes t) (last bytes t);
+            certifies = λ bytes t. certifies bytes name sector (opened_lines name sector s ++ text) end (report bytes t)
+                (last bytes t);
           });
         }
 
     -- what a failed read leaves of the report
-    later : (sector' : ℕ) (messages : List Message) → IsCut (IsContents image.contents) text messages image image' sector' →
-        IsCutLater image image' name sector (opened_lines name sector s ++ text) (opened_lines name sector s ++ messages) (cannot_read sector')
+    later : (sector' : ℕ) (messages : List Message) → IsCut (IsContents image.contents) text messages image image'
+        sector' →
+        IsCutLater image image' name sector (opened_lines name sector s ++ text)
+        (opened_lines name sector s ++ messages) (cannot_read sector')
     later sector' messages c = record {
       faulted = faulted_there image image' sector' c.faulted;
       found = s;
@@ -88,12 +114,14 @@ module _ (image : Device) (name : List ℕ) (sector : Option ℕ) (output : GNam
       prefix = messages;
       rest = c.rest;
       said_is = refl;
-      whole = append_assoc (opened_lines name sector s) messages c.rest ∙ ap (λ xs. opened_lines name sector s ++ xs) c.whole;
+      whole = append_assoc (opened_lines name sector s) messages c.rest
+          ∙ ap (λ xs. opened_lines name sector s ++ xs) c.whole;
       more = c.more;
       line_is = ap cannot_read (sym c.faulted.failed);
     }
 
-    cut : SaidCut (IsContents image.contents) text image image' p new end → Headline image image' name sector sink new.sink end
+    cut : SaidCut (IsContents image.contents) text image image' p new end →
+        Headline image image' name sector sink new.sink end
     cut short = record {
       text = opened_lines name sector s ++ text;
       is_report = report;
@@ -101,7 +129,8 @@ module _ (image : Device) (name : List ℕ) (sector : Option ℕ) (output : GNam
         said = opened_lines name sector s ++ short.messages;
         line = cannot_read short.sector;
         cut = later short.sector short.messages short.cut;
-        took = subst (λ xs. Took sink new.sink (texts_of xs)) (sym (append_assoc (opened_lines name sector s) short.messages (cannot_read short.sector ∷ [])))
+        took = subst (λ xs. Took sink new.sink (texts_of xs))
+            (sym (append_assoc (opened_lines name sector s) short.messages (cannot_read short.sector ∷ [])))
             (said_then (starts output sink) p new (opened_lines name sector s) _ opened short.said).took;
         end_is = short.end_is ∙ ap ReadFault (sym short.cut.faulted.failed);
       })));
@@ -113,14 +142,17 @@ module _ (image : Device) (name : List ℕ) (sector : Option ℕ) (output : GNam
       is_report = report;
       ends = inr (inr (inr (inr (inl (record {
         unread = stop.unread;
-        broke_off = broke_off output sink new (opened_lines name sector s ++ text) (stopped_after (starts output sink) p new (opened_lines name sector s) text opened stop.stopped);
+        broke_off = broke_off output sink new (opened_lines name sector s ++ text)
+            (stopped_after (starts output sink) p new (opened_lines name sector s) text opened stop.stopped);
         end_is = stop.end_is;
       })))));
     }
 
-    in_line : SaidInLine (IsContents image.contents) text image image' p new end → Headline image image' name sector sink new.sink end
+    in_line : SaidInLine (IsContents image.contents) text image image' p new end →
+        Headline image image' name sector sink new.sink end
     in_line stop =
-        let said = said_then (starts output sink) p stop.between (opened_lines name sector s) stop.messages opened stop.said in
+        let said = said_then (starts output sink) p stop.between (opened_lines name sector s) stop.messages opened
+        stop.said in
         record {
           text = opened_lines name sector s ++ text;
           is_report = report;
@@ -130,7 +162,8 @@ module _ (image : Device) (name : List ℕ) (sector : Option ℕ) (output : GNam
             cut = inr (inl (later stop.sector stop.messages stop.cut));
             between = stop.between.sink;
             took = said.took;
-            broke_off = broke_in_line output sink stop.between new (opened_lines name sector s ++ stop.messages) (cannot_read stop.sector) said stop.stopped;
+            broke_off = broke_in_line output sink stop.between new (opened_lines name sector s ++ stop.messages)
+                (cannot_read stop.sector) said stop.stopped;
             end_is = stop.end_is;
           })))));
         }
@@ -141,12 +174,18 @@ module _ (image : Device) (name : List ℕ) (sector : Option ℕ) (output : GNam
     | inl all ↦ whole end ran.text ran.right all
     | inr rest ↦ elim rest [
       | inl short ↦ cut end ran.text ran.right short
-      | inr stops ↦ elim stops [ inl stop ↦ part end ran.text ran.right stop | inr inside ↦ in_line end ran.text ran.right inside ]
+      | inr stops ↦ elim stops [
+        | inl stop ↦ part end ran.text ran.right stop
+        | inr inside ↦ in_line end ran.text
+            ran.right inside
+      ]
     ]
   ]
 
-pub found_ends : (image on image' : Device) (name : List ℕ) (sector : Option ℕ) (output : GName) (sink : Sink) (p new : Progress) (found : Super) (end : End) →
-    Opened image on (starts output sink) p name sector (Ok found) → Followed (seen found) on image' p new end → Headline image image' name sector sink new.sink end
+pub found_ends : (image on image' : Device) (name : List ℕ) (sector : Option ℕ) (output : GName) (sink : Sink)
+    (p new : Progress) (found : Super) (end : End) →
+    Opened image on (starts output sink) p name sector (Ok found) → Followed (seen found) on image' p new end →
+    Headline image image' name sector sink new.sink end
 found_ends image on image' name sector output sink p new found end o f =
     let answers = subst (λ r. Answers image on sector r) o.ends.1 o.answers in
     follows image name sector output sink (seen found) (found_of image on sector (seen found) answers) p
@@ -163,7 +202,8 @@ not_reported : (p new : Progress) (end : End) (fault : SuperFault) → RefusalRe
 not_reported p new end fault (inl reported) e = (let w : NoMemory ≡ Refused fault = sym reported.1 ∙ e in cc)
 not_reported p new end fault (inr unreported) e = (let w : WriteFault ≡ Refused fault = sym unreported.1 ∙ e in cc)
 
-pub not_refused : (s : Superblock) (image image' : Device) (p new : Progress) (end : End) (fault : SuperFault) → Followed s image image' p new end → end ≡ Refused fault → ⊥
+pub not_refused : (s : Superblock) (image image' : Device) (p new : Progress) (end : End) (fault : SuperFault) →
+    Followed s image image' p new end → end ≡ Refused fault → ⊥
 not_refused s image image' p new end fault (inl refusal) e = not_reported p new end fault refusal.1 e
 not_refused s image image' p new end fault (inr ran) e = elim ran.ends [
   | inl all ↦ not_by all.on new.defect fault (sym all.end_is ∙ e)

@@ -10,16 +10,19 @@ use Rattle.ffs_phase.specs.declared.fault.RunFault.{RunFault}
 use Rattle.ffs_phase.specs.declared.fault.RunFault.TheVariants.{Read, Out}
 use Rattle.ffs_check.specs.Rest.{first_part, scanned_lines}
 
-pub on_knows : (T : Type 0) (knows known P : List ℕ → Type 0) (r : Result T RunFault) → ForBytes knows known → OnOk r (ForBytes known P) → OnOk r (ForBytes knows P)
+pub on_knows : (T : Type 0) (knows known P : List ℕ → Type 0) (r : Result T RunFault) → ForBytes knows known →
+    OnOk r (ForBytes known P) → OnOk r (ForBytes knows P)
 on_knows T knows known P (Ok x) more h = λ bytes k. h bytes (more bytes k)
 on_knows T knows known P (Err e) more h = h
 
 -- an image that was left as it was
-pub reads_on : (T : Type 0) (old on new : Device) (r : Result T RunFault) → on ≡ old → ImageAfter on new r → ImageAfter old new r
+pub reads_on : (T : Type 0) (old on new : Device) (r : Result T RunFault) → on ≡ old → ImageAfter on new r →
+    ImageAfter old new r
 reads_on T old on new r e h = rw e at h
 
 -- a fault of the first part
-pub reads_fault : (T E : Type 0) (old new : Device) (fault : RunFault) → ImageAfter {T = T} old new (Err fault) → ImageAfter {T = E} old new (Err fault)
+pub reads_fault : (T E : Type 0) (old new : Device) (fault : RunFault) → ImageAfter {T = T} old new (Err fault) →
+    ImageAfter {T = E} old new (Err fault)
 reads_fault T E old new (Read fault) h = h
 reads_fault T E old new (Out fault) h = h
 

@@ -1,5 +1,6 @@
 -- The bytes before the first NUL.
-use Rattle.std.proofs.Common.{◌≡◌, ◌≤◌, ◌<◌, ◌+◌, ℕ, Bool, true, false, List, length, take, get_or, arith, sym, ap, ◌∙◌, inl, inr}
+use Rattle.std.proofs.Common.{◌≡◌, ◌≤◌, ◌<◌, ◌+◌, ℕ, Bool, true, false, List, length, take, get_or, arith, sym, ap, ◌∙◌}
+use Rattle.std.proofs.Common.{inl, inr}
 use Rattle.std.specs.Prelude.{nat_lt}
 use Rattle.std.specs.List.{prefix_len}
 use Rattle.std.proofs.lemmas.Bool.{cases_lt}
@@ -13,7 +14,8 @@ abbrev pub is_set : ℕ → Bool
 is_set byte = nat_lt 0 byte
 
 -- one byte more that isn't NUL
-pub goes_on : (xs : List ℕ) (i : ℕ) → i ≤ prefix_len is_set xs → i < length xs → 0 < get_or xs i 0 → i + 1 ≤ prefix_len is_set xs
+pub goes_on : (xs : List ℕ) (i : ℕ) → i ≤ prefix_len is_set xs → i < length xs → 0 < get_or xs i 0 →
+    i + 1 ≤ prefix_len is_set xs
 goes_on xs i h inside set = elim (cases_lt i (prefix_len is_set xs)) [
   | inl less ↦ omega arith
   | inr more ↦

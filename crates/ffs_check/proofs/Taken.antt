@@ -16,12 +16,15 @@ use Rattle.ffs_check.specs.Ends.{Ran}
 use Rattle.ffs_check.specs.Opening.{Opened, OpeningSays}
 use Rattle.ffs_check.specs.Taken.{Asked, TakesWorkspace}
 
-accepted_by : (image image' : Device) (sector : Option ℕ) (s : Superblock) → Answers image image' sector (Ok s) → ForContents image.contents (λ bytes. outcome bytes sector ≡ Ok s)
+accepted_by : (image image' : Device) (sector : Option ℕ) (s : Superblock) → Answers image image' sector (Ok s) →
+    ForContents image.contents (λ bytes. outcome bytes sector ≡ Ok s)
 accepted_by image image' sector s (inl unread) = absurd unread.0.0
 accepted_by image image' sector s (inr read) = λ bytes t. sym (read.1 bytes t)
 
-pub takes : (image on : Device) (name : List ℕ) (sector : Option ℕ) (start p : Progress) (found : Super) (old new : Account) →
-    Opened image on start p name sector (Ok found) → Asked old new (held_of found.geometry.layout) → TakesWorkspace image sector old new
+pub takes : (image on : Device) (name : List ℕ) (sector : Option ℕ) (start p : Progress) (found : Super)
+    (old new : Account) →
+    Opened image on start p name sector (Ok found) → Asked old new (held_of found.geometry.layout) →
+    TakesWorkspace image sector old new
 takes image on name sector start p found old new o a = record {
   found = seen found;
   accepted = accepted_by image on sector (seen found) (subst (λ r. Answers image on sector r) o.ends.1 o.answers);
@@ -35,7 +38,8 @@ not_by true false e = (let w : Consistent ≡ NoMemory = e in cc)
 not_by false defect e = (let w : RootStop ≡ NoMemory = e in cc)
 
 -- phases that have run don't end for want of memory
-pub not_for_memory : (knows : List ℕ → Type 0) (lines : List ℕ → List Message) (goes : List ℕ → Bool) (image image' : Device) (old new : Progress) (end : End) →
+pub not_for_memory : (knows : List ℕ → Type 0) (lines : List ℕ → List Message) (goes : List ℕ → Bool)
+    (image image' : Device) (old new : Progress) (end : End) →
     Ran false knows lines goes image image' old new end → end ≡ NoMemory → ⊥
 not_for_memory knows lines goes image image' old new end ran e = elim ran.ends [
   | inl all ↦ not_by all.on new.defect (sym all.end_is ∙ e)
@@ -49,5 +53,7 @@ not_for_memory knows lines goes image image' old new end ran e = elim ran.ends [
 ]
 
 -- nor does an opening
-pub opened_for_memory : (image on : Device) (old new : Progress) (name : List ℕ) (sector : Option ℕ) (end : End) → Opened image on old new name sector (Err end) → end ≡ NoMemory → ⊥
-opened_for_memory image on old new name sector end o e = subst (λ (x : End). OpeningSays image on old new name sector o.found (Err x)) e o.ends
+pub opened_for_memory : (image on : Device) (old new : Progress) (name : List ℕ) (sector : Option ℕ) (end : End) →
+    Opened image on old new name sector (Err end) → end ≡ NoMemory → ⊥
+opened_for_memory image on old new name sector end o e =
+    subst (λ (x : End). OpeningSays image on old new name sector o.found (Err x)) e o.ends

@@ -21,4 +21,5 @@ RefusalReported old new end =
 abbrev pub Followed : Superblock → Device → Device → Progress → Progress → End → Type 0
 Followed s image image' old new end =
     ((image' ≡ image) × RefusalReported old new end)
-    ⊎ Ran false (IsContents image.contents) (λ bytes. phase_lines bytes s) (λ bytes. continues_after_root (volume_of s.layout bytes)) image image' old new end
+    ⊎ Ran false (IsContents image.contents) (λ bytes. phase_lines bytes s)
+    (λ bytes. continues_after_root (volume_of s.layout bytes)) image image' old new end

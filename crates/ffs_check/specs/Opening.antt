@@ -35,7 +35,8 @@ abbrev pub OpeningSays : Device → Device → Progress → Progress → List �
     Result Super End → Type 0
 OpeningSays image image' old new name sector found (Ok super) = Said old new (opening_lines name sector found)
     × (found ≡ Ok (seen super))
-OpeningSays image image' old new name sector found (Err (Refused fault)) = Said old new (opening_lines name sector found) × (found ≡ Err fault)
+OpeningSays image image' old new name sector found (Err (Refused fault)) =
+    Said old new (opening_lines name sector found) × (found ≡ Err fault)
 OpeningSays image image' old new name sector found (Err WriteFault) =
     OpeningStopped image image' old new name sector found ⊎ OpeningStoppedInLine old new name sector found
 OpeningSays image image' old new name sector found (Err Consistent) = ⊥
@@ -71,8 +72,10 @@ pub record OpeningBrokeInLine (old new : Sink) (name : List ℕ) (sector : Optio
 -- the answer for what was found, with its text: all of it, or a prefix of it where the output failed
 abbrev pub OpeningEnds : Device → Device → Sink → Sink → List ℕ → Option ℕ → Result Superblock SuperFault →
     Result Super End → Type 0
-OpeningEnds image image' old new name sector found (Ok super) = Took old new (texts_of (opening_lines name sector found)) × (found ≡ Ok (seen super))
-OpeningEnds image image' old new name sector found (Err (Refused fault)) = Took old new (texts_of (opening_lines name sector found)) × (found ≡ Err fault)
+OpeningEnds image image' old new name sector found (Ok super) =
+    Took old new (texts_of (opening_lines name sector found)) × (found ≡ Ok (seen super))
+OpeningEnds image image' old new name sector found (Err (Refused fault)) =
+    Took old new (texts_of (opening_lines name sector found)) × (found ≡ Err fault)
 OpeningEnds image image' old new name sector found (Err WriteFault) =
     OpeningBrokeOff image image' old new name sector found ⊎ OpeningBrokeInLine old new name sector found
 OpeningEnds image image' old new name sector found (Err Consistent) = ⊥

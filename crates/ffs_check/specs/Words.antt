@@ -30,7 +30,8 @@ image_rule = record (new_rule (codes "image")) { action = Some Set; required = t
 
 -- a program with no words yet, which has a version and is not named by the first word
 abbrev pub unnamed : App
-unnamed = let a = new_app (codes "fsck_ffs") in record a { top = record a.top { no_binary_name = true; has_version = true } }
+unnamed = let a = new_app (codes "fsck_ffs") in
+    record a { top = record a.top { no_binary_name = true; has_version = true } }
 
 -- the program's words
 abbrev pub program : App

@@ -9,7 +9,8 @@ use Rattle.ffs_volume.proofs.AreaLaws.{group_is}
 use Rattle.ffs_volume.proofs.RunLaws.{in_range_is, is_apart}
 
 -- a Run before the metadata of a group
-pub before_metadata : (v : Layout) (c start len : ℕ) → IsValidLayout v → c < v.ncg → cgbase v c ≤ start → start + len ≤ cgsblock v c → 0 < len →
+pub before_metadata : (v : Layout) (c start len : ℕ) → IsValidLayout v → c < v.ncg → cgbase v c ≤ start →
+    start + len ≤ cgsblock v c → 0 < len →
     is_run_in_range v start len ≡ true
 before_metadata v c start len g h low high some =
     let group = g.groups c h in
@@ -21,7 +22,8 @@ before_metadata v c start len g h low high some =
     in_range_is v g start len some ∙ apart
 
 -- a Run after the metadata of a group
-pub after_metadata : (v : Layout) (c start len : ℕ) → IsValidLayout v → c < v.ncg → cgdmin v c ≤ start → start + len ≤ cgbase v (c + 1) → start + len ≤ v.size → 0 < len →
+pub after_metadata : (v : Layout) (c start len : ℕ) → IsValidLayout v → c < v.ncg → cgdmin v c ≤ start →
+    start + len ≤ cgbase v (c + 1) → start + len ≤ v.size → 0 < len →
     is_run_in_range v start len ≡ true
 unfolding cgstart
 after_metadata v c start len g h low high inside some =

@@ -2,7 +2,9 @@
 use Rattle.std.proofs.Math.ListN.{get_or-eq_default}
 use Rattle.std.proofs.lemmas.Bool.{cases_lt}
 use Rattle.std.proofs.lemmas.List.Sums.{sum_by-set}
-use Rattle.std.proofs.Common.{◌≡◌, ◌⊎◌, inl, inr, ℕ, zero, suc, ◌+◌, ◌<◌, ◌≤◌, Bool, true, false, not, ◌&&◌, ◌||◌, ◌==◌, if◌then◌else◌, nat_lt, List, [], ◌∷◌, ◌++◌, length, replicate, slice_set, length-set, arith, refl, ap, ◌∙◌, sym}
+use Rattle.std.proofs.Common.{◌≡◌, ◌⊎◌, inl, inr, ℕ, zero, suc, ◌+◌, ◌<◌, ◌≤◌, Bool, true, false, not, ◌&&◌, ◌||◌, ◌==◌}
+use Rattle.std.proofs.Common.{if◌then◌else◌, nat_lt, List, [], ◌∷◌, ◌++◌, length, replicate, slice_set, length-set}
+use Rattle.std.proofs.Common.{arith, refl, ap, ◌∙◌, sym}
 use Rattle.std.specs.List.{range_with_len, list_any, slice_index_or}
 use Rattle.std.proofs.lemmas.Bool.Decides.{nat_tests}
 use Rattle.std.proofs.lemmas.List.{length-replicate}
@@ -16,9 +18,13 @@ use Rattle.ffs_volume.specs.declared.BlockMessage.TheVariants.{Bad, Dup, ManyBad
 use Rattle.ffs_volume.specs.Disk.Areas.{is_fragment_in_range, is_run_in_range}
 use Rattle.ffs_volume.specs.Blocks.Inodes.{is_file_or_dir}
 use Rattle.ffs_volume.specs.Blocks.Owners.{Owner, owners_of}
-use Rattle.ffs_volume.specs.Blocks.Claims.{Claims, no_claims, next_inode, is_open, is_set, after_offer, after_offers, after_run, after_step, after_steps, after_owner, after_owners, offer_lines, lines_of_offers, run_lines, step_lines, lines_of_steps}
+use Rattle.ffs_volume.specs.Blocks.Claims.{Claims, no_claims, next_inode, is_open, is_set, after_offer, after_offers}
+use Rattle.ffs_volume.specs.Blocks.Claims.{after_run, after_step, after_steps, after_owner, after_owners, offer_lines}
+use Rattle.ffs_volume.specs.Blocks.Claims.{lines_of_offers, run_lines, step_lines, lines_of_steps}
 use Rattle.ffs_volume.proofs.Weights.{cond_holds, ok_below, count_set}
-use Rattle.ffs_volume.specs.Blocks.BlockCheck.{Offer, class_lines, count_lines, owner_lines, lines_of_owners, kept_in_owners, phase1_lines, phase1b_lines, is_dup_line, has_rescan, blames, first_offer_lines}
+use Rattle.ffs_volume.specs.Blocks.BlockCheck.{Offer, class_lines, count_lines, owner_lines, lines_of_owners}
+use Rattle.ffs_volume.specs.Blocks.BlockCheck.{kept_in_owners, phase1_lines, phase1b_lines, is_dup_line, has_rescan}
+use Rattle.ffs_volume.specs.Blocks.BlockCheck.{blames, first_offer_lines}
 use Rattle.ffs_volume.specs.Directories.Volumes.{is_inode_number}
 use Rattle.ffs_workspace.specs.Holds.{first_marked_at, all_claims, HoldsPhase1, HoldsClaims}
 use Rattle.ffs_workspace.specs.declared.workspace.Workspace.{Workspace}
@@ -42,7 +48,8 @@ set_some : (bits : List Bool) (f : ℕ) → f < length bits → 0 < set_count (s
 set_some bits f h = one (slice_index_or bits f false) refl
   where
     one : (b : Bool) → slice_index_or bits f false ≡ b → 0 < set_count (slice_set bits f true)
-    one true e = let same : slice_set bits f true ≡ bits = set_again bits f e in rw same (omega (arith, count_clear bits f h e))
+    one true e = let same : slice_set bits f true ≡ bits = set_again bits f e in
+        rw same (omega (arith, count_clear bits f h e))
     one false e = omega (arith, count_set bits f h e)
 
 set_any : (bits : List Bool) (f : ℕ) → f < length bits → any_set (slice_set bits f true) ≡ true
@@ -53,46 +60,64 @@ Doubles s lines t = ((list_any is_dup_line lines || any_set s.dup) ≡ any_set t
 
 doubles_then : (s t u : Claims) (xs ys : List BlockMessage) → Doubles s xs t → Doubles t ys u → Doubles s (xs ++ ys) u
 doubles_then s t u xs ys p q = (
-  ap (λ (b : Bool). b || any_set s.dup) (any_append is_dup_line xs ys) ∙ or_then (list_any is_dup_line xs) (list_any is_dup_line ys) (any_set s.dup) (any_set t.dup) (any_set u.dup) p.0 q.0,
+  ap (λ (b : Bool). b || any_set s.dup) (any_append is_dup_line xs ys)
+      ∙ or_then (list_any is_dup_line xs) (list_any is_dup_line ys) (any_set s.dup) (any_set t.dup) (any_set u.dup) p.0
+      q.0,
   q.1 ∙ p.1,
 )
 
-offer_doubles : (v : Layout) (i : ℕ) (s : Claims) (f : ℕ) → length s.dup ≡ v.size → Doubles s (offer_lines v i s f) (after_offer v s f)
+offer_doubles : (v : Layout) (i : ℕ) (s : Claims) (f : ℕ) → length s.dup ≡ v.size →
+    Doubles s (offer_lines v i s f) (after_offer v s f)
 offer_doubles v i s f h = one (nat_lt s.dups 11) refl (is_fragment_in_range v f) refl (is_set s.used f) refl
   where
-    from : (lines : List BlockMessage) (t : Claims) → offer_lines v i s f ≡ lines → after_offer v s f ≡ t → Doubles s lines t → Doubles s (offer_lines v i s f) (after_offer v s f)
+    from : (lines : List BlockMessage) (t : Claims) → offer_lines v i s f ≡ lines → after_offer v s f ≡ t →
+        Doubles s lines t → Doubles s (offer_lines v i s f) (after_offer v s f)
     from lines t e now d = rw (e, now) d
 
-    one : (a : Bool) → nat_lt s.dups 11 ≡ a → (k : Bool) → is_fragment_in_range v f ≡ k → (u : Bool) → is_set s.used f ≡ u → Doubles s (offer_lines v i s f) (after_offer v s f)
+    one : (a : Bool) → nat_lt s.dups 11 ≡ a → (k : Bool) → is_fragment_in_range v f ≡ k → (u : Bool) →
+        is_set s.used f ≡ u → Doubles s (offer_lines v i s f) (after_offer v s f)
     one false q k kq u uq = from [] s (rw q refl) (rw q refl) (refl, refl)
     one true q false kq u uq = from [] (record s { kept = s.kept + 1 }) (rw (q, kq) refl) (rw (q, kq) refl) (refl, refl)
-    one true q true kq false uq = from [] (record s { kept = s.kept + 1; used = slice_set s.used f true }) (rw (q, kq, uq) refl) (rw (q, kq, uq) refl) (refl, refl)
+    one true q true kq false uq = from [] (record s { kept = s.kept + 1; used = slice_set s.used f true })
+        (rw (q, kq, uq) refl) (rw (q, kq, uq) refl) (refl, refl)
     one true q true kq true uq =
         let low = ok_below v f kq in
-        from (Dup f i ∷ (if s.dups == 10 then ManyDup i ∷ [] else [])) (record s { kept = s.kept + 1; dups = s.dups + 1; dup = slice_set s.dup f true }) (rw (q, kq, uq) refl) (rw (q, kq, uq) refl)
+        from (Dup f i ∷ (if s.dups == 10 then ManyDup i ∷ [] else []))
+        (record s { kept = s.kept + 1; dups = s.dups + 1; dup = slice_set s.dup f true }) (rw (q, kq, uq) refl)
+        (rw (q, kq, uq) refl)
         (sym (set_any s.dup f (omega arith)), length-set s.dup f true)
 
-offers_double : (v : Layout) (i : ℕ) (s : Claims) (fs : List ℕ) → length s.dup ≡ v.size → Doubles s (lines_of_offers v i s fs) (after_offers v s fs)
+offers_double : (v : Layout) (i : ℕ) (s : Claims) (fs : List ℕ) → length s.dup ≡ v.size →
+    Doubles s (lines_of_offers v i s fs) (after_offers v s fs)
 offers_double v i s [] h = (refl, refl)
 offers_double v i s (f ∷ fs) h =
     let one = offer_doubles v i s f h in
-    doubles_then s (after_offer v s f) (after_offers v (after_offer v s f) fs) (offer_lines v i s f) (lines_of_offers v i (after_offer v s f) fs) one (offers_double v i (after_offer v s f) fs (one.1 ∙ h))
+    doubles_then s (after_offer v s f) (after_offers v (after_offer v s f) fs) (offer_lines v i s f)
+    (lines_of_offers v i (after_offer v s f) fs) one (offers_double v i (after_offer v s f) fs (one.1 ∙ h))
 
-run_doubles : (v : Layout) (i : ℕ) (s : Claims) (start len : ℕ) → length s.dup ≡ v.size → Doubles s (run_lines v i s start len) (after_run v s start len)
+run_doubles : (v : Layout) (i : ℕ) (s : Claims) (start len : ℕ) → length s.dup ≡ v.size →
+    Doubles s (run_lines v i s start len) (after_run v s start len)
 run_doubles v i s start len h = one (is_run_in_range v start len) refl (s.bad == 10) refl
   where
-    from : (lines : List BlockMessage) (t : Claims) → run_lines v i s start len ≡ lines → after_run v s start len ≡ t → Doubles s lines t → Doubles s (run_lines v i s start len) (after_run v s start len)
+    from : (lines : List BlockMessage) (t : Claims) → run_lines v i s start len ≡ lines → after_run v s start len ≡ t →
+        Doubles s lines t → Doubles s (run_lines v i s start len) (after_run v s start len)
     from lines t e now d = rw (e, now) d
 
-    one : (r : Bool) → is_run_in_range v start len ≡ r → (z : Bool) → (s.bad == 10) ≡ z → Doubles s (run_lines v i s start len) (after_run v s start len)
-    one true q z zq = from (lines_of_offers v i (record s { runs = s.runs + 1 }) (range_with_len start len)) (after_offers v (record s { runs = s.runs + 1 }) (range_with_len start len)) (rw q refl) (rw q refl)
+    one : (r : Bool) → is_run_in_range v start len ≡ r → (z : Bool) → (s.bad == 10) ≡ z →
+        Doubles s (run_lines v i s start len) (after_run v s start len)
+    one true q z zq = from (lines_of_offers v i (record s { runs = s.runs + 1 }) (range_with_len start len))
+        (after_offers v (record s { runs = s.runs + 1 }) (range_with_len start len)) (rw q refl) (rw q refl)
         (offers_double v i (record s { runs = s.runs + 1 }) (range_with_len start len) h)
-    one false q true zq = from (Bad start i ∷ (ManyBad i ∷ [])) (record s { runs = s.runs + 1; bad = s.bad + 1 }) (rw (q, zq) refl) (rw (q, zq) refl) (refl, refl)
-    one false q false zq = from (Bad start i ∷ lines_of_offers v i (record s { runs = s.runs + 1; bad = s.bad + 1 }) (range_with_len start len))
-        (after_offers v (record s { runs = s.runs + 1; bad = s.bad + 1 }) (range_with_len start len)) (rw (q, zq) refl) (rw (q, zq) refl)
+    one false q true zq = from (Bad start i ∷ (ManyBad i ∷ [])) (record s { runs = s.runs + 1; bad = s.bad + 1 })
+        (rw (q, zq) refl) (rw (q, zq) refl) (refl, refl)
+    one false q false zq = from
+        (Bad start i ∷ lines_of_offers v i (record s { runs = s.runs + 1; bad = s.bad + 1 }) (range_with_len start len))
+        (after_offers v (record s { runs = s.runs + 1; bad = s.bad + 1 }) (range_with_len start len)) (rw (q, zq) refl)
+        (rw (q, zq) refl)
         (offers_double v i (record s { runs = s.runs + 1; bad = s.bad + 1 }) (range_with_len start len) h)
 
-step_doubles : (v : Layout) (i : ℕ) (s : Claims) (step : Step) → length s.dup ≡ v.size → Doubles s (step_lines v i s step) (after_step v s step)
+step_doubles : (v : Layout) (i : ℕ) (s : Claims) (step : Step) → length s.dup ≡ v.size →
+    Doubles s (step_lines v i s step) (after_step v s step)
 step_doubles v i s Gap h = (refl, refl)
 step_doubles v i s Tail h = one (is_open s) refl
   where
@@ -101,21 +126,30 @@ step_doubles v i s Tail h = one (is_open s) refl
     none false = refl
 
     one : (o : Bool) → is_open s ≡ o → Doubles s (step_lines v i s Tail) (after_step v s Tail)
-    one true q = let now : after_step v s Tail ≡ record s { tail = true } = rw q refl in
-        (ap (λ (b : Bool). b || any_set s.dup) (none (is_open s && not s.tail)) ∙ ap (λ (t : Claims). any_set t.dup) (sym now), ap (λ (t : Claims). length t.dup) now)
-    one false q = let now : after_step v s Tail ≡ s = rw q refl in
-        (ap (λ (b : Bool). b || any_set s.dup) (none (is_open s && not s.tail)) ∙ ap (λ (t : Claims). any_set t.dup) (sym now), ap (λ (t : Claims). length t.dup) now)
+    one true q = let now : after_step v s Tail ≡ record s { tail = true } = rw q refl in (
+      ap (λ (b : Bool). b || any_set s.dup) (none (is_open s && not s.tail))
+          ∙ ap (λ (t : Claims). any_set t.dup) (sym now),
+      ap (λ (t : Claims). length t.dup) now,
+    )
+    one false q = let now : after_step v s Tail ≡ s = rw q refl in (
+      ap (λ (b : Bool). b || any_set s.dup) (none (is_open s && not s.tail))
+          ∙ ap (λ (t : Claims). any_set t.dup) (sym now),
+      ap (λ (t : Claims). length t.dup) now,
+    )
 step_doubles v i s (Run start len block) h = one (is_open s) refl
   where
-    one : (o : Bool) → is_open s ≡ o → Doubles s (step_lines v i s (Run start len block)) (after_step v s (Run start len block))
+    one : (o : Bool) → is_open s ≡ o →
+        Doubles s (step_lines v i s (Run start len block)) (after_step v s (Run start len block))
     one true q = rw q (run_doubles v i s start len h)
     one false q = rw q (refl, refl)
 
-steps_double : (v : Layout) (i : ℕ) (s : Claims) (steps : List Step) → length s.dup ≡ v.size → Doubles s (lines_of_steps v i s steps) (after_steps v s steps)
+steps_double : (v : Layout) (i : ℕ) (s : Claims) (steps : List Step) → length s.dup ≡ v.size →
+    Doubles s (lines_of_steps v i s steps) (after_steps v s steps)
 steps_double v i s [] h = (refl, refl)
 steps_double v i s (step ∷ steps) h =
     let one = step_doubles v i s step h in
-    doubles_then s (after_step v s step) (after_steps v (after_step v s step) steps) (step_lines v i s step) (lines_of_steps v i (after_step v s step) steps) one (steps_double v i (after_step v s step) steps (one.1 ∙ h))
+    doubles_then s (after_step v s step) (after_steps v (after_step v s step) steps) (step_lines v i s step)
+    (lines_of_steps v i (after_step v s step) steps) one (steps_double v i (after_step v s step) steps (one.1 ∙ h))
 
 class_none : (i : ℕ) (class : Class) → list_any is_dup_line (class_lines i class) ≡ false
 class_none i Free = refl
@@ -125,21 +159,27 @@ class_none i File = refl
 class_none i Dir = refl
 
 count_none : (v : Layout) (o : Owner) (end : Claims) → list_any is_dup_line (count_lines v o end) ≡ false
-count_none v o end = cond_holds (λ (ls : List BlockMessage). list_any is_dup_line ls ≡ false) (is_file_or_dir o.class && (is_open end && not (o.blocks == _))) _ _ (λ _. refl) (λ _. refl)
+count_none v o end = cond_holds (λ (ls : List BlockMessage). list_any is_dup_line ls ≡ false)
+    (is_file_or_dir o.class && (is_open end && not (o.blocks == _))) _ _ (λ _. refl) (λ _. refl)
 
-owner_doubles : (v : Layout) (s : Claims) (o : Owner) → length s.dup ≡ v.size → Doubles s (owner_lines v s o) (after_owner v s o)
+owner_doubles : (v : Layout) (s : Claims) (o : Owner) → length s.dup ≡ v.size →
+    Doubles s (owner_lines v s o) (after_owner v s o)
 owner_doubles v s o h =
-    doubles_then s s (after_owner v s o) (class_lines o.number o.class) (lines_of_steps v o.number (next_inode s) o.steps ++ count_lines v o (after_owner v s o))
+    doubles_then s s (after_owner v s o) (class_lines o.number o.class)
+    (lines_of_steps v o.number (next_inode s) o.steps ++ count_lines v o (after_owner v s o))
     (ap (λ (b : Bool). b || any_set s.dup) (class_none o.number o.class), refl)
-    (doubles_then s (after_owner v s o) (after_owner v s o) (lines_of_steps v o.number (next_inode s) o.steps) (count_lines v o (after_owner v s o))
+    (doubles_then s (after_owner v s o) (after_owner v s o) (lines_of_steps v o.number (next_inode s) o.steps)
+    (count_lines v o (after_owner v s o))
     (steps_double v o.number (next_inode s) o.steps h)
     (ap (λ (b : Bool). b || any_set (after_owner v s o).dup) (count_none v o (after_owner v s o)), refl))
 
-owners_double : (v : Layout) (s : Claims) (os : List Owner) → length s.dup ≡ v.size → Doubles s (lines_of_owners v s os) (after_owners v s os)
+owners_double : (v : Layout) (s : Claims) (os : List Owner) → length s.dup ≡ v.size →
+    Doubles s (lines_of_owners v s os) (after_owners v s os)
 owners_double v s [] h = (refl, refl)
 owners_double v s (o ∷ os) h =
     let one = owner_doubles v s o h in
-    doubles_then s (after_owner v s o) (after_owners v (after_owner v s o) os) (owner_lines v s o) (lines_of_owners v (after_owner v s o) os) one (owners_double v (after_owner v s o) os (one.1 ∙ h))
+    doubles_then s (after_owner v s o) (after_owners v (after_owner v s o) os) (owner_lines v s o)
+    (lines_of_owners v (after_owner v s o) os) one (owners_double v (after_owner v s o) os (one.1 ∙ h))
 
 none_set : (n : ℕ) → set_count (replicate n false) ≡ 0
 none_set zero = refl
@@ -155,13 +195,15 @@ unfolding all_claims phase1_lines no_claims
 rescan_is v image =
     let all = owners_double v (no_claims v) (owners_of v image) (length-replicate v.size false) in
     let clear : any_set (replicate v.size false) ≡ false = ap (λ (n : ℕ). not (n == 0)) (none_set v.size) in
-    sym all.0 ∙ ap (λ (b : Bool). list_any is_dup_line (lines_of_owners v (no_claims v) (owners_of v image)) || b) clear ∙ or_false _
+    sym all.0 ∙ ap (λ (b : Bool). list_any is_dup_line (lines_of_owners v (no_claims v) (owners_of v image)) || b) clear
+    ∙ or_false _
 
 -- ---- what is left to report
 pub none_clear : (bits : List Bool) (f : ℕ) → set_count bits ≡ 0 → is_set bits f ≡ false
 none_clear bits f e = one (slice_index_or bits f false) refl (cases_lt f (length bits))
   where
-    one : (b : Bool) → slice_index_or bits f false ≡ b → (f < length bits) ⊎ (length bits ≤ f) → slice_index_or bits f false ≡ false
+    one : (b : Bool) → slice_index_or bits f false ≡ b → (f < length bits) ⊎ (length bits ≤ f) →
+        slice_index_or bits f false ≡ false
     one false q h = q
     one true q (inl low) = absurd (omega (arith, count_clear bits f low q, e))
     one true q (inr past) = get_or-eq_default bits false past
@@ -170,18 +212,22 @@ pub none_first : (bits : List Bool) (os : List Offer) → set_count bits ≡ 0 �
 none_first bits [] e = refl
 none_first bits (o ∷ os) e = rw (none_clear bits o.fragment e) (none_first bits os e)
 
-first_none : (v : Layout) (image : List ℕ) → set_count (all_claims v image).dup ≡ 0 → phase1b_lines v (owners_of v image) ≡ []
+first_none : (v : Layout) (image : List ℕ) → set_count (all_claims v image).dup ≡ 0 →
+    phase1b_lines v (owners_of v image) ≡ []
 unfolding all_claims phase1b_lines
-first_none v image e = none_first (after_owners v (no_claims v) (owners_of v image)).dup (kept_in_owners v (no_claims v) (owners_of v image)) e
+first_none v image e = none_first (after_owners v (no_claims v) (owners_of v image)).dup
+    (kept_in_owners v (no_claims v) (owners_of v image)) e
 
 -- where there is no Dup line, phase 1 leaves what phase 1b would
-pub no_rescan : (v : Layout) (image : List ℕ) (w : Workspace) → has_rescan v (owners_of v image) ≡ false → HoldsPhase1 v image w → HoldsClaims v image w
+pub no_rescan : (v : Layout) (image : List ℕ) (w : Workspace) → has_rescan v (owners_of v image) ≡ false →
+    HoldsPhase1 v image w → HoldsClaims v image w
 unfolding all_claims
 no_rescan v image w none h = record {
   used = h.used;
   kinds = h.kinds;
   cut = h.cut;
-  marked = λ x. h.marked x ∙ sym (or_false (first_marked_at v image x)) ∙ ap (λ (b : Bool). first_marked_at v image x || b) (sym (silent x)) ∙ sym (marked_total v image x);
+  marked = λ x. h.marked x ∙ sym (or_false (first_marked_at v image x))
+      ∙ ap (λ (b : Bool). first_marked_at v image x || b) (sym (silent x)) ∙ sym (marked_total v image x);
 }
   where
     zero_of : (n : ℕ) → not (n == 0) ≡ false → n ≡ 0
@@ -191,12 +237,14 @@ no_rescan v image w none h = record {
     lines = first_none v image (zero_of (set_count (all_claims v image).dup) (rescan_is v image ∙ none))
 
     silent : (x : ℕ) → (is_inode_number v x && list_any (blames x) (phase1b_lines v (owners_of v image))) ≡ false
-    silent x = ap (λ (ls : List BlockMessage). is_inode_number v x && list_any (blames x) ls) lines ∙ and_false (is_inode_number v x)
+    silent x = ap (λ (ls : List BlockMessage). is_inode_number v x && list_any (blames x) ls) lines
+        ∙ and_false (is_inode_number v x)
       where
         and_false : (b : Bool) → (b && false) ≡ false
         and_false true = refl
         and_false false = refl
 
 -- what phase 1 leaves to report
-pub dups_are : (v : Layout) (image : List ℕ) (w : Workspace) → w.unreported ≡ set_count (bits_of w.duplicates) → HoldsPhase1 v image w → not (w.unreported == 0) ≡ has_rescan v (owners_of v image)
+pub dups_are : (v : Layout) (image : List ℕ) (w : Workspace) → w.unreported ≡ set_count (bits_of w.duplicates) →
+    HoldsPhase1 v image w → not (w.unreported == 0) ≡ has_rescan v (owners_of v image)
 dups_are v image w e h = ap (λ (n : ℕ). not (n == 0)) e ∙ ap any_set h.dup ∙ rescan_is v image

@@ -80,7 +80,8 @@ reports_then l u v w p q = record {
 pub offers_reported_none : (l : Layout) (w : Workspace) → IsFor l w → OffersReportedOnly l w w
 offers_reported_none l w made = record { reporting = reports_none l w made; runs = refl }
 
-pub offers_reported_then : (l : Layout) (u v w : Workspace) → OffersReportedOnly l u v → OffersReportedOnly l v w → OffersReportedOnly l u w
+pub offers_reported_then : (l : Layout) (u v w : Workspace) → OffersReportedOnly l u v → OffersReportedOnly l v w →
+    OffersReportedOnly l u w
 offers_reported_then l u v w p q = record {
   reporting = reports_then l u v w p.reporting q.reporting;
   runs = q.runs ∙ p.runs;

@@ -1,5 +1,6 @@
 -- How offers, steps and inodes continue.
-use Rattle.std.proofs.Common.{◌≡◌, ℕ, zero, suc, ◌+◌, ◌-◌, ◌<◌, ◌≤◌, nat_lt, Bool, true, false, ◌==◌, List, [], ◌∷◌, ◌++◌, arith, rules, refl, ap, ◌∙◌, sym, Result, slice_set, replicate}
+use Rattle.std.proofs.Common.{◌≡◌, ℕ, zero, suc, ◌+◌, ◌-◌, ◌<◌, ◌≤◌, nat_lt, Bool, true, false, ◌==◌, List, [], ◌∷◌}
+use Rattle.std.proofs.Common.{◌++◌, arith, rules, refl, ap, ◌∙◌, sym, Result, slice_set, replicate}
 use Rattle.std.specs.List.{range_with_len, slice_index_or}
 use Rattle.std.proofs.lemmas.Bool.{and_parts}
 use Rattle.ffs_volume.specs.declared.Layout.{Layout}
@@ -9,7 +10,8 @@ use Rattle.ffs_volume.specs.declared.BlockMessage.{BlockMessage}
 use Rattle.ffs_volume.specs.declared.Inode.{Inode}
 use Rattle.ffs_volume.specs.Blocks.Steps.{steps_of, walks}
 use Rattle.ffs_volume.specs.Disk.Areas.{is_fragment_in_range, is_run_in_range}
-use Rattle.ffs_volume.specs.Blocks.Claims.{Claims, is_open, is_set, after_offer, after_offers, after_step, after_steps, offer_lines, lines_of_offers, step_lines, lines_of_steps, run_lines}
+use Rattle.ffs_volume.specs.Blocks.Claims.{Claims, is_open, is_set, after_offer, after_offers, after_step, after_steps}
+use Rattle.ffs_volume.specs.Blocks.Claims.{offer_lines, lines_of_offers, step_lines, lines_of_steps, run_lines}
 use Rattle.ffs_volume.proofs.Weights.{ok_below}
 use Rattle.ffs_volume.specs.Messages.Kinds.{Message, of_blocks}
 use Rattle.ffs_report.specs.Progress.{Progress, Said, Stopped, Says}
@@ -52,7 +54,8 @@ offer_kept v s s' f now = rw now (one (nat_lt s.dups 11) refl (is_fragment_in_ra
 -- the next offer of a Run is taken
 pub offers_after : (v : Layout) (s s' : Claims) (start len place f : ℕ) → place < len → f ≡ start + place →
     s' ≡ after_offer v s f →
-    after_offers v s (range_with_len (start + place) (len - place)) ≡ after_offers v s' (range_with_len (start + (place + 1)) (len - (place + 1)))
+    after_offers v s (range_with_len (start + place) (len - place))
+    ≡ after_offers v s' (range_with_len (start + (place + 1)) (len - (place + 1)))
 offers_after v s s' start len place f h is_place now =
     let k : start + (place + 1) ≡ start + place + 1 = omega arith in
     rw (range_more (start + place) (len - place) (len - (place + 1)) (omega arith), k, now, is_place) refl
@@ -61,12 +64,15 @@ offers_after v s s' start len place f h is_place now =
 pub offers_more : (v : Layout) (inode : ℕ) (s s' : Claims) (start len place f : ℕ) → place < len → f ≡ start + place →
     s' ≡ after_offer v s f →
     of_lines (lines_of_offers v inode s (range_with_len (start + place) (len - place)))
-    ≡ of_lines (offer_lines v inode s f) ++ of_lines (lines_of_offers v inode s' (range_with_len (start + (place + 1)) (len - (place + 1))))
+    ≡ of_lines (offer_lines v inode s f)
+    ++ of_lines (lines_of_offers v inode s' (range_with_len (start + (place + 1)) (len - (place + 1))))
 offers_more v inode s s' start len place f h is_place now =
     let k : start + (place + 1) ≡ start + place + 1 = omega arith in
-    let lines : lines_of_offers v inode s (range_with_len (start + place) (len - place)) ≡ offer_lines v inode s f ++ lines_of_offers v inode s' (range_with_len (start + (place + 1)) (len - (place + 1))) =
+    let lines : lines_of_offers v inode s (range_with_len (start + place) (len - place)) ≡ offer_lines v inode s f
+    ++ lines_of_offers v inode s' (range_with_len (start + (place + 1)) (len - (place + 1))) =
     rw (range_more (start + place) (len - place) (len - (place + 1)) (omega arith), k, now, is_place) refl in
-    ap of_lines lines ∙ lines_append (offer_lines v inode s f) (lines_of_offers v inode s' (range_with_len (start + (place + 1)) (len - (place + 1))))
+    ap of_lines lines ∙ lines_append (offer_lines v inode s f)
+    (lines_of_offers v inode s' (range_with_len (start + (place + 1)) (len - (place + 1))))
 
 -- once an inode is cut its steps change nothing, and nothing is reported of them
 pub cut_stays : (v : Layout) (s : Claims) (steps : List Step) → is_open s ≡ false → after_steps v s steps ≡ s
@@ -75,7 +81,8 @@ cut_stays v s (Run start len block ∷ steps) h = rw h (cut_stays v s steps h)
 cut_stays v s (Tail ∷ steps) h = rw h (cut_stays v s steps h)
 cut_stays v s (Gap ∷ steps) h = cut_stays v s steps h
 
-pub cut_silent : (v : Layout) (inode : ℕ) (s : Claims) (steps : List Step) → is_open s ≡ false → lines_of_steps v inode s steps ≡ []
+pub cut_silent : (v : Layout) (inode : ℕ) (s : Claims) (steps : List Step) → is_open s ≡ false →
+    lines_of_steps v inode s steps ≡ []
 cut_silent v inode s [] h = refl
 cut_silent v inode s (Run start len block ∷ steps) h = rw h (cut_silent v inode s steps h)
 cut_silent v inode s (Tail ∷ steps) h = rw h (cut_silent v inode s steps h)
@@ -83,30 +90,40 @@ cut_silent v inode s (Gap ∷ steps) h = cut_silent v inode s steps h
 
 -- the lines of a Run that is bad: the first ones, and those of its offers
 abbrev bad_rest : Layout → ℕ → Claims → ℕ → ℕ → List BlockMessage
-bad_rest v inode s start len = lines_of_offers v inode (record s { runs = s.runs + 1; bad = s.bad + 1 }) (range_with_len start len)
+bad_rest v inode s start len = lines_of_offers v inode (record s { runs = s.runs + 1; bad = s.bad + 1 })
+    (range_with_len start len)
 
-eleventh : (v : Layout) (inode : ℕ) (s : Claims) (start len : ℕ) → is_run_in_range v start len ≡ false → (s.bad == 10) ≡ true →
+eleventh : (v : Layout) (inode : ℕ) (s : Claims) (start len : ℕ) → is_run_in_range v start len ≡ false →
+    (s.bad == 10) ≡ true →
     run_lines v inode s start len ≡ bad_lines inode start true
 eleventh v inode s start len h e = rw (h, e) refl
 
-further : (v : Layout) (inode : ℕ) (s : Claims) (start len : ℕ) → is_run_in_range v start len ≡ false → (s.bad == 10) ≡ false →
+further : (v : Layout) (inode : ℕ) (s : Claims) (start len : ℕ) → is_run_in_range v start len ≡ false →
+    (s.bad == 10) ≡ false →
     run_lines v inode s start len ≡ bad_lines inode start false ++ bad_rest v inode s start len
 further v inode s start len h e = rw (h, e) refl
 
-pub run_stops : (v : Layout) (inode : ℕ) (s : Claims) (start len : ℕ) (a b : Progress) → is_run_in_range v start len ≡ false →
-    Stopped a b (of_lines (bad_lines inode start (s.bad == 10))) → Stopped a b (of_lines (run_lines v inode s start len))
+pub run_stops : (v : Layout) (inode : ℕ) (s : Claims) (start len : ℕ) (a b : Progress) →
+    is_run_in_range v start len ≡ false →
+    Stopped a b (of_lines (bad_lines inode start (s.bad == 10))) →
+    Stopped a b (of_lines (run_lines v inode s start len))
 run_stops v inode s start len a b h p = one (s.bad == 10) refl p
   where
-    one : (z : Bool) → (s.bad == 10) ≡ z → Stopped a b (of_lines (bad_lines inode start z)) → Stopped a b (of_lines (run_lines v inode s start len))
+    one : (z : Bool) → (s.bad == 10) ≡ z → Stopped a b (of_lines (bad_lines inode start z)) →
+        Stopped a b (of_lines (run_lines v inode s start len))
     one true e q = rw (eleventh v inode s start len h e) q
-    one false e q = rw (further v inode s start len h e) (stopped_more a b (of_lines (bad_lines inode start false)) (of_lines (bad_rest v inode s start len)) q)
+    one false e q = rw (further v inode s start len h e)
+        (stopped_more a b (of_lines (bad_lines inode start false)) (of_lines (bad_rest v inode s start len)) q)
 
-pub run_says : {T E : Type 0} (v : Layout) (inode : ℕ) (s : Claims) (start len : ℕ) (a b c : Progress) (r : Result T E) →
-    is_run_in_range v start len ≡ false → (s.bad == 10) ≡ false → Said a b (of_lines (bad_lines inode start (s.bad == 10))) →
+pub run_says : {T E : Type 0} (v : Layout) (inode : ℕ) (s : Claims) (start len : ℕ) (a b c : Progress) (r : Result T E)
+    →
+    is_run_in_range v start len ≡ false → (s.bad == 10) ≡ false →
+    Said a b (of_lines (bad_lines inode start (s.bad == 10))) →
     Says b c (of_lines (bad_rest v inode s start len)) r → Says a c (of_lines (run_lines v inode s start len)) r
 run_says v inode s start len a b c r h few p q =
     rw (further v inode s start len h few)
-    (says_then a b c (of_lines (bad_lines inode start false)) (of_lines (bad_rest v inode s start len)) r (rw few at p) q)
+    (says_then a b c (of_lines (bad_lines inode start false)) (of_lines (bad_rest v inode s start len)) r (rw few at p)
+    q)
 
 -- the next step of a walk is taken, and what is to come has another form
 pub claims_on : (knows : List ℕ → Type 0) (v : Layout) (s s' : Claims) (R R' : List ℕ → List Step) (rest end : List ℕ →
@@ -119,9 +136,11 @@ claims_on knows v s s' R R' rest end step next now before same = λ bytes t. sym
     ∙ rw now (rw (next bytes t) at (before bytes t))
 
 -- and reported
-pub lines_on : (knows : List ℕ → Type 0) (v : Layout) (inode : ℕ) (s s' : Claims) (R R' : List ℕ → List Step) (step : Step) →
+pub lines_on : (knows : List ℕ → Type 0) (v : Layout) (inode : ℕ) (s s' : Claims) (R R' : List ℕ → List Step)
+    (step : Step) →
     ForBytes knows (λ bytes. R bytes ≡ step ∷ R' bytes) → s' ≡ after_step v s step →
-    ForBytes knows (λ bytes. of_lines (lines_of_steps v inode s (R bytes)) ≡ of_lines (step_lines v inode s step) ++ of_lines (lines_of_steps v inode s' (R' bytes)))
+    ForBytes knows (λ bytes. of_lines (lines_of_steps v inode s (R bytes)) ≡ of_lines (step_lines v inode s step)
+    ++ of_lines (lines_of_steps v inode s' (R' bytes)))
 lines_on knows v inode s s' R R' step next now = λ bytes t.
     ap (λ (xs : List Step). of_lines (lines_of_steps v inode s xs)) (next bytes t)
     ∙ lines_append (step_lines v inode s step) (lines_of_steps v inode (after_step v s step) (R' bytes))
@@ -144,7 +163,8 @@ steps_said knows v inode s s' R R' rest all step a b c said next now same out =
     (lines_on knows v inode s s' R R' step next now) out) (λ bytes t. ap of_lines (same bytes t))
 
 -- what is to come has changed its form
-pub to_same : (rest rest' all : List Message) (a b : Progress) → SaidTo rest all a b → rest ≡ rest' → SaidTo rest' all a b
+pub to_same : (rest rest' all : List Message) (a b : Progress) → SaidTo rest all a b → rest ≡ rest' →
+    SaidTo rest' all a b
 to_same rest rest' all a b p e = record {
   messages = p.messages;
   right = ap (λ (xs : List Message). p.messages ++ xs) (sym e) ∙ p.right;
@@ -159,11 +179,13 @@ from_start start len =
     rw (a, b) refl
 
 -- gaps in a row change nothing, and nothing is reported of them
-pub gaps_stay : (v : Layout) (s : Claims) (n : ℕ) (steps : List Step) → after_steps v s (replicate n Gap ++ steps) ≡ after_steps v s steps
+pub gaps_stay : (v : Layout) (s : Claims) (n : ℕ) (steps : List Step) → after_steps v s (replicate n Gap ++ steps)
+    ≡ after_steps v s steps
 gaps_stay v s zero steps = refl
 gaps_stay v s (suc n) steps = gaps_stay v s n steps
 
-pub gaps_silent : (v : Layout) (inode : ℕ) (s : Claims) (n : ℕ) (steps : List Step) → lines_of_steps v inode s (replicate n Gap ++ steps) ≡ lines_of_steps v inode s steps
+pub gaps_silent : (v : Layout) (inode : ℕ) (s : Claims) (n : ℕ) (steps : List Step) →
+    lines_of_steps v inode s (replicate n Gap ++ steps) ≡ lines_of_steps v inode s steps
 gaps_silent v inode s zero steps = refl
 gaps_silent v inode s (suc n) steps = gaps_silent v inode s n steps
 

@@ -20,45 +20,63 @@ use Rattle.ffs_claims.proofs.Goes.{lines_append}
 -- the lines of an inode's steps and of its count, once its class is reported
 abbrev pub rest_lines : Layout → ℕ → Inode → Class → Claims → List ℕ → List Message
 rest_lines v number i class s1 bytes =
-    of_lines (lines_of_steps v number s1 (steps_of v i bytes)) ++ of_lines (count_lines v (counted_owner number class i.blocks) (after_steps v s1 (steps_of v i bytes)))
+    of_lines (lines_of_steps v number s1 (steps_of v i bytes))
+    ++ of_lines (count_lines v (counted_owner number class i.blocks) (after_steps v s1 (steps_of v i bytes)))
 
 parts : (v : Layout) (number : ℕ) (i : Inode) (s : Claims) (bytes : List ℕ) →
-    of_lines (owner_lines v s (owner_with v bytes number i)) ≡ of_lines (class_lines number (class_of v i)) ++ rest_lines v number i (class_of v i) (next_inode s) bytes
+    of_lines (owner_lines v s (owner_with v bytes number i)) ≡ of_lines (class_lines number (class_of v i))
+    ++ rest_lines v number i (class_of v i) (next_inode s) bytes
 parts v number i s bytes =
     lines_append (class_lines number (class_of v i)) _
     ∙ ap (λ (xs : List Message). of_lines (class_lines number (class_of v i)) ++ xs)
-    (lines_append (lines_of_steps v number (next_inode s) (steps_of v i bytes)) (count_lines v (owner_with v bytes number i) (after_owner v s (owner_with v bytes number i))))
+    (lines_append (lines_of_steps v number (next_inode s) (steps_of v i bytes))
+    (count_lines v (owner_with v bytes number i) (after_owner v s (owner_with v bytes number i))))
 
-pub class_said : (knows : List ℕ → Type 0) (v : Layout) (number : ℕ) (i : Inode) (s s1 : Claims) (class : Class) (a b : Progress) →
+pub class_said : (knows : List ℕ → Type 0) (v : Layout) (number : ℕ) (i : Inode) (s s1 : Claims) (class : Class)
+    (a b : Progress) →
     s1 ≡ next_inode s → class ≡ class_of v i → Said a b (of_lines (class_lines number class)) →
-    SaidOf knows (rest_lines v number i class s1) (λ bytes. of_lines (owner_lines v s (owner_with v bytes number i))) a b
+    SaidOf knows (rest_lines v number i class s1) (λ bytes. of_lines (owner_lines v s (owner_with v bytes number i))) a
+    b
 class_said knows v number i s s1 class a b e k q =
-    rw (e, k) (of_says knows (λ bytes. of_lines (owner_lines v s (owner_with v bytes number i))) (rest_lines v number i (class_of v i) (next_inode s)) (λ bytes. of_lines (owner_lines v s (owner_with v bytes number i)))
+    rw (e, k) (of_says knows (λ bytes. of_lines (owner_lines v s (owner_with v bytes number i)))
+    (rest_lines v number i (class_of v i) (next_inode s))
+    (λ bytes. of_lines (owner_lines v s (owner_with v bytes number i)))
     (of_lines (class_lines number (class_of v i))) a a b
-    (of_begins knows (λ bytes. of_lines (owner_lines v s (owner_with v bytes number i))) a) (λ bytes t. parts v number i s bytes) (rw k at q))
+    (of_begins knows (λ bytes. of_lines (owner_lines v s (owner_with v bytes number i))) a)
+    (λ bytes t. parts v number i s bytes) (rw k at q))
 
-pub class_stopped : (knows : List ℕ → Type 0) (v : Layout) (number : ℕ) (i : Inode) (s : Claims) (class : Class) (a b : Progress) →
-    class ≡ class_of v i → Stopped a b (of_lines (class_lines number class)) → StoppedOf knows (λ bytes. of_lines (owner_lines v s (owner_with v bytes number i))) a b
+pub class_stopped : (knows : List ℕ → Type 0) (v : Layout) (number : ℕ) (i : Inode) (s : Claims) (class : Class)
+    (a b : Progress) →
+    class ≡ class_of v i → Stopped a b (of_lines (class_lines number class)) →
+    StoppedOf knows (λ bytes. of_lines (owner_lines v s (owner_with v bytes number i))) a b
 class_stopped knows v number i s class a b k q =
-    of_stops knows (λ bytes. of_lines (owner_lines v s (owner_with v bytes number i))) (rest_lines v number i (class_of v i) (next_inode s)) (λ bytes. of_lines (owner_lines v s (owner_with v bytes number i)))
+    of_stops knows (λ bytes. of_lines (owner_lines v s (owner_with v bytes number i)))
+    (rest_lines v number i (class_of v i) (next_inode s))
+    (λ bytes. of_lines (owner_lines v s (owner_with v bytes number i)))
     (of_lines (class_lines number (class_of v i))) a a b
-    (of_begins knows (λ bytes. of_lines (owner_lines v s (owner_with v bytes number i))) a) (λ bytes t. parts v number i s bytes) (rw k at q)
+    (of_begins knows (λ bytes. of_lines (owner_lines v s (owner_with v bytes number i))) a)
+    (λ bytes t. parts v number i s bytes) (rw k at q)
 
 -- the count's line is that of the claims that are there
 pub count_right : (knows : List ℕ → Type 0) (v : Layout) (number : ℕ) (i : Inode) (s1 s2 : Claims) (class : Class) →
     ForBytes knows (λ bytes. s2 ≡ after_steps v s1 (steps_of v i bytes)) →
-    ForBytes knows (λ bytes. of_lines (count_lines v (counted_owner number class i.blocks) (after_steps v s1 (steps_of v i bytes)))
+    ForBytes knows (λ bytes. of_lines
+    (count_lines v (counted_owner number class i.blocks) (after_steps v s1 (steps_of v i bytes)))
     ≡ of_lines (count_lines v (counted_owner number class i.blocks) s2) ++ [])
 count_right knows v number i s1 s2 class h = λ bytes t.
-    ap (λ (x : Claims). of_lines (count_lines v (counted_owner number class i.blocks) x)) (sym (h bytes t)) ∙ sym (append-nil (of_lines (count_lines v (counted_owner number class i.blocks) s2)))
+    ap (λ (x : Claims). of_lines (count_lines v (counted_owner number class i.blocks) x)) (sym (h bytes t))
+    ∙ sym (append-nil (of_lines (count_lines v (counted_owner number class i.blocks) s2)))
 
 -- an inode by its number
-pub owner_is : (v : Layout) (bytes : List ℕ) (number : ℕ) (i : Inode) → i ≡ inode_of v bytes number → owner_with v bytes number i ≡ owner_of v bytes number
+pub owner_is : (v : Layout) (bytes : List ℕ) (number : ℕ) (i : Inode) → i ≡ inode_of v bytes number →
+    owner_with v bytes number i ≡ owner_of v bytes number
 unfolding owner_of
 owner_is v bytes number i e = ap (λ (x : Inode). owner_with v bytes number x) e
 
 -- a fact of an Ok answer, of an image that gives the same
-pub ok_where : {T E : Type 0} (r : Result T E) (contents contents' : Option (List ℕ)) (P Q : List ℕ → Type 0) → contents' ≡ contents →
-    ForBytes (IsContents contents) (λ bytes. P bytes → Q bytes) → OnOk r (ForBytes (IsContents contents') P) → OnOk r (ForBytes (IsContents contents) Q)
+pub ok_where : {T E : Type 0} (r : Result T E) (contents contents' : Option (List ℕ)) (P Q : List ℕ → Type 0) →
+    contents' ≡ contents →
+    ForBytes (IsContents contents) (λ bytes. P bytes → Q bytes) → OnOk r (ForBytes (IsContents contents') P) →
+    OnOk r (ForBytes (IsContents contents) Q)
 ok_where (Ok x) contents contents' P Q e more h = λ bytes t. more bytes t (h bytes (e ∙ t))
 ok_where (Err x) contents contents' P Q e more h = h

@@ -1,5 +1,7 @@
 -- Which inodes the lines of phase 1 blame, and whether a fragment has a Dup line.
-use Rattle.std.proofs.Common.{◌≡◌, ◌⊎◌, inl, inr, ℕ, zero, suc, ◌+◌, ◌-◌, ◌≤◌, Bool, true, false, not, ◌&&◌, ◌||◌, ◌==◌, if◌then◌else◌, nat_lt, nat_le, List, [], ◌∷◌, ◌++◌, map, slice_set, arith, refl, ap, ◌∙◌, sym}
+use Rattle.std.proofs.Common.{◌≡◌, ◌⊎◌, inl, inr, ℕ, zero, suc, ◌+◌, ◌-◌, ◌≤◌, Bool, true, false, not, ◌&&◌, ◌||◌, ◌==◌}
+use Rattle.std.proofs.Common.{if◌then◌else◌, nat_lt, nat_le, List, [], ◌∷◌, ◌++◌, map, slice_set, arith, refl, ap, ◌∙◌}
+use Rattle.std.proofs.Common.{sym}
 use Rattle.std.specs.List.{range_with_len, list_any}
 use Rattle.std.proofs.lemmas.Bool.{cases_eq}
 use Rattle.std.proofs.lemmas.Bool.Decides.{nat_tests}
@@ -13,8 +15,11 @@ use Rattle.ffs_volume.specs.declared.BlockMessage.TheVariants.{Bad, Dup, ManyBad
 use Rattle.ffs_volume.specs.Disk.Areas.{is_fragment_in_range, is_run_in_range}
 use Rattle.ffs_volume.specs.Blocks.Inodes.{is_file_or_dir, inode_of, class_of, is_unknown}
 use Rattle.ffs_volume.specs.Blocks.Owners.{Owner, owner_of, owners_of}
-use Rattle.ffs_volume.specs.Blocks.Claims.{Claims, next_inode, is_open, is_set, after_offer, after_offers, after_run, after_step, after_steps, after_owner, offer_lines, lines_of_offers, run_lines, step_lines, lines_of_steps}
-use Rattle.ffs_volume.specs.Blocks.BlockCheck.{blames, class_lines, count_lines, owner_lines, lines_of_owners, phase1_lines, phase1b_lines, is_marked}
+use Rattle.ffs_volume.specs.Blocks.Claims.{Claims, next_inode, is_open, is_set, after_offer, after_offers, after_run}
+use Rattle.ffs_volume.specs.Blocks.Claims.{after_step, after_steps, after_owner, offer_lines, lines_of_offers}
+use Rattle.ffs_volume.specs.Blocks.Claims.{run_lines, step_lines, lines_of_steps}
+use Rattle.ffs_volume.specs.Blocks.BlockCheck.{blames, class_lines, count_lines, owner_lines, lines_of_owners}
+use Rattle.ffs_volume.specs.Blocks.BlockCheck.{phase1_lines, phase1b_lines, is_marked}
 use Rattle.ffs_volume.specs.Blocks.KeptSteps.{claims_before}
 use Rattle.ffs_volume.specs.Directories.Volumes.{is_inode_number, marked_at}
 use Rattle.ffs_volume.proofs.Weights.{cond_holds}
@@ -22,11 +27,13 @@ use Rattle.ffs_workspace.specs.Holds.{has_blame, first_marked_at}
 use Rattle.ffs_workspace.specs.Lengths.{inodes_of}
 use Rattle.ffs_claims.proofs.Numbers.{before_next, before_first}
 
-pub any_append : {A : Type 0} (test : A → Bool) (xs ys : List A) → list_any test (xs ++ ys) ≡ (list_any test xs || list_any test ys)
+pub any_append : {A : Type 0} (test : A → Bool) (xs ys : List A) →
+    list_any test (xs ++ ys) ≡ (list_any test xs || list_any test ys)
 any_append test [] ys = refl
 any_append test (x ∷ xs) ys = one (test x) (any_append test xs ys)
   where
-    one : (b : Bool) → list_any test (xs ++ ys) ≡ (list_any test xs || list_any test ys) → (b || list_any test (xs ++ ys)) ≡ ((b || list_any test xs) || list_any test ys)
+    one : (b : Bool) → list_any test (xs ++ ys) ≡ (list_any test xs || list_any test ys) →
+        (b || list_any test (xs ++ ys)) ≡ ((b || list_any test xs) || list_any test ys)
     one true e = refl
     one false e = e
 
@@ -44,13 +51,15 @@ blamed x i s = (i == x) && has_blame s
 abbrev Blames : ℕ → ℕ → Claims → List BlockMessage → Claims → Type 0
 Blames x i s lines t = (list_any (blames x) lines || blamed x i s) ≡ blamed x i t
 
-blames_then : (x i : ℕ) (s t u : Claims) (xs ys : List BlockMessage) → Blames x i s xs t → Blames x i t ys u → Blames x i s (xs ++ ys) u
+blames_then : (x i : ℕ) (s t u : Claims) (xs ys : List BlockMessage) → Blames x i s xs t → Blames x i t ys u →
+    Blames x i s (xs ++ ys) u
 blames_then x i s t u xs ys p q =
     ap (λ (b : Bool). b || blamed x i s) (any_append (blames x) xs ys)
     ∙ or_then (list_any (blames x) xs) (list_any (blames x) ys) (blamed x i s) (blamed x i t) (blamed x i u) p q
 
 -- a line that blames the inode
-reported_blame : (x i : ℕ) (s t : Claims) (tail : List BlockMessage) (line : BlockMessage) → blames x line ≡ (i == x) → list_any (blames x) tail ≡ false → has_blame t ≡ true →
+reported_blame : (x i : ℕ) (s t : Claims) (tail : List BlockMessage) (line : BlockMessage) → blames x line ≡ (i == x) →
+    list_any (blames x) tail ≡ false → has_blame t ≡ true →
     Blames x i s (line ∷ tail) t
 reported_blame x i s t tail line e none bad =
     ap (λ (b : Bool). (b || list_any (blames x) tail) || blamed x i s) e
@@ -66,7 +75,8 @@ many_dup x i true = refl
 many_dup x i false = refl
 
 more_dups : (s : Claims) → has_blame (record s { kept = s.kept + 1; dups = s.dups + 1 }) ≡ true
-more_dups s = let apart : (s.dups + 1 == 0) ≡ false = grind (arith, nat_tests) in of (s.bad == 0) (s.dups + 1 == 0) apart
+more_dups s = let apart : (s.dups + 1 == 0) ≡ false = grind (arith, nat_tests) in
+    of (s.bad == 0) (s.dups + 1 == 0) apart
   where
     of : (a b : Bool) → b ≡ false → not (a && b) ≡ true
     of true b e = ap not e
@@ -78,44 +88,68 @@ more_bad n d = let apart : (n + 1 == 0) ≡ false = grind (arith, nat_tests) in 
 offer_blames : (v : Layout) (x i : ℕ) (s : Claims) (f : ℕ) → Blames x i s (offer_lines v i s f) (after_offer v s f)
 offer_blames v x i s f = one (nat_lt s.dups 11) refl (is_fragment_in_range v f) refl (is_set s.used f) refl
   where
-    silent : (t : Claims) → offer_lines v i s f ≡ [] → after_offer v s f ≡ t → has_blame t ≡ has_blame s → Blames x i s (offer_lines v i s f) (after_offer v s f)
-    silent t e now same = ap (λ (ls : List BlockMessage). list_any (blames x) ls || blamed x i s) e ∙ ap (λ (b : Bool). (i == x) && b) (sym same) ∙ ap (blamed x i) (sym now)
+    silent : (t : Claims) → offer_lines v i s f ≡ [] → after_offer v s f ≡ t → has_blame t ≡ has_blame s →
+        Blames x i s (offer_lines v i s f) (after_offer v s f)
+    silent t e now same = ap (λ (ls : List BlockMessage). list_any (blames x) ls || blamed x i s) e
+        ∙ ap (λ (b : Bool). (i == x) && b) (sym same) ∙ ap (blamed x i) (sym now)
 
-    one : (a : Bool) → nat_lt s.dups 11 ≡ a → (k : Bool) → is_fragment_in_range v f ≡ k → (u : Bool) → is_set s.used f ≡ u → Blames x i s (offer_lines v i s f) (after_offer v s f)
+    one : (a : Bool) → nat_lt s.dups 11 ≡ a → (k : Bool) → is_fragment_in_range v f ≡ k → (u : Bool) →
+        is_set s.used f ≡ u → Blames x i s (offer_lines v i s f) (after_offer v s f)
     one false q k kq u uq = silent s (rw q refl) (rw q refl) refl
     one true q false kq u uq = silent (record s { kept = s.kept + 1 }) (rw (q, kq) refl) (rw (q, kq) refl) refl
-    one true q true kq false uq = silent (record s { kept = s.kept + 1; used = slice_set s.used f true }) (rw (q, kq, uq) refl) (rw (q, kq, uq) refl) refl
+    one true q true kq false uq = silent (record s { kept = s.kept + 1; used = slice_set s.used f true })
+        (rw (q, kq, uq) refl) (rw (q, kq, uq) refl) refl
     one true q true kq true uq =
-        let lines : offer_lines v i s f ≡ Dup f i ∷ (if s.dups == 10 then ManyDup i ∷ [] else []) = rw (q, kq, uq) refl in
-        let now : after_offer v s f ≡ record s { kept = s.kept + 1; dups = s.dups + 1; dup = slice_set s.dup f true } = rw (q, kq, uq) refl in
+        let lines : offer_lines v i s f ≡ Dup f i ∷ (if s.dups == 10 then ManyDup i ∷ [] else []) =
+        rw (q, kq, uq) refl in
+        let now : after_offer v s f ≡ record s { kept = s.kept + 1; dups = s.dups + 1; dup = slice_set s.dup f true } =
+        rw (q, kq, uq) refl in
         ap (λ (ls : List BlockMessage). list_any (blames x) ls || blamed x i s) lines
-        ∙ reported_blame x i s (record s { kept = s.kept + 1; dups = s.dups + 1; dup = slice_set s.dup f true }) (if s.dups == 10 then ManyDup i ∷ [] else []) (Dup f i) refl (many_dup x i (s.dups == 10)) (more_dups s)
+        ∙ reported_blame x i s (record s { kept = s.kept + 1; dups = s.dups + 1; dup = slice_set s.dup f true })
+        (if s.dups == 10 then ManyDup i ∷ [] else []) (Dup f i) refl (many_dup x i (s.dups == 10)) (more_dups s)
         ∙ ap (blamed x i) (sym now)
 
-offers_blame : (v : Layout) (x i : ℕ) (s : Claims) (fs : List ℕ) → Blames x i s (lines_of_offers v i s fs) (after_offers v s fs)
+offers_blame : (v : Layout) (x i : ℕ) (s : Claims) (fs : List ℕ) →
+    Blames x i s (lines_of_offers v i s fs) (after_offers v s fs)
 offers_blame v x i s [] = refl
 offers_blame v x i s (f ∷ fs) =
-    blames_then x i s (after_offer v s f) (after_offers v (after_offer v s f) fs) (offer_lines v i s f) (lines_of_offers v i (after_offer v s f) fs)
+    blames_then x i s (after_offer v s f) (after_offers v (after_offer v s f) fs) (offer_lines v i s f)
+    (lines_of_offers v i (after_offer v s f) fs)
     (offer_blames v x i s f) (offers_blame v x i (after_offer v s f) fs)
 
-run_blames : (v : Layout) (x i : ℕ) (s : Claims) (start len : ℕ) → Blames x i s (run_lines v i s start len) (after_run v s start len)
+run_blames : (v : Layout) (x i : ℕ) (s : Claims) (start len : ℕ) →
+    Blames x i s (run_lines v i s start len) (after_run v s start len)
 run_blames v x i s start len = one (is_run_in_range v start len) refl (s.bad == 10) refl
   where
-    from : (lines : List BlockMessage) (t : Claims) → run_lines v i s start len ≡ lines → after_run v s start len ≡ t → Blames x i s lines t → Blames x i s (run_lines v i s start len) (after_run v s start len)
-    from lines t e now b = ap (λ (ls : List BlockMessage). list_any (blames x) ls || blamed x i s) e ∙ b ∙ ap (blamed x i) (sym now)
+    from : (lines : List BlockMessage) (t : Claims) → run_lines v i s start len ≡ lines → after_run v s start len ≡ t →
+        Blames x i s lines t → Blames x i s (run_lines v i s start len) (after_run v s start len)
+    from lines t e now b = ap (λ (ls : List BlockMessage). list_any (blames x) ls || blamed x i s) e ∙ b
+        ∙ ap (blamed x i) (sym now)
 
-    one : (r : Bool) → is_run_in_range v start len ≡ r → (z : Bool) → (s.bad == 10) ≡ z → Blames x i s (run_lines v i s start len) (after_run v s start len)
-    one true q z zq = from (lines_of_offers v i (record s { runs = s.runs + 1 }) (range_with_len start len)) (after_offers v (record s { runs = s.runs + 1 }) (range_with_len start len)) (rw q refl) (rw q refl)
+    one : (r : Bool) → is_run_in_range v start len ≡ r → (z : Bool) → (s.bad == 10) ≡ z →
+        Blames x i s (run_lines v i s start len) (after_run v s start len)
+    one true q z zq = from (lines_of_offers v i (record s { runs = s.runs + 1 }) (range_with_len start len))
+        (after_offers v (record s { runs = s.runs + 1 }) (range_with_len start len)) (rw q refl) (rw q refl)
         (offers_blame v x i (record s { runs = s.runs + 1 }) (range_with_len start len))
-    one false q true zq = from (Bad start i ∷ (ManyBad i ∷ [])) (record s { runs = s.runs + 1; bad = s.bad + 1 }) (rw (q, zq) refl) (rw (q, zq) refl)
-        (reported_blame x i s (record s { runs = s.runs + 1; bad = s.bad + 1 }) (ManyBad i ∷ []) (Bad start i) refl refl (more_bad s.bad s.dups))
-    one false q false zq = from ((Bad start i ∷ []) ++ lines_of_offers v i (record s { runs = s.runs + 1; bad = s.bad + 1 }) (range_with_len start len))
-        (after_offers v (record s { runs = s.runs + 1; bad = s.bad + 1 }) (range_with_len start len)) (rw (q, zq) refl) (rw (q, zq) refl)
-        (blames_then x i s (record s { runs = s.runs + 1; bad = s.bad + 1 }) (after_offers v (record s { runs = s.runs + 1; bad = s.bad + 1 }) (range_with_len start len)) (Bad start i ∷ []) (lines_of_offers v i (record s { runs = s.runs + 1; bad = s.bad + 1 }) (range_with_len start len))
-        (reported_blame x i s (record s { runs = s.runs + 1; bad = s.bad + 1 }) [] (Bad start i) refl refl (more_bad s.bad s.dups))
+    one false q true zq = from (Bad start i ∷ (ManyBad i ∷ [])) (record s { runs = s.runs + 1; bad = s.bad + 1 })
+        (rw (q, zq) refl) (rw (q, zq) refl)
+        (reported_blame x i s (record s { runs = s.runs + 1; bad = s.bad + 1 }) (ManyBad i ∷ []) (Bad start i) refl refl
+        (more_bad s.bad s.dups))
+    one false q false zq = from
+        ((Bad start i ∷ []) ++ lines_of_offers v i (record s { runs = s.runs + 1; bad = s.bad + 1 })
+        (range_with_len start len))
+        (after_offers v (record s { runs = s.runs + 1; bad = s.bad + 1 }) (range_with_len start len)) (rw (q, zq) refl)
+        (rw (q, zq) refl)
+        (blames_then x i s (record s { runs = s.runs + 1; bad = s.bad + 1 })
+        (after_offers v (record s { runs = s.runs + 1; bad = s.bad + 1 }) (range_with_len start len))
+        (Bad start i ∷ []) (lines_of_offers v i (record s { runs = s.runs + 1; bad = s.bad + 1 })
+        (range_with_len start len))
+        (reported_blame x i s (record s { runs = s.runs + 1; bad = s.bad + 1 }) [] (Bad start i) refl refl
+        (more_bad s.bad s.dups))
         (offers_blame v x i (record s { runs = s.runs + 1; bad = s.bad + 1 }) (range_with_len start len)))
 
-step_blames : (v : Layout) (x i : ℕ) (s : Claims) (step : Step) → Blames x i s (step_lines v i s step) (after_step v s step)
+step_blames : (v : Layout) (x i : ℕ) (s : Claims) (step : Step) →
+    Blames x i s (step_lines v i s step) (after_step v s step)
 step_blames v x i s Gap = refl
 step_blames v x i s Tail = one (is_open s) refl (not s.tail)
   where
@@ -130,14 +164,17 @@ step_blames v x i s Tail = one (is_open s) refl (not s.tail)
         ap (λ (b : Bool). b || blamed x i s) (none (is_open s && not s.tail)) ∙ ap (blamed x i) (sym now)
 step_blames v x i s (Run start len block) = one (is_open s) refl
   where
-    one : (o : Bool) → is_open s ≡ o → Blames x i s (step_lines v i s (Run start len block)) (after_step v s (Run start len block))
+    one : (o : Bool) → is_open s ≡ o →
+        Blames x i s (step_lines v i s (Run start len block)) (after_step v s (Run start len block))
     one true q = rw q (run_blames v x i s start len)
     one false q = rw q refl
 
-steps_blame : (v : Layout) (x i : ℕ) (s : Claims) (steps : List Step) → Blames x i s (lines_of_steps v i s steps) (after_steps v s steps)
+steps_blame : (v : Layout) (x i : ℕ) (s : Claims) (steps : List Step) →
+    Blames x i s (lines_of_steps v i s steps) (after_steps v s steps)
 steps_blame v x i s [] = refl
 steps_blame v x i s (step ∷ steps) =
-    blames_then x i s (after_step v s step) (after_steps v (after_step v s step) steps) (step_lines v i s step) (lines_of_steps v i (after_step v s step) steps)
+    blames_then x i s (after_step v s step) (after_steps v (after_step v s step) steps) (step_lines v i s step)
+    (lines_of_steps v i (after_step v s step) steps)
     (step_blames v x i s step) (steps_blame v x i (after_step v s step) steps)
 
 class_silent : (x i : ℕ) (class : Class) → list_any (blames x) (class_lines i class) ≡ false
@@ -148,7 +185,8 @@ class_silent x i File = refl
 class_silent x i Dir = refl
 
 count_silent : (v : Layout) (x : ℕ) (o : Owner) (end : Claims) → list_any (blames x) (count_lines v o end) ≡ false
-count_silent v x o end = cond_holds (λ (ls : List BlockMessage). list_any (blames x) ls ≡ false) (is_file_or_dir o.class && (is_open end && not (o.blocks == _))) _ _ (λ _. refl) (λ _. refl)
+count_silent v x o end = cond_holds (λ (ls : List BlockMessage). list_any (blames x) ls ≡ false)
+    (is_file_or_dir o.class && (is_open end && not (o.blocks == _))) _ _ (λ _. refl) (λ _. refl)
 
 or_none : (b : Bool) → (b || false) ≡ b
 or_none true = refl
@@ -158,12 +196,17 @@ and_none : (b : Bool) → (b && false) ≡ false
 and_none true = refl
 and_none false = refl
 
-owner_blames : (v : Layout) (x : ℕ) (s : Claims) (o : Owner) → list_any (blames x) (owner_lines v s o) ≡ ((o.number == x) && has_blame (after_owner v s o))
+owner_blames : (v : Layout) (x : ℕ) (s : Claims) (o : Owner) → list_any (blames x) (owner_lines v s o)
+    ≡ ((o.number == x) && has_blame (after_owner v s o))
 owner_blames v x s o =
-    any_append (blames x) (class_lines o.number o.class) (lines_of_steps v o.number (next_inode s) o.steps ++ count_lines v o (after_owner v s o))
-    ∙ ap (λ (b : Bool). b || list_any (blames x) (lines_of_steps v o.number (next_inode s) o.steps ++ count_lines v o (after_owner v s o))) (class_silent x o.number o.class)
+    any_append (blames x) (class_lines o.number o.class)
+    (lines_of_steps v o.number (next_inode s) o.steps ++ count_lines v o (after_owner v s o))
+    ∙ ap (λ (b : Bool). b || list_any (blames x)
+    (lines_of_steps v o.number (next_inode s) o.steps ++ count_lines v o (after_owner v s o)))
+    (class_silent x o.number o.class)
     ∙ any_append (blames x) (lines_of_steps v o.number (next_inode s) o.steps) (count_lines v o (after_owner v s o))
-    ∙ ap (λ (b : Bool). list_any (blames x) (lines_of_steps v o.number (next_inode s) o.steps) || b) (count_silent v x o (after_owner v s o) ∙ sym (and_none (o.number == x)))
+    ∙ ap (λ (b : Bool). list_any (blames x) (lines_of_steps v o.number (next_inode s) o.steps) || b)
+    (count_silent v x o (after_owner v s o) ∙ sym (and_none (o.number == x)))
     ∙ steps_blame v x o.number (next_inode s) o.steps
 
 -- of the inodes one after another
@@ -173,45 +216,67 @@ owners_blame : (v : Layout) (bytes : List ℕ) (x n k : ℕ) → 2 ≤ n →
 unfolding owner_of
 owners_blame v bytes x n zero low = none (nat_le n x && nat_lt x (n + 0)) (grind (arith, nat_tests))
   where
-    none : (b : Bool) → b ≡ false → false ≡ (b && has_blame (after_owner v (claims_before v bytes x) (owner_of v bytes x)))
+    none : (b : Bool) → b ≡ false →
+        false ≡ (b && has_blame (after_owner v (claims_before v bytes x) (owner_of v bytes x)))
     none b e = sym (ap (λ (c : Bool). c && has_blame (after_owner v (claims_before v bytes x) (owner_of v bytes x))) e)
 owners_blame v bytes x n (suc k) low =
     let more = owners_blame v bytes x (n + 1) k (omega arith) in
-    any_append (blames x) (owner_lines v (claims_before v bytes n) (owner_of v bytes n)) (lines_of_owners v (after_owner v (claims_before v bytes n) (owner_of v bytes n)) (map (owner_of v bytes) (range_with_len (n + 1) k)))
-    ∙ ap (λ (b : Bool). b || list_any (blames x) (lines_of_owners v (after_owner v (claims_before v bytes n) (owner_of v bytes n)) (map (owner_of v bytes) (range_with_len (n + 1) k)))) (owner_blames v x (claims_before v bytes n) (owner_of v bytes n))
-    ∙ ap (λ (t : Claims). ((n == x) && has_blame (after_owner v (claims_before v bytes n) (owner_of v bytes n))) || list_any (blames x) (lines_of_owners v t (map (owner_of v bytes) (range_with_len (n + 1) k)))) (sym (before_next v bytes n low))
-    ∙ ap (λ (b : Bool). ((n == x) && has_blame (after_owner v (claims_before v bytes n) (owner_of v bytes n))) || b) more
+    any_append (blames x) (owner_lines v (claims_before v bytes n) (owner_of v bytes n))
+    (lines_of_owners v (after_owner v (claims_before v bytes n) (owner_of v bytes n))
+    (map (owner_of v bytes) (range_with_len (n + 1) k)))
+    ∙ ap (λ (b : Bool). b || list_any (blames x)
+    (lines_of_owners v (after_owner v (claims_before v bytes n) (owner_of v bytes n))
+    (map (owner_of v bytes) (range_with_len (n + 1) k))))
+    (owner_blames v x (claims_before v bytes n) (owner_of v bytes n))
+    ∙ ap (λ (t : Claims). ((n == x) && has_blame (after_owner v (claims_before v bytes n) (owner_of v bytes n)))
+    || list_any (blames x) (lines_of_owners v t (map (owner_of v bytes) (range_with_len (n + 1) k))))
+    (sym (before_next v bytes n low))
+    ∙ ap (λ (b : Bool). ((n == x) && has_blame (after_owner v (claims_before v bytes n) (owner_of v bytes n))) || b)
+    more
     ∙ split (cases_eq n x)
   where
     split : (n ≡ x) ⊎ (n ≡ x → ⊥) →
-        (((n == x) && has_blame (after_owner v (claims_before v bytes n) (owner_of v bytes n))) || ((nat_le (n + 1) x && nat_lt x (n + 1 + k)) && has_blame (after_owner v (claims_before v bytes x) (owner_of v bytes x))))
-        ≡ ((nat_le n x && nat_lt x (n + suc k)) && has_blame (after_owner v (claims_before v bytes x) (owner_of v bytes x)))
+        (((n == x) && has_blame (after_owner v (claims_before v bytes n) (owner_of v bytes n)))
+        || ((nat_le (n + 1) x && nat_lt x (n + 1 + k))
+        && has_blame (after_owner v (claims_before v bytes x) (owner_of v bytes x))))
+        ≡ ((nat_le n x && nat_lt x (n + suc k))
+        && has_blame (after_owner v (claims_before v bytes x) (owner_of v bytes x)))
     split (inl e) =
         let here : (n == x) ≡ true = grind (arith, nat_tests) in
         let past : (nat_le (n + 1) x && nat_lt x (n + 1 + k)) ≡ false = grind (arith, nat_tests) in
         let inside : (nat_le n x && nat_lt x (n + suc k)) ≡ true = grind (arith, nat_tests) in
-        ap (λ (b : Bool). (b && has_blame (after_owner v (claims_before v bytes n) (owner_of v bytes n))) || ((nat_le (n + 1) x && nat_lt x (n + 1 + k)) && has_blame (after_owner v (claims_before v bytes x) (owner_of v bytes x)))) here
-        ∙ ap (λ (b : Bool). has_blame (after_owner v (claims_before v bytes n) (owner_of v bytes n)) || (b && has_blame (after_owner v (claims_before v bytes x) (owner_of v bytes x)))) past
+        ap (λ (b : Bool). (b && has_blame (after_owner v (claims_before v bytes n) (owner_of v bytes n)))
+        || ((nat_le (n + 1) x && nat_lt x (n + 1 + k))
+        && has_blame (after_owner v (claims_before v bytes x) (owner_of v bytes x)))) here
+        ∙ ap (λ (b : Bool). has_blame (after_owner v (claims_before v bytes n) (owner_of v bytes n))
+        || (b && has_blame (after_owner v (claims_before v bytes x) (owner_of v bytes x)))) past
         ∙ or_none _ ∙ ap (λ (y : ℕ). has_blame (after_owner v (claims_before v bytes y) (owner_of v bytes y))) e
         ∙ sym (ap (λ (b : Bool). b && has_blame (after_owner v (claims_before v bytes x) (owner_of v bytes x))) inside)
     split (inr apart) =
         let here : (n == x) ≡ false = grind (arith, nat_tests) in
-        let same : (nat_le (n + 1) x && nat_lt x (n + 1 + k)) ≡ (nat_le n x && nat_lt x (n + suc k)) = grind (arith, nat_tests) in
-        ap (λ (b : Bool). (b && has_blame (after_owner v (claims_before v bytes n) (owner_of v bytes n))) || ((nat_le (n + 1) x && nat_lt x (n + 1 + k)) && has_blame (after_owner v (claims_before v bytes x) (owner_of v bytes x)))) here
+        let same : (nat_le (n + 1) x && nat_lt x (n + 1 + k)) ≡ (nat_le n x && nat_lt x (n + suc k)) =
+        grind (arith, nat_tests) in
+        ap (λ (b : Bool). (b && has_blame (after_owner v (claims_before v bytes n) (owner_of v bytes n)))
+        || ((nat_le (n + 1) x && nat_lt x (n + 1 + k))
+        && has_blame (after_owner v (claims_before v bytes x) (owner_of v bytes x)))) here
         ∙ ap (λ (b : Bool). b && has_blame (after_owner v (claims_before v bytes x) (owner_of v bytes x))) same
 
 first_blames : (v : Layout) (bytes : List ℕ) (x : ℕ) → is_inode_number v x ≡ true →
-    list_any (blames x) (phase1_lines v (owners_of v bytes)) ≡ has_blame (after_owner v (claims_before v bytes x) (owner_of v bytes x))
+    list_any (blames x) (phase1_lines v (owners_of v bytes))
+    ≡ has_blame (after_owner v (claims_before v bytes x) (owner_of v bytes x))
 unfolding phase1_lines owners_of
 first_blames v bytes x inside =
     let all : (nat_le 2 x && nat_lt x (2 + (inodes_of v - 2))) ≡ true = grind (arith, nat_tests) in
-    ap (λ (t : Claims). list_any (blames x) (lines_of_owners v t (map (owner_of v bytes) (range_with_len 2 (inodes_of v - 2))))) (sym (before_first v bytes))
+    ap (λ (t : Claims). list_any (blames x)
+    (lines_of_owners v t (map (owner_of v bytes) (range_with_len 2 (inodes_of v - 2)))))
+    (sym (before_first v bytes))
     ∙ owners_blame v bytes x 2 (inodes_of v - 2) (omega arith)
     ∙ ap (λ (b : Bool). b && has_blame (after_owner v (claims_before v bytes x) (owner_of v bytes x))) all
 
 -- an inode is marked by phase 1, or by phase 1b
 pub marked_total : (v : Layout) (bytes : List ℕ) (x : ℕ) →
-    marked_at v bytes x ≡ (first_marked_at v bytes x || (is_inode_number v x && list_any (blames x) (phase1b_lines v (owners_of v bytes))))
+    marked_at v bytes x ≡ (first_marked_at v bytes x
+    || (is_inode_number v x && list_any (blames x) (phase1b_lines v (owners_of v bytes))))
 unfolding first_marked_at is_marked
 marked_total v bytes x = one (is_inode_number v x) refl
   where
@@ -220,9 +285,17 @@ marked_total v bytes x = one (is_inode_number v x) refl
     assoc false b d = refl
 
     one : (i : Bool) → is_inode_number v x ≡ i →
-        (if i then is_unknown (class_of v (inode_of v bytes x)) || list_any (blames x) (phase1_lines v (owners_of v bytes) ++ phase1b_lines v (owners_of v bytes)) else false)
-        ≡ ((if i then is_unknown (class_of v (inode_of v bytes x)) || has_blame (after_owner v (claims_before v bytes x) (owner_of v bytes x)) else false) || (i && list_any (blames x) (phase1b_lines v (owners_of v bytes))))
+        (if i then is_unknown (class_of v (inode_of v bytes x))
+        || list_any (blames x) (phase1_lines v (owners_of v bytes) ++ phase1b_lines v (owners_of v bytes)) else false)
+        ≡ ((if i then is_unknown (class_of v (inode_of v bytes x))
+        || has_blame (after_owner v (claims_before v bytes x) (owner_of v bytes x)) else false)
+        || (i && list_any (blames x) (phase1b_lines v (owners_of v bytes))))
     one true q =
-        ap (λ (b : Bool). is_unknown (class_of v (inode_of v bytes x)) || b) (any_append (blames x) (phase1_lines v (owners_of v bytes)) (phase1b_lines v (owners_of v bytes)) ∙ ap (λ (b : Bool). b || list_any (blames x) (phase1b_lines v (owners_of v bytes))) (first_blames v bytes x q))
-        ∙ assoc (is_unknown (class_of v (inode_of v bytes x))) (has_blame (after_owner v (claims_before v bytes x) (owner_of v bytes x))) (list_any (blames x) (phase1b_lines v (owners_of v bytes)))
+        ap (λ (b : Bool). is_unknown (class_of v (inode_of v bytes x)) || b)
+        (any_append (blames x) (phase1_lines v (owners_of v bytes)) (phase1b_lines v (owners_of v bytes))
+        ∙ ap (λ (b : Bool). b || list_any (blames x) (phase1b_lines v (owners_of v bytes)))
+        (first_blames v bytes x q))
+        ∙ assoc (is_unknown (class_of v (inode_of v bytes x)))
+        (has_blame (after_owner v (claims_before v bytes x) (owner_of v bytes x)))
+        (list_any (blames x) (phase1b_lines v (owners_of v bytes)))
     one false q = refl

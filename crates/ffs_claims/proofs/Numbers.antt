@@ -1,5 +1,7 @@
 -- The inodes one after another.
-use Rattle.std.proofs.Common.{◌≡◌, ◌⊎◌, inl, inr, ℕ, zero, suc, ◌+◌, ◌-◌, ◌<◌, ◌≤◌, Bool, true, false, ◌||◌, if◌then◌else◌, nat_lt, List, [], ◌∷◌, ◌++◌, length, map, get_or, replicate, min, slice_set, arith, refl, ap, ◌∙◌, sym}
+use Rattle.std.proofs.Common.{◌≡◌, ◌⊎◌, inl, inr, ℕ, zero, suc, ◌+◌, ◌-◌, ◌<◌, ◌≤◌, Bool, true, false, ◌||◌}
+use Rattle.std.proofs.Common.{if◌then◌else◌, nat_lt, List, [], ◌∷◌, ◌++◌, length, map, get_or, replicate, min}
+use Rattle.std.proofs.Common.{slice_set, arith, refl, ap, ◌∙◌, sym}
 use Rattle.std.specs.List.{range_with_len}
 use Rattle.std.proofs.lemmas.List.{get_or-set_same, get_or-set_other}
 use Rattle.std.proofs.lemmas.Bool.{cases_lt, cases_eq}
@@ -19,20 +21,23 @@ use Rattle.ffs_workspace.specs.Lengths.{inodes_of}
 use Rattle.ffs_claims.specs.Lines.{of_lines, owners_from}
 use Rattle.ffs_claims.proofs.Goes.{range_more, lines_append}
 
-owners_append : (v : Layout) (s : Claims) (xs ys : List Owner) → after_owners v s (xs ++ ys) ≡ after_owners v (after_owners v s xs) ys
+owners_append : (v : Layout) (s : Claims) (xs ys : List Owner) →
+    after_owners v s (xs ++ ys) ≡ after_owners v (after_owners v s xs) ys
 owners_append v s [] ys = refl
 owners_append v s (x ∷ xs) ys = owners_append v (after_owner v s x) xs ys
 
 range_last : (n k : ℕ) → range_with_len n (suc k) ≡ range_with_len n k ++ ((n + k) ∷ [])
 range_last n zero = let e : n + 0 ≡ n = omega arith in rw e refl
-range_last n (suc k) = let e : n + suc k ≡ n + 1 + k = omega arith in rw e (ap (λ (xs : List ℕ). n ∷ xs) (range_last (n + 1) k))
+range_last n (suc k) = let e : n + suc k ≡ n + 1 + k = omega arith in
+    rw e (ap (λ (xs : List ℕ). n ∷ xs) (range_last (n + 1) k))
 
 map_last : (f : ℕ → Owner) (xs : List ℕ) (y : ℕ) → map f (xs ++ (y ∷ [])) ≡ map f xs ++ (f y ∷ [])
 map_last f [] y = refl
 map_last f (x ∷ xs) y = ap (λ (zs : List Owner). f x ∷ zs) (map_last f xs y)
 
 -- what is known before the next inode
-pub before_next : (v : Layout) (bytes : List ℕ) (x : ℕ) → 2 ≤ x → claims_before v bytes (x + 1) ≡ after_owner v (claims_before v bytes x) (owner_of v bytes x)
+pub before_next : (v : Layout) (bytes : List ℕ) (x : ℕ) → 2 ≤ x →
+    claims_before v bytes (x + 1) ≡ after_owner v (claims_before v bytes x) (owner_of v bytes x)
 unfolding claims_before
 before_next v bytes x low =
     let more : x + 1 - 2 ≡ suc (x - 2) = omega arith in
@@ -40,8 +45,10 @@ before_next v bytes x low =
     ap (λ (n : ℕ). after_owners v (no_claims v) (map (owner_of v bytes) (range_with_len 2 n))) more
     ∙ ap (λ (xs : List ℕ). after_owners v (no_claims v) (map (owner_of v bytes) xs)) (range_last 2 (x - 2))
     ∙ ap (after_owners v (no_claims v)) (map_last (owner_of v bytes) (range_with_len 2 (x - 2)) (2 + (x - 2)))
-    ∙ owners_append v (no_claims v) (map (owner_of v bytes) (range_with_len 2 (x - 2))) (owner_of v bytes (2 + (x - 2)) ∷ [])
-    ∙ ap (λ (n : ℕ). after_owner v (after_owners v (no_claims v) (map (owner_of v bytes) (range_with_len 2 (x - 2)))) (owner_of v bytes n)) here
+    ∙ owners_append v (no_claims v) (map (owner_of v bytes) (range_with_len 2 (x - 2)))
+    (owner_of v bytes (2 + (x - 2)) ∷ [])
+    ∙ ap (λ (n : ℕ). after_owner v (after_owners v (no_claims v) (map (owner_of v bytes) (range_with_len 2 (x - 2))))
+    (owner_of v bytes n)) here
 
 pub before_first : (v : Layout) (bytes : List ℕ) → claims_before v bytes 2 ≡ no_claims v
 unfolding claims_before
@@ -52,18 +59,25 @@ pub before_end : (v : Layout) (bytes : List ℕ) (x : ℕ) → inodes_of v ≤ x
     claims_before v bytes x ≡ all_claims v bytes
 unfolding claims_before all_claims owners_of
 before_end v bytes x past exact low =
-    let same : x - 2 ≡ inodes_of v - 2 = elim (cases_lt 2 x) [ inl h ↦ let e : x ≤ inodes_of v = exact h in omega arith | inr h ↦ omega arith ] in
+    let same : x - 2 ≡ inodes_of v - 2 =
+    elim (cases_lt 2 x) [ inl h ↦ let e : x ≤ inodes_of v = exact h in omega arith | inr h ↦ omega arith ] in
     ap (λ (n : ℕ). after_owners v (no_claims v) (map (owner_of v bytes) (range_with_len 2 n))) same
 
 -- the lines of the next inode, and of those after it
-pub lines_next : (v : Layout) (bytes : List ℕ) (s s' : Claims) (x : ℕ) → x < inodes_of v → s' ≡ after_owner v s (owner_of v bytes x) →
-    of_lines (lines_of_owners v s (owners_from v bytes x)) ≡ of_lines (owner_lines v s (owner_of v bytes x)) ++ of_lines (lines_of_owners v s' (owners_from v bytes (x + 1)))
+pub lines_next : (v : Layout) (bytes : List ℕ) (s s' : Claims) (x : ℕ) → x < inodes_of v →
+    s' ≡ after_owner v s (owner_of v bytes x) →
+    of_lines (lines_of_owners v s (owners_from v bytes x)) ≡ of_lines (owner_lines v s (owner_of v bytes x))
+    ++ of_lines (lines_of_owners v s' (owners_from v bytes (x + 1)))
 lines_next v bytes s s' x low now =
-    ap (λ (xs : List ℕ). of_lines (lines_of_owners v s (map (owner_of v bytes) xs))) (range_more x (inodes_of v - x) (inodes_of v - (x + 1)) (omega arith))
-    ∙ lines_append (owner_lines v s (owner_of v bytes x)) (lines_of_owners v (after_owner v s (owner_of v bytes x)) (owners_from v bytes (x + 1)))
-    ∙ ap (λ (t : Claims). of_lines (owner_lines v s (owner_of v bytes x)) ++ of_lines (lines_of_owners v t (owners_from v bytes (x + 1)))) (sym now)
+    ap (λ (xs : List ℕ). of_lines (lines_of_owners v s (map (owner_of v bytes) xs)))
+    (range_more x (inodes_of v - x) (inodes_of v - (x + 1)) (omega arith))
+    ∙ lines_append (owner_lines v s (owner_of v bytes x))
+    (lines_of_owners v (after_owner v s (owner_of v bytes x)) (owners_from v bytes (x + 1)))
+    ∙ ap (λ (t : Claims). of_lines (owner_lines v s (owner_of v bytes x))
+    ++ of_lines (lines_of_owners v t (owners_from v bytes (x + 1)))) (sym now)
 
-pub lines_end : (v : Layout) (bytes : List ℕ) (s : Claims) (x : ℕ) → inodes_of v ≤ x → of_lines (lines_of_owners v s (owners_from v bytes x)) ≡ []
+pub lines_end : (v : Layout) (bytes : List ℕ) (s : Claims) (x : ℕ) → inodes_of v ≤ x →
+    of_lines (lines_of_owners v s (owners_from v bytes x)) ≡ []
 lines_end v bytes s x past =
     let none : inodes_of v - x ≡ 0 = omega arith in
     ap (λ (n : ℕ). of_lines (lines_of_owners v s (map (owner_of v bytes) (range_with_len x n)))) none
@@ -72,12 +86,14 @@ lines_end v bytes s x past =
 abbrev pub FilledTo : {A : Type 0} → A → (ℕ → A) → List A → ℕ → Type 0
 FilledTo d f xs n = (x : ℕ) → get_or xs x d ≡ (if nat_lt x n then f x else d)
 
-pub filled_next : {A : Type 0} (d : A) (f : ℕ → A) (xs xs' : List A) (n : ℕ) (value : A) → n < length xs → xs' ≡ slice_set xs n value → value ≡ f n →
+pub filled_next : {A : Type 0} (d : A) (f : ℕ → A) (xs xs' : List A) (n : ℕ) (value : A) → n < length xs →
+    xs' ≡ slice_set xs n value → value ≡ f n →
     FilledTo d f xs n → FilledTo d f xs' (n + 1)
 filled_next d f xs xs' n value low now is before = λ x. elim (cases_eq x n) [
   | inl e ↦
       let here : nat_lt x (n + 1) ≡ true = grind (arith, nat_tests) in
-      ap (λ (zs : List _). get_or zs x d) now ∙ ap (λ (k : ℕ). get_or (slice_set xs n value) k d) e ∙ get_or-set_same xs n value d low ∙ is
+      ap (λ (zs : List _). get_or zs x d) now ∙ ap (λ (k : ℕ). get_or (slice_set xs n value) k d) e
+      ∙ get_or-set_same xs n value d low ∙ is
       ∙ ap f (sym e) ∙ sym (ap (λ (b : Bool). if b then f x else d) here)
   | inr apart ↦
       ap (λ (zs : List _). get_or zs x d) now ∙ get_or-set_other xs n x value d apart ∙ before x
@@ -87,13 +103,17 @@ filled_next d f xs xs' n value low now is before = λ x. elim (cases_eq x n) [
     other : (x : ℕ) → (x ≡ n → ⊥) → nat_lt x n ≡ nat_lt x (n + 1)
     other x apart = grind (arith, nat_tests)
 
-pub filled_end : {A : Type 0} (d : A) (f : ℕ → A) (xs : List A) (n m : ℕ) → m ≤ n → ((x : ℕ) → m ≤ x → f x ≡ d) → FilledTo d f xs n → (x : ℕ) → get_or xs x d ≡ f x
+pub filled_end : {A : Type 0} (d : A) (f : ℕ → A) (xs : List A) (n m : ℕ) → m ≤ n → ((x : ℕ) → m ≤ x → f x ≡ d) →
+    FilledTo d f xs n → (x : ℕ) → get_or xs x d ≡ f x
 filled_end d f xs n m past out before x = elim (cases_lt x n) [
-  | inl low ↦ let here : nat_lt x n ≡ true = grind (arith, nat_tests) in before x ∙ ap (λ (b : Bool). if b then f x else d) here
-  | inr high ↦ let here : nat_lt x n ≡ false = grind (arith, nat_tests) in before x ∙ ap (λ (b : Bool). if b then f x else d) here ∙ sym (out x (omega arith))
+  | inl low ↦ let here : nat_lt x n ≡ true = grind (arith, nat_tests) in before x
+      ∙ ap (λ (b : Bool). if b then f x else d) here
+  | inr high ↦ let here : nat_lt x n ≡ false = grind (arith, nat_tests) in before x
+      ∙ ap (λ (b : Bool). if b then f x else d) here ∙ sym (out x (omega arith))
 ]
 
-pub filled_begin : {A : Type 0} (d : A) (f : ℕ → A) (xs : List A) (len : ℕ) → xs ≡ replicate len d → ((x : ℕ) → x < 2 → f x ≡ d) → FilledTo d f xs 2
+pub filled_begin : {A : Type 0} (d : A) (f : ℕ → A) (xs : List A) (len : ℕ) → xs ≡ replicate len d →
+    ((x : ℕ) → x < 2 → f x ≡ d) → FilledTo d f xs 2
 filled_begin d f xs len e out = λ x. ap (λ (zs : List _). get_or zs x d) e ∙ clear len x ∙ first x
   where
     clear : (n x : ℕ) → get_or (replicate n d) x d ≡ d
@@ -103,8 +123,10 @@ filled_begin d f xs len e out = λ x. ap (λ (zs : List _). get_or zs x d) e ∙
 
     first : (x : ℕ) → d ≡ (if nat_lt x 2 then f x else d)
     first x = elim (cases_lt x 2) [
-      | inl low ↦ let here : nat_lt x 2 ≡ true = grind (arith, nat_tests) in sym (out x low) ∙ sym (ap (λ (b : Bool). if b then f x else d) here)
-      | inr high ↦ let here : nat_lt x 2 ≡ false = grind (arith, nat_tests) in sym (ap (λ (b : Bool). if b then f x else d) here)
+      | inl low ↦ let here : nat_lt x 2 ≡ true = grind (arith, nat_tests) in sym (out x low)
+          ∙ sym (ap (λ (b : Bool). if b then f x else d) here)
+      | inr high ↦ let here : nat_lt x 2 ≡ false = grind (arith, nat_tests) in
+          sym (ap (λ (b : Bool). if b then f x else d) here)
     ]
 
 -- what is found of the inode x, and nothing of a number that is no inode's
@@ -117,33 +139,47 @@ is_outside v x (inr high) = grind (arith, nat_tests)
 
 pub kind_out : (v : Layout) (bytes : List ℕ) (x : ℕ) → is_inode_number v x ≡ false → kind_at v bytes x ≡ 0
 unfolding kind_at
-kind_out v bytes x out = ap (λ (b : Bool). kind_of (if b then class_of v (inode_of v bytes x) else Free) (inode_of v bytes x)) out
+kind_out v bytes x out = ap
+    (λ (b : Bool). kind_of (if b then class_of v (inode_of v bytes x) else Free) (inode_of v bytes x)) out
 
-pub kind_in : (v : Layout) (bytes : List ℕ) (x : ℕ) → is_inode_number v x ≡ true → kind_of (class_of v (inode_of v bytes x)) (inode_of v bytes x) ≡ kind_at v bytes x
+pub kind_in : (v : Layout) (bytes : List ℕ) (x : ℕ) → is_inode_number v x ≡ true →
+    kind_of (class_of v (inode_of v bytes x)) (inode_of v bytes x) ≡ kind_at v bytes x
 unfolding kind_at
-kind_in v bytes x inside = sym (ap (λ (b : Bool). kind_of (if b then class_of v (inode_of v bytes x) else Free) (inode_of v bytes x)) inside)
+kind_in v bytes x inside =
+    sym (ap (λ (b : Bool). kind_of (if b then class_of v (inode_of v bytes x) else Free) (inode_of v bytes x)) inside)
 
 pub mark_out : (v : Layout) (bytes : List ℕ) (x : ℕ) → is_inode_number v x ≡ false → first_marked_at v bytes x ≡ false
 unfolding first_marked_at
-mark_out v bytes x out = ap (λ (b : Bool). if b then is_unknown (class_of v (inode_of v bytes x)) || has_blame (after_owner v (claims_before v bytes x) (owner_of v bytes x)) else false) out
+mark_out v bytes x out = ap
+    (λ (b : Bool). if b then is_unknown (class_of v (inode_of v bytes x))
+    || has_blame (after_owner v (claims_before v bytes x) (owner_of v bytes x)) else false) out
 
-pub mark_in : (v : Layout) (bytes : List ℕ) (x : ℕ) (s s' : Claims) → is_inode_number v x ≡ true → s ≡ claims_before v bytes x → s' ≡ after_owner v s (owner_of v bytes x) →
+pub mark_in : (v : Layout) (bytes : List ℕ) (x : ℕ) (s s' : Claims) → is_inode_number v x ≡ true →
+    s ≡ claims_before v bytes x → s' ≡ after_owner v s (owner_of v bytes x) →
     (is_unknown (class_of v (inode_of v bytes x)) || has_blame s') ≡ first_marked_at v bytes x
 unfolding first_marked_at
 mark_in v bytes x s s' inside before now =
-    ap (λ (t : Claims). is_unknown (class_of v (inode_of v bytes x)) || has_blame t) (now ∙ ap (λ (t : Claims). after_owner v t (owner_of v bytes x)) before)
-    ∙ sym (ap (λ (b : Bool). if b then is_unknown (class_of v (inode_of v bytes x)) || has_blame (after_owner v (claims_before v bytes x) (owner_of v bytes x)) else false) inside)
+    ap (λ (t : Claims). is_unknown (class_of v (inode_of v bytes x)) || has_blame t)
+    (now ∙ ap (λ (t : Claims). after_owner v t (owner_of v bytes x)) before)
+    ∙ sym (ap (λ (b : Bool). if b then is_unknown (class_of v (inode_of v bytes x))
+    || has_blame (after_owner v (claims_before v bytes x) (owner_of v bytes x)) else false) inside)
 
 pub cut_out : (v : Layout) (bytes : List ℕ) (x : ℕ) → is_inode_number v x ≡ false → cut_at v bytes x ≡ 0
-cut_out v bytes x out = ap (λ (b : Bool). if b then min (cut_of (after_owner v (claims_before v bytes x) (owner_of v bytes x))) 4294967295 else 0) out
+cut_out v bytes x out = ap
+    (λ (b : Bool). if b then min (cut_of (after_owner v (claims_before v bytes x) (owner_of v bytes x))) 4294967295
+    else 0) out
 
-pub cut_in : (v : Layout) (bytes : List ℕ) (x : ℕ) (s s' : Claims) → is_inode_number v x ≡ true → s ≡ claims_before v bytes x → s' ≡ after_owner v s (owner_of v bytes x) →
+pub cut_in : (v : Layout) (bytes : List ℕ) (x : ℕ) (s s' : Claims) → is_inode_number v x ≡ true →
+    s ≡ claims_before v bytes x → s' ≡ after_owner v s (owner_of v bytes x) →
     min (cut_of s') 4294967295 ≡ cut_at v bytes x
 cut_in v bytes x s s' inside before now =
-    ap (λ (t : Claims). min (cut_of t) 4294967295) (now ∙ ap (λ (t : Claims). after_owner v t (owner_of v bytes x)) before)
-    ∙ sym (ap (λ (b : Bool). if b then min (cut_of (after_owner v (claims_before v bytes x) (owner_of v bytes x))) 4294967295 else 0) inside)
+    ap (λ (t : Claims). min (cut_of t) 4294967295)
+    (now ∙ ap (λ (t : Claims). after_owner v t (owner_of v bytes x)) before)
+    ∙ sym (ap (λ (b : Bool). if b then min (cut_of (after_owner v (claims_before v bytes x) (owner_of v bytes x)))
+    4294967295 else 0) inside)
 
 -- the lines of all inodes
-pub first_lines : (v : Layout) (bytes : List ℕ) (s : Claims) → s ≡ no_claims v → of_lines (phase1_lines v (owners_of v bytes)) ≡ of_lines (lines_of_owners v s (owners_from v bytes 2))
+pub first_lines : (v : Layout) (bytes : List ℕ) (s : Claims) → s ≡ no_claims v →
+    of_lines (phase1_lines v (owners_of v bytes)) ≡ of_lines (lines_of_owners v s (owners_from v bytes 2))
 unfolding phase1_lines owners_of
 first_lines v bytes s e = ap (λ (t : Claims). of_lines (lines_of_owners v t (owners_from v bytes 2))) (sym e)

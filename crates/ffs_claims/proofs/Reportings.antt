@@ -1,5 +1,6 @@
 -- How phase 1b continues.
-use Rattle.std.proofs.Common.{◌≡◌, append_assoc, append-nil, subst, ℕ, ◌+◌, ◌-◌, ◌<◌, ◌≤◌, Bool, true, false, ◌||◌, if◌then◌else◌, List, [], ◌∷◌, ◌++◌, length, map, slice_set, arith, refl, ap, ◌∙◌, sym}
+use Rattle.std.proofs.Common.{◌≡◌, append_assoc, append-nil, subst, ℕ, ◌+◌, ◌-◌, ◌<◌, ◌≤◌, Bool, true, false, ◌||◌}
+use Rattle.std.proofs.Common.{if◌then◌else◌, List, [], ◌∷◌, ◌++◌, length, map, slice_set, arith, refl, ap, ◌∙◌, sym}
 use Rattle.std.specs.List.{range_with_len, list_any, slice_index_or}
 use Rattle.ffs_volume.specs.declared.BlockMessage.{BlockMessage}
 use Rattle.ffs_volume.specs.declared.BlockMessage.TheVariants.{Dup}
@@ -21,19 +22,27 @@ use Rattle.std.proofs.Math.Bool.{or_assoc}
 use Rattle.ffs_workspace.specs.Lengths.{set_count}
 
 -- offers one after the other
-pub first_append : (dup : List Bool) (xs ys : List Offer) → first_offer_lines dup (xs ++ ys) ≡ first_offer_lines dup xs ++ first_offer_lines (after_first dup xs) ys
+pub first_append : (dup : List Bool) (xs ys : List Offer) → first_offer_lines dup (xs ++ ys) ≡ first_offer_lines dup xs
+    ++ first_offer_lines (after_first dup xs) ys
 first_append dup [] ys = refl
-first_append dup (o ∷ xs) ys = one (is_set dup o.fragment) refl (first_append (slice_set dup o.fragment false) xs ys) (first_append dup xs ys)
+first_append dup (o ∷ xs) ys = one (is_set dup o.fragment) refl (first_append (slice_set dup o.fragment false) xs ys)
+    (first_append dup xs ys)
   where
     one : (b : Bool) → is_set dup o.fragment ≡ b →
-        first_offer_lines (slice_set dup o.fragment false) (xs ++ ys) ≡ first_offer_lines (slice_set dup o.fragment false) xs ++ first_offer_lines (after_first (slice_set dup o.fragment false) xs) ys →
-        first_offer_lines dup (xs ++ ys) ≡ first_offer_lines dup xs ++ first_offer_lines (after_first dup xs) ys → first_offer_lines dup ((o ∷ xs) ++ ys) ≡ first_offer_lines dup (o ∷ xs) ++ first_offer_lines (after_first dup (o ∷ xs)) ys
+        first_offer_lines (slice_set dup o.fragment false) (xs ++ ys)
+        ≡ first_offer_lines (slice_set dup o.fragment false) xs
+        ++ first_offer_lines (after_first (slice_set dup o.fragment false) xs) ys →
+        first_offer_lines dup (xs ++ ys) ≡ first_offer_lines dup xs ++ first_offer_lines (after_first dup xs) ys →
+        first_offer_lines dup ((o ∷ xs) ++ ys) ≡ first_offer_lines dup (o ∷ xs)
+        ++ first_offer_lines (after_first dup (o ∷ xs)) ys
     one true q cleared same = rw q (ap (λ (ls : List BlockMessage). Dup o.fragment o.inode ∷ ls) cleared)
     one false q cleared same = rw q same
 
-pub after_append : (dup : List Bool) (xs ys : List Offer) → after_first dup (xs ++ ys) ≡ after_first (after_first dup xs) ys
+pub after_append : (dup : List Bool) (xs ys : List Offer) →
+    after_first dup (xs ++ ys) ≡ after_first (after_first dup xs) ys
 after_append dup [] ys = refl
-after_append dup (o ∷ xs) ys = after_append (if is_set dup o.fragment then slice_set dup o.fragment false else dup) xs ys
+after_append dup (o ∷ xs) ys = after_append (if is_set dup o.fragment then slice_set dup o.fragment false else dup) xs
+    ys
 
 pub reported_none : (w : Workspace) → OffersReported [] w w
 reported_none w = record { dup = refl; marked = λ x. none (bool_at w.marked.items x) }
@@ -42,34 +51,45 @@ reported_none w = record { dup = refl; marked = λ x. none (bool_at w.marked.ite
     none true = refl
     none false = refl
 
-pub reported_then : (u v w : Workspace) (xs ys : List Offer) → OffersReported xs u v → OffersReported ys v w → OffersReported (xs ++ ys) u w
+pub reported_then : (u v w : Workspace) (xs ys : List Offer) → OffersReported xs u v → OffersReported ys v w →
+    OffersReported (xs ++ ys) u w
 reported_then u v w xs ys a b = record {
   dup = b.dup ∙ ap (λ (d : List Bool). after_first d ys) a.dup ∙ sym (after_append (bits_of u.duplicates) xs ys);
   marked = λ x.
       b.marked x
       ∙ ap (λ (d : List Bool). bool_at v.marked.items x || list_any (blames x) (first_offer_lines d ys)) a.dup
-      ∙ ap (λ (m : Bool). m || list_any (blames x) (first_offer_lines (after_first (bits_of u.duplicates) xs) ys)) (a.marked x)
-      ∙ or_assoc (bool_at u.marked.items x) (list_any (blames x) (first_offer_lines (bits_of u.duplicates) xs)) (list_any (blames x) (first_offer_lines (after_first (bits_of u.duplicates) xs) ys))
-      ∙ ap (λ (m : Bool). bool_at u.marked.items x || m) (sym (any_append (blames x) (first_offer_lines (bits_of u.duplicates) xs) (first_offer_lines (after_first (bits_of u.duplicates) xs) ys)) ∙ ap (list_any (blames x)) (sym (first_append (bits_of u.duplicates) xs ys)));
+      ∙ ap (λ (m : Bool). m || list_any (blames x) (first_offer_lines (after_first (bits_of u.duplicates) xs) ys))
+      (a.marked x)
+      ∙ or_assoc (bool_at u.marked.items x) (list_any (blames x) (first_offer_lines (bits_of u.duplicates) xs))
+      (list_any (blames x) (first_offer_lines (after_first (bits_of u.duplicates) xs) ys))
+      ∙ ap (λ (m : Bool). bool_at u.marked.items x || m)
+      (sym (any_append (blames x) (first_offer_lines (bits_of u.duplicates) xs)
+      (first_offer_lines (after_first (bits_of u.duplicates) xs) ys))
+      ∙ ap (list_any (blames x)) (sym (first_append (bits_of u.duplicates) xs ys)));
 }
 
 -- an offer that isn't reported, and one that is
-pub reported_out : (old new : Workspace) (i f : ℕ) → slice_index_or (bits_of old.duplicates) f false ≡ false → new.duplicates ≡ old.duplicates → new.marked ≡ old.marked → OffersReported (offer_at i f ∷ []) old new
+pub reported_out : (old new : Workspace) (i f : ℕ) → slice_index_or (bits_of old.duplicates) f false ≡ false →
+    new.duplicates ≡ old.duplicates → new.marked ≡ old.marked → OffersReported (offer_at i f ∷ []) old new
 reported_out old new i f e d m = record {
   dup = ap bits_of d ∙ sym (rw e refl);
-  marked = λ x. ap (λ z. bool_at z.items x) m ∙ none (bool_at old.marked.items x) ∙ ap (λ (ls : List BlockMessage). bool_at old.marked.items x || list_any (blames x) ls) (sym (lines_out old i f e));
+  marked = λ x. ap (λ z. bool_at z.items x) m ∙ none (bool_at old.marked.items x)
+      ∙ ap (λ (ls : List BlockMessage). bool_at old.marked.items x || list_any (blames x) ls)
+      (sym (lines_out old i f e));
 }
   where
     none : (b : Bool) → b ≡ (b || false)
     none true = refl
     none false = refl
 
-    lines_out : (w : Workspace) (i f : ℕ) → slice_index_or (bits_of w.duplicates) f false ≡ false → first_offer_lines (bits_of w.duplicates) (offer_at i f ∷ []) ≡ []
+    lines_out : (w : Workspace) (i f : ℕ) → slice_index_or (bits_of w.duplicates) f false ≡ false →
+        first_offer_lines (bits_of w.duplicates) (offer_at i f ∷ []) ≡ []
     lines_out w i f e = rw e refl
 
 -- the next offer of a Run
 pub run_next : (i start len place f : ℕ) → place < len → f ≡ start + place →
-    map (offer_at i) (range_with_len (start + place) (len - place)) ≡ offer_at i f ∷ map (offer_at i) (range_with_len (start + (place + 1)) (len - (place + 1)))
+    map (offer_at i) (range_with_len (start + place) (len - place)) ≡ offer_at i f
+    ∷ map (offer_at i) (range_with_len (start + (place + 1)) (len - (place + 1)))
 run_next i start len place f h is_place =
     let k : start + (place + 1) ≡ start + place + 1 = omega arith in
     rw (range_more (start + place) (len - place) (len - (place + 1)) (omega arith), k, is_place) refl
@@ -83,34 +103,43 @@ pub record Reporting (rest all : List Offer) (old new : Workspace) : Type 0 wher
 pub reporting_begins : (all : List Offer) (w : Workspace) → Reporting all all w w
 reporting_begins all w = record { past = []; whole = refl; reported = reported_none w }
 
-pub reporting_more : (rest part rest' all : List Offer) (u v w : Workspace) → Reporting rest all u v → rest ≡ part ++ rest' → OffersReported part v w → Reporting rest' all u w
+pub reporting_more : (rest part rest' all : List Offer) (u v w : Workspace) → Reporting rest all u v →
+    rest ≡ part ++ rest' → OffersReported part v w → Reporting rest' all u w
 reporting_more rest part rest' all u v w t e p = record {
   past = t.past ++ part;
   whole = append_assoc t.past part rest' ∙ ap (λ (xs : List Offer). t.past ++ xs) (sym e) ∙ t.whole;
   reported = reported_then u v w t.past part t.reported p;
 }
 
-pub reporting_ends : (rest all : List Offer) (u v : Workspace) → Reporting rest all u v → rest ≡ [] → OffersReported all u v
+pub reporting_ends : (rest all : List Offer) (u v : Workspace) → Reporting rest all u v → rest ≡ [] →
+    OffersReported all u v
 reporting_ends rest all u v t e =
-    subst (λ (xs : List Offer). OffersReported xs u v) (sym (append-nil t.past) ∙ ap (λ (xs : List Offer). t.past ++ xs) (sym e) ∙ t.whole) t.reported
+    subst (λ (xs : List Offer). OffersReported xs u v)
+    (sym (append-nil t.past) ∙ ap (λ (xs : List Offer). t.past ++ xs) (sym e) ∙ t.whole) t.reported
 
-pub reporting_same : (rest rest' all : List Offer) (u v : Workspace) → Reporting rest all u v → rest ≡ rest' → Reporting rest' all u v
-reporting_same rest rest' all u v t e = record { past = t.past; whole = ap (λ (xs : List Offer). t.past ++ xs) (sym e) ∙ t.whole; reported = t.reported }
+pub reporting_same : (rest rest' all : List Offer) (u v : Workspace) → Reporting rest all u v → rest ≡ rest' →
+    Reporting rest' all u v
+reporting_same rest rest' all u v t e =
+    record { past = t.past; whole = ap (λ (xs : List Offer). t.past ++ xs) (sym e) ∙ t.whole; reported = t.reported }
 
 -- the lines that are to come, of what is reported so far
 pub lines_more : (dup dup' : List Bool) (o : Offer) (os : List Offer) → dup' ≡ after_first dup (o ∷ []) →
-    of_lines (first_offer_lines dup (o ∷ os)) ≡ of_lines (first_offer_lines dup (o ∷ [])) ++ of_lines (first_offer_lines dup' os)
+    of_lines (first_offer_lines dup (o ∷ os)) ≡ of_lines (first_offer_lines dup (o ∷ []))
+    ++ of_lines (first_offer_lines dup' os)
 lines_more dup dup' o os e =
-    ap of_lines (first_append dup (o ∷ []) os) ∙ lines_append (first_offer_lines dup (o ∷ [])) (first_offer_lines (after_first dup (o ∷ [])) os)
+    ap of_lines (first_append dup (o ∷ []) os)
+    ∙ lines_append (first_offer_lines dup (o ∷ [])) (first_offer_lines (after_first dup (o ∷ [])) os)
     ∙ ap (λ (d : List Bool). of_lines (first_offer_lines dup (o ∷ [])) ++ of_lines (first_offer_lines d os)) (sym e)
 
-pub run_over : (i start len place : ℕ) → len ≤ place → map (offer_at i) (range_with_len (start + place) (len - place)) ≡ []
+pub run_over : (i start len place : ℕ) → len ≤ place → map (offer_at i) (range_with_len (start + place) (len - place))
+    ≡ []
 run_over i start len place h =
     let none : len - place ≡ 0 = omega arith in
     ap (λ (n : ℕ). map (offer_at i) (range_with_len (start + place) n)) none
 
 -- an offer that isn't reported
-pub said_out : (dup : List Bool) (i f : ℕ) (a : Progress) → slice_index_or dup f false ≡ false → Said a a (of_lines (first_offer_lines dup (offer_at i f ∷ [])))
+pub said_out : (dup : List Bool) (i f : ℕ) (a : Progress) → slice_index_or dup f false ≡ false →
+    Said a a (of_lines (first_offer_lines dup (offer_at i f ∷ [])))
 said_out dup i f a e = rw e (said_none a)
 
 pub past_end : (bits : List Bool) (f : ℕ) → length bits ≤ f → slice_index_or bits f false ≡ false
@@ -124,7 +153,9 @@ none_after bits (o ∷ os) e = rw (none_clear bits o.fragment e) (none_after bit
 pub none_reported : (w : Workspace) (os : List Offer) → set_count (bits_of w.duplicates) ≡ 0 → OffersReported os w w
 none_reported w os e = record {
   dup = sym (none_after (bits_of w.duplicates) os e);
-  marked = λ x. none (bool_at w.marked.items x) ∙ ap (λ (ls : List BlockMessage). bool_at w.marked.items x || list_any (blames x) ls) (sym (none_first (bits_of w.duplicates) os e));
+  marked = λ x. none (bool_at w.marked.items x)
+      ∙ ap (λ (ls : List BlockMessage). bool_at w.marked.items x || list_any (blames x) ls)
+      (sym (none_first (bits_of w.duplicates) os e));
 }
   where
     none : (b : Bool) → b ≡ (b || false)
@@ -132,14 +163,17 @@ none_reported w os e = record {
     none false = refl
 
 -- what is reported is of the map and the marks alone
-pub reported_from : (offers : List Offer) (u u' w : Workspace) → OffersReported offers u' w → u'.duplicates ≡ u.duplicates → u'.marked ≡ u.marked → OffersReported offers u w
+pub reported_from : (offers : List Offer) (u u' w : Workspace) → OffersReported offers u' w →
+    u'.duplicates ≡ u.duplicates → u'.marked ≡ u.marked → OffersReported offers u w
 reported_from offers u u' w t d m = record {
   dup = t.dup ∙ ap (λ z. after_first (bits_of z) offers) d;
-  marked = λ x. t.marked x ∙ ap (λ z. bool_at z.items x || list_any (blames x) (first_offer_lines (bits_of u'.duplicates) offers)) m
+  marked = λ x. t.marked x ∙ ap
+      (λ z. bool_at z.items x || list_any (blames x) (first_offer_lines (bits_of u'.duplicates) offers)) m
       ∙ ap (λ z. bool_at u.marked.items x || list_any (blames x) (first_offer_lines (bits_of z) offers)) d;
 }
 
-pub reported_to : (offers : List Offer) (u w w' : Workspace) → OffersReported offers u w → w'.duplicates ≡ w.duplicates → w'.marked ≡ w.marked → OffersReported offers u w'
+pub reported_to : (offers : List Offer) (u w w' : Workspace) → OffersReported offers u w → w'.duplicates ≡ w.duplicates
+    → w'.marked ≡ w.marked → OffersReported offers u w'
 reported_to offers u w w' t d m = record {
   dup = ap bits_of d ∙ t.dup;
   marked = λ x. ap (λ z. bool_at z.items x) m ∙ t.marked x;

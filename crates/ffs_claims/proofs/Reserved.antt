@@ -1,5 +1,6 @@
 -- The bits of the reserved fragments.
-use Rattle.std.proofs.Common.{◌≡◌, ◌⊎◌, inl, inr, ℕ, suc, ◌+◌, ◌<◌, ◌≤◌, Bool, true, false, ◌&&◌, ◌||◌, nat_lt, nat_le, List, length, get_or, replicate, arith, refl, ap, ◌∙◌, sym}
+use Rattle.std.proofs.Common.{◌≡◌, ◌⊎◌, inl, inr, ℕ, suc, ◌+◌, ◌<◌, ◌≤◌, Bool, true, false, ◌&&◌, ◌||◌, nat_lt, nat_le}
+use Rattle.std.proofs.Common.{List, length, get_or, replicate, arith, refl, ap, ◌∙◌, sym}
 use Rattle.std.specs.Int.{div_ceil}
 use Rattle.std.proofs.lemmas.List.{same_lists, get_or-replicate, get_or_default}
 use Rattle.std.proofs.lemmas.List.FromFn.{length-map-range_with_len, get_or-map-range_with_len}
@@ -22,7 +23,8 @@ abbrev pub HaveBits : ℕ → List Bool → (ℕ → Bool) → Type 0
 HaveBits size bits test = (f : ℕ) → f < size → get_or bits f false ≡ test f
 
 -- a run more is set
-pub run_test : (bits : List Bool) (size start len end : ℕ) (test : ℕ → Bool) → length bits ≡ size → start + len ≡ end → HaveBits size bits test →
+pub run_test : (bits : List Bool) (size start len end : ℕ) (test : ℕ → Bool) → length bits ≡ size → start + len ≡ end →
+    HaveBits size bits test →
     HaveBits size (set_run bits start len) (λ f. is_in_run start end f || test f)
 run_test bits size start len end test all same before = λ f low. elim (cases_lt f start) [
   | inl under ↦ run_outside bits start len f false (inl under) ∙ before f low ∙ out f (inl under) (test f)
@@ -53,7 +55,9 @@ pub none_below : (v : Layout) (f : ℕ) → is_first v f ≡ is_reserved_below v
 unfolding first_below
 none_below v f = refl
 
-pub one_below : (v : Layout) (groups f : ℕ) → (is_in_run (cgsblock v groups) (cgdmin v groups) f || is_reserved_below v groups f) ≡ is_reserved_below v (groups + 1) f
+pub one_below : (v : Layout) (groups f : ℕ) →
+    (is_in_run (cgsblock v groups) (cgdmin v groups) f || is_reserved_below v groups f)
+    ≡ is_reserved_below v (groups + 1) f
 one_below v groups f =
     let more : groups + 1 ≡ suc groups = omega arith in
     let kept = λ (c : ℕ). is_in_run (cgsblock v c) (cgdmin v c) f in
@@ -71,8 +75,10 @@ one_below v groups f =
 reserved_is : (v : Layout) (f : ℕ) → is_reserved_below v v.ncg f ≡ is_reserved v f
 unfolding is_reserved is_group_metadata
 reserved_is v f =
-    ap (λ (z : Bool). some_below (λ c. is_in_run (cgsblock v c) (cgdmin v c) f) v.ncg || (is_in_run v.csaddr (v.csaddr + div_ceil v.cssize v.fsize) f || (z || false))) (from_zero (cgdmin v 0) f)
-    ∙ turn (nat_lt f (cgdmin v 0)) (is_in_run v.csaddr (v.csaddr + div_ceil v.cssize v.fsize) f) (some_below (λ c. is_in_run (cgsblock v c) (cgdmin v c) f) v.ncg)
+    ap (λ (z : Bool). some_below (λ c. is_in_run (cgsblock v c) (cgdmin v c) f) v.ncg
+    || (is_in_run v.csaddr (v.csaddr + div_ceil v.cssize v.fsize) f || (z || false))) (from_zero (cgdmin v 0) f)
+    ∙ turn (nat_lt f (cgdmin v 0)) (is_in_run v.csaddr (v.csaddr + div_ceil v.cssize v.fsize) f)
+    (some_below (λ c. is_in_run (cgsblock v c) (cgdmin v c) f) v.ncg)
   where
     from_zero : (end f : ℕ) → is_in_run 0 end f ≡ nat_lt f end
     from_zero end f = grind (arith, nat_tests)
@@ -88,36 +94,45 @@ reserved_is v f =
     turn false false false = refl
 
 -- all groups are taken
-pub map_is : (v : Layout) (bits : List Bool) → length bits ≡ v.size → HaveBits v.size bits (is_reserved_below v v.ncg) → bits ≡ reserved_map v
+pub map_is : (v : Layout) (bits : List Bool) → length bits ≡ v.size → HaveBits v.size bits (is_reserved_below v v.ncg) →
+    bits ≡ reserved_map v
 unfolding reserved_map
 map_is v bits all h =
     same_lists _ _ (all ∙ sym (length-map-range_with_len (is_reserved v) 0 v.size))
     (λ f d below. let low : f < v.size = omega (arith, all) in
-    default f d low ∙ h f low ∙ reserved_is v f ∙ sym (get_or-map-range_with_len (is_reserved v) 0 v.size f f d low (omega arith)))
+    default f d low ∙ h f low ∙ reserved_is v f
+    ∙ sym (get_or-map-range_with_len (is_reserved v) 0 v.size f f d low (omega arith)))
   where
     default : (f : ℕ) (d : Bool) → f < v.size → get_or bits f d ≡ get_or bits f false
     default f d low = get_or_default bits f d false (omega (arith, all))
 
 -- the first two runs, and that of a group
-pub two_runs : (v : Layout) (b0 b1 b2 : List Bool) → length b0 ≡ v.size → length b1 ≡ v.size → b0 ≡ replicate v.size false →
-    b1 ≡ set_run b0 0 (cgdmin v 0) → b2 ≡ set_run b1 v.csaddr (div_ceil v.cssize v.fsize) → HaveBits v.size b2 (is_reserved_below v 0)
+pub two_runs : (v : Layout) (b0 b1 b2 : List Bool) → length b0 ≡ v.size → length b1 ≡ v.size →
+    b0 ≡ replicate v.size false →
+    b1 ≡ set_run b0 0 (cgdmin v 0) → b2 ≡ set_run b1 v.csaddr (div_ceil v.cssize v.fsize) →
+    HaveBits v.size b2 (is_reserved_below v 0)
 two_runs v b0 b1 b2 all0 all1 fresh one two =
     let first : HaveBits v.size (set_run b0 0 (cgdmin v 0)) (λ f. is_in_run 0 (cgdmin v 0) f || false) =
     run_test b0 v.size 0 (cgdmin v 0) (cgdmin v 0) (λ _. false) all0 (omega arith) (clear_test v.size b0 fresh) in
     let first' : HaveBits v.size b1 (λ f. is_in_run 0 (cgdmin v 0) f || false) = rw one first in
     let second : HaveBits v.size (set_run b1 v.csaddr (div_ceil v.cssize v.fsize)) (is_first v) =
-    run_test b1 v.size v.csaddr (div_ceil v.cssize v.fsize) (v.csaddr + div_ceil v.cssize v.fsize) (λ f. is_in_run 0 (cgdmin v 0) f || false) all1 refl first' in
+    run_test b1 v.size v.csaddr (div_ceil v.cssize v.fsize) (v.csaddr + div_ceil v.cssize v.fsize)
+    (λ f. is_in_run 0 (cgdmin v 0) f || false) all1 refl first' in
     λ f low. ap (λ (xs : List Bool). get_or xs f false) two ∙ second f low ∙ none_below v f
 
-pub group_run : (v : Layout) (b b' : List Bool) (group len : ℕ) → length b ≡ v.size → cgsblock v group + len ≡ cgdmin v group →
-    b' ≡ set_run b (cgsblock v group) len → HaveBits v.size b (is_reserved_below v group) → HaveBits v.size b' (is_reserved_below v (group + 1))
+pub group_run : (v : Layout) (b b' : List Bool) (group len : ℕ) → length b ≡ v.size →
+    cgsblock v group + len ≡ cgdmin v group →
+    b' ≡ set_run b (cgsblock v group) len → HaveBits v.size b (is_reserved_below v group) →
+    HaveBits v.size b' (is_reserved_below v (group + 1))
 group_run v b b' group len all ends now before =
-    let more : HaveBits v.size (set_run b (cgsblock v group) len) (λ f. is_in_run (cgsblock v group) (cgdmin v group) f || is_reserved_below v group f) =
+    let more : HaveBits v.size (set_run b (cgsblock v group) len)
+    (λ f. is_in_run (cgsblock v group) (cgdmin v group) f || is_reserved_below v group f) =
     run_test b v.size (cgsblock v group) len (cgdmin v group) (is_reserved_below v group) all ends before in
     λ f low. ap (λ (xs : List Bool). get_or xs f false) now ∙ more f low ∙ one_below v group f
 
 -- the claims before the first inode
-pub reserved_claims : (v : Layout) (s s1 : Claims) (used : List Bool) → s1 ≡ next_inode s → s.dup ≡ replicate v.size false → used ≡ reserved_map v →
+pub reserved_claims : (v : Layout) (s s1 : Claims) (used : List Bool) → s1 ≡ next_inode s →
+    s.dup ≡ replicate v.size false → used ≡ reserved_map v →
     record s1 { used = used; runs = 0 } ≡ no_claims v
 unfolding no_claims
 reserved_claims v s s1 used e d u =

@@ -14,12 +14,15 @@ use Rattle.ffs_workspace.specs.Holds.{claims_of}
 use Rattle.ffs_workspace.specs.Lengths.{IsFor}
 
 -- a step more keeps the bound
-pub moves_on : (v : Layout) (s0 s s' : Claims) (step : Step) → length s.used ≡ v.size → v.frag ≤ 8 → HasLength v.frag step → s' ≡ after_step v s step →
+pub moves_on : (v : Layout) (s0 s s' : Claims) (step : Step) → length s.used ≡ v.size → v.frag ≤ 8 →
+    HasLength v.frag step → s' ≡ after_step v s step →
     ClaimBound s0 s → ClaimBound s0 s'
-moves_on v s0 s s' step h small some now before = rw now (moves_then s0 s (after_step v s step) before (step_moves v s step h small some))
+moves_on v s0 s s' step h small some now before =
+    rw now (moves_then s0 s (after_step v s step) before (step_moves v s step h small some))
 
 -- how many Runs are seen while an inode isn't cut, and at its end
-pub bound_open : (s0 s : Claims) (size : ℕ) → length s.used ≡ size → is_open s ≡ true → ClaimBound s0 s → s.runs + used_bits s0 + 2 ≤ s0.runs + size + 22
+pub bound_open : (s0 s : Claims) (size : ℕ) → length s.used ≡ size → is_open s ≡ true → ClaimBound s0 s →
+    s.runs + used_bits s0 + 2 ≤ s0.runs + size + 22
 bound_open s0 s size h free m =
     let both = and_parts (nat_lt s.bad 11) (nat_lt s.dups 11) free in
     let few : s.bad < 11 = ltb-true s.bad 11 both.0 in

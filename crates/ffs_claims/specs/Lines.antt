@@ -31,7 +31,8 @@ bad_lines inode start many = Bad start inode ∷ (if many then ManyBad inode ∷
 
 -- an inode by its number, as one that may own fragments
 abbrev pub owner_with : Layout → List ℕ → ℕ → Inode → Owner
-owner_with v image number i = record { number = number; class = class_of v i; steps = steps_of v i image; blocks = i.blocks }
+owner_with v image number i =
+    record { number = number; class = class_of v i; steps = steps_of v i image; blocks = i.blocks }
 
 -- the inodes from one on
 abbrev pub owners_from : Layout → List ℕ → ℕ → List Owner

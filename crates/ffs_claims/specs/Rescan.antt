@@ -40,7 +40,8 @@ run_taken v r start len =
 abbrev pub after_run_again : Layout → Rescan → ℕ → ℕ → Rescan
 after_run_again v r start len =
     if is_run_in_range v start len then record { bad = r.bad; left = left_after r.left len }
-    else (if r.bad == 10 then record { bad = 11; left = r.left } else record { bad = r.bad + 1; left = left_after r.left len })
+    else (if r.bad == 10 then record { bad = 11; left = r.left }
+    else record { bad = r.bad + 1; left = left_after r.left len })
 
 abbrev pub again : Layout → Rescan → Step → Rescan
 again v r (Run start len block) = if is_going r then after_run_again v r start len else r
@@ -49,7 +50,8 @@ again v r Gap = r
 
 -- the offers that are kept, of a step and of steps
 abbrev pub step_offers_again : Layout → ℕ → Rescan → Step → List Offer
-step_offers_again v inode r (Run start len block) = if is_going r then map (offer_at inode) (range_with_len start (run_taken v r start len)) else []
+step_offers_again v inode r (Run start len block) = if is_going r
+    then map (offer_at inode) (range_with_len start (run_taken v r start len)) else []
 step_offers_again v inode r Tail = []
 step_offers_again v inode r Gap = []
 

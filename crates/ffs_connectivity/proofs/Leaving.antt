@@ -23,6 +23,8 @@ leaders_held old new e h = record {
 
 -- all lines are those from inode 2 on
 pub lines_begin : (v : Layout) (b : List ℕ) →
-    map of_names (connectivity_lines (volume_of v b)) ≡ map of_names (lines_from (cut_off_lines (volume_of v b)) 2 (inodes_of v - 2))
+    map of_names (connectivity_lines (volume_of v b))
+    ≡ map of_names (lines_from (cut_off_lines (volume_of v b)) 2 (inodes_of v - 2))
 unfolding connectivity_lines
-lines_begin v b = ap (map of_names) (ap (lines_below (cut_off_lines (volume_of v b))) (count_is v b) ∙ all_from_root (cut_off_lines (volume_of v b)) (inodes_of v) refl refl)
+lines_begin v b = ap (map of_names) (ap (lines_below (cut_off_lines (volume_of v b))) (count_is v b)
+    ∙ all_from_root (cut_off_lines (volume_of v b)) (inodes_of v) refl refl)

@@ -1,5 +1,6 @@
 -- The lines of groups, by the kinds of inodes in place of their classes.
-use Rattle.std.proofs.Common.{◌≡◌, ℕ, ◌+◌, ◌*◌, Bool, true, false, List, ◌++◌, refl, ap, ◌∙◌, sym, slice_index, count_by, ℤ}
+use Rattle.std.proofs.Common.{◌≡◌, ℕ, ◌+◌, ◌*◌, Bool, true, false, List, ◌++◌, refl, ap, ◌∙◌, sym, slice_index}
+use Rattle.std.proofs.Common.{count_by, ℤ}
 use Rattle.std.specs.Prelude.{◌&&◌, ◌||◌, ◌==◌, not, nat_le, nat_lt}
 use Rattle.ffs_volume.specs.Disk.Areas.{is_reserved}
 use Rattle.ffs_volume.specs.Blocks.Owners.{owners_of}
@@ -21,7 +22,11 @@ use Rattle.ffs_volume.specs.Disk.Numbers.{u32_at, all_below}
 use Rattle.ffs_volume.specs.Disk.Areas.{cgbase}
 use Rattle.ffs_volume.specs.Blocks.Inodes.{inode_of}
 use Rattle.ffs_volume.specs.Directories.Volumes.{class_at}
-use Rattle.ffs_volume.specs.Groups.Records.{GroupCounts, is_used_inode, is_dir_inode, is_free_block, block_bits, block_numbers, group_inodes, group_numbers, group_size, right_group_counts, right_frsum, right_total, has_summary, has_totals, has_bits, inode_map_place, fragment_map_place, has_right_record, has_right_maps, has_right_sums, has_right_totals, summary_record, group_block}
+use Rattle.ffs_volume.specs.Groups.Records.{GroupCounts, is_used_inode, is_dir_inode, is_free_block, block_bits}
+use Rattle.ffs_volume.specs.Groups.Records.{block_numbers, group_inodes, group_numbers, group_size, right_group_counts}
+use Rattle.ffs_volume.specs.Groups.Records.{right_frsum, right_total, has_summary, has_totals, has_bits}
+use Rattle.ffs_volume.specs.Groups.Records.{inode_map_place, fragment_map_place, has_right_record, has_right_maps}
+use Rattle.ffs_volume.specs.Groups.Records.{has_right_sums, has_right_totals, summary_record, group_block}
 use Rattle.ffs_volume.specs.Groups.GroupCheck.{group_lines, reported_once, unreported, unless, phase5_lines}
 use Rattle.ffs_volume.specs.Encodings.Kinds.{kind_at, kind_of, class_of_kind}
 use Rattle.ffs_workspace.proofs.KindLaws.{class_is}
@@ -34,32 +39,44 @@ is_part Unknown = false
 is_part File = false
 is_part Dir = false
 
-of_part : {T : Type 0} (test : Class → T) → test Free ≡ test Partial → (c : Class) (i : Inode) → is_part c ≡ true → test (class_of_kind (kind_of c i)) ≡ test c
+of_part : {T : Type 0} (test : Class → T) → test Free ≡ test Partial → (c : Class) (i : Inode) → is_part c ≡ true →
+    test (class_of_kind (kind_of c i)) ≡ test c
 of_part test e Partial i p = e
 of_part test e Free i p = absurd (true≢false (sym p))
 of_part test e Unknown i p = absurd (true≢false (sym p))
 of_part test e File i p = absurd (true≢false (sym p))
 of_part test e Dir i p = absurd (true≢false (sym p))
 
-pub same_test : {T : Type 0} (test : Class → T) → test Free ≡ test Partial → (v : Layout) (image : List ℕ) (x : ℕ) → test (class_of_kind (kind_at v image x)) ≡ test (class_at v image x)
+pub same_test : {T : Type 0} (test : Class → T) → test Free ≡ test Partial → (v : Layout) (image : List ℕ) (x : ℕ) →
+    test (class_of_kind (kind_at v image x)) ≡ test (class_at v image x)
 unfolding kind_at
 same_test test e v image x = go (is_part (class_at v image x)) refl (λ p. ap test (class_is v image x p))
   where
-    go : (b : Bool) → is_part (class_at v image x) ≡ b → ((class_at v image x ≡ Partial → ⊥) → test (class_of_kind (kind_of (class_at v image x) (inode_of v image x))) ≡ test (class_at v image x)) →
+    go : (b : Bool) → is_part (class_at v image x) ≡ b →
+        ((class_at v image x ≡ Partial → ⊥) → test (class_of_kind (kind_of (class_at v image x) (inode_of v image x)))
+        ≡ test (class_at v image x)) →
         test (class_of_kind (kind_of (class_at v image x) (inode_of v image x))) ≡ test (class_at v image x)
     go true p other = of_part test e (class_at v image x) (inode_of v image x) p
     go false p other = other (λ q. true≢false (sym (ap is_part q) ∙ p))
 
-dirs_same : (v : Layout) (image kinds : List ℕ) → ((x : ℕ) → slice_index kinds x ≡ kind_at v image x) → is_dir_inode (class_in kinds) ≡ is_dir_inode (class_at v image)
-dirs_same v image kinds e = fun_ext (λ x. ap (λ k. nat_le 2 x && is_directory (class_of_kind k)) (e x) ∙ ap (λ t. nat_le 2 x && t) (same_test is_directory refl v image x))
+dirs_same : (v : Layout) (image kinds : List ℕ) → ((x : ℕ) → slice_index kinds x ≡ kind_at v image x) →
+    is_dir_inode (class_in kinds) ≡ is_dir_inode (class_at v image)
+dirs_same v image kinds e =
+    fun_ext (λ x. ap (λ k. nat_le 2 x && is_directory (class_of_kind k)) (e x)
+    ∙ ap (λ t. nat_le 2 x && t) (same_test is_directory refl v image x))
 
-used_same : (v : Layout) (image kinds : List ℕ) → ((x : ℕ) → slice_index kinds x ≡ kind_at v image x) → is_used_inode (class_in kinds) ≡ is_used_inode (class_at v image)
-used_same v image kinds e = fun_ext (λ x. ap (λ k. nat_lt x 2 || is_allocated (class_of_kind k)) (e x) ∙ ap (λ t. nat_lt x 2 || t) (same_test is_allocated refl v image x))
+used_same : (v : Layout) (image kinds : List ℕ) → ((x : ℕ) → slice_index kinds x ≡ kind_at v image x) →
+    is_used_inode (class_in kinds) ≡ is_used_inode (class_at v image)
+used_same v image kinds e =
+    fun_ext (λ x. ap (λ k. nat_lt x 2 || is_allocated (class_of_kind k)) (e x)
+    ∙ ap (λ t. nat_lt x 2 || t) (same_test is_allocated refl v image x))
 
-same_right : (v : Layout) (free : ℕ → Bool) (a b : ℕ → Class) → is_dir_inode a ≡ is_dir_inode b → is_used_inode a ≡ is_used_inode b → (c : ℕ) → right_group_counts v free a c ≡ right_group_counts v free b c
+same_right : (v : Layout) (free : ℕ → Bool) (a b : ℕ → Class) → is_dir_inode a ≡ is_dir_inode b →
+    is_used_inode a ≡ is_used_inode b → (c : ℕ) → right_group_counts v free a c ≡ right_group_counts v free b c
 unfolding right_group_counts
 same_right v free a b d u c =
-    ap (λ (p : ℕ → Bool). summary_by v free p (is_used_inode a) c) d ∙ ap (λ (q : ℕ → Bool). summary_by v free (is_dir_inode b) q c) u
+    ap (λ (p : ℕ → Bool). summary_by v free p (is_used_inode a) c) d
+    ∙ ap (λ (q : ℕ → Bool). summary_by v free (is_dir_inode b) q c) u
   where
     summary_by : Layout → (ℕ → Bool) → (ℕ → Bool) → (ℕ → Bool) → ℕ → GroupCounts
     summary_by v free p q c = record {
@@ -69,23 +86,37 @@ same_right v free a b d u c =
       fragments = (right_group_counts v free a c).fragments;
     }
 
-same_record : (v : Layout) (free : ℕ → Bool) (a b : ℕ → Class) → ((c : ℕ) → right_group_counts v free a c ≡ right_group_counts v free b c) → (c : ℕ) (bytes : List ℕ) → has_right_record v free a c bytes ≡ has_right_record v free b c bytes
+same_record : (v : Layout) (free : ℕ → Bool) (a b : ℕ → Class) →
+    ((c : ℕ) → right_group_counts v free a c ≡ right_group_counts v free b c) → (c : ℕ) (bytes : List ℕ) →
+    has_right_record v free a c bytes ≡ has_right_record v free b c bytes
 unfolding has_right_record
 same_record v free a b s c bytes = ap (λ (x : GroupCounts). has_summary v 0 bytes x) (s c)
 
-same_maps : (v : Layout) (free : ℕ → Bool) (a b : ℕ → Class) → is_used_inode a ≡ is_used_inode b → (c : ℕ) (block : List ℕ) → has_right_maps v free a c block ≡ has_right_maps v free b c block
+same_maps : (v : Layout) (free : ℕ → Bool) (a b : ℕ → Class) → is_used_inode a ≡ is_used_inode b →
+    (c : ℕ) (block : List ℕ) → has_right_maps v free a c block ≡ has_right_maps v free b c block
 unfolding has_right_maps
-same_maps v free a b u c block = ap (λ (q : ℕ → Bool). has_bits block (inode_map_place v block) v.ipg (λ k. q (c * v.ipg + k))
+same_maps v free a b u c block =
+    ap (λ (q : ℕ → Bool). has_bits block (inode_map_place v block) v.ipg (λ k. q (c * v.ipg + k))
     && has_bits block (fragment_map_place v block) (group_size v c) (λ k. free (cgbase v c + k))) u
 
-same_sums : (v : Layout) (free : ℕ → Bool) (a b : ℕ → Class) → ((c : ℕ) → right_group_counts v free a c ≡ right_group_counts v free b c) → (c : ℕ) (block : List ℕ) → has_right_sums v free a c block ≡ has_right_sums v free b c block
+same_sums : (v : Layout) (free : ℕ → Bool) (a b : ℕ → Class) →
+    ((c : ℕ) → right_group_counts v free a c ≡ right_group_counts v free b c) → (c : ℕ) (block : List ℕ) →
+    has_right_sums v free a c block ≡ has_right_sums v free b c block
 unfolding has_right_sums
-same_sums v free a b s c block = ap (λ (x : GroupCounts). u32_at v.order 12 block == c && (u32_at v.order 20 block == group_size v c
-    && (has_summary v 24 block x && all_below 8 (λ k. u32_at v.order (52 + 4 * k) block == right_frsum v free c k)))) (s c)
+same_sums v free a b s c block =
+    ap (λ (x : GroupCounts). u32_at v.order 12 block == c && (u32_at v.order 20 block == group_size v c
+    && (has_summary v 24 block x && all_below 8 (λ k. u32_at v.order (52 + 4 * k) block == right_frsum v free c k))))
+    (s c)
 
-same_group : (v : Layout) (image : List ℕ) (free : ℕ → Bool) (a b : ℕ → Class) → ((c : ℕ) → right_group_counts v free a c ≡ right_group_counts v free b c) → is_used_inode a ≡ is_used_inode b →
+same_group : (v : Layout) (image : List ℕ) (free : ℕ → Bool) (a b : ℕ → Class) →
+    ((c : ℕ) → right_group_counts v free a c ≡ right_group_counts v free b c) → is_used_inode a ≡ is_used_inode b →
     (c : ℕ) → group_lines v image free a c ≡ group_lines v image free b c
-same_group v image free a b s u c = rw (same_record v free a b s c (summary_record v image c), same_maps v free a b u c (group_block v image c), same_sums v free a b s c (group_block v image c)) refl
+same_group v image free a b s u c =
+    rw (
+      same_record v free a b s c (summary_record v image c),
+      same_maps v free a b u c (group_block v image c),
+      same_sums v free a b s c (group_block v image c),
+    ) refl
 
 total_by : Layout → (ℕ → GroupCounts) → GroupCounts
 total_by v right = record {
@@ -95,32 +126,44 @@ total_by v right = record {
   fragments = sum_by (λ c. (right c).fragments) (group_numbers v);
 }
 
-same_total : (v : Layout) (free : ℕ → Bool) (a b : ℕ → Class) (totals : List ℤ) → ((c : ℕ) → right_group_counts v free a c ≡ right_group_counts v free b c) → has_right_totals v free a totals ≡ has_right_totals v free b totals
+same_total : (v : Layout) (free : ℕ → Bool) (a b : ℕ → Class) (totals : List ℤ) →
+    ((c : ℕ) → right_group_counts v free a c ≡ right_group_counts v free b c) → has_right_totals v free a totals
+    ≡ has_right_totals v free b totals
 unfolding has_right_totals right_total total_by
 same_total v free a b totals s = ap (λ (f : ℕ → GroupCounts). has_totals totals (total_by v f)) (fun_ext s)
 
-same_phase5 : (v : Layout) (image : List ℕ) (totals : List ℤ) (free : ℕ → Bool) (a b : ℕ → Class) → is_dir_inode a ≡ is_dir_inode b → is_used_inode a ≡ is_used_inode b →
+same_phase5 : (v : Layout) (image : List ℕ) (totals : List ℤ) (free : ℕ → Bool) (a b : ℕ → Class) →
+    is_dir_inode a ≡ is_dir_inode b → is_used_inode a ≡ is_used_inode b →
     phase5_lines v image totals free a ≡ phase5_lines v image totals free b
 unfolding phase5_lines
 same_phase5 v image totals free a b d u =
-    ap (λ (f : ℕ → List BlockMessage). reported_once unreported (flat_map f (group_numbers v) ++ unless (has_right_totals v free a totals) FreeCounts))
+    ap (λ (f : ℕ → List BlockMessage). reported_once unreported
+    (flat_map f (group_numbers v) ++ unless (has_right_totals v free a totals) FreeCounts))
     (fun_ext (same_group v image free a b (same_right v free a b d u) u))
-    ∙ ap (λ (t : Bool). reported_once unreported (flat_map (group_lines v image free b) (group_numbers v) ++ unless t FreeCounts)) (same_total v free a b totals (same_right v free a b d u))
+    ∙ ap (λ (t : Bool). reported_once unreported
+    (flat_map (group_lines v image free b) (group_numbers v) ++ unless t FreeCounts))
+    (same_total v free a b totals (same_right v free a b d u))
 
 -- the lines of phase 5, by the kinds that a workspace holds
-pub by_kinds : (v : Layout) (image : List ℕ) (totals : List ℤ) (free : ℕ → Bool) (kinds : List ℕ) → ((x : ℕ) → slice_index kinds x ≡ kind_at v image x) →
+pub by_kinds : (v : Layout) (image : List ℕ) (totals : List ℤ) (free : ℕ → Bool) (kinds : List ℕ) →
+    ((x : ℕ) → slice_index kinds x ≡ kind_at v image x) →
     phase5_lines v image totals free (class_in kinds) ≡ phase5_lines v image totals free (class_at v image)
-by_kinds v image totals free kinds e = same_phase5 v image totals free (class_in kinds) (class_at v image) (dirs_same v image kinds e) (used_same v image kinds e)
+by_kinds v image totals free kinds e = same_phase5 v image totals free (class_in kinds) (class_at v image)
+    (dirs_same v image kinds e) (used_same v image kinds e)
 
 -- how many files and directories there are, by the kinds that a workspace holds
-pub files_are : (v : Layout) (image kinds : List ℕ) (files n : ℕ) → files ≡ count_by (λ x. is_file_or_dir (class_in kinds x)) (range_with_len 2 (n - 2)) → n ≡ v.ncg * v.ipg →
+pub files_are : (v : Layout) (image kinds : List ℕ) (files n : ℕ) →
+    files ≡ count_by (λ x. is_file_or_dir (class_in kinds x)) (range_with_len 2 (n - 2)) → n ≡ v.ncg * v.ipg →
     ((x : ℕ) → slice_index kinds x ≡ kind_at v image x) → files ≡ file_count v image
 unfolding file_count
 files_are v image kinds files n e len ks =
     e ∙ ap (λ j. count_by (λ x. is_file_or_dir (class_in kinds x)) (range_with_len 2 (j - 2))) len
-    ∙ ap (λ (p : ℕ → Bool). count_by p (range_with_len 2 (v.ncg * v.ipg - 2))) (fun_ext (λ x. ap (λ k. is_file_or_dir (class_of_kind k)) (ks x) ∙ same_test is_file_or_dir refl v image x))
+    ∙ ap (λ (p : ℕ → Bool). count_by p (range_with_len 2 (v.ncg * v.ipg - 2)))
+    (fun_ext (λ x. ap (λ k. is_file_or_dir (class_of_kind k)) (ks x) ∙ same_test is_file_or_dir refl v image x))
 
-pub used_are : (v : Layout) (image : List ℕ) (used : List Bool) (n : ℕ) → n ≡ count_by (λ f. is_set used f && not (is_reserved v f)) (range_with_len 0 v.size) →
+pub used_are : (v : Layout) (image : List ℕ) (used : List Bool) (n : ℕ) →
+    n ≡ count_by (λ f. is_set used f && not (is_reserved v f)) (range_with_len 0 v.size) →
     used ≡ (after_owners v (no_claims v) (owners_of v image)).used → n ≡ used_count v image
 unfolding used_count
-used_are v image used n e same = e ∙ ap (λ (u : List Bool). count_by (λ f. is_set u f && not (is_reserved v f)) (range_with_len 0 v.size)) same
+used_are v image used n e same = e
+    ∙ ap (λ (u : List Bool). count_by (λ f. is_set u f && not (is_reserved v f)) (range_with_len 0 v.size)) same

@@ -1,5 +1,6 @@
 -- What a workspace holds where only its windows have changed, and what is reported of an inode by it.
-use Rattle.std.proofs.Common.{◌≡◌, ℕ, ℤ, zero, suc, ◌+◌, ◌-◌, ◌<◌, ◌≤◌, Bool, true, false, List, [], ◌∷◌, ◌++◌, length, map, refl, ap, ◌∙◌, sym, slice_index, vec_len, arith}
+use Rattle.std.proofs.Common.{◌≡◌, ℕ, ℤ, zero, suc, ◌+◌, ◌-◌, ◌<◌, ◌≤◌, Bool, true, false, List, [], ◌∷◌, ◌++◌, length}
+use Rattle.std.proofs.Common.{map, refl, ap, ◌∙◌, sym, slice_index, vec_len, arith}
 use Rattle.std.specs.Prelude.{◌&&◌, ◌||◌, ◌==◌, not, if◌then◌else◌}
 use Rattle.std.specs.List.{slice_index_or}
 use Rattle.std.specs.declared.alloc.Global.{Global}
@@ -10,7 +11,8 @@ use Rattle.ffs_volume.specs.declared.Attr.{Attr}
 use Rattle.ffs_volume.specs.declared.Class.TheVariants.{Free, Unknown, File, Dir}
 use Rattle.ffs_volume.specs.declared.Inode.{Inode}
 use Rattle.ffs_volume.specs.Disk.Numbers.{equals_natural}
-use Rattle.ffs_volume.specs.Messages.Kinds.{NameMessage, of_names, lines_from, reported, dead_marked, dead_zero, unref, unref_unlinked, link_count}
+use Rattle.ffs_volume.specs.Messages.Kinds.{NameMessage, of_names, lines_from, reported, dead_marked, dead_zero, unref}
+use Rattle.ffs_volume.specs.Messages.Kinds.{unref_unlinked, link_count}
 use Rattle.ffs_volume.specs.Blocks.Inodes.{inode_of, is_allocated}
 use Rattle.ffs_volume.specs.Directories.Roles.{is_allocated_inode, is_suspect}
 use Rattle.ffs_volume.specs.Directories.PathnameCheck.{label_of, attributes}
@@ -26,45 +28,61 @@ use Rattle.ffs_counts.specs.References.{reference_reported, attr_with}
 use Rattle.ffs_volume.proofs.Numbered.{all_from}
 use Rattle.ffs_counts.proofs.Classes.{same_test}
 
-pub held_on : (old mid new : Workspace) → mid ≡ record old { windows = mid.windows } → new ≡ record mid { windows = new.windows } → new ≡ record old { windows = new.windows }
+pub held_on : (old mid new : Workspace) → mid ≡ record old { windows = mid.windows } →
+    new ≡ record mid { windows = new.windows } → new ≡ record old { windows = new.windows }
 held_on old mid new e f = f ∙ ap (λ (w : Workspace). record w { windows = new.windows }) e
 
 -- what a list with a place for each inode has of one
-pub item_at : {X : Type 0} (list : Vec X Global) (i n : ℕ) (x d : X) → x ≡ slice_index_or list.items i x → i < n → vec_len list ≡ n → x ≡ slice_index_or list.items i d
+pub item_at : {X : Type 0} (list : Vec X Global) (i n : ℕ) (x d : X) → x ≡ slice_index_or list.items i x → i < n →
+    vec_len list ≡ n → x ≡ slice_index_or list.items i d
 item_at list i n x d e low len = get_or_read list.items i x (omega (arith, list.ok.0)) e d
 
-pub inode_lines_are : (v : Layout) (b : List ℕ) (w : Workspace) (i : ℕ) (inode : Inode) (dead : Bool) → i < inodes_of v → HoldsClaims v b w → HoldsSurvey v b w → inode ≡ inode_of v b i →
-    dead ≡ ((bool_at w.marked.items i || is_empty_dir_kind (slice_index w.kinds.items i)) && (not (i == 2) && not (bool_at w.named.items i))) →
-    inode_lines (volume_of v b) i ≡ reference_reported dead (bool_at w.marked.items i) (label_of (class_of_kind (slice_index w.kinds.items i))) (attr_with i inode) inode.nlink (slice_index w.references.items i)
+pub inode_lines_are : (v : Layout) (b : List ℕ) (w : Workspace) (i : ℕ) (inode : Inode) (dead : Bool) → i < inodes_of v
+    → HoldsClaims v b w → HoldsSurvey v b w → inode ≡ inode_of v b i →
+    dead ≡ ((bool_at w.marked.items i || is_empty_dir_kind (slice_index w.kinds.items i))
+    && (not (i == 2) && not (bool_at w.named.items i))) →
+    inode_lines (volume_of v b) i ≡ reference_reported dead (bool_at w.marked.items i)
+    (label_of (class_of_kind (slice_index w.kinds.items i))) (attr_with i inode) inode.nlink
+    (slice_index w.references.items i)
 unfolding inode_lines attributes volume_of volume_with
 inode_lines_are v b w i inode dead low h s is e =
-    let suspect : (bool_at w.marked.items i || is_empty_dir_kind (slice_index w.kinds.items i)) ≡ (marked_at v b i || is_empty_dir_kind (kind_at v b i)) =
-    ap (λ m. m || is_empty_dir_kind (slice_index w.kinds.items i)) (h.marked i) ∙ ap (λ k. marked_at v b i || is_empty_dir_kind k) (h.kinds i) in
-    let is_dead_is : dead ≡ is_dead (volume_of v b) i = e ∙ ap (λ t. t && (not (i == 2) && not (bool_at w.named.items i))) (suspect ∙ sym (suspect_is v b i))
+    let suspect : (bool_at w.marked.items i || is_empty_dir_kind (slice_index w.kinds.items i))
+    ≡ (marked_at v b i || is_empty_dir_kind (kind_at v b i)) =
+    ap (λ m. m || is_empty_dir_kind (slice_index w.kinds.items i)) (h.marked i)
+    ∙ ap (λ k. marked_at v b i || is_empty_dir_kind k) (h.kinds i) in
+    let is_dead_is : dead ≡ is_dead (volume_of v b) i = e
+    ∙ ap (λ t. t && (not (i == 2) && not (bool_at w.named.items i))) (suspect ∙ sym (suspect_is v b i))
     ∙ ap (λ n. is_suspect (volume_of v b) i && (not (i == 2) && not n)) (s.named i low) in
-    let label : label_of (class_of_kind (slice_index w.kinds.items i)) ≡ label_of (class_at v b i) = ap (λ k. label_of (class_of_kind k)) (h.kinds i) ∙ same_test label_of refl v b i in
+    let label : label_of (class_of_kind (slice_index w.kinds.items i)) ≡ label_of (class_at v b i) =
+    ap (λ k. label_of (class_of_kind k)) (h.kinds i) ∙ same_test label_of refl v b i in
     rw (is_dead_is, h.marked i, label, is, s.references i low) refl
 
 -- whether an inode is allocated, by the kind that a workspace holds
-kind_tests : (free unknown dir : Bool) → is_allocated (if free then Free else (if unknown then Unknown else (if dir then Dir else File))) ≡ not free
+kind_tests : (free unknown dir : Bool) →
+    is_allocated (if free then Free else (if unknown then Unknown else (if dir then Dir else File))) ≡ not free
 kind_tests true unknown dir = refl
 kind_tests false true dir = refl
 kind_tests false false true = refl
 kind_tests false false false = refl
 
-allocated_is : (v : Layout) (b : List ℕ) (w : Workspace) (i : ℕ) → HoldsClaims v b w → is_allocated_inode (volume_of v b) i ≡ is_allocated (class_of_kind (slice_index w.kinds.items i))
+allocated_is : (v : Layout) (b : List ℕ) (w : Workspace) (i : ℕ) → HoldsClaims v b w →
+    is_allocated_inode (volume_of v b) i ≡ is_allocated (class_of_kind (slice_index w.kinds.items i))
 allocated_is v b w i h =
     let k = slice_index w.kinds.items i in
     some_is v b i ∙ ap is_allocated_kind (sym (h.kinds i)) ∙ sym (kind_tests (k == 0) (k == 15) (is_dir_kind k))
 
-pub no_lines : (v : Layout) (b : List ℕ) (w : Workspace) (i : ℕ) → HoldsClaims v b w → is_allocated (class_of_kind (slice_index w.kinds.items i)) ≡ false → counted_lines (volume_of v b) i ≡ []
+pub no_lines : (v : Layout) (b : List ℕ) (w : Workspace) (i : ℕ) → HoldsClaims v b w →
+    is_allocated (class_of_kind (slice_index w.kinds.items i)) ≡ false → counted_lines (volume_of v b) i ≡ []
 no_lines v b w i h e = ap (λ t. if t then inode_lines (volume_of v b) i else []) (allocated_is v b w i h ∙ e)
 
-pub some_lines : (v : Layout) (b : List ℕ) (w : Workspace) (i : ℕ) → HoldsClaims v b w → is_allocated (class_of_kind (slice_index w.kinds.items i)) ≡ true → inode_lines (volume_of v b) i ≡ counted_lines (volume_of v b) i
+pub some_lines : (v : Layout) (b : List ℕ) (w : Workspace) (i : ℕ) → HoldsClaims v b w →
+    is_allocated (class_of_kind (slice_index w.kinds.items i)) ≡ true →
+    inode_lines (volume_of v b) i ≡ counted_lines (volume_of v b) i
 some_lines v b w i h e = ap (λ t. if t then inode_lines (volume_of v b) i else []) (sym (allocated_is v b w i h ∙ e))
 
 -- free inodes have no lines: those of the numbers from d on are those of the numbers after them
-skip_none : (lines : ℕ → List NameMessage) (k d n : ℕ) → ((j : ℕ) → j < k → lines (d + j) ≡ []) → lines_from lines d (k + n) ≡ lines_from lines (d + k) n
+skip_none : (lines : ℕ → List NameMessage) (k d n : ℕ) → ((j : ℕ) → j < k → lines (d + j) ≡ []) →
+    lines_from lines d (k + n) ≡ lines_from lines (d + k) n
 unfolding lines_from
 skip_none lines zero d n none =
     let q : d ≡ d + 0 = omega arith in
@@ -77,28 +95,38 @@ skip_none lines (suc k) d n none =
     (λ j h. let q : suc d + j ≡ d + suc j = omega arith in ap lines q ∙ none (suc j) (omega (arith, h))) in
     let at : suc d + k ≡ d + suc k = omega arith in
     let more : suc k + n ≡ suc (k + n) = omega arith in
-    ap (lines_from lines d) more ∙ ap (λ (xs : List NameMessage). xs ++ lines_from lines (suc d) (k + n)) first ∙ rest ∙ ap (λ (e : ℕ). lines_from lines e n) at
+    ap (lines_from lines d) more ∙ ap (λ (xs : List NameMessage). xs ++ lines_from lines (suc d) (k + n)) first ∙ rest
+    ∙ ap (λ (e : ℕ). lines_from lines e n) at
 
-pub free_lines : (v : Layout) (b : List ℕ) (w : Workspace) (kinds : List ℕ) (d k n : ℕ) → HoldsClaims v b w → kinds ≡ w.kinds.items →
+pub free_lines : (v : Layout) (b : List ℕ) (w : Workspace) (kinds : List ℕ) (d k n : ℕ) → HoldsClaims v b w →
+    kinds ≡ w.kinds.items →
     ((j : ℕ) → j < k → is_allocated (class_of_kind (slice_index kinds (d + j))) ≡ false) → d + k ≤ n →
-    map of_names (lines_from (counted_lines (volume_of v b)) d (n - d)) ≡ map of_names (lines_from (counted_lines (volume_of v b)) (d + k) (n - (d + k)))
+    map of_names (lines_from (counted_lines (volume_of v b)) d (n - d))
+    ≡ map of_names (lines_from (counted_lines (volume_of v b)) (d + k) (n - (d + k)))
 free_lines v b w kinds d k n h e none low =
     let q : n - d ≡ k + (n - (d + k)) = omega (arith, low) in
     ap (λ (m : ℕ). map of_names (lines_from (counted_lines (volume_of v b)) d m)) q
     ∙ ap (λ (xs : List NameMessage). map of_names xs)
-    (skip_none (counted_lines (volume_of v b)) k d (n - (d + k)) (λ j l. no_lines v b w (d + j) h (ap (λ (ks : List ℕ). is_allocated (class_of_kind (slice_index ks (d + j)))) (sym e) ∙ none j l)))
+    (skip_none (counted_lines (volume_of v b)) k d (n - (d + k))
+    (λ j l. no_lines v b w (d + j) h
+    (ap (λ (ks : List ℕ). is_allocated (class_of_kind (slice_index ks (d + j)))) (sym e) ∙ none j l)))
 
 pub same_reported : (dead m m' : Bool) (k k' : ℕ) (attr : Attr) (nlink : ℤ) (r r' : ℕ) → m ≡ m' → k ≡ k' → r ≡ r' →
-    reference_reported dead m' (label_of (class_of_kind k')) attr nlink r' ≡ reference_reported dead m (label_of (class_of_kind k)) attr nlink r
+    reference_reported dead m' (label_of (class_of_kind k')) attr nlink r'
+    ≡ reference_reported dead m (label_of (class_of_kind k)) attr nlink r
 same_reported dead m m' k k' attr nlink r r' e f g = rw (e, f, g) refl
 
-pub lines_begin : (v : Layout) (b : List ℕ) → map of_names (reference_lines (volume_of v b)) ≡ map of_names (lines_from (counted_lines (volume_of v b)) 0 (inodes_of v - 0))
+pub lines_begin : (v : Layout) (b : List ℕ) → map of_names (reference_lines (volume_of v b))
+    ≡ map of_names (lines_from (counted_lines (volume_of v b)) 0 (inodes_of v - 0))
 unfolding reference_lines volume_of volume_with
-lines_begin v b = ap (λ (ls : List NameMessage). map of_names ls) (all_from (counted_lines (volume_of v b)) (inodes_of v))
+lines_begin v b = ap (λ (ls : List NameMessage). map of_names ls)
+    (all_from (counted_lines (volume_of v b)) (inodes_of v))
 
 -- there is one message, or none where an inode isn't dead, is referred to, and has a link for each reference
 one_reported : (dead m never none same : Bool) (a b c d e : NameMessage) →
-    length (if dead then (if m then a ∷ [] else b ∷ []) else (if never then (if none then c ∷ [] else d ∷ []) else reported (not same) e)) ≡ (if same && (not never && not dead) then 0 else 1)
+    length (if dead then (if m then a ∷ [] else b ∷ [])
+    else (if never then (if none then c ∷ [] else d ∷ []) else reported (not same) e))
+    ≡ (if same && (not never && not dead) then 0 else 1)
 one_reported true true true none true a b c d e = refl
 one_reported true true false none true a b c d e = refl
 one_reported true false true none true a b c d e = refl
@@ -112,8 +140,10 @@ one_reported false m true false false a b c d e = refl
 one_reported false m false none true a b c d e = refl
 one_reported false m false none false a b c d e = refl
 
-pub right_lines : (v : Layout) (b : List ℕ) (w : Workspace) (i r : ℕ) (dead same : Bool) → i < inodes_of v → HoldsClaims v b w → HoldsSurvey v b w →
-    dead ≡ ((bool_at w.marked.items i || is_empty_dir_kind (slice_index w.kinds.items i)) && (not (i == 2) && not (bool_at w.named.items i))) →
+pub right_lines : (v : Layout) (b : List ℕ) (w : Workspace) (i r : ℕ) (dead same : Bool) → i < inodes_of v →
+    HoldsClaims v b w → HoldsSurvey v b w →
+    dead ≡ ((bool_at w.marked.items i || is_empty_dir_kind (slice_index w.kinds.items i))
+    && (not (i == 2) && not (bool_at w.named.items i))) →
     r ≡ slice_index w.references.items i → same ≡ equals_natural (inode_of v b i).nlink r →
     length (inode_lines (volume_of v b) i) ≡ (if same && (not (r == 0) && not dead) then 0 else 1)
 right_lines v b w i r dead same low h s is refs counted =

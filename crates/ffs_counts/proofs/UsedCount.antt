@@ -1,5 +1,6 @@
 -- The fragments of a group that are claimed beside the reserved ones.
-use Rattle.std.proofs.Common.{◌≡◌, ◌⊎◌, inl, inr, ℕ, zero, suc, ◌+◌, ◌-◌, ◌*◌, ◌<◌, ◌≤◌, Bool, true, false, cond, not, ◌&&◌, ◌||◌, nat_lt, nat_le, List, count_by, min, arith, refl, ap, ◌∙◌, sym}
+use Rattle.std.proofs.Common.{◌≡◌, ◌⊎◌, inl, inr, ℕ, zero, suc, ◌+◌, ◌-◌, ◌*◌, ◌<◌, ◌≤◌, Bool, true, false, cond, not}
+use Rattle.std.proofs.Common.{◌&&◌, ◌||◌, nat_lt, nat_le, List, count_by, min, arith, refl, ap, ◌∙◌, sym}
 use Rattle.std.specs.List.{range_with_len, sum_by}
 use Rattle.std.specs.Int.{div_ceil}
 use Rattle.std.proofs.Math.Nat.{mul_comm}
@@ -65,20 +66,23 @@ first_reserved v f g h = elim (cases_lt f v.csaddr) [
   | inr past ↦ any_of _ _ (is_group_metadata v f) (inr (both_are _ _ (from_ v.csaddr f past) (before f _ h)))
 ]
 
-kept_in : (v : Layout) (c f : ℕ) → IsValidLayout v → cgbase v c ≤ f → f < cgbase v (c + 1) → is_group_metadata v f ≡ (nat_lt c v.ncg && in_kept v c f)
+kept_in : (v : Layout) (c f : ℕ) → IsValidLayout v → cgbase v c ≤ f → f < cgbase v (c + 1) →
+    is_group_metadata v f ≡ (nat_lt c v.ncg && in_kept v c f)
 kept_in v c f g low high = is_kept_group v f g ∙ ap (λ j. nat_lt j v.ncg && in_kept v j f) (group_is v c f low high)
 
 pub base_zero : (v : Layout) → cgbase v 0 ≡ 0
 unfolding cgbase
 base_zero v = omega arith
 
-first_free : (v : Layout) (f : ℕ) → IsValidLayout v → v.csaddr + div_ceil v.cssize v.fsize ≤ f → f < cgbase v (0 + 1) → is_reserved v f ≡ false
+first_free : (v : Layout) (f : ℕ) → IsValidLayout v → v.csaddr + div_ceil v.cssize v.fsize ≤ f → f < cgbase v (0 + 1) →
+    is_reserved v f ≡ false
 unfolding is_reserved
 first_free v f g low high =
     none_of _ _ (is_group_metadata v f)
     (not_before f (cgdmin v 0) (omega (arith, low, g.summary.csaddr)))
     (second_not _ _ (not_before f _ low))
-    (kept_in v 0 f g (omega (arith, base_zero v)) high ∙ second_not _ _ (second_not _ _ (not_before f (cgdmin v 0) (omega (arith, low, g.summary.csaddr)))))
+    (kept_in v 0 f g (omega (arith, base_zero v)) high
+    ∙ second_not _ _ (second_not _ _ (not_before f (cgdmin v 0) (omega (arith, low, g.summary.csaddr)))))
 
 base_up : (v : Layout) (c : ℕ) → 1 ≤ c → cgbase v 1 ≤ cgbase v c
 unfolding cgbase
@@ -89,22 +93,31 @@ unfolding cgstart
 parts_up v c = omega arith
 
 -- in any other group, the part that it keeps
-group_reserved : (v : Layout) (c f : ℕ) → IsValidLayout v → c < v.ncg → cgsblock v c ≤ f → f < cgdmin v c → is_reserved v f ≡ true
+group_reserved : (v : Layout) (c f : ℕ) → IsValidLayout v → c < v.ncg → cgsblock v c ≤ f → f < cgdmin v c →
+    is_reserved v f ≡ true
 unfolding is_reserved
 group_reserved v c f g h low high =
     let group = g.groups c h in
     let kept : is_group_metadata v f ≡ true =
-    kept_in v c f g (omega (arith, parts_up v c, low)) (omega (arith, high, group.within_group)) ∙ both_are (nat_lt c v.ncg) (in_kept v c f) (before c v.ncg h) (both_are (nat_le (cgsblock v c) f) (nat_lt f (cgdmin v c)) (from_ (cgsblock v c) f low) (before f (cgdmin v c) high)) in
-    ap (λ k. (nat_lt f (cgdmin v 0) || (nat_le v.csaddr f && nat_lt f (v.csaddr + div_ceil v.cssize v.fsize))) || k) kept
+    kept_in v c f g (omega (arith, parts_up v c, low)) (omega (arith, high, group.within_group))
+    ∙ both_are (nat_lt c v.ncg) (in_kept v c f) (before c v.ncg h)
+    (both_are (nat_le (cgsblock v c) f) (nat_lt f (cgdmin v c)) (from_ (cgsblock v c) f low)
+    (before f (cgdmin v c) high)) in
+    ap (λ k. (nat_lt f (cgdmin v 0) || (nat_le v.csaddr f && nat_lt f (v.csaddr + div_ceil v.cssize v.fsize))) || k)
+    kept
     ∙ last_of (nat_lt f (cgdmin v 0)) (nat_le v.csaddr f && nat_lt f (v.csaddr + div_ceil v.cssize v.fsize))
 
-group_free : (v : Layout) (c f : ℕ) → IsValidLayout v → 1 ≤ c → cgbase v c ≤ f → f < cgbase v (c + 1) → (f < cgsblock v c) ⊎ (cgdmin v c ≤ f) → is_reserved v f ≡ false
+group_free : (v : Layout) (c f : ℕ) → IsValidLayout v → 1 ≤ c → cgbase v c ≤ f → f < cgbase v (c + 1) →
+    (f < cgsblock v c) ⊎ (cgdmin v c ≤ f) → is_reserved v f ≡ false
 unfolding is_reserved
 group_free v c f g some low high apart =
-    let past_summary : v.csaddr + div_ceil v.cssize v.fsize ≤ f = omega (arith, g.summary.summary_in_group, base_up v c some, low) in
-    none_of (nat_lt f (cgdmin v 0)) (nat_le v.csaddr f && nat_lt f (v.csaddr + div_ceil v.cssize v.fsize)) (is_group_metadata v f)
+    let past_summary : v.csaddr + div_ceil v.cssize v.fsize ≤ f =
+    omega (arith, g.summary.summary_in_group, base_up v c some, low) in
+    none_of (nat_lt f (cgdmin v 0)) (nat_le v.csaddr f && nat_lt f (v.csaddr + div_ceil v.cssize v.fsize))
+    (is_group_metadata v f)
     (not_before f (cgdmin v 0) (omega (arith, past_summary, g.summary.csaddr)))
-    (second_not (nat_le v.csaddr f) (nat_lt f (v.csaddr + div_ceil v.cssize v.fsize)) (not_before f (v.csaddr + div_ceil v.cssize v.fsize) past_summary))
+    (second_not (nat_le v.csaddr f) (nat_lt f (v.csaddr + div_ceil v.cssize v.fsize))
+    (not_before f (v.csaddr + div_ceil v.cssize v.fsize) past_summary))
     (kept_in v c f g low high ∙ second_not (nat_lt c v.ncg) (in_kept v c f) (elim apart [
       | inl under ↦ first_not (nat_le (cgsblock v c) f) (nat_lt f (cgdmin v c)) (not_from (cgsblock v c) f under)
       | inr past ↦ second_not (nat_le (cgsblock v c) f) (nat_lt f (cgdmin v c)) (not_before f (cgdmin v c) past)
@@ -123,51 +136,70 @@ counted_free : (v : Layout) (used : List Bool) (a n : ℕ) → ((k : ℕ) → k 
     count_by (λ f. is_set used f) (range_with_len a n) ≡ count_by (is_used v used) (range_with_len a n)
 counted_free v used a n free =
     sum_same (λ f. cond (is_set used f) 1 0) (λ f. cond (is_used v used f) 1 0) a a n
-    (λ k h. ap (λ b. cond b 1 0) (sym (ap (λ r. is_set used (a + k) && not r) (free k h) ∙ and_true (is_set used (a + k)))))
+    (λ k h. ap (λ b. cond b 1 0)
+    (sym (ap (λ r. is_set used (a + k) && not r) (free k h) ∙ and_true (is_set used (a + k)))))
 
-none_reserved : (v : Layout) (used : List Bool) (a n : ℕ) → ((k : ℕ) → k < n → is_reserved v (a + k) ≡ true) → 0 ≡ count_by (is_used v used) (range_with_len a n)
+none_reserved : (v : Layout) (used : List Bool) (a n : ℕ) → ((k : ℕ) → k < n → is_reserved v (a + k) ≡ true)
+    → 0 ≡ count_by (is_used v used) (range_with_len a n)
 none_reserved v used a n all =
     let none : sum_by (λ f. cond (is_used v used f) 1 0) (range_with_len a n) ≡ n * 0 =
-    sum_const (λ f. cond (is_used v used f) 1 0) 0 a n (λ k h. ap (λ b. cond b 1 0) (ap (λ r. is_set used (a + k) && not r) (all k h) ∙ and_false (is_set used (a + k)))) in
+    sum_const (λ f. cond (is_used v used f) 1 0) 0 a n
+    (λ k h. ap (λ b. cond b 1 0)
+    (ap (λ r. is_set used (a + k) && not r) (all k h) ∙ and_false (is_set used (a + k)))) in
     omega (arith, none)
 
 -- ---- a group
-pub used_first : (v : Layout) (used : List Bool) (start end n : ℕ) → IsValidLayout v → start ≡ v.csaddr + div_ceil v.cssize v.fsize → end ≤ cgbase v (0 + 1) → start ≤ end →
-    n ≡ count_by (λ f. is_set used f) (range_with_len start (end - start)) → n ≡ count_by (is_used v used) (range_with_len 0 (end - 0))
+pub used_first : (v : Layout) (used : List Bool) (start end n : ℕ) → IsValidLayout v →
+    start ≡ v.csaddr + div_ceil v.cssize v.fsize → end ≤ cgbase v (0 + 1) → start ≤ end →
+    n ≡ count_by (λ f. is_set used f) (range_with_len start (end - start)) →
+    n ≡ count_by (is_used v used) (range_with_len 0 (end - 0))
 used_first v used start end n g is within order counted =
     let before_ : 0 ≡ count_by (is_used v used) (range_with_len 0 (start - 0)) =
     none_reserved v used 0 (start - 0) (λ k h. first_reserved v (0 + k) g (omega (arith, is, h))) in
     let rest : n ≡ count_by (is_used v used) (range_with_len start (end - start)) =
-    counted ∙ counted_free v used start (end - start) (λ k h. first_free v (start + k) g (omega (arith, is)) (omega (arith, h, within))) in
+    counted ∙ counted_free v used start (end - start)
+    (λ k h. first_free v (start + k) g (omega (arith, is)) (omega (arith, h, within))) in
     let whole : 0 + n ≡ count_by (is_used v used) (range_with_len 0 (end - 0)) =
     count_join_at (is_used v used) 0 start end (end - start) 0 n (omega arith) (omega (arith, order)) before_ rest in
     omega (arith, whole)
 
-pub used_other : (v : Layout) (used : List Bool) (c end x y : ℕ) → IsValidLayout v → c < v.ncg → 1 ≤ c → end ≤ cgbase v (c + 1) → cgdmin v c ≤ end →
+pub used_other : (v : Layout) (used : List Bool) (c end x y : ℕ) → IsValidLayout v → c < v.ncg → 1 ≤ c →
+    end ≤ cgbase v (c + 1) → cgdmin v c ≤ end →
     x ≡ count_by (λ f. is_set used f) (range_with_len (cgbase v c) (cgsblock v c - cgbase v c)) →
-    y ≡ count_by (λ f. is_set used f) (range_with_len (cgdmin v c) (end - cgdmin v c)) → x + y ≡ count_by (is_used v used) (range_with_len (cgbase v c) (end - cgbase v c))
+    y ≡ count_by (λ f. is_set used f) (range_with_len (cgdmin v c) (end - cgdmin v c)) →
+    x + y ≡ count_by (is_used v used) (range_with_len (cgbase v c) (end - cgbase v c))
 used_other v used c end x y g h some within order counted counted' =
     let group = g.groups c h in
     let up = parts_up v c in
     let low : cgsblock v c ≤ cgdmin v c = omega (arith, g.parts.super_fits, g.parts.block_fits, g.parts.inodes_fit) in
     let under : x ≡ count_by (is_used v used) (range_with_len (cgbase v c) (cgsblock v c - cgbase v c)) =
     counted ∙ counted_free v used (cgbase v c) (cgsblock v c - cgbase v c)
-    (λ k l. group_free v c (cgbase v c + k) g some (omega arith) (omega (arith, l, low, group.within_group)) (inl (omega (arith, l)))) in
+    (λ k l. group_free v c (cgbase v c + k) g some (omega arith) (omega (arith, l, low, group.within_group))
+    (inl (omega (arith, l)))) in
     let kept : 0 ≡ count_by (is_used v used) (range_with_len (cgsblock v c) (cgdmin v c - cgsblock v c)) =
-    none_reserved v used (cgsblock v c) (cgdmin v c - cgsblock v c) (λ k l. group_reserved v c (cgsblock v c + k) g h (omega arith) (omega (arith, l))) in
+    none_reserved v used (cgsblock v c) (cgdmin v c - cgsblock v c)
+    (λ k l. group_reserved v c (cgsblock v c + k) g h (omega arith) (omega (arith, l))) in
     let past : y ≡ count_by (is_used v used) (range_with_len (cgdmin v c) (end - cgdmin v c)) =
     counted' ∙ counted_free v used (cgdmin v c) (end - cgdmin v c)
-    (λ k l. group_free v c (cgdmin v c + k) g some (omega (arith, low, up)) (omega (arith, l, within)) (inr (omega arith))) in
+    (λ k l. group_free v c (cgdmin v c + k) g some (omega (arith, low, up)) (omega (arith, l, within))
+    (inr (omega arith))) in
     let first : x + 0 ≡ count_by (is_used v used) (range_with_len (cgbase v c) (cgdmin v c - cgbase v c)) =
-    count_join_at (is_used v used) (cgbase v c) (cgsblock v c) (cgdmin v c) (cgdmin v c - cgsblock v c) x 0 up (omega (arith, low)) under kept in
+    count_join_at (is_used v used) (cgbase v c) (cgsblock v c) (cgdmin v c) (cgdmin v c - cgsblock v c) x 0 up
+    (omega (arith, low)) under kept in
     let whole : x + 0 + y ≡ count_by (is_used v used) (range_with_len (cgbase v c) (end - cgbase v c)) =
-    count_join_at (is_used v used) (cgbase v c) (cgdmin v c) end (end - cgdmin v c) (x + 0) y (omega (arith, up, low)) (omega (arith, order)) first past in
+    count_join_at (is_used v used) (cgbase v c) (cgdmin v c) end (end - cgdmin v c) (x + 0) y (omega (arith, up, low))
+    (omega (arith, order)) first past in
     omega (arith, whole)
 
 -- ---- the groups one after the other
 pub base_within : (v : Layout) (c : ℕ) → IsValidLayout v → c < v.ncg → min (cgbase v c) v.size ≡ cgbase v c
 unfolding cgbase
-base_within v c g h = omega (arith, g.numbers.size_above, mul-le c v.fpg (v.ncg - 1) v.fpg (omega arith) (omega arith), mul_comm c v.fpg)
+base_within v c g h = omega (
+  arith,
+  g.numbers.size_above,
+  mul-le c v.fpg (v.ncg - 1) v.fpg (omega arith) (omega arith),
+  mul_comm c v.fpg,
+)
 
 pub groups_begin : (v : Layout) → min (cgbase v 0) v.size ≡ 0
 groups_begin v = omega (arith, base_zero v)
@@ -181,51 +213,64 @@ unfolding cgbase
 base_order v c = omega (arith, mul-le v.fpg c v.fpg (c + 1) (omega arith) (omega arith))
 
 pub group_more : (v : Layout) (used : List Bool) (c x y : ℕ) → IsValidLayout v → c < v.ncg →
-    x ≡ count_by (is_used v used) (range_with_len 0 (min (cgbase v c) v.size)) → y ≡ count_by (is_used v used) (range_with_len (cgbase v c) (group_size v c)) →
+    x ≡ count_by (is_used v used) (range_with_len 0 (min (cgbase v c) v.size)) →
+    y ≡ count_by (is_used v used) (range_with_len (cgbase v c) (group_size v c)) →
     x + y ≡ count_by (is_used v used) (range_with_len 0 (min (cgbase v (c + 1)) v.size))
 group_more v used c x y g h counted counted' =
     let at = base_within v c g h in
     let from_zero : cgbase v c - 0 ≡ cgbase v c = omega arith in
     let end : min (cgbase v (c + 1)) v.size - 0 ≡ min (cgbase v (c + 1)) v.size = omega arith in
-    count_join_at (is_used v used) 0 (cgbase v c) (min (cgbase v (c + 1)) v.size) (group_size v c) x y (omega arith) (omega (arith, at, base_order v c))
+    count_join_at (is_used v used) 0 (cgbase v c) (min (cgbase v (c + 1)) v.size) (group_size v c) x y (omega arith)
+    (omega (arith, at, base_order v c))
     (counted ∙ ap (λ j. count_by (is_used v used) (range_with_len 0 j)) (at ∙ sym from_zero)) counted'
     ∙ ap (λ j. count_by (is_used v used) (range_with_len 0 j)) end
 
 -- the parts of a group, in their order
-pub parts_order : (v : Layout) (c : ℕ) → IsValidLayout v → c < v.ncg → (cgbase v c ≤ cgsblock v c) × (cgsblock v c ≤ cgdmin v c)
+pub parts_order : (v : Layout) (c : ℕ) → IsValidLayout v → c < v.ncg → (cgbase v c ≤ cgsblock v c)
+    × (cgsblock v c ≤ cgdmin v c)
 parts_order v c g h = (parts_up v c, omega (arith, g.parts.super_fits, g.parts.block_fits, g.parts.inodes_fit))
 
 -- where a group ends
-pub group_ends : (v : Layout) (c base n end : ℕ) → IsValidLayout v → c < v.ncg → base ≡ cgbase v c → n ≡ group_size v c → end ≡ base + n → end ≡ min (cgbase v (c + 1)) v.size
+pub group_ends : (v : Layout) (c base n end : ℕ) → IsValidLayout v → c < v.ncg → base ≡ cgbase v c → n ≡ group_size v c
+    → end ≡ base + n → end ≡ min (cgbase v (c + 1)) v.size
 group_ends v c base n end g h e f k = omega (arith, e, f, k, base_within v c g h, base_order v c)
 
-counted_at : (v : Layout) (used : List Bool) (n a b x y : ℕ) → n ≡ count_by (is_used v used) (range_with_len a b) → a ≡ x → b ≡ y → n ≡ count_by (is_used v used) (range_with_len x y)
-counted_at v used n a b x y e f g = e ∙ ap (λ j. count_by (is_used v used) (range_with_len j b)) f ∙ ap (λ j. count_by (is_used v used) (range_with_len x j)) g
+counted_at : (v : Layout) (used : List Bool) (n a b x y : ℕ) → n ≡ count_by (is_used v used) (range_with_len a b) →
+    a ≡ x → b ≡ y → n ≡ count_by (is_used v used) (range_with_len x y)
+counted_at v used n a b x y e f g = e ∙ ap (λ j. count_by (is_used v used) (range_with_len j b)) f
+    ∙ ap (λ j. count_by (is_used v used) (range_with_len x j)) g
 
 -- what the code counts, in group 0 and in another
-pub first_group : (v : Layout) (used : List Bool) (c base m start n : ℕ) → IsValidLayout v → c < v.ncg → c ≡ 0 → base ≡ cgbase v c → m ≡ group_size v c →
-    start ≡ v.csaddr + div_ceil v.cssize v.fsize → n ≡ count_by (λ f. is_set used f) (range_with_len start (base + m - start)) →
+pub first_group : (v : Layout) (used : List Bool) (c base m start n : ℕ) → IsValidLayout v → c < v.ncg → c ≡ 0 →
+    base ≡ cgbase v c → m ≡ group_size v c →
+    start ≡ v.csaddr + div_ceil v.cssize v.fsize →
+    n ≡ count_by (λ f. is_set used f) (range_with_len start (base + m - start)) →
     n ≡ count_by (is_used v used) (range_with_len (cgbase v c) (group_size v c))
 first_group v used c base m start n g h z e f is counted =
     let end : base + m ≡ min (cgbase v (c + 1)) v.size = group_ends v c base m (base + m) g h e f refl in
     let next : cgbase v (c + 1) ≡ cgbase v (0 + 1) = ap (λ j. cgbase v (j + 1)) z in
     let zero_ : cgbase v c ≡ 0 = ap (cgbase v) z ∙ base_zero v in
     counted_at v used n 0 (base + m - 0) (cgbase v c) (group_size v c)
-    (used_first v used start (base + m) n g is (omega (arith, end, next)) (omega (arith, end, next, is, g.summary.summary_in_group, g.summary.summary_in_size)) counted)
+    (used_first v used start (base + m) n g is (omega (arith, end, next))
+    (omega (arith, end, next, is, g.summary.summary_in_group, g.summary.summary_in_size)) counted)
     (sym zero_) (omega (arith, e, f, zero_))
 
-pub other_group : (v : Layout) (used : List Bool) (c base m first past x y : ℕ) → IsValidLayout v → c < v.ncg → (c ≡ 0 → ⊥) → base ≡ cgbase v c → m ≡ group_size v c →
+pub other_group : (v : Layout) (used : List Bool) (c base m first past x y : ℕ) → IsValidLayout v → c < v.ncg →
+    (c ≡ 0 → ⊥) → base ≡ cgbase v c → m ≡ group_size v c →
     first ≡ cgsblock v c → past ≡ cgdmin v c → x ≡ count_by (λ f. is_set used f) (range_with_len base (first - base)) →
-    y ≡ count_by (λ f. is_set used f) (range_with_len past (base + m - past)) → x + y ≡ count_by (is_used v used) (range_with_len (cgbase v c) (group_size v c))
+    y ≡ count_by (λ f. is_set used f) (range_with_len past (base + m - past)) →
+    x + y ≡ count_by (is_used v used) (range_with_len (cgbase v c) (group_size v c))
 other_group v used c base m first past x y g h apart e f is is' counted counted' =
     let end : base + m ≡ min (cgbase v (c + 1)) v.size = group_ends v c base m (base + m) g h e f refl in
     let group = g.groups c h in
     let low : x ≡ count_by (λ j. is_set used j) (range_with_len (cgbase v c) (cgsblock v c - cgbase v c)) =
-    counted ∙ ap (λ j. count_by (λ i. is_set used i) (range_with_len j (first - j))) e ∙ ap (λ j. count_by (λ i. is_set used i) (range_with_len (cgbase v c) (j - cgbase v c))) is in
+    counted ∙ ap (λ j. count_by (λ i. is_set used i) (range_with_len j (first - j))) e
+    ∙ ap (λ j. count_by (λ i. is_set used i) (range_with_len (cgbase v c) (j - cgbase v c))) is in
     let high : y ≡ count_by (λ j. is_set used j) (range_with_len (cgdmin v c) (base + m - cgdmin v c)) =
     counted' ∙ ap (λ j. count_by (λ i. is_set used i) (range_with_len j (base + m - j))) is' in
     counted_at v used (x + y) (cgbase v c) (base + m - cgbase v c) (cgbase v c) (group_size v c)
-    (used_other v used c (base + m) x y g h (omega (arith, some c apart)) (omega (arith, end)) (omega (arith, end, group.within_group, group.within_size)) low high)
+    (used_other v used c (base + m) x y g h (omega (arith, some c apart)) (omega (arith, end))
+    (omega (arith, end, group.within_group, group.within_size)) low high)
     refl (omega (arith, e, f))
   where
     some : (c : ℕ) → (c ≡ 0 → ⊥) → 1 ≤ c

@@ -18,7 +18,13 @@ reference_reported dead marked label attr nlink refs =
 
 -- what messages show of an inode
 abbrev pub attr_with : ℕ → Inode → Attr
-attr_with number inode = record { number = number; uid = inode.uid; mode = inode.mode; size = inode.size; mtime = inode.mtime }
+attr_with number inode = record {
+  number = number;
+  uid = inode.uid;
+  mode = inode.mode;
+  size = inode.size;
+  mtime = inode.mtime;
+}
 
 -- a line, if there is one
 abbrev pub lines_as : Option ReferenceLine → List NameMessage

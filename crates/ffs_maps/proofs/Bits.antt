@@ -1,29 +1,36 @@
-use Rattle.std.proofs.Common.{◌≡◌, ◌≢◌, inl, inr, ℕ, zero, suc, ◌+◌, ◌-◌, ◌*◌, ◌/◌, ◌%◌, ◌^◌, ◌<◌, Bool, true, false, List, length, get_or, nat_eq, slice_set, replicate, bit_or, bit_and, arith, rules, refl, ap, ◌∙◌, sym, length-set}
+use Rattle.std.proofs.Common.{◌≡◌, ◌≢◌, inl, inr, ℕ, zero, suc, ◌+◌, ◌-◌, ◌*◌, ◌/◌, ◌%◌, ◌^◌, ◌<◌, Bool, true, false}
+use Rattle.std.proofs.Common.{List, length, get_or, nat_eq, slice_set, replicate, bit_or, bit_and, arith, rules, refl}
+use Rattle.std.proofs.Common.{ap, ◌∙◌, sym, length-set}
 use Rattle.std.specs.Int.{bit_at, w64, bit_not}
 use Rattle.std.proofs.lemmas.List.{same_lists, get_or-set_other, get_or-set_same, get_or-replicate, length-replicate}
 use Rattle.std.proofs.lemmas.List.FromFn.{length-map-range_with_len, get_or-map-range_with_len}
 use Rattle.std.proofs.lemmas.Bool.{cases_eq}
-use Rattle.std.proofs.lemmas.Nat.Bits.{bit_at_set_same, bit_at_set_other, bit_at_clear_same, bit_at_clear_other, bit_at-zero}
+use Rattle.std.proofs.lemmas.Nat.Bits.{bit_at_set_same, bit_at_set_other, bit_at_clear_same, bit_at_clear_other}
+use Rattle.std.proofs.lemmas.Nat.Bits.{bit_at-zero}
 use Rattle.ffs_maps.specs.Bits.{is_bit, bits_of_words, set_run}
 
 pub length_bits : (words : List ℕ) (size : ℕ) → length (bits_of_words words size) ≡ size
 unfolding bits_of_words
 length_bits words size = length-map-range_with_len (is_bit words) 0 size
 
-pub get_bits : (words : List ℕ) (size f : ℕ) (d : Bool) → f < size → get_or (bits_of_words words size) f d ≡ is_bit words f
+pub get_bits : (words : List ℕ) (size f : ℕ) (d : Bool) → f < size → get_or (bits_of_words words size) f d
+    ≡ is_bit words f
 unfolding bits_of_words
 get_bits words size f d h = get_or-map-range_with_len (is_bit words) 0 size f f d h (omega arith)
 
 -- the word of a fragment is replaced, by one that differs in the fragment's bit alone
-pub put_bits : (words : List ℕ) (size k v : ℕ) (b : Bool) → k < size → k / 64 < length words → nat_eq (bit_at v (k % 64)) 1 ≡ b →
+pub put_bits : (words : List ℕ) (size k v : ℕ) (b : Bool) → k < size → k / 64 < length words →
+    nat_eq (bit_at v (k % 64)) 1 ≡ b →
     ((i : ℕ) → i < 64 → i ≢ k % 64 → bit_at v i ≡ bit_at (get_or words (k / 64) 0) i) →
     bits_of_words (slice_set words (k / 64) v) size ≡ slice_set (bits_of_words words size) k b
 put_bits words size k v b h inside here other =
-    same_lists _ _ (length_bits (slice_set words (k / 64) v) size ∙ sym (length-set (bits_of_words words size) k b ∙ length_bits words size))
+    same_lists _ _ (length_bits (slice_set words (k / 64) v) size
+    ∙ sym (length-set (bits_of_words words size) k b ∙ length_bits words size))
     (λ f d below. let low : f < size = omega (arith, below, length_bits (slice_set words (k / 64) v) size) in
     get_bits (slice_set words (k / 64) v) size f d low ∙ at f d low)
   where
-    other_place : (f : ℕ) (d : Bool) → f < size → (f ≡ k → ⊥) → is_bit (slice_set words (k / 64) v) f ≡ get_or (slice_set (bits_of_words words size) k b) f d
+    other_place : (f : ℕ) (d : Bool) → f < size → (f ≡ k → ⊥) → is_bit (slice_set words (k / 64) v) f
+        ≡ get_or (slice_set (bits_of_words words size) k b) f d
     other_place f d low apart =
         (elim (cases_eq (f / 64) (k / 64)) [
           | inl e ↦ ap (λ j. nat_eq (bit_at (get_or (slice_set words (k / 64) v) j 0) (f % 64)) 1) e
@@ -35,7 +42,8 @@ put_bits words size k v b h inside here other =
         ∙ sym (get_bits words size f d low)
         ∙ sym (get_or-set_other (bits_of_words words size) k f b d apart)
 
-    at : (f : ℕ) (d : Bool) → f < size → is_bit (slice_set words (k / 64) v) f ≡ get_or (slice_set (bits_of_words words size) k b) f d
+    at : (f : ℕ) (d : Bool) → f < size → is_bit (slice_set words (k / 64) v) f
+        ≡ get_or (slice_set (bits_of_words words size) k b) f d
     at f d low = elim (cases_eq f k) [
       | inl e ↦ rw e (ap (λ w. nat_eq (bit_at w (k % 64)) 1) (get_or-set_same words (k / 64) v 0 inside) ∙ here
           ∙ sym (get_or-set_same (bits_of_words words size) k b d (omega (arith, h, length_bits words size))))
@@ -43,14 +51,16 @@ put_bits words size k v b h inside here other =
     ]
 
 pub set_bits : (words : List ℕ) (size k w : ℕ) → k < size → k / 64 < length words → w ≡ get_or words (k / 64) 0 →
-    bits_of_words (slice_set words (k / 64) (bit_or w (1 * 2 ^ (k % 64) % 2 ^ 64))) size ≡ slice_set (bits_of_words words size) k true
+    bits_of_words (slice_set words (k / 64) (bit_or w (1 * 2 ^ (k % 64) % 2 ^ 64))) size
+    ≡ slice_set (bits_of_words words size) k true
 set_bits words size k w h inside e =
     put_bits words size k (bit_or w (1 * 2 ^ (k % 64) % 2 ^ 64)) true h inside
     (ap (λ x. nat_eq x 1) (bit_at_set_same w64 w (k % 64) (omega arith)))
     (λ i low apart. bit_at_set_other w64 w (k % 64) (omega arith) i apart ∙ ap (λ x. bit_at x i) e)
 
 pub clear_bits : (words : List ℕ) (size k w : ℕ) → k < size → k / 64 < length words → w ≡ get_or words (k / 64) 0 →
-    bits_of_words (slice_set words (k / 64) (bit_and w (bit_not w64 (1 * 2 ^ (k % 64) % 2 ^ 64)))) size ≡ slice_set (bits_of_words words size) k false
+    bits_of_words (slice_set words (k / 64) (bit_and w (bit_not w64 (1 * 2 ^ (k % 64) % 2 ^ 64)))) size
+    ≡ slice_set (bits_of_words words size) k false
 clear_bits words size k w h inside e =
     put_bits words size k (bit_and w (bit_not w64 (1 * 2 ^ (k % 64) % 2 ^ 64))) false h inside
     (ap (λ x. nat_eq x 1) (bit_at_clear_same w64 w (k % 64) (omega arith)))
@@ -70,11 +80,13 @@ zero_bits n size =
     ∙ ap (λ w. nat_eq (bit_at w (f % 64)) 1) (zeros_at n (f / 64)) ∙ ap (λ x. nat_eq x 1) (bit_at-zero (f % 64))
     ∙ sym (get_or-replicate size f false d low))
 
-pub run_more : (bits : List Bool) (start n m : ℕ) → n ≡ m + 1 → set_run bits start n ≡ set_run (slice_set bits start true) (start + 1) m
+pub run_more : (bits : List Bool) (start n m : ℕ) → n ≡ m + 1 →
+    set_run bits start n ≡ set_run (slice_set bits start true) (start + 1) m
 run_more bits start n m e = rw e (search rules)
 
 -- the next bit of a run is set
-pub run_goes_on : (bits bits' : List Bool) (start len place : ℕ) → place < len → bits' ≡ slice_set bits (start + place) true →
+pub run_goes_on : (bits bits' : List Bool) (start len place : ℕ) → place < len →
+    bits' ≡ slice_set bits (start + place) true →
     set_run bits (start + place) (len - place) ≡ set_run bits' (start + (place + 1)) (len - (place + 1))
 run_goes_on bits bits' start len place h now =
     let k : start + (place + 1) ≡ start + place + 1 = omega arith in

@@ -1,5 +1,7 @@
 -- How many bits of a run are set.
-use Rattle.std.proofs.Common.{◌≡◌, inl, inr, ℕ, zero, suc, ◌+◌, ◌-◌, ◌*◌, ◌/◌, ◌%◌, ◌^◌, ◌<◌, ◌≤◌, Bool, false, cond, List, length, map, get_or, nat_eq, bit_and, count_ones, count_by, arith, refl, ap, ◌∙◌, sym, min}
+use Rattle.std.proofs.Common.{◌≡◌, inl, inr, ℕ, zero, suc, ◌+◌, ◌-◌, ◌*◌, ◌/◌, ◌%◌, ◌^◌, ◌<◌, ◌≤◌, Bool, false, cond}
+use Rattle.std.proofs.Common.{List, length, map, get_or, nat_eq, bit_and, count_ones, count_by, arith, refl, ap, ◌∙◌}
+use Rattle.std.proofs.Common.{sym, min}
 use Rattle.std.specs.List.{range_with_len, sum_by, slice_index_or}
 use Rattle.std.specs.Int.{bit_at}
 use Rattle.std.proofs.lemmas.Bool.{cases_lt}
@@ -14,7 +16,8 @@ use Rattle.ffs_maps.proofs.Bits.{get_bits}
 use Rattle.ffs_maps.proofs.Words.{bit_shr}
 
 -- a count over a run, in two parts
-pub sum_split : (f : ℕ → ℕ) (a n m t : ℕ) → t ≡ n + m → sum_by f (range_with_len a t) ≡ sum_by f (range_with_len a n) + sum_by f (range_with_len (a + n) m)
+pub sum_split : (f : ℕ → ℕ) (a n m t : ℕ) → t ≡ n + m → sum_by f (range_with_len a t) ≡ sum_by f (range_with_len a n)
+    + sum_by f (range_with_len (a + n) m)
 sum_split f a zero m t e =
     let at : a + 0 ≡ a = omega arith in
     let same : t ≡ m = omega (arith, e) in
@@ -22,15 +25,19 @@ sum_split f a zero m t e =
 sum_split f a (suc n) m zero e = absurd (omega arith)
 sum_split f a (suc n) m (suc t) e =
     let k : a + 1 + n ≡ a + suc n = omega arith in
-    let rest : sum_by f (range_with_len (a + 1) t) ≡ sum_by f (range_with_len (a + 1) n) + sum_by f (range_with_len (a + suc n) m) =
-    sum_split f (a + 1) n m t (omega (arith, e)) ∙ ap (λ j. sum_by f (range_with_len (a + 1) n) + sum_by f (range_with_len j m)) k in
+    let rest : sum_by f (range_with_len (a + 1) t) ≡ sum_by f (range_with_len (a + 1) n) + sum_by f
+    (range_with_len (a + suc n) m) =
+    sum_split f (a + 1) n m t (omega (arith, e))
+    ∙ ap (λ j. sum_by f (range_with_len (a + 1) n) + sum_by f (range_with_len j m)) k in
     omega (arith, rest, sum_by-cons f a (range_with_len (a + 1) t), sum_by-cons f a (range_with_len (a + 1) n))
 
-pub count_join : (p : ℕ → Bool) (a n m t x y : ℕ) → t ≡ n + m → x ≡ count_by p (range_with_len a n) → y ≡ count_by p (range_with_len (a + n) m) → x + y ≡ count_by p (range_with_len a t)
+pub count_join : (p : ℕ → Bool) (a n m t x y : ℕ) → t ≡ n + m → x ≡ count_by p (range_with_len a n) →
+    y ≡ count_by p (range_with_len (a + n) m) → x + y ≡ count_by p (range_with_len a t)
 count_join p a n m t x y e f g = omega (arith, f, g, sum_split (λ j. cond (p j) 1 0) a n m t e)
 
 -- the same, by the places where the parts begin and end
-pub count_join_at : (p : ℕ → Bool) (a b end m x y : ℕ) → a ≤ b → b + m ≡ end → x ≡ count_by p (range_with_len a (b - a)) → y ≡ count_by p (range_with_len b m) → x + y ≡ count_by p (range_with_len a (end - a))
+pub count_join_at : (p : ℕ → Bool) (a b end m x y : ℕ) → a ≤ b → b + m ≡ end → x ≡ count_by p (range_with_len a (b - a))
+    → y ≡ count_by p (range_with_len b m) → x + y ≡ count_by p (range_with_len a (end - a))
 count_join_at p a b end m x y h e f g =
     let at : b ≡ a + (b - a) = omega arith in
     count_join p a (b - a) m (end - a) x y (omega (arith, e, h)) f (g ∙ ap (λ j. count_by p (range_with_len j m)) at)
@@ -44,15 +51,18 @@ one_bit (suc zero) h = refl
 one_bit (suc (suc b)) h = absurd (omega arith)
 
 -- a number whose bits are tests of the places from a on, and which has no other bits
-ones_by : (p : ℕ → Bool) (x a n : ℕ) → ((i : ℕ) → i < n → bit_at x i ≡ cond (p (a + i)) 1 0) → ((i : ℕ) → n ≤ i → bit_at x i ≡ 0) → count_ones x ≡ count_by p (range_with_len a n)
+ones_by : (p : ℕ → Bool) (x a n : ℕ) → ((i : ℕ) → i < n → bit_at x i ≡ cond (p (a + i)) 1 0) →
+    ((i : ℕ) → n ≤ i → bit_at x i ≡ 0) → count_ones x ≡ count_by p (range_with_len a n)
 ones_by p x a n low high =
-    ap count_ones (same_from_bits x (mask_l (map p (range_with_len a n))) (λ i. at i ∙ sym (bit_mask_l (map p (range_with_len a n)) i)))
+    ap count_ones (same_from_bits x (mask_l (map p (range_with_len a n)))
+    (λ i. at i ∙ sym (bit_mask_l (map p (range_with_len a n)) i)))
     ∙ ones-mask_l p (range_with_len a n)
   where
     at : (i : ℕ) → bit_at x i ≡ cond (get_or (map p (range_with_len a n)) i false) 1 0
     at i = elim (cases_lt i n) [
       | inl h ↦ low i h ∙ ap (λ b. cond b 1 0) (sym (get_or-map-range_with_len p a n i (a + i) false h refl))
-      | inr h ↦ high i h ∙ ap (λ b. cond b 1 0) (sym (get_or_past (map p (range_with_len a n)) i false (omega (arith, h, length-map-range_with_len p a n))))
+      | inr h ↦ high i h ∙ ap (λ b. cond b 1 0)
+          (sym (get_or_past (map p (range_with_len a n)) i false (omega (arith, h, length-map-range_with_len p a n))))
     ]
 
 min_left : (a b : ℕ) → a < 2 → b ≡ 1 → min a b ≡ a
@@ -65,14 +75,19 @@ sub_twice : (k : ℕ) → k ≤ 64 → 64 - (64 - k) ≡ k
 sub_twice k h = omega arith
 
 -- the bits of one word that are counted
-pub ones_in_word : (words : List ℕ) (size start len w : ℕ) → start % 64 + len ≤ 64 → start + len ≤ size → w ≡ get_or words (start / 64) 0 →
-    count_ones (bit_and (w / 2 ^ (start % 64)) ((2 ^ 64 - 1) / 2 ^ (64 - len))) ≡ count_by (λ f. slice_index_or (bits_of_words words size) f false) (range_with_len start len)
+pub ones_in_word : (words : List ℕ) (size start len w : ℕ) → start % 64 + len ≤ 64 → start + len ≤ size →
+    w ≡ get_or words (start / 64) 0 →
+    count_ones (bit_and (w / 2 ^ (start % 64)) ((2 ^ 64 - 1) / 2 ^ (64 - len)))
+    ≡ count_by (λ f. slice_index_or (bits_of_words words size) f false) (range_with_len start len)
 ones_in_word words size start len w h below is =
-    let mask : (2 ^ 64 - 1) / 2 ^ (64 - len) ≡ 2 ^ len - 1 = ones_shr 64 (64 - len) (omega arith) ∙ ap (λ k. 2 ^ k - 1) (sub_twice len (omega arith)) in
+    let mask : (2 ^ 64 - 1) / 2 ^ (64 - len) ≡ 2 ^ len - 1 = ones_shr 64 (64 - len) (omega arith)
+    ∙ ap (λ k. 2 ^ k - 1) (sub_twice len (omega arith)) in
     ap (λ m. count_ones (bit_and (w / 2 ^ (start % 64)) m)) mask
-    ∙ ones_by (λ f. slice_index_or (bits_of_words words size) f false) (bit_and (w / 2 ^ (start % 64)) (2 ^ len - 1)) start len low high
+    ∙ ones_by (λ f. slice_index_or (bits_of_words words size) f false) (bit_and (w / 2 ^ (start % 64)) (2 ^ len - 1))
+    start len low high
   where
-    low : (i : ℕ) → i < len → bit_at (bit_and (w / 2 ^ (start % 64)) (2 ^ len - 1)) i ≡ cond (slice_index_or (bits_of_words words size) (start + i) false) 1 0
+    low : (i : ℕ) → i < len → bit_at (bit_and (w / 2 ^ (start % 64)) (2 ^ len - 1)) i
+        ≡ cond (slice_index_or (bits_of_words words size) (start + i) false) 1 0
     low i l =
         let place : (start + i) / 64 ≡ start / 64 = omega arith in
         let bit : (start + i) % 64 ≡ i + start % 64 = omega arith in
@@ -88,4 +103,5 @@ ones_in_word words size start len w h below is =
         ∙ ap (λ b. cond b 1 0) (sym here)
 
     high : (i : ℕ) → len ≤ i → bit_at (bit_and (w / 2 ^ (start % 64)) (2 ^ len - 1)) i ≡ 0
-    high i l = bit_at_and (w / 2 ^ (start % 64)) (2 ^ len - 1) i ∙ min_zero (bit_at (w / 2 ^ (start % 64)) i) _ (bit_at_ones_above len i l)
+    high i l = bit_at_and (w / 2 ^ (start % 64)) (2 ^ len - 1) i
+        ∙ min_zero (bit_at (w / 2 ^ (start % 64)) i) _ (bit_at_ones_above len i l)

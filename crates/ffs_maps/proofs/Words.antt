@@ -1,12 +1,14 @@
 -- The bits of a word that is shifted, cut off or turned.
-use Rattle.std.proofs.Common.{◌≡◌, inl, inr, ℕ, zero, suc, ◌+◌, ◌-◌, ◌*◌, ◌/◌, ◌%◌, ◌^◌, ◌<◌, ◌≤◌, true, false, List, get_or, nat_eq, nat_lt, bit_or, bit_and, arith, refl, ap, ◌∙◌, sym, min, max}
+use Rattle.std.proofs.Common.{◌≡◌, inl, inr, ℕ, zero, suc, ◌+◌, ◌-◌, ◌*◌, ◌/◌, ◌%◌, ◌^◌, ◌<◌, ◌≤◌, true, false, List}
+use Rattle.std.proofs.Common.{get_or, nat_eq, nat_lt, bit_or, bit_and, arith, refl, ap, ◌∙◌, sym, min, max}
 use Rattle.std.specs.Prelude.{not, ◌&&◌}
 use Rattle.std.specs.List.{slice_index_or}
 use Rattle.std.specs.Int.{bit_at, w64}
 use Rattle.std.proofs.lemmas.Bool.{cases_lt}
 use Rattle.std.proofs.lemmas.Nat.{div-add-mod', one_shl}
 use Rattle.std.proofs.Math.Nat.{one-le-pow}
-use Rattle.std.proofs.lemmas.Nat.Bits.{bit_at_or, bit_at_and, bit_at_not, bit_at-zero, bit_at-lt, bit_at_ones, bit_at_ones_above, bit_at_above, bit_at_cat_low, bit_at_cat_high}
+use Rattle.std.proofs.lemmas.Nat.Bits.{bit_at_or, bit_at_and, bit_at_not, bit_at-zero, bit_at-lt, bit_at_ones}
+use Rattle.std.proofs.lemmas.Nat.Bits.{bit_at_ones_above, bit_at_above, bit_at_cat_low, bit_at_cat_high}
 use Rattle.ffs_maps.specs.Bits.{bits_of_words, is_clear}
 use Rattle.ffs_maps.proofs.Bits.{get_bits}
 
@@ -22,7 +24,9 @@ bit_mod n w k h = sym (bit_at_cat_low (n / 2 ^ w) w (n % 2 ^ w) k h) ∙ ap (λ 
 pub bit_shr : (n s k : ℕ) → bit_at (n / 2 ^ s) k ≡ bit_at n (k + s)
 bit_shr n s k =
     let below : n % 2 ^ s < 2 ^ s = omega (arith, some_pow s) in
-    sym (ap (λ x. bit_at x (k + s)) (sym (div-add-mod' n (2 ^ s))) ∙ bit_at_cat_high (n / 2 ^ s) s (n % 2 ^ s) (k + s) below (omega arith) ∙ ap (λ j. bit_at (n / 2 ^ s) j) (back k s))
+    sym (ap (λ x. bit_at x (k + s)) (sym (div-add-mod' n (2 ^ s)))
+    ∙ bit_at_cat_high (n / 2 ^ s) s (n % 2 ^ s) (k + s) below (omega arith)
+    ∙ ap (λ j. bit_at (n / 2 ^ s) j) (back k s))
 
 pub bit_shl_low : (x s k : ℕ) → k < s → bit_at (x * 2 ^ s) k ≡ 0
 bit_shl_low x s k h =
@@ -46,7 +50,8 @@ past_size : (a b : ℕ) → b ≤ a → nat_lt a b ≡ false
 past_size a b h = grind arith
 
 -- a fragment of the map, by its bit in the turned word
-pub clear_is : (words : List ℕ) (size index k w : ℕ) → k < 64 → w < 2 ^ 64 → w ≡ get_or words index 0 → 64 * index + k < size →
+pub clear_is : (words : List ℕ) (size index k w : ℕ) → k < 64 → w < 2 ^ 64 → w ≡ get_or words index 0 →
+    64 * index + k < size →
     nat_eq (bit_at (2 ^ 64 - 1 - w) k) 1 ≡ is_clear (bits_of_words words size) size (64 * index + k)
 clear_is words size index k w h fits e low =
     let place : (64 * index + k) / 64 ≡ index = omega arith in
@@ -57,7 +62,8 @@ clear_is words size index k w h fits e low =
     ∙ ap (λ j. nat_eq (bit_at (get_or words j 0) k) 1) (sym place)
     ∙ ap (λ j. nat_eq (bit_at (get_or words ((64 * index + k) / 64) 0) j) 1) (sym bit)
     ∙ sym (get_bits words size (64 * index + k) false low))
-    ∙ ap (λ b. b && not (slice_index_or (bits_of_words words size) (64 * index + k) false)) (sym (below_size (64 * index + k) size low))
+    ∙ ap (λ b. b && not (slice_index_or (bits_of_words words size) (64 * index + k) false))
+    (sym (below_size (64 * index + k) size low))
 
 pub not_clear : (words : List ℕ) (size f : ℕ) → size ≤ f → is_clear (bits_of_words words size) size f ≡ false
 not_clear words size f h = ap (λ b. b && not (slice_index_or (bits_of_words words size) f false)) (past_size f size h)
@@ -72,14 +78,20 @@ pub small : (n : ℕ) → n < 64 → 1 * 2 ^ n % 2 ^ 64 - 1 ≡ 2 ^ n - 1
 small n h = ap (λ x. x - 1) (one_shl n 64 h)
 
 -- the last word, cut off at the size
-pub clear_in_last : (words : List ℕ) (size index k w : ℕ) → k < 64 → w < 2 ^ 64 → w ≡ get_or words index 0 → 64 * index ≤ size → size - 64 * index < 64 →
-    nat_eq (bit_at (bit_and (2 ^ 64 - 1 - w) (1 * 2 ^ (size - 64 * index) % 2 ^ 64 - 1)) k) 1 ≡ is_clear (bits_of_words words size) size (64 * index + k)
+pub clear_in_last : (words : List ℕ) (size index k w : ℕ) → k < 64 → w < 2 ^ 64 → w ≡ get_or words index 0 →
+    64 * index ≤ size → size - 64 * index < 64 →
+    nat_eq (bit_at (bit_and (2 ^ 64 - 1 - w) (1 * 2 ^ (size - 64 * index) % 2 ^ 64 - 1)) k) 1
+    ≡ is_clear (bits_of_words words size) size (64 * index + k)
 clear_in_last words size index k w h fits e within last =
     ap (λ m. nat_eq (bit_at (bit_and (2 ^ 64 - 1 - w) m) k) 1) (small (size - 64 * index) last)
     ∙ ap (λ x. nat_eq x 1) (bit_at_and (2 ^ 64 - 1 - w) (2 ^ (size - 64 * index) - 1) k)
     ∙ elim (cases_lt k (size - 64 * index)) [
-      | inl low ↦ ap (λ x. nat_eq x 1) (min_one _ _ (bit_at-lt (2 ^ 64 - 1 - w) k) (bit_at_ones (size - 64 * index) k low)) ∙ clear_is words size index k w h fits e (omega arith)
-      | inr past ↦ ap (λ x. nat_eq x 1) (min_zero (bit_at (2 ^ 64 - 1 - w) k) _ (bit_at_ones_above (size - 64 * index) k past)) ∙ sym (not_clear words size (64 * index + k) (omega arith))
+      | inl low ↦ ap (λ x. nat_eq x 1)
+          (min_one _ _ (bit_at-lt (2 ^ 64 - 1 - w) k) (bit_at_ones (size - 64 * index) k low))
+          ∙ clear_is words size index k w h fits e (omega arith)
+      | inr past ↦ ap (λ x. nat_eq x 1)
+          (min_zero (bit_at (2 ^ 64 - 1 - w) k) _ (bit_at_ones_above (size - 64 * index) k past))
+          ∙ sym (not_clear words size (64 * index + k) (omega arith))
     ]
 
 max_left : (a b : ℕ) → b ≡ 0 → max a b ≡ a
@@ -89,13 +101,15 @@ max_right : (a b : ℕ) → a ≡ 0 → max a b ≡ b
 max_right a b e = omega arith
 
 -- two words, put together at a place
-pub joined : (a b low k : ℕ) → a < 2 ^ 64 → low < 64 → k < 64 → k + low < 64 → bit_at (bit_or (a / 2 ^ low) (b * 2 ^ (64 - low) % 2 ^ 64)) k ≡ bit_at a (k + low)
+pub joined : (a b low k : ℕ) → a < 2 ^ 64 → low < 64 → k < 64 → k + low < 64 →
+    bit_at (bit_or (a / 2 ^ low) (b * 2 ^ (64 - low) % 2 ^ 64)) k ≡ bit_at a (k + low)
 joined a b low k fits h hk inside =
     bit_at_or (a / 2 ^ low) (b * 2 ^ (64 - low) % 2 ^ 64) k
     ∙ max_left _ _ (bit_mod (b * 2 ^ (64 - low)) 64 k hk ∙ bit_shl_low b (64 - low) k (omega arith))
     ∙ bit_shr a low k
 
-pub joined_above : (a b low k : ℕ) → a < 2 ^ 64 → low < 64 → k < 64 → 64 ≤ k + low → bit_at (bit_or (a / 2 ^ low) (b * 2 ^ (64 - low) % 2 ^ 64)) k ≡ bit_at b (k - (64 - low))
+pub joined_above : (a b low k : ℕ) → a < 2 ^ 64 → low < 64 → k < 64 → 64 ≤ k + low →
+    bit_at (bit_or (a / 2 ^ low) (b * 2 ^ (64 - low) % 2 ^ 64)) k ≡ bit_at b (k - (64 - low))
 joined_above a b low k fits h hk above =
     bit_at_or (a / 2 ^ low) (b * 2 ^ (64 - low) % 2 ^ 64) k
     ∙ max_right _ _ (bit_shr a low k ∙ bit_at_above a 64 (k + low) fits above)

@@ -26,8 +26,10 @@ following v b taken cut r steps = chunks_of (reading_by v b taken) (is_run_in_ra
 pub over_rest : (b : List ℕ) (w : Walk) → IsOver w → steps_left b w ≡ []
 over_rest b w o =
     let one : single_rest b w ≡ [] = spent_rest w.geometry.layout b (steps_at (extent_of w) b 0) 1 w.single o.single in
-    let two : double_rest b w ≡ [] = spent_rest w.geometry.layout b (steps_at (extent_of w) b 1) w.geometry.layout.nindir w.double o.double in
-    let three : triple_rest b w ≡ [] = spent_rest w.geometry.layout b (steps_at (extent_of w) b 2) (w.geometry.layout.nindir * w.geometry.layout.nindir) w.triple o.triple in
+    let two : double_rest b w ≡ [] =
+    spent_rest w.geometry.layout b (steps_at (extent_of w) b 1) w.geometry.layout.nindir w.double o.double in
+    let three : triple_rest b w ≡ [] = spent_rest w.geometry.layout b (steps_at (extent_of w) b 2)
+    (w.geometry.layout.nindir * w.geometry.layout.nindir) w.triple o.triple in
     let none : w.used - w.next ≡ 0 = let t = o.top in omega arith in
     let top : top_rest b w ≡ [] = ap (λ n. steps_of_addresses (extent_of w) b w.addresses w.next n) none in
     joined (single_rest b w) (double_rest b w) (triple_rest b w) (top_rest b w) one two three top
@@ -36,39 +38,49 @@ over_rest b w o =
     joined p q r s a b c d = ap (λ x. x ++ (q ++ (r ++ s))) a ∙ (ap (λ x. x ++ (r ++ s)) b ∙ (ap (λ x. x ++ s) c ∙ d))
 
 -- a Tail or Gap gives no chunks, and is no Run
-pub tail_behind : (v : Layout) (b : List ℕ) (taken cut : ℕ) (r : Replay) (steps : List Step) → following v b taken cut r (Tail ∷ steps) ≡ following v b taken cut r steps
+pub tail_behind : (v : Layout) (b : List ℕ) (taken cut : ℕ) (r : Replay) (steps : List Step) →
+    following v b taken cut r (Tail ∷ steps) ≡ following v b taken cut r steps
 tail_behind v b taken cut r steps = one (is_replay_open cut r)
   where
-    one : (x : Bool) → chunks_of (reading_by v b taken) (is_run_in_range v) ((if x then Tail ∷ [] else []) ++ replayed_steps v cut r steps) ≡ following v b taken cut r steps
+    one : (x : Bool) → chunks_of (reading_by v b taken) (is_run_in_range v)
+        ((if x then Tail ∷ [] else []) ++ replayed_steps v cut r steps) ≡ following v b taken cut r steps
     one true = refl
     one false = refl
 
-pub gap_behind : (v : Layout) (b : List ℕ) (taken cut : ℕ) (r : Replay) (steps : List Step) → following v b taken cut r (Gap ∷ steps) ≡ following v b taken cut r steps
+pub gap_behind : (v : Layout) (b : List ℕ) (taken cut : ℕ) (r : Replay) (steps : List Step) →
+    following v b taken cut r (Gap ∷ steps) ≡ following v b taken cut r steps
 gap_behind v b taken cut r steps = one (is_replay_open cut r)
   where
-    one : (x : Bool) → chunks_of (reading_by v b taken) (is_run_in_range v) ((if x then Gap ∷ [] else []) ++ replayed_steps v cut r steps) ≡ following v b taken cut r steps
+    one : (x : Bool) → chunks_of (reading_by v b taken) (is_run_in_range v)
+        ((if x then Gap ∷ [] else []) ++ replayed_steps v cut r steps) ≡ following v b taken cut r steps
     one true = refl
     one false = refl
 
 -- nothing comes where no step is seen
-pub none_seen : (v : Layout) (b : List ℕ) (taken cut : ℕ) (r : Replay) (steps : List Step) → is_replay_open cut r ≡ false → following v b taken cut r steps ≡ []
+pub none_seen : (v : Layout) (b : List ℕ) (taken cut : ℕ) (r : Replay) (steps : List Step) →
+    is_replay_open cut r ≡ false → following v b taken cut r steps ≡ []
 none_seen v b taken cut r [] h = refl
 none_seen v b taken cut r (Tail ∷ steps) h = tail_behind v b taken cut r steps ∙ none_seen v b taken cut r steps h
 none_seen v b taken cut r (Gap ∷ steps) h = gap_behind v b taken cut r steps ∙ none_seen v b taken cut r steps h
 none_seen v b taken cut r (Run start len block ∷ steps) h = rw h (none_seen v b taken cut r steps h)
 
 -- how a step continues, where the state of the replay is kept
-pub still_on : (v v' : Layout) (b : List ℕ) (h : RunCursor) (taken cut : ℕ) (r : Replay) (step : Step) (old new : List Step) → v' ≡ v → old ≡ step ∷ new
+pub still_on : (v v' : Layout) (b : List ℕ) (h : RunCursor) (taken cut : ℕ) (r : Replay) (step : Step)
+    (old new : List Step) → v' ≡ v → old ≡ step ∷ new
     → following v b taken cut r (step ∷ new) ≡ following v b taken cut r new
     → hand_chunks v' b h ++ following v' b taken cut r new ≡ hand_chunks v b h ++ following v b taken cut r old
 still_on v v' b h taken cut r step old new e o s =
-    ap (λ x. hand_chunks x b h ++ following x b taken cut r new) e ∙ ap (λ x. hand_chunks v b h ++ x) (sym s ∙ ap (following v b taken cut r) (sym o))
+    ap (λ x. hand_chunks x b h ++ following x b taken cut r new) e
+    ∙ ap (λ x. hand_chunks v b h ++ x) (sym s ∙ ap (following v b taken cut r) (sym o))
 
-pub tail_on : (v v' : Layout) (b : List ℕ) (h : RunCursor) (taken cut : ℕ) (r : Replay) (old new : List Step) → v' ≡ v → old ≡ Tail ∷ new
+pub tail_on : (v v' : Layout) (b : List ℕ) (h : RunCursor) (taken cut : ℕ) (r : Replay) (old new : List Step) → v' ≡ v →
+    old ≡ Tail ∷ new
     → hand_chunks v' b h ++ following v' b taken cut r new ≡ hand_chunks v b h ++ following v b taken cut r old
-tail_on v v' b h taken cut r old new e o = still_on v v' b h taken cut r Tail old new e o (tail_behind v b taken cut r new)
+tail_on v v' b h taken cut r old new e o =
+    still_on v v' b h taken cut r Tail old new e o (tail_behind v b taken cut r new)
 
-pub gap_on : (v v' : Layout) (b : List ℕ) (h : RunCursor) (taken cut : ℕ) (r : Replay) (old new : List Step) → v' ≡ v → old ≡ Gap ∷ new
+pub gap_on : (v v' : Layout) (b : List ℕ) (h : RunCursor) (taken cut : ℕ) (r : Replay) (old new : List Step) → v' ≡ v →
+    old ≡ Gap ∷ new
     → hand_chunks v' b h ++ following v' b taken cut r new ≡ hand_chunks v b h ++ following v b taken cut r old
 gap_on v v' b h taken cut r old new e o = still_on v v' b h taken cut r Gap old new e o (gap_behind v b taken cut r new)
 
@@ -80,31 +92,41 @@ steps_on v v' b h taken cut r old new e o =
     ap (λ x. hand_chunks x b h ++ following x b taken cut r new) e ∙ ap
     (λ x. hand_chunks v b h ++ following v b taken cut r x) (sym o)
 
-pub end_none : (v : Layout) (b : List ℕ) (h : RunCursor) (taken cut : ℕ) (r : Replay) (new : List Step) → h.next ≡ h.count → new ≡ [] → hand_chunks v b h ++ following v b taken cut r new ≡ []
-end_none v b h taken cut r new e n = ap (λ x. x ++ following v b taken cut r new) (no_run_cursor v b h e) ∙ ap (following v b taken cut r) n
+pub end_none : (v : Layout) (b : List ℕ) (h : RunCursor) (taken cut : ℕ) (r : Replay) (new : List Step) →
+    h.next ≡ h.count → new ≡ [] → hand_chunks v b h ++ following v b taken cut r new ≡ []
+end_none v b h taken cut r new e n = ap (λ x. x ++ following v b taken cut r new) (no_run_cursor v b h e)
+    ∙ ap (following v b taken cut r) n
 
-pub unseen_none : (v : Layout) (b : List ℕ) (h : RunCursor) (taken cut : ℕ) (r : Replay) (steps : List Step) → h.next ≡ h.count → is_replay_open cut r ≡ false
+pub unseen_none : (v : Layout) (b : List ℕ) (h : RunCursor) (taken cut : ℕ) (r : Replay) (steps : List Step) →
+    h.next ≡ h.count → is_replay_open cut r ≡ false
     → hand_chunks v b h ++ following v b taken cut r steps ≡ []
-unseen_none v b h taken cut r steps e n = ap (λ x. x ++ following v b taken cut r steps) (no_run_cursor v b h e) ∙ none_seen v b taken cut r steps n
+unseen_none v b h taken cut r steps e n = ap (λ x. x ++ following v b taken cut r steps) (no_run_cursor v b h e)
+    ∙ none_seen v b taken cut r steps n
 
-pub runs_on : (v v' : Layout) (cut : ℕ) (r : Replay) (old steps : List Step) → v' ≡ v → old ≡ steps → replayed_runs v' cut r steps ≡ replayed_runs v cut r old
+pub runs_on : (v v' : Layout) (cut : ℕ) (r : Replay) (old steps : List Step) → v' ≡ v → old ≡ steps →
+    replayed_runs v' cut r steps ≡ replayed_runs v cut r old
 runs_on v v' cut r old steps e o = ap (λ x. replayed_runs x cut r steps) e ∙ ap (replayed_runs v cut r) (sym o)
 
 -- the state after a Run, with the steps that its walk has left
-pub walked : (b : List ℕ) (c : Chunks) (w : Walk) → c.walk ≡ w → all_chunks b c ≡ hand_chunks c.walk.geometry.layout b c.run_cursor ++ chunks_after b c (steps_left b w)
+pub walked : (b : List ℕ) (c : Chunks) (w : Walk) → c.walk ≡ w →
+    all_chunks b c ≡ hand_chunks c.walk.geometry.layout b c.run_cursor ++ chunks_after b c (steps_left b w)
 walked b c w e = ap (λ x. hand_chunks c.walk.geometry.layout b c.run_cursor ++ chunks_after b c (steps_left b x)) e
 
 pub walked_runs : (b : List ℕ) (c : Chunks) (w : Walk) → c.walk ≡ w → runs_left b c ≡ runs_after c (steps_left b w)
 walked_runs b c w e = ap (λ x. runs_after c (steps_left b x)) e
 
-pub runs_tail : (v v' : Layout) (cut : ℕ) (r : Replay) (old new : List Step) → v' ≡ v → old ≡ Tail ∷ new → replayed_runs v' cut r new ≡ replayed_runs v cut r old
-runs_tail v v' cut r old new e o = ap (λ x. replayed_runs x cut r new) e ∙ (zero_more (replayed_runs v cut r new) ∙ ap (replayed_runs v cut r) (sym o))
+pub runs_tail : (v v' : Layout) (cut : ℕ) (r : Replay) (old new : List Step) → v' ≡ v → old ≡ Tail ∷ new →
+    replayed_runs v' cut r new ≡ replayed_runs v cut r old
+runs_tail v v' cut r old new e o = ap (λ x. replayed_runs x cut r new) e
+    ∙ (zero_more (replayed_runs v cut r new) ∙ ap (replayed_runs v cut r) (sym o))
   where
     zero_more : (n : ℕ) → n ≡ 0 + n
     zero_more n = omega arith
 
-pub runs_gap : (v v' : Layout) (cut : ℕ) (r : Replay) (old new : List Step) → v' ≡ v → old ≡ Gap ∷ new → replayed_runs v' cut r new ≡ replayed_runs v cut r old
-runs_gap v v' cut r old new e o = ap (λ x. replayed_runs x cut r new) e ∙ (zero_more (replayed_runs v cut r new) ∙ ap (replayed_runs v cut r) (sym o))
+pub runs_gap : (v v' : Layout) (cut : ℕ) (r : Replay) (old new : List Step) → v' ≡ v → old ≡ Gap ∷ new →
+    replayed_runs v' cut r new ≡ replayed_runs v cut r old
+runs_gap v v' cut r old new e o = ap (λ x. replayed_runs x cut r new) e
+    ∙ (zero_more (replayed_runs v cut r new) ∙ ap (replayed_runs v cut r) (sym o))
   where
     zero_more : (n : ℕ) → n ≡ 0 + n
     zero_more n = omega arith

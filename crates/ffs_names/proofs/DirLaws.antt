@@ -10,7 +10,8 @@ use Rattle.ffs_volume.specs.declared.Class.{Class}
 use Rattle.ffs_volume.specs.declared.Class.TheVariants.{Free, Partial, Unknown, File, Dir}
 use Rattle.ffs_volume.specs.Disk.Areas.{is_run_in_range}
 use Rattle.ffs_volume.specs.Disk.Geometry.{IsValidLayout}
-use Rattle.ffs_volume.specs.Blocks.Inodes.{inode_of, class_of, type_of, is_known_type, is_any_set, is_too_large, addresses_used, is_directory}
+use Rattle.ffs_volume.specs.Blocks.Inodes.{inode_of, class_of, type_of, is_known_type, is_any_set, is_too_large}
+use Rattle.ffs_volume.specs.Blocks.Inodes.{addresses_used, is_directory}
 use Rattle.ffs_volume.specs.Blocks.Steps.{steps_of}
 use Rattle.ffs_volume.specs.Directories.Entries.{chunks_of, has_gap, bytes_read}
 use Rattle.ffs_volume.specs.Directories.Roles.{is_dir, roled_chunk, roled_entries}
@@ -26,7 +27,8 @@ use Rattle.ffs_names.specs.RightShapes.{is_right_size, is_right_shape}
 use Rattle.ffs_names.specs.RunCursors.{reading_by}
 
 class_by : Bool → Bool → Bool → Bool → Class
-class_by none free bad four = if none then (if free then Free else Partial) else (if bad then Unknown else (if four then Dir else File))
+class_by none free bad four = if none then (if free then Free else Partial)
+    else (if bad then Unknown else (if four then Dir else File))
 
 dir_by : (none free bad four : Bool) → class_by none free bad four ≡ Dir → (bad ≡ false) × (four ≡ true)
 unfolding class_by
@@ -45,10 +47,13 @@ pub dir_size : (v : Layout) (i : Inode) → class_of v i ≡ Dir → i.size < 2 
 unfolding class_of class_by
 dir_size v i h =
     let d = dir_by (type_of i.mode == 0) (i.mode == 0 && (i.size == 0 && not (is_any_set i.addresses)))
-    (not (is_known_type (type_of i.mode)) || (is_too_large v i || is_any_set (drop (addresses_used v i) i.addresses))) (type_of i.mode == 4) h in
-    let a = or_parts (not (is_known_type (type_of i.mode))) (is_too_large v i || is_any_set (drop (addresses_used v i) i.addresses)) d.0 in
+    (not (is_known_type (type_of i.mode)) || (is_too_large v i || is_any_set (drop (addresses_used v i) i.addresses)))
+    (type_of i.mode == 4) h in
+    let a = or_parts (not (is_known_type (type_of i.mode)))
+    (is_too_large v i || is_any_set (drop (addresses_used v i) i.addresses)) d.0 in
     let e = or_parts (is_too_large v i) (is_any_set (drop (addresses_used v i) i.addresses)) a.1 in
-    let f = or_parts (nat_lt ((12 + v.nindir + v.nindir * v.nindir + v.nindir * v.nindir * v.nindir) * v.bsize) i.size) (type_of i.mode == 4 && nat_lt 2147483647 i.size) e.0 in
+    let f = or_parts (nat_lt ((12 + v.nindir + v.nindir * v.nindir + v.nindir * v.nindir * v.nindir) * v.bsize) i.size)
+    (type_of i.mode == 4 && nat_lt 2147483647 i.size) e.0 in
     below (type_of i.mode == 4) i.size d.1 f.1
 
 dir_number : (a : Bool) (c : Class) → (a && is_directory (if a then c else Free)) ≡ true → (a ≡ true) × (c ≡ Dir)
@@ -59,27 +64,39 @@ dir_number true Partial h = cc
 dir_number true Free h = cc
 dir_number false c h = cc
 
-pub dir_is : (v : Layout) (b : List ℕ) (d : ℕ) → is_dir (volume_of v b) d ≡ true → (is_inode_number v d ≡ true) × (class_of v (inode_of v b d) ≡ Dir)
+pub dir_is : (v : Layout) (b : List ℕ) (d : ℕ) → is_dir (volume_of v b) d ≡ true → (is_inode_number v d ≡ true)
+    × (class_of v (inode_of v b d) ≡ Dir)
 unfolding volume_of volume_with
 dir_is v b d h = dir_number (is_inode_number v d) (class_of v (inode_of v b d)) h
 
 -- the entries of a directory
-pub dir_seen : (v : Layout) (b : List ℕ) (d : ℕ) (i : Inode) (cut : ℕ) → IsValidLayout v → is_inode_number v d ≡ true → i ≡ inode_of v b d → cut ≡ cut_at v b d
-    → flat_map roled_chunk (chunks_of (reading_by v b (bytes_read i.size)) (is_run_in_range v) (replayed_steps v cut fresh_replay (steps_of v i b))) ≡ roled_entries (volume_of v b) d
+pub dir_seen : (v : Layout) (b : List ℕ) (d : ℕ) (i : Inode) (cut : ℕ) → IsValidLayout v → is_inode_number v d ≡ true →
+    i ≡ inode_of v b d → cut ≡ cut_at v b d
+    → flat_map roled_chunk (chunks_of (reading_by v b (bytes_read i.size)) (is_run_in_range v)
+    (replayed_steps v cut fresh_replay (steps_of v i b))) ≡ roled_entries (volume_of v b) d
 unfolding volume_of volume_with chunk_source_of roled_entries
 dir_seen v b d i cut g n e c =
-    ap (λ (x : Inode). flat_map roled_chunk (chunks_of (reading_by v b (bytes_read x.size)) (is_run_in_range v) (replayed_steps v cut fresh_replay (steps_of v x b)))) e
-    ∙ (ap (λ x. flat_map roled_chunk (chunks_of (reading_by v b (bytes_read (inode_of v b d).size)) (is_run_in_range v) (replayed_steps v x fresh_replay (steps_of v (inode_of v b d) b)))) c
-    ∙ ap (λ xs. flat_map roled_chunk (chunks_of (reading_by v b (bytes_read (inode_of v b d).size)) (is_run_in_range v) xs)) (replay_at v b d g n))
+    ap (λ (x : Inode). flat_map roled_chunk
+    (chunks_of (reading_by v b (bytes_read x.size)) (is_run_in_range v)
+    (replayed_steps v cut fresh_replay (steps_of v x b)))) e
+    ∙ (ap (λ x. flat_map roled_chunk
+    (chunks_of (reading_by v b (bytes_read (inode_of v b d).size)) (is_run_in_range v)
+    (replayed_steps v x fresh_replay (steps_of v (inode_of v b d) b)))) c
+    ∙ ap (λ xs. flat_map roled_chunk
+    (chunks_of (reading_by v b (bytes_read (inode_of v b d).size)) (is_run_in_range v) xs)) (replay_at v b d g n))
 
 -- kinds say which inodes are directories
-pub kind_dirs : (v : Layout) (b kinds : List ℕ) (x : ℕ) → slice_index kinds x ≡ kind_at v b x → dir_at kinds x ≡ is_dir (volume_of v b) x
+pub kind_dirs : (v : Layout) (b kinds : List ℕ) (x : ℕ) → slice_index kinds x ≡ kind_at v b x →
+    dir_at kinds x ≡ is_dir (volume_of v b) x
 unfolding kind_at
 kind_dirs v b kinds x h = dirs_of_kinds v b kinds x h
 
 -- the shape of a directory
-pub shape_seen : (v : Layout) (b : List ℕ) (d : ℕ) (i : Inode) (cut : ℕ) → IsValidLayout v → is_inode_number v d ≡ true → i ≡ inode_of v b d → cut ≡ cut_at v b d
-    → (is_right_size i.size && (are_sound (chunks_of (reading_by v b (bytes_read i.size)) (is_run_in_range v) (replayed_steps v cut fresh_replay (steps_of v i b)))
+pub shape_seen : (v : Layout) (b : List ℕ) (d : ℕ) (i : Inode) (cut : ℕ) → IsValidLayout v → is_inode_number v d ≡ true
+    → i ≡ inode_of v b d → cut ≡ cut_at v b d
+    → (is_right_size i.size &&
+    (are_sound (chunks_of (reading_by v b (bytes_read i.size)) (is_run_in_range v)
+    (replayed_steps v cut fresh_replay (steps_of v i b)))
     && not (has_gap (replayed_steps v cut fresh_replay (steps_of v i b))))) ≡ is_right_shape (volume_of v b) d
 unfolding volume_of volume_with chunk_source_of
 shape_seen v b d i cut g n e c =
@@ -88,4 +105,5 @@ shape_seen v b d i cut g n e c =
     ∙ ap (by (inode_of v b d)) (replay_at v b d g n))
   where
     by : Inode → List Step → Bool
-    by x steps = is_right_size x.size && (are_sound (chunks_of (reading_by v b (bytes_read x.size)) (is_run_in_range v) steps) && not (has_gap steps))
+    by x steps = is_right_size x.size
+        && (are_sound (chunks_of (reading_by v b (bytes_read x.size)) (is_run_in_range v) steps) && not (has_gap steps))

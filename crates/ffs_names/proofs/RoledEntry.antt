@@ -1,5 +1,6 @@
 -- What a step that is seen gives of chunks.
-use Rattle.std.proofs.Common.{◌≡◌, ℕ, ◌+◌, ◌-◌, ◌*◌, ◌≤◌, Bool, true, false, List, [], ◌∷◌, ◌++◌, Option, Some, None, arith, refl, sym, ap, ◌∙◌}
+use Rattle.std.proofs.Common.{◌≡◌, ℕ, ◌+◌, ◌-◌, ◌*◌, ◌≤◌, Bool, true, false, List, [], ◌∷◌, ◌++◌, Option, Some, None}
+use Rattle.std.proofs.Common.{arith, refl, sym, ap, ◌∙◌}
 use Rattle.std.specs.Prelude.{if◌then◌else◌, map}
 use Rattle.std.specs.List.{range_with_len}
 use Rattle.ffs_volume.specs.declared.Layout.{Layout}
@@ -18,9 +19,11 @@ use Rattle.ffs_names.specs.RunCursors.{hand_chunks, reading_by}
 pub no_run_cursor : (v : Layout) (b : List ℕ) (h : RunCursor) → h.next ≡ h.count → hand_chunks v b h ≡ []
 no_run_cursor v b h e =
     let z : h.count - h.next ≡ 0 = omega arith in
-    ap (λ n. map (λ k. chunk_of v.order (h.offset + 512 * k) (piece (h.place + 512 * k) 512 b)) (range_with_len h.next n)) z
+    ap (λ n. map (λ k. chunk_of v.order (h.offset + 512 * k) (piece (h.place + 512 * k) 512 b))
+    (range_with_len h.next n)) z
 
-pub run_seen : (v : Layout) (b : List ℕ) (taken cut cut' : ℕ) (r q : Replay) (steps : List Step) (start len : ℕ) (block : Option ℕ) (kept : Bool) (found : List Chunk)
+pub run_seen : (v : Layout) (b : List ℕ) (taken cut cut' : ℕ) (r q : Replay) (steps : List Step) (start len : ℕ)
+    (block : Option ℕ) (kept : Bool) (found : List Chunk)
     → kept ≡ is_replayed v cut r (Run start len block) → q ≡ replay_step_by_cut v cut r (Run start len block) → cut'
     ≡ cut
     → found ≡ (if kept then step_chunks (reading_by v b taken) (is_run_in_range v) (Run start len block) else [])
@@ -31,7 +34,9 @@ run_seen v b taken cut cut' r q steps start len block kept found k n c f =
     ∙ (ap (λ x. part kept ++ chunks (replayed_steps v x q steps)) c
     ∙ (ap (λ x. part kept ++ chunks (replayed_steps v cut x steps)) n
     ∙ (ap (λ xs. part kept ++ chunks xs) (sym (counted_same v 0 cut r (Run start len block) steps).steps_are)
-    ∙ (parted kept ∙ ap (λ x. chunks ((if x then Run start len block ∷ [] else []) ++ replayed_steps v cut (replay_step v cut r (Run start len block)) steps)) k))))
+    ∙ (parted kept ∙ ap (λ x. chunks
+    ((if x then Run start len block ∷ [] else []) ++ replayed_steps v cut (replay_step v cut r (Run start len block))
+    steps)) k))))
   where
     chunks : List Step → List Chunk
     chunks steps = chunks_of (reading_by v b taken) (is_run_in_range v) steps
@@ -40,17 +45,20 @@ run_seen v b taken cut cut' r q steps start len block kept found k n c f =
     part x = if x then step_chunks (reading_by v b taken) (is_run_in_range v) (Run start len block) else []
 
     parted : (x : Bool) → part x ++ chunks (replayed_steps v cut (replay_step v cut r (Run start len block)) steps)
-        ≡ chunks ((if x then Run start len block ∷ [] else []) ++ replayed_steps v cut (replay_step v cut r (Run start len block)) steps)
+        ≡ chunks ((if x then Run start len block ∷ [] else [])
+        ++ replayed_steps v cut (replay_step v cut r (Run start len block)) steps)
     parted true = refl
     parted false = refl
 
-pub runs_seen : (v : Layout) (cut cut' : ℕ) (r q : Replay) (steps : List Step) (start len : ℕ) (block : Option ℕ) (runs runs' : ℕ)
+pub runs_seen : (v : Layout) (cut cut' : ℕ) (r q : Replay) (steps : List Step) (start len : ℕ) (block : Option ℕ)
+    (runs runs' : ℕ)
     → is_replay_open cut r ≡ true → q ≡ replay_step_by_cut v cut r (Run start len block) → cut' ≡ cut → runs' ≤ runs + 1
     → runs' + replayed_runs v cut' q steps ≤ runs + replayed_runs v cut r (Run start len block ∷ steps)
 runs_seen v cut cut' r q steps start len block runs runs' s n c l =
     let one : seen_run cut r (Run start len block) ≡ 1 = ap (λ x. if x then 1 else 0) s in
     let same : replayed_runs v cut' q steps ≡ replayed_runs v cut (replay_step v cut r (Run start len block)) steps =
-    ap (λ x. replayed_runs v x q steps) c ∙ (ap (λ x. replayed_runs v cut x steps) n ∙ sym (counted_same v 0 cut r (Run start len block) steps).runs_are) in
+    ap (λ x. replayed_runs v x q steps) c
+    ∙ (ap (λ x. replayed_runs v cut x steps) n ∙ sym (counted_same v 0 cut r (Run start len block) steps).runs_are) in
     omega arith
 
 pub run_continues : (v : Layout) (b : List ℕ) (h h' : RunCursor) (taken cut cut' : ℕ) (r q : Replay)

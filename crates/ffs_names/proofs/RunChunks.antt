@@ -15,18 +15,22 @@ pub no_chunks : (r : ChunkSource) (start len offset : ℕ) → r.taken ≤ offse
 no_chunks r start len offset h =
     let z : r.taken - offset ≡ 0 = omega arith in
     let n : min (len * r.fsize / 512) ((r.taken - offset) / 512) ≡ 0 = rw z (omega arith) in
-    ap (λ n. map (λ k. chunk_of r.order (offset + 512 * k) (piece (start * r.fsize + 512 * k) 512 r.image)) (range_with_len 0 n)) n
+    ap (λ n. map (λ k. chunk_of r.order (offset + 512 * k) (piece (start * r.fsize + 512 * k) 512 r.image))
+    (range_with_len 0 n)) n
 
 far_behind : (block bsize taken : ℕ) → 2147483648 ≤ block → 1 ≤ bsize → taken ≤ 2147483648 → taken ≤ block * bsize
 far_behind block bsize taken b s t =
     let p : block * 1 ≤ block * bsize = mul-le-mul_left block s in
     omega arith
 
-pub none_far : (v : Layout) (r : ChunkSource) (start len block : ℕ) → IsValidLayout v → 2147483648 ≤ block → r.taken ≤ 2147483648 → run_chunks r start len (block * v.bsize) ≡ []
-none_far v r start len block g b t = no_chunks r start len (block * v.bsize) (far_behind block v.bsize r.taken b (omega (arith, g.sizes.bsize_low)) t)
+pub none_far : (v : Layout) (r : ChunkSource) (start len block : ℕ) → IsValidLayout v → 2147483648 ≤ block →
+    r.taken ≤ 2147483648 → run_chunks r start len (block * v.bsize) ≡ []
+none_far v r start len block g b t =
+    no_chunks r start len (block * v.bsize) (far_behind block v.bsize r.taken b (omega (arith, g.sizes.bsize_low)) t)
 
 -- a Run in range lies in the volume, and has a block's bytes at most
-pub run_in_volume : (v : Layout) (start len : ℕ) → IsValidLayout v → 0 < len → IsTrue (is_run_in_range v start len) → start * v.fsize + len * v.fsize ≤ v.size * v.fsize
+pub run_in_volume : (v : Layout) (start len : ℕ) → IsValidLayout v → 0 < len → IsTrue (is_run_in_range v start len) →
+    start * v.fsize + len * v.fsize ≤ v.size * v.fsize
 run_in_volume v start len g some h =
     let below : start + len ≤ v.size = in_range-below v start len g some h in
     let scaled : (start + len) * v.fsize ≤ v.size * v.fsize = mul-le-mul_right v.fsize below in

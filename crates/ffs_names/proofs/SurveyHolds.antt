@@ -1,5 +1,6 @@
 -- A survey fills a workspace.
-use Rattle.std.proofs.Common.{◌≡◌, ◌*◌, ◌≤◌, ℕ, Bool, true, List, [], Result, Ok, Err, Option, Some, None, refl, sym, ap, ◌∙◌, subst}
+use Rattle.std.proofs.Common.{◌≡◌, ◌*◌, ◌≤◌, ℕ, Bool, true, List, [], Result, Ok, Err, Option, Some, None, refl, sym}
+use Rattle.std.proofs.Common.{ap, ◌∙◌, subst}
 use Rattle.std.specs.Prelude.{OnOk, IfOk, IfErr, IfNone, if◌then◌else◌, slice_index, length}
 use Rattle.ffs_image.specs.Device.{Device, Faulted}
 use Rattle.ffs_image.specs.Reads.{ReadAfter}
@@ -45,20 +46,26 @@ pub volume_in : (v v' : Layout) (d d' : Device) → v' ≡ v → d ≡ d' → v'
     → v.size * v.fsize ≤ d.size
 volume_in v v' d d' e t h = rw (t, ← e) h
 
-pub blocks_in : (v v' : Layout) (contents contents' : Option (List ℕ)) (blocks : Blocks) → v' ≡ v → contents ≡ contents' → BlocksHold v' contents' blocks → BlocksHold v contents blocks
+pub blocks_in : (v v' : Layout) (contents contents' : Option (List ℕ)) (blocks : Blocks) → v' ≡ v → contents ≡ contents'
+    → BlocksHold v' contents' blocks → BlocksHold v contents blocks
 blocks_in v v' contents contents' blocks e t h = rw (t, ← e) h
 
 -- the survey of the directories of a volume
-pub volume_survey : (t : Base) (b kinds : List ℕ) (counts : List ℕ) (flags marks : List Bool) (ups : List ℕ) → length kinds ≡ inodes_of t.layout
+pub volume_survey : (t : Base) (b kinds : List ℕ) (counts : List ℕ) (flags marks : List Bool) (ups : List ℕ) →
+    length kinds ≡ inodes_of t.layout
     → ((x : ℕ) → slice_index kinds x ≡ kind_at t.layout b x)
-    → IsSurvey (graph_with kinds (dir_entries t b)) counts flags marks ups → IsSurvey (graph_of (volume_of t.layout b)) counts flags marks ups
+    → IsSurvey (graph_with kinds (dir_entries t b)) counts flags marks ups →
+    IsSurvey (graph_of (volume_of t.layout b)) counts flags marks ups
 unfolding volume_of volume_with
 volume_survey t b kinds counts flags marks ups n k s =
-    survey_is (volume_of t.layout b) kinds (roled_entries (volume_of t.layout b)) counts flags marks ups n (λ x. kind_dirs t.layout b kinds x (k x)) (λ d. refl)
-    (survey_same (length kinds) (dir_at kinds) (dir_entries t b) (roled_entries (volume_of t.layout b)) counts flags marks ups (λ d e. inside d e) s)
+    survey_is (volume_of t.layout b) kinds (roled_entries (volume_of t.layout b)) counts flags marks ups n
+    (λ x. kind_dirs t.layout b kinds x (k x)) (λ d. refl)
+    (survey_same (length kinds) (dir_at kinds) (dir_entries t b) (roled_entries (volume_of t.layout b)) counts flags
+    marks ups (λ d e. inside d e) s)
   where
     inside : (d : ℕ) → dir_at kinds d ≡ true → dir_entries t b d ≡ roled_entries (volume_of t.layout b) d
-    inside d e = ap (λ x. if x then roled_entries (volume_of t.layout b) d else []) (sym (kind_dirs t.layout b kinds d (k d)) ∙ e)
+    inside d e = ap (λ x. if x then roled_entries (volume_of t.layout b) d else [])
+        (sym (kind_dirs t.layout b kinds d (k d)) ∙ e)
 
 -- lists that hold the survey of a volume
 pub holds_survey : (v : Layout) (b : List ℕ) (w : Workspace) (counts : List ℕ) (flags marks : List Bool) (ups : List ℕ)
@@ -73,8 +80,10 @@ holds_survey v b w counts flags marks ups c f m u s = record {
 }
 
 -- flags of a survey of a volume
-pub volume_calm : (t : Base) (b kinds : List ℕ) (marked marks : List Bool) (ups : List ℕ) (flags : List Bool) → AreCalm kinds marked marks ups (dir_entries t b) (dir_sound t b) flags
-    → AreCalm kinds marked marks ups (roled_entries (volume_of t.layout b)) (is_right_directory (volume_of t.layout b)) flags
+pub volume_calm : (t : Base) (b kinds : List ℕ) (marked marks : List Bool) (ups : List ℕ) (flags : List Bool) →
+    AreCalm kinds marked marks ups (dir_entries t b) (dir_sound t b) flags
+    → AreCalm kinds marked marks ups (roled_entries (volume_of t.layout b)) (is_right_directory (volume_of t.layout b))
+    flags
 volume_calm t b kinds marked marks ups flags h d set =
     let c = h d set in
     let v = volume_of t.layout b in
@@ -90,9 +99,12 @@ volume_calm t b kinds marked marks ups flags h d set =
     })
 
 -- flags in a workspace
-pub holds_calm : (v : Layout) (b : List ℕ) (w : Workspace) (kinds : List ℕ) (marked marks : List Bool) (ups : List ℕ) (flags : List Bool)
-    → w.kinds.items ≡ kinds → w.marked.items ≡ marked → w.reached.items ≡ marks → w.parents.items ≡ ups → w.leaders.items ≡ flags
-    → AreCalm kinds marked marks ups (roled_entries (volume_of v b)) (is_right_directory (volume_of v b)) flags → FlagsCalm v b w
+pub holds_calm : (v : Layout) (b : List ℕ) (w : Workspace) (kinds : List ℕ) (marked marks : List Bool) (ups : List ℕ)
+    (flags : List Bool)
+    → w.kinds.items ≡ kinds → w.marked.items ≡ marked → w.reached.items ≡ marks → w.parents.items ≡ ups →
+    w.leaders.items ≡ flags
+    → AreCalm kinds marked marks ups (roled_entries (volume_of v b)) (is_right_directory (volume_of v b)) flags →
+    FlagsCalm v b w
 holds_calm v b w kinds marked marks ups flags k m r p f h =
     let es = roled_entries (volume_of v b) in
     let right = is_right_directory (volume_of v b) in

@@ -1,5 +1,6 @@
 -- What a reading of a directory has still to give.
-use Rattle.std.specs.Prelude.{◌≡◌, ◌<◌, ◌≤◌, ◌^◌, ℕ, ◌+◌, Bool, false, ◌||◌, List, [], ◌∷◌, ◌++◌, take, Option, MatchOption}
+use Rattle.std.specs.Prelude.{◌≡◌, ◌<◌, ◌≤◌, ◌^◌, ℕ, ◌+◌, Bool, false, ◌||◌, List, [], ◌∷◌, ◌++◌, take, Option}
+use Rattle.std.specs.Prelude.{MatchOption}
 use Rattle.ffs_volume.specs.declared.Layout.{Layout}
 use Rattle.ffs_volume.specs.declared.Inode.{Inode}
 use Rattle.ffs_volume.specs.declared.Step.{Step}
@@ -16,7 +17,8 @@ use Rattle.ffs_names.specs.declared.chunks.Chunks.{Chunks}
 -- the chunks of steps to come
 abbrev pub chunks_after : List ℕ → Chunks → List Step → List Chunk
 chunks_after b c steps =
-    chunks_of (reading_by c.walk.geometry.layout b c.taken) (is_run_in_range c.walk.geometry.layout) (replayed_steps c.walk.geometry.layout c.keeping.cut (replay_in c.keeping) steps)
+    chunks_of (reading_by c.walk.geometry.layout b c.taken) (is_run_in_range c.walk.geometry.layout)
+    (replayed_steps c.walk.geometry.layout c.keeping.cut (replay_in c.keeping) steps)
 
 -- the chunks of the current Run, and of the steps to come
 abbrev pub all_chunks : List ℕ → Chunks → List Chunk

@@ -15,4 +15,5 @@ use Rattle.ffs_volume.specs.Encodings.ReplayCounts.{replayed_runs}
 abbrev pub RunsAreSeen : Type 0
 RunsAreSeen = (v : Layout) (image : List ℕ) (x : ℕ) → IsValidLayout v → is_inode_number v x ≡ true →
     (after_owner v (claims_before v image x) (owner_of v image x)).runs
-    ≡ (claims_before v image x).runs + replayed_runs v (cut_at v image x) fresh_replay (steps_of v (inode_of v image x) image)
+    ≡ (claims_before v image x).runs + replayed_runs v (cut_at v image x) fresh_replay
+    (steps_of v (inode_of v image x) image)

@@ -1,5 +1,6 @@
 -- What a reading of a directory shows of its shape.
-use Rattle.std.specs.Prelude.{◌≡◌, ◌<◌, ◌^◌, ℕ, ◌+◌, ◌==◌, Bool, true, not, ◌&&◌, ◌||◌, List, [], ◌∷◌, sum_by, Option, MatchOption, IfNone}
+use Rattle.std.specs.Prelude.{◌≡◌, ◌<◌, ◌^◌, ℕ, ◌+◌, ◌==◌, Bool, true, not, ◌&&◌, ◌||◌, List, [], ◌∷◌, sum_by, Option}
+use Rattle.std.specs.Prelude.{MatchOption, IfNone}
 use Rattle.std.specs.List.{flat_map}
 use Rattle.ffs_volume.specs.declared.Layout.{Layout}
 use Rattle.ffs_volume.specs.declared.Inode.{Inode}

@@ -20,4 +20,5 @@ pub record IsUntouched (old new : Workspace) : Type 0 where
 
 -- the list `leaders` flags only directories that the survey found calm, by the kinds and marks of the workspace
 pub record FlagsCalm (v : Layout) (b : List ℕ) (w : Workspace) : Type 0 where
-  pub calm : AreCalm w.kinds.items w.marked.items w.reached.items w.parents.items (roled_entries (volume_of v b)) (is_right_directory (volume_of v b)) w.leaders.items
+  pub calm : AreCalm w.kinds.items w.marked.items w.reached.items w.parents.items (roled_entries (volume_of v b))
+      (is_right_directory (volume_of v b)) w.leaders.items

@@ -1,5 +1,6 @@
 -- A directory that is begun, and how its lines continue.
-use Rattle.std.proofs.Common.{◌≡◌, ◌≤◌, suc, Result, Ok, refl, sym, ap, subst, ◌∙◌, ℕ, Bool, true, List, [], ◌++◌, map, Option, Err, nat_le, nat_lt, append-nil}
+use Rattle.std.proofs.Common.{◌≡◌, ◌≤◌, suc, Result, Ok, refl, sym, ap, subst, ◌∙◌, ℕ, Bool, true, List, [], ◌++◌, map}
+use Rattle.std.proofs.Common.{Option, Err, nat_le, nat_lt, append-nil}
 use Rattle.std.specs.Prelude.{option_and_then, OnOk}
 use Rattle.std.proofs.lemmas.List.{map-append}
 use Rattle.std.proofs.lemmas.Bool.{and_parts, ltb-true}
@@ -33,15 +34,18 @@ use Rattle.ffs_pathnames.proofs.HeaderLaws.{dir_parts}
 
 -- what is said of what is known, where more is known and it has another form
 pub said_same : (knows knows' : List ℕ → Type 0) (all all' : List ℕ → List Message) (a b : Progress) →
-    ForBytes knows' knows → ForBytes knows' (λ bytes. all bytes ≡ all' bytes) → SaidOf knows (λ bytes. []) all a b → SaidOf knows' (λ bytes. []) all' a b
+    ForBytes knows' knows → ForBytes knows' (λ bytes. all bytes ≡ all' bytes) → SaidOf knows (λ bytes. []) all a b →
+    SaidOf knows' (λ bytes. []) all' a b
 said_same knows knows' all all' a b more e p = record {
   messages = p.messages;
   right = λ bytes k. p.right bytes (more bytes k) ∙ e bytes k;
   said = p.said;
 }
 
-pub fault_same : (T E : Type 0) (knows knows' : List ℕ → Type 0) (all all' : List ℕ → List Message) (a b : Progress) (fault : RunFault) →
-    ForBytes knows' knows → ForBytes knows' (λ bytes. all bytes ≡ all' bytes) → PhaseReports {T = T} knows all a b (Err fault) → PhaseReports {T = E} knows' all' a b (Err fault)
+pub fault_same : (T E : Type 0) (knows knows' : List ℕ → Type 0) (all all' : List ℕ → List Message) (a b : Progress)
+    (fault : RunFault) →
+    ForBytes knows' knows → ForBytes knows' (λ bytes. all bytes ≡ all' bytes) →
+    PhaseReports {T = T} knows all a b (Err fault) → PhaseReports {T = E} knows' all' a b (Err fault)
 fault_same T E knows knows' all all' a b (Read fault) more e p = record {
   rest = p.rest;
   prefix = record {
@@ -63,10 +67,12 @@ unfolding attributes volume_of volume_with
 attr_size v b d = refl
 
 -- what was found is the volume's
-pub starts_are : (v : Layout) (b : List ℕ) (d : ℕ) (old new : Workspace) (e : DirectorySummary) (start : List ℕ) (above : Option ℕ) (first second : Option Entry) →
+pub starts_are : (v : Layout) (b : List ℕ) (d : ℕ) (old new : Workspace) (e : DirectorySummary) (start : List ℕ)
+    (above : Option ℕ) (first second : Option Entry) →
     AreFound v b d old e new start → above ≡ parent (graph_of (volume_of v b)) d →
     first ≡ started_entry 0 e.found.started v.order start → second ≡ started_entry 1 e.found.started v.order start →
-    header_reported (attributes (volume_of v b) d) (dir_path (graph_of (volume_of v b)) d) d above e.found.gap e.found.sound first second ≡ dir_starts (volume_of v b) d
+    header_reported (attributes (volume_of v b) d) (dir_path (graph_of (volume_of v b)) d) d above e.found.gap
+    e.found.sound first second ≡ dir_starts (volume_of v b) d
 unfolding dir_starts start_entry
 starts_are v b d old new e start above first second f p q r =
     let V = volume_of v b in
@@ -75,18 +81,22 @@ starts_are v b d old new e start above first second f p q r =
     ap (λ x. header_reported A P d x e.found.gap e.found.sound first second) p
     ∙ (ap (λ x. header_reported A P d (parent (graph_of V) d) x e.found.sound first second) f.gap
     ∙ (ap (λ x. header_reported A P d (parent (graph_of V) d) (V.gap d) x first second) f.sound
-    ∙ (ap (λ x. header_reported A P d (parent (graph_of V) d) (V.gap d) (are_sound (V.chunks d)) x second) (q ∙ sym (ap (option_and_then (λ c. nth_entry 0 c.entries)) f.started))
-    ∙ ap (λ x. header_reported A P d (parent (graph_of V) d) (V.gap d) (are_sound (V.chunks d)) (start_entry V d 0) x) (r ∙ sym (ap (option_and_then (λ c. nth_entry 1 c.entries)) f.started)))))
+    ∙ (ap (λ x. header_reported A P d (parent (graph_of V) d) (V.gap d) (are_sound (V.chunks d)) x second)
+    (q ∙ sym (ap (option_and_then (λ c. nth_entry 0 c.entries)) f.started))
+    ∙ ap (λ x. header_reported A P d (parent (graph_of V) d) (V.gap d) (are_sound (V.chunks d)) (start_entry V d 0) x)
+    (r ∙ sym (ap (option_and_then (λ c. nth_entry 1 c.entries)) f.started)))))
 
 abbrev marks_with : List Bool → List ℕ → Marks
 marks_with passed stamps = record { passed = passed; stamps = stamps }
 
 pub begun_is : (v : Layout) (b : List ℕ) (d : ℕ) (old new more : Workspace) (e : DirectorySummary) (start : List ℕ) →
-    AreFound v b d old e new start → LeavesQueue old new → more ≡ record new { windows = more.windows } → IsBegun v b d old e more
+    AreFound v b d old e new start → LeavesQueue old new → more ≡ record new { windows = more.windows } →
+    IsBegun v b d old e more
 begun_is v b d old new more e start f q m = record {
   inode = f.inode;
   quiet = f.quiet;
-  marks = ap (λ l. marks_with l.items more.queue.items) (ap (λ (w : Workspace). w.leaders) m ∙ q.leaders) ∙ ap (λ s. marks_with old.leaders.items s) (ap (λ (w : Workspace). w.queue.items) m ∙ f.stamps);
+  marks = ap (λ l. marks_with l.items more.queue.items) (ap (λ (w : Workspace). w.leaders) m ∙ q.leaders)
+      ∙ ap (λ s. marks_with old.leaders.items s) (ap (λ (w : Workspace). w.queue.items) m ∙ f.stamps);
 }
 
 -- a directory among the inodes
@@ -101,31 +111,44 @@ pub lines_parts : (v : Volume) (d : ℕ) (ms : List NameMessage) → lines_of_en
     map of_names (dir_lines v d) ≡ map of_names (dir_starts v d) ++ map of_names ms
 unfolding dir_starts
 lines_parts v d ms e =
-    ap (map of_names) (dir_parts v d ∙ ap (λ l. header_reported (attributes v d) (dir_path (graph_of v) d) d (parent (graph_of v) d) (v.gap d) (are_sound (v.chunks d)) (start_entry v d 0) (start_entry v d 1) ++ l) e)
-    ∙ map-append of_names (header_reported (attributes v d) (dir_path (graph_of v) d) d (parent (graph_of v) d) (v.gap d) (are_sound (v.chunks d)) (start_entry v d 0) (start_entry v d 1)) ms
+    ap (map of_names) (dir_parts v d
+    ∙ ap (λ l. header_reported (attributes v d) (dir_path (graph_of v) d) d (parent (graph_of v) d) (v.gap d)
+    (are_sound (v.chunks d)) (start_entry v d 0) (start_entry v d 1) ++ l) e)
+    ∙ map-append of_names (header_reported (attributes v d) (dir_path (graph_of v) d) d (parent (graph_of v) d)
+    (v.gap d) (are_sound (v.chunks d)) (start_entry v d 0) (start_entry v d 1)) ms
 
-pub quiet_lines : (v : Volume) (d : ℕ) (m : Marks) → IsDirectory v d → AreRightBefore v d m → are_quiet v d m.stamps (roled_entries v d) ≡ true → lines_of_entries v d 0 (roled_entries v d) ≡ []
+pub quiet_lines : (v : Volume) (d : ℕ) (m : Marks) → IsDirectory v d → AreRightBefore v d m →
+    are_quiet v d m.stamps (roled_entries v d) ≡ true → lines_of_entries v d 0 (roled_entries v d) ≡ []
 unfolding size_of
-quiet_lines v d m dir r h = quiet_silent v d [] (roled_entries v d) m.stamps dir refl r.stamps_length (unstamped v d m r) h
+quiet_lines v d m dir r h = quiet_silent v d [] (roled_entries v d) m.stamps dir refl r.stamps_length
+    (unstamped v d m r) h
 
-pub reported_lines : (v : Volume) (d : ℕ) (m : Marks) → IsDirectory v d → AreRightBefore v d m → lines_of_entries v d 0 (roled_entries v d) ≡ entries_reported v d (looked v d m) (roled_entries v d)
+pub reported_lines : (v : Volume) (d : ℕ) (m : Marks) → IsDirectory v d → AreRightBefore v d m →
+    lines_of_entries v d 0 (roled_entries v d) ≡ entries_reported v d (looked v d m) (roled_entries v d)
 unfolding size_of
 reported_lines v d m dir r = right_reported v d [] (roled_entries v d) (looked v d m) dir refl (looked_right v d m r)
 
-pub quiet_parts : (v : Volume) (d : ℕ) (m : Marks) → IsDirectory v d → AreRightBefore v d m → are_quiet v d m.stamps (roled_entries v d) ≡ true →
+pub quiet_parts : (v : Volume) (d : ℕ) (m : Marks) → IsDirectory v d → AreRightBefore v d m →
+    are_quiet v d m.stamps (roled_entries v d) ≡ true →
     map of_names (dir_starts v d) ≡ map of_names (dir_lines v d)
-quiet_parts v d m dir r h = sym (lines_parts v d [] (quiet_lines v d m dir r h) ∙ append-nil (map of_names (dir_starts v d)))
+quiet_parts v d m dir r h =
+    sym (lines_parts v d [] (quiet_lines v d m dir r h) ∙ append-nil (map of_names (dir_starts v d)))
 
 pub reported_parts : (v : Volume) (d : ℕ) (m m' : Marks) → IsDirectory v d → AreRightBefore v d m → m' ≡ looked v d m →
-    map of_names (dir_lines v d) ≡ map of_names (dir_starts v d) ++ map of_names (entries_reported v d m' (roled_entries v d))
-reported_parts v d m m' dir r e = lines_parts v d (entries_reported v d m' (roled_entries v d)) (reported_lines v d m dir r ∙ sym (ap (λ k. entries_reported v d k (roled_entries v d)) e))
+    map of_names (dir_lines v d) ≡ map of_names (dir_starts v d)
+    ++ map of_names (entries_reported v d m' (roled_entries v d))
+reported_parts v d m m' dir r e = lines_parts v d (entries_reported v d m' (roled_entries v d))
+    (reported_lines v d m dir r ∙ sym (ap (λ k. entries_reported v d k (roled_entries v d)) e))
 
 -- the marks after it
-pub quiet_after : (v : Volume) (d : ℕ) (m m' : Marks) → IsDirectory v d → AreRightBefore v d m → are_quiet v d m.stamps (roled_entries v d) ≡ true → m' ≡ looked v d m → AreRightBefore v (suc d) m'
+pub quiet_after : (v : Volume) (d : ℕ) (m m' : Marks) → IsDirectory v d → AreRightBefore v d m →
+    are_quiet v d m.stamps (roled_entries v d) ≡ true → m' ≡ looked v d m → AreRightBefore v (suc d) m'
 quiet_after v d m m' dir r h e = subst (AreRightBefore v (suc d)) (sym e) (quiet_next v d m dir r h)
 
-pub reported_after : (v : Volume) (d : ℕ) (m m' m'' : Marks) → IsDirectory v d → AreRightBefore v d m → m' ≡ looked v d m → after_entries v d m' (roled_entries v d) ≡ m'' → AreRightBefore v (suc d) m''
-reported_after v d m m' m'' dir r e q = subst (AreRightBefore v (suc d)) (sym (ap (λ k. after_entries v d k (roled_entries v d)) e) ∙ q) (reported_next v d m dir r)
+pub reported_after : (v : Volume) (d : ℕ) (m m' m'' : Marks) → IsDirectory v d → AreRightBefore v d m →
+    m' ≡ looked v d m → after_entries v d m' (roled_entries v d) ≡ m'' → AreRightBefore v (suc d) m''
+reported_after v d m m' m'' dir r e q = subst (AreRightBefore v (suc d))
+    (sym (ap (λ k. after_entries v d k (roled_entries v d)) e) ∙ q) (reported_next v d m dir r)
 
 pub on_ok : {T E : Type 0} (r : Result T E) (P Q : Type 0) → (P → Q) → OnOk r P → OnOk r Q
 on_ok (Ok x) P Q f p = f p

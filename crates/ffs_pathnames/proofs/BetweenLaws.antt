@@ -1,5 +1,6 @@
 -- The marks from one directory to the next.
-use Rattle.std.specs.Prelude.{◌≡◌, ◌≢◌, ℕ, zero, suc, ◌<◌, ◌≤◌, ◌==◌, Bool, true, false, not, ◌&&◌, ◌||◌, if◌then◌else◌, refl, List, [], ◌∷◌, ◌++◌, length, slice_index, slice_set, Option, None, Some, nat_lt}
+use Rattle.std.specs.Prelude.{◌≡◌, ◌≢◌, ℕ, zero, suc, ◌<◌, ◌≤◌, ◌==◌, Bool, true, false, not, ◌&&◌, ◌||◌, if◌then◌else◌}
+use Rattle.std.specs.Prelude.{refl, List, [], ◌∷◌, ◌++◌, length, slice_index, slice_set, Option, None, Some, nat_lt}
 use Rattle.std.specs.List.{list_any}
 use Rattle.std.proofs.Common.{arith, sym, ◌∙◌, ap, subst, inl, inr, append_assoc, append-nil}
 use Rattle.std.proofs.lemmas.List.{get_or-set_other, get_or-set_same, set_past}
@@ -11,7 +12,8 @@ use Rattle.ffs_volume.specs.Directories.Climb.{is_value}
 use Rattle.ffs_volume.proofs.ClimbLaws.{is_value-true}
 use Rattle.ffs_volume.specs.Directories.Graph.{Graph, names, names_in, edge, level, level_edge, parent, parent_by}
 use Rattle.ffs_volume.specs.Directories.Parents.{graph_of}
-use Rattle.ffs_pathnames.specs.Marks.{Marks, after_roled, after_name, after_entries, belongs, after_look, after_looks, are_quiet}
+use Rattle.ffs_pathnames.specs.Marks.{Marks, after_roled, after_name, after_entries, belongs, after_look, after_looks}
+use Rattle.ffs_pathnames.specs.Marks.{are_quiet}
 use Rattle.ffs_pathnames.specs.Calm.{IsSilent}
 use Rattle.ffs_pathnames.specs.MarksRight.{AreRight, AreRightBefore}
 use Rattle.ffs_pathnames.proofs.MarkLaws.{IsDirectory, or_false, and_false, right_after}
@@ -20,19 +22,23 @@ use Rattle.ffs_pathnames.proofs.LookLaws.{AreStamped, stamped_all, looks_all_lon
 -- the parent of a directory names it
 parent_names : (g : Graph) (x s : ℕ) → x ≢ 2 → parent g x ≡ Some s → names_in g s x ≡ true
 unfolding parent
-parent_names g x s n e = go (level g x) (sym (cond-false (x == 2) (Some 2) (parent_by g x (level g x)) (ne_eqb x 2 n)) ∙ e)
+parent_names g x s n e = go (level g x) (sym (cond-false (x == 2) (Some 2) (parent_by g x (level g x)) (ne_eqb x 2 n))
+    ∙ e)
   where
     go : (o : Option ℕ) → parent_by g x o ≡ Some s → names_in g s x ≡ true
     go None h = (and_parts (g.is_dir x) (names_in g s x) (first_below-some (λ s. edge g s x) g.count s h).passes).1
     go (Some zero) h = absurd (cc)
     go (Some (suc k)) h =
-        (and_parts (g.is_dir x) (names_in g s x) (and_parts (is_value (level g s) k) (edge g s x) (first_below-some (level_edge g k x) g.count s h).passes).1).1
+        (and_parts (g.is_dir x) (names_in g s x)
+        (and_parts (is_value (level g s) k) (edge g s x)
+        (first_below-some (level_edge g k x) g.count s h).passes).1).1
 
 belongs_named : (v : Volume) (s x : ℕ) → belongs v s x ≡ true → list_any (names x) (roled_entries v s) ≡ true
 belongs_named v s x h =
     let a = and_parts (is_dir v x) (not (x == 2) && is_value (parent (graph_of v) x) s) h in
     let b = and_parts (not (x == 2)) (is_value (parent (graph_of v) x) s) a.1 in
-    (and_parts (is_dir v s) (list_any (names x) (roled_entries v s)) (parent_names (graph_of v) x s (λ z. other x z b.0) (is_value-true (parent (graph_of v) x) s b.1))).1
+    (and_parts (is_dir v s) (list_any (names x) (roled_entries v s))
+    (parent_names (graph_of v) x s (λ z. other x z b.0) (is_value-true (parent (graph_of v) x) s b.1))).1
   where
     other : (x : ℕ) → x ≡ 2 → not (x == 2) ≡ true → ⊥
     other x z k = let f : false ≡ true = sym (ap not (eq-eqb x 2 z)) ∙ k in cc
@@ -63,26 +69,32 @@ looked_right v s m r = record {
 }
 
 -- STAMPS STAY SMALL
-set_small : (s n a x : ℕ) (stamps : List ℕ) → a ≤ s → slice_index stamps x ≤ s → slice_index (slice_set stamps n a) x ≤ s
+set_small : (s n a x : ℕ) (stamps : List ℕ) → a ≤ s → slice_index stamps x ≤ s →
+    slice_index (slice_set stamps n a) x ≤ s
 set_small s n a x stamps la lx = elim (cases_eq x n) [
   | inl z ↦ elim (cases_lt n (length stamps)) [
-    | inl inside ↦ subst (λ k. k ≤ s) (sym (ap (λ k. slice_index (slice_set stamps n a) k) z ∙ get_or-set_same stamps n a 0 inside)) la
+    | inl inside ↦ subst (λ k. k ≤ s)
+        (sym (ap (λ k. slice_index (slice_set stamps n a) k) z ∙ get_or-set_same stamps n a 0 inside)) la
     | inr past ↦ subst (λ l. slice_index l x ≤ s) (sym (set_past stamps n a past)) lx
   ]
   | inr o ↦ subst (λ k. k ≤ s) (sym (get_or-set_other stamps n x a 0 o)) lx
 ]
 
-pub looks_small : (v : Volume) (s : ℕ) (es : List RoledEntry) (stamps : List ℕ) (x : ℕ) → slice_index stamps x ≤ s → slice_index (after_looks v s stamps es) x ≤ s
+pub looks_small : (v : Volume) (s : ℕ) (es : List RoledEntry) (stamps : List ℕ) (x : ℕ) → slice_index stamps x ≤ s →
+    slice_index (after_looks v s stamps es) x ≤ s
 looks_small v s [] stamps x h = h
-looks_small v s (e ∷ es) stamps x h = looks_small v s es (after_look v s stamps e) x (one (is_plain e.role && belongs v s e.entry.number))
+looks_small v s (e ∷ es) stamps x h =
+    looks_small v s es (after_look v s stamps e) x (one (is_plain e.role && belongs v s e.entry.number))
   where
     one : (b : Bool) → slice_index (if b then slice_set stamps e.entry.number s else stamps) x ≤ s
     one true = set_small s e.entry.number s x stamps (omega arith) h
     one false = h
 
-pub entries_small : (v : Volume) (s : ℕ) (es : List RoledEntry) (m : Marks) (x : ℕ) → slice_index m.stamps x ≤ s → slice_index (after_entries v s m es).stamps x ≤ s
+pub entries_small : (v : Volume) (s : ℕ) (es : List RoledEntry) (m : Marks) (x : ℕ) → slice_index m.stamps x ≤ s →
+    slice_index (after_entries v s m es).stamps x ≤ s
 entries_small v s [] m x h = h
-entries_small v s (e ∷ es) m x h = entries_small v s es (after_roled v s m e) x (one (is_plain e.role && nat_lt e.entry.number v.count))
+entries_small v s (e ∷ es) m x h =
+    entries_small v s es (after_roled v s m e) x (one (is_plain e.role && nat_lt e.entry.number v.count))
   where
     two : (b : Bool) → slice_index (if b then slice_set m.stamps e.entry.number 0 else m.stamps) x ≤ s
     two true = set_small s e.entry.number 0 x m.stamps (omega arith) h
@@ -96,34 +108,43 @@ entries_small v s (e ∷ es) m x h = entries_small v s es (after_roled v s m e) 
 set_calm : (n a x : ℕ) (stamps : List ℕ) → a ≢ 1 → slice_index (slice_set stamps n a) x ≡ 1 → slice_index stamps x ≡ 1
 set_calm n a x stamps na h = elim (cases_eq x n) [
   | inl z ↦ elim (cases_lt n (length stamps)) [
-    | inl inside ↦ absurd (na (sym (ap (λ k. slice_index (slice_set stamps n a) k) z ∙ get_or-set_same stamps n a 0 inside) ∙ h))
+    | inl inside ↦ absurd (na
+        (sym (ap (λ k. slice_index (slice_set stamps n a) k) z ∙ get_or-set_same stamps n a 0 inside) ∙ h))
     | inr past ↦ subst (λ l. slice_index l x ≡ 1) (set_past stamps n a past) h
   ]
   | inr o ↦ sym (get_or-set_other stamps n x a 0 o) ∙ h
 ]
 
-looks_calm : (v : Volume) (s : ℕ) (es : List RoledEntry) (stamps : List ℕ) (x : ℕ) → 2 ≤ s → slice_index (after_looks v s stamps es) x ≡ 1 → slice_index stamps x ≡ 1
+looks_calm : (v : Volume) (s : ℕ) (es : List RoledEntry) (stamps : List ℕ) (x : ℕ) → 2 ≤ s →
+    slice_index (after_looks v s stamps es) x ≡ 1 → slice_index stamps x ≡ 1
 looks_calm v s [] stamps x two h = h
-looks_calm v s (e ∷ es) stamps x two h = one (is_plain e.role && belongs v s e.entry.number) (looks_calm v s es (after_look v s stamps e) x two h)
+looks_calm v s (e ∷ es) stamps x two h =
+    one (is_plain e.role && belongs v s e.entry.number) (looks_calm v s es (after_look v s stamps e) x two h)
   where
-    one : (b : Bool) → slice_index (if b then slice_set stamps e.entry.number s else stamps) x ≡ 1 → slice_index stamps x ≡ 1
+    one : (b : Bool) → slice_index (if b then slice_set stamps e.entry.number s else stamps) x ≡ 1 →
+        slice_index stamps x ≡ 1
     one true k = set_calm e.entry.number s x stamps (λ z. absurd (omega (arith, z, two))) k
     one false k = k
 
-entries_calm : (v : Volume) (s : ℕ) (es : List RoledEntry) (m : Marks) (x : ℕ) → slice_index (after_entries v s m es).stamps x ≡ 1 → slice_index m.stamps x ≡ 1
+entries_calm : (v : Volume) (s : ℕ) (es : List RoledEntry) (m : Marks) (x : ℕ) →
+    slice_index (after_entries v s m es).stamps x ≡ 1 → slice_index m.stamps x ≡ 1
 entries_calm v s [] m x h = h
-entries_calm v s (e ∷ es) m x h = one (is_plain e.role && nat_lt e.entry.number v.count) (entries_calm v s es (after_roled v s m e) x h)
+entries_calm v s (e ∷ es) m x h =
+    one (is_plain e.role && nat_lt e.entry.number v.count) (entries_calm v s es (after_roled v s m e) x h)
   where
-    two : (b : Bool) → slice_index (if b then slice_set m.stamps e.entry.number 0 else m.stamps) x ≡ 1 → slice_index m.stamps x ≡ 1
+    two : (b : Bool) → slice_index (if b then slice_set m.stamps e.entry.number 0 else m.stamps) x ≡ 1 →
+        slice_index m.stamps x ≡ 1
     two true k = set_calm e.entry.number 0 x m.stamps (λ z. absurd (omega (arith, z))) k
     two false k = k
 
-    one : (b : Bool) → slice_index (if b then after_name s m e.entry.number else m).stamps x ≡ 1 → slice_index m.stamps x ≡ 1
+    one : (b : Bool) → slice_index (if b then after_name s m e.entry.number else m).stamps x ≡ 1 →
+        slice_index m.stamps x ≡ 1
     one true k = two (slice_index m.stamps e.entry.number == s) k
     one false k = k
 
 -- THE NEXT DIRECTORY
-pub right_end : (v : Volume) (s : ℕ) (done es : List RoledEntry) (m : Marks) → 2 ≤ s → AreRight v s done m → AreRight v s (done ++ es) (after_entries v s m es)
+pub right_end : (v : Volume) (s : ℕ) (done es : List RoledEntry) (m : Marks) → 2 ≤ s → AreRight v s done m →
+    AreRight v s (done ++ es) (after_entries v s m es)
 right_end v s done [] m two r = subst (λ l. AreRight v s l m) (sym (append-nil done)) r
 right_end v s done (e ∷ es) m two r =
     subst (λ l. AreRight v s l (after_entries v s (after_roled v s m e) es)) (append_assoc done (e ∷ []) es)
@@ -133,28 +154,37 @@ small_next : (s k : ℕ) → k ≤ s → k < suc s
 small_next s k h = omega arith
 
 -- after a directory of which all entries were passed
-pub reported_next : (v : Volume) (s : ℕ) (m : Marks) → IsDirectory v s → AreRightBefore v s m → AreRightBefore v (suc s) (after_entries v s (looked v s m) (roled_entries v s))
+pub reported_next : (v : Volume) (s : ℕ) (m : Marks) → IsDirectory v s → AreRightBefore v s m →
+    AreRightBefore v (suc s) (after_entries v s (looked v s m) (roled_entries v s))
 reported_next v s m d r =
     let whole = right_end v s [] (roled_entries v s) (looked v s m) d.from_two (looked_right v s m r) in
     record {
       passed = λ x h q n o. whole.passed x h q n o
-          ∙ sym (some_below-suc (λ t. names_in (graph_of v) t x) s ∙ ap (λ b. some_below (λ t. names_in (graph_of v) t x) s || (b && list_any (names x) (roled_entries v s))) d.dir);
-      stamps = λ x h. small_next s _ (entries_small v s (roled_entries v s) (looked v s m) x (looks_small v s (roled_entries v s) m.stamps x (small x (r.stamps x h))));
+          ∙ sym (some_below-suc (λ t. names_in (graph_of v) t x) s
+          ∙ ap (λ b. some_below (λ t. names_in (graph_of v) t x) s || (b && list_any (names x) (roled_entries v s)))
+          d.dir);
+      stamps = λ x h. small_next s _
+          (entries_small v s (roled_entries v s) (looked v s m) x
+          (looks_small v s (roled_entries v s) m.stamps x (small x (r.stamps x h))));
       passed_length = whole.passed_length;
       stamps_length = whole.stamps_length;
-      calm = λ x h. r.calm x (looks_calm v s (roled_entries v s) m.stamps x d.from_two (entries_calm v s (roled_entries v s) (looked v s m) x h));
+      calm = λ x h. r.calm x (looks_calm v s (roled_entries v s) m.stamps x d.from_two
+          (entries_calm v s (roled_entries v s) (looked v s m) x h));
     }
   where
     small : (x : ℕ) → slice_index m.stamps x < s → slice_index m.stamps x ≤ s
     small x h = omega arith
 
 -- after a directory of which nothing is reported
-pub quiet_next : (v : Volume) (s : ℕ) (m : Marks) → IsDirectory v s → AreRightBefore v s m → are_quiet v s m.stamps (roled_entries v s) ≡ true → AreRightBefore v (suc s) (looked v s m)
+pub quiet_next : (v : Volume) (s : ℕ) (m : Marks) → IsDirectory v s → AreRightBefore v s m →
+    are_quiet v s m.stamps (roled_entries v s) ≡ true → AreRightBefore v (suc s) (looked v s m)
 quiet_next v s m d r h = record {
   passed = λ x l q n o. r.passed x l q n o
       ∙ sym (some_below-suc (λ t. names_in (graph_of v) t x) s
-      ∙ (ap (λ b. some_below (λ t. names_in (graph_of v) t x) s || (is_dir v s && b)) (suspects_unnamed v s (roled_entries v s) m.stamps x h q n)
-      ∙ (ap (λ b. some_below (λ t. names_in (graph_of v) t x) s || b) (and_false (is_dir v s)) ∙ or_false (some_below (λ t. names_in (graph_of v) t x) s))));
+      ∙ (ap (λ b. some_below (λ t. names_in (graph_of v) t x) s || (is_dir v s && b))
+      (suspects_unnamed v s (roled_entries v s) m.stamps x h q n)
+      ∙ (ap (λ b. some_below (λ t. names_in (graph_of v) t x) s || b) (and_false (is_dir v s))
+      ∙ or_false (some_below (λ t. names_in (graph_of v) t x) s))));
   stamps = λ x l. small_next s _ (looks_small v s (roled_entries v s) m.stamps x (small x (r.stamps x l)));
   passed_length = r.passed_length;
   stamps_length = looks_all_long v s (roled_entries v s) m.stamps ∙ r.stamps_length;
@@ -165,11 +195,14 @@ quiet_next v s m d r h = record {
     small x h = omega arith
 
 -- after an inode that names no suspect, and isn't looked at
-pub other_next : (v : Volume) (s : ℕ) (m : Marks) → ((x : ℕ) → is_suspect v x ≡ true → x ≢ 1 → names_in (graph_of v) s x ≡ false) → AreRightBefore v s m → AreRightBefore v (suc s) m
+pub other_next : (v : Volume) (s : ℕ) (m : Marks) →
+    ((x : ℕ) → is_suspect v x ≡ true → x ≢ 1 → names_in (graph_of v) s x ≡ false) → AreRightBefore v s m →
+    AreRightBefore v (suc s) m
 other_next v s m none r = record {
   passed = λ x h q n o. r.passed x h q n o
       ∙ sym (some_below-suc (λ t. names_in (graph_of v) t x) s
-      ∙ (ap (λ b. some_below (λ t. names_in (graph_of v) t x) s || b) (none x q n) ∙ or_false (some_below (λ t. names_in (graph_of v) t x) s)));
+      ∙ (ap (λ b. some_below (λ t. names_in (graph_of v) t x) s || b) (none x q n)
+      ∙ or_false (some_below (λ t. names_in (graph_of v) t x) s)));
   stamps = λ x h. small_next s _ (small x (r.stamps x h));
   passed_length = r.passed_length;
   stamps_length = r.stamps_length;
@@ -180,11 +213,15 @@ other_next v s m none r = record {
     small x h = omega arith
 
 -- nothing is stamped by s before it is looked at
-pub silent_quiet : (v : Volume) (s : ℕ) (m : Marks) → IsSilent v s → AreRightBefore v s m → are_quiet v s m.stamps (roled_entries v s) ≡ true
-silent_quiet v s m silent r = silent.entries m.stamps (λ y h. let low = r.stamps y h in ne_eqb (slice_index m.stamps y) s (λ z. absurd (omega (arith, z, low))))
+pub silent_quiet : (v : Volume) (s : ℕ) (m : Marks) → IsSilent v s → AreRightBefore v s m →
+    are_quiet v s m.stamps (roled_entries v s) ≡ true
+silent_quiet v s m silent r = silent.entries m.stamps
+    (λ y h. let low = r.stamps y h in ne_eqb (slice_index m.stamps y) s (λ z. absurd (omega (arith, z, low))))
 
 -- after a directory that is left out
 pub silent_next : (v : Volume) (s : ℕ) (m : Marks) → IsSilent v s → AreRightBefore v s m → AreRightBefore v (suc s) m
 silent_next v s m silent r =
     other_next v s m
-    (λ x q n. ap (λ b. is_dir v s && b) (suspects_unnamed v s (roled_entries v s) m.stamps x (silent_quiet v s m silent r) q n) ∙ and_false (is_dir v s)) r
+    (λ x q n. ap (λ b. is_dir v s && b)
+    (suspects_unnamed v s (roled_entries v s) m.stamps x (silent_quiet v s m silent r) q n) ∙ and_false (is_dir v s))
+    r

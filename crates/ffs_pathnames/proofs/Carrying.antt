@@ -1,5 +1,6 @@
 -- What is known between two directories, carried from one to the next.
-use Rattle.std.proofs.Common.{◌≡◌, ◌<◌, ◌-◌, ◌==◌, refl, sym, ap, ◌∙◌, ℕ, zero, suc, Bool, true, false, not, ◌&&◌, ◌||◌, if◌then◌else◌, List, [], ◌∷◌, ◌++◌, map, Option, Some, arith}
+use Rattle.std.proofs.Common.{◌≡◌, ◌<◌, ◌-◌, ◌==◌, refl, sym, ap, ◌∙◌, ℕ, zero, suc, Bool, true, false, not, ◌&&◌, ◌||◌}
+use Rattle.std.proofs.Common.{if◌then◌else◌, List, [], ◌∷◌, ◌++◌, map, Option, Some, arith}
 use Rattle.std.specs.Prelude.{slice_index, Result, Ok, Err, OnOk, IfOk}
 use Rattle.std.specs.List.{list_any}
 use Rattle.ffs_volume.specs.declared.Layout.{Layout}
@@ -7,9 +8,11 @@ use Rattle.ffs_volume.specs.declared.Class.{Class}
 use Rattle.ffs_volume.specs.declared.Class.TheVariants.{Free, Partial, Unknown, File, Dir}
 use Rattle.ffs_volume.specs.Disk.Geometry.{IsValidLayout}
 use Rattle.ffs_volume.specs.Directories.Graph.{names, names_in}
-use Rattle.ffs_volume.specs.Messages.Kinds.{NameMessage, of_names, lines_below, reported, root_none, root_not_dir, root_suspect, lines_from}
+use Rattle.ffs_volume.specs.Messages.Kinds.{NameMessage, of_names, lines_below, reported, root_none, root_not_dir}
+use Rattle.ffs_volume.specs.Messages.Kinds.{root_suspect, lines_from}
 use Rattle.ffs_volume.specs.Directories.Parents.{graph_of}
-use Rattle.ffs_volume.specs.Directories.PathnameCheck.{dir_lines, continues_after_root, lines_of, pathname_lines, root_lines, root_reported}
+use Rattle.ffs_volume.specs.Directories.PathnameCheck.{dir_lines, continues_after_root, lines_of, pathname_lines}
+use Rattle.ffs_volume.specs.Directories.PathnameCheck.{root_lines, root_reported}
 use Rattle.ffs_volume.specs.Blocks.Inodes.{is_directory, is_allocated}
 use Rattle.ffs_volume.specs.Directories.Roles.{Volume, is_dir, is_suspect, roled_entries}
 use Rattle.ffs_volume.proofs.SearchLaws.{some_below-none}
@@ -59,7 +62,8 @@ at_fault_more (Err (Read fault)) P Q f h = f h
 at_fault_more (Err (Out fault)) P Q f h = tt
 
 -- a survey leaves what the block check found
-pub claims_untouched : (v : Layout) (b : List ℕ) (old new : Workspace) → IsUntouched old new → HoldsClaims v b old → HoldsClaims v b new
+pub claims_untouched : (v : Layout) (b : List ℕ) (old new : Workspace) → IsUntouched old new → HoldsClaims v b old →
+    HoldsClaims v b new
 claims_untouched v b old new s h = record {
   used = ap bits_of s.claimed ∙ h.used;
   kinds = λ x. ap (λ k. slice_index k.items x) s.kinds ∙ h.kinds x;
@@ -83,7 +87,9 @@ flag_set true n e h = refl
 flag_set false n e h = absurd (omega (arith, e, h))
 
 -- without marks all is right before the first directory
-clear_right : (v : Layout) (b : List ℕ) (old w : Workspace) → IsFor v w → AreClear old w → ((x : ℕ) → bool_at old.leaders.items x ≡ true → IsSilent (volume_of v b) x) → AreRightBefore (volume_of v b) 2 (marks_of w)
+clear_right : (v : Layout) (b : List ℕ) (old w : Workspace) → IsFor v w → AreClear old w →
+    ((x : ℕ) → bool_at old.leaders.items x ≡ true → IsSilent (volume_of v b) x) →
+    AreRightBefore (volume_of v b) 2 (marks_of w)
 unfolding volume_of volume_with
 clear_right v b old w m c silent = record {
   passed = λ x h q n o. c.passed x ∙ sym (some_below-none (λ t. names_in (graph_of (volume_of v b)) t x) 2
@@ -94,47 +100,70 @@ clear_right v b old w m c silent = record {
   calm = λ x h. silent x (flag_set (bool_at old.leaders.items x) _ (c.stamps x) h);
 }
 
-pub before_first : (v : Layout) (contents : Option (List ℕ)) (b : List ℕ) (old w : Workspace) → contents ≡ Some b → HoldsClaims v b w → HoldsSurvey v b w → IsFor v w → AreClear old w →
+pub before_first : (v : Layout) (contents : Option (List ℕ)) (b : List ℕ) (old w : Workspace) → contents ≡ Some b →
+    HoldsClaims v b w → HoldsSurvey v b w → IsFor v w → AreClear old w →
     ((x : ℕ) → bool_at old.leaders.items x ≡ true → IsSilent (volume_of v b) x) → IsBefore v contents w 2 b
-before_first v contents b old w t h s m c silent = record { reported_is = t; claims = h; survey = s; marks = clear_right v b old w m c silent }
+before_first v contents b old w t h s m c silent =
+    record { reported_is = t; claims = h; survey = s; marks = clear_right v b old w m c silent }
 
 -- what is known of a directory that is looked at
-kind_known : (v : Layout) (b : List ℕ) (w : Workspace) (d : ℕ) (looked : Bool) → HoldsClaims v b w → (slice_index w.kinds.items d == 4) ≡ looked → (kind_at v b d == 4) ≡ looked
+kind_known : (v : Layout) (b : List ℕ) (w : Workspace) (d : ℕ) (looked : Bool) → HoldsClaims v b w →
+    (slice_index w.kinds.items d == 4) ≡ looked → (kind_at v b d == 4) ≡ looked
 kind_known v b w d looked h e = ap (λ k. k == 4) (sym (h.kinds d)) ∙ e
 
-pub directory_context : (v : Layout) (contents : Option (List ℕ)) (w : Workspace) (d : ℕ) (b : List ℕ) → (slice_index w.kinds.items d == 4) ≡ true → IsBefore v contents w d b → DirectoryContext v contents w d b
-directory_context v contents w d b e k = record { reported_is = k.reported_is; claims = k.claims; survey = k.survey; dir = looked_dir v b d (kind_known v b w d true k.claims e) }
+pub directory_context : (v : Layout) (contents : Option (List ℕ)) (w : Workspace) (d : ℕ) (b : List ℕ) →
+    (slice_index w.kinds.items d == 4) ≡ true → IsBefore v contents w d b → DirectoryContext v contents w d b
+directory_context v contents w d b e k = record {
+  reported_is = k.reported_is;
+  claims = k.claims;
+  survey = k.survey;
+  dir = looked_dir v b d (kind_known v b w d true k.claims e);
+}
 
-pub lines_looked : (v : Layout) (contents : Option (List ℕ)) (w : Workspace) (d : ℕ) (b : List ℕ) → (slice_index w.kinds.items d == 4) ≡ true → IsBefore v contents w d b →
+pub lines_looked : (v : Layout) (contents : Option (List ℕ)) (w : Workspace) (d : ℕ) (b : List ℕ) →
+    (slice_index w.kinds.items d == 4) ≡ true → IsBefore v contents w d b →
     lines_of (volume_of v b) d ≡ dir_lines (volume_of v b) d
-lines_looked v contents w d b e k = ap (λ l. if l then dir_lines (volume_of v b) d else []) (looked_is v b d ∙ kind_known v b w d true k.claims e)
+lines_looked v contents w d b e k =
+    ap (λ l. if l then dir_lines (volume_of v b) d else []) (looked_is v b d ∙ kind_known v b w d true k.claims e)
 
-pub lines_other : (v : Layout) (contents : Option (List ℕ)) (w : Workspace) (d : ℕ) (b : List ℕ) → (slice_index w.kinds.items d == 4) ≡ false → IsBefore v contents w d b →
+pub lines_other : (v : Layout) (contents : Option (List ℕ)) (w : Workspace) (d : ℕ) (b : List ℕ) →
+    (slice_index w.kinds.items d == 4) ≡ false → IsBefore v contents w d b →
     lines_of (volume_of v b) d ≡ []
-lines_other v contents w d b e k = ap (λ l. if l then dir_lines (volume_of v b) d else []) (looked_is v b d ∙ kind_known v b w d false k.claims e)
+lines_other v contents w d b e k =
+    ap (λ l. if l then dir_lines (volume_of v b) d else []) (looked_is v b d ∙ kind_known v b w d false k.claims e)
 
 -- the next inode
-pub before_next : (v : Layout) (contents : Option (List ℕ)) (old new : Workspace) (d : ℕ) (b : List ℕ) → LeavesSurvey old new → AreRightBefore (volume_of v b) (suc d) (marks_of new) →
+pub before_next : (v : Layout) (contents : Option (List ℕ)) (old new : Workspace) (d : ℕ) (b : List ℕ) →
+    LeavesSurvey old new → AreRightBefore (volume_of v b) (suc d) (marks_of new) →
     IsBefore v contents old d b → IsBefore v contents new (suc d) b
-before_next v contents old new d b s r k = record { reported_is = k.reported_is; claims = claims_left v b old new s k.claims; survey = survey_left v b old new s k.survey; marks = r }
+before_next v contents old new d b s r k = record {
+  reported_is = k.reported_is;
+  claims = claims_left v b old new s k.claims;
+  survey = survey_left v b old new s k.survey;
+  marks = r;
+}
 
-pub before_other : (v : Layout) (contents : Option (List ℕ)) (w : Workspace) (d : ℕ) (b : List ℕ) → IsValidLayout v → (slice_index w.kinds.items d == 4) ≡ false → IsBefore v contents w d b →
+pub before_other : (v : Layout) (contents : Option (List ℕ)) (w : Workspace) (d : ℕ) (b : List ℕ) → IsValidLayout v →
+    (slice_index w.kinds.items d == 4) ≡ false → IsBefore v contents w d b →
     IsBefore v contents w (suc d) b
 before_other v contents w d b g e k = record {
   reported_is = k.reported_is;
   claims = k.claims;
   survey = k.survey;
-  marks = other_next (volume_of v b) d (marks_of w) (λ x q n. names_none v b d g (kind_known v b w d false k.claims e) x) k.marks;
+  marks = other_next (volume_of v b) d (marks_of w)
+      (λ x q n. names_none v b d g (kind_known v b w d false k.claims e) x) k.marks;
 }
 
 -- a directory that is left out
-pub lines_left_out : (v : Layout) (contents : Option (List ℕ)) (w : Workspace) (d : ℕ) (b : List ℕ) → 2 ≤ d → (slice_index w.kinds.items d == 4) ≡ true → slice_index w.queue.items d ≡ 1 → IsBefore v contents w d b →
+pub lines_left_out : (v : Layout) (contents : Option (List ℕ)) (w : Workspace) (d : ℕ) (b : List ℕ) → 2 ≤ d →
+    (slice_index w.kinds.items d == 4) ≡ true → slice_index w.queue.items d ≡ 1 → IsBefore v contents w d b →
     map of_names (lines_of (volume_of v b) d) ≡ []
 lines_left_out v contents w d b two e stamp k =
     let silent = k.marks.calm d stamp in
     let dir = directory_is (volume_of v b) d two (directory_context v contents w d b e k).dir in
     ap (map of_names) (lines_looked v contents w d b e k)
-    ∙ (sym (quiet_parts (volume_of v b) d (marks_of w) dir k.marks (silent_quiet (volume_of v b) d (marks_of w) silent k.marks)) ∙ ap (map of_names) silent.starts)
+    ∙ (sym (quiet_parts (volume_of v b) d (marks_of w) dir k.marks
+    (silent_quiet (volume_of v b) d (marks_of w) silent k.marks)) ∙ ap (map of_names) silent.starts)
 
 left_out : (a b : Bool) → (a && not b) ≡ false → a ≡ true → b ≡ true
 left_out true true h e = refl
@@ -142,39 +171,47 @@ left_out true false h e = absurd (cc)
 left_out false b h e = absurd (cc)
 
 -- an inode that isn't looked at, or is left out
-pub lines_skipped : (v : Layout) (contents : Option (List ℕ)) (w : Workspace) (d : ℕ) (b : List ℕ) → 2 ≤ d → ((slice_index w.kinds.items d == 4) && not (slice_index w.queue.items d == 1)) ≡ false → IsBefore v contents w d b →
+pub lines_skipped : (v : Layout) (contents : Option (List ℕ)) (w : Workspace) (d : ℕ) (b : List ℕ) → 2 ≤ d →
+    ((slice_index w.kinds.items d == 4) && not (slice_index w.queue.items d == 1)) ≡ false → IsBefore v contents w d b →
     map of_names (lines_of (volume_of v b) d) ≡ []
 lines_skipped v contents w d b two h k = elim (cases_Bool (slice_index w.kinds.items d == 4)) [
   | inl e ↦ lines_left_out v contents w d b two e (eqb-true (slice_index w.queue.items d) 1 (left_out _ _ h e)) k
   | inr e ↦ ap (map of_names) (lines_other v contents w d b e k)
 ]
 
-pub before_skipped : (v : Layout) (contents : Option (List ℕ)) (w : Workspace) (d : ℕ) (b : List ℕ) → IsValidLayout v → ((slice_index w.kinds.items d == 4) && not (slice_index w.queue.items d == 1)) ≡ false → IsBefore v contents w d b →
+pub before_skipped : (v : Layout) (contents : Option (List ℕ)) (w : Workspace) (d : ℕ) (b : List ℕ) → IsValidLayout v →
+    ((slice_index w.kinds.items d == 4) && not (slice_index w.queue.items d == 1)) ≡ false → IsBefore v contents w d b →
     IsBefore v contents w (suc d) b
 before_skipped v contents w d b g h k = elim (cases_Bool (slice_index w.kinds.items d == 4)) [
   | inl e ↦ record {
     reported_is = k.reported_is;
     claims = k.claims;
     survey = k.survey;
-    marks = silent_next (volume_of v b) d (marks_of w) (k.marks.calm d (eqb-true (slice_index w.queue.items d) 1 (left_out _ _ h e))) k.marks;
+    marks = silent_next (volume_of v b) d (marks_of w)
+        (k.marks.calm d (eqb-true (slice_index w.queue.items d) 1 (left_out _ _ h e))) k.marks;
   }
   | inr e ↦ before_other v contents w d b g e k
 ]
 
 -- an image that gives the same
-pub before_reported : (v : Layout) (contents contents' : Option (List ℕ)) (w : Workspace) (d : ℕ) (b : List ℕ) → contents' ≡ contents → IsBefore v contents w d b → IsBefore v contents' w d b
-before_reported v contents contents' w d b e k = record { reported_is = e ∙ k.reported_is; claims = k.claims; survey = k.survey; marks = k.marks }
+pub before_reported : (v : Layout) (contents contents' : Option (List ℕ)) (w : Workspace) (d : ℕ) (b : List ℕ) →
+    contents' ≡ contents → IsBefore v contents w d b → IsBefore v contents' w d b
+before_reported v contents contents' w d b e k =
+    record { reported_is = e ∙ k.reported_is; claims = k.claims; survey = k.survey; marks = k.marks }
 
 -- what is reported of the root
-root_by : (v : Volume) (c : Class) (k : ℕ) (m : Bool) → is_directory c ≡ is_dir_kind k → is_allocated c ≡ is_allocated_kind k → is_suspect v 2 ≡ (m || is_empty_dir_kind k) →
+root_by : (v : Volume) (c : Class) (k : ℕ) (m : Bool) → is_directory c ≡ is_dir_kind k →
+    is_allocated c ≡ is_allocated_kind k → is_suspect v 2 ≡ (m || is_empty_dir_kind k) →
     root_said k m ≡ root_reported v c
 unfolding root_said
 root_by v c k m d a s = go c (k == 0) (is_dir_kind k) refl d a
   where
     tell : Bool → Bool → List NameMessage
-    tell none dir = if none then root_none ∷ [] else (if not dir then root_not_dir ∷ [] else reported (m || is_empty_dir_kind k) root_suspect)
+    tell none dir = if none then root_none ∷ []
+        else (if not dir then root_not_dir ∷ [] else reported (m || is_empty_dir_kind k) root_suspect)
 
-    go : (c : Class) (none dir : Bool) → (k == 0) ≡ none → is_directory c ≡ dir → is_allocated c ≡ not none → tell none dir ≡ root_reported v c
+    go : (c : Class) (none dir : Bool) → (k == 0) ≡ none → is_directory c ≡ dir → is_allocated c ≡ not none →
+        tell none dir ≡ root_reported v c
     go Free true dir e d a = refl
     go Free false dir e d a = absurd (cc)
     go Partial true dir e d a = refl
@@ -189,7 +226,8 @@ root_by v c k m d a s = go c (k == 0) (is_dir_kind k) refl d a
     go Dir false true e d a = ap (λ b. reported b root_suspect) (sym s)
     go Dir false false e d a = absurd (cc)
 
-pub root_is : (v : Layout) (b : List ℕ) (w : Workspace) (k : ℕ) (m : Bool) → k ≡ slice_index w.kinds.items 2 → m ≡ bool_at w.marked.items 2 → HoldsClaims v b w →
+pub root_is : (v : Layout) (b : List ℕ) (w : Workspace) (k : ℕ) (m : Bool) → k ≡ slice_index w.kinds.items 2 →
+    m ≡ bool_at w.marked.items 2 → HoldsClaims v b w →
     root_said k m ≡ root_lines (volume_of v b)
 unfolding root_lines volume_of volume_with
 root_is v b w k m e f h =
@@ -198,7 +236,8 @@ root_is v b w k m e f h =
     ∙ (ap (root_said (kind_at v b 2)) (f ∙ h.marked 2)
     ∙ root_by (volume_of v b) (class_at v b 2) (kind_at v b 2) (marked_at v b 2) t.dir t.allocated (suspect_is v b 2))
 
-pub goes_is : (v : Layout) (b : List ℕ) (w : Workspace) (k : ℕ) → k ≡ slice_index w.kinds.items 2 → HoldsClaims v b w → is_dir_kind k ≡ continues_after_root (volume_of v b)
+pub goes_is : (v : Layout) (b : List ℕ) (w : Workspace) (k : ℕ) → k ≡ slice_index w.kinds.items 2 → HoldsClaims v b w →
+    is_dir_kind k ≡ continues_after_root (volume_of v b)
 unfolding volume_of volume_with
 goes_is v b w k e h = ap is_dir_kind (e ∙ h.kinds 2) ∙ sym (reports_at v b 2).dir
 
@@ -206,16 +245,20 @@ goes_is v b w k e h = ap is_dir_kind (e ∙ h.kinds 2) ∙ sym (reports_at v b 2
 abbrev pub tree_lines : Layout → List ℕ → Bool → List NameMessage
 tree_lines v b goes = if goes then lines_from (lines_of (volume_of v b)) 2 (inodes_of v - 2) else []
 
-lines_begin : (v : Layout) (b : List ℕ) → lines_below (lines_of (volume_of v b)) (volume_of v b).count ≡ lines_from (lines_of (volume_of v b)) 2 (inodes_of v - 2)
+lines_begin : (v : Layout) (b : List ℕ) → lines_below (lines_of (volume_of v b)) (volume_of v b).count
+    ≡ lines_from (lines_of (volume_of v b)) 2 (inodes_of v - 2)
 unfolding volume_of volume_with
 lines_begin v b = all_from_root (lines_of (volume_of v b)) (inodes_of v) refl refl
 
-pub tree_is : (v : Layout) (b : List ℕ) (w : Workspace) (k : ℕ) (m goes : Bool) → k ≡ slice_index w.kinds.items 2 → m ≡ bool_at w.marked.items 2 → HoldsClaims v b w → goes ≡ is_dir_kind k →
+pub tree_is : (v : Layout) (b : List ℕ) (w : Workspace) (k : ℕ) (m goes : Bool) → k ≡ slice_index w.kinds.items 2 →
+    m ≡ bool_at w.marked.items 2 → HoldsClaims v b w → goes ≡ is_dir_kind k →
     map of_names (pathname_lines (volume_of v b)) ≡ map of_names (root_said k m) ++ map of_names (tree_lines v b goes)
 unfolding pathname_lines
 tree_is v b w k m goes e f h q =
     let lines = lines_of (volume_of v b) in
-    ap (λ r. map of_names (r ++ (if continues_after_root (volume_of v b) then lines_below lines (volume_of v b).count else []))) (sym (root_is v b w k m e f h))
-    ∙ (ap (λ g. map of_names (root_said k m ++ (if g then lines_below lines (volume_of v b).count else []))) (sym (q ∙ goes_is v b w k e h))
+    ap (λ r. map of_names (r ++ (if continues_after_root (volume_of v b) then lines_below lines (volume_of v b).count
+    else []))) (sym (root_is v b w k m e f h))
+    ∙ (ap (λ g. map of_names (root_said k m ++ (if g then lines_below lines (volume_of v b).count else [])))
+    (sym (q ∙ goes_is v b w k e h))
     ∙ (ap (λ l. map of_names (root_said k m ++ (if goes then l else []))) (lines_begin v b)
     ∙ names_append (root_said k m) (tree_lines v b goes)))

@@ -1,5 +1,6 @@
 -- What isn't looked at: inodes that are no directories, and directories of size 0, which have no entries.
-use Rattle.std.proofs.Common.{◌≡◌, ◌<◌, ◌==◌, refl, ap, ◌∙◌, ℕ, Bool, true, false, not, ◌&&◌, if◌then◌else◌, List, [], arith}
+use Rattle.std.proofs.Common.{◌≡◌, ◌<◌, ◌==◌, refl, ap, ◌∙◌, ℕ, Bool, true, false, not, ◌&&◌, if◌then◌else◌, List, []}
+use Rattle.std.proofs.Common.{arith}
 use Rattle.std.specs.List.{flat_map, list_any}
 use Rattle.std.proofs.lemmas.Bool.{eqb-true}
 use Rattle.std.proofs.lemmas.Bool.Decides.{nat_tests}
@@ -29,7 +30,8 @@ none_kept v b d h z = one (is_inode_number v d)
     one false = refl
 
 -- no entries where the size is 0
-none_seen : (v : Layout) (b : List ℕ) (d : ℕ) → IsValidLayout v → ((volume_of v b).inode d).size ≡ 0 → roled_entries (volume_of v b) d ≡ []
+none_seen : (v : Layout) (b : List ℕ) (d : ℕ) → IsValidLayout v → ((volume_of v b).inode d).size ≡ 0 →
+    roled_entries (volume_of v b) d ≡ []
 unfolding volume_of volume_with roled_entries
 none_seen v b d g z =
     let low = g.sizes.bsize_low in
@@ -37,7 +39,8 @@ none_seen v b d g z =
     (none_kept v b d (omega arith) z)
 
 -- of two tests of a directory and its kind
-kind_looked : (dir empty : Bool) (k : ℕ) → dir ≡ is_dir_kind k → (dir && empty) ≡ is_empty_dir_kind k → (dir && not empty) ≡ (k == 4)
+kind_looked : (dir empty : Bool) (k : ℕ) → dir ≡ is_dir_kind k → (dir && empty) ≡ is_empty_dir_kind k →
+    (dir && not empty) ≡ (k == 4)
 kind_looked true true k e f = grind (arith, nat_tests)
 kind_looked true false k e f = grind (arith, nat_tests)
 kind_looked false empty k e f = grind (arith, nat_tests)
@@ -45,7 +48,8 @@ kind_looked false empty k e f = grind (arith, nat_tests)
 -- the inodes of the kind 4 are looked at
 pub looked_is : (v : Layout) (b : List ℕ) (d : ℕ) → is_looked_at (volume_of v b) d ≡ (kind_at v b d == 4)
 looked_is v b d =
-    kind_looked (is_dir (volume_of v b) d) (((volume_of v b).inode d).size == 0) (kind_at v b d) (dir_is v b d) (empty_is v b d)
+    kind_looked (is_dir (volume_of v b) d) (((volume_of v b).inode d).size == 0) (kind_at v b d) (dir_is v b d)
+    (empty_is v b d)
 
 looked_parts : (dir empty : Bool) → (dir && not empty) ≡ true → dir ≡ true
 looked_parts true empty h = refl
@@ -55,11 +59,13 @@ pub looked_dir : (v : Layout) (b : List ℕ) (d : ℕ) → (kind_at v b d == 4) 
 looked_dir v b d h = looked_parts (is_dir (volume_of v b) d) (((volume_of v b).inode d).size == 0) (looked_is v b d ∙ h)
 
 -- an inode that isn't looked at names nothing
-pub names_none : (v : Layout) (b : List ℕ) (d : ℕ) → IsValidLayout v → (kind_at v b d == 4) ≡ false → (x : ℕ) → names_in (graph_of (volume_of v b)) d x ≡ false
+pub names_none : (v : Layout) (b : List ℕ) (d : ℕ) → IsValidLayout v → (kind_at v b d == 4) ≡ false → (x : ℕ) →
+    names_in (graph_of (volume_of v b)) d x ≡ false
 names_none v b d g h x =
     go (is_dir (volume_of v b) d) (((volume_of v b).inode d).size == 0) refl (looked_is v b d ∙ h)
   where
-    go : (dir empty : Bool) → (((volume_of v b).inode d).size == 0) ≡ empty → (dir && not empty) ≡ false → (dir && list_any (names x) (roled_entries (volume_of v b) d)) ≡ false
+    go : (dir empty : Bool) → (((volume_of v b).inode d).size == 0) ≡ empty → (dir && not empty) ≡ false →
+        (dir && list_any (names x) (roled_entries (volume_of v b) d)) ≡ false
     go false empty e f = refl
     go true true e f = ap (list_any (names x)) (none_seen v b d g (eqb-true _ 0 e))
     go true false e f = let no_way : true ≡ false = f in absurd (cc)

@@ -12,21 +12,30 @@ use Rattle.ffs_pathnames.specs.declared.verdict.Verdict.TheVariants.{OutOfRange,
 use Rattle.ffs_pathnames.specs.Gathers.{IsEnough, asks_attr, asks_path}
 use Rattle.ffs_pathnames.specs.Verdicts.{verdict_reported, faults_reported, suspect_message}
 
-faults_same : (n : Faults) (about : Attr) (path directory right : List ℕ) → (n.extraneous ≡ true → directory ≡ right) → faults_reported n about path directory ≡ faults_reported n about path right
-faults_same n about path directory right h = ap (λ l. reported n.suspect (suspect_message n about path) ++ (l ++ reported n.kind (kind_entry about n.label path))) (one n.extraneous h)
+faults_same : (n : Faults) (about : Attr) (path directory right : List ℕ) → (n.extraneous ≡ true → directory ≡ right) →
+    faults_reported n about path directory ≡ faults_reported n about path right
+faults_same n about path directory right h =
+    ap (λ l. reported n.suspect (suspect_message n about path)
+    ++ (l ++ reported n.kind (kind_entry about n.label path))) (one n.extraneous h)
   where
-    one : (b : Bool) → (b ≡ true → directory ≡ right) → reported b (extraneous path directory) ≡ reported b (extraneous path right)
+    one : (b : Bool) → (b ≡ true → directory ≡ right) → reported b (extraneous path directory)
+        ≡ reported b (extraneous path right)
     one true k = ap (λ d. reported true (extraneous path d)) (k refl)
     one false k = refl
 
-pub enough : (v : Volume) (verdict : Verdict) (dir number : ℕ) (name : List ℕ) (about : Attr) (path directory : List ℕ) →
-    (asks_attr verdict ≡ true → about ≡ attributes v number) → path ≡ entry_path (graph_of v) dir name → (asks_path verdict ≡ true → directory ≡ dir_path (graph_of v) number) →
+pub enough : (v : Volume) (verdict : Verdict) (dir number : ℕ) (name : List ℕ) (about : Attr) (path directory : List ℕ)
+    →
+    (asks_attr verdict ≡ true → about ≡ attributes v number) → path ≡ entry_path (graph_of v) dir name →
+    (asks_path verdict ≡ true → directory ≡ dir_path (graph_of v) number) →
     IsEnough v verdict dir number name about path directory
-enough v OutOfRange dir number name about path directory a p d = ap (λ q. verdict_reported OutOfRange number about q directory) p
-enough v Whiteout dir number name about path directory a p d = ap (λ q. verdict_reported Whiteout number about q directory) p
+enough v OutOfRange dir number name about path directory a p d =
+    ap (λ q. verdict_reported OutOfRange number about q directory) p
+enough v Whiteout dir number name about path directory a p d =
+    ap (λ q. verdict_reported Whiteout number about q directory) p
 enough v Fine dir number name about path directory a p d = refl
 enough v Unallocated dir number name about path directory a p d =
-    ap (λ q. verdict_reported Unallocated number about q directory) p ∙ ap (λ x. verdict_reported Unallocated number x (entry_path (graph_of v) dir name) directory) (a refl)
+    ap (λ q. verdict_reported Unallocated number about q directory) p
+    ∙ ap (λ x. verdict_reported Unallocated number x (entry_path (graph_of v) dir name) directory) (a refl)
 enough v (Named n) dir number name about path directory a p d =
     ap (λ q. faults_reported n about q directory) p
     ∙ (ap (λ x. faults_reported n x (entry_path (graph_of v) dir name) directory) (a refl)

@@ -1,5 +1,6 @@
 -- The first two entries of a directory, and its parent, as they are found.
-use Rattle.std.proofs.Common.{◌≡◌, ◌≢◌, refl, sym, ap, ◌∙◌, ℕ, zero, suc, ◌+◌, ◌==◌, Bool, true, false, List, ◌∷◌, Option, None, Some}
+use Rattle.std.proofs.Common.{◌≡◌, ◌≢◌, refl, sym, ap, ◌∙◌, ℕ, zero, suc, ◌+◌, ◌==◌, Bool, true, false, List, ◌∷◌}
+use Rattle.std.proofs.Common.{Option, None, Some}
 use Rattle.std.specs.Prelude.{if◌then◌else◌}
 use Rattle.std.specs.Option.{unwrap_or}
 use Rattle.std.proofs.Common.{inl, inr, arith}
@@ -15,27 +16,33 @@ use Rattle.ffs_volume.proofs.Reading.{entries_next, entries_end}
 use Rattle.ffs_pathnames.specs.Begins.{number_if, started_entry}
 
 -- where no entry is at the start, there is none
-pub none_first : (order : Order) (chunk : List ℕ) (i : ℕ) → entry_at order chunk 0 ≡ None → nth_entry i (entries_of order chunk) ≡ None
+pub none_first : (order : Order) (chunk : List ℕ) (i : ℕ) → entry_at order chunk 0 ≡ None →
+    nth_entry i (entries_of order chunk) ≡ None
 none_first order chunk i h = ap (nth_entry i) (entries_end order chunk 0 h)
 
-pub first_is : (order : Order) (chunk : List ℕ) (e : Entry) → entry_at order chunk 0 ≡ Some e → nth_entry 0 (entries_of order chunk) ≡ Some e
+pub first_is : (order : Order) (chunk : List ℕ) (e : Entry) → entry_at order chunk 0 ≡ Some e →
+    nth_entry 0 (entries_of order chunk) ≡ Some e
 first_is order chunk e h = ap (nth_entry 0) (entries_next order chunk 0 e h)
 
 -- the second is after the first
-pub second_is : (order : Order) (chunk : List ℕ) (e : Entry) → entry_at order chunk 0 ≡ Some e → nth_entry 1 (entries_of order chunk) ≡ entry_at order chunk e.length
-second_is order chunk e h = ap (nth_entry 1) (entries_next order chunk 0 e h) ∙ (one (0 + e.length) (entry_at order chunk (0 + e.length)) refl ∙ ap (entry_at order chunk) (from_zero e.length))
+pub second_is : (order : Order) (chunk : List ℕ) (e : Entry) → entry_at order chunk 0 ≡ Some e →
+    nth_entry 1 (entries_of order chunk) ≡ entry_at order chunk e.length
+second_is order chunk e h = ap (nth_entry 1) (entries_next order chunk 0 e h)
+    ∙ (one (0 + e.length) (entry_at order chunk (0 + e.length)) refl ∙ ap (entry_at order chunk) (from_zero e.length))
   where
     from_zero : (n : ℕ) → 0 + n ≡ n
     from_zero n = omega arith
 
-    one : (place : ℕ) (o : Option Entry) → entry_at order chunk place ≡ o → nth_entry 1 (e ∷ entries_from order chunk 64 place) ≡ entry_at order chunk place
+    one : (place : ℕ) (o : Option Entry) → entry_at order chunk place ≡ o →
+        nth_entry 1 (e ∷ entries_from order chunk 64 place) ≡ entry_at order chunk place
     one place None q = ap (λ es. nth_entry 1 (e ∷ es)) (entries_end order chunk place q) ∙ sym q
     one place (Some f) q = ap (λ es. nth_entry 1 (e ∷ es)) (entries_next order chunk place f q) ∙ sym q
 
 -- a parent is a directory
 parent_dir : (g : Graph) (x s : ℕ) → x ≢ 2 → parent g x ≡ Some s → g.is_dir s ≡ true
 unfolding parent
-parent_dir g x s n e = go (level g x) (sym (cond-false (x == 2) (Some 2) (parent_by g x (level g x)) (ne_eqb x 2 n)) ∙ e)
+parent_dir g x s n e = go (level g x) (sym (cond-false (x == 2) (Some 2) (parent_by g x (level g x)) (ne_eqb x 2 n))
+    ∙ e)
   where
     inside : edge g s x ≡ true → g.is_dir s ≡ true
     inside h = (and_parts (g.is_dir s) _ (and_parts (g.is_dir x) (names_in g s x) h).1).0
@@ -43,7 +50,8 @@ parent_dir g x s n e = go (level g x) (sym (cond-false (x == 2) (Some 2) (parent
     go : (o : Option ℕ) → parent_by g x o ≡ Some s → g.is_dir s ≡ true
     go None h = inside (first_below-some (λ s. edge g s x) g.count s h).passes
     go (Some zero) h = absurd (cc)
-    go (Some (suc k)) h = inside (and_parts (is_value (level g s) k) (edge g s x) (first_below-some (level_edge g k x) g.count s h).passes).1
+    go (Some (suc k)) h = inside
+        (and_parts (is_value (level g s) k) (edge g s x) (first_below-some (level_edge g k x) g.count s h).passes).1
 
 root_parent : (g : Graph) (x : ℕ) → x ≡ 2 → parent g x ≡ Some 2
 unfolding parent
@@ -55,7 +63,8 @@ parent_back v x = one (parent (graph_of v) x) refl
   where
     no_zero : parent (graph_of v) x ≡ Some 0 → ⊥
     no_zero e = elim (cases_eq x 2) [
-      | inl z ↦ let wrong : 2 ≡ 0 = ap (λ o. unwrap_or o 0) (sym (root_parent (graph_of v) x z) ∙ e) in absurd (omega (arith, wrong))
+      | inl z ↦ let wrong : 2 ≡ 0 = ap (λ o. unwrap_or o 0) (sym (root_parent (graph_of v) x z) ∙ e) in
+          absurd (omega (arith, wrong))
       | inr n ↦ both_ways ((graph_of v).is_dir 0) refl (parent_dir (graph_of v) x 0 n e)
     ]
 
@@ -67,15 +76,18 @@ parent_back v x = one (parent (graph_of v) x) refl
     ]
 
 -- in terms of the chunk that was found
-pub none_found : (order : Order) (start : List ℕ) (i : ℕ) (started : Bool) → entry_at order start 0 ≡ None → None ≡ started_entry i started order start
+pub none_found : (order : Order) (start : List ℕ) (i : ℕ) (started : Bool) → entry_at order start 0 ≡ None →
+    None ≡ started_entry i started order start
 none_found order start i true h = sym (none_first order start i h)
 none_found order start i false h = refl
 
-pub first_found : (order : Order) (start : List ℕ) (started : Bool) (e : Entry) → started ≡ true → entry_at order start 0 ≡ Some e → Some e ≡ started_entry 0 started order start
+pub first_found : (order : Order) (start : List ℕ) (started : Bool) (e : Entry) → started ≡ true →
+    entry_at order start 0 ≡ Some e → Some e ≡ started_entry 0 started order start
 first_found order start true e s h = sym (first_is order start e h)
 first_found order start false e s h = absurd (cc)
 
-pub second_found : (order : Order) (start : List ℕ) (started : Bool) (e : Entry) (o : Option Entry) → started ≡ true → entry_at order start 0 ≡ Some e → o ≡ entry_at order start e.length →
+pub second_found : (order : Order) (start : List ℕ) (started : Bool) (e : Entry) (o : Option Entry) → started ≡ true →
+    entry_at order start 0 ≡ Some e → o ≡ entry_at order start e.length →
     o ≡ started_entry 1 started order start
 second_found order start true e o s h q = q ∙ sym (second_is order start e h)
 second_found order start false e o s h q = absurd (cc)

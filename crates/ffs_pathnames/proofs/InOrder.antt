@@ -1,5 +1,6 @@
 -- Nothing is reported of a directory that is in order.
-use Rattle.std.proofs.Common.{◌≡◌, refl, ap, ◌∙◌, ℕ, ◌==◌, ◌%◌, Bool, true, false, not, ◌&&◌, List, [], ◌++◌, Option, None, Some, nat_lt}
+use Rattle.std.proofs.Common.{◌≡◌, refl, ap, ◌∙◌, ℕ, ◌==◌, ◌%◌, Bool, true, false, not, ◌&&◌, List, [], ◌++◌, Option}
+use Rattle.std.proofs.Common.{None, Some, nat_lt}
 use Rattle.std.specs.Prelude.{cond}
 use Rattle.std.proofs.lemmas.Bool.{and_parts}
 use Rattle.ffs_pathnames.proofs.MarkLaws.{and_false}
@@ -17,14 +18,17 @@ pub two : (xs ys : List NameMessage) → xs ≡ [] → ys ≡ [] → xs ++ ys �
 two xs ys p q = ap (λ l. l ++ ys) p ∙ q
 
 -- `..`
-pub dotdot_right : (about : Attr) (path : List ℕ) (parent : Option ℕ) (e : Entry) → is_live e ≡ true → is_two_dots e.name ≡ true → is_wrong_parent parent e.number ≡ false → (e.kind == 4) ≡ true →
+pub dotdot_right : (about : Attr) (path : List ℕ) (parent : Option ℕ) (e : Entry) → is_live e ≡ true →
+    is_two_dots e.name ≡ true → is_wrong_parent parent e.number ≡ false → (e.kind == 4) ≡ true →
     dotdot_said about path parent (Some e) (dotdot_in (Some e)) ≡ []
 dotdot_right about path parent e live name number kind =
-    ap (λ t. dotdot_said about path parent (Some e) (cond t (Some e) None)) (ap (λ t. t && is_two_dots e.name) live ∙ name)
+    ap (λ t. dotdot_said about path parent (Some e) (cond t (Some e) None))
+    (ap (λ t. t && is_two_dots e.name) live ∙ name)
     ∙ two _ _ (silent _ _ number) (silent _ _ (ap not kind))
 
 -- all of it
-pub all_right : (about : Attr) (path : List ℕ) (d : ℕ) (parent : Option ℕ) (gap sound : Bool) (first second : Option Entry) →
+pub all_right : (about : Attr) (path : List ℕ) (d : ℕ) (parent : Option ℕ) (gap sound : Bool)
+    (first second : Option Entry) →
     nat_lt about.size 24 ≡ false → (about.size % 512 == 0) ≡ true → gap ≡ false → sound ≡ true →
     dot_said about path d first (dot_in first) ≡ [] → dotdot_said about path parent second (dotdot_in second) ≡ [] →
     header_reported about path d parent gap sound first second ≡ []
@@ -32,12 +36,14 @@ unfolding header_reported
 all_right about path d parent gap sound first second long even none all dot dotdot =
     two _ _
     (two _ _
-    (two _ _ (silent _ _ long) (silent _ _ (ap (λ t. not (nat_lt about.size 24) && not t) even ∙ and_false (not (nat_lt about.size 24)))))
+    (two _ _ (silent _ _ long)
+    (silent _ _ (ap (λ t. not (nat_lt about.size 24) && not t) even ∙ and_false (not (nat_lt about.size 24)))))
     (two _ _ (silent _ _ none) (silent _ _ (ap not all))))
     (two _ _ dot dotdot)
 
 -- the same from one test of the size, the Gaps and the chunks
-pub in_order : (about : Attr) (path : List ℕ) (d size : ℕ) (parent : Option ℕ) (gap sound : Bool) (first second : Option Entry) → about.size ≡ size →
+pub in_order : (about : Attr) (path : List ℕ) (d size : ℕ) (parent : Option ℕ) (gap sound : Bool)
+    (first second : Option Entry) → about.size ≡ size →
     (not (nat_lt size 24) && ((size % 512 == 0) && (not gap && sound))) ≡ true →
     dot_said about path d first (dot_in first) ≡ [] → dotdot_said about path parent second (dotdot_in second) ≡ [] →
     header_reported about path d parent gap sound first second ≡ []

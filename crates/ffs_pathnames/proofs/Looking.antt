@@ -1,5 +1,6 @@
 -- A look at the entries of a chunk, one after another.
-use Rattle.std.proofs.Common.{◌≡◌, refl, sym, ap, ◌∙◌, ℕ, suc, ◌+◌, arith, Bool, true, false, ◌&&◌, ◌==◌, List, [], ◌∷◌, Option, Some, None, option_map}
+use Rattle.std.proofs.Common.{◌≡◌, refl, sym, ap, ◌∙◌, ℕ, suc, ◌+◌, arith, Bool, true, false, ◌&&◌, ◌==◌, List, [], ◌∷◌}
+use Rattle.std.proofs.Common.{Option, Some, None, option_map}
 use Rattle.std.specs.Prelude.{sum_by}
 use Rattle.std.proofs.lemmas.List.Sums.{sum_by-cons}
 use Rattle.std.proofs.Math.Bool.{and-true}
@@ -20,29 +21,38 @@ and_assoc false b c = refl
 abbrev pub roled_at_place : Order → List ℕ → Bool → ℕ → ℕ → List RoledEntry
 roled_at_place order chunk first index place = roled_from first index (entries_from order chunk 64 place)
 
-pub seen_next : (order : Order) (chunk : List ℕ) (first : Bool) (index place : ℕ) (e : Entry) (role : Role) → entry_at order chunk place ≡ Some e → role ≡ role_of first index e →
-    roled_at_place order chunk first index place ≡ record { role = role; entry = e } ∷ roled_at_place order chunk first (index + 1) (place + e.length)
+pub seen_next : (order : Order) (chunk : List ℕ) (first : Bool) (index place : ℕ) (e : Entry) (role : Role) →
+    entry_at order chunk place ≡ Some e → role ≡ role_of first index e →
+    roled_at_place order chunk first index place ≡ record { role = role; entry = e } ∷ roled_at_place order chunk first
+    (index + 1) (place + e.length)
 unfolding roled_from
 seen_next order chunk first index place e role there is =
     let next : suc index ≡ index + 1 = omega arith in
     ap (roled_from first index) (entries_next order chunk place e there)
-    ∙ (ap (λ r. record { role = r; entry = e } ∷ roled_from first (suc index) (entries_from order chunk 64 (place + e.length))) (sym is)
-    ∙ ap (λ k. record { role = role; entry = e } ∷ roled_from first k (entries_from order chunk 64 (place + e.length))) next)
+    ∙ (ap (λ r. record { role = r; entry = e } ∷ roled_from first (suc index)
+    (entries_from order chunk 64 (place + e.length))) (sym is)
+    ∙ ap (λ k. record { role = role; entry = e } ∷ roled_from first k (entries_from order chunk 64 (place + e.length)))
+    next)
 
-pub quiet_on : (v : Volume) (s : ℕ) (stamps stamps' : List ℕ) (seen : RoledEntry) (es es' : List RoledEntry) (all quiet here : Bool) → es ≡ seen ∷ es' →
-    here ≡ is_quiet v s stamps seen → stamps' ≡ after_look v s stamps seen → all ≡ (quiet && are_quiet v s stamps es) → all ≡ ((quiet && here) && are_quiet v s stamps' es')
+pub quiet_on : (v : Volume) (s : ℕ) (stamps stamps' : List ℕ) (seen : RoledEntry) (es es' : List RoledEntry)
+    (all quiet here : Bool) → es ≡ seen ∷ es' →
+    here ≡ is_quiet v s stamps seen → stamps' ≡ after_look v s stamps seen → all ≡ (quiet && are_quiet v s stamps es) →
+    all ≡ ((quiet && here) && are_quiet v s stamps' es')
 quiet_on v s stamps stamps' seen es es' all quiet here e h t q =
     q ∙ (ap (λ l. quiet && are_quiet v s stamps l) e
     ∙ (and_assoc quiet (is_quiet v s stamps seen) (are_quiet v s (after_look v s stamps seen) es')
     ∙ (ap (λ b. (quiet && b) && are_quiet v s (after_look v s stamps seen) es') (sym h)
     ∙ ap (λ l. (quiet && here) && are_quiet v s l es') (sym t))))
 
-pub stamps_on : (v : Volume) (s : ℕ) (stamps stamps' all : List ℕ) (seen : RoledEntry) (es es' : List RoledEntry) → es ≡ seen ∷ es' →
+pub stamps_on : (v : Volume) (s : ℕ) (stamps stamps' all : List ℕ) (seen : RoledEntry) (es es' : List RoledEntry) →
+    es ≡ seen ∷ es' →
     stamps' ≡ after_look v s stamps seen → all ≡ after_looks v s stamps es → all ≡ after_looks v s stamps' es'
-stamps_on v s stamps stamps' all seen es es' e t q = q ∙ (ap (after_looks v s stamps) e ∙ ap (λ l. after_looks v s l es') (sym t))
+stamps_on v s stamps stamps' all seen es es' e t q = q
+    ∙ (ap (after_looks v s stamps) e ∙ ap (λ l. after_looks v s l es') (sym t))
 
 pub length_on : (order : Order) (chunk : List ℕ) (place all : ℕ) (e : Entry) → entry_at order chunk place ≡ Some e →
-    all ≡ place + sum_by (λ x. x.length) (entries_from order chunk 64 place) → all ≡ (place + e.length) + sum_by (λ x. x.length) (entries_from order chunk 64 (place + e.length))
+    all ≡ place + sum_by (λ x. x.length) (entries_from order chunk 64 place) →
+    all ≡ (place + e.length) + sum_by (λ x. x.length) (entries_from order chunk 64 (place + e.length))
 length_on order chunk place all e there q =
     q ∙ (ap (λ es. place + sum_by (λ x. x.length) es) (entries_next order chunk place e there)
     ∙ (ap (λ n. place + n) (sum_by-cons (λ x. x.length) e (entries_from order chunk 64 (place + e.length)))
@@ -52,21 +62,26 @@ length_on order chunk place all e there q =
     more a b c = omega arith
 
 -- no entry is at the place
-pub none : (order : Order) (chunk : List ℕ) (place : ℕ) (o : Option CodeEntry) → o ≡ None → option_map entry_value o ≡ entry_at order chunk place → entry_at order chunk place ≡ None
+pub none : (order : Order) (chunk : List ℕ) (place : ℕ) (o : Option CodeEntry) → o ≡ None →
+    option_map entry_value o ≡ entry_at order chunk place → entry_at order chunk place ≡ None
 none order chunk place o e h = sym h ∙ ap (option_map entry_value) e
 
-seen_end : (order : Order) (chunk : List ℕ) (first : Bool) (index place : ℕ) → entry_at order chunk place ≡ None → roled_at_place order chunk first index place ≡ []
+seen_end : (order : Order) (chunk : List ℕ) (first : Bool) (index place : ℕ) → entry_at order chunk place ≡ None →
+    roled_at_place order chunk first index place ≡ []
 unfolding roled_from
 seen_end order chunk first index place h = ap (roled_from first index) (entries_end order chunk place h)
 
-pub quiet_ends : (v : Volume) (s : ℕ) (stamps : List ℕ) (first : Bool) (index : ℕ) (order : Order) (chunk : List ℕ) (place : ℕ) (all quiet : Bool) → entry_at order chunk place ≡ None →
+pub quiet_ends : (v : Volume) (s : ℕ) (stamps : List ℕ) (first : Bool) (index : ℕ) (order : Order) (chunk : List ℕ)
+    (place : ℕ) (all quiet : Bool) → entry_at order chunk place ≡ None →
     all ≡ (quiet && are_quiet v s stamps (roled_at_place order chunk first index place)) → quiet ≡ all
 quiet_ends v s stamps first index order chunk place all quiet h q =
     sym (q ∙ (ap (λ l. quiet && are_quiet v s stamps l) (seen_end order chunk first index place h) ∙ and-true quiet))
 
-pub stamps_end : (v : Volume) (s : ℕ) (stamps all : List ℕ) (first : Bool) (index : ℕ) (order : Order) (chunk : List ℕ) (place : ℕ) → entry_at order chunk place ≡ None →
+pub stamps_end : (v : Volume) (s : ℕ) (stamps all : List ℕ) (first : Bool) (index : ℕ) (order : Order) (chunk : List ℕ)
+    (place : ℕ) → entry_at order chunk place ≡ None →
     all ≡ after_looks v s stamps (roled_at_place order chunk first index place) → stamps ≡ all
-stamps_end v s stamps all first index order chunk place h q = sym (q ∙ ap (after_looks v s stamps) (seen_end order chunk first index place h))
+stamps_end v s stamps all first index order chunk place h q =
+    sym (q ∙ ap (after_looks v s stamps) (seen_end order chunk first index place h))
 
 pub length_ends : (order : Order) (chunk : List ℕ) (place all : ℕ) → entry_at order chunk place ≡ None →
     all ≡ place + sum_by (λ x. x.length) (entries_from order chunk 64 place) → (place == 512) ≡ (all == 512)

@@ -1,5 +1,7 @@
 -- What the marks report is what the pathname check reports.
-use Rattle.std.specs.Prelude.{◌≡◌, ◌≢◌, ℕ, suc, ◌<◌, ◌≤◌, ◌==◌, Bool, true, false, not, ◌&&◌, ◌||◌, nat_lt, if◌then◌else◌, refl, List, [], ◌∷◌, ◌++◌, length, slice_index, slice_set, Option, None, Some, ◌⊎◌}
+use Rattle.std.specs.Prelude.{◌≡◌, ◌≢◌, ℕ, suc, ◌<◌, ◌≤◌, ◌==◌, Bool, true, false, not, ◌&&◌, ◌||◌, nat_lt}
+use Rattle.std.specs.Prelude.{if◌then◌else◌, refl, List, [], ◌∷◌, ◌++◌, length, slice_index, slice_set, Option, None}
+use Rattle.std.specs.Prelude.{Some, ◌⊎◌}
 use Rattle.std.specs.List.{list_any, slice_index_or}
 use Rattle.std.proofs.Common.{arith, sym, ◌∙◌, ap, subst, inl, inr, append_assoc}
 use Rattle.std.proofs.lemmas.List.{get_or-set_other, get_or-set_same}
@@ -18,8 +20,12 @@ use Rattle.ffs_volume.specs.Directories.Graph.{names, names_in, parent, index_in
 use Rattle.ffs_volume.specs.Directories.Parents.{graph_of, first_naming_dir, is_first_name, is_from_parent}
 use Rattle.ffs_volume.specs.Directories.Paths.{dir_path, entry_path}
 use Rattle.ffs_volume.specs.Messages.Kinds.{reported, out_of_range, whiteout, unallocated, extraneous, kind_entry}
-use Rattle.ffs_volume.specs.Directories.PathnameCheck.{attributes, label_of, is_bad_whiteout, suspect_reported, has_wrong_type, roled_reported as lines_by_role, reports_suspect, is_extraneous, named_lines, plain_lines, roled_lines, lines_of_entries}
-use Rattle.ffs_pathnames.specs.Marks.{Marks, is_passed, is_due, after_name, after_roled, named_reported, plain_reported, role_reported, roled_reported, entries_reported, belongs}
+use Rattle.ffs_volume.specs.Directories.PathnameCheck.{attributes, label_of, is_bad_whiteout, suspect_reported}
+use Rattle.ffs_volume.specs.Directories.PathnameCheck.{has_wrong_type, roled_reported as lines_by_role, reports_suspect}
+use Rattle.ffs_volume.specs.Directories.PathnameCheck.{is_extraneous, named_lines, plain_lines, roled_lines}
+use Rattle.ffs_volume.specs.Directories.PathnameCheck.{lines_of_entries}
+use Rattle.ffs_pathnames.specs.Marks.{Marks, is_passed, is_due, after_name, after_roled, named_reported, plain_reported}
+use Rattle.ffs_pathnames.specs.Marks.{role_reported, roled_reported, entries_reported, belongs}
 use Rattle.ffs_pathnames.specs.MarksRight.{AreRight}
 use Rattle.ffs_pathnames.proofs.Places.{size_of, size_more, first_here}
 
@@ -31,12 +37,14 @@ first_in p n s h e = one (first_below p s) refl
     one : (o : Option ℕ) → first_below p s ≡ o → is_value (first_below p n) s ≡ not (some_below p s)
     one None q =
         let none : some_below p s ≡ false = ap (λ (o : Option ℕ). elim o [ Some k ↦ true | None ↦ false ]) q in
-        let first : first_below p n ≡ Some s = first_below-is p n s (record { below = h; passes = e; least = some_below-false p s none }) in
+        let first : first_below p n ≡ Some s =
+        first_below-is p n s (record { below = h; passes = e; least = some_below-false p s none }) in
         is_value-from (first_below p n) s first ∙ sym (ap not none)
     one (Some t) q =
         let f = first_below-some p s t q in
         let below = f.below in
-        let first : first_below p n ≡ Some t = first_below-is p n t (record { below = omega arith; passes = f.passes; least = f.least }) in
+        let first : first_below p n ≡ Some t =
+        first_below-is p n t (record { below = omega arith; passes = f.passes; least = f.least }) in
         let some : some_below p s ≡ true = ap (λ (o : Option ℕ). elim o [ Some k ↦ true | None ↦ false ]) q in
         ap (λ o. is_value o s) first ∙ (ne_eqb t s (λ z. absurd (omega (arith, z))) ∙ sym (ap not some))
 
@@ -56,22 +64,28 @@ pub record IsEntry (v : Volume) (s : ℕ) (done : List RoledEntry) (e : RoledEnt
   pub whole : roled_entries v s ≡ done ++ e ∷ es
 
 names_it : (e : RoledEntry) → e.role ≡ Plain → names e.entry.number e ≡ true
-names_it e p = and_from (is_plain e.role) (e.entry.number == e.entry.number) (ap is_plain p) (eq-eqb e.entry.number e.entry.number refl)
+names_it e p = and_from (is_plain e.role) (e.entry.number == e.entry.number) (ap is_plain p)
+    (eq-eqb e.entry.number e.entry.number refl)
 
-names_in_it : (v : Volume) (s : ℕ) (done es : List RoledEntry) (e : RoledEntry) → IsEntry v s done e es → e.role ≡ Plain → names_in (graph_of v) s e.entry.number ≡ true
+names_in_it : (v : Volume) (s : ℕ) (done es : List RoledEntry) (e : RoledEntry) → IsEntry v s done e es → e.role ≡ Plain
+    → names_in (graph_of v) s e.entry.number ≡ true
 names_in_it v s done es e i p =
     let x = e.entry.number in
     let here : (list_any (names x) done || (names x e || list_any (names x) es)) ≡ true =
-    ap (λ b. list_any (names x) done || (b || list_any (names x) es)) (names_it e p) ∙ or_here (list_any (names x) done) (list_any (names x) es) in
+    ap (λ b. list_any (names x) done || (b || list_any (names x) es)) (names_it e p)
+    ∙ or_here (list_any (names x) done) (list_any (names x) es) in
     and_from (is_dir v s) (list_any (names x) (roled_entries v s)) i.dir
     (ap (list_any (names x)) i.whole ∙ (list_any-append (names x) done (e ∷ es) ∙ here))
 
 place_is : (v : Volume) (s : ℕ) (done es : List RoledEntry) (e : RoledEntry) → IsEntry v s done e es → e.role ≡ Plain →
-    is_value (first_index (names e.entry.number) (roled_entries v s)) (size_of done) ≡ not (list_any (names e.entry.number) done)
+    is_value (first_index (names e.entry.number) (roled_entries v s)) (size_of done)
+    ≡ not (list_any (names e.entry.number) done)
 place_is v s done es e i p =
-    ap (λ l. is_value (first_index (names e.entry.number) l) (size_of done)) i.whole ∙ first_here (names e.entry.number) done e es (names_it e p)
+    ap (λ l. is_value (first_index (names e.entry.number) l) (size_of done)) i.whole
+    ∙ first_here (names e.entry.number) done e es (names_it e p)
 
-first_name_is : (v : Volume) (s : ℕ) (done es : List RoledEntry) (e : RoledEntry) → IsEntry v s done e es → e.role ≡ Plain →
+first_name_is : (v : Volume) (s : ℕ) (done es : List RoledEntry) (e : RoledEntry) → IsEntry v s done e es →
+    e.role ≡ Plain →
     is_first_name (graph_of v) s (size_of done) e.entry.number
     ≡ not (some_below (λ t. names_in (graph_of v) t e.entry.number) s || list_any (names e.entry.number) done)
 first_name_is v s done es e i p =
@@ -82,23 +96,30 @@ first_name_is v s done es e i p =
     ∙ (ap (λ b. not (some_below (λ t. names_in (graph_of v) t x) s) && b) (place_is v s done es e i p)
     ∙ not_or (some_below (λ t. names_in (graph_of v) t x) s) (list_any (names x) done))
 
-pub from_parent_is : (v : Volume) (s : ℕ) (done es : List RoledEntry) (e : RoledEntry) → IsEntry v s done e es → e.role ≡ Plain →
+pub from_parent_is : (v : Volume) (s : ℕ) (done es : List RoledEntry) (e : RoledEntry) → IsEntry v s done e es →
+    e.role ≡ Plain →
     is_from_parent (graph_of v) s (size_of done) e.entry.number
-    ≡ ((not (e.entry.number == 2) && is_value (parent (graph_of v) e.entry.number) s) && not (list_any (names e.entry.number) done))
+    ≡ ((not (e.entry.number == 2) && is_value (parent (graph_of v) e.entry.number) s)
+    && not (list_any (names e.entry.number) done))
 from_parent_is v s done es e i p = one (e.entry.number == 2) refl (is_value (parent (graph_of v) e.entry.number) s) refl
   where
-    one : (two : Bool) → (e.entry.number == 2) ≡ two → (b : Bool) → is_value (parent (graph_of v) e.entry.number) s ≡ b →
-        (b && is_value (if two then None else index_in_parent (graph_of v) e.entry.number (parent (graph_of v) e.entry.number)) (size_of done))
+    one : (two : Bool) → (e.entry.number == 2) ≡ two → (b : Bool) → is_value (parent (graph_of v) e.entry.number) s ≡ b
+        →
+        (b && is_value (if two then None
+        else index_in_parent (graph_of v) e.entry.number (parent (graph_of v) e.entry.number)) (size_of done))
         ≡ ((not two && b) && not (list_any (names e.entry.number) done))
     one true q true r = refl
     one true q false r = refl
     one false q true r =
-        ap (λ o. is_value (index_in_parent (graph_of v) e.entry.number o) (size_of done)) (is_value-true (parent (graph_of v) e.entry.number) s r)
+        ap (λ o. is_value (index_in_parent (graph_of v) e.entry.number o) (size_of done))
+        (is_value-true (parent (graph_of v) e.entry.number) s r)
         ∙ place_is v s done es e i p
     one false q false r = refl
 
-suspect_same : (v : Volume) (s : ℕ) (done es : List RoledEntry) (e : RoledEntry) (m : Marks) → IsEntry v s done e es → e.role ≡ Plain → e.entry.number < v.count → e.entry.number ≢ 1 → AreRight v s done m →
-    reports_suspect v s (size_of done) e.entry.number ≡ (is_suspect v e.entry.number && (not (e.entry.number == 2) && not (is_passed m e.entry.number)))
+suspect_same : (v : Volume) (s : ℕ) (done es : List RoledEntry) (e : RoledEntry) (m : Marks) → IsEntry v s done e es →
+    e.role ≡ Plain → e.entry.number < v.count → e.entry.number ≢ 1 → AreRight v s done m →
+    reports_suspect v s (size_of done) e.entry.number
+    ≡ (is_suspect v e.entry.number && (not (e.entry.number == 2) && not (is_passed m e.entry.number)))
 suspect_same v s done es e m i p h other r = one (is_suspect v e.entry.number) refl (cases_eq e.entry.number 2)
   where
     one : (b : Bool) → is_suspect v e.entry.number ≡ b → (e.entry.number ≡ 2) ⊎ (e.entry.number ≢ 2) →
@@ -107,34 +128,48 @@ suspect_same v s done es e m i p h other r = one (is_suspect v e.entry.number) r
     one false q c = refl
     one true q (inl z) =
         let two : (e.entry.number == 2) ≡ true = eq-eqb e.entry.number 2 z in
-        ap (λ b. not b && is_first_name (graph_of v) s (size_of done) e.entry.number) two ∙ sym (ap (λ b. not b && not (is_passed m e.entry.number)) two)
+        ap (λ b. not b && is_first_name (graph_of v) s (size_of done) e.entry.number) two
+        ∙ sym (ap (λ b. not b && not (is_passed m e.entry.number)) two)
     one true q (inr n) =
-        ap (λ b. not (e.entry.number == 2) && b) (first_name_is v s done es e i p ∙ sym (ap not (r.passed e.entry.number h q other n)))
+        ap (λ b. not (e.entry.number == 2) && b)
+        (first_name_is v s done es e i p ∙ sym (ap not (r.passed e.entry.number h q other n)))
 
-extraneous_same : (v : Volume) (s : ℕ) (done es : List RoledEntry) (e : RoledEntry) (m : Marks) → IsEntry v s done e es → e.role ≡ Plain → e.entry.number < v.count → AreRight v s done m →
+extraneous_same : (v : Volume) (s : ℕ) (done es : List RoledEntry) (e : RoledEntry) (m : Marks) → IsEntry v s done e es
+    → e.role ≡ Plain → e.entry.number < v.count → AreRight v s done m →
     is_extraneous v s (size_of done) e.entry.number ≡ (is_dir v e.entry.number && not (is_due s m e.entry.number))
 extraneous_same v s done es e m i p h r = one (is_dir v e.entry.number) refl
   where
     one : (b : Bool) → is_dir v e.entry.number ≡ b →
-        (b && not (is_from_parent (graph_of v) s (size_of done) e.entry.number)) ≡ (b && not (is_due s m e.entry.number))
+        (b && not (is_from_parent (graph_of v) s (size_of done) e.entry.number))
+        ≡ (b && not (is_due s m e.entry.number))
     one false q = refl
     one true q = ap not (from_parent_is v s done es e i p
-        ∙ sym (r.due e.entry.number h ∙ ap (λ d. (d && (not (e.entry.number == 2) && is_value (parent (graph_of v) e.entry.number) s)) && not (list_any (names e.entry.number) done)) q))
+        ∙ sym (r.due e.entry.number h
+        ∙ ap (λ d. (d && (not (e.entry.number == 2) && is_value (parent (graph_of v) e.entry.number) s))
+        && not (list_any (names e.entry.number) done)) q))
 
-named_same : (v : Volume) (s : ℕ) (done es : List RoledEntry) (e : RoledEntry) (m : Marks) → IsEntry v s done e es → e.role ≡ Plain → e.entry.number < v.count → e.entry.number ≢ 1 → AreRight v s done m →
+named_same : (v : Volume) (s : ℕ) (done es : List RoledEntry) (e : RoledEntry) (m : Marks) → IsEntry v s done e es →
+    e.role ≡ Plain → e.entry.number < v.count → e.entry.number ≢ 1 → AreRight v s done m →
     named_lines v s (size_of done) e.entry ≡ named_reported v s m e.entry
 unfolding named_lines
 named_same v s done es e m i p h other r =
     ap (λ b. reported b (suspect_reported v e.entry.number (entry_path (graph_of v) s e.entry.name))
-    ++ (reported (is_extraneous v s (size_of done) e.entry.number) (extraneous (entry_path (graph_of v) s e.entry.name) (dir_path (graph_of v) e.entry.number))
-    ++ reported (has_wrong_type v e.entry) (kind_entry (attributes v e.entry.number) (label_of (v.class e.entry.number)) (entry_path (graph_of v) s e.entry.name))))
+    ++ (reported (is_extraneous v s (size_of done) e.entry.number)
+    (extraneous (entry_path (graph_of v) s e.entry.name) (dir_path (graph_of v) e.entry.number))
+    ++ reported (has_wrong_type v e.entry)
+    (kind_entry (attributes v e.entry.number) (label_of (v.class e.entry.number))
+    (entry_path (graph_of v) s e.entry.name))))
     (suspect_same v s done es e m i p h other r)
-    ∙ ap (λ b. reported (is_suspect v e.entry.number && (not (e.entry.number == 2) && not (is_passed m e.entry.number))) (suspect_reported v e.entry.number (entry_path (graph_of v) s e.entry.name))
+    ∙ ap (λ b. reported (is_suspect v e.entry.number && (not (e.entry.number == 2) && not (is_passed m e.entry.number)))
+    (suspect_reported v e.entry.number (entry_path (graph_of v) s e.entry.name))
     ++ (reported b (extraneous (entry_path (graph_of v) s e.entry.name) (dir_path (graph_of v) e.entry.number))
-    ++ reported (has_wrong_type v e.entry) (kind_entry (attributes v e.entry.number) (label_of (v.class e.entry.number)) (entry_path (graph_of v) s e.entry.name))))
+    ++ reported (has_wrong_type v e.entry)
+    (kind_entry (attributes v e.entry.number) (label_of (v.class e.entry.number))
+    (entry_path (graph_of v) s e.entry.name))))
     (extraneous_same v s done es e m i p h r)
 
-plain_same : (v : Volume) (s : ℕ) (done es : List RoledEntry) (e : RoledEntry) (m : Marks) → IsEntry v s done e es → e.role ≡ Plain → AreRight v s done m →
+plain_same : (v : Volume) (s : ℕ) (done es : List RoledEntry) (e : RoledEntry) (m : Marks) → IsEntry v s done e es →
+    e.role ≡ Plain → AreRight v s done m →
     plain_lines v s (size_of done) e.entry ≡ plain_reported v s m e.entry
 unfolding plain_lines
 plain_same v s done es e m i p r = one (nat_lt e.entry.number v.count) refl
@@ -143,12 +178,14 @@ plain_same v s done es e m i p r = one (nat_lt e.entry.number v.count) refl
         (if not b then out_of_range e.entry.number (entry_path (graph_of v) s e.entry.name) ∷ []
         else (if is_bad_whiteout e.entry then whiteout e.entry.number (entry_path (graph_of v) s e.entry.name) ∷ []
         else (if e.entry.number == 1 then []
-        else (if not (is_allocated (v.class e.entry.number)) then unallocated (attributes v e.entry.number) (entry_path (graph_of v) s e.entry.name) ∷ []
+        else (if not (is_allocated (v.class e.entry.number))
+        then unallocated (attributes v e.entry.number) (entry_path (graph_of v) s e.entry.name) ∷ []
         else named_lines v s (size_of done) e.entry))))
         ≡ (if not b then out_of_range e.entry.number (entry_path (graph_of v) s e.entry.name) ∷ []
         else (if is_bad_whiteout e.entry then whiteout e.entry.number (entry_path (graph_of v) s e.entry.name) ∷ []
         else (if e.entry.number == 1 then []
-        else (if not (is_allocated (v.class e.entry.number)) then unallocated (attributes v e.entry.number) (entry_path (graph_of v) s e.entry.name) ∷ []
+        else (if not (is_allocated (v.class e.entry.number))
+        then unallocated (attributes v e.entry.number) (entry_path (graph_of v) s e.entry.name) ∷ []
         else named_reported v s m e.entry))))
     one false q = refl
     one true q = elim (cases_eq e.entry.number 1) [
@@ -156,26 +193,33 @@ plain_same v s done es e m i p r = one (nat_lt e.entry.number v.count) refl
           let first : (e.entry.number == 1) ≡ true = eq-eqb e.entry.number 1 z in
           ap (λ b. if is_bad_whiteout e.entry then whiteout e.entry.number (entry_path (graph_of v) s e.entry.name) ∷ []
           else (if b then []
-          else (if not (is_allocated (v.class e.entry.number)) then unallocated (attributes v e.entry.number) (entry_path (graph_of v) s e.entry.name) ∷ []
+          else (if not (is_allocated (v.class e.entry.number))
+          then unallocated (attributes v e.entry.number) (entry_path (graph_of v) s e.entry.name) ∷ []
           else named_lines v s (size_of done) e.entry))) first
-          ∙ sym (ap (λ b. if is_bad_whiteout e.entry then whiteout e.entry.number (entry_path (graph_of v) s e.entry.name) ∷ []
+          ∙ sym (ap (λ b. if is_bad_whiteout e.entry
+          then whiteout e.entry.number (entry_path (graph_of v) s e.entry.name) ∷ []
           else (if b then []
-          else (if not (is_allocated (v.class e.entry.number)) then unallocated (attributes v e.entry.number) (entry_path (graph_of v) s e.entry.name) ∷ []
+          else (if not (is_allocated (v.class e.entry.number))
+          then unallocated (attributes v e.entry.number) (entry_path (graph_of v) s e.entry.name) ∷ []
           else named_reported v s m e.entry))) first)
       | inr n ↦
-          ap (λ lines. if is_bad_whiteout e.entry then whiteout e.entry.number (entry_path (graph_of v) s e.entry.name) ∷ []
+          ap (λ lines. if is_bad_whiteout e.entry then whiteout e.entry.number (entry_path (graph_of v) s e.entry.name)
+          ∷ []
           else (if e.entry.number == 1 then []
-          else (if not (is_allocated (v.class e.entry.number)) then unallocated (attributes v e.entry.number) (entry_path (graph_of v) s e.entry.name) ∷ []
+          else (if not (is_allocated (v.class e.entry.number))
+          then unallocated (attributes v e.entry.number) (entry_path (graph_of v) s e.entry.name) ∷ []
           else lines)))
           (named_same v s done es e m i p (ltb-true e.entry.number v.count q) n r)
     ]
 
-seen_same : (v : Volume) (s : ℕ) (done es : List RoledEntry) (e : RoledEntry) (m : Marks) → IsEntry v s done e es → AreRight v s done m →
+seen_same : (v : Volume) (s : ℕ) (done es : List RoledEntry) (e : RoledEntry) (m : Marks) → IsEntry v s done e es →
+    AreRight v s done m →
     roled_lines v s (size_of done) e ≡ roled_reported v s m e
 unfolding roled_lines roled_reported
 seen_same v s done es e m i r = one e.role refl
   where
-    one : (role : Role) → e.role ≡ role → lines_by_role v s (size_of done) role e.entry ≡ role_reported v s m role e.entry
+    one : (role : Role) → e.role ≡ role → lines_by_role v s (size_of done) role e.entry
+        ≡ role_reported v s m role e.entry
     one Empty q = refl
     one Dot q = refl
     one Dotdot q = refl
@@ -183,7 +227,8 @@ seen_same v s done es e m i r = one e.role refl
     one Plain q = plain_same v s done es e m i q r
 
 -- BEHIND ONE ENTRY MORE
-pub any_more : (p : RoledEntry → Bool) (done : List RoledEntry) (e : RoledEntry) → list_any p (done ++ e ∷ []) ≡ (list_any p done || p e)
+pub any_more : (p : RoledEntry → Bool) (done : List RoledEntry) (e : RoledEntry) →
+    list_any p (done ++ e ∷ []) ≡ (list_any p done || p e)
 any_more p done e = list_any-append p done (e ∷ []) ∙ ap (λ b. list_any p done || b) (or_nothing (p e))
   where
     or_nothing : (b : Bool) → (b || false) ≡ b
@@ -203,16 +248,20 @@ and_false true = refl
 and_false false = refl
 
 -- an entry that isn't x's
-not_named : (p : RoledEntry → Bool) (done : List RoledEntry) (e : RoledEntry) → p e ≡ false → list_any p (done ++ e ∷ []) ≡ list_any p done
+not_named : (p : RoledEntry → Bool) (done : List RoledEntry) (e : RoledEntry) → p e ≡ false →
+    list_any p (done ++ e ∷ []) ≡ list_any p done
 not_named p done e h = any_more p done e ∙ (ap (λ b. list_any p done || b) h ∙ or_false (list_any p done))
 
-is_named : (p : RoledEntry → Bool) (done : List RoledEntry) (e : RoledEntry) → p e ≡ true → list_any p (done ++ e ∷ []) ≡ true
+is_named : (p : RoledEntry → Bool) (done : List RoledEntry) (e : RoledEntry) → p e ≡ true →
+    list_any p (done ++ e ∷ []) ≡ true
 is_named p done e h = any_more p done e ∙ (ap (λ b. list_any p done || b) h ∙ or_true (list_any p done))
 
 pub other_number : (x : ℕ) (e : RoledEntry) → x ≢ e.entry.number → names x e ≡ false
-other_number x e n = ap (λ b. is_plain e.role && b) (ne_eqb e.entry.number x (λ z. n (sym z))) ∙ and_false (is_plain e.role)
+other_number x e n = ap (λ b. is_plain e.role && b) (ne_eqb e.entry.number x (λ z. n (sym z)))
+    ∙ and_false (is_plain e.role)
 
-not_counted : (v : Volume) (e : RoledEntry) (x : ℕ) → (is_plain e.role && nat_lt e.entry.number v.count) ≡ false → x < v.count → names x e ≡ false
+not_counted : (v : Volume) (e : RoledEntry) (x : ℕ) → (is_plain e.role && nat_lt e.entry.number v.count) ≡ false →
+    x < v.count → names x e ≡ false
 not_counted v e x t h = elim (cases_eq x e.entry.number) [
   | inl z ↦
       let low : nat_lt e.entry.number v.count ≡ true = lt-ltb e.entry.number v.count (subst (λ k. k < v.count) z h) in
@@ -220,50 +269,62 @@ not_counted v e x t h = elim (cases_eq x e.entry.number) [
   | inr n ↦ other_number x e n
 ]
 
-skips : (v : Volume) (s : ℕ) (done : List RoledEntry) (e : RoledEntry) (m : Marks) → (is_plain e.role && nat_lt e.entry.number v.count) ≡ false → AreRight v s done m → AreRight v s (done ++ e ∷ []) m
+skips : (v : Volume) (s : ℕ) (done : List RoledEntry) (e : RoledEntry) (m : Marks) →
+    (is_plain e.role && nat_lt e.entry.number v.count) ≡ false → AreRight v s done m → AreRight v s (done ++ e ∷ []) m
 skips v s done e m t r = record {
-  passed = λ x h q o n. r.passed x h q o n ∙ ap (λ b. some_below (λ t. names_in (graph_of v) t x) s || b) (sym (not_named (names x) done e (not_counted v e x t h)));
+  passed = λ x h q o n. r.passed x h q o n ∙ ap (λ b. some_below (λ t. names_in (graph_of v) t x) s || b)
+      (sym (not_named (names x) done e (not_counted v e x t h)));
   due = λ x h. r.due x h ∙ ap (λ b. belongs v s x && not b) (sym (not_named (names x) done e (not_counted v e x t h)));
   passed_length = r.passed_length;
   stamps_length = r.stamps_length;
 }
 
-name_passed : (v : Volume) (s : ℕ) (done : List RoledEntry) (e : RoledEntry) (m : Marks) → e.role ≡ Plain → e.entry.number < v.count → AreRight v s done m →
+name_passed : (v : Volume) (s : ℕ) (done : List RoledEntry) (e : RoledEntry) (m : Marks) → e.role ≡ Plain →
+    e.entry.number < v.count → AreRight v s done m →
     (x : ℕ) → x < v.count → is_suspect v x ≡ true → x ≢ 1 → x ≢ 2 →
-    is_passed (after_name s m e.entry.number) x ≡ (some_below (λ t. names_in (graph_of v) t x) s || list_any (names x) (done ++ e ∷ []))
+    is_passed (after_name s m e.entry.number) x
+    ≡ (some_below (λ t. names_in (graph_of v) t x) s || list_any (names x) (done ++ e ∷ []))
 name_passed v s done e m p low r x h q u n = elim (cases_eq x e.entry.number) [
   | inl z ↦
       let inside : e.entry.number < length m.passed = subst (λ k. e.entry.number < k) (sym r.passed_length) low in
-      let named : names x e ≡ true = and_from (is_plain e.role) (e.entry.number == x) (ap is_plain p) (eq-eqb e.entry.number x (sym z)) in
+      let named : names x e ≡ true = and_from (is_plain e.role) (e.entry.number == x) (ap is_plain p)
+      (eq-eqb e.entry.number x (sym z)) in
       ap (λ k. slice_index_or (slice_set m.passed e.entry.number true) k false) z
       ∙ (get_or-set_same m.passed e.entry.number true false inside
-      ∙ sym (ap (λ b. some_below (λ t. names_in (graph_of v) t x) s || b) (is_named (names x) done e named) ∙ or_true (some_below (λ t. names_in (graph_of v) t x) s)))
+      ∙ sym (ap (λ b. some_below (λ t. names_in (graph_of v) t x) s || b) (is_named (names x) done e named)
+      ∙ or_true (some_below (λ t. names_in (graph_of v) t x) s)))
   | inr o ↦
       get_or-set_other m.passed e.entry.number x true false o
-      ∙ (r.passed x h q u n ∙ ap (λ b. some_below (λ t. names_in (graph_of v) t x) s || b) (sym (not_named (names x) done e (other_number x e o))))
+      ∙ (r.passed x h q u n ∙ ap (λ b. some_below (λ t. names_in (graph_of v) t x) s || b)
+      (sym (not_named (names x) done e (other_number x e o))))
 ]
 
 cleared : (s n : ℕ) (stamps : List ℕ) → 2 ≤ s → n < length stamps →
     (slice_index (if slice_index stamps n == s then slice_set stamps n 0 else stamps) n == s) ≡ false
 cleared s n stamps two low = one (slice_index stamps n == s) refl
   where
-    one : (b : Bool) → (slice_index stamps n == s) ≡ b → (slice_index (if b then slice_set stamps n 0 else stamps) n == s) ≡ false
+    one : (b : Bool) → (slice_index stamps n == s) ≡ b →
+        (slice_index (if b then slice_set stamps n 0 else stamps) n == s) ≡ false
     one true q = ap (λ k. k == s) (get_or-set_same stamps n 0 0 low) ∙ ne_eqb 0 s (λ z. absurd (omega (arith, z)))
     one false q = q
 
-stays : (s n x : ℕ) (stamps : List ℕ) → x ≢ n → slice_index (if slice_index stamps n == s then slice_set stamps n 0 else stamps) x ≡ slice_index stamps x
+stays : (s n x : ℕ) (stamps : List ℕ) → x ≢ n →
+    slice_index (if slice_index stamps n == s then slice_set stamps n 0 else stamps) x ≡ slice_index stamps x
 stays s n x stamps o = one (slice_index stamps n == s)
   where
     one : (b : Bool) → slice_index (if b then slice_set stamps n 0 else stamps) x ≡ slice_index stamps x
     one true = get_or-set_other stamps n x 0 0 o
     one false = refl
 
-name_due : (v : Volume) (s : ℕ) (done : List RoledEntry) (e : RoledEntry) (m : Marks) → 2 ≤ s → e.role ≡ Plain → e.entry.number < v.count → AreRight v s done m →
-    (x : ℕ) → x < v.count → is_due s (after_name s m e.entry.number) x ≡ (belongs v s x && not (list_any (names x) (done ++ e ∷ [])))
+name_due : (v : Volume) (s : ℕ) (done : List RoledEntry) (e : RoledEntry) (m : Marks) → 2 ≤ s → e.role ≡ Plain →
+    e.entry.number < v.count → AreRight v s done m →
+    (x : ℕ) → x < v.count → is_due s (after_name s m e.entry.number) x
+    ≡ (belongs v s x && not (list_any (names x) (done ++ e ∷ [])))
 name_due v s done e m two p low r x h = elim (cases_eq x e.entry.number) [
   | inl z ↦
       let inside : e.entry.number < length m.stamps = subst (λ k. e.entry.number < k) (sym r.stamps_length) low in
-      let named : names x e ≡ true = and_from (is_plain e.role) (e.entry.number == x) (ap is_plain p) (eq-eqb e.entry.number x (sym z)) in
+      let named : names x e ≡ true = and_from (is_plain e.role) (e.entry.number == x) (ap is_plain p)
+      (eq-eqb e.entry.number x (sym z)) in
       ap (λ k. slice_index (after_name s m e.entry.number).stamps k == s) z
       ∙ (cleared s e.entry.number m.stamps two inside
       ∙ sym (ap (λ b. belongs v s x && not b) (is_named (names x) done e named) ∙ and_false (belongs v s x)))
@@ -272,7 +333,8 @@ name_due v s done e m two p low r x h = elim (cases_eq x e.entry.number) [
       ∙ (r.due x h ∙ ap (λ b. belongs v s x && not b) (sym (not_named (names x) done e (other_number x e o))))
 ]
 
-stamps_long : (s n : ℕ) (stamps : List ℕ) → length (if slice_index stamps n == s then slice_set stamps n 0 else stamps) ≡ length stamps
+stamps_long : (s n : ℕ) (stamps : List ℕ) → length (if slice_index stamps n == s then slice_set stamps n 0 else stamps)
+    ≡ length stamps
 stamps_long s n stamps = one (slice_index stamps n == s)
   where
     one : (b : Bool) → length (if b then slice_set stamps n 0 else stamps) ≡ length stamps
@@ -286,10 +348,12 @@ plain_role Dotdot h = absurd (cc)
 plain_role Extra h = absurd (cc)
 plain_role Empty h = absurd (cc)
 
-pub right_after : (v : Volume) (s : ℕ) (done : List RoledEntry) (e : RoledEntry) (m : Marks) → 2 ≤ s → AreRight v s done m → AreRight v s (done ++ e ∷ []) (after_roled v s m e)
+pub right_after : (v : Volume) (s : ℕ) (done : List RoledEntry) (e : RoledEntry) (m : Marks) → 2 ≤ s →
+    AreRight v s done m → AreRight v s (done ++ e ∷ []) (after_roled v s m e)
 right_after v s done e m two r = one (is_plain e.role && nat_lt e.entry.number v.count) refl
   where
-    one : (b : Bool) → (is_plain e.role && nat_lt e.entry.number v.count) ≡ b → AreRight v s (done ++ e ∷ []) (if b then after_name s m e.entry.number else m)
+    one : (b : Bool) → (is_plain e.role && nat_lt e.entry.number v.count) ≡ b →
+        AreRight v s (done ++ e ∷ []) (if b then after_name s m e.entry.number else m)
     one false t = skips v s done e m t r
     one true t =
         let q = and_parts (is_plain e.role) (nat_lt e.entry.number v.count) t in
@@ -308,12 +372,15 @@ pub record IsDirectory (v : Volume) (s : ℕ) : Type 0 where
   pub below : s < v.count
   pub from_two : 2 ≤ s
 
-pub right_reported : (v : Volume) (s : ℕ) (done es : List RoledEntry) (m : Marks) → IsDirectory v s → roled_entries v s ≡ done ++ es → AreRight v s done m →
+pub right_reported : (v : Volume) (s : ℕ) (done es : List RoledEntry) (m : Marks) → IsDirectory v s →
+    roled_entries v s ≡ done ++ es → AreRight v s done m →
     lines_of_entries v s (size_of done) es ≡ entries_reported v s m es
 unfolding lines_of_entries
 right_reported v s done [] m d whole r = refl
 right_reported v s done (e ∷ es) m d whole r =
-    let here = seen_same v s done es e m (record { dir = d.dir; below = d.below; from_two = d.from_two; whole = whole }) r in
-    let rest = right_reported v s (done ++ e ∷ []) es (after_roled v s m e) d (whole ∙ sym (append_assoc done (e ∷ []) es)) (right_after v s done e m d.from_two r) in
+    let here = seen_same v s done es e m (record { dir = d.dir; below = d.below; from_two = d.from_two; whole = whole })
+    r in
+    let rest = right_reported v s (done ++ e ∷ []) es (after_roled v s m e) d
+    (whole ∙ sym (append_assoc done (e ∷ []) es)) (right_after v s done e m d.from_two r) in
     ap (λ ls. ls ++ lines_of_entries v s (suc (size_of done)) es) here
     ∙ ap (λ ls. roled_reported v s m e ++ ls) (ap (λ j. lines_of_entries v s j es) (sym (size_more done e)) ∙ rest)

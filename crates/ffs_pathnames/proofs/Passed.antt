@@ -7,7 +7,8 @@ use Rattle.ffs_pathnames.specs.Marks.{Marks, after_roled}
 abbrev with_marks : List Bool → List ℕ → Marks
 with_marks p s = record { passed = p; stamps = s }
 
-pub passes : (v : Volume) (d : ℕ) (e : RoledEntry) (p0 p1 p2 p3 : List Bool) (s0 s1 s2 s3 : List ℕ) → p1 ≡ p0 → s1 ≡ s0 →
+pub passes : (v : Volume) (d : ℕ) (e : RoledEntry) (p0 p1 p2 p3 : List Bool) (s0 s1 s2 s3 : List ℕ) → p1 ≡ p0 → s1 ≡ s0
+    →
     after_roled v d (record { passed = p1; stamps = s1 }) e ≡ record { passed = p2; stamps = s2 } → p3 ≡ p2 → s3 ≡ s2 →
     after_roled v d (record { passed = p0; stamps = s0 }) e ≡ record { passed = p3; stamps = s3 }
 passes v d e p0 p1 p2 p3 s0 s1 s2 s3 p s law q t =

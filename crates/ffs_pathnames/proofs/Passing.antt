@@ -1,5 +1,7 @@
 -- Entries are reported and passed, one after another and chunk by chunk.
-use Rattle.std.proofs.Common.{◌≡◌, refl, sym, ap, ◌∙◌, ℕ, ◌+◌, ◌≤◌, ◌<◌, ◌^◌, arith, Bool, true, false, ◌==◌, if◌then◌else◌, List, [], ◌∷◌, ◌++◌, append_assoc, map, length, slice_index, Some, None, Option, drop, subst}
+use Rattle.std.proofs.Common.{◌≡◌, refl, sym, ap, ◌∙◌, ℕ, ◌+◌, ◌≤◌, ◌<◌, ◌^◌, arith, Bool, true, false, ◌==◌}
+use Rattle.std.proofs.Common.{if◌then◌else◌, List, [], ◌∷◌, ◌++◌, append_assoc, map, length, slice_index, Some, None}
+use Rattle.std.proofs.Common.{Option, drop, subst}
 use Rattle.std.specs.List.{flat_map}
 use Rattle.std.proofs.lemmas.List.{map-append, length-take}
 use Rattle.ffs_volume.specs.declared.Order.{Order}
@@ -10,7 +12,8 @@ use Rattle.ffs_volume.specs.Disk.Areas.{is_run_in_range}
 use Rattle.ffs_volume.specs.Disk.Geometry.{IsValidLayout}
 use Rattle.ffs_volume.specs.Blocks.Inodes.{inode_of}
 use Rattle.ffs_volume.specs.Blocks.Steps.{steps_of}
-use Rattle.ffs_volume.specs.Directories.Entries.{Chunk, Entry, entry_at, entry_read, is_well_formed, name_at, chunks_of, bytes_read}
+use Rattle.ffs_volume.specs.Directories.Entries.{Chunk, Entry, entry_at, entry_read, is_well_formed, name_at, chunks_of}
+use Rattle.ffs_volume.specs.Directories.Entries.{bytes_read}
 use Rattle.ffs_volume.specs.Encodings.Replay.{cut_at, fresh_replay, replayed_steps}
 use Rattle.ffs_volume.specs.Directories.Volumes.{volume_of}
 use Rattle.ffs_volume.proofs.Reading.{entries_end}
@@ -27,7 +30,8 @@ use Rattle.ffs_pathnames.proofs.Looking.{roled_at_place}
 use Rattle.ffs_workspace.specs.declared.workspace.Workspace.{Workspace}
 
 -- the marks after some entries and others
-pub after_more : (v : Volume) (s : ℕ) (m : Marks) (xs ys : List RoledEntry) → after_entries v s m (xs ++ ys) ≡ after_entries v s (after_entries v s m xs) ys
+pub after_more : (v : Volume) (s : ℕ) (m : Marks) (xs ys : List RoledEntry) → after_entries v s m (xs ++ ys)
+    ≡ after_entries v s (after_entries v s m xs) ys
 after_more v s m [] ys = refl
 after_more v s m (x ∷ xs) ys = after_more v s (after_roled v s m x) xs ys
 
@@ -37,36 +41,48 @@ pub reported_more : (v : Volume) (s : ℕ) (m : Marks) (xs ys : List RoledEntry)
 reported_more v s m [] ys = refl
 reported_more v s m (x ∷ xs) ys =
     ap (λ (ms : List NameMessage). roled_reported v s m x ++ ms) (reported_more v s (after_roled v s m x) xs ys)
-    ∙ sym (append_assoc (roled_reported v s m x) (entries_reported v s (after_roled v s m x) xs) (entries_reported v s (after_entries v s (after_roled v s m x) xs) ys))
+    ∙ sym (append_assoc (roled_reported v s m x) (entries_reported v s (after_roled v s m x) xs)
+    (entries_reported v s (after_entries v s (after_roled v s m x) xs) ys))
 
 -- an entry is reported, and the others are to come
-pub entry_reported : (v : Volume) (s : ℕ) (m m' : Marks) (e : RoledEntry) (es es' : List RoledEntry) → es ≡ e ∷ es' → after_roled v s m e ≡ m' →
-    map of_names (entries_reported v s m es) ≡ map of_names (roled_reported v s m e) ++ map of_names (entries_reported v s m' es')
+pub entry_reported : (v : Volume) (s : ℕ) (m m' : Marks) (e : RoledEntry) (es es' : List RoledEntry) → es ≡ e ∷ es' →
+    after_roled v s m e ≡ m' →
+    map of_names (entries_reported v s m es) ≡ map of_names (roled_reported v s m e)
+    ++ map of_names (entries_reported v s m' es')
 entry_reported v s m m' e es es' is after =
     ap (λ l. map of_names (entries_reported v s m l)) is
     ∙ (map-append of_names (roled_reported v s m e) (entries_reported v s (after_roled v s m e) es')
     ∙ ap (λ k. map of_names (roled_reported v s m e) ++ map of_names (entries_reported v s k es')) after)
 
 -- an entry is passed
-pub entry_passed : (v : Volume) (s : ℕ) (all m m' : Marks) (e : RoledEntry) (es es' : List RoledEntry) → es ≡ e ∷ es' → after_roled v s m e ≡ m' →
+pub entry_passed : (v : Volume) (s : ℕ) (all m m' : Marks) (e : RoledEntry) (es es' : List RoledEntry) → es ≡ e ∷ es' →
+    after_roled v s m e ≡ m' →
     all ≡ after_entries v s m es → all ≡ after_entries v s m' es'
-entry_passed v s all m m' e es es' is after q = q ∙ (ap (after_entries v s m) is ∙ ap (λ k. after_entries v s k es') after)
+entry_passed v s all m m' e es es' is after q = q
+    ∙ (ap (after_entries v s m) is ∙ ap (λ k. after_entries v s k es') after)
 
 -- a chunk is reported, and the others are to come
-pub chunk_reported : (v : Volume) (s : ℕ) (m m' : Marks) (c : Chunk) (cs cs' : List Chunk) → cs ≡ c ∷ cs' → after_entries v s m (roled_chunk c) ≡ m' →
-    map of_names (entries_reported v s m (flat_map roled_chunk cs)) ≡ map of_names (entries_reported v s m (roled_chunk c)) ++ map of_names (entries_reported v s m' (flat_map roled_chunk cs'))
+pub chunk_reported : (v : Volume) (s : ℕ) (m m' : Marks) (c : Chunk) (cs cs' : List Chunk) → cs ≡ c ∷ cs' →
+    after_entries v s m (roled_chunk c) ≡ m' →
+    map of_names (entries_reported v s m (flat_map roled_chunk cs))
+    ≡ map of_names (entries_reported v s m (roled_chunk c))
+    ++ map of_names (entries_reported v s m' (flat_map roled_chunk cs'))
 chunk_reported v s m m' c cs cs' is after =
     ap (λ l. map of_names (entries_reported v s m (flat_map roled_chunk l))) is
     ∙ (ap (map of_names) (reported_more v s m (roled_chunk c) (flat_map roled_chunk cs'))
-    ∙ (map-append of_names (entries_reported v s m (roled_chunk c)) (entries_reported v s (after_entries v s m (roled_chunk c)) (flat_map roled_chunk cs'))
-    ∙ ap (λ k. map of_names (entries_reported v s m (roled_chunk c)) ++ map of_names (entries_reported v s k (flat_map roled_chunk cs'))) after))
+    ∙ (map-append of_names (entries_reported v s m (roled_chunk c))
+    (entries_reported v s (after_entries v s m (roled_chunk c)) (flat_map roled_chunk cs'))
+    ∙ ap (λ k. map of_names (entries_reported v s m (roled_chunk c))
+    ++ map of_names (entries_reported v s k (flat_map roled_chunk cs'))) after))
 
 -- a chunk is passed
-pub chunk_passed : (v : Volume) (s : ℕ) (all m m' : Marks) (c : Chunk) (cs cs' : List Chunk) → cs ≡ c ∷ cs' → after_entries v s m (roled_chunk c) ≡ m' →
+pub chunk_passed : (v : Volume) (s : ℕ) (all m m' : Marks) (c : Chunk) (cs cs' : List Chunk) → cs ≡ c ∷ cs' →
+    after_entries v s m (roled_chunk c) ≡ m' →
     all ≡ after_entries v s m (flat_map roled_chunk cs) → all ≡ after_entries v s m' (flat_map roled_chunk cs')
 chunk_passed v s all m m' c cs cs' is after q =
     q ∙ (ap (λ l. after_entries v s m (flat_map roled_chunk l)) is
-    ∙ (after_more v s m (roled_chunk c) (flat_map roled_chunk cs') ∙ ap (λ k. after_entries v s k (flat_map roled_chunk cs')) after))
+    ∙ (after_more v s m (roled_chunk c) (flat_map roled_chunk cs')
+    ∙ ap (λ k. after_entries v s k (flat_map roled_chunk cs')) after))
 
 if_some : {X : Type 0} (b : Bool) (x y : X) → (if b then Some x else None) ≡ Some y → x ≡ y
 if_some true x y h = cc
@@ -80,19 +96,24 @@ name_if true name h = omega arith
 name_if false name h = h
 
 -- one byte says how long a name is
-pub name_short : (order : Order) (chunk : List ℕ) (place : ℕ) (e : Entry) → slice_index chunk (place + 7) ≤ 255 → entry_at order chunk place ≡ Some e → length e.name ≤ 255
+pub name_short : (order : Order) (chunk : List ℕ) (place : ℕ) (e : Entry) → slice_index chunk (place + 7) ≤ 255 →
+    entry_at order chunk place ≡ Some e → length e.name ≤ 255
 unfolding entry_at entry_read
 name_short order chunk place e h there =
     subst (λ x. length x.name ≤ 255) (if_some (is_well_formed order chunk place) (entry_read order chunk place) e there)
-    (name_if (u32_at order place chunk == 0) (name_at chunk place) (piece_short (place + 8) (slice_index chunk (place + 7)) chunk h))
+    (name_if (u32_at order place chunk == 0) (name_at chunk place)
+    (piece_short (place + 8) (slice_index chunk (place + 7)) chunk h))
 
 -- no entry is left
-pub none_left : (order : Order) (chunk : List ℕ) (first : Bool) (index place : ℕ) → entry_at order chunk place ≡ None → roled_at_place order chunk first index place ≡ []
+pub none_left : (order : Order) (chunk : List ℕ) (first : Bool) (index place : ℕ) → entry_at order chunk place ≡ None →
+    roled_at_place order chunk first index place ≡ []
 unfolding roled_from
 none_left order chunk first index place h = ap (roled_from first index) (entries_end order chunk place h)
 
 -- what is known of a workspace's lists stays where they stay
-pub knows_on : (v : Layout) (contents contents' : Option (List ℕ)) (old new : Workspace) (d : ℕ) (b : List ℕ) → contents' ≡ contents → LeavesSurvey old new → DirectoryContext v contents old d b → DirectoryContext v contents' new d b
+pub knows_on : (v : Layout) (contents contents' : Option (List ℕ)) (old new : Workspace) (d : ℕ) (b : List ℕ) →
+    contents' ≡ contents → LeavesSurvey old new → DirectoryContext v contents old d b →
+    DirectoryContext v contents' new d b
 knows_on v contents contents' old new d b e s k = record {
   reported_is = e ∙ k.reported_is;
   claims = claims_left v b old new s k.claims;
@@ -101,8 +122,10 @@ knows_on v contents contents' old new d b e s k = record {
 }
 
 -- the entries of all chunks that a reading of a directory gives
-pub all_read : (v : Layout) (b : List ℕ) (d : ℕ) (i : Inode) (cut : ℕ) (cs : List Chunk) → IsValidLayout v → is_dir (volume_of v b) d ≡ true → i ≡ inode_of v b d → cut ≡ cut_at v b d →
-    (i.size < 2 ^ 31 → cs ≡ chunks_of (reading_by v b (bytes_read i.size)) (is_run_in_range v) (replayed_steps v cut fresh_replay (steps_of v i b))) → flat_map roled_chunk cs ≡ roled_entries (volume_of v b) d
+pub all_read : (v : Layout) (b : List ℕ) (d : ℕ) (i : Inode) (cut : ℕ) (cs : List Chunk) → IsValidLayout v →
+    is_dir (volume_of v b) d ≡ true → i ≡ inode_of v b d → cut ≡ cut_at v b d →
+    (i.size < 2 ^ 31 → cs ≡ chunks_of (reading_by v b (bytes_read i.size)) (is_run_in_range v)
+    (replayed_steps v cut fresh_replay (steps_of v i b))) → flat_map roled_chunk cs ≡ roled_entries (volume_of v b) d
 all_read v b d i cut cs g dir e k read =
     let p = dir_is v b d dir in
     let small : i.size < 2 ^ 31 = subst (λ (x : Inode). x.size < 2 ^ 31) (sym e) (dir_size v (inode_of v b d) p.1) in

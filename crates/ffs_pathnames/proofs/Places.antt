@@ -1,5 +1,6 @@
 -- The first place of an entry that passes.
-use Rattle.std.specs.Prelude.{◌≡◌, ℕ, zero, suc, ◌==◌, Bool, true, false, not, ◌||◌, cond, refl, List, [], ◌∷◌, ◌++◌, Option, None, Some, option_map}
+use Rattle.std.specs.Prelude.{◌≡◌, ℕ, zero, suc, ◌==◌, Bool, true, false, not, ◌||◌, cond, refl, List, [], ◌∷◌, ◌++◌}
+use Rattle.std.specs.Prelude.{Option, None, Some, option_map}
 use Rattle.std.specs.List.{list_any}
 use Rattle.std.proofs.Common.{arith, sym, ◌∙◌, ap, inl, inr}
 use Rattle.std.proofs.lemmas.Bool.{cases_eq, ne_eqb, eq-eqb}
@@ -31,10 +32,12 @@ value_suc (Some j) k = same_suc j k
 pub first_here : (p : RoledEntry → Bool) (done : List RoledEntry) (e : RoledEntry) (es : List RoledEntry) → p e ≡ true →
     is_value (first_index p (done ++ e ∷ es)) (size_of done) ≡ not (list_any p done)
 unfolding size_of
-first_here p [] e es h = ap (λ b. is_value (cond b (Some 0) (option_map suc (first_index p es))) zero) h ∙ eq-eqb 0 zero refl
+first_here p [] e es h = ap (λ b. is_value (cond b (Some 0) (option_map suc (first_index p es))) zero) h
+    ∙ eq-eqb 0 zero refl
 first_here p (d ∷ ds) e es h = one (first_here p ds e es h) (p d) refl
   where
     one : is_value (first_index p (ds ++ e ∷ es)) (size_of ds) ≡ not (list_any p ds) → (b : Bool) → p d ≡ b →
-        is_value (cond b (Some 0) (option_map suc (first_index p (ds ++ e ∷ es)))) (suc (size_of ds)) ≡ not (b || list_any p ds)
+        is_value (cond b (Some 0) (option_map suc (first_index p (ds ++ e ∷ es)))) (suc (size_of ds))
+        ≡ not (b || list_any p ds)
     one more true q = ne_eqb 0 (suc (size_of ds)) (λ z. absurd (omega (arith, z)))
     one more false q = value_suc (first_index p (ds ++ e ∷ es)) (size_of ds) ∙ more

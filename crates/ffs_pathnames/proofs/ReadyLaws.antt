@@ -54,7 +54,8 @@ pub ready_next : (v : Layout) (d d' : Device) (w : Workspace) (s : Siblings) (bl
     → ReadyWith v d w s → d' ≡ d → CanReadChunks v d' blocks chunk → ReadyWith v d' (with_chunk w blocks chunk) s
 ready_next v d d' w s blocks chunk r e can = record {
   ready = ready_read v d d' w blocks chunk r.ready (ap (λ x. x.contents) e) can;
-  siblings = siblings_on v _ _ w (with_chunk w blocks chunk) s (ap (λ x. x.contents) e) (windows_leave w (with_chunk w blocks chunk) refl) r.siblings;
+  siblings = siblings_on v _ _ w (with_chunk w blocks chunk) s (ap (λ x. x.contents) e)
+      (windows_leave w (with_chunk w blocks chunk) refl) r.siblings;
 }
 
 -- what is ready for reading chunks
@@ -67,7 +68,8 @@ can_read_in v d w r = record {
 }
 
 -- what two calls leave that read
-pub reads_more : {E : Type 0} (v : Layout) (d d' d'' : Device) (w w' w'' : Workspace) (q : Result E ImageFault) → d' ≡ d → w' ≡ record w { windows = w'.windows } →
+pub reads_more : {E : Type 0} (v : Layout) (d d' d'' : Device) (w w' w'' : Workspace) (q : Result E ImageFault) → d' ≡ d
+    → w' ≡ record w { windows = w'.windows } →
     OnlyReads v d' d'' w' w'' q → OnlyReads v d d'' w w'' q
 reads_more v d d' d'' w w' w'' q e lists s = record {
   lists = s.lists ∙ ap (λ (x : Workspace). record x { windows = w''.windows }) lists;

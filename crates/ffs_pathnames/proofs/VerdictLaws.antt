@@ -8,16 +8,19 @@ use Rattle.std.specs.Prelude.{◌++◌, not, ◌||◌}
 use Rattle.ffs_pathnames.specs.Gathers.{is_silent}
 use Rattle.ffs_pathnames.specs.Verdicts.{verdict_reported, suspect_message}
 
-none_reported : (a b c : Bool) (x y z : NameMessage) → not (a || (b || c)) ≡ true → reported a x ++ (reported b y ++ reported c z) ≡ []
+none_reported : (a b c : Bool) (x y z : NameMessage) → not (a || (b || c)) ≡ true →
+    reported a x ++ (reported b y ++ reported c z) ≡ []
 none_reported true b c x y z h = absurd (cc)
 none_reported false true c x y z h = absurd (cc)
 none_reported false false true x y z h = absurd (cc)
 none_reported false false false x y z h = refl
 
-pub silent_reported : (verdict : Verdict) (number : ℕ) (about : Attr) (path directory : List ℕ) → is_silent verdict ≡ true → verdict_reported verdict number about path directory ≡ []
+pub silent_reported : (verdict : Verdict) (number : ℕ) (about : Attr) (path directory : List ℕ) →
+    is_silent verdict ≡ true → verdict_reported verdict number about path directory ≡ []
 silent_reported OutOfRange number about path directory h = absurd (cc)
 silent_reported Whiteout number about path directory h = absurd (cc)
 silent_reported Fine number about path directory h = refl
 silent_reported Unallocated number about path directory h = absurd (cc)
 silent_reported (Named n) number about path directory h =
-    none_reported n.suspect n.extraneous n.kind (suspect_message n about path) (extraneous path directory) (kind_entry about n.label path) h
+    none_reported n.suspect n.extraneous n.kind (suspect_message n about path) (extraneous path directory)
+    (kind_entry about n.label path) h

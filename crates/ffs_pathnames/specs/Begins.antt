@@ -20,7 +20,8 @@ use Rattle.ffs_pathnames.specs.Header.{header_reported}
 
 -- of its size, its Gaps, its chunks and its first two entries
 unfoldable pub dir_starts : Volume → ℕ → List NameMessage
-dir_starts v d = header_reported (attributes v d) (dir_path (graph_of v) d) d (parent (graph_of v) d) (v.gap d) (are_sound (v.chunks d)) (start_entry v d 0) (start_entry v d 1)
+dir_starts v d = header_reported (attributes v d) (dir_path (graph_of v) d) d (parent (graph_of v) d) (v.gap d)
+    (are_sound (v.chunks d)) (start_entry v d 0) (start_entry v d 1)
 
 -- 0 means no number
 abbrev pub number_if : ℕ → Option ℕ
@@ -31,8 +32,12 @@ abbrev pub started_entry : ℕ → Bool → Order → List ℕ → Option Entry
 started_entry i started order start = option_and_then (λ c. nth_entry i c.entries) (start_of [] started order start)
 
 -- its inode is read, its entries were looked at, and each inode that belongs to it is stamped
-pub record IsBegun (v : Layout) (b : List ℕ) (d : ℕ) (old : Workspace) (e : DirectorySummary) (new : Workspace) : Type 0 where
+pub record IsBegun (v : Layout) (b : List ℕ) (d : ℕ) (old : Workspace) (e : DirectorySummary) (new : Workspace) :
+    Type 0 where
   pub inode : e.inode ≡ inode_of v b d
   pub quiet : e.found.quiet ≡ are_quiet (volume_of v b) d old.queue.items (roled_entries (volume_of v b) d)
   pub marks : marks_of new
-      ≡ record { passed = old.leaders.items; stamps = after_looks (volume_of v b) d old.queue.items (roled_entries (volume_of v b) d) }
+      ≡ record {
+        passed = old.leaders.items;
+        stamps = after_looks (volume_of v b) d old.queue.items (roled_entries (volume_of v b) d);
+      }

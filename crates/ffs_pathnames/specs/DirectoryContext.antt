@@ -10,13 +10,15 @@ use Rattle.ffs_paths.specs.declared.kept.DirectoryPath.{DirectoryPath}
 use Rattle.ffs_paths.specs.DirectoryPaths.{IsPathOf}
 
 -- the image gives them, the workspace holds what the block check and the survey leave, and d is a directory
-pub record DirectoryContext (v : Layout) (contents : Option (List ℕ)) (w : Workspace) (d : ℕ) (b : List ℕ) : Type 0 where
+pub record DirectoryContext (v : Layout) (contents : Option (List ℕ)) (w : Workspace) (d : ℕ) (b : List ℕ) :
+    Type 0 where
   pub reported_is : contents ≡ Some b
   pub claims : HoldsClaims v b w
   pub survey : HoldsSurvey v b w
   pub dir : is_dir (volume_of v b) d ≡ true
 
 -- and this is the path of d
-pub record KnowsPath (v : Layout) (contents : Option (List ℕ)) (w : Workspace) (d : ℕ) (p : DirectoryPath) (b : List ℕ) : Type 0 where
+pub record KnowsPath (v : Layout) (contents : Option (List ℕ)) (w : Workspace) (d : ℕ) (p : DirectoryPath)
+    (b : List ℕ) : Type 0 where
   pub knows : DirectoryContext v contents w d b
   pub path : IsPathOf (graph_of (volume_of v b)) d p

@@ -19,7 +19,8 @@ pub record LeavesQueue (old new : Workspace) : Type 0 where
 
 -- its inode, whether a Gap of it is kept, whether its chunks are sound, the chunk at the start of the file, whether
 -- nothing may be reported of its entries; and each inode that belongs to it is stamped
-pub record AreFound (v : Layout) (b : List ℕ) (d : ℕ) (old : Workspace) (e : DirectorySummary) (new : Workspace) (start : List ℕ) : Type 0 where
+pub record AreFound (v : Layout) (b : List ℕ) (d : ℕ) (old : Workspace) (e : DirectorySummary) (new : Workspace)
+    (start : List ℕ) : Type 0 where
   pub inode : e.inode ≡ inode_of v b d
   pub gap : e.found.gap ≡ (volume_of v b).gap d
   pub sound : e.found.sound ≡ are_sound ((volume_of v b).chunks d)

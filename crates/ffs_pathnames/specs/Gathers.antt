@@ -16,7 +16,8 @@ use Rattle.ffs_pathnames.specs.Marks.{Marks, plain_reported}
 abbrev pub IsEnough : Volume → Verdict → ℕ → ℕ → List ℕ → Attr → List ℕ → List ℕ → Type 0
 IsEnough v verdict dir number name about path directory =
     verdict_reported verdict number about path directory
-    ≡ verdict_reported verdict number (attributes v number) (entry_path (graph_of v) dir name) (dir_path (graph_of v) number)
+    ≡ verdict_reported verdict number (attributes v number) (entry_path (graph_of v) dir name)
+    (dir_path (graph_of v) number)
 
 -- the marks that a workspace holds during the pathname check
 abbrev pub marks_of : Workspace → Marks
@@ -49,7 +50,8 @@ is_silent (Named n) = not (n.suspect || (n.extraneous || n.kind))
 pub record IsVerdict (v : Volume) (s : ℕ) (m : Marks) (e : Entry) (verdict : Verdict) : Type 0 where
   pub linked : asks_path verdict ≡ true → is_dir v e.number ≡ true
   pub reported : plain_reported v s m e
-      ≡ verdict_reported verdict e.number (attributes v e.number) (entry_path (graph_of v) s e.name) (dir_path (graph_of v) e.number)
+      ≡ verdict_reported verdict e.number (attributes v e.number) (entry_path (graph_of v) s e.name)
+      (dir_path (graph_of v) e.number)
 
 -- the lists that say something of each inode are as long as one another
 pub record AreAsLong (w : Workspace) : Type 0 where

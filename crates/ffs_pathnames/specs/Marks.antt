@@ -30,7 +30,11 @@ is_due s m x = slice_index m.stamps x == s
 
 -- a plain entry of s that names x is passed
 abbrev pub after_name : ℕ → Marks → ℕ → Marks
-after_name s m x = record { passed = slice_set m.passed x true; stamps = if is_due s m x then slice_set m.stamps x 0 else m.stamps }
+after_name s m x = record {
+  passed = slice_set m.passed x true;
+  stamps = if is_due s m x then slice_set m.stamps x 0
+      else m.stamps;
+}
 
 abbrev pub after_roled : Volume → ℕ → Marks → RoledEntry → Marks
 after_roled v s m e = if is_plain e.role && nat_lt e.entry.number v.count then after_name s m e.entry.number else m
@@ -43,14 +47,16 @@ named_reported v s m e =
     && not (is_passed m e.number))) (suspect_reported v e.number (entry_path (graph_of v) s e.name))
     ++ (reported (is_dir v e.number
     && not (is_due s m e.number)) (extraneous (entry_path (graph_of v) s e.name) (dir_path (graph_of v) e.number))
-    ++ reported (has_wrong_type v e) (kind_entry (attributes v e.number) (label_of (v.class e.number)) (entry_path (graph_of v) s e.name)))
+    ++ reported (has_wrong_type v e)
+    (kind_entry (attributes v e.number) (label_of (v.class e.number)) (entry_path (graph_of v) s e.name)))
 
 abbrev pub plain_reported : Volume → ℕ → Marks → Entry → List NameMessage
 plain_reported v s m e =
     if not (nat_lt e.number v.count) then out_of_range e.number (entry_path (graph_of v) s e.name) ∷ []
     else (if is_bad_whiteout e then whiteout e.number (entry_path (graph_of v) s e.name) ∷ []
     else (if e.number == 1 then []
-    else (if not (is_allocated (v.class e.number)) then unallocated (attributes v e.number) (entry_path (graph_of v) s e.name) ∷ []
+    else (if not (is_allocated (v.class e.number))
+    then unallocated (attributes v e.number) (entry_path (graph_of v) s e.name) ∷ []
     else named_reported v s m e)))
 
 abbrev pub role_reported : Volume → ℕ → Marks → Role → Entry → List NameMessage

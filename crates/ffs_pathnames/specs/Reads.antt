@@ -12,7 +12,8 @@ use Rattle.ffs_names.specs.RunCursors.{reading_by}
 
 -- the chunks of an inode that keeps `cut` offers, or all if that is 0
 unfoldable pub chunks_read : Layout → Inode → ℕ → List ℕ → List Chunk
-chunks_read v i cut b = chunks_of (reading_by v b (bytes_read i.size)) (is_run_in_range v) (replayed_steps v cut fresh_replay (steps_of v i b))
+chunks_read v i cut b = chunks_of (reading_by v b (bytes_read i.size)) (is_run_in_range v)
+    (replayed_steps v cut fresh_replay (steps_of v i b))
 
 -- the chunk at the start of the file: the one that was found, or else the first of those to come
 abbrev pub start_of : List Chunk → Bool → Order → List ℕ → Option Chunk

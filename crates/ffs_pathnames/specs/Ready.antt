@@ -24,18 +24,21 @@ ReadyAfter v d w s (Err e) = IsReady v d w
 
 -- what a call of the phase leaves: the image, but for a read that failed, what the block check and the survey found,
 -- and all that the next call asks for
-pub record PhaseLeaves {T : Type 0} (v : Layout) (d d' : Device) (w w' : Workspace) (s : Siblings) (result : Result T RunFault) : Type 0 where
+pub record PhaseLeaves {T : Type 0} (v : Layout) (d d' : Device) (w w' : Workspace) (s : Siblings)
+    (result : Result T RunFault) : Type 0 where
   pub image : ImageAfter d d' result
   pub survey : LeavesSurvey w w'
   pub ready : ReadyAfter v d' w' s result
 
 -- the same of a call that changes nothing of the workspace but its windows
-pub record LinesLeave {T : Type 0} (v : Layout) (d d' : Device) (w w' : Workspace) (s : Siblings) (result : Result T RunFault) : Type 0 where
+pub record LinesLeave {T : Type 0} (v : Layout) (d d' : Device) (w w' : Workspace) (s : Siblings)
+    (result : Result T RunFault) : Type 0 where
   pub image : ImageAfter d d' result
   pub lists : w' ≡ record w { windows = w'.windows }
   pub ready : ReadyAfter v d' w' s result
 
 -- what a call leaves that makes a path
-pub record PathLeaves {T : Type 0} (v : Layout) (d d' : Device) (w w' : Workspace) (s : Siblings) (result : Result T ImageFault) : Type 0 where
+pub record PathLeaves {T : Type 0} (v : Layout) (d d' : Device) (w w' : Workspace) (s : Siblings)
+    (result : Result T ImageFault) : Type 0 where
   pub reads : OnlyReads v d d' w w' result
   pub siblings : OnOk result (KeepSiblings v d'.contents w' s)

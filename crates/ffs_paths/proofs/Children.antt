@@ -1,5 +1,6 @@
 -- The names down to a directory are those down to its parent, and that of its parent entry.
-use Rattle.std.proofs.Common.{◌≡◌, ◌≢◌, ℕ, zero, suc, ◌<◌, Bool, true, false, if◌then◌else◌, List, [], Some, sym, ap, subst, ◌∙◌, arith}
+use Rattle.std.proofs.Common.{◌≡◌, ◌≢◌, ℕ, zero, suc, ◌<◌, Bool, true, false, if◌then◌else◌, List, [], Some, sym, ap}
+use Rattle.std.proofs.Common.{subst, ◌∙◌, arith}
 use Rattle.std.specs.Prelude.{option_map}
 use Rattle.std.specs.Option.{unwrap_or}
 use Rattle.std.specs.List.{list_any}
@@ -27,7 +28,8 @@ pub dir_some : (v : Volume) (d : ℕ) → is_dir v d ≡ true → 0 < d
 dir_some v zero h = absurd (cc)
 dir_some v (suc d) h = omega arith
 
-pub child_is : (v : Layout) (b : List ℕ) (d s : ℕ) → reached (graph_of (volume_of v b)) d ≡ true → d ≢ 2 → s ≡ unwrap_or (parent (graph_of (volume_of v b)) d) 0 → IsChild v b d s
+pub child_is : (v : Layout) (b : List ℕ) (d s : ℕ) → reached (graph_of (volume_of v b)) d ≡ true → d ≢ 2 →
+    s ≡ unwrap_or (parent (graph_of (volume_of v b)) d) 0 → IsChild v b d s
 child_is v b d s h n e = let l = level_of g d h in go l.0 l.1
   where
     g : Graph
@@ -52,6 +54,7 @@ child_is v b d s h n e = let l = level_of g d h in go l.0 l.1
         })
 
 -- what is known of a name that was found, of the child that is kept
-pub found_child : (P : ℕ → List ℕ → Type 0) (found : Bool) (child d : ℕ) (name last : List ℕ) → child ≡ (if found then d else 0) → name ≡ (if found then last else []) → 0 < child → P d name → P child last
+pub found_child : (P : ℕ → List ℕ → Type 0) (found : Bool) (child d : ℕ) (name last : List ℕ) →
+    child ≡ (if found then d else 0) → name ≡ (if found then last else []) → 0 < child → P d name → P child last
 found_child P true child d name last e f some h = subst (λ c. P c last) (sym e) (subst (P d) f h)
 found_child P false child d name last e f some h = absurd (omega arith)

@@ -43,13 +43,15 @@ lists_leave old new s = record {
   runs_again = ap (λ w. w.runs_again) s;
 }
 
-pub siblings_on : (v : Layout) (contents contents' : Option (List ℕ)) (old new : Workspace) (s : Siblings) → contents' ≡ contents → LeavesSurvey old new
+pub siblings_on : (v : Layout) (contents contents' : Option (List ℕ)) (old new : Workspace) (s : Siblings) →
+    contents' ≡ contents → LeavesSurvey old new
     → KeepSiblings v contents old s → KeepSiblings v contents' new s
 siblings_on v contents contents' old new s e left k =
     let back = leaves_back old new left in
     record {
       layout = k.layout;
-      right = λ b t claims survey some. k.right b (sym e ∙ t) (claims_left v b new old back claims) (survey_left v b new old back survey) some;
+      right = λ b t claims survey some. k.right b (sym e ∙ t) (claims_left v b new old back claims)
+          (survey_left v b new old back survey) some;
       names = record {
         right = λ b t claims dir. k.names.right b (sym e ∙ t) (claims_left v b new old back claims) dir;
         inside = k.names.inside;
@@ -57,7 +59,8 @@ siblings_on v contents contents' old new s e left k =
     }
 
 -- a read into the windows, after a call that only read
-pub then_reads : {S T : Type 0} {v : Layout} {old first last : Device} {before w : Workspace} {windows : Windows} {x : S}
+pub then_reads : {S T : Type 0} {v : Layout} {old first last : Device} {before w : Workspace} {windows : Windows}
+    {x : S}
     {result : Result T ImageFault} → OnlyReads v old first before w (Ok x) → AreOpen v last windows
     → ReadAfter first last result → OnlyReads v old last before (record w { windows = windows }) result
 then_reads {last = last} {windows = windows} {result = result} one opened read =
@@ -89,8 +92,10 @@ then_reads {last = last} {windows = windows} {result = result} one opened read =
     }
 
 -- a call that only reads, after another
-pub reads_then : {S T : Type 0} {v : Layout} {old mid last : Device} {before w after : Workspace} {x : S} {result : Result T ImageFault}
-    → OnlyReads v old mid before w (Ok x) → OnlyReads v mid last w after result → OnlyReads v old last before after result
+pub reads_then : {S T : Type 0} {v : Layout} {old mid last : Device} {before w after : Workspace} {x : S}
+    {result : Result T ImageFault}
+    → OnlyReads v old mid before w (Ok x) → OnlyReads v mid last w after result →
+    OnlyReads v old last before after result
 reads_then {last = last} {after = after} {result = result} one two = record {
   lists = two.lists ∙ ap (λ (w : Workspace). record w { windows = after.windows }) one.lists;
   ready = two.ready;

@@ -1,5 +1,6 @@
 -- A reading of a directory that finds where it names its children.
-use Rattle.std.proofs.Common.{◌≡◌, ◌≢◌, ℕ, zero, suc, ◌-◌, ◌*◌, ◌≤◌, ◌==◌, ◌&&◌, Bool, true, false, List, [], ◌∷◌, ◌++◌, length, take, Option, Some, None, refl, sym, ap, subst, ◌∙◌, arith, replicate, get_or}
+use Rattle.std.proofs.Common.{◌≡◌, ◌≢◌, ℕ, zero, suc, ◌-◌, ◌*◌, ◌≤◌, ◌==◌, ◌&&◌, Bool, true, false, List, [], ◌∷◌, ◌++◌}
+use Rattle.std.proofs.Common.{length, take, Option, Some, None, refl, sym, ap, subst, ◌∙◌, arith, replicate, get_or}
 use Rattle.std.specs.Prelude.{vec_len, Result, Ok, Err, IfOk, OnOk}
 use Rattle.std.proofs.lemmas.List.{length-take}
 use Rattle.std.specs.Option.{unwrap_or}
@@ -76,11 +77,13 @@ pub record IsKept (e : RoledEntry) (q : NamePlace) (old new : ChildNames) : Type
   pub others : (x : ℕ) → old.first ≤ x → names x e ≡ false → place_at new x ≡ place_at old x
   pub this : (x : ℕ) → Covers old x → names x e ≡ true → place_at new x ≡ Some (unwrap_or (place_at old x) q)
 
-covers_on : {e : RoledEntry} {q : NamePlace} {old new : ChildNames} (x : ℕ) → IsKept e q old new → Covers new x → Covers old x
+covers_on : {e : RoledEntry} {q : NamePlace} {old new : ChildNames} (x : ℕ) → IsKept e q old new → Covers new x →
+    Covers old x
 covers_on x k s = let f = k.first in let low = s.0 in let high = s.1 in (omega arith, omega arith)
 
 -- the place of x after the entry: the old one, or that of the entry where there was none
-pub kept_cases : {e : RoledEntry} {q : NamePlace} {old new : ChildNames} (P : NamePlace → Type 0) (x : ℕ) → IsKept e q old new → Covers new x → (p : NamePlace) → place_at new x ≡ Some p
+pub kept_cases : {e : RoledEntry} {q : NamePlace} {old new : ChildNames} (P : NamePlace → Type 0) (x : ℕ) →
+    IsKept e q old new → Covers new x → (p : NamePlace) → place_at new x ≡ Some p
     → ((r : NamePlace) → place_at old x ≡ Some r → P r) → (names x e ≡ true → place_at old x ≡ None → P q) → P p
 kept_cases {e = e} {q = q} {old = old} {new = new} P x k s p is was now = go (names x e) refl (place_at old x) refl
   where
@@ -92,10 +95,13 @@ kept_cases {e = e} {q = q} {old = old} {new = new} P x k s p is was now = go (na
     go true n None h = subst P (some_is q p (sym (k.this x c n ∙ ap (λ y. Some (unwrap_or y q)) h) ∙ is)) (now n h)
     go true n (Some r) h = subst P (some_is r p (sym (k.this x c n ∙ ap (λ y. Some (unwrap_or y q)) h) ∙ is)) (was r h)
 
-pub inside_on : (v : Layout) (e : RoledEntry) (q : NamePlace) (old new : ChildNames) → IsKept e q old new → IsInside v q → AreInside v old → AreInside v new
-inside_on v e q old new k i a = record { each = λ x s p is. kept_cases (IsInside v) x k s p is (λ r h. a.each x (covers_on x k s) r h) (λ n h. i) }
+pub inside_on : (v : Layout) (e : RoledEntry) (q : NamePlace) (old new : ChildNames) → IsKept e q old new → IsInside v q
+    → AreInside v old → AreInside v new
+inside_on v e q old new k i a =
+    record { each = λ x s p is. kept_cases (IsInside v) x k s p is (λ r h. a.each x (covers_on x k s) r h) (λ n h. i) }
 
-pub names_on : (b : List ℕ) (all es rest : List RoledEntry) (e : RoledEntry) (q : NamePlace) (old new : ChildNames) → IsKept e q old new → es ≡ e ∷ rest → piece q.place q.length b ≡ e.entry.name
+pub names_on : (b : List ℕ) (all es rest : List RoledEntry) (e : RoledEntry) (q : NamePlace) (old new : ChildNames) →
+    IsKept e q old new → es ≡ e ∷ rest → piece q.place q.length b ≡ e.entry.name
     → IsUnseen all es old → AreNamesOf b all old → AreNamesOf b all new
 names_on b all es rest e q old new k l name unseen a = record {
   found = λ x s p is. kept_cases (λ r. piece r.place r.length b ≡ name_in x all) x k s p is
@@ -103,23 +109,28 @@ names_on b all es rest e q old new k l name unseen a = record {
       (λ n h. name ∙ sym (unseen.still x (covers_on x k s) h ∙ (ap (name_in x) l ∙ name_in-here x e rest n)));
 }
 
-pub unseen_on : (all es rest : List RoledEntry) (e : RoledEntry) (q : NamePlace) (old new : ChildNames) → IsKept e q old new → es ≡ e ∷ rest → IsUnseen all es old → IsUnseen all rest new
+pub unseen_on : (all es rest : List RoledEntry) (e : RoledEntry) (q : NamePlace) (old new : ChildNames) →
+    IsKept e q old new → es ≡ e ∷ rest → IsUnseen all es old → IsUnseen all rest new
 unseen_on all es rest e q old new k l unseen = record { still = λ x s none. go x s none (names x e) refl }
   where
     go : (x : ℕ) → Covers new x → place_at new x ≡ None → (b : Bool) → names x e ≡ b → name_in x all ≡ name_in x rest
     go x s none true n = absurd (none_some _ (sym none ∙ k.this x (covers_on x k s) n))
     go x s none false n =
-        unseen.still x (covers_on x k s) (sym (k.others x (covers_on x k s).0 n) ∙ none) ∙ (ap (name_in x) l ∙ name_in-past x e rest n)
+        unseen.still x (covers_on x k s) (sym (k.others x (covers_on x k s).0 n) ∙ none)
+        ∙ (ap (name_in x) l ∙ name_in-past x e rest n)
 
 -- the bytes at the place of the last name
 pub name_there : (b : List ℕ) (r : Entries) → IsHeld b r → piece (name_place r) r.name_len b ≡ last_name r
 name_there b r h =
     let fits = r.name_in_chunk in
-    sym (piece_of (last_place r.chunks.run_cursor) 512 r.name_place r.name_len b fits) ∙ ap (λ xs. piece r.name_place r.name_len xs) (sym h)
+    sym (piece_of (last_place r.chunks.run_cursor) 512 r.name_place r.name_len b fits)
+    ∙ ap (λ xs. piece r.name_place r.name_len xs) (sym h)
 
 -- the windows after a read of blocks and chunks
-pub open_on : (v : Layout) (d d' : Device) (w : Windows) (blocks : Blocks) (chunk : Window) → AreOpen v d w → d'.size ≡ d.size → d'.contents ≡ d.contents → vec_len blocks.buffer ≡ vec_len w.blocks.buffer
-    → BlocksHold v d'.contents blocks → vec_len chunk.buffer ≡ vec_len w.chunk.buffer → WindowHolds d'.contents chunk → AreOpen v d' (record { table = w.table; blocks = blocks; chunk = chunk })
+pub open_on : (v : Layout) (d d' : Device) (w : Windows) (blocks : Blocks) (chunk : Window) → AreOpen v d w →
+    d'.size ≡ d.size → d'.contents ≡ d.contents → vec_len blocks.buffer ≡ vec_len w.blocks.buffer
+    → BlocksHold v d'.contents blocks → vec_len chunk.buffer ≡ vec_len w.chunk.buffer → WindowHolds d'.contents chunk →
+    AreOpen v d' (record { table = w.table; blocks = blocks; chunk = chunk })
 open_on v d d' w blocks chunk o size contents long holds chunk_long chunk_holds = record {
   volume = subst (λ n. v.size * v.fsize ≤ n) (sym size) o.volume;
   table = o.table;
@@ -151,12 +162,14 @@ kept_is e q old new plain first this others = record {
   first = first;
   others = λ x low f. others x low (names_other e.role e.entry.number x plain f);
   this = λ x s n.
-      let same : e.entry.number ≡ x = eqb-true e.entry.number x (and_parts (is_plain e.role) (e.entry.number == x) n).1 in
+      let same : e.entry.number ≡ x =
+      eqb-true e.entry.number x (and_parts (is_plain e.role) (e.entry.number == x) n).1 in
       subst (λ k. Covers old k → place_at new k ≡ Some (unwrap_or (place_at old k) q)) same this s;
 }
 
 -- the place of a name
-pub place_inside : (r : Entries) → IsInsideEntries r → IsInside r.chunks.walk.geometry.layout (record { place = name_place r; length = r.name_len })
+pub place_inside : (r : Entries) → IsInsideEntries r →
+    IsInside r.chunks.walk.geometry.layout (record { place = name_place r; length = r.name_len })
 place_inside r h = let fits = r.name_in_chunk in record { volume = omega arith; short = omega arith }
 
 -- no directory has the number 0
@@ -164,16 +177,22 @@ pub no_directory : (v : Volume) (n : ℕ) → n ≡ 0 → is_dir v n ≡ true �
 no_directory v n e h = let some = dir_some v n h in omega arith
 
 -- a directory is the child with the name that was found
-pub named_child : (v : Layout) (b : List ℕ) (s d : ℕ) (name : List ℕ) (above made : DirectoryPath) → IsChild v b d s → name ≡ name_in d (roled_entries (volume_of v b) s) → IsPathOf (graph_of (volume_of v b)) s above
-    → ((names : List (List ℕ)) → HoldsPath above (Some names) → AreSingle (names ++ name ∷ []) → HoldsPath made (Some (names ++ name ∷ []))) → IsPathOf (graph_of (volume_of v b)) d made
+pub named_child : (v : Layout) (b : List ℕ) (s d : ℕ) (name : List ℕ) (above made : DirectoryPath) → IsChild v b d s →
+    name ≡ name_in d (roled_entries (volume_of v b) s) → IsPathOf (graph_of (volume_of v b)) s above
+    → ((names : List (List ℕ)) → HoldsPath above (Some names) → AreSingle (names ++ name ∷ []) →
+    HoldsPath made (Some (names ++ name ∷ []))) → IsPathOf (graph_of (volume_of v b)) d made
 named_child v b s d name above made child is path makes =
     let leads = child.leads in
-    let longer = makes leads.names (subst (HoldsPath above) leads.above path) (subst (λ n. AreSingle (leads.names ++ n ∷ [])) (sym is) leads.single) in
+    let longer = makes leads.names (subst (HoldsPath above) leads.above path)
+    (subst (λ n. AreSingle (leads.names ++ n ∷ [])) (sym is) leads.single) in
     subst (HoldsPath made) (sym leads.below) (subst (λ n. HoldsPath made (Some (leads.names ++ n ∷ []))) is longer)
 
 -- a name was read into the window of chunks
-pub name_read : {T : Type 0} (v : Layout) (d d' : Device) (w : Workspace) (chunk : Window) (result : Result T ImageFault) → IsReady v d w → d'.size ≡ d.size → d'.contents ≡ d.contents → vec_len chunk.buffer ≡ vec_len w.windows.chunk.buffer
-    → WindowHolds d'.contents chunk → ReadAfter d d' result → OnlyReads v d d' w (record w { windows = record w.windows { chunk = chunk } }) result
+pub name_read : {T : Type 0} (v : Layout) (d d' : Device) (w : Workspace) (chunk : Window)
+    (result : Result T ImageFault) → IsReady v d w → d'.size ≡ d.size → d'.contents ≡ d.contents →
+    vec_len chunk.buffer ≡ vec_len w.windows.chunk.buffer
+    → WindowHolds d'.contents chunk → ReadAfter d d' result →
+    OnlyReads v d d' w (record w { windows = record w.windows { chunk = chunk } }) result
 name_read {T} v d d' w chunk result ready size contents long holds read =
     let made = ready.made in
     let one : OnlyReads {T = Unit {0}} v d d w w (Ok tt) = record { lists = refl; ready = ready; read = refl } in
@@ -186,7 +205,8 @@ name_read {T} v d d' w chunk result ready size contents long holds read =
       blocks_hold = ready.windows.blocks;
       chunk_holds = ready.windows.chunk;
     } in
-    then_reads one (open_on v d d' w.windows w.windows.blocks chunk opened size contents refl (subst (λ c. BlocksHold v c w.windows.blocks) (sym contents) ready.windows.blocks) long holds) read
+    then_reads one (open_on v d d' w.windows w.windows.blocks chunk opened size contents refl
+    (subst (λ c. BlocksHold v c w.windows.blocks) (sym contents) ready.windows.blocks) long holds) read
 
 -- a name is read whole
 pub take_whole : (n m : ℕ) (xs : List ℕ) → n ≡ m → m ≤ 512 → length (take n xs) ≤ 512
@@ -198,22 +218,29 @@ pub record NamesOfParent (v : Layout) (b : List ℕ) (d : ℕ) (s : Siblings) : 
   pub path : IsPathOf (graph_of (volume_of v b)) s.parent s.path
   pub names : AreAllNamesOf b (roled_entries (volume_of v b) s.parent) s.names
 
-pub names_of_parent : (v : Layout) (b : List ℕ) (device : Device) (w : Workspace) (s : Siblings) (d : ℕ) → device.contents ≡ Some b → HoldsClaims v b w → HoldsSurvey v b w → IsParentOf w d s.parent → KeepSiblings v device.contents w s → s.names.parent ≡ s.parent
+pub names_of_parent : (v : Layout) (b : List ℕ) (device : Device) (w : Workspace) (s : Siblings) (d : ℕ) →
+    device.contents ≡ Some b → HoldsClaims v b w → HoldsSurvey v b w → IsParentOf w d s.parent →
+    KeepSiblings v device.contents w s → s.names.parent ≡ s.parent
     → NamesOfParent v b d s
 names_of_parent v b device w s d t claims survey of kept e =
     let below = of.below in
-    let child = child_is v b d s.parent (sym (survey.reached d) ∙ of.reached) (omega arith) (of.is ∙ survey.parents d) in
+    let child = child_is v b d s.parent (sym (survey.reached d) ∙ of.reached) (omega arith)
+    (of.is ∙ survey.parents d) in
     let some = dir_some (volume_of v b) s.parent child.dir in
     record {
       child = child;
       path = (kept.right b t claims survey some).path;
-      names = subst (λ p. AreAllNamesOf b (roled_entries (volume_of v b) p) s.names) e (kept.names.right b t claims (ap (is_dir (volume_of v b)) e ∙ child.dir));
+      names = subst (λ p. AreAllNamesOf b (roled_entries (volume_of v b) p) s.names) e
+          (kept.names.right b t claims (ap (is_dir (volume_of v b)) e ∙ child.dir));
     }
 
 -- what a call answers is right of the workspace before it, too
-pub path_before : (v : Layout) (d d' : Device) (w w' : Workspace) (x : ℕ) (result : Result DirectoryPath ImageFault) → d'.contents ≡ d.contents → LeavesSurvey w w'
-    → IfOk result (λ path. ForTree v d' w' (λ g. IsPathOf g x path)) → IfOk result (λ path. ForTree v d w (λ g. IsPathOf g x path))
-path_before v d d' w w' x (Ok path) e left h = λ b t claims survey. h b (e ∙ t) (claims_left v b w w' left claims) (survey_left v b w w' left survey)
+pub path_before : (v : Layout) (d d' : Device) (w w' : Workspace) (x : ℕ) (result : Result DirectoryPath ImageFault) →
+    d'.contents ≡ d.contents → LeavesSurvey w w'
+    → IfOk result (λ path. ForTree v d' w' (λ g. IsPathOf g x path)) →
+    IfOk result (λ path. ForTree v d w (λ g. IsPathOf g x path))
+path_before v d d' w w' x (Ok path) e left h = λ b t claims survey. h b (e ∙ t) (claims_left v b w w' left claims)
+    (survey_left v b w w' left survey)
 path_before v d d' w w' x (Err fault) e left h = tt
 
 pub on_ok : {T : Type 0} (result : Result T ImageFault) (P : Type 0) → P → OnOk result P

@@ -14,5 +14,6 @@ pub fits_not : (path : List ℕ) → 1024 < length path → 63 ∷ [] ≡ in_roo
 fits_not path h = sym (ap (λ b. if b then 63 ∷ [] else path) (over_is (length path) h))
 
 -- the name of an entry of a volume has at most 255 bytes
-pub entry_in_room : (g : Graph) (d : ℕ) (name : List ℕ) → length name ≤ 255 → in_room (entry_path g d name) ≡ entry_path g d name
+pub entry_in_room : (g : Graph) (d : ℕ) (name : List ℕ) → length name ≤ 255 →
+    in_room (entry_path g d name) ≡ entry_path g d name
 entry_in_room g d name h = sym (fits (entry_path g d name) ((paths_fit g d).of_entry name h))

@@ -1,5 +1,6 @@
 -- The way from a directory up to the root.
-use Rattle.std.proofs.Common.{◌≡◌, ◌≢◌, ℕ, zero, suc, ◌+◌, ◌<◌, ◌≤◌, ◌==◌, true, false, List, [], ◌∷◌, ◌++◌, length, drop, Option, Some, None, refl, sym, ap, subst, ◌∙◌, arith}
+use Rattle.std.proofs.Common.{◌≡◌, ◌≢◌, ℕ, zero, suc, ◌+◌, ◌<◌, ◌≤◌, ◌==◌, true, false, List, [], ◌∷◌, ◌++◌, length}
+use Rattle.std.proofs.Common.{drop, Option, Some, None, refl, sym, ap, subst, ◌∙◌, arith}
 use Rattle.std.specs.Prelude.{◌*◌, is_some, cond, option_map, option_and_then}
 use Rattle.std.specs.List.{list_any}
 use Rattle.std.proofs.lemmas.List.{drop_all}
@@ -7,10 +8,12 @@ use Rattle.std.proofs.lemmas.Bool.{both_ways, and_parts, ne_eqb, cond-false, eq-
 use Rattle.ffs_volume.specs.declared.Layout.{Layout}
 use Rattle.ffs_volume.specs.Directories.Roles.{RoledEntry}
 use Rattle.ffs_volume.specs.Directories.Volumes.{volume_of, volume_with}
-use Rattle.ffs_volume.specs.Directories.Graph.{Graph, level, reached, names, names_in, parent, parent_entry_index, index_in_parent, first_index}
+use Rattle.ffs_volume.specs.Directories.Graph.{Graph, level, reached, names, names_in, parent, parent_entry_index}
+use Rattle.ffs_volume.specs.Directories.Graph.{index_in_parent, first_index}
 use Rattle.ffs_volume.proofs.LevelLaws.{level-some, within-zero}
 use Rattle.ffs_volume.specs.Directories.Parents.{roled_at, graph_of}
-use Rattle.ffs_volume.specs.Directories.Paths.{joined, names_down, names_above, name_of, path_names, dir_path, entry_path, dir_path_of_names, entry_path_of_names, path_bytes}
+use Rattle.ffs_volume.specs.Directories.Paths.{joined, names_down, names_above, name_of, path_names, dir_path}
+use Rattle.ffs_volume.specs.Directories.Paths.{entry_path, dir_path_of_names, entry_path_of_names, path_bytes}
 use Rattle.ffs_survey.specs.ParentLaws.{parent_above, root_level}
 use Rattle.ffs_paths.specs.declared.buffer.PathBuffer.{PathBuffer}
 use Rattle.ffs_paths.specs.Buffers.{HoldsNames}
@@ -23,16 +26,21 @@ use Rattle.ffs_paths.proofs.Ends.{cut-more, end-none}
 use Rattle.ffs_paths.proofs.Rooms.{fits, fits_not}
 
 -- the first name, by the first entry
-pub name_in-here : (d : ℕ) (e : RoledEntry) (es : List RoledEntry) → names d e ≡ true → name_in d (e ∷ es) ≡ e.entry.name
-name_in-here d e es h = ap (λ b. name_of (option_and_then (roled_at (e ∷ es)) (cond b (Some 0) (option_map suc (first_index (names d) es))))) h
+pub name_in-here : (d : ℕ) (e : RoledEntry) (es : List RoledEntry) → names d e ≡ true →
+    name_in d (e ∷ es) ≡ e.entry.name
+name_in-here d e es h = ap
+    (λ b. name_of (option_and_then (roled_at (e ∷ es)) (cond b (Some 0) (option_map suc (first_index (names d) es))))) h
 
-past : (e : RoledEntry) (es : List RoledEntry) (o : Option ℕ) → name_of (option_and_then (roled_at (e ∷ es)) (option_map suc o)) ≡ name_of (option_and_then (roled_at es) o)
+past : (e : RoledEntry) (es : List RoledEntry) (o : Option ℕ) →
+    name_of (option_and_then (roled_at (e ∷ es)) (option_map suc o)) ≡ name_of (option_and_then (roled_at es) o)
 past e es None = refl
 past e es (Some i) = refl
 
-pub name_in-past : (d : ℕ) (e : RoledEntry) (es : List RoledEntry) → names d e ≡ false → name_in d (e ∷ es) ≡ name_in d es
+pub name_in-past : (d : ℕ) (e : RoledEntry) (es : List RoledEntry) → names d e ≡ false →
+    name_in d (e ∷ es) ≡ name_in d es
 name_in-past d e es h =
-    ap (λ b. name_of (option_and_then (roled_at (e ∷ es)) (cond b (Some 0) (option_map suc (first_index (names d) es))))) h ∙ past e es (first_index (names d) es)
+    ap (λ b. name_of (option_and_then (roled_at (e ∷ es))
+    (cond b (Some 0) (option_map suc (first_index (names d) es))))) h ∙ past e es (first_index (names d) es)
 
 -- the climb from d, of level k, has reached a directory, with the names below it
 pub record IsOnWay (g : Graph) (k d at step : ℕ) (names : List (List ℕ)) (p : PathBuffer) : Type 0 where
@@ -44,29 +52,36 @@ pub record IsOnWay (g : Graph) (k d at step : ℕ) (names : List (List ℕ)) (p 
   pub whole : names_down g left at ++ following ≡ names_down g k d ++ names
 
 -- a path that is cut holds any names above, too
-pub cut_holds : (p : PathBuffer) (above names : List (List ℕ)) → p.cut ≡ true → HoldsNames p names → HoldsNames p (above ++ names)
+pub cut_holds : (p : PathBuffer) (above names : List (List ℕ)) → p.cut ≡ true → HoldsNames p names →
+    HoldsNames p (above ++ names)
 cut_holds p [] names c h = h
 cut_holds p (name ∷ above) names c h =
     let r = cut_holds p above names c h in
     let m = cut-more name (above ++ names) (sym r.cut ∙ c) in
     record { whole = λ e. absurd (cc); short = r.short ∙ ap joined (sym m.1); cut = c ∙ sym m.0 }
 
-pub way_cut : (g : Graph) (k d at step : ℕ) (names : List (List ℕ)) (p : PathBuffer) → IsOnWay g k d at step names p → p.cut ≡ true → HoldsNames p (names_down g k d ++ names)
-way_cut g k d at step names p w c = subst (HoldsNames p) w.whole (cut_holds p (names_down g w.left at) w.following c w.held)
+pub way_cut : (g : Graph) (k d at step : ℕ) (names : List (List ℕ)) (p : PathBuffer) → IsOnWay g k d at step names p →
+    p.cut ≡ true → HoldsNames p (names_down g k d ++ names)
+way_cut g k d at step names p w c =
+    subst (HoldsNames p) w.whole (cut_holds p (names_down g w.left at) w.following c w.held)
 
 names_root : (g : Graph) (k : ℕ) → level g 2 ≡ Some k → names_down g k 2 ≡ []
 unfolding names_down
 names_root g zero h = refl
-names_root g (suc k) h = absurd (both_ways _ ((level-some g (suc k) 2 h).0.least 0 (omega arith)) (within-zero g 2 ∙ eq-eqb 2 2 refl))
+names_root g (suc k) h = absurd
+    (both_ways _ ((level-some g (suc k) 2 h).0.least 0 (omega arith)) (within-zero g 2 ∙ eq-eqb 2 2 refl))
 
-pub way_root : (g : Graph) (k d at step : ℕ) (names : List (List ℕ)) (p : PathBuffer) → IsOnWay g k d at step names p → at ≡ 2 → HoldsNames p (names_down g k d ++ names)
+pub way_root : (g : Graph) (k d at step : ℕ) (names : List (List ℕ)) (p : PathBuffer) → IsOnWay g k d at step names p →
+    at ≡ 2 → HoldsNames p (names_down g k d ++ names)
 way_root g k d at step names p w e =
     let n = names_root g w.left (subst (λ x. level g x ≡ Some w.left) e w.level) in
-    let m : names_down g w.left at ++ w.following ≡ w.following = ap (λ x. names_down g w.left x ++ w.following) e ∙ ap (λ xs. xs ++ w.following) n in
+    let m : names_down g w.left at ++ w.following ≡ w.following = ap (λ x. names_down g w.left x ++ w.following) e
+    ∙ ap (λ xs. xs ++ w.following) n in
     subst (HoldsNames p) (sym m ∙ w.whole) w.held
 
 -- a level is below the number of inodes
-pub way_long : (g : Graph) (k d at step : ℕ) (names : List (List ℕ)) (p : PathBuffer) → IsOnWay g k d at step names p → level g d ≡ Some k → step < g.count
+pub way_long : (g : Graph) (k d at step : ℕ) (names : List (List ℕ)) (p : PathBuffer) → IsOnWay g k d at step names p →
+    level g d ≡ Some k → step < g.count
 way_long g k d at step names p w h = let l = (level-some g k d h).1 in let s = w.steps in omega arith
 
 -- what is above a directory other than the root
@@ -74,22 +89,29 @@ pub record HasParent (g : Graph) (k d at step : ℕ) (ends : List (List ℕ)) (p
   pub is : parent g at ≡ Some s
   pub below : s < g.count
   pub dir : g.is_dir s ≡ true
-  pub on : (q : PathBuffer) → ((following : List (List ℕ)) → HoldsNames p following → HoldsNames q (name_in at (g.entries s) ∷ following)) → IsOnWay g k d s (step + 1) ends q
+  pub on : (q : PathBuffer) →
+      ((following : List (List ℕ)) → HoldsNames p following → HoldsNames q (name_in at (g.entries s) ∷ following)) →
+      IsOnWay g k d s (step + 1) ends q
 
 on_front : (xs : List (List ℕ)) (n : List ℕ) (ys : List (List ℕ)) → (xs ++ n ∷ []) ++ ys ≡ xs ++ (n ∷ ys)
 on_front [] n ys = refl
 on_front (x ∷ xs) n ys = ap (λ zs. x ∷ zs) (on_front xs n ys)
 
-pub down_is : (g : Graph) (j at s : ℕ) → at ≢ 2 → parent g at ≡ Some s → names_down g (suc j) at ≡ names_down g j s ++ name_in at (g.entries s) ∷ []
+pub down_is : (g : Graph) (j at s : ℕ) → at ≢ 2 → parent g at ≡ Some s → names_down g (suc j) at ≡ names_down g j s
+    ++ name_in at (g.entries s) ∷ []
 unfolding names_down
 down_is g j at s n e =
-    let place : parent_entry_index g at ≡ first_index (names at) (g.entries s) = cond-false (at == 2) None (index_in_parent g at (parent g at)) (ne_eqb at 2 n) ∙ ap (index_in_parent g at) e in
-    ap (names_above g (names_down g j) at) e ∙ ap (λ o. names_down g j s ++ name_of (option_and_then (roled_at (g.entries s)) o) ∷ []) place
+    let place : parent_entry_index g at ≡ first_index (names at) (g.entries s) =
+    cond-false (at == 2) None (index_in_parent g at (parent g at)) (ne_eqb at 2 n) ∙ ap (index_in_parent g at) e in
+    ap (names_above g (names_down g j) at) e
+    ∙ ap (λ o. names_down g j s ++ name_of (option_and_then (roled_at (g.entries s)) o) ∷ []) place
 
-pub way_up : (g : Graph) (k d at step : ℕ) (ends : List (List ℕ)) (p : PathBuffer) → IsOnWay g k d at step ends p → at ≢ 2 → (s : ℕ) × HasParent g k d at step ends p s
+pub way_up : (g : Graph) (k d at step : ℕ) (ends : List (List ℕ)) (p : PathBuffer) → IsOnWay g k d at step ends p →
+    at ≢ 2 → (s : ℕ) × HasParent g k d at step ends p s
 way_up g k d at step ends p w n = go w.left w.level w.steps w.whole
   where
-    go : (left : ℕ) → level g at ≡ Some left → left + step ≡ k → names_down g left at ++ w.following ≡ names_down g k d ++ ends → (s : ℕ) × HasParent g k d at step ends p s
+    go : (left : ℕ) → level g at ≡ Some left → left + step ≡ k → names_down g left at ++ w.following ≡ names_down g k d
+        ++ ends → (s : ℕ) × HasParent g k d at step ends p s
     go zero l e h = absurd (n (root_level g at l))
     go (suc j) l e h =
         let a = parent_above g j at l in
@@ -109,7 +131,8 @@ way_up g k d at step ends p w n = go w.left w.level w.steps w.whole
               steps = omega arith;
               following = name ∷ w.following;
               held = f w.following w.held;
-              whole = sym (on_front (names_down g j s) name w.following) ∙ (sym (ap (λ xs. xs ++ w.following) down) ∙ h);
+              whole = sym (on_front (names_down g j s) name w.following)
+                  ∙ (sym (ap (λ xs. xs ++ w.following) down) ∙ h);
             };
           },
         )
@@ -119,7 +142,12 @@ pub new_holds : (p : PathBuffer) → p.start ≡ 1024 → p.short ≡ 1024 → p
 new_holds p start short cut =
     let l = p.long in
     let all : drop 1024 p.bytes ≡ [] = drop_all 1024 p.bytes (omega arith) in
-    record { whole = λ _. ap (λ i. drop i p.bytes) start ∙ all; short = ap (λ i. drop i p.bytes) short ∙ (all ∙ end-none); cut = cut }
+    record {
+      whole = λ _. ap (λ i. drop i p.bytes) start ∙ all;
+      short = ap (λ i. drop i p.bytes) short
+          ∙ (all ∙ end-none);
+      cut = cut;
+    }
 
 -- the numbers of the graph are those of the inodes
 pub count_is : (v : Layout) (b : List ℕ) → (graph_of (volume_of v b)).count ≡ v.ncg * v.ipg
@@ -131,12 +159,15 @@ append_none [] = refl
 append_none (x ∷ xs) = ap (λ ys. x ∷ ys) (append_none xs)
 
 -- the path that is kept of a directory that is reached, and of one that isn't
-pub found_is : (g : Graph) (d k : ℕ) (p : DirectoryPath) → level g d ≡ Some k → p.reached ≡ true → HoldsNames p.names (names_down g k d ++ []) → AreSingle (names_down g k d) → IsPathOf g d p
+pub found_is : (g : Graph) (d k : ℕ) (p : DirectoryPath) → level g d ≡ Some k → p.reached ≡ true →
+    HoldsNames p.names (names_down g k d ++ []) → AreSingle (names_down g k d) → IsPathOf g d p
 found_is g d k p l r h s =
-    subst (HoldsPath p) (sym (ap (option_map (λ n. names_down g n d)) l)) (r, subst (HoldsNames p.names) (append_none (names_down g k d)) h, s)
+    subst (HoldsPath p) (sym (ap (option_map (λ n. names_down g n d)) l))
+    (r, subst (HoldsNames p.names) (append_none (names_down g k d)) h, s)
 
 -- what is written of it
-pub put_is : (g : Graph) (d : ℕ) (p : DirectoryPath) (text : List ℕ) → IsPathOf g d p → p.reached ≡ true → ((names : List (List ℕ)) → HoldsNames p.names names → text ≡ dir_path_of_names (Some names))
+pub put_is : (g : Graph) (d : ℕ) (p : DirectoryPath) (text : List ℕ) → IsPathOf g d p → p.reached ≡ true →
+    ((names : List (List ℕ)) → HoldsNames p.names names → text ≡ dir_path_of_names (Some names))
     → text ≡ dir_path g d
 unfolding dir_path
 put_is g d p text h r f = go (path_names g d) h
@@ -145,7 +176,8 @@ put_is g d p text h r f = go (path_names g d) h
     go None k = absurd (both_ways _ k r)
     go (Some names) k = f names k.1
 
-pub put_lost : (g : Graph) (d : ℕ) (p : DirectoryPath) (text : List ℕ) → IsPathOf g d p → p.reached ≡ false → text ≡ 63 ∷ [] → text ≡ dir_path g d
+pub put_lost : (g : Graph) (d : ℕ) (p : DirectoryPath) (text : List ℕ) → IsPathOf g d p → p.reached ≡ false →
+    text ≡ 63 ∷ [] → text ≡ dir_path g d
 unfolding dir_path
 put_lost g d p text h r e = go (path_names g d) h
   where
@@ -153,8 +185,10 @@ put_lost g d p text h r e = go (path_names g d) h
     go None k = e
     go (Some names) k = absurd (both_ways _ r k.0)
 
-pub entry_is : (g : Graph) (d : ℕ) (name : List ℕ) (p : DirectoryPath) (text : List ℕ) → IsPathOf g d p → p.reached ≡ true
-    → ((names : List (List ℕ)) → HoldsNames p.names names → AreSingle names → text ≡ path_bytes (names ++ name ∷ [])) → text ≡ in_room (entry_path g d name)
+pub entry_is : (g : Graph) (d : ℕ) (name : List ℕ) (p : DirectoryPath) (text : List ℕ) → IsPathOf g d p →
+    p.reached ≡ true
+    → ((names : List (List ℕ)) → HoldsNames p.names names → AreSingle names → text ≡ path_bytes (names ++ name ∷ [])) →
+    text ≡ in_room (entry_path g d name)
 unfolding entry_path
 entry_is g d name p text h r f = go (path_names g d) h
   where
@@ -163,7 +197,8 @@ entry_is g d name p text h r f = go (path_names g d) h
     go (Some names) k = f names k.1 k.2 ∙ fits (path_bytes (names ++ name ∷ [])) (path_text-fits (names ++ name ∷ []))
 
 -- of a directory that is not reached
-lost_by : (g : Graph) (d : ℕ) (name : List ℕ) (p : DirectoryPath) (text : List ℕ) → IsPathOf g d p → p.reached ≡ false → text ≡ in_room (63 ∷ 47 ∷ name) → text ≡ in_room (entry_path g d name)
+lost_by : (g : Graph) (d : ℕ) (name : List ℕ) (p : DirectoryPath) (text : List ℕ) → IsPathOf g d p → p.reached ≡ false →
+    text ≡ in_room (63 ∷ 47 ∷ name) → text ≡ in_room (entry_path g d name)
 unfolding entry_path
 lost_by g d name p text h r e = go (path_names g d) h
   where
@@ -171,11 +206,13 @@ lost_by g d name p text h r e = go (path_names g d) h
     go None k = e
     go (Some names) k = absurd (both_ways _ r k.0)
 
-pub entry_lost : (g : Graph) (d : ℕ) (name : List ℕ) (p : DirectoryPath) (text : List ℕ) → IsPathOf g d p → p.reached ≡ false → length name ≤ 1022 → text ≡ 63 ∷ 47 ∷ name
+pub entry_lost : (g : Graph) (d : ℕ) (name : List ℕ) (p : DirectoryPath) (text : List ℕ) → IsPathOf g d p →
+    p.reached ≡ false → length name ≤ 1022 → text ≡ 63 ∷ 47 ∷ name
     → text ≡ in_room (entry_path g d name)
 entry_lost g d name p text h r short e = lost_by g d name p text h r (e ∙ fits (63 ∷ 47 ∷ name) (omega arith))
 
-pub entry_long : (g : Graph) (d : ℕ) (name : List ℕ) (p : DirectoryPath) (text : List ℕ) → IsPathOf g d p → p.reached ≡ false → 1022 < length name → text ≡ 63 ∷ []
+pub entry_long : (g : Graph) (d : ℕ) (name : List ℕ) (p : DirectoryPath) (text : List ℕ) → IsPathOf g d p →
+    p.reached ≡ false → 1022 < length name → text ≡ 63 ∷ []
     → text ≡ in_room (entry_path g d name)
 entry_long g d name p text h r long e = lost_by g d name p text h r (e ∙ fits_not (63 ∷ 47 ∷ name) (omega arith))
 

@@ -32,8 +32,8 @@ pub record AreSiblings (v : Layout) (b : List ℕ) (s : Siblings) : Type 0 where
       ≡ name_in x (roled_entries (volume_of v b) s.parent)
   pub child : 0 < s.child → LeadsTo (graph_of (volume_of v b)) s.parent s.child (last_name s.search.entries)
 
--- the places are those of the names in the directory, where the image gives these bytes and the workspace holds what the
--- block check leaves
+-- the places are those of the names in the directory, where the image gives these bytes and the workspace holds what
+-- the block check leaves
 pub record HoldNames (v : Layout) (contents : Option (List ℕ)) (w : Workspace) (c : ChildNames) : Type 0 where
   pub right : (b : List ℕ) → contents ≡ Some b → HoldsClaims v b w → is_dir (volume_of v b) c.parent ≡ true
       → AreAllNamesOf b (roled_entries (volume_of v b) c.parent) c

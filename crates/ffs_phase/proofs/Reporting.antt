@@ -1,15 +1,17 @@
--- How a phase continues and ends. (For each phase.) In an answer only the lists of messages are written, the rest is `_`:
---   of_says _ REST REST' _ MESSAGES _ _ _ SAID-SO-FAR (λ bytes k. RIGHT) c.in_ok-say.ensures.said
---   of_part _ REST PART REST' _ _ _ _ SAID-SO-FAR (λ bytes k. RIGHT) (said_knows _ _ _ _ _ _ MORE c.in_ok-part.ensures.text)
--- at the exit of a `?`, with `let p = err_from_is_err_and c.from_residual.result c.from_residual.ensures.1 in rw (p.1, p.2)` before it:
---   of_reads _ _ _ _ _ SAID-SO-FAR                                                          (a read of the image)
---   of_stops _ REST REST' _ MESSAGES _ _ _ SAID-SO-FAR (λ bytes k. RIGHT) c.in_err-say.ensures.said
---   of_fault (Unit {0}) (Unit {0}) _ REST PART REST' _ _ _ _ c.in_err-part.field-0.0 SAID-SO-FAR (λ bytes k. RIGHT)
---     (reports_knowing (Unit {0}) _ _ _ _ _ (Err c.in_err-part.field-0.0) MORE c.in_err-part.ensures.text)
--- and for a last call in tail position:
---   of_last _ _ REST PART _ _ _ _ c.part.result SAID-SO-FAR (λ bytes k. RIGHT) (reports_knowing _ _ _ _ _ _ c.part.result MORE c.part.ensures.text)
--- MORE gives what the part wants to know from what the whole knows, as λ bytes k. ap (λ d. d.contents) IMAGE-STAYED ∙ k.0.
-use Rattle.std.proofs.Common.{◌≡◌, refl, ◌∙◌, sym, ap, subst, ℕ, List, [], ◌++◌, append_assoc, append-nil, Result, Ok, Err}
+-- How a phase continues and ends. (For each phase.) In an answer only the lists of messages are written, the rest is
+-- `_`:   of_says _ REST REST' _ MESSAGES _ _ _ SAID-SO-FAR (λ bytes k. RIGHT) c.in_ok-say.ensures.said
+-- of_part _ REST PART REST' _ _ _ _ SAID-SO-FAR (λ bytes k. RIGHT) (said_knows _ _ _ _ _ _ MORE
+-- c.in_ok-part.ensures.text) at the exit of a `?`, with `let p = err_from_is_err_and c.from_residual.result
+-- c.from_residual.ensures.1 in rw (p.1, p.2)` before it:   of_reads _ _ _ _ _ SAID-SO-FAR
+-- (a read of the image)   of_stops _ REST REST' _ MESSAGES _ _ _ SAID-SO-FAR (λ bytes k. RIGHT)
+-- c.in_err-say.ensures.said   of_fault (Unit {0}) (Unit {0}) _ REST PART REST' _ _ _ _ c.in_err-part.field-0.0
+-- SAID-SO-FAR (λ bytes k. RIGHT)     (reports_knowing (Unit {0}) _ _ _ _ _ (Err c.in_err-part.field-0.0) MORE
+-- c.in_err-part.ensures.text) and for a last call in tail position:
+-- of_last _ _ REST PART _ _ _ _ c.part.result SAID-SO-FAR (λ bytes k. RIGHT) (reports_knowing _ _ _ _ _ _ c.part.result
+-- MORE c.part.ensures.text) MORE gives what the part wants to know from what the whole knows, as λ bytes k. ap (λ d.
+-- d.contents) IMAGE-STAYED ∙ k.0.
+use Rattle.std.proofs.Common.{◌≡◌, refl, ◌∙◌, sym, ap, subst, ℕ, List, [], ◌++◌, append_assoc, append-nil, Result, Ok}
+use Rattle.std.proofs.Common.{Err}
 use Rattle.ffs_volume.specs.Messages.Kinds.{Message}
 use Rattle.ffs_report.specs.Progress.{Progress, Said, Stopped, Says}
 use Rattle.ffs_report.proofs.Reports.{said_none, said_then, stopped_after, stopped_more}
@@ -22,43 +24,55 @@ use Rattle.ffs_phase.specs.declared.fault.RunFault.TheVariants.{Read, Out}
 pub to_begins : (all : List Message) (a : Progress) → SaidTo all all a a
 to_begins all a = record { messages = []; right = refl; said = said_none a }
 
-pub to_says : (rest rest' all ms : List Message) (a b c : Progress) → SaidTo rest all a b → rest ≡ ms ++ rest' → Said b c ms → SaidTo rest' all a c
+pub to_says : (rest rest' all ms : List Message) (a b c : Progress) → SaidTo rest all a b → rest ≡ ms ++ rest' →
+    Said b c ms → SaidTo rest' all a c
 to_says rest rest' all ms a b c p e q = record {
   messages = p.messages ++ ms;
   right = append_assoc p.messages ms rest' ∙ ap (λ (xs : List Message). p.messages ++ xs) (sym e) ∙ p.right;
   said = said_then a b c p.messages ms p.said q;
 }
 
-pub to_stops : (rest rest' all ms : List Message) (a b c : Progress) → SaidTo rest all a b → rest ≡ ms ++ rest' → Stopped b c ms → Stopped a c all
+pub to_stops : (rest rest' all ms : List Message) (a b c : Progress) → SaidTo rest all a b → rest ≡ ms ++ rest' →
+    Stopped b c ms → Stopped a c all
 to_stops rest rest' all ms a b c p e q =
-    subst (Stopped a c) (append_assoc p.messages ms rest' ∙ ap (λ (xs : List Message). p.messages ++ xs) (sym e) ∙ p.right)
+    subst (Stopped a c) (append_assoc p.messages ms rest' ∙ ap (λ (xs : List Message). p.messages ++ xs) (sym e)
+    ∙ p.right)
     (stopped_more a c (p.messages ++ ms) rest' (stopped_after a b c p.messages ms p.said q))
 
 pub to_ends : (rest all : List Message) (a b : Progress) → SaidTo rest all a b → rest ≡ [] → Said a b all
-to_ends rest all a b p e = subst (Said a b) (sym (append-nil p.messages) ∙ ap (λ (xs : List Message). p.messages ++ xs) (sym e) ∙ p.right) p.said
+to_ends rest all a b p e =
+    subst (Said a b) (sym (append-nil p.messages) ∙ ap (λ (xs : List Message). p.messages ++ xs) (sym e) ∙ p.right)
+    p.said
 
 -- ---- messages of an image's bytes
 pub of_begins : (knows : List ℕ → Type 0) (all : List ℕ → List Message) (a : Progress) → SaidOf knows all all a a
 of_begins knows all a = record { messages = []; right = λ bytes k. refl; said = said_none a }
 
-pub of_says : (knows : List ℕ → Type 0) (rest rest' all : List ℕ → List Message) (ms : List Message) (a b c : Progress) →
-    SaidOf knows rest all a b → ForBytes knows (λ bytes. rest bytes ≡ ms ++ rest' bytes) → Said b c ms → SaidOf knows rest' all a c
+pub of_says : (knows : List ℕ → Type 0) (rest rest' all : List ℕ → List Message) (ms : List Message) (a b c : Progress)
+    →
+    SaidOf knows rest all a b → ForBytes knows (λ bytes. rest bytes ≡ ms ++ rest' bytes) → Said b c ms →
+    SaidOf knows rest' all a c
 of_says knows rest rest' all ms a b c p e q = record {
   messages = p.messages ++ ms;
-  right = λ bytes k. append_assoc p.messages ms (rest' bytes) ∙ ap (λ (xs : List Message). p.messages ++ xs) (sym (e bytes k)) ∙ p.right bytes k;
+  right = λ bytes k. append_assoc p.messages ms (rest' bytes)
+      ∙ ap (λ (xs : List Message). p.messages ++ xs) (sym (e bytes k)) ∙ p.right bytes k;
   said = said_then a b c p.messages ms p.said q;
 }
 
-pub of_stops : (knows : List ℕ → Type 0) (rest rest' all : List ℕ → List Message) (ms : List Message) (a b c : Progress) →
-    SaidOf knows rest all a b → ForBytes knows (λ bytes. rest bytes ≡ ms ++ rest' bytes) → Stopped b c ms → StoppedOf knows all a c
+pub of_stops : (knows : List ℕ → Type 0) (rest rest' all : List ℕ → List Message) (ms : List Message) (a b c : Progress)
+    →
+    SaidOf knows rest all a b → ForBytes knows (λ bytes. rest bytes ≡ ms ++ rest' bytes) → Stopped b c ms →
+    StoppedOf knows all a c
 of_stops knows rest rest' all ms a b c p e q = record {
   messages = p.messages ++ ms;
   rest = rest';
-  right = λ bytes k. append_assoc p.messages ms (rest' bytes) ∙ ap (λ (xs : List Message). p.messages ++ xs) (sym (e bytes k)) ∙ p.right bytes k;
+  right = λ bytes k. append_assoc p.messages ms (rest' bytes)
+      ∙ ap (λ (xs : List Message). p.messages ++ xs) (sym (e bytes k)) ∙ p.right bytes k;
   stopped = stopped_after a b c p.messages ms p.said q;
 }
 
-pub of_reads : (knows : List ℕ → Type 0) (rest all : List ℕ → List Message) (a b : Progress) → SaidOf knows rest all a b → SaidPrefixOf knows all a b
+pub of_reads : (knows : List ℕ → Type 0) (rest all : List ℕ → List Message) (a b : Progress) → SaidOf knows rest all a b
+    → SaidPrefixOf knows all a b
 of_reads knows rest all a b p = record { rest = rest; prefix = p }
 
 -- what is to come has changed its form
@@ -72,7 +86,8 @@ of_same knows rest rest' all a b p e = record {
 
 -- a part of a phase answered Ok, or a fault
 pub of_part : (knows : List ℕ → Type 0) (rest part rest' all : List ℕ → List Message) (a b c : Progress) →
-    SaidOf knows rest all a b → ForBytes knows (λ bytes. rest bytes ≡ part bytes ++ rest' bytes) → SaidOf knows (λ bytes. []) part b c → SaidOf knows rest' all a c
+    SaidOf knows rest all a b → ForBytes knows (λ bytes. rest bytes ≡ part bytes ++ rest' bytes) →
+    SaidOf knows (λ bytes. []) part b c → SaidOf knows rest' all a c
 of_part knows rest part rest' all a b c p e q = record {
   messages = p.messages ++ q.messages;
   right = λ bytes k. append_assoc p.messages q.messages (rest' bytes)
@@ -82,14 +97,19 @@ of_part knows rest part rest' all a b c p e q = record {
 }
 
 part_right : (knows : List ℕ → Type 0) (rest part rest' all more : List ℕ → List Message) (xs ys : List Message) →
-    ForBytes knows (λ bytes. xs ++ rest bytes ≡ all bytes) → ForBytes knows (λ bytes. rest bytes ≡ part bytes ++ rest' bytes) →
-    ForBytes knows (λ bytes. ys ++ more bytes ≡ part bytes) → ForBytes knows (λ bytes. (xs ++ ys) ++ (more bytes ++ rest' bytes) ≡ all bytes)
+    ForBytes knows (λ bytes. xs ++ rest bytes ≡ all bytes) →
+    ForBytes knows (λ bytes. rest bytes ≡ part bytes ++ rest' bytes) →
+    ForBytes knows (λ bytes. ys ++ more bytes ≡ part bytes) →
+    ForBytes knows (λ bytes. (xs ++ ys) ++ (more bytes ++ rest' bytes) ≡ all bytes)
 part_right knows rest part rest' all more xs ys p e q = λ bytes k.
     append_assoc xs ys (more bytes ++ rest' bytes)
-    ∙ ap (λ (zs : List Message). xs ++ zs) (sym (append_assoc ys (more bytes) (rest' bytes)) ∙ ap (λ (zs : List Message). zs ++ rest' bytes) (q bytes k) ∙ sym (e bytes k))
+    ∙ ap (λ (zs : List Message). xs ++ zs)
+    (sym (append_assoc ys (more bytes) (rest' bytes)) ∙ ap (λ (zs : List Message). zs ++ rest' bytes) (q bytes k)
+    ∙ sym (e bytes k))
     ∙ p bytes k
 
-pub of_fault : (T E : Type 0) (knows : List ℕ → Type 0) (rest part rest' all : List ℕ → List Message) (a b c : Progress) (fault : RunFault) →
+pub of_fault : (T E : Type 0) (knows : List ℕ → Type 0) (rest part rest' all : List ℕ → List Message) (a b c : Progress)
+    (fault : RunFault) →
     SaidOf knows rest all a b → ForBytes knows (λ bytes. rest bytes ≡ part bytes ++ rest' bytes) →
     PhaseReports {T = T} knows part b c (Err fault) → PhaseReports {T = E} knows all a c (Err fault)
 of_fault T E knows rest part rest' all a b c (Read fault) p e q = record {
@@ -108,12 +128,15 @@ of_fault T E knows rest part rest' all a b c (Out fault) p e q = record {
 }
 
 -- the outcome of a phase's last part
-pub of_last : (T : Type 0) (knows : List ℕ → Type 0) (rest part all : List ℕ → List Message) (a b c : Progress) (r : Result T RunFault) →
-    SaidOf knows rest all a b → ForBytes knows (λ bytes. rest bytes ≡ part bytes) → PhaseReports knows part b c r → PhaseReports knows all a c r
+pub of_last : (T : Type 0) (knows : List ℕ → Type 0) (rest part all : List ℕ → List Message) (a b c : Progress)
+    (r : Result T RunFault) →
+    SaidOf knows rest all a b → ForBytes knows (λ bytes. rest bytes ≡ part bytes) → PhaseReports knows part b c r →
+    PhaseReports knows all a c r
 of_last T knows rest part all a b c (Ok x) p e q =
     of_part knows rest part (λ bytes. []) all a b c p (λ bytes k. e bytes k ∙ sym (append-nil (part bytes))) q
 of_last T knows rest part all a b c (Err fault) p e q =
-    of_fault T T knows rest part (λ bytes. []) all a b c fault p (λ bytes k. e bytes k ∙ sym (append-nil (part bytes))) q
+    of_fault T T knows rest part (λ bytes. []) all a b c fault p (λ bytes k. e bytes k ∙ sym (append-nil (part bytes)))
+    q
 
 -- ---- where more is known than was wanted
 pub said_knows : (knows knows' : List ℕ → Type 0) (rest all : List ℕ → List Message) (a b : Progress) →
@@ -133,7 +156,8 @@ stopped_knows knows knows' all a b more p = record {
   stopped = p.stopped;
 }
 
-pub reports_knowing : (T : Type 0) (knows knows' : List ℕ → Type 0) (all : List ℕ → List Message) (a b : Progress) (r : Result T RunFault) →
+pub reports_knowing : (T : Type 0) (knows knows' : List ℕ → Type 0) (all : List ℕ → List Message) (a b : Progress)
+    (r : Result T RunFault) →
     ForBytes knows' knows → PhaseReports knows all a b r → PhaseReports knows' all a b r
 reports_knowing T knows knows' all a b (Ok x) more p = said_knows knows knows' (λ bytes. []) all a b more p
 reports_knowing T knows knows' all a b (Err (Read fault)) more p = record {
@@ -143,7 +167,8 @@ reports_knowing T knows knows' all a b (Err (Read fault)) more p = record {
 reports_knowing T knows knows' all a b (Err (Out fault)) more p = stopped_knows knows knows' all a b more p
 
 -- ---- where all has changed its form
-pub reports_same : (T : Type 0) (knows : List ℕ → Type 0) (all all' : List ℕ → List Message) (a b : Progress) (r : Result T RunFault) →
+pub reports_same : (T : Type 0) (knows : List ℕ → Type 0) (all all' : List ℕ → List Message) (a b : Progress)
+    (r : Result T RunFault) →
     ForBytes knows (λ bytes. all bytes ≡ all' bytes) → PhaseReports knows all a b r → PhaseReports knows all' a b r
 reports_same T knows all all' a b (Ok x) e p = record {
   messages = p.messages;

@@ -1,5 +1,6 @@
 -- How a report continues. (For the layers above.)
-use Rattle.std.proofs.Common.{◌≡◌, inl, inr, refl, ◌∙◌, sym, ap, List, [], ◌∷◌, ◌++◌, append_assoc, Bool, true, false, ◌||◌, Result, Ok, Err}
+use Rattle.std.proofs.Common.{◌≡◌, inl, inr, refl, ◌∙◌, sym, ap, List, [], ◌∷◌, ◌++◌, append_assoc, Bool, true, false}
+use Rattle.std.proofs.Common.{◌||◌, Result, Ok, Err}
 use Rattle.std.proofs.lemmas.List.Concat.{flat_map-append}
 use Rattle.std.proofs.Math.Bool.{or_assoc}
 use Rattle.ffs_volume.specs.Messages.Kinds.{Message, is_defect, has_defect}
@@ -13,7 +14,8 @@ or_false false = refl
 
 pub has_defect-append : (xs ys : List Message) → has_defect (xs ++ ys) ≡ (has_defect xs || has_defect ys)
 has_defect-append [] ys = refl
-has_defect-append (x ∷ xs) ys = ap (λ b. is_defect x || b) (has_defect-append xs ys) ∙ sym (or_assoc (is_defect x) (has_defect xs) (has_defect ys))
+has_defect-append (x ∷ xs) ys = ap (λ b. is_defect x || b) (has_defect-append xs ys)
+    ∙ sym (or_assoc (is_defect x) (has_defect xs) (has_defect ys))
 
 pub said_none : (a : Progress) → Said a a []
 said_none a = record { output = refl; took = took_nil a.sink; failed = refl; defect = sym (or_false a.defect) }
@@ -33,7 +35,8 @@ stopped_after a b c xs ys p q = record {
   lent = q.lent ∙ p.took.lent;
   prefix = texts_of xs ++ q.prefix;
   rest = q.rest;
-  whole = flat_map-append text_of xs ys ∙ ap (λ z. texts_of xs ++ z) q.whole ∙ sym (append_assoc (texts_of xs) q.prefix q.rest);
+  whole = flat_map-append text_of xs ys ∙ ap (λ z. texts_of xs ++ z) q.whole
+      ∙ sym (append_assoc (texts_of xs) q.prefix q.rest);
   taken = Appends-then a.sink.taken b.sink.taken c.sink.taken (texts_of xs) q.prefix p.took.taken q.taken;
   failed = q.failed;
   cause = elim q.cause [ inl f ↦ inl (sym p.failed ∙ f) | inr r ↦ inr (rw p.took.failures at r) ];
@@ -45,13 +48,15 @@ stopped_more a b xs ys p = record {
   lent = p.lent;
   prefix = p.prefix;
   rest = p.rest ++ texts_of ys;
-  whole = flat_map-append text_of xs ys ∙ ap (λ z. z ++ texts_of ys) p.whole ∙ append_assoc p.prefix p.rest (texts_of ys);
+  whole = flat_map-append text_of xs ys ∙ ap (λ z. z ++ texts_of ys) p.whole
+      ∙ append_assoc p.prefix p.rest (texts_of ys);
   taken = p.taken;
   failed = p.failed;
   cause = p.cause;
 }
 
 -- messages that were said, and then the outcome of more
-pub says_then : {T E : Type 0} (a b c : Progress) (xs ys : List Message) (r : Result T E) → Said a b xs → Says b c ys r → Says a c (xs ++ ys) r
+pub says_then : {T E : Type 0} (a b c : Progress) (xs ys : List Message) (r : Result T E) → Said a b xs → Says b c ys r
+    → Says a c (xs ++ ys) r
 says_then a b c xs ys (Ok x) p q = said_then a b c xs ys p q
 says_then a b c xs ys (Err e) p q = stopped_after a b c xs ys p q

@@ -1,5 +1,6 @@
 -- How bytes are shown run by run: `from` is where the run begins that has not gone out yet.
-use Rattle.std.proofs.Common.{◌≡◌, ◌∙◌, ◌+◌, ◌-◌, ◌<◌, ℕ, List, [], ◌∷◌, ◌++◌, length, take, drop, get_or, map, refl, sym, ap, subst, arith, append_assoc, true, false, Bool, if◌then◌else◌, Result}
+use Rattle.std.proofs.Common.{◌≡◌, ◌∙◌, ◌+◌, ◌-◌, ◌<◌, ℕ, List, [], ◌∷◌, ◌++◌, length, take, drop, get_or, map, refl}
+use Rattle.std.proofs.Common.{sym, ap, subst, arith, append_assoc, true, false, Bool, if◌then◌else◌, Result}
 use Rattle.std.specs.List.{list_any}
 use Rattle.std.proofs.lemmas.Bool.{or_parts}
 use Rattle.std.proofs.lemmas.List.{take-append-drop, take_all, map-append, map_more}
@@ -27,26 +28,33 @@ shown_plain (b ∷ bytes) e =
     ∙ ap (λ (xs : List ℕ). b ∷ xs) (shown_plain bytes p.1)
 
 -- a run and the question mark after it
-whole_run : (bytes : List ℕ) (from at : ℕ) → at < length bytes → is_control (get_or bytes at 0) ≡ true → IsRun bytes from at →
+whole_run : (bytes : List ℕ) (from at : ℕ) → at < length bytes → is_control (get_or bytes at 0) ≡ true →
+    IsRun bytes from at →
     map shown (take (at + 1) bytes) ≡ map shown (take from bytes) ++ (run bytes from at ++ (63 ∷ []))
 whole_run bytes from at below control e =
     map_more shown bytes at 0 below
     ∙ ap (λ (xs : List ℕ). xs ++ (shown (get_or bytes at 0) ∷ [])) e
     ∙ append_assoc (map shown (take from bytes)) (run bytes from at) (shown (get_or bytes at 0) ∷ [])
-    ∙ ap (λ (x : ℕ). map shown (take from bytes) ++ (run bytes from at ++ (x ∷ []))) (control_byte (get_or bytes at 0) control)
+    ∙ ap (λ (x : ℕ). map shown (take from bytes) ++ (run bytes from at ++ (x ∷ [])))
+    (control_byte (get_or bytes at 0) control)
 
 -- it failed in a run
-pub broke_off_run : (a b c : Sink) (bytes : List ℕ) (from at : ℕ) → at < length bytes → is_control (get_or bytes at 0) ≡ true → IsRun bytes from at →
-    Took a b (map shown (take from bytes)) → BrokeOff b c (run bytes from at ++ (63 ∷ [])) → BrokeOff a c (map shown bytes)
+pub broke_off_run : (a b c : Sink) (bytes : List ℕ) (from at : ℕ) → at < length bytes → is_control (get_or bytes at 0)
+    ≡ true → IsRun bytes from at →
+    Took a b (map shown (take from bytes)) → BrokeOff b c (run bytes from at ++ (63 ∷ [])) →
+    BrokeOff a c (map shown bytes)
 broke_off_run a b c bytes from at below control e p q =
-    subst (BrokeOff a c) (sym (map-append shown (take (at + 1) bytes) (drop (at + 1) bytes)) ∙ ap (map shown) (take-append-drop (at + 1) bytes))
+    subst (BrokeOff a c) (sym (map-append shown (take (at + 1) bytes) (drop (at + 1) bytes))
+    ∙ ap (map shown) (take-append-drop (at + 1) bytes))
     (broke_off_more a c (map shown (take (at + 1) bytes)) (map shown (drop (at + 1) bytes))
     (subst (BrokeOff a c) (sym (whole_run bytes from at below control e))
     (broke_off_after a b c (map shown (take from bytes)) (run bytes from at ++ (63 ∷ [])) p q)))
 
 -- the last run
-pub shown_all : {T E : Type 0} (a b c : Sink) (bytes : List ℕ) (from : ℕ) (r : Result T E) → IsRun bytes from (length bytes) →
-    Took a b (map shown (take from bytes)) → Prints b c (run bytes from (length bytes)) r → Prints a c (map shown bytes) r
+pub shown_all : {T E : Type 0} (a b c : Sink) (bytes : List ℕ) (from : ℕ) (r : Result T E) →
+    IsRun bytes from (length bytes) →
+    Took a b (map shown (take from bytes)) → Prints b c (run bytes from (length bytes)) r →
+    Prints a c (map shown bytes) r
 shown_all a b c bytes from r e p q =
     subst (λ (xs : List ℕ). Prints a c xs r) (sym e ∙ ap (map shown) (take_all (length bytes) bytes (omega arith)))
     (prints_then a b c (map shown (take from bytes)) (run bytes from (length bytes)) r p q)

@@ -1,5 +1,6 @@
 -- Directories that are called calm are calm, and stay so.
-use Rattle.std.specs.Prelude.{◌≡◌, ℕ, suc, ◌+◌, ◌<◌, ◌==◌, Bool, true, false, not, cond, ◌&&◌, ◌||◌, nat_le, nat_lt, List, [], ◌∷◌, length, Option, None, Some, is_some, unwrap_or, refl}
+use Rattle.std.specs.Prelude.{◌≡◌, ℕ, suc, ◌+◌, ◌<◌, ◌==◌, Bool, true, false, not, cond, ◌&&◌, ◌||◌, nat_le, nat_lt}
+use Rattle.std.specs.Prelude.{List, [], ◌∷◌, length, Option, None, Some, is_some, unwrap_or, refl}
 use Rattle.std.specs.List.{list_any}
 use Rattle.std.proofs.Common.{◌⊎◌, arith, sym, ◌∙◌, ap, subst, inl, inr, get_or}
 use Rattle.std.proofs.lemmas.Bool.{both_ways, cases_lt, eqb-true, and_parts, or_cases, or_parts, not-true}
@@ -11,13 +12,15 @@ use Rattle.ffs_volume.specs.Directories.Graph.{Graph, names, names_in}
 use Rattle.ffs_volume.proofs.SearchLaws.{first_below-is_none}
 use Rattle.std.proofs.lemmas.List.{get_or_past}
 use Rattle.ffs_survey.specs.Survey.{bool_at, number_at, dir_at, is_dir_kind}
-use Rattle.ffs_survey.specs.Calm.{Sight, is_calm_kind, is_calm_role, is_calm_entry, reached_after, are_calm, IsCalm, AreCalm, IsFlagged}
+use Rattle.ffs_survey.specs.Calm.{Sight, is_calm_kind, is_calm_role, is_calm_entry, reached_after, are_calm, IsCalm}
+use Rattle.ffs_survey.specs.Calm.{AreCalm, IsFlagged}
 use Rattle.ffs_survey.specs.Discover.{from_entries, nothing, Comes, IsFrontier, LevelsKnown, is_free_edge, IsRead}
 use Rattle.ffs_survey.proofs.Frontiers.{front_within}
 use Rattle.ffs_survey.proofs.Discovered.{comes-to}
 
 -- a calm plain entry that names a directory is before any other that reaches it
-calm_kind_dir : (k kind : ℕ) (r : Bool) → is_dir_kind k ≡ true → (k == kind) ≡ true → is_calm_kind kind r ≡ true → r ≡ false
+calm_kind_dir : (k kind : ℕ) (r : Bool) → is_dir_kind k ≡ true → (k == kind) ≡ true → is_calm_kind kind r ≡ true →
+    r ≡ false
 calm_kind_dir k kind r d e h =
     let n : k ≡ kind = eqb-true k kind e in
     let p = and_parts (not (kind == 0)) _ h in
@@ -33,7 +36,9 @@ calm_kind_dir k kind r d e h =
     last true h = absurd (cc)
     last false h = refl
 
-pub calm_names_new : (s : Sight) (reached : ℕ → Bool) (i x : ℕ) (role : Role) (number kind : ℕ) → is_calm_role s reached i role number kind ≡ true → dir_at s.kinds x ≡ true → (is_plain role && (number == x)) ≡ true → reached x ≡ false
+pub calm_names_new : (s : Sight) (reached : ℕ → Bool) (i x : ℕ) (role : Role) (number kind : ℕ) →
+    is_calm_role s reached i role number kind ≡ true → dir_at s.kinds x ≡ true → (is_plain role && (number == x)) ≡ true
+    → reached x ≡ false
 calm_names_new s reached i x Empty number kind c d n = absurd (cc)
 calm_names_new s reached i x Dot number kind c d n = absurd (cc)
 calm_names_new s reached i x Dotdot number kind c d n = absurd (cc)
@@ -46,10 +51,12 @@ calm_names_new s reached i x Plain number kind c d n =
     let c4 = and_parts (not (bool_at s.marked number)) _ c3.1 in
     let c5 = and_parts (number_at s.kinds number == kind) _ c4.1 in
     calm_kind_dir (number_at s.kinds x) kind (reached x) (and_parts (nat_le 2 x) _ d).1
-    (subst (λ z. (number_at s.kinds z == kind) ≡ true) is c5.0) (subst (λ z. is_calm_kind kind (reached z) ≡ true) is c5.1)
+    (subst (λ z. (number_at s.kinds z == kind) ≡ true) is c5.0)
+    (subst (λ z. is_calm_kind kind (reached z) ≡ true) is c5.1)
 
 -- directories that calm entries name weren't reached before them
-pub calm_new : (s : Sight) (reached : ℕ → Bool) (i x : ℕ) (es : List RoledEntry) → are_calm s reached i es ≡ true → dir_at s.kinds x ≡ true → list_any (names x) es ≡ true → reached x ≡ false
+pub calm_new : (s : Sight) (reached : ℕ → Bool) (i x : ℕ) (es : List RoledEntry) → are_calm s reached i es ≡ true →
+    dir_at s.kinds x ≡ true → list_any (names x) es ≡ true → reached x ≡ false
 calm_new s reached i x [] c d n = absurd (cc)
 calm_new s reached i x (e ∷ es) c d n =
     let p = and_parts (is_calm_entry s reached i e) _ c in
@@ -68,22 +75,27 @@ stays_reached true true a e h = refl
 stays_reached true false a e h = absurd (cc)
 stays_reached false r' a e h = absurd (cc)
 
-stays_parent : (r r' : Bool) (a : Option ℕ) (p p' : ℕ) → r ≡ true → r' ≡ true → cond r' p' (unwrap_or (nothing 0) p') ≡ cond r p (unwrap_or a p) → p' ≡ p
+stays_parent : (r r' : Bool) (a : Option ℕ) (p p' : ℕ) → r ≡ true → r' ≡ true → cond r' p' (unwrap_or (nothing 0) p')
+    ≡ cond r p (unwrap_or a p) → p' ≡ p
 stays_parent true true a p p' e e' h = h
 stays_parent true false a p p' e e' h = absurd (cc)
 stays_parent false r' a p p' e e' h = absurd (cc)
 
-pub comes_stays : (a : ℕ → Option ℕ) (r r' : List Bool) (p p' q q' : List ℕ) → Comes a r p q nothing r' p' q' → Stays r p r' p'
+pub comes_stays : (a : ℕ → Option ℕ) (r r' : List Bool) (p p' q q' : List ℕ) → Comes a r p q nothing r' p' q' →
+    Stays r p r' p'
 comes_stays a r r' p p' q q' c = record {
   reached = λ x h. stays_reached (bool_at r x) (bool_at r' x) (a x) h (c.reached x);
-  parents = λ x h. stays_parent (bool_at r x) (bool_at r' x) (a x) (number_at p x) (number_at p' x) h (stays_reached (bool_at r x) (bool_at r' x) (a x) h (c.reached x)) (c.parent x);
+  parents = λ x h. stays_parent (bool_at r x) (bool_at r' x) (a x) (number_at p x) (number_at p' x) h
+      (stays_reached (bool_at r x) (bool_at r' x) (a x) h (c.reached x)) (c.parent x);
 }
 
-pub calm_stays : (kinds : List ℕ) (m r r' : List Bool) (p p' : List ℕ) (es : List RoledEntry) (sound : Bool) (d : ℕ) → Stays r p r' p' → IsCalm kinds m r p es sound d → IsCalm kinds m r' p' es sound d
+pub calm_stays : (kinds : List ℕ) (m r r' : List Bool) (p p' : List ℕ) (es : List RoledEntry) (sound : Bool) (d : ℕ) →
+    Stays r p r' p' → IsCalm kinds m r p es sound d → IsCalm kinds m r' p' es sound d
 calm_stays kinds m r r' p p' es sound d s c = record {
   before = c.before;
   begins = c.begins;
-  entries_right = subst (λ n. are_calm (record { kinds = kinds; marked = m; dir = d; above = n }) c.before 0 es ≡ true) (sym (s.parents d c.is_reached)) c.entries_right;
+  entries_right = subst (λ n. are_calm (record { kinds = kinds; marked = m; dir = d; above = n }) c.before 0 es ≡ true)
+      (sym (s.parents d c.is_reached)) c.entries_right;
   shape_right = c.shape_right;
   is_reached = s.reached d c.is_reached;
   below = λ x dir n.
@@ -91,37 +103,47 @@ calm_stays kinds m r r' p p' es sound d s c = record {
       (s.reached x o.0, s.parents x o.0 ∙ o.1);
 }
 
-found_reached : (r' : Bool) (s : ℕ) (b c : Bool) → b ≡ true → c ≡ true → (r' || is_some (nothing 0)) ≡ (false || is_some (cond (b && c) (Some s) None)) → r' ≡ true
+found_reached : (r' : Bool) (s : ℕ) (b c : Bool) → b ≡ true → c ≡ true →
+    (r' || is_some (nothing 0)) ≡ (false || is_some (cond (b && c) (Some s) None)) → r' ≡ true
 found_reached true s b c e f h = refl
 found_reached false s true true e f h = absurd (cc)
 found_reached false s true false e f h = absurd (cc)
 found_reached false s false c e f h = absurd (cc)
 
-found_parent : (r' : Bool) (s p p' : ℕ) (b c : Bool) → r' ≡ true → b ≡ true → c ≡ true → cond r' p' (unwrap_or (nothing 0) p') ≡ cond false p (unwrap_or (cond (b && c) (Some s) None) p) → p' ≡ s
+found_parent : (r' : Bool) (s p p' : ℕ) (b c : Bool) → r' ≡ true → b ≡ true → c ≡ true →
+    cond r' p' (unwrap_or (nothing 0) p') ≡ cond false p (unwrap_or (cond (b && c) (Some s) None) p) → p' ≡ s
 found_parent true s p p' true true e f g h = h
 found_parent false s p p' b c e f g h = absurd (cc)
 found_parent true s p p' true false e f g h = absurd (cc)
 found_parent true s p p' false c e f g h = absurd (cc)
 
 -- a directory is calm once it is read, by its entries and its shape
-pub calm_found : (kinds : List ℕ) (m r r' : List Bool) (p p' q q' : List ℕ) (es : List RoledEntry) (sound : Bool) (d : ℕ)
+pub calm_found : (kinds : List ℕ) (m r r' : List Bool) (p p' q q' : List ℕ) (es : List RoledEntry) (sound : Bool)
+    (d : ℕ)
     → Comes (from_entries kinds d es) r p q nothing r' p' q' → bool_at r d ≡ true
-    → are_calm (record { kinds = kinds; marked = m; dir = d; above = number_at p d }) (bool_at r) 0 es ≡ true → sound ≡ true
+    → are_calm (record { kinds = kinds; marked = m; dir = d; above = number_at p d }) (bool_at r) 0 es ≡ true →
+    sound ≡ true
     → IsCalm kinds m r' p' es sound d
 calm_found kinds m r r' p p' q q' es sound d c h calm right =
     let s = comes_stays (from_entries kinds d es) r r' p p' q q' c in
     record {
       before = bool_at r;
       begins = h;
-      entries_right = subst (λ n. are_calm (record { kinds = kinds; marked = m; dir = d; above = n }) (bool_at r) 0 es ≡ true) (sym (s.parents d h)) calm;
+      entries_right = subst (λ n. are_calm (record { kinds = kinds; marked = m; dir = d; above = n }) (bool_at r) 0 es
+          ≡ true) (sym (s.parents d h)) calm;
       shape_right = right;
       is_reached = s.reached d h;
       below = λ x dir n.
-          let new = calm_new (record { kinds = kinds; marked = m; dir = d; above = number_at p d }) (bool_at r) 0 x es calm dir n in
-          let t : bool_at r' x ≡ true = found_reached (bool_at r' x) d (dir_at kinds x) (list_any (names x) es) dir n (subst (λ z. (bool_at r' x || is_some (nothing x)) ≡ (z || is_some (from_entries kinds d es x))) new (c.reached x)) in (
+          let new = calm_new (record { kinds = kinds; marked = m; dir = d; above = number_at p d }) (bool_at r) 0 x es
+          calm dir n in
+          let t : bool_at r' x ≡ true = found_reached (bool_at r' x) d (dir_at kinds x) (list_any (names x) es) dir n
+          (subst (λ z. (bool_at r' x || is_some (nothing x)) ≡ (z || is_some (from_entries kinds d es x))) new
+          (c.reached x)) in (
             t,
-            found_parent (bool_at r' x) d (number_at p x) (number_at p' x) (dir_at kinds x) (list_any (names x) es) t dir n
-                (subst (λ z. cond (bool_at r' x) (number_at p' x) (unwrap_or (nothing x) (number_at p' x)) ≡ cond z (number_at p x) (unwrap_or (from_entries kinds d es x) (number_at p x))) new (c.parent x)),
+            found_parent (bool_at r' x) d (number_at p x) (number_at p' x) (dir_at kinds x) (list_any (names x) es) t
+                dir n
+                (subst (λ z. cond (bool_at r' x) (number_at p' x) (unwrap_or (nothing x) (number_at p' x))
+                ≡ cond z (number_at p x) (unwrap_or (from_entries kinds d es x) (number_at p x))) new (c.parent x)),
           );
     }
 
@@ -134,18 +156,25 @@ none_left kinds s x = go (dir_at kinds x)
     go false = refl
 
 -- a directory is read
-pub record IsReadWhole (kinds : List ℕ) (m r r' : List Bool) (p p' q q' : List ℕ) (es : List RoledEntry) (d : ℕ) (quiet : Bool) : Type 0 where
+pub record IsReadWhole (kinds : List ℕ) (m r r' : List Bool) (p p' q q' : List ℕ) (es : List RoledEntry) (d : ℕ)
+    (quiet : Bool) : Type 0 where
   pub comes : Comes (from_entries kinds d es) r p q nothing r' p' q'
-  pub quiet_is : quiet ≡ are_calm (record { kinds = kinds; marked = m; dir = d; above = number_at p d }) (bool_at r) 0 es
+  pub quiet_is : quiet ≡ are_calm (record { kinds = kinds; marked = m; dir = d; above = number_at p d }) (bool_at r) 0
+      es
 
-pub read_whole : (kinds : List ℕ) (m r r' : List Bool) (p p' q q' : List ℕ) (es rest : List RoledEntry) (d above count : ℕ) (quiet : Bool) → above ≡ number_at p d → rest ≡ []
+pub read_whole : (kinds : List ℕ) (m r r' : List Bool) (p p' q q' : List ℕ) (es rest : List RoledEntry)
+    (d above count : ℕ) (quiet : Bool) → above ≡ number_at p d → rest ≡ []
     → Comes (from_entries kinds d es) r p q (from_entries kinds d rest) r' p' q'
-    → (quiet && are_calm (record { kinds = kinds; marked = m; dir = d; above = above }) (bool_at r') count rest) ≡ are_calm (record { kinds = kinds; marked = m; dir = d; above = above }) (bool_at r) 0 es
+    → (quiet && are_calm (record { kinds = kinds; marked = m; dir = d; above = above }) (bool_at r') count rest)
+    ≡ are_calm (record { kinds = kinds; marked = m; dir = d; above = above }) (bool_at r) 0 es
     → IsReadWhole kinds m r r' p p' q q' es d (quiet && nat_le 2 count)
 read_whole kinds m r r' p p' q q' es rest d above count quiet up none c e = record {
-  comes = comes-to (from_entries kinds d es) (from_entries kinds d []) nothing r r' p p' q q' (λ x. none_left kinds d x) (subst (λ z. Comes (from_entries kinds d es) r p q (from_entries kinds d z) r' p' q') none c);
-  quiet_is = subst (λ n. (quiet && nat_le 2 count) ≡ are_calm (record { kinds = kinds; marked = m; dir = d; above = n }) (bool_at r) 0 es) up
-      (subst (λ z. (quiet && are_calm (record { kinds = kinds; marked = m; dir = d; above = above }) (bool_at r') count z) ≡ are_calm (record { kinds = kinds; marked = m; dir = d; above = above }) (bool_at r) 0 es) none e);
+  comes = comes-to (from_entries kinds d es) (from_entries kinds d []) nothing r r' p p' q q' (λ x. none_left kinds d x)
+      (subst (λ z. Comes (from_entries kinds d es) r p q (from_entries kinds d z) r' p' q') none c);
+  quiet_is = subst (λ n. (quiet && nat_le 2 count) ≡ are_calm (record { kinds = kinds; marked = m; dir = d; above = n })
+      (bool_at r) 0 es) up
+      (subst (λ z. (quiet && are_calm (record { kinds = kinds; marked = m; dir = d; above = above }) (bool_at r') count
+      z) ≡ are_calm (record { kinds = kinds; marked = m; dir = d; above = above }) (bool_at r) 0 es) none e);
 }
 
 -- a flag that is set is an old one, or the one that was set now
@@ -160,13 +189,18 @@ flag_cases x d old low quiet sound h = elim (or_cases old _ h) [
 ]
 
 -- the flags after a directory is read
-pub calm_read : (kinds : List ℕ) (m r r' : List Bool) (p p' q q' : List ℕ) (entries : ℕ → List RoledEntry) (sound : ℕ → Bool) (d : ℕ) (f f' : List Bool)
+pub calm_read : (kinds : List ℕ) (m r r' : List Bool) (p p' q q' : List ℕ) (entries : ℕ → List RoledEntry)
+    (sound : ℕ → Bool) (d : ℕ) (f f' : List Bool)
     → Comes (from_entries kinds d (entries d)) r p q nothing r' p' q' → bool_at r d ≡ true
-    → IsFlagged d (are_calm (record { kinds = kinds; marked = m; dir = d; above = number_at p d }) (bool_at r) 0 (entries d)) (sound d) f f'
+    → IsFlagged d (are_calm (record { kinds = kinds; marked = m; dir = d; above = number_at p d }) (bool_at r) 0
+    (entries d)) (sound d) f f'
     → AreCalm kinds m r p entries sound f → AreCalm kinds m r' p' entries sound f'
 calm_read kinds m r r' p p' q q' entries sound d f f' c h flagged old x set =
-    elim (flag_cases x d (bool_at f x) (nat_lt d (length f)) (are_calm (record { kinds = kinds; marked = m; dir = d; above = number_at p d }) (bool_at r) 0 (entries d)) (sound d) (sym (flagged x) ∙ set)) [
-      | inl before ↦ calm_stays kinds m r r' p p' (entries x) (sound x) x (comes_stays (from_entries kinds d (entries d)) r r' p p' q q' c) (old x before)
+    elim (flag_cases x d (bool_at f x) (nat_lt d (length f))
+    (are_calm (record { kinds = kinds; marked = m; dir = d; above = number_at p d }) (bool_at r) 0 (entries d))
+    (sound d) (sym (flagged x) ∙ set)) [
+      | inl before ↦ calm_stays kinds m r r' p p' (entries x) (sound x) x
+          (comes_stays (from_entries kinds d (entries d)) r r' p p' q q' c) (old x before)
       | inr now ↦ subst (λ z. IsCalm kinds m r' p' (entries z) (sound z) z) (sym now.0)
           (calm_found kinds m r r' p p' q q' (entries d) (sound d) d c h now.1.0 now.1.1)
     ]
@@ -174,7 +208,8 @@ calm_read kinds m r r' p p' q q' entries sound d f f' c h flagged old x set =
 abbrev none_given : ℕ → Option ℕ
 none_given n = Some n
 
-reached_by_entry : (r r' d n : Bool) → (r' || is_some (nothing 0)) ≡ (r || is_some (cond (d && (n || false)) (none_given 0) None)) → r' ≡ (r || (d && n))
+reached_by_entry : (r r' d n : Bool) →
+    (r' || is_some (nothing 0)) ≡ (r || is_some (cond (d && (n || false)) (none_given 0) None)) → r' ≡ (r || (d && n))
 reached_by_entry true true d n h = refl
 reached_by_entry true false d n h = absurd (cc)
 reached_by_entry false true true true h = refl
@@ -189,32 +224,40 @@ some_any true s t = refl
 some_any false s t = refl
 
 -- the step of the loop over a directory
-pub calm_step : (s : Sight) (r r' : List Bool) (p p' q q' : List ℕ) (i : ℕ) (e : RoledEntry) (es : List RoledEntry) (quiet quiet' total : Bool)
+pub calm_step : (s : Sight) (r r' : List Bool) (p p' q q' : List ℕ) (i : ℕ) (e : RoledEntry) (es : List RoledEntry)
+    (quiet quiet' total : Bool)
     → Comes (from_entries s.kinds s.dir (e ∷ [])) r p q nothing r' p' q'
     → quiet' ≡ (quiet && is_calm_entry s (bool_at r) i e)
     → (quiet && are_calm s (bool_at r) i (e ∷ es)) ≡ total
     → (quiet' && are_calm s (bool_at r') (i + 1) es) ≡ total
 calm_step s r r' p p' q q' i e es quiet quiet' total c step old =
     let same : bool_at r' ≡ reached_after s.kinds (bool_at r) e =
-    fun_ext (λ x. reached_by_entry (bool_at r x) (bool_at r' x) (dir_at s.kinds x) (names x e) (c.reached x ∙ ap (λ z. bool_at r x || z) (some_any (dir_at s.kinds x && (names x e || false)) s.dir 0))) in
+    fun_ext (λ x. reached_by_entry (bool_at r x) (bool_at r' x) (dir_at s.kinds x) (names x e)
+    (c.reached x ∙ ap (λ z. bool_at r x || z) (some_any (dir_at s.kinds x && (names x e || false)) s.dir 0))) in
     let next : i + 1 ≡ suc i = omega arith in
-    ap (λ n. quiet' && are_calm s (bool_at r') n es) next ∙ (ap (λ z. quiet' && are_calm s z (suc i) es) same ∙ (ap (λ z. z && are_calm s (reached_after s.kinds (bool_at r) e) (suc i) es) step ∙ (and_again quiet _ _ ∙ old)))
+    ap (λ n. quiet' && are_calm s (bool_at r') n es) next
+    ∙ (ap (λ z. quiet' && are_calm s z (suc i) es) same
+    ∙ (ap (λ z. z && are_calm s (reached_after s.kinds (bool_at r) e) (suc i) es) step ∙ (and_again quiet _ _ ∙ old)))
   where
     and_again : (a b c : Bool) → ((a && b) && c) ≡ (a && (b && c))
     and_again true b c = refl
     and_again false b c = refl
 
 -- no flag is set
-pub calm_none : (kinds : List ℕ) (m r : List Bool) (p : List ℕ) (entries : ℕ → List RoledEntry) (sound : ℕ → Bool) (f : List Bool) → ((x : ℕ) → bool_at f x ≡ false) → AreCalm kinds m r p entries sound f
+pub calm_none : (kinds : List ℕ) (m r : List Bool) (p : List ℕ) (entries : ℕ → List RoledEntry) (sound : ℕ → Bool)
+    (f : List Bool) → ((x : ℕ) → bool_at f x ≡ false) → AreCalm kinds m r p entries sound f
 calm_none kinds m r p entries sound f none x set = absurd (both_ways (bool_at f x) (none x) set)
 
 -- the parents of directories that aren't reached don't matter
-pub calm_unreached : (kinds : List ℕ) (m r : List Bool) (p p' : List ℕ) (entries : ℕ → List RoledEntry) (sound : ℕ → Bool) (f : List Bool) → ((x : ℕ) → bool_at r x ≡ true → number_at p' x ≡ number_at p x) → AreCalm kinds m r p entries sound f → AreCalm kinds m r p' entries sound f
+pub calm_unreached : (kinds : List ℕ) (m r : List Bool) (p p' : List ℕ) (entries : ℕ → List RoledEntry)
+    (sound : ℕ → Bool) (f : List Bool) → ((x : ℕ) → bool_at r x ≡ true → number_at p' x ≡ number_at p x) →
+    AreCalm kinds m r p entries sound f → AreCalm kinds m r p' entries sound f
 calm_unreached kinds m r p p' entries sound f same old x set =
     calm_stays kinds m r r p p' (entries x) (sound x) x (record { reached = λ y h. h; parents = same }) (old x set)
 
 -- the directories of a level are reached
-pub front_reached : (v : Graph) (k : ℕ) (xs : List ℕ) (r : List Bool) (p q : List ℕ) → IsFrontier v k xs → LevelsKnown v k r p q → (i d : ℕ) → i < length xs → bool_at r (get_or xs i d) ≡ true
+pub front_reached : (v : Graph) (k : ℕ) (xs : List ℕ) (r : List Bool) (p q : List ℕ) → IsFrontier v k xs →
+    LevelsKnown v k r p q → (i d : ℕ) → i < length xs → bool_at r (get_or xs i d) ≡ true
 front_reached v k xs r p q f l i d h = let x = get_or xs i d in l.reached x ∙ front_within v k xs f i d h
 
 reached_below : (r : List Bool) (x : ℕ) → bool_at r x ≡ true → x < length r
@@ -224,10 +267,14 @@ reached_below r x h = elim (cases_lt x (length r)) [
 ]
 
 -- reading the directories that aren't reached leaves the parents of those that are
-pub read_stays : (g : Graph) (kinds : List ℕ) (r : List Bool) (n : ℕ) (f f' : List ℕ) (m m' : List Bool) (p p' : List ℕ) → length r ≡ g.count → IsRead g kinds r n f m p f' m' p' → (x : ℕ) → bool_at r x ≡ true → number_at p' x ≡ number_at p x
+pub read_stays : (g : Graph) (kinds : List ℕ) (r : List Bool) (n : ℕ) (f f' : List ℕ) (m m' : List Bool) (p p' : List ℕ)
+    → length r ≡ g.count → IsRead g kinds r n f m p f' m' p' → (x : ℕ) → bool_at r x ≡ true →
+    number_at p' x ≡ number_at p x
 read_stays g kinds r n f f' m m' p p' long read x h =
     read.parents x (subst (λ z. x < z) long (reached_below r x h))
-    ∙ ap (λ o. unwrap_or o (number_at p x)) (first_below-is_none (is_free_edge g kinds r x) n (λ s l. taken (dir_at kinds x) (bool_at r x) (not (bool_at r s) && names_in g s x) h))
+    ∙ ap (λ o. unwrap_or o (number_at p x))
+    (first_below-is_none (is_free_edge g kinds r x) n
+    (λ s l. taken (dir_at kinds x) (bool_at r x) (not (bool_at r s) && names_in g s x) h))
   where
     taken : (d b e : Bool) → b ≡ true → ((d && not b) && e) ≡ false
     taken true true e h = refl

@@ -1,9 +1,12 @@
 -- What an entry, a directory and a level discover.
-use Rattle.std.specs.Prelude.{◌≡◌, ℕ, ◌+◌, ◌<◌, ◌==◌, Bool, true, false, not, cond, ◌&&◌, ◌||◌, nat_le, List, [], ◌∷◌, length, Option, None, Some, is_some, unwrap_or, refl}
+use Rattle.std.specs.Prelude.{◌≡◌, ℕ, ◌+◌, ◌<◌, ◌==◌, Bool, true, false, not, cond, ◌&&◌, ◌||◌, nat_le, List, [], ◌∷◌}
+use Rattle.std.specs.Prelude.{length, Option, None, Some, is_some, unwrap_or, refl}
 use Rattle.std.specs.List.{list_any, sum_by}
 use Rattle.std.specs.Option.{option_or}
-use Rattle.std.proofs.Common.{arith, sym, ◌∙◌, ap, subst, inl, inr, set, take, drop, get_or, add-one, drop-cons, ◌<◌, add-zero, get_or-set_same, get_or-set_other, ◌⊎◌}
-use Rattle.std.proofs.lemmas.Bool.{cases_eq, cases_lt, and_parts, not-true, eq-eqb, ne_eqb, and_from, and_right, or_left, or_from, cond-true, cond-false}
+use Rattle.std.proofs.Common.{arith, sym, ◌∙◌, ap, subst, inl, inr, set, take, drop, get_or, add-one, drop-cons, ◌<◌}
+use Rattle.std.proofs.Common.{add-zero, get_or-set_same, get_or-set_other, ◌⊎◌}
+use Rattle.std.proofs.lemmas.Bool.{cases_eq, cases_lt, and_parts, not-true, eq-eqb, ne_eqb, and_from, and_right}
+use Rattle.std.proofs.lemmas.Bool.{or_left, or_from, cond-true, cond-false}
 use Rattle.std.proofs.lemmas.List.{take_more_set, get_or_past}
 use Rattle.std.proofs.lemmas.List.Sums.{sum_by-set, sum_by_push}
 use Rattle.ffs_survey.specs.Survey.{bool_at, number_at, dir_at, is_dir_kind, graph_with}
@@ -14,7 +17,8 @@ use Rattle.ffs_volume.specs.Directories.Graph.{Graph, names, edge}
 pub comes-refl : (g : ℕ → Option ℕ) (r : List Bool) (p q : List ℕ) → Comes g r p q g r p q
 comes-refl g r p q = record { reached = λ x. refl; parent = λ x. refl; queue = λ x. refl }
 
-pub comes-trans : (g h k : ℕ → Option ℕ) (r r' r'' : List Bool) (p p' p'' q q' q'' : List ℕ) → Comes g r p q h r' p' q' → Comes h r' p' q' k r'' p'' q'' → Comes g r p q k r'' p'' q''
+pub comes-trans : (g h k : ℕ → Option ℕ) (r r' r'' : List Bool) (p p' p'' q q' q'' : List ℕ) → Comes g r p q h r' p' q'
+    → Comes h r' p' q' k r'' p'' q'' → Comes g r p q k r'' p'' q''
 comes-trans g h k r r' r'' p p' p'' q q' q'' a b = record {
   reached = λ x. b.reached x ∙ a.reached x;
   parent = λ x. b.parent x ∙ a.parent x;
@@ -24,7 +28,8 @@ comes-trans g h k r r' r'' p p' p'' q q' q'' a b = record {
 abbrev none_ℕ : Option ℕ
 none_ℕ = None
 
-then_reached : (r r' : Bool) (a b : Option ℕ) → (r' || is_some (none_ℕ)) ≡ (r || is_some a) → (r' || is_some b) ≡ (r || is_some (option_or a b))
+then_reached : (r r' : Bool) (a b : Option ℕ) → (r' || is_some (none_ℕ)) ≡ (r || is_some a) →
+    (r' || is_some b) ≡ (r || is_some (option_or a b))
 then_reached true true a b h = refl
 then_reached true false a b h = absurd (cc)
 then_reached false true None b h = absurd (cc)
@@ -32,7 +37,9 @@ then_reached false true (Some s) b h = refl
 then_reached false false None b h = refl
 then_reached false false (Some s) b h = absurd (cc)
 
-then_parent : (r r' : Bool) (a b : Option ℕ) (p p' : ℕ) → (r' || is_some (none_ℕ)) ≡ (r || is_some a) → cond r' p' (unwrap_or None p') ≡ cond r p (unwrap_or a p) → cond r' p' (unwrap_or b p') ≡ cond r p (unwrap_or (option_or a b) p)
+then_parent : (r r' : Bool) (a b : Option ℕ) (p p' : ℕ) → (r' || is_some (none_ℕ)) ≡ (r || is_some a) →
+    cond r' p' (unwrap_or None p') ≡ cond r p (unwrap_or a p) →
+    cond r' p' (unwrap_or b p') ≡ cond r p (unwrap_or (option_or a b) p)
 then_parent true true a b p p' h e = e
 then_parent true false a b p p' h e = absurd (cc)
 then_parent false true None b p p' h e = absurd (cc)
@@ -40,7 +47,9 @@ then_parent false true (Some s) b p p' h e = e
 then_parent false false None b p p' h e = ap (unwrap_or b) e
 then_parent false false (Some s) b p p' h e = absurd (cc)
 
-then_queue : (r r' : Bool) (a b : Option ℕ) (t t' : ℕ) → (r' || is_some (none_ℕ)) ≡ (r || is_some a) → t' + bit (is_some (none_ℕ) && not r') ≡ t + bit (is_some a && not r) → t' + bit (is_some b && not r') ≡ t + bit (is_some (option_or a b) && not r)
+then_queue : (r r' : Bool) (a b : Option ℕ) (t t' : ℕ) → (r' || is_some (none_ℕ)) ≡ (r || is_some a) →
+    t' + bit (is_some (none_ℕ) && not r') ≡ t + bit (is_some a && not r) → t' + bit (is_some b && not r')
+    ≡ t + bit (is_some (option_or a b) && not r)
 then_queue true true None b t t' h e = grind arith
 then_queue true true (Some s) None t t' h e = omega arith
 then_queue true true (Some s) (Some u) t t' h e = omega arith
@@ -52,23 +61,30 @@ then_queue false false None b t t' h e = omega arith
 then_queue false false (Some s) b t t' h e = absurd (cc)
 
 -- a is done, and then b is to go
-pub comes-then : (g a b : ℕ → Option ℕ) (r r' : List Bool) (p p' q q' : List ℕ) → ((x : ℕ) → g x ≡ option_or (a x) (b x)) → Comes a r p q nothing r' p' q' → Comes g r p q b r' p' q'
+pub comes-then : (g a b : ℕ → Option ℕ) (r r' : List Bool) (p p' q q' : List ℕ) →
+    ((x : ℕ) → g x ≡ option_or (a x) (b x)) → Comes a r p q nothing r' p' q' → Comes g r p q b r' p' q'
 comes-then g a b r r' p p' q q' e c = record {
-  reached = λ x. then_reached (bool_at r x) (bool_at r' x) (a x) (b x) (c.reached x) ∙ ap (λ o. bool_at r x || is_some o) (sym (e x));
-  parent = λ x. then_parent (bool_at r x) (bool_at r' x) (a x) (b x) (number_at p x) (number_at p' x) (c.reached x) (c.parent x) ∙ ap (λ o. cond (bool_at r x) (number_at p x) (unwrap_or o (number_at p x))) (sym (e x));
-  queue = λ x. then_queue (bool_at r x) (bool_at r' x) (a x) (b x) (times x q) (times x q') (c.reached x) (c.queue x) ∙ ap (λ o. times x q + bit (is_some o && not (bool_at r x))) (sym (e x));
+  reached = λ x. then_reached (bool_at r x) (bool_at r' x) (a x) (b x) (c.reached x)
+      ∙ ap (λ o. bool_at r x || is_some o) (sym (e x));
+  parent = λ x. then_parent (bool_at r x) (bool_at r' x) (a x) (b x) (number_at p x) (number_at p' x) (c.reached x)
+      (c.parent x) ∙ ap (λ o. cond (bool_at r x) (number_at p x) (unwrap_or o (number_at p x))) (sym (e x));
+  queue = λ x. then_queue (bool_at r x) (bool_at r' x) (a x) (b x) (times x q) (times x q') (c.reached x) (c.queue x)
+      ∙ ap (λ o. times x q + bit (is_some o && not (bool_at r x))) (sym (e x));
 }
 
 -- one entry and then the others
-pub from_entries-cons : (kinds : List ℕ) (s : ℕ) (e : RoledEntry) (rest : List RoledEntry) (x : ℕ) → from_entries kinds s (e ∷ rest) x ≡ option_or (from_entries kinds s (e ∷ []) x) (from_entries kinds s rest x)
+pub from_entries-cons : (kinds : List ℕ) (s : ℕ) (e : RoledEntry) (rest : List RoledEntry) (x : ℕ) →
+    from_entries kinds s (e ∷ rest) x ≡ option_or (from_entries kinds s (e ∷ []) x) (from_entries kinds s rest x)
 from_entries-cons kinds s e rest x = go (dir_at kinds x) (names x e) (list_any (names x) rest)
   where
-    go : (a b c : Bool) → cond (a && (b || c)) (Some s) None ≡ option_or (cond (a && (b || false)) (Some s) None) (cond (a && c) (Some s) None)
+    go : (a b c : Bool) → cond (a && (b || c)) (Some s) None ≡ option_or (cond (a && (b || false)) (Some s) None)
+        (cond (a && c) (Some s) None)
     go false b c = refl
     go true true c = refl
     go true false c = refl
 
-pub from_dirs-cons : (v : Graph) (s : ℕ) (ss : List ℕ) (x : ℕ) → from_dirs v (s ∷ ss) x ≡ option_or (cond (edge v s x) (Some s) None) (from_dirs v ss x)
+pub from_dirs-cons : (v : Graph) (s : ℕ) (ss : List ℕ) (x : ℕ) →
+    from_dirs v (s ∷ ss) x ≡ option_or (cond (edge v s x) (Some s) None) (from_dirs v ss x)
 from_dirs-cons v s ss x = go (edge v s x)
   where
     go : (b : Bool) → cond b (Some s) (from_dirs v ss x) ≡ option_or (cond b (Some s) None) (from_dirs v ss x)
@@ -82,28 +98,36 @@ At r p t a r' p' t' =
     × (cond r' p' (unwrap_or none_ℕ p') ≡ cond r p (unwrap_or a p))
     × (t' + bit (is_some (none_ℕ) && not r') ≡ t + bit (is_some a && not r))
 
-hit_at : (r : Bool) (p t : ℕ) (a : Option ℕ) (r' : Bool) (p' t' s : ℕ) → r ≡ false → r' ≡ true → a ≡ Some s → p' ≡ s → t' ≡ t + 1 → At r p t a r' p' t'
+hit_at : (r : Bool) (p t : ℕ) (a : Option ℕ) (r' : Bool) (p' t' s : ℕ) → r ≡ false → r' ≡ true → a ≡ Some s → p' ≡ s →
+    t' ≡ t + 1 → At r p t a r' p' t'
 hit_at false p t (Some u) true p' t' s e1 e2 e3 e4 e5 = (refl, let q : u ≡ s = cc in e4 ∙ sym q, omega arith)
 hit_at true p t a r' p' t' s e1 e2 e3 e4 e5 = absurd (cc)
 hit_at false p t None r' p' t' s e1 e2 e3 e4 e5 = absurd (cc)
 hit_at false p t (Some u) false p' t' s e1 e2 e3 e4 e5 = absurd (cc)
 
-miss_at : (r : Bool) (p t : ℕ) (a : Option ℕ) (r' : Bool) (p' t' : ℕ) → r' ≡ r → a ≡ None → p' ≡ p → t' ≡ t → At r p t a r' p' t'
+miss_at : (r : Bool) (p t : ℕ) (a : Option ℕ) (r' : Bool) (p' t' : ℕ) → r' ≡ r → a ≡ None → p' ≡ p → t' ≡ t →
+    At r p t a r' p' t'
 miss_at true p t None true p' t' e1 e3 e4 e5 = (refl, e4, omega arith)
 miss_at false p t None false p' t' e1 e3 e4 e5 = (refl, e4, omega arith)
 miss_at true p t None false p' t' e1 e3 e4 e5 = absurd (cc)
 miss_at false p t None true p' t' e1 e3 e4 e5 = absurd (cc)
 miss_at r p t (Some u) r' p' t' e1 e3 e4 e5 = absurd (cc)
 
-from_entry-hit : (kinds : List ℕ) (s : ℕ) (e : RoledEntry) (x : ℕ) → dir_at kinds x ≡ true → is_plain e.role ≡ true → x ≡ e.entry.number → from_entries kinds s (e ∷ []) x ≡ Some s
+from_entry-hit : (kinds : List ℕ) (s : ℕ) (e : RoledEntry) (x : ℕ) → dir_at kinds x ≡ true → is_plain e.role ≡ true →
+    x ≡ e.entry.number → from_entries kinds s (e ∷ []) x ≡ Some s
 from_entry-hit kinds s e x d p h =
     cond-true (dir_at kinds x && (names x e || false)) (Some s) None
-    (and_from (dir_at kinds x) (names x e || false) d (or_left (names x e) false (and_from (is_plain e.role) (e.entry.number == x) p (eq-eqb e.entry.number x (sym h)))))
+    (and_from (dir_at kinds x) (names x e || false) d
+    (or_left (names x e) false
+    (and_from (is_plain e.role) (e.entry.number == x) p (eq-eqb e.entry.number x (sym h)))))
 
-from_entry-miss : (kinds : List ℕ) (s : ℕ) (e : RoledEntry) (x : ℕ) → (x ≡ e.entry.number → ⊥) → from_entries kinds s (e ∷ []) x ≡ None
+from_entry-miss : (kinds : List ℕ) (s : ℕ) (e : RoledEntry) (x : ℕ) → (x ≡ e.entry.number → ⊥) →
+    from_entries kinds s (e ∷ []) x ≡ None
 from_entry-miss kinds s e x h =
     cond-false (dir_at kinds x && (names x e || false)) (Some s) None
-    (and_right (dir_at kinds x) (names x e || false) (or_from (names x e) false (and_right (is_plain e.role) (e.entry.number == x) (ne_eqb e.entry.number x (λ q. h (sym q)))) refl))
+    (and_right (dir_at kinds x) (names x e || false)
+    (or_from (names x e) false
+    (and_right (is_plain e.role) (e.entry.number == x) (ne_eqb e.entry.number x (λ q. h (sym q)))) refl))
 
 pub unset-set : (r : List Bool) (m : ℕ) → m < length r → bool_at r m ≡ false → unset (set r m true) + 1 ≡ unset r
 unfolding unset
@@ -112,32 +136,42 @@ unset-set r m l e =
     let one : bit (not (bool_at r m)) ≡ 1 = ap (λ b. bit (not b)) e in
     omega (arith, h, one)
 
-times-push : (x : ℕ) (q : List ℕ) (c y : ℕ) → c < length q → times x (take (c + 1) (set q c y)) ≡ times x (take c q) + bit (y == x)
+times-push : (x : ℕ) (q : List ℕ) (c y : ℕ) → c < length q → times x (take (c + 1) (set q c y))
+    ≡ times x (take c q) + bit (y == x)
 unfolding times
-times-push x q c y l = ap (λ z. sum_by (λ y. bit (y == x)) z) (take_more_set q c y l) ∙ sum_by_push (λ y. bit (y == x)) (take c q) y
+times-push x q c y l = ap (λ z. sum_by (λ y. bit (y == x)) z) (take_more_set q c y l)
+    ∙ sum_by_push (λ y. bit (y == x)) (take c q) y
 
 -- what one entry discovers
 pub visit_hit : (kinds : List ℕ) (r : List Bool) (p q : List ℕ) (s c : ℕ) (e : RoledEntry)
     → e.entry.number < length r → e.entry.number < length p → c < length q
     → dir_at kinds e.entry.number ≡ true → is_plain e.role ≡ true → bool_at r e.entry.number ≡ false
-    → Comes (from_entries kinds s (e ∷ [])) r p (take c q) nothing (set r e.entry.number true) (set p e.entry.number s) (take (c + 1) (set q c e.entry.number))
+    → Comes (from_entries kinds s (e ∷ [])) r p (take c q) nothing (set r e.entry.number true) (set p e.entry.number s)
+    (take (c + 1) (set q c e.entry.number))
 visit_hit kinds r p q s c e lr lp lq d pl un = record {
   reached = λ x. (at x).0;
   parent = λ x. (at x).1;
   queue = λ x. (at x).2;
 }
   where
-    at : (x : ℕ) → At (bool_at r x) (number_at p x) (times x (take c q)) (from_entries kinds s (e ∷ []) x) (bool_at (set r e.entry.number true) x) (number_at (set p e.entry.number s) x) (times x (take (c + 1) (set q c e.entry.number)))
+    at : (x : ℕ) → At (bool_at r x) (number_at p x) (times x (take c q)) (from_entries kinds s (e ∷ []) x)
+        (bool_at (set r e.entry.number true) x) (number_at (set p e.entry.number s) x)
+        (times x (take (c + 1) (set q c e.entry.number)))
     at x = elim (cases_eq x e.entry.number) [
-      | inl y ↦ hit_at _ _ _ _ _ _ _ s (ap (bool_at r) y ∙ un) (ap (bool_at (set r e.entry.number true)) y ∙ get_or-set_same r e.entry.number true false lr)
-          (from_entry-hit kinds s e x (ap (dir_at kinds) y ∙ d) pl y) (ap (number_at (set p e.entry.number s)) y ∙ get_or-set_same p e.entry.number s 0 lp)
+      | inl y ↦ hit_at _ _ _ _ _ _ _ s (ap (bool_at r) y ∙ un)
+          (ap (bool_at (set r e.entry.number true)) y ∙ get_or-set_same r e.entry.number true false lr)
+          (from_entry-hit kinds s e x (ap (dir_at kinds) y ∙ d) pl y)
+          (ap (number_at (set p e.entry.number s)) y ∙ get_or-set_same p e.entry.number s 0 lp)
           (times-push x q c e.entry.number lq ∙ ap (λ b. times x (take c q) + bit b) (eq-eqb e.entry.number x (sym y)))
-      | inr n ↦ miss_at _ _ _ _ _ _ _ (get_or-set_other r e.entry.number x true false n) (from_entry-miss kinds s e x n) (get_or-set_other p e.entry.number x s 0 n)
-          (times-push x q c e.entry.number lq ∙ (ap (λ b. times x (take c q) + bit b) (ne_eqb e.entry.number x (λ q. n (sym q))) ∙ add-zero _))
+      | inr n ↦ miss_at _ _ _ _ _ _ _ (get_or-set_other r e.entry.number x true false n) (from_entry-miss kinds s e x n)
+          (get_or-set_other p e.entry.number x s 0 n)
+          (times-push x q c e.entry.number lq
+          ∙ (ap (λ b. times x (take c q) + bit b) (ne_eqb e.entry.number x (λ q. n (sym q))) ∙ add-zero _))
     ]
 
 -- the same with another name for what is to go
-pub comes-to : (g h k : ℕ → Option ℕ) (r r' : List Bool) (p p' q q' : List ℕ) → ((x : ℕ) → h x ≡ k x) → Comes g r p q h r' p' q' → Comes g r p q k r' p' q'
+pub comes-to : (g h k : ℕ → Option ℕ) (r r' : List Bool) (p p' q q' : List ℕ) → ((x : ℕ) → h x ≡ k x) →
+    Comes g r p q h r' p' q' → Comes g r p q k r' p' q'
 comes-to g h k r r' p p' q q' e c = record {
   reached = λ x. ap (λ o. bool_at r' x || is_some o) (sym (e x)) ∙ c.reached x;
   parent = λ x. ap (λ o. cond (bool_at r' x) (number_at p' x) (unwrap_or o (number_at p' x))) (sym (e x)) ∙ c.parent x;
@@ -154,21 +188,26 @@ same_at r p t a h = elim h [ inl y ↦ marked r a y | inr n ↦ miss_at r p t a 
 
 -- an entry that discovers nothing
 pub visit_miss : (kinds : List ℕ) (r : List Bool) (p q : List ℕ) (s : ℕ) (e : RoledEntry)
-    → (is_plain e.role && is_free kinds r e.entry.number) ≡ false → Comes (from_entries kinds s (e ∷ [])) r p q nothing r p q
+    → (is_plain e.role && is_free kinds r e.entry.number) ≡ false →
+    Comes (from_entries kinds s (e ∷ [])) r p q nothing r p q
 visit_miss kinds r p q s e h = record { reached = λ x. (at x).0; parent = λ x. (at x).1; queue = λ x. (at x).2 }
   where
-    which : (x a b c : Bool) → (a && (b && not c)) ≡ false → (c ≡ true) ⊎ (cond (b && ((a && x) || false)) (Some s) None ≡ None)
+    which : (x a b c : Bool) → (a && (b && not c)) ≡ false → (c ≡ true)
+        ⊎ (cond (b && ((a && x) || false)) (Some s) None ≡ None)
     which x false true c k = inr refl
     which x false false c k = inr refl
     which x true false c k = inr refl
     which x true true true k = inl refl
     which x true true false k = absurd (cc)
 
-    at : (x : ℕ) → At (bool_at r x) (number_at p x) (times x q) (from_entries kinds s (e ∷ []) x) (bool_at r x) (number_at p x) (times x q)
-    at x = same_at (bool_at r x) (number_at p x) (times x q) (from_entries kinds s (e ∷ []) x) (elim (cases_eq x e.entry.number) [
-      | inl y ↦ which (e.entry.number == x) (is_plain e.role) (dir_at kinds x) (bool_at r x) (subst (λ z. (is_plain e.role && is_free kinds r z) ≡ false) (sym y) h)
-      | inr n ↦ inr (from_entry-miss kinds s e x n)
-    ])
+    at : (x : ℕ) → At (bool_at r x) (number_at p x) (times x q) (from_entries kinds s (e ∷ []) x) (bool_at r x)
+        (number_at p x) (times x q)
+    at x = same_at (bool_at r x) (number_at p x) (times x q) (from_entries kinds s (e ∷ []) x)
+        (elim (cases_eq x e.entry.number) [
+          | inl y ↦ which (e.entry.number == x) (is_plain e.role) (dir_at kinds x) (bool_at r x)
+              (subst (λ z. (is_plain e.role && is_free kinds r z) ≡ false) (sym y) h)
+          | inr n ↦ inr (from_entry-miss kinds s e x n)
+        ])
 
 -- what the number of a directory is below
 pub dir_below : (kinds : List ℕ) (x : ℕ) → dir_at kinds x ≡ true → x < length kinds
@@ -178,7 +217,8 @@ dir_below kinds x h = elim (cases_lt x (length kinds)) [
 ]
   where
     past : (k : ℕ) → k ≡ 0 → (nat_le 2 x && is_dir_kind k) ≡ true → ⊥
-    past k e h = let d = (and_parts (nat_le 2 x) (is_dir_kind k) h).1 in let z : is_dir_kind 0 ≡ true = subst (λ y. is_dir_kind y ≡ true) e d in cc
+    past k e h = let d = (and_parts (nat_le 2 x) (is_dir_kind k) h).1 in let z : is_dir_kind 0 ≡ true =
+        subst (λ y. is_dir_kind y ≡ true) e d in cc
 
 -- what an entry that names a directory without a mark is
 pub record IsNewEntry (kinds : List ℕ) (r : List Bool) (e : RoledEntry) : Type 0 where
@@ -187,20 +227,23 @@ pub record IsNewEntry (kinds : List ℕ) (r : List Bool) (e : RoledEntry) : Type
   pub unmarked : bool_at r e.entry.number ≡ false
   pub below : e.entry.number < length kinds
 
-pub new_entry : (kinds : List ℕ) (r : List Bool) (e : RoledEntry) → (is_plain e.role && is_free kinds r e.entry.number) ≡ true → IsNewEntry kinds r e
+pub new_entry : (kinds : List ℕ) (r : List Bool) (e : RoledEntry) → (is_plain e.role && is_free kinds r e.entry.number)
+    ≡ true → IsNewEntry kinds r e
 new_entry kinds r e h =
     let a = and_parts (is_plain e.role) (is_free kinds r e.entry.number) h in
     let b = and_parts (dir_at kinds e.entry.number) (not (bool_at r e.entry.number)) a.1 in
     record { plain = a.0; dir = b.0; unmarked = not-true _ b.1; below = dir_below kinds e.entry.number b.0 }
 
 -- the step of the loop over a directory
-pub entry_step : (g : ℕ → Option ℕ) (kinds : List ℕ) (s : ℕ) (e : RoledEntry) (rest : List RoledEntry) (r r' r'' : List Bool) (p p' p'' q q' q'' : List ℕ)
+pub entry_step : (g : ℕ → Option ℕ) (kinds : List ℕ) (s : ℕ) (e : RoledEntry) (rest : List RoledEntry)
+    (r r' r'' : List Bool) (p p' p'' q q' q'' : List ℕ)
     → Comes g r p q (from_entries kinds s (e ∷ rest)) r' p' q'
     → Comes (from_entries kinds s (e ∷ [])) r' p' q' nothing r'' p'' q''
     → Comes g r p q (from_entries kinds s rest) r'' p'' q''
 entry_step g kinds s e rest r r' r'' p p' p'' q q' q'' a b =
     comes-trans g (from_entries kinds s (e ∷ rest)) (from_entries kinds s rest) r r' r'' p p' p'' q q' q'' a
-    (comes-then (from_entries kinds s (e ∷ rest)) (from_entries kinds s (e ∷ [])) (from_entries kinds s rest) r' r'' p' p'' q' q'' (from_entries-cons kinds s e rest) b)
+    (comes-then (from_entries kinds s (e ∷ rest)) (from_entries kinds s (e ∷ [])) (from_entries kinds s rest) r' r'' p'
+    p'' q' q'' (from_entries-cons kinds s e rest) b)
 
 -- what a directory's entries discover, by its edges
 pub from_entries-edges : (kinds : List ℕ) (entries : ℕ → List RoledEntry) (s x : ℕ) → dir_at kinds s ≡ true
@@ -209,7 +252,8 @@ from_entries-edges kinds entries s x h =
     ap (λ b. cond (dir_at kinds x && (b && list_any (names x) (entries s))) (Some s) None) (sym h)
 
 -- the step of the loop over a level
-pub level_step : (g : ℕ → Option ℕ) (kinds : List ℕ) (entries : ℕ → List RoledEntry) (frontier : List ℕ) (i : ℕ) (r r' r'' : List Bool) (p p' p'' q q' q'' : List ℕ)
+pub level_step : (g : ℕ → Option ℕ) (kinds : List ℕ) (entries : ℕ → List RoledEntry) (frontier : List ℕ) (i : ℕ)
+    (r r' r'' : List Bool) (p p' p'' q q' q'' : List ℕ)
     → i < length frontier → dir_at kinds (get_or frontier i 0) ≡ true
     → Comes g r p q (from_dirs (graph_with kinds entries) (drop i frontier)) r' p' q'
     → Comes (from_entries kinds (get_or frontier i 0) (entries (get_or frontier i 0))) r' p' q' nothing r'' p'' q''
@@ -219,5 +263,8 @@ level_step g kinds entries frontier i r r' r'' p p' p'' q q' q'' l d a b =
     let s = get_or frontier i 0 in
     let cut : drop i frontier ≡ s ∷ drop (i + 1) frontier = rw (add-one, drop-cons frontier i 0) in
     comes-trans g (from_dirs v (drop i frontier)) (from_dirs v (drop (i + 1) frontier)) r r' r'' p p' p'' q q' q'' a
-    (comes-then (from_dirs v (drop i frontier)) (from_entries kinds s (entries s)) (from_dirs v (drop (i + 1) frontier)) r' r'' p' p'' q' q''
-    (λ x. ap (λ z. from_dirs v z x) cut ∙ (from_dirs-cons v s (drop (i + 1) frontier) x ∙ ap (λ o. option_or o (from_dirs v (drop (i + 1) frontier) x)) (sym (from_entries-edges kinds entries s x d)))) b)
+    (comes-then (from_dirs v (drop i frontier)) (from_entries kinds s (entries s)) (from_dirs v (drop (i + 1) frontier))
+    r' r'' p' p'' q' q''
+    (λ x. ap (λ z. from_dirs v z x) cut
+    ∙ (from_dirs-cons v s (drop (i + 1) frontier) x ∙ ap (λ o. option_or o (from_dirs v (drop (i + 1) frontier) x))
+    (sym (from_entries-edges kinds entries s x d)))) b)

@@ -1,14 +1,17 @@
 -- How the levels begin and end.
-use Rattle.std.specs.Prelude.{◌≡◌, ℕ, ◌<◌, ◌≤◌, ◌==◌, Bool, true, false, not, cond, List, [], ◌∷◌, length, None, Some, is_some, unwrap_or, refl}
+use Rattle.std.specs.Prelude.{◌≡◌, ℕ, ◌<◌, ◌≤◌, ◌==◌, Bool, true, false, not, cond, List, [], ◌∷◌, length, None, Some}
+use Rattle.std.specs.Prelude.{is_some, unwrap_or, refl}
 use Rattle.std.specs.List.{list_any}
 use Rattle.std.proofs.Common.{arith, sym, ◌∙◌, ap, inl, inr, set, take, get_or-set_same, get_or-set_other, add-zero}
-use Rattle.std.proofs.lemmas.Bool.{both_ways, cases_Bool, cases_eq, cases_lt, eqb-true, eq-eqb, ne_eqb, cond-true, cond-false, false_from_ne_true, and_left, and_right}
+use Rattle.std.proofs.lemmas.Bool.{both_ways, cases_Bool, cases_eq, cases_lt, eqb-true, eq-eqb, ne_eqb, cond-true}
+use Rattle.std.proofs.lemmas.Bool.{cond-false, false_from_ne_true, and_left, and_right}
 use Rattle.std.proofs.lemmas.List.Sums.{sum_by-cons}
 use Rattle.ffs_volume.specs.Directories.Climb.{is_value}
 use Rattle.ffs_volume.proofs.ClimbLaws.{is_value-true, is_value-from}
 use Rattle.ffs_volume.specs.Directories.Graph.{Graph, names, names_in, edge, within, level, parent, reached}
 use Rattle.ffs_volume.proofs.Graphs.{IsSane}
-use Rattle.ffs_volume.proofs.LevelLaws.{within-zero, within-grows, level-is, level-some, level-each, reached-from, reached-level}
+use Rattle.ffs_volume.proofs.LevelLaws.{within-zero, within-grows, level-is, level-some, level-each, reached-from}
+use Rattle.ffs_volume.proofs.LevelLaws.{reached-level}
 use Rattle.ffs_survey.specs.Survey.{bool_at, number_at}
 use Rattle.ffs_survey.specs.Discover.{bit, times, unset, IsFrontier, LevelsKnown, from_dirs, nothing, Comes}
 use Rattle.ffs_survey.proofs.Discovered.{comes-to, comes-refl}
@@ -35,10 +38,12 @@ no_more v k x sane f =
           ]))
     ]
 
-pub knows_reached : (v : Graph) (k : ℕ) (r : List Bool) (p q : List ℕ) → IsSane v → IsFrontier v k [] → LevelsKnown v k r p q → (x : ℕ) → bool_at r x ≡ reached v x
+pub knows_reached : (v : Graph) (k : ℕ) (r : List Bool) (p q : List ℕ) → IsSane v → IsFrontier v k [] →
+    LevelsKnown v k r p q → (x : ℕ) → bool_at r x ≡ reached v x
 knows_reached v k r p q sane f n x = n.reached x ∙ no_more v k x sane f
 
-pub knows_parent : (v : Graph) (k : ℕ) (r : List Bool) (p q : List ℕ) → IsSane v → IsFrontier v k [] → LevelsKnown v k r p q → (x : ℕ) → number_at p x ≡ unwrap_or (cond (is_some (level v x)) (parent v x) None) 0
+pub knows_parent : (v : Graph) (k : ℕ) (r : List Bool) (p q : List ℕ) → IsSane v → IsFrontier v k [] →
+    LevelsKnown v k r p q → (x : ℕ) → number_at p x ≡ unwrap_or (cond (is_some (level v x)) (parent v x) None) 0
 knows_parent v k r p q sane f n x = n.parent x ∙ ap (λ b. unwrap_or (cond b (parent v x) None) 0) (no_more v k x sane f)
 
 parent-root : (v : Graph) → parent v 2 ≡ Some 2
@@ -49,7 +54,9 @@ times-single : (x y : ℕ) → times x (y ∷ []) ≡ bit (y == x)
 unfolding times
 times-single x y = sum_by-cons (λ z. bit (z == x)) y [] ∙ add-zero (bit (y == x))
 
-pub levels_start : (v : Graph) (r : List Bool) (p : List ℕ) → 2 < length r → 2 < length p → ((x : ℕ) → bool_at r x ≡ false) → ((x : ℕ) → number_at p x ≡ 0) → LevelsKnown v 0 (set r 2 true) (set p 2 2) (2 ∷ [])
+pub levels_start : (v : Graph) (r : List Bool) (p : List ℕ) → 2 < length r → 2 < length p →
+    ((x : ℕ) → bool_at r x ≡ false) → ((x : ℕ) → number_at p x ≡ 0) →
+    LevelsKnown v 0 (set r 2 true) (set p 2 2) (2 ∷ [])
 levels_start v r p lr lp clear blank = record {
   reached = λ x. elim (cases_eq x 2) [
     | inl y ↦ marked x y ∙ sym (within-zero v x ∙ eq-eqb x 2 y)
@@ -57,7 +64,8 @@ levels_start v r p lr lp clear blank = record {
   ];
   parent = λ x. elim (cases_eq x 2) [
     | inl y ↦ (ap (number_at (set p 2 2)) y ∙ get_or-set_same p 2 2 0 lp)
-        ∙ sym (ap (λ o. unwrap_or o 0) (cond-true (within v 0 x) (parent v x) None (within-zero v x ∙ eq-eqb x 2 y) ∙ (ap (parent v) y ∙ parent-root v)))
+        ∙ sym (ap (λ o. unwrap_or o 0) (cond-true (within v 0 x) (parent v x) None (within-zero v x ∙ eq-eqb x 2 y)
+        ∙ (ap (parent v) y ∙ parent-root v)))
     | inr n ↦ (get_or-set_other p 2 x 2 0 n ∙ blank x)
         ∙ sym (ap (λ o. unwrap_or o 0) (cond-false (within v 0 x) (parent v x) None (within-zero v x ∙ ne_eqb x 2 n)))
   ];
@@ -78,7 +86,8 @@ frontier_start v sane = record {
   members = λ x. elim (cases_eq x 2) [
     | inl e ↦
         let b = sane.some in
-        let lev : level v x ≡ Some 0 = level-is v 0 x (omega arith) (record { within_k = within-zero v x ∙ eq-eqb x 2 e; least = λ j l. absurd (omega arith) }) in
+        let lev : level v x ≡ Some 0 = level-is v 0 x (omega arith)
+        (record { within_k = within-zero v x ∙ eq-eqb x 2 e; least = λ j l. absurd (omega arith) }) in
         times-single x 2 ∙ ap bit (eq-eqb 2 x (sym e) ∙ sym (is_value-from (level v x) 0 lev))
     | inr n ↦
         times-single x 2 ∙ ap bit (ne_eqb 2 x (λ e. n (sym e)) ∙ sym (false_from_ne_true (is_value (level v x) 0) (λ t.
@@ -100,10 +109,12 @@ unset-le (true ∷ r) = let e = sum_by-cons (λ b. bit (not b)) true r in let h 
 unset-le (false ∷ r) = let e = sum_by-cons (λ b. bit (not b)) false r in let h = unset-le r in omega arith
 
 -- where inode 2 is no directory, it alone is reached
-pub root_alone : (v : Graph) (r : List Bool) (p q : List ℕ) → IsSane v → v.is_dir 2 ≡ false → IsFrontier v 0 (2 ∷ []) → LevelsKnown v 0 r p q → LevelsKnown v 1 r p q × IsFrontier v 1 []
+pub root_alone : (v : Graph) (r : List Bool) (p q : List ℕ) → IsSane v → v.is_dir 2 ≡ false → IsFrontier v 0 (2 ∷ []) →
+    LevelsKnown v 0 r p q → LevelsKnown v 1 r p q × IsFrontier v 1 []
 root_alone v r p q sane dry f n =
     let g = from_dirs v (2 ∷ []) in
-    let none = λ (x : ℕ). cond-false (edge v 2 x) (Some 2) None (and_right (v.is_dir x) (names_in v 2 x) (and_left (v.is_dir 2) (list_any (names x) (v.entries 2)) dry)) in
+    let none = λ (x : ℕ). cond-false (edge v 2 x) (Some 2) None
+    (and_right (v.is_dir x) (names_in v 2 x) (and_left (v.is_dir 2) (list_any (names x) (v.entries 2)) dry)) in
     let c : Comes g r p [] nothing r p [] = comes-to g g nothing r r p p [] [] none (comes-refl g r p []) in
     let k : IsNext v 1 r p [] = next_level v 0 (2 ∷ []) r r p p q [] sane f n c in
     (record { reached = k.reached; parent = k.parent; queue = n.queue }, record { members = k.members; rising = tt })

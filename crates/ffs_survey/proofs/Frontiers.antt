@@ -1,19 +1,24 @@
 -- One level after another.
-use Rattle.std.specs.Prelude.{◌≡◌, ℕ, zero, suc, ◌+◌, ◌<◌, ◌≤◌, ◌==◌, Bool, true, false, not, cond, ◌&&◌, ◌||◌, List, [], ◌∷◌, ◌++◌, length, Option, None, Some, is_some, unwrap_or, find, refl}
+use Rattle.std.specs.Prelude.{◌≡◌, ℕ, zero, suc, ◌+◌, ◌<◌, ◌≤◌, ◌==◌, Bool, true, false, not, cond, ◌&&◌, ◌||◌, List}
+use Rattle.std.specs.Prelude.{[], ◌∷◌, ◌++◌, length, Option, None, Some, is_some, unwrap_or, find, refl}
 use Rattle.std.specs.List.Sorted.{IsNonDecreasing, IsPermutation}
 use Rattle.std.proofs.lemmas.List.Sorted.{sum_by-IsPermutation}
 use Rattle.ffs_volume.specs.Directories.Roles.{RoledEntry}
 use Rattle.std.proofs.Common.{arith, sym, ◌∙◌, ap, subst, inl, inr, get_or, ◌⊎◌, add-zero, zero-add}
-use Rattle.std.proofs.lemmas.Bool.{both_ways, cases_Bool, cases_eq, cases_lt, eqb-true, eq-eqb, ne_eqb, and_parts, and_from, and_left, and_right, or_cases, or_left, or_right, or_from, not-true, not_from_false, cond-true, cond-false, false_from_ne_true}
+use Rattle.std.proofs.lemmas.Bool.{both_ways, cases_Bool, cases_eq, cases_lt, eqb-true, eq-eqb, ne_eqb, and_parts}
+use Rattle.std.proofs.lemmas.Bool.{and_from, and_left, and_right, or_cases, or_left, or_right, or_from, not-true}
+use Rattle.std.proofs.lemmas.Bool.{not_from_false, cond-true, cond-false, false_from_ne_true}
 use Rattle.std.proofs.lemmas.List.Sums.{sum_by-cons, sum_by-append}
 use Rattle.std.proofs.Math.Bool.{or-false}
 use Rattle.ffs_volume.specs.Disk.Search.{first_below, some_below}
-use Rattle.ffs_volume.proofs.SearchLaws.{first_below-is, first_below-is_none, first_below-some, some_below-gives, some_below-from, some_below-none}
+use Rattle.ffs_volume.proofs.SearchLaws.{first_below-is, first_below-is_none, first_below-some, some_below-gives}
+use Rattle.ffs_volume.proofs.SearchLaws.{some_below-from, some_below-none}
 use Rattle.ffs_volume.specs.Directories.Climb.{is_value}
 use Rattle.ffs_volume.proofs.ClimbLaws.{is_value-true, is_value-from}
 use Rattle.ffs_volume.specs.Directories.Graph.{Graph, level_edge, edge, within, level, parent, parent_by}
 use Rattle.ffs_volume.proofs.Graphs.{IsSane}
-use Rattle.ffs_volume.proofs.LevelLaws.{within-suc, within-zero, within-grows, within-step, within-more, level-some, level-from}
+use Rattle.ffs_volume.proofs.LevelLaws.{within-suc, within-zero, within-grows, within-step, within-more, level-some}
+use Rattle.ffs_volume.proofs.LevelLaws.{level-from}
 use Rattle.ffs_volume.proofs.Unreached.{edge-parts}
 use Rattle.ffs_survey.specs.Survey.{bool_at, number_at, graph_with}
 use Rattle.ffs_survey.specs.Discover.{bit, times, from_dirs, nothing, Comes, Rising, IsFrontier, parent_at, LevelsKnown}
@@ -46,7 +51,8 @@ times-index t (x ∷ xs) h =
 pub rising-from : (xs : List ℕ) → IsNonDecreasing xs → Rising xs
 rising-from [] h = tt
 rising-from (x ∷ xs) h = (
-  (λ t m. let r = times-index t xs m in let l = r.1 in let o = h 0 (suc r.0) 0 (omega arith) (omega arith) in subst (λ y. x ≤ y) r.2 o),
+  (λ t m. let r = times-index t xs m in let l = r.1 in let o = h 0 (suc r.0) 0 (omega arith) (omega arith) in
+      subst (λ y. x ≤ y) r.2 o),
   rising-from xs (λ i j d a b. h (suc i) (suc j) d (omega arith) (omega arith)),
 )
 
@@ -55,7 +61,8 @@ abbrev FoundIn : (p : ℕ → Bool) (xs : List ℕ) → Option ℕ → Type 0
 FoundIn p xs None = (t : ℕ) → 1 ≤ times t xs → p t ≡ false
 FoundIn p xs (Some s) = (p s ≡ true) × (1 ≤ times s xs) × ((t : ℕ) → t < s → 1 ≤ times t xs → p t ≡ false)
 
-found_cons : (p : ℕ → Bool) (x : ℕ) (xs : List ℕ) (b : Bool) (o : Option ℕ) → p x ≡ b → Rising (x ∷ xs) → FoundIn p xs o → FoundIn p (x ∷ xs) (cond b (Some x) o)
+found_cons : (p : ℕ → Bool) (x : ℕ) (xs : List ℕ) (b : Bool) (o : Option ℕ) → p x ≡ b → Rising (x ∷ xs) → FoundIn p xs o
+    → FoundIn p (x ∷ xs) (cond b (Some x) o)
 found_cons p x xs true o e r f = (
   e,
   let c = times-cons x x xs in let one : bit (x == x) ≡ 1 = ap bit (eq-eqb x x refl) in omega arith,
@@ -64,7 +71,8 @@ found_cons p x xs true o e r f = (
     | inr n ↦ absurd (let q = r.0 t n in omega arith)
   ],
 )
-found_cons p x xs false None e r f = λ t m. elim (times-cases t x xs m) [ inl y ↦ subst (λ z. p z ≡ false) y e | inr n ↦ f t n ]
+found_cons p x xs false None e r f =
+    λ t m. elim (times-cases t x xs m) [ inl y ↦ subst (λ z. p z ≡ false) y e | inr n ↦ f t n ]
 found_cons p x xs false (Some s) e r f = (
   f.0,
   let c = times-cons s x xs in let a = f.1 in omega arith,
@@ -83,7 +91,8 @@ one-bit : (b : Bool) (n : ℕ) → n ≡ bit b → b ≡ true → 1 ≤ n
 one-bit true n e h = omega arith
 one-bit false n e h = absurd (cc)
 
-pub front_first : (v : Graph) (k x : ℕ) (xs : List ℕ) → IsSane v → IsFrontier v k xs → from_dirs v xs x ≡ first_below (level_edge v k x) v.count
+pub front_first : (v : Graph) (k x : ℕ) (xs : List ℕ) → IsSane v → IsFrontier v k xs →
+    from_dirs v xs x ≡ first_below (level_edge v k x) v.count
 front_first v k x xs sane f = go (find (λ s. edge v s x) xs) (found (λ s. edge v s x) xs f.rising)
   where
     go : (o : Option ℕ) → FoundIn (λ s. edge v s x) xs o → o ≡ first_below (level_edge v k x) v.count
@@ -102,7 +111,8 @@ front_first v k x xs sane f = go (find (λ s. edge v s x) xs) (found (λ s. edge
     }))
 
 -- what is one level further
-pub within-level : (v : Graph) (k x : ℕ) → IsSane v → within v (suc k) x ≡ (within v k x || some_below (level_edge v k x) v.count)
+pub within-level : (v : Graph) (k x : ℕ) → IsSane v →
+    within v (suc k) x ≡ (within v k x || some_below (level_edge v k x) v.count)
 within-level v k x sane =
     elim (cases_Bool (within v k x)) [
       | inl y ↦ within-more v k x y ∙ sym (or_left (within v k x) _ y)
@@ -112,7 +122,8 @@ within-level v k x sane =
                 (let w = some_below-gives (level_edge v k x) v.count y in
                 let p = and_parts (is_value (level v w.0) k) (edge v w.0 x) w.1.passes in
                 some_below-from (λ s. within v k s && edge v s x) v.count w.0 w.1.below
-                (and_from (within v k w.0) (edge v w.0 x) (level-some v k w.0 (is_value-true _ k p.0)).0.within_k p.1)) ∙ sym y
+                (and_from (within v k w.0) (edge v w.0 x) (level-some v k w.0 (is_value-true _ k p.0)).0.within_k p.1))
+                ∙ sym y
             | inr z ↦
                 some_below-none (λ s. within v k s && edge v s x) v.count (λ s l. false_from_ne_true _ (λ t.
                 let p = and_parts (within v k s) (edge v s x) t in
@@ -120,18 +131,22 @@ within-level v k x sane =
                 let lj = level-some v j.0 s j.2 in
                 let b = j.1 in
                 elim (cases_lt j.0 k) [
-                  | inl lt ↦ both_ways (within v k x) n (within-grows v (suc j.0) k x lt (within-step v j.0 s x l lj.0.within_k p.1))
+                  | inl lt ↦ both_ways (within v k x) n
+                      (within-grows v (suc j.0) k x lt (within-step v j.0 s x l lj.0.within_k p.1))
                   | inr ge ↦
                       let same : j.0 ≡ k = omega arith in
-                      both_ways (some_below (level_edge v k x) v.count) z (some_below-from (level_edge v k x) v.count s l
-                      (and_from (is_value (level v s) k) (edge v s x) (is_value-from (level v s) k (j.2 ∙ ap Some same)) p.1))
+                      both_ways (some_below (level_edge v k x) v.count) z
+                      (some_below-from (level_edge v k x) v.count s l
+                      (and_from (is_value (level v s) k) (edge v s x) (is_value-from (level v s) k (j.2 ∙ ap Some same))
+                      p.1))
                 ])) ∙ sym z
           ])
     ]
 
 -- what is within reach has the number of an inode
 pub within-bound : (v : Graph) (k x : ℕ) → IsSane v → within v k x ≡ true → x < v.count
-within-bound v zero x sane h = let e : x ≡ 2 = eqb-true x 2 (sym (within-zero v x) ∙ h) in let s = sane.some in omega arith
+within-bound v zero x sane h = let e : x ≡ 2 = eqb-true x 2 (sym (within-zero v x) ∙ h) in let s = sane.some in
+    omega arith
 within-bound v (suc k) x sane h =
     elim (or_cases (within v k x) _ (sym (within-suc v k x) ∙ h)) [
       | inl y ↦ within-bound v k x sane y
@@ -140,12 +155,14 @@ within-bound v (suc k) x sane h =
           sane.dirs x (edge-parts v w.0 x (and_parts (within v k w.0) (edge v w.0 x) w.1.passes).1).0
     ]
 
-is_level-suc : (v : Graph) (k x : ℕ) → IsSane v → is_value (level v x) (suc k) ≡ (within v (suc k) x && not (within v k x))
+is_level-suc : (v : Graph) (k x : ℕ) → IsSane v →
+    is_value (level v x) (suc k) ≡ (within v (suc k) x && not (within v k x))
 is_level-suc v k x sane =
     elim (cases_Bool (is_value (level v x) (suc k))) [
       | inl y ↦
           let l = level-some v (suc k) x (is_value-true _ (suc k) y) in
-          y ∙ sym (and_from (within v (suc k) x) (not (within v k x)) l.0.within_k (not_from_false _ (l.0.least k (omega arith))))
+          y ∙ sym (and_from (within v (suc k) x) (not (within v k x)) l.0.within_k
+          (not_from_false _ (l.0.least k (omega arith))))
       | inr n ↦ n ∙ sym (false_from_ne_true _ (λ t.
           let p = and_parts (within v (suc k) x) (not (within v k x)) t in
           let no = not-true (within v k x) p.1 in
@@ -155,18 +172,23 @@ is_level-suc v k x sane =
           let lo = w.1 in
           elim (cases_lt w.0 (suc k)) [
             | inl lt ↦ both_ways (within v k x) no (within-grows v w.0 k x (omega arith) l.0.within_k)
-            | inr ge ↦ let same : w.0 ≡ suc k = omega arith in both_ways (is_value (level v x) (suc k)) n (is_value-from (level v x) (suc k) (w.2 ∙ ap Some same))
+            | inr ge ↦ let same : w.0 ≡ suc k = omega arith in
+                both_ways (is_value (level v x) (suc k)) n (is_value-from (level v x) (suc k) (w.2 ∙ ap Some same))
           ]))
     ]
 
 -- a new one of the next level gets the least directory of this level as its parent
-parent-new : (v : Graph) (k x s : ℕ) → IsSane v → within v k x ≡ false → first_below (level_edge v k x) v.count ≡ Some s → parent v x ≡ Some s
+parent-new : (v : Graph) (k x s : ℕ) → IsSane v → within v k x ≡ false → first_below (level_edge v k x) v.count ≡ Some s
+    → parent v x ≡ Some s
 unfolding parent
 parent-new v k x s sane n f =
     let i = first_below-some (level_edge v k x) v.count s f in
-    let w : within v (suc k) x ≡ true = within-level v k x sane ∙ or_right (within v k x) _ (some_below-from (level_edge v k x) v.count s i.below i.passes) in
-    let l : level v x ≡ Some (suc k) = is_value-true _ (suc k) (is_level-suc v k x sane ∙ and_from (within v (suc k) x) (not (within v k x)) w (not_from_false _ n)) in
-    let ne : (x ≡ 2 → ⊥) = (λ q. both_ways (within v k x) n (within-grows v 0 k x (omega arith) (within-zero v x ∙ eq-eqb x 2 q))) in
+    let w : within v (suc k) x ≡ true = within-level v k x sane
+    ∙ or_right (within v k x) _ (some_below-from (level_edge v k x) v.count s i.below i.passes) in
+    let l : level v x ≡ Some (suc k) = is_value-true _ (suc k)
+    (is_level-suc v k x sane ∙ and_from (within v (suc k) x) (not (within v k x)) w (not_from_false _ n)) in
+    let ne : (x ≡ 2 → ⊥) = (λ q. both_ways (within v k x) n
+    (within-grows v 0 k x (omega arith) (within-zero v x ∙ eq-eqb x 2 q))) in
     cond-false (x == 2) (Some 2) (parent_by v x (level v x)) (ne_eqb x 2 ne) ∙ (ap (parent_by v x) l ∙ f)
 
 same_cond : (b : Bool) (n : ℕ) → cond b n n ≡ n
@@ -180,7 +202,8 @@ pub record IsNext (v : Graph) (k : ℕ) (r' : List Bool) (p' q' : List ℕ) : Ty
   pub members : (x : ℕ) → times x q' ≡ bit (is_value (level v x) k)
 
 -- the step from level k to the next
-pub next_level : (v : Graph) (k : ℕ) (xs : List ℕ) (r r' : List Bool) (p p' q q' : List ℕ) → IsSane v → IsFrontier v k xs → LevelsKnown v k r p q
+pub next_level : (v : Graph) (k : ℕ) (xs : List ℕ) (r r' : List Bool) (p p' q q' : List ℕ) → IsSane v →
+    IsFrontier v k xs → LevelsKnown v k r p q
     → Comes (from_dirs v xs) r p [] nothing r' p' q' → IsNext v (suc k) r' p' q'
 next_level v k xs r r' p p' q q' sane f n c = record { reached = reached_x; parent = parent_x; members = queue_x }
   where
@@ -188,24 +211,42 @@ next_level v k xs r r' p p' q q' sane f n c = record { reached = reached_x; pare
     found_x x = front_first v k x xs sane f
 
     reached_x : (x : ℕ) → bool_at r' x ≡ within v (suc k) x
-    reached_x x = sym (or-false (bool_at r' x)) ∙ (c.reached x ∙ (ap (λ o. bool_at r x || is_some o) (found_x x) ∙ (ap (λ b. b || some_below (level_edge v k x) v.count) (n.reached x) ∙ sym (within-level v k x sane))))
+    reached_x x = sym (or-false (bool_at r' x))
+        ∙ (c.reached x ∙ (ap (λ o. bool_at r x || is_some o) (found_x x)
+        ∙ (ap (λ b. b || some_below (level_edge v k x) v.count) (n.reached x) ∙ sym (within-level v k x sane))))
 
-    now_x : (x : ℕ) → number_at p' x ≡ cond (within v k x) (number_at p x) (unwrap_or (first_below (level_edge v k x) v.count) (number_at p x))
-    now_x x = sym (same_cond (bool_at r' x) (number_at p' x)) ∙ (c.parent x ∙ (ap (λ b. cond b (number_at p x) (unwrap_or (from_dirs v xs x) (number_at p x))) (n.reached x) ∙ ap (λ o. cond (within v k x) (number_at p x) (unwrap_or o (number_at p x))) (found_x x)))
+    now_x : (x : ℕ) → number_at p' x ≡ cond (within v k x) (number_at p x)
+        (unwrap_or (first_below (level_edge v k x) v.count) (number_at p x))
+    now_x x = sym (same_cond (bool_at r' x) (number_at p' x))
+        ∙ (c.parent x ∙ (ap (λ b. cond b (number_at p x) (unwrap_or (from_dirs v xs x) (number_at p x))) (n.reached x)
+        ∙ ap (λ o. cond (within v k x) (number_at p x) (unwrap_or o (number_at p x))) (found_x x)))
 
     parent_x : (x : ℕ) → number_at p' x ≡ unwrap_or (parent_at v (suc k) x) 0
     parent_x x = now_x x ∙ pick (within v k x) (first_below (level_edge v k x) v.count) refl refl
       where
-        pick : (b : Bool) (o : Option ℕ) → within v k x ≡ b → first_below (level_edge v k x) v.count ≡ o → cond b (number_at p x) (unwrap_or o (number_at p x)) ≡ unwrap_or (cond (within v (suc k) x) (parent v x) None) 0
-        pick true o e h = n.parent x ∙ ap (λ o. unwrap_or o 0) (cond-true _ (parent v x) None e ∙ sym (cond-true (within v (suc k) x) (parent v x) None (within-more v k x e)))
-        pick false (Some s) e h = ap (λ o. unwrap_or o 0) (sym (parent-new v k x s sane e h) ∙ sym (cond-true (within v (suc k) x) (parent v x) None
+        pick : (b : Bool) (o : Option ℕ) → within v k x ≡ b → first_below (level_edge v k x) v.count ≡ o →
+            cond b (number_at p x) (unwrap_or o (number_at p x))
+            ≡ unwrap_or (cond (within v (suc k) x) (parent v x) None) 0
+        pick true o e h = n.parent x
+            ∙ ap (λ o. unwrap_or o 0)
+            (cond-true _ (parent v x) None e
+            ∙ sym (cond-true (within v (suc k) x) (parent v x) None (within-more v k x e)))
+        pick false (Some s) e h = ap (λ o. unwrap_or o 0)
+            (sym (parent-new v k x s sane e h) ∙ sym (cond-true (within v (suc k) x) (parent v x) None
             (within-level v k x sane ∙ or_right (within v k x) _ (ap is_some h))))
-        pick false None e h = n.parent x ∙ ap (λ o. unwrap_or o 0) (cond-false _ (parent v x) None e ∙ sym (cond-false (within v (suc k) x) (parent v x) None
+        pick false None e h = n.parent x
+            ∙ ap (λ o. unwrap_or o 0)
+            (cond-false _ (parent v x) None e ∙ sym (cond-false (within v (suc k) x) (parent v x) None
             (within-level v k x sane ∙ or_from (within v k x) _ e (ap is_some h))))
 
     queue_x : (x : ℕ) → times x q' ≡ bit (is_value (level v x) (suc k))
-    queue_x x = sym (add-zero (times x q')) ∙ (c.queue x ∙ (ap (λ t. t + bit (is_some (from_dirs v xs x) && not (bool_at r x))) (times-nil x) ∙ (zero-add _ ∙ ap bit
-        (ap (λ b. is_some (from_dirs v xs x) && not b) (n.reached x) ∙ (ap (λ o. is_some o && not (within v k x)) (found_x x) ∙ (swap_in (within v k x) (some_below (level_edge v k x) v.count) ∙ (ap (λ b. b && not (within v k x)) (sym (within-level v k x sane)) ∙ sym (is_level-suc v k x sane))))))))
+    queue_x x = sym (add-zero (times x q'))
+        ∙ (c.queue x ∙ (ap (λ t. t + bit (is_some (from_dirs v xs x) && not (bool_at r x))) (times-nil x)
+        ∙ (zero-add _ ∙ ap bit
+        (ap (λ b. is_some (from_dirs v xs x) && not b) (n.reached x)
+        ∙ (ap (λ o. is_some o && not (within v k x)) (found_x x)
+        ∙ (swap_in (within v k x) (some_below (level_edge v k x) v.count)
+        ∙ (ap (λ b. b && not (within v k x)) (sym (within-level v k x sane)) ∙ sym (is_level-suc v k x sane))))))))
       where
         swap_in : (a b : Bool) → (b && not a) ≡ ((a || b) && not a)
         swap_in true true = refl
@@ -213,7 +254,8 @@ next_level v k xs r r' p p' q q' sane f n c = record { reached = reached_x; pare
         swap_in false b = refl
 
 -- the queue with what is discovered holds each that is marked once
-pub queue_grows : (a : ℕ → Option ℕ) (r r' : List Bool) (p p' q q' : List ℕ) → ((x : ℕ) → times x q ≡ bit (bool_at r x)) → Comes a r p [] nothing r' p' q' → (x : ℕ) → times x (q ++ q') ≡ bit (bool_at r' x)
+pub queue_grows : (a : ℕ → Option ℕ) (r r' : List Bool) (p p' q q' : List ℕ) → ((x : ℕ) → times x q ≡ bit (bool_at r x))
+    → Comes a r p [] nothing r' p' q' → (x : ℕ) → times x (q ++ q') ≡ bit (bool_at r' x)
 unfolding times
 queue_grows a r r' p p' q q' h c x =
     let one : times x (q ++ q') ≡ times x q + times x q' = sum_by-append (λ y. bit (y == x)) q q' in
@@ -234,8 +276,10 @@ queue_grows a r r' p p' q q' h c x =
 
 times-at : (xs : List ℕ) (i d : ℕ) → i < length xs → 1 ≤ times (get_or xs i d) xs
 times-at [] i d l = absurd (omega arith)
-times-at (x ∷ xs) zero d l = let c = times-cons x x xs in let one : bit (x == x) ≡ 1 = ap bit (eq-eqb x x refl) in omega arith
-times-at (x ∷ xs) (suc i) d l = let c = times-cons (get_or xs i d) x xs in let h = times-at xs i d (omega arith) in omega arith
+times-at (x ∷ xs) zero d l = let c = times-cons x x xs in let one : bit (x == x) ≡ 1 = ap bit (eq-eqb x x refl) in
+    omega arith
+times-at (x ∷ xs) (suc i) d l = let c = times-cons (get_or xs i d) x xs in let h = times-at xs i d (omega arith) in
+    omega arith
 
 -- what is reached is a directory, where inode 2 is one
 pub within-dir : (v : Graph) (k x : ℕ) → IsSane v → v.is_dir 2 ≡ true → within v k x ≡ true → v.is_dir x ≡ true
@@ -248,18 +292,22 @@ within-dir v (suc k) x sane two h =
           (edge-parts v w.0 x (and_parts (within v k w.0) (edge v w.0 x) w.1.passes).1).0
     ]
 
-pub front_within : (v : Graph) (k : ℕ) (xs : List ℕ) → IsFrontier v k xs → (i d : ℕ) → i < length xs → within v k (get_or xs i d) ≡ true
+pub front_within : (v : Graph) (k : ℕ) (xs : List ℕ) → IsFrontier v k xs → (i d : ℕ) → i < length xs →
+    within v k (get_or xs i d) ≡ true
 front_within v k xs f i d l =
     let x = get_or xs i d in
     let lv = is_value-true _ k (bit-one _ _ (f.members x) (times-at xs i d l)) in
     (level-some v k x lv).0.within_k
 
-pub front_dirs : (v : Graph) (k : ℕ) (xs : List ℕ) → IsSane v → v.is_dir 2 ≡ true → IsFrontier v k xs → (i d : ℕ) → i < length xs → v.is_dir (get_or xs i d) ≡ true
+pub front_dirs : (v : Graph) (k : ℕ) (xs : List ℕ) → IsSane v → v.is_dir 2 ≡ true → IsFrontier v k xs → (i d : ℕ) →
+    i < length xs → v.is_dir (get_or xs i d) ≡ true
 front_dirs v k xs sane two f i d l = within-dir v k (get_or xs i d) sane two (front_within v k xs f i d l)
 
-pub front_from : (v : Graph) (k : ℕ) (xs ys : List ℕ) → ((x : ℕ) → times x xs ≡ bit (is_value (level v x) k)) → IsPermutation xs ys → IsNonDecreasing ys → IsFrontier v k ys
+pub front_from : (v : Graph) (k : ℕ) (xs ys : List ℕ) → ((x : ℕ) → times x xs ≡ bit (is_value (level v x) k)) →
+    IsPermutation xs ys → IsNonDecreasing ys → IsFrontier v k ys
 unfolding times
-front_from v k xs ys m p s = record { members = λ x. sum_by-IsPermutation (λ y. bit (y == x)) xs ys p ∙ m x; rising = rising-from ys s }
+front_from v k xs ys m p s =
+    record { members = λ x. sum_by-IsPermutation (λ y. bit (y == x)) xs ys p ∙ m x; rising = rising-from ys s }
 
 pub sane_of : (kinds : List ℕ) (entries : ℕ → List RoledEntry) → 2 < length kinds → IsSane (graph_with kinds entries)
 sane_of kinds entries l = record { some = l; dirs = λ d h. dir_below kinds d h }

@@ -1,8 +1,10 @@
 -- The queue: what is after it, the current level, and the next level.
-use Rattle.std.specs.Prelude.{◌≡◌, ℕ, suc, ◌+◌, ◌-◌, ◌≤◌, ◌==◌, Bool, List, [], ◌∷◌, ◌++◌, length, take, drop, count_by, ◌||◌, false}
+use Rattle.std.specs.Prelude.{◌≡◌, ℕ, suc, ◌+◌, ◌-◌, ◌≤◌, ◌==◌, Bool, List, [], ◌∷◌, ◌++◌, length, take, drop, count_by}
+use Rattle.std.specs.Prelude.{◌||◌, false}
 use Rattle.std.specs.List.Sorted.{IsNonDecreasing, IsPermutation}
 use Rattle.std.proofs.Common.{arith, sym, ◌∙◌, ap, subst, length-append, append_assoc, add-zero}
-use Rattle.std.proofs.lemmas.List.{take_all, take-append-le, drop-append-le, drop_all, take-append-drop, take-take, get_or_past}
+use Rattle.std.proofs.lemmas.List.{take_all, take-append-le, drop-append-le, drop_all, take-append-drop, take-take}
+use Rattle.std.proofs.lemmas.List.{get_or_past}
 use Rattle.std.proofs.lemmas.List.Sorted.{sum_by-IsPermutation}
 use Rattle.std.proofs.lemmas.List.Sums.{sum_by-append, sum_by-cons}
 use Rattle.std.proofs.lemmas.Bool.{cond-false, and_left}
@@ -12,26 +14,31 @@ use Rattle.ffs_volume.specs.Directories.Roles.{RoledEntry, refers}
 use Rattle.ffs_volume.specs.Directories.Graph.{Graph, names_in}
 use Rattle.ffs_volume.proofs.Graphs.{IsSane}
 use Rattle.ffs_survey.specs.Survey.{bool_at, number_at, graph_with, dir_at, counted_in}
-use Rattle.ffs_survey.specs.Discover.{bit, times, from_dirs, nothing, Comes, IsFrontier, LevelsKnown, IsCount, Counts, IsReachedPart, count_of, any_of, none, never}
+use Rattle.ffs_survey.specs.Discover.{bit, times, from_dirs, nothing, Comes, IsFrontier, LevelsKnown, IsCount, Counts}
+use Rattle.ffs_survey.specs.Discover.{IsReachedPart, count_of, any_of, none, never}
 use Rattle.ffs_survey.proofs.Frontiers.{next_level, front_from, queue_grows, IsNext}
 use Rattle.ffs_survey.proofs.Ends.{knows_reached, knows_parent, root_alone, frontier_start}
 use Rattle.ffs_survey.proofs.Totals.{count_all, any_all, any_of-append}
 
 -- the slice of the queue that is the current level
-pub frontier_is : (low high : ℕ) (q left : List ℕ) → left ≡ take high q → take (length left - low) (drop low left) ≡ drop low (take high q)
+pub frontier_is : (low high : ℕ) (q left : List ℕ) → left ≡ take high q → take (length left - low) (drop low left)
+    ≡ drop low (take high q)
 frontier_is low high q left e = grind (arith, common_steps)
 
 -- the queue with the next level after it
-pub whole_queue : (high n : ℕ) (left ys rest : List ℕ) → length left ≡ high → length ys ≡ n → take (high + n) (left ++ (ys ++ rest)) ≡ left ++ ys
+pub whole_queue : (high n : ℕ) (left ys rest : List ℕ) → length left ≡ high → length ys ≡ n →
+    take (high + n) (left ++ (ys ++ rest)) ≡ left ++ ys
 whole_queue high n left ys rest a b =
     let whole : length (left ++ ys) ≡ high + n = length-append left ys ∙ omega arith in
     ap (take (high + n)) (sym (append_assoc left ys rest))
     ∙ (take-append-le (high + n) (left ++ ys) rest (omega arith) ∙ take_all (high + n) (left ++ ys) (omega arith))
 
-pub new_front : (high n : ℕ) (left ys rest : List ℕ) → length left ≡ high → length ys ≡ n → drop high (take (high + n) (left ++ (ys ++ rest))) ≡ ys
+pub new_front : (high n : ℕ) (left ys rest : List ℕ) → length left ≡ high → length ys ≡ n →
+    drop high (take (high + n) (left ++ (ys ++ rest))) ≡ ys
 new_front high n left ys rest a b =
     let gone : drop high left ≡ [] = drop_all high left (omega arith) in
-    ap (drop high) (whole_queue high n left ys rest a b) ∙ (drop-append-le high left ys (omega arith) ∙ ap (λ z. z ++ ys) gone)
+    ap (drop high) (whole_queue high n left ys rest a b)
+    ∙ (drop-append-le high left ys (omega arith) ∙ ap (λ z. z ++ ys) gone)
 
 -- an empty slice of the queue
 pub no_front : (low high : ℕ) (q : List ℕ) → high ≤ low → drop low (take high q) ≡ []
@@ -39,19 +46,23 @@ no_front low high q h = grind (arith, common_steps)
 
 -- what is after the level, and the level
 pub queue_parts : (low high : ℕ) (q : List ℕ) → low ≤ high → take high q ≡ take low q ++ drop low (take high q)
-queue_parts low high q h = sym (take-append-drop low (take high q)) ∙ ap (λ z. z ++ drop low (take high q)) (take-take low high q h)
+queue_parts low high q h = sym (take-append-drop low (take high q))
+    ∙ ap (λ z. z ++ drop low (take high q)) (take-take low high q h)
 
 -- the next level is after the queue, sorted
 pub record IsNextLevel (v : Graph) (k : ℕ) (r' : List Bool) (p' q ys : List ℕ) : Type 0 where
   pub frontier : IsFrontier v k ys
   pub knows : LevelsKnown v k r' p' (q ++ ys)
 
-pub level_after : (v : Graph) (k : ℕ) (xs : List ℕ) (r r' : List Bool) (p p' q new ys : List ℕ) → IsSane v → IsFrontier v k xs → LevelsKnown v k r p q
-    → Comes (from_dirs v xs) r p [] nothing r' p' new → IsPermutation new ys → IsNonDecreasing ys → IsNextLevel v (k + 1) r' p' q ys
+pub level_after : (v : Graph) (k : ℕ) (xs : List ℕ) (r r' : List Bool) (p p' q new ys : List ℕ) → IsSane v →
+    IsFrontier v k xs → LevelsKnown v k r p q
+    → Comes (from_dirs v xs) r p [] nothing r' p' new → IsPermutation new ys → IsNonDecreasing ys →
+    IsNextLevel v (k + 1) r' p' q ys
 unfolding times
 level_after v k xs r r' p p' q new ys sane f n c m s =
     let one : suc k ≡ k + 1 = omega arith in
-    let next : IsNext v (k + 1) r' p' new = subst (λ j. IsNext v j r' p' new) one (next_level v k xs r r' p p' q new sane f n c) in
+    let next : IsNext v (k + 1) r' p' new =
+    subst (λ j. IsNext v j r' p' new) one (next_level v k xs r r' p p' q new sane f n c) in
     let grown = queue_grows (from_dirs v xs) r r' p p' q new n.queue c in
     record {
       frontier = front_from v (k + 1) new ys next.members m s;
@@ -68,24 +79,30 @@ level_after v k xs r r' p p' q new ys sane f n c m s =
     }
 
 -- the counts, one level further
-pub counted_on : (g : Graph) (low high : ℕ) (q q' f f' : List ℕ) (m m' : List Bool) → low ≤ high → take high q' ≡ take high q → IsCount g (take low q) f m
-    → Counts g.count (count_of g (drop low (take high q))) (any_of g (drop low (take high q))) f m none never f' m' → IsCount g (take high q') f' m'
+pub counted_on : (g : Graph) (low high : ℕ) (q q' f f' : List ℕ) (m m' : List Bool) → low ≤ high →
+    take high q' ≡ take high q → IsCount g (take low q) f m
+    → Counts g.count (count_of g (drop low (take high q))) (any_of g (drop low (take high q))) f m none never f' m' →
+    IsCount g (take high q') f' m'
 counted_on g low high q q' f f' m m' l kept i c =
     let parts : take high q' ≡ take low q ++ drop low (take high q) = kept ∙ queue_parts low high q l in
     record {
       references = λ x b.
-          let one = ap (λ z. count_of g z x) parts ∙ sum_by-append (λ s. counted_in g s x) (take low q) (drop low (take high q)) in
+          let one = ap (λ z. count_of g z x) parts
+          ∙ sum_by-append (λ s. counted_in g s x) (take low q) (drop low (take high q)) in
           let two = i.references x b in
           let three = c.references x b in
           omega (arith, one, two, three);
       named = λ x b.
-          sym (or-false (bool_at m' x)) ∙ (c.named x b ∙ (ap (λ y. y || any_of g (drop low (take high q)) x) (i.named x b)
+          sym (or-false (bool_at m' x))
+          ∙ (c.named x b ∙ (ap (λ y. y || any_of g (drop low (take high q)) x) (i.named x b)
           ∙ (sym (any_of-append g (take low q) (drop low (take high q)) x) ∙ ap (λ z. any_of g z x) (sym parts))));
     }
 
 -- where no level is left, all that is reached was read
-pub reached_part : (kinds : List ℕ) (entries : ℕ → List RoledEntry) (k : ℕ) (f : List ℕ) (m r : List Bool) (p q : List ℕ) → length r ≡ length kinds
-    → IsSane (graph_with kinds entries) → IsFrontier (graph_with kinds entries) k [] → LevelsKnown (graph_with kinds entries) k r p q → IsCount (graph_with kinds entries) q f m
+pub reached_part : (kinds : List ℕ) (entries : ℕ → List RoledEntry) (k : ℕ) (f : List ℕ) (m r : List Bool)
+    (p q : List ℕ) → length r ≡ length kinds
+    → IsSane (graph_with kinds entries) → IsFrontier (graph_with kinds entries) k [] →
+    LevelsKnown (graph_with kinds entries) k r p q → IsCount (graph_with kinds entries) q f m
     → IsReachedPart (graph_with kinds entries) f m r p
 reached_part kinds entries k f m r p q e sane frontier n i =
     let g = graph_with kinds entries in
@@ -98,17 +115,21 @@ reached_part kinds entries k f m r p q e sane frontier n i =
     }
 
 -- where inode 2 is no directory, nothing was read
-pub alone_part : (kinds : List ℕ) (entries : ℕ → List RoledEntry) (f : List ℕ) (m r : List Bool) (p : List ℕ) → length r ≡ length kinds
+pub alone_part : (kinds : List ℕ) (entries : ℕ → List RoledEntry) (f : List ℕ) (m r : List Bool) (p : List ℕ) →
+    length r ≡ length kinds
     → IsSane (graph_with kinds entries) → dir_at kinds 2 ≡ false → LevelsKnown (graph_with kinds entries) 0 r p (2 ∷ [])
     → ((x : ℕ) → number_at f x ≡ 0) → ((x : ℕ) → bool_at m x ≡ false) → IsReachedPart (graph_with kinds entries) f m r p
 alone_part kinds entries f m r p e sane dry n zf zm =
     let g = graph_with kinds entries in
     let a = root_alone g r p (2 ∷ []) sane dry (frontier_start g sane) n in
     reached_part kinds entries 1 f m r p (2 ∷ []) e sane a.1 a.0 (record {
-      references = λ x b. zf x ∙ sym (sum_by-cons (λ s. counted_in g s x) 2 [] ∙ (add-zero (counted_in g 2 x) ∙ cond-false (dir_at kinds 2) (count_by (refers x) (entries 2)) 0 dry));
+      references = λ x b. zf x ∙ sym
+          (sum_by-cons (λ s. counted_in g s x) 2 []
+          ∙ (add-zero (counted_in g 2 x) ∙ cond-false (dir_at kinds 2) (count_by (refers x) (entries 2)) 0 dry));
       named = λ x b. zm x ∙ sym (or-false (names_in g 2 x) ∙ and_left (dir_at kinds 2) _ dry);
     })
 
 -- no entry is counted before the first directory
-pub none_counted : (g : Graph) (f : List ℕ) (m : List Bool) → ((x : ℕ) → number_at f x ≡ 0) → ((x : ℕ) → bool_at m x ≡ false) → IsCount g [] f m
+pub none_counted : (g : Graph) (f : List ℕ) (m : List Bool) → ((x : ℕ) → number_at f x ≡ 0) →
+    ((x : ℕ) → bool_at m x ≡ false) → IsCount g [] f m
 none_counted g f m zf zm = record { references = λ x b. zf x; named = λ x b. zm x }

@@ -1,8 +1,10 @@
 -- The sums over a list of directories, and over all of them.
-use Rattle.std.specs.Prelude.{◌≡◌, ℕ, zero, suc, ◌+◌, ◌<◌, ◌≤◌, ◌==◌, nat_lt, Bool, true, false, not, cond, ◌&&◌, ◌||◌, List, [], ◌∷◌, ◌++◌, refl}
+use Rattle.std.specs.Prelude.{◌≡◌, ℕ, zero, suc, ◌+◌, ◌<◌, ◌≤◌, ◌==◌, nat_lt, Bool, true, false, not, cond, ◌&&◌, ◌||◌}
+use Rattle.std.specs.Prelude.{List, [], ◌∷◌, ◌++◌, refl}
 use Rattle.std.specs.List.{list_any, sum_by}
 use Rattle.std.proofs.Common.{arith, sym, ◌∙◌, ap, inl, inr, add-zero}
-use Rattle.std.proofs.lemmas.Bool.{both_ways, cases_Bool, cases_eq, cases_lt, eq-eqb, ne_eqb, cond-true, cond-false, and_parts, and_from, or_left, or_right, or_cases, lt-ltb, le-ltb, false_from_ne_true}
+use Rattle.std.proofs.lemmas.Bool.{both_ways, cases_Bool, cases_eq, cases_lt, eq-eqb, ne_eqb, cond-true, cond-false}
+use Rattle.std.proofs.lemmas.Bool.{and_parts, and_from, or_left, or_right, or_cases, lt-ltb, le-ltb, false_from_ne_true}
 use Rattle.std.proofs.lemmas.List.Sums.{sum_by-cons}
 use Rattle.ffs_volume.specs.Disk.Search.{some_below, first_below}
 use Rattle.ffs_volume.proofs.SearchLaws.{some_below-suc, some_below-from, some_below-none}
@@ -106,9 +108,11 @@ part-zero c (y ∷ q) =
     let r = part-zero c q in
     omega (arith, a, b, r)
 
-part-is : (c : ℕ → ℕ) (r : ℕ → Bool) (q : List ℕ) → ((s : ℕ) → times s q ≡ bit (r s)) → (n : ℕ) → part c n q ≡ sum_upto r c n
+part-is : (c : ℕ → ℕ) (r : ℕ → Bool) (q : List ℕ) → ((s : ℕ) → times s q ≡ bit (r s)) → (n : ℕ) →
+    part c n q ≡ sum_upto r c n
 part-is c r q h zero = part-zero c q
-part-is c r q h (suc n) = let a = part-suc c n q in let b = here-bit (c n) n q (r n) (h n) in let d = part-is c r q h n in omega (arith, a, b, d)
+part-is c r q h (suc n) = let a = part-suc c n q in let b = here-bit (c n) n q (r n) (h n) in let d =
+    part-is c r q h n in omega (arith, a, b, d)
 
 -- a list of numbers below n is whole below n
 part-whole : (c : ℕ → ℕ) (n : ℕ) (q : List ℕ) → ((s : ℕ) → n ≤ s → times s q ≡ 0) → sum_by c q ≡ part c n q
@@ -118,7 +122,8 @@ part-whole c n (y ∷ q) h =
     let b = sum_by-cons (λ s. cond (nat_lt s n) (c s) 0) y q in
     let one : bit (y == y) ≡ 1 = ap bit (eq-eqb y y refl) in
     let t = times-cons y y q in
-    let low : y < n = (elim (cases_lt y n) [ inl l ↦ l | inr g ↦ absurd (let z = h y g in omega (arith, z, t, one)) ]) in
+    let low : y < n = (elim (cases_lt y n)
+    [ inl l ↦ l | inr g ↦ absurd (let z = h y g in omega (arith, z, t, one)) ]) in
     let d = cond-true (nat_lt y n) (c y) 0 (lt-ltb y n low) in
     let r = part-whole c n q (λ s g. let z = h s g in let w = times-cons s y q in omega (arith, z, w)) in
     omega (arith, a, b, d, r)
@@ -129,9 +134,11 @@ sum_upto-counted r g x zero = refl
 sum_upto-counted r g x (suc n) = ap (λ z. z + cond (r n) (counted_in g n x) 0) (sum_upto-counted r g x n)
 
 -- the count over a list that holds each that passes once
-pub count_all : (g : Graph) (r : ℕ → Bool) (q : List ℕ) (n x : ℕ) → ((s : ℕ) → times s q ≡ bit (r s)) → ((s : ℕ) → n ≤ s → r s ≡ false) → count_of g q x ≡ counted_by r g x n
+pub count_all : (g : Graph) (r : ℕ → Bool) (q : List ℕ) (n x : ℕ) → ((s : ℕ) → times s q ≡ bit (r s)) →
+    ((s : ℕ) → n ≤ s → r s ≡ false) → count_of g q x ≡ counted_by r g x n
 count_all g r q n x h past =
-    part-whole (λ s. counted_in g s x) n q (λ s l. h s ∙ ap bit (past s l)) ∙ (part-is (λ s. counted_in g s x) r q h n ∙ sum_upto-counted r g x n)
+    part-whole (λ s. counted_in g s x) n q (λ s l. h s ∙ ap bit (past s l))
+    ∙ (part-is (λ s. counted_in g s x) r q h n ∙ sum_upto-counted r g x n)
 
 any-gives : (p : ℕ → Bool) (q : List ℕ) → list_any p q ≡ true → (y : ℕ) × (1 ≤ times y q) × (p y ≡ true)
 any-gives p [] h = absurd (cc)
@@ -153,7 +160,8 @@ passes : (b : Bool) (n : ℕ) → n ≡ bit b → 1 ≤ n → b ≡ true
 passes true n e h = refl
 passes false n e h = absurd (omega arith)
 
-pub any_all : (g : Graph) (r : ℕ → Bool) (q : List ℕ) (n x : ℕ) → ((s : ℕ) → times s q ≡ bit (r s)) → ((s : ℕ) → n ≤ s → r s ≡ false) → any_of g q x ≡ some_below (λ s. r s && names_in g s x) n
+pub any_all : (g : Graph) (r : ℕ → Bool) (q : List ℕ) (n x : ℕ) → ((s : ℕ) → times s q ≡ bit (r s)) →
+    ((s : ℕ) → n ≤ s → r s ≡ false) → any_of g q x ≡ some_below (λ s. r s && names_in g s x) n
 any_all g r q n x h past =
     elim (cases_Bool (any_of g q x)) [
       | inl y ↦
@@ -161,14 +169,16 @@ any_all g r q n x h past =
           let m = passes (r w.0) _ (h w.0) w.1 in
           let l : w.0 < n = (elim (cases_lt w.0 n) [ inl l ↦ l | inr b ↦ absurd (both_ways (r w.0) (past w.0 b) m) ]) in
           y ∙ sym (some_below-from (λ s. r s && names_in g s x) n w.0 l (and_from (r w.0) (names_in g w.0 x) m w.2))
-      | inr off ↦ off ∙ sym (some_below-none (λ s. r s && names_in g s x) n (λ s l. false_from_ne_true (r s && names_in g s x) (λ t.
+      | inr off ↦ off ∙ sym (some_below-none (λ s. r s && names_in g s x) n
+          (λ s l. false_from_ne_true (r s && names_in g s x) (λ t.
           let p = and_parts (r s) (names_in g s x) t in
           let o : times s q ≡ 1 = h s ∙ ap bit p.0 in
           both_ways (any_of g q x) off (any-from (λ s. names_in g s x) q s (omega arith) p.1))))
     ]
 
 -- the two parts of a whole
-pub counted_both : (r : ℕ → Bool) (g : Graph) (x n : ℕ) → counted_by r g x n + counted_by (λ s. not (r s)) g x n ≡ references_below g x n
+pub counted_both : (r : ℕ → Bool) (g : Graph) (x n : ℕ) → counted_by r g x n + counted_by (λ s. not (r s)) g x n
+    ≡ references_below g x n
 unfolding counted_by references_below
 counted_both r g x zero = refl
 counted_both r g x (suc n) =
@@ -180,7 +190,8 @@ counted_both r g x (suc n) =
     go true c = add-zero c
     go false c = omega arith
 
-pub some_both : (r p : ℕ → Bool) (n : ℕ) → (some_below (λ s. r s && p s) n || some_below (λ s. not (r s) && p s) n) ≡ some_below p n
+pub some_both : (r p : ℕ → Bool) (n : ℕ) → (some_below (λ s. r s && p s) n || some_below (λ s. not (r s) && p s) n)
+    ≡ some_below p n
 unfolding first_below
 some_both r p zero = refl
 some_both r p (suc n) =
@@ -200,7 +211,8 @@ some_both r p (suc n) =
 
 pub any_of-append : (g : Graph) (ss ts : List ℕ) (x : ℕ) → any_of g (ss ++ ts) x ≡ (any_of g ss x || any_of g ts x)
 any_of-append g [] ts x = refl
-any_of-append g (s ∷ ss) ts x = ap (λ b. names_in g s x || b) (any_of-append g ss ts x) ∙ go (names_in g s x) (any_of g ss x) (any_of g ts x)
+any_of-append g (s ∷ ss) ts x = ap (λ b. names_in g s x || b) (any_of-append g ss ts x)
+    ∙ go (names_in g s x) (any_of g ss x) (any_of g ts x)
   where
     go : (a b c : Bool) → (a || (b || c)) ≡ ((a || b) || c)
     go true b c = refl

@@ -1,11 +1,14 @@
 -- Laws of walks along parents.
-use Rattle.std.specs.Prelude.{◌≡◌, ◌≢◌, ℕ, zero, suc, ◌+◌, ◌-◌, ◌<◌, ◌≤◌, ◌==◌, Bool, true, false, ◌||◌, nat_le, List, [], ◌∷◌, length, Option, None, Some, refl}
+use Rattle.std.specs.Prelude.{◌≡◌, ◌≢◌, ℕ, zero, suc, ◌+◌, ◌-◌, ◌<◌, ◌≤◌, ◌==◌, Bool, true, false, ◌||◌, nat_le, List}
+use Rattle.std.specs.Prelude.{[], ◌∷◌, length, Option, None, Some, refl}
 use Rattle.std.proofs.Common.{arith, sym, ◌∙◌, ap, subst, inl, inr, set, ◌⊎◌, get_or-set_same, get_or-set_other}
-use Rattle.std.proofs.lemmas.Bool.{or_left, or_right, or_from, le-leb, leb-true, cases_eq, cases_lt, eq-eqb, ne_eqb, cond-true, cond-false, false_from_ne_true}
+use Rattle.std.proofs.lemmas.Bool.{or_left, or_right, or_from, le-leb, leb-true, cases_eq, cases_lt, eq-eqb, ne_eqb}
+use Rattle.std.proofs.lemmas.Bool.{cond-true, cond-false, false_from_ne_true}
 use Rattle.std.proofs.lemmas.List.{get_or_past}
 use Rattle.std.proofs.lemmas.List.Sums.{sum_by-set, sum_by-cons}
 use Rattle.ffs_volume.specs.Directories.Climb.{climb, OnCycle, leads_cycle}
-use Rattle.ffs_volume.proofs.ClimbLaws.{climb-zero, climb-one, climb-suc, climb-add, climb-last, cycle-along, cycle-next, cycle-goes, cycle-within, leads_cycle-from, leads_cycle-true}
+use Rattle.ffs_volume.proofs.ClimbLaws.{climb-zero, climb-one, climb-suc, climb-add, climb-last, cycle-along}
+use Rattle.ffs_volume.proofs.ClimbLaws.{cycle-next, cycle-goes, cycle-within, leads_cycle-from, leads_cycle-true}
 use Rattle.ffs_survey.specs.Survey.{number_at, bool_at}
 use Rattle.ffs_survey.specs.Discover.{bit}
 use Rattle.ffs_survey.specs.Cycles.{up_of, zeros, IsClosed, IsNew, Walked, FindsCycle, IsLeastOn, Marks}
@@ -27,11 +30,15 @@ cycle-back f j y p c h =
     let q : (suc c.length - w.0) + w.0 ≡ suc c.length = omega arith in
     (suc c.length - w.0, sym (climb-add f (suc c.length - w.0) w.0 y p w.2) ∙ (ap (λ m. climb f m y) q ∙ c.returns))
 
-pub closed-climb : (f : ℕ → Option ℕ) (stamp : List ℕ) (k x y : ℕ) → IsClosed f stamp → number_at stamp x ≢ 0 → climb f k x ≡ Some y → number_at stamp y ≢ 0
-closed-climb f stamp zero x y c s h = let e : Some x ≡ Some y = sym (climb-zero f x) ∙ h in let q : x ≡ y = cc in subst (λ z. number_at stamp z ≢ 0) q s
-closed-climb f stamp (suc k) x y c s h = let l = climb-last f k x y h in c.above l.0 y (closed-climb f stamp k x l.0 c s l.1) l.2
+pub closed-climb : (f : ℕ → Option ℕ) (stamp : List ℕ) (k x y : ℕ) → IsClosed f stamp → number_at stamp x ≢ 0 →
+    climb f k x ≡ Some y → number_at stamp y ≢ 0
+closed-climb f stamp zero x y c s h = let e : Some x ≡ Some y = sym (climb-zero f x) ∙ h in let q : x ≡ y = cc in
+    subst (λ z. number_at stamp z ≢ 0) q s
+closed-climb f stamp (suc k) x y c s h = let l = climb-last f k x y h in
+    c.above l.0 y (closed-climb f stamp k x l.0 c s l.1) l.2
 
-pub zeros-set : (stamp : List ℕ) (x m : ℕ) → x < length stamp → number_at stamp x ≡ 0 → (m ≡ 0 → ⊥) → zeros (set stamp x m) + 1 ≡ zeros stamp
+pub zeros-set : (stamp : List ℕ) (x m : ℕ) → x < length stamp → number_at stamp x ≡ 0 → (m ≡ 0 → ⊥) →
+    zeros (set stamp x m) + 1 ≡ zeros stamp
 unfolding zeros
 zeros-set stamp x m l e n =
     let h = sum_by-set (λ y. bit (y == 0)) stamp x m 0 l in
@@ -48,7 +55,8 @@ pub record Stamped (f : ℕ → Option ℕ) (start mark steps place : ℕ) (old 
   pub path : (i x : ℕ) → i ≤ steps → climb f i start ≡ Some x → number_at new x ≡ mark
   pub count : suc steps + zeros new ≡ zeros old
 
-pub stamped : (f : ℕ → Option ℕ) (start mark steps place : ℕ) (old new : List ℕ) → mark ≢ 0 → place < length new → Walking f start mark steps place old new → Stamped f start mark steps place old (set new place mark)
+pub stamped : (f : ℕ → Option ℕ) (start mark steps place : ℕ) (old new : List ℕ) → mark ≢ 0 → place < length new →
+    Walking f start mark steps place old new → Stamped f start mark steps place old (set new place mark)
 stamped f start mark steps place old new m l w = record {
   place_is = w.place_is;
   kept = λ x o. elim (cases_eq x place) [
@@ -61,20 +69,24 @@ stamped f start mark steps place old new m l w = record {
   ];
   passed = λ x i. elim (cases_eq x place) [
     | inl y ↦ (steps, omega arith, w.place_is ∙ ap Some (sym y))
-    | inr n ↦ let p = w.passed x (record { was = i.was; is = λ z. i.is (get_or-set_other new place x mark 0 n ∙ z) }) in let b = p.1 in (p.0, omega arith, p.2)
+    | inr n ↦ let p = w.passed x (record { was = i.was; is = λ z. i.is (get_or-set_other new place x mark 0 n ∙ z) }) in
+        let b = p.1 in (p.0, omega arith, p.2)
   ];
   path = λ i x b h. elim (cases_eq x place) [
     | inl y ↦ ap (number_at (set new place mark)) y ∙ get_or-set_same new place mark 0 l
     | inr n ↦ elim (cases_lt i steps) [
       | inl lt ↦ get_or-set_other new place x mark 0 n ∙ w.path i x lt h
-      | inr ge ↦ absurd (let q : i ≡ steps = omega arith in let e : Some x ≡ Some place = sym h ∙ (ap (λ k. climb f k start) q ∙ w.place_is) in n (cc))
+      | inr ge ↦ absurd (let q : i ≡ steps = omega arith in let e : Some x ≡ Some place = sym h
+          ∙ (ap (λ k. climb f k start) q ∙ w.place_is) in n (cc))
     ]
   ];
   count = let z = zeros-set new place mark l w.free m in let c = w.count in omega arith;
 }
 
 -- the next place has no stamp: the walk continues
-pub walks_on : (f : ℕ → Option ℕ) (start mark steps place next : ℕ) (old new : List ℕ) → Stamped f start mark steps place old new → f place ≡ Some next → number_at new next ≡ 0 → Walking f start mark (suc steps) next old new
+pub walks_on : (f : ℕ → Option ℕ) (start mark steps place next : ℕ) (old new : List ℕ) →
+    Stamped f start mark steps place old new → f place ≡ Some next → number_at new next ≡ 0 →
+    Walking f start mark (suc steps) next old new
 walks_on f start mark steps place next old new s h z = record {
   place_is = climb-suc f steps start place s.place_is ∙ h;
   free = z;
@@ -86,7 +98,8 @@ walks_on f start mark steps place next old new s h z = record {
 }
 
 -- the walk ends where nothing is above, or above is stamped
-ends_closed : (f : ℕ → Option ℕ) (start mark steps place : ℕ) (old new : List ℕ) → mark ≢ 0 → IsClosed f old → Stamped f start mark steps place old new → ((y : ℕ) → f place ≡ Some y → number_at new y ≢ 0) → IsClosed f new
+ends_closed : (f : ℕ → Option ℕ) (start mark steps place : ℕ) (old new : List ℕ) → mark ≢ 0 → IsClosed f old →
+    Stamped f start mark steps place old new → ((y : ℕ) → f place ≡ Some y → number_at new y ≢ 0) → IsClosed f new
 ends_closed f start mark steps place old new m c s e = record {
   above = λ x y h u. elim (cases_eq (number_at old x) 0) [
     | inr n ↦ (λ z. c.above x y n u (sym (keep y z) ∙ z))
@@ -107,7 +120,9 @@ ends_closed f start mark steps place old new m c s e = record {
     keep : (y : ℕ) → number_at new y ≡ 0 → number_at new y ≡ number_at old y
     keep y z = elim (cases_eq (number_at old y) 0) [ inl o ↦ z ∙ sym o | inr n ↦ s.kept y n ]
 
-pub walked : (f : ℕ → Option ℕ) (start mark steps place : ℕ) (old new : List ℕ) → mark ≢ 0 → IsClosed f old → Stamped f start mark steps place old new → ((y : ℕ) → f place ≡ Some y → number_at new y ≢ 0) → Walked f start mark old new
+pub walked : (f : ℕ → Option ℕ) (start mark steps place : ℕ) (old new : List ℕ) → mark ≢ 0 → IsClosed f old →
+    Stamped f start mark steps place old new → ((y : ℕ) → f place ≡ Some y → number_at new y ≢ 0) →
+    Walked f start mark old new
 walked f start mark steps place old new m c s e = record {
   kept = s.kept;
   fresh = s.fresh;
@@ -116,33 +131,42 @@ walked f start mark steps place old new m c s e = record {
 }
 
 -- a new one on a cycle is above what is above the last place
-pub above_last : (f : ℕ → Option ℕ) (start mark steps place x next : ℕ) (old new : List ℕ) → Stamped f start mark steps place old new → f place ≡ Some next → IsNew old new x → OnCycle f x → (k : ℕ) × (climb f k next ≡ Some x)
+pub above_last : (f : ℕ → Option ℕ) (start mark steps place x next : ℕ) (old new : List ℕ) →
+    Stamped f start mark steps place old new → f place ≡ Some next → IsNew old new x → OnCycle f x →
+    (k : ℕ) × (climb f k next ≡ Some x)
 above_last f start mark steps place x next old new s h i c =
     let p = s.passed x i in
     let b = p.1 in
     let q : (suc steps - p.0) + p.0 ≡ suc steps = omega arith in
-    let there : climb f (suc steps - p.0) x ≡ Some next = sym (climb-add f (suc steps - p.0) p.0 start x p.2) ∙ (ap (λ k. climb f k start) q ∙ (climb-suc f steps start place s.place_is ∙ h)) in
+    let there : climb f (suc steps - p.0) x ≡ Some next = sym (climb-add f (suc steps - p.0) p.0 start x p.2)
+    ∙ (ap (λ k. climb f k start) q ∙ (climb-suc f steps start place s.place_is ∙ h)) in
     cycle-back f (suc steps - p.0) x next c there
 
 -- nothing above: no cycle
-pub no_cycle_end : (f : ℕ → Option ℕ) (start mark steps place x : ℕ) (old new : List ℕ) → Stamped f start mark steps place old new → f place ≡ None → IsNew old new x → OnCycle f x → ⊥
+pub no_cycle_end : (f : ℕ → Option ℕ) (start mark steps place x : ℕ) (old new : List ℕ) →
+    Stamped f start mark steps place old new → f place ≡ None → IsNew old new x → OnCycle f x → ⊥
 no_cycle_end f start mark steps place x old new s h i c =
     let p = s.passed x i in
     let b = p.1 in
     let q : (suc steps - p.0) + p.0 ≡ suc steps = omega arith in
-    let there : climb f (suc steps - p.0) x ≡ None = sym (climb-add f (suc steps - p.0) p.0 start x p.2) ∙ (ap (λ k. climb f k start) q ∙ (climb-suc f steps start place s.place_is ∙ h)) in
+    let there : climb f (suc steps - p.0) x ≡ None = sym (climb-add f (suc steps - p.0) p.0 start x p.2)
+    ∙ (ap (λ k. climb f k start) q ∙ (climb-suc f steps start place s.place_is ∙ h)) in
     let goes = cycle-goes f (suc steps - p.0) x c in
     let e : None ≡ Some goes.0 = sym there ∙ goes.1 in
     cc
 
 -- an older stamp above: no cycle
-pub no_cycle_old : (f : ℕ → Option ℕ) (start mark steps place next x : ℕ) (old new : List ℕ) → IsClosed f old → Stamped f start mark steps place old new → f place ≡ Some next → number_at old next ≢ 0 → IsNew old new x → OnCycle f x → ⊥
+pub no_cycle_old : (f : ℕ → Option ℕ) (start mark steps place next x : ℕ) (old new : List ℕ) → IsClosed f old →
+    Stamped f start mark steps place old new → f place ≡ Some next → number_at old next ≢ 0 → IsNew old new x →
+    OnCycle f x → ⊥
 no_cycle_old f start mark steps place next x old new cl s h o i c =
     let k = above_last f start mark steps place x next old new s h i c in
     closed-climb f old k.0 next x cl o k.1 i.was
 
 -- the walk's own stamp above: a cycle
-pub finds_cycle : (f : ℕ → Option ℕ) (start mark steps place next n : ℕ) (old new : List ℕ) → mark ≢ 0 → steps < n → Stamped f start mark steps place old new → f place ≡ Some next → number_at old next ≡ 0 → number_at new next ≡ mark → next < n → FindsCycle f n old new next
+pub finds_cycle : (f : ℕ → Option ℕ) (start mark steps place next n : ℕ) (old new : List ℕ) → mark ≢ 0 → steps < n →
+    Stamped f start mark steps place old new → f place ≡ Some next → number_at old next ≡ 0 → number_at new next ≡ mark
+    → next < n → FindsCycle f n old new next
 finds_cycle f start mark steps place next n old new m l s h o e low =
     let i : IsNew old new next = record { was = o; is = (λ z. m (sym e ∙ z)) } in
     let p = s.passed next i in
@@ -151,12 +175,17 @@ finds_cycle f start mark steps place next n old new m l s h o e low =
     record {
       low = low;
       fresh = i;
-      cycle = record { length = steps - p.0; returns = sym (climb-add f (suc (steps - p.0)) p.0 start next p.2) ∙ (ap (λ k. climb f k start) q ∙ (climb-suc f steps start place s.place_is ∙ h)) };
+      cycle = record {
+        length = steps - p.0;
+        returns = sym (climb-add f (suc (steps - p.0)) p.0 start next p.2)
+            ∙ (ap (λ k. climb f k start) q ∙ (climb-suc f steps start place s.place_is ∙ h));
+      };
       short = omega arith;
       only = λ x j c. above_last f start mark steps place x next old new s h j c;
     }
 
-pub walk_start : (f : ℕ → Option ℕ) (start mark : ℕ) (old : List ℕ) → number_at old start ≡ 0 → Walking f start mark 0 start old old
+pub walk_start : (f : ℕ → Option ℕ) (start mark : ℕ) (old : List ℕ) → number_at old start ≡ 0 →
+    Walking f start mark 0 start old old
 walk_start f start mark old z = record {
   place_is = climb-zero f start;
   free = z;
@@ -167,27 +196,38 @@ walk_start f start mark old z = record {
   count = omega arith;
 }
 
-pub up_of-none : (parents : List ℕ) (x : ℕ) → (number_at parents x ≡ 0) ⊎ (length parents ≤ number_at parents x) → up_of parents x ≡ None
-up_of-none parents x h = cond-true ((number_at parents x == 0) || nat_le (length parents) (number_at parents x)) None (Some (number_at parents x)) (elim h [
-  | inl z ↦ or_left (number_at parents x == 0) _ (eq-eqb (number_at parents x) 0 z)
-  | inr l ↦ or_right (number_at parents x == 0) _ (le-leb (length parents) (number_at parents x) l)
-])
+pub up_of-none : (parents : List ℕ) (x : ℕ) → (number_at parents x ≡ 0) ⊎ (length parents ≤ number_at parents x) →
+    up_of parents x ≡ None
+up_of-none parents x h = cond-true ((number_at parents x == 0) || nat_le (length parents) (number_at parents x)) None
+    (Some (number_at parents x)) (elim h [
+      | inl z ↦ or_left (number_at parents x == 0) _ (eq-eqb (number_at parents x) 0 z)
+      | inr l ↦ or_right (number_at parents x == 0) _ (le-leb (length parents) (number_at parents x) l)
+    ])
 
-pub up_of-some : (parents : List ℕ) (x : ℕ) → number_at parents x ≢ 0 → number_at parents x < length parents → up_of parents x ≡ Some (number_at parents x)
-up_of-some parents x e l = cond-false ((number_at parents x == 0) || nat_le (length parents) (number_at parents x)) None (Some (number_at parents x))
-    (or_from (number_at parents x == 0) _ (ne_eqb (number_at parents x) 0 e) (false_from_ne_true (nat_le (length parents) (number_at parents x)) (λ t. absurd (let b = leb-true (length parents) (number_at parents x) t in omega arith))))
+pub up_of-some : (parents : List ℕ) (x : ℕ) → number_at parents x ≢ 0 → number_at parents x < length parents →
+    up_of parents x ≡ Some (number_at parents x)
+up_of-some parents x e l = cond-false ((number_at parents x == 0) || nat_le (length parents) (number_at parents x)) None
+    (Some (number_at parents x))
+    (or_from (number_at parents x == 0) _ (ne_eqb (number_at parents x) 0 e)
+    (false_from_ne_true (nat_le (length parents) (number_at parents x))
+    (λ t. absurd (let b = leb-true (length parents) (number_at parents x) t in omega arith))))
 
 pub zeros-le : (xs : List ℕ) → zeros xs ≤ length xs
 unfolding zeros
 zeros-le [] = omega arith
 zeros-le (zero ∷ r) = let e = sum_by-cons (λ y. bit (y == 0)) 0 r in let h = zeros-le r in omega arith
-zeros-le (suc x ∷ r) = let e = sum_by-cons (λ y. bit (y == 0)) (suc x) r in let h = zeros-le r in let z : bit (suc x == 0) ≡ 0 = ap bit (ne_eqb (suc x) 0 (λ q. absurd (omega arith))) in omega arith
+zeros-le (suc x ∷ r) = let e = sum_by-cons (λ y. bit (y == 0)) (suc x) r in let h = zeros-le r in
+    let z : bit (suc x == 0) ≡ 0 = ap bit (ne_eqb (suc x) 0 (λ q. absurd (omega arith))) in omega arith
 
 -- the stamp of what lies above, where it is an old one and where it is not
-pub stamp_old : (f : ℕ → Option ℕ) (start mark steps place next : ℕ) (old new : List ℕ) → Stamped f start mark steps place old new → number_at new next ≢ 0 → number_at new next ≢ mark → number_at old next ≢ 0
+pub stamp_old : (f : ℕ → Option ℕ) (start mark steps place next : ℕ) (old new : List ℕ) →
+    Stamped f start mark steps place old new → number_at new next ≢ 0 → number_at new next ≢ mark →
+    number_at old next ≢ 0
 stamp_old f start mark steps place next old new s n m = λ z. m (s.fresh next z n)
 
-pub stamp_new : (f : ℕ → Option ℕ) (start mark steps place next : ℕ) (old new : List ℕ) → Stamped f start mark steps place old new → number_at old next < mark → number_at new next ≡ mark → number_at old next ≡ 0
+pub stamp_new : (f : ℕ → Option ℕ) (start mark steps place next : ℕ) (old new : List ℕ) →
+    Stamped f start mark steps place old new → number_at old next < mark → number_at new next ≡ mark →
+    number_at old next ≡ 0
 stamp_new f start mark steps place next old new s l e =
     elim (cases_eq (number_at old next) 0) [
       | inl y ↦ y
@@ -206,18 +246,22 @@ pub round_start : (f : ℕ → Option ℕ) (found next : ℕ) → f found ≡ So
 round_start f found next h = record {
   moved = omega arith;
   place_is = climb-one f found ∙ h;
-  lower = λ i s l e. let q : i ≡ 0 = omega arith in let z : Some found ≡ Some s = sym (climb-zero f found) ∙ (ap (λ k. climb f k found) (sym q) ∙ e) in let w : found ≡ s = cc in omega arith;
+  lower = λ i s l e. let q : i ≡ 0 = omega arith in let z : Some found ≡ Some s = sym (climb-zero f found)
+      ∙ (ap (λ k. climb f k found) (sym q) ∙ e) in let w : found ≡ s = cc in omega arith;
   among = (0, omega arith, climb-zero f found);
   away = λ i a b e. absurd (omega arith);
 }
 
-pub round_step : (f : ℕ → Option ℕ) (found steps place least next least' : ℕ) → Rounding f found steps place least → (place ≡ found → ⊥) → f place ≡ Some next → least' ≤ least → least' ≤ place → (least' ≡ least) ⊎ (least' ≡ place) → Rounding f found (suc steps) next least'
+pub round_step : (f : ℕ → Option ℕ) (found steps place least next least' : ℕ) → Rounding f found steps place least →
+    (place ≡ found → ⊥) → f place ≡ Some next → least' ≤ least → least' ≤ place → (least' ≡ least) ⊎ (least' ≡ place) →
+    Rounding f found (suc steps) next least'
 round_step f found steps place least next least' r n h a b w = record {
   moved = omega arith;
   place_is = climb-suc f steps found place r.place_is ∙ h;
   lower = λ i s l e. elim (cases_lt i steps) [
     | inl lt ↦ let o = r.lower i s lt e in omega arith
-    | inr ge ↦ let q : i ≡ steps = omega arith in let z : Some place ≡ Some s = sym r.place_is ∙ (ap (λ k. climb f k found) (sym q) ∙ e) in let p : place ≡ s = cc in omega arith
+    | inr ge ↦ let q : i ≡ steps = omega arith in let z : Some place ≡ Some s = sym r.place_is
+        ∙ (ap (λ k. climb f k found) (sym q) ∙ e) in let p : place ≡ s = cc in omega arith
   ];
   among = elim w [
     | inl y ↦ let m = r.among in let b = m.1 in (m.0, omega arith, m.2 ∙ ap Some (sym y))
@@ -225,28 +269,33 @@ round_step f found steps place least next least' r n h a b w = record {
   ];
   away = λ i p l e. elim (cases_lt i steps) [
     | inl lt ↦ r.away i p lt e
-    | inr ge ↦ let q : i ≡ steps = omega arith in let z : Some place ≡ Some found = sym r.place_is ∙ (ap (λ k. climb f k found) (sym q) ∙ e) in n (cc)
+    | inr ge ↦ let q : i ≡ steps = omega arith in let z : Some place ≡ Some found = sym r.place_is
+        ∙ (ap (λ k. climb f k found) (sym q) ∙ e) in n (cc)
   ];
 }
 
 -- a way round takes no more steps than the cycle has
-pub round_short : (f : ℕ → Option ℕ) (found steps place least n : ℕ) (c : OnCycle f found) → c.length < n → Rounding f found steps place least → (place ≡ found → ⊥) → steps < n
+pub round_short : (f : ℕ → Option ℕ) (found steps place least n : ℕ) (c : OnCycle f found) → c.length < n →
+    Rounding f found steps place least → (place ≡ found → ⊥) → steps < n
 round_short f found steps place least n c l r m =
     elim (cases_lt steps (suc c.length)) [
       | inl lt ↦ omega arith
       | inr ge ↦ absurd (elim (cases_eq steps (suc c.length)) [
-        | inl y ↦ (let z : Some place ≡ Some found = sym r.place_is ∙ (ap (λ k. climb f k found) y ∙ c.returns) in m (cc))
+        | inl y ↦ (let z : Some place ≡ Some found = sym r.place_is ∙ (ap (λ k. climb f k found) y ∙ c.returns) in
+            m (cc))
         | inr o ↦ r.away (suc c.length) (omega arith) (omega arith) c.returns
       ])
     ]
 
 -- back at `found`, the least so far is the least of all
-pub round_end : (f : ℕ → Option ℕ) (found steps place least n : ℕ) (c : OnCycle f found) → c.length < n → Rounding f found steps place least → place ≡ found → least < n → IsLeastOn f n found least
+pub round_end : (f : ℕ → Option ℕ) (found steps place least n : ℕ) (c : OnCycle f found) → c.length < n →
+    Rounding f found steps place least → place ≡ found → least < n → IsLeastOn f n found least
 unfolding cycle-along
 round_end f found steps place least n c l r e low =
     let p = r.moved in
     let q : suc (steps - 1) ≡ steps = omega arith in
-    let d : OnCycle f found = record { length = steps - 1; returns = ap (λ k. climb f k found) q ∙ (r.place_is ∙ ap Some e) } in
+    let d : OnCycle f found =
+    record { length = steps - 1; returns = ap (λ k. climb f k found) q ∙ (r.place_is ∙ ap Some e) } in
     let a = r.among in
     record {
       low = low;
@@ -261,7 +310,8 @@ round_end f found steps place least n c l r e low =
       on = (a.0, a.2);
     }
 
-unstamped : (f : ℕ → Option ℕ) (start mark : ℕ) (old new : List ℕ) (x : ℕ) → Walked f start mark old new → number_at new x ≡ 0 → number_at old x ≡ 0
+unstamped : (f : ℕ → Option ℕ) (start mark : ℕ) (old new : List ℕ) (x : ℕ) → Walked f start mark old new →
+    number_at new x ≡ 0 → number_at old x ≡ 0
 unstamped f start mark old new x w z =
     elim (cases_eq (number_at old x) 0) [
       | inl y ↦ y
@@ -269,20 +319,27 @@ unstamped f start mark old new x w z =
     ]
 
 -- a walk that found no cycle
-pub marks_none : (f : ℕ → Option ℕ) (n start mark : ℕ) (old new : List ℕ) (leader : List Bool) → Walked f start mark old new → ((x : ℕ) → IsNew old new x → OnCycle f x → ⊥) → Marks f n old leader → Marks f n new leader
+pub marks_none : (f : ℕ → Option ℕ) (n start mark : ℕ) (old new : List ℕ) (leader : List Bool) →
+    Walked f start mark old new → ((x : ℕ) → IsNew old new x → OnCycle f x → ⊥) → Marks f n old leader →
+    Marks f n new leader
 marks_none f n start mark old new leader w none m = record {
   known = λ x s. elim (cases_eq (number_at old x) 0) [
     | inr o ↦ m.known x o
-    | inl z ↦ m.blank x z ∙ sym (false_from_ne_true (leads_cycle f n x) (λ t. none x (record { was = z; is = s }) (leads_cycle-true f n x t).cycle))
+    | inl z ↦ m.blank x z ∙ sym
+        (false_from_ne_true (leads_cycle f n x)
+        (λ t. none x (record { was = z; is = s }) (leads_cycle-true f n x t).cycle))
   ];
   blank = λ x z. m.blank x (unstamped f start mark old new x w z);
 }
 
 -- a walk that found one
-pub marks_found : (f : ℕ → Option ℕ) (n start mark found e : ℕ) (old new : List ℕ) (leader : List Bool) → e < length leader → IsClosed f old → Walked f start mark old new → FindsCycle f n old new found → IsLeastOn f n found e → Marks f n old leader → Marks f n new (set leader e true)
+pub marks_found : (f : ℕ → Option ℕ) (n start mark found e : ℕ) (old new : List ℕ) (leader : List Bool) →
+    e < length leader → IsClosed f old → Walked f start mark old new → FindsCycle f n old new found →
+    IsLeastOn f n found e → Marks f n old leader → Marks f n new (set leader e true)
 marks_found f n start mark found e old new leader l c w g i m = record {
   known = λ x s. elim (cases_eq x e) [
-    | inl y ↦ (ap (bool_at (set leader e true)) y ∙ get_or-set_same leader e true false l) ∙ sym (ap (leads_cycle f n) y ∙ leads_cycle-from f n e i.leader i.short)
+    | inl y ↦ (ap (bool_at (set leader e true)) y ∙ get_or-set_same leader e true false l)
+        ∙ sym (ap (leads_cycle f n) y ∙ leads_cycle-from f n e i.leader i.short)
     | inr ne ↦ get_or-set_other leader e x true false ne ∙ elim (cases_eq (number_at old x) 0) [
       | inr o ↦ m.known x o
       | inl z ↦ m.blank x z ∙ sym (false_from_ne_true (leads_cycle f n x) (λ t.
@@ -304,13 +361,16 @@ marks_found f n start mark found e old new leader l c w g i m = record {
 
 -- on a cycle the list holds what is above
 -- a cycle continues, by the list
-pub up_cycle : (parents : List ℕ) (x : ℕ) → OnCycle (up_of parents) x → (up_of parents x ≡ Some (number_at parents x)) × (number_at parents x < length parents)
+pub up_cycle : (parents : List ℕ) (x : ℕ) → OnCycle (up_of parents) x → (up_of parents x ≡ Some (number_at parents x))
+    × (number_at parents x < length parents)
 up_cycle parents x c =
     elim (cases_eq (number_at parents x) 0) [
-      | inl z ↦ absurd (let e = cycle-next (up_of parents) x c in let q : None ≡ Some e.0 = sym (up_of-none parents x (inl z)) ∙ e.1 in cc)
+      | inl z ↦ absurd (let e = cycle-next (up_of parents) x c in
+          let q : None ≡ Some e.0 = sym (up_of-none parents x (inl z)) ∙ e.1 in cc)
       | inr n ↦ elim (cases_lt (number_at parents x) (length parents)) [
         | inl l ↦ (up_of-some parents x n l, l)
-        | inr b ↦ absurd (let e = cycle-next (up_of parents) x c in let q : None ≡ Some e.0 = sym (up_of-none parents x (inr b)) ∙ e.1 in cc)
+        | inr b ↦ absurd (let e = cycle-next (up_of parents) x c in
+            let q : None ≡ Some e.0 = sym (up_of-none parents x (inr b)) ∙ e.1 in cc)
       ]
     ]
 

@@ -1,8 +1,10 @@
 -- The two parts of a survey make it whole.
-use Rattle.std.specs.Prelude.{◌≡◌, ◌≢◌, ℕ, zero, suc, ◌+◌, ◌<◌, ◌≤◌, ◌==◌, nat_le, Bool, true, false, not, cond, ◌&&◌, ◌||◌, List, length, Option, None, Some, is_some, unwrap_or, refl}
+use Rattle.std.specs.Prelude.{◌≡◌, ◌≢◌, ℕ, zero, suc, ◌+◌, ◌<◌, ◌≤◌, ◌==◌, nat_le, Bool, true, false, not, cond, ◌&&◌}
+use Rattle.std.specs.Prelude.{◌||◌, List, length, Option, None, Some, is_some, unwrap_or, refl}
 use Rattle.std.specs.List.{list_any}
 use Rattle.std.proofs.Common.{arith, sym, ◌∙◌, ap, subst, inl, inr, add-zero}
-use Rattle.std.proofs.lemmas.Bool.{both_ways, cases_Bool, cases_lt, and_left, and_right, and_from, and_parts, cond-true, cond-false, eq-eqb, ne_eqb, not-true, false_from_ne_true}
+use Rattle.std.proofs.lemmas.Bool.{both_ways, cases_Bool, cases_lt, and_left, and_right, and_from, and_parts, cond-true}
+use Rattle.std.proofs.lemmas.Bool.{cond-false, eq-eqb, ne_eqb, not-true, false_from_ne_true}
 use Rattle.std.proofs.lemmas.List.{get_or_past}
 use Rattle.std.proofs.Math.Bool.{or-false}
 use Rattle.ffs_volume.specs.Directories.Roles.{RoledEntry}
@@ -12,7 +14,8 @@ use Rattle.ffs_volume.specs.Directories.Graph.{Graph, names, names_in, edge, lev
 use Rattle.ffs_volume.proofs.Graphs.{IsSane}
 use Rattle.ffs_volume.proofs.LevelLaws.{reached-edge, reached-root}
 use Rattle.ffs_survey.specs.Survey.{bool_at, number_at, dir_at, is_dir_kind, graph_with, counted_in, IsSurvey}
-use Rattle.ffs_survey.specs.Discover.{Counts, count_in, any_in, none, never, counted_by, IsReachedPart, is_free, is_free_edge, IsRead}
+use Rattle.ffs_survey.specs.Discover.{Counts, count_in, any_in, none, never, counted_by, IsReachedPart, is_free}
+use Rattle.ffs_survey.specs.Discover.{is_free_edge, IsRead}
 use Rattle.ffs_volume.proofs.Unreached.{parent-unreached}
 use Rattle.ffs_survey.proofs.Totals.{counted_both, some_both}
 use Rattle.ffs_survey.proofs.Discovered.{dir_below}
@@ -21,19 +24,23 @@ use Rattle.ffs_survey.proofs.Discovered.{dir_below}
 pub first_same : (p q : ℕ → Bool) (n : ℕ) → ((s : ℕ) → s < n → p s ≡ q s) → first_below p n ≡ first_below q n
 unfolding first_below
 first_same p q zero h = refl
-first_same p q (suc n) h = ap (λ o. earliest o (p n) n) (first_same p q n (λ s l. h s (omega arith))) ∙ ap (λ b. earliest (first_below q n) b n) (h n (omega arith))
+first_same p q (suc n) h = ap (λ o. earliest o (p n) n) (first_same p q n (λ s l. h s (omega arith)))
+    ∙ ap (λ b. earliest (first_below q n) b n) (h n (omega arith))
 
 -- nothing is read before the first
-pub read_start : (g : Graph) (kinds : List ℕ) (r : List Bool) (f : List ℕ) (m : List Bool) (p : List ℕ) → IsRead g kinds r 0 f m p f m p
+pub read_start : (g : Graph) (kinds : List ℕ) (r : List Bool) (f : List ℕ) (m : List Bool) (p : List ℕ) →
+    IsRead g kinds r 0 f m p f m p
 unfolding counted_by first_below
-read_start g kinds r f m p = record { references = λ x l. sym (add-zero (number_at f x)); named = λ x l. go (bool_at m x); parents = λ x l. refl }
+read_start g kinds r f m p = record
+    { references = λ x l. sym (add-zero (number_at f x)); named = λ x l. go (bool_at m x); parents = λ x l. refl }
   where
     go : (b : Bool) → b ≡ (b || false)
     go true = refl
     go false = refl
 
 -- the first parent, one directory further
-first_step : (p : ℕ → Bool) (s o q q' : ℕ) (a : Bool) → p 0 ≡ false → (a ≡ true → o ≡ 0) → p s ≡ a → q ≡ unwrap_or (first_below p s) o → q' ≡ cond ((q == 0) && a) s q → q' ≡ unwrap_or (first_below p (suc s)) o
+first_step : (p : ℕ → Bool) (s o q q' : ℕ) (a : Bool) → p 0 ≡ false → (a ≡ true → o ≡ 0) → p s ≡ a →
+    q ≡ unwrap_or (first_below p s) o → q' ≡ cond ((q == 0) && a) s q → q' ≡ unwrap_or (first_below p (suc s)) o
 unfolding first_below earliest
 first_step p s o q q' a z k e h w = go (first_below p s) (p s) refl e h
   where
@@ -45,35 +52,44 @@ first_step p s o q q' a z k e h w = go (first_below p s) (p s) refl e h
     go None true i j u = w ∙ cond-true ((q == 0) && a) s q (and_from (q == 0) a (eq-eqb q 0 (u ∙ k (sym j))) (sym j))
     go None false i j u = w ∙ (cond-false ((q == 0) && a) s q (and_right (q == 0) a (sym j)) ∙ u)
 
-zero-edge : (kinds : List ℕ) (entries : ℕ → List RoledEntry) (r : List Bool) (x : ℕ) → is_free_edge (graph_with kinds entries) kinds r x 0 ≡ false
+zero-edge : (kinds : List ℕ) (entries : ℕ → List RoledEntry) (r : List Bool) (x : ℕ) →
+    is_free_edge (graph_with kinds entries) kinds r x 0 ≡ false
 zero-edge kinds entries r x =
     and_right (is_free kinds r x) _ (and_right (not (bool_at r 0)) (names_in (graph_with kinds entries) 0 x)
-    (and_left (dir_at kinds 0) (list_any (names x) (entries 0)) (and_left (nat_le 2 0) (is_dir_kind (number_at kinds 0)) refl)))
+    (and_left (dir_at kinds 0) (list_any (names x) (entries 0))
+    (and_left (nat_le 2 0) (is_dir_kind (number_at kinds 0)) refl)))
 
 -- a directory without a mark is read
-pub read_on : (kinds : List ℕ) (entries : ℕ → List RoledEntry) (r : List Bool) (s : ℕ) (f f' f'' : List ℕ) (m m' m'' : List Bool) (p p' p'' : List ℕ)
+pub read_on : (kinds : List ℕ) (entries : ℕ → List RoledEntry) (r : List Bool) (s : ℕ) (f f' f'' : List ℕ)
+    (m m' m'' : List Bool) (p p' p'' : List ℕ)
     → is_free kinds r s ≡ true → ((x : ℕ) → is_free kinds r x ≡ true → number_at p x ≡ 0)
     → IsRead (graph_with kinds entries) kinds r s f m p f' m' p'
     → Counts (length kinds) (count_in (entries s)) (any_in (entries s)) f' m' none never f'' m''
-    → ((x : ℕ) → x < length kinds → number_at p'' x ≡ cond ((number_at p' x == 0) && (is_free kinds r x && any_in (entries s) x)) s (number_at p' x))
+    → ((x : ℕ) → x < length kinds →
+    number_at p'' x ≡ cond ((number_at p' x == 0) && (is_free kinds r x && any_in (entries s) x)) s
+    (number_at p' x))
     → IsRead (graph_with kinds entries) kinds r (s + 1) f m p f'' m'' p''
 unfolding counted_by
-read_on kinds entries r s f f' f'' m m' m'' p p' p'' free blank i c u = subst (λ n. IsRead g kinds r n f m p f'' m'' p'') one (record {
-  references = λ x l.
-      let a = i.references x l in
-      let b = c.references x l in
-      let d = cond-true (not (bool_at r s)) (counted_in g s x) 0 unmarked in
-      let e = cond-true (dir_at kinds s) (count_in (entries s) x) 0 dir in
-      omega (arith, a, b, d, e);
-  named = λ x l.
-      sym (or-false (bool_at m'' x)) ∙ (c.named x l ∙ (ap (λ y. y || any_in (entries s) x) (i.named x l)
-      ∙ (ap (λ y. (bool_at m x || some_below (λ t. not (bool_at r t) && names_in g t x) s) || y) (share x)
-      ∙ (assoc (bool_at m x) (some_below (λ t. not (bool_at r t) && names_in g t x) s) (not (bool_at r s) && names_in g s x)
-      ∙ ap (λ y. bool_at m x || y) (sym (some_below-suc (λ t. not (bool_at r t) && names_in g t x) s))))));
-  parents = λ x l.
-      first_step (is_free_edge g kinds r x) s (number_at p x) (number_at p' x) (number_at p'' x) (is_free kinds r x && any_in (entries s) x) (zero-edge kinds entries r x)
-      (λ t. blank x (and_parts (is_free kinds r x) (any_in (entries s) x) t).0) (ap (λ y. is_free kinds r x && y) (sym (share x))) (i.parents x l) (u x l);
-})
+read_on kinds entries r s f f' f'' m m' m'' p p' p'' free blank i c u =
+    subst (λ n. IsRead g kinds r n f m p f'' m'' p'') one (record {
+      references = λ x l.
+          let a = i.references x l in
+          let b = c.references x l in
+          let d = cond-true (not (bool_at r s)) (counted_in g s x) 0 unmarked in
+          let e = cond-true (dir_at kinds s) (count_in (entries s) x) 0 dir in
+          omega (arith, a, b, d, e);
+      named = λ x l.
+          sym (or-false (bool_at m'' x)) ∙ (c.named x l ∙ (ap (λ y. y || any_in (entries s) x) (i.named x l)
+          ∙ (ap (λ y. (bool_at m x || some_below (λ t. not (bool_at r t) && names_in g t x) s) || y) (share x)
+          ∙ (assoc (bool_at m x) (some_below (λ t. not (bool_at r t) && names_in g t x) s)
+          (not (bool_at r s) && names_in g s x)
+          ∙ ap (λ y. bool_at m x || y) (sym (some_below-suc (λ t. not (bool_at r t) && names_in g t x) s))))));
+      parents = λ x l.
+          first_step (is_free_edge g kinds r x) s (number_at p x) (number_at p' x) (number_at p'' x)
+          (is_free kinds r x && any_in (entries s) x) (zero-edge kinds entries r x)
+          (λ t. blank x (and_parts (is_free kinds r x) (any_in (entries s) x) t).0)
+          (ap (λ y. is_free kinds r x && y) (sym (share x))) (i.parents x l) (u x l);
+    })
   where
     g : Graph
     g = graph_with kinds entries
@@ -100,13 +116,20 @@ read_on kinds entries r s f f' f'' m m' m'' p p' p'' free blank i c u = subst (�
         go false b d h k = absurd (cc)
 
 -- any other is passed over
-pub read_skip : (kinds : List ℕ) (entries : ℕ → List RoledEntry) (r : List Bool) (s : ℕ) (f f' : List ℕ) (m m' : List Bool) (p p' : List ℕ)
-    → is_free kinds r s ≡ false → IsRead (graph_with kinds entries) kinds r s f m p f' m' p' → IsRead (graph_with kinds entries) kinds r (s + 1) f m p f' m' p'
+pub read_skip : (kinds : List ℕ) (entries : ℕ → List RoledEntry) (r : List Bool) (s : ℕ) (f f' : List ℕ)
+    (m m' : List Bool) (p p' : List ℕ)
+    → is_free kinds r s ≡ false → IsRead (graph_with kinds entries) kinds r s f m p f' m' p' →
+    IsRead (graph_with kinds entries) kinds r (s + 1) f m p f' m' p'
 unfolding counted_by first_below earliest
 read_skip kinds entries r s f f' m m' p p' taken i = subst (λ n. IsRead g kinds r n f m p f' m' p') one (record {
-  references = λ x l. let a = i.references x l in let b = zero_share (dir_at kinds s) (bool_at r s) (count_in (entries s) x) taken in omega (arith, a, b);
-  named = λ x l. i.named x l ∙ ap (λ y. bool_at m x || y) (sym (some_below-suc (λ t. not (bool_at r t) && names_in g t x) s ∙ or_skip _ _ (no_share x)));
-  parents = λ x l. i.parents x l ∙ ap (λ o. unwrap_or o (number_at p x)) (same_first (first_below (is_free_edge g kinds r x) s) _ (and_right (is_free kinds r x) _ (no_share x)));
+  references = λ x l. let a = i.references x l in let b =
+      zero_share (dir_at kinds s) (bool_at r s) (count_in (entries s) x) taken in omega (arith, a, b);
+  named = λ x l. i.named x l
+      ∙ ap (λ y. bool_at m x || y)
+      (sym (some_below-suc (λ t. not (bool_at r t) && names_in g t x) s ∙ or_skip _ _ (no_share x)));
+  parents = λ x l. i.parents x l
+      ∙ ap (λ o. unwrap_or o (number_at p x))
+      (same_first (first_below (is_free_edge g kinds r x) s) _ (and_right (is_free kinds r x) _ (no_share x)));
 })
   where
     g : Graph
@@ -140,19 +163,22 @@ read_skip kinds entries r s f f' m m' p p' taken i = subst (λ n. IsRead g kinds
     same_first None false h = refl
 
 -- what has no mark and no parent yet
-pub free_blank : (kinds : List ℕ) (entries : ℕ → List RoledEntry) (f : List ℕ) (m r : List Bool) (p : List ℕ) → IsReachedPart (graph_with kinds entries) f m r p → (x : ℕ) → is_free kinds r x ≡ true → number_at p x ≡ 0
+pub free_blank : (kinds : List ℕ) (entries : ℕ → List RoledEntry) (f : List ℕ) (m r : List Bool) (p : List ℕ) →
+    IsReachedPart (graph_with kinds entries) f m r p → (x : ℕ) → is_free kinds r x ≡ true → number_at p x ≡ 0
 free_blank kinds entries f m r p i x h =
     let g = graph_with kinds entries in
     let off : bool_at r x ≡ false = not-true _ (and_parts (dir_at kinds x) (not (bool_at r x)) h).1 in
     i.parent x ∙ ap (λ o. unwrap_or o 0) (cond-false (is_some (level g x)) (parent g x) None (sym (i.reached x) ∙ off))
 
 -- a reached directory has no edge to an unreached one
-free_edges : (kinds : List ℕ) (entries : ℕ → List RoledEntry) (r : List Bool) (x s : ℕ) → s < length kinds → x < length kinds → ((y : ℕ) → bool_at r y ≡ reached (graph_with kinds entries) y) → bool_at r x ≡ false
+free_edges : (kinds : List ℕ) (entries : ℕ → List RoledEntry) (r : List Bool) (x s : ℕ) → s < length kinds →
+    x < length kinds → ((y : ℕ) → bool_at r y ≡ reached (graph_with kinds entries) y) → bool_at r x ≡ false
     → is_free_edge (graph_with kinds entries) kinds r x s ≡ edge (graph_with kinds entries) s x
 free_edges kinds entries r x s ls lx h off =
     elim (cases_Bool (bool_at r s)) [
       | inl y ↦
-          let none : edge g s x ≡ false = false_from_ne_true (edge g s x) (λ t. both_ways (reached g x) (sym (h x) ∙ off) (reached-edge g s x ls lx (sym (h s) ∙ y) t)) in
+          let none : edge g s x ≡ false = false_from_ne_true (edge g s x)
+          (λ t. both_ways (reached g x) (sym (h x) ∙ off) (reached-edge g s x ls lx (sym (h s) ∙ y) t)) in
           and_right (is_free kinds r x) _ (and_left (not (bool_at r s)) (names_in g s x) (ap not y)) ∙ sym none
       | inr z ↦ go (dir_at kinds x) (bool_at r x) (bool_at r s) (names_in g s x) off z
     ]
@@ -169,11 +195,16 @@ free_edges kinds entries r x s ls lx h off =
 -- both parts
 pub survey_whole : (kinds : List ℕ) (entries : ℕ → List RoledEntry) (f f' : List ℕ) (m m' r : List Bool) (p p' : List ℕ)
     → IsSane (graph_with kinds entries) → length r ≡ length kinds → length p' ≡ length kinds
-    → IsReachedPart (graph_with kinds entries) f m r p → IsRead (graph_with kinds entries) kinds r (length kinds) f m p f' m' p'
+    → IsReachedPart (graph_with kinds entries) f m r p → IsRead (graph_with kinds entries) kinds r (length kinds) f m p
+    f' m' p'
     → IsSurvey (graph_with kinds entries) f' m' r p'
 survey_whole kinds entries f f' m m' r p p' sane lr lp i k = record {
-  counts = λ x l. k.references x l ∙ (ap (λ z. z + counted_by (λ s. not (bool_at r s)) g x (length kinds)) (i.references x l) ∙ counted_both (bool_at r) g x (length kinds));
-  names = λ x l. k.named x l ∙ (ap (λ b. b || some_below (λ s. not (bool_at r s) && names_in g s x) (length kinds)) (i.named x l) ∙ some_both (bool_at r) (λ s. names_in g s x) (length kinds));
+  counts = λ x l. k.references x l
+      ∙ (ap (λ z. z + counted_by (λ s. not (bool_at r s)) g x (length kinds)) (i.references x l)
+      ∙ counted_both (bool_at r) g x (length kinds));
+  names = λ x l. k.named x l
+      ∙ (ap (λ b. b || some_below (λ s. not (bool_at r s) && names_in g s x) (length kinds)) (i.named x l)
+      ∙ some_both (bool_at r) (λ s. names_in g s x) (length kinds));
   reaches = i.reached;
   ups = λ x. elim (cases_lt x (length kinds)) [ inl l ↦ below x l | inr b ↦ past x b ];
 }
@@ -182,22 +213,35 @@ survey_whole kinds entries f f' m m' r p p' sane lr lp i k = record {
     g = graph_with kinds entries
 
     unreached_first : (x : ℕ) → bool_at r x ≡ false → parent g x ≡ first_below (λ s. edge g s x) (length kinds)
-    unreached_first x off = parent-unreached g x (λ y. both_ways (reached g 2) (subst (λ z. reached g z ≡ false) y (sym (i.reached x) ∙ off)) (reached-root g sane.some)) (sym (i.reached x) ∙ off)
+    unreached_first x off = parent-unreached g x
+        (λ y. both_ways (reached g 2) (subst (λ z. reached g z ≡ false) y (sym (i.reached x) ∙ off))
+        (reached-root g sane.some)) (sym (i.reached x) ∙ off)
 
     past : (x : ℕ) → length kinds ≤ x → number_at p' x ≡ unwrap_or (parent g x) 0
     past x b =
         let off : bool_at r x ≡ false = get_or_past r x false (omega arith) in
-        let dry : dir_at kinds x ≡ false = false_from_ne_true (dir_at kinds x) (λ t. absurd (let l = dir_below kinds x t in omega arith)) in
-        get_or_past p' x 0 (omega arith) ∙ sym (ap (λ o. unwrap_or o 0) (unreached_first x off ∙ first_below-is_none (λ s. edge g s x) (length kinds) (λ s l. and_left (dir_at kinds x) (names_in g s x) dry)))
+        let dry : dir_at kinds x ≡ false =
+        false_from_ne_true (dir_at kinds x) (λ t. absurd (let l = dir_below kinds x t in omega arith)) in
+        get_or_past p' x 0 (omega arith)
+        ∙ sym (ap (λ o. unwrap_or o 0)
+        (unreached_first x off ∙ first_below-is_none (λ s. edge g s x) (length kinds)
+        (λ s l. and_left (dir_at kinds x) (names_in g s x) dry)))
 
     below : (x : ℕ) → x < length kinds → number_at p' x ≡ unwrap_or (parent g x) 0
     below x l = elim (cases_Bool (bool_at r x)) [
       | inl on ↦
           let nothing_free : is_free kinds r x ≡ false = and_right (dir_at kinds x) (not (bool_at r x)) (ap not on) in
-          k.parents x l ∙ (ap (λ o. unwrap_or o (number_at p x)) (first_below-is_none (is_free_edge g kinds r x) (length kinds) (λ s b. and_left (is_free kinds r x) _ nothing_free))
-          ∙ (i.parent x ∙ ap (λ o. unwrap_or o 0) (cond-true (is_some (level g x)) (parent g x) None (sym (i.reached x) ∙ on))))
+          k.parents x l ∙ (ap (λ o. unwrap_or o (number_at p x))
+          (first_below-is_none (is_free_edge g kinds r x) (length kinds)
+          (λ s b. and_left (is_free kinds r x) _ nothing_free))
+          ∙ (i.parent x ∙ ap (λ o. unwrap_or o 0)
+          (cond-true (is_some (level g x)) (parent g x) None (sym (i.reached x) ∙ on))))
       | inr off ↦
-          let zero_before : number_at p x ≡ 0 = i.parent x ∙ ap (λ o. unwrap_or o 0) (cond-false (is_some (level g x)) (parent g x) None (sym (i.reached x) ∙ off)) in
-          k.parents x l ∙ (ap (λ o. unwrap_or o (number_at p x)) (first_same (is_free_edge g kinds r x) (λ s. edge g s x) (length kinds) (λ s b. free_edges kinds entries r x s b l i.reached off))
-          ∙ (ap (unwrap_or (first_below (λ s. edge g s x) (length kinds))) zero_before ∙ ap (λ o. unwrap_or o 0) (sym (unreached_first x off))))
+          let zero_before : number_at p x ≡ 0 = i.parent x
+          ∙ ap (λ o. unwrap_or o 0) (cond-false (is_some (level g x)) (parent g x) None (sym (i.reached x) ∙ off)) in
+          k.parents x l ∙ (ap (λ o. unwrap_or o (number_at p x))
+          (first_same (is_free_edge g kinds r x) (λ s. edge g s x) (length kinds)
+          (λ s b. free_edges kinds entries r x s b l i.reached off))
+          ∙ (ap (unwrap_or (first_below (λ s. edge g s x) (length kinds))) zero_before
+          ∙ ap (λ o. unwrap_or o 0) (sym (unreached_first x off))))
     ]

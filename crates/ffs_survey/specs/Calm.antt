@@ -48,10 +48,12 @@ are_calm s reached i (e ∷ es) = is_calm_entry s reached i e && are_calm s (rea
 
 -- The directory d is calm: its shape is right, and so are its entries, by what was reached before it. It is reached,
 -- and each directory that it names is reached from it.
-pub record IsCalm (kinds : List ℕ) (marked reached : List Bool) (parents : List ℕ) (entries : List RoledEntry) (sound : Bool) (d : ℕ) : Type 0 where
+pub record IsCalm (kinds : List ℕ) (marked reached : List Bool) (parents : List ℕ) (entries : List RoledEntry)
+    (sound : Bool) (d : ℕ) : Type 0 where
   pub before : ℕ → Bool
   pub begins : before d ≡ true
-  pub entries_right : are_calm (record { kinds = kinds; marked = marked; dir = d; above = number_at parents d }) before 0 entries ≡ true
+  pub entries_right : are_calm (record { kinds = kinds; marked = marked; dir = d; above = number_at parents d })
+      before 0 entries ≡ true
   pub shape_right : sound ≡ true
   pub is_reached : bool_at reached d ≡ true
   pub below : (x : ℕ) → dir_at kinds x ≡ true → list_any (names x) entries ≡ true

@@ -121,7 +121,8 @@ abbrev pub IsBlank : List ℕ → List Bool → List ℕ → Type 0
 IsBlank kinds r p = (x : ℕ) → is_free kinds r x ≡ true → number_at p x ≡ 0
 
 -- what the directories below n without a mark add to counts and flags, and which parents they give
-pub record IsRead (g : Graph) (kinds : List ℕ) (r : List Bool) (n : ℕ) (f : List ℕ) (m : List Bool) (p f' : List ℕ) (m' : List Bool) (p' : List ℕ) : Type 0 where
+pub record IsRead (g : Graph) (kinds : List ℕ) (r : List Bool) (n : ℕ) (f : List ℕ) (m : List Bool) (p f' : List ℕ)
+    (m' : List Bool) (p' : List ℕ) : Type 0 where
   pub references : (x : ℕ) → x < g.count → number_at f' x ≡ number_at f x + counted_by (λ s. not (bool_at r s)) g x n
   pub named : (x : ℕ) → x < g.count → bool_at m' x ≡ (bool_at m x
       || is_some (first_below (λ s. not (bool_at r s) && names_in g s x) n))

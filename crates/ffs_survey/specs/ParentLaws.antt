@@ -21,7 +21,8 @@ unfolding parent
 parent_above g k d h = go (first_below (level_edge g k d) g.count) refl
   where
     not_root : d ≢ 2
-    not_root = λ e. let l = level-some g (suc k) d h in both_ways _ (l.0.least 0 (omega arith)) (within-zero g d ∙ eq-eqb d 2 e)
+    not_root = λ e. let l = level-some g (suc k) d h in
+        both_ways _ (l.0.least 0 (omega arith)) (within-zero g d ∙ eq-eqb d 2 e)
 
     is_by : parent g d ≡ first_below (level_edge g k d) g.count
     is_by = cond-false (d == 2) (Some 2) (parent_by g d (level g d)) (ne_eqb d 2 not_root) ∙ ap (parent_by g d) h
@@ -34,7 +35,8 @@ parent_above g k d h = go (first_below (level_edge g k d) g.count) refl
     go None e =
         let b = level-before g k d (level-some g (suc k) d h).0 in
         absurd (both_ways (level_edge g k d b.0) (first_below-none (level_edge g k d) g.count e b.0 b.1)
-        (and_from (is_value (level g b.0) k) (edge g b.0 d) (is_value-from (level g b.0) k (level-is g k b.0 b.1 b.2)) b.3))
+        (and_from (is_value (level g b.0) k) (edge g b.0 d) (is_value-from (level g b.0) k (level-is g k b.0 b.1 b.2))
+        b.3))
 
 -- level 0 is inode 2 alone
 pub root_level : (g : Graph) (d : ℕ) → level g d ≡ Some 0 → d ≡ 2

@@ -8,7 +8,10 @@ use Rattle.ffs_survey.specs.declared.named.Named.{Named}
 
 -- the entry with its name
 abbrev pub roled_of : Named → List ℕ → RoledEntry
-roled_of e name = record { role = e.role; entry = record { number = e.number; length = e.length; kind = e.kind; name = name } }
+roled_of e name = record {
+  role = e.role;
+  entry = record { number = e.number; length = e.length; kind = e.kind; name = name };
+}
 
 -- of the entries of each directory, and of which directories have a sound shape, by each list of bytes that a reader's
 -- base knows to be the image's

@@ -21,7 +21,8 @@ use Rattle.ffs_survey.specs.Survey.{graph_with, references_below, references_to,
 pub graph_is : (v : Volume) (kinds : List ℕ) (entries : ℕ → List RoledEntry) → length kinds ≡ v.count
     → ((x : ℕ) → dir_at kinds x ≡ is_dir v x) → ((d : ℕ) → entries d ≡ roled_entries v d)
     → graph_with kinds entries ≡ graph_of v
-graph_is v kinds entries n d e = ap (λ z. with_count z (dir_at kinds) entries) n ∙ (ap (λ z. with_count v.count z entries) (fun_ext d) ∙ ap (λ z. with_count v.count (is_dir v) z) (fun_ext e))
+graph_is v kinds entries n d e = ap (λ z. with_count z (dir_at kinds) entries) n
+    ∙ (ap (λ z. with_count v.count z entries) (fun_ext d) ∙ ap (λ z. with_count v.count (is_dir v) z) (fun_ext e))
   where
     with_count : ℕ → (ℕ → Bool) → (ℕ → List RoledEntry) → Graph
     with_count n d e = record { count = n; is_dir = d; entries = e }
@@ -72,7 +73,8 @@ file_kind : (v : Layout) (i : Inode) → class_of v i ≡ File → is_dir_kind (
 unfolding class_of class_by
 file_kind v i h =
     let free = i.mode == 0 && (i.size == 0 && not (is_any_set i.addresses)) in
-    false_from_ne_true (is_dir_kind (type_of i.mode)) (λ t. elim (or_cases (type_of i.mode == 4) (type_of i.mode == 5) t) [
+    false_from_ne_true (is_dir_kind (type_of i.mode))
+    (λ t. elim (or_cases (type_of i.mode == 4) (type_of i.mode == 5) t) [
       | inl four ↦ four_no_file (type_of i.mode) _ _ (eqb-true (type_of i.mode) 4 four) h
       | inr five ↦ five_no_file (type_of i.mode) _ _ (eqb-true (type_of i.mode) 5 five) h
     ])

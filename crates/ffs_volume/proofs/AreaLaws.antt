@@ -1,5 +1,6 @@
 -- Laws of the areas of an accepted layout.
-use Rattle.std.proofs.Common.{zero, suc, inl, inr, ◌≡◌, ◌∙◌, ℕ, ◌+◌, ◌-◌, ◌*◌, ◌/◌, ◌<◌, ◌≤◌, Bool, true, false, arith, refl, sym}
+use Rattle.std.proofs.Common.{zero, suc, inl, inr, ◌≡◌, ◌∙◌, ℕ, ◌+◌, ◌-◌, ◌*◌, ◌/◌, ◌<◌, ◌≤◌, Bool, true, false, arith}
+use Rattle.std.proofs.Common.{refl, sym}
 use Rattle.std.proofs.Math.Nat.{div-eq_of_lt-le, mul-le-mul_right, mul_comm, div-add-mod', mod-lt}
 use Rattle.std.specs.Int.{div_ceil}
 use Rattle.ffs_volume.specs.Disk.Outcome.{copy_place}
@@ -14,7 +15,8 @@ use Rattle.ffs_volume.specs.Disk.Areas.{cgbase, cgstart, cgsblock, cgdmin, is_gr
 use Rattle.ffs_volume.specs.Disk.Geometry.{IsValidLayout}
 
 -- a test that at most one number passes
-some_below-only : (n i : ℕ) (test : ℕ → Bool) → ((c : ℕ) → c < n → test c ≡ true → c ≡ i) → some_below test n ≡ (nat_lt i n && test i)
+some_below-only : (n i : ℕ) (test : ℕ → Bool) → ((c : ℕ) → c < n → test c ≡ true → c ≡ i) →
+    some_below test n ≡ (nat_lt i n && test i)
 unfolding first_below
 some_below-only zero i test only = grind (arith, nat_tests)
 some_below-only (suc n) i test only =
@@ -22,21 +24,26 @@ some_below-only (suc n) i test only =
     let here : test n ≡ true → n ≡ i = only n (omega arith) in
     some_below-suc test n ∙ one (test n) refl before here
   where
-    one : (b : Bool) → test n ≡ b → some_below test n ≡ (nat_lt i n && test i) → (test n ≡ true → n ≡ i) → (some_below test n || test n) ≡ (nat_lt i (suc n) && test i)
-    one true e before here = let same : n ≡ i = here e in let p : test i ≡ true = rw (← same) e in grind (arith, nat_tests)
-    one false e before here = elim (cases_lt i n) [ inl less ↦ grind (arith, nat_tests) | inr more ↦ grind (arith, nat_tests) ]
+    one : (b : Bool) → test n ≡ b → some_below test n ≡ (nat_lt i n && test i) → (test n ≡ true → n ≡ i) →
+        (some_below test n || test n) ≡ (nat_lt i (suc n) && test i)
+    one true e before here = let same : n ≡ i = here e in let p : test i ≡ true = rw (← same) e in
+        grind (arith, nat_tests)
+    one false e before here =
+        elim (cases_lt i n) [ inl less ↦ grind (arith, nat_tests) | inr more ↦ grind (arith, nat_tests) ]
 
 -- the group of a fragment between a group's base and its end
 pub group_is : (v : Layout) (c f : ℕ) → cgbase v c ≤ f → f < cgbase v (c + 1) → f / v.fpg ≡ c
 unfolding cgbase
-group_is v c f low high = div-eq_of_lt-le {k = c} v.fpg {m = f} (omega (arith, mul_comm c v.fpg)) (omega (arith, mul_comm (c + 1) v.fpg))
+group_is v c f low high = div-eq_of_lt-le {k = c} v.fpg {m = f} (omega (arith, mul_comm c v.fpg))
+    (omega (arith, mul_comm (c + 1) v.fpg))
 
 -- whether f is in the metadata of group c
 abbrev pub in_kept : Layout → ℕ → ℕ → Bool
 in_kept v c f = nat_le (cgsblock v c) f && nat_lt f (cgdmin v c)
 
 -- only a fragment's own group can keep it
-pub is_kept_group : (v : Layout) (f : ℕ) → IsValidLayout v → is_group_metadata v f ≡ (nat_lt (f / v.fpg) v.ncg && in_kept v (f / v.fpg) f)
+pub is_kept_group : (v : Layout) (f : ℕ) → IsValidLayout v →
+    is_group_metadata v f ≡ (nat_lt (f / v.fpg) v.ncg && in_kept v (f / v.fpg) f)
 unfolding is_group_metadata cgstart
 is_kept_group v f g = some_below-only v.ncg (f / v.fpg) (λ c. in_kept v c f) only
   where
@@ -65,7 +72,8 @@ copy_inside v g =
     let units = div_ceil v.sbsize v.fsize in
     let covered : v.sbsize ≤ div_ceil v.sbsize v.fsize * v.fsize = div_ceil_covers v.sbsize v.fsize (omega arith) in
     let ends : cgsblock v (v.ncg - 1) + div_ceil v.sbsize v.fsize ≤ v.size = omega arith in
-    let scaled : (cgsblock v (v.ncg - 1) + div_ceil v.sbsize v.fsize) * v.fsize ≤ v.size * v.fsize = mul-le-mul_right v.fsize ends in
+    let scaled : (cgsblock v (v.ncg - 1) + div_ceil v.sbsize v.fsize) * v.fsize ≤ v.size * v.fsize =
+    mul-le-mul_right v.fsize ends in
     omega arith
 
 -- no fragment from size on is kept

@@ -1,5 +1,6 @@
 -- A directory has no more chunks than the size of it that is read.
-use Rattle.std.proofs.Common.{◌≡◌, ℕ, ◌+◌, ◌-◌, ◌*◌, ◌/◌, ◌≤◌, Bool, true, false, arith, ◌∙◌, List, [], ◌∷◌, ◌++◌, length, length-append, Some, None}
+use Rattle.std.proofs.Common.{◌≡◌, ℕ, ◌+◌, ◌-◌, ◌*◌, ◌/◌, ◌≤◌, Bool, true, false, arith, ◌∙◌, List, [], ◌∷◌, ◌++◌}
+use Rattle.std.proofs.Common.{length, length-append, Some, None}
 use Rattle.std.specs.Prelude.{min, if◌then◌else◌}
 use Rattle.std.specs.List.{range_with_len}
 use Rattle.std.proofs.lemmas.List.{length-map}
@@ -12,19 +13,23 @@ use Rattle.ffs_volume.proofs.StepLaws.{Within}
 use Rattle.ffs_volume.specs.Directories.Entries.{ChunkSource, chunk_of, run_chunks, chunks_of}
 
 -- how many chunks a Run has
-run_length : (r : ChunkSource) (start len offset : ℕ) → length (run_chunks r start len offset) ≡ min (len * r.fsize / 512) ((r.taken - offset) / 512)
+run_length : (r : ChunkSource) (start len offset : ℕ) → length (run_chunks r start len offset)
+    ≡ min (len * r.fsize / 512) ((r.taken - offset) / 512)
 run_length r start len offset =
-    length-map (range_with_len 0 (min (len * r.fsize / 512) ((r.taken - offset) / 512))) (λ k. chunk_of r.order (offset + 512 * k) (piece (start * r.fsize + 512 * k) 512 r.image))
+    length-map (range_with_len 0 (min (len * r.fsize / 512) ((r.taken - offset) / 512)))
+    (λ k. chunk_of r.order (offset + 512 * k) (piece (start * r.fsize + 512 * k) 512 r.image))
     ∙ length-range_with_len 0 (min (len * r.fsize / 512) ((r.taken - offset) / 512))
 
 -- the chunks of steps in the order of their blocks
-pub chunks_few : (r : ChunkSource) (test : ℕ → ℕ → Bool) (frag low high : ℕ) (steps : List Step) → frag * r.fsize ≤ r.bsize → Within frag low high steps
+pub chunks_few : (r : ChunkSource) (test : ℕ → ℕ → Bool) (frag low high : ℕ) (steps : List Step) →
+    frag * r.fsize ≤ r.bsize → Within frag low high steps
     → 512 * length (chunks_of r test steps) ≤ r.taken - low * r.bsize
 chunks_few r test frag low high [] f w = omega arith
 chunks_few r test frag low high (Run start len None ∷ steps) f w = chunks_few r test frag low high steps f w.1
 chunks_few r test frag low high (Tail ∷ steps) f w = chunks_few r test frag low high steps f w
 chunks_few r test frag low high (Gap ∷ steps) f w = chunks_few r test frag low high steps f w
-chunks_few r test frag low high (Run start len (Some block) ∷ steps) f w = one (test start len) (chunks_few r test frag (block + 1) high steps f w.2)
+chunks_few r test frag low high (Run start len (Some block) ∷ steps) f w =
+    one (test start len) (chunks_few r test frag (block + 1) high steps f w.2)
   where
     place : low * r.bsize ≤ block * r.bsize
     place = mul-le-mul_right r.bsize w.0
@@ -37,11 +42,13 @@ chunks_few r test frag low high (Run start len (Some block) ∷ steps) f w = one
         let n = run_length r start len (block * r.bsize) in
         let a : len * r.fsize ≤ frag * r.fsize = mul-le-mul_right r.fsize w.1.1 in
         let b : 512 * (len * r.fsize / 512) ≤ len * r.fsize = mul-div-le (len * r.fsize) 512 in
-        let d : 512 * ((r.taken - block * r.bsize) / 512) ≤ r.taken - block * r.bsize = mul-div-le (r.taken - block * r.bsize) 512 in
+        let d : 512 * ((r.taken - block * r.bsize) / 512) ≤ r.taken - block * r.bsize =
+        mul-div-le (r.taken - block * r.bsize) 512 in
         omega arith
 
     one : (b : Bool) → 512 * length (chunks_of r test steps) ≤ r.taken - (block + 1) * r.bsize
-        → 512 * length ((if b then run_chunks r start len (block * r.bsize) else []) ++ chunks_of r test steps) ≤ r.taken - low * r.bsize
+        → 512 * length ((if b then run_chunks r start len (block * r.bsize) else []) ++ chunks_of r test steps)
+        ≤ r.taken - low * r.bsize
     one true h =
         let p = place in let n = next in let k = few in
         let l = length-append (run_chunks r start len (block * r.bsize)) (chunks_of r test steps) in

@@ -1,7 +1,9 @@
 -- Laws of `specs/Directories/Climb`.
-use Rattle.std.specs.Prelude.{◌≡◌, ℕ, zero, suc, ◌+◌, ◌-◌, ◌<◌, ◌≤◌, Bool, true, not, refl, Option, None, Some, option_and_then}
+use Rattle.std.specs.Prelude.{◌≡◌, ℕ, zero, suc, ◌+◌, ◌-◌, ◌<◌, ◌≤◌, Bool, true, not, refl, Option, None, Some}
+use Rattle.std.specs.Prelude.{option_and_then}
 use Rattle.std.proofs.Common.{arith, sym, ◌∙◌, ap, subst, inl, inr}
-use Rattle.std.proofs.lemmas.Bool.{both_ways, cases_lt, eqb-true, eq-eqb, leb-true, le-leb, and_parts, and_from, not-true, not-false, not_from_true, not_from_false}
+use Rattle.std.proofs.lemmas.Bool.{both_ways, cases_lt, eqb-true, eq-eqb, leb-true, le-leb, and_parts, and_from}
+use Rattle.std.proofs.lemmas.Bool.{not-true, not-false, not_from_true, not_from_false}
 use Rattle.ffs_volume.specs.Disk.Search.{some_below}
 use Rattle.ffs_volume.proofs.SearchLaws.{some_below-gives, some_below-from, some_below-false, some_below-none}
 use Rattle.ffs_volume.proofs.Pigeon.{pigeon}
@@ -31,7 +33,8 @@ pub climb-one : (f : ℕ → Option ℕ) (d : ℕ) → climb f 1 d ≡ f d
 climb-one f d = climb-suc f 0 d d (climb-zero f d)
 
 -- the last step
-pub climb-last : (f : ℕ → Option ℕ) (k d s : ℕ) → climb f (suc k) d ≡ Some s → (e : ℕ) × (climb f k d ≡ Some e) × (f e ≡ Some s)
+pub climb-last : (f : ℕ → Option ℕ) (k d s : ℕ) → climb f (suc k) d ≡ Some s → (e : ℕ) × (climb f k d ≡ Some e)
+    × (f e ≡ Some s)
 unfolding climb
 climb-last f k d s h = go (climb f k d) h
   where
@@ -51,7 +54,8 @@ cycle-along f k d e c h = record {
   length = c.length;
   returns =
       let q : suc c.length + k ≡ k + suc c.length = omega arith in
-      sym (climb-add f (suc c.length) k d e h) ∙ (ap (λ m. climb f m d) q ∙ (climb-add f k (suc c.length) d d c.returns ∙ h));
+      sym (climb-add f (suc c.length) k d e h)
+      ∙ (ap (λ m. climb f m d) q ∙ (climb-add f k (suc c.length) d d c.returns ∙ h));
 }
 
 -- a cycle continues
@@ -78,7 +82,8 @@ cycle-goes f (suc k) d c =
     (q.0, climb-suc f k d p.0 p.1 ∙ q.1)
 
 -- what a cycle reaches, it reaches on the first way round
-pub cycle-within : (f : ℕ → Option ℕ) (m d s : ℕ) (c : OnCycle f d) → climb f m d ≡ Some s → (k : ℕ) × (k ≤ c.length) × (climb f k d ≡ Some s)
+pub cycle-within : (f : ℕ → Option ℕ) (m d s : ℕ) (c : OnCycle f d) → climb f m d ≡ Some s → (k : ℕ) × (k ≤ c.length)
+    × (climb f k d ≡ Some s)
 cycle-within f zero d s c h = (0, omega arith, h)
 cycle-within f (suc m) d s c h =
     let l = climb-last f m d s h in
@@ -86,8 +91,12 @@ cycle-within f (suc m) d s c h =
     elim (cases_lt p.0 c.length) [
       | inl lt ↦ (suc p.0, lt, climb-suc f p.0 d l.0 p.2 ∙ l.2)
       | inr ge ↦
-          let q : p.0 ≡ c.length = (let b = p.1 in omega arith) in
-          (0, omega arith, climb-zero f d ∙ (sym c.returns ∙ (climb-suc f c.length d l.0 (ap (λ m. climb f m d) (sym q) ∙ p.2) ∙ l.2)))
+          let q : p.0 ≡ c.length = (let b = p.1 in omega arith) in (
+            0,
+            omega arith,
+            climb-zero f d
+                ∙ (sym c.returns ∙ (climb-suc f c.length d l.0 (ap (λ m. climb f m d) (sym q) ∙ p.2) ∙ l.2)),
+          )
     ]
 
 at_least-from : (o : Option ℕ) (d : ℕ) → ((s : ℕ) → o ≡ Some s → d ≤ s) → none_or_at_least o d ≡ true
@@ -100,12 +109,15 @@ at_least-true o d s h e = leb-true d s (subst (λ x. none_or_at_least x d ≡ tr
 -- the test for what it says
 pub leads_cycle-from : (f : ℕ → Option ℕ) (n d : ℕ) (i : IsLeader f d) → i.cycle.length < n → leads_cycle f n d ≡ true
 leads_cycle-from f n d i b =
-    and_from _ _ (some_below-from (λ k. is_value (climb f (suc k) d) d) n i.cycle.length b (is_value-from _ d i.cycle.returns))
-    (not_from_false _ (some_below-none (λ k. not (none_or_at_least (climb f k d) d)) n (λ k l. not_from_true _ (at_least-from (climb f k d) d (i.least k)))))
+    and_from _ _ (some_below-from (λ k. is_value (climb f (suc k) d) d) n i.cycle.length b
+    (is_value-from _ d i.cycle.returns))
+    (not_from_false _ (some_below-none (λ k. not (none_or_at_least (climb f k d) d)) n
+    (λ k l. not_from_true _ (at_least-from (climb f k d) d (i.least k)))))
 
 pub leads_cycle-true : (f : ℕ → Option ℕ) (n d : ℕ) → leads_cycle f n d ≡ true → IsLeader f d
 leads_cycle-true f n d h =
-    let p = and_parts (some_below (λ k. is_value (climb f (suc k) d) d) n) (not (some_below (λ k. not (none_or_at_least (climb f k d) d)) n)) h in
+    let p = and_parts (some_below (λ k. is_value (climb f (suc k) d) d) n)
+    (not (some_below (λ k. not (none_or_at_least (climb f k d) d)) n)) h in
     let w = some_below-gives (λ k. is_value (climb f (suc k) d) d) n p.0 in
     let c : OnCycle f d = record { length = w.0; returns = is_value-true _ d w.1.passes } in
     record {
@@ -113,11 +125,14 @@ leads_cycle-true f n d h =
       least = λ k s e.
           let q = cycle-within f k d s c e in
           let lt : q.0 < n = (let a = q.1 in let b = w.1.below in omega arith) in
-          at_least-true (climb f q.0 d) d s (not-false _ (some_below-false (λ k. not (none_or_at_least (climb f k d) d)) n (not-true _ p.1) q.0 lt)) q.2;
+          at_least-true (climb f q.0 d) d s
+          (not-false _ (some_below-false (λ k. not (none_or_at_least (climb f k d) d)) n (not-true _ p.1) q.0 lt))
+          q.2;
     }
 
 -- the steps from d continue
-pub goes_on : (f : ℕ → Option ℕ) (p : ℕ → Bool) (n d : ℕ) → StaysBelow f p n → p d ≡ true → (k : ℕ) → (s : ℕ) × (climb f k d ≡ Some s) × (p s ≡ true)
+pub goes_on : (f : ℕ → Option ℕ) (p : ℕ → Bool) (n d : ℕ) → StaysBelow f p n → p d ≡ true → (k : ℕ) →
+    (s : ℕ) × (climb f k d ≡ Some s) × (p s ≡ true)
 goes_on f p n d g h zero = (d, climb-zero f d, h)
 goes_on f p n d g h (suc k) =
     let a = goes_on f p n d g h k in
@@ -125,7 +140,8 @@ goes_on f p n d g h (suc k) =
     (b.0, climb-suc f k d a.0 a.1 ∙ b.1, b.2)
 
 -- somewhere above d there is a cycle of at most n steps
-pub cycle_above : (f : ℕ → Option ℕ) (p : ℕ → Bool) (n d : ℕ) → StaysBelow f p n → p d ≡ true → (x : ℕ) × (p x ≡ true) × ((c : OnCycle f x) × (c.length < n))
+pub cycle_above : (f : ℕ → Option ℕ) (p : ℕ → Bool) (n d : ℕ) → StaysBelow f p n → p d ≡ true → (x : ℕ) × (p x ≡ true)
+    × ((c : OnCycle f x) × (c.length < n))
 cycle_above f p n d g h =
     let r = pigeon n (λ k. (goes_on f p n d g h k).0) (λ i l. let a = goes_on f p n d g h i in g.below a.0 a.2) in
     let a = goes_on f p n d g h r.first in
@@ -139,18 +155,21 @@ cycle_above f p n d g h =
         record {
           length = r.second - suc r.first;
           returns =
-              sym (climb-add f (suc (r.second - suc r.first)) r.first d a.0 a.1) ∙ (ap (λ m. climb f m d) q ∙ (b.1 ∙ ap Some (sym r.same)));
+              sym (climb-add f (suc (r.second - suc r.first)) r.first d a.0 a.1)
+              ∙ (ap (λ m. climb f m d) q ∙ (b.1 ∙ ap Some (sym r.same)));
         },
         omega arith,
       ),
     )
 
 -- the least number on a cycle
-pub leader_on : (f : ℕ → Option ℕ) (p : ℕ → Bool) (n x : ℕ) → StaysBelow f p n → p x ≡ true → (c : OnCycle f x) → c.length < n → (e : ℕ) × (p e ≡ true) × (leads_cycle f n e ≡ true)
+pub leader_on : (f : ℕ → Option ℕ) (p : ℕ → Bool) (n x : ℕ) → StaysBelow f p n → p x ≡ true → (c : OnCycle f x) →
+    c.length < n → (e : ℕ) × (p e ≡ true) × (leads_cycle f n e ≡ true)
 unfolding cycle-along
 leader_on f p n x g h c l =
     let t = λ (e : ℕ). some_below (λ k. is_value (climb f k x) e) n in
-    let z : t x ≡ true = some_below-from (λ k. is_value (climb f k x) x) n 0 (omega arith) (is_value-from _ x (climb-zero f x)) in
+    let z : t x ≡ true = some_below-from (λ k. is_value (climb f k x) x) n 0 (omega arith)
+    (is_value-from _ x (climb-zero f x)) in
     let w = some_below-gives t n (some_below-from t n x (g.below x h) z) in
     let v = some_below-gives (λ k. is_value (climb f k x) w.0) n w.1.passes in
     let at : climb f v.0 x ≡ Some w.0 = is_value-true _ w.0 v.1.passes in
@@ -169,12 +188,14 @@ leader_on f p n x g h c l =
           let be : b.0 ≡ s = cc in
           elim (cases_lt s w.0) [
             | inr ge ↦ ge
-            | inl less ↦ absurd (both_ways (t s) (w.1.least s less) (some_below-from (λ k. is_value (climb f k x) s) n near.0 lt (is_value-from _ s near.2)))
+            | inl less ↦ absurd (both_ways (t s) (w.1.least s less)
+                (some_below-from (λ k. is_value (climb f k x) s) n near.0 lt (is_value-from _ s near.2)))
           ];
     } in
     (w.0, subst (λ y. p y ≡ true) eq a.2, leads_cycle-from f n w.0 i l)
 
-pub some_leader : (f : ℕ → Option ℕ) (p : ℕ → Bool) (n d : ℕ) → StaysBelow f p n → p d ≡ true → (e : ℕ) × (p e ≡ true) × (leads_cycle f n e ≡ true)
+pub some_leader : (f : ℕ → Option ℕ) (p : ℕ → Bool) (n d : ℕ) → StaysBelow f p n → p d ≡ true → (e : ℕ) × (p e ≡ true)
+    × (leads_cycle f n e ≡ true)
 some_leader f p n d g h =
     let a = cycle_above f p n d g h in
     leader_on f p n a.0 g a.1 a.2.0 a.2.1

@@ -1,20 +1,25 @@
 -- Laws of `specs/Disk/Geometry`.
-use Rattle.std.proofs.Common.{zero, suc, inl, inr, ◌≡◌, ℕ, ◌*◌, ◌<◌, ◌≤◌, Bool, true, false, cond, Option, Some, None, ℤ, pos, negsuc, arith, refl}
+use Rattle.std.proofs.Common.{zero, suc, inl, inr, ◌≡◌, ℕ, ◌*◌, ◌<◌, ◌≤◌, Bool, true, false, cond, Option, Some, None}
+use Rattle.std.proofs.Common.{ℤ, pos, negsuc, arith, refl}
 use Rattle.std.specs.Prelude.{nat_lt, ◌==◌, not}
 use Rattle.std.proofs.lemmas.Bool.{cases_lt, and_parts}
 use Rattle.std.proofs.lemmas.Bool.Decides.{nat_tests}
 use Rattle.ffs_volume.specs.declared.Layout.{Layout}
 use Rattle.ffs_volume.specs.Disk.Numbers.{zero_if_negative, is_nonnegative, all_below}
 use Rattle.ffs_volume.specs.Disk.Areas.{cgoffset_of}
-use Rattle.ffs_volume.specs.Disk.Outcome.{is_block_size, is_fragment_size, is_fragment_count, has_valid_sizes, has_valid_numbers, has_valid_parts, has_valid_cylinders, has_valid_group, has_valid_summary_area, is_valid_layout, layout_fault}
+use Rattle.ffs_volume.specs.Disk.Outcome.{is_block_size, is_fragment_size, is_fragment_count, has_valid_sizes}
+use Rattle.ffs_volume.specs.Disk.Outcome.{has_valid_numbers, has_valid_parts, has_valid_cylinders, has_valid_group}
+use Rattle.ffs_volume.specs.Disk.Outcome.{has_valid_summary_area, is_valid_layout, layout_fault}
 use Rattle.ffs_volume.specs.Disk.Geometry.{HasSizes, HasNumbers, HasParts, HasGroup, HasSummaryArea, IsValidLayout}
 
 -- no fault, so neither this one nor a later one
-pub no_fault : {X : Type 0} (b : Bool) (x : X) (rest : Option X) → cond (not b) (Some x) rest ≡ None → (b ≡ true) × (rest ≡ None)
+pub no_fault : {X : Type 0} (b : Bool) (x : X) (rest : Option X) → cond (not b) (Some x) rest ≡ None → (b ≡ true)
+    × (rest ≡ None)
 no_fault true x rest e = (refl, e)
 no_fault false x rest e = cc
 
-pub no_fault_if : {X : Type 0} (b : Bool) (x : X) (rest : Option X) → cond b (Some x) rest ≡ None → (b ≡ false) × (rest ≡ None)
+pub no_fault_if : {X : Type 0} (b : Bool) (x : X) (rest : Option X) → cond b (Some x) rest ≡ None → (b ≡ false)
+    × (rest ≡ None)
 no_fault_if true x rest e = cc
 no_fault_if false x rest e = (refl, e)
 
@@ -86,7 +91,11 @@ pub group_holds : (v : Layout) (c : ℕ) → has_valid_group v c ≡ true → Ha
 unfolding has_valid_group
 group_holds v c e =
     let up : is_nonnegative (cgoffset_of v c) ≡ true = grind (arith, nat_tests) in
-    record { moved_up = natural_is (cgoffset_of v c) up; within_group = grind (arith, nat_tests); within_size = grind (arith, nat_tests) }
+    record {
+      moved_up = natural_is (cgoffset_of v c) up;
+      within_group = grind (arith, nat_tests);
+      within_size = grind (arith, nat_tests);
+    }
 
 pub summary_holds : (v : Layout) → has_valid_summary_area v ≡ true → HasSummaryArea v
 unfolding has_valid_summary_area
@@ -108,7 +117,8 @@ all_below-at (suc n) i test all h =
       | inr more ↦ let same : n ≡ i = omega arith in rw (← same) both.0
     ]
 
-shape_holds : (v : Layout) → is_valid_layout v ≡ true → (has_valid_sizes v ≡ true) × (has_valid_numbers v ≡ true) × (has_valid_parts v ≡ true) × (all_below v.ncg (has_valid_group v) ≡ true) × (has_valid_summary_area v ≡ true)
+shape_holds : (v : Layout) → is_valid_layout v ≡ true → (has_valid_sizes v ≡ true) × (has_valid_numbers v ≡ true)
+    × (has_valid_parts v ≡ true) × (all_below v.ncg (has_valid_group v) ≡ true) × (has_valid_summary_area v ≡ true)
 unfolding is_valid_layout
 shape_holds v e =
     let a = and_parts _ (all_below v.ncg (has_valid_group v)) e in

@@ -1,7 +1,8 @@
 -- Conditions on graphs of directories, which laws speak of.
 use Rattle.std.specs.Prelude.{◌≡◌, ◌≢◌, ℕ, ◌<◌, Bool, true, false, Some}
 use Rattle.ffs_volume.specs.declared.constants.TheConstants.{ROOTINO}
-use Rattle.ffs_volume.specs.Directories.Graph.{Graph, reached, parent, parent_entry_index, dead, is_unref_dir, names_at, NamedOnce}
+use Rattle.ffs_volume.specs.Directories.Graph.{Graph, reached, parent, parent_entry_index, dead, is_unref_dir, names_at}
+use Rattle.ffs_volume.specs.Directories.Graph.{NamedOnce}
 
 -- a directory has the number of an inode, and there is an inode 2
 pub record IsSane (g : Graph) : Type 0 where

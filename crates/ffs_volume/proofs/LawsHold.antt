@@ -1,5 +1,6 @@
 -- Laws that say of definitions what they are meant to say.
-use Rattle.std.proofs.Common.{zero, suc, ◌≡◌, ℕ, ◌+◌, ◌*◌, ◌/◌, ◌≤◌, Bool, true, false, cond, arith, refl, sym, ap, ◌∙◌, List, [], ◌∷◌, ◌++◌, length, Option, Some, None}
+use Rattle.std.proofs.Common.{zero, suc, ◌≡◌, ℕ, ◌+◌, ◌*◌, ◌/◌, ◌≤◌, Bool, true, false, cond, arith, refl, sym, ap, ◌∙◌}
+use Rattle.std.proofs.Common.{List, [], ◌∷◌, ◌++◌, length, Option, Some, None}
 use Rattle.std.specs.Prelude.{if◌then◌else◌, map, count_by}
 use Rattle.std.specs.List.{list_all, range_with_len, sum_by}
 use Rattle.std.proofs.Math.Nat.{mul-suc, suc-mul}
@@ -27,7 +28,8 @@ dir_fits None = omega arith
 dir_fits (Some []) = omega arith
 dir_fits (Some (name ∷ names)) = path_text-fits (name ∷ names)
 
-entry_fits : (name : List ℕ) (names : Option (List (List ℕ))) → length name ≤ 255 → length (entry_path_of_names name names) ≤ 1024
+entry_fits : (name : List ℕ) (names : Option (List (List ℕ))) → length name ≤ 255 →
+    length (entry_path_of_names name names) ≤ 1024
 entry_fits name None h = omega (arith, h)
 entry_fits name (Some names) h = path_text-fits (names ++ name ∷ [])
 
@@ -39,9 +41,11 @@ paths_fit g d = record { of_dir = dir_fits (path_names g d); of_entry = λ name 
 bit_count : (p : ℕ → Bool) (xs : List ℕ) → count_by (λ b. b) (map p xs) ≡ count_by p xs
 bit_count p [] = refl
 bit_count p (x ∷ xs) =
-    sum_by-cons (λ b. cond b 1 0) (p x) (map p xs) ∙ (ap (λ n. cond (p x) 1 0 + n) (bit_count p xs) ∙ sym (sum_by-cons (λ y. cond (p y) 1 0) x xs))
+    sum_by-cons (λ b. cond b 1 0) (p x) (map p xs)
+    ∙ (ap (λ n. cond (p x) 1 0 + n) (bit_count p xs) ∙ sym (sum_by-cons (λ y. cond (p y) 1 0) x xs))
 
-range_join : (f : ℕ → ℕ) (a m n : ℕ) → sum_by f (range_with_len a (m + n)) ≡ sum_by f (range_with_len a m) + sum_by f (range_with_len (a + m) n)
+range_join : (f : ℕ → ℕ) (a m n : ℕ) → sum_by f (range_with_len a (m + n)) ≡ sum_by f (range_with_len a m) + sum_by f
+    (range_with_len (a + m) n)
 range_join f a zero n =
     let q : zero + n ≡ n = omega arith in
     let r : a + zero ≡ a = omega arith in
@@ -58,16 +62,20 @@ range_join f a (suc m) n =
     omega (arith, long, short, rest, end)
 
 blocks_join : (p : ℕ → Bool) (a frag k n : ℕ) →
-    sum_by (λ b. count_by (λ f. f) (map p (range_with_len (a + b * frag) frag))) (range_with_len k n) ≡ count_by p (range_with_len (a + k * frag) (n * frag))
+    sum_by (λ b. count_by (λ f. f) (map p (range_with_len (a + b * frag) frag))) (range_with_len k n)
+    ≡ count_by p (range_with_len (a + k * frag) (n * frag))
 blocks_join p a frag k zero =
     let q : zero * frag ≡ 0 = omega arith in sym (ap (λ m. count_by p (range_with_len (a + k * frag) m)) q)
 blocks_join p a frag k (suc n) =
-    let first = sum_by-cons (λ b. count_by (λ f. f) (map p (range_with_len (a + b * frag) frag))) k (range_with_len (k + 1) n) in
+    let first = sum_by-cons (λ b. count_by (λ f. f) (map p (range_with_len (a + b * frag) frag))) k
+    (range_with_len (k + 1) n) in
     let here = bit_count p (range_with_len (a + k * frag) frag) in
     let rest = blocks_join p a frag (k + 1) n in
     let more : suc n * frag ≡ frag + n * frag = (let m = suc-mul n frag in omega (arith, m)) in
-    let moved : a + (k + 1) * frag ≡ a + k * frag + frag = (let s : k + 1 ≡ suc k = omega arith in let m = ap (λ j. j * frag) s ∙ suc-mul k frag in omega (arith, m)) in
-    let whole = ap (λ m. count_by p (range_with_len (a + k * frag) m)) more ∙ range_join (λ x. cond (p x) 1 0) (a + k * frag) frag (n * frag) in
+    let moved : a + (k + 1) * frag ≡ a + k * frag + frag =
+    (let s : k + 1 ≡ suc k = omega arith in let m = ap (λ j. j * frag) s ∙ suc-mul k frag in omega (arith, m)) in
+    let whole = ap (λ m. count_by p (range_with_len (a + k * frag) m)) more
+    ∙ range_join (λ x. cond (p x) 1 0) (a + k * frag) frag (n * frag) in
     let last = ap (λ m. count_by p (range_with_len m (n * frag))) moved in
     omega (arith, first, here, rest, whole, last)
 
@@ -88,17 +96,20 @@ both_kinds : (whole : ℕ → Bool) (some : ℕ → ℕ) (frag : ℕ) → ((b : 
 both_kinds whole some frag h [] = omega arith
 both_kinds whole some frag h (b ∷ bs) = one (whole b) refl (both_kinds whole some frag h bs)
   where
-    one : (w : Bool) → whole b ≡ w → frag * count_by whole bs + sum_by (λ b. if whole b then 0 else some b) bs ≡ sum_by some bs →
+    one : (w : Bool) → whole b ≡ w → frag * count_by whole bs + sum_by (λ b. if whole b then 0 else some b) bs
+        ≡ sum_by some bs →
         frag * count_by whole (b ∷ bs) + sum_by (λ b. if whole b then 0 else some b) (b ∷ bs) ≡ sum_by some (b ∷ bs)
     one true e rest =
         let count = sum_by-cons (λ x. cond (whole x) 1 0) b bs ∙ ap (λ w. cond w 1 0 + count_by whole bs) e in
-        let other = sum_by-cons (λ b. if whole b then 0 else some b) b bs ∙ ap (λ w. (if w then 0 else some b) + sum_by (λ b. if whole b then 0 else some b) bs) e in
+        let other = sum_by-cons (λ b. if whole b then 0 else some b) b bs
+        ∙ ap (λ w. (if w then 0 else some b) + sum_by (λ b. if whole b then 0 else some b) bs) e in
         let s : 1 + count_by whole bs ≡ suc (count_by whole bs) = omega arith in
         let product = ap (λ n. frag * n) (count ∙ s) ∙ mul-suc frag (count_by whole bs) in
         omega (arith, product, other, sum_by-cons some b bs, h b e, rest)
     one false e rest =
         let count = sum_by-cons (λ x. cond (whole x) 1 0) b bs ∙ ap (λ w. cond w 1 0 + count_by whole bs) e in
-        let other = sum_by-cons (λ b. if whole b then 0 else some b) b bs ∙ ap (λ w. (if w then 0 else some b) + sum_by (λ b. if whole b then 0 else some b) bs) e in
+        let other = sum_by-cons (λ b. if whole b then 0 else some b) b bs
+        ∙ ap (λ w. (if w then 0 else some b) + sum_by (λ b. if whole b then 0 else some b) bs) e in
         let s : 0 + count_by whole bs ≡ count_by whole bs = omega arith in
         let product = ap (λ n. frag * n) (count ∙ s) in
         omega (arith, product, other, sum_by-cons some b bs, rest)
@@ -106,9 +117,12 @@ both_kinds whole some frag h (b ∷ bs) = one (whole b) refl (both_kinds whole s
 pub sums_whole : SumsAreWhole
 unfolding right_group_counts
 sums_whole v free class c some even =
-    let kinds = both_kinds (λ b. is_free_block (block_bits v free c b)) (λ b. count_by (λ f. f) (block_bits v free c b)) v.frag
-    (λ b e. whole_count (block_bits v free c b) e ∙ length-map-range_with_len free (cgbase v c + b * v.frag) v.frag) (block_numbers v) in
+    let kinds = both_kinds (λ b. is_free_block (block_bits v free c b)) (λ b. count_by (λ f. f) (block_bits v free c b))
+    v.frag
+    (λ b e. whole_count (block_bits v free c b) e ∙ length-map-range_with_len free (cgbase v c + b * v.frag) v.frag)
+    (block_numbers v) in
     let joined = blocks_join free (cgbase v c) v.frag 0 (v.fpg / v.frag) in
     let start : cgbase v c + 0 * v.frag ≡ cgbase v c = omega arith in
     let size : v.fpg / v.frag * v.frag ≡ v.fpg = (let m = div-add-mod' v.fpg v.frag in omega (arith, m, even)) in
-    kinds ∙ (joined ∙ (ap (λ a. count_by free (range_with_len a (v.fpg / v.frag * v.frag))) start ∙ ap (λ n. count_by free (range_with_len (cgbase v c) n)) size))
+    kinds ∙ (joined ∙ (ap (λ a. count_by free (range_with_len a (v.fpg / v.frag * v.frag))) start
+    ∙ ap (λ n. count_by free (range_with_len (cgbase v c) n)) size))

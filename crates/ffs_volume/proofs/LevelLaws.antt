@@ -1,14 +1,17 @@
 -- Laws of `specs/Directories/Levels`.
 use Rattle.std.specs.Prelude.{◌≡◌, ℕ, zero, suc, ◌+◌, ◌-◌, ◌<◌, ◌≤◌, ◌==◌, true, ◌&&◌, ◌||◌, refl, Some, is_some}
 use Rattle.std.proofs.Common.{arith, sym, ◌∙◌, ap, subst, inl, inr}
-use Rattle.std.proofs.lemmas.Bool.{both_ways, cases_lt, eq-eqb, and_parts, and_from, or_cases, or_left, or_right, false_from_ne_true}
+use Rattle.std.proofs.lemmas.Bool.{both_ways, cases_lt, eq-eqb, and_parts, and_from, or_cases, or_left, or_right}
+use Rattle.std.proofs.lemmas.Bool.{false_from_ne_true}
 use Rattle.ffs_volume.specs.Disk.Search.{some_below}
-use Rattle.ffs_volume.proofs.SearchLaws.{is_some-value, some_below-gives, some_below-from, first_below-is, first_below-some}
+use Rattle.ffs_volume.proofs.SearchLaws.{is_some-value, some_below-gives, some_below-from, first_below-is}
+use Rattle.ffs_volume.proofs.SearchLaws.{first_below-some}
 use Rattle.ffs_volume.proofs.Pigeon.{pigeon}
 use Rattle.ffs_volume.specs.Directories.Graph.{Graph, within, level, edge, reached}
 use Rattle.ffs_volume.specs.Directories.Levels.{IsLevel}
 
-pub within-suc : (v : Graph) (k d : ℕ) → within v (suc k) d ≡ (within v k d || some_below (λ s. within v k s && edge v s d) v.count)
+pub within-suc : (v : Graph) (k d : ℕ) →
+    within v (suc k) d ≡ (within v k d || some_below (λ s. within v k s && edge v s d) v.count)
 unfolding within
 within-suc v k d = refl
 
@@ -19,22 +22,27 @@ within-zero v d = refl
 pub within-more : (v : Graph) (k d : ℕ) → within v k d ≡ true → within v (suc k) d ≡ true
 within-more v k d h = within-suc v k d ∙ or_left (within v k d) (some_below (λ s. within v k s && edge v s d) v.count) h
 
-pub within-step : (v : Graph) (k s d : ℕ) → s < v.count → within v k s ≡ true → edge v s d ≡ true → within v (suc k) d ≡ true
+pub within-step : (v : Graph) (k s d : ℕ) → s < v.count → within v k s ≡ true → edge v s d ≡ true →
+    within v (suc k) d ≡ true
 within-step v k s d l h e =
     within-suc v k d ∙ or_right (within v k d) (some_below (λ s. within v k s && edge v s d) v.count)
     (some_below-from (λ s. within v k s && edge v s d) v.count s l (and_from (within v k s) (edge v s d) h e))
 
 within-plus : (v : Graph) (i k d : ℕ) → within v k d ≡ true → within v (i + k) d ≡ true
 within-plus v zero k d h = let q : 0 + k ≡ k = omega arith in ap (λ m. within v m d) q ∙ h
-within-plus v (suc i) k d h = let q : suc i + k ≡ suc (i + k) = omega arith in ap (λ m. within v m d) q ∙ within-more v (i + k) d (within-plus v i k d h)
+within-plus v (suc i) k d h = let q : suc i + k ≡ suc (i + k) = omega arith in ap (λ m. within v m d) q
+    ∙ within-more v (i + k) d (within-plus v i k d h)
 
 pub within-grows : (v : Graph) (j k d : ℕ) → j ≤ k → within v j d ≡ true → within v k d ≡ true
-within-grows v j k d l h = let q : (k - j) + j ≡ k = omega arith in sym (ap (λ m. within v m d) q) ∙ within-plus v (k - j) j d h
+within-grows v j k d l h = let q : (k - j) + j ≡ k = omega arith in sym (ap (λ m. within v m d) q)
+    ∙ within-plus v (k - j) j d h
 
-pub level-before : (v : Graph) (k d : ℕ) → IsLevel v (suc k) d → (s : ℕ) × (s < v.count) × IsLevel v k s × (edge v s d ≡ true)
+pub level-before : (v : Graph) (k d : ℕ) → IsLevel v (suc k) d → (s : ℕ) × (s < v.count) × IsLevel v k s
+    × (edge v s d ≡ true)
 level-before v k d h =
     let no = h.least k (omega arith) in
-    elim (or_cases (within v k d) (some_below (λ s. within v k s && edge v s d) v.count) (sym (within-suc v k d) ∙ h.within_k)) [
+    elim (or_cases (within v k d) (some_below (λ s. within v k s && edge v s d) v.count)
+    (sym (within-suc v k d) ∙ h.within_k)) [
       | inl y ↦ absurd (both_ways (within v k d) no y)
       | inr y ↦
           let w = some_below-gives (λ s. within v k s && edge v s d) v.count y in
@@ -44,14 +52,16 @@ level-before v k d h =
             record {
               within_k = p.0;
               least = λ j l. false_from_ne_true (within v j w.0) (λ t.
-                  both_ways (within v (suc j) d) (h.least (suc j) (omega arith)) (within-step v j w.0 d w.1.below t p.1));
+                  both_ways (within v (suc j) d) (h.least (suc j) (omega arith))
+                  (within-step v j w.0 d w.1.below t p.1));
             },
             p.1,
           )
     ]
 
 -- each level up to a level of an inode has an inode
-pub level-each : (v : Graph) (k d : ℕ) → d < v.count → IsLevel v k d → (i : ℕ) → (s : ℕ) × (s < v.count) × (i ≤ k → IsLevel v i s)
+pub level-each : (v : Graph) (k d : ℕ) → d < v.count → IsLevel v k d → (i : ℕ) → (s : ℕ) × (s < v.count)
+    × (i ≤ k → IsLevel v i s)
 level-each v zero d l h i = (d, l, λ b. let q : 0 ≡ i = omega arith in subst (λ m. IsLevel v m d) q h)
 level-each v (suc k) d l h i =
     elim (cases_lt k i) [
@@ -78,16 +88,19 @@ level-bound v k d l h =
 
 pub level-is : (v : Graph) (k d : ℕ) → d < v.count → IsLevel v k d → level v d ≡ Some k
 unfolding level
-level-is v k d l h = first_below-is (λ j. within v j d) v.count k (record { below = level-bound v k d l h; passes = h.within_k; least = h.least })
+level-is v k d l h = first_below-is (λ j. within v j d) v.count k
+    (record { below = level-bound v k d l h; passes = h.within_k; least = h.least })
 
 pub level-some : (v : Graph) (k d : ℕ) → level v d ≡ Some k → IsLevel v k d × (k < v.count)
 unfolding level
-level-some v k d e = let f = first_below-some (λ j. within v j d) v.count k e in (record { within_k = f.passes; least = f.least }, f.below)
+level-some v k d e = let f = first_below-some (λ j. within v j d) v.count k e in
+    (record { within_k = f.passes; least = f.least }, f.below)
 
 -- however many edges a walk has, its end is reached
 pub level-from : (v : Graph) (k d : ℕ) → d < v.count → within v k d ≡ true → (j : ℕ) × (j ≤ k) × (level v d ≡ Some j)
 level-from v k d l h =
-    let w = some_below-gives (λ j. within v j d) (suc k) (some_below-from (λ j. within v j d) (suc k) k (omega arith) h) in
+    let w = some_below-gives (λ j. within v j d) (suc k)
+    (some_below-from (λ j. within v j d) (suc k) k (omega arith) h) in
     let b = w.1.below in
     (w.0, omega arith, level-is v w.0 d l (record { within_k = w.1.passes; least = w.1.least }))
 
@@ -98,7 +111,8 @@ pub reached-level : (v : Graph) (d : ℕ) → reached v d ≡ true → (k : ℕ)
 reached-level v d h = is_some-value (level v d) h
 
 -- an edge from a reached directory leads to a reached one
-pub reached-edge : (v : Graph) (s d : ℕ) → s < v.count → d < v.count → reached v s ≡ true → edge v s d ≡ true → reached v d ≡ true
+pub reached-edge : (v : Graph) (s d : ℕ) → s < v.count → d < v.count → reached v s ≡ true → edge v s d ≡ true →
+    reached v d ≡ true
 reached-edge v s d a b h e =
     let k = reached-level v s h in
     reached-from v (suc k.0) d b (within-step v k.0 s d a (level-some v k.0 s k.1).0.within_k e)

@@ -1,5 +1,6 @@
 -- How the lines of numbers in ascending order continue.
-use Rattle.std.proofs.Common.{◌≡◌, ℕ, zero, suc, ◌+◌, ◌-◌, ◌<◌, ◌≤◌, List, [], ◌∷◌, ◌++◌, map, append_assoc, append-nil, refl, ap, ◌∙◌, sym, arith}
+use Rattle.std.proofs.Common.{◌≡◌, ℕ, zero, suc, ◌+◌, ◌-◌, ◌<◌, ◌≤◌, List, [], ◌∷◌, ◌++◌, map, append_assoc, append-nil}
+use Rattle.std.proofs.Common.{refl, ap, ◌∙◌, sym, arith}
 use Rattle.ffs_volume.specs.Messages.Kinds.{Message, NameMessage, of_names, lines_below, lines_from}
 
 pub names_append : (xs ys : List NameMessage) → map of_names (xs ++ ys) ≡ map of_names xs ++ map of_names ys
@@ -7,12 +8,15 @@ names_append [] ys = refl
 names_append (x ∷ xs) ys = ap (λ (zs : List Message). of_names x ∷ zs) (names_append xs ys)
 
 -- those below d + k are those below d and the k from d on
-pub below_and_from : (lines : ℕ → List NameMessage) (k d : ℕ) → lines_below lines (d + k) ≡ lines_below lines d ++ lines_from lines d k
+pub below_and_from : (lines : ℕ → List NameMessage) (k d : ℕ) → lines_below lines (d + k) ≡ lines_below lines d
+    ++ lines_from lines d k
 unfolding lines_below lines_from
-below_and_from lines zero d = let q : d + 0 ≡ d = omega arith in ap (lines_below lines) q ∙ sym (append-nil (lines_below lines d))
+below_and_from lines zero d = let q : d + 0 ≡ d = omega arith in ap (lines_below lines) q
+    ∙ sym (append-nil (lines_below lines d))
 below_and_from lines (suc k) d =
     let q : d + suc k ≡ suc d + k = omega arith in
-    ap (lines_below lines) q ∙ below_and_from lines k (suc d) ∙ append_assoc (lines_below lines d) (lines d) (lines_from lines (suc d) k)
+    ap (lines_below lines) q ∙ below_and_from lines k (suc d)
+    ∙ append_assoc (lines_below lines d) (lines d) (lines_from lines (suc d) k)
 
 -- of all numbers
 pub all_from : (lines : ℕ → List NameMessage) (n : ℕ) → lines_below lines n ≡ lines_from lines 0 (n - 0)
@@ -23,7 +27,8 @@ all_from lines n =
     ap (lines_below lines) q ∙ below_and_from lines n 0 ∙ ap (lines_from lines 0) r
 
 -- of numbers from 2 on, where those below it have no line
-pub all_from_root : (lines : ℕ → List NameMessage) (n : ℕ) → lines 0 ≡ [] → lines 1 ≡ [] → lines_below lines n ≡ lines_from lines 2 (n - 2)
+pub all_from_root : (lines : ℕ → List NameMessage) (n : ℕ) → lines 0 ≡ [] → lines 1 ≡ [] →
+    lines_below lines n ≡ lines_from lines 2 (n - 2)
 unfolding lines_below lines_from
 all_from_root lines zero zeroth first = refl
 all_from_root lines (suc zero) zeroth first = zeroth
@@ -31,11 +36,13 @@ all_from_root lines (suc (suc n)) zeroth first =
     let q : suc (suc n) ≡ 2 + n = omega arith in
     let r : suc (suc n) - 2 ≡ n = omega arith in
     let two : lines_below lines 2 ≡ [] = rw (zeroth, first) refl in
-    ap (lines_below lines) q ∙ below_and_from lines n 2 ∙ ap (λ (xs : List NameMessage). xs ++ lines_from lines 2 n) two ∙ ap (lines_from lines 2) (sym r)
+    ap (lines_below lines) q ∙ below_and_from lines n 2 ∙ ap (λ (xs : List NameMessage). xs ++ lines_from lines 2 n) two
+    ∙ ap (lines_from lines 2) (sym r)
 
 -- the next number's lines
 pub from_next : (lines : ℕ → List NameMessage) (d n : ℕ) → d < n →
-    map of_names (lines_from lines d (n - d)) ≡ map of_names (lines d) ++ map of_names (lines_from lines (d + 1) (n - (d + 1)))
+    map of_names (lines_from lines d (n - d)) ≡ map of_names (lines d)
+    ++ map of_names (lines_from lines (d + 1) (n - (d + 1)))
 unfolding lines_from
 from_next lines d n h =
     let q : n - d ≡ suc (n - (d + 1)) = omega arith in

@@ -31,7 +31,8 @@ moved-below g n i a b ne =
       | inr e ↦ let m = moved-off g n i e in let c : g i ≢ n = e in omega arith
     ]
 
-back : (n : ℕ) (g : ℕ → ℕ) → ((i : ℕ) → i < suc n → g i ≡ g (suc n) → ⊥) → (r : Repeats (moved g n) n) → Repeats g (suc n)
+back : (n : ℕ) (g : ℕ → ℕ) → ((i : ℕ) → i < suc n → g i ≡ g (suc n) → ⊥) → (r : Repeats (moved g n) n) →
+    Repeats g (suc n)
 back n g ne r = record {
   first = r.first;
   second = r.second;
@@ -42,23 +43,34 @@ back n g ne r = record {
       elim (cases_eq (g r.first) n) [
         | inl e ↦ elim (cases_eq (g r.second) n) [
           | inl f ↦ e ∙ sym f
-          | inr f ↦ absurd (ne r.second (omega arith) (sym (moved-off g n r.second f) ∙ (sym r.same ∙ moved-at g n r.first e)))
+          | inr f ↦ absurd (ne r.second (omega arith)
+              (sym (moved-off g n r.second f) ∙ (sym r.same ∙ moved-at g n r.first e)))
         ]
         | inr e ↦ elim (cases_eq (g r.second) n) [
-          | inl f ↦ absurd (ne r.first (omega arith) (sym (moved-off g n r.first e) ∙ (r.same ∙ moved-at g n r.second f)))
+          | inl f ↦ absurd (ne r.first (omega arith)
+              (sym (moved-off g n r.first e) ∙ (r.same ∙ moved-at g n r.second f)))
           | inr f ↦ sym (moved-off g n r.first e) ∙ (r.same ∙ moved-off g n r.second f)
         ]
       ];
 }
 
-step : (n : ℕ) (g : ℕ → ℕ) → ((i : ℕ) → i ≤ suc n → g i < suc n) → ((f : ℕ → ℕ) → ((i : ℕ) → i ≤ n → f i < n) → Repeats f n) → Repeats g (suc n)
+step : (n : ℕ) (g : ℕ → ℕ) → ((i : ℕ) → i ≤ suc n → g i < suc n) →
+    ((f : ℕ → ℕ) → ((i : ℕ) → i ≤ n → f i < n) → Repeats f n) → Repeats g (suc n)
 step n g h ih =
     elim (cases_Bool (some_below (λ i. g i == g (suc n)) (suc n))) [
       | inl y ↦ let w = some_below-gives (λ i. g i == g (suc n)) (suc n) y in
-          record { first = w.0; second = suc n; ordered = w.1.below; bounded = omega arith; same = eqb-true (g w.0) (g (suc n)) w.1.passes }
+          record {
+            first = w.0;
+            second = suc n;
+            ordered = w.1.below;
+            bounded = omega arith;
+            same = eqb-true (g w.0) (g (suc n)) w.1.passes;
+          }
       | inr y ↦
-          let ne = λ (i : ℕ) (l : i < suc n). eqb-false (g i) (g (suc n)) (some_below-false (λ i. g i == g (suc n)) (suc n) y i l) in
-          back n g ne (ih (moved g n) (λ i l. moved-below g n i (h i (omega arith)) (h (suc n) (omega arith)) (ne i (omega arith))))
+          let ne = λ (i : ℕ) (l : i < suc n). eqb-false (g i) (g (suc n))
+          (some_below-false (λ i. g i == g (suc n)) (suc n) y i l) in
+          back n g ne (ih (moved g n)
+          (λ i l. moved-below g n i (h i (omega arith)) (h (suc n) (omega arith)) (ne i (omega arith))))
     ]
 
 pub pigeon : (n : ℕ) (g : ℕ → ℕ) → ((i : ℕ) → i ≤ n → g i < n) → Repeats g n

@@ -1,5 +1,6 @@
 -- Laws of `specs/Blocks/FirstOffers`.
-use Rattle.std.proofs.Common.{inl, inr, ◌≡◌, ℕ, ◌+◌, Bool, true, false, refl, sym, ap, ◌∙◌, List, [], ◌∷◌, ◌++◌, append_assoc, append-nil}
+use Rattle.std.proofs.Common.{inl, inr, ◌≡◌, ℕ, ◌+◌, Bool, true, false, refl, sym, ap, ◌∙◌, List, [], ◌∷◌, ◌++◌}
+use Rattle.std.proofs.Common.{append_assoc, append-nil}
 use Rattle.std.specs.Prelude.{nat_lt, ◌&&◌, ◌==◌, not, if◌then◌else◌, map}
 use Rattle.std.specs.List.{range_with_len}
 use Rattle.std.proofs.lemmas.Bool.{eqb-true}
@@ -16,20 +17,25 @@ map_append : (i : ℕ) (fs gs : List ℕ) → map (offer_at i) (fs ++ gs) ≡ ma
 map_append i [] gs = refl
 map_append i (f ∷ fs) gs = ap (λ z. offer_at i f ∷ z) (map_append i fs gs)
 
-full_offers : (v : Layout) (i : ℕ) (s : Claims) (fs : List ℕ) → nat_lt s.dups 11 ≡ false → (kept_in_offers v i s fs ≡ []) × (after_offers v s fs ≡ s)
+full_offers : (v : Layout) (i : ℕ) (s : Claims) (fs : List ℕ) → nat_lt s.dups 11 ≡ false →
+    (kept_in_offers v i s fs ≡ []) × (after_offers v s fs ≡ s)
 full_offers v i s [] q = (refl, refl)
 full_offers v i s (f ∷ fs) q =
     let stay : after_offer v s f ≡ s = rw q refl in
     let rest = full_offers v i s fs q in (
-      ap (λ x. (if x then offer_at i f ∷ [] else []) ++ kept_in_offers v i (after_offer v s f) fs) q ∙ (ap (λ x. kept_in_offers v i x fs) stay ∙ rest.0),
+      ap (λ x. (if x then offer_at i f ∷ [] else []) ++ kept_in_offers v i (after_offer v s f) fs) q
+          ∙ (ap (λ x. kept_in_offers v i x fs) stay ∙ rest.0),
       ap (λ x. after_offers v x fs) stay ∙ rest.1,
     )
 
-offers_first : (v : Layout) (i : ℕ) (s : Claims) (fs : List ℕ) → KeptPrefix i (kept_in_offers v i s fs) fs (not (nat_lt (after_offers v s fs).dups 11))
+offers_first : (v : Layout) (i : ℕ) (s : Claims) (fs : List ℕ) →
+    KeptPrefix i (kept_in_offers v i s fs) fs (not (nat_lt (after_offers v s fs).dups 11))
 offers_first v i s [] = record { rest = []; whole = refl; end = inl refl }
 offers_first v i s (f ∷ fs) = one (nat_lt s.dups 11) refl (offers_first v i (after_offer v s f) fs)
   where
-    one : (b : Bool) → nat_lt s.dups 11 ≡ b → KeptPrefix i (kept_in_offers v i (after_offer v s f) fs) fs (not (nat_lt (after_offers v (after_offer v s f) fs).dups 11)) →
+    one : (b : Bool) → nat_lt s.dups 11 ≡ b →
+        KeptPrefix i (kept_in_offers v i (after_offer v s f) fs) fs
+        (not (nat_lt (after_offers v (after_offer v s f) fs).dups 11)) →
         KeptPrefix i (kept_in_offers v i s (f ∷ fs)) (f ∷ fs) (not (nat_lt (after_offers v s (f ∷ fs)).dups 11))
     one false q r =
         let full = full_offers v i s (f ∷ fs) q in
@@ -40,7 +46,8 @@ offers_first v i s (f ∷ fs) = one (nat_lt s.dups 11) refl (offers_first v i (a
         }
     one true q r = record {
       rest = r.rest;
-      whole = ap (λ x. ((if x then offer_at i f ∷ [] else []) ++ kept_in_offers v i (after_offer v s f) fs) ++ r.rest) q ∙ ap (λ z. offer_at i f ∷ z) r.whole;
+      whole = ap (λ x. ((if x then offer_at i f ∷ [] else []) ++ kept_in_offers v i (after_offer v s f) fs) ++ r.rest) q
+          ∙ ap (λ z. offer_at i f ∷ z) r.whole;
       end = r.end;
     }
 
@@ -48,31 +55,47 @@ shut_and : (a b : Bool) → not b ≡ true → not (a && b) ≡ true
 shut_and true b e = e
 shut_and false b e = refl
 
-step_first : (v : Layout) (i : ℕ) (s : Claims) (step : Step) → KeptPrefix i (kept_in_step v i s step) (step_fragments step) (not (is_open (after_step v s step)))
+step_first : (v : Layout) (i : ℕ) (s : Claims) (step : Step) →
+    KeptPrefix i (kept_in_step v i s step) (step_fragments step) (not (is_open (after_step v s step)))
 step_first v i s Tail = record { rest = []; whole = refl; end = inl refl }
 step_first v i s Gap = record { rest = []; whole = refl; end = inl refl }
 step_first v i s (Run start len block) = one (is_open s) refl (is_run_in_range v start len) refl (s.bad == 10) refl
   where
-    from : (kept : List Offer) (s' : Claims) → kept_in_step v i s (Run start len block) ≡ kept → after_step v s (Run start len block) ≡ s' →
+    from : (kept : List Offer) (s' : Claims) → kept_in_step v i s (Run start len block) ≡ kept →
+        after_step v s (Run start len block) ≡ s' →
         KeptPrefix i kept (range_with_len start len) (not (nat_lt s'.dups 11)) →
-        KeptPrefix i (kept_in_step v i s (Run start len block)) (range_with_len start len) (not (is_open (after_step v s (Run start len block))))
+        KeptPrefix i (kept_in_step v i s (Run start len block)) (range_with_len start len)
+        (not (is_open (after_step v s (Run start len block))))
     from kept s' same next f = record {
       rest = f.rest;
       whole = ap (λ z. z ++ f.rest) same ∙ f.whole;
-      end = elim f.end [ inl e ↦ inl e | inr e ↦ inr (ap (λ x. not (is_open x)) next ∙ shut_and (nat_lt s'.bad 11) (nat_lt s'.dups 11) e) ];
+      end = elim f.end [
+        | inl e ↦ inl e
+        | inr e ↦ inr
+            (ap (λ x. not (is_open x)) next ∙ shut_and (nat_lt s'.bad 11) (nat_lt s'.dups 11) e)
+      ];
     }
 
     one : (o : Bool) → is_open s ≡ o → (r : Bool) → is_run_in_range v start len ≡ r → (z : Bool) → (s.bad == 10) ≡ z →
-        KeptPrefix i (kept_in_step v i s (Run start len block)) (range_with_len start len) (not (is_open (after_step v s (Run start len block))))
+        KeptPrefix i (kept_in_step v i s (Run start len block)) (range_with_len start len)
+        (not (is_open (after_step v s (Run start len block))))
     one false q r qr z qz =
         let next : after_step v s (Run start len block) ≡ s = rw q refl in
         let none : kept_in_step v i s (Run start len block) ≡ [] = rw q refl in
-        record { rest = map (offer_at i) (range_with_len start len); whole = ap (λ x. x ++ map (offer_at i) (range_with_len start len)) none; end = inr (ap (λ x. not (is_open x)) next ∙ ap not q) }
+        record {
+          rest = map (offer_at i) (range_with_len start len);
+          whole = ap (λ x. x ++ map (offer_at i) (range_with_len start len)) none;
+          end =
+              inr (ap (λ x. not (is_open x)) next ∙ ap not q);
+        }
     one true q true qr z qz =
-        from (kept_in_offers v i (record s { runs = s.runs + 1 }) (range_with_len start len)) (after_offers v (record s { runs = s.runs + 1 }) (range_with_len start len))
-        (rw (q, qr) refl) (rw (q, qr) refl) (offers_first v i (record s { runs = s.runs + 1 }) (range_with_len start len))
+        from (kept_in_offers v i (record s { runs = s.runs + 1 }) (range_with_len start len))
+        (after_offers v (record s { runs = s.runs + 1 }) (range_with_len start len))
+        (rw (q, qr) refl) (rw (q, qr) refl)
+        (offers_first v i (record s { runs = s.runs + 1 }) (range_with_len start len))
     one true q false qr true qz =
-        let next : after_step v s (Run start len block) ≡ record s { runs = s.runs + 1; bad = s.bad + 1 } = rw (q, qr, qz) refl in
+        let next : after_step v s (Run start len block) ≡ record s { runs = s.runs + 1; bad = s.bad + 1 } =
+        rw (q, qr, qz) refl in
         let none : kept_in_step v i s (Run start len block) ≡ [] = rw (q, qr, qz) refl in
         let full : is_open (record s { runs = s.runs + 1; bad = s.bad + 1 }) ≡ false = ten s.bad s.dups qz in
         record {
@@ -84,38 +107,48 @@ step_first v i s (Run start len block) = one (is_open s) refl (is_run_in_range v
         ten : (b d : ℕ) → (b == 10) ≡ true → (nat_lt (b + 1) 11 && nat_lt d 11) ≡ false
         ten b d e = rw (eqb-true b 10 e) refl
     one true q false qr false qz =
-        from (kept_in_offers v i (record s { runs = s.runs + 1; bad = s.bad + 1 }) (range_with_len start len)) (after_offers v (record s { runs = s.runs + 1; bad = s.bad + 1 }) (range_with_len start len))
-        (rw (q, qr, qz) refl) (rw (q, qr, qz) refl) (offers_first v i (record s { runs = s.runs + 1; bad = s.bad + 1 }) (range_with_len start len))
+        from (kept_in_offers v i (record s { runs = s.runs + 1; bad = s.bad + 1 }) (range_with_len start len))
+        (after_offers v (record s { runs = s.runs + 1; bad = s.bad + 1 }) (range_with_len start len))
+        (rw (q, qr, qz) refl) (rw (q, qr, qz) refl)
+        (offers_first v i (record s { runs = s.runs + 1; bad = s.bad + 1 }) (range_with_len start len))
 
 -- after the cut nothing changes, and nothing is kept
-shut_step : (v : Layout) (i : ℕ) (s : Claims) (step : Step) → is_open s ≡ false → (kept_in_step v i s step ≡ []) × (after_step v s step ≡ s)
+shut_step : (v : Layout) (i : ℕ) (s : Claims) (step : Step) → is_open s ≡ false → (kept_in_step v i s step ≡ [])
+    × (after_step v s step ≡ s)
 shut_step v i s (Run start len block) q = (rw q refl, rw q refl)
 shut_step v i s Tail q = (refl, rw q refl)
 shut_step v i s Gap q = (refl, refl)
 
-pub shut_steps : (v : Layout) (i : ℕ) (s : Claims) (steps : List Step) → is_open s ≡ false → (kept_in_steps v i s steps ≡ []) × (after_steps v s steps ≡ s)
+pub shut_steps : (v : Layout) (i : ℕ) (s : Claims) (steps : List Step) → is_open s ≡ false →
+    (kept_in_steps v i s steps ≡ []) × (after_steps v s steps ≡ s)
 shut_steps v i s [] q = (refl, refl)
 shut_steps v i s (step ∷ steps) q =
     let one = shut_step v i s step q in
     let rest = shut_steps v i s steps q in (
-      ap (λ z. z ++ kept_in_steps v i (after_step v s step) steps) one.0 ∙ (ap (λ x. kept_in_steps v i x steps) one.1 ∙ rest.0),
+      ap (λ z. z ++ kept_in_steps v i (after_step v s step) steps) one.0
+          ∙ (ap (λ x. kept_in_steps v i x steps) one.1 ∙ rest.0),
       ap (λ x. after_steps v x steps) one.1 ∙ rest.1,
     )
 
-pub steps_first : (v : Layout) (i : ℕ) (s : Claims) (steps : List Step) → KeptPrefix i (kept_in_steps v i s steps) (fragments_of steps) (not (is_open (after_steps v s steps)))
+pub steps_first : (v : Layout) (i : ℕ) (s : Claims) (steps : List Step) →
+    KeptPrefix i (kept_in_steps v i s steps) (fragments_of steps) (not (is_open (after_steps v s steps)))
 steps_first v i s [] = record { rest = []; whole = refl; end = inl refl }
 steps_first v i s (step ∷ steps) = one (step_first v i s step) (steps_first v i (after_step v s step) steps)
   where
     one : KeptPrefix i (kept_in_step v i s step) (step_fragments step) (not (is_open (after_step v s step))) →
-        KeptPrefix i (kept_in_steps v i (after_step v s step) steps) (fragments_of steps) (not (is_open (after_steps v (after_step v s step) steps))) →
-        KeptPrefix i (kept_in_steps v i s (step ∷ steps)) (fragments_of (step ∷ steps)) (not (is_open (after_steps v s (step ∷ steps))))
+        KeptPrefix i (kept_in_steps v i (after_step v s step) steps) (fragments_of steps)
+        (not (is_open (after_steps v (after_step v s step) steps))) →
+        KeptPrefix i (kept_in_steps v i s (step ∷ steps)) (fragments_of (step ∷ steps))
+        (not (is_open (after_steps v s (step ∷ steps))))
     one f g = elim f.end [
       | inl none ↦ record {
         rest = g.rest;
         whole =
             append_assoc (kept_in_step v i s step) (kept_in_steps v i (after_step v s step) steps) g.rest
             ∙ (ap (λ z. kept_in_step v i s step ++ z) g.whole
-            ∙ (ap (λ z. z ++ map (offer_at i) (fragments_of steps)) (sym (append-nil (kept_in_step v i s step)) ∙ (ap (λ z. kept_in_step v i s step ++ z) (sym none) ∙ f.whole))
+            ∙ (ap (λ z. z ++ map (offer_at i) (fragments_of steps))
+            (sym (append-nil (kept_in_step v i s step))
+            ∙ (ap (λ z. kept_in_step v i s step ++ z) (sym none) ∙ f.whole))
             ∙ sym (map_append i (step_fragments step) (fragments_of steps))));
         end = g.end;
       }
@@ -126,7 +159,8 @@ steps_first v i s (step ∷ steps) = one (step_first v i s step) (steps_first v 
             rest = f.rest ++ map (offer_at i) (fragments_of steps);
             whole =
                 ap (λ z. (kept_in_step v i s step ++ z) ++ (f.rest ++ map (offer_at i) (fragments_of steps))) rest.0
-                ∙ (ap (λ z. z ++ (f.rest ++ map (offer_at i) (fragments_of steps))) (append-nil (kept_in_step v i s step))
+                ∙ (ap (λ z. z ++ (f.rest ++ map (offer_at i) (fragments_of steps)))
+                (append-nil (kept_in_step v i s step))
                 ∙ (sym (append_assoc (kept_in_step v i s step) f.rest (map (offer_at i) (fragments_of steps)))
                 ∙ (ap (λ z. z ++ map (offer_at i) (fragments_of steps)) f.whole
                 ∙ sym (map_append i (step_fragments step) (fragments_of steps)))));

@@ -1,5 +1,6 @@
 -- A run is in range where its ends show it.
-use Rattle.std.proofs.Common.{zero, suc, inl, inr, ◌≡◌, ℕ, ◌+◌, ◌-◌, ◌*◌, ◌/◌, ◌<◌, ◌≤◌, Bool, true, false, arith, refl, sym, ◌∙◌}
+use Rattle.std.proofs.Common.{zero, suc, inl, inr, ◌≡◌, ℕ, ◌+◌, ◌-◌, ◌*◌, ◌/◌, ◌<◌, ◌≤◌, Bool, true, false, arith, refl}
+use Rattle.std.proofs.Common.{sym, ◌∙◌}
 use Rattle.std.proofs.Math.Nat.{lt-mul-div-succ, mul-div-le}
 use Rattle.std.proofs.lemmas.Bool.{cases_lt}
 use Rattle.std.proofs.lemmas.Bool.Decides.{nat_tests}
@@ -40,14 +41,16 @@ module _ (v : Layout) (g : IsValidLayout v) (start len : ℕ) where
       let below : start + len ≤ v.size = grind (arith, nat_tests) in
       let within : start + len ≤ cgbase v (start / v.fpg + 1) = grind (arith, nat_tests) in
       let low = base_low in
-      let same : (start + k) / v.fpg ≡ start / v.fpg = group_is v (start / v.fpg) (start + k) (omega arith) (omega arith) in
+      let same : (start + k) / v.fpg ≡ start / v.fpg =
+      group_is v (start / v.fpg) (start + k) (omega arith) (omega arith) in
       let kept = is_kept_group v (start + k) g in
       let free : in_kept v (start / v.fpg) (start + k) ≡ false = grind (arith, nat_tests) in
       let open_is : is_group_metadata v (start + k) ≡ false = grind (arith, nat_tests, kept, same, free) in
       grind (arith, nat_tests)
 
   -- a fragment that fits is below size, of the run's group, and not kept by it
-  fit_facts : (k : ℕ) → fits v start k ≡ true → (start + k < v.size) × ((start + k) / v.fpg ≡ start / v.fpg) × (in_kept v (start / v.fpg) (start + k) ≡ false)
+  fit_facts : (k : ℕ) → fits v start k ≡ true → (start + k < v.size) × ((start + k) / v.fpg ≡ start / v.fpg)
+      × (in_kept v (start / v.fpg) (start + k) ≡ false)
   unfolding is_fragment_in_range
   fit_facts k h =
       let below : start + k < v.size = grind (arith, nat_tests) in
@@ -63,7 +66,8 @@ module _ (v : Layout) (g : IsValidLayout v) (start len : ℕ) where
   fits_apart some h =
       let last = fit_facts (len - 1) (h (len - 1) (omega arith)) in
       let first = fit_facts 0 (h 0 some) in
-      let above : start + (len - 1) < v.fpg * ((start + (len - 1)) / v.fpg + 1) = lt-mul-div-succ (start + (len - 1)) (omega arith) in
+      let above : start + (len - 1) < v.fpg * ((start + (len - 1)) / v.fpg + 1) =
+      lt-mul-div-succ (start + (len - 1)) (omega arith) in
       let group : start + (len - 1) < v.fpg * (start / v.fpg + 1) = rw last.1 at above in
       let size : start + len ≤ v.size = omega arith in
       let within : start + len ≤ v.fpg * (start / v.fpg + 1) = omega arith in
@@ -74,7 +78,8 @@ module _ (v : Layout) (g : IsValidLayout v) (start len : ℕ) where
             elim (cases_lt (cgsblock v (start / v.fpg)) (start + len)) [
               | inr under ↦ grind (arith, nat_tests)
               | inl over ↦
-                  let at = fit_facts (cgsblock v (start / v.fpg) - start) (h (cgsblock v (start / v.fpg) - start) (omega arith)) in
+                  let at = fit_facts (cgsblock v (start / v.fpg) - start)
+                  (h (cgsblock v (start / v.fpg) - start) (omega arith)) in
                   let free = at.2 in
                   absurd (grind (arith, nat_tests))
             ]

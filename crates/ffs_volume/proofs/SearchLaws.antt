@@ -15,11 +15,13 @@ abbrev pub FirstMeaning : (ℕ → Bool) → ℕ → Option ℕ → Type 0
 FirstMeaning p n None = (t : ℕ) → t < n → p t ≡ false
 FirstMeaning p n (Some s) = IsFirst p n s
 
-earliest-tells : (p : ℕ → Bool) (n : ℕ) (o : Option ℕ) (b : Bool) → p n ≡ b → FirstMeaning p n o → FirstMeaning p (suc n) (earliest o b n)
+earliest-tells : (p : ℕ → Bool) (n : ℕ) (o : Option ℕ) (b : Bool) → p n ≡ b → FirstMeaning p n o →
+    FirstMeaning p (suc n) (earliest o b n)
 unfolding earliest
 earliest-tells p n (Some s) b e f = record { below = omega (arith, f.below); passes = f.passes; least = f.least }
 earliest-tells p n None true e f = record { below = omega arith; passes = e; least = f }
-earliest-tells p n None false e f = λ t h. elim (cases_order t n) [ inl q ↦ subst (λ x. p x ≡ false) (sym q) e | inr q ↦ f t (elim q [ inl l ↦ l | inr l ↦ absurd (omega arith) ]) ]
+earliest-tells p n None false e f = λ t h. elim (cases_order t n)
+    [ inl q ↦ subst (λ x. p x ≡ false) (sym q) e | inr q ↦ f t (elim q [ inl l ↦ l | inr l ↦ absurd (omega arith) ]) ]
 
 pub first_below-tells : (p : ℕ → Bool) (n : ℕ) → FirstMeaning p n (first_below p n)
 unfolding first_below

@@ -1,5 +1,7 @@
--- The Runs of data of an inode come in the order of its logical blocks, and each Run has a fragment at least, and a block's fragments at most.
-use Rattle.std.proofs.Common.{zero, suc, inl, inr, ◌≡◌, ℕ, ◌+◌, ◌-◌, ◌*◌, ◌%◌, ◌<◌, ◌≤◌, Bool, true, false, arith, refl, ◌∙◌, List, [], ◌∷◌, ◌++◌, Some, None}
+-- The Runs of data of an inode come in the order of its logical blocks, and each Run has a fragment at least, and a
+-- block's fragments at most.
+use Rattle.std.proofs.Common.{zero, suc, inl, inr, ◌≡◌, ℕ, ◌+◌, ◌-◌, ◌*◌, ◌%◌, ◌<◌, ◌≤◌, Bool, true, false, arith, refl}
+use Rattle.std.proofs.Common.{◌∙◌, List, [], ◌∷◌, ◌++◌, Some, None}
 use Rattle.std.specs.Prelude.{nat_lt, nat_eq, ◌&&◌, if◌then◌else◌, slice_index}
 use Rattle.std.specs.List.{All}
 use Rattle.std.specs.Int.{div_ceil}
@@ -16,17 +18,23 @@ use Rattle.ffs_volume.specs.Disk.Areas.{is_run_in_range}
 use Rattle.ffs_volume.specs.Disk.Geometry.{IsValidLayout}
 use Rattle.ffs_volume.specs.Blocks.Inodes.{logical_blocks_of, addresses_for}
 use Rattle.ffs_volume.specs.Blocks.Lengths.{HasLength}
-use Rattle.ffs_volume.specs.Blocks.Steps.{FileBlocks, block_bytes, address_at, used_addresses, tail_of, any_address_from, steps_under, data_length, span_of, data_step, indirect_steps, steps_at, indirection_of, first_block, steps_of_addresses, last_of, walks, steps_of}
+use Rattle.ffs_volume.specs.Blocks.Steps.{FileBlocks, block_bytes, address_at, used_addresses, tail_of}
+use Rattle.ffs_volume.specs.Blocks.Steps.{any_address_from, steps_under, data_length, span_of, data_step}
+use Rattle.ffs_volume.specs.Blocks.Steps.{indirect_steps, steps_at, indirection_of, first_block, steps_of_addresses}
+use Rattle.ffs_volume.specs.Blocks.Steps.{last_of, walks, steps_of}
 
--- the blocks of the data are from `low` on, ascending, and below `high`; each Run has a fragment at least, and `frag` at most
+-- the blocks of the data are from `low` on, ascending, and below `high`; each Run has a fragment at least, and `frag`
+-- at most
 abbrev pub Within : ℕ → ℕ → ℕ → List Step → Type 0
 Within frag low high [] = low ≤ high
-Within frag low high (Run start len (Some block) ∷ steps) = (low ≤ block) × HasLength frag (Run start len (Some block)) × Within frag (block + 1) high steps
+Within frag low high (Run start len (Some block) ∷ steps) = (low ≤ block) × HasLength frag (Run start len (Some block))
+    × Within frag (block + 1) high steps
 Within frag low high (Run start len None ∷ steps) = HasLength frag (Run start len None) × Within frag low high steps
 Within frag low high (Tail ∷ steps) = Within frag low high steps
 Within frag low high (Gap ∷ steps) = Within frag low high steps
 
-pub within_lower : (frag low mid high : ℕ) (xs : List Step) → low ≤ mid → Within frag mid high xs → Within frag low high xs
+pub within_lower : (frag low mid high : ℕ) (xs : List Step) → low ≤ mid → Within frag mid high xs →
+    Within frag low high xs
 within_lower frag low mid high [] l w = omega arith
 within_lower frag low mid high (Run start len (Some block) ∷ xs) l w = let a = w.0 in (omega arith, w.1, w.2)
 within_lower frag low mid high (Run start len None ∷ xs) l w = (w.0, within_lower frag low mid high xs l w.1)
@@ -35,22 +43,27 @@ within_lower frag low mid high (Gap ∷ xs) l w = within_lower frag low mid high
 
 within_higher : (frag low high top : ℕ) (xs : List Step) → high ≤ top → Within frag low high xs → Within frag low top xs
 within_higher frag low high top [] l w = omega arith
-within_higher frag low high top (Run start len (Some block) ∷ xs) l w = (w.0, w.1, within_higher frag (block + 1) high top xs l w.2)
+within_higher frag low high top (Run start len (Some block) ∷ xs) l w =
+    (w.0, w.1, within_higher frag (block + 1) high top xs l w.2)
 within_higher frag low high top (Run start len None ∷ xs) l w = (w.0, within_higher frag low high top xs l w.1)
 within_higher frag low high top (Tail ∷ xs) l w = within_higher frag low high top xs l w
 within_higher frag low high top (Gap ∷ xs) l w = within_higher frag low high top xs l w
 
-within_append : (frag low mid high : ℕ) (xs ys : List Step) → Within frag low mid xs → Within frag mid high ys → Within frag low high (xs ++ ys)
+within_append : (frag low mid high : ℕ) (xs ys : List Step) → Within frag low mid xs → Within frag mid high ys →
+    Within frag low high (xs ++ ys)
 within_append frag low mid high [] ys w v = within_lower frag low mid high ys w v
-within_append frag low mid high (Run start len (Some block) ∷ xs) ys w v = (w.0, w.1, within_append frag (block + 1) mid high xs ys w.2 v)
+within_append frag low mid high (Run start len (Some block) ∷ xs) ys w v =
+    (w.0, w.1, within_append frag (block + 1) mid high xs ys w.2 v)
 within_append frag low mid high (Run start len None ∷ xs) ys w v = (w.0, within_append frag low mid high xs ys w.1 v)
 within_append frag low mid high (Tail ∷ xs) ys w v = within_append frag low mid high xs ys w v
 within_append frag low mid high (Gap ∷ xs) ys w v = within_append frag low mid high xs ys w v
 
 within_long : (frag low high : ℕ) (xs : List Step) → Within frag low high xs → All (HasLength frag) xs
 within_long frag low high [] w = All-nil (HasLength frag)
-within_long frag low high (Run start len (Some block) ∷ xs) w = All-cons (HasLength frag) (Run start len (Some block)) xs w.1 (within_long frag (block + 1) high xs w.2)
-within_long frag low high (Run start len None ∷ xs) w = All-cons (HasLength frag) (Run start len None) xs w.0 (within_long frag low high xs w.1)
+within_long frag low high (Run start len (Some block) ∷ xs) w =
+    All-cons (HasLength frag) (Run start len (Some block)) xs w.1 (within_long frag (block + 1) high xs w.2)
+within_long frag low high (Run start len None ∷ xs) w =
+    All-cons (HasLength frag) (Run start len None) xs w.0 (within_long frag low high xs w.1)
 within_long frag low high (Tail ∷ xs) w = All-cons (HasLength frag) Tail xs tt (within_long frag low high xs w)
 within_long frag low high (Gap ∷ xs) w = All-cons (HasLength frag) Gap xs tt (within_long frag low high xs w)
 
@@ -61,17 +74,21 @@ one_more a b = grind arith
 abbrev IsFit : FileBlocks → Type 0
 IsFit t = (0 < t.last) × (t.last ≤ t.geometry.frag)
 
-data_long : (t : FileBlocks) (address block : ℕ) → IsFit t → HasLength t.geometry.frag (Run address (data_length t block) (Some block))
+data_long : (t : FileBlocks) (address block : ℕ) → IsFit t →
+    HasLength t.geometry.frag (Run address (data_length t block) (Some block))
 data_long t address block l = one (nat_lt block 12 && nat_eq (block + 1) t.blocks)
   where
-    one : (b : Bool) → (0 < (if b then t.last else t.geometry.frag)) × ((if b then t.last else t.geometry.frag) ≤ t.geometry.frag)
+    one : (b : Bool) → (0 < (if b then t.last else t.geometry.frag))
+        × ((if b then t.last else t.geometry.frag) ≤ t.geometry.frag)
     one true = l
     one false = (omega (arith, l.0, l.1), omega arith)
 
-data_within : (t : FileBlocks) (address block : ℕ) → IsFit t → Within t.geometry.frag block (block + 1) (data_step t address block ∷ [])
+data_within : (t : FileBlocks) (address block : ℕ) → IsFit t →
+    Within t.geometry.frag block (block + 1) (data_step t address block ∷ [])
 data_within t address block l = one (nat_eq address 0)
   where
-    one : (b : Bool) → Within t.geometry.frag block (block + 1) ((if b then Gap else Run address (data_length t block) (Some block)) ∷ [])
+    one : (b : Bool) → Within t.geometry.frag block (block + 1)
+        ((if b then Gap else Run address (data_length t block) (Some block)) ∷ [])
     one true = omega arith
     one false = (omega arith, data_long t address block l, omega arith)
 
@@ -82,26 +99,31 @@ tail_within frag first false = omega arith
 -- the steps under the words of an indirect block
 under_within : (t : FileBlocks) (bytes : List ℕ) (child : ℕ → ℕ → List Step) (span address first next count : ℕ)
     → ((a f : ℕ) → Within t.geometry.frag f (f + span) (child a f))
-    → Within t.geometry.frag (first + next * span) (first + (next + count) * span) (steps_under t.geometry bytes child span address first next count)
+    → Within t.geometry.frag (first + next * span) (first + (next + count) * span)
+    (steps_under t.geometry bytes child span address first next count)
 under_within t bytes child span address first next zero h = let e : next + 0 ≡ next = omega arith in rw e (omega arith)
 under_within t bytes child span address first next (suc count) h =
     let e : next + suc count ≡ (next + 1) + count = omega arith in
     let m : first + (next + 1) * span ≡ first + next * span + span = omega (arith, one_more next span) in
     let rest = under_within t bytes child span address first (next + 1) count h in
-    rw e (within_append t.geometry.frag (first + next * span) (first + next * span + span) (first + ((next + 1) + count) * span)
-    (child (address_at t.geometry bytes address next) (first + next * span)) (steps_under t.geometry bytes child span address first (next + 1) count)
+    rw e (within_append t.geometry.frag (first + next * span) (first + next * span + span)
+    (first + ((next + 1) + count) * span)
+    (child (address_at t.geometry bytes address next) (first + next * span))
+    (steps_under t.geometry bytes child span address first (next + 1) count)
     (h (address_at t.geometry bytes address next) (first + next * span)) (rw m at rest))
 
 indirect_within : (t : FileBlocks) (bytes : List ℕ) (child : ℕ → ℕ → List Step) (span address first : ℕ) → IsFit t
     → ((a f : ℕ) → Within t.geometry.frag f (f + span) (child a f))
     → Within t.geometry.frag first (first + t.geometry.nindir * span) (indirect_steps t bytes child span address first)
-indirect_within t bytes child span address first l h = one (nat_eq address 0) (is_run_in_range t.geometry address t.geometry.frag)
+indirect_within t bytes child span address first l h =
+    one (nat_eq address 0) (is_run_in_range t.geometry address t.geometry.frag)
   where
     used : ℕ
     used = used_addresses t.geometry.nindir t.blocks first span
 
     inner : Within t.geometry.frag first (first + t.geometry.nindir * span)
-        (tail_of (any_address_from t.geometry (block_bytes t.geometry bytes address) used) ++ steps_under t.geometry bytes child span address first 0 used)
+        (tail_of (any_address_from t.geometry (block_bytes t.geometry bytes address) used)
+        ++ steps_under t.geometry bytes child span address first 0 used)
     inner =
         let few : used ≤ t.geometry.nindir = omega arith in
         let most : used * span ≤ t.geometry.nindir * span = mul-le-mul_right span few in
@@ -109,13 +131,16 @@ indirect_within t bytes child span address first l h = one (nat_eq address 0) (i
         let z : first + 0 * span ≡ first = omega arith in
         let y : (0 + used) ≡ used = omega arith in
         within_append t.geometry.frag first first (first + t.geometry.nindir * span)
-        (tail_of (any_address_from t.geometry (block_bytes t.geometry bytes address) used)) (steps_under t.geometry bytes child span address first 0 used)
+        (tail_of (any_address_from t.geometry (block_bytes t.geometry bytes address) used))
+        (steps_under t.geometry bytes child span address first 0 used)
         (tail_within t.geometry.frag first (any_address_from t.geometry (block_bytes t.geometry bytes address) used))
-        (within_higher t.geometry.frag first (first + used * span) (first + t.geometry.nindir * span) (steps_under t.geometry bytes child span address first 0 used) (omega arith) (rw (z, y) at u))
+        (within_higher t.geometry.frag first (first + used * span) (first + t.geometry.nindir * span)
+        (steps_under t.geometry bytes child span address first 0 used) (omega arith) (rw (z, y) at u))
 
     one : (a b : Bool) → Within t.geometry.frag first (first + t.geometry.nindir * span)
         (if a then Gap ∷ [] else Run address t.geometry.frag None ∷
-        (if b then tail_of (any_address_from t.geometry (block_bytes t.geometry bytes address) used) ++ steps_under t.geometry bytes child span address first 0 used else []))
+        (if b then tail_of (any_address_from t.geometry (block_bytes t.geometry bytes address) used)
+        ++ steps_under t.geometry bytes child span address first 0 used else []))
     one true b = omega arith
     one false true = ((omega (arith, l.0, l.1), omega arith), inner)
     one false false = ((omega (arith, l.0, l.1), omega arith), omega arith)
@@ -129,7 +154,9 @@ at_within : (t : FileBlocks) (bytes : List ℕ) (level address first : ℕ) → 
 unfolding steps_at
 at_within t bytes zero address first l = data_within t address first l
 at_within t bytes (suc level) address first l =
-    rw (← span_more t.geometry.nindir level) (indirect_within t bytes (steps_at t bytes level) (span_of t.geometry.nindir level) address first l (λ a f. at_within t bytes level a f l))
+    rw (← span_more t.geometry.nindir level)
+    (indirect_within t bytes (steps_at t bytes level) (span_of t.geometry.nindir level) address first l
+    (λ a f. at_within t bytes level a f l))
 
 -- where the blocks under an address end
 top_of : ℕ → ℕ → ℕ
@@ -165,21 +192,26 @@ next_first words i h = address_top words i (omega arith) ∙ top_here words i h
 
 -- the steps under some of the fifteen addresses
 addresses_within : (t : FileBlocks) (bytes addresses : List ℕ) (next count : ℕ) → IsFit t → next + suc count ≤ 15
-    → Within t.geometry.frag (first_block t.geometry.nindir next) (top_of t.geometry.nindir (next + count)) (steps_of_addresses t bytes addresses next (suc count))
+    → Within t.geometry.frag (first_block t.geometry.nindir next) (top_of t.geometry.nindir (next + count))
+    (steps_of_addresses t bytes addresses next (suc count))
 addresses_within t bytes addresses next zero l h =
     let w = at_within t bytes (indirection_of next) (slice_index addresses next) (first_block t.geometry.nindir next)
     l in
     let e = address_top t.geometry.nindir next (omega arith) in
     let n : next + 0 ≡ next = omega arith in
-    rw n (within_append t.geometry.frag (first_block t.geometry.nindir next) (top_of t.geometry.nindir next) (top_of t.geometry.nindir next)
-    (steps_at t bytes (indirection_of next) (slice_index addresses next) (first_block t.geometry.nindir next)) [] (rw e at w) (omega arith))
+    rw n (within_append t.geometry.frag (first_block t.geometry.nindir next) (top_of t.geometry.nindir next)
+    (top_of t.geometry.nindir next)
+    (steps_at t bytes (indirection_of next) (slice_index addresses next) (first_block t.geometry.nindir next)) []
+    (rw e at w) (omega arith))
 addresses_within t bytes addresses next (suc count) l h =
     let w = at_within t bytes (indirection_of next) (slice_index addresses next) (first_block t.geometry.nindir next)
     l in
     let n : next + suc count ≡ (next + 1) + count = omega arith in
     let rest = addresses_within t bytes addresses (next + 1) count l (omega arith) in
-    rw n (within_append t.geometry.frag (first_block t.geometry.nindir next) (first_block t.geometry.nindir (next + 1)) (top_of t.geometry.nindir ((next + 1) + count))
-    (steps_at t bytes (indirection_of next) (slice_index addresses next) (first_block t.geometry.nindir next)) (steps_of_addresses t bytes addresses (next + 1) (suc count))
+    rw n (within_append t.geometry.frag (first_block t.geometry.nindir next) (first_block t.geometry.nindir (next + 1))
+    (top_of t.geometry.nindir ((next + 1) + count))
+    (steps_at t bytes (indirection_of next) (slice_index addresses next) (first_block t.geometry.nindir next))
+    (steps_of_addresses t bytes addresses (next + 1) (suc count))
     (rw (next_first t.geometry.nindir next (omega arith)) at w) rest)
 
 last_fits : (v : Layout) (i : Inode) → IsValidLayout v → (0 < last_of v i) × (last_of v i ≤ v.frag)
@@ -197,12 +229,15 @@ last_fits v i g = one (nat_eq (i.size % v.bsize) 0) refl
       | inr few ↦ few
     ]
 
-    one : (b : Bool) → nat_eq (i.size % v.bsize) 0 ≡ b → (0 < (if b then v.frag else div_ceil (i.size % v.bsize) v.fsize)) × ((if b then v.frag else div_ceil (i.size % v.bsize) v.fsize) ≤ v.frag)
+    one : (b : Bool) → nat_eq (i.size % v.bsize) 0 ≡ b →
+        (0 < (if b then v.frag else div_ceil (i.size % v.bsize) v.fsize))
+        × ((if b then v.frag else div_ceil (i.size % v.bsize) v.fsize) ≤ v.frag)
     one true e = (omega (arith, g.sizes.frag_low), omega arith)
     one false e =
         let low : 0 < v.fsize = omega (arith, g.sizes.fsize_low) in
         let over : i.size % v.bsize < v.bsize = mod-lt i.size (omega (arith, g.sizes.bsize_low)) in (
-          some (div_ceil (i.size % v.bsize) v.fsize) (i.size % v.bsize) (div_ceil_times (i.size % v.bsize) v.fsize low).0 (eqb-false (i.size % v.bsize) 0 e),
+          some (div_ceil (i.size % v.bsize) v.fsize) (i.size % v.bsize)
+              (div_ceil_times (i.size % v.bsize) v.fsize low).0 (eqb-false (i.size % v.bsize) 0 e),
           within (i.size % v.bsize) low (omega (arith, g.sizes.block)),
         )
 
@@ -210,9 +245,11 @@ pub used_most : (words blocks : ℕ) → addresses_for words blocks ≤ 15
 used_most words blocks = grind (arith, nat_tests)
 
 -- the steps of an inode
-pub steps_within : (v : Layout) (i : Inode) (bytes : List ℕ) → IsValidLayout v → (high : ℕ) × Within v.frag 0 high (steps_of v i bytes)
+pub steps_within : (v : Layout) (i : Inode) (bytes : List ℕ) → IsValidLayout v → (high : ℕ)
+    × Within v.frag 0 high (steps_of v i bytes)
 unfolding steps_of
-steps_within v i bytes g = one (addresses_for v.nindir (if walks v i then logical_blocks_of v i else 0)) (used_most v.nindir (if walks v i then logical_blocks_of v i else 0))
+steps_within v i bytes g = one (addresses_for v.nindir (if walks v i then logical_blocks_of v i else 0))
+    (used_most v.nindir (if walks v i then logical_blocks_of v i else 0))
   where
     t : FileBlocks
     t = record { geometry = v; blocks = if walks v i then logical_blocks_of v i else 0; last = last_of v i }

@@ -38,7 +38,8 @@ unreached-level v d h = go (level v d) h
     go (Some k) e = absurd (cc)
 
 -- the parent of an unreached directory is the least with an edge to it
-pub parent-unreached : (v : Graph) (d : ℕ) → d ≢ 2 → reached v d ≡ false → parent v d ≡ first_below (λ s. edge v s d) v.count
+pub parent-unreached : (v : Graph) (d : ℕ) → d ≢ 2 → reached v d ≡ false →
+    parent v d ≡ first_below (λ s. edge v s d) v.count
 unfolding parent
 parent-unreached v d n h =
     cond-false (d == 2) (Some 2) (parent_by v d (level v d)) (ne_eqb d 2 n) ∙ ap (parent_by v d) (unreached-level v d h)

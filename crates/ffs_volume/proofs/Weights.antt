@@ -1,5 +1,6 @@
 -- What the Runs that are seen and the offers that are kept use up, over the steps of an inode.
-use Rattle.std.proofs.Common.{◌≡◌, ℕ, ◌+◌, ◌<◌, ◌≤◌, zero, suc, Bool, true, false, ◌==◌, if◌then◌else◌, nat_lt, List, [], ◌∷◌, length, count_by, arith, refl, ap, ◌∙◌, slice_set, length-set}
+use Rattle.std.proofs.Common.{◌≡◌, ℕ, ◌+◌, ◌<◌, ◌≤◌, zero, suc, Bool, true, false, ◌==◌, if◌then◌else◌, nat_lt, List}
+use Rattle.std.proofs.Common.{[], ◌∷◌, length, count_by, arith, refl, ap, ◌∙◌, slice_set, length-set}
 use Rattle.std.specs.List.{All, range_with_len, slice_index_or}
 use Rattle.std.proofs.lemmas.List.Elements.{All-head, All-tail}
 use Rattle.std.proofs.lemmas.List.Sums.{count_by-le-length, sum_by-set}
@@ -16,11 +17,13 @@ use Rattle.ffs_volume.specs.Blocks.Lengths.{HasLength}
 use Rattle.ffs_volume.specs.Blocks.Steps.{steps_of}
 use Rattle.ffs_volume.proofs.StepLaws.{steps_long}
 use Rattle.ffs_volume.specs.Blocks.Owners.{owner_of}
-use Rattle.ffs_volume.specs.Blocks.Claims.{Claims, next_inode, is_set, is_open, after_offer, after_offers, after_run, after_step, after_steps, after_owner}
+use Rattle.ffs_volume.specs.Blocks.Claims.{Claims, next_inode, is_set, is_open, after_offer, after_offers, after_run}
+use Rattle.ffs_volume.specs.Blocks.Claims.{after_step, after_steps, after_owner}
 use Rattle.ffs_volume.specs.Blocks.ClaimBounds.{potential, offers_potential, ClaimBound}
 
 -- a fact of a choice of two, by cases
-pub cond_holds : {A : Type 0} (P : A → Type 0) (b : Bool) (x y : A) → (b ≡ true → P x) → (b ≡ false → P y) → P (if b then x else y)
+pub cond_holds : {A : Type 0} (P : A → Type 0) (b : Bool) (x y : A) → (b ≡ true → P x) → (b ≡ false → P y) →
+    P (if b then x else y)
 cond_holds P true x y first second = first refl
 cond_holds P false x y first second = second refl
 
@@ -36,7 +39,8 @@ unfolding is_fragment_in_range
 ok_below v f h = grind (arith, nat_tests)
 
 -- each fragment of a Run in range is ok
-pub each_ok : (v : Layout) (start len k : ℕ) → is_run_in_range v start len ≡ true → k < len → is_fragment_in_range v (start + k) ≡ true
+pub each_ok : (v : Layout) (start len k : ℕ) → is_run_in_range v start len ≡ true → k < len →
+    is_fragment_in_range v (start + k) ≡ true
 unfolding is_run_in_range
 each_ok v start len k h low = (and_parts (is_fragment_in_range v (start + k)) _ (all_below-at len k _ h low)).0
 
@@ -57,7 +61,15 @@ offer_keeps v s f h =
     cond_holds (λ s'. Keeps s s' 1) (is_fragment_in_range v f) _ _
     (λ ok. let below : f < length s.used = omega (arith, h, ok_below v f ok) in
     cond_holds (λ s'. Keeps s s' 1) (is_set s.used f) _ _
-    (λ set. record { weighs = omega arith; used_length = refl; dup_length = length-set s.dup f true; runs_is = refl; bad_is = refl; dups_cap = λ _. omega arith; most = omega arith })
+    (λ set. record {
+      weighs = omega arith;
+      used_length = refl;
+      dup_length = length-set s.dup f true;
+      runs_is = refl;
+      bad_is = refl;
+      dups_cap = λ _. omega arith;
+      most = omega arith;
+    })
     (λ clear. record {
       weighs = omega (arith, count_set s.used f below clear);
       used_length = length-set s.used f true;
@@ -67,11 +79,28 @@ offer_keeps v s f h =
       dups_cap = λ c. c;
       most = omega arith;
     }))
-    (λ _. record { weighs = omega arith; used_length = refl; dup_length = refl; runs_is = refl; bad_is = refl; dups_cap = λ c. c; most = omega arith }))
-    (λ _. record { weighs = omega arith; used_length = refl; dup_length = refl; runs_is = refl; bad_is = refl; dups_cap = λ c. c; most = omega arith })
+    (λ _. record {
+      weighs = omega arith;
+      used_length = refl;
+      dup_length = refl;
+      runs_is = refl;
+      bad_is = refl;
+      dups_cap = λ c. c;
+      most = omega arith;
+    }))
+    (λ _. record {
+      weighs = omega arith;
+      used_length = refl;
+      dup_length = refl;
+      runs_is = refl;
+      bad_is = refl;
+      dups_cap = λ c. c;
+      most = omega arith;
+    })
 
 -- an ok offer that is kept weighs
-offer_weighs : (v : Layout) (s : Claims) (f : ℕ) → length s.used ≡ v.size → nat_lt s.dups 11 ≡ true → is_fragment_in_range v f ≡ true →
+offer_weighs : (v : Layout) (s : Claims) (f : ℕ) → length s.used ≡ v.size → nat_lt s.dups 11 ≡ true →
+    is_fragment_in_range v f ≡ true →
     potential s + 1 ≤ potential (after_offer v s f)
 offer_weighs v s f h more_dups ok =
     let below : f < length s.used = omega (arith, h, ok_below v f ok) in
@@ -86,14 +115,24 @@ offer_level : (v : Layout) (s : Claims) (f : ℕ) → length s.used ≡ v.size �
 offer_level v s f h ok =
     let below : f < length s.used = omega (arith, h, ok_below v f ok) in
     cond_holds (λ (t : Claims). t.kept + offers_potential s ≤ s.kept + offers_potential t) (nat_lt s.dups 11) _ _
-    (λ _. rw ok (cond_holds (λ (t : Claims). t.kept + offers_potential s ≤ s.kept + offers_potential t) (is_set s.used f) _ _
+    (λ _. rw ok (cond_holds (λ (t : Claims). t.kept + offers_potential s ≤ s.kept + offers_potential t)
+    (is_set s.used f) _ _
     (λ set. omega arith)
     (λ clear. omega (arith, count_set s.used f below clear))))
     (λ _. omega arith)
 
 -- offers one after the other
-offers_keep : (v : Layout) (s : Claims) (start len : ℕ) → length s.used ≡ v.size → Keeps s (after_offers v s (range_with_len start len)) len
-offers_keep v s start zero h = record { weighs = omega arith; used_length = refl; dup_length = refl; runs_is = refl; bad_is = refl; dups_cap = λ c. c; most = omega arith }
+offers_keep : (v : Layout) (s : Claims) (start len : ℕ) → length s.used ≡ v.size →
+    Keeps s (after_offers v s (range_with_len start len)) len
+offers_keep v s start zero h = record {
+  weighs = omega arith;
+  used_length = refl;
+  dup_length = refl;
+  runs_is = refl;
+  bad_is = refl;
+  dups_cap = λ c. c;
+  most = omega arith;
+}
 offers_keep v s start (suc len) h =
     let one = offer_keeps v s start h in
     let more = offers_keep v (after_offer v s start) (start + 1) len (one.used_length ∙ h) in
@@ -107,7 +146,8 @@ offers_keep v s start (suc len) h =
       most = omega (arith, one.most, more.most);
     }
 
-offers_weigh : (v : Layout) (s : Claims) (start len : ℕ) → length s.used ≡ v.size → nat_lt s.dups 11 ≡ true → is_fragment_in_range v start ≡ true → 0 < len →
+offers_weigh : (v : Layout) (s : Claims) (start len : ℕ) → length s.used ≡ v.size → nat_lt s.dups 11 ≡ true →
+    is_fragment_in_range v start ≡ true → 0 < len →
     potential s + 1 ≤ potential (after_offers v s (range_with_len start len))
 offers_weigh v s start zero h more_dups ok some = absurd (omega arith)
 offers_weigh v s start (suc len) h more_dups ok some =
@@ -115,20 +155,31 @@ offers_weigh v s start (suc len) h more_dups ok some =
     let more = offers_keep v (after_offer v s start) (start + 1) len (one.used_length ∙ h) in
     omega (arith, offer_weighs v s start h more_dups ok, more.weighs)
 
-offers_level : (v : Layout) (s : Claims) (start len : ℕ) → length s.used ≡ v.size → ((k : ℕ) → k < len → is_fragment_in_range v (start + k) ≡ true) →
-    (after_offers v s (range_with_len start len)).kept + offers_potential s ≤ s.kept + offers_potential (after_offers v s (range_with_len start len))
+offers_level : (v : Layout) (s : Claims) (start len : ℕ) → length s.used ≡ v.size →
+    ((k : ℕ) → k < len → is_fragment_in_range v (start + k) ≡ true) →
+    (after_offers v s (range_with_len start len)).kept + offers_potential s ≤ s.kept + offers_potential
+    (after_offers v s (range_with_len start len))
 offers_level v s start zero h ok = omega arith
 offers_level v s start (suc len) h ok =
     let first : is_fragment_in_range v start ≡ true = ap (is_fragment_in_range v) (omega arith) ∙ ok 0 (omega arith) in
-    let rest : (k : ℕ) → k < len → is_fragment_in_range v (start + 1 + k) ≡ true = λ k low. ap (is_fragment_in_range v) (omega arith) ∙ ok (k + 1) (omega arith) in
+    let rest : (k : ℕ) → k < len → is_fragment_in_range v (start + 1 + k) ≡ true =
+    λ k low. ap (is_fragment_in_range v) (omega arith) ∙ ok (k + 1) (omega arith) in
     let one = offer_keeps v s start h in
     let more = offers_level v (after_offer v s start) (start + 1) len (one.used_length ∙ h) rest in
     omega (arith, offer_level v s start h first, more)
 
 pub stays : (s : Claims) → ClaimBound s s
-stays s = record { weighs = omega arith; keeps = omega arith; used_length = refl; dup_length = refl; bad_cap = λ c. c; dups_cap = λ c. c }
+stays s = record {
+  weighs = omega arith;
+  keeps = omega arith;
+  used_length = refl;
+  dup_length = refl;
+  bad_cap = λ c. c;
+  dups_cap = λ c. c;
+}
 
-run_moves : (v : Layout) (s : Claims) (start len : ℕ) → length s.used ≡ v.size → 0 < len → len ≤ 8 → nat_lt s.bad 11 ≡ true → nat_lt s.dups 11 ≡ true →
+run_moves : (v : Layout) (s : Claims) (start len : ℕ) → length s.used ≡ v.size → 0 < len → len ≤ 8 →
+    nat_lt s.bad 11 ≡ true → nat_lt s.dups 11 ≡ true →
     ClaimBound s (after_run v s start len)
 run_moves v s start len h some small few more_dups =
     let low : s.bad < 11 = ltb-true s.bad 11 few in
@@ -136,7 +187,8 @@ run_moves v s start len h some small few more_dups =
     (λ fits.
     let seen : Claims = record s { runs = s.runs + 1 } in
     let keep = offers_keep v seen start len h in
-    let first : is_fragment_in_range v start ≡ true = ap (is_fragment_in_range v) (omega arith) ∙ each_ok v start len 0 fits some in
+    let first : is_fragment_in_range v start ≡ true = ap (is_fragment_in_range v) (omega arith)
+    ∙ each_ok v start len 0 fits some in
     let more = offers_weigh v seen start len h more_dups first some in
     let level = offers_level v seen start len h (λ k lt. each_ok v start len k fits lt) in
     record {
@@ -148,7 +200,14 @@ run_moves v s start len h some small few more_dups =
       dups_cap = keep.dups_cap;
     })
     (λ _. cond_holds (ClaimBound s) (s.bad == 10) _ _
-    (λ _. record { weighs = omega arith; keeps = omega arith; used_length = refl; dup_length = refl; bad_cap = λ c. omega arith; dups_cap = λ c. c })
+    (λ _. record {
+      weighs = omega arith;
+      keeps = omega arith;
+      used_length = refl;
+      dup_length = refl;
+      bad_cap = λ c. omega arith;
+      dups_cap = λ c. c;
+    })
     (λ _.
     let seen : Claims = record s { runs = s.runs + 1; bad = s.bad + 1 } in
     let keep = offers_keep v seen start len h in
@@ -161,7 +220,8 @@ run_moves v s start len h some small few more_dups =
       dups_cap = keep.dups_cap;
     }))
 
-pub step_moves : (v : Layout) (s : Claims) (step : Step) → length s.used ≡ v.size → v.frag ≤ 8 → HasLength v.frag step → ClaimBound s (after_step v s step)
+pub step_moves : (v : Layout) (s : Claims) (step : Step) → length s.used ≡ v.size → v.frag ≤ 8 → HasLength v.frag step →
+    ClaimBound s (after_step v s step)
 step_moves v s (Run start len block) h small some =
     cond_holds (ClaimBound s) (is_open s) _ _
     (λ more_dups. let both = and_parts (nat_lt s.bad 11) (nat_lt s.dups 11) more_dups in
@@ -169,7 +229,14 @@ step_moves v s (Run start len block) h small some =
     (λ _. stays s)
 step_moves v s Tail h small some =
     cond_holds (ClaimBound s) (is_open s) _ _
-    (λ _. record { weighs = omega arith; keeps = omega arith; used_length = refl; dup_length = refl; bad_cap = λ c. c; dups_cap = λ c. c })
+    (λ _. record {
+      weighs = omega arith;
+      keeps = omega arith;
+      used_length = refl;
+      dup_length = refl;
+      bad_cap = λ c. c;
+      dups_cap = λ c. c;
+    })
     (λ _. stays s)
 step_moves v s Gap h small some = stays s
 
@@ -184,7 +251,8 @@ moves_then s t u a b = record {
   dups_cap = λ c. b.dups_cap (a.dups_cap c);
 }
 
-pub steps_move : (v : Layout) (s : Claims) (steps : List Step) → length s.used ≡ v.size → v.frag ≤ 8 → All (HasLength v.frag) steps → ClaimBound s (after_steps v s steps)
+pub steps_move : (v : Layout) (s : Claims) (steps : List Step) → length s.used ≡ v.size → v.frag ≤ 8 →
+    All (HasLength v.frag) steps → ClaimBound s (after_steps v s steps)
 steps_move v s [] h small long = stays s
 steps_move v s (step ∷ steps) h small long =
     let one = step_moves v s step h small (All-head (HasLength v.frag) step steps long) in
@@ -192,11 +260,14 @@ steps_move v s (step ∷ steps) h small long =
     (steps_move v (after_step v s step) steps (one.used_length ∙ h) small (All-tail (HasLength v.frag) step steps long))
 
 -- the steps of an inode
-pub owner_moves : (v : Layout) (image : List ℕ) (s : Claims) (x : ℕ) → IsValidLayout v → length s.used ≡ v.size → ClaimBound (next_inode s) (after_owner v s (owner_of v image x))
+pub owner_moves : (v : Layout) (image : List ℕ) (s : Claims) (x : ℕ) → IsValidLayout v → length s.used ≡ v.size →
+    ClaimBound (next_inode s) (after_owner v s (owner_of v image x))
 unfolding owner_of
-owner_moves v image s x g h = steps_move v (next_inode s) (steps_of v (inode_of v image x) image) h g.sizes.frag_high (steps_long v (inode_of v image x) image g)
+owner_moves v image s x g h = steps_move v (next_inode s) (steps_of v (inode_of v image x) image) h g.sizes.frag_high
+    (steps_long v (inode_of v image x) image g)
 
 -- how many offers an inode keeps
-pub kept_bound : (s0 s : Claims) (size : ℕ) → length s.used ≡ size → s0.bad ≤ 11 → s0.dups ≤ 11 → s0.kept ≡ 0 → ClaimBound s0 s → s.kept ≤ size + 99
+pub kept_bound : (s0 s : Claims) (size : ℕ) → length s.used ≡ size → s0.bad ≤ 11 → s0.dups ≤ 11 → s0.kept ≡ 0 →
+    ClaimBound s0 s → s.kept ≤ size + 99
 kept_bound s0 s size h bad dups none m =
     omega (arith, h, m.keeps, m.bad_cap bad, m.dups_cap dups, count_by-le-length (λ b. b) s.used)

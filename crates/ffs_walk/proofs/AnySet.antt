@@ -1,5 +1,6 @@
 -- Whether an address from an index on isn't zero, by the bits of all of them.
-use Rattle.std.proofs.Common.{zero, suc, ◌≡◌, ◌==◌, ◌||◌, ◌+◌, ◌-◌, ◌<◌, ◌≤◌, ◌∙◌, ap, refl, ℕ, List, length, get_or, take, drop, not, bit_or, arith, length-drop}
+use Rattle.std.proofs.Common.{zero, suc, ◌≡◌, ◌==◌, ◌||◌, ◌+◌, ◌-◌, ◌<◌, ◌≤◌, ◌∙◌, ap, refl, ℕ, List, length, get_or}
+use Rattle.std.proofs.Common.{take, drop, not, bit_or, arith, length-drop}
 use Rattle.std.proofs.lemmas.List.Folds.{list_any_more}
 use Rattle.std.proofs.lemmas.List.{get_or-drop}
 use Rattle.std.proofs.lemmas.Nat.{le_or_l}
@@ -12,7 +13,8 @@ or_set (suc a) b = grind (arith, le_or_l (suc a) b)
 
 -- the addresses from `from` on and below one more index
 pub set_more : (xs : List ℕ) (from i : ℕ) → from ≤ i → i < length xs →
-    is_any_set (take (i + 1 - from) (drop from xs)) ≡ (is_any_set (take (i - from) (drop from xs)) || not (get_or xs i 0 == 0))
+    is_any_set (take (i + 1 - from) (drop from xs))
+    ≡ (is_any_set (take (i - from) (drop from xs)) || not (get_or xs i 0 == 0))
 set_more xs from i low below =
     let e : i + 1 - from ≡ i - from + 1 = omega arith in
     let g : get_or (drop from xs) (i - from) 0 ≡ get_or xs i 0 =

@@ -1,4 +1,5 @@
-use Rattle.std.proofs.Common.{◌≡◌, ℕ, ◌+◌, ◌-◌, ◌*◌, ◌<◌, ◌≤◌, ◌^◌, Bool, true, false, if◌then◌else◌, List, [], ◌++◌, Option, arith, refl, ◌∙◌}
+use Rattle.std.proofs.Common.{◌≡◌, ℕ, ◌+◌, ◌-◌, ◌*◌, ◌<◌, ◌≤◌, ◌^◌, Bool, true, false, if◌then◌else◌, List, [], ◌++◌}
+use Rattle.std.proofs.Common.{Option, arith, refl, ◌∙◌}
 use Rattle.ffs_volume.specs.declared.Layout.{Layout}
 use Rattle.ffs_volume.specs.declared.Step.{Step}
 use Rattle.ffs_walk.specs.declared.frame.Frame.{Frame}
@@ -21,12 +22,14 @@ use Rattle.ffs_walk.proofs.Ranges.{flat_map_step}
 pub next_word : (g : Layout) (bytes : List ℕ) (child : ℕ → ℕ → List Step) (span address first next used : ℕ) →
     next < used →
     steps_under g bytes child span address first next (used - next)
-    ≡ child (address_at g bytes address next) (first + next * span) ++ steps_under g bytes child span address first (next + 1) (used - (next + 1))
+    ≡ child (address_at g bytes address next) (first + next * span) ++ steps_under g bytes child span address first
+    (next + 1) (used - (next + 1))
 next_word g bytes child span address first next used h =
     flat_map_step (λ j. child (address_at g bytes address j) (first + j * span)) next used h
 
 -- no Tail comes where the unused words aren't set, or it is known already
-pub no_tail : (fresh found : Bool) (xs : List Step) → (fresh ≡ true → found ≡ false) → (if fresh then tail_of found else []) ++ xs ≡ xs
+pub no_tail : (fresh found : Bool) (xs : List Step) → (fresh ≡ true → found ≡ false) →
+    (if fresh then tail_of found else []) ++ xs ≡ xs
 no_tail true found xs h = rw (h refl) refl
 no_tail false found xs h = refl
 
@@ -38,20 +41,23 @@ pub word_taken : (g : Layout) (contents : Option (List ℕ)) (span : ℕ) (f : F
     address ≡ address_in g block f.next →
     ForContents contents (λ bytes. (child : ℕ → ℕ → List Step) →
     frame_rest g bytes child span f
-    ≡ child address (f.first + f.next * span) ++ steps_under g bytes child span f.address f.first (f.next + 1) (f.used - (f.next + 1)))
+    ≡ child address (f.first + f.next * span) ++ steps_under g bytes child span f.address f.first (f.next + 1)
+    (f.used - (f.next + 1)))
 word_taken g contents span f block address h held none is = λ bytes e child.
     no_tail f.fresh (any_address_from g (block_bytes g bytes f.address) f.used) _ (rw (held bytes e) at none)
     ∙ next_word g bytes child span f.address f.first f.next f.used h
     ∙ rw (is, held bytes e) refl
 
 -- one word less is left
-pub less_left : (most : ℕ) (f : Frame) → f.next < f.used → most + (0 + (f.used - (f.next + 1)) * most) ≤ frame_left most f
+pub less_left : (most : ℕ) (f : Frame) → f.next < f.used → most + (0 + (f.used - (f.next + 1)) * most) ≤ frame_left most
+    f
 less_left most f h =
     let e : f.used - f.next ≡ f.used - (f.next + 1) + 1 = omega arith in
     rw e (omega arith)
 
 -- a used word has logical blocks of the inode under it
-pub word_below : (words blocks first span used j : ℕ) → 0 < span → used ≤ used_addresses words blocks first span → j < used → first + j * span < blocks
+pub word_below : (words blocks first span used j : ℕ) → 0 < span → used ≤ used_addresses words blocks first span →
+    j < used → first + j * span < blocks
 word_below words blocks first span used j some fits h =
     let n = blocks - first in
     let counted : j + 1 ≤ div_ceil n span = omega arith in
@@ -59,16 +65,20 @@ word_below words blocks first span used j some fits h =
     let above : div_ceil n span * span < n + span = (div_ceil_times n span some).1 in
     omega (arith, scaled, above)
 
-pub item_below : (g : Layout) (blocks span : ℕ) (f : Frame) (item : Item) → 0 < span → FrameFits g blocks span f → IsFrom f span item → IsBelow blocks item
+pub item_below : (g : Layout) (blocks span : ℕ) (f : Frame) (item : Item) → 0 < span → FrameFits g blocks span f →
+    IsFrom f span item → IsBelow blocks item
 item_below g blocks span f Missing some fits from = tt
 item_below g blocks span f (Word address block) some fits from =
     let e : block ≡ f.first + f.next * span = from.1 in
-    let below : f.first + f.next * span < blocks = word_below g.nindir blocks f.first span f.used f.next some fits.words from.0 in
+    let below : f.first + f.next * span < blocks = word_below g.nindir blocks f.first span f.used f.next some fits.words
+    from.0 in
     (omega (arith, e, fits.indirect from.0), omega (arith, e, below))
 
-pub word_fits : (g : Layout) (blocks span : ℕ) (f : Frame) → 0 < span → FrameFits g blocks span f → blocks < 2 ^ 53 → f.next < f.used → f.first + f.next * span < 2 ^ 64
+pub word_fits : (g : Layout) (blocks span : ℕ) (f : Frame) → 0 < span → FrameFits g blocks span f → blocks < 2 ^ 53 →
+    f.next < f.used → f.first + f.next * span < 2 ^ 64
 word_fits g blocks span f some fits small h =
-    let below : f.first + f.next * span < blocks = word_below g.nindir blocks f.first span f.used f.next some fits.words h in
+    let below : f.first + f.next * span < blocks = word_below g.nindir blocks f.first span f.used f.next some fits.words
+    h in
     omega (arith, below)
 
 -- what is left in a frame that is new
@@ -96,10 +106,12 @@ kept_fits g blocks span f f' some same fits = record {
 }
 
 -- a walk falls where its double or triple frame takes an item, and what the item means goes below
-pub falls_in_double : (i d' s d t u left : ℕ) → 1 + left ≤ i + (s + (d' + (t + u))) → i + d' ≤ d → left < s + (d + (t + u))
+pub falls_in_double : (i d' s d t u left : ℕ) → 1 + left ≤ i + (s + (d' + (t + u))) → i + d' ≤ d →
+    left < s + (d + (t + u))
 falls_in_double i d' s d t u left l f = omega arith
 
-pub falls_in_triple : (i t' s d t u left : ℕ) → 1 + left ≤ i + (s + (d + (t' + u))) → i + t' ≤ t → left < s + (d + (t + u))
+pub falls_in_triple : (i t' s d t u left : ℕ) → 1 + left ≤ i + (s + (d + (t' + u))) → i + t' ≤ t →
+    left < s + (d + (t + u))
 falls_in_triple i t' s d t u left l f = omega arith
 
 -- a frame with a word left is not spent

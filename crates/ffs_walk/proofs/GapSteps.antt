@@ -1,25 +1,32 @@
 -- Words of zero are gaps, at every level.
-use Rattle.std.proofs.Common.{◌≡◌, ℕ, zero, suc, ◌+◌, ◌-◌, ◌*◌, ◌<◌, ◌≤◌, false, if◌then◌else◌, List, [], ◌∷◌, ◌++◌, replicate, append_assoc, arith, refl, ap, ◌∙◌, sym}
+use Rattle.std.proofs.Common.{◌≡◌, ℕ, zero, suc, ◌+◌, ◌-◌, ◌*◌, ◌<◌, ◌≤◌, false, if◌then◌else◌, List, [], ◌∷◌, ◌++◌}
+use Rattle.std.proofs.Common.{replicate, append_assoc, arith, refl, ap, ◌∙◌, sym}
 use Rattle.ffs_volume.specs.declared.Layout.{Layout}
 use Rattle.ffs_volume.specs.declared.Step.{Step}
 use Rattle.ffs_volume.specs.declared.Step.TheVariants.{Gap}
-use Rattle.ffs_volume.specs.Blocks.Steps.{FileBlocks, block_bytes, address_in, address_at, tail_of, any_address_from, steps_under, steps_at}
+use Rattle.ffs_volume.specs.Blocks.Steps.{FileBlocks, block_bytes, address_in, address_at, tail_of, any_address_from}
+use Rattle.ffs_volume.specs.Blocks.Steps.{steps_under, steps_at}
 use Rattle.ffs_walk.specs.declared.frame.Frame.{Frame}
 use Rattle.ffs_walk.specs.Frames.{frame_rest}
 use Rattle.ffs_walk.proofs.FrameSteps.{next_word}
 
 -- so many words of zero in a row
-gaps_under : (g : Layout) (bytes : List ℕ) (child : ℕ → ℕ → List Step) (span address first used n next : ℕ) → ((block : ℕ) → child 0 block ≡ Gap ∷ []) → next + n ≤ used →
+gaps_under : (g : Layout) (bytes : List ℕ) (child : ℕ → ℕ → List Step) (span address first used n next : ℕ) →
+    ((block : ℕ) → child 0 block ≡ Gap ∷ []) → next + n ≤ used →
     ((k : ℕ) → next ≤ k → k < next + n → address_at g bytes address k ≡ 0) →
-    steps_under g bytes child span address first next (used - next) ≡ replicate n Gap ++ steps_under g bytes child span address first (next + n) (used - (next + n))
+    steps_under g bytes child span address first next (used - next) ≡ replicate n Gap ++ steps_under g bytes child span
+    address first (next + n) (used - (next + n))
 gaps_under g bytes child span address first used zero next gap h zeros =
     let at : next ≡ next + 0 = omega arith in ap (λ j. steps_under g bytes child span address first j (used - j)) at
 gaps_under g bytes child span address first used (suc n) next gap h zeros =
     let at : next + 1 + n ≡ next + suc n = omega arith in
     next_word g bytes child span address first next used (omega arith)
-    ∙ ap (λ w. child w (first + next * span) ++ steps_under g bytes child span address first (next + 1) (used - (next + 1))) (zeros next (omega arith) (omega arith))
-    ∙ ap (λ xs. xs ++ steps_under g bytes child span address first (next + 1) (used - (next + 1))) (gap (first + next * span))
-    ∙ ap (λ xs. Gap ∷ xs) (gaps_under g bytes child span address first used n (next + 1) gap (omega arith) (λ k l m. zeros k (omega arith) (omega arith))
+    ∙ ap (λ w. child w (first + next * span) ++ steps_under g bytes child span address first (next + 1)
+    (used - (next + 1))) (zeros next (omega arith) (omega arith))
+    ∙ ap (λ xs. xs ++ steps_under g bytes child span address first (next + 1) (used - (next + 1)))
+    (gap (first + next * span))
+    ∙ ap (λ xs. Gap ∷ xs) (gaps_under g bytes child span address first used n (next + 1) gap (omega arith)
+    (λ k l m. zeros k (omega arith) (omega arith))
     ∙ ap (λ j. replicate n Gap ++ steps_under g bytes child span address first j (used - j)) at)
 
 -- what is left in a frame whose block is read before
@@ -27,16 +34,21 @@ not_fresh : (g : Layout) (bytes : List ℕ) (child : ℕ → ℕ → List Step) 
     frame_rest g bytes child span f ≡ steps_under g bytes child span f.address f.first f.next (f.used - f.next)
 not_fresh g bytes child span f e = rw e refl
 
-pub gaps_passed : (g : Layout) (bytes : List ℕ) (child : ℕ → ℕ → List Step) (span n next : ℕ) (f : Frame) (block : List ℕ) → ((block : ℕ) → child 0 block ≡ Gap ∷ []) →
+pub gaps_passed : (g : Layout) (bytes : List ℕ) (child : ℕ → ℕ → List Step) (span n next : ℕ) (f : Frame)
+    (block : List ℕ) → ((block : ℕ) → child 0 block ≡ Gap ∷ []) →
     f.fresh ≡ false → next ≡ f.next + n → next ≤ f.used → block ≡ block_bytes g bytes f.address →
     ((k : ℕ) → f.next ≤ k → k < next → address_in g block k ≡ 0) →
     frame_rest g bytes child span f
-    ≡ replicate n Gap ++ ((if f.fresh then tail_of (any_address_from g (block_bytes g bytes f.address) f.used) else []) ++ steps_under g bytes child span f.address f.first next (f.used - next))
+    ≡ replicate n Gap ++ ((if f.fresh then tail_of (any_address_from g (block_bytes g bytes f.address) f.used) else [])
+    ++ steps_under g bytes child span f.address f.first next (f.used - next))
 gaps_passed g bytes child span n next f block gap fresh moved h is zeros =
     not_fresh g bytes child span f fresh
-    ∙ gaps_under g bytes child span f.address f.first f.used n f.next gap (omega (arith, h, moved)) (λ k l m. ap (λ b. address_in g b k) (sym is) ∙ zeros k l (omega (arith, m, moved)))
+    ∙ gaps_under g bytes child span f.address f.first f.used n f.next gap (omega (arith, h, moved))
+    (λ k l m. ap (λ b. address_in g b k) (sym is) ∙ zeros k l (omega (arith, m, moved)))
     ∙ ap (λ j. replicate n Gap ++ steps_under g bytes child span f.address f.first j (f.used - j)) (sym moved)
-    ∙ ap (λ b. replicate n Gap ++ ((if b then tail_of (any_address_from g (block_bytes g bytes f.address) f.used) else []) ++ steps_under g bytes child span f.address f.first next (f.used - next))) (sym fresh)
+    ∙ ap (λ b. replicate n Gap
+    ++ ((if b then tail_of (any_address_from g (block_bytes g bytes f.address) f.used) else [])
+    ++ steps_under g bytes child span f.address f.first next (f.used - next))) (sym fresh)
 
 -- ---- in a walk, the frames before are spent
 pub in_first : (s s' o r : List Step) → s ≡ r ++ s' → s ++ o ≡ r ++ (s' ++ o)
@@ -45,7 +57,8 @@ in_first s s' o r e = ap (λ xs. xs ++ o) e ∙ append_assoc r s' o
 pub in_second : (s d d' o r : List Step) → s ≡ [] → d ≡ r ++ d' → s ++ (d ++ o) ≡ r ++ (s ++ (d' ++ o))
 in_second s d d' o r none e = rw none (in_first d d' o r e)
 
-pub in_third : (s d t t' o r : List Step) → s ≡ [] → d ≡ [] → t ≡ r ++ t' → s ++ (d ++ (t ++ o)) ≡ r ++ (s ++ (d ++ (t' ++ o)))
+pub in_third : (s d t t' o r : List Step) → s ≡ [] → d ≡ [] → t ≡ r ++ t' →
+    s ++ (d ++ (t ++ o)) ≡ r ++ (s ++ (d ++ (t' ++ o)))
 in_third s d t t' o r none none' e = rw (none, none') (in_first t t' o r e)
 
 -- an address of zero is a gap, at every level

@@ -19,7 +19,8 @@ size_small a b h k =
     omega (arith, whole)
 
 -- a size has few blocks
-pub blocks_small : (size bsize : ℕ) → size < 18446744073709551616 → 4096 ≤ bsize → bsize ≤ 65536 → div_ceil size bsize < 9007199254740992
+pub blocks_small : (size bsize : ℕ) → size < 18446744073709551616 → 4096 ≤ bsize → bsize ≤ 65536 →
+    div_ceil size bsize < 9007199254740992
 blocks_small size bsize h low high =
     let above : div_ceil size bsize * bsize < size + bsize = (div_ceil_times size bsize (omega arith)).1 in
     let scaled : div_ceil size bsize * 4096 ≤ div_ceil size bsize * bsize = mul-le-mul_left (div_ceil size bsize) low in

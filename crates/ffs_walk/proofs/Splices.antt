@@ -1,10 +1,12 @@
 -- Blocks of which one is read anew.
-use Rattle.std.proofs.Common.{◌≡◌, ◌≢◌, ℕ, ◌+◌, ◌-◌, ◌*◌, ◌<◌, ◌≤◌, List, length, take, drop, Option, Some, None, ◌⊎◌, inl, inr, arith, sym, ap, ◌∙◌, slice_set}
+use Rattle.std.proofs.Common.{◌≡◌, ◌≢◌, ℕ, ◌+◌, ◌-◌, ◌*◌, ◌<◌, ◌≤◌, List, length, take, drop, Option, Some, None, ◌⊎◌}
+use Rattle.std.proofs.Common.{inl, inr, arith, sym, ap, ◌∙◌, slice_set}
 use Rattle.std.specs.Prelude.{Vec, get_or, vec_len}
 use Rattle.std.specs.Vec.{with_items}
 use Rattle.std.proofs.Math.Nat.{mul-le-mul_right}
 use Rattle.std.proofs.lemmas.Bool.{cases_lt}
-use Rattle.std.proofs.lemmas.List.{drop-take, get_or-set_same, get_or-set_other, length-set, length-take-le, length-drop, with_items_is}
+use Rattle.std.proofs.lemmas.List.{drop-take, get_or-set_same, get_or-set_other, length-set, length-take-le}
+use Rattle.std.proofs.lemmas.List.{length-drop, with_items_is}
 use Rattle.std.proofs.lemmas.Slice.{take-put_mid_below, drop-put_mid, between-put_mid}
 use borrow.Rule.Slice.PartMut.{put_mid, mid_of, same_len_mid}
 use Rattle.ffs_image.specs.Device.{ForContents}
@@ -16,9 +18,11 @@ use Rattle.ffs_walk.specs.declared.window.Window.{Window}
 use Rattle.ffs_walk.specs.Windows.{held_bytes, BlocksHold, level_bytes, held_address}
 
 -- a write to a part leaves what is before it and after it
-pub piece_kept : (a k p n : ℕ) (xs ys : List ℕ) → a + k ≤ length xs → length ys ≡ k → (p + n ≤ a) ⊎ (a + k ≤ p) → piece p n (put_mid a k xs ys) ≡ piece p n xs
+pub piece_kept : (a k p n : ℕ) (xs ys : List ℕ) → a + k ≤ length xs → length ys ≡ k → (p + n ≤ a) ⊎ (a + k ≤ p) →
+    piece p n (put_mid a k xs ys) ≡ piece p n xs
 piece_kept a k p n xs ys h len (inl below) =
-    sym (drop-take p n (put_mid a k xs ys)) ∙ (ap (drop p) (take-put_mid_below a k xs ys (p + n) below (omega arith)) ∙ drop-take p n xs)
+    sym (drop-take p n (put_mid a k xs ys))
+    ∙ (ap (drop p) (take-put_mid_below a k xs ys (p + n) below (omega arith)) ∙ drop-take p n xs)
 piece_kept a k p n xs ys h len (inr above) = ap (take n) (drop-put_mid a k xs ys p above (omega arith) len)
 
 -- parts of equal size, at different places, are apart
@@ -36,7 +40,8 @@ pub held_apart : (v : Layout) (contents : Option (List ℕ)) (old new : Blocks) 
     new.buffer.items ≡ put_mid (level * v.bsize) k old.buffer.items ys →
     k ≡ v.bsize → length ys ≡ k → 3 * v.bsize ≤ length old.buffer.items → level < 3 →
     ((other : ℕ) → other ≢ level → held_address other new ≡ held_address other old) →
-    ((other : ℕ) → other ≡ level → (address : ℕ) → held_address other new ≡ Some address → ForContents contents (λ b. level_bytes v other new ≡ block_bytes v b address)) →
+    ((other : ℕ) → other ≡ level → (address : ℕ) → held_address other new ≡ Some address →
+    ForContents contents (λ b. level_bytes v other new ≡ block_bytes v b address)) →
     BlocksHold v contents new
 held_apart v contents old new level k ys holds is size len room lt others own = record {
   block = λ other within address at b e.
@@ -44,12 +49,14 @@ held_apart v contents old new level k ys holds is size len room lt others own = 
       elim (cases_lt other level) [
         | inl less ↦
             let apart = parts_apart v.bsize other level less in
-            rw is (piece_kept (level * v.bsize) k (other * v.bsize) v.bsize old.buffer.items ys (omega arith) len (inl (omega arith)))
+            rw is (piece_kept (level * v.bsize) k (other * v.bsize) v.bsize old.buffer.items ys (omega arith) len
+            (inl (omega arith)))
             ∙ holds.block other within address (sym (others other (omega arith)) ∙ at) b e
         | inr more ↦ elim (cases_lt level other) [
           | inl above ↦
               let apart = parts_apart v.bsize level other above in
-              rw is (piece_kept (level * v.bsize) k (other * v.bsize) v.bsize old.buffer.items ys (omega arith) len (inr (omega arith)))
+              rw is (piece_kept (level * v.bsize) k (other * v.bsize) v.bsize old.buffer.items ys (omega arith) len
+              (inr (omega arith)))
               ∙ holds.block other within address (sym (others other (omega arith)) ∙ at) b e
           | inr under ↦ own other (omega arith) address at b e
         ]
@@ -66,13 +73,15 @@ pub some_is : (a b : ℕ) → Some a ≡ Some b → a ≡ b
 some_is a b e = cc
 
 -- a buffer after a write to a part of it
-pub written_is : {Z : Type 0} (buffer : Vec ℕ Z) (a k : ℕ) (items ys : List ℕ) → items ≡ buffer.items → length ys ≡ k → a + k ≤ vec_len buffer →
+pub written_is : {Z : Type 0} (buffer : Vec ℕ Z) (a k : ℕ) (items ys : List ℕ) → items ≡ buffer.items → length ys ≡ k →
+    a + k ≤ vec_len buffer →
     (with_items buffer (put_mid a k items ys)).items ≡ put_mid a k buffer.items ys
 written_is buffer a k items ys is len room =
     let count : vec_len buffer ≡ length buffer.items = buffer.ok.0 in
     let mid : length (mid_of a k buffer.items) ≡ k =
     length-take-le k (drop a buffer.items) (rw (length-drop a buffer.items) (omega arith)) in
-    let same : length (put_mid a k buffer.items ys) ≡ vec_len buffer = same_len_mid a k buffer.items ys (len ∙ sym mid) ∙ sym count in
+    let same : length (put_mid a k buffer.items ys) ≡ vec_len buffer = same_len_mid a k buffer.items ys (len ∙ sym mid)
+    ∙ sym count in
     rw is (with_items_is buffer (put_mid a k buffer.items ys) same)
 
 -- a window after a read
@@ -82,41 +91,62 @@ pub window_with : (b : List ℕ) (old : Window) (at n k : ℕ) (items ys : List 
 window_with b old at n k items ys is size len room read =
     let count : vec_len old.buffer ≡ length old.buffer.items = old.buffer.ok.0 in
     ap (take n) (written_is old.buffer 0 k items ys is len (omega arith))
-    ∙ (ap (λ m. take m (put_mid 0 k old.buffer.items ys)) (sym size) ∙ (piece_written 0 k old.buffer.items ys (omega arith) len ∙ read))
+    ∙ (ap (λ m. take m (put_mid 0 k old.buffer.items ys)) (sym size)
+    ∙ (piece_written 0 k old.buffer.items ys (omega arith) len ∙ read))
 
 -- after a failed read a level holds nothing
-pub held_without : (v : Layout) (contents contents' : Option (List ℕ)) (old : Blocks) (level k : ℕ) (items ys : List ℕ) →
-    BlocksHold v contents old → contents' ≡ contents → items ≡ old.buffer.items → k ≡ v.bsize → length ys ≡ k → 3 * v.bsize ≤ vec_len old.buffer →
+pub held_without : (v : Layout) (contents contents' : Option (List ℕ)) (old : Blocks) (level k : ℕ) (items ys : List ℕ)
+    →
+    BlocksHold v contents old → contents' ≡ contents → items ≡ old.buffer.items → k ≡ v.bsize → length ys ≡ k →
+    3 * v.bsize ≤ vec_len old.buffer →
     level < 3 → level < length old.held →
-    BlocksHold v contents' (record { buffer = with_items old.buffer (put_mid (level * v.bsize) k items ys); held = slice_set old.held level None })
+    BlocksHold v contents' (record {
+      buffer = with_items old.buffer (put_mid (level * v.bsize) k items ys);
+      held = slice_set old.held level None;
+    })
 held_without v contents contents' old level k items ys holds same is size len room lt within =
     let count : vec_len old.buffer ≡ length old.buffer.items = old.buffer.ok.0 in
     let ends : level * v.bsize + v.bsize ≤ 3 * v.bsize = three_parts v.bsize level lt in
     let new_is = written_is old.buffer (level * v.bsize) k items ys is len (omega arith) in
-    rw same (held_apart v contents old (record { buffer = with_items old.buffer (put_mid (level * v.bsize) k items ys); held = slice_set old.held level None })
+    rw same (held_apart v contents old
+    (record {
+      buffer = with_items old.buffer (put_mid (level * v.bsize) k items ys);
+      held = slice_set old.held level None;
+    })
     level k ys holds new_is size len (omega arith) lt
     (λ other ne. get_or-set_other old.held level other None None ne)
     (λ other e address at.
-    let none : get_or (slice_set old.held level None) other None ≡ None = rw e (get_or-set_same old.held level None None within) in
+    let none : get_or (slice_set old.held level None) other None ≡ None =
+    rw e (get_or-set_same old.held level None None within) in
     absurd (cc)))
 
 -- after a read a level holds what was read
-pub held_with : (v : Layout) (contents contents' : Option (List ℕ)) (old : Blocks) (level address k : ℕ) (items ys : List ℕ) →
-    BlocksHold v contents old → contents' ≡ contents → items ≡ old.buffer.items → k ≡ v.bsize → length ys ≡ k → 3 * v.bsize ≤ vec_len old.buffer →
+pub held_with : (v : Layout) (contents contents' : Option (List ℕ)) (old : Blocks) (level address k : ℕ)
+    (items ys : List ℕ) →
+    BlocksHold v contents old → contents' ≡ contents → items ≡ old.buffer.items → k ≡ v.bsize → length ys ≡ k →
+    3 * v.bsize ≤ vec_len old.buffer →
     level < 3 → level < length old.held →
     ForContents contents (λ b. ys ≡ block_bytes v b address) →
-    BlocksHold v contents' (record { buffer = with_items old.buffer (put_mid (level * v.bsize) k items ys); held = slice_set (slice_set old.held level None) level (Some address) })
+    BlocksHold v contents' (record {
+      buffer = with_items old.buffer (put_mid (level * v.bsize) k items ys);
+      held = slice_set (slice_set old.held level None) level (Some address);
+    })
 held_with v contents contents' old level address k items ys holds same is size len room lt within read =
     let count : vec_len old.buffer ≡ length old.buffer.items = old.buffer.ok.0 in
     let ends : level * v.bsize + v.bsize ≤ 3 * v.bsize = three_parts v.bsize level lt in
     let new_is = written_is old.buffer (level * v.bsize) k items ys is len (omega arith) in
     rw same (held_apart v contents old
-    (record { buffer = with_items old.buffer (put_mid (level * v.bsize) k items ys); held = slice_set (slice_set old.held level None) level (Some address) })
+    (record {
+      buffer = with_items old.buffer (put_mid (level * v.bsize) k items ys);
+      held = slice_set (slice_set old.held level None) level (Some address);
+    })
     level k ys holds new_is size len (omega arith) lt
-    (λ other ne. get_or-set_other (slice_set old.held level None) level other (Some address) None ne ∙ get_or-set_other old.held level other None None ne)
+    (λ other ne. get_or-set_other (slice_set old.held level None) level other (Some address) None ne
+    ∙ get_or-set_other old.held level other None None ne)
     (λ other e address' at b tells.
     let here : get_or (slice_set (slice_set old.held level None) level (Some address)) other None ≡ Some address =
-    rw e (get_or-set_same (slice_set old.held level None) level (Some address) None (rw (length-set old.held level None) within)) in
+    rw e (get_or-set_same (slice_set old.held level None) level (Some address) None
+    (rw (length-set old.held level None) within)) in
     let hit : address ≡ address' = some_is address address' (sym here ∙ at) in
     let part : piece (level * v.bsize) k (put_mid (level * v.bsize) k old.buffer.items ys) ≡ ys =
     piece_written (level * v.bsize) k old.buffer.items ys (omega arith) len in

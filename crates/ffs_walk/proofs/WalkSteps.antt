@@ -1,4 +1,5 @@
-use Rattle.std.proofs.Common.{◌≡◌, ℕ, ◌+◌, ◌-◌, ◌*◌, ◌<◌, ◌≤◌, List, [], ◌∷◌, ◌++◌, slice_index, append_assoc, Option, Some, None, arith, refl, ◌∙◌}
+use Rattle.std.proofs.Common.{◌≡◌, ℕ, ◌+◌, ◌-◌, ◌*◌, ◌<◌, ◌≤◌, List, [], ◌∷◌, ◌++◌, slice_index, append_assoc, Option}
+use Rattle.std.proofs.Common.{Some, None, arith, refl, ◌∙◌}
 use Rattle.std.specs.Prelude.{◌↔◌}
 use Rattle.ffs_volume.specs.declared.Layout.{Layout}
 use Rattle.ffs_image.specs.Device.{ForContents}
@@ -11,7 +12,8 @@ use Rattle.ffs_walk.specs.Fits.{IsSpent}
 use Rattle.ffs_walk.specs.declared.frame.Item.{Item}
 use Rattle.ffs_walk.specs.Frames.{frame_rest, frame_left, item_steps}
 use Rattle.ffs_walk.specs.Rests.{extent_of, rest, single_rest, double_rest, triple_rest, top_rest, most_at, left}
-use Rattle.ffs_volume.specs.Blocks.Steps.{FileBlocks, data_step, indirect_steps, steps_at, steps_of_addresses, indirection_of, first_block}
+use Rattle.ffs_volume.specs.Blocks.Steps.{FileBlocks, data_step, indirect_steps, steps_at, steps_of_addresses}
+use Rattle.ffs_volume.specs.Blocks.Steps.{indirection_of, first_block}
 use Rattle.std.proofs.lemmas.Bool.Decides.{nat_tests}
 use Rattle.std.proofs.Math.Nat.{mul-le-mul_right}
 use Rattle.ffs_walk.proofs.Ranges.{flat_map_step}
@@ -20,7 +22,8 @@ pub steps_zero : (t : FileBlocks) (bytes : List ℕ) (a f : ℕ) → steps_at t 
 unfolding steps_at
 steps_zero t bytes a f = refl
 
-pub steps_one : (t : FileBlocks) (bytes : List ℕ) (a f : ℕ) → steps_at t bytes 1 a f ≡ indirect_steps t bytes (steps_at t bytes 0) 1 a f
+pub steps_one : (t : FileBlocks) (bytes : List ℕ) (a f : ℕ) →
+    steps_at t bytes 1 a f ≡ indirect_steps t bytes (steps_at t bytes 0) 1 a f
 unfolding steps_at
 steps_one t bytes a f = refl
 
@@ -35,7 +38,8 @@ unfolding steps_at
 steps_three t bytes a f = refl
 
 -- nothing is left in a frame that is spent
-pub spent_rest : (g : Layout) (bytes : List ℕ) (child : ℕ → ℕ → List Step) (span : ℕ) (f : Frame) → IsSpent f → frame_rest g bytes child span f ≡ []
+pub spent_rest : (g : Layout) (bytes : List ℕ) (child : ℕ → ℕ → List Step) (span : ℕ) (f : Frame) → IsSpent f →
+    frame_rest g bytes child span f ≡ []
 spent_rest g bytes child span f h =
     let none : f.used - f.next ≡ 0 = omega (arith, h.0) in
     rw (h.1, none) refl
@@ -49,9 +53,11 @@ spent_left most f h =
 pub in_double : (w : Walk) (bytes : List ℕ) (span address first : ℕ) (s : Step) (f : Frame) →
     span ≡ 1 →
     IsSpent w.single →
-    indirect_steps (extent_of w) bytes (steps_at (extent_of w) bytes 0) span address first ≡ s ∷ frame_rest w.geometry.layout bytes (steps_at (extent_of w) bytes 0) span f →
+    indirect_steps (extent_of w) bytes (steps_at (extent_of w) bytes 0) span address first
+    ≡ s ∷ frame_rest w.geometry.layout bytes (steps_at (extent_of w) bytes 0) span f →
     steps_at (extent_of w) bytes 1 address first ++ rest bytes w
-    ≡ s ∷ (frame_rest w.geometry.layout bytes (steps_at (extent_of w) bytes 0) 1 f ++ (double_rest bytes w ++ (triple_rest bytes w ++ top_rest bytes w)))
+    ≡ s ∷ (frame_rest w.geometry.layout bytes (steps_at (extent_of w) bytes 0) 1 f
+    ++ (double_rest bytes w ++ (triple_rest bytes w ++ top_rest bytes w)))
 in_double w bytes span address first s f is_one spent e =
     rw (
       steps_one (extent_of w) bytes address first,
@@ -62,9 +68,12 @@ in_double w bytes span address first s f is_one spent e =
 pub in_triple : (w : Walk) (bytes : List ℕ) (span address first : ℕ) (s : Step) (f : Frame) →
     span ≡ w.geometry.layout.nindir →
     IsSpent w.single → IsSpent w.double →
-    indirect_steps (extent_of w) bytes (steps_at (extent_of w) bytes 1) span address first ≡ s ∷ frame_rest w.geometry.layout bytes (steps_at (extent_of w) bytes 1) span f →
+    indirect_steps (extent_of w) bytes (steps_at (extent_of w) bytes 1) span address first
+    ≡ s ∷ frame_rest w.geometry.layout bytes (steps_at (extent_of w) bytes 1) span f →
     steps_at (extent_of w) bytes 2 address first ++ rest bytes w
-    ≡ s ∷ (single_rest bytes w ++ (frame_rest w.geometry.layout bytes (steps_at (extent_of w) bytes 1) w.geometry.layout.nindir f ++ (triple_rest bytes w ++ top_rest bytes w)))
+    ≡ s ∷ (single_rest bytes w
+    ++ (frame_rest w.geometry.layout bytes (steps_at (extent_of w) bytes 1) w.geometry.layout.nindir f
+    ++ (triple_rest bytes w ++ top_rest bytes w)))
 in_triple w bytes span address first s f is_words spent spent' e =
     rw (
       steps_two (extent_of w) bytes address first,
@@ -74,12 +83,14 @@ in_triple w bytes span address first s f is_words spent spent' e =
     ) refl
 
 -- where the frames are spent, the rest is that of the addresses
-pub rest_at_top : (bytes : List ℕ) (w : Walk) → IsSpent w.single → IsSpent w.double → IsSpent w.triple → rest bytes w ≡ top_rest bytes w
+pub rest_at_top : (bytes : List ℕ) (w : Walk) → IsSpent w.single → IsSpent w.double → IsSpent w.triple →
+    rest bytes w ≡ top_rest bytes w
 rest_at_top bytes w s d t =
     rw (
       spent_rest w.geometry.layout bytes (steps_at (extent_of w) bytes 0) 1 w.single s,
       spent_rest w.geometry.layout bytes (steps_at (extent_of w) bytes 1) w.geometry.layout.nindir w.double d,
-      spent_rest w.geometry.layout bytes (steps_at (extent_of w) bytes 2) (w.geometry.layout.nindir * w.geometry.layout.nindir) w.triple t,
+      spent_rest w.geometry.layout bytes (steps_at (extent_of w) bytes 2)
+          (w.geometry.layout.nindir * w.geometry.layout.nindir) w.triple t,
     ) refl
 
 pub next_address : (t : FileBlocks) (bytes addresses : List ℕ) (next used : ℕ) → next < used →
@@ -87,17 +98,20 @@ pub next_address : (t : FileBlocks) (bytes addresses : List ℕ) (next used : �
     ≡ steps_at t bytes (indirection_of next) (slice_index addresses next) (first_block t.geometry.nindir next)
     ++ steps_of_addresses t bytes addresses (next + 1) (used - (next + 1))
 next_address t bytes addresses next used h =
-    flat_map_step (λ i. steps_at t bytes (indirection_of i) (slice_index addresses i) (first_block t.geometry.nindir i)) next used h
+    flat_map_step (λ i. steps_at t bytes (indirection_of i) (slice_index addresses i) (first_block t.geometry.nindir i))
+    next used h
 
 -- the steps of the addresses after the next one
 abbrev pub later_rest : List ℕ → Walk → List Step
 later_rest bytes w = steps_of_addresses (extent_of w) bytes w.addresses (w.next + 1) (w.used - (w.next + 1))
 
 pub at_top : (bytes : List ℕ) (w : Walk) → w.next < w.used → IsSpent w.single → IsSpent w.double → IsSpent w.triple →
-    rest bytes w ≡ steps_at (extent_of w) bytes (indirection_of w.next) (slice_index w.addresses w.next) (first_block w.geometry.layout.nindir w.next) ++ later_rest bytes w
+    rest bytes w ≡ steps_at (extent_of w) bytes (indirection_of w.next) (slice_index w.addresses w.next)
+    (first_block w.geometry.layout.nindir w.next) ++ later_rest bytes w
 at_top bytes w h s d t = rest_at_top bytes w s d t ∙ next_address (extent_of w) bytes w.addresses w.next w.used h
 
-pub top_ends : (bytes : List ℕ) (w : Walk) → w.used ≤ w.next → IsSpent w.single → IsSpent w.double → IsSpent w.triple → rest bytes w ≡ []
+pub top_ends : (bytes : List ℕ) (w : Walk) → w.used ≤ w.next → IsSpent w.single → IsSpent w.double → IsSpent w.triple →
+    rest bytes w ≡ []
 top_ends bytes w h s d t =
     let none : w.used - w.next ≡ 0 = omega arith in
     rest_at_top bytes w s d t ∙ rw none refl
@@ -120,7 +134,8 @@ top_data bytes w address first step h low s d t is_address is_first e =
       ← e,
       spent_rest w.geometry.layout bytes (steps_at (extent_of w) bytes 0) 1 w.single s,
       spent_rest w.geometry.layout bytes (steps_at (extent_of w) bytes 1) w.geometry.layout.nindir w.double d,
-      spent_rest w.geometry.layout bytes (steps_at (extent_of w) bytes 2) (w.geometry.layout.nindir * w.geometry.layout.nindir) w.triple t,
+      spent_rest w.geometry.layout bytes (steps_at (extent_of w) bytes 2)
+          (w.geometry.layout.nindir * w.geometry.layout.nindir) w.triple t,
     ) refl
 
 -- an indirect address goes out, and its frame has what is under it
@@ -128,7 +143,8 @@ pub top_single : (bytes : List ℕ) (w : Walk) (step : Step) (f : Frame) →
     w.next < w.used → w.next ≡ 12 → IsSpent w.single → IsSpent w.double → IsSpent w.triple →
     indirect_steps (extent_of w) bytes (steps_at (extent_of w) bytes 0) 1 (slice_index w.addresses w.next) 12
     ≡ step ∷ frame_rest w.geometry.layout bytes (steps_at (extent_of w) bytes 0) 1 f →
-    rest bytes w ≡ step ∷ (frame_rest w.geometry.layout bytes (steps_at (extent_of w) bytes 0) 1 f ++ (double_rest bytes w ++ (triple_rest bytes w ++ later_rest bytes w)))
+    rest bytes w ≡ step ∷ (frame_rest w.geometry.layout bytes (steps_at (extent_of w) bytes 0) 1 f
+    ++ (double_rest bytes w ++ (triple_rest bytes w ++ later_rest bytes w)))
 top_single bytes w step f h is s d t e =
     let level : indirection_of w.next ≡ 1 = omega arith in
     let place : first_block w.geometry.layout.nindir w.next ≡ 12 = grind (arith, nat_tests) in
@@ -139,14 +155,19 @@ top_single bytes w step f h is s d t e =
       steps_one (extent_of w) bytes (slice_index w.addresses w.next) 12,
       e,
       spent_rest w.geometry.layout bytes (steps_at (extent_of w) bytes 1) w.geometry.layout.nindir w.double d,
-      spent_rest w.geometry.layout bytes (steps_at (extent_of w) bytes 2) (w.geometry.layout.nindir * w.geometry.layout.nindir) w.triple t,
+      spent_rest w.geometry.layout bytes (steps_at (extent_of w) bytes 2)
+          (w.geometry.layout.nindir * w.geometry.layout.nindir) w.triple t,
     ) refl
 
 pub top_double : (bytes : List ℕ) (w : Walk) (words : ℕ) (step : Step) (f : Frame) →
-    w.next < w.used → w.next ≡ 13 → words ≡ w.geometry.layout.nindir → IsSpent w.single → IsSpent w.double → IsSpent w.triple →
-    indirect_steps (extent_of w) bytes (steps_at (extent_of w) bytes 1) words (slice_index w.addresses w.next) (12 + words)
+    w.next < w.used → w.next ≡ 13 → words ≡ w.geometry.layout.nindir → IsSpent w.single → IsSpent w.double →
+    IsSpent w.triple →
+    indirect_steps (extent_of w) bytes (steps_at (extent_of w) bytes 1) words (slice_index w.addresses w.next)
+    (12 + words)
     ≡ step ∷ frame_rest w.geometry.layout bytes (steps_at (extent_of w) bytes 1) words f →
-    rest bytes w ≡ step ∷ (single_rest bytes w ++ (frame_rest w.geometry.layout bytes (steps_at (extent_of w) bytes 1) w.geometry.layout.nindir f ++ (triple_rest bytes w ++ later_rest bytes w)))
+    rest bytes w ≡ step ∷ (single_rest bytes w
+    ++ (frame_rest w.geometry.layout bytes (steps_at (extent_of w) bytes 1) w.geometry.layout.nindir f
+    ++ (triple_rest bytes w ++ later_rest bytes w)))
 top_double bytes w words step f h is is_words s d t e =
     let level : indirection_of w.next ≡ 2 = omega arith in
     let place : first_block w.geometry.layout.nindir w.next ≡ 12 + w.geometry.layout.nindir = rw is refl in
@@ -157,22 +178,29 @@ top_double bytes w words step f h is is_words s d t e =
       steps_two (extent_of w) bytes (slice_index w.addresses w.next) (12 + w.geometry.layout.nindir),
       rw is_words at e,
       spent_rest w.geometry.layout bytes (steps_at (extent_of w) bytes 0) 1 w.single s,
-      spent_rest w.geometry.layout bytes (steps_at (extent_of w) bytes 2) (w.geometry.layout.nindir * w.geometry.layout.nindir) w.triple t,
+      spent_rest w.geometry.layout bytes (steps_at (extent_of w) bytes 2)
+          (w.geometry.layout.nindir * w.geometry.layout.nindir) w.triple t,
     ) refl
 
 pub top_triple : (bytes : List ℕ) (w : Walk) (words : ℕ) (step : Step) (f : Frame) →
-    w.next < w.used → w.next ≡ 14 → words ≡ w.geometry.layout.nindir → IsSpent w.single → IsSpent w.double → IsSpent w.triple →
-    indirect_steps (extent_of w) bytes (steps_at (extent_of w) bytes 2) (words * words) (slice_index w.addresses w.next) (12 + words + words * words)
+    w.next < w.used → w.next ≡ 14 → words ≡ w.geometry.layout.nindir → IsSpent w.single → IsSpent w.double →
+    IsSpent w.triple →
+    indirect_steps (extent_of w) bytes (steps_at (extent_of w) bytes 2) (words * words) (slice_index w.addresses w.next)
+    (12 + words + words * words)
     ≡ step ∷ frame_rest w.geometry.layout bytes (steps_at (extent_of w) bytes 2) (words * words) f →
-    rest bytes w ≡ step ∷ (single_rest bytes w ++ (double_rest bytes w ++ (frame_rest w.geometry.layout bytes (steps_at (extent_of w) bytes 2) (w.geometry.layout.nindir * w.geometry.layout.nindir) f ++ later_rest bytes w)))
+    rest bytes w ≡ step ∷ (single_rest bytes w
+    ++ (double_rest bytes w ++ (frame_rest w.geometry.layout bytes (steps_at (extent_of w) bytes 2)
+    (w.geometry.layout.nindir * w.geometry.layout.nindir) f ++ later_rest bytes w)))
 top_triple bytes w words step f h is is_words s d t e =
     let level : indirection_of w.next ≡ 3 = omega arith in
-    let place : first_block w.geometry.layout.nindir w.next ≡ 12 + w.geometry.layout.nindir + w.geometry.layout.nindir * w.geometry.layout.nindir = rw is refl in
+    let place : first_block w.geometry.layout.nindir w.next ≡ 12 + w.geometry.layout.nindir + w.geometry.layout.nindir
+    * w.geometry.layout.nindir = rw is refl in
     at_top bytes w h s d t
     ∙ rw (
       level,
       place,
-      steps_three (extent_of w) bytes (slice_index w.addresses w.next) (12 + w.geometry.layout.nindir + w.geometry.layout.nindir * w.geometry.layout.nindir),
+      steps_three (extent_of w) bytes (slice_index w.addresses w.next)
+          (12 + w.geometry.layout.nindir + w.geometry.layout.nindir * w.geometry.layout.nindir),
       rw is_words at e,
       spent_rest w.geometry.layout bytes (steps_at (extent_of w) bytes 0) 1 w.single s,
       spent_rest w.geometry.layout bytes (steps_at (extent_of w) bytes 1) w.geometry.layout.nindir w.double d,
@@ -186,7 +214,8 @@ most_grows words m h =
 
 -- what an address has at most is below what a triple indirect one has
 pub most_below : (words : ℕ) → 0 < words →
-    (1 ≤ most_at words 3) × (2 + words * most_at words 0 ≤ most_at words 3) × (2 + words * most_at words 1 ≤ most_at words 3)
+    (1 ≤ most_at words 3) × (2 + words * most_at words 0 ≤ most_at words 3)
+    × (2 + words * most_at words 1 ≤ most_at words 3)
 most_below words h =
     let a : most_at words 0 + 1 ≤ most_at words 1 = most_grows words (most_at words 0) h in
     let b : most_at words 1 + 1 ≤ most_at words 2 = most_grows words (most_at words 1) h in
@@ -203,40 +232,52 @@ top_falls next used m s' d' t' s d t h le =
 pub joined_two : (S D I F X Z : List Step) → S ≡ [] → D ≡ I ++ F → I ++ (S ++ (F ++ X)) ≡ Z → S ++ (D ++ X) ≡ Z
 joined_two S D I F X Z none split made = rw (none, split, append_assoc) (rw none at made)
 
-pub joined_three : (S D T I F X Z : List Step) → S ≡ [] → D ≡ [] → T ≡ I ++ F → I ++ (S ++ (D ++ (F ++ X))) ≡ Z → S ++ (D ++ (T ++ X)) ≡ Z
+pub joined_three : (S D T I F X Z : List Step) → S ≡ [] → D ≡ [] → T ≡ I ++ F → I ++ (S ++ (D ++ (F ++ X))) ≡ Z →
+    S ++ (D ++ (T ++ X)) ≡ Z
 joined_three S D T I F X Z none none' split made = rw (none, none', split, append_assoc) (rw (none, none') at made)
 
 -- where an item of a frame means a step and what is left then, the walk's rest is that step and what is left
-pub double_reported : (contents : Option (List ℕ)) (w : Walk) (words : ℕ) (f : Frame) (item : Item) (step : Step) (R : List ℕ → List Step) →
+pub double_reported : (contents : Option (List ℕ)) (w : Walk) (words : ℕ) (f : Frame) (item : Item) (step : Step)
+    (R : List ℕ → List Step) →
     words ≡ w.geometry.layout.nindir → IsSpent w.single →
     ForContents contents (λ bytes. (child : ℕ → ℕ → List Step) →
-    frame_rest w.geometry.layout bytes child words w.double ≡ item_steps child item ++ frame_rest w.geometry.layout bytes child words f) →
+    frame_rest w.geometry.layout bytes child words w.double ≡ item_steps child item ++ frame_rest w.geometry.layout
+    bytes child words f) →
     ((bytes : List ℕ) → item_steps (steps_at (extent_of w) bytes 1) item
-    ++ (single_rest bytes w ++ (frame_rest w.geometry.layout bytes (steps_at (extent_of w) bytes 1) w.geometry.layout.nindir f ++ (triple_rest bytes w ++ top_rest bytes w)))
+    ++ (single_rest bytes w ++ (frame_rest w.geometry.layout bytes (steps_at (extent_of w) bytes 1)
+    w.geometry.layout.nindir f ++ (triple_rest bytes w ++ top_rest bytes w)))
     ≡ step ∷ R bytes) →
     ForContents contents (λ bytes. rest bytes w ≡ step ∷ R bytes)
 double_reported contents w words f item step R is s taken made = λ bytes e.
     let split : double_rest bytes w
-    ≡ item_steps (steps_at (extent_of w) bytes 1) item ++ frame_rest w.geometry.layout bytes (steps_at (extent_of w) bytes 1) w.geometry.layout.nindir f =
+    ≡ item_steps (steps_at (extent_of w) bytes 1) item ++ frame_rest w.geometry.layout bytes
+    (steps_at (extent_of w) bytes 1) w.geometry.layout.nindir f =
     rw is at (taken bytes e (steps_at (extent_of w) bytes 1)) in
-    let none : single_rest bytes w ≡ [] = spent_rest w.geometry.layout bytes (steps_at (extent_of w) bytes 0) 1 w.single s in
+    let none : single_rest bytes w ≡ [] = spent_rest w.geometry.layout bytes (steps_at (extent_of w) bytes 0) 1 w.single
+    s in
     joined_two _ _ _ _ _ _ none split (made bytes)
 
-pub triple_reported : (contents : Option (List ℕ)) (w : Walk) (words : ℕ) (f : Frame) (item : Item) (step : Step) (R : List ℕ → List Step) →
+pub triple_reported : (contents : Option (List ℕ)) (w : Walk) (words : ℕ) (f : Frame) (item : Item) (step : Step)
+    (R : List ℕ → List Step) →
     words ≡ w.geometry.layout.nindir → IsSpent w.single → IsSpent w.double →
     ForContents contents (λ bytes. (child : ℕ → ℕ → List Step) →
-    frame_rest w.geometry.layout bytes child (words * words) w.triple ≡ item_steps child item ++ frame_rest w.geometry.layout bytes child (words * words) f) →
+    frame_rest w.geometry.layout bytes child (words * words) w.triple ≡ item_steps child item
+    ++ frame_rest w.geometry.layout bytes child (words * words) f) →
     ((bytes : List ℕ) → item_steps (steps_at (extent_of w) bytes 2) item
     ++ (single_rest bytes w ++ (double_rest bytes w
-    ++ (frame_rest w.geometry.layout bytes (steps_at (extent_of w) bytes 2) (w.geometry.layout.nindir * w.geometry.layout.nindir) f ++ top_rest bytes w)))
+    ++ (frame_rest w.geometry.layout bytes (steps_at (extent_of w) bytes 2)
+    (w.geometry.layout.nindir * w.geometry.layout.nindir) f ++ top_rest bytes w)))
     ≡ step ∷ R bytes) →
     ForContents contents (λ bytes. rest bytes w ≡ step ∷ R bytes)
 triple_reported contents w words f item step R is s d taken made = λ bytes e.
     let split : triple_rest bytes w
-    ≡ item_steps (steps_at (extent_of w) bytes 2) item ++ frame_rest w.geometry.layout bytes (steps_at (extent_of w) bytes 2) (w.geometry.layout.nindir * w.geometry.layout.nindir) f =
+    ≡ item_steps (steps_at (extent_of w) bytes 2) item ++ frame_rest w.geometry.layout bytes
+    (steps_at (extent_of w) bytes 2) (w.geometry.layout.nindir * w.geometry.layout.nindir) f =
     rw is at (taken bytes e (steps_at (extent_of w) bytes 2)) in
-    let none : single_rest bytes w ≡ [] = spent_rest w.geometry.layout bytes (steps_at (extent_of w) bytes 0) 1 w.single s in
-    let none' : double_rest bytes w ≡ [] = spent_rest w.geometry.layout bytes (steps_at (extent_of w) bytes 1) w.geometry.layout.nindir w.double d in
+    let none : single_rest bytes w ≡ [] = spent_rest w.geometry.layout bytes (steps_at (extent_of w) bytes 0) 1 w.single
+    s in
+    let none' : double_rest bytes w ≡ [] = spent_rest w.geometry.layout bytes (steps_at (extent_of w) bytes 1)
+    w.geometry.layout.nindir w.double d in
     joined_three _ _ _ _ _ _ _ none none' split (made bytes)
 
 pub one_some : 0 < 1
@@ -256,7 +297,12 @@ pub top_over : (w : Walk) → w.used ≤ w.next → IsSpent w.single → IsSpent
 top_over w h s d t =
     let words = w.geometry.layout.nindir in
     let none : w.used - w.next ≡ 0 = omega arith in
-    rw (spent_left (most_at words 0) w.single s, spent_left (most_at words 1) w.double d, spent_left (most_at words 2) w.triple t, none) (omega arith)
+    rw (
+      spent_left (most_at words 0) w.single s,
+      spent_left (most_at words 1) w.double d,
+      spent_left (most_at words 2) w.triple t,
+      none,
+    ) (omega arith)
 
 -- a step is one, and where an address is left the walk is not over
 pub no_step : (step : Step) → Some step ≡ None → ⊥
@@ -269,11 +315,14 @@ pub one_on : (next used : ℕ) → next < used → next + 1 ≤ used
 one_on next used some = omega arith
 
 -- the first logical block under an indirect address that is used is one of the inode
-pub single_below : (words blocks next used : ℕ) → next < used → used ≤ addresses_for words blocks → next ≡ 12 → 12 < blocks
+pub single_below : (words blocks next used : ℕ) → next < used → used ≤ addresses_for words blocks → next ≡ 12 →
+    12 < blocks
 single_below words blocks next used some fits is = grind (arith, nat_tests)
 
-pub double_below : (words words' blocks next used : ℕ) → next < used → used ≤ addresses_for words blocks → next ≡ 13 → words' ≡ words → 12 + words' < blocks
+pub double_below : (words words' blocks next used : ℕ) → next < used → used ≤ addresses_for words blocks → next ≡ 13 →
+    words' ≡ words → 12 + words' < blocks
 double_below words words' blocks next used some fits is same = rw same (grind (arith, nat_tests))
 
-pub triple_below : (words words' blocks next used : ℕ) → next < used → used ≤ addresses_for words blocks → next ≡ 14 → words' ≡ words → 12 + words' + words' * words' < blocks
+pub triple_below : (words words' blocks next used : ℕ) → next < used → used ≤ addresses_for words blocks → next ≡ 14 →
+    words' ≡ words → 12 + words' + words' * words' < blocks
 triple_below words words' blocks next used some fits is same = rw same (grind (arith, nat_tests))

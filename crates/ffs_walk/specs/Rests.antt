@@ -17,10 +17,12 @@ abbrev pub single_rest : List ℕ → Walk → List Step
 single_rest bytes w = frame_rest w.geometry.layout bytes (steps_at (extent_of w) bytes 0) 1 w.single
 
 abbrev pub double_rest : List ℕ → Walk → List Step
-double_rest bytes w = frame_rest w.geometry.layout bytes (steps_at (extent_of w) bytes 1) w.geometry.layout.nindir w.double
+double_rest bytes w = frame_rest w.geometry.layout bytes (steps_at (extent_of w) bytes 1) w.geometry.layout.nindir
+    w.double
 
 abbrev pub triple_rest : List ℕ → Walk → List Step
-triple_rest bytes w = frame_rest w.geometry.layout bytes (steps_at (extent_of w) bytes 2) (w.geometry.layout.nindir * w.geometry.layout.nindir) w.triple
+triple_rest bytes w = frame_rest w.geometry.layout bytes (steps_at (extent_of w) bytes 2)
+    (w.geometry.layout.nindir * w.geometry.layout.nindir) w.triple
 
 abbrev pub top_rest : List ℕ → Walk → List Step
 top_rest bytes w = steps_of_addresses (extent_of w) bytes w.addresses w.next (w.used - w.next)

@@ -1,14 +1,17 @@
 -- What the kind of an inode reports of it.
-use Rattle.std.proofs.Common.{◌≡◌, ◌<◌, ℕ, Bool, true, false, not, ◌&&◌, ◌||◌, if◌then◌else◌, ◌==◌, List, drop, arith, refl, ap, ◌∙◌, sym}
+use Rattle.std.proofs.Common.{◌≡◌, ◌<◌, ℕ, Bool, true, false, not, ◌&&◌, ◌||◌, if◌then◌else◌, ◌==◌, List, drop, arith}
+use Rattle.std.proofs.Common.{refl, ap, ◌∙◌, sym}
 use Rattle.std.proofs.lemmas.Bool.Decides.{nat_tests}
 use Rattle.ffs_volume.specs.declared.Layout.{Layout}
 use Rattle.ffs_volume.specs.declared.Inode.{Inode}
 use Rattle.ffs_volume.specs.declared.Class.{Class}
 use Rattle.ffs_volume.specs.declared.Class.TheVariants.{Free, Partial, Unknown, File, Dir}
-use Rattle.ffs_volume.specs.Blocks.Inodes.{inode_of, type_of, class_of, is_file_or_dir, is_known_type, is_too_large, is_any_set, addresses_used, is_directory, is_allocated, is_unknown}
+use Rattle.ffs_volume.specs.Blocks.Inodes.{inode_of, type_of, class_of, is_file_or_dir, is_known_type, is_too_large}
+use Rattle.ffs_volume.specs.Blocks.Inodes.{is_any_set, addresses_used, is_directory, is_allocated, is_unknown}
 use Rattle.ffs_volume.specs.Directories.Roles.{is_dir, is_allocated_inode, is_suspect}
 use Rattle.ffs_volume.specs.Directories.Volumes.{class_at, is_inode_number, volume_of, volume_with, marked_at}
-use Rattle.ffs_volume.specs.Encodings.Kinds.{kind_of, kind_at, is_dir_kind, is_empty_dir_kind, is_allocated_kind, is_unknown_kind, class_of_kind, type_of_kind}
+use Rattle.ffs_volume.specs.Encodings.Kinds.{kind_of, kind_at, is_dir_kind, is_empty_dir_kind, is_allocated_kind}
+use Rattle.ffs_volume.specs.Encodings.Kinds.{is_unknown_kind, class_of_kind, type_of_kind}
 
 -- what the class of an inode says of its type
 abbrev type_facts : Class → ℕ → Type 0
@@ -22,7 +25,8 @@ class_type : (v : Layout) (i : Inode) → type_facts (class_of v i) (type_of i.m
 unfolding class_of
 class_type v i = one (type_of i.mode == 0) refl
   where
-    three : (d : Bool) → (type_of i.mode == 4) ≡ d → is_known_type (type_of i.mode) ≡ true → type_facts (if d then Dir else File) (type_of i.mode)
+    three : (d : Bool) → (type_of i.mode == 4) ≡ d → is_known_type (type_of i.mode) ≡ true →
+        type_facts (if d then Dir else File) (type_of i.mode)
     three true q known = grind (arith, nat_tests)
     three false q known = (known, q)
 
@@ -38,21 +42,26 @@ class_type v i = one (type_of i.mode == 0) refl
 
     one : (z : Bool) → (type_of i.mode == 0) ≡ z →
         type_facts (if z then (if i.mode == 0 && (i.size == 0 && not (is_any_set i.addresses)) then Free else Partial)
-        else (if not (is_known_type (type_of i.mode)) || (is_too_large v i || is_any_set (drop (addresses_used v i) i.addresses))
+        else (if not (is_known_type (type_of i.mode))
+        || (is_too_large v i || is_any_set (drop (addresses_used v i) i.addresses))
         then Unknown else (if type_of i.mode == 4 then Dir else File))) (type_of i.mode)
     one true q = free (i.mode == 0 && (i.size == 0 && not (is_any_set i.addresses)))
-    one false q = two (is_known_type (type_of i.mode)) refl (is_too_large v i || is_any_set (drop (addresses_used v i) i.addresses))
+    one false q = two (is_known_type (type_of i.mode)) refl
+        (is_too_large v i || is_any_set (drop (addresses_used v i) i.addresses))
 
 -- the same of a number
 facts_at : (v : Layout) (image : List ℕ) (x : ℕ) → type_facts (class_at v image x) (type_of (inode_of v image x).mode)
 facts_at v image x = one (is_inode_number v x) refl
   where
-    one : (b : Bool) → is_inode_number v x ≡ b → type_facts (if b then class_of v (inode_of v image x) else Free) (type_of (inode_of v image x).mode)
+    one : (b : Bool) → is_inode_number v x ≡ b → type_facts (if b then class_of v (inode_of v image x) else Free)
+        (type_of (inode_of v image x).mode)
     one true q = class_type v (inode_of v image x)
     one false q = tt
 
-known_kind : (k : ℕ) → is_known_type k ≡ true → (k == 4) ≡ false → ((k == 0) ≡ false) × ((k == 5) ≡ false) × ((k == 15) ≡ false) × (k < 16)
-known_kind k known apart = (grind (arith, nat_tests), grind (arith, nat_tests), grind (arith, nat_tests), grind (arith, nat_tests))
+known_kind : (k : ℕ) → is_known_type k ≡ true → (k == 4) ≡ false → ((k == 0) ≡ false) × ((k == 5) ≡ false)
+    × ((k == 15) ≡ false) × (k < 16)
+known_kind k known apart =
+    (grind (arith, nat_tests), grind (arith, nat_tests), grind (arith, nat_tests), grind (arith, nat_tests))
 
 -- all that the kind says
 pub record IsContents (c : Class) (i : Inode) (k : ℕ) : Type 0 where
@@ -81,15 +90,18 @@ kind_reports File i h =
       small = f.3;
     }
 
-pub reports_at : (v : Layout) (image : List ℕ) (x : ℕ) → IsContents (class_at v image x) (inode_of v image x) (kind_at v image x)
+pub reports_at : (v : Layout) (image : List ℕ) (x : ℕ) →
+    IsContents (class_at v image x) (inode_of v image x) (kind_at v image x)
 unfolding kind_at
 reports_at v image x = kind_reports (class_at v image x) (inode_of v image x) (facts_at v image x)
 
 -- a number that is no inode's has the kind 0
-class_inside : (v : Layout) (image : List ℕ) (x : ℕ) (test : Class → Bool) → test Free ≡ false → (is_inode_number v x && test (class_at v image x)) ≡ test (class_at v image x)
+class_inside : (v : Layout) (image : List ℕ) (x : ℕ) (test : Class → Bool) → test Free ≡ false →
+    (is_inode_number v x && test (class_at v image x)) ≡ test (class_at v image x)
 class_inside v image x test out = one (is_inode_number v x) refl
   where
-    one : (b : Bool) → is_inode_number v x ≡ b → (b && test (if b then class_of v (inode_of v image x) else Free)) ≡ test (if b then class_of v (inode_of v image x) else Free)
+    one : (b : Bool) → is_inode_number v x ≡ b → (b && test (if b then class_of v (inode_of v image x) else Free))
+        ≡ test (if b then class_of v (inode_of v image x) else Free)
     one true q = refl
     one false q = sym out
 
@@ -98,24 +110,30 @@ pub dir_is : (v : Layout) (image : List ℕ) (x : ℕ) → is_dir (volume_of v i
 unfolding volume_of volume_with
 dir_is v image x = class_inside v image x is_directory refl ∙ (reports_at v image x).dir
 
-pub some_is : (v : Layout) (image : List ℕ) (x : ℕ) → is_allocated_inode (volume_of v image) x ≡ is_allocated_kind (kind_at v image x)
+pub some_is : (v : Layout) (image : List ℕ) (x : ℕ) → is_allocated_inode (volume_of v image) x
+    ≡ is_allocated_kind (kind_at v image x)
 unfolding volume_of volume_with
 some_is v image x = class_inside v image x is_allocated refl ∙ (reports_at v image x).allocated
 
-pub empty_is : (v : Layout) (image : List ℕ) (x : ℕ) → (is_dir (volume_of v image) x && (((volume_of v image).inode x).size == 0)) ≡ is_empty_dir_kind (kind_at v image x)
+pub empty_is : (v : Layout) (image : List ℕ) (x : ℕ) →
+    (is_dir (volume_of v image) x && (((volume_of v image).inode x).size == 0)) ≡ is_empty_dir_kind (kind_at v image x)
 unfolding volume_of volume_with
-empty_is v image x = ap (λ (b : Bool). b && ((inode_of v image x).size == 0)) (class_inside v image x is_directory refl) ∙ (reports_at v image x).empty
+empty_is v image x = ap (λ (b : Bool). b && ((inode_of v image x).size == 0)) (class_inside v image x is_directory refl)
+    ∙ (reports_at v image x).empty
 
-pub suspect_is : (v : Layout) (image : List ℕ) (x : ℕ) → is_suspect (volume_of v image) x ≡ (marked_at v image x || is_empty_dir_kind (kind_at v image x))
+pub suspect_is : (v : Layout) (image : List ℕ) (x : ℕ) → is_suspect (volume_of v image) x
+    ≡ (marked_at v image x || is_empty_dir_kind (kind_at v image x))
 unfolding volume_of volume_with
 suspect_is v image x = ap (λ (b : Bool). marked_at v image x || b) (empty_is v image x)
 
 -- the type of a file or directory
-pub type_is : (v : Layout) (image : List ℕ) (x : ℕ) → is_file_or_dir (class_at v image x) ≡ true → type_of_kind (kind_at v image x) ≡ type_of (inode_of v image x).mode
+pub type_is : (v : Layout) (image : List ℕ) (x : ℕ) → is_file_or_dir (class_at v image x) ≡ true →
+    type_of_kind (kind_at v image x) ≡ type_of (inode_of v image x).mode
 unfolding kind_at
 type_is v image x settled = of (class_at v image x) (inode_of v image x) (facts_at v image x) settled
   where
-    of : (c : Class) (i : Inode) → type_facts c (type_of i.mode) → is_file_or_dir c ≡ true → type_of_kind (kind_of c i) ≡ type_of i.mode
+    of : (c : Class) (i : Inode) → type_facts c (type_of i.mode) → is_file_or_dir c ≡ true →
+        type_of_kind (kind_of c i) ≡ type_of i.mode
     of Free i h q = cc
     of Partial i h q = cc
     of Unknown i h q = cc
@@ -130,7 +148,8 @@ type_is v image x settled = of (class_at v image x) (inode_of v image x) (facts_
         ap (λ (b : Bool). if b then 4 else type_of i.mode) other
 
 -- the class, where it isn't Partial
-pub class_is : (v : Layout) (image : List ℕ) (x : ℕ) → (class_at v image x ≡ Partial → ⊥) → class_of_kind (kind_at v image x) ≡ class_at v image x
+pub class_is : (v : Layout) (image : List ℕ) (x : ℕ) → (class_at v image x ≡ Partial → ⊥) →
+    class_of_kind (kind_at v image x) ≡ class_at v image x
 unfolding kind_at
 class_is v image x whole = of (class_at v image x) (inode_of v image x) (facts_at v image x) whole
   where
@@ -146,6 +165,7 @@ class_is v image x whole = of (class_at v image x) (inode_of v image x) (facts_a
     of File i h q =
         let f = known_kind (type_of i.mode) h.0 h.1 in
         let other : is_dir_kind (type_of i.mode) ≡ false = ap (λ (b : Bool). b || (type_of i.mode == 5)) h.1 ∙ f.1 in
-        ap (λ (b : Bool). if b then Free else (if type_of i.mode == 15 then Unknown else (if is_dir_kind (type_of i.mode) then Dir else File))) f.0
+        ap (λ (b : Bool). if b then Free
+        else (if type_of i.mode == 15 then Unknown else (if is_dir_kind (type_of i.mode) then Dir else File))) f.0
         ∙ ap (λ (b : Bool). if b then Unknown else (if is_dir_kind (type_of i.mode) then Dir else File)) f.2
         ∙ ap (λ (b : Bool). if b then Dir else File) other

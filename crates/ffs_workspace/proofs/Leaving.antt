@@ -50,7 +50,8 @@ windows_leave old new e = record {
   runs_again = ap (λ (w : Workspace). w.runs_again) e;
 }
 
-pub claims_left : (v : Layout) (b : List ℕ) (old new : Workspace) → LeavesSurvey old new → HoldsClaims v b old → HoldsClaims v b new
+pub claims_left : (v : Layout) (b : List ℕ) (old new : Workspace) → LeavesSurvey old new → HoldsClaims v b old →
+    HoldsClaims v b new
 claims_left v b old new s h = record {
   used = ap bits_of s.claimed ∙ h.used;
   kinds = λ x. ap (λ k. slice_index k.items x) s.kinds ∙ h.kinds x;
@@ -58,7 +59,8 @@ claims_left v b old new s h = record {
   cut = λ x. ap (λ k. slice_index k.items x) s.cut ∙ h.cut x;
 }
 
-pub survey_left : (v : Layout) (b : List ℕ) (old new : Workspace) → LeavesSurvey old new → HoldsSurvey v b old → HoldsSurvey v b new
+pub survey_left : (v : Layout) (b : List ℕ) (old new : Workspace) → LeavesSurvey old new → HoldsSurvey v b old →
+    HoldsSurvey v b new
 survey_left v b old new s h = record {
   references = λ x l. ap (λ k. slice_index k.items x) s.references ∙ h.references x l;
   named = λ x l. ap (λ k. bool_at k.items x) s.named ∙ h.named x l;
@@ -67,8 +69,10 @@ survey_left v b old new s h = record {
 }
 
 -- and so where only the windows have changed
-pub claims_held : (v : Layout) (b : List ℕ) (old new : Workspace) → new ≡ record old { windows = new.windows } → HoldsClaims v b old → HoldsClaims v b new
+pub claims_held : (v : Layout) (b : List ℕ) (old new : Workspace) → new ≡ record old { windows = new.windows } →
+    HoldsClaims v b old → HoldsClaims v b new
 claims_held v b old new e h = claims_left v b old new (windows_leave old new e) h
 
-pub survey_held : (v : Layout) (b : List ℕ) (old new : Workspace) → new ≡ record old { windows = new.windows } → HoldsSurvey v b old → HoldsSurvey v b new
+pub survey_held : (v : Layout) (b : List ℕ) (old new : Workspace) → new ≡ record old { windows = new.windows } →
+    HoldsSurvey v b old → HoldsSurvey v b new
 survey_held v b old new e h = survey_left v b old new (windows_leave old new e) h

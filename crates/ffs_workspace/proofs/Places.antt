@@ -1,5 +1,6 @@
 -- Where inodes are in the blocks of their tables.
-use Rattle.std.proofs.Common.{◌≡◌, ℕ, suc, ◌+◌, ◌-◌, ◌*◌, ◌/◌, ◌%◌, ◌<◌, ◌≤◌, true, List, take, drop, arith, ap, ◌∙◌, sym}
+use Rattle.std.proofs.Common.{◌≡◌, ℕ, suc, ◌+◌, ◌-◌, ◌*◌, ◌/◌, ◌%◌, ◌<◌, ◌≤◌, true, List, take, drop, arith, ap, ◌∙◌}
+use Rattle.std.proofs.Common.{sym}
 use Rattle.std.proofs.Math.Nat.{mul-le-mul_right, mul-div_cancel, mul_comm, mul_assoc, div-add-mod', mod-lt}
 use Rattle.std.proofs.lemmas.Nat.{div_below}
 use Rattle.std.proofs.lemmas.List.{drop-take, take-take, drop-drop}
@@ -57,9 +58,11 @@ table_fits v g =
     let all : v.inopb * (v.ipg / v.inopb) ≡ v.ipg = whole_blocks v.ipg v.inopb g.sizes.inode_blocks in
     let same : 128 * v.inopb ≡ v.bsize = inodes_whole v g in
     let block : v.bsize ≡ v.frag * v.fsize = g.sizes.block in
-    fits (v.ipg / v.inopb) v.inopb v.ipg v.bsize v.frag v.fsize v.iblkno v.dblkno all same block (omega arith) g.parts.inodes_fit
+    fits (v.ipg / v.inopb) v.inopb v.ipg v.bsize v.frag v.fsize v.iblkno v.dblkno all same block (omega arith)
+    g.parts.inodes_fit
   where
-    fits : (m n ipg b frag f low high : ℕ) → n * m ≡ ipg → 128 * n ≡ b → b ≡ frag * f → 0 < f → low + ipg * 128 / f ≤ high → low * f + m * b ≤ high * f
+    fits : (m n ipg b frag f low high : ℕ) → n * m ≡ ipg → 128 * n ≡ b → b ≡ frag * f → 0 < f →
+        low + ipg * 128 / f ≤ high → low * f + m * b ≤ high * f
     fits m n ipg b frag f low high all same block some room =
         let bytes : ipg * 128 ≡ m * frag * f = grind (arith, mul_comm, mul_assoc) in
         let blocks : ipg * 128 / f ≡ m * frag = rw bytes (mul-div_cancel (m * frag) some) in
@@ -83,7 +86,8 @@ block_inside v x g group =
 
 -- where the inode is in it
 pub block_of : (v : Layout) (x : ℕ) → IsValidLayout v →
-    (cgstart v (x / v.ipg) + v.iblkno) * v.fsize + x % v.ipg / v.inopb * v.bsize + 128 * (x % v.ipg % v.inopb) ≡ inode_place v x
+    (cgstart v (x / v.ipg) + v.iblkno) * v.fsize + x % v.ipg / v.inopb * v.bsize + 128 * (x % v.ipg % v.inopb)
+    ≡ inode_place v x
 block_of v x g =
     let place = split (x % v.ipg) v.inopb v.bsize (inodes_whole v g) in
     omega arith
@@ -95,7 +99,8 @@ inside_block v x g =
     omega arith
 
 -- a piece of a piece
-pub piece_of : (place length at n : ℕ) (bytes : List ℕ) → at + n ≤ length → piece at n (piece place length bytes) ≡ piece (place + at) n bytes
+pub piece_of : (place length at n : ℕ) (bytes : List ℕ) → at + n ≤ length → piece at n (piece place length bytes)
+    ≡ piece (place + at) n bytes
 piece_of place length at n bytes h =
     let more : length ≡ at + (length - at) = omega arith in
     ap (λ (k : ℕ). take n (drop at (take k (drop place bytes)))) more
@@ -104,8 +109,10 @@ piece_of place length at n bytes h =
     ∙ ap (λ (xs : List ℕ). take n xs) (drop-drop at place bytes)
 
 -- the bytes of an inode, in its block
-pub bytes_there : (v : Layout) (x place at : ℕ) (bytes held : List ℕ) → IsValidLayout v → at ≡ 128 * (x % v.ipg % v.inopb) →
-    place + 128 * (x % v.ipg % v.inopb) ≡ inode_place v x → held ≡ piece place v.bsize bytes → slice_range held at (at + 128) ≡ piece (inode_place v x) 128 bytes
+pub bytes_there : (v : Layout) (x place at : ℕ) (bytes held : List ℕ) → IsValidLayout v →
+    at ≡ 128 * (x % v.ipg % v.inopb) →
+    place + 128 * (x % v.ipg % v.inopb) ≡ inode_place v x → held ≡ piece place v.bsize bytes →
+    slice_range held at (at + 128) ≡ piece (inode_place v x) 128 bytes
 bytes_there v x place at bytes held g is_at is_place is_held =
     let inside : at + 128 ≤ v.bsize = omega (arith, inside_block v x g) in
     let same : place + at ≡ inode_place v x = omega arith in
@@ -116,8 +123,10 @@ bytes_there v x place at bytes held g is_at is_place is_held =
     ∙ ap (λ (n : ℕ). piece n 128 bytes) same
 
 -- a value of the bytes of an inode that are held is its value of the inode
-pub inode_there : {T : Type 0} (value : Inode → T) (v : Layout) (x at : ℕ) (bytes held held' : List ℕ) (i : T) → held' ≡ held → slice_range held at (at + 128) ≡ piece (inode_place v x) 128 bytes →
+pub inode_there : {T : Type 0} (value : Inode → T) (v : Layout) (x at : ℕ) (bytes held held' : List ℕ) (i : T) →
+    held' ≡ held → slice_range held at (at + 128) ≡ piece (inode_place v x) 128 bytes →
     i ≡ value (inode_from_bytes v.order (slice_range held' at (at + 128))) → i ≡ value (inode_of v bytes x)
 unfolding inode_of
 inode_there value v x at bytes held held' i same there is =
-    is ∙ ap (λ (xs : List ℕ). value (inode_from_bytes v.order (slice_range xs at (at + 128)))) same ∙ ap (λ (xs : List ℕ). value (inode_from_bytes v.order xs)) there
+    is ∙ ap (λ (xs : List ℕ). value (inode_from_bytes v.order (slice_range xs at (at + 128)))) same
+    ∙ ap (λ (xs : List ℕ). value (inode_from_bytes v.order xs)) there

@@ -9,13 +9,15 @@ use Rattle.ffs_check.proofs.check.check_in.Goals as goal
 pub returns-in-Err-clause-headline : goal.returns-in-Err-clause-headline
 returns-in-Err-clause-headline g c =
     headline_at _ _ _ _ _ (g.W.Output.sink c.say_opening.new.report.out.now) _ _ (search rules)
-    (opening_ends _ _ _ _ _ (g.W.Output.sink c.args.out.now) (progress g.W.Output.sink c.say_opening.new.report) c.in-Err.end
+    (opening_ends _ _ _ _ _ (g.W.Output.sink c.args.out.now) (progress g.W.Output.sink c.say_opening.new.report)
+    c.in-Err.end
     (rw c.new-report.ensures at c.in-Err.ensures.opened))
 
 pub returns-in-Ok-clause-headline : goal.returns-in-Ok-clause-headline
 returns-in-Ok-clause-headline g c =
     headline_at _ _ _ _ _ (g.W.Output.sink c.check_found.new.report.out.now) _ _ (search rules)
-    (found_ends _ _ _ _ _ _ (g.W.Output.sink c.args.out.now) (progress g.W.Output.sink c.say_opening.new.report) (progress g.W.Output.sink c.check_found.new.report) c.in-Ok.found _
+    (found_ends _ _ _ _ _ _ (g.W.Output.sink c.args.out.now) (progress g.W.Output.sink c.say_opening.new.report)
+    (progress g.W.Output.sink c.check_found.new.report) c.in-Ok.found _
     (rw c.new-report.ensures at c.in-Ok.ensures.opened) c.check_found.ensures.followed)
 
 pub returns-in-Ok-clause-unread : goal.returns-in-Ok-clause-unread
@@ -34,7 +36,8 @@ pub returns-in-Ok-clause-writes : goal.returns-in-Ok-clause-writes
 returns-in-Ok-clause-writes g c = writes_failed _ _ _ _ _ _ _ (returns-in-Ok-clause-headline g c)
 
 pub returns-in-Ok-clause-memory : goal.returns-in-Ok-clause-memory
-returns-in-Ok-clause-memory g c = inr (takes _ _ _ _ _ _ c.in-Ok.found _ _ c.in-Ok.ensures.opened c.check_found.ensures.asked)
+returns-in-Ok-clause-memory g c =
+    inr (takes _ _ _ _ _ _ c.in-Ok.found _ _ c.in-Ok.ensures.opened c.check_found.ensures.asked)
 
 pub returns-in-Err-clause-memory : goal.returns-in-Err-clause-memory
 returns-in-Err-clause-memory g c = inl refl

@@ -10,6 +10,9 @@ use Rattle.ffs_check.proofs.check.check_rest.Goals as goal
 pub returns-clause-runs : goal.returns-clause-runs
 returns-clause-runs g c =
     let s = seen c.args.found.now in
-    runs_at _ _ (λ bytes. phase_lines bytes s) (λ bytes. continues_after_root (volume_of s.layout bytes)) _ _ _ (g.W.Output.sink c.run_rest.new.report.out.now) _ _ (search rules)
-    (runs_through _ _ (c.opening_defects.ensures ∙ opening_defect s) _ (λ bytes. phase_lines bytes s) (λ bytes. continues_after_root (volume_of s.layout bytes)) _ _
-    _ (g.W.Output.sink c.args.out.now) (progress g.W.Output.sink c.run_rest.new.report) _ (rw c.new-report.ensures at c.run_rest.ensures.ran))
+    runs_at _ _ (λ bytes. phase_lines bytes s) (λ bytes. continues_after_root (volume_of s.layout bytes)) _ _ _
+    (g.W.Output.sink c.run_rest.new.report.out.now) _ _ (search rules)
+    (runs_through _ _ (c.opening_defects.ensures ∙ opening_defect s) _ (λ bytes. phase_lines bytes s)
+    (λ bytes. continues_after_root (volume_of s.layout bytes)) _ _
+    _ (g.W.Output.sink c.args.out.now) (progress g.W.Output.sink c.run_rest.new.report) _
+    (rw c.new-report.ensures at c.run_rest.ensures.ran))

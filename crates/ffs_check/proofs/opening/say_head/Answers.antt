@@ -8,8 +8,10 @@ use Rattle.ffs_check.proofs.opening.say_head.Goals as goal
 pub returns-in_err-say_location : goal.returns-in_err-say_location
 returns-in_err-say_location g c =
     let p = err_from_is_err_and c.from_residual.result c.from_residual.ensures.1 in
-    rw (p.1) (stopped_more _ _ (location_lines c.args.args.now.sector) (opening c.args.args.now.name.now ∷ []) c.in_err-say_location.ensures)
+    rw (p.1) (stopped_more _ _ (location_lines c.args.args.now.sector) (opening c.args.args.now.name.now ∷ [])
+    c.in_err-say_location.ensures)
 
 pub returns : goal.returns
 returns g c =
-    says_then _ _ _ (location_lines c.args.args.now.sector) (opening c.args.args.now.name.now ∷ []) _ c.in_ok-say_location.ensures c.say.ensures.said
+    says_then _ _ _ (location_lines c.args.args.now.sector) (opening c.args.args.now.name.now ∷ []) _
+    c.in_ok-say_location.ensures c.say.ensures.said

@@ -10,7 +10,8 @@ unfolding setting_lines
 returns-in_err-say_optimization g c =
     let p = err_from_is_err_and c.from_residual.result c.from_residual.ensures.1 in
     rw (p.1) (stopped_more _ _ (message_unless (is_optimization (seen c.args.found.now)) optimization)
-    (message_unless (is_minfree (seen c.args.found.now)) (minfree c.args.found.now.minfree)) c.in_err-say_optimization.ensures)
+    (message_unless (is_minfree (seen c.args.found.now)) (minfree c.args.found.now.minfree))
+    c.in_err-say_optimization.ensures)
 
 pub returns : goal.returns
 unfolding setting_lines

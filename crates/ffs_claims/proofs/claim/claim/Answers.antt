@@ -12,7 +12,8 @@ use Rattle.ffs_phase.proofs.Reporting.{of_begins, of_stops, of_reads, of_same}
 use Rattle.ffs_workspace.specs.Holds.{claims_of}
 use Rattle.ffs_claims.specs.Lines.{of_lines}
 use Rattle.ffs_claims.proofs.Weights.{moves_on, seen_bound, used_below}
-use Rattle.ffs_claims.proofs.Goes.{claims_on, lines_on, steps_said, cut_stays, cut_silent, gaps_stay, gaps_silent, no_steps}
+use Rattle.ffs_claims.proofs.Goes.{claims_on, lines_on, steps_said, cut_stays, cut_silent, gaps_stay, gaps_silent}
+use Rattle.ffs_claims.proofs.Goes.{no_steps}
 use Rattle.ffs_claims.proofs.Frames.{found_none, found_still, found_then, ready_still, ready_read, ready_walked}
 use Rattle.ffs_claims.proofs.claim.claim.Goals as goal
 
@@ -129,7 +130,8 @@ returns-in_err-step g c =
       image = ok ∙ inv.device;
       text = of_stops _ _ _ _ (of_lines (step_lines v c.args.number (claims_of c.loop-next.workspace) c.in-Some.next))
           _ _ _ inv.said
-          (lines_on _ v c.args.number (claims_of c.loop-next.workspace) (after_step v (claims_of c.loop-next.workspace) c.in-Some.next)
+          (lines_on _ v c.args.number (claims_of c.loop-next.workspace)
+          (after_step v (claims_of c.loop-next.workspace) c.in-Some.next)
           (λ bytes. rest bytes c.loop-next.walk) (λ bytes. rest bytes c.next.new.self) c.in-Some.next next refl)
           c.in_err-step.ensures.said;
       claims = tt;
@@ -160,7 +162,8 @@ loop-next-preserved-then-matches g c =
     let read = ready_walked c.args.geometry.now _ _ _ c.loop-next.workspace c.next.new.blocks inv.geometry ok
     c.next.ensures.kept.size c.next.ensures.kept.holds inv.ready in
     let ready = ready_still v _ _ _ c.step.ensures.only.made c.step.ensures.only.windows read in
-    let gaps : ForBytes (IsContents (g.I.Image.device c.args.image.now).contents) (λ bytes. rest bytes c.next.new.self ≡ replicate c.skip_gaps.result Gap ++ rest bytes c.skip_gaps.new.self) =
+    let gaps : ForBytes (IsContents (g.I.Image.device c.args.image.now).contents)
+    (λ bytes. rest bytes c.next.new.self ≡ replicate c.skip_gaps.result Gap ++ rest bytes c.skip_gaps.new.self) =
     λ bytes t. c.skip_gaps.ensures.steps (g.I.Image.device c.next.new.image).contents
     (rw (c.in_ok-next.ensures.same.geometry ∙ inv.geometry) ready.windows.blocks) bytes
     (ap (λ d. d.contents) (ok ∙ inv.device) ∙ t) in
@@ -171,7 +174,8 @@ loop-next-preserved-then-matches g c =
       geometry = c.skip_gaps.ensures.same.geometry ∙ c.in_ok-next.ensures.same.geometry ∙ inv.geometry;
       device = ok ∙ inv.device;
       found = found_then _ _ _ (found_still _ _ _ inv.found) c.step.ensures.only.found;
-      moves = moves_on v (claims_of c.args.workspace.now) (claims_of c.loop-next.workspace) (claims_of c.step.new.workspace) c.in-Some.next
+      moves = moves_on v (claims_of c.args.workspace.now) (claims_of c.loop-next.workspace)
+          (claims_of c.step.new.workspace) c.in-Some.next
           (length_bits _ _ ∙ inv.ready.made.claimed) c.args.geometry.now.sound.sizes.frag_high
           (rw (inv.geometry, c.in-Some.is) at c.in_ok-next.ensures.fits).length c.in_ok-step.ensures.claims inv.moves;
       claims = claims_on _ v (claims_of c.loop-next.workspace) s (λ bytes. rest bytes c.loop-next.walk)
@@ -202,7 +206,8 @@ loop-next-preserved g c =
       geometry = c.in_ok-next.ensures.same.geometry ∙ inv.geometry;
       device = ok ∙ inv.device;
       found = found_then _ _ _ (found_still _ _ _ inv.found) c.step.ensures.only.found;
-      moves = moves_on v (claims_of c.args.workspace.now) (claims_of c.loop-next.workspace) (claims_of c.step.new.workspace) c.in-Some.next
+      moves = moves_on v (claims_of c.args.workspace.now) (claims_of c.loop-next.workspace)
+          (claims_of c.step.new.workspace) c.in-Some.next
           (length_bits _ _ ∙ inv.ready.made.claimed) c.args.geometry.now.sound.sizes.frag_high
           (rw (inv.geometry, c.in-Some.is) at c.in_ok-next.ensures.fits).length c.in_ok-step.ensures.claims inv.moves;
       claims = claims_on _ v (claims_of c.loop-next.workspace) s (λ bytes. rest bytes c.loop-next.walk)
@@ -243,7 +248,8 @@ returns-then-not-is_open g c =
       claims = claims_on _ v (claims_of c.loop-next.workspace) s (λ bytes. rest bytes c.loop-next.walk)
           (λ bytes. rest bytes c.next.new.self) _ _ c.in-Some.next
           next c.in_ok-step.ensures.claims inv.claims (λ bytes t. cut_stays v s (rest bytes c.next.new.self) cut);
-      moves = moves_on v (claims_of c.args.workspace.now) (claims_of c.loop-next.workspace) (claims_of c.step.new.workspace) c.in-Some.next
+      moves = moves_on v (claims_of c.args.workspace.now) (claims_of c.loop-next.workspace)
+          (claims_of c.step.new.workspace) c.in-Some.next
           (length_bits _ _ ∙ inv.ready.made.claimed) c.args.geometry.now.sound.sizes.frag_high
           (rw (inv.geometry, c.in-Some.is) at c.in_ok-next.ensures.fits).length c.in_ok-step.ensures.claims inv.moves;
       bound = omega (

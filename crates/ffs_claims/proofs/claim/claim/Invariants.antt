@@ -27,7 +27,8 @@ invariant-loop-next g l = record {
       ≡ after_steps l.geometry.layout (claims_of l.initial.workspace) (steps_of l.geometry.layout l.inode bytes));
   said : SaidOf (IsContents (g.I.Image.device l.initial.image).contents)
       (λ bytes. of_lines (lines_of_steps l.geometry.layout l.number (claims_of l.workspace) (rest bytes l.walk)))
-      (λ bytes. of_lines (lines_of_steps l.geometry.layout l.number (claims_of l.initial.workspace) (steps_of l.geometry.layout l.inode bytes)))
+      (λ bytes. of_lines (lines_of_steps l.geometry.layout l.number (claims_of l.initial.workspace)
+      (steps_of l.geometry.layout l.inode bytes)))
       (progress g.W.Output.sink l.initial.report) (progress g.W.Output.sink l.report);
 }
 

@@ -14,7 +14,10 @@ use Rattle.ffs_claims.proofs.claim.claim_inode.Goals as goal
 pub returns-in_err-inode-clause-text : goal.returns-in_err-inode-clause-text
 returns-in_err-inode-clause-text g c =
     let p = err_from_is_err_and c.from_residual.result c.from_residual.ensures.1 in
-    rw (p.1, p.2) (of_reads _ _ _ _ _ (of_begins _ (λ bytes. of_lines (owner_lines c.args.geometry.now.layout (claims_of c.args.workspace.now) (owner_of c.args.geometry.now.layout bytes c.args.number))) _))
+    rw (p.1, p.2) (of_reads _ _ _ _ _
+    (of_begins _ (λ bytes. of_lines
+    (owner_lines c.args.geometry.now.layout (claims_of c.args.workspace.now)
+    (owner_of c.args.geometry.now.layout bytes c.args.number))) _))
 
 pub returns-in_err-inode-clause-bound : goal.returns-in_err-inode-clause-bound
 returns-in_err-inode-clause-bound g c =
@@ -24,18 +27,24 @@ pub returns-clause-text : goal.returns-clause-text
 returns-clause-text g c =
     let v = c.args.geometry.now.layout in
     let s = claims_of c.args.workspace.now in
-    reports_same (Unit {0}) _ (λ bytes. of_lines (owner_lines v s (owner_with v bytes c.args.number c.in_ok-inode.inode)))
+    reports_same (Unit {0}) _
+    (λ bytes. of_lines (owner_lines v s (owner_with v bytes c.args.number c.in_ok-inode.inode)))
     (λ bytes. of_lines (owner_lines v s (owner_of v bytes c.args.number))) _ _ c.claim_read_inode.result
-    (λ bytes t. ap (λ (o : Owner). of_lines (owner_lines v s o)) (owner_is v bytes c.args.number c.in_ok-inode.inode (c.in_ok-inode.ensures.inode bytes t)))
-    (reports_knowing (Unit {0}) _ _ _ _ _ c.claim_read_inode.result (λ bytes t. ap (λ d. d.contents) c.in_ok-inode.ensures.ok ∙ t) c.claim_read_inode.ensures.text)
+    (λ bytes t. ap (λ (o : Owner). of_lines (owner_lines v s o))
+    (owner_is v bytes c.args.number c.in_ok-inode.inode (c.in_ok-inode.ensures.inode bytes t)))
+    (reports_knowing (Unit {0}) _ _ _ _ _ c.claim_read_inode.result
+    (λ bytes t. ap (λ d. d.contents) c.in_ok-inode.ensures.ok ∙ t) c.claim_read_inode.ensures.text)
 
 pub returns-clause-claims : goal.returns-clause-claims
 returns-clause-claims g c =
     let v = c.args.geometry.now.layout in
     let s = claims_of c.args.workspace.now in
-    ok_where c.claim_read_inode.result _ _ (λ bytes. claims_of c.claim_read_inode.new.workspace ≡ after_owner v s (owner_with v bytes c.args.number c.in_ok-inode.inode)) _
+    ok_where c.claim_read_inode.result _ _
+    (λ bytes. claims_of c.claim_read_inode.new.workspace
+    ≡ after_owner v s (owner_with v bytes c.args.number c.in_ok-inode.inode)) _
     (ap (λ d. d.contents) c.in_ok-inode.ensures.ok)
-    (λ bytes t h. h ∙ ap (λ (o : Owner). after_owner v s o) (owner_is v bytes c.args.number c.in_ok-inode.inode (c.in_ok-inode.ensures.inode bytes t)))
+    (λ bytes t h. h ∙ ap (λ (o : Owner). after_owner v s o)
+    (owner_is v bytes c.args.number c.in_ok-inode.inode (c.in_ok-inode.ensures.inode bytes t)))
     c.claim_read_inode.ensures.claims
 
 pub inode-requires : goal.inode-requires

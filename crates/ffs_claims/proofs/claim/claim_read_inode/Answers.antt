@@ -16,7 +16,8 @@ use Rattle.ffs_claims.proofs.claim.claim_read_inode.Goals as goal
 pub returns-in_err-say_class-clause-text : goal.returns-in_err-say_class-clause-text
 returns-in_err-say_class-clause-text g c =
     let p = err_from_is_err_and c.from_residual.result c.from_residual.ensures.1 in
-    rw (p.1, p.2) (class_stopped _ c.args.geometry.now.layout c.args.number c.args.inode.now (claims_of c.args.workspace.now) c.class_of-class.result _ _
+    rw (p.1, p.2) (class_stopped _ c.args.geometry.now.layout c.args.number c.args.inode.now
+    (claims_of c.args.workspace.now) c.class_of-class.result _ _
     c.class_of-class.ensures c.in_err-say_class.ensures)
 
 pub returns-in_err-say_class-clause-bound : goal.returns-in_err-say_class-clause-bound
@@ -29,8 +30,10 @@ returns-in_err-claim-clause-text g c =
     let p = err_from_is_err_and c.from_residual-in_err-claim.result c.from_residual-in_err-claim.ensures.1 in
     let v = c.args.geometry.now.layout in
     let s1 = claims_of c.begin.new.workspace in
-    rw (p.1, p.2) (of_fault (Unit {0}) (Unit {0}) _ _ (λ bytes. of_lines (lines_of_steps v c.args.number s1 (steps_of v c.args.inode.now bytes)))
-    (λ bytes. of_lines (count_lines v (counted_owner c.args.number c.class_of-class.result c.args.inode.now.blocks) (after_steps v s1 (steps_of v c.args.inode.now bytes))))
+    rw (p.1, p.2) (of_fault (Unit {0}) (Unit {0}) _ _
+    (λ bytes. of_lines (lines_of_steps v c.args.number s1 (steps_of v c.args.inode.now bytes)))
+    (λ bytes. of_lines (count_lines v (counted_owner c.args.number c.class_of-class.result c.args.inode.now.blocks)
+    (after_steps v s1 (steps_of v c.args.inode.now bytes))))
     _ _ _ _ _
     (class_said _ v c.args.number c.args.inode.now (claims_of c.args.workspace.now) s1 c.class_of-class.result _ _
     (ap claims_of c.begin.ensures) c.class_of-class.ensures c.in_ok-say_class.ensures)
@@ -41,26 +44,34 @@ returns-in_err-say_count-clause-text g c =
     let p = err_from_is_err_and c.from_residual-in_err-say_count.result c.from_residual-in_err-say_count.ensures.1 in
     let v = c.args.geometry.now.layout in
     let s1 = claims_of c.begin.new.workspace in
-    rw (p.1, p.2) (of_stops _ _ (λ bytes. []) _ (of_lines (count_lines v (counted_owner c.args.number c.class_of-class.result c.args.inode.now.blocks) (claims_of c.claim.new.workspace))) _ _ _
+    rw (p.1, p.2) (of_stops _ _ (λ bytes. []) _
+    (of_lines (count_lines v (counted_owner c.args.number c.class_of-class.result c.args.inode.now.blocks)
+    (claims_of c.claim.new.workspace))) _ _ _
     (of_part _ _ (λ bytes. of_lines (lines_of_steps v c.args.number s1 (steps_of v c.args.inode.now bytes)))
-    (λ bytes. of_lines (count_lines v (counted_owner c.args.number c.class_of-class.result c.args.inode.now.blocks) (after_steps v s1 (steps_of v c.args.inode.now bytes)))) _ _ _ _
+    (λ bytes. of_lines (count_lines v (counted_owner c.args.number c.class_of-class.result c.args.inode.now.blocks)
+    (after_steps v s1 (steps_of v c.args.inode.now bytes)))) _ _ _ _
     (class_said _ v c.args.number c.args.inode.now (claims_of c.args.workspace.now) s1 c.class_of-class.result _ _
     (ap claims_of c.begin.ensures) c.class_of-class.ensures c.in_ok-say_class.ensures)
     (λ bytes t. refl) c.in_ok-claim.ensures.text)
-    (count_right _ v c.args.number c.args.inode.now s1 (claims_of c.claim.new.workspace) c.class_of-class.result c.in_ok-claim.ensures.claims)
+    (count_right _ v c.args.number c.args.inode.now s1 (claims_of c.claim.new.workspace) c.class_of-class.result
+    c.in_ok-claim.ensures.claims)
     c.in_err-say_count.ensures)
 
 pub returns-clause-text : goal.returns-clause-text
 returns-clause-text g c =
     let v = c.args.geometry.now.layout in
     let s1 = claims_of c.begin.new.workspace in
-    of_says _ _ (λ bytes. []) _ (of_lines (count_lines v (counted_owner c.args.number c.class_of-class.result c.args.inode.now.blocks) (claims_of c.claim.new.workspace))) _ _ _
+    of_says _ _ (λ bytes. []) _
+    (of_lines (count_lines v (counted_owner c.args.number c.class_of-class.result c.args.inode.now.blocks)
+    (claims_of c.claim.new.workspace))) _ _ _
     (of_part _ _ (λ bytes. of_lines (lines_of_steps v c.args.number s1 (steps_of v c.args.inode.now bytes)))
-    (λ bytes. of_lines (count_lines v (counted_owner c.args.number c.class_of-class.result c.args.inode.now.blocks) (after_steps v s1 (steps_of v c.args.inode.now bytes)))) _ _ _ _
+    (λ bytes. of_lines (count_lines v (counted_owner c.args.number c.class_of-class.result c.args.inode.now.blocks)
+    (after_steps v s1 (steps_of v c.args.inode.now bytes)))) _ _ _ _
     (class_said _ v c.args.number c.args.inode.now (claims_of c.args.workspace.now) s1 c.class_of-class.result _ _
     (ap claims_of c.begin.ensures) c.class_of-class.ensures c.in_ok-say_class.ensures)
     (λ bytes t. refl) c.in_ok-claim.ensures.text)
-    (count_right _ v c.args.number c.args.inode.now s1 (claims_of c.claim.new.workspace) c.class_of-class.result c.in_ok-claim.ensures.claims)
+    (count_right _ v c.args.number c.args.inode.now s1 (claims_of c.claim.new.workspace) c.class_of-class.result
+    c.in_ok-claim.ensures.claims)
     c.in_ok-say_count.ensures
 
 pub say_count-requires : goal.say_count-requires
@@ -75,7 +86,8 @@ say_count-requires g c =
     omega (
       arith,
       c.args.geometry.now.sound.numbers.size_below,
-      kept_bound (claims_of c.begin.new.workspace) (claims_of c.claim.new.workspace) c.args.geometry.now.layout.size used (omega (arith, bad)) (omega (arith, dups)) none m,
+      kept_bound (claims_of c.begin.new.workspace) (claims_of c.claim.new.workspace) c.args.geometry.now.layout.size
+          used (omega (arith, bad)) (omega (arith, dups)) none m,
     )
 
 pub claim-requires-clause-ready : goal.claim-requires-clause-ready

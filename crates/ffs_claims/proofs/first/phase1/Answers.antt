@@ -1,7 +1,8 @@
 use Rattle.std.proofs.Common.{inl, inr, arith, refl, sym, ◌∷◌, ◌+◌, ◌≤◌, ◌<◌, [], List, ap, ◌∙◌, Err, false}
 use Rattle.std.proofs.lemmas.Bool.{cases_lt}
 use Rattle.std.proofs.lemmas.Result.{err_from_is_err_and}
-use Rattle.ffs_phase.proofs.Reporting.{of_begins, of_says, of_part, of_fault, of_stops, of_same, reports_knowing, said_knows}
+use Rattle.ffs_phase.proofs.Reporting.{of_begins, of_says, of_part, of_fault, of_stops, of_same, reports_knowing}
+use Rattle.ffs_phase.proofs.Reporting.{said_knows}
 use Rattle.ffs_volume.specs.Blocks.BlockCheck.{owner_lines, lines_of_owners, phase1_lines}
 use Rattle.ffs_volume.specs.Blocks.Claims.{Claims, after_owner}
 use Rattle.ffs_volume.specs.Messages.Kinds.{Message, phase1}
@@ -15,15 +16,19 @@ use Rattle.ffs_claims.specs.Lines.{of_lines, owners_from}
 use Rattle.ffs_claims.proofs.Doubles.{dups_are}
 use Rattle.ffs_claims.proofs.Weights.{used_below}
 use Rattle.ffs_claims.proofs.Frames.{ready_still}
-use Rattle.ffs_claims.proofs.Numbers.{before_next, before_first, before_end, lines_next, lines_end, filled_next, filled_end, filled_begin, is_inside, is_outside, kind_out, kind_in, mark_out, mark_in, cut_out, cut_in, first_lines}
+use Rattle.ffs_claims.proofs.Numbers.{before_next, before_first, before_end, lines_next, lines_end, filled_next}
+use Rattle.ffs_claims.proofs.Numbers.{filled_end, filled_begin, is_inside, is_outside, kind_out, kind_in, mark_out}
+use Rattle.ffs_claims.proofs.Numbers.{mark_in, cut_out, cut_in, first_lines}
 use Rattle.ffs_claims.proofs.first.phase1.Goals as goal
 
 pub returns-in_err-say-clause-text : goal.returns-in_err-say-clause-text
 returns-in_err-say-clause-text g c =
     let p = err_from_is_err_and c.from_residual.result c.from_residual.ensures.1 in
     let v = c.args.geometry.now.layout in
-    rw (p.1, p.2) (of_stops _ (λ bytes. phase1 ∷ of_lines (phase1_lines v (owners_of v bytes))) (λ bytes. of_lines (phase1_lines v (owners_of v bytes))) _ (phase1 ∷ []) _ _ _
-    (of_begins _ (λ bytes. phase1 ∷ of_lines (phase1_lines v (owners_of v bytes))) _) (λ bytes t. refl) c.in_err-say.ensures.said)
+    rw (p.1, p.2) (of_stops _ (λ bytes. phase1 ∷ of_lines (phase1_lines v (owners_of v bytes)))
+    (λ bytes. of_lines (phase1_lines v (owners_of v bytes))) _ (phase1 ∷ []) _ _ _
+    (of_begins _ (λ bytes. phase1 ∷ of_lines (phase1_lines v (owners_of v bytes))) _) (λ bytes t. refl)
+    c.in_err-say.ensures.said)
 
 pub loop-number-init : goal.loop-number-init
 loop-number-init g c =
@@ -38,10 +43,15 @@ loop-number-init g c =
       runs = omega (arith, c.reserve.ensures.runs);
       again = found.again;
       claims = λ bytes k. c.reserve.ensures.claims k.1 ∙ sym (before_first v bytes);
-      kinds = λ bytes k. filled_begin 0 (kind_at v bytes) c.reserve.new.workspace.kinds.items (inodes_of v) (ap (λ w. w.items) found.kinds ∙ k.1.kinds) (λ x low. kind_out v bytes x (is_outside v x (inl low)));
-      marked = λ bytes k. filled_begin false (first_marked_at v bytes) c.reserve.new.workspace.marked.items (inodes_of v) (ap (λ w. w.items) found.marked ∙ k.1.marked) (λ x low. mark_out v bytes x (is_outside v x (inl low)));
-      cut = λ bytes k. filled_begin 0 (cut_at v bytes) c.reserve.new.workspace.cut.items (inodes_of v) (ap (λ w. w.items) found.cut ∙ k.1.cut) (λ x low. cut_out v bytes x (is_outside v x (inl low)));
-      said = of_says _ (λ bytes. phase1 ∷ of_lines (phase1_lines v (owners_of v bytes))) (λ bytes. of_lines (lines_of_owners v s (owners_from v bytes 2))) _ (phase1 ∷ []) _ _ _
+      kinds = λ bytes k. filled_begin 0 (kind_at v bytes) c.reserve.new.workspace.kinds.items (inodes_of v)
+          (ap (λ w. w.items) found.kinds ∙ k.1.kinds) (λ x low. kind_out v bytes x (is_outside v x (inl low)));
+      marked = λ bytes k. filled_begin false (first_marked_at v bytes) c.reserve.new.workspace.marked.items
+          (inodes_of v) (ap (λ w. w.items) found.marked ∙ k.1.marked)
+          (λ x low. mark_out v bytes x (is_outside v x (inl low)));
+      cut = λ bytes k. filled_begin 0 (cut_at v bytes) c.reserve.new.workspace.cut.items (inodes_of v)
+          (ap (λ w. w.items) found.cut ∙ k.1.cut) (λ x low. cut_out v bytes x (is_outside v x (inl low)));
+      said = of_says _ (λ bytes. phase1 ∷ of_lines (phase1_lines v (owners_of v bytes)))
+          (λ bytes. of_lines (lines_of_owners v s (owners_from v bytes 2))) _ (phase1 ∷ []) _ _ _
           (of_begins _ (λ bytes. phase1 ∷ of_lines (phase1_lines v (owners_of v bytes))) _)
           (λ bytes k. ap (λ (xs : List Message). phase1 ∷ xs) (first_lines v bytes s (c.reserve.ensures.claims k.1)))
           c.in_ok-say.ensures.said;
@@ -61,15 +71,19 @@ claim_inode-requires-clause-runs g c =
 
 pub returns-in_err-claim_inode-clause-text : goal.returns-in_err-claim_inode-clause-text
 returns-in_err-claim_inode-clause-text g c =
-    let p = err_from_is_err_and c.from_residual-in_err-claim_inode.result c.from_residual-in_err-claim_inode.ensures.1 in
+    let p = err_from_is_err_and c.from_residual-in_err-claim_inode.result
+    c.from_residual-in_err-claim_inode.ensures.1 in
     let v = c.args.geometry.now.layout in
     let inv = c.loop-number.invariant in
     let s = claims_of c.loop-number.workspace in
     let n = c.loop-number.number in
-    rw (p.1, p.2) (of_fault (Unit {0}) (Unit {0}) _ (λ bytes. of_lines (lines_of_owners v s (owners_from v bytes n))) (λ bytes. of_lines (owner_lines v s (owner_of v bytes n)))
-    (λ bytes. of_lines (lines_of_owners v (after_owner v s (owner_of v bytes n)) (owners_from v bytes (n + 1)))) _ _ _ _ c.in_err-claim_inode.field-0.0
+    rw (p.1, p.2) (of_fault (Unit {0}) (Unit {0}) _ (λ bytes. of_lines (lines_of_owners v s (owners_from v bytes n)))
+    (λ bytes. of_lines (owner_lines v s (owner_of v bytes n)))
+    (λ bytes. of_lines (lines_of_owners v (after_owner v s (owner_of v bytes n)) (owners_from v bytes (n + 1)))) _ _ _ _
+    c.in_err-claim_inode.field-0.0
     inv.said (λ bytes t. lines_next v bytes s (after_owner v s (owner_of v bytes n)) n (omega arith) refl)
-    (reports_knowing (Unit {0}) _ _ _ _ _ (Err c.in_err-claim_inode.field-0.0) (λ bytes k. ap (λ d. d.contents) inv.device ∙ k.0) c.in_err-claim_inode.ensures.text))
+    (reports_knowing (Unit {0}) _ _ _ _ _ (Err c.in_err-claim_inode.field-0.0)
+    (λ bytes k. ap (λ d. d.contents) inv.device ∙ k.0) c.in_err-claim_inode.ensures.text))
 
 pub returns-in_err-claim_inode-clause-runs : goal.returns-in_err-claim_inode-clause-runs
 returns-in_err-claim_inode-clause-runs g c =
@@ -95,22 +109,32 @@ loop-number-preserved g c =
       high = λ h. omega arith;
       runs = omega (arith, inv.runs, inv.low, c.in_ok-claim_inode.ensures.moves);
       again = c.claim_inode.ensures.again ∙ inv.again;
-      claims = λ bytes k. now bytes (contents ∙ k.0) ∙ ap (λ (t : Claims). after_owner v t (owner_of v bytes n)) (inv.claims bytes k) ∙ sym (before_next v bytes n inv.low);
-      kinds = λ bytes k. filled_next 0 (kind_at v bytes) c.loop-number.workspace.kinds.items c.claim_inode.new.workspace.kinds.items n _
+      claims = λ bytes k. now bytes (contents ∙ k.0)
+          ∙ ap (λ (t : Claims). after_owner v t (owner_of v bytes n)) (inv.claims bytes k)
+          ∙ sym (before_next v bytes n inv.low);
+      kinds = λ bytes k. filled_next 0 (kind_at v bytes) c.loop-number.workspace.kinds.items
+          c.claim_inode.new.workspace.kinds.items n _
           (omega (arith, inv.ready.made.kinds)) (stored bytes (contents ∙ k.0)).kinds (kind_in v bytes n inside)
           (inv.kinds bytes k);
-      marked = λ bytes k. filled_next false (first_marked_at v bytes) c.loop-number.workspace.marked.items c.claim_inode.new.workspace.marked.items n _
+      marked = λ bytes k. filled_next false (first_marked_at v bytes) c.loop-number.workspace.marked.items
+          c.claim_inode.new.workspace.marked.items n _
           (omega (arith, inv.ready.made.marked)) (stored bytes (contents ∙ k.0)).marked
           (mark_in v bytes n s s' inside (inv.claims bytes k) (now bytes (contents ∙ k.0))) (inv.marked bytes k);
-      cut = λ bytes k. filled_next 0 (cut_at v bytes) c.loop-number.workspace.cut.items c.claim_inode.new.workspace.cut.items n _
+      cut = λ bytes k. filled_next 0 (cut_at v bytes) c.loop-number.workspace.cut.items
+          c.claim_inode.new.workspace.cut.items n _
           (omega (arith, inv.ready.made.cut)) (stored bytes (contents ∙ k.0)).cut
           (cut_in v bytes n s s' inside (inv.claims bytes k) (now bytes (contents ∙ k.0))) (inv.cut bytes k);
-      said = of_same _ (λ bytes. of_lines (lines_of_owners v (after_owner v s (owner_of v bytes n)) (owners_from v bytes (n + 1)))) (λ bytes. of_lines (lines_of_owners v s' (owners_from v bytes (n + 1)))) _ _ _
-          (of_part _ (λ bytes. of_lines (lines_of_owners v s (owners_from v bytes n))) (λ bytes. of_lines (owner_lines v s (owner_of v bytes n)))
-          (λ bytes. of_lines (lines_of_owners v (after_owner v s (owner_of v bytes n)) (owners_from v bytes (n + 1)))) _ _ _ _ inv.said
+      said = of_same _ (λ bytes. of_lines
+          (lines_of_owners v (after_owner v s (owner_of v bytes n)) (owners_from v bytes (n + 1))))
+          (λ bytes. of_lines (lines_of_owners v s' (owners_from v bytes (n + 1)))) _ _ _
+          (of_part _ (λ bytes. of_lines (lines_of_owners v s (owners_from v bytes n)))
+          (λ bytes. of_lines (owner_lines v s (owner_of v bytes n)))
+          (λ bytes. of_lines (lines_of_owners v (after_owner v s (owner_of v bytes n)) (owners_from v bytes (n + 1)))) _
+          _ _ _ inv.said
           (λ bytes k. lines_next v bytes s (after_owner v s (owner_of v bytes n)) n lt refl)
           (said_knows _ _ _ _ _ _ (λ bytes k. contents ∙ k.0) c.in_ok-claim_inode.ensures.text))
-          (λ bytes k. ap (λ (t : Claims). of_lines (lines_of_owners v t (owners_from v bytes (n + 1)))) (sym (now bytes (contents ∙ k.0))));
+          (λ bytes k. ap (λ (t : Claims). of_lines (lines_of_owners v t (owners_from v bytes (n + 1))))
+          (sym (now bytes (contents ∙ k.0))));
     }
 
 pub returns-clause-text : goal.returns-clause-text
@@ -118,7 +142,8 @@ returns-clause-text g c =
     let v = c.args.geometry.now.layout in
     let inv = c.loop-number.invariant in
     let s = claims_of c.loop-number.workspace in
-    of_same _ (λ bytes. of_lines (lines_of_owners v s (owners_from v bytes c.loop-number.number))) (λ bytes. []) _ _ _ inv.said
+    of_same _ (λ bytes. of_lines (lines_of_owners v s (owners_from v bytes c.loop-number.number))) (λ bytes. []) _ _ _
+    inv.said
     (λ bytes k. lines_end v bytes s c.loop-number.number (omega arith))
 
 pub returns-clause-holds : goal.returns-clause-holds
@@ -132,9 +157,12 @@ returns-clause-holds g c = λ bytes k.
       used = ap (λ s. s.used) all;
       dup = ap (λ s. s.dup) all;
       runs = ap (λ s. s.runs) all;
-      kinds = filled_end 0 (kind_at v bytes) _ n (inodes_of v) past (λ x high. kind_out v bytes x (is_outside v x (inr high))) (inv.kinds bytes k);
-      marked = filled_end false (first_marked_at v bytes) _ n (inodes_of v) past (λ x high. mark_out v bytes x (is_outside v x (inr high))) (inv.marked bytes k);
-      cut = filled_end 0 (cut_at v bytes) _ n (inodes_of v) past (λ x high. cut_out v bytes x (is_outside v x (inr high))) (inv.cut bytes k);
+      kinds = filled_end 0 (kind_at v bytes) _ n (inodes_of v) past
+          (λ x high. kind_out v bytes x (is_outside v x (inr high))) (inv.kinds bytes k);
+      marked = filled_end false (first_marked_at v bytes) _ n (inodes_of v) past
+          (λ x high. mark_out v bytes x (is_outside v x (inr high))) (inv.marked bytes k);
+      cut = filled_end 0 (cut_at v bytes) _ n (inodes_of v) past
+          (λ x high. cut_out v bytes x (is_outside v x (inr high))) (inv.cut bytes k);
     }
 
 pub returns-clause-runs : goal.returns-clause-runs

@@ -24,16 +24,22 @@ invariant-loop-number g l = record {
   high : 2 < l.number → l.number ≤ inodes_of l.geometry.layout;
   runs : l.workspace.runs_seen ≤ used_bits (claims_of l.workspace) + 22 * (l.number - 2);
   again : l.workspace.runs_again ≡ l.fn.workspace.runs_again;
-  claims : ForBytes (λ bytes. IsContents (g.I.Image.device l.fn.image).contents bytes × IsFresh l.geometry.layout l.fn.workspace) (λ bytes.
+  claims : ForBytes (λ bytes. IsContents (g.I.Image.device l.fn.image).contents bytes
+      × IsFresh l.geometry.layout l.fn.workspace) (λ bytes.
       claims_of l.workspace ≡ claims_before l.geometry.layout bytes l.number);
-  kinds : ForBytes (λ bytes. IsContents (g.I.Image.device l.fn.image).contents bytes × IsFresh l.geometry.layout l.fn.workspace) (λ bytes.
+  kinds : ForBytes (λ bytes. IsContents (g.I.Image.device l.fn.image).contents bytes
+      × IsFresh l.geometry.layout l.fn.workspace) (λ bytes.
       FilledTo 0 (kind_at l.geometry.layout bytes) l.workspace.kinds.items l.number);
-  marked : ForBytes (λ bytes. IsContents (g.I.Image.device l.fn.image).contents bytes × IsFresh l.geometry.layout l.fn.workspace) (λ bytes.
+  marked : ForBytes (λ bytes. IsContents (g.I.Image.device l.fn.image).contents bytes
+      × IsFresh l.geometry.layout l.fn.workspace) (λ bytes.
       FilledTo false (first_marked_at l.geometry.layout bytes) l.workspace.marked.items l.number);
-  cut : ForBytes (λ bytes. IsContents (g.I.Image.device l.fn.image).contents bytes × IsFresh l.geometry.layout l.fn.workspace) (λ bytes.
+  cut : ForBytes (λ bytes. IsContents (g.I.Image.device l.fn.image).contents bytes
+      × IsFresh l.geometry.layout l.fn.workspace) (λ bytes.
       FilledTo 0 (cut_at l.geometry.layout bytes) l.workspace.cut.items l.number);
-  said : SaidOf (λ bytes. IsContents (g.I.Image.device l.fn.image).contents bytes × IsFresh l.geometry.layout l.fn.workspace)
-      (λ bytes. of_lines (lines_of_owners l.geometry.layout (claims_of l.workspace) (owners_from l.geometry.layout bytes l.number)))
+  said : SaidOf (λ bytes. IsContents (g.I.Image.device l.fn.image).contents bytes
+      × IsFresh l.geometry.layout l.fn.workspace)
+      (λ bytes. of_lines (lines_of_owners l.geometry.layout (claims_of l.workspace)
+      (owners_from l.geometry.layout bytes l.number)))
       (λ bytes. phase1 ∷ of_lines (phase1_lines l.geometry.layout (owners_of l.geometry.layout bytes)))
       (progress g.W.Output.sink l.fn.report) (progress g.W.Output.sink l.report);
 }

@@ -13,8 +13,11 @@ pub returns-in_err-offer-clause-said : goal.returns-in_err-offer-clause-said
 returns-in_err-offer-clause-said g c =
     let p = err_from_is_err_and c.from_residual.result c.from_residual.ensures.1 in
     let f = c.from.result + c.from-in-loop-place.result in
-    rw (p.1) (to_stops _ _ _ (of_lines (offer_lines c.args.geometry.now.layout c.args.number (claims_of c.loop-place.workspace) f)) _ _ _ c.loop-place.invariant.said
-    (offers_more c.args.geometry.now.layout c.args.number (claims_of c.loop-place.workspace) (claims_of c.offer.new.workspace) c.args.start c.args.len c.loop-place.place f
+    rw (p.1) (to_stops _ _ _ (of_lines
+    (offer_lines c.args.geometry.now.layout c.args.number (claims_of c.loop-place.workspace) f)) _ _ _
+    c.loop-place.invariant.said
+    (offers_more c.args.geometry.now.layout c.args.number (claims_of c.loop-place.workspace)
+    (claims_of c.offer.new.workspace) c.args.start c.args.len c.loop-place.place f
     c.loop-place-test.true (omega arith) c.offer.ensures.claims)
     c.in_err-offer.ensures.said)
 
@@ -35,10 +38,13 @@ loop-place-preserved g c =
         offer_kept c.args.geometry.now.layout (claims_of c.loop-place.workspace)
             (claims_of c.offer.new.workspace) f now,
       );
-      claims = inv.claims ∙ offers_after c.args.geometry.now.layout (claims_of c.loop-place.workspace) (claims_of c.offer.new.workspace) c.args.start c.args.len c.loop-place.place f
+      claims = inv.claims ∙ offers_after c.args.geometry.now.layout (claims_of c.loop-place.workspace)
+          (claims_of c.offer.new.workspace) c.args.start c.args.len c.loop-place.place f
           c.loop-place-test.true (omega arith) c.offer.ensures.claims;
-      said = to_says _ _ _ (of_lines (offer_lines c.args.geometry.now.layout c.args.number (claims_of c.loop-place.workspace) f)) _ _ _ inv.said
-          (offers_more c.args.geometry.now.layout c.args.number (claims_of c.loop-place.workspace) (claims_of c.offer.new.workspace) c.args.start c.args.len c.loop-place.place f
+      said = to_says _ _ _ (of_lines
+          (offer_lines c.args.geometry.now.layout c.args.number (claims_of c.loop-place.workspace) f)) _ _ _ inv.said
+          (offers_more c.args.geometry.now.layout c.args.number (claims_of c.loop-place.workspace)
+          (claims_of c.offer.new.workspace) c.args.start c.args.len c.loop-place.place f
           c.loop-place-test.true (omega arith) c.offer.ensures.claims)
           c.in_ok-offer.ensures.said;
     }
@@ -51,6 +57,7 @@ loop-place-init g c =
       only = offers_none c.args.geometry.now.layout c.args.workspace.now c.requires.made;
       kept = omega arith;
       claims = ap (after_offers v s) (from_start c.args.start c.args.len);
-      said = to_same _ _ _ _ _ (to_begins (of_lines (lines_of_offers v c.args.number s (range_with_len c.args.start c.args.len))) _)
+      said = to_same _ _ _ _ _ (to_begins
+          (of_lines (lines_of_offers v c.args.number s (range_with_len c.args.start c.args.len))) _)
           (ap (λ (fs : List ℕ). of_lines (lines_of_offers v c.args.number s fs)) (from_start c.args.start c.args.len));
     }

@@ -14,7 +14,9 @@ invariant-loop-place g l = record {
   kept : l.workspace.kept ≤ l.initial.workspace.kept + l.place;
   claims : after_offers l.geometry.layout (claims_of l.initial.workspace) (range_with_len l.start l.len)
       ≡ after_offers l.geometry.layout (claims_of l.workspace) (range_with_len (l.start + l.place) (l.len - l.place));
-  said : SaidTo (of_lines (lines_of_offers l.geometry.layout l.number (claims_of l.workspace) (range_with_len (l.start + l.place) (l.len - l.place))))
-      (of_lines (lines_of_offers l.geometry.layout l.number (claims_of l.initial.workspace) (range_with_len l.start l.len)))
+  said : SaidTo (of_lines (lines_of_offers l.geometry.layout l.number (claims_of l.workspace)
+      (range_with_len (l.start + l.place) (l.len - l.place))))
+      (of_lines (lines_of_offers l.geometry.layout l.number (claims_of l.initial.workspace)
+      (range_with_len l.start l.len)))
       (progress g.W.Output.sink l.initial.report) (progress g.W.Output.sink l.report);
 }

@@ -8,10 +8,12 @@ use Rattle.ffs_claims.proofs.offer.run.Goals as goal
 pub returns-in_err-say_bad-clause-said : goal.returns-in_err-say_bad-clause-said
 returns-in_err-say_bad-clause-said g c =
     let p = err_from_is_err_and c.from_residual.result c.from_residual.ensures.1 in
-    rw (p.1) (run_stops c.args.geometry.now.layout c.args.number (claims_of c.args.workspace.now) c.args.start c.args.len _ _
+    rw (p.1) (run_stops c.args.geometry.now.layout c.args.number (claims_of c.args.workspace.now) c.args.start
+    c.args.len _ _
     (sym c.in_range.ensures.value ∙ c.if-in_range.false) c.in_err-say_bad.ensures)
 
 pub returns-clause-said : goal.returns-clause-said
 returns-clause-said g c =
     run_says c.args.geometry.now.layout c.args.number (claims_of c.args.workspace.now) c.args.start c.args.len _ _ _ _
-    (sym c.in_range.ensures.value ∙ c.if-in_range.false) (grind (arith, nat_tests)) c.in_ok-say_bad.ensures c.offers.ensures.said
+    (sym c.in_range.ensures.value ∙ c.if-in_range.false) (grind (arith, nat_tests)) c.in_ok-say_bad.ensures
+    c.offers.ensures.said

@@ -23,7 +23,8 @@ pub returns-clause-only : goal.returns-clause-only
 returns-clause-only c =
     let old = c.args.workspace.now.duplicates in
     let m = c.requires.made in
-    let size : length (bits_of c.args.workspace.now.duplicates) ≡ c.args.geometry.now.layout.size = length_bits c.args.workspace.now.duplicates.words.items c.args.workspace.now.duplicates.size ∙ m.duplicates in
+    let size : length (bits_of c.args.workspace.now.duplicates) ≡ c.args.geometry.now.layout.size =
+    length_bits c.args.workspace.now.duplicates.words.items c.args.workspace.now.duplicates.size ∙ m.duplicates in
     let low : c.args.fragment < c.args.geometry.now.layout.size = ok_below c.args.geometry.now.layout c.args.fragment
     (sym c.ok.ensures ∙ c.if-not-ok.false) in
     let count : c.args.workspace.now.unreported + 1 ≡ set_count (bits_of c.set-2.new.self) =

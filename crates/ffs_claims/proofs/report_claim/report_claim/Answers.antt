@@ -9,26 +9,33 @@ use Rattle.ffs_claims.proofs.report_claim.report_claim.Goals as goal
 pub returns-then-fragment-from-clause-said : goal.returns-then-fragment-from-clause-said
 returns-then-fragment-from-clause-said g c =
     let d = bits_of c.args.workspace.now.duplicates in
-    let size = length_bits c.args.workspace.now.duplicates.words.items c.args.workspace.now.duplicates.size ∙ c.requires.made.duplicates in
-    said_out (bits_of c.args.workspace.now.duplicates) c.args.number c.args.fragment _ (past_end (bits_of c.args.workspace.now.duplicates) c.args.fragment (omega (arith, size)))
+    let size = length_bits c.args.workspace.now.duplicates.words.items c.args.workspace.now.duplicates.size
+    ∙ c.requires.made.duplicates in
+    said_out (bits_of c.args.workspace.now.duplicates) c.args.number c.args.fragment _
+    (past_end (bits_of c.args.workspace.now.duplicates) c.args.fragment (omega (arith, size)))
 
 pub returns-then-fragment-from-clause-reported : goal.returns-then-fragment-from-clause-reported
 returns-then-fragment-from-clause-reported g c =
-    let size = length_bits c.args.workspace.now.duplicates.words.items c.args.workspace.now.duplicates.size ∙ c.requires.made.duplicates in
-    reported_out c.args.workspace.now c.args.workspace.now c.args.number c.args.fragment (past_end (bits_of c.args.workspace.now.duplicates) c.args.fragment (omega (arith, size))) refl refl
+    let size = length_bits c.args.workspace.now.duplicates.words.items c.args.workspace.now.duplicates.size
+    ∙ c.requires.made.duplicates in
+    reported_out c.args.workspace.now c.args.workspace.now c.args.number c.args.fragment
+    (past_end (bits_of c.args.workspace.now.duplicates) c.args.fragment (omega (arith, size))) refl refl
 
 pub returns-then-not-get-clause-said : goal.returns-then-not-get-clause-said
 returns-then-not-get-clause-said g c =
-    said_out (bits_of c.args.workspace.now.duplicates) c.args.number c.args.fragment _ (sym c.get.ensures ∙ c.if-not-get.true)
+    said_out (bits_of c.args.workspace.now.duplicates) c.args.number c.args.fragment _
+    (sym c.get.ensures ∙ c.if-not-get.true)
 
 pub returns-then-not-get-clause-reported : goal.returns-then-not-get-clause-reported
 returns-then-not-get-clause-reported g c =
-    reported_out c.args.workspace.now c.args.workspace.now c.args.number c.args.fragment (sym c.get.ensures ∙ c.if-not-get.true) refl refl
+    reported_out c.args.workspace.now c.args.workspace.now c.args.number c.args.fragment
+    (sym c.get.ensures ∙ c.if-not-get.true) refl refl
 
 pub overflow_sub-workspace : goal.overflow_sub-workspace
 overflow_sub-workspace g c =
     let old = c.args.workspace.now.duplicates in
-    let size = length_bits c.args.workspace.now.duplicates.words.items c.args.workspace.now.duplicates.size ∙ c.requires.made.duplicates in
+    let size = length_bits c.args.workspace.now.duplicates.words.items c.args.workspace.now.duplicates.size
+    ∙ c.requires.made.duplicates in
     omega (
       arith,
       c.requires.made.unreported,

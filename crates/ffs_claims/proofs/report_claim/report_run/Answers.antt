@@ -9,7 +9,8 @@ use Rattle.ffs_claims.specs.Lines.{of_lines}
 use Rattle.ffs_claims.specs.Reporting.{after_first}
 use Rattle.ffs_claims.proofs.Goes.{to_same, from_start}
 use Rattle.ffs_claims.proofs.Frames.{offers_reported_none, offers_reported_then}
-use Rattle.ffs_claims.proofs.Reportings.{run_next, run_over, reporting_begins, reporting_more, reporting_ends, reporting_same, lines_more}
+use Rattle.ffs_claims.proofs.Reportings.{run_next, run_over, reporting_begins, reporting_more, reporting_ends}
+use Rattle.ffs_claims.proofs.Reportings.{reporting_same, lines_more}
 use Rattle.ffs_claims.proofs.report_claim.report_run.Goals as goal
 
 pub loop-place-init : goal.loop-place-init
@@ -18,9 +19,14 @@ loop-place-init g c =
     let w = c.args.workspace.now in
     record {
       only = offers_reported_none c.args.geometry.now.layout w c.requires.made;
-      reported = reporting_same _ _ _ _ _ (reporting_begins (map (offer_at n) (range_with_len c.args.start c.args.len)) w) (ap (map (offer_at n)) (from_start c.args.start c.args.len));
-      said = to_same _ _ _ _ _ (to_begins (of_lines (first_offer_lines (bits_of w.duplicates) (map (offer_at n) (range_with_len c.args.start c.args.len)))) _)
-          (ap (λ (fs : List ℕ). of_lines (first_offer_lines (bits_of w.duplicates) (map (offer_at n) fs))) (from_start c.args.start c.args.len));
+      reported = reporting_same _ _ _ _ _
+          (reporting_begins (map (offer_at n) (range_with_len c.args.start c.args.len)) w)
+          (ap (map (offer_at n)) (from_start c.args.start c.args.len));
+      said = to_same _ _ _ _ _ (to_begins
+          (of_lines (first_offer_lines (bits_of w.duplicates)
+          (map (offer_at n) (range_with_len c.args.start c.args.len)))) _)
+          (ap (λ (fs : List ℕ). of_lines (first_offer_lines (bits_of w.duplicates) (map (offer_at n) fs)))
+          (from_start c.args.start c.args.len));
     }
 
 pub returns-in_err-report_claim-clause-said : goal.returns-in_err-report_claim-clause-said
@@ -29,14 +35,18 @@ returns-in_err-report_claim-clause-said g c =
     let n = c.args.number in
     let f = c.from.result + c.from-in-loop-place.result in
     let d = bits_of c.loop-place.workspace.duplicates in
-    let rest = map (offer_at n) (range_with_len (c.args.start + (c.loop-place.place + 1)) (c.args.len - (c.loop-place.place + 1))) in
-    rw (p.1) (to_stops _ (of_lines (first_offer_lines (after_first d (offer_at n f ∷ [])) rest)) _ (of_lines (first_offer_lines d (offer_at n f ∷ []))) _ _ _ c.loop-place.invariant.said
-    (ap (λ (os : List Offer). of_lines (first_offer_lines d os)) (run_next n c.args.start c.args.len c.loop-place.place f c.loop-place-test.true (omega arith))
+    let rest = map (offer_at n)
+    (range_with_len (c.args.start + (c.loop-place.place + 1)) (c.args.len - (c.loop-place.place + 1))) in
+    rw (p.1) (to_stops _ (of_lines (first_offer_lines (after_first d (offer_at n f ∷ [])) rest)) _
+    (of_lines (first_offer_lines d (offer_at n f ∷ []))) _ _ _ c.loop-place.invariant.said
+    (ap (λ (os : List Offer). of_lines (first_offer_lines d os))
+    (run_next n c.args.start c.args.len c.loop-place.place f c.loop-place-test.true (omega arith))
     ∙ lines_more d (after_first d (offer_at n f ∷ [])) (offer_at n f) rest refl)
     c.in_err-report_claim.ensures.said)
 
 pub returns-in_err-report_claim-clause-only : goal.returns-in_err-report_claim-clause-only
-returns-in_err-report_claim-clause-only g c = offers_reported_then c.args.geometry.now.layout _ _ _ c.loop-place.invariant.only
+returns-in_err-report_claim-clause-only g c =
+    offers_reported_then c.args.geometry.now.layout _ _ _ c.loop-place.invariant.only
     c.report_claim.ensures.only
 
 pub loop-place-preserved : goal.loop-place-preserved
@@ -46,22 +56,28 @@ loop-place-preserved g c =
     let f = c.from.result + c.from-in-loop-place.result in
     let d = bits_of c.loop-place.workspace.duplicates in
     let d' = bits_of c.report_claim.new.workspace.duplicates in
-    let rest = map (offer_at n) (range_with_len (c.args.start + (c.loop-place.place + 1)) (c.args.len - (c.loop-place.place + 1))) in
+    let rest = map (offer_at n)
+    (range_with_len (c.args.start + (c.loop-place.place + 1)) (c.args.len - (c.loop-place.place + 1))) in
     let next = run_next n c.args.start c.args.len c.loop-place.place f c.loop-place-test.true (omega arith) in
     record {
       only = offers_reported_then c.args.geometry.now.layout _ _ _ inv.only c.report_claim.ensures.only;
       reported = reporting_more _ (offer_at n f ∷ []) rest _ _ _ _ inv.reported next c.report_claim.ensures.reported;
-      said = to_says _ (of_lines (first_offer_lines d' rest)) _ (of_lines (first_offer_lines d (offer_at n f ∷ []))) _ _ _ inv.said
-          (ap (λ (os : List Offer). of_lines (first_offer_lines d os)) next ∙ lines_more d d' (offer_at n f) rest c.report_claim.ensures.reported.dup)
+      said = to_says _ (of_lines (first_offer_lines d' rest)) _ (of_lines (first_offer_lines d (offer_at n f ∷ []))) _ _
+          _ inv.said
+          (ap (λ (os : List Offer). of_lines (first_offer_lines d os)) next
+          ∙ lines_more d d' (offer_at n f) rest c.report_claim.ensures.reported.dup)
           c.in_ok-report_claim.ensures.said;
     }
 
 pub returns-clause-said : goal.returns-clause-said
 returns-clause-said g c =
     let inv = c.loop-place.invariant in
-    to_ends _ _ _ _ inv.said (ap (λ (os : List Offer). of_lines (first_offer_lines (bits_of c.loop-place.workspace.duplicates) os)) (run_over c.args.number c.args.start c.args.len c.loop-place.place (omega arith)))
+    to_ends _ _ _ _ inv.said (ap
+    (λ (os : List Offer). of_lines (first_offer_lines (bits_of c.loop-place.workspace.duplicates) os))
+    (run_over c.args.number c.args.start c.args.len c.loop-place.place (omega arith)))
 
 pub returns-clause-reported : goal.returns-clause-reported
 returns-clause-reported g c =
     let inv = c.loop-place.invariant in
-    reporting_ends _ _ _ _ inv.reported (run_over c.args.number c.args.start c.args.len c.loop-place.place (omega arith))
+    reporting_ends _ _ _ _ inv.reported
+    (run_over c.args.number c.args.start c.args.len c.loop-place.place (omega arith))

@@ -25,8 +25,15 @@ loop-group-preserved c =
     record {
       size = c.set_run-in-loop-group.ensures.size ∙ inv.size;
       bits = λ fresh.
-          group_run v (bits_of c.loop-group.map) (bits_of c.set_run-in-loop-group.new.self) c.loop-group.group (cgdmin v c.loop-group.group - cgsblock v c.loop-group.group)
-          (length_bits _ _ ∙ inv.size) (omega (arith, c.args.geometry.now.sound.parts.super_fits, c.args.geometry.now.sound.parts.block_fits, c.args.geometry.now.sound.parts.inodes_fit))
+          group_run v (bits_of c.loop-group.map) (bits_of c.set_run-in-loop-group.new.self) c.loop-group.group
+          (cgdmin v c.loop-group.group - cgsblock v c.loop-group.group)
+          (length_bits _ _ ∙ inv.size)
+          (omega (
+            arith,
+            c.args.geometry.now.sound.parts.super_fits,
+            c.args.geometry.now.sound.parts.block_fits,
+            c.args.geometry.now.sound.parts.inodes_fit,
+          ))
           (rw (c.cgsblock-first.ensures, c.cgdmin-in-loop-group.ensures.value) at c.set_run-in-loop-group.ensures.bits)
           (inv.bits fresh);
     }

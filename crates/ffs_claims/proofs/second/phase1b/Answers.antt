@@ -2,7 +2,8 @@ use Rattle.std.proofs.Common.{◌≡◌, ◌≤◌, ◌+◌, ◌^◌, ◌<◌, �
 use Rattle.std.specs.Prelude.{slice_index}
 use Rattle.std.proofs.lemmas.Result.{err_from_is_err_and}
 use Rattle.ffs_maps.specs.Bits.{bits_of}
-use Rattle.ffs_phase.proofs.Reporting.{of_begins, of_says, of_part, of_fault, of_stops, of_same, reports_knowing, said_knows}
+use Rattle.ffs_phase.proofs.Reporting.{of_begins, of_says, of_part, of_fault, of_stops, of_same, reports_knowing}
+use Rattle.ffs_phase.proofs.Reporting.{said_knows}
 use Rattle.ffs_volume.specs.Blocks.BlockCheck.{Offer, first_offer_lines, kept_in_owners, phase1b_lines}
 use Rattle.ffs_volume.specs.Blocks.Claims.{no_claims}
 use Rattle.ffs_volume.specs.Blocks.Inodes.{inode_of}
@@ -16,7 +17,8 @@ use Rattle.ffs_claims.specs.Rescan.{rescan, offers_again}
 use Rattle.ffs_claims.specs.Reporting.{after_first}
 use Rattle.ffs_claims.proofs.Numbers.{is_inside}
 use Rattle.ffs_claims.proofs.Frames.{claims_then, ready_unseen}
-use Rattle.ffs_claims.proofs.Rescanned.{kept_next, kept_end, runs_on, runs_most, claims_hold, reported_same, all_lines, all_kept, lines_split}
+use Rattle.ffs_claims.proofs.Rescanned.{kept_next, kept_end, runs_on, runs_most, claims_hold, reported_same, all_lines}
+use Rattle.ffs_claims.proofs.Rescanned.{all_kept, lines_split}
 use Rattle.ffs_claims.proofs.Rewalks.{reporting_over}
 use Rattle.ffs_claims.proofs.Doubles.{none_first}
 use Rattle.ffs_claims.proofs.Reportings.{reporting_more, reporting_ends, reporting_same}
@@ -32,8 +34,10 @@ pub returns-in_err-say-clause-text : goal.returns-in_err-say-clause-text
 returns-in_err-say-clause-text g c =
     let p = err_from_is_err_and c.from_residual.result c.from_residual.ensures.1 in
     let v = c.args.geometry.now.layout in
-    rw (p.1, p.2) (of_stops _ (λ bytes. phase1b ∷ of_lines (phase1b_lines v (owners_of v bytes))) (λ bytes. of_lines (phase1b_lines v (owners_of v bytes))) _ (phase1b ∷ []) _ _ _
-    (of_begins _ (λ bytes. phase1b ∷ of_lines (phase1b_lines v (owners_of v bytes))) _) (λ bytes t. refl) c.in_err-say.ensures.said)
+    rw (p.1, p.2) (of_stops _ (λ bytes. phase1b ∷ of_lines (phase1b_lines v (owners_of v bytes)))
+    (λ bytes. of_lines (phase1b_lines v (owners_of v bytes))) _ (phase1b ∷ []) _ _ _
+    (of_begins _ (λ bytes. phase1b ∷ of_lines (phase1b_lines v (owners_of v bytes))) _) (λ bytes t. refl)
+    c.in_err-say.ensures.said)
 
 pub loop-number-init : goal.loop-number-init
 loop-number-init g c =
@@ -47,8 +51,12 @@ loop-number-init g c =
       high = λ h. omega arith;
       runs = λ bytes k. omega arith;
       count = λ bytes k. omega (arith, looked_first v bytes d k.1.dup);
-      reported = λ bytes k. reporting_same _ _ _ _ _ (reported_same c.args.workspace.now _ (kept_in_owners v (no_claims v) (owners_of v bytes)) refl refl) (sym (all_kept v bytes));
-      said = of_says _ (λ bytes. phase1b ∷ of_lines (phase1b_lines v (owners_of v bytes))) (λ bytes. of_lines (first_offer_lines d (kept_in_owners v (claims_before v bytes 2) (owners_from v bytes 2)))) _ (phase1b ∷ []) _ _ _
+      reported = λ bytes k. reporting_same _ _ _ _ _
+          (reported_same c.args.workspace.now _ (kept_in_owners v (no_claims v) (owners_of v bytes)) refl refl)
+          (sym (all_kept v bytes));
+      said = of_says _ (λ bytes. phase1b ∷ of_lines (phase1b_lines v (owners_of v bytes)))
+          (λ bytes. of_lines (first_offer_lines d (kept_in_owners v (claims_before v bytes 2) (owners_from v bytes 2))))
+          _ (phase1b ∷ []) _ _ _
           (of_begins _ (λ bytes. phase1b ∷ of_lines (phase1b_lines v (owners_of v bytes))) _)
           (λ bytes k. ap (λ (xs : List Message). phase1b ∷ xs) (all_lines v bytes d k.1.dup))
           c.in_ok-say.ensures.said;
@@ -65,13 +73,19 @@ returns-in_err-renumbered-clause-text g c =
     let lt : n < inodes_of v = omega arith in
     let inside = is_inside v n inv.low lt in
     let cut = ap (λ z. slice_index z.items n) inv.claims.cut in
-    rw (p.1, p.2) (of_fault (Unit {0}) (Unit {0}) _ (λ bytes. of_lines (first_offer_lines d (kept_in_owners v (claims_before v bytes n) (owners_from v bytes n))))
-    (λ bytes. of_lines (first_offer_lines d (offers_again v n (rescan (slice_index cuts n)) (steps_of v (inode_of v bytes n) bytes))))
-    (λ bytes. of_lines (first_offer_lines (after_first d (offers_again v n (rescan (slice_index cuts n)) (steps_of v (inode_of v bytes n) bytes))) (kept_in_owners v (claims_before v bytes (n + 1)) (owners_from v bytes (n + 1)))))
+    rw (p.1, p.2) (of_fault (Unit {0}) (Unit {0}) _
+    (λ bytes. of_lines (first_offer_lines d (kept_in_owners v (claims_before v bytes n) (owners_from v bytes n))))
+    (λ bytes. of_lines (first_offer_lines d
+    (offers_again v n (rescan (slice_index cuts n)) (steps_of v (inode_of v bytes n) bytes))))
+    (λ bytes. of_lines (first_offer_lines
+    (after_first d (offers_again v n (rescan (slice_index cuts n)) (steps_of v (inode_of v bytes n) bytes)))
+    (kept_in_owners v (claims_before v bytes (n + 1)) (owners_from v bytes (n + 1)))))
     _ _ _ _ c.in_err-renumbered.field-0.0
     inv.said
-    (λ bytes k. lines_split d _ _ _ _ (kept_next v bytes cuts n c.args.geometry.now.sound inv.low lt inside (cut ∙ k.1.cut n)) refl)
-    (reports_knowing (Unit {0}) _ _ _ _ _ (Err c.in_err-renumbered.field-0.0) (λ bytes k. ap (λ d. d.contents) inv.device ∙ k.0) c.in_err-renumbered.ensures.text))
+    (λ bytes k. lines_split d _ _ _ _
+    (kept_next v bytes cuts n c.args.geometry.now.sound inv.low lt inside (cut ∙ k.1.cut n)) refl)
+    (reports_knowing (Unit {0}) _ _ _ _ _ (Err c.in_err-renumbered.field-0.0)
+    (λ bytes k. ap (λ d. d.contents) inv.device ∙ k.0) c.in_err-renumbered.ensures.text))
 
 pub returns-in_err-renumbered-clause-runs : goal.returns-in_err-renumbered-clause-runs
 returns-in_err-renumbered-clause-runs g c = λ bytes k.
@@ -102,9 +116,11 @@ loop-number-preserved g c =
     let inside = is_inside v n inv.low lt in
     let cut = ap (λ z. slice_index z.items n) inv.claims.cut in
     let image = ap (λ d. d.contents) inv.device in
-    let on : ForBytes (λ bytes. IsContents (g.I.Image.device c.args.image.now).contents bytes × HoldsPhase1 v bytes c.args.workspace.now) (λ bytes.
+    let on : ForBytes (λ bytes. IsContents (g.I.Image.device c.args.image.now).contents bytes
+    × HoldsPhase1 v bytes c.args.workspace.now) (λ bytes.
     looked_at d (owners_runs v (claims_before v bytes n) (owners_from v bytes n))
-    ≡ looked_at d (steps_runs_again v n (rescan (slice_index cuts n)) (steps_of v (inode_of v bytes n) bytes)) + looked_at d' (owners_runs v (claims_before v bytes (n + 1)) (owners_from v bytes (n + 1)))) =
+    ≡ looked_at d (steps_runs_again v n (rescan (slice_index cuts n)) (steps_of v (inode_of v bytes n) bytes))
+    + looked_at d' (owners_runs v (claims_before v bytes (n + 1)) (owners_from v bytes (n + 1)))) =
     λ bytes k. looked_on v bytes cuts n d d' c.args.geometry.now.sound inv.low lt inside (cut ∙ k.1.cut n)
     (c.in_ok-renumbered.ensures.rewalked bytes (image ∙ k.0)).reported.dup in
     record {
@@ -113,9 +129,15 @@ loop-number-preserved g c =
       claims = claims_then _ _ _ inv.claims c.renumbered.ensures.claims;
       low = omega arith;
       high = λ h. omega arith;
-      runs = λ bytes k. omega (arith, inv.runs bytes k, c.renumbered.ensures.runs bytes (image ∙ k.0), runs_on v bytes cuts n c.args.geometry.now.sound inv.low inside (cut ∙ k.1.cut n));
+      runs = λ bytes k. omega (
+        arith,
+        inv.runs bytes k,
+        c.renumbered.ensures.runs bytes (image ∙ k.0),
+        runs_on v bytes cuts n c.args.geometry.now.sound inv.low inside (cut ∙ k.1.cut n),
+      );
       count = λ bytes k.
-          let fits : c.loop-number.workspace.runs_again + looked_at d (steps_runs_again v n (rescan (slice_index cuts n)) (steps_of v (inode_of v bytes n) bytes)) < 2 ^ 64 =
+          let fits : c.loop-number.workspace.runs_again + looked_at d
+          (steps_runs_again v n (rescan (slice_index cuts n)) (steps_of v (inode_of v bytes n) bytes)) < 2 ^ 64 =
           omega (arith, inv.count bytes k, look_fits v bytes c.args.geometry.now.sound, on bytes k) in
           omega (
             arith,
@@ -124,12 +146,17 @@ loop-number-preserved g c =
             (c.in_ok-renumbered.ensures.rewalked bytes (image ∙ k.0)).count
                 fits,
           );
-      reported = λ bytes k. reporting_more _ (offers_again v n (rescan (slice_index cuts n)) (steps_of v (inode_of v bytes n) bytes)) (kept_in_owners v (claims_before v bytes (n + 1)) (owners_from v bytes (n + 1))) _ _ _ _
+      reported = λ bytes k. reporting_more _
+          (offers_again v n (rescan (slice_index cuts n)) (steps_of v (inode_of v bytes n) bytes))
+          (kept_in_owners v (claims_before v bytes (n + 1)) (owners_from v bytes (n + 1))) _ _ _ _
           (inv.reported bytes k) (kept_next v bytes cuts n c.args.geometry.now.sound inv.low lt inside
           (cut ∙ k.1.cut n)) (c.in_ok-renumbered.ensures.rewalked bytes (image ∙ k.0)).reported;
-      said = of_part _ (λ bytes. of_lines (first_offer_lines d (kept_in_owners v (claims_before v bytes n) (owners_from v bytes n))))
-          (λ bytes. of_lines (first_offer_lines d (offers_again v n (rescan (slice_index cuts n)) (steps_of v (inode_of v bytes n) bytes))))
-          (λ bytes. of_lines (first_offer_lines d' (kept_in_owners v (claims_before v bytes (n + 1)) (owners_from v bytes (n + 1))))) _ _ _ _ inv.said
+      said = of_part _ (λ bytes. of_lines
+          (first_offer_lines d (kept_in_owners v (claims_before v bytes n) (owners_from v bytes n))))
+          (λ bytes. of_lines (first_offer_lines d
+          (offers_again v n (rescan (slice_index cuts n)) (steps_of v (inode_of v bytes n) bytes))))
+          (λ bytes. of_lines (first_offer_lines d'
+          (kept_in_owners v (claims_before v bytes (n + 1)) (owners_from v bytes (n + 1))))) _ _ _ _ inv.said
           (λ bytes k. lines_split d d' _ _ _ (kept_next v bytes cuts n c.args.geometry.now.sound inv.low lt inside
           (cut ∙ k.1.cut n)) (c.in_ok-renumbered.ensures.rewalked bytes (image ∙ k.0)).reported.dup)
           (said_knows _ _ _ _ _ _ (λ bytes k. image ∙ k.0) c.in_ok-renumbered.ensures.text);

@@ -24,16 +24,26 @@ invariant-loop-number g l = record {
   claims : SameClaims l.fn.workspace l.workspace;
   low : 2 ≤ l.number;
   high : 2 < l.number → l.number ≤ inodes_of l.geometry.layout;
-  runs : ForBytes (λ bytes. IsContents (g.I.Image.device l.fn.image).contents bytes × HoldsPhase1 l.geometry.layout bytes l.fn.workspace) (λ bytes.
+  runs : ForBytes (λ bytes. IsContents (g.I.Image.device l.fn.image).contents bytes
+      × HoldsPhase1 l.geometry.layout bytes l.fn.workspace) (λ bytes.
       l.workspace.runs_again ≤ (claims_before l.geometry.layout bytes l.number).runs);
-  count : ForBytes (λ bytes. IsContents (g.I.Image.device l.fn.image).contents bytes × HoldsPhase1 l.geometry.layout bytes l.fn.workspace) (λ bytes.
-      l.workspace.runs_again + looked_at (bits_of l.workspace.duplicates) (owners_runs l.geometry.layout (claims_before l.geometry.layout bytes l.number) (owners_from l.geometry.layout bytes l.number))
+  count : ForBytes (λ bytes. IsContents (g.I.Image.device l.fn.image).contents bytes
+      × HoldsPhase1 l.geometry.layout bytes l.fn.workspace) (λ bytes.
+      l.workspace.runs_again + looked_at (bits_of l.workspace.duplicates)
+      (owners_runs l.geometry.layout (claims_before l.geometry.layout bytes l.number)
+      (owners_from l.geometry.layout bytes l.number))
       ≡ second_look l.geometry.layout bytes);
-  reported : ForBytes (λ bytes. IsContents (g.I.Image.device l.fn.image).contents bytes × HoldsPhase1 l.geometry.layout bytes l.fn.workspace) (λ bytes.
-      Reporting (kept_in_owners l.geometry.layout (claims_before l.geometry.layout bytes l.number) (owners_from l.geometry.layout bytes l.number))
-      (kept_in_owners l.geometry.layout (no_claims l.geometry.layout) (owners_of l.geometry.layout bytes)) l.fn.workspace l.workspace);
-  said : SaidOf (λ bytes. IsContents (g.I.Image.device l.fn.image).contents bytes × HoldsPhase1 l.geometry.layout bytes l.fn.workspace)
-      (λ bytes. of_lines (first_offer_lines (bits_of l.workspace.duplicates) (kept_in_owners l.geometry.layout (claims_before l.geometry.layout bytes l.number) (owners_from l.geometry.layout bytes l.number))))
+  reported : ForBytes (λ bytes. IsContents (g.I.Image.device l.fn.image).contents bytes
+      × HoldsPhase1 l.geometry.layout bytes l.fn.workspace) (λ bytes.
+      Reporting (kept_in_owners l.geometry.layout (claims_before l.geometry.layout bytes l.number)
+      (owners_from l.geometry.layout bytes l.number))
+      (kept_in_owners l.geometry.layout (no_claims l.geometry.layout) (owners_of l.geometry.layout bytes))
+      l.fn.workspace l.workspace);
+  said : SaidOf (λ bytes. IsContents (g.I.Image.device l.fn.image).contents bytes
+      × HoldsPhase1 l.geometry.layout bytes l.fn.workspace)
+      (λ bytes. of_lines (first_offer_lines (bits_of l.workspace.duplicates)
+      (kept_in_owners l.geometry.layout (claims_before l.geometry.layout bytes l.number)
+      (owners_from l.geometry.layout bytes l.number))))
       (λ bytes. phase1b ∷ of_lines (phase1b_lines l.geometry.layout (owners_of l.geometry.layout bytes)))
       (progress g.W.Output.sink l.fn.report) (progress g.W.Output.sink l.report);
 }

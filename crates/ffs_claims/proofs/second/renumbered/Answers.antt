@@ -18,7 +18,12 @@ use Rattle.ffs_claims.proofs.second.renumbered.Goals as goal
 pub returns-in_err-inode-clause-text : goal.returns-in_err-inode-clause-text
 returns-in_err-inode-clause-text g c =
     let p = err_from_is_err_and c.from_residual.result c.from_residual.ensures.1 in
-    rw (p.1, p.2) (of_reads _ _ _ _ _ (of_begins _ (λ bytes. of_lines (first_offer_lines (bits_of c.args.workspace.now.duplicates) (offers_again c.args.geometry.now.layout c.args.number (rescan (slice_index c.args.workspace.now.cut.items c.args.number)) (steps_of c.args.geometry.now.layout (inode_of c.args.geometry.now.layout bytes c.args.number) bytes)))) _))
+    rw (p.1, p.2) (of_reads _ _ _ _ _
+    (of_begins _ (λ bytes. of_lines
+    (first_offer_lines (bits_of c.args.workspace.now.duplicates)
+    (offers_again c.args.geometry.now.layout c.args.number
+    (rescan (slice_index c.args.workspace.now.cut.items c.args.number))
+    (steps_of c.args.geometry.now.layout (inode_of c.args.geometry.now.layout bytes c.args.number) bytes)))) _))
 
 pub returns-in_err-inode-clause-runs : goal.returns-in_err-inode-clause-runs
 returns-in_err-inode-clause-runs g c = λ bytes t. omega arith
@@ -32,12 +37,17 @@ returns-clause-text g c =
     (λ bytes. of_lines (first_offer_lines d
     (offers_again v n (rescan (slice_index c.as_slice.result.now c.args.number))
     (steps_of v c.in_ok-inode.inode bytes))))
-    (λ bytes. of_lines (first_offer_lines d (offers_again v n (rescan (slice_index c.args.workspace.now.cut.items n)) (steps_of v (inode_of v bytes n) bytes)))) _ _ c.rewalk.result
+    (λ bytes. of_lines (first_offer_lines d
+    (offers_again v n (rescan (slice_index c.args.workspace.now.cut.items n))
+    (steps_of v (inode_of v bytes n) bytes)))) _ _ c.rewalk.result
     (λ bytes t. ap (λ (k : ℕ). of_lines
     (first_offer_lines d (offers_again v n (rescan k) (steps_of v c.in_ok-inode.inode bytes))))
     (ap (λ (cuts : List ℕ). slice_index cuts c.args.number) c.as_slice.ensures.value)
-    ∙ ap (λ (i : Inode). of_lines (first_offer_lines d (offers_again v n (rescan (slice_index c.args.workspace.now.cut.items n)) (steps_of v i bytes)))) (c.in_ok-inode.ensures.inode bytes t))
-    (reports_knowing (Unit {0}) _ _ _ _ _ c.rewalk.result (λ bytes t. ap (λ d. d.contents) c.in_ok-inode.ensures.ok ∙ t) c.rewalk.ensures.text)
+    ∙ ap (λ (i : Inode). of_lines
+    (first_offer_lines d (offers_again v n (rescan (slice_index c.args.workspace.now.cut.items n))
+    (steps_of v i bytes)))) (c.in_ok-inode.ensures.inode bytes t))
+    (reports_knowing (Unit {0}) _ _ _ _ _ c.rewalk.result (λ bytes t. ap (λ d. d.contents) c.in_ok-inode.ensures.ok ∙ t)
+    c.rewalk.ensures.text)
 
 pub returns-clause-rewalked : goal.returns-clause-rewalked
 returns-clause-rewalked g c =
@@ -66,7 +76,8 @@ returns-clause-runs g c = λ bytes t.
     (steps_of v (inode_of v bytes n) bytes) =
     ap (λ (k : ℕ). runs_again v (rescan k) (steps_of v c.in_ok-inode.inode bytes))
     (ap (λ (cuts : List ℕ). slice_index cuts c.args.number) c.as_slice.ensures.value)
-    ∙ ap (λ (i : Inode). runs_again v (rescan (slice_index c.args.workspace.now.cut.items n)) (steps_of v i bytes)) (c.in_ok-inode.ensures.inode bytes t) in
+    ∙ ap (λ (i : Inode). runs_again v (rescan (slice_index c.args.workspace.now.cut.items n)) (steps_of v i bytes))
+    (c.in_ok-inode.ensures.inode bytes t) in
     omega (arith, c.rewalk.ensures.runs bytes (ap (λ d. d.contents) c.in_ok-inode.ensures.ok ∙ t), same)
 
 pub inode-requires : goal.inode-requires

@@ -15,7 +15,9 @@ use Rattle.ffs_claims.specs.Reporting.{after_first}
 use Rattle.ffs_claims.proofs.Doubles.{none_first}
 use Rattle.ffs_claims.proofs.Frames.{claims_none, claims_still, claims_then, ready_still, ready_read, ready_walked}
 use Rattle.ffs_claims.proofs.Looks.{looked_stopped, looked_over}
-use Rattle.ffs_claims.proofs.Rewalks.{going_first, gaps_offer, offers_none, offers_stopped, lines_step, runs_next, Rewalking, rewalk_begins, rewalk_on, rewalk_gaps, rewalk_ends, rewalk_over, rewalk_said, rewalked_to}
+use Rattle.ffs_claims.proofs.Rewalks.{going_first, gaps_offer, offers_none, offers_stopped, lines_step, runs_next}
+use Rattle.ffs_claims.proofs.Rewalks.{Rewalking, rewalk_begins, rewalk_on, rewalk_gaps, rewalk_ends, rewalk_over}
+use Rattle.ffs_claims.proofs.Rewalks.{rewalk_said, rewalked_to}
 use Rattle.ffs_claims.proofs.second.rewalk.Goals as goal
 
 pub loop-next-init : goal.loop-next-init
@@ -76,7 +78,8 @@ report_again-requires-clause-made g c =
 
 pub returns-in_err-report_again : goal.returns-in_err-report_again
 returns-in_err-report_again g c =
-    let p = err_from_is_err_and c.from_residual-in_err-report_again.result c.from_residual-in_err-report_again.ensures.1 in
+    let p = err_from_is_err_and c.from_residual-in_err-report_again.result
+    c.from_residual-in_err-report_again.ensures.1 in
     let inv = c.loop-next.invariant in
     let v = c.args.geometry.now.layout in
     let n = c.args.number in
@@ -93,7 +96,8 @@ returns-in_err-report_again g c =
       text = of_stops _ _ (λ bytes. of_lines (first_offer_lines (after_first d (step_offers_again v n r step))
           (offers_again v n (again v r step) (rest bytes c.next.new.self)))) _
           (of_lines (first_offer_lines d (step_offers_again v n r step))) _ _ _ inv.said
-          (λ bytes t. lines_step v n r (again v r step) step (rest bytes c.loop-next.walk) (rest bytes c.next.new.self) d (after_first d (step_offers_again v n r step)) (next bytes t) refl refl)
+          (λ bytes t. lines_step v n r (again v r step) step (rest bytes c.loop-next.walk) (rest bytes c.next.new.self)
+          d (after_first d (step_offers_again v n r step)) (next bytes t) refl refl)
           c.in_err-report_again.ensures.said;
       rewalked = tt;
       runs = λ bytes t. omega (
@@ -128,7 +132,8 @@ loop-next-preserved-then-matches g c =
     let read = ready_walked c.args.geometry.now _ _ _ c.loop-next.workspace c.next.new.blocks inv.geometry ok
     c.next.ensures.kept.size c.next.ensures.kept.holds inv.ready in
     let ready = ready_still v _ _ _ only.made only.windows read in
-    let gaps : ForBytes (IsContents (g.I.Image.device c.args.image.now).contents) (λ bytes. rest bytes c.next.new.self ≡ replicate c.skip_gaps.result Gap ++ rest bytes c.skip_gaps.new.self) =
+    let gaps : ForBytes (IsContents (g.I.Image.device c.args.image.now).contents)
+    (λ bytes. rest bytes c.next.new.self ≡ replicate c.skip_gaps.result Gap ++ rest bytes c.skip_gaps.new.self) =
     λ bytes t. c.skip_gaps.ensures.steps (g.I.Image.device c.next.new.image).contents
     (rw (c.in_ok-next.ensures.same.geometry ∙ inv.geometry) ready.windows.blocks) bytes
     (ap (λ d. d.contents) (ok ∙ inv.device) ∙ t) in

@@ -25,8 +25,10 @@ invariant-loop-next g l = record {
       Rewalking l.geometry.layout l.number l.cut (steps_of l.geometry.layout l.inode bytes) l.rescan
       (rest bytes l.walk) l.initial.workspace l.workspace);
   said : SaidOf (IsContents (g.I.Image.device l.initial.image).contents)
-      (λ bytes. of_lines (first_offer_lines (bits_of l.workspace.duplicates) (offers_again l.geometry.layout l.number l.rescan (rest bytes l.walk))))
-      (λ bytes. of_lines (first_offer_lines (bits_of l.initial.workspace.duplicates) (offers_again l.geometry.layout l.number (rescan l.cut) (steps_of l.geometry.layout l.inode bytes))))
+      (λ bytes. of_lines (first_offer_lines (bits_of l.workspace.duplicates)
+      (offers_again l.geometry.layout l.number l.rescan (rest bytes l.walk))))
+      (λ bytes. of_lines (first_offer_lines (bits_of l.initial.workspace.duplicates)
+      (offers_again l.geometry.layout l.number (rescan l.cut) (steps_of l.geometry.layout l.inode bytes))))
       (progress g.W.Output.sink l.initial.report) (progress g.W.Output.sink l.report);
 }
 

@@ -6,7 +6,8 @@ use Rattle.ffs_volume.specs.Directories.Connectivity.{connectivity_lines}
 use Rattle.ffs_volume.specs.Messages.Kinds.{Message, of_names, phase3, lines_from}
 use Rattle.ffs_volume.specs.Directories.Volumes.{volume_of}
 use Rattle.ffs_survey.specs.Cycles.{up_of}
-use Rattle.ffs_phase.proofs.Reporting.{of_begins, of_says, of_stops, of_same, of_part, of_fault, said_knows, reports_knowing}
+use Rattle.ffs_phase.proofs.Reporting.{of_begins, of_says, of_stops, of_same, of_part, of_fault, said_knows}
+use Rattle.ffs_phase.proofs.Reporting.{reports_knowing}
 use Rattle.ffs_workspace.specs.Holds.{bool_at}
 use Rattle.ffs_workspace.specs.Lengths.{inodes_of}
 use Rattle.ffs_connectivity.specs.Lines.{cut_off_lines}
@@ -19,8 +20,10 @@ pub returns-in_err-say-clause-text : goal.returns-in_err-say-clause-text
 returns-in_err-say-clause-text g c =
     let p = err_from_is_err_and c.from_residual.result c.from_residual.ensures.1 in
     let v = c.args.geometry.now.layout in
-    rw (p.1, p.2) (of_stops _ (λ bytes. phase3 ∷ map of_names (connectivity_lines (volume_of v bytes))) (λ bytes. map of_names (connectivity_lines (volume_of v bytes))) _ (phase3 ∷ []) _ _ _
-    (of_begins _ (λ bytes. phase3 ∷ map of_names (connectivity_lines (volume_of v bytes))) _) (λ bytes t. refl) c.in_err-say.ensures.said)
+    rw (p.1, p.2) (of_stops _ (λ bytes. phase3 ∷ map of_names (connectivity_lines (volume_of v bytes)))
+    (λ bytes. map of_names (connectivity_lines (volume_of v bytes))) _ (phase3 ∷ []) _ _ _
+    (of_begins _ (λ bytes. phase3 ∷ map of_names (connectivity_lines (volume_of v bytes))) _) (λ bytes t. refl)
+    c.in_err-say.ensures.said)
 
 pub loop-number-init : goal.loop-number-init
 loop-number-init g c =
@@ -31,11 +34,14 @@ loop-number-init g c =
       low = omega arith;
       survey = search rules;
       leaders = record {
-        cycles = λ x. ap (λ (ls : List Bool). bool_at ls x) (with_items_is c.args.workspace.now.leaders c.mark_leaders.new.leaders (search rules)) ∙ c.mark_leaders.ensures x
+        cycles = λ x. ap (λ (ls : List Bool). bool_at ls x)
+            (with_items_is c.args.workspace.now.leaders c.mark_leaders.new.leaders (search rules))
+            ∙ c.mark_leaders.ensures x
             ∙ ap (λ (ps : List ℕ). leads_cycle (up_of ps) (length ps) x) c.deref.ensures.value;
       };
       said = of_says _ (λ bytes. phase3 ∷ map of_names (connectivity_lines (volume_of v bytes)))
-          (λ bytes. map of_names (lines_from (cut_off_lines (volume_of v bytes)) 2 (inodes_of v - 2))) _ (phase3 ∷ []) _ _ _
+          (λ bytes. map of_names (lines_from (cut_off_lines (volume_of v bytes)) 2 (inodes_of v - 2))) _ (phase3 ∷ []) _
+          _ _
           (of_begins _ (λ bytes. phase3 ∷ map of_names (connectivity_lines (volume_of v bytes))) _)
           (λ bytes k. ap (λ (xs : List Message). phase3 ∷ xs) (lines_begin v bytes))
           c.in_ok-say.ensures.said;
@@ -43,16 +49,23 @@ loop-number-init g c =
 
 pub returns-in_err-check_inode-clause-text : goal.returns-in_err-check_inode-clause-text
 returns-in_err-check_inode-clause-text g c =
-    let p = err_from_is_err_and c.from_residual-in_err-check_inode.result c.from_residual-in_err-check_inode.ensures.1 in
+    let p = err_from_is_err_and c.from_residual-in_err-check_inode.result
+    c.from_residual-in_err-check_inode.ensures.1 in
     let v = c.args.geometry.now.layout in
     let inv = c.loop-number.invariant in
     let n = c.loop-number.number in
-    rw (p.1, p.2) (of_fault (Unit {0}) (Unit {0}) _ (λ bytes. map of_names (lines_from (cut_off_lines (volume_of v bytes)) n (inodes_of v - n)))
+    rw (p.1, p.2) (of_fault (Unit {0}) (Unit {0}) _
+    (λ bytes. map of_names (lines_from (cut_off_lines (volume_of v bytes)) n (inodes_of v - n)))
     (λ bytes. map of_names (cut_off_lines (volume_of v bytes) n))
-    (λ bytes. map of_names (lines_from (cut_off_lines (volume_of v bytes)) (n + 1) (inodes_of v - (n + 1)))) _ _ _ _ c.in_err-check_inode.field-0.0
+    (λ bytes. map of_names (lines_from (cut_off_lines (volume_of v bytes)) (n + 1) (inodes_of v - (n + 1)))) _ _ _ _
+    c.in_err-check_inode.field-0.0
     inv.said (λ bytes k. from_next (cut_off_lines (volume_of v bytes)) n (inodes_of v) (omega arith))
     (reports_knowing (Unit {0}) _ _ _ _ _ (Err c.in_err-check_inode.field-0.0)
-    (λ bytes k. (ap (λ d. d.contents) inv.device ∙ k.0, claims_left v bytes _ _ inv.survey k.1, survey_left v bytes _ _ inv.survey k.2)) c.in_err-check_inode.ensures.text))
+    (λ bytes k. (
+      ap (λ d. d.contents) inv.device ∙ k.0,
+      claims_left v bytes _ _ inv.survey k.1,
+      survey_left v bytes _ _ inv.survey k.2,
+    )) c.in_err-check_inode.ensures.text))
 
 pub loop-number-preserved : goal.loop-number-preserved
 loop-number-preserved g c =
@@ -68,10 +81,15 @@ loop-number-preserved g c =
       leaders = leaders_held _ _ ok.held inv.leaders;
       said = of_part _ (λ bytes. map of_names (lines_from (cut_off_lines (volume_of v bytes)) n (inodes_of v - n)))
           (λ bytes. map of_names (cut_off_lines (volume_of v bytes) n))
-          (λ bytes. map of_names (lines_from (cut_off_lines (volume_of v bytes)) (n + 1) (inodes_of v - (n + 1)))) _ _ _ _ inv.said
+          (λ bytes. map of_names (lines_from (cut_off_lines (volume_of v bytes)) (n + 1) (inodes_of v - (n + 1)))) _ _ _
+          _ inv.said
           (λ bytes k. from_next (cut_off_lines (volume_of v bytes)) n (inodes_of v) (omega arith))
           (said_knows _ _ _ _ _ _
-          (λ bytes k. (ap (λ d. d.contents) inv.device ∙ k.0, claims_left v bytes _ _ inv.survey k.1, survey_left v bytes _ _ inv.survey k.2)) ok.text);
+          (λ bytes k. (
+            ap (λ d. d.contents) inv.device ∙ k.0,
+            claims_left v bytes _ _ inv.survey k.1,
+            survey_left v bytes _ _ inv.survey k.2,
+          )) ok.text);
     }
 
 pub returns-clause-text : goal.returns-clause-text
@@ -79,5 +97,6 @@ returns-clause-text g c =
     let v = c.args.geometry.now.layout in
     let inv = c.loop-number.invariant in
     let n = c.loop-number.number in
-    of_same _ (λ bytes. map of_names (lines_from (cut_off_lines (volume_of v bytes)) n (inodes_of v - n))) (λ bytes. []) _ _ _ inv.said
+    of_same _ (λ bytes. map of_names (lines_from (cut_off_lines (volume_of v bytes)) n (inodes_of v - n))) (λ bytes. [])
+    _ _ _ inv.said
     (λ bytes k. from_end (cut_off_lines (volume_of v bytes)) n (inodes_of v) (omega arith))

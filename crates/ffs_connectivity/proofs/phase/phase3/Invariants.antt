@@ -20,8 +20,10 @@ invariant-loop-number g l = record {
   low : 2 ≤ l.number;
   survey : LeavesSurvey l.fn.workspace l.workspace;
   leaders : HasLeaders l.workspace;
-  said : SaidOf (λ bytes. IsContents (g.I.Image.device l.fn.image).contents bytes × HoldsClaims l.geometry.layout bytes l.fn.workspace × HoldsSurvey l.geometry.layout bytes l.fn.workspace)
-      (λ bytes. map of_names (lines_from (cut_off_lines (volume_of l.geometry.layout bytes)) l.number (inodes_of l.geometry.layout - l.number)))
+  said : SaidOf (λ bytes. IsContents (g.I.Image.device l.fn.image).contents bytes
+      × HoldsClaims l.geometry.layout bytes l.fn.workspace × HoldsSurvey l.geometry.layout bytes l.fn.workspace)
+      (λ bytes. map of_names (lines_from (cut_off_lines (volume_of l.geometry.layout bytes)) l.number
+      (inodes_of l.geometry.layout - l.number)))
       (λ bytes. phase3 ∷ map of_names (connectivity_lines (volume_of l.geometry.layout bytes)))
       (progress g.W.Output.sink l.fn.report) (progress g.W.Output.sink l.report);
 }

@@ -25,8 +25,10 @@ loop-group-init g c =
       indirect = refl;
       up = search (rules, arith);
       totals = search rules;
-      said = of_same _ all (λ bytes. rest_lines v bytes sums free class (reported_of c.new-once.result) 0 (v.ncg - 0)) _ _ _ (of_begins _ all _)
-          (λ bytes k. groups_begin v bytes sums free class (reported_of c.new-once.result) (v.ncg - 0) c.new-once.ensures (omega arith));
+      said = of_same _ all (λ bytes. rest_lines v bytes sums free class (reported_of c.new-once.result) 0 (v.ncg - 0)) _
+          _ _ (of_begins _ all _)
+          (λ bytes k. groups_begin v bytes sums free class (reported_of c.new-once.result) (v.ncg - 0)
+          c.new-once.ensures (omega arith));
     }
 
 pub returns-in_err-found-clause-text : goal.returns-in_err-found-clause-text
@@ -46,8 +48,10 @@ returns-in_err-say_group-clause-text g c =
     let once = reported_of c.loop-group.once in
     let lines = lines_of c.in_ok-found.found n in
     rw (p.1, p.2) (of_stops _ (λ bytes. rest_lines v bytes sums free class once n (v.ncg - n))
-    (λ bytes. rest_lines v bytes sums free class (reported_after once lines) (n + 1) (v.ncg - (n + 1))) _ (map of_blocks (reported_once once lines)) _ _ _ inv.said
-    (λ bytes k. groups_go_on v bytes sums free class once (reported_after once lines) lines n (v.ncg - n) (v.ncg - (n + 1)) (omega (arith, c.loop-group-test.true))
+    (λ bytes. rest_lines v bytes sums free class (reported_after once lines) (n + 1) (v.ncg - (n + 1))) _
+    (map of_blocks (reported_once once lines)) _ _ _ inv.said
+    (λ bytes k. groups_go_on v bytes sums free class once (reported_after once lines) lines n (v.ncg - n)
+    (v.ncg - (n + 1)) (omega (arith, c.loop-group-test.true))
     (c.in_ok-found.ensures.found bytes (ap (λ d. d.contents) inv.device ∙ k)) refl)
     c.in_err-say_group.ensures.said)
 
@@ -67,10 +71,13 @@ loop-group-preserved g c =
       ready = c.in_ok-found.ensures.ready;
       indirect = c.in_ok-found.ensures.indirect ∙ inv.indirect;
       up = c.add.ensures.up n inv.up;
-      totals = totals_next v free class n c.loop-group.totals _ _ inv.totals c.add.ensures.sums c.group_counts-counts.ensures.summary;
+      totals = totals_next v free class n c.loop-group.totals _ _ inv.totals c.add.ensures.sums
+          c.group_counts-counts.ensures.summary;
       said = of_says _ (λ bytes. rest_lines v bytes sums free class once n (v.ncg - n))
-          (λ bytes. rest_lines v bytes sums free class once' (n + 1) (v.ncg - (n + 1))) _ (map of_blocks (reported_once once lines)) _ _ _ inv.said
-          (λ bytes k. groups_go_on v bytes sums free class once once' lines n (v.ncg - n) (v.ncg - (n + 1)) (omega (arith, c.loop-group-test.true))
+          (λ bytes. rest_lines v bytes sums free class once' (n + 1) (v.ncg - (n + 1))) _
+          (map of_blocks (reported_once once lines)) _ _ _ inv.said
+          (λ bytes k. groups_go_on v bytes sums free class once once' lines n (v.ncg - n) (v.ncg - (n + 1))
+          (omega (arith, c.loop-group-test.true))
           (c.in_ok-found.ensures.found bytes (ap (λ d. d.contents) inv.device ∙ k)) c.in_ok-say_group.ensures.reported)
           c.in_ok-say_group.ensures.said;
     }
@@ -85,9 +92,12 @@ returns-in_err-say_unless-clause-text g c =
     let inv = c.loop-group.invariant in
     let n = c.loop-group.group in
     let once = reported_of c.loop-group.once in
-    rw (p.1, p.2) (of_stops _ (λ bytes. rest_lines v bytes sums free class once n (v.ncg - n)) (λ bytes. []) _ (map of_blocks (reported_once once (unless c.are-right.result FreeCounts))) _ _ _ inv.said
-    (λ bytes k. groups_end v bytes sums free class once n (v.ncg - n) c.are-right.result (omega (arith, c.loop-group-test.false))
-    (c.are-right.ensures ∙ totals_right v free class sums n c.loop-group.totals inv.totals (omega (arith, c.loop-group-test.false, c.loop-group.auto.group-end))))
+    rw (p.1, p.2) (of_stops _ (λ bytes. rest_lines v bytes sums free class once n (v.ncg - n)) (λ bytes. []) _
+    (map of_blocks (reported_once once (unless c.are-right.result FreeCounts))) _ _ _ inv.said
+    (λ bytes k. groups_end v bytes sums free class once n (v.ncg - n) c.are-right.result
+    (omega (arith, c.loop-group-test.false))
+    (c.are-right.ensures ∙ totals_right v free class sums n c.loop-group.totals inv.totals
+    (omega (arith, c.loop-group-test.false, c.loop-group.auto.group-end))))
     c.in_err-say_unless.ensures.said)
 
 pub returns-clause-text : goal.returns-clause-text
@@ -99,7 +109,10 @@ returns-clause-text g c =
     let inv = c.loop-group.invariant in
     let n = c.loop-group.group in
     let once = reported_of c.loop-group.once in
-    of_says _ (λ bytes. rest_lines v bytes sums free class once n (v.ncg - n)) (λ bytes. []) _ (map of_blocks (reported_once once (unless c.are-right.result FreeCounts))) _ _ _ inv.said
-    (λ bytes k. groups_end v bytes sums free class once n (v.ncg - n) c.are-right.result (omega (arith, c.loop-group-test.false))
-    (c.are-right.ensures ∙ totals_right v free class sums n c.loop-group.totals inv.totals (omega (arith, c.loop-group-test.false, c.loop-group.auto.group-end))))
+    of_says _ (λ bytes. rest_lines v bytes sums free class once n (v.ncg - n)) (λ bytes. []) _
+    (map of_blocks (reported_once once (unless c.are-right.result FreeCounts))) _ _ _ inv.said
+    (λ bytes k. groups_end v bytes sums free class once n (v.ncg - n) c.are-right.result
+    (omega (arith, c.loop-group-test.false))
+    (c.are-right.ensures ∙ totals_right v free class sums n c.loop-group.totals inv.totals
+    (omega (arith, c.loop-group-test.false, c.loop-group.auto.group-end))))
     c.in_ok-say_unless.ensures.said

@@ -4,4 +4,9 @@ use Rattle.ffs_counts.proofs.groups.read_group.Goals as goal
 
 pub fill-requires-clause-inside : goal.fill-requires-clause-inside
 fill-requires-clause-inside g c =
-    omega (arith, c.summary_place-place.ensures, record_inside c.args.geometry.now.layout c.args.group c.args.geometry.now.sound c.requires.group, c.requires.ready.volume)
+    omega (
+      arith,
+      c.summary_place-place.ensures,
+      record_inside c.args.geometry.now.layout c.args.group c.args.geometry.now.sound c.requires.group,
+      c.requires.ready.volume,
+    )

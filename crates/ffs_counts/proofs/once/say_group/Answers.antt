@@ -10,9 +10,14 @@ use Rattle.ffs_counts.proofs.once.say_group.Goals as goal
 pub returns-in_err-say-clause-said : goal.returns-in_err-say-clause-said
 returns-in_err-say-clause-said g c =
     let p = err_from_is_err_and c.from_residual.result c.from_residual.ensures.1 in
-    rw (p.1, c.if-found.false) (stopped_more _ _ (of_blocks (GroupMagic c.args.group) ∷ []) (map of_blocks (reported_once (reported_of c.args.once.now) (unless c.args.found.now.counts FreeCounts))) c.in_err-say.ensures.said)
+    rw (p.1, c.if-found.false)
+    (stopped_more _ _ (of_blocks (GroupMagic c.args.group) ∷ [])
+    (map of_blocks (reported_once (reported_of c.args.once.now) (unless c.args.found.now.counts FreeCounts)))
+    c.in_err-say.ensures.said)
 
 pub returns-in_ok-say-clause-said : goal.returns-in_ok-say-clause-said
 returns-in_ok-say-clause-said g c =
-    rw c.if-found.false (says_then _ _ _ (of_blocks (GroupMagic c.args.group) ∷ []) (map of_blocks (reported_once (reported_of c.args.once.now) (unless c.args.found.now.counts FreeCounts))) c.say_unless.result
+    rw c.if-found.false (says_then _ _ _ (of_blocks (GroupMagic c.args.group) ∷ [])
+    (map of_blocks (reported_once (reported_of c.args.once.now) (unless c.args.found.now.counts FreeCounts)))
+    c.say_unless.result
     c.in_ok-say.ensures.said c.say_unless.ensures.said)

@@ -16,8 +16,10 @@ invariant-loop-number g l = record {
   ready : IsReady l.geometry.layout (g.I.Image.device l.image) l.workspace;
   device : g.I.Image.device l.image ≡ g.I.Image.device l.fn.image;
   held : l.workspace ≡ record l.fn.workspace { windows = l.workspace.windows };
-  said : SaidOf (λ bytes. IsContents (g.I.Image.device l.fn.image).contents bytes × HoldsClaims l.geometry.layout bytes l.fn.workspace × HoldsSurvey l.geometry.layout bytes l.fn.workspace)
-      (λ bytes. map of_names (lines_from (counted_lines (volume_of l.geometry.layout bytes)) l.number (inodes_of l.geometry.layout - l.number)))
+  said : SaidOf (λ bytes. IsContents (g.I.Image.device l.fn.image).contents bytes
+      × HoldsClaims l.geometry.layout bytes l.fn.workspace × HoldsSurvey l.geometry.layout bytes l.fn.workspace)
+      (λ bytes. map of_names (lines_from (counted_lines (volume_of l.geometry.layout bytes)) l.number
+      (inodes_of l.geometry.layout - l.number)))
       (λ bytes. phase4 ∷ map of_names (reference_lines (volume_of l.geometry.layout bytes)))
       (progress g.W.Output.sink l.fn.report) (progress g.W.Output.sink l.report);
 }

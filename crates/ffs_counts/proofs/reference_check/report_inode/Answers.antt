@@ -12,31 +12,58 @@ use Rattle.ffs_counts.proofs.reference_check.report_inode.Goals as goal
 pub returns-in_err-inode-clause-text : goal.returns-in_err-inode-clause-text
 returns-in_err-inode-clause-text g c =
     let p = err_from_is_err_and c.from_residual.result c.from_residual.ensures.1 in
-    rw (p.1, p.2) (of_reads _ (λ bytes. map of_names (inode_lines (volume_of c.args.geometry.now.layout bytes) c.args.number)) _ _ _ (of_begins _ (λ bytes. map of_names (inode_lines (volume_of c.args.geometry.now.layout bytes) c.args.number)) _))
+    rw (p.1, p.2) (of_reads _
+    (λ bytes. map of_names (inode_lines (volume_of c.args.geometry.now.layout bytes) c.args.number)) _ _ _
+    (of_begins _ (λ bytes. map of_names (inode_lines (volume_of c.args.geometry.now.layout bytes) c.args.number)) _))
 
 pub returns-in_err-say_line-clause-text : goal.returns-in_err-say_line-clause-text
 returns-in_err-say_line-clause-text g c =
     let p = err_from_is_err_and c.from_residual-in_err-say_line.result c.from_residual-in_err-say_line.ensures.1 in
-    let marked : c.index-marked.result.now ≡ bool_at c.args.workspace.now.marked.items c.args.number = item_at c.args.workspace.now.marked c.args.number _ c.index-marked.result.now false c.index-marked.ensures c.requires.number c.requires.ready.made.marked in
-    let kind : c.index-kind.result.now ≡ slice_index c.args.workspace.now.kinds.items c.args.number = item_at c.args.workspace.now.kinds c.args.number _ c.index-kind.result.now 0 c.index-kind.ensures c.requires.number c.requires.ready.made.kinds in
-    let refs : c.index-references.result.now ≡ slice_index c.args.workspace.now.references.items c.args.number = item_at c.args.workspace.now.references c.args.number _ c.index-references.result.now 0 c.index-references.ensures c.requires.number c.requires.ready.made.references in
-    rw (p.1, p.2) (of_stops _ (λ bytes. map of_names (inode_lines (volume_of c.args.geometry.now.layout bytes) c.args.number)) (λ bytes. []) _ (map of_names (lines_as c.line_for-line.result)) _ _ _ (of_begins _ (λ bytes. map of_names (inode_lines (volume_of c.args.geometry.now.layout bytes) c.args.number)) _)
+    let marked : c.index-marked.result.now ≡ bool_at c.args.workspace.now.marked.items c.args.number =
+    item_at c.args.workspace.now.marked c.args.number _ c.index-marked.result.now false c.index-marked.ensures
+    c.requires.number c.requires.ready.made.marked in
+    let kind : c.index-kind.result.now ≡ slice_index c.args.workspace.now.kinds.items c.args.number =
+    item_at c.args.workspace.now.kinds c.args.number _ c.index-kind.result.now 0 c.index-kind.ensures
+    c.requires.number c.requires.ready.made.kinds in
+    let refs : c.index-references.result.now ≡ slice_index c.args.workspace.now.references.items c.args.number =
+    item_at c.args.workspace.now.references c.args.number _ c.index-references.result.now 0 c.index-references.ensures
+    c.requires.number c.requires.ready.made.references in
+    rw (p.1, p.2) (of_stops _
+    (λ bytes. map of_names (inode_lines (volume_of c.args.geometry.now.layout bytes) c.args.number)) (λ bytes. []) _
+    (map of_names (lines_as c.line_for-line.result)) _ _ _
+    (of_begins _ (λ bytes. map of_names (inode_lines (volume_of c.args.geometry.now.layout bytes) c.args.number)) _)
     (λ bytes k. ap (λ (ls : List NameMessage). map of_names ls)
-    (inode_lines_are c.args.geometry.now.layout bytes c.args.workspace.now c.args.number c.in_ok-inode.inode c.is_dead-dead.result c.requires.number k.1 k.2 (c.in_ok-inode.ensures.inode bytes k.0) c.is_dead-dead.ensures
-    ∙ same_reported c.is_dead-dead.result c.index-marked.result.now (bool_at c.args.workspace.now.marked.items c.args.number) c.index-kind.result.now (slice_index c.args.workspace.now.kinds.items c.args.number) (attr_with c.args.number c.in_ok-inode.inode) c.in_ok-inode.inode.nlink
+    (inode_lines_are c.args.geometry.now.layout bytes c.args.workspace.now c.args.number c.in_ok-inode.inode
+    c.is_dead-dead.result c.requires.number k.1 k.2 (c.in_ok-inode.ensures.inode bytes k.0) c.is_dead-dead.ensures
+    ∙ same_reported c.is_dead-dead.result c.index-marked.result.now
+    (bool_at c.args.workspace.now.marked.items c.args.number) c.index-kind.result.now
+    (slice_index c.args.workspace.now.kinds.items c.args.number) (attr_with c.args.number c.in_ok-inode.inode)
+    c.in_ok-inode.inode.nlink
     c.index-references.result.now (slice_index c.args.workspace.now.references.items c.args.number) marked kind refs
     ∙ sym c.line_for-line.ensures) ∙ sym (append-nil _))
     c.in_err-say_line.ensures)
 
 pub returns-clause-text : goal.returns-clause-text
 returns-clause-text g c =
-    let marked : c.index-marked.result.now ≡ bool_at c.args.workspace.now.marked.items c.args.number = item_at c.args.workspace.now.marked c.args.number _ c.index-marked.result.now false c.index-marked.ensures c.requires.number c.requires.ready.made.marked in
-    let kind : c.index-kind.result.now ≡ slice_index c.args.workspace.now.kinds.items c.args.number = item_at c.args.workspace.now.kinds c.args.number _ c.index-kind.result.now 0 c.index-kind.ensures c.requires.number c.requires.ready.made.kinds in
-    let refs : c.index-references.result.now ≡ slice_index c.args.workspace.now.references.items c.args.number = item_at c.args.workspace.now.references c.args.number _ c.index-references.result.now 0 c.index-references.ensures c.requires.number c.requires.ready.made.references in
-    of_says _ (λ bytes. map of_names (inode_lines (volume_of c.args.geometry.now.layout bytes) c.args.number)) (λ bytes. []) _ (map of_names (lines_as c.line_for-line.result)) _ _ _ (of_begins _ (λ bytes. map of_names (inode_lines (volume_of c.args.geometry.now.layout bytes) c.args.number)) _)
+    let marked : c.index-marked.result.now ≡ bool_at c.args.workspace.now.marked.items c.args.number =
+    item_at c.args.workspace.now.marked c.args.number _ c.index-marked.result.now false c.index-marked.ensures
+    c.requires.number c.requires.ready.made.marked in
+    let kind : c.index-kind.result.now ≡ slice_index c.args.workspace.now.kinds.items c.args.number =
+    item_at c.args.workspace.now.kinds c.args.number _ c.index-kind.result.now 0 c.index-kind.ensures
+    c.requires.number c.requires.ready.made.kinds in
+    let refs : c.index-references.result.now ≡ slice_index c.args.workspace.now.references.items c.args.number =
+    item_at c.args.workspace.now.references c.args.number _ c.index-references.result.now 0 c.index-references.ensures
+    c.requires.number c.requires.ready.made.references in
+    of_says _ (λ bytes. map of_names (inode_lines (volume_of c.args.geometry.now.layout bytes) c.args.number))
+    (λ bytes. []) _ (map of_names (lines_as c.line_for-line.result)) _ _ _
+    (of_begins _ (λ bytes. map of_names (inode_lines (volume_of c.args.geometry.now.layout bytes) c.args.number)) _)
     (λ bytes k. ap (λ (ls : List NameMessage). map of_names ls)
-    (inode_lines_are c.args.geometry.now.layout bytes c.args.workspace.now c.args.number c.in_ok-inode.inode c.is_dead-dead.result c.requires.number k.1 k.2 (c.in_ok-inode.ensures.inode bytes k.0) c.is_dead-dead.ensures
-    ∙ same_reported c.is_dead-dead.result c.index-marked.result.now (bool_at c.args.workspace.now.marked.items c.args.number) c.index-kind.result.now (slice_index c.args.workspace.now.kinds.items c.args.number) (attr_with c.args.number c.in_ok-inode.inode) c.in_ok-inode.inode.nlink
+    (inode_lines_are c.args.geometry.now.layout bytes c.args.workspace.now c.args.number c.in_ok-inode.inode
+    c.is_dead-dead.result c.requires.number k.1 k.2 (c.in_ok-inode.ensures.inode bytes k.0) c.is_dead-dead.ensures
+    ∙ same_reported c.is_dead-dead.result c.index-marked.result.now
+    (bool_at c.args.workspace.now.marked.items c.args.number) c.index-kind.result.now
+    (slice_index c.args.workspace.now.kinds.items c.args.number) (attr_with c.args.number c.in_ok-inode.inode)
+    c.in_ok-inode.inode.nlink
     c.index-references.result.now (slice_index c.args.workspace.now.references.items c.args.number) marked kind refs
     ∙ sym c.line_for-line.ensures) ∙ sym (append-nil _))
     c.in_ok-say_line.ensures

@@ -3,39 +3,51 @@ use Rattle.std.proofs.lemmas.Int.{ints, to_z-of_z, fits_signed_from_abs, unsigne
 use Rattle.std.specs.Prelude.{unsigned_abs}
 use Rattle.ffs_counts.proofs.summing.free_in_all.Goals as goal
 
-blocks_most : (frag : ℕ) (blocks : ℤ) → Fits w8 frag → SFits w32 blocks → unsigned_abs (pos frag *ℤ blocks) ≤ 255 * 2147483648
+blocks_most : (frag : ℕ) (blocks : ℤ) → Fits w8 frag → SFits w32 blocks →
+    unsigned_abs (pos frag *ℤ blocks) ≤ 255 * 2147483648
 blocks_most frag blocks f b =
     let frag_most : unsigned_abs (pos frag) ≤ 255 = omega (arith, ints) in
     let most : unsigned_abs blocks ≤ 2147483648 = omega (arith, ints) in
     rw (unsigned_abs-mul (pos frag) blocks) (mul-le-mul frag_most most)
 
 blocks_fit : (frag : ℕ) (blocks : ℤ) → Fits w8 frag → SFits w32 blocks → SFits w64 (pos frag *ℤ blocks)
-blocks_fit frag blocks f b = fits_signed_from_abs w64 (pos frag *ℤ blocks) (let m = blocks_most frag blocks f b in omega arith)
+blocks_fit frag blocks f b =
+    fits_signed_from_abs w64 (pos frag *ℤ blocks) (let m = blocks_most frag blocks f b in omega arith)
 
 sum_fits : (a p : ℤ) → SFits w32 a → unsigned_abs p ≤ 255 * 2147483648 → SFits w64 (a +ℤ p)
 sum_fits a p f m = grind (arith, ints)
 
-all_fit : (frags : ℤ) (frag : ℕ) (blocks : ℤ) → SFits w32 frags → Fits w8 frag → SFits w32 blocks → SFits w64 (frags +ℤ pos frag *ℤ blocks)
+all_fit : (frags : ℤ) (frag : ℕ) (blocks : ℤ) → SFits w32 frags → Fits w8 frag → SFits w32 blocks →
+    SFits w64 (frags +ℤ pos frag *ℤ blocks)
 all_fit frags frag blocks a f b = sum_fits frags (pos frag *ℤ blocks) a (blocks_most frag blocks f b)
 
 pub overflow_mul-result : goal.overflow_mul-result
 overflow_mul-result c =
     let frag = to_z-of_z w64 c.from-2.result (record { sfits = c.from-2.type_inv }) ∙ c.from-2.ensures in
-    let blocks = to_z-of_z w64 c.from-3.result (record { sfits = c.from-3.type_inv }) ∙ (c.from-3.ensures ∙ to_z-of_z w32 c.args.blocks c.ranges.blocks) in
+    let blocks = to_z-of_z w64 c.from-3.result (record { sfits = c.from-3.type_inv })
+    ∙ (c.from-3.ensures ∙ to_z-of_z w32 c.args.blocks c.ranges.blocks) in
     rw (frag, blocks) (blocks_fit c.args.frag c.args.blocks c.ranges.frag c.ranges.blocks)
 
 pub overflow_add-result : goal.overflow_add-result
 overflow_add-result c =
-    let frags = to_z-of_z w64 c.from.result (record { sfits = c.from.type_inv }) ∙ (c.from.ensures ∙ to_z-of_z w32 c.args.frags c.ranges.frags) in
+    let frags = to_z-of_z w64 c.from.result (record { sfits = c.from.type_inv })
+    ∙ (c.from.ensures ∙ to_z-of_z w32 c.args.frags c.ranges.frags) in
     let frag = to_z-of_z w64 c.from-2.result (record { sfits = c.from-2.type_inv }) ∙ c.from-2.ensures in
-    let blocks = to_z-of_z w64 c.from-3.result (record { sfits = c.from-3.type_inv }) ∙ (c.from-3.ensures ∙ to_z-of_z w32 c.args.blocks c.ranges.blocks) in
-    let free = to_z-of_z w64 (pos c.args.frag *ℤ c.args.blocks) (blocks_fit c.args.frag c.args.blocks c.ranges.frag c.ranges.blocks) in
-    rw (frags, frag, blocks, free) (all_fit c.args.frags c.args.frag c.args.blocks c.ranges.frags c.ranges.frag c.ranges.blocks)
+    let blocks = to_z-of_z w64 c.from-3.result (record { sfits = c.from-3.type_inv })
+    ∙ (c.from-3.ensures ∙ to_z-of_z w32 c.args.blocks c.ranges.blocks) in
+    let free = to_z-of_z w64 (pos c.args.frag *ℤ c.args.blocks)
+    (blocks_fit c.args.frag c.args.blocks c.ranges.frag c.ranges.blocks) in
+    rw (frags, frag, blocks, free)
+    (all_fit c.args.frags c.args.frag c.args.blocks c.ranges.frags c.ranges.frag c.ranges.blocks)
 
 pub returns : goal.returns
 returns c =
-    let frags = to_z-of_z w64 c.from.result (record { sfits = c.from.type_inv }) ∙ (c.from.ensures ∙ to_z-of_z w32 c.args.frags c.ranges.frags) in
+    let frags = to_z-of_z w64 c.from.result (record { sfits = c.from.type_inv })
+    ∙ (c.from.ensures ∙ to_z-of_z w32 c.args.frags c.ranges.frags) in
     let frag = to_z-of_z w64 c.from-2.result (record { sfits = c.from-2.type_inv }) ∙ c.from-2.ensures in
-    let blocks = to_z-of_z w64 c.from-3.result (record { sfits = c.from-3.type_inv }) ∙ (c.from-3.ensures ∙ to_z-of_z w32 c.args.blocks c.ranges.blocks) in
-    let free = to_z-of_z w64 (pos c.args.frag *ℤ c.args.blocks) (blocks_fit c.args.frag c.args.blocks c.ranges.frag c.ranges.blocks) in
-    rw (frags, frag, blocks, free) (to_z-of_z w64 _ (all_fit c.args.frags c.args.frag c.args.blocks c.ranges.frags c.ranges.frag c.ranges.blocks))
+    let blocks = to_z-of_z w64 c.from-3.result (record { sfits = c.from-3.type_inv })
+    ∙ (c.from-3.ensures ∙ to_z-of_z w32 c.args.blocks c.ranges.blocks) in
+    let free = to_z-of_z w64 (pos c.args.frag *ℤ c.args.blocks)
+    (blocks_fit c.args.frag c.args.blocks c.ranges.frag c.ranges.blocks) in
+    rw (frags, frag, blocks, free)
+    (to_z-of_z w64 _ (all_fit c.args.frags c.args.frag c.args.blocks c.ranges.frags c.ranges.frag c.ranges.blocks))

@@ -7,25 +7,32 @@ use Rattle.ffs_counts.proofs.UsedCount.{is_used, groups_begin, groups_end, group
 use Rattle.ffs_counts.proofs.summing.used_count.Goals as goal
 
 pub loop-group-init : goal.loop-group-init
-loop-group-init c = sym (ap (λ j. count_by (is_used c.args.geometry.now.layout (bits_of c.args.used.now)) (range_with_len 0 j)) (groups_begin c.args.geometry.now.layout))
+loop-group-init c = sym (ap
+    (λ j. count_by (is_used c.args.geometry.now.layout (bits_of c.args.used.now)) (range_with_len 0 j))
+    (groups_begin c.args.geometry.now.layout))
 
 pub overflow_add-count : goal.overflow_add-count
 overflow_add-count c =
     let v = c.args.geometry.now.layout in
     omega (
       arith,
-      group_more v (bits_of c.args.used.now) c.loop-group.group c.loop-group.count c.used_in_group-count.result c.args.geometry.now.sound c.loop-group-test.true c.loop-group.invariant c.used_in_group-count.ensures,
+      group_more v (bits_of c.args.used.now) c.loop-group.group c.loop-group.count c.used_in_group-count.result
+          c.args.geometry.now.sound c.loop-group-test.true c.loop-group.invariant c.used_in_group-count.ensures,
       count_few (is_used v (bits_of c.args.used.now)) 0 (min (cgbase v (c.loop-group.group + 1)) v.size),
       c.args.geometry.now.sound.numbers.size_below,
     )
 
 pub loop-group-preserved : goal.loop-group-preserved
 loop-group-preserved c =
-    group_more c.args.geometry.now.layout (bits_of c.args.used.now) c.loop-group.group c.loop-group.count c.used_in_group-count.result c.args.geometry.now.sound c.loop-group-test.true c.loop-group.invariant c.used_in_group-count.ensures
+    group_more c.args.geometry.now.layout (bits_of c.args.used.now) c.loop-group.group c.loop-group.count
+    c.used_in_group-count.result c.args.geometry.now.sound c.loop-group-test.true c.loop-group.invariant
+    c.used_in_group-count.ensures
 
 pub returns : goal.returns
 returns c =
     let v = c.args.geometry.now.layout in
     let all : c.loop-group.group ≡ v.ncg = omega arith in
-    c.loop-group.invariant ∙ ap (λ j. count_by (is_used v (bits_of c.args.used.now)) (range_with_len 0 (min (cgbase v j) v.size))) all
-    ∙ ap (λ j. count_by (is_used v (bits_of c.args.used.now)) (range_with_len 0 j)) (groups_end v c.args.geometry.now.sound)
+    c.loop-group.invariant ∙ ap
+    (λ j. count_by (is_used v (bits_of c.args.used.now)) (range_with_len 0 (min (cgbase v j) v.size))) all
+    ∙ ap (λ j. count_by (is_used v (bits_of c.args.used.now)) (range_with_len 0 j))
+    (groups_end v c.args.geometry.now.sound)

@@ -6,4 +6,5 @@ use Rattle.ffs_counts.proofs.UsedCount.{is_used}
 use Rattle.ffs_counts.proofs.summing.used_count.Given as goal
 
 abbrev pub invariant-loop-group : goal.invariant-loop-group
-invariant-loop-group l = l.count ≡ count_by (is_used l.geometry.layout (bits_of l.used)) (range_with_len 0 (min (cgbase l.geometry.layout l.group) l.geometry.layout.size))
+invariant-loop-group l = l.count ≡ count_by (is_used l.geometry.layout (bits_of l.used))
+    (range_with_len 0 (min (cgbase l.geometry.layout l.group) l.geometry.layout.size))

@@ -11,5 +11,6 @@ loop-filled-preserved g c =
       contents = given.contents ∙ before.contents;
       size = given.size ∙ before.size;
       failures = given.ok ∙ before.failures;
-      bytes = filled_more _ _ _ _ c.loop-filled.buf c.read_some.new.buf before.within given.some.1 before.bytes (λ bytes t. given.bytes bytes (before.contents ∙ t));
+      bytes = filled_more _ _ _ _ c.loop-filled.buf c.read_some.new.buf before.within given.some.1 before.bytes
+          (λ bytes t. given.bytes bytes (before.contents ∙ t));
     }

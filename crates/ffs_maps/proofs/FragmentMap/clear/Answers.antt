@@ -6,5 +6,7 @@ use Rattle.ffs_maps.proofs.FragmentMap.clear.Goals as goal
 pub returns-clause-bits : goal.returns-clause-bits
 returns-clause-bits c =
     let inside : c.args.fragment / 64 < length c.args.self.now.words.items = omega arith in
-    clear_bits c.args.self.now.words.items c.args.self.now.size c.args.fragment c.index-word.result.now c.requires inside
-    (get_or_read c.args.self.now.words.items (c.args.fragment / 64) c.index-word.result.now inside c.index-word.ensures 0)
+    clear_bits c.args.self.now.words.items c.args.self.now.size c.args.fragment c.index-word.result.now c.requires
+    inside
+    (get_or_read c.args.self.now.words.items (c.args.fragment / 64) c.index-word.result.now inside c.index-word.ensures
+    0)

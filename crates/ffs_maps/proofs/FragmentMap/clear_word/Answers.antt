@@ -5,14 +5,16 @@ use Rattle.ffs_maps.proofs.FragmentMap.clear_word.Goals as goal
 
 pub returns-then-index-whole : goal.returns-then-index-whole
 returns-then-index-whole c = λ k h.
-    clear_is c.args.self.now.words.items c.args.self.now.size c.args.index k (slice_index_or c.as_slice-words.result.now c.args.index 0) h
+    clear_is c.args.self.now.words.items c.args.self.now.size c.args.index k
+    (slice_index_or c.as_slice-words.result.now c.args.index 0) h
     (search (rules, arith))
     (ap (λ ws. get_or ws c.args.index 0) c.as_slice-words.ensures.value)
     (omega arith)
 
 pub returns : goal.returns
 returns c = λ k h.
-    clear_in_last c.args.self.now.words.items c.args.self.now.size c.args.index k (slice_index_or c.as_slice-words.result.now c.args.index 0) h
+    clear_in_last c.args.self.now.words.items c.args.self.now.size c.args.index k
+    (slice_index_or c.as_slice-words.result.now c.args.index 0) h
     (search (rules, arith))
     (ap (λ ws. get_or ws c.args.index 0) c.as_slice-words.ensures.value)
     (omega arith)

@@ -10,13 +10,15 @@ overflow_add-count c =
       arith,
       c.loop-word.invariant.count,
       c.count_in_word-count-in-loop-word.ensures,
-      count_few (λ f. slice_index_or (bits_of c.args.self.now) f false) c.args.start (64 * c.loop-word.word - c.args.start),
+      count_few (λ f. slice_index_or (bits_of c.args.self.now) f false) c.args.start
+          (64 * c.loop-word.word - c.args.start),
       count_few (λ f. slice_index_or (bits_of c.args.self.now) f false) (64 * c.loop-word.word) 64,
     )
 
 pub loop-word-preserved : goal.loop-word-preserved
 loop-word-preserved c = record {
-  count = count_join_at (λ f. slice_index_or (bits_of c.args.self.now) f false) c.args.start (64 * c.loop-word.word) (64 * (c.loop-word.word + 1)) 64 _ _ c.loop-word.invariant.above (omega arith)
+  count = count_join_at (λ f. slice_index_or (bits_of c.args.self.now) f false) c.args.start (64 * c.loop-word.word)
+      (64 * (c.loop-word.word + 1)) 64 _ _ c.loop-word.invariant.above (omega arith)
       c.loop-word.invariant.count c.count_in_word-count-in-loop-word.ensures;
   above = omega (arith, c.loop-word.invariant.above);
 }
@@ -29,13 +31,19 @@ overflow_add-count-then-last-end c =
       c.loop-word.invariant.count,
       c.count_in_word-count-then-last-end.ensures,
       last,
-      count_few (λ f. slice_index_or (bits_of c.args.self.now) f false) c.args.start (64 * c.loop-word.word - c.args.start),
-      count_few (λ f. slice_index_or (bits_of c.args.self.now) f false) (64 * (c.args.end / 64)) (c.args.end - 64 * (c.args.end / 64)),
+      count_few (λ f. slice_index_or (bits_of c.args.self.now) f false) c.args.start
+          (64 * c.loop-word.word - c.args.start),
+      count_few (λ f. slice_index_or (bits_of c.args.self.now) f false) (64 * (c.args.end / 64))
+          (c.args.end - 64 * (c.args.end / 64)),
     )
 
 pub returns-then-last-end : goal.returns-then-last-end
 returns-then-last-end c =
     let last : 64 * c.loop-word.word ≡ 64 * (c.args.end / 64) = omega arith in
-    count_join_at (λ f. slice_index_or (bits_of c.args.self.now) f false) c.args.start (64 * (c.args.end / 64)) c.args.end (c.args.end - 64 * (c.args.end / 64)) _ _ (omega (arith, c.loop-word.invariant.above, last)) (omega arith)
-    (c.loop-word.invariant.count ∙ ap (λ j. count_by (λ f. slice_index_or (bits_of c.args.self.now) f false) (range_with_len c.args.start (j - c.args.start))) last)
+    count_join_at (λ f. slice_index_or (bits_of c.args.self.now) f false) c.args.start (64 * (c.args.end / 64))
+    c.args.end (c.args.end - 64 * (c.args.end / 64)) _ _ (omega (arith, c.loop-word.invariant.above, last))
+    (omega arith)
+    (c.loop-word.invariant.count
+    ∙ ap (λ j. count_by (λ f. slice_index_or (bits_of c.args.self.now) f false)
+    (range_with_len c.args.start (j - c.args.start))) last)
     c.count_in_word-count-then-last-end.ensures

@@ -7,4 +7,5 @@ pub returns-clause-bits : goal.returns-clause-bits
 returns-clause-bits c =
     let inside : c.args.fragment / 64 < length c.args.self.now.words.items = omega arith in
     set_bits c.args.self.now.words.items c.args.self.now.size c.args.fragment c.index-word.result.now c.requires inside
-    (get_or_read c.args.self.now.words.items (c.args.fragment / 64) c.index-word.result.now inside c.index-word.ensures 0)
+    (get_or_read c.args.self.now.words.items (c.args.fragment / 64) c.index-word.result.now inside c.index-word.ensures
+    0)

@@ -5,5 +5,6 @@ use Rattle.ffs_maps.proofs.FragmentMap.set_run.Given as goal
 abbrev pub invariant-loop-place : goal.invariant-loop-place
 invariant-loop-place l = record {
   size : l.self.size ≡ l.initial.self.size;
-  bits : set_run (bits_of l.initial.self) l.start l.len ≡ set_run (bits_of l.self) (l.start + l.place) (l.len - l.place);
+  bits : set_run (bits_of l.initial.self) l.start l.len ≡ set_run (bits_of l.self) (l.start + l.place)
+      (l.len - l.place);
 }

@@ -36,9 +36,11 @@ steps-preserved-in-Some-Run g c =
       ready = walk_on _ _ _ _ _ _ inv.ready inv.kept.geometry (ap (λ d. d.size) c.in_ok-next.ensures.read)
           c.next.ensures.kept.size c.next.ensures.kept.holds;
       gap = λ b t. inv.gap b t
-          ∙ (sym (gap_to_run s.walk.geometry.layout w.geometry.layout s.keeping.cut (replay_in s.keeping) false r.start r.len r._block (rest b s.walk) (rest b w)
+          ∙ (sym (gap_to_run s.walk.geometry.layout w.geometry.layout s.keeping.cut (replay_in s.keeping) false r.start
+          r.len r._block (rest b s.walk) (rest b w)
           (ap (λ x. x.layout) c.next.ensures.same.geometry) (read b (ap (λ d. d.contents) inv.same ∙ t)))
-          ∙ sym (gap_past_run w.geometry.layout s.keeping.cut c.take-kept.new.self.cut (replay_in s.keeping) (replay_in c.take-kept.new.self) (rest b w) r.start r.len r._block false
+          ∙ sym (gap_past_run w.geometry.layout s.keeping.cut c.take-kept.new.self.cut (replay_in s.keeping)
+          (replay_in c.take-kept.new.self) (rest b w) r.start r.len r._block false
           (c.take-kept.ensures.after w.geometry.layout r.start r._block c.in_range-in_range.ensures)
           c.take-kept.ensures.cut));
     }
@@ -62,7 +64,8 @@ steps-preserved g c =
       ready = walk_on _ _ _ _ _ _ inv.ready inv.kept.geometry (ap (λ d. d.size) c.in_ok-next.ensures.read)
           c.next.ensures.kept.size c.next.ensures.kept.holds;
       gap = λ b t. inv.gap b t
-          ∙ sym (gap_over_tail s.walk.geometry.layout w.geometry.layout s.keeping.cut (replay_in s.keeping) false (rest b s.walk) (rest b w)
+          ∙ sym (gap_over_tail s.walk.geometry.layout w.geometry.layout s.keeping.cut (replay_in s.keeping) false
+          (rest b s.walk) (rest b w)
           (ap (λ x. x.layout) c.next.ensures.same.geometry) (read b (ap (λ d. d.contents) inv.same ∙ t)));
     }
 
@@ -72,7 +75,8 @@ returns-in-Some-Gap-clause-gap g c = λ b t.
     let s = c.steps.chunks in
     let r = c.in-Some-Gap in
     let read = rw r.field-0-is at (rw r.is at c.in_ok-next.ensures.steps) in
-    gap_seen s.walk.geometry.layout s.walk.geometry.layout s.keeping.cut (replay_in s.keeping) false (rest b s.walk) (rest b c.next.new.self)
+    gap_seen s.walk.geometry.layout s.walk.geometry.layout s.keeping.cut (replay_in s.keeping) false (rest b s.walk)
+    (rest b c.next.new.self)
     (sym c.is_replay_open.ensures ∙ c.steps-test.true) (read b (ap (λ d. d.contents) inv.same ∙ t))
     ∙ (sym (inv.gap b t) ∙ sym (ap (λ x. x || gap_left b c.args.chunks.now) c.if-chunks.false))
 
@@ -81,4 +85,5 @@ returns-clause-gap g c = λ b t.
     let inv = c.steps.invariant in
     let s = c.steps.chunks in
     sym (ap (λ x. x || gap_left b c.args.chunks.now) c.if-chunks.false
-    ∙ (inv.gap b t ∙ gap_unseen s.walk.geometry.layout s.keeping.cut (replay_in s.keeping) (rest b s.walk) (sym c.is_replay_open.ensures ∙ c.steps-test.false)))
+    ∙ (inv.gap b t ∙ gap_unseen s.walk.geometry.layout s.keeping.cut (replay_in s.keeping) (rest b s.walk)
+    (sym c.is_replay_open.ensures ∙ c.steps-test.false)))

@@ -2,7 +2,8 @@ use Rattle.std.proofs.Common.{◌∙◌, ap, sym, rules, arith}
 use Rattle.std.specs.Prelude.{slice_index}
 use Rattle.std.proofs.lemmas.List.{with_items_is}
 use Rattle.ffs_volume.proofs.Sizes.{some_inodes}
-use Rattle.ffs_names.proofs.SurveyHolds.{on_ok, volume_in, blocks_in, volume_survey, holds_survey, volume_calm, holds_calm}
+use Rattle.ffs_names.proofs.SurveyHolds.{on_ok, volume_in, blocks_in, volume_survey, holds_survey, volume_calm}
+use Rattle.ffs_names.proofs.SurveyHolds.{holds_calm}
 use Rattle.ffs_names.proofs.graph.survey.Goals as goal
 
 pub returns-clause-read : goal.returns-clause-read
@@ -46,7 +47,8 @@ returns-clause-survey g c = on_ok c.survey.result _ _ (λ s b t h.
     }) b c.deref-3.result.now n.references n.named n.reached n.parents (search rules)
     (λ x. ap (λ ks. slice_index ks x) c.deref-3.ensures.value ∙ h.kinds x) found in
     holds_survey c.args.geometry.now.layout b _ n.references n.named n.reached n.parents
-    (with_items_is w.references n.references (search rules)) (with_items_is w.named n.named (search rules)) (with_items_is w.reached n.reached (search rules)) (with_items_is w.parents n.parents (search rules)) survey)
+    (with_items_is w.references n.references (search rules)) (with_items_is w.named n.named (search rules))
+    (with_items_is w.reached n.reached (search rules)) (with_items_is w.parents n.parents (search rules)) survey)
     c.survey.ensures.survey
 
 pub returns-clause-calm : goal.returns-clause-calm
@@ -68,12 +70,14 @@ returns-clause-calm g c = on_ok c.survey.result _ _ (λ s b t h.
     }) b c.deref-3.result.now c.deref-4.result.now n.reached n.parents n.calm found in
     holds_calm c.args.geometry.now.layout b _ c.deref-3.result.now c.deref-4.result.now n.reached n.parents n.calm
     (sym c.deref-3.ensures.value) (sym c.deref-4.ensures.value)
-    (with_items_is w.reached n.reached (search rules)) (with_items_is w.parents n.parents (search rules)) (with_items_is w.leaders n.calm (search rules)) calm)
+    (with_items_is w.reached n.reached (search rules)) (with_items_is w.parents n.parents (search rules))
+    (with_items_is w.leaders n.calm (search rules)) calm)
     c.survey.ensures.calm
 
 pub survey-requires-clause-lists : goal.survey-requires-clause-lists
 survey-requires-clause-lists g c = record {
-  some = let k = some_inodes c.args.geometry.now.layout c.args.geometry.now.sound in omega (arith, c.deref-3.ensures.len, c.requires.made.kinds, k);
+  some = let k = some_inodes c.args.geometry.now.layout c.args.geometry.now.sound in
+      omega (arith, c.deref-3.ensures.len, c.requires.made.kinds, k);
   few = search (rules, arith);
   marked = search (rules, arith);
   references = search (rules, arith);

@@ -32,10 +32,15 @@ chunks-init g c =
     let here = c.path_to.new.workspace in
     let m = marks_of c.args.workspace.now in
     let same = marks_on c.args.workspace.now here ok.lists in
-    let all = λ (b : List ℕ). map of_names (entries_reported (volume_of v b) c.args.dir m (roled_entries (volume_of v b) c.args.dir)) in
-    let seen = λ (b : List ℕ) (k : DirectoryContext v (g.I.Image.device c.args.image.now).contents c.args.workspace.now c.args.dir b × (c.args.inode.now ≡ inode_of v b c.args.dir)).
-    all_read v b c.args.dir c.args.inode.now c.index-cut.result.now (rest b c.start-chunks.result) c.args.geometry.now.sound k.0.dir k.1
-    (get_or_read_under here.cut.items c.args.dir _ c.index-cut.result.now 0 c.index-cut.ensures (subst (λ n. c.args.dir < n) (sym ok.ready.made.cut) c.requires.dir)
+    let all = λ (b : List ℕ). map of_names
+    (entries_reported (volume_of v b) c.args.dir m (roled_entries (volume_of v b) c.args.dir)) in
+    let seen = λ (b : List ℕ)
+    (k : DirectoryContext v (g.I.Image.device c.args.image.now).contents c.args.workspace.now c.args.dir b
+    × (c.args.inode.now ≡ inode_of v b c.args.dir)).
+    all_read v b c.args.dir c.args.inode.now c.index-cut.result.now (rest b c.start-chunks.result)
+    c.args.geometry.now.sound k.0.dir k.1
+    (get_or_read_under here.cut.items c.args.dir _ c.index-cut.result.now 0 c.index-cut.ensures
+    (subst (λ n. c.args.dir < n) (sym ok.ready.made.cut) c.requires.dir)
     here.cut.ok.0 ∙ (claims_left v b c.args.workspace.now here (windows_leave _ _ ok.lists) k.0.claims).cut c.args.dir)
     (c.start-chunks.ensures.begins.chunks b) in
     record {
@@ -43,9 +48,13 @@ chunks-init g c =
       device = ok.read;
       geometry = c.start-chunks.ensures.geometry;
       survey = windows_leave _ _ ok.lists;
-      marks = λ b k. ap (λ q. after_entries (volume_of v b) c.args.dir q (roled_entries (volume_of v b) c.args.dir)) same ∙ ap (after_entries (volume_of v b) c.args.dir (marks_of here)) (sym (seen b k));
-      said = of_same _ all (λ (b : List ℕ). map of_names (entries_reported (volume_of v b) c.args.dir (marks_of here) (flat_map roled_chunk (rest b c.start-chunks.result)))) all _ _ (of_begins _ all _)
-          (λ b k. ap (λ q. map of_names (entries_reported (volume_of v b) c.args.dir q (roled_entries (volume_of v b) c.args.dir))) same
+      marks = λ b k. ap (λ q. after_entries (volume_of v b) c.args.dir q (roled_entries (volume_of v b) c.args.dir))
+          same ∙ ap (after_entries (volume_of v b) c.args.dir (marks_of here)) (sym (seen b k));
+      said = of_same _ all (λ (b : List ℕ). map of_names
+          (entries_reported (volume_of v b) c.args.dir (marks_of here)
+          (flat_map roled_chunk (rest b c.start-chunks.result)))) all _ _ (of_begins _ all _)
+          (λ b k. ap (λ q. map of_names
+          (entries_reported (volume_of v b) c.args.dir q (roled_entries (volume_of v b) c.args.dir))) same
           ∙ ap (λ es. map of_names (entries_reported (volume_of v b) c.args.dir (marks_of here) es)) (sym (seen b k)));
     }
 
@@ -62,7 +71,8 @@ returns-in_err-offset-clause-leaves g c =
     rw (p.1, p.2) (record {
       image = subst (λ d. Faulted d (g.I.Image.device c.next.new.image) c.in_err-offset.field-0.0.sector) inv.device
           read.read;
-      survey = leaves_more _ _ _ inv.survey (windows_leave c.chunks.workspace (with_chunk c.chunks.workspace c.next.new.blocks c.next.new.data) refl);
+      survey = leaves_more _ _ _ inv.survey
+          (windows_leave c.chunks.workspace (with_chunk c.chunks.workspace c.next.new.blocks c.next.new.data) refl);
       ready = ready_read _ _ _ c.chunks.workspace _ _ inv.ready.ready read.read.contents
           (rw inv.geometry at read.ready);
     })
@@ -82,7 +92,8 @@ returns-clause-leaves g c =
     let read = c.in_ok-offset.ensures in
     record {
       image = read.read ∙ inv.device;
-      survey = leaves_more _ _ _ inv.survey (windows_leave c.chunks.workspace (with_chunk c.chunks.workspace c.next.new.blocks c.next.new.data) refl);
+      survey = leaves_more _ _ _ inv.survey
+          (windows_leave c.chunks.workspace (with_chunk c.chunks.workspace c.next.new.blocks c.next.new.data) refl);
       ready = ready_next _ _ _ c.chunks.workspace _ _ _ inv.ready read.read (rw inv.geometry at read.ready);
     }
 
@@ -96,13 +107,18 @@ chunks-preserved g c =
     let m' = marks_of c.report_chunk.new.workspace in
     let same = ok.leaves.image ∙ (read.read ∙ inv.device) in
     let between = with_chunk c.chunks.workspace c.next.new.blocks c.next.new.data in
-    let kept : LeavesSurvey c.args.workspace.now between = leaves_more _ _ _ inv.survey (windows_leave c.chunks.workspace between refl) in
-    let know = λ (b : List ℕ) (k : DirectoryContext v (g.I.Image.device c.args.image.now).contents c.args.workspace.now c.args.dir b × (c.args.inode.now ≡ inode_of v b c.args.dir)).
+    let kept : LeavesSurvey c.args.workspace.now between =
+    leaves_more _ _ _ inv.survey (windows_leave c.chunks.workspace between refl) in
+    let know = λ (b : List ℕ)
+    (k : DirectoryContext v (g.I.Image.device c.args.image.now).contents c.args.workspace.now c.args.dir b
+    × (c.args.inode.now ≡ inode_of v b c.args.dir)).
     knows_on v (g.I.Image.device c.args.image.now).contents (g.I.Image.device c.next.new.image).contents
     c.args.workspace.now between c.args.dir b (ap (λ d. d.contents) (read.read ∙ inv.device)) kept k.0 in
     let here : Chunk = chunk_of v.order c.in-Some.offset c.next.new.chunk in
     let came = rw c.in-Some.is at read.chunk in
-    let next = λ (b : List ℕ) (k : DirectoryContext v (g.I.Image.device c.args.image.now).contents c.args.workspace.now c.args.dir b × (c.args.inode.now ≡ inode_of v b c.args.dir)).
+    let next = λ (b : List ℕ)
+    (k : DirectoryContext v (g.I.Image.device c.args.image.now).contents c.args.workspace.now c.args.dir b
+    × (c.args.inode.now ≡ inode_of v b c.args.dir)).
     (came b (ap (λ d. d.contents) inv.device ∙ k.0.reported_is)).chunks ∙ ap
     (λ q. chunk_of q.layout.order c.in-Some.offset c.next.new.chunk ∷ rest b c.next.new.self) inv.geometry in
     record {
@@ -110,12 +126,18 @@ chunks-preserved g c =
       device = same;
       geometry = read.geometry ∙ inv.geometry;
       survey = leaves_more _ _ _ kept ok.leaves.survey;
-      marks = λ b k. chunk_passed (volume_of v b) c.args.dir _ m m' here (rest b c.chunks.chunks) (rest b c.next.new.self) (next b k) (ok.marks b (know b k)) (inv.marks b k);
-      said = of_part _ (λ (b : List ℕ). map of_names (entries_reported (volume_of v b) c.args.dir m (flat_map roled_chunk (rest b c.chunks.chunks))))
+      marks = λ b k. chunk_passed (volume_of v b) c.args.dir _ m m' here (rest b c.chunks.chunks)
+          (rest b c.next.new.self) (next b k) (ok.marks b (know b k)) (inv.marks b k);
+      said = of_part _ (λ (b : List ℕ). map of_names
+          (entries_reported (volume_of v b) c.args.dir m (flat_map roled_chunk (rest b c.chunks.chunks))))
           (λ (b : List ℕ). map of_names (entries_reported (volume_of v b) c.args.dir m (roled_chunk here)))
-          (λ (b : List ℕ). map of_names (entries_reported (volume_of v b) c.args.dir m' (flat_map roled_chunk (rest b c.next.new.self)))) _ _ _ _ inv.said
-          (λ b k. chunk_reported (volume_of v b) c.args.dir m m' here (rest b c.chunks.chunks) (rest b c.next.new.self) (next b k) (ok.marks b (know b k)))
-          (said_knows _ _ _ _ _ _ (λ b k. record { knows = know b k; path = c.in_ok-path.ensures.path b k.0.reported_is k.0.claims k.0.survey }) ok.text);
+          (λ (b : List ℕ). map of_names
+          (entries_reported (volume_of v b) c.args.dir m' (flat_map roled_chunk (rest b c.next.new.self)))) _ _ _ _
+          inv.said
+          (λ b k. chunk_reported (volume_of v b) c.args.dir m m' here (rest b c.chunks.chunks) (rest b c.next.new.self)
+          (next b k) (ok.marks b (know b k)))
+          (said_knows _ _ _ _ _ _ (λ b k. record
+          { knows = know b k; path = c.in_ok-path.ensures.path b k.0.reported_is k.0.claims k.0.survey }) ok.text);
     }
 
 pub returns-in_err-report_chunk-clause-text : goal.returns-in_err-report_chunk-clause-text
@@ -125,30 +147,44 @@ returns-in_err-report_chunk-clause-text g c =
     let read = c.in_ok-offset.ensures in
     let m = marks_of c.chunks.workspace in
     let between = with_chunk c.chunks.workspace c.next.new.blocks c.next.new.data in
-    let kept : LeavesSurvey c.args.workspace.now between = leaves_more _ _ _ inv.survey (windows_leave c.chunks.workspace between refl) in
-    let know = λ (b : List ℕ) (k : DirectoryContext v (g.I.Image.device c.args.image.now).contents c.args.workspace.now c.args.dir b × (c.args.inode.now ≡ inode_of v b c.args.dir)).
+    let kept : LeavesSurvey c.args.workspace.now between =
+    leaves_more _ _ _ inv.survey (windows_leave c.chunks.workspace between refl) in
+    let know = λ (b : List ℕ)
+    (k : DirectoryContext v (g.I.Image.device c.args.image.now).contents c.args.workspace.now c.args.dir b
+    × (c.args.inode.now ≡ inode_of v b c.args.dir)).
     knows_on v (g.I.Image.device c.args.image.now).contents (g.I.Image.device c.next.new.image).contents
     c.args.workspace.now between c.args.dir b (ap (λ d. d.contents) (read.read ∙ inv.device)) kept k.0 in
     let here : Chunk = chunk_of v.order c.in-Some.offset c.next.new.chunk in
     let came = rw c.in-Some.is at read.chunk in
-    let next = λ (b : List ℕ) (k : DirectoryContext v (g.I.Image.device c.args.image.now).contents c.args.workspace.now c.args.dir b × (c.args.inode.now ≡ inode_of v b c.args.dir)).
+    let next = λ (b : List ℕ)
+    (k : DirectoryContext v (g.I.Image.device c.args.image.now).contents c.args.workspace.now c.args.dir b
+    × (c.args.inode.now ≡ inode_of v b c.args.dir)).
     (came b (ap (λ d. d.contents) inv.device ∙ k.0.reported_is)).chunks ∙ ap
     (λ q. chunk_of q.layout.order c.in-Some.offset c.next.new.chunk ∷ rest b c.next.new.self) inv.geometry in
-    let p = err_from_is_err_and c.from_residual-in_err-report_chunk.result c.from_residual-in_err-report_chunk.ensures.1 in
-    rw (p.1, p.2) (of_fault (Unit {0}) (Unit {0}) _ (λ (b : List ℕ). map of_names (entries_reported (volume_of v b) c.args.dir m (flat_map roled_chunk (rest b c.chunks.chunks))))
+    let p = err_from_is_err_and c.from_residual-in_err-report_chunk.result
+    c.from_residual-in_err-report_chunk.ensures.1 in
+    rw (p.1, p.2) (of_fault (Unit {0}) (Unit {0}) _
+    (λ (b : List ℕ). map of_names
+    (entries_reported (volume_of v b) c.args.dir m (flat_map roled_chunk (rest b c.chunks.chunks))))
     (λ (b : List ℕ). map of_names (entries_reported (volume_of v b) c.args.dir m (roled_chunk here)))
-    (λ (b : List ℕ). map of_names (entries_reported (volume_of v b) c.args.dir (after_entries (volume_of v b) c.args.dir m (roled_chunk here)) (flat_map roled_chunk (rest b c.next.new.self)))) _ _ _ _
+    (λ (b : List ℕ). map of_names
+    (entries_reported (volume_of v b) c.args.dir (after_entries (volume_of v b) c.args.dir m (roled_chunk here))
+    (flat_map roled_chunk (rest b c.next.new.self)))) _ _ _ _
     c.in_err-report_chunk.field-0.0 inv.said
-    (λ b k. chunk_reported (volume_of v b) c.args.dir m (after_entries (volume_of v b) c.args.dir m (roled_chunk here)) here (rest b c.chunks.chunks) (rest b c.next.new.self) (next b k) refl)
+    (λ b k. chunk_reported (volume_of v b) c.args.dir m (after_entries (volume_of v b) c.args.dir m (roled_chunk here))
+    here (rest b c.chunks.chunks) (rest b c.next.new.self) (next b k) refl)
     (reports_knowing (Unit {0}) _ _ _ _ _ (Err c.in_err-report_chunk.field-0.0)
-    (λ b k. record { knows = know b k; path = c.in_ok-path.ensures.path b k.0.reported_is k.0.claims k.0.survey }) c.in_err-report_chunk.ensures.text))
+    (λ b k. record { knows = know b k; path = c.in_ok-path.ensures.path b k.0.reported_is k.0.claims k.0.survey })
+    c.in_err-report_chunk.ensures.text))
 
 pub returns-in_err-report_chunk-clause-leaves : goal.returns-in_err-report_chunk-clause-leaves
 returns-in_err-report_chunk-clause-leaves g c =
     let inv = c.chunks.invariant in
     let left = c.in_err-report_chunk.ensures.leaves in
-    let kept = leaves_more _ _ _ inv.survey (windows_leave c.chunks.workspace (with_chunk c.chunks.workspace c.next.new.blocks c.next.new.data) refl) in
-    let p = err_from_is_err_and c.from_residual-in_err-report_chunk.result c.from_residual-in_err-report_chunk.ensures.1 in
+    let kept = leaves_more _ _ _ inv.survey
+    (windows_leave c.chunks.workspace (with_chunk c.chunks.workspace c.next.new.blocks c.next.new.data) refl) in
+    let p = err_from_is_err_and c.from_residual-in_err-report_chunk.result
+    c.from_residual-in_err-report_chunk.ensures.1 in
     rw (p.1, p.2) (record {
       image = subst (λ d. ImageAfter {T = Unit {0}} d (g.I.Image.device c.report_chunk.new.image)
           (Err c.in_err-report_chunk.field-0.0)) (c.in_ok-offset.ensures.read ∙ inv.device) left.image;
@@ -162,7 +198,9 @@ returns-clause-text g c =
     let inv = c.chunks.invariant in
     let m = marks_of c.chunks.workspace in
     let came = rw c.in_default.is at c.in_ok-offset.ensures.chunk in
-    of_same _ (λ (b : List ℕ). map of_names (entries_reported (volume_of v b) c.args.dir m (flat_map roled_chunk (rest b c.chunks.chunks)))) (λ b. []) _ _ _ inv.said
+    of_same _ (λ (b : List ℕ). map of_names
+    (entries_reported (volume_of v b) c.args.dir m (flat_map roled_chunk (rest b c.chunks.chunks)))) (λ b. []) _ _ _
+    inv.said
     (λ b k. ap (λ cs. map of_names (entries_reported (volume_of v b) c.args.dir m (flat_map roled_chunk cs)))
     (came b (ap (λ d. d.contents) inv.device ∙ k.0.reported_is)).chunks.0)
 

@@ -21,12 +21,16 @@ invariant-chunks g l = let reported_by = g.I.Image.device in let v = l.geometry.
   device : reported_by l.image ≡ reported_by l.fn.image;
   geometry : l.chunks.walk.geometry ≡ l.geometry;
   survey : LeavesSurvey l.fn.workspace l.workspace;
-  marks : ForBytes (λ b. DirectoryContext v (reported_by l.fn.image).contents l.fn.workspace l.dir b × (l.inode ≡ inode_of v b l.dir)) (λ b.
+  marks : ForBytes (λ b. DirectoryContext v (reported_by l.fn.image).contents l.fn.workspace l.dir b
+      × (l.inode ≡ inode_of v b l.dir)) (λ b.
       after_entries (volume_of v b) l.dir (marks_of l.fn.workspace) (roled_entries (volume_of v b) l.dir)
       ≡ after_entries (volume_of v b) l.dir (marks_of l.workspace) (flat_map roled_chunk (rest b l.chunks)));
-  said : SaidOf (λ b. DirectoryContext v (reported_by l.fn.image).contents l.fn.workspace l.dir b × (l.inode ≡ inode_of v b l.dir))
-      (λ b. map of_names (entries_reported (volume_of v b) l.dir (marks_of l.workspace) (flat_map roled_chunk (rest b l.chunks))))
-      (λ b. map of_names (entries_reported (volume_of v b) l.dir (marks_of l.fn.workspace) (roled_entries (volume_of v b) l.dir)))
+  said : SaidOf (λ b. DirectoryContext v (reported_by l.fn.image).contents l.fn.workspace l.dir b
+      × (l.inode ≡ inode_of v b l.dir))
+      (λ b. map of_names (entries_reported (volume_of v b) l.dir (marks_of l.workspace)
+      (flat_map roled_chunk (rest b l.chunks))))
+      (λ b. map of_names (entries_reported (volume_of v b) l.dir (marks_of l.fn.workspace)
+      (roled_entries (volume_of v b) l.dir)))
       (progress g.W.Output.sink l.fn.report) (progress g.W.Output.sink l.report);
 }
 

@@ -14,7 +14,8 @@ report_header-requires-clause-ready g c =
     let examined = c.in_ok-examined.ensures in
     record {
       ready = examined.ready;
-      siblings = siblings_on _ _ _ _ _ _ (ap (λ d. d.contents) examined.read) examined.lists.survey c.requires.ready.siblings;
+      siblings = siblings_on _ _ _ _ _ _ (ap (λ d. d.contents) examined.read) examined.lists.survey
+          c.requires.ready.siblings;
     }
 
 pub returns-in_err-examined-clause-text : goal.returns-in_err-examined-clause-text
@@ -24,16 +25,21 @@ returns-in_err-examined-clause-text g c =
 
 pub returns-in_err-report_header-clause-text : goal.returns-in_err-report_header-clause-text
 returns-in_err-report_header-clause-text g c =
-    let p = err_from_is_err_and c.from_residual-in_err-report_header.result c.from_residual-in_err-report_header.ensures.1 in
+    let p = err_from_is_err_and c.from_residual-in_err-report_header.result
+    c.from_residual-in_err-report_header.ensures.1 in
     let v = c.args.geometry.now.layout in
     rw (p.1, p.2) (fault_same (Unit {0}) DirectorySummary _ _ _ _ _ _ c.in_err-report_header.field-0.0
     (λ b k. (
-      knows_on v _ _ c.args.workspace.now c.examine.new.workspace c.args.dir b (ap (λ d. d.contents) c.in_ok-examined.ensures.read) c.in_ok-examined.ensures.lists.survey k,
+      knows_on v _ _ c.args.workspace.now c.examine.new.workspace c.args.dir b
+          (ap (λ d. d.contents) c.in_ok-examined.ensures.read) c.in_ok-examined.ensures.lists.survey k,
       ap (λ i. i.size) (c.in_ok-examined.ensures.found b k.reported_is k.claims k.survey k.dir).inode,
     ))
-    (λ b k. ap (map of_names) (starts_are v b c.args.dir c.args.workspace.now c.examine.new.workspace c.in_ok-examined.examined c.examine.new.start _ _ _
+    (λ b k. ap (map of_names)
+    (starts_are v b c.args.dir c.args.workspace.now c.examine.new.workspace c.in_ok-examined.examined
+    c.examine.new.start _ _ _
     (c.in_ok-examined.ensures.found b k.reported_is k.claims k.survey k.dir)
-    (c.parent_of-parent.ensures v b (survey_left v b c.args.workspace.now c.examine.new.workspace c.in_ok-examined.ensures.lists.survey k.survey))
+    (c.parent_of-parent.ensures v b
+    (survey_left v b c.args.workspace.now c.examine.new.workspace c.in_ok-examined.ensures.lists.survey k.survey))
     c.first_two.ensures.first c.first_two.ensures.second))
     c.in_err-report_header.ensures.text)
 
@@ -42,16 +48,22 @@ returns-clause-text g c =
     let v = c.args.geometry.now.layout in
     said_same _ _ _ _ _ _
     (λ b k. (
-      knows_on v _ _ c.args.workspace.now c.examine.new.workspace c.args.dir b (ap (λ d. d.contents) c.in_ok-examined.ensures.read) c.in_ok-examined.ensures.lists.survey k,
+      knows_on v _ _ c.args.workspace.now c.examine.new.workspace c.args.dir b
+          (ap (λ d. d.contents) c.in_ok-examined.ensures.read) c.in_ok-examined.ensures.lists.survey k,
       ap (λ i. i.size) (c.in_ok-examined.ensures.found b k.reported_is k.claims k.survey k.dir).inode,
     ))
-    (λ b k. ap (map of_names) (starts_are v b c.args.dir c.args.workspace.now c.examine.new.workspace c.in_ok-examined.examined c.examine.new.start _ _ _
+    (λ b k. ap (map of_names)
+    (starts_are v b c.args.dir c.args.workspace.now c.examine.new.workspace c.in_ok-examined.examined
+    c.examine.new.start _ _ _
     (c.in_ok-examined.ensures.found b k.reported_is k.claims k.survey k.dir)
-    (c.parent_of-parent.ensures v b (survey_left v b c.args.workspace.now c.examine.new.workspace c.in_ok-examined.ensures.lists.survey k.survey))
+    (c.parent_of-parent.ensures v b
+    (survey_left v b c.args.workspace.now c.examine.new.workspace c.in_ok-examined.ensures.lists.survey k.survey))
     c.first_two.ensures.first c.first_two.ensures.second))
     c.in_ok-report_header.ensures.text
 
 pub returns-clause-begun : goal.returns-clause-begun
 returns-clause-begun g c = λ b k.
-    begun_is c.args.geometry.now.layout b c.args.dir c.args.workspace.now c.examine.new.workspace _ c.in_ok-examined.examined c.examine.new.start
-    (c.in_ok-examined.ensures.found b k.reported_is k.claims k.survey k.dir) c.in_ok-examined.ensures.lists c.in_ok-report_header.ensures.leaves.lists
+    begun_is c.args.geometry.now.layout b c.args.dir c.args.workspace.now c.examine.new.workspace _
+    c.in_ok-examined.examined c.examine.new.start
+    (c.in_ok-examined.ensures.found b k.reported_is k.claims k.survey k.dir) c.in_ok-examined.ensures.lists
+    c.in_ok-report_header.ensures.leaves.lists

@@ -9,7 +9,8 @@ use Rattle.ffs_pathnames.specs.declared.examine.DirectorySummary.{DirectorySumma
 use Rattle.ffs_pathnames.specs.Begins.{dir_starts}
 use Rattle.ffs_pathnames.specs.Gathers.{marks_of}
 use Rattle.ffs_pathnames.specs.Marks.{entries_reported}
-use Rattle.ffs_pathnames.proofs.Begun.{said_same, directory_is, lines_parts, quiet_parts, reported_parts, quiet_after, reported_after, on_ok}
+use Rattle.ffs_pathnames.proofs.Begun.{said_same, directory_is, lines_parts, quiet_parts, reported_parts, quiet_after}
+use Rattle.ffs_pathnames.proofs.Begun.{reported_after, on_ok}
 use Rattle.ffs_pathnames.proofs.Passing.{knows_on}
 use Rattle.ffs_pathnames.proofs.check.check_directory.Goals as goal
 
@@ -18,39 +19,49 @@ returns-in_err-examined-clause-text g c =
     let p = err_from_is_err_and c.from_residual.result c.from_residual.ensures.1 in
     let v = c.args.geometry.now.layout in
     let all = λ (b : List ℕ). map of_names (dir_lines (volume_of v b) c.args.dir) in
-    rw (p.1, p.2) (of_fault DirectorySummary (Unit {0}) _ all (λ b. map of_names (dir_starts (volume_of v b) c.args.dir))
-    (λ b. map of_names (lines_of_entries (volume_of v b) c.args.dir 0 (roled_entries (volume_of v b) c.args.dir))) all _ _ _ c.in_err-examined.field-0.0 (of_begins _ all _)
-    (λ b k. lines_parts (volume_of v b) c.args.dir (lines_of_entries (volume_of v b) c.args.dir 0 (roled_entries (volume_of v b) c.args.dir)) refl)
-    (reports_knowing DirectorySummary _ _ _ _ _ (Err c.in_err-examined.field-0.0) (λ b k. k.0) c.in_err-examined.ensures.text))
+    rw (p.1, p.2) (of_fault DirectorySummary (Unit {0}) _ all
+    (λ b. map of_names (dir_starts (volume_of v b) c.args.dir))
+    (λ b. map of_names (lines_of_entries (volume_of v b) c.args.dir 0 (roled_entries (volume_of v b) c.args.dir))) all _
+    _ _ c.in_err-examined.field-0.0 (of_begins _ all _)
+    (λ b k. lines_parts (volume_of v b) c.args.dir
+    (lines_of_entries (volume_of v b) c.args.dir 0 (roled_entries (volume_of v b) c.args.dir)) refl)
+    (reports_knowing DirectorySummary _ _ _ _ _ (Err c.in_err-examined.field-0.0) (λ b k. k.0)
+    c.in_err-examined.ensures.text))
 
 pub returns-then-examined-clause-text : goal.returns-then-examined-clause-text
 returns-then-examined-clause-text g c =
     let v = c.args.geometry.now.layout in
     said_same _ _ _ _ _ _ (λ b k. k.0)
-    (λ b k. quiet_parts (volume_of v b) c.args.dir (marks_of c.args.workspace.now) (directory_is (volume_of v b) c.args.dir c.requires.dir k.0.dir) k.1
+    (λ b k. quiet_parts (volume_of v b) c.args.dir (marks_of c.args.workspace.now)
+    (directory_is (volume_of v b) c.args.dir c.requires.dir k.0.dir) k.1
     (sym (c.in_ok-examined.ensures.begun b k.0).quiet ∙ c.if-examined.true))
     c.in_ok-examined.ensures.text
 
 pub returns-then-examined-clause-marks : goal.returns-then-examined-clause-marks
 returns-then-examined-clause-marks g c = λ b k.
     let v = c.args.geometry.now.layout in
-    quiet_after (volume_of v b) c.args.dir (marks_of c.args.workspace.now) (marks_of c.begin_directory.new.workspace) (directory_is (volume_of v b) c.args.dir c.requires.dir k.0.dir) k.1
+    quiet_after (volume_of v b) c.args.dir (marks_of c.args.workspace.now) (marks_of c.begin_directory.new.workspace)
+    (directory_is (volume_of v b) c.args.dir c.requires.dir k.0.dir) k.1
     (sym (c.in_ok-examined.ensures.begun b k.0).quiet ∙ c.if-examined.true) (c.in_ok-examined.ensures.begun b k.0).marks
 
 pub returns-clause-text : goal.returns-clause-text
 returns-clause-text g c =
     let v = c.args.geometry.now.layout in
     let all = λ (b : List ℕ). map of_names (dir_lines (volume_of v b) c.args.dir) in
-    let rest = λ (b : List ℕ). map of_names (entries_reported (volume_of v b) c.args.dir (marks_of c.begin_directory.new.workspace) (roled_entries (volume_of v b) c.args.dir)) in
+    let rest = λ (b : List ℕ). map of_names
+    (entries_reported (volume_of v b) c.args.dir (marks_of c.begin_directory.new.workspace)
+    (roled_entries (volume_of v b) c.args.dir)) in
     of_last _ _ rest rest all _ _ _ c.report_directory.result
     (of_part _ all (λ b. map of_names (dir_starts (volume_of v b) c.args.dir)) rest all _ _ _ (of_begins _ all _)
-    (λ b k. reported_parts (volume_of v b) c.args.dir (marks_of c.args.workspace.now) (marks_of c.begin_directory.new.workspace)
+    (λ b k. reported_parts (volume_of v b) c.args.dir (marks_of c.args.workspace.now)
+    (marks_of c.begin_directory.new.workspace)
     (directory_is (volume_of v b) c.args.dir c.requires.dir k.0.dir) k.1 (c.in_ok-examined.ensures.begun b k.0).marks)
     (said_knows _ _ _ _ _ _ (λ b k. k.0) c.in_ok-examined.ensures.text))
     (λ b k. refl)
     (reports_knowing _ _ _ _ _ _ c.report_directory.result
     (λ b k. (
-      knows_on v _ _ c.args.workspace.now c.begin_directory.new.workspace c.args.dir b (ap (λ d. d.contents) c.in_ok-examined.ensures.leaves.image) c.in_ok-examined.ensures.leaves.survey k.0,
+      knows_on v _ _ c.args.workspace.now c.begin_directory.new.workspace c.args.dir b
+          (ap (λ d. d.contents) c.in_ok-examined.ensures.leaves.image) c.in_ok-examined.ensures.leaves.survey k.0,
       (c.in_ok-examined.ensures.begun b k.0).inode,
     ))
     c.report_directory.ensures.text)
@@ -59,10 +70,12 @@ pub returns-clause-marks : goal.returns-clause-marks
 returns-clause-marks g c =
     let v = c.args.geometry.now.layout in
     on_ok c.report_directory.result _ _
-    (λ p b k. reported_after (volume_of v b) c.args.dir (marks_of c.args.workspace.now) (marks_of c.begin_directory.new.workspace) (marks_of c.report_directory.new.workspace)
+    (λ p b k. reported_after (volume_of v b) c.args.dir (marks_of c.args.workspace.now)
+    (marks_of c.begin_directory.new.workspace) (marks_of c.report_directory.new.workspace)
     (directory_is (volume_of v b) c.args.dir c.requires.dir k.0.dir) k.1 (c.in_ok-examined.ensures.begun b k.0).marks
     (p b (
-      knows_on v _ _ c.args.workspace.now c.begin_directory.new.workspace c.args.dir b (ap (λ d. d.contents) c.in_ok-examined.ensures.leaves.image) c.in_ok-examined.ensures.leaves.survey k.0,
+      knows_on v _ _ c.args.workspace.now c.begin_directory.new.workspace c.args.dir b
+          (ap (λ d. d.contents) c.in_ok-examined.ensures.leaves.image) c.in_ok-examined.ensures.leaves.survey k.0,
       (c.in_ok-examined.ensures.begun b k.0).inode,
     )))
     c.report_directory.ensures.marks

@@ -7,6 +7,7 @@ use Rattle.ffs_pathnames.proofs.check.parent_of.Goals as goal
 
 pub returns : goal.returns
 returns c = λ v b r.
-    let read = get_or_read_under c.args.workspace.now.parents.items c.args.dir _ c.index-parent.result.now 0 c.index-parent.ensures
+    let read = get_or_read_under c.args.workspace.now.parents.items c.args.dir _ c.index-parent.result.now 0
+    c.index-parent.ensures
     c.requires c.args.workspace.now.parents.ok.0 ∙ r.parents c.args.dir in
     c.number_if.ensures ∙ (ap number_if read ∙ parent_back (volume_of v b) c.args.dir)

@@ -18,7 +18,9 @@ returns-then-is_in_order-clause-text g c =
     let v = c.args.geometry.now.layout in
     record {
       messages = [];
-      right = λ b k. sym (ap (map of_names) (c.is_in_order.ensures c.if-is_in_order.true (attributes (volume_of v b) c.args.dir) (dir_path (graph_of (volume_of v b)) c.args.dir)
+      right = λ b k. sym (ap (map of_names)
+          (c.is_in_order.ensures c.if-is_in_order.true (attributes (volume_of v b) c.args.dir)
+          (dir_path (graph_of (volume_of v b)) c.args.dir)
           (attr_size v b c.args.dir ∙ sym k.1)));
       said = said_none _;
     }
@@ -32,12 +34,16 @@ pub returns-in_err-say_header-clause-text : goal.returns-in_err-say_header-claus
 returns-in_err-say_header-clause-text g c =
     let v = c.args.geometry.now.layout in
     let s = c.args.shape in
-    let reported : Attr → List ℕ → List NameMessage = λ about path. header_reported about path c.args.dir c.args.parent s.gap s.sound (option_map entry_value s.first) (option_map entry_value s.second) in
-    let all = λ (b : List ℕ). map of_names (reported (attributes (volume_of v b) c.args.dir) (dir_path (graph_of (volume_of v b)) c.args.dir)) in
+    let reported : Attr → List ℕ → List NameMessage = λ about path. header_reported about path c.args.dir c.args.parent
+    s.gap s.sound (option_map entry_value s.first) (option_map entry_value s.second) in
+    let all = λ (b : List ℕ). map of_names
+    (reported (attributes (volume_of v b) c.args.dir) (dir_path (graph_of (volume_of v b)) c.args.dir)) in
     let ms : List NameMessage = reported c.in_ok-attr.attr c.as_slice.result.now in
     let p = err_from_is_err_and c.from_residual-in_err-say_header.result c.from_residual-in_err-say_header.ensures.1 in
     rw (p.1, p.2) (of_stops _ all (λ b. []) _ (map of_names ms) _ _ _ (of_begins _ all _)
-    (λ b k. ap (map of_names) (ap (λ q. reported q (dir_path (graph_of (volume_of v b)) c.args.dir)) (sym (c.in_ok-attr.ensures.attr b k.0.reported_is))
+    (λ b k. ap (map of_names)
+    (ap (λ q. reported q (dir_path (graph_of (volume_of v b)) c.args.dir))
+    (sym (c.in_ok-attr.ensures.attr b k.0.reported_is))
     ∙ ap (λ q. reported c.in_ok-attr.attr q) (sym (c.as_slice.ensures.value ∙ c.in_ok-attr.ensures.path b k.0)))
     ∙ sym (append-nil (map of_names ms)))
     c.in_err-say_header.ensures)
@@ -46,11 +52,15 @@ pub returns-clause-text : goal.returns-clause-text
 returns-clause-text g c =
     let v = c.args.geometry.now.layout in
     let s = c.args.shape in
-    let reported : Attr → List ℕ → List NameMessage = λ about path. header_reported about path c.args.dir c.args.parent s.gap s.sound (option_map entry_value s.first) (option_map entry_value s.second) in
-    let all = λ (b : List ℕ). map of_names (reported (attributes (volume_of v b) c.args.dir) (dir_path (graph_of (volume_of v b)) c.args.dir)) in
+    let reported : Attr → List ℕ → List NameMessage = λ about path. header_reported about path c.args.dir c.args.parent
+    s.gap s.sound (option_map entry_value s.first) (option_map entry_value s.second) in
+    let all = λ (b : List ℕ). map of_names
+    (reported (attributes (volume_of v b) c.args.dir) (dir_path (graph_of (volume_of v b)) c.args.dir)) in
     let ms : List NameMessage = reported c.in_ok-attr.attr c.as_slice.result.now in
     of_says _ all (λ b. []) _ (map of_names ms) _ _ _ (of_begins _ all _)
-    (λ b k. ap (map of_names) (ap (λ q. reported q (dir_path (graph_of (volume_of v b)) c.args.dir)) (sym (c.in_ok-attr.ensures.attr b k.0.reported_is))
+    (λ b k. ap (map of_names)
+    (ap (λ q. reported q (dir_path (graph_of (volume_of v b)) c.args.dir))
+    (sym (c.in_ok-attr.ensures.attr b k.0.reported_is))
     ∙ ap (λ q. reported c.in_ok-attr.attr q) (sym (c.as_slice.ensures.value ∙ c.in_ok-attr.ensures.path b k.0)))
     ∙ sym (append-nil (map of_names ms)))
     c.in_ok-say_header.ensures

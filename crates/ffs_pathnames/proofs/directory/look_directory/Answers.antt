@@ -31,7 +31,8 @@ chunks-init g c = record {
 pub chunks-preserved : goal.chunks-preserved
 chunks-preserved g c =
     let inv = c.chunks.invariant in
-    let now = λ (b : List ℕ) (t : (g.I.Image.device c.args.image.now).contents ≡ Some b). ap (λ d. d.contents) inv.same ∙ t in
+    let now = λ (b : List ℕ) (t : (g.I.Image.device c.args.image.now).contents ≡ Some b). ap (λ d. d.contents) inv.same
+    ∙ t in
     let read = rw c.in-Some.is at c.in_ok-offset.ensures.chunk in
     let order = c.args.geometry.now.layout.order in
     let here : Chunk = chunk_of order c.in-Some.offset c.next.new.chunk in
@@ -43,11 +44,15 @@ chunks-preserved g c =
       geometry = c.in_ok-offset.ensures.geometry ∙ inv.geometry;
       stamps_long = c.look_chunk-looked.auto.stamps ∙ inv.stamps_long;
       ready = rw inv.geometry at c.in_ok-offset.ensures.ready;
-      quiet = λ b t v s h. chunk_quiet v c.args.dir c.chunks.stamps c.look_chunk-looked.new.stamps (rest b c.chunks.chunks) (rest b c.next.new.self) here
-          _ c.chunks.quiet c.look_chunk-looked.result.quiet (next b t) (c.look_chunk-looked.ensures.quiet v s) (c.look_chunk-looked.ensures.stamps v s) (inv.quiet b t v s h);
-      stamps = λ b t v s h. chunk_stamps v c.args.dir c.chunks.stamps c.look_chunk-looked.new.stamps _ (rest b c.chunks.chunks) (rest b c.next.new.self) here
+      quiet = λ b t v s h. chunk_quiet v c.args.dir c.chunks.stamps c.look_chunk-looked.new.stamps
+          (rest b c.chunks.chunks) (rest b c.next.new.self) here
+          _ c.chunks.quiet c.look_chunk-looked.result.quiet (next b t) (c.look_chunk-looked.ensures.quiet v s)
+          (c.look_chunk-looked.ensures.stamps v s) (inv.quiet b t v s h);
+      stamps = λ b t v s h. chunk_stamps v c.args.dir c.chunks.stamps c.look_chunk-looked.new.stamps _
+          (rest b c.chunks.chunks) (rest b c.next.new.self) here
           (next b t) (c.look_chunk-looked.ensures.stamps v s) (inv.stamps b t v s h);
-      sound = λ b t h. chunk_sound (rest b c.chunks.chunks) (rest b c.next.new.self) here _ c.chunks.sound c.look_chunk-looked.result.sound
+      sound = λ b t h. chunk_sound (rest b c.chunks.chunks) (rest b c.next.new.self) here _ c.chunks.sound
+          c.look_chunk-looked.result.sound
           (next b t) c.look_chunk-looked.ensures.sound (inv.sound b t h);
       gap = λ b t. inv.gap b t ∙ sym (read b (now b t)).gap;
       started = λ b t h. inv.started b t h ∙ (ap (λ l. start_of l c.chunks.started order c.chunks.start) (next b t)
@@ -62,11 +67,13 @@ returns-clause-found g c = λ b t.
     let read = (rw c.in_default.is at c.in_ok-offset.ensures.chunk) b now in
     let none = read.chunks.0 in
     record {
-      quiet = λ v s h. all_quiet v c.args.dir c.chunks.stamps (rest b c.chunks.chunks) _ c.chunks.quiet none (inv.quiet b t v s h);
+      quiet = λ v s h. all_quiet v c.args.dir c.chunks.stamps (rest b c.chunks.chunks) _ c.chunks.quiet none
+          (inv.quiet b t v s h);
       stamps = λ v s h. all_stamps v c.args.dir c.chunks.stamps _ (rest b c.chunks.chunks) none (inv.stamps b t v s h);
       sound = λ h. all_sound (rest b c.chunks.chunks) _ c.chunks.sound none (inv.sound b t h);
       gap = c.in_ok-gap.ensures.gap b later ∙ (read.gap ∙ sym (inv.gap b t));
-      started = λ h. inv.started b t h ∙ ap (λ l. start_of l c.chunks.started c.args.geometry.now.layout.order c.chunks.start) none;
+      started = λ h. inv.started b t h
+          ∙ ap (λ l. start_of l c.chunks.started c.args.geometry.now.layout.order c.chunks.start) none;
     }
 
 pub next-requires : goal.next-requires

@@ -29,9 +29,11 @@ invariant-chunks g l = let device = g.I.Image.device in record {
   sound : ForContents (device l.initial.image).contents (λ b. l.inode.size < 2 ^ 31 →
       are_sound (chunks_read l.geometry.layout l.inode l.cut b) ≡ (l.sound && are_sound (rest b l.chunks)));
   gap : ForContents (device l.initial.image).contents (λ b.
-      has_gap (replayed_steps l.geometry.layout l.cut fresh_replay (steps_of l.geometry.layout l.inode b)) ≡ (l.chunks.gap || gap_left b l.chunks));
+      has_gap (replayed_steps l.geometry.layout l.cut fresh_replay (steps_of l.geometry.layout l.inode b))
+      ≡ (l.chunks.gap || gap_left b l.chunks));
   started : ForContents (device l.initial.image).contents (λ b. l.inode.size < 2 ^ 31 →
-      find (λ c. c.offset == 0) (chunks_read l.geometry.layout l.inode l.cut b) ≡ start_of (rest b l.chunks) l.started l.order l.start);
+      find (λ c. c.offset == 0) (chunks_read l.geometry.layout l.inode l.cut b) ≡ start_of (rest b l.chunks) l.started
+      l.order l.start);
 }
 
 abbrev pub decreases-chunks : goal.decreases-chunks

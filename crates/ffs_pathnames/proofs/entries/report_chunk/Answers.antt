@@ -24,12 +24,15 @@ entries-init g c =
       device = refl;
       survey = leaves_all _;
       marks = λ b k. refl;
-      said = of_begins _ (λ (b : List ℕ). map of_names (entries_reported (volume_of v b) c.args.dir (marks_of c.args.workspace.now) (roled_from c.args.first 0 (entries_of v.order c.args.chunk.now)))) _;
+      said = of_begins _ (λ (b : List ℕ). map of_names
+          (entries_reported (volume_of v b) c.args.dir (marks_of c.args.workspace.now)
+          (roled_from c.args.first 0 (entries_of v.order c.args.chunk.now)))) _;
     }
 
 pub report_entry-requires-clause-name : goal.report_entry-requires-clause-name
 report_entry-requires-clause-name g c =
-    name_short c.args.geometry.now.layout.order c.args.chunk.now c.entries.place (entry_value c.in-Some.entry) c.name_length.ensures.short c.in-Some.ensures.some
+    name_short c.args.geometry.now.layout.order c.args.chunk.now c.entries.place (entry_value c.in-Some.entry)
+    c.name_length.ensures.short c.in-Some.ensures.some
 
 pub returns-in_err-report_entry-clause-text : goal.returns-in_err-report_entry-clause-text
 returns-in_err-report_entry-clause-text g c =
@@ -39,15 +42,25 @@ returns-in_err-report_entry-clause-text g c =
     let seen : RoledEntry = record { role = c.role_of-role.result; entry = e } in
     let m = marks_of c.entries.workspace in
     let here = roled_at_place v.order c.args.chunk.now c.args.first c.entries.index c.entries.place in
-    let there = roled_at_place v.order c.args.chunk.now c.args.first (c.entries.index + 1) (c.entries.place + c.in-Some.entry.length) in
-    let next = seen_next v.order c.args.chunk.now c.args.first c.entries.index c.entries.place e c.role_of-role.result c.in-Some.ensures.some c.role_of-role.ensures in
+    let there = roled_at_place v.order c.args.chunk.now c.args.first (c.entries.index + 1)
+    (c.entries.place + c.in-Some.entry.length) in
+    let next = seen_next v.order c.args.chunk.now c.args.first c.entries.index c.entries.place e c.role_of-role.result
+    c.in-Some.ensures.some c.role_of-role.ensures in
     let p = err_from_is_err_and c.from_residual.result c.from_residual.ensures.1 in
-    rw (p.1, p.2) (of_fault (Unit {0}) (Unit {0}) _ (λ (b : List ℕ). map of_names (entries_reported (volume_of v b) c.args.dir m here))
+    rw (p.1, p.2) (of_fault (Unit {0}) (Unit {0}) _
+    (λ (b : List ℕ). map of_names (entries_reported (volume_of v b) c.args.dir m here))
     (λ (b : List ℕ). map of_names (roled_reported (volume_of v b) c.args.dir m seen))
-    (λ (b : List ℕ). map of_names (entries_reported (volume_of v b) c.args.dir (after_roled (volume_of v b) c.args.dir m seen) there)) _ _ _ _ c.in_err-report_entry.field-0.0
-    inv.said (λ b k. entry_reported (volume_of v b) c.args.dir m (after_roled (volume_of v b) c.args.dir m seen) seen here there next refl)
+    (λ (b : List ℕ). map of_names
+    (entries_reported (volume_of v b) c.args.dir (after_roled (volume_of v b) c.args.dir m seen) there)) _ _ _ _
+    c.in_err-report_entry.field-0.0
+    inv.said (λ b k. entry_reported (volume_of v b) c.args.dir m (after_roled (volume_of v b) c.args.dir m seen) seen
+    here there next refl)
     (reports_knowing (Unit {0}) _ _ _ _ _ (Err c.in_err-report_entry.field-0.0)
-    (λ b k. record { knows = knows_on v _ _ c.args.workspace.now c.entries.workspace c.args.dir b (ap (λ d. d.contents) inv.device) inv.survey k.knows; path = k.path }) c.in_err-report_entry.ensures.text))
+    (λ b k. record {
+      knows = knows_on v _ _ c.args.workspace.now c.entries.workspace c.args.dir b
+          (ap (λ d. d.contents) inv.device) inv.survey k.knows;
+      path = k.path;
+    }) c.in_err-report_entry.ensures.text))
 
 pub entries-preserved : goal.entries-preserved
 entries-preserved g c =
@@ -59,19 +72,24 @@ entries-preserved g c =
     let m = marks_of c.entries.workspace in
     let m' = marks_of c.report_entry.new.workspace in
     let here = roled_at_place v.order c.args.chunk.now c.args.first c.entries.index c.entries.place in
-    let there = roled_at_place v.order c.args.chunk.now c.args.first (c.entries.index + 1) (c.entries.place + c.in-Some.entry.length) in
-    let next = seen_next v.order c.args.chunk.now c.args.first c.entries.index c.entries.place e c.role_of-role.result c.in-Some.ensures.some c.role_of-role.ensures in
+    let there = roled_at_place v.order c.args.chunk.now c.args.first (c.entries.index + 1)
+    (c.entries.place + c.in-Some.entry.length) in
+    let next = seen_next v.order c.args.chunk.now c.args.first c.entries.index c.entries.place e c.role_of-role.result
+    c.in-Some.ensures.some c.role_of-role.ensures in
     let low = c.in-Some.ensures.room.0 in
     let high = c.in-Some.ensures.room.1 in
-    let know = λ (b : List ℕ) (k : DirectoryContext v (g.I.Image.device c.args.image.now).contents c.args.workspace.now c.args.dir b).
-    knows_on v (g.I.Image.device c.args.image.now).contents (g.I.Image.device c.entries.image).contents c.args.workspace.now c.entries.workspace c.args.dir b (ap (λ d. d.contents) inv.device) inv.survey k in
+    let know = λ (b : List ℕ)
+    (k : DirectoryContext v (g.I.Image.device c.args.image.now).contents c.args.workspace.now c.args.dir b).
+    knows_on v (g.I.Image.device c.args.image.now).contents (g.I.Image.device c.entries.image).contents
+    c.args.workspace.now c.entries.workspace c.args.dir b (ap (λ d. d.contents) inv.device) inv.survey k in
     rw c.from-place.ensures (record {
       place = omega arith;
       index = omega arith;
       ready = ok.leaves.ready;
       device = ok.leaves.image ∙ inv.device;
       survey = leaves_more _ _ _ inv.survey ok.leaves.survey;
-      marks = λ b k. entry_passed (volume_of v b) c.args.dir _ m m' seen here there next (ok.marks b (know b k)) (inv.marks b k);
+      marks = λ b k. entry_passed (volume_of v b) c.args.dir _ m m' seen here there next (ok.marks b (know b k))
+          (inv.marks b k);
       said = of_part _ (λ (b : List ℕ). map of_names (entries_reported (volume_of v b) c.args.dir m here))
           (λ (b : List ℕ). map of_names (roled_reported (volume_of v b) c.args.dir m seen))
           (λ (b : List ℕ). map of_names (entries_reported (volume_of v b) c.args.dir m' there)) _ _ _ _ inv.said
@@ -86,7 +104,10 @@ returns-clause-text g c =
     let m = marks_of c.entries.workspace in
     let end = none_left v.order c.args.chunk.now c.args.first c.entries.index c.entries.place
     (none v.order c.args.chunk.now c.entries.place c.entry_at.result c.in_default.is c.entry_at.ensures.value) in
-    of_same _ (λ (b : List ℕ). map of_names (entries_reported (volume_of v b) c.args.dir m (roled_at_place v.order c.args.chunk.now c.args.first c.entries.index c.entries.place))) (λ b. []) _ _ _ inv.said
+    of_same _ (λ (b : List ℕ). map of_names
+    (entries_reported (volume_of v b) c.args.dir m
+    (roled_at_place v.order c.args.chunk.now c.args.first c.entries.index c.entries.place))) (λ b. []) _ _ _
+    inv.said
     (λ b k. ap (λ es. map of_names (entries_reported (volume_of v b) c.args.dir m es)) end)
 
 pub returns-clause-marks : goal.returns-clause-marks

@@ -23,10 +23,13 @@ invariant-entries g l = let reported_by = g.I.Image.device in let v = l.geometry
   survey : LeavesSurvey l.fn.workspace l.workspace;
   marks : ForBytes (DirectoryContext v (reported_by l.fn.image).contents l.fn.workspace l.dir) (λ b.
       after_entries (volume_of v b) l.dir (marks_of l.fn.workspace) (roled_from l.first 0 (entries_of v.order l.chunk))
-      ≡ after_entries (volume_of v b) l.dir (marks_of l.workspace) (roled_at_place v.order l.chunk l.first l.index l.place));
+      ≡ after_entries (volume_of v b) l.dir (marks_of l.workspace)
+      (roled_at_place v.order l.chunk l.first l.index l.place));
   said : SaidOf (KnowsPath v (reported_by l.fn.image).contents l.fn.workspace l.dir l.path)
-      (λ b. map of_names (entries_reported (volume_of v b) l.dir (marks_of l.workspace) (roled_at_place v.order l.chunk l.first l.index l.place)))
-      (λ b. map of_names (entries_reported (volume_of v b) l.dir (marks_of l.fn.workspace) (roled_from l.first 0 (entries_of v.order l.chunk))))
+      (λ b. map of_names (entries_reported (volume_of v b) l.dir (marks_of l.workspace)
+      (roled_at_place v.order l.chunk l.first l.index l.place)))
+      (λ b. map of_names (entries_reported (volume_of v b) l.dir (marks_of l.fn.workspace)
+      (roled_from l.first 0 (entries_of v.order l.chunk))))
       (progress g.W.Output.sink l.fn.report) (progress g.W.Output.sink l.report);
 }
 

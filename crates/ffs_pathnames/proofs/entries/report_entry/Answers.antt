@@ -70,7 +70,8 @@ returns-clause-marks g c = λ b k.
       parents = c.as_slice-3.ensures.value;
       count = c.as_slice.ensures.len ∙ c.in_ok-say_entry.ensures.leaves.ready.ready.made.kinds;
     }) (claims_left v b before here kept k.claims) (survey_left v b before here kept k.survey) in
-    passes (volume_of v b) c.args.dir (record { role = c.args.role; entry = entry_value c.args.entry.now }) before.leaders.items _ _ _ before.queue.items _ _ _
+    passes (volume_of v b) c.args.dir (record { role = c.args.role; entry = entry_value c.args.entry.now })
+    before.leaders.items _ _ _ before.queue.items _ _ _
     (c.as_mut_slice.ensures.value ∙ ap (λ (w : Workspace). w.leaders.items) left)
     (c.as_mut_slice-2.ensures.value ∙ ap (λ (w : Workspace). w.queue.items) left)
     (c.pass.ensures (volume_of v b) shows)

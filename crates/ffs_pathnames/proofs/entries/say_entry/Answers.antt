@@ -5,7 +5,8 @@ use Rattle.ffs_pathnames.proofs.entries.say_entry.Goals as goal
 
 pub returns-in-Empty-clause-text : goal.returns-in-Empty-clause-text
 unfolding roled_reported
-returns-in-Empty-clause-text g c = rw (c.in-Empty.is) (record { messages = []; right = λ b k. refl; said = said_none _ })
+returns-in-Empty-clause-text g c =
+    rw (c.in-Empty.is) (record { messages = []; right = λ b k. refl; said = said_none _ })
 
 pub returns-in-Dot-clause-text : goal.returns-in-Dot-clause-text
 unfolding roled_reported
@@ -13,7 +14,8 @@ returns-in-Dot-clause-text g c = rw (c.in-Dot.is) (record { messages = []; right
 
 pub returns-in-Dotdot-clause-text : goal.returns-in-Dotdot-clause-text
 unfolding roled_reported
-returns-in-Dotdot-clause-text g c = rw (c.in-Dotdot.is) (record { messages = []; right = λ b k. refl; said = said_none _ })
+returns-in-Dotdot-clause-text g c =
+    rw (c.in-Dotdot.is) (record { messages = []; right = λ b k. refl; said = said_none _ })
 
 pub returns-in-Extra-clause-text : goal.returns-in-Extra-clause-text
 unfolding roled_reported

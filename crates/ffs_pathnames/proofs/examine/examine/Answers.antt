@@ -21,7 +21,9 @@ returns-clause-found g c = λ b t h r d.
     let t1 = ap (λ x. x.contents) c.in_ok-inode.ensures.ok ∙ t in
     let inode = c.in_ok-inode.ensures.inode b t in
     let small = subst (λ i. i.size < 2 ^ 31) (sym inode) (dir_size v (inode_of v b c.args.dir) class) in
-    let cut = get_or_read_under c.args.workspace.now.cut.items c.args.dir _ c.index-cut.result.now 0 c.index-cut.ensures (subst (λ n. c.args.dir < n) (sym c.requires.ready.made.cut) c.requires.number) c.args.workspace.now.cut.ok.0 ∙ h.cut c.args.dir in
+    let cut = get_or_read_under c.args.workspace.now.cut.items c.args.dir _ c.index-cut.result.now 0 c.index-cut.ensures
+    (subst (λ n. c.args.dir < n) (sym c.requires.ready.made.cut) c.requires.number) c.args.workspace.now.cut.ok.0
+    ∙ h.cut c.args.dir in
     let chunks = chunks_are v b c.args.dir c.in_ok-inode.inode c.index-cut.result.now sound number inode cut in
     let shows = sees v b c.args.workspace.now _ (record {
       kinds = c.as_slice.ensures.value;
@@ -37,10 +39,16 @@ returns-clause-found g c = λ b t h r d.
       sound = found.sound small ∙ ap are_sound chunks;
       started = sym (ap (find (λ x. x.offset == 0)) chunks) ∙ found.started small;
       quiet = found.quiet (volume_of v b) shows small
-          ∙ (ap (λ q. are_quiet (volume_of v b) c.args.dir q (flat_map roled_chunk (chunks_read c.args.geometry.now.layout c.in_ok-inode.inode c.index-cut.result.now b))) c.as_mut_slice.ensures.value
-          ∙ ap (are_quiet (volume_of v b) c.args.dir c.args.workspace.now.queue.items) (seen_are v b c.args.dir _ chunks));
+          ∙ (ap (λ q. are_quiet (volume_of v b) c.args.dir q
+          (flat_map roled_chunk (chunks_read c.args.geometry.now.layout c.in_ok-inode.inode c.index-cut.result.now
+          b))) c.as_mut_slice.ensures.value
+          ∙ ap (are_quiet (volume_of v b) c.args.dir c.args.workspace.now.queue.items)
+          (seen_are v b c.args.dir _ chunks));
       stamps = with_items_is c.args.workspace.now.queue c.look_directory.new.stamps long
           ∙ (found.stamps (volume_of v b) shows small
-          ∙ (ap (λ q. after_looks (volume_of v b) c.args.dir q (flat_map roled_chunk (chunks_read c.args.geometry.now.layout c.in_ok-inode.inode c.index-cut.result.now b))) c.as_mut_slice.ensures.value
-          ∙ ap (after_looks (volume_of v b) c.args.dir c.args.workspace.now.queue.items) (seen_are v b c.args.dir _ chunks)));
+          ∙ (ap (λ q. after_looks (volume_of v b) c.args.dir q
+          (flat_map roled_chunk (chunks_read c.args.geometry.now.layout c.in_ok-inode.inode c.index-cut.result.now
+          b))) c.as_mut_slice.ensures.value
+          ∙ ap (after_looks (volume_of v b) c.args.dir c.args.workspace.now.queue.items)
+          (seen_are v b c.args.dir _ chunks)));
     }

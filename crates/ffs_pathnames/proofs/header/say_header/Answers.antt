@@ -7,11 +7,15 @@ use Rattle.ffs_pathnames.proofs.header.say_header.Goals as goal
 pub returns-in_err-say_shape : goal.returns-in_err-say_shape
 unfolding header_reported
 returns-in_err-say_shape g c =
-    first_stops _ _ (shape_reported c.args.attr c.args.path.now c.args.shape.gap c.args.shape.sound) (dots_reported c.args.attr c.args.path.now c.args.number c.args.parent (option_map entry_value c.args.shape.first) (option_map entry_value c.args.shape.second))
+    first_stops _ _ (shape_reported c.args.attr c.args.path.now c.args.shape.gap c.args.shape.sound)
+    (dots_reported c.args.attr c.args.path.now c.args.number c.args.parent (option_map entry_value c.args.shape.first)
+    (option_map entry_value c.args.shape.second))
     c.from_residual.result c.from_residual.ensures.0 c.in_err-say_shape.ensures
 
 pub returns : goal.returns
 unfolding header_reported
 returns g c =
-    names_then _ _ _ (shape_reported c.args.attr c.args.path.now c.args.shape.gap c.args.shape.sound) (dots_reported c.args.attr c.args.path.now c.args.number c.args.parent (option_map entry_value c.args.shape.first) (option_map entry_value c.args.shape.second))
+    names_then _ _ _ (shape_reported c.args.attr c.args.path.now c.args.shape.gap c.args.shape.sound)
+    (dots_reported c.args.attr c.args.path.now c.args.number c.args.parent (option_map entry_value c.args.shape.first)
+    (option_map entry_value c.args.shape.second))
     _ c.in_ok-say_shape.ensures c.say_dots.ensures

@@ -5,10 +5,13 @@ use Rattle.ffs_pathnames.proofs.lines.say_faults.Goals as goal
 
 pub returns-in_err-say_suspect : goal.returns-in_err-say_suspect
 returns-in_err-say_suspect g c =
-    first_stops _ _ (reported c.args.faults.now.suspect (suspect_message c.args.faults.now c.args.attr c.args.path.now)) (links_reported c.args.faults.now c.args.attr c.args.path.now c.args.directory.now)
+    first_stops _ _ (reported c.args.faults.now.suspect (suspect_message c.args.faults.now c.args.attr c.args.path.now))
+    (links_reported c.args.faults.now c.args.attr c.args.path.now c.args.directory.now)
     c.from_residual.result c.from_residual.ensures.0 c.in_err-say_suspect.ensures
 
 pub returns : goal.returns
 returns g c =
-    names_then _ _ _ (reported c.args.faults.now.suspect (suspect_message c.args.faults.now c.args.attr c.args.path.now)) (links_reported c.args.faults.now c.args.attr c.args.path.now c.args.directory.now)
+    names_then _ _ _ (reported c.args.faults.now.suspect
+    (suspect_message c.args.faults.now c.args.attr c.args.path.now))
+    (links_reported c.args.faults.now c.args.attr c.args.path.now c.args.directory.now)
     _ c.in_ok-say_suspect.ensures c.say_links.ensures

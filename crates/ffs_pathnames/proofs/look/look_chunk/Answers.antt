@@ -1,7 +1,8 @@
 use Rattle.std.proofs.Common.{◌+◌, arith}
 use Rattle.ffs_volume.specs.Directories.Roles.{RoledEntry}
 use Rattle.ffs_layout.specs.Entry.{entry_value}
-use Rattle.ffs_pathnames.proofs.Looking.{roled_at_place, seen_next, quiet_on, stamps_on, length_on, quiet_ends, stamps_end, length_ends, none}
+use Rattle.ffs_pathnames.proofs.Looking.{roled_at_place, seen_next, quiet_on, stamps_on, length_on, quiet_ends}
+use Rattle.ffs_pathnames.proofs.Looking.{stamps_end, length_ends, none}
 use Rattle.ffs_pathnames.proofs.look.look_chunk.Goals as goal
 
 pub entries-preserved : goal.entries-preserved
@@ -11,7 +12,8 @@ entries-preserved c =
     let room = c.in-Some.ensures.room in
     let low = room.0 in
     let high = room.1 in
-    let next = seen_next c.args.order c.args.chunk.now c.args.first c.entries.index c.entries.place e c.role_of-role.result there c.role_of-role.ensures in
+    let next = seen_next c.args.order c.args.chunk.now c.args.first c.entries.index c.entries.place e
+    c.role_of-role.result there c.role_of-role.ensures in
     let seen : RoledEntry = record { role = c.role_of-role.result; entry = e } in
     rw c.from-place.ensures (record {
       place = omega arith;
@@ -19,25 +21,34 @@ entries-preserved c =
       stamps_long = omega arith;
       quiet = λ v s. quiet_on v c.args.dir c.entries.stamps c.look_at-here.new.stamps seen
           (roled_at_place c.args.order c.args.chunk.now c.args.first c.entries.index c.entries.place)
-          (roled_at_place c.args.order c.args.chunk.now c.args.first (c.entries.index + 1) (c.entries.place + c.in-Some.entry.length))
-          _ c.entries.quiet c.look_at-here.result next (c.look_at-here.ensures.quiet v s) (c.look_at-here.ensures.stamps v s) (c.entries.invariant.quiet v s);
+          (roled_at_place c.args.order c.args.chunk.now c.args.first (c.entries.index + 1)
+          (c.entries.place + c.in-Some.entry.length))
+          _ c.entries.quiet c.look_at-here.result next (c.look_at-here.ensures.quiet v s)
+          (c.look_at-here.ensures.stamps v s) (c.entries.invariant.quiet v s);
       stamps = λ v s. stamps_on v c.args.dir c.entries.stamps c.look_at-here.new.stamps _ seen
           (roled_at_place c.args.order c.args.chunk.now c.args.first c.entries.index c.entries.place)
-          (roled_at_place c.args.order c.args.chunk.now c.args.first (c.entries.index + 1) (c.entries.place + c.in-Some.entry.length))
+          (roled_at_place c.args.order c.args.chunk.now c.args.first (c.entries.index + 1)
+          (c.entries.place + c.in-Some.entry.length))
           next (c.look_at-here.ensures.stamps v s) (c.entries.invariant.stamps v s);
       sound = length_on c.args.order c.args.chunk.now c.entries.place _ e there c.entries.invariant.sound;
     })
 
 pub returns-clause-quiet : goal.returns-clause-quiet
 returns-clause-quiet c = λ v s.
-    quiet_ends v c.args.dir c.entries.stamps c.args.first c.entries.index c.args.order c.args.chunk.now c.entries.place _ c.entries.quiet
-    (none c.args.order c.args.chunk.now c.entries.place c.entry_at.result c.in_default.is c.entry_at.ensures.value) (c.entries.invariant.quiet v s)
+    quiet_ends v c.args.dir c.entries.stamps c.args.first c.entries.index c.args.order c.args.chunk.now c.entries.place
+    _ c.entries.quiet
+    (none c.args.order c.args.chunk.now c.entries.place c.entry_at.result c.in_default.is c.entry_at.ensures.value)
+    (c.entries.invariant.quiet v s)
 
 pub returns-clause-stamps : goal.returns-clause-stamps
 returns-clause-stamps c = λ v s.
-    stamps_end v c.args.dir c.entries.stamps _ c.args.first c.entries.index c.args.order c.args.chunk.now c.entries.place
-    (none c.args.order c.args.chunk.now c.entries.place c.entry_at.result c.in_default.is c.entry_at.ensures.value) (c.entries.invariant.stamps v s)
+    stamps_end v c.args.dir c.entries.stamps _ c.args.first c.entries.index c.args.order c.args.chunk.now
+    c.entries.place
+    (none c.args.order c.args.chunk.now c.entries.place c.entry_at.result c.in_default.is c.entry_at.ensures.value)
+    (c.entries.invariant.stamps v s)
 
 pub returns-clause-sound : goal.returns-clause-sound
 returns-clause-sound c =
-    length_ends c.args.order c.args.chunk.now c.entries.place _ (none c.args.order c.args.chunk.now c.entries.place c.entry_at.result c.in_default.is c.entry_at.ensures.value) c.entries.invariant.sound
+    length_ends c.args.order c.args.chunk.now c.entries.place _
+    (none c.args.order c.args.chunk.now c.entries.place c.entry_at.result c.in_default.is c.entry_at.ensures.value)
+    c.entries.invariant.sound

@@ -12,11 +12,14 @@ invariant-entries l = record {
   place : l.place ≤ 512;
   index : l.index ≤ l.place;
   stamps_long : length l.stamps ≡ length l.inodes.kinds.now;
-  quiet : (v : Volume) → Sees v l.inodes → are_quiet v l.dir l.initial.stamps (roled_at_place l.order l.chunk l.first 0 0)
+  quiet : (v : Volume) → Sees v l.inodes →
+      are_quiet v l.dir l.initial.stamps (roled_at_place l.order l.chunk l.first 0 0)
       ≡ (l.quiet && are_quiet v l.dir l.stamps (roled_at_place l.order l.chunk l.first l.index l.place));
-  stamps : (v : Volume) → Sees v l.inodes → after_looks v l.dir l.initial.stamps (roled_at_place l.order l.chunk l.first 0 0)
+  stamps : (v : Volume) → Sees v l.inodes →
+      after_looks v l.dir l.initial.stamps (roled_at_place l.order l.chunk l.first 0 0)
       ≡ after_looks v l.dir l.stamps (roled_at_place l.order l.chunk l.first l.index l.place);
-  sound : sum_by (λ x. x.length) (entries_from l.order l.chunk 64 0) ≡ l.place + sum_by (λ x. x.length) (entries_from l.order l.chunk 64 l.place);
+  sound : sum_by (λ x. x.length) (entries_from l.order l.chunk 64 0) ≡ l.place + sum_by (λ x. x.length)
+      (entries_from l.order l.chunk 64 l.place);
 }
 
 abbrev pub decreases-entries : goal.decreases-entries

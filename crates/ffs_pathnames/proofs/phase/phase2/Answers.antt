@@ -16,7 +16,8 @@ returns-in_err-say-clause-text g c =
     let v = c.args.geometry.now.layout in
     let lines = λ (b : List ℕ). map of_names (pathname_lines (volume_of v b)) in
     let all = λ (b : List ℕ). phase2 ∷ map of_names (pathname_lines (volume_of v b)) in
-    rw (p.1, p.2) (of_stops _ all lines _ (phase2 ∷ []) _ _ _ (of_begins _ all _) (λ b k. refl) c.in_err-say.ensures.said)
+    rw (p.1, p.2) (of_stops _ all lines _ (phase2 ∷ []) _ _ _ (of_begins _ all _) (λ b k. refl)
+    c.in_err-say.ensures.said)
 
 pub returns-in_err-say-clause-fault : goal.returns-in_err-say-clause-fault
 returns-in_err-say-clause-fault g c =
@@ -32,7 +33,8 @@ returns-in_err-survey-clause-text g c =
     let v = c.args.geometry.now.layout in
     let lines = λ (b : List ℕ). map of_names (pathname_lines (volume_of v b)) in
     let all = λ (b : List ℕ). phase2 ∷ map of_names (pathname_lines (volume_of v b)) in
-    rw (p.1, p.2) (of_reads _ lines _ _ _ (of_says _ all lines _ (phase2 ∷ []) _ _ _ (of_begins _ all _) (λ b k. refl) c.in_ok-say.ensures.said))
+    rw (p.1, p.2) (of_reads _ lines _ _ _
+    (of_says _ all lines _ (phase2 ∷ []) _ _ _ (of_begins _ all _) (λ b k. refl) c.in_ok-say.ensures.said))
 
 pub returns-clause-text : goal.returns-clause-text
 returns-clause-text g c =

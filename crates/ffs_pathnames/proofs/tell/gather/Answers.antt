@@ -12,9 +12,11 @@ pub returns-clause-enough : goal.returns-clause-enough
 returns-clause-enough g c = λ b dir t h r p.
     let v = c.args.geometry.now.layout in
     let t1 = ap (λ x. x.contents) c.in_ok-gather_path.ensures.leaves.reads.read ∙ t in
-    enough (volume_of v b) c.args.verdict.now dir c.args.entry.now.number c.args.entry.now.name.now c.in_ok-attr.attr c.put_entry.new.text.items c.gather_path.new.text.items
+    enough (volume_of v b) c.args.verdict.now dir c.args.entry.now.number c.args.entry.now.name.now c.in_ok-attr.attr
+    c.put_entry.new.text.items c.gather_path.new.text.items
     (λ q. c.in_ok-attr.ensures.attr b t1 (c.asks-wants_attr.ensures.attr ∙ q))
-    (c.put_entry.ensures (graph_of (volume_of v b)) dir p ∙ entry_in_room (graph_of (volume_of v b)) dir c.args.entry.now.name.now c.requires.name)
+    (c.put_entry.ensures (graph_of (volume_of v b)) dir p
+    ∙ entry_in_room (graph_of (volume_of v b)) dir c.args.entry.now.name.now c.requires.name)
     (λ q. c.in_ok-gather_path.ensures.path b t h r (c.asks-wants_attr.ensures.directory ∙ q))
 
 pub returns-clause-leaves : goal.returns-clause-leaves

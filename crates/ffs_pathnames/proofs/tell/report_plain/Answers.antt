@@ -20,9 +20,12 @@ returns-then-is_silent-clause-text g c =
     let silent = sym c.is_silent.ensures ∙ c.if-is_silent.true in
     record {
       messages = [];
-      right = λ b k. sym (ap (map of_names) ((c.verdict_of-verdict.ensures.verdict v b c.requires.ready.ready.made k.knows.claims k.knows.survey).reported
-          ∙ silent_reported c.verdict_of-verdict.result c.args.entry.now.number (attributes (volume_of v b) c.args.entry.now.number)
-          (entry_path (graph_of (volume_of v b)) c.args.dir c.args.entry.now.name.now) (dir_path (graph_of (volume_of v b)) c.args.entry.now.number) silent));
+      right = λ b k. sym (ap (map of_names)
+          ((c.verdict_of-verdict.ensures.verdict v b c.requires.ready.ready.made k.knows.claims k.knows.survey).reported
+          ∙ silent_reported c.verdict_of-verdict.result c.args.entry.now.number
+          (attributes (volume_of v b) c.args.entry.now.number)
+          (entry_path (graph_of (volume_of v b)) c.args.dir c.args.entry.now.name.now)
+          (dir_path (graph_of (volume_of v b)) c.args.entry.now.number) silent));
       said = said_none _;
     }
 
@@ -34,26 +37,37 @@ returns-in_err-attr-clause-text g c =
 pub returns-in_err-say_verdict-clause-text : goal.returns-in_err-say_verdict-clause-text
 returns-in_err-say_verdict-clause-text g c =
     let v = c.args.geometry.now.layout in
-    let all = λ (b : List ℕ). map of_names (plain_reported (volume_of v b) c.args.dir (marks_of c.args.workspace.now) (entry_value c.args.entry.now)) in
-    let ms : List NameMessage = verdict_reported c.verdict_of-verdict.result c.args.entry.now.number c.in_ok-attr.attr c.as_slice.result.now c.as_slice-2.result.now in
-    let p = err_from_is_err_and c.from_residual-in_err-say_verdict.result c.from_residual-in_err-say_verdict.ensures.1 in
+    let all = λ (b : List ℕ). map of_names
+    (plain_reported (volume_of v b) c.args.dir (marks_of c.args.workspace.now) (entry_value c.args.entry.now)) in
+    let ms : List NameMessage = verdict_reported c.verdict_of-verdict.result c.args.entry.now.number c.in_ok-attr.attr
+    c.as_slice.result.now c.as_slice-2.result.now in
+    let p = err_from_is_err_and c.from_residual-in_err-say_verdict.result
+    c.from_residual-in_err-say_verdict.ensures.1 in
     rw (p.1, p.2) (of_stops _ all (λ b. []) _ (map of_names ms) _ _ _ (of_begins _ all _)
-    (λ b k. ap (map of_names) ((c.verdict_of-verdict.ensures.verdict v b c.requires.ready.ready.made k.knows.claims k.knows.survey).reported
+    (λ b k. ap (map of_names)
+    ((c.verdict_of-verdict.ensures.verdict v b c.requires.ready.ready.made k.knows.claims k.knows.survey).reported
     ∙ (sym (c.in_ok-attr.ensures.enough b c.args.dir k.knows.reported_is k.knows.claims k.knows.survey k.path)
-    ∙ (ap (λ q. verdict_reported c.verdict_of-verdict.result c.args.entry.now.number c.in_ok-attr.attr q c.gather.new.directory.items) (sym c.as_slice.ensures.value)
-    ∙ ap (λ q. verdict_reported c.verdict_of-verdict.result c.args.entry.now.number c.in_ok-attr.attr c.as_slice.result.now q) (sym c.as_slice-2.ensures.value))))
+    ∙ (ap (λ q. verdict_reported c.verdict_of-verdict.result c.args.entry.now.number c.in_ok-attr.attr q
+    c.gather.new.directory.items) (sym c.as_slice.ensures.value)
+    ∙ ap (λ q. verdict_reported c.verdict_of-verdict.result c.args.entry.now.number c.in_ok-attr.attr
+    c.as_slice.result.now q) (sym c.as_slice-2.ensures.value))))
     ∙ sym (append-nil (map of_names ms)))
     c.in_err-say_verdict.ensures)
 
 pub returns-clause-text : goal.returns-clause-text
 returns-clause-text g c =
     let v = c.args.geometry.now.layout in
-    let all = λ (b : List ℕ). map of_names (plain_reported (volume_of v b) c.args.dir (marks_of c.args.workspace.now) (entry_value c.args.entry.now)) in
-    let ms : List NameMessage = verdict_reported c.verdict_of-verdict.result c.args.entry.now.number c.in_ok-attr.attr c.as_slice.result.now c.as_slice-2.result.now in
+    let all = λ (b : List ℕ). map of_names
+    (plain_reported (volume_of v b) c.args.dir (marks_of c.args.workspace.now) (entry_value c.args.entry.now)) in
+    let ms : List NameMessage = verdict_reported c.verdict_of-verdict.result c.args.entry.now.number c.in_ok-attr.attr
+    c.as_slice.result.now c.as_slice-2.result.now in
     of_says _ all (λ b. []) _ (map of_names ms) _ _ _ (of_begins _ all _)
-    (λ b k. ap (map of_names) ((c.verdict_of-verdict.ensures.verdict v b c.requires.ready.ready.made k.knows.claims k.knows.survey).reported
+    (λ b k. ap (map of_names)
+    ((c.verdict_of-verdict.ensures.verdict v b c.requires.ready.ready.made k.knows.claims k.knows.survey).reported
     ∙ (sym (c.in_ok-attr.ensures.enough b c.args.dir k.knows.reported_is k.knows.claims k.knows.survey k.path)
-    ∙ (ap (λ q. verdict_reported c.verdict_of-verdict.result c.args.entry.now.number c.in_ok-attr.attr q c.gather.new.directory.items) (sym c.as_slice.ensures.value)
-    ∙ ap (λ q. verdict_reported c.verdict_of-verdict.result c.args.entry.now.number c.in_ok-attr.attr c.as_slice.result.now q) (sym c.as_slice-2.ensures.value))))
+    ∙ (ap (λ q. verdict_reported c.verdict_of-verdict.result c.args.entry.now.number c.in_ok-attr.attr q
+    c.gather.new.directory.items) (sym c.as_slice.ensures.value)
+    ∙ ap (λ q. verdict_reported c.verdict_of-verdict.result c.args.entry.now.number c.in_ok-attr.attr
+    c.as_slice.result.now q) (sym c.as_slice-2.ensures.value))))
     ∙ sym (append-nil (map of_names ms)))
     c.in_ok-say_verdict.ensures

@@ -17,7 +17,9 @@ returns-clause-verdict c = λ v b made h r.
     let e = entry_value c.args.entry.now in
     record {
       linked = c.entry_verdict.ensures.linked (volume_of v b) shows;
-      reported = sym (ap (λ ms. plain_reported (volume_of v b) c.args.dir (record { passed = ms; stamps = w.queue.items }) e) c.as_slice-4.ensures.value)
-          ∙ (sym (ap (λ ms. plain_reported (volume_of v b) c.args.dir (record { passed = c.as_slice-4.result.now; stamps = ms }) e) c.as_slice-5.ensures.value)
+      reported = sym (ap (λ ms. plain_reported (volume_of v b) c.args.dir
+          (record { passed = ms; stamps = w.queue.items }) e) c.as_slice-4.ensures.value)
+          ∙ (sym (ap (λ ms. plain_reported (volume_of v b) c.args.dir
+          (record { passed = c.as_slice-4.result.now; stamps = ms }) e) c.as_slice-5.ensures.value)
           ∙ c.entry_verdict.ensures.reported (volume_of v b) shows);
     }

@@ -12,16 +12,19 @@ pub returns-then-is_looked_at-clause-text : goal.returns-then-is_looked_at-claus
 returns-then-is_looked_at-clause-text g c =
     let v = c.args.geometry.now.layout in
     let looked = (and_parts _ _ (sym c.is_looked_at.ensures ∙ c.if-is_looked_at.true)).0 in
-    reports_same (Unit {0}) _ (λ b. map of_names (dir_lines (volume_of v b) c.args.number)) (λ b. map of_names (lines_of (volume_of v b) c.args.number)) _ _ c.check_directory.result
+    reports_same (Unit {0}) _ (λ b. map of_names (dir_lines (volume_of v b) c.args.number))
+    (λ b. map of_names (lines_of (volume_of v b) c.args.number)) _ _ c.check_directory.result
     (λ b k. sym (ap (map of_names) (lines_looked v _ _ c.args.number b looked k)))
-    (reports_knowing (Unit {0}) _ _ _ _ _ c.check_directory.result (λ b k. (directory_context v _ _ c.args.number b looked k, k.marks)) c.check_directory.ensures.text)
+    (reports_knowing (Unit {0}) _ _ _ _ _ c.check_directory.result
+    (λ b k. (directory_context v _ _ c.args.number b looked k, k.marks)) c.check_directory.ensures.text)
 
 pub returns-then-is_looked_at-clause-before : goal.returns-then-is_looked_at-clause-before
 returns-then-is_looked_at-clause-before g c =
     let v = c.args.geometry.now.layout in
     let looked = (and_parts _ _ (sym c.is_looked_at.ensures ∙ c.if-is_looked_at.true)).0 in
     on_ok c.check_directory.result _ _
-    (λ h b k. before_next v _ _ _ c.args.number b c.check_directory.ensures.leaves.survey (h b (directory_context v _ _ c.args.number b looked k, k.marks)) k)
+    (λ h b k. before_next v _ _ _ c.args.number b c.check_directory.ensures.leaves.survey
+    (h b (directory_context v _ _ c.args.number b looked k, k.marks)) k)
     c.check_directory.ensures.marks
 
 pub returns-clause-text : goal.returns-clause-text
@@ -34,4 +37,5 @@ returns-clause-text g c =
 
 pub returns-clause-before : goal.returns-clause-before
 returns-clause-before g c = λ b k.
-    before_skipped c.args.geometry.now.layout _ _ c.args.number b c.args.geometry.now.sound (sym c.is_looked_at.ensures ∙ c.if-is_looked_at.false) k
+    before_skipped c.args.geometry.now.layout _ _ c.args.number b c.args.geometry.now.sound
+    (sym c.is_looked_at.ensures ∙ c.if-is_looked_at.false) k

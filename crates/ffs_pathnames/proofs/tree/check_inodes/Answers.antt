@@ -19,7 +19,9 @@ loop-number-init g c =
       low = omega arith;
       survey = leaves_all _;
       before = λ b k. k;
-      said = of_begins _ (λ b. map of_names (lines_from (lines_of (volume_of c.args.geometry.now.layout b)) 2 (inodes_of c.args.geometry.now.layout - 2))) _;
+      said = of_begins _ (λ b. map of_names
+          (lines_from (lines_of (volume_of c.args.geometry.now.layout b)) 2 (inodes_of c.args.geometry.now.layout - 2)))
+          _;
     }
 
 pub returns-in_err-check_inode-clause-text : goal.returns-in_err-check_inode-clause-text
@@ -28,12 +30,15 @@ returns-in_err-check_inode-clause-text g c =
     let v = c.args.geometry.now.layout in
     let inv = c.loop-number.invariant in
     let n = c.loop-number.number in
-    rw (p.1, p.2) (of_fault (Unit {0}) (Unit {0}) _ (λ b. map of_names (lines_from (lines_of (volume_of v b)) n (inodes_of v - n)))
+    rw (p.1, p.2) (of_fault (Unit {0}) (Unit {0}) _
+    (λ b. map of_names (lines_from (lines_of (volume_of v b)) n (inodes_of v - n)))
     (λ b. map of_names (lines_of (volume_of v b) n))
-    (λ b. map of_names (lines_from (lines_of (volume_of v b)) (n + 1) (inodes_of v - (n + 1)))) _ _ _ _ c.in_err-check_inode.field-0.0
+    (λ b. map of_names (lines_from (lines_of (volume_of v b)) (n + 1) (inodes_of v - (n + 1)))) _ _ _ _
+    c.in_err-check_inode.field-0.0
     inv.said (λ b k. from_next (lines_of (volume_of v b)) n (inodes_of v) (omega arith))
     (reports_knowing (Unit {0}) _ _ _ _ _ (Err c.in_err-check_inode.field-0.0)
-    (λ b k. before_reported v _ _ _ n b (ap (λ d. d.contents) inv.device) (inv.before b k)) c.in_err-check_inode.ensures.text))
+    (λ b k. before_reported v _ _ _ n b (ap (λ d. d.contents) inv.device) (inv.before b k))
+    c.in_err-check_inode.ensures.text))
 
 pub loop-number-preserved : goal.loop-number-preserved
 loop-number-preserved g c =
@@ -47,8 +52,10 @@ loop-number-preserved g c =
       device = search rules;
       low = omega arith;
       survey = leaves_more _ _ _ inv.survey ok.leaves.survey;
-      before = λ b k. subst (λ d. IsBefore v (g.I.Image.device c.args.image.now).contents c.check_inode.new.workspace d b) q
-          (before_reported v _ _ _ (suc n) b (sym (ap (λ d. d.contents) inv.device)) (ok.before b (before_reported v _ _ _ n b (ap (λ d. d.contents) inv.device) (inv.before b k))));
+      before = λ b k. subst (λ d. IsBefore v (g.I.Image.device c.args.image.now).contents c.check_inode.new.workspace d
+          b) q
+          (before_reported v _ _ _ (suc n) b (sym (ap (λ d. d.contents) inv.device))
+          (ok.before b (before_reported v _ _ _ n b (ap (λ d. d.contents) inv.device) (inv.before b k))));
       said = of_part _ (λ b. map of_names (lines_from (lines_of (volume_of v b)) n (inodes_of v - n)))
           (λ b. map of_names (lines_of (volume_of v b) n))
           (λ b. map of_names (lines_from (lines_of (volume_of v b)) (n + 1) (inodes_of v - (n + 1)))) _ _ _ _ inv.said

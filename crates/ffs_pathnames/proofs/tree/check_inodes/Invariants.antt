@@ -20,7 +20,8 @@ invariant-loop-number g l = record {
   before : ForBytes (λ b. IsBefore l.geometry.layout (g.I.Image.device l.fn.image).contents l.fn.workspace 2 b)
       (λ b. IsBefore l.geometry.layout (g.I.Image.device l.fn.image).contents l.workspace l.number b);
   said : SaidOf (λ b. IsBefore l.geometry.layout (g.I.Image.device l.fn.image).contents l.fn.workspace 2 b)
-      (λ b. map of_names (lines_from (lines_of (volume_of l.geometry.layout b)) l.number (inodes_of l.geometry.layout - l.number)))
+      (λ b. map of_names (lines_from (lines_of (volume_of l.geometry.layout b)) l.number
+      (inodes_of l.geometry.layout - l.number)))
       (λ b. map of_names (lines_from (lines_of (volume_of l.geometry.layout b)) 2 (inodes_of l.geometry.layout - 2)))
       (progress g.W.Output.sink l.fn.report) (progress g.W.Output.sink l.report);
 }

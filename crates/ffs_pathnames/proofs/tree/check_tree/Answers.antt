@@ -13,10 +13,12 @@ use Rattle.ffs_pathnames.proofs.Carrying.{at_fault, goes_is, tree_is, tree_lines
 use Rattle.ffs_pathnames.proofs.tree.check_tree.Goals as goal
 
 pub root_kind-kind-requires : goal.root_kind-kind-requires
-root_kind-kind-requires g c = let k = some_inodes c.args.geometry.now.layout c.args.geometry.now.sound in omega (arith, c.requires.ready.made.kinds, k)
+root_kind-kind-requires g c = let k = some_inodes c.args.geometry.now.layout c.args.geometry.now.sound in
+    omega (arith, c.requires.ready.made.kinds, k)
 
 pub is_root_marked-requires : goal.is_root_marked-requires
-is_root_marked-requires g c = let k = some_inodes c.args.geometry.now.layout c.args.geometry.now.sound in omega (arith, c.requires.ready.made.marked, k)
+is_root_marked-requires g c = let k = some_inodes c.args.geometry.now.layout c.args.geometry.now.sound in
+    omega (arith, c.requires.ready.made.marked, k)
 
 pub returns-in_err-report_root-clause-text : goal.returns-in_err-report_root-clause-text
 returns-in_err-report_root-clause-text g c =
@@ -26,7 +28,8 @@ returns-in_err-report_root-clause-text g c =
     let all = λ (b : List ℕ). map of_names (pathname_lines (volume_of v b)) in
     rw (p.1, p.2) (of_stops _ all (λ b. map of_names (tree_lines v b (is_dir_kind c.root_kind-kind.result))) _
     (map of_names (root_said c.root_kind-kind.result c.is_root_marked.result)) _ _ _ (of_begins _ all _)
-    (λ b k. tree_is v b w _ _ (is_dir_kind c.root_kind-kind.result) c.root_kind-kind.ensures c.is_root_marked.ensures k.claims refl) c.in_err-report_root.ensures)
+    (λ b k. tree_is v b w _ _ (is_dir_kind c.root_kind-kind.result) c.root_kind-kind.ensures c.is_root_marked.ensures
+    k.claims refl) c.in_err-report_root.ensures)
 
 pub returns-in_err-report_root-clause-fault : goal.returns-in_err-report_root-clause-fault
 returns-in_err-report_root-clause-fault g c =
@@ -38,29 +41,36 @@ returns-in-Stop-clause-text g c =
     let v = c.args.geometry.now.layout in
     let w = c.args.workspace.now in
     let all = λ (b : List ℕ). map of_names (pathname_lines (volume_of v b)) in
-    of_says _ all (λ b. []) _ (map of_names (root_said c.root_kind-kind.result c.is_root_marked.result)) _ _ _ (of_begins _ all _)
-    (λ b k. tree_is v b w _ _ false c.root_kind-kind.ensures c.is_root_marked.ensures k.claims c.in-Stop.ensures) c.in_ok-report_root.ensures
+    of_says _ all (λ b. []) _ (map of_names (root_said c.root_kind-kind.result c.is_root_marked.result)) _ _ _
+    (of_begins _ all _)
+    (λ b k. tree_is v b w _ _ false c.root_kind-kind.ensures c.is_root_marked.ensures k.claims c.in-Stop.ensures)
+    c.in_ok-report_root.ensures
 
 pub returns-in-Stop-clause-goes : goal.returns-in-Stop-clause-goes
-returns-in-Stop-clause-goes g c = λ b k. c.in-Stop.ensures ∙ goes_is c.args.geometry.now.layout b c.args.workspace.now _ c.root_kind-kind.ensures k.claims
+returns-in-Stop-clause-goes g c = λ b k. c.in-Stop.ensures ∙ goes_is c.args.geometry.now.layout b c.args.workspace.now _
+    c.root_kind-kind.ensures k.claims
 
 pub returns-in_err-check_inodes-in-Go-clause-text : goal.returns-in_err-check_inodes-in-Go-clause-text
 returns-in_err-check_inodes-in-Go-clause-text g c =
-    let p = err_from_is_err_and c.from_residual-in_err-check_inodes-in-Go.result c.from_residual-in_err-check_inodes-in-Go.ensures.1 in
+    let p = err_from_is_err_and c.from_residual-in_err-check_inodes-in-Go.result
+    c.from_residual-in_err-check_inodes-in-Go.ensures.1 in
     let v = c.args.geometry.now.layout in
     let w = c.args.workspace.now in
     let all = λ (b : List ℕ). map of_names (pathname_lines (volume_of v b)) in
     let part = λ (b : List ℕ). map of_names (lines_from (lines_of (volume_of v b)) 2 (inodes_of v - 2)) in
     rw (p.1, p.2) (of_fault (Unit {0}) (Unit {0}) _ part part (λ b. []) _ _ _ _ c.in_err-check_inodes-in-Go.field-0.0
-    (of_says _ all part _ (map of_names (root_said c.root_kind-kind.result c.is_root_marked.result)) _ _ _ (of_begins _ all _)
-    (λ b k. tree_is v b w _ _ true c.root_kind-kind.ensures c.is_root_marked.ensures k.claims c.in-Go.ensures) c.in_ok-report_root.ensures)
+    (of_says _ all part _ (map of_names (root_said c.root_kind-kind.result c.is_root_marked.result)) _ _ _
+    (of_begins _ all _)
+    (λ b k. tree_is v b w _ _ true c.root_kind-kind.ensures c.is_root_marked.ensures k.claims c.in-Go.ensures)
+    c.in_ok-report_root.ensures)
     (λ b k. sym (append-nil (part b)))
     c.in_err-check_inodes-in-Go.ensures.text)
 
 pub returns-in_err-check_inodes-in-Go-clause-fault : goal.returns-in_err-check_inodes-in-Go-clause-fault
 returns-in_err-check_inodes-in-Go-clause-fault g c =
     at_fault c.from_residual-in_err-check_inodes-in-Go.result _
-    (λ b k. sym (c.in-Go.ensures ∙ goes_is c.args.geometry.now.layout b c.args.workspace.now _ c.root_kind-kind.ensures k.claims))
+    (λ b k. sym (c.in-Go.ensures ∙ goes_is c.args.geometry.now.layout b c.args.workspace.now _ c.root_kind-kind.ensures
+    k.claims))
 
 pub returns-in_ok-check_inodes-in-Go-clause-text : goal.returns-in_ok-check_inodes-in-Go-clause-text
 returns-in_ok-check_inodes-in-Go-clause-text g c =
@@ -69,10 +79,13 @@ returns-in_ok-check_inodes-in-Go-clause-text g c =
     let all = λ (b : List ℕ). map of_names (pathname_lines (volume_of v b)) in
     let part = λ (b : List ℕ). map of_names (lines_from (lines_of (volume_of v b)) 2 (inodes_of v - 2)) in
     of_part _ part part (λ b. []) _ _ _ _
-    (of_says _ all part _ (map of_names (root_said c.root_kind-kind.result c.is_root_marked.result)) _ _ _ (of_begins _ all _)
-    (λ b k. tree_is v b w _ _ true c.root_kind-kind.ensures c.is_root_marked.ensures k.claims c.in-Go.ensures) c.in_ok-report_root.ensures)
+    (of_says _ all part _ (map of_names (root_said c.root_kind-kind.result c.is_root_marked.result)) _ _ _
+    (of_begins _ all _)
+    (λ b k. tree_is v b w _ _ true c.root_kind-kind.ensures c.is_root_marked.ensures k.claims c.in-Go.ensures)
+    c.in_ok-report_root.ensures)
     (λ b k. sym (append-nil (part b)))
     c.in_ok-check_inodes-in-Go.ensures.text
 
 pub returns-in_ok-check_inodes-in-Go-clause-goes : goal.returns-in_ok-check_inodes-in-Go-clause-goes
-returns-in_ok-check_inodes-in-Go-clause-goes g c = λ b k. c.in-Go.ensures ∙ goes_is c.args.geometry.now.layout b c.args.workspace.now _ c.root_kind-kind.ensures k.claims
+returns-in_ok-check_inodes-in-Go-clause-goes g c = λ b k. c.in-Go.ensures
+    ∙ goes_is c.args.geometry.now.layout b c.args.workspace.now _ c.root_kind-kind.ensures k.claims

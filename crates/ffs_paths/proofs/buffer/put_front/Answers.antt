@@ -11,5 +11,6 @@ returns-clause-following c = λ k l.
     let start = c.args.end - length c.args.name.now - 1 in
     let a = length-set c.args.bytes.now start 47 in
     let m = ap length c.copy_from_slice.ensures.after in
-    drop-put_mid (start + 1) (c.args.end - (start + 1)) (set c.args.bytes.now start 47) c.copy_from_slice.new.self k (omega arith) (omega arith) (omega arith)
+    drop-put_mid (start + 1) (c.args.end - (start + 1)) (set c.args.bytes.now start 47) c.copy_from_slice.new.self k
+    (omega arith) (omega arith) (omega arith)
     ∙ drop-set-lt k c.args.bytes.now start 47 (omega arith)

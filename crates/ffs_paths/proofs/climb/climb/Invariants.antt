@@ -13,6 +13,8 @@ invariant-up g l = record {
   at : l.at < length l.cut;
   windows : AreOpen l.geometry.layout (g.I.Image.device l.image) l.windows;
   device : g.I.Image.device l.image ≡ g.I.Image.device l.fn.image;
-  path : ForContents (g.I.Image.device l.fn.image).contents (λ b. LeadUp l.geometry.layout b l.cut l.parents → (k : ℕ) → level (graph_of (volume_of l.geometry.layout b)) l.dir ≡ Some k
-      → (names : List (List ℕ)) → HoldsNames l.fn.path names → IsOnWay (graph_of (volume_of l.geometry.layout b)) k l.dir l.at l.step names l.path);
+  path : ForContents (g.I.Image.device l.fn.image).contents (λ b. LeadUp l.geometry.layout b l.cut l.parents → (k : ℕ) →
+      level (graph_of (volume_of l.geometry.layout b)) l.dir ≡ Some k
+      → (names : List (List ℕ)) → HoldsNames l.fn.path names →
+      IsOnWay (graph_of (volume_of l.geometry.layout b)) k l.dir l.at l.step names l.path);
 }

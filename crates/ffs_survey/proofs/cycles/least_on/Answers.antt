@@ -10,7 +10,8 @@ pub round-init : goal.round-init
 round-init c = record {
   bound = (up_cycle c.args.parents.now c.args.found c.requires.cycle).1;
   low = c.requires.low;
-  rounding = round_start (up_of c.args.parents.now) c.args.found _ (up_cycle c.args.parents.now c.args.found c.requires.cycle).0;
+  rounding = round_start (up_of c.args.parents.now) c.args.found _
+      (up_cycle c.args.parents.now c.args.found c.requires.cycle).0;
 }
 
 pub round-preserved : goal.round-preserved
@@ -20,7 +21,10 @@ round-preserved c =
     let cy = cycle-along f c.round.steps c.args.found c.round.place c.requires.cycle r.place_is in
     let low = c.round.invariant.low in
     let bound = c.round.invariant.bound in
-    let facts : (c.if-place-least.least < length c.args.parents.now) × (c.if-place-least.least ≤ c.round.least) × (c.if-place-least.least ≤ c.round.place) × ((c.if-place-least.least ≡ c.round.least) ⊎ (c.if-place-least.least ≡ c.round.place)) = elim c.if-place-least.branch [
+    let facts : (c.if-place-least.least < length c.args.parents.now) × (c.if-place-least.least ≤ c.round.least)
+    × (c.if-place-least.least ≤ c.round.place)
+    × ((c.if-place-least.least ≡ c.round.least) ⊎ (c.if-place-least.least ≡ c.round.place)) =
+    elim c.if-place-least.branch [
       | then-place-least w ↦ (omega arith, omega arith, omega arith, inr w.least-is)
       | else-place-least w ↦ (omega arith, omega arith, omega arith, inl w.least-is)
     ] in
@@ -28,21 +32,27 @@ round-preserved c =
     record {
       bound = (up_cycle c.args.parents.now c.round.place cy).1;
       low = facts.0;
-      rounding = subst (λ k. Rounding f c.args.found k (number_at c.args.parents.now c.round.place) c.if-place-least.least) one
-          (round_step f c.args.found c.round.steps c.round.place c.round.least _ c.if-place-least.least r c.round-test.true (up_cycle c.args.parents.now c.round.place cy).0 facts.1 facts.2 facts.3);
+      rounding = subst (λ k. Rounding f c.args.found k (number_at c.args.parents.now c.round.place)
+          c.if-place-least.least) one
+          (round_step f c.args.found c.round.steps c.round.place c.round.least _ c.if-place-least.least r
+          c.round-test.true (up_cycle c.args.parents.now c.round.place cy).0 facts.1 facts.2 facts.3);
     }
 
 pub returns : goal.returns
 returns c =
-    round_end (up_of c.args.parents.now) c.args.found c.round.steps c.round.place c.round.least (length c.args.parents.now) c.requires.cycle c.requires.short c.round.invariant.rounding c.round-test.false c.round.invariant.low
+    round_end (up_of c.args.parents.now) c.args.found c.round.steps c.round.place c.round.least
+    (length c.args.parents.now) c.requires.cycle c.requires.short c.round.invariant.rounding c.round-test.false
+    c.round.invariant.low
 
 pub round-smaller : goal.round-smaller
 round-smaller c =
-    let s = round_short (up_of c.args.parents.now) c.args.found c.round.steps c.round.place c.round.least (length c.args.parents.now) c.requires.cycle c.requires.short c.round.invariant.rounding c.round-test.true in
+    let s = round_short (up_of c.args.parents.now) c.args.found c.round.steps c.round.place c.round.least
+    (length c.args.parents.now) c.requires.cycle c.requires.short c.round.invariant.rounding c.round-test.true in
     omega arith
 
 pub overflow_add-steps : goal.overflow_add-steps
 overflow_add-steps c =
-    let s = round_short (up_of c.args.parents.now) c.args.found c.round.steps c.round.place c.round.least (length c.args.parents.now) c.requires.cycle c.requires.short c.round.invariant.rounding c.round-test.true in
+    let s = round_short (up_of c.args.parents.now) c.args.found c.round.steps c.round.place c.round.least
+    (length c.args.parents.now) c.requires.cycle c.requires.short c.round.invariant.rounding c.round-test.true in
     let few = c.requires.few in
     omega arith

@@ -9,5 +9,6 @@ returns c = λ x.
     let inv = c.loop-start.invariant in
     elim (cases_lt x (length c.args.parents.now)) [
       | inl l ↦ inv.marks.known x (inv.begun x (omega arith))
-      | inr b ↦ get_or_past c.loop-start.leaders x _ (omega arith) ∙ sym (past_leader c.args.parents.now (length c.args.parents.now) x b)
+      | inr b ↦ get_or_past c.loop-start.leaders x _ (omega arith)
+          ∙ sym (past_leader c.args.parents.now (length c.args.parents.now) x b)
     ]

@@ -18,15 +18,20 @@ loop-s-preserved g c =
       grown = λ x l. let old = inv.grown x l in let new = done.grown x l in omega (arith, old, new);
       top = let t = done.top in let i = inv.top in omega (arith, t, i);
       comes = λ b k.
-          level_step _ c.args.kinds.now (g.D.Directories.entries (g.D.Directories.base c.args.directories.now) b) c.args.frontier.now c.loop-s.s-index _ _ _ _ _ _ _ _ _
+          level_step _ c.args.kinds.now (g.D.Directories.entries (g.D.Directories.base c.args.directories.now) b)
+          c.args.frontier.now c.loop-s.s-index _ _ _ _ _ _ _ _ _
           c.loop-s-test.true (inv.still b k c.loop-s.s-index 0 c.loop-s-test.true).dir (inv.comes b k) (comes b k);
       counts = λ b k.
-          dir_counted (length c.args.kinds.now) _ _ c.args.kinds.now (g.D.Directories.entries (g.D.Directories.base c.args.directories.now) b) c.args.frontier.now c.loop-s.s-index _ _ _ _ _ _
+          dir_counted (length c.args.kinds.now) _ _ c.args.kinds.now
+          (g.D.Directories.entries (g.D.Directories.base c.args.directories.now) b) c.args.frontier.now
+          c.loop-s.s-index _ _ _ _ _ _
           c.loop-s-test.true (inv.still b k c.loop-s.s-index 0 c.loop-s-test.true).dir (inv.counts b k) (counts b k);
       still = λ b k i d l.
           let s = inv.still b k i d l in
           record { dir = s.dir; marked = (comes_stays _ _ _ _ _ _ _ (comes b k)).reached _ s.marked };
       calm = λ b k old.
-          calm_read c.args.kinds.now c.args.marked.now _ _ _ _ _ _ (g.D.Directories.entries (g.D.Directories.base c.args.directories.now) b) (g.D.Directories.sound (g.D.Directories.base c.args.directories.now) b) _ _ _
+          calm_read c.args.kinds.now c.args.marked.now _ _ _ _ _ _
+          (g.D.Directories.entries (g.D.Directories.base c.args.directories.now) b)
+          (g.D.Directories.sound (g.D.Directories.base c.args.directories.now) b) _ _ _
           (comes b k) (inv.still b k c.loop-s.s-index 0 c.loop-s-test.true).marked (calm b k) (inv.calm b k old);
     }

@@ -11,8 +11,26 @@ invariant-loop-s g l = record {
   device : g.D.Directories.device l.directories ≡ g.D.Directories.device l.fn.directories;
   grown : (x : ℕ) → x < length l.kinds → number_at l.references x ≤ number_at l.fn.references x + l.s-index * 2 ^ 28;
   top : l.top + unset l.reached ≡ unset l.fn.reached;
-  comes : (b : List ℕ) → g.D.Directories.knows (g.D.Directories.base l.fn.directories) b → Comes (from_dirs (graph_with l.kinds (g.D.Directories.entries (g.D.Directories.base l.fn.directories) b)) l.frontier) l.fn.reached l.fn.parents [] (from_dirs (graph_with l.kinds (g.D.Directories.entries (g.D.Directories.base l.fn.directories) b)) (drop l.s-index l.frontier)) l.reached l.parents (take l.top l.queue);
-  counts : (b : List ℕ) → g.D.Directories.knows (g.D.Directories.base l.fn.directories) b → Counts (length l.kinds) (count_of (graph_with l.kinds (g.D.Directories.entries (g.D.Directories.base l.fn.directories) b)) l.frontier) (any_of (graph_with l.kinds (g.D.Directories.entries (g.D.Directories.base l.fn.directories) b)) l.frontier) l.fn.references l.fn.named (count_of (graph_with l.kinds (g.D.Directories.entries (g.D.Directories.base l.fn.directories) b)) (drop l.s-index l.frontier)) (any_of (graph_with l.kinds (g.D.Directories.entries (g.D.Directories.base l.fn.directories) b)) (drop l.s-index l.frontier)) l.references l.named;
-  still : (b : List ℕ) → g.D.Directories.knows (g.D.Directories.base l.fn.directories) b → All (IsReachedDir l.kinds l.reached) l.frontier;
-  calm : (b : List ℕ) → g.D.Directories.knows (g.D.Directories.base l.fn.directories) b → AreCalm l.kinds l.marked l.fn.reached l.fn.parents (g.D.Directories.entries (g.D.Directories.base l.fn.directories) b) (g.D.Directories.sound (g.D.Directories.base l.fn.directories) b) l.fn.calm → AreCalm l.kinds l.marked l.reached l.parents (g.D.Directories.entries (g.D.Directories.base l.fn.directories) b) (g.D.Directories.sound (g.D.Directories.base l.fn.directories) b) l.calm;
+  comes : (b : List ℕ) → g.D.Directories.knows (g.D.Directories.base l.fn.directories) b →
+      Comes (from_dirs (graph_with l.kinds (g.D.Directories.entries (g.D.Directories.base l.fn.directories) b))
+      l.frontier) l.fn.reached l.fn.parents []
+      (from_dirs (graph_with l.kinds (g.D.Directories.entries (g.D.Directories.base l.fn.directories) b))
+      (drop l.s-index l.frontier)) l.reached l.parents (take l.top l.queue);
+  counts : (b : List ℕ) → g.D.Directories.knows (g.D.Directories.base l.fn.directories) b →
+      Counts (length l.kinds) (count_of
+      (graph_with l.kinds (g.D.Directories.entries (g.D.Directories.base l.fn.directories) b)) l.frontier)
+      (any_of (graph_with l.kinds (g.D.Directories.entries (g.D.Directories.base l.fn.directories) b)) l.frontier)
+      l.fn.references l.fn.named
+      (count_of (graph_with l.kinds (g.D.Directories.entries (g.D.Directories.base l.fn.directories) b))
+      (drop l.s-index l.frontier))
+      (any_of (graph_with l.kinds (g.D.Directories.entries (g.D.Directories.base l.fn.directories) b))
+      (drop l.s-index l.frontier)) l.references l.named;
+  still : (b : List ℕ) → g.D.Directories.knows (g.D.Directories.base l.fn.directories) b →
+      All (IsReachedDir l.kinds l.reached) l.frontier;
+  calm : (b : List ℕ) → g.D.Directories.knows (g.D.Directories.base l.fn.directories) b →
+      AreCalm l.kinds l.marked l.fn.reached l.fn.parents
+      (g.D.Directories.entries (g.D.Directories.base l.fn.directories) b)
+      (g.D.Directories.sound (g.D.Directories.base l.fn.directories) b) l.fn.calm →
+      AreCalm l.kinds l.marked l.reached l.parents (g.D.Directories.entries (g.D.Directories.base l.fn.directories) b)
+      (g.D.Directories.sound (g.D.Directories.base l.fn.directories) b) l.calm;
 }

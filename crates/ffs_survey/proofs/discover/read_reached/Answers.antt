@@ -10,11 +10,13 @@ use Rattle.ffs_survey.proofs.discover.read_reached.Goals as goal
 pub loop-entry-preserved : goal.loop-entry-preserved
 loop-entry-preserved g c =
     let inv = c.loop-entry.invariant in
-    let fell : g.D.Directories.left c.next.new.self < g.D.Directories.left c.loop-entry.directories = rw c.in-Some.is at c.in_ok-entry.ensures.left in
+    let fell : g.D.Directories.left c.next.new.self < g.D.Directories.left c.loop-entry.directories =
+    rw c.in-Some.is at c.in_ok-entry.ensures.left in
     let e : RoledEntry = roled_of c.in-Some.entry (g.D.Directories.name c.next.new.self) in
     let reported = rw inv.base at c.in_ok-entry.ensures.rest in
     let cut = λ (b : List ℕ) (k : g.D.Directories.knows (g.D.Directories.base c.args.directories.now) b).
-    let q : g.D.Directories.rest c.loop-entry.directories b ≡ e ∷ g.D.Directories.rest c.next.new.self b = rw c.in-Some.is at (reported b k) in q in
+    let q : g.D.Directories.rest c.loop-entry.directories b ≡ e ∷ g.D.Directories.rest c.next.new.self b =
+    rw c.in-Some.is at (reported b k) in q in
     record {
       ready = search rules;
       base = search rules;
@@ -28,14 +30,26 @@ loop-entry-preserved g c =
       counted = let n = inv.counted in omega (arith, n, fell);
       high = let h = c.visit-high.ensures.top in let i = inv.high in omega (arith, h, i);
       comes = λ b k.
-          entry_step _ c.args.kinds.now c.args.from e (g.D.Directories.rest c.next.new.self b) c.args.reached.now c.loop-entry.reached _ c.args.parents.now c.loop-entry.parents _ (take c.args.top c.args.queue.now) (take c.loop-entry.high c.loop-entry.queue) _
+          entry_step _ c.args.kinds.now c.args.from e (g.D.Directories.rest c.next.new.self b) c.args.reached.now
+          c.loop-entry.reached _ c.args.parents.now c.loop-entry.parents _ (take c.args.top c.args.queue.now)
+          (take c.loop-entry.high c.loop-entry.queue) _
           (rw (cut b k) at (inv.comes b k)) c.visit-high.ensures.comes;
       counts = λ b k.
-          entry_counted (length c.args.kinds.now) _ _ e (g.D.Directories.rest c.next.new.self b) c.args.references.now c.loop-entry.references _ c.args.named.now c.loop-entry.named _
-          (rw (cut b k) at (inv.counts b k)) (λ x l. c.count_reference.ensures x (omega (arith, l))) (λ x l. c.mark_named.ensures x (omega (arith, l)));
+          entry_counted (length c.args.kinds.now) _ _ e (g.D.Directories.rest c.next.new.self b) c.args.references.now
+          c.loop-entry.references _ c.args.named.now c.loop-entry.named _
+          (rw (cut b k) at (inv.counts b k)) (λ x l. c.count_reference.ensures x (omega (arith, l)))
+          (λ x l. c.mark_named.ensures x (omega (arith, l)));
       quiet = λ b k.
-          calm_step (record { kinds = c.args.kinds.now; marked = c.args.marked.now; dir = c.args.from; above = c.parent_of-above.result }) c.loop-entry.reached _ c.loop-entry.parents _ (take c.loop-entry.high c.loop-entry.queue) _ c.loop-entry.count e (g.D.Directories.rest c.next.new.self b) c.loop-entry.quiet _ _
-          c.visit-high.ensures.comes (ap (λ z. c.loop-entry.quiet && z) c.is_calm-quiet.ensures) (rw (cut b k) at (inv.quiet b k));
+          calm_step (record {
+            kinds = c.args.kinds.now;
+            marked = c.args.marked.now;
+            dir = c.args.from;
+            above = c.parent_of-above.result;
+          }) c.loop-entry.reached _ c.loop-entry.parents _
+          (take c.loop-entry.high c.loop-entry.queue) _ c.loop-entry.count e (g.D.Directories.rest c.next.new.self b)
+          c.loop-entry.quiet _ _
+          c.visit-high.ensures.comes (ap (λ z. c.loop-entry.quiet && z) c.is_calm-quiet.ensures)
+          (rw (cut b k) at (inv.quiet b k));
       sound = let s = rw inv.base at c.in_ok-entry.ensures.sound in λ b k. s b k ∙ inv.sound b k;
     }
 
@@ -49,7 +63,13 @@ returns-clause-calm g c = λ b k.
     let entries = g.D.Directories.entries (g.D.Directories.base c.args.directories.now) b in
     let none : g.D.Directories.rest c.loop-entry.directories b ≡ [] = rw c.in_default.is at (reported b k) in
     let end : g.D.Directories.ended c.next.new.self b = rw c.in_default.is at ended b k in
-    let w = read_whole c.args.kinds.now c.args.marked.now c.args.reached.now c.loop-entry.reached c.args.parents.now c.loop-entry.parents (take c.args.top c.args.queue.now) (take c.loop-entry.high c.loop-entry.queue) (entries c.args.from) (g.D.Directories.rest c.loop-entry.directories b) c.args.from c.parent_of-above.result c.loop-entry.count c.loop-entry.quiet
+    let w = read_whole c.args.kinds.now c.args.marked.now c.args.reached.now c.loop-entry.reached c.args.parents.now
+    c.loop-entry.parents (take c.args.top c.args.queue.now) (take c.loop-entry.high c.loop-entry.queue)
+    (entries c.args.from) (g.D.Directories.rest c.loop-entry.directories b) c.args.from c.parent_of-above.result
+    c.loop-entry.count c.loop-entry.quiet
     c.parent_of-above.ensures none (inv.comes b k) (inv.quiet b k) in
-    subst (λ z. IsFlagged c.args.from z (g.D.Directories.sound (g.D.Directories.base c.args.directories.now) b c.args.from) c.args.calm.now c.flag_calm.new.calm) w.quiet_is
-    (subst (λ z. IsFlagged c.args.from (c.loop-entry.quiet && nat_le 2 c.loop-entry.count) z c.args.calm.now c.flag_calm.new.calm) (right b k ∙ inv.sound b k) (flags b k end))
+    subst (λ z. IsFlagged c.args.from z
+    (g.D.Directories.sound (g.D.Directories.base c.args.directories.now) b c.args.from) c.args.calm.now
+    c.flag_calm.new.calm) w.quiet_is
+    (subst (λ z. IsFlagged c.args.from (c.loop-entry.quiet && nat_le 2 c.loop-entry.count) z c.args.calm.now
+    c.flag_calm.new.calm) (right b k ∙ inv.sound b k) (flags b k end))

@@ -10,13 +10,27 @@ invariant-loop-entry g l = record {
   base : g.D.Directories.base l.directories ≡ g.D.Directories.base l.fn.directories;
   device : g.D.Directories.device l.directories ≡ g.D.Directories.device l.fn.directories;
   left : g.D.Directories.left l.directories ≤ 2 ^ 28;
-  grown : (x : ℕ) → x < length l.kinds → number_at l.references x + g.D.Directories.left l.directories ≤ number_at l.fn.references x + 2 ^ 28;
+  grown : (x : ℕ) → x < length l.kinds → number_at l.references x + g.D.Directories.left l.directories ≤ number_at
+      l.fn.references x + 2 ^ 28;
   counted : l.count + g.D.Directories.left l.directories ≤ 2 ^ 28;
   high : l.high + unset l.reached ≡ l.top + unset l.fn.reached;
-  comes : (b : List ℕ) → g.D.Directories.knows (g.D.Directories.base l.fn.directories) b → Comes (from_entries l.kinds l.from (g.D.Directories.entries (g.D.Directories.base l.fn.directories) b l.from)) l.fn.reached l.fn.parents (take l.top l.fn.queue) (from_entries l.kinds l.from (g.D.Directories.rest l.directories b)) l.reached l.parents (take l.high l.queue);
-  counts : (b : List ℕ) → g.D.Directories.knows (g.D.Directories.base l.fn.directories) b → Counts (length l.kinds) (count_in (g.D.Directories.entries (g.D.Directories.base l.fn.directories) b l.from)) (any_in (g.D.Directories.entries (g.D.Directories.base l.fn.directories) b l.from)) l.fn.references l.fn.named (count_in (g.D.Directories.rest l.directories b)) (any_in (g.D.Directories.rest l.directories b)) l.references l.named;
-  quiet : (b : List ℕ) → g.D.Directories.knows (g.D.Directories.base l.fn.directories) b → (l.quiet && are_calm (record { kinds = l.kinds; marked = l.marked; dir = l.from; above = l.above }) (bool_at l.reached) l.count (g.D.Directories.rest l.directories b)) ≡ are_calm (record { kinds = l.kinds; marked = l.marked; dir = l.from; above = l.above }) (bool_at l.fn.reached) 0 (g.D.Directories.entries (g.D.Directories.base l.fn.directories) b l.from);
-  sound : (b : List ℕ) → g.D.Directories.knows (g.D.Directories.base l.fn.directories) b → g.D.Directories.sound_so_far l.directories b ≡ g.D.Directories.sound (g.D.Directories.base l.fn.directories) b l.from;
+  comes : (b : List ℕ) → g.D.Directories.knows (g.D.Directories.base l.fn.directories) b →
+      Comes (from_entries l.kinds l.from (g.D.Directories.entries (g.D.Directories.base l.fn.directories) b l.from))
+      l.fn.reached l.fn.parents (take l.top l.fn.queue)
+      (from_entries l.kinds l.from (g.D.Directories.rest l.directories b)) l.reached l.parents (take l.high l.queue);
+  counts : (b : List ℕ) → g.D.Directories.knows (g.D.Directories.base l.fn.directories) b →
+      Counts (length l.kinds) (count_in (g.D.Directories.entries (g.D.Directories.base l.fn.directories) b l.from))
+      (any_in (g.D.Directories.entries (g.D.Directories.base l.fn.directories) b l.from)) l.fn.references l.fn.named
+      (count_in (g.D.Directories.rest l.directories b)) (any_in (g.D.Directories.rest l.directories b)) l.references
+      l.named;
+  quiet : (b : List ℕ) → g.D.Directories.knows (g.D.Directories.base l.fn.directories) b →
+      (l.quiet && are_calm (record { kinds = l.kinds; marked = l.marked; dir = l.from; above = l.above })
+      (bool_at l.reached) l.count (g.D.Directories.rest l.directories b))
+      ≡ are_calm (record { kinds = l.kinds; marked = l.marked; dir = l.from; above = l.above }) (bool_at l.fn.reached) 0
+      (g.D.Directories.entries (g.D.Directories.base l.fn.directories) b l.from);
+  sound : (b : List ℕ) → g.D.Directories.knows (g.D.Directories.base l.fn.directories) b →
+      g.D.Directories.sound_so_far l.directories b ≡ g.D.Directories.sound (g.D.Directories.base l.fn.directories) b
+      l.from;
 }
 
 abbrev pub decreases-loop-entry : goal.decreases-loop-entry

@@ -10,11 +10,13 @@ use Rattle.ffs_survey.proofs.discover.read_unreached.Goals as goal
 pub loop-entry-preserved : goal.loop-entry-preserved
 loop-entry-preserved g c =
     let inv = c.loop-entry.invariant in
-    let fell : g.D.Directories.left c.next.new.self < g.D.Directories.left c.loop-entry.directories = rw c.in-Some.is at c.in_ok-entry.ensures.left in
+    let fell : g.D.Directories.left c.next.new.self < g.D.Directories.left c.loop-entry.directories =
+    rw c.in-Some.is at c.in_ok-entry.ensures.left in
     let e : RoledEntry = roled_of c.in-Some.entry (g.D.Directories.name c.next.new.self) in
     let reported = rw inv.base at c.in_ok-entry.ensures.rest in
     let cut = λ (b : List ℕ) (k : g.D.Directories.knows (g.D.Directories.base c.args.directories.now) b).
-    let q : g.D.Directories.rest c.loop-entry.directories b ≡ e ∷ g.D.Directories.rest c.next.new.self b = rw c.in-Some.is at (reported b k) in q in
+    let q : g.D.Directories.rest c.loop-entry.directories b ≡ e ∷ g.D.Directories.rest c.next.new.self b =
+    rw c.in-Some.is at (reported b k) in q in
     record {
       ready = search rules;
       base = search rules;
@@ -26,8 +28,12 @@ loop-entry-preserved g c =
           let one = bit-le (refers x e) in
           omega (arith, old, new, one, fell);
       counts = λ b k.
-          entry_counted (length c.args.kinds.now) _ _ e (g.D.Directories.rest c.next.new.self b) c.args.references.now c.loop-entry.references _ c.args.named.now c.loop-entry.named _
-          (rw (cut b k) at (inv.counts b k)) (λ x l. c.count_reference.ensures x (omega (arith, l))) (λ x l. c.mark_named.ensures x (omega (arith, l)));
+          entry_counted (length c.args.kinds.now) _ _ e (g.D.Directories.rest c.next.new.self b) c.args.references.now
+          c.loop-entry.references _ c.args.named.now c.loop-entry.named _
+          (rw (cut b k) at (inv.counts b k)) (λ x l. c.count_reference.ensures x (omega (arith, l)))
+          (λ x l. c.mark_named.ensures x (omega (arith, l)));
       parents = λ b k x l.
-          parent_step (is_free c.args.kinds.now c.args.reached.now x) (names x e) (any_in (g.D.Directories.rest c.next.new.self b) x) c.args.from (number_at c.loop-entry.parents x) _ _ c.requires.from (c.adopt.ensures x l) (rw (cut b k) at (inv.parents b k x l));
+          parent_step (is_free c.args.kinds.now c.args.reached.now x) (names x e)
+          (any_in (g.D.Directories.rest c.next.new.self b) x) c.args.from (number_at c.loop-entry.parents x) _ _
+          c.requires.from (c.adopt.ensures x l) (rw (cut b k) at (inv.parents b k x l));
     }

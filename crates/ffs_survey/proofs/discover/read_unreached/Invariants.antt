@@ -9,9 +9,22 @@ invariant-loop-entry g l = record {
   base : g.D.Directories.base l.directories ≡ g.D.Directories.base l.fn.directories;
   device : g.D.Directories.device l.directories ≡ g.D.Directories.device l.fn.directories;
   left : g.D.Directories.left l.directories ≤ 2 ^ 28;
-  grown : (x : ℕ) → x < length l.kinds → number_at l.references x + g.D.Directories.left l.directories ≤ number_at l.fn.references x + 2 ^ 28;
-  counts : (b : List ℕ) → g.D.Directories.knows (g.D.Directories.base l.fn.directories) b → Counts (length l.kinds) (count_in (g.D.Directories.entries (g.D.Directories.base l.fn.directories) b l.from)) (any_in (g.D.Directories.entries (g.D.Directories.base l.fn.directories) b l.from)) l.fn.references l.fn.named (count_in (g.D.Directories.rest l.directories b)) (any_in (g.D.Directories.rest l.directories b)) l.references l.named;
-  parents : (b : List ℕ) → g.D.Directories.knows (g.D.Directories.base l.fn.directories) b → (x : ℕ) → x < length l.kinds → cond (eqb (number_at l.parents x) 0 && (is_free l.kinds l.reached x && any_in (g.D.Directories.rest l.directories b) x)) l.from (number_at l.parents x) ≡ cond (eqb (number_at l.fn.parents x) 0 && (is_free l.kinds l.reached x && any_in (g.D.Directories.entries (g.D.Directories.base l.fn.directories) b l.from) x)) l.from (number_at l.fn.parents x);
+  grown : (x : ℕ) → x < length l.kinds → number_at l.references x + g.D.Directories.left l.directories ≤ number_at
+      l.fn.references x + 2 ^ 28;
+  counts : (b : List ℕ) → g.D.Directories.knows (g.D.Directories.base l.fn.directories) b →
+      Counts (length l.kinds) (count_in (g.D.Directories.entries (g.D.Directories.base l.fn.directories) b l.from))
+      (any_in (g.D.Directories.entries (g.D.Directories.base l.fn.directories) b l.from)) l.fn.references l.fn.named
+      (count_in (g.D.Directories.rest l.directories b)) (any_in (g.D.Directories.rest l.directories b)) l.references
+      l.named;
+  parents : (b : List ℕ) → g.D.Directories.knows (g.D.Directories.base l.fn.directories) b → (x : ℕ) →
+      x < length l.kinds → cond
+      (eqb (number_at l.parents x) 0
+      && (is_free l.kinds l.reached x && any_in (g.D.Directories.rest l.directories b) x)) l.from
+      (number_at l.parents x) ≡ cond
+      (eqb (number_at l.fn.parents x) 0
+      && (is_free l.kinds l.reached x
+      && any_in (g.D.Directories.entries (g.D.Directories.base l.fn.directories) b l.from) x)) l.from
+      (number_at l.fn.parents x);
 }
 
 abbrev pub decreases-loop-entry : goal.decreases-loop-entry

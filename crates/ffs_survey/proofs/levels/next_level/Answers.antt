@@ -1,4 +1,5 @@
-use Rattle.std.proofs.Common.{◌≡◌, ℕ, ◌+◌, List, [], ◌++◌, take, drop, arith, sym, ◌∙◌, ap, subst, All, length, length-take}
+use Rattle.std.proofs.Common.{◌≡◌, ℕ, ◌+◌, List, [], ◌++◌, take, drop, arith, sym, ◌∙◌, ap, subst, All, length}
+use Rattle.std.proofs.Common.{length-take}
 use Rattle.std.proofs.lemmas.List.Sorted.{IsNonDecreasingBy-from_sort}
 use Rattle.ffs_survey.specs.Survey.{graph_with}
 use Rattle.ffs_survey.specs.Discover.{Comes, IsReachedDir, IsFrontier, LevelsKnown, from_dirs, nothing}
@@ -12,10 +13,12 @@ pub read_level-requires-clause-frontier : goal.read_level-requires-clause-fronti
 read_level-requires-clause-frontier g c = λ b k.
     let at = c.requires.levels b k in
     let v = graph_with c.args.kinds.now (g.D.Directories.entries (g.D.Directories.base c.args.directories.now) b) in
-    let e = frontier_is c.args.low c.args.high c.args.queue.now c.split_at_mut-left.result.0.now c.split_at_mut-left.ensures.front in
+    let e = frontier_is c.args.low c.args.high c.args.queue.now c.split_at_mut-left.result.0.now
+    c.split_at_mut-left.ensures.front in
     let P : List ℕ → Type 0 = λ xs. All (IsReachedDir c.args.kinds.now c.args.reached.now) xs in
     subst P (sym e) (λ i d l. record {
-      dir = front_dirs v c.args.depth _ (sane_of c.args.kinds.now _ c.requires.lists.some) c.requires.root at.frontier i d l;
+      dir = front_dirs v c.args.depth _ (sane_of c.args.kinds.now _ c.requires.lists.some) c.requires.root at.frontier i
+          d l;
       marked = front_reached _ _ _ _ _ _ at.frontier at.levels i d l;
     })
 
@@ -24,21 +27,38 @@ returns-clause-levels g c = λ b k.
     let at = c.requires.levels b k in
     let v = graph_with c.args.kinds.now (g.D.Directories.entries (g.D.Directories.base c.args.directories.now) b) in
     let xs = drop c.args.low (take c.args.high c.args.queue.now) in
-    let e = frontier_is c.args.low c.args.high c.args.queue.now c.split_at_mut-left.result.0.now c.split_at_mut-left.ensures.front in
-    let P : List ℕ → Type 0 = λ xs. Comes (from_dirs v xs) c.args.reached.now c.args.parents.now [] nothing c.read_level.new.reached c.read_level.new.parents (take c.in_ok-found.found c.read_level.new.queue) in
-    let n : IsNextLevel v (c.args.depth + 1) c.read_level.new.reached c.read_level.new.parents (take c.args.high c.args.queue.now) c.sort_unstable.new.self =
-    level_after v c.args.depth xs c.args.reached.now c.read_level.new.reached c.args.parents.now c.read_level.new.parents (take c.args.high c.args.queue.now) (take c.in_ok-found.found c.read_level.new.queue) c.sort_unstable.new.self
-    (sane_of c.args.kinds.now _ c.requires.lists.some) at.frontier at.levels (subst P e (c.in_ok-found.ensures.comes b k)) c.sort_unstable.ensures.permutation (IsNonDecreasingBy-from_sort (λ x. x) _ c.sort_unstable.ensures.sorted) in
+    let e = frontier_is c.args.low c.args.high c.args.queue.now c.split_at_mut-left.result.0.now
+    c.split_at_mut-left.ensures.front in
+    let P : List ℕ → Type 0 = λ xs. Comes (from_dirs v xs) c.args.reached.now c.args.parents.now [] nothing
+    c.read_level.new.reached c.read_level.new.parents (take c.in_ok-found.found c.read_level.new.queue) in
+    let n : IsNextLevel v (c.args.depth + 1) c.read_level.new.reached c.read_level.new.parents
+    (take c.args.high c.args.queue.now) c.sort_unstable.new.self =
+    level_after v c.args.depth xs c.args.reached.now c.read_level.new.reached c.args.parents.now
+    c.read_level.new.parents (take c.args.high c.args.queue.now) (take c.in_ok-found.found c.read_level.new.queue)
+    c.sort_unstable.new.self
+    (sane_of c.args.kinds.now _ c.requires.lists.some) at.frontier at.levels
+    (subst P e (c.in_ok-found.ensures.comes b k)) c.sort_unstable.ensures.permutation
+    (IsNonDecreasingBy-from_sort (λ x. x) _ c.sort_unstable.ensures.sorted) in
     let t = c.in_ok-found.ensures.top in
     let room = c.requires.room.room in
     let left = c.split_at_mut-left.result.0.now in
     let front : length left ≡ c.args.high = omega (arith, c.split_at_mut-left.ensures.front_len, room) in
-    let back : length c.sort_unstable.new.self ≡ c.in_ok-found.found = omega (arith, c.sort_unstable.ensures.len, length-take c.in_ok-found.found c.read_level.new.queue, t, room, c.split_at_mut-left.ensures.back_len) in
+    let back : length c.sort_unstable.new.self ≡ c.in_ok-found.found =
+    omega (
+      arith,
+      c.sort_unstable.ensures.len,
+      length-take c.in_ok-found.found c.read_level.new.queue,
+      t,
+      room,
+      c.split_at_mut-left.ensures.back_len,
+    ) in
     let rest = drop c.in_ok-found.found c.read_level.new.queue in
     record {
-      frontier = subst (λ ys. IsFrontier v (c.args.depth + 1) ys) (sym (new_front c.args.high c.in_ok-found.found left c.sort_unstable.new.self rest front back)) n.frontier;
+      frontier = subst (λ ys. IsFrontier v (c.args.depth + 1) ys)
+          (sym (new_front c.args.high c.in_ok-found.found left c.sort_unstable.new.self rest front back)) n.frontier;
       levels = subst (λ q. LevelsKnown v (c.args.depth + 1) c.read_level.new.reached c.read_level.new.parents q)
-          (sym (whole_queue c.args.high c.in_ok-found.found left c.sort_unstable.new.self rest front back ∙ ap (λ z. z ++ c.sort_unstable.new.self) c.split_at_mut-left.ensures.front)) n.knows;
+          (sym (whole_queue c.args.high c.in_ok-found.found left c.sort_unstable.new.self rest front back
+          ∙ ap (λ z. z ++ c.sort_unstable.new.self) c.split_at_mut-left.ensures.front)) n.knows;
     }
 
 pub returns-clause-calm : goal.returns-clause-calm

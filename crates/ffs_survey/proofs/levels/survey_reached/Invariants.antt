@@ -13,9 +13,15 @@ invariant-loop-low g l = record {
   deep : l.depth ≤ l.low;
   room : HasRoom l.low l.high l.reached l.queue;
   counted : (x : ℕ) → x < length l.kinds → number_at l.references x ≤ l.low * 2 ^ 28;
-  levels : (b : List ℕ) → g.D.Directories.knows (g.D.Directories.base l.fn.directories) b → AtLevel (graph_with l.kinds (g.D.Directories.entries (g.D.Directories.base l.fn.directories) b)) l.depth l.low l.high l.reached l.parents l.queue;
-  counts : (b : List ℕ) → g.D.Directories.knows (g.D.Directories.base l.fn.directories) b → IsCount (graph_with l.kinds (g.D.Directories.entries (g.D.Directories.base l.fn.directories) b)) (take l.low l.queue) l.references l.named;
-  calm : (b : List ℕ) → g.D.Directories.knows (g.D.Directories.base l.fn.directories) b → AreCalm l.kinds l.marked l.reached l.parents (g.D.Directories.entries (g.D.Directories.base l.fn.directories) b) (g.D.Directories.sound (g.D.Directories.base l.fn.directories) b) l.calm;
+  levels : (b : List ℕ) → g.D.Directories.knows (g.D.Directories.base l.fn.directories) b →
+      AtLevel (graph_with l.kinds (g.D.Directories.entries (g.D.Directories.base l.fn.directories) b)) l.depth l.low
+      l.high l.reached l.parents l.queue;
+  counts : (b : List ℕ) → g.D.Directories.knows (g.D.Directories.base l.fn.directories) b →
+      IsCount (graph_with l.kinds (g.D.Directories.entries (g.D.Directories.base l.fn.directories) b))
+      (take l.low l.queue) l.references l.named;
+  calm : (b : List ℕ) → g.D.Directories.knows (g.D.Directories.base l.fn.directories) b →
+      AreCalm l.kinds l.marked l.reached l.parents (g.D.Directories.entries (g.D.Directories.base l.fn.directories) b)
+      (g.D.Directories.sound (g.D.Directories.base l.fn.directories) b) l.calm;
 }
 
 abbrev pub decreases-loop-low : goal.decreases-loop-low

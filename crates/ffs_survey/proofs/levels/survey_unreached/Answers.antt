@@ -9,7 +9,9 @@ loop-s-init g c = record {
   base = search rules;
   device = search rules;
   grown = λ x l. omega arith;
-  read = λ b k z. read_start (graph_with c.args.kinds.now (g.D.Directories.entries (g.D.Directories.base c.args.directories.now) b)) c.args.kinds.now c.args.reached.now c.args.references.now c.args.named.now c.args.parents.now;
+  read = λ b k z. read_start
+      (graph_with c.args.kinds.now (g.D.Directories.entries (g.D.Directories.base c.args.directories.now) b))
+      c.args.kinds.now c.args.reached.now c.args.references.now c.args.named.now c.args.parents.now;
 }
 
 pub loop-s-preserved-then-not-is_free : goal.loop-s-preserved-then-not-is_free
@@ -20,7 +22,9 @@ loop-s-preserved-then-not-is_free g c =
       base = inv.base;
       device = inv.device;
       grown = λ x l. let o = inv.grown x l in omega (arith, o);
-      read = λ b k z. read_skip c.args.kinds.now (g.D.Directories.entries (g.D.Directories.base c.args.directories.now) b) c.args.reached.now c.loop-s.s _ _ _ _ _ _ (sym c.is_free.ensures ∙ c.if-not-is_free.true) (inv.read b k z);
+      read = λ b k z. read_skip c.args.kinds.now
+          (g.D.Directories.entries (g.D.Directories.base c.args.directories.now) b) c.args.reached.now c.loop-s.s _ _ _
+          _ _ _ (sym c.is_free.ensures ∙ c.if-not-is_free.true) (inv.read b k z);
     }
 
 pub loop-s-preserved : goal.loop-s-preserved
@@ -35,6 +39,7 @@ loop-s-preserved g c =
       device = search rules;
       grown = λ x l. let o = inv.grown x l in let n = done.grown x l in omega (arith, o, n);
       read = λ b k z.
-          read_on c.args.kinds.now (g.D.Directories.entries (g.D.Directories.base c.args.directories.now) b) c.args.reached.now c.loop-s.s _ _ _ _ _ _ _ _ _
+          read_on c.args.kinds.now (g.D.Directories.entries (g.D.Directories.base c.args.directories.now) b)
+          c.args.reached.now c.loop-s.s _ _ _ _ _ _ _ _ _
           (sym c.is_free.ensures ∙ c.if-not-is_free.false) z (inv.read b k z) (counts b k) (parents b k);
     }

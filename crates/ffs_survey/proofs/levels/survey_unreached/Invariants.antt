@@ -9,5 +9,8 @@ invariant-loop-s g l = record {
   base : g.D.Directories.base l.directories ≡ g.D.Directories.base l.fn.directories;
   device : g.D.Directories.device l.directories ≡ g.D.Directories.device l.fn.directories;
   grown : (x : ℕ) → x < length l.kinds → number_at l.references x ≤ number_at l.fn.references x + l.s * 2 ^ 28;
-  read : (b : List ℕ) → g.D.Directories.knows (g.D.Directories.base l.fn.directories) b → IsBlank l.kinds l.reached l.fn.parents → IsRead (graph_with l.kinds (g.D.Directories.entries (g.D.Directories.base l.fn.directories) b)) l.kinds l.reached l.s l.fn.references l.fn.named l.fn.parents l.references l.named l.parents;
+  read : (b : List ℕ) → g.D.Directories.knows (g.D.Directories.base l.fn.directories) b →
+      IsBlank l.kinds l.reached l.fn.parents →
+      IsRead (graph_with l.kinds (g.D.Directories.entries (g.D.Directories.base l.fn.directories) b)) l.kinds l.reached
+      l.s l.fn.references l.fn.named l.fn.parents l.references l.named l.parents;
 }

@@ -10,9 +10,17 @@ use Rattle.ffs_survey.proofs.unref.is_unref.Goals as goal
 pub returns-then-above-eq0 : goal.returns-then-above-eq0
 returns-then-above-eq0 c = λ v n t.
     let suspect = suspect_at c.args.kinds.now c.args.marked.now in
-    let l : IsLost v suspect c.args.dir = record { dir = t.dirs c.args.dir ∙ (sym c.is_dir.ensures ∙ c.if-not-is_dir.false); not_root = c.if-dir-eq-ROOTINO.false; unreached = sym (t.reaches c.args.dir) ∙ c.if-reached-dir.false; alive = sym (c.is_dead.ensures v n) ∙ c.if-is_dead.false } in
-    sym (unref_is v suspect c.args.kinds.now c.args.reached.now c.args.parents.now c.args.dir c.requires.lists.parents t l
-    ∙ ap (λ b. b || leads_cycle (up_of c.args.parents.now) (length c.args.parents.now) c.args.dir) (cond-true _ true _ (eq-eqb _ 0 c.if-above-eq0.true)))
+    let l : IsLost v suspect c.args.dir = record {
+      dir = t.dirs c.args.dir ∙ (sym c.is_dir.ensures ∙ c.if-not-is_dir.false);
+      not_root = c.if-dir-eq-ROOTINO.false;
+      unreached = sym (t.reaches c.args.dir) ∙ c.if-reached-dir.false;
+      alive = sym (c.is_dead.ensures v n)
+          ∙ c.if-is_dead.false;
+    } in
+    sym (unref_is v suspect c.args.kinds.now c.args.reached.now c.args.parents.now c.args.dir c.requires.lists.parents t
+    l
+    ∙ ap (λ b. b || leads_cycle (up_of c.args.parents.now) (length c.args.parents.now) c.args.dir)
+    (cond-true _ true _ (eq-eqb _ 0 c.if-above-eq0.true)))
 
 pub returns-then-above-kinds : goal.returns-then-above-kinds
 returns-then-above-kinds c = λ v n t.
@@ -22,8 +30,15 @@ returns-then-above-kinds c = λ v n t.
 pub returns : goal.returns
 returns c = λ v n t.
     let suspect = suspect_at c.args.kinds.now c.args.marked.now in
-    let l : IsLost v suspect c.args.dir = record { dir = t.dirs c.args.dir ∙ (sym c.is_dir.ensures ∙ c.if-not-is_dir.false); not_root = c.if-dir-eq-ROOTINO.false; unreached = sym (t.reaches c.args.dir) ∙ c.if-reached-dir.false; alive = sym (c.is_dead.ensures v n) ∙ c.if-is_dead.false } in
+    let l : IsLost v suspect c.args.dir = record {
+      dir = t.dirs c.args.dir ∙ (sym c.is_dir.ensures ∙ c.if-not-is_dir.false);
+      not_root = c.if-dir-eq-ROOTINO.false;
+      unreached = sym (t.reaches c.args.dir) ∙ c.if-reached-dir.false;
+      alive = sym (c.is_dead.ensures v n)
+          ∙ c.if-is_dead.false;
+    } in
     c.requires.lists.cycles c.args.dir
-    ∙ sym (unref_is v suspect c.args.kinds.now c.args.reached.now c.args.parents.now c.args.dir c.requires.lists.parents t l
+    ∙ sym (unref_is v suspect c.args.kinds.now c.args.reached.now c.args.parents.now c.args.dir c.requires.lists.parents
+    t l
     ∙ ap (λ b. b || leads_cycle (up_of c.args.parents.now) (length c.args.parents.now) c.args.dir)
     (cond-false _ true _ (ne_eqb _ 0 c.if-above-eq0.false) ∙ (sym (c.is_dead-2.ensures v n) ∙ c.if-is_dead-2.false)))

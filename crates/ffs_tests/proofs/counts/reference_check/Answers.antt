@@ -2,4 +2,10 @@ use Rattle.std.proofs.Common.{arith, rules}
 use Rattle.ffs_tests.proofs.counts.reference_check.Goals as goal
 
 pub phase4-requires : goal.phase4-requires
-phase4-requires g c = record { ready = record { made = c.in_ok-workspace.ensures.made; volume = search (rules, arith); windows = c.in_ok-workspace.ensures.windows _ } }
+phase4-requires g c = record {
+  ready = record {
+    made = c.in_ok-workspace.ensures.made;
+    volume = search (rules, arith);
+    windows = c.in_ok-workspace.ensures.windows _;
+  };
+}

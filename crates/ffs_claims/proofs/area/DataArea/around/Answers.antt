@@ -11,7 +11,8 @@ returns-then-start-data c =
     record {
       area = record {
         runs = λ s n low high some.
-            before_metadata v (c.args.start / v.fpg) s n c.args.geometry.now.sound group (rw c.cgbase-base.ensures.value at low) (rw c.cgsblock.ensures at high) some;
+            before_metadata v (c.args.start / v.fpg) s n c.args.geometry.now.sound group
+            (rw c.cgbase-base.ensures.value at low) (rw c.cgsblock.ensures at high) some;
       };
       run = λ n some fits.
           let at = lies v c.args.start n c.args.geometry.now.sound some fits in
@@ -25,11 +26,13 @@ pub returns : goal.returns
 returns c =
     let v = c.args.geometry.now.layout in
     let group : c.args.start / v.fpg < v.ncg = group_below v c.args.start c.args.geometry.now.sound c.requires.inside in
-    let next : cgbase v (c.args.start / v.fpg + 1) ≡ cgbase v (c.args.start / v.fpg) + v.fpg = base_above v (c.args.start / v.fpg) in
+    let next : cgbase v (c.args.start / v.fpg + 1) ≡ cgbase v (c.args.start / v.fpg) + v.fpg =
+    base_above v (c.args.start / v.fpg) in
     record {
       area = record {
         runs = λ s n low high some.
-            after_metadata v (c.args.start / v.fpg) s n c.args.geometry.now.sound group (rw c.cgdmin-data.ensures.value at low) (omega (arith, next, high)) (omega (arith, high)) some;
+            after_metadata v (c.args.start / v.fpg) s n c.args.geometry.now.sound group
+            (rw c.cgdmin-data.ensures.value at low) (omega (arith, next, high)) (omega (arith, high)) some;
       };
       run = λ n some fits.
           let at = lies v c.args.start n c.args.geometry.now.sound some fits in

@@ -7,6 +7,7 @@ returns g c = (
   (refl, λ w. ap (λ list. with_item list c.args.index w) c.self.view_is),
   record {
     writes_back = tt;
-    value = c.index_mut.ensures.value ∙ ap (λ list. slice_index_or list.items c.args.index c.index_mut.result.now) c.self.view_is;
+    value = c.index_mut.ensures.value ∙ ap (λ list. slice_index_or list.items c.args.index c.index_mut.result.now)
+        c.self.view_is;
   },
 )

@@ -3,9 +3,11 @@ use Rattle.std.proofs.lemmas.Result.{err_from_is_err_and}
 use Rattle.ffs_volume.specs.declared.Step.TheVariants.{Run}
 use Rattle.ffs_walk.specs.Rests.{rest as steps_left}
 use Rattle.ffs_names.specs.Keepings.{replay_in}
-use Rattle.ffs_names.proofs.Advances.{over_rest, unseen_none, steps_on, end_none, tail_on, gap_on, runs_on, runs_tail, runs_gap, walked, walked_runs}
+use Rattle.ffs_names.proofs.Advances.{over_rest, unseen_none, steps_on, end_none, tail_on, gap_on, runs_on, runs_tail}
+use Rattle.ffs_names.proofs.Advances.{runs_gap, walked, walked_runs}
 use Rattle.ffs_names.proofs.GapsLeft.{gap_same, gap_over_tail, gap_seen, walked_gap}
-use Rattle.ffs_names.proofs.Continuing.{continues_here, continues_more, replayed_over, walk_volume, walk_room, walk_holds, walk_on}
+use Rattle.ffs_names.proofs.Continuing.{continues_here, continues_more, replayed_over, walk_volume, walk_room}
+use Rattle.ffs_names.proofs.Continuing.{walk_holds, walk_on}
 use Rattle.ffs_names.proofs.chunks.Chunks.advance.Goals as goal
 
 pub steps-init : goal.steps-init
@@ -130,7 +132,8 @@ steps-preserved-in-Some-Run g c =
 pub returns-then-not-is_replay_open-clause-found : goal.returns-then-not-is_replay_open-clause-found
 returns-then-not-is_replay_open-clause-found g c = λ b t.
     let s = c.steps.self in
-    unseen_none s.walk.geometry.layout b s.run_cursor s.taken s.keeping.cut (replay_in s.keeping) (steps_left b s.walk) (omega (arith, c.steps-test.true)) (sym c.is_replay_open.ensures ∙ c.if-not-is_replay_open.true)
+    unseen_none s.walk.geometry.layout b s.run_cursor s.taken s.keeping.cut (replay_in s.keeping) (steps_left b s.walk)
+    (omega (arith, c.steps-test.true)) (sym c.is_replay_open.ensures ∙ c.if-not-is_replay_open.true)
 
 -- a walk that failed is over
 pub returns-in_err-next-clause-runs : goal.returns-in_err-next-clause-runs
@@ -167,4 +170,5 @@ pub returns-in-None-clause-found : goal.returns-in-None-clause-found
 returns-in-None-clause-found g c = λ b t.
     let s = c.steps.self in
     let none = c.next.ensures.none (c.in_ok-next.was ∙ ap (λ x. Ok x) c.in-None.is) in
-    end_none c.next.new.self.geometry.layout b s.run_cursor s.taken s.keeping.cut (replay_in s.keeping) (steps_left b c.next.new.self) (omega (arith, c.steps-test.true)) (over_rest b c.next.new.self none)
+    end_none c.next.new.self.geometry.layout b s.run_cursor s.taken s.keeping.cut (replay_in s.keeping)
+    (steps_left b c.next.new.self) (omega (arith, c.steps-test.true)) (over_rest b c.next.new.self none)

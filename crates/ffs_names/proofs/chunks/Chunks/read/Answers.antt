@@ -14,7 +14,8 @@ returns-clause-chunk g c = λ b t.
     let order = ap (λ x. x.layout.order) c.advance.ensures.same.geometry in
     let more = rw c.if-not-branch.false at c.in_ok-advance.ensures.found in
     let fits = h.in_run in
-    let chunk = chunk_held h.place h.length h.next b (held_bytes c.fill.new.self) c.copy_from_slice.new.self c.bytes.result.now (omega arith) c.copy_from_slice.ensures.after c.bytes.ensures
+    let chunk = chunk_held h.place h.length h.next b (held_bytes c.fill.new.self) c.copy_from_slice.new.self
+    c.bytes.result.now (omega arith) c.copy_from_slice.ensures.after c.bytes.ensures
     (c.in_ok-fill.ensures.bytes b (ap (λ d. d.contents) c.in_ok-advance.ensures.read ∙ t)) in
     record {
       chunks = hand_step s.walk.geometry.layout.order c.args.self.now.walk.geometry.layout.order b h.place h.offset

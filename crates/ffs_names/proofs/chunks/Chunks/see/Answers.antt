@@ -1,6 +1,7 @@
 use Rattle.std.proofs.Common.{arith}
 use Rattle.ffs_names.specs.Keepings.{replay_in}
-use Rattle.ffs_names.proofs.RoledEntry.{no_run_cursor, run_continues, kept_run, no_kept_run, no_data_run, no_block_run, runs_seen}
+use Rattle.ffs_names.proofs.RoledEntry.{no_run_cursor, run_continues, kept_run, no_kept_run, no_data_run, no_block_run}
+use Rattle.ffs_names.proofs.RoledEntry.{runs_seen}
 use Rattle.ffs_names.proofs.GapsLeft.{gap_past_run}
 use Rattle.ffs_names.proofs.chunks.Chunks.see.Goals as goal
 

@@ -47,12 +47,14 @@ chunks-preserved g c =
     record {
       entries = λ b t.
           let o = (rw c.in-Some-2.is at c.in_ok-next.ensures.chunk) b (ap (λ d. d.contents) i.device ∙ t) in
-          chunk_came s.first s.index s.order s.chunks.walk.geometry.layout.order s.chunk s.place (rest b s.chunks) c.in-Some-2.offset c.next.new.chunk (rest b c.next.new.self)
+          chunk_came s.first s.index s.order s.chunks.walk.geometry.layout.order s.chunk s.place (rest b s.chunks)
+          c.in-Some-2.offset c.next.new.chunk (rest b c.next.new.self)
           none (sym s.same_order) o.chunks
           ∙ (c.in-None.ensures.entries b ∙ i.entries b t);
       shape = λ b t.
           let o = (rw c.in-Some-2.is at c.in_ok-next.ensures.chunk) b (ap (λ d. d.contents) i.device ∙ t) in
-          shape_came s.sound s.order s.chunks.walk.geometry.layout.order s.chunk s.place (rest b s.chunks) c.in-Some-2.offset c.next.new.chunk (rest b c.next.new.self) _ _
+          shape_came s.sound s.order s.chunks.walk.geometry.layout.order s.chunk s.place (rest b s.chunks)
+          c.in-Some-2.offset c.next.new.chunk (rest b c.next.new.self) _ _
           none (sym s.same_order) o.chunks o.gap
           ∙ (shape_same b _ _ _ _ _ _ same.sound same.fills same.chunks ∙ i.shape b t);
       place = λ b t held low.

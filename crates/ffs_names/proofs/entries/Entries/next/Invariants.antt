@@ -8,7 +8,8 @@ use Rattle.ffs_names.proofs.entries.Entries.next.Given as goal
 abbrev pub invariant-chunks : goal.invariant-chunks
 invariant-chunks g l = record {
   entries : ForContents (g.I.Image.device l.fn.image).contents (λ b. to_come b l.self ≡ to_come b l.fn.self);
-  shape : ForContents (g.I.Image.device l.fn.image).contents (λ b. has_right_shape b l.self ≡ has_right_shape b l.fn.self);
+  shape : ForContents (g.I.Image.device l.fn.image).contents
+      (λ b. has_right_shape b l.self ≡ has_right_shape b l.fn.self);
   place : ForContents (g.I.Image.device l.fn.image).contents (λ b. MayTake b l.fn.self → MayTake b l.self);
   inside : (l.fn.self.place < 512 → IsInside l.fn.self) → l.self.place < 512 → IsInside l.self;
   left : left l.self ≤ left l.fn.self;

@@ -8,7 +8,8 @@ use Rattle.ffs_names.proofs.entries.Entries.take.Goals as goal
 pub returns-clause-entries : goal.returns-clause-entries
 returns-clause-entries c =
     let s = c.args.self.now in
-    λ b. take_reported s.first s.index s.order s.chunk s.place (entry_value c.in-Some.entry) c.role_of-role.result (rest b s.chunks) c.in-Some.ensures.some c.role_of-role.ensures c.in-Some.ensures.name.0
+    λ b. take_reported s.first s.index s.order s.chunk s.place (entry_value c.in-Some.entry) c.role_of-role.result
+    (rest b s.chunks) c.in-Some.ensures.some c.role_of-role.ensures c.in-Some.ensures.name.0
 
 pub returns-clause-same : goal.returns-clause-same
 returns-clause-same c = let s = c.args.self.now in record {

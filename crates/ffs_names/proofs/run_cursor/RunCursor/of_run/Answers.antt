@@ -6,7 +6,9 @@ use Rattle.ffs_names.proofs.run_cursor.RunCursor.of_run.Goals as goal
 pub returns-then-block-clause-chunks : goal.returns-then-block-clause-chunks
 returns-then-block-clause-chunks c = λ b.
     let v = c.args.geometry.now.layout in
-    c.empty.ensures.none v b ∙ sym (none_far v (reading_by v b c.args.taken) c.args.start c.args.len c.args.block c.args.geometry.now.sound (omega (arith, c.if-block.true)) (omega (arith, c.requires.taken)))
+    c.empty.ensures.none v b ∙ sym
+    (none_far v (reading_by v b c.args.taken) c.args.start c.args.len c.args.block c.args.geometry.now.sound
+    (omega (arith, c.if-block.true)) (omega (arith, c.requires.taken)))
 
 pub returns-then-block-clause-fits : goal.returns-then-block-clause-fits
 returns-then-block-clause-fits c = c.empty.ensures.fits c.args.geometry.now.layout
@@ -18,6 +20,8 @@ pub returns-clause-fits : goal.returns-clause-fits
 returns-clause-fits c =
     let v = c.args.geometry.now.layout in
     record {
-      in_block = rw (c.from-4.ensures, c.from-5.ensures) (run_in_block v c.args.len c.args.geometry.now.sound c.requires.short);
-      in_volume = rw (c.from-2.ensures, c.from-3.ensures, c.from-4.ensures, c.from-5.ensures) (run_in_volume v c.args.start c.args.len c.args.geometry.now.sound c.requires.some c.requires.in_range);
+      in_block = rw (c.from-4.ensures, c.from-5.ensures)
+          (run_in_block v c.args.len c.args.geometry.now.sound c.requires.short);
+      in_volume = rw (c.from-2.ensures, c.from-3.ensures, c.from-4.ensures, c.from-5.ensures)
+          (run_in_volume v c.args.start c.args.len c.args.geometry.now.sound c.requires.some c.requires.in_range);
     }

@@ -11,7 +11,8 @@ use Rattle.ffs_names.proofs.tree.TreeDirectories.start.Goals as goal
 pub returns-then-not-is_dir-clause-rest : goal.returns-then-not-is_dir-clause-rest
 returns-then-not-is_dir-clause-rest g c = λ b k.
     let v = c.args.self.now.geometry.layout in
-    let none = sym (kind_dirs v b c.args.self.now.kinds.now c.args.dir (k.kinds c.args.dir)) ∙ (sym c.is_dir.ensures ∙ c.if-not-is_dir.true) in
+    let none = sym (kind_dirs v b c.args.self.now.kinds.now c.args.dir (k.kinds c.args.dir))
+    ∙ (sym c.is_dir.ensures ∙ c.if-not-is_dir.true) in
     c.stop.ensures.entries b ∙ sym (ap (λ x. if x then roled_entries (volume_of v b) c.args.dir else []) none)
 
 pub returns-clause-reader : goal.returns-clause-reader
@@ -41,26 +42,31 @@ pub returns-clause-rest : goal.returns-clause-rest
 returns-clause-rest g c = λ b k.
     let t = c.args.self.now in
     let v = t.geometry.layout in
-    let dir = sym (kind_dirs v b t.kinds.now c.args.dir (k.kinds c.args.dir)) ∙ (sym c.is_dir.ensures ∙ c.if-not-is_dir.false) in
+    let dir = sym (kind_dirs v b t.kinds.now c.args.dir (k.kinds c.args.dir))
+    ∙ (sym c.is_dir.ensures ∙ c.if-not-is_dir.false) in
     let is = dir_is v b c.args.dir dir in
     let inode = c.in_ok-inode.ensures.inode b k.bytes in
     let entries = rw c.requires.ready.1 at (c.restart.ensures.begins.entries b) in
     entries (subst (λ (x : Inode). x.size < 2147483648) (sym inode) (dir_size v (inode_of v b c.args.dir) is.1))
-    ∙ (dir_seen v b c.args.dir c.in_ok-inode.inode (slice_index t.cut.now c.args.dir) t.geometry.sound is.0 inode (k.cut c.args.dir) ∙ sym (ap (λ x. if x then roled_entries (volume_of v b) c.args.dir else []) dir))
+    ∙ (dir_seen v b c.args.dir c.in_ok-inode.inode (slice_index t.cut.now c.args.dir) t.geometry.sound is.0 inode
+    (k.cut c.args.dir) ∙ sym (ap (λ x. if x then roled_entries (volume_of v b) c.args.dir else []) dir))
 
 pub returns-then-not-is_dir-clause-sound : goal.returns-then-not-is_dir-clause-sound
 returns-then-not-is_dir-clause-sound g c = λ b k.
     let v = c.args.self.now.geometry.layout in
-    let none = sym (kind_dirs v b c.args.self.now.kinds.now c.args.dir (k.kinds c.args.dir)) ∙ (sym c.is_dir.ensures ∙ c.if-not-is_dir.true) in
+    let none = sym (kind_dirs v b c.args.self.now.kinds.now c.args.dir (k.kinds c.args.dir))
+    ∙ (sym c.is_dir.ensures ∙ c.if-not-is_dir.true) in
     c.stop.ensures.shape b ∙ sym (ap (λ x. x && is_right_shape (volume_of v b) c.args.dir) none)
 
 pub returns-clause-sound : goal.returns-clause-sound
 returns-clause-sound g c = λ b k.
     let t = c.args.self.now in
     let v = t.geometry.layout in
-    let dir = sym (kind_dirs v b t.kinds.now c.args.dir (k.kinds c.args.dir)) ∙ (sym c.is_dir.ensures ∙ c.if-not-is_dir.false) in
+    let dir = sym (kind_dirs v b t.kinds.now c.args.dir (k.kinds c.args.dir))
+    ∙ (sym c.is_dir.ensures ∙ c.if-not-is_dir.false) in
     let is = dir_is v b c.args.dir dir in
     let inode = c.in_ok-inode.ensures.inode b k.bytes in
     let shape = rw c.requires.ready.1 at (c.restart.ensures.begins.shape b) in
     shape (subst (λ (x : Inode). x.size < 2147483648) (sym inode) (dir_size v (inode_of v b c.args.dir) is.1))
-    ∙ (shape_seen v b c.args.dir c.in_ok-inode.inode (slice_index t.cut.now c.args.dir) t.geometry.sound is.0 inode (k.cut c.args.dir) ∙ sym (ap (λ x. x && is_right_shape (volume_of v b) c.args.dir) dir))
+    ∙ (shape_seen v b c.args.dir c.in_ok-inode.inode (slice_index t.cut.now c.args.dir) t.geometry.sound is.0 inode
+    (k.cut c.args.dir) ∙ sym (ap (λ x. x && is_right_shape (volume_of v b) c.args.dir) dir))

@@ -13,7 +13,8 @@ returns-then-name-self c = λ names h.
     let s = c.args.self.now in
     let o = s.ordered in
     let i = s.in_buffer in
-    let m = cut-first c.args.name.now names s.start s.bytes (omega arith) s.long (h.whole c.if-self.false) c.if-name-self.true in
+    let m = cut-first c.args.name.now names s.start s.bytes (omega arith) s.long (h.whole c.if-self.false)
+    c.if-name-self.true in
     record { whole = λ e. absurd (cc); short = h.short ∙ ap joined (sym m.1); cut = sym m.0 }
 
 pub returns-then-start-gt0 : goal.returns-then-start-gt0
@@ -26,7 +27,8 @@ returns-then-start-gt0 c = λ names h.
     let all = c.put_front-start.ensures.bytes ∙ ap (λ b. 47 ∷ c.args.name.now ++ b) (h.whole c.if-self.false) in
     record {
       whole = λ _. all;
-      short = all ∙ ap joined (sym (end-fits c.args.name.now names c.put_front-start.result (omega arith) c.if-start-gt0.true));
+      short = all ∙ ap joined (sym
+          (end-fits c.args.name.now names c.put_front-start.result (omega arith) c.if-start-gt0.true));
       cut = c.if-self.false ∙ sym (fits-more c.args.name.now names c.put_front-start.result (omega arith));
     }
 
@@ -41,7 +43,8 @@ returns-else-start-gt0 c = λ names h.
     let all = c.put_front-start.ensures.bytes ∙ ap (λ b. 47 ∷ c.args.name.now ++ b) (h.whole c.if-self.false) in
     record {
       whole = λ _. all;
-      short = c.put_front-start.ensures.following s.short o ∙ (h.short ∙ ap joined (sym (end-full c.args.name.now names (omega arith))));
+      short = c.put_front-start.ensures.following s.short o
+          ∙ (h.short ∙ ap joined (sym (end-full c.args.name.now names (omega arith))));
       cut = c.if-self.false ∙ sym (fits-more c.args.name.now names c.put_front-start.result (omega arith));
     }
 
@@ -51,7 +54,12 @@ invariant_of-self-then-start-gt0 c =
     let o = s.ordered in
     let i = s.in_buffer in
     let f = c.put_front-start.ensures.start in
-    record { ordered = omega arith; in_buffer = omega arith; has_room = c.if-start-gt0.true; long = c.put_front-start.ensures.len }
+    record {
+      ordered = omega arith;
+      in_buffer = omega arith;
+      has_room = c.if-start-gt0.true;
+      long = c.put_front-start.ensures.len;
+    }
 
 pub invariant_of-self-else-start-gt0 : goal.invariant_of-self-else-start-gt0
 invariant_of-self-else-start-gt0 c =

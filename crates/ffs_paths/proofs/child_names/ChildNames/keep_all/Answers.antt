@@ -44,14 +44,16 @@ entries-preserved g c =
     record {
       names = λ b t.
           let u = ap (λ d. d.contents) i.device ∙ t in
-          names_on b _ _ _ (roled_of c.in-Some.entry (last_name r)) q _ _ named (given b u).entries (name_there b r (placed b u (i.held b t))) (i.unseen b t) (i.names b t);
+          names_on b _ _ _ (roled_of c.in-Some.entry (last_name r)) q _ _ named (given b u).entries
+          (name_there b r (placed b u (i.held b t))) (i.unseen b t) (i.names b t);
       unseen = λ b t.
           let u = ap (λ d. d.contents) i.device ∙ t in
           unseen_on _ _ _ (roled_of c.in-Some.entry (last_name r)) q _ _ named (given b u).entries (i.unseen b t);
       held = λ b t low. placed b (ap (λ d. d.contents) i.device ∙ t) (i.held b t);
       within = λ low. (rw c.in-Some.is at next.inside) i.within;
       inside = subst (λ q. AreInside q.layout c.keep_entry.new.self) (next.geometry ∙ i.geometry)
-          (c.keep_entry.ensures.inside (subst (λ q. AreInside q.layout c.entries.self) (sym (next.geometry ∙ i.geometry)) i.inside));
+          (c.keep_entry.ensures.inside
+          (subst (λ q. AreInside q.layout c.entries.self) (sym (next.geometry ∙ i.geometry)) i.inside));
       parent = c.keep_entry.ensures.parent ∙ i.parent;
       first = c.keep_entry.ensures.first ∙ i.first;
       geometry = next.geometry ∙ i.geometry;

@@ -9,7 +9,8 @@ use Rattle.ffs_paths.proofs.child_names.ChildNames.keep_all.Given as goal
 abbrev pub invariant-entries : goal.invariant-entries
 invariant-entries g l = let device = g.I.Image.device in record {
   names : ForContents (device l.fn.image).contents (λ b. AreNamesOf b (to_come b l.fn.entries) l.self);
-  unseen : ForContents (device l.fn.image).contents (λ b. IsUnseen (to_come b l.fn.entries) (to_come b l.entries) l.self);
+  unseen : ForContents (device l.fn.image).contents
+      (λ b. IsUnseen (to_come b l.fn.entries) (to_come b l.entries) l.self);
   held : ForContents (device l.fn.image).contents (λ b. MayTake b l.entries);
   within : l.entries.place < 512 → IsInside l.entries;
   inside : AreInside l.fn.entries.chunks.walk.geometry.layout l.self;

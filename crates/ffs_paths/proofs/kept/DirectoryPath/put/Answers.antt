@@ -6,4 +6,5 @@ pub returns-then-self : goal.returns-then-self
 returns-then-self c = λ g d h. put_is g d c.args.self.now _ h c.if-self.true c.put.ensures
 
 pub returns-else-self : goal.returns-else-self
-returns-else-self c = λ g d h. put_lost g d c.args.self.now _ h c.if-self.false (c.push.ensures.items ∙ ap (λ t. t ++ 63 ∷ []) c.requires)
+returns-else-self c = λ g d h. put_lost g d c.args.self.now _ h c.if-self.false
+    (c.push.ensures.items ∙ ap (λ t. t ++ 63 ∷ []) c.requires)

@@ -11,7 +11,9 @@ path_by_names-requires-clause-siblings g c =
 pub returns-clause-path : goal.returns-clause-path
 returns-clause-path g c =
     let found = c.in_ok-find_names.ensures in
-    path_before _ (g.I.Image.device c.args.image.now) (g.I.Image.device c.find_names.new.image) _ _ _ c.path_by_names.result (ap (λ d. d.contents) found.reads.read) (lists_leave _ _ found.reads.lists) c.path_by_names.ensures.path
+    path_before _ (g.I.Image.device c.args.image.now) (g.I.Image.device c.find_names.new.image) _ _ _
+    c.path_by_names.result (ap (λ d. d.contents) found.reads.read) (lists_leave _ _ found.reads.lists)
+    c.path_by_names.ensures.path
 
 pub returns-clause-siblings : goal.returns-clause-siblings
 returns-clause-siblings g c = on_ok c.path_by_names.result _ c.in_ok-find_names.ensures.siblings

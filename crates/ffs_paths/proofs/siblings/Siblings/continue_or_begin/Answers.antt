@@ -14,12 +14,14 @@ returns-clause-siblings g c =
     let number = c.requires.number in
     record {
       layout = ap (λ w. w.layout) opened.geometry;
-      names = subst (HoldNames c.args.geometry.now.layout (g.I.Image.device c.args.image.now).contents c.args.workspace.now) (sym kept.names) c.requires.siblings.names;
+      names = subst (HoldNames c.args.geometry.now.layout (g.I.Image.device c.args.image.now).contents
+          c.args.workspace.now) (sym kept.names) c.requires.siblings.names;
       right = λ b t claims survey some. record {
         path = kept.path b t claims survey some;
         above = λ dir x h. ap (name_in x) (opened.entries b (ap (λ d. d.contents) kept.reads.read ∙ t) dir
             (c.index-cut.ensures
-            ∙ (get_or_default c.keep_path_of.new.workspace.cut.items c.args.parent c.index-cut.result.now 0 (omega arith)
+            ∙ (get_or_default c.keep_path_of.new.workspace.cut.items c.args.parent c.index-cut.result.now 0
+            (omega arith)
             ∙ (ap (λ w. slice_index w.cut.items c.args.parent) kept.reads.lists ∙ claims.cut c.args.parent))));
         child = λ some. absurd (omega arith);
       };

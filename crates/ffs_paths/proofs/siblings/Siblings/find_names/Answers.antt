@@ -21,7 +21,8 @@ returns-clause-siblings g c =
         right = λ b t claims dir.
             subst (λ p. AreAllNamesOf b (roled_entries (volume_of v b) p) c.in_ok-names.names) (sym read.parent)
             (read.names b t (ap (is_dir (volume_of v b)) (sym read.parent) ∙ dir)
-            (c.index-cut.ensures ∙ (get_or_default c.args.workspace.now.cut.items c.args.parent c.index-cut.result.now 0 (omega arith) ∙ claims.cut c.args.parent)));
+            (c.index-cut.ensures ∙ (get_or_default c.args.workspace.now.cut.items c.args.parent c.index-cut.result.now 0
+            (omega arith) ∙ claims.cut c.args.parent)));
         inside = read.inside;
       };
     }

@@ -19,12 +19,17 @@ returns-clause-path g c = λ b t claims survey.
     let some = of.below in
     let s = c.continue_or_begin.new.self.parent in
     let child = subst (IsChild v b c.args.dir) (sym begun.parent)
-    (child_is v b c.args.dir c.args.parent (sym (survey.reached c.args.dir) ∙ of.reached) (omega arith) (of.is ∙ survey.parents c.args.dir)) in
+    (child_is v b c.args.dir c.args.parent (sym (survey.reached c.args.dir) ∙ of.reached) (omega arith)
+    (of.is ∙ survey.parents c.args.dir)) in
     let kept = begun.siblings.right b t claims survey (dir_some (volume_of v b) s child.dir) in
-    let name = c.found_name.ensures.value ∙ (sym (c.in_ok-found.ensures.name b (ap (λ d. d.contents) begun.reads.read ∙ t)) ∙ kept.above child.dir c.args.dir begun.highest) in
+    let name = c.found_name.ensures.value
+    ∙ (sym (c.in_ok-found.ensures.name b (ap (λ d. d.contents) begun.reads.read ∙ t))
+    ∙ kept.above child.dir c.args.dir begun.highest) in
     let leads = child.leads in
-    let path = c.child.ensures leads.names (subst (HoldsPath c.continue_or_begin.new.self.path) leads.above kept.path) (subst (λ n. AreSingle (leads.names ++ n ∷ [])) (sym name) leads.single) in
-    subst (HoldsPath c.child.result) (sym leads.below) (subst (λ n. HoldsPath c.child.result (Some (leads.names ++ n ∷ []))) name path)
+    let path = c.child.ensures leads.names (subst (HoldsPath c.continue_or_begin.new.self.path) leads.above kept.path)
+    (subst (λ n. AreSingle (leads.names ++ n ∷ [])) (sym name) leads.single) in
+    subst (HoldsPath c.child.result) (sym leads.below)
+    (subst (λ n. HoldsPath c.child.result (Some (leads.names ++ n ∷ []))) name path)
 
 pub returns-clause-siblings : goal.returns-clause-siblings
 returns-clause-siblings g c =
@@ -41,16 +46,20 @@ returns-clause-siblings g c =
           let s = c.continue_or_begin.new.self.parent in
           let kept = begun.siblings.right b t claims survey some in
           let child = subst (IsChild v b c.args.dir) (sym begun.parent)
-          (child_is v b c.args.dir c.args.parent (sym (survey.reached c.args.dir) ∙ of.reached) (omega arith) (of.is ∙ survey.parents c.args.dir)) in
-          let name = sym (kept.above child.dir c.args.dir begun.highest) ∙ found.name b (ap (λ d. d.contents) begun.reads.read ∙ t) in
+          (child_is v b c.args.dir c.args.parent (sym (survey.reached c.args.dir) ∙ of.reached) (omega arith)
+          (of.is ∙ survey.parents c.args.dir)) in
+          let name = sym (kept.above child.dir c.args.dir begun.highest)
+          ∙ found.name b (ap (λ d. d.contents) begun.reads.read ∙ t) in
           let is : c.if-found.self ≡ (if c.in_ok-found.found then c.args.dir else 0) = elim c.if-found.branch [
             | then-found w ↦ rw w.if-found.true w.self-is
             | else-found w ↦ rw w.if-found.false w.self-is
           ] in
           record {
             path = kept.path;
-            child = λ held. found_child (LeadsTo (graph_of (volume_of v b)) s) c.in_ok-found.found _ c.args.dir _ _ is name held child.leads;
-            above = λ dir x h. sym (found.above b (ap (λ d. d.contents) begun.reads.read ∙ t) x h) ∙ kept.above dir x (omega arith);
+            child = λ held. found_child (LeadsTo (graph_of (volume_of v b)) s) c.in_ok-found.found _ c.args.dir _ _ is
+                name held child.leads;
+            above = λ dir x h. sym (found.above b (ap (λ d. d.contents) begun.reads.read ∙ t) x h)
+                ∙ kept.above dir x (omega arith);
           };
     }
 

@@ -1,32 +1,38 @@
 use Rattle.std.proofs.Common.{arith, ◌*◌, ◌+◌, ◌-◌, Ok, ap, refl}
 use Rattle.ffs_walk.specs.Frames.{frame_left, item_left}
 use Rattle.ffs_walk.specs.Rests.{rest, left, most_at}
-use Rattle.ffs_walk.proofs.FrameSteps.{item_below, word_fits, kept_fits, words_fit, some_left, item_one, falls_by, falls_in_double, falls_in_triple}
+use Rattle.ffs_walk.proofs.FrameSteps.{item_below, word_fits, kept_fits, words_fit, some_left, item_one, falls_by}
+use Rattle.ffs_walk.proofs.FrameSteps.{falls_in_double, falls_in_triple}
 use Rattle.ffs_walk.proofs.WalkSteps.{double_reported, triple_reported, one_some, square_some, some_words}
 use Rattle.ffs_walk.proofs.walk.Walk.advance.Goals as goal
 
 pub step_in_double-requires-clause-below : goal.step_in_double-requires-clause-below
 step_in_double-requires-clause-below g c =
     let w = c.args.self.now in
-    item_below w.geometry.layout w.blocks w.geometry.layout.nindir w.double c.in_ok-item-2.item (some_words w.geometry.layout w.geometry.sound) w.double_fits
+    item_below w.geometry.layout w.blocks w.geometry.layout.nindir w.double c.in_ok-item-2.item
+    (some_words w.geometry.layout w.geometry.sound) w.double_fits
     (rw c.from-words.ensures at c.in_ok-item-2.ensures.item)
 
 pub returns-then-is_left-2-clause-steps : goal.returns-then-is_left-2-clause-steps
 returns-then-is_left-2-clause-steps g c =
-    double_reported _ c.args.self.now c.from-words.result c.take-then-is_left-2.new.self c.in_ok-item-2.item c.step_in_double.result
+    double_reported _ c.args.self.now c.from-words.result c.take-then-is_left-2.new.self c.in_ok-item-2.item
+    c.step_in_double.result
     (λ bytes. rest bytes c.step_in_double.new.self)
-    c.from-words.ensures (c.is_left.ensures.spent c.if-is_left.false) c.in_ok-item-2.ensures.steps c.step_in_double.ensures.steps
+    c.from-words.ensures (c.is_left.ensures.spent c.if-is_left.false) c.in_ok-item-2.ensures.steps
+    c.step_in_double.ensures.steps
 
 pub step_in_triple-requires-clause-below : goal.step_in_triple-requires-clause-below
 step_in_triple-requires-clause-below g c =
     let w = c.args.self.now in
-    item_below w.geometry.layout w.blocks (w.geometry.layout.nindir * w.geometry.layout.nindir) w.triple c.in_ok-item-3.item
+    item_below w.geometry.layout w.blocks (w.geometry.layout.nindir * w.geometry.layout.nindir) w.triple
+    c.in_ok-item-3.item
     (square_some w.geometry.layout.nindir (some_words w.geometry.layout w.geometry.sound)) w.triple_fits
     (rw c.from-words.ensures at c.in_ok-item-3.ensures.item)
 
 pub returns-then-is_left-3-clause-steps : goal.returns-then-is_left-3-clause-steps
 returns-then-is_left-3-clause-steps g c =
-    triple_reported _ c.args.self.now c.from-words.result c.take-then-is_left-3.new.self c.in_ok-item-3.item c.step_in_triple.result
+    triple_reported _ c.args.self.now c.from-words.result c.take-then-is_left-3.new.self c.in_ok-item-3.item
+    c.step_in_triple.result
     (λ bytes. rest bytes c.step_in_triple.new.self)
     c.from-words.ensures (c.is_left.ensures.spent c.if-is_left.false) (c.is_left-2.ensures.spent c.if-is_left-2.false)
     c.in_ok-item-3.ensures.steps c.step_in_triple.ensures.steps
@@ -36,7 +42,8 @@ returns-then-is_left-clause-left g c =
     let w = c.args.self.now in
     let words = w.geometry.layout.nindir in
     falls_by (item_left 1 c.in_ok-item.item) (frame_left 1 c.take.new.self) (frame_left 1 w.single)
-    (frame_left (most_at words 1) w.double + (frame_left (most_at words 2) w.triple + (w.used - w.next) * most_at words 3))
+    (frame_left (most_at words 1) w.double
+    + (frame_left (most_at words 2) w.triple + (w.used - w.next) * most_at words 3))
     (c.in_ok-item.ensures.falls 1) (item_one c.in_ok-item.item)
 
 pub returns-clause-steps : goal.returns-clause-steps
@@ -45,7 +52,8 @@ returns-clause-steps g c = λ bytes tells. c.step_at_top.ensures.steps bytes
 pub step_in_single-requires : goal.step_in_single-requires
 step_in_single-requires g c =
     let w = c.args.self.now in
-    item_below w.geometry.layout w.blocks 1 w.single c.in_ok-item.item (omega arith) w.single_fits c.in_ok-item.ensures.item
+    item_below w.geometry.layout w.blocks 1 w.single c.in_ok-item.item (omega arith) w.single_fits
+    c.in_ok-item.ensures.item
 
 pub invariant_of-self : goal.invariant_of-self
 invariant_of-self g c =
@@ -57,16 +65,19 @@ invariant_of-self g c =
       last_some = w.last_some;
       last_small = w.last_small;
       blocks_small = w.blocks_small;
-      single_fits = kept_fits w.geometry.layout w.blocks 1 w.single c.take.new.self (c.if-is_left.ensures.left.0 refl) c.take.ensures.same w.single_fits;
+      single_fits = kept_fits w.geometry.layout w.blocks 1 w.single c.take.new.self (c.if-is_left.ensures.left.0 refl)
+          c.take.ensures.same w.single_fits;
       double_fits = w.double_fits;
       triple_fits = w.triple_fits;
     }
 
 pub returns-in_err-item-clause-over : goal.returns-in_err-item-clause-over
-returns-in_err-item-clause-over g c = λ o. absurd (some_left c.args.self.now.single (c.if-is_left.ensures.left.0 refl) o.single)
+returns-in_err-item-clause-over g c =
+    λ o. absurd (some_left c.args.self.now.single (c.if-is_left.ensures.left.0 refl) o.single)
 
 pub returns-then-is_left-clause-over : goal.returns-then-is_left-clause-over
-returns-then-is_left-clause-over g c = λ o. absurd (some_left c.args.self.now.single (c.if-is_left.ensures.left.0 refl) o.single)
+returns-then-is_left-clause-over g c =
+    λ o. absurd (some_left c.args.self.now.single (c.if-is_left.ensures.left.0 refl) o.single)
 
 pub invariant_of-self-then-is_left-2 : goal.invariant_of-self-then-is_left-2
 invariant_of-self-then-is_left-2 g c =
@@ -79,15 +90,19 @@ invariant_of-self-then-is_left-2 g c =
       last_small = w.last_small;
       blocks_small = w.blocks_small;
       single_fits = w.single_fits;
-      double_fits = kept_fits w.geometry.layout w.blocks w.geometry.layout.nindir w.double c.take-then-is_left-2.new.self (c.if-is_left-2.ensures.left.0 refl) c.take-then-is_left-2.ensures.same w.double_fits;
+      double_fits = kept_fits w.geometry.layout w.blocks w.geometry.layout.nindir w.double
+          c.take-then-is_left-2.new.self (c.if-is_left-2.ensures.left.0 refl) c.take-then-is_left-2.ensures.same
+          w.double_fits;
       triple_fits = w.triple_fits;
     }
 
 pub returns-in_err-item-2-clause-over : goal.returns-in_err-item-2-clause-over
-returns-in_err-item-2-clause-over g c = λ o. absurd (some_left c.args.self.now.double (c.if-is_left-2.ensures.left.0 refl) o.double)
+returns-in_err-item-2-clause-over g c =
+    λ o. absurd (some_left c.args.self.now.double (c.if-is_left-2.ensures.left.0 refl) o.double)
 
 pub returns-then-is_left-2-clause-over : goal.returns-then-is_left-2-clause-over
-returns-then-is_left-2-clause-over g c = λ o. absurd (some_left c.args.self.now.double (c.if-is_left-2.ensures.left.0 refl) o.double)
+returns-then-is_left-2-clause-over g c =
+    λ o. absurd (some_left c.args.self.now.double (c.if-is_left-2.ensures.left.0 refl) o.double)
 
 pub invariant_of-self-then-is_left-3 : goal.invariant_of-self-then-is_left-3
 invariant_of-self-then-is_left-3 g c =
@@ -101,14 +116,18 @@ invariant_of-self-then-is_left-3 g c =
       blocks_small = w.blocks_small;
       single_fits = w.single_fits;
       double_fits = w.double_fits;
-      triple_fits = kept_fits w.geometry.layout w.blocks (w.geometry.layout.nindir * w.geometry.layout.nindir) w.triple c.take-then-is_left-3.new.self (c.if-is_left-3.ensures.left.0 refl) c.take-then-is_left-3.ensures.same w.triple_fits;
+      triple_fits = kept_fits w.geometry.layout w.blocks (w.geometry.layout.nindir * w.geometry.layout.nindir) w.triple
+          c.take-then-is_left-3.new.self (c.if-is_left-3.ensures.left.0 refl) c.take-then-is_left-3.ensures.same
+          w.triple_fits;
     }
 
 pub returns-in_err-item-3-clause-over : goal.returns-in_err-item-3-clause-over
-returns-in_err-item-3-clause-over g c = λ o. absurd (some_left c.args.self.now.triple (c.if-is_left-3.ensures.left.0 refl) o.triple)
+returns-in_err-item-3-clause-over g c =
+    λ o. absurd (some_left c.args.self.now.triple (c.if-is_left-3.ensures.left.0 refl) o.triple)
 
 pub returns-then-is_left-3-clause-over : goal.returns-then-is_left-3-clause-over
-returns-then-is_left-3-clause-over g c = λ o. absurd (some_left c.args.self.now.triple (c.if-is_left-3.ensures.left.0 refl) o.triple)
+returns-then-is_left-3-clause-over g c =
+    λ o. absurd (some_left c.args.self.now.triple (c.if-is_left-3.ensures.left.0 refl) o.triple)
 
 pub returns-clause-over : goal.returns-clause-over
 returns-clause-over g c = λ o.
@@ -119,16 +138,20 @@ pub returns-then-is_left-2-clause-left : goal.returns-then-is_left-2-clause-left
 returns-then-is_left-2-clause-left g c =
     let w = c.args.self.now in
     let words = w.geometry.layout.nindir in
-    falls_in_double (item_left (most_at words 1) c.in_ok-item-2.item) (frame_left (most_at words 1) c.take-then-is_left-2.new.self)
-    (frame_left (most_at words 0) w.single) (frame_left (most_at words 1) w.double) (frame_left (most_at words 2) w.triple) ((w.used - w.next) * most_at words 3) (left c.step_in_double.new.self)
+    falls_in_double (item_left (most_at words 1) c.in_ok-item-2.item)
+    (frame_left (most_at words 1) c.take-then-is_left-2.new.self)
+    (frame_left (most_at words 0) w.single) (frame_left (most_at words 1) w.double)
+    (frame_left (most_at words 2) w.triple) ((w.used - w.next) * most_at words 3) (left c.step_in_double.new.self)
     c.step_in_double.ensures.left (c.in_ok-item-2.ensures.falls (most_at words 1))
 
 pub returns-then-is_left-3-clause-left : goal.returns-then-is_left-3-clause-left
 returns-then-is_left-3-clause-left g c =
     let w = c.args.self.now in
     let words = w.geometry.layout.nindir in
-    falls_in_triple (item_left (most_at words 2) c.in_ok-item-3.item) (frame_left (most_at words 2) c.take-then-is_left-3.new.self)
-    (frame_left (most_at words 0) w.single) (frame_left (most_at words 1) w.double) (frame_left (most_at words 2) w.triple) ((w.used - w.next) * most_at words 3) (left c.step_in_triple.new.self)
+    falls_in_triple (item_left (most_at words 2) c.in_ok-item-3.item)
+    (frame_left (most_at words 2) c.take-then-is_left-3.new.self)
+    (frame_left (most_at words 0) w.single) (frame_left (most_at words 1) w.double)
+    (frame_left (most_at words 2) w.triple) ((w.used - w.next) * most_at words 3) (left c.step_in_triple.new.self)
     c.step_in_triple.ensures.left (c.in_ok-item-3.ensures.falls (most_at words 2))
 
 pub take-requires-clause-ready : goal.take-requires-clause-ready
@@ -160,9 +183,11 @@ take-requires-then-is_left-3-clause-item g c =
     record {
       left = c.if-is_left-3.ensures.left.0 refl;
       in_range = c.args.self.now.triple_fits.in_range_there (c.if-is_left-3.ensures.left.0 refl);
-      words = words_fit w.geometry.layout w.blocks (w.geometry.layout.nindir * w.geometry.layout.nindir) w.triple w.triple_fits;
+      words = words_fit w.geometry.layout w.blocks (w.geometry.layout.nindir * w.geometry.layout.nindir) w.triple
+          w.triple_fits;
       small = rw c.from-words.ensures
-          (word_fits w.geometry.layout w.blocks (w.geometry.layout.nindir * w.geometry.layout.nindir) w.triple (square_some w.geometry.layout.nindir (some_words w.geometry.layout w.geometry.sound))
+          (word_fits w.geometry.layout w.blocks (w.geometry.layout.nindir * w.geometry.layout.nindir) w.triple
+          (square_some w.geometry.layout.nindir (some_words w.geometry.layout w.geometry.sound))
           w.triple_fits w.blocks_small (c.if-is_left-3.ensures.left.0 refl));
     }
 
@@ -174,7 +199,8 @@ take-requires-then-is_left-2-clause-item g c =
       in_range = c.args.self.now.double_fits.in_range_there (c.if-is_left-2.ensures.left.0 refl);
       words = words_fit w.geometry.layout w.blocks w.geometry.layout.nindir w.double w.double_fits;
       small = rw c.from-words.ensures
-          (word_fits w.geometry.layout w.blocks w.geometry.layout.nindir w.double (some_words w.geometry.layout w.geometry.sound)
+          (word_fits w.geometry.layout w.blocks w.geometry.layout.nindir w.double
+          (some_words w.geometry.layout w.geometry.sound)
           w.double_fits w.blocks_small (c.if-is_left-2.ensures.left.0 refl));
     }
 
@@ -185,5 +211,6 @@ take-requires-clause-item g c =
       left = c.if-is_left.ensures.left.0 refl;
       in_range = c.args.self.now.single_fits.in_range_there (c.if-is_left.ensures.left.0 refl);
       words = words_fit w.geometry.layout w.blocks 1 w.single w.single_fits;
-      small = word_fits w.geometry.layout w.blocks 1 w.single one_some w.single_fits w.blocks_small (c.if-is_left.ensures.left.0 refl);
+      small = word_fits w.geometry.layout w.blocks 1 w.single one_some w.single_fits w.blocks_small
+          (c.if-is_left.ensures.left.0 refl);
     }

@@ -9,7 +9,9 @@ use Rattle.ffs_walk.proofs.walk.Walk.skip_gaps.Goals as goal
 pub returns-then-is_left-clause-steps : goal.returns-then-is_left-clause-steps
 returns-then-is_left-clause-steps c = λ reported holds bytes e.
     let w = c.args.self.now in
-    in_first _ _ _ (replicate c.skip_gaps.result Gap) (c.skip_gaps.ensures.steps reported holds bytes e (steps_at (extent_of w) bytes 0) 1 (zero_gap (extent_of w) bytes 0))
+    in_first _ _ _ (replicate c.skip_gaps.result Gap)
+    (c.skip_gaps.ensures.steps reported holds bytes e (steps_at (extent_of w) bytes 0) 1
+    (zero_gap (extent_of w) bytes 0))
 
 pub returns-then-is_left-2-clause-steps : goal.returns-then-is_left-2-clause-steps
 returns-then-is_left-2-clause-steps c = λ reported holds bytes e.
@@ -17,7 +19,8 @@ returns-then-is_left-2-clause-steps c = λ reported holds bytes e.
     let g = w.geometry.layout in
     in_second _ _ _ _ (replicate c.skip_gaps-then-is_left-2.result Gap)
     (spent_rest g bytes (steps_at (extent_of w) bytes 0) 1 w.single (c.is_left.ensures.spent c.if-is_left.false))
-    (c.skip_gaps-then-is_left-2.ensures.steps reported holds bytes e (steps_at (extent_of w) bytes 1) g.nindir (zero_gap (extent_of w) bytes 1))
+    (c.skip_gaps-then-is_left-2.ensures.steps reported holds bytes e (steps_at (extent_of w) bytes 1) g.nindir
+    (zero_gap (extent_of w) bytes 1))
 
 pub returns-clause-steps : goal.returns-clause-steps
 returns-clause-steps c = λ reported holds bytes e.
@@ -25,5 +28,7 @@ returns-clause-steps c = λ reported holds bytes e.
     let g = w.geometry.layout in
     in_third _ _ _ _ _ (replicate c.skip_gaps-2.result Gap)
     (spent_rest g bytes (steps_at (extent_of w) bytes 0) 1 w.single (c.is_left.ensures.spent c.if-is_left.false))
-    (spent_rest g bytes (steps_at (extent_of w) bytes 1) g.nindir w.double (c.is_left-2.ensures.spent c.if-is_left-2.false))
-    (c.skip_gaps-2.ensures.steps reported holds bytes e (steps_at (extent_of w) bytes 2) (g.nindir * g.nindir) (zero_gap (extent_of w) bytes 2))
+    (spent_rest g bytes (steps_at (extent_of w) bytes 1) g.nindir w.double
+    (c.is_left-2.ensures.spent c.if-is_left-2.false))
+    (c.skip_gaps-2.ensures.steps reported holds bytes e (steps_at (extent_of w) bytes 2) (g.nindir * g.nindir)
+    (zero_gap (extent_of w) bytes 2))

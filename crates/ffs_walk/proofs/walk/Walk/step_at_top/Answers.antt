@@ -2,11 +2,14 @@ use Rattle.std.proofs.Common.{arith, ◌≡◌, refl}
 use Rattle.ffs_walk.specs.Frames.{frame_left}
 use Rattle.ffs_walk.specs.Rests.{extent_of, most_at}
 use Rattle.ffs_volume.specs.Blocks.Steps.{steps_at}
-use Rattle.ffs_walk.proofs.WalkSteps.{top_ends, top_data, top_single, top_double, top_triple, most_below, top_falls, top_over, some_words, no_step, not_over, one_on, single_below, double_below, triple_below}
+use Rattle.ffs_walk.proofs.WalkSteps.{top_ends, top_data, top_single, top_double, top_triple, most_below, top_falls}
+use Rattle.ffs_walk.proofs.WalkSteps.{top_over, some_words, no_step, not_over, one_on, single_below, double_below}
+use Rattle.ffs_walk.proofs.WalkSteps.{triple_below}
 use Rattle.ffs_walk.proofs.walk.Walk.step_at_top.Goals as goal
 
 pub returns-then-self-clause-steps : goal.returns-then-self-clause-steps
-returns-then-self-clause-steps c = λ bytes. top_ends bytes c.args.self.now c.if-self.true c.requires.single c.requires.double c.requires.triple
+returns-then-self-clause-steps c = λ bytes. top_ends bytes c.args.self.now c.if-self.true c.requires.single
+    c.requires.double c.requires.triple
 
 pub returns-then-block-lt-NDADDR-clause-steps : goal.returns-then-block-lt-NDADDR-clause-steps
 returns-then-block-lt-NDADDR-clause-steps c =
@@ -22,14 +25,16 @@ returns-in-12-clause-steps c =
 
 pub returns-in-13-clause-steps : goal.returns-in-13-clause-steps
 returns-in-13-clause-steps c =
-    λ bytes. top_double bytes c.args.self.now c.from-words.result c.enter-step-in-13.result.0 c.enter-step-in-13.result.1 c.if-self.false c.in-13.is
+    λ bytes. top_double bytes c.args.self.now c.from-words.result c.enter-step-in-13.result.0
+    c.enter-step-in-13.result.1 c.if-self.false c.in-13.is
     c.from-words.ensures c.requires.single c.requires.double c.requires.triple
     (c.enter-step-in-13.ensures.steps bytes (steps_at (extent_of c.args.self.now) bytes 1))
 
 pub returns-in_default-clause-steps : goal.returns-in_default-clause-steps
 returns-in_default-clause-steps c =
     let last : c.args.self.now.next ≡ 14 = omega (arith, c.args.self.now.in_array) in
-    λ bytes. top_triple bytes c.args.self.now c.from-words.result c.enter-step-in_default.result.0 c.enter-step-in_default.result.1 c.if-self.false last
+    λ bytes. top_triple bytes c.args.self.now c.from-words.result c.enter-step-in_default.result.0
+    c.enter-step-in_default.result.1 c.if-self.false last
     c.from-words.ensures c.requires.single c.requires.double c.requires.triple
     (c.enter-step-in_default.ensures.steps bytes (steps_at (extent_of c.args.self.now) bytes 2))
 
@@ -48,8 +53,13 @@ returns-in-12-clause-left c =
     let s = frame_left (most_at words 0) c.args.self.now.single in
     let d = frame_left (most_at words 1) c.args.self.now.double in
     let t = frame_left (most_at words 2) c.args.self.now.triple in
-    top_falls c.args.self.now.next c.args.self.now.used (most_at words 3) (frame_left (most_at words 0) c.enter-step.result.1) d t s d t c.if-self.false
-    (omega (arith, most_below words (some_words c.args.self.now.geometry.layout c.args.self.now.geometry.sound), c.enter-step.ensures.left (most_at words 0)))
+    top_falls c.args.self.now.next c.args.self.now.used (most_at words 3)
+    (frame_left (most_at words 0) c.enter-step.result.1) d t s d t c.if-self.false
+    (omega (
+      arith,
+      most_below words (some_words c.args.self.now.geometry.layout c.args.self.now.geometry.sound),
+      c.enter-step.ensures.left (most_at words 0),
+    ))
 
 pub returns-in-13-clause-left : goal.returns-in-13-clause-left
 returns-in-13-clause-left c =
@@ -57,8 +67,13 @@ returns-in-13-clause-left c =
     let s = frame_left (most_at words 0) c.args.self.now.single in
     let d = frame_left (most_at words 1) c.args.self.now.double in
     let t = frame_left (most_at words 2) c.args.self.now.triple in
-    top_falls c.args.self.now.next c.args.self.now.used (most_at words 3) s (frame_left (most_at words 1) c.enter-step-in-13.result.1) t s d t c.if-self.false
-    (omega (arith, most_below words (some_words c.args.self.now.geometry.layout c.args.self.now.geometry.sound), c.enter-step-in-13.ensures.left (most_at words 1)))
+    top_falls c.args.self.now.next c.args.self.now.used (most_at words 3) s
+    (frame_left (most_at words 1) c.enter-step-in-13.result.1) t s d t c.if-self.false
+    (omega (
+      arith,
+      most_below words (some_words c.args.self.now.geometry.layout c.args.self.now.geometry.sound),
+      c.enter-step-in-13.ensures.left (most_at words 1),
+    ))
 
 pub returns-in_default-clause-left : goal.returns-in_default-clause-left
 returns-in_default-clause-left c =
@@ -66,11 +81,17 @@ returns-in_default-clause-left c =
     let s = frame_left (most_at words 0) c.args.self.now.single in
     let d = frame_left (most_at words 1) c.args.self.now.double in
     let t = frame_left (most_at words 2) c.args.self.now.triple in
-    top_falls c.args.self.now.next c.args.self.now.used (most_at words 3) s d (frame_left (most_at words 2) c.enter-step-in_default.result.1) s d t c.if-self.false
-    (omega (arith, most_below words (some_words c.args.self.now.geometry.layout c.args.self.now.geometry.sound), c.enter-step-in_default.ensures.left (most_at words 2)))
+    top_falls c.args.self.now.next c.args.self.now.used (most_at words 3) s d
+    (frame_left (most_at words 2) c.enter-step-in_default.result.1) s d t c.if-self.false
+    (omega (
+      arith,
+      most_below words (some_words c.args.self.now.geometry.layout c.args.self.now.geometry.sound),
+      c.enter-step-in_default.ensures.left (most_at words 2),
+    ))
 
 pub returns-then-self-clause-left : goal.returns-then-self-clause-left
-returns-then-self-clause-left c = top_over c.args.self.now c.if-self.true c.requires.single c.requires.double c.requires.triple
+returns-then-self-clause-left c = top_over c.args.self.now c.if-self.true c.requires.single c.requires.double
+    c.requires.triple
 
 pub invariant_of-self : goal.invariant_of-self
 invariant_of-self c =
@@ -91,7 +112,8 @@ pub returns-then-block-lt-NDADDR-clause-none : goal.returns-then-block-lt-NDADDR
 returns-then-block-lt-NDADDR-clause-none c = λ e. absurd (no_step c.data.result e)
 
 pub returns-then-block-lt-NDADDR-clause-over : goal.returns-then-block-lt-NDADDR-clause-over
-returns-then-block-lt-NDADDR-clause-over c = not_over c.args.self.now.next c.args.self.now.used c.data.result c.if-self.false
+returns-then-block-lt-NDADDR-clause-over c = not_over c.args.self.now.next c.args.self.now.used c.data.result
+    c.if-self.false
 
 pub invariant_of-self-in-12 : goal.invariant_of-self-in-12
 invariant_of-self-in-12 c =
@@ -133,7 +155,8 @@ pub returns-in-13-clause-none : goal.returns-in-13-clause-none
 returns-in-13-clause-none c = λ e. absurd (no_step c.enter-step-in-13.result.0 e)
 
 pub returns-in-13-clause-over : goal.returns-in-13-clause-over
-returns-in-13-clause-over c = not_over c.args.self.now.next c.args.self.now.used c.enter-step-in-13.result.0 c.if-self.false
+returns-in-13-clause-over c = not_over c.args.self.now.next c.args.self.now.used c.enter-step-in-13.result.0
+    c.if-self.false
 
 pub invariant_of-self-in_default : goal.invariant_of-self-in_default
 invariant_of-self-in_default c =
@@ -154,7 +177,8 @@ pub returns-in_default-clause-none : goal.returns-in_default-clause-none
 returns-in_default-clause-none c = λ e. absurd (no_step c.enter-step-in_default.result.0 e)
 
 pub returns-in_default-clause-over : goal.returns-in_default-clause-over
-returns-in_default-clause-over c = not_over c.args.self.now.next c.args.self.now.used c.enter-step-in_default.result.0 c.if-self.false
+returns-in_default-clause-over c = not_over c.args.self.now.next c.args.self.now.used c.enter-step-in_default.result.0
+    c.if-self.false
 
 pub enter-step-requires-clause-first : goal.enter-step-requires-clause-first
 enter-step-requires-clause-first c =
@@ -165,12 +189,14 @@ enter-step-requires-clause-first c =
 pub enter-step-requires-in-13-clause-first : goal.enter-step-requires-in-13-clause-first
 enter-step-requires-in-13-clause-first c =
     let w = c.args.self.now in
-    let below = double_below w.geometry.layout.nindir c.from-words.result w.blocks w.next w.used c.if-self.false w.used_fits c.in-13.is c.from-words.ensures in
+    let below = double_below w.geometry.layout.nindir c.from-words.result w.blocks w.next w.used c.if-self.false
+    w.used_fits c.in-13.is c.from-words.ensures in
     (omega arith, omega (arith, below))
 
 pub enter-step-requires-in_default-clause-first : goal.enter-step-requires-in_default-clause-first
 enter-step-requires-in_default-clause-first c =
     let w = c.args.self.now in
     let last : w.next ≡ 14 = omega (arith, w.in_array) in
-    let below = triple_below w.geometry.layout.nindir c.from-words.result w.blocks w.next w.used c.if-self.false w.used_fits last c.from-words.ensures in
+    let below = triple_below w.geometry.layout.nindir c.from-words.result w.blocks w.next w.used c.if-self.false
+    w.used_fits last c.from-words.ensures in
     (omega arith, omega (arith, below))

@@ -7,5 +7,6 @@ use Rattle.ffs_walk.proofs.walk.Walk.step_in_double.Goals as goal
 pub returns-in-Word-clause-steps : goal.returns-in-Word-clause-steps
 returns-in-Word-clause-steps c =
     λ bytes. rw c.in-Word.is
-    (in_double c.args.self.now bytes 1 c.in-Word.address c.in-Word.block c.enter-step.result.0 c.enter-step.result.1 refl c.requires.spent
+    (in_double c.args.self.now bytes 1 c.in-Word.address c.in-Word.block c.enter-step.result.0 c.enter-step.result.1
+    refl c.requires.spent
     (c.enter-step.ensures.steps bytes (steps_at (extent_of c.args.self.now) bytes 0)))

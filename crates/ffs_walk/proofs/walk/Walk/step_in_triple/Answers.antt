@@ -6,6 +6,7 @@ use Rattle.ffs_walk.proofs.walk.Walk.step_in_triple.Goals as goal
 pub returns-in-Word-clause-steps : goal.returns-in-Word-clause-steps
 returns-in-Word-clause-steps c =
     λ bytes. rw c.in-Word.is
-    (in_triple c.args.self.now bytes c.from-words.result c.in-Word.address c.in-Word.block c.enter-step.result.0 c.enter-step.result.1
+    (in_triple c.args.self.now bytes c.from-words.result c.in-Word.address c.in-Word.block c.enter-step.result.0
+    c.enter-step.result.1
     c.from-words.ensures c.requires.spent.0 c.requires.spent.1
     (c.enter-step.ensures.steps bytes (steps_at (extent_of c.args.self.now) bytes 1)))

@@ -5,7 +5,8 @@ use Rattle.ffs_walk.proofs.window.Window.fill.Goals as goal
 pub returns-clause-bytes : goal.returns-clause-bytes
 returns-clause-bytes g c = λ b tells.
     let size : length c.read_at.new.buf ≡ c.args.length = search rules in
-    window_with b c.args.self.now c.args.place c.args.length (c.args.length - 0) c.deref_mut.result.now c.read_at.new.buf (search rules) (omega arith) (search rules) c.requires.room
+    window_with b c.args.self.now c.args.place c.args.length (c.args.length - 0) c.deref_mut.result.now
+    c.read_at.new.buf (search rules) (omega arith) (search rules) c.requires.room
     (c.in_ok-read_at.ensures.bytes b tells ∙ rw size refl)
 
 pub returns-clause-holds : goal.returns-clause-holds
@@ -13,6 +14,7 @@ returns-clause-holds g c = record {
   fits = c.requires.room;
   bytes = λ b tells.
       let size : length c.read_at.new.buf ≡ c.args.length = search rules in
-      window_with b c.args.self.now c.args.place c.args.length (c.args.length - 0) c.deref_mut.result.now c.read_at.new.buf (search rules) (omega arith) (search rules) c.requires.room
+      window_with b c.args.self.now c.args.place c.args.length (c.args.length - 0) c.deref_mut.result.now
+      c.read_at.new.buf (search rules) (omega arith) (search rules) c.requires.room
       (c.in_ok-read_at.ensures.bytes b (rw c.in_ok-read_at.ensures.ok at tells) ∙ rw size refl);
 }

@@ -6,5 +6,6 @@ use Rattle.ffs_workspace.proofs.table.Table.load.Goals as goal
 pub returns-clause-bytes : goal.returns-clause-bytes
 returns-clause-bytes g c = λ bytes t.
     let v = c.args.geometry.now.layout in
-    bytes_there v c.args.number c.block_place-place.result (128 * (c.args.number % v.ipg % v.inopb)) bytes (held_bytes c.fill.new.self)
+    bytes_there v c.args.number c.block_place-place.result (128 * (c.args.number % v.ipg % v.inopb)) bytes
+    (held_bytes c.fill.new.self)
     c.args.geometry.now.sound refl c.block_place-place.ensures.value (c.in_ok-fill.ensures.bytes bytes t)

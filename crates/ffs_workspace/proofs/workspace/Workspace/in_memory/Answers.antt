@@ -4,7 +4,8 @@ use Rattle.std.proofs.lemmas.Result.{err_from_is_err_and}
 use Rattle.std.specs.Int.{div_ceil}
 use Rattle.ffs_memory.proofs.Asking.{granted_both, gave_up_after, gave_up_within}
 use Rattle.ffs_workspace.specs.Lengths.{inodes_of}
-use Rattle.ffs_workspace.proofs.Requests.{both, all_is, at_first_map, at_second_map, at_kinds, at_flags, at_references, at_words, at_windows}
+use Rattle.ffs_workspace.proofs.Requests.{both, all_is, at_first_map, at_second_map, at_kinds, at_flags, at_references}
+use Rattle.ffs_workspace.proofs.Requests.{at_words, at_windows}
 use Rattle.ffs_workspace.proofs.workspace.Workspace.in_memory.Goals as goal
 
 pub returns-clause-windows : goal.returns-clause-windows
@@ -18,45 +19,66 @@ pub returns-in_err-claimed-clause-asks : goal.returns-in_err-claimed-clause-asks
 returns-in_err-claimed-clause-asks g c =
     let p = err_from_is_err_and c.from_residual.result c.from_residual.ensures.1 in
     rw p.1 (gave_up_within _ _ _ _ c.in_err-claimed.ensures.asks
-    (at_first_map (8 * div_ceil c.args.geometry.now.layout.size 64) (inodes_of c.args.geometry.now.layout) c.args.geometry.now.layout.bsize))
+    (at_first_map (8 * div_ceil c.args.geometry.now.layout.size 64) (inodes_of c.args.geometry.now.layout)
+    c.args.geometry.now.layout.bsize))
 
 pub returns-in_err-duplicates-clause-asks : goal.returns-in_err-duplicates-clause-asks
 returns-in_err-duplicates-clause-asks g c =
     let p = err_from_is_err_and c.from_residual-in_err-duplicates.result c.from_residual-in_err-duplicates.ensures.1 in
     rw p.1 (gave_up_after _ _ _ _ _ _ c.in_ok-claimed.ensures.asks c.in_err-duplicates.ensures.asks
-    (at_second_map (8 * div_ceil c.args.geometry.now.layout.size 64) (inodes_of c.args.geometry.now.layout) c.args.geometry.now.layout.bsize))
+    (at_second_map (8 * div_ceil c.args.geometry.now.layout.size 64) (inodes_of c.args.geometry.now.layout)
+    c.args.geometry.now.layout.bsize))
 
 pub returns-in_err-kinds-clause-asks : goal.returns-in_err-kinds-clause-asks
 returns-in_err-kinds-clause-asks g c =
     let p = err_from_is_err_and c.from_residual-in_err-kinds.result c.from_residual-in_err-kinds.ensures.1 in
-    rw p.1 (gave_up_after _ _ _ _ _ _ (both c.in_ok-claimed.ensures.asks c.in_ok-duplicates.ensures.asks) c.in_err-kinds.ensures.asks
-    (at_kinds (8 * div_ceil c.args.geometry.now.layout.size 64) (inodes_of c.args.geometry.now.layout) c.args.geometry.now.layout.bsize))
+    rw p.1 (gave_up_after _ _ _ _ _ _ (both c.in_ok-claimed.ensures.asks c.in_ok-duplicates.ensures.asks)
+    c.in_err-kinds.ensures.asks
+    (at_kinds (8 * div_ceil c.args.geometry.now.layout.size 64) (inodes_of c.args.geometry.now.layout)
+    c.args.geometry.now.layout.bsize))
 
 pub returns-in_err-marked-clause-asks : goal.returns-in_err-marked-clause-asks
 returns-in_err-marked-clause-asks g c =
     let p = err_from_is_err_and c.from_residual-in_err-marked.result c.from_residual-in_err-marked.ensures.1 in
-    rw p.1 (gave_up_after _ _ _ _ _ _ (both (both c.in_ok-claimed.ensures.asks c.in_ok-duplicates.ensures.asks) c.in_ok-kinds.ensures.asks) c.in_err-marked.ensures.asks
-    (at_flags (8 * div_ceil c.args.geometry.now.layout.size 64) (inodes_of c.args.geometry.now.layout) c.args.geometry.now.layout.bsize))
+    rw p.1 (gave_up_after _ _ _ _ _ _
+    (both (both c.in_ok-claimed.ensures.asks c.in_ok-duplicates.ensures.asks) c.in_ok-kinds.ensures.asks)
+    c.in_err-marked.ensures.asks
+    (at_flags (8 * div_ceil c.args.geometry.now.layout.size 64) (inodes_of c.args.geometry.now.layout)
+    c.args.geometry.now.layout.bsize))
 
 pub returns-in_err-references-clause-asks : goal.returns-in_err-references-clause-asks
 returns-in_err-references-clause-asks g c =
     let p = err_from_is_err_and c.from_residual-in_err-references.result c.from_residual-in_err-references.ensures.1 in
-    rw p.1 (gave_up_after _ _ _ _ _ _ (both (both (both c.in_ok-claimed.ensures.asks c.in_ok-duplicates.ensures.asks) c.in_ok-kinds.ensures.asks) c.in_ok-marked.ensures.asks) c.in_err-references.ensures.asks
-    (at_references (8 * div_ceil c.args.geometry.now.layout.size 64) (inodes_of c.args.geometry.now.layout) c.args.geometry.now.layout.bsize))
+    rw p.1 (gave_up_after _ _ _ _ _ _
+    (both (both (both c.in_ok-claimed.ensures.asks c.in_ok-duplicates.ensures.asks) c.in_ok-kinds.ensures.asks)
+    c.in_ok-marked.ensures.asks) c.in_err-references.ensures.asks
+    (at_references (8 * div_ceil c.args.geometry.now.layout.size 64) (inodes_of c.args.geometry.now.layout)
+    c.args.geometry.now.layout.bsize))
 
 pub returns-in_err-cut-clause-asks : goal.returns-in_err-cut-clause-asks
 returns-in_err-cut-clause-asks g c =
     let p = err_from_is_err_and c.from_residual-in_err-cut.result c.from_residual-in_err-cut.ensures.1 in
-    rw p.1 (gave_up_after _ _ _ _ _ _ (both (both (both (both c.in_ok-claimed.ensures.asks c.in_ok-duplicates.ensures.asks) c.in_ok-kinds.ensures.asks) c.in_ok-marked.ensures.asks) c.in_ok-references.ensures.asks) c.in_err-cut.ensures.asks
-    (at_words (8 * div_ceil c.args.geometry.now.layout.size 64) (inodes_of c.args.geometry.now.layout) c.args.geometry.now.layout.bsize))
+    rw p.1 (gave_up_after _ _ _ _ _ _
+    (both (both (both (both c.in_ok-claimed.ensures.asks c.in_ok-duplicates.ensures.asks) c.in_ok-kinds.ensures.asks)
+    c.in_ok-marked.ensures.asks) c.in_ok-references.ensures.asks) c.in_err-cut.ensures.asks
+    (at_words (8 * div_ceil c.args.geometry.now.layout.size 64) (inodes_of c.args.geometry.now.layout)
+    c.args.geometry.now.layout.bsize))
 
 pub returns-in_err-windows-clause-asks : goal.returns-in_err-windows-clause-asks
 returns-in_err-windows-clause-asks g c =
     let p = err_from_is_err_and c.from_residual-in_err-windows.result c.from_residual-in_err-windows.ensures.1 in
-    rw p.1 (gave_up_after _ _ _ _ _ _ (both (both (both (both (both c.in_ok-claimed.ensures.asks c.in_ok-duplicates.ensures.asks) c.in_ok-kinds.ensures.asks) c.in_ok-marked.ensures.asks) c.in_ok-references.ensures.asks) c.in_ok-cut.ensures.asks) c.in_err-windows.ensures.asks
-    (at_windows (8 * div_ceil c.args.geometry.now.layout.size 64) (inodes_of c.args.geometry.now.layout) c.args.geometry.now.layout.bsize))
+    rw p.1 (gave_up_after _ _ _ _ _ _
+    (both (both (both (both (both c.in_ok-claimed.ensures.asks c.in_ok-duplicates.ensures.asks)
+    c.in_ok-kinds.ensures.asks) c.in_ok-marked.ensures.asks) c.in_ok-references.ensures.asks)
+    c.in_ok-cut.ensures.asks) c.in_err-windows.ensures.asks
+    (at_windows (8 * div_ceil c.args.geometry.now.layout.size 64) (inodes_of c.args.geometry.now.layout)
+    c.args.geometry.now.layout.bsize))
 
 pub returns-clause-asks : goal.returns-clause-asks
 returns-clause-asks g c =
-    granted_both _ _ _ _ _ _ (both (both (both (both (both c.in_ok-claimed.ensures.asks c.in_ok-duplicates.ensures.asks) c.in_ok-kinds.ensures.asks) c.in_ok-marked.ensures.asks) c.in_ok-references.ensures.asks) c.in_ok-cut.ensures.asks) c.in_ok-windows.ensures.asks
-    (all_is (8 * div_ceil c.args.geometry.now.layout.size 64) (inodes_of c.args.geometry.now.layout) c.args.geometry.now.layout.bsize)
+    granted_both _ _ _ _ _ _ (both
+    (both (both (both (both c.in_ok-claimed.ensures.asks c.in_ok-duplicates.ensures.asks) c.in_ok-kinds.ensures.asks)
+    c.in_ok-marked.ensures.asks) c.in_ok-references.ensures.asks) c.in_ok-cut.ensures.asks)
+    c.in_ok-windows.ensures.asks
+    (all_is (8 * div_ceil c.args.geometry.now.layout.size 64) (inodes_of c.args.geometry.now.layout)
+    c.args.geometry.now.layout.bsize)
