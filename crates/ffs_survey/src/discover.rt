@@ -88,8 +88,8 @@ fn is_calm_kind(kind: u8, reached: bool) -> bool
     ensures { result ≡ is_calm_kind kind reached }
 {
     match kind {
-        0 | 5 | 14 | 15 => false,
-        4 => !reached,
+        0 | EMPTY_DIR | DT_WHT | UNKNOWN_TYPE => false,
+        DT_DIR => !reached,
         _ => true,
     }
 }
