@@ -20,13 +20,14 @@ use Rattle.ffs_claims.specs.Leaves.{SameFound, ClaimsOnly, Stored, OffersOnly}
 use Rattle.ffs_claims.specs.Reporting.{SameClaims, ReportsOnly, OffersReportedOnly}
 
 pub found_none : (w : Workspace) → SameFound w w
-found_none w = record { kinds = refl; marked = refl; cut = refl; again = refl }
+found_none w = record { kinds = refl; marked = refl; cut = refl; references = refl; again = refl }
 
 pub found_then : (u v w : Workspace) → SameFound u v → SameFound v w → SameFound u w
 found_then u v w p q = record {
   kinds = q.kinds ∙ p.kinds;
   marked = q.marked ∙ p.marked;
   cut = q.cut ∙ p.cut;
+  references = q.references ∙ p.references;
   again = q.again ∙ p.again;
 }
 
@@ -35,19 +36,32 @@ claims_then u v w p q = record {
   claimed = q.claimed ∙ p.claimed;
   kinds = q.kinds ∙ p.kinds;
   cut = q.cut ∙ p.cut;
+  references = q.references ∙ p.references;
   seen = q.seen ∙ p.seen;
 }
 
 -- the windows are no part of it
 pub found_still : (u w : Workspace) (windows : Windows) → SameFound u w → SameFound u (record w { windows = windows })
-found_still u w windows p = record { kinds = p.kinds; marked = p.marked; cut = p.cut; again = p.again }
+found_still u w windows p = record {
+  kinds = p.kinds;
+  marked = p.marked;
+  cut = p.cut;
+  references = p.references;
+  again = p.again;
+}
 
 pub claims_still : (u w : Workspace) (windows : Windows) → SameClaims u w →
     SameClaims u (record w { windows = windows })
-claims_still u w windows p = record { claimed = p.claimed; kinds = p.kinds; cut = p.cut; seen = p.seen }
+claims_still u w windows p = record {
+  claimed = p.claimed;
+  kinds = p.kinds;
+  cut = p.cut;
+  references = p.references;
+  seen = p.seen;
+}
 
 pub claims_none : (w : Workspace) → SameClaims w w
-claims_none w = record { claimed = refl; kinds = refl; cut = refl; seen = refl }
+claims_none w = record { claimed = refl; kinds = refl; cut = refl; references = refl; seen = refl }
 
 pub only_none : (l : Layout) (w : Workspace) → IsFor l w → ClaimsOnly l w w
 only_none l w made = record { made = made; windows = refl; found = found_none w }
@@ -152,7 +166,7 @@ stored_length old new number x n e s = omega (arith, ap length s, length-set old
 -- or what was found of one is kept
 pub ready_stored : (l : Layout) (d : Device) (number : ℕ) (class : Class) (i : Inode) (u w : Workspace) →
     Stored number class i u w →
-    w ≡ record u { kinds = w.kinds; marked = w.marked; cut = w.cut } → IsReady l d u → IsReady l d w
+    w ≡ record u { kinds = w.kinds; marked = w.marked; cut = w.cut; references = w.references } → IsReady l d u → IsReady l d w
 ready_stored l d number class i u w s e r =
     let m = r.made in
     let same : w.windows ≡ u.windows = ap (λ x. x.windows) e in
@@ -166,7 +180,7 @@ ready_stored l d number class i u w s e r =
         named = ap (λ x. vec_len x.named) e ∙ m.named;
         reached = ap (λ x. vec_len x.reached) e ∙ m.reached;
         leaders = ap (λ x. vec_len x.leaders) e ∙ m.leaders;
-        references = ap (λ x. vec_len x.references) e ∙ m.references;
+        references = stored_length u.references w.references number _ _ m.references s.starts;
         cut = stored_length u.cut w.cut number _ _ m.cut s.cut;
         parents = ap (λ x. vec_len x.parents) e ∙ m.parents;
         queue = ap (λ x. vec_len x.queue) e ∙ m.queue;

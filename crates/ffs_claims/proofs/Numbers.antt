@@ -16,6 +16,7 @@ use Rattle.ffs_volume.specs.Blocks.KeptSteps.{claims_before}
 use Rattle.ffs_volume.specs.Encodings.Replay.{cut_of, cut_at}
 use Rattle.ffs_volume.specs.Directories.Volumes.{is_inode_number}
 use Rattle.ffs_volume.specs.Encodings.Kinds.{kind_of, kind_at}
+use Rattle.ffs_volume.specs.Encodings.Links.{start_of, start_at}
 use Rattle.ffs_workspace.specs.Holds.{has_blame, first_marked_at, all_claims}
 use Rattle.ffs_workspace.specs.Lengths.{inodes_of}
 use Rattle.ffs_claims.specs.Lines.{of_lines, owners_from}
@@ -147,6 +148,17 @@ pub kind_in : (v : Layout) (bytes : List ℕ) (x : ℕ) → is_inode_number v x 
 unfolding kind_at
 kind_in v bytes x inside =
     sym (ap (λ (b : Bool). kind_of (if b then class_of v (inode_of v bytes x) else Free) (inode_of v bytes x)) inside)
+
+pub start_out : (v : Layout) (bytes : List ℕ) (x : ℕ) → is_inode_number v x ≡ false → start_at v bytes x ≡ 0
+unfolding start_at
+start_out v bytes x out = ap
+    (λ (b : Bool). start_of (if b then class_of v (inode_of v bytes x) else Free) (inode_of v bytes x)) out
+
+pub start_in : (v : Layout) (bytes : List ℕ) (x : ℕ) → is_inode_number v x ≡ true →
+    start_of (class_of v (inode_of v bytes x)) (inode_of v bytes x) ≡ start_at v bytes x
+unfolding start_at
+start_in v bytes x inside =
+    sym (ap (λ (b : Bool). start_of (if b then class_of v (inode_of v bytes x) else Free) (inode_of v bytes x)) inside)
 
 pub mark_out : (v : Layout) (bytes : List ℕ) (x : ℕ) → is_inode_number v x ≡ false → first_marked_at v bytes x ≡ false
 unfolding first_marked_at

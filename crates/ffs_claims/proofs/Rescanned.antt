@@ -27,7 +27,7 @@ use Rattle.ffs_volume.specs.Report.Whole.{run_count}
 use Rattle.ffs_volume.specs.Directories.Volumes.{is_inode_number}
 use Rattle.ffs_maps.specs.Bits.{bits_of}
 use Rattle.ffs_workspace.specs.declared.workspace.Workspace.{Workspace}
-use Rattle.ffs_workspace.specs.Holds.{bool_at, all_claims, first_marked_at, HoldsPhase1, HoldsClaims}
+use Rattle.ffs_workspace.specs.Holds.{bool_at, all_claims, first_marked_at, HoldsPhase1, HoldsStarts, HoldsClaims}
 use Rattle.ffs_workspace.specs.Lengths.{inodes_of}
 use Rattle.ffs_claims.specs.Lines.{of_lines, owners_from}
 use Rattle.ffs_claims.specs.Rescan.{rescan, offers_again, runs_again}
@@ -216,6 +216,13 @@ claims_hold v bytes old new h same t = record {
       || list_any (blames x) (first_offer_lines d (kept_in_owners v (no_claims v) (owners_of v bytes)))) h.dup
       ∙ ap (λ (b : Bool). first_marked_at v bytes x || b) (sym (outside v bytes x))
       ∙ sym (marked_total v bytes x);
+}
+
+-- and where counts of references start
+pub starts_hold : (v : Layout) (bytes : List ℕ) (old new : Workspace) → HoldsPhase1 v bytes old → SameClaims old new →
+    HoldsStarts v bytes new
+starts_hold v bytes old new h same = record {
+  starts = λ x. ap (λ k. slice_index k.items x) same.references ∙ h.starts x;
 }
 
 -- nothing is reported yet

@@ -7,6 +7,7 @@ use Rattle.ffs_volume.specs.Blocks.Inodes.{is_unknown}
 use Rattle.ffs_volume.specs.Encodings.Replay.{cut_of}
 use Rattle.ffs_workspace.specs.declared.workspace.Workspace.{Workspace}
 use Rattle.ffs_volume.specs.Encodings.Kinds.{kind_of}
+use Rattle.ffs_volume.specs.Encodings.Links.{start_of}
 use Rattle.ffs_workspace.specs.Holds.{claims_of, has_blame}
 use Rattle.ffs_workspace.specs.Lengths.{IsFor}
 
@@ -21,6 +22,7 @@ pub record SameFound (old new : Workspace) : Type 0 where
   pub kinds : new.kinds ≡ old.kinds
   pub marked : new.marked ≡ old.marked
   pub cut : new.cut ≡ old.cut
+  pub references : new.references ≡ old.references
   pub again : new.runs_again ≡ old.runs_again
 
 -- what claiming leaves: the lists have their lengths, and the windows and what was found are as they were
@@ -39,9 +41,11 @@ pub record HasInode (number : ℕ) (w : Workspace) : Type 0 where
   pub kinds : number < vec_len w.kinds
   pub marked : number < vec_len w.marked
   pub cut : number < vec_len w.cut
+  pub references : number < vec_len w.references
 
 -- what was found of the current inode is kept
 pub record Stored (number : ℕ) (class : Class) (i : Inode) (old new : Workspace) : Type 0 where
   pub kinds : new.kinds.items ≡ slice_set old.kinds.items number (kind_of class i)
   pub marked : new.marked.items ≡ slice_set old.marked.items number (is_unknown class || has_blame (claims_of new))
   pub cut : new.cut.items ≡ slice_set old.cut.items number (min (cut_of (claims_of new)) 4294967295)
+  pub starts : new.references.items ≡ slice_set old.references.items number (start_of class i)

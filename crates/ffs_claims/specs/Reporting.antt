@@ -20,11 +20,13 @@ pub record OffersReported (offers : List Offer) (old new : Workspace) : Type 0 w
   pub marked : (x : ℕ) → bool_at new.marked.items x ≡ (bool_at old.marked.items x
       || list_any (blames x) (first_offer_lines (bits_of old.duplicates) offers))
 
--- a call left the claims alone, what each inode is, where it is cut, and the Runs of phase 1
+-- a call left the claims alone, what each inode is, where it is cut, where its count of references starts, and the
+-- Runs of phase 1
 pub record SameClaims (old new : Workspace) : Type 0 where
   pub claimed : new.claimed ≡ old.claimed
   pub kinds : new.kinds ≡ old.kinds
   pub cut : new.cut ≡ old.cut
+  pub references : new.references ≡ old.references
   pub seen : new.runs_seen ≡ old.runs_seen
 
 -- what reporting leaves: the lists have their lengths, and the windows, the claims and the Runs of phase 1 are as they

@@ -12,7 +12,7 @@ ghost use Rattle.ffs_volume.specs.Blocks.Inodes.{inode_of};
 ghost use Rattle.ffs_volume.specs.Blocks.Lengths.{HasLength};
 ghost use Rattle.ffs_volume.specs.Blocks.Steps.{steps_of};
 ghost use Rattle.ffs_maps.specs.Bits.{bits_of};
-ghost use Rattle.ffs_workspace.specs.Holds.{HoldsPhase1, HoldsClaims};
+ghost use Rattle.ffs_workspace.specs.Holds.{HoldsPhase1, HoldsClaims, HoldsStarts};
 ghost use Rattle.ffs_workspace.specs.Lengths.{IsFor, inodes_of};
 ghost use Rattle.ffs_workspace.specs.Ready.{IsReady};
 ghost use Rattle.ffs_claims.specs.Lines.{of_lines};
@@ -164,7 +164,8 @@ pub fn phase1b<I: Image, W: Output>(
     ensures holds { OnOk result (ForBytes
         (λ bytes. IsContents (I.device image.old).contents bytes
         × HoldsPhase1 geometry.now.layout bytes workspace.old)
-        (λ bytes. HoldsClaims geometry.now.layout bytes workspace.new)) }
+        (λ bytes. HoldsClaims geometry.now.layout bytes workspace.new
+        × HoldsStarts geometry.now.layout bytes workspace.new)) }
     ensures runs { ForBytes (λ bytes. IsContents (I.device image.old).contents bytes
         × HoldsPhase1 geometry.now.layout bytes workspace.old)
         (λ bytes. workspace.new.runs_again ≤ run_count geometry.now.layout bytes) }

@@ -7,6 +7,7 @@ ghost use Rattle.ffs_volume.specs.Encodings.Replay.{cut_of};
 ghost use Rattle.ffs_report.specs.Progress.{progress, Says};
 ghost use Rattle.ffs_workspace.specs.Holds.{claims_of, has_blame};
 ghost use Rattle.ffs_volume.specs.Encodings.Kinds.{kind_of};
+ghost use Rattle.ffs_volume.specs.Encodings.Links.{start_of};
 ghost use Rattle.ffs_claims.specs.Leaves.{HasInode, Stored};
 ghost use Rattle.ffs_claims.specs.Lines.{of_lines, counted_owner};
 
@@ -15,7 +16,7 @@ use ffs_layout::Geometry;
 use ffs_report::{Line, OutFault, Output, Report};
 use ffs_volume::constants::{DEV_BSIZE, DT_DIR, EMPTY_DIR, MAXDUP, UNKNOWN_TYPE};
 use ffs_volume::{BlockMessage, Class, Inode};
-use ffs_workspace::Workspace;
+use ffs_workspace::{Workspace, links_start};
 
 /// The next inode becomes the current one.
 pub fn begin(workspace: &mut Workspace)
@@ -107,6 +108,16 @@ fn cut_of(workspace: &Workspace) -> u32
     workspace.kept.min(4294967295) as u32
 }
 
+// Where the count of an inode's references starts.
+fn start_of(class: Class, inode: &Inode) -> u64
+    ensures { result ≡ start_of class inode.now }
+{
+    match class {
+        Class::File | Class::Dir | Class::Unknown => links_start(inode.nlink),
+        Class::Free | Class::Partial => 0,
+    }
+}
+
 /// Keeps what later phases want of the current inode.
 pub fn store(workspace: &mut Workspace, number: u32, class: Class, inode: &Inode)
     requires number { HasInode number workspace.old }
@@ -115,6 +126,7 @@ pub fn store(workspace: &mut Workspace, number: u32, class: Class, inode: &Inode
       kinds = workspace.new.kinds;
       marked = workspace.new.marked;
       cut = workspace.new.cut;
+      references = workspace.new.references;
     } }
 {
     let kind = kind_of(class, inode);
@@ -123,4 +135,5 @@ pub fn store(workspace: &mut Workspace, number: u32, class: Class, inode: &Inode
     workspace.kinds[number as usize] = kind;
     workspace.marked[number as usize] = marked;
     workspace.cut[number as usize] = cut;
+    workspace.references[number as usize] = start_of(class, inode);
 }

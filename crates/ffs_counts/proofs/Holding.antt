@@ -5,6 +5,7 @@ use Rattle.std.specs.Prelude.{◌&&◌, ◌||◌, ◌==◌, not, if◌then◌els
 use Rattle.std.specs.List.{slice_index_or}
 use Rattle.std.specs.declared.alloc.Global.{Global}
 use Rattle.std.specs.declared.vec.Vec.{Vec}
+use Rattle.std.proofs.lemmas.Bool.{and_parts, eqb-true, not-true}
 use Rattle.std.proofs.lemmas.List.{get_or_read}
 use Rattle.ffs_volume.specs.declared.Layout.{Layout}
 use Rattle.ffs_volume.specs.declared.Attr.{Attr}
@@ -14,17 +15,21 @@ use Rattle.ffs_volume.specs.Disk.Numbers.{equals_natural}
 use Rattle.ffs_volume.specs.Messages.Kinds.{NameMessage, of_names, lines_from, reported, dead_marked, dead_zero, unref}
 use Rattle.ffs_volume.specs.Messages.Kinds.{unref_unlinked, link_count}
 use Rattle.ffs_volume.specs.Blocks.Inodes.{inode_of, is_allocated}
-use Rattle.ffs_volume.specs.Directories.Roles.{is_allocated_inode, is_suspect}
+use Rattle.ffs_volume.specs.Directories.Roles.{is_allocated_inode, is_inode, is_suspect, references}
 use Rattle.ffs_volume.specs.Directories.PathnameCheck.{label_of, attributes}
 use Rattle.ffs_volume.specs.Directories.Volumes.{class_at, marked_at, volume_of, volume_with}
 use Rattle.ffs_volume.specs.Directories.ReferenceCheck.{inode_lines, counted_lines, reference_lines}
 use Rattle.ffs_volume.specs.Directories.Connectivity.{is_dead}
 use Rattle.ffs_workspace.specs.declared.workspace.Workspace.{Workspace}
-use Rattle.ffs_workspace.specs.Holds.{HoldsClaims, HoldsSurvey, bool_at}
+use Rattle.ffs_workspace.specs.Holds.{HoldsClaims, HoldsFindings, bool_at}
 use Rattle.ffs_volume.specs.Encodings.Kinds.{kind_at, class_of_kind, is_allocated_kind, is_dir_kind, is_empty_dir_kind}
 use Rattle.ffs_workspace.specs.Lengths.{inodes_of}
 use Rattle.ffs_workspace.proofs.KindLaws.{suspect_is, some_is}
-use Rattle.ffs_counts.specs.References.{reference_reported, attr_with}
+use Rattle.ffs_counts.specs.References.{reference_reported, attr_with, is_dead_by, is_met}
+use Rattle.ffs_volume.specs.declared.constants.TheConstants.{LINKS_MET}
+use Rattle.ffs_volume.specs.declared.Label.{Label}
+use Rattle.ffs_volume.specs.Encodings.Links.{links_start, start_at}
+use Rattle.ffs_volume.proofs.LinkLaws.{AreMet, links_met}
 use Rattle.ffs_volume.proofs.Numbered.{all_from}
 use Rattle.ffs_counts.proofs.Classes.{same_test}
 
@@ -36,26 +41,6 @@ held_on old mid new e f = f ∙ ap (λ (w : Workspace). record w { windows = new
 pub item_at : {X : Type 0} (list : Vec X Global) (i n : ℕ) (x d : X) → x ≡ slice_index_or list.items i x → i < n →
     vec_len list ≡ n → x ≡ slice_index_or list.items i d
 item_at list i n x d e low len = get_or_read list.items i x (omega (arith, list.ok.0)) e d
-
-pub inode_lines_are : (v : Layout) (b : List ℕ) (w : Workspace) (i : ℕ) (inode : Inode) (dead : Bool) → i < inodes_of v
-    → HoldsClaims v b w → HoldsSurvey v b w → inode ≡ inode_of v b i →
-    dead ≡ ((bool_at w.marked.items i || is_empty_dir_kind (slice_index w.kinds.items i))
-    && (not (i == 2) && not (bool_at w.named.items i))) →
-    inode_lines (volume_of v b) i ≡ reference_reported dead (bool_at w.marked.items i)
-    (label_of (class_of_kind (slice_index w.kinds.items i))) (attr_with i inode) inode.nlink
-    (slice_index w.references.items i)
-unfolding inode_lines attributes volume_of volume_with
-inode_lines_are v b w i inode dead low h s is e =
-    let suspect : (bool_at w.marked.items i || is_empty_dir_kind (slice_index w.kinds.items i))
-    ≡ (marked_at v b i || is_empty_dir_kind (kind_at v b i)) =
-    ap (λ m. m || is_empty_dir_kind (slice_index w.kinds.items i)) (h.marked i)
-    ∙ ap (λ k. marked_at v b i || is_empty_dir_kind k) (h.kinds i) in
-    let is_dead_is : dead ≡ is_dead (volume_of v b) i = e
-    ∙ ap (λ t. t && (not (i == 2) && not (bool_at w.named.items i))) (suspect ∙ sym (suspect_is v b i))
-    ∙ ap (λ n. is_suspect (volume_of v b) i && (not (i == 2) && not n)) (s.named i low) in
-    let label : label_of (class_of_kind (slice_index w.kinds.items i)) ≡ label_of (class_at v b i) =
-    ap (λ k. label_of (class_of_kind k)) (h.kinds i) ∙ same_test label_of refl v b i in
-    rw (is_dead_is, h.marked i, label, is, s.references i low) refl
 
 -- whether an inode is allocated, by the kind that a workspace holds
 kind_tests : (free unknown dir : Bool) →
@@ -79,6 +64,47 @@ pub some_lines : (v : Layout) (b : List ℕ) (w : Workspace) (i : ℕ) → Holds
     is_allocated (class_of_kind (slice_index w.kinds.items i)) ≡ true →
     inode_lines (volume_of v b) i ≡ counted_lines (volume_of v b) i
 some_lines v b w i h e = ap (λ t. if t then inode_lines (volume_of v b) i else []) (sym (allocated_is v b w i h ∙ e))
+
+-- where the count of an allocated inode starts
+start_used : (v : Layout) (b : List ℕ) (w : Workspace) (i : ℕ) → HoldsClaims v b w →
+    is_allocated (class_of_kind (slice_index w.kinds.items i)) ≡ true →
+    start_at v b i ≡ links_start (inode_of v b i).nlink
+unfolding start_at volume_of volume_with
+start_used v b w i h used =
+    let both = and_parts (is_inode (volume_of v b) i) (is_allocated (class_at v b i)) (allocated_is v b w i h ∙ used) in
+    ap (λ (t : Bool). if t then links_start (inode_of v b i).nlink else 0) both.1
+
+-- how often an allocated inode is referred to
+pub references_are : (v : Layout) (b : List ℕ) (w : Workspace) (i : ℕ) → i < inodes_of v → HoldsFindings v b w →
+    is_allocated (class_of_kind (slice_index w.kinds.items i)) ≡ true →
+    slice_index w.references.items i ≡ links_start (inode_of v b i).nlink + references (volume_of v b) i
+references_are v b w i low h used = h.references.counts i low
+    ∙ ap (λ (n : ℕ). n + references (volume_of v b) i) (start_used v b w i h.claims used)
+
+pub inode_lines_are : (v : Layout) (b : List ℕ) (w : Workspace) (i : ℕ) (inode : Inode) (dead : Bool) (r : ℕ) →
+    i < inodes_of v
+    → HoldsFindings v b w → is_allocated (class_of_kind (slice_index w.kinds.items i)) ≡ true →
+    inode ≡ inode_of v b i → dead ≡ is_dead_by w i →
+    r ≡ slice_index w.references.items i - links_start inode.nlink →
+    inode_lines (volume_of v b) i ≡ reference_reported dead (bool_at w.marked.items i)
+    (label_of (class_of_kind (slice_index w.kinds.items i))) (attr_with i inode) inode.nlink r
+unfolding inode_lines attributes volume_of volume_with
+inode_lines_are v b w i inode dead r low f used is e refs =
+    let h = f.claims in
+    let suspect : (bool_at w.marked.items i || is_empty_dir_kind (slice_index w.kinds.items i))
+    ≡ (marked_at v b i || is_empty_dir_kind (kind_at v b i)) =
+    ap (λ m. m || is_empty_dir_kind (slice_index w.kinds.items i)) (h.marked i)
+    ∙ ap (λ k. marked_at v b i || is_empty_dir_kind k) (h.kinds i) in
+    let is_dead_is : dead ≡ is_dead (volume_of v b) i = e
+    ∙ ap (λ t. t && (not (i == 2) && not (bool_at w.named.items i))) (suspect ∙ sym (suspect_is v b i))
+    ∙ ap (λ n. is_suspect (volume_of v b) i && (not (i == 2) && not n)) (f.survey.named i low) in
+    let label : label_of (class_of_kind (slice_index w.kinds.items i)) ≡ label_of (class_at v b i) =
+    ap (λ k. label_of (class_of_kind k)) (h.kinds i) ∙ same_test label_of refl v b i in
+    let counted = references_are v b w i low f used in
+    let start : links_start inode.nlink ≡ links_start (inode_of v b i).nlink = ap (λ (x : Inode). links_start x.nlink) is
+    in
+    let right : r ≡ references (volume_of v b) i = omega (arith, refs, counted, start) in
+    rw (is_dead_is, h.marked i, label, is, right) refl
 
 -- free inodes have no lines: those of the numbers from d on are those of the numbers after them
 skip_none : (lines : ℕ → List NameMessage) (k d n : ℕ) → ((j : ℕ) → j < k → lines (d + j) ≡ []) →
@@ -122,42 +148,25 @@ unfolding reference_lines volume_of volume_with
 lines_begin v b = ap (λ (ls : List NameMessage). map of_names ls)
     (all_from (counted_lines (volume_of v b)) (inodes_of v))
 
--- there is one message, or none where an inode isn't dead, is referred to, and has a link for each reference
-one_reported : (dead m never none same : Bool) (a b c d e : NameMessage) →
-    length (if dead then (if m then a ∷ [] else b ∷ [])
-    else (if never then (if none then c ∷ [] else d ∷ []) else reported (not same) e))
-    ≡ (if same && (not never && not dead) then 0 else 1)
-one_reported true true true none true a b c d e = refl
-one_reported true true false none true a b c d e = refl
-one_reported true false true none true a b c d e = refl
-one_reported true false false none true a b c d e = refl
-one_reported true true never none false a b c d e = refl
-one_reported true false never none false a b c d e = refl
-one_reported false m true true true a b c d e = refl
-one_reported false m true true false a b c d e = refl
-one_reported false m true false true a b c d e = refl
-one_reported false m true false false a b c d e = refl
-one_reported false m false none true a b c d e = refl
-one_reported false m false none false a b c d e = refl
-
-pub right_lines : (v : Layout) (b : List ℕ) (w : Workspace) (i r : ℕ) (dead same : Bool) → i < inodes_of v →
-    HoldsClaims v b w → HoldsSurvey v b w →
-    dead ≡ ((bool_at w.marked.items i || is_empty_dir_kind (slice_index w.kinds.items i))
-    && (not (i == 2) && not (bool_at w.named.items i))) →
-    r ≡ slice_index w.references.items i → same ≡ equals_natural (inode_of v b i).nlink r →
-    length (inode_lines (volume_of v b) i) ≡ (if same && (not (r == 0) && not dead) then 0 else 1)
-right_lines v b w i r dead same low h s is refs counted =
+-- where each link has its reference, nothing is reported
+pub met_lines : (v : Layout) (b : List ℕ) (w : Workspace) (i : ℕ) → i < inodes_of v → HoldsFindings v b w →
+    is_allocated (class_of_kind (slice_index w.kinds.items i)) ≡ true → is_met w i ≡ true →
+    counted_lines (volume_of v b) i ≡ []
+met_lines v b w i low f used met =
+    let parts = and_parts (slice_index w.references.items i == LINKS_MET) (not (is_dead_by w i)) met in
+    let full = eqb-true (slice_index w.references.items i) LINKS_MET parts.0 in
+    let counted = references_are v b w i low f used in
+    let nlink = (inode_of v b i).nlink in
+    let links : AreMet nlink (references (volume_of v b) i) =
+    links_met nlink (references (volume_of v b) i) (sym counted ∙ full) in
     let label = label_of (class_of_kind (slice_index w.kinds.items i)) in
     let attr = attr_with i (inode_of v b i) in
-    let nlink = (inode_of v b i).nlink in
-    ap (λ (ls : List NameMessage). length ls) (inode_lines_are v b w i (inode_of v b i) dead low h s refl is
-    ∙ ap (λ n. reference_reported dead (bool_at w.marked.items i) label attr nlink n) (sym refs))
-    ∙ one_reported dead (bool_at w.marked.items i) (r == 0) (equals_natural nlink 0) (equals_natural nlink r)
-    (dead_marked label attr) (dead_zero attr) (unref_unlinked label attr) (unref label attr)
-    (link_count label attr nlink r)
-    ∙ ap (λ (t : Bool). if t && (not (r == 0) && not dead) then 0 else 1) (sym counted)
-
--- a list of no length
-pub none_of : (lines : List NameMessage) → length lines ≡ 0 → lines ≡ []
-none_of [] e = refl
-none_of (x ∷ xs) e = absurd (omega (arith, e))
+    sym (some_lines v b w i f.claims used)
+    ∙ inode_lines_are v b w i (inode_of v b i) (is_dead_by w i) (references (volume_of v b) i) low f used refl refl
+    (omega (arith, counted))
+    ∙ none_reported (is_dead_by w i) (bool_at w.marked.items i) label attr nlink (references (volume_of v b) i)
+    (not-true (is_dead_by w i) parts.1) links
+  where
+    none_reported : (dead m : Bool) (label : Label) (attr : Attr) (nlink : ℤ) (r : ℕ) → dead ≡ false →
+        AreMet nlink r → reference_reported dead m label attr nlink r ≡ []
+    none_reported dead m label attr nlink r alive links = rw (alive, links.some, links.same) refl

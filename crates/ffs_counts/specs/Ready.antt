@@ -20,11 +20,12 @@ pub record AreReady (v : Layout) (d : Device) (w : Windows) (used : FragmentMap)
   pub table_holds : WindowHolds d.contents w.table.window
   pub chunk_holds : WindowHolds d.contents w.chunk
 
--- the lists by which an inode is dead have a place for it
+-- the lists by which an inode is reported have a place for it
 pub record HasPlace (w : Workspace) (number : ℕ) : Type 0 where
   pub kinds : number < vec_len w.kinds
   pub marked : number < vec_len w.marked
   pub named : number < vec_len w.named
+  pub references : number < vec_len w.references
 
 -- so many inodes from one on are free, and there are none only where that one is allocated
 pub record IsFreeRun (kinds : List ℕ) (first n : ℕ) : Type 0 where

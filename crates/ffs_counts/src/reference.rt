@@ -1,16 +1,18 @@
 //! What is reported of an inode by the entries that refer to it.
 
-ghost use Rattle.std.specs.Prelude.{◌≡◌, ◌==◌, ◌||◌, ◌&&◌, not, map};
+ghost use Rattle.std.specs.Prelude.{◌≡◌, ◌-◌, map};
 ghost use Rattle.ffs_volume.specs.Messages.Kinds.{of_names};
 ghost use Rattle.ffs_volume.specs.Disk.Numbers.{equals_natural};
 ghost use Rattle.ffs_volume.specs.Directories.PathnameCheck.{label_of};
 ghost use Rattle.ffs_report.specs.Progress.{progress, Says};
 ghost use Rattle.ffs_volume.specs.Encodings.Kinds.{class_of_kind};
+ghost use Rattle.ffs_volume.specs.Encodings.Links.{links_start};
 ghost use Rattle.ffs_counts.specs.References.{attr_with, lines_as, reference_reported};
 
 use ffs_report::{Line, OutFault, Output, ReferenceLine, Report};
 use ffs_volume::constants::{DT_DIR, EMPTY_DIR, UNKNOWN_TYPE};
 use ffs_volume::{Attr, Inode, Label};
+use ffs_workspace::links_start;
 
 fn label_for(kind: u8) -> Label
     ensures { result ≡ label_of (class_of_kind kind) }
@@ -32,6 +34,13 @@ fn attr_for(number: u32, inode: &Inode) -> Attr
         size: inode.size,
         mtime: inode.mtime,
     }
+}
+
+/// How often an inode is referred to, by its count of references, which started by its links.
+pub fn references_by(count: u64, inode: &Inode) -> u64
+    ensures { result ≡ count - links_start inode.now.nlink }
+{
+    count.saturating_sub(links_start(inode.nlink))
 }
 
 // Whether a count of links is this number.

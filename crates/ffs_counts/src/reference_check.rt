@@ -1,72 +1,45 @@
 //! Phase 4: how often inodes are referred to.
 
-ghost use Rattle.std.specs.Prelude.{◌≡◌, ◌<◌, [], ◌∷◌, ◌==◌, ◌||◌, ◌&&◌, not, List, ℕ, map, slice_index, length, true, if◌then◌else◌, IfOk};
-ghost use Rattle.ffs_image.specs.Reads.{ReadAfter};
+ghost use Rattle.std.specs.Prelude.{◌≡◌, ◌<◌, ◌∷◌, map, slice_index, length, true};
 ghost use Rattle.ffs_volume.specs.Messages.Kinds.{of_names, phase4 as phase4_heading};
 ghost use Rattle.ffs_volume.specs.Directories.ReferenceCheck.{counted_lines, inode_lines, reference_lines};
 ghost use Rattle.ffs_volume.specs.Directories.Volumes.{volume_of};
 ghost use Rattle.ffs_report.specs.Progress.{progress};
 ghost use Rattle.ffs_phase.specs.Known.{IsContents};
 ghost use Rattle.ffs_phase.specs.Runs.{ImageAfter, PhaseReports};
-ghost use Rattle.ffs_workspace.specs.Holds.{HoldsClaims, HoldsSurvey, bool_at};
+ghost use Rattle.ffs_workspace.specs.Holds.{HoldsFindings};
 ghost use Rattle.ffs_volume.specs.Blocks.Inodes.{is_allocated};
-ghost use Rattle.ffs_volume.specs.Encodings.Kinds.{class_of_kind, is_empty_dir_kind};
+ghost use Rattle.ffs_volume.specs.Encodings.Kinds.{class_of_kind};
 ghost use Rattle.ffs_workspace.specs.Lengths.{inodes_of};
 ghost use Rattle.ffs_workspace.specs.Ready.{IsReady};
 ghost use Rattle.ffs_counts.specs.Ready.{HasPlace, IsFreeRun};
+ghost use Rattle.ffs_counts.specs.References.{is_dead_by, is_met};
 
-use crate::reference::{line_for, say_line};
+use crate::reference::{line_for, references_by, say_line};
 use ffs_groups::inodes::are_used;
-use ffs_image::{Image, ImageFault};
+use ffs_image::Image;
 use ffs_layout::Geometry;
 use ffs_phase::RunFault;
 use ffs_report::{Heading, Line, Output, Report};
-use ffs_volume::constants::{EMPTY_DIR, ROOTINO};
+use ffs_volume::constants::{EMPTY_DIR, LINKS_MET, ROOTINO};
 use ffs_workspace::Workspace;
 
 // Whether an inode is marked or a directory of size 0, and no entry names it.
 fn is_dead(workspace: &Workspace, number: u32) -> bool
     requires { HasPlace workspace.now number }
-    ensures { result ≡ ((bool_at workspace.now.marked.items number
-        || is_empty_dir_kind (slice_index workspace.now.kinds.items number))
-        && (not (number == 2) && not (bool_at workspace.now.named.items number))) }
+    ensures { result ≡ is_dead_by workspace.now number }
 {
     let place = number as usize;
     let suspect = workspace.marked[place] || workspace.kinds[place] == EMPTY_DIR;
     suspect && number != ROOTINO && !workspace.named[place]
 }
 
-// Whether nothing is reported of an inode that is allocated: it isn't dead, is referred to, and has a link for each reference.
-fn is_quiet(dead: bool, references: u64, linked: bool) -> bool
-    ensures { result ≡ (linked && (not (references == 0) && not dead)) }
+// Whether nothing is reported of an inode that is allocated: it isn't dead, and each of its links has a reference.
+fn is_right(workspace: &Workspace, number: u32) -> bool
+    requires { HasPlace workspace.now number }
+    ensures { result ≡ is_met workspace.now number }
 {
-    linked && references != 0 && !dead
-}
-
-// Whether nothing is reported of an inode that is allocated. Otherwise it has one line.
-fn is_right<I: Image>(
-    workspace: &mut Workspace,
-    geometry: &Geometry,
-    number: u32,
-    image: &mut I,
-) -> Result<bool, ImageFault>
-    requires ready { IsReady geometry.now.layout (I.device image.old) workspace.old }
-    requires number { number < inodes_of geometry.now.layout }
-    ensures lines { IfOk result (λ right. (bytes : List ℕ)
-        → IsContents (I.device image.old).contents bytes
-        → HoldsClaims geometry.now.layout bytes workspace.old
-        → HoldsSurvey geometry.now.layout bytes workspace.old
-        → length (inode_lines (volume_of geometry.now.layout bytes) number)
-        ≡ (if right then 0 else 1)) }
-    ensures held { workspace.new ≡ record workspace.old { windows = workspace.new.windows } }
-    ensures ready { IsReady geometry.now.layout (I.device image.new) workspace.new }
-    ensures read { ReadAfter (I.device image.old) (I.device image.new) result }
-{
-    let references = workspace.references[number as usize];
-    let dead = is_dead(workspace, number);
-    let table = &mut workspace.windows.table;
-    let linked = table.has_links(geometry, number, references, image)?;
-    Ok(is_quiet(dead, references, linked))
+    workspace.references[number as usize] == LINKS_MET && !is_dead(workspace, number)
 }
 
 // Says what is reported of an inode that is allocated.
@@ -79,10 +52,11 @@ fn report_inode<I: Image, W: Output>(
 ) -> Result<(), RunFault>
     requires ready { IsReady geometry.now.layout (I.device image.old) workspace.old }
     requires number { number < inodes_of geometry.now.layout }
+    requires used { is_allocated (class_of_kind (slice_index workspace.old.kinds.items number))
+        ≡ true }
     ensures image { ImageAfter (I.device image.old) (I.device image.new) result }
     ensures text { PhaseReports (λ bytes. IsContents (I.device image.old).contents bytes
-        × HoldsClaims geometry.now.layout bytes workspace.old
-        × HoldsSurvey geometry.now.layout bytes workspace.old)
+        × HoldsFindings geometry.now.layout bytes workspace.old)
         (λ bytes. map of_names (inode_lines (volume_of geometry.now.layout bytes) number))
         (progress W.sink report.old) (progress W.sink report.new) result }
     ensures held { workspace.new ≡ record workspace.old { windows = workspace.new.windows } }
@@ -92,8 +66,9 @@ fn report_inode<I: Image, W: Output>(
     let dead = is_dead(workspace, number);
     let marked = workspace.marked[place];
     let kind = workspace.kinds[place];
-    let references = workspace.references[place];
+    let count = workspace.references[place];
     let inode = workspace.windows.table.inode(geometry, number, image)?;
+    let references = references_by(count, &inode);
     let line = line_for(dead, marked, kind, references, number, &inode);
     say_line(report, line)?;
     Ok(())
@@ -133,14 +108,13 @@ fn check_inode<I: Image, W: Output>(
         ≡ true }
     ensures image { ImageAfter (I.device image.old) (I.device image.new) result }
     ensures text { PhaseReports (λ bytes. IsContents (I.device image.old).contents bytes
-        × HoldsClaims geometry.now.layout bytes workspace.old
-        × HoldsSurvey geometry.now.layout bytes workspace.old)
+        × HoldsFindings geometry.now.layout bytes workspace.old)
         (λ bytes. map of_names (counted_lines (volume_of geometry.now.layout bytes) number))
         (progress W.sink report.old) (progress W.sink report.new) result }
     ensures held { workspace.new ≡ record workspace.old { windows = workspace.new.windows } }
     ensures ready { IsReady geometry.now.layout (I.device image.new) workspace.new }
 {
-    if is_right(workspace, geometry, number, image)? {
+    if is_right(workspace, number) {
         return Ok(());
     }
     report_inode(workspace, geometry, number, image, report)
@@ -160,8 +134,7 @@ pub fn phase4<I: Image, W: Output>(
     requires ready { IsReady geometry.now.layout (I.device image.old) workspace.old }
     ensures image { ImageAfter (I.device image.old) (I.device image.new) result }
     ensures text { PhaseReports (λ bytes. IsContents (I.device image.old).contents bytes
-        × HoldsClaims geometry.now.layout bytes workspace.old
-        × HoldsSurvey geometry.now.layout bytes workspace.old)
+        × HoldsFindings geometry.now.layout bytes workspace.old)
         (λ bytes. phase4_heading ∷ map of_names
         (reference_lines (volume_of geometry.now.layout bytes)))
         (progress W.sink report.old) (progress W.sink report.new) result }

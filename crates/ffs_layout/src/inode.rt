@@ -3,7 +3,7 @@
 ghost use Rattle.std.specs.Prelude.{◌≡◌, ◌≤◌, ◌+◌, ◌*◌, length, map};
 ghost use Rattle.std.specs.List.{range_with_len};
 ghost use Rattle.ffs_volume.specs.Blocks.Inodes.{inode_from_bytes};
-ghost use Rattle.ffs_volume.specs.Disk.Numbers.{equals_natural, u32_at as u32_in};
+ghost use Rattle.ffs_volume.specs.Disk.Numbers.{u32_at as u32_in};
 
 use crate::numbers::{i16_at, i32_at, u16_at, u32_at, u64_at};
 use ffs_volume::{Inode, Order};
@@ -40,20 +40,6 @@ fn fields_of(order: Order, bytes: &[u8]) -> Inode
         addresses: addresses_of(order, bytes),
         blocks: u32_at(order, 104, bytes),
         uid: u32_at(order, 112, bytes),
-    }
-}
-
-/// Whether the inode in the first 128 bytes has this link count (fs(5), `struct dinode`).
-#[tactic(auto, unfolding(ffs_volume::specs::Blocks::Inodes::inode_from_bytes))]
-pub fn has_links(order: Order, bytes: &[u8], links: u64) -> bool
-    requires { 128 ≤ length bytes.now }
-    ensures { result ≡ equals_natural (inode_from_bytes order bytes.now).nlink links }
-{
-    let nlink = i16_at(order, 2, bytes);
-    if nlink < 0 {
-        false
-    } else {
-        u64::from(nlink as u16) == links
     }
 }
 

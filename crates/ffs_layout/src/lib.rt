@@ -27,5 +27,5 @@ pub use entry::{Entry, entry_at};
 pub use ffs_volume::{Inode, Layout, Order, SuperFault};
 pub use geometry::Geometry;
 pub use group::{Group, GroupSummary};
-pub use inode::{decode_inode, has_links};
+pub use inode::decode_inode;
 pub use superblock::{Super, read_super};

@@ -7,7 +7,7 @@ use Rattle.ffs_volume.specs.Directories.Roles.{RoledEntry, refers}
 use Rattle.ffs_volume.specs.Disk.Search.{first_below, some_below}
 use Rattle.ffs_volume.specs.Directories.Climb.{is_value}
 use Rattle.ffs_volume.specs.Directories.Graph.{Graph, names, names_in, edge, within, level, parent, parent_by}
-use Rattle.ffs_survey.specs.Survey.{counted_in, references_below, IsSurvey}
+use Rattle.ffs_survey.specs.Survey.{counted_in, references_below, start_in, IsSurvey}
 
 abbrev graph : ℕ → (ℕ → Bool) → (ℕ → List RoledEntry) → Graph
 graph n d e = record { count = n; is_dir = d; entries = e }
@@ -73,11 +73,11 @@ references_same n d e f h x (suc k) =
     ∙ ap (λ m. references_below (graph n d f) x k + m) (counted_same n d e f h k x)
 
 -- a survey of a graph is one of each graph with the same entries of directories
-pub survey_same : (n : ℕ) (d : ℕ → Bool) (e f : ℕ → List RoledEntry) (counts : List ℕ) (flags marks : List Bool)
-    (ups : List ℕ) → ((s : ℕ) → d s ≡ true → e s ≡ f s)
-    → IsSurvey (graph n d e) counts flags marks ups → IsSurvey (graph n d f) counts flags marks ups
-survey_same n d e f counts flags marks ups h s = record {
-  counts = λ x l. s.counts x l ∙ references_same n d e f h x n;
+pub survey_same : (n : ℕ) (d : ℕ → Bool) (e f : ℕ → List RoledEntry) (starts counts : List ℕ)
+    (flags marks : List Bool) (ups : List ℕ) → ((s : ℕ) → d s ≡ true → e s ≡ f s)
+    → IsSurvey (graph n d e) starts counts flags marks ups → IsSurvey (graph n d f) starts counts flags marks ups
+survey_same n d e f starts counts flags marks ups h s = record {
+  counts = λ x l. s.counts x l ∙ ap (λ k. start_in starts x + k) (references_same n d e f h x n);
   names = λ x l. s.names x l ∙ ap (λ p. some_below p n) (fun_ext (λ k. names_same n d e f h k x));
   reaches = λ x. s.reaches x ∙ ap (λ o. is_some o) (level_same n d e f h x);
   ups = λ x. s.ups x ∙ ap (λ o. unwrap_or o 0) (parent_same n d e f h x);

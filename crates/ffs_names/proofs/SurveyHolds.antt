@@ -1,21 +1,26 @@
 -- A survey fills a workspace.
-use Rattle.std.proofs.Common.{◌≡◌, ◌*◌, ◌≤◌, ℕ, Bool, true, List, [], Result, Ok, Err, Option, Some, None, refl, sym}
+use Rattle.std.proofs.Common.{◌≡◌, ◌+◌, ◌-◌, ◌*◌, ◌≤◌, ℕ, ℤ, pos, negsuc, Bool, true, false, List, [], Result, Ok, Err}
+use Rattle.std.proofs.Common.{Option, Some, None, refl, sym, arith}
 use Rattle.std.proofs.Common.{ap, ◌∙◌, subst}
-use Rattle.std.specs.Prelude.{OnOk, IfOk, IfErr, IfNone, if◌then◌else◌, slice_index, length}
+use Rattle.std.specs.Prelude.{OnOk, IfOk, IfErr, IfNone, if◌then◌else◌, ◌&&◌, min, nat_le, nat_lt, slice_index}
+use Rattle.std.specs.Prelude.{length}
 use Rattle.ffs_image.specs.Device.{Device, Faulted}
 use Rattle.ffs_image.specs.Reads.{ReadAfter}
 use Rattle.ffs_image.specs.declared.image.ImageFault.{ImageFault}
 use Rattle.ffs_volume.specs.declared.Layout.{Layout}
 use Rattle.ffs_volume.specs.Directories.Roles.{is_dir, roled_entries}
 use Rattle.ffs_volume.specs.Directories.Parents.{graph_of}
-use Rattle.ffs_volume.specs.Directories.Volumes.{volume_of, volume_with}
+use Rattle.ffs_volume.specs.declared.constants.TheConstants.{LINKS_MET, NO_LINKS}
+use Rattle.ffs_volume.specs.Blocks.Inodes.{inode_of, is_allocated}
+use Rattle.ffs_volume.specs.Directories.Volumes.{class_at, volume_of, volume_with}
+use Rattle.ffs_volume.specs.Encodings.Links.{links_start, start_at}
 use Rattle.ffs_walk.specs.declared.blocks.Blocks.{Blocks}
 use Rattle.ffs_walk.specs.Windows.{BlocksHold}
 use Rattle.ffs_workspace.specs.Lengths.{inodes_of}
 use Rattle.ffs_volume.specs.Encodings.Kinds.{kind_at}
-use Rattle.ffs_workspace.specs.Holds.{HoldsSurvey}
+use Rattle.ffs_workspace.specs.Holds.{HoldsStarts, HoldsReferences, HoldsSurvey}
 use Rattle.ffs_workspace.specs.declared.workspace.Workspace.{Workspace}
-use Rattle.ffs_survey.specs.Survey.{bool_at, dir_at, graph_with, IsSurvey}
+use Rattle.ffs_survey.specs.Survey.{bool_at, dir_at, graph_with, most_start, references_to, IsSurvey}
 use Rattle.ffs_survey.specs.SurveyLaws.{survey_is, references_is}
 use Rattle.ffs_names.specs.Trees.{Base, dir_entries, dir_sound}
 use Rattle.ffs_names.specs.RightShapes.{is_right_shape, is_right_directory}
@@ -51,32 +56,60 @@ pub blocks_in : (v v' : Layout) (contents contents' : Option (List ℕ)) (blocks
 blocks_in v v' contents contents' blocks e t h = rw (t, ← e) h
 
 -- the survey of the directories of a volume
-pub volume_survey : (t : Base) (b kinds : List ℕ) (counts : List ℕ) (flags marks : List Bool) (ups : List ℕ) →
+pub volume_survey : (t : Base) (b kinds : List ℕ) (starts counts : List ℕ) (flags marks : List Bool) (ups : List ℕ) →
     length kinds ≡ inodes_of t.layout
     → ((x : ℕ) → slice_index kinds x ≡ kind_at t.layout b x)
-    → IsSurvey (graph_with kinds (dir_entries t b)) counts flags marks ups →
-    IsSurvey (graph_of (volume_of t.layout b)) counts flags marks ups
+    → IsSurvey (graph_with kinds (dir_entries t b)) starts counts flags marks ups →
+    IsSurvey (graph_of (volume_of t.layout b)) starts counts flags marks ups
 unfolding volume_of volume_with
-volume_survey t b kinds counts flags marks ups n k s =
-    survey_is (volume_of t.layout b) kinds (roled_entries (volume_of t.layout b)) counts flags marks ups n
+volume_survey t b kinds starts counts flags marks ups n k s =
+    survey_is (volume_of t.layout b) kinds (roled_entries (volume_of t.layout b)) starts counts flags marks ups n
     (λ x. kind_dirs t.layout b kinds x (k x)) (λ d. refl)
-    (survey_same (length kinds) (dir_at kinds) (dir_entries t b) (roled_entries (volume_of t.layout b)) counts flags
-    marks ups (λ d e. inside d e) s)
+    (survey_same (length kinds) (dir_at kinds) (dir_entries t b) (roled_entries (volume_of t.layout b)) starts counts
+    flags marks ups (λ d e. inside d e) s)
   where
     inside : (d : ℕ) → dir_at kinds d ≡ true → dir_entries t b d ≡ roled_entries (volume_of t.layout b) d
     inside d e = ap (λ x. if x then roled_entries (volume_of t.layout b) d else [])
         (sym (kind_dirs t.layout b kinds d (k d)) ∙ e)
 
 -- lists that hold the survey of a volume
-pub holds_survey : (v : Layout) (b : List ℕ) (w : Workspace) (counts : List ℕ) (flags marks : List Bool) (ups : List ℕ)
-    → w.references.items ≡ counts → w.named.items ≡ flags → w.reached.items ≡ marks → w.parents.items ≡ ups
-    → IsSurvey (graph_of (volume_of v b)) counts flags marks ups → HoldsSurvey v b w
+pub holds_survey : (v : Layout) (b : List ℕ) (w : Workspace) (starts counts : List ℕ) (flags marks : List Bool)
+    (ups : List ℕ) → w.named.items ≡ flags → w.reached.items ≡ marks → w.parents.items ≡ ups
+    → IsSurvey (graph_of (volume_of v b)) starts counts flags marks ups → HoldsSurvey v b w
 unfolding volume_of volume_with
-holds_survey v b w counts flags marks ups c f m u s = record {
-  references = λ x l. ap (λ xs. slice_index xs x) c ∙ (s.counts x l ∙ references_is (volume_of v b) x);
+holds_survey v b w starts counts flags marks ups f m u s = record {
   named = λ x l. ap (λ xs. bool_at xs x) f ∙ s.names x l;
   reached = λ x. ap (λ xs. bool_at xs x) m ∙ s.reaches x;
   parents = λ x. ap (λ xs. slice_index xs x) u ∙ s.ups x;
+}
+
+-- no start is past the greatest one
+start_low : (v : Layout) (b : List ℕ) (x : ℕ) → start_at v b x ≤ most_start
+unfolding start_at
+start_low v b x = go (is_allocated (class_at v b x)) (inode_of v b x).nlink
+  where
+    below : (b c : Bool) (n : ℕ) → (if b && c then LINKS_MET - n else NO_LINKS) ≤ NO_LINKS
+    below true true n = omega arith
+    below true false n = omega arith
+    below false c n = omega arith
+
+    go : (a : Bool) (links : ℤ) → (if a then links_start links else 0) ≤ NO_LINKS
+    go true (pos n) = below (nat_lt 0 n) (nat_le n LINKS_MET) n
+    go true (negsuc n) = omega arith
+    go false links = omega arith
+
+-- and counts that go on from where they start
+pub holds_references : (v : Layout) (b : List ℕ) (old new : Workspace) (starts counts : List ℕ)
+    (flags marks : List Bool) (ups : List ℕ) → old.references.items ≡ starts → new.references.items ≡ counts
+    → HoldsStarts v b old → IsSurvey (graph_of (volume_of v b)) starts counts flags marks ups → HoldsReferences v b new
+unfolding volume_of volume_with
+holds_references v b old new starts counts flags marks ups e c h s = record {
+  counts = λ x l.
+      let begun : slice_index starts x ≡ start_at v b x = sym (ap (λ xs. slice_index xs x) e) ∙ h.starts x in
+      let low : min (slice_index starts x) most_start ≡ start_at v b x =
+      omega (arith, begun, start_low v b x) in
+      ap (λ xs. slice_index xs x) c ∙ s.counts x l ∙ ap (λ k. k + references_to (graph_of (volume_of v b)) x) low
+      ∙ ap (λ k. start_at v b x + k) (references_is (volume_of v b) x);
 }
 
 -- flags of a survey of a volume

@@ -4,7 +4,7 @@ ghost use Rattle.std.specs.Prelude.{OnOk};
 ghost use Rattle.ffs_image.specs.Device.{ForContents};
 ghost use Rattle.ffs_image.specs.Reads.{ReadAfter};
 ghost use Rattle.ffs_workspace.specs.Ready.{IsReady};
-ghost use Rattle.ffs_workspace.specs.Holds.{HoldsClaims, HoldsSurvey};
+ghost use Rattle.ffs_workspace.specs.Holds.{HoldsClaims, HoldsReferences, HoldsStarts, HoldsSurvey};
 ghost use Rattle.ffs_names.specs.Surveys.{IsUntouched, FlagsCalm};
 
 use crate::entries::Entries;
@@ -28,6 +28,10 @@ pub fn survey<I: Image>(
     ensures survey { OnOk result (ForContents (I.device image.old).contents
         (λ b. HoldsClaims geometry.now.layout b workspace.old
         → HoldsSurvey geometry.now.layout b workspace.new)) }
+    ensures references { OnOk result (ForContents (I.device image.old).contents
+        (λ b. HoldsClaims geometry.now.layout b workspace.old
+        → HoldsStarts geometry.now.layout b workspace.old
+        → HoldsReferences geometry.now.layout b workspace.new)) }
     ensures calm { OnOk result (ForContents (I.device image.old).contents
         (λ b. HoldsClaims geometry.now.layout b workspace.old
         → FlagsCalm geometry.now.layout b workspace.new)) }

@@ -8,7 +8,7 @@ ghost use Rattle.ffs_volume.specs.Messages.Kinds as messages;
 ghost use Rattle.ffs_volume.specs.Messages.Kinds.{of_names};
 ghost use Rattle.ffs_volume.specs.Directories.PathnameCheck.{continues_after_root, pathname_lines};
 ghost use Rattle.ffs_volume.specs.Directories.Volumes.{volume_of};
-ghost use Rattle.ffs_workspace.specs.Holds.{HoldsClaims, HoldsSurvey};
+ghost use Rattle.ffs_workspace.specs.Holds.{HoldsClaims, HoldsReferences, HoldsStarts, HoldsSurvey};
 ghost use Rattle.ffs_pathnames.specs.GoesOn.{AtReadFault, is_go};
 ghost use Rattle.ffs_workspace.specs.Ready.{IsReady};
 
@@ -62,6 +62,11 @@ pub fn phase2<I: Image, W: Output>(
         × HoldsClaims geometry.now.layout b workspace.old)
         (λ b. HoldsClaims geometry.now.layout b workspace.new
         × HoldsSurvey geometry.now.layout b workspace.new)) }
+    ensures references { OnOk result (ForBytes
+        (λ b. IsContents (I.device image.old).contents b
+        × HoldsClaims geometry.now.layout b workspace.old
+        × HoldsStarts geometry.now.layout b workspace.old)
+        (λ b. HoldsReferences geometry.now.layout b workspace.new)) }
     ensures ready { IsReady geometry.now.layout (I.device image.new) workspace.new }
 {
     report.say(&Line::Heading(Heading::Phase2))?;

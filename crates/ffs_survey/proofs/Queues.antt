@@ -79,11 +79,11 @@ level_after v k xs r r' p p' q new ys sane f n c m s =
     }
 
 -- the counts, one level further
-pub counted_on : (g : Graph) (low high : ℕ) (q q' f f' : List ℕ) (m m' : List Bool) → low ≤ high →
-    take high q' ≡ take high q → IsCount g (take low q) f m
+pub counted_on : (g : Graph) (low high : ℕ) (q q' starts f f' : List ℕ) (m m' : List Bool) → low ≤ high →
+    take high q' ≡ take high q → IsCount g (take low q) starts f m
     → Counts g.count (count_of g (drop low (take high q))) (any_of g (drop low (take high q))) f m none never f' m' →
-    IsCount g (take high q') f' m'
-counted_on g low high q q' f f' m m' l kept i c =
+    IsCount g (take high q') starts f' m'
+counted_on g low high q q' starts f f' m m' l kept i c =
     let parts : take high q' ≡ take low q ++ drop low (take high q) = kept ∙ queue_parts low high q l in
     record {
       references = λ x b.
@@ -99,37 +99,38 @@ counted_on g low high q q' f f' m m' l kept i c =
     }
 
 -- where no level is left, all that is reached was read
-pub reached_part : (kinds : List ℕ) (entries : ℕ → List RoledEntry) (k : ℕ) (f : List ℕ) (m r : List Bool)
+pub reached_part : (kinds : List ℕ) (entries : ℕ → List RoledEntry) (k : ℕ) (starts f : List ℕ) (m r : List Bool)
     (p q : List ℕ) → length r ≡ length kinds
     → IsSane (graph_with kinds entries) → IsFrontier (graph_with kinds entries) k [] →
-    LevelsKnown (graph_with kinds entries) k r p q → IsCount (graph_with kinds entries) q f m
-    → IsReachedPart (graph_with kinds entries) f m r p
-reached_part kinds entries k f m r p q e sane frontier n i =
+    LevelsKnown (graph_with kinds entries) k r p q → IsCount (graph_with kinds entries) q starts f m
+    → IsReachedPart (graph_with kinds entries) starts f m r p
+reached_part kinds entries k starts f m r p q e sane frontier n i =
     let g = graph_with kinds entries in
     let past = λ (s : ℕ) (l : length kinds ≤ s). get_or_past r s false (omega arith) in
     record {
-      references = λ x b. i.references x b ∙ count_all g (bool_at r) q (length kinds) x n.queue past;
+      references = λ x b. i.references x b
+          ∙ ap (λ c. number_at starts x + c) (count_all g (bool_at r) q (length kinds) x n.queue past);
       named = λ x b. i.named x b ∙ any_all g (bool_at r) q (length kinds) x n.queue past;
       reached = knows_reached g k r p q sane frontier n;
       parent = knows_parent g k r p q sane frontier n;
     }
 
 -- where inode 2 is no directory, nothing was read
-pub alone_part : (kinds : List ℕ) (entries : ℕ → List RoledEntry) (f : List ℕ) (m r : List Bool) (p : List ℕ) →
-    length r ≡ length kinds
+pub alone_part : (kinds : List ℕ) (entries : ℕ → List RoledEntry) (starts f : List ℕ) (m r : List Bool)
+    (p : List ℕ) → length r ≡ length kinds
     → IsSane (graph_with kinds entries) → dir_at kinds 2 ≡ false → LevelsKnown (graph_with kinds entries) 0 r p (2 ∷ [])
-    → ((x : ℕ) → number_at f x ≡ 0) → ((x : ℕ) → bool_at m x ≡ false) → IsReachedPart (graph_with kinds entries) f m r p
-alone_part kinds entries f m r p e sane dry n zf zm =
+    → f ≡ starts → ((x : ℕ) → bool_at m x ≡ false) → IsReachedPart (graph_with kinds entries) starts f m r p
+alone_part kinds entries starts f m r p e sane dry n zf zm =
     let g = graph_with kinds entries in
     let a = root_alone g r p (2 ∷ []) sane dry (frontier_start g sane) n in
-    reached_part kinds entries 1 f m r p (2 ∷ []) e sane a.1 a.0 (record {
-      references = λ x b. zf x ∙ sym
+    reached_part kinds entries 1 starts f m r p (2 ∷ []) e sane a.1 a.0 (record {
+      references = λ x b. ap (λ l. number_at l x) zf ∙ sym (add-zero (number_at starts x))
+          ∙ ap (λ c. number_at starts x + c) (sym
           (sum_by-cons (λ s. counted_in g s x) 2 []
-          ∙ (add-zero (counted_in g 2 x) ∙ cond-false (dir_at kinds 2) (count_by (refers x) (entries 2)) 0 dry));
+          ∙ (add-zero (counted_in g 2 x) ∙ cond-false (dir_at kinds 2) (count_by (refers x) (entries 2)) 0 dry)));
       named = λ x b. zm x ∙ sym (or-false (names_in g 2 x) ∙ and_left (dir_at kinds 2) _ dry);
     })
 
 -- no entry is counted before the first directory
-pub none_counted : (g : Graph) (f : List ℕ) (m : List Bool) → ((x : ℕ) → number_at f x ≡ 0) →
-    ((x : ℕ) → bool_at m x ≡ false) → IsCount g [] f m
-none_counted g f m zf zm = record { references = λ x b. zf x; named = λ x b. zm x }
+pub none_counted : (g : Graph) (f : List ℕ) (m : List Bool) → ((x : ℕ) → bool_at m x ≡ false) → IsCount g [] f f m
+none_counted g f m zm = record { references = λ x b. sym (add-zero (number_at f x)); named = λ x b. zm x }

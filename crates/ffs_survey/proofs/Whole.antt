@@ -13,7 +13,8 @@ use Rattle.ffs_volume.proofs.SearchLaws.{some_below-suc, first_below-some, first
 use Rattle.ffs_volume.specs.Directories.Graph.{Graph, names, names_in, edge, level, reached, parent}
 use Rattle.ffs_volume.proofs.Graphs.{IsSane}
 use Rattle.ffs_volume.proofs.LevelLaws.{reached-edge, reached-root}
-use Rattle.ffs_survey.specs.Survey.{bool_at, number_at, dir_at, is_dir_kind, graph_with, counted_in, IsSurvey}
+use Rattle.ffs_survey.specs.Survey.{bool_at, number_at, dir_at, is_dir_kind, graph_with, counted_in, start_in}
+use Rattle.ffs_survey.specs.Survey.{IsSurvey}
 use Rattle.ffs_survey.specs.Discover.{Counts, count_in, any_in, none, never, counted_by, IsReachedPart, is_free}
 use Rattle.ffs_survey.specs.Discover.{is_free_edge, IsRead}
 use Rattle.ffs_volume.proofs.Unreached.{parent-unreached}
@@ -163,9 +164,10 @@ read_skip kinds entries r s f f' m m' p p' taken i = subst (λ n. IsRead g kinds
     same_first None false h = refl
 
 -- what has no mark and no parent yet
-pub free_blank : (kinds : List ℕ) (entries : ℕ → List RoledEntry) (f : List ℕ) (m r : List Bool) (p : List ℕ) →
-    IsReachedPart (graph_with kinds entries) f m r p → (x : ℕ) → is_free kinds r x ≡ true → number_at p x ≡ 0
-free_blank kinds entries f m r p i x h =
+pub free_blank : (kinds : List ℕ) (entries : ℕ → List RoledEntry) (starts f : List ℕ) (m r : List Bool) (p : List ℕ)
+    → IsReachedPart (graph_with kinds entries) starts f m r p
+    → (x : ℕ) → is_free kinds r x ≡ true → number_at p x ≡ 0
+free_blank kinds entries starts f m r p i x h =
     let g = graph_with kinds entries in
     let off : bool_at r x ≡ false = not-true _ (and_parts (dir_at kinds x) (not (bool_at r x)) h).1 in
     i.parent x ∙ ap (λ o. unwrap_or o 0) (cond-false (is_some (level g x)) (parent g x) None (sym (i.reached x) ∙ off))
@@ -193,15 +195,20 @@ free_edges kinds entries r x s ls lx h off =
     go d false true a u w = absurd (cc)
 
 -- both parts
-pub survey_whole : (kinds : List ℕ) (entries : ℕ → List RoledEntry) (f f' : List ℕ) (m m' r : List Bool) (p p' : List ℕ)
+pub survey_whole : (kinds : List ℕ) (entries : ℕ → List RoledEntry) (given starts f f' : List ℕ) (m m' r : List Bool)
+    (p p' : List ℕ)
     → IsSane (graph_with kinds entries) → length r ≡ length kinds → length p' ≡ length kinds
-    → IsReachedPart (graph_with kinds entries) f m r p → IsRead (graph_with kinds entries) kinds r (length kinds) f m p
-    f' m' p'
-    → IsSurvey (graph_with kinds entries) f' m' r p'
-survey_whole kinds entries f f' m m' r p p' sane lr lp i k = record {
-  counts = λ x l. k.references x l
-      ∙ (ap (λ z. z + counted_by (λ s. not (bool_at r s)) g x (length kinds)) (i.references x l)
-      ∙ counted_both (bool_at r) g x (length kinds));
+    → ((x : ℕ) → number_at starts x ≡ start_in given x)
+    → IsReachedPart (graph_with kinds entries) starts f m r p
+    → IsRead (graph_with kinds entries) kinds r (length kinds) f m p f' m' p'
+    → IsSurvey (graph_with kinds entries) given f' m' r p'
+survey_whole kinds entries given starts f f' m m' r p p' sane lr lp begins i k = record {
+  counts = λ x l.
+      let a = k.references x l in
+      let b = i.references x l in
+      let c = counted_both (bool_at r) g x (length kinds) in
+      let d = begins x in
+      omega (arith, a, b, c, d);
   names = λ x l. k.named x l
       ∙ (ap (λ b. b || some_below (λ s. not (bool_at r s) && names_in g s x) (length kinds)) (i.named x l)
       ∙ some_both (bool_at r) (λ s. names_in g s x) (length kinds));

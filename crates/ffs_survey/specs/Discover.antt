@@ -71,9 +71,9 @@ pub record Counts (n : ℕ) (c : ℕ → ℕ) (a : ℕ → Bool) (f : List ℕ) 
   pub references : (x : ℕ) → x < n → number_at f' x + c' x ≡ number_at f x + c x
   pub named : (x : ℕ) → x < n → (bool_at m' x || a' x) ≡ (bool_at m x || a x)
 
--- counts and flags of exactly the entries of these directories
-pub record IsCount (g : Graph) (ss : List ℕ) (f : List ℕ) (m : List Bool) : Type 0 where
-  pub references : (x : ℕ) → x < g.count → number_at f x ≡ count_of g ss x
+-- counts, on from these starts, and flags of exactly the entries of these directories
+pub record IsCount (g : Graph) (ss : List ℕ) (starts f : List ℕ) (m : List Bool) : Type 0 where
+  pub references : (x : ℕ) → x < g.count → number_at f x ≡ number_at starts x + count_of g ss x
   pub named : (x : ℕ) → x < g.count → bool_at m x ≡ any_of g ss x
 
 -- each number of an ascending list is before no smaller one
@@ -101,9 +101,9 @@ unfoldable pub counted_by : (ℕ → Bool) → Graph → ℕ → ℕ → ℕ
 counted_by r g x zero = 0
 counted_by r g x (suc s) = counted_by r g x s + (if r s then counted_in g s x else 0)
 
--- what is known when all reached directories are read
-pub record IsReachedPart (g : Graph) (f : List ℕ) (m r : List Bool) (p : List ℕ) : Type 0 where
-  pub references : (x : ℕ) → x < g.count → number_at f x ≡ counted_by (bool_at r) g x g.count
+-- what is known when all reached directories are read: counts on from these starts, flags, marks and parents
+pub record IsReachedPart (g : Graph) (starts f : List ℕ) (m r : List Bool) (p : List ℕ) : Type 0 where
+  pub references : (x : ℕ) → x < g.count → number_at f x ≡ number_at starts x + counted_by (bool_at r) g x g.count
   pub named : (x : ℕ) → x < g.count → bool_at m x ≡ is_some (first_below (λ s. bool_at r s && names_in g s x) g.count)
   pub reached : (x : ℕ) → bool_at r x ≡ is_some (level g x)
   pub parent : (x : ℕ) → number_at p x ≡ unwrap_or (cond (is_some (level g x)) (parent g x) None) 0
@@ -145,8 +145,7 @@ pub record IsReachedDir (kinds : List ℕ) (r : List Bool) (d : ℕ) : Type 0 wh
   pub marked : bool_at r d ≡ true
 
 -- nothing is found yet
-pub record NothingFound (f : List ℕ) (n r : List Bool) (p : List ℕ) (flags : List Bool) : Type 0 where
-  pub counted : (x : ℕ) → number_at f x ≡ 0
+pub record NothingFound (n r : List Bool) (p : List ℕ) (flags : List Bool) : Type 0 where
   pub named : (x : ℕ) → bool_at n x ≡ false
   pub reached : (x : ℕ) → bool_at r x ≡ false
   pub parents : (x : ℕ) → number_at p x ≡ 0

@@ -1,6 +1,7 @@
 -- What a survey of directories finds of each inode, and the graph that it goes over.
 use Rattle.std.specs.Prelude.{◌≡◌, ℕ, zero, suc, ◌+◌, ◌<◌, ◌==◌, Bool, ◌&&◌, ◌||◌}
-use Rattle.std.specs.Prelude.{nat_le, if◌then◌else◌, List, length, count_by, unwrap_or}
+use Rattle.std.specs.Prelude.{nat_le, min, if◌then◌else◌, List, length, count_by, unwrap_or}
+use Rattle.ffs_volume.specs.declared.constants.TheConstants.{NO_LINKS}
 use Rattle.ffs_volume.specs.Directories.Roles.{RoledEntry, refers}
 use Rattle.ffs_volume.specs.Directories.Graph.{Graph, named, reached, parent}
 pub use Rattle.ffs_volume.specs.Encodings.Lists.{bool_at, number_at}
@@ -30,10 +31,18 @@ references_below g x (suc s) = references_below g x s + counted_in g s x
 abbrev pub references_to : Graph → ℕ → ℕ
 references_to g x = references_below g x g.count
 
--- these lists hold of each inode how many entries that count name it, whether a plain one does, whether it is
--- reached from inode 2, and its parent, 0 for none
-pub record IsSurvey (g : Graph) (references : List ℕ) (flags marks : List Bool) (parents : List ℕ) : Type 0 where
-  pub counts : (x : ℕ) → x < g.count → number_at references x ≡ references_to g x
+-- the most that a count of references starts at
+abbrev pub most_start : ℕ
+most_start = NO_LINKS
+
+-- where the count of the references of x starts
+abbrev pub start_in : (starts : List ℕ) (x : ℕ) → ℕ
+start_in starts x = min (number_at starts x) most_start
+
+-- these lists hold of each inode how many entries that count name it, counted on from where it starts, whether a plain
+-- one does, whether it is reached from inode 2, and its parent, 0 for none
+pub record IsSurvey (g : Graph) (starts references : List ℕ) (flags marks : List Bool) (parents : List ℕ) : Type 0 where
+  pub counts : (x : ℕ) → x < g.count → number_at references x ≡ start_in starts x + references_to g x
   pub names : (x : ℕ) → x < g.count → bool_at flags x ≡ named g x
   pub reaches : (x : ℕ) → bool_at marks x ≡ reached g x
   pub ups : (x : ℕ) → number_at parents x ≡ unwrap_or (parent g x) 0

@@ -1,6 +1,6 @@
 //! The survey: level after level from inode 2, and then the directories that are not reached.
 ghost use Rattle.std.specs.Prelude.{◌≡◌, ◌<◌, ◌*◌, ◌+◌, ℕ, ◌≤◌, ◌^◌, not, length, take, drop, true, false, IfOk, OnOk};
-ghost use Rattle.ffs_survey.specs.Survey.{number_at, dir_at, graph_with, IsSurvey};
+ghost use Rattle.ffs_survey.specs.Survey.{number_at, dir_at, graph_with, most_start, start_in, IsSurvey};
 ghost use Rattle.ffs_survey.specs.Calm.{AreCalm};
 ghost use Rattle.ffs_survey.specs.Reading.{ForKnown, LeavesReader};
 ghost use Rattle.ffs_survey.specs.Lists.{EntryLists, SurveyLists};
@@ -10,7 +10,7 @@ use crate::directories::Directories;
 use crate::discover::{is_free, read_level, read_unreached};
 use crate::named::is_dir;
 use ffs_image::ImageFault;
-use ffs_volume::constants::ROOTINO;
+use ffs_volume::constants::{NO_LINKS, ROOTINO};
 
 /// Reads the level that is in `queue[low..high]`, puts the next one after it, ascending, and answers where that
 /// ends. `depth` is the level's number.
@@ -33,13 +33,14 @@ fn next_level<D: Directories>(
         parents.old queue.old }
     requires root { dir_at kinds.now 2 ≡ true }
     requires room { HasRoom low high reached.old queue.old }
-    requires counted { (x : ℕ) → x < length kinds.now → number_at references.old x ≤ low * 2 ^ 28 }
+    requires counted { (x : ℕ) → x < length kinds.now → number_at references.old x
+        ≤ (low + 1) * 2 ^ 28 }
     requires levels { ForKnown D.knows D.entries D.sound (D.base directories.old)
         (λ entries sound. AtLevel (graph_with kinds.now entries) depth low high reached.old
         parents.old queue.old) }
     ensures room { IfOk result (λ n. HasRoom high n reached.new queue.new) }
     ensures counted { OnOk result ((x : ℕ) → x < length kinds.now → number_at references.new x
-        ≤ high * 2 ^ 28) }
+        ≤ (high + 1) * 2 ^ 28) }
     ensures kept { OnOk result (take high queue.new ≡ take high queue.old) }
     ensures levels { IfOk result (λ n. ForKnown D.knows D.entries D.sound (D.base directories.old)
         (λ entries sound. AtLevel (graph_with kinds.now entries) (depth + 1) high n reached.new
@@ -88,12 +89,13 @@ fn survey_reached<D: Directories>(
     requires ready { D.ready directories.old }
     requires lists { SurveyLists kinds.now marked.now references.old named.old reached.old
         parents.old queue.old }
-    requires begins { NothingFound references.old named.old reached.old parents.old calm.old }
+    requires starts { (x : ℕ) → number_at references.old x ≤ most_start }
+    requires begins { NothingFound named.old reached.old parents.old calm.old }
     ensures counted { OnOk result ((x : ℕ) → x < length kinds.now → number_at references.new x
         ≤ 2 ^ 59) }
     ensures part { OnOk result (ForKnown D.knows D.entries D.sound (D.base directories.old)
-        (λ entries sound. IsReachedPart (graph_with kinds.now entries) references.new named.new
-        reached.new parents.new)) }
+        (λ entries sound. IsReachedPart (graph_with kinds.now entries) references.old
+        references.new named.new reached.new parents.new)) }
     ensures calm { OnOk result (ForKnown D.knows D.entries D.sound (D.base directories.old)
         (λ entries sound.
         AreCalm kinds.now marked.now reached.new parents.new entries sound calm.new)) }
@@ -168,8 +170,21 @@ fn survey_unreached<D: Directories>(
     Ok(())
 }
 
+// Brings each count of references that is past the greatest start back to it.
+fn limit_starts(references: &mut [u64])
+    ensures length { length references.new ≡ length references.old }
+    ensures starts { (x : ℕ) → number_at references.new x ≡ start_in references.old x }
+{
+    for index in 0..references.len() {
+        if references[index] > NO_LINKS {
+            references[index] = NO_LINKS;
+        }
+    }
+}
+
 /// Finds for each inode how many entries name it, whether a plain one does, whether it is reached from inode 2, and its
-/// parent, 0 for none. Each directory is read once, and what the lists held before is forgotten.
+/// parent, 0 for none. Each directory is read once. The counts go on from what `references` holds, at most `NO_LINKS`
+/// each; what the other lists held before is forgotten.
 ///
 /// `calm` flags directories of which nothing can be reported: reached ones that were right as they were read.
 ///
@@ -190,15 +205,15 @@ pub fn survey<D: Directories>(
     requires lists { SurveyLists kinds.now marked.now references.old named.old reached.old
         parents.old queue.old }
     ensures survey { OnOk result (ForKnown D.knows D.entries D.sound (D.base directories.old)
-        (λ entries sound. IsSurvey (graph_with kinds.now entries) references.new named.new
-        reached.new parents.new)) }
+        (λ entries sound. IsSurvey (graph_with kinds.now entries) references.old references.new
+        named.new reached.new parents.new)) }
     ensures calm { OnOk result (ForKnown D.knows D.entries D.sound (D.base directories.old)
         (λ entries sound.
         AreCalm kinds.now marked.now reached.new parents.new entries sound calm.new)) }
     ensures reader { LeavesReader (D.ready directories.new) (D.base directories.old)
         (D.base directories.new) (D.device directories.old) (D.device directories.new) result }
 {
-    references.fill(0);
+    limit_starts(references);
     named.fill(false);
     reached.fill(false);
     parents.fill(0);

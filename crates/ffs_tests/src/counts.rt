@@ -14,7 +14,8 @@ use std::alloc::{AllocError, Global};
 use std::test::Fail;
 
 // What phases before have found. Directory 2 has two references; the files 3 to 5 have none, none and two, and 3 is marked and
-// named by an entry; 6 is an empty directory and 7 a marked file, neither of them named.
+// named by an entry; 6 is an empty directory and 7 a marked file, neither of them named. Each count is the references and
+// 32768 less the links, or 32769 where there is no link.
 fn referred(alloc: Global, geometry: &Geometry) -> Result<Workspace, AllocError>
     requires { inodes_of geometry.now.layout ≡ 32 }
     ensures made { IfOk result (λ w. IsFor geometry.now.layout w) }
@@ -23,11 +24,15 @@ fn referred(alloc: Global, geometry: &Geometry) -> Result<Workspace, AllocError>
 {
     let mut workspace = Workspace::new(alloc, geometry)?;
     workspace.kinds[2] = 4;
-    workspace.references[2] = 2;
+    workspace.references[2] = 32766 + 2;
+    workspace.references[3] = 32767;
+    workspace.references[4] = 32769;
     workspace.kinds[3] = 8;
     workspace.kinds[4] = 8;
     workspace.kinds[5] = 8;
-    workspace.references[5] = 2;
+    workspace.references[5] = 32767 + 2;
+    workspace.references[6] = 32769;
+    workspace.references[7] = 32767;
     workspace.kinds[6] = 5;
     workspace.kinds[7] = 8;
     workspace.marked[7] = true;

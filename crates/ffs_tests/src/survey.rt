@@ -114,7 +114,8 @@ const REACHED: [bool; 8] = [false, false, true, true, false, false, false, false
 
 #[test]
 fn surveys_a_tree_and_a_cycle(rt: HostRuntime) {
-    let mut references = [7; 8];
+    // Counts go on from what the list holds, at most 32769.
+    let mut references = [7, 0, 32766, 40000, 1, 2, 3, 4];
     let mut named = [true; 8];
     let mut reached = [true; 8];
     let mut parents = [7; 8];
@@ -132,7 +133,7 @@ fn surveys_a_tree_and_a_cycle(rt: HostRuntime) {
         &mut queue,
     );
     assert!(rt; answer.is_ok());
-    assert_eq!(rt; references, [0, 0, 3, 2, 1, 3, 3, 0]);
+    assert_eq!(rt; references, [7, 0, 32769, 32771, 2, 5, 6, 4]);
     assert_eq!(rt; parents, PARENTS);
     assert_eq!(rt; (named, reached), (NAMED, REACHED));
     assert_eq!(rt;

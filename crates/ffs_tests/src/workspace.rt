@@ -2,7 +2,7 @@
 
 use super::volume::{Number, geometry, image_of};
 use ffs_layout::Order;
-use ffs_workspace::Workspace;
+use ffs_workspace::{Workspace, links_start};
 use std::test::Fail;
 
 // Two maps of two words, 25 bytes for each inode, and five blocks.
@@ -37,4 +37,12 @@ fn inode_in_its_table(rt: HostRuntime) -> Result<(), Fail> {
     let next = table.inode(&geometry, 3, &mut image)?;
     assert_eq!(rt; (next.mode, next.nlink, next.size), (0, 0, 0));
     Ok(())
+}
+
+// A count of references starts below 32768 by the links, and at 32769 where there is none.
+#[test]
+fn starts_by_links(rt: HostRuntime) {
+    assert_eq!(rt; (links_start(1), links_start(2)), (32767, 32766));
+    assert_eq!(rt; (links_start(32767), links_start(0)), (1, 32769));
+    assert_eq!(rt; (links_start(-1), links_start(-32768)), (32769, 32769));
 }

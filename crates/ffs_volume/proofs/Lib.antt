@@ -5,6 +5,7 @@ pub mod DirectoryExamples
 pub mod BlockExamples
 pub mod OpeningExamples
 pub mod LawsHold
+pub mod LinkLaws
 pub mod Numbered
 pub mod Unreached
 pub mod Sizes

@@ -74,3 +74,10 @@ pub const EMPTY_DIR: u8 = 5;
 
 /// What a workspace keeps as the type of an inode whose type is unknown.
 pub const UNKNOWN_TYPE: u8 = 15;
+
+/// Where the count of an inode's references ends that has one for each of its links: the count starts below it by
+/// the links.
+pub const LINKS_MET: u64 = 32768;
+
+/// Where the count of the references of an inode without links starts.
+pub const NO_LINKS: u64 = 32769;

@@ -3,7 +3,7 @@ use Rattle.std.proofs.Common.{◌≡◌, ℕ, List, refl, ap, ◌∙◌, slice_i
 use Rattle.ffs_maps.specs.Bits.{bits_of}
 use Rattle.ffs_volume.specs.declared.Layout.{Layout}
 use Rattle.ffs_workspace.specs.declared.workspace.Workspace.{Workspace}
-use Rattle.ffs_workspace.specs.Holds.{bool_at, HoldsClaims, HoldsSurvey}
+use Rattle.ffs_workspace.specs.Holds.{bool_at, HoldsClaims, HoldsFindings, HoldsReferences, HoldsSurvey}
 use Rattle.ffs_workspace.specs.Leaves.{LeavesSurvey}
 
 pub leaves_all : (w : Workspace) → LeavesSurvey w w
@@ -62,10 +62,15 @@ claims_left v b old new s h = record {
 pub survey_left : (v : Layout) (b : List ℕ) (old new : Workspace) → LeavesSurvey old new → HoldsSurvey v b old →
     HoldsSurvey v b new
 survey_left v b old new s h = record {
-  references = λ x l. ap (λ k. slice_index k.items x) s.references ∙ h.references x l;
   named = λ x l. ap (λ k. bool_at k.items x) s.named ∙ h.named x l;
   reached = λ x. ap (λ k. bool_at k.items x) s.reached ∙ h.reached x;
   parents = λ x. ap (λ k. slice_index k.items x) s.parents ∙ h.parents x;
+}
+
+pub references_left : (v : Layout) (b : List ℕ) (old new : Workspace) → LeavesSurvey old new →
+    HoldsReferences v b old → HoldsReferences v b new
+references_left v b old new s h = record {
+  counts = λ x l. ap (λ k. slice_index k.items x) s.references ∙ h.counts x l;
 }
 
 -- and so where only the windows have changed
@@ -76,3 +81,11 @@ claims_held v b old new e h = claims_left v b old new (windows_leave old new e) 
 pub survey_held : (v : Layout) (b : List ℕ) (old new : Workspace) → new ≡ record old { windows = new.windows } →
     HoldsSurvey v b old → HoldsSurvey v b new
 survey_held v b old new e h = survey_left v b old new (windows_leave old new e) h
+
+pub findings_held : (v : Layout) (b : List ℕ) (old new : Workspace) → new ≡ record old { windows = new.windows } →
+    HoldsFindings v b old → HoldsFindings v b new
+findings_held v b old new e h = record {
+  claims = claims_held v b old new e h.claims;
+  survey = survey_held v b old new e h.survey;
+  references = references_left v b old new (windows_leave old new e) h.references;
+}

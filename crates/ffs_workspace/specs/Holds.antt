@@ -1,5 +1,5 @@
 -- What a workspace holds between the phases.
-use Rattle.std.specs.Prelude.{◌≡◌, ◌<◌, ℕ, Bool, false, not, ◌&&◌, ◌||◌, ◌==◌}
+use Rattle.std.specs.Prelude.{◌≡◌, ◌<◌, ◌+◌, ℕ, Bool, false, not, ◌&&◌, ◌||◌, ◌==◌}
 use Rattle.std.specs.Prelude.{List, if◌then◌else◌, replicate, slice_index}
 use Rattle.std.specs.Option.{unwrap_or}
 use Rattle.ffs_volume.specs.declared.Layout.{Layout}
@@ -15,6 +15,7 @@ use Rattle.ffs_volume.specs.Encodings.Replay.{cut_at}
 use Rattle.ffs_maps.specs.Bits.{bits_of}
 use Rattle.ffs_workspace.specs.declared.workspace.Workspace.{Workspace}
 use Rattle.ffs_volume.specs.Encodings.Kinds.{kind_at}
+use Rattle.ffs_volume.specs.Encodings.Links.{start_at}
 use Rattle.ffs_workspace.specs.Lengths.{inodes_of}
 pub use Rattle.ffs_volume.specs.Encodings.Lists.{bool_at}
 
@@ -37,6 +38,7 @@ pub record IsFresh (v : Layout) (w : Workspace) : Type 0 where
   pub kinds : w.kinds.items ≡ replicate (inodes_of v) 0
   pub marked : w.marked.items ≡ replicate (inodes_of v) false
   pub cut : w.cut.items ≡ replicate (inodes_of v) 0
+  pub references : w.references.items ≡ replicate (inodes_of v) 0
 
 -- a bad Run or a dup offer was seen
 abbrev pub has_blame : Claims → Bool
@@ -55,7 +57,7 @@ unfoldable pub all_claims : Layout → List ℕ → Claims
 all_claims v image = after_owners v (no_claims v) (owners_of v image)
 
 -- what phase 1 leaves: the fragments that are reserved or claimed and those with a Dup line, and for each inode its
--- kind, whether it is marked so far, and where dup offers cut it
+-- kind, whether it is marked so far, where dup offers cut it, and where its count of references starts
 pub record HoldsPhase1 (v : Layout) (image : List ℕ) (w : Workspace) : Type 0 where
   pub used : bits_of w.claimed ≡ (all_claims v image).used
   pub dup : bits_of w.duplicates ≡ (all_claims v image).dup
@@ -63,6 +65,7 @@ pub record HoldsPhase1 (v : Layout) (image : List ℕ) (w : Workspace) : Type 0 
   pub kinds : (x : ℕ) → slice_index w.kinds.items x ≡ kind_at v image x
   pub marked : (x : ℕ) → bool_at w.marked.items x ≡ first_marked_at v image x
   pub cut : (x : ℕ) → slice_index w.cut.items x ≡ cut_at v image x
+  pub starts : (x : ℕ) → slice_index w.references.items x ≡ start_at v image x
 
 -- what phases 1 and 1b leave: the fragments that are reserved or claimed, and for each inode its kind, whether it is
 -- marked, and where dup offers cut it
@@ -72,10 +75,23 @@ pub record HoldsClaims (v : Layout) (image : List ℕ) (w : Workspace) : Type 0 
   pub marked : (x : ℕ) → bool_at w.marked.items x ≡ marked_at v image x
   pub cut : (x : ℕ) → slice_index w.cut.items x ≡ cut_at v image x
 
--- what the survey leaves: how often each inode is referred to, whether an entry names it, whether it is reached from
--- the root, and its parent, or 0 for none
+-- what phases 1 and 1b leave for the survey: where the count of references of each inode starts
+pub record HoldsStarts (v : Layout) (image : List ℕ) (w : Workspace) : Type 0 where
+  pub starts : (x : ℕ) → slice_index w.references.items x ≡ start_at v image x
+
+-- what the survey leaves: how often each inode is referred to, counted on from its start
+pub record HoldsReferences (v : Layout) (image : List ℕ) (w : Workspace) : Type 0 where
+  pub counts : (x : ℕ) → x < inodes_of v
+      → slice_index w.references.items x ≡ start_at v image x + references (volume_of v image) x
+
+-- and whether an entry names it, whether it is reached from the root, and its parent, or 0 for none
 pub record HoldsSurvey (v : Layout) (image : List ℕ) (w : Workspace) : Type 0 where
-  pub references : (x : ℕ) → x < inodes_of v → slice_index w.references.items x ≡ references (volume_of v image) x
   pub named : (x : ℕ) → x < inodes_of v → bool_at w.named.items x ≡ named (graph_of (volume_of v image)) x
   pub reached : (x : ℕ) → bool_at w.reached.items x ≡ reached (graph_of (volume_of v image)) x
   pub parents : (x : ℕ) → slice_index w.parents.items x ≡ unwrap_or (parent (graph_of (volume_of v image)) x) 0
+
+-- what the block check and the survey leave for the check of reference counts
+pub record HoldsFindings (v : Layout) (image : List ℕ) (w : Workspace) : Type 0 where
+  pub claims : HoldsClaims v image w
+  pub survey : HoldsSurvey v image w
+  pub references : HoldsReferences v image w

@@ -10,8 +10,10 @@
 //! It rests on `ffs_walk` and `ffs_maps`.
 #![tactic(auto)]
 
+mod links;
 pub mod table;
 pub mod workspace;
 
+pub use links::links_start;
 pub use table::Table;
 pub use workspace::{Windows, Workspace};

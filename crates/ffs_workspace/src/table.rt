@@ -4,12 +4,12 @@ ghost use Rattle.std.specs.Prelude.{◌≡◌, ◌*◌, ◌+◌, ◌%◌, ◌<�
 ghost use Rattle.std.specs.List.{slice_range};
 ghost use Rattle.ffs_image.specs.Device.{Faulted, ForContents};
 ghost use Rattle.ffs_volume.specs.Disk.Areas.{inode_place};
-ghost use Rattle.ffs_volume.specs.Disk.Numbers.{equals_natural, piece};
+ghost use Rattle.ffs_volume.specs.Disk.Numbers.{piece};
 ghost use Rattle.ffs_volume.specs.Blocks.Inodes.{inode_of};
 ghost use Rattle.ffs_walk.specs.Windows.{WindowHolds, held_bytes};
 
 use ffs_image::{Image, ImageFault};
-use ffs_layout::{Geometry, decode_inode, has_links};
+use ffs_layout::{Geometry, decode_inode};
 use ffs_volume::Inode;
 use ffs_volume::constants::DINODE_SIZE;
 use ffs_walk::Window;
@@ -93,33 +93,5 @@ impl Table {
         let at = self.load(geometry, number, image)?;
         let bytes = self.window.bytes();
         Ok(decode_inode(geometry.layout.order, &bytes[at..at + DINODE_SIZE]))
-    }
-
-    /// Whether an inode has this link count. Its other numbers are not decoded.
-    #[tactic(auto, unfolding(ffs_volume::specs::Blocks::Inodes::inode_of))]
-    pub fn has_links<I: Image>(
-        &mut self,
-        geometry: &Geometry,
-        number: u32,
-        links: u64,
-        image: &mut I,
-    ) -> Result<bool, ImageFault>
-        requires number { number < geometry.now.layout.ncg * geometry.now.layout.ipg }
-        requires volume { geometry.now.layout.size * geometry.now.layout.fsize
-            ≤ (I.device image.old).size }
-        requires room { vec_len self.old.window.buffer ≡ geometry.now.layout.bsize }
-        requires holds { WindowHolds (I.device image.old).contents self.old.window }
-        ensures links { IfOk result (λ same. ForContents (I.device image.old).contents
-            (λ bytes. same
-            ≡ equals_natural (inode_of geometry.now.layout bytes number).nlink links)) }
-        ensures room { vec_len self.new.window.buffer ≡ geometry.now.layout.bsize }
-        ensures holds { WindowHolds (I.device image.new).contents self.new.window }
-        ensures ok { OnOk result (I.device image.new ≡ I.device image.old) }
-        ensures err { IfErr result (λ fault. Faulted (I.device image.old) (I.device image.new)
-            fault.sector) }
-    {
-        let at = self.load(geometry, number, image)?;
-        let bytes = self.window.bytes();
-        Ok(has_links(geometry.layout.order, &bytes[at..at + DINODE_SIZE], links))
     }
 }

@@ -43,7 +43,7 @@ pub struct Workspace {
     pub reached: FixedList<bool>,
     /// The directories that represent their cycle of parents: the least of each.
     pub leaders: FixedList<bool>,
-    /// How many entries refer to each inode.
+    /// How many entries refer to each inode, counted on from `links_start`.
     pub references: FixedList<u64>,
     /// How many fragments an inode keeps whose eleventh duplicate cut it, else 0.
     pub cut: FixedList<u32>,

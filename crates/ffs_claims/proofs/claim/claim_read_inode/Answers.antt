@@ -112,6 +112,7 @@ store-requires g c =
         kinds = omega (arith, made.kinds);
         marked = omega (arith, made.marked);
         cut = omega (arith, made.cut);
+        references = omega (arith, made.references);
       };
     }
 

@@ -11,6 +11,7 @@ use Rattle.ffs_volume.specs.Encodings.Replay.{cut_at}
 use Rattle.ffs_volume.specs.Report.Whole.{run_count}
 use Rattle.ffs_workspace.specs.Holds.{claims_of, all_claims, first_marked_at}
 use Rattle.ffs_volume.specs.Encodings.Kinds.{kind_at}
+use Rattle.ffs_volume.specs.Encodings.Links.{start_at}
 use Rattle.ffs_workspace.specs.Lengths.{inodes_of}
 use Rattle.ffs_claims.specs.Lines.{of_lines, owners_from}
 use Rattle.ffs_claims.proofs.Doubles.{dups_are}
@@ -18,7 +19,7 @@ use Rattle.ffs_claims.proofs.Weights.{used_below}
 use Rattle.ffs_claims.proofs.Frames.{ready_still}
 use Rattle.ffs_claims.proofs.Numbers.{before_next, before_first, before_end, lines_next, lines_end, filled_next}
 use Rattle.ffs_claims.proofs.Numbers.{filled_end, filled_begin, is_inside, is_outside, kind_out, kind_in, mark_out}
-use Rattle.ffs_claims.proofs.Numbers.{mark_in, cut_out, cut_in, first_lines}
+use Rattle.ffs_claims.proofs.Numbers.{mark_in, cut_out, cut_in, start_out, start_in, first_lines}
 use Rattle.ffs_claims.proofs.first.phase1.Goals as goal
 
 pub returns-in_err-say-clause-text : goal.returns-in_err-say-clause-text
@@ -50,6 +51,9 @@ loop-number-init g c =
           (λ x low. mark_out v bytes x (is_outside v x (inl low)));
       cut = λ bytes k. filled_begin 0 (cut_at v bytes) c.reserve.new.workspace.cut.items (inodes_of v)
           (ap (λ w. w.items) found.cut ∙ k.1.cut) (λ x low. cut_out v bytes x (is_outside v x (inl low)));
+      starts = λ bytes k. filled_begin 0 (start_at v bytes) c.reserve.new.workspace.references.items (inodes_of v)
+          (ap (λ w. w.items) found.references ∙ k.1.references)
+          (λ x low. start_out v bytes x (is_outside v x (inl low)));
       said = of_says _ (λ bytes. phase1 ∷ of_lines (phase1_lines v (owners_of v bytes)))
           (λ bytes. of_lines (lines_of_owners v s (owners_from v bytes 2))) _ (phase1 ∷ []) _ _ _
           (of_begins _ (λ bytes. phase1 ∷ of_lines (phase1_lines v (owners_of v bytes))) _)
@@ -124,6 +128,10 @@ loop-number-preserved g c =
           c.claim_inode.new.workspace.cut.items n _
           (omega (arith, inv.ready.made.cut)) (stored bytes (contents ∙ k.0)).cut
           (cut_in v bytes n s s' inside (inv.claims bytes k) (now bytes (contents ∙ k.0))) (inv.cut bytes k);
+      starts = λ bytes k. filled_next 0 (start_at v bytes) c.loop-number.workspace.references.items
+          c.claim_inode.new.workspace.references.items n _
+          (omega (arith, inv.ready.made.references)) (stored bytes (contents ∙ k.0)).starts
+          (start_in v bytes n inside) (inv.starts bytes k);
       said = of_same _ (λ bytes. of_lines
           (lines_of_owners v (after_owner v s (owner_of v bytes n)) (owners_from v bytes (n + 1))))
           (λ bytes. of_lines (lines_of_owners v s' (owners_from v bytes (n + 1)))) _ _ _
@@ -163,6 +171,8 @@ returns-clause-holds g c = λ bytes k.
           (λ x high. mark_out v bytes x (is_outside v x (inr high))) (inv.marked bytes k);
       cut = filled_end 0 (cut_at v bytes) _ n (inodes_of v) past
           (λ x high. cut_out v bytes x (is_outside v x (inr high))) (inv.cut bytes k);
+      starts = filled_end 0 (start_at v bytes) _ n (inodes_of v) past
+          (λ x high. start_out v bytes x (is_outside v x (inr high))) (inv.starts bytes k);
     }
 
 pub returns-clause-runs : goal.returns-clause-runs

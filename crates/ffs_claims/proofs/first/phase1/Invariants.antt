@@ -10,6 +10,7 @@ use Rattle.ffs_volume.specs.Encodings.Replay.{cut_at}
 use Rattle.ffs_volume.specs.Blocks.ClaimBounds.{used_bits}
 use Rattle.ffs_workspace.specs.Holds.{claims_of, IsFresh, first_marked_at}
 use Rattle.ffs_volume.specs.Encodings.Kinds.{kind_at}
+use Rattle.ffs_volume.specs.Encodings.Links.{start_at}
 use Rattle.ffs_workspace.specs.Lengths.{inodes_of}
 use Rattle.ffs_workspace.specs.Ready.{IsReady}
 use Rattle.ffs_claims.specs.Lines.{of_lines, owners_from}
@@ -36,6 +37,9 @@ invariant-loop-number g l = record {
   cut : ForBytes (λ bytes. IsContents (g.I.Image.device l.fn.image).contents bytes
       × IsFresh l.geometry.layout l.fn.workspace) (λ bytes.
       FilledTo 0 (cut_at l.geometry.layout bytes) l.workspace.cut.items l.number);
+  starts : ForBytes (λ bytes. IsContents (g.I.Image.device l.fn.image).contents bytes
+      × IsFresh l.geometry.layout l.fn.workspace) (λ bytes.
+      FilledTo 0 (start_at l.geometry.layout bytes) l.workspace.references.items l.number);
   said : SaidOf (λ bytes. IsContents (g.I.Image.device l.fn.image).contents bytes
       × IsFresh l.geometry.layout l.fn.workspace)
       (λ bytes. of_lines (lines_of_owners l.geometry.layout (claims_of l.workspace)

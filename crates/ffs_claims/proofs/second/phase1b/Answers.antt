@@ -18,7 +18,7 @@ use Rattle.ffs_claims.specs.Reporting.{after_first}
 use Rattle.ffs_claims.proofs.Numbers.{is_inside}
 use Rattle.ffs_claims.proofs.Frames.{claims_then, ready_unseen}
 use Rattle.ffs_claims.proofs.Rescanned.{kept_next, kept_end, runs_on, runs_most, claims_hold, reported_same, all_lines}
-use Rattle.ffs_claims.proofs.Rescanned.{all_kept, lines_split}
+use Rattle.ffs_claims.proofs.Rescanned.{all_kept, lines_split, starts_hold}
 use Rattle.ffs_claims.proofs.Rewalks.{reporting_over}
 use Rattle.ffs_claims.proofs.Doubles.{none_first}
 use Rattle.ffs_claims.proofs.Reportings.{reporting_more, reporting_ends, reporting_same}
@@ -46,7 +46,7 @@ loop-number-init g c =
     record {
       ready = ready_unseen v (g.I.Image.device c.args.image.now) c.args.workspace.now 0 c.requires.ready;
       device = refl;
-      claims = record { claimed = refl; kinds = refl; cut = refl; seen = refl };
+      claims = record { claimed = refl; kinds = refl; cut = refl; references = refl; seen = refl };
       low = omega arith;
       high = λ h. omega arith;
       runs = λ bytes k. omega arith;
@@ -175,8 +175,9 @@ returns-then-workspace-eq0 g c =
       text = of_same _ _ (λ bytes. []) _ _ _ inv.said
           (λ bytes k. ap of_lines (none_first d (kept_in_owners v (claims_before v bytes n) (owners_from v bytes n))
           none));
-      holds = λ bytes k. claims_hold v bytes c.args.workspace.now c.loop-number.workspace k.1 inv.claims
-          (reporting_over _ _ _ _ none (inv.reported bytes k));
+      holds = λ bytes k. (claims_hold v bytes c.args.workspace.now c.loop-number.workspace k.1 inv.claims
+          (reporting_over _ _ _ _ none (inv.reported bytes k)),
+          starts_hold v bytes c.args.workspace.now c.loop-number.workspace k.1 inv.claims);
       runs = λ bytes k. omega (arith, inv.runs bytes k, runs_most v bytes n inv.low inv.high);
       count = λ bytes k. omega (
         arith,
@@ -200,8 +201,9 @@ returns-after-loop-number g c =
       text = of_same _ _ (λ bytes. []) _ _ _ inv.said
           (λ bytes k. ap (λ (os : List Offer). of_lines (first_offer_lines d os))
           (kept_end v bytes (claims_before v bytes n) n past));
-      holds = λ bytes k. claims_hold v bytes c.args.workspace.now c.loop-number.workspace k.1 inv.claims
-          (reporting_ends _ _ _ _ (inv.reported bytes k) (kept_end v bytes (claims_before v bytes n) n past));
+      holds = λ bytes k. (claims_hold v bytes c.args.workspace.now c.loop-number.workspace k.1 inv.claims
+          (reporting_ends _ _ _ _ (inv.reported bytes k) (kept_end v bytes (claims_before v bytes n) n past)),
+          starts_hold v bytes c.args.workspace.now c.loop-number.workspace k.1 inv.claims);
       runs = λ bytes k. omega (arith, inv.runs bytes k, runs_most v bytes n inv.low inv.high);
       count = λ bytes k. omega (arith, inv.count bytes k, looked_end v bytes d (claims_before v bytes n) n past);
       seen = inv.claims.seen;

@@ -7,7 +7,7 @@ use Rattle.ffs_phase.proofs.Reporting.{of_begins, of_says, of_stops, of_same, of
 use Rattle.ffs_phase.proofs.Reporting.{reports_knowing}
 use Rattle.ffs_workspace.specs.declared.workspace.Workspace.{Workspace}
 use Rattle.ffs_workspace.specs.Lengths.{inodes_of}
-use Rattle.ffs_workspace.proofs.Leaving.{claims_held, survey_held}
+use Rattle.ffs_workspace.proofs.Leaving.{findings_held}
 use Rattle.ffs_counts.proofs.Holding.{free_lines, held_on, lines_begin}
 use Rattle.ffs_volume.proofs.Numbered.{from_next, from_end}
 use Rattle.ffs_counts.proofs.reference_check.phase4.Goals as goal
@@ -54,8 +54,7 @@ returns-in_err-check_inode-clause-text g c =
     (reports_knowing (Unit {0}) _ _ _ _ _ (Err c.in_err-check_inode.field-0.0)
     (λ bytes k. (
       ap (λ d. d.contents) inv.device ∙ k.0,
-      claims_held v bytes _ _ inv.held k.1,
-      survey_held v bytes _ _ inv.held k.2,
+      findings_held v bytes _ _ inv.held k.1,
     )) c.in_err-check_inode.ensures.text))
 
 pub loop-number-preserved-then-free-eq0 : goal.loop-number-preserved-then-free-eq0
@@ -77,8 +76,7 @@ loop-number-preserved-then-free-eq0 g c =
           (omega (arith, c.loop-number-test.true)))
           (said_knows _ _ _ _ _ _ (λ bytes k. (
             ap (λ d. d.contents) inv.device ∙ k.0,
-            claims_held v bytes _ _ inv.held k.1,
-            survey_held v bytes _ _ inv.held k.2,
+            findings_held v bytes _ _ inv.held k.1,
           )) ok.text);
     }
 
@@ -96,7 +94,7 @@ loop-number-preserved g c =
       said = of_same _ (λ bytes. map of_names (lines_from (counted_lines (volume_of v bytes)) n (inodes_of v - n)))
           (λ bytes. map of_names (lines_from (counted_lines (volume_of v bytes)) (n + free) (inodes_of v - (n + free))))
           _ _ _ inv.said
-          (λ bytes k. free_lines v bytes c.args.workspace.now c.deref.result.now n free (inodes_of v) k.1
+          (λ bytes k. free_lines v bytes c.args.workspace.now c.deref.result.now n free (inodes_of v) k.1.claims
           (c.deref.ensures.value ∙ ap (λ (w : Workspace). w.kinds.items) inv.held) c.free_run-free.ensures.free
           (omega (arith, c.free_run-free.ensures.within, c.deref.ensures.len, inv.ready.made.kinds)));
     }

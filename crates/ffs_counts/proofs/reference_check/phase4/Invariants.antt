@@ -5,7 +5,7 @@ use Rattle.ffs_phase.specs.Runs.{SaidOf}
 use Rattle.ffs_volume.specs.Directories.ReferenceCheck.{counted_lines, reference_lines}
 use Rattle.ffs_volume.specs.Messages.Kinds.{of_names, phase4, lines_from}
 use Rattle.ffs_volume.specs.Directories.Volumes.{volume_of}
-use Rattle.ffs_workspace.specs.Holds.{HoldsClaims, HoldsSurvey}
+use Rattle.ffs_workspace.specs.Holds.{HoldsFindings}
 use Rattle.ffs_workspace.specs.Lengths.{inodes_of}
 use Rattle.ffs_workspace.specs.Ready.{IsReady}
 use Rattle.ffs_counts.proofs.reference_check.phase4.Given as goal
@@ -17,7 +17,7 @@ invariant-loop-number g l = record {
   device : g.I.Image.device l.image ≡ g.I.Image.device l.fn.image;
   held : l.workspace ≡ record l.fn.workspace { windows = l.workspace.windows };
   said : SaidOf (λ bytes. IsContents (g.I.Image.device l.fn.image).contents bytes
-      × HoldsClaims l.geometry.layout bytes l.fn.workspace × HoldsSurvey l.geometry.layout bytes l.fn.workspace)
+      × HoldsFindings l.geometry.layout bytes l.fn.workspace)
       (λ bytes. map of_names (lines_from (counted_lines (volume_of l.geometry.layout bytes)) l.number
       (inodes_of l.geometry.layout - l.number)))
       (λ bytes. phase4 ∷ map of_names (reference_lines (volume_of l.geometry.layout bytes)))

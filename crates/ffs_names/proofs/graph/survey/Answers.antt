@@ -3,7 +3,7 @@ use Rattle.std.specs.Prelude.{slice_index}
 use Rattle.std.proofs.lemmas.List.{with_items_is}
 use Rattle.ffs_volume.proofs.Sizes.{some_inodes}
 use Rattle.ffs_names.proofs.SurveyHolds.{on_ok, volume_in, blocks_in, volume_survey, holds_survey, volume_calm}
-use Rattle.ffs_names.proofs.SurveyHolds.{holds_calm}
+use Rattle.ffs_names.proofs.SurveyHolds.{holds_calm, holds_references}
 use Rattle.ffs_names.proofs.graph.survey.Goals as goal
 
 pub returns-clause-read : goal.returns-clause-read
@@ -44,11 +44,33 @@ returns-clause-survey g c = on_ok c.survey.result _ _ (λ s b t h.
       cut = c.deref-2.result.now;
       image_lent = c.tree-2-1.given;
       windows_lent = c.tree-3-1.given.0;
-    }) b c.deref-3.result.now n.references n.named n.reached n.parents (search rules)
+    }) b c.deref-3.result.now _ n.references n.named n.reached n.parents (search rules)
     (λ x. ap (λ ks. slice_index ks x) c.deref-3.ensures.value ∙ h.kinds x) found in
-    holds_survey c.args.geometry.now.layout b _ n.references n.named n.reached n.parents
-    (with_items_is w.references n.references (search rules)) (with_items_is w.named n.named (search rules))
+    holds_survey c.args.geometry.now.layout b _ _ n.references n.named n.reached n.parents
+    (with_items_is w.named n.named (search rules))
     (with_items_is w.reached n.reached (search rules)) (with_items_is w.parents n.parents (search rules)) survey)
+    c.survey.ensures.survey
+
+pub returns-clause-references : goal.returns-clause-references
+returns-clause-references g c = on_ok c.survey.result _ _ (λ s b t h starts.
+    let w = c.args.workspace.now in
+    let n = c.survey.new in
+    let found = s b (record {
+      bytes = t;
+      kinds = λ x. ap (λ ks. slice_index ks x) c.deref.ensures.value ∙ h.kinds x;
+      cut = λ x. ap (λ ks. slice_index ks x) c.deref-2.ensures.value ∙ h.cut x;
+    }) in
+    let survey = volume_survey (record {
+      layout = c.args.geometry.now.layout;
+      contents = (g.I.Image.device c.args.image.now).contents;
+      kinds = c.deref.result.now;
+      cut = c.deref-2.result.now;
+      image_lent = c.tree-2-1.given;
+      windows_lent = c.tree-3-1.given.0;
+    }) b c.deref-3.result.now _ n.references n.named n.reached n.parents (search rules)
+    (λ x. ap (λ ks. slice_index ks x) c.deref-3.ensures.value ∙ h.kinds x) found in
+    holds_references c.args.geometry.now.layout b w _ _ n.references n.named n.reached n.parents
+    (search rules) (with_items_is w.references n.references (search rules)) starts survey)
     c.survey.ensures.survey
 
 pub returns-clause-calm : goal.returns-clause-calm

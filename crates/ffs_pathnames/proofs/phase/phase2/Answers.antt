@@ -6,7 +6,7 @@ use Rattle.ffs_volume.specs.Directories.PathnameCheck.{pathname_lines}
 use Rattle.ffs_volume.specs.Directories.Volumes.{volume_of}
 use Rattle.ffs_pathnames.specs.declared.phase.Root.{Root}
 use Rattle.ffs_pathnames.proofs.Carrying.{on_all, if_ok, at_fault, at_fault_more, claims_untouched, before_first}
-use Rattle.ffs_workspace.proofs.Leaving.{claims_left, survey_left}
+use Rattle.ffs_workspace.proofs.Leaving.{claims_left, references_left, survey_left}
 use Rattle.ffs_pathnames.proofs.SilentLaws.{calm_silent}
 use Rattle.ffs_pathnames.proofs.phase.phase2.Goals as goal
 
@@ -94,6 +94,14 @@ returns-clause-holds g c =
       claims_left v b _ _ last (claims_left v b _ _ clear.survey (claims_untouched v b _ _ found.same k.1)),
       survey_left v b _ _ last (survey_left v b _ _ clear.survey (found.survey b k.0 k.1)),
     ))
+
+pub returns-clause-references : goal.returns-clause-references
+returns-clause-references g c =
+    let v = c.args.geometry.now.layout in
+    let found = c.in_ok-survey.ensures in
+    on_all c.check_tree.result _
+    (λ b k. references_left v b _ _ c.check_tree.ensures.survey
+    (references_left v b _ _ c.clear_marks.ensures.survey (found.references b k.0 k.1 k.2)))
 
 pub check_tree-requires : goal.check_tree-requires
 check_tree-requires g c =

@@ -10,19 +10,21 @@ returns-clause-survey g c = λ b k.
     let es = g.D.Directories.entries (g.D.Directories.base c.args.directories.now) b in
     let read = rw c.in_ok-survey_reached.ensures.reader.same at c.in_ok-survey_unreached.ensures.read in
     let first = c.in_ok-survey_reached.ensures.part b k in
-    let second = read b k (free_blank c.args.kinds.now es c.survey_reached.new.references c.survey_reached.new.named
+    let second = read b k (free_blank c.args.kinds.now es _ c.survey_reached.new.references c.survey_reached.new.named
     c.survey_reached.new.reached c.survey_reached.new.parents first) in
-    survey_whole c.args.kinds.now es c.survey_reached.new.references c.survey_unreached.new.references
+    survey_whole c.args.kinds.now es c.args.references.now c.limit_starts.new.references
+    c.survey_reached.new.references c.survey_unreached.new.references
     c.survey_reached.new.named c.survey_unreached.new.named c.survey_reached.new.reached c.survey_reached.new.parents
     c.survey_unreached.new.parents
-    (sane_of c.args.kinds.now es c.requires.lists.some) (omega arith) (omega arith) first second
+    (sane_of c.args.kinds.now es c.requires.lists.some) (omega arith) (omega arith) c.limit_starts.ensures.starts first
+    second
 
 pub returns-clause-calm : goal.returns-clause-calm
 returns-clause-calm g c = λ b k.
     let es = g.D.Directories.entries (g.D.Directories.base c.args.directories.now) b in
     let read = rw c.in_ok-survey_reached.ensures.reader.same at c.in_ok-survey_unreached.ensures.read in
     let first = c.in_ok-survey_reached.ensures.part b k in
-    let second = read b k (free_blank c.args.kinds.now es c.survey_reached.new.references c.survey_reached.new.named
+    let second = read b k (free_blank c.args.kinds.now es _ c.survey_reached.new.references c.survey_reached.new.named
     c.survey_reached.new.reached c.survey_reached.new.parents first) in
     let calm = c.in_ok-survey_reached.ensures.calm b k in
     calm_unreached c.args.kinds.now c.args.marked.now c.survey_reached.new.reached c.survey_reached.new.parents

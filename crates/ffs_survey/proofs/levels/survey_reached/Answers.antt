@@ -1,4 +1,4 @@
-use Rattle.std.proofs.Common.{rules, ◌≡◌, ℕ, List, take, set, arith, sym, ◌∙◌, subst, length-set, true}
+use Rattle.std.proofs.Common.{rules, ◌≡◌, ℕ, List, take, set, arith, refl, sym, ◌∙◌, subst, length-set, true}
 use Rattle.ffs_survey.specs.Survey.{graph_with}
 use Rattle.ffs_survey.specs.Discover.{IsFrontier, LevelsKnown, IsCount}
 use Rattle.ffs_survey.proofs.Discovered.{unset-set}
@@ -24,7 +24,7 @@ loop-low-init g c = record {
       length-set c.args.queue.now 0 2,
     );
   };
-  counted = λ x l. let z = c.requires.begins.counted x in omega (arith, z);
+  counted = λ x l. let z = c.requires.starts x in omega (arith, z);
   levels = λ b k.
       let v = graph_with c.args.kinds.now (g.D.Directories.entries (g.D.Directories.base c.args.directories.now) b) in
       record {
@@ -37,7 +37,7 @@ loop-low-init g c = record {
       };
   counts = λ b k. none_counted
       (graph_with c.args.kinds.now (g.D.Directories.entries (g.D.Directories.base c.args.directories.now) b))
-      c.args.references.now c.args.named.now c.requires.begins.counted c.requires.begins.named;
+      c.args.references.now c.args.named.now c.requires.begins.named;
   calm = λ b k. calm_none c.args.kinds.now c.args.marked.now _ _ _ _ c.args.calm.now c.requires.begins.calm;
 }
 
@@ -61,7 +61,7 @@ loop-low-preserved g c =
       counts = λ b k.
           counted_on (graph_with c.args.kinds.now
           (g.D.Directories.entries (g.D.Directories.base c.args.directories.now) b)) c.loop-low.low c.loop-low.high
-          c.loop-low.queue _ c.loop-low.references _ c.loop-low.named _
+          c.loop-low.queue _ c.args.references.now c.loop-low.references _ c.loop-low.named _
           inv.room.ordered done.kept (inv.counts b k) (counts b k);
       calm = λ b k. calm b k (inv.calm b k);
     }
@@ -74,22 +74,25 @@ returns-clause-part g c = λ b k.
     let low = inv.room.ordered in
     let same : c.loop-low.low ≡ c.loop-low.high = omega (arith, low, c.loop-low-test.false) in
     let F : List ℕ → Type 0 = λ xs. IsFrontier v c.loop-low.depth xs in
-    reached_part c.args.kinds.now es c.loop-low.depth c.loop-low.references c.loop-low.named c.loop-low.reached
+    reached_part c.args.kinds.now es c.loop-low.depth c.args.references.now c.loop-low.references c.loop-low.named
+    c.loop-low.reached
     c.loop-low.parents (take c.loop-low.high c.loop-low.queue) inv.lengths
     (sane_of c.args.kinds.now es c.requires.lists.some)
     (subst F (no_front c.loop-low.low c.loop-low.high c.loop-low.queue c.loop-low-test.false) (inv.levels b k).frontier)
     (inv.levels b k).levels
-    (subst (λ n. IsCount v (take n c.loop-low.queue) c.loop-low.references c.loop-low.named) same (inv.counts b k))
+    (subst (λ n. IsCount v (take n c.loop-low.queue) c.args.references.now c.loop-low.references c.loop-low.named) same
+    (inv.counts b k))
 
 pub returns-then-not-is_dir-clause-part : goal.returns-then-not-is_dir-clause-part
 returns-then-not-is_dir-clause-part g c = λ b k.
     let es = g.D.Directories.entries (g.D.Directories.base c.args.directories.now) b in
-    alone_part c.args.kinds.now es c.args.references.now c.args.named.now (set c.args.reached.now 2 true)
+    alone_part c.args.kinds.now es c.args.references.now c.args.references.now c.args.named.now
+    (set c.args.reached.now 2 true)
     (set c.args.parents.now 2 2) (omega (arith, length-set c.args.reached.now 2 true))
     (sane_of c.args.kinds.now es c.requires.lists.some) (sym c.is_dir.ensures ∙ c.if-not-is_dir.true)
     (levels_start (graph_with c.args.kinds.now es) c.args.reached.now c.args.parents.now (omega arith) (omega arith)
     c.requires.begins.reached c.requires.begins.parents)
-    c.requires.begins.counted c.requires.begins.named
+    refl c.requires.begins.named
 
 pub returns-then-not-is_dir-clause-calm : goal.returns-then-not-is_dir-clause-calm
 returns-then-not-is_dir-clause-calm g c = λ b k. calm_none c.args.kinds.now c.args.marked.now _ _ _ _ c.args.calm.now

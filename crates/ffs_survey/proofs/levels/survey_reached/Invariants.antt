@@ -1,4 +1,4 @@
-use Rattle.std.proofs.Common.{◌≡◌, ℕ, ◌-◌, ◌*◌, ◌<◌, ◌≤◌, ◌^◌, List, length, take}
+use Rattle.std.proofs.Common.{◌≡◌, ℕ, ◌+◌, ◌-◌, ◌*◌, ◌<◌, ◌≤◌, ◌^◌, List, length, take}
 use Rattle.ffs_survey.specs.Survey.{number_at, graph_with}
 use Rattle.ffs_survey.specs.Discover.{HasRoom, AtLevel, IsCount}
 use Rattle.ffs_survey.specs.Calm.{AreCalm}
@@ -12,13 +12,13 @@ invariant-loop-low g l = record {
   lengths : length l.reached ≡ length l.kinds;
   deep : l.depth ≤ l.low;
   room : HasRoom l.low l.high l.reached l.queue;
-  counted : (x : ℕ) → x < length l.kinds → number_at l.references x ≤ l.low * 2 ^ 28;
+  counted : (x : ℕ) → x < length l.kinds → number_at l.references x ≤ (l.low + 1) * 2 ^ 28;
   levels : (b : List ℕ) → g.D.Directories.knows (g.D.Directories.base l.fn.directories) b →
       AtLevel (graph_with l.kinds (g.D.Directories.entries (g.D.Directories.base l.fn.directories) b)) l.depth l.low
       l.high l.reached l.parents l.queue;
   counts : (b : List ℕ) → g.D.Directories.knows (g.D.Directories.base l.fn.directories) b →
       IsCount (graph_with l.kinds (g.D.Directories.entries (g.D.Directories.base l.fn.directories) b))
-      (take l.low l.queue) l.references l.named;
+      (take l.low l.queue) l.fn.references l.references l.named;
   calm : (b : List ℕ) → g.D.Directories.knows (g.D.Directories.base l.fn.directories) b →
       AreCalm l.kinds l.marked l.reached l.parents (g.D.Directories.entries (g.D.Directories.base l.fn.directories) b)
       (g.D.Directories.sound (g.D.Directories.base l.fn.directories) b) l.calm;
