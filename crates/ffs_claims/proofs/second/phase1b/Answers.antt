@@ -175,9 +175,11 @@ returns-then-workspace-eq0 g c =
       text = of_same _ _ (λ bytes. []) _ _ _ inv.said
           (λ bytes k. ap of_lines (none_first d (kept_in_owners v (claims_before v bytes n) (owners_from v bytes n))
           none));
-      holds = λ bytes k. (claims_hold v bytes c.args.workspace.now c.loop-number.workspace k.1 inv.claims
-          (reporting_over _ _ _ _ none (inv.reported bytes k)),
-          starts_hold v bytes c.args.workspace.now c.loop-number.workspace k.1 inv.claims);
+      holds = λ bytes k. (
+        claims_hold v bytes c.args.workspace.now c.loop-number.workspace k.1 inv.claims
+            (reporting_over _ _ _ _ none (inv.reported bytes k)),
+        starts_hold v bytes c.args.workspace.now c.loop-number.workspace k.1 inv.claims,
+      );
       runs = λ bytes k. omega (arith, inv.runs bytes k, runs_most v bytes n inv.low inv.high);
       count = λ bytes k. omega (
         arith,
@@ -201,9 +203,11 @@ returns-after-loop-number g c =
       text = of_same _ _ (λ bytes. []) _ _ _ inv.said
           (λ bytes k. ap (λ (os : List Offer). of_lines (first_offer_lines d os))
           (kept_end v bytes (claims_before v bytes n) n past));
-      holds = λ bytes k. (claims_hold v bytes c.args.workspace.now c.loop-number.workspace k.1 inv.claims
-          (reporting_ends _ _ _ _ (inv.reported bytes k) (kept_end v bytes (claims_before v bytes n) n past)),
-          starts_hold v bytes c.args.workspace.now c.loop-number.workspace k.1 inv.claims);
+      holds = λ bytes k. (
+        claims_hold v bytes c.args.workspace.now c.loop-number.workspace k.1 inv.claims
+            (reporting_ends _ _ _ _ (inv.reported bytes k) (kept_end v bytes (claims_before v bytes n) n past)),
+        starts_hold v bytes c.args.workspace.now c.loop-number.workspace k.1 inv.claims,
+      );
       runs = λ bytes k. omega (arith, inv.runs bytes k, runs_most v bytes n inv.low inv.high);
       count = λ bytes k. omega (arith, inv.count bytes k, looked_end v bytes d (claims_before v bytes n) n past);
       seen = inv.claims.seen;
