@@ -2,6 +2,9 @@
 use Rattle.std.specs.Prelude.{◌≡◌, ℕ, ◌+◌, ◌<◌, ◌≤◌, true}
 use Rattle.ffs_volume.specs.declared.Layout.{Layout}
 use Rattle.ffs_volume.specs.Disk.Areas.{is_run_in_range}
+use Rattle.ffs_image.specs.Device.{Device}
+use Rattle.ffs_workspace.specs.declared.workspace.Workspace.{Workspace}
+use Rattle.ffs_workspace.specs.Ready.{IsReady}
 use Rattle.ffs_claims.specs.declared.area.DataArea.{DataArea}
 
 -- each Run that lies in the area is in range
@@ -13,3 +16,8 @@ pub record IsDataArea (v : Layout) (area : DataArea) : Type 0 where
 pub record HasRun (area : DataArea) (start len : ℕ) : Type 0 where
   pub first : area.start ≤ start
   pub last : start + len ≤ area.end
+
+-- inodes can claim: the workspace is ready, and each Run that lies in the area is in range
+pub record CanClaim (v : Layout) (d : Device) (w : Workspace) (area : DataArea) : Type 0 where
+  pub ready : IsReady v d w
+  pub only_data : IsDataArea v area

@@ -14,12 +14,12 @@ ghost use Rattle.ffs_volume.specs.Blocks.ClaimBounds.{ClaimBound, used_bits};
 ghost use Rattle.ffs_volume.specs.Blocks.BlockCheck.{owner_lines};
 ghost use Rattle.ffs_workspace.specs.Holds.{claims_of};
 ghost use Rattle.ffs_workspace.specs.Lengths.{inodes_of};
-ghost use Rattle.ffs_workspace.specs.Ready.{IsReady};
+ghost use Rattle.ffs_claims.specs.Area.{CanClaim};
 ghost use Rattle.ffs_claims.specs.Leaves.{HasBegun, SameFound, Stored};
 ghost use Rattle.ffs_claims.specs.Lines.{of_lines, owner_with};
 
 use crate::area::DataArea;
-use crate::offer::{is_open, step};
+use crate::offer::step;
 use crate::store::{begin, say_class, say_count, store};
 use ffs_image::Image;
 use ffs_layout::Geometry;
@@ -34,6 +34,7 @@ use ffs_workspace::Workspace;
 fn claim<I: Image, W: Output>(
     workspace: &mut Workspace,
     geometry: &Geometry,
+    area: &mut DataArea,
     number: u32,
     inode: &Inode,
     class: Class,
@@ -41,7 +42,7 @@ fn claim<I: Image, W: Output>(
     report: &mut Report<'_, W>,
 ) -> Result<(), RunFault>
     requires class { class ≡ inodes.class_of geometry.now.layout inode.now }
-    requires ready { IsReady geometry.now.layout (I.device image.old) workspace.old }
+    requires ready { CanClaim geometry.now.layout (I.device image.old) workspace.old area.old }
     requires begun { HasBegun workspace.old }
     requires runs { workspace.old.runs_seen < 2 ^ 61 }
     ensures image { ImageAfter (I.device image.old) (I.device image.new) result }
@@ -55,21 +56,26 @@ fn claim<I: Image, W: Output>(
     ensures moves { OnOk result (ClaimBound (claims_of workspace.old) (claims_of workspace.new)) }
     ensures bound { workspace.new.runs_seen + used_bits (claims_of workspace.old)
         ≤ workspace.old.runs_seen + geometry.now.layout.size + 22 }
-    ensures ready { IsReady geometry.now.layout (I.device image.new) workspace.new }
+    ensures ready { CanClaim geometry.now.layout (I.device image.new) workspace.new area.new }
     ensures found { SameFound workspace.old workspace.new }
 {
     if !has_steps(geometry, inode, class) {
         return Ok(());
     }
     let mut walk = Walk::of_class(geometry, inode, class);
-    let mut area = DataArea::empty();
+    let mut after_gap = false;
     while let Some(next) = walk.next(image, &mut workspace.windows.blocks)? {
-        step(workspace, geometry, &mut area, number, next, report)?;
-        if !is_open(workspace) {
-            break;
-        }
         if matches!(next, Step::Gap) {
-            walk.skip_gaps(&workspace.windows.blocks);
+            if after_gap {
+                walk.skip_gaps(&workspace.windows.blocks);
+            }
+            after_gap = true;
+            continue;
+        }
+        after_gap = false;
+        let seen = step(workspace, geometry, area, number, next, report)?;
+        if !seen {
+            break;
         }
     }
     Ok(())
@@ -79,12 +85,13 @@ fn claim<I: Image, W: Output>(
 fn claim_read_inode<I: Image, W: Output>(
     workspace: &mut Workspace,
     geometry: &Geometry,
+    area: &mut DataArea,
     number: u32,
     inode: &Inode,
     image: &mut I,
     report: &mut Report<'_, W>,
 ) -> Result<(), RunFault>
-    requires ready { IsReady geometry.now.layout (I.device image.old) workspace.old }
+    requires ready { CanClaim geometry.now.layout (I.device image.old) workspace.old area.old }
     requires number { number < inodes_of geometry.now.layout }
     requires runs { workspace.old.runs_seen < 2 ^ 40 }
     ensures image { ImageAfter (I.device image.old) (I.device image.new) result }
@@ -102,12 +109,14 @@ fn claim_read_inode<I: Image, W: Output>(
     ensures bound { workspace.new.runs_seen + used_bits (claims_of workspace.old)
         ≤ workspace.old.runs_seen + geometry.now.layout.size + 22 }
     ensures again { workspace.new.runs_again ≡ workspace.old.runs_again }
-    ensures ready { IsReady geometry.now.layout (I.device image.new) workspace.new }
+    ensures ready { CanClaim geometry.now.layout (I.device image.new) workspace.new area.new }
 {
     let class = class_of(geometry, inode);
     begin(workspace);
     say_class(report, number, class)?;
-    claim(workspace, geometry, number, inode, class, image, report)?;
+    claim(
+        workspace, geometry, area, number, inode, class, image, report,
+    )?;
     say_count(workspace, geometry, number, class, inode.blocks, report)?;
     store(workspace, number, class, inode);
     Ok(())
@@ -117,11 +126,12 @@ fn claim_read_inode<I: Image, W: Output>(
 pub fn claim_inode<I: Image, W: Output>(
     workspace: &mut Workspace,
     geometry: &Geometry,
+    area: &mut DataArea,
     number: u32,
     image: &mut I,
     report: &mut Report<'_, W>,
 ) -> Result<(), RunFault>
-    requires ready { IsReady geometry.now.layout (I.device image.old) workspace.old }
+    requires ready { CanClaim geometry.now.layout (I.device image.old) workspace.old area.old }
     requires number { number < inodes_of geometry.now.layout }
     requires runs { workspace.old.runs_seen < 2 ^ 40 }
     ensures image { ImageAfter (I.device image.old) (I.device image.new) result }
@@ -141,8 +151,8 @@ pub fn claim_inode<I: Image, W: Output>(
     ensures bound { workspace.new.runs_seen + used_bits (claims_of workspace.old)
         ≤ workspace.old.runs_seen + geometry.now.layout.size + 22 }
     ensures again { workspace.new.runs_again ≡ workspace.old.runs_again }
-    ensures ready { IsReady geometry.now.layout (I.device image.new) workspace.new }
+    ensures ready { CanClaim geometry.now.layout (I.device image.new) workspace.new area.new }
 {
     let inode = workspace.windows.table.inode(geometry, number, image)?;
-    claim_read_inode(workspace, geometry, number, &inode, image, report)
+    claim_read_inode(workspace, geometry, area, number, &inode, image, report)
 }

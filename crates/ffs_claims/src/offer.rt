@@ -1,6 +1,6 @@
 //! The offers of Runs, and what is reported of them.
 
-ghost use Rattle.std.specs.Prelude.{◌≡◌, ◌+◌, ◌<◌, ◌≤◌, ◌^◌, OnOk, true};
+ghost use Rattle.std.specs.Prelude.{◌≡◌, ◌+◌, ◌<◌, ◌≤◌, ◌^◌, OnOk, IfOk, true};
 ghost use Rattle.std.specs.List.{range_with_len};
 ghost use Rattle.ffs_volume.specs.Disk.Areas.{is_run_in_range};
 ghost use Rattle.ffs_volume.specs.Blocks.Lengths.{HasLength};
@@ -144,7 +144,7 @@ fn offers<W: Output>(
     Ok(())
 }
 
-/// A Run in range of the current inode: claimed at once where its fragments are all unclaimed and lie in one word of the map.
+/// A Run in range of the current inode, and whether the next step is seen: claimed at once where its fragments are all unclaimed and lie in one word of the map.
 fn run_in_range<W: Output>(
     workspace: &mut Workspace,
     geometry: &Geometry,
@@ -152,27 +152,29 @@ fn run_in_range<W: Output>(
     start: u32,
     len: u32,
     report: &mut Report<'_, W>,
-) -> Result<(), OutFault>
+) -> Result<bool, OutFault>
     requires made { IsFor geometry.now.layout workspace.old }
     requires some { 0 < len }
     requires in_range { is_run_in_range geometry.now.layout start len ≡ true }
     requires room { workspace.old.kept < 2 ^ 62 }
-    requires dups { workspace.old.dups < 11 }
+    requires open { claims.is_open (claims_of workspace.old) ≡ true }
     ensures said { Says (progress W.sink report.old) (progress W.sink report.new)
         (of_lines (lines_of_offers geometry.now.layout number (claims_of workspace.old)
         (range_with_len start len))) result }
+    ensures seen { IfOk result (λ seen. seen ≡ claims.is_open (claims_of workspace.new)) }
     ensures claims { OnOk result (claims_of workspace.new
         ≡ after_offers geometry.now.layout (claims_of workspace.old) (range_with_len start len)) }
     ensures only { OffersOnly geometry.now.layout workspace.old workspace.new }
 {
     if workspace.claimed.claim(start, len) {
         workspace.kept += u64::from(len);
-        return Ok(());
+        return Ok(true);
     }
-    offers(workspace, geometry, number, start, len, report)
+    offers(workspace, geometry, number, start, len, report)?;
+    Ok(is_open(workspace))
 }
 
-/// A Run of the current inode.
+/// A Run of the current inode, and whether the next step is seen.
 fn run<W: Output>(
     workspace: &mut Workspace,
     geometry: &Geometry,
@@ -181,17 +183,17 @@ fn run<W: Output>(
     start: u32,
     len: u32,
     report: &mut Report<'_, W>,
-) -> Result<(), OutFault>
+) -> Result<bool, OutFault>
     requires made { IsFor geometry.now.layout workspace.old }
     requires area { IsDataArea geometry.now.layout area.old }
     requires some { 0 < len }
     requires room { workspace.old.kept < 2 ^ 62 }
     requires runs { workspace.old.runs_seen < 2 ^ 62 }
-    requires bad { workspace.old.bad < 11 }
-    requires dups { workspace.old.dups < 11 }
+    requires open { claims.is_open (claims_of workspace.old) ≡ true }
     ensures said { Says (progress W.sink report.old) (progress W.sink report.new)
         (of_lines (run_lines geometry.now.layout number (claims_of workspace.old) start len))
         result }
+    ensures seen { IfOk result (λ seen. seen ≡ claims.is_open (claims_of workspace.new)) }
     ensures claims { OnOk result (claims_of workspace.new
         ≡ after_run geometry.now.layout (claims_of workspace.old) start len) }
     ensures runs { workspace.new.runs_seen ≡ workspace.old.runs_seen + 1 }
@@ -206,12 +208,13 @@ fn run<W: Output>(
     workspace.bad += 1;
     say_bad(report, number, start, many)?;
     if many {
-        return Ok(());
+        return Ok(false);
     }
-    offers(workspace, geometry, number, start, len, report)
+    offers(workspace, geometry, number, start, len, report)?;
+    Ok(is_open(workspace))
 }
 
-/// A step of the current inode, which isn't cut.
+/// A step of the current inode, which isn't cut, and whether the next one is seen.
 pub fn step<W: Output>(
     workspace: &mut Workspace,
     geometry: &Geometry,
@@ -219,7 +222,7 @@ pub fn step<W: Output>(
     number: u32,
     step: Step,
     report: &mut Report<'_, W>,
-) -> Result<(), OutFault>
+) -> Result<bool, OutFault>
     requires made { IsFor geometry.now.layout workspace.old }
     requires area { IsDataArea geometry.now.layout area.old }
     requires open { claims.is_open (claims_of workspace.old) ≡ true }
@@ -228,6 +231,7 @@ pub fn step<W: Output>(
     requires runs { workspace.old.runs_seen < 2 ^ 62 }
     ensures said { Says (progress W.sink report.old) (progress W.sink report.new)
         (of_lines (step_lines geometry.now.layout number (claims_of workspace.old) step)) result }
+    ensures seen { IfOk result (λ seen. seen ≡ claims.is_open (claims_of workspace.new)) }
     ensures claims { OnOk result (claims_of workspace.new
         ≡ after_step geometry.now.layout (claims_of workspace.old) step) }
     ensures runs { workspace.new.runs_seen ≤ workspace.old.runs_seen + 1 }
@@ -239,12 +243,12 @@ pub fn step<W: Output>(
             run(workspace, geometry, area, number, start, len, report)
         }
         Step::Tail => {
-            if workspace.tail {
-                return Ok(());
+            if !workspace.tail {
+                workspace.tail = true;
+                report.say(&Line::Block(BlockMessage::PartTrunc { inode: number }))?;
             }
-            workspace.tail = true;
-            report.say(&Line::Block(BlockMessage::PartTrunc { inode: number }))
+            Ok(true)
         }
-        Step::Gap => Ok(()),
+        Step::Gap => Ok(true),
     }
 }

@@ -21,7 +21,7 @@ returns-in_err-inode-clause-text g c =
 
 pub returns-in_err-inode-clause-bound : goal.returns-in_err-inode-clause-bound
 returns-in_err-inode-clause-bound g c =
-    omega (arith, used_below c.args.geometry.now.layout c.args.workspace.now c.requires.ready.made)
+    omega (arith, used_below c.args.geometry.now.layout c.args.workspace.now c.requires.ready.ready.made)
 
 pub returns-clause-text : goal.returns-clause-text
 returns-clause-text g c =
@@ -49,17 +49,24 @@ returns-clause-claims g c =
 
 pub inode-requires : goal.inode-requires
 inode-requires g c =
-    let ready = c.requires.ready in
+    let ready = c.requires.ready.ready in
     record { number = c.requires.number; volume = ready.volume; room = ready.made.table; holds = ready.windows.table }
 
 pub returns-in_err-inode-clause-ready : goal.returns-in_err-inode-clause-ready
 returns-in_err-inode-clause-ready g c =
     let err = c.in_err-inode.ensures.err in
-    ready_table c.args.geometry.now.layout (g.I.Image.device c.args.image.now) _ c.args.workspace.now c.inode.new.self
-    err.contents err.size c.inode.ensures.room c.inode.ensures.holds c.requires.ready
+    record {
+      ready = ready_table c.args.geometry.now.layout (g.I.Image.device c.args.image.now) _ c.args.workspace.now
+          c.inode.new.self err.contents err.size c.inode.ensures.room c.inode.ensures.holds c.requires.ready.ready;
+      only_data = c.requires.ready.only_data;
+    }
 
 pub claim_read_inode-requires-clause-ready : goal.claim_read_inode-requires-clause-ready
 claim_read_inode-requires-clause-ready g c =
     let ok = c.in_ok-inode.ensures.ok in
-    ready_table c.args.geometry.now.layout (g.I.Image.device c.args.image.now) _ c.args.workspace.now c.inode.new.self
-    (ap (λ d. d.contents) ok) (ap (λ d. d.size) ok) c.inode.ensures.room c.inode.ensures.holds c.requires.ready
+    record {
+      ready = ready_table c.args.geometry.now.layout (g.I.Image.device c.args.image.now) _ c.args.workspace.now
+          c.inode.new.self (ap (λ d. d.contents) ok) (ap (λ d. d.size) ok) c.inode.ensures.room c.inode.ensures.holds
+          c.requires.ready.ready;
+      only_data = c.requires.ready.only_data;
+    }

@@ -23,7 +23,7 @@ returns-in_err-say_class-clause-text g c =
 pub returns-in_err-say_class-clause-bound : goal.returns-in_err-say_class-clause-bound
 returns-in_err-say_class-clause-bound g c =
     let same = ap (λ w. w.runs_seen) c.begin.ensures in
-    omega (arith, same, used_below c.args.geometry.now.layout c.args.workspace.now c.requires.ready.made)
+    omega (arith, same, used_below c.args.geometry.now.layout c.args.workspace.now c.requires.ready.ready.made)
 
 pub returns-in_err-claim-clause-text : goal.returns-in_err-claim-clause-text
 returns-in_err-claim-clause-text g c =
@@ -79,7 +79,7 @@ say_count-requires g c =
     let m = c.in_ok-claim.ensures.moves in
     let used : length (claims_of c.claim.new.workspace).used ≡ c.args.geometry.now.layout.size =
     length_bits c.claim.new.workspace.claimed.words.items c.claim.new.workspace.claimed.size
-    ∙ c.claim.ensures.ready.made.claimed in
+    ∙ c.claim.ensures.ready.ready.made.claimed in
     let bad = ap (λ w. w.bad) c.begin.ensures in
     let dups = ap (λ w. w.dups) c.begin.ensures in
     let none = ap (λ w. w.kept) c.begin.ensures in
@@ -91,8 +91,11 @@ say_count-requires g c =
     )
 
 pub claim-requires-clause-ready : goal.claim-requires-clause-ready
-claim-requires-clause-ready g c = ready_begun c.args.geometry.now.layout (g.I.Image.device c.args.image.now)
-    c.args.workspace.now c.begin.new.workspace c.begin.ensures c.requires.ready
+claim-requires-clause-ready g c = record {
+  ready = ready_begun c.args.geometry.now.layout (g.I.Image.device c.args.image.now)
+      c.args.workspace.now c.begin.new.workspace c.begin.ensures c.requires.ready.ready;
+  only_data = c.requires.ready.only_data;
+}
 
 pub claim-requires-clause-begun : goal.claim-requires-clause-begun
 claim-requires-clause-begun g c = record {
@@ -106,7 +109,7 @@ claim-requires-clause-runs g c = let same = ap (λ w. w.runs_seen) c.begin.ensur
 
 pub store-requires : goal.store-requires
 store-requires g c =
-    let made = c.claim.ensures.ready.made in
+    let made = c.claim.ensures.ready.ready.made in
     record {
       number = record {
         kinds = omega (arith, made.kinds);
@@ -116,8 +119,11 @@ store-requires g c =
     }
 
 pub returns-in_err-say_class-clause-ready : goal.returns-in_err-say_class-clause-ready
-returns-in_err-say_class-clause-ready g c = ready_begun c.args.geometry.now.layout (g.I.Image.device c.args.image.now)
-    c.args.workspace.now c.begin.new.workspace c.begin.ensures c.requires.ready
+returns-in_err-say_class-clause-ready g c = record {
+  ready = ready_begun c.args.geometry.now.layout (g.I.Image.device c.args.image.now)
+      c.args.workspace.now c.begin.new.workspace c.begin.ensures c.requires.ready.ready;
+  only_data = c.requires.ready.only_data;
+}
 
 pub returns-clause-claims : goal.returns-clause-claims
 returns-clause-claims g c = λ bytes t.
@@ -126,6 +132,9 @@ returns-clause-claims g c = λ bytes t.
     (steps_of c.args.geometry.now.layout c.args.inode.now bytes)) (ap claims_of c.begin.ensures)
 
 pub returns-clause-ready : goal.returns-clause-ready
-returns-clause-ready g c =
-    ready_stored c.args.geometry.now.layout (g.I.Image.device c.claim.new.image) c.args.number _ _ c.claim.new.workspace
-    c.store.new.workspace c.store.ensures.stored c.store.ensures.rest c.claim.ensures.ready
+returns-clause-ready g c = record {
+  ready = ready_stored c.args.geometry.now.layout (g.I.Image.device c.claim.new.image) c.args.number _ _
+      c.claim.new.workspace c.store.new.workspace c.store.ensures.stored c.store.ensures.rest
+      c.claim.ensures.ready.ready;
+  only_data = c.claim.ensures.ready.only_data;
+}

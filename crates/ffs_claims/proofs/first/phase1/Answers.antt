@@ -36,7 +36,10 @@ loop-number-init g c =
     let s = claims_of c.reserve.new.workspace in
     let found = c.reserve.ensures.only.found in
     record {
-      ready = ready_still v _ _ _ c.reserve.ensures.only.made c.reserve.ensures.only.windows c.requires.ready;
+      ready = record {
+        ready = ready_still v _ _ _ c.reserve.ensures.only.made c.reserve.ensures.only.windows c.requires.ready;
+        only_data = c.empty-area.ensures v;
+      };
       device = refl;
       low = omega arith;
       high = λ h. omega arith;
@@ -66,7 +69,7 @@ claim_inode-requires-clause-runs g c =
       c.args.geometry.now.sound.numbers.inodes_below,
       c.args.geometry.now.sound.numbers.size_below,
       c.loop-number-test.true,
-      used_below c.args.geometry.now.layout c.loop-number.workspace inv.ready.made,
+      used_below c.args.geometry.now.layout c.loop-number.workspace inv.ready.ready.made,
     )
 
 pub returns-in_err-claim_inode-clause-text : goal.returns-in_err-claim_inode-clause-text
@@ -114,15 +117,15 @@ loop-number-preserved g c =
           ∙ sym (before_next v bytes n inv.low);
       kinds = λ bytes k. filled_next 0 (kind_at v bytes) c.loop-number.workspace.kinds.items
           c.claim_inode.new.workspace.kinds.items n _
-          (omega (arith, inv.ready.made.kinds)) (stored bytes (contents ∙ k.0)).kinds (kind_in v bytes n inside)
+          (omega (arith, inv.ready.ready.made.kinds)) (stored bytes (contents ∙ k.0)).kinds (kind_in v bytes n inside)
           (inv.kinds bytes k);
       marked = λ bytes k. filled_next false (first_marked_at v bytes) c.loop-number.workspace.marked.items
           c.claim_inode.new.workspace.marked.items n _
-          (omega (arith, inv.ready.made.marked)) (stored bytes (contents ∙ k.0)).marked
+          (omega (arith, inv.ready.ready.made.marked)) (stored bytes (contents ∙ k.0)).marked
           (mark_in v bytes n s s' inside (inv.claims bytes k) (now bytes (contents ∙ k.0))) (inv.marked bytes k);
       cut = λ bytes k. filled_next 0 (cut_at v bytes) c.loop-number.workspace.cut.items
           c.claim_inode.new.workspace.cut.items n _
-          (omega (arith, inv.ready.made.cut)) (stored bytes (contents ∙ k.0)).cut
+          (omega (arith, inv.ready.ready.made.cut)) (stored bytes (contents ∙ k.0)).cut
           (cut_in v bytes n s s' inside (inv.claims bytes k) (now bytes (contents ∙ k.0))) (inv.cut bytes k);
       said = of_same _ (λ bytes. of_lines
           (lines_of_owners v (after_owner v s (owner_of v bytes n)) (owners_from v bytes (n + 1))))
@@ -168,7 +171,7 @@ returns-clause-holds g c = λ bytes k.
 pub returns-clause-runs : goal.returns-clause-runs
 returns-clause-runs g c =
     let inv = c.loop-number.invariant in
-    let used = used_below c.args.geometry.now.layout c.loop-number.workspace inv.ready.made in
+    let used = used_below c.args.geometry.now.layout c.loop-number.workspace inv.ready.ready.made in
     elim (cases_lt 2 c.loop-number.number) [
       | inl h ↦ let most : c.loop-number.number ≤ inodes_of c.args.geometry.now.layout = inv.high h in omega
           (arith, inv.runs, most, used)
@@ -181,7 +184,7 @@ returns-clause-count g c = λ bytes k. (returns-clause-holds g c bytes k).runs
 
 pub returns-clause-dups : goal.returns-clause-dups
 returns-clause-dups g c = λ bytes k.
-    dups_are c.args.geometry.now.layout bytes c.loop-number.workspace c.loop-number.invariant.ready.made.unreported
+    dups_are c.args.geometry.now.layout bytes c.loop-number.workspace c.loop-number.invariant.ready.ready.made.unreported
     (returns-clause-holds g c bytes k)
 
 pub returns-in_err-say-clause-ready : goal.returns-in_err-say-clause-ready

@@ -1,4 +1,4 @@
-use Rattle.std.proofs.Common.{arith, refl, ap, ◌+◌, ◌∙◌, List, ℕ}
+use Rattle.std.proofs.Common.{arith, ap, ◌+◌, ◌∙◌, List, ℕ}
 use Rattle.std.specs.List.{range_with_len}
 use Rattle.std.proofs.lemmas.Result.{err_from_is_err_and}
 use Rattle.ffs_volume.specs.Blocks.Claims.{offer_lines, lines_of_offers, after_offers}
