@@ -113,6 +113,10 @@ fn claim_read_inode<I: Image, W: Output>(
 {
     let class = class_of(geometry, inode);
     begin(workspace);
+    if matches!(class, Class::Free) {
+        store(workspace, number, class, inode);
+        return Ok(());
+    }
     say_class(report, number, class)?;
     claim(
         workspace, geometry, area, number, inode, class, image, report,
