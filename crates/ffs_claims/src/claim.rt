@@ -1,6 +1,6 @@
 //! What an inode claims, and what is reported of it.
 
-ghost use Rattle.std.specs.Prelude.{◌≡◌, ◌+◌, ◌<◌, ◌≤◌, ◌^◌, OnOk};
+ghost use Rattle.std.specs.Prelude.{◌≡◌, ◌+◌, ◌≤◌, OnOk};
 ghost use Rattle.ffs_report.specs.Progress.{progress};
 ghost use Rattle.ffs_phase.specs.Known.{ForBytes, IsContents};
 ghost use Rattle.ffs_phase.specs.Runs.{ImageAfter, PhaseReports};
@@ -13,9 +13,8 @@ ghost use Rattle.ffs_volume.specs.Blocks.Claims.{after_owner, after_steps, lines
 ghost use Rattle.ffs_volume.specs.Blocks.ClaimBounds.{ClaimBound, used_bits};
 ghost use Rattle.ffs_volume.specs.Blocks.BlockCheck.{owner_lines};
 ghost use Rattle.ffs_workspace.specs.Holds.{claims_of};
-ghost use Rattle.ffs_workspace.specs.Lengths.{inodes_of};
-ghost use Rattle.ffs_claims.specs.Area.{CanClaim};
-ghost use Rattle.ffs_claims.specs.Leaves.{HasBegun, SameFound, Stored};
+ghost use Rattle.ffs_claims.specs.Area.{CanClaim, CanClaimInode, InodeLeaves, StepsLeave};
+ghost use Rattle.ffs_claims.specs.Leaves.{HasBegun, Stored};
 ghost use Rattle.ffs_claims.specs.Lines.{of_lines, owner_with};
 
 use crate::area::DataArea;
@@ -44,7 +43,6 @@ fn claim<I: Image, W: Output>(
     requires class { class ≡ inodes.class_of geometry.now.layout inode.now }
     requires ready { CanClaim geometry.now.layout (I.device image.old) workspace.old area.old }
     requires begun { HasBegun workspace.old }
-    requires runs { workspace.old.runs_seen < 2 ^ 61 }
     ensures image { ImageAfter (I.device image.old) (I.device image.new) result }
     ensures text { PhaseReports (IsContents (I.device image.old).contents)
         (λ bytes. of_lines (lines_of_steps geometry.now.layout number (claims_of workspace.old)
@@ -54,10 +52,8 @@ fn claim<I: Image, W: Output>(
         claims_of workspace.new ≡ after_steps geometry.now.layout (claims_of workspace.old)
         (steps_of geometry.now.layout inode.now bytes))) }
     ensures moves { OnOk result (ClaimBound (claims_of workspace.old) (claims_of workspace.new)) }
-    ensures bound { workspace.new.runs_seen + used_bits (claims_of workspace.old)
-        ≤ workspace.old.runs_seen + geometry.now.layout.size + 22 }
-    ensures ready { CanClaim geometry.now.layout (I.device image.new) workspace.new area.new }
-    ensures found { SameFound workspace.old workspace.new }
+    ensures left { StepsLeave geometry.now.layout (I.device image.new) workspace.old workspace.new
+        area.new }
 {
     if !has_steps(geometry, inode, class) {
         return Ok(());
@@ -91,9 +87,8 @@ fn claim_read_inode<I: Image, W: Output>(
     image: &mut I,
     report: &mut Report<'_, W>,
 ) -> Result<(), RunFault>
-    requires ready { CanClaim geometry.now.layout (I.device image.old) workspace.old area.old }
-    requires number { number < inodes_of geometry.now.layout }
-    requires runs { workspace.old.runs_seen < 2 ^ 40 }
+    requires ready { CanClaimInode geometry.now.layout (I.device image.old) workspace.old area.old
+        number }
     ensures image { ImageAfter (I.device image.old) (I.device image.new) result }
     ensures text { PhaseReports (IsContents (I.device image.old).contents)
         (λ bytes. of_lines (owner_lines geometry.now.layout (claims_of workspace.old)
@@ -106,10 +101,8 @@ fn claim_read_inode<I: Image, W: Output>(
         inode.now workspace.old workspace.new) }
     ensures moves { OnOk result (workspace.new.runs_seen + used_bits (claims_of workspace.old)
         ≤ workspace.old.runs_seen + used_bits (claims_of workspace.new) + 22) }
-    ensures bound { workspace.new.runs_seen + used_bits (claims_of workspace.old)
-        ≤ workspace.old.runs_seen + geometry.now.layout.size + 22 }
-    ensures again { workspace.new.runs_again ≡ workspace.old.runs_again }
-    ensures ready { CanClaim geometry.now.layout (I.device image.new) workspace.new area.new }
+    ensures left { InodeLeaves geometry.now.layout (I.device image.new) workspace.old workspace.new
+        area.new }
 {
     let class = class_of(geometry, inode);
     begin(workspace);
@@ -135,9 +128,8 @@ pub fn claim_inode<I: Image, W: Output>(
     image: &mut I,
     report: &mut Report<'_, W>,
 ) -> Result<(), RunFault>
-    requires ready { CanClaim geometry.now.layout (I.device image.old) workspace.old area.old }
-    requires number { number < inodes_of geometry.now.layout }
-    requires runs { workspace.old.runs_seen < 2 ^ 40 }
+    requires ready { CanClaimInode geometry.now.layout (I.device image.old) workspace.old area.old
+        number }
     ensures image { ImageAfter (I.device image.old) (I.device image.new) result }
     ensures text { PhaseReports (IsContents (I.device image.old).contents)
         (λ bytes. of_lines (owner_lines geometry.now.layout (claims_of workspace.old)
@@ -152,10 +144,8 @@ pub fn claim_inode<I: Image, W: Output>(
         workspace.old workspace.new)) }
     ensures moves { OnOk result (workspace.new.runs_seen + used_bits (claims_of workspace.old)
         ≤ workspace.old.runs_seen + used_bits (claims_of workspace.new) + 22) }
-    ensures bound { workspace.new.runs_seen + used_bits (claims_of workspace.old)
-        ≤ workspace.old.runs_seen + geometry.now.layout.size + 22 }
-    ensures again { workspace.new.runs_again ≡ workspace.old.runs_again }
-    ensures ready { CanClaim geometry.now.layout (I.device image.new) workspace.new area.new }
+    ensures left { InodeLeaves geometry.now.layout (I.device image.new) workspace.old workspace.new
+        area.new }
 {
     let inode = workspace.windows.table.inode(geometry, number, image)?;
     claim_read_inode(workspace, geometry, area, number, &inode, image, report)

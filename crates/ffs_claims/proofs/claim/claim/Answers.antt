@@ -31,9 +31,11 @@ returns-then-not-has_steps g c =
           (no_steps v c.args.inode.now bytes none));
       claims = λ bytes t. sym (ap (after_steps v s) (no_steps v c.args.inode.now bytes none));
       moves = stays s;
-      bound = omega (arith, used_below v c.args.workspace.now c.requires.ready.ready.made);
-      ready = c.requires.ready;
-      found = found_none c.args.workspace.now;
+      left = record {
+        bound = omega (arith, used_below v c.args.workspace.now c.requires.ready.ready.made);
+        claim = c.requires.ready;
+        found = found_none c.args.workspace.now;
+      };
     }
 
 pub loop-next-init : goal.loop-next-init
@@ -80,13 +82,15 @@ returns-in_err-next g c =
       text = of_reads _ _ _ _ _ inv.said;
       claims = tt;
       moves = tt;
-      bound = omega (
-        arith,
-        seen_bound v c.args.workspace.now c.loop-next.workspace inv.ready.made inv.open_still
-            inv.moves,
-      );
-      ready = record { ready = read; only_data = inv.area };
-      found = found_still _ _ _ inv.found;
+      left = record {
+        bound = omega (
+          arith,
+          seen_bound v c.args.workspace.now c.loop-next.workspace inv.ready.made inv.open_still
+              inv.moves,
+        );
+        claim = record { ready = read; only_data = inv.area };
+        found = found_still _ _ _ inv.found;
+      };
     })
 
 pub step-requires : goal.step-requires
@@ -99,23 +103,25 @@ step-requires g c =
     let read = ready_walked c.args.geometry.now _ _ _ c.loop-next.workspace c.next.new.blocks inv.geometry ok
     c.next.ensures.kept.size c.next.ensures.kept.holds inv.ready in
     record {
-      made = read.made;
-      area = inv.area;
-      «open» = inv.open_still;
       length = (rw (inv.geometry, c.in-Some.is) at c.in_ok-next.ensures.fits).length;
-      room = omega (
-        arith,
-        c.args.geometry.now.sound.numbers.size_below,
-        kept_bound (claims_of c.args.workspace.now) (claims_of c.loop-next.workspace) v.size
-            sized (omega (arith, c.requires.begun.bad)) (omega (arith, c.requires.begun.dups)) c.requires.begun.kept
-            inv.moves,
-      );
-      runs = omega (
-        arith,
-        c.args.geometry.now.sound.numbers.size_below,
-        seen_bound v c.args.workspace.now
-            c.loop-next.workspace inv.ready.made inv.open_still inv.moves,
-      );
+      next = record {
+        made = read.made;
+        only_data = inv.area;
+        uncut = inv.open_still;
+        room = omega (
+          arith,
+          c.args.geometry.now.sound.numbers.size_below,
+          kept_bound (claims_of c.args.workspace.now) (claims_of c.loop-next.workspace) v.size
+              sized (omega (arith, c.requires.begun.bad)) (omega (arith, c.requires.begun.dups)) c.requires.begun.kept
+              inv.moves,
+        );
+        runs = omega (
+          arith,
+          c.args.geometry.now.sound.numbers.size_below,
+          seen_bound v c.args.workspace.now
+              c.loop-next.workspace inv.ready.made inv.open_still inv.moves,
+        );
+      };
     }
 
 pub returns-in_err-seen : goal.returns-in_err-seen
@@ -137,17 +143,19 @@ returns-in_err-seen g c =
           c.in_err-seen.ensures.said;
       claims = tt;
       moves = tt;
-      bound = omega (
-        arith,
-        c.step.ensures.runs,
-        seen_bound v c.args.workspace.now c.loop-next.workspace inv.ready.made
-            inv.open_still inv.moves,
-      );
-      ready = record {
-        ready = ready_still v _ _ _ c.step.ensures.only.made c.step.ensures.only.windows read;
-        only_data = c.step.ensures.area;
+      left = record {
+        bound = omega (
+          arith,
+          c.step.ensures.runs,
+          seen_bound v c.args.workspace.now c.loop-next.workspace inv.ready.made
+              inv.open_still inv.moves,
+        );
+        claim = record {
+          ready = ready_still v _ _ _ c.step.ensures.left.only.made c.step.ensures.left.only.windows read;
+          only_data = c.step.ensures.left.only_data;
+        };
+        found = found_then _ _ _ (found_still _ _ _ inv.found) c.step.ensures.left.only.found;
       };
-      found = found_then _ _ _ (found_still _ _ _ inv.found) c.step.ensures.only.found;
     })
 
 -- a gap is passed over: nothing is claimed and nothing is reported
@@ -226,22 +234,22 @@ loop-next-preserved g c =
     let read = ready_walked c.args.geometry.now _ _ _ c.loop-next.workspace c.next.new.blocks inv.geometry ok
     c.next.ensures.kept.size c.next.ensures.kept.holds inv.ready in
     record {
-      ready = ready_still v _ _ _ c.step.ensures.only.made c.step.ensures.only.windows read;
-      area = c.step.ensures.area;
-      open_still = sym c.in_ok-seen.ensures.seen ∙ c.if-not-seen.false;
+      ready = ready_still v _ _ _ c.step.ensures.left.only.made c.step.ensures.left.only.windows read;
+      area = c.step.ensures.left.only_data;
+      open_still = sym c.in_ok-seen.ensures.claims.uncut ∙ c.if-not-seen.false;
       geometry = c.in_ok-next.ensures.same.geometry ∙ inv.geometry;
       device = ok ∙ inv.device;
-      found = found_then _ _ _ (found_still _ _ _ inv.found) c.step.ensures.only.found;
+      found = found_then _ _ _ (found_still _ _ _ inv.found) c.step.ensures.left.only.found;
       moves = moves_on v (claims_of c.args.workspace.now) (claims_of c.loop-next.workspace)
           (claims_of c.step.new.workspace) c.in-Some.next
           (length_bits _ _ ∙ inv.ready.made.claimed) c.args.geometry.now.sound.sizes.frag_high
-          (rw (inv.geometry, c.in-Some.is) at c.in_ok-next.ensures.fits).length c.in_ok-seen.ensures.claims inv.moves;
+          (rw (inv.geometry, c.in-Some.is) at c.in_ok-next.ensures.fits).length c.in_ok-seen.ensures.claims.claims_are inv.moves;
       claims = claims_on _ v (claims_of c.loop-next.workspace) s (λ bytes. rest bytes c.loop-next.walk)
           (λ bytes. rest bytes c.next.new.self) _ _ c.in-Some.next
-          next c.in_ok-seen.ensures.claims inv.claims (λ bytes t. refl);
+          next c.in_ok-seen.ensures.claims.claims_are inv.claims (λ bytes t. refl);
       said = steps_said _ v c.args.number (claims_of c.loop-next.workspace) s (λ bytes. rest bytes c.loop-next.walk)
           (λ bytes. rest bytes c.next.new.self) _ _ c.in-Some.next _ _ _
-          inv.said next c.in_ok-seen.ensures.claims (λ bytes t. refl)
+          inv.said next c.in_ok-seen.ensures.claims.claims_are (λ bytes t. refl)
           c.in_ok-seen.ensures.said;
     }
 
@@ -251,7 +259,7 @@ returns-then-not-seen g c =
     let v = c.args.geometry.now.layout in
     let s = claims_of c.step.new.workspace in
     let ok = c.in_ok-next.ensures.read in
-    let cut : is_open (claims_of c.step.new.workspace) ≡ false = sym c.in_ok-seen.ensures.seen ∙ c.if-not-seen.true in
+    let cut : is_open (claims_of c.step.new.workspace) ≡ false = sym c.in_ok-seen.ensures.claims.uncut ∙ c.if-not-seen.true in
     let next = rw (inv.device, c.in-Some.is) at c.in_ok-next.ensures.steps in
     let read = ready_walked c.args.geometry.now _ _ _ c.loop-next.workspace c.next.new.blocks inv.geometry ok
     c.next.ensures.kept.size c.next.ensures.kept.holds inv.ready in
@@ -259,26 +267,28 @@ returns-then-not-seen g c =
       image = ok ∙ inv.device;
       text = steps_said _ v c.args.number (claims_of c.loop-next.workspace) s (λ bytes. rest bytes c.loop-next.walk)
           (λ bytes. rest bytes c.next.new.self) _ _ c.in-Some.next _ _ _
-          inv.said next c.in_ok-seen.ensures.claims (λ bytes t. cut_silent v c.args.number
+          inv.said next c.in_ok-seen.ensures.claims.claims_are (λ bytes t. cut_silent v c.args.number
           (claims_of c.step.new.workspace) (rest bytes c.next.new.self) cut) c.in_ok-seen.ensures.said;
       claims = claims_on _ v (claims_of c.loop-next.workspace) s (λ bytes. rest bytes c.loop-next.walk)
           (λ bytes. rest bytes c.next.new.self) _ _ c.in-Some.next
-          next c.in_ok-seen.ensures.claims inv.claims (λ bytes t. cut_stays v s (rest bytes c.next.new.self) cut);
+          next c.in_ok-seen.ensures.claims.claims_are inv.claims (λ bytes t. cut_stays v s (rest bytes c.next.new.self) cut);
       moves = moves_on v (claims_of c.args.workspace.now) (claims_of c.loop-next.workspace)
           (claims_of c.step.new.workspace) c.in-Some.next
           (length_bits _ _ ∙ inv.ready.made.claimed) c.args.geometry.now.sound.sizes.frag_high
-          (rw (inv.geometry, c.in-Some.is) at c.in_ok-next.ensures.fits).length c.in_ok-seen.ensures.claims inv.moves;
-      bound = omega (
-        arith,
-        c.step.ensures.runs,
-        seen_bound v c.args.workspace.now c.loop-next.workspace inv.ready.made
-            inv.open_still inv.moves,
-      );
-      ready = record {
-        ready = ready_still v _ _ _ c.step.ensures.only.made c.step.ensures.only.windows read;
-        only_data = c.step.ensures.area;
+          (rw (inv.geometry, c.in-Some.is) at c.in_ok-next.ensures.fits).length c.in_ok-seen.ensures.claims.claims_are inv.moves;
+      left = record {
+        bound = omega (
+          arith,
+          c.step.ensures.runs,
+          seen_bound v c.args.workspace.now c.loop-next.workspace inv.ready.made
+              inv.open_still inv.moves,
+        );
+        claim = record {
+          ready = ready_still v _ _ _ c.step.ensures.left.only.made c.step.ensures.left.only.windows read;
+          only_data = c.step.ensures.left.only_data;
+        };
+        found = found_then _ _ _ (found_still _ _ _ inv.found) c.step.ensures.left.only.found;
       };
-      found = found_then _ _ _ (found_still _ _ _ inv.found) c.step.ensures.only.found;
     }
 
 pub returns-in_default : goal.returns-in_default
@@ -294,15 +304,17 @@ returns-in_default g c =
           (λ bytes t. ap (λ (xs : List Step). of_lines (lines_of_steps v c.args.number s xs)) (over bytes t));
       claims = λ bytes t. sym (ap (after_steps v s) (over bytes t)) ∙ inv.claims bytes t;
       moves = inv.moves;
-      bound = omega (
-        arith,
-        seen_bound v c.args.workspace.now c.loop-next.workspace inv.ready.made inv.open_still
-            inv.moves,
-      );
-      ready = record {
-        ready = ready_walked c.args.geometry.now _ _ _ c.loop-next.workspace c.next.new.blocks inv.geometry ok
-            c.next.ensures.kept.size c.next.ensures.kept.holds inv.ready;
-        only_data = inv.area;
+      left = record {
+        bound = omega (
+          arith,
+          seen_bound v c.args.workspace.now c.loop-next.workspace inv.ready.made inv.open_still
+              inv.moves,
+        );
+        claim = record {
+          ready = ready_walked c.args.geometry.now _ _ _ c.loop-next.workspace c.next.new.blocks inv.geometry ok
+              c.next.ensures.kept.size c.next.ensures.kept.holds inv.ready;
+          only_data = inv.area;
+        };
+        found = found_still _ _ _ inv.found;
       };
-      found = found_still _ _ _ inv.found;
     }

@@ -8,6 +8,7 @@ use Rattle.ffs_volume.specs.Blocks.BlockCheck.{count_lines, owner_lines}
 use Rattle.ffs_volume.specs.Blocks.Claims.{Claims, lines_of_steps, after_steps}
 use Rattle.ffs_volume.proofs.Weights.{kept_bound}
 use Rattle.ffs_phase.proofs.Reporting.{of_part, of_fault, of_says, of_stops, of_begins, of_same}
+use Rattle.ffs_volume.specs.Blocks.ClaimBounds.{used_bits}
 use Rattle.ffs_workspace.specs.Holds.{claims_of}
 use Rattle.ffs_claims.specs.Lines.{of_lines, counted_owner, owner_with}
 use Rattle.ffs_claims.proofs.Inodes.{class_said, class_stopped, count_right, free_claims, free_silent}
@@ -22,11 +23,6 @@ returns-in_err-say_class-clause-text g c =
     rw (p.1, p.2) (class_stopped _ c.args.geometry.now.layout c.args.number c.args.inode.now
     (claims_of c.args.workspace.now) c.class_of-class.result _ _
     c.class_of-class.ensures c.in_err-say_class.ensures)
-
-pub returns-in_err-say_class-clause-bound : goal.returns-in_err-say_class-clause-bound
-returns-in_err-say_class-clause-bound g c =
-    let same = ap (λ w. w.runs_seen) c.begin.ensures in
-    omega (arith, same, used_below c.args.geometry.now.layout c.args.workspace.now c.requires.ready.ready.made)
 
 pub returns-in_err-claim-clause-text : goal.returns-in_err-claim-clause-text
 returns-in_err-claim-clause-text g c =
@@ -82,7 +78,7 @@ say_count-requires g c =
     let m = c.in_ok-claim.ensures.moves in
     let used : length (claims_of c.claim.new.workspace).used ≡ c.args.geometry.now.layout.size =
     length_bits c.claim.new.workspace.claimed.words.items c.claim.new.workspace.claimed.size
-    ∙ c.claim.ensures.ready.ready.made.claimed in
+    ∙ c.claim.ensures.left.claim.ready.made.claimed in
     let bad = ap (λ w. w.bad) c.begin.ensures in
     let dups = ap (λ w. w.dups) c.begin.ensures in
     let none = ap (λ w. w.kept) c.begin.ensures in
@@ -96,8 +92,8 @@ say_count-requires g c =
 pub claim-requires-clause-ready : goal.claim-requires-clause-ready
 claim-requires-clause-ready g c = record {
   ready = ready_begun c.args.geometry.now.layout (g.I.Image.device c.args.image.now)
-      c.args.workspace.now c.begin.new.workspace c.begin.ensures c.requires.ready.ready;
-  only_data = c.requires.ready.only_data;
+      c.args.workspace.now c.begin.new.workspace c.begin.ensures c.requires.ready.claim.ready;
+  only_data = c.requires.ready.claim.only_data;
 }
 
 pub claim-requires-clause-begun : goal.claim-requires-clause-begun
@@ -105,14 +101,12 @@ claim-requires-clause-begun g c = record {
   bad = ap (λ w. w.bad) c.begin.ensures;
   dups = ap (λ w. w.dups) c.begin.ensures;
   kept = ap (λ w. w.kept) c.begin.ensures;
+  runs = let same = ap (λ w. w.runs_seen) c.begin.ensures in omega (arith, same, c.requires.ready.runs);
 }
-
-pub claim-requires-clause-runs : goal.claim-requires-clause-runs
-claim-requires-clause-runs g c = let same = ap (λ w. w.runs_seen) c.begin.ensures in omega (arith, same)
 
 pub store-requires-2 : goal.store-requires-2
 store-requires-2 g c =
-    let made = c.claim.ensures.ready.ready.made in
+    let made = c.claim.ensures.left.claim.ready.made in
     record {
       number = record {
         kinds = omega (arith, made.kinds);
@@ -121,12 +115,23 @@ store-requires-2 g c =
       };
     }
 
-pub returns-in_err-say_class-clause-ready : goal.returns-in_err-say_class-clause-ready
-returns-in_err-say_class-clause-ready g c = record {
-  ready = ready_begun c.args.geometry.now.layout (g.I.Image.device c.args.image.now)
-      c.args.workspace.now c.begin.new.workspace c.begin.ensures c.requires.ready.ready;
-  only_data = c.requires.ready.only_data;
-}
+pub returns-in_err-say_class-clause-left : goal.returns-in_err-say_class-clause-left
+returns-in_err-say_class-clause-left g c =
+    let same = ap (λ w. w.runs_seen) c.begin.ensures in
+    record {
+      bound = omega (
+        arith,
+        same,
+        used_below c.args.geometry.now.layout c.args.workspace.now
+            c.requires.ready.claim.ready.made,
+      );
+      again = ap (λ w. w.runs_again) c.begin.ensures;
+      claim = record {
+        ready = ready_begun c.args.geometry.now.layout (g.I.Image.device c.args.image.now)
+            c.args.workspace.now c.begin.new.workspace c.begin.ensures c.requires.ready.claim.ready;
+        only_data = c.requires.ready.claim.only_data;
+      };
+    }
 
 pub returns-clause-claims : goal.returns-clause-claims
 returns-clause-claims g c = λ bytes t.
@@ -134,17 +139,46 @@ returns-clause-claims g c = λ bytes t.
     ∙ ap (λ (s : Claims). after_steps c.args.geometry.now.layout s
     (steps_of c.args.geometry.now.layout c.args.inode.now bytes)) (ap claims_of c.begin.ensures)
 
-pub returns-clause-ready : goal.returns-clause-ready
-returns-clause-ready g c = record {
-  ready = ready_stored c.args.geometry.now.layout (g.I.Image.device c.claim.new.image) c.args.number _ _
-      c.claim.new.workspace c.store-2.new.workspace c.store-2.ensures.stored c.store-2.ensures.rest
-      c.claim.ensures.ready.ready;
-  only_data = c.claim.ensures.ready.only_data;
-}
+pub returns-in_err-claim-clause-left : goal.returns-in_err-claim-clause-left
+returns-in_err-claim-clause-left g c =
+    let begun = ap (λ w. w.runs_seen) c.begin.ensures in
+    let claims = ap (λ w. used_bits (claims_of w)) c.begin.ensures in
+    record {
+      bound = omega (arith, begun, claims, c.claim.ensures.left.bound);
+      again = c.claim.ensures.left.found.again ∙ ap (λ w. w.runs_again) c.begin.ensures;
+      claim = c.claim.ensures.left.claim;
+    }
+
+pub returns-in_err-say_count-clause-left : goal.returns-in_err-say_count-clause-left
+returns-in_err-say_count-clause-left g c =
+    let begun = ap (λ w. w.runs_seen) c.begin.ensures in
+    let claims = ap (λ w. used_bits (claims_of w)) c.begin.ensures in
+    record {
+      bound = omega (arith, begun, claims, c.claim.ensures.left.bound);
+      again = c.claim.ensures.left.found.again ∙ ap (λ w. w.runs_again) c.begin.ensures;
+      claim = c.claim.ensures.left.claim;
+    }
+
+pub returns-clause-left : goal.returns-clause-left
+returns-clause-left g c =
+    let begun = ap (λ w. w.runs_seen) c.begin.ensures in
+    let claims = ap (λ w. used_bits (claims_of w)) c.begin.ensures in
+    let stored = ap (λ w. w.runs_seen) c.store-2.ensures.rest in
+    record {
+      bound = omega (arith, begun, claims, stored, c.claim.ensures.left.bound);
+      again = ap (λ w. w.runs_again) c.store-2.ensures.rest ∙ c.claim.ensures.left.found.again
+          ∙ ap (λ w. w.runs_again) c.begin.ensures;
+      claim = record {
+        ready = ready_stored c.args.geometry.now.layout (g.I.Image.device c.claim.new.image) c.args.number _ _
+            c.claim.new.workspace c.store-2.new.workspace c.store-2.ensures.stored c.store-2.ensures.rest
+            c.claim.ensures.left.claim.ready;
+        only_data = c.claim.ensures.left.claim.only_data;
+      };
+    }
 
 pub store-requires : goal.store-requires
 store-requires g c =
-    let made = c.requires.ready.ready.made in
+    let made = c.requires.ready.claim.ready.made in
     let kinds = ap (λ w. vec_len w.kinds) c.begin.ensures in
     let marked = ap (λ w. vec_len w.marked) c.begin.ensures in
     let cut = ap (λ w. vec_len w.cut) c.begin.ensures in
@@ -180,18 +214,25 @@ returns-then-matches-clause-claims g c =
     ∙ sym (free_claims v c.args.number c.args.inode.now (claims_of c.args.workspace.now) bytes
     (sym c.class_of-class.ensures ∙ is_free))
 
-pub returns-then-matches-clause-ready : goal.returns-then-matches-clause-ready
-returns-then-matches-clause-ready g c = record {
-  ready = ready_stored c.args.geometry.now.layout (g.I.Image.device c.args.image.now) c.args.number _ _
-      c.begin.new.workspace c.store.new.workspace c.store.ensures.stored
-      c.store.ensures.rest
-      (ready_begun c.args.geometry.now.layout (g.I.Image.device c.args.image.now)
-      c.args.workspace.now c.begin.new.workspace c.begin.ensures c.requires.ready.ready);
-  only_data = c.requires.ready.only_data;
-}
-
-pub returns-then-matches-clause-bound : goal.returns-then-matches-clause-bound
-returns-then-matches-clause-bound g c =
+pub returns-then-matches-clause-left : goal.returns-then-matches-clause-left
+returns-then-matches-clause-left g c =
     let begun = ap (λ w. w.runs_seen) c.begin.ensures in
     let same = ap (λ w. w.runs_seen) c.store.ensures.rest in
-    omega (arith, begun, same, used_below c.args.geometry.now.layout c.args.workspace.now c.requires.ready.ready.made)
+    record {
+      bound = omega (
+        arith,
+        begun,
+        same,
+        used_below c.args.geometry.now.layout c.args.workspace.now
+            c.requires.ready.claim.ready.made,
+      );
+      again = ap (λ w. w.runs_again) c.store.ensures.rest ∙ ap (λ w. w.runs_again) c.begin.ensures;
+      claim = record {
+        ready = ready_stored c.args.geometry.now.layout (g.I.Image.device c.args.image.now) c.args.number _ _
+            c.begin.new.workspace c.store.new.workspace c.store.ensures.stored
+            c.store.ensures.rest
+            (ready_begun c.args.geometry.now.layout (g.I.Image.device c.args.image.now)
+            c.args.workspace.now c.begin.new.workspace c.begin.ensures c.requires.ready.claim.ready);
+        only_data = c.requires.ready.claim.only_data;
+      };
+    }

@@ -60,17 +60,23 @@ loop-number-init g c =
           c.in_ok-say.ensures.said;
     }
 
-pub claim_inode-requires-clause-runs : goal.claim_inode-requires-clause-runs
-claim_inode-requires-clause-runs g c =
+pub claim_inode-requires : goal.claim_inode-requires
+claim_inode-requires g c =
     let inv = c.loop-number.invariant in
-    omega (
-      arith,
-      inv.runs,
-      c.args.geometry.now.sound.numbers.inodes_below,
-      c.args.geometry.now.sound.numbers.size_below,
-      c.loop-number-test.true,
-      used_below c.args.geometry.now.layout c.loop-number.workspace inv.ready.ready.made,
-    )
+    record {
+      ready = record {
+        claim = inv.ready;
+        number_fits = omega (arith, c.loop-number-test.true);
+        runs = omega (
+          arith,
+          inv.runs,
+          c.args.geometry.now.sound.numbers.inodes_below,
+          c.args.geometry.now.sound.numbers.size_below,
+          c.loop-number-test.true,
+          used_below c.args.geometry.now.layout c.loop-number.workspace inv.ready.ready.made,
+        );
+      };
+    }
 
 pub returns-in_err-claim_inode-clause-text : goal.returns-in_err-claim_inode-clause-text
 returns-in_err-claim_inode-clause-text g c =
@@ -91,7 +97,7 @@ returns-in_err-claim_inode-clause-text g c =
 pub returns-in_err-claim_inode-clause-runs : goal.returns-in_err-claim_inode-clause-runs
 returns-in_err-claim_inode-clause-runs g c =
     let inv = c.loop-number.invariant in
-    omega (arith, inv.runs, inv.low, c.claim_inode.ensures.bound, c.loop-number-test.true)
+    omega (arith, inv.runs, inv.low, c.claim_inode.ensures.left.bound, c.loop-number-test.true)
 
 pub loop-number-preserved : goal.loop-number-preserved
 loop-number-preserved g c =
@@ -106,12 +112,12 @@ loop-number-preserved g c =
     let now = c.in_ok-claim_inode.ensures.claims in
     let stored = c.in_ok-claim_inode.ensures.stored in
     record {
-      ready = c.claim_inode.ensures.ready;
+      ready = c.claim_inode.ensures.left.claim;
       device = c.in_ok-claim_inode.ensures.image ∙ inv.device;
       low = omega arith;
       high = λ h. omega arith;
       runs = omega (arith, inv.runs, inv.low, c.in_ok-claim_inode.ensures.moves);
-      again = c.claim_inode.ensures.again ∙ inv.again;
+      again = c.claim_inode.ensures.left.again ∙ inv.again;
       claims = λ bytes k. now bytes (contents ∙ k.0)
           ∙ ap (λ (t : Claims). after_owner v t (owner_of v bytes n)) (inv.claims bytes k)
           ∙ sym (before_next v bytes n inv.low);
