@@ -1,6 +1,6 @@
 -- How offers, steps and inodes continue.
 use Rattle.std.proofs.Common.{◌≡◌, ℕ, zero, suc, ◌+◌, ◌-◌, ◌<◌, ◌≤◌, nat_lt, Bool, true, false, ◌==◌, List, [], ◌∷◌}
-use Rattle.std.proofs.Common.{◌++◌, arith, rules, refl, ap, ◌∙◌, sym, Result, slice_set, replicate}
+use Rattle.std.proofs.Common.{◌++◌, arith, rules, refl, ap, ◌∙◌, sym, slice_set, replicate}
 use Rattle.std.specs.List.{range_with_len, slice_index_or}
 use Rattle.std.proofs.lemmas.Bool.{and_parts}
 use Rattle.ffs_volume.specs.declared.Layout.{Layout}
@@ -14,8 +14,8 @@ use Rattle.ffs_volume.specs.Blocks.Claims.{Claims, is_open, is_set, after_offer,
 use Rattle.ffs_volume.specs.Blocks.Claims.{offer_lines, lines_of_offers, step_lines, lines_of_steps, run_lines}
 use Rattle.ffs_volume.proofs.Weights.{ok_below}
 use Rattle.ffs_volume.specs.Messages.Kinds.{Message, of_blocks}
-use Rattle.ffs_report.specs.Progress.{Progress, Said, Stopped, Says}
-use Rattle.ffs_report.proofs.Reports.{stopped_more, says_then}
+use Rattle.ffs_report.specs.Progress.{Progress, Said, Stopped}
+use Rattle.ffs_report.proofs.Reports.{stopped_more, said_then, stopped_after}
 use Rattle.ffs_phase.specs.Known.{ForBytes}
 use Rattle.ffs_phase.specs.Runs.{SaidOf, SaidTo}
 use Rattle.ffs_phase.proofs.Reporting.{of_says, of_same}
@@ -115,14 +115,22 @@ run_stops v inode s start len a b h p = one (s.bad == 10) refl p
     one false e q = rw (further v inode s start len h e)
         (stopped_more a b (of_lines (bad_lines inode start false)) (of_lines (bad_rest v inode s start len)) q)
 
-pub run_says : {T E : Type 0} (v : Layout) (inode : ℕ) (s : Claims) (start len : ℕ) (a b c : Progress) (r : Result T E)
-    →
+-- a Run that is bad, and isn't the eleventh one: its first lines were said, and its offers then
+pub run_said : (v : Layout) (inode : ℕ) (s : Claims) (start len : ℕ) (a b c : Progress) →
     is_run_in_range v start len ≡ false → (s.bad == 10) ≡ false →
-    Said a b (of_lines (bad_lines inode start (s.bad == 10))) →
-    Says b c (of_lines (bad_rest v inode s start len)) r → Says a c (of_lines (run_lines v inode s start len)) r
-run_says v inode s start len a b c r h few p q =
+    Said a b (of_lines (bad_lines inode start (s.bad == 10))) → Said b c (of_lines (bad_rest v inode s start len)) →
+    Said a c (of_lines (run_lines v inode s start len))
+run_said v inode s start len a b c h few p q =
     rw (further v inode s start len h few)
-    (says_then a b c (of_lines (bad_lines inode start false)) (of_lines (bad_rest v inode s start len)) r (rw few at p)
+    (said_then a b c (of_lines (bad_lines inode start false)) (of_lines (bad_rest v inode s start len)) (rw few at p) q)
+
+pub run_stops_later : (v : Layout) (inode : ℕ) (s : Claims) (start len : ℕ) (a b c : Progress) →
+    is_run_in_range v start len ≡ false → (s.bad == 10) ≡ false →
+    Said a b (of_lines (bad_lines inode start (s.bad == 10))) → Stopped b c (of_lines (bad_rest v inode s start len)) →
+    Stopped a c (of_lines (run_lines v inode s start len))
+run_stops_later v inode s start len a b c h few p q =
+    rw (further v inode s start len h few)
+    (stopped_after a b c (of_lines (bad_lines inode start false)) (of_lines (bad_rest v inode s start len)) (rw few at p)
     q)
 
 -- the next step of a walk is taken, and what is to come has another form

@@ -1,8 +1,9 @@
 -- How an inode's part of the block check continues.
 use Rattle.std.specs.Prelude.{OnOk}
-use Rattle.std.proofs.Common.{◌≡◌, ℕ, List, [], ◌++◌, append-nil, Option, Result, Ok, Err, ap, ◌∙◌, sym}
+use Rattle.std.proofs.Common.{◌≡◌, ℕ, List, [], ◌++◌, append-nil, Option, Result, Ok, Err, ap, ◌∙◌, sym, refl}
 use Rattle.ffs_volume.specs.declared.Layout.{Layout}
 use Rattle.ffs_volume.specs.declared.Class.{Class}
+use Rattle.ffs_volume.specs.declared.Class.TheVariants.{Free}
 use Rattle.ffs_volume.specs.declared.Inode.{Inode}
 use Rattle.ffs_volume.specs.Blocks.Inodes.{class_of, inode_of}
 use Rattle.ffs_volume.specs.Blocks.Steps.{steps_of}
@@ -15,7 +16,7 @@ use Rattle.ffs_phase.specs.Known.{ForBytes, IsContents}
 use Rattle.ffs_phase.specs.Runs.{SaidOf, StoppedOf}
 use Rattle.ffs_phase.proofs.Reporting.{of_begins, of_says, of_stops}
 use Rattle.ffs_claims.specs.Lines.{of_lines, owner_with, counted_owner}
-use Rattle.ffs_claims.proofs.Goes.{lines_append}
+use Rattle.ffs_claims.proofs.Goes.{lines_append, no_steps}
 
 -- the lines of an inode's steps and of its count, once its class is reported
 abbrev pub rest_lines : Layout → ℕ → Inode → Class → Claims → List ℕ → List Message
@@ -80,3 +81,16 @@ pub ok_where : {T E : Type 0} (r : Result T E) (contents contents' : Option (Lis
     OnOk r (ForBytes (IsContents contents) Q)
 ok_where (Ok x) contents contents' P Q e more h = λ bytes t. more bytes t (h bytes (e ∙ t))
 ok_where (Err x) contents contents' P Q e more h = h
+
+-- a free inode has no steps
+free_steps : (v : Layout) (i : Inode) (bytes : List ℕ) → class_of v i ≡ Free → steps_of v i bytes ≡ []
+free_steps v i bytes h = no_steps v i bytes (rw h refl)
+
+-- it claims nothing, and nothing is reported of it
+pub free_claims : (v : Layout) (number : ℕ) (i : Inode) (s : Claims) (bytes : List ℕ) → class_of v i ≡ Free →
+    after_owner v s (owner_with v bytes number i) ≡ next_inode s
+free_claims v number i s bytes h = ap (after_steps v (next_inode s)) (free_steps v i bytes h)
+
+pub free_silent : (v : Layout) (number : ℕ) (i : Inode) (s : Claims) (bytes : List ℕ) → class_of v i ≡ Free →
+    owner_lines v s (owner_with v bytes number i) ≡ []
+free_silent v number i s bytes h = rw (h, free_steps v i bytes h) refl

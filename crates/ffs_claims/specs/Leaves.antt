@@ -1,9 +1,10 @@
 -- What calls leave of a workspace as it was.
-use Rattle.std.specs.Prelude.{◌≡◌, ◌<◌, ◌||◌, ℕ, min, slice_set, vec_len}
+use Rattle.std.specs.Prelude.{◌≡◌, ◌+◌, ◌<◌, ◌≤◌, ◌^◌, ◌||◌, ℕ, Bool, min, slice_set, vec_len}
 use Rattle.ffs_volume.specs.declared.Layout.{Layout}
 use Rattle.ffs_volume.specs.declared.Class.{Class}
 use Rattle.ffs_volume.specs.declared.Inode.{Inode}
 use Rattle.ffs_volume.specs.Blocks.Inodes.{is_unknown}
+use Rattle.ffs_volume.specs.Blocks.Claims.{Claims, is_open}
 use Rattle.ffs_volume.specs.Encodings.Replay.{cut_of}
 use Rattle.ffs_workspace.specs.declared.workspace.Workspace.{Workspace}
 use Rattle.ffs_volume.specs.Encodings.Kinds.{kind_of}
@@ -11,11 +12,22 @@ use Rattle.ffs_volume.specs.Encodings.Links.{start_of}
 use Rattle.ffs_workspace.specs.Holds.{claims_of, has_blame}
 use Rattle.ffs_workspace.specs.Lengths.{IsFor}
 
--- the current inode has no bad Run, no dup offer and no kept one yet
+-- the current inode has no bad Run, no dup offer and no kept one yet, and there is room to count its Runs
 pub record HasBegun (w : Workspace) : Type 0 where
   pub bad : w.bad ≡ 0
   pub dups : w.dups ≡ 0
   pub kept : w.kept ≡ 0
+  pub runs : w.runs_seen < 2 ^ 61
+
+-- the workspace was made for the volume, and the current inode can keep so many offers more
+pub record HasRoom (v : Layout) (w : Workspace) (more : ℕ) : Type 0 where
+  pub made : IsFor v w
+  pub room : w.kept + more ≤ 2 ^ 63
+
+-- the claims are these, and the answer is whether the inode's next step is seen
+pub record AreClaims (w : Workspace) (claims : Claims) (seen : Bool) : Type 0 where
+  pub claims_are : claims_of w ≡ claims
+  pub uncut : seen ≡ is_open (claims_of w)
 
 -- what was found of inodes is as it was, and the Runs of phase 1b
 pub record SameFound (old new : Workspace) : Type 0 where

@@ -1,5 +1,5 @@
 -- What phase 1b has reported, and what it leaves to report.
-use Rattle.std.specs.Prelude.{◌≡◌, ℕ, Bool, false, ◌||◌, if◌then◌else◌, List, [], ◌∷◌, slice_set}
+use Rattle.std.specs.Prelude.{◌≡◌, ◌≢◌, ◌<◌, ℕ, Bool, false, ◌||◌, if◌then◌else◌, List, [], ◌∷◌, slice_set}
 use Rattle.std.specs.List.{list_any}
 use Rattle.ffs_volume.specs.declared.Layout.{Layout}
 use Rattle.ffs_volume.specs.Blocks.Claims.{is_set}
@@ -7,7 +7,9 @@ use Rattle.ffs_volume.specs.Blocks.BlockCheck.{Offer, blames, first_offer_lines}
 use Rattle.ffs_maps.specs.Bits.{bits_of}
 use Rattle.ffs_workspace.specs.declared.workspace.Workspace.{Workspace}
 use Rattle.ffs_workspace.specs.Holds.{bool_at}
-use Rattle.ffs_workspace.specs.Lengths.{IsFor}
+use Rattle.ffs_image.specs.Device.{Device}
+use Rattle.ffs_workspace.specs.Lengths.{IsFor, inodes_of}
+use Rattle.ffs_workspace.specs.Ready.{IsReady}
 
 -- the fragments whose first claim is still to be reported, after some offers
 abbrev pub after_first : List Bool → List Offer → List Bool
@@ -40,3 +42,19 @@ pub record ReportsOnly (v : Layout) (old new : Workspace) : Type 0 where
 pub record OffersReportedOnly (v : Layout) (old new : Workspace) : Type 0 where
   pub reporting : ReportsOnly v old new
   pub runs : new.runs_again ≡ old.runs_again
+
+-- first claims can be reported of an inode: the workspace was made for the volume, and the inode has a number
+pub record CanReport (v : Layout) (w : Workspace) (number : ℕ) : Type 0 where
+  pub made : IsFor v w
+  pub number_fits : number < inodes_of v
+
+-- an inode can be walked over again: the workspace is ready, it has a number, and something is to be reported still
+pub record CanRewalk (v : Layout) (d : Device) (w : Workspace) (number : ℕ) : Type 0 where
+  pub ready : IsReady v d w
+  pub number_fits : number < inodes_of v
+  pub pending : w.unreported ≢ 0
+
+-- what walking over an inode again leaves: a workspace that is ready, with the claims as they were
+pub record RewalkLeaves (v : Layout) (d : Device) (old new : Workspace) : Type 0 where
+  pub ready : IsReady v d new
+  pub claims : SameClaims old new

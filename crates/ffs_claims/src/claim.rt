@@ -1,6 +1,6 @@
 //! What an inode claims, and what is reported of it.
 
-ghost use Rattle.std.specs.Prelude.{◌≡◌, ◌+◌, ◌<◌, ◌≤◌, ◌^◌, OnOk};
+ghost use Rattle.std.specs.Prelude.{◌≡◌, ◌+◌, ◌≤◌, OnOk};
 ghost use Rattle.ffs_report.specs.Progress.{progress};
 ghost use Rattle.ffs_phase.specs.Known.{ForBytes, IsContents};
 ghost use Rattle.ffs_phase.specs.Runs.{ImageAfter, PhaseReports};
@@ -13,13 +13,12 @@ ghost use Rattle.ffs_volume.specs.Blocks.Claims.{after_owner, after_steps, lines
 ghost use Rattle.ffs_volume.specs.Blocks.ClaimBounds.{ClaimBound, used_bits};
 ghost use Rattle.ffs_volume.specs.Blocks.BlockCheck.{owner_lines};
 ghost use Rattle.ffs_workspace.specs.Holds.{claims_of};
-ghost use Rattle.ffs_workspace.specs.Lengths.{inodes_of};
-ghost use Rattle.ffs_workspace.specs.Ready.{IsReady};
-ghost use Rattle.ffs_claims.specs.Leaves.{HasBegun, SameFound, Stored};
+ghost use Rattle.ffs_claims.specs.Area.{CanClaim, CanClaimInode, InodeLeaves, StepsLeave};
+ghost use Rattle.ffs_claims.specs.Leaves.{HasBegun, Stored};
 ghost use Rattle.ffs_claims.specs.Lines.{of_lines, owner_with};
 
 use crate::area::DataArea;
-use crate::offer::{is_open, step};
+use crate::offer::step;
 use crate::store::{begin, say_class, say_count, store};
 use ffs_image::Image;
 use ffs_layout::Geometry;
@@ -34,6 +33,7 @@ use ffs_workspace::Workspace;
 fn claim<I: Image, W: Output>(
     workspace: &mut Workspace,
     geometry: &Geometry,
+    area: &mut DataArea,
     number: u32,
     inode: &Inode,
     class: Class,
@@ -41,9 +41,8 @@ fn claim<I: Image, W: Output>(
     report: &mut Report<'_, W>,
 ) -> Result<(), RunFault>
     requires class { class ≡ inodes.class_of geometry.now.layout inode.now }
-    requires ready { IsReady geometry.now.layout (I.device image.old) workspace.old }
+    requires ready { CanClaim geometry.now.layout (I.device image.old) workspace.old area.old }
     requires begun { HasBegun workspace.old }
-    requires runs { workspace.old.runs_seen < 2 ^ 61 }
     ensures image { ImageAfter (I.device image.old) (I.device image.new) result }
     ensures text { PhaseReports (IsContents (I.device image.old).contents)
         (λ bytes. of_lines (lines_of_steps geometry.now.layout number (claims_of workspace.old)
@@ -53,23 +52,26 @@ fn claim<I: Image, W: Output>(
         claims_of workspace.new ≡ after_steps geometry.now.layout (claims_of workspace.old)
         (steps_of geometry.now.layout inode.now bytes))) }
     ensures moves { OnOk result (ClaimBound (claims_of workspace.old) (claims_of workspace.new)) }
-    ensures bound { workspace.new.runs_seen + used_bits (claims_of workspace.old)
-        ≤ workspace.old.runs_seen + geometry.now.layout.size + 22 }
-    ensures ready { IsReady geometry.now.layout (I.device image.new) workspace.new }
-    ensures found { SameFound workspace.old workspace.new }
+    ensures left { StepsLeave geometry.now.layout (I.device image.new) workspace.old workspace.new
+        area.new }
 {
     if !has_steps(geometry, inode, class) {
         return Ok(());
     }
     let mut walk = Walk::of_class(geometry, inode, class);
-    let mut area = DataArea::empty();
+    let mut after_gap = false;
     while let Some(next) = walk.next(image, &mut workspace.windows.blocks)? {
-        step(workspace, geometry, &mut area, number, next, report)?;
-        if !is_open(workspace) {
-            break;
-        }
         if matches!(next, Step::Gap) {
-            walk.skip_gaps(&workspace.windows.blocks);
+            if after_gap {
+                walk.skip_gaps(&workspace.windows.blocks);
+            }
+            after_gap = true;
+            continue;
+        }
+        after_gap = false;
+        let seen = step(workspace, geometry, area, number, next, report)?;
+        if !seen {
+            break;
         }
     }
     Ok(())
@@ -79,14 +81,14 @@ fn claim<I: Image, W: Output>(
 fn claim_read_inode<I: Image, W: Output>(
     workspace: &mut Workspace,
     geometry: &Geometry,
+    area: &mut DataArea,
     number: u32,
     inode: &Inode,
     image: &mut I,
     report: &mut Report<'_, W>,
 ) -> Result<(), RunFault>
-    requires ready { IsReady geometry.now.layout (I.device image.old) workspace.old }
-    requires number { number < inodes_of geometry.now.layout }
-    requires runs { workspace.old.runs_seen < 2 ^ 40 }
+    requires ready { CanClaimInode geometry.now.layout (I.device image.old) workspace.old area.old
+        number }
     ensures image { ImageAfter (I.device image.old) (I.device image.new) result }
     ensures text { PhaseReports (IsContents (I.device image.old).contents)
         (λ bytes. of_lines (owner_lines geometry.now.layout (claims_of workspace.old)
@@ -99,15 +101,19 @@ fn claim_read_inode<I: Image, W: Output>(
         inode.now workspace.old workspace.new) }
     ensures moves { OnOk result (workspace.new.runs_seen + used_bits (claims_of workspace.old)
         ≤ workspace.old.runs_seen + used_bits (claims_of workspace.new) + 22) }
-    ensures bound { workspace.new.runs_seen + used_bits (claims_of workspace.old)
-        ≤ workspace.old.runs_seen + geometry.now.layout.size + 22 }
-    ensures again { workspace.new.runs_again ≡ workspace.old.runs_again }
-    ensures ready { IsReady geometry.now.layout (I.device image.new) workspace.new }
+    ensures left { InodeLeaves geometry.now.layout (I.device image.new) workspace.old workspace.new
+        area.new }
 {
     let class = class_of(geometry, inode);
     begin(workspace);
+    if matches!(class, Class::Free) {
+        store(workspace, number, class, inode);
+        return Ok(());
+    }
     say_class(report, number, class)?;
-    claim(workspace, geometry, number, inode, class, image, report)?;
+    claim(
+        workspace, geometry, area, number, inode, class, image, report,
+    )?;
     say_count(workspace, geometry, number, class, inode.blocks, report)?;
     store(workspace, number, class, inode);
     Ok(())
@@ -117,13 +123,13 @@ fn claim_read_inode<I: Image, W: Output>(
 pub fn claim_inode<I: Image, W: Output>(
     workspace: &mut Workspace,
     geometry: &Geometry,
+    area: &mut DataArea,
     number: u32,
     image: &mut I,
     report: &mut Report<'_, W>,
 ) -> Result<(), RunFault>
-    requires ready { IsReady geometry.now.layout (I.device image.old) workspace.old }
-    requires number { number < inodes_of geometry.now.layout }
-    requires runs { workspace.old.runs_seen < 2 ^ 40 }
+    requires ready { CanClaimInode geometry.now.layout (I.device image.old) workspace.old area.old
+        number }
     ensures image { ImageAfter (I.device image.old) (I.device image.new) result }
     ensures text { PhaseReports (IsContents (I.device image.old).contents)
         (λ bytes. of_lines (owner_lines geometry.now.layout (claims_of workspace.old)
@@ -138,11 +144,9 @@ pub fn claim_inode<I: Image, W: Output>(
         workspace.old workspace.new)) }
     ensures moves { OnOk result (workspace.new.runs_seen + used_bits (claims_of workspace.old)
         ≤ workspace.old.runs_seen + used_bits (claims_of workspace.new) + 22) }
-    ensures bound { workspace.new.runs_seen + used_bits (claims_of workspace.old)
-        ≤ workspace.old.runs_seen + geometry.now.layout.size + 22 }
-    ensures again { workspace.new.runs_again ≡ workspace.old.runs_again }
-    ensures ready { IsReady geometry.now.layout (I.device image.new) workspace.new }
+    ensures left { InodeLeaves geometry.now.layout (I.device image.new) workspace.old workspace.new
+        area.new }
 {
     let inode = workspace.windows.table.inode(geometry, number, image)?;
-    claim_read_inode(workspace, geometry, number, &inode, image, report)
+    claim_read_inode(workspace, geometry, area, number, &inode, image, report)
 }

@@ -13,6 +13,7 @@ ghost use Rattle.ffs_workspace.specs.Holds.{IsFresh, HoldsPhase1};
 ghost use Rattle.ffs_workspace.specs.Ready.{IsReady};
 ghost use Rattle.ffs_claims.specs.Lines.{of_lines};
 
+use crate::area::DataArea;
 use crate::claim::claim_inode;
 use crate::reserve::reserve;
 use ffs_image::Image;
@@ -55,10 +56,11 @@ pub fn phase1<I: Image, W: Output>(
     ensures again { workspace.new.runs_again ≡ workspace.old.runs_again }
     ensures ready { IsReady geometry.now.layout (I.device image.new) workspace.new }
 {
+    let mut area = DataArea::empty();
     reserve(workspace, geometry);
     report.say(&Line::Heading(Heading::Phase1))?;
     for number in 2..geometry.layout.ncg * geometry.layout.ipg {
-        claim_inode(workspace, geometry, number, image, report)?;
+        claim_inode(workspace, geometry, &mut area, number, image, report)?;
     }
     Ok(())
 }

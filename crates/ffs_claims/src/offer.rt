@@ -1,6 +1,6 @@
 //! The offers of Runs, and what is reported of them.
 
-ghost use Rattle.std.specs.Prelude.{◌≡◌, ◌+◌, ◌<◌, ◌≤◌, ◌^◌, OnOk, true};
+ghost use Rattle.std.specs.Prelude.{◌≡◌, ◌+◌, ◌<◌, ◌≤◌, OnOk, IfOk, true};
 ghost use Rattle.std.specs.List.{range_with_len};
 ghost use Rattle.ffs_volume.specs.Disk.Areas.{is_run_in_range};
 ghost use Rattle.ffs_volume.specs.Blocks.Lengths.{HasLength};
@@ -8,10 +8,9 @@ ghost use Rattle.ffs_volume.specs.Blocks.Claims as claims;
 ghost use Rattle.ffs_volume.specs.Blocks.Claims.{after_offer, after_offers, after_run, after_step, offer_lines, lines_of_offers, run_lines, step_lines};
 ghost use Rattle.ffs_report.specs.Progress.{progress, Says};
 ghost use Rattle.ffs_workspace.specs.Holds.{claims_of};
-ghost use Rattle.ffs_workspace.specs.Lengths.{IsFor};
-ghost use Rattle.ffs_claims.specs.Leaves.{ClaimsOnly, OffersOnly};
+ghost use Rattle.ffs_claims.specs.Leaves.{AreClaims, HasRoom, OffersOnly};
 ghost use Rattle.ffs_claims.specs.Lines.{of_lines, is_dup, dup_lines, bad_lines};
-ghost use Rattle.ffs_claims.specs.Area.{IsDataArea};
+ghost use Rattle.ffs_claims.specs.Area.{ClaimsInArea, SeesNext};
 
 use crate::area::DataArea;
 use ffs_layout::Geometry;
@@ -62,8 +61,7 @@ fn say_bad<W: Output>(
 /// Takes an offer, and says whether it is dup.
 #[tactic(auto, using(ffs_volume::proofs::Weights::ok_below))]
 fn take(workspace: &mut Workspace, geometry: &Geometry, fragment: u64) -> bool
-    requires made { IsFor geometry.now.layout workspace.old }
-    requires room { workspace.old.kept < 2 ^ 63 }
+    requires room { HasRoom geometry.now.layout workspace.old 1 }
     ensures claims { claims_of workspace.new
         ≡ after_offer geometry.now.layout (claims_of workspace.old) fragment }
     ensures dup { result ≡ is_dup geometry.now.layout (claims_of workspace.old) fragment }
@@ -98,8 +96,7 @@ fn offer<W: Output>(
     fragment: u64,
     report: &mut Report<'_, W>,
 ) -> Result<(), OutFault>
-    requires made { IsFor geometry.now.layout workspace.old }
-    requires room { workspace.old.kept < 2 ^ 63 }
+    requires room { HasRoom geometry.now.layout workspace.old 1 }
     ensures said { Says (progress W.sink report.old) (progress W.sink report.new)
         (of_lines (offer_lines geometry.now.layout number (claims_of workspace.old) fragment))
         result }
@@ -123,8 +120,7 @@ fn offers<W: Output>(
     len: u32,
     report: &mut Report<'_, W>,
 ) -> Result<(), OutFault>
-    requires made { IsFor geometry.now.layout workspace.old }
-    requires room { workspace.old.kept + len < 2 ^ 63 }
+    requires room { HasRoom geometry.now.layout workspace.old len }
     ensures said { Says (progress W.sink report.old) (progress W.sink report.new)
         (of_lines (lines_of_offers geometry.now.layout number (claims_of workspace.old)
         (range_with_len start len))) result }
@@ -144,7 +140,7 @@ fn offers<W: Output>(
     Ok(())
 }
 
-/// A Run in range of the current inode: claimed at once where its fragments are all unclaimed and lie in one word of the map.
+/// A Run in range of the current inode, and whether the next step is seen: claimed at once where its fragments are all unclaimed and lie in one word of the map.
 fn run_in_range<W: Output>(
     workspace: &mut Workspace,
     geometry: &Geometry,
@@ -152,27 +148,27 @@ fn run_in_range<W: Output>(
     start: u32,
     len: u32,
     report: &mut Report<'_, W>,
-) -> Result<(), OutFault>
-    requires made { IsFor geometry.now.layout workspace.old }
+) -> Result<bool, OutFault>
+    requires room { HasRoom geometry.now.layout workspace.old len }
     requires some { 0 < len }
     requires in_range { is_run_in_range geometry.now.layout start len ≡ true }
-    requires room { workspace.old.kept < 2 ^ 62 }
-    requires dups { workspace.old.dups < 11 }
+    requires open { claims.is_open (claims_of workspace.old) ≡ true }
     ensures said { Says (progress W.sink report.old) (progress W.sink report.new)
         (of_lines (lines_of_offers geometry.now.layout number (claims_of workspace.old)
         (range_with_len start len))) result }
-    ensures claims { OnOk result (claims_of workspace.new
-        ≡ after_offers geometry.now.layout (claims_of workspace.old) (range_with_len start len)) }
+    ensures claims { IfOk result (AreClaims workspace.new
+        (after_offers geometry.now.layout (claims_of workspace.old) (range_with_len start len))) }
     ensures only { OffersOnly geometry.now.layout workspace.old workspace.new }
 {
     if workspace.claimed.claim(start, len) {
         workspace.kept += u64::from(len);
-        return Ok(());
+        return Ok(true);
     }
-    offers(workspace, geometry, number, start, len, report)
+    offers(workspace, geometry, number, start, len, report)?;
+    Ok(is_open(workspace))
 }
 
-/// A Run of the current inode.
+/// A Run of the current inode, and whether the next step is seen.
 fn run<W: Output>(
     workspace: &mut Workspace,
     geometry: &Geometry,
@@ -181,22 +177,16 @@ fn run<W: Output>(
     start: u32,
     len: u32,
     report: &mut Report<'_, W>,
-) -> Result<(), OutFault>
-    requires made { IsFor geometry.now.layout workspace.old }
-    requires area { IsDataArea geometry.now.layout area.old }
+) -> Result<bool, OutFault>
+    requires next { SeesNext geometry.now.layout workspace.old area.old }
     requires some { 0 < len }
-    requires room { workspace.old.kept < 2 ^ 62 }
-    requires runs { workspace.old.runs_seen < 2 ^ 62 }
-    requires bad { workspace.old.bad < 11 }
-    requires dups { workspace.old.dups < 11 }
     ensures said { Says (progress W.sink report.old) (progress W.sink report.new)
         (of_lines (run_lines geometry.now.layout number (claims_of workspace.old) start len))
         result }
-    ensures claims { OnOk result (claims_of workspace.new
-        ≡ after_run geometry.now.layout (claims_of workspace.old) start len) }
+    ensures claims { IfOk result (AreClaims workspace.new
+        (after_run geometry.now.layout (claims_of workspace.old) start len)) }
     ensures runs { workspace.new.runs_seen ≡ workspace.old.runs_seen + 1 }
-    ensures area { IsDataArea geometry.now.layout area.new }
-    ensures only { ClaimsOnly geometry.now.layout workspace.old workspace.new }
+    ensures left { ClaimsInArea geometry.now.layout workspace.old workspace.new area.new }
 {
     workspace.runs_seen += 1;
     if area.in_range(geometry, start, len) {
@@ -206,12 +196,13 @@ fn run<W: Output>(
     workspace.bad += 1;
     say_bad(report, number, start, many)?;
     if many {
-        return Ok(());
+        return Ok(false);
     }
-    offers(workspace, geometry, number, start, len, report)
+    offers(workspace, geometry, number, start, len, report)?;
+    Ok(is_open(workspace))
 }
 
-/// A step of the current inode, which isn't cut.
+/// A step of the current inode, which isn't cut, and whether the next one is seen.
 pub fn step<W: Output>(
     workspace: &mut Workspace,
     geometry: &Geometry,
@@ -219,32 +210,27 @@ pub fn step<W: Output>(
     number: u32,
     step: Step,
     report: &mut Report<'_, W>,
-) -> Result<(), OutFault>
-    requires made { IsFor geometry.now.layout workspace.old }
-    requires area { IsDataArea geometry.now.layout area.old }
-    requires open { claims.is_open (claims_of workspace.old) ≡ true }
+) -> Result<bool, OutFault>
+    requires next { SeesNext geometry.now.layout workspace.old area.old }
     requires length { HasLength geometry.now.layout.frag step }
-    requires room { workspace.old.kept < 2 ^ 62 }
-    requires runs { workspace.old.runs_seen < 2 ^ 62 }
     ensures said { Says (progress W.sink report.old) (progress W.sink report.new)
         (of_lines (step_lines geometry.now.layout number (claims_of workspace.old) step)) result }
-    ensures claims { OnOk result (claims_of workspace.new
-        ≡ after_step geometry.now.layout (claims_of workspace.old) step) }
+    ensures claims { IfOk result (AreClaims workspace.new
+        (after_step geometry.now.layout (claims_of workspace.old) step)) }
     ensures runs { workspace.new.runs_seen ≤ workspace.old.runs_seen + 1 }
-    ensures area { IsDataArea geometry.now.layout area.new }
-    ensures only { ClaimsOnly geometry.now.layout workspace.old workspace.new }
+    ensures left { ClaimsInArea geometry.now.layout workspace.old workspace.new area.new }
 {
     match step {
         Step::Run { start, len, .. } => {
             run(workspace, geometry, area, number, start, len, report)
         }
         Step::Tail => {
-            if workspace.tail {
-                return Ok(());
+            if !workspace.tail {
+                workspace.tail = true;
+                report.say(&Line::Block(BlockMessage::PartTrunc { inode: number }))?;
             }
-            workspace.tail = true;
-            report.say(&Line::Block(BlockMessage::PartTrunc { inode: number }))
+            Ok(true)
         }
-        Step::Gap => Ok(()),
+        Step::Gap => Ok(true),
     }
 }

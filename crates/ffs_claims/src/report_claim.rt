@@ -1,14 +1,13 @@
 //! The first claims of fragments that are claimed twice, reported once each.
 
-ghost use Rattle.std.specs.Prelude.{◌≡◌, ◌+◌, ◌<◌, ◌≤◌, [], ◌∷◌, OnOk, map};
+ghost use Rattle.std.specs.Prelude.{◌≡◌, ◌+◌, ◌≤◌, [], ◌∷◌, OnOk, map};
 ghost use Rattle.std.specs.List.{range_with_len};
 ghost use Rattle.ffs_volume.specs.Blocks.BlockCheck.{first_offer_lines};
 ghost use Rattle.ffs_volume.specs.Blocks.FirstOffers.{offer_at};
 ghost use Rattle.ffs_report.specs.Progress.{progress, Says};
 ghost use Rattle.ffs_maps.specs.Bits.{bits_of};
-ghost use Rattle.ffs_workspace.specs.Lengths.{IsFor, inodes_of};
 ghost use Rattle.ffs_claims.specs.Lines.{of_lines};
-ghost use Rattle.ffs_claims.specs.Reporting.{OffersReported, OffersReportedOnly};
+ghost use Rattle.ffs_claims.specs.Reporting.{CanReport, OffersReported, OffersReportedOnly};
 
 use ffs_layout::Geometry;
 use ffs_report::{Line, OutFault, Output, Report};
@@ -23,8 +22,7 @@ fn report_claim<W: Output>(
     fragment: u64,
     report: &mut Report<'_, W>,
 ) -> Result<(), OutFault>
-    requires made { IsFor geometry.now.layout workspace.old }
-    requires number { number < inodes_of geometry.now.layout }
+    requires can { CanReport geometry.now.layout workspace.old number }
     ensures said { Says (progress W.sink report.old) (progress W.sink report.new)
         (of_lines (first_offer_lines (bits_of workspace.old.duplicates)
         (offer_at number fragment ∷ [])))
@@ -57,8 +55,7 @@ pub fn report_run<W: Output>(
     len: u32,
     report: &mut Report<'_, W>,
 ) -> Result<(), OutFault>
-    requires made { IsFor geometry.now.layout workspace.old }
-    requires number { number < inodes_of geometry.now.layout }
+    requires can { CanReport geometry.now.layout workspace.old number }
     ensures said { Says (progress W.sink report.old) (progress W.sink report.new)
         (of_lines (first_offer_lines (bits_of workspace.old.duplicates)
         (map (offer_at number) (range_with_len start len)))) result }

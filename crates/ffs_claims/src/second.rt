@@ -13,12 +13,11 @@ ghost use Rattle.ffs_volume.specs.Blocks.Lengths.{HasLength};
 ghost use Rattle.ffs_volume.specs.Blocks.Steps.{steps_of};
 ghost use Rattle.ffs_maps.specs.Bits.{bits_of};
 ghost use Rattle.ffs_workspace.specs.Holds.{HoldsPhase1, HoldsClaims, HoldsStarts};
-ghost use Rattle.ffs_workspace.specs.Lengths.{IsFor, inodes_of};
 ghost use Rattle.ffs_workspace.specs.Ready.{IsReady};
 ghost use Rattle.ffs_claims.specs.Lines.{of_lines};
 ghost use Rattle.ffs_claims.specs.Rescan as rescans;
 ghost use Rattle.ffs_claims.specs.Rescan.{offers_again, step_offers_again, run_seen, runs_again};
-ghost use Rattle.ffs_claims.specs.Reporting.{OffersReported, SameClaims, ReportsOnly};
+ghost use Rattle.ffs_claims.specs.Reporting.{CanReport, CanRewalk, OffersReported, ReportsOnly, RewalkLeaves};
 ghost use Rattle.ffs_claims.specs.SecondLook.{RoseBy, Rewalked, second_look};
 
 use crate::report_claim::report_run;
@@ -40,8 +39,7 @@ fn report_again<W: Output>(
     step: Step,
     report: &mut Report<'_, W>,
 ) -> Result<(), OutFault>
-    requires made { IsFor geometry.now.layout workspace.old }
-    requires number { number < inodes_of geometry.now.layout }
+    requires can { CanReport geometry.now.layout workspace.old number }
     requires going { rescans.is_going rescan.old ≡ true }
     requires length { HasLength geometry.now.layout.frag step }
     ensures said { Says (progress W.sink report.old) (progress W.sink report.new)
@@ -76,9 +74,7 @@ fn rewalk<I: Image, W: Output>(
     image: &mut I,
     report: &mut Report<'_, W>,
 ) -> Result<(), RunFault>
-    requires ready { IsReady geometry.now.layout (I.device image.old) workspace.old }
-    requires number { number < inodes_of geometry.now.layout }
-    requires pending { workspace.old.unreported ≢ 0 }
+    requires can { CanRewalk geometry.now.layout (I.device image.old) workspace.old number }
     ensures image { ImageAfter (I.device image.old) (I.device image.new) result }
     ensures text { PhaseReports (IsContents (I.device image.old).contents)
         (λ bytes. of_lines (first_offer_lines (bits_of workspace.old.duplicates)
@@ -91,8 +87,7 @@ fn rewalk<I: Image, W: Output>(
     ensures runs { ForBytes (IsContents (I.device image.old).contents) (λ bytes.
         workspace.new.runs_again ≤ workspace.old.runs_again + runs_again geometry.now.layout
         (rescans.rescan cut) (steps_of geometry.now.layout inode.now bytes)) }
-    ensures ready { IsReady geometry.now.layout (I.device image.new) workspace.new }
-    ensures claims { SameClaims workspace.old workspace.new }
+    ensures left { RewalkLeaves geometry.now.layout (I.device image.new) workspace.old workspace.new }
 {
     let mut rescan = Rescan::start(cut);
     let mut walk = Walk::start(geometry, inode);
@@ -119,9 +114,7 @@ fn renumbered<I: Image, W: Output>(
     image: &mut I,
     report: &mut Report<'_, W>,
 ) -> Result<(), RunFault>
-    requires ready { IsReady geometry.now.layout (I.device image.old) workspace.old }
-    requires number { number < inodes_of geometry.now.layout }
-    requires pending { workspace.old.unreported ≢ 0 }
+    requires can { CanRewalk geometry.now.layout (I.device image.old) workspace.old number }
     ensures image { ImageAfter (I.device image.old) (I.device image.new) result }
     ensures text { PhaseReports (IsContents (I.device image.old).contents)
         (λ bytes. of_lines (first_offer_lines (bits_of workspace.old.duplicates)
@@ -137,8 +130,7 @@ fn renumbered<I: Image, W: Output>(
         workspace.new.runs_again ≤ workspace.old.runs_again + runs_again geometry.now.layout
         (rescans.rescan (slice_index workspace.old.cut.items number))
         (steps_of geometry.now.layout (inode_of geometry.now.layout bytes number) bytes)) }
-    ensures ready { IsReady geometry.now.layout (I.device image.new) workspace.new }
-    ensures claims { SameClaims workspace.old workspace.new }
+    ensures left { RewalkLeaves geometry.now.layout (I.device image.new) workspace.old workspace.new }
 {
     let inode = workspace.windows.table.inode(geometry, number, image)?;
     let cut = workspace.cut.as_slice()[number as usize];

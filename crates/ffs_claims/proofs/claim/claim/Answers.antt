@@ -1,6 +1,6 @@
-use Rattle.std.proofs.Common.{arith, refl, ◌≡◌, ◌<◌, ◌∙◌, ap, sym, List, ◌++◌, true, false, replicate}
+use Rattle.std.proofs.Common.{arith, refl, ◌≡◌, ◌∙◌, ap, sym, List, ◌++◌, ◌∷◌, true, false, replicate}
 use Rattle.std.proofs.lemmas.Result.{err_from_is_err_and}
-use Rattle.ffs_walk.specs.Rests.{rest, left}
+use Rattle.ffs_walk.specs.Rests.{rest}
 use Rattle.ffs_maps.proofs.Bits.{length_bits}
 use Rattle.ffs_volume.specs.declared.Step.{Step}
 use Rattle.ffs_volume.specs.declared.Step.TheVariants.{Gap}
@@ -15,6 +15,7 @@ use Rattle.ffs_claims.proofs.Weights.{moves_on, seen_bound, used_below}
 use Rattle.ffs_claims.proofs.Goes.{claims_on, lines_on, steps_said, cut_stays, cut_silent, gaps_stay, gaps_silent}
 use Rattle.ffs_claims.proofs.Goes.{no_steps}
 use Rattle.ffs_claims.proofs.Frames.{found_none, found_still, found_then, ready_still, ready_read, ready_walked}
+use Rattle.ffs_claims.proofs.claim.claim.Goals.{in-Gap, in_default-matches}
 use Rattle.ffs_claims.proofs.claim.claim.Goals as goal
 
 pub returns-then-not-has_steps : goal.returns-then-not-has_steps
@@ -30,9 +31,11 @@ returns-then-not-has_steps g c =
           (no_steps v c.args.inode.now bytes none));
       claims = λ bytes t. sym (ap (after_steps v s) (no_steps v c.args.inode.now bytes none));
       moves = stays s;
-      bound = omega (arith, used_below v c.args.workspace.now c.requires.ready.made);
-      ready = c.requires.ready;
-      found = found_none c.args.workspace.now;
+      left = record {
+        bound = omega (arith, used_below v c.args.workspace.now c.requires.ready.ready.made);
+        claim = c.requires.ready;
+        found = found_none c.args.workspace.now;
+      };
     }
 
 pub loop-next-init : goal.loop-next-init
@@ -42,8 +45,8 @@ loop-next-init g c =
     let begun : is_open (claims_of c.args.workspace.now) ≡ true = rw (c.requires.begun.bad, c.requires.begun.dups)
     refl in
     record {
-      ready = c.requires.ready;
-      area = c.empty-area.ensures v;
+      ready = c.requires.ready.ready;
+      area = c.requires.ready.only_data;
       open_still = begun;
       geometry = c.of_class-walk.ensures.geometry;
       device = refl;
@@ -79,13 +82,15 @@ returns-in_err-next g c =
       text = of_reads _ _ _ _ _ inv.said;
       claims = tt;
       moves = tt;
-      bound = omega (
-        arith,
-        seen_bound v c.args.workspace.now c.loop-next.workspace inv.ready.made inv.open_still
-            inv.moves,
-      );
-      ready = read;
-      found = found_still _ _ _ inv.found;
+      left = record {
+        bound = omega (
+          arith,
+          seen_bound v c.args.workspace.now c.loop-next.workspace inv.ready.made inv.open_still
+              inv.moves,
+        );
+        claim = record { ready = read; only_data = inv.area };
+        found = found_still _ _ _ inv.found;
+      };
     })
 
 pub step-requires : goal.step-requires
@@ -98,28 +103,30 @@ step-requires g c =
     let read = ready_walked c.args.geometry.now _ _ _ c.loop-next.workspace c.next.new.blocks inv.geometry ok
     c.next.ensures.kept.size c.next.ensures.kept.holds inv.ready in
     record {
-      made = read.made;
-      area = inv.area;
-      «open» = inv.open_still;
       length = (rw (inv.geometry, c.in-Some.is) at c.in_ok-next.ensures.fits).length;
-      room = omega (
-        arith,
-        c.args.geometry.now.sound.numbers.size_below,
-        kept_bound (claims_of c.args.workspace.now) (claims_of c.loop-next.workspace) v.size
-            sized (omega (arith, c.requires.begun.bad)) (omega (arith, c.requires.begun.dups)) c.requires.begun.kept
-            inv.moves,
-      );
-      runs = omega (
-        arith,
-        c.args.geometry.now.sound.numbers.size_below,
-        seen_bound v c.args.workspace.now
-            c.loop-next.workspace inv.ready.made inv.open_still inv.moves,
-      );
+      next = record {
+        made = read.made;
+        only_data = inv.area;
+        uncut = inv.open_still;
+        room = omega (
+          arith,
+          c.args.geometry.now.sound.numbers.size_below,
+          kept_bound (claims_of c.args.workspace.now) (claims_of c.loop-next.workspace) v.size
+              sized (omega (arith, c.requires.begun.bad)) (omega (arith, c.requires.begun.dups)) c.requires.begun.kept
+              inv.moves,
+        );
+        runs = omega (
+          arith,
+          c.args.geometry.now.sound.numbers.size_below,
+          seen_bound v c.args.workspace.now
+              c.loop-next.workspace inv.ready.made inv.open_still inv.moves,
+        );
+      };
     }
 
-pub returns-in_err-step : goal.returns-in_err-step
-returns-in_err-step g c =
-    let p = err_from_is_err_and c.from_residual-in_err-step.result c.from_residual-in_err-step.ensures.1 in
+pub returns-in_err-seen : goal.returns-in_err-seen
+returns-in_err-seen g c =
+    let p = err_from_is_err_and c.from_residual-in_err-seen.result c.from_residual-in_err-seen.ensures.1 in
     let inv = c.loop-next.invariant in
     let v = c.args.geometry.now.layout in
     let ok = c.in_ok-next.ensures.read in
@@ -133,35 +140,44 @@ returns-in_err-step g c =
           (lines_on _ v c.args.number (claims_of c.loop-next.workspace)
           (after_step v (claims_of c.loop-next.workspace) c.in-Some.next)
           (λ bytes. rest bytes c.loop-next.walk) (λ bytes. rest bytes c.next.new.self) c.in-Some.next next refl)
-          c.in_err-step.ensures.said;
+          c.in_err-seen.ensures.said;
       claims = tt;
       moves = tt;
-      bound = omega (
-        arith,
-        c.step.ensures.runs,
-        seen_bound v c.args.workspace.now c.loop-next.workspace inv.ready.made
-            inv.open_still inv.moves,
-      );
-      ready = ready_still v _ _ _ c.step.ensures.only.made c.step.ensures.only.windows read;
-      found = found_then _ _ _ (found_still _ _ _ inv.found) c.step.ensures.only.found;
+      left = record {
+        bound = omega (
+          arith,
+          c.step.ensures.runs,
+          seen_bound v c.args.workspace.now c.loop-next.workspace inv.ready.made
+              inv.open_still inv.moves,
+        );
+        claim = record {
+          ready = ready_still v _ _ _ c.step.ensures.left.only.made c.step.ensures.left.only.windows read;
+          only_data = c.step.ensures.left.only_data;
+        };
+        found = found_then _ _ _ (found_still _ _ _ inv.found) c.step.ensures.left.only.found;
+      };
     })
 
+-- a gap is passed over: nothing is claimed and nothing is reported
 pub skip_gaps-requires : goal.skip_gaps-requires
 skip_gaps-requires g c =
     let inv = c.loop-next.invariant in
     let same = c.in_ok-next.ensures.same.geometry ∙ inv.geometry in
-    record { room = record { blocks_fit = rw (same, c.step.ensures.only.made.blocks) (omega arith) } }
+    record { room = record { blocks_fit = rw (same, c.next.ensures.kept.size, inv.ready.made.blocks) (omega arith) } }
 
-pub loop-next-preserved-then-matches : goal.loop-next-preserved-then-matches
-loop-next-preserved-then-matches g c =
+pub loop-next-preserved-then-after_gap : goal.loop-next-preserved-then-after_gap
+loop-next-preserved-then-after_gap g c =
     let inv = c.loop-next.invariant in
     let v = c.args.geometry.now.layout in
-    let s = claims_of c.step.new.workspace in
+    let s = claims_of c.loop-next.workspace in
     let ok = c.in_ok-next.ensures.read in
-    let next = rw (inv.device, c.in-Some.is) at c.in_ok-next.ensures.steps in
-    let read = ready_walked c.args.geometry.now _ _ _ c.loop-next.workspace c.next.new.blocks inv.geometry ok
+    let is_gap : c.in-Some.next ≡ Gap = elim c.match-matches.branch [
+      | in-Gap w ↦ w.in-Gap.is
+      | in_default-matches w ↦ cc
+    ] in
+    let next = rw (inv.device, c.in-Some.is, is_gap) at c.in_ok-next.ensures.steps in
+    let ready = ready_walked c.args.geometry.now _ _ _ c.loop-next.workspace c.next.new.blocks inv.geometry ok
     c.next.ensures.kept.size c.next.ensures.kept.holds inv.ready in
-    let ready = ready_still v _ _ _ c.step.ensures.only.made c.step.ensures.only.windows read in
     let gaps : ForBytes (IsContents (g.I.Image.device c.args.image.now).contents)
     (λ bytes. rest bytes c.next.new.self ≡ replicate c.skip_gaps.result Gap ++ rest bytes c.skip_gaps.new.self) =
     λ bytes t. c.skip_gaps.ensures.steps (g.I.Image.device c.next.new.image).contents
@@ -169,24 +185,43 @@ loop-next-preserved-then-matches g c =
     (ap (λ d. d.contents) (ok ∙ inv.device) ∙ t) in
     record {
       ready = ready;
-      area = c.step.ensures.area;
-      open_still = sym c.is_open.ensures ∙ c.if-not-is_open.false;
+      area = inv.area;
+      open_still = inv.open_still;
       geometry = c.skip_gaps.ensures.same.geometry ∙ c.in_ok-next.ensures.same.geometry ∙ inv.geometry;
       device = ok ∙ inv.device;
-      found = found_then _ _ _ (found_still _ _ _ inv.found) c.step.ensures.only.found;
-      moves = moves_on v (claims_of c.args.workspace.now) (claims_of c.loop-next.workspace)
-          (claims_of c.step.new.workspace) c.in-Some.next
-          (length_bits _ _ ∙ inv.ready.made.claimed) c.args.geometry.now.sound.sizes.frag_high
-          (rw (inv.geometry, c.in-Some.is) at c.in_ok-next.ensures.fits).length c.in_ok-step.ensures.claims inv.moves;
-      claims = claims_on _ v (claims_of c.loop-next.workspace) s (λ bytes. rest bytes c.loop-next.walk)
-          (λ bytes. rest bytes c.next.new.self) _ _ c.in-Some.next
-          next c.in_ok-step.ensures.claims inv.claims (λ bytes t. ap (after_steps v s) (gaps bytes t)
-          ∙ gaps_stay v s c.skip_gaps.result (rest bytes c.skip_gaps.new.self));
-      said = steps_said _ v c.args.number (claims_of c.loop-next.workspace) s (λ bytes. rest bytes c.loop-next.walk)
-          (λ bytes. rest bytes c.next.new.self) _ _ c.in-Some.next _ _ _
-          inv.said next c.in_ok-step.ensures.claims (λ bytes t. ap (lines_of_steps v c.args.number s) (gaps bytes t)
-          ∙ gaps_silent v c.args.number s c.skip_gaps.result (rest bytes c.skip_gaps.new.self))
-          c.in_ok-step.ensures.said;
+      found = found_still _ _ _ inv.found;
+      moves = inv.moves;
+      claims = λ bytes t. sym (ap (after_steps v s) (next bytes t ∙ ap (λ (xs : List Step). Gap ∷ xs) (gaps bytes t))
+          ∙ gaps_stay v s c.skip_gaps.result (rest bytes c.skip_gaps.new.self)) ∙ inv.claims bytes t;
+      said = of_same _ _ _ _ _ _ inv.said (λ bytes t. ap (λ (xs : List Step).
+          of_lines (lines_of_steps v c.args.number s xs))
+          (next bytes t ∙ ap (λ (xs : List Step). Gap ∷ xs) (gaps bytes t))
+          ∙ ap of_lines (gaps_silent v c.args.number s c.skip_gaps.result (rest bytes c.skip_gaps.new.self)));
+    }
+
+pub loop-next-preserved-else-after_gap : goal.loop-next-preserved-else-after_gap
+loop-next-preserved-else-after_gap g c =
+    let inv = c.loop-next.invariant in
+    let v = c.args.geometry.now.layout in
+    let s = claims_of c.loop-next.workspace in
+    let ok = c.in_ok-next.ensures.read in
+    let is_gap : c.in-Some.next ≡ Gap = elim c.match-matches.branch [
+      | in-Gap w ↦ w.in-Gap.is
+      | in_default-matches w ↦ cc
+    ] in
+    let next = rw (inv.device, c.in-Some.is, is_gap) at c.in_ok-next.ensures.steps in
+    record {
+      ready = ready_walked c.args.geometry.now _ _ _ c.loop-next.workspace c.next.new.blocks inv.geometry ok
+          c.next.ensures.kept.size c.next.ensures.kept.holds inv.ready;
+      area = inv.area;
+      open_still = inv.open_still;
+      geometry = c.in_ok-next.ensures.same.geometry ∙ inv.geometry;
+      device = ok ∙ inv.device;
+      found = found_still _ _ _ inv.found;
+      moves = inv.moves;
+      claims = λ bytes t. sym (ap (after_steps v s) (next bytes t)) ∙ inv.claims bytes t;
+      said = of_same _ _ _ _ _ _ inv.said (λ bytes t. ap (λ (xs : List Step).
+          of_lines (lines_of_steps v c.args.number s xs)) (next bytes t));
     }
 
 pub loop-next-preserved : goal.loop-next-preserved
@@ -198,44 +233,33 @@ loop-next-preserved g c =
     let next = rw (inv.device, c.in-Some.is) at c.in_ok-next.ensures.steps in
     let read = ready_walked c.args.geometry.now _ _ _ c.loop-next.workspace c.next.new.blocks inv.geometry ok
     c.next.ensures.kept.size c.next.ensures.kept.holds inv.ready in
-    let ready = ready_still v _ _ _ c.step.ensures.only.made c.step.ensures.only.windows read in
     record {
-      ready = ready;
-      area = c.step.ensures.area;
-      open_still = sym c.is_open.ensures ∙ c.if-not-is_open.false;
+      ready = ready_still v _ _ _ c.step.ensures.left.only.made c.step.ensures.left.only.windows read;
+      area = c.step.ensures.left.only_data;
+      open_still = sym c.in_ok-seen.ensures.claims.uncut ∙ c.if-not-seen.false;
       geometry = c.in_ok-next.ensures.same.geometry ∙ inv.geometry;
       device = ok ∙ inv.device;
-      found = found_then _ _ _ (found_still _ _ _ inv.found) c.step.ensures.only.found;
+      found = found_then _ _ _ (found_still _ _ _ inv.found) c.step.ensures.left.only.found;
       moves = moves_on v (claims_of c.args.workspace.now) (claims_of c.loop-next.workspace)
           (claims_of c.step.new.workspace) c.in-Some.next
           (length_bits _ _ ∙ inv.ready.made.claimed) c.args.geometry.now.sound.sizes.frag_high
-          (rw (inv.geometry, c.in-Some.is) at c.in_ok-next.ensures.fits).length c.in_ok-step.ensures.claims inv.moves;
+          (rw (inv.geometry, c.in-Some.is) at c.in_ok-next.ensures.fits).length c.in_ok-seen.ensures.claims.claims_are inv.moves;
       claims = claims_on _ v (claims_of c.loop-next.workspace) s (λ bytes. rest bytes c.loop-next.walk)
           (λ bytes. rest bytes c.next.new.self) _ _ c.in-Some.next
-          next c.in_ok-step.ensures.claims inv.claims (λ bytes t. refl);
+          next c.in_ok-seen.ensures.claims.claims_are inv.claims (λ bytes t. refl);
       said = steps_said _ v c.args.number (claims_of c.loop-next.workspace) s (λ bytes. rest bytes c.loop-next.walk)
           (λ bytes. rest bytes c.next.new.self) _ _ c.in-Some.next _ _ _
-          inv.said next c.in_ok-step.ensures.claims (λ bytes t. refl)
-          c.in_ok-step.ensures.said;
+          inv.said next c.in_ok-seen.ensures.claims.claims_are (λ bytes t. refl)
+          c.in_ok-seen.ensures.said;
     }
 
-pub loop-next-smaller-then-matches : goal.loop-next-smaller-then-matches
-loop-next-smaller-then-matches g c =
-    let fell : left c.next.new.self < left c.loop-next.walk = rw c.in-Some.is at c.in_ok-next.ensures.falls in
-    omega (arith, fell, c.skip_gaps.ensures.falls)
-
-pub loop-next-smaller : goal.loop-next-smaller
-loop-next-smaller g c =
-    let fell : left c.next.new.self < left c.loop-next.walk = rw c.in-Some.is at c.in_ok-next.ensures.falls in
-    omega (arith, fell)
-
-pub returns-then-not-is_open : goal.returns-then-not-is_open
-returns-then-not-is_open g c =
+pub returns-then-not-seen : goal.returns-then-not-seen
+returns-then-not-seen g c =
     let inv = c.loop-next.invariant in
     let v = c.args.geometry.now.layout in
     let s = claims_of c.step.new.workspace in
     let ok = c.in_ok-next.ensures.read in
-    let cut : is_open (claims_of c.step.new.workspace) ≡ false = sym c.is_open.ensures ∙ c.if-not-is_open.true in
+    let cut : is_open (claims_of c.step.new.workspace) ≡ false = sym c.in_ok-seen.ensures.claims.uncut ∙ c.if-not-seen.true in
     let next = rw (inv.device, c.in-Some.is) at c.in_ok-next.ensures.steps in
     let read = ready_walked c.args.geometry.now _ _ _ c.loop-next.workspace c.next.new.blocks inv.geometry ok
     c.next.ensures.kept.size c.next.ensures.kept.holds inv.ready in
@@ -243,23 +267,28 @@ returns-then-not-is_open g c =
       image = ok ∙ inv.device;
       text = steps_said _ v c.args.number (claims_of c.loop-next.workspace) s (λ bytes. rest bytes c.loop-next.walk)
           (λ bytes. rest bytes c.next.new.self) _ _ c.in-Some.next _ _ _
-          inv.said next c.in_ok-step.ensures.claims (λ bytes t. cut_silent v c.args.number
-          (claims_of c.step.new.workspace) (rest bytes c.next.new.self) cut) c.in_ok-step.ensures.said;
+          inv.said next c.in_ok-seen.ensures.claims.claims_are (λ bytes t. cut_silent v c.args.number
+          (claims_of c.step.new.workspace) (rest bytes c.next.new.self) cut) c.in_ok-seen.ensures.said;
       claims = claims_on _ v (claims_of c.loop-next.workspace) s (λ bytes. rest bytes c.loop-next.walk)
           (λ bytes. rest bytes c.next.new.self) _ _ c.in-Some.next
-          next c.in_ok-step.ensures.claims inv.claims (λ bytes t. cut_stays v s (rest bytes c.next.new.self) cut);
+          next c.in_ok-seen.ensures.claims.claims_are inv.claims (λ bytes t. cut_stays v s (rest bytes c.next.new.self) cut);
       moves = moves_on v (claims_of c.args.workspace.now) (claims_of c.loop-next.workspace)
           (claims_of c.step.new.workspace) c.in-Some.next
           (length_bits _ _ ∙ inv.ready.made.claimed) c.args.geometry.now.sound.sizes.frag_high
-          (rw (inv.geometry, c.in-Some.is) at c.in_ok-next.ensures.fits).length c.in_ok-step.ensures.claims inv.moves;
-      bound = omega (
-        arith,
-        c.step.ensures.runs,
-        seen_bound v c.args.workspace.now c.loop-next.workspace inv.ready.made
-            inv.open_still inv.moves,
-      );
-      ready = ready_still v _ _ _ c.step.ensures.only.made c.step.ensures.only.windows read;
-      found = found_then _ _ _ (found_still _ _ _ inv.found) c.step.ensures.only.found;
+          (rw (inv.geometry, c.in-Some.is) at c.in_ok-next.ensures.fits).length c.in_ok-seen.ensures.claims.claims_are inv.moves;
+      left = record {
+        bound = omega (
+          arith,
+          c.step.ensures.runs,
+          seen_bound v c.args.workspace.now c.loop-next.workspace inv.ready.made
+              inv.open_still inv.moves,
+        );
+        claim = record {
+          ready = ready_still v _ _ _ c.step.ensures.left.only.made c.step.ensures.left.only.windows read;
+          only_data = c.step.ensures.left.only_data;
+        };
+        found = found_then _ _ _ (found_still _ _ _ inv.found) c.step.ensures.left.only.found;
+      };
     }
 
 pub returns-in_default : goal.returns-in_default
@@ -275,12 +304,17 @@ returns-in_default g c =
           (λ bytes t. ap (λ (xs : List Step). of_lines (lines_of_steps v c.args.number s xs)) (over bytes t));
       claims = λ bytes t. sym (ap (after_steps v s) (over bytes t)) ∙ inv.claims bytes t;
       moves = inv.moves;
-      bound = omega (
-        arith,
-        seen_bound v c.args.workspace.now c.loop-next.workspace inv.ready.made inv.open_still
-            inv.moves,
-      );
-      ready = ready_walked c.args.geometry.now _ _ _ c.loop-next.workspace c.next.new.blocks inv.geometry ok
-          c.next.ensures.kept.size c.next.ensures.kept.holds inv.ready;
-      found = found_still _ _ _ inv.found;
+      left = record {
+        bound = omega (
+          arith,
+          seen_bound v c.args.workspace.now c.loop-next.workspace inv.ready.made inv.open_still
+              inv.moves,
+        );
+        claim = record {
+          ready = ready_walked c.args.geometry.now _ _ _ c.loop-next.workspace c.next.new.blocks inv.geometry ok
+              c.next.ensures.kept.size c.next.ensures.kept.holds inv.ready;
+          only_data = inv.area;
+        };
+        found = found_still _ _ _ inv.found;
+      };
     }

@@ -1,4 +1,4 @@
-use Rattle.std.proofs.Common.{◌≡◌, arith, ap, ◌∙◌}
+use Rattle.std.proofs.Common.{◌≡◌, arith, ap, ◌∙◌, refl}
 use Rattle.std.proofs.lemmas.Result.{err_from_is_err_and}
 use Rattle.ffs_volume.specs.Blocks.Owners.{Owner, owner_of}
 use Rattle.ffs_volume.specs.Blocks.BlockCheck.{owner_lines}
@@ -18,10 +18,6 @@ returns-in_err-inode-clause-text g c =
     (of_begins _ (λ bytes. of_lines
     (owner_lines c.args.geometry.now.layout (claims_of c.args.workspace.now)
     (owner_of c.args.geometry.now.layout bytes c.args.number))) _))
-
-pub returns-in_err-inode-clause-bound : goal.returns-in_err-inode-clause-bound
-returns-in_err-inode-clause-bound g c =
-    omega (arith, used_below c.args.geometry.now.layout c.args.workspace.now c.requires.ready.made)
 
 pub returns-clause-text : goal.returns-clause-text
 returns-clause-text g c =
@@ -49,17 +45,38 @@ returns-clause-claims g c =
 
 pub inode-requires : goal.inode-requires
 inode-requires g c =
-    let ready = c.requires.ready in
-    record { number = c.requires.number; volume = ready.volume; room = ready.made.table; holds = ready.windows.table }
+    let ready = c.requires.ready.claim.ready in
+    record { number = c.requires.ready.number_fits; volume = ready.volume; room = ready.made.table; holds = ready.windows.table }
 
-pub returns-in_err-inode-clause-ready : goal.returns-in_err-inode-clause-ready
-returns-in_err-inode-clause-ready g c =
+pub returns-in_err-inode-clause-left : goal.returns-in_err-inode-clause-left
+returns-in_err-inode-clause-left g c =
     let err = c.in_err-inode.ensures.err in
-    ready_table c.args.geometry.now.layout (g.I.Image.device c.args.image.now) _ c.args.workspace.now c.inode.new.self
-    err.contents err.size c.inode.ensures.room c.inode.ensures.holds c.requires.ready
+    record {
+      bound = omega (
+        arith,
+        used_below c.args.geometry.now.layout c.args.workspace.now
+            c.requires.ready.claim.ready.made,
+      );
+      again = refl;
+      claim = record {
+        ready = ready_table c.args.geometry.now.layout (g.I.Image.device c.args.image.now) _ c.args.workspace.now
+            c.inode.new.self err.contents err.size c.inode.ensures.room c.inode.ensures.holds c.requires.ready.claim.ready;
+        only_data = c.requires.ready.claim.only_data;
+      };
+    }
 
-pub claim_read_inode-requires-clause-ready : goal.claim_read_inode-requires-clause-ready
-claim_read_inode-requires-clause-ready g c =
+pub claim_read_inode-requires : goal.claim_read_inode-requires
+claim_read_inode-requires g c =
     let ok = c.in_ok-inode.ensures.ok in
-    ready_table c.args.geometry.now.layout (g.I.Image.device c.args.image.now) _ c.args.workspace.now c.inode.new.self
-    (ap (λ d. d.contents) ok) (ap (λ d. d.size) ok) c.inode.ensures.room c.inode.ensures.holds c.requires.ready
+    record {
+      ready = record {
+        number_fits = c.requires.ready.number_fits;
+        runs = c.requires.ready.runs;
+        claim = record {
+          ready = ready_table c.args.geometry.now.layout (g.I.Image.device c.args.image.now) _ c.args.workspace.now
+              c.inode.new.self (ap (λ d. d.contents) ok) (ap (λ d. d.size) ok) c.inode.ensures.room c.inode.ensures.holds
+              c.requires.ready.claim.ready;
+          only_data = c.requires.ready.claim.only_data;
+        };
+      };
+    }

@@ -1,16 +1,20 @@
-use Rattle.std.proofs.Common.{arith, refl, [], length, ap, ◌∙◌, ◌≡◌}
+use Rattle.std.proofs.Common.{arith, refl, [], length, ap, ◌∙◌, ◌≡◌, sym}
+use Rattle.std.specs.Prelude.{vec_len}
+use Rattle.ffs_volume.specs.declared.Class.TheVariants.{Free}
 use Rattle.std.proofs.lemmas.Result.{err_from_is_err_and}
 use Rattle.ffs_maps.proofs.Bits.{length_bits}
 use Rattle.ffs_volume.specs.Blocks.Steps.{steps_of}
-use Rattle.ffs_volume.specs.Blocks.BlockCheck.{count_lines}
+use Rattle.ffs_volume.specs.Blocks.BlockCheck.{count_lines, owner_lines}
 use Rattle.ffs_volume.specs.Blocks.Claims.{Claims, lines_of_steps, after_steps}
 use Rattle.ffs_volume.proofs.Weights.{kept_bound}
-use Rattle.ffs_phase.proofs.Reporting.{of_part, of_fault, of_says, of_stops}
+use Rattle.ffs_phase.proofs.Reporting.{of_part, of_fault, of_says, of_stops, of_begins, of_same}
+use Rattle.ffs_volume.specs.Blocks.ClaimBounds.{used_bits}
 use Rattle.ffs_workspace.specs.Holds.{claims_of}
-use Rattle.ffs_claims.specs.Lines.{of_lines, counted_owner}
-use Rattle.ffs_claims.proofs.Inodes.{class_said, class_stopped, count_right}
+use Rattle.ffs_claims.specs.Lines.{of_lines, counted_owner, owner_with}
+use Rattle.ffs_claims.proofs.Inodes.{class_said, class_stopped, count_right, free_claims, free_silent}
 use Rattle.ffs_claims.proofs.Weights.{used_below}
 use Rattle.ffs_claims.proofs.Frames.{ready_begun, ready_stored}
+use Rattle.ffs_claims.proofs.claim.claim_read_inode.Goals.{in-Free, in_default}
 use Rattle.ffs_claims.proofs.claim.claim_read_inode.Goals as goal
 
 pub returns-in_err-say_class-clause-text : goal.returns-in_err-say_class-clause-text
@@ -19,11 +23,6 @@ returns-in_err-say_class-clause-text g c =
     rw (p.1, p.2) (class_stopped _ c.args.geometry.now.layout c.args.number c.args.inode.now
     (claims_of c.args.workspace.now) c.class_of-class.result _ _
     c.class_of-class.ensures c.in_err-say_class.ensures)
-
-pub returns-in_err-say_class-clause-bound : goal.returns-in_err-say_class-clause-bound
-returns-in_err-say_class-clause-bound g c =
-    let same = ap (λ w. w.runs_seen) c.begin.ensures in
-    omega (arith, same, used_below c.args.geometry.now.layout c.args.workspace.now c.requires.ready.made)
 
 pub returns-in_err-claim-clause-text : goal.returns-in_err-claim-clause-text
 returns-in_err-claim-clause-text g c =
@@ -79,7 +78,7 @@ say_count-requires g c =
     let m = c.in_ok-claim.ensures.moves in
     let used : length (claims_of c.claim.new.workspace).used ≡ c.args.geometry.now.layout.size =
     length_bits c.claim.new.workspace.claimed.words.items c.claim.new.workspace.claimed.size
-    ∙ c.claim.ensures.ready.made.claimed in
+    ∙ c.claim.ensures.left.claim.ready.made.claimed in
     let bad = ap (λ w. w.bad) c.begin.ensures in
     let dups = ap (λ w. w.dups) c.begin.ensures in
     let none = ap (λ w. w.kept) c.begin.ensures in
@@ -91,22 +90,23 @@ say_count-requires g c =
     )
 
 pub claim-requires-clause-ready : goal.claim-requires-clause-ready
-claim-requires-clause-ready g c = ready_begun c.args.geometry.now.layout (g.I.Image.device c.args.image.now)
-    c.args.workspace.now c.begin.new.workspace c.begin.ensures c.requires.ready
+claim-requires-clause-ready g c = record {
+  ready = ready_begun c.args.geometry.now.layout (g.I.Image.device c.args.image.now)
+      c.args.workspace.now c.begin.new.workspace c.begin.ensures c.requires.ready.claim.ready;
+  only_data = c.requires.ready.claim.only_data;
+}
 
 pub claim-requires-clause-begun : goal.claim-requires-clause-begun
 claim-requires-clause-begun g c = record {
   bad = ap (λ w. w.bad) c.begin.ensures;
   dups = ap (λ w. w.dups) c.begin.ensures;
   kept = ap (λ w. w.kept) c.begin.ensures;
+  runs = let same = ap (λ w. w.runs_seen) c.begin.ensures in omega (arith, same, c.requires.ready.runs);
 }
 
-pub claim-requires-clause-runs : goal.claim-requires-clause-runs
-claim-requires-clause-runs g c = let same = ap (λ w. w.runs_seen) c.begin.ensures in omega (arith, same)
-
-pub store-requires : goal.store-requires
-store-requires g c =
-    let made = c.claim.ensures.ready.made in
+pub store-requires-2 : goal.store-requires-2
+store-requires-2 g c =
+    let made = c.claim.ensures.left.claim.ready.made in
     record {
       number = record {
         kinds = omega (arith, made.kinds);
@@ -116,17 +116,124 @@ store-requires g c =
       };
     }
 
-pub returns-in_err-say_class-clause-ready : goal.returns-in_err-say_class-clause-ready
-returns-in_err-say_class-clause-ready g c = ready_begun c.args.geometry.now.layout (g.I.Image.device c.args.image.now)
-    c.args.workspace.now c.begin.new.workspace c.begin.ensures c.requires.ready
+pub returns-in_err-say_class-clause-left : goal.returns-in_err-say_class-clause-left
+returns-in_err-say_class-clause-left g c =
+    let same = ap (λ w. w.runs_seen) c.begin.ensures in
+    record {
+      bound = omega (
+        arith,
+        same,
+        used_below c.args.geometry.now.layout c.args.workspace.now
+            c.requires.ready.claim.ready.made,
+      );
+      again = ap (λ w. w.runs_again) c.begin.ensures;
+      claim = record {
+        ready = ready_begun c.args.geometry.now.layout (g.I.Image.device c.args.image.now)
+            c.args.workspace.now c.begin.new.workspace c.begin.ensures c.requires.ready.claim.ready;
+        only_data = c.requires.ready.claim.only_data;
+      };
+    }
 
 pub returns-clause-claims : goal.returns-clause-claims
 returns-clause-claims g c = λ bytes t.
-    ap claims_of c.store.ensures.rest ∙ c.in_ok-claim.ensures.claims bytes t
+    ap claims_of c.store-2.ensures.rest ∙ c.in_ok-claim.ensures.claims bytes t
     ∙ ap (λ (s : Claims). after_steps c.args.geometry.now.layout s
     (steps_of c.args.geometry.now.layout c.args.inode.now bytes)) (ap claims_of c.begin.ensures)
 
-pub returns-clause-ready : goal.returns-clause-ready
-returns-clause-ready g c =
-    ready_stored c.args.geometry.now.layout (g.I.Image.device c.claim.new.image) c.args.number _ _ c.claim.new.workspace
-    c.store.new.workspace c.store.ensures.stored c.store.ensures.rest c.claim.ensures.ready
+pub returns-in_err-claim-clause-left : goal.returns-in_err-claim-clause-left
+returns-in_err-claim-clause-left g c =
+    let begun = ap (λ w. w.runs_seen) c.begin.ensures in
+    let claims = ap (λ w. used_bits (claims_of w)) c.begin.ensures in
+    record {
+      bound = omega (arith, begun, claims, c.claim.ensures.left.bound);
+      again = c.claim.ensures.left.found.again ∙ ap (λ w. w.runs_again) c.begin.ensures;
+      claim = c.claim.ensures.left.claim;
+    }
+
+pub returns-in_err-say_count-clause-left : goal.returns-in_err-say_count-clause-left
+returns-in_err-say_count-clause-left g c =
+    let begun = ap (λ w. w.runs_seen) c.begin.ensures in
+    let claims = ap (λ w. used_bits (claims_of w)) c.begin.ensures in
+    record {
+      bound = omega (arith, begun, claims, c.claim.ensures.left.bound);
+      again = c.claim.ensures.left.found.again ∙ ap (λ w. w.runs_again) c.begin.ensures;
+      claim = c.claim.ensures.left.claim;
+    }
+
+pub returns-clause-left : goal.returns-clause-left
+returns-clause-left g c =
+    let begun = ap (λ w. w.runs_seen) c.begin.ensures in
+    let claims = ap (λ w. used_bits (claims_of w)) c.begin.ensures in
+    let stored = ap (λ w. w.runs_seen) c.store-2.ensures.rest in
+    record {
+      bound = omega (arith, begun, claims, stored, c.claim.ensures.left.bound);
+      again = ap (λ w. w.runs_again) c.store-2.ensures.rest ∙ c.claim.ensures.left.found.again
+          ∙ ap (λ w. w.runs_again) c.begin.ensures;
+      claim = record {
+        ready = ready_stored c.args.geometry.now.layout (g.I.Image.device c.claim.new.image) c.args.number _ _
+            c.claim.new.workspace c.store-2.new.workspace c.store-2.ensures.stored c.store-2.ensures.rest
+            c.claim.ensures.left.claim.ready;
+        only_data = c.claim.ensures.left.claim.only_data;
+      };
+    }
+
+pub store-requires : goal.store-requires
+store-requires g c =
+    let made = c.requires.ready.claim.ready.made in
+    let kinds = ap (λ w. vec_len w.kinds) c.begin.ensures in
+    let marked = ap (λ w. vec_len w.marked) c.begin.ensures in
+    let cut = ap (λ w. vec_len w.cut) c.begin.ensures in
+    record {
+      number = record {
+        kinds = omega (arith, made.kinds);
+        marked = omega (arith, made.marked);
+        cut = omega (arith, made.cut);
+      };
+    }
+
+pub returns-then-matches-clause-text : goal.returns-then-matches-clause-text
+returns-then-matches-clause-text g c =
+    let v = c.args.geometry.now.layout in
+    let is_free : c.class_of-class.result ≡ Free = elim c.match-matches.branch [
+      | in-Free w ↦ w.in-Free.is
+      | in_default w ↦ cc
+    ] in
+    of_same _ _ _ _ _ _
+    (of_begins _ (λ bytes. of_lines (owner_lines v (claims_of c.args.workspace.now)
+    (owner_with v bytes c.args.number c.args.inode.now))) _)
+    (λ bytes t. ap of_lines (free_silent v c.args.number c.args.inode.now (claims_of c.args.workspace.now) bytes
+    (sym c.class_of-class.ensures ∙ is_free)))
+
+pub returns-then-matches-clause-claims : goal.returns-then-matches-clause-claims
+returns-then-matches-clause-claims g c =
+    let v = c.args.geometry.now.layout in
+    let is_free : c.class_of-class.result ≡ Free = elim c.match-matches.branch [
+      | in-Free w ↦ w.in-Free.is
+      | in_default w ↦ cc
+    ] in
+    λ bytes t. ap claims_of c.store.ensures.rest ∙ ap claims_of c.begin.ensures
+    ∙ sym (free_claims v c.args.number c.args.inode.now (claims_of c.args.workspace.now) bytes
+    (sym c.class_of-class.ensures ∙ is_free))
+
+pub returns-then-matches-clause-left : goal.returns-then-matches-clause-left
+returns-then-matches-clause-left g c =
+    let begun = ap (λ w. w.runs_seen) c.begin.ensures in
+    let same = ap (λ w. w.runs_seen) c.store.ensures.rest in
+    record {
+      bound = omega (
+        arith,
+        begun,
+        same,
+        used_below c.args.geometry.now.layout c.args.workspace.now
+            c.requires.ready.claim.ready.made,
+      );
+      again = ap (λ w. w.runs_again) c.store.ensures.rest ∙ ap (λ w. w.runs_again) c.begin.ensures;
+      claim = record {
+        ready = ready_stored c.args.geometry.now.layout (g.I.Image.device c.args.image.now) c.args.number _ _
+            c.begin.new.workspace c.store.new.workspace c.store.ensures.stored
+            c.store.ensures.rest
+            (ready_begun c.args.geometry.now.layout (g.I.Image.device c.args.image.now)
+            c.args.workspace.now c.begin.new.workspace c.begin.ensures c.requires.ready.claim.ready);
+        only_data = c.requires.ready.claim.only_data;
+      };
+    }

@@ -37,7 +37,10 @@ loop-number-init g c =
     let s = claims_of c.reserve.new.workspace in
     let found = c.reserve.ensures.only.found in
     record {
-      ready = ready_still v _ _ _ c.reserve.ensures.only.made c.reserve.ensures.only.windows c.requires.ready;
+      ready = record {
+        ready = ready_still v _ _ _ c.reserve.ensures.only.made c.reserve.ensures.only.windows c.requires.ready;
+        only_data = c.empty-area.ensures v;
+      };
       device = refl;
       low = omega arith;
       high = λ h. omega arith;
@@ -61,17 +64,23 @@ loop-number-init g c =
           c.in_ok-say.ensures.said;
     }
 
-pub claim_inode-requires-clause-runs : goal.claim_inode-requires-clause-runs
-claim_inode-requires-clause-runs g c =
+pub claim_inode-requires : goal.claim_inode-requires
+claim_inode-requires g c =
     let inv = c.loop-number.invariant in
-    omega (
-      arith,
-      inv.runs,
-      c.args.geometry.now.sound.numbers.inodes_below,
-      c.args.geometry.now.sound.numbers.size_below,
-      c.loop-number-test.true,
-      used_below c.args.geometry.now.layout c.loop-number.workspace inv.ready.made,
-    )
+    record {
+      ready = record {
+        claim = inv.ready;
+        number_fits = omega (arith, c.loop-number-test.true);
+        runs = omega (
+          arith,
+          inv.runs,
+          c.args.geometry.now.sound.numbers.inodes_below,
+          c.args.geometry.now.sound.numbers.size_below,
+          c.loop-number-test.true,
+          used_below c.args.geometry.now.layout c.loop-number.workspace inv.ready.ready.made,
+        );
+      };
+    }
 
 pub returns-in_err-claim_inode-clause-text : goal.returns-in_err-claim_inode-clause-text
 returns-in_err-claim_inode-clause-text g c =
@@ -92,7 +101,7 @@ returns-in_err-claim_inode-clause-text g c =
 pub returns-in_err-claim_inode-clause-runs : goal.returns-in_err-claim_inode-clause-runs
 returns-in_err-claim_inode-clause-runs g c =
     let inv = c.loop-number.invariant in
-    omega (arith, inv.runs, inv.low, c.claim_inode.ensures.bound, c.loop-number-test.true)
+    omega (arith, inv.runs, inv.low, c.claim_inode.ensures.left.bound, c.loop-number-test.true)
 
 pub loop-number-preserved : goal.loop-number-preserved
 loop-number-preserved g c =
@@ -107,26 +116,26 @@ loop-number-preserved g c =
     let now = c.in_ok-claim_inode.ensures.claims in
     let stored = c.in_ok-claim_inode.ensures.stored in
     record {
-      ready = c.claim_inode.ensures.ready;
+      ready = c.claim_inode.ensures.left.claim;
       device = c.in_ok-claim_inode.ensures.image ∙ inv.device;
       low = omega arith;
       high = λ h. omega arith;
       runs = omega (arith, inv.runs, inv.low, c.in_ok-claim_inode.ensures.moves);
-      again = c.claim_inode.ensures.again ∙ inv.again;
+      again = c.claim_inode.ensures.left.again ∙ inv.again;
       claims = λ bytes k. now bytes (contents ∙ k.0)
           ∙ ap (λ (t : Claims). after_owner v t (owner_of v bytes n)) (inv.claims bytes k)
           ∙ sym (before_next v bytes n inv.low);
       kinds = λ bytes k. filled_next 0 (kind_at v bytes) c.loop-number.workspace.kinds.items
           c.claim_inode.new.workspace.kinds.items n _
-          (omega (arith, inv.ready.made.kinds)) (stored bytes (contents ∙ k.0)).kinds (kind_in v bytes n inside)
+          (omega (arith, inv.ready.ready.made.kinds)) (stored bytes (contents ∙ k.0)).kinds (kind_in v bytes n inside)
           (inv.kinds bytes k);
       marked = λ bytes k. filled_next false (first_marked_at v bytes) c.loop-number.workspace.marked.items
           c.claim_inode.new.workspace.marked.items n _
-          (omega (arith, inv.ready.made.marked)) (stored bytes (contents ∙ k.0)).marked
+          (omega (arith, inv.ready.ready.made.marked)) (stored bytes (contents ∙ k.0)).marked
           (mark_in v bytes n s s' inside (inv.claims bytes k) (now bytes (contents ∙ k.0))) (inv.marked bytes k);
       cut = λ bytes k. filled_next 0 (cut_at v bytes) c.loop-number.workspace.cut.items
           c.claim_inode.new.workspace.cut.items n _
-          (omega (arith, inv.ready.made.cut)) (stored bytes (contents ∙ k.0)).cut
+          (omega (arith, inv.ready.ready.made.cut)) (stored bytes (contents ∙ k.0)).cut
           (cut_in v bytes n s s' inside (inv.claims bytes k) (now bytes (contents ∙ k.0))) (inv.cut bytes k);
       starts = λ bytes k. filled_next 0 (start_at v bytes) c.loop-number.workspace.references.items
           c.claim_inode.new.workspace.references.items n _
@@ -178,7 +187,7 @@ returns-clause-holds g c = λ bytes k.
 pub returns-clause-runs : goal.returns-clause-runs
 returns-clause-runs g c =
     let inv = c.loop-number.invariant in
-    let used = used_below c.args.geometry.now.layout c.loop-number.workspace inv.ready.made in
+    let used = used_below c.args.geometry.now.layout c.loop-number.workspace inv.ready.ready.made in
     elim (cases_lt 2 c.loop-number.number) [
       | inl h ↦ let most : c.loop-number.number ≤ inodes_of c.args.geometry.now.layout = inv.high h in omega
           (arith, inv.runs, most, used)
@@ -191,7 +200,7 @@ returns-clause-count g c = λ bytes k. (returns-clause-holds g c bytes k).runs
 
 pub returns-clause-dups : goal.returns-clause-dups
 returns-clause-dups g c = λ bytes k.
-    dups_are c.args.geometry.now.layout bytes c.loop-number.workspace c.loop-number.invariant.ready.made.unreported
+    dups_are c.args.geometry.now.layout bytes c.loop-number.workspace c.loop-number.invariant.ready.ready.made.unreported
     (returns-clause-holds g c bytes k)
 
 pub returns-in_err-say-clause-ready : goal.returns-in_err-say-clause-ready

@@ -12,14 +12,14 @@ use Rattle.ffs_workspace.specs.Holds.{claims_of, IsFresh, first_marked_at}
 use Rattle.ffs_volume.specs.Encodings.Kinds.{kind_at}
 use Rattle.ffs_volume.specs.Encodings.Links.{start_at}
 use Rattle.ffs_workspace.specs.Lengths.{inodes_of}
-use Rattle.ffs_workspace.specs.Ready.{IsReady}
+use Rattle.ffs_claims.specs.Area.{CanClaim}
 use Rattle.ffs_claims.specs.Lines.{of_lines, owners_from}
 use Rattle.ffs_claims.proofs.Numbers.{FilledTo}
 use Rattle.ffs_claims.proofs.first.phase1.Given as goal
 
 abbrev pub invariant-loop-number : goal.invariant-loop-number
 invariant-loop-number g l = record {
-  ready : IsReady l.geometry.layout (g.I.Image.device l.image) l.workspace;
+  ready : CanClaim l.geometry.layout (g.I.Image.device l.image) l.workspace l.area;
   device : g.I.Image.device l.image ≡ g.I.Image.device l.fn.image;
   low : 2 ≤ l.number;
   high : 2 < l.number → l.number ≤ inodes_of l.geometry.layout;

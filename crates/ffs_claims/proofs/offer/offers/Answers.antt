@@ -1,4 +1,4 @@
-use Rattle.std.proofs.Common.{arith, refl, ap, ◌+◌, ◌∙◌, List, ℕ}
+use Rattle.std.proofs.Common.{arith, ap, ◌+◌, ◌∙◌, List, ℕ}
 use Rattle.std.specs.List.{range_with_len}
 use Rattle.std.proofs.lemmas.Result.{err_from_is_err_and}
 use Rattle.ffs_volume.specs.Blocks.Claims.{offer_lines, lines_of_offers, after_offers}
@@ -54,10 +54,20 @@ loop-place-init g c =
     let v = c.args.geometry.now.layout in
     let s = claims_of c.args.workspace.now in
     record {
-      only = offers_none c.args.geometry.now.layout c.args.workspace.now c.requires.made;
+      only = offers_none c.args.geometry.now.layout c.args.workspace.now c.requires.room.made;
       kept = omega arith;
       claims = ap (after_offers v s) (from_start c.args.start c.args.len);
       said = to_same _ _ _ _ _ (to_begins
           (of_lines (lines_of_offers v c.args.number s (range_with_len c.args.start c.args.len))) _)
           (ap (λ (fs : List ℕ). of_lines (lines_of_offers v c.args.number s fs)) (from_start c.args.start c.args.len));
+    }
+
+pub offer-requires : goal.offer-requires
+offer-requires g c =
+    let inv = c.loop-place.invariant in
+    record {
+      room = record {
+        made = inv.only.claiming.made;
+        room = omega (arith, inv.kept, c.requires.room.room, c.loop-place-test.true);
+      };
     }

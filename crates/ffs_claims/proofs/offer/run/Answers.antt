@@ -2,7 +2,7 @@ use Rattle.std.proofs.lemmas.Result.{err_from_is_err_and}
 use Rattle.std.proofs.Common.{sym, ◌∙◌, arith}
 use Rattle.std.proofs.lemmas.Bool.Decides.{nat_tests}
 use Rattle.ffs_workspace.specs.Holds.{claims_of}
-use Rattle.ffs_claims.proofs.Goes.{run_stops, run_says}
+use Rattle.ffs_claims.proofs.Goes.{run_stops, run_stops_later, run_said}
 use Rattle.ffs_claims.proofs.offer.run.Goals as goal
 
 pub returns-in_err-say_bad-clause-said : goal.returns-in_err-say_bad-clause-said
@@ -12,8 +12,16 @@ returns-in_err-say_bad-clause-said g c =
     c.args.len _ _
     (sym c.in_range.ensures.value ∙ c.if-in_range.false) c.in_err-say_bad.ensures)
 
+pub returns-in_err-offers-clause-said : goal.returns-in_err-offers-clause-said
+returns-in_err-offers-clause-said g c =
+    let p = err_from_is_err_and c.from_residual-in_err-offers.result c.from_residual-in_err-offers.ensures.1 in
+    rw (p.1) (run_stops_later c.args.geometry.now.layout c.args.number (claims_of c.args.workspace.now) c.args.start
+    c.args.len _ _ _
+    (sym c.in_range.ensures.value ∙ c.if-in_range.false) (grind (arith, nat_tests)) c.in_ok-say_bad.ensures
+    c.in_err-offers.ensures.said)
+
 pub returns-clause-said : goal.returns-clause-said
 returns-clause-said g c =
-    run_says c.args.geometry.now.layout c.args.number (claims_of c.args.workspace.now) c.args.start c.args.len _ _ _ _
+    run_said c.args.geometry.now.layout c.args.number (claims_of c.args.workspace.now) c.args.start c.args.len _ _ _
     (sym c.in_range.ensures.value ∙ c.if-in_range.false) (grind (arith, nat_tests)) c.in_ok-say_bad.ensures
-    c.offers.ensures.said
+    c.in_ok-offers.ensures.said

@@ -1,5 +1,6 @@
 use Rattle.std.proofs.Common.{◌≡◌, true, nat_lt, arith, sym}
 use Rattle.std.proofs.lemmas.Bool.Decides.{nat_tests}
+use Rattle.std.proofs.lemmas.Result.{err_from_is_err_and}
 use Rattle.ffs_report.proofs.Reports.{said_none}
 use Rattle.ffs_workspace.specs.Holds.{claims_of}
 use Rattle.ffs_claims.proofs.Whole.{whole_is, run_below}
@@ -9,7 +10,7 @@ pub claim-requires-clause-below : goal.claim-requires-clause-below
 claim-requires-clause-below g c = omega (
   arith,
   run_below c.args.geometry.now.layout c.args.start c.args.len c.requires.some c.requires.in_range,
-  c.requires.made.claimed,
+  c.requires.room.made.claimed,
 )
 
 pub returns-then-claim-clause-said : goal.returns-then-claim-clause-said
@@ -25,10 +26,21 @@ returns-then-claim-clause-claims g c =
     let whole = whole_is c.args.geometry.now.layout (claims_of c.args.workspace.now) c.args.start c.args.len few
     c.requires.in_range (c.claim.ensures.clear c.if-claim.true) in
     let more : c.from.result ≡ c.args.len = omega arith in
-    rw (c.claim.ensures.claimed c.if-claim.true, more) (sym whole.claims)
+    record {
+      claims_are = rw (c.claim.ensures.claimed c.if-claim.true, more) (sym whole.claims);
+      uncut = sym c.requires.open;
+    }
+
+pub returns-in_err-offers-clause-said : goal.returns-in_err-offers-clause-said
+returns-in_err-offers-clause-said g c =
+    let p = err_from_is_err_and c.from_residual.result c.from_residual.ensures.1 in
+    rw (p.1) (rw (c.claim.ensures.kept c.if-claim.false) at c.in_err-offers.ensures.said)
 
 pub returns-clause-said : goal.returns-clause-said
-returns-clause-said g c = rw (c.claim.ensures.kept c.if-claim.false) at c.offers.ensures.said
+returns-clause-said g c = rw (c.claim.ensures.kept c.if-claim.false) at c.in_ok-offers.ensures.said
 
 pub returns-clause-claims : goal.returns-clause-claims
-returns-clause-claims g c = rw (c.claim.ensures.kept c.if-claim.false) at c.offers.ensures.claims
+returns-clause-claims g c = record {
+  claims_are = rw (c.claim.ensures.kept c.if-claim.false) at c.in_ok-offers.ensures.claims;
+  uncut = c.is_open.ensures;
+}

@@ -9,7 +9,7 @@ use Rattle.ffs_claims.proofs.offer.take.Goals as goal
 pub overflow_add-workspace-3 : goal.overflow_add-workspace-3
 overflow_add-workspace-3 c =
     let old = c.args.workspace.now.duplicates in
-    let made = c.requires.made in
+    let made = c.requires.room.made in
     omega (
       arith,
       made.unreported,
@@ -22,7 +22,7 @@ overflow_add-workspace-3 c =
 pub returns-clause-only : goal.returns-clause-only
 returns-clause-only c =
     let old = c.args.workspace.now.duplicates in
-    let m = c.requires.made in
+    let m = c.requires.room.made in
     let size : length (bits_of c.args.workspace.now.duplicates) ≡ c.args.geometry.now.layout.size =
     length_bits c.args.workspace.now.duplicates.words.items c.args.workspace.now.duplicates.size ∙ m.duplicates in
     let low : c.args.fragment < c.args.geometry.now.layout.size = ok_below c.args.geometry.now.layout c.args.fragment

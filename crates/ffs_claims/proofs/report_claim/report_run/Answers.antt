@@ -18,7 +18,7 @@ loop-place-init g c =
     let n = c.args.number in
     let w = c.args.workspace.now in
     record {
-      only = offers_reported_none c.args.geometry.now.layout w c.requires.made;
+      only = offers_reported_none c.args.geometry.now.layout w c.requires.can.made;
       reported = reporting_same _ _ _ _ _
           (reporting_begins (map (offer_at n) (range_with_len c.args.start c.args.len)) w)
           (ap (map (offer_at n)) (from_start c.args.start c.args.len));

@@ -124,9 +124,9 @@ loop-number-preserved g c =
     λ bytes k. looked_on v bytes cuts n d d' c.args.geometry.now.sound inv.low lt inside (cut ∙ k.1.cut n)
     (c.in_ok-renumbered.ensures.rewalked bytes (image ∙ k.0)).reported.dup in
     record {
-      ready = c.renumbered.ensures.ready;
+      ready = c.renumbered.ensures.left.ready;
       device = c.in_ok-renumbered.ensures.image ∙ inv.device;
-      claims = claims_then _ _ _ inv.claims c.renumbered.ensures.claims;
+      claims = claims_then _ _ _ inv.claims c.renumbered.ensures.left.claims;
       low = omega arith;
       high = λ h. omega arith;
       runs = λ bytes k. omega (

@@ -10,7 +10,7 @@ use Rattle.ffs_phase.proofs.Reporting.{of_begins, of_reads, reports_same, report
 use Rattle.ffs_claims.specs.Lines.{of_lines}
 use Rattle.ffs_claims.specs.Rescan.{rescan, offers_again, runs_again}
 use Rattle.ffs_claims.proofs.Inodes.{ok_where}
-use Rattle.ffs_claims.proofs.Frames.{ready_table}
+use Rattle.ffs_claims.proofs.Frames.{ready_table, claims_still, claims_none, claims_then}
 use Rattle.ffs_claims.proofs.Rewalks.{rewalked_from}
 use Rattle.ffs_claims.specs.SecondLook.{Rewalked}
 use Rattle.ffs_claims.proofs.second.renumbered.Goals as goal
@@ -82,17 +82,34 @@ returns-clause-runs g c = λ bytes t.
 
 pub inode-requires : goal.inode-requires
 inode-requires g c =
-    let ready = c.requires.ready in
-    record { number = c.requires.number; volume = ready.volume; room = ready.made.table; holds = ready.windows.table }
+    let ready = c.requires.can.ready in
+    record { number = c.requires.can.number_fits; volume = ready.volume; room = ready.made.table; holds = ready.windows.table }
 
-pub returns-in_err-inode-clause-ready : goal.returns-in_err-inode-clause-ready
-returns-in_err-inode-clause-ready g c =
+pub returns-in_err-inode-clause-left : goal.returns-in_err-inode-clause-left
+returns-in_err-inode-clause-left g c =
     let err = c.in_err-inode.ensures.err in
-    ready_table c.args.geometry.now.layout (g.I.Image.device c.args.image.now) _ c.args.workspace.now c.inode.new.self
-    err.contents err.size c.inode.ensures.room c.inode.ensures.holds c.requires.ready
+    record {
+      ready = ready_table c.args.geometry.now.layout (g.I.Image.device c.args.image.now) _ c.args.workspace.now
+          c.inode.new.self err.contents err.size c.inode.ensures.room c.inode.ensures.holds c.requires.can.ready;
+      claims = claims_still _ _ _ (claims_none c.args.workspace.now);
+    }
 
-pub rewalk-requires-clause-ready : goal.rewalk-requires-clause-ready
-rewalk-requires-clause-ready g c =
+pub returns-clause-left : goal.returns-clause-left
+returns-clause-left g c =
+    record {
+      ready = c.rewalk.ensures.left.ready;
+      claims = claims_then _ _ _ (claims_still _ _ _ (claims_none c.args.workspace.now)) c.rewalk.ensures.left.claims;
+    }
+
+pub rewalk-requires : goal.rewalk-requires
+rewalk-requires g c =
     let ok = c.in_ok-inode.ensures.ok in
-    ready_table c.args.geometry.now.layout (g.I.Image.device c.args.image.now) _ c.args.workspace.now c.inode.new.self
-    (ap (λ d. d.contents) ok) (ap (λ d. d.size) ok) c.inode.ensures.room c.inode.ensures.holds c.requires.ready
+    record {
+      can = record {
+        ready = ready_table c.args.geometry.now.layout (g.I.Image.device c.args.image.now) _ c.args.workspace.now
+            c.inode.new.self (ap (λ d. d.contents) ok) (ap (λ d. d.size) ok) c.inode.ensures.room c.inode.ensures.holds
+            c.requires.can.ready;
+        number_fits = c.requires.can.number_fits;
+        pending = c.requires.can.pending;
+      };
+    }

@@ -27,9 +27,9 @@ loop-next-init g c =
     let d = bits_of c.args.workspace.now.duplicates in
     let begun : c.start-rescan.result ≡ rescan c.args.cut = c.start-rescan.ensures in
     record {
-      ready = c.requires.ready;
+      ready = c.requires.can.ready;
       going = rw begun (going_first c.args.cut);
-      pending = c.requires.pending;
+      pending = c.requires.can.pending;
       geometry = c.start-walk.ensures.geometry;
       device = refl;
       claims = claims_none c.args.workspace.now;
@@ -63,18 +63,20 @@ returns-in_err-next g c =
       text = of_reads _ _ _ _ _ inv.said;
       rewalked = tt;
       runs = λ bytes t. omega (arith, (inv.walk bytes t).runs);
-      ready = ready_read c.args.geometry.now.layout _ (g.I.Image.device c.next.new.image)
-          c.loop-next.workspace c.next.new.blocks
-          err.contents err.size c.next.ensures.kept.size (rw inv.geometry at c.next.ensures.kept.holds) inv.ready;
-      claims = claims_still _ _ _ inv.claims;
+      left = record {
+        ready = ready_read c.args.geometry.now.layout _ (g.I.Image.device c.next.new.image)
+            c.loop-next.workspace c.next.new.blocks
+            err.contents err.size c.next.ensures.kept.size (rw inv.geometry at c.next.ensures.kept.holds) inv.ready;
+        claims = claims_still _ _ _ inv.claims;
+      };
     })
 
-pub report_again-requires-clause-made : goal.report_again-requires-clause-made
-report_again-requires-clause-made g c =
+pub report_again-requires-clause-can : goal.report_again-requires-clause-can
+report_again-requires-clause-can g c =
     let inv = c.loop-next.invariant in
     let read = ready_walked c.args.geometry.now _ _ _ c.loop-next.workspace c.next.new.blocks inv.geometry
     c.in_ok-next.ensures.read c.next.ensures.kept.size c.next.ensures.kept.holds inv.ready in
-    read.made
+    record { made = read.made; number_fits = c.requires.can.number_fits }
 
 pub returns-in_err-report_again : goal.returns-in_err-report_again
 returns-in_err-report_again g c =
@@ -107,8 +109,10 @@ returns-in_err-report_again g c =
         runs_next v r
             (again v r step) step (rest bytes c.loop-next.walk) (rest bytes c.next.new.self) (next bytes t) refl,
       );
-      ready = ready_still v _ _ _ only.made only.windows read;
-      claims = claims_then _ _ _ (claims_still _ _ _ inv.claims) only.claims;
+      left = record {
+        ready = ready_still v _ _ _ only.made only.windows read;
+        claims = claims_then _ _ _ (claims_still _ _ _ inv.claims) only.claims;
+      };
     })
 
 pub skip_gaps-requires : goal.skip_gaps-requires
@@ -227,8 +231,10 @@ returns-then-not-is_going g c =
           (offers_stopped v n r' (rest bytes c.next.new.self) cut)
           (looked_stopped v n r' (rest bytes c.next.new.self) d' cut) (walk bytes t);
       runs = λ bytes t. omega (arith, (walk bytes t).runs);
-      ready = ready_still v _ _ _ only.made only.windows read;
-      claims = claims_then _ _ _ (claims_still _ _ _ inv.claims) only.claims;
+      left = record {
+        ready = ready_still v _ _ _ only.made only.windows read;
+        claims = claims_then _ _ _ (claims_still _ _ _ inv.claims) only.claims;
+      };
     }
 
 pub returns-then-workspace-eq0 : goal.returns-then-workspace-eq0
@@ -264,8 +270,10 @@ returns-then-workspace-eq0 g c =
           c.in_ok-report_again.ensures.said;
       rewalked = λ bytes t. rewalk_over _ _ _ _ r' (rest bytes c.next.new.self) _ _ none (walk bytes t);
       runs = λ bytes t. omega (arith, (walk bytes t).runs);
-      ready = ready_still v _ _ _ only.made only.windows read;
-      claims = claims_then _ _ _ (claims_still _ _ _ inv.claims) only.claims;
+      left = record {
+        ready = ready_still v _ _ _ only.made only.windows read;
+        claims = claims_then _ _ _ (claims_still _ _ _ inv.claims) only.claims;
+      };
     }
 
 pub returns-in_default : goal.returns-in_default
@@ -288,7 +296,9 @@ returns-in_default g c =
           (rewalk_ends _ _ _ _ r (rest bytes c.loop-next.walk) _ _ (none bytes t)
           (looked_over v n r (rest bytes c.loop-next.walk) d (over bytes t)) (inv.walk bytes t));
       runs = λ bytes t. omega (arith, (inv.walk bytes t).runs);
-      ready = ready_walked c.args.geometry.now _ _ _ c.loop-next.workspace c.next.new.blocks inv.geometry ok
-          c.next.ensures.kept.size c.next.ensures.kept.holds inv.ready;
-      claims = claims_still _ _ _ inv.claims;
+      left = record {
+        ready = ready_walked c.args.geometry.now _ _ _ c.loop-next.workspace c.next.new.blocks inv.geometry ok
+            c.next.ensures.kept.size c.next.ensures.kept.holds inv.ready;
+        claims = claims_still _ _ _ inv.claims;
+      };
     }
