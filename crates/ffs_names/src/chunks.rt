@@ -19,7 +19,7 @@ use ffs_image::{Image, ImageFault};
 use ffs_layout::Geometry;
 use ffs_volume::constants::{DIRBLKSIZ, MINDIRSIZE};
 use ffs_volume::{Inode, Step};
-use ffs_walk::{Blocks, Walk, Window};
+use ffs_walk::{Blocks, Walk, Window, class_of};
 
 /// A reading of the chunks of a directory (dir(5)), in the order of the file: those of its Runs of data that are kept.
 #[derive(Clone, Copy, Debug)]
@@ -132,13 +132,14 @@ impl Chunks {
     }
 
     /// A reading of the directory with this inode, of which no offer is kept after the cut (0 for none).
+    #[inline(always)]
     pub fn start(geometry: &Geometry, inode: &Inode, cut: u32) -> Chunks
         ensures begins { BeginsAt geometry.now.layout inode.now cut result }
         ensures geometry { result.walk.geometry ≡ geometry.now }
     {
         let taken = taken_of(inode.size);
         Chunks {
-            walk: Walk::start(geometry, inode),
+            walk: Walk::of_class(geometry, inode, class_of(geometry, inode)),
             keeping: Keeping::start(cut),
             taken,
             budget: (taken / DIRBLKSIZ as u64) as u32,

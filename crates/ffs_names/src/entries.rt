@@ -93,6 +93,7 @@ impl Entries {
     }
 
     /// Begins a reading of another directory of the same volume, as `start` does, in place.
+    #[inline(always)]
     pub fn restart(&mut self, inode: &Inode, cut: u32)
         ensures begins { BeginsDirectory self.old.chunks.walk.geometry.layout inode.now cut
             self.new }

@@ -1,7 +1,7 @@
 -- Laws of walks along parents.
 use Rattle.std.specs.Prelude.{◌≡◌, ◌≢◌, ℕ, zero, suc, ◌+◌, ◌-◌, ◌<◌, ◌≤◌, ◌==◌, Bool, true, false, ◌||◌, nat_le, List}
 use Rattle.std.specs.Prelude.{[], ◌∷◌, length, Option, None, Some, refl}
-use Rattle.std.proofs.Common.{arith, sym, ◌∙◌, ap, subst, inl, inr, set, ◌⊎◌, get_or-set_same, get_or-set_other}
+use Rattle.std.proofs.Common.{arith, sym, ◌∙◌, ap, subst, inl, inr, set, ◌⊎◌, get_or-set_same, get_or-set_other, length-set}
 use Rattle.std.proofs.lemmas.Bool.{or_left, or_right, or_from, le-leb, leb-true, cases_eq, cases_lt, eq-eqb, ne_eqb}
 use Rattle.std.proofs.lemmas.Bool.{cond-true, cond-false, false_from_ne_true}
 use Rattle.std.proofs.lemmas.List.{get_or_past}
@@ -323,6 +323,7 @@ pub marks_none : (f : ℕ → Option ℕ) (n start mark : ℕ) (old new : List �
     Walked f start mark old new → ((x : ℕ) → IsNew old new x → OnCycle f x → ⊥) → Marks f n old leader →
     Marks f n new leader
 marks_none f n start mark old new leader w none m = record {
+  long = m.long;
   known = λ x s. elim (cases_eq (number_at old x) 0) [
     | inr o ↦ m.known x o
     | inl z ↦ m.blank x z ∙ sym
@@ -337,6 +338,7 @@ pub marks_found : (f : ℕ → Option ℕ) (n start mark found e : ℕ) (old new
     e < length leader → IsClosed f old → Walked f start mark old new → FindsCycle f n old new found →
     IsLeastOn f n found e → Marks f n old leader → Marks f n new (set leader e true)
 marks_found f n start mark found e old new leader l c w g i m = record {
+  long = length-set leader e true ∙ m.long;
   known = λ x s. elim (cases_eq x e) [
     | inl y ↦ (ap (bool_at (set leader e true)) y ∙ get_or-set_same leader e true false l)
         ∙ sym (ap (leads_cycle f n) y ∙ leads_cycle-from f n e i.leader i.short)

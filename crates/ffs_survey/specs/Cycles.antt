@@ -62,7 +62,14 @@ pub record IsLeastOn (f : ℕ → Option ℕ) (n found e : ℕ) : Type 0 where
   pub short : leader.cycle.length < n
   pub on : (k : ℕ) × (climb f k found ≡ Some e)
 
+-- there is a stamp and a mark for each parent
+pub record CanMark (parents stamp : List ℕ) (leaders : List Bool) : Type 0 where
+  pub few : length parents < 2 ^ 31
+  pub stamps : length stamp ≡ length parents
+  pub leaders_long : length leaders ≡ length parents
+
 -- the marks of leaders, where all that is stamped is known
 pub record Marks (f : ℕ → Option ℕ) (n : ℕ) (stamp : List ℕ) (leader : List Bool) : Type 0 where
+  pub long : length leader ≡ n
   pub known : (x : ℕ) → number_at stamp x ≢ 0 → bool_at leader x ≡ leads_cycle f n x
   pub blank : (x : ℕ) → number_at stamp x ≡ 0 → bool_at leader x ≡ false

@@ -1,5 +1,5 @@
 -- What a walk over directories discovers and counts, said by what is still to go.
-use Rattle.std.specs.Prelude.{◌≡◌, ℕ, zero, suc, ◌+◌, ◌<◌, ◌≤◌, ◌==◌, Bool, true, false, not, cond}
+use Rattle.std.specs.Prelude.{◌≡◌, ℕ, zero, suc, ◌+◌, ◌*◌, ◌^◌, ◌<◌, ◌≤◌, ◌==◌, Bool, true, false, not, cond}
 use Rattle.std.specs.Prelude.{◌&&◌, ◌||◌, length, take, drop}
 use Rattle.std.specs.Prelude.{if◌then◌else◌, List, [], ◌∷◌, Option, None, Some, is_some, unwrap_or, find, count_by}
 use Rattle.std.specs.List.{list_any, sum_by}
@@ -7,7 +7,19 @@ use Rattle.ffs_volume.specs.Directories.Roles.{RoledEntry, refers}
 use Rattle.ffs_volume.specs.Disk.Search.{first_below}
 use Rattle.ffs_volume.specs.Directories.Climb.{is_value}
 use Rattle.ffs_volume.specs.Directories.Graph.{Graph, names, names_in, edge, within, level, parent}
-use Rattle.ffs_survey.specs.Survey.{bool_at, number_at, dir_at, counted_in}
+use Rattle.ffs_survey.specs.Survey.{bool_at, number_at, dir_at, counted_in, most_start}
+
+-- what a survey has found so far: references, named and reached inodes, parents, calm directories, and the queue
+pub record Found : Type 0 where
+  pub references : List ℕ
+  pub named : List Bool
+  pub reached : List Bool
+  pub parents : List ℕ
+  pub calm : List Bool
+  pub queue : List ℕ
+
+abbrev pub found_of : List ℕ → List Bool → List Bool → List ℕ → List Bool → List ℕ → Found
+found_of f n r p c q = record { references = f; named = n; reached = r; parents = p; calm = c; queue = q }
 
 -- 1 for true
 abbrev pub bit : Bool → ℕ
@@ -56,6 +68,12 @@ count_of g ss x = sum_by (λ s. counted_in g s x) ss
 
 abbrev pub any_of : Graph → List ℕ → ℕ → Bool
 any_of g ss x = list_any (λ s. names_in g s x) ss
+
+-- the counts f and the flags m of the numbers below n become f' and m' with this entry
+pub record IsCounted (n : ℕ) (e : RoledEntry) (f : List ℕ) (m : List Bool) (f' : List ℕ) (m' : List Bool)
+    : Type 0 where
+  pub references : (x : ℕ) → x < n → number_at f' x ≡ number_at f x + bit (refers x e)
+  pub named : (x : ℕ) → x < n → bool_at m' x ≡ (bool_at m x || names x e)
 
 -- none is to go
 abbrev pub none : ℕ → ℕ
@@ -129,10 +147,12 @@ pub record IsRead (g : Graph) (kinds : List ℕ) (r : List Bool) (n : ℕ) (f : 
   pub parents : (x : ℕ) → x < g.count
       → number_at p' x ≡ unwrap_or (first_below (is_free_edge g kinds r x) n) (number_at p x)
 
--- a level is in the queue from `low` to `high`, and after it there is room for all that isn't reached yet
-pub record HasRoom (low high : ℕ) (r : List Bool) (q : List ℕ) : Type 0 where
+-- A level is in the queue from `low` to `high`: after it there is room for all that isn't reached yet, and no inode has
+-- more references than its start and the directories before it can give.
+pub record HasRoom (low high : ℕ) (f : List ℕ) (r : List Bool) (q : List ℕ) : Type 0 where
   pub ordered : low ≤ high
   pub room : high + unset r ≤ length q
+  pub counted : (x : ℕ) → x < length f → number_at f x ≤ (low + 1) * 2 ^ 28
 
 -- all levels up to k are known, and the queue has level k from `low` to `high`
 pub record AtLevel (g : Graph) (k low high : ℕ) (r : List Bool) (p q : List ℕ) : Type 0 where
@@ -144,8 +164,9 @@ pub record IsReachedDir (kinds : List ℕ) (r : List Bool) (d : ℕ) : Type 0 wh
   pub dir : dir_at kinds d ≡ true
   pub marked : bool_at r d ≡ true
 
--- nothing is found yet
-pub record NothingFound (n r : List Bool) (p : List ℕ) (flags : List Bool) : Type 0 where
+-- nothing is found yet, and no count of references is past the greatest start
+pub record NothingFound (f : List ℕ) (n r : List Bool) (p : List ℕ) (flags : List Bool) : Type 0 where
+  pub starts : (x : ℕ) → number_at f x ≤ most_start
   pub named : (x : ℕ) → bool_at n x ≡ false
   pub reached : (x : ℕ) → bool_at r x ≡ false
   pub parents : (x : ℕ) → number_at p x ≡ 0

@@ -6,3 +6,4 @@ pub mod Lists
 pub mod SurveyLaws
 pub mod ParentLaws
 pub mod Calm
+pub mod Levels

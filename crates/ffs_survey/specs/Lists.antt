@@ -1,8 +1,9 @@
 -- The lists of a survey: each has a place for every inode.
-use Rattle.std.specs.Prelude.{◌≡◌, ℕ, ◌<◌, ◌^◌, Bool, List, length}
+use Rattle.std.specs.Prelude.{◌≡◌, ℕ, ◌+◌, ◌<◌, ◌≤◌, ◌^◌, Bool, List, length}
 use Rattle.ffs_volume.specs.Directories.Climb.{leads_cycle}
-use Rattle.ffs_survey.specs.Survey.{bool_at}
+use Rattle.ffs_survey.specs.Survey.{bool_at, number_at}
 use Rattle.ffs_survey.specs.Cycles.{up_of}
+use Rattle.ffs_survey.specs.Discover.{unset}
 
 -- which inodes are marked, and which are reached
 pub record MarkLists (kinds : List ℕ) (m r : List Bool) : Type 0 where
@@ -14,12 +15,34 @@ pub record TreeLists (kinds : List ℕ) (r : List Bool) (p : List ℕ) : Type 0 
   pub reached : length r ≡ length kinds
   pub parents : length p ≡ length kinds
 
--- the references of each inode and whether an entry names it, and the lists of the tree
-pub record EntryLists (kinds f : List ℕ) (n r : List Bool) (p : List ℕ) : Type 0 where
+-- the lists of the tree, and a queue that has room after `top` for each inode that isn't reached
+pub record QueueLists (kinds : List ℕ) (r : List Bool) (p : List ℕ) (top : ℕ) (q : List ℕ) : Type 0 where
+  pub reached : length r ≡ length kinds
+  pub parents : length p ≡ length kinds
+  pub room : top + unset r ≤ length q
+
+-- the references of each inode and whether an entry names it: one more reference of x fits
+pub record CountLists (kinds f : List ℕ) (n : List Bool) (x : ℕ) : Type 0 where
+  pub references : length f ≡ length kinds
+  pub named : length n ≡ length kinds
+  pub room : x < length kinds → number_at f x + 1 < 2 ^ 64
+
+-- the references of each inode, at most so many, and whether an entry names it; and the lists of the tree
+pub record EntryLists (most : ℕ) (kinds f : List ℕ) (n r : List Bool) (p : List ℕ) : Type 0 where
   pub references : length f ≡ length kinds
   pub named : length n ≡ length kinds
   pub reached : length r ≡ length kinds
   pub parents : length p ≡ length kinds
+  pub few : (x : ℕ) → x < length kinds → number_at f x ≤ most
+
+-- those lists, and which inodes are marked
+pub record LevelLists (most : ℕ) (kinds : List ℕ) (m : List Bool) (f : List ℕ) (n r : List Bool) (p : List ℕ) : Type 0 where
+  pub marked : length m ≡ length kinds
+  pub references : length f ≡ length kinds
+  pub named : length n ≡ length kinds
+  pub reached : length r ≡ length kinds
+  pub parents : length p ≡ length kinds
+  pub few : (x : ℕ) → x < length kinds → number_at f x ≤ most
 
 -- all lists of a survey: inode 2 is there, and numbers of inodes and places in the queue fit into 31 bits
 pub record SurveyLists (kinds : List ℕ) (m : List Bool) (f : List ℕ) (n r : List Bool) (p q : List ℕ) : Type 0 where
@@ -45,3 +68,7 @@ pub record FoundLists (kinds : List ℕ) (m n r : List Bool) (p : List ℕ) (lea
   pub parents : length p ≡ length kinds
   pub leaders_long : length leaders ≡ length kinds
   pub cycles : (x : ℕ) → bool_at leaders x ≡ leads_cycle (up_of p) (length p) x
+
+-- no reference count below n grew by more than `most`
+abbrev pub GrowsBy : ℕ → ℕ → List ℕ → List ℕ → Type 0
+GrowsBy n most old new = (x : ℕ) → x < n → number_at new x ≤ number_at old x + most

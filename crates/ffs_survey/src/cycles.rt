@@ -1,8 +1,8 @@
 //! Cycles of parents.
-ghost use Rattle.std.specs.Prelude.{◌≡◌, ◌<◌, ◌+◌, ℕ, ◌^◌, length, MatchOption, false};
+ghost use Rattle.std.specs.Prelude.{◌≡◌, ◌<◌, ◌+◌, ℕ, length, MatchOption, false};
 ghost use Rattle.ffs_volume.specs.Directories.Climb.{OnCycle, leads_cycle};
 ghost use Rattle.ffs_survey.specs.Survey.{bool_at};
-ghost use Rattle.ffs_survey.specs.Cycles.{up_of, CanWalk, ComesBack, IsNew, Walked, FindsCycle, IsLeastOn, Marks};
+ghost use Rattle.ffs_survey.specs.Cycles.{up_of, CanWalk, ComesBack, IsNew, CanMark, Walked, FindsCycle, IsLeastOn, Marks};
 
 /// Walks up from `start` and stamps what it passes, until there is nothing above or a stamp. Answers a number on the
 /// cycle that it closed, if it closed one.
@@ -57,7 +57,6 @@ fn least_on(found: u32, parents: &[u32]) -> u32
 /// Walks up from `start`, and marks the least number of the cycle that the walk closes, if it closes one.
 fn mark_from(start: u32, parents: &[u32], stamp: &mut [u32], leaders: &mut [bool])
     requires walk { CanWalk parents.now stamp.old start }
-    requires leaders { length leaders.old ≡ length parents.now }
     requires marks { Marks (up_of parents.now) (length parents.now) stamp.old leaders.old }
     ensures walked { Walked (up_of parents.now) start (start + 1) stamp.old stamp.new }
     ensures marks { Marks (up_of parents.now) (length parents.now) stamp.new leaders.new }
@@ -72,9 +71,7 @@ fn mark_from(start: u32, parents: &[u32], stamp: &mut [u32], leaders: &mut [bool
 /// Marks each number that is the least on a cycle of parents, in time linear in their number. A parent of 0, or past
 /// the list, is none. What `stamp` and `leaders` held before is forgotten.
 pub fn mark_leaders(parents: &[u32], stamp: &mut [u32], leaders: &mut [bool])
-    requires few { length parents.now < 2 ^ 31 }
-    requires stamps { length stamp.old ≡ length parents.now }
-    requires leaders { length leaders.old ≡ length parents.now }
+    requires { CanMark parents.now stamp.old leaders.old }
     ensures { (x : ℕ) → bool_at leaders.new x
         ≡ leads_cycle (up_of parents.now) (length parents.now) x }
 {

@@ -1,12 +1,13 @@
 //! What one directory, and one level of directories, names.
 ghost use Rattle.std.specs.Prelude.{◌≡◌, ◌==◌, ◌*◌, ◌+◌, ℕ, ◌<◌, ◌≤◌, ◌^◌, ◌&&◌, ◌||◌, nat_le, cond, List, [], ◌∷◌, length, take, All, true, false, IfOk, OnOk};
-ghost use Rattle.ffs_volume.specs.Directories.Roles.{refers, is_plain as is_plain_role};
+ghost use Rattle.ffs_volume.specs.Directories.Roles.{is_plain as is_plain_role};
 ghost use Rattle.ffs_volume.specs.Directories.Graph.{names};
 ghost use Rattle.ffs_survey.specs.Reading.{roled_of, ForKnown, LeavesReader};
-ghost use Rattle.ffs_survey.specs.Lists.{MarkLists, TreeLists, EntryLists};
-ghost use Rattle.ffs_survey.specs.Survey.{bool_at, number_at, graph_with};
-ghost use Rattle.ffs_survey.specs.Calm.{is_calm_kind, is_calm_plain, is_calm_entry, are_calm, AreCalm, IsFlagged};
-ghost use Rattle.ffs_survey.specs.Discover.{bit, unset, Comes, from_entries, from_dirs, nothing, count_in, any_in, count_of, any_of, none, never, Counts, IsReachedDir, is_free as is_free_at};
+ghost use Rattle.ffs_survey.specs.Lists.{MarkLists, TreeLists, QueueLists, CountLists, EntryLists, LevelLists, GrowsBy};
+ghost use Rattle.ffs_survey.specs.Levels.{ReadsReached, ReadsDirs, ReadsUnreached};
+ghost use Rattle.ffs_survey.specs.Survey.{bool_at, number_at};
+ghost use Rattle.ffs_survey.specs.Calm.{is_calm_kind, is_calm_plain, is_calm_entry, IsFlagged};
+ghost use Rattle.ffs_survey.specs.Discover.{unset, found_of, IsCounted, Comes, from_entries, nothing, none, Counts, IsReachedDir, is_free as is_free_at};
 
 use crate::directories::Directories;
 use crate::named::{Named, is_counted, is_dir, is_plain};
@@ -14,30 +15,20 @@ use ffs_image::ImageFault;
 use ffs_volume::Role;
 use ffs_volume::constants::{DT_DIR, DT_WHT, EMPTY_DIR, ROOTINO, UNKNOWN_TYPE};
 
-/// Counts an entry for the inode that it names.
-fn count_reference(entry: Named, references: &mut [u64])
-    requires room { entry.number < length references.old → number_at references.old entry.number + 1
-        < 2 ^ 64 }
-    ensures { (x : ℕ) → x < length references.old → number_at references.new x
-        ≡ number_at references.old x + bit (refers x (roled_of entry [])) }
+/// Counts an entry for the inode that it names, and marks that inode where the entry is plain.
+fn count_entry(entry: Named, kinds: &[u8], references: &mut [u64], named: &mut [bool])
+    requires { CountLists kinds.now references.old named.old entry.number }
+    ensures { IsCounted (length kinds.now) (roled_of entry []) references.old named.old
+        references.new named.new }
 {
     let number = entry.number as usize;
-    if !is_counted(entry.role) || number >= references.len() {
+    if !is_counted(entry.role) || number >= kinds.len() {
         return;
     }
     references[number] += 1;
-}
-
-/// Marks the inode that a plain entry names.
-fn mark_named(entry: Named, named: &mut [bool])
-    ensures { (x : ℕ) → x < length named.old → bool_at named.new x
-        ≡ (bool_at named.old x || names x (roled_of entry [])) }
-{
-    let number = entry.number as usize;
-    if !is_plain(entry.role) || number >= named.len() {
-        return;
+    if is_plain(entry.role) {
+        named[number] = true;
     }
-    named[number] = true;
 }
 
 /// Whether a number is that of a directory without a mark.
@@ -66,8 +57,7 @@ fn visit(
     queue: &mut [u32],
     top: usize,
 ) -> usize
-    requires lists { TreeLists kinds.now reached.old parents.old }
-    requires room { top + unset reached.old ≤ length queue.old }
+    requires { QueueLists kinds.now reached.old parents.old top queue.old }
     ensures top { result + unset reached.new ≡ top + unset reached.old }
     ensures comes { Comes (from_entries kinds.now from (roled_of entry [] ∷ [])) reached.old
         parents.old (take top queue.old) nothing reached.new parents.new (take result queue.new) }
@@ -185,26 +175,16 @@ fn read_reached<D: Directories>(
     top: usize,
 ) -> Result<usize, ImageFault>
     requires ready { D.ready directories.old }
-    requires marked { length marked.now ≡ length kinds.now }
-    requires lists { EntryLists kinds.now references.old named.old reached.old parents.old }
-    requires few { (x : ℕ) → x < length kinds.now → number_at references.old x ≤ 2 ^ 60 }
+    requires lists { LevelLists (2 ^ 60) kinds.now marked.now references.old named.old reached.old
+        parents.old }
     requires room { top + unset reached.old ≤ length queue.old }
-    ensures grown { OnOk result ((x : ℕ) → x < length kinds.now → number_at references.new x
-        ≤ number_at references.old x + 2 ^ 28) }
+    ensures grown { OnOk result (GrowsBy (length kinds.now) (2 ^ 28) references.old references.new) }
     ensures top { IfOk result (λ n. n + unset reached.new ≡ top + unset reached.old) }
-    ensures comes { IfOk result (λ n. ForKnown D.knows D.entries D.sound (D.base directories.old)
-        (λ entries sound. Comes (from_entries kinds.now from (entries from)) reached.old
-        parents.old (take top queue.old) nothing reached.new parents.new (take n queue.new))) }
-    ensures counts { OnOk result (ForKnown D.knows D.entries D.sound (D.base directories.old)
-        (λ entries sound. Counts (length kinds.now) (count_in (entries from))
-        (any_in (entries from)) references.old named.old none never references.new named.new)) }
-    ensures calm { OnOk result (ForKnown D.knows D.entries D.sound (D.base directories.old)
-        (λ entries sound. IsFlagged from (are_calm (record {
-          kinds = kinds.now;
-          marked = marked.now;
-          dir = from;
-          above = number_at parents.old from;
-        }) (bool_at reached.old) 0 (entries from)) (sound from) calm.old calm.new)) }
+    ensures read { IfOk result (λ n. ForKnown D.knows D.entries D.sound (D.base directories.old)
+        (λ entries sound. ReadsReached kinds.now marked.now from (entries from) (sound from)
+        (found_of references.old named.old reached.old parents.old calm.old (take top queue.old))
+        (found_of references.new named.new reached.new parents.new calm.new
+        (take n queue.new)))) }
     ensures reader { LeavesReader (D.ready directories.new) (D.base directories.old)
         (D.base directories.new) (D.device directories.old) (D.device directories.new) result }
 {
@@ -214,8 +194,7 @@ fn read_reached<D: Directories>(
     let mut count = 0u32;
     directories.start(from)?;
     while let Some(entry) = directories.next()? {
-        count_reference(entry, references);
-        mark_named(entry, named);
+        count_entry(entry, kinds, references, named);
         quiet &= is_calm(entry, count, from, above, kinds, marked, reached);
         high = visit(entry, from, kinds, reached, parents, queue, high);
         count += 1;
@@ -238,27 +217,20 @@ pub fn read_level<D: Directories>(
     queue: &mut [u32],
 ) -> Result<usize, ImageFault>
     requires ready { D.ready directories.old }
-    requires marked { length marked.now ≡ length kinds.now }
-    requires lists { EntryLists kinds.now references.old named.old reached.old parents.old }
+    requires lists { LevelLists (2 ^ 59) kinds.now marked.now references.old named.old reached.old
+        parents.old }
     requires few { length frontier.now < 2 ^ 31 }
-    requires counted { (x : ℕ) → x < length kinds.now → number_at references.old x ≤ 2 ^ 59 }
     requires room { unset reached.old ≤ length queue.old }
     requires frontier { ForKnown D.knows D.entries D.sound (D.base directories.old)
         (λ entries sound. All (IsReachedDir kinds.now reached.old) frontier.now) }
-    ensures grown { OnOk result ((x : ℕ) → x < length kinds.now → number_at references.new x
-        ≤ number_at references.old x + length frontier.now * 2 ^ 28) }
+    ensures grown { OnOk result (GrowsBy (length kinds.now) (length frontier.now * 2 ^ 28)
+        references.old references.new) }
     ensures top { IfOk result (λ n. n + unset reached.new ≡ unset reached.old) }
-    ensures comes { IfOk result (λ n. ForKnown D.knows D.entries D.sound (D.base directories.old)
-        (λ entries sound. Comes (from_dirs (graph_with kinds.now entries) frontier.now)
-        reached.old parents.old [] nothing reached.new parents.new (take n queue.new))) }
-    ensures counts { OnOk result (ForKnown D.knows D.entries D.sound (D.base directories.old)
-        (λ entries sound. let graph = graph_with kinds.now entries in Counts (length kinds.now)
-        (count_of graph frontier.now) (any_of graph frontier.now) references.old named.old none
-        never references.new named.new)) }
-    ensures calm { OnOk result (ForKnown D.knows D.entries D.sound (D.base directories.old)
-        (λ entries sound.
-        AreCalm kinds.now marked.now reached.old parents.old entries sound calm.old
-        → AreCalm kinds.now marked.now reached.new parents.new entries sound calm.new)) }
+    ensures read { IfOk result (λ n. ForKnown D.knows D.entries D.sound (D.base directories.old)
+        (λ entries sound. ReadsDirs kinds.now marked.now frontier.now entries sound
+        (found_of references.old named.old reached.old parents.old calm.old [])
+        (found_of references.new named.new reached.new parents.new calm.new
+        (take n queue.new)))) }
     ensures reader { LeavesReader (D.ready directories.new) (D.base directories.old)
         (D.base directories.new) (D.device directories.old) (D.device directories.new) result }
 {
@@ -310,26 +282,19 @@ pub fn read_unreached<D: Directories>(
     parents: &mut [u32],
 ) -> Result<(), ImageFault>
     requires ready { D.ready directories.old }
-    requires lists { EntryLists kinds.now references.old named.old reached.now parents.old }
-    requires few { (x : ℕ) → x < length kinds.now → number_at references.old x ≤ 2 ^ 60 }
+    requires lists { EntryLists (2 ^ 60) kinds.now references.old named.old reached.now
+        parents.old }
     requires from { 0 < from }
-    ensures grown { OnOk result ((x : ℕ) → x < length kinds.now → number_at references.new x
-        ≤ number_at references.old x + 2 ^ 28) }
-    ensures counts { OnOk result (ForKnown D.knows D.entries D.sound (D.base directories.old)
-        (λ entries sound. Counts (length kinds.now) (count_in (entries from))
-        (any_in (entries from)) references.old named.old none never references.new named.new)) }
-    ensures parents { OnOk result (ForKnown D.knows D.entries D.sound (D.base directories.old)
-        (λ entries sound. (x : ℕ) → x < length kinds.now → number_at parents.new x
-        ≡ cond ((number_at parents.old x == 0)
-        && (is_free_at kinds.now reached.now x && any_in (entries from) x)) from
-        (number_at parents.old x))) }
+    ensures grown { OnOk result (GrowsBy (length kinds.now) (2 ^ 28) references.old references.new) }
+    ensures read { OnOk result (ForKnown D.knows D.entries D.sound (D.base directories.old)
+        (λ entries sound. ReadsUnreached kinds.now reached.now from (entries from) references.old
+        named.old parents.old references.new named.new parents.new)) }
     ensures reader { LeavesReader (D.ready directories.new) (D.base directories.old)
         (D.base directories.new) (D.device directories.old) (D.device directories.new) result }
 {
     directories.start(from)?;
     while let Some(entry) = directories.next()? {
-        count_reference(entry, references);
-        mark_named(entry, named);
+        count_entry(entry, kinds, references, named);
         adopt(entry, from, kinds, reached, parents);
     }
     Ok(())

@@ -1,10 +1,11 @@
 //! The survey: level after level from inode 2, and then the directories that are not reached.
-ghost use Rattle.std.specs.Prelude.{◌≡◌, ◌<◌, ◌*◌, ◌+◌, ℕ, ◌≤◌, ◌^◌, not, length, take, drop, true, false, IfOk, OnOk};
-ghost use Rattle.ffs_survey.specs.Survey.{number_at, dir_at, graph_with, most_start, start_in, IsSurvey};
+ghost use Rattle.std.specs.Prelude.{◌≡◌, ◌<◌, ◌+◌, ℕ, ◌≤◌, ◌^◌, not, length, take, true, false, IfOk, OnOk};
+ghost use Rattle.ffs_survey.specs.Survey.{number_at, dir_at, graph_with, start_in, IsSurvey};
 ghost use Rattle.ffs_survey.specs.Calm.{AreCalm};
 ghost use Rattle.ffs_survey.specs.Reading.{ForKnown, LeavesReader};
 ghost use Rattle.ffs_survey.specs.Lists.{EntryLists, SurveyLists};
-ghost use Rattle.ffs_survey.specs.Discover.{count_of, any_of, none, never, Counts, HasRoom, AtLevel, NothingFound, IsReachedPart, IsBlank, IsRead};
+ghost use Rattle.ffs_survey.specs.Discover.{found_of, HasRoom, AtLevel, NothingFound, IsBlank, IsRead};
+ghost use Rattle.ffs_survey.specs.Levels.{ReadsLevel, ReadsAllReached};
 
 use crate::directories::Directories;
 use crate::discover::{is_free, read_level, read_unreached};
@@ -32,28 +33,16 @@ fn next_level<D: Directories>(
     requires lists { SurveyLists kinds.now marked.now references.old named.old reached.old
         parents.old queue.old }
     requires root { dir_at kinds.now 2 ≡ true }
-    requires room { HasRoom low high reached.old queue.old }
-    requires counted { (x : ℕ) → x < length kinds.now → number_at references.old x
-        ≤ (low + 1) * 2 ^ 28 }
+    requires room { HasRoom low high references.old reached.old queue.old }
     requires levels { ForKnown D.knows D.entries D.sound (D.base directories.old)
         (λ entries sound. AtLevel (graph_with kinds.now entries) depth low high reached.old
         parents.old queue.old) }
-    ensures room { IfOk result (λ n. HasRoom high n reached.new queue.new) }
-    ensures counted { OnOk result ((x : ℕ) → x < length kinds.now → number_at references.new x
-        ≤ (high + 1) * 2 ^ 28) }
+    ensures room { IfOk result (λ n. HasRoom high n references.new reached.new queue.new) }
     ensures kept { OnOk result (take high queue.new ≡ take high queue.old) }
-    ensures levels { IfOk result (λ n. ForKnown D.knows D.entries D.sound (D.base directories.old)
-        (λ entries sound. AtLevel (graph_with kinds.now entries) (depth + 1) high n reached.new
-        parents.new queue.new)) }
-    ensures counts { OnOk result (ForKnown D.knows D.entries D.sound (D.base directories.old)
-        (λ entries sound. let graph = graph_with kinds.now entries in
-        let frontier = drop low (take high queue.old) in
-        Counts (length kinds.now) (count_of graph frontier) (any_of graph frontier)
-        references.old named.old none never references.new named.new)) }
-    ensures calm { OnOk result (ForKnown D.knows D.entries D.sound (D.base directories.old)
-        (λ entries sound.
-        AreCalm kinds.now marked.now reached.old parents.old entries sound calm.old
-        → AreCalm kinds.now marked.now reached.new parents.new entries sound calm.new)) }
+    ensures read { IfOk result (λ n. ForKnown D.knows D.entries D.sound (D.base directories.old)
+        (λ entries sound. ReadsLevel kinds.now marked.now depth low high n entries sound
+        (found_of references.old named.old reached.old parents.old calm.old queue.old)
+        (found_of references.new named.new reached.new parents.new calm.new queue.new))) }
     ensures reader { LeavesReader (D.ready directories.new) (D.base directories.old)
         (D.base directories.new) (D.device directories.old) (D.device directories.new) result }
 {
@@ -89,16 +78,12 @@ fn survey_reached<D: Directories>(
     requires ready { D.ready directories.old }
     requires lists { SurveyLists kinds.now marked.now references.old named.old reached.old
         parents.old queue.old }
-    requires starts { (x : ℕ) → number_at references.old x ≤ most_start }
-    requires begins { NothingFound named.old reached.old parents.old calm.old }
+    requires begins { NothingFound references.old named.old reached.old parents.old calm.old }
     ensures counted { OnOk result ((x : ℕ) → x < length kinds.now → number_at references.new x
         ≤ 2 ^ 59) }
-    ensures part { OnOk result (ForKnown D.knows D.entries D.sound (D.base directories.old)
-        (λ entries sound. IsReachedPart (graph_with kinds.now entries) references.old
-        references.new named.new reached.new parents.new)) }
-    ensures calm { OnOk result (ForKnown D.knows D.entries D.sound (D.base directories.old)
-        (λ entries sound.
-        AreCalm kinds.now marked.now reached.new parents.new entries sound calm.new)) }
+    ensures read { OnOk result (ForKnown D.knows D.entries D.sound (D.base directories.old)
+        (λ entries sound. ReadsAllReached kinds.now marked.now entries sound references.old
+        (found_of references.new named.new reached.new parents.new calm.new queue.new))) }
     ensures reader { LeavesReader (D.ready directories.new) (D.base directories.old)
         (D.base directories.new) (D.device directories.old) (D.device directories.new) result }
 {
@@ -144,8 +129,8 @@ fn survey_unreached<D: Directories>(
 ) -> Result<(), ImageFault>
     requires ready { D.ready directories.old }
     requires few { length kinds.now < 2 ^ 31 }
-    requires lists { EntryLists kinds.now references.old named.old reached.now parents.old }
-    requires counted { (x : ℕ) → x < length kinds.now → number_at references.old x ≤ 2 ^ 59 }
+    requires lists { EntryLists (2 ^ 59) kinds.now references.old named.old reached.now
+        parents.old }
     ensures read { OnOk result (ForKnown D.knows D.entries D.sound (D.base directories.old)
         (λ entries sound. IsBlank kinds.now reached.now parents.old
         → IsRead (graph_with kinds.now entries) kinds.now reached.now (length kinds.now)

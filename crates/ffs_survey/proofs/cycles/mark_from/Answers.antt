@@ -14,7 +14,7 @@ returns-clause-marks c =
     let b = c.least_on-least.ensures.low in
     marks_found (up_of c.args.parents.now) (length c.args.parents.now) c.args.start (c.args.start + 1) c.in-Some.found
     c.least_on-least.result c.args.stamp.now c.walk.new.stamp c.args.leaders.now
-    (omega (arith, b, c.requires.leaders)) c.requires.walk.closed c.walk.ensures.walked
+    (omega (arith, b, c.requires.marks.long)) c.requires.walk.closed c.walk.ensures.walked
     (rw c.in-Some.is at c.walk.ensures.cycle) c.least_on-least.ensures c.requires.marks
 
 pub returns-in_default-clause-marks : goal.returns-in_default-clause-marks

@@ -8,9 +8,7 @@ pub loop-s-preserved : goal.loop-s-preserved
 loop-s-preserved g c =
     let inv = c.loop-s.invariant in
     let done = c.in_ok-top.ensures in
-    let comes = rw inv.base at done.comes in
-    let counts = rw inv.base at done.counts in
-    let calm = rw inv.base at done.calm in
+    let read = rw inv.base at done.read in
     record {
       ready = search rules;
       base = search rules;
@@ -20,18 +18,19 @@ loop-s-preserved g c =
       comes = λ b k.
           level_step _ c.args.kinds.now (g.D.Directories.entries (g.D.Directories.base c.args.directories.now) b)
           c.args.frontier.now c.loop-s.s-index _ _ _ _ _ _ _ _ _
-          c.loop-s-test.true (inv.still b k c.loop-s.s-index 0 c.loop-s-test.true).dir (inv.comes b k) (comes b k);
+          c.loop-s-test.true (inv.still b k c.loop-s.s-index 0 c.loop-s-test.true).dir (inv.comes b k) (read b k).comes;
       counts = λ b k.
           dir_counted (length c.args.kinds.now) _ _ c.args.kinds.now
           (g.D.Directories.entries (g.D.Directories.base c.args.directories.now) b) c.args.frontier.now
           c.loop-s.s-index _ _ _ _ _ _
-          c.loop-s-test.true (inv.still b k c.loop-s.s-index 0 c.loop-s-test.true).dir (inv.counts b k) (counts b k);
+          c.loop-s-test.true (inv.still b k c.loop-s.s-index 0 c.loop-s-test.true).dir (inv.counts b k) (read b k).counts;
       still = λ b k i d l.
           let s = inv.still b k i d l in
-          record { dir = s.dir; marked = (comes_stays _ _ _ _ _ _ _ (comes b k)).reached _ s.marked };
+          record { dir = s.dir; marked = (comes_stays _ _ _ _ _ _ _ (read b k).comes).reached _ s.marked };
       calm = λ b k old.
           calm_read c.args.kinds.now c.args.marked.now _ _ _ _ _ _
           (g.D.Directories.entries (g.D.Directories.base c.args.directories.now) b)
           (g.D.Directories.sound (g.D.Directories.base c.args.directories.now) b) _ _ _
-          (comes b k) (inv.still b k c.loop-s.s-index 0 c.loop-s-test.true).marked (calm b k) (inv.calm b k old);
+          (read b k).comes (inv.still b k c.loop-s.s-index 0 c.loop-s-test.true).marked (read b k).calm
+          (inv.calm b k old);
     }

@@ -24,7 +24,7 @@ loop-entry-preserved g c =
       left = let l = inv.left in omega (arith, l, fell);
       grown = λ x l.
           let old = inv.grown x l in
-          let new = c.count_reference.ensures x (omega (arith, l)) in
+          let new = c.count_entry.ensures.references x l in
           let one = bit-le (refers x e) in
           omega (arith, old, new, one, fell);
       counted = let n = inv.counted in omega (arith, n, fell);
@@ -37,8 +37,7 @@ loop-entry-preserved g c =
       counts = λ b k.
           entry_counted (length c.args.kinds.now) _ _ e (g.D.Directories.rest c.next.new.self b) c.args.references.now
           c.loop-entry.references _ c.args.named.now c.loop-entry.named _
-          (rw (cut b k) at (inv.counts b k)) (λ x l. c.count_reference.ensures x (omega (arith, l)))
-          (λ x l. c.mark_named.ensures x (omega (arith, l)));
+          (rw (cut b k) at (inv.counts b k)) c.count_entry.ensures.references c.count_entry.ensures.named;
       quiet = λ b k.
           calm_step (record {
             kinds = c.args.kinds.now;
@@ -53,8 +52,8 @@ loop-entry-preserved g c =
       sound = let s = rw inv.base at c.in_ok-entry.ensures.sound in λ b k. s b k ∙ inv.sound b k;
     }
 
-pub returns-clause-calm : goal.returns-clause-calm
-returns-clause-calm g c = λ b k.
+pub returns-clause-read : goal.returns-clause-read
+returns-clause-read g c = λ b k.
     let inv = c.loop-entry.invariant in
     let reported = rw inv.base at c.in_ok-entry.ensures.rest in
     let ended = rw inv.base at c.in_ok-entry.ensures.ended in
@@ -68,8 +67,12 @@ returns-clause-calm g c = λ b k.
     (entries c.args.from) (g.D.Directories.rest c.loop-entry.directories b) c.args.from c.parent_of-above.result
     c.loop-entry.count c.loop-entry.quiet
     c.parent_of-above.ensures none (inv.comes b k) (inv.quiet b k) in
-    subst (λ z. IsFlagged c.args.from z
-    (g.D.Directories.sound (g.D.Directories.base c.args.directories.now) b c.args.from) c.args.calm.now
-    c.flag_calm.new.calm) w.quiet_is
-    (subst (λ z. IsFlagged c.args.from (c.loop-entry.quiet && nat_le 2 c.loop-entry.count) z c.args.calm.now
-    c.flag_calm.new.calm) (right b k ∙ inv.sound b k) (flags b k end))
+    record {
+      comes = w.comes;
+      counts = rw none at (inv.counts b k);
+      calm = subst (λ z. IsFlagged c.args.from z
+          (g.D.Directories.sound (g.D.Directories.base c.args.directories.now) b c.args.from) c.args.calm.now
+          c.flag_calm.new.calm) w.quiet_is
+          (subst (λ z. IsFlagged c.args.from (c.loop-entry.quiet && nat_le 2 c.loop-entry.count) z c.args.calm.now
+          c.flag_calm.new.calm) (right b k ∙ inv.sound b k) (flags b k end));
+    }

@@ -24,14 +24,13 @@ loop-entry-preserved g c =
       left = let l = inv.left in omega (arith, l, fell);
       grown = λ x l.
           let old = inv.grown x l in
-          let new = c.count_reference.ensures x (omega (arith, l)) in
+          let new = c.count_entry.ensures.references x l in
           let one = bit-le (refers x e) in
           omega (arith, old, new, one, fell);
       counts = λ b k.
           entry_counted (length c.args.kinds.now) _ _ e (g.D.Directories.rest c.next.new.self b) c.args.references.now
           c.loop-entry.references _ c.args.named.now c.loop-entry.named _
-          (rw (cut b k) at (inv.counts b k)) (λ x l. c.count_reference.ensures x (omega (arith, l)))
-          (λ x l. c.mark_named.ensures x (omega (arith, l)));
+          (rw (cut b k) at (inv.counts b k)) c.count_entry.ensures.references c.count_entry.ensures.named;
       parents = λ b k x l.
           parent_step (is_free c.args.kinds.now c.args.reached.now x) (names x e)
           (any_in (g.D.Directories.rest c.next.new.self b) x) c.args.from (number_at c.loop-entry.parents x) _ _

@@ -2,7 +2,8 @@ use Rattle.std.proofs.Common.{◌≡◌, ℕ, ◌+◌, List, [], ◌++◌, take,
 use Rattle.std.proofs.Common.{length-take}
 use Rattle.std.proofs.lemmas.List.Sorted.{IsNonDecreasingBy-from_sort}
 use Rattle.ffs_survey.specs.Survey.{graph_with}
-use Rattle.ffs_survey.specs.Discover.{Comes, IsReachedDir, IsFrontier, LevelsKnown, from_dirs, nothing}
+use Rattle.ffs_survey.specs.Levels.{CountsDirs}
+use Rattle.ffs_survey.specs.Discover.{found_of, Comes, IsReachedDir, IsFrontier, LevelsKnown, from_dirs, nothing}
 use Rattle.ffs_survey.proofs.CalmLaws.{front_reached}
 use Rattle.ffs_survey.proofs.Frontiers.{front_dirs, sane_of}
 use Rattle.ffs_survey.proofs.Queues.{frontier_is, whole_queue, new_front, level_after, IsNextLevel}
@@ -22,8 +23,8 @@ read_level-requires-clause-frontier g c = λ b k.
       marked = front_reached _ _ _ _ _ _ at.frontier at.levels i d l;
     })
 
-pub returns-clause-levels : goal.returns-clause-levels
-returns-clause-levels g c = λ b k.
+pub returns-clause-read : goal.returns-clause-read
+returns-clause-read g c = λ b k.
     let at = c.requires.levels b k in
     let v = graph_with c.args.kinds.now (g.D.Directories.entries (g.D.Directories.base c.args.directories.now) b) in
     let xs = drop c.args.low (take c.args.high c.args.queue.now) in
@@ -37,7 +38,7 @@ returns-clause-levels g c = λ b k.
     c.read_level.new.parents (take c.args.high c.args.queue.now) (take c.in_ok-found.found c.read_level.new.queue)
     c.sort_unstable.new.self
     (sane_of c.args.kinds.now _ c.requires.lists.some) at.frontier at.levels
-    (subst P e (c.in_ok-found.ensures.comes b k)) c.sort_unstable.ensures.permutation
+    (subst P e (c.in_ok-found.ensures.read b k).comes) c.sort_unstable.ensures.permutation
     (IsNonDecreasingBy-from_sort (λ x. x) _ c.sort_unstable.ensures.sorted) in
     let t = c.in_ok-found.ensures.top in
     let room = c.requires.room.room in
@@ -54,12 +55,17 @@ returns-clause-levels g c = λ b k.
     ) in
     let rest = drop c.in_ok-found.found c.read_level.new.queue in
     record {
-      frontier = subst (λ ys. IsFrontier v (c.args.depth + 1) ys)
-          (sym (new_front c.args.high c.in_ok-found.found left c.sort_unstable.new.self rest front back)) n.frontier;
-      levels = subst (λ q. LevelsKnown v (c.args.depth + 1) c.read_level.new.reached c.read_level.new.parents q)
-          (sym (whole_queue c.args.high c.in_ok-found.found left c.sort_unstable.new.self rest front back
-          ∙ ap (λ z. z ++ c.sort_unstable.new.self) c.split_at_mut-left.ensures.front)) n.knows;
+      level = record {
+        frontier = subst (λ ys. IsFrontier v (c.args.depth + 1) ys)
+            (sym (new_front c.args.high c.in_ok-found.found left c.sort_unstable.new.self rest front back)) n.frontier;
+        levels = subst (λ q. LevelsKnown v (c.args.depth + 1) c.read_level.new.reached c.read_level.new.parents q)
+            (sym (whole_queue c.args.high c.in_ok-found.found left c.sort_unstable.new.self rest front back
+            ∙ ap (λ z. z ++ c.sort_unstable.new.self) c.split_at_mut-left.ensures.front)) n.knows;
+      };
+      counts = subst (λ ys. CountsDirs c.args.kinds.now
+          (g.D.Directories.entries (g.D.Directories.base c.args.directories.now) b) ys
+          (found_of c.args.references.now c.args.named.now c.args.reached.now c.args.parents.now c.args.calm.now [])
+          (found_of c.read_level.new.references c.read_level.new.named c.read_level.new.reached c.read_level.new.parents
+          c.read_level.new.calm [])) e (c.in_ok-found.ensures.read b k).counts;
+      calm = (c.in_ok-found.ensures.read b k).calm;
     }
-
-pub returns-clause-calm : goal.returns-clause-calm
-returns-clause-calm g c = c.in_ok-found.ensures.calm

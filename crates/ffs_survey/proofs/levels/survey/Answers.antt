@@ -9,7 +9,7 @@ pub returns-clause-survey : goal.returns-clause-survey
 returns-clause-survey g c = λ b k.
     let es = g.D.Directories.entries (g.D.Directories.base c.args.directories.now) b in
     let read = rw c.in_ok-survey_reached.ensures.reader.same at c.in_ok-survey_unreached.ensures.read in
-    let first = c.in_ok-survey_reached.ensures.part b k in
+    let first = (c.in_ok-survey_reached.ensures.read b k).part in
     let second = read b k (free_blank c.args.kinds.now es _ c.survey_reached.new.references c.survey_reached.new.named
     c.survey_reached.new.reached c.survey_reached.new.parents first) in
     survey_whole c.args.kinds.now es c.args.references.now c.limit_starts.new.references
@@ -23,10 +23,10 @@ pub returns-clause-calm : goal.returns-clause-calm
 returns-clause-calm g c = λ b k.
     let es = g.D.Directories.entries (g.D.Directories.base c.args.directories.now) b in
     let read = rw c.in_ok-survey_reached.ensures.reader.same at c.in_ok-survey_unreached.ensures.read in
-    let first = c.in_ok-survey_reached.ensures.part b k in
+    let first = (c.in_ok-survey_reached.ensures.read b k).part in
     let second = read b k (free_blank c.args.kinds.now es _ c.survey_reached.new.references c.survey_reached.new.named
     c.survey_reached.new.reached c.survey_reached.new.parents first) in
-    let calm = c.in_ok-survey_reached.ensures.calm b k in
+    let calm = (c.in_ok-survey_reached.ensures.read b k).calm in
     calm_unreached c.args.kinds.now c.args.marked.now c.survey_reached.new.reached c.survey_reached.new.parents
     c.survey_unreached.new.parents es _ c.survey_reached.new.calm
     (read_stays (graph_with c.args.kinds.now es) c.args.kinds.now c.survey_reached.new.reached (length c.args.kinds.now)

@@ -23,8 +23,8 @@ loop-low-init g c = record {
       unset-le c.args.reached.now,
       length-set c.args.queue.now 0 2,
     );
+    counted = λ x l. let z = c.requires.begins.starts x in omega (arith, z);
   };
-  counted = λ x l. let z = c.requires.starts x in omega (arith, z);
   levels = λ b k.
       let v = graph_with c.args.kinds.now (g.D.Directories.entries (g.D.Directories.base c.args.directories.now) b) in
       record {
@@ -45,9 +45,7 @@ pub loop-low-preserved : goal.loop-low-preserved
 loop-low-preserved g c =
     let inv = c.loop-low.invariant in
     let done = c.in_ok-end.ensures in
-    let levels = rw inv.base at done.levels in
-    let counts = rw inv.base at done.counts in
-    let calm = rw inv.base at done.calm in
+    let read = rw inv.base at done.read in
     let test = c.loop-low-test.true in
     record {
       ready = search rules;
@@ -56,44 +54,43 @@ loop-low-preserved g c =
       lengths = let l = inv.lengths in omega (arith, l);
       deep = let d = inv.deep in omega (arith, d, test);
       room = done.room;
-      counted = done.counted;
-      levels = λ b k. levels b k;
+      levels = λ b k. (read b k).level;
       counts = λ b k.
           counted_on (graph_with c.args.kinds.now
           (g.D.Directories.entries (g.D.Directories.base c.args.directories.now) b)) c.loop-low.low c.loop-low.high
           c.loop-low.queue _ c.args.references.now c.loop-low.references _ c.loop-low.named _
-          inv.room.ordered done.kept (inv.counts b k) (counts b k);
-      calm = λ b k. calm b k (inv.calm b k);
+          inv.room.ordered done.kept (inv.counts b k) (read b k).counts;
+      calm = λ b k. (read b k).calm (inv.calm b k);
     }
 
-pub returns-clause-part : goal.returns-clause-part
-returns-clause-part g c = λ b k.
+pub returns-clause-read : goal.returns-clause-read
+returns-clause-read g c = λ b k.
     let es = g.D.Directories.entries (g.D.Directories.base c.args.directories.now) b in
     let v = graph_with c.args.kinds.now es in
     let inv = c.loop-low.invariant in
     let low = inv.room.ordered in
     let same : c.loop-low.low ≡ c.loop-low.high = omega (arith, low, c.loop-low-test.false) in
     let F : List ℕ → Type 0 = λ xs. IsFrontier v c.loop-low.depth xs in
-    reached_part c.args.kinds.now es c.loop-low.depth c.args.references.now c.loop-low.references c.loop-low.named
-    c.loop-low.reached
-    c.loop-low.parents (take c.loop-low.high c.loop-low.queue) inv.lengths
-    (sane_of c.args.kinds.now es c.requires.lists.some)
-    (subst F (no_front c.loop-low.low c.loop-low.high c.loop-low.queue c.loop-low-test.false) (inv.levels b k).frontier)
-    (inv.levels b k).levels
-    (subst (λ n. IsCount v (take n c.loop-low.queue) c.args.references.now c.loop-low.references c.loop-low.named) same
-    (inv.counts b k))
+    record {
+      part = reached_part c.args.kinds.now es c.loop-low.depth c.args.references.now c.loop-low.references
+          c.loop-low.named c.loop-low.reached c.loop-low.parents (take c.loop-low.high c.loop-low.queue) inv.lengths
+          (sane_of c.args.kinds.now es c.requires.lists.some)
+          (subst F (no_front c.loop-low.low c.loop-low.high c.loop-low.queue c.loop-low-test.false)
+          (inv.levels b k).frontier) (inv.levels b k).levels
+          (subst (λ n. IsCount v (take n c.loop-low.queue) c.args.references.now c.loop-low.references
+          c.loop-low.named) same (inv.counts b k));
+      calm = inv.calm b k;
+    }
 
-pub returns-then-not-is_dir-clause-part : goal.returns-then-not-is_dir-clause-part
-returns-then-not-is_dir-clause-part g c = λ b k.
+pub returns-then-not-is_dir-clause-read : goal.returns-then-not-is_dir-clause-read
+returns-then-not-is_dir-clause-read g c = λ b k.
     let es = g.D.Directories.entries (g.D.Directories.base c.args.directories.now) b in
-    alone_part c.args.kinds.now es c.args.references.now c.args.references.now c.args.named.now
-    (set c.args.reached.now 2 true)
-    (set c.args.parents.now 2 2) (omega (arith, length-set c.args.reached.now 2 true))
-    (sane_of c.args.kinds.now es c.requires.lists.some) (sym c.is_dir.ensures ∙ c.if-not-is_dir.true)
-    (levels_start (graph_with c.args.kinds.now es) c.args.reached.now c.args.parents.now (omega arith) (omega arith)
-    c.requires.begins.reached c.requires.begins.parents)
-    refl c.requires.begins.named
-
-pub returns-then-not-is_dir-clause-calm : goal.returns-then-not-is_dir-clause-calm
-returns-then-not-is_dir-clause-calm g c = λ b k. calm_none c.args.kinds.now c.args.marked.now _ _ _ _ c.args.calm.now
-    c.requires.begins.calm
+    record {
+      part = alone_part c.args.kinds.now es c.args.references.now c.args.references.now c.args.named.now
+          (set c.args.reached.now 2 true) (set c.args.parents.now 2 2) (omega (arith, length-set c.args.reached.now 2 true))
+          (sane_of c.args.kinds.now es c.requires.lists.some) (sym c.is_dir.ensures ∙ c.if-not-is_dir.true)
+          (levels_start (graph_with c.args.kinds.now es) c.args.reached.now c.args.parents.now (omega arith)
+          (omega arith) c.requires.begins.reached c.requires.begins.parents)
+          refl c.requires.begins.named;
+      calm = calm_none c.args.kinds.now c.args.marked.now _ _ _ _ c.args.calm.now c.requires.begins.calm;
+    }

@@ -1,5 +1,5 @@
-use Rattle.std.proofs.Common.{◌≡◌, ℕ, ◌+◌, ◌-◌, ◌*◌, ◌<◌, ◌≤◌, ◌^◌, List, length, take}
-use Rattle.ffs_survey.specs.Survey.{number_at, graph_with}
+use Rattle.std.proofs.Common.{◌≡◌, ℕ, ◌-◌, ◌≤◌, List, length, take}
+use Rattle.ffs_survey.specs.Survey.{graph_with}
 use Rattle.ffs_survey.specs.Discover.{HasRoom, AtLevel, IsCount}
 use Rattle.ffs_survey.specs.Calm.{AreCalm}
 use Rattle.ffs_survey.proofs.levels.survey_reached.Given as goal
@@ -11,8 +11,7 @@ invariant-loop-low g l = record {
   device : g.D.Directories.device l.directories ≡ g.D.Directories.device l.fn.directories;
   lengths : length l.reached ≡ length l.kinds;
   deep : l.depth ≤ l.low;
-  room : HasRoom l.low l.high l.reached l.queue;
-  counted : (x : ℕ) → x < length l.kinds → number_at l.references x ≤ (l.low + 1) * 2 ^ 28;
+  room : HasRoom l.low l.high l.references l.reached l.queue;
   levels : (b : List ℕ) → g.D.Directories.knows (g.D.Directories.base l.fn.directories) b →
       AtLevel (graph_with l.kinds (g.D.Directories.entries (g.D.Directories.base l.fn.directories) b)) l.depth l.low
       l.high l.reached l.parents l.queue;

@@ -31,8 +31,7 @@ pub loop-s-preserved : goal.loop-s-preserved
 loop-s-preserved g c =
     let inv = c.loop-s.invariant in
     let done = c.in_ok-read_unreached.ensures in
-    let counts = rw inv.base at done.counts in
-    let parents = rw inv.base at done.parents in
+    let new = rw inv.base at done.read in
     record {
       ready = search rules;
       base = search rules;
@@ -41,5 +40,5 @@ loop-s-preserved g c =
       read = λ b k z.
           read_on c.args.kinds.now (g.D.Directories.entries (g.D.Directories.base c.args.directories.now) b)
           c.args.reached.now c.loop-s.s _ _ _ _ _ _ _ _ _
-          (sym c.is_free.ensures ∙ c.if-not-is_free.false) z (inv.read b k z) (counts b k) (parents b k);
+          (sym c.is_free.ensures ∙ c.if-not-is_free.false) z (inv.read b k z) (new b k).counts (new b k).parents;
     }

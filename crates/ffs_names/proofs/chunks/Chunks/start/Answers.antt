@@ -11,27 +11,27 @@ invariant_of-result c = record {
   taken_small = c.taken_of-taken.ensures.small;
   few = let t =
       c.taken_of-taken.ensures.small in omega arith;
-  hand_fits = c.empty.ensures.fits c.start.result.geometry.layout;
+  hand_fits = c.empty.ensures.fits c.of_class.result.geometry.layout;
 }
 
 pub returns-clause-begins : goal.returns-clause-begins
 returns-clause-begins c =
     let v = c.args.geometry.now.layout in
-    let v' = c.start.result.geometry.layout in
-    let same = ap (λ x. x.layout) c.start.ensures.geometry in
+    let v' = c.of_class.result.geometry.layout in
+    let same = ap (λ x. x.layout) c.of_class.ensures.geometry in
     let all = steps_of v c.args.inode.now in
     record {
       chunks = λ b size.
-          begun v v' c.args.inode.now b c.args.cut c.start-2.result.cut (replay_in c.start-2.result)
-          c.taken_of-taken.result (hand_chunks v' b c.empty.result) (steps_left b c.start.result)
-          c.args.geometry.now.sound same c.start-2.ensures.cut c.start-2.ensures.fresh
-          (c.taken_of-taken.ensures.taken size) (c.empty.ensures.none v' b) (c.start.ensures.steps b);
+          begun v v' c.args.inode.now b c.args.cut c.start.result.cut (replay_in c.start.result)
+          c.taken_of-taken.result (hand_chunks v' b c.empty.result) (steps_left b c.of_class.result)
+          c.args.geometry.now.sound same c.start.ensures.cut c.start.ensures.fresh
+          (c.taken_of-taken.ensures.taken size) (c.empty.ensures.none v' b) (c.of_class.ensures.steps b);
       runs = refl;
-      runs_left = λ b. runs_begun v v' c.args.cut c.start-2.result.cut (replay_in c.start-2.result)
-          (steps_left b c.start.result) (all b) same c.start-2.ensures.cut c.start-2.ensures.fresh
-          (c.start.ensures.steps b);
+      runs_left = λ b. runs_begun v v' c.args.cut c.start.result.cut (replay_in c.start.result)
+          (steps_left b c.of_class.result) (all b) same c.start.ensures.cut c.start.ensures.fresh
+          (c.of_class.ensures.steps b);
       gap = refl;
-      gap_left = λ b. gap_begun v v' c.args.cut c.start-2.result.cut (replay_in c.start-2.result)
-          (steps_left b c.start.result) (all b) same c.start-2.ensures.cut c.start-2.ensures.fresh
-          (c.start.ensures.steps b);
+      gap_left = λ b. gap_begun v v' c.args.cut c.start.result.cut (replay_in c.start.result)
+          (steps_left b c.of_class.result) (all b) same c.start.ensures.cut c.start.ensures.fresh
+          (c.of_class.ensures.steps b);
     }

@@ -1,0 +1,57 @@
+-- What the reading of directories makes of what a survey has found.
+use Rattle.std.specs.Prelude.{◌≡◌, ℕ, ◌+◌, ◌<◌, ◌==◌, Bool, ◌&&◌, cond, List, length, take, drop}
+use Rattle.ffs_volume.specs.Directories.Roles.{RoledEntry}
+use Rattle.ffs_survey.specs.Survey.{bool_at, number_at, graph_with}
+use Rattle.ffs_survey.specs.Calm.{are_calm, AreCalm, IsFlagged}
+use Rattle.ffs_survey.specs.Discover.{Found, Comes, Counts, AtLevel, IsReachedPart, from_entries, from_dirs, nothing}
+use Rattle.ffs_survey.specs.Discover.{count_in, any_in, count_of, any_of, none, never, is_free}
+
+-- the reached directory d with these entries is read
+pub record ReadsReached (kinds : List ℕ) (marked : List Bool) (d : ℕ) (entries : List RoledEntry) (sound : Bool)
+    (old new : Found) : Type 0 where
+  pub comes : Comes (from_entries kinds d entries) old.reached old.parents old.queue nothing new.reached new.parents
+      new.queue
+  pub counts : Counts (length kinds) (count_in entries) (any_in entries) old.references old.named none never
+      new.references new.named
+  pub calm : IsFlagged d (are_calm (record { kinds = kinds; marked = marked; dir = d; above = number_at old.parents d })
+      (bool_at old.reached) 0 entries) sound old.calm new.calm
+
+-- what stays calm when more is read
+abbrev pub StayCalm : List ℕ → List Bool → (ℕ → List RoledEntry) → (ℕ → Bool) → Found → Found → Type 0
+StayCalm kinds marked entries sound old new =
+    AreCalm kinds marked old.reached old.parents entries sound old.calm
+    → AreCalm kinds marked new.reached new.parents entries sound new.calm
+
+-- the counts and flags of these directories are added
+abbrev pub CountsDirs : List ℕ → (ℕ → List RoledEntry) → List ℕ → Found → Found → Type 0
+CountsDirs kinds entries dirs old new =
+    Counts (length kinds) (count_of (graph_with kinds entries) dirs) (any_of (graph_with kinds entries) dirs)
+    old.references old.named none never new.references new.named
+
+-- these reached directories are read
+pub record ReadsDirs (kinds : List ℕ) (marked : List Bool) (dirs : List ℕ) (entries : ℕ → List RoledEntry)
+    (sound : ℕ → Bool) (old new : Found) : Type 0 where
+  pub comes : Comes (from_dirs (graph_with kinds entries) dirs) old.reached old.parents old.queue nothing new.reached
+      new.parents new.queue
+  pub counts : CountsDirs kinds entries dirs old new
+  pub calm : StayCalm kinds marked entries sound old new
+
+-- the level that is in the queue from `low` to `high` is read, and the next one follows it
+pub record ReadsLevel (kinds : List ℕ) (marked : List Bool) (depth low high end : ℕ) (entries : ℕ → List RoledEntry)
+    (sound : ℕ → Bool) (old new : Found) : Type 0 where
+  pub level : AtLevel (graph_with kinds entries) (depth + 1) high end new.reached new.parents new.queue
+  pub counts : CountsDirs kinds entries (drop low (take high old.queue)) old new
+  pub calm : StayCalm kinds marked entries sound old new
+
+-- all reached directories are read, and references counted on from these starts
+pub record ReadsAllReached (kinds : List ℕ) (marked : List Bool) (entries : ℕ → List RoledEntry) (sound : ℕ → Bool)
+    (starts : List ℕ) (new : Found) : Type 0 where
+  pub part : IsReachedPart (graph_with kinds entries) starts new.references new.named new.reached new.parents
+  pub calm : AreCalm kinds marked new.reached new.parents entries sound new.calm
+
+-- the directory d with these entries, which isn't reached, is read
+pub record ReadsUnreached (kinds : List ℕ) (r : List Bool) (d : ℕ) (entries : List RoledEntry) (f : List ℕ)
+    (m : List Bool) (p f' : List ℕ) (m' : List Bool) (p' : List ℕ) : Type 0 where
+  pub counts : Counts (length kinds) (count_in entries) (any_in entries) f m none never f' m'
+  pub parents : (x : ℕ) → x < length kinds → number_at p' x
+      ≡ cond ((number_at p x == 0) && (is_free kinds r x && any_in entries x)) d (number_at p x)
