@@ -23,6 +23,14 @@ faults_same n about path directory right h =
     one true k = ap (λ d. reported true (extraneous path d)) (k refl)
     one false k = refl
 
+-- a verdict that asks for a path asks for attributes, too
+pub path_asks_attr : (verdict : Verdict) → asks_path verdict ≡ true → asks_attr verdict ≡ true
+path_asks_attr OutOfRange h = absurd (cc)
+path_asks_attr Whiteout h = absurd (cc)
+path_asks_attr Fine h = absurd (cc)
+path_asks_attr Unallocated h = refl
+path_asks_attr (Named n) h = refl
+
 pub enough : (v : Volume) (verdict : Verdict) (dir number : ℕ) (name : List ℕ) (about : Attr) (path directory : List ℕ)
     →
     (asks_attr verdict ≡ true → about ≡ attributes v number) → path ≡ entry_path (graph_of v) dir name →

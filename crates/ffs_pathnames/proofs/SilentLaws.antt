@@ -2,11 +2,11 @@
 use Rattle.std.specs.Prelude.{◌≡◌, ◌≢◌, ℕ, suc, ◌<◌, ◌≤◌, ◌*◌, ◌/◌, ◌==◌, Bool, true, false, not, ◌&&◌, ◌||◌, nat_le}
 use Rattle.std.specs.Prelude.{nat_lt, if◌then◌else◌, cond, refl, List, [], ◌∷◌, ◌++◌, map, length, slice_index}
 use Rattle.std.specs.Prelude.{slice_set, Option, None, Some, option_and_then, sum_by, unwrap_or}
-use Rattle.std.specs.List.{list_any, list_all, flat_map, find, range_with_len}
-use Rattle.std.proofs.Common.{arith, sym, ◌∙◌, ap, subst, inl, inr, ◌⊎◌}
+use Rattle.std.specs.List.{list_any, flat_map, find}
+use Rattle.std.proofs.Common.{arith, sym, ◌∙◌, ap, subst, inl, inr}
 use Rattle.std.proofs.lemmas.List.{get_or-set_other}
 use Rattle.std.proofs.lemmas.Bool.{both_ways, cases_Bool, cases_eq, eqb-true, eq-eqb, ne_eqb, and_parts, and_from}
-use Rattle.std.proofs.lemmas.Bool.{or_left, or_right, not-true, not_from_false, false_from_ne_true, ltb-true, lt-ltb}
+use Rattle.std.proofs.lemmas.Bool.{or_left, or_right, not-true, false_from_ne_true, ltb-true}
 use Rattle.std.proofs.lemmas.Bool.{leb-true}
 use Rattle.ffs_volume.specs.declared.Layout.{Layout}
 use Rattle.ffs_volume.specs.declared.Attr.{Attr}
@@ -34,14 +34,13 @@ use Rattle.ffs_volume.specs.Directories.Roles.{Volume, RoledEntry, is_dir, is_su
 use Rattle.ffs_volume.specs.Directories.Roles.{is_two_dots, role_of, roled_from, roled_chunk, roled_entries, nth_entry}
 use Rattle.ffs_volume.specs.Directories.Roles.{start_entry}
 use Rattle.ffs_volume.specs.Directories.Volumes.{class_at, volume_of, volume_with}
-use Rattle.ffs_volume.specs.Encodings.Kinds.{kind_at, is_dir_kind, is_empty_dir_kind, is_allocated_kind}
+use Rattle.ffs_volume.specs.Encodings.Kinds.{kind_at, is_empty_dir_kind, is_allocated_kind}
 use Rattle.ffs_volume.specs.Encodings.Kinds.{is_unknown_kind, type_of_kind}
 use Rattle.ffs_volume.specs.Encodings.Replay.{cut_at, fresh_replay, replayed_steps}
-use Rattle.ffs_volume.specs.Messages.Kinds.{NameMessage, reported}
 use Rattle.ffs_workspace.specs.declared.workspace.Workspace.{Workspace}
-use Rattle.ffs_workspace.specs.Lengths.{IsFor, inodes_of}
+use Rattle.ffs_workspace.specs.Lengths.{IsFor}
 use Rattle.ffs_workspace.specs.Holds.{bool_at, HoldsClaims, HoldsSurvey}
-use Rattle.ffs_workspace.proofs.KindLaws.{reports_at, dir_is, suspect_is, type_is}
+use Rattle.ffs_workspace.proofs.KindLaws.{reports_at, suspect_is, type_is}
 use Rattle.ffs_survey.specs.Survey.{number_at, dir_at}
 use Rattle.ffs_survey.specs.Calm.{Sight, is_calm_kind, is_calm_plain, is_calm_role, is_calm_entry, reached_after}
 use Rattle.ffs_survey.specs.Calm.{are_calm, IsCalm}
@@ -52,7 +51,7 @@ use Rattle.ffs_names.proofs.DirLaws.{kind_dirs}
 use Rattle.ffs_names.proofs.DirLaws as dirs
 use Rattle.ffs_pathnames.specs.Begins.{dir_starts}
 use Rattle.ffs_pathnames.specs.Calm.{IsSilent}
-use Rattle.ffs_pathnames.specs.Header.{dot_in, dotdot_in, dot_said, dotdot_said, header_reported}
+use Rattle.ffs_pathnames.specs.Header.{dot_in, dotdot_in, dot_said, dotdot_said}
 use Rattle.ffs_pathnames.specs.Marks.{belongs, after_look, is_plain_quiet, is_role_quiet, is_quiet, are_quiet}
 use Rattle.ffs_pathnames.specs.Reads.{chunks_read}
 use Rattle.ffs_pathnames.proofs.ChunkLaws.{chunks_are}

@@ -6,12 +6,14 @@ use Rattle.ffs_volume.specs.Messages.Kinds.{NameMessage, reported, root_none, ro
 use Rattle.ffs_volume.specs.Directories.Volumes.{volume_of}
 use Rattle.ffs_workspace.specs.declared.workspace.Workspace.{Workspace}
 use Rattle.ffs_workspace.specs.Holds.{bool_at, HoldsClaims, HoldsSurvey}
+use Rattle.ffs_workspace.specs.Leaves.{LeavesSurvey}
 use Rattle.ffs_volume.specs.Encodings.Kinds.{is_dir_kind, is_empty_dir_kind}
 use Rattle.ffs_pathnames.specs.Gathers.{marks_of}
 use Rattle.ffs_pathnames.specs.MarksRight.{AreRightBefore}
 
--- no inode is passed yet; what had a flag is stamped by 1, and nothing else is stamped
+-- what was found stays; no inode is passed yet; what had a flag is stamped by 1, and nothing else is stamped
 pub record AreClear (old new : Workspace) : Type 0 where
+  pub survey : LeavesSurvey old new
   pub passed : (x : ℕ) → bool_at new.leaders.items x ≡ false
   pub stamps : (x : ℕ) → slice_index new.queue.items x ≡ (if bool_at old.leaders.items x then 1 else 0)
 

@@ -1,6 +1,9 @@
 -- What of a workspace stays, and what is found of a directory.
-use Rattle.std.specs.Prelude.{◌≡◌, ℕ, ◌==◌, List, []}
+use Rattle.std.specs.Prelude.{◌≡◌, ℕ, ◌==◌, List, [], Result}
 use Rattle.std.specs.List.{find}
+use Rattle.ffs_image.specs.Device.{Device}
+use Rattle.ffs_image.specs.Reads.{ReadAfter}
+use Rattle.ffs_image.specs.declared.image.ImageFault.{ImageFault}
 use Rattle.ffs_volume.specs.declared.Layout.{Layout}
 use Rattle.ffs_volume.specs.Blocks.Inodes.{inode_of}
 use Rattle.ffs_volume.specs.Directories.Roles.{roled_entries}
@@ -11,11 +14,19 @@ use Rattle.ffs_pathnames.specs.Marks.{are_quiet, after_looks}
 use Rattle.ffs_pathnames.specs.Reads.{start_of}
 use Rattle.ffs_workspace.specs.declared.workspace.Workspace.{Workspace}
 use Rattle.ffs_workspace.specs.Leaves.{LeavesSurvey}
+use Rattle.ffs_workspace.specs.Ready.{IsReady}
 
 -- what the phases before the pathname check left, and the list of leaders
 pub record LeavesQueue (old new : Workspace) : Type 0 where
   pub survey : LeavesSurvey old new
   pub leaders : new.leaders ≡ old.leaders
+
+-- what the first look at a directory leaves: the image, but for a read that failed, and all but the queue
+pub record ExamineLeaves {T : Type 0} (v : Layout) (d d' : Device) (old new : Workspace)
+    (result : Result T ImageFault) : Type 0 where
+  pub lists : LeavesQueue old new
+  pub ready : IsReady v d' new
+  pub read : ReadAfter d d' result
 
 -- its inode, whether a Gap of it is kept, whether its chunks are sound, the chunk at the start of the file, whether
 -- nothing may be reported of its entries; and each inode that belongs to it is stamped

@@ -15,8 +15,8 @@ use Rattle.ffs_pathnames.specs.Reads.{chunks_read, start_of}
 use Rattle.ffs_pathnames.specs.Sees.{Sees}
 
 -- of the chunks of an inode that keeps `cut` offers: whether nothing may be reported of their entries, whether they
--- are all sound, whether a
--- Gap is kept, the chunk at the start of the file; and each inode that belongs to the directory d is stamped
+-- are all sound, whether a Gap is kept, the chunk at the start of the file; and each inode that belongs to the
+-- directory d is stamped
 pub record IsFirstLook (v : Layout) (inodes : Inodes) (d : ℕ) (i : Inode) (cut : ℕ) (b : List ℕ) (old : List ℕ)
     (f : FirstLook) (new start : List ℕ) : Type 0 where
   pub quiet : (volume : Volume) → Sees volume inodes → i.size < 2 ^ 31

@@ -32,8 +32,7 @@ is_due s m x = slice_index m.stamps x == s
 abbrev pub after_name : ℕ → Marks → ℕ → Marks
 after_name s m x = record {
   passed = slice_set m.passed x true;
-  stamps = if is_due s m x then slice_set m.stamps x 0
-      else m.stamps;
+  stamps = if is_due s m x then slice_set m.stamps x 0 else m.stamps;
 }
 
 abbrev pub after_roled : Volume → ℕ → Marks → RoledEntry → Marks
@@ -42,21 +41,19 @@ after_roled v s m e = if is_plain e.role && nat_lt e.entry.number v.count then a
 -- what is reported of an entry, by the marks
 abbrev pub named_reported : Volume → ℕ → Marks → Entry → List NameMessage
 named_reported v s m e =
-    reported (is_suspect v e.number
-    && (not (e.number == 2)
-    && not (is_passed m e.number))) (suspect_reported v e.number (entry_path (graph_of v) s e.name))
-    ++ (reported (is_dir v e.number
-    && not (is_due s m e.number)) (extraneous (entry_path (graph_of v) s e.name) (dir_path (graph_of v) e.number))
-    ++ reported (has_wrong_type v e)
-    (kind_entry (attributes v e.number) (label_of (v.class e.number)) (entry_path (graph_of v) s e.name)))
+    let path = entry_path (graph_of v) s e.name in
+    reported (is_suspect v e.number && (not (e.number == 2) && not (is_passed m e.number)))
+    (suspect_reported v e.number path)
+    ++ (reported (is_dir v e.number && not (is_due s m e.number)) (extraneous path (dir_path (graph_of v) e.number))
+    ++ reported (has_wrong_type v e) (kind_entry (attributes v e.number) (label_of (v.class e.number)) path))
 
 abbrev pub plain_reported : Volume → ℕ → Marks → Entry → List NameMessage
 plain_reported v s m e =
-    if not (nat_lt e.number v.count) then out_of_range e.number (entry_path (graph_of v) s e.name) ∷ []
-    else (if is_bad_whiteout e then whiteout e.number (entry_path (graph_of v) s e.name) ∷ []
+    let path = entry_path (graph_of v) s e.name in
+    if not (nat_lt e.number v.count) then out_of_range e.number path ∷ []
+    else (if is_bad_whiteout e then whiteout e.number path ∷ []
     else (if e.number == 1 then []
-    else (if not (is_allocated (v.class e.number))
-    then unallocated (attributes v e.number) (entry_path (graph_of v) s e.name) ∷ []
+    else (if not (is_allocated (v.class e.number)) then unallocated (attributes v e.number) path ∷ []
     else named_reported v s m e)))
 
 abbrev pub role_reported : Volume → ℕ → Marks → Role → Entry → List NameMessage
@@ -84,8 +81,8 @@ belongs v s x = is_dir v x && (not (x == 2) && is_value (parent (graph_of v) x) 
 
 -- a first look at the entries of s stamps each inode that belongs to s
 abbrev pub after_look : Volume → ℕ → List ℕ → RoledEntry → List ℕ
-after_look v s stamps e = if is_plain e.role
-    && belongs v s e.entry.number then slice_set stamps e.entry.number s else stamps
+after_look v s stamps e =
+    if is_plain e.role && belongs v s e.entry.number then slice_set stamps e.entry.number s else stamps
 
 abbrev pub after_looks : Volume → ℕ → List ℕ → List RoledEntry → List ℕ
 after_looks v s stamps [] = stamps

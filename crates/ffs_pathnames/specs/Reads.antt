@@ -1,6 +1,9 @@
 -- The chunks of a directory, as they are read again.
-use Rattle.std.specs.Prelude.{ℕ, ◌==◌, Bool, if◌then◌else◌, List, Option, Some}
+use Rattle.std.specs.Prelude.{ℕ, ◌==◌, Bool, if◌then◌else◌, List, Option, Some, Result}
 use Rattle.std.specs.List.{find}
+use Rattle.ffs_image.specs.Device.{Device}
+use Rattle.ffs_image.specs.Reads.{ReadAfter}
+use Rattle.ffs_image.specs.declared.image.ImageFault.{ImageFault}
 use Rattle.ffs_volume.specs.declared.Layout.{Layout}
 use Rattle.ffs_volume.specs.declared.Order.{Order}
 use Rattle.ffs_volume.specs.declared.Inode.{Inode}
@@ -9,11 +12,20 @@ use Rattle.ffs_volume.specs.Directories.Entries.{Chunk, chunk_of, chunks_of, byt
 use Rattle.ffs_volume.specs.Blocks.Steps.{steps_of}
 use Rattle.ffs_volume.specs.Encodings.Replay.{fresh_replay, replayed_steps}
 use Rattle.ffs_names.specs.RunCursors.{reading_by}
+use Rattle.ffs_names.specs.Windows.{CanReadChunks}
+use Rattle.ffs_walk.specs.declared.blocks.Blocks.{Blocks}
+use Rattle.ffs_walk.specs.declared.window.Window.{Window}
 
 -- the chunks of an inode that keeps `cut` offers, or all if that is 0
 unfoldable pub chunks_read : Layout → Inode → ℕ → List ℕ → List Chunk
 chunks_read v i cut b = chunks_of (reading_by v b (bytes_read i.size)) (is_run_in_range v)
     (replayed_steps v cut fresh_replay (steps_of v i b))
+
+-- what a reading of chunks leaves: the image, but for a read that failed, and windows that can be read into
+pub record ChunksLeave {T : Type 0} (v : Layout) (d d' : Device) (blocks : Blocks) (chunk : Window)
+    (result : Result T ImageFault) : Type 0 where
+  pub ready : CanReadChunks v d' blocks chunk
+  pub read : ReadAfter d d' result
 
 -- the chunk at the start of the file: the one that was found, or else the first of those to come
 abbrev pub start_of : List Chunk → Bool → Order → List ℕ → Option Chunk

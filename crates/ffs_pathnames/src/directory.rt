@@ -7,8 +7,7 @@ ghost use Rattle.ffs_names.specs.Windows.{CanReadChunks};
 ghost use Rattle.ffs_pathnames.specs.Sees.{CanStamp};
 ghost use Rattle.ffs_pathnames.specs.Looks.{IsFirstLook};
 ghost use Rattle.ffs_pathnames.specs.Marks as marks;
-ghost use Rattle.ffs_pathnames.specs.Reads.{start_of};
-ghost use Rattle.ffs_image.specs.Reads.{ReadAfter};
+ghost use Rattle.ffs_pathnames.specs.Reads.{start_of, ChunksLeave};
 
 use crate::inodes::Inodes;
 use crate::look::look_chunk;
@@ -65,8 +64,8 @@ pub fn look_directory<I: Image>(
     ensures found { IfOk result (λ f. ForContents (I.device image.old).contents
         (λ b. IsFirstLook geometry.now.layout inodes.now dir inode.now cut b stamps.old f
         stamps.new start.new)) }
-    ensures ready { CanReadChunks geometry.now.layout (I.device image.new) blocks.new «data».new }
-    ensures read { ReadAfter (I.device image.old) (I.device image.new) result }
+    ensures leaves { ChunksLeave geometry.now.layout (I.device image.old) (I.device image.new)
+        blocks.new «data».new result }
 {
     let order = geometry.layout.order;
     let mut chunks = Chunks::start(geometry, inode, cut);

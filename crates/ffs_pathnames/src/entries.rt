@@ -1,5 +1,5 @@
 // The lines of the entries of a directory, one entry after another.
-ghost use Rattle.std.specs.Prelude.{◌≡◌, ◌+◌, ◌*◌, ◌<◌, ◌≤◌, length, slice_index, Some, OnOk, map};
+ghost use Rattle.std.specs.Prelude.{◌≡◌, ◌≤◌, length, OnOk, map};
 ghost use Rattle.ffs_volume.specs.declared.Role.{Role};
 ghost use Rattle.ffs_volume.specs.Directories.Entries.{entries_of};
 ghost use Rattle.ffs_volume.specs.Messages.Kinds.{of_names};
@@ -12,7 +12,7 @@ ghost use Rattle.ffs_report.specs.Progress.{progress};
 ghost use Rattle.ffs_pathnames.specs.Gathers.{marks_of};
 ghost use Rattle.ffs_pathnames.specs.DirectoryContext.{DirectoryContext, KnowsPath};
 ghost use Rattle.ffs_pathnames.specs.Marks as marks;
-ghost use Rattle.ffs_pathnames.specs.Ready.{ReadyWith, PhaseLeaves, LinesLeave};
+ghost use Rattle.ffs_pathnames.specs.Ready.{ReadyToPath, PhaseLeaves, LinesLeave};
 
 use crate::inodes::Inodes;
 use crate::tell::{report_extra, report_plain};
@@ -39,8 +39,8 @@ fn say_entry<I: Image, W: Output>(
     role: Role,
     entry: &Entry<'_>,
 ) -> Result<(), RunFault>
-    requires ready { ReadyWith geometry.now.layout (I.device image.old) workspace.old siblings.old }
-    requires dir { dir < geometry.now.layout.ncg * geometry.now.layout.ipg }
+    requires ready { ReadyToPath geometry.now.layout (I.device image.old) workspace.old
+        siblings.old dir }
     requires name { length entry.now.name.now ≤ 255 }
     ensures text { PhaseReports (KnowsPath geometry.now.layout (I.device image.old).contents
         workspace.old dir path.now)
@@ -73,8 +73,8 @@ pub fn report_entry<I: Image, W: Output>(
     role: Role,
     entry: &Entry<'_>,
 ) -> Result<(), RunFault>
-    requires ready { ReadyWith geometry.now.layout (I.device image.old) workspace.old siblings.old }
-    requires dir { dir < geometry.now.layout.ncg * geometry.now.layout.ipg }
+    requires ready { ReadyToPath geometry.now.layout (I.device image.old) workspace.old
+        siblings.old dir }
     requires name { length entry.now.name.now ≤ 255 }
     ensures text { PhaseReports (KnowsPath geometry.now.layout (I.device image.old).contents
         workspace.old dir path.now)
@@ -107,15 +107,6 @@ pub fn report_entry<I: Image, W: Output>(
     Ok(())
 }
 
-/// How long the name of the record at a place is: one byte says it.
-fn name_length(chunk: &[u8; DIRBLKSIZ], place: usize) -> u8
-    requires { place + 8 ≤ 512 }
-    ensures value { result ≡ slice_index chunk.now (place + 7) }
-    ensures short { slice_index chunk.now (place + 7) ≤ 255 }
-{
-    chunk[place + 7]
-}
-
 /// Prints the lines of the entries of a chunk, and marks them as passed; `first` says that it is at the start of the file.
 pub fn report_chunk<I: Image, W: Output>(
     geometry: &Geometry,
@@ -128,8 +119,7 @@ pub fn report_chunk<I: Image, W: Output>(
     first: bool,
     chunk: &[u8; DIRBLKSIZ],
 ) -> Result<(), RunFault>
-    requires ready { ReadyWith geometry.now.layout (I.device image.old) workspace.old siblings.old }
-    requires dir { dir < geometry.now.layout.ncg * geometry.now.layout.ipg }
+    requires { ReadyToPath geometry.now.layout (I.device image.old) workspace.old siblings.old dir }
     ensures text { PhaseReports (KnowsPath geometry.now.layout (I.device image.old).contents
         workspace.old dir path.now)
         (λ b. map of_names (marks.entries_reported (volume_of geometry.now.layout b) dir
@@ -149,7 +139,6 @@ pub fn report_chunk<I: Image, W: Output>(
     let mut index = 0usize;
     'entries: while let Some(entry) = entry_at(order, chunk, place) {
         let role = role_of(first, index, &entry);
-        name_length(chunk, place);
         report_entry(
             geometry, image, workspace, siblings, report, dir, path, role, &entry,
         )?;

@@ -1,11 +1,9 @@
 // What is found of a directory before anything is reported of it.
-ghost use Rattle.std.specs.Prelude.{◌≡◌, ◌*◌, ◌<◌, ◌≤◌, ℕ, List, true, Some, IfOk};
-ghost use Rattle.ffs_volume.specs.Directories.Roles.{is_dir};
-ghost use Rattle.ffs_volume.specs.Directories.Volumes.{volume_of};
-ghost use Rattle.ffs_workspace.specs.Holds.{HoldsClaims, HoldsSurvey};
-ghost use Rattle.ffs_pathnames.specs.Examines.{LeavesQueue, AreFound};
-ghost use Rattle.ffs_workspace.specs.Ready.{IsReady};
-ghost use Rattle.ffs_image.specs.Reads.{ReadAfter};
+ghost use Rattle.std.specs.Prelude.{◌≤◌, IfOk};
+ghost use Rattle.ffs_phase.specs.Known.{ForBytes};
+ghost use Rattle.ffs_paths.specs.Reads.{IsReadyFor};
+ghost use Rattle.ffs_pathnames.specs.DirectoryContext.{DirectoryContext};
+ghost use Rattle.ffs_pathnames.specs.Examines.{ExamineLeaves, AreFound};
 
 use crate::directory::{FirstLook, look_directory};
 use crate::inodes::Inodes;
@@ -30,17 +28,13 @@ pub fn examine<I: Image>(
     dir: u32,
     start: &mut [u8; DIRBLKSIZ],
 ) -> Result<DirectorySummary, ImageFault>
-    requires ready { IsReady geometry.now.layout (I.device image.old) workspace.old }
-    requires number { dir < geometry.now.layout.ncg * geometry.now.layout.ipg }
+    requires ready { IsReadyFor geometry.now.layout (I.device image.old) workspace.old dir }
     requires dir { 2 ≤ dir }
-    ensures found { IfOk result (λ e. (b : List ℕ) → (I.device image.old).contents ≡ Some b
-        → HoldsClaims geometry.now.layout b workspace.old
-        → HoldsSurvey geometry.now.layout b workspace.old →
-        is_dir (volume_of geometry.now.layout b) dir ≡ true
-        → AreFound geometry.now.layout b dir workspace.old e workspace.new start.new) }
-    ensures lists { LeavesQueue workspace.old workspace.new }
-    ensures ready { IsReady geometry.now.layout (I.device image.new) workspace.new }
-    ensures read { ReadAfter (I.device image.old) (I.device image.new) result }
+    ensures found { IfOk result (λ e. ForBytes
+        (DirectoryContext geometry.now.layout (I.device image.old).contents workspace.old dir)
+        (λ b. AreFound geometry.now.layout b dir workspace.old e workspace.new start.new)) }
+    ensures leaves { ExamineLeaves geometry.now.layout (I.device image.old) (I.device image.new)
+        workspace.old workspace.new result }
 {
     let inode = workspace.windows.table.inode(geometry, dir, image)?;
     let cut = workspace.cut[dir as usize];

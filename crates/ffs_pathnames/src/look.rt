@@ -105,20 +105,6 @@ pub fn stamp(inodes: &Inodes<'_>, dir: u32, stamps: &mut [u32], role: Role, entr
     }
 }
 
-/// Looks at an entry: whether nothing is reported of it, and the stamp of the inode that it names.
-fn look_at(inodes: &Inodes<'_>, dir: u32, stamps: &mut [u32], role: Role, entry: &Entry<'_>) -> bool
-    requires stamps { CanStamp inodes.now dir stamps.old }
-    ensures quiet { (v : Volume) → Sees v inodes.now → result
-        ≡ marks.is_quiet v dir stamps.old (record { role = role; entry = entry_value entry.now }) }
-    ensures stamps { (v : Volume) → Sees v inodes.now → stamps.new
-        ≡ marks.after_look v dir stamps.old
-        (record { role = role; entry = entry_value entry.now }) }
-{
-    let quiet = is_quiet(inodes, dir, stamps, role, entry);
-    stamp(inodes, dir, stamps, role, entry);
-    quiet
-}
-
 /// What a look at the entries of a chunk finds: whether nothing may be reported of them, and whether they fill the chunk.
 #[derive(Clone, Copy, Debug)]
 pub struct EntriesSummary {
@@ -147,7 +133,8 @@ pub fn look_chunk(
     let mut quiet = true;
     'entries: while let Some(entry) = entry_at(order, chunk, place) {
         let role = role_of(first, index, &entry);
-        let here = look_at(inodes, dir, stamps, role, &entry);
+        let here = is_quiet(inodes, dir, stamps, role, &entry);
+        stamp(inodes, dir, stamps, role, &entry);
         quiet &= here;
         place += usize::from(entry.length);
         index += 1;

@@ -1,5 +1,5 @@
 // The lines of a plain entry.
-ghost use Rattle.std.specs.Prelude.{◌≡◌, ◌*◌, ◌<◌, ◌≤◌, ℕ, List, [], true, false, length, Some, OnOk, IfOk, IsTrue, map, vec_len};
+ghost use Rattle.std.specs.Prelude.{◌≡◌, ◌*◌, ◌<◌, ◌≤◌, ℕ, List, length, Some, OnOk, IfOk, IsTrue, map, vec_len};
 ghost use Rattle.ffs_image.specs.Device.{ForContents};
 ghost use Rattle.ffs_volume.specs.Messages.Kinds.{of_names};
 ghost use Rattle.ffs_volume.specs.Directories.PathnameCheck.{attributes, extra_reported};
@@ -8,7 +8,7 @@ ghost use Rattle.ffs_volume.specs.Directories.Parents.{graph_of};
 ghost use Rattle.ffs_volume.specs.Directories.Paths.{dir_path};
 ghost use Rattle.ffs_volume.specs.Directories.Volumes.{volume_of};
 ghost use Rattle.ffs_layout.specs.Entry.{entry_value};
-ghost use Rattle.ffs_phase.specs.Runs.{ImageAfter, PhaseReports};
+ghost use Rattle.ffs_phase.specs.Runs.{PhaseReports};
 ghost use Rattle.ffs_report.specs.Progress.{progress};
 ghost use Rattle.ffs_volume.specs.declared.Layout.{Layout};
 ghost use Rattle.ffs_workspace.specs.Lengths.{IsFor};
@@ -16,10 +16,9 @@ ghost use Rattle.ffs_workspace.specs.Holds.{HoldsClaims, HoldsSurvey};
 ghost use Rattle.ffs_pathnames.specs.Gathers.{IsEnough, IsVerdict, AreAsLong, marks_of, asks_attr, asks_path, is_silent};
 ghost use Rattle.ffs_pathnames.specs.DirectoryContext.{DirectoryContext, KnowsPath};
 ghost use Rattle.ffs_paths.specs.DirectoryPaths.{IsPathOf};
-ghost use Rattle.ffs_paths.specs.Reads.{ForTree, OnlyReads};
+ghost use Rattle.ffs_paths.specs.Reads.{ForTree, IsReadyFor, OnlyReads};
 ghost use Rattle.ffs_pathnames.specs.Marks.{plain_reported};
-ghost use Rattle.ffs_workspace.specs.Ready.{IsReady};
-ghost use Rattle.ffs_pathnames.specs.Ready.{ReadyWith, PathLeaves, LinesLeave};
+ghost use Rattle.ffs_pathnames.specs.Ready.{ReadyWith, ReadyToPath, PathLeaves, LinesLeave, LineLeaves};
 
 use crate::header::is_one_dot;
 use crate::inodes::Inodes;
@@ -62,8 +61,7 @@ pub fn read_attr<I: Image>(
     workspace: &mut Workspace,
     number: u32,
 ) -> Result<Attr, ImageFault>
-    requires ready { IsReady geometry.now.layout (I.device image.old) workspace.old }
-    requires number { number < geometry.now.layout.ncg * geometry.now.layout.ipg }
+    requires { IsReadyFor geometry.now.layout (I.device image.old) workspace.old number }
     ensures attr { IfOk result (λ a. ForContents (I.device image.old).contents
         (λ b. a ≡ attributes (volume_of geometry.now.layout b) number)) }
     ensures reads { OnlyReads geometry.now.layout (I.device image.old) (I.device image.new)
@@ -85,33 +83,6 @@ fn asks(verdict: &Verdict) -> (bool, bool)
     }
 }
 
-/// The attributes for a verdict: those of the inode, where they are asked for.
-fn gather_attr<I: Image>(
-    geometry: &Geometry,
-    image: &mut I,
-    workspace: &mut Workspace,
-    wanted: bool,
-    number: u32,
-) -> Result<Attr, ImageFault>
-    requires ready { IsReady geometry.now.layout (I.device image.old) workspace.old }
-    requires number { IsTrue wanted → number < geometry.now.layout.ncg * geometry.now.layout.ipg }
-    ensures attr { IfOk result (λ a. ForContents (I.device image.old).contents
-        (λ b. IsTrue wanted → a ≡ attributes (volume_of geometry.now.layout b) number)) }
-    ensures reads { OnlyReads geometry.now.layout (I.device image.old) (I.device image.new)
-        workspace.old workspace.new result }
-{
-    if !wanted {
-        return Ok(Attr {
-            number,
-            uid: 0,
-            mode: 0,
-            size: 0,
-            mtime: 0,
-        });
-    }
-    read_attr(geometry, image, workspace, number)
-}
-
 /// The path of a directory, where it is asked for.
 fn gather_path<I: Image>(
     geometry: &Geometry,
@@ -122,8 +93,7 @@ fn gather_path<I: Image>(
     dir: u32,
     text: &mut PathText,
 ) -> Result<(), ImageFault>
-    requires ready { ReadyWith geometry.now.layout (I.device image.old) workspace.old siblings.old }
-    requires number { IsTrue wanted → dir < geometry.now.layout.ncg * geometry.now.layout.ipg }
+    requires { ReadyToPath geometry.now.layout (I.device image.old) workspace.old siblings.old dir }
     ensures path { OnOk result (ForTree geometry.now.layout (I.device image.old) workspace.old
         (λ g. IsTrue wanted → text.new.items ≡ dir_path g dir)) }
     ensures leaves { PathLeaves geometry.now.layout (I.device image.old) (I.device image.new)
@@ -152,7 +122,6 @@ fn gather<I: Image>(
     requires number { IsTrue (asks_attr verdict.now) → entry.now.number
         < geometry.now.layout.ncg * geometry.now.layout.ipg }
     requires name { length entry.now.name.now ≤ 255 }
-    requires empty { text.old.items ≡ [] }
     ensures enough { IfOk result (λ a. (b : List ℕ) (dir : ℕ) → (I.device image.old).contents
         ≡ Some b → HoldsClaims geometry.now.layout b workspace.old
         → HoldsSurvey geometry.now.layout b workspace.old →
@@ -164,6 +133,15 @@ fn gather<I: Image>(
 {
     let (wants_attr, wants_path) = asks(verdict);
     path.put_entry(entry.name, text);
+    if !wants_attr {
+        return Ok(Attr {
+            number: entry.number,
+            uid: 0,
+            mode: 0,
+            size: 0,
+            mtime: 0,
+        });
+    }
     gather_path(
         geometry,
         image,
@@ -173,7 +151,7 @@ fn gather<I: Image>(
         entry.number,
         directory,
     )?;
-    let attr = gather_attr(geometry, image, workspace, wants_attr, entry.number)?;
+    let attr = read_attr(geometry, image, workspace, entry.number)?;
     Ok(attr)
 }
 
@@ -221,8 +199,8 @@ pub fn report_plain<I: Image, W: Output>(
     path: &DirectoryPath,
     entry: &Entry<'_>,
 ) -> Result<(), RunFault>
-    requires ready { ReadyWith geometry.now.layout (I.device image.old) workspace.old siblings.old }
-    requires dir { dir < geometry.now.layout.ncg * geometry.now.layout.ipg }
+    requires ready { ReadyToPath geometry.now.layout (I.device image.old) workspace.old
+        siblings.old dir }
     requires name { length entry.now.name.now ≤ 255 }
     ensures text { PhaseReports (KnowsPath geometry.now.layout (I.device image.old).contents
         workspace.old dir path.now)
@@ -270,16 +248,14 @@ pub fn report_extra<I: Image, W: Output>(
     path: &DirectoryPath,
     entry: &Entry<'_>,
 ) -> Result<(), RunFault>
-    requires ready { IsReady geometry.now.layout (I.device image.old) workspace.old }
-    requires dir { dir < geometry.now.layout.ncg * geometry.now.layout.ipg }
-    ensures image { ImageAfter (I.device image.old) (I.device image.new) result }
+    requires { IsReadyFor geometry.now.layout (I.device image.old) workspace.old dir }
     ensures text { PhaseReports (KnowsPath geometry.now.layout (I.device image.old).contents
         workspace.old dir path.now)
         (λ b. map of_names (extra_reported (attributes (volume_of geometry.now.layout b) dir)
         (dir_path (graph_of (volume_of geometry.now.layout b)) dir) (entry_value entry.now)))
         (progress W.sink report.old) (progress W.sink report.new) result }
-    ensures lists { workspace.new ≡ record workspace.old { windows = workspace.new.windows } }
-    ensures ready { IsReady geometry.now.layout (I.device image.new) workspace.new }
+    ensures leaves { LineLeaves geometry.now.layout (I.device image.old) (I.device image.new)
+        workspace.old workspace.new result }
 {
     let mut text = PathText::new();
     path.put(&mut text);
@@ -297,8 +273,7 @@ pub fn gather_dir<I: Image>(
     dir: u32,
     path: &mut PathText,
 ) -> Result<Attr, ImageFault>
-    requires ready { ReadyWith geometry.now.layout (I.device image.old) workspace.old siblings.old }
-    requires dir { dir < geometry.now.layout.ncg * geometry.now.layout.ipg }
+    requires { ReadyToPath geometry.now.layout (I.device image.old) workspace.old siblings.old dir }
     ensures attr { IfOk result (λ a. ForContents (I.device image.old).contents
         (λ b. a ≡ attributes (volume_of geometry.now.layout b) dir)) }
     ensures path { OnOk result ((b : List ℕ)

@@ -1,7 +1,7 @@
 // The pathname check of the root, and of one directory after another.
-ghost use Rattle.std.specs.Prelude.{suc, ◌≡◌, ◌-◌, ◌*◌, ◌==◌, ◌<◌, ◌≤◌, ◌&&◌, not, true, OnOk, IfOk, map, slice_index, vec_len};
+ghost use Rattle.std.specs.Prelude.{suc, ◌≡◌, ◌-◌, ◌==◌, ◌<◌, ◌≤◌, ◌&&◌, not, true, OnOk, IfOk, map, slice_index, vec_len};
 ghost use Rattle.ffs_phase.specs.Known.{ForBytes};
-ghost use Rattle.ffs_phase.specs.Runs.{ImageAfter, PhaseReports};
+ghost use Rattle.ffs_phase.specs.Runs.{PhaseReports};
 ghost use Rattle.ffs_report.specs.Progress.{progress};
 ghost use Rattle.ffs_volume.specs.Messages.Kinds.{of_names, lines_from};
 ghost use Rattle.ffs_volume.specs.Directories.PathnameCheck.{continues_after_root, lines_of, pathname_lines};
@@ -9,10 +9,9 @@ ghost use Rattle.ffs_volume.specs.Directories.Volumes.{volume_of};
 ghost use Rattle.ffs_workspace.specs.Holds.{bool_at};
 ghost use Rattle.ffs_workspace.specs.Lengths.{inodes_of};
 ghost use Rattle.ffs_pathnames.specs.Before.{IsBefore};
-ghost use Rattle.ffs_workspace.specs.Leaves.{LeavesSurvey};
 ghost use Rattle.ffs_pathnames.specs.GoesOn.{AtReadFault, is_go};
 ghost use Rattle.ffs_workspace.specs.Ready.{IsReady};
-ghost use Rattle.ffs_pathnames.specs.Ready.{ReadyWith, PhaseLeaves};
+ghost use Rattle.ffs_pathnames.specs.Ready.{ReadyToPath, PhaseLeaves, TreeLeaves};
 
 use crate::check::check_directory;
 use crate::clear::CALM;
@@ -45,9 +44,9 @@ fn check_inode<I: Image, W: Output>(
     report: &mut Report<'_, W>,
     number: u32,
 ) -> Result<(), RunFault>
-    requires ready { ReadyWith geometry.now.layout (I.device image.old) workspace.old siblings.old }
+    requires ready { ReadyToPath geometry.now.layout (I.device image.old) workspace.old
+        siblings.old number }
     requires low { 2 ≤ number }
-    requires number { number < inodes_of geometry.now.layout }
     ensures text { PhaseReports (λ b. IsBefore geometry.now.layout (I.device image.old).contents
         workspace.old number b)
         (λ b. map of_names (lines_of (volume_of geometry.now.layout b) number))
@@ -72,15 +71,14 @@ fn check_inodes<I: Image, W: Output>(
     workspace: &mut Workspace,
     report: &mut Report<'_, W>,
 ) -> Result<(), RunFault>
-    requires ready { IsReady geometry.now.layout (I.device image.old) workspace.old }
-    ensures image { ImageAfter (I.device image.old) (I.device image.new) result }
+    requires { IsReady geometry.now.layout (I.device image.old) workspace.old }
     ensures text { PhaseReports (λ b. IsBefore geometry.now.layout (I.device image.old).contents
         workspace.old 2 b)
         (λ b. map of_names (lines_from (lines_of (volume_of geometry.now.layout b)) 2
         (inodes_of geometry.now.layout - 2)))
         (progress W.sink report.old) (progress W.sink report.new) result }
-    ensures survey { LeavesSurvey workspace.old workspace.new }
-    ensures ready { IsReady geometry.now.layout (I.device image.new) workspace.new }
+    ensures leaves { TreeLeaves geometry.now.layout (I.device image.old) (I.device image.new)
+        workspace.old workspace.new result }
 {
     let mut siblings = Siblings::none(geometry);
     for number in 2..geometry.layout.ncg * geometry.layout.ipg {
@@ -112,8 +110,7 @@ pub fn check_tree<I: Image, W: Output>(
     workspace: &mut Workspace,
     report: &mut Report<'_, W>,
 ) -> Result<Root, RunFault>
-    requires ready { IsReady geometry.now.layout (I.device image.old) workspace.old }
-    ensures image { ImageAfter (I.device image.old) (I.device image.new) result }
+    requires { IsReady geometry.now.layout (I.device image.old) workspace.old }
     ensures text { PhaseReports (λ b. IsBefore geometry.now.layout (I.device image.old).contents
         workspace.old 2 b)
         (λ b. map of_names (pathname_lines (volume_of geometry.now.layout b)))
@@ -126,8 +123,8 @@ pub fn check_tree<I: Image, W: Output>(
     ensures fault { AtReadFault result (ForBytes
         (λ b. IsBefore geometry.now.layout (I.device image.old).contents workspace.old 2 b)
         (λ b. continues_after_root (volume_of geometry.now.layout b) ≡ true)) }
-    ensures survey { LeavesSurvey workspace.old workspace.new }
-    ensures ready { IsReady geometry.now.layout (I.device image.new) workspace.new }
+    ensures leaves { TreeLeaves geometry.now.layout (I.device image.old) (I.device image.new)
+        workspace.old workspace.new result }
 {
     let kind = root_kind(workspace);
     report_root(report, kind, is_root_marked(workspace))?;

@@ -10,7 +10,7 @@ ghost use Rattle.ffs_layout.specs.Entry.{entry_value};
 ghost use Rattle.ffs_volume.specs.Encodings.Kinds.{class_of_kind};
 ghost use Rattle.ffs_pathnames.specs.Gathers.{asks_attr, asks_path};
 ghost use Rattle.ffs_pathnames.specs.Marks as marks;
-ghost use Rattle.ffs_pathnames.specs.Sees.{Sees};
+ghost use Rattle.ffs_pathnames.specs.Sees.{Sees, CanMark};
 ghost use Rattle.ffs_pathnames.specs.Verdicts.{verdict_reported};
 
 use crate::inodes::Inodes;
@@ -60,8 +60,7 @@ fn faults_of(
     entry: &Entry<'_>,
 ) -> Faults
     requires inode { entry.now.number < length inodes.now.kinds.now }
-    requires passed { length passed.now ≡ length inodes.now.kinds.now }
-    requires stamps { length stamps.now ≡ length inodes.now.kinds.now }
+    requires marks { CanMark inodes.now passed.now stamps.now }
     ensures suspect { (v : Volume) → Sees v inodes.now → result.suspect
         ≡ (is_suspect v entry.now.number
         && (not (entry.now.number == 2)
@@ -98,8 +97,7 @@ pub fn entry_verdict(
     stamps: &[u32],
     entry: &Entry<'_>,
 ) -> Verdict
-    requires passed { length passed.now ≡ length inodes.now.kinds.now }
-    requires stamps { length stamps.now ≡ length inodes.now.kinds.now }
+    requires { CanMark inodes.now passed.now stamps.now }
     ensures below { IsTrue (asks_attr result) → entry.now.number < length inodes.now.kinds.now }
     ensures linked { (v : Volume) → Sees v inodes.now → IsTrue (asks_path result)
         → is_dir v entry.now.number ≡ true }
@@ -133,8 +131,7 @@ pub fn pass(
     role: Role,
     entry: &Entry<'_>,
 )
-    requires passed { length passed.old ≡ length inodes.now.kinds.now }
-    requires stamps { length stamps.old ≡ length inodes.now.kinds.now }
+    requires { CanMark inodes.now passed.old stamps.old }
     ensures { (v : Volume) → Sees v inodes.now →
         marks.after_roled v dir (record { passed = passed.old; stamps = stamps.old })
         (record { role = role; entry = entry_value entry.now })

@@ -1,6 +1,6 @@
 -- What is kept of a directory and its children stays right where only other parts of a workspace change.
-use Rattle.std.proofs.Common.{◌≡◌, List, ℕ, sym, ap, subst, ◌∙◌}
-use Rattle.std.specs.Prelude.{Option, Result, Ok}
+use Rattle.std.proofs.Common.{◌≡◌, List, ℕ, refl, sym, ap, subst, ◌∙◌}
+use Rattle.std.specs.Prelude.{Option, Result, Ok, Err}
 use Rattle.ffs_image.specs.Device.{Device}
 use Rattle.ffs_image.specs.Reads.{ReadAfter}
 use Rattle.ffs_image.specs.declared.image.ImageFault.{ImageFault}
@@ -8,10 +8,11 @@ use Rattle.ffs_volume.specs.declared.Layout.{Layout}
 use Rattle.ffs_workspace.specs.declared.workspace.Windows.{Windows}
 use Rattle.ffs_workspace.specs.declared.workspace.Workspace.{Workspace}
 use Rattle.ffs_workspace.specs.Leaves.{LeavesSurvey}
-use Rattle.ffs_workspace.proofs.Leaving.{claims_left, survey_left}
+use Rattle.ffs_workspace.specs.Ready.{IsReady}
+use Rattle.ffs_workspace.proofs.Leaving.{claims_left, survey_left, windows_leave}
 use Rattle.ffs_paths.specs.Climbing.{AreOpen}
 use Rattle.ffs_paths.specs.Reads.{OnlyReads}
-use Rattle.ffs_paths.specs.Siblings.{KeepSiblings}
+use Rattle.ffs_paths.specs.Siblings.{KeepSiblings, PathLeaves}
 use Rattle.ffs_paths.specs.declared.siblings.Siblings.{Siblings}
 
 leaves_back : (old new : Workspace) → LeavesSurvey old new → LeavesSurvey new old
@@ -28,21 +29,6 @@ leaves_back old new s = record {
   runs_again = sym s.runs_again;
 }
 
--- where all of a workspace stays but its windows
-pub lists_leave : (old new : Workspace) → new ≡ record old { windows = new.windows } → LeavesSurvey old new
-lists_leave old new s = record {
-  claimed = ap (λ w. w.claimed) s;
-  kinds = ap (λ w. w.kinds) s;
-  marked = ap (λ w. w.marked) s;
-  cut = ap (λ w. w.cut) s;
-  references = ap (λ w. w.references) s;
-  named = ap (λ w. w.named) s;
-  reached = ap (λ w. w.reached) s;
-  parents = ap (λ w. w.parents) s;
-  runs_seen = ap (λ w. w.runs_seen) s;
-  runs_again = ap (λ w. w.runs_again) s;
-}
-
 pub siblings_on : (v : Layout) (contents contents' : Option (List ℕ)) (old new : Workspace) (s : Siblings) →
     contents' ≡ contents → LeavesSurvey old new
     → KeepSiblings v contents old s → KeepSiblings v contents' new s
@@ -57,6 +43,32 @@ siblings_on v contents contents' old new s e left k =
         inside = k.names.inside;
       };
     }
+
+-- what is kept is right after a call that only read, and was right before it
+pub kept_on : {T : Type 0} {v : Layout} {d d' : Device} {w w' : Workspace} {x : T} (s : Siblings) →
+    OnlyReads v d d' w w' (Ok x) → KeepSiblings v d.contents w s → KeepSiblings v d'.contents w' s
+kept_on s r k = siblings_on _ _ _ _ _ s (ap (λ d. d.contents) r.read) (windows_leave _ _ r.lists) k
+
+pub kept_back : {T : Type 0} {v : Layout} {d d' : Device} {w w' : Workspace} {x : T} (s : Siblings) →
+    OnlyReads v d d' w w' (Ok x) → KeepSiblings v d'.contents w' s → KeepSiblings v d.contents w s
+kept_back s r k =
+    siblings_on _ _ _ _ _ s (sym (ap (λ d. d.contents) r.read)) (leaves_back _ _ (windows_leave _ _ r.lists)) k
+
+-- what a call leaves that made a path, and one that changes nothing that is kept
+pub leaves_with : {T : Type 0} {v : Layout} {d d' : Device} {w w' : Workspace} {x : T} (s : Siblings) →
+    OnlyReads v d d' w w' (Ok x) → KeepSiblings v d.contents w s → PathLeaves v d d' w w' s (Ok x)
+leaves_with s r k = record { reads = r; siblings = kept_on s r k }
+
+pub leaves_same : {T : Type 0} {v : Layout} {d d' : Device} {w w' : Workspace} (s : Siblings)
+    (result : Result T ImageFault) → KeepSiblings v d.contents w s → OnlyReads v d d' w w' result
+    → PathLeaves v d d' w w' s result
+leaves_same s (Ok x) k r = leaves_with s r k
+leaves_same s (Err e) k r = record { reads = r; siblings = tt }
+
+-- nothing was read yet
+pub no_reads : {T : Type 0} {v : Layout} {d : Device} {w : Workspace} {x : T} → IsReady v d w →
+    OnlyReads v d d w w (Ok x)
+no_reads r = record { lists = refl; ready = r; read = refl }
 
 -- a read into the windows, after a call that only read
 pub then_reads : {S T : Type 0} {v : Layout} {old first last : Device} {before w : Workspace} {windows : Windows}

@@ -1,7 +1,7 @@
 -- A reading of a directory that finds where it names its children.
 use Rattle.std.proofs.Common.{◌≡◌, ◌≢◌, ℕ, zero, suc, ◌-◌, ◌*◌, ◌≤◌, ◌==◌, ◌&&◌, Bool, true, false, List, [], ◌∷◌, ◌++◌}
 use Rattle.std.proofs.Common.{length, take, Option, Some, None, refl, sym, ap, subst, ◌∙◌, arith, replicate, get_or}
-use Rattle.std.specs.Prelude.{vec_len, Result, Ok, Err, IfOk, OnOk}
+use Rattle.std.specs.Prelude.{vec_len, Result, Ok}
 use Rattle.std.proofs.lemmas.List.{length-take}
 use Rattle.std.specs.Option.{unwrap_or}
 use Rattle.std.proofs.lemmas.Bool.{and_parts, both_ways, eq-eqb, eqb-true}
@@ -21,9 +21,7 @@ use Rattle.ffs_walk.specs.Windows.{BlocksHold, WindowHolds}
 use Rattle.ffs_workspace.specs.declared.workspace.Windows.{Windows}
 use Rattle.ffs_workspace.specs.declared.workspace.Workspace.{Workspace}
 use Rattle.ffs_workspace.specs.Holds.{HoldsClaims, HoldsSurvey}
-use Rattle.ffs_workspace.specs.Leaves.{LeavesSurvey}
 use Rattle.ffs_workspace.specs.Ready.{IsReady}
-use Rattle.ffs_workspace.proofs.Leaving.{claims_left, survey_left}
 use Rattle.ffs_workspace.proofs.Places.{piece_of}
 use Rattle.ffs_names.specs.declared.entries.Entries.{Entries}
 use Rattle.ffs_names.specs.Entering.{last_name, IsHeld, IsInside as IsInsideEntries, name_place}
@@ -32,15 +30,16 @@ use Rattle.ffs_names.specs.Windows.{CanReadChunks}
 use Rattle.ffs_paths.specs.declared.child_names.NamePlace.{NamePlace}
 use Rattle.ffs_paths.specs.declared.child_names.ChildNames.{ChildNames}
 use Rattle.ffs_paths.specs.ChildNames.{place_at, Covers, AreNamesOf, AreAllNamesOf, IsInside, AreInside, IsEmpty}
+use Rattle.ffs_paths.specs.ChildNames.{KeepsPlace, KeepsEntry}
 use Rattle.ffs_paths.specs.Climbing.{name_in, AreOpen, IsParentOf}
 use Rattle.ffs_paths.specs.Siblings.{KeepSiblings}
 use Rattle.ffs_paths.specs.declared.siblings.Siblings.{Siblings}
 use Rattle.ffs_paths.specs.DirectoryPaths.{HoldsPath, IsPathOf}
-use Rattle.ffs_paths.specs.Reads.{ForTree, OnlyReads}
+use Rattle.ffs_paths.specs.Reads.{OnlyReads}
 use Rattle.ffs_paths.specs.Slashes.{AreSingle}
 use Rattle.ffs_paths.specs.declared.kept.DirectoryPath.{DirectoryPath}
 use Rattle.ffs_paths.proofs.Children.{IsChild, child_is, dir_some}
-use Rattle.ffs_paths.proofs.Keeping.{then_reads}
+use Rattle.ffs_paths.proofs.Keeping.{no_reads, then_reads}
 use Rattle.ffs_paths.proofs.Ways.{name_in-here, name_in-past}
 
 none_some : (p : NamePlace) → None ≡ Some p → ⊥
@@ -71,19 +70,13 @@ empty_inside v c h = record { each = λ x s p e. absurd (none_some p (sym (none_
 pub names_other : (role : Role) (n x : ℕ) → is_plain role ≡ true → (is_plain role && (n == x)) ≡ false → x ≢ n
 names_other role n x h f e = both_ways (is_plain role && (n == x)) f (rw h (eq-eqb n x (sym e)))
 
--- what a table has after an entry at q
-pub record IsKept (e : RoledEntry) (q : NamePlace) (old new : ChildNames) : Type 0 where
-  pub first : new.first ≡ old.first
-  pub others : (x : ℕ) → old.first ≤ x → names x e ≡ false → place_at new x ≡ place_at old x
-  pub this : (x : ℕ) → Covers old x → names x e ≡ true → place_at new x ≡ Some (unwrap_or (place_at old x) q)
-
-covers_on : {e : RoledEntry} {q : NamePlace} {old new : ChildNames} (x : ℕ) → IsKept e q old new → Covers new x →
+covers_on : {e : RoledEntry} {q : NamePlace} {old new : ChildNames} (x : ℕ) → KeepsEntry e q old new → Covers new x →
     Covers old x
 covers_on x k s = let f = k.first in let low = s.0 in let high = s.1 in (omega arith, omega arith)
 
 -- the place of x after the entry: the old one, or that of the entry where there was none
 pub kept_cases : {e : RoledEntry} {q : NamePlace} {old new : ChildNames} (P : NamePlace → Type 0) (x : ℕ) →
-    IsKept e q old new → Covers new x → (p : NamePlace) → place_at new x ≡ Some p
+    KeepsEntry e q old new → Covers new x → (p : NamePlace) → place_at new x ≡ Some p
     → ((r : NamePlace) → place_at old x ≡ Some r → P r) → (names x e ≡ true → place_at old x ≡ None → P q) → P p
 kept_cases {e = e} {q = q} {old = old} {new = new} P x k s p is was now = go (names x e) refl (place_at old x) refl
   where
@@ -95,13 +88,13 @@ kept_cases {e = e} {q = q} {old = old} {new = new} P x k s p is was now = go (na
     go true n None h = subst P (some_is q p (sym (k.this x c n ∙ ap (λ y. Some (unwrap_or y q)) h) ∙ is)) (now n h)
     go true n (Some r) h = subst P (some_is r p (sym (k.this x c n ∙ ap (λ y. Some (unwrap_or y q)) h) ∙ is)) (was r h)
 
-pub inside_on : (v : Layout) (e : RoledEntry) (q : NamePlace) (old new : ChildNames) → IsKept e q old new → IsInside v q
+pub inside_on : (v : Layout) (e : RoledEntry) (q : NamePlace) (old new : ChildNames) → KeepsEntry e q old new → IsInside v q
     → AreInside v old → AreInside v new
 inside_on v e q old new k i a =
     record { each = λ x s p is. kept_cases (IsInside v) x k s p is (λ r h. a.each x (covers_on x k s) r h) (λ n h. i) }
 
 pub names_on : (b : List ℕ) (all es rest : List RoledEntry) (e : RoledEntry) (q : NamePlace) (old new : ChildNames) →
-    IsKept e q old new → es ≡ e ∷ rest → piece q.place q.length b ≡ e.entry.name
+    KeepsEntry e q old new → es ≡ e ∷ rest → piece q.place q.length b ≡ e.entry.name
     → IsUnseen all es old → AreNamesOf b all old → AreNamesOf b all new
 names_on b all es rest e q old new k l name unseen a = record {
   found = λ x s p is. kept_cases (λ r. piece r.place r.length b ≡ name_in x all) x k s p is
@@ -110,7 +103,7 @@ names_on b all es rest e q old new k l name unseen a = record {
 }
 
 pub unseen_on : (all es rest : List RoledEntry) (e : RoledEntry) (q : NamePlace) (old new : ChildNames) →
-    IsKept e q old new → es ≡ e ∷ rest → IsUnseen all es old → IsUnseen all rest new
+    KeepsEntry e q old new → es ≡ e ∷ rest → IsUnseen all es old → IsUnseen all rest new
 unseen_on all es rest e q old new k l unseen = record { still = λ x s none. go x s none (names x e) refl }
   where
     go : (x : ℕ) → Covers new x → place_at new x ≡ None → (b : Bool) → names x e ≡ b → name_in x all ≡ name_in x rest
@@ -155,16 +148,16 @@ open_next v d d' w blocks chunk o contents ready = record {
 }
 
 -- a plain entry is kept where only its number gets a place
-pub kept_is : (e : RoledEntry) (q : NamePlace) (old new : ChildNames) → is_plain e.role ≡ true → new.first ≡ old.first
-    → (Covers old e.entry.number → place_at new e.entry.number ≡ Some (unwrap_or (place_at old e.entry.number) q))
-    → ((x : ℕ) → old.first ≤ x → x ≢ e.entry.number → place_at new x ≡ place_at old x) → IsKept e q old new
-kept_is e q old new plain first this others = record {
-  first = first;
-  others = λ x low f. others x low (names_other e.role e.entry.number x plain f);
+pub kept_is : (e : RoledEntry) (q : NamePlace) (old new : ChildNames) → is_plain e.role ≡ true →
+    KeepsPlace e.entry.number q old new → KeepsEntry e q old new
+kept_is e q old new plain kept = record {
+  parent = kept.parent;
+  first = kept.first;
+  others = λ x low f. kept.others x low (names_other e.role e.entry.number x plain f);
   this = λ x s n.
       let same : e.entry.number ≡ x =
       eqb-true e.entry.number x (and_parts (is_plain e.role) (e.entry.number == x) n).1 in
-      subst (λ k. Covers old k → place_at new k ≡ Some (unwrap_or (place_at old k) q)) same this s;
+      subst (λ k. Covers old k → place_at new k ≡ Some (unwrap_or (place_at old k) q)) same kept.this s;
 }
 
 -- the place of a name
@@ -195,7 +188,7 @@ pub name_read : {T : Type 0} (v : Layout) (d d' : Device) (w : Workspace) (chunk
     OnlyReads v d d' w (record w { windows = record w.windows { chunk = chunk } }) result
 name_read {T} v d d' w chunk result ready size contents long holds read =
     let made = ready.made in
-    let one : OnlyReads {T = Unit {0}} v d d w w (Ok tt) = record { lists = refl; ready = ready; read = refl } in
+    let one : OnlyReads {T = Unit {0}} v d d w w (Ok tt) = no_reads ready in
     let opened : AreOpen v d w.windows = record {
       volume = ready.volume;
       table = made.table;
@@ -233,16 +226,3 @@ names_of_parent v b device w s d t claims survey of kept e =
       names = subst (λ p. AreAllNamesOf b (roled_entries (volume_of v b) p) s.names) e
           (kept.names.right b t claims (ap (is_dir (volume_of v b)) e ∙ child.dir));
     }
-
--- what a call answers is right of the workspace before it, too
-pub path_before : (v : Layout) (d d' : Device) (w w' : Workspace) (x : ℕ) (result : Result DirectoryPath ImageFault) →
-    d'.contents ≡ d.contents → LeavesSurvey w w'
-    → IfOk result (λ path. ForTree v d' w' (λ g. IsPathOf g x path)) →
-    IfOk result (λ path. ForTree v d w (λ g. IsPathOf g x path))
-path_before v d d' w w' x (Ok path) e left h = λ b t claims survey. h b (e ∙ t) (claims_left v b w w' left claims)
-    (survey_left v b w w' left survey)
-path_before v d d' w w' x (Err fault) e left h = tt
-
-pub on_ok : {T : Type 0} (result : Result T ImageFault) (P : Type 0) → P → OnOk result P
-on_ok (Ok x) P h = h
-on_ok (Err e) P h = tt

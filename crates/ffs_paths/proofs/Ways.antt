@@ -43,13 +43,27 @@ name_in-past d e es h =
     (cond b (Some 0) (option_map suc (first_index (names d) es))))) h ∙ past e es (first_index (names d) es)
 
 -- the climb from d, of level k, has reached a directory, with the names below it
-pub record IsOnWay (g : Graph) (k d at step : ℕ) (names : List (List ℕ)) (p : PathBuffer) : Type 0 where
+pub record IsOnWay (g : Graph) (k d at step : ℕ) (p : PathBuffer) : Type 0 where
   pub left : ℕ
   pub level : level g at ≡ Some left
   pub steps : left + step ≡ k
   pub following : List (List ℕ)
   pub held : HoldsNames p following
-  pub whole : names_down g left at ++ following ≡ names_down g k d ++ names
+  pub whole : names_down g left at ++ following ≡ names_down g k d
+
+append_none : (xs : List (List ℕ)) → xs ++ [] ≡ xs
+append_none [] = refl
+append_none (x ∷ xs) = ap (λ ys. x ∷ ys) (append_none xs)
+
+pub way_starts : (g : Graph) (k d : ℕ) (p : PathBuffer) → level g d ≡ Some k → HoldsNames p [] → IsOnWay g k d d 0 p
+way_starts g k d p l h = record {
+  left = k;
+  level = l;
+  steps = omega arith;
+  following = [];
+  held = h;
+  whole = append_none (names_down g k d);
+}
 
 -- a path that is cut holds any names above, too
 pub cut_holds : (p : PathBuffer) (above names : List (List ℕ)) → p.cut ≡ true → HoldsNames p names →
@@ -60,9 +74,9 @@ cut_holds p (name ∷ above) names c h =
     let m = cut-more name (above ++ names) (sym r.cut ∙ c) in
     record { whole = λ e. absurd (cc); short = r.short ∙ ap joined (sym m.1); cut = c ∙ sym m.0 }
 
-pub way_cut : (g : Graph) (k d at step : ℕ) (names : List (List ℕ)) (p : PathBuffer) → IsOnWay g k d at step names p →
-    p.cut ≡ true → HoldsNames p (names_down g k d ++ names)
-way_cut g k d at step names p w c =
+pub way_cut : (g : Graph) (k d at step : ℕ) (p : PathBuffer) → IsOnWay g k d at step p → p.cut ≡ true →
+    HoldsNames p (names_down g k d)
+way_cut g k d at step p w c =
     subst (HoldsNames p) w.whole (cut_holds p (names_down g w.left at) w.following c w.held)
 
 names_root : (g : Graph) (k : ℕ) → level g 2 ≡ Some k → names_down g k 2 ≡ []
@@ -71,27 +85,27 @@ names_root g zero h = refl
 names_root g (suc k) h = absurd
     (both_ways _ ((level-some g (suc k) 2 h).0.least 0 (omega arith)) (within-zero g 2 ∙ eq-eqb 2 2 refl))
 
-pub way_root : (g : Graph) (k d at step : ℕ) (names : List (List ℕ)) (p : PathBuffer) → IsOnWay g k d at step names p →
-    at ≡ 2 → HoldsNames p (names_down g k d ++ names)
-way_root g k d at step names p w e =
+pub way_root : (g : Graph) (k d at step : ℕ) (p : PathBuffer) → IsOnWay g k d at step p → at ≡ 2 →
+    HoldsNames p (names_down g k d)
+way_root g k d at step p w e =
     let n = names_root g w.left (subst (λ x. level g x ≡ Some w.left) e w.level) in
     let m : names_down g w.left at ++ w.following ≡ w.following = ap (λ x. names_down g w.left x ++ w.following) e
     ∙ ap (λ xs. xs ++ w.following) n in
     subst (HoldsNames p) (sym m ∙ w.whole) w.held
 
 -- a level is below the number of inodes
-pub way_long : (g : Graph) (k d at step : ℕ) (names : List (List ℕ)) (p : PathBuffer) → IsOnWay g k d at step names p →
-    level g d ≡ Some k → step < g.count
-way_long g k d at step names p w h = let l = (level-some g k d h).1 in let s = w.steps in omega arith
+pub way_long : (g : Graph) (k d at step : ℕ) (p : PathBuffer) → IsOnWay g k d at step p → level g d ≡ Some k →
+    step < g.count
+way_long g k d at step p w h = let l = (level-some g k d h).1 in let s = w.steps in omega arith
 
 -- what is above a directory other than the root
-pub record HasParent (g : Graph) (k d at step : ℕ) (ends : List (List ℕ)) (p : PathBuffer) (s : ℕ) : Type 0 where
+pub record HasParent (g : Graph) (k d at step : ℕ) (p : PathBuffer) (s : ℕ) : Type 0 where
   pub is : parent g at ≡ Some s
   pub below : s < g.count
   pub dir : g.is_dir s ≡ true
   pub on : (q : PathBuffer) →
       ((following : List (List ℕ)) → HoldsNames p following → HoldsNames q (name_in at (g.entries s) ∷ following)) →
-      IsOnWay g k d s (step + 1) ends q
+      IsOnWay g k d s (step + 1) q
 
 on_front : (xs : List (List ℕ)) (n : List ℕ) (ys : List (List ℕ)) → (xs ++ n ∷ []) ++ ys ≡ xs ++ (n ∷ ys)
 on_front [] n ys = refl
@@ -106,12 +120,12 @@ down_is g j at s n e =
     ap (names_above g (names_down g j) at) e
     ∙ ap (λ o. names_down g j s ++ name_of (option_and_then (roled_at (g.entries s)) o) ∷ []) place
 
-pub way_up : (g : Graph) (k d at step : ℕ) (ends : List (List ℕ)) (p : PathBuffer) → IsOnWay g k d at step ends p →
-    at ≢ 2 → (s : ℕ) × HasParent g k d at step ends p s
-way_up g k d at step ends p w n = go w.left w.level w.steps w.whole
+pub way_up : (g : Graph) (k d at step : ℕ) (p : PathBuffer) → IsOnWay g k d at step p → at ≢ 2 →
+    (s : ℕ) × HasParent g k d at step p s
+way_up g k d at step p w n = go w.left w.level w.steps w.whole
   where
-    go : (left : ℕ) → level g at ≡ Some left → left + step ≡ k → names_down g left at ++ w.following ≡ names_down g k d
-        ++ ends → (s : ℕ) × HasParent g k d at step ends p s
+    go : (left : ℕ) → level g at ≡ Some left → left + step ≡ k
+        → names_down g left at ++ w.following ≡ names_down g k d → (s : ℕ) × HasParent g k d at step p s
     go zero l e h = absurd (n (root_level g at l))
     go (suc j) l e h =
         let a = parent_above g j at l in
@@ -154,16 +168,12 @@ pub count_is : (v : Layout) (b : List ℕ) → (graph_of (volume_of v b)).count 
 unfolding volume_of volume_with
 count_is v b = refl
 
-append_none : (xs : List (List ℕ)) → xs ++ [] ≡ xs
-append_none [] = refl
-append_none (x ∷ xs) = ap (λ ys. x ∷ ys) (append_none xs)
-
 -- the path that is kept of a directory that is reached, and of one that isn't
 pub found_is : (g : Graph) (d k : ℕ) (p : DirectoryPath) → level g d ≡ Some k → p.reached ≡ true →
-    HoldsNames p.names (names_down g k d ++ []) → AreSingle (names_down g k d) → IsPathOf g d p
+    HoldsNames p.names (names_down g k d) → AreSingle (names_down g k d) → IsPathOf g d p
 found_is g d k p l r h s =
     subst (HoldsPath p) (sym (ap (option_map (λ n. names_down g n d)) l))
-    (r, subst (HoldsNames p.names) (append_none (names_down g k d)) h, s)
+    (r, h, s)
 
 -- what is written of it
 pub put_is : (g : Graph) (d : ℕ) (p : DirectoryPath) (text : List ℕ) → IsPathOf g d p → p.reached ≡ true →

@@ -1,15 +1,14 @@
 -- What a climb to the root reads, and the path that it gives.
 use Rattle.std.specs.Prelude.{◌≡◌, ◌*◌, ◌<◌, ◌≤◌, ℕ, nat_lt, true, if◌then◌else◌, List, [], ◌∷◌}
-use Rattle.std.specs.Prelude.{length, Option, Some, None, option_and_then, vec_len, slice_index}
-use Rattle.std.specs.Option.{unwrap_or}
+use Rattle.std.specs.Prelude.{length, Option, Some, None, option_and_then, Result, vec_len, slice_index}
 use Rattle.ffs_image.specs.Device.{Device}
+use Rattle.ffs_image.specs.Reads.{ReadAfter}
+use Rattle.ffs_image.specs.declared.image.ImageFault.{ImageFault}
 use Rattle.ffs_volume.specs.declared.Layout.{Layout}
-use Rattle.ffs_volume.specs.Directories.Graph.{Graph, names, first_index, parent}
-use Rattle.ffs_volume.specs.Directories.Parents.{graph_of, roled_at}
+use Rattle.ffs_volume.specs.Directories.Graph.{Graph, names, first_index}
+use Rattle.ffs_volume.specs.Directories.Parents.{roled_at}
 use Rattle.ffs_volume.specs.Directories.Paths.{name_of, dir_path, entry_path}
-use Rattle.ffs_volume.specs.Encodings.Replay.{cut_at}
 use Rattle.ffs_volume.specs.Directories.Roles.{RoledEntry}
-use Rattle.ffs_volume.specs.Directories.Volumes.{volume_of}
 use Rattle.ffs_walk.specs.Windows.{BlocksHold, WindowHolds}
 use Rattle.ffs_workspace.specs.declared.workspace.Windows.{Windows}
 use Rattle.ffs_workspace.specs.declared.workspace.Workspace.{Workspace}
@@ -29,10 +28,11 @@ pub record AreOpen (v : Layout) (d : Device) (w : Windows) : Type 0 where
   pub blocks_hold : BlocksHold v d.contents w.blocks
   pub chunk_holds : WindowHolds d.contents w.chunk
 
--- these are the cuts of the inodes, and the parents of the directories, or 0
-pub record LeadUp (v : Layout) (b cut parents : List ℕ) : Type 0 where
-  pub cuts : (x : ℕ) → slice_index cut x ≡ cut_at v b x
-  pub above : (x : ℕ) → slice_index parents x ≡ unwrap_or (parent (graph_of (volume_of v b)) x) 0
+-- what a read through them leaves
+pub record ReadsOpen {T : Type 0} (v : Layout) (old new : Device) (w : Windows) (result : Result T ImageFault) :
+    Type 0 where
+  pub windows : AreOpen v new w
+  pub read : ReadAfter old new result
 
 -- the survey found this parent of a directory that is reached and isn't the root
 pub record IsParentOf (w : Workspace) (dir parent : ℕ) : Type 0 where

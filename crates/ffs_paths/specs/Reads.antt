@@ -1,5 +1,5 @@
 -- What a call that only reads the image leaves of a workspace.
-use Rattle.std.specs.Prelude.{◌≡◌, ℕ, List, Result, Some}
+use Rattle.std.specs.Prelude.{◌≡◌, ◌*◌, ◌<◌, ℕ, List, Result, Some}
 use Rattle.ffs_image.specs.Device.{Device}
 use Rattle.ffs_image.specs.Reads.{ReadAfter}
 use Rattle.ffs_image.specs.declared.image.ImageFault.{ImageFault}
@@ -10,6 +10,11 @@ use Rattle.ffs_volume.specs.Directories.Volumes.{volume_of}
 use Rattle.ffs_workspace.specs.declared.workspace.Workspace.{Workspace}
 use Rattle.ffs_workspace.specs.Holds.{HoldsClaims, HoldsSurvey}
 use Rattle.ffs_workspace.specs.Ready.{IsReady}
+
+-- the workspace is ready for reads of the inode x
+pub record IsReadyFor (v : Layout) (d : Device) (w : Workspace) (x : ℕ) : Type 0 where
+  pub ready : IsReady v d w
+  pub number : x < v.ncg * v.ipg
 
 -- all of the workspace but its windows is as it was, and it is ready for the next read
 pub record OnlyReads {T : Type 0} (v : Layout) (old new : Device) (before after : Workspace)

@@ -1,5 +1,7 @@
 -- What is kept from the path of one directory to that of the next.
-use Rattle.std.specs.Prelude.{◌≡◌, ◌<◌, ℕ, true, List, [], ◌∷◌, ◌++◌, Option, Some}
+use Rattle.std.specs.Prelude.{◌≡◌, ◌*◌, ◌<◌, ℕ, true, List, [], ◌∷◌, ◌++◌, Option, Some, Result, OnOk}
+use Rattle.ffs_image.specs.Device.{Device}
+use Rattle.ffs_image.specs.declared.image.ImageFault.{ImageFault}
 use Rattle.ffs_volume.specs.declared.Layout.{Layout}
 use Rattle.ffs_volume.specs.Directories.Graph.{Graph}
 use Rattle.ffs_volume.specs.Directories.Parents.{graph_of}
@@ -9,10 +11,12 @@ use Rattle.ffs_volume.specs.Directories.Volumes.{volume_of}
 use Rattle.ffs_names.specs.Entering.{to_come, last_name}
 use Rattle.ffs_workspace.specs.declared.workspace.Workspace.{Workspace}
 use Rattle.ffs_workspace.specs.Holds.{HoldsClaims, HoldsSurvey}
-use Rattle.ffs_paths.specs.ChildNames.{AreAllNamesOf, AreInside}
+use Rattle.ffs_workspace.specs.Ready.{IsReady}
+use Rattle.ffs_paths.specs.ChildNames.{AreAllNamesOf, AreInside, Covers}
 use Rattle.ffs_paths.specs.declared.child_names.ChildNames.{ChildNames}
 use Rattle.ffs_paths.specs.Climbing.{name_in}
 use Rattle.ffs_paths.specs.DirectoryPaths.{IsPathOf}
+use Rattle.ffs_paths.specs.Reads.{OnlyReads}
 use Rattle.ffs_paths.specs.Slashes.{AreSingle}
 use Rattle.ffs_paths.specs.declared.siblings.Siblings.{Siblings}
 
@@ -46,3 +50,30 @@ pub record KeepSiblings (v : Layout) (contents : Option (List ℕ)) (w : Workspa
   pub right : (b : List ℕ) → contents ≡ Some b → HoldsClaims v b w → HoldsSurvey v b w → 0 < s.parent
       → AreSiblings v b s
   pub names : HoldNames v contents w s.names
+
+-- paths can be made: the workspace is ready, and what is kept of a directory and its children is right
+pub record ReadyWith (v : Layout) (d : Device) (w : Workspace) (s : Siblings) : Type 0 where
+  pub ready : IsReady v d w
+  pub siblings : KeepSiblings v d.contents w s
+
+-- a path of the inode x can be made
+pub record ReadyToPath (v : Layout) (d : Device) (w : Workspace) (s : Siblings) (x : ℕ) : Type 0 where
+  pub ready : IsReady v d w
+  pub siblings : KeepSiblings v d.contents w s
+  pub number : x < v.ncg * v.ipg
+
+-- what a call leaves that makes a path; where it failed, nothing of a directory and its children may be right
+pub record PathLeaves {T : Type 0} (v : Layout) (d d' : Device) (w w' : Workspace) (s : Siblings)
+    (result : Result T ImageFault) : Type 0 where
+  pub reads : OnlyReads v d d' w w' result
+  pub siblings : OnOk result (KeepSiblings v d'.contents w' s)
+
+-- the path of a directory is kept, and a reading of its entries that hasn't passed the first one that names the child
+pub record IsBegunFor (parent child : ℕ) (s : Siblings) : Type 0 where
+  pub parent_is : s.parent ≡ parent
+  pub highest : s.search.highest < child
+
+-- the places of names in the directory are found, that of the child among them
+pub record IsFoundFor (parent child : ℕ) (c : ChildNames) : Type 0 where
+  pub parent_is : c.parent ≡ parent
+  pub covers : Covers c child

@@ -107,12 +107,12 @@ impl PathBuffer {
         }
     }
 
-    /// Writes the path: `/` where it has no names, and `?` before its end where it is cut.
+    /// Writes the path in place of a text: `/` where it has no names, and `?` before its end where it is cut.
     pub fn put(&self, text: &mut PathText)
-        requires { text.old.items ≡ [] }
         ensures { (names : List (List ℕ)) → HoldsNames self.now names → text.new.items
             ≡ dir_path_of_names (Some names) }
     {
+        text.clear();
         if self.cut {
             text.push(b'?');
             text.try_extend_from_slice(&self.bytes[self.short..])
@@ -124,13 +124,14 @@ impl PathBuffer {
                 .unwrap();
         }
     }
-    /// Writes the path with a name more at its end: all names where they have room, else `?` and their longest end of at most
+
+    /// Writes the path with a name more at its end in place of a text: all names where they have room, else `?` and their longest end of at most
     /// 1,023 bytes, which is none where that name alone is longer.
     pub fn put_with(&self, name: &[u8], text: &mut PathText)
-        requires { text.old.items ≡ [] }
         ensures { (names : List (List ℕ)) → HoldsNames self.now names → AreSingle names
             → text.new.items ≡ path_bytes (names ++ name.now ∷ []) }
     {
+        text.clear();
         if !self.cut && name.len() < self.start {
             put_from(&self.bytes, self.start, name, text);
             return;

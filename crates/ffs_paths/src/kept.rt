@@ -20,15 +20,15 @@ impl DirectoryPath {
     ghost use Rattle.ffs_paths.specs.Climbing.{in_room};
     ghost use Rattle.ffs_paths.specs.DirectoryPaths.{IsPathOf};
 
-    /// Writes the path of the directory: `?` where it is not reached.
+    /// Writes the path of the directory in place of a text: `?` where it is not reached.
     pub fn put(&self, text: &mut PathText)
-        requires { text.old.items ≡ [] }
         ensures { (g : Graph) (dir : ℕ) → IsPathOf g dir self.now → text.new.items
             ≡ dir_path g dir }
     {
         if self.reached {
             self.names.put(text);
         } else {
+            text.clear();
             text.push(b'?');
         }
     }
@@ -46,10 +46,9 @@ impl DirectoryPath {
         }
     }
 
-    /// Writes the path of an entry of the directory: leading names are dropped where 1,024 bytes don't hold all, and the
-    /// entry's own where they don't hold it.
+    /// Writes the path of an entry of the directory in place of a text: leading names are dropped where 1,024 bytes
+    /// don't hold all, and the entry's own where they don't hold it.
     pub fn put_entry(&self, name: &[u8], text: &mut PathText)
-        requires { text.old.items ≡ [] }
         ensures { (g : Graph) (dir : ℕ) → IsPathOf g dir self.now → text.new.items
             ≡ in_room (entry_path g dir name.now) }
     {
@@ -57,6 +56,7 @@ impl DirectoryPath {
             self.names.put_with(name, text);
             return;
         }
+        text.clear();
         text.push(b'?');
         if name.len() > LONGEST_NAME {
             return;

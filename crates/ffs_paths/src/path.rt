@@ -1,10 +1,9 @@
 //! The path of a directory, or of an entry of it.
 
-ghost use Rattle.std.specs.Prelude.{◌≡◌, ◌*◌, ◌<◌, option_map, IfOk, OnOk};
-ghost use Rattle.ffs_workspace.specs.Ready.{IsReady};
+ghost use Rattle.std.specs.Prelude.{◌≡◌, option_map, IfOk, OnOk};
 ghost use Rattle.ffs_paths.specs.Climbing.{path_in};
 ghost use Rattle.ffs_paths.specs.DirectoryPaths.{IsPathOf};
-ghost use Rattle.ffs_paths.specs.Reads.{ForTree, OnlyReads};
+ghost use Rattle.ffs_paths.specs.Reads.{ForTree, IsReadyFor, OnlyReads};
 
 use crate::buffer::{PathBuffer, PathText};
 use crate::climb::climb;
@@ -23,8 +22,7 @@ pub fn directory_path<I: Image>(
     workspace: &mut Workspace,
     dir: u32,
 ) -> Result<DirectoryPath, ImageFault>
-    requires ready { IsReady geometry.now.layout (I.device image.old) workspace.old }
-    requires number { dir < geometry.now.layout.ncg * geometry.now.layout.ipg }
+    requires { IsReadyFor geometry.now.layout (I.device image.old) workspace.old dir }
     ensures path { IfOk result (λ path.
         ForTree geometry.now.layout (I.device image.old) workspace.old (λ g. IsPathOf g dir path)) }
     ensures reads { OnlyReads geometry.now.layout (I.device image.old) (I.device image.new)
@@ -33,15 +31,7 @@ pub fn directory_path<I: Image>(
     let mut names = PathBuffer::new();
     let reached = workspace.reached[dir as usize];
     if reached {
-        climb(
-            geometry,
-            image,
-            &mut workspace.windows,
-            &workspace.cut,
-            &workspace.parents,
-            dir,
-            &mut names,
-        )?;
+        names = climb(geometry, image, workspace, dir)?;
     }
     Ok(DirectoryPath { reached, names })
 }
@@ -59,15 +49,13 @@ pub fn path_of<I: Image>(
     name: Option<&[u8]>,
     text: &mut PathText,
 ) -> Result<(), ImageFault>
-    requires ready { IsReady geometry.now.layout (I.device image.old) workspace.old }
-    requires number { dir < geometry.now.layout.ncg * geometry.now.layout.ipg }
+    requires { IsReadyFor geometry.now.layout (I.device image.old) workspace.old dir }
     ensures path { OnOk result (ForTree geometry.now.layout (I.device image.old) workspace.old
         (λ g. text.new.items ≡ path_in g dir (option_map (λ n. n.now) name.entry))) }
     ensures reads { OnlyReads geometry.now.layout (I.device image.old) (I.device image.new)
         workspace.old workspace.new result }
 {
     let path = directory_path(geometry, image, workspace, dir)?;
-    text.clear();
     match name {
         None => path.put(text),
         Some(name) => path.put_entry(name, text),

@@ -1,15 +1,11 @@
 //! A search for the entries of a directory that name inodes.
 
-ghost use Rattle.std.specs.Prelude.{◌≡◌, ◌*◌, ◌<◌, ◌≤◌, ℕ, List, [], true, false, if◌then◌else◌, length, IfOk, OnOk};
+ghost use Rattle.std.specs.Prelude.{◌≡◌, ◌*◌, ◌<◌, ◌≤◌, ℕ, [], false, if◌then◌else◌, length, IfOk};
 ghost use Rattle.ffs_image.specs.Device.{ForContents};
-ghost use Rattle.ffs_image.specs.Reads.{ReadAfter};
 ghost use Rattle.ffs_volume.specs.Directories.Graph.{names as is_named};
-ghost use Rattle.ffs_volume.specs.Encodings.Replay.{cut_at};
-ghost use Rattle.ffs_volume.specs.Directories.Roles.{is_dir, roled_entries};
-ghost use Rattle.ffs_volume.specs.Directories.Volumes.{volume_of};
 ghost use Rattle.ffs_survey.specs.Reading.{roled_of};
-ghost use Rattle.ffs_names.specs.Entering.{to_come, last_name};
-ghost use Rattle.ffs_paths.specs.Climbing.{name_in, AreOpen};
+ghost use Rattle.ffs_names.specs.Entering.{last_name};
+ghost use Rattle.ffs_paths.specs.Climbing.{AreOpen, ReadsOpen};
 
 use ffs_image::{Image, ImageFault};
 use ffs_layout::Geometry;
@@ -44,6 +40,8 @@ pub struct Search {
 }
 
 impl Search {
+    ghost use Rattle.ffs_paths.specs.Searches.{IsOpened, FindsFirst, SearchesOn};
+
     /// A search in no directory.
     pub fn none(geometry: &Geometry) -> Search
         ensures geometry { result.entries.chunks.walk.geometry ≡ geometry.now }
@@ -64,16 +62,9 @@ impl Search {
     ) -> Result<Search, ImageFault>
         requires number { dir < geometry.now.layout.ncg * geometry.now.layout.ipg }
         requires windows { AreOpen geometry.now.layout (I.device image.old) windows.old }
-        ensures entries { IfOk result (λ search. ForContents (I.device image.old).contents
-            (λ b. is_dir (volume_of geometry.now.layout b) dir ≡ true → cut
-            ≡ cut_at geometry.now.layout b dir
-            → to_come b search.entries ≡ roled_entries (volume_of geometry.now.layout b) dir)) }
-        ensures highest { IfOk result (λ search. search.highest ≡ 0) }
-        ensures place { IfOk result (λ search. search.entries.place ≡ 512) }
-        ensures geometry { IfOk result (λ search. search.entries.chunks.walk.geometry
-            ≡ geometry.now) }
-        ensures windows { AreOpen geometry.now.layout (I.device image.new) windows.new }
-        ensures read { ReadAfter (I.device image.old) (I.device image.new) result }
+        ensures opened { IfOk result (IsOpened geometry.now (I.device image.old).contents dir cut) }
+        ensures leaves { ReadsOpen geometry.now.layout (I.device image.old) (I.device image.new)
+            windows.new result }
     {
         let inode = windows.table.inode(geometry, dir, image)?;
         Ok(Search {
@@ -91,21 +82,11 @@ impl Search {
     ) -> Result<bool, ImageFault>
         requires windows { AreOpen self.old.entries.chunks.walk.geometry.layout
             (I.device image.old) windows.old }
-        ensures name { IfOk result (λ found. ForContents (I.device image.old).contents
-            (λ b. name_in number (to_come b self.old.entries)
-            ≡ (if found then last_name self.new.entries else []))) }
-
-        // Of a number above all that were passed, the first entry is still to come, if there is one.
-        ensures above { OnOk result (ForContents (I.device image.old).contents
-            (λ b. (above : ℕ) → self.new.highest < above
-            → name_in above (to_come b self.old.entries)
-            ≡ name_in above (to_come b self.new.entries))) }
-        ensures grows { self.old.highest ≤ self.new.highest }
-        ensures geometry { self.new.entries.chunks.walk.geometry
-            ≡ self.old.entries.chunks.walk.geometry }
-        ensures windows { AreOpen self.old.entries.chunks.walk.geometry.layout
-            (I.device image.new) windows.new }
-        ensures read { ReadAfter (I.device image.old) (I.device image.new) result }
+        ensures found { IfOk result (λ found. ForContents (I.device image.old).contents
+            (λ b. FindsFirst b number self.old self.new found)) }
+        ensures on { SearchesOn self.old self.new }
+        ensures leaves { ReadsOpen self.old.entries.chunks.walk.geometry.layout
+            (I.device image.old) (I.device image.new) windows.new result }
     {
         'entries: while let Some(entry) = self
             .entries

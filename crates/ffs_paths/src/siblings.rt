@@ -1,9 +1,8 @@
 //! The paths of directories, where one after another has the same parent.
 
-ghost use Rattle.std.specs.Prelude.{◌≡◌, ◌*◌, ◌<◌, true, ℕ, List, Option, Some, IfOk, OnOk, IfSome, vec_len};
+ghost use Rattle.std.specs.Prelude.{◌≡◌, ◌<◌, true, ℕ, List, Option, Some, IfOk, OnOk, IfSome, vec_len};
 ghost use Rattle.ffs_volume.specs.Directories.Paths.{dir_path};
 ghost use Rattle.ffs_workspace.specs.declared.workspace.Workspace.{Workspace as WorkspaceIn};
-ghost use Rattle.ffs_workspace.specs.Ready.{IsReady};
 ghost use Rattle.ffs_paths.specs.Climbing.{IsParentOf};
 ghost use Rattle.ffs_paths.specs.DirectoryPaths.{IsPathOf};
 ghost use Rattle.ffs_paths.specs.Reads.{ForTree, OnlyReads};
@@ -53,8 +52,7 @@ pub struct Siblings {
 }
 
 impl Siblings {
-    ghost use Rattle.ffs_paths.specs.ChildNames.{Covers};
-    ghost use Rattle.ffs_paths.specs.Siblings.{KeepSiblings};
+    ghost use Rattle.ffs_paths.specs.Siblings.{KeepSiblings, ReadyWith, ReadyToPath, PathLeaves, IsBegunFor, IsFoundFor};
 
     /// Of no directory.
     pub fn none(geometry: &Geometry) -> Siblings
@@ -81,13 +79,11 @@ impl Siblings {
         workspace: &mut Workspace,
         dir: u32,
     ) -> Result<(), ImageFault>
-        requires ready { IsReady geometry.now.layout (I.device image.old) workspace.old }
-        requires number { dir < geometry.now.layout.ncg * geometry.now.layout.ipg }
-        requires siblings { KeepSiblings geometry.now.layout (I.device image.old).contents
-            workspace.old self.old }
+        requires { ReadyToPath geometry.now.layout (I.device image.old) workspace.old self.old
+            dir }
         ensures path { OnOk result (ForTree geometry.now.layout (I.device image.old) workspace.old
             (λ g. 0 < dir → IsPathOf g dir self.new.path)) }
-        ensures names { self.new.names ≡ self.old.names }
+        ensures same { self.new ≡ record self.old { path = self.new.path } }
         ensures reads { OnlyReads geometry.now.layout (I.device image.old) (I.device image.new)
             workspace.old workspace.new result }
     {
@@ -112,17 +108,12 @@ impl Siblings {
         parent: u32,
         child: u32,
     ) -> Result<(), ImageFault>
-        requires ready { IsReady geometry.now.layout (I.device image.old) workspace.old }
-        requires number { parent < geometry.now.layout.ncg * geometry.now.layout.ipg }
+        requires ready { ReadyToPath geometry.now.layout (I.device image.old) workspace.old
+            self.old parent }
         requires child { 0 < child }
-        requires siblings { KeepSiblings geometry.now.layout (I.device image.old).contents
-            workspace.old self.old }
-        ensures siblings { OnOk result (KeepSiblings geometry.now.layout
-            (I.device image.old).contents workspace.old self.new) }
-        ensures parent { OnOk result (self.new.parent ≡ parent) }
-        ensures highest { OnOk result (self.new.search.highest < child) }
-        ensures reads { OnlyReads geometry.now.layout (I.device image.old) (I.device image.new)
-            workspace.old workspace.new result }
+        ensures begun { OnOk result (IsBegunFor parent child self.new) }
+        ensures leaves { PathLeaves geometry.now.layout (I.device image.old) (I.device image.new)
+            workspace.old workspace.new self.new result }
     {
         if self.parent == parent && self.search.highest < child {
             return Ok(());
@@ -151,18 +142,12 @@ impl Siblings {
         parent: u32,
         child: u32,
     ) -> Result<(), ImageFault>
-        requires ready { IsReady geometry.now.layout (I.device image.old) workspace.old }
-        requires number { parent < geometry.now.layout.ncg * geometry.now.layout.ipg }
-        requires siblings { KeepSiblings geometry.now.layout (I.device image.old).contents
-            workspace.old self.old }
-        ensures siblings { OnOk result (KeepSiblings geometry.now.layout
-            (I.device image.old).contents workspace.old self.new) }
-        ensures parent { self.new.parent ≡ self.old.parent }
-        ensures path { self.new.path ≡ self.old.path }
-        ensures names { OnOk result (self.new.names.parent ≡ parent) }
-        ensures covers { OnOk result (Covers self.new.names child) }
-        ensures reads { OnlyReads geometry.now.layout (I.device image.old) (I.device image.new)
-            workspace.old workspace.new result }
+        requires { ReadyToPath geometry.now.layout (I.device image.old) workspace.old self.old
+            parent }
+        ensures found { OnOk result (IsFoundFor parent child self.new.names) }
+        ensures same { self.new ≡ record self.old { names = self.new.names } }
+        ensures leaves { PathLeaves geometry.now.layout (I.device image.old) (I.device image.new)
+            workspace.old workspace.new self.new result }
     {
         if self.names.covers(parent, child) {
             return Ok(());
@@ -174,34 +159,6 @@ impl Siblings {
         Ok(())
     }
 
-    /// The path of a child of the directory that is kept, by the place of its name.
-    fn path_by_names<I: Image>(
-        &self,
-        geometry: &Geometry,
-        image: &mut I,
-        workspace: &mut Workspace,
-        dir: u32,
-    ) -> Result<DirectoryPath, ImageFault>
-        requires ready { IsReady geometry.now.layout (I.device image.old) workspace.old }
-        requires parent { IsParentOf workspace.old dir self.now.parent }
-        requires siblings { KeepSiblings geometry.now.layout (I.device image.old).contents
-            workspace.old self.now }
-        requires names { self.now.names.parent ≡ self.now.parent }
-        requires covers { Covers self.now.names dir }
-        ensures path { IfOk result (λ path.
-            ForTree geometry.now.layout (I.device image.old) workspace.old
-            (λ g. IsPathOf g dir path)) }
-        ensures reads { OnlyReads geometry.now.layout (I.device image.old) (I.device image.new)
-            workspace.old workspace.new result }
-    {
-        let Some(place) = self.names.place_of(dir) else {
-            return Ok(self.path.child(&[]));
-        };
-        let window = &mut workspace.windows.chunk;
-        window.fill(image, place.place, place.length)?;
-        Ok(self.path.child(window.bytes()))
-    }
-
     /// The path of a directory, by the first entry of its parent that names it.
     fn path_by_search<I: Image>(
         &mut self,
@@ -211,17 +168,13 @@ impl Siblings {
         parent: u32,
         dir: u32,
     ) -> Result<DirectoryPath, ImageFault>
-        requires ready { IsReady geometry.now.layout (I.device image.old) workspace.old }
+        requires ready { ReadyWith geometry.now.layout (I.device image.old) workspace.old self.old }
         requires parent { IsParentOf workspace.old dir parent }
-        requires siblings { KeepSiblings geometry.now.layout (I.device image.old).contents
-            workspace.old self.old }
         ensures path { IfOk result (λ path.
             ForTree geometry.now.layout (I.device image.old) workspace.old
             (λ g. IsPathOf g dir path)) }
-        ensures siblings { OnOk result (KeepSiblings geometry.now.layout
-            (I.device image.old).contents workspace.old self.new) }
-        ensures reads { OnlyReads geometry.now.layout (I.device image.old) (I.device image.new)
-            workspace.old workspace.new result }
+        ensures leaves { PathLeaves geometry.now.layout (I.device image.old) (I.device image.new)
+            workspace.old workspace.new self.new result }
     {
         self.continue_or_begin(geometry, image, workspace, parent, dir)?;
         let found = self.search.find(image, &mut workspace.windows, dir)?;
@@ -238,23 +191,24 @@ impl Siblings {
         parent: u32,
         dir: u32,
     ) -> Result<DirectoryPath, ImageFault>
-        requires ready { IsReady geometry.now.layout (I.device image.old) workspace.old }
+        requires ready { ReadyWith geometry.now.layout (I.device image.old) workspace.old self.old }
         requires parent { IsParentOf workspace.old dir parent }
-        requires siblings { KeepSiblings geometry.now.layout (I.device image.old).contents
-            workspace.old self.old }
         ensures path { IfOk result (λ path.
             ForTree geometry.now.layout (I.device image.old) workspace.old
             (λ g. IsPathOf g dir path)) }
-        ensures siblings { OnOk result (KeepSiblings geometry.now.layout
-            (I.device image.old).contents workspace.old self.new) }
-        ensures reads { OnlyReads geometry.now.layout (I.device image.old) (I.device image.new)
-            workspace.old workspace.new result }
+        ensures leaves { PathLeaves geometry.now.layout (I.device image.old) (I.device image.new)
+            workspace.old workspace.new self.new result }
     {
         if !self.has_passed(parent, dir) {
             return self.path_by_search(geometry, image, workspace, parent, dir);
         }
         self.find_names(geometry, image, workspace, parent, dir)?;
-        self.path_by_names(geometry, image, workspace, dir)
+        let Some(place) = self.names.place_of(dir) else {
+            return Ok(self.path.child(&[]));
+        };
+        let window = &mut workspace.windows.chunk;
+        window.fill(image, place.place, place.length)?;
+        Ok(self.path.child(window.bytes()))
     }
 
     /// The path of a directory, for all lines on it and on its entries.
@@ -268,17 +222,13 @@ impl Siblings {
         workspace: &mut Workspace,
         dir: u32,
     ) -> Result<DirectoryPath, ImageFault>
-        requires ready { IsReady geometry.now.layout (I.device image.old) workspace.old }
-        requires number { dir < geometry.now.layout.ncg * geometry.now.layout.ipg }
-        requires siblings { KeepSiblings geometry.now.layout (I.device image.old).contents
-            workspace.old self.old }
+        requires { ReadyToPath geometry.now.layout (I.device image.old) workspace.old self.old
+            dir }
         ensures path { IfOk result (λ path.
             ForTree geometry.now.layout (I.device image.old) workspace.old
             (λ g. IsPathOf g dir path)) }
-        ensures siblings { OnOk result (KeepSiblings geometry.now.layout
-            (I.device image.new).contents workspace.new self.new) }
-        ensures reads { OnlyReads geometry.now.layout (I.device image.old) (I.device image.new)
-            workspace.old workspace.new result }
+        ensures leaves { PathLeaves geometry.now.layout (I.device image.old) (I.device image.new)
+            workspace.old workspace.new self.new result }
     {
         match parent_above(workspace, dir) {
             None => directory_path(geometry, image, workspace, dir),
@@ -298,19 +248,14 @@ impl Siblings {
         dir: u32,
         text: &mut PathText,
     ) -> Result<(), ImageFault>
-        requires ready { IsReady geometry.now.layout (I.device image.old) workspace.old }
-        requires number { dir < geometry.now.layout.ncg * geometry.now.layout.ipg }
-        requires siblings { KeepSiblings geometry.now.layout (I.device image.old).contents
-            workspace.old self.old }
+        requires { ReadyToPath geometry.now.layout (I.device image.old) workspace.old self.old
+            dir }
         ensures path { OnOk result (ForTree geometry.now.layout (I.device image.old) workspace.old
             (λ g. text.new.items ≡ dir_path g dir)) }
-        ensures siblings { OnOk result (KeepSiblings geometry.now.layout
-            (I.device image.new).contents workspace.new self.new) }
-        ensures reads { OnlyReads geometry.now.layout (I.device image.old) (I.device image.new)
-            workspace.old workspace.new result }
+        ensures leaves { PathLeaves geometry.now.layout (I.device image.old) (I.device image.new)
+            workspace.old workspace.new self.new result }
     {
         let path = self.path_to(geometry, image, workspace, dir)?;
-        text.clear();
         path.put(text);
         Ok(())
     }

@@ -28,7 +28,7 @@ returns-in_err-path-clause-text g c =
 pub chunks-init : goal.chunks-init
 chunks-init g c =
     let v = c.args.geometry.now.layout in
-    let ok = c.in_ok-path.ensures.reads in
+    let ok = c.in_ok-path.ensures.leaves.reads in
     let here = c.path_to.new.workspace in
     let m = marks_of c.args.workspace.now in
     let same = marks_on c.args.workspace.now here ok.lists in
@@ -40,11 +40,11 @@ chunks-init g c =
     all_read v b c.args.dir c.args.inode.now c.index-cut.result.now (rest b c.start-chunks.result)
     c.args.geometry.now.sound k.0.dir k.1
     (get_or_read_under here.cut.items c.args.dir _ c.index-cut.result.now 0 c.index-cut.ensures
-    (subst (λ n. c.args.dir < n) (sym ok.ready.made.cut) c.requires.dir)
+    (subst (λ n. c.args.dir < n) (sym ok.ready.made.cut) c.requires.number)
     here.cut.ok.0 ∙ (claims_left v b c.args.workspace.now here (windows_leave _ _ ok.lists) k.0.claims).cut c.args.dir)
     (c.start-chunks.ensures.begins.chunks b) in
     record {
-      ready = record { ready = ok.ready; siblings = c.in_ok-path.ensures.siblings };
+      ready = record { ready = ok.ready; siblings = c.in_ok-path.ensures.leaves.siblings };
       device = ok.read;
       geometry = c.start-chunks.ensures.geometry;
       survey = windows_leave _ _ ok.lists;
@@ -80,11 +80,12 @@ returns-in_err-offset-clause-leaves g c =
 pub next-requires : goal.next-requires
 next-requires g c = let inv = c.chunks.invariant in rw inv.geometry (can_read_in _ _ _ inv.ready.ready)
 
-pub report_chunk-requires-clause-ready : goal.report_chunk-requires-clause-ready
-report_chunk-requires-clause-ready g c =
+pub report_chunk-requires : goal.report_chunk-requires
+report_chunk-requires g c =
     let inv = c.chunks.invariant in
     let read = c.in_ok-offset.ensures in
-    ready_next _ _ _ c.chunks.workspace _ _ _ inv.ready read.read (rw inv.geometry at read.ready)
+    let next = ready_next _ _ _ c.chunks.workspace _ _ _ inv.ready read.read (rw inv.geometry at read.ready) in
+    record { ready = next.ready; siblings = next.siblings; number = c.requires.number }
 
 pub returns-clause-leaves : goal.returns-clause-leaves
 returns-clause-leaves g c =

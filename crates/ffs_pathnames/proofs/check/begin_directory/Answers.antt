@@ -9,13 +9,14 @@ use Rattle.ffs_workspace.proofs.Leaving.{survey_left}
 use Rattle.ffs_paths.proofs.Keeping.{siblings_on}
 use Rattle.ffs_pathnames.proofs.check.begin_directory.Goals as goal
 
-pub report_header-requires-clause-ready : goal.report_header-requires-clause-ready
-report_header-requires-clause-ready g c =
-    let examined = c.in_ok-examined.ensures in
+pub report_header-requires : goal.report_header-requires
+report_header-requires g c =
+    let examined = c.in_ok-examined.ensures.leaves in
     record {
       ready = examined.ready;
       siblings = siblings_on _ _ _ _ _ _ (ap (λ d. d.contents) examined.read) examined.lists.survey
           c.requires.ready.siblings;
+      number = c.requires.ready.number;
     }
 
 pub returns-in_err-examined-clause-text : goal.returns-in_err-examined-clause-text
@@ -31,15 +32,15 @@ returns-in_err-report_header-clause-text g c =
     rw (p.1, p.2) (fault_same (Unit {0}) DirectorySummary _ _ _ _ _ _ c.in_err-report_header.field-0.0
     (λ b k. (
       knows_on v _ _ c.args.workspace.now c.examine.new.workspace c.args.dir b
-          (ap (λ d. d.contents) c.in_ok-examined.ensures.read) c.in_ok-examined.ensures.lists.survey k,
-      ap (λ i. i.size) (c.in_ok-examined.ensures.found b k.reported_is k.claims k.survey k.dir).inode,
+          (ap (λ d. d.contents) c.in_ok-examined.ensures.leaves.read) c.in_ok-examined.ensures.leaves.lists.survey k,
+      ap (λ i. i.size) (c.in_ok-examined.ensures.found b k).inode,
     ))
     (λ b k. ap (map of_names)
     (starts_are v b c.args.dir c.args.workspace.now c.examine.new.workspace c.in_ok-examined.examined
     c.examine.new.start _ _ _
-    (c.in_ok-examined.ensures.found b k.reported_is k.claims k.survey k.dir)
+    (c.in_ok-examined.ensures.found b k)
     (c.parent_of-parent.ensures v b
-    (survey_left v b c.args.workspace.now c.examine.new.workspace c.in_ok-examined.ensures.lists.survey k.survey))
+    (survey_left v b c.args.workspace.now c.examine.new.workspace c.in_ok-examined.ensures.leaves.lists.survey k.survey))
     c.first_two.ensures.first c.first_two.ensures.second))
     c.in_err-report_header.ensures.text)
 
@@ -49,15 +50,15 @@ returns-clause-text g c =
     said_same _ _ _ _ _ _
     (λ b k. (
       knows_on v _ _ c.args.workspace.now c.examine.new.workspace c.args.dir b
-          (ap (λ d. d.contents) c.in_ok-examined.ensures.read) c.in_ok-examined.ensures.lists.survey k,
-      ap (λ i. i.size) (c.in_ok-examined.ensures.found b k.reported_is k.claims k.survey k.dir).inode,
+          (ap (λ d. d.contents) c.in_ok-examined.ensures.leaves.read) c.in_ok-examined.ensures.leaves.lists.survey k,
+      ap (λ i. i.size) (c.in_ok-examined.ensures.found b k).inode,
     ))
     (λ b k. ap (map of_names)
     (starts_are v b c.args.dir c.args.workspace.now c.examine.new.workspace c.in_ok-examined.examined
     c.examine.new.start _ _ _
-    (c.in_ok-examined.ensures.found b k.reported_is k.claims k.survey k.dir)
+    (c.in_ok-examined.ensures.found b k)
     (c.parent_of-parent.ensures v b
-    (survey_left v b c.args.workspace.now c.examine.new.workspace c.in_ok-examined.ensures.lists.survey k.survey))
+    (survey_left v b c.args.workspace.now c.examine.new.workspace c.in_ok-examined.ensures.leaves.lists.survey k.survey))
     c.first_two.ensures.first c.first_two.ensures.second))
     c.in_ok-report_header.ensures.text
 
@@ -65,5 +66,5 @@ pub returns-clause-begun : goal.returns-clause-begun
 returns-clause-begun g c = λ b k.
     begun_is c.args.geometry.now.layout b c.args.dir c.args.workspace.now c.examine.new.workspace _
     c.in_ok-examined.examined c.examine.new.start
-    (c.in_ok-examined.ensures.found b k.reported_is k.claims k.survey k.dir) c.in_ok-examined.ensures.lists
+    (c.in_ok-examined.ensures.found b k) c.in_ok-examined.ensures.leaves.lists
     c.in_ok-report_header.ensures.leaves.lists

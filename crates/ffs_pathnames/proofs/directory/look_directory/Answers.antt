@@ -1,5 +1,7 @@
 use Rattle.std.proofs.Common.{◌≡◌, refl, sym, ap, subst, ◌∙◌, ℕ, List, ◌∷◌, Some}
+use Rattle.std.proofs.lemmas.Result.{err_from_is_err_and}
 use Rattle.std.specs.Prelude.{◌==◌, ◌||◌}
+use Rattle.ffs_image.specs.Device.{Faulted}
 use Rattle.std.specs.List.{flat_map, find}
 use Rattle.ffs_volume.specs.Directories.Entries.{Chunk, chunk_of}
 use Rattle.ffs_volume.specs.Directories.Roles.{roled_chunk}
@@ -79,33 +81,48 @@ returns-clause-found g c = λ b t.
 pub next-requires : goal.next-requires
 next-requires g c = let inv = c.chunks.invariant in rw inv.geometry inv.ready
 
-pub returns-in_err-offset-clause-ready : goal.returns-in_err-offset-clause-ready
-returns-in_err-offset-clause-ready g c = let inv = c.chunks.invariant in rw inv.geometry at
-    c.in_err-offset.ensures.ready
+pub returns-in_err-offset-clause-leaves : goal.returns-in_err-offset-clause-leaves
+returns-in_err-offset-clause-leaves g c =
+    let inv = c.chunks.invariant in
+    let next = c.in_err-offset.ensures in
+    let err = err_from_is_err_and c.from_residual.result c.from_residual.ensures.1 in
+    rw (err.1, err.2) (record {
+      ready = rw inv.geometry at next.ready;
+      read = subst (λ d. Faulted d (g.I.Image.device c.next.new.image) c.in_err-offset.field-0.0.sector) inv.same
+          next.read;
+    })
 
 pub gap_of-requires : goal.gap_of-requires
 gap_of-requires g c = let read = c.in_ok-offset.ensures in rw read.geometry read.ready.walk
 
-pub returns-in_err-gap-clause-ready : goal.returns-in_err-gap-clause-ready
-returns-in_err-gap-clause-ready g c =
+pub returns-in_err-gap-clause-leaves : goal.returns-in_err-gap-clause-leaves
+returns-in_err-gap-clause-leaves g c =
     let inv = c.chunks.invariant in
     let read = c.in_ok-offset.ensures in
     let chunk = rw inv.geometry at read.ready in
     let gap = c.in_err-gap.ensures in
-    record {
-      walk = rw (read.geometry ∙ inv.geometry) at gap.ready;
-      room = chunk.room;
-      holds = subst (λ xs. WindowHolds xs c.next.new.data) (sym gap.read.contents) chunk.holds;
-    }
+    let err = err_from_is_err_and c.from_residual-in_err-gap.result c.from_residual-in_err-gap.ensures.1 in
+    rw (err.1, err.2) (record {
+      ready = record {
+        walk = rw (read.geometry ∙ inv.geometry) at gap.ready;
+        room = chunk.room;
+        holds = subst (λ xs. WindowHolds xs c.next.new.data) (sym gap.read.contents) chunk.holds;
+      };
+      read = subst (λ d. Faulted d (g.I.Image.device c.gap_of.new.image) c.in_err-gap.field-0.0.sector)
+          (read.read ∙ inv.same) gap.read;
+    })
 
-pub returns-clause-ready : goal.returns-clause-ready
-returns-clause-ready g c =
+pub returns-clause-leaves : goal.returns-clause-leaves
+returns-clause-leaves g c =
     let inv = c.chunks.invariant in
     let read = c.in_ok-offset.ensures in
     let chunk = rw inv.geometry at read.ready in
     let gap = c.in_ok-gap.ensures in
     record {
-      walk = rw (read.geometry ∙ inv.geometry) at gap.ready;
-      room = chunk.room;
-      holds = subst (λ d. WindowHolds d.contents c.next.new.data) (sym gap.read) chunk.holds;
+      ready = record {
+        walk = rw (read.geometry ∙ inv.geometry) at gap.ready;
+        room = chunk.room;
+        holds = subst (λ d. WindowHolds d.contents c.next.new.data) (sym gap.read) chunk.holds;
+      };
+      read = gap.read ∙ (read.read ∙ inv.same);
     }

@@ -20,7 +20,7 @@ entries-init g c =
     record {
       place = omega arith;
       index = omega arith;
-      ready = c.requires.ready;
+      ready = record { ready = c.requires.ready; siblings = c.requires.siblings };
       device = refl;
       survey = leaves_all _;
       marks = λ b k. refl;
@@ -32,7 +32,7 @@ entries-init g c =
 pub report_entry-requires-clause-name : goal.report_entry-requires-clause-name
 report_entry-requires-clause-name g c =
     name_short c.args.geometry.now.layout.order c.args.chunk.now c.entries.place (entry_value c.in-Some.entry)
-    c.name_length.ensures.short c.in-Some.ensures.some
+    (omega (arith, c.fits-chunk (c.entries.place + 7))) c.in-Some.ensures.some
 
 pub returns-in_err-report_entry-clause-text : goal.returns-in_err-report_entry-clause-text
 returns-in_err-report_entry-clause-text g c =

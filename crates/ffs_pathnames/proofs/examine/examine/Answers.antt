@@ -13,23 +13,26 @@ use Rattle.ffs_pathnames.proofs.SeesLaws.{sees}
 use Rattle.ffs_pathnames.proofs.examine.examine.Goals as goal
 
 pub returns-clause-found : goal.returns-clause-found
-returns-clause-found g c = λ b t h r d.
+returns-clause-found g c = λ b k.
     let v = c.args.geometry.now.layout in
+    let h = k.claims in
+    let r = k.survey in
+    let d = k.dir in
     let sound = c.args.geometry.now.sound in
     let number = (dir_is v b c.args.dir d).0 in
     let class = (dir_is v b c.args.dir d).1 in
-    let t1 = ap (λ x. x.contents) c.in_ok-inode.ensures.ok ∙ t in
-    let inode = c.in_ok-inode.ensures.inode b t in
+    let t1 = ap (λ x. x.contents) c.in_ok-inode.ensures.ok ∙ k.reported_is in
+    let inode = c.in_ok-inode.ensures.inode b k.reported_is in
     let small = subst (λ i. i.size < 2 ^ 31) (sym inode) (dir_size v (inode_of v b c.args.dir) class) in
     let cut = get_or_read_under c.args.workspace.now.cut.items c.args.dir _ c.index-cut.result.now 0 c.index-cut.ensures
-    (subst (λ n. c.args.dir < n) (sym c.requires.ready.made.cut) c.requires.number) c.args.workspace.now.cut.ok.0
+    (subst (λ n. c.args.dir < n) (sym c.requires.ready.ready.made.cut) c.requires.ready.number) c.args.workspace.now.cut.ok.0
     ∙ h.cut c.args.dir in
     let chunks = chunks_are v b c.args.dir c.in_ok-inode.inode c.index-cut.result.now sound number inode cut in
     let shows = sees v b c.args.workspace.now _ (record {
       kinds = c.as_slice.ensures.value;
       marked = c.as_slice-2.ensures.value;
       parents = c.as_slice-3.ensures.value;
-      count = c.as_slice.ensures.len ∙ c.requires.ready.made.kinds;
+      count = c.as_slice.ensures.len ∙ c.requires.ready.ready.made.kinds;
     }) h r in
     let long = c.look_directory.auto.stamps ∙ c.as_mut_slice.ensures.len in
     let found = c.in_ok-found.ensures.found b t1 in

@@ -19,17 +19,17 @@ entries-preserved c =
       place = omega arith;
       index = omega arith;
       stamps_long = omega arith;
-      quiet = λ v s. quiet_on v c.args.dir c.entries.stamps c.look_at-here.new.stamps seen
+      quiet = λ v s. quiet_on v c.args.dir c.entries.stamps c.stamp.new.stamps seen
           (roled_at_place c.args.order c.args.chunk.now c.args.first c.entries.index c.entries.place)
           (roled_at_place c.args.order c.args.chunk.now c.args.first (c.entries.index + 1)
           (c.entries.place + c.in-Some.entry.length))
-          _ c.entries.quiet c.look_at-here.result next (c.look_at-here.ensures.quiet v s)
-          (c.look_at-here.ensures.stamps v s) (c.entries.invariant.quiet v s);
-      stamps = λ v s. stamps_on v c.args.dir c.entries.stamps c.look_at-here.new.stamps _ seen
+          _ c.entries.quiet c.is_quiet-here.result next (c.is_quiet-here.ensures v s)
+          (c.stamp.ensures v s) (c.entries.invariant.quiet v s);
+      stamps = λ v s. stamps_on v c.args.dir c.entries.stamps c.stamp.new.stamps _ seen
           (roled_at_place c.args.order c.args.chunk.now c.args.first c.entries.index c.entries.place)
           (roled_at_place c.args.order c.args.chunk.now c.args.first (c.entries.index + 1)
           (c.entries.place + c.in-Some.entry.length))
-          next (c.look_at-here.ensures.stamps v s) (c.entries.invariant.stamps v s);
+          next (c.stamp.ensures v s) (c.entries.invariant.stamps v s);
       sound = length_on c.args.order c.args.chunk.now c.entries.place _ e there c.entries.invariant.sound;
     })
 

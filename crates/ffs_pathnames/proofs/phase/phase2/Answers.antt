@@ -49,8 +49,8 @@ returns-clause-text g c =
     (λ b k. refl)
     (reports_knowing Root _ _ lines _ _ c.check_tree.result
     (λ b k. before_first v _ b _ _ (ap (λ d. d.contents) found.read ∙ k.0)
-    (claims_left v b _ _ clear.survey (claims_untouched v b _ _ found.same k.1))
-    (survey_left v b _ _ clear.survey (found.survey b k.0 k.1)) made clear.clear
+    (claims_left v b _ _ clear.clear.survey (claims_untouched v b _ _ found.same k.1))
+    (survey_left v b _ _ clear.clear.survey (found.survey b k.0 k.1)) made clear.clear
     (λ x set. calm_silent v b _ c.args.geometry.now.sound found.ready.made
     (claims_untouched v b _ _ found.same k.1) (found.survey b k.0 k.1) (found.calm b k.0 k.1) x set))
     c.check_tree.ensures.text)
@@ -63,8 +63,8 @@ returns-clause-goes g c =
     let made = (clear.ready v _ found.ready).made in
     if_ok c.check_tree.result _ _
     (λ root h b k. h b (before_first v _ b _ _ (ap (λ d. d.contents) found.read ∙ k.0)
-    (claims_left v b _ _ clear.survey (claims_untouched v b _ _ found.same k.1))
-    (survey_left v b _ _ clear.survey (found.survey b k.0 k.1)) made clear.clear
+    (claims_left v b _ _ clear.clear.survey (claims_untouched v b _ _ found.same k.1))
+    (survey_left v b _ _ clear.clear.survey (found.survey b k.0 k.1)) made clear.clear
     (λ x set. calm_silent v b _ c.args.geometry.now.sound found.ready.made
     (claims_untouched v b _ _ found.same k.1) (found.survey b k.0 k.1) (found.calm b k.0 k.1) x set)))
     c.check_tree.ensures.goes
@@ -77,8 +77,8 @@ returns-clause-fault g c =
     let made = (clear.ready v _ found.ready).made in
     at_fault_more c.check_tree.result _ _
     (λ h. inr (λ b k. h b (before_first v _ b _ _ (ap (λ d. d.contents) found.read ∙ k.0)
-    (claims_left v b _ _ clear.survey (claims_untouched v b _ _ found.same k.1))
-    (survey_left v b _ _ clear.survey (found.survey b k.0 k.1)) made clear.clear
+    (claims_left v b _ _ clear.clear.survey (claims_untouched v b _ _ found.same k.1))
+    (survey_left v b _ _ clear.clear.survey (found.survey b k.0 k.1)) made clear.clear
     (λ x set. calm_silent v b _ c.args.geometry.now.sound found.ready.made
     (claims_untouched v b _ _ found.same k.1) (found.survey b k.0 k.1) (found.calm b k.0 k.1) x set))))
     c.check_tree.ensures.fault
@@ -88,11 +88,11 @@ returns-clause-holds g c =
     let v = c.args.geometry.now.layout in
     let found = c.in_ok-survey.ensures in
     let clear = c.clear_marks.ensures in
-    let last = c.check_tree.ensures.survey in
+    let last = c.check_tree.ensures.leaves.survey in
     on_all c.check_tree.result _
     (λ b k. (
-      claims_left v b _ _ last (claims_left v b _ _ clear.survey (claims_untouched v b _ _ found.same k.1)),
-      survey_left v b _ _ last (survey_left v b _ _ clear.survey (found.survey b k.0 k.1)),
+      claims_left v b _ _ last (claims_left v b _ _ clear.clear.survey (claims_untouched v b _ _ found.same k.1)),
+      survey_left v b _ _ last (survey_left v b _ _ clear.clear.survey (found.survey b k.0 k.1)),
     ))
 
 pub returns-clause-references : goal.returns-clause-references
@@ -104,6 +104,4 @@ returns-clause-references g c =
     (references_left v b _ _ c.clear_marks.ensures.survey (found.references b k.0 k.1 k.2)))
 
 pub check_tree-requires : goal.check_tree-requires
-check_tree-requires g c =
-    let found = c.in_ok-survey.ensures in
-    record { ready = c.clear_marks.ensures.ready _ _ found.ready }
+check_tree-requires g c = c.clear_marks.ensures.ready _ _ c.in_ok-survey.ensures.ready

@@ -1,9 +1,10 @@
-use Rattle.std.proofs.Common.{ap, ◌∙◌}
+use Rattle.std.proofs.Common.{ap, sym, ◌∙◌}
+use Rattle.std.proofs.lemmas.Bool.{both_ways}
 use Rattle.ffs_volume.specs.Directories.Parents.{graph_of}
 use Rattle.ffs_volume.specs.Directories.Volumes.{volume_of}
 use Rattle.ffs_paths.proofs.Keeping.{siblings_on}
 use Rattle.ffs_paths.proofs.Rooms.{entry_in_room}
-use Rattle.ffs_pathnames.proofs.Enough.{enough}
+use Rattle.ffs_pathnames.proofs.Enough.{enough, path_asks_attr}
 use Rattle.ffs_workspace.proofs.Leaving.{windows_leave}
 use Rattle.ffs_pathnames.proofs.ReadyLaws.{reads_more}
 use Rattle.ffs_pathnames.proofs.tell.gather.Goals as goal
@@ -14,7 +15,7 @@ returns-clause-enough g c = λ b dir t h r p.
     let t1 = ap (λ x. x.contents) c.in_ok-gather_path.ensures.leaves.reads.read ∙ t in
     enough (volume_of v b) c.args.verdict.now dir c.args.entry.now.number c.args.entry.now.name.now c.in_ok-attr.attr
     c.put_entry.new.text.items c.gather_path.new.text.items
-    (λ q. c.in_ok-attr.ensures.attr b t1 (c.asks-wants_attr.ensures.attr ∙ q))
+    (λ q. c.in_ok-attr.ensures.attr b t1)
     (c.put_entry.ensures (graph_of (volume_of v b)) dir p
     ∙ entry_in_room (graph_of (volume_of v b)) dir c.args.entry.now.name.now c.requires.name)
     (λ q. c.in_ok-gather_path.ensures.path b t h r (c.asks-wants_attr.ensures.directory ∙ q))
@@ -27,3 +28,14 @@ returns-clause-leaves g c =
       reads = reads_more _ _ _ _ _ _ _ _ path.reads.read path.reads.lists attr;
       siblings = siblings_on _ _ _ _ _ _ (ap (λ d. d.contents) attr.read) (windows_leave _ _ attr.lists) path.siblings;
     }
+
+pub returns-then-not-wants_attr-clause-enough : goal.returns-then-not-wants_attr-clause-enough
+returns-then-not-wants_attr-clause-enough g c = λ b dir t h r p.
+    let v = c.args.geometry.now.layout in
+    let silent = sym c.asks-wants_attr.ensures.attr ∙ c.if-not-wants_attr.true in
+    enough (volume_of v b) c.args.verdict.now dir c.args.entry.now.number c.args.entry.now.name.now
+    _ c.put_entry.new.text.items c.args.directory.now.items
+    (λ q. absurd (both_ways _ silent q))
+    (c.put_entry.ensures (graph_of (volume_of v b)) dir p
+    ∙ entry_in_room (graph_of (volume_of v b)) dir c.args.entry.now.name.now c.requires.name)
+    (λ q. absurd (both_ways _ silent (path_asks_attr c.args.verdict.now q)))

@@ -6,7 +6,7 @@ use Rattle.ffs_pathnames.proofs.tell.gather_dir.Goals as goal
 
 pub returns-clause-leaves : goal.returns-clause-leaves
 returns-clause-leaves g c =
-    let path = c.in_ok-put_path.ensures in
+    let path = c.in_ok-put_path.ensures.leaves in
     let attr = c.in_ok-attr.ensures.reads in
     record {
       reads = reads_more _ _ _ _ _ _ _ _ path.reads.read path.reads.lists attr;

@@ -14,7 +14,7 @@ use Rattle.ffs_pathnames.proofs.tree.check_inodes.Goals as goal
 pub loop-number-init : goal.loop-number-init
 loop-number-init g c =
     record {
-      ready = record { ready = c.requires.ready; siblings = c.none-siblings.ensures _ _ };
+      ready = record { ready = c.requires; siblings = c.none-siblings.ensures _ _ };
       device = refl;
       low = omega arith;
       survey = leaves_all _;

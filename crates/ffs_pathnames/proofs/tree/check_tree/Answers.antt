@@ -14,11 +14,11 @@ use Rattle.ffs_pathnames.proofs.tree.check_tree.Goals as goal
 
 pub root_kind-kind-requires : goal.root_kind-kind-requires
 root_kind-kind-requires g c = let k = some_inodes c.args.geometry.now.layout c.args.geometry.now.sound in
-    omega (arith, c.requires.ready.made.kinds, k)
+    omega (arith, c.requires.made.kinds, k)
 
 pub is_root_marked-requires : goal.is_root_marked-requires
 is_root_marked-requires g c = let k = some_inodes c.args.geometry.now.layout c.args.geometry.now.sound in
-    omega (arith, c.requires.ready.made.marked, k)
+    omega (arith, c.requires.made.marked, k)
 
 pub returns-in_err-report_root-clause-text : goal.returns-in_err-report_root-clause-text
 returns-in_err-report_root-clause-text g c =

@@ -1,63 +1,111 @@
-use Rattle.std.proofs.Common.{◌≡◌, ◌∙◌, ap, sym, subst, arith, ℕ}
-use Rattle.std.specs.Prelude.{slice_index}
+use Rattle.std.proofs.Common.{◌≡◌, ◌∙◌, ◌∷◌, ap, sym, subst, arith, ℕ, rules}
+use Rattle.std.proofs.lemmas.List.{get_or_default}
+use Rattle.std.proofs.lemmas.Result.{err_from_is_err_and}
+use Rattle.std.specs.Prelude.{slice_index, Ok}
 use Rattle.std.specs.Option.{unwrap_or}
+use Rattle.ffs_volume.specs.Directories.Graph.{Graph}
 use Rattle.ffs_volume.specs.Directories.Parents.{graph_of}
 use Rattle.ffs_volume.specs.Directories.Volumes.{volume_of}
-use Rattle.ffs_paths.proofs.Ways.{HasParent, way_root, way_cut, way_long, way_up, count_is}
+use Rattle.ffs_paths.specs.Buffers.{HoldsNames}
+use Rattle.ffs_paths.specs.Climbing.{name_in}
+use Rattle.ffs_paths.specs.Reads.{OnlyReads}
+use Rattle.ffs_paths.proofs.Keeping.{no_reads, then_reads}
+use Rattle.ffs_paths.proofs.Ways.{HasParent, way_starts, way_root, way_cut, way_long, way_up, count_is}
 use Rattle.ffs_paths.proofs.climb.climb.Goals as goal
 
+pub up-init : goal.up-init
+up-init g c = record {
+  at = c.requires.number;
+  reads = no_reads c.requires.ready;
+  path = λ b t claims survey k l. way_starts _ k c.args.dir _ l c.new-path.ensures;
+}
+
 pub returns-then-at-eq-ROOTINO-clause-path : goal.returns-then-at-eq-ROOTINO-clause-path
-returns-then-at-eq-ROOTINO-clause-path g c = λ b t lead k l names h.
-    let w = c.up.invariant.path b t lead k l names h in
-    way_root (graph_of (volume_of c.args.geometry.now.layout b)) k c.args.dir c.up.at c.up.step names c.up.path w
+returns-then-at-eq-ROOTINO-clause-path g c = λ b t claims survey k l.
+    way_root _ k c.args.dir c.up.at c.up.step c.up.path (c.up.invariant.path b t claims survey k l)
     c.if-at-eq-ROOTINO.true
 
 pub returns-then-path-clause-path : goal.returns-then-path-clause-path
-returns-then-path-clause-path g c = λ b t lead k l names h.
-    let w = c.up.invariant.path b t lead k l names h in
-    way_cut (graph_of (volume_of c.args.geometry.now.layout b)) k c.args.dir c.up.at c.up.step names c.up.path w
-    c.if-path.true
+returns-then-path-clause-path g c = λ b t claims survey k l.
+    way_cut _ k c.args.dir c.up.at c.up.step c.up.path (c.up.invariant.path b t claims survey k l) c.if-path.true
 
-pub returns-then-parent-cut-clause-path : goal.returns-then-parent-cut-clause-path
-returns-then-parent-cut-clause-path g c = λ b t lead k l names h.
+pub returns-then-parent-count-clause-path : goal.returns-then-parent-count-clause-path
+returns-then-parent-count-clause-path g c = λ b t claims survey k l.
     let v = c.args.geometry.now.layout in
-    let w = c.up.invariant.path b t lead k l names h in
-    let u = way_up (graph_of (volume_of v b)) k c.args.dir c.up.at c.up.step names c.up.path w
+    let i = c.up.invariant in
+    let at = i.at in
+    let long = i.reads.ready.made.parents in
+    let u = way_up (graph_of (volume_of v b)) k c.args.dir c.up.at c.up.step c.up.path (i.path b t claims survey k l)
     c.if-at-eq-ROOTINO.false in
-    let e : slice_index c.args.parents.now c.up.at ≡ u.0 = lead.above c.up.at ∙ ap (λ o. unwrap_or o 0) u.1.is in
+    let e : c.index-parent.result.now ≡ u.0 = c.index-parent.ensures
+    ∙ (get_or_default c.up.workspace.parents.items c.up.at c.index-parent.result.now 0 (omega arith)
+    ∙ (ap (λ w. slice_index w.parents.items c.up.at) i.reads.lists
+    ∙ (survey.parents c.up.at ∙ ap (λ o. unwrap_or o 0) u.1.is))) in
     let below = u.1.below in
     let count = count_is v b in
-    let over = c.if-parent-cut.true in
-    let long = c.requires.cut in
+    let over = c.if-parent-count.true in
+    let cuts = c.requires.ready.made.cut in
     absurd (omega arith)
 
 pub returns-clause-path : goal.returns-clause-path
-returns-clause-path g c = λ b t lead k l names h.
+returns-clause-path g c = λ b t claims survey k l.
     let v = c.args.geometry.now.layout in
-    let w = c.up.invariant.path b t lead k l names h in
-    let below = way_long (graph_of (volume_of v b)) k c.args.dir c.up.at c.up.step names c.up.path w l in
+    let below = way_long (graph_of (volume_of v b)) k c.args.dir c.up.at c.up.step c.up.path
+    (c.up.invariant.path b t claims survey k l) l in
     let count = count_is v b in
     let over = c.up-test.false in
-    let long = c.requires.cut in
+    let cuts = c.requires.ready.made.cut in
     absurd (omega arith)
+
+pub returns-in_err-search-clause-reads : goal.returns-in_err-search-clause-reads
+returns-in_err-search-clause-reads g c =
+    then_reads c.up.invariant.reads c.in_err-search.ensures.leaves.windows (search rules)
+
+pub returns-in_err-found-clause-reads : goal.returns-in_err-found-clause-reads
+returns-in_err-found-clause-reads g c =
+    let opened = c.in_ok-search.ensures in
+    let found = c.in_err-found.ensures in
+    let one : OnlyReads {T = Unit {0}} c.args.geometry.now.layout (g.I.Image.device c.args.image.now)
+    (g.I.Image.device c.open.new.image) c.args.workspace.now (record c.up.workspace { windows = c.open.new.windows })
+    (Ok tt) = then_reads c.up.invariant.reads opened.leaves.windows opened.leaves.read in
+    let err = err_from_is_err_and c.from_residual-in_err-found.result c.from_residual-in_err-found.ensures.1 in
+    rw (err.1, err.2) (then_reads one (rw opened.opened.geometry_is at found.leaves.windows) found.leaves.read)
 
 pub up-preserved : goal.up-preserved
 up-preserved g c =
-    let i = c.up.invariant in
-    let device = c.in_ok-push_name.ensures.read ∙ i.device in
     let v = c.args.geometry.now.layout in
+    let i = c.up.invariant in
+    let opened = c.in_ok-search.ensures in
+    let found = c.in_ok-found.ensures in
+    let at = i.at in
+    let parents = i.reads.ready.made.parents in
+    let cuts = i.reads.ready.made.cut in
+    let entry = c.requires.ready.made.cut in
+    let below = c.if-parent-count.false in
+    let p : ℕ = c.index-parent.result.now in
+    let one : OnlyReads {T = Unit {0}} v (g.I.Image.device c.args.image.now) (g.I.Image.device c.open.new.image)
+    c.args.workspace.now (record c.up.workspace { windows = c.open.new.windows }) (Ok tt) =
+    then_reads i.reads opened.leaves.windows opened.leaves.read in
     record {
-      at = c.if-parent-cut.false;
-      windows = c.push_name.ensures.windows;
-      device = device;
-      path = λ b t lead k l names h.
-          let G = graph_of (volume_of v b) in
-          let w = i.path b t lead k l names h in
-          let u = way_up G k c.args.dir c.up.at c.up.step names c.up.path w c.if-at-eq-ROOTINO.false in
-          let p : ℕ = slice_index c.args.parents.now c.up.at in
-          let e : p ≡ u.0 = lead.above c.up.at ∙ ap (λ o. unwrap_or o 0) u.1.is in
-          let up = subst (λ s. HasParent G k c.args.dir c.up.at c.up.step names c.up.path s) (sym e) u.1 in
-          up.on c.push_name.new.path
-          (λ following held. c.in_ok-push_name.ensures.path b (ap (λ d. d.contents) i.device ∙ t) up.dir (lead.cuts p)
-          following held);
+      at = omega arith;
+      reads = then_reads one (rw opened.opened.geometry_is at found.leaves.windows) found.leaves.read;
+      path = λ b t claims survey k l.
+          let G : Graph = graph_of (volume_of v b) in
+          let u = way_up G k c.args.dir c.up.at c.up.step c.up.path (i.path b t claims survey k l)
+          c.if-at-eq-ROOTINO.false in
+          let e : p ≡ u.0 = c.index-parent.ensures
+          ∙ (get_or_default c.up.workspace.parents.items c.up.at p 0 (omega arith)
+          ∙ (ap (λ w. slice_index w.parents.items c.up.at) i.reads.lists
+          ∙ (survey.parents c.up.at ∙ ap (λ o. unwrap_or o 0) u.1.is))) in
+          let up = subst (λ s. HasParent G k c.args.dir c.up.at c.up.step c.up.path s) (sym e) u.1 in
+          let t1 = ap (λ d. d.contents) i.reads.read ∙ t in
+          let t2 = ap (λ d. d.contents) opened.leaves.read ∙ t1 in
+          let cut = c.index-cut.ensures
+          ∙ (get_or_default c.up.workspace.cut.items p c.index-cut.result.now 0 (omega arith)
+          ∙ (ap (λ w. slice_index w.cut.items p) i.reads.lists ∙ claims.cut p)) in
+          let name = c.found_name.ensures.value
+          ∙ (sym (found.found b t2).name ∙ ap (name_in c.up.at) (opened.opened.entries b t1 up.dir cut)) in
+          up.on c.push_front.new.self
+          (λ following held. subst (λ n. HoldsNames c.push_front.new.self (n ∷ following)) name
+          (c.push_front.ensures following held));
     }

@@ -7,7 +7,7 @@ pub returns-then-self : goal.returns-then-self
 returns-then-self c = λ names h.
     let s = c.args.self.now in
     let ok = rw c.unwrap.ensures at c.try_extend_from_slice.ensures.ok in
-    put_cut _ _ _ _ _ c.requires c.push.ensures.items ok (rest-is s.short 1024 s.bytes s.long ∙ h.short)
+    put_cut _ _ _ _ _ c.clear.ensures c.push.ensures.items ok (rest-is s.short 1024 s.bytes s.long ∙ h.short)
     ∙ sym (text-cut names (sym h.cut ∙ c.if-self.true))
 
 pub returns-then-self-eq-MAXPATHLEN : goal.returns-then-self-eq-MAXPATHLEN
@@ -18,7 +18,7 @@ returns-then-self-eq-MAXPATHLEN c = λ names h.
     let n = whole-length names s.start s.bytes (omega arith) s.long (h.whole c.if-self.false) in
     let e = c.if-self-eq-MAXPATHLEN.true in
     c.push-then-self-eq-MAXPATHLEN.ensures.items
-    ∙ (ap (λ t. t ++ 47 ∷ []) c.requires ∙ sym (text-none names (omega arith)))
+    ∙ (ap (λ t. t ++ 47 ∷ []) c.clear.ensures ∙ sym (text-none names (omega arith)))
 
 pub returns-else-self-eq-MAXPATHLEN : goal.returns-else-self-eq-MAXPATHLEN
 returns-else-self-eq-MAXPATHLEN c = λ names h.
@@ -29,5 +29,5 @@ returns-else-self-eq-MAXPATHLEN c = λ names h.
     let e = c.if-self-eq-MAXPATHLEN.false in
     let ok = rw c.unwrap-else-self-eq-MAXPATHLEN.ensures at
     c.try_extend_from_slice-else-self-eq-MAXPATHLEN.ensures.ok in
-    put_whole _ _ _ _ c.requires ok (rest-is s.start 1024 s.bytes s.long ∙ h.whole c.if-self.false)
+    put_whole _ _ _ _ c.clear.ensures ok (rest-is s.start 1024 s.bytes s.long ∙ h.whole c.if-self.false)
     ∙ sym (text-whole names (under_is (length (joined names)) (omega arith)) (omega arith))

@@ -12,7 +12,7 @@ returns-then-name-self c = λ names h single.
     let s = c.args.self.now in
     let o = s.ordered in
     let i = s.in_buffer in
-    c.put_from.ensures ∙ (ap (λ t. t ++ drop s.start s.bytes ++ 47 ∷ c.args.name.now) c.requires
+    c.put_from.ensures ∙ (ap (λ t. t ++ drop s.start s.bytes ++ 47 ∷ c.args.name.now) c.clear.ensures
     ∙ sym (entry-whole names c.args.name.now s.start s.bytes (omega arith) s.long (h.whole c.if-not-self.true)
     c.if-name-self.true))
 
@@ -27,7 +27,7 @@ returns-then-name-gt-LONGEST_NAME c = λ names h single.
       | else-not-self-via-else-not-self w ↦ let n =
           over_1024 (length (joined names)) (sym h.cut ∙ w.if-not-self.false) in omega arith
     ] in
-    c.push.ensures.items ∙ (ap (λ t. t ++ 63 ∷ []) c.requires
+    c.push.ensures.items ∙ (ap (λ t. t ++ 63 ∷ []) c.clear.ensures
     ∙ sym (entry-past names c.args.name.now c.if-name-gt-LONGEST_NAME.true over))
 
 pub returns : goal.returns
@@ -43,7 +43,7 @@ returns c = λ names h single.
           over_1024 (length (joined names)) (sym h.cut ∙ w.if-not-self.false) in omega arith
     ] in
     c.put_from-2.ensures ∙ (ap (λ t. t ++ drop start s.bytes ++ 47 ∷ c.args.name.now)
-    (c.push.ensures.items ∙ ap (λ t. t ++ 63 ∷ []) c.requires)
+    (c.push.ensures.items ∙ ap (λ t. t ++ 63 ∷ []) c.clear.ensures)
     ∙ sym (entry-tail names c.args.name.now s.short start s.bytes (omega (arith, c.if-name-gt-LONGEST_NAME.false)) i
     s.long h.short single over
     (c.slash_from-start.ensures.first ∙ ap (λ i. from_slash (drop i s.bytes)) c.max.ensures)))

@@ -7,4 +7,4 @@ returns-then-self c = λ g d h. put_is g d c.args.self.now _ h c.if-self.true c.
 
 pub returns-else-self : goal.returns-else-self
 returns-else-self c = λ g d h. put_lost g d c.args.self.now _ h c.if-self.false
-    (c.push.ensures.items ∙ ap (λ t. t ++ 63 ∷ []) c.requires)
+    (c.push.ensures.items ∙ ap (λ t. t ++ 63 ∷ []) c.clear.ensures)

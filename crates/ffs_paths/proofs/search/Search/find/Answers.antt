@@ -5,36 +5,29 @@ use Rattle.ffs_paths.specs.Climbing.{name_in}
 use Rattle.ffs_paths.proofs.Ways.{name_in-here, name_in-past}
 use Rattle.ffs_paths.proofs.search.Search.find.Goals as goal
 
-pub returns-then-names-clause-name : goal.returns-then-names-clause-name
-returns-then-names-clause-name g c = λ b t.
-    let u = ap (λ d. d.contents) c.entries.invariant.device ∙ t in
-    let o = rw c.in-Some.is at c.in_ok-entry.ensures.entry in
-    let e = roled_of c.in-Some.entry (last_name c.next.new.self) in
-    c.entries.invariant.name b t ∙ (ap (name_in c.args.number) (o b u).entries ∙ name_in-here c.args.number e
-    (to_come b c.next.new.self) (sym c.names.ensures ∙ c.if-names.true))
-
-pub returns-then-names-clause-above : goal.returns-then-names-clause-above
-returns-then-names-clause-above g c = λ b t x h.
+pub returns-then-names-clause-found : goal.returns-then-names-clause-found
+returns-then-names-clause-found g c = λ b t.
     let u = ap (λ d. d.contents) c.entries.invariant.device ∙ t in
     let o = rw c.in-Some.is at c.in_ok-entry.ensures.entry in
     let e = roled_of c.in-Some.entry (last_name c.next.new.self) in
     let grows = c.highest_with-self.ensures.grows in
-    c.entries.invariant.above b t x (omega arith) ∙ (ap (name_in x) (o b u).entries ∙ name_in-past x e
-    (to_come b c.next.new.self) (c.highest_with-self.ensures.passed x h))
-
-pub returns-clause-name : goal.returns-clause-name
-returns-clause-name g c = λ b t.
-    let u = ap (λ d. d.contents) c.entries.invariant.device ∙ t in
-    let o = rw c.in_default.is at c.in_ok-entry.ensures.entry in
-    c.entries.invariant.name b t ∙ ap (name_in c.args.number) (o b u).entries
+    record {
+      name = c.entries.invariant.name b t ∙ (ap (name_in c.args.number) (o b u).entries
+          ∙ name_in-here c.args.number e (to_come b c.next.new.self) (sym c.names.ensures ∙ c.if-names.true));
+      above = λ x h. c.entries.invariant.above b t x (omega arith) ∙ (ap (name_in x) (o b u).entries
+          ∙ name_in-past x e (to_come b c.next.new.self) (c.highest_with-self.ensures.passed x h));
+    }
 
 -- no entry is left
-pub returns-clause-above : goal.returns-clause-above
-returns-clause-above g c = λ b t x h.
+pub returns-clause-found : goal.returns-clause-found
+returns-clause-found g c = λ b t.
     let u = ap (λ d. d.contents) c.entries.invariant.device ∙ t in
     let o = rw c.in_default.is at c.in_ok-entry.ensures.entry in
-    c.entries.invariant.above b t x h ∙ (ap (name_in x) (o b u).entries ∙ sym
-    (ap (name_in x) (c.stop.ensures.entries b)))
+    record {
+      name = c.entries.invariant.name b t ∙ ap (name_in c.args.number) (o b u).entries;
+      above = λ x h. c.entries.invariant.above b t x h
+          ∙ (ap (name_in x) (o b u).entries ∙ sym (ap (name_in x) (c.stop.ensures.entries b)));
+    }
 
 pub entries-preserved : goal.entries-preserved
 entries-preserved g c =

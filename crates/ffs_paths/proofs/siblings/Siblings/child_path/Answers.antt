@@ -1,22 +1,83 @@
-use Rattle.std.proofs.Common.{ap}
-use Rattle.ffs_paths.proofs.Keeping.{lists_leave, reads_then, siblings_on}
-use Rattle.ffs_paths.proofs.NamesFound.{on_ok, path_before}
+use Rattle.std.proofs.Common.{◌∙◌, sym, ap, subst, arith}
+use Rattle.std.proofs.lemmas.Result.{err_from_is_err_and}
+use Rattle.ffs_paths.specs.Climbing.{IsParentOf}
+use Rattle.ffs_paths.specs.declared.siblings.Siblings.{Siblings}
+use Rattle.ffs_paths.proofs.Keeping.{kept_back, kept_on, reads_then}
+use Rattle.ffs_paths.proofs.NamesFound.{names_of_parent, named_child, name_read, take_whole}
 use Rattle.ffs_paths.proofs.siblings.Siblings.child_path.Goals as goal
 
-pub path_by_names-requires-clause-siblings : goal.path_by_names-requires-clause-siblings
-path_by_names-requires-clause-siblings g c =
+pub fill-requires-clause-room : goal.fill-requires-clause-room
+fill-requires-clause-room g c =
     let found = c.in_ok-find_names.ensures in
-    siblings_on _ _ _ _ _ _ (ap (λ d. d.contents) found.reads.read) (lists_leave _ _ found.reads.lists) found.siblings
+    let inside = found.leaves.siblings.names.inside.each c.args.dir found.found.covers c.in-Some.place
+    (sym c.place_of.ensures ∙ c.in-Some.is) in
+    let short = inside.short in
+    let block = c.args.geometry.now.sound.sizes.bsize_low in
+    let chunk = found.leaves.reads.ready.made.chunk in
+    omega arith
+
+pub fill-requires-clause-inside : goal.fill-requires-clause-inside
+fill-requires-clause-inside g c =
+    let found = c.in_ok-find_names.ensures in
+    let inside = found.leaves.siblings.names.inside.each c.args.dir found.found.covers c.in-Some.place
+    (sym c.place_of.ensures ∙ c.in-Some.is) in
+    let volume = inside.volume in
+    let size = found.leaves.reads.ready.volume in
+    omega arith
+
+pub child-requires-2 : goal.child-requires-2
+child-requires-2 g c =
+    let found = c.in_ok-find_names.ensures in
+    let inside = found.leaves.siblings.names.inside.each c.args.dir found.found.covers c.in-Some.place
+    (sym c.place_of.ensures ∙ c.in-Some.is) in
+    rw c.bytes.ensures (take_whole c.fill.new.self.length c.in-Some.place.length c.fill.new.self.buffer.items
+    c.in_ok-fill.ensures.place.1 inside.short)
 
 pub returns-clause-path : goal.returns-clause-path
-returns-clause-path g c =
+returns-clause-path g c = λ b t claims survey.
+    let v = c.args.geometry.now.layout in
     let found = c.in_ok-find_names.ensures in
-    path_before _ (g.I.Image.device c.args.image.now) (g.I.Image.device c.find_names.new.image) _ _ _
-    c.path_by_names.result (ap (λ d. d.contents) found.reads.read) (lists_leave _ _ found.reads.lists)
-    c.path_by_names.ensures.path
+    let s = c.find_names.new.self in
+    let same = ap (λ (x : Siblings). x.parent) found.same ∙ c.has_passed.ensures c.if-not-has_passed.false in
+    let of = names_of_parent v b (g.I.Image.device c.args.image.now) c.args.workspace.now s c.args.dir t claims survey
+    (subst (IsParentOf c.args.workspace.now c.args.dir) (sym same) c.requires.parent)
+    (kept_back s found.leaves.reads found.leaves.siblings) (found.found.parent_is ∙ sym same) in
+    let at = sym c.place_of.ensures ∙ c.in-Some.is in
+    let name = c.bytes.ensures ∙ (c.in_ok-fill.ensures.bytes b (ap (λ d. d.contents) found.leaves.reads.read ∙ t)
+    ∙ of.names.names.found c.args.dir found.found.covers c.in-Some.place at) in
+    named_child v b _ c.args.dir c.bytes.result.now s.path c.child-2.result of.child name of.path c.child-2.ensures
 
-pub returns-clause-siblings : goal.returns-clause-siblings
-returns-clause-siblings g c = on_ok c.path_by_names.result _ c.in_ok-find_names.ensures.siblings
+pub returns-in_default-clause-path : goal.returns-in_default-clause-path
+returns-in_default-clause-path g c = λ b t claims survey.
+    let v = c.args.geometry.now.layout in
+    let found = c.in_ok-find_names.ensures in
+    let s = c.find_names.new.self in
+    let same = ap (λ (x : Siblings). x.parent) found.same ∙ c.has_passed.ensures c.if-not-has_passed.false in
+    let of = names_of_parent v b (g.I.Image.device c.args.image.now) c.args.workspace.now s c.args.dir t claims survey
+    (subst (IsParentOf c.args.workspace.now c.args.dir) (sym same) c.requires.parent)
+    (kept_back s found.leaves.reads found.leaves.siblings) (found.found.parent_is ∙ sym same) in
+    named_child v b _ c.args.dir _ s.path c.child.result of.child
+    (sym (of.names.none c.args.dir found.found.covers (sym c.place_of.ensures ∙ c.in_default.is))) of.path
+    c.child.ensures
 
-pub returns-clause-reads : goal.returns-clause-reads
-returns-clause-reads g c = reads_then c.in_ok-find_names.ensures.reads c.path_by_names.ensures.reads
+pub returns-clause-leaves : goal.returns-clause-leaves
+returns-clause-leaves g c =
+    let found = c.in_ok-find_names.ensures.leaves in
+    let read = c.in_ok-fill.ensures in
+    let filled = name_read c.args.geometry.now.layout _ _ c.find_names.new.workspace c.fill.new.self _
+    found.reads.ready (ap (λ d. d.size) read.read) (ap (λ d. d.contents) read.read) read.room read.holds read.read in
+    record {
+      reads = reads_then found.reads filled;
+      siblings = kept_on _ filled found.siblings;
+    }
+
+pub returns-in_err-fill-clause-leaves : goal.returns-in_err-fill-clause-leaves
+returns-in_err-fill-clause-leaves g c =
+    let found = c.in_ok-find_names.ensures.leaves in
+    let read = c.in_err-fill.ensures in
+    let err = err_from_is_err_and c.from_residual-in_err-fill.result c.from_residual-in_err-fill.ensures.1 in
+    rw (err.1, err.2) (record {
+      reads = reads_then found.reads (name_read c.args.geometry.now.layout _ _ c.find_names.new.workspace
+          c.fill.new.self _ found.reads.ready read.read.size read.read.contents read.room read.holds read.read);
+      siblings = tt;
+    })

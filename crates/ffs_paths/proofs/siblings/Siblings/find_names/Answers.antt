@@ -1,28 +1,40 @@
 use Rattle.std.proofs.Common.{◌∙◌, ap, sym, subst, arith}
 use Rattle.std.proofs.lemmas.List.{get_or_default}
+use Rattle.std.proofs.lemmas.Result.{err_from_is_err_and}
 use Rattle.ffs_volume.specs.Directories.Roles.{is_dir, roled_entries}
 use Rattle.ffs_volume.specs.Directories.Volumes.{volume_of}
 use Rattle.ffs_paths.specs.ChildNames.{AreAllNamesOf}
+use Rattle.ffs_paths.proofs.Keeping.{no_reads, then_reads, leaves_with}
 use Rattle.ffs_paths.proofs.siblings.Siblings.find_names.Goals as goal
 
-pub returns-clause-siblings : goal.returns-clause-siblings
-returns-clause-siblings g c =
+pub returns-clause-leaves : goal.returns-clause-leaves
+returns-clause-leaves g c =
     let v = c.args.geometry.now.layout in
     let k = c.requires.siblings in
-    let read = c.in_ok-names.ensures in
+    let read = c.in_ok-names.ensures.names in
+    let leaves = c.in_ok-names.ensures.leaves in
     let long = c.requires.ready.made.cut in
     let number = c.requires.number in
-    record {
+    leaves_with _ (then_reads (no_reads {x = tt {0}} c.requires.ready) leaves.windows leaves.read) (record {
       layout = k.layout;
       right = λ b t claims survey some.
           let a = k.right b t claims survey some in
           record { path = a.path; above = a.above; child = a.child };
       names = record {
         right = λ b t claims dir.
-            subst (λ p. AreAllNamesOf b (roled_entries (volume_of v b) p) c.in_ok-names.names) (sym read.parent)
-            (read.names b t (ap (is_dir (volume_of v b)) (sym read.parent) ∙ dir)
+            subst (λ p. AreAllNamesOf b (roled_entries (volume_of v b) p) c.in_ok-names.names) (sym read.parent_is)
+            (read.names b t (ap (is_dir (volume_of v b)) (sym read.parent_is) ∙ dir)
             (c.index-cut.ensures ∙ (get_or_default c.args.workspace.now.cut.items c.args.parent c.index-cut.result.now 0
             (omega arith) ∙ claims.cut c.args.parent)));
         inside = read.inside;
       };
-    }
+    })
+
+pub returns-in_err-names-clause-leaves : goal.returns-in_err-names-clause-leaves
+returns-in_err-names-clause-leaves g c =
+    let leaves = c.in_err-names.ensures.leaves in
+    let err = err_from_is_err_and c.from_residual.result c.from_residual.ensures.1 in
+    rw (err.1, err.2) (record {
+      reads = then_reads (no_reads {x = tt {0}} c.requires.ready) leaves.windows leaves.read;
+      siblings = tt;
+    })

@@ -10,7 +10,7 @@ returns c = λ contents w.
       layout = ap (λ q. q.layout) c.none.ensures.geometry;
       right = λ b t claims survey some. absurd (omega arith);
       names = record {
-        right = λ b t claims dir. absurd (no_directory (volume_of c.args.geometry.now.layout b) _ names.parent dir);
+        right = λ b t claims dir. absurd (no_directory (volume_of c.args.geometry.now.layout b) _ names.parent_is dir);
         inside = empty_inside _ _ names.empty;
       };
     }
