@@ -1,5 +1,5 @@
 -- What reads, claims and reports leave of a workspace that is ready.
-use Rattle.std.proofs.Common.{◌≡◌, ℕ, refl, sym, ap, arith, rules, ◌∙◌, length, length-set, slice_set, false}
+use Rattle.std.proofs.Common.{◌≡◌, ℕ, refl, sym, ap, arith, rules, ◌∙◌, length, length-set, slice_set, false, subst, Result}
 use Rattle.std.specs.declared.vec.Vec.{Vec}
 use Rattle.std.specs.declared.alloc.Global.{Global}
 use Rattle.std.specs.Prelude.{vec_len}
@@ -9,6 +9,8 @@ use Rattle.ffs_volume.specs.declared.Class.{Class}
 use Rattle.ffs_volume.specs.declared.Inode.{Inode}
 use Rattle.ffs_maps.specs.Bits.{bits_of}
 use Rattle.ffs_image.specs.Device.{Device}
+use Rattle.ffs_phase.specs.Runs.{ImageAfter}
+use Rattle.ffs_phase.specs.declared.fault.RunFault.{RunFault}
 use Rattle.ffs_walk.specs.declared.blocks.Blocks.{Blocks}
 use Rattle.ffs_walk.specs.Windows.{BlocksHold, WindowHolds}
 use Rattle.ffs_workspace.specs.declared.table.Table.{Table}
@@ -195,3 +197,8 @@ ready_stored l d number class i u w s e r =
         chunk = rw same r.windows.chunk;
       };
     }
+
+-- what a call leaves of an image, where it began as another
+pub image_from : {T : Type 0} (d0 d d' : Device) (r : Result T RunFault) → d ≡ d0 → ImageAfter d d' r →
+    ImageAfter d0 d' r
+image_from d0 d d' r e h = subst (λ (x : Device). ImageAfter x d' r) e h

@@ -1,11 +1,13 @@
 -- Fragments where each Run is in range.
-use Rattle.std.specs.Prelude.{◌≡◌, ℕ, ◌+◌, ◌<◌, ◌≤◌, ◌^◌, true}
+use Rattle.std.specs.Prelude.{◌≡◌, ℕ, ◌+◌, ◌<◌, ◌≤◌, ◌^◌, true, Result, OnOk}
 use Rattle.ffs_volume.specs.declared.Layout.{Layout}
 use Rattle.ffs_volume.specs.Disk.Areas.{is_run_in_range}
 use Rattle.ffs_image.specs.Device.{Device}
 use Rattle.ffs_workspace.specs.declared.workspace.Workspace.{Workspace}
 use Rattle.ffs_volume.specs.Blocks.Claims.{is_open}
-use Rattle.ffs_volume.specs.Blocks.ClaimBounds.{used_bits}
+use Rattle.ffs_volume.specs.Blocks.ClaimBounds.{used_bits, ClaimBound}
+use Rattle.ffs_phase.specs.Runs.{ImageAfter}
+use Rattle.ffs_phase.specs.declared.fault.RunFault.{RunFault}
 use Rattle.ffs_workspace.specs.Holds.{claims_of}
 use Rattle.ffs_workspace.specs.Lengths.{IsFor, inodes_of}
 use Rattle.ffs_workspace.specs.Ready.{IsReady}
@@ -50,16 +52,22 @@ pub record ClaimsInArea (v : Layout) (old new : Workspace) (area : DataArea) : T
 abbrev pub FewRuns : Layout → Workspace → Workspace → Type 0
 FewRuns v old new = new.runs_seen + used_bits (claims_of old) ≤ old.runs_seen + v.size + 22
 
--- what the steps of an inode leave, whether or not something failed: inodes can claim still, few Runs were seen, and
--- what was found is as it was
-pub record StepsLeave (v : Layout) (d : Device) (old new : Workspace) (area : DataArea) : Type 0 where
-  pub claim : CanClaim v d new area
+-- what the steps of an inode leave: the image, but for a read that failed, few Runs more, what was found as it was, and
+-- all that the next inode asks for
+pub record StepsLeave {T : Type 0} (v : Layout) (d d' : Device) (old new : Workspace) (area : DataArea)
+    (result : Result T RunFault) : Type 0 where
+  pub image : ImageAfter d d' result
+  pub claim : CanClaim v d' new area
   pub bound : FewRuns v old new
+  pub moves : OnOk result (ClaimBound (claims_of old) (claims_of new))
   pub found : SameFound old new
 
--- what an inode leaves, whether or not something failed: inodes can claim still, few Runs were seen, and those of phase
--- 1b are as they were
-pub record InodeLeaves (v : Layout) (d : Device) (old new : Workspace) (area : DataArea) : Type 0 where
-  pub claim : CanClaim v d new area
+-- what an inode leaves: the same, and the Runs of phase 1b as they were
+pub record InodeLeaves {T : Type 0} (v : Layout) (d d' : Device) (old new : Workspace) (area : DataArea)
+    (result : Result T RunFault) : Type 0 where
+  pub image : ImageAfter d d' result
+  pub claim : CanClaim v d' new area
   pub bound : FewRuns v old new
+  pub moves : OnOk result (new.runs_seen + used_bits (claims_of old)
+      ≤ old.runs_seen + used_bits (claims_of new) + 22)
   pub again : new.runs_again ≡ old.runs_again

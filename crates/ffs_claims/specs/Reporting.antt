@@ -1,5 +1,5 @@
 -- What phase 1b has reported, and what it leaves to report.
-use Rattle.std.specs.Prelude.{◌≡◌, ◌≢◌, ◌<◌, ℕ, Bool, false, ◌||◌, if◌then◌else◌, List, [], ◌∷◌, slice_set}
+use Rattle.std.specs.Prelude.{◌≡◌, ◌≢◌, ◌<◌, ℕ, Bool, Result, false, ◌||◌, if◌then◌else◌, List, [], ◌∷◌, slice_set}
 use Rattle.std.specs.List.{list_any}
 use Rattle.ffs_volume.specs.declared.Layout.{Layout}
 use Rattle.ffs_volume.specs.Blocks.Claims.{is_set}
@@ -8,6 +8,8 @@ use Rattle.ffs_maps.specs.Bits.{bits_of}
 use Rattle.ffs_workspace.specs.declared.workspace.Workspace.{Workspace}
 use Rattle.ffs_workspace.specs.Holds.{bool_at}
 use Rattle.ffs_image.specs.Device.{Device}
+use Rattle.ffs_phase.specs.Runs.{ImageAfter}
+use Rattle.ffs_phase.specs.declared.fault.RunFault.{RunFault}
 use Rattle.ffs_workspace.specs.Lengths.{IsFor, inodes_of}
 use Rattle.ffs_workspace.specs.Ready.{IsReady}
 
@@ -54,7 +56,10 @@ pub record CanRewalk (v : Layout) (d : Device) (w : Workspace) (number : ℕ) : 
   pub number_fits : number < inodes_of v
   pub pending : w.unreported ≢ 0
 
--- what walking over an inode again leaves: a workspace that is ready, with the claims as they were
-pub record RewalkLeaves (v : Layout) (d : Device) (old new : Workspace) : Type 0 where
-  pub ready : IsReady v d new
+-- what walking over an inode again leaves: the image, but for a read that failed, and a workspace that is ready, with the
+-- claims as they were
+pub record RewalkLeaves {T : Type 0} (v : Layout) (d d' : Device) (old new : Workspace) (result : Result T RunFault)
+    : Type 0 where
+  pub image : ImageAfter d d' result
+  pub ready : IsReady v d' new
   pub claims : SameClaims old new

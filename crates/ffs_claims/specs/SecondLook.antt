@@ -1,6 +1,6 @@
 -- How many Runs phase 1b looks at: those that are seen, in order, until each fragment with a Dup line has its first
 -- claim reported.
-use Rattle.std.specs.Prelude.{◌≡◌, ◌<◌, ℕ, ◌+◌, ◌^◌, Bool, List, [], ◌∷◌, ◌++◌, ◌==◌, if◌then◌else◌, map}
+use Rattle.std.specs.Prelude.{◌≡◌, ◌<◌, ◌≤◌, ℕ, ◌+◌, ◌^◌, Bool, List, [], ◌∷◌, ◌++◌, ◌==◌, if◌then◌else◌, map}
 use Rattle.std.specs.List.{range_with_len}
 use Rattle.ffs_volume.specs.declared.Layout.{Layout}
 use Rattle.ffs_volume.specs.declared.Step.{Step}
@@ -14,7 +14,7 @@ use Rattle.ffs_maps.specs.Bits.{bits_of}
 use Rattle.ffs_workspace.specs.declared.workspace.Workspace.{Workspace}
 use Rattle.ffs_workspace.specs.Lengths.{set_count}
 use Rattle.ffs_claims.specs.declared.rescan.Rescan.{Rescan}
-use Rattle.ffs_claims.specs.Rescan.{rescan, is_going, run_taken, again, offers_again}
+use Rattle.ffs_claims.specs.Rescan.{rescan, is_going, run_taken, again, offers_again, step_offers_again}
 use Rattle.ffs_claims.specs.Reporting.{after_first, OffersReported}
 
 -- the kept offers of each Run that is seen: of a step, of steps, and of inodes
@@ -60,6 +60,16 @@ steps_runs_again v inode r (step ∷ steps) =
 -- a count rose by so many; it is exact as long as it is a u64's
 abbrev pub RoseBy : ℕ → ℕ → ℕ → Type 0
 RoseBy old new more = old + more < 2 ^ 64 → new ≡ old + more
+
+-- a count rose by at most so many, and by so many as long as it is a u64's
+pub record Counted (old new more : ℕ) : Type 0 where
+  pub most : new ≤ old + more
+  pub exact : RoseBy old new more
+
+-- a step of an inode was gone over: what it keeps is reported, and the next step follows
+pub record StepReported (v : Layout) (inode : ℕ) (step : Step) (r r' : Rescan) (old new : Workspace) : Type 0 where
+  pub reported : OffersReported (step_offers_again v inode r step) old new
+  pub next : r' ≡ again v r step
 
 -- an inode that keeps so many fragments, or all for 0, was walked over again: its offers were gone over, and its Runs
 -- counted up to the one that reports the last of the marked fragments

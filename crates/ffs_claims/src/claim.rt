@@ -1,16 +1,15 @@
 //! What an inode claims, and what is reported of it.
 
-ghost use Rattle.std.specs.Prelude.{◌≡◌, ◌+◌, ◌≤◌, OnOk};
+ghost use Rattle.std.specs.Prelude.{◌≡◌, OnOk};
 ghost use Rattle.ffs_report.specs.Progress.{progress};
 ghost use Rattle.ffs_phase.specs.Known.{ForBytes, IsContents};
-ghost use Rattle.ffs_phase.specs.Runs.{ImageAfter, PhaseReports};
+ghost use Rattle.ffs_phase.specs.Runs.{PhaseReports};
 ghost use Rattle.ffs_volume.specs.Blocks.Inodes as inodes;
 ghost use Rattle.ffs_volume.specs.Blocks.Inodes.{inode_of};
 ghost use Rattle.ffs_volume.specs.Blocks.Steps.{steps_of};
 ghost use Rattle.ffs_volume.specs.Blocks.Owners.{owner_of};
 ghost use Rattle.ffs_volume.specs.Blocks.Claims as claims;
 ghost use Rattle.ffs_volume.specs.Blocks.Claims.{after_owner, after_steps, lines_of_steps};
-ghost use Rattle.ffs_volume.specs.Blocks.ClaimBounds.{ClaimBound, used_bits};
 ghost use Rattle.ffs_volume.specs.Blocks.BlockCheck.{owner_lines};
 ghost use Rattle.ffs_workspace.specs.Holds.{claims_of};
 ghost use Rattle.ffs_claims.specs.Area.{CanClaim, CanClaimInode, InodeLeaves, StepsLeave};
@@ -43,7 +42,6 @@ fn claim<I: Image, W: Output>(
     requires class { class ≡ inodes.class_of geometry.now.layout inode.now }
     requires ready { CanClaim geometry.now.layout (I.device image.old) workspace.old area.old }
     requires begun { HasBegun workspace.old }
-    ensures image { ImageAfter (I.device image.old) (I.device image.new) result }
     ensures text { PhaseReports (IsContents (I.device image.old).contents)
         (λ bytes. of_lines (lines_of_steps geometry.now.layout number (claims_of workspace.old)
         (steps_of geometry.now.layout inode.now bytes)))
@@ -51,9 +49,8 @@ fn claim<I: Image, W: Output>(
     ensures claims { OnOk result (ForBytes (IsContents (I.device image.old).contents) (λ bytes.
         claims_of workspace.new ≡ after_steps geometry.now.layout (claims_of workspace.old)
         (steps_of geometry.now.layout inode.now bytes))) }
-    ensures moves { OnOk result (ClaimBound (claims_of workspace.old) (claims_of workspace.new)) }
-    ensures left { StepsLeave geometry.now.layout (I.device image.new) workspace.old workspace.new
-        area.new }
+    ensures left { StepsLeave geometry.now.layout (I.device image.old) (I.device image.new)
+        workspace.old workspace.new area.new result }
 {
     if !has_steps(geometry, inode, class) {
         return Ok(());
@@ -89,7 +86,6 @@ fn claim_read_inode<I: Image, W: Output>(
 ) -> Result<(), RunFault>
     requires ready { CanClaimInode geometry.now.layout (I.device image.old) workspace.old area.old
         number }
-    ensures image { ImageAfter (I.device image.old) (I.device image.new) result }
     ensures text { PhaseReports (IsContents (I.device image.old).contents)
         (λ bytes. of_lines (owner_lines geometry.now.layout (claims_of workspace.old)
         (owner_with geometry.now.layout bytes number inode.now)))
@@ -99,10 +95,8 @@ fn claim_read_inode<I: Image, W: Output>(
         (owner_with geometry.now.layout bytes number inode.now))) }
     ensures stored { OnOk result (Stored number (inodes.class_of geometry.now.layout inode.now)
         inode.now workspace.old workspace.new) }
-    ensures moves { OnOk result (workspace.new.runs_seen + used_bits (claims_of workspace.old)
-        ≤ workspace.old.runs_seen + used_bits (claims_of workspace.new) + 22) }
-    ensures left { InodeLeaves geometry.now.layout (I.device image.new) workspace.old workspace.new
-        area.new }
+    ensures left { InodeLeaves geometry.now.layout (I.device image.old) (I.device image.new)
+        workspace.old workspace.new area.new result }
 {
     let class = class_of(geometry, inode);
     begin(workspace);
@@ -130,7 +124,6 @@ pub fn claim_inode<I: Image, W: Output>(
 ) -> Result<(), RunFault>
     requires ready { CanClaimInode geometry.now.layout (I.device image.old) workspace.old area.old
         number }
-    ensures image { ImageAfter (I.device image.old) (I.device image.new) result }
     ensures text { PhaseReports (IsContents (I.device image.old).contents)
         (λ bytes. of_lines (owner_lines geometry.now.layout (claims_of workspace.old)
         (owner_of geometry.now.layout bytes number)))
@@ -142,10 +135,8 @@ pub fn claim_inode<I: Image, W: Output>(
         Stored number (inodes.class_of geometry.now.layout
         (inode_of geometry.now.layout bytes number)) (inode_of geometry.now.layout bytes number)
         workspace.old workspace.new)) }
-    ensures moves { OnOk result (workspace.new.runs_seen + used_bits (claims_of workspace.old)
-        ≤ workspace.old.runs_seen + used_bits (claims_of workspace.new) + 22) }
-    ensures left { InodeLeaves geometry.now.layout (I.device image.new) workspace.old workspace.new
-        area.new }
+    ensures left { InodeLeaves geometry.now.layout (I.device image.old) (I.device image.new)
+        workspace.old workspace.new area.new result }
 {
     let inode = workspace.windows.table.inode(geometry, number, image)?;
     claim_read_inode(workspace, geometry, area, number, &inode, image, report)

@@ -17,8 +17,8 @@ ghost use Rattle.ffs_workspace.specs.Ready.{IsReady};
 ghost use Rattle.ffs_claims.specs.Lines.{of_lines};
 ghost use Rattle.ffs_claims.specs.Rescan as rescans;
 ghost use Rattle.ffs_claims.specs.Rescan.{offers_again, step_offers_again, run_seen, runs_again};
-ghost use Rattle.ffs_claims.specs.Reporting.{CanReport, CanRewalk, OffersReported, ReportsOnly, RewalkLeaves};
-ghost use Rattle.ffs_claims.specs.SecondLook.{RoseBy, Rewalked, second_look};
+ghost use Rattle.ffs_claims.specs.Reporting.{CanReport, CanRewalk, ReportsOnly, RewalkLeaves};
+ghost use Rattle.ffs_claims.specs.SecondLook.{Counted, Rewalked, StepReported, second_look};
 
 use crate::report_claim::report_run;
 use crate::rescan::Rescan;
@@ -45,12 +45,9 @@ fn report_again<W: Output>(
     ensures said { Says (progress W.sink report.old) (progress W.sink report.new)
         (of_lines (first_offer_lines (bits_of workspace.old.duplicates)
         (step_offers_again geometry.now.layout number rescan.old step))) result }
-    ensures reported { OnOk result (OffersReported
-        (step_offers_again geometry.now.layout number rescan.old step) workspace.old
-        workspace.new) }
-    ensures again { OnOk result (rescan.new ≡ rescans.again geometry.now.layout rescan.old step) }
-    ensures runs { workspace.new.runs_again ≤ workspace.old.runs_again + run_seen rescan.old step }
-    ensures count { RoseBy workspace.old.runs_again workspace.new.runs_again
+    ensures reported { OnOk result (StepReported geometry.now.layout number step rescan.old
+        rescan.new workspace.old workspace.new) }
+    ensures runs { Counted workspace.old.runs_again workspace.new.runs_again
         (run_seen rescan.old step) }
     ensures only { ReportsOnly geometry.now.layout workspace.old workspace.new }
 {
@@ -75,7 +72,6 @@ fn rewalk<I: Image, W: Output>(
     report: &mut Report<'_, W>,
 ) -> Result<(), RunFault>
     requires can { CanRewalk geometry.now.layout (I.device image.old) workspace.old number }
-    ensures image { ImageAfter (I.device image.old) (I.device image.new) result }
     ensures text { PhaseReports (IsContents (I.device image.old).contents)
         (λ bytes. of_lines (first_offer_lines (bits_of workspace.old.duplicates)
         (offers_again geometry.now.layout number (rescans.rescan cut)
@@ -87,7 +83,8 @@ fn rewalk<I: Image, W: Output>(
     ensures runs { ForBytes (IsContents (I.device image.old).contents) (λ bytes.
         workspace.new.runs_again ≤ workspace.old.runs_again + runs_again geometry.now.layout
         (rescans.rescan cut) (steps_of geometry.now.layout inode.now bytes)) }
-    ensures left { RewalkLeaves geometry.now.layout (I.device image.new) workspace.old workspace.new }
+    ensures left { RewalkLeaves geometry.now.layout (I.device image.old) (I.device image.new)
+        workspace.old workspace.new result }
 {
     let mut rescan = Rescan::start(cut);
     let mut walk = Walk::start(geometry, inode);
@@ -115,7 +112,6 @@ fn renumbered<I: Image, W: Output>(
     report: &mut Report<'_, W>,
 ) -> Result<(), RunFault>
     requires can { CanRewalk geometry.now.layout (I.device image.old) workspace.old number }
-    ensures image { ImageAfter (I.device image.old) (I.device image.new) result }
     ensures text { PhaseReports (IsContents (I.device image.old).contents)
         (λ bytes. of_lines (first_offer_lines (bits_of workspace.old.duplicates)
         (offers_again geometry.now.layout number
@@ -130,7 +126,8 @@ fn renumbered<I: Image, W: Output>(
         workspace.new.runs_again ≤ workspace.old.runs_again + runs_again geometry.now.layout
         (rescans.rescan (slice_index workspace.old.cut.items number))
         (steps_of geometry.now.layout (inode_of geometry.now.layout bytes number) bytes)) }
-    ensures left { RewalkLeaves geometry.now.layout (I.device image.new) workspace.old workspace.new }
+    ensures left { RewalkLeaves geometry.now.layout (I.device image.old) (I.device image.new)
+        workspace.old workspace.new result }
 {
     let inode = workspace.windows.table.inode(geometry, number, image)?;
     let cut = workspace.cut.as_slice()[number as usize];

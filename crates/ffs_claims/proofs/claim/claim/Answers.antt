@@ -24,14 +24,14 @@ returns-then-not-has_steps g c =
     let s = claims_of c.args.workspace.now in
     let none : walks v c.args.inode.now ≡ false = sym c.has_steps.ensures ∙ c.if-not-has_steps.true in
     record {
-      image = refl;
       text = of_same _ _ _ _ _ _
           (of_begins _ (λ bytes. of_lines (lines_of_steps v c.args.number s (steps_of v c.args.inode.now bytes))) _)
           (λ bytes t. ap (λ (xs : List Step). of_lines (lines_of_steps v c.args.number s xs))
           (no_steps v c.args.inode.now bytes none));
       claims = λ bytes t. sym (ap (after_steps v s) (no_steps v c.args.inode.now bytes none));
-      moves = stays s;
       left = record {
+        image = refl;
+        moves = stays s;
         bound = omega (arith, used_below v c.args.workspace.now c.requires.ready.ready.made);
         claim = c.requires.ready;
         found = found_none c.args.workspace.now;
@@ -78,11 +78,11 @@ returns-in_err-next g c =
     c.loop-next.workspace c.next.new.blocks
     err.contents err.size c.next.ensures.kept.size (rw inv.geometry at c.next.ensures.kept.holds) inv.ready in
     rw (p.1, p.2) (record {
-      image = rw inv.device at err;
       text = of_reads _ _ _ _ _ inv.said;
       claims = tt;
-      moves = tt;
       left = record {
+        image = rw inv.device at err;
+        moves = tt;
         bound = omega (
           arith,
           seen_bound v c.args.workspace.now c.loop-next.workspace inv.ready.made inv.open_still
@@ -134,7 +134,6 @@ returns-in_err-seen g c =
     let read = ready_walked c.args.geometry.now _ _ _ c.loop-next.workspace c.next.new.blocks inv.geometry ok
     c.next.ensures.kept.size c.next.ensures.kept.holds inv.ready in
     rw (p.1, p.2) (record {
-      image = ok ∙ inv.device;
       text = of_stops _ _ _ _ (of_lines (step_lines v c.args.number (claims_of c.loop-next.workspace) c.in-Some.next))
           _ _ _ inv.said
           (lines_on _ v c.args.number (claims_of c.loop-next.workspace)
@@ -142,8 +141,9 @@ returns-in_err-seen g c =
           (λ bytes. rest bytes c.loop-next.walk) (λ bytes. rest bytes c.next.new.self) c.in-Some.next next refl)
           c.in_err-seen.ensures.said;
       claims = tt;
-      moves = tt;
       left = record {
+        image = ok ∙ inv.device;
+        moves = tt;
         bound = omega (
           arith,
           c.step.ensures.runs,
@@ -264,7 +264,6 @@ returns-then-not-seen g c =
     let read = ready_walked c.args.geometry.now _ _ _ c.loop-next.workspace c.next.new.blocks inv.geometry ok
     c.next.ensures.kept.size c.next.ensures.kept.holds inv.ready in
     record {
-      image = ok ∙ inv.device;
       text = steps_said _ v c.args.number (claims_of c.loop-next.workspace) s (λ bytes. rest bytes c.loop-next.walk)
           (λ bytes. rest bytes c.next.new.self) _ _ c.in-Some.next _ _ _
           inv.said next c.in_ok-seen.ensures.claims.claims_are (λ bytes t. cut_silent v c.args.number
@@ -272,11 +271,12 @@ returns-then-not-seen g c =
       claims = claims_on _ v (claims_of c.loop-next.workspace) s (λ bytes. rest bytes c.loop-next.walk)
           (λ bytes. rest bytes c.next.new.self) _ _ c.in-Some.next
           next c.in_ok-seen.ensures.claims.claims_are inv.claims (λ bytes t. cut_stays v s (rest bytes c.next.new.self) cut);
-      moves = moves_on v (claims_of c.args.workspace.now) (claims_of c.loop-next.workspace)
-          (claims_of c.step.new.workspace) c.in-Some.next
-          (length_bits _ _ ∙ inv.ready.made.claimed) c.args.geometry.now.sound.sizes.frag_high
-          (rw (inv.geometry, c.in-Some.is) at c.in_ok-next.ensures.fits).length c.in_ok-seen.ensures.claims.claims_are inv.moves;
       left = record {
+        image = ok ∙ inv.device;
+        moves = moves_on v (claims_of c.args.workspace.now) (claims_of c.loop-next.workspace)
+            (claims_of c.step.new.workspace) c.in-Some.next
+            (length_bits _ _ ∙ inv.ready.made.claimed) c.args.geometry.now.sound.sizes.frag_high
+            (rw (inv.geometry, c.in-Some.is) at c.in_ok-next.ensures.fits).length c.in_ok-seen.ensures.claims.claims_are inv.moves;
         bound = omega (
           arith,
           c.step.ensures.runs,
@@ -299,12 +299,12 @@ returns-in_default g c =
     let ok = c.in_ok-next.ensures.read in
     let over = rw (inv.device, c.in_default.is) at c.in_ok-next.ensures.steps in
     record {
-      image = ok ∙ inv.device;
       text = of_same _ _ _ _ _ _ inv.said
           (λ bytes t. ap (λ (xs : List Step). of_lines (lines_of_steps v c.args.number s xs)) (over bytes t));
       claims = λ bytes t. sym (ap (after_steps v s) (over bytes t)) ∙ inv.claims bytes t;
-      moves = inv.moves;
       left = record {
+        image = ok ∙ inv.device;
+        moves = inv.moves;
         bound = omega (
           arith,
           seen_bound v c.args.workspace.now c.loop-next.workspace inv.ready.made inv.open_still

@@ -51,7 +51,10 @@ inode-requires g c =
 pub returns-in_err-inode-clause-left : goal.returns-in_err-inode-clause-left
 returns-in_err-inode-clause-left g c =
     let err = c.in_err-inode.ensures.err in
-    record {
+    let p = err_from_is_err_and c.from_residual.result c.from_residual.ensures.1 in
+    rw (p.1, p.2) (record {
+      image = err;
+      moves = tt;
       bound = omega (
         arith,
         used_below c.args.geometry.now.layout c.args.workspace.now
@@ -63,7 +66,7 @@ returns-in_err-inode-clause-left g c =
             c.inode.new.self err.contents err.size c.inode.ensures.room c.inode.ensures.holds c.requires.ready.claim.ready;
         only_data = c.requires.ready.claim.only_data;
       };
-    }
+    })
 
 pub claim_read_inode-requires : goal.claim_read_inode-requires
 claim_read_inode-requires g c =
@@ -79,4 +82,15 @@ claim_read_inode-requires g c =
           only_data = c.requires.ready.claim.only_data;
         };
       };
+    }
+
+pub returns-clause-left : goal.returns-clause-left
+returns-clause-left g c =
+    let left = c.claim_read_inode.ensures.left in
+    record {
+      image = rw (c.in_ok-inode.ensures.ok) at left.image;
+      claim = left.claim;
+      bound = left.bound;
+      moves = left.moves;
+      again = left.again;
     }

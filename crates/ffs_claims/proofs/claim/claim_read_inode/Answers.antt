@@ -75,7 +75,7 @@ returns-clause-text g c =
 
 pub say_count-requires : goal.say_count-requires
 say_count-requires g c =
-    let m = c.in_ok-claim.ensures.moves in
+    let m = c.in_ok-claim.ensures.left.moves in
     let used : length (claims_of c.claim.new.workspace).used ≡ c.args.geometry.now.layout.size =
     length_bits c.claim.new.workspace.claimed.words.items c.claim.new.workspace.claimed.size
     ∙ c.claim.ensures.left.claim.ready.made.claimed in
@@ -119,7 +119,10 @@ store-requires-2 g c =
 pub returns-in_err-say_class-clause-left : goal.returns-in_err-say_class-clause-left
 returns-in_err-say_class-clause-left g c =
     let same = ap (λ w. w.runs_seen) c.begin.ensures in
-    record {
+    let p = err_from_is_err_and c.from_residual.result c.from_residual.ensures.1 in
+    rw (p.1, p.2) (record {
+      image = refl;
+      moves = tt;
       bound = omega (
         arith,
         same,
@@ -132,7 +135,7 @@ returns-in_err-say_class-clause-left g c =
             c.args.workspace.now c.begin.new.workspace c.begin.ensures c.requires.ready.claim.ready;
         only_data = c.requires.ready.claim.only_data;
       };
-    }
+    })
 
 pub returns-clause-claims : goal.returns-clause-claims
 returns-clause-claims g c = λ bytes t.
@@ -144,28 +147,40 @@ pub returns-in_err-claim-clause-left : goal.returns-in_err-claim-clause-left
 returns-in_err-claim-clause-left g c =
     let begun = ap (λ w. w.runs_seen) c.begin.ensures in
     let claims = ap (λ w. used_bits (claims_of w)) c.begin.ensures in
-    record {
+    let p = err_from_is_err_and c.from_residual-in_err-claim.result c.from_residual-in_err-claim.ensures.1 in
+    rw (p.1, p.2) (record {
+      image = c.in_err-claim.ensures.left.image;
+      moves = tt;
       bound = omega (arith, begun, claims, c.claim.ensures.left.bound);
       again = c.claim.ensures.left.found.again ∙ ap (λ w. w.runs_again) c.begin.ensures;
       claim = c.claim.ensures.left.claim;
-    }
+    })
 
 pub returns-in_err-say_count-clause-left : goal.returns-in_err-say_count-clause-left
 returns-in_err-say_count-clause-left g c =
     let begun = ap (λ w. w.runs_seen) c.begin.ensures in
     let claims = ap (λ w. used_bits (claims_of w)) c.begin.ensures in
-    record {
+    let p = err_from_is_err_and c.from_residual-in_err-say_count.result c.from_residual-in_err-say_count.ensures.1 in
+    rw (p.1, p.2) (record {
+      image = c.in_ok-claim.ensures.left.image;
+      moves = tt;
       bound = omega (arith, begun, claims, c.claim.ensures.left.bound);
       again = c.claim.ensures.left.found.again ∙ ap (λ w. w.runs_again) c.begin.ensures;
       claim = c.claim.ensures.left.claim;
-    }
+    })
 
 pub returns-clause-left : goal.returns-clause-left
 returns-clause-left g c =
     let begun = ap (λ w. w.runs_seen) c.begin.ensures in
     let claims = ap (λ w. used_bits (claims_of w)) c.begin.ensures in
     let stored = ap (λ w. w.runs_seen) c.store-2.ensures.rest in
+    let bad = ap (λ w. w.bad) c.begin.ensures in
+    let dups = ap (λ w. w.dups) c.begin.ensures in
+    let m = c.in_ok-claim.ensures.left.moves in
+    let used = ap (λ w. used_bits (claims_of w)) c.store-2.ensures.rest in
     record {
+      image = c.in_ok-claim.ensures.left.image;
+      moves = omega (arith, begun, claims, stored, used, m.weighs, m.bad_cap, m.dups_cap, bad, dups);
       bound = omega (arith, begun, claims, stored, c.claim.ensures.left.bound);
       again = ap (λ w. w.runs_again) c.store-2.ensures.rest ∙ c.claim.ensures.left.found.again
           ∙ ap (λ w. w.runs_again) c.begin.ensures;
@@ -219,7 +234,11 @@ pub returns-then-matches-clause-left : goal.returns-then-matches-clause-left
 returns-then-matches-clause-left g c =
     let begun = ap (λ w. w.runs_seen) c.begin.ensures in
     let same = ap (λ w. w.runs_seen) c.store.ensures.rest in
+    let claims = ap (λ w. used_bits (claims_of w)) c.begin.ensures in
+    let used = ap (λ w. used_bits (claims_of w)) c.store.ensures.rest in
     record {
+      image = refl;
+      moves = omega (arith, begun, same, claims, used);
       bound = omega (
         arith,
         begun,

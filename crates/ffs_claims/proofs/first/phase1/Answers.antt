@@ -16,7 +16,7 @@ use Rattle.ffs_workspace.specs.Lengths.{inodes_of}
 use Rattle.ffs_claims.specs.Lines.{of_lines, owners_from}
 use Rattle.ffs_claims.proofs.Doubles.{dups_are}
 use Rattle.ffs_claims.proofs.Weights.{used_below}
-use Rattle.ffs_claims.proofs.Frames.{ready_still}
+use Rattle.ffs_claims.proofs.Frames.{image_from, ready_still}
 use Rattle.ffs_claims.proofs.Numbers.{before_next, before_first, before_end, lines_next, lines_end, filled_next}
 use Rattle.ffs_claims.proofs.Numbers.{filled_end, filled_begin, is_inside, is_outside, kind_out, kind_in, mark_out}
 use Rattle.ffs_claims.proofs.Numbers.{mark_in, cut_out, cut_in, start_out, start_in, first_lines}
@@ -117,10 +117,10 @@ loop-number-preserved g c =
     let stored = c.in_ok-claim_inode.ensures.stored in
     record {
       ready = c.claim_inode.ensures.left.claim;
-      device = c.in_ok-claim_inode.ensures.image ∙ inv.device;
+      device = c.in_ok-claim_inode.ensures.left.image ∙ inv.device;
       low = omega arith;
       high = λ h. omega arith;
-      runs = omega (arith, inv.runs, inv.low, c.in_ok-claim_inode.ensures.moves);
+      runs = omega (arith, inv.runs, inv.low, c.in_ok-claim_inode.ensures.left.moves);
       again = c.claim_inode.ensures.left.again ∙ inv.again;
       claims = λ bytes k. now bytes (contents ∙ k.0)
           ∙ ap (λ (t : Claims). after_owner v t (owner_of v bytes n)) (inv.claims bytes k)
@@ -206,3 +206,10 @@ returns-clause-dups g c = λ bytes k.
 pub returns-in_err-say-clause-ready : goal.returns-in_err-say-clause-ready
 returns-in_err-say-clause-ready g c = ready_still c.args.geometry.now.layout _ _ _ c.reserve.ensures.only.made
     c.reserve.ensures.only.windows c.requires.ready
+
+pub returns-in_err-claim_inode-clause-image : goal.returns-in_err-claim_inode-clause-image
+returns-in_err-claim_inode-clause-image g c =
+    let p = err_from_is_err_and c.from_residual-in_err-claim_inode.result
+    c.from_residual-in_err-claim_inode.ensures.1 in
+    rw (p.1, p.2) (image_from {T = Unit {0}} _ _ (g.I.Image.device c.claim_inode.new.image)
+    (Err c.in_err-claim_inode.field-0.0) c.loop-number.invariant.device c.in_err-claim_inode.ensures.left.image)

@@ -16,7 +16,7 @@ use Rattle.ffs_claims.specs.Lines.{of_lines, owners_from}
 use Rattle.ffs_claims.specs.Rescan.{rescan, offers_again}
 use Rattle.ffs_claims.specs.Reporting.{after_first}
 use Rattle.ffs_claims.proofs.Numbers.{is_inside}
-use Rattle.ffs_claims.proofs.Frames.{claims_then, ready_unseen}
+use Rattle.ffs_claims.proofs.Frames.{claims_then, image_from, ready_unseen}
 use Rattle.ffs_claims.proofs.Rescanned.{kept_next, kept_end, runs_on, runs_most, claims_hold, reported_same, all_lines}
 use Rattle.ffs_claims.proofs.Rescanned.{all_kept, lines_split, starts_hold}
 use Rattle.ffs_claims.proofs.Rewalks.{reporting_over}
@@ -125,7 +125,7 @@ loop-number-preserved g c =
     (c.in_ok-renumbered.ensures.rewalked bytes (image ∙ k.0)).reported.dup in
     record {
       ready = c.renumbered.ensures.left.ready;
-      device = c.in_ok-renumbered.ensures.image ∙ inv.device;
+      device = c.in_ok-renumbered.ensures.left.image ∙ inv.device;
       claims = claims_then _ _ _ inv.claims c.renumbered.ensures.left.claims;
       low = omega arith;
       high = λ h. omega arith;
@@ -217,3 +217,9 @@ returns-after-loop-number g c =
 pub returns-in_err-say-clause-ready : goal.returns-in_err-say-clause-ready
 returns-in_err-say-clause-ready g c = ready_unseen c.args.geometry.now.layout (g.I.Image.device c.args.image.now)
     c.args.workspace.now 0 c.requires.ready
+
+pub returns-in_err-renumbered-clause-image : goal.returns-in_err-renumbered-clause-image
+returns-in_err-renumbered-clause-image g c =
+    let p = err_from_is_err_and c.from_residual-in_err-renumbered.result c.from_residual-in_err-renumbered.ensures.1 in
+    rw (p.1, p.2) (image_from {T = Unit {0}} _ _ (g.I.Image.device c.renumbered.new.image)
+    (Err c.in_err-renumbered.field-0.0) c.loop-number.invariant.device c.in_err-renumbered.ensures.left.image)

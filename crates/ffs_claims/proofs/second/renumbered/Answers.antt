@@ -88,15 +88,18 @@ inode-requires g c =
 pub returns-in_err-inode-clause-left : goal.returns-in_err-inode-clause-left
 returns-in_err-inode-clause-left g c =
     let err = c.in_err-inode.ensures.err in
-    record {
+    let p = err_from_is_err_and c.from_residual.result c.from_residual.ensures.1 in
+    rw (p.1, p.2) (record {
+      image = err;
       ready = ready_table c.args.geometry.now.layout (g.I.Image.device c.args.image.now) _ c.args.workspace.now
           c.inode.new.self err.contents err.size c.inode.ensures.room c.inode.ensures.holds c.requires.can.ready;
       claims = claims_still _ _ _ (claims_none c.args.workspace.now);
-    }
+    })
 
 pub returns-clause-left : goal.returns-clause-left
 returns-clause-left g c =
     record {
+      image = rw (c.in_ok-inode.ensures.ok) at c.rewalk.ensures.left.image;
       ready = c.rewalk.ensures.left.ready;
       claims = claims_then _ _ _ (claims_still _ _ _ (claims_none c.args.workspace.now)) c.rewalk.ensures.left.claims;
     }

@@ -59,11 +59,11 @@ returns-in_err-next g c =
     let inv = c.loop-next.invariant in
     let err = c.in_err-next.ensures.read in
     rw (p.1, p.2) (record {
-      image = rw inv.device at err;
       text = of_reads _ _ _ _ _ inv.said;
       rewalked = tt;
       runs = λ bytes t. omega (arith, (inv.walk bytes t).runs);
       left = record {
+        image = rw inv.device at err;
         ready = ready_read c.args.geometry.now.layout _ (g.I.Image.device c.next.new.image)
             c.loop-next.workspace c.next.new.blocks
             err.contents err.size c.next.ensures.kept.size (rw inv.geometry at c.next.ensures.kept.holds) inv.ready;
@@ -94,7 +94,6 @@ returns-in_err-report_again g c =
     c.next.ensures.kept.size c.next.ensures.kept.holds inv.ready in
     let only = c.report_again.ensures.only in
     rw (p.1, p.2) (record {
-      image = ok ∙ inv.device;
       text = of_stops _ _ (λ bytes. of_lines (first_offer_lines (after_first d (step_offers_again v n r step))
           (offers_again v n (again v r step) (rest bytes c.next.new.self)))) _
           (of_lines (first_offer_lines d (step_offers_again v n r step))) _ _ _ inv.said
@@ -105,11 +104,12 @@ returns-in_err-report_again g c =
       runs = λ bytes t. omega (
         arith,
         (inv.walk bytes t).runs,
-        c.report_again.ensures.runs,
+        c.report_again.ensures.runs.most,
         runs_next v r
             (again v r step) step (rest bytes c.loop-next.walk) (rest bytes c.next.new.self) (next bytes t) refl,
       );
       left = record {
+        image = ok ∙ inv.device;
         ready = ready_still v _ _ _ only.made only.windows read;
         claims = claims_then _ _ _ (claims_still _ _ _ inv.claims) only.claims;
       };
@@ -130,7 +130,7 @@ loop-next-preserved-then-matches g c =
     let d' = bits_of c.report_again.new.workspace.duplicates in
     let r' = c.report_again.new.rescan in
     let ok = c.in_ok-next.ensures.read in
-    let now = c.in_ok-report_again.ensures.again in
+    let now = c.in_ok-report_again.ensures.reported.next in
     let only = c.report_again.ensures.only in
     let next = rw (inv.device, c.in-Some.is) at c.in_ok-next.ensures.steps in
     let read = ready_walked c.args.geometry.now _ _ _ c.loop-next.workspace c.next.new.blocks inv.geometry ok
@@ -153,11 +153,11 @@ loop-next-preserved-then-matches g c =
           (rewalk_on _ _ _ _ c.in-Some.next c.loop-next.rescan r' (rest bytes c.loop-next.walk)
           (rest bytes c.next.new.self) _ c.loop-next.workspace _ c.report_again.new.workspace
           (next bytes t) now inv.going (λ e. inv.pending (inv.ready.made.unreported ∙ e))
-          c.in_ok-report_again.ensures.reported c.report_again.ensures.runs c.report_again.ensures.count
+          c.in_ok-report_again.ensures.reported.reported c.report_again.ensures.runs.most c.report_again.ensures.runs.exact
           (inv.walk bytes t));
       said = rewalk_said _ v n c.loop-next.rescan r' c.in-Some.next (λ bytes. rest bytes c.loop-next.walk)
           (λ bytes. rest bytes c.next.new.self) d d' _ _ _ _ _
-          inv.said next now c.in_ok-report_again.ensures.reported.dup
+          inv.said next now c.in_ok-report_again.ensures.reported.reported.dup
           (λ bytes t. ap (first_offer_lines d') (ap (offers_again v n r') (gaps bytes t)
           ∙ gaps_offer v n r' c.skip_gaps.result (rest bytes c.skip_gaps.new.self)))
           c.in_ok-report_again.ensures.said;
@@ -172,7 +172,7 @@ loop-next-preserved g c =
     let d' = bits_of c.report_again.new.workspace.duplicates in
     let r' = c.report_again.new.rescan in
     let ok = c.in_ok-next.ensures.read in
-    let now = c.in_ok-report_again.ensures.again in
+    let now = c.in_ok-report_again.ensures.reported.next in
     let only = c.report_again.ensures.only in
     let next = rw (inv.device, c.in-Some.is) at c.in_ok-next.ensures.steps in
     let read = ready_walked c.args.geometry.now _ _ _ c.loop-next.workspace c.next.new.blocks inv.geometry ok
@@ -188,11 +188,11 @@ loop-next-preserved g c =
       walk = λ bytes t. rewalk_on _ _ _ _ c.in-Some.next c.loop-next.rescan r' (rest bytes c.loop-next.walk)
           (rest bytes c.next.new.self) _ c.loop-next.workspace _ c.report_again.new.workspace
           (next bytes t) now inv.going (λ e. inv.pending (inv.ready.made.unreported ∙ e))
-          c.in_ok-report_again.ensures.reported c.report_again.ensures.runs c.report_again.ensures.count
+          c.in_ok-report_again.ensures.reported.reported c.report_again.ensures.runs.most c.report_again.ensures.runs.exact
           (inv.walk bytes t);
       said = rewalk_said _ v n c.loop-next.rescan r' c.in-Some.next (λ bytes. rest bytes c.loop-next.walk)
           (λ bytes. rest bytes c.next.new.self) d d' _ _ _ _ _
-          inv.said next now c.in_ok-report_again.ensures.reported.dup
+          inv.said next now c.in_ok-report_again.ensures.reported.reported.dup
           (λ bytes t. refl)
           c.in_ok-report_again.ensures.said;
     }
@@ -206,7 +206,7 @@ returns-then-not-is_going g c =
     let d' = bits_of c.report_again.new.workspace.duplicates in
     let r' = c.report_again.new.rescan in
     let ok = c.in_ok-next.ensures.read in
-    let now = c.in_ok-report_again.ensures.again in
+    let now = c.in_ok-report_again.ensures.reported.next in
     let only = c.report_again.ensures.only in
     let cut = sym c.is_going.ensures ∙ c.if-not-is_going.true in
     let next = rw (inv.device, c.in-Some.is) at c.in_ok-next.ensures.steps in
@@ -218,13 +218,12 @@ returns-then-not-is_going g c =
     λ bytes t. rewalk_on _ _ _ _ c.in-Some.next c.loop-next.rescan r' (rest bytes c.loop-next.walk)
     (rest bytes c.next.new.self) _ c.loop-next.workspace _ c.report_again.new.workspace
     (next bytes t) now inv.going (λ e. inv.pending (inv.ready.made.unreported ∙ e))
-    c.in_ok-report_again.ensures.reported c.report_again.ensures.runs c.report_again.ensures.count
+    c.in_ok-report_again.ensures.reported.reported c.report_again.ensures.runs.most c.report_again.ensures.runs.exact
     (inv.walk bytes t) in
     record {
-      image = ok ∙ inv.device;
       text = rewalk_said _ v n c.loop-next.rescan r' c.in-Some.next (λ bytes. rest bytes c.loop-next.walk)
           (λ bytes. rest bytes c.next.new.self) d d' _ _ _ _ _
-          inv.said next now c.in_ok-report_again.ensures.reported.dup
+          inv.said next now c.in_ok-report_again.ensures.reported.reported.dup
           (λ bytes t. ap (first_offer_lines d') (offers_stopped v n r' (rest bytes c.next.new.self) cut))
           c.in_ok-report_again.ensures.said;
       rewalked = λ bytes t. rewalk_ends _ _ _ _ r' (rest bytes c.next.new.self) _ _
@@ -232,6 +231,7 @@ returns-then-not-is_going g c =
           (looked_stopped v n r' (rest bytes c.next.new.self) d' cut) (walk bytes t);
       runs = λ bytes t. omega (arith, (walk bytes t).runs);
       left = record {
+        image = ok ∙ inv.device;
         ready = ready_still v _ _ _ only.made only.windows read;
         claims = claims_then _ _ _ (claims_still _ _ _ inv.claims) only.claims;
       };
@@ -246,7 +246,7 @@ returns-then-workspace-eq0 g c =
     let d' = bits_of c.report_again.new.workspace.duplicates in
     let r' = c.report_again.new.rescan in
     let ok = c.in_ok-next.ensures.read in
-    let now = c.in_ok-report_again.ensures.again in
+    let now = c.in_ok-report_again.ensures.reported.next in
     let only = c.report_again.ensures.only in
     let none : set_count (bits_of c.report_again.new.workspace.duplicates) ≡ 0 = sym only.made.unreported
     ∙ c.if-workspace-eq0.true in
@@ -259,18 +259,18 @@ returns-then-workspace-eq0 g c =
     λ bytes t. rewalk_on _ _ _ _ c.in-Some.next c.loop-next.rescan r' (rest bytes c.loop-next.walk)
     (rest bytes c.next.new.self) _ c.loop-next.workspace _ c.report_again.new.workspace
     (next bytes t) now inv.going (λ e. inv.pending (inv.ready.made.unreported ∙ e))
-    c.in_ok-report_again.ensures.reported c.report_again.ensures.runs c.report_again.ensures.count
+    c.in_ok-report_again.ensures.reported.reported c.report_again.ensures.runs.most c.report_again.ensures.runs.exact
     (inv.walk bytes t) in
     record {
-      image = ok ∙ inv.device;
       text = rewalk_said _ v n c.loop-next.rescan r' c.in-Some.next (λ bytes. rest bytes c.loop-next.walk)
           (λ bytes. rest bytes c.next.new.self) d d' _ _ _ _ _
-          inv.said next now c.in_ok-report_again.ensures.reported.dup
+          inv.said next now c.in_ok-report_again.ensures.reported.reported.dup
           (λ bytes t. none_first d' (offers_again v n r' (rest bytes c.next.new.self)) none)
           c.in_ok-report_again.ensures.said;
       rewalked = λ bytes t. rewalk_over _ _ _ _ r' (rest bytes c.next.new.self) _ _ none (walk bytes t);
       runs = λ bytes t. omega (arith, (walk bytes t).runs);
       left = record {
+        image = ok ∙ inv.device;
         ready = ready_still v _ _ _ only.made only.windows read;
         claims = claims_then _ _ _ (claims_still _ _ _ inv.claims) only.claims;
       };
@@ -289,7 +289,6 @@ returns-in_default g c =
     (λ bytes. offers_again v n c.loop-next.rescan (rest bytes c.loop-next.walk) ≡ []) =
     λ bytes t. offers_none v n r (rest bytes c.loop-next.walk) (over bytes t) in
     record {
-      image = ok ∙ inv.device;
       text = of_same _ _ _ _ _ _ inv.said (λ bytes t. ap (λ (os : List Offer). of_lines (first_offer_lines d os))
           (none bytes t));
       rewalked = λ bytes t. rewalked_to _ _ _ _ _ c.loop-next.workspace _
@@ -297,6 +296,7 @@ returns-in_default g c =
           (looked_over v n r (rest bytes c.loop-next.walk) d (over bytes t)) (inv.walk bytes t));
       runs = λ bytes t. omega (arith, (inv.walk bytes t).runs);
       left = record {
+        image = ok ∙ inv.device;
         ready = ready_walked c.args.geometry.now _ _ _ c.loop-next.workspace c.next.new.blocks inv.geometry ok
             c.next.ensures.kept.size c.next.ensures.kept.holds inv.ready;
         claims = claims_still _ _ _ inv.claims;
