@@ -163,10 +163,10 @@ impl Workspace {
 
 impl Windows {
     ghost use Rattle.ffs_walk.specs.Windows.{WindowHolds, BlocksHold};
+    ghost use Rattle.ffs_workspace.specs.Tables.{IsTableOf};
 
     fn in_memory<M: Memory>(memory: &mut M, geometry: &Geometry) -> Result<Windows, AllocError>
-        ensures table { IfOk result (λ w. vec_len w.table.window.buffer
-            ≡ geometry.now.layout.bsize) }
+        ensures table { IfOk result (λ w. IsTableOf geometry.now.layout w.table) }
         ensures blocks { IfOk result (λ w. vec_len w.blocks.buffer
             ≡ 3 * geometry.now.layout.bsize) }
         ensures chunk { IfOk result (λ w. vec_len w.chunk.buffer ≡ geometry.now.layout.bsize) }
@@ -180,9 +180,7 @@ impl Windows {
             (5 * geometry.now.layout.bsize) result }
     {
         let size = geometry.layout.bsize as usize;
-        let table = Table {
-            window: Window::over(memory.bytes(size)?),
-        };
+        let table = Table::over(memory.bytes(size)?);
         let blocks = Blocks::over(memory.bytes(3 * size)?);
         let chunk = Window::over(memory.bytes(size)?);
         Ok(Windows {

@@ -33,7 +33,7 @@ returns-clause-text g c =
     (λ bytes t. ap (λ (o : Owner). of_lines (owner_lines v s o))
     (owner_is v bytes c.args.number c.in_ok-inode.inode (c.in_ok-inode.ensures.inode bytes t)))
     (reports_knowing (Unit {0}) _ _ _ _ _ c.claim_read_inode.result
-    (λ bytes t. ap (λ d. d.contents) c.in_ok-inode.ensures.ok ∙ t) c.claim_read_inode.ensures.text)
+    (λ bytes t. ap (λ d. d.contents) c.in_ok-inode.ensures.read ∙ t) c.claim_read_inode.ensures.text)
 
 pub returns-clause-claims : goal.returns-clause-claims
 returns-clause-claims g c =
@@ -42,7 +42,7 @@ returns-clause-claims g c =
     ok_where c.claim_read_inode.result _ _
     (λ bytes. claims_of c.claim_read_inode.new.workspace
     ≡ after_owner v s (owner_with v bytes c.args.number c.in_ok-inode.inode)) _
-    (ap (λ d. d.contents) c.in_ok-inode.ensures.ok)
+    (ap (λ d. d.contents) c.in_ok-inode.ensures.read)
     (λ bytes t h. h ∙ ap (λ (o : Owner). after_owner v s o)
     (owner_is v bytes c.args.number c.in_ok-inode.inode (c.in_ok-inode.ensures.inode bytes t)))
     c.claim_read_inode.ensures.claims
@@ -50,16 +50,19 @@ returns-clause-claims g c =
 pub inode-requires : goal.inode-requires
 inode-requires g c =
     let ready = c.requires.ready in
-    record { number = c.requires.number; volume = ready.volume; room = ready.made.table; holds = ready.windows.table }
+    record {
+      number = c.requires.number;
+      ready = record { volume = ready.volume; made = ready.made.table; holds = ready.windows.table };
+    }
 
 pub returns-in_err-inode-clause-ready : goal.returns-in_err-inode-clause-ready
 returns-in_err-inode-clause-ready g c =
-    let err = c.in_err-inode.ensures.err in
+    let err = c.in_err-inode.ensures.read in
     ready_table c.args.geometry.now.layout (g.I.Image.device c.args.image.now) _ c.args.workspace.now c.inode.new.self
-    err.contents err.size c.inode.ensures.room c.inode.ensures.holds c.requires.ready
+    err.contents err.size c.inode.ensures.kept c.requires.ready
 
 pub claim_read_inode-requires-clause-ready : goal.claim_read_inode-requires-clause-ready
 claim_read_inode-requires-clause-ready g c =
-    let ok = c.in_ok-inode.ensures.ok in
+    let ok = c.in_ok-inode.ensures.read in
     ready_table c.args.geometry.now.layout (g.I.Image.device c.args.image.now) _ c.args.workspace.now c.inode.new.self
-    (ap (λ d. d.contents) ok) (ap (λ d. d.size) ok) c.inode.ensures.room c.inode.ensures.holds c.requires.ready
+    (ap (λ d. d.contents) ok) (ap (λ d. d.size) ok) c.inode.ensures.kept c.requires.ready

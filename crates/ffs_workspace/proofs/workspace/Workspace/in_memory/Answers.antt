@@ -1,5 +1,6 @@
 -- What the requests result in, where each is granted, and where one of them is refused.
-use Rattle.std.proofs.Common.{◌*◌}
+use Rattle.std.proofs.Common.{◌*◌, arith, rules}
+use Rattle.std.proofs.lemmas.Grind.{common_steps}
 use Rattle.std.proofs.lemmas.Result.{err_from_is_err_and}
 use Rattle.std.specs.Int.{div_ceil}
 use Rattle.ffs_memory.proofs.Asking.{granted_both, gave_up_after, gave_up_within}
@@ -7,6 +8,27 @@ use Rattle.ffs_workspace.specs.Lengths.{inodes_of}
 use Rattle.ffs_workspace.proofs.Requests.{both, all_is, at_first_map, at_second_map, at_kinds, at_flags, at_references}
 use Rattle.ffs_workspace.proofs.Requests.{at_words, at_windows}
 use Rattle.ffs_workspace.proofs.workspace.Workspace.in_memory.Goals as goal
+
+pub returns-clause-made : goal.returns-clause-made
+returns-clause-made g c =
+    let table = c.in_ok-windows.ensures.table in
+    record {
+      claimed = search rules;
+      duplicates = search rules;
+      unreported = grind (arith, common_steps);
+      kinds = search rules;
+      marked = search rules;
+      named = search rules;
+      reached = search rules;
+      leaders = search rules;
+      references = search rules;
+      cut = search rules;
+      parents = search rules;
+      queue = search rules;
+      table = table;
+      blocks = search rules;
+      chunk = search rules;
+    }
 
 pub returns-clause-windows : goal.returns-clause-windows
 returns-clause-windows g c = λ reported. record {
