@@ -1,8 +1,11 @@
-use Rattle.std.proofs.Common.{◌∙◌, ap, sym, subst, arith}
+use Rattle.std.proofs.Common.{◌∙◌, Ok, ap, refl, sym, subst, arith}
 use Rattle.std.proofs.lemmas.List.{get_or_default}
 use Rattle.ffs_volume.specs.Directories.Roles.{is_dir, roled_entries}
 use Rattle.ffs_volume.specs.Directories.Volumes.{volume_of}
+use Rattle.std.proofs.lemmas.Result.{err_from_is_err_and}
 use Rattle.ffs_paths.specs.ChildNames.{AreAllNamesOf}
+use Rattle.ffs_paths.specs.Reads.{OnlyReads}
+use Rattle.ffs_paths.proofs.Keeping.{then_reads}
 use Rattle.ffs_paths.proofs.siblings.Siblings.find_names.Goals as goal
 
 pub returns-clause-siblings : goal.returns-clause-siblings
@@ -26,3 +29,13 @@ returns-clause-siblings g c =
         inside = read.inside;
       };
     }
+
+pub returns-in_err-names-clause-reads : goal.returns-in_err-names-clause-reads
+returns-in_err-names-clause-reads g c =
+    let v = c.args.geometry.now.layout in
+    let old = g.I.Image.device c.args.image.now in
+    let w = c.args.workspace.now in
+    let err = err_from_is_err_and c.from_residual.result c.from_residual.ensures.1 in
+    let one : OnlyReads {T = Unit {0}} v old old w w (Ok tt) =
+    record { lists = refl; ready = c.requires.ready; read = refl } in
+    rw (err.1, err.2) (then_reads one c.in_err-names.ensures.windows c.in_err-names.ensures.read)
