@@ -12,12 +12,13 @@ use Rattle.ffs_image.specs.Device.{Device}
 use Rattle.ffs_phase.specs.Runs.{ImageAfter}
 use Rattle.ffs_phase.specs.declared.fault.RunFault.{RunFault}
 use Rattle.ffs_walk.specs.declared.blocks.Blocks.{Blocks}
-use Rattle.ffs_walk.specs.Windows.{BlocksHold, WindowHolds}
+use Rattle.ffs_walk.specs.Windows.{BlocksHold}
 use Rattle.ffs_workspace.specs.declared.table.Table.{Table}
 use Rattle.ffs_workspace.specs.declared.workspace.Workspace.{Workspace}
 use Rattle.ffs_workspace.specs.declared.workspace.Windows.{Windows}
 use Rattle.ffs_workspace.specs.Lengths.{IsFor, set_count}
 use Rattle.ffs_workspace.specs.Ready.{IsReady}
+use Rattle.ffs_workspace.specs.Tables.{KeepsTable}
 use Rattle.ffs_claims.specs.Leaves.{SameFound, ClaimsOnly, Stored, OffersOnly}
 use Rattle.ffs_claims.specs.Reporting.{SameClaims, ReportsOnly, OffersReportedOnly}
 
@@ -135,14 +136,14 @@ ready_walked g k d d' w b e same room holds r = ready_read g.layout d d' w b (ap
 -- or a block of the inode table
 pub ready_table : (l : Layout) (d d' : Device) (w : Workspace) (t : Table) → d'.contents ≡ d.contents →
     d'.size ≡ d.size →
-    vec_len t.window.buffer ≡ l.bsize → WindowHolds d'.contents t.window → IsReady l d w →
+    KeepsTable l d'.contents t → IsReady l d w →
     IsReady l d' (record w { windows = record w.windows { table = t } })
-ready_table l d d' w t e size room holds r =
+ready_table l d d' w t e size kept r =
     let m = r.made in
     record {
       made = search rules;
       volume = rw size r.volume;
-      windows = record { table = holds; blocks = rw e r.windows.blocks; chunk = rw e r.windows.chunk };
+      windows = record { table = kept.holds; blocks = rw e r.windows.blocks; chunk = rw e r.windows.chunk };
     }
 
 -- or where an inode begins
@@ -186,7 +187,7 @@ ready_stored l d number class i u w s e r =
         cut = stored_length u.cut w.cut number _ _ m.cut s.cut;
         parents = ap (λ x. vec_len x.parents) e ∙ m.parents;
         queue = ap (λ x. vec_len x.queue) e ∙ m.queue;
-        table = ap (λ x. vec_len x.windows.table.window.buffer) e ∙ m.table;
+        table = rw same m.table;
         blocks = ap (λ x. vec_len x.windows.blocks.buffer) e ∙ m.blocks;
         chunk = ap (λ x. vec_len x.windows.chunk.buffer) e ∙ m.chunk;
       };

@@ -6,6 +6,7 @@ use Rattle.ffs_volume.specs.Blocks.Inodes.{is_allocated}
 use Rattle.ffs_volume.specs.declared.Layout.{Layout}
 use Rattle.ffs_groups.specs.Inodes.{class_in}
 use Rattle.ffs_walk.specs.Windows.{WindowHolds}
+use Rattle.ffs_workspace.specs.Tables.{IsTableOf}
 use Rattle.ffs_workspace.specs.declared.workspace.Windows.{Windows}
 use Rattle.ffs_workspace.specs.declared.workspace.Workspace.{Workspace}
 
@@ -15,7 +16,7 @@ pub record AreReady (v : Layout) (d : Device) (w : Windows) (used : FragmentMap)
   pub fragments : used.size ≡ v.size
   pub inodes : length kinds ≡ v.ncg * v.ipg
   pub volume : v.size * v.fsize ≤ d.size
-  pub table : vec_len w.table.window.buffer ≡ v.bsize
+  pub table : IsTableOf v w.table
   pub chunk : vec_len w.chunk.buffer ≡ v.bsize
   pub table_holds : WindowHolds d.contents w.table.window
   pub chunk_holds : WindowHolds d.contents w.chunk

@@ -42,6 +42,7 @@ pub fn read_group<I: Image>(
     ensures read { ReadAfter (I.device image.old) (I.device image.new) result }
 {
     let place = geometry.summary_place(group);
+    windows.table.forget();
     windows.table.window.fill(image, place, 16)?;
     let place = geometry.group_place(group);
     windows

@@ -1,5 +1,6 @@
 -- What a memory granted, and how often it refused.
-use Rattle.std.specs.Prelude.{◌≡◌, ◌+◌, ◌-◌, ◌^◌, ◌<◌, ◌≤◌, ℕ, min, Result, MatchResult}
+use Rattle.std.specs.Prelude.{◌≡◌, ◌+◌, ◌-◌, ◌^◌, ◌<◌, ◌≤◌, ℕ, min, replicate, vec_len, Result, MatchResult}
+use Rattle.ffs_memory.specs.declared.fixed_list.FixedList.{FixedList}
 
 -- the bytes that it granted so far, and how many requests it refused
 pub record Account : Type 0 where
@@ -20,6 +21,25 @@ pub record Granted (old new : Account) (bytes : ℕ) : Type 0 where
 pub record GaveUp (old new : Account) (limit : ℕ) : Type 0 where
   pub most : new.granted ≤ old.granted + limit
   pub rose : Rose old.refused new.refused
+
+-- a request was refused, and so nothing was granted
+pub record Refused (old new : Account) : Type 0 where
+  pub granted : new.granted ≡ old.granted
+  pub rose : Rose old.refused new.refused
+
+-- the list has n elements, and each is x
+pub record IsFilled {A : Type 0} (n : ℕ) (x : A) (list : FixedList A) : Type 0 where
+  pub items : list.items ≡ replicate n x
+  pub len : vec_len list ≡ n
+
+-- such a list was granted as these bytes
+pub record Given {A : Type 0} (old new : Account) (n bytes : ℕ) (x : A) (list : FixedList A) : Type 0 where
+  pub filled : IsFilled n x list
+  pub granted : Granted old new bytes
+
+-- the outcome of one request for a list
+abbrev pub Gives : {A E : Type 0} → Account → Account → ℕ → ℕ → A → Result (FixedList A) E → Type 0
+Gives old new n bytes x result = MatchResult result (Given old new n bytes x) (λ _. Refused old new)
 
 -- the outcome of asking for these bytes, in one request or in several
 abbrev pub Asks : {T E : Type 0} → Account → Account → ℕ → Result T E → Type 0

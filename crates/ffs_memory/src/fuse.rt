@@ -1,6 +1,6 @@
 // A memory that refuses a request where it is reported to.
-ghost use Rattle.std.specs.Prelude.{◌≡◌, ◌+◌, ◌-◌, ◌*◌, ◌^◌, min, if◌then◌else◌, vec_len, IfOk, OnErr, replicate, false};
-ghost use Rattle.ffs_memory.specs.Account.{Asks};
+ghost use Rattle.std.specs.Prelude.{◌≡◌, ◌+◌, ◌-◌, ◌*◌, ◌^◌, min, if◌then◌else◌, false};
+ghost use Rattle.ffs_memory.specs.Account.{Gives};
 ghost use Rattle.ffs_memory.specs.Fuse.{Burns, is_blown, left_after};
 
 use crate::fixed_list::FixedList;
@@ -19,8 +19,7 @@ pub struct FuseMemory<M> {
 impl<M: Memory> FuseMemory<M> {
     /// Refuses the k-th request from now on, from 1, and no other.
     pub fn nth(inner: M, k: u64) -> FuseMemory<M>
-        ensures inner { result.inner ≡ inner }
-        ensures left { result.left ≡ k }
+        ensures made { result ≡ record { inner = inner; left = k; own = 0 } }
         ensures account { ⟦<FuseMemory<M> as Memory>⟧.account result ≡ M.account inner }
     {
         let _bounded = inner.refused();
@@ -34,10 +33,11 @@ impl<M: Memory> FuseMemory<M> {
     // Counts a request: whether it is the one to be refused, which is counted too.
     fn blows(&mut self) -> bool
         ensures value { result ≡ is_blown self.old.left }
-        ensures left { self.new.left ≡ left_after self.old.left }
-        ensures own { self.new.own ≡ (if result then min (self.old.own + 1) (2 ^ 64 - 1) else
-            self.old.own) }
-        ensures inner { self.new.inner ≡ self.old.inner }
+        ensures counted { self.new ≡ record self.old {
+          left = left_after self.old.left;
+          own =
+              if result then min (self.old.own + 1) (2 ^ 64 - 1) else self.old.own;
+        } }
     {
         let is_last = self.left == 1;
         self.left = self.left.saturating_sub(1);
@@ -62,12 +62,8 @@ impl<M: Memory> Memory for FuseMemory<M> {
     }
 
     fn bytes(&mut self, n: usize) -> Result<FixedList<u8>, AllocError>
-        ensures items { IfOk result (λ v. v.items ≡ replicate n 0) }
-        ensures len { IfOk result (λ v. vec_len v ≡ n) }
-        ensures asks { Asks (⟦<FuseMemory<M> as Memory>⟧.account self.old)
-            (⟦<FuseMemory<M> as Memory>⟧.account self.new) n result }
-        ensures err { OnErr result ((⟦<FuseMemory<M> as Memory>⟧.account self.new).granted
-            ≡ (⟦<FuseMemory<M> as Memory>⟧.account self.old).granted) }
+        ensures given { Gives (⟦<FuseMemory<M> as Memory>⟧.account self.old)
+            (⟦<FuseMemory<M> as Memory>⟧.account self.new) n n 0 result }
         ensures fuse { Burns M.account self.old self.new n result }
     {
         if self.blows() {
@@ -77,12 +73,8 @@ impl<M: Memory> Memory for FuseMemory<M> {
     }
 
     fn flags(&mut self, n: usize) -> Result<FixedList<bool>, AllocError>
-        ensures items { IfOk result (λ v. v.items ≡ replicate n false) }
-        ensures len { IfOk result (λ v. vec_len v ≡ n) }
-        ensures asks { Asks (⟦<FuseMemory<M> as Memory>⟧.account self.old)
-            (⟦<FuseMemory<M> as Memory>⟧.account self.new) n result }
-        ensures err { OnErr result ((⟦<FuseMemory<M> as Memory>⟧.account self.new).granted
-            ≡ (⟦<FuseMemory<M> as Memory>⟧.account self.old).granted) }
+        ensures given { Gives (⟦<FuseMemory<M> as Memory>⟧.account self.old)
+            (⟦<FuseMemory<M> as Memory>⟧.account self.new) n n false result }
         ensures fuse { Burns M.account self.old self.new n result }
     {
         if self.blows() {
@@ -92,12 +84,8 @@ impl<M: Memory> Memory for FuseMemory<M> {
     }
 
     fn words(&mut self, n: usize) -> Result<FixedList<u32>, AllocError>
-        ensures items { IfOk result (λ v. v.items ≡ replicate n 0) }
-        ensures len { IfOk result (λ v. vec_len v ≡ n) }
-        ensures asks { Asks (⟦<FuseMemory<M> as Memory>⟧.account self.old)
-            (⟦<FuseMemory<M> as Memory>⟧.account self.new) (4 * n) result }
-        ensures err { OnErr result ((⟦<FuseMemory<M> as Memory>⟧.account self.new).granted
-            ≡ (⟦<FuseMemory<M> as Memory>⟧.account self.old).granted) }
+        ensures given { Gives (⟦<FuseMemory<M> as Memory>⟧.account self.old)
+            (⟦<FuseMemory<M> as Memory>⟧.account self.new) n (4 * n) 0 result }
         ensures fuse { Burns M.account self.old self.new (4 * n) result }
     {
         if self.blows() {
@@ -107,12 +95,8 @@ impl<M: Memory> Memory for FuseMemory<M> {
     }
 
     fn long_words(&mut self, n: usize) -> Result<FixedList<u64>, AllocError>
-        ensures items { IfOk result (λ v. v.items ≡ replicate n 0) }
-        ensures len { IfOk result (λ v. vec_len v ≡ n) }
-        ensures asks { Asks (⟦<FuseMemory<M> as Memory>⟧.account self.old)
-            (⟦<FuseMemory<M> as Memory>⟧.account self.new) (8 * n) result }
-        ensures err { OnErr result ((⟦<FuseMemory<M> as Memory>⟧.account self.new).granted
-            ≡ (⟦<FuseMemory<M> as Memory>⟧.account self.old).granted) }
+        ensures given { Gives (⟦<FuseMemory<M> as Memory>⟧.account self.old)
+            (⟦<FuseMemory<M> as Memory>⟧.account self.new) n (8 * n) 0 result }
         ensures fuse { Burns M.account self.old self.new (8 * n) result }
     {
         if self.blows() {

@@ -1,6 +1,6 @@
 // What grants memory, by what it answers.
-ghost use Rattle.std.specs.Prelude.{◌≡◌, ◌*◌, vec_len, IfOk, OnErr, replicate, false};
-ghost use Rattle.ffs_memory.specs.Account.{Account, Asks};
+ghost use Rattle.std.specs.Prelude.{◌≡◌, ◌*◌, false};
+ghost use Rattle.ffs_memory.specs.Account.{Account, Gives};
 
 use crate::fixed_list::FixedList;
 use std::alloc::AllocError;
@@ -19,29 +19,17 @@ pub trait Memory {
 
     /// So many bytes, each 0.
     fn bytes(&mut self, n: usize) -> Result<FixedList<u8>, AllocError>
-        ensures items { IfOk result (λ v. v.items ≡ replicate n 0) }
-        ensures len { IfOk result (λ v. vec_len v ≡ n) }
-        ensures asks { Asks (account self.old) (account self.new) n result }
-        ensures err { OnErr result ((account self.new).granted ≡ (account self.old).granted) };
+        ensures { Gives (account self.old) (account self.new) n n 0 result };
 
     /// So many flags of a byte each, all false.
     fn flags(&mut self, n: usize) -> Result<FixedList<bool>, AllocError>
-        ensures items { IfOk result (λ v. v.items ≡ replicate n false) }
-        ensures len { IfOk result (λ v. vec_len v ≡ n) }
-        ensures asks { Asks (account self.old) (account self.new) n result }
-        ensures err { OnErr result ((account self.new).granted ≡ (account self.old).granted) };
+        ensures { Gives (account self.old) (account self.new) n n false result };
 
     /// So many words of 32 bits, each 0.
     fn words(&mut self, n: usize) -> Result<FixedList<u32>, AllocError>
-        ensures items { IfOk result (λ v. v.items ≡ replicate n 0) }
-        ensures len { IfOk result (λ v. vec_len v ≡ n) }
-        ensures asks { Asks (account self.old) (account self.new) (4 * n) result }
-        ensures err { OnErr result ((account self.new).granted ≡ (account self.old).granted) };
+        ensures { Gives (account self.old) (account self.new) n (4 * n) 0 result };
 
     /// So many words of 64 bits, each 0.
     fn long_words(&mut self, n: usize) -> Result<FixedList<u64>, AllocError>
-        ensures items { IfOk result (λ v. v.items ≡ replicate n 0) }
-        ensures len { IfOk result (λ v. vec_len v ≡ n) }
-        ensures asks { Asks (account self.old) (account self.new) (8 * n) result }
-        ensures err { OnErr result ((account self.new).granted ≡ (account self.old).granted) };
+        ensures { Gives (account self.old) (account self.new) n (8 * n) 0 result };
 }

@@ -1,6 +1,5 @@
 // The memory of the system.
 ghost use Rattle.std.specs.Prelude.{◌≡◌, ◌+◌, ◌-◌, ◌^◌, min};
-ghost use Rattle.ffs_memory.specs.Account.{Rose};
 
 use crate::fixed_list::FixedList;
 use crate::memory::Memory;
@@ -17,8 +16,7 @@ pub struct SystemMemory {
 impl SystemMemory {
     /// The memory of this allocator, of which nothing was granted or refused yet.
     pub fn new(alloc: Global) -> SystemMemory
-        ensures granted { result.granted ≡ 0 }
-        ensures refused { result.refused ≡ 0 }
+        ensures { result ≡ record { alloc = alloc; granted = 0; refused = 0 } }
     {
         SystemMemory {
             alloc,
@@ -29,16 +27,16 @@ impl SystemMemory {
 
     // Counts a request of so many bytes that was granted.
     fn grant(&mut self, bytes: u64)
-        ensures granted { self.new.granted ≡ min (self.old.granted + bytes) (2 ^ 64 - 1) }
-        ensures refused { self.new.refused ≡ self.old.refused }
+        ensures { self.new
+            ≡ record self.old { granted = min (self.old.granted + bytes) (2 ^ 64 - 1) } }
     {
         self.granted = self.granted.saturating_add(bytes);
     }
 
     // Counts a request that was refused.
     fn refuse(&mut self, fault: AllocError) -> AllocError
-        ensures granted { self.new.granted ≡ self.old.granted }
-        ensures refused { Rose self.old.refused self.new.refused }
+        ensures { self.new
+            ≡ record self.old { refused = min (self.old.refused + 1) (2 ^ 64 - 1) } }
     {
         self.refused = self.refused.saturating_add(1);
         fault

@@ -10,6 +10,7 @@ use Rattle.ffs_volume.specs.Encodings.Replay.{cut_at}
 use Rattle.ffs_walk.specs.Windows.{BlocksHold, WindowHolds}
 use Rattle.ffs_volume.specs.Encodings.Kinds.{kind_at}
 use Rattle.ffs_workspace.specs.Lengths.{inodes_of}
+use Rattle.ffs_workspace.specs.Tables.{IsTableOf}
 use Rattle.ffs_names.specs.RightShapes.{is_right_directory}
 use Rattle.ffs_workspace.specs.declared.workspace.Windows.{Windows}
 
@@ -39,7 +40,7 @@ dir_sound t b = is_right_directory (volume_of t.layout b)
 -- the windows have room, and hold what the image gives; its lists have a place for each inode
 pub record IsReady (v : Layout) (device : Device) (windows : Windows) (kinds cut : List ℕ) : Type 0 where
   pub volume : v.size * v.fsize ≤ device.size
-  pub table : vec_len windows.table.window.buffer ≡ v.bsize
+  pub table : IsTableOf v windows.table
   pub blocks : vec_len windows.blocks.buffer ≡ 3 * v.bsize
   pub chunk : vec_len windows.chunk.buffer ≡ v.bsize
   pub table_holds : WindowHolds device.contents windows.table.window

@@ -13,6 +13,7 @@ use Rattle.ffs_walk.specs.Windows.{BlocksHold, WindowHolds}
 use Rattle.ffs_workspace.specs.declared.workspace.Windows.{Windows}
 use Rattle.ffs_workspace.specs.declared.workspace.Workspace.{Workspace}
 use Rattle.ffs_workspace.specs.Holds.{bool_at}
+use Rattle.ffs_workspace.specs.Tables.{IsTableOf}
 
 -- the name of the first plain entry that names an inode, empty if there is none
 abbrev pub name_in : ℕ → List RoledEntry → List ℕ
@@ -21,7 +22,7 @@ name_in d es = name_of (option_and_then (roled_at es) (first_index (names d) es)
 -- the windows are a block's, and hold what the image gives, which has all of the volume
 pub record AreOpen (v : Layout) (d : Device) (w : Windows) : Type 0 where
   pub volume : v.size * v.fsize ≤ d.size
-  pub table : vec_len w.table.window.buffer ≡ v.bsize
+  pub table : IsTableOf v w.table
   pub blocks : vec_len w.blocks.buffer ≡ 3 * v.bsize
   pub chunk : vec_len w.chunk.buffer ≡ v.bsize
   pub table_holds : WindowHolds d.contents w.table.window

@@ -1,8 +1,8 @@
 -- Where inodes are in the blocks of their tables.
-use Rattle.std.proofs.Common.{◌≡◌, ℕ, suc, ◌+◌, ◌-◌, ◌*◌, ◌/◌, ◌%◌, ◌<◌, ◌≤◌, true, List, take, drop, arith, ap, ◌∙◌}
+use Rattle.std.proofs.Common.{◌≡◌, ℕ, suc, ◌+◌, ◌-◌, ◌*◌, ◌/◌, ◌%◌, ◌<◌, ◌≤◌, true, Option, List, take, drop, arith, ap, ◌∙◌}
 use Rattle.std.proofs.Common.{sym}
 use Rattle.std.proofs.Math.Nat.{mul-le-mul_right, mul-div_cancel, mul_comm, mul_assoc, div-add-mod', mod-lt}
-use Rattle.std.proofs.lemmas.Nat.{div_below}
+use Rattle.std.proofs.lemmas.Nat.{div_below, div-mul-add, mod-mul-add}
 use Rattle.std.proofs.lemmas.List.{drop-take, take-take, drop-drop}
 use Rattle.std.proofs.lemmas.Bool.Decides.{nat_tests}
 use Rattle.ffs_volume.specs.declared.Layout.{Layout}
@@ -13,6 +13,9 @@ use Rattle.ffs_volume.specs.Disk.Numbers.{piece}
 use Rattle.ffs_volume.specs.Disk.Areas.{cgstart, cgdmin, inode_place}
 use Rattle.ffs_volume.specs.Disk.Outcome.{is_block_size, has_valid_sizes, is_valid_layout}
 use Rattle.ffs_volume.specs.Disk.Geometry.{IsValidLayout}
+use Rattle.ffs_walk.specs.Windows.{WindowHolds}
+use Rattle.ffs_workspace.specs.declared.table.Table.{Table}
+use Rattle.ffs_workspace.specs.Tables.{table_block_place, HasInode, IsInPlace, IsTableOf, IsHeldAt}
 
 -- a block holds whole inodes
 block_whole : (n : ℕ) → is_block_size n ≡ true → 128 * (n / 128) ≡ n
@@ -33,12 +36,6 @@ inodes_whole v g =
     let same : v.inopb ≡ v.bsize / 128 = g.sizes.inopb in
     let whole : 128 * (v.bsize / 128) ≡ v.bsize = block_whole v.bsize size in
     rw same whole
-
--- a place in a table, by its block
-split : (i n b : ℕ) → 128 * n ≡ b → i / n * b + 128 * (i % n) ≡ 128 * i
-split i n b e =
-    let whole : n * (i / n) + i % n ≡ i = grind (arith, div-add-mod' i n) in
-    rw (← e) (grind (arith, whole))
 
 -- a whole number of blocks
 whole_blocks : (ipg n : ℕ) → ipg % n ≡ 0 → n * (ipg / n) ≡ ipg
@@ -84,19 +81,37 @@ block_inside v x g group =
     let scaled : cgdmin v (x / v.ipg) * v.fsize ≤ v.size * v.fsize = mul-le-mul_right v.fsize within in
     grind (arith)
 
--- where the inode is in it
-pub block_of : (v : Layout) (x : ℕ) → IsValidLayout v →
-    (cgstart v (x / v.ipg) + v.iblkno) * v.fsize + x % v.ipg / v.inopb * v.bsize + 128 * (x % v.ipg % v.inopb)
-    ≡ inode_place v x
-block_of v x g =
-    let place = split (x % v.ipg) v.inopb v.bsize (inodes_whole v g) in
-    omega arith
+-- the numbers of the block of x, in blocks of n: each is in the same table of ipg, and in the same block of it
+in_block : (x y ipg n : ℕ) → 0 < n → 0 < ipg → ipg % n ≡ 0 → x - x % ipg % n ≤ y → y < x - x % ipg % n + n →
+    (y / ipg ≡ x / ipg) × (y % ipg ≡ x % ipg / n * n + (y - (x - x % ipg % n)))
+in_block x y ipg n some filled whole low high =
+    let below : x % ipg < ipg = mod-lt x filled in
+    let all : n * (ipg / n) ≡ ipg = whole_blocks ipg n whole in
+    let less : x % ipg / n < ipg / n = div_below (x % ipg) n (ipg / n) some (omega (arith, mul_comm n (ipg / n))) in
+    let more : suc (x % ipg / n) * n ≤ ipg / n * n = mul-le-mul_right n less in
+    let ends : x % ipg / n * n + n ≤ ipg = omega (arith, mul_comm n (ipg / n)) in
+    let table : x / ipg * ipg + x % ipg ≡ x = omega (arith, div-add-mod' x ipg, mul_comm ipg (x / ipg)) in
+    let block : x % ipg / n * n + x % ipg % n ≡ x % ipg =
+    omega (arith, div-add-mod' (x % ipg) n, mul_comm n (x % ipg / n)) in
+    let within = x % ipg / n * n + (y - (x - x % ipg % n)) in
+    let small : within < ipg = omega arith in
+    let is : y ≡ x / ipg * ipg + within = omega arith in (
+      ap (λ (m : ℕ). m / ipg) is ∙ div-mul-add (x / ipg) ipg within small,
+      ap (λ (m : ℕ). m % ipg) is ∙ mod-mul-add (x / ipg) ipg within small,
+    )
 
-pub inside_block : (v : Layout) (x : ℕ) → IsValidLayout v → 128 * (x % v.ipg % v.inopb) + 128 ≤ v.bsize
-inside_block v x g =
+-- the block of x has each of its inodes in its place
+pub inodes_there : (v : Layout) (x : ℕ) (t : Table) → IsValidLayout v → t.first ≡ x - x % v.ipg % v.inopb →
+    t.count ≡ v.inopb → t.window.place ≡ table_block_place v x → t.window.length ≡ v.bsize →
+    (y : ℕ) → HasInode t y → IsInPlace v t y
+inodes_there v x t g first count place length y has =
     let same : 128 * v.inopb ≡ v.bsize = inodes_whole v g in
-    let low : x % v.ipg % v.inopb < v.inopb = mod-lt (x % v.ipg) (omega arith) in
-    omega arith
+    let low : x - x % v.ipg % v.inopb ≤ y = omega arith in
+    let high : y < x - x % v.ipg % v.inopb + v.inopb = omega arith in
+    let it = in_block x y v.ipg v.inopb (omega arith) g.sizes.some_inodes g.sizes.inode_blocks low high in
+    let spread : x % v.ipg / v.inopb * v.bsize ≡ 128 * (x % v.ipg / v.inopb * v.inopb) =
+    rw (← same) (grind (arith, mul_comm, mul_assoc)) in
+    record { place = rw (it.0, it.1) (omega arith); inside = omega arith }
 
 -- a piece of a piece
 pub piece_of : (place length at n : ℕ) (bytes : List ℕ) → at + n ≤ length → piece at n (piece place length bytes)
@@ -108,19 +123,21 @@ piece_of place length at n bytes h =
     ∙ take-take n (length - at) (drop at (drop place bytes)) (omega arith)
     ∙ ap (λ (xs : List ℕ). take n xs) (drop-drop at place bytes)
 
--- the bytes of an inode, in its block
-pub bytes_there : (v : Layout) (x place at : ℕ) (bytes held : List ℕ) → IsValidLayout v →
-    at ≡ 128 * (x % v.ipg % v.inopb) →
-    place + 128 * (x % v.ipg % v.inopb) ≡ inode_place v x → held ≡ piece place v.bsize bytes →
-    slice_range held at (at + 128) ≡ piece (inode_place v x) 128 bytes
-bytes_there v x place at bytes held g is_at is_place is_held =
-    let inside : at + 128 ≤ v.bsize = omega (arith, inside_block v x g) in
-    let same : place + at ≡ inode_place v x = omega arith in
-    let many : at + 128 - at ≡ 128 = omega arith in
-    ap (λ (xs : List ℕ). slice_range xs at (at + 128)) is_held
-    ∙ ap (λ (n : ℕ). take n (drop at (piece place v.bsize bytes))) many
-    ∙ piece_of place v.bsize at 128 bytes inside
-    ∙ ap (λ (n : ℕ). piece n 128 bytes) same
+-- the bytes of an inode that is in its place
+pub held_there : (v : Layout) (contents : Option (List ℕ)) (x : ℕ) (t : Table) → IsTableOf v t →
+    WindowHolds contents t.window → HasInode t x → IsHeldAt v contents t x (128 * (x - t.first))
+held_there v contents x t made holds has =
+    let in_place = made.inodes x has in
+    let at = 128 * (x - t.first) in
+    record {
+      inside = in_place.inside;
+      bytes = λ b is.
+          let many : at + 128 - at ≡ 128 = omega arith in
+          ap (λ (xs : List ℕ). slice_range xs at (at + 128)) (holds.bytes b is)
+          ∙ ap (λ (n : ℕ). take n (drop at (piece t.window.place t.window.length b))) many
+          ∙ piece_of t.window.place t.window.length at 128 b in_place.inside
+          ∙ ap (λ (n : ℕ). piece n 128 b) in_place.place;
+    }
 
 -- a value of the bytes of an inode that are held is its value of the inode
 pub inode_there : {T : Type 0} (value : Inode → T) (v : Layout) (x at : ℕ) (bytes held held' : List ℕ) (i : T) →

@@ -5,6 +5,7 @@ use Rattle.ffs_volume.specs.declared.Layout.{Layout}
 use Rattle.ffs_maps.specs.Bits.{bits_of}
 use Rattle.ffs_walk.specs.Windows.{WindowHolds, BlocksHold}
 use Rattle.ffs_workspace.specs.declared.workspace.Workspace.{Workspace}
+use Rattle.ffs_workspace.specs.Tables.{IsTableOf}
 
 -- how many inodes a volume has
 abbrev pub inodes_of : Layout → ℕ
@@ -28,7 +29,7 @@ pub record IsFor (v : Layout) (w : Workspace) : Type 0 where
   pub cut : vec_len w.cut ≡ inodes_of v
   pub parents : vec_len w.parents ≡ inodes_of v
   pub queue : vec_len w.queue ≡ inodes_of v
-  pub table : vec_len w.windows.table.window.buffer ≡ v.bsize
+  pub table : IsTableOf v w.windows.table
   pub blocks : vec_len w.windows.blocks.buffer ≡ 3 * v.bsize
   pub chunk : vec_len w.windows.chunk.buffer ≡ v.bsize
 

@@ -1,3 +1,4 @@
+pub mod Tables
 pub mod Lengths
 pub mod Holds
 pub mod Leaves

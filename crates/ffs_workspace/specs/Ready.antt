@@ -1,12 +1,33 @@
--- A workspace that is ready for the volume of an image.
-use Rattle.std.specs.Prelude.{◌*◌, ◌≤◌}
+-- A workspace as it is made, and one that is ready for the volume of an image.
+use Rattle.std.specs.Prelude.{◌≡◌, ◌*◌, ◌≤◌, ℕ, List, Option, vec_len}
 use Rattle.ffs_image.specs.Device.{Device}
 use Rattle.ffs_volume.specs.declared.Layout.{Layout}
+use Rattle.ffs_walk.specs.Windows.{WindowHolds, BlocksHold}
+use Rattle.ffs_workspace.specs.declared.workspace.Windows.{Windows}
 use Rattle.ffs_workspace.specs.declared.workspace.Workspace.{Workspace}
+use Rattle.ffs_workspace.specs.Holds.{IsFresh}
 use Rattle.ffs_workspace.specs.Lengths.{IsFor, HoldWindows}
+use Rattle.ffs_workspace.specs.Tables.{IsTableOf}
 
 -- its lists have the lengths of the volume, the image has all of the volume, and its windows hold what the image gives
 pub record IsReady (v : Layout) (d : Device) (w : Workspace) : Type 0 where
   pub made : IsFor v w
   pub volume : v.size * v.fsize ≤ d.size
   pub windows : HoldWindows v d.contents w
+
+-- its lists have the lengths of the volume, nothing was found yet, and its windows hold what any image gives
+pub record IsNew (v : Layout) (w : Workspace) : Type 0 where
+  pub made : IsFor v w
+  pub fresh : IsFresh v w
+  pub runs_seen : w.runs_seen ≡ 0
+  pub runs_again : w.runs_again ≡ 0
+  pub windows : (contents : Option (List ℕ)) → HoldWindows v contents w
+
+-- the windows have room for five blocks, and hold what any image gives
+pub record AreNewWindows (v : Layout) (w : Windows) : Type 0 where
+  pub table : IsTableOf v w.table
+  pub blocks : vec_len w.blocks.buffer ≡ 3 * v.bsize
+  pub chunk : vec_len w.chunk.buffer ≡ v.bsize
+  pub table_holds : (contents : Option (List ℕ)) → WindowHolds contents w.table.window
+  pub blocks_hold : (contents : Option (List ℕ)) → BlocksHold v contents w.blocks
+  pub chunk_holds : (contents : Option (List ℕ)) → WindowHolds contents w.chunk

@@ -1,26 +1,24 @@
 //! Inodes, read by blocks of their table.
 
-ghost use Rattle.std.specs.Prelude.{◌≡◌, ◌*◌, ◌+◌, ◌%◌, ◌<◌, ◌≤◌, vec_len, OnOk, IfOk, IfErr};
-ghost use Rattle.std.specs.List.{slice_range};
-ghost use Rattle.ffs_image.specs.Device.{Faulted, ForContents};
-ghost use Rattle.ffs_volume.specs.Disk.Areas.{inode_place};
-ghost use Rattle.ffs_volume.specs.Disk.Numbers.{piece};
+ghost use Rattle.std.specs.Prelude.{◌≡◌, ◌*◌, ◌+◌, ◌<◌, ◌≤◌, IfOk, OnOk, IsTrue};
+ghost use Rattle.ffs_image.specs.Device.{ForContents};
+ghost use Rattle.ffs_image.specs.Reads.{ReadAfter};
 ghost use Rattle.ffs_volume.specs.Blocks.Inodes.{inode_of};
-ghost use Rattle.ffs_walk.specs.Windows.{WindowHolds, held_bytes};
+ghost use Rattle.ffs_workspace.specs.Tables.{table_block_place};
 
 use ffs_image::{Image, ImageFault};
 use ffs_layout::{Geometry, decode_inode};
+use ffs_memory::FixedList;
 use ffs_volume::Inode;
 use ffs_volume::constants::DINODE_SIZE;
 use ffs_walk::Window;
 
 /// Where the block of the inode table is that has an inode, in bytes.
 #[inline(always)]
-#[tactic(auto, using(crate::proofs::Places::block_inside, crate::proofs::Places::block_of, ffs_volume::proofs::AreaLaws::inode_group))]
+#[tactic(auto, using(crate::proofs::Places::block_inside, ffs_volume::proofs::AreaLaws::inode_group))]
 fn block_place(geometry: &Geometry, number: u32) -> u64
     requires { number < geometry.now.layout.ncg * geometry.now.layout.ipg }
-    ensures value { result + 128 * (number % geometry.now.layout.ipg % geometry.now.layout.inopb)
-        ≡ inode_place geometry.now.layout number }
+    ensures value { result ≡ table_block_place geometry.now.layout number }
     ensures inside { result + geometry.now.layout.bsize
         ≤ geometry.now.layout.size * geometry.now.layout.fsize }
 {
@@ -34,9 +32,62 @@ fn block_place(geometry: &Geometry, number: u32) -> u64
 #[derive(Drop)]
 pub struct Table {
     pub window: Window,
+    /// The inodes of the block that the window holds: the number of the first, and how many.
+    pub first: u32,
+    pub count: u32,
 }
 
 impl Table {
+    ghost use Rattle.ffs_workspace.specs.Tables.{CanReadInodes, HasInode, IsEmptyTable, IsHeldAt, KeepsTable};
+
+    /// A table that holds no inode. It takes no memory.
+    pub fn over(buffer: FixedList<u8>) -> Table
+        ensures { IsEmptyTable buffer result }
+    {
+        Table {
+            window: Window::over(buffer),
+            first: 0,
+            count: 0,
+        }
+    }
+
+    // Whether the window holds the block with an inode.
+    #[inline(always)]
+    fn has(&self, number: u32) -> bool
+        ensures { IsTrue result → HasInode self.now number }
+    {
+        self.first <= number && number - self.first < self.count
+    }
+
+    /// Forgets which inodes the window holds, so that it may be used for other bytes.
+    pub fn forget(&mut self)
+        ensures { self.new ≡ record self.old { count = 0 } }
+    {
+        self.count = 0;
+    }
+
+    // Reads the block of the table that has an inode.
+    fn read_block<I: Image>(
+        &mut self,
+        geometry: &Geometry,
+        number: u32,
+        image: &mut I,
+    ) -> Result<(), ImageFault>
+        requires number { number < geometry.now.layout.ncg * geometry.now.layout.ipg }
+        requires ready { CanReadInodes geometry.now.layout (I.device image.old) self.old }
+        ensures has { OnOk result (HasInode self.new number) }
+        ensures kept { KeepsTable geometry.now.layout (I.device image.new).contents self.new }
+        ensures read { ReadAfter (I.device image.old) (I.device image.new) result }
+    {
+        let place = block_place(geometry, number);
+        self.forget();
+        self.window
+            .fill(image, place, geometry.layout.bsize as usize)?;
+        self.first = number - number % geometry.layout.ipg % geometry.layout.inopb;
+        self.count = geometry.layout.inopb;
+        Ok(())
+    }
+
     // Reads the block of the table that has an inode, unless it is the one that was read last. Its answer is where the inode's
     // bytes are in the window.
     #[inline(always)]
@@ -47,30 +98,20 @@ impl Table {
         image: &mut I,
     ) -> Result<usize, ImageFault>
         requires number { number < geometry.now.layout.ncg * geometry.now.layout.ipg }
-        requires volume { geometry.now.layout.size * geometry.now.layout.fsize
-            ≤ (I.device image.old).size }
-        requires room { vec_len self.old.window.buffer ≡ geometry.now.layout.bsize }
-        requires holds { WindowHolds (I.device image.old).contents self.old.window }
-        ensures inside { IfOk result (λ at. at + 128 ≤ self.new.window.length) }
-        ensures bytes { IfOk result (λ at. ForContents (I.device image.old).contents (λ bytes.
-            slice_range (held_bytes self.new.window) at (at + 128)
-            ≡ piece (inode_place geometry.now.layout number) 128 bytes)) }
-        ensures room { vec_len self.new.window.buffer ≡ geometry.now.layout.bsize }
-        ensures holds { WindowHolds (I.device image.new).contents self.new.window }
-        ensures ok { OnOk result (I.device image.new ≡ I.device image.old) }
-        ensures err { IfErr result (λ fault. Faulted (I.device image.old) (I.device image.new)
-            fault.sector) }
+        requires ready { CanReadInodes geometry.now.layout (I.device image.old) self.old }
+        ensures there { IfOk result (IsHeldAt geometry.now.layout (I.device image.old).contents
+            self.new number) }
+        ensures kept { KeepsTable geometry.now.layout (I.device image.new).contents self.new }
+        ensures read { ReadAfter (I.device image.old) (I.device image.new) result }
     {
-        let place = block_place(geometry, number);
-        let at = DINODE_SIZE * (number % geometry.layout.ipg % geometry.layout.inopb) as usize;
-        self.window
-            .fill(image, place, geometry.layout.bsize as usize)?;
-        Ok(at)
+        if !self.has(number) {
+            self.read_block(geometry, number, image)?;
+        }
+        Ok(DINODE_SIZE * (number - self.first) as usize)
     }
 
     /// The inode of a number (fs(5)). Its block of the table is read, unless it is the one that was read last.
     #[inline(always)]
-    #[tactic(auto, unfolding(ffs_volume::specs::Blocks::Inodes::inode_of))]
     pub fn inode<I: Image>(
         &mut self,
         geometry: &Geometry,
@@ -78,17 +119,11 @@ impl Table {
         image: &mut I,
     ) -> Result<Inode, ImageFault>
         requires number { number < geometry.now.layout.ncg * geometry.now.layout.ipg }
-        requires volume { geometry.now.layout.size * geometry.now.layout.fsize
-            ≤ (I.device image.old).size }
-        requires room { vec_len self.old.window.buffer ≡ geometry.now.layout.bsize }
-        requires holds { WindowHolds (I.device image.old).contents self.old.window }
+        requires ready { CanReadInodes geometry.now.layout (I.device image.old) self.old }
         ensures inode { IfOk result (λ inode. ForContents (I.device image.old).contents
             (λ bytes. inode ≡ inode_of geometry.now.layout bytes number)) }
-        ensures room { vec_len self.new.window.buffer ≡ geometry.now.layout.bsize }
-        ensures holds { WindowHolds (I.device image.new).contents self.new.window }
-        ensures ok { OnOk result (I.device image.new ≡ I.device image.old) }
-        ensures err { IfErr result (λ fault. Faulted (I.device image.old) (I.device image.new)
-            fault.sector) }
+        ensures kept { KeepsTable geometry.now.layout (I.device image.new).contents self.new }
+        ensures read { ReadAfter (I.device image.old) (I.device image.new) result }
     {
         let at = self.load(geometry, number, image)?;
         let bytes = self.window.bytes();

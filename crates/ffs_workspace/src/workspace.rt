@@ -1,9 +1,9 @@
 //! The memory of a check, taken once.
 
-ghost use Rattle.std.specs.Prelude.{◌≡◌, ◌+◌, ◌*◌, ◌≤◌, ◌==◌, not, ℕ, List, [], ◌∷◌, vec_len, IfOk, Option, replicate, false};
+ghost use Rattle.std.specs.Prelude.{◌≡◌, ◌+◌, ◌*◌, ◌≤◌, ◌==◌, not, [], ◌∷◌, IfOk, false};
 ghost use Rattle.ffs_layout.specs.declared.geometry.Geometry.{Geometry};
 ghost use Rattle.ffs_volume.specs.declared.Layout.{Layout};
-ghost use Rattle.ffs_memory.specs.Account.{Asks};
+ghost use Rattle.ffs_memory.specs.Account.{Asks, IsFilled};
 ghost use Rattle.ffs_volume.specs.Report.Memory.{held_limit};
 
 use crate::table::Table;
@@ -64,17 +64,12 @@ pub struct Workspace {
 }
 
 impl Workspace {
-    ghost use Rattle.ffs_workspace.specs.Holds.{IsFresh};
-    ghost use Rattle.ffs_workspace.specs.Lengths.{IsFor, HoldWindows, held_of};
+    ghost use Rattle.ffs_workspace.specs.Lengths.{IsFor, held_of};
+    ghost use Rattle.ffs_workspace.specs.Ready.{IsNew};
 
     /// Takes all memory of a check of the volume from an allocator, and holds nothing yet. After an `Err` nothing is taken.
     pub fn new(alloc: Global, geometry: &Geometry) -> Result<Workspace, AllocError>
-        ensures made { IfOk result (λ w. IsFor geometry.now.layout w) }
-        ensures fresh { IfOk result (λ w. IsFresh geometry.now.layout w) }
-        ensures runs_seen { IfOk result (λ w. w.runs_seen ≡ 0) }
-        ensures runs_again { IfOk result (λ w. w.runs_again ≡ 0) }
-        ensures windows { (contents : Option (List ℕ))
-            → IfOk result (λ w. HoldWindows geometry.now.layout contents w) }
+        ensures { IfOk result (IsNew geometry.now.layout) }
     {
         Workspace::in_memory(&mut SystemMemory::new(alloc), geometry)
     }
@@ -84,12 +79,7 @@ impl Workspace {
         memory: &mut M,
         geometry: &Geometry,
     ) -> Result<Workspace, AllocError>
-        ensures made { IfOk result (λ w. IsFor geometry.now.layout w) }
-        ensures fresh { IfOk result (λ w. IsFresh geometry.now.layout w) }
-        ensures runs_seen { IfOk result (λ w. w.runs_seen ≡ 0) }
-        ensures runs_again { IfOk result (λ w. w.runs_again ≡ 0) }
-        ensures windows { (contents : Option (List ℕ))
-            → IfOk result (λ w. HoldWindows geometry.now.layout contents w) }
+        ensures new { IfOk result (IsNew geometry.now.layout) }
 
         // What it holds was granted and no byte more, or a request was refused.
         ensures asks { Asks (M.account memory.old) (M.account memory.new)
@@ -162,27 +152,15 @@ impl Workspace {
 }
 
 impl Windows {
-    ghost use Rattle.ffs_walk.specs.Windows.{WindowHolds, BlocksHold};
+    ghost use Rattle.ffs_workspace.specs.Ready.{AreNewWindows};
 
     fn in_memory<M: Memory>(memory: &mut M, geometry: &Geometry) -> Result<Windows, AllocError>
-        ensures table { IfOk result (λ w. vec_len w.table.window.buffer
-            ≡ geometry.now.layout.bsize) }
-        ensures blocks { IfOk result (λ w. vec_len w.blocks.buffer
-            ≡ 3 * geometry.now.layout.bsize) }
-        ensures chunk { IfOk result (λ w. vec_len w.chunk.buffer ≡ geometry.now.layout.bsize) }
-        ensures table_holds { (contents : Option (List ℕ))
-            → IfOk result (λ w. WindowHolds contents w.table.window) }
-        ensures blocks_hold { (contents : Option (List ℕ))
-            → IfOk result (λ w. BlocksHold geometry.now.layout contents w.blocks) }
-        ensures chunk_holds { (contents : Option (List ℕ))
-            → IfOk result (λ w. WindowHolds contents w.chunk) }
+        ensures new { IfOk result (AreNewWindows geometry.now.layout) }
         ensures asks { Asks (M.account memory.old) (M.account memory.new)
             (5 * geometry.now.layout.bsize) result }
     {
         let size = geometry.layout.bsize as usize;
-        let table = Table {
-            window: Window::over(memory.bytes(size)?),
-        };
+        let table = Table::over(memory.bytes(size)?);
         let blocks = Blocks::over(memory.bytes(3 * size)?);
         let chunk = Window::over(memory.bytes(size)?);
         Ok(Windows {
@@ -202,9 +180,8 @@ type Flags = (
 );
 
 fn four_flags<M: Memory>(memory: &mut M, n: usize) -> Result<Flags, AllocError>
-    ensures first { IfOk result (λ p. p.0.items ≡ replicate n false) }
-    ensures lens { IfOk result (λ p. (vec_len p.0 ≡ n) × (vec_len p.1 ≡ n) × (vec_len p.2 ≡ n)
-        × (vec_len p.3 ≡ n)) }
+    ensures lists { IfOk result (λ p. IsFilled n false p.0 × IsFilled n false p.1
+        × IsFilled n false p.2 × IsFilled n false p.3) }
     ensures asks { Asks (M.account memory.old) (M.account memory.new) (4 * n) result }
 {
     let first = memory.flags(n)?;
@@ -218,8 +195,7 @@ fn four_flags<M: Memory>(memory: &mut M, n: usize) -> Result<Flags, AllocError>
 type Words = (FixedList<u32>, FixedList<u32>, FixedList<u32>);
 
 fn three_words<M: Memory>(memory: &mut M, n: usize) -> Result<Words, AllocError>
-    ensures first { IfOk result (λ p. p.0.items ≡ replicate n 0) }
-    ensures lens { IfOk result (λ p. (vec_len p.0 ≡ n) × (vec_len p.1 ≡ n) × (vec_len p.2 ≡ n)) }
+    ensures lists { IfOk result (λ p. IsFilled n 0 p.0 × IsFilled n 0 p.1 × IsFilled n 0 p.2) }
     ensures asks { Asks (M.account memory.old) (M.account memory.new) (12 * n) result }
 {
     let first = memory.words(n)?;

@@ -29,7 +29,7 @@ returns-clause-text g c =
     (λ bytes t. ap (λ (o : Owner). of_lines (owner_lines v s o))
     (owner_is v bytes c.args.number c.in_ok-inode.inode (c.in_ok-inode.ensures.inode bytes t)))
     (reports_knowing (Unit {0}) _ _ _ _ _ c.claim_read_inode.result
-    (λ bytes t. ap (λ d. d.contents) c.in_ok-inode.ensures.ok ∙ t) c.claim_read_inode.ensures.text)
+    (λ bytes t. ap (λ d. d.contents) c.in_ok-inode.ensures.read ∙ t) c.claim_read_inode.ensures.text)
 
 pub returns-clause-claims : goal.returns-clause-claims
 returns-clause-claims g c =
@@ -38,7 +38,7 @@ returns-clause-claims g c =
     ok_where c.claim_read_inode.result _ _
     (λ bytes. claims_of c.claim_read_inode.new.workspace
     ≡ after_owner v s (owner_with v bytes c.args.number c.in_ok-inode.inode)) _
-    (ap (λ d. d.contents) c.in_ok-inode.ensures.ok)
+    (ap (λ d. d.contents) c.in_ok-inode.ensures.read)
     (λ bytes t h. h ∙ ap (λ (o : Owner). after_owner v s o)
     (owner_is v bytes c.args.number c.in_ok-inode.inode (c.in_ok-inode.ensures.inode bytes t)))
     c.claim_read_inode.ensures.claims
@@ -46,11 +46,14 @@ returns-clause-claims g c =
 pub inode-requires : goal.inode-requires
 inode-requires g c =
     let ready = c.requires.ready.claim.ready in
-    record { number = c.requires.ready.number_fits; volume = ready.volume; room = ready.made.table; holds = ready.windows.table }
+    record {
+      number = c.requires.ready.number_fits;
+      ready = record { volume = ready.volume; made = ready.made.table; holds = ready.windows.table };
+    }
 
 pub returns-in_err-inode-clause-left : goal.returns-in_err-inode-clause-left
 returns-in_err-inode-clause-left g c =
-    let err = c.in_err-inode.ensures.err in
+    let err = c.in_err-inode.ensures.read in
     let p = err_from_is_err_and c.from_residual.result c.from_residual.ensures.1 in
     rw (p.1, p.2) (record {
       image = err;
@@ -63,21 +66,21 @@ returns-in_err-inode-clause-left g c =
       again = refl;
       claim = record {
         ready = ready_table c.args.geometry.now.layout (g.I.Image.device c.args.image.now) _ c.args.workspace.now
-            c.inode.new.self err.contents err.size c.inode.ensures.room c.inode.ensures.holds c.requires.ready.claim.ready;
+            c.inode.new.self err.contents err.size c.inode.ensures.kept c.requires.ready.claim.ready;
         only_data = c.requires.ready.claim.only_data;
       };
     })
 
 pub claim_read_inode-requires : goal.claim_read_inode-requires
 claim_read_inode-requires g c =
-    let ok = c.in_ok-inode.ensures.ok in
+    let ok = c.in_ok-inode.ensures.read in
     record {
       ready = record {
         number_fits = c.requires.ready.number_fits;
         runs = c.requires.ready.runs;
         claim = record {
           ready = ready_table c.args.geometry.now.layout (g.I.Image.device c.args.image.now) _ c.args.workspace.now
-              c.inode.new.self (ap (λ d. d.contents) ok) (ap (λ d. d.size) ok) c.inode.ensures.room c.inode.ensures.holds
+              c.inode.new.self (ap (λ d. d.contents) ok) (ap (λ d. d.size) ok) c.inode.ensures.kept
               c.requires.ready.claim.ready;
           only_data = c.requires.ready.claim.only_data;
         };
@@ -88,7 +91,7 @@ pub returns-clause-left : goal.returns-clause-left
 returns-clause-left g c =
     let left = c.claim_read_inode.ensures.left in
     record {
-      image = rw (c.in_ok-inode.ensures.ok) at left.image;
+      image = rw (c.in_ok-inode.ensures.read) at left.image;
       claim = left.claim;
       bound = left.bound;
       moves = left.moves;

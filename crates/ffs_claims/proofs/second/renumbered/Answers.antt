@@ -46,7 +46,7 @@ returns-clause-text g c =
     ∙ ap (λ (i : Inode). of_lines
     (first_offer_lines d (offers_again v n (rescan (slice_index c.args.workspace.now.cut.items n))
     (steps_of v i bytes)))) (c.in_ok-inode.ensures.inode bytes t))
-    (reports_knowing (Unit {0}) _ _ _ _ _ c.rewalk.result (λ bytes t. ap (λ d. d.contents) c.in_ok-inode.ensures.ok ∙ t)
+    (reports_knowing (Unit {0}) _ _ _ _ _ c.rewalk.result (λ bytes t. ap (λ d. d.contents) c.in_ok-inode.ensures.read ∙ t)
     c.rewalk.ensures.text)
 
 pub returns-clause-rewalked : goal.returns-clause-rewalked
@@ -63,7 +63,7 @@ returns-clause-rewalked g c =
     c.rewalk.new.workspace)
     (λ bytes. Rewalked v n (slice_index c.args.workspace.now.cut.items n) (steps_of v (inode_of v bytes n) bytes)
     c.args.workspace.now c.rewalk.new.workspace)
-    (ap (λ d. d.contents) c.in_ok-inode.ensures.ok)
+    (ap (λ d. d.contents) c.in_ok-inode.ensures.read)
     (λ bytes t h. rewalked_from _ _ _ _ c.args.workspace.now _ _ (rw (cut, c.in_ok-inode.ensures.inode bytes t) at h))
     c.rewalk.ensures.rewalked
 
@@ -78,39 +78,42 @@ returns-clause-runs g c = λ bytes t.
     (ap (λ (cuts : List ℕ). slice_index cuts c.args.number) c.as_slice.ensures.value)
     ∙ ap (λ (i : Inode). runs_again v (rescan (slice_index c.args.workspace.now.cut.items n)) (steps_of v i bytes))
     (c.in_ok-inode.ensures.inode bytes t) in
-    omega (arith, c.rewalk.ensures.runs bytes (ap (λ d. d.contents) c.in_ok-inode.ensures.ok ∙ t), same)
+    omega (arith, c.rewalk.ensures.runs bytes (ap (λ d. d.contents) c.in_ok-inode.ensures.read ∙ t), same)
 
 pub inode-requires : goal.inode-requires
 inode-requires g c =
     let ready = c.requires.can.ready in
-    record { number = c.requires.can.number_fits; volume = ready.volume; room = ready.made.table; holds = ready.windows.table }
+    record {
+      number = c.requires.can.number_fits;
+      ready = record { volume = ready.volume; made = ready.made.table; holds = ready.windows.table };
+    }
 
 pub returns-in_err-inode-clause-left : goal.returns-in_err-inode-clause-left
 returns-in_err-inode-clause-left g c =
-    let err = c.in_err-inode.ensures.err in
+    let err = c.in_err-inode.ensures.read in
     let p = err_from_is_err_and c.from_residual.result c.from_residual.ensures.1 in
     rw (p.1, p.2) (record {
       image = err;
       ready = ready_table c.args.geometry.now.layout (g.I.Image.device c.args.image.now) _ c.args.workspace.now
-          c.inode.new.self err.contents err.size c.inode.ensures.room c.inode.ensures.holds c.requires.can.ready;
+          c.inode.new.self err.contents err.size c.inode.ensures.kept c.requires.can.ready;
       claims = claims_still _ _ _ (claims_none c.args.workspace.now);
     })
 
 pub returns-clause-left : goal.returns-clause-left
 returns-clause-left g c =
     record {
-      image = rw (c.in_ok-inode.ensures.ok) at c.rewalk.ensures.left.image;
+      image = rw (c.in_ok-inode.ensures.read) at c.rewalk.ensures.left.image;
       ready = c.rewalk.ensures.left.ready;
       claims = claims_then _ _ _ (claims_still _ _ _ (claims_none c.args.workspace.now)) c.rewalk.ensures.left.claims;
     }
 
 pub rewalk-requires : goal.rewalk-requires
 rewalk-requires g c =
-    let ok = c.in_ok-inode.ensures.ok in
+    let ok = c.in_ok-inode.ensures.read in
     record {
       can = record {
         ready = ready_table c.args.geometry.now.layout (g.I.Image.device c.args.image.now) _ c.args.workspace.now
-            c.inode.new.self (ap (λ d. d.contents) ok) (ap (λ d. d.size) ok) c.inode.ensures.room c.inode.ensures.holds
+            c.inode.new.self (ap (λ d. d.contents) ok) (ap (λ d. d.size) ok) c.inode.ensures.kept
             c.requires.can.ready;
         number_fits = c.requires.can.number_fits;
         pending = c.requires.can.pending;

@@ -1,7 +1,8 @@
-use Rattle.std.proofs.Common.{◌∙◌, ap, sym, rules, arith}
+use Rattle.std.proofs.Common.{◌∙◌, ap, subst, sym, rules, arith}
 use Rattle.std.specs.Prelude.{slice_index}
 use Rattle.std.proofs.lemmas.List.{with_items_is}
 use Rattle.ffs_volume.proofs.Sizes.{some_inodes}
+use Rattle.ffs_workspace.specs.Tables.{IsTableOf}
 use Rattle.ffs_names.proofs.SurveyHolds.{on_ok, volume_in, blocks_in, volume_survey, holds_survey, volume_calm}
 use Rattle.ffs_names.proofs.SurveyHolds.{holds_calm, holds_references}
 use Rattle.ffs_names.proofs.graph.survey.Goals as goal
@@ -16,6 +17,7 @@ returns-clause-ready g c =
     let image = c.image-1.given.1 (sym (ap (λ x. x.image_lent) c.survey.ensures.reader.same)) in
     let same = ap (λ x. x.layout) c.survey.ensures.reader.same in
     let r = c.survey.ensures.reader.is_ready.0 in
+    let table = subst (λ l. IsTableOf l c.survey.new.directories.windows.now.table) same r.table in
     record {
       made = search rules;
       volume = volume_in v _ _ _ same (ap g.I.Image.device image) r.volume;

@@ -18,15 +18,15 @@ returns-then-not-is_dir-clause-rest g c = λ b k.
 pub returns-clause-reader : goal.returns-clause-reader
 returns-clause-reader g c =
     let r = c.requires.ready.0 in
-    let device = c.in_ok-inode.ensures.ok in
+    let device = c.in_ok-inode.ensures.read in
     record {
       is_ready = (
         record {
           volume = rw device r.volume;
-          table = c.inode.ensures.room;
+          table = c.inode.ensures.kept.made;
           blocks = r.blocks;
           chunk = r.chunk;
-          table_holds = c.inode.ensures.holds;
+          table_holds = c.inode.ensures.kept.holds;
           blocks_hold = rw device r.blocks_hold;
           chunk_holds = rw device r.chunk_holds;
           kinds_long = r.kinds_long;

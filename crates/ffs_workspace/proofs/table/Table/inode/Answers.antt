@@ -7,4 +7,4 @@ pub returns-clause-inode : goal.returns-clause-inode
 returns-clause-inode g c = λ bytes t.
     inode_there (λ (i : Inode). i) c.args.geometry.now.layout c.args.number c.in_ok-at.at bytes
     (held_bytes c.load.new.self.window) c.bytes-bytes.result.now c.decode_inode.result
-    c.bytes-bytes.ensures (c.in_ok-at.ensures.bytes bytes t) c.decode_inode.ensures
+    c.bytes-bytes.ensures (c.in_ok-at.ensures.there.bytes bytes t) c.decode_inode.ensures

@@ -1,11 +1,18 @@
-use Rattle.std.proofs.Common.{refl, ◌*◌, ◌%◌}
-use Rattle.ffs_walk.specs.Windows.{held_bytes}
-use Rattle.ffs_workspace.proofs.Places.{bytes_there}
+use Rattle.std.proofs.Common.{rules}
+use Rattle.ffs_workspace.proofs.Places.{held_there}
 use Rattle.ffs_workspace.proofs.table.Table.load.Goals as goal
+use Rattle.ffs_workspace.proofs.table.Table.load.Goals.{then-not-has+in_ok-read_block, else-not-has}
 
-pub returns-clause-bytes : goal.returns-clause-bytes
-returns-clause-bytes g c = λ bytes t.
+pub returns-clause-there : goal.returns-clause-there
+returns-clause-there g c =
     let v = c.args.geometry.now.layout in
-    bytes_there v c.args.number c.block_place-place.result (128 * (c.args.number % v.ipg % v.inopb)) bytes
-    (held_bytes c.fill.new.self)
-    c.args.geometry.now.sound refl c.block_place-place.ensures.value (c.in_ok-fill.ensures.bytes bytes t)
+    let ready = c.requires.ready in
+    elim c.if-not-has.branch [
+      | then-not-has+in_ok-read_block w ↦
+          held_there v (g.I.Image.device c.args.image.now).contents c.args.number c.if-not-has.self
+          (rw w.self-is w.in_ok-read_block.ensures.kept.made)
+          (search rules) (rw w.self-is w.in_ok-read_block.ensures.has)
+      | else-not-has w ↦
+          held_there v (g.I.Image.device c.args.image.now).contents c.args.number c.if-not-has.self
+          (rw w.self-is ready.made) (rw w.self-is ready.holds) (rw w.self-is (c.has.ensures (search rules)))
+    ]

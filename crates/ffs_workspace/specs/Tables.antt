@@ -1,0 +1,52 @@
+-- What the window on the inode table holds.
+use Rattle.std.specs.Prelude.{◌≡◌, ◌*◌, ◌+◌, ◌-◌, ◌/◌, ◌%◌, ◌<◌, ◌≤◌, ℕ, List, Option, vec_len}
+use Rattle.std.specs.List.{slice_range}
+use Rattle.ffs_image.specs.Device.{Device, ForContents}
+use Rattle.ffs_memory.specs.declared.fixed_list.FixedList.{FixedList}
+use Rattle.ffs_volume.specs.declared.Layout.{Layout}
+use Rattle.ffs_volume.specs.Disk.Areas.{cgstart, inode_place}
+use Rattle.ffs_volume.specs.Disk.Numbers.{piece}
+use Rattle.ffs_walk.specs.Windows.{WindowHolds, held_bytes}
+use Rattle.ffs_workspace.specs.declared.table.Table.{Table}
+
+-- the byte where the block of the inode table begins that has the inode x
+abbrev pub table_block_place : Layout → ℕ → ℕ
+table_block_place v x =
+    (cgstart v (x / v.ipg) + v.iblkno) * v.fsize + x % v.ipg / v.inopb * v.bsize
+
+-- the inode x is one of those of the block that is held
+abbrev pub HasInode : Table → ℕ → Type 0
+HasInode t x = (t.first ≤ x) × (x < t.first + t.count)
+
+-- the inode x is in the window, in its place among those of the block
+pub record IsInPlace (v : Layout) (t : Table) (x : ℕ) : Type 0 where
+  pub place : t.window.place + 128 * (x - t.first) ≡ inode_place v x
+  pub inside : 128 * (x - t.first) + 128 ≤ t.window.length
+
+-- the window has room for a block, and each inode that it has is in its place
+pub record IsTableOf (v : Layout) (t : Table) : Type 0 where
+  pub room : vec_len t.window.buffer ≡ v.bsize
+  pub inodes : (x : ℕ) → HasInode t x → IsInPlace v t x
+
+-- inodes of the volume can be read: the image has all of it, and the window holds what the image gives
+pub record CanReadInodes (v : Layout) (d : Device) (t : Table) : Type 0 where
+  pub volume : v.size * v.fsize ≤ d.size
+  pub made : IsTableOf v t
+  pub holds : WindowHolds d.contents t.window
+
+-- what is left of the table holds what the image gives
+pub record KeepsTable (v : Layout) (contents : Option (List ℕ)) (t : Table) : Type 0 where
+  pub made : IsTableOf v t
+  pub holds : WindowHolds contents t.window
+
+-- the bytes of the inode x are in the window, from this place on
+pub record IsHeldAt (v : Layout) (contents : Option (List ℕ)) (t : Table) (x at : ℕ) : Type 0 where
+  pub inside : at + 128 ≤ t.window.length
+  pub bytes : ForContents contents
+      (λ b. slice_range (held_bytes t.window) at (at + 128) ≡ piece (inode_place v x) 128 b)
+
+-- a table over a list that holds no inode, and so what any image of any layout gives
+pub record IsEmptyTable (list : FixedList ℕ) (t : Table) : Type 0 where
+  pub buffer : t.window.buffer ≡ list
+  pub empty : t.count ≡ 0
+  pub holds : (contents : Option (List ℕ)) → WindowHolds contents t.window
