@@ -1,23 +1,22 @@
 //! Phase 4: how often inodes are referred to.
 
-ghost use Rattle.std.specs.Prelude.{◌≡◌, ◌<◌, [], ◌∷◌, ◌==◌, ◌||◌, ◌&&◌, not, List, ℕ, map, slice_index, length, true, if◌then◌else◌, IfOk};
-ghost use Rattle.ffs_image.specs.Reads.{ReadAfter};
+ghost use Rattle.std.specs.Prelude.{◌≡◌, ◌<◌, ◌∷◌, ◌==◌, ◌||◌, ◌&&◌, not, map, slice_index, length, true};
 ghost use Rattle.ffs_volume.specs.Messages.Kinds.{of_names, phase4 as phase4_heading};
-ghost use Rattle.ffs_volume.specs.Directories.ReferenceCheck.{counted_lines, inode_lines, reference_lines};
+ghost use Rattle.ffs_volume.specs.Directories.ReferenceCheck.{counted_lines, reference_lines};
 ghost use Rattle.ffs_volume.specs.Directories.Volumes.{volume_of};
 ghost use Rattle.ffs_report.specs.Progress.{progress};
 ghost use Rattle.ffs_phase.specs.Known.{IsContents};
-ghost use Rattle.ffs_phase.specs.Runs.{ImageAfter, PhaseReports};
+ghost use Rattle.ffs_phase.specs.Runs.{PhaseRuns};
 ghost use Rattle.ffs_workspace.specs.Holds.{HoldsClaims, HoldsSurvey, bool_at};
 ghost use Rattle.ffs_volume.specs.Blocks.Inodes.{is_allocated};
 ghost use Rattle.ffs_volume.specs.Encodings.Kinds.{class_of_kind, is_empty_dir_kind};
 ghost use Rattle.ffs_workspace.specs.Lengths.{inodes_of};
-ghost use Rattle.ffs_workspace.specs.Ready.{IsReady};
+ghost use Rattle.ffs_workspace.specs.Ready.{IsReady, StaysReady};
 ghost use Rattle.ffs_counts.specs.Ready.{HasPlace, IsFreeRun};
 
 use crate::reference::{line_for, say_line};
 use ffs_groups::inodes::are_used;
-use ffs_image::{Image, ImageFault};
+use ffs_image::Image;
 use ffs_layout::Geometry;
 use ffs_phase::RunFault;
 use ffs_report::{Heading, Line, Output, Report};
@@ -41,62 +40,6 @@ fn is_quiet(dead: bool, references: u64, linked: bool) -> bool
     ensures { result ≡ (linked && (not (references == 0) && not dead)) }
 {
     linked && references != 0 && !dead
-}
-
-// Whether nothing is reported of an inode that is allocated. Otherwise it has one line.
-fn is_right<I: Image>(
-    workspace: &mut Workspace,
-    geometry: &Geometry,
-    number: u32,
-    image: &mut I,
-) -> Result<bool, ImageFault>
-    requires ready { IsReady geometry.now.layout (I.device image.old) workspace.old }
-    requires number { number < inodes_of geometry.now.layout }
-    ensures lines { IfOk result (λ right. (bytes : List ℕ)
-        → IsContents (I.device image.old).contents bytes
-        → HoldsClaims geometry.now.layout bytes workspace.old
-        → HoldsSurvey geometry.now.layout bytes workspace.old
-        → length (inode_lines (volume_of geometry.now.layout bytes) number)
-        ≡ (if right then 0 else 1)) }
-    ensures held { workspace.new ≡ record workspace.old { windows = workspace.new.windows } }
-    ensures ready { IsReady geometry.now.layout (I.device image.new) workspace.new }
-    ensures read { ReadAfter (I.device image.old) (I.device image.new) result }
-{
-    let references = workspace.references[number as usize];
-    let dead = is_dead(workspace, number);
-    let table = &mut workspace.windows.table;
-    let linked = table.has_links(geometry, number, references, image)?;
-    Ok(is_quiet(dead, references, linked))
-}
-
-// Says what is reported of an inode that is allocated.
-fn report_inode<I: Image, W: Output>(
-    workspace: &mut Workspace,
-    geometry: &Geometry,
-    number: u32,
-    image: &mut I,
-    report: &mut Report<'_, W>,
-) -> Result<(), RunFault>
-    requires ready { IsReady geometry.now.layout (I.device image.old) workspace.old }
-    requires number { number < inodes_of geometry.now.layout }
-    ensures image { ImageAfter (I.device image.old) (I.device image.new) result }
-    ensures text { PhaseReports (λ bytes. IsContents (I.device image.old).contents bytes
-        × HoldsClaims geometry.now.layout bytes workspace.old
-        × HoldsSurvey geometry.now.layout bytes workspace.old)
-        (λ bytes. map of_names (inode_lines (volume_of geometry.now.layout bytes) number))
-        (progress W.sink report.old) (progress W.sink report.new) result }
-    ensures held { workspace.new ≡ record workspace.old { windows = workspace.new.windows } }
-    ensures ready { IsReady geometry.now.layout (I.device image.new) workspace.new }
-{
-    let place = number as usize;
-    let dead = is_dead(workspace, number);
-    let marked = workspace.marked[place];
-    let kind = workspace.kinds[place];
-    let references = workspace.references[place];
-    let inode = workspace.windows.table.inode(geometry, number, image)?;
-    let line = line_for(dead, marked, kind, references, number, &inode);
-    say_line(report, line)?;
-    Ok(())
 }
 
 /// How many free inodes are passed over at once.
@@ -131,19 +74,31 @@ fn check_inode<I: Image, W: Output>(
     requires number { number < inodes_of geometry.now.layout }
     requires used { is_allocated (class_of_kind (slice_index workspace.old.kinds.items number))
         ≡ true }
-    ensures image { ImageAfter (I.device image.old) (I.device image.new) result }
-    ensures text { PhaseReports (λ bytes. IsContents (I.device image.old).contents bytes
+    ensures runs { PhaseRuns (λ bytes. IsContents (I.device image.old).contents bytes
         × HoldsClaims geometry.now.layout bytes workspace.old
         × HoldsSurvey geometry.now.layout bytes workspace.old)
         (λ bytes. map of_names (counted_lines (volume_of geometry.now.layout bytes) number))
-        (progress W.sink report.old) (progress W.sink report.new) result }
-    ensures held { workspace.new ≡ record workspace.old { windows = workspace.new.windows } }
-    ensures ready { IsReady geometry.now.layout (I.device image.new) workspace.new }
+        (I.device image.old) (I.device image.new) (progress W.sink report.old)
+        (progress W.sink report.new) result }
+    ensures stays { StaysReady geometry.now.layout (I.device image.new) workspace.old
+        workspace.new }
 {
-    if is_right(workspace, geometry, number, image)? {
+    let place = number as usize;
+    let references = workspace.references[place];
+    let dead = is_dead(workspace, number);
+    let table = &mut workspace.windows.table;
+    let linked = table.has_links(geometry, number, references, image)?;
+    if is_quiet(dead, references, linked) {
         return Ok(());
     }
-    report_inode(workspace, geometry, number, image, report)
+    let inode = table.inode(geometry, number, image)?;
+    let marked = workspace.marked[place];
+    let kind = workspace.kinds[place];
+    say_line(
+        report,
+        line_for(dead, marked, kind, references, number, &inode),
+    )?;
+    Ok(())
 }
 
 /// Phase 4 (fsck(8)): reports of each inode that is allocated whether it is dead, not referred to, or has a wrong count of links.
@@ -158,15 +113,15 @@ pub fn phase4<I: Image, W: Output>(
     report: &mut Report<'_, W>,
 ) -> Result<(), RunFault>
     requires ready { IsReady geometry.now.layout (I.device image.old) workspace.old }
-    ensures image { ImageAfter (I.device image.old) (I.device image.new) result }
-    ensures text { PhaseReports (λ bytes. IsContents (I.device image.old).contents bytes
+    ensures runs { PhaseRuns (λ bytes. IsContents (I.device image.old).contents bytes
         × HoldsClaims geometry.now.layout bytes workspace.old
         × HoldsSurvey geometry.now.layout bytes workspace.old)
         (λ bytes. phase4_heading ∷ map of_names
         (reference_lines (volume_of geometry.now.layout bytes)))
-        (progress W.sink report.old) (progress W.sink report.new) result }
-    ensures held { workspace.new ≡ record workspace.old { windows = workspace.new.windows } }
-    ensures ready { IsReady geometry.now.layout (I.device image.new) workspace.new }
+        (I.device image.old) (I.device image.new) (progress W.sink report.old)
+        (progress W.sink report.new) result }
+    ensures stays { StaysReady geometry.now.layout (I.device image.new) workspace.old
+        workspace.new }
 {
     report.say(&Line::Heading(Heading::Phase4))?;
     let inodes = geometry.layout.ncg * geometry.layout.ipg;
