@@ -3,7 +3,7 @@
 ghost use Rattle.std.specs.Prelude.{◌≡◌, ◌∷◌, ℕ, List, map};
 ghost use Rattle.ffs_report.specs.Progress.{progress};
 ghost use Rattle.ffs_phase.specs.Known.{IsContents};
-ghost use Rattle.ffs_phase.specs.Runs.{ImageAfter, PhaseReports};
+ghost use Rattle.ffs_phase.specs.Runs.{PhaseRuns};
 ghost use Rattle.ffs_volume.specs.Directories.Connectivity.{connectivity_lines};
 ghost use Rattle.ffs_volume.specs.Messages.Kinds as messages;
 ghost use Rattle.ffs_volume.specs.Messages.Kinds.{of_names};
@@ -34,13 +34,13 @@ pub fn phase3<I: Image, W: Output>(
     report: &mut Report<'_, W>,
 ) -> Result<(), RunFault>
     requires ready { IsReady geometry.now.layout (I.device image.old) workspace.old }
-    ensures image { ImageAfter (I.device image.old) (I.device image.new) result }
-    ensures text { PhaseReports (λ bytes. IsContents (I.device image.old).contents bytes
+    ensures runs { PhaseRuns (λ bytes. IsContents (I.device image.old).contents bytes
         × HoldsClaims geometry.now.layout bytes workspace.old
         × HoldsSurvey geometry.now.layout bytes workspace.old)
         (λ bytes. messages.phase3 ∷ map of_names
         (connectivity_lines (volume_of geometry.now.layout bytes)))
-        (progress W.sink report.old) (progress W.sink report.new) result }
+        (I.device image.old) (I.device image.new) (progress W.sink report.old)
+        (progress W.sink report.new) result }
     ensures survey { LeavesSurvey workspace.old workspace.new }
     ensures ready { IsReady geometry.now.layout (I.device image.new) workspace.new }
 {

@@ -1,15 +1,14 @@
 //! Whether a directory is cut off, and what is reported of it.
 
-ghost use Rattle.std.specs.Prelude.{◌≡◌, ◌<◌, ◌≤◌, ◌∷◌, [], map};
+ghost use Rattle.std.specs.Prelude.{◌≡◌, ◌<◌, ◌≤◌, map};
 ghost use Rattle.ffs_report.specs.Progress.{progress};
 ghost use Rattle.ffs_phase.specs.Known.{IsContents};
-ghost use Rattle.ffs_phase.specs.Runs.{ImageAfter, PhaseReports};
-ghost use Rattle.ffs_volume.specs.Messages.Kinds.{of_names, unref_dir};
-ghost use Rattle.ffs_volume.specs.Directories.PathnameCheck.{attributes};
+ghost use Rattle.ffs_phase.specs.Runs.{PhaseRuns};
+ghost use Rattle.ffs_volume.specs.Messages.Kinds.{of_names};
 ghost use Rattle.ffs_volume.specs.Directories.Volumes.{volume_of};
 ghost use Rattle.ffs_workspace.specs.Holds.{HoldsClaims, HoldsSurvey};
 ghost use Rattle.ffs_workspace.specs.Lengths.{inodes_of};
-ghost use Rattle.ffs_workspace.specs.Ready.{IsReady};
+ghost use Rattle.ffs_workspace.specs.Ready.{IsReady, StaysReady};
 ghost use Rattle.ffs_connectivity.specs.Leaders.{HasLeaders};
 ghost use Rattle.ffs_connectivity.specs.Lines.{cut_off_lines};
 
@@ -27,8 +26,7 @@ fn attr_of(number: u32, inode: &Inode) -> Attr
       number = number;
       uid = inode.now.uid;
       mode = inode.now.mode;
-      size =
-          inode.now.size;
+      size = inode.now.size;
       mtime = inode.now.mtime;
     } }
 {
@@ -39,31 +37,6 @@ fn attr_of(number: u32, inode: &Inode) -> Attr
         size: inode.size,
         mtime: inode.mtime,
     }
-}
-
-/// Reports that a directory is cut off.
-fn report_inode<I: Image, W: Output>(
-    workspace: &mut Workspace,
-    geometry: &Geometry,
-    number: u32,
-    image: &mut I,
-    report: &mut Report<'_, W>,
-) -> Result<(), RunFault>
-    requires ready { IsReady geometry.now.layout (I.device image.old) workspace.old }
-    requires number { number < inodes_of geometry.now.layout }
-    ensures image { ImageAfter (I.device image.old) (I.device image.new) result }
-    ensures text { PhaseReports (IsContents (I.device image.old).contents)
-        (λ bytes. of_names (unref_dir (attributes (volume_of geometry.now.layout bytes) number))
-        ∷ [])
-        (progress W.sink report.old) (progress W.sink report.new) result }
-    ensures ready { IsReady geometry.now.layout (I.device image.new) workspace.new }
-    ensures held { workspace.new ≡ record workspace.old { windows = workspace.new.windows } }
-{
-    let inode = workspace.windows.table.inode(geometry, number, image)?;
-    report.say(&Line::Reference(ReferenceLine::UnrefDir {
-        attr: attr_of(number, &inode),
-    }))?;
-    Ok(())
 }
 
 /// What is reported of an inode: whether it is a directory that is cut off from the root.
@@ -78,14 +51,14 @@ pub fn check_inode<I: Image, W: Output>(
     requires low { 2 ≤ number }
     requires number { number < inodes_of geometry.now.layout }
     requires leaders { HasLeaders workspace.old }
-    ensures image { ImageAfter (I.device image.old) (I.device image.new) result }
-    ensures text { PhaseReports (λ bytes. IsContents (I.device image.old).contents bytes
+    ensures runs { PhaseRuns (λ bytes. IsContents (I.device image.old).contents bytes
         × HoldsClaims geometry.now.layout bytes workspace.old
         × HoldsSurvey geometry.now.layout bytes workspace.old)
         (λ bytes. map of_names (cut_off_lines (volume_of geometry.now.layout bytes) number))
-        (progress W.sink report.old) (progress W.sink report.new) result }
-    ensures ready { IsReady geometry.now.layout (I.device image.new) workspace.new }
-    ensures held { workspace.new ≡ record workspace.old { windows = workspace.new.windows } }
+        (I.device image.old) (I.device image.new) (progress W.sink report.old)
+        (progress W.sink report.new) result }
+    ensures stays { StaysReady geometry.now.layout (I.device image.new) workspace.old
+        workspace.new }
 {
     let cut_off = is_unref(
         number,
@@ -96,8 +69,12 @@ pub fn check_inode<I: Image, W: Output>(
         &workspace.parents,
         &workspace.leaders,
     );
-    if cut_off {
-        return report_inode(workspace, geometry, number, image, report);
+    if !cut_off {
+        return Ok(());
     }
+    let inode = workspace.windows.table.inode(geometry, number, image)?;
+    report.say(&Line::Reference(ReferenceLine::UnrefDir {
+        attr: attr_of(number, &inode),
+    }))?;
     Ok(())
 }

@@ -1,5 +1,5 @@
 -- The lines of phase 5, group after group.
-use Rattle.std.proofs.Common.{◌≡◌, ℕ, suc, ◌+◌, Bool, List, [], ◌++◌, map, refl, ap, ◌∙◌, sym, append_assoc, append-nil}
+use Rattle.std.proofs.Common.{◌≡◌, ℕ, suc, ◌+◌, ◌<◌, ◌^◌, Bool, List, [], ◌++◌, map, refl, ap, ◌∙◌, sym, append_assoc, append-nil}
 use Rattle.std.proofs.Common.{arith, slice_index, ℤ}
 use Rattle.std.specs.List.{range_with_len, flat_map, sum_by}
 use Rattle.ffs_volume.specs.declared.Layout.{Layout}
@@ -21,7 +21,9 @@ use Rattle.ffs_groups.proofs.Sums.{sum_more}
 use Rattle.ffs_volume.specs.Encodings.Kinds.{kind_at}
 use Rattle.ffs_counts.specs.declared.totals.Totals.{Totals}
 use Rattle.ffs_counts.specs.Once.{reported_after}
-use Rattle.ffs_counts.specs.Totals.{AreTotals, total_of, with_counts}
+use Rattle.ffs_counts.specs.Totals.{AreTotals, AreUpTo, total_of, with_counts}
+use Rattle.ffs_maps.specs.Bits.{bits_of}
+use Rattle.ffs_workspace.specs.declared.workspace.Workspace.{Workspace}
 use Rattle.ffs_counts.proofs.Sifting.{sifted_append}
 use Rattle.ffs_counts.proofs.Classes.{by_kinds}
 
@@ -96,3 +98,30 @@ check_is v image totals used kinds e ks =
     ap (λ (ms : List BlockMessage). map of_blocks ms)
     (sym (ap (λ (u : List Bool). phase5_lines v image totals (free_in u v.size) (class_in kinds)) e
     ∙ by_kinds v image totals (is_free_of_kept v (owners_of v image)) kinds ks))
+
+-- the lines of a group are those of a workspace of which only the windows have changed
+pub lines_held : (v : Layout) (image : List ℕ) (old new : Workspace) (c : ℕ) (lines : List BlockMessage) →
+    new ≡ record old { windows = new.windows } →
+    lines ≡ group_lines v image (free_in (bits_of new.claimed) v.size) (class_in new.kinds.items) c →
+    lines ≡ group_lines v image (free_in (bits_of old.claimed) v.size) (class_in old.kinds.items) c
+lines_held v image old new c lines e is =
+    is ∙ ap (λ (w : Workspace). group_lines v image (free_in (bits_of w.claimed) v.size) (class_in w.kinds.items) c) e
+
+-- and so are its right counts
+pub counts_held : (v : Layout) (old new : Workspace) (kinds : List ℕ) (c : ℕ) (counts : GroupCounts) →
+    new ≡ record old { windows = new.windows } → kinds ≡ new.kinds.items →
+    counts ≡ right_group_counts v (free_in (bits_of new.claimed) v.size) (class_in kinds) c →
+    counts ≡ right_group_counts v (free_in (bits_of old.claimed) v.size) (class_in old.kinds.items) c
+counts_held v old new kinds c counts e same is =
+    is ∙ ap (λ (ks : List ℕ). right_group_counts v (free_in (bits_of new.claimed) v.size) (class_in ks) c) same
+    ∙ ap (λ (w : Workspace). right_group_counts v (free_in (bits_of w.claimed) v.size) (class_in w.kinds.items) c) e
+
+-- one more count of below 2^32 was added to each
+pub up_next : (n : ℕ) (old new : Totals) (s : SummaryCounts) → AreUpTo n old → new ≡ with_counts old s →
+    s.dirs < 2 ^ 32 → s.blocks < 2 ^ 32 → s.inodes < 2 ^ 32 → s.fragments < 2 ^ 32 → AreUpTo (n + 1) new
+up_next n old new s up e d b i f = rw e (record {
+  dirs = omega (arith, up.dirs);
+  blocks = omega (arith, up.blocks);
+  inodes = omega (arith, up.inodes);
+  fragments = omega (arith, up.fragments);
+})

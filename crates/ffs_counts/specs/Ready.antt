@@ -1,25 +1,8 @@
--- What the check of groups and the check of references need of a workspace.
-use Rattle.std.specs.Prelude.{ℕ, ◌≡◌, ◌+◌, ◌*◌, ◌<◌, ◌≤◌, List, length, vec_len, true, false}
-use Rattle.ffs_image.specs.Device.{Device}
-use Rattle.ffs_maps.specs.declared.FragmentMap.{FragmentMap}
+-- What the check of references needs of a workspace, and which inodes it passes over.
+use Rattle.std.specs.Prelude.{ℕ, ◌≡◌, ◌+◌, ◌<◌, ◌≤◌, List, length, vec_len, true, false}
 use Rattle.ffs_volume.specs.Blocks.Inodes.{is_allocated}
-use Rattle.ffs_volume.specs.declared.Layout.{Layout}
 use Rattle.ffs_groups.specs.Inodes.{class_in}
-use Rattle.ffs_walk.specs.Windows.{WindowHolds}
-use Rattle.ffs_workspace.specs.Tables.{IsTableOf}
-use Rattle.ffs_workspace.specs.declared.workspace.Windows.{Windows}
 use Rattle.ffs_workspace.specs.declared.workspace.Workspace.{Workspace}
-
--- the groups of a volume can be checked: the map of used fragments and the kinds of inodes have its lengths, the image
--- has all of it, and the windows have room for a block each and hold what the image gives
-pub record AreReady (v : Layout) (d : Device) (w : Windows) (used : FragmentMap) (kinds : List ℕ) : Type 0 where
-  pub fragments : used.size ≡ v.size
-  pub inodes : length kinds ≡ v.ncg * v.ipg
-  pub volume : v.size * v.fsize ≤ d.size
-  pub table : IsTableOf v w.table
-  pub chunk : vec_len w.chunk.buffer ≡ v.bsize
-  pub table_holds : WindowHolds d.contents w.table.window
-  pub chunk_holds : WindowHolds d.contents w.chunk
 
 -- the lists by which an inode is reported have a place for it
 pub record HasPlace (w : Workspace) (number : ℕ) : Type 0 where

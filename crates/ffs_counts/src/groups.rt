@@ -8,39 +8,36 @@ ghost use Rattle.ffs_maps.specs.Bits.{bits_of};
 ghost use Rattle.ffs_groups.specs.Check.{AreCounts, lines_of};
 ghost use Rattle.ffs_groups.specs.Free.{free_in};
 ghost use Rattle.ffs_groups.specs.Inodes.{class_in};
-ghost use Rattle.ffs_counts.specs.Ready.{AreReady};
+ghost use Rattle.ffs_workspace.specs.Ready.{IsReady, StaysReady};
 
 use ffs_groups::{Counts, Findings, compare_group};
 use ffs_image::{Image, ImageFault};
 use ffs_layout::Geometry;
-use ffs_maps::FragmentMap;
-use ffs_workspace::Windows;
+use ffs_workspace::Workspace;
 
 /// Reads the records of a group, and compares them with what they should be.
 #[tactic(auto, using(crate::proofs::Places::block_inside, crate::proofs::Places::record_inside))]
 pub fn read_group<I: Image>(
     geometry: &Geometry,
     image: &mut I,
-    windows: &mut Windows,
-    used: &FragmentMap,
-    kinds: &[u8],
+    workspace: &mut Workspace,
     counts: &Counts,
     group: u32,
 ) -> Result<Findings, ImageFault>
     requires group { group < geometry.now.layout.ncg }
     requires counts { AreCounts geometry.now.layout
-        (free_in (bits_of used.now) geometry.now.layout.size) (class_in kinds.now) group
-        counts.now }
-    requires ready { AreReady geometry.now.layout (I.device image.old) windows.old used.now
-        kinds.now }
+        (free_in (bits_of workspace.old.claimed) geometry.now.layout.size)
+        (class_in workspace.old.kinds.items) group counts.now }
+    requires ready { IsReady geometry.now.layout (I.device image.old) workspace.old }
     ensures found { IfOk result (λ f. ForContents (I.device image.old).contents (λ bytes.
         lines_of f group ≡ group_lines geometry.now.layout bytes
-        (free_in (bits_of used.now) geometry.now.layout.size) (class_in kinds.now) group)) }
-    ensures indirect { windows.new.blocks ≡ windows.old.blocks }
-    ensures ready { AreReady geometry.now.layout (I.device image.new) windows.new used.now
-        kinds.now }
+        (free_in (bits_of workspace.old.claimed) geometry.now.layout.size)
+        (class_in workspace.old.kinds.items) group)) }
     ensures read { ReadAfter (I.device image.old) (I.device image.new) result }
+    ensures stays { StaysReady geometry.now.layout (I.device image.new) workspace.old
+        workspace.new }
 {
+    let windows = &mut workspace.windows;
     let place = geometry.summary_place(group);
     windows.table.forget();
     windows.table.window.fill(image, place, 16)?;
@@ -50,11 +47,11 @@ pub fn read_group<I: Image>(
         .fill(image, place, geometry.layout.cgsize as usize)?;
     Ok(compare_group(
         geometry,
-        used,
-        kinds,
+        &workspace.claimed,
+        &workspace.kinds,
         counts,
         group,
-        windows.table.window.bytes(),
-        windows.chunk.bytes(),
+        workspace.windows.table.window.bytes(),
+        workspace.windows.chunk.bytes(),
     ))
 }

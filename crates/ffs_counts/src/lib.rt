@@ -5,7 +5,7 @@
 //! ```text
 //! phase4(&geometry, &mut image, &mut workspace, &mut report)?;
 //! phase5(&superblock, &mut image, &mut workspace, &mut report)?;
-//! summary(&superblock, &mut workspace, &mut report)?;
+//! summary(&superblock, &workspace, &mut report)?;
 //! ```
 //!
 //! It rests on `ffs_groups`, `ffs_workspace` and `ffs_phase`.
@@ -14,7 +14,6 @@
 mod group_check;
 mod groups;
 mod once;
-mod one;
 mod reference;
 mod reference_check;
 mod summing;

@@ -1,7 +1,6 @@
 //! Messages that are reported once.
 
-ghost use Rattle.std.specs.Prelude.{◌≡◌, ◌++◌, map, OnOk};
-ghost use Rattle.ffs_volume.specs.declared.BlockMessage.TheVariants.{FreeCounts, GroupSums, MapsWrong};
+ghost use Rattle.std.specs.Prelude.{◌≡◌, map, OnOk};
 ghost use Rattle.ffs_volume.specs.Messages.Kinds.{of_blocks};
 ghost use Rattle.ffs_volume.specs.Groups.GroupCheck.{is_reported, note_reported, reported_once, unless};
 ghost use Rattle.ffs_report.specs.Progress.{progress, Says};
@@ -88,29 +87,10 @@ pub fn say_group<W: Output>(
     ensures reported { OnOk result (reported_of once.new
         ≡ reported_after (reported_of once.old) (lines_of found.now group)) }
 {
-    if found.magic {
-        say_whole_group(report, once, found)
-    } else {
+    if !found.magic {
         report.say(&Line::Block(BlockMessage::GroupMagic { group }))?;
-        say_unless(report, once, found.counts, BlockMessage::FreeCounts)
+        return say_unless(report, once, found.counts, BlockMessage::FreeCounts);
     }
-}
-
-// What is wrong with the records of a group that has its magic number.
-fn say_whole_group<W: Output>(
-    report: &mut Report<'_, W>,
-    once: &mut Once,
-    found: &Findings,
-) -> Result<(), OutFault>
-    ensures said { Says (progress W.sink report.old) (progress W.sink report.new)
-        (map of_blocks (reported_once (reported_of once.old)
-        (unless found.now.counts FreeCounts
-        ++ (unless found.now.maps MapsWrong ++ unless found.now.sums GroupSums)))) result }
-    ensures reported { OnOk result (reported_of once.new
-        ≡ reported_after (reported_of once.old)
-        (unless found.now.counts FreeCounts
-        ++ (unless found.now.maps MapsWrong ++ unless found.now.sums GroupSums))) }
-{
     say_unless(report, once, found.counts, BlockMessage::FreeCounts)?;
     say_unless(report, once, found.maps, BlockMessage::MapsWrong)?;
     say_unless(report, once, found.sums, BlockMessage::GroupSums)

@@ -2,16 +2,16 @@
 
 ghost use Rattle.std.specs.Prelude.{◌≡◌, ◌<◌, ◌∷◌, map, slice_index, length, true};
 ghost use Rattle.ffs_volume.specs.Messages.Kinds.{of_names, phase4 as phase4_heading};
-ghost use Rattle.ffs_volume.specs.Directories.ReferenceCheck.{counted_lines, inode_lines, reference_lines};
+ghost use Rattle.ffs_volume.specs.Directories.ReferenceCheck.{counted_lines, reference_lines};
 ghost use Rattle.ffs_volume.specs.Directories.Volumes.{volume_of};
 ghost use Rattle.ffs_report.specs.Progress.{progress};
 ghost use Rattle.ffs_phase.specs.Known.{IsContents};
-ghost use Rattle.ffs_phase.specs.Runs.{ImageAfter, PhaseReports};
+ghost use Rattle.ffs_phase.specs.Runs.{PhaseRuns};
 ghost use Rattle.ffs_workspace.specs.Holds.{HoldsFindings};
 ghost use Rattle.ffs_volume.specs.Blocks.Inodes.{is_allocated};
 ghost use Rattle.ffs_volume.specs.Encodings.Kinds.{class_of_kind};
 ghost use Rattle.ffs_workspace.specs.Lengths.{inodes_of};
-ghost use Rattle.ffs_workspace.specs.Ready.{IsReady};
+ghost use Rattle.ffs_workspace.specs.Ready.{IsReady, StaysReady};
 ghost use Rattle.ffs_counts.specs.Ready.{HasPlace, IsFreeRun};
 ghost use Rattle.ffs_counts.specs.References.{is_dead_by, is_met};
 
@@ -42,38 +42,6 @@ fn is_right(workspace: &Workspace, number: u32) -> bool
     workspace.references[number as usize] == LINKS_MET && !is_dead(workspace, number)
 }
 
-// Says what is reported of an inode that is allocated.
-fn report_inode<I: Image, W: Output>(
-    workspace: &mut Workspace,
-    geometry: &Geometry,
-    number: u32,
-    image: &mut I,
-    report: &mut Report<'_, W>,
-) -> Result<(), RunFault>
-    requires ready { IsReady geometry.now.layout (I.device image.old) workspace.old }
-    requires number { number < inodes_of geometry.now.layout }
-    requires used { is_allocated (class_of_kind (slice_index workspace.old.kinds.items number))
-        ≡ true }
-    ensures image { ImageAfter (I.device image.old) (I.device image.new) result }
-    ensures text { PhaseReports (λ bytes. IsContents (I.device image.old).contents bytes
-        × HoldsFindings geometry.now.layout bytes workspace.old)
-        (λ bytes. map of_names (inode_lines (volume_of geometry.now.layout bytes) number))
-        (progress W.sink report.old) (progress W.sink report.new) result }
-    ensures held { workspace.new ≡ record workspace.old { windows = workspace.new.windows } }
-    ensures ready { IsReady geometry.now.layout (I.device image.new) workspace.new }
-{
-    let place = number as usize;
-    let dead = is_dead(workspace, number);
-    let marked = workspace.marked[place];
-    let kind = workspace.kinds[place];
-    let count = workspace.references[place];
-    let inode = workspace.windows.table.inode(geometry, number, image)?;
-    let references = references_by(count, &inode);
-    let line = line_for(dead, marked, kind, references, number, &inode);
-    say_line(report, line)?;
-    Ok(())
-}
-
 /// How many free inodes are passed over at once.
 const FREE_RUN: usize = 64;
 
@@ -94,7 +62,7 @@ fn free_run(kinds: &[u8], first: usize) -> usize
     }
 }
 
-// What is reported of an inode that is allocated.
+// What is reported of an inode that is allocated. It is read only where it has a line.
 fn check_inode<I: Image, W: Output>(
     workspace: &mut Workspace,
     geometry: &Geometry,
@@ -106,18 +74,27 @@ fn check_inode<I: Image, W: Output>(
     requires number { number < inodes_of geometry.now.layout }
     requires used { is_allocated (class_of_kind (slice_index workspace.old.kinds.items number))
         ≡ true }
-    ensures image { ImageAfter (I.device image.old) (I.device image.new) result }
-    ensures text { PhaseReports (λ bytes. IsContents (I.device image.old).contents bytes
+    ensures runs { PhaseRuns (λ bytes. IsContents (I.device image.old).contents bytes
         × HoldsFindings geometry.now.layout bytes workspace.old)
         (λ bytes. map of_names (counted_lines (volume_of geometry.now.layout bytes) number))
-        (progress W.sink report.old) (progress W.sink report.new) result }
-    ensures held { workspace.new ≡ record workspace.old { windows = workspace.new.windows } }
-    ensures ready { IsReady geometry.now.layout (I.device image.new) workspace.new }
+        (I.device image.old) (I.device image.new) (progress W.sink report.old)
+        (progress W.sink report.new) result }
+    ensures stays { StaysReady geometry.now.layout (I.device image.new) workspace.old
+        workspace.new }
 {
     if is_right(workspace, number) {
         return Ok(());
     }
-    report_inode(workspace, geometry, number, image, report)
+    let place = number as usize;
+    let dead = is_dead(workspace, number);
+    let marked = workspace.marked[place];
+    let kind = workspace.kinds[place];
+    let count = workspace.references[place];
+    let inode = workspace.windows.table.inode(geometry, number, image)?;
+    let references = references_by(count, &inode);
+    let line = line_for(dead, marked, kind, references, number, &inode);
+    say_line(report, line)?;
+    Ok(())
 }
 
 /// Phase 4 (fsck(8)): reports of each inode that is allocated whether it is dead, not referred to, or has a wrong count of links.
@@ -132,14 +109,14 @@ pub fn phase4<I: Image, W: Output>(
     report: &mut Report<'_, W>,
 ) -> Result<(), RunFault>
     requires ready { IsReady geometry.now.layout (I.device image.old) workspace.old }
-    ensures image { ImageAfter (I.device image.old) (I.device image.new) result }
-    ensures text { PhaseReports (λ bytes. IsContents (I.device image.old).contents bytes
+    ensures runs { PhaseRuns (λ bytes. IsContents (I.device image.old).contents bytes
         × HoldsFindings geometry.now.layout bytes workspace.old)
         (λ bytes. phase4_heading ∷ map of_names
         (reference_lines (volume_of geometry.now.layout bytes)))
-        (progress W.sink report.old) (progress W.sink report.new) result }
-    ensures held { workspace.new ≡ record workspace.old { windows = workspace.new.windows } }
-    ensures ready { IsReady geometry.now.layout (I.device image.new) workspace.new }
+        (I.device image.old) (I.device image.new) (progress W.sink report.old)
+        (progress W.sink report.new) result }
+    ensures stays { StaysReady geometry.now.layout (I.device image.new) workspace.old
+        workspace.new }
 {
     report.say(&Line::Heading(Heading::Phase4))?;
     let inodes = geometry.layout.ncg * geometry.layout.ipg;

@@ -1,6 +1,6 @@
 //! The summary of a check.
 
-ghost use Rattle.std.specs.Prelude.{◌≡◌, ◌∷◌, [], ◌-◌, ◌<◌, ◌^◌, List, ℕ, length, count_by, not, ◌&&◌, pos, ◌+ℤ◌, ◌*ℤ◌, int_div};
+ghost use Rattle.std.specs.Prelude.{◌≡◌, ◌∷◌, [], ◌-◌, ◌<◌, ◌^◌, length, count_by, not, ◌&&◌, pos, ◌+ℤ◌, ◌*ℤ◌, int_div};
 ghost use Rattle.std.specs.List.{range_with_len};
 ghost use Rattle.ffs_volume.specs.Disk.Areas.{cgbase, is_reserved};
 ghost use Rattle.ffs_volume.specs.Blocks.Claims.{is_set};
@@ -11,14 +11,14 @@ ghost use Rattle.ffs_layout.specs.Super.{seen};
 ghost use Rattle.ffs_maps.specs.Bits.{bits_of};
 ghost use Rattle.ffs_report.specs.Lines.{message_of};
 ghost use Rattle.ffs_report.specs.Progress.{progress};
-ghost use Rattle.ffs_phase.specs.Runs.{ImageAfter, PhaseReports};
+ghost use Rattle.ffs_phase.specs.Runs.{PhaseRuns};
 ghost use Rattle.ffs_image.specs.Device.{Device};
 ghost use Rattle.ffs_volume.specs.Encodings.Kinds.{class_of_kind};
 ghost use Rattle.ffs_groups.specs.Inodes.{class_in};
+ghost use Rattle.ffs_groups.specs.Inputs.{HasFragments};
 ghost use Rattle.ffs_workspace.specs.Holds.{HoldsClaims};
 ghost use Rattle.ffs_workspace.specs.Lengths.{IsFor};
 
-use crate::one::one_if;
 use ffs_groups::maps::group_fragments;
 use ffs_layout::{Geometry, Super};
 use ffs_maps::FragmentMap;
@@ -41,7 +41,7 @@ fn file_count(kinds: &[u8]) -> u32
 {
     let mut files = 0;
     for inode in 2..kinds.len() {
-        files += one_if(is_file_or_dir_kind(kinds[inode]));
+        files += u32::from(is_file_or_dir_kind(kinds[inode]));
     }
     files
 }
@@ -49,8 +49,7 @@ fn file_count(kinds: &[u8]) -> u32
 // How many fragments of a group are claimed beside the reserved ones, which are together in each group: those before the
 // end of the summary area in the first one, and what the group keeps for itself in another.
 fn used_in_group(geometry: &Geometry, used: &FragmentMap, group: u32) -> u32
-    requires group { group < geometry.now.layout.ncg }
-    requires size { used.now.size ≡ geometry.now.layout.size }
+    requires { HasFragments geometry.now.layout used.now.size group }
     ensures { result ≡ count_by (λ f. is_set (bits_of used.now) f
         && not (is_reserved geometry.now.layout f))
         (range_with_len (cgbase geometry.now.layout group) (group_size geometry.now.layout group)) }
@@ -114,17 +113,15 @@ fn summary_line(superblock: &Super, files: u32, used: u32) -> Line<'static>
 /// Errors: a write of the report that failed.
 pub fn summary<W: Output>(
     superblock: &Super,
-    workspace: &mut Workspace,
+    workspace: &Workspace,
     report: &mut Report<'_, W>,
 ) -> Result<(), RunFault>
-    requires { IsFor superblock.now.geometry.layout workspace.old }
-    ensures text { PhaseReports (λ bytes. HoldsClaims superblock.now.geometry.layout bytes
-        workspace.old)
+    requires { IsFor superblock.now.geometry.layout workspace.now }
+    ensures { (device : Device) → PhaseRuns
+        (λ bytes. HoldsClaims superblock.now.geometry.layout bytes workspace.now)
         (λ bytes. summary_of (seen superblock.now) (files_of superblock.now.geometry.layout bytes)
         (used_of superblock.now.geometry.layout bytes) ∷ [])
-        (progress W.sink report.old) (progress W.sink report.new) result }
-    ensures unread { (device : Device) → ImageAfter device device result }
-    ensures held { workspace.new ≡ workspace.old }
+        device device (progress W.sink report.old) (progress W.sink report.new) result }
 {
     let files = file_count(&workspace.kinds);
     let used = used_count(&superblock.geometry, &workspace.claimed);

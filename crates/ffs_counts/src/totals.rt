@@ -1,6 +1,6 @@
 //! The totals of a superblock.
 
-ghost use Rattle.std.specs.Prelude.{◌≡◌, ◌+◌, ◌-◌, ◌^◌, ℕ};
+ghost use Rattle.std.specs.Prelude.{◌≡◌, ◌-◌, ◌^◌};
 ghost use Rattle.ffs_volume.specs.Disk.Numbers.{equals_natural};
 ghost use Rattle.ffs_volume.specs.Groups.Records.{has_totals};
 ghost use Rattle.ffs_counts.specs.Totals.{AreUpTo, total_of, with_counts};
@@ -42,9 +42,8 @@ impl Totals {
 
     /// Adds the counts of a group.
     pub fn add(&mut self, summary: &SummaryCounts)
-        requires room { AreUpTo (2 ^ 32 - 1) self.old }
-        ensures sums { self.new ≡ with_counts self.old summary.now }
-        ensures up { (n : ℕ) → AreUpTo n self.old → AreUpTo (n + 1) self.new }
+        requires { AreUpTo (2 ^ 32 - 1) self.old }
+        ensures { self.new ≡ with_counts self.old summary.now }
     {
         self.dirs += u64::from(summary.dirs);
         self.blocks += u64::from(summary.blocks);

@@ -38,11 +38,12 @@ pub record Grown (b f : ℕ) (r : ℕ → ℕ) (old new : FreeCounts) : Type 0 w
   pub fragments : new.fragments ≡ old.fragments + f
   pub runs : (k : ℕ) → slice_index new.runs k ≡ slice_index old.runs k + r k
 
--- a word has room for so many blocks
-pub record HasBlocks (blocks frag : ℕ) : Type 0 where
+-- a word has room for so many blocks, and the counts for what they add
+pub record HasRoom (blocks frag limit : ℕ) (counts : FreeCounts) : Type 0 where
   pub some : 0 < frag
   pub few : frag ≤ 8
   pub room : blocks * frag ≤ 64
+  pub below : AreBelow limit counts
 
 -- n blocks from one on are added
 pub record Added (bits : ℕ → List Bool) (from n : ℕ) (old new : FreeCounts) : Type 0 where

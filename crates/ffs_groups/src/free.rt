@@ -3,7 +3,7 @@
 ghost use Rattle.std.specs.Prelude.{◌-◌, ◌*◌, ◌/◌, ◌^◌, ◌≤◌, count_by, ◌==◌};
 ghost use Rattle.ffs_volume.specs.Groups.Records.{free_stretches, stretch_of};
 ghost use Rattle.ffs_maps.specs.Bits.{bits_of};
-ghost use Rattle.ffs_groups.specs.Free.{word_bits, whole_in, loose_in, runs_in, AreBelow, HasBlocks, Grown, Added, AreFree, free_in};
+ghost use Rattle.ffs_groups.specs.Free.{word_bits, whole_in, loose_in, runs_in, AreBelow, HasRoom, Grown, Added, AreFree, free_in};
 ghost use Rattle.ffs_groups.specs.Inputs.{HasFragments};
 
 use crate::maps::group_fragments;
@@ -35,8 +35,7 @@ impl FreeCounts {
 
     // Counts the free fragments of a block that isn't free as a whole.
     fn add_loose(&mut self, bits: u64, frag: u32)
-        requires frag { frag ≤ 8 }
-        requires below { AreBelow (2 ^ 63) self.old }
+        requires { HasRoom 1 frag (2 ^ 63) self.old }
         ensures { Grown 0 (count_by (λ f. f) (word_bits bits 0 frag))
             (λ k. count_by (λ n. n == k) (free_stretches 0 (word_bits bits 0 frag))) self.old
             self.new }
@@ -56,8 +55,7 @@ impl FreeCounts {
 
     // Counts a block.
     fn add_block(&mut self, bits: u64, frag: u32)
-        requires block { HasBlocks 1 frag }
-        requires below { AreBelow (2 ^ 63) self.old }
+        requires { HasRoom 1 frag (2 ^ 63) self.old }
         ensures { Grown (whole_in (word_bits bits 0 frag)) (loose_in (word_bits bits 0 frag))
             (λ k. runs_in k (word_bits bits 0 frag)) self.old self.new }
     {
@@ -70,27 +68,9 @@ impl FreeCounts {
         }
     }
 
-    // Counts the blocks of a word, of which some have free fragments.
-    #[inline(never)]
-    fn add_mixed(&mut self, word: u64, blocks: u32, frag: u32)
-        requires blocks { HasBlocks blocks frag }
-        requires below { AreBelow (2 ^ 62) self.old }
-        ensures { Added (λ b. word_bits (word / 2 ^ (b * frag)) 0 frag) 0 blocks self.old self.new }
-    {
-        if frag == 1 && blocks > 0 {
-            let free = word & (u64::MAX >> (64 - blocks));
-            self.blocks += u64::from(free.count_ones());
-            return;
-        }
-        for block in 0..blocks {
-            self.add_block(word >> (block * frag), frag);
-        }
-    }
-
     // Counts the blocks of a word. Most words have no free fragment, or only free ones.
     fn add_word(&mut self, word: u64, blocks: u32, frag: u32)
-        requires blocks { HasBlocks blocks frag }
-        requires below { AreBelow (2 ^ 62) self.old }
+        requires { HasRoom blocks frag (2 ^ 62) self.old }
         ensures { Added (λ b. word_bits (word / 2 ^ (b * frag)) 0 frag) 0 blocks self.old self.new }
     {
         if word == 0 {
@@ -100,7 +80,14 @@ impl FreeCounts {
             self.blocks += u64::from(blocks);
             return;
         }
-        self.add_mixed(word, blocks, frag);
+        if frag == 1 && blocks > 0 {
+            let free = word & (u64::MAX >> (64 - blocks));
+            self.blocks += u64::from(free.count_ones());
+            return;
+        }
+        for block in 0..blocks {
+            self.add_block(word >> (block * frag), frag);
+        }
     }
 }
 
@@ -121,13 +108,11 @@ pub fn free_counts(geometry: &Geometry, used: &FragmentMap, group: u32) -> FreeC
     };
     let each = 64 / frag;
     let mut block = 0;
-    while each <= blocks - block {
+    while block < blocks {
         let word = used.clear_bits(base + u64::from(block) * u64::from(frag));
-        counts.add_word(word, each, frag);
-        block += each;
+        let some = each.min(blocks - block);
+        counts.add_word(word, some, frag);
+        block += some;
     }
-    let left = blocks - block;
-    let last = used.clear_bits(base + u64::from(block) * u64::from(frag));
-    counts.add_word(last, left, frag);
     counts
 }

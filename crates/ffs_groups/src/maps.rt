@@ -2,7 +2,7 @@
 //!
 //! A map's first bit is the lowest of its first byte, in both orders of bytes.
 
-ghost use Rattle.std.specs.Prelude.{ℕ, ◌≡◌, ◌≢◌, ◌+◌, ◌*◌, ◌^◌, ◌<◌, ◌≤◌, length, nat_eq};
+ghost use Rattle.std.specs.Prelude.{ℕ, ◌≡◌, ◌≢◌, ◌+◌, ◌*◌, ◌<◌, ◌≤◌, length, nat_eq};
 ghost use Rattle.std.specs.Int.{bit_at, div_ceil};
 ghost use Rattle.ffs_volume.specs.Disk.Numbers.{all_below};
 ghost use Rattle.ffs_volume.specs.Disk.Areas.{cgbase};
@@ -71,11 +71,13 @@ fn used_word(kinds: &[u8], first: usize, count: u32) -> u64
 
 // Whether two words have the same lowest bits.
 fn same_bits(found: u64, right: u64, count: u32) -> bool
-    requires some { 0 < count }
-    requires count { count ≤ 64 }
+    requires { count ≤ 64 }
     ensures { result ≡ all_below count
         (λ k. same_bit (nat_eq (bit_at found k) 1) (nat_eq (bit_at right k) 1)) }
 {
+    if count == 0 {
+        return true;
+    }
     (found ^ right) & (u64::MAX >> (64 - count)) == 0
 }
 
@@ -123,35 +125,19 @@ pub fn group_fragments(geometry: &Geometry, group: u32) -> u32
 }
 
 // Whether the whole words of a map have the bits of the fragments from one on that are free.
-fn same_words(used: &FragmentMap, base: u64, block: &[u8], place: usize, words: u32) -> bool
-    requires base { base < 2 ^ 32 }
-    requires inside { place + 8 * words ≤ length block.now }
+fn same_words(used: &FragmentMap, base: u32, block: &[u8], place: usize, words: u32) -> bool
+    requires { place + 8 * words ≤ length block.now }
     ensures { result ≡ has_bits block.now place (64 * words)
         (λ k. free_in (bits_of used.now) used.now.size (base + k)) }
 {
     for word in 0..words {
         let found = word_at(block, place + 8 * word as usize, 8);
-        let right = used.clear_bits(base + 64 * u64::from(word));
+        let right = used.clear_bits(u64::from(base) + 64 * u64::from(word));
         if !same_bits(found, right, 64) {
             return false;
         }
     }
     true
-}
-
-// Whether the last bits of a map, fewer than a word, are those of the fragments from one on that are free.
-fn same_last(used: &FragmentMap, base: u64, block: &[u8], place: usize, count: u32) -> bool
-    requires count { count < 64 }
-    requires inside { place + div_ceil count 8 ≤ length block.now }
-    ensures { result ≡ has_bits block.now place count
-        (λ k. free_in (bits_of used.now) used.now.size (base + k)) }
-{
-    if count == 0 {
-        return true;
-    }
-    let found = word_at(block, place, count.div_ceil(8) as usize);
-    let right = used.clear_bits(base);
-    same_bits(found, right, count)
 }
 
 /// Whether the map of fragments at a byte of a group block has the bits of the fragments that are free.
@@ -169,16 +155,17 @@ pub fn same_fragment_map(
         (cgbase geometry.now.layout group + k)) }
 {
     let fragments = group_fragments(geometry, group);
-    let base = u64::from(geometry.cgbase(group));
+    let base = geometry.cgbase(group);
     let words = fragments / 64;
     if !same_words(used, base, block, place as usize, words) {
         return false;
     }
-    same_last(
-        used,
-        base + 64 * u64::from(words),
+    let left = fragments % 64;
+    let found = word_at(
         block,
         place as usize + 8 * words as usize,
-        fragments % 64,
-    )
+        left.div_ceil(8) as usize,
+    );
+    let right = used.clear_bits(u64::from(base) + 64 * u64::from(words));
+    same_bits(found, right, left)
 }

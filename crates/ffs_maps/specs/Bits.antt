@@ -16,6 +16,11 @@ bits_of_words words size = map (is_bit words) (range_with_len 0 size)
 abbrev pub bits_of : FragmentMap → List Bool
 bits_of m = bits_of_words m.words.items m.size
 
+-- a map of so many fragments has these bits
+pub record HasBits (m : FragmentMap) (n : ℕ) (set : List Bool) : Type 0 where
+  pub size : m.size ≡ n
+  pub bits : bits_of m ≡ set
+
 -- so many bits from a place on are set
 abbrev pub set_run : List Bool → ℕ → ℕ → List Bool
 set_run bits start zero = bits

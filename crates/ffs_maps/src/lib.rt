@@ -29,20 +29,18 @@ pub struct FragmentMap {
 }
 
 impl FragmentMap {
-    ghost use Rattle.ffs_maps.specs.Bits.{bits_of, set_run, is_clear, AreClear};
+    ghost use Rattle.ffs_maps.specs.Bits.{bits_of, set_run, is_clear, AreClear, HasBits};
 
     /// A map with no bit set, in the memory of an allocator.
     pub fn new(alloc: Global, size: u32) -> Result<FragmentMap, AllocError>
-        ensures size { IfOk result (λ m. m.size ≡ size) }
-        ensures bits { IfOk result (λ m. bits_of m ≡ replicate size false) }
+        ensures { IfOk result (λ m. HasBits m size (replicate size false)) }
     {
         FragmentMap::in_memory(&mut SystemMemory::new(alloc), size)
     }
 
     /// A map with no bit set.
     pub fn in_memory<M: Memory>(memory: &mut M, size: u32) -> Result<FragmentMap, AllocError>
-        ensures size { IfOk result (λ m. m.size ≡ size) }
-        ensures bits { IfOk result (λ m. bits_of m ≡ replicate size false) }
+        ensures made { IfOk result (λ m. HasBits m size (replicate size false)) }
         ensures asks { Asks (M.account memory.old) (M.account memory.new) (8 * div_ceil size 64)
             result }
     {
@@ -145,8 +143,7 @@ impl FragmentMap {
     /// Sets the bit of a fragment.
     pub fn set(&mut self, fragment: u32)
         requires { fragment < self.old.size }
-        ensures size { self.new.size ≡ self.old.size }
-        ensures bits { bits_of self.new ≡ slice_set (bits_of self.old) fragment true }
+        ensures { HasBits self.new self.old.size (slice_set (bits_of self.old) fragment true) }
     {
         let index = fragment as usize / 64;
         let word = self.words[index];
@@ -156,8 +153,7 @@ impl FragmentMap {
     /// Clears the bit of a fragment.
     pub fn clear(&mut self, fragment: u32)
         requires { fragment < self.old.size }
-        ensures size { self.new.size ≡ self.old.size }
-        ensures bits { bits_of self.new ≡ slice_set (bits_of self.old) fragment false }
+        ensures { HasBits self.new self.old.size (slice_set (bits_of self.old) fragment false) }
     {
         let index = fragment as usize / 64;
         let word = self.words[index];
@@ -167,8 +163,7 @@ impl FragmentMap {
     /// Sets the bits of a run.
     pub fn set_run(&mut self, start: u32, len: u32)
         requires { start + len ≤ self.old.size }
-        ensures size { self.new.size ≡ self.old.size }
-        ensures bits { bits_of self.new ≡ set_run (bits_of self.old) start len }
+        ensures { HasBits self.new self.old.size (set_run (bits_of self.old) start len) }
     {
         for place in 0..len {
             self.set(start + place);

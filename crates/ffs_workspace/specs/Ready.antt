@@ -15,6 +15,11 @@ pub record IsReady (v : Layout) (d : Device) (w : Workspace) : Type 0 where
   pub volume : v.size * v.fsize ≤ d.size
   pub windows : HoldWindows v d.contents w
 
+-- only its windows have changed, and it is ready for the image as it is now
+pub record StaysReady (v : Layout) (d : Device) (old new : Workspace) : Type 0 where
+  pub held : new ≡ record old { windows = new.windows }
+  pub ready : IsReady v d new
+
 -- its lists have the lengths of the volume, nothing was found yet, and its windows hold what any image gives
 pub record IsNew (v : Layout) (w : Workspace) : Type 0 where
   pub made : IsFor v w

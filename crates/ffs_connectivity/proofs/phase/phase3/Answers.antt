@@ -16,14 +16,17 @@ use Rattle.ffs_connectivity.proofs.Leaving.{leaders_held, lines_begin}
 use Rattle.ffs_volume.proofs.Numbered.{from_next, from_end}
 use Rattle.ffs_connectivity.proofs.phase.phase3.Goals as goal
 
-pub returns-in_err-say-clause-text : goal.returns-in_err-say-clause-text
-returns-in_err-say-clause-text g c =
+pub returns-in_err-say-clause-runs : goal.returns-in_err-say-clause-runs
+returns-in_err-say-clause-runs g c =
     let p = err_from_is_err_and c.from_residual.result c.from_residual.ensures.1 in
     let v = c.args.geometry.now.layout in
-    rw (p.1, p.2) (of_stops _ (λ bytes. phase3 ∷ map of_names (connectivity_lines (volume_of v bytes)))
-    (λ bytes. map of_names (connectivity_lines (volume_of v bytes))) _ (phase3 ∷ []) _ _ _
-    (of_begins _ (λ bytes. phase3 ∷ map of_names (connectivity_lines (volume_of v bytes))) _) (λ bytes t. refl)
-    c.in_err-say.ensures.said)
+    rw (p.1, p.2) (record {
+      image = refl;
+      text = of_stops _ (λ bytes. phase3 ∷ map of_names (connectivity_lines (volume_of v bytes)))
+          (λ bytes. map of_names (connectivity_lines (volume_of v bytes))) _ (phase3 ∷ []) _ _ _
+          (of_begins _ (λ bytes. phase3 ∷ map of_names (connectivity_lines (volume_of v bytes))) _) (λ bytes t. refl)
+          c.in_err-say.ensures.said;
+    })
 
 pub loop-number-init : goal.loop-number-init
 loop-number-init g c =
@@ -47,25 +50,28 @@ loop-number-init g c =
           c.in_ok-say.ensures.said;
     }
 
-pub returns-in_err-check_inode-clause-text : goal.returns-in_err-check_inode-clause-text
-returns-in_err-check_inode-clause-text g c =
+pub returns-in_err-check_inode-clause-runs : goal.returns-in_err-check_inode-clause-runs
+returns-in_err-check_inode-clause-runs g c =
     let p = err_from_is_err_and c.from_residual-in_err-check_inode.result
     c.from_residual-in_err-check_inode.ensures.1 in
     let v = c.args.geometry.now.layout in
     let inv = c.loop-number.invariant in
     let n = c.loop-number.number in
-    rw (p.1, p.2) (of_fault (Unit {0}) (Unit {0}) _
-    (λ bytes. map of_names (lines_from (cut_off_lines (volume_of v bytes)) n (inodes_of v - n)))
-    (λ bytes. map of_names (cut_off_lines (volume_of v bytes) n))
-    (λ bytes. map of_names (lines_from (cut_off_lines (volume_of v bytes)) (n + 1) (inodes_of v - (n + 1)))) _ _ _ _
-    c.in_err-check_inode.field-0.0
-    inv.said (λ bytes k. from_next (cut_off_lines (volume_of v bytes)) n (inodes_of v) (omega arith))
-    (reports_knowing (Unit {0}) _ _ _ _ _ (Err c.in_err-check_inode.field-0.0)
-    (λ bytes k. (
-      ap (λ d. d.contents) inv.device ∙ k.0,
-      claims_left v bytes _ _ inv.survey k.1,
-      survey_left v bytes _ _ inv.survey k.2,
-    )) c.in_err-check_inode.ensures.text))
+    rw (p.1, p.2) (record {
+      image = search rules;
+      text = of_fault (Unit {0}) (Unit {0}) _
+          (λ bytes. map of_names (lines_from (cut_off_lines (volume_of v bytes)) n (inodes_of v - n)))
+          (λ bytes. map of_names (cut_off_lines (volume_of v bytes) n))
+          (λ bytes. map of_names (lines_from (cut_off_lines (volume_of v bytes)) (n + 1) (inodes_of v - (n + 1)))) _ _ _ _
+          c.in_err-check_inode.field-0.0
+          inv.said (λ bytes k. from_next (cut_off_lines (volume_of v bytes)) n (inodes_of v) (omega arith))
+          (reports_knowing (Unit {0}) _ _ _ _ _ (Err c.in_err-check_inode.field-0.0)
+          (λ bytes k. (
+            ap (λ d. d.contents) inv.device ∙ k.0,
+            claims_left v bytes _ _ inv.survey k.1,
+            survey_left v bytes _ _ inv.survey k.2,
+          )) c.in_err-check_inode.ensures.runs.text);
+    })
 
 pub loop-number-preserved : goal.loop-number-preserved
 loop-number-preserved g c =
@@ -74,11 +80,11 @@ loop-number-preserved g c =
     let n = c.loop-number.number in
     let ok = c.in_ok-check_inode.ensures in
     record {
-      ready = ok.ready;
-      device = ok.image ∙ inv.device;
+      ready = ok.stays.ready;
+      device = ok.runs.image ∙ inv.device;
       low = omega arith;
-      survey = leaves_more _ _ _ inv.survey (windows_leave _ _ ok.held);
-      leaders = leaders_held _ _ ok.held inv.leaders;
+      survey = leaves_more _ _ _ inv.survey (windows_leave _ _ ok.stays.held);
+      leaders = leaders_held _ _ ok.stays.held inv.leaders;
       said = of_part _ (λ bytes. map of_names (lines_from (cut_off_lines (volume_of v bytes)) n (inodes_of v - n)))
           (λ bytes. map of_names (cut_off_lines (volume_of v bytes) n))
           (λ bytes. map of_names (lines_from (cut_off_lines (volume_of v bytes)) (n + 1) (inodes_of v - (n + 1)))) _ _ _
@@ -89,14 +95,17 @@ loop-number-preserved g c =
             ap (λ d. d.contents) inv.device ∙ k.0,
             claims_left v bytes _ _ inv.survey k.1,
             survey_left v bytes _ _ inv.survey k.2,
-          )) ok.text);
+          )) ok.runs.text);
     }
 
-pub returns-clause-text : goal.returns-clause-text
-returns-clause-text g c =
+pub returns-clause-runs : goal.returns-clause-runs
+returns-clause-runs g c =
     let v = c.args.geometry.now.layout in
     let inv = c.loop-number.invariant in
     let n = c.loop-number.number in
-    of_same _ (λ bytes. map of_names (lines_from (cut_off_lines (volume_of v bytes)) n (inodes_of v - n))) (λ bytes. [])
-    _ _ _ inv.said
-    (λ bytes k. from_end (cut_off_lines (volume_of v bytes)) n (inodes_of v) (omega arith))
+    record {
+      image = search rules;
+      text = of_same _ (λ bytes. map of_names (lines_from (cut_off_lines (volume_of v bytes)) n (inodes_of v - n))) (λ bytes. [])
+          _ _ _ inv.said
+          (λ bytes k. from_end (cut_off_lines (volume_of v bytes)) n (inodes_of v) (omega arith));
+    }

@@ -1,30 +1,69 @@
-use Rattle.std.proofs.Common.{◌∷◌, [], map, sym, ◌∙◌, arith}
+use Rattle.std.proofs.Common.{◌∷◌, [], ap, map, refl, rules, sym, ◌∙◌, arith}
+use Rattle.std.proofs.lemmas.Result.{err_from_is_err_and}
+use Rattle.ffs_volume.specs.declared.Attr.{Attr}
 use Rattle.ffs_volume.specs.Messages.Kinds.{of_names, unref_dir}
-use Rattle.ffs_volume.specs.Directories.PathnameCheck.{attributes}
 use Rattle.ffs_volume.specs.Directories.Volumes.{volume_of}
-use Rattle.ffs_phase.proofs.Reporting.{of_begins, of_same, reports_same, reports_knowing}
+use Rattle.ffs_phase.proofs.Reporting.{of_begins, of_same, of_says, of_stops, of_reads}
 use Rattle.ffs_connectivity.specs.Lines.{cut_off_lines}
-use Rattle.ffs_connectivity.proofs.CutOff.{cut_off_is, silent, heard}
+use Rattle.ffs_connectivity.proofs.CutOff.{attributes_are, cut_off_is, silent, heard}
 use Rattle.ffs_connectivity.proofs.unref.check_inode.Goals as goal
 
-pub returns-then-cut_off-clause-text : goal.returns-then-cut_off-clause-text
-returns-then-cut_off-clause-text g c =
+pub returns-then-not-cut_off-clause-runs : goal.returns-then-not-cut_off-clause-runs
+returns-then-not-cut_off-clause-runs g c =
     let v = c.args.geometry.now.layout in
-    reports_same (Unit {0}) _ (λ bytes. of_names (unref_dir (attributes (volume_of v bytes) c.args.number)) ∷ [])
-    (λ bytes. map of_names (cut_off_lines (volume_of v bytes) c.args.number)) _ _ c.report_inode.result
-    (λ bytes k. sym (heard _ _
-    (sym (cut_off_is v bytes c.args.workspace.now _ _ _ _ _ c.args.number _ c.requires.low c.requires.number
-    (omega arith)
-    c.deref.ensures.value c.deref-2.ensures.value c.deref-3.ensures.value c.deref-4.ensures.value
-    c.deref-5.ensures.value c.is_unref-cut_off.ensures k.1 k.2) ∙ c.if-cut_off.true)))
-    (reports_knowing (Unit {0}) _ _ _ _ _ c.report_inode.result (λ bytes k. k.0) c.report_inode.ensures.text)
+    record {
+      image = refl;
+      text = of_same _ (λ bytes. map of_names (cut_off_lines (volume_of v bytes) c.args.number)) (λ bytes. []) _ _ _
+          (of_begins _ (λ bytes. map of_names (cut_off_lines (volume_of v bytes) c.args.number)) _)
+          (λ bytes k. silent _ _ (sym
+          (cut_off_is v bytes c.args.workspace.now _ _ _ _ _ c.args.number _ c.requires.low c.requires.number
+          (omega arith) c.deref.ensures.value c.deref-2.ensures.value c.deref-3.ensures.value c.deref-4.ensures.value
+          c.deref-5.ensures.value c.is_unref-cut_off.ensures k.1 k.2) ∙ c.if-not-cut_off.true));
+    }
 
-pub returns-clause-text : goal.returns-clause-text
-returns-clause-text g c =
+pub returns-in_err-inode-clause-runs : goal.returns-in_err-inode-clause-runs
+returns-in_err-inode-clause-runs g c =
+    let p = err_from_is_err_and c.from_residual.result c.from_residual.ensures.1 in
+    rw (p.1, p.2) (record {
+      image = search rules;
+      text = of_reads _ _ _ _ _
+          (of_begins _ (λ bytes. map of_names (cut_off_lines (volume_of c.args.geometry.now.layout bytes)
+          c.args.number)) _);
+    })
+
+pub returns-in_err-say-clause-runs : goal.returns-in_err-say-clause-runs
+returns-in_err-say-clause-runs g c =
+    let p = err_from_is_err_and c.from_residual-in_err-say.result c.from_residual-in_err-say.ensures.1 in
     let v = c.args.geometry.now.layout in
-    of_same _ (λ bytes. map of_names (cut_off_lines (volume_of v bytes) c.args.number)) (λ bytes. []) _ _ _
-    (of_begins _ (λ bytes. map of_names (cut_off_lines (volume_of v bytes) c.args.number)) _)
-    (λ bytes k. silent _ _ (sym
-    (cut_off_is v bytes c.args.workspace.now _ _ _ _ _ c.args.number _ c.requires.low c.requires.number (omega arith)
-    c.deref.ensures.value c.deref-2.ensures.value c.deref-3.ensures.value c.deref-4.ensures.value
-    c.deref-5.ensures.value c.is_unref-cut_off.ensures k.1 k.2) ∙ c.if-cut_off.false))
+    rw (p.1, p.2) (record {
+      image = search rules;
+      text = of_stops _ (λ bytes. map of_names (cut_off_lines (volume_of v bytes) c.args.number)) (λ bytes. []) _
+          (of_names (unref_dir c.attr_of.result) ∷ []) _ _ _
+          (of_begins _ (λ bytes. map of_names (cut_off_lines (volume_of v bytes) c.args.number)) _)
+          (λ bytes k. heard _ _ (sym
+          (cut_off_is v bytes c.args.workspace.now _ _ _ _ _ c.args.number _ c.requires.low c.requires.number
+          (omega arith) c.deref.ensures.value c.deref-2.ensures.value c.deref-3.ensures.value c.deref-4.ensures.value
+          c.deref-5.ensures.value c.is_unref-cut_off.ensures k.1 k.2) ∙ c.if-not-cut_off.false)
+          ∙ ap (λ (a : Attr). of_names (unref_dir a) ∷ [])
+          (attributes_are v bytes c.args.number c.in_ok-inode.inode c.attr_of.result
+          (c.in_ok-inode.ensures.inode bytes k.0) c.attr_of.ensures))
+          c.in_err-say.ensures.said;
+    })
+
+pub returns-clause-runs : goal.returns-clause-runs
+returns-clause-runs g c =
+    let v = c.args.geometry.now.layout in
+    record {
+      image = search rules;
+      text = of_says _ (λ bytes. map of_names (cut_off_lines (volume_of v bytes) c.args.number)) (λ bytes. []) _
+          (of_names (unref_dir c.attr_of.result) ∷ []) _ _ _
+          (of_begins _ (λ bytes. map of_names (cut_off_lines (volume_of v bytes) c.args.number)) _)
+          (λ bytes k. heard _ _ (sym
+          (cut_off_is v bytes c.args.workspace.now _ _ _ _ _ c.args.number _ c.requires.low c.requires.number
+          (omega arith) c.deref.ensures.value c.deref-2.ensures.value c.deref-3.ensures.value c.deref-4.ensures.value
+          c.deref-5.ensures.value c.is_unref-cut_off.ensures k.1 k.2) ∙ c.if-not-cut_off.false)
+          ∙ ap (λ (a : Attr). of_names (unref_dir a) ∷ [])
+          (attributes_are v bytes c.args.number c.in_ok-inode.inode c.attr_of.result
+          (c.in_ok-inode.ensures.inode bytes k.0) c.attr_of.ensures))
+          c.in_ok-say.ensures.said;
+    }

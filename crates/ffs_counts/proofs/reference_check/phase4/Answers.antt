@@ -1,4 +1,4 @@
-use Rattle.std.proofs.Common.{arith, refl, ap, ◌∙◌, ◌∷◌, [], List, ◌+◌, ◌-◌, map, Err}
+use Rattle.std.proofs.Common.{arith, rules, refl, ap, ◌∙◌, ◌∷◌, [], List, ◌+◌, ◌-◌, map, Err}
 use Rattle.std.proofs.lemmas.Result.{err_from_is_err_and}
 use Rattle.ffs_volume.specs.Messages.Kinds.{Message, of_names, phase4, lines_from}
 use Rattle.ffs_volume.specs.Directories.ReferenceCheck.{counted_lines, reference_lines}
@@ -12,14 +12,17 @@ use Rattle.ffs_counts.proofs.Holding.{free_lines, held_on, lines_begin}
 use Rattle.ffs_volume.proofs.Numbered.{from_next, from_end}
 use Rattle.ffs_counts.proofs.reference_check.phase4.Goals as goal
 
-pub returns-in_err-say-clause-text : goal.returns-in_err-say-clause-text
-returns-in_err-say-clause-text g c =
+pub returns-in_err-say-clause-runs : goal.returns-in_err-say-clause-runs
+returns-in_err-say-clause-runs g c =
     let p = err_from_is_err_and c.from_residual.result c.from_residual.ensures.1 in
     let v = c.args.geometry.now.layout in
-    rw (p.1, p.2) (of_stops _ (λ bytes. phase4 ∷ map of_names (reference_lines (volume_of v bytes)))
-    (λ bytes. map of_names (reference_lines (volume_of v bytes))) _ (phase4 ∷ []) _ _ _
-    (of_begins _ (λ bytes. phase4 ∷ map of_names (reference_lines (volume_of v bytes))) _) (λ bytes t. refl)
-    c.in_err-say.ensures.said)
+    rw (p.1, p.2) (record {
+      image = refl;
+      text = of_stops _ (λ bytes. phase4 ∷ map of_names (reference_lines (volume_of v bytes)))
+          (λ bytes. map of_names (reference_lines (volume_of v bytes))) _ (phase4 ∷ []) _ _ _
+          (of_begins _ (λ bytes. phase4 ∷ map of_names (reference_lines (volume_of v bytes))) _) (λ bytes t. refl)
+          c.in_err-say.ensures.said;
+    })
 
 pub loop-number-init : goal.loop-number-init
 loop-number-init g c =
@@ -37,25 +40,28 @@ loop-number-init g c =
           c.in_ok-say.ensures.said;
     }
 
-pub returns-in_err-check_inode-clause-text : goal.returns-in_err-check_inode-clause-text
-returns-in_err-check_inode-clause-text g c =
+pub returns-in_err-check_inode-clause-runs : goal.returns-in_err-check_inode-clause-runs
+returns-in_err-check_inode-clause-runs g c =
     let p = err_from_is_err_and c.from_residual-in_err-check_inode.result
     c.from_residual-in_err-check_inode.ensures.1 in
     let v = c.args.geometry.now.layout in
     let inv = c.loop-number.invariant in
     let n = c.loop-number.number in
-    rw (p.1, p.2) (of_fault (Unit {0}) (Unit {0}) _
-    (λ bytes. map of_names (lines_from (counted_lines (volume_of v bytes)) n (inodes_of v - n)))
-    (λ bytes. map of_names (counted_lines (volume_of v bytes) n))
-    (λ bytes. map of_names (lines_from (counted_lines (volume_of v bytes)) (n + 1) (inodes_of v - (n + 1)))) _ _ _ _
-    c.in_err-check_inode.field-0.0
-    inv.said (λ bytes k. from_next (counted_lines (volume_of v bytes)) n (inodes_of v)
-    (omega (arith, c.loop-number-test.true)))
-    (reports_knowing (Unit {0}) _ _ _ _ _ (Err c.in_err-check_inode.field-0.0)
-    (λ bytes k. (
-      ap (λ d. d.contents) inv.device ∙ k.0,
-      findings_held v bytes _ _ inv.held k.1,
-    )) c.in_err-check_inode.ensures.text))
+    rw (p.1, p.2) (record {
+      image = search rules;
+      text = of_fault (Unit {0}) (Unit {0}) _
+          (λ bytes. map of_names (lines_from (counted_lines (volume_of v bytes)) n (inodes_of v - n)))
+          (λ bytes. map of_names (counted_lines (volume_of v bytes) n))
+          (λ bytes. map of_names (lines_from (counted_lines (volume_of v bytes)) (n + 1) (inodes_of v - (n + 1)))) _ _ _ _
+          c.in_err-check_inode.field-0.0
+          inv.said (λ bytes k. from_next (counted_lines (volume_of v bytes)) n (inodes_of v)
+          (omega (arith, c.loop-number-test.true)))
+          (reports_knowing (Unit {0}) _ _ _ _ _ (Err c.in_err-check_inode.field-0.0)
+          (λ bytes k. (
+            ap (λ d. d.contents) inv.device ∙ k.0,
+            findings_held v bytes _ _ inv.held k.1,
+          )) c.in_err-check_inode.ensures.runs.text);
+    })
 
 pub loop-number-preserved-then-free-eq0 : goal.loop-number-preserved-then-free-eq0
 loop-number-preserved-then-free-eq0 g c =
@@ -65,9 +71,9 @@ loop-number-preserved-then-free-eq0 g c =
     let ok = c.in_ok-check_inode.ensures in
     record {
       within = omega (arith, c.loop-number-test.true);
-      ready = ok.ready;
-      device = ok.image ∙ inv.device;
-      held = held_on c.args.workspace.now c.loop-number.workspace c.check_inode.new.workspace inv.held ok.held;
+      ready = ok.stays.ready;
+      device = ok.runs.image ∙ inv.device;
+      held = held_on c.args.workspace.now c.loop-number.workspace c.check_inode.new.workspace inv.held ok.stays.held;
       said = of_part _ (λ bytes. map of_names (lines_from (counted_lines (volume_of v bytes)) n (inodes_of v - n)))
           (λ bytes. map of_names (counted_lines (volume_of v bytes) n))
           (λ bytes. map of_names (lines_from (counted_lines (volume_of v bytes)) (n + 1) (inodes_of v - (n + 1)))) _ _ _
@@ -77,7 +83,7 @@ loop-number-preserved-then-free-eq0 g c =
           (said_knows _ _ _ _ _ _ (λ bytes k. (
             ap (λ d. d.contents) inv.device ∙ k.0,
             findings_held v bytes _ _ inv.held k.1,
-          )) ok.text);
+          )) ok.runs.text);
     }
 
 pub loop-number-preserved : goal.loop-number-preserved
@@ -99,11 +105,14 @@ loop-number-preserved g c =
           (omega (arith, c.free_run-free.ensures.within, c.deref.ensures.len, inv.ready.made.kinds)));
     }
 
-pub returns-clause-text : goal.returns-clause-text
-returns-clause-text g c =
+pub returns-clause-runs : goal.returns-clause-runs
+returns-clause-runs g c =
     let v = c.args.geometry.now.layout in
     let inv = c.loop-number.invariant in
     let n = c.loop-number.number in
-    of_same _ (λ bytes. map of_names (lines_from (counted_lines (volume_of v bytes)) n (inodes_of v - n))) (λ bytes. [])
-    _ _ _ inv.said
-    (λ bytes k. from_end (counted_lines (volume_of v bytes)) n (inodes_of v) (omega (arith, c.loop-number-test.false)))
+    record {
+      image = search rules;
+      text = of_same _ (λ bytes. map of_names (lines_from (counted_lines (volume_of v bytes)) n (inodes_of v - n))) (λ bytes. [])
+          _ _ _ inv.said
+          (λ bytes k. from_end (counted_lines (volume_of v bytes)) n (inodes_of v) (omega (arith, c.loop-number-test.false)));
+    }

@@ -2,7 +2,7 @@ use Rattle.std.proofs.Common.{arith, ap, ◌∙◌, ◌≡◌, ◌+◌, ◌-◌,
 use Rattle.std.specs.List.{range_with_len}
 use Rattle.ffs_volume.specs.Blocks.Inodes.{is_file_or_dir}
 use Rattle.ffs_groups.specs.Inodes.{class_in}
-use Rattle.ffs_groups.proofs.Sums.{count_more, count_fits}
+use Rattle.ffs_groups.proofs.Sums.{one_if, count_more, count_fits}
 use Rattle.ffs_counts.proofs.summing.file_count.Goals as goal
 
 pub overflow_add-files : goal.overflow_add-files
@@ -11,8 +11,8 @@ overflow_add-files c =
     omega (
       arith,
       count_fits (λ x. is_file_or_dir (class_in c.args.kinds.now x)) 2 (c.loop-inode.inode - 2)
-          (length c.args.kinds.now) c.loop-inode.files c.one_if-files.result c.is_file_or_dir_kind.result
-          c.loop-inode.invariant.files c.one_if-files.ensures
+          (length c.args.kinds.now) c.loop-inode.files c.from-files.result c.is_file_or_dir_kind.result
+          c.loop-inode.invariant.files (one_if _ _ c.from-files.ensures)
           (c.is_file_or_dir_kind.ensures ∙ ap (λ j. is_file_or_dir (class_in c.args.kinds.now j)) at)
           (omega (arith, c.loop-inode-test.true)) c.requires,
     )
@@ -23,8 +23,8 @@ loop-inode-preserved c =
     let more : c.loop-inode.inode - 2 + 1 ≡ c.loop-inode.inode + 1 - 2 = omega arith in
     record {
       files = count_more (λ x. is_file_or_dir (class_in c.args.kinds.now x)) 2 (c.loop-inode.inode - 2)
-          c.loop-inode.files c.one_if-files.result c.is_file_or_dir_kind.result
-          c.loop-inode.invariant.files c.one_if-files.ensures
+          c.loop-inode.files c.from-files.result c.is_file_or_dir_kind.result
+          c.loop-inode.invariant.files (one_if _ _ c.from-files.ensures)
           (c.is_file_or_dir_kind.ensures ∙ ap (λ j. is_file_or_dir (class_in c.args.kinds.now j)) at)
           ∙ ap (λ j. count_by (λ x. is_file_or_dir (class_in c.args.kinds.now x)) (range_with_len 2 j)) more;
       within = omega (arith, c.loop-inode-test.true);

@@ -1,9 +1,12 @@
-use Rattle.std.proofs.Common.{arith, rules, refl, ap, sym, ◌∙◌, ◌≡◌, ◌+◌, ◌*◌, ◌/◌, ◌%◌, true, false}
+use Rattle.std.proofs.Common.{arith, rules, refl, ap, sym, ◌∙◌, ◌≡◌, ◌+◌, ◌*◌, ◌/◌, ◌%◌, nat_eq, true, false}
+use Rattle.std.specs.Int.{bit_at}
 use Rattle.std.specs.Prelude.{◌&&◌}
-use Rattle.ffs_volume.specs.Groups.Records.{has_bits}
+use Rattle.ffs_volume.specs.Groups.Records.{bit_at as map_bit}
+use Rattle.ffs_volume.specs.Groups.Records.{has_bits, same_bit}
 use Rattle.ffs_maps.specs.Bits.{bits_of}
 use Rattle.ffs_groups.specs.Free.{free_in}
-use Rattle.ffs_groups.proofs.Adding.{fragment_map}
+use Rattle.ffs_groups.proofs.Adding.{clear_as_free, fragment_map}
+use Rattle.ffs_groups.proofs.MapWords.{same_below}
 use Rattle.ffs_groups.proofs.maps.same_fragment_map.Goals as goal
 
 pub returns-then-not-same_words : goal.returns-then-not-same_words
@@ -13,21 +16,33 @@ returns-then-not-same_words c =
     let n = c.group_fragments-fragments.result in
     let differ : c.same_words.result ≡ false = search rules in
     let last = has_bits block (c.args.place + 8 * (n / 64)) (n % 64)
-    (λ k. free_in (bits_of used) used.size (c.from-base.result + 64 * (n / 64) + k)) in
+    (λ k. free_in (bits_of used) used.size (c.cgbase-base.result + 64 * (n / 64) + k)) in
     sym (ap (λ b. b && last) differ)
     ∙ fragment_map (bits_of used) used.size c.args.geometry.now.layout.size block c.args.place n _
-    c.from-base.result _ (c.from-base.result + 64 * (n / 64)) _ c.same_words.result last
+    c.cgbase-base.result _ (c.cgbase-base.result + 64 * (n / 64)) _ c.same_words.result last
     c.requires.fragments.size c.group_fragments-fragments.ensures.value
-    (c.from-base.ensures ∙ c.cgbase.ensures.value) refl refl c.same_words.ensures refl
+    c.cgbase-base.ensures.value refl refl c.same_words.ensures refl
 
 pub returns : goal.returns
 returns c =
     let used = c.args.used.now in
     let block = c.args.block.now in
     let n = c.group_fragments-fragments.result in
+    let at = c.args.place + 8 * (n / 64) in
+    let last = c.from.result + 64 * c.from-2.result in
     let agree : c.same_words.result ≡ true = search rules in
-    sym (ap (λ b. b && c.same_last.result) agree)
+    let end : c.same_bits.result ≡ has_bits block at (n % 64) (λ k. free_in (bits_of used) used.size (last + k)) =
+    c.same_bits.ensures
+    ∙ same_below (n % 64)
+    (λ k. same_bit (nat_eq (bit_at c.word_at-found.result k) 1) (nat_eq (bit_at c.clear_bits-right.result k) 1))
+    (λ k. same_bit (map_bit block at k) (free_in (bits_of used) used.size (last + k)))
+    (λ k h. ap (λ b. same_bit b (nat_eq (bit_at c.clear_bits-right.result k) 1))
+    (c.word_at-found.ensures k (omega (arith, h, c.div_ceil.ensures)))
+    ∙ ap (λ b. same_bit (map_bit block at k) b)
+    (c.clear_bits-right.ensures k (omega (arith, h))
+    ∙ clear_as_free (bits_of used) used.size used.size _ _ refl refl)) in
+    sym (ap (λ b. b && c.same_bits.result) agree)
     ∙ fragment_map (bits_of used) used.size c.args.geometry.now.layout.size block c.args.place n _
-    c.from-base.result _ _ _ c.same_words.result c.same_last.result
-    c.requires.fragments.size c.group_fragments-fragments.ensures.value (c.from-base.ensures ∙ c.cgbase.ensures.value)
-    (omega (arith, c.from.ensures)) refl c.same_words.ensures c.same_last.ensures
+    c.cgbase-base.result _ last at c.same_words.result c.same_bits.result
+    c.requires.fragments.size c.group_fragments-fragments.ensures.value c.cgbase-base.ensures.value
+    (omega (arith, c.from.ensures, c.from-2.ensures)) refl c.same_words.ensures end

@@ -26,7 +26,7 @@ returns-then-not-same_bits c =
     (λ k h. c.word_at-found.ensures k (omega (arith, h)))
     (λ k h. c.clear_bits-right.ensures k h
     ∙ clear_as_free (bits_of c.args.used.now) c.args.used.now.size c.args.used.now.size _ _ refl
-    (omega (arith, c.from.ensures)))
+    (omega (arith, c.from.ensures, c.from-in-loop-word.ensures)))
     ∙ sym c.same_bits.ensures ∙ differ))
 
 pub loop-word-preserved : goal.loop-word-preserved
@@ -43,5 +43,5 @@ loop-word-preserved c =
     (λ k h. c.word_at-found.ensures k (omega (arith, h)))
     (λ k h. c.clear_bits-right.ensures k h
     ∙ clear_as_free (bits_of c.args.used.now) c.args.used.now.size c.args.used.now.size _ _ refl
-    (omega (arith, c.from.ensures)))
+    (omega (arith, c.from.ensures, c.from-in-loop-word.ensures)))
     ∙ sym c.same_bits.ensures ∙ agree)

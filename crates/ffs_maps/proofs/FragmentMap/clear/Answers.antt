@@ -1,12 +1,15 @@
-use Rattle.std.proofs.Common.{arith, ◌/◌, ◌<◌, length}
+use Rattle.std.proofs.Common.{arith, refl, ◌/◌, ◌<◌, length}
 use Rattle.std.proofs.lemmas.List.{get_or_read}
 use Rattle.ffs_maps.proofs.Bits.{clear_bits}
 use Rattle.ffs_maps.proofs.FragmentMap.clear.Goals as goal
 
-pub returns-clause-bits : goal.returns-clause-bits
-returns-clause-bits c =
+pub returns : goal.returns
+returns c =
     let inside : c.args.fragment / 64 < length c.args.self.now.words.items = omega arith in
-    clear_bits c.args.self.now.words.items c.args.self.now.size c.args.fragment c.index-word.result.now c.requires
-    inside
-    (get_or_read c.args.self.now.words.items (c.args.fragment / 64) c.index-word.result.now inside c.index-word.ensures
-    0)
+    record {
+      size = refl;
+      bits = clear_bits c.args.self.now.words.items c.args.self.now.size c.args.fragment c.index-word.result.now c.requires
+          inside
+          (get_or_read c.args.self.now.words.items (c.args.fragment / 64) c.index-word.result.now inside c.index-word.ensures
+          0);
+    }

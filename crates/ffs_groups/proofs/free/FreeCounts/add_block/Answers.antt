@@ -5,7 +5,7 @@ use Rattle.ffs_groups.proofs.free.FreeCounts.add_block.Goals as goal
 
 pub returns-then-free-full : goal.returns-then-free-full
 returns-then-free-full c =
-    let whole = whole_by_mask c.args.bits c.args.frag c.requires.block.few c.if-free-full.true in
+    let whole = whole_by_mask c.args.bits c.args.frag c.requires.few c.if-free-full.true in
     record {
       blocks = rw whole (omega arith);
       fragments = rw whole (omega arith);
@@ -14,7 +14,7 @@ returns-then-free-full c =
 
 pub returns-then-free-ne0 : goal.returns-then-free-ne0
 returns-then-free-ne0 c =
-    let loose = not_whole_by_mask c.args.bits c.args.frag c.requires.block.few c.if-free-full.false in
+    let loose = not_whole_by_mask c.args.bits c.args.frag c.requires.few c.if-free-full.false in
     record {
       blocks = rw loose c.add_loose.ensures.blocks;
       fragments = rw loose c.add_loose.ensures.fragments;
@@ -23,7 +23,7 @@ returns-then-free-ne0 c =
 
 pub returns-else-free-ne0 : goal.returns-else-free-ne0
 returns-else-free-ne0 c =
-    let none = none_by_mask c.args.bits c.args.frag c.requires.block.few c.requires.block.some c.if-free-ne0.false in
+    let none = none_by_mask c.args.bits c.args.frag c.requires.few c.requires.some c.if-free-ne0.false in
     record {
       blocks = omega (arith, none.0);
       fragments = omega (arith, none.1);
