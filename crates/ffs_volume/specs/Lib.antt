@@ -5,10 +5,12 @@
 -- `%` are those of integers. `x.now` is the value of a constant of the program. `record s { f = x }` is s with another
 -- f, `λ x. e` is a function, and `(x : A) × B` says that there is an x. Past the end of a list `slice_index` is 0, and
 -- `slice_index_or` is its last argument; `take` and `drop` give what there is. `range_with_len a n` are the n numbers
--- from a on. `count_by`, `sum_by` and `flat_map` count, add and join over a list.
+-- from a on. `count_by`, `sum_by` and `flat_map` count, add and join over a list. `decimal` and `signed_decimal` are the
+-- digits of a number, `div_ceil` is the quotient rounded up, `cond b x y` is x where b holds, else y. `==` is a test, and
+-- `≡` a statement.
 pub mod Disk
-pub mod Messages
 pub mod Blocks
+pub mod Messages
 pub mod Directories
 pub mod Groups
 pub mod Report
