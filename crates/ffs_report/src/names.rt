@@ -44,7 +44,7 @@ fn print_attr<W: Output>(out: &mut W, attr: &Attr) -> Result<(), OutFault>
             Piece::Octal(attr.mode),
             Piece::Text(SIZE),
             Piece::Count(attr.size, MTIME),
-            Piece::Signed(attr.mtime as i64),
+            Piece::Total(attr.mtime as i64, b""),
         ],
     )
 }
@@ -212,10 +212,8 @@ fn print_links<W: Output>(
         attr,
         &[
             Piece::Text(COUNT),
-            Piece::Signed(count as i64),
-            Piece::Text(SHOULD_BE),
-            Piece::Number(right),
-            Piece::Text(ADJUST),
+            Piece::Total(count as i64, SHOULD_BE),
+            Piece::Count(right, ADJUST),
         ],
     )
 }

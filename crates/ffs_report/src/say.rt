@@ -9,7 +9,7 @@ use crate::line_buffer::LineBuffer;
 use crate::names::{print_directory, print_dot, print_entry, print_reference};
 use crate::output::{OutFault, Output};
 use crate::piece::Piece;
-use crate::print::{print, print_pieces};
+use crate::print::{print, print_count, print_pieces};
 use ffs_volume::texts::*;
 use ffs_volume::{BlockMessage, SuperFault};
 
@@ -104,8 +104,7 @@ fn print_minfree<W: Output>(out: &mut W, value: i32) -> Result<(), OutFault>
         out,
         &[
             Piece::Text(MINFREE),
-            Piece::Small(value),
-            Piece::Text(SET_MINFREE),
+            Piece::Total(value as i64, SET_MINFREE),
         ],
     )
 }
@@ -148,28 +147,25 @@ fn print_claim<W: Output>(
 ) -> Result<(), OutFault>
     ensures { Prints (W.sink out.old) (W.sink out.new) (claim_text fragment what.now inode) result }
 {
-    print_pieces(
-        out,
-        &[
-            Piece::Count(fragment as u64, what),
-            Piece::Count(inode as u64, LINE_END),
-        ],
-    )
+    print_count(out, fragment as u64, what)?;
+    print_count(out, inode as u64, LINE_END)
 }
 
-fn print_count<W: Output>(out: &mut W, inode: u32, found: u32, right: u64) -> Result<(), OutFault>
+fn print_block_count<W: Output>(
+    out: &mut W,
+    inode: u32,
+    found: u32,
+    right: u64,
+) -> Result<(), OutFault>
     ensures { Prints (W.sink out.old) (W.sink out.new) (block_count_text inode found right) result }
 {
     print_pieces(
         out,
         &[
             Piece::Text(BLOCK_COUNT),
-            Piece::Number(inode as u64),
-            Piece::Text(FOUND),
-            Piece::Number(found as u64),
-            Piece::Text(RIGHT),
-            Piece::Number(right),
-            Piece::Text(CORRECT),
+            Piece::Count(inode as u64, FOUND),
+            Piece::Count(found as u64, RIGHT),
+            Piece::Count(right, CORRECT),
         ],
     )
 }
@@ -189,7 +185,7 @@ fn print_block<W: Output>(out: &mut W, message: BlockMessage) -> Result<(), OutF
             inode,
             found,
             right,
-        } => print_count(out, inode, found, right),
+        } => print_block_count(out, inode, found, right),
         BlockMessage::GroupMagic { group } => print_number(out, GROUP, group as u64, GROUP_MAGIC),
         BlockMessage::FreeCounts => print(out, FREE_COUNTS),
         BlockMessage::MapsWrong => print(out, MAPS_WRONG),
