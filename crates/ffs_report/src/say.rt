@@ -1,7 +1,7 @@
 // Prints a line.
 ghost use Rattle.std.specs.Prelude.{◌≡◌};
 ghost use Rattle.ffs_report.specs.Sink.{Prints};
-ghost use Rattle.ffs_report.specs.Lines.{message_of, heading_message};
+ghost use Rattle.ffs_report.specs.Lines.{message_of};
 ghost use Rattle.ffs_volume.specs.Messages.Texts.{text_of, number_text, fault_text, opening_text, mounted_text, minfree_text, claim_text, block_count_text, block_message_text, summary_text};
 
 use crate::line::{Heading, Line};
@@ -41,7 +41,12 @@ fn print_line<W: Output>(out: &mut W, line: &Line<'_>) -> Result<(), OutFault>
         Line::Optimization => print(out, OPTIMIZATION),
         Line::Minfree { value } => print_minfree(out, value),
         Line::Mounted { mount } => print_mounted(out, mount),
-        Line::Heading(heading) => print_heading(out, heading),
+        Line::Heading(Heading::Phase1) => print(out, PHASE1),
+        Line::Heading(Heading::Phase1b) => print(out, PHASE1B),
+        Line::Heading(Heading::Phase2) => print(out, PHASE2),
+        Line::Heading(Heading::Phase3) => print(out, PHASE3),
+        Line::Heading(Heading::Phase4) => print(out, PHASE4),
+        Line::Heading(Heading::Phase5) => print(out, PHASE5),
         Line::Block(message) => print_block(out, message),
         Line::Directory(line) => print_directory(out, &line),
         Line::Dot(line) => print_dot(out, &line),
@@ -126,19 +131,7 @@ fn print_fault<W: Output>(out: &mut W, fault: SuperFault) -> Result<(), OutFault
     }
 }
 
-fn print_heading<W: Output>(out: &mut W, heading: Heading) -> Result<(), OutFault>
-    ensures { Prints (W.sink out.old) (W.sink out.new) (text_of (heading_message heading)) result }
-{
-    match heading {
-        Heading::Phase1 => print(out, PHASE1),
-        Heading::Phase1b => print(out, PHASE1B),
-        Heading::Phase2 => print(out, PHASE2),
-        Heading::Phase3 => print(out, PHASE3),
-        Heading::Phase4 => print(out, PHASE4),
-        Heading::Phase5 => print(out, PHASE5),
-    }
-}
-
+#[inline(always)]
 fn print_claim<W: Output>(
     out: &mut W,
     fragment: u32,
