@@ -19,7 +19,8 @@ use Rattle.ffs_certificate.proofs.Links.{links-right}
 use Rattle.ffs_volume.specs.Directories.Parents.{graph_of, roled_at}
 use Rattle.ffs_volume.specs.Directories.PathnameCheck.{is_short, is_bad_whiteout, is_extraneous, is_wrong_parent}
 use Rattle.ffs_volume.specs.Directories.Connectivity.{is_unref_dir_of}
-use Rattle.ffs_volume.specs.Consistent.DirectoriesRight.{IsVolume, IsUnmarked, IsPlainRight, IsDirRight, AreDirsRight}
+use Rattle.ffs_volume.specs.Consistent.DirectoriesRight.{IsPlainRight, IsDirRight, AreDirsRight}
+use Rattle.ffs_certificate.specs.Premises.{IsVolume, IsUnmarked}
 use Rattle.ffs_volume.specs.Consistent.DirectoriesRight.{AreLinksRight, AreCountsRight}
 use Rattle.ffs_certificate.proofs.Silence.{and_false-from}
 use Rattle.ffs_certificate.proofs.Entries.{names_at-from, IsPlainQuiet}

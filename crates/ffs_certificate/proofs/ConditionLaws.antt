@@ -24,7 +24,8 @@ use Rattle.ffs_volume.specs.Directories.Graph.{parent, parent_entry_index}
 use Rattle.ffs_volume.proofs.Graphs.{NoExtraneous}
 use Rattle.ffs_volume.specs.Directories.Parents.{graph_of, is_from_parent}
 use Rattle.ffs_volume.specs.Directories.PathnameCheck.{is_wrong_parent, is_extraneous}
-use Rattle.ffs_volume.specs.Consistent.DirectoriesRight.{IsVolume, IsUnmarked, IsPlainRight, AreDirsRight}
+use Rattle.ffs_volume.specs.Consistent.DirectoriesRight.{IsPlainRight, AreDirsRight}
+use Rattle.ffs_certificate.specs.Premises.{IsVolume, IsUnmarked}
 use Rattle.ffs_volume.specs.Consistent.DirectoriesRight.{AreLinksRight, AreCountsRight}
 use Rattle.ffs_volume.specs.Directories.Volumes.{class_at, whole_volume}
 use Rattle.ffs_certificate.specs.DirsCertificate.{IsSilent}

@@ -1,7 +1,7 @@
 -- The certificate of the checks of directories.
 use Rattle.std.specs.Prelude.{◌↔◌}
 use Rattle.ffs_volume.specs.Directories.Roles.{Volume}
-use Rattle.ffs_volume.specs.Consistent.DirectoriesRight.{IsVolume, IsUnmarked}
+use Rattle.ffs_certificate.specs.Premises.{IsVolume, IsUnmarked}
 use Rattle.ffs_certificate.specs.DirsCertificate.{IsSilent, AreDirectoriesRight}
 use Rattle.ffs_certificate.proofs.Dirs.{pathname-quiet, pathname-silent}
 use Rattle.ffs_certificate.proofs.Counts.{connectivity-quiet, connectivity-silent, reference-quiet, reference-silent}

@@ -21,7 +21,8 @@ use Rattle.ffs_volume.specs.Directories.Parents.{graph_of, is_from_parent}
 use Rattle.ffs_volume.specs.Directories.PathnameCheck.{is_short, is_bad_whiteout, is_wrong_parent, is_extraneous}
 use Rattle.ffs_volume.specs.Directories.PathnameCheck.{has_wrong_type}
 use Rattle.ffs_volume.specs.Directories.Connectivity.{is_unref_dir_of}
-use Rattle.ffs_volume.specs.Consistent.DirectoriesRight.{IsVolume, IsUnmarked, IsDirSize, IsPlainRight, AreDirsRight}
+use Rattle.ffs_volume.specs.Consistent.DirectoriesRight.{IsDirSize, IsPlainRight, AreDirsRight}
+use Rattle.ffs_certificate.specs.Premises.{IsVolume, IsUnmarked}
 use Rattle.ffs_volume.specs.Consistent.DirectoriesRight.{AreLinksRight, AreCountsRight}
 use Rattle.ffs_certificate.proofs.Silence.{and_false-right}
 use Rattle.ffs_certificate.proofs.Live.{plain-live}

@@ -76,7 +76,7 @@ links-right v two all = (
         let e = has_parent_entry v d n (all d h) in
         record {
           in_dir = e.0;
-          place = e.1;
+          index = e.1;
           there = e.3;
           only = λ s j t.
               let q = none s j d t h in

@@ -17,7 +17,7 @@ use Rattle.ffs_certificate.proofs.Links.{place_of}
 use Rattle.ffs_volume.specs.Directories.Parents.{graph_of, roled_at, first_naming_dir, is_first_name}
 use Rattle.ffs_volume.specs.Directories.PathnameCheck.{reports_suspect}
 use Rattle.ffs_volume.specs.Directories.Connectivity.{is_dead}
-use Rattle.ffs_volume.specs.Consistent.DirectoriesRight.{IsVolume, IsUnmarked}
+use Rattle.ffs_certificate.specs.Premises.{IsVolume, IsUnmarked}
 use Rattle.ffs_certificate.proofs.Silence.{and_false-from}
 use Rattle.ffs_certificate.proofs.Entries.{IsNamer, names_at-gives}
 use Rattle.ffs_certificate.proofs.Dirs.{IsPathnameQuiet, dir-below}

@@ -25,7 +25,7 @@ use Rattle.ffs_volume.specs.Blocks.KeptSteps.{kept_steps, kept_steps_of, claims_
 use Rattle.ffs_certificate.proofs.SilentLaws.{all_kept, none_marked}
 use Rattle.ffs_volume.specs.Directories.Entries.{chunks_of}
 use Rattle.ffs_volume.specs.Directories.Roles.{roled_chunk, roled_entries}
-use Rattle.ffs_volume.specs.Consistent.DirectoriesRight.{IsVolume, IsUnmarked}
+use Rattle.ffs_certificate.specs.Premises.{IsVolume, IsUnmarked}
 use Rattle.ffs_volume.specs.Directories.Volumes.{is_inode_number, class_at, marked_at, steps_of_inode}
 use Rattle.ffs_volume.specs.Directories.Volumes.{kept_steps_of_inode, chunk_source_of, volume_with, volume_of}
 use Rattle.ffs_volume.specs.Directories.Volumes.{whole_volume}

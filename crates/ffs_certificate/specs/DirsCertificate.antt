@@ -5,7 +5,8 @@ use Rattle.ffs_volume.specs.Directories.PathnameCheck.{pathname_lines}
 use Rattle.ffs_volume.specs.Directories.Connectivity.{connectivity_lines}
 use Rattle.ffs_volume.specs.Directories.ReferenceCheck.{reference_lines}
 use Rattle.ffs_volume.specs.Consistent.DirectoriesRight.{AreDirsRight, AreLinksRight}
-use Rattle.ffs_volume.specs.Consistent.DirectoriesRight.{AreCountsRight, IsVolume, IsUnmarked}
+use Rattle.ffs_volume.specs.Consistent.DirectoriesRight.{AreCountsRight}
+use Rattle.ffs_certificate.specs.Premises.{IsVolume, IsUnmarked}
 
 -- the three checks report nothing
 pub record IsSilent (v : Volume) : Type 0 where

@@ -1,3 +1,4 @@
+pub mod Premises
 pub mod Certificate
 pub mod DirsCertificate
 pub mod ReportRight

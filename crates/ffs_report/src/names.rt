@@ -4,7 +4,7 @@ ghost use Rattle.ffs_report.specs.Sink.{Prints};
 ghost use Rattle.ffs_report.specs.Piece.{pieces_text};
 ghost use Rattle.ffs_report.specs.Lines.{directory_message, dot_message, entry_message, reference_message};
 ghost use Rattle.ffs_volume.specs.declared.Label.TheVariants.{Dir};
-ghost use Rattle.ffs_volume.specs.Messages.Texts.{path_label, file_label, attr_text, inode_text, labelled_text, path_text, name_in_the_way, length_text, empty_text, entry_text, extraneous_text, links_text, name_message_text};
+ghost use Rattle.ffs_volume.specs.Messages.Texts.{path_label, file_label, attr_text, inode_text, labelled_text, path_text, name_in_the_way, length_text, entry_text, extraneous_text, links_text, name_message_text};
 
 use crate::line::{DirectoryLine, DotLine, EntryLine, ReferenceLine};
 use crate::output::{OutFault, Output};
@@ -44,7 +44,7 @@ fn print_attr<W: Output>(out: &mut W, attr: &Attr) -> Result<(), OutFault>
             Piece::Octal(attr.mode),
             Piece::Text(SIZE),
             Piece::Count(attr.size, MTIME),
-            Piece::Signed(attr.mtime as i64),
+            Piece::Total(attr.mtime as i64, b""),
         ],
     )
 }
@@ -143,19 +143,6 @@ fn print_length<W: Output>(out: &mut W, path: &[u8], size: u64) -> Result<(), Ou
     )
 }
 
-fn print_empty<W: Output>(out: &mut W, path: &[u8]) -> Result<(), OutFault>
-    ensures { Prints (W.sink out.old) (W.sink out.new) (empty_text path.now) result }
-{
-    print_pieces(
-        out,
-        &[
-            Piece::Text(DIRECTORY),
-            Piece::Shown(path),
-            Piece::Text(DIR_EMPTY),
-        ],
-    )
-}
-
 fn print_numbered<'x, W: Output>(
     out: &mut W,
     head: &'x [u8],
@@ -212,10 +199,8 @@ fn print_links<W: Output>(
         attr,
         &[
             Piece::Text(COUNT),
-            Piece::Signed(count as i64),
-            Piece::Text(SHOULD_BE),
-            Piece::Number(right),
-            Piece::Text(ADJUST),
+            Piece::Total(count as i64, SHOULD_BE),
+            Piece::Count(right, ADJUST),
         ],
     )
 }
@@ -245,7 +230,14 @@ pub fn print_directory<W: Output>(out: &mut W, line: &DirectoryLine<'_>) -> Resu
         DirectoryLine::RootSuspect => print(out, ROOT_SUSPECT),
         DirectoryLine::DirShort { attr, path } => print_dir(out, DIR_SHORT, &attr, path, FIX),
         DirectoryLine::DirLength { path, size } => print_length(out, path, size),
-        DirectoryLine::DirEmpty { path } => print_empty(out, path),
+        DirectoryLine::DirEmpty { path } => print_pieces(
+            out,
+            &[
+                Piece::Text(DIRECTORY),
+                Piece::Shown(path),
+                Piece::Text(DIR_EMPTY),
+            ],
+        ),
         DirectoryLine::DirCorrupt { attr, path } => print_dir(
             out,
             DIR_CORRUPT,

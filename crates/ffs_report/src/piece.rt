@@ -7,9 +7,6 @@ pub enum Piece<'a> {
     Text(&'a [u8]),
     /// Bytes with a question mark for each control byte.
     Shown(&'a [u8]),
-    Number(u64),
-    Signed(i64),
-    Small(i32),
     /// A number, and the text after it.
     Count(u64, &'a [u8]),
     /// A signed number, and the text after it.

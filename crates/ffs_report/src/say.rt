@@ -1,7 +1,7 @@
 // Prints a line.
 ghost use Rattle.std.specs.Prelude.{◌≡◌};
 ghost use Rattle.ffs_report.specs.Sink.{Prints};
-ghost use Rattle.ffs_report.specs.Lines.{message_of, heading_message};
+ghost use Rattle.ffs_report.specs.Lines.{message_of};
 ghost use Rattle.ffs_volume.specs.Messages.Texts.{text_of, number_text, fault_text, opening_text, mounted_text, minfree_text, claim_text, block_count_text, block_message_text, summary_text};
 
 use crate::line::{Heading, Line};
@@ -9,7 +9,7 @@ use crate::line_buffer::LineBuffer;
 use crate::names::{print_directory, print_dot, print_entry, print_reference};
 use crate::output::{OutFault, Output};
 use crate::piece::Piece;
-use crate::print::{print, print_pieces};
+use crate::print::{print, print_count, print_pieces};
 use ffs_volume::texts::*;
 use ffs_volume::{BlockMessage, SuperFault};
 
@@ -41,7 +41,12 @@ fn print_line<W: Output>(out: &mut W, line: &Line<'_>) -> Result<(), OutFault>
         Line::Optimization => print(out, OPTIMIZATION),
         Line::Minfree { value } => print_minfree(out, value),
         Line::Mounted { mount } => print_mounted(out, mount),
-        Line::Heading(heading) => print_heading(out, heading),
+        Line::Heading(Heading::Phase1) => print(out, PHASE1),
+        Line::Heading(Heading::Phase1b) => print(out, PHASE1B),
+        Line::Heading(Heading::Phase2) => print(out, PHASE2),
+        Line::Heading(Heading::Phase3) => print(out, PHASE3),
+        Line::Heading(Heading::Phase4) => print(out, PHASE4),
+        Line::Heading(Heading::Phase5) => print(out, PHASE5),
         Line::Block(message) => print_block(out, message),
         Line::Directory(line) => print_directory(out, &line),
         Line::Dot(line) => print_dot(out, &line),
@@ -104,8 +109,7 @@ fn print_minfree<W: Output>(out: &mut W, value: i32) -> Result<(), OutFault>
         out,
         &[
             Piece::Text(MINFREE),
-            Piece::Small(value),
-            Piece::Text(SET_MINFREE),
+            Piece::Total(value as i64, SET_MINFREE),
         ],
     )
 }
@@ -127,19 +131,7 @@ fn print_fault<W: Output>(out: &mut W, fault: SuperFault) -> Result<(), OutFault
     }
 }
 
-fn print_heading<W: Output>(out: &mut W, heading: Heading) -> Result<(), OutFault>
-    ensures { Prints (W.sink out.old) (W.sink out.new) (text_of (heading_message heading)) result }
-{
-    match heading {
-        Heading::Phase1 => print(out, PHASE1),
-        Heading::Phase1b => print(out, PHASE1B),
-        Heading::Phase2 => print(out, PHASE2),
-        Heading::Phase3 => print(out, PHASE3),
-        Heading::Phase4 => print(out, PHASE4),
-        Heading::Phase5 => print(out, PHASE5),
-    }
-}
-
+#[inline(always)]
 fn print_claim<W: Output>(
     out: &mut W,
     fragment: u32,
@@ -148,28 +140,25 @@ fn print_claim<W: Output>(
 ) -> Result<(), OutFault>
     ensures { Prints (W.sink out.old) (W.sink out.new) (claim_text fragment what.now inode) result }
 {
-    print_pieces(
-        out,
-        &[
-            Piece::Count(fragment as u64, what),
-            Piece::Count(inode as u64, LINE_END),
-        ],
-    )
+    print_count(out, fragment as u64, what)?;
+    print_count(out, inode as u64, LINE_END)
 }
 
-fn print_count<W: Output>(out: &mut W, inode: u32, found: u32, right: u64) -> Result<(), OutFault>
+fn print_block_count<W: Output>(
+    out: &mut W,
+    inode: u32,
+    found: u32,
+    right: u64,
+) -> Result<(), OutFault>
     ensures { Prints (W.sink out.old) (W.sink out.new) (block_count_text inode found right) result }
 {
     print_pieces(
         out,
         &[
             Piece::Text(BLOCK_COUNT),
-            Piece::Number(inode as u64),
-            Piece::Text(FOUND),
-            Piece::Number(found as u64),
-            Piece::Text(RIGHT),
-            Piece::Number(right),
-            Piece::Text(CORRECT),
+            Piece::Count(inode as u64, FOUND),
+            Piece::Count(found as u64, RIGHT),
+            Piece::Count(right, CORRECT),
         ],
     )
 }
@@ -189,7 +178,7 @@ fn print_block<W: Output>(out: &mut W, message: BlockMessage) -> Result<(), OutF
             inode,
             found,
             right,
-        } => print_count(out, inode, found, right),
+        } => print_block_count(out, inode, found, right),
         BlockMessage::GroupMagic { group } => print_number(out, GROUP, group as u64, GROUP_MAGIC),
         BlockMessage::FreeCounts => print(out, FREE_COUNTS),
         BlockMessage::MapsWrong => print(out, MAPS_WRONG),

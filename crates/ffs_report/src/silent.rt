@@ -19,8 +19,7 @@ pub struct SilentWriter<S> {
 impl<S: Write> SilentWriter<S> {
     /// A writer over `inner` that has not failed yet.
     pub fn new(inner: S) -> SilentWriter<S>
-        ensures inner { result.inner ≡ inner }
-        ensures failed { result.failed ≡ false }
+        ensures { result ≡ record { inner = inner; failed = false } }
     {
         SilentWriter {
             inner,

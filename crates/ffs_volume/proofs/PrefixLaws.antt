@@ -1,4 +1,4 @@
--- Laws of `specs/Blocks/FirstOffers`.
+-- Kept offers are a prefix of the offers.
 use Rattle.std.proofs.Common.{inl, inr, ◌≡◌, ℕ, ◌+◌, Bool, true, false, refl, sym, ap, ◌∙◌, List, [], ◌∷◌, ◌++◌}
 use Rattle.std.proofs.Common.{append_assoc, append-nil}
 use Rattle.std.specs.Prelude.{nat_lt, ◌&&◌, ◌==◌, not, if◌then◌else◌, map}
@@ -11,7 +11,8 @@ use Rattle.ffs_volume.specs.Disk.Areas.{is_run_in_range}
 use Rattle.ffs_volume.specs.Blocks.Owners.{fragments_of, step_fragments}
 use Rattle.ffs_volume.specs.Blocks.Claims.{Claims, is_open, after_offer, after_offers, after_step, after_steps}
 use Rattle.ffs_volume.specs.Blocks.BlockCheck.{Offer, kept_in_offers, kept_in_step, kept_in_steps}
-use Rattle.ffs_volume.specs.Blocks.FirstOffers.{offer_at, KeptPrefix}
+use Rattle.ffs_volume.specs.Blocks.FirstOffers.{offer_at}
+use Rattle.ffs_volume.specs.Laws.Meanings.{KeptPrefix}
 
 map_append : (i : ℕ) (fs gs : List ℕ) → map (offer_at i) (fs ++ gs) ≡ map (offer_at i) fs ++ map (offer_at i) gs
 map_append i [] gs = refl
@@ -30,7 +31,7 @@ full_offers v i s (f ∷ fs) q =
 
 offers_first : (v : Layout) (i : ℕ) (s : Claims) (fs : List ℕ) →
     KeptPrefix i (kept_in_offers v i s fs) fs (not (nat_lt (after_offers v s fs).dups 11))
-offers_first v i s [] = record { rest = []; whole = refl; end = inl refl }
+offers_first v i s [] = record { rest = []; parts = refl; end = inl refl }
 offers_first v i s (f ∷ fs) = one (nat_lt s.dups 11) refl (offers_first v i (after_offer v s f) fs)
   where
     one : (b : Bool) → nat_lt s.dups 11 ≡ b →
@@ -41,13 +42,13 @@ offers_first v i s (f ∷ fs) = one (nat_lt s.dups 11) refl (offers_first v i (a
         let full = full_offers v i s (f ∷ fs) q in
         record {
           rest = map (offer_at i) (f ∷ fs);
-          whole = ap (λ z. z ++ map (offer_at i) (f ∷ fs)) full.0;
+          parts = ap (λ z. z ++ map (offer_at i) (f ∷ fs)) full.0;
           end = inr (ap (λ x. not (nat_lt x.dups 11)) full.1 ∙ ap not q);
         }
     one true q r = record {
       rest = r.rest;
-      whole = ap (λ x. ((if x then offer_at i f ∷ [] else []) ++ kept_in_offers v i (after_offer v s f) fs) ++ r.rest) q
-          ∙ ap (λ z. offer_at i f ∷ z) r.whole;
+      parts = ap (λ x. ((if x then offer_at i f ∷ [] else []) ++ kept_in_offers v i (after_offer v s f) fs) ++ r.rest) q
+          ∙ ap (λ z. offer_at i f ∷ z) r.parts;
       end = r.end;
     }
 
@@ -57,8 +58,8 @@ shut_and false b e = refl
 
 step_first : (v : Layout) (i : ℕ) (s : Claims) (step : Step) →
     KeptPrefix i (kept_in_step v i s step) (step_fragments step) (not (is_open (after_step v s step)))
-step_first v i s Tail = record { rest = []; whole = refl; end = inl refl }
-step_first v i s Gap = record { rest = []; whole = refl; end = inl refl }
+step_first v i s Tail = record { rest = []; parts = refl; end = inl refl }
+step_first v i s Gap = record { rest = []; parts = refl; end = inl refl }
 step_first v i s (Run start len block) = one (is_open s) refl (is_run_in_range v start len) refl (s.bad == 10) refl
   where
     from : (kept : List Offer) (s' : Claims) → kept_in_step v i s (Run start len block) ≡ kept →
@@ -68,7 +69,7 @@ step_first v i s (Run start len block) = one (is_open s) refl (is_run_in_range v
         (not (is_open (after_step v s (Run start len block))))
     from kept s' same next f = record {
       rest = f.rest;
-      whole = ap (λ z. z ++ f.rest) same ∙ f.whole;
+      parts = ap (λ z. z ++ f.rest) same ∙ f.parts;
       end = elim f.end [
         | inl e ↦ inl e
         | inr e ↦ inr
@@ -84,7 +85,7 @@ step_first v i s (Run start len block) = one (is_open s) refl (is_run_in_range v
         let none : kept_in_step v i s (Run start len block) ≡ [] = rw q refl in
         record {
           rest = map (offer_at i) (range_with_len start len);
-          whole = ap (λ x. x ++ map (offer_at i) (range_with_len start len)) none;
+          parts = ap (λ x. x ++ map (offer_at i) (range_with_len start len)) none;
           end =
               inr (ap (λ x. not (is_open x)) next ∙ ap not q);
         }
@@ -100,7 +101,7 @@ step_first v i s (Run start len block) = one (is_open s) refl (is_run_in_range v
         let full : is_open (record s { runs = s.runs + 1; bad = s.bad + 1 }) ≡ false = ten s.bad s.dups qz in
         record {
           rest = map (offer_at i) (range_with_len start len);
-          whole = ap (λ x. x ++ map (offer_at i) (range_with_len start len)) none;
+          parts = ap (λ x. x ++ map (offer_at i) (range_with_len start len)) none;
           end = inr (ap (λ x. not (is_open x)) next ∙ ap not full);
         }
       where
@@ -132,7 +133,7 @@ shut_steps v i s (step ∷ steps) q =
 
 pub steps_first : (v : Layout) (i : ℕ) (s : Claims) (steps : List Step) →
     KeptPrefix i (kept_in_steps v i s steps) (fragments_of steps) (not (is_open (after_steps v s steps)))
-steps_first v i s [] = record { rest = []; whole = refl; end = inl refl }
+steps_first v i s [] = record { rest = []; parts = refl; end = inl refl }
 steps_first v i s (step ∷ steps) = one (step_first v i s step) (steps_first v i (after_step v s step) steps)
   where
     one : KeptPrefix i (kept_in_step v i s step) (step_fragments step) (not (is_open (after_step v s step))) →
@@ -143,12 +144,12 @@ steps_first v i s (step ∷ steps) = one (step_first v i s step) (steps_first v 
     one f g = elim f.end [
       | inl none ↦ record {
         rest = g.rest;
-        whole =
+        parts =
             append_assoc (kept_in_step v i s step) (kept_in_steps v i (after_step v s step) steps) g.rest
-            ∙ (ap (λ z. kept_in_step v i s step ++ z) g.whole
+            ∙ (ap (λ z. kept_in_step v i s step ++ z) g.parts
             ∙ (ap (λ z. z ++ map (offer_at i) (fragments_of steps))
             (sym (append-nil (kept_in_step v i s step))
-            ∙ (ap (λ z. kept_in_step v i s step ++ z) (sym none) ∙ f.whole))
+            ∙ (ap (λ z. kept_in_step v i s step ++ z) (sym none) ∙ f.parts))
             ∙ sym (map_append i (step_fragments step) (fragments_of steps))));
         end = g.end;
       }
@@ -157,12 +158,12 @@ steps_first v i s (step ∷ steps) = one (step_first v i s step) (steps_first v 
           let rest = shut_steps v i (after_step v s step) steps shut in
           record {
             rest = f.rest ++ map (offer_at i) (fragments_of steps);
-            whole =
+            parts =
                 ap (λ z. (kept_in_step v i s step ++ z) ++ (f.rest ++ map (offer_at i) (fragments_of steps))) rest.0
                 ∙ (ap (λ z. z ++ (f.rest ++ map (offer_at i) (fragments_of steps)))
                 (append-nil (kept_in_step v i s step))
                 ∙ (sym (append_assoc (kept_in_step v i s step) f.rest (map (offer_at i) (fragments_of steps)))
-                ∙ (ap (λ z. z ++ map (offer_at i) (fragments_of steps)) f.whole
+                ∙ (ap (λ z. z ++ map (offer_at i) (fragments_of steps)) f.parts
                 ∙ sym (map_append i (step_fragments step) (fragments_of steps)))));
             end = inr (ap (λ x. not (is_open x)) rest.1 ∙ over);
           }

@@ -1,14 +1,17 @@
 -- The book of definitions, in the order to read it. Each folder has its page, with its files in their order. A comment
 -- is for the definitions below it, up to the next comment. What a file imports from `declared`, such as Layout, Step,
--- Class and LAYOUT_PLACES, is declared in src/lib.rt, and texts in src/texts.rt. `abbrev` and `unfoldable` both begin
--- a definition: they and a line `unfolding` differ for proofs alone. On natural numbers `-` stops at 0, and `/` and
--- `%` are those of integers. `x.now` is the value of a constant of the program. `record s { f = x }` is s with another
--- f, `λ x. e` is a function, and `(x : A) × B` says that there is an x. Past the end of a list `slice_index` is 0, and
--- `slice_index_or` is its last argument; `take` and `drop` give what there is. `range_with_len a n` are the n numbers
--- from a on. `count_by`, `sum_by` and `flat_map` count, add and join over a list.
+-- Class and LAYOUT_PLACES, is declared in src/lib.rt, numbers of the format in src/constants.rt, and texts in
+-- src/texts.rt. `v` is a layout, `vol` a volume as the checks of directories see it, and `g` its graph. `abbrev` and
+-- `unfoldable` both begin a definition: they and a line `unfolding` differ for proofs alone. On natural numbers `-`
+-- stops at 0, and `/` and `%` are those of integers. `x.now` is the value of a constant of the program.
+-- `record s { f = x }` is s with another f, `λ x. e` is a function, and `(x : A) × B` says that there is an x. Past
+-- the end of a list `slice_index` is 0, and `slice_index_or` is its last argument; `take` and `drop` give what there
+-- is. `range_with_len a n` are the n numbers from a on. `count_by`, `sum_by` and `flat_map` count, add and join over a
+-- list. `decimal` and `signed_decimal` are the digits of a number, `div_ceil` is the quotient rounded up, `cond b x y`
+-- is x where b holds, else y. `==` is a test, and `≡` a statement.
 pub mod Disk
-pub mod Messages
 pub mod Blocks
+pub mod Messages
 pub mod Directories
 pub mod Groups
 pub mod Report

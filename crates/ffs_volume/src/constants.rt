@@ -12,6 +12,21 @@ pub const DEV_BSIZE: u64 = 512;
 /// The bytes of a superblock that are looked at (fs(5)).
 pub const SUPERBLOCK_BYTES: usize = 1376;
 
+/// The sector of the primary superblock: it is at byte 8,192 (fs(5)).
+pub const SUPERBLOCK_SECTOR: u64 = 16;
+
+/// The most bytes that a superblock may have (fs(5)).
+pub const SBSIZE: u32 = 8192;
+
+/// The format of inodes since 4.4BSD, `FS_44INODEFMT` (fs(5)).
+pub const INODE_FORMAT: u32 = 2;
+
+/// The bytes of a group block before its maps (fs(5)).
+pub const CG_HEADER: u32 = 168;
+
+/// The bytes of a group's record in the summary area, a `struct csum` (fs(5)).
+pub const CSUM_SIZE: u64 = 16;
+
 /// The bytes of the mount point in a superblock (fs(5)).
 pub const MAXMNTLEN: usize = 512;
 

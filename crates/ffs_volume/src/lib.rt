@@ -204,7 +204,7 @@ pub enum Label {
     Name,
 }
 
-ghost use Rattle.ffs_volume.specs.Directories.Entries.{AreLongest};
+ghost use Rattle.ffs_volume.specs.Laws.Meanings.{AreLongest};
 
 /// The entries of a chunk are the longest list of well formed entries from its start.
 pub fn entries_are_longest()

@@ -26,7 +26,8 @@ class_lines inode _ = []
 abbrev pub sectors : Layout → ℕ → ℕ
 sectors v fragments = fragments * (v.fsize / DEV_BSIZE)
 
--- the line of a file or directory that wasn't cut, and whose blocks field isn't that of its kept offers
+-- the line of a file or directory that wasn't cut, and whose blocks field isn't that of its kept offers; `end` is the
+-- state after the inode
 abbrev pub count_lines : Layout → Owner → Claims → List BlockMessage
 count_lines v o end =
     if is_file_or_dir o.class && (is_open end && not (o.blocks == sectors v end.kept))
@@ -49,7 +50,8 @@ pub record Offer : Type 0 where
   pub inode : ℕ
   pub fragment : ℕ
 
--- The kept offers, walking as `Claims` does: of some fragments, of a Run, of a step, of steps, and of inodes
+-- The five definitions below are the kept offers, walking as `Claims` does from a state s: of some fragments, of a Run,
+-- of a step, of steps, and of inodes. `Keeping` says by a rule which they are
 abbrev pub kept_in_offers : (v : Layout) (inode : ℕ) (s : Claims) (fs : List ℕ) → List Offer
 kept_in_offers v inode s [] = []
 kept_in_offers v inode s (f ∷ fs) =
@@ -107,7 +109,7 @@ blames x (Bad fragment inode) = inode == x
 blames x (Dup fragment inode) = inode == x
 blames x _ = false
 
--- the inode has the class Unknown, or a line of phase 1 or 1b blames it: what fsck(8) would clear
+-- the inode has the class Unknown, or a line of phase 1 or 1b blames it: fsck(8) asks to clear it
 unfoldable pub is_marked : (v : Layout) (image : List ℕ) (x : ℕ) → Bool
 is_marked v image x =
     is_unknown (class_of v (inode_of v image x))

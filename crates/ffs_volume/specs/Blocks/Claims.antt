@@ -44,7 +44,7 @@ no_claims v = record {
 abbrev pub next_inode : Claims → Claims
 next_inode s = record s { bad = 0; dups = 0; kept = 0; tail = false }
 
--- the bit of f is set; past the end of the map none is
+-- the flag at an index f is set; past the end of the list none is
 abbrev pub is_set : (bits : List Bool) (f : ℕ) → Bool
 is_set bits f = slice_index_or bits f false
 
@@ -53,7 +53,7 @@ abbrev pub is_open : Claims → Bool
 is_open s = nat_lt s.bad (MAXBAD + 1) && nat_lt s.dups (MAXDUP + 1)
 
 -- the state after the offer of f, which is kept unless eleven were dup before it. A fragment in range is claimed, or
--- the offer is dup; one that isn't in range, of a bad Run, is kept alone
+-- the offer is dup. One that isn't in range, of a bad Run, is only counted: nothing is claimed
 abbrev pub after_offer : Layout → Claims → ℕ → Claims
 after_offer v s f =
     if nat_lt s.dups (MAXDUP + 1)

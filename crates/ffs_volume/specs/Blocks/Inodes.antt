@@ -4,7 +4,7 @@ use Rattle.std.specs.Prelude.{◌||◌, List, nat_lt, ◌==◌, if◌then◌else
 use Rattle.std.specs.List.{list_any, range_with_len}
 use Rattle.std.specs.Int.{div_ceil}
 use Rattle.ffs_volume.specs.declared.constants.TheConstants.{NDADDR, DT_FIFO, DT_CHR, DT_DIR, DT_BLK, DT_REG, DT_LNK}
-use Rattle.ffs_volume.specs.declared.constants.TheConstants.{DT_SOCK}
+use Rattle.ffs_volume.specs.declared.constants.TheConstants.{DT_SOCK, DINODE_SIZE}
 use Rattle.ffs_volume.specs.declared.Order.{Order}
 use Rattle.ffs_volume.specs.declared.Layout.{Layout}
 use Rattle.ffs_volume.specs.declared.Inode.{Inode}
@@ -13,7 +13,7 @@ use Rattle.ffs_volume.specs.declared.Class.TheVariants.{Free, Partial, Unknown, 
 use Rattle.ffs_volume.specs.Disk.Numbers.{u16_at, i16_at, u32_at, i32_at, u64_at, piece}
 use Rattle.ffs_volume.specs.Disk.Areas.{inode_place}
 
--- an inode from its 128 bytes, whose numbers are in this order of bytes
+-- an inode from its bytes, whose numbers are in this order of bytes
 unfoldable pub inode_from_bytes : Order → List ℕ → Inode
 inode_from_bytes order bytes = record {
   mode = u16_at order 0 bytes;
@@ -27,9 +27,9 @@ inode_from_bytes order bytes = record {
 
 -- the inode x of an image
 unfoldable pub inode_of : (v : Layout) (image : List ℕ) (x : ℕ) → Inode
-inode_of v image x = inode_from_bytes v.order (piece (inode_place v x) 128 image)
+inode_of v image x = inode_from_bytes v.order (piece (inode_place v x) DINODE_SIZE image)
 
--- the type bits of a mode, as a directory's entry has them
+-- the type of a file, as a directory's entry has it: the four bits of the mode above the twelve of its permissions
 abbrev pub type_of : ℕ → ℕ
 type_of mode = mode / 4096
 
@@ -60,8 +60,8 @@ addresses_for words blocks =
     then (if nat_lt (NDADDR + words + words * words) blocks then 15 else 14)
     else 13)
 
--- how many of the fifteen addresses an inode may use: a short symlink's text fills some; a device has one more, for its
--- own number
+-- how many of the fifteen addresses an inode may use. A short symlink has its text in place of them, 4 bytes in each; a
+-- device has its own number in one more
 abbrev pub addresses_used : Layout → Inode → ℕ
 addresses_used v i =
     if is_short_symlink v i then div_ceil i.size 4
@@ -78,9 +78,7 @@ is_too_large v i =
     nat_lt ((NDADDR + v.nindir + v.nindir * v.nindir + v.nindir * v.nindir * v.nindir) * v.bsize) i.size
     || (type_of i.mode == DT_DIR && nat_lt 2147483647 i.size)
 
--- The class of an inode. Free: its mode, size and addresses are 0. Partial: its mode has no type, but something is set.
--- Unknown: its type isn't valid, or it is too large, or an address is set that its size doesn't use. Dir: a directory.
--- File: any other
+-- the class of an inode (`Class` says what each is)
 unfoldable pub class_of : Layout → Inode → Class
 class_of v i =
     if type_of i.mode == 0

@@ -9,7 +9,8 @@ use Rattle.ffs_volume.specs.Blocks.Steps.{steps_of}
 use Rattle.ffs_volume.specs.Blocks.Owners.{owner_of}
 use Rattle.ffs_volume.specs.Blocks.Claims.{Claims, no_claims, next_inode, is_open, after_step, after_owners}
 
--- a Gap or Tail is kept where it is seen, and a Run where all its offers are kept
+-- a Gap or Tail is kept where it is seen, and a Run where all its offers are: the count of kept offers rises by its
+-- length
 abbrev pub is_kept_step : Layout → Claims → Step → Bool
 is_kept_step v s (Run start len block) = is_open s && (after_step v s (Run start len block)).kept == s.kept + len
 is_kept_step v s Tail = is_open s

@@ -1,4 +1,4 @@
--- The inodes of an image, as phase 1 sees them.
+-- The inodes of an image, as phase 1 sees them. An owner is an inode that may own fragments, not the user of a file.
 use Rattle.std.specs.Prelude.{ℕ, ◌*◌, ◌-◌, List, [], map}
 use Rattle.std.specs.List.{flat_map, range_with_len}
 use Rattle.ffs_volume.specs.declared.Layout.{Layout}
@@ -42,6 +42,6 @@ step_fragments Gap = []
 abbrev pub fragments_of : List Step → List ℕ
 fragments_of steps = flat_map step_fragments steps
 
--- the steps of all inodes, in order
+-- the steps of all these inodes, in order
 abbrev pub all_steps : List Owner → List Step
 all_steps owners = flat_map (λ o. o.steps) owners

@@ -28,8 +28,8 @@ address_in v block j = u32_at v.order (4 * j) block
 abbrev pub address_at : (v : Layout) (image : List ℕ) (address j : ℕ) → ℕ
 address_at v image address j = address_in v (block_bytes v image address) j
 
--- how far a file reaches: the layout, the number of its logical blocks, and how many fragments the last of them has
--- where its address is direct
+-- how far a file reaches: its layout (`geometry`), the number of its logical blocks, and how many fragments the last of
+-- them has where its address is direct
 pub record FileBlocks : Type 0 where
   pub geometry : Layout
   pub blocks : ℕ
@@ -48,7 +48,8 @@ tail_of found = if found then Tail ∷ [] else []
 abbrev pub any_address_from : (v : Layout) (block : List ℕ) (used : ℕ) → Bool
 any_address_from v block used = list_any (λ j. not (address_in v block j == 0)) (range_with_len used (v.nindir - used))
 
--- the steps under `count` addresses of an indirect block, from index `next` on; `child` gives those under one
+-- the steps under `count` addresses of an indirect block, from index `next` on; `child` gives those under one, by the
+-- address and the first logical block under it
 abbrev pub steps_under : (v : Layout) (image : List ℕ) (child : ℕ → ℕ → List Step) (span address first next count : ℕ)
     → List Step
 steps_under v image child span address first next count =
@@ -69,7 +70,7 @@ abbrev pub data_step : (t : FileBlocks) (address block : ℕ) → Step
 data_step t address block = if address == 0 then Gap else Run address (data_length t block) (Some block)
 
 -- the steps at the address of an indirect block: a Gap, or its Run and, where that is in range, a Tail if there is one,
--- and then the steps under its used addresses in order; `child` gives those under one
+-- and then the steps under its used addresses in order; `child` is as above
 abbrev pub indirect_steps : (t : FileBlocks) (image : List ℕ) (child : ℕ → ℕ → List Step) (span address first : ℕ) →
     List Step
 indirect_steps t image child span address first =
@@ -92,7 +93,7 @@ steps_at t image (suc level) address first =
 abbrev pub indirection_of : ℕ → ℕ
 indirection_of i = i - (NDADDR - 1)
 
--- the first logical block under the address at index i
+-- the first logical block under the address at index i of an inode, where a block has room for `words` addresses
 abbrev pub first_block : (words i : ℕ) → ℕ
 first_block words i =
     if nat_lt i (NDADDR + 1) then i
@@ -104,7 +105,8 @@ steps_of_addresses t image addresses next count =
     flat_map (λ i. steps_at t image (indirection_of i) (slice_index addresses i) (first_block t.geometry.nindir i))
     (range_with_len next count)
 
--- the inode has steps: it is a file or directory, but no device, and no symlink with its text in place of the addresses
+-- the addresses of the inode are walked: it is a file or directory, but no device, and no symlink with its text in
+-- place of the addresses
 abbrev pub walks : Layout → Inode → Bool
 walks v i = is_file_or_dir (class_of v i) && not (is_device (type_of i.mode) || is_short_symlink v i)
 

@@ -19,7 +19,8 @@ abbrev pub none_or_at_least : Option ℕ → (d : ℕ) → Bool
 none_or_at_least None d = true
 none_or_at_least (Some s) d = nat_le d s
 
--- d is the least number on a cycle of at most n numbers: following f leads back to d, and before to none that is less
+-- d is the least number on a cycle of at most n numbers: following f leads back to d, and before to none that is less.
+-- `IsLeader` below says the same of cycles of any length
 abbrev pub leads_cycle : (f : ℕ → Option ℕ) (n d : ℕ) → Bool
 leads_cycle f n d =
     some_below (λ k. is_value (climb f (suc k) d) d) n

@@ -8,12 +8,12 @@ use Rattle.ffs_volume.specs.Directories.PathnameCheck.{attributes}
 
 -- x is dead: suspect, other than 2, and named by no plain entry
 abbrev pub is_dead : Volume → ℕ → Bool
-is_dead v x = dead (graph_of v) (is_suspect v) x
+is_dead vol x = dead (graph_of vol) (is_suspect vol) x
 
 -- UNREF DIR is reported of d
 abbrev pub is_unref_dir_of : Volume → ℕ → Bool
-is_unref_dir_of v d = is_unref_dir (graph_of v) (is_suspect v) d
+is_unref_dir_of vol d = is_unref_dir (graph_of vol) (is_suspect vol) d
 
 -- the lines of phase 3
 unfoldable pub connectivity_lines : Volume → List NameMessage
-connectivity_lines v = lines_below (λ d. reported (is_unref_dir_of v d) (unref_dir (attributes v d))) v.count
+connectivity_lines vol = lines_below (λ d. reported (is_unref_dir_of vol d) (unref_dir (attributes vol d))) vol.count

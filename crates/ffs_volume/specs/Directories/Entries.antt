@@ -22,11 +22,11 @@ pub record Entry : Type 0 where
 abbrev pub is_live : Entry → Bool
 is_live e = not (e.number == 0)
 
--- the name bytes of the entry at a place
+-- the name bytes of the entry at a place: as many as the byte at 7 says
 abbrev pub name_at : (chunk : List ℕ) (place : ℕ) → List ℕ
 name_at chunk place = piece (place + 8) (slice_index chunk (place + 7)) chunk
 
--- a name has at least one byte, none of them NUL or `/`, and a NUL after it. Its length is one byte, so at most 255
+-- a name has at least one byte, none of them NUL or `/` (47), and a NUL after it. Its length is one byte: at most 255
 abbrev pub is_name : (chunk : List ℕ) (place : ℕ) → Bool
 is_name chunk place =
     not (slice_index chunk (place + 7) == 0)
@@ -37,7 +37,8 @@ is_name chunk place =
 abbrev pub is_length : (place length : ℕ) → Bool
 is_length place length = (length % 4 == 0) && nat_le 8 length && nat_le (place + length) DIRBLKSIZ
 
--- a record has room for its name and the NUL, one of sixteen types, and a valid name
+-- the record holds what an entry in use must have: room for its name with the NUL, rounded up to 4 bytes, one of
+-- sixteen types, and a valid name
 abbrev pub is_held : (chunk : List ℕ) (place length : ℕ) → Bool
 is_held chunk place length =
     nat_le (8 + (slice_index chunk (place + 7) + 4) / 4 * 4) length
@@ -63,36 +64,21 @@ entry_read order chunk place = record {
 unfoldable pub entry_at : (order : Order) (chunk : List ℕ) (place : ℕ) → Option Entry
 entry_at order chunk place = if is_well_formed order chunk place then Some (entry_read order chunk place) else None
 
--- the list has well formed entries, one after the other from a place on
-abbrev pub AreEntries : (order : Order) (chunk : List ℕ) (place : ℕ) (es : List Entry) → Type 0
-AreEntries order chunk place [] = Unit {0}
-AreEntries order chunk place (e ∷ es) =
-    (entry_at order chunk place ≡ Some e) × AreEntries order chunk (place + e.length) es
-
--- an entry, if there is one, and what `next` gives from its end on
+-- an entry, if there is one, and the entries that `next` gives for the place where it ends
 abbrev pub entries_with : (order : Order) (chunk : List ℕ) (place : ℕ) (next : ℕ → List Entry) → Option Entry →
     List Entry
 entries_with order chunk place next None = []
 entries_with order chunk place next (Some e) = e ∷ next (place + e.length)
 
--- the longest list of well formed entries from a place on, of at most `most` of them
+-- the longest list of well formed entries, one after the other from a place on, of at most `most` of them
 unfoldable pub entries_from : (order : Order) (chunk : List ℕ) (most place : ℕ) → List Entry
 entries_from order chunk zero place = []
 entries_from order chunk (suc most) place =
     entries_with order chunk place (entries_from order chunk most) (entry_at order chunk place)
 
--- the entries of a chunk. Each has 8 bytes or more, so there are at most 64 in 512 bytes
+-- the entries of a chunk. Each has 8 bytes or more, so there are at most 64 in 512 bytes (law `entries_are_longest`)
 abbrev pub entries_of : Order → List ℕ → List Entry
 entries_of order chunk = entries_from order chunk 64 0
-
--- a list of well formed entries from the start, of which each other such list is a prefix
-pub record IsLongest (order : Order) (chunk : List ℕ) (entries : List Entry) : Type 0 where
-  pub are : AreEntries order chunk 0 entries
-  pub longest : (es : List Entry) → AreEntries order chunk 0 es → (rest : List Entry) × (entries ≡ es ++ rest)
-
--- the entries of each chunk are the longest list
-abbrev pub AreLongest : Type 0
-AreLongest = (order : Order) (chunk : List ℕ) → IsLongest order chunk (entries_of order chunk)
 
 -- the well formed entries of a chunk fill it
 abbrev pub is_sound : Order → List ℕ → Bool
@@ -117,7 +103,7 @@ pub record ChunkSource : Type 0 where
   pub image : List ℕ
   pub bsize : ℕ
   pub fsize : ℕ
-  pub taken : ℕ  -- how much of the directory is read
+  pub taken : ℕ  -- how many bytes of the directory are read
 
 -- the chunks of `len` fragments from `start` on, that are at `offset` of the file
 abbrev pub run_chunks : (r : ChunkSource) (start len offset : ℕ) → List Chunk
@@ -125,7 +111,7 @@ run_chunks r start len offset =
     map (λ k. chunk_of r.order (offset + DIRBLKSIZ * k) (piece (start * r.fsize + DIRBLKSIZ * k) DIRBLKSIZ r.image))
     (range_with_len 0 (min (len * r.fsize / DIRBLKSIZ) ((r.taken - offset) / DIRBLKSIZ)))
 
--- the chunks of a step: those of a Run of data that passes the test, which is `is_run_in_range` of the volume
+-- the chunks of a step: those of a Run of data that passes a test; the test is always `is_run_in_range` of the layout
 abbrev pub step_chunks : ChunkSource → (ℕ → ℕ → Bool) → Step → List Chunk
 step_chunks r passes (Run start len (Some block)) =
     if passes start len then run_chunks r start len (block * r.bsize) else []

@@ -1,4 +1,6 @@
--- Levels, parents and lost directories of a volume, read as a graph.
+-- Levels, parents and lost directories of a volume, read as a graph. Only plain entries count: an entry names a number
+-- (`names`), so does a directory with such an entry (`names_in`), or its entry at an index (`names_at`). A number is
+-- `named` where some directory names it.
 use Rattle.std.specs.Prelude.{◌≡◌, ℕ, zero, suc, ◌==◌, Bool, true, false, not, ◌&&◌, ◌||◌, List}
 use Rattle.std.specs.Prelude.{Option, None, Some, is_some, cond, [], ◌∷◌, option_map, if◌then◌else◌}
 use Rattle.std.specs.List.{list_any}
@@ -100,9 +102,9 @@ test_at p (suc j) (e ∷ es) = test_at p j es
 abbrev pub names_at : (g : Graph) (s j x : ℕ) → Bool
 names_at g s j x = g.is_dir s && test_at (names x) j (g.entries s)
 
--- exactly one plain entry names d: the one at the index `place` of `in_dir`
+-- exactly one plain entry names d: the one at this index of `in_dir`
 pub record NamedOnce (g : Graph) (d : ℕ) : Type 0 where
   pub in_dir : ℕ
-  pub place : ℕ
-  pub there : names_at g in_dir place d ≡ true
-  pub only : (s j : ℕ) → names_at g s j d ≡ true → (s ≡ in_dir) × (j ≡ place)
+  pub index : ℕ
+  pub there : names_at g in_dir index d ≡ true
+  pub only : (s j : ℕ) → names_at g s j d ≡ true → (s ≡ in_dir) × (j ≡ index)

@@ -7,9 +7,9 @@ use Rattle.ffs_volume.specs.Directories.Graph.{Graph, names, names_in, parent, p
 
 -- the directories of a volume as a graph
 abbrev pub graph_of : Volume → Graph
-graph_of v = record { count = v.count; is_dir = is_dir v; entries = roled_entries v }
+graph_of vol = record { count = vol.count; is_dir = is_dir vol; entries = roled_entries vol }
 
--- the entry at an index of a list, with its role
+-- the entry at an index of a list, with its role, if there is one
 abbrev pub roled_at : List RoledEntry → ℕ → Option RoledEntry
 roled_at [] j = None
 roled_at (e ∷ es) zero = Some e

@@ -27,12 +27,12 @@ use Rattle.ffs_volume.specs.Messages.Kinds.{unallocated, dup_bad, zero_dir, extr
 
 -- what messages show of an inode
 unfoldable pub attributes : Volume → ℕ → Attr
-attributes v i = record {
+attributes vol i = record {
   number = i;
-  uid = (v.inode i).uid;
-  mode = (v.inode i).mode;
-  size = (v.inode i).size;
-  mtime = (v.inode i).mtime;
+  uid = (vol.inode i).uid;
+  mode = (vol.inode i).mode;
+  size = (vol.inode i).size;
+  mtime = (vol.inode i).mtime;
 }
 
 -- how messages call an inode
@@ -45,27 +45,27 @@ label_of Free = NameLabel
 
 -- the message on the root, by its class
 abbrev pub root_reported : Volume → Class → List NameMessage
-root_reported v Free = root_none ∷ []
-root_reported v Partial = root_none ∷ []
-root_reported v File = root_not_dir ∷ []
-root_reported v Unknown = root_not_dir ∷ []
-root_reported v Dir = reported (is_suspect v ROOTINO) root_suspect
+root_reported vol Free = root_none ∷ []
+root_reported vol Partial = root_none ∷ []
+root_reported vol File = root_not_dir ∷ []
+root_reported vol Unknown = root_not_dir ∷ []
+root_reported vol Dir = reported (is_suspect vol ROOTINO) root_suspect
 
 -- the message on the root
 unfoldable pub root_lines : Volume → List NameMessage
-root_lines v = root_reported v (v.class ROOTINO)
+root_lines vol = root_reported vol (vol.class ROOTINO)
 
 -- the check continues after the root: it is a directory
 abbrev pub continues_after_root : Volume → Bool
-continues_after_root v = is_directory (v.class ROOTINO)
+continues_after_root vol = is_directory (vol.class ROOTINO)
 
 -- the size of a directory is less than that of `.` and `..`
 abbrev pub is_short : Volume → ℕ → Bool
-is_short v d = nat_lt (v.inode d).size MINDIRSIZE
+is_short vol d = nat_lt (vol.inode d).size MINDIRSIZE
 
 -- the size of a directory that isn't short is no multiple of 512
 abbrev pub is_not_multiple : Volume → ℕ → Bool
-is_not_multiple v d = not (is_short v d) && not ((v.inode d).size % DIRBLKSIZ == 0)
+is_not_multiple vol d = not (is_short vol d) && not ((vol.inode d).size % DIRBLKSIZ == 0)
 
 -- each chunk is sound
 abbrev pub are_sound : List Chunk → Bool
@@ -73,11 +73,11 @@ are_sound chunks = list_all (λ c. c.sound) chunks
 
 -- the messages on a directory's size, Gaps and chunks
 unfoldable pub shape_lines : Volume → ℕ → List NameMessage
-shape_lines v d =
-    reported (is_short v d) (dir_short (attributes v d) (dir_path (graph_of v) d))
-    ++ (reported (is_not_multiple v d) (dir_length (dir_path (graph_of v) d) (v.inode d).size)
-    ++ (reported (v.gap d) (dir_empty (dir_path (graph_of v) d))
-    ++ reported (not (are_sound (v.chunks d))) (dir_corrupt (attributes v d) (dir_path (graph_of v) d))))
+shape_lines vol d =
+    reported (is_short vol d) (dir_short (attributes vol d) (dir_path (graph_of vol) d))
+    ++ (reported (is_not_multiple vol d) (dir_length (dir_path (graph_of vol) d) (vol.inode d).size)
+    ++ (reported (vol.gap d) (dir_empty (dir_path (graph_of vol) d))
+    ++ reported (not (are_sound (vol.chunks d))) (dir_corrupt (attributes vol d) (dir_path (graph_of vol) d))))
 
 -- the message where there is no `.`, by the entry that is first
 abbrev pub missing_dot_reported : Attr → List ℕ → Option Entry → List NameMessage
@@ -88,14 +88,14 @@ missing_dot_reported about path (Some e) =
 
 -- the messages on `.`, by whether there is one
 abbrev pub dot_reported : Volume → ℕ → Option Entry → List NameMessage
-dot_reported v d None = missing_dot_reported (attributes v d) (dir_path (graph_of v) d) (start_entry v d 0)
-dot_reported v d (Some e) =
-    reported (not (e.number == d)) (number_dot (attributes v d) (dir_path (graph_of v) d))
-    ++ reported (not (e.kind == DT_DIR)) (kind_dot (attributes v d) (dir_path (graph_of v) d))
+dot_reported vol d None = missing_dot_reported (attributes vol d) (dir_path (graph_of vol) d) (start_entry vol d 0)
+dot_reported vol d (Some e) =
+    reported (not (e.number == d)) (number_dot (attributes vol d) (dir_path (graph_of vol) d))
+    ++ reported (not (e.kind == DT_DIR)) (kind_dot (attributes vol d) (dir_path (graph_of vol) d))
 
 -- the messages on `.`
 unfoldable pub dot_lines : Volume → ℕ → List NameMessage
-dot_lines v d = dot_reported v d (dot v d)
+dot_lines vol d = dot_reported vol d (dot vol d)
 
 -- the message where there is no `..`, by the entry that is second
 abbrev pub missing_dotdot_reported : Attr → List ℕ → Option Entry → List NameMessage
@@ -111,15 +111,16 @@ is_wrong_parent (Some s) n = not (s == n)
 
 -- the messages on `..`, by whether there is one
 abbrev pub dotdot_reported : Volume → ℕ → Option Entry → List NameMessage
-dotdot_reported v d None = missing_dotdot_reported (attributes v d) (dir_path (graph_of v) d) (start_entry v d 1)
-dotdot_reported v d (Some e) =
-    reported (is_wrong_parent (parent (graph_of v) d) e.number)
-    (number_dotdot (attributes v d) (dir_path (graph_of v) d))
-    ++ reported (not (e.kind == DT_DIR)) (kind_dotdot (attributes v d) (dir_path (graph_of v) d))
+dotdot_reported vol d None =
+    missing_dotdot_reported (attributes vol d) (dir_path (graph_of vol) d) (start_entry vol d 1)
+dotdot_reported vol d (Some e) =
+    reported (is_wrong_parent (parent (graph_of vol) d) e.number)
+    (number_dotdot (attributes vol d) (dir_path (graph_of vol) d))
+    ++ reported (not (e.kind == DT_DIR)) (kind_dotdot (attributes vol d) (dir_path (graph_of vol) d))
 
 -- the messages on `..`
 unfoldable pub dotdot_lines : Volume → ℕ → List NameMessage
-dotdot_lines v d = dotdot_reported v d (dotdot v d)
+dotdot_lines vol d = dotdot_reported vol d (dotdot vol d)
 
 -- the message on an extra entry
 abbrev pub extra_reported : Attr → List ℕ → Entry → List NameMessage
@@ -132,70 +133,71 @@ is_bad_whiteout e =
     ((e.number == WINO) && not (e.kind == DT_WHT)) || ((e.kind == DT_WHT) && not (e.number == WINO))
 
 -- x, which this entry names, is a suspect other than 2, and this is the first plain entry that names x
-abbrev pub reports_suspect : (v : Volume) (s j x : ℕ) → Bool
-reports_suspect v s j x = is_suspect v x && (not (x == ROOTINO) && is_first_name (graph_of v) s j x)
+abbrev pub reports_suspect : (vol : Volume) (s j x : ℕ) → Bool
+reports_suspect vol s j x = is_suspect vol x && (not (x == ROOTINO) && is_first_name (graph_of vol) s j x)
 
 -- the message on a suspect that an entry names
-abbrev pub suspect_reported : (v : Volume) (x : ℕ) (path : List ℕ) → NameMessage
-suspect_reported v x path =
-    if v.marked x then dup_bad (attributes v x) (label_of (v.class x)) path else zero_dir (attributes v x) path
+abbrev pub suspect_reported : (vol : Volume) (x : ℕ) (path : List ℕ) → NameMessage
+suspect_reported vol x path =
+    if vol.marked x then dup_bad (attributes vol x) (label_of (vol.class x)) path else zero_dir (attributes vol x) path
 
 -- x is a directory, and this entry, which names it, isn't its parent entry
-abbrev pub is_extraneous : (v : Volume) (s j x : ℕ) → Bool
-is_extraneous v s j x = is_dir v x && not (is_from_parent (graph_of v) s j x)
+abbrev pub is_extraneous : (vol : Volume) (s j x : ℕ) → Bool
+is_extraneous vol s j x = is_dir vol x && not (is_from_parent (graph_of vol) s j x)
 
 -- the type of the inode is known, and the entry has another
 abbrev pub has_wrong_type : Volume → Entry → Bool
-has_wrong_type v e = not (is_unknown (v.class e.number)) && not (e.kind == type_of (v.inode e.number).mode)
+has_wrong_type vol e = not (is_unknown (vol.class e.number)) && not (e.kind == type_of (vol.inode e.number).mode)
 
 -- the messages on a plain entry at index j of the directory s, which names an allocated inode
-unfoldable pub named_lines : (v : Volume) (s j : ℕ) (e : Entry) → List NameMessage
-named_lines v s j e =
-    reported (reports_suspect v s j e.number) (suspect_reported v e.number (entry_path (graph_of v) s e.name))
-    ++ (reported (is_extraneous v s j e.number)
-    (extraneous (entry_path (graph_of v) s e.name) (dir_path (graph_of v) e.number))
-    ++ reported (has_wrong_type v e)
-    (kind_entry (attributes v e.number) (label_of (v.class e.number)) (entry_path (graph_of v) s e.name)))
+unfoldable pub named_lines : (vol : Volume) (s j : ℕ) (e : Entry) → List NameMessage
+named_lines vol s j e =
+    reported (reports_suspect vol s j e.number) (suspect_reported vol e.number (entry_path (graph_of vol) s e.name))
+    ++ (reported (is_extraneous vol s j e.number)
+    (extraneous (entry_path (graph_of vol) s e.name) (dir_path (graph_of vol) e.number))
+    ++ reported (has_wrong_type vol e)
+    (kind_entry (attributes vol e.number) (label_of (vol.class e.number)) (entry_path (graph_of vol) s e.name)))
 
 -- the messages on any plain entry at index j of the directory s
-unfoldable pub plain_lines : (v : Volume) (s j : ℕ) (e : Entry) → List NameMessage
-plain_lines v s j e =
-    if not (nat_lt e.number v.count) then out_of_range e.number (entry_path (graph_of v) s e.name) ∷ []
-    else (if is_bad_whiteout e then whiteout e.number (entry_path (graph_of v) s e.name) ∷ []
+unfoldable pub plain_lines : (vol : Volume) (s j : ℕ) (e : Entry) → List NameMessage
+plain_lines vol s j e =
+    if not (nat_lt e.number vol.count) then out_of_range e.number (entry_path (graph_of vol) s e.name) ∷ []
+    else (if is_bad_whiteout e then whiteout e.number (entry_path (graph_of vol) s e.name) ∷ []
     else (if e.number == WINO then []
-    else (if not (is_allocated (v.class e.number))
-    then unallocated (attributes v e.number) (entry_path (graph_of v) s e.name) ∷ []
-    else named_lines v s j e)))
+    else (if not (is_allocated (vol.class e.number))
+    then unallocated (attributes vol e.number) (entry_path (graph_of vol) s e.name) ∷ []
+    else named_lines vol s j e)))
 
 -- the messages on an entry at index j of the directory s, by its role
-abbrev pub roled_reported : (v : Volume) (s j : ℕ) → Role → (e : Entry) → List NameMessage
-roled_reported v s j Empty e = []
-roled_reported v s j Dot e = []
-roled_reported v s j Dotdot e = []
-roled_reported v s j Extra e = extra_reported (attributes v s) (dir_path (graph_of v) s) e
-roled_reported v s j Plain e = plain_lines v s j e
+abbrev pub roled_reported : (vol : Volume) (s j : ℕ) → Role → (e : Entry) → List NameMessage
+roled_reported vol s j Empty e = []
+roled_reported vol s j Dot e = []
+roled_reported vol s j Dotdot e = []
+roled_reported vol s j Extra e = extra_reported (attributes vol s) (dir_path (graph_of vol) s) e
+roled_reported vol s j Plain e = plain_lines vol s j e
 
 -- the messages on an entry at index j of the directory s
-unfoldable pub roled_lines : (v : Volume) (s j : ℕ) (e : RoledEntry) → List NameMessage
-roled_lines v s j e = roled_reported v s j e.role e.entry
+unfoldable pub roled_lines : (vol : Volume) (s j : ℕ) (e : RoledEntry) → List NameMessage
+roled_lines vol s j e = roled_reported vol s j e.role e.entry
 
 -- the messages on the entries of s from index j on
-unfoldable pub lines_of_entries : (v : Volume) (s j : ℕ) (es : List RoledEntry) → List NameMessage
-lines_of_entries v s j [] = []
-lines_of_entries v s j (e ∷ es) = roled_lines v s j e ++ lines_of_entries v s (suc j) es
+unfoldable pub lines_of_entries : (vol : Volume) (s j : ℕ) (es : List RoledEntry) → List NameMessage
+lines_of_entries vol s j [] = []
+lines_of_entries vol s j (e ∷ es) = roled_lines vol s j e ++ lines_of_entries vol s (suc j) es
 
 -- the messages on a directory whose size isn't 0
 unfoldable pub dir_lines : Volume → ℕ → List NameMessage
-dir_lines v d = shape_lines v d ++ (dot_lines v d ++ (dotdot_lines v d ++ lines_of_entries v d 0 (roled_entries v d)))
+dir_lines vol d =
+    shape_lines vol d ++ (dot_lines vol d ++ (dotdot_lines vol d ++ lines_of_entries vol d 0 (roled_entries vol d)))
 
 -- d is a directory whose size isn't 0
 abbrev pub is_looked_at : Volume → ℕ → Bool
-is_looked_at v d = is_dir v d && not ((v.inode d).size == 0)
+is_looked_at vol d = is_dir vol d && not ((vol.inode d).size == 0)
 
 -- the messages on d: none where d is no directory, or has the size 0
 abbrev pub lines_of : Volume → ℕ → List NameMessage
-lines_of v d = if is_looked_at v d then dir_lines v d else []
+lines_of vol d = if is_looked_at vol d then dir_lines vol d else []
 
 -- the whole pathname check: the root, and then each directory
 unfoldable pub pathname_lines : Volume → List NameMessage
-pathname_lines v = root_lines v ++ (if continues_after_root v then lines_below (lines_of v) v.count else [])
+pathname_lines vol = root_lines vol ++ (if continues_after_root vol then lines_below (lines_of vol) vol.count else [])

@@ -1,4 +1,4 @@
--- Paths of directories and of their entries.
+-- Paths of directories and of their entries, in bytes: 47 is `/`, and 63 is `?`.
 use Rattle.std.specs.Prelude.{ℕ, zero, suc, ◌-◌, nat_le, nat_lt, if◌then◌else◌, List, [], ◌∷◌}
 use Rattle.std.specs.Prelude.{◌++◌, length, Option, Some, None, option_map, option_and_then}
 use Rattle.std.specs.List.{flat_map}
@@ -28,7 +28,7 @@ abbrev pub name_of : Option RoledEntry → List ℕ
 name_of None = []
 name_of (Some s) = s.entry.name
 
--- the names down to a directory by its parent: those of the parent, and the name of the parent entry
+-- the names down to a directory by its parent: those of the parent, which `above` gives, and that of the parent entry
 abbrev pub names_above : (g : Graph) (above : ℕ → List (List ℕ)) (d : ℕ) → Option ℕ → List (List ℕ)
 names_above g above d None = []
 names_above g above d (Some s) =

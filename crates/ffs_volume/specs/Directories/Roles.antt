@@ -1,4 +1,4 @@
--- The volume that the checks of directories see, the roles of directory entries, and references.
+-- The volume that the checks of directories see (`vol`), the roles of directory entries, and references.
 use Rattle.std.specs.Prelude.{ℕ, zero, suc, ◌+◌, ◌==◌, Bool, true, false, not, ◌&&◌, ◌||◌, nat_le, nat_lt}
 use Rattle.std.specs.Prelude.{if◌then◌else◌, List, [], ◌∷◌, Option, Some, None, option_and_then, count_by, cond}
 use Rattle.std.specs.List.{flat_map, find}
@@ -21,21 +21,21 @@ pub record Volume : Type 0 where
 
 -- the number of an inode: the numbers 0 and 1 have none
 abbrev pub is_inode : Volume → ℕ → Bool
-is_inode v x = nat_le 2 x && nat_lt x v.count
+is_inode vol x = nat_le 2 x && nat_lt x vol.count
 
 -- the number of a directory
 abbrev pub is_dir : Volume → ℕ → Bool
-is_dir v x = is_inode v x && is_directory (v.class x)
+is_dir vol x = is_inode vol x && is_directory (vol.class x)
 
 -- the number of an inode that is allocated
 abbrev pub is_allocated_inode : Volume → ℕ → Bool
-is_allocated_inode v x = is_inode v x && is_allocated (v.class x)
+is_allocated_inode vol x = is_inode vol x && is_allocated (vol.class x)
 
 -- marked, or a directory of size 0
 abbrev pub is_suspect : Volume → ℕ → Bool
-is_suspect v x = v.marked x || (is_dir v x && ((v.inode x).size == 0))
+is_suspect vol x = vol.marked x || (is_dir vol x && ((vol.inode x).size == 0))
 
--- the name is `.`
+-- the name is `.` (46)
 abbrev pub is_one_dot : List ℕ → Bool
 is_one_dot [] = false
 is_one_dot (a ∷ []) = a == 46
@@ -87,17 +87,17 @@ roled_chunk c = roled_from (c.offset == 0) 0 c.entries
 
 -- all entries of a directory in order, those that aren't live included
 unfoldable pub roled_entries : Volume → ℕ → List RoledEntry
-roled_entries v d = flat_map roled_chunk (v.chunks d)
+roled_entries vol d = flat_map roled_chunk (vol.chunks d)
 
--- the entry at an index of a list
+-- the entry at an index of a list, if there is one
 abbrev pub nth_entry : ℕ → List Entry → Option Entry
 nth_entry i [] = None
 nth_entry zero (e ∷ es) = Some e
 nth_entry (suc i) (e ∷ es) = nth_entry i es
 
 -- the entry at an index of the chunk at the start of the file, if there is one
-unfoldable pub start_entry : (v : Volume) (d i : ℕ) → Option Entry
-start_entry v d i = option_and_then (λ c. nth_entry i c.entries) (find (λ c. c.offset == 0) (v.chunks d))
+unfoldable pub start_entry : (vol : Volume) (d i : ℕ) → Option Entry
+start_entry vol d i = option_and_then (λ c. nth_entry i c.entries) (find (λ c. c.offset == 0) (vol.chunks d))
 
 -- the entry, if it passes
 abbrev pub entry_if : (Entry → Bool) → Option Entry → Option Entry
@@ -106,22 +106,22 @@ entry_if p (Some e) = cond (p e) (Some e) None
 
 -- the entry `.` of a directory: the one with the role Dot
 unfoldable pub dot : Volume → ℕ → Option Entry
-dot v d = entry_if (λ e. is_live e && is_one_dot e.name) (start_entry v d 0)
+dot vol d = entry_if (λ e. is_live e && is_one_dot e.name) (start_entry vol d 0)
 
 -- the entry `..` of a directory: the one with the role Dotdot
 unfoldable pub dotdot : Volume → ℕ → Option Entry
-dotdot v d = entry_if (λ e. is_live e && is_two_dots e.name) (start_entry v d 1)
+dotdot vol d = entry_if (λ e. is_live e && is_two_dots e.name) (start_entry vol d 1)
 
 -- the entry counts as a reference, and its inode number is x
 abbrev pub refers : ℕ → RoledEntry → Bool
 refers x s = is_counted s.role && (s.entry.number == x)
 
 -- how many such entries the directories below a number have
-unfoldable pub references_below : (v : Volume) (x s : ℕ) → ℕ
-references_below v x zero = 0
-references_below v x (suc s) =
-    references_below v x s + (if is_dir v s then count_by (refers x) (roled_entries v s) else 0)
+unfoldable pub references_below : (vol : Volume) (x s : ℕ) → ℕ
+references_below vol x zero = 0
+references_below vol x (suc s) =
+    references_below vol x s + (if is_dir vol s then count_by (refers x) (roled_entries vol s) else 0)
 
 -- how many references there are to x: its right count of links
 abbrev pub references : Volume → ℕ → ℕ
-references v x = references_below v x v.count
+references vol x = references_below vol x vol.count

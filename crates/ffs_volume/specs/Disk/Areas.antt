@@ -1,12 +1,13 @@
--- Where the parts of a volume lie, in fragments and in bytes.
+-- Where the parts of a volume lie, in fragments and in bytes: fs(5).
 use Rattle.std.specs.Prelude.{ℕ, ◌+◌, ◌-◌, ◌*◌, ◌/◌, ◌%◌, Bool, ◌&&◌, ◌||◌}
 use Rattle.std.specs.Prelude.{not, nat_lt, nat_le, ◌==◌, ℤ, pos, ◌*ℤ◌, bit_and}
 use Rattle.std.specs.Int.{div_ceil}
+use Rattle.ffs_volume.specs.declared.constants.TheConstants.{CSUM_SIZE, DINODE_SIZE}
 use Rattle.ffs_volume.specs.Disk.Numbers.{zero_if_negative, all_below}
 use Rattle.ffs_volume.specs.Disk.Search.{some_below}
 use Rattle.ffs_volume.specs.declared.Layout.{Layout}
 
--- how far the parts of group c are moved from its base: cgoffset * (c & ~cgmask)
+-- how far the parts of group c are moved from its base: cgoffset * (c & ~cgmask), with the complement in 32 bits
 unfoldable pub cgoffset_of : Layout → ℕ → ℤ
 cgoffset_of v c = v.cgoffset *ℤ pos (bit_and c (4294967295 - v.cgmask))
 
@@ -32,22 +33,22 @@ group_place v c = (cgstart v c + v.cblkno) * v.fsize
 
 -- the byte of the summary area where the record of group c begins
 abbrev pub summary_place : Layout → ℕ → ℕ
-summary_place v c = v.csaddr * v.fsize + 16 * c
+summary_place v c = v.csaddr * v.fsize + CSUM_SIZE * c
 
 -- the byte where the inode x begins
 abbrev pub inode_place : Layout → ℕ → ℕ
-inode_place v x = (cgstart v (x / v.ipg) + v.iblkno) * v.fsize + 128 * (x % v.ipg)
+inode_place v x = (cgstart v (x / v.ipg) + v.iblkno) * v.fsize + DINODE_SIZE * (x % v.ipg)
 
 -- f lies in the part of some group that is set aside for its copy of the superblock, its group block and its inodes
 unfoldable pub is_group_metadata : Layout → ℕ → Bool
 is_group_metadata v f = some_below (λ c. nat_le (cgsblock v c) f && nat_lt f (cgdmin v c)) v.ncg
 
 -- f is in range: below the volume's size and in no group's metadata. The boot area and the summary area are in range,
--- but reserved: a Run there isn't bad, and its offers are dup
+-- but reserved
 unfoldable pub is_fragment_in_range : Layout → ℕ → Bool
 is_fragment_in_range v f = nat_lt f v.size && not (is_group_metadata v f)
 
--- the fragments of a Run are all in range, and in one group
+-- `len` fragments from `start` on are all in range, and in one group
 unfoldable pub is_run_in_range : (v : Layout) (start len : ℕ) → Bool
 is_run_in_range v start len =
     all_below len (λ k. is_fragment_in_range v (start + k) && ((start + k) / v.fpg == start / v.fpg))

@@ -1,4 +1,5 @@
--- What the conditions of `Outcome` give for an accepted layout: the law `accepted_are_sound` says so.
+-- The conditions of `Outcome` once more, as facts of an accepted layout: the law `accepted_are_sound` says that it has
+-- them. They are no further conditions.
 use Rattle.std.proofs.Common.{◌≡◌, ℕ, ◌+◌, ◌-◌, ◌*◌, ◌/◌, ◌%◌, ◌^◌, ◌<◌, ◌≤◌, true, pos}
 use Rattle.std.specs.Int.{div_ceil}
 use Rattle.ffs_volume.specs.declared.constants.TheConstants.{SUPERBLOCK_BYTES}

@@ -26,7 +26,7 @@ i16_at order place bytes = cast_signed w16 (u16_at order place bytes)
 unfoldable pub i32_at : (order : Order) (place : ℕ) (bytes : List ℕ) → ℤ
 i32_at order place bytes = cast_signed w32 (u32_at order place bytes)
 
--- the n bytes from a place on, or as many as there are
+-- n bytes of an image, a block or a chunk, from a place on; or as many as there are
 abbrev pub piece : (place n : ℕ) (bytes : List ℕ) → List ℕ
 piece place n bytes = take n (drop place bytes)
 
@@ -40,7 +40,7 @@ abbrev pub is_nonnegative : ℤ → Bool
 is_nonnegative (pos n) = true
 is_nonnegative (negsuc n) = false
 
--- the signed number of four bytes at a place, or 0 where it is negative
+-- the signed number of four bytes at a place, read as 0 where it is negative
 unfoldable pub count_at : (order : Order) (place : ℕ) (bytes : List ℕ) → ℕ
 count_at order place bytes = zero_if_negative (i32_at order place bytes)
 

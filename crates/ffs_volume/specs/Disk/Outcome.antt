@@ -1,9 +1,11 @@
--- Which superblocks are accepted, and the first fault of one that isn't.
+-- Which superblocks are accepted, and the first fault of one that isn't: `outcome`, at the end, from the conditions
+-- before it.
 use Rattle.std.specs.Prelude.{ℕ, ◌+◌, ◌-◌, ◌*◌, ◌/◌, ◌%◌, ◌^◌, min, Bool, true, false, ◌&&◌, not, nat_lt, nat_le}
 use Rattle.std.specs.Prelude.{◌==◌, if◌then◌else◌, List, [], ◌∷◌, length, Option, Some, None, Result, Ok, Err}
 use Rattle.std.specs.List.{list_all, list_any}
 use Rattle.std.specs.Int.{div_ceil}
-use Rattle.ffs_volume.specs.declared.constants.TheConstants.{DEV_BSIZE, SUPERBLOCK_BYTES}
+use Rattle.ffs_volume.specs.declared.constants.TheConstants.{CG_HEADER, CSUM_SIZE, DEV_BSIZE, DINODE_SIZE}
+use Rattle.ffs_volume.specs.declared.constants.TheConstants.{INODE_FORMAT, SBSIZE, SUPERBLOCK_BYTES, SUPERBLOCK_SECTOR}
 use Rattle.ffs_volume.specs.declared.Order.{Order}
 use Rattle.ffs_volume.specs.declared.SuperFault.{SuperFault}
 use Rattle.ffs_volume.specs.declared.SuperFault.TheVariants.{CannotRead, Magic, InodeFormat, Ncg, Cpg}
@@ -30,19 +32,19 @@ is_fragment_size n = is_among (512 ∷ 1024 ∷ 2048 ∷ 4096 ∷ 8192 ∷ 16384
 unfoldable pub is_fragment_count : ℕ → Bool
 is_fragment_count n = is_among (1 ∷ 2 ∷ 4 ∷ 8 ∷ []) n
 
--- the sizes of blocks, fragments and groups are valid and fit each other: an inode has 128 bytes
+-- the sizes of blocks, fragments and groups are valid and fit each other; an address has 4 bytes
 unfoldable pub has_valid_sizes : Layout → Bool
 has_valid_sizes v =
     is_block_size v.bsize && is_fragment_size v.fsize && is_fragment_count v.frag
     && (v.bsize == v.frag * v.fsize)
     && (v.nindir == v.bsize / 4)
-    && (v.inopb == v.bsize / 128)
+    && (v.inopb == v.bsize / DINODE_SIZE)
     && (nat_lt 0 v.ipg && (v.ipg % v.inopb == 0))
     && (nat_lt 0 v.fpg && (v.fpg % v.frag == 0))
 
--- there is a data fragment; the text of a symlink fits the 60 bytes of the fifteen addresses; the tables of rotational
--- positions are in the dynamic format (1); a superblock has at least the bytes that are read; the volume ends in its
--- last group; fragments and inodes are fewer than 2^31
+-- In the order of the lines: there is a data fragment; the text of a short symlink fits the 60 bytes of the fifteen
+-- addresses; the tables of rotational positions are in the dynamic format (1); a superblock has at least the bytes that
+-- are read; the volume ends in its last group; fragments and inodes are fewer than 2^31
 unfoldable pub has_valid_numbers : Layout → Bool
 has_valid_numbers v =
     nat_le 1 v.dsize
@@ -52,24 +54,24 @@ has_valid_numbers v =
     && (nat_lt ((v.ncg - 1) * v.fpg) v.size && nat_le v.size (v.ncg * v.fpg))
     && (nat_lt v.size (2 ^ 31) && nat_lt (v.ncg * v.ipg) (2 ^ 31))
 
--- the parts of a group are one after the other, and a group block has room for the 168 bytes before its maps
+-- the parts of a group are one after the other, and a group block has room for the bytes before its maps
 unfoldable pub has_valid_parts : Layout → Bool
 has_valid_parts v =
     nat_lt 0 v.sblkno
     && nat_le (v.sblkno + div_ceil v.sbsize v.fsize) v.cblkno
     && nat_le (v.cblkno + div_ceil v.cgsize v.fsize) v.iblkno
-    && nat_le (v.iblkno + v.ipg * 128 / v.fsize) v.dblkno
-    && (nat_le 168 v.cgsize && nat_le v.cgsize v.bsize)
+    && nat_le (v.iblkno + v.ipg * DINODE_SIZE / v.fsize) v.dblkno
+    && (nat_le CG_HEADER v.cgsize && nat_le v.cgsize v.bsize)
 
 -- the parts of group c begin at its base or above it, and its metadata ends within the group and the volume
 unfoldable pub has_valid_group : Layout → ℕ → Bool
 has_valid_group v c = is_nonnegative (cgoffset_of v c) && nat_le (cgdmin v c) (min (cgbase v (c + 1)) v.size)
 
--- the summary area begins at group 0's data, has 16 bytes for each group, and ends within group 0 and the volume
+-- the summary area begins at group 0's data, has a record for each group, and ends within group 0 and the volume
 unfoldable pub has_valid_summary_area : Layout → Bool
 has_valid_summary_area v =
     (v.csaddr == cgdmin v 0)
-    && nat_le (16 * v.ncg) v.cssize
+    && nat_le (CSUM_SIZE * v.ncg) v.cssize
     && nat_le (v.csaddr + div_ceil v.cssize v.fsize) (min (cgbase v 1) v.size)
 
 -- all these conditions: else the fault is Shape
@@ -81,15 +83,14 @@ is_valid_layout v = has_valid_sizes v && has_valid_numbers v && has_valid_parts 
 unfoldable pub has_valid_cylinders : Layout → Bool
 has_valid_cylinders v = nat_le v.ncyl (v.ncg * v.cpg) && nat_lt ((v.ncg - 1) * v.cpg) v.ncyl
 
--- the first fault of a layout, in an image of this size in bytes. 2 is the format of inodes since 4.4BSD, 8,192 the
--- most bytes of a superblock
+-- the first fault of a layout, in an image of this size in bytes
 unfoldable pub layout_fault : Layout → ℕ → Option SuperFault
 layout_fault v image_size =
-    if not (v.inodefmt == 2) then Some InodeFormat
+    if not (v.inodefmt == INODE_FORMAT) then Some InodeFormat
     else (if nat_lt v.ncg 1 then Some Ncg
     else (if nat_lt v.cpg 1 then Some Cpg
     else (if not (has_valid_cylinders v) then Some Ncyl
-    else (if nat_lt 8192 v.sbsize then Some TooLarge
+    else (if nat_lt SBSIZE v.sbsize then Some TooLarge
     else (if not (is_valid_layout v) then Some Shape
     else (if nat_lt image_size (v.size * v.fsize) then Some Short
     else None))))))
@@ -98,9 +99,9 @@ layout_fault v image_size =
 unfoldable pub agree : (order : Order) (bytes copy : List ℕ) → Bool
 agree order bytes copy = list_all (λ place. u32_at order place bytes == u32_at order place copy) LAYOUT_PLACES
 
--- the sector of the superblock in effect: the one asked for, or 16
+-- the sector of the superblock in effect: the one asked for, or that of the primary one
 abbrev pub super_sector : Option ℕ → ℕ
-super_sector None = 16
+super_sector None = SUPERBLOCK_SECTOR
 super_sector (Some sector) = sector
 
 -- the byte where the last copy begins

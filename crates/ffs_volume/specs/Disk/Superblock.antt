@@ -8,7 +8,7 @@ use Rattle.ffs_volume.specs.declared.Layout.{Layout}
 use Rattle.ffs_volume.specs.Disk.Numbers.{u32_at, i32_at, count_at, piece}
 
 -- a superblock. cstotal has its four totals, in the order of a `struct csum`: directories, free blocks, free inodes,
--- and free fragments of other blocks
+-- and free fragments of blocks that aren't all free
 pub record Superblock : Type 0 where
   pub layout : Layout
   pub optim : ℤ

@@ -1,4 +1,4 @@
--- A number for the class of an inode, with the type of a file: it fits four bits.
+-- A number for the class of an inode, with the type of a file: it fits four bits. 5 is `EMPTY_DIR`, 15 `UNKNOWN_TYPE`.
 use Rattle.std.specs.Prelude.{ℕ, Bool, not, ◌||◌, ◌==◌, if◌then◌else◌, List}
 use Rattle.ffs_volume.specs.declared.Layout.{Layout}
 use Rattle.ffs_volume.specs.declared.Inode.{Inode}

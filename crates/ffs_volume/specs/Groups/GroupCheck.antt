@@ -9,14 +9,10 @@ use Rattle.ffs_volume.specs.declared.BlockMessage.TheVariants.{GroupMagic, FreeC
 use Rattle.ffs_volume.specs.Disk.Areas.{is_reserved}
 use Rattle.ffs_volume.specs.Blocks.Owners.{Owner, fragments_of, all_steps}
 use Rattle.ffs_volume.specs.Blocks.Claims.{is_set, no_claims, after_owners}
+pub use Rattle.ffs_volume.specs.Messages.Kinds.{unless}
 use Rattle.ffs_volume.specs.Groups.Records.{group_block, summary_record, group_numbers, has_right_magic}
 use Rattle.ffs_volume.specs.Groups.Records.{maps_fit, has_right_maps, has_right_sums, has_right_record}
 use Rattle.ffs_volume.specs.Groups.Records.{has_right_totals}
-
--- a message where a test fails
-abbrev pub unless : Bool → BlockMessage → List BlockMessage
-unless true m = []
-unless false m = m ∷ []
 
 -- the lines of a group whose magic number is right
 abbrev pub records_lines : (v : Layout) (image : List ℕ) (free : ℕ → Bool) (class : ℕ → Class) (c : ℕ) →
@@ -72,11 +68,11 @@ unreported = record { counts = false; maps = false; sums = false }
 unfoldable pub phase5_lines : Layout → List ℕ → List ℤ → (ℕ → Bool) → (ℕ → Class) → List BlockMessage
 phase5_lines v image totals free class = reported_once unreported (all_group_lines v image totals free class)
 
--- f is neither reserved nor claimed by a kept offer
+-- f is free as phase 5 counts it: neither reserved nor claimed by a kept offer
 abbrev pub is_free_of_kept : Layout → List Owner → ℕ → Bool
 is_free_of_kept v os f = nat_lt f v.size && not (is_set (after_owners v (no_claims v) os).used f)
 
--- f is neither reserved nor in a Run
+-- f is free as a consistent volume has it: neither reserved nor in a Run
 abbrev pub is_free_of_runs : Layout → List Owner → ℕ → Bool
 is_free_of_runs v os f =
     nat_lt f v.size && not (is_reserved v f || list_any (λ g. g == f) (fragments_of (all_steps os)))

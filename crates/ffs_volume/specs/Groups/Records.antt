@@ -1,10 +1,11 @@
 -- What the records of cylinder groups should be. All is counted by two functions: `free` says which fragments are below
--- the size and not used, and `class` gives the class of an inode from 2 on.
+-- the size and not used, and `class` gives the class of an inode from 2 on. The numbers 4, 12, 20, 24, 52, 92 and 96
+-- are offsets in a group block, in bytes: fs(5).
 use Rattle.std.specs.Prelude.{ℕ, Bool, true, false, ◌+◌, ◌-◌, ◌*◌, ◌/◌, ◌%◌, ◌^◌, min, ◌&&◌, ◌||◌, not, List, [], ◌∷◌}
 use Rattle.std.specs.Prelude.{◌++◌, ◌==◌, nat_lt, nat_le, if◌then◌else◌, map, count_by, slice_index, ◌≡◌, ◌<◌, ℤ, pos}
 use Rattle.std.specs.List.{list_all, range_with_len, sum_by, slice_index_or}
 use Rattle.std.specs.Int.{div_ceil}
-use Rattle.ffs_volume.specs.declared.constants.TheConstants.{CG_MAGIC}
+use Rattle.ffs_volume.specs.declared.constants.TheConstants.{CG_MAGIC, CSUM_SIZE}
 use Rattle.ffs_volume.specs.declared.Layout.{Layout}
 use Rattle.ffs_volume.specs.declared.Class.{Class}
 use Rattle.ffs_volume.specs.Disk.Numbers.{u32_at, piece, all_below, equals_natural}
@@ -35,17 +36,18 @@ block_bits v free c b = map free (range_with_len (cgbase v c + b * v.frag) v.fra
 abbrev pub is_free_block : List Bool → Bool
 is_free_block bits = list_all (λ b. b) bits
 
--- the length of the run that n free fragments make, if there are any
+-- the stretch of n free fragments, if there are any
 abbrev pub stretch_of : ℕ → List ℕ
 stretch_of n = if n == 0 then [] else n ∷ []
 
--- the lengths of the maximal runs of free fragments, in order, where n free ones come just before
+-- the lengths of the longest stretches of free fragments, in order, where n free ones come just before
 abbrev pub free_stretches : (n : ℕ) (bits : List Bool) → List ℕ
 free_stretches n [] = stretch_of n
 free_stretches n (true ∷ bits) = free_stretches (n + 1) bits
 free_stretches n (false ∷ bits) = stretch_of n ++ free_stretches 0 bits
 
--- the counts of a group (struct csum): directories, free blocks, free inodes, free fragments of other blocks
+-- the counts of a group (struct csum): directories, free blocks, free inodes, free fragments of blocks that aren't all
+-- free
 pub record GroupCounts : Type 0 where
   pub dirs : ℕ
   pub blocks : ℕ
@@ -67,7 +69,7 @@ right_group_counts v free class c = record {
       (block_numbers v);
 }
 
--- the right frsum[k]: how many runs of exactly k free fragments there are in the blocks that aren't all free
+-- the right frsum[k]: how many stretches of exactly k free fragments there are in the blocks that aren't all free
 unfoldable pub right_frsum : (v : Layout) (free : ℕ → Bool) (c k : ℕ) → ℕ
 right_frsum v free c k =
     sum_by (λ b. if is_free_block (block_bits v free c b) then 0
@@ -93,7 +95,7 @@ group_block v image c = piece (group_place v c) v.cgsize image
 
 -- the record of group c in the summary area, as the image has it
 abbrev pub summary_record : (v : Layout) (image : List ℕ) (c : ℕ) → List ℕ
-summary_record v image c = piece (summary_place v c) 16 image
+summary_record v image c = piece (summary_place v c) CSUM_SIZE image
 
 -- the four counts at a place are those of s. They are signed in the image, but those of s are below 2^31, so to compare
 -- them as unsigned numbers is the same

@@ -1,24 +1,49 @@
 -- Laws that say of definitions what they are meant to say.
-use Rattle.std.specs.Prelude.{◌≡◌, ◌≤◌, ◌<◌, ℕ, ◌+◌, ◌*◌, ◌%◌, not, Bool, List, length, count_by, Some}
+use Rattle.std.specs.Prelude.{◌≡◌, ◌≤◌, ◌<◌, ◌⊎◌, ℕ, ◌+◌, ◌*◌, ◌%◌, not, Bool, true, List, [], ◌∷◌, ◌++◌, length}
+use Rattle.std.specs.Prelude.{count_by, map, Some}
 use Rattle.std.specs.List.{range_with_len}
 use Rattle.ffs_volume.specs.declared.constants.TheConstants.{MAXPATHLEN}
+use Rattle.ffs_volume.specs.declared.Order.{Order}
 use Rattle.ffs_volume.specs.declared.Layout.{Layout}
 use Rattle.ffs_volume.specs.declared.Class.{Class}
 use Rattle.ffs_volume.specs.declared.Step.{Step}
 use Rattle.ffs_volume.specs.Disk.Areas.{cgbase}
 use Rattle.ffs_volume.specs.Blocks.Owners.{fragments_of}
 use Rattle.ffs_volume.specs.Blocks.Claims.{Claims, is_open, after_steps}
-use Rattle.ffs_volume.specs.Blocks.BlockCheck.{kept_in_steps}
-use Rattle.ffs_volume.specs.Blocks.FirstOffers.{KeptPrefix}
+use Rattle.ffs_volume.specs.Blocks.BlockCheck.{Offer, kept_in_steps}
+use Rattle.ffs_volume.specs.Blocks.FirstOffers.{offer_at}
 use Rattle.ffs_volume.specs.Groups.Records.{right_group_counts}
+use Rattle.ffs_volume.specs.Directories.Entries.{Entry, entry_at, entries_of}
 use Rattle.ffs_volume.specs.Directories.Graph.{Graph, level}
 use Rattle.ffs_volume.specs.Directories.Levels.{IsLevel}
 use Rattle.ffs_volume.specs.Directories.Paths.{dir_path, entry_path}
+
+-- the kept offers are a prefix of the offers of the fragments fs to inode i, and all of them unless the inode is cut
+-- (`over`)
+pub record KeptPrefix (i : ℕ) (kept : List Offer) (fs : List ℕ) (over : Bool) : Type 0 where
+  pub rest : List Offer
+  pub parts : kept ++ rest ≡ map (offer_at i) fs
+  pub end : (rest ≡ []) ⊎ (over ≡ true)
 
 -- the kept offers of an inode are the first of its offers, and all of them where it isn't cut
 abbrev pub KeptAreFirst : Type 0
 KeptAreFirst = (v : Layout) (inode : ℕ) (s : Claims) (steps : List Step) →
     KeptPrefix inode (kept_in_steps v inode s steps) (fragments_of steps) (not (is_open (after_steps v s steps)))
+
+-- the list has well formed entries, one after the other from a place on
+abbrev pub AreEntries : (order : Order) (chunk : List ℕ) (place : ℕ) (es : List Entry) → Type 0
+AreEntries order chunk place [] = Unit {0}
+AreEntries order chunk place (e ∷ es) =
+    (entry_at order chunk place ≡ Some e) × AreEntries order chunk (place + e.length) es
+
+-- a list of well formed entries from the start, of which each other such list is a prefix
+pub record IsLongest (order : Order) (chunk : List ℕ) (entries : List Entry) : Type 0 where
+  pub are : AreEntries order chunk 0 entries
+  pub longest : (es : List Entry) → AreEntries order chunk 0 es → (rest : List Entry) × (entries ≡ es ++ rest)
+
+-- the entries of each chunk are the longest list
+abbrev pub AreLongest : Type 0
+AreLongest = (order : Order) (chunk : List ℕ) → IsLongest order chunk (entries_of order chunk)
 
 -- a level is the least number of edges from inode 2, and is below the number of inodes
 pub record LevelMeaning (g : Graph) (k d : ℕ) : Type 0 where

@@ -6,10 +6,11 @@ use Rattle.ffs_volume.specs.declared.BlockMessage.{BlockMessage}
 use Rattle.ffs_volume.specs.declared.Label.{Label}
 use Rattle.ffs_volume.specs.declared.SuperFault.{SuperFault}
 
--- a message on directories, their entries or references. Paths and names have the bytes of the image; the text of a
--- message has `?` in place of control bytes. `Texts` has all words of each message
+-- a message on directories, their entries or references; the rules that report them, and their words, are in the folder
+-- Directories. Paths and names have the bytes of the image; the text of a message has `?` in place of control bytes.
+-- `Texts` has all words of each message
 pub data NameMessage : Type 0 where
-  root_none : NameMessage
+  root_none : NameMessage  -- ROOT INODE UNALLOCATED
   root_not_dir : NameMessage
   root_suspect : NameMessage  -- DUPS/BAD IN ROOT INODE
   dir_short : (about : Attr) (path : List ℕ) → NameMessage
@@ -18,7 +19,7 @@ pub data NameMessage : Type 0 where
   dir_corrupt : (about : Attr) (path : List ℕ) → NameMessage
   missing_dot : (about : Attr) (path : List ℕ) → NameMessage
   missing_dot_first : (about : Attr) (path name : List ℕ) → NameMessage  -- MISSING '.', another entry is first
-  number_dot : (about : Attr) (path : List ℕ) → NameMessage
+  number_dot : (about : Attr) (path : List ℕ) → NameMessage  -- BAD INODE NUMBER FOR '.'
   kind_dot : (about : Attr) (path : List ℕ) → NameMessage  -- BAD TYPE VALUE FOR '.'
   missing_dotdot : (about : Attr) (path : List ℕ) → NameMessage
   missing_dotdot_second : (about : Attr) (path name : List ℕ) → NameMessage  -- MISSING '..', another is second
@@ -85,7 +86,12 @@ is_defect (summary files used free frags blocks tenths) = false
 abbrev pub has_defect : List Message → Bool
 has_defect messages = list_any is_defect messages
 
--- the message, where the condition holds
+-- the message, where the test fails
+abbrev pub unless : {M : Type 0} → Bool → M → List M
+unless true m = []
+unless false m = m ∷ []
+
+-- the message on a directory, an entry or an inode, where the condition holds
 abbrev pub reported : Bool → NameMessage → List NameMessage
 reported true m = m ∷ []
 reported false m = []

@@ -5,7 +5,8 @@ use Rattle.ffs_volume.specs.declared.SuperFault.{SuperFault}
 use Rattle.ffs_volume.specs.declared.SuperFault.TheVariants.{CannotRead, Magic, InodeFormat, Ncg, Cpg}
 use Rattle.ffs_volume.specs.declared.SuperFault.TheVariants.{Ncyl, TooLarge, Shape, Short, Disagree}
 use Rattle.ffs_volume.specs.Messages.Kinds.{Message, location, opening, mounted}
-use Rattle.ffs_volume.specs.Messages.Kinds.{bad_super, cannot_read, optimization, minfree}
+use Rattle.ffs_volume.specs.Messages.Kinds.{bad_super, cannot_read, optimization, minfree, unless}
+pub use Rattle.ffs_volume.specs.Messages.Kinds.{unless as message_unless}
 use Rattle.ffs_volume.specs.Disk.Superblock.{Superblock}
 use Rattle.ffs_volume.specs.Disk.Outcome.{outcome}
 
@@ -26,15 +27,10 @@ is_optimization s = is_up_to 1 s.optim
 abbrev pub is_minfree : Superblock → Bool
 is_minfree s = is_up_to 99 s.minfree
 
--- a message where a test fails
-abbrev pub message_unless : Bool → Message → List Message
-message_unless true message = []
-message_unless false message = message ∷ []
-
 -- the defects of the settings
 unfoldable pub setting_lines : Superblock → List Message
 setting_lines s =
-    message_unless (is_optimization s) optimization ++ message_unless (is_minfree s) (minfree s.minfree)
+    unless (is_optimization s) optimization ++ unless (is_minfree s) (minfree s.minfree)
 
 -- what is reported of an accepted superblock
 abbrev pub super_lines : Superblock → List Message
