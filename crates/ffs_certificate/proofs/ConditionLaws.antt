@@ -22,7 +22,7 @@ use Rattle.ffs_volume.specs.Directories.Climb.{is_value}
 use Rattle.ffs_volume.proofs.ClimbLaws.{is_value-true}
 use Rattle.ffs_volume.specs.Directories.Graph.{parent, parent_entry_index}
 use Rattle.ffs_volume.proofs.Graphs.{NoExtraneous}
-use Rattle.ffs_volume.specs.Directories.Parents.{graph_of, is_from_parent}
+use Rattle.ffs_volume.specs.Directories.Parents.{graph_of, is_parent_entry}
 use Rattle.ffs_volume.specs.Directories.PathnameCheck.{is_wrong_parent, is_extraneous}
 use Rattle.ffs_volume.specs.Consistent.DirectoriesRight.{IsPlainRight, AreDirsRight}
 use Rattle.ffs_certificate.specs.Premises.{IsVolume, IsUnmarked}
@@ -159,7 +159,7 @@ links_right v vol un r q =
         let m = names_at-gives v s j d t in
         let link : is_extraneous v s j d ≡ false =
         subst (λ x. is_extraneous v s j x ≡ false) m.number (q.links s j m.entry m.dir m.there m.role) in
-        let from = not-false _ (and_false-right (is_dir v d) (not (is_from_parent (graph_of v) s j d)) link h) in
+        let from = not-false _ (and_false-right (is_dir v d) (not (is_parent_entry (graph_of v) s j d)) link h) in
         let both = and_parts (is_value (parent (graph_of v) d) s) (is_value (parent_entry_index (graph_of v) d) j)
         from in
         (is_value-true (parent (graph_of v) d) s both.0, is_value-true (parent_entry_index (graph_of v) d) j both.1)

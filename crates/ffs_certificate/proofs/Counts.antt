@@ -10,7 +10,7 @@ use Rattle.ffs_volume.specs.Messages.Kinds.{unref_unlinked, link_count}
 use Rattle.ffs_volume.specs.Directories.PathnameCheck.{attributes, label_of}
 use Rattle.ffs_volume.specs.Directories.Connectivity.{is_dead, is_unref_dir_of, connectivity_lines}
 use Rattle.ffs_volume.specs.Disk.Numbers.{equals_natural}
-use Rattle.ffs_volume.specs.Directories.ReferenceCheck.{dead_reported, unref_reported, inode_lines, counted_lines}
+use Rattle.ffs_volume.specs.Directories.ReferenceCheck.{dead_lines, unref_lines, inode_lines, counted_lines}
 use Rattle.ffs_volume.specs.Directories.ReferenceCheck.{reference_lines}
 use Rattle.ffs_certificate.proofs.Silence.{reported-quiet, reported-silent, if-silent, then-quiet, then-silent}
 use Rattle.ffs_certificate.proofs.Silence.{lines-quiet, lines-silent}
@@ -45,9 +45,9 @@ count-quiet : (v : Volume) (i : ℕ) → inode_lines v i ≡ [] → IsCountQuiet
 unfolding inode_lines
 count-quiet v i h =
     let m = link_count (label_of (v.class i)) (attributes v i) (v.inode i).nlink (references v i) in
-    let a = first-quiet (is_dead v i) (dead_reported v i) _
+    let a = first-quiet (is_dead v i) (dead_lines v i) _
     (either-some (v.marked i) (dead_marked (label_of (v.class i)) (attributes v i)) (dead_zero (attributes v i))) h in
-    let b = first-quiet (references v i == 0) (unref_reported v i) _
+    let b = first-quiet (references v i == 0) (unref_lines v i) _
     (either-some (equals_natural (v.inode i).nlink 0) (unref_unlinked (label_of (v.class i)) (attributes v i))
     (unref (label_of (v.class i)) (attributes v i))) a.1 in
     record { alive = a.0; some = eqb-false (references v i) 0 b.0; same = not-false _ (reported-quiet _ m b.1) }
@@ -56,8 +56,8 @@ count-silent : (v : Volume) (i : ℕ) → IsCountQuiet v i → inode_lines v i �
 unfolding inode_lines
 count-silent v i q =
     let m = link_count (label_of (v.class i)) (attributes v i) (v.inode i).nlink (references v i) in
-    if-silent (is_dead v i) (dead_reported v i) _ q.alive
-    (if-silent (references v i == 0) (unref_reported v i) _ (ne_eqb (references v i) 0 q.some)
+    if-silent (is_dead v i) (dead_lines v i) _ q.alive
+    (if-silent (references v i == 0) (unref_lines v i) _ (ne_eqb (references v i) 0 q.some)
     (reported-silent _ m (not_from_true _ q.same)))
 
 pub some-below : (v : Volume) (i : ℕ) → is_allocated_inode v i ≡ true → i < v.count

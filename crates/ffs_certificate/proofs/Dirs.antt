@@ -17,10 +17,10 @@ use Rattle.ffs_volume.specs.Directories.Paths.{dir_path}
 use Rattle.ffs_volume.specs.Messages.Kinds.{reported, lines_below, root_suspect, dir_short, dir_length, dir_empty}
 use Rattle.ffs_volume.specs.Messages.Kinds.{dir_corrupt, missing_dot, missing_dot_first, number_dot, kind_dot}
 use Rattle.ffs_volume.specs.Messages.Kinds.{missing_dotdot, missing_dotdot_second, number_dotdot, kind_dotdot}
-use Rattle.ffs_volume.specs.Directories.PathnameCheck.{attributes, root_lines, root_reported, continues_after_root}
+use Rattle.ffs_volume.specs.Directories.PathnameCheck.{attributes, root_lines, root_lines_of, continues_after_root}
 use Rattle.ffs_volume.specs.Directories.PathnameCheck.{is_short, is_not_multiple, are_sound, shape_lines, dot_lines}
-use Rattle.ffs_volume.specs.Directories.PathnameCheck.{dot_reported, missing_dot_reported, is_wrong_parent}
-use Rattle.ffs_volume.specs.Directories.PathnameCheck.{dotdot_lines, dotdot_reported, missing_dotdot_reported}
+use Rattle.ffs_volume.specs.Directories.PathnameCheck.{dot_lines_of, missing_dot_lines, is_wrong_parent}
+use Rattle.ffs_volume.specs.Directories.PathnameCheck.{dotdot_lines, dotdot_lines_of, missing_dotdot_lines}
 use Rattle.ffs_volume.specs.Directories.PathnameCheck.{lines_of_entries, dir_lines, is_looked_at, lines_of}
 use Rattle.ffs_volume.specs.Directories.PathnameCheck.{pathname_lines}
 use Rattle.ffs_certificate.proofs.Silence.{nil-left, nil-right, nil-both, reported-quiet, reported-silent, then-quiet}
@@ -63,7 +63,7 @@ shape-silent v d q =
     (reported-silent _ (dir_corrupt (attributes v d) p) (not_from_true _ q.sound))))
 
 -- where `.` or `..` isn't there, something is reported
-missing_dot-some : (about : Attr) (path : List ℕ) (o : Option Entry) → missing_dot_reported about path o ≡ [] → ⊥
+missing_dot-some : (about : Attr) (path : List ℕ) (o : Option Entry) → missing_dot_lines about path o ≡ [] → ⊥
 missing_dot-some about path None h = absurd (cc)
 missing_dot-some about path (Some e) h = go (is_live e && not (is_two_dots e.name)) h
   where
@@ -71,7 +71,7 @@ missing_dot-some about path (Some e) h = go (is_live e && not (is_two_dots e.nam
     go true h = absurd (cc)
     go false h = absurd (cc)
 
-missing_dotdot-some : (about : Attr) (path : List ℕ) (o : Option Entry) → missing_dotdot_reported about path o ≡ [] → ⊥
+missing_dotdot-some : (about : Attr) (path : List ℕ) (o : Option Entry) → missing_dotdot_lines about path o ≡ [] → ⊥
 missing_dotdot-some about path None h = absurd (cc)
 missing_dotdot-some about path (Some e) h = go (is_live e && not (is_one_dot e.name)) h
   where
@@ -84,7 +84,7 @@ missing_dotdot-some about path (Some e) h = go (is_live e && not (is_one_dot e.n
 abbrev pub IsDotQuiet : ℕ → Option Entry → Type 0
 IsDotQuiet d o = IsSomeAnd o (λ e. (e.number ≡ d) × (e.kind ≡ 4))
 
-dot-quiet : (v : Volume) (d : ℕ) (o : Option Entry) → dot_reported v d o ≡ [] → IsDotQuiet d o
+dot-quiet : (v : Volume) (d : ℕ) (o : Option Entry) → dot_lines_of v d o ≡ [] → IsDotQuiet d o
 dot-quiet v d None h = absurd (missing_dot-some (attributes v d) (dir_path (graph_of v) d) (start_entry v d 0) h)
 dot-quiet v d (Some e) h =
     let m = number_dot (attributes v d) (dir_path (graph_of v) d) in
@@ -95,7 +95,7 @@ dot-quiet v d (Some e) h =
           (reported-quiet _ k (nil-right (reported (not (e.number == d)) m) (reported (not (e.kind == 4)) k) h))),
     )
 
-dot-silent : (v : Volume) (d : ℕ) (o : Option Entry) → IsDotQuiet d o → dot_reported v d o ≡ []
+dot-silent : (v : Volume) (d : ℕ) (o : Option Entry) → IsDotQuiet d o → dot_lines_of v d o ≡ []
 dot-silent v d None q = absurd q
 dot-silent v d (Some e) q =
     let m = number_dot (attributes v d) (dir_path (graph_of v) d) in
@@ -108,7 +108,7 @@ dot-silent v d (Some e) q =
 abbrev pub IsDotdotQuiet : Volume → ℕ → Option Entry → Type 0
 IsDotdotQuiet v d o = IsSomeAnd o (λ e. (is_wrong_parent (parent (graph_of v) d) e.number ≡ false) × (e.kind ≡ 4))
 
-dotdot-quiet : (v : Volume) (d : ℕ) (o : Option Entry) → dotdot_reported v d o ≡ [] → IsDotdotQuiet v d o
+dotdot-quiet : (v : Volume) (d : ℕ) (o : Option Entry) → dotdot_lines_of v d o ≡ [] → IsDotdotQuiet v d o
 dotdot-quiet v d None h = absurd (missing_dotdot-some (attributes v d) (dir_path (graph_of v) d) (start_entry v d 1) h)
 dotdot-quiet v d (Some e) h =
     let m = number_dotdot (attributes v d) (dir_path (graph_of v) d) in
@@ -120,7 +120,7 @@ dotdot-quiet v d (Some e) h =
           (reported (not (e.kind == 4)) k) h))),
     )
 
-dotdot-silent : (v : Volume) (d : ℕ) (o : Option Entry) → IsDotdotQuiet v d o → dotdot_reported v d o ≡ []
+dotdot-silent : (v : Volume) (d : ℕ) (o : Option Entry) → IsDotdotQuiet v d o → dotdot_lines_of v d o ≡ []
 dotdot-silent v d None q = absurd q
 dotdot-silent v d (Some e) q =
     let m = number_dotdot (attributes v d) (dir_path (graph_of v) d) in
@@ -168,7 +168,7 @@ pub record IsPathnameQuiet (v : Volume) : Type 0 where
   pub suspect : is_suspect v 2 ≡ false
   pub each : (d : ℕ) → is_dir v d ≡ true → (v.inode d).size ≢ 0 → IsDirQuiet v d
 
-root-quiet : (v : Volume) (c : Class) → root_reported v c ≡ [] → (c ≡ Dir) × (is_suspect v 2 ≡ false)
+root-quiet : (v : Volume) (c : Class) → root_lines_of v c ≡ [] → (c ≡ Dir) × (is_suspect v 2 ≡ false)
 root-quiet v Dir h = (refl, reported-quiet _ root_suspect h)
 root-quiet v File h = absurd (cc)
 root-quiet v Unknown h = absurd (cc)
@@ -197,7 +197,7 @@ pathname-quiet v h =
 pub pathname-silent : (v : Volume) → IsPathnameQuiet v → pathname_lines v ≡ []
 unfolding pathname_lines root_lines
 pathname-silent v q =
-    nil-both (root_lines v) _ (ap (root_reported v) q.root ∙ reported-silent _ root_suspect q.suspect)
+    nil-both (root_lines v) _ (ap (root_lines_of v) q.root ∙ reported-silent _ root_suspect q.suspect)
     (then-silent (continues_after_root v) (lines_below (lines_of v) v.count) (λ g.
     lines-silent (lines_of v) v.count (λ d l. then-silent (is_looked_at v d) (dir_lines v d) (λ k.
     let p = and_parts (is_dir v d) (not ((v.inode d).size == 0)) k in

@@ -17,7 +17,7 @@ use Rattle.ffs_volume.specs.Messages.Kinds.{extra_dot, extra_dotdot}
 use Rattle.ffs_volume.specs.Directories.PathnameCheck.{attributes, label_of, roled_lines, roled_reported}
 use Rattle.ffs_volume.specs.Directories.PathnameCheck.{lines_of_entries, plain_lines, named_lines, is_bad_whiteout}
 use Rattle.ffs_volume.specs.Directories.PathnameCheck.{reports_suspect, suspect_reported, is_extraneous, has_wrong_type}
-use Rattle.ffs_volume.specs.Directories.PathnameCheck.{extra_reported}
+use Rattle.ffs_volume.specs.Directories.PathnameCheck.{extra_lines}
 use Rattle.ffs_certificate.proofs.Silence.{nil-left, nil-right, nil-both, reported-quiet, reported-silent, if-quiet}
 use Rattle.ffs_certificate.proofs.Silence.{if-silent, else-quiet, else-silent}
 
@@ -96,7 +96,7 @@ pub record IsSeenQuiet (v : Volume) (s j : ℕ) (e : RoledEntry) : Type 0 where
   pub no_extra : e.role ≢ Extra
   pub plain : e.role ≡ Plain → IsPlainQuiet v s j e.entry
 
-extra_reported-some : (about : Attr) (path : List ℕ) (e : Entry) → extra_reported about path e ≡ [] → ⊥
+extra_reported-some : (about : Attr) (path : List ℕ) (e : Entry) → extra_lines about path e ≡ [] → ⊥
 extra_reported-some about path e h = go (is_one_dot e.name) h
   where
     go : (b : Bool) → (if b then extra_dot about path ∷ [] else extra_dotdot about path ∷ []) ≡ [] → ⊥

@@ -17,7 +17,7 @@ use Rattle.ffs_volume.proofs.Graphs.{AllReached, NoExtraneous}
 use Rattle.ffs_volume.proofs.Unreached.{lost-true}
 use Rattle.ffs_certificate.proofs.Lost.{silent-reached}
 use Rattle.ffs_certificate.proofs.Links.{links-right, has_parent_entry}
-use Rattle.ffs_volume.specs.Directories.Parents.{graph_of, is_from_parent}
+use Rattle.ffs_volume.specs.Directories.Parents.{graph_of, is_parent_entry}
 use Rattle.ffs_volume.specs.Directories.PathnameCheck.{is_short, is_bad_whiteout, is_wrong_parent, is_extraneous}
 use Rattle.ffs_volume.specs.Directories.PathnameCheck.{has_wrong_type}
 use Rattle.ffs_volume.specs.Directories.Connectivity.{is_unref_dir_of}
@@ -126,7 +126,7 @@ no_extraneous v vol un q s j d t h =
     let not_one : (m.entry.entry.number == 1) ≡ false = ne_eqb m.entry.entry.number 1 (omega arith) in
     let link : is_extraneous v s j d ≡ false =
     subst (λ x. is_extraneous v s j x ≡ false) number (p.named not_one).link in
-    let from = not-false _ (and_false-right (is_dir v d) (not (is_from_parent (graph_of v) s j d)) link h) in
+    let from = not-false _ (and_false-right (is_dir v d) (not (is_parent_entry (graph_of v) s j d)) link h) in
     let both = and_parts (is_value (parent (graph_of v) d) s) (is_value (parent_entry_index (graph_of v) d) j) from in
     (is_value-true (parent (graph_of v) d) s both.0, is_value-true (parent_entry_index (graph_of v) d) j both.1)
 

@@ -24,7 +24,7 @@ use Rattle.ffs_volume.specs.Report.Opening.{before_nul, is_optimization, is_minf
 use Rattle.ffs_volume.specs.Report.Opening.{super_lines}
 use Rattle.ffs_volume.specs.Blocks.Inodes.{is_directory}
 use Rattle.ffs_volume.specs.Directories.Roles.{Volume}
-use Rattle.ffs_volume.specs.Directories.PathnameCheck.{root_reported, root_lines, pathname_lines, continues_after_root}
+use Rattle.ffs_volume.specs.Directories.PathnameCheck.{root_lines_of, root_lines, pathname_lines, continues_after_root}
 use Rattle.ffs_volume.specs.Directories.Connectivity.{connectivity_lines}
 use Rattle.ffs_volume.specs.Directories.ReferenceCheck.{reference_lines}
 use Rattle.ffs_certificate.specs.DirsCertificate.{IsSilent, AreDirectoriesRight}
@@ -109,7 +109,7 @@ settings_reported super = (
 )
 
 -- THE ROOT: a run that stops after it has reported so
-reported_root : (v : Volume) (c : Class) → root_reported v c ≡ [] → is_directory c ≡ true
+reported_root : (v : Volume) (c : Class) → root_lines_of v c ≡ [] → is_directory c ≡ true
 reported_root v Free h = absurd (cc)
 reported_root v Partial h = absurd (cc)
 reported_root v File h = absurd (cc)
@@ -118,7 +118,7 @@ reported_root v Dir h = refl
 
 root_there : (v : Volume) → pathname_lines v ≡ [] → continues_after_root v ≡ true
 unfolding pathname_lines root_lines
-root_there v h = reported_root v (v.class 2) (nil-left (root_reported v (v.class 2)) _ h)
+root_there v h = reported_root v (v.class 2) (nil-left (root_lines_of v (v.class 2)) _ h)
 
 -- CONDITIONS 2 AND 3
 blocks_of_parts : (image : List ℕ) (super : Superblock) → IsConsistent image super →

@@ -7,7 +7,7 @@ use Rattle.ffs_volume.specs.Blocks.Inodes.{is_directory}
 use Rattle.ffs_volume.specs.Messages.Kinds.{Message, NameMessage, lines_below, of_names, root_none, root_not_dir}
 use Rattle.ffs_volume.specs.Directories.Roles.{Volume}
 use Rattle.ffs_volume.specs.Directories.PathnameCheck.{continues_after_root, lines_of, pathname_lines, root_lines}
-use Rattle.ffs_volume.specs.Directories.PathnameCheck.{root_reported}
+use Rattle.ffs_volume.specs.Directories.PathnameCheck.{root_lines_of}
 use Rattle.ffs_report.specs.Progress.{Progress, Said}
 use Rattle.ffs_phase.specs.Known.{ForBytes}
 use Rattle.ffs_phase.specs.Runs.{PhaseReports}
@@ -21,7 +21,7 @@ use Rattle.ffs_check.proofs.Stages.{Stage, falls, some_more, more_after}
 -- a root that is no directory has a line, and after a directory the run continues
 some_root : (v : Volume) (c : Class) (lines : Bool → List NameMessage) (rest : Bool → List Message)
     → 0 < length (rest true) →
-    0 < length (map of_names (root_reported v c ++ lines (is_directory c)) ++ rest (is_directory c))
+    0 < length (map of_names (root_lines_of v c ++ lines (is_directory c)) ++ rest (is_directory c))
 some_root v Free lines rest h = some_more (of_names root_none) _
 some_root v Partial lines rest h = some_more (of_names root_none) _
 some_root v File lines rest h = some_more (of_names root_not_dir) _

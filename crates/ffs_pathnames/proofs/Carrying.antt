@@ -12,7 +12,7 @@ use Rattle.ffs_volume.specs.Messages.Kinds.{NameMessage, of_names, lines_below, 
 use Rattle.ffs_volume.specs.Messages.Kinds.{root_suspect, lines_from}
 use Rattle.ffs_volume.specs.Directories.Parents.{graph_of}
 use Rattle.ffs_volume.specs.Directories.PathnameCheck.{dir_lines, continues_after_root, lines_of, pathname_lines}
-use Rattle.ffs_volume.specs.Directories.PathnameCheck.{root_lines, root_reported}
+use Rattle.ffs_volume.specs.Directories.PathnameCheck.{root_lines, root_lines_of}
 use Rattle.ffs_volume.specs.Blocks.Inodes.{is_directory, is_allocated}
 use Rattle.ffs_volume.specs.Directories.Roles.{Volume, is_dir, is_suspect, roled_entries}
 use Rattle.ffs_volume.proofs.SearchLaws.{some_below-none}
@@ -202,7 +202,7 @@ before_reported v contents contents' w d b e k =
 -- what is reported of the root
 root_by : (v : Volume) (c : Class) (k : ℕ) (m : Bool) → is_directory c ≡ is_dir_kind k →
     is_allocated c ≡ is_allocated_kind k → is_suspect v 2 ≡ (m || is_empty_dir_kind k) →
-    root_said k m ≡ root_reported v c
+    root_said k m ≡ root_lines_of v c
 unfolding root_said
 root_by v c k m d a s = go c (k == 0) (is_dir_kind k) refl d a
   where
@@ -211,7 +211,7 @@ root_by v c k m d a s = go c (k == 0) (is_dir_kind k) refl d a
         else (if not dir then root_not_dir ∷ [] else reported (m || is_empty_dir_kind k) root_suspect)
 
     go : (c : Class) (none dir : Bool) → (k == 0) ≡ none → is_directory c ≡ dir → is_allocated c ≡ not none →
-        tell none dir ≡ root_reported v c
+        tell none dir ≡ root_lines_of v c
     go Free true dir e d a = refl
     go Free false dir e d a = absurd (cc)
     go Partial true dir e d a = refl

@@ -7,7 +7,7 @@ use Rattle.ffs_volume.specs.Directories.Parents.{graph_of}
 use Rattle.ffs_volume.specs.Directories.Paths.{dir_path}
 use Rattle.ffs_volume.specs.Messages.Kinds.{reported, dir_short, dir_length}
 use Rattle.ffs_volume.specs.Directories.PathnameCheck.{attributes, is_short, is_not_multiple, are_sound, shape_lines}
-use Rattle.ffs_volume.specs.Directories.PathnameCheck.{dot_lines, dotdot_lines, dot_reported, dotdot_reported}
+use Rattle.ffs_volume.specs.Directories.PathnameCheck.{dot_lines, dotdot_lines, dot_lines_of, dotdot_lines_of}
 use Rattle.ffs_volume.specs.Directories.PathnameCheck.{lines_of_entries, dir_lines}
 use Rattle.ffs_pathnames.specs.Header.{chunks_reported, shape_reported, dot_in, dotdot_in, dot_said, dotdot_said}
 use Rattle.ffs_pathnames.specs.Header.{dots_reported, header_reported}
@@ -25,7 +25,7 @@ dot_is : (v : Volume) (d : ℕ) → dot_lines v d ≡ dot_said (attributes v d) 
 unfolding dot_lines dot
 dot_is v d = one (dot_in (start_entry v d 0))
   where
-    one : (o : Option Entry) → dot_reported v d o ≡ dot_said (attributes v d) (dir_path (graph_of v) d) d
+    one : (o : Option Entry) → dot_lines_of v d o ≡ dot_said (attributes v d) (dir_path (graph_of v) d) d
         (start_entry v d 0) o
     one None = refl
     one (Some e) = refl
@@ -35,7 +35,7 @@ dotdot_is : (v : Volume) (d : ℕ) → dotdot_lines v d ≡ dotdot_said (attribu
 unfolding dotdot_lines dotdot
 dotdot_is v d = one (dotdot_in (start_entry v d 1))
   where
-    one : (o : Option Entry) → dotdot_reported v d o ≡ dotdot_said (attributes v d) (dir_path (graph_of v) d)
+    one : (o : Option Entry) → dotdot_lines_of v d o ≡ dotdot_said (attributes v d) (dir_path (graph_of v) d)
         (parent (graph_of v) d) (start_entry v d 1) o
     one None = refl
     one (Some e) = refl

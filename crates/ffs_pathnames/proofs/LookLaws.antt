@@ -14,7 +14,7 @@ use Rattle.ffs_volume.specs.Blocks.Inodes.{is_allocated}
 use Rattle.ffs_volume.specs.Directories.Roles.{Volume, RoledEntry, is_dir, is_suspect, is_plain, roled_entries}
 use Rattle.ffs_volume.specs.Directories.Climb.{is_value}
 use Rattle.ffs_volume.specs.Directories.Graph.{names, parent}
-use Rattle.ffs_volume.specs.Directories.Parents.{graph_of, is_from_parent, is_first_name}
+use Rattle.ffs_volume.specs.Directories.Parents.{graph_of, is_parent_entry, is_first_name}
 use Rattle.ffs_volume.specs.Directories.Paths.{dir_path, entry_path}
 use Rattle.ffs_volume.specs.Messages.Kinds.{NameMessage, reported, out_of_range, whiteout, unallocated, extraneous}
 use Rattle.ffs_volume.specs.Messages.Kinds.{kind_entry}
@@ -155,7 +155,7 @@ link_quiet v s done es e stamps i p h r q = one (is_dir v e.entry.number) refl
     none false any k z = absurd (cc)
 
     one : (b : Bool) → is_dir v e.entry.number ≡ b →
-        (b && not (is_from_parent (graph_of v) s (size_of done) e.entry.number)) ≡ false
+        (b && not (is_parent_entry (graph_of v) s (size_of done) e.entry.number)) ≡ false
     one false d = refl
     one true d =
         let due : (belongs v s e.entry.number && not (slice_index stamps e.entry.number == s)) ≡ true =

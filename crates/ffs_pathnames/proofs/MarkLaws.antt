@@ -17,7 +17,7 @@ use Rattle.ffs_volume.proofs.SearchLaws.{first_below-is, some_below-false, first
 use Rattle.ffs_volume.specs.Directories.Climb.{is_value}
 use Rattle.ffs_volume.proofs.ClimbLaws.{is_value-true, is_value-from}
 use Rattle.ffs_volume.specs.Directories.Graph.{names, names_in, parent, index_in_parent, first_index}
-use Rattle.ffs_volume.specs.Directories.Parents.{graph_of, first_naming_dir, is_first_name, is_from_parent}
+use Rattle.ffs_volume.specs.Directories.Parents.{graph_of, first_naming_dir, is_first_name, is_parent_entry}
 use Rattle.ffs_volume.specs.Directories.Paths.{dir_path, entry_path}
 use Rattle.ffs_volume.specs.Messages.Kinds.{reported, out_of_range, whiteout, unallocated, extraneous, kind_entry}
 use Rattle.ffs_volume.specs.Directories.PathnameCheck.{attributes, label_of, is_bad_whiteout, suspect_reported}
@@ -98,7 +98,7 @@ first_name_is v s done es e i p =
 
 pub from_parent_is : (v : Volume) (s : ℕ) (done es : List RoledEntry) (e : RoledEntry) → IsEntry v s done e es →
     e.role ≡ Plain →
-    is_from_parent (graph_of v) s (size_of done) e.entry.number
+    is_parent_entry (graph_of v) s (size_of done) e.entry.number
     ≡ ((not (e.entry.number == 2) && is_value (parent (graph_of v) e.entry.number) s)
     && not (list_any (names e.entry.number) done))
 from_parent_is v s done es e i p = one (e.entry.number == 2) refl (is_value (parent (graph_of v) e.entry.number) s) refl
@@ -140,7 +140,7 @@ extraneous_same : (v : Volume) (s : ℕ) (done es : List RoledEntry) (e : RoledE
 extraneous_same v s done es e m i p h r = one (is_dir v e.entry.number) refl
   where
     one : (b : Bool) → is_dir v e.entry.number ≡ b →
-        (b && not (is_from_parent (graph_of v) s (size_of done) e.entry.number))
+        (b && not (is_parent_entry (graph_of v) s (size_of done) e.entry.number))
         ≡ (b && not (is_due s m e.entry.number))
     one false q = refl
     one true q = ap not (from_parent_is v s done es e i p

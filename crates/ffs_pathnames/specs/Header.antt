@@ -5,7 +5,7 @@ use Rattle.ffs_volume.specs.Directories.Entries.{Entry, is_live}
 use Rattle.ffs_volume.specs.Directories.Roles.{is_one_dot, is_two_dots, entry_if}
 use Rattle.ffs_volume.specs.Messages.Kinds.{NameMessage, reported, dir_short, dir_length, dir_empty}
 use Rattle.ffs_volume.specs.Messages.Kinds.{dir_corrupt, number_dot, kind_dot, number_dotdot, kind_dotdot}
-use Rattle.ffs_volume.specs.Directories.PathnameCheck.{missing_dot_reported, missing_dotdot_reported, is_wrong_parent}
+use Rattle.ffs_volume.specs.Directories.PathnameCheck.{missing_dot_lines, missing_dotdot_lines, is_wrong_parent}
 
 -- of the size, of whether a Gap is kept, and of whether all chunks are sound
 abbrev pub size_reported : Attr → List ℕ → List NameMessage
@@ -31,7 +31,7 @@ there_reported about path d e = reported (not (e.number == d)) (number_dot about
     ++ reported (not (e.kind == 4)) (kind_dot about path)
 
 abbrev pub dot_said : Attr → List ℕ → ℕ → Option Entry → Option Entry → List NameMessage
-dot_said about path d first None = missing_dot_reported about path first
+dot_said about path d first None = missing_dot_lines about path first
 dot_said about path d first (Some e) = there_reported about path d e
 
 -- `parent` is the directory's parent, if it has one
@@ -40,7 +40,7 @@ above_reported about path parent e = reported (is_wrong_parent parent e.number) 
     ++ reported (not (e.kind == 4)) (kind_dotdot about path)
 
 abbrev pub dotdot_said : Attr → List ℕ → Option ℕ → Option Entry → Option Entry → List NameMessage
-dotdot_said about path parent second None = missing_dotdot_reported about path second
+dotdot_said about path parent second None = missing_dotdot_lines about path second
 dotdot_said about path parent second (Some e) = above_reported about path parent e
 
 abbrev pub dots_reported : Attr → List ℕ → ℕ → Option ℕ → Option Entry → Option Entry → List NameMessage

@@ -14,7 +14,7 @@ use Rattle.ffs_volume.specs.Directories.Paths.{dir_path, entry_path}
 use Rattle.ffs_volume.specs.Messages.Kinds.{NameMessage, reported, out_of_range, whiteout}
 use Rattle.ffs_volume.specs.Messages.Kinds.{unallocated, extraneous, kind_entry}
 use Rattle.ffs_volume.specs.Directories.PathnameCheck.{attributes, label_of, is_bad_whiteout}
-use Rattle.ffs_volume.specs.Directories.PathnameCheck.{suspect_reported, has_wrong_type, extra_reported}
+use Rattle.ffs_volume.specs.Directories.PathnameCheck.{suspect_reported, has_wrong_type, extra_lines}
 
 -- which inodes a plain entry has named, and for each inode a directory whose entries to come have its parent entry
 pub record Marks : Type 0 where
@@ -60,7 +60,7 @@ abbrev pub role_reported : Volume → ℕ → Marks → Role → Entry → List 
 role_reported v s m Empty e = []
 role_reported v s m Dot e = []
 role_reported v s m Dotdot e = []
-role_reported v s m Extra e = extra_reported (attributes v s) (dir_path (graph_of v) s) e
+role_reported v s m Extra e = extra_lines (attributes v s) (dir_path (graph_of v) s) e
 role_reported v s m Plain e = plain_reported v s m e
 
 unfoldable pub roled_reported : Volume → ℕ → Marks → RoledEntry → List NameMessage

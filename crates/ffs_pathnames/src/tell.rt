@@ -2,7 +2,7 @@
 ghost use Rattle.std.specs.Prelude.{◌≡◌, ◌*◌, ◌<◌, ◌≤◌, ℕ, List, length, Some, OnOk, IfOk, IsTrue, map, vec_len};
 ghost use Rattle.ffs_image.specs.Device.{ForContents};
 ghost use Rattle.ffs_volume.specs.Messages.Kinds.{of_names};
-ghost use Rattle.ffs_volume.specs.Directories.PathnameCheck.{attributes, extra_reported};
+ghost use Rattle.ffs_volume.specs.Directories.PathnameCheck.{attributes, extra_lines};
 ghost use Rattle.ffs_pathnames.specs.SaysNames.{SaysNames};
 ghost use Rattle.ffs_volume.specs.Directories.Parents.{graph_of};
 ghost use Rattle.ffs_volume.specs.Directories.Paths.{dir_path};
@@ -251,7 +251,7 @@ pub fn report_extra<I: Image, W: Output>(
     requires { IsReadyFor geometry.now.layout (I.device image.old) workspace.old dir }
     ensures text { PhaseReports (KnowsPath geometry.now.layout (I.device image.old).contents
         workspace.old dir path.now)
-        (λ b. map of_names (extra_reported (attributes (volume_of geometry.now.layout b) dir)
+        (λ b. map of_names (extra_lines (attributes (volume_of geometry.now.layout b) dir)
         (dir_path (graph_of (volume_of geometry.now.layout b)) dir) (entry_value entry.now)))
         (progress W.sink report.old) (progress W.sink report.new) result }
     ensures leaves { LineLeaves geometry.now.layout (I.device image.old) (I.device image.new)
@@ -295,7 +295,7 @@ fn say_extra<W: Output>(
     entry: &Entry<'_>,
 ) -> Result<(), OutFault>
     ensures { SaysNames (progress W.sink report.old) (progress W.sink report.new)
-        (extra_reported attr path.now (entry_value entry.now)) result }
+        (extra_lines attr path.now (entry_value entry.now)) result }
 {
     if is_one_dot(entry.name) {
         return report.say(&Line::Dot(DotLine::ExtraDot { attr, path }));

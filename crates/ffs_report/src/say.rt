@@ -2,7 +2,7 @@
 ghost use Rattle.std.specs.Prelude.{◌≡◌};
 ghost use Rattle.ffs_report.specs.Sink.{Prints};
 ghost use Rattle.ffs_report.specs.Lines.{message_of};
-ghost use Rattle.ffs_volume.specs.Messages.Texts.{text_of, number_text, fault_text, opening_text, mounted_text, minfree_text, claim_text, block_count_text, block_message_text, summary_text};
+ghost use Rattle.ffs_volume.specs.Messages.Texts.{text_of, number_text, fault_text, opening_text, mounted_text, minfree_text, offer_text, block_count_text, block_message_text, summary_text};
 
 use crate::line::{Heading, Line};
 use crate::line_buffer::LineBuffer;
@@ -138,7 +138,7 @@ fn print_claim<W: Output>(
     what: &[u8],
     inode: u32,
 ) -> Result<(), OutFault>
-    ensures { Prints (W.sink out.old) (W.sink out.new) (claim_text fragment what.now inode) result }
+    ensures { Prints (W.sink out.old) (W.sink out.new) (offer_text fragment what.now inode) result }
 {
     print_count(out, fragment as u64, what)?;
     print_count(out, inode as u64, LINE_END)

@@ -102,7 +102,7 @@ reference_examples = record {
   second_link = refl;
   extra_uncounted = refl;
   dead_empty = refl;
-  dead_reported = refl;
+  dead_lines = refl;
   unnamed = refl;
   unlinked = refl;
 }

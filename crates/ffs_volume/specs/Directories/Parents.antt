@@ -24,5 +24,5 @@ abbrev pub is_first_name : (g : Graph) (s j x : ℕ) → Bool
 is_first_name g s j x = is_value (first_naming_dir g x) s && is_value (first_index (names x) (g.entries s)) j
 
 -- the entry at index j of s is the parent entry of x
-abbrev pub is_from_parent : (g : Graph) (s j x : ℕ) → Bool
-is_from_parent g s j x = is_value (parent g x) s && is_value (parent_entry_index g x) j
+abbrev pub is_parent_entry : (g : Graph) (s j x : ℕ) → Bool
+is_parent_entry g s j x = is_value (parent g x) s && is_value (parent_entry_index g x) j

@@ -16,7 +16,7 @@ use Rattle.ffs_volume.specs.Blocks.Inodes.{is_directory, is_allocated, is_unknow
 use Rattle.ffs_volume.specs.Directories.Roles.{Volume, RoledEntry, is_dir, is_suspect, is_one_dot}
 use Rattle.ffs_volume.specs.Directories.Roles.{is_two_dots, start_entry, dot, dotdot, roled_entries}
 use Rattle.ffs_volume.specs.Directories.Graph.{parent}
-use Rattle.ffs_volume.specs.Directories.Parents.{graph_of, is_first_name, is_from_parent}
+use Rattle.ffs_volume.specs.Directories.Parents.{graph_of, is_first_name, is_parent_entry}
 use Rattle.ffs_volume.specs.Directories.Paths.{dir_path, entry_path}
 use Rattle.ffs_volume.specs.Messages.Kinds.{NameMessage, reported, lines_below, root_none, root_not_dir}
 use Rattle.ffs_volume.specs.Messages.Kinds.{root_suspect, dir_short, dir_length, dir_empty, dir_corrupt}
@@ -44,16 +44,16 @@ label_of Partial = NameLabel
 label_of Free = NameLabel
 
 -- the message on the root, by its class
-abbrev pub root_reported : Volume → Class → List NameMessage
-root_reported vol Free = root_none ∷ []
-root_reported vol Partial = root_none ∷ []
-root_reported vol File = root_not_dir ∷ []
-root_reported vol Unknown = root_not_dir ∷ []
-root_reported vol Dir = reported (is_suspect vol ROOTINO) root_suspect
+abbrev pub root_lines_of : Volume → Class → List NameMessage
+root_lines_of vol Free = root_none ∷ []
+root_lines_of vol Partial = root_none ∷ []
+root_lines_of vol File = root_not_dir ∷ []
+root_lines_of vol Unknown = root_not_dir ∷ []
+root_lines_of vol Dir = reported (is_suspect vol ROOTINO) root_suspect
 
 -- the message on the root
 unfoldable pub root_lines : Volume → List NameMessage
-root_lines vol = root_reported vol (vol.class ROOTINO)
+root_lines vol = root_lines_of vol (vol.class ROOTINO)
 
 -- the check continues after the root: it is a directory
 abbrev pub continues_after_root : Volume → Bool
@@ -80,27 +80,27 @@ shape_lines vol d =
     ++ reported (not (are_sound (vol.chunks d))) (dir_corrupt (attributes vol d) (dir_path (graph_of vol) d))))
 
 -- the message where there is no `.`, by the entry that is first
-abbrev pub missing_dot_reported : Attr → List ℕ → Option Entry → List NameMessage
-missing_dot_reported about path None = missing_dot about path ∷ []
-missing_dot_reported about path (Some e) =
+abbrev pub missing_dot_lines : Attr → List ℕ → Option Entry → List NameMessage
+missing_dot_lines about path None = missing_dot about path ∷ []
+missing_dot_lines about path (Some e) =
     if is_live e && not (is_two_dots e.name) then missing_dot_first about path e.name ∷ []
     else missing_dot about path ∷ []
 
 -- the messages on `.`, by whether there is one
-abbrev pub dot_reported : Volume → ℕ → Option Entry → List NameMessage
-dot_reported vol d None = missing_dot_reported (attributes vol d) (dir_path (graph_of vol) d) (start_entry vol d 0)
-dot_reported vol d (Some e) =
+abbrev pub dot_lines_of : Volume → ℕ → Option Entry → List NameMessage
+dot_lines_of vol d None = missing_dot_lines (attributes vol d) (dir_path (graph_of vol) d) (start_entry vol d 0)
+dot_lines_of vol d (Some e) =
     reported (not (e.number == d)) (number_dot (attributes vol d) (dir_path (graph_of vol) d))
     ++ reported (not (e.kind == DT_DIR)) (kind_dot (attributes vol d) (dir_path (graph_of vol) d))
 
 -- the messages on `.`
 unfoldable pub dot_lines : Volume → ℕ → List NameMessage
-dot_lines vol d = dot_reported vol d (dot vol d)
+dot_lines vol d = dot_lines_of vol d (dot vol d)
 
 -- the message where there is no `..`, by the entry that is second
-abbrev pub missing_dotdot_reported : Attr → List ℕ → Option Entry → List NameMessage
-missing_dotdot_reported about path None = missing_dotdot about path ∷ []
-missing_dotdot_reported about path (Some e) =
+abbrev pub missing_dotdot_lines : Attr → List ℕ → Option Entry → List NameMessage
+missing_dotdot_lines about path None = missing_dotdot about path ∷ []
+missing_dotdot_lines about path (Some e) =
     if is_live e && not (is_one_dot e.name) then missing_dotdot_second about path e.name ∷ []
     else missing_dotdot about path ∷ []
 
@@ -110,21 +110,21 @@ is_wrong_parent None n = false
 is_wrong_parent (Some s) n = not (s == n)
 
 -- the messages on `..`, by whether there is one
-abbrev pub dotdot_reported : Volume → ℕ → Option Entry → List NameMessage
-dotdot_reported vol d None =
-    missing_dotdot_reported (attributes vol d) (dir_path (graph_of vol) d) (start_entry vol d 1)
-dotdot_reported vol d (Some e) =
+abbrev pub dotdot_lines_of : Volume → ℕ → Option Entry → List NameMessage
+dotdot_lines_of vol d None =
+    missing_dotdot_lines (attributes vol d) (dir_path (graph_of vol) d) (start_entry vol d 1)
+dotdot_lines_of vol d (Some e) =
     reported (is_wrong_parent (parent (graph_of vol) d) e.number)
     (number_dotdot (attributes vol d) (dir_path (graph_of vol) d))
     ++ reported (not (e.kind == DT_DIR)) (kind_dotdot (attributes vol d) (dir_path (graph_of vol) d))
 
 -- the messages on `..`
 unfoldable pub dotdot_lines : Volume → ℕ → List NameMessage
-dotdot_lines vol d = dotdot_reported vol d (dotdot vol d)
+dotdot_lines vol d = dotdot_lines_of vol d (dotdot vol d)
 
 -- the message on an extra entry
-abbrev pub extra_reported : Attr → List ℕ → Entry → List NameMessage
-extra_reported about path e =
+abbrev pub extra_lines : Attr → List ℕ → Entry → List NameMessage
+extra_lines about path e =
     if is_one_dot e.name then extra_dot about path ∷ [] else extra_dotdot about path ∷ []
 
 -- the entry has the number of a whiteout without its type, or the type without the number
@@ -143,7 +143,7 @@ suspect_reported vol x path =
 
 -- x is a directory, and this entry, which names it, isn't its parent entry
 abbrev pub is_extraneous : (vol : Volume) (s j x : ℕ) → Bool
-is_extraneous vol s j x = is_dir vol x && not (is_from_parent (graph_of vol) s j x)
+is_extraneous vol s j x = is_dir vol x && not (is_parent_entry (graph_of vol) s j x)
 
 -- the type of the inode is known, and the entry has another
 abbrev pub has_wrong_type : Volume → Entry → Bool
@@ -173,7 +173,7 @@ abbrev pub roled_reported : (vol : Volume) (s j : ℕ) → Role → (e : Entry) 
 roled_reported vol s j Empty e = []
 roled_reported vol s j Dot e = []
 roled_reported vol s j Dotdot e = []
-roled_reported vol s j Extra e = extra_reported (attributes vol s) (dir_path (graph_of vol) s) e
+roled_reported vol s j Extra e = extra_lines (attributes vol s) (dir_path (graph_of vol) s) e
 roled_reported vol s j Plain e = plain_lines vol s j e
 
 -- the messages on an entry at index j of the directory s

@@ -8,22 +8,22 @@ use Rattle.ffs_volume.specs.Directories.PathnameCheck.{attributes, label_of}
 use Rattle.ffs_volume.specs.Directories.Connectivity.{is_dead}
 
 -- the message on a dead inode
-abbrev pub dead_reported : Volume → ℕ → List NameMessage
-dead_reported vol i =
+abbrev pub dead_lines : Volume → ℕ → List NameMessage
+dead_lines vol i =
     if vol.marked i then dead_marked (label_of (vol.class i)) (attributes vol i) ∷ []
     else dead_zero (attributes vol i) ∷ []
 
 -- the message on an inode without references
-abbrev pub unref_reported : Volume → ℕ → List NameMessage
-unref_reported vol i =
+abbrev pub unref_lines : Volume → ℕ → List NameMessage
+unref_lines vol i =
     if equals_natural (vol.inode i).nlink 0 then unref_unlinked (label_of (vol.class i)) (attributes vol i) ∷ []
     else unref (label_of (vol.class i)) (attributes vol i) ∷ []
 
 -- the message on an allocated inode: it is dead, has no references, or another count of links
 unfoldable pub inode_lines : Volume → ℕ → List NameMessage
 inode_lines vol i =
-    if is_dead vol i then dead_reported vol i
-    else (if references vol i == 0 then unref_reported vol i
+    if is_dead vol i then dead_lines vol i
+    else (if references vol i == 0 then unref_lines vol i
     else reported (not (equals_natural (vol.inode i).nlink (references vol i)))
     (link_count (label_of (vol.class i)) (attributes vol i) (vol.inode i).nlink (references vol i)))
 

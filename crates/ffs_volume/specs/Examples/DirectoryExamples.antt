@@ -287,7 +287,7 @@ pub record ReferenceExamples : Type 0 where
   pub extra_uncounted : reference_lines (alone (dots 2 2 (entry 2 4 two_dots ∷ []))) ≡ []
   -- dead inodes: a directory of size 0 that nothing names, and a marked one
   pub dead_empty : reference_lines (empty_dir []) ≡ dead_zero about_empty ∷ []
-  pub dead_reported : reference_lines dead_parent
+  pub dead_lines : reference_lines dead_parent
       ≡ link_count DirLabel (about 2) (pos 2) 3 ∷ dead_marked DirLabel (about 3) ∷ []
   -- no reference at all: with and without links
   pub unnamed : reference_lines (record (small 4 (λ i. if i == 2 then 2 else 1)

@@ -78,8 +78,8 @@ fault_text Short = texts.SHORT.now
 fault_text Disagree = texts.DISAGREE.now
 
 -- a fragment, what is wrong with it, and the inode that has it
-abbrev pub claim_text : (fragment : ℕ) (what : List ℕ) (inode : ℕ) → List ℕ
-claim_text fragment what inode = concat (decimal fragment ∷ what ∷ decimal inode ∷ texts.LINE_END.now ∷ [])
+abbrev pub offer_text : (fragment : ℕ) (what : List ℕ) (inode : ℕ) → List ℕ
+offer_text fragment what inode = concat (decimal fragment ∷ what ∷ decimal inode ∷ texts.LINE_END.now ∷ [])
 
 -- an inode's own count of blocks, and the right one
 abbrev pub block_count_text : (inode found right : ℕ) → List ℕ
@@ -91,8 +91,8 @@ block_count_text inode found right = concat (
 abbrev pub block_message_text : BlockMessage → List ℕ
 block_message_text (PartAlloc inode) = number_text texts.PART_ALLOC.now inode texts.CLEAR.now
 block_message_text (UnknownType inode) = number_text texts.UNKNOWN_TYPE.now inode texts.CLEAR.now
-block_message_text (Bad fragment inode) = claim_text fragment texts.BAD.now inode
-block_message_text (Dup fragment inode) = claim_text fragment texts.DUP.now inode
+block_message_text (Bad fragment inode) = offer_text fragment texts.BAD.now inode
+block_message_text (Dup fragment inode) = offer_text fragment texts.DUP.now inode
 block_message_text (ManyBad inode) = number_text texts.MANY_BAD.now inode texts.CONTINUE.now
 block_message_text (ManyDup inode) = number_text texts.MANY_DUP.now inode texts.CONTINUE.now
 block_message_text (PartTrunc inode) = number_text texts.PART_TRUNC.now inode texts.SALVAGE.now
@@ -103,8 +103,8 @@ block_message_text MapsWrong = texts.MAPS_WRONG.now
 block_message_text GroupSums = texts.GROUP_SUMS.now
 
 -- a directory that has a Gap
-abbrev pub empty_text : List ℕ → List ℕ
-empty_text path =
+abbrev pub gap_text : List ℕ → List ℕ
+gap_text path =
     concat (texts.DIRECTORY.now ∷ map shown path ∷ texts.DIR_EMPTY.now ∷ [])
 
 -- a directory whose size is no multiple of 512
@@ -139,7 +139,7 @@ name_message_text root_not_dir = texts.ROOT_NOT_DIR.now
 name_message_text root_suspect = texts.ROOT_SUSPECT.now
 name_message_text (dir_short about path) = path_text texts.DIR_SHORT.now about Dir path texts.FIX.now
 name_message_text (dir_length path size) = length_text path size
-name_message_text (dir_empty path) = empty_text path
+name_message_text (dir_empty path) = gap_text path
 name_message_text (dir_corrupt about path) = path_text texts.DIR_CORRUPT.now about Dir path texts.SALVAGE.now
 name_message_text (missing_dot about path) = path_text texts.MISSING_DOT.now about Dir path texts.FIX.now
 name_message_text (missing_dot_first about path name) =
