@@ -46,7 +46,12 @@ returns-clause-claims g c =
 pub inode-requires : goal.inode-requires
 inode-requires g c =
     let ready = c.requires.ready.claim.ready in
-    record { number = c.requires.ready.number_fits; volume = ready.volume; room = ready.made.table; holds = ready.windows.table }
+    record {
+      number = c.requires.ready.number_fits;
+      volume = ready.volume;
+      room = ready.made.table;
+      holds = ready.windows.table;
+    }
 
 pub returns-in_err-inode-clause-left : goal.returns-in_err-inode-clause-left
 returns-in_err-inode-clause-left g c =
@@ -63,7 +68,8 @@ returns-in_err-inode-clause-left g c =
       again = refl;
       claim = record {
         ready = ready_table c.args.geometry.now.layout (g.I.Image.device c.args.image.now) _ c.args.workspace.now
-            c.inode.new.self err.contents err.size c.inode.ensures.room c.inode.ensures.holds c.requires.ready.claim.ready;
+            c.inode.new.self err.contents err.size c.inode.ensures.room c.inode.ensures.holds
+            c.requires.ready.claim.ready;
         only_data = c.requires.ready.claim.only_data;
       };
     })
@@ -77,8 +83,8 @@ claim_read_inode-requires g c =
         runs = c.requires.ready.runs;
         claim = record {
           ready = ready_table c.args.geometry.now.layout (g.I.Image.device c.args.image.now) _ c.args.workspace.now
-              c.inode.new.self (ap (λ d. d.contents) ok) (ap (λ d. d.size) ok) c.inode.ensures.room c.inode.ensures.holds
-              c.requires.ready.claim.ready;
+              c.inode.new.self (ap (λ d. d.contents) ok) (ap (λ d. d.size) ok) c.inode.ensures.room
+              c.inode.ensures.holds c.requires.ready.claim.ready;
           only_data = c.requires.ready.claim.only_data;
         };
       };

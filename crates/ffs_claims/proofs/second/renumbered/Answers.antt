@@ -83,7 +83,12 @@ returns-clause-runs g c = λ bytes t.
 pub inode-requires : goal.inode-requires
 inode-requires g c =
     let ready = c.requires.can.ready in
-    record { number = c.requires.can.number_fits; volume = ready.volume; room = ready.made.table; holds = ready.windows.table }
+    record {
+      number = c.requires.can.number_fits;
+      volume = ready.volume;
+      room = ready.made.table;
+      holds = ready.windows.table;
+    }
 
 pub returns-in_err-inode-clause-left : goal.returns-in_err-inode-clause-left
 returns-in_err-inode-clause-left g c =
