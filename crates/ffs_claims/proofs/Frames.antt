@@ -1,5 +1,6 @@
 -- What reads, claims and reports leave of a workspace that is ready.
-use Rattle.std.proofs.Common.{◌≡◌, ℕ, refl, sym, ap, arith, rules, ◌∙◌, length, length-set, slice_set, false, subst, Result}
+use Rattle.std.proofs.Common.{◌≡◌, ℕ, refl, sym, ap, arith, rules, ◌∙◌, length, length-set, slice_set, subst}
+use Rattle.std.proofs.Common.{false, Result}
 use Rattle.std.specs.declared.vec.Vec.{Vec}
 use Rattle.std.specs.declared.alloc.Global.{Global}
 use Rattle.std.specs.Prelude.{vec_len}

@@ -130,8 +130,8 @@ pub run_stops_later : (v : Layout) (inode : ℕ) (s : Claims) (start len : ℕ) 
     Stopped a c (of_lines (run_lines v inode s start len))
 run_stops_later v inode s start len a b c h few p q =
     rw (further v inode s start len h few)
-    (stopped_after a b c (of_lines (bad_lines inode start false)) (of_lines (bad_rest v inode s start len)) (rw few at p)
-    q)
+    (stopped_after a b c (of_lines (bad_lines inode start false)) (of_lines (bad_rest v inode s start len))
+    (rw few at p) q)
 
 -- the next step of a walk is taken, and what is to come has another form
 pub claims_on : (knows : List ℕ → Type 0) (v : Layout) (s s' : Claims) (R R' : List ℕ → List Step) (rest end : List ℕ →

@@ -4,3 +4,4 @@ pub mod Leaves
 pub mod Reporting
 pub mod SecondLook
 pub mod Area
+pub mod Claiming

@@ -56,8 +56,8 @@ pub record CanRewalk (v : Layout) (d : Device) (w : Workspace) (number : ℕ) : 
   pub number_fits : number < inodes_of v
   pub pending : w.unreported ≢ 0
 
--- what walking over an inode again leaves: the image, but for a read that failed, and a workspace that is ready, with the
--- claims as they were
+-- what walking over an inode again leaves: the image, but for a read that failed, and a workspace that is ready, with
+-- the claims as they were
 pub record RewalkLeaves {T : Type 0} (v : Layout) (d d' : Device) (old new : Workspace) (result : Result T RunFault)
     : Type 0 where
   pub image : ImageAfter d d' result

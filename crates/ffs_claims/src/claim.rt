@@ -8,11 +8,10 @@ ghost use Rattle.ffs_volume.specs.Blocks.Inodes as inodes;
 ghost use Rattle.ffs_volume.specs.Blocks.Inodes.{inode_of};
 ghost use Rattle.ffs_volume.specs.Blocks.Steps.{steps_of};
 ghost use Rattle.ffs_volume.specs.Blocks.Owners.{owner_of};
-ghost use Rattle.ffs_volume.specs.Blocks.Claims as claims;
 ghost use Rattle.ffs_volume.specs.Blocks.Claims.{after_owner, after_steps, lines_of_steps};
 ghost use Rattle.ffs_volume.specs.Blocks.BlockCheck.{owner_lines};
 ghost use Rattle.ffs_workspace.specs.Holds.{claims_of};
-ghost use Rattle.ffs_claims.specs.Area.{CanClaim, CanClaimInode, InodeLeaves, StepsLeave};
+ghost use Rattle.ffs_claims.specs.Claiming.{CanClaim, CanClaimInode, InodeLeaves, StepsLeave};
 ghost use Rattle.ffs_claims.specs.Leaves.{HasBegun, Stored};
 ghost use Rattle.ffs_claims.specs.Lines.{of_lines, owner_with};
 

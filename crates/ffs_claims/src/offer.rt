@@ -10,7 +10,7 @@ ghost use Rattle.ffs_report.specs.Progress.{progress, Says};
 ghost use Rattle.ffs_workspace.specs.Holds.{claims_of};
 ghost use Rattle.ffs_claims.specs.Leaves.{AreClaims, HasRoom, OffersOnly};
 ghost use Rattle.ffs_claims.specs.Lines.{of_lines, is_dup, dup_lines, bad_lines};
-ghost use Rattle.ffs_claims.specs.Area.{ClaimsInArea, SeesNext};
+ghost use Rattle.ffs_claims.specs.Claiming.{ClaimsInArea, SeesNext};
 
 use crate::area::DataArea;
 use ffs_layout::Geometry;
@@ -140,7 +140,8 @@ fn offers<W: Output>(
     Ok(())
 }
 
-/// A Run in range of the current inode, and whether the next step is seen: claimed at once where its fragments are all unclaimed and lie in one word of the map.
+/// A Run in range of the current inode: claimed at once where its fragments are all unclaimed and lie in one word of the
+/// map. The answer is whether the next step is seen.
 fn run_in_range<W: Output>(
     workspace: &mut Workspace,
     geometry: &Geometry,

@@ -1,6 +1,6 @@
 //! The first claims of fragments that are claimed twice, reported once each.
 
-ghost use Rattle.std.specs.Prelude.{◌≡◌, ◌+◌, ◌≤◌, [], ◌∷◌, OnOk, map};
+ghost use Rattle.std.specs.Prelude.{[], ◌∷◌, OnOk, map};
 ghost use Rattle.std.specs.List.{range_with_len};
 ghost use Rattle.ffs_volume.specs.Blocks.BlockCheck.{first_offer_lines};
 ghost use Rattle.ffs_volume.specs.Blocks.FirstOffers.{offer_at};

@@ -243,7 +243,8 @@ loop-next-preserved g c =
       moves = moves_on v (claims_of c.args.workspace.now) (claims_of c.loop-next.workspace)
           (claims_of c.step.new.workspace) c.in-Some.next
           (length_bits _ _ ∙ inv.ready.made.claimed) c.args.geometry.now.sound.sizes.frag_high
-          (rw (inv.geometry, c.in-Some.is) at c.in_ok-next.ensures.fits).length c.in_ok-seen.ensures.claims.claims_are inv.moves;
+          (rw (inv.geometry, c.in-Some.is) at c.in_ok-next.ensures.fits).length
+          c.in_ok-seen.ensures.claims.claims_are inv.moves;
       claims = claims_on _ v (claims_of c.loop-next.workspace) s (λ bytes. rest bytes c.loop-next.walk)
           (λ bytes. rest bytes c.next.new.self) _ _ c.in-Some.next
           next c.in_ok-seen.ensures.claims.claims_are inv.claims (λ bytes t. refl);
@@ -259,7 +260,8 @@ returns-then-not-seen g c =
     let v = c.args.geometry.now.layout in
     let s = claims_of c.step.new.workspace in
     let ok = c.in_ok-next.ensures.read in
-    let cut : is_open (claims_of c.step.new.workspace) ≡ false = sym c.in_ok-seen.ensures.claims.uncut ∙ c.if-not-seen.true in
+    let cut : is_open (claims_of c.step.new.workspace) ≡ false = sym c.in_ok-seen.ensures.claims.uncut
+    ∙ c.if-not-seen.true in
     let next = rw (inv.device, c.in-Some.is) at c.in_ok-next.ensures.steps in
     let read = ready_walked c.args.geometry.now _ _ _ c.loop-next.workspace c.next.new.blocks inv.geometry ok
     c.next.ensures.kept.size c.next.ensures.kept.holds inv.ready in
@@ -270,13 +272,15 @@ returns-then-not-seen g c =
           (claims_of c.step.new.workspace) (rest bytes c.next.new.self) cut) c.in_ok-seen.ensures.said;
       claims = claims_on _ v (claims_of c.loop-next.workspace) s (λ bytes. rest bytes c.loop-next.walk)
           (λ bytes. rest bytes c.next.new.self) _ _ c.in-Some.next
-          next c.in_ok-seen.ensures.claims.claims_are inv.claims (λ bytes t. cut_stays v s (rest bytes c.next.new.self) cut);
+          next c.in_ok-seen.ensures.claims.claims_are inv.claims
+          (λ bytes t. cut_stays v s (rest bytes c.next.new.self) cut);
       left = record {
         image = ok ∙ inv.device;
         moves = moves_on v (claims_of c.args.workspace.now) (claims_of c.loop-next.workspace)
             (claims_of c.step.new.workspace) c.in-Some.next
             (length_bits _ _ ∙ inv.ready.made.claimed) c.args.geometry.now.sound.sizes.frag_high
-            (rw (inv.geometry, c.in-Some.is) at c.in_ok-next.ensures.fits).length c.in_ok-seen.ensures.claims.claims_are inv.moves;
+            (rw (inv.geometry, c.in-Some.is) at c.in_ok-next.ensures.fits).length
+            c.in_ok-seen.ensures.claims.claims_are inv.moves;
         bound = omega (
           arith,
           c.step.ensures.runs,

@@ -12,7 +12,7 @@ use Rattle.ffs_workspace.specs.Holds.{claims_of, IsFresh, first_marked_at}
 use Rattle.ffs_volume.specs.Encodings.Kinds.{kind_at}
 use Rattle.ffs_volume.specs.Encodings.Links.{start_at}
 use Rattle.ffs_workspace.specs.Lengths.{inodes_of}
-use Rattle.ffs_claims.specs.Area.{CanClaim}
+use Rattle.ffs_claims.specs.Claiming.{CanClaim}
 use Rattle.ffs_claims.specs.Lines.{of_lines, owners_from}
 use Rattle.ffs_claims.proofs.Numbers.{FilledTo}
 use Rattle.ffs_claims.proofs.first.phase1.Given as goal

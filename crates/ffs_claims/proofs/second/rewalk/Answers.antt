@@ -153,7 +153,8 @@ loop-next-preserved-then-matches g c =
           (rewalk_on _ _ _ _ c.in-Some.next c.loop-next.rescan r' (rest bytes c.loop-next.walk)
           (rest bytes c.next.new.self) _ c.loop-next.workspace _ c.report_again.new.workspace
           (next bytes t) now inv.going (λ e. inv.pending (inv.ready.made.unreported ∙ e))
-          c.in_ok-report_again.ensures.reported.reported c.report_again.ensures.runs.most c.report_again.ensures.runs.exact
+          c.in_ok-report_again.ensures.reported.reported c.report_again.ensures.runs.most
+          c.report_again.ensures.runs.exact
           (inv.walk bytes t));
       said = rewalk_said _ v n c.loop-next.rescan r' c.in-Some.next (λ bytes. rest bytes c.loop-next.walk)
           (λ bytes. rest bytes c.next.new.self) d d' _ _ _ _ _
@@ -188,7 +189,8 @@ loop-next-preserved g c =
       walk = λ bytes t. rewalk_on _ _ _ _ c.in-Some.next c.loop-next.rescan r' (rest bytes c.loop-next.walk)
           (rest bytes c.next.new.self) _ c.loop-next.workspace _ c.report_again.new.workspace
           (next bytes t) now inv.going (λ e. inv.pending (inv.ready.made.unreported ∙ e))
-          c.in_ok-report_again.ensures.reported.reported c.report_again.ensures.runs.most c.report_again.ensures.runs.exact
+          c.in_ok-report_again.ensures.reported.reported c.report_again.ensures.runs.most
+          c.report_again.ensures.runs.exact
           (inv.walk bytes t);
       said = rewalk_said _ v n c.loop-next.rescan r' c.in-Some.next (λ bytes. rest bytes c.loop-next.walk)
           (λ bytes. rest bytes c.next.new.self) d d' _ _ _ _ _
@@ -218,7 +220,8 @@ returns-then-not-is_going g c =
     λ bytes t. rewalk_on _ _ _ _ c.in-Some.next c.loop-next.rescan r' (rest bytes c.loop-next.walk)
     (rest bytes c.next.new.self) _ c.loop-next.workspace _ c.report_again.new.workspace
     (next bytes t) now inv.going (λ e. inv.pending (inv.ready.made.unreported ∙ e))
-    c.in_ok-report_again.ensures.reported.reported c.report_again.ensures.runs.most c.report_again.ensures.runs.exact
+    c.in_ok-report_again.ensures.reported.reported c.report_again.ensures.runs.most
+    c.report_again.ensures.runs.exact
     (inv.walk bytes t) in
     record {
       text = rewalk_said _ v n c.loop-next.rescan r' c.in-Some.next (λ bytes. rest bytes c.loop-next.walk)
@@ -259,7 +262,8 @@ returns-then-workspace-eq0 g c =
     λ bytes t. rewalk_on _ _ _ _ c.in-Some.next c.loop-next.rescan r' (rest bytes c.loop-next.walk)
     (rest bytes c.next.new.self) _ c.loop-next.workspace _ c.report_again.new.workspace
     (next bytes t) now inv.going (λ e. inv.pending (inv.ready.made.unreported ∙ e))
-    c.in_ok-report_again.ensures.reported.reported c.report_again.ensures.runs.most c.report_again.ensures.runs.exact
+    c.in_ok-report_again.ensures.reported.reported c.report_again.ensures.runs.most
+    c.report_again.ensures.runs.exact
     (inv.walk bytes t) in
     record {
       text = rewalk_said _ v n c.loop-next.rescan r' c.in-Some.next (λ bytes. rest bytes c.loop-next.walk)
