@@ -1,6 +1,6 @@
 -- What is known between two directories, carried from one to the next.
 use Rattle.std.proofs.Common.{◌≡◌, ◌<◌, ◌-◌, ◌==◌, refl, sym, ap, ◌∙◌, ℕ, zero, suc, Bool, true, false, not, ◌&&◌, ◌||◌}
-use Rattle.std.proofs.Common.{if◌then◌else◌, List, [], ◌∷◌, ◌++◌, map, Option, Some, arith}
+use Rattle.std.proofs.Common.{if◌then◌else◌, List, [], ◌∷◌, ◌++◌, map, get_or, Option, Some, arith}
 use Rattle.std.specs.Prelude.{slice_index, Result, Ok, Err, OnOk, IfOk}
 use Rattle.std.specs.List.{list_any}
 use Rattle.ffs_volume.specs.declared.Layout.{Layout}
@@ -35,6 +35,8 @@ use Rattle.ffs_pathnames.specs.DirectoryContext.{DirectoryContext}
 use Rattle.ffs_pathnames.specs.Calm.{IsSilent}
 use Rattle.ffs_pathnames.specs.MarksRight.{AreRightBefore}
 use Rattle.std.proofs.lemmas.Bool.{cases_Bool, eqb-true}
+use Rattle.std.proofs.lemmas.List.{get_or_default}
+use Rattle.ffs_volume.proofs.Sizes.{some_inodes}
 use Rattle.std.proofs.Common.{inl, inr, ◌≤◌}
 use Rattle.ffs_pathnames.proofs.Begun.{directory_is, quiet_parts}
 use Rattle.ffs_pathnames.proofs.BetweenLaws.{other_next, silent_next, silent_quiet}
@@ -235,6 +237,17 @@ root_is v b w k m e f h =
     ap (λ k. root_said k m) (e ∙ h.kinds 2)
     ∙ (ap (root_said (kind_at v b 2)) (f ∙ h.marked 2)
     ∙ root_by (volume_of v b) (class_at v b 2) (kind_at v b 2) (marked_at v b 2) t.dir t.allocated (suspect_is v b 2))
+
+-- the kind and the mark of the root, as they are read
+pub root_kind_is : (v : Layout) (w : Workspace) (k : ℕ) → IsValidLayout v → IsFor v w → k ≡ get_or w.kinds.items 2 k →
+    k ≡ slice_index w.kinds.items 2
+root_kind_is v w k g made e =
+    let some = some_inodes v g in e ∙ get_or_default w.kinds.items 2 k 0 (omega (arith, made.kinds, w.kinds.ok.0))
+
+pub root_marked_is : (v : Layout) (w : Workspace) (m : Bool) → IsValidLayout v → IsFor v w →
+    m ≡ get_or w.marked.items 2 m → m ≡ bool_at w.marked.items 2
+root_marked_is v w m g made e =
+    let some = some_inodes v g in e ∙ get_or_default w.marked.items 2 m false (omega (arith, made.marked, w.marked.ok.0))
 
 pub goes_is : (v : Layout) (b : List ℕ) (w : Workspace) (k : ℕ) → k ≡ slice_index w.kinds.items 2 → HoldsClaims v b w →
     is_dir_kind k ≡ continues_after_root (volume_of v b)

@@ -1,16 +1,21 @@
 -- What is gathered for the messages on an entry.
-use Rattle.std.specs.Prelude.{◌≡◌, ℕ, ◌<◌, ◌^◌, Bool, true, false, not, ◌||◌, List, vec_len}
+use Rattle.std.specs.Prelude.{◌≡◌, ℕ, ◌<◌, ◌^◌, ◌==◌, Bool, true, false, not, ◌||◌, ◌&&◌, IsTrue}
+use Rattle.std.specs.Prelude.{List, length, vec_len}
+use Rattle.ffs_volume.specs.Blocks.Inodes.{is_allocated}
 use Rattle.ffs_volume.specs.declared.Attr.{Attr}
 use Rattle.ffs_volume.specs.Directories.Entries.{Entry}
-use Rattle.ffs_volume.specs.Directories.Roles.{Volume, is_dir}
+use Rattle.ffs_volume.specs.Directories.Roles.{Volume, is_dir, is_suspect}
 use Rattle.ffs_volume.specs.Directories.Parents.{graph_of}
 use Rattle.ffs_volume.specs.Directories.Paths.{dir_path, entry_path}
-use Rattle.ffs_volume.specs.Directories.PathnameCheck.{attributes}
+use Rattle.ffs_volume.specs.Directories.PathnameCheck.{attributes, has_wrong_type, label_of}
+use Rattle.ffs_pathnames.specs.declared.inodes.Inodes.{Inodes}
+use Rattle.ffs_pathnames.specs.declared.verdict.Faults.{Faults}
 use Rattle.ffs_pathnames.specs.declared.verdict.Verdict.{Verdict}
 use Rattle.ffs_pathnames.specs.declared.verdict.Verdict.TheVariants.{OutOfRange, Whiteout, Fine, Unallocated, Named}
 use Rattle.ffs_pathnames.specs.Verdicts.{verdict_reported}
 use Rattle.ffs_workspace.specs.declared.workspace.Workspace.{Workspace}
-use Rattle.ffs_pathnames.specs.Marks.{Marks, plain_reported}
+use Rattle.ffs_pathnames.specs.Marks.{Marks, is_due, is_passed, plain_reported}
+use Rattle.ffs_pathnames.specs.Sees.{Sees}
 
 -- the messages are the same as with the volume's own attributes and paths
 abbrev pub IsEnough : Volume → Verdict → ℕ → ℕ → List ℕ → Attr → List ℕ → List ℕ → Type 0
@@ -45,6 +50,24 @@ is_silent Whiteout = false
 is_silent Fine = true
 is_silent Unallocated = false
 is_silent (Named n) = not (n.suspect || (n.extraneous || n.kind))
+
+-- what is wrong with an allocated inode that the entry e of the directory s names, by the lists and by the marks
+pub record AreFaultsOf (i : Inodes) (s : ℕ) (m : Marks) (e : Entry) (n : Faults) : Type 0 where
+  pub suspect : (v : Volume) → Sees v i
+      → n.suspect ≡ (is_suspect v e.number && (not (e.number == 2) && not (is_passed m e.number)))
+  pub marked : (v : Volume) → Sees v i → n.marked ≡ v.marked e.number
+  pub extraneous : (v : Volume) → Sees v i → n.extraneous ≡ (is_dir v e.number && not (is_due s m e.number))
+  pub kind : (v : Volume) → Sees v i → IsTrue (is_allocated (v.class e.number)) → n.kind ≡ has_wrong_type v e
+  pub label : (v : Volume) → Sees v i → IsTrue (is_allocated (v.class e.number))
+      → n.label ≡ label_of (v.class e.number)
+
+-- a verdict on the plain entry e of the directory s, by the lists and by the marks
+pub record IsVerdictBy (i : Inodes) (s : ℕ) (m : Marks) (e : Entry) (verdict : Verdict) : Type 0 where
+  pub below : IsTrue (asks_attr verdict) → e.number < length i.kinds.now
+  pub linked : (v : Volume) → Sees v i → IsTrue (asks_path verdict) → is_dir v e.number ≡ true
+  pub reported : (v : Volume) → Sees v i → plain_reported v s m e
+      ≡ verdict_reported verdict e.number (attributes v e.number) (entry_path (graph_of v) s e.name)
+      (dir_path (graph_of v) e.number)
 
 -- a verdict says what is reported of a plain entry e of the directory s, and asks for the path of a directory alone
 pub record IsVerdict (v : Volume) (s : ℕ) (m : Marks) (e : Entry) (verdict : Verdict) : Type 0 where

@@ -1,18 +1,29 @@
 -- What a first look at a directory finds.
-use Rattle.std.specs.Prelude.{◌≡◌, ℕ, ◌<◌, ◌^◌, ◌==◌, List, []}
+use Rattle.std.specs.Prelude.{◌≡◌, ℕ, ◌<◌, ◌^◌, ◌==◌, Bool, List, []}
 use Rattle.std.specs.List.{flat_map, find}
 use Rattle.ffs_volume.specs.declared.Layout.{Layout}
 use Rattle.ffs_volume.specs.declared.Inode.{Inode}
+use Rattle.ffs_volume.specs.declared.Order.{Order}
 use Rattle.ffs_volume.specs.Blocks.Steps.{steps_of}
-use Rattle.ffs_volume.specs.Directories.Entries.{has_gap}
+use Rattle.ffs_volume.specs.Directories.Entries.{entries_of, has_gap, is_sound}
 use Rattle.ffs_volume.specs.Directories.PathnameCheck.{are_sound}
-use Rattle.ffs_volume.specs.Directories.Roles.{Volume, roled_chunk}
+use Rattle.ffs_volume.specs.Directories.Roles.{Volume, roled_chunk, roled_from}
 use Rattle.ffs_volume.specs.Encodings.Replay.{fresh_replay, replayed_steps}
 use Rattle.ffs_pathnames.specs.declared.directory.FirstLook.{FirstLook}
 use Rattle.ffs_pathnames.specs.declared.inodes.Inodes.{Inodes}
+use Rattle.ffs_pathnames.specs.declared.look.EntriesSummary.{EntriesSummary}
 use Rattle.ffs_pathnames.specs.Marks.{are_quiet, after_looks}
 use Rattle.ffs_pathnames.specs.Reads.{chunks_read, start_of}
 use Rattle.ffs_pathnames.specs.Sees.{Sees}
+
+-- of a chunk's entries: whether nothing may be reported of them, and whether they fill it; and each inode that belongs
+-- to the directory d is stamped
+pub record IsChunkLook (inodes : Inodes) (d : ℕ) (order : Order) (first : Bool) (chunk old : List ℕ)
+    (f : EntriesSummary) (new : List ℕ) : Type 0 where
+  pub quiet : (v : Volume) → Sees v inodes
+      → f.quiet ≡ are_quiet v d old (roled_from first 0 (entries_of order chunk))
+  pub stamps : (v : Volume) → Sees v inodes → new ≡ after_looks v d old (roled_from first 0 (entries_of order chunk))
+  pub sound : f.sound ≡ is_sound order chunk
 
 -- of the chunks of an inode that keeps `cut` offers: whether nothing may be reported of their entries, whether they
 -- are all sound, whether a Gap is kept, the chunk at the start of the file; and each inode that belongs to the

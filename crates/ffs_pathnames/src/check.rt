@@ -147,7 +147,8 @@ fn begin_directory<I: Image, W: Output>(
     Ok(examined)
 }
 
-/// Prints the lines of a directory that isn't of size 0: of its size, its chunks, its first two entries, and all its entries.
+/// Prints the lines of a directory that isn't of size 0: of its size, its chunks, its first two entries, and all its
+/// entries.
 pub fn check_directory<I: Image, W: Output>(
     geometry: &Geometry,
     image: &mut I,

@@ -18,8 +18,8 @@ use ffs_volume::Inode;
 use ffs_volume::constants::DIRBLKSIZ;
 use ffs_walk::{Blocks, Window};
 
-/// What a first look at a directory finds: whether nothing may be reported of its entries, whether all its chunks are sound,
-/// whether a hole of it is kept, and whether a chunk is at the start of the file.
+/// What a first look at a directory finds: whether nothing may be reported of its entries, whether all its chunks are
+/// sound, whether a hole of it is kept, and whether a chunk is at the start of the file.
 #[derive(Clone, Copy, Debug)]
 pub struct FirstLook {
     pub quiet: bool,
@@ -46,7 +46,8 @@ fn keep_start(
     true
 }
 
-/// Looks at a directory once: at its entries, its chunks, its holes, and the chunk at the start of the file, which is put into `start`.
+/// Looks at a directory once: at its entries, its chunks, its holes, and the chunk at the start of the file, which is
+/// put into `start`.
 pub fn look_directory<I: Image>(
     geometry: &Geometry,
     image: &mut I,

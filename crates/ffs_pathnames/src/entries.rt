@@ -107,7 +107,8 @@ pub fn report_entry<I: Image, W: Output>(
     Ok(())
 }
 
-/// Prints the lines of the entries of a chunk, and marks them as passed; `first` says that it is at the start of the file.
+/// Prints the lines of the entries of a chunk, and marks them as passed; `first` says that it is at the start of the
+/// file.
 pub fn report_chunk<I: Image, W: Output>(
     geometry: &Geometry,
     image: &mut I,

@@ -6,7 +6,7 @@ ghost use Rattle.ffs_volume.specs.Directories.Roles as roles;
 ghost use Rattle.ffs_layout.specs.Entry.{entry_value};
 ghost use Rattle.ffs_report.specs.Progress.{progress};
 ghost use Rattle.ffs_pathnames.specs.SaysNames.{SaysNames};
-ghost use Rattle.ffs_pathnames.specs.Header.{size_reported, chunks_reported, shape_reported, there_reported, above_reported, dot_in, dotdot_in, dot_said, dotdot_said, dots_reported, header_reported};
+ghost use Rattle.ffs_pathnames.specs.Header.{size_reported, chunks_reported, shape_reported, there_reported, above_reported, dot_in, dotdot_in, dot_said, dotdot_said, header_reported};
 
 use crate::say::{Check, NameLine, say_two};
 use ffs_layout::Entry;
@@ -31,20 +31,13 @@ fn is_not_multiple(size: u64) -> bool
     size >= MINDIRSIZE && size % DIRBLKSIZ as u64 != 0
 }
 
-/// Whether a size can't hold `.` and `..`.
-fn is_short(size: u64) -> bool
-    ensures { result ≡ nat_lt size 24 }
-{
-    size < 24
-}
-
 /// Says that a directory's size is too short, or no multiple of a chunk.
 fn say_size<W: Output>(report: &mut Report<'_, W>, attr: Attr, path: &[u8]) -> Result<(), OutFault>
     ensures { SaysNames (progress W.sink report.old) (progress W.sink report.new)
         (size_reported attr path.now) result }
 {
     let short = Check {
-        holds: is_short(attr.size),
+        holds: attr.size < MINDIRSIZE,
         line: NameLine::Directory(DirectoryLine::DirShort { attr, path }),
     };
     let broken = Check {
@@ -229,24 +222,6 @@ fn say_dotdot<W: Output>(
     }
 }
 
-/// Says what is wrong with the first two entries.
-fn say_dots<W: Output>(
-    report: &mut Report<'_, W>,
-    number: u32,
-    parent: Option<u32>,
-    attr: Attr,
-    path: &[u8],
-    first: Option<Entry<'_>>,
-    second: Option<Entry<'_>>,
-) -> Result<(), OutFault>
-    ensures { SaysNames (progress W.sink report.old) (progress W.sink report.new)
-        (dots_reported attr path.now number parent (option_map entry_value first.entry)
-        (option_map entry_value second.entry)) result }
-{
-    say_dot(report, number, attr, path, first)?;
-    say_dotdot(report, parent, attr, path, second)
-}
-
 /// Says all lines of a directory that come before those of its entries.
 #[tactic(auto, unfolding(crate::specs::Header::header_reported))]
 pub fn say_header<W: Output>(
@@ -263,15 +238,8 @@ pub fn say_header<W: Output>(
         result }
 {
     say_shape(report, attr, path, shape.gap, shape.sound)?;
-    say_dots(
-        report,
-        number,
-        parent,
-        attr,
-        path,
-        shape.first,
-        shape.second,
-    )
+    say_dot(report, number, attr, path, shape.first)?;
+    say_dotdot(report, parent, attr, path, shape.second)
 }
 
 /// Whether nothing is wrong with `.`, the first entry.

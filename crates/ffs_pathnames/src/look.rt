@@ -1,11 +1,10 @@
 // A first look at the entries of a directory: whether anything may be reported of them.
 ghost use Rattle.std.specs.Prelude.{◌≡◌, ◌+◌, ◌<◌, ◌==◌, ◌&&◌, ◌||◌, not, length, slice_index, true};
 ghost use Rattle.ffs_volume.specs.declared.Role.{Role};
-ghost use Rattle.ffs_volume.specs.Directories.Roles.{Volume, is_dir, roled_from};
-ghost use Rattle.ffs_volume.specs.Directories.Entries.{entries_of, is_sound};
-ghost use Rattle.ffs_volume.specs.declared.Order.{Order};
+ghost use Rattle.ffs_volume.specs.Directories.Roles.{Volume, is_dir};
 ghost use Rattle.ffs_volume.specs.Directories.PathnameCheck.{is_bad_whiteout};
 ghost use Rattle.ffs_layout.specs.Entry.{entry_value};
+ghost use Rattle.ffs_pathnames.specs.Looks.{IsChunkLook};
 ghost use Rattle.ffs_pathnames.specs.Marks as marks;
 ghost use Rattle.ffs_pathnames.specs.Sees.{Sees, CanStamp};
 
@@ -105,7 +104,8 @@ pub fn stamp(inodes: &Inodes<'_>, dir: u32, stamps: &mut [u32], role: Role, entr
     }
 }
 
-/// What a look at the entries of a chunk finds: whether nothing may be reported of them, and whether they fill the chunk.
+/// What a look at the entries of a chunk finds: whether nothing may be reported of them, and whether they fill the
+/// chunk.
 #[derive(Clone, Copy, Debug)]
 pub struct EntriesSummary {
     pub quiet: bool,
@@ -121,12 +121,8 @@ pub fn look_chunk(
     chunk: &[u8; DIRBLKSIZ],
     stamps: &mut [u32],
 ) -> EntriesSummary
-    requires stamps { CanStamp inodes.now dir stamps.old }
-    ensures quiet { (v : Volume) → Sees v inodes.now → result.quiet
-        ≡ marks.are_quiet v dir stamps.old (roled_from first 0 (entries_of order chunk.now)) }
-    ensures stamps { (v : Volume) → Sees v inodes.now → stamps.new
-        ≡ marks.after_looks v dir stamps.old (roled_from first 0 (entries_of order chunk.now)) }
-    ensures sound { result.sound ≡ is_sound order chunk.now }
+    requires { CanStamp inodes.now dir stamps.old }
+    ensures { IsChunkLook inodes.now dir order first chunk.now stamps.old result stamps.new }
 {
     let mut place = 0usize;
     let mut index = 0usize;

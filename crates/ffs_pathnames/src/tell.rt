@@ -29,29 +29,8 @@ use ffs_layout::{Entry, Geometry};
 use ffs_paths::{DirectoryPath, PathText, Siblings};
 use ffs_phase::RunFault;
 use ffs_report::{DotLine, Line, OutFault, Output, Report};
-use ffs_volume::{Attr, Inode};
+use ffs_volume::Attr;
 use ffs_workspace::Workspace;
-
-/// What messages show of an inode.
-#[tactic(auto, unfolding(ffs_volume::specs::Directories::PathnameCheck::attributes, ffs_volume::specs::Directories::Volumes::volume_of, ffs_volume::specs::Directories::Volumes::volume_with))]
-fn attr_of(number: u32, inode: &Inode) -> Attr
-    ensures value { result ≡ record {
-      number = number;
-      uid = inode.now.uid;
-      mode = inode.now.mode;
-      size = inode.now.size;
-      mtime
-          = inode.now.mtime;
-    } }
-{
-    Attr {
-        number,
-        uid: inode.uid,
-        mode: inode.mode,
-        size: inode.size,
-        mtime: inode.mtime,
-    }
-}
 
 /// What messages show of the inode of a number.
 #[tactic(auto, unfolding(ffs_volume::specs::Directories::PathnameCheck::attributes, ffs_volume::specs::Directories::Volumes::volume_of, ffs_volume::specs::Directories::Volumes::volume_with))]
@@ -68,7 +47,13 @@ pub fn read_attr<I: Image>(
         workspace.old workspace.new result }
 {
     let inode = workspace.windows.table.inode(geometry, number, image)?;
-    Ok(attr_of(number, &inode))
+    Ok(Attr {
+        number,
+        uid: inode.uid,
+        mode: inode.mode,
+        size: inode.size,
+        mtime: inode.mtime,
+    })
 }
 
 /// Whether a verdict asks for the attributes of the inode that the entry names, and whether for its path.
@@ -105,8 +90,8 @@ fn gather_path<I: Image>(
     siblings.put_path(geometry, image, workspace, dir, text)
 }
 
-/// Gathers what the messages on an entry show: the entry's path into `text`, the path of the directory that it names into
-/// `directory`, and the attributes of the inode that it names.
+/// Gathers what the messages on an entry show: the entry's path into `text`, the path of the directory that it names
+/// into `directory`, and the attributes of the inode that it names.
 fn gather<I: Image>(
     geometry: &Geometry,
     image: &mut I,

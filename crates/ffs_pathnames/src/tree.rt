@@ -6,7 +6,6 @@ ghost use Rattle.ffs_report.specs.Progress.{progress};
 ghost use Rattle.ffs_volume.specs.Messages.Kinds.{of_names, lines_from};
 ghost use Rattle.ffs_volume.specs.Directories.PathnameCheck.{continues_after_root, lines_of, pathname_lines};
 ghost use Rattle.ffs_volume.specs.Directories.Volumes.{volume_of};
-ghost use Rattle.ffs_workspace.specs.Holds.{bool_at};
 ghost use Rattle.ffs_workspace.specs.Lengths.{inodes_of};
 ghost use Rattle.ffs_pathnames.specs.Before.{IsBefore};
 ghost use Rattle.ffs_pathnames.specs.GoesOn.{AtReadFault, is_go};
@@ -22,7 +21,7 @@ use ffs_layout::Geometry;
 use ffs_paths::Siblings;
 use ffs_phase::RunFault;
 use ffs_report::{Output, Report};
-use ffs_volume::constants::DT_DIR;
+use ffs_volume::constants::{DT_DIR, ROOTINO};
 use ffs_workspace::Workspace;
 
 /// Whether an inode is a directory that isn't of size 0, and that the survey didn't find calm.
@@ -87,22 +86,6 @@ fn check_inodes<I: Image, W: Output>(
     Ok(())
 }
 
-/// The kind of the root.
-fn root_kind(workspace: &Workspace) -> u8
-    requires { 2 < vec_len workspace.now.kinds }
-    ensures { result ≡ slice_index workspace.now.kinds.items 2 }
-{
-    workspace.kinds[2]
-}
-
-/// Whether the root is marked.
-fn is_root_marked(workspace: &Workspace) -> bool
-    requires { 2 < vec_len workspace.now.marked }
-    ensures { result ≡ bool_at workspace.now.marked.items 2 }
-{
-    workspace.marked[2]
-}
-
 /// Prints the lines of the root and, where the run continues after it, of each directory and of its entries.
 pub fn check_tree<I: Image, W: Output>(
     geometry: &Geometry,
@@ -126,8 +109,9 @@ pub fn check_tree<I: Image, W: Output>(
     ensures leaves { TreeLeaves geometry.now.layout (I.device image.old) (I.device image.new)
         workspace.old workspace.new result }
 {
-    let kind = root_kind(workspace);
-    report_root(report, kind, is_root_marked(workspace))?;
+    let kind = workspace.kinds[ROOTINO as usize];
+    let marked = workspace.marked[ROOTINO as usize];
+    report_root(report, kind, marked)?;
     match root_of(kind) {
         Root::Stop => Ok(Root::Stop),
         Root::Go => {

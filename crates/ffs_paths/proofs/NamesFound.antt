@@ -88,8 +88,8 @@ kept_cases {e = e} {q = q} {old = old} {new = new} P x k s p is was now = go (na
     go true n None h = subst P (some_is q p (sym (k.this x c n ∙ ap (λ y. Some (unwrap_or y q)) h) ∙ is)) (now n h)
     go true n (Some r) h = subst P (some_is r p (sym (k.this x c n ∙ ap (λ y. Some (unwrap_or y q)) h) ∙ is)) (was r h)
 
-pub inside_on : (v : Layout) (e : RoledEntry) (q : NamePlace) (old new : ChildNames) → KeepsEntry e q old new → IsInside v q
-    → AreInside v old → AreInside v new
+pub inside_on : (v : Layout) (e : RoledEntry) (q : NamePlace) (old new : ChildNames) → KeepsEntry e q old new →
+    IsInside v q → AreInside v old → AreInside v new
 inside_on v e q old new k i a =
     record { each = λ x s p is. kept_cases (IsInside v) x k s p is (λ r h. a.each x (covers_on x k s) r h) (λ n h. i) }
 

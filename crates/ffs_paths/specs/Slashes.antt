@@ -1,5 +1,5 @@
 -- Names and the `/` that each of them has before it.
-use Rattle.std.specs.Prelude.{◌≡◌, ℕ, ◌==◌, Bool, false, if◌then◌else◌, List, [], ◌∷◌}
+use Rattle.std.specs.Prelude.{◌≡◌, ℕ, ◌+◌, ◌==◌, Bool, false, if◌then◌else◌, List, [], ◌∷◌, ◌++◌, length, drop}
 use Rattle.std.specs.List.{list_any}
 
 abbrev pub has_slash : List ℕ → Bool
@@ -14,3 +14,9 @@ AreSingle (name ∷ names) = (has_slash name ≡ false) × AreSingle names
 abbrev pub from_slash : List ℕ → List ℕ
 from_slash [] = []
 from_slash (x ∷ xs) = if x == 47 then x ∷ xs else from_slash xs
+
+-- a `/` and a name are put before what is from `end` on, and begin at `start`
+pub record PutsBefore (old : List ℕ) (end : ℕ) (name new : List ℕ) (start : ℕ) : Type 0 where
+  pub start_is : start + length name + 1 ≡ end
+  pub len : length new ≡ 1024
+  pub bytes : drop start new ≡ 47 ∷ name ++ drop end old

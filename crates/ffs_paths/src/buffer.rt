@@ -1,7 +1,7 @@
 //! A path that is put together from its end.
 
 ghost use Rattle.std.specs.Prelude.{◌≡◌, ◌+◌, ◌-◌, ◌<◌, ◌≤◌, ℕ, List, [], ◌∷◌, ◌++◌, length, drop, Some};
-ghost use Rattle.ffs_paths.specs.Slashes.{from_slash};
+ghost use Rattle.ffs_paths.specs.Slashes.{from_slash, PutsBefore};
 
 use arrayvec::ArrayVec;
 use ffs_volume::constants::MAXPATHLEN;
@@ -34,9 +34,7 @@ pub struct PathBuffer {
 fn put_front(bytes: &mut [u8; MAXPATHLEN], end: usize, name: &[u8]) -> usize
     requires room { length name.now < end }
     requires end { end ≤ 1024 }
-    ensures start { result + length name.now + 1 ≡ end }
-    ensures len { length bytes.new ≡ 1024 }
-    ensures bytes { drop result bytes.new ≡ 47 ∷ name.now ++ drop end bytes.old }
+    ensures put { PutsBefore bytes.old end name.now bytes.new result }
     ensures following { (k : ℕ) → end ≤ k → drop k bytes.new ≡ drop k bytes.old }
 {
     let start = end - name.len() - 1;
@@ -49,8 +47,7 @@ fn put_front(bytes: &mut [u8; MAXPATHLEN], end: usize, name: &[u8]) -> usize
 fn slash_from(bytes: &[u8; MAXPATHLEN], place: usize) -> usize
     requires { place ≤ 1024 }
     ensures first { drop result bytes.now ≡ from_slash (drop place bytes.now) }
-    ensures after { place ≤ result }
-    ensures end { result ≤ 1024 }
+    ensures within { (place ≤ result) × (result ≤ 1024) }
 {
     for at in place..MAXPATHLEN {
         if bytes[at] == b'/' {
@@ -73,7 +70,7 @@ fn put_from(bytes: &[u8; MAXPATHLEN], start: usize, name: &[u8], text: &mut Path
 
 impl PathBuffer {
     ghost use Rattle.ffs_volume.specs.Directories.Paths.{dir_path_of_names, path_bytes};
-    ghost use Rattle.ffs_paths.specs.Buffers.{HoldsNames};
+    ghost use Rattle.ffs_paths.specs.Buffers.{HoldsNames, IsLonger};
     ghost use Rattle.ffs_paths.specs.Slashes.{AreSingle};
 
     /// No names.
@@ -125,8 +122,8 @@ impl PathBuffer {
         }
     }
 
-    /// Writes the path with a name more at its end in place of a text: all names where they have room, else `?` and their longest end of at most
-    /// 1,023 bytes, which is none where that name alone is longer.
+    /// Writes the path with a name more at its end in place of a text: all names where they have room, else `?` and
+    /// their longest end of at most 1,023 bytes, which is none where that name alone is longer.
     pub fn put_with(&self, name: &[u8], text: &mut PathText)
         ensures { (names : List (List ℕ)) → HoldsNames self.now names → AreSingle names
             → text.new.items ≡ path_bytes (names ++ name.now ∷ []) }
@@ -148,13 +145,7 @@ impl PathBuffer {
     fn longer(&self, from: usize, name: &[u8], cut: bool) -> PathBuffer
         requires from { from ≤ 1024 }
         requires room { length name.now < from }
-        ensures start { result.start + length name.now + 1 ≡ from }
-        ensures bytes { drop result.start result.bytes ≡ drop from self.now.bytes ++ 47
-            ∷ name.now }
-        ensures all { 0 < result.start → result.short ≡ result.start }
-        ensures second { result.start ≡ 0 → drop result.short result.bytes
-            ≡ from_slash (drop 1 result.bytes) }
-        ensures cut { result.cut ≡ cut }
+        ensures { IsLonger self.now from name.now cut result }
     {
         let mut bytes = [0u8; MAXPATHLEN];
         let end = put_front(&mut bytes, MAXPATHLEN, name);

@@ -24,8 +24,9 @@ pub fn climb<I: Image>(
     dir: u32,
 ) -> Result<PathBuffer, ImageFault>
     requires { IsReadyFor geometry.now.layout (I.device image.old) workspace.old dir }
-    ensures path { IfOk result (λ path. ForTree geometry.now.layout (I.device image.old)
-        workspace.old (λ g. (k : ℕ) → level g dir ≡ Some k → HoldsNames path (names_down g k dir))) }
+    ensures path { IfOk result (λ path.
+        ForTree geometry.now.layout (I.device image.old) workspace.old (λ g.
+        (k : ℕ) → level g dir ≡ Some k → HoldsNames path (names_down g k dir))) }
     ensures reads { OnlyReads geometry.now.layout (I.device image.old) (I.device image.new)
         workspace.old workspace.new result }
 {

@@ -33,11 +33,11 @@ fn parent_above(workspace: &Workspace, dir: u32) -> Option<u32>
     Some(parent)
 }
 
-/// A directory with the children whose paths are made: its own path, and a reading of its entries that continues from one
-/// child to the next.
+/// A directory with the children whose paths are made: its own path, and a reading of its entries that continues from
+/// one child to the next.
 ///
-/// Where children come in the order of numbers, and are named in this order too, each entry is read once for all of them. In
-/// another order one more reading finds the names of many children.
+/// Where children come in the order of numbers, and are named in this order too, each entry is read once for all of
+/// them. In another order one more reading finds the names of many children.
 #[derive(Drop)]
 pub struct Siblings {
     /// The directory, or 0 for none.
@@ -98,8 +98,8 @@ impl Siblings {
         Ok(())
     }
 
-    /// Begins a reading of a directory's entries, with its path, unless that is the one that is kept and it hasn't passed the
-    /// first entry that names a child.
+    /// Begins a reading of a directory's entries, with its path, unless that is the one that is kept and it hasn't
+    /// passed the first entry that names a child.
     fn continue_or_begin<I: Image>(
         &mut self,
         geometry: &Geometry,

@@ -40,7 +40,8 @@ returns-in_err-report_header-clause-text g c =
     c.examine.new.start _ _ _
     (c.in_ok-examined.ensures.found b k)
     (c.parent_of-parent.ensures v b
-    (survey_left v b c.args.workspace.now c.examine.new.workspace c.in_ok-examined.ensures.leaves.lists.survey k.survey))
+    (survey_left v b c.args.workspace.now c.examine.new.workspace c.in_ok-examined.ensures.leaves.lists.survey
+    k.survey))
     c.first_two.ensures.first c.first_two.ensures.second))
     c.in_err-report_header.ensures.text)
 
@@ -58,7 +59,8 @@ returns-clause-text g c =
     c.examine.new.start _ _ _
     (c.in_ok-examined.ensures.found b k)
     (c.parent_of-parent.ensures v b
-    (survey_left v b c.args.workspace.now c.examine.new.workspace c.in_ok-examined.ensures.leaves.lists.survey k.survey))
+    (survey_left v b c.args.workspace.now c.examine.new.workspace c.in_ok-examined.ensures.leaves.lists.survey
+    k.survey))
     c.first_two.ensures.first c.first_two.ensures.second))
     c.in_ok-report_header.ensures.text
 

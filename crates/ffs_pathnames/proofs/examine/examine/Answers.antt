@@ -25,7 +25,8 @@ returns-clause-found g c = λ b k.
     let inode = c.in_ok-inode.ensures.inode b k.reported_is in
     let small = subst (λ i. i.size < 2 ^ 31) (sym inode) (dir_size v (inode_of v b c.args.dir) class) in
     let cut = get_or_read_under c.args.workspace.now.cut.items c.args.dir _ c.index-cut.result.now 0 c.index-cut.ensures
-    (subst (λ n. c.args.dir < n) (sym c.requires.ready.ready.made.cut) c.requires.ready.number) c.args.workspace.now.cut.ok.0
+    (subst (λ n. c.args.dir < n) (sym c.requires.ready.ready.made.cut) c.requires.ready.number)
+    c.args.workspace.now.cut.ok.0
     ∙ h.cut c.args.dir in
     let chunks = chunks_are v b c.args.dir c.in_ok-inode.inode c.index-cut.result.now sound number inode cut in
     let shows = sees v b c.args.workspace.now _ (record {

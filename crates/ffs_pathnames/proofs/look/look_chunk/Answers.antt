@@ -33,22 +33,14 @@ entries-preserved c =
       sound = length_on c.args.order c.args.chunk.now c.entries.place _ e there c.entries.invariant.sound;
     })
 
-pub returns-clause-quiet : goal.returns-clause-quiet
-returns-clause-quiet c = λ v s.
-    quiet_ends v c.args.dir c.entries.stamps c.args.first c.entries.index c.args.order c.args.chunk.now c.entries.place
-    _ c.entries.quiet
-    (none c.args.order c.args.chunk.now c.entries.place c.entry_at.result c.in_default.is c.entry_at.ensures.value)
-    (c.entries.invariant.quiet v s)
-
-pub returns-clause-stamps : goal.returns-clause-stamps
-returns-clause-stamps c = λ v s.
-    stamps_end v c.args.dir c.entries.stamps _ c.args.first c.entries.index c.args.order c.args.chunk.now
-    c.entries.place
-    (none c.args.order c.args.chunk.now c.entries.place c.entry_at.result c.in_default.is c.entry_at.ensures.value)
-    (c.entries.invariant.stamps v s)
-
-pub returns-clause-sound : goal.returns-clause-sound
-returns-clause-sound c =
-    length_ends c.args.order c.args.chunk.now c.entries.place _
-    (none c.args.order c.args.chunk.now c.entries.place c.entry_at.result c.in_default.is c.entry_at.ensures.value)
-    c.entries.invariant.sound
+pub returns : goal.returns
+returns c =
+    let end = none c.args.order c.args.chunk.now c.entries.place c.entry_at.result c.in_default.is
+    c.entry_at.ensures.value in
+    record {
+      quiet = λ v s. quiet_ends v c.args.dir c.entries.stamps c.args.first c.entries.index c.args.order
+          c.args.chunk.now c.entries.place _ c.entries.quiet end (c.entries.invariant.quiet v s);
+      stamps = λ v s. stamps_end v c.args.dir c.entries.stamps _ c.args.first c.entries.index c.args.order
+          c.args.chunk.now c.entries.place end (c.entries.invariant.stamps v s);
+      sound = length_ends c.args.order c.args.chunk.now c.entries.place _ end c.entries.invariant.sound;
+    }

@@ -9,15 +9,15 @@ use Rattle.ffs_volume.specs.Directories.Volumes.{volume_of}
 use Rattle.ffs_volume.specs.Encodings.Kinds.{is_dir_kind}
 use Rattle.ffs_workspace.specs.Lengths.{inodes_of}
 use Rattle.ffs_pathnames.specs.Before.{root_said}
-use Rattle.ffs_pathnames.proofs.Carrying.{at_fault, goes_is, tree_is, tree_lines}
+use Rattle.ffs_pathnames.proofs.Carrying.{at_fault, goes_is, root_kind_is, root_marked_is, tree_is, tree_lines}
 use Rattle.ffs_pathnames.proofs.tree.check_tree.Goals as goal
 
-pub root_kind-kind-requires : goal.root_kind-kind-requires
-root_kind-kind-requires g c = let k = some_inodes c.args.geometry.now.layout c.args.geometry.now.sound in
+pub index-kind-requires : goal.index-kind-requires
+index-kind-requires g c = let k = some_inodes c.args.geometry.now.layout c.args.geometry.now.sound in
     omega (arith, c.requires.made.kinds, k)
 
-pub is_root_marked-requires : goal.is_root_marked-requires
-is_root_marked-requires g c = let k = some_inodes c.args.geometry.now.layout c.args.geometry.now.sound in
+pub index-marked-requires : goal.index-marked-requires
+index-marked-requires g c = let k = some_inodes c.args.geometry.now.layout c.args.geometry.now.sound in
     omega (arith, c.requires.made.marked, k)
 
 pub returns-in_err-report_root-clause-text : goal.returns-in_err-report_root-clause-text
@@ -26,9 +26,11 @@ returns-in_err-report_root-clause-text g c =
     let v = c.args.geometry.now.layout in
     let w = c.args.workspace.now in
     let all = λ (b : List ℕ). map of_names (pathname_lines (volume_of v b)) in
-    rw (p.1, p.2) (of_stops _ all (λ b. map of_names (tree_lines v b (is_dir_kind c.root_kind-kind.result))) _
-    (map of_names (root_said c.root_kind-kind.result c.is_root_marked.result)) _ _ _ (of_begins _ all _)
-    (λ b k. tree_is v b w _ _ (is_dir_kind c.root_kind-kind.result) c.root_kind-kind.ensures c.is_root_marked.ensures
+    rw (p.1, p.2) (of_stops _ all (λ b. map of_names (tree_lines v b (is_dir_kind c.index-kind.result.now))) _
+    (map of_names (root_said c.index-kind.result.now c.index-marked.result.now)) _ _ _ (of_begins _ all _)
+    (λ b k. tree_is v b w _ _ (is_dir_kind c.index-kind.result.now)
+    (root_kind_is v c.args.workspace.now _ c.args.geometry.now.sound c.requires.made c.index-kind.ensures)
+    (root_marked_is v c.args.workspace.now _ c.args.geometry.now.sound c.requires.made c.index-marked.ensures)
     k.claims refl) c.in_err-report_root.ensures)
 
 pub returns-in_err-report_root-clause-fault : goal.returns-in_err-report_root-clause-fault
@@ -41,14 +43,16 @@ returns-in-Stop-clause-text g c =
     let v = c.args.geometry.now.layout in
     let w = c.args.workspace.now in
     let all = λ (b : List ℕ). map of_names (pathname_lines (volume_of v b)) in
-    of_says _ all (λ b. []) _ (map of_names (root_said c.root_kind-kind.result c.is_root_marked.result)) _ _ _
+    of_says _ all (λ b. []) _ (map of_names (root_said c.index-kind.result.now c.index-marked.result.now)) _ _ _
     (of_begins _ all _)
-    (λ b k. tree_is v b w _ _ false c.root_kind-kind.ensures c.is_root_marked.ensures k.claims c.in-Stop.ensures)
+    (λ b k. tree_is v b w _ _ false
+    (root_kind_is v c.args.workspace.now _ c.args.geometry.now.sound c.requires.made c.index-kind.ensures)
+    (root_marked_is v c.args.workspace.now _ c.args.geometry.now.sound c.requires.made c.index-marked.ensures) k.claims c.in-Stop.ensures)
     c.in_ok-report_root.ensures
 
 pub returns-in-Stop-clause-goes : goal.returns-in-Stop-clause-goes
 returns-in-Stop-clause-goes g c = λ b k. c.in-Stop.ensures ∙ goes_is c.args.geometry.now.layout b c.args.workspace.now _
-    c.root_kind-kind.ensures k.claims
+    (root_kind_is c.args.geometry.now.layout c.args.workspace.now _ c.args.geometry.now.sound c.requires.made c.index-kind.ensures) k.claims
 
 pub returns-in_err-check_inodes-in-Go-clause-text : goal.returns-in_err-check_inodes-in-Go-clause-text
 returns-in_err-check_inodes-in-Go-clause-text g c =
@@ -59,9 +63,11 @@ returns-in_err-check_inodes-in-Go-clause-text g c =
     let all = λ (b : List ℕ). map of_names (pathname_lines (volume_of v b)) in
     let part = λ (b : List ℕ). map of_names (lines_from (lines_of (volume_of v b)) 2 (inodes_of v - 2)) in
     rw (p.1, p.2) (of_fault (Unit {0}) (Unit {0}) _ part part (λ b. []) _ _ _ _ c.in_err-check_inodes-in-Go.field-0.0
-    (of_says _ all part _ (map of_names (root_said c.root_kind-kind.result c.is_root_marked.result)) _ _ _
+    (of_says _ all part _ (map of_names (root_said c.index-kind.result.now c.index-marked.result.now)) _ _ _
     (of_begins _ all _)
-    (λ b k. tree_is v b w _ _ true c.root_kind-kind.ensures c.is_root_marked.ensures k.claims c.in-Go.ensures)
+    (λ b k. tree_is v b w _ _ true
+    (root_kind_is v c.args.workspace.now _ c.args.geometry.now.sound c.requires.made c.index-kind.ensures)
+    (root_marked_is v c.args.workspace.now _ c.args.geometry.now.sound c.requires.made c.index-marked.ensures) k.claims c.in-Go.ensures)
     c.in_ok-report_root.ensures)
     (λ b k. sym (append-nil (part b)))
     c.in_err-check_inodes-in-Go.ensures.text)
@@ -69,7 +75,8 @@ returns-in_err-check_inodes-in-Go-clause-text g c =
 pub returns-in_err-check_inodes-in-Go-clause-fault : goal.returns-in_err-check_inodes-in-Go-clause-fault
 returns-in_err-check_inodes-in-Go-clause-fault g c =
     at_fault c.from_residual-in_err-check_inodes-in-Go.result _
-    (λ b k. sym (c.in-Go.ensures ∙ goes_is c.args.geometry.now.layout b c.args.workspace.now _ c.root_kind-kind.ensures
+    (λ b k. sym (c.in-Go.ensures ∙ goes_is c.args.geometry.now.layout b c.args.workspace.now _
+    (root_kind_is c.args.geometry.now.layout c.args.workspace.now _ c.args.geometry.now.sound c.requires.made c.index-kind.ensures)
     k.claims))
 
 pub returns-in_ok-check_inodes-in-Go-clause-text : goal.returns-in_ok-check_inodes-in-Go-clause-text
@@ -79,13 +86,16 @@ returns-in_ok-check_inodes-in-Go-clause-text g c =
     let all = λ (b : List ℕ). map of_names (pathname_lines (volume_of v b)) in
     let part = λ (b : List ℕ). map of_names (lines_from (lines_of (volume_of v b)) 2 (inodes_of v - 2)) in
     of_part _ part part (λ b. []) _ _ _ _
-    (of_says _ all part _ (map of_names (root_said c.root_kind-kind.result c.is_root_marked.result)) _ _ _
+    (of_says _ all part _ (map of_names (root_said c.index-kind.result.now c.index-marked.result.now)) _ _ _
     (of_begins _ all _)
-    (λ b k. tree_is v b w _ _ true c.root_kind-kind.ensures c.is_root_marked.ensures k.claims c.in-Go.ensures)
+    (λ b k. tree_is v b w _ _ true
+    (root_kind_is v c.args.workspace.now _ c.args.geometry.now.sound c.requires.made c.index-kind.ensures)
+    (root_marked_is v c.args.workspace.now _ c.args.geometry.now.sound c.requires.made c.index-marked.ensures) k.claims c.in-Go.ensures)
     c.in_ok-report_root.ensures)
     (λ b k. sym (append-nil (part b)))
     c.in_ok-check_inodes-in-Go.ensures.text
 
 pub returns-in_ok-check_inodes-in-Go-clause-goes : goal.returns-in_ok-check_inodes-in-Go-clause-goes
 returns-in_ok-check_inodes-in-Go-clause-goes g c = λ b k. c.in-Go.ensures
-    ∙ goes_is c.args.geometry.now.layout b c.args.workspace.now _ c.root_kind-kind.ensures k.claims
+    ∙ goes_is c.args.geometry.now.layout b c.args.workspace.now _
+    (root_kind_is c.args.geometry.now.layout c.args.workspace.now _ c.args.geometry.now.sound c.requires.made c.index-kind.ensures) k.claims

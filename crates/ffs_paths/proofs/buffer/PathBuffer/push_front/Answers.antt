@@ -23,8 +23,8 @@ returns-then-start-gt0 c = λ names h.
     let o = s.ordered in
     let i = s.in_buffer in
     let n = whole-length names s.start s.bytes (omega arith) s.long (h.whole c.if-self.false) in
-    let f = c.put_front-start.ensures.start in
-    let all = c.put_front-start.ensures.bytes ∙ ap (λ b. 47 ∷ c.args.name.now ++ b) (h.whole c.if-self.false) in
+    let f = c.put_front-start.ensures.put.start_is in
+    let all = c.put_front-start.ensures.put.bytes ∙ ap (λ b. 47 ∷ c.args.name.now ++ b) (h.whole c.if-self.false) in
     record {
       whole = λ _. all;
       short = all ∙ ap joined (sym
@@ -38,9 +38,9 @@ returns-else-start-gt0 c = λ names h.
     let o = s.ordered in
     let i = s.in_buffer in
     let n = whole-length names s.start s.bytes (omega arith) s.long (h.whole c.if-self.false) in
-    let f = c.put_front-start.ensures.start in
+    let f = c.put_front-start.ensures.put.start_is in
     let z = c.if-start-gt0.false in
-    let all = c.put_front-start.ensures.bytes ∙ ap (λ b. 47 ∷ c.args.name.now ++ b) (h.whole c.if-self.false) in
+    let all = c.put_front-start.ensures.put.bytes ∙ ap (λ b. 47 ∷ c.args.name.now ++ b) (h.whole c.if-self.false) in
     record {
       whole = λ _. all;
       short = c.put_front-start.ensures.following s.short o
@@ -53,12 +53,12 @@ invariant_of-self-then-start-gt0 c =
     let s = c.args.self.now in
     let o = s.ordered in
     let i = s.in_buffer in
-    let f = c.put_front-start.ensures.start in
+    let f = c.put_front-start.ensures.put.start_is in
     record {
       ordered = omega arith;
       in_buffer = omega arith;
       has_room = c.if-start-gt0.true;
-      long = c.put_front-start.ensures.len;
+      long = c.put_front-start.ensures.put.len;
     }
 
 pub invariant_of-self-else-start-gt0 : goal.invariant_of-self-else-start-gt0
@@ -67,5 +67,5 @@ invariant_of-self-else-start-gt0 c =
     let o = s.ordered in
     let i = s.in_buffer in
     let r = s.has_room in
-    let f = c.put_front-start.ensures.start in
-    record { ordered = omega arith; in_buffer = i; has_room = r; long = c.put_front-start.ensures.len }
+    let f = c.put_front-start.ensures.put.start_is in
+    record { ordered = omega arith; in_buffer = i; has_room = r; long = c.put_front-start.ensures.put.len }

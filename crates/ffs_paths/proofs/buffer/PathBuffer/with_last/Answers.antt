@@ -16,8 +16,8 @@ returns-then-name-self c = λ names h single.
     let all = made.bytes ∙ (ap (λ b. b ++ 47 ∷ c.args.name.now) (h.whole c.if-not-self.true)
     ∙ sym (joined-last names c.args.name.now)) in
     le_or 1 p.start (HoldsNames p (names ++ c.args.name.now ∷ []))
-    (λ some. room_holds p (names ++ c.args.name.now ∷ []) made.cut all (made.all (omega arith)) (omega arith))
-    (λ none. full_holds p (names ++ c.args.name.now ∷ []) made.cut all (omega arith) (made.second (omega arith)) single)
+    (λ some. room_holds p (names ++ c.args.name.now ∷ []) made.cut_is all (made.all (omega arith)) (omega arith))
+    (λ none. full_holds p (names ++ c.args.name.now ∷ []) made.cut_is all (omega arith) (made.second (omega arith)) single)
 
 pub returns : goal.returns
 returns c = λ names h single.
@@ -32,11 +32,11 @@ returns c = λ names h single.
       | else-not-self-via-else-not-self w ↦ let n =
           over_1024 (length (joined names)) (sym h.cut ∙ w.if-not-self.false) in omega arith
     ] in
-    let low = c.slash_from-from.ensures.after in
+    let low = c.slash_from-from.ensures.within.0 in
     let most = c.max.ensures in
-    let begins = made.start in
+    let begins = made.start_is in
     let some : 0 < p.start = omega arith in
     cut_tail p s names c.args.name.now c.slash_from-from.result c.requires h (first_single names c.args.name.now single)
     over
     (c.slash_from-from.ensures.first ∙ ap (λ i. from_slash (drop i s.bytes)) c.max.ensures)
-    made.cut (ap (λ k. drop k p.bytes) (made.all some) ∙ made.bytes)
+    made.cut_is (ap (λ k. drop k p.bytes) (made.all some) ∙ made.bytes)
