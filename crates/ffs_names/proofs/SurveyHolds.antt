@@ -98,7 +98,7 @@ start_low v b x = go (is_allocated (class_at v b x)) (inode_of v b x).nlink
     go true (negsuc n) = omega arith
     go false links = omega arith
 
--- and counts that go on from where they start
+-- and counts that continue from where they start
 pub holds_references : (v : Layout) (b : List ℕ) (old new : Workspace) (starts counts : List ℕ)
     (flags marks : List Bool) (ups : List ℕ) → old.references.items ≡ starts → new.references.items ≡ counts
     → HoldsStarts v b old → IsSurvey (graph_of (volume_of v b)) starts counts flags marks ups → HoldsReferences v b new

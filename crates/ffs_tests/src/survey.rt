@@ -114,7 +114,7 @@ const REACHED: [bool; 8] = [false, false, true, true, false, false, false, false
 
 #[test]
 fn surveys_a_tree_and_a_cycle(rt: HostRuntime) {
-    // Counts go on from what the list holds, at most 32769.
+    // Counts continue from what the list holds, at most 32769.
     let mut references = [7, 0, 32766, 40000, 1, 2, 3, 4];
     let mut named = [true; 8];
     let mut reached = [true; 8];
