@@ -9,13 +9,13 @@ use Rattle.ffs_check.proofs.check.check_found.Goals as goal
 
 pub run_rest-requires : goal.run_rest-requires
 run_rest-requires g c = record
-    { ready = record { made = c.in-Ok.ensures.made; volume = c.requires.volume; windows = c.in-Ok.ensures.windows _ } }
+    { ready = record { made = c.in-Ok.ensures.new.made; volume = c.requires.volume; windows = c.in-Ok.ensures.new.windows _ } }
 
 pub returns-in-Ok-clause-followed : goal.returns-in-Ok-clause-followed
 returns-in-Ok-clause-followed g c =
     let s = seen c.args.found.now in
     inr (ran_knows false _ _ (λ bytes. phase_lines bytes s) (λ bytes. continues_after_root (volume_of s.layout bytes)) _
-    _ _ _ _ (λ bytes t. (t, c.in-Ok.ensures.fresh)) c.run_rest.ensures.ran)
+    _ _ _ _ (λ bytes t. (t, c.in-Ok.ensures.new.fresh)) c.run_rest.ensures.ran)
 
 pub returns-in-Ok-clause-refused : goal.returns-in-Ok-clause-refused
 returns-in-Ok-clause-refused g c e = absurd (not_for_memory _ _ _ _ _ _ _ _ c.run_rest.ensures.ran e)
