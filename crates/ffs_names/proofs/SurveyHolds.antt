@@ -1,10 +1,8 @@
 -- A survey fills a workspace.
 use Rattle.std.proofs.Common.{◌≡◌, ◌*◌, ◌≤◌, ℕ, Bool, true, List, [], Result, Ok, Err, Option, Some, None, refl, sym}
 use Rattle.std.proofs.Common.{ap, ◌∙◌, subst}
-use Rattle.std.specs.Prelude.{OnOk, IfOk, IfErr, IfNone, if◌then◌else◌, slice_index, length}
-use Rattle.ffs_image.specs.Device.{Device, Faulted}
-use Rattle.ffs_image.specs.Reads.{ReadAfter}
-use Rattle.ffs_image.specs.declared.image.ImageFault.{ImageFault}
+use Rattle.std.specs.Prelude.{OnOk, IfOk, IfNone, if◌then◌else◌, slice_index, length}
+use Rattle.ffs_image.specs.Device.{Device}
 use Rattle.ffs_volume.specs.declared.Layout.{Layout}
 use Rattle.ffs_volume.specs.Directories.Roles.{is_dir, roled_entries}
 use Rattle.ffs_volume.specs.Directories.Parents.{graph_of}

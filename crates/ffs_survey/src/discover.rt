@@ -178,7 +178,8 @@ fn read_reached<D: Directories>(
     requires lists { LevelLists (2 ^ 60) kinds.now marked.now references.old named.old reached.old
         parents.old }
     requires room { top + unset reached.old ≤ length queue.old }
-    ensures grown { OnOk result (GrowsBy (length kinds.now) (2 ^ 28) references.old references.new) }
+    ensures grown { OnOk result (GrowsBy (length kinds.now) (2 ^ 28) references.old
+        references.new) }
     ensures top { IfOk result (λ n. n + unset reached.new ≡ top + unset reached.old) }
     ensures read { IfOk result (λ n. ForKnown D.knows D.entries D.sound (D.base directories.old)
         (λ entries sound. ReadsReached kinds.now marked.now from (entries from) (sound from)
@@ -285,7 +286,8 @@ pub fn read_unreached<D: Directories>(
     requires lists { EntryLists (2 ^ 60) kinds.now references.old named.old reached.now
         parents.old }
     requires from { 0 < from }
-    ensures grown { OnOk result (GrowsBy (length kinds.now) (2 ^ 28) references.old references.new) }
+    ensures grown { OnOk result (GrowsBy (length kinds.now) (2 ^ 28) references.old
+        references.new) }
     ensures read { OnOk result (ForKnown D.knows D.entries D.sound (D.base directories.old)
         (λ entries sound. ReadsUnreached kinds.now reached.now from (entries from) references.old
         named.old parents.old references.new named.new parents.new)) }
