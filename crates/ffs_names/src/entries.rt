@@ -152,7 +152,6 @@ impl Entries {
     ///
     /// # Errors
     /// A read of the image that failed.
-    #[inline(always)]
     pub fn next<I: Image>(
         &mut self,
         image: &mut I,
