@@ -2,11 +2,8 @@
 use Rattle.std.proofs.Common.{◌≡◌, ◌+◌, ◌-◌, ◌*◌, ◌≤◌, ℕ, ℤ, pos, negsuc, Bool, true, false, List, [], Result, Ok, Err}
 use Rattle.std.proofs.Common.{Option, Some, None, refl, sym, arith}
 use Rattle.std.proofs.Common.{ap, ◌∙◌, subst}
-use Rattle.std.specs.Prelude.{OnOk, IfOk, IfErr, IfNone, if◌then◌else◌, ◌&&◌, min, nat_le, nat_lt, slice_index}
-use Rattle.std.specs.Prelude.{length}
-use Rattle.ffs_image.specs.Device.{Device, Faulted}
-use Rattle.ffs_image.specs.Reads.{ReadAfter}
-use Rattle.ffs_image.specs.declared.image.ImageFault.{ImageFault}
+use Rattle.std.specs.Prelude.{OnOk, IfOk, IfNone, if◌then◌else◌, ◌&&◌, min, nat_le, nat_lt, slice_index, length}
+use Rattle.ffs_image.specs.Device.{Device}
 use Rattle.ffs_volume.specs.declared.Layout.{Layout}
 use Rattle.ffs_volume.specs.Directories.Roles.{is_dir, roled_entries}
 use Rattle.ffs_volume.specs.Directories.Parents.{graph_of}

@@ -1,9 +1,16 @@
 -- Where the current Run lies.
-use Rattle.std.specs.Prelude.{◌+◌, ◌*◌, ◌≤◌}
+use Rattle.std.specs.Prelude.{ℕ, ◌+◌, ◌*◌, ◌<◌, ◌≤◌, IsTrue}
 use Rattle.ffs_volume.specs.declared.Layout.{Layout}
+use Rattle.ffs_volume.specs.Disk.Areas.{is_run_in_range}
 use Rattle.ffs_names.specs.declared.run_cursor.RunCursor.{RunCursor}
 
 -- the current Run is a block's at most, and lies in the volume
 pub record HandFits (v : Layout) (h : RunCursor) : Type 0 where
   pub in_block : h.length ≤ v.bsize
   pub in_volume : h.place + h.length ≤ v.size * v.fsize
+
+-- a Run of data of a block at most, in range
+pub record IsBlockRun (v : Layout) (start len : ℕ) : Type 0 where
+  pub some : 0 < len
+  pub short : len ≤ v.frag
+  pub in_range : IsTrue (is_run_in_range v start len)

@@ -1,5 +1,5 @@
 -- What a reading of a directory has still to give.
-use Rattle.std.specs.Prelude.{◌≡◌, ◌<◌, ◌≤◌, ◌^◌, ℕ, ◌+◌, Bool, false, ◌||◌, List, [], ◌∷◌, ◌++◌, take, Option}
+use Rattle.std.specs.Prelude.{◌≡◌, ◌<◌, ◌≤◌, ◌^◌, ℕ, ◌+◌, Bool, true, false, ◌||◌, Result, List, [], ◌∷◌, ◌++◌, take, Option}
 use Rattle.std.specs.Prelude.{MatchOption}
 use Rattle.ffs_volume.specs.declared.Layout.{Layout}
 use Rattle.ffs_volume.specs.declared.Inode.{Inode}
@@ -7,9 +7,16 @@ use Rattle.ffs_volume.specs.declared.Step.{Step}
 use Rattle.ffs_volume.specs.Disk.Areas.{is_run_in_range}
 use Rattle.ffs_volume.specs.Blocks.Steps.{steps_of}
 use Rattle.ffs_volume.specs.Directories.Entries.{Chunk, chunk_of, chunks_of, has_gap, bytes_read}
-use Rattle.ffs_volume.specs.Encodings.Replay.{fresh_replay, replayed_steps}
+use Rattle.ffs_volume.specs.Encodings.Replay.{is_replay_open, fresh_replay, replayed_steps}
 use Rattle.ffs_volume.specs.Encodings.ReplayCounts.{replayed_runs}
 use Rattle.ffs_walk.specs.Rests.{rest as steps_left}
+use Rattle.ffs_image.specs.Device.{Device}
+use Rattle.ffs_image.specs.Reads.{ReadAfter}
+use Rattle.ffs_image.specs.declared.image.ImageFault.{ImageFault}
+use Rattle.ffs_volume.specs.Blocks.Lengths.{HasLength}
+use Rattle.ffs_walk.specs.declared.blocks.Blocks.{Blocks}
+use Rattle.ffs_walk.specs.declared.window.Window.{Window}
+use Rattle.ffs_names.specs.Windows.{CanWalk, CanReadChunks}
 use Rattle.ffs_names.specs.Keepings.{replay_in}
 use Rattle.ffs_names.specs.RunCursors.{hand_chunks, reading_by}
 use Rattle.ffs_names.specs.declared.chunks.Chunks.{Chunks}
@@ -48,6 +55,26 @@ pub record IsSame (old new : Chunks) : Type 0 where
   pub cut : new.keeping.cut ≡ old.keeping.cut
   pub taken : new.taken ≡ old.taken
   pub budget : new.budget ≡ old.budget
+
+-- a Run can be seen next: it has its length, the replay is open, and no chunk of the current Run is left
+pub record CanSee (c : Chunks) (run : Step) : Type 0 where
+  pub length : HasLength c.walk.geometry.layout.frag run
+  pub seen : is_replay_open c.keeping.cut (replay_in c.keeping) ≡ true
+  pub empty : c.run_cursor.next ≡ c.run_cursor.count
+
+-- what a call leaves that moves on to a Run: it can walk on, and only read the image
+pub record LeavesWalk {T : Type 0} (old new : Chunks) (device device' : Device) (blocks : Blocks)
+    (result : Result T ImageFault) : Type 0 where
+  pub same : IsSame old new
+  pub ready : CanWalk old.walk.geometry.layout device' blocks
+  pub read : ReadAfter device device' result
+
+-- what a call leaves that reads a chunk
+pub record LeavesChunks {T : Type 0} (old new : Chunks) (device device' : Device) (blocks : Blocks) (chunk : Window)
+    (result : Result T ImageFault) : Type 0 where
+  pub same : IsSame old new
+  pub ready : CanReadChunks old.walk.geometry.layout device' blocks chunk
+  pub read : ReadAfter device device' result
 
 -- a reading of an image of these bytes with these steps to come continues as one that has these
 pub record Continues (b : List ℕ) (old : Chunks) (before : List Step) (new : Chunks) (after : List Step) : Type 0 where

@@ -47,5 +47,6 @@ pub record GivesEntry (b : List ℕ) (old new : Entries) (answer : Option Named)
 -- what taking an entry of the current chunk leaves as it was
 pub record IsSameChunk (old new : Entries) : Type 0 where
   pub chunks : new.chunks ≡ old.chunks
+  pub chunk : new.chunk ≡ old.chunk
   pub sound : new.sound ≡ old.sound
   pub fills : fills new ≡ fills old

@@ -3,12 +3,10 @@
 ghost use Rattle.std.specs.Prelude.{◌≡◌, ◌+◌, ◌*◌, ◌≤◌, ◌<◌, ◌^◌, ◌∷◌, ℕ, List, [], true, Ok, None, OnOk, IfOk, IfSome, OnErr, MatchBool, MatchOption, MatchResult};
 ghost use Rattle.ffs_image.specs.Device.{ForContents};
 ghost use Rattle.ffs_image.specs.Reads.{ReadAfter};
-ghost use Rattle.ffs_volume.specs.Blocks.Lengths.{HasLength};
 ghost use Rattle.ffs_volume.specs.Disk.Numbers.{piece};
 ghost use Rattle.ffs_volume.specs.Directories.Entries.{bytes_read};
 ghost use Rattle.ffs_volume.specs.declared.Step.{Step as StepIn};
 ghost use Rattle.ffs_volume.specs.declared.Step.TheVariants.{Run};
-ghost use Rattle.ffs_volume.specs.Encodings.Replay.{is_replay_open as is_seen_in};
 ghost use Rattle.ffs_names.specs.Fits.{HandFits};
 ghost use Rattle.ffs_names.specs.SeenRuns.{RunsAreSeen};
 ghost use Rattle.ffs_names.specs.Windows.{CanWalk, CanReadChunks};
@@ -41,15 +39,12 @@ pub struct Chunks {
 }
 
 impl Chunks {
-    ghost use Rattle.ffs_names.specs.Keepings.{replay_in};
     ghost use Rattle.ffs_names.specs.RunCursors.{last_place};
-    ghost use Rattle.ffs_names.specs.Readings.{all_chunks, rest, runs_left, IsSame, Continues, ContinuesTo, GivesChunk, BeginsAt};
+    ghost use Rattle.ffs_names.specs.Readings.{all_chunks, rest, runs_left, IsSame, CanSee, LeavesWalk, LeavesChunks, Continues, ContinuesTo, GivesChunk, BeginsAt};
 
     /// A Run is seen. Only one of data that is kept whole, and is in range, has chunks.
     fn see(&mut self, start: u32, len: u32, block: Option<u64>)
-        requires length { HasLength self.old.walk.geometry.layout.frag (Run start len block) }
-        requires seen { is_seen_in self.old.keeping.cut (replay_in self.old.keeping) ≡ true }
-        requires empty { self.old.run_cursor.next ≡ self.old.run_cursor.count }
+        requires { CanSee self.old (Run start len block) }
         ensures continues { (b : List ℕ) (steps : List StepIn)
             → Continues b self.old (Run start len block ∷ steps) self.new steps }
         ensures same { IsSame self.old self.new }
@@ -79,9 +74,8 @@ impl Chunks {
             (ForContents (I.device image.old).contents (λ b. all_chunks b self.new ≡ []))) }
         ensures runs { OnErr result (ForContents (I.device image.old).contents
             (λ b. self.new.runs + runs_left b self.new ≤ self.old.runs + runs_left b self.old)) }
-        ensures same { IsSame self.old self.new }
-        ensures ready { CanWalk self.old.walk.geometry.layout (I.device image.new) blocks.new }
-        ensures read { ReadAfter (I.device image.old) (I.device image.new) result }
+        ensures leaves { LeavesWalk self.old self.new (I.device image.old) (I.device image.new)
+            blocks.new result }
     {
         'steps: while self.run_cursor.next == self.run_cursor.count {
             if !self.keeping.is_replay_open() {
@@ -115,10 +109,8 @@ impl Chunks {
             ≤ self.old.walk.geometry.layout.size * self.old.walk.geometry.layout.fsize)) }
         ensures runs { OnErr result (ForContents (I.device image.old).contents
             (λ b. self.new.runs + runs_left b self.new ≤ self.old.runs + runs_left b self.old)) }
-        ensures same { IsSame self.old self.new }
-        ensures ready { CanReadChunks self.old.walk.geometry.layout (I.device image.new) blocks.new
-            «data».new }
-        ensures read { ReadAfter (I.device image.old) (I.device image.new) result }
+        ensures leaves { LeavesChunks self.old self.new (I.device image.old) (I.device image.new)
+            blocks.new «data».new result }
     {
         if !self.advance(image, blocks)? {
             return Ok(None);

@@ -127,7 +127,6 @@ impl Entries {
         ensures left { MatchOption result
             (is_some (entry_in self.new.order self.new.chunk self.new.place) ≡ false)
             (λ _. left self.new < left self.old) }
-        ensures chunk { self.new.chunk ≡ self.old.chunk }
         ensures place { IfSome result (λ _. self.old.place < 512) }
         ensures same { IsSameChunk self.old self.new }
     {

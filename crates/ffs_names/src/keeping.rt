@@ -4,8 +4,7 @@ ghost use Rattle.std.specs.Prelude.{◌≡◌, ◌<◌, ◌≤◌, ℕ, true, Op
 ghost use Rattle.ffs_volume.specs.declared.Layout.{Layout};
 ghost use Rattle.ffs_volume.specs.declared.Step.TheVariants.{Run};
 ghost use Rattle.ffs_volume.specs.Disk.Areas.{is_run_in_range as is_in_range_of};
-ghost use Rattle.ffs_volume.specs.Encodings.Replay.{is_replay_open as is_seen_in, is_replayed, fresh_replay};
-ghost use Rattle.ffs_volume.specs.Encodings.ReplayCounts.{replay_step_by_cut};
+ghost use Rattle.ffs_volume.specs.Encodings.Replay.{is_replay_open as is_seen_in, fresh_replay};
 
 use ffs_volume::constants::MAXBAD;
 
@@ -21,7 +20,7 @@ pub struct Keeping {
 }
 
 impl Keeping {
-    ghost use Rattle.ffs_names.specs.Keepings.{replay_in};
+    ghost use Rattle.ffs_names.specs.Keepings.{replay_in, Replays};
 
     /// An inode begins.
     pub fn start(cut: u32) -> Keeping
@@ -46,13 +45,9 @@ impl Keeping {
     pub fn take(&mut self, len: u32, in_range: bool) -> bool
         requires some { 0 < len }
         requires seen { is_seen_in self.old.cut (replay_in self.old) ≡ true }
-        ensures kept { (layout : Layout) (start : ℕ) (block : Option ℕ)
+        ensures replays { (layout : Layout) (start : ℕ) (block : Option ℕ)
             → in_range ≡ is_in_range_of layout start len
-            → result ≡ is_replayed layout self.old.cut (replay_in self.old) (Run start len block) }
-        ensures after { (layout : Layout) (start : ℕ) (block : Option ℕ)
-            → in_range ≡ is_in_range_of layout start len
-            → replay_in self.new
-            ≡ replay_step_by_cut layout self.old.cut (replay_in self.old) (Run start len block) }
+            → Replays layout (Run start len block) self.old self.new result }
         ensures cut { self.new.cut ≡ self.old.cut }
     {
         if !in_range {

@@ -1,7 +1,6 @@
 //! The chunks of one Run of a directory.
 
-ghost use Rattle.std.specs.Prelude.{◌≡◌, ◌+◌, ◌*◌, ◌<◌, ◌≤◌, ◌^◌, ℕ, List, [], IsTrue};
-ghost use Rattle.ffs_volume.specs.Disk.Areas.{is_run_in_range};
+ghost use Rattle.std.specs.Prelude.{◌≡◌, ◌+◌, ◌*◌, ◌<◌, ◌≤◌, ◌^◌, ℕ, List, []};
 ghost use Rattle.ffs_volume.specs.Directories.Entries.{run_chunks};
 
 use ffs_layout::Geometry;
@@ -24,7 +23,7 @@ pub struct RunCursor {
 impl RunCursor {
     ghost use Rattle.ffs_volume.specs.declared.Layout.{Layout};
     ghost use Rattle.ffs_names.specs.RunCursors.{hand_chunks, reading_by};
-    ghost use Rattle.ffs_names.specs.Fits.{HandFits};
+    ghost use Rattle.ffs_names.specs.Fits.{HandFits, IsBlockRun};
 
     /// No chunks.
     pub fn empty() -> RunCursor
@@ -43,9 +42,7 @@ impl RunCursor {
 
     /// The chunks of a Run of a directory's logical block, of which `taken` bytes are read.
     pub fn of_run(geometry: &Geometry, taken: u64, start: u32, len: u32, block: u64) -> RunCursor
-        requires some { 0 < len }
-        requires short { len ≤ geometry.now.layout.frag }
-        requires in_range { IsTrue (is_run_in_range geometry.now.layout start len) }
+        requires run { IsBlockRun geometry.now.layout start len }
         requires taken { taken ≤ 2 ^ 31 }
         ensures chunks { (b : List ℕ) → hand_chunks geometry.now.layout b result
             ≡ run_chunks (reading_by geometry.now.layout b taken) start len

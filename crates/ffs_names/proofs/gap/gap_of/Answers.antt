@@ -41,7 +41,7 @@ steps-preserved-in-Some-Run g c =
           (ap (λ x. x.layout) c.next.ensures.same.geometry) (read b (ap (λ d. d.contents) inv.same ∙ t)))
           ∙ sym (gap_past_run w.geometry.layout s.keeping.cut c.take-kept.new.self.cut (replay_in s.keeping)
           (replay_in c.take-kept.new.self) (rest b w) r.start r.len r._block false
-          (c.take-kept.ensures.after w.geometry.layout r.start r._block c.in_range-in_range.ensures)
+          (c.take-kept.ensures.replays w.geometry.layout r.start r._block c.in_range-in_range.ensures).after
           c.take-kept.ensures.cut));
     }
 

@@ -11,7 +11,7 @@ returns-in-Ok-Some-clause-chunk g c = λ b t.
     let read = (rw c.in-Ok-Some.field-0-is at c.in-Ok-Some.ensures.chunk) b t in
     record {
       chunks = some_taken s.budget x (all_chunks b s) (all_chunks b c.read.new.self) (omega arith) read.chunks
-          ∙ ap (λ n. x ∷ take (n - 1) (all_chunks b c.read.new.self)) (sym c.read.ensures.same.budget);
+          ∙ ap (λ n. x ∷ take (n - 1) (all_chunks b c.read.new.self)) (sym c.read.ensures.leaves.same.budget);
       runs = read.runs;
       gap = read.gap;
     }

@@ -11,12 +11,12 @@ returns-clause-chunk g c = λ b t.
     let s = c.advance.new.self in
     let h = s.run_cursor in
     let went = c.in_ok-advance.ensures.continues b t in
-    let order = ap (λ x. x.layout.order) c.advance.ensures.same.geometry in
+    let order = ap (λ x. x.layout.order) c.advance.ensures.leaves.same.geometry in
     let more = rw c.if-not-branch.false at c.in_ok-advance.ensures.found in
     let fits = h.in_run in
     let chunk = chunk_held h.place h.length h.next b (held_bytes c.fill.new.self) c.copy_from_slice.new.self
     c.bytes.result.now (omega arith) c.copy_from_slice.ensures.after c.bytes.ensures
-    (c.in_ok-fill.ensures.bytes b (ap (λ d. d.contents) c.in_ok-advance.ensures.read ∙ t)) in
+    (c.in_ok-fill.ensures.bytes b (ap (λ d. d.contents) c.in_ok-advance.ensures.leaves.read ∙ t)) in
     record {
       chunks = hand_step s.walk.geometry.layout.order c.args.self.now.walk.geometry.layout.order b h.place h.offset
           h.next h.count c.copy_from_slice.new.self (chunks_after b s (steps_left b s.walk))
@@ -39,5 +39,5 @@ returns-clause-place g c = λ b t.
     let fits = h.in_run in
     chunk_held h.place h.length h.next b (held_bytes c.fill.new.self) c.copy_from_slice.new.self c.bytes.result.now
     (omega arith) c.copy_from_slice.ensures.after c.bytes.ensures
-    (c.in_ok-fill.ensures.bytes b (ap (λ d. d.contents) c.in_ok-advance.ensures.read ∙ t))
+    (c.in_ok-fill.ensures.bytes b (ap (λ d. d.contents) c.in_ok-advance.ensures.leaves.read ∙ t))
     ∙ ap (λ n. piece (h.place + 512 * n) 512 b) (omega arith)

@@ -9,8 +9,9 @@ pub returns-in-Some-clause-continues : goal.returns-in-Some-clause-continues
 returns-in-Some-clause-continues c = λ b steps.
     let s = c.args.self.now in
     let v = s.walk.geometry.layout in
-    let kept = c.take.ensures.kept v c.args.start c.args.block c.in_range-in_range.ensures in
-    let after = c.take.ensures.after v c.args.start c.args.block c.in_range-in_range.ensures in
+    let replays = c.take.ensures.replays v c.args.start c.args.block c.in_range-in_range.ensures in
+    let kept = replays.kept in
+    let after = replays.after in
     record {
       chunks = run_continues v b s.run_cursor c.of_run-self.result s.taken s.keeping.cut c.take.new.self.cut
           (replay_in s.keeping) (replay_in c.take.new.self) steps c.args.start c.args.len c.args.block c.take.result
@@ -31,8 +32,9 @@ pub returns-in_default-clause-continues : goal.returns-in_default-clause-continu
 returns-in_default-clause-continues c = λ b steps.
     let s = c.args.self.now in
     let v = s.walk.geometry.layout in
-    let kept = c.take.ensures.kept v c.args.start c.args.block c.in_range-in_range.ensures in
-    let after = c.take.ensures.after v c.args.start c.args.block c.in_range-in_range.ensures in
+    let replays = c.take.ensures.replays v c.args.start c.args.block c.in_range-in_range.ensures in
+    let kept = replays.kept in
+    let after = replays.after in
     record {
       chunks = run_continues v b s.run_cursor s.run_cursor s.taken s.keeping.cut c.take.new.self.cut
           (replay_in s.keeping) (replay_in c.take.new.self) steps c.args.start c.args.len c.args.block c.take.result
@@ -51,8 +53,9 @@ pub returns-then-not-take-clause-continues : goal.returns-then-not-take-clause-c
 returns-then-not-take-clause-continues c = λ b steps.
     let s = c.args.self.now in
     let v = s.walk.geometry.layout in
-    let kept = c.take.ensures.kept v c.args.start c.args.block c.in_range-in_range.ensures in
-    let after = c.take.ensures.after v c.args.start c.args.block c.in_range-in_range.ensures in
+    let replays = c.take.ensures.replays v c.args.start c.args.block c.in_range-in_range.ensures in
+    let kept = replays.kept in
+    let after = replays.after in
     record {
       chunks = run_continues v b s.run_cursor s.run_cursor s.taken s.keeping.cut c.take.new.self.cut
           (replay_in s.keeping) (replay_in c.take.new.self) steps c.args.start c.args.len c.args.block c.take.result
@@ -71,8 +74,9 @@ pub returns-then-not-in_range-clause-continues : goal.returns-then-not-in_range-
 returns-then-not-in_range-clause-continues c = λ b steps.
     let s = c.args.self.now in
     let v = s.walk.geometry.layout in
-    let kept = c.take.ensures.kept v c.args.start c.args.block c.in_range-in_range.ensures in
-    let after = c.take.ensures.after v c.args.start c.args.block c.in_range-in_range.ensures in
+    let replays = c.take.ensures.replays v c.args.start c.args.block c.in_range-in_range.ensures in
+    let kept = replays.kept in
+    let after = replays.after in
     record {
       chunks = run_continues v b s.run_cursor s.run_cursor s.taken s.keeping.cut c.take.new.self.cut
           (replay_in s.keeping) (replay_in c.take.new.self) steps c.args.start c.args.len c.args.block c.take.result

@@ -73,7 +73,7 @@ chunks-preserved g c =
 
 pub returns-in-Some-clause-place : goal.returns-in-Some-clause-place
 returns-in-Some-clause-place g c = λ b t held.
-    c.take.ensures.chunk ∙ (c.chunks.invariant.place b t held c.in-Some.ensures.place
+    c.take.ensures.same.chunk ∙ (c.chunks.invariant.place b t held c.in-Some.ensures.place
     ∙ ap (λ x. piece (last_place x.run_cursor) 512 b) (sym c.take.ensures.same.chunks))
 
 pub returns-in-Some-clause-inside : goal.returns-in-Some-clause-inside
