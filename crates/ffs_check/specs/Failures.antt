@@ -1,6 +1,7 @@
 -- How many reads and writes failed in a check, by its end: none, or one.
 use Rattle.std.specs.Prelude.{◌≡◌, ◌⊎◌, ℕ}
-use Rattle.ffs_image.specs.Device.{Rose}
+use Rattle.ffs_image.specs.Device.{Device, Rose}
+use Rattle.ffs_report.specs.Sink.{Sink}
 use Rattle.ffs_volume.specs.declared.End.{End}
 use Rattle.ffs_volume.specs.declared.End.TheVariants.{Consistent, Defects, Refused, RootStop}
 use Rattle.ffs_volume.specs.declared.End.TheVariants.{ReadFault, WriteFault, NoMemory}
@@ -24,3 +25,8 @@ WritesFailed NoMemory old new = new ≡ old
 WritesFailed (Refused fault) old new = new ≡ old
 WritesFailed (ReadFault sector) old new = new ≡ old
 WritesFailed WriteFault old new = Rose old new
+
+-- of an image and of an output
+pub record HaveFailed (end : End) (image image' : Device) (out out' : Sink) : Type 0 where
+  pub reads : ReadsFailed end image.failures image'.failures
+  pub writes : WritesFailed end out.failures out'.failures

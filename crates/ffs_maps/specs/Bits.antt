@@ -1,4 +1,4 @@
-use Rattle.std.specs.Prelude.{◌≡◌, ℕ, zero, suc, ◌+◌, ◌/◌, ◌%◌, ◌<◌, Bool, true, false}
+use Rattle.std.specs.Prelude.{◌≡◌, ℕ, zero, suc, ◌+◌, ◌/◌, ◌%◌, ◌<◌, ◌≤◌, Bool, IsTrue, true, false}
 use Rattle.std.specs.Prelude.{not, ◌&&◌, List, map, nat_eq, nat_lt, slice_index, slice_set}
 use Rattle.std.specs.List.{range_with_len, slice_index_or}
 use Rattle.std.specs.Int.{bit_at}
@@ -29,6 +29,21 @@ set_run bits start (suc len) = set_run (slice_set bits start true) (start + 1) l
 -- so many bits from a place on are clear
 abbrev pub AreClear : List Bool → ℕ → ℕ → Type 0
 AreClear bits start len = (k : ℕ) → k < len → slice_index_or bits (start + k) false ≡ false
+
+-- a run of a map of so many fragments lies in one word
+pub record IsInWord (start len n : ℕ) : Type 0 where
+  pub some : 0 < len
+  pub one_word : start % 64 + len ≤ 64
+  pub below : start + len ≤ n
+
+-- a run is claimed where none of its bits was set, and its bits are set then: else nothing is changed. One that lies in
+-- one word is always claimed where none of its bits was set
+pub record Claims (old new : FragmentMap) (start len : ℕ) (claimed_now : Bool) : Type 0 where
+  pub size : new.size ≡ old.size
+  pub clear : IsTrue claimed_now → AreClear (bits_of old) start len
+  pub claimed : IsTrue claimed_now → bits_of new ≡ set_run (bits_of old) start len
+  pub kept : claimed_now ≡ false → new ≡ old
+  pub one_word : start % 64 + len ≤ 64 → AreClear (bits_of old) start len → IsTrue claimed_now
 
 -- a fragment is of the map, and its bit is clear
 abbrev pub is_clear : List Bool → ℕ → ℕ → Bool

@@ -11,7 +11,7 @@
 //! It rests on no other crate of this repository.
 #![tactic(auto)]
 
-ghost use Rattle.std.specs.Prelude.{ℕ, nat_eq, ◌≡◌, ◌+◌, ◌*◌, ◌%◌, ◌<◌, ◌≤◌, ◌-◌, vec_len, length, IfOk, IsTrue, true, false, slice_set, replicate, count_by};
+ghost use Rattle.std.specs.Prelude.{ℕ, nat_eq, ◌≡◌, ◌+◌, ◌*◌, ◌%◌, ◌<◌, ◌≤◌, ◌-◌, vec_len, length, IfOk, true, false, slice_set, replicate, count_by};
 ghost use Rattle.std.specs.List.{slice_index_or, range_with_len};
 ghost use Rattle.std.specs.Int.{div_ceil, bit_at};
 ghost use Rattle.ffs_memory.specs.Account.{Asks};
@@ -29,7 +29,7 @@ pub struct FragmentMap {
 }
 
 impl FragmentMap {
-    ghost use Rattle.ffs_maps.specs.Bits.{bits_of, set_run, is_clear, AreClear, HasBits};
+    ghost use Rattle.ffs_maps.specs.Bits.{bits_of, set_run, is_clear, HasBits, IsInWord, Claims};
 
     /// A map with no bit set, in the memory of an allocator.
     pub fn new(alloc: Global, size: u32) -> Result<FragmentMap, AllocError>
@@ -100,9 +100,7 @@ impl FragmentMap {
 
     // How many bits of a run in one word are set.
     fn count_in_word(&self, start: u32, len: u32) -> u32
-        requires some { 0 < len }
-        requires one_word { start % 64 + len ≤ 64 }
-        requires below { start + len ≤ self.now.size }
+        requires { IsInWord start len self.now.size }
         ensures { result ≡ count_by (λ f. slice_index_or (bits_of self.now) f false)
             (range_with_len start len) }
     {
@@ -170,16 +168,11 @@ impl FragmentMap {
         }
     }
 
-    /// Sets the bits of a run that lies in one word, where none of them is set.
+    /// Sets the bits of a run that lies in one word, where none of them is set. The answer says whether it did.
     pub fn claim(&mut self, start: u32, len: u32) -> bool
         requires some { 0 < len }
         requires below { start + len ≤ self.old.size }
-        ensures size { self.new.size ≡ self.old.size }
-        ensures clear { IsTrue result → AreClear (bits_of self.old) start len }
-        ensures claimed { IsTrue result → bits_of self.new ≡ set_run (bits_of self.old) start len }
-        ensures kept { result ≡ false → self.new ≡ self.old }
-        ensures one_word { start % 64 + len ≤ 64 → AreClear (bits_of self.old) start len
-            → IsTrue result }
+        ensures { Claims self.old self.new start len result }
     {
         let low = start % 64;
         if len > 64 - low {

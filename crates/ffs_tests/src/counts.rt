@@ -119,7 +119,7 @@ fn counted(fragments: i32, number: Number, alloc: Global) -> Result<Vec<u8>, Fai
         &mut report,
     )?;
     phase5(&superblock, &mut image, &mut workspace, &mut report)?;
-    summary(&superblock, &mut workspace, &mut report)?;
+    summary(&superblock, &workspace, &mut report)?;
     Ok(text)
 }
 

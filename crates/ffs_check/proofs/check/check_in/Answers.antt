@@ -23,17 +23,17 @@ returns-in-Ok-clause-headline g c =
 pub returns-in-Ok-clause-unread : goal.returns-in-Ok-clause-unread
 returns-in-Ok-clause-unread g c at e = absurd (not_refused _ _ _ _ _ _ _ c.check_found.ensures.followed e)
 
-pub returns-in-Err-clause-reads : goal.returns-in-Err-clause-reads
-returns-in-Err-clause-reads g c = reads_failed _ _ _ _ _ _ _ (returns-in-Err-clause-headline g c)
+pub returns-in-Err-clause-failures : goal.returns-in-Err-clause-failures
+returns-in-Err-clause-failures g c = record {
+  reads = reads_failed _ _ _ _ _ _ _ (returns-in-Err-clause-headline g c);
+  writes = writes_failed _ _ _ _ _ _ _ (returns-in-Err-clause-headline g c);
+}
 
-pub returns-in-Err-clause-writes : goal.returns-in-Err-clause-writes
-returns-in-Err-clause-writes g c = writes_failed _ _ _ _ _ _ _ (returns-in-Err-clause-headline g c)
-
-pub returns-in-Ok-clause-reads : goal.returns-in-Ok-clause-reads
-returns-in-Ok-clause-reads g c = reads_failed _ _ _ _ _ _ _ (returns-in-Ok-clause-headline g c)
-
-pub returns-in-Ok-clause-writes : goal.returns-in-Ok-clause-writes
-returns-in-Ok-clause-writes g c = writes_failed _ _ _ _ _ _ _ (returns-in-Ok-clause-headline g c)
+pub returns-in-Ok-clause-failures : goal.returns-in-Ok-clause-failures
+returns-in-Ok-clause-failures g c = record {
+  reads = reads_failed _ _ _ _ _ _ _ (returns-in-Ok-clause-headline g c);
+  writes = writes_failed _ _ _ _ _ _ _ (returns-in-Ok-clause-headline g c);
+}
 
 pub returns-in-Ok-clause-memory : goal.returns-in-Ok-clause-memory
 returns-in-Ok-clause-memory g c =

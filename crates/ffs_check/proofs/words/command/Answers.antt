@@ -8,8 +8,8 @@ use Rattle.ffs_check.proofs.Asked.{lettered, parsed}
 use Rattle.ffs_check.specs.Words.{image_rule, no_rule, sector_rule, unnamed}
 use Rattle.ffs_check.proofs.words.command.Goals as goal
 
-pub returns-clause-made : goal.returns-clause-made
-returns-clause-made c =
+pub returns : goal.returns
+returns c =
     let short_is : rule_of c.short.result ≡ record (new_rule (codes "no")) { short = Some 110 } =
     rw (c.short.ensures) (ap (λ (r : Rule). record r { short = Some 110 }) c.new.ensures.rule) in
     let letter_is = lettered c.short.result c.in_ok-visible_short_alias.field-0 78 c.in_ok-visible_short_alias.ensures

@@ -9,10 +9,10 @@ use Rattle.ffs_check.proofs.Asked.{free, memory_alone, sector_read, simple, text
 use Rattle.ffs_check.specs.Words.{program}
 use Rattle.ffs_check.proofs.words.read_words.Goals as goal
 
-pub returns-clause-asked : goal.returns-clause-asked
-returns-clause-asked c =
+pub returns : goal.returns
+returns c =
     let words = map (λ word. word.now) c.args.words.now in
-    let is : app_of c.in_ok-command.field-0 ≡ program = c.in_ok-command.ensures.made in
+    let is : app_of c.in_ok-command.field-0 ≡ program = c.in_ok-command.ensures in
     let f = found_of c.in_ok-matches.matches in
     let all : HasMatchesOf (app_of c.in_ok-command.field-0) words c.in_ok-matches.matches =
     c.in_ok-matches.ensures.matches in
@@ -30,10 +30,10 @@ returns-clause-asked c =
           (λ t e. c.get_one.ensures.value t (one_text-rows f (codes "sector") ∙ ap (one_of (codes "sector")) rows ∙ e));
     }
 
-pub returns-in_err-matches-clause-refused : goal.returns-in_err-matches-clause-refused
-returns-in_err-matches-clause-refused c =
+pub returns-in_err-matches : goal.returns-in_err-matches
+returns-in_err-matches c =
     let words = map (λ word. word.now) c.args.words.now in
-    let is : app_of c.in_ok-command.field-0 ≡ program = c.in_ok-command.ensures.made in
+    let is : app_of c.in_ok-command.field-0 ≡ program = c.in_ok-command.ensures in
     let p = err_from_is_err_and c.from_residual-in_err-matches.result c.from_residual-in_err-matches.ensures.1 in
     rw (p.1, p.2) (λ none. memory_alone (fault_of (app_of c.in_ok-command.field-0) words) c.in_err-matches.field-0.0
     (ap (λ (a : App). fault_of a words) is ∙ none)
