@@ -43,16 +43,23 @@ const LOST: [Number; 4] = [
     (29168, 4, 7),
 ];
 
-#[test]
-fn reports_cut_off_directories(rt: HostRuntime) -> Result<(), Fail> {
+// What the connectivity check prints of them, and whether it found a defect.
+fn reported(alloc: Global) -> Result<(Vec<u8>, bool), Fail> {
     let geometry = geometry(Order::Little)?;
-    let mut workspace = surveyed(rt.alloc(), &geometry)?;
-    let mut image = image_of(Order::Little, &LOST, rt.alloc())?;
-    let mut text = Vec::new(rt.alloc());
+    let mut workspace = surveyed(alloc, &geometry)?;
+    let mut image = image_of(Order::Little, &LOST, alloc)?;
+    let mut text = Vec::new(alloc);
     let mut out = Counted::new(&mut text);
     let mut report = Report::new(&mut out);
-    assert!(rt; phase3(&geometry, &mut image, &mut workspace, &mut report).is_ok());
-    assert!(rt; report.any_defect());
+    phase3(&geometry, &mut image, &mut workspace, &mut report)?;
+    let defect = report.any_defect();
+    Ok((text, defect))
+}
+
+#[test]
+fn reports_cut_off_directories(rt: HostRuntime) -> Result<(), Fail> {
+    let (text, defect) = reported(rt.alloc())?;
+    assert!(rt; defect);
     assert_eq!(rt;
         text.as_slice(),
         b"** Phase 3 - Check Connectivity\nUNREF DIR I=3 OWNER=7 MODE=40755\nSIZE=512 MTIME=86400\nRECONNECT? no\n\nUNREF DIR I=5 OWNER=0 MODE=0\nSIZE=0 MTIME=0\nRECONNECT? no\n\nUNREF DIR I=7 OWNER=0 MODE=0\nSIZE=0 MTIME=0\nRECONNECT? no\n\n".as_slice()

@@ -53,15 +53,21 @@ const INODES: [Number; 10] = [
     (29570, 2, 1),
 ];
 
-#[test]
-fn reference_check(rt: HostRuntime) -> Result<(), Fail> {
+// What the reference check prints of them.
+fn reported(alloc: Global) -> Result<Vec<u8>, Fail> {
     let geometry = geometry(Order::Big)?;
-    let mut workspace = referred(rt.alloc(), &geometry)?;
-    let mut image = image_of(Order::Big, &INODES, rt.alloc())?;
-    let mut text = Vec::new(rt.alloc());
+    let mut workspace = referred(alloc, &geometry)?;
+    let mut image = image_of(Order::Big, &INODES, alloc)?;
+    let mut text = Vec::new(alloc);
     let mut out = Counted::new(&mut text);
     let mut report = Report::new(&mut out);
-    assert!(rt; phase4(&geometry, &mut image, &mut workspace, &mut report).is_ok());
+    phase4(&geometry, &mut image, &mut workspace, &mut report)?;
+    Ok(text)
+}
+
+#[test]
+fn reference_check(rt: HostRuntime) -> Result<(), Fail> {
+    let text = reported(rt.alloc())?;
     assert_eq!(rt;
         text.as_slice(),
         b"** Phase 4 - Check Reference Counts\nUNREF FILE I=3 OWNER=0 MODE=100644\nSIZE=0 MTIME=0\nRECONNECT? no\n\nCLEAR? no\n\nUNREF FILE I=4 OWNER=0 MODE=100644\nSIZE=0 MTIME=0\nCLEAR? no\n\nLINK COUNT FILE I=5 OWNER=0 MODE=100600\nSIZE=0 MTIME=0\nCOUNT=1 SHOULD BE 2\nADJUST? no\n\nZERO LENGTH DIR I=6 OWNER=0 MODE=40700\nSIZE=0 MTIME=0\nCLEAR? no\n\nBAD/DUP FILE I=7 OWNER=0 MODE=100644\nSIZE=0 MTIME=0\nCLEAR? no\n\n".as_slice()

@@ -1,8 +1,8 @@
 use Rattle.std.proofs.Common.{arith, rules}
-use Rattle.ffs_tests.proofs.counts.reference_check.Goals as goal
+use Rattle.ffs_tests.proofs.counts.reported.Goals as goal
 
 pub phase4-requires : goal.phase4-requires
-phase4-requires g c = record {
+phase4-requires c = record {
   ready = record {
     made = c.in_ok-workspace.ensures.made;
     volume = search (rules, arith);
