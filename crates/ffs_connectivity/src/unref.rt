@@ -48,8 +48,7 @@ pub fn check_inode<I: Image, W: Output>(
     report: &mut Report<'_, W>,
 ) -> Result<(), RunFault>
     requires ready { IsReady geometry.now.layout (I.device image.old) workspace.old }
-    requires low { 2 ≤ number }
-    requires number { number < inodes_of geometry.now.layout }
+    requires number { (2 ≤ number) × (number < inodes_of geometry.now.layout) }
     requires leaders { HasLeaders workspace.old }
     ensures runs { PhaseRuns (λ bytes. IsContents (I.device image.old).contents bytes
         × HoldsClaims geometry.now.layout bytes workspace.old

@@ -16,7 +16,6 @@ use ffs_layout::Geometry;
 use ffs_workspace::Workspace;
 
 /// Reads the records of a group, and compares them with what they should be.
-#[tactic(auto, using(crate::proofs::Places::block_inside, crate::proofs::Places::record_inside))]
 pub fn read_group<I: Image>(
     geometry: &Geometry,
     image: &mut I,

@@ -16,7 +16,7 @@ returns-then-not-cut_off-clause-runs g c =
       text = of_same _ (λ bytes. map of_names (cut_off_lines (volume_of v bytes) c.args.number)) (λ bytes. []) _ _ _
           (of_begins _ (λ bytes. map of_names (cut_off_lines (volume_of v bytes) c.args.number)) _)
           (λ bytes k. silent _ _ (sym
-          (cut_off_is v bytes c.args.workspace.now _ _ _ _ _ c.args.number _ c.requires.low c.requires.number
+          (cut_off_is v bytes c.args.workspace.now _ _ _ _ _ c.args.number _ c.requires.number.0 c.requires.number.1
           (omega arith) c.deref.ensures.value c.deref-2.ensures.value c.deref-3.ensures.value c.deref-4.ensures.value
           c.deref-5.ensures.value c.is_unref-cut_off.ensures k.1 k.2) ∙ c.if-not-cut_off.true));
     }
@@ -41,7 +41,7 @@ returns-in_err-say-clause-runs g c =
           (of_names (unref_dir c.attr_of.result) ∷ []) _ _ _
           (of_begins _ (λ bytes. map of_names (cut_off_lines (volume_of v bytes) c.args.number)) _)
           (λ bytes k. heard _ _ (sym
-          (cut_off_is v bytes c.args.workspace.now _ _ _ _ _ c.args.number _ c.requires.low c.requires.number
+          (cut_off_is v bytes c.args.workspace.now _ _ _ _ _ c.args.number _ c.requires.number.0 c.requires.number.1
           (omega arith) c.deref.ensures.value c.deref-2.ensures.value c.deref-3.ensures.value c.deref-4.ensures.value
           c.deref-5.ensures.value c.is_unref-cut_off.ensures k.1 k.2) ∙ c.if-not-cut_off.false)
           ∙ ap (λ (a : Attr). of_names (unref_dir a) ∷ [])
@@ -59,7 +59,7 @@ returns-clause-runs g c =
           (of_names (unref_dir c.attr_of.result) ∷ []) _ _ _
           (of_begins _ (λ bytes. map of_names (cut_off_lines (volume_of v bytes) c.args.number)) _)
           (λ bytes k. heard _ _ (sym
-          (cut_off_is v bytes c.args.workspace.now _ _ _ _ _ c.args.number _ c.requires.low c.requires.number
+          (cut_off_is v bytes c.args.workspace.now _ _ _ _ _ c.args.number _ c.requires.number.0 c.requires.number.1
           (omega arith) c.deref.ensures.value c.deref-2.ensures.value c.deref-3.ensures.value c.deref-4.ensures.value
           c.deref-5.ensures.value c.is_unref-cut_off.ensures k.1 k.2) ∙ c.if-not-cut_off.false)
           ∙ ap (λ (a : Attr). of_names (unref_dir a) ∷ [])

@@ -1,5 +1,5 @@
-use Rattle.std.proofs.Common.{arith}
-use Rattle.ffs_counts.proofs.Places.{record_inside}
+use Rattle.std.proofs.Common.{arith, ap}
+use Rattle.ffs_counts.proofs.Places.{block_inside, record_inside}
 use Rattle.ffs_counts.proofs.groups.read_group.Goals as goal
 
 pub fill-requires-clause-inside : goal.fill-requires-clause-inside
@@ -9,4 +9,14 @@ fill-requires-clause-inside g c =
       c.summary_place-place.ensures,
       record_inside c.args.geometry.now.layout c.args.group c.args.geometry.now.sound c.requires.group,
       c.requires.ready.volume,
+    )
+
+pub fill-requires-2-clause-inside : goal.fill-requires-2-clause-inside
+fill-requires-2-clause-inside g c =
+    omega (
+      arith,
+      c.group_place-place.ensures,
+      block_inside c.args.geometry.now.layout c.args.group c.args.geometry.now.sound c.requires.group,
+      c.requires.ready.volume,
+      ap (λ d. d.size) c.in_ok-fill.ensures.read,
     )
