@@ -1,7 +1,24 @@
--- The bytes at a place of a source.
-use Rattle.std.specs.Prelude.{◌≡◌, ℕ, List, length, drop, take, Option}
-use Rattle.ffs_image.specs.Device.{ForContents}
+-- What a source of an image's bytes gives, and what a read does to it.
+use Rattle.std.specs.Prelude.{◌≡◌, ℕ, List, length, drop, take, Option, Result, Ok, Err}
+use Rattle.ffs_image.specs.Device.{ForContents, Rose}
+
+-- its bytes where it gives them, its size in bytes, and how many reads have failed
+pub record Stock : Type 0 where
+  pub contents : Option (List ℕ)
+  pub size : ℕ
+  pub failures : ℕ
 
 -- these are the bytes at a place, where a source reports its bytes
 abbrev pub AreAt : Option (List ℕ) → ℕ → List ℕ → Type 0
 AreAt contents at xs = ForContents contents (λ bytes. xs ≡ take (length xs) (drop at bytes))
+
+-- what a failed read leaves: one more failure, and all else as it was
+pub record IsFailed (old new : Stock) : Type 0 where
+  pub contents : new.contents ≡ old.contents
+  pub size : new.size ≡ old.size
+  pub rose : Rose old.failures new.failures
+
+-- a failed read is counted, and no other answer touches the source
+abbrev pub StockAfter : {T E : Type 0} → Stock → Stock → Result T E → Type 0
+StockAfter old new (Ok x) = new ≡ old
+StockAfter old new (Err fault) = IsFailed old new

@@ -34,7 +34,8 @@ impl SourceImage<OpenedFile> {
 }
 
 impl<S: Source> Image for SourceImage<S> {
-    ghost device = { λ i. record { contents = S.contents i.source; size = S.size i.source; failures = S.failures i.source; failed = i.failed } };
+    ghost device = { λ i. let s = S.stock i.source in
+        record { contents = s.contents; size = s.size; failures = s.failures; failed = i.failed } };
 
     ghost sized = { λ i. S.sized i.source };
 

@@ -52,11 +52,7 @@ impl OpenedFile {
 impl Source for OpenedFile {
     ghost use Rattle.std.specs.Prelude.{None};
 
-    ghost contents = { λ _. None };
-
-    ghost size = { λ f. f.size };
-
-    ghost failures = { λ f. f.failures };
+    ghost stock = { λ f. record { contents = None; size = f.size; failures = f.failures } };
 
     ghost sized = { λ _. tt };
 

@@ -1,13 +1,16 @@
 -- What is left of a walk.
-use Rattle.std.specs.Prelude.{◌≡◌, ℕ, zero, suc, ◌+◌, ◌-◌, ◌*◌, List, ◌++◌, if◌then◌else◌}
+use Rattle.std.specs.Prelude.{◌≡◌, ℕ, zero, suc, ◌+◌, ◌-◌, ◌*◌, ◌≤◌, List, ◌∷◌, ◌++◌, if◌then◌else◌}
 use Rattle.ffs_volume.specs.declared.Step.{Step}
 use Rattle.ffs_volume.specs.declared.Inode.{Inode}
 use Rattle.ffs_volume.specs.Blocks.Inodes.{logical_blocks_of}
-use Rattle.ffs_volume.specs.Blocks.Steps.{FileBlocks, steps_at, steps_of, steps_of_addresses, walks}
+use Rattle.ffs_volume.specs.Blocks.Steps.{FileBlocks, data_step, indirect_steps, steps_at, steps_of, steps_of_addresses, walks}
 use Rattle.ffs_layout.specs.declared.geometry.Geometry.{Geometry}
 use Rattle.ffs_walk.specs.declared.walk.Walk.{Walk}
-use Rattle.ffs_walk.specs.Frames.{frame_rest, frame_left}
-use Rattle.ffs_walk.specs.Fits.{IsSpent}
+use Rattle.ffs_walk.specs.declared.frame.Frame.{Frame}
+use Rattle.ffs_walk.specs.declared.frame.Item.{Item}
+use Rattle.ffs_walk.specs.Frames.{frame_rest, frame_left, item_steps, item_left}
+use Rattle.ffs_walk.specs.Fits.{FrameFits, IsSpent}
+use Rattle.ffs_walk.specs.Lengths.{IsStepOf}
 
 abbrev pub extent_of : Walk → FileBlocks
 extent_of w = record { geometry = w.geometry.layout; blocks = w.blocks; last = w.last }
@@ -67,3 +70,25 @@ pub record IsWalkOf (g : Geometry) (inode : Inode) (w : Walk) : Type 0 where
   pub steps : (bytes : List ℕ) → rest bytes w ≡ steps_of g.layout inode bytes
   pub geometry : w.geometry ≡ g
   pub blocks : w.blocks ≡ (if walks g.layout inode then logical_blocks_of g.layout inode else 0)
+
+-- the step is that at the address of a data block
+pub record IsDataStep (w : Walk) (address block : ℕ) (made : Step) : Type 0 where
+  pub step : made ≡ data_step (extent_of w) address block
+  pub fits : IsStepOf w.geometry.layout.frag w.blocks made
+
+-- the step and those of the frame are all at the address of an indirect block
+pub record Enters (w : Walk) (span address first : ℕ) (made : Step) (frame : Frame) : Type 0 where
+  pub steps : (bytes : List ℕ) (child : ℕ → ℕ → List Step) →
+      indirect_steps (extent_of w) bytes child span address first
+      ≡ made ∷ frame_rest w.geometry.layout bytes child span frame
+  pub step : IsStepOf w.geometry.layout.frag w.blocks made
+  pub left : (most : ℕ) → frame_left most frame ≤ 1 + w.geometry.layout.nindir * most
+  pub fits : FrameFits w.geometry.layout w.blocks span frame
+
+-- the step is the first that an item of a level means, and the walk has the others left, before those that it had
+pub record IsFirstOf (level : ℕ) (item : Item) (old new : Walk) (step : Step) : Type 0 where
+  pub steps : (bytes : List ℕ) → item_steps (steps_at (extent_of old) bytes level) item ++ rest bytes old
+      ≡ step ∷ rest bytes new
+  pub fits : IsStepOf old.geometry.layout.frag old.blocks step
+  pub left : 1 + left new ≤ item_left (most_at old.geometry.layout.nindir level) item + left old
+  pub same : SameExtent old new

@@ -52,14 +52,13 @@ impl Walk {
     ghost use Rattle.ffs_walk.specs.Fits.{IsSpent, IsBelow, IsIndirect};
     ghost use Rattle.ffs_walk.specs.Lengths.{IsStepOf};
     ghost use Rattle.ffs_walk.specs.Frames.{frame_rest, frame_left, item_steps, item_left};
-    ghost use Rattle.ffs_walk.specs.Rests.{rest, left, most_at, extent_of, IsAtTop, IsOver, IsWalkOf, SameExtent};
+    ghost use Rattle.ffs_walk.specs.Rests.{rest, left, extent_of, Enters, IsAtTop, IsDataStep, IsFirstOf, IsOver, IsWalkOf, SameExtent};
     ghost use Rattle.ffs_walk.specs.Windows.{BlocksHold, CanWalk, HasRoom, KeepsBlocks};
 
     /// The step at the address of a data block.
     fn data(&self, address: u32, block: u64) -> Step
         requires { block < self.now.blocks }
-        ensures step { result ≡ data_step (extent_of self.now) address block }
-        ensures fits { IsStepOf self.now.geometry.layout.frag self.now.blocks result }
+        ensures { IsDataStep self.now address block result }
     {
         if address == 0 {
             return Step::Gap;
@@ -79,8 +78,7 @@ impl Walk {
     /// The step at the address of a data block that isn't direct.
     fn indirect_data(&self, address: u32, block: u64) -> Step
         requires { IsIndirect self.now.blocks block }
-        ensures step { result ≡ data_step (extent_of self.now) address block }
-        ensures fits { IsStepOf self.now.geometry.layout.frag self.now.blocks result }
+        ensures { IsDataStep self.now address block result }
     {
         if address == 0 {
             return Step::Gap;
@@ -96,13 +94,7 @@ impl Walk {
     fn enter(&self, span: u64, address: u32, first: u64) -> (Step, Frame)
         requires span { 0 < span }
         requires first { IsIndirect self.now.blocks first }
-        ensures steps { (bytes : List ℕ) (child : ℕ → ℕ → List Step) →
-            indirect_steps (extent_of self.now) bytes child span address first
-            ≡ result.0 ∷ frame_rest self.now.geometry.layout bytes child span result.1 }
-        ensures step { IsStepOf self.now.geometry.layout.frag self.now.blocks result.0 }
-        ensures left { (most : ℕ) → frame_left most result.1
-            ≤ 1 + self.now.geometry.layout.nindir * most }
-        ensures fits { FrameFits self.now.geometry.layout self.now.blocks span result.1 }
+        ensures { Enters self.now span address first result.0 result.1 }
     {
         if address == 0 {
             return (Step::Gap, Frame::spent());
@@ -146,12 +138,7 @@ impl Walk {
     fn step_in_double(&mut self, item: Item) -> Step
         requires spent { IsSpent self.old.single }
         requires below { IsBelow self.old.blocks item }
-        ensures steps { (bytes : List ℕ) → item_steps (steps_at (extent_of self.old) bytes 1) item
-            ++ rest bytes self.old ≡ result ∷ rest bytes self.new }
-        ensures fits { IsStepOf self.old.geometry.layout.frag self.old.blocks result }
-        ensures left { 1 + left self.new
-            ≤ item_left (most_at self.old.geometry.layout.nindir 1) item + left self.old }
-        ensures same { SameExtent self.old self.new }
+        ensures { IsFirstOf 1 item self.old self.new result }
     {
         match item {
             Item::Missing => Step::Tail,
@@ -167,12 +154,7 @@ impl Walk {
     fn step_in_triple(&mut self, item: Item) -> Step
         requires spent { (IsSpent self.old.single) × (IsSpent self.old.double) }
         requires below { IsBelow self.old.blocks item }
-        ensures steps { (bytes : List ℕ) → item_steps (steps_at (extent_of self.old) bytes 2) item
-            ++ rest bytes self.old ≡ result ∷ rest bytes self.new }
-        ensures fits { IsStepOf self.old.geometry.layout.frag self.old.blocks result }
-        ensures left { 1 + left self.new
-            ≤ item_left (most_at self.old.geometry.layout.nindir 2) item + left self.old }
-        ensures same { SameExtent self.old self.new }
+        ensures { IsFirstOf 2 item self.old self.new result }
     {
         match item {
             Item::Missing => Step::Tail,

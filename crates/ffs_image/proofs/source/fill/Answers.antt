@@ -1,4 +1,4 @@
-use Rattle.std.proofs.Common.{◌∙◌}
+use Rattle.std.proofs.Common.{◌∙◌, ap}
 use Rattle.ffs_image.proofs.Sources.{filled_more, filled_within}
 use Rattle.ffs_image.proofs.source.fill.Goals as goal
 
@@ -8,9 +8,7 @@ loop-filled-preserved g c =
     let given = c.in_ok-filled.ensures in
     record {
       within = filled_within _ _ c.loop-filled.buf c.read_some.new.buf before.within given.some.1;
-      contents = given.contents ∙ before.contents;
-      size = given.size ∙ before.size;
-      failures = given.ok ∙ before.failures;
+      left = given.left ∙ before.left;
       bytes = filled_more _ _ _ _ c.loop-filled.buf c.read_some.new.buf before.within given.some.1 before.bytes
-          (λ bytes t. given.bytes bytes (before.contents ∙ t));
+          (λ bytes t. given.bytes bytes (ap (λ s. s.contents) before.left ∙ t));
     }

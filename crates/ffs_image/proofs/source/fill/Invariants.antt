@@ -5,10 +5,8 @@ use Rattle.ffs_image.proofs.source.fill.Given as goal
 abbrev pub invariant-loop-filled : goal.invariant-loop-filled
 invariant-loop-filled g l = record {
   within : l.filled ≤ length l.buf;
-  contents : g.S.Source.contents l.source ≡ g.S.Source.contents l.initial.source;
-  size : g.S.Source.size l.source ≡ g.S.Source.size l.initial.source;
-  failures : g.S.Source.failures l.source ≡ g.S.Source.failures l.initial.source;
-  bytes : AreAt (g.S.Source.contents l.initial.source) l.at (take l.filled l.buf);
+  left : g.S.Source.stock l.source ≡ g.S.Source.stock l.initial.source;
+  bytes : AreAt (g.S.Source.stock l.initial.source).contents l.at (take l.filled l.buf);
 }
 
 abbrev pub decreases-loop-filled : goal.decreases-loop-filled
