@@ -11,6 +11,6 @@ abbrev pub replay_in : Keeping → Replay
 replay_in k = record { bad = k.bad; kept = k.kept }
 
 -- a step is replayed: whether it is kept, and the replay after it
-pub record Replays (v : Layout) (step : Step) (old new : Keeping) (is_kept : Bool) : Type 0 where
-  pub kept : is_kept ≡ is_replayed v old.cut (replay_in old) step
+pub record Replays (v : Layout) (step : Step) (old new : Keeping) (stays : Bool) : Type 0 where
+  pub kept : stays ≡ is_replayed v old.cut (replay_in old) step
   pub after : replay_in new ≡ replay_step_by_cut v old.cut (replay_in old) step
