@@ -198,11 +198,13 @@ store-requires g c =
     let kinds = ap (λ w. vec_len w.kinds) c.begin.ensures in
     let marked = ap (λ w. vec_len w.marked) c.begin.ensures in
     let cut = ap (λ w. vec_len w.cut) c.begin.ensures in
+    let references = ap (λ w. vec_len w.references) c.begin.ensures in
     record {
       number = record {
         kinds = omega (arith, made.kinds);
         marked = omega (arith, made.marked);
         cut = omega (arith, made.cut);
+        references = omega (arith, made.references);
       };
     }
 

@@ -139,7 +139,7 @@ loop-number-preserved g c =
           (cut_in v bytes n s s' inside (inv.claims bytes k) (now bytes (contents ∙ k.0))) (inv.cut bytes k);
       starts = λ bytes k. filled_next 0 (start_at v bytes) c.loop-number.workspace.references.items
           c.claim_inode.new.workspace.references.items n _
-          (omega (arith, inv.ready.made.references)) (stored bytes (contents ∙ k.0)).starts
+          (omega (arith, inv.ready.ready.made.references)) (stored bytes (contents ∙ k.0)).starts
           (start_in v bytes n inside) (inv.starts bytes k);
       said = of_same _ (λ bytes. of_lines
           (lines_of_owners v (after_owner v s (owner_of v bytes n)) (owners_from v bytes (n + 1))))

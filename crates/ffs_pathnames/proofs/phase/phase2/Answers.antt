@@ -100,8 +100,8 @@ returns-clause-references g c =
     let v = c.args.geometry.now.layout in
     let found = c.in_ok-survey.ensures in
     on_all c.check_tree.result _
-    (λ b k. references_left v b _ _ c.check_tree.ensures.survey
-    (references_left v b _ _ c.clear_marks.ensures.survey (found.references b k.0 k.1 k.2)))
+    (λ b k. references_left v b _ _ c.check_tree.ensures.leaves.survey
+    (references_left v b _ _ c.clear_marks.ensures.clear.survey (found.references b k.0 k.1 k.2)))
 
 pub check_tree-requires : goal.check_tree-requires
 check_tree-requires g c = c.clear_marks.ensures.ready _ _ c.in_ok-survey.ensures.ready
