@@ -16,7 +16,7 @@ ghost use Rattle.ffs_counts.specs.Ready.{HasPlace, IsFreeRun};
 ghost use Rattle.ffs_counts.specs.References.{is_dead_by, is_met};
 
 use crate::reference::{line_for, references_by, say_line};
-use ffs_groups::inodes::are_used;
+use ffs_groups::are_used;
 use ffs_image::Image;
 use ffs_layout::Geometry;
 use ffs_phase::RunFault;

@@ -19,7 +19,7 @@ ghost use Rattle.ffs_groups.specs.Inputs.{HasFragments};
 ghost use Rattle.ffs_workspace.specs.Holds.{HoldsClaims};
 ghost use Rattle.ffs_workspace.specs.Lengths.{IsFor};
 
-use ffs_groups::maps::group_fragments;
+use ffs_groups::group_fragments;
 use ffs_layout::{Geometry, Super};
 use ffs_maps::FragmentMap;
 use ffs_phase::RunFault;

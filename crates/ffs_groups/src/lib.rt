@@ -12,11 +12,13 @@
 //! It rests on `ffs_maps` and `ffs_layout`.
 #![tactic(auto)]
 
-pub mod check;
-pub mod counts;
-pub mod free;
-pub mod inodes;
-pub mod maps;
+mod check;
+mod counts;
+mod free;
+mod inodes;
+mod maps;
 
 pub use check::{Findings, compare_group};
 pub use counts::{Counts, SummaryCounts, group_counts};
+pub use inodes::are_used;
+pub use maps::group_fragments;

@@ -12,16 +12,16 @@
 //! It rests on `ffs_volume` and `ffs_image`.
 #![tactic(auto)]
 
-pub mod entry;
+mod entry;
 mod fields;
-pub mod geometry;
-pub mod group;
+mod geometry;
+mod group;
 mod groups;
-pub mod inode;
+mod inode;
 mod layout;
 mod numbers;
 mod shape;
-pub mod superblock;
+mod superblock;
 
 pub use entry::{Entry, entry_at};
 pub use ffs_volume::{Inode, Layout, Order, SuperFault};

@@ -1,10 +1,10 @@
 //! The memory of a check: what grants it, and what counts it.
 #![tactic(auto)]
 
-pub mod fixed_list;
-pub mod fuse;
-pub mod memory;
-pub mod system;
+mod fixed_list;
+mod fuse;
+mod memory;
+mod system;
 
 pub use fixed_list::FixedList;
 pub use fuse::FuseMemory;

@@ -10,14 +10,14 @@
 //! It rests on `ffs_survey`, `ffs_workspace` and `ffs_walk`.
 #![tactic(auto)]
 
-pub mod chunks;
-pub mod entries;
-pub mod gap;
-pub mod graph;
-pub mod keeping;
-pub mod role;
-pub mod run_cursor;
-pub mod tree;
+mod chunks;
+mod entries;
+mod gap;
+mod graph;
+mod keeping;
+mod role;
+mod run_cursor;
+mod tree;
 
 pub use chunks::Chunks;
 pub use entries::Entries;

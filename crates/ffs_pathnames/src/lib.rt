@@ -10,21 +10,21 @@
 //! It rests on `ffs_paths`, `ffs_names` and `ffs_phase`.
 #![tactic(auto)]
 
-pub mod again;
-pub mod check;
-pub mod clear;
-pub mod directory;
-pub mod entries;
-pub mod examine;
-pub mod header;
+mod again;
+mod check;
+mod clear;
+mod directory;
+mod entries;
+mod examine;
+mod header;
 pub mod inodes;
-pub mod lines;
-pub mod look;
-pub mod phase;
-pub mod root;
-pub mod say;
-pub mod tell;
-pub mod tree;
+mod lines;
+mod look;
+mod phase;
+mod root;
+mod say;
+mod tell;
+mod tree;
 pub mod verdict;
 
 pub use phase::{Root, phase2};

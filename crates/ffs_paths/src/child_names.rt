@@ -9,7 +9,7 @@ use crate::search::Search;
 use ffs_image::{Image, ImageFault};
 use ffs_layout::Geometry;
 use ffs_names::Entries;
-use ffs_survey::named::{Named, is_plain};
+use ffs_survey::{Named, is_plain};
 use ffs_workspace::Windows;
 
 /// How many numbers a table of names is for.

@@ -7,13 +7,13 @@
 //! It rests on `ffs_names` and `ffs_workspace`.
 #![tactic(auto)]
 
-pub mod buffer;
-pub mod child_names;
-pub mod climb;
-pub mod kept;
-pub mod path;
-pub mod search;
-pub mod siblings;
+mod buffer;
+mod child_names;
+mod climb;
+mod kept;
+mod path;
+mod search;
+mod siblings;
 
 pub use buffer::{PathBuffer, PathText};
 pub use kept::DirectoryPath;

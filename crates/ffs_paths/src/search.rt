@@ -10,7 +10,7 @@ ghost use Rattle.ffs_paths.specs.Climbing.{AreOpen, ReadsOpen};
 use ffs_image::{Image, ImageFault};
 use ffs_layout::Geometry;
 use ffs_names::Entries;
-use ffs_survey::named::{Named, is_plain};
+use ffs_survey::{Named, is_plain};
 use ffs_workspace::Windows;
 
 /// Whether an entry names an inode in the directory tree.

@@ -7,6 +7,6 @@
 //! It rests on `ffs_image` and `ffs_report`.
 #![tactic(auto)]
 
-pub mod fault;
+mod fault;
 
 pub use fault::RunFault;

@@ -14,21 +14,22 @@
 //! It rests on `ffs_volume`.
 #![tactic(auto)]
 
-pub mod counted;
-pub mod fuse;
-pub mod line;
+mod counted;
+mod fuse;
+mod line;
 mod line_buffer;
 mod names;
-pub mod output;
-pub mod piece;
+mod output;
+mod piece;
 pub mod print;
-pub mod report;
+mod report;
 mod say;
-pub mod silent;
+mod silent;
 
 pub use counted::Counted;
 pub use fuse::FuseWriter;
 pub use line::{DirectoryLine, DotLine, EntryLine, Heading, Line, ReferenceLine};
 pub use output::{OutFault, Output};
+pub use piece::Piece;
 pub use report::Report;
 pub use silent::SilentWriter;

@@ -8,15 +8,15 @@
 //! It rests on `ffs_volume` and `ffs_image`.
 #![tactic(auto)]
 
-pub mod cycles;
-pub mod directories;
+mod cycles;
+mod directories;
 mod discover;
-pub mod levels;
-pub mod named;
-pub mod unref;
+mod levels;
+mod named;
+mod unref;
 
 pub use cycles::mark_leaders;
 pub use directories::Directories;
 pub use levels::survey;
-pub use named::{Named, is_dir};
+pub use named::{Named, is_dir, is_plain};
 pub use unref::{is_dead, is_suspect, is_unref};

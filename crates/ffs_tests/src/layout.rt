@@ -2,10 +2,7 @@
 
 use super::volume::{Number, ORDERS, put};
 use ffs_image::MemoryImage;
-use ffs_layout::entry::entry_at;
-use ffs_layout::group::Group;
-use ffs_layout::inode::decode_inode;
-use ffs_layout::superblock::{Super, read_super};
+use ffs_layout::{Group, Super, decode_inode, entry_at, read_super};
 use ffs_volume::{Order, SuperFault};
 use std::alloc::{AllocError, Global};
 use std::test::Fail;

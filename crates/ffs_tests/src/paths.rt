@@ -1,6 +1,5 @@
 //! Paths about the limit of 1,024 bytes.
-use ffs_paths::DirectoryPath;
-use ffs_paths::buffer::{PathBuffer, PathText};
+use ffs_paths::{DirectoryPath, PathBuffer, PathText};
 
 fn written(path: &PathBuffer) -> PathText {
     let mut text = PathText::new();

@@ -11,11 +11,11 @@
 //! It rests on `ffs_layout`.
 #![tactic(auto)]
 
-pub mod blocks;
+mod blocks;
 mod class;
 mod frame;
-pub mod walk;
-pub mod window;
+mod walk;
+mod window;
 mod words;
 
 pub use blocks::Blocks;

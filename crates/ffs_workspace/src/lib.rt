@@ -11,8 +11,8 @@
 #![tactic(auto)]
 
 mod links;
-pub mod table;
-pub mod workspace;
+mod table;
+mod workspace;
 
 pub use links::links_start;
 pub use table::Table;
