@@ -3,26 +3,16 @@
 ghost use Rattle.std.specs.Prelude.{◌≡◌, ◌-◌, map};
 ghost use Rattle.ffs_volume.specs.Messages.Kinds.{of_names};
 ghost use Rattle.ffs_volume.specs.Disk.Numbers.{equals_natural};
-ghost use Rattle.ffs_volume.specs.Directories.PathnameCheck.{label_of};
 ghost use Rattle.ffs_report.specs.Progress.{progress, Says};
+ghost use Rattle.ffs_volume.specs.Directories.PathnameCheck.{label_of};
 ghost use Rattle.ffs_volume.specs.Encodings.Kinds.{class_of_kind};
 ghost use Rattle.ffs_volume.specs.Encodings.Links.{links_start};
 ghost use Rattle.ffs_counts.specs.References.{attr_with, lines_as, reference_reported};
 
 use ffs_report::{Line, OutFault, Output, ReferenceLine, Report};
-use ffs_volume::constants::{DT_DIR, EMPTY_DIR, UNKNOWN_TYPE};
-use ffs_volume::{Attr, Inode, Label};
+use ffs_volume::kinds::Kind;
+use ffs_volume::{Attr, Inode};
 use ffs_workspace::links_start;
-
-fn label_for(kind: u8) -> Label
-    ensures { result ≡ label_of (class_of_kind kind) }
-{
-    match kind {
-        DT_DIR | EMPTY_DIR => Label::Dir,
-        0 | UNKNOWN_TYPE => Label::Name,
-        _ => Label::File,
-    }
-}
 
 fn attr_for(number: u32, inode: &Inode) -> Attr
     ensures { result ≡ attr_with number inode.now }
@@ -67,7 +57,7 @@ pub fn line_for(
         (attr_with number inode.now) inode.now.nlink references }
 {
     let attr = attr_for(number, inode);
-    let label = label_for(kind);
+    let label = Kind { code: kind }.label();
     let count = inode.nlink;
     if dead {
         if marked {

@@ -21,7 +21,8 @@ use ffs_image::Image;
 use ffs_layout::Geometry;
 use ffs_phase::RunFault;
 use ffs_report::{Heading, Line, Output, Report};
-use ffs_volume::constants::{EMPTY_DIR, LINKS_MET, ROOTINO};
+use ffs_volume::constants::{LINKS_MET, ROOTINO};
+use ffs_volume::kinds::Kind;
 use ffs_workspace::Workspace;
 
 // Whether an inode is marked or a directory of size 0, and no entry names it.
@@ -30,7 +31,10 @@ fn is_dead(workspace: &Workspace, number: u32) -> bool
     ensures { result ≡ is_dead_by workspace.now number }
 {
     let place = number as usize;
-    let suspect = workspace.marked[place] || workspace.kinds[place] == EMPTY_DIR;
+    let kind = Kind {
+        code: workspace.kinds[place],
+    };
+    let suspect = workspace.marked[place] || kind.is_empty_dir();
     suspect && number != ROOTINO && !workspace.named[place]
 }
 

@@ -13,7 +13,6 @@ ghost use Rattle.ffs_report.specs.Lines.{message_of};
 ghost use Rattle.ffs_report.specs.Progress.{progress};
 ghost use Rattle.ffs_phase.specs.Runs.{PhaseRuns};
 ghost use Rattle.ffs_image.specs.Device.{Device};
-ghost use Rattle.ffs_volume.specs.Encodings.Kinds.{class_of_kind};
 ghost use Rattle.ffs_groups.specs.Inodes.{class_in};
 ghost use Rattle.ffs_groups.specs.Inputs.{HasFragments};
 ghost use Rattle.ffs_workspace.specs.Holds.{HoldsClaims};
@@ -24,14 +23,8 @@ use ffs_layout::{Geometry, Super};
 use ffs_maps::FragmentMap;
 use ffs_phase::RunFault;
 use ffs_report::{Line, Output, Report};
-use ffs_volume::constants::UNKNOWN_TYPE;
+use ffs_volume::kinds::Kind;
 use ffs_workspace::Workspace;
-
-fn is_file_or_dir_kind(kind: u8) -> bool
-    ensures { result ≡ is_file_or_dir (class_of_kind kind) }
-{
-    kind != 0 && kind != UNKNOWN_TYPE
-}
 
 // How many files and directories there are.
 fn file_count(kinds: &[u8]) -> u32
@@ -41,7 +34,7 @@ fn file_count(kinds: &[u8]) -> u32
 {
     let mut files = 0;
     for inode in 2..kinds.len() {
-        files += u32::from(is_file_or_dir_kind(kinds[inode]));
+        files += u32::from(Kind { code: kinds[inode] }.is_file_or_dir());
     }
     files
 }

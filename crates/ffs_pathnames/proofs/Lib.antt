@@ -17,6 +17,5 @@ pub mod FirstTwo
 pub mod InOrder
 pub mod Begun
 pub mod EmptyLaws
-pub mod RootLaws
 pub mod Carrying
 mod SilentLaws

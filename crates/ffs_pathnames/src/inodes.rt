@@ -1,6 +1,8 @@
-use ffs_volume::constants::{DT_DIR, EMPTY_DIR, ROOTINO, UNKNOWN_TYPE};
 // What is known of the inodes that entries name.
 ghost use Rattle.std.specs.Prelude.{◌≡◌, ◌<◌, length, slice_index, ◌==◌, ◌||◌, ◌&&◌, not};
+
+use ffs_volume::constants::ROOTINO;
+use ffs_volume::kinds::Kind;
 
 /// Of each inode its kind, whether it is marked, and its parent (or 0 for none).
 #[derive(Clone, Copy)]
@@ -24,13 +26,22 @@ impl<'a> Inodes<'a> {
         self.kinds.len() as u32
     }
 
+    /// What the inode is.
+    pub fn kind(&self, inode: u32) -> Kind
+        requires { inode < length self.now.kinds.now }
+        ensures { result.code ≡ slice_index self.now.kinds.now inode }
+    {
+        Kind {
+            code: self.kinds[inode as usize],
+        }
+    }
+
     /// Whether the inode is a directory.
     pub fn is_dir(&self, inode: u32) -> bool
         requires { inode < length self.now.kinds.now }
         ensures { result ≡ is_dir_kind (slice_index self.now.kinds.now inode) }
     {
-        let kind = self.kinds[inode as usize];
-        kind == DT_DIR || kind == EMPTY_DIR
+        self.kind(inode).is_dir()
     }
 
     /// Whether the inode is marked, or a directory of size 0.
@@ -39,7 +50,7 @@ impl<'a> Inodes<'a> {
         ensures { result ≡ (bool_at self.now.marked.now inode
             || is_empty_dir_kind (slice_index self.now.kinds.now inode)) }
     {
-        self.marked[inode as usize] || self.kinds[inode as usize] == EMPTY_DIR
+        self.marked[inode as usize] || self.kind(inode).is_empty_dir()
     }
 
     /// Whether the inode is allocated.
@@ -47,7 +58,7 @@ impl<'a> Inodes<'a> {
         requires { inode < length self.now.kinds.now }
         ensures { result ≡ is_allocated_kind (slice_index self.now.kinds.now inode) }
     {
-        self.kinds[inode as usize] != 0
+        self.kind(inode).is_allocated()
     }
 
     /// Whether the inode has a known type, which isn't this one.
@@ -56,11 +67,8 @@ impl<'a> Inodes<'a> {
         ensures { result ≡ (not (is_unknown_kind (slice_index self.now.kinds.now inode))
             && not (kind == type_of_kind (slice_index self.now.kinds.now inode))) }
     {
-        let own = self.kinds[inode as usize];
-        if own == UNKNOWN_TYPE {
-            return false;
-        }
-        kind != if own == EMPTY_DIR { DT_DIR } else { own }
+        let own = self.kind(inode);
+        !own.is_unknown() && kind != own.entry_type()
     }
 
     /// Whether the inode is a directory other than the root, with this parent.

@@ -1,9 +1,7 @@
 // The verdict on a plain entry.
 ghost use Rattle.std.specs.Prelude.{◌≡◌, ◌<◌, length};
 ghost use Rattle.ffs_volume.specs.Directories.Roles.{Volume};
-ghost use Rattle.ffs_volume.specs.Directories.PathnameCheck.{label_of};
 ghost use Rattle.ffs_layout.specs.Entry.{entry_value};
-ghost use Rattle.ffs_volume.specs.Encodings.Kinds.{class_of_kind};
 ghost use Rattle.ffs_pathnames.specs.Gathers.{AreFaultsOf, IsVerdictBy};
 ghost use Rattle.ffs_pathnames.specs.Marks as marks;
 ghost use Rattle.ffs_pathnames.specs.Sees.{Sees, CanMark};
@@ -11,7 +9,7 @@ ghost use Rattle.ffs_pathnames.specs.Sees.{Sees, CanMark};
 use crate::inodes::Inodes;
 use crate::look::is_bad_whiteout;
 use ffs_layout::Entry;
-use ffs_volume::constants::{DT_DIR, EMPTY_DIR, ROOTINO, UNKNOWN_TYPE};
+use ffs_volume::constants::ROOTINO;
 use ffs_volume::{Label, Role};
 
 /// What is wrong with an allocated inode that an entry names: it is suspect and named here first; it is a directory
@@ -35,17 +33,6 @@ pub enum Verdict {
     Named(Faults),
 }
 
-/// What messages call an inode of this kind.
-fn label_of_kind(kind: u8) -> Label
-    ensures { result ≡ label_of (class_of_kind kind) }
-{
-    match kind {
-        0 | UNKNOWN_TYPE => Label::Name,
-        DT_DIR | EMPTY_DIR => Label::Dir,
-        _ => Label::File,
-    }
-}
-
 /// What is wrong with an allocated inode that an entry names.
 fn faults_of(
     inodes: &Inodes<'_>,
@@ -67,7 +54,7 @@ fn faults_of(
         marked: inodes.marked[index],
         extraneous,
         kind: inodes.has_wrong_type(entry.number, entry.kind),
-        label: label_of_kind(inodes.kinds[index]),
+        label: inodes.kind(entry.number).label(),
     }
 }
 

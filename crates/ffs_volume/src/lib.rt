@@ -8,6 +8,7 @@
 #![tactic(auto)]
 
 pub mod constants;
+pub mod kinds;
 pub mod laws;
 pub mod texts;
 
