@@ -16,7 +16,7 @@ use Rattle.ffs_volume.specs.Messages.Kinds.{NameMessage, of_names, lines_from, r
 use Rattle.ffs_volume.specs.Messages.Kinds.{unref_unlinked, link_count}
 use Rattle.ffs_volume.specs.Blocks.Inodes.{inode_of, is_allocated}
 use Rattle.ffs_volume.specs.Directories.Roles.{is_allocated_inode, is_inode, is_suspect, references}
-use Rattle.ffs_volume.specs.Directories.PathnameCheck.{label_of, attributes}
+use Rattle.ffs_volume.specs.Directories.PathnameCheck.{label_of, attributes, attributes_of}
 use Rattle.ffs_volume.specs.Directories.Volumes.{class_at, marked_at, volume_of, volume_with}
 use Rattle.ffs_volume.specs.Directories.ReferenceCheck.{inode_lines, counted_lines, reference_lines}
 use Rattle.ffs_volume.specs.Directories.Connectivity.{is_dead}
@@ -25,7 +25,7 @@ use Rattle.ffs_workspace.specs.Holds.{HoldsClaims, HoldsFindings, bool_at}
 use Rattle.ffs_volume.specs.Encodings.Kinds.{kind_at, class_of_kind, is_allocated_kind, is_dir_kind, is_empty_dir_kind}
 use Rattle.ffs_workspace.specs.Lengths.{inodes_of}
 use Rattle.ffs_workspace.proofs.KindLaws.{suspect_is, some_is}
-use Rattle.ffs_counts.specs.References.{reference_reported, attr_with, is_dead_by, is_met}
+use Rattle.ffs_counts.specs.References.{reference_reported, is_dead_by, is_met}
 use Rattle.ffs_volume.specs.declared.constants.TheConstants.{LINKS_MET}
 use Rattle.ffs_volume.specs.declared.Label.{Label}
 use Rattle.ffs_volume.specs.Encodings.Links.{links_start, start_at}
@@ -87,7 +87,7 @@ pub inode_lines_are : (v : Layout) (b : List ℕ) (w : Workspace) (i : ℕ) (ino
     inode ≡ inode_of v b i → dead ≡ is_dead_by w i →
     r ≡ slice_index w.references.items i - links_start inode.nlink →
     inode_lines (volume_of v b) i ≡ reference_reported dead (bool_at w.marked.items i)
-    (label_of (class_of_kind (slice_index w.kinds.items i))) (attr_with i inode) inode.nlink r
+    (label_of (class_of_kind (slice_index w.kinds.items i))) (attributes_of i inode) inode.nlink r
 unfolding inode_lines attributes volume_of volume_with
 inode_lines_are v b w i inode dead r low f used is e refs =
     let h = f.claims in
@@ -160,7 +160,7 @@ met_lines v b w i low f used met =
     let links : AreMet nlink (references (volume_of v b) i) =
     links_met nlink (references (volume_of v b) i) (sym counted ∙ full) in
     let label = label_of (class_of_kind (slice_index w.kinds.items i)) in
-    let attr = attr_with i (inode_of v b i) in
+    let attr = attributes_of i (inode_of v b i) in
     sym (some_lines v b w i f.claims used)
     ∙ inode_lines_are v b w i (inode_of v b i) (is_dead_by w i) (references (volume_of v b) i) low f used refl refl
     (omega (arith, counted))

@@ -2,7 +2,6 @@
 use Rattle.std.specs.Prelude.{ℕ, ◌==◌, ◌&&◌, ◌||◌, Bool, not, slice_index, List, [], ◌∷◌, Option, Some, None, if◌then◌else◌, ℤ}
 use Rattle.ffs_volume.specs.declared.constants.TheConstants.{LINKS_MET, ROOTINO}
 use Rattle.ffs_volume.specs.declared.Attr.{Attr}
-use Rattle.ffs_volume.specs.declared.Inode.{Inode}
 use Rattle.ffs_volume.specs.declared.Label.{Label}
 use Rattle.ffs_volume.specs.Disk.Numbers.{equals_natural}
 use Rattle.ffs_volume.specs.Messages.Kinds.{NameMessage, reported, dead_marked}
@@ -19,16 +18,6 @@ reference_reported dead marked label attr nlink refs =
     if dead then (if marked then dead_marked label attr ∷ [] else dead_zero attr ∷ [])
     else (if refs == 0 then (if equals_natural nlink 0 then unref_unlinked label attr ∷ [] else unref label attr ∷ [])
     else reported (not (equals_natural nlink refs)) (link_count label attr nlink refs))
-
--- what messages show of an inode
-abbrev pub attr_with : ℕ → Inode → Attr
-attr_with number inode = record {
-  number = number;
-  uid = inode.uid;
-  mode = inode.mode;
-  size = inode.size;
-  mtime = inode.mtime;
-}
 
 -- a line, if there is one
 abbrev pub lines_as : Option ReferenceLine → List NameMessage

@@ -4,27 +4,15 @@ ghost use Rattle.std.specs.Prelude.{◌≡◌, ◌-◌, map};
 ghost use Rattle.ffs_volume.specs.Messages.Kinds.{of_names};
 ghost use Rattle.ffs_volume.specs.Disk.Numbers.{equals_natural};
 ghost use Rattle.ffs_report.specs.Progress.{progress, Says};
-ghost use Rattle.ffs_volume.specs.Directories.PathnameCheck.{label_of};
+ghost use Rattle.ffs_volume.specs.Directories.PathnameCheck.{attributes_of, label_of};
 ghost use Rattle.ffs_volume.specs.Encodings.Kinds.{class_of_kind};
 ghost use Rattle.ffs_volume.specs.Encodings.Links.{links_start};
-ghost use Rattle.ffs_counts.specs.References.{attr_with, lines_as, reference_reported};
+ghost use Rattle.ffs_counts.specs.References.{lines_as, reference_reported};
 
 use ffs_report::{Line, OutFault, Output, ReferenceLine, Report};
 use ffs_volume::kinds::Kind;
 use ffs_volume::{Attr, Inode};
 use ffs_workspace::links_start;
-
-fn attr_for(number: u32, inode: &Inode) -> Attr
-    ensures { result ≡ attr_with number inode.now }
-{
-    Attr {
-        number,
-        uid: inode.uid,
-        mode: inode.mode,
-        size: inode.size,
-        mtime: inode.mtime,
-    }
-}
 
 /// How often an inode is referred to, by its count of references, which started by its links.
 pub fn references_by(count: u64, inode: &Inode) -> u64
@@ -54,9 +42,9 @@ pub fn line_for(
     inode: &Inode,
 ) -> Option<ReferenceLine>
     ensures { lines_as result ≡ reference_reported dead marked (label_of (class_of_kind kind))
-        (attr_with number inode.now) inode.now.nlink references }
+        (attributes_of number inode.now) inode.now.nlink references }
 {
-    let attr = attr_for(number, inode);
+    let attr = Attr::of(number, inode);
     let label = Kind { code: kind }.label();
     let count = inode.nlink;
     if dead {

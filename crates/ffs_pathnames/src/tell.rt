@@ -47,13 +47,7 @@ pub fn read_attr<I: Image>(
         workspace.old workspace.new result }
 {
     let inode = workspace.windows.table.inode(geometry, number, image)?;
-    Ok(Attr {
-        number,
-        uid: inode.uid,
-        mode: inode.mode,
-        size: inode.size,
-        mtime: inode.mtime,
-    })
+    Ok(Attr::of(number, &inode))
 }
 
 /// Whether a verdict asks for the attributes of the inode that the entry names, and whether for its path.

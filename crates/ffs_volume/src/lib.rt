@@ -1,7 +1,7 @@
 //! What a UFS1 volume is: the definitions that contracts cite, and the types that they share with code.
 //!
 //! The definitions are a book, in `specs/`: folders by subject, in the order that `specs/Lib.antt` gives.
-//! Nothing here runs but `End::status`. `texts` has the texts of messages; `laws` states laws and worked examples of the definitions, and the
+//! What runs here is small: `End::status`, `Attr::of` and the methods of `kinds::Kind`. `texts` has the texts of messages; `laws` states laws and worked examples of the definitions, and the
 //! lemmas that the crates above use are in `proofs/`.
 //!
 //! It rests on no other crate of this repository.
@@ -179,6 +179,24 @@ pub struct Attr {
     pub size: u64,
     /// In seconds.
     pub mtime: i32,
+}
+
+impl Attr {
+    ghost use Rattle.std.specs.Prelude.{◌≡◌};
+    ghost use Rattle.ffs_volume.specs.Directories.PathnameCheck.{attributes_of};
+
+    /// What messages show of an inode of this number.
+    pub fn of(number: u32, inode: &Inode) -> Attr
+        ensures { result ≡ attributes_of number inode.now }
+    {
+        Attr {
+            number,
+            uid: inode.uid,
+            mode: inode.mode,
+            size: inode.size,
+            mtime: inode.mtime,
+        }
+    }
 }
 
 /// The role of an entry of a directory.

@@ -6,6 +6,7 @@ use Rattle.ffs_volume.specs.declared.constants.TheConstants.{WINO, ROOTINO, DIRB
 use Rattle.ffs_volume.specs.declared.Attr.{Attr}
 use Rattle.ffs_volume.specs.declared.Class.{Class}
 use Rattle.ffs_volume.specs.declared.Class.TheVariants.{Free, Partial, Unknown, File, Dir}
+use Rattle.ffs_volume.specs.declared.Inode.{Inode}
 use Rattle.ffs_volume.specs.declared.Label.{Label}
 use Rattle.ffs_volume.specs.declared.Label.TheVariants.{Dir as DirLabel, File as FileLabel, Name as NameLabel}
 use Rattle.ffs_volume.specs.declared.Role.{Role}
@@ -25,15 +26,18 @@ use Rattle.ffs_volume.specs.Messages.Kinds.{missing_dotdot, missing_dotdot_secon
 use Rattle.ffs_volume.specs.Messages.Kinds.{kind_dotdot, extra_dot, extra_dotdot, out_of_range, whiteout}
 use Rattle.ffs_volume.specs.Messages.Kinds.{unallocated, dup_bad, zero_dir, extraneous, kind_entry}
 
--- what messages show of an inode
-unfoldable pub attributes : Volume → ℕ → Attr
-attributes vol i = record {
-  number = i;
-  uid = (vol.inode i).uid;
-  mode = (vol.inode i).mode;
-  size = (vol.inode i).size;
-  mtime = (vol.inode i).mtime;
+-- what messages show of an inode of this number
+abbrev pub attributes_of : ℕ → Inode → Attr
+attributes_of number inode = record {
+  number = number;
+  uid = inode.uid;
+  mode = inode.mode;
+  size = inode.size;
+  mtime = inode.mtime;
 }
+
+unfoldable pub attributes : Volume → ℕ → Attr
+attributes vol i = attributes_of i (vol.inode i)
 
 -- how messages call an inode
 abbrev pub label_of : Class → Label

@@ -6,7 +6,8 @@ use Rattle.ffs_volume.specs.Directories.ReferenceCheck.{counted_lines}
 use Rattle.ffs_volume.specs.Directories.Volumes.{volume_of}
 use Rattle.ffs_phase.proofs.Reporting.{of_begins, of_same, of_says, of_stops, of_reads}
 use Rattle.ffs_workspace.specs.Holds.{bool_at}
-use Rattle.ffs_counts.specs.References.{attr_with, lines_as}
+use Rattle.ffs_volume.specs.Directories.PathnameCheck.{attributes_of}
+use Rattle.ffs_counts.specs.References.{lines_as}
 use Rattle.ffs_counts.proofs.Holding.{inode_lines_are, item_at, met_lines, same_reported, some_lines}
 use Rattle.ffs_image.specs.Device.{Device}
 use Rattle.ffs_volume.specs.declared.Layout.{Layout}
@@ -74,7 +75,7 @@ returns-in_err-say_line-clause-runs g c =
           ∙ inode_lines_are v bytes w n inode c.is_dead-dead.result _ c.requires.number k.1 c.requires.used
           (c.in_ok-inode.ensures.inode bytes k.0) c.is_dead-dead.ensures refl
           ∙ same_reported c.is_dead-dead.result c.index-marked.result.now (bool_at w.marked.items n)
-          c.index-kind.result.now (slice_index w.kinds.items n) (attr_with n inode) inode.nlink
+          c.index-kind.result.now (slice_index w.kinds.items n) (attributes_of n inode) inode.nlink
           c.references_by-references.result _ marked kind refs
           ∙ sym c.line_for-line.ensures) ∙ sym (append-nil _))
           c.in_err-say_line.ensures;
@@ -106,7 +107,7 @@ returns-clause-runs g c =
           ∙ inode_lines_are v bytes w n inode c.is_dead-dead.result _ c.requires.number k.1 c.requires.used
           (c.in_ok-inode.ensures.inode bytes k.0) c.is_dead-dead.ensures refl
           ∙ same_reported c.is_dead-dead.result c.index-marked.result.now (bool_at w.marked.items n)
-          c.index-kind.result.now (slice_index w.kinds.items n) (attr_with n inode) inode.nlink
+          c.index-kind.result.now (slice_index w.kinds.items n) (attributes_of n inode) inode.nlink
           c.references_by-references.result _ marked kind refs
           ∙ sym c.line_for-line.ensures) ∙ sym (append-nil _))
           c.in_ok-say_line.ensures;
