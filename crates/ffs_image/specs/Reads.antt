@@ -1,9 +1,17 @@
--- What a call leaves of an image, by its answer.
-use Rattle.std.specs.Prelude.{◌≡◌, Result, Ok, Err}
-use Rattle.ffs_image.specs.Device.{Device, Faulted}
+-- What a read gives of an image, and what a call leaves of it, by its answer.
+use Rattle.std.specs.Prelude.{◌≡◌, ℕ, ◌/◌, List, Result, Ok, Err, OnOk, IfErr}
+use Rattle.ffs_image.specs.Device.{Device, Faulted, IsAt}
 use Rattle.ffs_image.specs.declared.image.ImageFault.{ImageFault}
 
 -- a failed read is counted, with its sector, and no other answer touches the image
 abbrev pub ReadAfter : {T : Type 0} → Device → Device → Result T ImageFault → Type 0
 ReadAfter old new (Ok x) = new ≡ old
 ReadAfter old new (Err fault) = Faulted old new fault.sector
+
+-- the answer of a read at a place: these are the image's bytes there, or the read failed, which is counted with the sector of
+-- the place
+pub record Reads {T : Type 0} (old new : Device) (at : ℕ) (xs : List ℕ) (result : Result T ImageFault) : Type 0 where
+  pub bytes : OnOk result (IsAt old at xs)
+  pub ok : OnOk result (new ≡ old)
+  pub err : IfErr result (λ fault. Faulted old new fault.sector)
+  pub sector : IfErr result (λ fault. fault.sector ≡ at / 512)

@@ -1,5 +1,5 @@
 -- What a source of an image's bytes gives, and what a read does to it.
-use Rattle.std.specs.Prelude.{◌≡◌, ℕ, List, length, drop, take, Option, Result, Ok, Err}
+use Rattle.std.specs.Prelude.{◌≡◌, ◌<◌, ◌≤◌, ℕ, List, length, drop, take, Option, Result, Ok, Err, OnOk, IfOk}
 use Rattle.ffs_image.specs.Device.{ForContents, Rose}
 
 -- its bytes where it gives them, its size in bytes, and how many reads have failed
@@ -22,3 +22,14 @@ pub record IsFailed (old new : Stock) : Type 0 where
 abbrev pub StockAfter : {T E : Type 0} → Stock → Stock → Result T E → Type 0
 StockAfter old new (Ok x) = new ≡ old
 StockAfter old new (Err fault) = IsFailed old new
+
+-- the answer of a read at a place: how many of these bytes are the source's there, at least one, or the read failed
+pub record GivesSome {E : Type 0} (old new : Stock) (at : ℕ) (xs : List ℕ) (result : Result ℕ E) : Type 0 where
+  pub some : IfOk result (λ n. (0 < n) × (n ≤ length xs))
+  pub bytes : IfOk result (λ n. AreAt old.contents at (take n xs))
+  pub left : StockAfter old new result
+
+-- the answer of a read of all bytes at a place: these are the source's there, or a read failed
+pub record Fills {T E : Type 0} (old new : Stock) (at : ℕ) (xs : List ℕ) (result : Result T E) : Type 0 where
+  pub bytes : OnOk result (AreAt old.contents at xs)
+  pub left : StockAfter old new result

@@ -1,6 +1,6 @@
 // Where an image's bytes come from, and how a buffer is filled from there.
-ghost use Rattle.std.specs.Prelude.{◌≡◌, ◌+◌, ◌<◌, ◌≤◌, ◌^◌, length, take, IfOk, OnOk, IfSome};
-ghost use Rattle.ffs_image.specs.Source.{AreAt, Stock, StockAfter};
+ghost use Rattle.std.specs.Prelude.{◌≡◌, ◌+◌, ◌<◌, ◌^◌, length, IfSome};
+ghost use Rattle.ffs_image.specs.Source.{Fills, GivesSome, Stock};
 
 /// A read of a source failed, or gave nothing.
 #[derive(Clone, Copy)]
@@ -21,9 +21,7 @@ pub trait Source {
     /// Reads some of the bytes at a place, at least one, and answers how many. An `Err` is counted once.
     fn read_some(&mut self, at: u64, buf: &mut [u8]) -> Result<usize, SourceFault>
         requires { 0 < length buf.old }
-        ensures some { IfOk result (λ n. (0 < n) × (n ≤ length buf.new)) }
-        ensures bytes { IfOk result (λ n. AreAt (stock self.old).contents at (take n buf.new)) }
-        ensures left { StockAfter (stock self.old) (stock self.new) result };
+        ensures { GivesSome (stock self.old) (stock self.new) at buf.new result };
 
     ghost sized: { (source : Self) → IfSome (stock source).contents
         (λ b. length b ≡ (stock source).size) };
@@ -32,8 +30,7 @@ pub trait Source {
 /// Fills the buffer with the bytes at a place. The first read that fails ends it.
 pub(crate) fn fill<S: Source>(source: &mut S, at: u64, buf: &mut [u8]) -> Result<(), SourceFault>
     requires { at + length buf.old < 2 ^ 64 }
-    ensures bytes { OnOk result (AreAt (S.stock source.old).contents at buf.new) }
-    ensures left { StockAfter (S.stock source.old) (S.stock source.new) result }
+    ensures { Fills (S.stock source.old) (S.stock source.new) at buf.new result }
 {
     let mut filled = 0;
     while filled < buf.len() {
