@@ -1,7 +1,8 @@
 -- Which request a fuse refuses.
 use Rattle.std.specs.Prelude.{◌≡◌, ℕ, ◌-◌, ◌==◌, Bool, Result, IsErr}
 use Rattle.std.specs.Bool.{OnTrue, OnFalse}
-use Rattle.ffs_memory.specs.Account.{Account, Asks}
+use Rattle.ffs_memory.specs.Account.{Account, Asks, Gives}
+use Rattle.ffs_memory.specs.declared.fixed_list.FixedList.{FixedList}
 use Rattle.ffs_memory.specs.declared.fuse.FuseMemory.{FuseMemory}
 
 -- the request after which none is left
@@ -18,3 +19,15 @@ pub record Burns {M T E : Type 0} (account : M → Account) (old new : FuseMemor
   pub left : new.left ≡ left_after old.left
   pub blown : OnTrue (is_blown old.left) (IsErr result × (new.inner ≡ old.inner))
   pub passed : OnFalse (is_blown old.left) (Asks (account old.inner) (account new.inner) bytes result)
+
+-- a memory with a fuse serves one request: its account and answer are those of any memory, and the fuse says which is refused
+pub record Serves {M A E : Type 0} (account_below : M → Account) (account_of : FuseMemory M → Account)
+    (old new : FuseMemory M) (n bytes : ℕ) (x : A) (result : Result (FixedList A) E) : Type 0 where
+  pub given : Gives (account_of old) (account_of new) n bytes x result
+  pub fuse : Burns account_below old new bytes result
+
+-- a memory with a fuse is made of one below, whose account is its own, and it has refused no request by the fuse yet
+pub record IsFused {M : Type 0} (account_below : M → Account) (account_of : FuseMemory M → Account) (below : M) (left : ℕ)
+    (memory : FuseMemory M) : Type 0 where
+  pub made : memory ≡ record { inner = below; left = left; own = 0 }
+  pub account : account_of memory ≡ account_below below

@@ -1,7 +1,6 @@
 // A memory that refuses a request where it is reported to.
 ghost use Rattle.std.specs.Prelude.{◌≡◌, ◌+◌, ◌-◌, ◌*◌, ◌^◌, min, if◌then◌else◌, false};
-ghost use Rattle.ffs_memory.specs.Account.{Gives};
-ghost use Rattle.ffs_memory.specs.Fuse.{Burns, is_blown, left_after};
+ghost use Rattle.ffs_memory.specs.Fuse.{Serves, IsFused, is_blown, left_after};
 
 use crate::fixed_list::FixedList;
 use crate::memory::Memory;
@@ -19,8 +18,7 @@ pub struct FuseMemory<M> {
 impl<M: Memory> FuseMemory<M> {
     /// Refuses the k-th request from now on, from 1, and no other.
     pub fn nth(inner: M, k: u64) -> FuseMemory<M>
-        ensures made { result ≡ record { inner = inner; left = k; own = 0 } }
-        ensures account { ⟦<FuseMemory<M> as Memory>⟧.account result ≡ M.account inner }
+        ensures { IsFused M.account ⟦<FuseMemory<M> as Memory>⟧.account inner k result }
     {
         let _bounded = inner.refused();
         FuseMemory {
@@ -62,9 +60,8 @@ impl<M: Memory> Memory for FuseMemory<M> {
     }
 
     fn bytes(&mut self, n: usize) -> Result<FixedList<u8>, AllocError>
-        ensures given { Gives (⟦<FuseMemory<M> as Memory>⟧.account self.old)
-            (⟦<FuseMemory<M> as Memory>⟧.account self.new) n n 0 result }
-        ensures fuse { Burns M.account self.old self.new n result }
+        ensures { Serves M.account ⟦<FuseMemory<M> as Memory>⟧.account self.old self.new n n 0
+            result }
     {
         if self.blows() {
             return Err(AllocError);
@@ -73,9 +70,8 @@ impl<M: Memory> Memory for FuseMemory<M> {
     }
 
     fn flags(&mut self, n: usize) -> Result<FixedList<bool>, AllocError>
-        ensures given { Gives (⟦<FuseMemory<M> as Memory>⟧.account self.old)
-            (⟦<FuseMemory<M> as Memory>⟧.account self.new) n n false result }
-        ensures fuse { Burns M.account self.old self.new n result }
+        ensures { Serves M.account ⟦<FuseMemory<M> as Memory>⟧.account self.old self.new n n false
+            result }
     {
         if self.blows() {
             return Err(AllocError);
@@ -84,9 +80,8 @@ impl<M: Memory> Memory for FuseMemory<M> {
     }
 
     fn words(&mut self, n: usize) -> Result<FixedList<u32>, AllocError>
-        ensures given { Gives (⟦<FuseMemory<M> as Memory>⟧.account self.old)
-            (⟦<FuseMemory<M> as Memory>⟧.account self.new) n (4 * n) 0 result }
-        ensures fuse { Burns M.account self.old self.new (4 * n) result }
+        ensures { Serves M.account ⟦<FuseMemory<M> as Memory>⟧.account self.old self.new n (4 * n) 0
+            result }
     {
         if self.blows() {
             return Err(AllocError);
@@ -95,9 +90,8 @@ impl<M: Memory> Memory for FuseMemory<M> {
     }
 
     fn long_words(&mut self, n: usize) -> Result<FixedList<u64>, AllocError>
-        ensures given { Gives (⟦<FuseMemory<M> as Memory>⟧.account self.old)
-            (⟦<FuseMemory<M> as Memory>⟧.account self.new) n (8 * n) 0 result }
-        ensures fuse { Burns M.account self.old self.new (8 * n) result }
+        ensures { Serves M.account ⟦<FuseMemory<M> as Memory>⟧.account self.old self.new n (8 * n) 0
+            result }
     {
         if self.blows() {
             return Err(AllocError);
