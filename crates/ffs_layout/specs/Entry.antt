@@ -1,7 +1,9 @@
 -- An entry of a directory in memory, as the definitions see it.
-use Rattle.std.specs.Prelude.{ℕ, List, Bool, ◌==◌, ◌||◌}
+use Rattle.std.specs.Prelude.{◌≡◌, ℕ, ◌+◌, ◌≤◌, List, length, Bool, ◌==◌, ◌||◌, Option, Some, IfSome, option_map}
 use Rattle.std.specs.List.{list_any}
-use Rattle.ffs_volume.specs.Directories.Entries.{Entry as EntryIn}
+use Rattle.ffs_volume.specs.Disk.Numbers.{piece}
+use Rattle.ffs_volume.specs.Directories.Entries.{Entry as EntryIn, entry_at}
+use Rattle.ffs_volume.specs.declared.Order.{Order}
 use Rattle.ffs_layout.specs.declared.entry.Entry.{Entry}
 
 -- its numbers, and the bytes of its name
@@ -11,3 +13,11 @@ entry_value e = record { number = e.number; length = e.length; kind = e.kind; na
 -- a byte is NUL or `/`
 abbrev pub has_mark : List ℕ → Bool
 has_mark bytes = list_any (λ b. b == 0) bytes || list_any (λ b. b == 47) bytes
+
+-- the answer at a place of a chunk is the entry there, or that none is there; its record and its name lie in the chunk
+pub record IsEntryAt (order : Order) (chunk : List ℕ) (place : ℕ) (result : Option Entry) : Type 0 where
+  pub value : option_map entry_value result ≡ entry_at order chunk place
+  pub some : IfSome result (λ e. entry_at order chunk place ≡ Some (entry_value e))
+  pub room : IfSome result (λ e. (8 ≤ e.length) × (place + e.length ≤ 512))
+  pub name : IfSome result (λ e. (e.name.now ≡ piece (place + 8) (length e.name.now) chunk)
+      × (place + 8 + length e.name.now ≤ 512))

@@ -1,10 +1,9 @@
 //! One entry of a directory.
 
-ghost use Rattle.std.specs.Prelude.{IsTrue, ◌≡◌, ◌+◌, ◌≤◌, ◌==◌, ◌||◌, length, option_map, slice_index, IfSome, Some};
+ghost use Rattle.std.specs.Prelude.{IsTrue, ◌≡◌, ◌+◌, ◌≤◌, ◌==◌, ◌||◌, slice_index};
 ghost use Rattle.std.specs.List.{list_any};
-ghost use Rattle.ffs_volume.specs.Disk.Numbers.{piece};
-ghost use Rattle.ffs_volume.specs.Directories.Entries.{entry_at as entry_in, is_held as held, is_length as fits, is_name as named};
-ghost use Rattle.ffs_layout.specs.Entry.{entry_value, has_mark};
+ghost use Rattle.ffs_volume.specs.Directories.Entries.{is_held as held, is_length as fits, is_name as named};
+ghost use Rattle.ffs_layout.specs.Entry.{IsEntryAt, has_mark};
 
 use crate::numbers::{u16_at, u32_at};
 use ffs_volume::Order;
@@ -96,12 +95,7 @@ fn is_held(chunk: &[u8; DIRBLKSIZ], place: usize, len: u16) -> bool
 #[tactic(auto, unfolding(ffs_volume::specs::Directories::Entries::entry_at, ffs_volume::specs::Directories::Entries::is_well_formed, ffs_volume::specs::Directories::Entries::entry_read))]
 pub fn entry_at(order: Order, chunk: &[u8; DIRBLKSIZ], place: usize) -> Option<Entry<'_>>
     requires { place ≤ 512 }
-    ensures value { option_map entry_value result ≡ entry_in order chunk.now place }
-    ensures some { IfSome result (λ e. entry_in order chunk.now place ≡ Some (entry_value e)) }
-    ensures room { IfSome result (λ e. (8 ≤ e.length) × (place + e.length ≤ 512)) }
-    ensures name { IfSome result (λ
-        e. (e.name.now ≡ piece (place + 8) (length e.name.now) chunk.now)
-        × (place + 8 + length e.name.now ≤ 512)) }
+    ensures { IsEntryAt order chunk.now place result }
 {
     if place > DIRBLKSIZ - DIRENT_HEADER {
         return None;

@@ -20,14 +20,14 @@ pub record Burns {M T E : Type 0} (account : M → Account) (old new : FuseMemor
   pub blown : OnTrue (is_blown old.left) (IsErr result × (new.inner ≡ old.inner))
   pub passed : OnFalse (is_blown old.left) (Asks (account old.inner) (account new.inner) bytes result)
 
--- a memory with a fuse serves one request: its account and answer are those of any memory, and the fuse says which is refused
+-- a memory with a fuse serves one request: as any memory does, and the fuse says which one is refused
 pub record Serves {M A E : Type 0} (account_below : M → Account) (account_of : FuseMemory M → Account)
     (old new : FuseMemory M) (n bytes : ℕ) (x : A) (result : Result (FixedList A) E) : Type 0 where
   pub given : Gives (account_of old) (account_of new) n bytes x result
   pub fuse : Burns account_below old new bytes result
 
--- a memory with a fuse is made of one below, whose account is its own, and it has refused no request by the fuse yet
-pub record IsFused {M : Type 0} (account_below : M → Account) (account_of : FuseMemory M → Account) (below : M) (left : ℕ)
-    (memory : FuseMemory M) : Type 0 where
+-- a memory with a fuse is made of one below, whose account it shows, and the fuse has refused no request yet
+pub record IsFused {M : Type 0} (account_below : M → Account) (account_of : FuseMemory M → Account) (below : M)
+    (left : ℕ) (memory : FuseMemory M) : Type 0 where
   pub made : memory ≡ record { inner = below; left = left; own = 0 }
   pub account : account_of memory ≡ account_below below
