@@ -1,8 +1,8 @@
 // A writer that is silent after its first failure.
-ghost use Rattle.std.specs.Prelude.{◌≡◌, ◌<◌, ◌↔◌, length, false, true, IfOk, IsErr, OnErr};
-ghost use Rattle.std.specs.Bool.{OnTrue};
+ghost use Rattle.std.specs.Prelude.{◌≡◌, ◌<◌, length, false, IfOk};
 ghost use Rattle.std.specs.Io.{WritesAtMost};
 ghost use Rattle.std.specs.Io.KnownBytes.{WriteAppends, Keeps};
+ghost use Rattle.ffs_report.specs.Writers.{IsSilenced};
 
 use std::io;
 use std::io::{ErrorKind, Write};
@@ -64,10 +64,7 @@ impl<S: Write> Write for SilentWriter<S> {
         ensures bytes { WriteAppends (S.contents self.old.inner) (S.contents self.new.inner) result
             buf.now }
         ensures some { 0 < length buf.now → IfOk result (λ n. 0 < n) }
-
-        // After a failure each write fails, and the writer below is untouched.
-        ensures failed { IsErr result ↔ (self.new.failed ≡ true) }
-        ensures silent { OnTrue self.old.failed (self.new ≡ self.old) }
+        ensures silenced { IsSilenced self.old self.new result }
     {
         if self.failed {
             return Err(silence());
@@ -88,10 +85,7 @@ impl<S: Write> Write for SilentWriter<S> {
     /// Errors: those of the writer below, and each flush after a failure.
     fn flush(&mut self) -> io::Result<()>
         ensures bytes { Keeps (S.contents self.old.inner) (S.contents self.new.inner) }
-
-        // After a failure each flush fails, and the writer below is untouched.
-        ensures failed { IsErr result ↔ (self.new.failed ≡ true) }
-        ensures silent { OnTrue self.old.failed (self.new ≡ self.old) }
+        ensures silenced { IsSilenced self.old self.new result }
     {
         let flushed = if self.failed {
             Err(silence())
