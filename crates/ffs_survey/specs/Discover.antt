@@ -159,6 +159,11 @@ pub record AtLevel (g : Graph) (k low high : ℕ) (r : List Bool) (p q : List �
   pub frontier : IsFrontier g k (drop low (take high q))
   pub levels : LevelsKnown g k r p (take high q)
 
+-- all levels up to one are known, and the queue has that one from `low` to `high`
+pub record AtSomeLevel (g : Graph) (low high : ℕ) (r : List Bool) (p q : List ℕ) : Type 0 where
+  pub depth : ℕ
+  pub at : AtLevel g depth low high r p q
+
 -- a directory that is reached
 pub record IsReachedDir (kinds : List ℕ) (r : List Bool) (d : ℕ) : Type 0 where
   pub dir : dir_at kinds d ≡ true

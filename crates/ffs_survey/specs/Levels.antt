@@ -37,9 +37,10 @@ pub record ReadsDirs (kinds : List ℕ) (marked : List Bool) (dirs : List ℕ) (
   pub calm : StayCalm kinds marked entries sound old new
 
 -- the level that is in the queue from `low` to `high` is read, and the next one follows it
-pub record ReadsLevel (kinds : List ℕ) (marked : List Bool) (depth low high end : ℕ) (entries : ℕ → List RoledEntry)
+pub record ReadsLevel (kinds : List ℕ) (marked : List Bool) (low high end : ℕ) (entries : ℕ → List RoledEntry)
     (sound : ℕ → Bool) (old new : Found) : Type 0 where
-  pub level : AtLevel (graph_with kinds entries) (depth + 1) high end new.reached new.parents new.queue
+  pub level : (depth : ℕ) → AtLevel (graph_with kinds entries) depth low high old.reached old.parents old.queue
+      → AtLevel (graph_with kinds entries) (depth + 1) high end new.reached new.parents new.queue
   pub counts : CountsDirs kinds entries (drop low (take high old.queue)) old new
   pub calm : StayCalm kinds marked entries sound old new
 

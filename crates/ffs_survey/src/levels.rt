@@ -4,7 +4,7 @@ ghost use Rattle.ffs_survey.specs.Survey.{number_at, dir_at, graph_with, start_i
 ghost use Rattle.ffs_survey.specs.Calm.{AreCalm};
 ghost use Rattle.ffs_survey.specs.Reading.{ForKnown, LeavesReader};
 ghost use Rattle.ffs_survey.specs.Lists.{EntryLists, SurveyLists};
-ghost use Rattle.ffs_survey.specs.Discover.{found_of, HasRoom, AtLevel, NothingFound, IsBlank, IsRead};
+ghost use Rattle.ffs_survey.specs.Discover.{found_of, HasRoom, AtSomeLevel, NothingFound, IsBlank, IsRead};
 ghost use Rattle.ffs_survey.specs.Levels.{ReadsLevel, ReadsAllReached};
 
 use crate::directories::Directories;
@@ -13,8 +13,7 @@ use crate::named::is_dir;
 use ffs_image::ImageFault;
 use ffs_volume::constants::{NO_LINKS, ROOTINO};
 
-/// Reads the level that is in `queue[low..high]`, puts the next one after it, ascending, and answers where that
-/// ends. `depth` is the level's number.
+/// Reads the level that is in `queue[low..high]`, puts the next one after it, ascending, and answers where that ends.
 fn next_level<D: Directories>(
     directories: &mut D,
     kinds: &[u8],
@@ -27,7 +26,6 @@ fn next_level<D: Directories>(
     queue: &mut [u32],
     low: usize,
     high: usize,
-    depth: u32,
 ) -> Result<usize, ImageFault>
     requires ready { D.ready directories.old }
     requires lists { SurveyLists kinds.now marked.now references.old named.old reached.old
@@ -35,12 +33,12 @@ fn next_level<D: Directories>(
     requires root { dir_at kinds.now 2 ≡ true }
     requires room { HasRoom low high references.old reached.old queue.old }
     requires levels { ForKnown D.knows D.entries D.sound (D.base directories.old)
-        (λ entries sound. AtLevel (graph_with kinds.now entries) depth low high reached.old
+        (λ entries sound. AtSomeLevel (graph_with kinds.now entries) low high reached.old
         parents.old queue.old) }
     ensures room { IfOk result (λ n. HasRoom high n references.new reached.new queue.new) }
     ensures kept { OnOk result (take high queue.new ≡ take high queue.old) }
     ensures read { IfOk result (λ n. ForKnown D.knows D.entries D.sound (D.base directories.old)
-        (λ entries sound. ReadsLevel kinds.now marked.now depth low high n entries sound
+        (λ entries sound. ReadsLevel kinds.now marked.now low high n entries sound
         (found_of references.old named.old reached.old parents.old calm.old queue.old)
         (found_of references.new named.new reached.new parents.new calm.new queue.new))) }
     ensures reader { LeavesReader (D.ready directories.new) (D.base directories.old)
@@ -95,7 +93,6 @@ fn survey_reached<D: Directories>(
     }
     let mut low = 0;
     let mut high = 1;
-    let mut depth = 0;
     while low < high {
         let end = next_level(
             directories,
@@ -109,11 +106,9 @@ fn survey_reached<D: Directories>(
             queue,
             low,
             high,
-            depth,
         )?;
         low = high;
         high = end;
-        depth += 1;
     }
     Ok(())
 }

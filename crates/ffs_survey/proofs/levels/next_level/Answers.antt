@@ -12,34 +12,24 @@ use Rattle.ffs_survey.proofs.levels.next_level.Goals as goal
 -- the level in the queue is the slice that is read
 pub read_level-requires-clause-frontier : goal.read_level-requires-clause-frontier
 read_level-requires-clause-frontier g c = λ b k.
-    let at = c.requires.levels b k in
+    let known = c.requires.levels b k in
+    let at = known.at in
     let v = graph_with c.args.kinds.now (g.D.Directories.entries (g.D.Directories.base c.args.directories.now) b) in
     let e = frontier_is c.args.low c.args.high c.args.queue.now c.split_at_mut-left.result.0.now
     c.split_at_mut-left.ensures.front in
     let P : List ℕ → Type 0 = λ xs. All (IsReachedDir c.args.kinds.now c.args.reached.now) xs in
     subst P (sym e) (λ i d l. record {
-      dir = front_dirs v c.args.depth _ (sane_of c.args.kinds.now _ c.requires.lists.some) c.requires.root at.frontier i
+      dir = front_dirs v known.depth _ (sane_of c.args.kinds.now _ c.requires.lists.some) c.requires.root at.frontier i
           d l;
       marked = front_reached _ _ _ _ _ _ at.frontier at.levels i d l;
     })
 
 pub returns-clause-read : goal.returns-clause-read
 returns-clause-read g c = λ b k.
-    let at = c.requires.levels b k in
     let v = graph_with c.args.kinds.now (g.D.Directories.entries (g.D.Directories.base c.args.directories.now) b) in
     let xs = drop c.args.low (take c.args.high c.args.queue.now) in
     let e = frontier_is c.args.low c.args.high c.args.queue.now c.split_at_mut-left.result.0.now
     c.split_at_mut-left.ensures.front in
-    let P : List ℕ → Type 0 = λ xs. Comes (from_dirs v xs) c.args.reached.now c.args.parents.now [] nothing
-    c.read_level.new.reached c.read_level.new.parents (take c.in_ok-found.found c.read_level.new.queue) in
-    let n : IsNextLevel v (c.args.depth + 1) c.read_level.new.reached c.read_level.new.parents
-    (take c.args.high c.args.queue.now) c.sort_unstable.new.self =
-    level_after v c.args.depth xs c.args.reached.now c.read_level.new.reached c.args.parents.now
-    c.read_level.new.parents (take c.args.high c.args.queue.now) (take c.in_ok-found.found c.read_level.new.queue)
-    c.sort_unstable.new.self
-    (sane_of c.args.kinds.now _ c.requires.lists.some) at.frontier at.levels
-    (subst P e (c.in_ok-found.ensures.read b k).comes) c.sort_unstable.ensures.permutation
-    (IsNonDecreasingBy-from_sort (λ x. x) _ c.sort_unstable.ensures.sorted) in
     let t = c.in_ok-found.ensures.top in
     let room = c.requires.room.room in
     let left = c.split_at_mut-left.result.0.now in
@@ -55,13 +45,25 @@ returns-clause-read g c = λ b k.
     ) in
     let rest = drop c.in_ok-found.found c.read_level.new.queue in
     record {
-      level = record {
-        frontier = subst (λ ys. IsFrontier v (c.args.depth + 1) ys)
-            (sym (new_front c.args.high c.in_ok-found.found left c.sort_unstable.new.self rest front back)) n.frontier;
-        levels = subst (λ q. LevelsKnown v (c.args.depth + 1) c.read_level.new.reached c.read_level.new.parents q)
-            (sym (whole_queue c.args.high c.in_ok-found.found left c.sort_unstable.new.self rest front back
-            ∙ ap (λ z. z ++ c.sort_unstable.new.self) c.split_at_mut-left.ensures.front)) n.knows;
-      };
+      level = λ depth at.
+          let P : List ℕ → Type 0 = λ xs. Comes (from_dirs v xs) c.args.reached.now c.args.parents.now [] nothing
+          c.read_level.new.reached c.read_level.new.parents (take c.in_ok-found.found c.read_level.new.queue) in
+          let n : IsNextLevel v (depth + 1) c.read_level.new.reached c.read_level.new.parents
+          (take c.args.high c.args.queue.now) c.sort_unstable.new.self =
+          level_after v depth xs c.args.reached.now c.read_level.new.reached c.args.parents.now
+          c.read_level.new.parents (take c.args.high c.args.queue.now) (take c.in_ok-found.found c.read_level.new.queue)
+          c.sort_unstable.new.self
+          (sane_of c.args.kinds.now _ c.requires.lists.some) at.frontier at.levels
+          (subst P e (c.in_ok-found.ensures.read b k).comes) c.sort_unstable.ensures.permutation
+          (IsNonDecreasingBy-from_sort (λ x. x) _ c.sort_unstable.ensures.sorted) in
+          record {
+            frontier = subst (λ ys. IsFrontier v (depth + 1) ys)
+                (sym (new_front c.args.high c.in_ok-found.found left c.sort_unstable.new.self rest front back))
+                n.frontier;
+            levels = subst (λ q. LevelsKnown v (depth + 1) c.read_level.new.reached c.read_level.new.parents q)
+                (sym (whole_queue c.args.high c.in_ok-found.found left c.sort_unstable.new.self rest front back
+                ∙ ap (λ z. z ++ c.sort_unstable.new.self) c.split_at_mut-left.ensures.front)) n.knows;
+          };
       counts = subst (λ ys. CountsDirs c.args.kinds.now
           (g.D.Directories.entries (g.D.Directories.base c.args.directories.now) b) ys
           (found_of c.args.references.now c.args.named.now c.args.reached.now c.args.parents.now c.args.calm.now [])

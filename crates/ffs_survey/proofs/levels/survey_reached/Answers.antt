@@ -1,6 +1,6 @@
-use Rattle.std.proofs.Common.{rules, ◌≡◌, ℕ, List, take, set, arith, refl, sym, ◌∙◌, subst, length-set, true}
+use Rattle.std.proofs.Common.{rules, ◌≡◌, ℕ, ◌+◌, List, take, set, arith, refl, sym, ◌∙◌, subst, length-set, true}
 use Rattle.ffs_survey.specs.Survey.{graph_with}
-use Rattle.ffs_survey.specs.Discover.{IsFrontier, LevelsKnown, IsCount}
+use Rattle.ffs_survey.specs.Discover.{IsFrontier, LevelsKnown, IsCount, AtLevel}
 use Rattle.ffs_survey.proofs.Discovered.{unset-set}
 use Rattle.ffs_survey.proofs.CalmLaws.{calm_none}
 use Rattle.ffs_survey.proofs.Frontiers.{sane_of}
@@ -14,7 +14,6 @@ loop-low-init g c = record {
   base = search rules;
   device = search rules;
   lengths = omega (arith, length-set c.args.reached.now 2 true);
-  deep = omega arith;
   room = record {
     ordered = omega arith;
     room = omega (
@@ -27,6 +26,8 @@ loop-low-init g c = record {
   };
   levels = λ b k.
       let v = graph_with c.args.kinds.now (g.D.Directories.entries (g.D.Directories.base c.args.directories.now) b) in
+      let start : AtLevel v 0 0 1 (set c.args.reached.now 2 true) (set c.args.parents.now 2 2)
+      (set c.args.queue.now 0 2) =
       record {
         frontier = subst (λ q. IsFrontier v 0 q) (sym (queue_start c.args.queue.now (omega arith)))
             (frontier_start v (sane_of c.args.kinds.now _ c.requires.lists.some));
@@ -34,7 +35,8 @@ loop-low-init g c = record {
             (sym (queue_start c.args.queue.now (omega arith)))
             (levels_start v c.args.reached.now c.args.parents.now (omega arith) (omega arith) c.requires.begins.reached
             c.requires.begins.parents);
-      };
+      } in
+      record { depth = 0; at = start };
   counts = λ b k. none_counted
       (graph_with c.args.kinds.now (g.D.Directories.entries (g.D.Directories.base c.args.directories.now) b))
       c.args.references.now c.args.named.now c.requires.begins.named;
@@ -46,15 +48,14 @@ loop-low-preserved g c =
     let inv = c.loop-low.invariant in
     let done = c.in_ok-end.ensures in
     let read = rw inv.base at done.read in
-    let test = c.loop-low-test.true in
     record {
       ready = search rules;
       base = search rules;
       device = search rules;
       lengths = let l = inv.lengths in omega (arith, l);
-      deep = let d = inv.deep in omega (arith, d, test);
       room = done.room;
-      levels = λ b k. (read b k).level;
+      levels = λ b k. let before = inv.levels b k in
+          record { depth = before.depth + 1; at = (read b k).level before.depth before.at };
       counts = λ b k.
           counted_on (graph_with c.args.kinds.now
           (g.D.Directories.entries (g.D.Directories.base c.args.directories.now) b)) c.loop-low.low c.loop-low.high
@@ -70,13 +71,14 @@ returns-clause-read g c = λ b k.
     let inv = c.loop-low.invariant in
     let low = inv.room.ordered in
     let same : c.loop-low.low ≡ c.loop-low.high = omega (arith, low, c.loop-low-test.false) in
-    let F : List ℕ → Type 0 = λ xs. IsFrontier v c.loop-low.depth xs in
+    let at = inv.levels b k in
+    let F : List ℕ → Type 0 = λ xs. IsFrontier v at.depth xs in
     record {
-      part = reached_part c.args.kinds.now es c.loop-low.depth c.args.references.now c.loop-low.references
+      part = reached_part c.args.kinds.now es at.depth c.args.references.now c.loop-low.references
           c.loop-low.named c.loop-low.reached c.loop-low.parents (take c.loop-low.high c.loop-low.queue) inv.lengths
           (sane_of c.args.kinds.now es c.requires.lists.some)
           (subst F (no_front c.loop-low.low c.loop-low.high c.loop-low.queue c.loop-low-test.false)
-          (inv.levels b k).frontier) (inv.levels b k).levels
+          at.at.frontier) at.at.levels
           (subst (λ n. IsCount v (take n c.loop-low.queue) c.args.references.now c.loop-low.references
           c.loop-low.named) same (inv.counts b k));
       calm = inv.calm b k;
@@ -87,7 +89,8 @@ returns-then-not-is_dir-clause-read g c = λ b k.
     let es = g.D.Directories.entries (g.D.Directories.base c.args.directories.now) b in
     record {
       part = alone_part c.args.kinds.now es c.args.references.now c.args.references.now c.args.named.now
-          (set c.args.reached.now 2 true) (set c.args.parents.now 2 2) (omega (arith, length-set c.args.reached.now 2 true))
+          (set c.args.reached.now 2 true) (set c.args.parents.now 2 2)
+          (omega (arith, length-set c.args.reached.now 2 true))
           (sane_of c.args.kinds.now es c.requires.lists.some) (sym c.is_dir.ensures ∙ c.if-not-is_dir.true)
           (levels_start (graph_with c.args.kinds.now es) c.args.reached.now c.args.parents.now (omega arith)
           (omega arith) c.requires.begins.reached c.requires.begins.parents)

@@ -1,6 +1,6 @@
-use Rattle.std.proofs.Common.{◌≡◌, ℕ, ◌-◌, ◌≤◌, List, length, take}
+use Rattle.std.proofs.Common.{◌≡◌, ℕ, ◌-◌, List, length, take}
 use Rattle.ffs_survey.specs.Survey.{graph_with}
-use Rattle.ffs_survey.specs.Discover.{HasRoom, AtLevel, IsCount}
+use Rattle.ffs_survey.specs.Discover.{HasRoom, AtSomeLevel, IsCount}
 use Rattle.ffs_survey.specs.Calm.{AreCalm}
 use Rattle.ffs_survey.proofs.levels.survey_reached.Given as goal
 
@@ -10,10 +10,9 @@ invariant-loop-low g l = record {
   base : g.D.Directories.base l.directories ≡ g.D.Directories.base l.fn.directories;
   device : g.D.Directories.device l.directories ≡ g.D.Directories.device l.fn.directories;
   lengths : length l.reached ≡ length l.kinds;
-  deep : l.depth ≤ l.low;
   room : HasRoom l.low l.high l.references l.reached l.queue;
   levels : (b : List ℕ) → g.D.Directories.knows (g.D.Directories.base l.fn.directories) b →
-      AtLevel (graph_with l.kinds (g.D.Directories.entries (g.D.Directories.base l.fn.directories) b)) l.depth l.low
+      AtSomeLevel (graph_with l.kinds (g.D.Directories.entries (g.D.Directories.base l.fn.directories) b)) l.low
       l.high l.reached l.parents l.queue;
   counts : (b : List ℕ) → g.D.Directories.knows (g.D.Directories.base l.fn.directories) b →
       IsCount (graph_with l.kinds (g.D.Directories.entries (g.D.Directories.base l.fn.directories) b))
