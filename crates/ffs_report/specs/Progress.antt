@@ -1,5 +1,7 @@
 -- How far a report has come.
-use Rattle.std.specs.Prelude.{◌≡◌, ◌⊎◌, ℕ, List, ◌++◌, Bool, true, false, ◌||◌, Result, MatchResult}
+use Rattle.std.specs.Prelude.{◌≡◌, ◌⊎◌, ℕ, List, [], ◌∷◌, ◌++◌, Bool, true, false, ◌||◌, Result, MatchResult}
+use Rattle.std.specs.Prelude.{IsErr, OnErr}
+use Rattle.std.specs.Bool.{OnTrue}
 use Rattle.std.specs.Borrow.{GName}
 use Rattle.std.specs.Io.KnownBytes.{Appends}
 use Rattle.ffs_report.specs.Sink.{Sink, Took, Rose}
@@ -48,3 +50,10 @@ pub record Stopped (old new : Progress) (messages : List Message) : Type 0 where
 -- the outcome of saying these messages
 abbrev pub Says : {T E : Type 0} → Progress → Progress → List Message → Result T E → Type 0
 Says old new messages result = MatchResult result (λ _. Said old new messages) (λ _. Stopped old new messages)
+
+-- the outcome of a call that says one message: a fault adds no defect, and after one each further call is a fault that
+-- leaves the report as it was
+pub record SaysOne {T E : Type 0} (old new : Progress) (message : Message) (result : Result T E) : Type 0 where
+  pub said : Says old new (message ∷ []) result
+  pub defect : OnErr result (new.defect ≡ old.defect)
+  pub over : OnTrue old.failed (IsErr result × (new ≡ old))

@@ -1,9 +1,8 @@
 // A report over an output.
-ghost use Rattle.std.specs.Prelude.{◌≡◌, [], ◌∷◌, true, false, IsErr, OnErr};
-ghost use Rattle.std.specs.Bool.{OnTrue};
+ghost use Rattle.std.specs.Prelude.{◌≡◌, true, false};
 ghost use Rattle.ffs_volume.specs.Messages.Kinds.{is_defect};
 ghost use Rattle.ffs_report.specs.Lines.{message_of};
-ghost use Rattle.ffs_report.specs.Progress.{progress, starts, Says};
+ghost use Rattle.ffs_report.specs.Progress.{progress, starts, SaysOne};
 
 use crate::line::Line;
 use crate::line_buffer::LineBuffer;
@@ -61,12 +60,8 @@ impl<'a, W: Output> Report<'a, W> {
     /// Says a line and its questions. After an `Err`, when a prefix of their bytes may have gone out, each later call
     /// answers `Err` and writes nothing.
     pub fn say(&mut self, line: &Line<'_>) -> Result<(), OutFault>
-        ensures said { Says (progress W.sink self.old) (progress W.sink self.new)
-            (message_of line.now ∷ []) result }
-        ensures defect { OnErr result ((progress W.sink self.new).defect
-            ≡ (progress W.sink self.old).defect) }
-        ensures over { OnTrue (progress W.sink self.old).failed
-            (IsErr result × (progress W.sink self.new ≡ progress W.sink self.old)) }
+        ensures { SaysOne (progress W.sink self.old) (progress W.sink self.new)
+            (message_of line.now) result }
     {
         if self.failed {
             return Err(OutFault);
