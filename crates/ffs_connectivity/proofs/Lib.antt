@@ -1,2 +1,3 @@
 pub mod CutOff
 pub mod Leaving
+pub mod Unreached

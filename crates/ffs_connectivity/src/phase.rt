@@ -1,6 +1,6 @@
 //! Phase 3: connectivity (fsck(8)).
 
-ghost use Rattle.std.specs.Prelude.{◌≡◌, ◌∷◌, ℕ, List, map};
+ghost use Rattle.std.specs.Prelude.{◌≡◌, ◌<◌, ◌≤◌, ◌^◌, ◌∷◌, ℕ, List, length, map, false};
 ghost use Rattle.ffs_report.specs.Progress.{progress};
 ghost use Rattle.ffs_phase.specs.Known.{IsContents};
 ghost use Rattle.ffs_phase.specs.Runs.{PhaseRuns};
@@ -8,6 +8,7 @@ ghost use Rattle.ffs_volume.specs.Directories.Connectivity.{connectivity_lines};
 ghost use Rattle.ffs_volume.specs.Messages.Kinds as messages;
 ghost use Rattle.ffs_volume.specs.Messages.Kinds.{of_names};
 ghost use Rattle.ffs_volume.specs.Directories.Volumes.{volume_of};
+ghost use Rattle.ffs_survey.specs.Discover.{is_free};
 ghost use Rattle.ffs_workspace.specs.Holds.{HoldsClaims, HoldsSurvey};
 ghost use Rattle.ffs_workspace.specs.Leaves.{LeavesSurvey};
 ghost use Rattle.ffs_workspace.specs.Ready.{IsReady};
@@ -17,8 +18,23 @@ use ffs_image::Image;
 use ffs_layout::Geometry;
 use ffs_phase::RunFault;
 use ffs_report::{Heading, Line, Output, Report};
-use ffs_survey::mark_leaders;
+use ffs_survey::{is_dir, mark_leaders};
 use ffs_workspace::Workspace;
+
+/// The least number of a directory that isn't reached, or how many inodes there are where each one is.
+fn first_unreached(kinds: &[u8], reached: &[bool]) -> u32
+    requires lists { (length reached.now ≡ length kinds.now) × (length kinds.now < 2 ^ 31) }
+    ensures low { result < length kinds.now → 2 ≤ result }
+    ensures within { result ≤ length kinds.now }
+    ensures before { (x : ℕ) → x < result → is_free kinds.now reached.now x ≡ false }
+{
+    for number in 0..kinds.len() {
+        if is_dir(kinds, number) && !reached[number] {
+            return number as u32;
+        }
+    }
+    kinds.len() as u32
+}
 
 /// Reports of each directory that is cut off from the root: it isn't reached from inode 2, it isn't dead itself, and it has
 /// no parent, has a dead one, or is the least number on a cycle of parents (fsck(8), phase 3).
@@ -44,13 +60,17 @@ pub fn phase3<I: Image, W: Output>(
     ensures survey { LeavesSurvey workspace.old workspace.new }
     ensures ready { IsReady geometry.now.layout (I.device image.new) workspace.new }
 {
+    report.say(&Line::Heading(Heading::Phase3))?;
+    let first = first_unreached(&workspace.kinds, &workspace.reached);
+    if first as usize == workspace.kinds.len() {
+        return Ok(());
+    }
     mark_leaders(
         &workspace.parents,
         &mut workspace.queue,
         &mut workspace.leaders,
     );
-    report.say(&Line::Heading(Heading::Phase3))?;
-    for number in 2..geometry.layout.ncg * geometry.layout.ipg {
+    for number in first..geometry.layout.ncg * geometry.layout.ipg {
         check_inode(workspace, geometry, number, image, report)?;
     }
     Ok(())

@@ -12,7 +12,8 @@ use Rattle.ffs_workspace.specs.Holds.{bool_at}
 use Rattle.ffs_workspace.specs.Lengths.{inodes_of}
 use Rattle.ffs_connectivity.specs.Lines.{cut_off_lines}
 use Rattle.ffs_workspace.proofs.Leaving.{claims_left, survey_left, leaves_more, windows_leave}
-use Rattle.ffs_connectivity.proofs.Leaving.{leaders_held, lines_begin}
+use Rattle.ffs_connectivity.proofs.Leaving.{leaders_held}
+use Rattle.ffs_connectivity.proofs.Unreached.{lines_begin}
 use Rattle.ffs_volume.proofs.Numbered.{from_next, from_end}
 use Rattle.ffs_connectivity.proofs.phase.phase3.Goals as goal
 
@@ -28,6 +29,21 @@ returns-in_err-say-clause-runs g c =
           c.in_err-say.ensures.said;
     })
 
+pub returns-then-first-len-clause-runs : goal.returns-then-first-len-clause-runs
+returns-then-first-len-clause-runs g c =
+    let v = c.args.geometry.now.layout in
+    record {
+      image = search rules;
+      text = of_says _ (λ bytes. phase3 ∷ map of_names (connectivity_lines (volume_of v bytes))) (λ bytes. []) _
+          (phase3 ∷ []) _ _ _
+          (of_begins _ (λ bytes. phase3 ∷ map of_names (connectivity_lines (volume_of v bytes))) _)
+          (λ bytes k. ap (λ (xs : List Message). phase3 ∷ xs)
+          (lines_begin v bytes c.args.workspace.now _ _ c.first_unreached-first.result c.deref.ensures.value
+          c.deref-2.ensures.value (omega arith) c.first_unreached-first.ensures.before k.1 k.2
+          ∙ from_end (cut_off_lines (volume_of v bytes)) _ (inodes_of v) (omega arith)))
+          c.in_ok-say.ensures.said;
+    }
+
 pub loop-number-init : goal.loop-number-init
 loop-number-init g c =
     let v = c.args.geometry.now.layout in
@@ -40,13 +56,16 @@ loop-number-init g c =
         cycles = λ x. ap (λ (ls : List Bool). bool_at ls x)
             (with_items_is c.args.workspace.now.leaders c.mark_leaders.new.leaders (search rules))
             ∙ c.mark_leaders.ensures x
-            ∙ ap (λ (ps : List ℕ). leads_cycle (up_of ps) (length ps) x) c.deref.ensures.value;
+            ∙ ap (λ (ps : List ℕ). leads_cycle (up_of ps) (length ps) x) c.deref-3.ensures.value;
       };
       said = of_says _ (λ bytes. phase3 ∷ map of_names (connectivity_lines (volume_of v bytes)))
-          (λ bytes. map of_names (lines_from (cut_off_lines (volume_of v bytes)) 2 (inodes_of v - 2))) _ (phase3 ∷ []) _
+          (λ bytes. map of_names (lines_from (cut_off_lines (volume_of v bytes)) c.first_unreached-first.result
+          (inodes_of v - c.first_unreached-first.result))) _ (phase3 ∷ []) _
           _ _
           (of_begins _ (λ bytes. phase3 ∷ map of_names (connectivity_lines (volume_of v bytes))) _)
-          (λ bytes k. ap (λ (xs : List Message). phase3 ∷ xs) (lines_begin v bytes))
+          (λ bytes k. ap (λ (xs : List Message). phase3 ∷ xs)
+          (lines_begin v bytes c.args.workspace.now _ _ c.first_unreached-first.result c.deref.ensures.value
+          c.deref-2.ensures.value (omega arith) c.first_unreached-first.ensures.before k.1 k.2))
           c.in_ok-say.ensures.said;
     }
 
