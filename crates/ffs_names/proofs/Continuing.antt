@@ -1,6 +1,6 @@
 -- How a reading of chunks continues, and that its windows can be read into from read to read.
-use Rattle.std.proofs.Common.{◌≡◌, ℕ, ◌*◌, ◌≤◌, List, arith, refl, sym, ap, subst, ◌∙◌}
-use Rattle.std.specs.Prelude.{vec_len}
+use Rattle.std.proofs.Common.{◌≡◌, ℕ, ◌+◌, ◌-◌, ◌^◌, ◌*◌, ◌≤◌, List, arith, refl, sym, ap, subst, ◌∙◌}
+use Rattle.std.specs.Prelude.{vec_len, min}
 use Rattle.ffs_image.specs.Device.{Device}
 use Rattle.ffs_volume.specs.declared.Layout.{Layout}
 use Rattle.ffs_volume.specs.declared.Step.{Step}
@@ -14,18 +14,33 @@ use Rattle.ffs_walk.specs.Windows.{BlocksHold, HasRoom}
 use Rattle.ffs_walk.specs.Rests.{IsOver, rest as steps_left}
 use Rattle.ffs_names.specs.declared.chunks.Chunks.{Chunks}
 use Rattle.ffs_names.specs.Windows.{CanWalk, CanReadChunks}
-use Rattle.ffs_names.specs.Readings.{Continues, ContinuesTo}
+use Rattle.ffs_names.specs.Readings.{Continues, ContinuesTo, CountsOn}
 use Rattle.ffs_names.proofs.Advances.{over_rest}
-use Rattle.ffs_names.proofs.Pieces.{no_more}
+
+pub counts_here : (n : ℕ) → CountsOn n n
+counts_here n = record { most = omega arith; all = λ h. refl }
+
+pub counts_same : (n m : ℕ) → m ≡ n → CountsOn n m
+counts_same n m e = record { most = omega arith; all = λ h. e }
+
+-- one more is counted
+pub counts_one : (n m : ℕ) → m ≡ min (n + 1) (2 ^ 64 - 1) → CountsOn (n + 1) m
+counts_one n m e = record { most = omega (arith, e); all = λ h. omega (arith, e, h) }
+
+pub counts_more : (n m k : ℕ) → CountsOn n m → CountsOn m k → CountsOn n k
+counts_more n m k h l = record {
+  most = let one = h.most in let two = l.most in omega arith;
+  all = λ small. let one = h.all small in let two = l.all (omega arith) in omega arith;
+}
 
 pub continues_here : (b : List ℕ) (c : Chunks) → ContinuesTo b c c
-continues_here b c = record { chunks = refl; runs = no_more _; gap = refl }
+continues_here b c = record { chunks = refl; runs = counts_here _; gap = refl }
 
 pub continues_more : (b : List ℕ) (c c' c'' : Chunks) (steps steps' steps'' : List Step)
     → Continues b c steps c' steps' → Continues b c' steps' c'' steps'' → Continues b c steps c'' steps''
 continues_more b c c' c'' steps steps' steps'' h k = record {
   chunks = k.chunks ∙ h.chunks;
-  runs = let one = h.runs in let two = k.runs in omega arith;
+  runs = counts_more _ _ _ h.runs k.runs;
   gap = k.gap ∙ h.gap;
 }
 

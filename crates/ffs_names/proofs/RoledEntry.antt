@@ -1,5 +1,5 @@
 -- What a step that is seen gives of chunks.
-use Rattle.std.proofs.Common.{◌≡◌, ℕ, ◌+◌, ◌-◌, ◌*◌, ◌≤◌, Bool, true, false, List, [], ◌∷◌, ◌++◌, Option, Some, None}
+use Rattle.std.proofs.Common.{◌≡◌, ℕ, ◌+◌, ◌-◌, ◌*◌, Bool, true, false, List, [], ◌∷◌, ◌++◌, Option, Some, None}
 use Rattle.std.proofs.Common.{arith, refl, sym, ap, ◌∙◌}
 use Rattle.std.specs.Prelude.{if◌then◌else◌, map}
 use Rattle.std.specs.List.{range_with_len}
@@ -14,6 +14,7 @@ use Rattle.ffs_volume.specs.Encodings.ReplayCounts.{replay_step_by_cut, replayed
 use Rattle.ffs_volume.proofs.ReplayLaws.{counted_same}
 use Rattle.ffs_names.specs.declared.run_cursor.RunCursor.{RunCursor}
 use Rattle.ffs_names.specs.RunCursors.{hand_chunks, reading_by}
+use Rattle.ffs_names.specs.Readings.{CountsOn}
 
 -- a hand with nothing left
 pub no_run_cursor : (v : Layout) (b : List ℕ) (h : RunCursor) → h.next ≡ h.count → hand_chunks v b h ≡ []
@@ -52,14 +53,18 @@ run_seen v b taken cut cut' r q steps start len block kept found k n c f =
 
 pub runs_seen : (v : Layout) (cut cut' : ℕ) (r q : Replay) (steps : List Step) (start len : ℕ) (block : Option ℕ)
     (runs runs' : ℕ)
-    → is_replay_open cut r ≡ true → q ≡ replay_step_by_cut v cut r (Run start len block) → cut' ≡ cut → runs' ≤ runs + 1
-    → runs' + replayed_runs v cut' q steps ≤ runs + replayed_runs v cut r (Run start len block ∷ steps)
+    → is_replay_open cut r ≡ true → q ≡ replay_step_by_cut v cut r (Run start len block) → cut' ≡ cut
+    → CountsOn (runs + 1) runs'
+    → CountsOn (runs + replayed_runs v cut r (Run start len block ∷ steps)) (runs' + replayed_runs v cut' q steps)
 runs_seen v cut cut' r q steps start len block runs runs' s n c l =
     let one : seen_run cut r (Run start len block) ≡ 1 = ap (λ x. if x then 1 else 0) s in
     let same : replayed_runs v cut' q steps ≡ replayed_runs v cut (replay_step v cut r (Run start len block)) steps =
     ap (λ x. replayed_runs v x q steps) c
     ∙ (ap (λ x. replayed_runs v cut x steps) n ∙ sym (counted_same v 0 cut r (Run start len block) steps).runs_are) in
-    omega arith
+    record {
+      most = let m = l.most in omega arith;
+      all = λ h. let a = l.all (omega arith) in omega arith;
+    }
 
 pub run_continues : (v : Layout) (b : List ℕ) (h h' : RunCursor) (taken cut cut' : ℕ) (r q : Replay)
     (steps : List Step) (start len : ℕ) (block : Option ℕ) (kept : Bool)

@@ -49,12 +49,18 @@ gap_after c steps = has_gap (replayed_steps c.walk.geometry.layout c.keeping.cut
 abbrev pub gap_left : List ℕ → Chunks → Bool
 gap_left b c = gap_after c (steps_left b c.walk)
 
--- what a reading never changes, and the chunks that it may still give
+-- a count and what is still to be counted: their sum stays, or falls where a u64 has no room for it
+pub record CountsOn (before after : ℕ) : Type 0 where
+  pub most : after ≤ before
+  pub all : before < 2 ^ 64 → after ≡ before
+
+-- what a reading never changes, the chunks that it may still give, and that its count of Runs never falls
 pub record IsSame (old new : Chunks) : Type 0 where
   pub geometry : new.walk.geometry ≡ old.walk.geometry
   pub cut : new.keeping.cut ≡ old.keeping.cut
   pub taken : new.taken ≡ old.taken
   pub budget : new.budget ≡ old.budget
+  pub runs : old.runs ≤ new.runs
 
 -- a Run can be seen next: it has its length, the replay is open, and no chunk of the current Run is left
 pub record CanSee (c : Chunks) (run : Step) : Type 0 where
@@ -80,7 +86,7 @@ pub record LeavesChunks {T : Type 0} (old new : Chunks) (device device' : Device
 pub record Continues (b : List ℕ) (old : Chunks) (before : List Step) (new : Chunks) (after : List Step) : Type 0 where
   pub chunks : hand_chunks new.walk.geometry.layout b new.run_cursor ++ chunks_after b new after
       ≡ hand_chunks old.walk.geometry.layout b old.run_cursor ++ chunks_after b old before
-  pub runs : new.runs + runs_after new after ≤ old.runs + runs_after old before
+  pub runs : CountsOn (old.runs + runs_after old before) (new.runs + runs_after new after)
   pub gap : (new.gap || gap_after new after) ≡ (old.gap || gap_after old before)
 
 -- it continues by its own walk
@@ -93,7 +99,7 @@ pub record GivesChunk (b : List ℕ) (to_come : Chunks → List Chunk) (old new 
     (chunk : List ℕ) (answer : Option ℕ) : Type 0 where
   pub chunks : MatchOption answer ((to_come old ≡ []) × (to_come new ≡ []))
       (λ offset. to_come old ≡ chunk_of old.walk.geometry.layout.order offset chunk ∷ to_come new)
-  pub runs : new.runs + runs_left b new ≤ old.runs + runs_left b old
+  pub runs : CountsOn (old.runs + runs_left b old) (new.runs + runs_left b new)
   pub gap : (new.gap || gap_left b new) ≡ (old.gap || gap_left b old)
 
 -- the chunks of a directory with this inode and this cut

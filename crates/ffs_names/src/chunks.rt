@@ -168,6 +168,7 @@ impl Chunks {
             (λ _. self.new.budget + 1 ≡ self.old.budget))
             (λ _. self.new.budget ≡ 0) }
         ensures over { self.old.budget ≡ 0 → result ≡ Ok None }
+        ensures counted { self.old.runs ≤ self.new.runs }
         ensures geometry { self.new.walk.geometry ≡ self.old.walk.geometry }
         ensures ready { CanReadChunks self.old.walk.geometry.layout (I.device image.new) blocks.new
             «data».new }

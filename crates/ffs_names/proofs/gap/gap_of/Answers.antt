@@ -32,6 +32,7 @@ steps-preserved-in-Some-Run g c =
             inv.kept.cut;
         taken = inv.kept.taken;
         budget = inv.kept.budget;
+        runs = inv.kept.runs;
       };
       ready = walk_on _ _ _ _ _ _ inv.ready inv.kept.geometry (ap (λ d. d.size) c.in_ok-next.ensures.read)
           c.next.ensures.kept.size c.next.ensures.kept.holds;
@@ -60,6 +61,7 @@ steps-preserved g c =
         taken =
             inv.kept.taken;
         budget = inv.kept.budget;
+        runs = inv.kept.runs;
       };
       ready = walk_on _ _ _ _ _ _ inv.ready inv.kept.geometry (ap (λ d. d.size) c.in_ok-next.ensures.read)
           c.next.ensures.kept.size c.next.ensures.kept.holds;

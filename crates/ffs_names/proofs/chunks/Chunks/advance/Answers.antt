@@ -6,14 +6,15 @@ use Rattle.ffs_names.specs.Keepings.{replay_in}
 use Rattle.ffs_names.proofs.Advances.{over_rest, unseen_none, steps_on, end_none, tail_on, gap_on, runs_on, runs_tail}
 use Rattle.ffs_names.proofs.Advances.{runs_gap, walked, walked_runs}
 use Rattle.ffs_names.proofs.GapsLeft.{gap_same, gap_over_tail, gap_seen, walked_gap}
-use Rattle.ffs_names.proofs.Continuing.{continues_here, continues_more, replayed_over, walk_volume, walk_room}
-use Rattle.ffs_names.proofs.Continuing.{walk_holds, walk_on}
+use Rattle.ffs_names.proofs.Pieces.{no_more}
+use Rattle.ffs_names.proofs.Continuing.{continues_here, continues_more, counts_same, counts_more, replayed_over}
+use Rattle.ffs_names.proofs.Continuing.{walk_volume, walk_room, walk_holds, walk_on}
 use Rattle.ffs_names.proofs.chunks.Chunks.advance.Goals as goal
 
 pub steps-init : goal.steps-init
 steps-init g c = record {
   continues = λ b t. continues_here b c.args.self.now;
-  same = record { geometry = refl; cut = refl; taken = refl; budget = refl };
+  same = record { geometry = refl; cut = refl; taken = refl; budget = refl; runs = no_more _ };
   ready = c.requires;
   device = refl;
 }
@@ -45,7 +46,7 @@ steps-preserved-in-Some-Tail g c =
         chunks = tail_on v w.geometry.layout b s.run_cursor s.taken s.keeping.cut r (steps_left b s.walk)
             (steps_left b w) same (steps b t);
         runs = let e = runs_tail v w.geometry.layout s.keeping.cut r (steps_left b s.walk) (steps_left b w) same
-            (steps b t) in omega arith;
+            (steps b t) in counts_same _ _ (omega arith);
         gap = gap_over_tail v w.geometry.layout s.keeping.cut r s.gap (steps_left b s.walk) (steps_left b w) same
             (steps b t);
       });
@@ -54,6 +55,7 @@ steps-preserved-in-Some-Tail g c =
         cut = i.same.cut;
         taken = i.same.taken;
         budget = i.same.budget;
+        runs = i.same.runs;
       };
       ready = walk_on _ _ _ _ _ _ i.ready i.same.geometry (ap (λ d. d.size) c.in_ok-next.ensures.read)
           c.next.ensures.kept.size c.next.ensures.kept.holds;
@@ -76,7 +78,7 @@ steps-preserved g c =
         chunks = gap_on v w.geometry.layout b s.run_cursor s.taken s.keeping.cut r (steps_left b s.walk)
             (steps_left b w) same (steps b t);
         runs = let e = runs_gap v w.geometry.layout s.keeping.cut r (steps_left b s.walk) (steps_left b w) same
-            (steps b t) in omega arith;
+            (steps b t) in counts_same _ _ (omega arith);
         gap = gap_seen v w.geometry.layout s.keeping.cut r s.gap (steps_left b s.walk) (steps_left b w)
             (sym c.is_replay_open.ensures ∙ c.if-not-is_replay_open.false) (steps b t);
       });
@@ -85,6 +87,7 @@ steps-preserved g c =
         cut = i.same.cut;
         taken = i.same.taken;
         budget = i.same.budget;
+        runs = i.same.runs;
       };
       ready = walk_on _ _ _ _ _ _ i.ready i.same.geometry (ap (λ d. d.size) c.in_ok-next.ensures.read)
           c.next.ensures.kept.size c.next.ensures.kept.holds;
@@ -113,7 +116,8 @@ steps-preserved-in-Some-Run g c =
                 (steps_left b s.walk) run same (steps b t) ∙ old.chunks));
             runs = let e = runs_on v w.geometry.layout s.keeping.cut r (steps_left b s.walk) run same (steps b t) in
                 let k = walked_runs b c.see.new.self w c.see.ensures.walk in
-                omega (arith, after.runs, old.runs);
+                counts_more _ _ _ old.runs (counts_more _ _ _ (counts_same _ _ (omega arith))
+                (counts_more _ _ _ after.runs (counts_same _ _ (omega arith))));
             gap = walked_gap b c.see.new.self w c.see.ensures.walk
                 ∙ (after.gap ∙ (gap_same v w.geometry.layout s.keeping.cut r s.gap (steps_left b s.walk) run same
                 (steps b t) ∙ old.gap));
@@ -123,6 +127,7 @@ steps-preserved-in-Some-Run g c =
         cut = c.see.ensures.same.cut ∙ i.same.cut;
         taken = c.see.ensures.same.taken ∙ i.same.taken;
         budget = c.see.ensures.same.budget ∙ i.same.budget;
+        runs = let one = i.same.runs in let two = c.see.ensures.same.runs in omega arith;
       };
       ready = walk_on _ _ _ _ _ _ i.ready i.same.geometry (ap (λ d. d.size) c.in_ok-next.ensures.read)
           c.next.ensures.kept.size c.next.ensures.kept.holds;
@@ -143,7 +148,7 @@ returns-in_err-next-clause-runs g c =
     let s = c.steps.self in
     let o = replayed_over b c.next.new.self s.walk.geometry.layout s.keeping.cut (replay_in s.keeping)
     (steps_left b s.walk) c.in_err-next.ensures.fault in
-    let i = (c.steps.invariant.continues b t).runs in
+    let i = (c.steps.invariant.continues b t).runs.most in
     omega (arith, o, i))
 
 -- no step is left
@@ -162,7 +167,7 @@ returns-in-None-clause-continues g c = λ b t.
       chunks = steps_on v w.geometry.layout b s.run_cursor s.taken s.keeping.cut r (steps_left b s.walk)
           (steps_left b w) same steps;
       runs = let e = runs_on v w.geometry.layout s.keeping.cut r (steps_left b s.walk) (steps_left b w) same steps
-          in omega arith;
+          in counts_same _ _ (omega arith);
       gap = gap_same v w.geometry.layout s.keeping.cut r s.gap (steps_left b s.walk) (steps_left b w) same steps;
     })
 

@@ -1,7 +1,8 @@
 use Rattle.std.proofs.Common.{◌∙◌, ◌∷◌, ◌+◌, ◌-◌, ap, sym, refl, arith, take}
 use Rattle.ffs_volume.specs.Directories.Entries.{chunk_of}
 use Rattle.ffs_names.specs.Readings.{all_chunks, runs_left}
-use Rattle.ffs_names.proofs.Pieces.{some_taken, none_taken, no_more}
+use Rattle.ffs_names.proofs.Pieces.{some_taken, none_taken}
+use Rattle.ffs_names.proofs.Continuing.{counts_here}
 use Rattle.ffs_names.proofs.chunks.Chunks.next.Goals as goal
 
 pub returns-in-Ok-Some-clause-chunk : goal.returns-in-Ok-Some-clause-chunk
@@ -20,7 +21,7 @@ pub returns-then-self-eq0-clause-chunk : goal.returns-then-self-eq0-clause-chunk
 returns-then-self-eq0-clause-chunk g c = λ b t.
     let s = c.args.self.now in
     let none = ap (λ n. take n (all_chunks b s)) c.if-self-eq0.true in
-    record { chunks = (none, none); runs = no_more (s.runs + runs_left b s); gap = refl }
+    record { chunks = (none, none); runs = counts_here (s.runs + runs_left b s); gap = refl }
 
 pub returns-in-Ok-None-clause-chunk : goal.returns-in-Ok-None-clause-chunk
 returns-in-Ok-None-clause-chunk g c = λ b t.

@@ -1,4 +1,4 @@
-use Rattle.std.proofs.Common.{arith}
+use Rattle.ffs_names.proofs.Continuing.{counts_one}
 use Rattle.ffs_names.specs.Keepings.{replay_in}
 use Rattle.ffs_names.proofs.RoledEntry.{no_run_cursor, run_continues, kept_run, no_kept_run, no_data_run, no_block_run}
 use Rattle.ffs_names.proofs.RoledEntry.{runs_seen}
@@ -22,7 +22,8 @@ returns-in-Some-clause-continues c = λ b steps.
           (c.of_run-self.ensures.chunks b));
       runs = runs_seen v s.keeping.cut c.take.new.self.cut (replay_in s.keeping) (replay_in c.take.new.self) steps
           c.args.start c.args.len c.args.block s.runs c.saturating_add-self.result
-          c.requires.seen after c.take.ensures.cut (omega (arith, c.saturating_add-self.ensures));
+          c.requires.seen after c.take.ensures.cut
+          (counts_one s.runs c.saturating_add-self.result c.saturating_add-self.ensures);
       gap = gap_past_run v s.keeping.cut c.take.new.self.cut (replay_in s.keeping) (replay_in c.take.new.self) steps
           c.args.start c.args.len c.args.block s.gap
           after c.take.ensures.cut;
@@ -43,7 +44,8 @@ returns-in_default-clause-continues c = λ b steps.
           (no_run_cursor v b s.run_cursor c.requires.empty));
       runs = runs_seen v s.keeping.cut c.take.new.self.cut (replay_in s.keeping) (replay_in c.take.new.self) steps
           c.args.start c.args.len c.args.block s.runs c.saturating_add-self.result
-          c.requires.seen after c.take.ensures.cut (omega (arith, c.saturating_add-self.ensures));
+          c.requires.seen after c.take.ensures.cut
+          (counts_one s.runs c.saturating_add-self.result c.saturating_add-self.ensures);
       gap = gap_past_run v s.keeping.cut c.take.new.self.cut (replay_in s.keeping) (replay_in c.take.new.self) steps
           c.args.start c.args.len c.args.block s.gap
           after c.take.ensures.cut;
@@ -64,7 +66,8 @@ returns-then-not-take-clause-continues c = λ b steps.
           (no_run_cursor v b s.run_cursor c.requires.empty));
       runs = runs_seen v s.keeping.cut c.take.new.self.cut (replay_in s.keeping) (replay_in c.take.new.self) steps
           c.args.start c.args.len c.args.block s.runs c.saturating_add-self.result
-          c.requires.seen after c.take.ensures.cut (omega (arith, c.saturating_add-self.ensures));
+          c.requires.seen after c.take.ensures.cut
+          (counts_one s.runs c.saturating_add-self.result c.saturating_add-self.ensures);
       gap = gap_past_run v s.keeping.cut c.take.new.self.cut (replay_in s.keeping) (replay_in c.take.new.self) steps
           c.args.start c.args.len c.args.block s.gap
           after c.take.ensures.cut;
@@ -85,7 +88,8 @@ returns-then-not-in_range-clause-continues c = λ b steps.
           c.if-not-in_range.true c.in_range-in_range.ensures (no_run_cursor v b s.run_cursor c.requires.empty));
       runs = runs_seen v s.keeping.cut c.take.new.self.cut (replay_in s.keeping) (replay_in c.take.new.self) steps
           c.args.start c.args.len c.args.block s.runs c.saturating_add-self.result
-          c.requires.seen after c.take.ensures.cut (omega (arith, c.saturating_add-self.ensures));
+          c.requires.seen after c.take.ensures.cut
+          (counts_one s.runs c.saturating_add-self.result c.saturating_add-self.ensures);
       gap = gap_past_run v s.keeping.cut c.take.new.self.cut (replay_in s.keeping) (replay_in c.take.new.self) steps
           c.args.start c.args.len c.args.block s.gap
           after c.take.ensures.cut;
