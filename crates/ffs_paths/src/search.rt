@@ -1,10 +1,10 @@
 //! A search for the entries of a directory that name inodes.
 
-ghost use Rattle.std.specs.Prelude.{◌≡◌, ◌*◌, ◌<◌, ◌≤◌, ℕ, [], false, if◌then◌else◌, length, IfOk};
+ghost use Rattle.std.specs.Prelude.{◌≡◌, ◌*◌, ◌<◌, ◌≤◌, ℕ, List, [], false, if◌then◌else◌, length, IfOk};
 ghost use Rattle.ffs_image.specs.Device.{ForContents};
 ghost use Rattle.ffs_volume.specs.Directories.Graph.{names as is_named};
 ghost use Rattle.ffs_survey.specs.Reading.{roled_of};
-ghost use Rattle.ffs_names.specs.Entering.{last_name};
+ghost use Rattle.ffs_names.specs.Entering.{to_come, last_name};
 ghost use Rattle.ffs_paths.specs.Climbing.{AreOpen, ReadsOpen};
 
 use ffs_image::{Image, ImageFault};
@@ -44,6 +44,7 @@ impl Search {
 
     /// A search in no directory.
     pub fn none(geometry: &Geometry) -> Search
+        ensures none { (b : List ℕ) → to_come b result.entries ≡ [] }
         ensures geometry { result.entries.chunks.walk.geometry ≡ geometry.now }
     {
         Search {
