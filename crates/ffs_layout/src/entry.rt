@@ -1,13 +1,6 @@
 //! One entry of a directory.
 
-ghost use Rattle.std.specs.Prelude.{IsTrue, ◌≡◌, ◌+◌, ◌≤◌, ◌==◌, ◌||◌, slice_index};
-ghost use Rattle.std.specs.List.{list_any};
-ghost use Rattle.ffs_volume.specs.Directories.Entries.{is_held as held, is_length as fits, is_name as named};
-ghost use Rattle.ffs_layout.specs.Entry.{IsEntryAt, has_mark};
-
-use crate::numbers::{u16_at, u32_at};
-use ffs_volume::Order;
-use ffs_volume::constants::{DIRBLKSIZ, DIRENT_HEADER};
+ghost use Rattle.std.specs.Prelude.{◌≤◌, length as length_of};
 
 /// An entry of a directory (dir(5), `struct direct`). Its name lies in the chunk; an entry with the number 0 has none.
 #[derive(Clone, Copy, Debug)]
@@ -19,109 +12,5 @@ pub struct Entry<'a> {
     /// The type of the inode, as the upper four bits of a mode.
     pub kind: u8,
     pub name: &'a [u8],
-}
-
-// Whether a record of this length may be at the place.
-fn is_length(place: usize, len: u16) -> bool
-    requires { place ≤ 512 }
-    ensures { result ≡ fits place len }
-{
-    len % 4 == 0 && 8 <= len && place + usize::from(len) <= DIRBLKSIZ
-}
-
-// Whether one of eight bytes is NUL or `/`. All are looked at, with no test that ends the loop: the machine takes them at once.
-#[inline]
-fn has_mark_of_eight(part: &[u8; 8]) -> bool
-    ensures { result ≡ has_mark part.now }
-{
-    let mut has_mark = false;
-    for &byte in part {
-        has_mark |= byte == 0 || byte == b'/';
-    }
-    has_mark
-}
-
-// Whether one of a few bytes is NUL or `/`.
-#[inline]
-fn has_mark_of_few(bytes: &[u8]) -> bool
-    ensures { result ≡ has_mark bytes.now }
-{
-    for &byte in bytes {
-        if byte == 0 || byte == b'/' {
-            return true;
-        }
-    }
-    false
-}
-
-// Whether a byte is NUL or `/`, as none of a name is.
-#[inline]
-fn has_nul_or_slash(bytes: &[u8]) -> bool
-    ensures { result ≡ (list_any (λ b. b == 0) bytes.now || list_any (λ b. b == 47) bytes.now) }
-{
-    let (parts, rest) = bytes.as_chunks::<8>();
-    for part in parts {
-        if has_mark_of_eight(part) {
-            return true;
-        }
-    }
-    has_mark_of_few(rest)
-}
-
-// Whether the record at the place has a name.
-fn is_name(chunk: &[u8; DIRBLKSIZ], place: usize) -> bool
-    requires { place + (8 + slice_index chunk.now (place + 7)) + 1 ≤ 512 }
-    ensures { result ≡ named chunk.now place }
-{
-    let len = usize::from(chunk[place + 7]);
-    let name = &chunk[place + DIRENT_HEADER..][..len];
-    len != 0 && !has_nul_or_slash(name) && chunk[place + DIRENT_HEADER + len] == 0
-}
-
-// Whether the record at the place holds its name, and has a type.
-fn is_held(chunk: &[u8; DIRBLKSIZ], place: usize, len: u16) -> bool
-    requires { IsTrue (fits place len) }
-    ensures { result ≡ held chunk.now place len }
-{
-    DIRENT_HEADER + (usize::from(chunk[place + 7]) + 4) / 4 * 4 <= usize::from(len)
-        && chunk[place + 6] <= 15
-        && is_name(chunk, place)
-}
-
-/// The well formed entry at a place of a chunk, and None where none is there (dir(5)).
-///
-/// At byte 0 is the number (u32), at 4 the record's length (u16), at 6 the type (u8), at 7 the name's
-/// length (u8), from 8 on the name and a NUL. The name of an entry with the number 0 is empty.
-#[tactic(auto, unfolding(ffs_volume::specs::Directories::Entries::entry_at, ffs_volume::specs::Directories::Entries::is_well_formed, ffs_volume::specs::Directories::Entries::entry_read))]
-pub fn entry_at(order: Order, chunk: &[u8; DIRBLKSIZ], place: usize) -> Option<Entry<'_>>
-    requires { place ≤ 512 }
-    ensures { IsEntryAt order chunk.now place result }
-{
-    if place > DIRBLKSIZ - DIRENT_HEADER {
-        return None;
-    }
-    let length = u16_at(order, place + 4, chunk);
-    if !is_length(place, length) {
-        return None;
-    }
-    let number = u32_at(order, place, chunk);
-    let kind = chunk[place + 6];
-    if number == 0 {
-        return Some(Entry {
-            number,
-            length,
-            kind,
-            name: &[],
-        });
-    }
-    if !is_held(chunk, place, length) {
-        return None;
-    }
-    let name = &chunk[place + DIRENT_HEADER..][..usize::from(chunk[place + 7])];
-    Some(Entry {
-        number,
-        length,
-        kind,
-        name,
-    })
+    ghost short: { length_of name.now ≤ 255 },
 }

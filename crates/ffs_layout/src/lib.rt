@@ -12,6 +12,7 @@
 //! It rests on `ffs_volume` and `ffs_image`.
 #![tactic(auto)]
 
+mod entries;
 mod entry;
 mod fields;
 mod geometry;
@@ -23,7 +24,8 @@ mod numbers;
 mod shape;
 mod superblock;
 
-pub use entry::{Entry, entry_at};
+pub use entries::entry_at;
+pub use entry::Entry;
 pub use ffs_volume::{Inode, Layout, Order, SuperFault};
 pub use geometry::Geometry;
 pub use group::{Group, GroupSummary};

@@ -84,26 +84,6 @@ chunk_passed v s all m m' c cs cs' is after q =
     ∙ (after_more v s m (roled_chunk c) (flat_map roled_chunk cs')
     ∙ ap (λ k. after_entries v s k (flat_map roled_chunk cs')) after))
 
-if_some : {X : Type 0} (b : Bool) (x y : X) → (if b then Some x else None) ≡ Some y → x ≡ y
-if_some true x y h = cc
-if_some false x y h = absurd (cc)
-
-piece_short : (place n : ℕ) (bytes : List ℕ) → n ≤ 255 → length (piece place n bytes) ≤ 255
-piece_short place n bytes h = let l = length-take n (drop place bytes) in omega arith
-
-name_if : (b : Bool) (name : List ℕ) → length name ≤ 255 → length (if b then [] else name) ≤ 255
-name_if true name h = omega arith
-name_if false name h = h
-
--- one byte says how long a name is
-pub name_short : (order : Order) (chunk : List ℕ) (place : ℕ) (e : Entry) → slice_index chunk (place + 7) ≤ 255 →
-    entry_at order chunk place ≡ Some e → length e.name ≤ 255
-unfolding entry_at entry_read
-name_short order chunk place e h there =
-    subst (λ x. length x.name ≤ 255) (if_some (is_well_formed order chunk place) (entry_read order chunk place) e there)
-    (name_if (u32_at order place chunk == 0) (name_at chunk place)
-    (piece_short (place + 8) (slice_index chunk (place + 7)) chunk h))
-
 -- no entry is left
 pub none_left : (order : Order) (chunk : List ℕ) (first : Bool) (index place : ℕ) → entry_at order chunk place ≡ None →
     roled_at_place order chunk first index place ≡ []

@@ -41,7 +41,6 @@ fn say_entry<I: Image, W: Output>(
 ) -> Result<(), RunFault>
     requires ready { ReadyToPath geometry.now.layout (I.device image.old) workspace.old
         siblings.old dir }
-    requires name { length entry.now.name.now ≤ 255 }
     ensures text { PhaseReports (KnowsPath geometry.now.layout (I.device image.old).contents
         workspace.old dir path.now)
         (λ b. map of_names (marks.roled_reported (volume_of geometry.now.layout b) dir
@@ -75,7 +74,6 @@ pub fn report_entry<I: Image, W: Output>(
 ) -> Result<(), RunFault>
     requires ready { ReadyToPath geometry.now.layout (I.device image.old) workspace.old
         siblings.old dir }
-    requires name { length entry.now.name.now ≤ 255 }
     ensures text { PhaseReports (KnowsPath geometry.now.layout (I.device image.old).contents
         workspace.old dir path.now)
         (λ b. map of_names (marks.roled_reported (volume_of geometry.now.layout b) dir

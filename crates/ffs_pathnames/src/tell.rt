@@ -100,7 +100,6 @@ fn gather<I: Image>(
     requires ready { ReadyWith geometry.now.layout (I.device image.old) workspace.old siblings.old }
     requires number { IsTrue (asks_attr verdict.now) → entry.now.number
         < geometry.now.layout.ncg * geometry.now.layout.ipg }
-    requires name { length entry.now.name.now ≤ 255 }
     ensures enough { IfOk result (λ a. (b : List ℕ) (dir : ℕ) → (I.device image.old).contents
         ≡ Some b → HoldsClaims geometry.now.layout b workspace.old
         → HoldsSurvey geometry.now.layout b workspace.old →
@@ -180,7 +179,6 @@ pub fn report_plain<I: Image, W: Output>(
 ) -> Result<(), RunFault>
     requires ready { ReadyToPath geometry.now.layout (I.device image.old) workspace.old
         siblings.old dir }
-    requires name { length entry.now.name.now ≤ 255 }
     ensures text { PhaseReports (KnowsPath geometry.now.layout (I.device image.old).contents
         workspace.old dir path.now)
         (λ b. map of_names (plain_reported (volume_of geometry.now.layout b) dir

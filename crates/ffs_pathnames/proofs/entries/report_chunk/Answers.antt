@@ -11,7 +11,7 @@ use Rattle.ffs_pathnames.specs.DirectoryContext.{DirectoryContext}
 use Rattle.ffs_pathnames.specs.Marks.{after_roled, after_entries, roled_reported, entries_reported}
 use Rattle.ffs_pathnames.proofs.Looking.{roled_at_place, seen_next, none}
 use Rattle.ffs_workspace.proofs.Leaving.{leaves_all, leaves_more}
-use Rattle.ffs_pathnames.proofs.Passing.{entry_reported, entry_passed, name_short, none_left, knows_on}
+use Rattle.ffs_pathnames.proofs.Passing.{entry_reported, entry_passed, none_left, knows_on}
 use Rattle.ffs_pathnames.proofs.entries.report_chunk.Goals as goal
 
 pub entries-init : goal.entries-init
@@ -28,11 +28,6 @@ entries-init g c =
           (entries_reported (volume_of v b) c.args.dir (marks_of c.args.workspace.now)
           (roled_from c.args.first 0 (entries_of v.order c.args.chunk.now)))) _;
     }
-
-pub report_entry-requires-clause-name : goal.report_entry-requires-clause-name
-report_entry-requires-clause-name g c =
-    name_short c.args.geometry.now.layout.order c.args.chunk.now c.entries.place (entry_value c.in-Some.entry)
-    (omega (arith, c.fits-chunk (c.entries.place + 7))) c.in-Some.ensures.some
 
 pub returns-in_err-report_entry-clause-text : goal.returns-in_err-report_entry-clause-text
 returns-in_err-report_entry-clause-text g c =

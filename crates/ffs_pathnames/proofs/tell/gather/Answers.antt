@@ -17,7 +17,7 @@ returns-clause-enough g c = λ b dir t h r p.
     c.put_entry.new.text.items c.gather_path.new.text.items
     (λ q. c.in_ok-attr.ensures.attr b t1)
     (c.put_entry.ensures (graph_of (volume_of v b)) dir p
-    ∙ entry_in_room (graph_of (volume_of v b)) dir c.args.entry.now.name.now c.requires.name)
+    ∙ entry_in_room (graph_of (volume_of v b)) dir c.args.entry.now.name.now c.args.entry.now.short)
     (λ q. c.in_ok-gather_path.ensures.path b t h r (c.asks-wants_attr.ensures.directory ∙ q))
 
 pub returns-clause-leaves : goal.returns-clause-leaves
@@ -37,5 +37,5 @@ returns-then-not-wants_attr-clause-enough g c = λ b dir t h r p.
     _ c.put_entry.new.text.items c.args.directory.now.items
     (λ q. absurd (both_ways _ silent q))
     (c.put_entry.ensures (graph_of (volume_of v b)) dir p
-    ∙ entry_in_room (graph_of (volume_of v b)) dir c.args.entry.now.name.now c.requires.name)
+    ∙ entry_in_room (graph_of (volume_of v b)) dir c.args.entry.now.name.now c.args.entry.now.short)
     (λ q. absurd (both_ways _ silent (path_asks_attr c.args.verdict.now q)))

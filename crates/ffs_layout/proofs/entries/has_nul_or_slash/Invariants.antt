@@ -1,6 +1,6 @@
 use Rattle.std.proofs.Common.{◌≡◌, ◌*◌, drop}
 use Rattle.ffs_layout.specs.Entry.{has_mark}
-use Rattle.ffs_layout.proofs.entry.has_nul_or_slash.Given as goal
+use Rattle.ffs_layout.proofs.entries.has_nul_or_slash.Given as goal
 
 -- what is left decides
 abbrev pub invariant-loop-part : goal.invariant-loop-part

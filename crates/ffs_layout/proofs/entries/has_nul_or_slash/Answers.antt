@@ -1,6 +1,6 @@
 use Rattle.std.proofs.Common.{◌∙◌, ◌/◌, sym, length, arith}
 use Rattle.ffs_layout.proofs.Parts.{mark_none, mark_some}
-use Rattle.ffs_layout.proofs.entry.has_nul_or_slash.Goals as goal
+use Rattle.ffs_layout.proofs.entries.has_nul_or_slash.Goals as goal
 
 pub loop-part-preserved : goal.loop-part-preserved
 loop-part-preserved c =
