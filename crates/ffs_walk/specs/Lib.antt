@@ -3,3 +3,4 @@ pub mod Frames
 pub mod Fits
 pub mod Lengths
 pub mod Rests
+pub mod Skips

@@ -39,6 +39,7 @@ impl Frame {
     ghost use Rattle.ffs_image.specs.Reads.{ReadAfter};
     ghost use Rattle.ffs_volume.specs.declared.Step.{Step};
     ghost use Rattle.ffs_walk.specs.Fits.{HasItem, IsSpent};
+    ghost use Rattle.ffs_walk.specs.Skips.{HasNoGapNext};
     ghost use Rattle.ffs_walk.specs.Windows.{BlocksHold, CanWalk, HasRoom, KeepsBlocks};
     ghost use Rattle.ffs_walk.specs.declared.frame.Item.TheVariants.{Missing, Word};
     ghost use Rattle.ffs_walk.specs.Frames.{frame_rest, frame_left, item_steps, item_left, IsFrom, IsSameBlock};
@@ -117,6 +118,7 @@ impl Frame {
             ++ frame_rest geometry.now.layout bytes child span self.new) }
         ensures falls { (most : ℕ) → frame_left most self.new ≤ frame_left most self.old }
         ensures next { self.new.next ≡ self.old.next + result }
+        ensures passed { HasNoGapNext geometry.now.layout level blocks.now self.new }
         ensures same { IsSameBlock self.old self.new × (self.new.fresh ≡ self.old.fresh) }
     {
         if self.fresh || blocks.held[level] != Some(self.address) {

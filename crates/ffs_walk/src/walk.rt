@@ -51,6 +51,7 @@ impl Walk {
     ghost use Rattle.ffs_volume.specs.declared.Step.TheVariants.{Gap};
     ghost use Rattle.ffs_walk.specs.Fits.{IsSpent, IsBelow, IsIndirect};
     ghost use Rattle.ffs_walk.specs.Lengths.{IsStepOf};
+    ghost use Rattle.ffs_walk.specs.Skips.{HasPassedGaps};
     ghost use Rattle.ffs_walk.specs.Frames.{frame_rest, frame_left, item_steps, item_left};
     ghost use Rattle.ffs_walk.specs.Rests.{rest, left, extent_of, Enters, IsAtTop, IsDataStep, IsFirstOf, IsOver, IsWalkOf, SameExtent};
     ghost use Rattle.ffs_walk.specs.Windows.{BlocksHold, CanWalk, HasRoom, KeepsBlocks};
@@ -306,6 +307,7 @@ impl Walk {
             → ForContents contents (λ bytes.
             rest bytes self.old ≡ replicate result Gap ++ rest bytes self.new) }
         ensures falls { left self.new ≤ left self.old }
+        ensures passed { HasPassedGaps self.old self.new blocks.now }
         ensures same { SameExtent self.old self.new }
     {
         if self.single.is_left() {

@@ -42,6 +42,7 @@ pub fn zeros_end(geometry: &Geometry, block: &[u8], next: u32, used: u32) -> u32
     ensures within { (next ≤ result) × (result ≤ used) }
     ensures zeros { (k : ℕ) → next ≤ k → k < result
         → address_in geometry.now.layout block.now k ≡ 0 }
+    ensures stops { result < used → 0 < address_in geometry.now.layout block.now result }
 {
     for j in next..used {
         if word(geometry, block, j) != 0 {
