@@ -58,7 +58,7 @@ all_none (suc n) zero = refl
 all_none (suc n) (suc k) = all_none n k
 
 pub none_at : (c : ChildNames) (x : ℕ) → IsEmpty c → place_at c x ≡ None
-none_at c x h = ap (λ (ps : List (Option NamePlace)). get_or ps (x - c.first) None) h ∙ all_none 512 (x - c.first)
+none_at c x h = ap (λ (ps : List (Option NamePlace)). get_or ps (x - c.first) None) h ∙ all_none 2048 (x - c.first)
 
 pub empty_names : (b : List ℕ) (es : List RoledEntry) (c : ChildNames) → IsEmpty c → AreNamesOf b es c
 empty_names b es c h = record { found = λ x s p e. absurd (none_some p (sym (none_at c x h) ∙ e)) }

@@ -15,7 +15,7 @@ use Rattle.ffs_paths.specs.declared.child_names.ChildNames.{ChildNames}
 
 -- the inode x is one of those that a table of names is for
 abbrev pub Covers : ChildNames → ℕ → Type 0
-Covers c x = (c.first ≤ x) × (x < c.first + 512)
+Covers c x = (c.first ≤ x) × (x < c.first + 2048)
 
 -- the place that is kept for it
 abbrev pub place_at : ChildNames → ℕ → Option NamePlace
@@ -23,7 +23,7 @@ place_at c x = get_or c.places (x - c.first) None
 
 -- no place is found yet
 abbrev pub IsEmpty : ChildNames → Type 0
-IsEmpty c = c.places ≡ replicate 512 None
+IsEmpty c = c.places ≡ replicate 2048 None
 
 -- a table for inodes of a directory, from the first number on, without a place
 pub record IsNewFor (parent first : ℕ) (c : ChildNames) : Type 0 where

@@ -13,7 +13,7 @@ use ffs_survey::{Named, is_plain};
 use ffs_workspace::Windows;
 
 /// How many numbers a table of names is for.
-pub const COVERED: usize = 512;
+pub const COVERED: usize = 2048;
 
 /// Where a name is in the image, and how long it is, in bytes.
 #[derive(Clone, Copy, Debug)]
@@ -31,8 +31,8 @@ pub struct ChildNames {
     pub parent: u32,
     /// The first of the numbers.
     pub first: u32,
-    pub places: [Option<NamePlace>; 512],
-    ghost long: { length places ≡ 512 },
+    pub places: [Option<NamePlace>; 2048],
+    ghost long: { length places ≡ 2048 },
 }
 
 impl ChildNames {
@@ -45,14 +45,14 @@ impl ChildNames {
         ChildNames {
             parent,
             first,
-            places: [None; 512],
+            places: [None; 2048],
         }
     }
 
     /// Whether an inode of the directory is among those that it is for.
     pub fn covers(&self, parent: u32, number: u32) -> bool
         ensures { result ≡ ((self.now.parent == parent)
-            && (nat_le self.now.first number && nat_lt (number - self.now.first) 512)) }
+            && (nat_le self.now.first number && nat_lt (number - self.now.first) 2048)) }
     {
         self.parent == parent && self.first <= number && ((number - self.first) as usize) < COVERED
     }
