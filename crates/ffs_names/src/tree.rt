@@ -57,7 +57,10 @@ impl<I: Image> Directories for Tree<'_, I> {
             return Ok(());
         }
         let cut = self.cut[dir as usize];
-        let inode = self.windows.table.inode(&self.geometry, dir, self.image)?;
+        let inode = self
+            .windows
+            .table
+            .inode_by_part(&self.geometry, dir, self.image)?;
         self.entries.restart(&inode, cut);
         Ok(())
     }

@@ -15,7 +15,7 @@ use Rattle.ffs_volume.specs.Disk.Outcome.{is_block_size, has_valid_sizes, is_val
 use Rattle.ffs_volume.specs.Disk.Geometry.{IsValidLayout}
 use Rattle.ffs_walk.specs.Windows.{WindowHolds}
 use Rattle.ffs_workspace.specs.declared.table.Table.{Table}
-use Rattle.ffs_workspace.specs.Tables.{table_block_place, HasInode, IsInPlace, IsTableOf, IsHeldAt}
+use Rattle.ffs_workspace.specs.Tables.{table_block_place, table_part_place, HasInode, IsInPlace, IsTableOf, IsHeldAt}
 
 -- a block holds whole inodes
 block_whole : (n : ℕ) → is_block_size n ≡ true → 128 * (n / 128) ≡ n
@@ -81,6 +81,47 @@ block_inside v x g group =
     let scaled : cgdmin v (x / v.ipg) * v.fsize ≤ v.size * v.fsize = mul-le-mul_right v.fsize within in
     grind (arith)
 
+-- a block has a whole number of parts
+block_parts : (n : ℕ) → is_block_size n ≡ true → 4096 * (n / 4096) ≡ n
+unfolding is_block_size
+block_parts n h = grind (arith, nat_tests)
+
+-- how many parts a block has
+pub parts_whole : (v : Layout) → IsValidLayout v → 32 * (v.bsize / 4096) ≡ v.inopb
+parts_whole v g =
+    let whole = block_parts v.bsize (block_is v (sizes_are v g.shaped)) in
+    let same = inodes_whole v g in
+    omega (arith, whole, same)
+
+-- a table has a whole number of parts
+pub table_parts : (v : Layout) → IsValidLayout v → v.ipg % 32 ≡ 0
+table_parts v g =
+    let all : v.inopb * (v.ipg / v.inopb) ≡ v.ipg = whole_blocks v.ipg v.inopb g.sizes.inode_blocks in
+    let k = v.bsize / 4096 in
+    let parts : 32 * k ≡ v.inopb = parts_whole v g in
+    let is : v.ipg ≡ 32 * (k * (v.ipg / v.inopb)) =
+    sym all ∙ ap (λ (n : ℕ). n * (v.ipg / v.inopb)) (sym parts) ∙ mul_assoc 32 k (v.ipg / v.inopb) in
+    omega (arith, is)
+
+-- the part of an inode ends no later than its block
+part_ends : (i k : ℕ) → 0 < k → i / 32 * 4096 + 4096 ≤ i / (32 * k) * (4096 * k) + 4096 * k
+part_ends i k some =
+    let below : i < suc (i / (32 * k)) * (32 * k) = omega (arith, div-add-mod' i (32 * k), mod-lt i {m = 32 * k} (omega arith)) in
+    let less : i / 32 < suc (i / (32 * k)) * k = div_below i 32 (suc (i / (32 * k)) * k) (omega arith) (grind (arith, below)) in
+    grind (arith, less)
+
+-- the part of an inode ends in the volume
+pub part_inside : (v : Layout) (x : ℕ) → IsValidLayout v → x / v.ipg < v.ncg →
+    (cgstart v (x / v.ipg) + v.iblkno) * v.fsize + x % v.ipg / 32 * 4096 + 4096 ≤ v.size * v.fsize
+part_inside v x g group =
+    let k = v.bsize / 4096 in
+    let inodes : 32 * k ≡ v.inopb = parts_whole v g in
+    let bytes : 4096 * k ≡ v.bsize = block_parts v.bsize (block_is v (sizes_are v g.shaped)) in
+    let same = inodes_whole v g in
+    let ends = rw (inodes, bytes) at (part_ends (x % v.ipg) k (omega (arith, inodes))) in
+    let inside = block_inside v x g group in
+    omega (arith, ends, inside)
+
 -- the numbers of the block of x, in blocks of n: each is in the same table of ipg, and in the same block of it
 in_block : (x y ipg n : ℕ) → 0 < n → 0 < ipg → ipg % n ≡ 0 → x - x % ipg % n ≤ y → y < x - x % ipg % n + n →
     (y / ipg ≡ x / ipg) × (y % ipg ≡ x % ipg / n * n + (y - (x - x % ipg % n)))
@@ -111,6 +152,16 @@ inodes_there v x t g first count place length y has =
     let it = in_block x y v.ipg v.inopb (omega arith) g.sizes.some_inodes g.sizes.inode_blocks low high in
     let spread : x % v.ipg / v.inopb * v.bsize ≡ 128 * (x % v.ipg / v.inopb * v.inopb) =
     rw (← same) (grind (arith, mul_comm, mul_assoc)) in
+    record { place = rw (it.0, it.1) (omega arith); inside = omega arith }
+
+-- the part of x has each of its inodes in its place
+pub part_there : (v : Layout) (x : ℕ) (t : Table) → IsValidLayout v → t.first ≡ x - x % v.ipg % 32 →
+    t.count ≡ 32 → t.window.place ≡ table_part_place v x → t.window.length ≡ 4096 →
+    (y : ℕ) → HasInode t y → IsInPlace v t y
+part_there v x t g first count place length y has =
+    let low : x - x % v.ipg % 32 ≤ y = omega arith in
+    let high : y < x - x % v.ipg % 32 + 32 = omega arith in
+    let it = in_block x y v.ipg 32 (omega arith) g.sizes.some_inodes (table_parts v g) low high in
     record { place = rw (it.0, it.1) (omega arith); inside = omega arith }
 
 -- a piece of a piece

@@ -14,11 +14,15 @@ abbrev pub table_block_place : Layout → ℕ → ℕ
 table_block_place v x =
     (cgstart v (x / v.ipg) + v.iblkno) * v.fsize + x % v.ipg / v.inopb * v.bsize
 
--- the inode x is one of those of the block that is held
+-- the byte where the part of the inode table begins that has the inode x: parts have 32 inodes
+abbrev pub table_part_place : Layout → ℕ → ℕ
+table_part_place v x = (cgstart v (x / v.ipg) + v.iblkno) * v.fsize + x % v.ipg / 32 * 4096
+
+-- the inode x is one of those that are held
 abbrev pub HasInode : Table → ℕ → Type 0
 HasInode t x = (t.first ≤ x) × (x < t.first + t.count)
 
--- the inode x is in the window, in its place among those of the block
+-- the inode x is in the window, in its place among those that are held
 pub record IsInPlace (v : Layout) (t : Table) (x : ℕ) : Type 0 where
   pub place : t.window.place + 128 * (x - t.first) ≡ inode_place v x
   pub inside : 128 * (x - t.first) + 128 ≤ t.window.length

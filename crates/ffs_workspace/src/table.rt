@@ -4,7 +4,7 @@ ghost use Rattle.std.specs.Prelude.{◌≡◌, ◌*◌, ◌+◌, ◌<◌, ◌≤
 ghost use Rattle.ffs_image.specs.Device.{ForContents};
 ghost use Rattle.ffs_image.specs.Reads.{ReadAfter};
 ghost use Rattle.ffs_volume.specs.Blocks.Inodes.{inode_of};
-ghost use Rattle.ffs_workspace.specs.Tables.{table_block_place};
+ghost use Rattle.ffs_workspace.specs.Tables.{table_block_place, table_part_place};
 
 use ffs_image::{Image, ImageFault};
 use ffs_layout::{Geometry, decode_inode};
@@ -28,11 +28,29 @@ fn block_place(geometry: &Geometry, number: u32) -> u64
         + u64::from(block) * u64::from(geometry.layout.bsize)
 }
 
-/// One block of the inode table of a group.
+/// How many inodes a part of a table has, and how many bytes: parts lie one after another, and no block has less.
+const PART_INODES: u32 = 32;
+
+const PART_BYTES: u64 = 4096;
+
+/// Where the part of the inode table is that has an inode, in bytes.
+#[tactic(auto, using(crate::proofs::Places::part_inside, ffs_volume::proofs::AreaLaws::inode_group))]
+fn part_place(geometry: &Geometry, number: u32) -> u64
+    requires { number < geometry.now.layout.ncg * geometry.now.layout.ipg }
+    ensures value { result ≡ table_part_place geometry.now.layout number }
+    ensures inside { result + 4096 ≤ geometry.now.layout.size * geometry.now.layout.fsize }
+{
+    let group = number / geometry.layout.ipg;
+    let part = number % geometry.layout.ipg / PART_INODES;
+    u64::from(geometry.cgstart(group) + geometry.layout.iblkno) * u64::from(geometry.layout.fsize)
+        + u64::from(part) * PART_BYTES
+}
+
+/// One block of the inode table of a group, or a part of one.
 #[derive(Drop)]
 pub struct Table {
     pub window: Window,
-    /// The inodes of the block that the window holds: the number of the first, and how many.
+    /// The inodes that the window holds: the number of the first, and how many.
     pub first: u32,
     pub count: u32,
 }
@@ -88,6 +106,26 @@ impl Table {
         Ok(())
     }
 
+    // Reads the part of the table that has an inode.
+    fn read_part<I: Image>(
+        &mut self,
+        geometry: &Geometry,
+        number: u32,
+        image: &mut I,
+    ) -> Result<(), ImageFault>
+        requires number { number < geometry.now.layout.ncg * geometry.now.layout.ipg }
+        requires ready { CanReadInodes geometry.now.layout (I.device image.old) self.old }
+        ensures kept { KeepsTable geometry.now.layout (I.device image.new).contents self.new }
+        ensures read { ReadAfter (I.device image.old) (I.device image.new) result }
+    {
+        let place = part_place(geometry, number);
+        self.forget();
+        self.window.fill(image, place, PART_BYTES as usize)?;
+        self.first = number - number % geometry.layout.ipg % PART_INODES;
+        self.count = PART_INODES;
+        Ok(())
+    }
+
     // Reads the block of the table that has an inode, unless it is the one that was read last. Its answer is where the inode's
     // bytes are in the window.
     #[inline(always)]
@@ -128,5 +166,26 @@ impl Table {
         let at = self.load(geometry, number, image)?;
         let bytes = self.window.bytes();
         Ok(decode_inode(geometry.layout.order, &bytes[at..at + DINODE_SIZE]))
+    }
+    /// The inode of a number (fs(5)), as `inode` gives it. Where it isn't held, a part of its block is read: so few bytes are
+    /// read for inodes that are far from one another.
+    #[inline(always)]
+    pub fn inode_by_part<I: Image>(
+        &mut self,
+        geometry: &Geometry,
+        number: u32,
+        image: &mut I,
+    ) -> Result<Inode, ImageFault>
+        requires number { number < geometry.now.layout.ncg * geometry.now.layout.ipg }
+        requires ready { CanReadInodes geometry.now.layout (I.device image.old) self.old }
+        ensures inode { IfOk result (λ inode. ForContents (I.device image.old).contents
+            (λ bytes. inode ≡ inode_of geometry.now.layout bytes number)) }
+        ensures kept { KeepsTable geometry.now.layout (I.device image.new).contents self.new }
+        ensures read { ReadAfter (I.device image.old) (I.device image.new) result }
+    {
+        if !self.has(number) {
+            self.read_part(geometry, number, image)?;
+        }
+        self.inode(geometry, number, image)
     }
 }

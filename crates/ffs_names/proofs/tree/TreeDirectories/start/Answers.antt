@@ -23,10 +23,10 @@ returns-clause-reader g c =
       is_ready = (
         record {
           volume = rw device r.volume;
-          table = c.inode.ensures.kept.made;
+          table = c.inode_by_part.ensures.kept.made;
           blocks = r.blocks;
           chunk = r.chunk;
-          table_holds = c.inode.ensures.kept.holds;
+          table_holds = c.inode_by_part.ensures.kept.holds;
           blocks_hold = rw device r.blocks_hold;
           chunk_holds = rw device r.chunk_holds;
           kinds_long = r.kinds_long;
