@@ -39,6 +39,19 @@ fn inode_in_its_table(rt: HostRuntime) -> Result<(), Fail> {
     Ok(())
 }
 
+#[test]
+fn inode_in_a_part(rt: HostRuntime) -> Result<(), Fail> {
+    let geometry = geometry(Order::Little)?;
+    let mut image = image_of(Order::Little, &ROOT, rt.alloc())?;
+    let mut workspace = Workspace::new(rt.alloc(), &geometry)?;
+    let table = &mut workspace.windows.table;
+    let root = table.inode_by_part(&geometry, 2, &mut image)?;
+    assert_eq!(rt; (root.mode, root.nlink, root.size), (0o40755, 2, 512));
+    let next = table.inode_by_part(&geometry, 3, &mut image)?;
+    assert_eq!(rt; (next.mode, next.nlink, next.size), (0, 0, 0));
+    Ok(())
+}
+
 // A count of references starts below 32768 by the links, and at 32769 where there is none.
 #[test]
 fn starts_by_links(rt: HostRuntime) {
