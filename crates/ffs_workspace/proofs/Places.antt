@@ -106,8 +106,10 @@ table_parts v g =
 -- the part of an inode ends no later than its block
 part_ends : (i k : ℕ) → 0 < k → i / 32 * 4096 + 4096 ≤ i / (32 * k) * (4096 * k) + 4096 * k
 part_ends i k some =
-    let below : i < suc (i / (32 * k)) * (32 * k) = omega (arith, div-add-mod' i (32 * k), mod-lt i {m = 32 * k} (omega arith)) in
-    let less : i / 32 < suc (i / (32 * k)) * k = div_below i 32 (suc (i / (32 * k)) * k) (omega arith) (grind (arith, below)) in
+    let rest : i % (32 * k) < 32 * k = mod-lt i {m = 32 * k} (omega arith) in
+    let below : i < suc (i / (32 * k)) * (32 * k) = omega (arith, div-add-mod' i (32 * k), rest) in
+    let less : i / 32 < suc (i / (32 * k)) * k =
+    div_below i 32 (suc (i / (32 * k)) * k) (omega arith) (grind (arith, below)) in
     grind (arith, less)
 
 -- the part of an inode ends in the volume

@@ -167,8 +167,9 @@ impl Table {
         let bytes = self.window.bytes();
         Ok(decode_inode(geometry.layout.order, &bytes[at..at + DINODE_SIZE]))
     }
-    /// The inode of a number (fs(5)), as `inode` gives it. Where it isn't held, a part of its block is read: so few bytes are
-    /// read for inodes that are far from one another.
+
+    /// The inode of a number (fs(5)), as `inode` gives it. Where it isn't held, a part of its block is read: so few bytes
+    /// are read for inodes that are far from one another.
     #[inline(always)]
     pub fn inode_by_part<I: Image>(
         &mut self,
