@@ -1,5 +1,5 @@
 -- What is reported of a directory's size, Gaps and chunks, and of its first two entries, by what was found of them.
-use Rattle.std.specs.Prelude.{ℕ, ◌%◌, ◌==◌, Bool, not, ◌&&◌, nat_lt, List, ◌++◌, Option, None, Some}
+use Rattle.std.specs.Prelude.{ℕ, ◌%◌, ◌==◌, Bool, false, not, ◌&&◌, nat_lt, List, ◌++◌, Option, None, Some}
 use Rattle.ffs_volume.specs.declared.Attr.{Attr}
 use Rattle.ffs_volume.specs.Directories.Entries.{Entry, is_live}
 use Rattle.ffs_volume.specs.Directories.Roles.{is_one_dot, is_two_dots, entry_if}
@@ -46,6 +46,22 @@ dotdot_said about path parent second (Some e) = above_reported about path parent
 abbrev pub dots_reported : Attr → List ℕ → ℕ → Option ℕ → Option Entry → Option Entry → List NameMessage
 dots_reported about path d parent first second = dot_said about path d first (dot_in first)
     ++ dotdot_said about path parent second (dotdot_in second)
+
+-- the first entry is the directory's `.`, and the second one its `..`
+abbrev pub is_right_dot : ℕ → Option Entry → Bool
+is_right_dot d None = false
+is_right_dot d (Some e) = is_live e && (is_one_dot e.name && ((e.number == d) && (e.kind == 4)))
+
+abbrev pub is_right_dotdot : Option ℕ → Option Entry → Bool
+is_right_dotdot parent None = false
+is_right_dotdot parent (Some e) =
+    is_live e && (is_two_dots e.name && (not (is_wrong_parent parent e.number) && (e.kind == 4)))
+
+-- the size, the Gaps, the chunks and the first two entries are right
+abbrev pub is_right_header : ℕ → ℕ → Option ℕ → Bool → Bool → Option Entry → Option Entry → Bool
+is_right_header size d parent gap sound first second =
+    (not (nat_lt size 24) && ((size % 512 == 0) && (not gap && sound)))
+    && (is_right_dot d first && is_right_dotdot parent second)
 
 -- all that is reported before the entries
 unfoldable pub header_reported : Attr → List ℕ → ℕ → Option ℕ → Bool → Bool → Option Entry → Option Entry

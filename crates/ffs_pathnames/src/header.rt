@@ -6,7 +6,7 @@ ghost use Rattle.ffs_volume.specs.Directories.Roles as roles;
 ghost use Rattle.ffs_layout.specs.Entry.{entry_value};
 ghost use Rattle.ffs_report.specs.Progress.{progress};
 ghost use Rattle.ffs_pathnames.specs.SaysNames.{SaysNames};
-ghost use Rattle.ffs_pathnames.specs.Header.{size_reported, chunks_reported, shape_reported, there_reported, above_reported, dot_in, dotdot_in, dot_said, dotdot_said, header_reported};
+ghost use Rattle.ffs_pathnames.specs.Header.{size_reported, chunks_reported, shape_reported, there_reported, above_reported, dot_in, dotdot_in, dot_said, dotdot_said, is_right_dot, is_right_dotdot, is_right_header, header_reported};
 
 use crate::say::{Check, NameLine, say_two};
 use ffs_layout::Entry;
@@ -244,7 +244,8 @@ pub fn say_header<W: Output>(
 
 /// Whether nothing is wrong with `.`, the first entry.
 fn is_dot_right(number: u32, first: Option<Entry<'_>>) -> bool
-    ensures { IsTrue result → (about : attrs.Attr) (path : List ℕ) →
+    ensures value { result ≡ is_right_dot number (option_map entry_value first.entry) }
+    ensures quiet { IsTrue result → (about : attrs.Attr) (path : List ℕ) →
         dot_said about path number (option_map entry_value first.entry)
         (dot_in (option_map entry_value first.entry)) ≡ [] }
 {
@@ -259,7 +260,8 @@ fn is_dot_right(number: u32, first: Option<Entry<'_>>) -> bool
 
 /// Whether nothing is wrong with `..`, the second entry.
 fn is_dotdot_right(parent: Option<u32>, second: Option<Entry<'_>>) -> bool
-    ensures { IsTrue result → (about : attrs.Attr) (path : List ℕ) →
+    ensures value { result ≡ is_right_dotdot parent (option_map entry_value second.entry) }
+    ensures quiet { IsTrue result → (about : attrs.Attr) (path : List ℕ) →
         dotdot_said about path parent (option_map entry_value second.entry)
         (dotdot_in (option_map entry_value second.entry)) ≡ [] }
 {
@@ -281,7 +283,9 @@ fn is_shape_right(size: u64, gap: bool, sound: bool) -> bool
 
 /// Whether nothing is reported of a directory of a size before its entries.
 pub fn is_in_order(number: u32, parent: Option<u32>, size: u64, shape: DirectoryHeader<'_>) -> bool
-    ensures { IsTrue result → (about : attrs.Attr) (path : List ℕ) → about.size ≡ size →
+    ensures value { result ≡ is_right_header size number parent shape.entry.gap shape.entry.sound
+        (option_map entry_value shape.entry.first) (option_map entry_value shape.entry.second) }
+    ensures quiet { IsTrue result → (about : attrs.Attr) (path : List ℕ) → about.size ≡ size →
         header_reported about path number parent shape.entry.gap shape.entry.sound
         (option_map entry_value shape.entry.first) (option_map entry_value shape.entry.second)
         ≡ [] }

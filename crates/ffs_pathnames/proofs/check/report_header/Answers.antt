@@ -19,7 +19,7 @@ returns-then-is_in_order-clause-text g c =
     record {
       messages = [];
       right = λ b k. sym (ap (map of_names)
-          (c.is_in_order.ensures c.if-is_in_order.true (attributes (volume_of v b) c.args.dir)
+          (c.is_in_order.ensures.quiet c.if-is_in_order.true (attributes (volume_of v b) c.args.dir)
           (dir_path (graph_of (volume_of v b)) c.args.dir)
           (attr_size v b c.args.dir ∙ sym k.1)));
       said = said_none _;
