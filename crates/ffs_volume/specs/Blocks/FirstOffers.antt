@@ -1,4 +1,4 @@
--- Offers by their numbers.
+-- An offer by its two numbers; phase 1b reports the first offer of a fragment.
 use Rattle.std.proofs.Common.{ℕ}
 use Rattle.ffs_volume.specs.Blocks.BlockCheck.{Offer}
 

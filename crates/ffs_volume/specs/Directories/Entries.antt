@@ -11,7 +11,7 @@ use Rattle.ffs_volume.specs.declared.Step.{Step}
 use Rattle.ffs_volume.specs.declared.Step.TheVariants.{Run, Tail, Gap}
 use Rattle.ffs_volume.specs.Disk.Numbers.{u16_at, u32_at, piece}
 
--- an entry: its inode number, the length of its record, its type and its name
+-- an entry: its inode number, the length of its record, its type (DT_DIR and so on) and its name
 pub record Entry : Type 0 where
   pub number : ℕ
   pub length : ℕ

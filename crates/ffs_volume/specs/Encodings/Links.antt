@@ -8,15 +8,15 @@ use Rattle.ffs_volume.specs.declared.Class.{Class}
 use Rattle.ffs_volume.specs.Blocks.Inodes.{inode_of, is_allocated}
 use Rattle.ffs_volume.specs.Directories.Volumes.{class_at}
 
--- by the count of links
+-- the start, by the count of links
 abbrev pub links_start : ℤ → ℕ
 links_start (pos n) = if nat_lt 0 n && nat_le n LINKS_MET then LINKS_MET - n else NO_LINKS
 links_start (negsuc n) = NO_LINKS
 
--- of an inode of a class: 0 where nothing is allocated
+-- the start for an inode of a class: 0 where nothing is allocated
 abbrev pub start_of : Class → Inode → ℕ
 start_of class i = if is_allocated class then links_start i.nlink else 0
 
--- of the inode x of an image, and 0 where x is no inode's number
+-- the start for the inode x of an image, and 0 where x is no inode's number
 unfoldable pub start_at : (v : Layout) (image : List ℕ) (x : ℕ) → ℕ
 start_at v image x = start_of (class_at v image x) (inode_of v image x)

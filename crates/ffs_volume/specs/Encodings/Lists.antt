@@ -1,4 +1,5 @@
--- The value at an index of a list that has one for each inode: of a flag it is `is_set`.
+-- The value at an index of a list that has one for each inode: of a flag it is `is_set`, called `bool_at` here and in
+-- the crates above.
 use Rattle.std.specs.Prelude.{ℕ, List, slice_index}
 pub use Rattle.ffs_volume.specs.Blocks.Claims.{is_set as bool_at}
 
