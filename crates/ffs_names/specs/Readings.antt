@@ -82,6 +82,13 @@ pub record LeavesChunks {T : Type 0} (old new : Chunks) (device device' : Device
   pub ready : CanReadChunks old.walk.geometry.layout device' blocks chunk
   pub read : ReadAfter device device' result
 
+-- what a call leaves that gives the next chunk or the next entry
+pub record LeavesReading {T : Type 0} (old new : Chunks) (device device' : Device) (blocks : Blocks) (chunk : Window)
+    (result : Result T ImageFault) : Type 0 where
+  pub geometry : new.walk.geometry ≡ old.walk.geometry
+  pub ready : CanReadChunks old.walk.geometry.layout device' blocks chunk
+  pub read : ReadAfter device device' result
+
 -- a reading of an image of these bytes with these steps to come continues as one that has these
 pub record Continues (b : List ℕ) (old : Chunks) (before : List Step) (new : Chunks) (after : List Step) : Type 0 where
   pub chunks : hand_chunks new.walk.geometry.layout b new.run_cursor ++ chunks_after b new after

@@ -2,7 +2,6 @@
 
 ghost use Rattle.std.specs.Prelude.{◌≡◌, ◌+◌, ◌*◌, ◌≤◌, ◌<◌, ◌^◌, ◌∷◌, ℕ, List, [], true, Ok, None, OnOk, IfOk, IfSome, OnErr, MatchBool, MatchOption, MatchResult};
 ghost use Rattle.ffs_image.specs.Device.{ForContents};
-ghost use Rattle.ffs_image.specs.Reads.{ReadAfter};
 ghost use Rattle.ffs_volume.specs.Disk.Numbers.{piece};
 ghost use Rattle.ffs_volume.specs.Directories.Entries.{bytes_read};
 ghost use Rattle.ffs_volume.specs.declared.Step.{Step as StepIn};
@@ -40,7 +39,7 @@ pub struct Chunks {
 
 impl Chunks {
     ghost use Rattle.ffs_names.specs.RunCursors.{last_place};
-    ghost use Rattle.ffs_names.specs.Readings.{all_chunks, rest, runs_left, IsSame, CanSee, LeavesWalk, LeavesChunks, Continues, ContinuesTo, GivesChunk, BeginsAt};
+    ghost use Rattle.ffs_names.specs.Readings.{all_chunks, rest, runs_left, IsSame, CanSee, LeavesWalk, LeavesChunks, LeavesReading, Continues, ContinuesTo, GivesChunk, BeginsAt};
 
     /// A Run is seen. Only one of data that is kept whole, and is in range, has chunks.
     fn see(&mut self, start: u32, len: u32, block: Option<u64>)
@@ -169,10 +168,8 @@ impl Chunks {
             (λ _. self.new.budget ≡ 0) }
         ensures over { self.old.budget ≡ 0 → result ≡ Ok None }
         ensures counted { self.old.runs ≤ self.new.runs }
-        ensures geometry { self.new.walk.geometry ≡ self.old.walk.geometry }
-        ensures ready { CanReadChunks self.old.walk.geometry.layout (I.device image.new) blocks.new
-            «data».new }
-        ensures read { ReadAfter (I.device image.old) (I.device image.new) result }
+        ensures leaves { LeavesReading self.old self.new (I.device image.old)
+            (I.device image.new) blocks.new «data».new result }
     {
         if self.budget == 0 {
             return Ok(None);

@@ -2,7 +2,6 @@
 
 ghost use Rattle.std.specs.Prelude.{◌≡◌, ◌+◌, ◌-◌, ◌*◌, ◌/◌, ◌<◌, ◌≤◌, ◌^◌, ◌∷◌, ℕ, List, [], false, IfOk, IfSome, is_some, MatchOption};
 ghost use Rattle.ffs_image.specs.Device.{ForContents};
-ghost use Rattle.ffs_image.specs.Reads.{ReadAfter};
 ghost use Rattle.ffs_volume.specs.Directories.Entries.{entry_at as entry_in};
 ghost use Rattle.ffs_names.specs.RightShapes.{is_right_size};
 ghost use Rattle.ffs_names.specs.Windows.{CanWalk, CanReadChunks};
@@ -50,6 +49,7 @@ fn has_right_size(inode: &Inode) -> bool
 
 impl Entries {
     ghost use Rattle.ffs_survey.specs.Reading.{roled_of};
+    ghost use Rattle.ffs_names.specs.Readings.{LeavesReading, LeavesWalk};
     ghost use Rattle.ffs_names.specs.Shapes.{has_right_shape, HasEnded, BeginsDirectory, GivesEntry, IsSameChunk};
     ghost use Rattle.ffs_names.specs.Entering.{to_come, left, last_name, IsHeld, IsInside, MayTake, name_place};
 
@@ -167,10 +167,8 @@ impl Entries {
         ensures inside { IfOk result (λ o. IfSome o (λ _.
             (self.old.place < 512 → IsInside self.old) → IsInside self.new)) }
         ensures left { IfOk result (λ named. IfSome named (λ _. left self.new < left self.old)) }
-        ensures geometry { self.new.chunks.walk.geometry ≡ self.old.chunks.walk.geometry }
-        ensures ready { CanReadChunks self.old.chunks.walk.geometry.layout (I.device image.new)
-            blocks.new window.new }
-        ensures read { ReadAfter (I.device image.old) (I.device image.new) result }
+        ensures leaves { LeavesReading self.old.chunks self.new.chunks (I.device image.old)
+            (I.device image.new) blocks.new window.new result }
     {
         'chunks: loop {
             match self.take() {
@@ -203,10 +201,8 @@ impl Entries {
         requires { CanWalk self.old.chunks.walk.geometry.layout (I.device image.old) blocks.old }
         ensures sound { IfOk result (λ right. ForContents (I.device image.old).contents
             (λ b. HasEnded b self.old → right ≡ has_right_shape b self.old)) }
-        ensures geometry { self.new.chunks.walk.geometry ≡ self.old.chunks.walk.geometry }
-        ensures ready { CanWalk self.old.chunks.walk.geometry.layout (I.device image.new)
-            blocks.new }
-        ensures read { ReadAfter (I.device image.old) (I.device image.new) result }
+        ensures leaves { LeavesWalk self.old.chunks self.new.chunks (I.device image.old)
+            (I.device image.new) blocks.new result }
     {
         if !self.sound {
             return Ok(false);

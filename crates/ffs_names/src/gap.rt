@@ -1,9 +1,8 @@
 //! Whether a hole of a directory is kept.
 ghost use Rattle.std.specs.Prelude.{◌≡◌, ◌||◌, IfOk};
 ghost use Rattle.ffs_image.specs.Device.{ForContents};
-ghost use Rattle.ffs_image.specs.Reads.{ReadAfter};
 ghost use Rattle.ffs_names.specs.Windows.{CanWalk};
-ghost use Rattle.ffs_names.specs.Readings.{gap_left, IsSame};
+ghost use Rattle.ffs_names.specs.Readings.{gap_left, LeavesWalk};
 
 use crate::chunks::Chunks;
 use ffs_image::{Image, ImageFault};
@@ -20,9 +19,8 @@ pub fn gap_of<I: Image>(
     requires { CanWalk chunks.old.walk.geometry.layout (I.device image.old) blocks.old }
     ensures gap { IfOk result (λ g. ForContents (I.device image.old).contents (λ b.
         g ≡ (chunks.old.gap || gap_left b chunks.old))) }
-    ensures same { IsSame chunks.old chunks.new }
-    ensures ready { CanWalk chunks.old.walk.geometry.layout (I.device image.new) blocks.new }
-    ensures read { ReadAfter (I.device image.old) (I.device image.new) result }
+    ensures leaves { LeavesWalk chunks.old chunks.new (I.device image.old) (I.device image.new)
+        blocks.new result }
 {
     if chunks.gap {
         return Ok(true);

@@ -70,11 +70,11 @@ returns-in_err-offset-clause-leaves g c =
     let p = err_from_is_err_and c.from_residual-in_err-offset.result c.from_residual-in_err-offset.ensures.1 in
     rw (p.1, p.2) (record {
       image = subst (λ d. Faulted d (g.I.Image.device c.next.new.image) c.in_err-offset.field-0.0.sector) inv.device
-          read.read;
+          read.leaves.read;
       survey = leaves_more _ _ _ inv.survey
           (windows_leave c.chunks.workspace (with_chunk c.chunks.workspace c.next.new.blocks c.next.new.data) refl);
-      ready = ready_read _ _ _ c.chunks.workspace _ _ inv.ready.ready read.read.contents
-          (rw inv.geometry at read.ready);
+      ready = ready_read _ _ _ c.chunks.workspace _ _ inv.ready.ready read.leaves.read.contents
+          (rw inv.geometry at read.leaves.ready);
     })
 
 pub next-requires : goal.next-requires
@@ -84,7 +84,7 @@ pub report_chunk-requires : goal.report_chunk-requires
 report_chunk-requires g c =
     let inv = c.chunks.invariant in
     let read = c.in_ok-offset.ensures in
-    let next = ready_next _ _ _ c.chunks.workspace _ _ _ inv.ready read.read (rw inv.geometry at read.ready) in
+    let next = ready_next _ _ _ c.chunks.workspace _ _ _ inv.ready read.leaves.read (rw inv.geometry at read.leaves.ready) in
     record { ready = next.ready; siblings = next.siblings; number = c.requires.number }
 
 pub returns-clause-leaves : goal.returns-clause-leaves
@@ -92,10 +92,10 @@ returns-clause-leaves g c =
     let inv = c.chunks.invariant in
     let read = c.in_ok-offset.ensures in
     record {
-      image = read.read ∙ inv.device;
+      image = read.leaves.read ∙ inv.device;
       survey = leaves_more _ _ _ inv.survey
           (windows_leave c.chunks.workspace (with_chunk c.chunks.workspace c.next.new.blocks c.next.new.data) refl);
-      ready = ready_next _ _ _ c.chunks.workspace _ _ _ inv.ready read.read (rw inv.geometry at read.ready);
+      ready = ready_next _ _ _ c.chunks.workspace _ _ _ inv.ready read.leaves.read (rw inv.geometry at read.leaves.ready);
     }
 
 pub chunks-preserved : goal.chunks-preserved
@@ -106,7 +106,7 @@ chunks-preserved g c =
     let ok = c.in_ok-report_chunk.ensures in
     let m = marks_of c.chunks.workspace in
     let m' = marks_of c.report_chunk.new.workspace in
-    let same = ok.leaves.image ∙ (read.read ∙ inv.device) in
+    let same = ok.leaves.image ∙ (read.leaves.read ∙ inv.device) in
     let between = with_chunk c.chunks.workspace c.next.new.blocks c.next.new.data in
     let kept : LeavesSurvey c.args.workspace.now between =
     leaves_more _ _ _ inv.survey (windows_leave c.chunks.workspace between refl) in
@@ -114,7 +114,7 @@ chunks-preserved g c =
     (k : DirectoryContext v (g.I.Image.device c.args.image.now).contents c.args.workspace.now c.args.dir b
     × (c.args.inode.now ≡ inode_of v b c.args.dir)).
     knows_on v (g.I.Image.device c.args.image.now).contents (g.I.Image.device c.next.new.image).contents
-    c.args.workspace.now between c.args.dir b (ap (λ d. d.contents) (read.read ∙ inv.device)) kept k.0 in
+    c.args.workspace.now between c.args.dir b (ap (λ d. d.contents) (read.leaves.read ∙ inv.device)) kept k.0 in
     let here : Chunk = chunk_of v.order c.in-Some.offset c.next.new.chunk in
     let came = rw c.in-Some.is at read.chunk in
     let next = λ (b : List ℕ)
@@ -125,7 +125,7 @@ chunks-preserved g c =
     record {
       ready = ok.leaves.ready;
       device = same;
-      geometry = read.geometry ∙ inv.geometry;
+      geometry = read.leaves.geometry ∙ inv.geometry;
       survey = leaves_more _ _ _ kept ok.leaves.survey;
       marks = λ b k. chunk_passed (volume_of v b) c.args.dir _ m m' here (rest b c.chunks.chunks)
           (rest b c.next.new.self) (next b k) (ok.marks b (know b k)) (inv.marks b k);
@@ -154,7 +154,7 @@ returns-in_err-report_chunk-clause-text g c =
     (k : DirectoryContext v (g.I.Image.device c.args.image.now).contents c.args.workspace.now c.args.dir b
     × (c.args.inode.now ≡ inode_of v b c.args.dir)).
     knows_on v (g.I.Image.device c.args.image.now).contents (g.I.Image.device c.next.new.image).contents
-    c.args.workspace.now between c.args.dir b (ap (λ d. d.contents) (read.read ∙ inv.device)) kept k.0 in
+    c.args.workspace.now between c.args.dir b (ap (λ d. d.contents) (read.leaves.read ∙ inv.device)) kept k.0 in
     let here : Chunk = chunk_of v.order c.in-Some.offset c.next.new.chunk in
     let came = rw c.in-Some.is at read.chunk in
     let next = λ (b : List ℕ)
@@ -188,7 +188,7 @@ returns-in_err-report_chunk-clause-leaves g c =
     c.from_residual-in_err-report_chunk.ensures.1 in
     rw (p.1, p.2) (record {
       image = subst (λ d. ImageAfter {T = Unit {0}} d (g.I.Image.device c.report_chunk.new.image)
-          (Err c.in_err-report_chunk.field-0.0)) (c.in_ok-offset.ensures.read ∙ inv.device) left.image;
+          (Err c.in_err-report_chunk.field-0.0)) (c.in_ok-offset.ensures.leaves.read ∙ inv.device) left.image;
       survey = leaves_more _ _ _ kept left.survey;
       ready = left.ready;
     })

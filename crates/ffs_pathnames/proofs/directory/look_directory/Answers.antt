@@ -42,10 +42,10 @@ chunks-preserved g c =
     (read b (now b t)).chunks ∙ ap (λ q. chunk_of q.layout.order c.in-Some.offset c.next.new.chunk ∷ rest b
     c.next.new.self) inv.geometry in
     record {
-      same = c.in_ok-offset.ensures.read ∙ inv.same;
-      geometry = c.in_ok-offset.ensures.geometry ∙ inv.geometry;
+      same = c.in_ok-offset.ensures.leaves.read ∙ inv.same;
+      geometry = c.in_ok-offset.ensures.leaves.geometry ∙ inv.geometry;
       stamps_long = c.look_chunk-looked.auto.stamps ∙ inv.stamps_long;
-      ready = rw inv.geometry at c.in_ok-offset.ensures.ready;
+      ready = rw inv.geometry at c.in_ok-offset.ensures.leaves.ready;
       quiet = λ b t v s h. chunk_quiet v c.args.dir c.chunks.stamps c.look_chunk-looked.new.stamps
           (rest b c.chunks.chunks) (rest b c.next.new.self) here
           _ c.chunks.quiet c.look_chunk-looked.result.quiet (next b t) (c.look_chunk-looked.ensures.quiet v s)
@@ -65,7 +65,7 @@ pub returns-clause-found : goal.returns-clause-found
 returns-clause-found g c = λ b t.
     let inv = c.chunks.invariant in
     let now = ap (λ d. d.contents) inv.same ∙ t in
-    let later = ap (λ d. d.contents) (c.in_ok-offset.ensures.read ∙ inv.same) ∙ t in
+    let later = ap (λ d. d.contents) (c.in_ok-offset.ensures.leaves.read ∙ inv.same) ∙ t in
     let read = (rw c.in_default.is at c.in_ok-offset.ensures.chunk) b now in
     let none = read.chunks.0 in
     record {
@@ -87,42 +87,42 @@ returns-in_err-offset-clause-leaves g c =
     let next = c.in_err-offset.ensures in
     let err = err_from_is_err_and c.from_residual.result c.from_residual.ensures.1 in
     rw (err.1, err.2) (record {
-      ready = rw inv.geometry at next.ready;
+      ready = rw inv.geometry at next.leaves.ready;
       read = subst (λ d. Faulted d (g.I.Image.device c.next.new.image) c.in_err-offset.field-0.0.sector) inv.same
-          next.read;
+          next.leaves.read;
     })
 
 pub gap_of-requires : goal.gap_of-requires
-gap_of-requires g c = let read = c.in_ok-offset.ensures in rw read.geometry read.ready.walk
+gap_of-requires g c = let read = c.in_ok-offset.ensures in rw read.leaves.geometry read.leaves.ready.walk
 
 pub returns-in_err-gap-clause-leaves : goal.returns-in_err-gap-clause-leaves
 returns-in_err-gap-clause-leaves g c =
     let inv = c.chunks.invariant in
     let read = c.in_ok-offset.ensures in
-    let chunk = rw inv.geometry at read.ready in
+    let chunk = rw inv.geometry at read.leaves.ready in
     let gap = c.in_err-gap.ensures in
     let err = err_from_is_err_and c.from_residual-in_err-gap.result c.from_residual-in_err-gap.ensures.1 in
     rw (err.1, err.2) (record {
       ready = record {
-        walk = rw (read.geometry ∙ inv.geometry) at gap.ready;
+        walk = rw (read.leaves.geometry ∙ inv.geometry) at gap.leaves.ready;
         room = chunk.room;
-        holds = subst (λ xs. WindowHolds xs c.next.new.data) (sym gap.read.contents) chunk.holds;
+        holds = subst (λ xs. WindowHolds xs c.next.new.data) (sym gap.leaves.read.contents) chunk.holds;
       };
       read = subst (λ d. Faulted d (g.I.Image.device c.gap_of.new.image) c.in_err-gap.field-0.0.sector)
-          (read.read ∙ inv.same) gap.read;
+          (read.leaves.read ∙ inv.same) gap.leaves.read;
     })
 
 pub returns-clause-leaves : goal.returns-clause-leaves
 returns-clause-leaves g c =
     let inv = c.chunks.invariant in
     let read = c.in_ok-offset.ensures in
-    let chunk = rw inv.geometry at read.ready in
+    let chunk = rw inv.geometry at read.leaves.ready in
     let gap = c.in_ok-gap.ensures in
     record {
       ready = record {
-        walk = rw (read.geometry ∙ inv.geometry) at gap.ready;
+        walk = rw (read.leaves.geometry ∙ inv.geometry) at gap.leaves.ready;
         room = chunk.room;
-        holds = subst (λ d. WindowHolds d.contents c.next.new.data) (sym gap.read) chunk.holds;
+        holds = subst (λ d. WindowHolds d.contents c.next.new.data) (sym gap.leaves.read) chunk.holds;
       };
-      read = gap.read ∙ (read.read ∙ inv.same);
+      read = gap.leaves.read ∙ (read.leaves.read ∙ inv.same);
     }

@@ -63,12 +63,12 @@ chunks-preserved g c =
       inside = λ held low.
           let o = rw c.in-Some-2.is at c.in_ok-next.ensures.inside in
           subst (λ q. last_place c.next.new.self.run_cursor + 512 ≤ q.layout.size * q.layout.fsize)
-          (sym c.next.ensures.geometry) o;
+          (sym c.next.ensures.leaves.geometry) o;
       left = let f = rw c.in-Some-2.is at c.in_ok-next.ensures.budget in let k = ap (λ x. x.budget) same.chunks in
           omega (arith, f, k, i.left);
-      geometry = c.next.ensures.geometry ∙ geometry;
-      ready = can_read_here _ _ _ _ _ c.next.ensures.ready geometry;
-      device = c.in_ok-next.ensures.read ∙ i.device;
+      geometry = c.next.ensures.leaves.geometry ∙ geometry;
+      ready = can_read_here _ _ _ _ _ c.next.ensures.leaves.ready geometry;
+      device = c.in_ok-next.ensures.leaves.read ∙ i.device;
     }
 
 pub returns-in-Some-clause-place : goal.returns-in-Some-clause-place

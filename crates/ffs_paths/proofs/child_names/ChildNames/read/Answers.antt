@@ -47,7 +47,7 @@ entries-preserved g c =
     let given = rw c.in-Some.is at next.entry in
     let placed = rw c.in-Some.is at next.place in
     let within = (rw c.in-Some.is at next.inside) i.within in
-    let geometry = next.geometry ∙ i.geometry in
+    let geometry = next.leaves.geometry ∙ i.geometry in
     record {
       names = λ b t.
           let u = ap (λ d. d.contents) i.device ∙ t in
@@ -63,9 +63,9 @@ entries-preserved g c =
       parent = kept.parent ∙ i.parent;
       first = kept.first ∙ i.first;
       geometry = geometry;
-      windows = open_next _ _ _ c.entries.windows _ _ i.windows (ap (λ d. d.contents) next.read)
-          (rw i.geometry at next.ready);
-      device = next.read ∙ i.device;
+      windows = open_next _ _ _ c.entries.windows _ _ i.windows (ap (λ d. d.contents) next.leaves.read)
+          (rw i.geometry at next.leaves.ready);
+      device = next.leaves.read ∙ i.device;
     }
 
 pub returns-in_err-entry-clause-leaves : goal.returns-in_err-entry-clause-leaves
@@ -74,9 +74,9 @@ returns-in_err-entry-clause-leaves g c =
     let next = c.in_err-entry.ensures in
     let err = err_from_is_err_and c.from_residual-in_err-entry.result c.from_residual-in_err-entry.ensures.1 in
     rw (err.1, err.2) (record {
-      windows = open_next _ _ _ c.entries.windows _ _ i.windows next.read.contents (rw i.geometry at next.ready);
+      windows = open_next _ _ _ c.entries.windows _ _ i.windows next.leaves.read.contents (rw i.geometry at next.leaves.ready);
       read = subst (λ d. Faulted d (g.I.Image.device c.next.new.image) c.in_err-entry.field-0.0.sector) i.device
-          next.read;
+          next.leaves.read;
     })
 
 pub returns-clause-leaves : goal.returns-clause-leaves
@@ -84,9 +84,9 @@ returns-clause-leaves g c =
     let i = c.entries.invariant in
     let next = c.in_ok-entry.ensures in
     record {
-      windows = open_next _ _ _ c.entries.windows _ _ i.windows (ap (λ d. d.contents) next.read)
-          (rw i.geometry at next.ready);
-      read = next.read ∙ i.device;
+      windows = open_next _ _ _ c.entries.windows _ _ i.windows (ap (λ d. d.contents) next.leaves.read)
+          (rw i.geometry at next.leaves.ready);
+      read = next.leaves.read ∙ i.device;
     }
 
 pub returns-clause-names : goal.returns-clause-names

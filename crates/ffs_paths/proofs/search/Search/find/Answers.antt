@@ -32,10 +32,10 @@ returns-clause-found g c = λ b t.
 pub entries-preserved : goal.entries-preserved
 entries-preserved g c =
     let i = c.entries.invariant in
-    let device = c.in_ok-entry.ensures.read ∙ i.device in
+    let device = c.in_ok-entry.ensures.leaves.read ∙ i.device in
     let low = c.highest_with-self.ensures.grows in
     let before = i.grows in
-    let ready = rw i.geometry at c.next.ensures.ready in
+    let ready = rw i.geometry at c.next.ensures.leaves.ready in
     record {
       name = λ b t.
           let u = ap (λ d. d.contents) i.device ∙ t in
@@ -50,13 +50,13 @@ entries-preserved g c =
           i.above b t x (omega arith) ∙ (ap (name_in x) (o b u).entries ∙ name_in-past x e
           (to_come b c.next.new.self) (c.highest_with-self.ensures.passed x h));
       grows = omega arith;
-      geometry = c.next.ensures.geometry ∙ i.geometry;
+      geometry = c.next.ensures.leaves.geometry ∙ i.geometry;
       windows = record {
         volume = ready.walk.volume;
         table = i.windows.table;
         blocks = ready.walk.room;
         chunk = ready.room;
-        table_holds = rw c.in_ok-entry.ensures.read i.windows.table_holds;
+        table_holds = rw c.in_ok-entry.ensures.leaves.read i.windows.table_holds;
         blocks_hold = ready.walk.holds;
         chunk_holds = ready.holds;
       };
