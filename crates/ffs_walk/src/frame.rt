@@ -93,10 +93,11 @@ impl Frame {
     {
         blocks.fill(geometry, level, self.address, image)?;
         let block = blocks.bytes(geometry, level);
-        let fresh = self.fresh;
-        self.fresh = false;
-        if fresh && any_from(geometry, block, self.used) {
-            return Ok(Item::Missing);
+        if self.fresh {
+            self.fresh = false;
+            if any_from(geometry, block, self.used) {
+                return Ok(Item::Missing);
+            }
         }
         let address = word(geometry, block, self.next);
         let block = self.first + u64::from(self.next) * span;
