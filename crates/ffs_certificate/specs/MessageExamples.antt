@@ -1,5 +1,5 @@
 -- The bytes of reports and of messages, the ends of runs, and what a check may hold.
-use Rattle.std.specs.Prelude.{◌≡◌, [], ◌∷◌, pos, negsuc, Some, None, map, codes, true, false}
+use Rattle.std.specs.Prelude.{◌≡◌, [], ◌∷◌, ◌++◌, pos, negsuc, Some, None, map, codes, true, false}
 use Rattle.ffs_volume.specs.declared.Attr.{Attr}
 use Rattle.ffs_volume.specs.declared.BlockMessage.TheVariants.{PartAlloc, UnknownType, Bad, ManyBad}
 use Rattle.ffs_volume.specs.declared.BlockMessage.TheVariants.{ManyDup, PartTrunc, BlockCount, GroupMagic}
@@ -29,40 +29,62 @@ about_root = record { number = 2; uid = 0; mode = 16877; size = 512; mtime = pos
 pub record MessageExamples : Type 0 where
   -- all bytes for the base image and for two files that share a fragment
   pub base : texts_of (report_of (base_image Little) (codes "t.img") None)
-      ≡ codes "** t.img (NO WRITE)\n** Last Mounted on /mnt\n** Phase 1 - Check Blocks and Sizes\n** Phase 2 - Check Pathnames\n** Phase 3 - Check Connectivity\n** Phase 4 - Check Reference Counts\n** Phase 5 - Check Cyl groups\n1 files, 1 used, 94 free (6 frags, 22 blocks, 6.3% fragmentation)\n"
+      ≡ codes "** t.img (NO WRITE)\n** Last Mounted on /mnt\n** Phase 1 - Check Blocks and Sizes\n"
+      ++ codes "** Phase 2 - Check Pathnames\n** Phase 3 - Check Connectivity\n** Phase 4 - Check Reference Counts\n"
+      ++ codes "** Phase 5 - Check Cyl groups\n1 files, 1 used, 94 free (6 frags, 22 blocks, 6.3% fragmentation)\n"
   pub shared : texts_of (report_lines shared_image shared_superblock)
-      ≡ codes "** Last Mounted on /mnt\n** Phase 1 - Check Blocks and Sizes\n37 DUP I=4\n** Phase 1b - Rescan For More DUPS\n37 DUP I=3\n** Phase 2 - Check Pathnames\nDUP/BAD I=3 OWNER=0 MODE=100644\nSIZE=100 MTIME=0\nFILE=/a\nREMOVE? no\n\nDUP/BAD I=4 OWNER=0 MODE=100644\nSIZE=100 MTIME=0\nFILE=/b\nREMOVE? no\n\n** Phase 3 - Check Connectivity\n** Phase 4 - Check Reference Counts\n** Phase 5 - Check Cyl groups\n3 files, 2 used, 93 free (5 frags, 22 blocks, 5.2% fragmentation)\n"
+      ≡ codes "** Last Mounted on /mnt\n** Phase 1 - Check Blocks and Sizes\n37 DUP I=4\n"
+      ++ codes "** Phase 1b - Rescan For More DUPS\n37 DUP I=3\n** Phase 2 - Check Pathnames\n"
+      ++ codes "DUP/BAD I=3 OWNER=0 MODE=100644\nSIZE=100 MTIME=0\nFILE=/a\nREMOVE? no\n\n"
+      ++ codes "DUP/BAD I=4 OWNER=0 MODE=100644\nSIZE=100 MTIME=0\nFILE=/b\nREMOVE? no\n\n"
+      ++ codes "** Phase 3 - Check Connectivity\n** Phase 4 - Check Reference Counts\n** Phase 5 - Check Cyl groups\n"
+      ++ codes "3 files, 2 used, 93 free (5 frags, 22 blocks, 5.2% fragmentation)\n"
   -- no image at all
   pub none : texts_of (opening_of [] (codes "t.img") (Some 1))
       ≡ codes "Alternate super block location: 1\n** t.img (NO WRITE)\nCAN NOT READ: BLK 1\n"
   pub refused : texts_of (bad_super Magic ∷ bad_super Disagree ∷ cannot_alloc ∷ [])
-      ≡ codes "BAD SUPER BLOCK: MAGIC NUMBER WRONG\nBAD SUPER BLOCK: VALUES DISAGREE WITH LAST ALTERNATE\ncannot alloc maps\n"
+      ≡ codes "BAD SUPER BLOCK: MAGIC NUMBER WRONG\nBAD SUPER BLOCK: VALUES DISAGREE WITH LAST ALTERNATE\n"
+      ++ codes "cannot alloc maps\n"
   pub settings : texts_of (optimization ∷ minfree (negsuc 4) ∷ [])
-      ≡ codes "UNDEFINED OPTIMIZATION IN SUPERBLOCK\nSET TO DEFAULT? no\n\nIMPOSSIBLE MINFREE=-5 IN SUPERBLOCK\nSET TO DEFAULT? no\n\n"
+      ≡ codes "UNDEFINED OPTIMIZATION IN SUPERBLOCK\nSET TO DEFAULT? no\n\nIMPOSSIBLE MINFREE=-5 IN SUPERBLOCK\n"
+      ++ codes "SET TO DEFAULT? no\n\n"
   -- the block check and the check of groups
   pub blocks : texts_of (of_blocks (PartAlloc 7) ∷ of_blocks (UnknownType 8) ∷ of_blocks (Bad 200 3)
       ∷ of_blocks (ManyBad 3) ∷ of_blocks (ManyDup 4) ∷ of_blocks (PartTrunc 5) ∷ of_blocks (BlockCount 3 16 96)
       ∷ of_blocks (GroupMagic 1) ∷ [])
-      ≡ codes "PARTIALLY ALLOCATED INODE I=7\nCLEAR? no\n\nUNKNOWN FILE TYPE I=8\nCLEAR? no\n\n200 BAD I=3\nEXCESSIVE BAD BLKS I=3\nCONTINUE? yes\n\nEXCESSIVE DUP BLKS I=4\nCONTINUE? yes\n\nPARTIALLY TRUNCATED INODE I=5\nSALVAGE? no\n\nINCORRECT BLOCK COUNT I=3 (16 should be 96)\nCORRECT? no\n\nCG 1: BAD MAGIC NUMBER\n"
+      ≡ codes "PARTIALLY ALLOCATED INODE I=7\nCLEAR? no\n\nUNKNOWN FILE TYPE I=8\nCLEAR? no\n\n200 BAD I=3\n"
+      ++ codes "EXCESSIVE BAD BLKS I=3\nCONTINUE? yes\n\nEXCESSIVE DUP BLKS I=4\nCONTINUE? yes\n\n"
+      ++ codes "PARTIALLY TRUNCATED INODE I=5\nSALVAGE? no\n\nINCORRECT BLOCK COUNT I=3 (16 should be 96)\n"
+      ++ codes "CORRECT? no\n\nCG 1: BAD MAGIC NUMBER\n"
   -- the root, and directories. Control bytes show as question marks
   pub roots : texts_of (of_names root_not_dir ∷ of_names root_suspect ∷ [])
-      ≡ codes "ROOT INODE NOT DIRECTORY\nREALLOCATE? no\n\nFIX? no\n\nDUPS/BAD IN ROOT INODE\nREALLOCATE? no\n\nCONTINUE? yes\n\n"
+      ≡ codes "ROOT INODE NOT DIRECTORY\nREALLOCATE? no\n\nFIX? no\n\nDUPS/BAD IN ROOT INODE\nREALLOCATE? no\n\n"
+      ++ codes "CONTINUE? yes\n\n"
   pub dirs : texts_of (of_names (dir_length (codes "/a") 600)
       ∷ of_names (missing_dot_first about_root (codes "/") (98 ∷ 10 ∷ []))
       ∷ of_names (kind_dotdot about_root (codes "/")) ∷ [])
-      ≡ codes "DIRECTORY /a: LENGTH 600 NOT MULTIPLE OF 512\nADJUST? no\n\nMISSING '.' I=2 OWNER=0 MODE=40755\nSIZE=512 MTIME=0\nDIR=/\nCANNOT FIX, FIRST ENTRY IN DIRECTORY CONTAINS b?\nBAD TYPE VALUE FOR '..' I=2 OWNER=0 MODE=40755\nSIZE=512 MTIME=0\nDIR=/\nFIX? no\n\n"
+      ≡ codes "DIRECTORY /a: LENGTH 600 NOT MULTIPLE OF 512\nADJUST? no\n\nMISSING '.' I=2 OWNER=0 MODE=40755\n"
+      ++ codes "SIZE=512 MTIME=0\nDIR=/\nCANNOT FIX, FIRST ENTRY IN DIRECTORY CONTAINS b?\n"
+      ++ codes "BAD TYPE VALUE FOR '..' I=2 OWNER=0 MODE=40755\nSIZE=512 MTIME=0\nDIR=/\nFIX? no\n\n"
   pub entries : texts_of (of_names (out_of_range 32 (47 ∷ 99 ∷ 10 ∷ 127 ∷ []))
       ∷ of_names (extraneous (codes "/b") (codes "/a")) ∷ of_names (dup_bad (about_file 3) NameLabel (codes "/a"))
       ∷ of_names (kind_entry (about_file 3) DirLabel (codes "/a")) ∷ [])
-      ≡ codes "I OUT OF RANGE I=32\nNAME=/c??\nREMOVE? no\n\n/b IS AN EXTRANEOUS HARD LINK TO DIRECTORY /a\nREMOVE? no\n\nDUP/BAD I=3 OWNER=0 MODE=100644\nSIZE=100 MTIME=0\nNAME=/a\nREMOVE? no\n\nBAD TYPE VALUE I=3 OWNER=0 MODE=100644\nSIZE=100 MTIME=0\nDIR=/a\nFIX? no\n\n"
+      ≡ codes "I OUT OF RANGE I=32\nNAME=/c??\nREMOVE? no\n\n/b IS AN EXTRANEOUS HARD LINK TO DIRECTORY /a\n"
+      ++ codes "REMOVE? no\n\nDUP/BAD I=3 OWNER=0 MODE=100644\nSIZE=100 MTIME=0\nNAME=/a\nREMOVE? no\n\n"
+      ++ codes "BAD TYPE VALUE I=3 OWNER=0 MODE=100644\nSIZE=100 MTIME=0\nDIR=/a\nFIX? no\n\n"
   -- inodes with the greatest numbers; all that is no directory is called a file
   pub inodes : texts_of (of_names (unref FileLabel about_most) ∷ of_names (unref_unlinked DirLabel about_root)
       ∷ of_names (dead_marked NameLabel (about_file 3)) ∷ of_names (link_count DirLabel about_root (negsuc 1) 3) ∷ [])
-      ≡ codes "UNREF FILE I=5 OWNER=4294967295 MODE=100600\nSIZE=18446744073709551615 MTIME=-1\nRECONNECT? no\n\nCLEAR? no\n\nUNREF DIR I=2 OWNER=0 MODE=40755\nSIZE=512 MTIME=0\nCLEAR? no\n\nBAD/DUP FILE I=3 OWNER=0 MODE=100644\nSIZE=100 MTIME=0\nCLEAR? no\n\nLINK COUNT DIR I=2 OWNER=0 MODE=40755\nSIZE=512 MTIME=0\nCOUNT=-2 SHOULD BE 3\nADJUST? no\n\n"
+      ≡ codes "UNREF FILE I=5 OWNER=4294967295 MODE=100600\nSIZE=18446744073709551615 MTIME=-1\nRECONNECT? no\n\n"
+      ++ codes "CLEAR? no\n\nUNREF DIR I=2 OWNER=0 MODE=40755\nSIZE=512 MTIME=0\nCLEAR? no\n\n"
+      ++ codes "BAD/DUP FILE I=3 OWNER=0 MODE=100644\nSIZE=100 MTIME=0\nCLEAR? no\n\n"
+      ++ codes "LINK COUNT DIR I=2 OWNER=0 MODE=40755\nSIZE=512 MTIME=0\nCOUNT=-2 SHOULD BE 3\nADJUST? no\n\n"
   -- tenths below zero
   pub summaries : texts_of (summary 1 2 (pos 3) (negsuc 0) (pos 1) (negsuc 9)
       ∷ summary 0 0 (negsuc 0) (negsuc 0) (pos 0) (negsuc 4) ∷ summary 0 0 (pos 0) (pos 0) (pos 0) (pos 0) ∷ [])
-      ≡ codes "1 files, 2 used, 3 free (-1 frags, 1 blocks, -1.0% fragmentation)\n0 files, 0 used, -1 free (-1 frags, 0 blocks, -0.5% fragmentation)\n0 files, 0 used, 0 free (0 frags, 0 blocks, 0.0% fragmentation)\n"
+      ≡ codes "1 files, 2 used, 3 free (-1 frags, 1 blocks, -1.0% fragmentation)\n"
+      ++ codes "0 files, 0 used, -1 free (-1 frags, 0 blocks, -0.5% fragmentation)\n"
+      ++ codes "0 files, 0 used, 0 free (0 frags, 0 blocks, 0.0% fragmentation)\n"
   -- which report a defect
   pub defects : map is_defect (cannot_read 16 ∷ mounted [] ∷ phase1 ∷ optimization ∷ of_blocks (Bad 200 3)
       ∷ of_names root_suspect ∷ [])
