@@ -1,5 +1,6 @@
 -- What is reported of a directory's size, Gaps and chunks, and of its first two entries, by what was found of them.
 use Rattle.std.specs.Prelude.{ℕ, ◌%◌, ◌==◌, Bool, false, not, ◌&&◌, nat_lt, List, ◌++◌, Option, None, Some}
+use Rattle.ffs_volume.specs.declared.constants.TheConstants.{DIRBLKSIZ, MINDIRSIZE, DT_DIR}
 use Rattle.ffs_volume.specs.declared.Attr.{Attr}
 use Rattle.ffs_volume.specs.Directories.Entries.{Entry, is_live}
 use Rattle.ffs_volume.specs.Directories.Roles.{is_one_dot, is_two_dots, entry_if}
@@ -10,8 +11,8 @@ use Rattle.ffs_volume.specs.Directories.PathnameCheck.{missing_dot_lines, missin
 -- of the size, of whether a Gap is kept, and of whether all chunks are sound
 abbrev pub size_reported : Attr → List ℕ → List NameMessage
 size_reported about path =
-    reported (nat_lt about.size 24) (dir_short about path)
-    ++ reported (not (nat_lt about.size 24) && not (about.size % 512 == 0)) (dir_length path about.size)
+    reported (nat_lt about.size MINDIRSIZE) (dir_short about path)
+    ++ reported (not (nat_lt about.size MINDIRSIZE) && not (about.size % DIRBLKSIZ == 0)) (dir_length path about.size)
 
 abbrev pub chunks_reported : Attr → List ℕ → Bool → Bool → List NameMessage
 chunks_reported about path gap sound = reported gap (dir_empty path) ++ reported (not sound) (dir_corrupt about path)
@@ -28,7 +29,7 @@ dotdot_in second = entry_if (λ e. is_live e && is_two_dots e.name) second
 
 abbrev pub there_reported : Attr → List ℕ → ℕ → Entry → List NameMessage
 there_reported about path d e = reported (not (e.number == d)) (number_dot about path)
-    ++ reported (not (e.kind == 4)) (kind_dot about path)
+    ++ reported (not (e.kind == DT_DIR)) (kind_dot about path)
 
 abbrev pub dot_said : Attr → List ℕ → ℕ → Option Entry → Option Entry → List NameMessage
 dot_said about path d first None = missing_dot_lines about path first
@@ -37,7 +38,7 @@ dot_said about path d first (Some e) = there_reported about path d e
 -- `parent` is the directory's parent, if it has one
 abbrev pub above_reported : Attr → List ℕ → Option ℕ → Entry → List NameMessage
 above_reported about path parent e = reported (is_wrong_parent parent e.number) (number_dotdot about path)
-    ++ reported (not (e.kind == 4)) (kind_dotdot about path)
+    ++ reported (not (e.kind == DT_DIR)) (kind_dotdot about path)
 
 abbrev pub dotdot_said : Attr → List ℕ → Option ℕ → Option Entry → Option Entry → List NameMessage
 dotdot_said about path parent second None = missing_dotdot_lines about path second
