@@ -14,12 +14,10 @@ use Rattle.ffs_phase.specs.Runs.{ImageAfter}
 use Rattle.ffs_phase.specs.declared.fault.RunFault.{RunFault}
 use Rattle.ffs_walk.specs.declared.blocks.Blocks.{Blocks}
 use Rattle.ffs_walk.specs.Windows.{BlocksHold}
-use Rattle.ffs_workspace.specs.declared.table.Table.{Table}
 use Rattle.ffs_workspace.specs.declared.workspace.Workspace.{Workspace}
 use Rattle.ffs_workspace.specs.declared.workspace.Windows.{Windows}
 use Rattle.ffs_workspace.specs.Lengths.{IsFor, set_count}
 use Rattle.ffs_workspace.specs.Ready.{IsReady}
-use Rattle.ffs_workspace.specs.Tables.{KeepsTable}
 use Rattle.ffs_claims.specs.Leaves.{SameFound, ClaimsOnly, Stored, OffersOnly}
 use Rattle.ffs_claims.specs.Reporting.{SameClaims, ReportsOnly, OffersReportedOnly}
 
@@ -134,20 +132,7 @@ pub ready_walked : (g k : Geometry) (d d' : Device) (w : Workspace) (b : Blocks)
 ready_walked g k d d' w b e same room holds r = ready_read g.layout d d' w b (ap (λ x. x.contents) same)
     (ap (λ x. x.size) same) room (rw e at holds) r
 
--- or a block of the inode table
-pub ready_table : (l : Layout) (d d' : Device) (w : Workspace) (t : Table) → d'.contents ≡ d.contents →
-    d'.size ≡ d.size →
-    KeepsTable l d'.contents t → IsReady l d w →
-    IsReady l d' (record w { windows = record w.windows { table = t } })
-ready_table l d d' w t e size kept r =
-    let m = r.made in
-    record {
-      made = search rules;
-      volume = rw size r.volume;
-      windows = record { table = kept.holds; blocks = rw e r.windows.blocks; chunk = rw e r.windows.chunk };
-    }
-
--- or where an inode begins
+-- it stays ready where an inode begins
 pub ready_begun : (l : Layout) (d : Device) (u w : Workspace) →
     w ≡ record u { bad = 0; dups = 0; kept = 0; tail = false } → IsReady l d u → IsReady l d w
 ready_begun l d u w e r =

@@ -10,7 +10,8 @@ use Rattle.ffs_phase.proofs.Reporting.{of_begins, of_reads, reports_same, report
 use Rattle.ffs_claims.specs.Lines.{of_lines}
 use Rattle.ffs_claims.specs.Rescan.{rescan, offers_again, runs_again}
 use Rattle.ffs_claims.proofs.Inodes.{ok_where}
-use Rattle.ffs_claims.proofs.Frames.{ready_table, claims_still, claims_none, claims_then}
+use Rattle.ffs_claims.proofs.Frames.{claims_still, claims_none, claims_then}
+use Rattle.ffs_workspace.proofs.Readiness.{ready_table}
 use Rattle.ffs_claims.proofs.Rewalks.{rewalked_from}
 use Rattle.ffs_claims.specs.SecondLook.{Rewalked}
 use Rattle.ffs_claims.proofs.second.renumbered.Goals as goal

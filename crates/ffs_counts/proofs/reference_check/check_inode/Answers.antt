@@ -9,24 +9,8 @@ use Rattle.ffs_workspace.specs.Holds.{bool_at}
 use Rattle.ffs_volume.specs.Directories.PathnameCheck.{attributes_of}
 use Rattle.ffs_counts.specs.References.{lines_as}
 use Rattle.ffs_counts.proofs.Holding.{inode_lines_are, item_at, met_lines, same_reported, some_lines}
-use Rattle.ffs_image.specs.Device.{Device}
-use Rattle.ffs_volume.specs.declared.Layout.{Layout}
-use Rattle.ffs_workspace.specs.Ready.{IsReady}
-use Rattle.ffs_workspace.specs.Tables.{KeepsTable}
-use Rattle.ffs_workspace.specs.declared.table.Table.{Table}
-use Rattle.ffs_workspace.specs.declared.workspace.Workspace.{Workspace}
+use Rattle.ffs_workspace.proofs.Readiness.{ready_table}
 use Rattle.ffs_counts.proofs.reference_check.check_inode.Goals as goal
-
--- it stays ready where a block of the inode table was read
-ready_table : (v : Layout) (d d' : Device) (w : Workspace) (t : Table) → d' ≡ d → KeepsTable v d'.contents t →
-    IsReady v d w → IsReady v d' (record w { windows = record w.windows { table = t } })
-ready_table v d d' w t e kept r =
-    let m = r.made in
-    record {
-      made = search rules;
-      volume = rw e r.volume;
-      windows = record { table = kept.holds; blocks = rw e r.windows.blocks; chunk = rw e r.windows.chunk };
-    }
 
 pub returns-then-is_right-clause-runs : goal.returns-then-is_right-clause-runs
 returns-then-is_right-clause-runs g c =
@@ -117,12 +101,14 @@ pub returns-in_err-say_line-clause-stays : goal.returns-in_err-say_line-clause-s
 returns-in_err-say_line-clause-stays g c = record {
   held = refl;
   ready = ready_table c.args.geometry.now.layout (g.I.Image.device c.args.image.now) _ c.args.workspace.now
-      c.inode.new.self c.in_ok-inode.ensures.read c.inode.ensures.kept c.requires.ready;
+      c.inode.new.self (ap (λ d. d.contents) c.in_ok-inode.ensures.read) (ap (λ d. d.size) c.in_ok-inode.ensures.read)
+      c.inode.ensures.kept c.requires.ready;
 }
 
 pub returns-clause-stays : goal.returns-clause-stays
 returns-clause-stays g c = record {
   held = refl;
   ready = ready_table c.args.geometry.now.layout (g.I.Image.device c.args.image.now) _ c.args.workspace.now
-      c.inode.new.self c.in_ok-inode.ensures.read c.inode.ensures.kept c.requires.ready;
+      c.inode.new.self (ap (λ d. d.contents) c.in_ok-inode.ensures.read) (ap (λ d. d.size) c.in_ok-inode.ensures.read)
+      c.inode.ensures.kept c.requires.ready;
 }

@@ -1,0 +1,20 @@
+-- A workspace stays ready.
+use Rattle.std.proofs.Common.{◌≡◌, rules}
+use Rattle.ffs_volume.specs.declared.Layout.{Layout}
+use Rattle.ffs_image.specs.Device.{Device}
+use Rattle.ffs_workspace.specs.declared.table.Table.{Table}
+use Rattle.ffs_workspace.specs.declared.workspace.Workspace.{Workspace}
+use Rattle.ffs_workspace.specs.Ready.{IsReady}
+use Rattle.ffs_workspace.specs.Tables.{KeepsTable}
+
+-- where a block of the inode table was read
+pub ready_table : (v : Layout) (d d' : Device) (w : Workspace) (t : Table) → d'.contents ≡ d.contents →
+    d'.size ≡ d.size → KeepsTable v d'.contents t → IsReady v d w →
+    IsReady v d' (record w { windows = record w.windows { table = t } })
+ready_table v d d' w t e size kept r =
+    let m = r.made in
+    record {
+      made = search rules;
+      volume = rw size r.volume;
+      windows = record { table = kept.holds; blocks = rw e r.windows.blocks; chunk = rw e r.windows.chunk };
+    }
