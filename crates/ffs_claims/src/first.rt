@@ -3,7 +3,7 @@
 ghost use Rattle.std.specs.Prelude.{◌≡◌, ◌+◌, ◌*◌, ◌≤◌, ◌∷◌, ◌==◌, not, OnOk, ℕ, List};
 ghost use Rattle.ffs_report.specs.Progress.{progress};
 ghost use Rattle.ffs_phase.specs.Known.{ForBytes, IsContents};
-ghost use Rattle.ffs_phase.specs.Runs.{ImageAfter, PhaseReports};
+ghost use Rattle.ffs_phase.specs.Runs.{PhaseRuns};
 ghost use Rattle.ffs_volume.specs.Blocks.BlockCheck.{has_rescan, phase1_lines};
 ghost use Rattle.ffs_volume.specs.Report.Memory.{runs_limit};
 ghost use Rattle.ffs_volume.specs.Report.Whole.{run_count};
@@ -33,12 +33,12 @@ pub fn phase1<I: Image, W: Output>(
     report: &mut Report<'_, W>,
 ) -> Result<(), RunFault>
     requires ready { IsReady geometry.now.layout (I.device image.old) workspace.old }
-    ensures image { ImageAfter (I.device image.old) (I.device image.new) result }
-    ensures text { PhaseReports (λ bytes. IsContents (I.device image.old).contents bytes
+    ensures prints { PhaseRuns (λ bytes. IsContents (I.device image.old).contents bytes
         × IsFresh geometry.now.layout workspace.old)
         (λ bytes. messages.phase1 ∷ of_lines
         (phase1_lines geometry.now.layout (owners_of geometry.now.layout bytes)))
-        (progress W.sink report.old) (progress W.sink report.new) result }
+        (I.device image.old) (I.device image.new) (progress W.sink report.old)
+        (progress W.sink report.new) result }
     ensures holds { OnOk result (ForBytes
         (λ bytes. IsContents (I.device image.old).contents bytes
         × IsFresh geometry.now.layout workspace.old)

@@ -1,3 +1,4 @@
+use Rattle.std.proofs.Common.{rules}
 use Rattle.std.proofs.Common.{inl, inr, arith, refl, sym, ◌∷◌, ◌+◌, ◌≤◌, ◌<◌, [], List, ap, ◌∙◌, Err, false}
 use Rattle.std.proofs.lemmas.Bool.{cases_lt}
 use Rattle.std.proofs.lemmas.Result.{err_from_is_err_and}
@@ -22,14 +23,17 @@ use Rattle.ffs_claims.proofs.Numbers.{filled_end, filled_begin, is_inside, is_ou
 use Rattle.ffs_claims.proofs.Numbers.{mark_in, cut_out, cut_in, start_out, start_in, first_lines}
 use Rattle.ffs_claims.proofs.first.phase1.Goals as goal
 
-pub returns-in_err-say-clause-text : goal.returns-in_err-say-clause-text
-returns-in_err-say-clause-text g c =
+pub returns-in_err-say-clause-prints : goal.returns-in_err-say-clause-prints
+returns-in_err-say-clause-prints g c =
     let p = err_from_is_err_and c.from_residual.result c.from_residual.ensures.1 in
     let v = c.args.geometry.now.layout in
-    rw (p.1, p.2) (of_stops _ (λ bytes. phase1 ∷ of_lines (phase1_lines v (owners_of v bytes)))
-    (λ bytes. of_lines (phase1_lines v (owners_of v bytes))) _ (phase1 ∷ []) _ _ _
-    (of_begins _ (λ bytes. phase1 ∷ of_lines (phase1_lines v (owners_of v bytes))) _) (λ bytes t. refl)
-    c.in_err-say.ensures.said)
+    rw (p.1, p.2) (record {
+      image = search rules;
+      text = of_stops _ (λ bytes. phase1 ∷ of_lines (phase1_lines v (owners_of v bytes)))
+          (λ bytes. of_lines (phase1_lines v (owners_of v bytes))) _ (phase1 ∷ []) _ _ _
+          (of_begins _ (λ bytes. phase1 ∷ of_lines (phase1_lines v (owners_of v bytes))) _) (λ bytes t. refl)
+          c.in_err-say.ensures.said;
+    })
 
 pub loop-number-init : goal.loop-number-init
 loop-number-init g c =
@@ -82,21 +86,25 @@ claim_inode-requires g c =
       };
     }
 
-pub returns-in_err-claim_inode-clause-text : goal.returns-in_err-claim_inode-clause-text
-returns-in_err-claim_inode-clause-text g c =
+pub returns-in_err-claim_inode-clause-prints : goal.returns-in_err-claim_inode-clause-prints
+returns-in_err-claim_inode-clause-prints g c =
     let p = err_from_is_err_and c.from_residual-in_err-claim_inode.result
     c.from_residual-in_err-claim_inode.ensures.1 in
     let v = c.args.geometry.now.layout in
     let inv = c.loop-number.invariant in
     let s = claims_of c.loop-number.workspace in
     let n = c.loop-number.number in
-    rw (p.1, p.2) (of_fault (Unit {0}) (Unit {0}) _ (λ bytes. of_lines (lines_of_owners v s (owners_from v bytes n)))
-    (λ bytes. of_lines (owner_lines v s (owner_of v bytes n)))
-    (λ bytes. of_lines (lines_of_owners v (after_owner v s (owner_of v bytes n)) (owners_from v bytes (n + 1)))) _ _ _ _
-    c.in_err-claim_inode.field-0.0
-    inv.said (λ bytes t. lines_next v bytes s (after_owner v s (owner_of v bytes n)) n (omega arith) refl)
-    (reports_knowing (Unit {0}) _ _ _ _ _ (Err c.in_err-claim_inode.field-0.0)
-    (λ bytes k. ap (λ d. d.contents) inv.device ∙ k.0) c.in_err-claim_inode.ensures.text))
+    rw (p.1, p.2) (record {
+      image = image_from {T = Unit {0}} _ _ (g.I.Image.device c.claim_inode.new.image)
+          (Err c.in_err-claim_inode.field-0.0) inv.device c.in_err-claim_inode.ensures.left.image;
+      text = of_fault (Unit {0}) (Unit {0}) _ (λ bytes. of_lines (lines_of_owners v s (owners_from v bytes n)))
+          (λ bytes. of_lines (owner_lines v s (owner_of v bytes n)))
+          (λ bytes. of_lines (lines_of_owners v (after_owner v s (owner_of v bytes n)) (owners_from v bytes (n + 1))))
+          _ _ _ _ c.in_err-claim_inode.field-0.0
+          inv.said (λ bytes t. lines_next v bytes s (after_owner v s (owner_of v bytes n)) n (omega arith) refl)
+          (reports_knowing (Unit {0}) _ _ _ _ _ (Err c.in_err-claim_inode.field-0.0)
+          (λ bytes k. ap (λ d. d.contents) inv.device ∙ k.0) c.in_err-claim_inode.ensures.text);
+    })
 
 pub returns-in_err-claim_inode-clause-runs : goal.returns-in_err-claim_inode-clause-runs
 returns-in_err-claim_inode-clause-runs g c =
@@ -154,14 +162,16 @@ loop-number-preserved g c =
           (sym (now bytes (contents ∙ k.0))));
     }
 
-pub returns-clause-text : goal.returns-clause-text
-returns-clause-text g c =
+pub returns-clause-prints : goal.returns-clause-prints
+returns-clause-prints g c =
     let v = c.args.geometry.now.layout in
     let inv = c.loop-number.invariant in
     let s = claims_of c.loop-number.workspace in
-    of_same _ (λ bytes. of_lines (lines_of_owners v s (owners_from v bytes c.loop-number.number))) (λ bytes. []) _ _ _
-    inv.said
-    (λ bytes k. lines_end v bytes s c.loop-number.number (omega arith))
+    record {
+      image = inv.device;
+      text = of_same _ (λ bytes. of_lines (lines_of_owners v s (owners_from v bytes c.loop-number.number))) (λ bytes. [])
+          _ _ _ inv.said (λ bytes k. lines_end v bytes s c.loop-number.number (omega arith));
+    }
 
 pub returns-clause-holds : goal.returns-clause-holds
 returns-clause-holds g c = λ bytes k.
@@ -207,10 +217,3 @@ returns-clause-dups g c = λ bytes k.
 pub returns-in_err-say-clause-ready : goal.returns-in_err-say-clause-ready
 returns-in_err-say-clause-ready g c = ready_still c.args.geometry.now.layout _ _ _ c.reserve.ensures.only.made
     c.reserve.ensures.only.windows c.requires.ready
-
-pub returns-in_err-claim_inode-clause-image : goal.returns-in_err-claim_inode-clause-image
-returns-in_err-claim_inode-clause-image g c =
-    let p = err_from_is_err_and c.from_residual-in_err-claim_inode.result
-    c.from_residual-in_err-claim_inode.ensures.1 in
-    rw (p.1, p.2) (image_from {T = Unit {0}} _ _ (g.I.Image.device c.claim_inode.new.image)
-    (Err c.in_err-claim_inode.field-0.0) c.loop-number.invariant.device c.in_err-claim_inode.ensures.left.image)

@@ -1,3 +1,4 @@
+use Rattle.std.proofs.Common.{rules}
 use Rattle.std.proofs.Common.{◌≡◌, ◌≤◌, ◌+◌, ◌^◌, ◌<◌, ◌∷◌, [], arith, refl, sym, ap, ◌∙◌, List, Err}
 use Rattle.std.specs.Prelude.{slice_index}
 use Rattle.std.proofs.lemmas.Result.{err_from_is_err_and}
@@ -30,14 +31,17 @@ use Rattle.ffs_claims.proofs.LookBounds.{look_fits}
 use Rattle.ffs_claims.proofs.SecondLooks.{looked_on, looked_end, looked_first}
 use Rattle.ffs_claims.proofs.second.phase1b.Goals as goal
 
-pub returns-in_err-say-clause-text : goal.returns-in_err-say-clause-text
-returns-in_err-say-clause-text g c =
+pub returns-in_err-say-clause-prints : goal.returns-in_err-say-clause-prints
+returns-in_err-say-clause-prints g c =
     let p = err_from_is_err_and c.from_residual.result c.from_residual.ensures.1 in
     let v = c.args.geometry.now.layout in
-    rw (p.1, p.2) (of_stops _ (λ bytes. phase1b ∷ of_lines (phase1b_lines v (owners_of v bytes)))
-    (λ bytes. of_lines (phase1b_lines v (owners_of v bytes))) _ (phase1b ∷ []) _ _ _
-    (of_begins _ (λ bytes. phase1b ∷ of_lines (phase1b_lines v (owners_of v bytes))) _) (λ bytes t. refl)
-    c.in_err-say.ensures.said)
+    rw (p.1, p.2) (record {
+      image = search rules;
+      text = of_stops _ (λ bytes. phase1b ∷ of_lines (phase1b_lines v (owners_of v bytes)))
+          (λ bytes. of_lines (phase1b_lines v (owners_of v bytes))) _ (phase1b ∷ []) _ _ _
+          (of_begins _ (λ bytes. phase1b ∷ of_lines (phase1b_lines v (owners_of v bytes))) _) (λ bytes t. refl)
+          c.in_err-say.ensures.said;
+    })
 
 pub loop-number-init : goal.loop-number-init
 loop-number-init g c =
@@ -62,8 +66,8 @@ loop-number-init g c =
           c.in_ok-say.ensures.said;
     }
 
-pub returns-in_err-renumbered-clause-text : goal.returns-in_err-renumbered-clause-text
-returns-in_err-renumbered-clause-text g c =
+pub returns-in_err-renumbered-clause-prints : goal.returns-in_err-renumbered-clause-prints
+returns-in_err-renumbered-clause-prints g c =
     let p = err_from_is_err_and c.from_residual-in_err-renumbered.result c.from_residual-in_err-renumbered.ensures.1 in
     let v = c.args.geometry.now.layout in
     let inv = c.loop-number.invariant in
@@ -73,19 +77,23 @@ returns-in_err-renumbered-clause-text g c =
     let lt : n < inodes_of v = omega arith in
     let inside = is_inside v n inv.low lt in
     let cut = ap (λ z. slice_index z.items n) inv.claims.cut in
-    rw (p.1, p.2) (of_fault (Unit {0}) (Unit {0}) _
-    (λ bytes. of_lines (first_offer_lines d (kept_in_owners v (claims_before v bytes n) (owners_from v bytes n))))
-    (λ bytes. of_lines (first_offer_lines d
-    (offers_again v n (rescan (slice_index cuts n)) (steps_of v (inode_of v bytes n) bytes))))
-    (λ bytes. of_lines (first_offer_lines
-    (after_first d (offers_again v n (rescan (slice_index cuts n)) (steps_of v (inode_of v bytes n) bytes)))
-    (kept_in_owners v (claims_before v bytes (n + 1)) (owners_from v bytes (n + 1)))))
-    _ _ _ _ c.in_err-renumbered.field-0.0
-    inv.said
-    (λ bytes k. lines_split d _ _ _ _
-    (kept_next v bytes cuts n c.args.geometry.now.sound inv.low lt inside (cut ∙ k.1.cut n)) refl)
-    (reports_knowing (Unit {0}) _ _ _ _ _ (Err c.in_err-renumbered.field-0.0)
-    (λ bytes k. ap (λ d. d.contents) inv.device ∙ k.0) c.in_err-renumbered.ensures.text))
+    rw (p.1, p.2) (record {
+      image = image_from {T = Unit {0}} _ _ (g.I.Image.device c.renumbered.new.image)
+          (Err c.in_err-renumbered.field-0.0) inv.device c.in_err-renumbered.ensures.left.image;
+      text = of_fault (Unit {0}) (Unit {0}) _
+          (λ bytes. of_lines (first_offer_lines d (kept_in_owners v (claims_before v bytes n) (owners_from v bytes n))))
+          (λ bytes. of_lines (first_offer_lines d
+          (offers_again v n (rescan (slice_index cuts n)) (steps_of v (inode_of v bytes n) bytes))))
+          (λ bytes. of_lines (first_offer_lines
+          (after_first d (offers_again v n (rescan (slice_index cuts n)) (steps_of v (inode_of v bytes n) bytes)))
+          (kept_in_owners v (claims_before v bytes (n + 1)) (owners_from v bytes (n + 1)))))
+          _ _ _ _ c.in_err-renumbered.field-0.0
+          inv.said
+          (λ bytes k. lines_split d _ _ _ _
+          (kept_next v bytes cuts n c.args.geometry.now.sound inv.low lt inside (cut ∙ k.1.cut n)) refl)
+          (reports_knowing (Unit {0}) _ _ _ _ _ (Err c.in_err-renumbered.field-0.0)
+          (λ bytes k. ap (λ d. d.contents) inv.device ∙ k.0) c.in_err-renumbered.ensures.text);
+    })
 
 pub returns-in_err-renumbered-clause-runs : goal.returns-in_err-renumbered-clause-runs
 returns-in_err-renumbered-clause-runs g c = λ bytes k.
@@ -171,10 +179,12 @@ returns-then-workspace-eq0 g c =
     let none : set_count (bits_of c.loop-number.workspace.duplicates) ≡ 0 = sym inv.ready.made.unreported
     ∙ c.if-workspace-eq0.true in
     record {
-      image = inv.device;
-      text = of_same _ _ (λ bytes. []) _ _ _ inv.said
-          (λ bytes k. ap of_lines (none_first d (kept_in_owners v (claims_before v bytes n) (owners_from v bytes n))
-          none));
+      prints = record {
+        image = inv.device;
+        text = of_same _ _ (λ bytes. []) _ _ _ inv.said
+            (λ bytes k. ap of_lines (none_first d (kept_in_owners v (claims_before v bytes n) (owners_from v bytes n))
+            none));
+      };
       holds = λ bytes k. (
         claims_hold v bytes c.args.workspace.now c.loop-number.workspace k.1 inv.claims
             (reporting_over _ _ _ _ none (inv.reported bytes k)),
@@ -199,10 +209,12 @@ returns-after-loop-number g c =
     let d = bits_of c.loop-number.workspace.duplicates in
     let past : inodes_of v ≤ n = omega arith in
     record {
-      image = inv.device;
-      text = of_same _ _ (λ bytes. []) _ _ _ inv.said
-          (λ bytes k. ap (λ (os : List Offer). of_lines (first_offer_lines d os))
-          (kept_end v bytes (claims_before v bytes n) n past));
+      prints = record {
+        image = inv.device;
+        text = of_same _ _ (λ bytes. []) _ _ _ inv.said
+            (λ bytes k. ap (λ (os : List Offer). of_lines (first_offer_lines d os))
+            (kept_end v bytes (claims_before v bytes n) n past));
+      };
       holds = λ bytes k. (
         claims_hold v bytes c.args.workspace.now c.loop-number.workspace k.1 inv.claims
             (reporting_ends _ _ _ _ (inv.reported bytes k) (kept_end v bytes (claims_before v bytes n) n past)),
@@ -217,9 +229,3 @@ returns-after-loop-number g c =
 pub returns-in_err-say-clause-ready : goal.returns-in_err-say-clause-ready
 returns-in_err-say-clause-ready g c = ready_unseen c.args.geometry.now.layout (g.I.Image.device c.args.image.now)
     c.args.workspace.now 0 c.requires.ready
-
-pub returns-in_err-renumbered-clause-image : goal.returns-in_err-renumbered-clause-image
-returns-in_err-renumbered-clause-image g c =
-    let p = err_from_is_err_and c.from_residual-in_err-renumbered.result c.from_residual-in_err-renumbered.ensures.1 in
-    rw (p.1, p.2) (image_from {T = Unit {0}} _ _ (g.I.Image.device c.renumbered.new.image)
-    (Err c.in_err-renumbered.field-0.0) c.loop-number.invariant.device c.in_err-renumbered.ensures.left.image)
