@@ -3,6 +3,7 @@ use Rattle.std.specs.Prelude.{◌≡◌, ◌*◌, ◌+◌, ◌-◌, ◌/◌, ◌
 use Rattle.std.specs.List.{slice_range}
 use Rattle.ffs_image.specs.Device.{Device, ForContents}
 use Rattle.ffs_memory.specs.declared.fixed_list.FixedList.{FixedList}
+use Rattle.ffs_volume.specs.declared.constants.TheConstants.{DINODE_SIZE}
 use Rattle.ffs_volume.specs.declared.Layout.{Layout}
 use Rattle.ffs_volume.specs.Disk.Areas.{cgstart, inode_place}
 use Rattle.ffs_volume.specs.Disk.Numbers.{piece}
@@ -24,8 +25,8 @@ HasInode t x = (t.first ≤ x) × (x < t.first + t.count)
 
 -- the inode x is in the window, in its place among those that are held
 pub record IsInPlace (v : Layout) (t : Table) (x : ℕ) : Type 0 where
-  pub place : t.window.place + 128 * (x - t.first) ≡ inode_place v x
-  pub inside : 128 * (x - t.first) + 128 ≤ t.window.length
+  pub place : t.window.place + DINODE_SIZE * (x - t.first) ≡ inode_place v x
+  pub inside : DINODE_SIZE * (x - t.first) + DINODE_SIZE ≤ t.window.length
 
 -- the window has room for a block, and each inode that it has is in its place
 pub record IsTableOf (v : Layout) (t : Table) : Type 0 where
@@ -45,9 +46,9 @@ pub record KeepsTable (v : Layout) (contents : Option (List ℕ)) (t : Table) : 
 
 -- the bytes of the inode x are in the window, from this place on
 pub record IsHeldAt (v : Layout) (contents : Option (List ℕ)) (t : Table) (x at : ℕ) : Type 0 where
-  pub inside : at + 128 ≤ t.window.length
+  pub inside : at + DINODE_SIZE ≤ t.window.length
   pub bytes : ForContents contents
-      (λ b. slice_range (held_bytes t.window) at (at + 128) ≡ piece (inode_place v x) 128 b)
+      (λ b. slice_range (held_bytes t.window) at (at + DINODE_SIZE) ≡ piece (inode_place v x) DINODE_SIZE b)
 
 -- a table over a list that holds no inode, and so what any image of any layout gives
 pub record IsEmptyTable (list : FixedList ℕ) (t : Table) : Type 0 where

@@ -1,5 +1,6 @@
--- A number for the class of an inode, with the type of a file: it fits four bits. 5 is `EMPTY_DIR`, 15 `UNKNOWN_TYPE`.
+-- A number for the class of an inode, with the type of a file, its *kind*: it fits four bits.
 use Rattle.std.specs.Prelude.{ℕ, Bool, not, ◌||◌, ◌==◌, if◌then◌else◌, List}
+use Rattle.ffs_volume.specs.declared.constants.TheConstants.{DT_DIR, EMPTY_DIR, UNKNOWN_TYPE}
 use Rattle.ffs_volume.specs.declared.Layout.{Layout}
 use Rattle.ffs_volume.specs.declared.Inode.{Inode}
 use Rattle.ffs_volume.specs.declared.Class.{Class}
@@ -7,13 +8,13 @@ use Rattle.ffs_volume.specs.declared.Class.TheVariants.{Free, Partial, Unknown, 
 use Rattle.ffs_volume.specs.Blocks.Inodes.{inode_of, type_of}
 use Rattle.ffs_volume.specs.Directories.Volumes.{class_at}
 
--- 0 where nothing is allocated, 15 for the class Unknown, 5 for a directory of size 0 and 4 for another; else the
--- file's type
+-- 0 where nothing is allocated, and a number of its own for the class Unknown and for a directory of size 0; else the
+-- type of the file or directory
 abbrev pub kind_of : Class → Inode → ℕ
 kind_of Free i = 0
 kind_of Partial i = 0
-kind_of Unknown i = 15
-kind_of Dir i = if i.size == 0 then 5 else 4
+kind_of Unknown i = UNKNOWN_TYPE
+kind_of Dir i = if i.size == 0 then EMPTY_DIR else DT_DIR
 kind_of File i = type_of i.mode
 
 -- the number for the inode x of an image, and 0 where x is no inode's number
@@ -22,11 +23,11 @@ kind_at v image x = kind_of (class_at v image x) (inode_of v image x)
 
 -- the number is one of a directory
 abbrev pub is_dir_kind : ℕ → Bool
-is_dir_kind k = k == 4 || k == 5
+is_dir_kind k = k == DT_DIR || k == EMPTY_DIR
 
 -- the number is that of a directory of size 0
 abbrev pub is_empty_dir_kind : ℕ → Bool
-is_empty_dir_kind k = k == 5
+is_empty_dir_kind k = k == EMPTY_DIR
 
 -- the number is one of an allocated inode
 abbrev pub is_allocated_kind : ℕ → Bool
@@ -34,16 +35,16 @@ is_allocated_kind k = not (k == 0)
 
 -- the number is that of the class Unknown
 abbrev pub is_unknown_kind : ℕ → Bool
-is_unknown_kind k = k == 15
+is_unknown_kind k = k == UNKNOWN_TYPE
 
 -- the class of a number; Partial comes back as Free
 abbrev pub class_of_kind : ℕ → Class
 class_of_kind k =
     if k == 0 then Free
-    else (if k == 15 then Unknown
+    else (if k == UNKNOWN_TYPE then Unknown
     else (if is_dir_kind k then Dir
     else File))
 
 -- the type bits of the mode of a file or directory
 abbrev pub type_of_kind : ℕ → ℕ
-type_of_kind k = if is_dir_kind k then 4 else k
+type_of_kind k = if is_dir_kind k then DT_DIR else k
