@@ -51,17 +51,17 @@ dots_reported about path d parent first second = dot_said about path d first (do
 -- the first entry is the directory's `.`, and the second one its `..`
 abbrev pub is_right_dot : ℕ → Option Entry → Bool
 is_right_dot d None = false
-is_right_dot d (Some e) = is_live e && (is_one_dot e.name && ((e.number == d) && (e.kind == 4)))
+is_right_dot d (Some e) = is_live e && (is_one_dot e.name && ((e.number == d) && (e.kind == DT_DIR)))
 
 abbrev pub is_right_dotdot : Option ℕ → Option Entry → Bool
 is_right_dotdot parent None = false
 is_right_dotdot parent (Some e) =
-    is_live e && (is_two_dots e.name && (not (is_wrong_parent parent e.number) && (e.kind == 4)))
+    is_live e && (is_two_dots e.name && (not (is_wrong_parent parent e.number) && (e.kind == DT_DIR)))
 
 -- the size, the Gaps, the chunks and the first two entries are right
 abbrev pub is_right_header : ℕ → ℕ → Option ℕ → Bool → Bool → Option Entry → Option Entry → Bool
 is_right_header size d parent gap sound first second =
-    (not (nat_lt size 24) && ((size % 512 == 0) && (not gap && sound)))
+    (not (nat_lt size MINDIRSIZE) && ((size % DIRBLKSIZ == 0) && (not gap && sound)))
     && (is_right_dot d first && is_right_dotdot parent second)
 
 -- all that is reported before the entries
