@@ -16,7 +16,7 @@ use Rattle.ffs_volume.proofs.Graphs.{AllReached, NoExtraneous}
 use Rattle.ffs_volume.proofs.LevelLaws.{reached-root}
 use Rattle.ffs_certificate.proofs.Lost.{silent-reached}
 use Rattle.ffs_certificate.proofs.Links.{links-right}
-use Rattle.ffs_volume.specs.Directories.Parents.{graph_of, roled_at}
+use Rattle.ffs_volume.specs.Directories.Parents.{graph_of, nth_roled}
 use Rattle.ffs_volume.specs.Directories.PathnameCheck.{is_short, is_bad_whiteout, is_extraneous, is_wrong_parent}
 use Rattle.ffs_volume.specs.Directories.Connectivity.{is_unref_dir_of}
 use Rattle.ffs_volume.specs.Consistent.DirectoriesRight.{IsPlainRight, IsDirRight, AreDirsRight}
@@ -83,7 +83,7 @@ other_good e n k =
     (and_false-from (e.kind == 14) (not (e.number == 1)) (λ h. absurd (k (eqb-true e.kind 14 h))))
 
 plain_quiet : (v : Volume) → IsFileOrDir v → (s j : ℕ) (e : RoledEntry) → is_dir v s ≡ true →
-    roled_at (roled_entries v s) j ≡ Some e → e.role ≡ Plain → IsPlainRight v e.entry → IsPlainQuiet v s j e.entry
+    nth_roled (roled_entries v s) j ≡ Some e → e.role ≡ Plain → IsPlainRight v e.entry → IsPlainQuiet v s j e.entry
 plain_quiet v t s j e d there role r =
     elim r [
       | inl w ↦ (let some = t.volume.some in let n = w.0 in record {
@@ -118,7 +118,7 @@ plain_quiet v t s j e d there role r =
     ]
 
 pub link_quiet : (v : Volume) → IsFileOrDir v → (s j : ℕ) (e : RoledEntry) → is_dir v s ≡ true →
-    roled_at (roled_entries v s) j ≡ Some e → e.role ≡ Plain → IsPlainRight v e.entry →
+    nth_roled (roled_entries v s) j ≡ Some e → e.role ≡ Plain → IsPlainRight v e.entry →
     is_extraneous v s j e.entry.number ≡ false
 link_quiet v t s j e d there role r =
     and_false-from (is_dir v e.entry.number) _ (λ h.

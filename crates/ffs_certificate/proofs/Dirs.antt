@@ -12,7 +12,7 @@ use Rattle.ffs_volume.specs.Blocks.Inodes.{is_directory}
 use Rattle.ffs_volume.specs.Directories.Roles.{Volume, RoledEntry, is_dir, is_inode, is_suspect, is_one_dot}
 use Rattle.ffs_volume.specs.Directories.Roles.{is_two_dots, roled_entries, dot, dotdot, start_entry}
 use Rattle.ffs_volume.specs.Directories.Graph.{parent}
-use Rattle.ffs_volume.specs.Directories.Parents.{graph_of, roled_at}
+use Rattle.ffs_volume.specs.Directories.Parents.{graph_of, nth_roled}
 use Rattle.ffs_volume.specs.Directories.Paths.{dir_path}
 use Rattle.ffs_volume.specs.Messages.Kinds.{reported, lines_below, root_suspect, dir_short, dir_length, dir_empty}
 use Rattle.ffs_volume.specs.Messages.Kinds.{dir_corrupt, missing_dot, missing_dot_first, number_dot, kind_dot}
@@ -133,7 +133,7 @@ pub record IsDirQuiet (v : Volume) (d : ℕ) : Type 0 where
   pub shape : IsShapeQuiet v d
   pub dot_there : IsDotQuiet d (dot v d)
   pub dotdot_there : IsDotdotQuiet v d (dotdot v d)
-  pub entries : (j : ℕ) (e : RoledEntry) → roled_at (roled_entries v d) j ≡ Some e → IsSeenQuiet v d j e
+  pub entries : (j : ℕ) (e : RoledEntry) → nth_roled (roled_entries v d) j ≡ Some e → IsSeenQuiet v d j e
 
 dir-quiet : (v : Volume) (d : ℕ) → dir_lines v d ≡ [] → IsDirQuiet v d
 unfolding dir_lines dot_lines dotdot_lines

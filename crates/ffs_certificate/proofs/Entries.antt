@@ -9,8 +9,8 @@ use Rattle.ffs_volume.specs.declared.Role.TheVariants.{Empty, Dot, Dotdot, Extra
 use Rattle.ffs_volume.specs.Directories.Entries.{Entry}
 use Rattle.ffs_volume.specs.Blocks.Inodes.{is_allocated}
 use Rattle.ffs_volume.specs.Directories.Roles.{Volume, RoledEntry, is_dir, is_plain, is_one_dot, roled_entries}
-use Rattle.ffs_volume.specs.Directories.Graph.{names, names_at, test_at}
-use Rattle.ffs_volume.specs.Directories.Parents.{graph_of, roled_at}
+use Rattle.ffs_volume.specs.Directories.Graph.{entry_names, dir_names_at, test_at}
+use Rattle.ffs_volume.specs.Directories.Parents.{graph_of, nth_roled}
 use Rattle.ffs_volume.specs.Directories.Paths.{dir_path, entry_path}
 use Rattle.ffs_volume.specs.Messages.Kinds.{reported, out_of_range, whiteout, unallocated, extraneous, kind_entry}
 use Rattle.ffs_volume.specs.Messages.Kinds.{extra_dot, extra_dotdot}
@@ -124,7 +124,7 @@ seen-silent v s j e q = go e.role refl
 
 -- the entries of a list that is from the place j on
 pub entries-quiet : (v : Volume) (s j : ℕ) (es : List RoledEntry) → lines_of_entries v s j es ≡ [] →
-    (k : ℕ) (e : RoledEntry) → roled_at es k ≡ Some e → IsSeenQuiet v s (j + k) e
+    (k : ℕ) (e : RoledEntry) → nth_roled es k ≡ Some e → IsSeenQuiet v s (j + k) e
 unfolding lines_of_entries
 entries-quiet v s j [] h k e x = absurd (cc)
 entries-quiet v s j (f ∷ es) h zero e x =
@@ -137,7 +137,7 @@ entries-quiet v s j (f ∷ es) h (suc k) e x =
     subst (λ n. IsSeenQuiet v s n e) z (entries-quiet v s (suc j) es (nil-right (roled_lines v s j f) _ h) k e x)
 
 pub entries-silent : (v : Volume) (s j : ℕ) (es : List RoledEntry) →
-    ((k : ℕ) (e : RoledEntry) → roled_at es k ≡ Some e → IsSeenQuiet v s (j + k) e) → lines_of_entries v s j es ≡ []
+    ((k : ℕ) (e : RoledEntry) → nth_roled es k ≡ Some e → IsSeenQuiet v s (j + k) e) → lines_of_entries v s j es ≡ []
 unfolding lines_of_entries
 entries-silent v s j [] h = refl
 entries-silent v s j (f ∷ es) h =
@@ -157,12 +157,12 @@ plain-true Extra h = absurd (cc)
 plain-true Empty h = absurd (cc)
 
 test-gives : (p : RoledEntry → Bool) (j : ℕ) (es : List RoledEntry) → test_at p j es ≡ true → (e : RoledEntry)
-    × (roled_at es j ≡ Some e) × (p e ≡ true)
+    × (nth_roled es j ≡ Some e) × (p e ≡ true)
 test-gives p j [] h = absurd (cc)
 test-gives p zero (e ∷ es) h = (e, refl, h)
 test-gives p (suc j) (e ∷ es) h = test-gives p j es h
 
-test-from : (p : RoledEntry → Bool) (j : ℕ) (es : List RoledEntry) (e : RoledEntry) → roled_at es j ≡ Some e →
+test-from : (p : RoledEntry → Bool) (j : ℕ) (es : List RoledEntry) (e : RoledEntry) → nth_roled es j ≡ Some e →
     p e ≡ true → test_at p j es ≡ true
 test-from p j [] e x h = absurd (cc)
 test-from p zero (f ∷ es) e x h = let q : e ≡ f = cc in subst (λ y. p y ≡ true) q h
@@ -172,21 +172,21 @@ test-from p (suc j) (f ∷ es) e x h = test-from p j es e x h
 pub record IsNamer (v : Volume) (s j x : ℕ) : Type 0 where
   pub dir : is_dir v s ≡ true
   pub entry : RoledEntry
-  pub there : roled_at (roled_entries v s) j ≡ Some entry
+  pub there : nth_roled (roled_entries v s) j ≡ Some entry
   pub role : entry.role ≡ Plain
   pub number : entry.entry.number ≡ x
 
-pub names_at-gives : (v : Volume) (s j x : ℕ) → names_at (graph_of v) s j x ≡ true → IsNamer v s j x
+pub names_at-gives : (v : Volume) (s j x : ℕ) → dir_names_at (graph_of v) s j x ≡ true → IsNamer v s j x
 names_at-gives v s j x h =
-    let p = and_parts (is_dir v s) (test_at (names x) j (roled_entries v s)) h in
-    let t = test-gives (names x) j (roled_entries v s) p.1 in
+    let p = and_parts (is_dir v s) (test_at (entry_names x) j (roled_entries v s)) h in
+    let t = test-gives (entry_names x) j (roled_entries v s) p.1 in
     let e = t.0 in
     let q = and_parts (is_plain e.role) (e.entry.number == x) t.2 in
     record { dir = p.0; entry = e; there = t.1; role = plain-true e.role q.0; number = eqb-true e.entry.number x q.1 }
 
-pub names_at-from : (v : Volume) (s j x : ℕ) → IsNamer v s j x → names_at (graph_of v) s j x ≡ true
+pub names_at-from : (v : Volume) (s j x : ℕ) → IsNamer v s j x → dir_names_at (graph_of v) s j x ≡ true
 names_at-from v s j x n =
-    and_from (is_dir v s) (test_at (names x) j (roled_entries v s)) n.dir
-    (test-from (names x) j (roled_entries v s) n.entry n.there
+    and_from (is_dir v s) (test_at (entry_names x) j (roled_entries v s)) n.dir
+    (test-from (entry_names x) j (roled_entries v s) n.entry n.there
     (and_from (is_plain n.entry.role) (n.entry.entry.number == x) (ap is_plain n.role)
     (eq-eqb n.entry.entry.number x n.number)))

@@ -12,7 +12,7 @@ use Rattle.ffs_volume.specs.Directories.Roles.{Volume, is_dir, is_inode, is_allo
 use Rattle.ffs_volume.specs.Directories.Roles.{references}
 use Rattle.ffs_volume.specs.Directories.Climb.{is_value}
 use Rattle.ffs_volume.proofs.ClimbLaws.{is_value-true}
-use Rattle.ffs_volume.specs.Directories.Graph.{Graph, parent, parent_entry_index, lost, reached, NamedOnce}
+use Rattle.ffs_volume.specs.Directories.Graph.{Graph, parent, parent_entry_index, is_lost, reached, NamedOnce}
 use Rattle.ffs_volume.proofs.Graphs.{AllReached, NoExtraneous}
 use Rattle.ffs_volume.proofs.Unreached.{lost-true}
 use Rattle.ffs_certificate.proofs.Lost.{silent-reached}
@@ -112,7 +112,7 @@ all_reached v vol un q =
     let quiet = none_suspect v un (none_empty v vol q.pathnames q.references) in
     (silent-reached (graph_of v) (is_suspect v) (is_sane v vol) (none_dead v quiet)).0
     (λ d. false_from_ne_true (is_unref_dir_of v d) (λ t.
-    let l = lost-true (graph_of v) (is_suspect v) d (and_parts (lost (graph_of v) (is_suspect v) d) _ t).0 in
+    let l = lost-true (graph_of v) (is_suspect v) d (and_parts (is_lost (graph_of v) (is_suspect v) d) _ t).0 in
     both_ways (is_unref_dir_of v d) (q.connectivity d (dir-below v d l.dir)) t))
 
 -- each plain entry that names a directory is its parent entry

@@ -101,7 +101,7 @@ under_within nb span first f next (suc count) h =
 
 -- a level of indirection
 at_within : (t : FileBlocks) (bytes : List ℕ) (level address first : ℕ) → first < t.blocks →
-    Within t.blocks first (first + span_of t.geometry.nindir level) (steps_at t bytes level address first)
+    Within t.blocks first (first + span_of t.layout.nindir level) (steps_at t bytes level address first)
 unfolding steps_at
 at_within t bytes zero address first lt = one (nat_eq address 0)
   where
@@ -112,24 +112,24 @@ at_within t bytes zero address first lt = one (nat_eq address 0)
 at_within t bytes (suc level) address first lt = one (nat_eq address 0) (λ a b le. at_within t bytes level a b le)
   where
     words : ℕ
-    words = t.geometry.nindir
+    words = t.layout.nindir
 
     span : ℕ
-    span = span_of t.geometry.nindir level
+    span = span_of t.layout.nindir level
 
     used : ℕ
-    used = used_addresses t.geometry.nindir t.blocks first (span_of t.geometry.nindir level)
+    used = used_addresses t.layout.nindir t.blocks first (span_of t.layout.nindir level)
 
     found : Bool
-    found = any_address_from t.geometry (block_bytes t.geometry bytes address)
-        (used_addresses t.geometry.nindir t.blocks first (span_of t.geometry.nindir level))
+    found = any_address_from t.layout (block_bytes t.layout bytes address)
+        (used_addresses t.layout.nindir t.blocks first (span_of t.layout.nindir level))
 
     f : ℕ → List Step
-    f = λ j. steps_at t bytes level (address_at t.geometry bytes address j)
-        (first + j * span_of t.geometry.nindir level)
+    f = λ j. steps_at t bytes level (address_at t.layout bytes address j)
+        (first + j * span_of t.layout.nindir level)
 
     high : ℕ
-    high = first + span_of t.geometry.nindir (suc level)
+    high = first + span_of t.layout.nindir (suc level)
 
     wide : first ≤ high
     wide = omega arith
@@ -143,7 +143,7 @@ at_within t bytes (suc level) address first lt = one (nat_eq address 0) (λ a b 
     under child =
         let all = under_within t.blocks span first f 0 used (λ j low lt_used.
         let enough : 0 < words = omega (arith, lt_used) in
-        child (address_at t.geometry bytes address j) (first + j * span)
+        child (address_at t.layout bytes address j) (first + j * span)
         (word_below words t.blocks first span j (span_some words level enough) (omega (arith, lt_used)))) in
         let most : used * span ≤ words * span = mul-le-mul_right span (let u : used ≤ words = omega arith in u) in
         let whole = span_more words level in
@@ -165,11 +165,11 @@ at_within t bytes (suc level) address first lt = one (nat_eq address 0) (λ a b 
 
     one : (b : Bool) → ((a b : ℕ) → b < t.blocks → Within t.blocks b (b + span) (steps_at t bytes level a b)) →
         Within t.blocks first high
-        (if b then Gap ∷ [] else Run address t.geometry.frag None
-        ∷ (if is_run_in_range t.geometry address t.geometry.frag
+        (if b then Gap ∷ [] else Run address t.layout.frag None
+        ∷ (if is_run_in_range t.layout address t.layout.frag
         then tail_of found ++ flat_map f (range_with_len 0 used) else []))
     one true child = record { rises = wide; below = refl }
-    one false child = let r = below (is_run_in_range t.geometry address t.geometry.frag) child in
+    one false child = let r = below (is_run_in_range t.layout address t.layout.frag) child in
         record { rises = r.rises; below = r.below }
 
 -- the fifteen addresses: where one ends, the next begins
@@ -217,21 +217,21 @@ record Goes (t : FileBlocks) (low : ℕ) (steps : List Step) : Type 0 where
   below : list_all (λ b. nat_lt b t.blocks) (blocks_in steps) ≡ true
 
 after : (t : FileBlocks) (bytes addresses : List ℕ) (next n : ℕ) → next + suc n ≤ 15 →
-    AreRising (first_block t.geometry.nindir (next + 1)) (blocks_in (steps_of_addresses t bytes addresses (next + 1) n))
+    AreRising (first_block t.layout.nindir (next + 1)) (blocks_in (steps_of_addresses t bytes addresses (next + 1) n))
     →
-    AreRising (first_block t.geometry.nindir next + span_of t.geometry.nindir (indirection_of next))
+    AreRising (first_block t.layout.nindir next + span_of t.layout.nindir (indirection_of next))
     (blocks_in (steps_of_addresses t bytes addresses (next + 1) n))
 after t bytes addresses next zero le r = tt
 after t bytes addresses next (suc n) le r =
     subst (λ a. AreRising a (blocks_in (steps_of_addresses t bytes addresses (next + 1) (suc n))))
-    (sym (next_first t.geometry.nindir next (omega (arith, le)))) r
+    (sym (next_first t.layout.nindir next (omega (arith, le)))) r
 
 addresses_go : (t : FileBlocks) (bytes addresses : List ℕ) (next count : ℕ) → next + count ≤ 15 →
-    next + count ≤ addresses_for t.geometry.nindir t.blocks →
-    Goes t (first_block t.geometry.nindir next) (steps_of_addresses t bytes addresses next count)
+    next + count ≤ addresses_for t.layout.nindir t.blocks →
+    Goes t (first_block t.layout.nindir next) (steps_of_addresses t bytes addresses next count)
 addresses_go t bytes addresses next zero le used = record { rising = tt; below = refl }
 addresses_go t bytes addresses next (suc count) le used =
-    let words = t.geometry.nindir in
+    let words = t.layout.nindir in
     let here = at_within t bytes (indirection_of next) (slice_index addresses next) (first_block words next)
     (first_below words t.blocks next (omega (arith, used))) in
     let rest = addresses_go t bytes addresses (next + 1) count (omega (arith, le)) (omega (arith, used)) in
@@ -263,7 +263,7 @@ all_blocks_rise v i image =
     nb = if walks v i then logical_blocks_of v i else 0
 
     t : FileBlocks
-    t = record { geometry = v; blocks = nb; last = last_of v i }
+    t = record { layout = v; blocks = nb; last = last_of v i }
 
     most : (b : Bool) → (if b then logical_blocks_of v i else 0) ≤ logical_blocks_of v i
     most true = omega arith

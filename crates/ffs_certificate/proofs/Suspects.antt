@@ -11,10 +11,10 @@ use Rattle.ffs_volume.specs.Directories.Roles.{Volume, is_dir, is_inode, is_allo
 use Rattle.ffs_volume.proofs.SearchLaws.{some_below-gives, first_below-is}
 use Rattle.ffs_volume.specs.Directories.Climb.{is_value}
 use Rattle.ffs_volume.proofs.ClimbLaws.{is_value-from}
-use Rattle.ffs_volume.specs.Directories.Graph.{names, names_in, named, first_index, test_at}
+use Rattle.ffs_volume.specs.Directories.Graph.{entry_names, dir_names, is_named, first_index, test_at}
 use Rattle.ffs_volume.proofs.Graphs.{IsSane, NoneDead}
 use Rattle.ffs_certificate.proofs.Links.{place_of}
-use Rattle.ffs_volume.specs.Directories.Parents.{graph_of, roled_at, first_naming_dir, is_first_name}
+use Rattle.ffs_volume.specs.Directories.Parents.{graph_of, nth_roled, first_naming_dir, is_first_name}
 use Rattle.ffs_volume.specs.Directories.PathnameCheck.{reports_suspect}
 use Rattle.ffs_volume.specs.Directories.Connectivity.{is_dead}
 use Rattle.ffs_certificate.specs.Premises.{IsVolume, IsUnmarked}
@@ -44,19 +44,19 @@ dir-allocated v d h =
     and_from (is_inode v d) (is_allocated (v.class d)) p.0 (directory-allocated (v.class d) p.1)
 
 -- what some plain entry names, a first one names
-first_name : (v : Volume) (x : ℕ) → named (graph_of v) x ≡ true → (s : ℕ) × (j : ℕ)
+first_name : (v : Volume) (x : ℕ) → is_named (graph_of v) x ≡ true → (s : ℕ) × (j : ℕ)
     × (is_first_name (graph_of v) s j x ≡ true) × IsNamer v s j x
 first_name v x h =
     let g = graph_of v in
-    let w = some_below-gives (λ s. names_in g s x) v.count h in
-    let p = and_parts (is_dir v w.0) (list_any (names x) (roled_entries v w.0)) w.1.passes in
-    let q = place_of (names x) (roled_entries v w.0) p.1 in (
+    let w = some_below-gives (λ s. dir_names g s x) v.count h in
+    let p = and_parts (is_dir v w.0) (list_any (entry_names x) (roled_entries v w.0)) w.1.passes in
+    let q = place_of (entry_names x) (roled_entries v w.0) p.1 in (
       w.0,
       q.0,
-      and_from (is_value (first_naming_dir g x) w.0) (is_value (first_index (names x) (roled_entries v w.0)) q.0)
-          (is_value-from (first_naming_dir g x) w.0 (first_below-is (λ s. names_in g s x) v.count w.0 w.1))
-          (is_value-from (first_index (names x) (roled_entries v w.0)) q.0 q.1),
-      names_at-gives v w.0 q.0 x (and_from (is_dir v w.0) (test_at (names x) q.0 (roled_entries v w.0)) p.0 q.2),
+      and_from (is_value (first_naming_dir g x) w.0) (is_value (first_index (entry_names x) (roled_entries v w.0)) q.0)
+          (is_value-from (first_naming_dir g x) w.0 (first_below-is (λ s. dir_names g s x) v.count w.0 w.1))
+          (is_value-from (first_index (entry_names x) (roled_entries v w.0)) q.0 q.1),
+      names_at-gives v w.0 q.0 x (and_from (is_dir v w.0) (test_at (entry_names x) q.0 (roled_entries v w.0)) p.0 q.2),
     )
 
 pub zero-suspect : (v : Volume) (d : ℕ) → is_dir v d ≡ true → (v.inode d).size ≡ 0 → is_suspect v d ≡ true
@@ -65,12 +65,12 @@ zero-suspect v d h z = or_right (v.marked d) _
 
 -- a suspect that is named is reported at its first name
 named_reported : (v : Volume) → IsVolume v → IsPathnameQuiet v →
-    ((d : ℕ) → d ≢ 2 → is_dir v d ≡ true → (v.inode d).size ≡ 0 → named (graph_of v) d ≡ true → ⊥)
+    ((d : ℕ) → d ≢ 2 → is_dir v d ≡ true → (v.inode d).size ≡ 0 → is_named (graph_of v) d ≡ true → ⊥)
 named_reported v vol p d n h z t =
     let f = first_name v d t in
     let m = f.3 in
     let big : (v.inode f.0).size ≢ 0 =
-    (λ e. let q : None ≡ Some m.entry = sym (ap (λ l. roled_at l f.1) (vol.empty f.0 m.dir e)) ∙ m.there in cc) in
+    (λ e. let q : None ≡ Some m.entry = sym (ap (λ l. nth_roled l f.1) (vol.empty f.0 m.dir e)) ∙ m.there in cc) in
     let quiet = ((p.each f.0 m.dir big).entries f.1 m.entry m.there).plain m.role in
     let two = dir-from_two v d h in
     let number = m.number in
@@ -87,11 +87,11 @@ pub none_empty : (v : Volume) → IsVolume v → IsPathnameQuiet v →
 none_empty v vol p r d h z =
     elim (cases_eq d 2) [
       | inl e ↦ both_ways (is_suspect v 2) p.suspect (subst (λ x. is_suspect v x ≡ true) e (zero-suspect v d h z))
-      | inr n ↦ elim (cases_Bool (named (graph_of v) d)) [
+      | inr n ↦ elim (cases_Bool (is_named (graph_of v) d)) [
         | inl t ↦ named_reported v vol p d n h z t
         | inr t ↦ both_ways (is_dead v d) (r d (dir-allocated v d h)).alive
-            (and_from (is_suspect v d) (not (d == 2) && not (named (graph_of v) d)) (zero-suspect v d h z)
-            (and_from (not (d == 2)) (not (named (graph_of v) d)) (not_from_false _ (ne_eqb d 2 n))
+            (and_from (is_suspect v d) (not (d == 2) && not (is_named (graph_of v) d)) (zero-suspect v d h z)
+            (and_from (not (d == 2)) (not (is_named (graph_of v) d)) (not_from_false _ (ne_eqb d 2 n))
             (not_from_false _ t)))
       ]
     ]

@@ -16,7 +16,7 @@ use Rattle.ffs_volume.specs.Blocks.Inodes.{is_allocated}
 use Rattle.ffs_volume.specs.Directories.Roles.{Volume, RoledEntry, is_dir, is_allocated_inode}
 use Rattle.ffs_volume.specs.Directories.Roles.{roled_entries, dot, dotdot, references}
 use Rattle.ffs_volume.specs.Directories.Graph.{parent}
-use Rattle.ffs_volume.specs.Directories.Parents.{graph_of, roled_at}
+use Rattle.ffs_volume.specs.Directories.Parents.{graph_of, nth_roled}
 use Rattle.ffs_volume.specs.Report.Opening.{setting_lines}
 use Rattle.ffs_volume.specs.Directories.PathnameCheck.{continues_after_root, is_short, is_not_multiple, are_sound}
 use Rattle.ffs_volume.specs.Directories.PathnameCheck.{is_wrong_parent}
@@ -56,8 +56,8 @@ pub record IsDirUnreported (v : Volume) (d : ℕ) : Type 0 where
   pub sound : are_sound (v.chunks d) ≡ true
   pub dot_there : IsSomeAnd (dot v d) (λ e. (e.number ≡ d) × (e.kind ≡ 4))
   pub dotdot_there : IsSomeAnd (dotdot v d) (λ e. e.kind ≡ 4)
-  pub no_extra : (j : ℕ) (s : RoledEntry) → roled_at (roled_entries v d) j ≡ Some s → s.role ≢ Extra
-  pub plain : (j : ℕ) (s : RoledEntry) → roled_at (roled_entries v d) j ≡ Some s → s.role ≡ Plain
+  pub no_extra : (j : ℕ) (s : RoledEntry) → nth_roled (roled_entries v d) j ≡ Some s → s.role ≢ Extra
+  pub plain : (j : ℕ) (s : RoledEntry) → nth_roled (roled_entries v d) j ≡ Some s → s.role ≡ Plain
       → IsPlainUnreported v s.entry
 
 -- the root is no ROOT INODE UNALLOCATED or NOT DIRECTORY
@@ -69,7 +69,7 @@ pub record AreDirsUnreported (v : Volume) : Type 0 where
 pub record AreLinksUnreported (v : Volume) : Type 0 where
   pub dotdots : (d : ℕ) → is_dir v d ≡ true
       → IsSomeAnd (dotdot v d) (λ e. is_wrong_parent (parent (graph_of v) d) e.number ≡ false)
-  pub links : (s j : ℕ) (e : RoledEntry) → is_dir v s ≡ true → roled_at (roled_entries v s) j ≡ Some e → e.role ≡ Plain
+  pub links : (s j : ℕ) (e : RoledEntry) → is_dir v s ≡ true → nth_roled (roled_entries v s) j ≡ Some e → e.role ≡ Plain
       → is_extraneous v s j e.entry.number ≡ false
   pub lost : (d : ℕ) → is_unref_dir_of v d ≡ false
 

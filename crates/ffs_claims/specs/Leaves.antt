@@ -20,7 +20,7 @@ pub record HasBegun (w : Workspace) : Type 0 where
   pub runs : w.runs_seen < 2 ^ 61
 
 -- the workspace was made for the volume, and the current inode can keep so many offers more
-pub record HasRoom (v : Layout) (w : Workspace) (more : ℕ) : Type 0 where
+pub record HasRoomForOffers (v : Layout) (w : Workspace) (more : ℕ) : Type 0 where
   pub made : IsFor v w
   pub room : w.kept + more ≤ 2 ^ 63
 

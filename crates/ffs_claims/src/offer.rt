@@ -8,7 +8,7 @@ ghost use Rattle.ffs_volume.specs.Blocks.Claims as claims;
 ghost use Rattle.ffs_volume.specs.Blocks.Claims.{after_offer, after_offers, after_run, after_step, offer_lines, lines_of_offers, run_lines, step_lines};
 ghost use Rattle.ffs_report.specs.Progress.{progress, Says};
 ghost use Rattle.ffs_workspace.specs.Holds.{claims_of};
-ghost use Rattle.ffs_claims.specs.Leaves.{AreClaims, HasRoom, OffersOnly};
+ghost use Rattle.ffs_claims.specs.Leaves.{AreClaims, HasRoomForOffers, OffersOnly};
 ghost use Rattle.ffs_claims.specs.Lines.{of_lines, is_dup, dup_lines, bad_lines};
 ghost use Rattle.ffs_claims.specs.Claiming.{ClaimsInArea, SeesNext};
 
@@ -61,7 +61,7 @@ fn say_bad<W: Output>(
 /// Takes an offer, and says whether it is dup.
 #[tactic(auto, using(ffs_volume::proofs::Weights::ok_below))]
 fn take(workspace: &mut Workspace, geometry: &Geometry, fragment: u64) -> bool
-    requires room { HasRoom geometry.now.layout workspace.old 1 }
+    requires room { HasRoomForOffers geometry.now.layout workspace.old 1 }
     ensures claims { claims_of workspace.new
         ≡ after_offer geometry.now.layout (claims_of workspace.old) fragment }
     ensures dup { result ≡ is_dup geometry.now.layout (claims_of workspace.old) fragment }
@@ -96,7 +96,7 @@ fn offer<W: Output>(
     fragment: u64,
     report: &mut Report<'_, W>,
 ) -> Result<(), OutFault>
-    requires room { HasRoom geometry.now.layout workspace.old 1 }
+    requires room { HasRoomForOffers geometry.now.layout workspace.old 1 }
     ensures said { Says (progress W.sink report.old) (progress W.sink report.new)
         (of_lines (offer_lines geometry.now.layout number (claims_of workspace.old) fragment))
         result }
@@ -120,7 +120,7 @@ fn offers<W: Output>(
     len: u32,
     report: &mut Report<'_, W>,
 ) -> Result<(), OutFault>
-    requires room { HasRoom geometry.now.layout workspace.old len }
+    requires room { HasRoomForOffers geometry.now.layout workspace.old len }
     ensures said { Says (progress W.sink report.old) (progress W.sink report.new)
         (of_lines (lines_of_offers geometry.now.layout number (claims_of workspace.old)
         (range_with_len start len))) result }
@@ -150,7 +150,7 @@ fn run_in_range<W: Output>(
     len: u32,
     report: &mut Report<'_, W>,
 ) -> Result<bool, OutFault>
-    requires room { HasRoom geometry.now.layout workspace.old len }
+    requires room { HasRoomForOffers geometry.now.layout workspace.old len }
     requires some { 0 < len }
     requires in_range { is_run_in_range geometry.now.layout start len ≡ true }
     requires open { claims.is_open (claims_of workspace.old) ≡ true }

@@ -1,5 +1,6 @@
 -- What is reported of an inode by its references.
-use Rattle.std.specs.Prelude.{ℕ, ◌==◌, ◌&&◌, ◌||◌, Bool, not, slice_index, List, [], ◌∷◌, Option, Some, None, if◌then◌else◌, ℤ}
+use Rattle.std.specs.Prelude.{ℕ, ◌==◌, ◌&&◌, ◌||◌, Bool, not, slice_index, List, [], ◌∷◌, Option, Some, None}
+use Rattle.std.specs.Prelude.{if◌then◌else◌, ℤ}
 use Rattle.ffs_volume.specs.declared.constants.TheConstants.{LINKS_MET, ROOTINO}
 use Rattle.ffs_volume.specs.declared.Attr.{Attr}
 use Rattle.ffs_volume.specs.declared.Label.{Label}

@@ -39,7 +39,7 @@ pub record Grown (b f : ℕ) (r : ℕ → ℕ) (old new : FreeCounts) : Type 0 w
   pub runs : (k : ℕ) → slice_index new.runs k ≡ slice_index old.runs k + r k
 
 -- a word has room for so many blocks, and the counts for what they add
-pub record HasRoom (blocks frag limit : ℕ) (counts : FreeCounts) : Type 0 where
+pub record HasRoomToCount (blocks frag limit : ℕ) (counts : FreeCounts) : Type 0 where
   pub some : 0 < frag
   pub few : frag ≤ 8
   pub room : blocks * frag ≤ 64

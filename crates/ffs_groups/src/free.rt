@@ -3,7 +3,7 @@
 ghost use Rattle.std.specs.Prelude.{◌-◌, ◌*◌, ◌/◌, ◌^◌, ◌≤◌, count_by, ◌==◌};
 ghost use Rattle.ffs_volume.specs.Groups.Records.{free_stretches, stretch_of};
 ghost use Rattle.ffs_maps.specs.Bits.{bits_of};
-ghost use Rattle.ffs_groups.specs.Free.{word_bits, whole_in, loose_in, runs_in, AreBelow, HasRoom, Grown, Added, AreFree, free_in};
+ghost use Rattle.ffs_groups.specs.Free.{word_bits, whole_in, loose_in, runs_in, AreBelow, HasRoomToCount, Grown, Added, AreFree, free_in};
 ghost use Rattle.ffs_groups.specs.Inputs.{HasFragments};
 
 use crate::maps::group_fragments;
@@ -35,7 +35,7 @@ impl FreeCounts {
 
     // Counts the free fragments of a block that isn't free as a whole.
     fn add_loose(&mut self, bits: u64, frag: u32)
-        requires { HasRoom 1 frag (2 ^ 63) self.old }
+        requires { HasRoomToCount 1 frag (2 ^ 63) self.old }
         ensures { Grown 0 (count_by (λ f. f) (word_bits bits 0 frag))
             (λ k. count_by (λ n. n == k) (free_stretches 0 (word_bits bits 0 frag))) self.old
             self.new }
@@ -55,7 +55,7 @@ impl FreeCounts {
 
     // Counts a block.
     fn add_block(&mut self, bits: u64, frag: u32)
-        requires { HasRoom 1 frag (2 ^ 63) self.old }
+        requires { HasRoomToCount 1 frag (2 ^ 63) self.old }
         ensures { Grown (whole_in (word_bits bits 0 frag)) (loose_in (word_bits bits 0 frag))
             (λ k. runs_in k (word_bits bits 0 frag)) self.old self.new }
     {
@@ -70,7 +70,7 @@ impl FreeCounts {
 
     // Counts the blocks of a word. Most words have no free fragment, or only free ones.
     fn add_word(&mut self, word: u64, blocks: u32, frag: u32)
-        requires { HasRoom blocks frag (2 ^ 62) self.old }
+        requires { HasRoomToCount blocks frag (2 ^ 62) self.old }
         ensures { Added (λ b. word_bits (word / 2 ^ (b * frag)) 0 frag) 0 blocks self.old self.new }
     {
         if word == 0 {

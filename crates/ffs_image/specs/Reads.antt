@@ -10,7 +10,8 @@ ReadAfter old new (Err fault) = Faulted old new fault.sector
 
 -- the answer of a read at a place: these are the image's bytes there, or the read failed, which is counted with the
 -- sector of the place
-pub record Reads {T : Type 0} (old new : Device) (at : ℕ) (xs : List ℕ) (result : Result T ImageFault) : Type 0 where
+pub record ReadsBytes {T : Type 0} (old new : Device) (at : ℕ) (xs : List ℕ) (result : Result T ImageFault) :
+    Type 0 where
   pub bytes : OnOk result (IsAt old at xs)
   pub ok : OnOk result (new ≡ old)
   pub err : IfErr result (λ fault. Faulted old new fault.sector)

@@ -1,7 +1,7 @@
 // What an image is, by the reads that it answers.
 ghost use Rattle.std.specs.Prelude.{◌≡◌, ◌+◌, ◌≤◌, length};
 ghost use Rattle.ffs_image.specs.Device.{Device, IsSized};
-ghost use Rattle.ffs_image.specs.Reads.{Reads};
+ghost use Rattle.ffs_image.specs.Reads.{ReadsBytes};
 
 /// The sector of the read that failed.
 #[derive(Clone, Copy, Debug, PartialEq, Eq, thiserror::Error)]
@@ -29,7 +29,7 @@ pub trait Image {
     /// Fills the buffer with the bytes at a place. After an `Err` the buffer's content is open.
     fn read_at(&mut self, at: u64, buf: &mut [u8]) -> Result<(), ImageFault>
         requires { at + length buf.old ≤ (device self.old).size }
-        ensures { Reads (device self.old) (device self.new) at buf.new result };
+        ensures { ReadsBytes (device self.old) (device self.new) at buf.new result };
 
     ghost sized: { (image : Self) → IsSized (device image) };
 }

@@ -13,7 +13,7 @@ use Rattle.ffs_walk.specs.declared.window.Window.{Window}
 use Rattle.ffs_walk.specs.Windows.{BlocksHold, HasRoom}
 use Rattle.ffs_walk.specs.Rests.{IsOver, rest as steps_left}
 use Rattle.ffs_names.specs.declared.chunks.Chunks.{Chunks}
-use Rattle.ffs_names.specs.Windows.{CanWalk, CanReadChunks}
+use Rattle.ffs_names.specs.Windows.{CanWalkDir, CanReadChunks}
 use Rattle.ffs_names.specs.Readings.{Continues, ContinuesTo, CountsOn}
 use Rattle.ffs_names.proofs.Advances.{over_rest}
 
@@ -51,22 +51,22 @@ replayed_over b w v cut r steps o = let e = ap (replayed_runs w.geometry.layout 
     (arith, e)
 
 -- what a walk needs of its blocks
-pub walk_volume : (g g' : Geometry) (d : Device) (blocks : Blocks) → CanWalk g.layout d blocks → g' ≡ g
+pub walk_volume : (g g' : Geometry) (d : Device) (blocks : Blocks) → CanWalkDir g.layout d blocks → g' ≡ g
     → g'.layout.size * g'.layout.fsize ≤ d.size
 walk_volume g g' d blocks h e = rw e h.volume
 
-pub walk_room : (g g' : Geometry) (d : Device) (blocks : Blocks) → CanWalk g.layout d blocks → g' ≡ g
+pub walk_room : (g g' : Geometry) (d : Device) (blocks : Blocks) → CanWalkDir g.layout d blocks → g' ≡ g
     → HasRoom g'.layout blocks
 walk_room g g' d blocks h e = rw e (record { blocks_fit = let r = h.room in omega arith })
 
-pub walk_holds : (g g' : Geometry) (d : Device) (blocks : Blocks) → CanWalk g.layout d blocks → g' ≡ g
+pub walk_holds : (g g' : Geometry) (d : Device) (blocks : Blocks) → CanWalkDir g.layout d blocks → g' ≡ g
     → BlocksHold g'.layout d.contents blocks
 walk_holds g g' d blocks h e = rw e h.holds
 
 -- and what it leaves of them
-pub walk_on : (g g' : Geometry) (d d' : Device) (blocks blocks' : Blocks) → CanWalk g.layout d blocks → g' ≡ g
+pub walk_on : (g g' : Geometry) (d d' : Device) (blocks blocks' : Blocks) → CanWalkDir g.layout d blocks → g' ≡ g
     → d'.size ≡ d.size → vec_len blocks'.buffer ≡ vec_len blocks.buffer
-    → BlocksHold g'.layout d'.contents blocks' → CanWalk g.layout d' blocks'
+    → BlocksHold g'.layout d'.contents blocks' → CanWalkDir g.layout d' blocks'
 walk_on g g' d d' blocks blocks' h e s n holds = record {
   volume = subst (λ n. g.layout.size * g.layout.fsize ≤ n) (sym s) h.volume;
   room = n ∙ h.room;

@@ -1,5 +1,6 @@
 -- What a reading of a directory has still to give.
-use Rattle.std.specs.Prelude.{◌≡◌, ◌<◌, ◌≤◌, ◌^◌, ℕ, ◌+◌, Bool, true, false, ◌||◌, Result, List, [], ◌∷◌, ◌++◌, take, Option}
+use Rattle.std.specs.Prelude.{◌≡◌, ◌<◌, ◌≤◌, ◌^◌, ℕ, ◌+◌, Bool, true, false, ◌||◌, Result, List, [], ◌∷◌, ◌++◌, take}
+use Rattle.std.specs.Prelude.{Option}
 use Rattle.std.specs.Prelude.{MatchOption}
 use Rattle.ffs_volume.specs.declared.Layout.{Layout}
 use Rattle.ffs_volume.specs.declared.Inode.{Inode}
@@ -16,7 +17,7 @@ use Rattle.ffs_image.specs.declared.image.ImageFault.{ImageFault}
 use Rattle.ffs_volume.specs.Blocks.Lengths.{HasLength}
 use Rattle.ffs_walk.specs.declared.blocks.Blocks.{Blocks}
 use Rattle.ffs_walk.specs.declared.window.Window.{Window}
-use Rattle.ffs_names.specs.Windows.{CanWalk, CanReadChunks}
+use Rattle.ffs_names.specs.Windows.{CanWalkDir, CanReadChunks}
 use Rattle.ffs_names.specs.Keepings.{replay_in}
 use Rattle.ffs_names.specs.RunCursors.{hand_chunks, reading_by}
 use Rattle.ffs_names.specs.declared.chunks.Chunks.{Chunks}
@@ -72,7 +73,7 @@ pub record CanSee (c : Chunks) (run : Step) : Type 0 where
 pub record LeavesWalk {T : Type 0} (old new : Chunks) (device device' : Device) (blocks : Blocks)
     (result : Result T ImageFault) : Type 0 where
   pub same : IsSame old new
-  pub ready : CanWalk old.walk.geometry.layout device' blocks
+  pub ready : CanWalkDir old.walk.geometry.layout device' blocks
   pub read : ReadAfter device device' result
 
 -- what a call leaves that reads a chunk

@@ -8,13 +8,13 @@ use Rattle.ffs_walk.specs.Windows.{BlocksHold, WindowHolds}
 
 -- the image has all of the volume, and the buffer of indirect blocks has a block of each level and holds what the
 -- image gives
-pub record CanWalk (v : Layout) (d : Device) (blocks : Blocks) : Type 0 where
+pub record CanWalkDir (v : Layout) (d : Device) (blocks : Blocks) : Type 0 where
   pub volume : v.size * v.fsize ≤ d.size
   pub room : vec_len blocks.buffer ≡ 3 * v.bsize
   pub holds : BlocksHold v d.contents blocks
 
 -- and so has that of chunks a block
 pub record CanReadChunks (v : Layout) (d : Device) (blocks : Blocks) (chunk : Window) : Type 0 where
-  pub walk : CanWalk v d blocks
+  pub walk : CanWalkDir v d blocks
   pub room : vec_len chunk.buffer ≡ v.bsize
   pub holds : WindowHolds d.contents chunk

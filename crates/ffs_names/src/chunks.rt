@@ -8,7 +8,7 @@ ghost use Rattle.ffs_volume.specs.declared.Step.{Step as StepIn};
 ghost use Rattle.ffs_volume.specs.declared.Step.TheVariants.{Run};
 ghost use Rattle.ffs_names.specs.Fits.{HandFits};
 ghost use Rattle.ffs_names.specs.SeenRuns.{RunsAreSeen};
-ghost use Rattle.ffs_names.specs.Windows.{CanWalk, CanReadChunks};
+ghost use Rattle.ffs_names.specs.Windows.{CanWalkDir, CanReadChunks};
 
 use crate::keeping::Keeping;
 use crate::run_cursor::RunCursor;
@@ -65,7 +65,7 @@ impl Chunks {
 
     /// Moves on to a Run with a chunk, if the current Run has none left. The answer says whether there is one.
     fn advance<I: Image>(&mut self, image: &mut I, blocks: &mut Blocks) -> Result<bool, ImageFault>
-        requires { CanWalk self.old.walk.geometry.layout (I.device image.old) blocks.old }
+        requires { CanWalkDir self.old.walk.geometry.layout (I.device image.old) blocks.old }
         ensures continues { OnOk result (ForContents (I.device image.old).contents
             (λ b. ContinuesTo b self.old self.new)) }
         ensures found { IfOk result (λ found. MatchBool found

@@ -4,7 +4,7 @@ ghost use Rattle.std.specs.Prelude.{◌≡◌, ◌+◌, ◌-◌, ◌*◌, ◌/�
 ghost use Rattle.ffs_image.specs.Device.{ForContents};
 ghost use Rattle.ffs_volume.specs.Directories.Entries.{entry_at as entry_in};
 ghost use Rattle.ffs_names.specs.RightShapes.{is_right_size};
-ghost use Rattle.ffs_names.specs.Windows.{CanWalk, CanReadChunks};
+ghost use Rattle.ffs_names.specs.Windows.{CanWalkDir, CanReadChunks};
 
 use crate::chunks::Chunks;
 use crate::gap::gap_of;
@@ -198,7 +198,7 @@ impl Entries {
         image: &mut I,
         blocks: &mut Blocks,
     ) -> Result<bool, ImageFault>
-        requires { CanWalk self.old.chunks.walk.geometry.layout (I.device image.old) blocks.old }
+        requires { CanWalkDir self.old.chunks.walk.geometry.layout (I.device image.old) blocks.old }
         ensures sound { IfOk result (λ right. ForContents (I.device image.old).contents
             (λ b. HasEnded b self.old → right ≡ has_right_shape b self.old)) }
         ensures leaves { LeavesWalk self.old.chunks self.new.chunks (I.device image.old)

@@ -1,7 +1,7 @@
 //! Whether a hole of a directory is kept.
 ghost use Rattle.std.specs.Prelude.{◌≡◌, ◌||◌, IfOk};
 ghost use Rattle.ffs_image.specs.Device.{ForContents};
-ghost use Rattle.ffs_names.specs.Windows.{CanWalk};
+ghost use Rattle.ffs_names.specs.Windows.{CanWalkDir};
 ghost use Rattle.ffs_names.specs.Readings.{gap_left, LeavesWalk};
 
 use crate::chunks::Chunks;
@@ -16,7 +16,7 @@ pub fn gap_of<I: Image>(
     blocks: &mut Blocks,
     chunks: &mut Chunks,
 ) -> Result<bool, ImageFault>
-    requires { CanWalk chunks.old.walk.geometry.layout (I.device image.old) blocks.old }
+    requires { CanWalkDir chunks.old.walk.geometry.layout (I.device image.old) blocks.old }
     ensures gap { IfOk result (λ g. ForContents (I.device image.old).contents (λ b.
         g ≡ (chunks.old.gap || gap_left b chunks.old))) }
     ensures leaves { LeavesWalk chunks.old chunks.new (I.device image.old) (I.device image.new)

@@ -7,7 +7,7 @@ use Rattle.ffs_volume.specs.declared.Layout.{Layout}
 use Rattle.ffs_volume.specs.declared.Class.{Class}
 use Rattle.ffs_volume.specs.declared.Class.TheVariants.{Free, Partial, Unknown, File, Dir}
 use Rattle.ffs_volume.specs.Disk.Geometry.{IsValidLayout}
-use Rattle.ffs_volume.specs.Directories.Graph.{names, names_in}
+use Rattle.ffs_volume.specs.Directories.Graph.{entry_names, dir_names}
 use Rattle.ffs_volume.specs.Messages.Kinds.{NameMessage, of_names, lines_below, reported, root_none, root_not_dir}
 use Rattle.ffs_volume.specs.Messages.Kinds.{root_suspect, lines_from}
 use Rattle.ffs_volume.specs.Directories.Parents.{graph_of}
@@ -94,8 +94,8 @@ clear_right : (v : Layout) (b : List ℕ) (old w : Workspace) → IsFor v w → 
     AreRightBefore (volume_of v b) 2 (marks_of w)
 unfolding volume_of volume_with
 clear_right v b old w m c silent = record {
-  passed = λ x h q n o. c.passed x ∙ sym (some_below-none (λ t. names_in (graph_of (volume_of v b)) t x) 2
-      (λ t l. ap (λ d. d && list_any (names x) (roled_entries (volume_of v b) t)) (low_dir (volume_of v b) t l)));
+  passed = λ x h q n o. c.passed x ∙ sym (some_below-none (λ t. dir_names (graph_of (volume_of v b)) t x) 2
+      (λ t l. ap (λ d. d && list_any (entry_names x) (roled_entries (volume_of v b) t)) (low_dir (volume_of v b) t l)));
   stamps = λ x h. flag_small (bool_at old.leaders.items x) _ (c.stamps x);
   passed_length = sym w.leaders.ok.0 ∙ m.leaders;
   stamps_length = sym w.queue.ok.0 ∙ m.queue;

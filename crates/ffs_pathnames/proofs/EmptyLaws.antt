@@ -12,7 +12,7 @@ use Rattle.ffs_volume.specs.Blocks.Claims.{next_inode}
 use Rattle.ffs_volume.specs.Blocks.KeptSteps.{kept_steps, kept_steps_of, claims_before}
 use Rattle.ffs_volume.specs.Directories.Entries.{chunks_of}
 use Rattle.ffs_volume.specs.Directories.Roles.{is_dir, roled_chunk, roled_entries}
-use Rattle.ffs_volume.specs.Directories.Graph.{names, names_in}
+use Rattle.ffs_volume.specs.Directories.Graph.{entry_names, dir_names}
 use Rattle.ffs_volume.specs.Directories.Parents.{graph_of}
 use Rattle.ffs_volume.specs.Directories.PathnameCheck.{is_looked_at}
 use Rattle.ffs_volume.specs.Directories.Volumes.{is_inode_number, kept_steps_of_inode, chunk_source_of, volume_with}
@@ -60,12 +60,12 @@ looked_dir v b d h = looked_parts (is_dir (volume_of v b) d) (((volume_of v b).i
 
 -- an inode that isn't looked at names nothing
 pub names_none : (v : Layout) (b : List ℕ) (d : ℕ) → IsValidLayout v → (kind_at v b d == 4) ≡ false → (x : ℕ) →
-    names_in (graph_of (volume_of v b)) d x ≡ false
+    dir_names (graph_of (volume_of v b)) d x ≡ false
 names_none v b d g h x =
     go (is_dir (volume_of v b) d) (((volume_of v b).inode d).size == 0) refl (looked_is v b d ∙ h)
   where
     go : (dir empty : Bool) → (((volume_of v b).inode d).size == 0) ≡ empty → (dir && not empty) ≡ false →
-        (dir && list_any (names x) (roled_entries (volume_of v b) d)) ≡ false
+        (dir && list_any (entry_names x) (roled_entries (volume_of v b) d)) ≡ false
     go false empty e f = refl
-    go true true e f = ap (list_any (names x)) (none_seen v b d g (eqb-true _ 0 e))
+    go true true e f = ap (list_any (entry_names x)) (none_seen v b d g (eqb-true _ 0 e))
     go true false e f = let no_way : true ≡ false = f in absurd (cc)

@@ -13,7 +13,7 @@ use Rattle.ffs_volume.specs.Directories.Entries.{entries_with, entry_at, entry_r
 use Rattle.ffs_volume.specs.Directories.Entries.{name_at, run_chunks, step_chunks}
 use Rattle.ffs_volume.specs.Directories.Graph.{parent, parent_entry_index}
 use Rattle.ffs_volume.specs.Disk.Numbers.{u16_at, u32_at, piece}
-use Rattle.ffs_volume.specs.Directories.Parents.{graph_of, roled_at}
+use Rattle.ffs_volume.specs.Directories.Parents.{graph_of, nth_roled}
 use Rattle.ffs_volume.specs.Directories.Paths.{names_down, names_above, name_of}
 use Rattle.ffs_volume.specs.Directories.Roles.{RoledEntry, roled_chunk, roled_from, roled_entries}
 use Rattle.ffs_volume.specs.Directories.Volumes.{volume_of, volume_with, chunk_source_of, kept_steps_of_inode}
@@ -152,13 +152,13 @@ in_single v b d = chunks_seen (chunks_of (chunk_source_of v b d) (is_run_in_rang
     (steps_single (chunk_source_of v b d) (is_run_in_range v) (kept_steps_of_inode v b d))
 
 -- ---- those of a path
-at_single : (es : List RoledEntry) → AreSingleSeen es → (i : ℕ) → has_slash (name_of (roled_at es i)) ≡ false
+at_single : (es : List RoledEntry) → AreSingleSeen es → (i : ℕ) → has_slash (name_of (nth_roled es i)) ≡ false
 at_single [] h i = refl
 at_single (e ∷ es) h zero = h.0
 at_single (e ∷ es) h (suc i) = at_single es h.1 i
 
 place_single : (es : List RoledEntry) → AreSingleSeen es → (o : Option ℕ) →
-    has_slash (name_of (option_and_then (roled_at es) o)) ≡ false
+    has_slash (name_of (option_and_then (nth_roled es) o)) ≡ false
 place_single es h None = refl
 place_single es h (Some i) = at_single es h i
 

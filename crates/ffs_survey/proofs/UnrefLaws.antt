@@ -6,7 +6,8 @@ use Rattle.std.proofs.lemmas.Bool.{cases_eq, and_parts, both_ways, cond-true, co
 use mathlib.Core.Path.{fun_ext}
 use Rattle.ffs_volume.proofs.SearchLaws.{first_below-some}
 use Rattle.ffs_volume.specs.Directories.Climb.{leads_cycle, is_value}
-use Rattle.ffs_volume.specs.Directories.Graph.{Graph, edge, parent, parent_by, level, dead, none_or_dead, is_unref_dir}
+use Rattle.ffs_volume.specs.Directories.Graph.{Graph, edge, parent, parent_by, level, is_dead_in, none_or_dead}
+use Rattle.ffs_volume.specs.Directories.Graph.{is_unref_dir}
 use Rattle.ffs_volume.proofs.Graphs.{IsSane}
 use Rattle.ffs_survey.specs.Survey.{number_at, IsTree}
 use Rattle.ffs_survey.specs.Cycles.{up_of}
@@ -67,17 +68,17 @@ leads_is v p n d sane z l h = ap (λ f. leads_cycle f n d) (fun_ext (λ x. up_is
 -- the test on the parent, as the code makes it
 pub none_or_dead_is : (v : Graph) (suspect : ℕ → Bool) (p : List ℕ) (d : ℕ) → IsSane v → v.is_dir 0 ≡ false →
     number_at p d ≡ unwrap_or (parent v d) 0 → none_or_dead v suspect (parent v d) ≡ cond (number_at p d == 0) true
-    (dead v suspect (number_at p d))
+    (is_dead_in v suspect (number_at p d))
 none_or_dead_is v suspect p d sane z h = go (parent v d) refl
   where
     go : (o : Option ℕ) → parent v d ≡ o →
-        none_or_dead v suspect o ≡ cond (number_at p d == 0) true (dead v suspect (number_at p d))
+        none_or_dead v suspect o ≡ cond (number_at p d == 0) true (is_dead_in v suspect (number_at p d))
     go None e = sym (cond-true (number_at p d == 0) true _ (eq-eqb (number_at p d) 0 (h ∙ ap (λ o. unwrap_or o 0) e)))
     go (Some s) e =
         let n = (parent-some v d s sane z e).some in
         let q : number_at p d ≡ s = h ∙ ap (λ o. unwrap_or o 0) e in
-        sym (cond-false (number_at p d == 0) true (dead v suspect (number_at p d))
-        (ne_eqb (number_at p d) 0 (λ y. n (sym q ∙ y))) ∙ ap (dead v suspect) q)
+        sym (cond-false (number_at p d == 0) true (is_dead_in v suspect (number_at p d))
+        (ne_eqb (number_at p d) 0 (λ y. n (sym q ∙ y))) ∙ ap (is_dead_in v suspect) q)
 
 -- what is kept, with a parent list of full length
 pub tree-sane : (v : Graph) (kinds : List ℕ) (r : List Bool) (p : List ℕ) → IsTree v kinds r p → IsSane v
@@ -105,14 +106,14 @@ parent-below v kinds r p d t = go (parent v d) refl
 pub unref_is : (v : Graph) (suspect : ℕ → Bool) (kinds : List ℕ) (r : List Bool) (p : List ℕ) (d : ℕ) →
     length p ≡ length kinds → IsTree v kinds r p → IsLost v suspect d
     → is_unref_dir v suspect d
-    ≡ (cond (number_at p d == 0) true (dead v suspect (number_at p d)) || leads_cycle (up_of p) (length p) d)
+    ≡ (cond (number_at p d == 0) true (is_dead_in v suspect (number_at p d)) || leads_cycle (up_of p) (length p) d)
 unref_is v suspect kinds r p d lp t l =
     let sane = tree-sane v kinds r p t in
     let z = tree-zero v kinds r p t in
     let full : length p ≡ v.count = lp ∙ sym t.count in
     ap (λ b. b && (none_or_dead v suspect (parent v d) || leads_cycle (parent v) v.count d)) (lost-from v suspect d l)
     ∙ (ap (λ b. b || leads_cycle (parent v) v.count d) (none_or_dead_is v suspect p d sane z (t.ups d))
-    ∙ (ap (λ b. cond (number_at p d == 0) true (dead v suspect (number_at p d)) || b)
+    ∙ (ap (λ b. cond (number_at p d == 0) true (is_dead_in v suspect (number_at p d)) || b)
     (sym (leads_is v p v.count d sane z full t.ups))
-    ∙ ap (λ n. cond (number_at p d == 0) true (dead v suspect (number_at p d)) || leads_cycle (up_of p) n d)
+    ∙ ap (λ n. cond (number_at p d == 0) true (is_dead_in v suspect (number_at p d)) || leads_cycle (up_of p) n d)
     (sym full)))

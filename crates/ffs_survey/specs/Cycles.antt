@@ -32,7 +32,7 @@ pub record Walked (f : ℕ → Option ℕ) (start mark : ℕ) (old new : List �
   pub closed : IsClosed f new
 
 -- a walk from `start` can begin: it has no stamp, no other start came later, and what is above a stamp is stamped
-pub record CanWalk (parents stamp : List ℕ) (start : ℕ) : Type 0 where
+pub record CanFollow (parents stamp : List ℕ) (start : ℕ) : Type 0 where
   pub few : length parents < 2 ^ 31
   pub stamps : length stamp ≡ length parents
   pub low : start < length parents

@@ -2,12 +2,12 @@
 ghost use Rattle.std.specs.Prelude.{◌≡◌, ◌<◌, ◌+◌, ℕ, length, MatchOption, false};
 ghost use Rattle.ffs_volume.specs.Directories.Climb.{OnCycle, leads_cycle};
 ghost use Rattle.ffs_survey.specs.Survey.{bool_at};
-ghost use Rattle.ffs_survey.specs.Cycles.{up_of, CanWalk, ComesBack, IsNew, CanMark, Walked, FindsCycle, IsLeastOn, Marks};
+ghost use Rattle.ffs_survey.specs.Cycles.{up_of, CanFollow, ComesBack, IsNew, CanMark, Walked, FindsCycle, IsLeastOn, Marks};
 
 /// Walks up from `start` and stamps what it passes, until there is nothing above or a stamp. Answers a number on the
 /// cycle that it closed, if it closed one.
 fn walk(start: u32, parents: &[u32], stamp: &mut [u32]) -> Option<u32>
-    requires { CanWalk parents.now stamp.old start }
+    requires { CanFollow parents.now stamp.old start }
     ensures walked { Walked (up_of parents.now) start (start + 1) stamp.old stamp.new }
     ensures cycle { MatchOption result
         ((x : ℕ) → IsNew stamp.old stamp.new x → OnCycle (up_of parents.now) x → ⊥)
@@ -56,7 +56,7 @@ fn least_on(found: u32, parents: &[u32]) -> u32
 
 /// Walks up from `start`, and marks the least number of the cycle that the walk closes, if it closes one.
 fn mark_from(start: u32, parents: &[u32], stamp: &mut [u32], leaders: &mut [bool])
-    requires walk { CanWalk parents.now stamp.old start }
+    requires walk { CanFollow parents.now stamp.old start }
     requires marks { Marks (up_of parents.now) (length parents.now) stamp.old leaders.old }
     ensures walked { Walked (up_of parents.now) start (start + 1) stamp.old stamp.new }
     ensures marks { Marks (up_of parents.now) (length parents.now) stamp.new leaders.new }

@@ -4,7 +4,7 @@ ghost use Rattle.ffs_survey.specs.Survey.{number_at, dir_at, graph_with, start_i
 ghost use Rattle.ffs_survey.specs.Calm.{AreCalm};
 ghost use Rattle.ffs_survey.specs.Reading.{ForKnown, LeavesReader};
 ghost use Rattle.ffs_survey.specs.Lists.{EntryLists, SurveyLists};
-ghost use Rattle.ffs_survey.specs.Discover.{found_of, HasRoom, AtSomeLevel, NothingFound, IsBlank, IsRead};
+ghost use Rattle.ffs_survey.specs.Discover.{found_of, HasRoomForLevel, AtSomeLevel, NothingFound, IsBlank, IsRead};
 ghost use Rattle.ffs_survey.specs.Levels.{ReadsLevel, ReadsAllReached};
 
 use crate::directories::Directories;
@@ -31,11 +31,11 @@ fn next_level<D: Directories>(
     requires lists { SurveyLists kinds.now marked.now references.old named.old reached.old
         parents.old queue.old }
     requires root { dir_at kinds.now 2 ≡ true }
-    requires room { HasRoom low high references.old reached.old queue.old }
+    requires room { HasRoomForLevel low high references.old reached.old queue.old }
     requires levels { ForKnown D.knows D.entries D.sound (D.base directories.old)
         (λ entries sound. AtSomeLevel (graph_with kinds.now entries) low high reached.old
         parents.old queue.old) }
-    ensures room { IfOk result (λ n. HasRoom high n references.new reached.new queue.new) }
+    ensures room { IfOk result (λ n. HasRoomForLevel high n references.new reached.new queue.new) }
     ensures kept { OnOk result (take high queue.new ≡ take high queue.old) }
     ensures read { IfOk result (λ n. ForKnown D.knows D.entries D.sound (D.base directories.old)
         (λ entries sound. ReadsLevel kinds.now marked.now low high n entries sound

@@ -1,6 +1,6 @@
 //! Directories that hang below nothing.
 ghost use Rattle.std.specs.Prelude.{◌≡◌, ◌<◌, length};
-ghost use Rattle.ffs_volume.specs.Directories.Graph.{Graph, dead, is_unref_dir};
+ghost use Rattle.ffs_volume.specs.Directories.Graph.{Graph, is_dead_in, is_unref_dir};
 ghost use Rattle.ffs_survey.specs.Survey.{suspect_at, IsTree, AreNamed};
 ghost use Rattle.ffs_survey.specs.Lists.{DeadLists, FoundLists};
 
@@ -21,7 +21,7 @@ pub fn is_dead(number: u32, kinds: &[u8], marked: &[bool], named: &[bool]) -> bo
     requires number { number < length kinds.now }
     requires lists { DeadLists kinds.now marked.now named.now }
     ensures { (graph : Graph) → AreNamed graph kinds.now named.now → result
-        ≡ dead graph (suspect_at kinds.now marked.now) number }
+        ≡ is_dead_in graph (suspect_at kinds.now marked.now) number }
 {
     is_suspect(kinds, marked, number as usize) && number != ROOTINO && !named[number as usize]
 }

@@ -1,8 +1,6 @@
 //! A small volume: directory 3 below the root, with the file 4, and directories 5 and 6 that name each other.
 use ffs_image::ImageFault;
-use ffs_survey::{
-    Directories, Named, is_dead, is_dir, is_suspect, is_unref, mark_leaders, survey,
-};
+use ffs_survey::{Directories, Named, is_dead, is_dir, is_suspect, is_unref, mark_leaders, survey};
 use ffs_volume::Role;
 
 /// Four entries for each of eight inodes. It reports nothing of an image.

@@ -31,7 +31,7 @@ no_blocks n b h e = ap (λ k. div_ceil k b) e ∙ ap (λ q. q + min 1 (0 % b)) (
 pub no_steps : (v : Layout) (image : List ℕ) (i : Inode) → 0 < v.bsize → i.size ≡ 0 → steps_of v i image ≡ []
 unfolding steps_of
 no_steps v image i h e =
-    ap (λ b. steps_of_addresses (record { geometry = v; blocks = b; last = last_of v i }) image i.addresses 0
+    ap (λ b. steps_of_addresses (record { layout = v; blocks = b; last = last_of v i }) image i.addresses 0
     (addresses_for v.nindir b)) (one (walks v i))
   where
     one : (w : Bool) → (if w then logical_blocks_of v i else 0) ≡ 0

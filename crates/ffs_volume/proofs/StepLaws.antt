@@ -72,22 +72,22 @@ one_more a b = grind arith
 
 -- the last block has a fragment at least, and a block's fragments at most
 abbrev IsFit : FileBlocks → Type 0
-IsFit t = (0 < t.last) × (t.last ≤ t.geometry.frag)
+IsFit t = (0 < t.last) × (t.last ≤ t.layout.frag)
 
 data_long : (t : FileBlocks) (address block : ℕ) → IsFit t →
-    HasLength t.geometry.frag (Run address (data_length t block) (Some block))
+    HasLength t.layout.frag (Run address (data_length t block) (Some block))
 data_long t address block l = one (nat_lt block 12 && nat_eq (block + 1) t.blocks)
   where
-    one : (b : Bool) → (0 < (if b then t.last else t.geometry.frag))
-        × ((if b then t.last else t.geometry.frag) ≤ t.geometry.frag)
+    one : (b : Bool) → (0 < (if b then t.last else t.layout.frag))
+        × ((if b then t.last else t.layout.frag) ≤ t.layout.frag)
     one true = l
     one false = (omega (arith, l.0, l.1), omega arith)
 
 data_within : (t : FileBlocks) (address block : ℕ) → IsFit t →
-    Within t.geometry.frag block (block + 1) (data_step t address block ∷ [])
+    Within t.layout.frag block (block + 1) (data_step t address block ∷ [])
 data_within t address block l = one (nat_eq address 0)
   where
-    one : (b : Bool) → Within t.geometry.frag block (block + 1)
+    one : (b : Bool) → Within t.layout.frag block (block + 1)
         ((if b then Gap else Run address (data_length t block) (Some block)) ∷ [])
     one true = omega arith
     one false = (omega arith, data_long t address block l, omega arith)
@@ -98,49 +98,49 @@ tail_within frag first false = omega arith
 
 -- the steps under the words of an indirect block
 under_within : (t : FileBlocks) (bytes : List ℕ) (child : ℕ → ℕ → List Step) (span address first next count : ℕ)
-    → ((a f : ℕ) → Within t.geometry.frag f (f + span) (child a f))
-    → Within t.geometry.frag (first + next * span) (first + (next + count) * span)
-    (steps_under t.geometry bytes child span address first next count)
+    → ((a f : ℕ) → Within t.layout.frag f (f + span) (child a f))
+    → Within t.layout.frag (first + next * span) (first + (next + count) * span)
+    (steps_under t.layout bytes child span address first next count)
 under_within t bytes child span address first next zero h = let e : next + 0 ≡ next = omega arith in rw e (omega arith)
 under_within t bytes child span address first next (suc count) h =
     let e : next + suc count ≡ (next + 1) + count = omega arith in
     let m : first + (next + 1) * span ≡ first + next * span + span = omega (arith, one_more next span) in
     let rest = under_within t bytes child span address first (next + 1) count h in
-    rw e (within_append t.geometry.frag (first + next * span) (first + next * span + span)
+    rw e (within_append t.layout.frag (first + next * span) (first + next * span + span)
     (first + ((next + 1) + count) * span)
-    (child (address_at t.geometry bytes address next) (first + next * span))
-    (steps_under t.geometry bytes child span address first (next + 1) count)
-    (h (address_at t.geometry bytes address next) (first + next * span)) (rw m at rest))
+    (child (address_at t.layout bytes address next) (first + next * span))
+    (steps_under t.layout bytes child span address first (next + 1) count)
+    (h (address_at t.layout bytes address next) (first + next * span)) (rw m at rest))
 
 indirect_within : (t : FileBlocks) (bytes : List ℕ) (child : ℕ → ℕ → List Step) (span address first : ℕ) → IsFit t
-    → ((a f : ℕ) → Within t.geometry.frag f (f + span) (child a f))
-    → Within t.geometry.frag first (first + t.geometry.nindir * span) (indirect_steps t bytes child span address first)
+    → ((a f : ℕ) → Within t.layout.frag f (f + span) (child a f))
+    → Within t.layout.frag first (first + t.layout.nindir * span) (indirect_steps t bytes child span address first)
 indirect_within t bytes child span address first l h =
-    one (nat_eq address 0) (is_run_in_range t.geometry address t.geometry.frag)
+    one (nat_eq address 0) (is_run_in_range t.layout address t.layout.frag)
   where
     used : ℕ
-    used = used_addresses t.geometry.nindir t.blocks first span
+    used = used_addresses t.layout.nindir t.blocks first span
 
-    inner : Within t.geometry.frag first (first + t.geometry.nindir * span)
-        (tail_of (any_address_from t.geometry (block_bytes t.geometry bytes address) used)
-        ++ steps_under t.geometry bytes child span address first 0 used)
+    inner : Within t.layout.frag first (first + t.layout.nindir * span)
+        (tail_of (any_address_from t.layout (block_bytes t.layout bytes address) used)
+        ++ steps_under t.layout bytes child span address first 0 used)
     inner =
-        let few : used ≤ t.geometry.nindir = omega arith in
-        let most : used * span ≤ t.geometry.nindir * span = mul-le-mul_right span few in
+        let few : used ≤ t.layout.nindir = omega arith in
+        let most : used * span ≤ t.layout.nindir * span = mul-le-mul_right span few in
         let u = under_within t bytes child span address first 0 used h in
         let z : first + 0 * span ≡ first = omega arith in
         let y : (0 + used) ≡ used = omega arith in
-        within_append t.geometry.frag first first (first + t.geometry.nindir * span)
-        (tail_of (any_address_from t.geometry (block_bytes t.geometry bytes address) used))
-        (steps_under t.geometry bytes child span address first 0 used)
-        (tail_within t.geometry.frag first (any_address_from t.geometry (block_bytes t.geometry bytes address) used))
-        (within_higher t.geometry.frag first (first + used * span) (first + t.geometry.nindir * span)
-        (steps_under t.geometry bytes child span address first 0 used) (omega arith) (rw (z, y) at u))
+        within_append t.layout.frag first first (first + t.layout.nindir * span)
+        (tail_of (any_address_from t.layout (block_bytes t.layout bytes address) used))
+        (steps_under t.layout bytes child span address first 0 used)
+        (tail_within t.layout.frag first (any_address_from t.layout (block_bytes t.layout bytes address) used))
+        (within_higher t.layout.frag first (first + used * span) (first + t.layout.nindir * span)
+        (steps_under t.layout bytes child span address first 0 used) (omega arith) (rw (z, y) at u))
 
-    one : (a b : Bool) → Within t.geometry.frag first (first + t.geometry.nindir * span)
-        (if a then Gap ∷ [] else Run address t.geometry.frag None ∷
-        (if b then tail_of (any_address_from t.geometry (block_bytes t.geometry bytes address) used)
-        ++ steps_under t.geometry bytes child span address first 0 used else []))
+    one : (a b : Bool) → Within t.layout.frag first (first + t.layout.nindir * span)
+        (if a then Gap ∷ [] else Run address t.layout.frag None ∷
+        (if b then tail_of (any_address_from t.layout (block_bytes t.layout bytes address) used)
+        ++ steps_under t.layout bytes child span address first 0 used else []))
     one true b = omega arith
     one false true = ((omega (arith, l.0, l.1), omega arith), inner)
     one false false = ((omega (arith, l.0, l.1), omega arith), omega arith)
@@ -150,12 +150,12 @@ span_more words zero = omega arith
 span_more words (suc level) = refl
 
 at_within : (t : FileBlocks) (bytes : List ℕ) (level address first : ℕ) → IsFit t
-    → Within t.geometry.frag first (first + span_of t.geometry.nindir level) (steps_at t bytes level address first)
+    → Within t.layout.frag first (first + span_of t.layout.nindir level) (steps_at t bytes level address first)
 unfolding steps_at
 at_within t bytes zero address first l = data_within t address first l
 at_within t bytes (suc level) address first l =
-    rw (← span_more t.geometry.nindir level)
-    (indirect_within t bytes (steps_at t bytes level) (span_of t.geometry.nindir level) address first l
+    rw (← span_more t.layout.nindir level)
+    (indirect_within t bytes (steps_at t bytes level) (span_of t.layout.nindir level) address first l
     (λ a f. at_within t bytes level a f l))
 
 -- where the blocks under an address end
@@ -192,27 +192,27 @@ next_first words i h = address_top words i (omega arith) ∙ top_here words i h
 
 -- the steps under some of the fifteen addresses
 addresses_within : (t : FileBlocks) (bytes addresses : List ℕ) (next count : ℕ) → IsFit t → next + suc count ≤ 15
-    → Within t.geometry.frag (first_block t.geometry.nindir next) (top_of t.geometry.nindir (next + count))
+    → Within t.layout.frag (first_block t.layout.nindir next) (top_of t.layout.nindir (next + count))
     (steps_of_addresses t bytes addresses next (suc count))
 addresses_within t bytes addresses next zero l h =
-    let w = at_within t bytes (indirection_of next) (slice_index addresses next) (first_block t.geometry.nindir next)
+    let w = at_within t bytes (indirection_of next) (slice_index addresses next) (first_block t.layout.nindir next)
     l in
-    let e = address_top t.geometry.nindir next (omega arith) in
+    let e = address_top t.layout.nindir next (omega arith) in
     let n : next + 0 ≡ next = omega arith in
-    rw n (within_append t.geometry.frag (first_block t.geometry.nindir next) (top_of t.geometry.nindir next)
-    (top_of t.geometry.nindir next)
-    (steps_at t bytes (indirection_of next) (slice_index addresses next) (first_block t.geometry.nindir next)) []
+    rw n (within_append t.layout.frag (first_block t.layout.nindir next) (top_of t.layout.nindir next)
+    (top_of t.layout.nindir next)
+    (steps_at t bytes (indirection_of next) (slice_index addresses next) (first_block t.layout.nindir next)) []
     (rw e at w) (omega arith))
 addresses_within t bytes addresses next (suc count) l h =
-    let w = at_within t bytes (indirection_of next) (slice_index addresses next) (first_block t.geometry.nindir next)
+    let w = at_within t bytes (indirection_of next) (slice_index addresses next) (first_block t.layout.nindir next)
     l in
     let n : next + suc count ≡ (next + 1) + count = omega arith in
     let rest = addresses_within t bytes addresses (next + 1) count l (omega arith) in
-    rw n (within_append t.geometry.frag (first_block t.geometry.nindir next) (first_block t.geometry.nindir (next + 1))
-    (top_of t.geometry.nindir ((next + 1) + count))
-    (steps_at t bytes (indirection_of next) (slice_index addresses next) (first_block t.geometry.nindir next))
+    rw n (within_append t.layout.frag (first_block t.layout.nindir next) (first_block t.layout.nindir (next + 1))
+    (top_of t.layout.nindir ((next + 1) + count))
+    (steps_at t bytes (indirection_of next) (slice_index addresses next) (first_block t.layout.nindir next))
     (steps_of_addresses t bytes addresses (next + 1) (suc count))
-    (rw (next_first t.geometry.nindir next (omega arith)) at w) rest)
+    (rw (next_first t.layout.nindir next (omega arith)) at w) rest)
 
 last_fits : (v : Layout) (i : Inode) → IsValidLayout v → (0 < last_of v i) × (last_of v i ≤ v.frag)
 last_fits v i g = one (nat_eq (i.size % v.bsize) 0) refl
@@ -252,7 +252,7 @@ steps_within v i bytes g = one (addresses_for v.nindir (if walks v i then logica
     (used_most v.nindir (if walks v i then logical_blocks_of v i else 0))
   where
     t : FileBlocks
-    t = record { geometry = v; blocks = if walks v i then logical_blocks_of v i else 0; last = last_of v i }
+    t = record { layout = v; blocks = if walks v i then logical_blocks_of v i else 0; last = last_of v i }
 
     one : (n : ℕ) → n ≤ 15 → (high : ℕ) × Within v.frag 0 high (steps_of_addresses t bytes i.addresses 0 n)
     one zero h = (0, omega arith)

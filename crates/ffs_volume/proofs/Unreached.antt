@@ -3,11 +3,12 @@ use Rattle.std.specs.Prelude.{◌≡◌, ◌≢◌, ℕ, ◌==◌, Bool, true, f
 use Rattle.std.proofs.Common.{◌∙◌, ap}
 use Rattle.std.proofs.lemmas.Bool.{and_parts, and_from, ne_eqb, not_from_false, not-true, eqb-false, cond-false}
 use Rattle.ffs_volume.specs.Disk.Search.{first_below}
-use Rattle.ffs_volume.specs.Directories.Graph.{Graph, level, edge, reached, parent, parent_by, lost, dead, names_in}
+use Rattle.ffs_volume.specs.Directories.Graph.{Graph, level, edge, reached, parent, parent_by, is_lost, is_dead_in}
+use Rattle.ffs_volume.specs.Directories.Graph.{dir_names}
 
 pub edge-parts : (v : Graph) (s d : ℕ) → edge v s d ≡ true → (v.is_dir d ≡ true) × (v.is_dir s ≡ true)
 edge-parts v s d h =
-    let p = and_parts (v.is_dir d) (names_in v s d) h in
+    let p = and_parts (v.is_dir d) (dir_names v s d) h in
     (p.0, (and_parts (v.is_dir s) _ p.1).0)
 
 -- what makes a directory lost
@@ -15,20 +16,20 @@ pub record IsLost (v : Graph) (suspect : ℕ → Bool) (d : ℕ) : Type 0 where
   pub dir : v.is_dir d ≡ true
   pub not_root : d ≢ 2
   pub unreached : reached v d ≡ false
-  pub alive : dead v suspect d ≡ false
+  pub alive : is_dead_in v suspect d ≡ false
 
-pub lost-true : (v : Graph) (suspect : ℕ → Bool) (d : ℕ) → lost v suspect d ≡ true → IsLost v suspect d
+pub lost-true : (v : Graph) (suspect : ℕ → Bool) (d : ℕ) → is_lost v suspect d ≡ true → IsLost v suspect d
 lost-true v suspect d h =
-    let a = and_parts (v.is_dir d) (not (d == 2) && (not (reached v d) && not (dead v suspect d))) h in
-    let b = and_parts (not (d == 2)) (not (reached v d) && not (dead v suspect d)) a.1 in
-    let c = and_parts (not (reached v d)) (not (dead v suspect d)) b.1 in
+    let a = and_parts (v.is_dir d) (not (d == 2) && (not (reached v d) && not (is_dead_in v suspect d))) h in
+    let b = and_parts (not (d == 2)) (not (reached v d) && not (is_dead_in v suspect d)) a.1 in
+    let c = and_parts (not (reached v d)) (not (is_dead_in v suspect d)) b.1 in
     record { dir = a.0; not_root = eqb-false d 2 (not-true _ b.0); unreached = not-true _ c.0; alive = not-true _ c.1 }
 
-pub lost-from : (v : Graph) (suspect : ℕ → Bool) (d : ℕ) → IsLost v suspect d → lost v suspect d ≡ true
+pub lost-from : (v : Graph) (suspect : ℕ → Bool) (d : ℕ) → IsLost v suspect d → is_lost v suspect d ≡ true
 lost-from v suspect d h =
-    and_from (v.is_dir d) (not (d == 2) && (not (reached v d) && not (dead v suspect d))) h.dir
-    (and_from (not (d == 2)) (not (reached v d) && not (dead v suspect d)) (not_from_false _ (ne_eqb d 2 h.not_root))
-    (and_from (not (reached v d)) (not (dead v suspect d)) (not_from_false _ h.unreached) (not_from_false _ h.alive)))
+    and_from (v.is_dir d) (not (d == 2) && (not (reached v d) && not (is_dead_in v suspect d))) h.dir
+    (and_from (not (d == 2)) (not (reached v d) && not (is_dead_in v suspect d)) (not_from_false _ (ne_eqb d 2 h.not_root))
+    (and_from (not (reached v d)) (not (is_dead_in v suspect d)) (not_from_false _ h.unreached) (not_from_false _ h.alive)))
 
 pub unreached-level : (v : Graph) (d : ℕ) → reached v d ≡ false → level v d ≡ None
 unreached-level v d h = go (level v d) h

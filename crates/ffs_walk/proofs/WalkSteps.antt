@@ -28,12 +28,12 @@ unfolding steps_at
 steps_one t bytes a f = refl
 
 pub steps_two : (t : FileBlocks) (bytes : List ℕ) (a f : ℕ) →
-    steps_at t bytes 2 a f ≡ indirect_steps t bytes (steps_at t bytes 1) t.geometry.nindir a f
+    steps_at t bytes 2 a f ≡ indirect_steps t bytes (steps_at t bytes 1) t.layout.nindir a f
 unfolding steps_at
 steps_two t bytes a f = refl
 
 pub steps_three : (t : FileBlocks) (bytes : List ℕ) (a f : ℕ) →
-    steps_at t bytes 3 a f ≡ indirect_steps t bytes (steps_at t bytes 2) (t.geometry.nindir * t.geometry.nindir) a f
+    steps_at t bytes 3 a f ≡ indirect_steps t bytes (steps_at t bytes 2) (t.layout.nindir * t.layout.nindir) a f
 unfolding steps_at
 steps_three t bytes a f = refl
 
@@ -95,10 +95,10 @@ rest_at_top bytes w s d t =
 
 pub next_address : (t : FileBlocks) (bytes addresses : List ℕ) (next used : ℕ) → next < used →
     steps_of_addresses t bytes addresses next (used - next)
-    ≡ steps_at t bytes (indirection_of next) (slice_index addresses next) (first_block t.geometry.nindir next)
+    ≡ steps_at t bytes (indirection_of next) (slice_index addresses next) (first_block t.layout.nindir next)
     ++ steps_of_addresses t bytes addresses (next + 1) (used - (next + 1))
 next_address t bytes addresses next used h =
-    flat_map_step (λ i. steps_at t bytes (indirection_of i) (slice_index addresses i) (first_block t.geometry.nindir i))
+    flat_map_step (λ i. steps_at t bytes (indirection_of i) (slice_index addresses i) (first_block t.layout.nindir i))
     next used h
 
 -- the steps of the addresses after the next one

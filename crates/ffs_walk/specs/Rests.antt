@@ -3,7 +3,8 @@ use Rattle.std.specs.Prelude.{◌≡◌, ℕ, zero, suc, ◌+◌, ◌-◌, ◌*�
 use Rattle.ffs_volume.specs.declared.Step.{Step}
 use Rattle.ffs_volume.specs.declared.Inode.{Inode}
 use Rattle.ffs_volume.specs.Blocks.Inodes.{logical_blocks_of}
-use Rattle.ffs_volume.specs.Blocks.Steps.{FileBlocks, data_step, indirect_steps, steps_at, steps_of, steps_of_addresses, walks}
+use Rattle.ffs_volume.specs.Blocks.Steps.{FileBlocks, data_step, indirect_steps, steps_at, steps_of, steps_of_addresses}
+use Rattle.ffs_volume.specs.Blocks.Steps.{walks}
 use Rattle.ffs_layout.specs.declared.geometry.Geometry.{Geometry}
 use Rattle.ffs_walk.specs.declared.walk.Walk.{Walk}
 use Rattle.ffs_walk.specs.declared.frame.Frame.{Frame}
@@ -13,7 +14,7 @@ use Rattle.ffs_walk.specs.Fits.{FrameFits, IsSpent}
 use Rattle.ffs_walk.specs.Lengths.{IsStepOf}
 
 abbrev pub extent_of : Walk → FileBlocks
-extent_of w = record { geometry = w.geometry.layout; blocks = w.blocks; last = w.last }
+extent_of w = record { layout = w.geometry.layout; blocks = w.blocks; last = w.last }
 
 -- the steps that the frames of a walk have left
 abbrev pub single_rest : List ℕ → Walk → List Step

@@ -7,7 +7,7 @@ use Rattle.ffs_volume.specs.Blocks.Inodes.{inode_of, class_of, is_unknown}
 use Rattle.ffs_volume.specs.Blocks.Owners.{owner_of, owners_of}
 use Rattle.ffs_volume.specs.Blocks.Claims.{Claims, no_claims, after_owner, after_owners}
 use Rattle.ffs_volume.specs.Blocks.KeptSteps.{claims_before}
-use Rattle.ffs_volume.specs.Directories.Graph.{named, reached, parent}
+use Rattle.ffs_volume.specs.Directories.Graph.{is_named, reached, parent}
 use Rattle.ffs_volume.specs.Directories.Roles.{references}
 use Rattle.ffs_volume.specs.Directories.Parents.{graph_of}
 use Rattle.ffs_volume.specs.Directories.Volumes.{is_inode_number, marked_at, volume_of}
@@ -86,7 +86,7 @@ pub record HoldsReferences (v : Layout) (image : List ℕ) (w : Workspace) : Typ
 
 -- and whether an entry names it, whether it is reached from the root, and its parent, or 0 for none
 pub record HoldsSurvey (v : Layout) (image : List ℕ) (w : Workspace) : Type 0 where
-  pub named : (x : ℕ) → x < inodes_of v → bool_at w.named.items x ≡ named (graph_of (volume_of v image)) x
+  pub named : (x : ℕ) → x < inodes_of v → bool_at w.named.items x ≡ is_named (graph_of (volume_of v image)) x
   pub reached : (x : ℕ) → bool_at w.reached.items x ≡ reached (graph_of (volume_of v image)) x
   pub parents : (x : ℕ) → slice_index w.parents.items x ≡ unwrap_or (parent (graph_of (volume_of v image)) x) 0
 

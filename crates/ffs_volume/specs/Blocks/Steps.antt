@@ -28,10 +28,10 @@ address_in v block j = u32_at v.order (4 * j) block
 abbrev pub address_at : (v : Layout) (image : List ℕ) (address j : ℕ) → ℕ
 address_at v image address j = address_in v (block_bytes v image address) j
 
--- how far a file reaches: its layout (`geometry`), the number of its logical blocks, and how many fragments the last of
+-- how far a file reaches: its layout, the number of its logical blocks, and how many fragments the last of
 -- them has where its address is direct
 pub record FileBlocks : Type 0 where
-  pub geometry : Layout
+  pub layout : Layout
   pub blocks : ℕ
   pub last : ℕ
 
@@ -57,7 +57,7 @@ steps_under v image child span address first next count =
 
 -- how many fragments a block of data has
 abbrev pub data_length : FileBlocks → ℕ → ℕ
-data_length t block = if nat_lt block NDADDR && block + 1 == t.blocks then t.last else t.geometry.frag
+data_length t block = if nat_lt block NDADDR && block + 1 == t.blocks then t.last else t.layout.frag
 
 -- how many logical blocks lie under an address of a level of indirection: `words` to the power of the level
 abbrev pub span_of : (words level : ℕ) → ℕ
@@ -76,18 +76,18 @@ abbrev pub indirect_steps : (t : FileBlocks) (image : List ℕ) (child : ℕ →
 indirect_steps t image child span address first =
     if address == 0
     then Gap ∷ []
-    else Run address t.geometry.frag None ∷
-    (if is_run_in_range t.geometry address t.geometry.frag
-    then tail_of (any_address_from t.geometry (block_bytes t.geometry image address)
-    (used_addresses t.geometry.nindir t.blocks first span))
-    ++ steps_under t.geometry image child span address first 0 (used_addresses t.geometry.nindir t.blocks first span)
+    else Run address t.layout.frag None ∷
+    (if is_run_in_range t.layout address t.layout.frag
+    then tail_of (any_address_from t.layout (block_bytes t.layout image address)
+    (used_addresses t.layout.nindir t.blocks first span))
+    ++ steps_under t.layout image child span address first 0 (used_addresses t.layout.nindir t.blocks first span)
     else [])
 
 -- the steps at an address of a level of indirection, `first` being the first logical block under it
 unfoldable pub steps_at : (t : FileBlocks) (image : List ℕ) (level address first : ℕ) → List Step
 steps_at t image zero address first = data_step t address first ∷ []
 steps_at t image (suc level) address first =
-    indirect_steps t image (steps_at t image level) (span_of t.geometry.nindir level) address first
+    indirect_steps t image (steps_at t image level) (span_of t.layout.nindir level) address first
 
 -- the level of indirection of the address at index i: 0 for the direct ones (`-` stops at 0), then 1, 2 and 3
 abbrev pub indirection_of : ℕ → ℕ
@@ -102,7 +102,7 @@ first_block words i =
 -- the steps of `count` addresses of an inode, from index `next` on
 abbrev pub steps_of_addresses : (t : FileBlocks) (image addresses : List ℕ) (next count : ℕ) → List Step
 steps_of_addresses t image addresses next count =
-    flat_map (λ i. steps_at t image (indirection_of i) (slice_index addresses i) (first_block t.geometry.nindir i))
+    flat_map (λ i. steps_at t image (indirection_of i) (slice_index addresses i) (first_block t.layout.nindir i))
     (range_with_len next count)
 
 -- the addresses of the inode are walked: it is a file or directory, but no device, and no symlink with its text in
@@ -118,5 +118,5 @@ last_of v i = if i.size % v.bsize == 0 then v.frag else div_ceil (i.size % v.bsi
 unfoldable pub steps_of : Layout → Inode → List ℕ → List Step
 steps_of v i image =
     let blocks = if walks v i then logical_blocks_of v i else 0 in
-    steps_of_addresses (record { geometry = v; blocks = blocks; last = last_of v i }) image i.addresses 0
+    steps_of_addresses (record { layout = v; blocks = blocks; last = last_of v i }) image i.addresses 0
     (addresses_for v.nindir blocks)

@@ -8,8 +8,8 @@ use Rattle.ffs_volume.specs.Blocks.Inodes.{type_of}
 use Rattle.ffs_volume.specs.Directories.Entries.{Entry}
 use Rattle.ffs_volume.specs.Directories.Roles.{Volume, RoledEntry, is_dir, is_allocated_inode}
 use Rattle.ffs_volume.specs.Directories.Roles.{roled_entries, dot, dotdot, references}
-use Rattle.ffs_volume.specs.Directories.Graph.{reached, names_at, NamedOnce}
-use Rattle.ffs_volume.specs.Directories.Parents.{graph_of, roled_at}
+use Rattle.ffs_volume.specs.Directories.Graph.{reached, dir_names_at, NamedOnce}
+use Rattle.ffs_volume.specs.Directories.Parents.{graph_of, nth_roled}
 use Rattle.ffs_volume.specs.Directories.PathnameCheck.{are_sound}
 
 -- a directory's size is a positive multiple of 512 bytes
@@ -30,8 +30,8 @@ pub record IsDirRight (vol : Volume) (d : ℕ) : Type 0 where
   pub sound : are_sound (vol.chunks d) ≡ true
   pub dot_there : IsSomeAnd (dot vol d) (λ e. (e.number ≡ d) × (e.kind ≡ DT_DIR))
   pub dotdot_there : IsSomeAnd (dotdot vol d) (λ e. e.kind ≡ DT_DIR)
-  pub no_extra : (j : ℕ) (s : RoledEntry) → roled_at (roled_entries vol d) j ≡ Some s → s.role ≢ Extra
-  pub plain : (j : ℕ) (s : RoledEntry) → roled_at (roled_entries vol d) j ≡ Some s → s.role ≡ Plain
+  pub no_extra : (j : ℕ) (s : RoledEntry) → nth_roled (roled_entries vol d) j ≡ Some s → s.role ≢ Extra
+  pub plain : (j : ℕ) (s : RoledEntry) → nth_roled (roled_entries vol d) j ≡ Some s → s.role ≡ Plain
       → IsPlainRight vol s.entry
 
 -- inode 2 is a directory, and each directory holds what it should
@@ -49,7 +49,7 @@ pub record IsLinked (vol : Volume) (d : ℕ) : Type 0 where
 -- each directory but 2 is linked so; no plain entry names 2, and the `..` of 2 is 2
 pub record AreLinksRight (vol : Volume) : Type 0 where
   pub each : (d : ℕ) → is_dir vol d ≡ true → d ≢ ROOTINO → IsLinked vol d
-  pub root : (s j : ℕ) → names_at (graph_of vol) s j ROOTINO ≡ false
+  pub root : (s j : ℕ) → dir_names_at (graph_of vol) s j ROOTINO ≡ false
   pub root_dotdot : IsSomeAnd (dotdot vol ROOTINO) (λ e. e.number ≡ ROOTINO)
 
 -- the count of links of an inode is that of its references, and at least 1

@@ -1,14 +1,14 @@
 -- What the check of connectivity reports.
 use Rattle.std.specs.Prelude.{ℕ, Bool, List}
 use Rattle.ffs_volume.specs.Directories.Roles.{Volume, is_suspect}
-use Rattle.ffs_volume.specs.Directories.Graph.{is_unref_dir, dead}
+use Rattle.ffs_volume.specs.Directories.Graph.{is_unref_dir, is_dead_in}
 use Rattle.ffs_volume.specs.Directories.Parents.{graph_of}
 use Rattle.ffs_volume.specs.Messages.Kinds.{NameMessage, reported, lines_below, unref_dir}
 use Rattle.ffs_volume.specs.Directories.PathnameCheck.{attributes}
 
 -- x is dead: suspect, other than 2, and named by no plain entry
 abbrev pub is_dead : Volume → ℕ → Bool
-is_dead vol x = dead (graph_of vol) (is_suspect vol) x
+is_dead vol x = is_dead_in (graph_of vol) (is_suspect vol) x
 
 -- UNREF DIR is reported of d
 abbrev pub is_unref_dir_of : Volume → ℕ → Bool

@@ -3,25 +3,25 @@ use Rattle.std.specs.Prelude.{ℕ, zero, suc, Bool, ◌&&◌, List, [], ◌∷�
 use Rattle.ffs_volume.specs.Directories.Roles.{Volume, RoledEntry, is_dir, roled_entries}
 use Rattle.ffs_volume.specs.Disk.Search.{first_below}
 use Rattle.ffs_volume.specs.Directories.Climb.{is_value}
-use Rattle.ffs_volume.specs.Directories.Graph.{Graph, names, names_in, parent, parent_entry_index, first_index}
+use Rattle.ffs_volume.specs.Directories.Graph.{Graph, entry_names, dir_names, parent, parent_entry_index, first_index}
 
 -- the directories of a volume as a graph
 abbrev pub graph_of : Volume → Graph
 graph_of vol = record { count = vol.count; is_dir = is_dir vol; entries = roled_entries vol }
 
 -- the entry at an index of a list, with its role, if there is one
-abbrev pub roled_at : List RoledEntry → ℕ → Option RoledEntry
-roled_at [] j = None
-roled_at (e ∷ es) zero = Some e
-roled_at (e ∷ es) (suc j) = roled_at es j
+abbrev pub nth_roled : List RoledEntry → ℕ → Option RoledEntry
+nth_roled [] j = None
+nth_roled (e ∷ es) zero = Some e
+nth_roled (e ∷ es) (suc j) = nth_roled es j
 
 -- the directory with the first of all plain entries that name x
 abbrev pub first_naming_dir : Graph → ℕ → Option ℕ
-first_naming_dir g x = first_below (λ s. names_in g s x) g.count
+first_naming_dir g x = first_below (λ s. dir_names g s x) g.count
 
 -- the entry at index j of s is the first of all plain entries that name x
 abbrev pub is_first_name : (g : Graph) (s j x : ℕ) → Bool
-is_first_name g s j x = is_value (first_naming_dir g x) s && is_value (first_index (names x) (g.entries s)) j
+is_first_name g s j x = is_value (first_naming_dir g x) s && is_value (first_index (entry_names x) (g.entries s)) j
 
 -- the entry at index j of s is the parent entry of x
 abbrev pub is_parent_entry : (g : Graph) (s j x : ℕ) → Bool

@@ -5,7 +5,7 @@ use Rattle.std.specs.List.{flat_map}
 use Rattle.ffs_volume.specs.declared.constants.TheConstants.{MAXPATHLEN}
 use Rattle.ffs_volume.specs.Directories.Roles.{RoledEntry}
 use Rattle.ffs_volume.specs.Directories.Graph.{Graph, level, parent, parent_entry_index}
-use Rattle.ffs_volume.specs.Directories.Parents.{roled_at}
+use Rattle.ffs_volume.specs.Directories.Parents.{nth_roled}
 
 -- names, each after a `/`
 abbrev pub joined : List (List ℕ) → List ℕ
@@ -32,7 +32,7 @@ name_of (Some s) = s.entry.name
 abbrev pub names_above : (g : Graph) (above : ℕ → List (List ℕ)) (d : ℕ) → Option ℕ → List (List ℕ)
 names_above g above d None = []
 names_above g above d (Some s) =
-    above s ++ name_of (option_and_then (roled_at (g.entries s)) (parent_entry_index g d)) ∷ []
+    above s ++ name_of (option_and_then (nth_roled (g.entries s)) (parent_entry_index g d)) ∷ []
 
 -- the names from 2 down to a directory that is k edges below
 unfoldable pub names_down : (g : Graph) (k d : ℕ) → List (List ℕ)

@@ -1,4 +1,5 @@
-use Rattle.std.proofs.Common.{arith, refl, rules, ◌∙◌, ap, sym, ◌/◌, ◌%◌, ◌-◌, ◌*◌, ◌^◌, ◌<◌, length, get_or, bit_and, bit_or}
+use Rattle.std.proofs.Common.{arith, refl, rules, ◌∙◌, ap, sym, ◌/◌, ◌%◌, ◌-◌, ◌*◌, ◌^◌, ◌<◌, length, get_or, bit_and}
+use Rattle.std.proofs.Common.{bit_or}
 use Rattle.std.proofs.Common.{slice_set}
 use Rattle.std.proofs.lemmas.List.{get_or_read}
 use Rattle.ffs_maps.specs.Bits.{bits_of_words}

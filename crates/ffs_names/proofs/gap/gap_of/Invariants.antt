@@ -1,7 +1,7 @@
 use Rattle.std.proofs.Common.{◌≡◌}
 use Rattle.ffs_image.specs.Device.{ForContents}
 use Rattle.ffs_walk.specs.Rests.{left}
-use Rattle.ffs_names.specs.Windows.{CanWalk}
+use Rattle.ffs_names.specs.Windows.{CanWalkDir}
 use Rattle.ffs_names.specs.Readings.{gap_left, IsSame}
 use Rattle.ffs_names.proofs.gap.gap_of.Given as goal
 
@@ -9,7 +9,7 @@ abbrev pub invariant-steps : goal.invariant-steps
 invariant-steps g l = let device = g.I.Image.device in record {
   same : device l.image ≡ device l.initial.image;
   kept : IsSame l.initial.chunks l.chunks;
-  ready : CanWalk l.initial.chunks.walk.geometry.layout (device l.image) l.blocks;
+  ready : CanWalkDir l.initial.chunks.walk.geometry.layout (device l.image) l.blocks;
   gap : ForContents (device l.initial.image).contents (λ b. gap_left b l.initial.chunks ≡ gap_left b l.chunks);
 }
 

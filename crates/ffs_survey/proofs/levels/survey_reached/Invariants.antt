@@ -1,6 +1,6 @@
 use Rattle.std.proofs.Common.{◌≡◌, ℕ, ◌-◌, List, length, take}
 use Rattle.ffs_survey.specs.Survey.{graph_with}
-use Rattle.ffs_survey.specs.Discover.{HasRoom, AtSomeLevel, IsCount}
+use Rattle.ffs_survey.specs.Discover.{HasRoomForLevel, AtSomeLevel, IsCount}
 use Rattle.ffs_survey.specs.Calm.{AreCalm}
 use Rattle.ffs_survey.proofs.levels.survey_reached.Given as goal
 
@@ -10,7 +10,7 @@ invariant-loop-low g l = record {
   base : g.D.Directories.base l.directories ≡ g.D.Directories.base l.fn.directories;
   device : g.D.Directories.device l.directories ≡ g.D.Directories.device l.fn.directories;
   lengths : length l.reached ≡ length l.kinds;
-  room : HasRoom l.low l.high l.references l.reached l.queue;
+  room : HasRoomForLevel l.low l.high l.references l.reached l.queue;
   levels : (b : List ℕ) → g.D.Directories.knows (g.D.Directories.base l.fn.directories) b →
       AtSomeLevel (graph_with l.kinds (g.D.Directories.entries (g.D.Directories.base l.fn.directories) b)) l.low
       l.high l.reached l.parents l.queue;

@@ -1,7 +1,7 @@
 use Rattle.std.proofs.Common.{◌≡◌}
 use Rattle.ffs_image.specs.Device.{ForContents}
 use Rattle.ffs_walk.specs.Rests.{left}
-use Rattle.ffs_names.specs.Windows.{CanWalk}
+use Rattle.ffs_names.specs.Windows.{CanWalkDir}
 use Rattle.ffs_names.specs.Readings.{ContinuesTo, IsSame}
 use Rattle.ffs_names.proofs.chunks.Chunks.advance.Given as goal
 
@@ -9,7 +9,7 @@ abbrev pub invariant-steps : goal.invariant-steps
 invariant-steps g l = let device = g.I.Image.device in record {
   continues : ForContents (device l.fn.image).contents (λ b. ContinuesTo b l.fn.self l.self);
   same : IsSame l.fn.self l.self;
-  ready : CanWalk l.fn.self.walk.geometry.layout (device l.image) l.blocks;
+  ready : CanWalkDir l.fn.self.walk.geometry.layout (device l.image) l.blocks;
   device : device l.image ≡ device l.fn.image;
 }
 
