@@ -8,7 +8,10 @@
 -- the end of a list `slice_index` is 0, and `slice_index_or` is its last argument; `take` and `drop` give what there
 -- is. `range_with_len a n` are the n numbers from a on. `count_by`, `sum_by` and `flat_map` count, add and join over a
 -- list. `decimal` and `signed_decimal` are the digits of a number, `div_ceil` is the quotient rounded up, `cond b x y`
--- is x where b holds, else y. `==` is a test, and `≡` a statement.
+-- is x where b holds, else y. `==` is a test, and `≡` a statement. Between statements `×` is "and", `⊎` is "or", `≢`
+-- is "is not" and `Unit {0}` asks nothing; `IsSomeAnd o p` says that o has a value, and that p holds of it. `Type 0` is
+-- the type of statements. `[]` is an empty list, `x ∷ xs` has x before a list, and `++` joins two. `zero` is 0 and
+-- `suc n` is n + 1. Of an integer `pos n` is n, and `negsuc n` is -(n + 1). The root is inode 2.
 pub mod Disk
 pub mod Blocks
 pub mod Messages

@@ -19,8 +19,9 @@ pub enum Order {
     Big,
 }
 
-/// Why a superblock is refused. `Shape` is a layout whose parts don't fit each other (`is_valid_layout`), `Short` a volume that is larger
-/// than its image, and `Disagree` a last copy that has other numbers.
+/// Why a superblock is refused. `TooLarge` is a superblock that says it has more than 8,192 bytes, `Shape` a layout whose
+/// parts don't fit each other (`is_valid_layout`), `Short` a volume that is larger than its image, and `Disagree` a copy
+/// in the last group that has other numbers.
 #[derive(Clone, Copy, Debug, PartialEq, Eq)]
 pub enum SuperFault {
     CannotRead { sector: u64 },

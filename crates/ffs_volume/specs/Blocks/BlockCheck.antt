@@ -27,7 +27,7 @@ abbrev pub sectors : Layout → ℕ → ℕ
 sectors v fragments = fragments * (v.fsize / DEV_BSIZE)
 
 -- the line of a file or directory that wasn't cut, and whose blocks field isn't that of its kept offers; `end` is the
--- state after the inode
+-- state after the inode. Of an inode that was cut the right number isn't known, so it has no such line
 abbrev pub count_lines : Layout → Owner → Claims → List BlockMessage
 count_lines v o end =
     if is_file_or_dir o.class && (is_open end && not (o.blocks == sectors v end.kept))
@@ -51,7 +51,7 @@ pub record Offer : Type 0 where
   pub fragment : ℕ
 
 -- The five definitions below are the kept offers, walking as `Claims` does from a state s: of some fragments, of a Run,
--- of a step, of steps, and of inodes. `Keeping` says by a rule which they are
+-- of a step, of steps, and of inodes. `Keeping` says by one rule which they are: read it for the meaning
 abbrev pub kept_in_offers : (v : Layout) (inode : ℕ) (s : Claims) (fs : List ℕ) → List Offer
 kept_in_offers v inode s [] = []
 kept_in_offers v inode s (f ∷ fs) =
@@ -79,7 +79,8 @@ abbrev pub kept_in_owners : Layout → Claims → List Owner → List Offer
 kept_in_owners v s [] = []
 kept_in_owners v s (o ∷ os) = kept_in_steps v o.number (next_inode s) o.steps ++ kept_in_owners v (after_owner v s o) os
 
--- a DUP for the first kept offer of each fragment that has a DUP in phase 1
+-- a DUP for the first kept offer of each fragment that has a DUP in phase 1: of a reserved fragment one that phase 1
+-- has reported too
 abbrev pub first_offer_lines : List Bool → List Offer → List BlockMessage
 first_offer_lines dup [] = []
 first_offer_lines dup (o ∷ os) =
@@ -109,7 +110,7 @@ blames x (Bad fragment inode) = inode == x
 blames x (Dup fragment inode) = inode == x
 blames x _ = false
 
--- the inode has the class Unknown, or a line of phase 1 or 1b blames it: fsck(8) asks to clear it
+-- the inode has the class Unknown, or a line of phase 1 or 1b blames it: phases 2 and 4 report it
 unfoldable pub is_marked : (v : Layout) (image : List ℕ) (x : ℕ) → Bool
 is_marked v image x =
     is_unknown (class_of v (inode_of v image x))

@@ -1,7 +1,8 @@
 -- Which fragments inodes get. A Run offers its fragments to its inode, in order. An offer is dup where its fragment is
--- in range and used already, by an earlier offer or as a reserved one. At its eleventh bad Run or eleventh dup offer
--- an inode is cut: its further steps aren't seen. It keeps its offers up to and with the eleventh dup one, and those
--- before its eleventh bad Run.
+-- in range and used already, by an earlier kept offer or as a reserved one. At its eleventh bad Run or eleventh dup
+-- offer an inode is cut: its further steps aren't seen. It keeps each offer that comes before its eleventh bad Run, and
+-- no later than its eleventh dup offer. The eleventh dup offer itself is kept, so phase 1b looks for the first one of
+-- its fragment.
 use Rattle.std.specs.Prelude.{ℕ, Bool, true, false, ◌+◌, ◌&&◌, not, List, [], ◌∷◌, ◌++◌}
 use Rattle.std.specs.Prelude.{◌==◌, nat_lt, slice_set, if◌then◌else◌, map, replicate}
 use Rattle.std.specs.List.{range_with_len, slice_index_or}

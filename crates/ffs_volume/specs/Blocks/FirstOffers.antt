@@ -1,4 +1,4 @@
--- An offer by its two numbers; phase 1b reports the first offer of a fragment.
+-- An offer by its two numbers. Those that phase 1b reports, each the first of its fragment, are made so.
 use Rattle.std.proofs.Common.{ℕ}
 use Rattle.ffs_volume.specs.Blocks.BlockCheck.{Offer}
 

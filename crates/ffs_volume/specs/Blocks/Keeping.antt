@@ -1,6 +1,6 @@
 -- The kept offers of `BlockCheck` once more, by a rule on each offer (`offer_verdict`); `keeping_is_by_rule` says that
--- both are the same. An `Offer` has here the bad Runs that count for it too (`CountedOffer`, p), or what the rule says
--- of it (`OfferVerdict`, j).
+-- both are the same. p is an offer with the number of bad Runs up to its own (`CountedOffer`), and j an offer with what
+-- the rule says of it (`OfferVerdict`).
 use Rattle.std.specs.Prelude.{ℕ, Bool, ◌+◌, ◌&&◌, ◌||◌, List, [], ◌∷◌, ◌++◌, ◌==◌, nat_le, if◌then◌else◌, map, count_by}
 use Rattle.std.specs.List.{list_any, flat_map, range_with_len}
 use Rattle.ffs_volume.specs.declared.constants.TheConstants.{MAXBAD, MAXDUP}

@@ -1,4 +1,5 @@
--- The steps of an inode that are kept.
+-- The steps of an inode that are kept. The checks of directories see these alone: a chunk is read where its Run is
+-- kept, and a hole is reported where its Gap is.
 use Rattle.std.specs.Prelude.{ℕ, Bool, ◌+◌, ◌-◌, ◌&&◌, List, [], ◌∷◌, ◌++◌, ◌==◌, if◌then◌else◌, map}
 use Rattle.std.specs.List.{range_with_len}
 use Rattle.ffs_volume.specs.declared.Layout.{Layout}

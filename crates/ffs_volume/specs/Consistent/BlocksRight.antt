@@ -45,7 +45,7 @@ pub record AreRunsRight (v : Layout) (os : List Owner) : Type 0 where
   pub unreserved : (f : ℕ) → is_reserved v f ≡ true → times f (fragments_of (all_steps os)) ≡ 0
   pub counted : list_all (is_field_right v) os ≡ true
 
--- the classes of all inodes are right, and all that their steps claim: two of the conditions of `Volume`, for laws
+-- two of the conditions of `IsConsistent` together, for laws: those on classes and on Runs
 pub record BlocksRight (v : Layout) (os : List Owner) : Type 0 where
   pub classes : list_all (λ o. is_right_class o.class) os ≡ true
   pub runs : AreRunsRight v os

@@ -93,7 +93,8 @@ pub record Chunk : Type 0 where
 abbrev pub chunk_of : (order : Order) (offset : ℕ) (bytes : List ℕ) → Chunk
 chunk_of order offset bytes = record { offset = offset; entries = entries_of order bytes; sound = is_sound order bytes }
 
--- how many bytes of a directory are read, by its size
+-- how many bytes of a directory are read, by its size: one chunk where it is too small for `.` and `..`, else the size,
+-- rounded up to whole chunks
 abbrev pub bytes_read : ℕ → ℕ
 bytes_read size = if nat_lt size MINDIRSIZE then DIRBLKSIZ else div_ceil size DIRBLKSIZ * DIRBLKSIZ
 
@@ -111,7 +112,8 @@ run_chunks r start len offset =
     map (λ k. chunk_of r.order (offset + DIRBLKSIZ * k) (piece (start * r.fsize + DIRBLKSIZ * k) DIRBLKSIZ r.image))
     (range_with_len 0 (min (len * r.fsize / DIRBLKSIZ) ((r.taken - offset) / DIRBLKSIZ)))
 
--- the chunks of a step: those of a Run of data that passes a test; the test is always `is_run_in_range` of the layout
+-- the chunks of a step: those of a Run of data that passes a test. The test is always `is_run_in_range`: it is a
+-- parameter so that these definitions need no layout
 abbrev pub step_chunks : ChunkSource → (ℕ → ℕ → Bool) → Step → List Chunk
 step_chunks r passes (Run start len (Some block)) =
     if passes start len then run_chunks r start len (block * r.bsize) else []

@@ -15,7 +15,8 @@ cgoffset_of v c = v.cgoffset *ℤ pos (bit_and c (4294967295 - v.cgmask))
 unfoldable pub cgbase : Layout → ℕ → ℕ
 cgbase v c = v.fpg * c
 
--- the fragment from which the parts of group c are counted
+-- the fragment from which the parts of group c are counted; a negative shift, which `has_valid_group` refuses, counts
+-- as 0
 unfoldable pub cgstart : Layout → ℕ → ℕ
 cgstart v c = cgbase v c + zero_if_negative (cgoffset_of v c)
 
@@ -23,7 +24,8 @@ cgstart v c = cgbase v c + zero_if_negative (cgoffset_of v c)
 abbrev pub cgsblock : Layout → ℕ → ℕ
 cgsblock v c = cgstart v c + v.sblkno
 
--- the first fragment after the inodes of group c. Those of the group before `cgsblock` hold data too
+-- the first fragment for data after the inodes of group c. The fragments from the group's base to `cgsblock` hold data
+-- too, but in group 0, where they are the boot area: the boot block and the primary superblock are there
 abbrev pub cgdmin : Layout → ℕ → ℕ
 cgdmin v c = cgstart v c + v.dblkno
 
@@ -48,7 +50,7 @@ is_group_metadata v f = some_below (λ c. nat_le (cgsblock v c) f && nat_lt f (c
 unfoldable pub is_fragment_in_range : Layout → ℕ → Bool
 is_fragment_in_range v f = nat_lt f v.size && not (is_group_metadata v f)
 
--- `len` fragments from `start` on are all in range, and in one group
+-- `len` fragments from `start` on are all in range, and in one group. They need not begin where a block does
 unfoldable pub is_run_in_range : (v : Layout) (start len : ℕ) → Bool
 is_run_in_range v start len =
     all_below len (λ k. is_fragment_in_range v (start + k) && ((start + k) / v.fpg == start / v.fpg))

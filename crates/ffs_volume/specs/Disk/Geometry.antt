@@ -44,7 +44,8 @@ pub record HasParts (v : Layout) : Type 0 where
   pub cgsize_low : 168 ≤ v.cgsize
   pub cgsize_high : v.cgsize ≤ v.bsize
 
--- the parts of a group begin at its base or above it, and its metadata ends within the group and the volume
+-- the parts of a group begin at its base or above it, since the shift isn't negative (`moved_up`), and its metadata
+-- ends within the group and the volume
 pub record HasGroup (v : Layout) (c : ℕ) : Type 0 where
   pub moved_up : cgoffset_of v c ≡ pos (zero_if_negative (cgoffset_of v c))
   pub within_group : cgdmin v c ≤ cgbase v (c + 1)
@@ -57,7 +58,7 @@ pub record HasSummaryArea (v : Layout) : Type 0 where
   pub summary_in_group : v.csaddr + div_ceil v.cssize v.fsize ≤ cgbase v 1
   pub summary_in_size : v.csaddr + div_ceil v.cssize v.fsize ≤ v.size
 
--- a valid layout: the conditions themselves (`shaped`), and what they give
+-- the layout of an accepted superblock: the conditions themselves (`shaped`), and what they give
 pub record IsValidLayout (v : Layout) : Type 0 where
   pub shaped : is_valid_layout v ≡ true
   pub some_groups : 0 < v.ncg

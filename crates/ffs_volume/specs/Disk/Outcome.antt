@@ -1,5 +1,5 @@
--- Which superblocks are accepted, and the first fault of one that isn't: `outcome`, at the end, from the conditions
--- before it.
+-- Which superblocks are accepted, and the first fault of one that isn't: no bytes, no magic, a fault of the layout in
+-- the order of `layout_fault`, or a copy that disagrees. `outcome`, at the end, is made of the conditions before it.
 use Rattle.std.specs.Prelude.{ℕ, ◌+◌, ◌-◌, ◌*◌, ◌/◌, ◌%◌, ◌^◌, min, Bool, true, false, ◌&&◌, not, nat_lt, nat_le}
 use Rattle.std.specs.Prelude.{◌==◌, if◌then◌else◌, List, [], ◌∷◌, length, Option, Some, None, Result, Ok, Err}
 use Rattle.std.specs.List.{list_all, list_any}
@@ -104,7 +104,7 @@ abbrev pub super_sector : Option ℕ → ℕ
 super_sector None = SUPERBLOCK_SECTOR
 super_sector (Some sector) = sector
 
--- the byte where the last copy begins
+-- the byte where the copy of the superblock in the last group begins
 abbrev pub copy_place : Layout → ℕ
 copy_place v = cgsblock v (v.ncg - 1) * v.fsize
 

@@ -1,5 +1,7 @@
--- Where the count of an inode's references starts: below a fixed number by its links, so that the count is that number
--- where each link has its reference.
+-- Where the count of an inode's references starts: at `LINKS_MET`, 32,768, less its count of links. Each reference adds
+-- one, so the count ends at 32,768 where there are as many as links. Without a valid number of links it starts at
+-- `NO_LINKS`, 32,769: above `LINKS_MET`, so it never ends there. Of an inode that isn't allocated nothing is counted,
+-- and the list keeps its 0.
 use Rattle.std.specs.Prelude.{ℕ, ◌-◌, ◌&&◌, nat_le, nat_lt, if◌then◌else◌, List, ℤ, pos, negsuc}
 use Rattle.ffs_volume.specs.declared.constants.TheConstants.{LINKS_MET, NO_LINKS}
 use Rattle.ffs_volume.specs.declared.Layout.{Layout}

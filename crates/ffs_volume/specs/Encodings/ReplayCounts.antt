@@ -19,7 +19,8 @@ abbrev pub replayed_runs : Layout → ℕ → Replay → List Step → ℕ
 replayed_runs v cut r [] = 0
 replayed_runs v cut r (step ∷ steps) = seen_run cut r step + replayed_runs v cut (replay_step v cut r step) steps
 
--- the kept offers after a Run: counted up to the cut, and left as they are where there is none
+-- the kept offers after a Run: counted up to the cut, and left as they are where there is none. So does the program,
+-- which then need not count; the steps that are found are the same
 abbrev pub kept_by_cut : (cut kept len : ℕ) → ℕ
 kept_by_cut cut kept len = if cut == 0 then kept else kept + min len (cut - kept)
 

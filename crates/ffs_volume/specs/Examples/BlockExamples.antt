@@ -97,7 +97,7 @@ pub record StepExamples : Type 0 where
       (words_at Little (word Little 44) (word Little 48))
       ≡ replicate 13 Gap ++ (Run 40 4 None ∷ Run 44 4 None ∷ Run 48 4 (Some 1036) ∷ [])
 
--- files beside the root
+-- the root, and a file of these steps
 unfoldable pub root : Owner
 root = record { number = 2; class = Dir; steps = Run 36 1 (Some 0) ∷ []; blocks = 2 }
 

@@ -224,7 +224,7 @@ pub record PathnameExamples : Type 0 where
   -- the root alone, and a cycle: nothing to report
   pub base : pathname_lines (alone (dots 2 2 [])) ≡ []
   pub cycle : pathname_lines lost_cycle ≡ []
-  -- the second of two links; an entry of a lost directory that names no inode
+  -- the second of two links; an entry of a directory below the root that names no inode
   pub second_link : pathname_lines twice ≡ extraneous (47 ∷ 98 ∷ []) (47 ∷ 97 ∷ []) ∷ []
   pub no_inode : pathname_lines (sub (dots 3 2 (entry 99 8 (113 ∷ []) ∷ [])))
       ≡ out_of_range 99 (47 ∷ 97 ∷ 47 ∷ 113 ∷ []) ∷ []
@@ -238,7 +238,7 @@ pub record PathnameExamples : Type 0 where
   pub wrong_dots : pathname_lines (sub (entry 2 8 one_dot ∷ entry 3 8 two_dots ∷ []))
       ≡ number_dot (about 3) (47 ∷ 97 ∷ []) ∷ kind_dot (about 3) (47 ∷ 97 ∷ []) ∷ number_dotdot (about 3) (47 ∷ 97 ∷ [])
       ∷ kind_dotdot (about 3) (47 ∷ 97 ∷ []) ∷ []
-  -- whiteouts, an inode that is free, another type, and the root entered
+  -- a whiteout that is right and two that aren't; the root entered, with another type
   pub whiteouts : pathname_lines (alone (dots 2 2 (entry 1 14 (97 ∷ []) ∷ entry 1 8 (98 ∷ []) ∷ entry 2 14 (99 ∷ [])
       ∷ []))) ≡ whiteout 1 (47 ∷ 98 ∷ []) ∷ whiteout 2 (47 ∷ 99 ∷ []) ∷ []
   pub root_entered : pathname_lines (alone (dots 2 2 (entry 2 8 (97 ∷ []) ∷ [])))

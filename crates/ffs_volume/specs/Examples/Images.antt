@@ -93,8 +93,8 @@ fault_of image sector = result_err (outcome image sector)
 abbrev pub fault_with : List ℕ → List ℕ → Option SuperFault
 fault_with primary copy = fault_of (image_of primary copy) None
 
--- the same with a second group, which is cut short by the volume's size and whose parts begin four fragments above its
--- base
+-- the layout of `base_layout` with a second group, which is cut short by the volume's size and whose parts begin four
+-- fragments above its base
 unfoldable pub two_groups : Order → Layout
 two_groups order = record {
   order = order;
@@ -147,7 +147,7 @@ base_group o =
     ++ (word o 2 ++ (zeros 16 ++ (zeros 8 ++ (word o 168 ++ (word o 172 ++ (zeros 68
     ++ ((7 ∷ 0 ∷ 0 ∷ 0 ∷ 0 ∷ 0 ∷ 0 ∷ 0 ∷ 238 ∷ []) ++ replicate 11 255)))))))))))))))))
 
--- the whole image, as far as it isn't zero
+-- the whole image: 131,072 bytes
 unfoldable pub base_image : Order → List ℕ
 base_image o =
     zeros 8192 ++ (base_super o ++ (zeros 6816 ++ (base_super o

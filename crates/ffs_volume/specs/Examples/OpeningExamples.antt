@@ -88,7 +88,7 @@ pub record SuperblockExamples : Type 0 where
       (changed Little 152 44 (base_super Little))))))))) ≡ Some Shape
 
 pub record AreaExamples : Type 0 where
-  -- which fragments are data fragments
+  -- which fragments are in range: 0 to 15 are, as the boot area, but they are reserved
   pub ok : map (is_fragment_in_range (base_layout Little)) (0 ∷ 15 ∷ 16 ∷ 31 ∷ 32 ∷ 127 ∷ 128 ∷ [])
       ≡ true ∷ true ∷ false ∷ false ∷ true ∷ true ∷ false ∷ []
   pub reserved : map (is_reserved (base_layout Little)) (0 ∷ 31 ∷ 32 ∷ 33 ∷ 127 ∷ [])

@@ -40,7 +40,8 @@ is_free_block bits = list_all (λ b. b) bits
 abbrev pub stretch_of : ℕ → List ℕ
 stretch_of n = if n == 0 then [] else n ∷ []
 
--- the lengths of the longest stretches of free fragments, in order, where n free ones come just before
+-- the lengths of the stretches of free fragments, each as long as it can be, in order, where n free ones come just
+-- before
 abbrev pub free_stretches : (n : ℕ) (bits : List Bool) → List ℕ
 free_stretches n [] = stretch_of n
 free_stretches n (true ∷ bits) = free_stretches (n + 1) bits
@@ -141,7 +142,8 @@ has_right_maps v free class c block =
     has_bits block (inode_map_place v block) v.ipg (λ k. is_used_inode class (c * v.ipg + k))
     && has_bits block (fragment_map_place v block) (group_size v c) (λ k. free (cgbase v c + k))
 
--- the group's number, its number of fragments, its summary and its frsum are right (cgx, ndblk, cs, frsum)
+-- the group's number, its number of fragments, its summary and its frsum are right (cgx, ndblk, cs, frsum); no other
+-- field of the header is compared
 unfoldable pub has_right_sums : (v : Layout) (free : ℕ → Bool) (class : ℕ → Class) (c : ℕ) (block : List ℕ) → Bool
 has_right_sums v free class c block =
     u32_at v.order 12 block == c && (u32_at v.order 20 block == group_size v c

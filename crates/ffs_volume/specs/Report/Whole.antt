@@ -45,8 +45,8 @@ free_frags s = slice_index_or s.cstotal 3 (pos 0)
 abbrev pub free_blocks : Superblock → ℤ
 free_blocks s = slice_index_or s.cstotal 1 (pos 0)
 
--- the summary, the last message of a report: free fragments in all, and the share of those that are in blocks that
--- aren't all free, in tenths of a percent, rounded toward zero
+-- the summary, the last message of a report: the free fragments in all; and those of them that are in blocks that
+-- aren't all free, as a share of the volume's data fragments (dsize), in tenths of a percent, rounded toward zero
 abbrev pub summary_of : (s : Superblock) (files used : ℕ) → Message
 summary_of s files used =
     summary files used (free_frags s +ℤ pos s.layout.frag *ℤ free_blocks s) (free_frags s) (free_blocks s)
