@@ -12,12 +12,13 @@ use ffs_walk::{Blocks, Window};
 use std::alloc::{AllocError, Global};
 use std::test::Fail;
 
+// An entry of a directory, whose name is cut to the 255 bytes that an entry has at most.
 fn entry<'a>(number: u32, name: &'a [u8]) -> Entry<'a> {
     Entry {
         number,
         length: 12,
         kind: 4,
-        name,
+        name: &name[..name.len().min(255)],
     }
 }
 
