@@ -3,15 +3,17 @@
 -- Class and LAYOUT_PLACES, is declared in src/lib.rt, numbers of the format in src/constants.rt, and texts in
 -- src/texts.rt. `v` is a layout, `vol` a volume as the checks of directories see it, and `g` its graph. `abbrev` and
 -- `unfoldable` both begin a definition: they and a line `unfolding` differ for proofs alone. On natural numbers `-`
--- stops at 0, and `/` and `%` are those of integers. `x.now` is the value of a constant of the program.
--- `record s { f = x }` is s with another f, `λ x. e` is a function, and `(x : A) × B` says that there is an x. Past
--- the end of a list `slice_index` is 0, and `slice_index_or` is its last argument; `take` and `drop` give what there
--- is. `range_with_len a n` are the n numbers from a on. `count_by`, `sum_by` and `flat_map` count, add and join over a
--- list. `decimal` and `signed_decimal` are the digits of a number, `div_ceil` is the quotient rounded up, `cond b x y`
--- is x where b holds, else y. `==` is a test, and `≡` a statement. Between statements `×` is "and", `⊎` is "or", `≢`
--- is "is not" and `Unit {0}` asks nothing; `IsSomeAnd o p` says that o has a value, and that p holds of it. `Type 0` is
--- the type of statements. `[]` is an empty list, `x ∷ xs` has x before a list, and `++` joins two. `zero` is 0 and
--- `suc n` is n + 1. Of an integer `pos n` is n, and `negsuc n` is -(n + 1). The root is inode 2.
+-- stops at 0, and `/` and `%` are those of integers. `x.now` is the value of a constant of the program. `record s { f =
+-- x }` is s with another f, `λ x. e` is a function, and `(x : A) × B` says that there is an x. Past the end of a list
+-- `slice_index` is 0, and `slice_index_or` is its last argument; `take` and `drop` give what there is. `range_with_len
+-- a n` are the n numbers from a on. `count_by`, `sum_by` and `flat_map` count, add and join over a list. `decimal` and
+-- `signed_decimal` are the digits of a number, `div_ceil` is the quotient rounded up, `cond b x y` is x where b holds,
+-- else y. `==` is a test, and `≡` a statement. Between statements `×` is "and", `⊎` is "or", `≢` is "is not" and `Unit
+-- {0}` asks nothing; `IsSomeAnd o p` says that o has a value, and that p holds of it. `A → B` between statements is "if
+-- A then B", and `(x : A) → P` says that P holds of each x. A record of `Type 0` is a statement, and asks all its
+-- fields; a field that is a number or a list says that there is one. `[]` is an empty list, `x ∷ xs` has x before a
+-- list, and `++` joins two. `zero` is 0 and `suc n` is n + 1. Of an integer `pos n` is n, and `negsuc n` is -(n + 1).
+-- The root is inode 2.
 pub mod Disk
 pub mod Blocks
 pub mod Messages

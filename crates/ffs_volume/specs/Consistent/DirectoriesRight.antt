@@ -17,13 +17,16 @@ pub record IsDirSize (size : ℕ) : Type 0 where
   pub some : 0 < size
   pub whole : size % DIRBLKSIZ ≡ 0
 
--- a whiteout, or an inode's number with the type of its mode
+-- what a plain entry must be: a whiteout, which has the number 1 and the type DT_WHT, or an entry with the number of an
+-- allocated inode and the type of that inode's mode
 abbrev pub IsPlainRight : Volume → Entry → Type 0
 IsPlainRight vol e =
     ((e.number ≡ WINO) × (e.kind ≡ DT_WHT))
     ⊎ ((is_allocated_inode vol e.number ≡ true) × (e.kind ≡ type_of (vol.inode e.number).mode))
 
--- a directory holds what it should, whatever the others hold
+-- what is asked of one directory, whatever entries others have: a size, no hole, well formed entries that fill each
+-- chunk, `.` first with the directory's own number, `..` second, no other of the two, and plain entries that are right.
+-- The number of `..` is asked in `IsLinked`
 pub record IsDirRight (vol : Volume) (d : ℕ) : Type 0 where
   pub size : IsDirSize (vol.inode d).size
   pub gap : vol.gap d ≡ false

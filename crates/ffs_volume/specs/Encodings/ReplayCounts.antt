@@ -19,12 +19,13 @@ abbrev pub replayed_runs : Layout → ℕ → Replay → List Step → ℕ
 replayed_runs v cut r [] = 0
 replayed_runs v cut r (step ∷ steps) = seen_run cut r step + replayed_runs v cut (replay_step v cut r step) steps
 
--- the kept offers after a Run: counted up to the cut, and left as they are where there is none. So does the program,
--- which then need not count; the steps that are found are the same
+-- the kept offers after a Run, as the program counts them: up to the cut; with the cut 0 the number stays, and nothing
+-- needs it. `is_replay_open` doesn't look at it then, and `is_replayed` asks whether its own `replay_step` would raise
+-- it by the whole Run, so both answer as they do in a state of `replay_step`
 abbrev pub kept_by_cut : (cut kept len : ℕ) → ℕ
 kept_by_cut cut kept len = if cut == 0 then kept else kept + min len (cut - kept)
 
--- the state after a Run, counted so
+-- `replay_run` with kept offers as `kept_by_cut` counts them
 abbrev pub replay_run_by_cut : (v : Layout) (cut : ℕ) (r : Replay) (start len : ℕ) → Replay
 replay_run_by_cut v cut r start len =
     if is_run_in_range v start len
@@ -33,7 +34,7 @@ replay_run_by_cut v cut r start len =
     then record { bad = r.bad + 1; kept = r.kept }
     else record { bad = r.bad + 1; kept = kept_by_cut cut r.kept len })
 
--- the state after a step, counted so
+-- `replay_step` in the same way: the state that the program has after a step
 abbrev pub replay_step_by_cut : Layout → ℕ → Replay → Step → Replay
 replay_step_by_cut v cut r (Run start len block) =
     if is_replay_open cut r then replay_run_by_cut v cut r start len else r

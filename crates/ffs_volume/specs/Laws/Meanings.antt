@@ -18,8 +18,8 @@ use Rattle.ffs_volume.specs.Directories.Graph.{Graph, level}
 use Rattle.ffs_volume.specs.Directories.Levels.{IsLevel}
 use Rattle.ffs_volume.specs.Directories.Paths.{dir_path, entry_path}
 
--- the kept offers are a prefix of the offers of the fragments fs to inode i, and all of them unless the inode is cut
--- (`over`)
+-- the kept offers are the first of the offers of the fragments fs to inode i, in order: with some `rest` after them
+-- they are all of them, and `rest` is empty unless the inode is cut (`over`)
 pub record KeptPrefix (i : ℕ) (kept : List Offer) (fs : List ℕ) (over : Bool) : Type 0 where
   pub rest : List Offer
   pub parts : kept ++ rest ≡ map (offer_at i) fs
@@ -30,13 +30,14 @@ abbrev pub KeptAreFirst : Type 0
 KeptAreFirst = (v : Layout) (inode : ℕ) (s : Claims) (steps : List Step) →
     KeptPrefix inode (kept_in_steps v inode s steps) (fragments_of steps) (not (is_open (after_steps v s steps)))
 
--- the list has well formed entries, one after the other from a place on
+-- the list is of well formed entries of the chunk: the first is at the place, and each other where the one before ends;
+-- it need not reach as far as it could
 abbrev pub AreEntries : (order : Order) (chunk : List ℕ) (place : ℕ) (es : List Entry) → Type 0
 AreEntries order chunk place [] = Unit {0}
 AreEntries order chunk place (e ∷ es) =
     (entry_at order chunk place ≡ Some e) × AreEntries order chunk (place + e.length) es
 
--- a list of well formed entries from the start, of which each other such list is a prefix
+-- a list of well formed entries from the start; each other such list is the first part of it
 pub record IsLongest (order : Order) (chunk : List ℕ) (entries : List Entry) : Type 0 where
   pub are : AreEntries order chunk 0 entries
   pub longest : (es : List Entry) → AreEntries order chunk 0 es → (rest : List Entry) × (entries ≡ es ++ rest)
