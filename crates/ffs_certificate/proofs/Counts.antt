@@ -5,7 +5,7 @@ use Rattle.std.proofs.Common.{sym, ap, subst}
 use Rattle.std.proofs.lemmas.Bool.{eqb-true, eqb-false, eq-eqb, ne_eqb, ltb-true, and_parts, not-false, not_from_true}
 use Rattle.ffs_volume.specs.Blocks.Inodes.{is_allocated}
 use Rattle.ffs_volume.specs.Directories.Roles.{Volume, is_inode, is_allocated_inode, references}
-use Rattle.ffs_volume.specs.Messages.Kinds.{NameMessage, reported, unref_dir, dead_marked, dead_zero, unref}
+use Rattle.ffs_volume.specs.Messages.Kinds.{TreeMessage, reported, unref_dir, dead_marked, dead_zero, unref}
 use Rattle.ffs_volume.specs.Messages.Kinds.{unref_unlinked, link_count}
 use Rattle.ffs_volume.specs.Directories.PathnameCheck.{attributes, label_of}
 use Rattle.ffs_volume.specs.Directories.Connectivity.{is_dead, is_unref_dir_of, connectivity_lines}
@@ -31,12 +31,12 @@ pub record IsCountQuiet (v : Volume) (i : ℕ) : Type 0 where
   pub some : references v i ≢ 0
   pub same : equals_natural (v.inode i).nlink (references v i) ≡ true
 
-either-some : (b : Bool) (m n : NameMessage) → (if b then m ∷ [] else n ∷ []) ≡ [] → ⊥
+either-some : (b : Bool) (m n : TreeMessage) → (if b then m ∷ [] else n ∷ []) ≡ [] → ⊥
 either-some true m n h = absurd (cc)
 either-some false m n h = absurd (cc)
 
 -- the first of two is never silent
-first-quiet : (b : Bool) (xs ys : List NameMessage) → (xs ≡ [] → ⊥) → (if b then xs else ys) ≡ [] → (b ≡ false)
+first-quiet : (b : Bool) (xs ys : List TreeMessage) → (xs ≡ [] → ⊥) → (if b then xs else ys) ≡ [] → (b ≡ false)
     × (ys ≡ [])
 first-quiet true xs ys n h = absurd (n h)
 first-quiet false xs ys n h = (refl, h)

@@ -14,9 +14,10 @@ use Rattle.ffs_volume.specs.Directories.Parents.{graph_of, nth_roled}
 use Rattle.ffs_volume.specs.Directories.Paths.{dir_path, entry_path}
 use Rattle.ffs_volume.specs.Messages.Kinds.{reported, out_of_range, whiteout, unallocated, extraneous, kind_entry}
 use Rattle.ffs_volume.specs.Messages.Kinds.{extra_dot, extra_dotdot}
-use Rattle.ffs_volume.specs.Directories.PathnameCheck.{attributes, label_of, roled_lines, roled_reported}
+use Rattle.ffs_volume.specs.Directories.PathnameCheck.{attributes, label_of, roled_lines, entry_role_lines}
 use Rattle.ffs_volume.specs.Directories.PathnameCheck.{lines_of_entries, plain_lines, named_lines, is_bad_whiteout}
-use Rattle.ffs_volume.specs.Directories.PathnameCheck.{reports_suspect, suspect_reported, is_extraneous, has_wrong_type}
+use Rattle.ffs_volume.specs.Directories.PathnameCheck.{is_first_name_of_suspect, message_on_suspect, is_extraneous}
+use Rattle.ffs_volume.specs.Directories.PathnameCheck.{has_wrong_type}
 use Rattle.ffs_volume.specs.Directories.PathnameCheck.{extra_lines}
 use Rattle.ffs_certificate.proofs.Silence.{nil-left, nil-right, nil-both, reported-quiet, reported-silent, if-quiet}
 use Rattle.ffs_certificate.proofs.Silence.{if-silent, else-quiet, else-silent}
@@ -24,7 +25,7 @@ use Rattle.ffs_certificate.proofs.Silence.{if-silent, else-quiet, else-silent}
 -- a plain entry that names an inode from 2 on
 pub record IsNamedQuiet (v : Volume) (s j : ℕ) (e : Entry) : Type 0 where
   pub allocated : is_allocated (v.class e.number) ≡ true
-  pub suspect : reports_suspect v s j e.number ≡ false
+  pub suspect : is_first_name_of_suspect v s j e.number ≡ false
   pub link : is_extraneous v s j e.number ≡ false
   pub kind : has_wrong_type v e ≡ false
 
@@ -38,17 +39,17 @@ named-quiet : (v : Volume) (s j : ℕ) (e : Entry) → is_allocated (v.class e.n
     IsNamedQuiet v s j e
 unfolding named_lines
 named-quiet v s j e a h =
-    let one = nil-left (reported (reports_suspect v s j e.number)
-    (suspect_reported v e.number (entry_path (graph_of v) s e.name))) _ h in
-    let rest = nil-right (reported (reports_suspect v s j e.number)
-    (suspect_reported v e.number (entry_path (graph_of v) s e.name))) _ h in
+    let one = nil-left (reported (is_first_name_of_suspect v s j e.number)
+    (message_on_suspect v e.number (entry_path (graph_of v) s e.name))) _ h in
+    let rest = nil-right (reported (is_first_name_of_suspect v s j e.number)
+    (message_on_suspect v e.number (entry_path (graph_of v) s e.name))) _ h in
     let two = nil-left (reported (is_extraneous v s j e.number)
     (extraneous (entry_path (graph_of v) s e.name) (dir_path (graph_of v) e.number))) _ rest in
     let three = nil-right (reported (is_extraneous v s j e.number)
     (extraneous (entry_path (graph_of v) s e.name) (dir_path (graph_of v) e.number))) _ rest in
     record {
       allocated = a;
-      suspect = reported-quiet _ (suspect_reported v e.number (entry_path (graph_of v) s e.name)) one;
+      suspect = reported-quiet _ (message_on_suspect v e.number (entry_path (graph_of v) s e.name)) one;
       link = reported-quiet _ (extraneous (entry_path (graph_of v) s e.name) (dir_path (graph_of v) e.number)) two;
       kind = reported-quiet _ (kind_entry (attributes v e.number) (label_of (v.class e.number))
           (entry_path (graph_of v) s e.name)) three;
@@ -57,9 +58,9 @@ named-quiet v s j e a h =
 named-silent : (v : Volume) (s j : ℕ) (e : Entry) → IsNamedQuiet v s j e → named_lines v s j e ≡ []
 unfolding named_lines
 named-silent v s j e q =
-    nil-both (reported (reports_suspect v s j e.number)
-    (suspect_reported v e.number (entry_path (graph_of v) s e.name))) _
-    (reported-silent _ (suspect_reported v e.number (entry_path (graph_of v) s e.name)) q.suspect)
+    nil-both (reported (is_first_name_of_suspect v s j e.number)
+    (message_on_suspect v e.number (entry_path (graph_of v) s e.name))) _
+    (reported-silent _ (message_on_suspect v e.number (entry_path (graph_of v) s e.name)) q.suspect)
     (nil-both (reported (is_extraneous v s j e.number)
     (extraneous (entry_path (graph_of v) s e.name) (dir_path (graph_of v) e.number))) _
     (reported-silent _ (extraneous (entry_path (graph_of v) s e.name) (dir_path (graph_of v) e.number)) q.link)
@@ -107,15 +108,15 @@ pub seen-quiet : (v : Volume) (s j : ℕ) (e : RoledEntry) → roled_lines v s j
 unfolding roled_lines
 seen-quiet v s j e h = record {
   no_extra = λ x. extra_reported-some (attributes v s) (dir_path (graph_of v) s) e.entry
-      (sym (ap (λ r. roled_reported v s j r e.entry) x) ∙ h);
-  plain = λ x. plain-quiet v s j e.entry (sym (ap (λ r. roled_reported v s j r e.entry) x) ∙ h);
+      (sym (ap (λ r. entry_role_lines v s j r e.entry) x) ∙ h);
+  plain = λ x. plain-quiet v s j e.entry (sym (ap (λ r. entry_role_lines v s j r e.entry) x) ∙ h);
 }
 
 pub seen-silent : (v : Volume) (s j : ℕ) (e : RoledEntry) → IsSeenQuiet v s j e → roled_lines v s j e ≡ []
 unfolding roled_lines
 seen-silent v s j e q = go e.role refl
   where
-    go : (r : Role) → e.role ≡ r → roled_reported v s j r e.entry ≡ []
+    go : (r : Role) → e.role ≡ r → entry_role_lines v s j r e.entry ≡ []
     go Empty x = refl
     go Dot x = refl
     go Dotdot x = refl

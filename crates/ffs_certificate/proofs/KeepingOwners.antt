@@ -98,7 +98,8 @@ skip_offers v i b s e (f ∷ fs) c h =
       rest.0,
       rest.1,
       ap (λ k. (if k then offer_of (counted_offer i b f) ∷ [] else [])
-          ++ kept_by_rule v (offer_verdict v e (counted_offer i b f) ∷ e) (map (counted_offer i b) fs)) no_keep ∙ rest.2,
+          ++ kept_by_rule v (offer_verdict v e (counted_offer i b f) ∷ e) (map (counted_offer i b) fs)) no_keep
+          ∙ rest.2,
     )
 
 -- the fold's state between steps, and what was judged

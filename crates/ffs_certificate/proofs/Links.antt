@@ -85,7 +85,8 @@ links-right v two all = (
               let b : Some j ≡ Some e.1 = sym q.1 ∙ e.2.1 in
               (cc, cc);
         };
-    root = λ s j. false_from_ne_true (dir_names_at v s j 2) (λ t. let q = none s j 2 t two in let z : None ≡ Some j = q.1 in
+    root = λ s j. false_from_ne_true (dir_names_at v s j 2)
+        (λ t. let q = none s j 2 t two in let z : None ≡ Some j = q.1 in
         cc);
   }),
   (λ right s j d t h. elim (cases_eq d 2) [

@@ -18,8 +18,8 @@ use Rattle.ffs_certificate.proofs.BlocksSilent.{phase1_silent, phase1b_silent}
 use Rattle.ffs_volume.specs.Groups.Records.{GroupsRight}
 use Rattle.ffs_volume.specs.Groups.GroupCheck.{phase5_lines, is_free_of_kept}
 use Rattle.ffs_certificate.proofs.GroupLaws.{phase5_silent, same_free}
-use Rattle.ffs_volume.specs.Messages.Kinds.{Message, NameMessage, optimization, minfree, mounted, phase1b, of_blocks}
-use Rattle.ffs_volume.specs.Messages.Kinds.{of_names, is_defect, has_defect}
+use Rattle.ffs_volume.specs.Messages.Kinds.{Message, TreeMessage, optimization, minfree, mounted, phase1b, of_blocks}
+use Rattle.ffs_volume.specs.Messages.Kinds.{of_tree, is_defect, has_defect}
 use Rattle.ffs_volume.specs.Report.Opening.{before_nul, is_optimization, is_minfree, message_unless, setting_lines}
 use Rattle.ffs_volume.specs.Report.Opening.{super_lines}
 use Rattle.ffs_volume.specs.Blocks.Inodes.{is_directory}
@@ -47,15 +47,15 @@ silent_blocks : (ms : List BlockMessage) → has_defect (map of_blocks ms) ≡ f
 silent_blocks [] h = refl
 silent_blocks (m ∷ ms) h = absurd (cc)
 
-silent_names : (ms : List NameMessage) → has_defect (map of_names ms) ≡ false → ms ≡ []
+silent_names : (ms : List TreeMessage) → has_defect (map of_tree ms) ≡ false → ms ≡ []
 silent_names [] h = refl
 silent_names (m ∷ ms) h = absurd (cc)
 
 quiet_blocks : (ms : List BlockMessage) → ms ≡ [] → has_defect (map of_blocks ms) ≡ false
 quiet_blocks ms e = ap (λ ms. has_defect (map of_blocks ms)) e
 
-quiet_names : (ms : List NameMessage) → ms ≡ [] → has_defect (map of_names ms) ≡ false
-quiet_names ms e = ap (λ ms. has_defect (map of_names ms)) e
+quiet_names : (ms : List TreeMessage) → ms ≡ [] → has_defect (map of_tree ms) ≡ false
+quiet_names ms e = ap (λ ms. has_defect (map of_tree ms)) e
 
 kept_line : (b : Bool) (line : Message) → is_defect line ≡ true → has_defect (message_unless b line) ≡ false → b ≡ true
 kept_line true line d h = refl
@@ -136,8 +136,8 @@ later_say : (image : List ℕ) (super : Superblock) → has_defect (later_phase_
     AreLaterSilent image super
 unfolding later_phase_lines
 later_say image super h =
-    let p = quiet_parts (map of_names (connectivity_lines (volume_of super.layout image))) _ h in
-    let q = quiet_parts (map of_names (reference_lines (volume_of super.layout image))) _ p.1 in
+    let p = quiet_parts (map of_tree (connectivity_lines (volume_of super.layout image))) _ h in
+    let q = quiet_parts (map of_tree (reference_lines (volume_of super.layout image))) _ p.1 in
     let r = quiet_parts (map of_blocks
     (phase5_lines super.layout image super.cstotal (is_free_of_kept super.layout (owners_of super.layout image))
     (class_at super.layout image))) _ q.1 in
@@ -147,8 +147,8 @@ later_quiet : (image : List ℕ) (super : Superblock) → AreLaterSilent image s
     has_defect (later_phase_lines image super) ≡ false
 unfolding later_phase_lines
 later_quiet image super s =
-    quiet_from (map of_names (connectivity_lines (volume_of super.layout image))) _ (quiet_names _ s.connectivity)
-    (quiet_from (map of_names (reference_lines (volume_of super.layout image))) _ (quiet_names _ s.references)
+    quiet_from (map of_tree (connectivity_lines (volume_of super.layout image))) _ (quiet_names _ s.connectivity)
+    (quiet_from (map of_tree (reference_lines (volume_of super.layout image))) _ (quiet_names _ s.references)
     (quiet_from (map of_blocks
     (phase5_lines super.layout image super.cstotal (is_free_of_kept super.layout (owners_of super.layout image))
     (class_at super.layout image))) _ (quiet_blocks _ s.groups) refl))
@@ -165,7 +165,7 @@ unfolding phase_lines
 text_say image super h =
     let p = quiet_parts (map of_blocks (phase1_lines super.layout (owners_of super.layout image))) _ h in
     let q = quiet_parts (rescan_lines super.layout image) _ p.1 in
-    let r = quiet_parts (map of_names (pathname_lines (volume_of super.layout image))) _ q.1 in
+    let r = quiet_parts (map of_tree (pathname_lines (volume_of super.layout image))) _ q.1 in
     let names = silent_names (pathname_lines (volume_of super.layout image)) r.0 in
     record {
       blocks = silent_blocks _ p.0;
@@ -190,7 +190,7 @@ unfolding phase_lines
 text_quiet image super again s =
     quiet_from (map of_blocks (phase1_lines super.layout (owners_of super.layout image))) _ (quiet_blocks _ s.blocks)
     (quiet_from (rescan_lines super.layout image) _ (rescan_quiet super.layout image again)
-    (quiet_from (map of_names (pathname_lines (volume_of super.layout image))) _ (quiet_names _ s.pathnames)
+    (quiet_from (map of_tree (pathname_lines (volume_of super.layout image))) _ (quiet_names _ s.pathnames)
     (ap (λ b. has_defect (if b then later_phase_lines image super else []))
     (root_there (volume_of super.layout image) s.pathnames) ∙ later_quiet image super s.later)))
 

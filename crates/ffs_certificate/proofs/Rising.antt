@@ -12,8 +12,8 @@ use Rattle.std.proofs.lemmas.List.Folds.{list_all-append}
 use Rattle.ffs_volume.specs.declared.Step.{Step}
 use Rattle.ffs_volume.specs.declared.Step.TheVariants.{Run, Gap}
 use Rattle.ffs_volume.specs.Disk.Areas.{is_run_in_range}
-use Rattle.ffs_volume.specs.Blocks.Inodes.{logical_blocks_of, addresses_for}
-use Rattle.ffs_volume.specs.Blocks.Steps.{FileBlocks, address_at, block_bytes, any_address_from, used_addresses}
+use Rattle.ffs_volume.specs.Blocks.Inodes.{logical_blocks_of, addresses_needed}
+use Rattle.ffs_volume.specs.Blocks.Steps.{FileBlocks, address_at, block_bytes, any_address_from, block_addresses_used}
 use Rattle.ffs_volume.specs.Blocks.Steps.{tail_of, data_length, span_of, steps_at, indirection_of, first_block}
 use Rattle.ffs_volume.specs.Blocks.Steps.{steps_of_addresses, walks, last_of, steps_of}
 use Rattle.ffs_volume.proofs.StepLaws.{one_more, span_more, next_first, used_most}
@@ -74,7 +74,8 @@ span_some words (suc level) some =
     omega (arith, rest, more, whole)
 
 -- the logical blocks under a word that is used
-word_below : (words nb first span j : ℕ) → 0 < span → j < used_addresses words nb first span → first + j * span < nb
+word_below : (words nb first span j : ℕ) → 0 < span → j < block_addresses_used words nb first span → first + j * span
+    < nb
 word_below words nb first span j some lt =
     let few : j + 1 ≤ div_ceil (nb - first) span = omega (arith, lt) in
     let bound = (div_ceil_times (nb - first) span some).1 in
@@ -118,11 +119,11 @@ at_within t bytes (suc level) address first lt = one (nat_eq address 0) (λ a b 
     span = span_of t.layout.nindir level
 
     used : ℕ
-    used = used_addresses t.layout.nindir t.blocks first (span_of t.layout.nindir level)
+    used = block_addresses_used t.layout.nindir t.blocks first (span_of t.layout.nindir level)
 
     found : Bool
     found = any_address_from t.layout (block_bytes t.layout bytes address)
-        (used_addresses t.layout.nindir t.blocks first (span_of t.layout.nindir level))
+        (block_addresses_used t.layout.nindir t.blocks first (span_of t.layout.nindir level))
 
     f : ℕ → List Step
     f = λ j. steps_at t bytes level (address_at t.layout bytes address j)
@@ -177,7 +178,7 @@ low_first : (words i : ℕ) → i < 13 → first_block words i ≡ i
 low_first words i h = ap (λ b. if b then i else (if nat_eq i 13 then 12 + words else 12 + words + words * words))
     (lt-ltb i 13 h)
 
-first_below : (words blocks i : ℕ) → i < addresses_for words blocks → first_block words i < blocks
+first_below : (words blocks i : ℕ) → i < addresses_needed words blocks → first_block words i < blocks
 first_below words blocks i h = one (nat_lt blocks 13) refl h
   where
     top : (c : Bool) → nat_lt (12 + words + words * words) blocks ≡ c → nat_lt (12 + words) blocks ≡ true → 13 ≤ blocks
@@ -227,7 +228,7 @@ after t bytes addresses next (suc n) le r =
     (sym (next_first t.layout.nindir next (omega (arith, le)))) r
 
 addresses_go : (t : FileBlocks) (bytes addresses : List ℕ) (next count : ℕ) → next + count ≤ 15 →
-    next + count ≤ addresses_for t.layout.nindir t.blocks →
+    next + count ≤ addresses_needed t.layout.nindir t.blocks →
     Goes t (first_block t.layout.nindir next) (steps_of_addresses t bytes addresses next count)
 addresses_go t bytes addresses next zero le used = record { rising = tt; below = refl }
 addresses_go t bytes addresses next (suc count) le used =
@@ -269,7 +270,7 @@ all_blocks_rise v i image =
     most true = omega arith
     most false = omega arith
 
-    steps : Goes t 0 (steps_of_addresses t image i.addresses 0 (addresses_for v.nindir nb))
+    steps : Goes t 0 (steps_of_addresses t image i.addresses 0 (addresses_needed v.nindir nb))
     steps =
         let few = used_most v.nindir nb in
-        addresses_go t image i.addresses 0 (addresses_for v.nindir nb) (omega (arith, few)) (omega arith)
+        addresses_go t image i.addresses 0 (addresses_needed v.nindir nb) (omega (arith, few)) (omega arith)

@@ -37,14 +37,14 @@ use Rattle.std.specs.Prelude.{◌≡◌, [], pos}
 use Rattle.ffs_volume.specs.declared.BlockMessage.TheVariants.{Dup}
 use Rattle.ffs_volume.specs.declared.Label.TheVariants.{File as FileLabel}
 use Rattle.ffs_volume.specs.Messages.Kinds.{mounted, phase1, phase1b, phase2, phase3, phase4, phase5, of_blocks}
-use Rattle.ffs_volume.specs.Messages.Kinds.{of_names, summary, dup_bad}
+use Rattle.ffs_volume.specs.Messages.Kinds.{of_tree, summary, dup_bad}
 use Rattle.ffs_volume.specs.Directories.Paths.{longest_end, path_bytes, names_down, dir_path, entry_path}
 use Rattle.ffs_volume.specs.Examples.Images.{mount_bytes}
 
 pub shared_lines : report_lines shared_image shared_superblock
     ≡ mounted mount_bytes ∷ phase1 ∷ of_blocks (Dup 37 4) ∷ phase1b ∷ of_blocks (Dup 37 3)
-    ∷ phase2 ∷ of_names (dup_bad (about_file 3) FileLabel (47 ∷ 97 ∷ []))
-    ∷ of_names (dup_bad (about_file 4) FileLabel (47 ∷ 98 ∷ []))
+    ∷ phase2 ∷ of_tree (dup_bad (about_file 3) FileLabel (47 ∷ 97 ∷ []))
+    ∷ of_tree (dup_bad (about_file 4) FileLabel (47 ∷ 98 ∷ []))
     ∷ phase3 ∷ phase4 ∷ phase5 ∷ summary 3 2 (pos 93) (pos 5) (pos 22) (pos 52) ∷ []
 unfolding bytes_in word zeros base_layout base_superblock base_super base_summary base_group root_inode root_chunk
     base_image entry_bytes inode_bytes dir_chunk two_dirs named_dir unnamed_dir shared_summary shared_group shared_image

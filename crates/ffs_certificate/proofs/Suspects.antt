@@ -15,7 +15,7 @@ use Rattle.ffs_volume.specs.Directories.Graph.{entry_names, dir_names, is_named,
 use Rattle.ffs_volume.proofs.Graphs.{IsSane, NoneDead}
 use Rattle.ffs_certificate.proofs.Links.{place_of}
 use Rattle.ffs_volume.specs.Directories.Parents.{graph_of, nth_roled, first_naming_dir, is_first_name}
-use Rattle.ffs_volume.specs.Directories.PathnameCheck.{reports_suspect}
+use Rattle.ffs_volume.specs.Directories.PathnameCheck.{is_first_name_of_suspect}
 use Rattle.ffs_volume.specs.Directories.Connectivity.{is_dead}
 use Rattle.ffs_certificate.specs.Premises.{IsVolume, IsUnmarked}
 use Rattle.ffs_certificate.proofs.Silence.{and_false-from}
@@ -75,11 +75,11 @@ named_reported v vol p d n h z t =
     let two = dir-from_two v d h in
     let number = m.number in
     let not_one : (m.entry.entry.number == 1) ≡ false = ne_eqb m.entry.entry.number 1 (omega arith) in
-    let tells : reports_suspect v f.0 f.1 d ≡ true =
+    let tells : is_first_name_of_suspect v f.0 f.1 d ≡ true =
     and_from (is_suspect v d) (not (d == 2) && is_first_name (graph_of v) f.0 f.1 d) (zero-suspect v d h z)
     (and_from (not (d == 2)) (is_first_name (graph_of v) f.0 f.1 d) (not_from_false _ (ne_eqb d 2 n)) f.2) in
-    both_ways (reports_suspect v f.0 f.1 d)
-    (subst (λ x. reports_suspect v f.0 f.1 x ≡ false) number (quiet.named not_one).suspect) tells
+    both_ways (is_first_name_of_suspect v f.0 f.1 d)
+    (subst (λ x. is_first_name_of_suspect v f.0 f.1 x ≡ false) number (quiet.named not_one).suspect) tells
 
 -- no directory has size 0
 pub none_empty : (v : Volume) → IsVolume v → IsPathnameQuiet v →

@@ -13,7 +13,7 @@ use Rattle.ffs_volume.specs.declared.Inode.{Inode}
 use Rattle.ffs_volume.specs.Disk.Areas.{is_run_in_range}
 use Rattle.ffs_volume.specs.Disk.Geometry.{IsValidLayout}
 use Rattle.ffs_volume.specs.Blocks.Inodes.{inode_of, class_of, type_of, is_known_type, is_too_large, is_any_set}
-use Rattle.ffs_volume.specs.Blocks.Inodes.{addresses_used, is_directory, is_allocated}
+use Rattle.ffs_volume.specs.Blocks.Inodes.{inode_addresses_used, is_directory, is_allocated}
 use Rattle.ffs_volume.specs.Blocks.Steps.{steps_of}
 use Rattle.ffs_volume.specs.Blocks.Owners.{owner_of, owners_of}
 use Rattle.ffs_volume.specs.Blocks.BlockCheck.{is_marked}
@@ -36,8 +36,9 @@ unfolding class_of
 kind_known v i known e =
     let some : (type_of i.mode == 0) ≡ false = ap (λ k. k == 0) e in
     let other : (not (is_known_type (type_of i.mode))
-    || (is_too_large v i || is_any_set (drop (addresses_used v i) i.addresses))) ≡ true =
-    ap (λ k. not (is_known_type k) || (is_too_large v i || is_any_set (drop (addresses_used v i) i.addresses))) e in
+    || (is_too_large v i || is_any_set (drop (inode_addresses_used v i) i.addresses))) ≡ true =
+    ap (λ k. not (is_known_type k) || (is_too_large v i || is_any_set (drop (inode_addresses_used v i) i.addresses)))
+    e in
     known (rw (some, other) refl)
 
 class_number : (v : Layout) (image : List ℕ) (x : ℕ) → is_inode_number v x ≡ true →

@@ -8,7 +8,7 @@ use Rattle.ffs_volume.specs.declared.End.TheVariants.{Consistent}
 use Rattle.ffs_volume.specs.declared.Label.TheVariants.{File as FileLabel}
 use Rattle.ffs_volume.specs.Disk.Superblock.{Superblock}
 use Rattle.ffs_volume.specs.Messages.Kinds.{Message, opening, mounted, phase1, phase1b, phase2, phase3, phase4}
-use Rattle.ffs_volume.specs.Messages.Kinds.{phase5, of_blocks, of_names, summary, dup_bad, root_none, unref_dir}
+use Rattle.ffs_volume.specs.Messages.Kinds.{phase5, of_blocks, of_tree, summary, dup_bad, root_none, unref_dir}
 use Rattle.ffs_volume.specs.Directories.PathnameCheck.{pathname_lines}
 use Rattle.ffs_volume.specs.Directories.Connectivity.{connectivity_lines}
 use Rattle.ffs_volume.specs.Directories.ReferenceCheck.{reference_lines}
@@ -88,11 +88,11 @@ pub record ReportExamples : Type 0 where
   -- two files with one fragment
   pub shared : report_lines shared_image shared_superblock
       ≡ mounted mount_bytes ∷ phase1 ∷ of_blocks (Dup 37 4) ∷ phase1b ∷ of_blocks (Dup 37 3)
-      ∷ phase2 ∷ of_names (dup_bad (about_file 3) FileLabel (47 ∷ 97 ∷ []))
-      ∷ of_names (dup_bad (about_file 4) FileLabel (47 ∷ 98 ∷ []))
+      ∷ phase2 ∷ of_tree (dup_bad (about_file 3) FileLabel (47 ∷ 97 ∷ []))
+      ∷ of_tree (dup_bad (about_file 4) FileLabel (47 ∷ 98 ∷ []))
       ∷ phase3 ∷ phase4 ∷ phase5 ∷ summary 3 2 (pos 93) (pos 5) (pos 22) (pos 52) ∷ []
   -- no root: the run stops
-  pub stopped : phase_lines (zeros 40960) (base_superblock Little) ≡ phase1 ∷ phase2 ∷ of_names root_none ∷ []
+  pub stopped : phase_lines (zeros 40960) (base_superblock Little) ≡ phase1 ∷ phase2 ∷ of_tree root_none ∷ []
   -- a directory below the root, and the same without its name
   pub named_pathnames : pathname_lines (volume_of (base_layout Little) named_dir) ≡ []
   pub named_connected : connectivity_lines (volume_of (base_layout Little) named_dir) ≡ []

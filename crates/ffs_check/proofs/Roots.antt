@@ -4,7 +4,7 @@ use Rattle.std.proofs.Common.{Err}
 use Rattle.ffs_volume.specs.declared.Class.{Class}
 use Rattle.ffs_volume.specs.declared.Class.TheVariants.{Free, Partial, Unknown, File, Dir}
 use Rattle.ffs_volume.specs.Blocks.Inodes.{is_directory}
-use Rattle.ffs_volume.specs.Messages.Kinds.{Message, NameMessage, lines_below, of_names, root_none, root_not_dir}
+use Rattle.ffs_volume.specs.Messages.Kinds.{Message, TreeMessage, lines_below, of_tree, root_none, root_not_dir}
 use Rattle.ffs_volume.specs.Directories.Roles.{Volume}
 use Rattle.ffs_volume.specs.Directories.PathnameCheck.{continues_after_root, lines_of, pathname_lines, root_lines}
 use Rattle.ffs_volume.specs.Directories.PathnameCheck.{root_lines_of}
@@ -19,17 +19,17 @@ use Rattle.ffs_check.specs.Ends.{ReportsBefore}
 use Rattle.ffs_check.proofs.Stages.{Stage, falls, some_more, more_after}
 
 -- a root that is no directory has a line, and after a directory the run continues
-some_root : (v : Volume) (c : Class) (lines : Bool → List NameMessage) (rest : Bool → List Message)
+some_root : (v : Volume) (c : Class) (lines : Bool → List TreeMessage) (rest : Bool → List Message)
     → 0 < length (rest true) →
-    0 < length (map of_names (root_lines_of v c ++ lines (is_directory c)) ++ rest (is_directory c))
-some_root v Free lines rest h = some_more (of_names root_none) _
-some_root v Partial lines rest h = some_more (of_names root_none) _
-some_root v File lines rest h = some_more (of_names root_not_dir) _
-some_root v Unknown lines rest h = some_more (of_names root_not_dir) _
+    0 < length (map of_tree (root_lines_of v c ++ lines (is_directory c)) ++ rest (is_directory c))
+some_root v Free lines rest h = some_more (of_tree root_none) _
+some_root v Partial lines rest h = some_more (of_tree root_none) _
+some_root v File lines rest h = some_more (of_tree root_not_dir) _
+some_root v Unknown lines rest h = some_more (of_tree root_not_dir) _
 some_root v Dir lines rest h = more_after _ (rest true) h
 
 pub root_or_more : (v : Volume) (rest : Bool → List Message) → 0 < length (rest true)
-    → 0 < length (map of_names (pathname_lines v) ++ rest (continues_after_root v))
+    → 0 < length (map of_tree (pathname_lines v) ++ rest (continues_after_root v))
 unfolding pathname_lines root_lines
 root_or_more v rest h = some_root v (v.class 2) (λ on. if on then lines_below (lines_of v) v.count else []) rest h
 

@@ -5,7 +5,7 @@ use Rattle.ffs_image.specs.Device.{Device}
 use Rattle.ffs_phase.specs.Known.{IsContents}
 use Rattle.ffs_volume.specs.declared.Layout.{Layout}
 use Rattle.ffs_volume.specs.Disk.Superblock.{Superblock}
-use Rattle.ffs_volume.specs.Messages.Kinds.{Message, phase1, phase2, phase3, phase4, phase5, of_blocks, of_names}
+use Rattle.ffs_volume.specs.Messages.Kinds.{Message, phase1, phase2, phase3, phase4, phase5, of_blocks, of_tree}
 use Rattle.ffs_volume.specs.Blocks.BlockCheck.{has_rescan, phase1_lines}
 use Rattle.ffs_volume.specs.Blocks.Owners.{owners_of}
 use Rattle.ffs_volume.specs.Directories.Volumes.{volume_of}
@@ -24,13 +24,13 @@ abbrev pub again_part : List ℕ → Superblock → List Message
 again_part image s = rescan_lines s.layout image
 
 abbrev pub names_part : List ℕ → Superblock → List Message
-names_part image s = phase2 ∷ map of_names (pathname_lines (volume_of s.layout image))
+names_part image s = phase2 ∷ map of_tree (pathname_lines (volume_of s.layout image))
 
 abbrev pub links_part : List ℕ → Superblock → List Message
-links_part image s = phase3 ∷ map of_names (connectivity_lines (volume_of s.layout image))
+links_part image s = phase3 ∷ map of_tree (connectivity_lines (volume_of s.layout image))
 
 abbrev pub counts_part : List ℕ → Superblock → List Message
-counts_part image s = phase4 ∷ map of_names (reference_lines (volume_of s.layout image))
+counts_part image s = phase4 ∷ map of_tree (reference_lines (volume_of s.layout image))
 
 abbrev pub groups_part : List ℕ → Superblock → List Message
 groups_part image s = phase5 ∷ group_check_lines image s

@@ -155,7 +155,8 @@ stored_length old new number x n e s = omega (arith, ap length s, length-set old
 -- or what was found of one is kept
 pub ready_stored : (l : Layout) (d : Device) (number : ℕ) (class : Class) (i : Inode) (u w : Workspace) →
     Stored number class i u w →
-    w ≡ record u { kinds = w.kinds; marked = w.marked; cut = w.cut; references = w.references } → IsReady l d u → IsReady l d w
+    w ≡ record u { kinds = w.kinds; marked = w.marked; cut = w.cut; references = w.references } → IsReady l d u
+    → IsReady l d w
 ready_stored l d number class i u w s e r =
     let m = r.made in
     let same : w.windows ≡ u.windows = ap (λ x. x.windows) e in

@@ -13,7 +13,7 @@ use Rattle.ffs_volume.specs.Blocks.Claims.{Claims, next_inode, is_open, is_set, 
 use Rattle.ffs_volume.specs.Blocks.Claims.{after_step, after_steps}
 use Rattle.ffs_volume.proofs.Weights.{cond_holds}
 use Rattle.ffs_volume.specs.Blocks.BlockCheck.{Offer, kept_in_offers, kept_in_run, kept_in_step, kept_in_steps}
-use Rattle.ffs_volume.specs.Blocks.FirstOffers.{offer_at}
+use Rattle.ffs_volume.specs.Blocks.BlockCheck.{offer_at}
 use Rattle.ffs_volume.specs.Encodings.Replay.{cut_of}
 use Rattle.ffs_claims.specs.declared.rescan.Rescan.{Rescan}
 use Rattle.ffs_claims.specs.SecondLook.{step_runs, steps_runs, step_runs_again, steps_runs_again}

@@ -8,8 +8,7 @@ use Rattle.ffs_volume.specs.declared.Step.TheVariants.{Run, Tail, Gap}
 use Rattle.ffs_volume.specs.Blocks.Owners.{Owner, owners_of}
 use Rattle.ffs_volume.specs.Blocks.Claims.{Claims, no_claims, next_inode, is_open}
 use Rattle.ffs_volume.specs.Blocks.Claims.{after_step, after_owner, after_owners}
-use Rattle.ffs_volume.specs.Blocks.BlockCheck.{Offer, kept_in_run}
-use Rattle.ffs_volume.specs.Blocks.FirstOffers.{offer_at}
+use Rattle.ffs_volume.specs.Blocks.BlockCheck.{Offer, kept_in_run, offer_at}
 use Rattle.ffs_maps.specs.Bits.{bits_of}
 use Rattle.ffs_workspace.specs.declared.workspace.Workspace.{Workspace}
 use Rattle.ffs_workspace.specs.Lengths.{set_count}

@@ -2,8 +2,7 @@
 
 ghost use Rattle.std.specs.Prelude.{[], ◌∷◌, OnOk, map};
 ghost use Rattle.std.specs.List.{range_with_len};
-ghost use Rattle.ffs_volume.specs.Blocks.BlockCheck.{first_offer_lines};
-ghost use Rattle.ffs_volume.specs.Blocks.FirstOffers.{offer_at};
+ghost use Rattle.ffs_volume.specs.Blocks.BlockCheck.{first_offer_lines, offer_at};
 ghost use Rattle.ffs_report.specs.Progress.{progress, Says};
 ghost use Rattle.ffs_maps.specs.Bits.{bits_of};
 ghost use Rattle.ffs_claims.specs.Lines.{of_lines};

@@ -9,7 +9,7 @@ use Rattle.ffs_volume.specs.Directories.Parents.{graph_of}
 use Rattle.ffs_volume.specs.Directories.PathnameCheck.{attributes}
 use Rattle.ffs_volume.specs.Directories.Roles.{is_suspect, is_dir}
 use Rattle.ffs_volume.specs.Directories.Volumes.{volume_of}
-use Rattle.ffs_volume.specs.Messages.Kinds.{NameMessage, of_names, lines_below, lines_from, reported, unref_dir}
+use Rattle.ffs_volume.specs.Messages.Kinds.{TreeMessage, of_tree, lines_below, lines_from, reported, unref_dir}
 use Rattle.ffs_survey.specs.Discover.{is_free}
 use Rattle.ffs_survey.specs.Survey.{bool_at, number_at, dir_at}
 use Rattle.ffs_survey.specs.SurveyLaws.{dirs_of_kinds}
@@ -42,7 +42,7 @@ no_line v b w kinds reaches d ek er e h s =
     || leads_cycle (parent g) g.count d) free)
 
 -- the lines from a number on are those from a later one on, where those between have none
-pub lines_later : (lines : ℕ → List NameMessage) (k d e n : ℕ) → d + k ≡ e → e ≤ n →
+pub lines_later : (lines : ℕ → List TreeMessage) (k d e n : ℕ) → d + k ≡ e → e ≤ n →
     ((x : ℕ) → x < e → lines x ≡ []) → lines_from lines d (n - d) ≡ lines_from lines e (n - e)
 unfolding lines_from
 lines_later lines zero d e n at low none =
@@ -51,18 +51,18 @@ lines_later lines zero d e n at low none =
 lines_later lines (suc k) d e n at low none =
     let q : n - d ≡ suc (n - suc d) = omega arith in
     ap (lines_from lines d) q
-    ∙ ap (λ (xs : List NameMessage). xs ++ lines_from lines (suc d) (n - suc d)) (none d (omega arith))
+    ∙ ap (λ (xs : List TreeMessage). xs ++ lines_from lines (suc d) (n - suc d)) (none d (omega arith))
     ∙ lines_later lines k (suc d) e n (omega arith) low none
 
 -- all lines are those from the first directory on that isn't reached
 pub lines_begin : (v : Layout) (b : List ℕ) (w : Workspace) (kinds : List ℕ) (reaches : List Bool) (first : ℕ) →
     kinds ≡ w.kinds.items → reaches ≡ w.reached.items → first ≤ inodes_of v →
     ((x : ℕ) → x < first → is_free kinds reaches x ≡ false) → HoldsClaims v b w → HoldsSurvey v b w →
-    map of_names (connectivity_lines (volume_of v b))
-    ≡ map of_names (lines_from (cut_off_lines (volume_of v b)) first (inodes_of v - first))
+    map of_tree (connectivity_lines (volume_of v b))
+    ≡ map of_tree (lines_from (cut_off_lines (volume_of v b)) first (inodes_of v - first))
 unfolding connectivity_lines
 lines_begin v b w kinds reaches first ek er low free h s =
     let lines = cut_off_lines (volume_of v b) in
-    ap (map of_names) (ap (lines_below lines) (count_is v b) ∙ all_from lines (inodes_of v)
+    ap (map of_tree) (ap (lines_below lines) (count_is v b) ∙ all_from lines (inodes_of v)
     ∙ lines_later lines first 0 first (inodes_of v) (omega arith) low
     (λ x l. no_line v b w kinds reaches x ek er (free x l) h s))

@@ -6,7 +6,7 @@ ghost use Rattle.ffs_phase.specs.Known.{IsContents};
 ghost use Rattle.ffs_phase.specs.Runs.{PhaseRuns};
 ghost use Rattle.ffs_volume.specs.Directories.Connectivity.{connectivity_lines};
 ghost use Rattle.ffs_volume.specs.Messages.Kinds as messages;
-ghost use Rattle.ffs_volume.specs.Messages.Kinds.{of_names};
+ghost use Rattle.ffs_volume.specs.Messages.Kinds.{of_tree};
 ghost use Rattle.ffs_volume.specs.Directories.Volumes.{volume_of};
 ghost use Rattle.ffs_survey.specs.Discover.{is_free};
 ghost use Rattle.ffs_workspace.specs.Holds.{HoldsClaims, HoldsSurvey};
@@ -53,7 +53,7 @@ pub fn phase3<I: Image, W: Output>(
     ensures runs { PhaseRuns (λ bytes. IsContents (I.device image.old).contents bytes
         × HoldsClaims geometry.now.layout bytes workspace.old
         × HoldsSurvey geometry.now.layout bytes workspace.old)
-        (λ bytes. messages.phase3 ∷ map of_names
+        (λ bytes. messages.phase3 ∷ map of_tree
         (connectivity_lines (volume_of geometry.now.layout bytes)))
         (I.device image.old) (I.device image.new) (progress W.sink report.old)
         (progress W.sink report.new) result }

@@ -12,7 +12,7 @@ use Rattle.ffs_volume.specs.declared.Attr.{Attr}
 use Rattle.ffs_volume.specs.declared.Class.TheVariants.{Free, Unknown, File, Dir}
 use Rattle.ffs_volume.specs.declared.Inode.{Inode}
 use Rattle.ffs_volume.specs.Disk.Numbers.{equals_natural}
-use Rattle.ffs_volume.specs.Messages.Kinds.{NameMessage, of_names, lines_from, reported, dead_marked, dead_zero, unref}
+use Rattle.ffs_volume.specs.Messages.Kinds.{TreeMessage, of_tree, lines_from, reported, dead_marked, dead_zero, unref}
 use Rattle.ffs_volume.specs.Messages.Kinds.{unref_unlinked, link_count}
 use Rattle.ffs_volume.specs.Blocks.Inodes.{inode_of, is_allocated}
 use Rattle.ffs_volume.specs.Directories.Roles.{is_allocated_inode, is_inode, is_suspect, references}
@@ -101,13 +101,14 @@ inode_lines_are v b w i inode dead r low f used is e refs =
     let label : label_of (class_of_kind (slice_index w.kinds.items i)) ≡ label_of (class_at v b i) =
     ap (λ k. label_of (class_of_kind k)) (h.kinds i) ∙ same_test label_of refl v b i in
     let counted = references_are v b w i low f used in
-    let start : links_start inode.nlink ≡ links_start (inode_of v b i).nlink = ap (λ (x : Inode). links_start x.nlink) is
+    let start : links_start inode.nlink ≡ links_start (inode_of v b i).nlink = ap (λ (x : Inode). links_start x.nlink)
+    is
     in
     let right : r ≡ references (volume_of v b) i = omega (arith, refs, counted, start) in
     rw (is_dead_is, h.marked i, label, is, right) refl
 
 -- free inodes have no lines: those of the numbers from d on are those of the numbers after them
-skip_none : (lines : ℕ → List NameMessage) (k d n : ℕ) → ((j : ℕ) → j < k → lines (d + j) ≡ []) →
+skip_none : (lines : ℕ → List TreeMessage) (k d n : ℕ) → ((j : ℕ) → j < k → lines (d + j) ≡ []) →
     lines_from lines d (k + n) ≡ lines_from lines (d + k) n
 unfolding lines_from
 skip_none lines zero d n none =
@@ -121,18 +122,18 @@ skip_none lines (suc k) d n none =
     (λ j h. let q : suc d + j ≡ d + suc j = omega arith in ap lines q ∙ none (suc j) (omega (arith, h))) in
     let at : suc d + k ≡ d + suc k = omega arith in
     let more : suc k + n ≡ suc (k + n) = omega arith in
-    ap (lines_from lines d) more ∙ ap (λ (xs : List NameMessage). xs ++ lines_from lines (suc d) (k + n)) first ∙ rest
+    ap (lines_from lines d) more ∙ ap (λ (xs : List TreeMessage). xs ++ lines_from lines (suc d) (k + n)) first ∙ rest
     ∙ ap (λ (e : ℕ). lines_from lines e n) at
 
 pub free_lines : (v : Layout) (b : List ℕ) (w : Workspace) (kinds : List ℕ) (d k n : ℕ) → HoldsClaims v b w →
     kinds ≡ w.kinds.items →
     ((j : ℕ) → j < k → is_allocated (class_of_kind (slice_index kinds (d + j))) ≡ false) → d + k ≤ n →
-    map of_names (lines_from (counted_lines (volume_of v b)) d (n - d))
-    ≡ map of_names (lines_from (counted_lines (volume_of v b)) (d + k) (n - (d + k)))
+    map of_tree (lines_from (counted_lines (volume_of v b)) d (n - d))
+    ≡ map of_tree (lines_from (counted_lines (volume_of v b)) (d + k) (n - (d + k)))
 free_lines v b w kinds d k n h e none low =
     let q : n - d ≡ k + (n - (d + k)) = omega (arith, low) in
-    ap (λ (m : ℕ). map of_names (lines_from (counted_lines (volume_of v b)) d m)) q
-    ∙ ap (λ (xs : List NameMessage). map of_names xs)
+    ap (λ (m : ℕ). map of_tree (lines_from (counted_lines (volume_of v b)) d m)) q
+    ∙ ap (λ (xs : List TreeMessage). map of_tree xs)
     (skip_none (counted_lines (volume_of v b)) k d (n - (d + k))
     (λ j l. no_lines v b w (d + j) h
     (ap (λ (ks : List ℕ). is_allocated (class_of_kind (slice_index ks (d + j)))) (sym e) ∙ none j l)))
@@ -142,10 +143,10 @@ pub same_reported : (dead m m' : Bool) (k k' : ℕ) (attr : Attr) (nlink : ℤ) 
     ≡ reference_reported dead m (label_of (class_of_kind k)) attr nlink r
 same_reported dead m m' k k' attr nlink r r' e f g = rw (e, f, g) refl
 
-pub lines_begin : (v : Layout) (b : List ℕ) → map of_names (reference_lines (volume_of v b))
-    ≡ map of_names (lines_from (counted_lines (volume_of v b)) 0 (inodes_of v - 0))
+pub lines_begin : (v : Layout) (b : List ℕ) → map of_tree (reference_lines (volume_of v b))
+    ≡ map of_tree (lines_from (counted_lines (volume_of v b)) 0 (inodes_of v - 0))
 unfolding reference_lines volume_of volume_with
-lines_begin v b = ap (λ (ls : List NameMessage). map of_names ls)
+lines_begin v b = ap (λ (ls : List TreeMessage). map of_tree ls)
     (all_from (counted_lines (volume_of v b)) (inodes_of v))
 
 -- where each link has its reference, nothing is reported

@@ -5,7 +5,7 @@ use Rattle.ffs_volume.specs.declared.constants.TheConstants.{LINKS_MET, ROOTINO}
 use Rattle.ffs_volume.specs.declared.Attr.{Attr}
 use Rattle.ffs_volume.specs.declared.Label.{Label}
 use Rattle.ffs_volume.specs.Disk.Numbers.{equals_natural}
-use Rattle.ffs_volume.specs.Messages.Kinds.{NameMessage, reported, dead_marked}
+use Rattle.ffs_volume.specs.Messages.Kinds.{TreeMessage, reported, dead_marked}
 use Rattle.ffs_volume.specs.Messages.Kinds.{dead_zero, unref, unref_unlinked, link_count}
 use Rattle.ffs_volume.specs.Encodings.Kinds.{is_empty_dir_kind}
 use Rattle.ffs_workspace.specs.declared.workspace.Workspace.{Workspace}
@@ -14,14 +14,14 @@ use Rattle.ffs_report.specs.Lines.{reference_message}
 use Rattle.ffs_report.specs.declared.line.ReferenceLine.{ReferenceLine}
 
 -- by whether it is dead and marked, what messages show of it, its count of links and how often it is referred to
-abbrev pub reference_reported : Bool → Bool → Label → Attr → ℤ → ℕ → List NameMessage
+abbrev pub reference_reported : Bool → Bool → Label → Attr → ℤ → ℕ → List TreeMessage
 reference_reported dead marked label attr nlink refs =
     if dead then (if marked then dead_marked label attr ∷ [] else dead_zero attr ∷ [])
     else (if refs == 0 then (if equals_natural nlink 0 then unref_unlinked label attr ∷ [] else unref label attr ∷ [])
     else reported (not (equals_natural nlink refs)) (link_count label attr nlink refs))
 
 -- a line, if there is one
-abbrev pub lines_as : Option ReferenceLine → List NameMessage
+abbrev pub lines_as : Option ReferenceLine → List TreeMessage
 lines_as None = []
 lines_as (Some line) = reference_message line ∷ []
 

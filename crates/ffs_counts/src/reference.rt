@@ -1,7 +1,7 @@
 //! What is reported of an inode by the entries that refer to it.
 
 ghost use Rattle.std.specs.Prelude.{◌≡◌, ◌-◌, map};
-ghost use Rattle.ffs_volume.specs.Messages.Kinds.{of_names};
+ghost use Rattle.ffs_volume.specs.Messages.Kinds.{of_tree};
 ghost use Rattle.ffs_volume.specs.Disk.Numbers.{equals_natural};
 ghost use Rattle.ffs_report.specs.Progress.{progress, Says};
 ghost use Rattle.ffs_volume.specs.Directories.PathnameCheck.{attributes_of, label_of};
@@ -76,7 +76,7 @@ pub fn say_line<W: Output>(
     line: Option<ReferenceLine>,
 ) -> Result<(), OutFault>
     ensures { Says (progress W.sink report.old) (progress W.sink report.new)
-        (map of_names (lines_as line)) result }
+        (map of_tree (lines_as line)) result }
 {
     match line {
         Some(line) => report.say(&Line::Reference(line)),

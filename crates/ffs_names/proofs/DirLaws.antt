@@ -11,7 +11,7 @@ use Rattle.ffs_volume.specs.declared.Class.TheVariants.{Free, Partial, Unknown, 
 use Rattle.ffs_volume.specs.Disk.Areas.{is_run_in_range}
 use Rattle.ffs_volume.specs.Disk.Geometry.{IsValidLayout}
 use Rattle.ffs_volume.specs.Blocks.Inodes.{inode_of, class_of, type_of, is_known_type, is_any_set, is_too_large}
-use Rattle.ffs_volume.specs.Blocks.Inodes.{addresses_used, is_directory}
+use Rattle.ffs_volume.specs.Blocks.Inodes.{inode_addresses_used, is_directory}
 use Rattle.ffs_volume.specs.Blocks.Steps.{steps_of}
 use Rattle.ffs_volume.specs.Directories.Entries.{chunks_of, has_gap, bytes_read}
 use Rattle.ffs_volume.specs.Directories.Roles.{is_dir, roled_chunk, roled_entries}
@@ -47,11 +47,12 @@ pub dir_size : (v : Layout) (i : Inode) → class_of v i ≡ Dir → i.size < 2 
 unfolding class_of class_by
 dir_size v i h =
     let d = dir_by (type_of i.mode == 0) (i.mode == 0 && (i.size == 0 && not (is_any_set i.addresses)))
-    (not (is_known_type (type_of i.mode)) || (is_too_large v i || is_any_set (drop (addresses_used v i) i.addresses)))
+    (not (is_known_type (type_of i.mode)) || (is_too_large v i || is_any_set
+    (drop (inode_addresses_used v i) i.addresses)))
     (type_of i.mode == 4) h in
     let a = or_parts (not (is_known_type (type_of i.mode)))
-    (is_too_large v i || is_any_set (drop (addresses_used v i) i.addresses)) d.0 in
-    let e = or_parts (is_too_large v i) (is_any_set (drop (addresses_used v i) i.addresses)) a.1 in
+    (is_too_large v i || is_any_set (drop (inode_addresses_used v i) i.addresses)) d.0 in
+    let e = or_parts (is_too_large v i) (is_any_set (drop (inode_addresses_used v i) i.addresses)) a.1 in
     let f = or_parts (nat_lt ((12 + v.nindir + v.nindir * v.nindir + v.nindir * v.nindir * v.nindir) * v.bsize) i.size)
     (type_of i.mode == 4 && nat_lt 2147483647 i.size) e.0 in
     below (type_of i.mode == 4) i.size d.1 f.1

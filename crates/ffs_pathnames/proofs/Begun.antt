@@ -8,7 +8,7 @@ use Rattle.ffs_volume.specs.declared.Layout.{Layout}
 use Rattle.ffs_volume.specs.Directories.Entries.{Entry}
 use Rattle.ffs_volume.specs.Directories.Graph.{parent}
 use Rattle.ffs_volume.specs.Blocks.Inodes.{inode_of, is_directory}
-use Rattle.ffs_volume.specs.Messages.Kinds.{Message, NameMessage, of_names}
+use Rattle.ffs_volume.specs.Messages.Kinds.{Message, TreeMessage, of_tree}
 use Rattle.ffs_volume.specs.Directories.Parents.{graph_of}
 use Rattle.ffs_volume.specs.Directories.PathnameCheck.{attributes, are_sound, dir_lines, lines_of_entries}
 use Rattle.ffs_volume.specs.Directories.Paths.{dir_path}
@@ -107,14 +107,14 @@ directory_is v d two h =
     record { dir = h; below = ltb-true d v.count b.1; from_two = two }
 
 -- its lines: first those before its entries, then those of its entries
-pub lines_parts : (v : Volume) (d : ℕ) (ms : List NameMessage) → lines_of_entries v d 0 (roled_entries v d) ≡ ms →
-    map of_names (dir_lines v d) ≡ map of_names (dir_starts v d) ++ map of_names ms
+pub lines_parts : (v : Volume) (d : ℕ) (ms : List TreeMessage) → lines_of_entries v d 0 (roled_entries v d) ≡ ms →
+    map of_tree (dir_lines v d) ≡ map of_tree (dir_starts v d) ++ map of_tree ms
 unfolding dir_starts
 lines_parts v d ms e =
-    ap (map of_names) (dir_parts v d
+    ap (map of_tree) (dir_parts v d
     ∙ ap (λ l. header_reported (attributes v d) (dir_path (graph_of v) d) d (parent (graph_of v) d) (v.gap d)
     (are_sound (v.chunks d)) (start_entry v d 0) (start_entry v d 1) ++ l) e)
-    ∙ map-append of_names (header_reported (attributes v d) (dir_path (graph_of v) d) d (parent (graph_of v) d)
+    ∙ map-append of_tree (header_reported (attributes v d) (dir_path (graph_of v) d) d (parent (graph_of v) d)
     (v.gap d) (are_sound (v.chunks d)) (start_entry v d 0) (start_entry v d 1)) ms
 
 pub quiet_lines : (v : Volume) (d : ℕ) (m : Marks) → IsDirectory v d → AreRightBefore v d m →
@@ -130,13 +130,13 @@ reported_lines v d m dir r = right_reported v d [] (roled_entries v d) (looked v
 
 pub quiet_parts : (v : Volume) (d : ℕ) (m : Marks) → IsDirectory v d → AreRightBefore v d m →
     are_quiet v d m.stamps (roled_entries v d) ≡ true →
-    map of_names (dir_starts v d) ≡ map of_names (dir_lines v d)
+    map of_tree (dir_starts v d) ≡ map of_tree (dir_lines v d)
 quiet_parts v d m dir r h =
-    sym (lines_parts v d [] (quiet_lines v d m dir r h) ∙ append-nil (map of_names (dir_starts v d)))
+    sym (lines_parts v d [] (quiet_lines v d m dir r h) ∙ append-nil (map of_tree (dir_starts v d)))
 
 pub reported_parts : (v : Volume) (d : ℕ) (m m' : Marks) → IsDirectory v d → AreRightBefore v d m → m' ≡ looked v d m →
-    map of_names (dir_lines v d) ≡ map of_names (dir_starts v d)
-    ++ map of_names (entries_reported v d m' (roled_entries v d))
+    map of_tree (dir_lines v d) ≡ map of_tree (dir_starts v d)
+    ++ map of_tree (entries_reported v d m' (roled_entries v d))
 reported_parts v d m m' dir r e = lines_parts v d (entries_reported v d m' (roled_entries v d))
     (reported_lines v d m dir r ∙ sym (ap (λ k. entries_reported v d k (roled_entries v d)) e))
 

@@ -53,7 +53,8 @@ unstamped v s m r x h =
 abbrev pub looked : Volume → ℕ → Marks → Marks
 looked v s m = record { passed = m.passed; stamps = after_looks v s m.stamps (roled_entries v s) }
 
-due_is : (v : Volume) (s x : ℕ) → (belongs v s x && list_any (entry_names x) (roled_entries v s)) ≡ (belongs v s x && true)
+due_is : (v : Volume) (s x : ℕ) → (belongs v s x && list_any (entry_names x) (roled_entries v s))
+    ≡ (belongs v s x && true)
 due_is v s x = one (belongs v s x) refl
   where
     one : (b : Bool) → belongs v s x ≡ b → (b && list_any (entry_names x) (roled_entries v s)) ≡ (b && true)
@@ -162,7 +163,8 @@ reported_next v s m d r =
     record {
       passed = λ x h q n o. whole.passed x h q n o
           ∙ sym (some_below-suc (λ t. dir_names (graph_of v) t x) s
-          ∙ ap (λ b. some_below (λ t. dir_names (graph_of v) t x) s || (b && list_any (entry_names x) (roled_entries v s)))
+          ∙ ap (λ b. some_below (λ t. dir_names (graph_of v) t x) s ||
+          (b && list_any (entry_names x) (roled_entries v s)))
           d.dir);
       stamps = λ x h. small_next s _
           (entries_small v s (roled_entries v s) (looked v s m) x

@@ -8,7 +8,7 @@ use Rattle.ffs_volume.specs.declared.Class.{Class}
 use Rattle.ffs_volume.specs.declared.Class.TheVariants.{Free, Partial, Unknown, File, Dir}
 use Rattle.ffs_volume.specs.Disk.Geometry.{IsValidLayout}
 use Rattle.ffs_volume.specs.Directories.Graph.{entry_names, dir_names}
-use Rattle.ffs_volume.specs.Messages.Kinds.{NameMessage, of_names, lines_below, reported, root_none, root_not_dir}
+use Rattle.ffs_volume.specs.Messages.Kinds.{TreeMessage, of_tree, lines_below, reported, root_none, root_not_dir}
 use Rattle.ffs_volume.specs.Messages.Kinds.{root_suspect, lines_from}
 use Rattle.ffs_volume.specs.Directories.Parents.{graph_of}
 use Rattle.ffs_volume.specs.Directories.PathnameCheck.{dir_lines, continues_after_root, lines_of, pathname_lines}
@@ -159,13 +159,13 @@ before_other v contents w d b g e k = record {
 -- a directory that is left out
 pub lines_left_out : (v : Layout) (contents : Option (List ℕ)) (w : Workspace) (d : ℕ) (b : List ℕ) → 2 ≤ d →
     (slice_index w.kinds.items d == 4) ≡ true → slice_index w.queue.items d ≡ 1 → IsBefore v contents w d b →
-    map of_names (lines_of (volume_of v b) d) ≡ []
+    map of_tree (lines_of (volume_of v b) d) ≡ []
 lines_left_out v contents w d b two e stamp k =
     let silent = k.marks.calm d stamp in
     let dir = directory_is (volume_of v b) d two (directory_context v contents w d b e k).dir in
-    ap (map of_names) (lines_looked v contents w d b e k)
+    ap (map of_tree) (lines_looked v contents w d b e k)
     ∙ (sym (quiet_parts (volume_of v b) d (marks_of w) dir k.marks
-    (silent_quiet (volume_of v b) d (marks_of w) silent k.marks)) ∙ ap (map of_names) silent.starts)
+    (silent_quiet (volume_of v b) d (marks_of w) silent k.marks)) ∙ ap (map of_tree) silent.starts)
 
 left_out : (a b : Bool) → (a && not b) ≡ false → a ≡ true → b ≡ true
 left_out true true h e = refl
@@ -175,10 +175,10 @@ left_out false b h e = absurd (cc)
 -- an inode that isn't looked at, or is left out
 pub lines_skipped : (v : Layout) (contents : Option (List ℕ)) (w : Workspace) (d : ℕ) (b : List ℕ) → 2 ≤ d →
     ((slice_index w.kinds.items d == 4) && not (slice_index w.queue.items d == 1)) ≡ false → IsBefore v contents w d b →
-    map of_names (lines_of (volume_of v b) d) ≡ []
+    map of_tree (lines_of (volume_of v b) d) ≡ []
 lines_skipped v contents w d b two h k = elim (cases_Bool (slice_index w.kinds.items d == 4)) [
   | inl e ↦ lines_left_out v contents w d b two e (eqb-true (slice_index w.queue.items d) 1 (left_out _ _ h e)) k
-  | inr e ↦ ap (map of_names) (lines_other v contents w d b e k)
+  | inr e ↦ ap (map of_tree) (lines_other v contents w d b e k)
 ]
 
 pub before_skipped : (v : Layout) (contents : Option (List ℕ)) (w : Workspace) (d : ℕ) (b : List ℕ) → IsValidLayout v →
@@ -208,7 +208,7 @@ root_by : (v : Volume) (c : Class) (k : ℕ) (m : Bool) → is_directory c ≡ i
 unfolding root_said
 root_by v c k m d a s = go c (k == 0) (is_dir_kind k) refl d a
   where
-    tell : Bool → Bool → List NameMessage
+    tell : Bool → Bool → List TreeMessage
     tell none dir = if none then root_none ∷ []
         else (if not dir then root_not_dir ∷ [] else reported (m || is_empty_dir_kind k) root_suspect)
 
@@ -247,7 +247,8 @@ root_kind_is v w k g made e =
 pub root_marked_is : (v : Layout) (w : Workspace) (m : Bool) → IsValidLayout v → IsFor v w →
     m ≡ get_or w.marked.items 2 m → m ≡ bool_at w.marked.items 2
 root_marked_is v w m g made e =
-    let some = some_inodes v g in e ∙ get_or_default w.marked.items 2 m false (omega (arith, made.marked, w.marked.ok.0))
+    let some = some_inodes v g in e ∙ get_or_default w.marked.items 2 m false
+    (omega (arith, made.marked, w.marked.ok.0))
 
 pub goes_is : (v : Layout) (b : List ℕ) (w : Workspace) (k : ℕ) → k ≡ slice_index w.kinds.items 2 → HoldsClaims v b w →
     is_dir_kind k ≡ continues_after_root (volume_of v b)
@@ -255,7 +256,7 @@ unfolding volume_of volume_with
 goes_is v b w k e h = ap is_dir_kind (e ∙ h.kinds 2) ∙ sym (reports_at v b 2).dir
 
 -- all that is reported
-abbrev pub tree_lines : Layout → List ℕ → Bool → List NameMessage
+abbrev pub tree_lines : Layout → List ℕ → Bool → List TreeMessage
 tree_lines v b goes = if goes then lines_from (lines_of (volume_of v b)) 2 (inodes_of v - 2) else []
 
 lines_begin : (v : Layout) (b : List ℕ) → lines_below (lines_of (volume_of v b)) (volume_of v b).count
@@ -265,13 +266,13 @@ lines_begin v b = all_from_root (lines_of (volume_of v b)) (inodes_of v) refl re
 
 pub tree_is : (v : Layout) (b : List ℕ) (w : Workspace) (k : ℕ) (m goes : Bool) → k ≡ slice_index w.kinds.items 2 →
     m ≡ bool_at w.marked.items 2 → HoldsClaims v b w → goes ≡ is_dir_kind k →
-    map of_names (pathname_lines (volume_of v b)) ≡ map of_names (root_said k m) ++ map of_names (tree_lines v b goes)
+    map of_tree (pathname_lines (volume_of v b)) ≡ map of_tree (root_said k m) ++ map of_tree (tree_lines v b goes)
 unfolding pathname_lines
 tree_is v b w k m goes e f h q =
     let lines = lines_of (volume_of v b) in
-    ap (λ r. map of_names (r ++ (if continues_after_root (volume_of v b) then lines_below lines (volume_of v b).count
+    ap (λ r. map of_tree (r ++ (if continues_after_root (volume_of v b) then lines_below lines (volume_of v b).count
     else []))) (sym (root_is v b w k m e f h))
-    ∙ (ap (λ g. map of_names (root_said k m ++ (if g then lines_below lines (volume_of v b).count else [])))
+    ∙ (ap (λ g. map of_tree (root_said k m ++ (if g then lines_below lines (volume_of v b).count else [])))
     (sym (q ∙ goes_is v b w k e h))
-    ∙ (ap (λ l. map of_names (root_said k m ++ (if goes then l else []))) (lines_begin v b)
+    ∙ (ap (λ l. map of_tree (root_said k m ++ (if goes then l else []))) (lines_begin v b)
     ∙ names_append (root_said k m) (tree_lines v b goes)))

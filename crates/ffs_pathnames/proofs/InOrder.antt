@@ -7,14 +7,14 @@ use Rattle.ffs_pathnames.proofs.MarkLaws.{and_false}
 use Rattle.ffs_volume.specs.declared.Attr.{Attr}
 use Rattle.ffs_volume.specs.Directories.Entries.{Entry, is_live}
 use Rattle.ffs_volume.specs.Directories.Roles.{is_two_dots}
-use Rattle.ffs_volume.specs.Messages.Kinds.{NameMessage, reported}
+use Rattle.ffs_volume.specs.Messages.Kinds.{TreeMessage, reported}
 use Rattle.ffs_volume.specs.Directories.PathnameCheck.{is_wrong_parent}
 use Rattle.ffs_pathnames.specs.Header.{dot_in, dotdot_in, dot_said, dotdot_said, header_reported}
 
-pub silent : (b : Bool) (m : NameMessage) → b ≡ false → reported b m ≡ []
+pub silent : (b : Bool) (m : TreeMessage) → b ≡ false → reported b m ≡ []
 silent b m e = ap (λ t. reported t m) e
 
-pub two : (xs ys : List NameMessage) → xs ≡ [] → ys ≡ [] → xs ++ ys ≡ []
+pub two : (xs ys : List TreeMessage) → xs ≡ [] → ys ≡ [] → xs ++ ys ≡ []
 two xs ys p q = ap (λ l. l ++ ys) p ∙ q
 
 -- `..`

@@ -16,12 +16,13 @@ use Rattle.ffs_volume.specs.Directories.Climb.{is_value}
 use Rattle.ffs_volume.specs.Directories.Graph.{entry_names, parent}
 use Rattle.ffs_volume.specs.Directories.Parents.{graph_of, is_parent_entry, is_first_name}
 use Rattle.ffs_volume.specs.Directories.Paths.{dir_path, entry_path}
-use Rattle.ffs_volume.specs.Messages.Kinds.{NameMessage, reported, out_of_range, whiteout, unallocated, extraneous}
+use Rattle.ffs_volume.specs.Messages.Kinds.{TreeMessage, reported, out_of_range, whiteout, unallocated, extraneous}
 use Rattle.ffs_volume.specs.Messages.Kinds.{kind_entry}
-use Rattle.ffs_volume.specs.Directories.PathnameCheck.{attributes, label_of, is_bad_whiteout, suspect_reported}
-use Rattle.ffs_volume.specs.Directories.PathnameCheck.{has_wrong_type, reports_suspect, is_extraneous, named_lines}
+use Rattle.ffs_volume.specs.Directories.PathnameCheck.{attributes, label_of, is_bad_whiteout, message_on_suspect}
+use Rattle.ffs_volume.specs.Directories.PathnameCheck.{has_wrong_type, is_first_name_of_suspect, is_extraneous}
+use Rattle.ffs_volume.specs.Directories.PathnameCheck.{named_lines}
 use Rattle.ffs_volume.specs.Directories.PathnameCheck.{plain_lines, roled_lines, lines_of_entries}
-use Rattle.ffs_volume.specs.Directories.PathnameCheck.{roled_reported as lines_by_role}
+use Rattle.ffs_volume.specs.Directories.PathnameCheck.{entry_role_lines as lines_by_role}
 use Rattle.ffs_pathnames.specs.Marks.{belongs, after_look, after_looks, is_plain_quiet, is_role_quiet, is_quiet}
 use Rattle.ffs_pathnames.specs.Marks.{are_quiet}
 use Rattle.ffs_pathnames.proofs.Places.{size_of, size_more}
@@ -59,11 +60,13 @@ stamped_after v s done e stamps long r x h =
         ap (λ k. k == s) (get_or-set_other stamps e.entry.number x s 0 o)
         ∙ (r x h ∙ sym (ap (λ b. belongs v s x && b)
         (any_more (entry_names x) done e
-        ∙ (ap (λ b. list_any (entry_names x) done || b) (other_number x e o) ∙ or_false (list_any (entry_names x) done)))))
+        ∙ (ap (λ b. list_any (entry_names x) done || b) (other_number x e o) ∙ or_false
+        (list_any (entry_names x) done)))))
     one false t (inr o) =
         r x h ∙ sym (ap (λ b. belongs v s x && b)
         (any_more (entry_names x) done e
-        ∙ (ap (λ b. list_any (entry_names x) done || b) (other_number x e o) ∙ or_false (list_any (entry_names x) done))))
+        ∙ (ap (λ b. list_any (entry_names x) done || b) (other_number x e o) ∙ or_false
+        (list_any (entry_names x) done))))
     one false t (inl z) =
         r x h ∙ two (is_plain e.role) (belongs v s x) (ap (λ k. is_plain e.role && belongs v s k) z ∙ t)
         (e.entry.number == x) (list_any (entry_names x) done)
@@ -137,10 +140,10 @@ quiet_parts v s stamps e h =
       ];
     }
 
-reported_nothing : (b : Bool) (m : NameMessage) → b ≡ false → reported b m ≡ []
+reported_nothing : (b : Bool) (m : TreeMessage) → b ≡ false → reported b m ≡ []
 reported_nothing b m h = ap (λ b. reported b m) h
 
-suspect_quiet : (v : Volume) (s j x : ℕ) → is_suspect v x ≡ false → reports_suspect v s j x ≡ false
+suspect_quiet : (v : Volume) (s j x : ℕ) → is_suspect v x ≡ false → is_first_name_of_suspect v s j x ≡ false
 suspect_quiet v s j x h = ap (λ b. b && (not (x == 2) && is_first_name (graph_of v) s j x)) h
 
 link_quiet : (v : Volume) (s : ℕ) (done es : List RoledEntry) (e : RoledEntry) (stamps : List ℕ) → IsEntry v s done e es
@@ -163,7 +166,8 @@ link_quiet v s done es e stamps i p h r q = one (is_dir v e.entry.number) refl
         let parts = and_parts (belongs v s e.entry.number) (not (slice_index stamps e.entry.number == s)) due in
         let unstamped = not-true (slice_index stamps e.entry.number == s) parts.1 in
         let first : list_any (entry_names e.entry.number) done ≡ false =
-        none (belongs v s e.entry.number) (list_any (entry_names e.entry.number) done) (sym (r e.entry.number h) ∙ unstamped)
+        none (belongs v s e.entry.number) (list_any (entry_names e.entry.number) done)
+        (sym (r e.entry.number h) ∙ unstamped)
         parts.0 in
         let mine = (and_parts (is_dir v e.entry.number)
         (not (e.entry.number == 2) && is_value (parent (graph_of v) e.entry.number) s) parts.0).1 in
@@ -175,7 +179,7 @@ named_quiet : (v : Volume) (s : ℕ) (done es : List RoledEntry) (e : RoledEntry
     IsNamedQuiet v s stamps e.entry → named_lines v s (size_of done) e.entry ≡ []
 unfolding named_lines
 named_quiet v s done es e stamps i p h r q =
-    let a = reported_nothing _ (suspect_reported v e.entry.number (entry_path (graph_of v) s e.entry.name))
+    let a = reported_nothing _ (message_on_suspect v e.entry.number (entry_path (graph_of v) s e.entry.name))
     (suspect_quiet v s (size_of done) e.entry.number q.suspect) in
     let b = reported_nothing _
     (extraneous (entry_path (graph_of v) s e.entry.name) (dir_path (graph_of v) e.entry.number))

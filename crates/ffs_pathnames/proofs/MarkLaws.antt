@@ -20,12 +20,13 @@ use Rattle.ffs_volume.specs.Directories.Graph.{entry_names, dir_names, parent, i
 use Rattle.ffs_volume.specs.Directories.Parents.{graph_of, first_naming_dir, is_first_name, is_parent_entry}
 use Rattle.ffs_volume.specs.Directories.Paths.{dir_path, entry_path}
 use Rattle.ffs_volume.specs.Messages.Kinds.{reported, out_of_range, whiteout, unallocated, extraneous, kind_entry}
-use Rattle.ffs_volume.specs.Directories.PathnameCheck.{attributes, label_of, is_bad_whiteout, suspect_reported}
-use Rattle.ffs_volume.specs.Directories.PathnameCheck.{has_wrong_type, roled_reported as lines_by_role, reports_suspect}
+use Rattle.ffs_volume.specs.Directories.PathnameCheck.{attributes, label_of, is_bad_whiteout, message_on_suspect}
+use Rattle.ffs_volume.specs.Directories.PathnameCheck.{has_wrong_type, entry_role_lines as lines_by_role}
+use Rattle.ffs_volume.specs.Directories.PathnameCheck.{is_first_name_of_suspect}
 use Rattle.ffs_volume.specs.Directories.PathnameCheck.{is_extraneous, named_lines, plain_lines, roled_lines}
 use Rattle.ffs_volume.specs.Directories.PathnameCheck.{lines_of_entries}
 use Rattle.ffs_pathnames.specs.Marks.{Marks, is_passed, is_due, after_name, after_roled, named_reported, plain_reported}
-use Rattle.ffs_pathnames.specs.Marks.{role_reported, roled_reported, entries_reported, belongs}
+use Rattle.ffs_pathnames.specs.Marks.{role_reported, entry_role_lines, entries_reported, belongs}
 use Rattle.ffs_pathnames.specs.MarksRight.{AreRight}
 use Rattle.ffs_pathnames.proofs.Places.{size_of, size_more, first_here}
 
@@ -118,7 +119,7 @@ from_parent_is v s done es e i p = one (e.entry.number == 2) refl (is_value (par
 
 suspect_same : (v : Volume) (s : ℕ) (done es : List RoledEntry) (e : RoledEntry) (m : Marks) → IsEntry v s done e es →
     e.role ≡ Plain → e.entry.number < v.count → e.entry.number ≢ 1 → AreRight v s done m →
-    reports_suspect v s (size_of done) e.entry.number
+    is_first_name_of_suspect v s (size_of done) e.entry.number
     ≡ (is_suspect v e.entry.number && (not (e.entry.number == 2) && not (is_passed m e.entry.number)))
 suspect_same v s done es e m i p h other r = one (is_suspect v e.entry.number) refl (cases_eq e.entry.number 2)
   where
@@ -153,7 +154,7 @@ named_same : (v : Volume) (s : ℕ) (done es : List RoledEntry) (e : RoledEntry)
     named_lines v s (size_of done) e.entry ≡ named_reported v s m e.entry
 unfolding named_lines
 named_same v s done es e m i p h other r =
-    ap (λ b. reported b (suspect_reported v e.entry.number (entry_path (graph_of v) s e.entry.name))
+    ap (λ b. reported b (message_on_suspect v e.entry.number (entry_path (graph_of v) s e.entry.name))
     ++ (reported (is_extraneous v s (size_of done) e.entry.number)
     (extraneous (entry_path (graph_of v) s e.entry.name) (dir_path (graph_of v) e.entry.number))
     ++ reported (has_wrong_type v e.entry)
@@ -161,7 +162,7 @@ named_same v s done es e m i p h other r =
     (entry_path (graph_of v) s e.entry.name))))
     (suspect_same v s done es e m i p h other r)
     ∙ ap (λ b. reported (is_suspect v e.entry.number && (not (e.entry.number == 2) && not (is_passed m e.entry.number)))
-    (suspect_reported v e.entry.number (entry_path (graph_of v) s e.entry.name))
+    (message_on_suspect v e.entry.number (entry_path (graph_of v) s e.entry.name))
     ++ (reported b (extraneous (entry_path (graph_of v) s e.entry.name) (dir_path (graph_of v) e.entry.number))
     ++ reported (has_wrong_type v e.entry)
     (kind_entry (attributes v e.entry.number) (label_of (v.class e.entry.number))
@@ -214,8 +215,8 @@ plain_same v s done es e m i p r = one (nat_lt e.entry.number v.count) refl
 
 seen_same : (v : Volume) (s : ℕ) (done es : List RoledEntry) (e : RoledEntry) (m : Marks) → IsEntry v s done e es →
     AreRight v s done m →
-    roled_lines v s (size_of done) e ≡ roled_reported v s m e
-unfolding roled_lines roled_reported
+    roled_lines v s (size_of done) e ≡ entry_role_lines v s m e
+unfolding roled_lines entry_role_lines
 seen_same v s done es e m i r = one e.role refl
   where
     one : (role : Role) → e.role ≡ role → lines_by_role v s (size_of done) role e.entry
@@ -274,7 +275,8 @@ skips : (v : Volume) (s : ℕ) (done : List RoledEntry) (e : RoledEntry) (m : Ma
 skips v s done e m t r = record {
   passed = λ x h q o n. r.passed x h q o n ∙ ap (λ b. some_below (λ t. dir_names (graph_of v) t x) s || b)
       (sym (not_named (entry_names x) done e (not_counted v e x t h)));
-  due = λ x h. r.due x h ∙ ap (λ b. belongs v s x && not b) (sym (not_named (entry_names x) done e (not_counted v e x t h)));
+  due = λ x h. r.due x h ∙ ap (λ b. belongs v s x && not b)
+      (sym (not_named (entry_names x) done e (not_counted v e x t h)));
   passed_length = r.passed_length;
   stamps_length = r.stamps_length;
 }
@@ -383,4 +385,4 @@ right_reported v s done (e ∷ es) m d whole r =
     let rest = right_reported v s (done ++ e ∷ []) es (after_roled v s m e) d
     (whole ∙ sym (append_assoc done (e ∷ []) es)) (right_after v s done e m d.from_two r) in
     ap (λ ls. ls ++ lines_of_entries v s (suc (size_of done)) es) here
-    ∙ ap (λ ls. roled_reported v s m e ++ ls) (ap (λ j. lines_of_entries v s j es) (sym (size_more done e)) ∙ rest)
+    ∙ ap (λ ls. entry_role_lines v s m e ++ ls) (ap (λ j. lines_of_entries v s j es) (sym (size_more done e)) ∙ rest)

@@ -3,12 +3,12 @@ use Rattle.std.proofs.Common.{◌≡◌, refl, ℕ, Bool, true, false, List, []}
 use Rattle.ffs_volume.specs.declared.Attr.{Attr}
 use Rattle.ffs_pathnames.specs.declared.verdict.Verdict.{Verdict}
 use Rattle.ffs_pathnames.specs.declared.verdict.Verdict.TheVariants.{OutOfRange, Whiteout, Fine, Unallocated, Named}
-use Rattle.ffs_volume.specs.Messages.Kinds.{NameMessage, reported, extraneous, kind_entry}
+use Rattle.ffs_volume.specs.Messages.Kinds.{TreeMessage, reported, extraneous, kind_entry}
 use Rattle.std.specs.Prelude.{◌++◌, not, ◌||◌}
 use Rattle.ffs_pathnames.specs.Gathers.{is_silent}
 use Rattle.ffs_pathnames.specs.Verdicts.{verdict_reported, suspect_message}
 
-none_reported : (a b c : Bool) (x y z : NameMessage) → not (a || (b || c)) ≡ true →
+none_reported : (a b c : Bool) (x y z : TreeMessage) → not (a || (b || c)) ≡ true →
     reported a x ++ (reported b y ++ reported c z) ≡ []
 none_reported true b c x y z h = absurd (cc)
 none_reported false true c x y z h = absurd (cc)

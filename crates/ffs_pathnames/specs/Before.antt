@@ -2,7 +2,7 @@
 use Rattle.std.specs.Prelude.{◌≡◌, ℕ, Bool, false, not, ◌||◌, ◌==◌, if◌then◌else◌}
 use Rattle.std.specs.Prelude.{List, [], ◌∷◌, Option, Some, slice_index}
 use Rattle.ffs_volume.specs.declared.Layout.{Layout}
-use Rattle.ffs_volume.specs.Messages.Kinds.{NameMessage, reported, root_none, root_not_dir, root_suspect}
+use Rattle.ffs_volume.specs.Messages.Kinds.{TreeMessage, reported, root_none, root_not_dir, root_suspect}
 use Rattle.ffs_volume.specs.Directories.Volumes.{volume_of}
 use Rattle.ffs_workspace.specs.declared.workspace.Workspace.{Workspace}
 use Rattle.ffs_workspace.specs.Holds.{bool_at, HoldsClaims, HoldsSurvey}
@@ -26,7 +26,7 @@ pub record IsBefore (v : Layout) (contents : Option (List ℕ)) (w : Workspace) 
   pub marks : AreRightBefore (volume_of v b) d (marks_of w)
 
 -- what is reported of the root, by its kind and by whether it is marked
-unfoldable pub root_said : ℕ → Bool → List NameMessage
+unfoldable pub root_said : ℕ → Bool → List TreeMessage
 root_said kind marked =
     if kind == 0 then root_none ∷ []
     else (if not (is_dir_kind kind) then root_not_dir ∷ []

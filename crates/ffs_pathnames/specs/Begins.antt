@@ -5,7 +5,7 @@ use Rattle.ffs_volume.specs.declared.Order.{Order}
 use Rattle.ffs_volume.specs.Directories.Entries.{Entry}
 use Rattle.ffs_volume.specs.Directories.Graph.{parent}
 use Rattle.ffs_volume.specs.Blocks.Inodes.{inode_of}
-use Rattle.ffs_volume.specs.Messages.Kinds.{NameMessage}
+use Rattle.ffs_volume.specs.Messages.Kinds.{TreeMessage}
 use Rattle.ffs_volume.specs.Directories.Parents.{graph_of}
 use Rattle.ffs_volume.specs.Directories.PathnameCheck.{attributes, are_sound}
 use Rattle.ffs_volume.specs.Directories.Paths.{dir_path}
@@ -19,7 +19,7 @@ use Rattle.ffs_pathnames.specs.Reads.{start_of}
 use Rattle.ffs_pathnames.specs.Header.{header_reported}
 
 -- of its size, its Gaps, its chunks and its first two entries
-unfoldable pub dir_starts : Volume → ℕ → List NameMessage
+unfoldable pub dir_starts : Volume → ℕ → List TreeMessage
 dir_starts v d = header_reported (attributes v d) (dir_path (graph_of v) d) d (parent (graph_of v) d) (v.gap d)
     (are_sound (v.chunks d)) (start_entry v d 0) (start_entry v d 1)
 

@@ -4,20 +4,20 @@ use Rattle.ffs_volume.specs.declared.constants.TheConstants.{DIRBLKSIZ, MINDIRSI
 use Rattle.ffs_volume.specs.declared.Attr.{Attr}
 use Rattle.ffs_volume.specs.Directories.Entries.{Entry, is_live}
 use Rattle.ffs_volume.specs.Directories.Roles.{is_one_dot, is_two_dots, entry_if}
-use Rattle.ffs_volume.specs.Messages.Kinds.{NameMessage, reported, dir_short, dir_length, dir_empty}
+use Rattle.ffs_volume.specs.Messages.Kinds.{TreeMessage, reported, dir_short, dir_length, dir_empty}
 use Rattle.ffs_volume.specs.Messages.Kinds.{dir_corrupt, number_dot, kind_dot, number_dotdot, kind_dotdot}
 use Rattle.ffs_volume.specs.Directories.PathnameCheck.{missing_dot_lines, missing_dotdot_lines, is_wrong_parent}
 
 -- of the size, of whether a Gap is kept, and of whether all chunks are sound
-abbrev pub size_reported : Attr → List ℕ → List NameMessage
+abbrev pub size_reported : Attr → List ℕ → List TreeMessage
 size_reported about path =
     reported (nat_lt about.size MINDIRSIZE) (dir_short about path)
     ++ reported (not (nat_lt about.size MINDIRSIZE) && not (about.size % DIRBLKSIZ == 0)) (dir_length path about.size)
 
-abbrev pub chunks_reported : Attr → List ℕ → Bool → Bool → List NameMessage
+abbrev pub chunks_reported : Attr → List ℕ → Bool → Bool → List TreeMessage
 chunks_reported about path gap sound = reported gap (dir_empty path) ++ reported (not sound) (dir_corrupt about path)
 
-abbrev pub shape_reported : Attr → List ℕ → Bool → Bool → List NameMessage
+abbrev pub shape_reported : Attr → List ℕ → Bool → Bool → List TreeMessage
 shape_reported about path gap sound = size_reported about path ++ chunks_reported about path gap sound
 
 -- `.`, if the first entry is it, and `..`, if the second is it
@@ -27,24 +27,24 @@ dot_in first = entry_if (λ e. is_live e && is_one_dot e.name) first
 abbrev pub dotdot_in : Option Entry → Option Entry
 dotdot_in second = entry_if (λ e. is_live e && is_two_dots e.name) second
 
-abbrev pub there_reported : Attr → List ℕ → ℕ → Entry → List NameMessage
+abbrev pub there_reported : Attr → List ℕ → ℕ → Entry → List TreeMessage
 there_reported about path d e = reported (not (e.number == d)) (number_dot about path)
     ++ reported (not (e.kind == DT_DIR)) (kind_dot about path)
 
-abbrev pub dot_said : Attr → List ℕ → ℕ → Option Entry → Option Entry → List NameMessage
+abbrev pub dot_said : Attr → List ℕ → ℕ → Option Entry → Option Entry → List TreeMessage
 dot_said about path d first None = missing_dot_lines about path first
 dot_said about path d first (Some e) = there_reported about path d e
 
 -- `parent` is the directory's parent, if it has one
-abbrev pub above_reported : Attr → List ℕ → Option ℕ → Entry → List NameMessage
+abbrev pub above_reported : Attr → List ℕ → Option ℕ → Entry → List TreeMessage
 above_reported about path parent e = reported (is_wrong_parent parent e.number) (number_dotdot about path)
     ++ reported (not (e.kind == DT_DIR)) (kind_dotdot about path)
 
-abbrev pub dotdot_said : Attr → List ℕ → Option ℕ → Option Entry → Option Entry → List NameMessage
+abbrev pub dotdot_said : Attr → List ℕ → Option ℕ → Option Entry → Option Entry → List TreeMessage
 dotdot_said about path parent second None = missing_dotdot_lines about path second
 dotdot_said about path parent second (Some e) = above_reported about path parent e
 
-abbrev pub dots_reported : Attr → List ℕ → ℕ → Option ℕ → Option Entry → Option Entry → List NameMessage
+abbrev pub dots_reported : Attr → List ℕ → ℕ → Option ℕ → Option Entry → Option Entry → List TreeMessage
 dots_reported about path d parent first second = dot_said about path d first (dot_in first)
     ++ dotdot_said about path parent second (dotdot_in second)
 
@@ -66,6 +66,6 @@ is_right_header size d parent gap sound first second =
 
 -- all that is reported before the entries
 unfoldable pub header_reported : Attr → List ℕ → ℕ → Option ℕ → Bool → Bool → Option Entry → Option Entry
-    → List NameMessage
+    → List TreeMessage
 header_reported about path d parent gap sound first second = shape_reported about path gap sound
     ++ dots_reported about path d parent first second

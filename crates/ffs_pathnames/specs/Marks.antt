@@ -11,10 +11,10 @@ use Rattle.ffs_volume.specs.Directories.Climb.{is_value}
 use Rattle.ffs_volume.specs.Directories.Graph.{parent}
 use Rattle.ffs_volume.specs.Directories.Parents.{graph_of}
 use Rattle.ffs_volume.specs.Directories.Paths.{dir_path, entry_path}
-use Rattle.ffs_volume.specs.Messages.Kinds.{NameMessage, reported, out_of_range, whiteout}
+use Rattle.ffs_volume.specs.Messages.Kinds.{TreeMessage, reported, out_of_range, whiteout}
 use Rattle.ffs_volume.specs.Messages.Kinds.{unallocated, extraneous, kind_entry}
 use Rattle.ffs_volume.specs.Directories.PathnameCheck.{attributes, label_of, is_bad_whiteout}
-use Rattle.ffs_volume.specs.Directories.PathnameCheck.{suspect_reported, has_wrong_type, extra_lines}
+use Rattle.ffs_volume.specs.Directories.PathnameCheck.{message_on_suspect, has_wrong_type, extra_lines}
 
 -- which inodes a plain entry has named, and for each inode a directory whose entries to come have its parent entry
 pub record Marks : Type 0 where
@@ -39,15 +39,15 @@ abbrev pub after_roled : Volume → ℕ → Marks → RoledEntry → Marks
 after_roled v s m e = if is_plain e.role && nat_lt e.entry.number v.count then after_name s m e.entry.number else m
 
 -- what is reported of an entry, by the marks
-abbrev pub named_reported : Volume → ℕ → Marks → Entry → List NameMessage
+abbrev pub named_reported : Volume → ℕ → Marks → Entry → List TreeMessage
 named_reported v s m e =
     let path = entry_path (graph_of v) s e.name in
     reported (is_suspect v e.number && (not (e.number == 2) && not (is_passed m e.number)))
-    (suspect_reported v e.number path)
+    (message_on_suspect v e.number path)
     ++ (reported (is_dir v e.number && not (is_due s m e.number)) (extraneous path (dir_path (graph_of v) e.number))
     ++ reported (has_wrong_type v e) (kind_entry (attributes v e.number) (label_of (v.class e.number)) path))
 
-abbrev pub plain_reported : Volume → ℕ → Marks → Entry → List NameMessage
+abbrev pub plain_reported : Volume → ℕ → Marks → Entry → List TreeMessage
 plain_reported v s m e =
     let path = entry_path (graph_of v) s e.name in
     if not (nat_lt e.number v.count) then out_of_range e.number path ∷ []
@@ -56,24 +56,24 @@ plain_reported v s m e =
     else (if not (is_allocated (v.class e.number)) then unallocated (attributes v e.number) path ∷ []
     else named_reported v s m e)))
 
-abbrev pub role_reported : Volume → ℕ → Marks → Role → Entry → List NameMessage
+abbrev pub role_reported : Volume → ℕ → Marks → Role → Entry → List TreeMessage
 role_reported v s m Empty e = []
 role_reported v s m Dot e = []
 role_reported v s m Dotdot e = []
 role_reported v s m Extra e = extra_lines (attributes v s) (dir_path (graph_of v) s) e
 role_reported v s m Plain e = plain_reported v s m e
 
-unfoldable pub roled_reported : Volume → ℕ → Marks → RoledEntry → List NameMessage
-roled_reported v s m e = role_reported v s m e.role e.entry
+unfoldable pub entry_role_lines : Volume → ℕ → Marks → RoledEntry → List TreeMessage
+entry_role_lines v s m e = role_reported v s m e.role e.entry
 
 -- some entries of s, one after another
 abbrev pub after_entries : Volume → ℕ → Marks → List RoledEntry → Marks
 after_entries v s m [] = m
 after_entries v s m (e ∷ es) = after_entries v s (after_roled v s m e) es
 
-abbrev pub entries_reported : Volume → ℕ → Marks → List RoledEntry → List NameMessage
+abbrev pub entries_reported : Volume → ℕ → Marks → List RoledEntry → List TreeMessage
 entries_reported v s m [] = []
-entries_reported v s m (e ∷ es) = roled_reported v s m e ++ entries_reported v s (after_roled v s m e) es
+entries_reported v s m (e ∷ es) = entry_role_lines v s m e ++ entries_reported v s (after_roled v s m e) es
 
 -- x is a directory other than the root, with the parent s
 abbrev pub belongs : Volume → ℕ → ℕ → Bool

@@ -1,16 +1,16 @@
 -- The messages of lines on directories and their entries.
 use Rattle.std.specs.Prelude.{List, ◌++◌}
-use Rattle.ffs_volume.specs.Messages.Kinds.{NameMessage, reported}
+use Rattle.ffs_volume.specs.Messages.Kinds.{TreeMessage, reported}
 use Rattle.ffs_report.specs.Lines.{directory_message, dot_message, entry_message}
 use Rattle.ffs_pathnames.specs.declared.say.NameLine.{NameLine}
 use Rattle.ffs_pathnames.specs.declared.say.NameLine.TheVariants.{Directory, Dot, Entry}
 use Rattle.ffs_pathnames.specs.declared.say.Check.{Check}
 
-abbrev pub name_message : NameLine → NameMessage
+abbrev pub name_message : NameLine → TreeMessage
 name_message (Directory line) = directory_message line
 name_message (Dot line) = dot_message line
 name_message (Entry line) = entry_message line
 
 -- two messages, each where its test holds
-abbrev pub two_reported : Check → Check → List NameMessage
+abbrev pub two_reported : Check → Check → List TreeMessage
 two_reported a b = reported a.holds (name_message a.line) ++ reported b.holds (name_message b.line)

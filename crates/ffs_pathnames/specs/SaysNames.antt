@@ -1,8 +1,8 @@
 -- Messages on directories, said one after another.
 use Rattle.std.specs.Prelude.{List, map, Result}
-use Rattle.ffs_volume.specs.Messages.Kinds.{NameMessage, of_names}
+use Rattle.ffs_volume.specs.Messages.Kinds.{TreeMessage, of_tree}
 use Rattle.ffs_report.specs.Progress.{Progress, Says}
 
 -- the outcome of saying these messages
-abbrev pub SaysNames : {T E : Type 0} → Progress → Progress → List NameMessage → Result T E → Type 0
-SaysNames old new messages result = Says old new (map of_names messages) result
+abbrev pub SaysNames : {T E : Type 0} → Progress → Progress → List TreeMessage → Result T E → Type 0
+SaysNames old new messages result = Says old new (map of_tree messages) result

@@ -1,7 +1,7 @@
 // A second reading of a directory, where something is reported of its entries.
 ghost use Rattle.std.specs.Prelude.{◌≡◌, OnOk, map};
 ghost use Rattle.ffs_volume.specs.Blocks.Inodes.{inode_of};
-ghost use Rattle.ffs_volume.specs.Messages.Kinds.{of_names};
+ghost use Rattle.ffs_volume.specs.Messages.Kinds.{of_tree};
 ghost use Rattle.ffs_volume.specs.Directories.Roles.{roled_entries};
 ghost use Rattle.ffs_volume.specs.Directories.Volumes.{volume_of};
 ghost use Rattle.ffs_phase.specs.Known.{ForBytes};
@@ -37,7 +37,7 @@ pub fn report_directory<I: Image, W: Output>(
     ensures text { PhaseReports (λ b. DirectoryContext geometry.now.layout
         (I.device image.old).contents workspace.old dir b
         × (inode.now ≡ inode_of geometry.now.layout b dir))
-        (λ b. map of_names (marks.entries_reported (volume_of geometry.now.layout b) dir
+        (λ b. map of_tree (marks.entries_reported (volume_of geometry.now.layout b) dir
         (marks_of workspace.old) (roled_entries (volume_of geometry.now.layout b) dir)))
         (progress W.sink report.old) (progress W.sink report.new) result }
     ensures marks { OnOk result (ForBytes

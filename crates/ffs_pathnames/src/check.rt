@@ -1,6 +1,6 @@
 // The pathname check of one directory.
 ghost use Rattle.std.specs.Prelude.{suc, ◌≡◌, ◌<◌, ◌≤◌, ℕ, List, OnOk, IfOk, map, option_map, vec_len};
-ghost use Rattle.ffs_volume.specs.Messages.Kinds.{of_names};
+ghost use Rattle.ffs_volume.specs.Messages.Kinds.{of_tree};
 ghost use Rattle.ffs_volume.specs.Directories.PathnameCheck.{dir_lines};
 ghost use Rattle.ffs_volume.specs.Directories.Volumes.{volume_of};
 ghost use Rattle.ffs_phase.specs.Known.{ForBytes};
@@ -84,7 +84,7 @@ fn report_header<I: Image, W: Output>(
     ensures text { PhaseReports (λ b. DirectoryContext geometry.now.layout
         (I.device image.old).contents workspace.old dir b
         × (size ≡ (inode_of geometry.now.layout b dir).size))
-        (λ b. map of_names (header_reported (attributes (volume_of geometry.now.layout b) dir)
+        (λ b. map of_tree (header_reported (attributes (volume_of geometry.now.layout b) dir)
         (dir_path (graph_of (volume_of geometry.now.layout b)) dir) dir parent
         shape.entry.gap shape.entry.sound (option_map entry_value shape.entry.first)
         (option_map entry_value shape.entry.second)))
@@ -115,7 +115,7 @@ fn begin_directory<I: Image, W: Output>(
     requires dir { 2 ≤ dir }
     ensures text { PhaseReports (DirectoryContext geometry.now.layout (I.device image.old).contents
         workspace.old dir)
-        (λ b. map of_names (dir_starts (volume_of geometry.now.layout b) dir))
+        (λ b. map of_tree (dir_starts (volume_of geometry.now.layout b) dir))
         (progress W.sink report.old) (progress W.sink report.new) result }
     ensures begun { IfOk result (λ e. ForBytes
         (DirectoryContext geometry.now.layout (I.device image.old).contents workspace.old dir)
@@ -163,7 +163,7 @@ pub fn check_directory<I: Image, W: Output>(
     ensures text { PhaseReports (λ b. DirectoryContext geometry.now.layout
         (I.device image.old).contents workspace.old dir b
         × AreRightBefore (volume_of geometry.now.layout b) dir (marks_of workspace.old))
-        (λ b. map of_names (dir_lines (volume_of geometry.now.layout b) dir))
+        (λ b. map of_tree (dir_lines (volume_of geometry.now.layout b) dir))
         (progress W.sink report.old) (progress W.sink report.new) result }
     ensures marks { OnOk result (ForBytes
         (λ b. DirectoryContext geometry.now.layout (I.device image.old).contents workspace.old dir b

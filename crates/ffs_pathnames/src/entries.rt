@@ -2,7 +2,7 @@
 ghost use Rattle.std.specs.Prelude.{◌≡◌, ◌≤◌, length, OnOk, map};
 ghost use Rattle.ffs_volume.specs.declared.Role.{Role};
 ghost use Rattle.ffs_volume.specs.Directories.Entries.{entries_of};
-ghost use Rattle.ffs_volume.specs.Messages.Kinds.{of_names};
+ghost use Rattle.ffs_volume.specs.Messages.Kinds.{of_tree};
 ghost use Rattle.ffs_volume.specs.Directories.Roles.{roled_from};
 ghost use Rattle.ffs_volume.specs.Directories.Volumes.{volume_of};
 ghost use Rattle.ffs_layout.specs.Entry.{entry_value};
@@ -43,7 +43,7 @@ fn say_entry<I: Image, W: Output>(
         siblings.old dir }
     ensures text { PhaseReports (KnowsPath geometry.now.layout (I.device image.old).contents
         workspace.old dir path.now)
-        (λ b. map of_names (marks.roled_reported (volume_of geometry.now.layout b) dir
+        (λ b. map of_tree (marks.entry_role_lines (volume_of geometry.now.layout b) dir
         (marks_of workspace.old) (record { role = role; entry = entry_value entry.now })))
         (progress W.sink report.old) (progress W.sink report.new) result }
     ensures leaves { LinesLeave geometry.now.layout (I.device image.old) (I.device image.new)
@@ -76,7 +76,7 @@ pub fn report_entry<I: Image, W: Output>(
         siblings.old dir }
     ensures text { PhaseReports (KnowsPath geometry.now.layout (I.device image.old).contents
         workspace.old dir path.now)
-        (λ b. map of_names (marks.roled_reported (volume_of geometry.now.layout b) dir
+        (λ b. map of_tree (marks.entry_role_lines (volume_of geometry.now.layout b) dir
         (marks_of workspace.old) (record { role = role; entry = entry_value entry.now })))
         (progress W.sink report.old) (progress W.sink report.new) result }
     ensures marks { OnOk result (ForBytes
@@ -121,7 +121,7 @@ pub fn report_chunk<I: Image, W: Output>(
     requires { ReadyToPath geometry.now.layout (I.device image.old) workspace.old siblings.old dir }
     ensures text { PhaseReports (KnowsPath geometry.now.layout (I.device image.old).contents
         workspace.old dir path.now)
-        (λ b. map of_names (marks.entries_reported (volume_of geometry.now.layout b) dir
+        (λ b. map of_tree (marks.entries_reported (volume_of geometry.now.layout b) dir
         (marks_of workspace.old) (roled_from first 0
         (entries_of geometry.now.layout.order chunk.now))))
         (progress W.sink report.old) (progress W.sink report.new) result }

@@ -5,7 +5,7 @@ ghost use Rattle.ffs_phase.specs.Known.{IsContents, ForBytes};
 ghost use Rattle.ffs_phase.specs.Runs.{ImageAfter, PhaseReports};
 ghost use Rattle.ffs_report.specs.Progress.{Said, progress};
 ghost use Rattle.ffs_volume.specs.Messages.Kinds as messages;
-ghost use Rattle.ffs_volume.specs.Messages.Kinds.{of_names};
+ghost use Rattle.ffs_volume.specs.Messages.Kinds.{of_tree};
 ghost use Rattle.ffs_volume.specs.Directories.PathnameCheck.{continues_after_root, pathname_lines};
 ghost use Rattle.ffs_volume.specs.Directories.Volumes.{volume_of};
 ghost use Rattle.ffs_workspace.specs.Holds.{HoldsClaims, HoldsReferences, HoldsStarts, HoldsSurvey};
@@ -44,7 +44,7 @@ pub fn phase2<I: Image, W: Output>(
     ensures image { ImageAfter (I.device image.old) (I.device image.new) result }
     ensures text { PhaseReports (λ b. IsContents (I.device image.old).contents b
         × HoldsClaims geometry.now.layout b workspace.old)
-        (λ b. messages.phase2 ∷ map of_names (pathname_lines (volume_of geometry.now.layout b)))
+        (λ b. messages.phase2 ∷ map of_tree (pathname_lines (volume_of geometry.now.layout b)))
         (progress W.sink report.old) (progress W.sink report.new) result }
     ensures goes { IfOk result (λ root. ForBytes
         (λ b. IsContents (I.device image.old).contents b

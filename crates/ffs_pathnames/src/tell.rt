@@ -1,7 +1,7 @@
 // The lines of a plain entry.
 ghost use Rattle.std.specs.Prelude.{◌≡◌, ◌*◌, ◌<◌, ◌≤◌, ℕ, List, length, Some, OnOk, IfOk, IsTrue, map, vec_len};
 ghost use Rattle.ffs_image.specs.Device.{ForContents};
-ghost use Rattle.ffs_volume.specs.Messages.Kinds.{of_names};
+ghost use Rattle.ffs_volume.specs.Messages.Kinds.{of_tree};
 ghost use Rattle.ffs_volume.specs.Directories.PathnameCheck.{attributes, extra_lines};
 ghost use Rattle.ffs_pathnames.specs.SaysNames.{SaysNames};
 ghost use Rattle.ffs_volume.specs.Directories.Parents.{graph_of};
@@ -181,7 +181,7 @@ pub fn report_plain<I: Image, W: Output>(
         siblings.old dir }
     ensures text { PhaseReports (KnowsPath geometry.now.layout (I.device image.old).contents
         workspace.old dir path.now)
-        (λ b. map of_names (plain_reported (volume_of geometry.now.layout b) dir
+        (λ b. map of_tree (plain_reported (volume_of geometry.now.layout b) dir
         (marks_of workspace.old) (entry_value entry.now)))
         (progress W.sink report.old) (progress W.sink report.new) result }
     ensures leaves { LinesLeave geometry.now.layout (I.device image.old) (I.device image.new)
@@ -228,7 +228,7 @@ pub fn report_extra<I: Image, W: Output>(
     requires { IsReadyFor geometry.now.layout (I.device image.old) workspace.old dir }
     ensures text { PhaseReports (KnowsPath geometry.now.layout (I.device image.old).contents
         workspace.old dir path.now)
-        (λ b. map of_names (extra_lines (attributes (volume_of geometry.now.layout b) dir)
+        (λ b. map of_tree (extra_lines (attributes (volume_of geometry.now.layout b) dir)
         (dir_path (graph_of (volume_of geometry.now.layout b)) dir) (entry_value entry.now)))
         (progress W.sink report.old) (progress W.sink report.new) result }
     ensures leaves { LineLeaves geometry.now.layout (I.device image.old) (I.device image.new)

@@ -78,7 +78,8 @@ covers_on x k s = let f = k.first in let low = s.0 in let high = s.1 in (omega a
 pub kept_cases : {e : RoledEntry} {q : NamePlace} {old new : ChildNames} (P : NamePlace → Type 0) (x : ℕ) →
     KeepsEntry e q old new → Covers new x → (p : NamePlace) → place_at new x ≡ Some p
     → ((r : NamePlace) → place_at old x ≡ Some r → P r) → (entry_names x e ≡ true → place_at old x ≡ None → P q) → P p
-kept_cases {e = e} {q = q} {old = old} {new = new} P x k s p is was now = go (entry_names x e) refl (place_at old x) refl
+kept_cases {e = e} {q = q} {old = old} {new = new} P x k s p is was now = go (entry_names x e) refl (place_at old x)
+    refl
   where
     c : Covers old x
     c = covers_on x k s
@@ -106,7 +107,8 @@ pub unseen_on : (all es rest : List RoledEntry) (e : RoledEntry) (q : NamePlace)
     KeepsEntry e q old new → es ≡ e ∷ rest → IsUnseen all es old → IsUnseen all rest new
 unseen_on all es rest e q old new k l unseen = record { still = λ x s none. go x s none (entry_names x e) refl }
   where
-    go : (x : ℕ) → Covers new x → place_at new x ≡ None → (b : Bool) → entry_names x e ≡ b → name_in x all ≡ name_in x rest
+    go : (x : ℕ) → Covers new x → place_at new x ≡ None → (b : Bool) → entry_names x e ≡ b → name_in x all ≡ name_in x
+        rest
     go x s none true n = absurd (none_some _ (sym none ∙ k.this x (covers_on x k s) n))
     go x s none false n =
         unseen.still x (covers_on x k s) (sym (k.others x (covers_on x k s).0 n) ∙ none)

@@ -9,7 +9,8 @@ use Rattle.ffs_volume.specs.declared.Step.{Step}
 use Rattle.ffs_volume.specs.declared.Step.TheVariants.{Run, Tail, Gap}
 use Rattle.ffs_volume.specs.Disk.Areas.{is_run_in_range}
 use Rattle.ffs_volume.specs.Directories.Entries.{Chunk, Entry, ChunkSource, chunk_of, chunks_of, entries_from}
-use Rattle.ffs_volume.specs.Directories.Entries.{entries_with, entry_at, entry_read, is_held, is_length, is_well_formed}
+use Rattle.ffs_volume.specs.Directories.Entries.{entries_with, entry_at, entry_read, has_valid_content}
+use Rattle.ffs_volume.specs.Directories.Entries.{is_valid_record_length, is_well_formed}
 use Rattle.ffs_volume.specs.Directories.Entries.{name_at, run_chunks, step_chunks}
 use Rattle.ffs_volume.specs.Directories.Graph.{parent, parent_entry_index}
 use Rattle.ffs_volume.specs.Disk.Numbers.{u16_at, u32_at, piece}
@@ -39,7 +40,8 @@ neither true b h = absurd (cc)
 neither false true h = absurd (cc)
 neither false false h = refl
 
-held_single : (chunk : List ℕ) (place length : ℕ) → is_held chunk place length ≡ true → has_slash (name_at chunk place)
+held_single : (chunk : List ℕ) (place length : ℕ) → has_valid_content chunk place length ≡ true → has_slash
+    (name_at chunk place)
     ≡ false
 held_single chunk place length h =
     let name = last_of (nat_le (8 + (slice_index chunk (place + 7) + 4) / 4 * 4) length)
@@ -52,9 +54,10 @@ there_single : (order : Order) (chunk : List ℕ) (place : ℕ) → is_well_form
     has_slash (entry_read order chunk place).name ≡ false
 unfolding is_well_formed entry_read
 there_single order chunk place h =
-    go (u32_at order place chunk == 0) (first_of_two (is_length place (u16_at order (place + 4) chunk)) _ h)
+    go (u32_at order place chunk == 0) (first_of_two (is_valid_record_length place (u16_at order (place + 4) chunk)) _
+    h)
   where
-    go : (none : Bool) → (none || is_held chunk place (u16_at order (place + 4) chunk)) ≡ true →
+    go : (none : Bool) → (none || has_valid_content chunk place (u16_at order (place + 4) chunk)) ≡ true →
         has_slash (if none then [] else name_at chunk place) ≡ false
     go true e = refl
     go false e = held_single chunk place (u16_at order (place + 4) chunk) e

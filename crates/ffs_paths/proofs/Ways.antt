@@ -30,7 +30,8 @@ use Rattle.ffs_paths.proofs.Rooms.{fits, fits_not}
 pub name_in-here : (d : ℕ) (e : RoledEntry) (es : List RoledEntry) → entry_names d e ≡ true →
     name_in d (e ∷ es) ≡ e.entry.name
 name_in-here d e es h = ap
-    (λ b. name_of (option_and_then (nth_roled (e ∷ es)) (cond b (Some 0) (option_map suc (first_index (entry_names d) es))))) h
+    (λ b. name_of (option_and_then (nth_roled (e ∷ es))
+    (cond b (Some 0) (option_map suc (first_index (entry_names d) es))))) h
 
 past : (e : RoledEntry) (es : List RoledEntry) (o : Option ℕ) →
     name_of (option_and_then (nth_roled (e ∷ es)) (option_map suc o)) ≡ name_of (option_and_then (nth_roled es) o)

@@ -1,7 +1,7 @@
 -- The message of a line.
 use Rattle.ffs_volume.specs.Messages.Kinds.{Message, location, opening, bad_super, cannot_read, cannot_alloc}
 use Rattle.ffs_volume.specs.Messages.Kinds.{optimization, minfree, mounted, phase1, phase1b, phase2, phase3}
-use Rattle.ffs_volume.specs.Messages.Kinds.{phase4, phase5, of_blocks, of_names, summary, NameMessage}
+use Rattle.ffs_volume.specs.Messages.Kinds.{phase4, phase5, of_blocks, of_tree, summary, TreeMessage}
 use Rattle.ffs_volume.specs.Messages.Kinds.{root_none, root_not_dir, root_suspect, dir_short, dir_length}
 use Rattle.ffs_volume.specs.Messages.Kinds.{dir_empty, dir_corrupt, missing_dot, missing_dot_first}
 use Rattle.ffs_volume.specs.Messages.Kinds.{number_dot, kind_dot, missing_dotdot, missing_dotdot_second}
@@ -36,7 +36,7 @@ heading_message Phase3 = phase3
 heading_message Phase4 = phase4
 heading_message Phase5 = phase5
 
-abbrev pub directory_message : DirectoryLine → NameMessage
+abbrev pub directory_message : DirectoryLine → TreeMessage
 directory_message RootNone = root_none
 directory_message RootNotDir = root_not_dir
 directory_message RootSuspect = root_suspect
@@ -45,7 +45,7 @@ directory_message (DirLength path size) = dir_length path.now size
 directory_message (DirEmpty path) = dir_empty path.now
 directory_message (DirCorrupt attr path) = dir_corrupt attr path.now
 
-abbrev pub dot_message : DotLine → NameMessage
+abbrev pub dot_message : DotLine → TreeMessage
 dot_message (MissingDot attr path) = missing_dot attr path.now
 dot_message (MissingDotFirst attr path name) = missing_dot_first attr path.now name.now
 dot_message (NumberDot attr path) = number_dot attr path.now
@@ -57,7 +57,7 @@ dot_message (KindDotdot attr path) = kind_dotdot attr path.now
 dot_message (ExtraDot attr path) = extra_dot attr path.now
 dot_message (ExtraDotdot attr path) = extra_dotdot attr path.now
 
-abbrev pub entry_message : EntryLine → NameMessage
+abbrev pub entry_message : EntryLine → TreeMessage
 entry_message (OutOfRange number path) = out_of_range number path.now
 entry_message (Whiteout number path) = whiteout number path.now
 entry_message (Unallocated attr path) = unallocated attr path.now
@@ -66,7 +66,7 @@ entry_message (ZeroDir attr path) = zero_dir attr path.now
 entry_message (Extraneous path dir) = extraneous path.now dir.now
 entry_message (KindEntry label attr path) = kind_entry attr label path.now
 
-abbrev pub reference_message : ReferenceLine → NameMessage
+abbrev pub reference_message : ReferenceLine → TreeMessage
 reference_message (UnrefDir attr) = unref_dir attr
 reference_message (DeadMarked label attr) = dead_marked label attr
 reference_message (DeadZero attr) = dead_zero attr
@@ -85,8 +85,8 @@ message_of (Minfree value) = minfree value
 message_of (Mounted mount) = mounted mount.now
 message_of (Heading heading) = heading_message heading
 message_of (Block message) = of_blocks message
-message_of (Directory line) = of_names (directory_message line)
-message_of (Dot line) = of_names (dot_message line)
-message_of (Entry line) = of_names (entry_message line)
-message_of (Reference line) = of_names (reference_message line)
+message_of (Directory line) = of_tree (directory_message line)
+message_of (Dot line) = of_tree (dot_message line)
+message_of (Entry line) = of_tree (entry_message line)
+message_of (Reference line) = of_tree (reference_message line)
 message_of (Summary files used free frags blocks tenths) = summary files used free frags blocks tenths

@@ -136,11 +136,13 @@ calm_found kinds m r r' p p' q q' es sound d c h calm right =
       below = λ x dir n.
           let new = calm_new (record { kinds = kinds; marked = m; dir = d; above = number_at p d }) (bool_at r) 0 x es
           calm dir n in
-          let t : bool_at r' x ≡ true = found_reached (bool_at r' x) d (dir_at kinds x) (list_any (entry_names x) es) dir n
+          let t : bool_at r' x ≡ true = found_reached (bool_at r' x) d (dir_at kinds x) (list_any (entry_names x) es)
+          dir n
           (subst (λ z. (bool_at r' x || is_some (nothing x)) ≡ (z || is_some (from_entries kinds d es x))) new
           (c.reached x)) in (
             t,
-            found_parent (bool_at r' x) d (number_at p x) (number_at p' x) (dir_at kinds x) (list_any (entry_names x) es) t
+            found_parent (bool_at r' x) d (number_at p x) (number_at p' x) (dir_at kinds x)
+                (list_any (entry_names x) es) t
                 dir n
                 (subst (λ z. cond (bool_at r' x) (number_at p' x) (unwrap_or (nothing x) (number_at p' x))
                 ≡ cond z (number_at p x) (unwrap_or (from_entries kinds d es x) (number_at p x))) new (c.parent x)),

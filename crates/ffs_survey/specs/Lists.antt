@@ -36,13 +36,14 @@ pub record EntryLists (most : ℕ) (kinds f : List ℕ) (n r : List Bool) (p : L
   pub few : (x : ℕ) → x < length kinds → number_at f x ≤ most
 
 -- those lists, and which inodes are marked
-pub record LevelLists (most : ℕ) (kinds : List ℕ) (m : List Bool) (f : List ℕ) (n r : List Bool) (p : List ℕ) : Type 0 where
-  pub marked : length m ≡ length kinds
-  pub references : length f ≡ length kinds
-  pub named : length n ≡ length kinds
-  pub reached : length r ≡ length kinds
-  pub parents : length p ≡ length kinds
-  pub few : (x : ℕ) → x < length kinds → number_at f x ≤ most
+pub record LevelLists (most : ℕ) (kinds : List ℕ) (m : List Bool) (f : List ℕ) (n r : List Bool) (p : List ℕ) : Type 0
+  where
+    pub marked : length m ≡ length kinds
+    pub references : length f ≡ length kinds
+    pub named : length n ≡ length kinds
+    pub reached : length r ≡ length kinds
+    pub parents : length p ≡ length kinds
+    pub few : (x : ℕ) → x < length kinds → number_at f x ≤ most
 
 -- all lists of a survey: inode 2 is there, and numbers of inodes and places in the queue fit into 31 bits
 pub record SurveyLists (kinds : List ℕ) (m : List Bool) (f : List ℕ) (n r : List Bool) (p q : List ℕ) : Type 0 where

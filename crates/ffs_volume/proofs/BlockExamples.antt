@@ -53,7 +53,8 @@ step_examples = record {
 pub claim_examples : ClaimExamples
 unfolding bytes_in word zeros base_layout base_super base_summary base_group root_inode root_chunk base_image root file
     blocks_at first_reported second_reported number u16_at i16_at u32_at u64_at i32_at is_reserved is_fragment_in_range
-    is_run_in_range is_group_metadata first_below earliest all_below cgoffset_of cgbase cgstart inode_from_bytes inode_of
+    is_run_in_range is_group_metadata first_below earliest all_below cgoffset_of cgbase cgstart inode_from_bytes
+    inode_of
     class_of steps_at steps_of owner_of owners_of reserved_map no_claims phase1_lines phase1b_lines offer_verdict
 claim_examples = record {
   base = refl;

@@ -87,7 +87,8 @@ pathname_examples = record {
 
 pub reference_examples : ReferenceExamples
 unfolding entry dots whole_chunk class_in small about alone lost_entries below_entries lost_cycle twice_entries twice
-    empty_dir dead_entries dead_parent role_of roled_from roled_entries references_below first_below earliest climb within
+    empty_dir dead_entries dead_parent role_of roled_from roled_entries references_below first_below earliest climb
+    within
     level parent lines_below attributes connectivity_lines inode_lines reference_lines
 reference_examples = record {
   levels = (refl, refl, refl);

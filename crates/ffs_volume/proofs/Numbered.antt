@@ -1,14 +1,14 @@
 -- How the lines of numbers in ascending order continue.
 use Rattle.std.proofs.Common.{◌≡◌, ℕ, zero, suc, ◌+◌, ◌-◌, ◌<◌, ◌≤◌, List, [], ◌∷◌, ◌++◌, map, append_assoc, append-nil}
 use Rattle.std.proofs.Common.{refl, ap, ◌∙◌, sym, arith}
-use Rattle.ffs_volume.specs.Messages.Kinds.{Message, NameMessage, of_names, lines_below, lines_from}
+use Rattle.ffs_volume.specs.Messages.Kinds.{Message, TreeMessage, of_tree, lines_below, lines_from}
 
-pub names_append : (xs ys : List NameMessage) → map of_names (xs ++ ys) ≡ map of_names xs ++ map of_names ys
+pub names_append : (xs ys : List TreeMessage) → map of_tree (xs ++ ys) ≡ map of_tree xs ++ map of_tree ys
 names_append [] ys = refl
-names_append (x ∷ xs) ys = ap (λ (zs : List Message). of_names x ∷ zs) (names_append xs ys)
+names_append (x ∷ xs) ys = ap (λ (zs : List Message). of_tree x ∷ zs) (names_append xs ys)
 
 -- those below d + k are those below d and the k from d on
-pub below_and_from : (lines : ℕ → List NameMessage) (k d : ℕ) → lines_below lines (d + k) ≡ lines_below lines d
+pub below_and_from : (lines : ℕ → List TreeMessage) (k d : ℕ) → lines_below lines (d + k) ≡ lines_below lines d
     ++ lines_from lines d k
 unfolding lines_below lines_from
 below_and_from lines zero d = let q : d + 0 ≡ d = omega arith in ap (lines_below lines) q
@@ -19,7 +19,7 @@ below_and_from lines (suc k) d =
     ∙ append_assoc (lines_below lines d) (lines d) (lines_from lines (suc d) k)
 
 -- of all numbers
-pub all_from : (lines : ℕ → List NameMessage) (n : ℕ) → lines_below lines n ≡ lines_from lines 0 (n - 0)
+pub all_from : (lines : ℕ → List TreeMessage) (n : ℕ) → lines_below lines n ≡ lines_from lines 0 (n - 0)
 unfolding lines_below
 all_from lines n =
     let q : n ≡ 0 + n = omega arith in
@@ -27,7 +27,7 @@ all_from lines n =
     ap (lines_below lines) q ∙ below_and_from lines n 0 ∙ ap (lines_from lines 0) r
 
 -- of numbers from 2 on, where those below it have no line
-pub all_from_root : (lines : ℕ → List NameMessage) (n : ℕ) → lines 0 ≡ [] → lines 1 ≡ [] →
+pub all_from_root : (lines : ℕ → List TreeMessage) (n : ℕ) → lines 0 ≡ [] → lines 1 ≡ [] →
     lines_below lines n ≡ lines_from lines 2 (n - 2)
 unfolding lines_below lines_from
 all_from_root lines zero zeroth first = refl
@@ -36,24 +36,24 @@ all_from_root lines (suc (suc n)) zeroth first =
     let q : suc (suc n) ≡ 2 + n = omega arith in
     let r : suc (suc n) - 2 ≡ n = omega arith in
     let two : lines_below lines 2 ≡ [] = rw (zeroth, first) refl in
-    ap (lines_below lines) q ∙ below_and_from lines n 2 ∙ ap (λ (xs : List NameMessage). xs ++ lines_from lines 2 n) two
+    ap (lines_below lines) q ∙ below_and_from lines n 2 ∙ ap (λ (xs : List TreeMessage). xs ++ lines_from lines 2 n) two
     ∙ ap (lines_from lines 2) (sym r)
 
 -- the next number's lines
-pub from_next : (lines : ℕ → List NameMessage) (d n : ℕ) → d < n →
-    map of_names (lines_from lines d (n - d)) ≡ map of_names (lines d)
-    ++ map of_names (lines_from lines (d + 1) (n - (d + 1)))
+pub from_next : (lines : ℕ → List TreeMessage) (d n : ℕ) → d < n →
+    map of_tree (lines_from lines d (n - d)) ≡ map of_tree (lines d)
+    ++ map of_tree (lines_from lines (d + 1) (n - (d + 1)))
 unfolding lines_from
 from_next lines d n h =
     let q : n - d ≡ suc (n - (d + 1)) = omega arith in
     let r : suc d ≡ d + 1 = omega arith in
-    ap (λ (k : ℕ). map of_names (lines_from lines d k)) q
+    ap (λ (k : ℕ). map of_tree (lines_from lines d k)) q
     ∙ names_append (lines d) (lines_from lines (suc d) (n - (d + 1)))
-    ∙ ap (λ (e : ℕ). map of_names (lines d) ++ map of_names (lines_from lines e (n - (d + 1)))) r
+    ∙ ap (λ (e : ℕ). map of_tree (lines d) ++ map of_tree (lines_from lines e (n - (d + 1)))) r
 
 -- at the end there are none
-pub from_end : (lines : ℕ → List NameMessage) (d n : ℕ) → n ≤ d → map of_names (lines_from lines d (n - d)) ≡ []
+pub from_end : (lines : ℕ → List TreeMessage) (d n : ℕ) → n ≤ d → map of_tree (lines_from lines d (n - d)) ≡ []
 unfolding lines_from
 from_end lines d n h =
     let q : n - d ≡ 0 = omega arith in
-    ap (λ (k : ℕ). map of_names (lines_from lines d k)) q
+    ap (λ (k : ℕ). map of_tree (lines_from lines d k)) q

@@ -19,7 +19,8 @@ use Rattle.ffs_volume.specs.Examples.OpeningExamples.{SuperblockExamples, AreaEx
 pub superblock_examples : SuperblockExamples
 unfolding bytes_in word zeros base_layout base_superblock base_super base_summary base_group root_inode root_chunk
     base_image changed image_of fault_of number u32_at i32_at count_at layout_of layout_fault is_valid_layout
-    has_valid_sizes is_block_size is_fragment_size is_fragment_count has_valid_cylinders has_valid_numbers has_valid_parts
+    has_valid_sizes is_block_size is_fragment_size is_fragment_count has_valid_cylinders has_valid_numbers
+    has_valid_parts
     has_valid_group has_valid_summary_area all_below cgoffset_of cgbase cgstart outcome outcome_of outcome_in
     super_verdict copy_agrees agree order_of superblock_of
 superblock_examples = record {
@@ -74,7 +75,8 @@ area_examples = record {
 pub opening_examples : OpeningExamples
 unfolding bytes_in word zeros base_layout base_superblock base_super base_summary base_group root_inode root_chunk
     base_image two_groups number u32_at i32_at count_at layout_of layout_fault is_valid_layout has_valid_sizes
-    is_block_size is_fragment_size is_fragment_count has_valid_cylinders has_valid_numbers has_valid_parts has_valid_group
+    is_block_size is_fragment_size is_fragment_count has_valid_cylinders has_valid_numbers has_valid_parts
+    has_valid_group
     has_valid_summary_area all_below cgoffset_of cgbase cgstart outcome outcome_of outcome_in super_verdict copy_agrees
     agree order_of superblock_of setting_lines octal
 opening_examples = record {

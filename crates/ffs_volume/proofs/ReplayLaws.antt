@@ -10,7 +10,7 @@ use Rattle.ffs_volume.specs.declared.Step.TheVariants.{Run, Tail, Gap}
 use Rattle.ffs_volume.specs.Disk.Areas.{is_fragment_in_range, is_run_in_range}
 use Rattle.ffs_volume.specs.Blocks.Claims.{Claims, next_inode, is_open, is_set, after_offer, after_offers, after_run}
 use Rattle.ffs_volume.specs.Blocks.Claims.{after_step, after_steps}
-use Rattle.ffs_volume.specs.Blocks.FirstOffers.{offer_at}
+use Rattle.ffs_volume.specs.Blocks.BlockCheck.{offer_at}
 use Rattle.ffs_volume.specs.Encodings.Replay.{Replay, fresh_replay, cut_of, replay_step, is_replayed, replayed_steps}
 use Rattle.ffs_volume.proofs.ReplayIsKeeping.{replay_of, replayed_step_offers, replayed_offers, seen_replays}
 use Rattle.ffs_volume.proofs.ReplayIsKeeping.{step_replays, step_few}

@@ -7,7 +7,7 @@ use Rattle.std.proofs.lemmas.Bool.{cases_lt}
 use Rattle.ffs_volume.specs.declared.Layout.{Layout}
 use Rattle.ffs_volume.specs.declared.Inode.{Inode}
 use Rattle.ffs_volume.specs.Disk.Geometry.{IsValidLayout}
-use Rattle.ffs_volume.specs.Blocks.Inodes.{logical_blocks_of, addresses_for}
+use Rattle.ffs_volume.specs.Blocks.Inodes.{logical_blocks_of, addresses_needed}
 use Rattle.ffs_volume.specs.Blocks.Steps.{steps_of, steps_of_addresses, walks, last_of}
 
 -- there is an inode 2
@@ -32,7 +32,7 @@ pub no_steps : (v : Layout) (image : List ℕ) (i : Inode) → 0 < v.bsize → i
 unfolding steps_of
 no_steps v image i h e =
     ap (λ b. steps_of_addresses (record { layout = v; blocks = b; last = last_of v i }) image i.addresses 0
-    (addresses_for v.nindir b)) (one (walks v i))
+    (addresses_needed v.nindir b)) (one (walks v i))
   where
     one : (w : Bool) → (if w then logical_blocks_of v i else 0) ≡ 0
     one true = no_blocks i.size v.bsize h e

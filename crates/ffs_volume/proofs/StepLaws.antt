@@ -16,9 +16,9 @@ use Rattle.ffs_volume.specs.declared.Step.TheVariants.{Run, Tail, Gap}
 use Rattle.ffs_volume.specs.declared.Inode.{Inode}
 use Rattle.ffs_volume.specs.Disk.Areas.{is_run_in_range}
 use Rattle.ffs_volume.specs.Disk.Geometry.{IsValidLayout}
-use Rattle.ffs_volume.specs.Blocks.Inodes.{logical_blocks_of, addresses_for}
+use Rattle.ffs_volume.specs.Blocks.Inodes.{logical_blocks_of, addresses_needed}
 use Rattle.ffs_volume.specs.Blocks.Lengths.{HasLength}
-use Rattle.ffs_volume.specs.Blocks.Steps.{FileBlocks, block_bytes, address_at, used_addresses, tail_of}
+use Rattle.ffs_volume.specs.Blocks.Steps.{FileBlocks, block_bytes, address_at, block_addresses_used, tail_of}
 use Rattle.ffs_volume.specs.Blocks.Steps.{any_address_from, steps_under, data_length, span_of, data_step}
 use Rattle.ffs_volume.specs.Blocks.Steps.{indirect_steps, steps_at, indirection_of, first_block, steps_of_addresses}
 use Rattle.ffs_volume.specs.Blocks.Steps.{last_of, walks, steps_of}
@@ -119,7 +119,7 @@ indirect_within t bytes child span address first l h =
     one (nat_eq address 0) (is_run_in_range t.layout address t.layout.frag)
   where
     used : ℕ
-    used = used_addresses t.layout.nindir t.blocks first span
+    used = block_addresses_used t.layout.nindir t.blocks first span
 
     inner : Within t.layout.frag first (first + t.layout.nindir * span)
         (tail_of (any_address_from t.layout (block_bytes t.layout bytes address) used)
@@ -241,14 +241,14 @@ last_fits v i g = one (nat_eq (i.size % v.bsize) 0) refl
           within (i.size % v.bsize) low (omega (arith, g.sizes.block)),
         )
 
-pub used_most : (words blocks : ℕ) → addresses_for words blocks ≤ 15
+pub used_most : (words blocks : ℕ) → addresses_needed words blocks ≤ 15
 used_most words blocks = grind (arith, nat_tests)
 
 -- the steps of an inode
 pub steps_within : (v : Layout) (i : Inode) (bytes : List ℕ) → IsValidLayout v → (high : ℕ)
     × Within v.frag 0 high (steps_of v i bytes)
 unfolding steps_of
-steps_within v i bytes g = one (addresses_for v.nindir (if walks v i then logical_blocks_of v i else 0))
+steps_within v i bytes g = one (addresses_needed v.nindir (if walks v i then logical_blocks_of v i else 0))
     (used_most v.nindir (if walks v i then logical_blocks_of v i else 0))
   where
     t : FileBlocks

@@ -28,8 +28,10 @@ lost-true v suspect d h =
 pub lost-from : (v : Graph) (suspect : ℕ → Bool) (d : ℕ) → IsLost v suspect d → is_lost v suspect d ≡ true
 lost-from v suspect d h =
     and_from (v.is_dir d) (not (d == 2) && (not (reached v d) && not (is_dead_in v suspect d))) h.dir
-    (and_from (not (d == 2)) (not (reached v d) && not (is_dead_in v suspect d)) (not_from_false _ (ne_eqb d 2 h.not_root))
-    (and_from (not (reached v d)) (not (is_dead_in v suspect d)) (not_from_false _ h.unreached) (not_from_false _ h.alive)))
+    (and_from (not (d == 2)) (not (reached v d) && not (is_dead_in v suspect d))
+    (not_from_false _ (ne_eqb d 2 h.not_root))
+    (and_from (not (reached v d)) (not (is_dead_in v suspect d)) (not_from_false _ h.unreached)
+    (not_from_false _ h.alive)))
 
 pub unreached-level : (v : Graph) (d : ℕ) → reached v d ≡ false → level v d ≡ None
 unreached-level v d h = go (level v d) h

@@ -8,4 +8,3 @@ pub mod BlockCheck
 pub mod Keeping
 pub mod KeptSteps
 pub mod ClaimBounds
-pub mod FirstOffers

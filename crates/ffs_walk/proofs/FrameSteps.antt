@@ -12,7 +12,7 @@ use Rattle.ffs_walk.specs.declared.frame.Item.{Item}
 use Rattle.ffs_walk.specs.declared.frame.Item.TheVariants.{Missing, Word}
 use Rattle.ffs_walk.specs.Fits.{FrameFits, IsBelow, IsSpent}
 use Rattle.ffs_walk.specs.Frames.{IsFrom, IsSameBlock}
-use Rattle.ffs_volume.specs.Blocks.Steps.{used_addresses}
+use Rattle.ffs_volume.specs.Blocks.Steps.{block_addresses_used}
 use Rattle.std.specs.Int.{div_ceil}
 use Rattle.std.proofs.lemmas.Grind.{div_ceil_times}
 use Rattle.std.proofs.Math.Nat.{mul-le-mul_right}
@@ -56,7 +56,7 @@ less_left most f h =
     rw e (omega arith)
 
 -- a used word has logical blocks of the inode under it
-pub word_below : (words blocks first span used j : ℕ) → 0 < span → used ≤ used_addresses words blocks first span →
+pub word_below : (words blocks first span used j : ℕ) → 0 < span → used ≤ block_addresses_used words blocks first span →
     j < used → first + j * span < blocks
 word_below words blocks first span used j some fits h =
     let n = blocks - first in

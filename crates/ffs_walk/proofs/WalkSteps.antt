@@ -7,7 +7,7 @@ use Rattle.ffs_volume.specs.Disk.Geometry.{IsValidLayout}
 use Rattle.ffs_volume.specs.declared.Step.{Step}
 use Rattle.ffs_walk.specs.declared.frame.Frame.{Frame}
 use Rattle.ffs_walk.specs.declared.walk.Walk.{Walk}
-use Rattle.ffs_volume.specs.Blocks.Inodes.{addresses_for}
+use Rattle.ffs_volume.specs.Blocks.Inodes.{addresses_needed}
 use Rattle.ffs_walk.specs.Fits.{IsSpent}
 use Rattle.ffs_walk.specs.declared.frame.Item.{Item}
 use Rattle.ffs_walk.specs.Frames.{frame_rest, frame_left, item_steps}
@@ -315,14 +315,16 @@ pub one_on : (next used : ℕ) → next < used → next + 1 ≤ used
 one_on next used some = omega arith
 
 -- the first logical block under an indirect address that is used is one of the inode
-pub single_below : (words blocks next used : ℕ) → next < used → used ≤ addresses_for words blocks → next ≡ 12 →
+pub single_below : (words blocks next used : ℕ) → next < used → used ≤ addresses_needed words blocks → next ≡ 12 →
     12 < blocks
 single_below words blocks next used some fits is = grind (arith, nat_tests)
 
-pub double_below : (words words' blocks next used : ℕ) → next < used → used ≤ addresses_for words blocks → next ≡ 13 →
+pub double_below : (words words' blocks next used : ℕ) → next < used → used ≤ addresses_needed words blocks → next
+    ≡ 13 →
     words' ≡ words → 12 + words' < blocks
 double_below words words' blocks next used some fits is same = rw same (grind (arith, nat_tests))
 
-pub triple_below : (words words' blocks next used : ℕ) → next < used → used ≤ addresses_for words blocks → next ≡ 14 →
+pub triple_below : (words words' blocks next used : ℕ) → next < used → used ≤ addresses_needed words blocks → next
+    ≡ 14 →
     words' ≡ words → 12 + words' + words' * words' < blocks
 triple_below words words' blocks next used some fits is same = rw same (grind (arith, nat_tests))

@@ -9,9 +9,9 @@ use ffs_volume::constants::{DT_BLK, DT_CHR, DT_DIR, DT_FIFO, DT_LNK, DT_REG, DT_
 use ffs_volume::{Class, Inode};
 
 /// How many of the fifteen addresses are used by so many logical blocks.
-pub fn addresses_for(words: u64, blocks: u64) -> u32
+pub fn addresses_needed(words: u64, blocks: u64) -> u32
     requires { words ≤ 16384 }
-    ensures value { result ≡ inodes.addresses_for words blocks }
+    ensures value { result ≡ inodes.addresses_needed words blocks }
     ensures bound { result ≤ 15 }
 {
     if blocks <= NDADDR {
@@ -115,8 +115,8 @@ pub fn walked_blocks(geometry: &Geometry, inode: &Inode, class: Class) -> u64
 }
 
 /// How many of its fifteen addresses an inode may use.
-fn addresses_used(geometry: &Geometry, inode: &Inode) -> usize
-    ensures value { result ≡ inodes.addresses_used geometry.now.layout inode.now }
+fn inode_addresses_used(geometry: &Geometry, inode: &Inode) -> usize
+    ensures value { result ≡ inodes.inode_addresses_used geometry.now.layout inode.now }
     ensures bound { result ≤ 15 }
 {
     if is_short_symlink(geometry, inode) {
@@ -128,7 +128,7 @@ fn addresses_used(geometry: &Geometry, inode: &Inode) -> usize
     } else {
         blocks
     };
-    addresses_for(u64::from(geometry.layout.nindir), counted) as usize
+    addresses_needed(u64::from(geometry.layout.nindir), counted) as usize
 }
 
 fn is_known_type(kind: u16) -> bool
@@ -164,7 +164,7 @@ pub fn class_of(geometry: &Geometry, inode: &Inode) -> Class
     {
         return Class::Unknown;
     }
-    let used = addresses_used(geometry, inode);
+    let used = inode_addresses_used(geometry, inode);
     if is_any_set(&inode.addresses, used) {
         return Class::Unknown;
     }

@@ -1,11 +1,11 @@
 //! The walk over the blocks of an inode.
 
 ghost use Rattle.std.specs.Prelude.{◌≡◌, ◌-◌, ◌*◌, ◌+◌, ◌<◌, ◌≤◌, ◌^◌, ◌++◌, ◌∷◌, [], ℕ, List, length, vec_len, Ok, Err, None, OnOk, OnErr, IfOk, IfErr, IfSome, MatchOption, OnSome, IsTrue, false, ◌↔◌, if◌then◌else◌};
-ghost use Rattle.ffs_volume.specs.Blocks.Inodes.{addresses_for};
+ghost use Rattle.ffs_volume.specs.Blocks.Inodes.{addresses_needed};
 ghost use Rattle.ffs_walk.specs.Fits.{FrameFits};
 
 use crate::blocks::Blocks;
-use crate::class::{addresses_for, class_of, last_length, walked_blocks};
+use crate::class::{addresses_needed, class_of, last_length, walked_blocks};
 use crate::frame::{Frame, Item};
 use ffs_image::{Image, ImageFault};
 use ffs_layout::Geometry;
@@ -31,7 +31,7 @@ pub struct Walk {
     pub triple: Frame,
     ghost in_order: { next ≤ used },
     ghost in_array: { used ≤ 15 },
-    ghost used_fits: { used ≤ addresses_for geometry.layout.nindir blocks },
+    ghost used_fits: { used ≤ addresses_needed geometry.layout.nindir blocks },
     ghost last_some: { 0 < last },
     ghost last_small: { last ≤ geometry.layout.frag },
     ghost blocks_small: { blocks < 2 ^ 53 },
@@ -339,7 +339,7 @@ impl Walk {
             blocks,
             last: last_length(geometry, inode),
             next: 0,
-            used: addresses_for(u64::from(geometry.layout.nindir), blocks),
+            used: addresses_needed(u64::from(geometry.layout.nindir), blocks),
             addresses: inode.addresses,
             single: Frame::spent(),
             double: Frame::spent(),

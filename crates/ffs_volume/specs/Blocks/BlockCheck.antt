@@ -50,12 +50,16 @@ pub record Offer : Type 0 where
   pub inode : ℕ
   pub fragment : ℕ
 
+-- the offer of a fragment to an inode
+abbrev pub offer_at : (inode fragment : ℕ) → Offer
+offer_at i f = record { inode = i; fragment = f }
+
 -- The five definitions below are the kept offers, walking as `Claims` does from a state s: of some fragments, of a Run,
 -- of a step, of steps, and of inodes. `Keeping` says by one rule which they are: read it for the meaning
 abbrev pub kept_in_offers : (v : Layout) (inode : ℕ) (s : Claims) (fs : List ℕ) → List Offer
 kept_in_offers v inode s [] = []
 kept_in_offers v inode s (f ∷ fs) =
-    (if nat_lt s.dups (MAXDUP + 1) then record { inode = inode; fragment = f } ∷ [] else [])
+    (if nat_lt s.dups (MAXDUP + 1) then offer_at inode f ∷ [] else [])
     ++ kept_in_offers v inode (after_offer v s f) fs
 
 abbrev pub kept_in_run : (v : Layout) (inode : ℕ) (s : Claims) (start len : ℕ) → List Offer

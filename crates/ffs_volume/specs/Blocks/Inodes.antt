@@ -53,8 +53,8 @@ logical_blocks_of v i = div_ceil i.size v.bsize
 
 -- how many of the fifteen addresses are used where there are this many logical blocks, and a block has room for `words`
 -- addresses
-abbrev pub addresses_for : (words blocks : ℕ) → ℕ
-addresses_for words blocks =
+abbrev pub addresses_needed : (words blocks : ℕ) → ℕ
+addresses_needed words blocks =
     if nat_lt blocks (NDADDR + 1) then blocks
     else (if nat_lt (NDADDR + words) blocks
     then (if nat_lt (NDADDR + words + words * words) blocks then 15 else 14)
@@ -62,10 +62,10 @@ addresses_for words blocks =
 
 -- how many of the fifteen addresses an inode may use. A short symlink has its text in place of them, 4 bytes in each; a
 -- device has its own number in one more
-abbrev pub addresses_used : Layout → Inode → ℕ
-addresses_used v i =
+abbrev pub inode_addresses_used : Layout → Inode → ℕ
+inode_addresses_used v i =
     if is_short_symlink v i then div_ceil i.size 4
-    else addresses_for v.nindir
+    else addresses_needed v.nindir
     (if is_device (type_of i.mode) then logical_blocks_of v i + 1 else logical_blocks_of v i)
 
 -- some address isn't zero
@@ -84,7 +84,7 @@ class_of v i =
     if type_of i.mode == 0
     then (if i.mode == 0 && (i.size == 0 && not (is_any_set i.addresses)) then Free else Partial)
     else (if not (is_known_type (type_of i.mode))
-    || (is_too_large v i || is_any_set (drop (addresses_used v i) i.addresses))
+    || (is_too_large v i || is_any_set (drop (inode_addresses_used v i) i.addresses))
     then Unknown
     else (if type_of i.mode == DT_DIR then Dir else File))
 

@@ -13,7 +13,7 @@ use Rattle.ffs_volume.specs.declared.Step.TheVariants.{Run, Tail, Gap}
 use Rattle.ffs_volume.specs.declared.Inode.{Inode}
 use Rattle.ffs_volume.specs.Disk.Numbers.{u32_at, piece}
 use Rattle.ffs_volume.specs.Disk.Areas.{is_run_in_range}
-use Rattle.ffs_volume.specs.Blocks.Inodes.{addresses_for, type_of, is_device, is_short_symlink}
+use Rattle.ffs_volume.specs.Blocks.Inodes.{addresses_needed, type_of, is_device, is_short_symlink}
 use Rattle.ffs_volume.specs.Blocks.Inodes.{logical_blocks_of, is_file_or_dir, class_of}
 
 -- the bytes of the block at an address
@@ -37,8 +37,8 @@ pub record FileBlocks : Type 0 where
 
 -- how many addresses of an indirect block are used, of the `words` that it has: it covers the logical blocks from
 -- `first` on, and `span` of them lie under each address (`-` stops at 0)
-abbrev pub used_addresses : (words blocks first span : ℕ) → ℕ
-used_addresses words blocks first span = min words (div_ceil (blocks - first) span)
+abbrev pub block_addresses_used : (words blocks first span : ℕ) → ℕ
+block_addresses_used words blocks first span = min words (div_ceil (blocks - first) span)
 
 -- a Tail, where an address past the used ones was found
 abbrev pub tail_of : Bool → List Step
@@ -79,8 +79,8 @@ indirect_steps t image child span address first =
     else Run address t.layout.frag None ∷
     (if is_run_in_range t.layout address t.layout.frag
     then tail_of (any_address_from t.layout (block_bytes t.layout image address)
-    (used_addresses t.layout.nindir t.blocks first span))
-    ++ steps_under t.layout image child span address first 0 (used_addresses t.layout.nindir t.blocks first span)
+    (block_addresses_used t.layout.nindir t.blocks first span))
+    ++ steps_under t.layout image child span address first 0 (block_addresses_used t.layout.nindir t.blocks first span)
     else [])
 
 -- the steps at an address of a level of indirection, `first` being the first logical block under it
@@ -119,4 +119,4 @@ unfoldable pub steps_of : Layout → Inode → List ℕ → List Step
 steps_of v i image =
     let blocks = if walks v i then logical_blocks_of v i else 0 in
     steps_of_addresses (record { layout = v; blocks = blocks; last = last_of v i }) image i.addresses 0
-    (addresses_for v.nindir blocks)
+    (addresses_needed v.nindir blocks)

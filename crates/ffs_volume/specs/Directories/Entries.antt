@@ -27,29 +27,29 @@ abbrev pub name_at : (chunk : List ℕ) (place : ℕ) → List ℕ
 name_at chunk place = piece (place + 8) (slice_index chunk (place + 7)) chunk
 
 -- a name has at least one byte, none of them NUL or `/` (47), and a NUL after it. Its length is one byte: at most 255
-abbrev pub is_name : (chunk : List ℕ) (place : ℕ) → Bool
-is_name chunk place =
+abbrev pub is_valid_name : (chunk : List ℕ) (place : ℕ) → Bool
+is_valid_name chunk place =
     not (slice_index chunk (place + 7) == 0)
     && not (list_any (λ b. b == 0) (name_at chunk place) || list_any (λ b. b == 47) (name_at chunk place))
     && (slice_index chunk (place + 8 + slice_index chunk (place + 7)) == 0)
 
 -- the length of a record is a multiple of 4 and at least 8, and the record ends within the chunk
-abbrev pub is_length : (place length : ℕ) → Bool
-is_length place length = (length % 4 == 0) && nat_le 8 length && nat_le (place + length) DIRBLKSIZ
+abbrev pub is_valid_record_length : (place length : ℕ) → Bool
+is_valid_record_length place length = (length % 4 == 0) && nat_le 8 length && nat_le (place + length) DIRBLKSIZ
 
 -- the record holds what an entry in use must have: room for its name with the NUL, rounded up to 4 bytes, one of
 -- sixteen types, and a valid name
-abbrev pub is_held : (chunk : List ℕ) (place length : ℕ) → Bool
-is_held chunk place length =
+abbrev pub has_valid_content : (chunk : List ℕ) (place length : ℕ) → Bool
+has_valid_content chunk place length =
     nat_le (8 + (slice_index chunk (place + 7) + 4) / 4 * 4) length
     && nat_le (slice_index chunk (place + 6)) 15
-    && is_name chunk place
+    && is_valid_name chunk place
 
 -- an entry's record length is valid, and so are its name and type where its number isn't 0
 unfoldable pub is_well_formed : (order : Order) (chunk : List ℕ) (place : ℕ) → Bool
 is_well_formed order chunk place =
-    is_length place (u16_at order (place + 4) chunk)
-    && ((u32_at order place chunk == 0) || is_held chunk place (u16_at order (place + 4) chunk))
+    is_valid_record_length place (u16_at order (place + 4) chunk)
+    && ((u32_at order place chunk == 0) || has_valid_content chunk place (u16_at order (place + 4) chunk))
 
 -- the entry that the bytes at a place say, well formed or not; with the number 0 its name is empty
 unfoldable pub entry_read : (order : Order) (chunk : List ℕ) (place : ℕ) → Entry

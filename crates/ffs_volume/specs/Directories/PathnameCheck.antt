@@ -19,7 +19,7 @@ use Rattle.ffs_volume.specs.Directories.Roles.{is_two_dots, start_entry, dot, do
 use Rattle.ffs_volume.specs.Directories.Graph.{parent}
 use Rattle.ffs_volume.specs.Directories.Parents.{graph_of, is_first_name, is_parent_entry}
 use Rattle.ffs_volume.specs.Directories.Paths.{dir_path, entry_path}
-use Rattle.ffs_volume.specs.Messages.Kinds.{NameMessage, reported, lines_below, root_none, root_not_dir}
+use Rattle.ffs_volume.specs.Messages.Kinds.{TreeMessage, reported, lines_below, root_none, root_not_dir}
 use Rattle.ffs_volume.specs.Messages.Kinds.{root_suspect, dir_short, dir_length, dir_empty, dir_corrupt}
 use Rattle.ffs_volume.specs.Messages.Kinds.{missing_dot, missing_dot_first, number_dot, kind_dot}
 use Rattle.ffs_volume.specs.Messages.Kinds.{missing_dotdot, missing_dotdot_second, number_dotdot}
@@ -48,7 +48,7 @@ label_of Partial = NameLabel
 label_of Free = NameLabel
 
 -- the message on the root, by its class
-abbrev pub root_lines_of : Volume → Class → List NameMessage
+abbrev pub root_lines_of : Volume → Class → List TreeMessage
 root_lines_of vol Free = root_none ∷ []
 root_lines_of vol Partial = root_none ∷ []
 root_lines_of vol File = root_not_dir ∷ []
@@ -56,7 +56,7 @@ root_lines_of vol Unknown = root_not_dir ∷ []
 root_lines_of vol Dir = reported (is_suspect vol ROOTINO) root_suspect
 
 -- the message on the root
-unfoldable pub root_lines : Volume → List NameMessage
+unfoldable pub root_lines : Volume → List TreeMessage
 root_lines vol = root_lines_of vol (vol.class ROOTINO)
 
 -- the check continues after the root: it is a directory
@@ -76,7 +76,7 @@ abbrev pub are_sound : List Chunk → Bool
 are_sound chunks = list_all (λ c. c.sound) chunks
 
 -- the messages on a directory's size, Gaps and chunks
-unfoldable pub shape_lines : Volume → ℕ → List NameMessage
+unfoldable pub shape_lines : Volume → ℕ → List TreeMessage
 shape_lines vol d =
     reported (is_short vol d) (dir_short (attributes vol d) (dir_path (graph_of vol) d))
     ++ (reported (is_not_multiple vol d) (dir_length (dir_path (graph_of vol) d) (vol.inode d).size)
@@ -84,25 +84,25 @@ shape_lines vol d =
     ++ reported (not (are_sound (vol.chunks d))) (dir_corrupt (attributes vol d) (dir_path (graph_of vol) d))))
 
 -- the message where there is no `.`, by the entry that is first
-abbrev pub missing_dot_lines : Attr → List ℕ → Option Entry → List NameMessage
+abbrev pub missing_dot_lines : Attr → List ℕ → Option Entry → List TreeMessage
 missing_dot_lines about path None = missing_dot about path ∷ []
 missing_dot_lines about path (Some e) =
     if is_live e && not (is_two_dots e.name) then missing_dot_first about path e.name ∷ []
     else missing_dot about path ∷ []
 
 -- the messages on `.`, by whether there is one
-abbrev pub dot_lines_of : Volume → ℕ → Option Entry → List NameMessage
+abbrev pub dot_lines_of : Volume → ℕ → Option Entry → List TreeMessage
 dot_lines_of vol d None = missing_dot_lines (attributes vol d) (dir_path (graph_of vol) d) (start_entry vol d 0)
 dot_lines_of vol d (Some e) =
     reported (not (e.number == d)) (number_dot (attributes vol d) (dir_path (graph_of vol) d))
     ++ reported (not (e.kind == DT_DIR)) (kind_dot (attributes vol d) (dir_path (graph_of vol) d))
 
 -- the messages on `.`
-unfoldable pub dot_lines : Volume → ℕ → List NameMessage
+unfoldable pub dot_lines : Volume → ℕ → List TreeMessage
 dot_lines vol d = dot_lines_of vol d (dot vol d)
 
 -- the message where there is no `..`, by the entry that is second
-abbrev pub missing_dotdot_lines : Attr → List ℕ → Option Entry → List NameMessage
+abbrev pub missing_dotdot_lines : Attr → List ℕ → Option Entry → List TreeMessage
 missing_dotdot_lines about path None = missing_dotdot about path ∷ []
 missing_dotdot_lines about path (Some e) =
     if is_live e && not (is_one_dot e.name) then missing_dotdot_second about path e.name ∷ []
@@ -114,7 +114,7 @@ is_wrong_parent None n = false
 is_wrong_parent (Some s) n = not (s == n)
 
 -- the messages on `..`, by whether there is one
-abbrev pub dotdot_lines_of : Volume → ℕ → Option Entry → List NameMessage
+abbrev pub dotdot_lines_of : Volume → ℕ → Option Entry → List TreeMessage
 dotdot_lines_of vol d None =
     missing_dotdot_lines (attributes vol d) (dir_path (graph_of vol) d) (start_entry vol d 1)
 dotdot_lines_of vol d (Some e) =
@@ -123,11 +123,11 @@ dotdot_lines_of vol d (Some e) =
     ++ reported (not (e.kind == DT_DIR)) (kind_dotdot (attributes vol d) (dir_path (graph_of vol) d))
 
 -- the messages on `..`
-unfoldable pub dotdot_lines : Volume → ℕ → List NameMessage
+unfoldable pub dotdot_lines : Volume → ℕ → List TreeMessage
 dotdot_lines vol d = dotdot_lines_of vol d (dotdot vol d)
 
 -- the message on an extra entry
-abbrev pub extra_lines : Attr → List ℕ → Entry → List NameMessage
+abbrev pub extra_lines : Attr → List ℕ → Entry → List TreeMessage
 extra_lines about path e =
     if is_one_dot e.name then extra_dot about path ∷ [] else extra_dotdot about path ∷ []
 
@@ -137,12 +137,12 @@ is_bad_whiteout e =
     ((e.number == WINO) && not (e.kind == DT_WHT)) || ((e.kind == DT_WHT) && not (e.number == WINO))
 
 -- x, which this entry names, is a suspect other than 2, and this is the first plain entry that names x
-abbrev pub reports_suspect : (vol : Volume) (s j x : ℕ) → Bool
-reports_suspect vol s j x = is_suspect vol x && (not (x == ROOTINO) && is_first_name (graph_of vol) s j x)
+abbrev pub is_first_name_of_suspect : (vol : Volume) (s j x : ℕ) → Bool
+is_first_name_of_suspect vol s j x = is_suspect vol x && (not (x == ROOTINO) && is_first_name (graph_of vol) s j x)
 
 -- the message on a suspect that an entry names
-abbrev pub suspect_reported : (vol : Volume) (x : ℕ) (path : List ℕ) → NameMessage
-suspect_reported vol x path =
+abbrev pub message_on_suspect : (vol : Volume) (x : ℕ) (path : List ℕ) → TreeMessage
+message_on_suspect vol x path =
     if vol.marked x then dup_bad (attributes vol x) (label_of (vol.class x)) path else zero_dir (attributes vol x) path
 
 -- x is a directory, and this entry, which names it, isn't its parent entry
@@ -154,16 +154,17 @@ abbrev pub has_wrong_type : Volume → Entry → Bool
 has_wrong_type vol e = not (is_unknown (vol.class e.number)) && not (e.kind == type_of (vol.inode e.number).mode)
 
 -- the messages on a plain entry at index j of the directory s, which names an allocated inode
-unfoldable pub named_lines : (vol : Volume) (s j : ℕ) (e : Entry) → List NameMessage
+unfoldable pub named_lines : (vol : Volume) (s j : ℕ) (e : Entry) → List TreeMessage
 named_lines vol s j e =
-    reported (reports_suspect vol s j e.number) (suspect_reported vol e.number (entry_path (graph_of vol) s e.name))
+    reported (is_first_name_of_suspect vol s j e.number)
+    (message_on_suspect vol e.number (entry_path (graph_of vol) s e.name))
     ++ (reported (is_extraneous vol s j e.number)
     (extraneous (entry_path (graph_of vol) s e.name) (dir_path (graph_of vol) e.number))
     ++ reported (has_wrong_type vol e)
     (kind_entry (attributes vol e.number) (label_of (vol.class e.number)) (entry_path (graph_of vol) s e.name)))
 
 -- the messages on any plain entry at index j of the directory s
-unfoldable pub plain_lines : (vol : Volume) (s j : ℕ) (e : Entry) → List NameMessage
+unfoldable pub plain_lines : (vol : Volume) (s j : ℕ) (e : Entry) → List TreeMessage
 plain_lines vol s j e =
     if not (nat_lt e.number vol.count) then out_of_range e.number (entry_path (graph_of vol) s e.name) ∷ []
     else (if is_bad_whiteout e then whiteout e.number (entry_path (graph_of vol) s e.name) ∷ []
@@ -173,24 +174,24 @@ plain_lines vol s j e =
     else named_lines vol s j e)))
 
 -- the messages on an entry at index j of the directory s, by its role
-abbrev pub roled_reported : (vol : Volume) (s j : ℕ) → Role → (e : Entry) → List NameMessage
-roled_reported vol s j Empty e = []
-roled_reported vol s j Dot e = []
-roled_reported vol s j Dotdot e = []
-roled_reported vol s j Extra e = extra_lines (attributes vol s) (dir_path (graph_of vol) s) e
-roled_reported vol s j Plain e = plain_lines vol s j e
+abbrev pub entry_role_lines : (vol : Volume) (s j : ℕ) → Role → (e : Entry) → List TreeMessage
+entry_role_lines vol s j Empty e = []
+entry_role_lines vol s j Dot e = []
+entry_role_lines vol s j Dotdot e = []
+entry_role_lines vol s j Extra e = extra_lines (attributes vol s) (dir_path (graph_of vol) s) e
+entry_role_lines vol s j Plain e = plain_lines vol s j e
 
 -- the messages on an entry at index j of the directory s
-unfoldable pub roled_lines : (vol : Volume) (s j : ℕ) (e : RoledEntry) → List NameMessage
-roled_lines vol s j e = roled_reported vol s j e.role e.entry
+unfoldable pub roled_lines : (vol : Volume) (s j : ℕ) (e : RoledEntry) → List TreeMessage
+roled_lines vol s j e = entry_role_lines vol s j e.role e.entry
 
 -- the messages on the entries of s from index j on
-unfoldable pub lines_of_entries : (vol : Volume) (s j : ℕ) (es : List RoledEntry) → List NameMessage
+unfoldable pub lines_of_entries : (vol : Volume) (s j : ℕ) (es : List RoledEntry) → List TreeMessage
 lines_of_entries vol s j [] = []
 lines_of_entries vol s j (e ∷ es) = roled_lines vol s j e ++ lines_of_entries vol s (suc j) es
 
 -- the messages on a directory whose size isn't 0
-unfoldable pub dir_lines : Volume → ℕ → List NameMessage
+unfoldable pub dir_lines : Volume → ℕ → List TreeMessage
 dir_lines vol d =
     shape_lines vol d ++ (dot_lines vol d ++ (dotdot_lines vol d ++ lines_of_entries vol d 0 (roled_entries vol d)))
 
@@ -199,9 +200,9 @@ abbrev pub is_looked_at : Volume → ℕ → Bool
 is_looked_at vol d = is_dir vol d && not ((vol.inode d).size == 0)
 
 -- the messages on d: none where d is no directory, or has the size 0
-abbrev pub lines_of : Volume → ℕ → List NameMessage
+abbrev pub lines_of : Volume → ℕ → List TreeMessage
 lines_of vol d = if is_looked_at vol d then dir_lines vol d else []
 
 -- the whole pathname check: the root, and then each directory
-unfoldable pub pathname_lines : Volume → List NameMessage
+unfoldable pub pathname_lines : Volume → List TreeMessage
 pathname_lines vol = root_lines vol ++ (if continues_after_root vol then lines_below (lines_of vol) vol.count else [])

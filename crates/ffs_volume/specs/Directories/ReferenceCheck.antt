@@ -2,25 +2,25 @@
 use Rattle.std.specs.Prelude.{ℕ, ◌==◌, not, List, [], ◌∷◌, if◌then◌else◌}
 use Rattle.ffs_volume.specs.Disk.Numbers.{equals_natural}
 use Rattle.ffs_volume.specs.Directories.Roles.{Volume, is_allocated_inode, references}
-use Rattle.ffs_volume.specs.Messages.Kinds.{NameMessage, lines_below, reported, dead_marked}
+use Rattle.ffs_volume.specs.Messages.Kinds.{TreeMessage, lines_below, reported, dead_marked}
 use Rattle.ffs_volume.specs.Messages.Kinds.{dead_zero, unref, unref_unlinked, link_count}
 use Rattle.ffs_volume.specs.Directories.PathnameCheck.{attributes, label_of}
 use Rattle.ffs_volume.specs.Directories.Connectivity.{is_dead}
 
 -- the message on a dead inode
-abbrev pub dead_lines : Volume → ℕ → List NameMessage
+abbrev pub dead_lines : Volume → ℕ → List TreeMessage
 dead_lines vol i =
     if vol.marked i then dead_marked (label_of (vol.class i)) (attributes vol i) ∷ []
     else dead_zero (attributes vol i) ∷ []
 
 -- the message on an inode without references
-abbrev pub unref_lines : Volume → ℕ → List NameMessage
+abbrev pub unref_lines : Volume → ℕ → List TreeMessage
 unref_lines vol i =
     if equals_natural (vol.inode i).nlink 0 then unref_unlinked (label_of (vol.class i)) (attributes vol i) ∷ []
     else unref (label_of (vol.class i)) (attributes vol i) ∷ []
 
 -- the message on an allocated inode: it is dead, has no references, or another count of links
-unfoldable pub inode_lines : Volume → ℕ → List NameMessage
+unfoldable pub inode_lines : Volume → ℕ → List TreeMessage
 inode_lines vol i =
     if is_dead vol i then dead_lines vol i
     else (if references vol i == 0 then unref_lines vol i
@@ -28,9 +28,9 @@ inode_lines vol i =
     (link_count (label_of (vol.class i)) (attributes vol i) (vol.inode i).nlink (references vol i)))
 
 -- the message on the number i: none where it isn't that of an allocated inode
-abbrev pub counted_lines : Volume → ℕ → List NameMessage
+abbrev pub counted_lines : Volume → ℕ → List TreeMessage
 counted_lines vol i = if is_allocated_inode vol i then inode_lines vol i else []
 
 -- the lines of phase 4 on inodes
-unfoldable pub reference_lines : Volume → List NameMessage
+unfoldable pub reference_lines : Volume → List TreeMessage
 reference_lines vol = lines_below (counted_lines vol) vol.count

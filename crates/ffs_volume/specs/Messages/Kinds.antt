@@ -9,37 +9,37 @@ use Rattle.ffs_volume.specs.declared.SuperFault.{SuperFault}
 -- a message on directories, their entries or references; the rules that report them, and their words, are in the folder
 -- Directories. Paths and names have the bytes of the image; the text of a message has `?` in place of control bytes.
 -- `Texts` has all words of each message
-pub data NameMessage : Type 0 where
-  root_none : NameMessage  -- ROOT INODE UNALLOCATED
-  root_not_dir : NameMessage
-  root_suspect : NameMessage  -- DUPS/BAD IN ROOT INODE
-  dir_short : (about : Attr) (path : List ℕ) → NameMessage
-  dir_length : (path : List ℕ) (size : ℕ) → NameMessage
-  dir_empty : (path : List ℕ) → NameMessage  -- CONTAINS EMPTY BLOCKS: it has a Gap
-  dir_corrupt : (about : Attr) (path : List ℕ) → NameMessage
-  missing_dot : (about : Attr) (path : List ℕ) → NameMessage
-  missing_dot_first : (about : Attr) (path name : List ℕ) → NameMessage  -- MISSING '.', another entry is first
-  number_dot : (about : Attr) (path : List ℕ) → NameMessage  -- BAD INODE NUMBER FOR '.'
-  kind_dot : (about : Attr) (path : List ℕ) → NameMessage  -- BAD TYPE VALUE FOR '.'
-  missing_dotdot : (about : Attr) (path : List ℕ) → NameMessage
-  missing_dotdot_second : (about : Attr) (path name : List ℕ) → NameMessage  -- MISSING '..', another is second
-  number_dotdot : (about : Attr) (path : List ℕ) → NameMessage
-  kind_dotdot : (about : Attr) (path : List ℕ) → NameMessage  -- BAD TYPE VALUE FOR '..'
-  extra_dot : (about : Attr) (path : List ℕ) → NameMessage
-  extra_dotdot : (about : Attr) (path : List ℕ) → NameMessage
-  out_of_range : (number : ℕ) (path : List ℕ) → NameMessage  -- I OUT OF RANGE
-  whiteout : (number : ℕ) (path : List ℕ) → NameMessage  -- BAD WHITEOUT ENTRY
-  unallocated : (about : Attr) (path : List ℕ) → NameMessage
-  dup_bad : (about : Attr) (label : Label) (path : List ℕ) → NameMessage  -- DUP/BAD, in phase 2
-  zero_dir : (about : Attr) (path : List ℕ) → NameMessage  -- ZERO LENGTH DIRECTORY, in phase 2
-  extraneous : (path directory : List ℕ) → NameMessage  -- IS AN EXTRANEOUS HARD LINK
-  kind_entry : (about : Attr) (label : Label) (path : List ℕ) → NameMessage  -- BAD TYPE VALUE
-  unref_dir : (about : Attr) → NameMessage
-  dead_marked : (label : Label) (about : Attr) → NameMessage  -- BAD/DUP, in phase 4
-  dead_zero : (about : Attr) → NameMessage  -- ZERO LENGTH DIR, in phase 4
-  unref : (label : Label) (about : Attr) → NameMessage  -- UNREF, with links: reconnect it?
-  unref_unlinked : (label : Label) (about : Attr) → NameMessage  -- UNREF, without links: clear it?
-  link_count : (label : Label) (about : Attr) (nlink : ℤ) (references : ℕ) → NameMessage
+pub data TreeMessage : Type 0 where
+  root_none : TreeMessage  -- ROOT INODE UNALLOCATED
+  root_not_dir : TreeMessage
+  root_suspect : TreeMessage  -- DUPS/BAD IN ROOT INODE
+  dir_short : (about : Attr) (path : List ℕ) → TreeMessage
+  dir_length : (path : List ℕ) (size : ℕ) → TreeMessage
+  dir_empty : (path : List ℕ) → TreeMessage  -- CONTAINS EMPTY BLOCKS: it has a Gap
+  dir_corrupt : (about : Attr) (path : List ℕ) → TreeMessage
+  missing_dot : (about : Attr) (path : List ℕ) → TreeMessage
+  missing_dot_first : (about : Attr) (path name : List ℕ) → TreeMessage  -- MISSING '.', another entry is first
+  number_dot : (about : Attr) (path : List ℕ) → TreeMessage  -- BAD INODE NUMBER FOR '.'
+  kind_dot : (about : Attr) (path : List ℕ) → TreeMessage  -- BAD TYPE VALUE FOR '.'
+  missing_dotdot : (about : Attr) (path : List ℕ) → TreeMessage
+  missing_dotdot_second : (about : Attr) (path name : List ℕ) → TreeMessage  -- MISSING '..', another is second
+  number_dotdot : (about : Attr) (path : List ℕ) → TreeMessage
+  kind_dotdot : (about : Attr) (path : List ℕ) → TreeMessage  -- BAD TYPE VALUE FOR '..'
+  extra_dot : (about : Attr) (path : List ℕ) → TreeMessage
+  extra_dotdot : (about : Attr) (path : List ℕ) → TreeMessage
+  out_of_range : (number : ℕ) (path : List ℕ) → TreeMessage  -- I OUT OF RANGE
+  whiteout : (number : ℕ) (path : List ℕ) → TreeMessage  -- BAD WHITEOUT ENTRY
+  unallocated : (about : Attr) (path : List ℕ) → TreeMessage
+  dup_bad : (about : Attr) (label : Label) (path : List ℕ) → TreeMessage  -- DUP/BAD, in phase 2
+  zero_dir : (about : Attr) (path : List ℕ) → TreeMessage  -- ZERO LENGTH DIRECTORY, in phase 2
+  extraneous : (path directory : List ℕ) → TreeMessage  -- IS AN EXTRANEOUS HARD LINK
+  kind_entry : (about : Attr) (label : Label) (path : List ℕ) → TreeMessage  -- BAD TYPE VALUE
+  unref_dir : (about : Attr) → TreeMessage
+  dead_marked : (label : Label) (about : Attr) → TreeMessage  -- BAD/DUP, in phase 4
+  dead_zero : (about : Attr) → TreeMessage  -- ZERO LENGTH DIR, in phase 4
+  unref : (label : Label) (about : Attr) → TreeMessage  -- UNREF, with links: reconnect it?
+  unref_unlinked : (label : Label) (about : Attr) → TreeMessage  -- UNREF, without links: clear it?
+  link_count : (label : Label) (about : Attr) (nlink : ℤ) (references : ℕ) → TreeMessage
 
 -- a message of a report: of the opening, a heading, a message of a phase, the summary, or the end of a run that isn't
 -- completed
@@ -59,7 +59,7 @@ pub data Message : Type 0 where
   phase4 : Message
   phase5 : Message
   of_blocks : (message : BlockMessage) → Message
-  of_names : (message : NameMessage) → Message
+  of_tree : (message : TreeMessage) → Message
   summary : (files used : ℕ) (free frags blocks tenths : ℤ) → Message
 
 -- the message reports an inconsistency; a refused superblock or a failed read ends the run instead
@@ -79,7 +79,7 @@ is_defect phase3 = false
 is_defect phase4 = false
 is_defect phase5 = false
 is_defect (of_blocks message) = true
-is_defect (of_names message) = true
+is_defect (of_tree message) = true
 is_defect (summary files used free frags blocks tenths) = false
 
 -- a defect is among them
@@ -92,16 +92,16 @@ unless true m = []
 unless false m = m ∷ []
 
 -- the message on a directory, an entry or an inode, where the condition holds
-abbrev pub reported : Bool → NameMessage → List NameMessage
+abbrev pub reported : Bool → TreeMessage → List TreeMessage
 reported true m = m ∷ []
 reported false m = []
 
 -- what is reported for the numbers below n, ascending
-unfoldable pub lines_below : (ℕ → List NameMessage) → ℕ → List NameMessage
+unfoldable pub lines_below : (ℕ → List TreeMessage) → ℕ → List TreeMessage
 lines_below lines zero = []
 lines_below lines (suc n) = lines_below lines n ++ lines n
 
 -- what is reported for the k numbers from d on, ascending
-unfoldable pub lines_from : (lines : ℕ → List NameMessage) (d k : ℕ) → List NameMessage
+unfoldable pub lines_from : (lines : ℕ → List TreeMessage) (d k : ℕ) → List TreeMessage
 lines_from lines d zero = []
 lines_from lines d (suc k) = lines d ++ lines_from lines (suc d) k

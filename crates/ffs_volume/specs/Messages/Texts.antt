@@ -15,7 +15,7 @@ use Rattle.ffs_volume.specs.declared.SuperFault.TheVariants.{Ncyl, TooLarge, Sha
 use Rattle.ffs_volume.specs.declared.texts.TheConstants as texts
 use Rattle.ffs_volume.specs.Messages.Kinds.{Message, location, opening, bad_super, cannot_read, cannot_alloc}
 use Rattle.ffs_volume.specs.Messages.Kinds.{optimization, minfree, mounted, phase1, phase1b, phase2, phase3}
-use Rattle.ffs_volume.specs.Messages.Kinds.{phase4, phase5, of_blocks, of_names, summary, NameMessage}
+use Rattle.ffs_volume.specs.Messages.Kinds.{phase4, phase5, of_blocks, of_tree, summary, TreeMessage}
 use Rattle.ffs_volume.specs.Messages.Kinds.{root_none, root_not_dir, root_suspect, dir_short, dir_length}
 use Rattle.ffs_volume.specs.Messages.Kinds.{dir_empty, dir_corrupt, missing_dot, missing_dot_first}
 use Rattle.ffs_volume.specs.Messages.Kinds.{number_dot, kind_dot, missing_dotdot, missing_dotdot_second}
@@ -133,7 +133,7 @@ abbrev pub links_text : Label → Attr → ℤ → ℕ → List ℕ
 links_text label about nlink references = labelled_text texts.LINK_COUNT.now label about (counts_text nlink references)
 
 -- a message on directories, their entries or references
-abbrev pub name_message_text : NameMessage → List ℕ
+abbrev pub name_message_text : TreeMessage → List ℕ
 name_message_text root_none = texts.ROOT_NONE.now
 name_message_text root_not_dir = texts.ROOT_NOT_DIR.now
 name_message_text root_suspect = texts.ROOT_SUSPECT.now
@@ -206,7 +206,7 @@ text_of phase3 = texts.PHASE3.now
 text_of phase4 = texts.PHASE4.now
 text_of phase5 = texts.PHASE5.now
 text_of (of_blocks message) = block_message_text message
-text_of (of_names message) = name_message_text message
+text_of (of_tree message) = name_message_text message
 text_of (summary files used free frags blocks tenths) = summary_text files used free frags blocks tenths
 
 -- the bytes of messages, one after another; those of a report are what is printed where no read, no

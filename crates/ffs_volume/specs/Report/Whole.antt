@@ -16,7 +16,7 @@ use Rattle.ffs_volume.specs.Blocks.Claims.{is_set, no_claims, after_owners}
 use Rattle.ffs_volume.specs.Blocks.BlockCheck.{phase1_lines, phase1b_lines, has_rescan}
 use Rattle.ffs_volume.specs.Groups.GroupCheck.{phase5_lines, is_free_of_kept}
 use Rattle.ffs_volume.specs.Messages.Kinds.{Message, phase1, phase1b, phase2, phase3, phase4}
-use Rattle.ffs_volume.specs.Messages.Kinds.{phase5, of_blocks, of_names, summary, has_defect}
+use Rattle.ffs_volume.specs.Messages.Kinds.{phase5, of_blocks, of_tree, summary, has_defect}
 use Rattle.ffs_volume.specs.Report.Opening.{super_lines, head_lines, fault_line}
 use Rattle.ffs_volume.specs.Directories.PathnameCheck.{pathname_lines, continues_after_root}
 use Rattle.ffs_volume.specs.Directories.Connectivity.{connectivity_lines}
@@ -66,8 +66,8 @@ group_check_lines image s =
 -- phases 3 to 5 and the summary
 unfoldable pub later_phase_lines : List ℕ → Superblock → List Message
 later_phase_lines image s =
-    phase3 ∷ (map of_names (connectivity_lines (volume_of s.layout image))
-    ++ (phase4 ∷ (map of_names (reference_lines (volume_of s.layout image))
+    phase3 ∷ (map of_tree (connectivity_lines (volume_of s.layout image))
+    ++ (phase4 ∷ (map of_tree (reference_lines (volume_of s.layout image))
     ++ (phase5 ∷ (group_check_lines image s
     ++ (summary_of s (file_count s.layout image) (used_count s.layout image) ∷ []))))))
 
@@ -76,7 +76,7 @@ unfoldable pub phase_lines : List ℕ → Superblock → List Message
 phase_lines image s =
     phase1 ∷ (map of_blocks (phase1_lines s.layout (owners_of s.layout image))
     ++ (rescan_lines s.layout image
-    ++ (phase2 ∷ (map of_names (pathname_lines (volume_of s.layout image))
+    ++ (phase2 ∷ (map of_tree (pathname_lines (volume_of s.layout image))
     ++ (if continues_after_root (volume_of s.layout image) then later_phase_lines image s else [])))))
 
 -- the report on an accepted superblock, after `head_lines`

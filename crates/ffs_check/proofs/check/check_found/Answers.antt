@@ -8,8 +8,13 @@ use Rattle.ffs_check.proofs.Taken.{not_for_memory}
 use Rattle.ffs_check.proofs.check.check_found.Goals as goal
 
 pub run_rest-requires : goal.run_rest-requires
-run_rest-requires g c = record
-    { ready = record { made = c.in-Ok.ensures.new.made; volume = c.requires.volume; windows = c.in-Ok.ensures.new.windows _ } }
+run_rest-requires g c = record {
+  ready = record {
+    made = c.in-Ok.ensures.new.made;
+    volume = c.requires.volume;
+    windows = c.in-Ok.ensures.new.windows _;
+  };
+}
 
 pub returns-in-Ok-clause-followed : goal.returns-in-Ok-clause-followed
 returns-in-Ok-clause-followed g c =

@@ -169,7 +169,8 @@ returns-clause-prints g c =
     let s = claims_of c.loop-number.workspace in
     record {
       image = inv.device;
-      text = of_same _ (λ bytes. of_lines (lines_of_owners v s (owners_from v bytes c.loop-number.number))) (λ bytes. [])
+      text = of_same _ (λ bytes. of_lines (lines_of_owners v s (owners_from v bytes c.loop-number.number)))
+          (λ bytes. [])
           _ _ _ inv.said (λ bytes k. lines_end v bytes s c.loop-number.number (omega arith));
     }
 

@@ -1,7 +1,6 @@
 use Rattle.std.proofs.Common.{◌+◌, ◌-◌, map}
 use Rattle.std.specs.List.{range_with_len}
-use Rattle.ffs_volume.specs.Blocks.BlockCheck.{first_offer_lines}
-use Rattle.ffs_volume.specs.Blocks.FirstOffers.{offer_at}
+use Rattle.ffs_volume.specs.Blocks.BlockCheck.{first_offer_lines, offer_at}
 use Rattle.ffs_report.specs.Progress.{progress}
 use Rattle.ffs_phase.specs.Runs.{SaidTo}
 use Rattle.ffs_maps.specs.Bits.{bits_of}

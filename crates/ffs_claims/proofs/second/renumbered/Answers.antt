@@ -47,7 +47,8 @@ returns-clause-text g c =
     ∙ ap (λ (i : Inode). of_lines
     (first_offer_lines d (offers_again v n (rescan (slice_index c.args.workspace.now.cut.items n))
     (steps_of v i bytes)))) (c.in_ok-inode.ensures.inode bytes t))
-    (reports_knowing (Unit {0}) _ _ _ _ _ c.rewalk.result (λ bytes t. ap (λ d. d.contents) c.in_ok-inode.ensures.read ∙ t)
+    (reports_knowing (Unit {0}) _ _ _ _ _ c.rewalk.result
+    (λ bytes t. ap (λ d. d.contents) c.in_ok-inode.ensures.read ∙ t)
     c.rewalk.ensures.text)
 
 pub returns-clause-rewalked : goal.returns-clause-rewalked

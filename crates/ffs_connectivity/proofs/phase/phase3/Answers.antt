@@ -3,7 +3,7 @@ use Rattle.std.proofs.lemmas.List.{with_items_is}
 use Rattle.std.proofs.lemmas.Result.{err_from_is_err_and}
 use Rattle.ffs_volume.specs.Directories.Climb.{leads_cycle}
 use Rattle.ffs_volume.specs.Directories.Connectivity.{connectivity_lines}
-use Rattle.ffs_volume.specs.Messages.Kinds.{Message, of_names, phase3, lines_from}
+use Rattle.ffs_volume.specs.Messages.Kinds.{Message, of_tree, phase3, lines_from}
 use Rattle.ffs_volume.specs.Directories.Volumes.{volume_of}
 use Rattle.ffs_survey.specs.Cycles.{up_of}
 use Rattle.ffs_phase.proofs.Reporting.{of_begins, of_says, of_stops, of_same, of_part, of_fault, said_knows}
@@ -23,9 +23,9 @@ returns-in_err-say-clause-runs g c =
     let v = c.args.geometry.now.layout in
     rw (p.1, p.2) (record {
       image = refl;
-      text = of_stops _ (λ bytes. phase3 ∷ map of_names (connectivity_lines (volume_of v bytes)))
-          (λ bytes. map of_names (connectivity_lines (volume_of v bytes))) _ (phase3 ∷ []) _ _ _
-          (of_begins _ (λ bytes. phase3 ∷ map of_names (connectivity_lines (volume_of v bytes))) _) (λ bytes t. refl)
+      text = of_stops _ (λ bytes. phase3 ∷ map of_tree (connectivity_lines (volume_of v bytes)))
+          (λ bytes. map of_tree (connectivity_lines (volume_of v bytes))) _ (phase3 ∷ []) _ _ _
+          (of_begins _ (λ bytes. phase3 ∷ map of_tree (connectivity_lines (volume_of v bytes))) _) (λ bytes t. refl)
           c.in_err-say.ensures.said;
     })
 
@@ -34,9 +34,9 @@ returns-then-first-len-clause-runs g c =
     let v = c.args.geometry.now.layout in
     record {
       image = search rules;
-      text = of_says _ (λ bytes. phase3 ∷ map of_names (connectivity_lines (volume_of v bytes))) (λ bytes. []) _
+      text = of_says _ (λ bytes. phase3 ∷ map of_tree (connectivity_lines (volume_of v bytes))) (λ bytes. []) _
           (phase3 ∷ []) _ _ _
-          (of_begins _ (λ bytes. phase3 ∷ map of_names (connectivity_lines (volume_of v bytes))) _)
+          (of_begins _ (λ bytes. phase3 ∷ map of_tree (connectivity_lines (volume_of v bytes))) _)
           (λ bytes k. ap (λ (xs : List Message). phase3 ∷ xs)
           (lines_begin v bytes c.args.workspace.now _ _ c.first_unreached-first.result c.deref.ensures.value
           c.deref-2.ensures.value (omega arith) c.first_unreached-first.ensures.before k.1 k.2
@@ -58,11 +58,11 @@ loop-number-init g c =
             ∙ c.mark_leaders.ensures x
             ∙ ap (λ (ps : List ℕ). leads_cycle (up_of ps) (length ps) x) c.deref-3.ensures.value;
       };
-      said = of_says _ (λ bytes. phase3 ∷ map of_names (connectivity_lines (volume_of v bytes)))
-          (λ bytes. map of_names (lines_from (cut_off_lines (volume_of v bytes)) c.first_unreached-first.result
+      said = of_says _ (λ bytes. phase3 ∷ map of_tree (connectivity_lines (volume_of v bytes)))
+          (λ bytes. map of_tree (lines_from (cut_off_lines (volume_of v bytes)) c.first_unreached-first.result
           (inodes_of v - c.first_unreached-first.result))) _ (phase3 ∷ []) _
           _ _
-          (of_begins _ (λ bytes. phase3 ∷ map of_names (connectivity_lines (volume_of v bytes))) _)
+          (of_begins _ (λ bytes. phase3 ∷ map of_tree (connectivity_lines (volume_of v bytes))) _)
           (λ bytes k. ap (λ (xs : List Message). phase3 ∷ xs)
           (lines_begin v bytes c.args.workspace.now _ _ c.first_unreached-first.result c.deref.ensures.value
           c.deref-2.ensures.value (omega arith) c.first_unreached-first.ensures.before k.1 k.2))
@@ -79,9 +79,10 @@ returns-in_err-check_inode-clause-runs g c =
     rw (p.1, p.2) (record {
       image = search rules;
       text = of_fault (Unit {0}) (Unit {0}) _
-          (λ bytes. map of_names (lines_from (cut_off_lines (volume_of v bytes)) n (inodes_of v - n)))
-          (λ bytes. map of_names (cut_off_lines (volume_of v bytes) n))
-          (λ bytes. map of_names (lines_from (cut_off_lines (volume_of v bytes)) (n + 1) (inodes_of v - (n + 1)))) _ _ _ _
+          (λ bytes. map of_tree (lines_from (cut_off_lines (volume_of v bytes)) n (inodes_of v - n)))
+          (λ bytes. map of_tree (cut_off_lines (volume_of v bytes) n))
+          (λ bytes. map of_tree (lines_from (cut_off_lines (volume_of v bytes)) (n + 1) (inodes_of v - (n + 1)))) _ _
+          _ _
           c.in_err-check_inode.field-0.0
           inv.said (λ bytes k. from_next (cut_off_lines (volume_of v bytes)) n (inodes_of v) (omega arith))
           (reports_knowing (Unit {0}) _ _ _ _ _ (Err c.in_err-check_inode.field-0.0)
@@ -104,9 +105,9 @@ loop-number-preserved g c =
       low = omega arith;
       survey = leaves_more _ _ _ inv.survey (windows_leave _ _ ok.stays.held);
       leaders = leaders_held _ _ ok.stays.held inv.leaders;
-      said = of_part _ (λ bytes. map of_names (lines_from (cut_off_lines (volume_of v bytes)) n (inodes_of v - n)))
-          (λ bytes. map of_names (cut_off_lines (volume_of v bytes) n))
-          (λ bytes. map of_names (lines_from (cut_off_lines (volume_of v bytes)) (n + 1) (inodes_of v - (n + 1)))) _ _ _
+      said = of_part _ (λ bytes. map of_tree (lines_from (cut_off_lines (volume_of v bytes)) n (inodes_of v - n)))
+          (λ bytes. map of_tree (cut_off_lines (volume_of v bytes) n))
+          (λ bytes. map of_tree (lines_from (cut_off_lines (volume_of v bytes)) (n + 1) (inodes_of v - (n + 1)))) _ _ _
           _ inv.said
           (λ bytes k. from_next (cut_off_lines (volume_of v bytes)) n (inodes_of v) (omega arith))
           (said_knows _ _ _ _ _ _
@@ -124,7 +125,8 @@ returns-clause-runs g c =
     let n = c.loop-number.number in
     record {
       image = search rules;
-      text = of_same _ (λ bytes. map of_names (lines_from (cut_off_lines (volume_of v bytes)) n (inodes_of v - n))) (λ bytes. [])
+      text = of_same _ (λ bytes. map of_tree (lines_from (cut_off_lines (volume_of v bytes)) n (inodes_of v - n)))
+          (λ bytes. [])
           _ _ _ inv.said
           (λ bytes k. from_end (cut_off_lines (volume_of v bytes)) n (inodes_of v) (omega arith));
     }

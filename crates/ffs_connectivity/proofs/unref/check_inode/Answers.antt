@@ -1,7 +1,7 @@
 use Rattle.std.proofs.Common.{◌∷◌, [], ap, map, refl, rules, sym, ◌∙◌, arith}
 use Rattle.std.proofs.lemmas.Result.{err_from_is_err_and}
 use Rattle.ffs_volume.specs.declared.Attr.{Attr}
-use Rattle.ffs_volume.specs.Messages.Kinds.{of_names, unref_dir}
+use Rattle.ffs_volume.specs.Messages.Kinds.{of_tree, unref_dir}
 use Rattle.ffs_volume.specs.Directories.Volumes.{volume_of}
 use Rattle.ffs_phase.proofs.Reporting.{of_begins, of_same, of_says, of_stops, of_reads}
 use Rattle.ffs_connectivity.specs.Lines.{cut_off_lines}
@@ -13,8 +13,8 @@ returns-then-not-cut_off-clause-runs g c =
     let v = c.args.geometry.now.layout in
     record {
       image = refl;
-      text = of_same _ (λ bytes. map of_names (cut_off_lines (volume_of v bytes) c.args.number)) (λ bytes. []) _ _ _
-          (of_begins _ (λ bytes. map of_names (cut_off_lines (volume_of v bytes) c.args.number)) _)
+      text = of_same _ (λ bytes. map of_tree (cut_off_lines (volume_of v bytes) c.args.number)) (λ bytes. []) _ _ _
+          (of_begins _ (λ bytes. map of_tree (cut_off_lines (volume_of v bytes) c.args.number)) _)
           (λ bytes k. silent _ _ (sym
           (cut_off_is v bytes c.args.workspace.now _ _ _ _ _ c.args.number _ c.requires.number.0 c.requires.number.1
           (omega arith) c.deref.ensures.value c.deref-2.ensures.value c.deref-3.ensures.value c.deref-4.ensures.value
@@ -27,7 +27,7 @@ returns-in_err-inode-clause-runs g c =
     rw (p.1, p.2) (record {
       image = search rules;
       text = of_reads _ _ _ _ _
-          (of_begins _ (λ bytes. map of_names (cut_off_lines (volume_of c.args.geometry.now.layout bytes)
+          (of_begins _ (λ bytes. map of_tree (cut_off_lines (volume_of c.args.geometry.now.layout bytes)
           c.args.number)) _);
     })
 
@@ -37,14 +37,14 @@ returns-in_err-say-clause-runs g c =
     let v = c.args.geometry.now.layout in
     rw (p.1, p.2) (record {
       image = search rules;
-      text = of_stops _ (λ bytes. map of_names (cut_off_lines (volume_of v bytes) c.args.number)) (λ bytes. []) _
-          (of_names (unref_dir c.attr_of.result) ∷ []) _ _ _
-          (of_begins _ (λ bytes. map of_names (cut_off_lines (volume_of v bytes) c.args.number)) _)
+      text = of_stops _ (λ bytes. map of_tree (cut_off_lines (volume_of v bytes) c.args.number)) (λ bytes. []) _
+          (of_tree (unref_dir c.attr_of.result) ∷ []) _ _ _
+          (of_begins _ (λ bytes. map of_tree (cut_off_lines (volume_of v bytes) c.args.number)) _)
           (λ bytes k. heard _ _ (sym
           (cut_off_is v bytes c.args.workspace.now _ _ _ _ _ c.args.number _ c.requires.number.0 c.requires.number.1
           (omega arith) c.deref.ensures.value c.deref-2.ensures.value c.deref-3.ensures.value c.deref-4.ensures.value
           c.deref-5.ensures.value c.is_unref-cut_off.ensures k.1 k.2) ∙ c.if-not-cut_off.false)
-          ∙ ap (λ (a : Attr). of_names (unref_dir a) ∷ [])
+          ∙ ap (λ (a : Attr). of_tree (unref_dir a) ∷ [])
           (attributes_are v bytes c.args.number c.in_ok-inode.inode c.attr_of.result
           (c.in_ok-inode.ensures.inode bytes k.0) c.attr_of.ensures))
           c.in_err-say.ensures.said;
@@ -55,14 +55,14 @@ returns-clause-runs g c =
     let v = c.args.geometry.now.layout in
     record {
       image = search rules;
-      text = of_says _ (λ bytes. map of_names (cut_off_lines (volume_of v bytes) c.args.number)) (λ bytes. []) _
-          (of_names (unref_dir c.attr_of.result) ∷ []) _ _ _
-          (of_begins _ (λ bytes. map of_names (cut_off_lines (volume_of v bytes) c.args.number)) _)
+      text = of_says _ (λ bytes. map of_tree (cut_off_lines (volume_of v bytes) c.args.number)) (λ bytes. []) _
+          (of_tree (unref_dir c.attr_of.result) ∷ []) _ _ _
+          (of_begins _ (λ bytes. map of_tree (cut_off_lines (volume_of v bytes) c.args.number)) _)
           (λ bytes k. heard _ _ (sym
           (cut_off_is v bytes c.args.workspace.now _ _ _ _ _ c.args.number _ c.requires.number.0 c.requires.number.1
           (omega arith) c.deref.ensures.value c.deref-2.ensures.value c.deref-3.ensures.value c.deref-4.ensures.value
           c.deref-5.ensures.value c.is_unref-cut_off.ensures k.1 k.2) ∙ c.if-not-cut_off.false)
-          ∙ ap (λ (a : Attr). of_names (unref_dir a) ∷ [])
+          ∙ ap (λ (a : Attr). of_tree (unref_dir a) ∷ [])
           (attributes_are v bytes c.args.number c.in_ok-inode.inode c.attr_of.result
           (c.in_ok-inode.ensures.inode bytes k.0) c.attr_of.ensures))
           c.in_ok-say.ensures.said;

@@ -19,7 +19,8 @@ returns-in_err-say g c =
           (used_count c.args.superblock.now.geometry.layout bytes) ∷ []) (λ bytes. []) _
           (message_of c.summary_line.result ∷ []) _ _ _
           (of_begins _ (λ bytes. summary_of (seen c.args.superblock.now)
-          (file_count c.args.superblock.now.geometry.layout bytes) (used_count c.args.superblock.now.geometry.layout bytes)
+          (file_count c.args.superblock.now.geometry.layout bytes)
+          (used_count c.args.superblock.now.geometry.layout bytes)
           ∷ []) _)
           (λ bytes k. ap (λ (m : Message). m ∷ []) (sym (c.summary_line.ensures
           ∙ ap (λ n. summary_of (seen c.args.superblock.now) n c.used_count-used.result)
@@ -36,11 +37,13 @@ pub returns : goal.returns
 returns g c =
     λ device. record {
       image = refl;
-      text = of_says _ (λ bytes. summary_of (seen c.args.superblock.now) (file_count c.args.superblock.now.geometry.layout bytes)
+      text = of_says _ (λ bytes. summary_of (seen c.args.superblock.now)
+          (file_count c.args.superblock.now.geometry.layout bytes)
           (used_count c.args.superblock.now.geometry.layout bytes) ∷ []) (λ bytes. []) _
           (message_of c.summary_line.result ∷ []) _ _ _
           (of_begins _ (λ bytes. summary_of (seen c.args.superblock.now)
-          (file_count c.args.superblock.now.geometry.layout bytes) (used_count c.args.superblock.now.geometry.layout bytes)
+          (file_count c.args.superblock.now.geometry.layout bytes)
+          (used_count c.args.superblock.now.geometry.layout bytes)
           ∷ []) _)
           (λ bytes k. ap (λ (m : Message). m ∷ []) (sym (c.summary_line.ensures
           ∙ ap (λ n. summary_of (seen c.args.superblock.now) n c.used_count-used.result)

@@ -24,7 +24,8 @@ returns c = record {
       (bit_or c.index-word.result.now m)) c.args.self.now.size) (mask_is c.args.len (c.args.start % 64) (omega arith))
       ∙ mark_run c.args.self.now.words.items c.args.self.now.size c.args.start c.args.len c.index-word.result.now
       (omega arith) c.requires.below c.requires.some inside
-      (get_or_read c.args.self.now.words.items (c.args.start / 64) c.index-word.result.now inside c.index-word.ensures 0);
+      (get_or_read c.args.self.now.words.items (c.args.start / 64) c.index-word.result.now inside c.index-word.ensures
+      0);
   kept = search rules;
   one_word = search rules;
 }
@@ -39,8 +40,10 @@ returns-then-word-mask-ne0 c = record {
       let inside : c.args.start / 64 < length c.args.self.now.words.items = omega arith in
       absurd (c.if-word-mask-ne0.true
       (ap (λ w. bit_and w ((2 ^ 64 - 1) / 2 ^ (64 - c.args.len) * 2 ^ (c.args.start % 64) % 2 ^ 64))
-      (get_or_read c.args.self.now.words.items (c.args.start / 64) c.index-word.result.now inside c.index-word.ensures 0)
+      (get_or_read c.args.self.now.words.items (c.args.start / 64) c.index-word.result.now inside c.index-word.ensures
+      0)
       ∙ ap (λ m. bit_and (get_or c.args.self.now.words.items (c.args.start / 64) 0) m)
       (mask_is c.args.len (c.args.start % 64) (omega arith))
-      ∙ run_clear c.args.self.now.words.items c.args.self.now.size c.args.start c.args.len fits c.requires.below clear));
+      ∙ run_clear c.args.self.now.words.items c.args.self.now.size c.args.start c.args.len fits c.requires.below
+      clear));
 }

@@ -8,8 +8,10 @@ returns c =
     let inside : c.args.fragment / 64 < length c.args.self.now.words.items = omega arith in
     record {
       size = refl;
-      bits = clear_bits c.args.self.now.words.items c.args.self.now.size c.args.fragment c.index-word.result.now c.requires
+      bits = clear_bits c.args.self.now.words.items c.args.self.now.size c.args.fragment c.index-word.result.now
+          c.requires
           inside
-          (get_or_read c.args.self.now.words.items (c.args.fragment / 64) c.index-word.result.now inside c.index-word.ensures
+          (get_or_read c.args.self.now.words.items (c.args.fragment / 64) c.index-word.result.now inside
+          c.index-word.ensures
           0);
     }

@@ -5,7 +5,7 @@ use Rattle.std.proofs.lemmas.Result.{err_from_is_err_and}
 use Rattle.ffs_image.specs.Device.{Faulted}
 use Rattle.ffs_volume.specs.Directories.Entries.{Chunk, chunk_of}
 use Rattle.ffs_volume.specs.Blocks.Inodes.{inode_of}
-use Rattle.ffs_volume.specs.Messages.Kinds.{of_names}
+use Rattle.ffs_volume.specs.Messages.Kinds.{of_tree}
 use Rattle.ffs_volume.specs.Directories.Roles.{roled_chunk, roled_entries}
 use Rattle.ffs_volume.specs.Directories.Volumes.{volume_of}
 use Rattle.ffs_names.specs.Readings.{rest}
@@ -32,7 +32,7 @@ chunks-init g c =
     let here = c.path_to.new.workspace in
     let m = marks_of c.args.workspace.now in
     let same = marks_on c.args.workspace.now here ok.lists in
-    let all = λ (b : List ℕ). map of_names
+    let all = λ (b : List ℕ). map of_tree
     (entries_reported (volume_of v b) c.args.dir m (roled_entries (volume_of v b) c.args.dir)) in
     let seen = λ (b : List ℕ)
     (k : DirectoryContext v (g.I.Image.device c.args.image.now).contents c.args.workspace.now c.args.dir b
@@ -50,12 +50,12 @@ chunks-init g c =
       survey = windows_leave _ _ ok.lists;
       marks = λ b k. ap (λ q. after_entries (volume_of v b) c.args.dir q (roled_entries (volume_of v b) c.args.dir))
           same ∙ ap (after_entries (volume_of v b) c.args.dir (marks_of here)) (sym (seen b k));
-      said = of_same _ all (λ (b : List ℕ). map of_names
+      said = of_same _ all (λ (b : List ℕ). map of_tree
           (entries_reported (volume_of v b) c.args.dir (marks_of here)
           (flat_map roled_chunk (rest b c.start-chunks.result)))) all _ _ (of_begins _ all _)
-          (λ b k. ap (λ q. map of_names
+          (λ b k. ap (λ q. map of_tree
           (entries_reported (volume_of v b) c.args.dir q (roled_entries (volume_of v b) c.args.dir))) same
-          ∙ ap (λ es. map of_names (entries_reported (volume_of v b) c.args.dir (marks_of here) es)) (sym (seen b k)));
+          ∙ ap (λ es. map of_tree (entries_reported (volume_of v b) c.args.dir (marks_of here) es)) (sym (seen b k)));
     }
 
 pub returns-in_err-offset-clause-text : goal.returns-in_err-offset-clause-text
@@ -84,7 +84,8 @@ pub report_chunk-requires : goal.report_chunk-requires
 report_chunk-requires g c =
     let inv = c.chunks.invariant in
     let read = c.in_ok-offset.ensures in
-    let next = ready_next _ _ _ c.chunks.workspace _ _ _ inv.ready read.leaves.read (rw inv.geometry at read.leaves.ready) in
+    let next = ready_next _ _ _ c.chunks.workspace _ _ _ inv.ready read.leaves.read
+    (rw inv.geometry at read.leaves.ready) in
     record { ready = next.ready; siblings = next.siblings; number = c.requires.number }
 
 pub returns-clause-leaves : goal.returns-clause-leaves
@@ -95,7 +96,8 @@ returns-clause-leaves g c =
       image = read.leaves.read ∙ inv.device;
       survey = leaves_more _ _ _ inv.survey
           (windows_leave c.chunks.workspace (with_chunk c.chunks.workspace c.next.new.blocks c.next.new.data) refl);
-      ready = ready_next _ _ _ c.chunks.workspace _ _ _ inv.ready read.leaves.read (rw inv.geometry at read.leaves.ready);
+      ready = ready_next _ _ _ c.chunks.workspace _ _ _ inv.ready read.leaves.read
+          (rw inv.geometry at read.leaves.ready);
     }
 
 pub chunks-preserved : goal.chunks-preserved
@@ -129,10 +131,10 @@ chunks-preserved g c =
       survey = leaves_more _ _ _ kept ok.leaves.survey;
       marks = λ b k. chunk_passed (volume_of v b) c.args.dir _ m m' here (rest b c.chunks.chunks)
           (rest b c.next.new.self) (next b k) (ok.marks b (know b k)) (inv.marks b k);
-      said = of_part _ (λ (b : List ℕ). map of_names
+      said = of_part _ (λ (b : List ℕ). map of_tree
           (entries_reported (volume_of v b) c.args.dir m (flat_map roled_chunk (rest b c.chunks.chunks))))
-          (λ (b : List ℕ). map of_names (entries_reported (volume_of v b) c.args.dir m (roled_chunk here)))
-          (λ (b : List ℕ). map of_names
+          (λ (b : List ℕ). map of_tree (entries_reported (volume_of v b) c.args.dir m (roled_chunk here)))
+          (λ (b : List ℕ). map of_tree
           (entries_reported (volume_of v b) c.args.dir m' (flat_map roled_chunk (rest b c.next.new.self)))) _ _ _ _
           inv.said
           (λ b k. chunk_reported (volume_of v b) c.args.dir m m' here (rest b c.chunks.chunks) (rest b c.next.new.self)
@@ -165,10 +167,10 @@ returns-in_err-report_chunk-clause-text g c =
     let p = err_from_is_err_and c.from_residual-in_err-report_chunk.result
     c.from_residual-in_err-report_chunk.ensures.1 in
     rw (p.1, p.2) (of_fault (Unit {0}) (Unit {0}) _
-    (λ (b : List ℕ). map of_names
+    (λ (b : List ℕ). map of_tree
     (entries_reported (volume_of v b) c.args.dir m (flat_map roled_chunk (rest b c.chunks.chunks))))
-    (λ (b : List ℕ). map of_names (entries_reported (volume_of v b) c.args.dir m (roled_chunk here)))
-    (λ (b : List ℕ). map of_names
+    (λ (b : List ℕ). map of_tree (entries_reported (volume_of v b) c.args.dir m (roled_chunk here)))
+    (λ (b : List ℕ). map of_tree
     (entries_reported (volume_of v b) c.args.dir (after_entries (volume_of v b) c.args.dir m (roled_chunk here))
     (flat_map roled_chunk (rest b c.next.new.self)))) _ _ _ _
     c.in_err-report_chunk.field-0.0 inv.said
@@ -199,10 +201,10 @@ returns-clause-text g c =
     let inv = c.chunks.invariant in
     let m = marks_of c.chunks.workspace in
     let came = rw c.in_default.is at c.in_ok-offset.ensures.chunk in
-    of_same _ (λ (b : List ℕ). map of_names
+    of_same _ (λ (b : List ℕ). map of_tree
     (entries_reported (volume_of v b) c.args.dir m (flat_map roled_chunk (rest b c.chunks.chunks)))) (λ b. []) _ _ _
     inv.said
-    (λ b k. ap (λ cs. map of_names (entries_reported (volume_of v b) c.args.dir m (flat_map roled_chunk cs)))
+    (λ b k. ap (λ cs. map of_tree (entries_reported (volume_of v b) c.args.dir m (flat_map roled_chunk cs)))
     (came b (ap (λ d. d.contents) inv.device ∙ k.0.reported_is)).chunks.0)
 
 pub returns-clause-marks : goal.returns-clause-marks

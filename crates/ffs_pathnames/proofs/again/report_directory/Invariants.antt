@@ -1,7 +1,7 @@
 use Rattle.std.proofs.Common.{◌≡◌, map}
 use Rattle.std.specs.List.{flat_map}
 use Rattle.ffs_volume.specs.Blocks.Inodes.{inode_of}
-use Rattle.ffs_volume.specs.Messages.Kinds.{of_names}
+use Rattle.ffs_volume.specs.Messages.Kinds.{of_tree}
 use Rattle.ffs_volume.specs.Directories.Roles.{roled_chunk, roled_entries}
 use Rattle.ffs_volume.specs.Directories.Volumes.{volume_of}
 use Rattle.ffs_phase.specs.Known.{ForBytes}
@@ -27,9 +27,9 @@ invariant-chunks g l = let reported_by = g.I.Image.device in let v = l.geometry.
       ≡ after_entries (volume_of v b) l.dir (marks_of l.workspace) (flat_map roled_chunk (rest b l.chunks)));
   said : SaidOf (λ b. DirectoryContext v (reported_by l.fn.image).contents l.fn.workspace l.dir b
       × (l.inode ≡ inode_of v b l.dir))
-      (λ b. map of_names (entries_reported (volume_of v b) l.dir (marks_of l.workspace)
+      (λ b. map of_tree (entries_reported (volume_of v b) l.dir (marks_of l.workspace)
       (flat_map roled_chunk (rest b l.chunks))))
-      (λ b. map of_names (entries_reported (volume_of v b) l.dir (marks_of l.fn.workspace)
+      (λ b. map of_tree (entries_reported (volume_of v b) l.dir (marks_of l.fn.workspace)
       (roled_entries (volume_of v b) l.dir)))
       (progress g.W.Output.sink l.fn.report) (progress g.W.Output.sink l.report);
 }

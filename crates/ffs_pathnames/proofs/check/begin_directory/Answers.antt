@@ -1,6 +1,6 @@
 use Rattle.std.proofs.Common.{ap, map}
 use Rattle.std.proofs.lemmas.Result.{err_from_is_err_and}
-use Rattle.ffs_volume.specs.Messages.Kinds.{of_names}
+use Rattle.ffs_volume.specs.Messages.Kinds.{of_tree}
 use Rattle.ffs_phase.proofs.Reporting.{of_begins, of_reads}
 use Rattle.ffs_pathnames.specs.declared.examine.DirectorySummary.{DirectorySummary}
 use Rattle.ffs_pathnames.proofs.Begun.{said_same, fault_same, starts_are, begun_is}
@@ -35,7 +35,7 @@ returns-in_err-report_header-clause-text g c =
           (ap (λ d. d.contents) c.in_ok-examined.ensures.leaves.read) c.in_ok-examined.ensures.leaves.lists.survey k,
       ap (λ i. i.size) (c.in_ok-examined.ensures.found b k).inode,
     ))
-    (λ b k. ap (map of_names)
+    (λ b k. ap (map of_tree)
     (starts_are v b c.args.dir c.args.workspace.now c.examine.new.workspace c.in_ok-examined.examined
     c.examine.new.start _ _ _
     (c.in_ok-examined.ensures.found b k)
@@ -54,7 +54,7 @@ returns-clause-text g c =
           (ap (λ d. d.contents) c.in_ok-examined.ensures.leaves.read) c.in_ok-examined.ensures.leaves.lists.survey k,
       ap (λ i. i.size) (c.in_ok-examined.ensures.found b k).inode,
     ))
-    (λ b k. ap (map of_names)
+    (λ b k. ap (map of_tree)
     (starts_are v b c.args.dir c.args.workspace.now c.examine.new.workspace c.in_ok-examined.examined
     c.examine.new.start _ _ _
     (c.in_ok-examined.ensures.found b k)

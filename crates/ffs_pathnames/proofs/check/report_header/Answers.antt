@@ -1,7 +1,7 @@
 use Rattle.std.proofs.Common.{sym, ap, ◌∙◌, ℕ, List, [], map, append-nil, option_map}
 use Rattle.std.proofs.lemmas.Result.{err_from_is_err_and}
 use Rattle.ffs_volume.specs.declared.Attr.{Attr}
-use Rattle.ffs_volume.specs.Messages.Kinds.{NameMessage, of_names}
+use Rattle.ffs_volume.specs.Messages.Kinds.{TreeMessage, of_tree}
 use Rattle.ffs_volume.specs.Directories.PathnameCheck.{attributes}
 use Rattle.ffs_volume.specs.Directories.Parents.{graph_of}
 use Rattle.ffs_volume.specs.Directories.Paths.{dir_path}
@@ -18,7 +18,7 @@ returns-then-is_in_order-clause-text g c =
     let v = c.args.geometry.now.layout in
     record {
       messages = [];
-      right = λ b k. sym (ap (map of_names)
+      right = λ b k. sym (ap (map of_tree)
           (c.is_in_order.ensures.quiet c.if-is_in_order.true (attributes (volume_of v b) c.args.dir)
           (dir_path (graph_of (volume_of v b)) c.args.dir)
           (attr_size v b c.args.dir ∙ sym k.1)));
@@ -34,33 +34,33 @@ pub returns-in_err-say_header-clause-text : goal.returns-in_err-say_header-claus
 returns-in_err-say_header-clause-text g c =
     let v = c.args.geometry.now.layout in
     let s = c.args.shape in
-    let reported : Attr → List ℕ → List NameMessage = λ about path. header_reported about path c.args.dir c.args.parent
+    let reported : Attr → List ℕ → List TreeMessage = λ about path. header_reported about path c.args.dir c.args.parent
     s.gap s.sound (option_map entry_value s.first) (option_map entry_value s.second) in
-    let all = λ (b : List ℕ). map of_names
+    let all = λ (b : List ℕ). map of_tree
     (reported (attributes (volume_of v b) c.args.dir) (dir_path (graph_of (volume_of v b)) c.args.dir)) in
-    let ms : List NameMessage = reported c.in_ok-attr.attr c.as_slice.result.now in
+    let ms : List TreeMessage = reported c.in_ok-attr.attr c.as_slice.result.now in
     let p = err_from_is_err_and c.from_residual-in_err-say_header.result c.from_residual-in_err-say_header.ensures.1 in
-    rw (p.1, p.2) (of_stops _ all (λ b. []) _ (map of_names ms) _ _ _ (of_begins _ all _)
-    (λ b k. ap (map of_names)
+    rw (p.1, p.2) (of_stops _ all (λ b. []) _ (map of_tree ms) _ _ _ (of_begins _ all _)
+    (λ b k. ap (map of_tree)
     (ap (λ q. reported q (dir_path (graph_of (volume_of v b)) c.args.dir))
     (sym (c.in_ok-attr.ensures.attr b k.0.reported_is))
     ∙ ap (λ q. reported c.in_ok-attr.attr q) (sym (c.as_slice.ensures.value ∙ c.in_ok-attr.ensures.path b k.0)))
-    ∙ sym (append-nil (map of_names ms)))
+    ∙ sym (append-nil (map of_tree ms)))
     c.in_err-say_header.ensures)
 
 pub returns-clause-text : goal.returns-clause-text
 returns-clause-text g c =
     let v = c.args.geometry.now.layout in
     let s = c.args.shape in
-    let reported : Attr → List ℕ → List NameMessage = λ about path. header_reported about path c.args.dir c.args.parent
+    let reported : Attr → List ℕ → List TreeMessage = λ about path. header_reported about path c.args.dir c.args.parent
     s.gap s.sound (option_map entry_value s.first) (option_map entry_value s.second) in
-    let all = λ (b : List ℕ). map of_names
+    let all = λ (b : List ℕ). map of_tree
     (reported (attributes (volume_of v b) c.args.dir) (dir_path (graph_of (volume_of v b)) c.args.dir)) in
-    let ms : List NameMessage = reported c.in_ok-attr.attr c.as_slice.result.now in
-    of_says _ all (λ b. []) _ (map of_names ms) _ _ _ (of_begins _ all _)
-    (λ b k. ap (map of_names)
+    let ms : List TreeMessage = reported c.in_ok-attr.attr c.as_slice.result.now in
+    of_says _ all (λ b. []) _ (map of_tree ms) _ _ _ (of_begins _ all _)
+    (λ b k. ap (map of_tree)
     (ap (λ q. reported q (dir_path (graph_of (volume_of v b)) c.args.dir))
     (sym (c.in_ok-attr.ensures.attr b k.0.reported_is))
     ∙ ap (λ q. reported c.in_ok-attr.attr q) (sym (c.as_slice.ensures.value ∙ c.in_ok-attr.ensures.path b k.0)))
-    ∙ sym (append-nil (map of_names ms)))
+    ∙ sym (append-nil (map of_tree ms)))
     c.in_ok-say_header.ensures

@@ -1,14 +1,14 @@
 use Rattle.std.proofs.Common.{◌+◌, refl, ap, ◌∙◌, arith, ℕ, List, [], map, Err}
 use Rattle.std.proofs.lemmas.Result.{err_from_is_err_and}
 use Rattle.ffs_volume.specs.Directories.Entries.{entries_of}
-use Rattle.ffs_volume.specs.Messages.Kinds.{of_names}
+use Rattle.ffs_volume.specs.Messages.Kinds.{of_tree}
 use Rattle.ffs_volume.specs.Directories.Roles.{RoledEntry, roled_from}
 use Rattle.ffs_volume.specs.Directories.Volumes.{volume_of}
 use Rattle.ffs_layout.specs.Entry.{entry_value}
 use Rattle.ffs_phase.proofs.Reporting.{of_begins, of_same, of_part, of_fault, said_knows, reports_knowing}
 use Rattle.ffs_pathnames.specs.Gathers.{marks_of}
 use Rattle.ffs_pathnames.specs.DirectoryContext.{DirectoryContext}
-use Rattle.ffs_pathnames.specs.Marks.{after_roled, after_entries, roled_reported, entries_reported}
+use Rattle.ffs_pathnames.specs.Marks.{after_roled, after_entries, entry_role_lines, entries_reported}
 use Rattle.ffs_pathnames.proofs.Looking.{roled_at_place, seen_next, none}
 use Rattle.ffs_workspace.proofs.Leaving.{leaves_all, leaves_more}
 use Rattle.ffs_pathnames.proofs.Passing.{entry_reported, entry_passed, none_left, knows_on}
@@ -24,7 +24,7 @@ entries-init g c =
       device = refl;
       survey = leaves_all _;
       marks = λ b k. refl;
-      said = of_begins _ (λ (b : List ℕ). map of_names
+      said = of_begins _ (λ (b : List ℕ). map of_tree
           (entries_reported (volume_of v b) c.args.dir (marks_of c.args.workspace.now)
           (roled_from c.args.first 0 (entries_of v.order c.args.chunk.now)))) _;
     }
@@ -43,9 +43,9 @@ returns-in_err-report_entry-clause-text g c =
     c.in-Some.ensures.some c.role_of-role.ensures in
     let p = err_from_is_err_and c.from_residual.result c.from_residual.ensures.1 in
     rw (p.1, p.2) (of_fault (Unit {0}) (Unit {0}) _
-    (λ (b : List ℕ). map of_names (entries_reported (volume_of v b) c.args.dir m here))
-    (λ (b : List ℕ). map of_names (roled_reported (volume_of v b) c.args.dir m seen))
-    (λ (b : List ℕ). map of_names
+    (λ (b : List ℕ). map of_tree (entries_reported (volume_of v b) c.args.dir m here))
+    (λ (b : List ℕ). map of_tree (entry_role_lines (volume_of v b) c.args.dir m seen))
+    (λ (b : List ℕ). map of_tree
     (entries_reported (volume_of v b) c.args.dir (after_roled (volume_of v b) c.args.dir m seen) there)) _ _ _ _
     c.in_err-report_entry.field-0.0
     inv.said (λ b k. entry_reported (volume_of v b) c.args.dir m (after_roled (volume_of v b) c.args.dir m seen) seen
@@ -85,9 +85,9 @@ entries-preserved g c =
       survey = leaves_more _ _ _ inv.survey ok.leaves.survey;
       marks = λ b k. entry_passed (volume_of v b) c.args.dir _ m m' seen here there next (ok.marks b (know b k))
           (inv.marks b k);
-      said = of_part _ (λ (b : List ℕ). map of_names (entries_reported (volume_of v b) c.args.dir m here))
-          (λ (b : List ℕ). map of_names (roled_reported (volume_of v b) c.args.dir m seen))
-          (λ (b : List ℕ). map of_names (entries_reported (volume_of v b) c.args.dir m' there)) _ _ _ _ inv.said
+      said = of_part _ (λ (b : List ℕ). map of_tree (entries_reported (volume_of v b) c.args.dir m here))
+          (λ (b : List ℕ). map of_tree (entry_role_lines (volume_of v b) c.args.dir m seen))
+          (λ (b : List ℕ). map of_tree (entries_reported (volume_of v b) c.args.dir m' there)) _ _ _ _ inv.said
           (λ b k. entry_reported (volume_of v b) c.args.dir m m' seen here there next (ok.marks b (know b k.knows)))
           (said_knows _ _ _ _ _ _ (λ b k. record { knows = know b k.knows; path = k.path }) ok.text);
     })
@@ -99,11 +99,11 @@ returns-clause-text g c =
     let m = marks_of c.entries.workspace in
     let end = none_left v.order c.args.chunk.now c.args.first c.entries.index c.entries.place
     (none v.order c.args.chunk.now c.entries.place c.entry_at.result c.in_default.is c.entry_at.ensures.value) in
-    of_same _ (λ (b : List ℕ). map of_names
+    of_same _ (λ (b : List ℕ). map of_tree
     (entries_reported (volume_of v b) c.args.dir m
     (roled_at_place v.order c.args.chunk.now c.args.first c.entries.index c.entries.place))) (λ b. []) _ _ _
     inv.said
-    (λ b k. ap (λ es. map of_names (entries_reported (volume_of v b) c.args.dir m es)) end)
+    (λ b k. ap (λ es. map of_tree (entries_reported (volume_of v b) c.args.dir m es)) end)
 
 pub returns-clause-marks : goal.returns-clause-marks
 returns-clause-marks g c = λ b k.

@@ -1,6 +1,6 @@
 use Rattle.std.proofs.Common.{◌≡◌, ◌≤◌, ◌-◌, map}
 use Rattle.ffs_volume.specs.Directories.Entries.{entries_of}
-use Rattle.ffs_volume.specs.Messages.Kinds.{of_names}
+use Rattle.ffs_volume.specs.Messages.Kinds.{of_tree}
 use Rattle.ffs_volume.specs.Directories.Roles.{roled_from}
 use Rattle.ffs_volume.specs.Directories.Volumes.{volume_of}
 use Rattle.ffs_phase.specs.Known.{ForBytes}
@@ -26,9 +26,9 @@ invariant-entries g l = let reported_by = g.I.Image.device in let v = l.geometry
       ≡ after_entries (volume_of v b) l.dir (marks_of l.workspace)
       (roled_at_place v.order l.chunk l.first l.index l.place));
   said : SaidOf (KnowsPath v (reported_by l.fn.image).contents l.fn.workspace l.dir l.path)
-      (λ b. map of_names (entries_reported (volume_of v b) l.dir (marks_of l.workspace)
+      (λ b. map of_tree (entries_reported (volume_of v b) l.dir (marks_of l.workspace)
       (roled_at_place v.order l.chunk l.first l.index l.place)))
-      (λ b. map of_names (entries_reported (volume_of v b) l.dir (marks_of l.fn.workspace)
+      (λ b. map of_tree (entries_reported (volume_of v b) l.dir (marks_of l.fn.workspace)
       (roled_from l.first 0 (entries_of v.order l.chunk))))
       (progress g.W.Output.sink l.fn.report) (progress g.W.Output.sink l.report);
 }

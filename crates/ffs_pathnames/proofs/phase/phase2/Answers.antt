@@ -1,7 +1,7 @@
 use Rattle.std.proofs.Common.{[], ◌∷◌, List, ℕ, map, refl, ap, ◌∙◌, inl, inr}
 use Rattle.std.proofs.lemmas.Result.{err_from_is_err_and}
 use Rattle.ffs_phase.proofs.Reporting.{of_begins, of_says, of_stops, of_reads, of_last, reports_knowing}
-use Rattle.ffs_volume.specs.Messages.Kinds.{of_names, phase2}
+use Rattle.ffs_volume.specs.Messages.Kinds.{of_tree, phase2}
 use Rattle.ffs_volume.specs.Directories.PathnameCheck.{pathname_lines}
 use Rattle.ffs_volume.specs.Directories.Volumes.{volume_of}
 use Rattle.ffs_pathnames.specs.declared.phase.Root.{Root}
@@ -14,8 +14,8 @@ pub returns-in_err-say-clause-text : goal.returns-in_err-say-clause-text
 returns-in_err-say-clause-text g c =
     let p = err_from_is_err_and c.from_residual.result c.from_residual.ensures.1 in
     let v = c.args.geometry.now.layout in
-    let lines = λ (b : List ℕ). map of_names (pathname_lines (volume_of v b)) in
-    let all = λ (b : List ℕ). phase2 ∷ map of_names (pathname_lines (volume_of v b)) in
+    let lines = λ (b : List ℕ). map of_tree (pathname_lines (volume_of v b)) in
+    let all = λ (b : List ℕ). phase2 ∷ map of_tree (pathname_lines (volume_of v b)) in
     rw (p.1, p.2) (of_stops _ all lines _ (phase2 ∷ []) _ _ _ (of_begins _ all _) (λ b k. refl)
     c.in_err-say.ensures.said)
 
@@ -31,16 +31,16 @@ pub returns-in_err-survey-clause-text : goal.returns-in_err-survey-clause-text
 returns-in_err-survey-clause-text g c =
     let p = err_from_is_err_and c.from_residual-in_err-survey.result c.from_residual-in_err-survey.ensures.1 in
     let v = c.args.geometry.now.layout in
-    let lines = λ (b : List ℕ). map of_names (pathname_lines (volume_of v b)) in
-    let all = λ (b : List ℕ). phase2 ∷ map of_names (pathname_lines (volume_of v b)) in
+    let lines = λ (b : List ℕ). map of_tree (pathname_lines (volume_of v b)) in
+    let all = λ (b : List ℕ). phase2 ∷ map of_tree (pathname_lines (volume_of v b)) in
     rw (p.1, p.2) (of_reads _ lines _ _ _
     (of_says _ all lines _ (phase2 ∷ []) _ _ _ (of_begins _ all _) (λ b k. refl) c.in_ok-say.ensures.said))
 
 pub returns-clause-text : goal.returns-clause-text
 returns-clause-text g c =
     let v = c.args.geometry.now.layout in
-    let lines = λ (b : List ℕ). map of_names (pathname_lines (volume_of v b)) in
-    let all = λ (b : List ℕ). phase2 ∷ map of_names (pathname_lines (volume_of v b)) in
+    let lines = λ (b : List ℕ). map of_tree (pathname_lines (volume_of v b)) in
+    let all = λ (b : List ℕ). phase2 ∷ map of_tree (pathname_lines (volume_of v b)) in
     let found = c.in_ok-survey.ensures in
     let clear = c.clear_marks.ensures in
     let made = (clear.ready v _ found.ready).made in

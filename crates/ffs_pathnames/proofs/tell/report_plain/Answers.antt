@@ -1,6 +1,6 @@
 use Rattle.std.proofs.Common.{sym, ap, ◌∙◌, ℕ, List, [], map, append-nil}
 use Rattle.std.proofs.lemmas.Result.{err_from_is_err_and}
-use Rattle.ffs_volume.specs.Messages.Kinds.{NameMessage, of_names}
+use Rattle.ffs_volume.specs.Messages.Kinds.{TreeMessage, of_tree}
 use Rattle.ffs_volume.specs.Directories.PathnameCheck.{attributes}
 use Rattle.ffs_volume.specs.Directories.Parents.{graph_of}
 use Rattle.ffs_volume.specs.Directories.Paths.{dir_path, entry_path}
@@ -20,7 +20,7 @@ returns-then-is_silent-clause-text g c =
     let silent = sym c.is_silent.ensures ∙ c.if-is_silent.true in
     record {
       messages = [];
-      right = λ b k. sym (ap (map of_names)
+      right = λ b k. sym (ap (map of_tree)
           ((c.verdict_of-verdict.ensures.verdict v b c.requires.ready.ready.made k.knows.claims k.knows.survey).reported
           ∙ silent_reported c.verdict_of-verdict.result c.args.entry.now.number
           (attributes (volume_of v b) c.args.entry.now.number)
@@ -37,37 +37,37 @@ returns-in_err-attr-clause-text g c =
 pub returns-in_err-say_verdict-clause-text : goal.returns-in_err-say_verdict-clause-text
 returns-in_err-say_verdict-clause-text g c =
     let v = c.args.geometry.now.layout in
-    let all = λ (b : List ℕ). map of_names
+    let all = λ (b : List ℕ). map of_tree
     (plain_reported (volume_of v b) c.args.dir (marks_of c.args.workspace.now) (entry_value c.args.entry.now)) in
-    let ms : List NameMessage = verdict_reported c.verdict_of-verdict.result c.args.entry.now.number c.in_ok-attr.attr
+    let ms : List TreeMessage = verdict_reported c.verdict_of-verdict.result c.args.entry.now.number c.in_ok-attr.attr
     c.as_slice.result.now c.as_slice-2.result.now in
     let p = err_from_is_err_and c.from_residual-in_err-say_verdict.result
     c.from_residual-in_err-say_verdict.ensures.1 in
-    rw (p.1, p.2) (of_stops _ all (λ b. []) _ (map of_names ms) _ _ _ (of_begins _ all _)
-    (λ b k. ap (map of_names)
+    rw (p.1, p.2) (of_stops _ all (λ b. []) _ (map of_tree ms) _ _ _ (of_begins _ all _)
+    (λ b k. ap (map of_tree)
     ((c.verdict_of-verdict.ensures.verdict v b c.requires.ready.ready.made k.knows.claims k.knows.survey).reported
     ∙ (sym (c.in_ok-attr.ensures.enough b c.args.dir k.knows.reported_is k.knows.claims k.knows.survey k.path)
     ∙ (ap (λ q. verdict_reported c.verdict_of-verdict.result c.args.entry.now.number c.in_ok-attr.attr q
     c.gather.new.directory.items) (sym c.as_slice.ensures.value)
     ∙ ap (λ q. verdict_reported c.verdict_of-verdict.result c.args.entry.now.number c.in_ok-attr.attr
     c.as_slice.result.now q) (sym c.as_slice-2.ensures.value))))
-    ∙ sym (append-nil (map of_names ms)))
+    ∙ sym (append-nil (map of_tree ms)))
     c.in_err-say_verdict.ensures)
 
 pub returns-clause-text : goal.returns-clause-text
 returns-clause-text g c =
     let v = c.args.geometry.now.layout in
-    let all = λ (b : List ℕ). map of_names
+    let all = λ (b : List ℕ). map of_tree
     (plain_reported (volume_of v b) c.args.dir (marks_of c.args.workspace.now) (entry_value c.args.entry.now)) in
-    let ms : List NameMessage = verdict_reported c.verdict_of-verdict.result c.args.entry.now.number c.in_ok-attr.attr
+    let ms : List TreeMessage = verdict_reported c.verdict_of-verdict.result c.args.entry.now.number c.in_ok-attr.attr
     c.as_slice.result.now c.as_slice-2.result.now in
-    of_says _ all (λ b. []) _ (map of_names ms) _ _ _ (of_begins _ all _)
-    (λ b k. ap (map of_names)
+    of_says _ all (λ b. []) _ (map of_tree ms) _ _ _ (of_begins _ all _)
+    (λ b k. ap (map of_tree)
     ((c.verdict_of-verdict.ensures.verdict v b c.requires.ready.ready.made k.knows.claims k.knows.survey).reported
     ∙ (sym (c.in_ok-attr.ensures.enough b c.args.dir k.knows.reported_is k.knows.claims k.knows.survey k.path)
     ∙ (ap (λ q. verdict_reported c.verdict_of-verdict.result c.args.entry.now.number c.in_ok-attr.attr q
     c.gather.new.directory.items) (sym c.as_slice.ensures.value)
     ∙ ap (λ q. verdict_reported c.verdict_of-verdict.result c.args.entry.now.number c.in_ok-attr.attr
     c.as_slice.result.now q) (sym c.as_slice-2.ensures.value))))
-    ∙ sym (append-nil (map of_names ms)))
+    ∙ sym (append-nil (map of_tree ms)))
     c.in_ok-say_verdict.ensures

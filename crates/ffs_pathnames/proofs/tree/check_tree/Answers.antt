@@ -3,7 +3,7 @@ use Rattle.std.specs.Prelude.{◌-◌}
 use Rattle.std.proofs.lemmas.Result.{err_from_is_err_and}
 use Rattle.ffs_volume.proofs.Sizes.{some_inodes}
 use Rattle.ffs_phase.proofs.Reporting.{of_begins, of_says, of_stops, of_part, of_fault}
-use Rattle.ffs_volume.specs.Messages.Kinds.{of_names, lines_from}
+use Rattle.ffs_volume.specs.Messages.Kinds.{of_tree, lines_from}
 use Rattle.ffs_volume.specs.Directories.PathnameCheck.{lines_of, pathname_lines}
 use Rattle.ffs_volume.specs.Directories.Volumes.{volume_of}
 use Rattle.ffs_volume.specs.Encodings.Kinds.{is_dir_kind}
@@ -25,9 +25,9 @@ returns-in_err-report_root-clause-text g c =
     let p = err_from_is_err_and c.from_residual.result c.from_residual.ensures.1 in
     let v = c.args.geometry.now.layout in
     let w = c.args.workspace.now in
-    let all = λ (b : List ℕ). map of_names (pathname_lines (volume_of v b)) in
-    rw (p.1, p.2) (of_stops _ all (λ b. map of_names (tree_lines v b (is_dir_kind c.index-kind.result.now))) _
-    (map of_names (root_said c.index-kind.result.now c.index-marked.result.now)) _ _ _ (of_begins _ all _)
+    let all = λ (b : List ℕ). map of_tree (pathname_lines (volume_of v b)) in
+    rw (p.1, p.2) (of_stops _ all (λ b. map of_tree (tree_lines v b (is_dir_kind c.index-kind.result.now))) _
+    (map of_tree (root_said c.index-kind.result.now c.index-marked.result.now)) _ _ _ (of_begins _ all _)
     (λ b k. tree_is v b w _ _ (is_dir_kind c.index-kind.result.now)
     (root_kind_is v c.args.workspace.now _ c.args.geometry.now.sound c.requires.made c.index-kind.ensures)
     (root_marked_is v c.args.workspace.now _ c.args.geometry.now.sound c.requires.made c.index-marked.ensures)
@@ -42,17 +42,19 @@ pub returns-in-Stop-clause-text : goal.returns-in-Stop-clause-text
 returns-in-Stop-clause-text g c =
     let v = c.args.geometry.now.layout in
     let w = c.args.workspace.now in
-    let all = λ (b : List ℕ). map of_names (pathname_lines (volume_of v b)) in
-    of_says _ all (λ b. []) _ (map of_names (root_said c.index-kind.result.now c.index-marked.result.now)) _ _ _
+    let all = λ (b : List ℕ). map of_tree (pathname_lines (volume_of v b)) in
+    of_says _ all (λ b. []) _ (map of_tree (root_said c.index-kind.result.now c.index-marked.result.now)) _ _ _
     (of_begins _ all _)
     (λ b k. tree_is v b w _ _ false
     (root_kind_is v c.args.workspace.now _ c.args.geometry.now.sound c.requires.made c.index-kind.ensures)
-    (root_marked_is v c.args.workspace.now _ c.args.geometry.now.sound c.requires.made c.index-marked.ensures) k.claims c.in-Stop.ensures)
+    (root_marked_is v c.args.workspace.now _ c.args.geometry.now.sound c.requires.made c.index-marked.ensures)
+    k.claims c.in-Stop.ensures)
     c.in_ok-report_root.ensures
 
 pub returns-in-Stop-clause-goes : goal.returns-in-Stop-clause-goes
 returns-in-Stop-clause-goes g c = λ b k. c.in-Stop.ensures ∙ goes_is c.args.geometry.now.layout b c.args.workspace.now _
-    (root_kind_is c.args.geometry.now.layout c.args.workspace.now _ c.args.geometry.now.sound c.requires.made c.index-kind.ensures) k.claims
+    (root_kind_is c.args.geometry.now.layout c.args.workspace.now _ c.args.geometry.now.sound c.requires.made
+    c.index-kind.ensures) k.claims
 
 pub returns-in_err-check_inodes-in-Go-clause-text : goal.returns-in_err-check_inodes-in-Go-clause-text
 returns-in_err-check_inodes-in-Go-clause-text g c =
@@ -60,14 +62,15 @@ returns-in_err-check_inodes-in-Go-clause-text g c =
     c.from_residual-in_err-check_inodes-in-Go.ensures.1 in
     let v = c.args.geometry.now.layout in
     let w = c.args.workspace.now in
-    let all = λ (b : List ℕ). map of_names (pathname_lines (volume_of v b)) in
-    let part = λ (b : List ℕ). map of_names (lines_from (lines_of (volume_of v b)) 2 (inodes_of v - 2)) in
+    let all = λ (b : List ℕ). map of_tree (pathname_lines (volume_of v b)) in
+    let part = λ (b : List ℕ). map of_tree (lines_from (lines_of (volume_of v b)) 2 (inodes_of v - 2)) in
     rw (p.1, p.2) (of_fault (Unit {0}) (Unit {0}) _ part part (λ b. []) _ _ _ _ c.in_err-check_inodes-in-Go.field-0.0
-    (of_says _ all part _ (map of_names (root_said c.index-kind.result.now c.index-marked.result.now)) _ _ _
+    (of_says _ all part _ (map of_tree (root_said c.index-kind.result.now c.index-marked.result.now)) _ _ _
     (of_begins _ all _)
     (λ b k. tree_is v b w _ _ true
     (root_kind_is v c.args.workspace.now _ c.args.geometry.now.sound c.requires.made c.index-kind.ensures)
-    (root_marked_is v c.args.workspace.now _ c.args.geometry.now.sound c.requires.made c.index-marked.ensures) k.claims c.in-Go.ensures)
+    (root_marked_is v c.args.workspace.now _ c.args.geometry.now.sound c.requires.made c.index-marked.ensures)
+    k.claims c.in-Go.ensures)
     c.in_ok-report_root.ensures)
     (λ b k. sym (append-nil (part b)))
     c.in_err-check_inodes-in-Go.ensures.text)
@@ -76,21 +79,23 @@ pub returns-in_err-check_inodes-in-Go-clause-fault : goal.returns-in_err-check_i
 returns-in_err-check_inodes-in-Go-clause-fault g c =
     at_fault c.from_residual-in_err-check_inodes-in-Go.result _
     (λ b k. sym (c.in-Go.ensures ∙ goes_is c.args.geometry.now.layout b c.args.workspace.now _
-    (root_kind_is c.args.geometry.now.layout c.args.workspace.now _ c.args.geometry.now.sound c.requires.made c.index-kind.ensures)
+    (root_kind_is c.args.geometry.now.layout c.args.workspace.now _ c.args.geometry.now.sound c.requires.made
+    c.index-kind.ensures)
     k.claims))
 
 pub returns-in_ok-check_inodes-in-Go-clause-text : goal.returns-in_ok-check_inodes-in-Go-clause-text
 returns-in_ok-check_inodes-in-Go-clause-text g c =
     let v = c.args.geometry.now.layout in
     let w = c.args.workspace.now in
-    let all = λ (b : List ℕ). map of_names (pathname_lines (volume_of v b)) in
-    let part = λ (b : List ℕ). map of_names (lines_from (lines_of (volume_of v b)) 2 (inodes_of v - 2)) in
+    let all = λ (b : List ℕ). map of_tree (pathname_lines (volume_of v b)) in
+    let part = λ (b : List ℕ). map of_tree (lines_from (lines_of (volume_of v b)) 2 (inodes_of v - 2)) in
     of_part _ part part (λ b. []) _ _ _ _
-    (of_says _ all part _ (map of_names (root_said c.index-kind.result.now c.index-marked.result.now)) _ _ _
+    (of_says _ all part _ (map of_tree (root_said c.index-kind.result.now c.index-marked.result.now)) _ _ _
     (of_begins _ all _)
     (λ b k. tree_is v b w _ _ true
     (root_kind_is v c.args.workspace.now _ c.args.geometry.now.sound c.requires.made c.index-kind.ensures)
-    (root_marked_is v c.args.workspace.now _ c.args.geometry.now.sound c.requires.made c.index-marked.ensures) k.claims c.in-Go.ensures)
+    (root_marked_is v c.args.workspace.now _ c.args.geometry.now.sound c.requires.made c.index-marked.ensures)
+    k.claims c.in-Go.ensures)
     c.in_ok-report_root.ensures)
     (λ b k. sym (append-nil (part b)))
     c.in_ok-check_inodes-in-Go.ensures.text
@@ -98,4 +103,5 @@ returns-in_ok-check_inodes-in-Go-clause-text g c =
 pub returns-in_ok-check_inodes-in-Go-clause-goes : goal.returns-in_ok-check_inodes-in-Go-clause-goes
 returns-in_ok-check_inodes-in-Go-clause-goes g c = λ b k. c.in-Go.ensures
     ∙ goes_is c.args.geometry.now.layout b c.args.workspace.now _
-    (root_kind_is c.args.geometry.now.layout c.args.workspace.now _ c.args.geometry.now.sound c.requires.made c.index-kind.ensures) k.claims
+    (root_kind_is c.args.geometry.now.layout c.args.workspace.now _ c.args.geometry.now.sound c.requires.made
+    c.index-kind.ensures) k.claims

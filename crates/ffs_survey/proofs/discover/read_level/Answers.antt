@@ -23,7 +23,8 @@ loop-s-preserved g c =
           dir_counted (length c.args.kinds.now) _ _ c.args.kinds.now
           (g.D.Directories.entries (g.D.Directories.base c.args.directories.now) b) c.args.frontier.now
           c.loop-s.s-index _ _ _ _ _ _
-          c.loop-s-test.true (inv.still b k c.loop-s.s-index 0 c.loop-s-test.true).dir (inv.counts b k) (read b k).counts;
+          c.loop-s-test.true (inv.still b k c.loop-s.s-index 0 c.loop-s-test.true).dir (inv.counts b k)
+          (read b k).counts;
       still = λ b k i d l.
           let s = inv.still b k i d l in
           record { dir = s.dir; marked = (comes_stays _ _ _ _ _ _ _ (read b k).comes).reached _ s.marked };

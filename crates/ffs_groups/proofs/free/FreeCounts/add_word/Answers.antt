@@ -13,7 +13,8 @@ add_block-requires c =
       some = c.requires.some;
       few = c.requires.few;
       room = omega (arith, c.requires.few);
-      below = added_below (λ b. word_bits (c.args.word / 2 ^ (b * c.args.frag)) 0 c.args.frag) c.loop-block.block (2 ^ 62)
+      below = added_below (λ b. word_bits (c.args.word / 2 ^ (b * c.args.frag)) 0 c.args.frag) c.loop-block.block
+          (2 ^ 62)
           (2 ^ 63) c.args.self.now c.loop-block.self c.loop-block.invariant
           (λ b. omega (arith, length_bits (c.args.word / 2 ^ (b * c.args.frag)) 0 c.args.frag, c.requires.few))
           c.requires.below (omega (arith, few));

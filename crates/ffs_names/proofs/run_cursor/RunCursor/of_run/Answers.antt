@@ -23,5 +23,6 @@ returns-clause-fits c =
       in_block = rw (c.from-4.ensures, c.from-5.ensures)
           (run_in_block v c.args.len c.args.geometry.now.sound c.requires.run.short);
       in_volume = rw (c.from-2.ensures, c.from-3.ensures, c.from-4.ensures, c.from-5.ensures)
-          (run_in_volume v c.args.start c.args.len c.args.geometry.now.sound c.requires.run.some c.requires.run.in_range);
+          (run_in_volume v c.args.start c.args.len c.args.geometry.now.sound c.requires.run.some
+          c.requires.run.in_range);
     }

@@ -17,7 +17,8 @@ returns-then-name-self c = λ names h single.
     ∙ sym (joined-last names c.args.name.now)) in
     le_or 1 p.start (HoldsNames p (names ++ c.args.name.now ∷ []))
     (λ some. room_holds p (names ++ c.args.name.now ∷ []) made.cut_is all (made.all (omega arith)) (omega arith))
-    (λ none. full_holds p (names ++ c.args.name.now ∷ []) made.cut_is all (omega arith) (made.second (omega arith)) single)
+    (λ none. full_holds p (names ++ c.args.name.now ∷ []) made.cut_is all (omega arith) (made.second (omega arith))
+    single)
 
 pub returns : goal.returns
 returns c = λ names h single.

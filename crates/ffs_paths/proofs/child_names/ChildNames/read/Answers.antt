@@ -74,7 +74,8 @@ returns-in_err-entry-clause-leaves g c =
     let next = c.in_err-entry.ensures in
     let err = err_from_is_err_and c.from_residual-in_err-entry.result c.from_residual-in_err-entry.ensures.1 in
     rw (err.1, err.2) (record {
-      windows = open_next _ _ _ c.entries.windows _ _ i.windows next.leaves.read.contents (rw i.geometry at next.leaves.ready);
+      windows = open_next _ _ _ c.entries.windows _ _ i.windows next.leaves.read.contents
+          (rw i.geometry at next.leaves.ready);
       read = subst (λ d. Faulted d (g.I.Image.device c.next.new.image) c.in_err-entry.field-0.0.sector) i.device
           next.leaves.read;
     })
