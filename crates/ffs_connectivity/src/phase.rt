@@ -1,6 +1,6 @@
 //! Phase 3: connectivity (fsck(8)).
 
-ghost use Rattle.std.specs.Prelude.{◌≡◌, ◌<◌, ◌≤◌, ◌^◌, ◌∷◌, ℕ, List, length, map, false};
+ghost use Rattle.std.specs.Prelude.{◌≡◌, ◌<◌, ◌≤◌, ◌^◌, ◌∷◌, ℕ, List, length, map, false, true};
 ghost use Rattle.ffs_report.specs.Progress.{progress};
 ghost use Rattle.ffs_phase.specs.Known.{IsContents};
 ghost use Rattle.ffs_phase.specs.Runs.{PhaseRuns};
@@ -27,6 +27,7 @@ fn first_unreached(kinds: &[u8], reached: &[bool]) -> u32
     ensures low { result < length kinds.now → 2 ≤ result }
     ensures within { result ≤ length kinds.now }
     ensures before { (x : ℕ) → x < result → is_free kinds.now reached.now x ≡ false }
+    ensures found { result < length kinds.now → is_free kinds.now reached.now result ≡ true }
 {
     for number in 0..kinds.len() {
         if is_dir(kinds, number) && !reached[number] {
