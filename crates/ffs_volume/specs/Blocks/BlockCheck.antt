@@ -27,7 +27,8 @@ abbrev pub sectors : Layout → ℕ → ℕ
 sectors v fragments = fragments * (v.fsize / DEV_BSIZE)
 
 -- the line of a file or directory that wasn't cut, and whose blocks field isn't that of its kept offers; `end` is the
--- state after the inode. Of an inode that was cut the right number isn't known, so it has no such line
+-- state after the inode. An inode is cut where it has too many bad Runs or dup offers: its right number isn't known
+-- then, so it has no such line
 abbrev pub count_lines : Layout → Owner → Claims → List BlockMessage
 count_lines v o end =
     if is_file_or_dir o.class && (is_open end && not (o.blocks == sectors v end.kept))
@@ -50,12 +51,13 @@ pub record Offer : Type 0 where
   pub inode : ℕ
   pub fragment : ℕ
 
--- the offer of a fragment to an inode
+-- the offer with these two numbers
 abbrev pub offer_at : (inode fragment : ℕ) → Offer
 offer_at i f = record { inode = i; fragment = f }
 
 -- The five definitions below are the kept offers, walking as `Claims` does from a state s: of some fragments, of a Run,
--- of a step, of steps, and of inodes. `Keeping` says by one rule which they are: read it for the meaning
+-- of a step, of steps, and of inodes. Offers are kept, in range or not, until their inode is cut, at its eleventh bad
+-- Run or dup offer. `Keeping` says by one rule which they are: read it for the meaning
 abbrev pub kept_in_offers : (v : Layout) (inode : ℕ) (s : Claims) (fs : List ℕ) → List Offer
 kept_in_offers v inode s [] = []
 kept_in_offers v inode s (f ∷ fs) =
@@ -83,8 +85,8 @@ abbrev pub kept_in_owners : Layout → Claims → List Owner → List Offer
 kept_in_owners v s [] = []
 kept_in_owners v s (o ∷ os) = kept_in_steps v o.number (next_inode s) o.steps ++ kept_in_owners v (after_owner v s o) os
 
--- a DUP for the first kept offer of each fragment that has a DUP in phase 1: of a reserved fragment one that phase 1
--- has reported too
+-- a DUP for the first kept offer of each fragment that has a DUP in phase 1. Where the fragment is reserved, phase 1
+-- has reported that same offer already
 abbrev pub first_offer_lines : List Bool → List Offer → List BlockMessage
 first_offer_lines dup [] = []
 first_offer_lines dup (o ∷ os) =

@@ -51,8 +51,8 @@ is_short_symlink v i = type_of i.mode == DT_LNK && nat_lt i.size v.maxsymlinklen
 abbrev pub logical_blocks_of : Layout → Inode → ℕ
 logical_blocks_of v i = div_ceil i.size v.bsize
 
--- how many of the fifteen addresses are used where there are this many logical blocks, and a block has room for `words`
--- addresses
+-- how many of the fifteen addresses are needed to reach this many logical blocks, where an indirect block has room for
+-- `words` addresses
 abbrev pub addresses_needed : (words blocks : ℕ) → ℕ
 addresses_needed words blocks =
     if nat_lt blocks (NDADDR + 1) then blocks
@@ -60,8 +60,9 @@ addresses_needed words blocks =
     then (if nat_lt (NDADDR + words + words * words) blocks then 15 else 14)
     else 13)
 
--- how many of the fifteen addresses an inode may use. A short symlink has its text in place of them, 4 bytes in each; a
--- device has its own number in one more
+-- how many of the first of its fifteen addresses an inode may set: one that is set after them makes it Unknown. A short
+-- symlink has its text in place of addresses, 4 bytes in each. A device stores its device number in the first address,
+-- so one logical block more is counted
 abbrev pub inode_addresses_used : Layout → Inode → ℕ
 inode_addresses_used v i =
     if is_short_symlink v i then div_ceil i.size 4

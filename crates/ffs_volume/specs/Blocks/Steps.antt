@@ -33,10 +33,10 @@ address_at v image address j = address_in v (block_bytes v image address) j
 pub record FileBlocks : Type 0 where
   pub layout : Layout
   pub blocks : ℕ
-  pub last : ℕ
+  pub last : ℕ  -- a length in fragments
 
--- how many addresses of an indirect block are used, of the `words` that it has: it covers the logical blocks from
--- `first` on, and `span` of them lie under each address (`-` stops at 0)
+-- how many addresses of one indirect block lie before the end of the file, holes among them, of the `words` that it
+-- has: it covers the logical blocks from `first` on, and `span` of them lie under each address (`-` stops at 0)
 abbrev pub block_addresses_used : (words blocks first span : ℕ) → ℕ
 block_addresses_used words blocks first span = min words (div_ceil (blocks - first) span)
 

@@ -26,7 +26,8 @@ is_live e = not (e.number == 0)
 abbrev pub name_at : (chunk : List ℕ) (place : ℕ) → List ℕ
 name_at chunk place = piece (place + 8) (slice_index chunk (place + 7)) chunk
 
--- a name has at least one byte, none of them NUL or `/` (47), and a NUL after it. Its length is one byte: at most 255
+-- the entry at a place has a valid name: at least one byte, none of them NUL or `/` (47), and a NUL after it. Its
+-- length is stored in one byte, so it is at most 255
 abbrev pub is_valid_name : (chunk : List ℕ) (place : ℕ) → Bool
 is_valid_name chunk place =
     not (slice_index chunk (place + 7) == 0)
@@ -37,15 +38,15 @@ is_valid_name chunk place =
 abbrev pub is_valid_record_length : (place length : ℕ) → Bool
 is_valid_record_length place length = (length % 4 == 0) && nat_le 8 length && nat_le (place + length) DIRBLKSIZ
 
--- the record holds what an entry in use must have: room for its name with the NUL, rounded up to 4 bytes, one of
--- sixteen types, and a valid name
+-- what the record of a live entry must hold: room for its name and the NUL, rounded up to 4 bytes, a type of at most
+-- 15, and a valid name
 abbrev pub has_valid_content : (chunk : List ℕ) (place length : ℕ) → Bool
 has_valid_content chunk place length =
     nat_le (8 + (slice_index chunk (place + 7) + 4) / 4 * 4) length
     && nat_le (slice_index chunk (place + 6)) 15
     && is_valid_name chunk place
 
--- an entry's record length is valid, and so are its name and type where its number isn't 0
+-- an entry's record length is valid, and so is its content where its number isn't 0
 unfoldable pub is_well_formed : (order : Order) (chunk : List ℕ) (place : ℕ) → Bool
 is_well_formed order chunk place =
     is_valid_record_length place (u16_at order (place + 4) chunk)

@@ -136,11 +136,12 @@ abbrev pub is_bad_whiteout : Entry → Bool
 is_bad_whiteout e =
     ((e.number == WINO) && not (e.kind == DT_WHT)) || ((e.kind == DT_WHT) && not (e.number == WINO))
 
--- x, which this entry names, is a suspect other than 2, and this is the first plain entry that names x
+-- entry j of the directory s is the first plain entry that names x, a suspect (an inode that is marked, or a directory
+-- of size 0) other than the root
 abbrev pub is_first_name_of_suspect : (vol : Volume) (s j x : ℕ) → Bool
 is_first_name_of_suspect vol s j x = is_suspect vol x && (not (x == ROOTINO) && is_first_name (graph_of vol) s j x)
 
--- the message on a suspect that an entry names
+-- the message on a suspect that an entry names: DUP/BAD where x is marked, else ZERO LENGTH DIRECTORY
 abbrev pub message_on_suspect : (vol : Volume) (x : ℕ) (path : List ℕ) → TreeMessage
 message_on_suspect vol x path =
     if vol.marked x then dup_bad (attributes vol x) (label_of (vol.class x)) path else zero_dir (attributes vol x) path
@@ -149,7 +150,7 @@ message_on_suspect vol x path =
 abbrev pub is_extraneous : (vol : Volume) (s j x : ℕ) → Bool
 is_extraneous vol s j x = is_dir vol x && not (is_parent_entry (graph_of vol) s j x)
 
--- the type of the inode is known, and the entry has another
+-- the class of the inode isn't Unknown, and the entry has a type other than the inode's
 abbrev pub has_wrong_type : Volume → Entry → Bool
 has_wrong_type vol e = not (is_unknown (vol.class e.number)) && not (e.kind == type_of (vol.inode e.number).mode)
 

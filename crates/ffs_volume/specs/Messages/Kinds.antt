@@ -13,10 +13,10 @@ pub data TreeMessage : Type 0 where
   root_none : TreeMessage  -- ROOT INODE UNALLOCATED
   root_not_dir : TreeMessage
   root_suspect : TreeMessage  -- DUPS/BAD IN ROOT INODE
-  dir_short : (about : Attr) (path : List ℕ) → TreeMessage
-  dir_length : (path : List ℕ) (size : ℕ) → TreeMessage
+  dir_short : (about : Attr) (path : List ℕ) → TreeMessage  -- DIRECTORY TOO SHORT
+  dir_length : (path : List ℕ) (size : ℕ) → TreeMessage  -- LENGTH %d NOT MULTIPLE OF 512
   dir_empty : (path : List ℕ) → TreeMessage  -- CONTAINS EMPTY BLOCKS: it has a Gap
-  dir_corrupt : (about : Attr) (path : List ℕ) → TreeMessage
+  dir_corrupt : (about : Attr) (path : List ℕ) → TreeMessage  -- DIRECTORY CORRUPTED
   missing_dot : (about : Attr) (path : List ℕ) → TreeMessage
   missing_dot_first : (about : Attr) (path name : List ℕ) → TreeMessage  -- MISSING '.', another entry is first
   number_dot : (about : Attr) (path : List ℕ) → TreeMessage  -- BAD INODE NUMBER FOR '.'
@@ -29,14 +29,14 @@ pub data TreeMessage : Type 0 where
   extra_dotdot : (about : Attr) (path : List ℕ) → TreeMessage
   out_of_range : (number : ℕ) (path : List ℕ) → TreeMessage  -- I OUT OF RANGE
   whiteout : (number : ℕ) (path : List ℕ) → TreeMessage  -- BAD WHITEOUT ENTRY
-  unallocated : (about : Attr) (path : List ℕ) → TreeMessage
+  unallocated : (about : Attr) (path : List ℕ) → TreeMessage  -- UNALLOCATED: an entry names a free inode
   dup_bad : (about : Attr) (label : Label) (path : List ℕ) → TreeMessage  -- DUP/BAD, in phase 2
   zero_dir : (about : Attr) (path : List ℕ) → TreeMessage  -- ZERO LENGTH DIRECTORY, in phase 2
   extraneous : (path directory : List ℕ) → TreeMessage  -- IS AN EXTRANEOUS HARD LINK
   kind_entry : (about : Attr) (label : Label) (path : List ℕ) → TreeMessage  -- BAD TYPE VALUE
   unref_dir : (about : Attr) → TreeMessage
-  dead_marked : (label : Label) (about : Attr) → TreeMessage  -- BAD/DUP, in phase 4
-  dead_zero : (about : Attr) → TreeMessage  -- ZERO LENGTH DIR, in phase 4
+  dead_marked : (label : Label) (about : Attr) → TreeMessage  -- BAD/DUP, in phase 4, of an inode without entry
+  dead_zero : (about : Attr) → TreeMessage  -- ZERO LENGTH DIR, in phase 4, of one without entry
   unref : (label : Label) (about : Attr) → TreeMessage  -- UNREF, with links: reconnect it?
   unref_unlinked : (label : Label) (about : Attr) → TreeMessage  -- UNREF, without links: clear it?
   link_count : (label : Label) (about : Attr) (nlink : ℤ) (references : ℕ) → TreeMessage
@@ -44,14 +44,14 @@ pub data TreeMessage : Type 0 where
 -- a message of a report: of the opening, a heading, a message of a phase, the summary, or the end of a run that isn't
 -- completed
 pub data Message : Type 0 where
-  location : (sector : ℕ) → Message
-  opening : (name : List ℕ) → Message
+  location : (sector : ℕ) → Message  -- Alternate super block location
+  opening : (name : List ℕ) → Message  -- the image's name
   bad_super : (fault : SuperFault) → Message
   cannot_read : (sector : ℕ) → Message
-  cannot_alloc : Message
-  optimization : Message
-  minfree : (value : ℤ) → Message
-  mounted : (mount : List ℕ) → Message
+  cannot_alloc : Message  -- the memory of a check was refused
+  optimization : Message  -- UNDEFINED OPTIMIZATION IN SUPERBLOCK
+  minfree : (value : ℤ) → Message  -- IMPOSSIBLE MINFREE IN SUPERBLOCK
+  mounted : (mount : List ℕ) → Message  -- Last Mounted on
   phase1 : Message
   phase1b : Message
   phase2 : Message
@@ -60,7 +60,7 @@ pub data Message : Type 0 where
   phase5 : Message
   of_blocks : (message : BlockMessage) → Message
   of_tree : (message : TreeMessage) → Message
-  summary : (files used : ℕ) (free frags blocks tenths : ℤ) → Message
+  summary : (files used : ℕ) (free frags blocks tenths : ℤ) → Message  -- the last: tenths of a percent
 
 -- the message reports an inconsistency; a refused superblock or a failed read ends the run instead
 abbrev pub is_defect : Message → Bool
