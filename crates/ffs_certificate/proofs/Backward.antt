@@ -18,7 +18,7 @@ use Rattle.ffs_certificate.proofs.Lost.{silent-reached}
 use Rattle.ffs_certificate.proofs.Links.{links-right}
 use Rattle.ffs_volume.specs.Directories.Parents.{graph_of, nth_roled}
 use Rattle.ffs_volume.specs.Directories.PathnameCheck.{is_short, is_bad_whiteout, is_extraneous, is_wrong_parent}
-use Rattle.ffs_volume.specs.Directories.Connectivity.{is_unref_dir_of}
+use Rattle.ffs_volume.specs.Directories.Connectivity.{is_unref_dir}
 use Rattle.ffs_volume.specs.Consistent.DirectoriesRight.{IsPlainRight, IsDirRight, AreDirsRight}
 use Rattle.ffs_certificate.specs.Premises.{IsVolume, IsUnmarked}
 use Rattle.ffs_volume.specs.Consistent.DirectoriesRight.{AreLinksRight, AreCountsRight}
@@ -166,7 +166,7 @@ quiet_pathnames v t = record {
       };
 }
 
-pub quiet_connectivity : (v : Volume) → IsFileOrDir v → (d : ℕ) → is_unref_dir_of v d ≡ false
+pub quiet_connectivity : (v : Volume) → IsFileOrDir v → (d : ℕ) → is_unref_dir v d ≡ false
 quiet_connectivity v t = (silent-reached (graph_of v) (is_suspect v) (is_sane v t.volume) (none_dead v (calm v t))).1
     (all_reached v t)
 

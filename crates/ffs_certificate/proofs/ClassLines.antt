@@ -15,7 +15,7 @@ use Rattle.ffs_volume.specs.declared.BlockMessage.TheVariants.{Bad, Dup, ManyBad
 use Rattle.ffs_volume.specs.Disk.Areas.{is_fragment_in_range, is_run_in_range}
 use Rattle.ffs_volume.specs.Blocks.Inodes.{is_file_or_dir}
 use Rattle.ffs_volume.specs.Blocks.Owners.{Owner}
-use Rattle.ffs_volume.specs.Blocks.Claims.{Claims, no_claims, next_inode, is_open, is_set, after_offer, offer_lines}
+use Rattle.ffs_volume.specs.Blocks.Claims.{Claims, no_claims, at_next_inode, is_open, is_set, after_offer, offer_lines}
 use Rattle.ffs_volume.specs.Blocks.Claims.{lines_of_offers, run_lines, after_step, step_lines, lines_of_steps}
 use Rattle.ffs_volume.specs.Blocks.Claims.{after_owner}
 use Rattle.ffs_volume.specs.Blocks.BlockCheck.{class_lines, count_lines, sectors, owner_lines, lines_of_owners}
@@ -94,11 +94,11 @@ owner_some : (v : Layout) (s : Claims) (o : Owner) → list_any is_class_message
     ≡ not (is_right_class o.class)
 owner_some v s o =
     list_any-append is_class_message (class_lines o.number o.class)
-    (lines_of_steps v o.number (next_inode s) o.steps ++ count_lines v o (after_owner v s o))
+    (lines_of_steps v o.number (at_next_inode s) o.steps ++ count_lines v o (after_owner v s o))
     ∙ rw (
       class_some o.number o.class,
-      none_append (lines_of_steps v o.number (next_inode s) o.steps) (count_lines v o (after_owner v s o))
-          (steps_none v o.number (next_inode s) o.steps) (count_none v o (after_owner v s o)),
+      none_append (lines_of_steps v o.number (at_next_inode s) o.steps) (count_lines v o (after_owner v s o))
+          (steps_none v o.number (at_next_inode s) o.steps) (count_none v o (after_owner v s o)),
     )
     (or_false (not (is_right_class o.class)))
   where

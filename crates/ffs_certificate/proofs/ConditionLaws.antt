@@ -9,7 +9,7 @@ use Rattle.ffs_volume.specs.declared.Layout.{Layout}
 use Rattle.ffs_volume.specs.declared.Class.{Class}
 use Rattle.ffs_volume.specs.declared.Class.TheVariants.{Free, Partial, Unknown, File, Dir}
 use Rattle.ffs_volume.specs.Disk.Superblock.{Superblock}
-use Rattle.ffs_volume.specs.Disk.Geometry.{IsValidLayout}
+use Rattle.ffs_volume.specs.Disk.Geometry.{IsAcceptedLayout}
 use Rattle.ffs_volume.proofs.AcceptedLaws.{accepted_sound}
 use Rattle.ffs_volume.specs.Blocks.Owners.{Owner, owners_of}
 use Rattle.ffs_volume.specs.Consistent.BlocksRight.{is_right_class, BlocksRight}
@@ -201,7 +201,7 @@ checks_reported v vol un = (
 )
 
 -- THE WHOLE
-conditions : (image : List ℕ) (s : Superblock) → IsValidLayout s.layout → ConditionsReported image s
+conditions : (image : List ℕ) (s : Superblock) → IsAcceptedLayout s.layout → ConditionsReported image s
 conditions image s g =
     let v = s.layout in
     let os = owners_of s.layout image in

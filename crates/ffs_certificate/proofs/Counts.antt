@@ -8,21 +8,21 @@ use Rattle.ffs_volume.specs.Directories.Roles.{Volume, is_inode, is_allocated_in
 use Rattle.ffs_volume.specs.Messages.Kinds.{TreeMessage, reported, unref_dir, dead_marked, dead_zero, unref}
 use Rattle.ffs_volume.specs.Messages.Kinds.{unref_unlinked, link_count}
 use Rattle.ffs_volume.specs.Directories.PathnameCheck.{attributes, label_of}
-use Rattle.ffs_volume.specs.Directories.Connectivity.{is_dead, is_unref_dir_of, connectivity_lines}
+use Rattle.ffs_volume.specs.Directories.Connectivity.{is_dead, is_unref_dir, connectivity_lines}
 use Rattle.ffs_volume.specs.Disk.Numbers.{equals_natural}
-use Rattle.ffs_volume.specs.Directories.ReferenceCheck.{dead_lines, unref_lines, inode_lines, counted_lines}
+use Rattle.ffs_volume.specs.Directories.ReferenceCheck.{dead_lines, unref_lines, inode_lines, reference_lines_at}
 use Rattle.ffs_volume.specs.Directories.ReferenceCheck.{reference_lines}
 use Rattle.ffs_certificate.proofs.Silence.{reported-quiet, reported-silent, if-silent, then-quiet, then-silent}
 use Rattle.ffs_certificate.proofs.Silence.{lines-quiet, lines-silent}
 
-pub connectivity-quiet : (v : Volume) → connectivity_lines v ≡ [] → (d : ℕ) → d < v.count → is_unref_dir_of v d ≡ false
+pub connectivity-quiet : (v : Volume) → connectivity_lines v ≡ [] → (d : ℕ) → d < v.count → is_unref_dir v d ≡ false
 unfolding connectivity_lines
 connectivity-quiet v h d l = reported-quiet _ (unref_dir (attributes v d))
-    (lines-quiet (λ d. reported (is_unref_dir_of v d) (unref_dir (attributes v d))) v.count h d l)
+    (lines-quiet (λ d. reported (is_unref_dir v d) (unref_dir (attributes v d))) v.count h d l)
 
-pub connectivity-silent : (v : Volume) → ((d : ℕ) → is_unref_dir_of v d ≡ false) → connectivity_lines v ≡ []
+pub connectivity-silent : (v : Volume) → ((d : ℕ) → is_unref_dir v d ≡ false) → connectivity_lines v ≡ []
 unfolding connectivity_lines
-connectivity-silent v h = lines-silent (λ d. reported (is_unref_dir_of v d) (unref_dir (attributes v d))) v.count
+connectivity-silent v h = lines-silent (λ d. reported (is_unref_dir v d) (unref_dir (attributes v d))) v.count
     (λ d l. reported-silent _ (unref_dir (attributes v d)) (h d))
 
 -- an inode that is allocated
@@ -68,12 +68,12 @@ pub reference-quiet : (v : Volume) → reference_lines v ≡ [] → (i : ℕ) �
 unfolding reference_lines
 reference-quiet v h i k =
     count-quiet v i (then-quiet (is_allocated_inode v i) (inode_lines v i)
-    (lines-quiet (counted_lines v) v.count h i (some-below v i k)) k)
+    (lines-quiet (reference_lines_at v) v.count h i (some-below v i k)) k)
 
 pub reference-silent : (v : Volume) → ((i : ℕ) → is_allocated_inode v i ≡ true → IsCountQuiet v i) →
     reference_lines v ≡ []
 unfolding reference_lines
-reference-silent v h = lines-silent (counted_lines v) v.count
+reference-silent v h = lines-silent (reference_lines_at v) v.count
     (λ i l. then-silent (is_allocated_inode v i) (inode_lines v i) (λ k. count-silent v i (h i k)))
 
 -- a count and a number

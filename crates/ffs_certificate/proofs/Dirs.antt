@@ -14,14 +14,14 @@ use Rattle.ffs_volume.specs.Directories.Roles.{is_two_dots, roled_entries, dot, 
 use Rattle.ffs_volume.specs.Directories.Graph.{parent}
 use Rattle.ffs_volume.specs.Directories.Parents.{graph_of, nth_roled}
 use Rattle.ffs_volume.specs.Directories.Paths.{dir_path}
-use Rattle.ffs_volume.specs.Messages.Kinds.{reported, lines_below, root_suspect, dir_short, dir_length, dir_empty}
+use Rattle.ffs_volume.specs.Messages.Kinds.{reported, lines_below, root_suspect, dir_short, dir_length, dir_gap}
 use Rattle.ffs_volume.specs.Messages.Kinds.{dir_corrupt, missing_dot, missing_dot_first, number_dot, kind_dot}
 use Rattle.ffs_volume.specs.Messages.Kinds.{missing_dotdot, missing_dotdot_second, number_dotdot, kind_dotdot}
 use Rattle.ffs_volume.specs.Directories.PathnameCheck.{attributes, root_lines, root_lines_of, continues_after_root}
-use Rattle.ffs_volume.specs.Directories.PathnameCheck.{is_short, is_not_multiple, are_sound, shape_lines, dot_lines}
+use Rattle.ffs_volume.specs.Directories.PathnameCheck.{is_short, has_partial_chunk, are_sound, shape_lines, dot_lines}
 use Rattle.ffs_volume.specs.Directories.PathnameCheck.{dot_lines_of, missing_dot_lines, is_wrong_parent}
 use Rattle.ffs_volume.specs.Directories.PathnameCheck.{dotdot_lines, dotdot_lines_of, missing_dotdot_lines}
-use Rattle.ffs_volume.specs.Directories.PathnameCheck.{lines_of_entries, dir_lines, is_looked_at, lines_of}
+use Rattle.ffs_volume.specs.Directories.PathnameCheck.{lines_of_entries, sized_dir_lines, is_looked_at, directory_lines}
 use Rattle.ffs_volume.specs.Directories.PathnameCheck.{pathname_lines}
 use Rattle.ffs_certificate.proofs.Silence.{nil-left, nil-right, nil-both, reported-quiet, reported-silent, then-quiet}
 use Rattle.ffs_certificate.proofs.Silence.{then-silent, lines-quiet, lines-silent}
@@ -30,7 +30,7 @@ use Rattle.ffs_certificate.proofs.Entries.{IsSeenQuiet, entries-quiet, entries-s
 -- of a directory's size, Gaps and chunks
 pub record IsShapeQuiet (v : Volume) (d : ℕ) : Type 0 where
   pub short : is_short v d ≡ false
-  pub broken : is_not_multiple v d ≡ false
+  pub broken : has_partial_chunk v d ≡ false
   pub gap : v.gap d ≡ false
   pub sound : are_sound (v.chunks d) ≡ true
 
@@ -40,14 +40,14 @@ shape-quiet v d h =
     let p = dir_path (graph_of v) d in
     let a = nil-left (reported (is_short v d) (dir_short (attributes v d) p)) _ h in
     let b = nil-right (reported (is_short v d) (dir_short (attributes v d) p)) _ h in
-    let c = nil-left (reported (is_not_multiple v d) (dir_length p (v.inode d).size)) _ b in
-    let e = nil-right (reported (is_not_multiple v d) (dir_length p (v.inode d).size)) _ b in
-    let f = nil-left (reported (v.gap d) (dir_empty p)) _ e in
-    let g = nil-right (reported (v.gap d) (dir_empty p)) _ e in
+    let c = nil-left (reported (has_partial_chunk v d) (dir_length p (v.inode d).size)) _ b in
+    let e = nil-right (reported (has_partial_chunk v d) (dir_length p (v.inode d).size)) _ b in
+    let f = nil-left (reported (v.gap d) (dir_gap p)) _ e in
+    let g = nil-right (reported (v.gap d) (dir_gap p)) _ e in
     record {
       short = reported-quiet _ (dir_short (attributes v d) p) a;
       broken = reported-quiet _ (dir_length p (v.inode d).size) c;
-      gap = reported-quiet _ (dir_empty p) f;
+      gap = reported-quiet _ (dir_gap p) f;
       sound = not-false _ (reported-quiet _ (dir_corrupt (attributes v d) p) g);
     }
 
@@ -57,9 +57,9 @@ shape-silent v d q =
     let p = dir_path (graph_of v) d in
     nil-both (reported (is_short v d) (dir_short (attributes v d) p)) _
     (reported-silent _ (dir_short (attributes v d) p) q.short)
-    (nil-both (reported (is_not_multiple v d) (dir_length p (v.inode d).size)) _
+    (nil-both (reported (has_partial_chunk v d) (dir_length p (v.inode d).size)) _
     (reported-silent _ (dir_length p (v.inode d).size) q.broken)
-    (nil-both (reported (v.gap d) (dir_empty p)) _ (reported-silent _ (dir_empty p) q.gap)
+    (nil-both (reported (v.gap d) (dir_gap p)) _ (reported-silent _ (dir_gap p) q.gap)
     (reported-silent _ (dir_corrupt (attributes v d) p) (not_from_true _ q.sound))))
 
 -- where `.` or `..` isn't there, something is reported
@@ -135,8 +135,8 @@ pub record IsDirQuiet (v : Volume) (d : ℕ) : Type 0 where
   pub dotdot_there : IsDotdotQuiet v d (dotdot v d)
   pub entries : (j : ℕ) (e : RoledEntry) → nth_roled (roled_entries v d) j ≡ Some e → IsSeenQuiet v d j e
 
-dir-quiet : (v : Volume) (d : ℕ) → dir_lines v d ≡ [] → IsDirQuiet v d
-unfolding dir_lines dot_lines dotdot_lines
+dir-quiet : (v : Volume) (d : ℕ) → sized_dir_lines v d ≡ [] → IsDirQuiet v d
+unfolding sized_dir_lines dot_lines dotdot_lines
 dir-quiet v d h =
     let a = nil-left (shape_lines v d) _ h in
     let b = nil-right (shape_lines v d) _ h in
@@ -152,8 +152,8 @@ dir-quiet v d h =
           subst (λ n. IsSeenQuiet v d n x) z (entries-quiet v d 0 (roled_entries v d) g j x t);
     }
 
-dir-silent : (v : Volume) (d : ℕ) → IsDirQuiet v d → dir_lines v d ≡ []
-unfolding dir_lines dot_lines dotdot_lines
+dir-silent : (v : Volume) (d : ℕ) → IsDirQuiet v d → sized_dir_lines v d ≡ []
+unfolding sized_dir_lines dot_lines dotdot_lines
 dir-silent v d q =
     nil-both (shape_lines v d) _ (shape-silent v d q.shape)
     (nil-both (dot_lines v d) _ (dot-silent v d (dot v d) q.dot_there)
@@ -183,14 +183,14 @@ pub pathname-quiet : (v : Volume) → pathname_lines v ≡ [] → IsPathnameQuie
 unfolding pathname_lines root_lines
 pathname-quiet v h =
     let r = root-quiet v (v.class 2) (nil-left (root_lines v) _ h) in
-    let a = then-quiet (continues_after_root v) (lines_below (lines_of v) v.count) (nil-right (root_lines v) _ h)
+    let a = then-quiet (continues_after_root v) (lines_below (directory_lines v) v.count) (nil-right (root_lines v) _ h)
     (ap is_directory r.0) in
     record {
       root = r.0;
       suspect = r.1;
       each = λ d k n.
-          dir-quiet v d (then-quiet (is_looked_at v d) (dir_lines v d)
-          (lines-quiet (lines_of v) v.count a d (dir-below v d k))
+          dir-quiet v d (then-quiet (is_looked_at v d) (sized_dir_lines v d)
+          (lines-quiet (directory_lines v) v.count a d (dir-below v d k))
           (and_from (is_dir v d) (not ((v.inode d).size == 0)) k (not_from_false _ (ne_eqb (v.inode d).size 0 n))));
     }
 
@@ -198,7 +198,7 @@ pub pathname-silent : (v : Volume) → IsPathnameQuiet v → pathname_lines v �
 unfolding pathname_lines root_lines
 pathname-silent v q =
     nil-both (root_lines v) _ (ap (root_lines_of v) q.root ∙ reported-silent _ root_suspect q.suspect)
-    (then-silent (continues_after_root v) (lines_below (lines_of v) v.count) (λ g.
-    lines-silent (lines_of v) v.count (λ d l. then-silent (is_looked_at v d) (dir_lines v d) (λ k.
+    (then-silent (continues_after_root v) (lines_below (directory_lines v) v.count) (λ g.
+    lines-silent (directory_lines v) v.count (λ d l. then-silent (is_looked_at v d) (sized_dir_lines v d) (λ k.
     let p = and_parts (is_dir v d) (not ((v.inode d).size == 0)) k in
     dir-silent v d (q.each d p.0 (eqb-false (v.inode d).size 0 (not-true _ p.1)))))))

@@ -14,7 +14,7 @@ use Rattle.ffs_volume.specs.declared.BlockMessage.{BlockMessage}
 use Rattle.ffs_volume.specs.declared.BlockMessage.TheVariants.{Bad, ManyBad, PartTrunc}
 use Rattle.ffs_volume.specs.Disk.Areas.{is_fragment_in_range, is_run_in_range}
 use Rattle.ffs_volume.specs.Blocks.Owners.{Owner}
-use Rattle.ffs_volume.specs.Blocks.Claims.{Claims, no_claims, is_set, is_open, next_inode, after_offer, after_offers}
+use Rattle.ffs_volume.specs.Blocks.Claims.{Claims, no_claims, is_set, is_open, at_next_inode, after_offer, after_offers}
 use Rattle.ffs_volume.specs.Blocks.Claims.{after_step, after_steps, after_owner, after_owners, offer_lines}
 use Rattle.ffs_volume.specs.Blocks.Claims.{lines_of_offers, step_lines, lines_of_steps}
 use Rattle.ffs_volume.specs.Blocks.BlockCheck.{Offer, class_lines, count_lines, owner_lines, lines_of_owners}

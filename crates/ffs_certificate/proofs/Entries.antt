@@ -9,14 +9,14 @@ use Rattle.ffs_volume.specs.declared.Role.TheVariants.{Empty, Dot, Dotdot, Extra
 use Rattle.ffs_volume.specs.Directories.Entries.{Entry}
 use Rattle.ffs_volume.specs.Blocks.Inodes.{is_allocated}
 use Rattle.ffs_volume.specs.Directories.Roles.{Volume, RoledEntry, is_dir, is_plain, is_one_dot, roled_entries}
-use Rattle.ffs_volume.specs.Directories.Graph.{entry_names, dir_names_at, test_at}
+use Rattle.ffs_volume.specs.Directories.Graph.{is_naming_entry, is_naming_entry_at, test_at}
 use Rattle.ffs_volume.specs.Directories.Parents.{graph_of, nth_roled}
 use Rattle.ffs_volume.specs.Directories.Paths.{dir_path, entry_path}
 use Rattle.ffs_volume.specs.Messages.Kinds.{reported, out_of_range, whiteout, unallocated, extraneous, kind_entry}
 use Rattle.ffs_volume.specs.Messages.Kinds.{extra_dot, extra_dotdot}
-use Rattle.ffs_volume.specs.Directories.PathnameCheck.{attributes, label_of, roled_lines, entry_role_lines}
+use Rattle.ffs_volume.specs.Directories.PathnameCheck.{attributes, label_of, entry_lines, entry_lines_of}
 use Rattle.ffs_volume.specs.Directories.PathnameCheck.{lines_of_entries, plain_lines, named_lines, is_bad_whiteout}
-use Rattle.ffs_volume.specs.Directories.PathnameCheck.{is_first_name_of_suspect, message_on_suspect, is_extraneous}
+use Rattle.ffs_volume.specs.Directories.PathnameCheck.{is_first_entry_of_suspect, message_on_suspect, is_extraneous}
 use Rattle.ffs_volume.specs.Directories.PathnameCheck.{has_wrong_type}
 use Rattle.ffs_volume.specs.Directories.PathnameCheck.{extra_lines}
 use Rattle.ffs_certificate.proofs.Silence.{nil-left, nil-right, nil-both, reported-quiet, reported-silent, if-quiet}
@@ -25,7 +25,7 @@ use Rattle.ffs_certificate.proofs.Silence.{if-silent, else-quiet, else-silent}
 -- a plain entry that names an inode from 2 on
 pub record IsNamedQuiet (v : Volume) (s j : ℕ) (e : Entry) : Type 0 where
   pub allocated : is_allocated (v.class e.number) ≡ true
-  pub suspect : is_first_name_of_suspect v s j e.number ≡ false
+  pub suspect : is_first_entry_of_suspect v s j e.number ≡ false
   pub link : is_extraneous v s j e.number ≡ false
   pub kind : has_wrong_type v e ≡ false
 
@@ -39,9 +39,9 @@ named-quiet : (v : Volume) (s j : ℕ) (e : Entry) → is_allocated (v.class e.n
     IsNamedQuiet v s j e
 unfolding named_lines
 named-quiet v s j e a h =
-    let one = nil-left (reported (is_first_name_of_suspect v s j e.number)
+    let one = nil-left (reported (is_first_entry_of_suspect v s j e.number)
     (message_on_suspect v e.number (entry_path (graph_of v) s e.name))) _ h in
-    let rest = nil-right (reported (is_first_name_of_suspect v s j e.number)
+    let rest = nil-right (reported (is_first_entry_of_suspect v s j e.number)
     (message_on_suspect v e.number (entry_path (graph_of v) s e.name))) _ h in
     let two = nil-left (reported (is_extraneous v s j e.number)
     (extraneous (entry_path (graph_of v) s e.name) (dir_path (graph_of v) e.number))) _ rest in
@@ -58,7 +58,7 @@ named-quiet v s j e a h =
 named-silent : (v : Volume) (s j : ℕ) (e : Entry) → IsNamedQuiet v s j e → named_lines v s j e ≡ []
 unfolding named_lines
 named-silent v s j e q =
-    nil-both (reported (is_first_name_of_suspect v s j e.number)
+    nil-both (reported (is_first_entry_of_suspect v s j e.number)
     (message_on_suspect v e.number (entry_path (graph_of v) s e.name))) _
     (reported-silent _ (message_on_suspect v e.number (entry_path (graph_of v) s e.name)) q.suspect)
     (nil-both (reported (is_extraneous v s j e.number)
@@ -104,19 +104,19 @@ extra_reported-some about path e h = go (is_one_dot e.name) h
     go true h = absurd (cc)
     go false h = absurd (cc)
 
-pub seen-quiet : (v : Volume) (s j : ℕ) (e : RoledEntry) → roled_lines v s j e ≡ [] → IsSeenQuiet v s j e
-unfolding roled_lines
+pub seen-quiet : (v : Volume) (s j : ℕ) (e : RoledEntry) → entry_lines v s j e ≡ [] → IsSeenQuiet v s j e
+unfolding entry_lines
 seen-quiet v s j e h = record {
   no_extra = λ x. extra_reported-some (attributes v s) (dir_path (graph_of v) s) e.entry
-      (sym (ap (λ r. entry_role_lines v s j r e.entry) x) ∙ h);
-  plain = λ x. plain-quiet v s j e.entry (sym (ap (λ r. entry_role_lines v s j r e.entry) x) ∙ h);
+      (sym (ap (λ r. entry_lines_of v s j r e.entry) x) ∙ h);
+  plain = λ x. plain-quiet v s j e.entry (sym (ap (λ r. entry_lines_of v s j r e.entry) x) ∙ h);
 }
 
-pub seen-silent : (v : Volume) (s j : ℕ) (e : RoledEntry) → IsSeenQuiet v s j e → roled_lines v s j e ≡ []
-unfolding roled_lines
+pub seen-silent : (v : Volume) (s j : ℕ) (e : RoledEntry) → IsSeenQuiet v s j e → entry_lines v s j e ≡ []
+unfolding entry_lines
 seen-silent v s j e q = go e.role refl
   where
-    go : (r : Role) → e.role ≡ r → entry_role_lines v s j r e.entry ≡ []
+    go : (r : Role) → e.role ≡ r → entry_lines_of v s j r e.entry ≡ []
     go Empty x = refl
     go Dot x = refl
     go Dotdot x = refl
@@ -132,10 +132,10 @@ entries-quiet v s j (f ∷ es) h zero e x =
     let q : f ≡ e = cc in
     let z : j ≡ j + 0 = omega arith in
     subst (λ n. IsSeenQuiet v s n e) z
-    (subst (λ y. IsSeenQuiet v s j y) q (seen-quiet v s j f (nil-left (roled_lines v s j f) _ h)))
+    (subst (λ y. IsSeenQuiet v s j y) q (seen-quiet v s j f (nil-left (entry_lines v s j f) _ h)))
 entries-quiet v s j (f ∷ es) h (suc k) e x =
     let z : suc j + k ≡ j + suc k = omega arith in
-    subst (λ n. IsSeenQuiet v s n e) z (entries-quiet v s (suc j) es (nil-right (roled_lines v s j f) _ h) k e x)
+    subst (λ n. IsSeenQuiet v s n e) z (entries-quiet v s (suc j) es (nil-right (entry_lines v s j f) _ h) k e x)
 
 pub entries-silent : (v : Volume) (s j : ℕ) (es : List RoledEntry) →
     ((k : ℕ) (e : RoledEntry) → nth_roled es k ≡ Some e → IsSeenQuiet v s (j + k) e) → lines_of_entries v s j es ≡ []
@@ -143,7 +143,7 @@ unfolding lines_of_entries
 entries-silent v s j [] h = refl
 entries-silent v s j (f ∷ es) h =
     let z : j + 0 ≡ j = omega arith in
-    nil-both (roled_lines v s j f) _
+    nil-both (entry_lines v s j f) _
     (seen-silent v s j f (subst (λ n. IsSeenQuiet v s n f) z (h 0 f refl)))
     (entries-silent v s (suc j) es (λ k e x.
     let y : j + suc k ≡ suc j + k = omega arith in
@@ -177,17 +177,17 @@ pub record IsNamer (v : Volume) (s j x : ℕ) : Type 0 where
   pub role : entry.role ≡ Plain
   pub number : entry.entry.number ≡ x
 
-pub names_at-gives : (v : Volume) (s j x : ℕ) → dir_names_at (graph_of v) s j x ≡ true → IsNamer v s j x
+pub names_at-gives : (v : Volume) (s j x : ℕ) → is_naming_entry_at (graph_of v) s j x ≡ true → IsNamer v s j x
 names_at-gives v s j x h =
-    let p = and_parts (is_dir v s) (test_at (entry_names x) j (roled_entries v s)) h in
-    let t = test-gives (entry_names x) j (roled_entries v s) p.1 in
+    let p = and_parts (is_dir v s) (test_at (is_naming_entry x) j (roled_entries v s)) h in
+    let t = test-gives (is_naming_entry x) j (roled_entries v s) p.1 in
     let e = t.0 in
     let q = and_parts (is_plain e.role) (e.entry.number == x) t.2 in
     record { dir = p.0; entry = e; there = t.1; role = plain-true e.role q.0; number = eqb-true e.entry.number x q.1 }
 
-pub names_at-from : (v : Volume) (s j x : ℕ) → IsNamer v s j x → dir_names_at (graph_of v) s j x ≡ true
+pub names_at-from : (v : Volume) (s j x : ℕ) → IsNamer v s j x → is_naming_entry_at (graph_of v) s j x ≡ true
 names_at-from v s j x n =
-    and_from (is_dir v s) (test_at (entry_names x) j (roled_entries v s)) n.dir
-    (test-from (entry_names x) j (roled_entries v s) n.entry n.there
+    and_from (is_dir v s) (test_at (is_naming_entry x) j (roled_entries v s)) n.dir
+    (test-from (is_naming_entry x) j (roled_entries v s) n.entry n.there
     (and_from (is_plain n.entry.role) (n.entry.entry.number == x) (ap is_plain n.role)
     (eq-eqb n.entry.entry.number x n.number)))

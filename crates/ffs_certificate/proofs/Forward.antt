@@ -20,7 +20,7 @@ use Rattle.ffs_certificate.proofs.Links.{links-right, has_parent_entry}
 use Rattle.ffs_volume.specs.Directories.Parents.{graph_of, is_parent_entry}
 use Rattle.ffs_volume.specs.Directories.PathnameCheck.{is_short, is_bad_whiteout, is_wrong_parent, is_extraneous}
 use Rattle.ffs_volume.specs.Directories.PathnameCheck.{has_wrong_type}
-use Rattle.ffs_volume.specs.Directories.Connectivity.{is_unref_dir_of}
+use Rattle.ffs_volume.specs.Directories.Connectivity.{is_unref_dir}
 use Rattle.ffs_volume.specs.Consistent.DirectoriesRight.{IsDirSize, IsPlainRight, AreDirsRight}
 use Rattle.ffs_certificate.specs.Premises.{IsVolume, IsUnmarked}
 use Rattle.ffs_volume.specs.Consistent.DirectoriesRight.{AreLinksRight, AreCountsRight}
@@ -34,7 +34,7 @@ use Rattle.ffs_certificate.proofs.Suspects.{is_sane, dir-from_two, none_empty, n
 -- what silence gives
 pub record IsQuiet (v : Volume) : Type 0 where
   pub pathnames : IsPathnameQuiet v
-  pub connectivity : (d : ℕ) → d < v.count → is_unref_dir_of v d ≡ false
+  pub connectivity : (d : ℕ) → d < v.count → is_unref_dir v d ≡ false
   pub references : (i : ℕ) → is_allocated_inode v i ≡ true → IsCountQuiet v i
 
 pub some-map : (P Q : Entry → Type 0) (o : Option Entry) → ((e : Entry) → P e → Q e) → IsSomeAnd o P → IsSomeAnd o Q
@@ -111,9 +111,9 @@ pub all_reached : (v : Volume) → IsVolume v → IsUnmarked v → IsQuiet v →
 all_reached v vol un q =
     let quiet = none_suspect v un (none_empty v vol q.pathnames q.references) in
     (silent-reached (graph_of v) (is_suspect v) (is_sane v vol) (none_dead v quiet)).0
-    (λ d. false_from_ne_true (is_unref_dir_of v d) (λ t.
+    (λ d. false_from_ne_true (is_unref_dir v d) (λ t.
     let l = lost-true (graph_of v) (is_suspect v) d (and_parts (is_lost (graph_of v) (is_suspect v) d) _ t).0 in
-    both_ways (is_unref_dir_of v d) (q.connectivity d (dir-below v d l.dir)) t))
+    both_ways (is_unref_dir v d) (q.connectivity d (dir-below v d l.dir)) t))
 
 -- each plain entry that names a directory is its parent entry
 pub no_extraneous : (v : Volume) → IsVolume v → IsUnmarked v → IsQuiet v → NoExtraneous (graph_of v)

@@ -12,7 +12,8 @@ use Rattle.ffs_volume.specs.Disk.Areas.{is_fragment_in_range, is_run_in_range, i
 use Rattle.ffs_volume.specs.Blocks.Claims.{Claims, is_set, is_open, after_offer, after_offers, after_step}
 use Rattle.ffs_volume.specs.Blocks.BlockCheck.{kept_in_offers, kept_in_step}
 use Rattle.ffs_volume.specs.Blocks.Keeping.{CountedOffer, bad_runs_after, counted_offer, step_offers, OfferVerdict}
-use Rattle.ffs_volume.specs.Blocks.Keeping.{is_claimed_before, dups_of, offer_verdict, verdicts, offer_of, kept_by_rule}
+use Rattle.ffs_volume.specs.Blocks.Keeping.{is_claimed_before, dups_of, offer_verdict, verdicts, uncounted}
+use Rattle.ffs_volume.specs.Blocks.Keeping.{kept_by_rule}
 use Rattle.ffs_certificate.proofs.KeepingLaws.{kept_of, dups_cons, kept_cons, OfferTie, not_taken, offer_tied}
 
 pub judged_append : (v : Layout) (e : List OfferVerdict) (ps qs : List CountedOffer) →
@@ -24,9 +25,9 @@ pub kept_append : (v : Layout) (e : List OfferVerdict) (ps qs : List CountedOffe
     kept_by_rule v e (ps ++ qs) ≡ kept_by_rule v e ps ++ kept_by_rule v (verdicts v e ps) qs
 kept_append v e [] qs = refl
 kept_append v e (p ∷ ps) qs =
-    ap (λ z. (if (offer_verdict v e p).kept then offer_of p ∷ [] else []) ++ z)
+    ap (λ z. (if (offer_verdict v e p).kept then uncounted p ∷ [] else []) ++ z)
     (kept_append v (offer_verdict v e p ∷ e) ps qs)
-    ∙ sym (append_assoc (if (offer_verdict v e p).kept then offer_of p ∷ [] else [])
+    ∙ sym (append_assoc (if (offer_verdict v e p).kept then uncounted p ∷ [] else [])
     (kept_by_rule v (offer_verdict v e p ∷ e) ps) (kept_by_rule v (verdicts v (offer_verdict v e p ∷ e) ps) qs))
 
 -- the offers of a Run after at most ten bad ones
@@ -39,7 +40,7 @@ offers_tied v i b s e (f ∷ fs) few t =
     let rest = offers_tied v i b (after_offer v s f) (offer_verdict v e (counted_offer i b f) ∷ e) fs few one.0 in (
       rest.0,
       (ap (λ z. (if nat_lt s.dups 11 then record { inode = i; fragment = f } ∷ [] else []) ++ z) rest.1
-          ∙ ap (λ k. (if k then offer_of (counted_offer i b f) ∷ [] else [])
+          ∙ ap (λ k. (if k then uncounted (counted_offer i b f) ∷ [] else [])
           ++ kept_by_rule v (offer_verdict v e (counted_offer i b f) ∷ e) (map (counted_offer i b) fs)) (sym one.1)),
     )
 
@@ -97,7 +98,7 @@ skip_offers v i b s e (f ∷ fs) c h =
     }) in (
       rest.0,
       rest.1,
-      ap (λ k. (if k then offer_of (counted_offer i b f) ∷ [] else [])
+      ap (λ k. (if k then uncounted (counted_offer i b f) ∷ [] else [])
           ++ kept_by_rule v (offer_verdict v e (counted_offer i b f) ∷ e) (map (counted_offer i b) fs)) no_keep
           ∙ rest.2,
     )

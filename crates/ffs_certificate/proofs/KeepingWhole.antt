@@ -9,7 +9,15 @@ use Rattle.ffs_volume.specs.declared.Step.{Step}
 use Rattle.ffs_volume.specs.declared.Step.TheVariants.{Run, Tail, Gap}
 use Rattle.ffs_volume.specs.Disk.Areas.{is_fragment_in_range, is_reserved}
 use Rattle.ffs_volume.specs.Blocks.Owners.{Owner, owner_of, owners_of}
-use Rattle.ffs_volume.specs.Blocks.Claims.{Claims, is_set, next_inode, no_claims, after_step, after_steps, after_owner}
+use Rattle.ffs_volume.specs.Blocks.Claims.{
+  Claims,
+  is_set,
+  at_next_inode,
+  no_claims,
+  after_step,
+  after_steps,
+  after_owner,
+}
 use Rattle.ffs_volume.specs.Blocks.Claims.{after_owners}
 use Rattle.ffs_volume.specs.Blocks.BlockCheck.{kept_in_steps, kept_in_owners}
 use Rattle.ffs_certificate.proofs.FreshLaws.{bit}
@@ -106,7 +114,7 @@ steps_before v i b (step ∷ steps) = places_append (i + 1) (step_offers v i b s
 
 -- an inode begins
 pub begins : (v : Layout) (s : Claims) (e : List OfferVerdict) (o : Owner) → Agrees v s e → are_before o.number e ≡ true
-    → Tie v o.number 0 (next_inode s) e
+    → Tie v o.number 0 (at_next_inode s) e
 begins v s e o a h =
     let none = none_before o.number e h in
     record {
@@ -119,8 +127,8 @@ begins v s e o a h =
 pub owner_tied : (v : Layout) (s : Claims) (e : List OfferVerdict) (o : Owner) → Agrees v s e →
     are_before o.number e ≡ true →
     Tie v o.number (bads_of v 0 o.steps) (after_owner v s o) (verdicts v e (offers_of_steps v o.number 0 o.steps))
-    × (kept_in_steps v o.number (next_inode s) o.steps ≡ kept_by_rule v e (offers_of_steps v o.number 0 o.steps))
-owner_tied v s e o a h = steps_tied v o.number 0 (next_inode s) e o.steps (begins v s e o a h)
+    × (kept_in_steps v o.number (at_next_inode s) o.steps ≡ kept_by_rule v e (offers_of_steps v o.number 0 o.steps))
+owner_tied v s e o a h = steps_tied v o.number 0 (at_next_inode s) e o.steps (begins v s e o a h)
 
 -- the numbers of inodes rise
 abbrev pub Rising : ℕ → List Owner → Type 0

@@ -9,9 +9,9 @@ use Rattle.std.proofs.lemmas.Bool.{eqb-true, false_from_ne_true}
 use Rattle.ffs_volume.proofs.SearchLaws.{some_below-from, some_below-gives, first_below-is}
 use Rattle.ffs_volume.specs.Directories.Climb.{is_value}
 use Rattle.ffs_volume.proofs.ClimbLaws.{is_value-from}
-use Rattle.ffs_volume.specs.Directories.Graph.{Graph, edge, entry_names, dir_names, parent, parent_by, level}
+use Rattle.ffs_volume.specs.Directories.Graph.{Graph, edge, is_naming_entry, is_naming_dir, parent, parent_by, level}
 use Rattle.ffs_volume.specs.Directories.Graph.{level_edge}
-use Rattle.ffs_volume.specs.Directories.Graph.{reached, index_in_parent, first_index, test_at, dir_names_at}
+use Rattle.ffs_volume.specs.Directories.Graph.{reached, index_in_parent, first_index, test_at, is_naming_entry_at}
 use Rattle.ffs_volume.proofs.Graphs.{AllReached, IsParentEntry, NoExtraneous, LinksRight}
 use Rattle.ffs_volume.proofs.LevelLaws.{within-zero, level-some, level-before, level-is, reached-level}
 use Rattle.ffs_volume.specs.Directories.Roles.{RoledEntry}
@@ -54,12 +54,12 @@ place_of p (e ∷ es) h =
 
 -- a reached directory has a parent entry, which names it
 pub has_parent_entry : (v : Graph) (d : ℕ) → d ≢ 2 → reached v d ≡ true → (s : ℕ) × (j : ℕ) × IsParentEntry v s j d
-    × (dir_names_at v s j d ≡ true)
+    × (is_naming_entry_at v s j d ≡ true)
 has_parent_entry v d n r =
     let e = parent_edge v d n r in
-    let a = and_parts (v.is_dir d) (dir_names v e.0 d) e.2 in
-    let b = and_parts (v.is_dir e.0) (list_any (entry_names d) (v.entries e.0)) a.1 in
-    let p = place_of (entry_names d) (v.entries e.0) b.1 in (
+    let a = and_parts (v.is_dir d) (is_naming_dir v e.0 d) e.2 in
+    let b = and_parts (v.is_dir e.0) (list_any (is_naming_entry d) (v.entries e.0)) a.1 in
+    let p = place_of (is_naming_entry d) (v.entries e.0) b.1 in (
       e.0,
       p.0,
       (
@@ -67,7 +67,7 @@ has_parent_entry v d n r =
         cond-false (d == 2) None (index_in_parent v d (parent v d)) (ne_eqb d 2 n)
             ∙ (ap (index_in_parent v d) e.1 ∙ p.1),
       ),
-      and_from (v.is_dir e.0) (test_at (entry_names d) p.0 (v.entries e.0)) b.0 p.2,
+      and_from (v.is_dir e.0) (test_at (is_naming_entry d) p.0 (v.entries e.0)) b.0 p.2,
     )
 
 pub links-right : (v : Graph) → v.is_dir 2 ≡ true → AllReached v → NoExtraneous v ↔ LinksRight v
@@ -85,12 +85,13 @@ links-right v two all = (
               let b : Some j ≡ Some e.1 = sym q.1 ∙ e.2.1 in
               (cc, cc);
         };
-    root = λ s j. false_from_ne_true (dir_names_at v s j 2)
+    root = λ s j. false_from_ne_true (is_naming_entry_at v s j 2)
         (λ t. let q = none s j 2 t two in let z : None ≡ Some j = q.1 in
         cc);
   }),
   (λ right s j d t h. elim (cases_eq d 2) [
-    | inl y ↦ absurd (both_ways (dir_names_at v s j 2) (right.root s j) (subst (λ x. dir_names_at v s j x ≡ true) y t))
+    | inl y ↦ absurd (both_ways (is_naming_entry_at v s j 2) (right.root s j) (subst (λ x. is_naming_entry_at v s j x ≡
+        true) y t))
     | inr n ↦
         let e = has_parent_entry v d n (all d h) in
         let o = right.once d h n in

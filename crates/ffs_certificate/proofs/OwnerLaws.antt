@@ -12,7 +12,7 @@ use Rattle.ffs_volume.specs.declared.Step.{Step}
 use Rattle.ffs_volume.specs.declared.BlockMessage.{BlockMessage}
 use Rattle.ffs_volume.specs.Blocks.Inodes.{is_file_or_dir}
 use Rattle.ffs_volume.specs.Blocks.Owners.{Owner, step_fragments, fragments_of, all_steps}
-use Rattle.ffs_volume.specs.Blocks.Claims.{Claims, next_inode, after_owner, after_owners, lines_of_steps}
+use Rattle.ffs_volume.specs.Blocks.Claims.{Claims, at_next_inode, after_owner, after_owners, lines_of_steps}
 use Rattle.ffs_volume.specs.Blocks.BlockCheck.{class_lines, count_lines, owner_lines, lines_of_owners, sectors}
 use Rattle.ffs_volume.specs.Consistent.BlocksRight.{is_right_class, is_step_in_range, is_no_tail, is_field_right}
 use Rattle.ffs_certificate.proofs.BlockLaws.{is_nil, nil_append, mark, fresh, fresh_append, mark_append, Calm, Claimed}
@@ -32,10 +32,10 @@ class_says i Unknown = refl
 class_says i File = refl
 class_says i Dir = refl
 
-pub start_calm : (s : Claims) → Calm (next_inode s)
+pub start_calm : (s : Claims) → Calm (at_next_inode s)
 start_calm s = record { bad = refl; dups = refl; tail = refl }
 
-count_says : (v : Layout) (s end : Claims) (o : Owner) → Claimed (next_inode s) end (fragments_of o.steps) →
+count_says : (v : Layout) (s end : Claims) (o : Owner) → Claimed (at_next_inode s) end (fragments_of o.steps) →
     is_nil (count_lines v o end) ≡ is_field_right v o
 count_says v s end o done =
     let ready = calm_open end done.calm in
@@ -51,22 +51,22 @@ owner_says : (v : Layout) (s : Claims) (o : Owner) → is_nil (owner_lines v s o
 owner_says v s o =
     nil_append (class_lines o.number o.class) _
     ∙ (ap (λ b. is_nil (class_lines o.number o.class) && b)
-    (nil_append (lines_of_steps v o.number (next_inode s) o.steps) (count_lines v o (after_owner v s o)))
-    ∙ rw (class_says o.number o.class, steps_say v o.number (next_inode s) o.steps (start_calm s))
+    (nil_append (lines_of_steps v o.number (at_next_inode s) o.steps) (count_lines v o (after_owner v s o)))
+    ∙ rw (class_says o.number o.class, steps_say v o.number (at_next_inode s) o.steps (start_calm s))
     (ap (λ b. is_right_class o.class && b) (one (steps_quiet v s.used o.steps) refl)))
   where
     one : (b : Bool) → steps_quiet v s.used o.steps ≡ b →
         (steps_quiet v s.used o.steps && is_nil (count_lines v o (after_owner v s o)))
         ≡ (steps_quiet v s.used o.steps && is_field_right v o)
     one true e = ap (λ b. steps_quiet v s.used o.steps && b)
-        (count_says v s (after_owner v s o) o (steps_claim v (next_inode s) o.steps (start_calm s) e))
+        (count_says v s (after_owner v s o) o (steps_claim v (at_next_inode s) o.steps (start_calm s) e))
     one false e = rw e refl
 
 pub owner_claims : (v : Layout) (s : Claims) (o : Owner) → owner_quiet v s.used o ≡ true →
-    Claimed (next_inode s) (after_owner v s o) (fragments_of o.steps)
+    Claimed (at_next_inode s) (after_owner v s o) (fragments_of o.steps)
 owner_claims v s o e =
     let parts = and_parts (is_right_class o.class) (steps_quiet v s.used o.steps && is_field_right v o) e in
-    steps_claim v (next_inode s) o.steps (start_calm s)
+    steps_claim v (at_next_inode s) o.steps (start_calm s)
     (and_parts (steps_quiet v s.used o.steps) (is_field_right v o) parts.1).0
 
 pub owners_say : (v : Layout) (s : Claims) (os : List Owner) → is_nil (lines_of_owners v s os)

@@ -9,7 +9,7 @@ use Rattle.ffs_volume.specs.declared.Class.TheVariants.{Free, Partial, Unknown, 
 use Rattle.ffs_volume.specs.declared.BlockMessage.{BlockMessage}
 use Rattle.ffs_volume.specs.declared.End.TheVariants.{Consistent}
 use Rattle.ffs_volume.specs.Disk.Superblock.{Superblock}
-use Rattle.ffs_volume.specs.Disk.Geometry.{IsValidLayout}
+use Rattle.ffs_volume.specs.Disk.Geometry.{IsAcceptedLayout}
 use Rattle.ffs_volume.proofs.AcceptedLaws.{accepted_sound}
 use Rattle.ffs_volume.specs.Blocks.Owners.{Owner, owners_of}
 use Rattle.ffs_volume.specs.Blocks.BlockCheck.{phase1_lines, phase1b_lines, has_rescan}
@@ -20,7 +20,13 @@ use Rattle.ffs_volume.specs.Groups.GroupCheck.{phase5_lines, is_free_of_kept}
 use Rattle.ffs_certificate.proofs.GroupLaws.{phase5_silent, same_free}
 use Rattle.ffs_volume.specs.Messages.Kinds.{Message, TreeMessage, optimization, minfree, mounted, phase1b, of_blocks}
 use Rattle.ffs_volume.specs.Messages.Kinds.{of_tree, is_defect, has_defect}
-use Rattle.ffs_volume.specs.Report.Opening.{before_nul, is_optimization, is_minfree, message_unless, setting_lines}
+use Rattle.ffs_volume.specs.Report.Opening.{
+  before_nul,
+  has_valid_optim,
+  has_valid_minfree,
+  message_unless,
+  setting_lines,
+}
 use Rattle.ffs_volume.specs.Report.Opening.{super_lines}
 use Rattle.ffs_volume.specs.Blocks.Inodes.{is_directory}
 use Rattle.ffs_volume.specs.Directories.Roles.{Volume}
@@ -69,21 +75,21 @@ settings_say : (super : Superblock) → has_defect (super_lines super) ≡ false
 unfolding setting_lines
 settings_say super h =
     let a = quiet_parts (setting_lines super) (mounted (before_nul super.mount) ∷ []) h in
-    let p = quiet_parts (message_unless (is_optimization super) optimization)
-    (message_unless (is_minfree super) (minfree super.minfree)) a.0 in
+    let p = quiet_parts (message_unless (has_valid_optim super) optimization)
+    (message_unless (has_valid_minfree super) (minfree super.minfree)) a.0 in
     record {
-      optimization = kept_line (is_optimization super) optimization refl p.0;
-      minfree = kept_line (is_minfree super) (minfree super.minfree) refl p.1;
+      optimization = kept_line (has_valid_optim super) optimization refl p.0;
+      minfree = kept_line (has_valid_minfree super) (minfree super.minfree) refl p.1;
     }
 
 settings_quiet : (super : Superblock) → AreSettingsRight super → has_defect (super_lines super) ≡ false
 unfolding setting_lines
 settings_quiet super s =
     quiet_from (setting_lines super) (mounted (before_nul super.mount) ∷ [])
-    (quiet_from (message_unless (is_optimization super) optimization)
-    (message_unless (is_minfree super) (minfree super.minfree))
-    (no_line (is_optimization super) optimization s.optimization)
-    (no_line (is_minfree super) (minfree super.minfree) s.minfree)) refl
+    (quiet_from (message_unless (has_valid_optim super) optimization)
+    (message_unless (has_valid_minfree super) (minfree super.minfree))
+    (no_line (has_valid_optim super) optimization s.optimization)
+    (no_line (has_valid_minfree super) (minfree super.minfree) s.minfree)) refl
 
 nil_message : (b : Bool) (message : Message) → message_unless b message ≡ [] → b ≡ true
 nil_message true message h = refl
@@ -98,13 +104,13 @@ pub settings_reported : (super : Superblock) → (setting_lines super ≡ []) �
 unfolding setting_lines
 settings_reported super = (
   (λ h.
-      let p = nil_parts (message_unless (is_optimization super) optimization)
-      (message_unless (is_minfree super) (minfree super.minfree)) h in
+      let p = nil_parts (message_unless (has_valid_optim super) optimization)
+      (message_unless (has_valid_minfree super) (minfree super.minfree)) h in
       record {
-        optimization = nil_message (is_optimization super) optimization p.0;
-        minfree = nil_message (is_minfree super) (minfree super.minfree) p.1;
+        optimization = nil_message (has_valid_optim super) optimization p.0;
+        minfree = nil_message (has_valid_minfree super) (minfree super.minfree) p.1;
       }),
-  (λ r. ap (λ b. message_unless b optimization ++ message_unless (is_minfree super) (minfree super.minfree))
+  (λ r. ap (λ b. message_unless b optimization ++ message_unless (has_valid_minfree super) (minfree super.minfree))
       r.optimization ∙ ap (λ b. message_unless b (minfree super.minfree)) r.minfree),
 )
 
@@ -194,7 +200,7 @@ text_quiet image super again s =
     (ap (λ b. has_defect (if b then later_phase_lines image super else []))
     (root_there (volume_of super.layout image) s.pathnames) ∙ later_quiet image super s.later)))
 
-forward : (image : List ℕ) (super : Superblock) → IsValidLayout super.layout → has_defect (report_lines image super)
+forward : (image : List ℕ) (super : Superblock) → IsAcceptedLayout super.layout → has_defect (report_lines image super)
     ≡ false → IsConsistent image super
 unfolding report_lines
 forward image super g h =
@@ -218,7 +224,7 @@ forward image super g h =
           (class_at super.layout image)).0 s.later.groups);
     }
 
-backward : (image : List ℕ) (super : Superblock) → IsValidLayout super.layout → IsConsistent image super →
+backward : (image : List ℕ) (super : Superblock) → IsAcceptedLayout super.layout → IsConsistent image super →
     has_defect (report_lines image super) ≡ false
 unfolding report_lines
 backward image super g c =
@@ -274,7 +280,7 @@ stop_reported image super h = record {
   end_is = ap (λ on. end_by on (has_defect (report_lines image super))) h;
 }
 
-pub report_right : (image : List ℕ) (super : Superblock) → IsValidLayout super.layout → IsCertified image super
+pub report_right : (image : List ℕ) (super : Superblock) → IsAcceptedLayout super.layout → IsCertified image super
 report_right image super g = record {
   silent = (forward image super g, backward image super g);
   end_is = (

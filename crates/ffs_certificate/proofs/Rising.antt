@@ -13,9 +13,10 @@ use Rattle.ffs_volume.specs.declared.Step.{Step}
 use Rattle.ffs_volume.specs.declared.Step.TheVariants.{Run, Gap}
 use Rattle.ffs_volume.specs.Disk.Areas.{is_run_in_range}
 use Rattle.ffs_volume.specs.Blocks.Inodes.{logical_blocks_of, addresses_needed}
-use Rattle.ffs_volume.specs.Blocks.Steps.{FileBlocks, address_at, block_bytes, any_address_from, block_addresses_used}
+use Rattle.ffs_volume.specs.Blocks.Steps.{FileBlocks, address_at, block_bytes, any_nonzero_from}
+use Rattle.ffs_volume.specs.Blocks.Steps.{indirect_addresses_needed}
 use Rattle.ffs_volume.specs.Blocks.Steps.{tail_of, data_length, span_of, steps_at, indirection_of, first_block}
-use Rattle.ffs_volume.specs.Blocks.Steps.{steps_of_addresses, walks, last_of, steps_of}
+use Rattle.ffs_volume.specs.Blocks.Steps.{steps_of_addresses, is_walked, last_length_of, steps_of}
 use Rattle.ffs_volume.proofs.StepLaws.{one_more, span_more, next_first, used_most}
 use Rattle.ffs_certificate.specs.BlocksRise.{step_blocks, blocks_in, AreRising, AllBlocksRise}
 
@@ -74,8 +75,8 @@ span_some words (suc level) some =
     omega (arith, rest, more, whole)
 
 -- the logical blocks under a word that is used
-word_below : (words nb first span j : ℕ) → 0 < span → j < block_addresses_used words nb first span → first + j * span
-    < nb
+word_below : (words nb first span j : ℕ) → 0 < span → j < indirect_addresses_needed words nb first span →
+    first + j * span < nb
 word_below words nb first span j some lt =
     let few : j + 1 ≤ div_ceil (nb - first) span = omega (arith, lt) in
     let bound = (div_ceil_times (nb - first) span some).1 in
@@ -119,11 +120,11 @@ at_within t bytes (suc level) address first lt = one (nat_eq address 0) (λ a b 
     span = span_of t.layout.nindir level
 
     used : ℕ
-    used = block_addresses_used t.layout.nindir t.blocks first (span_of t.layout.nindir level)
+    used = indirect_addresses_needed t.layout.nindir t.blocks first (span_of t.layout.nindir level)
 
     found : Bool
-    found = any_address_from t.layout (block_bytes t.layout bytes address)
-        (block_addresses_used t.layout.nindir t.blocks first (span_of t.layout.nindir level))
+    found = any_nonzero_from t.layout (block_bytes t.layout bytes address)
+        (indirect_addresses_needed t.layout.nindir t.blocks first (span_of t.layout.nindir level))
 
     f : ℕ → List Step
     f = λ j. steps_at t bytes level (address_at t.layout bytes address j)
@@ -258,13 +259,13 @@ below_more n m (x ∷ xs) le h =
 pub all_blocks_rise : AllBlocksRise
 unfolding steps_of
 all_blocks_rise v i image =
-    record { rising = steps.rising; below = below_more nb (logical_blocks_of v i) _ (most (walks v i)) steps.below }
+    record { rising = steps.rising; below = below_more nb (logical_blocks_of v i) _ (most (is_walked v i)) steps.below }
   where
     nb : ℕ
-    nb = if walks v i then logical_blocks_of v i else 0
+    nb = if is_walked v i then logical_blocks_of v i else 0
 
     t : FileBlocks
-    t = record { layout = v; blocks = nb; last = last_of v i }
+    t = record { layout = v; blocks = nb; last_length = last_length_of v i }
 
     most : (b : Bool) → (if b then logical_blocks_of v i else 0) ≤ logical_blocks_of v i
     most true = omega arith

@@ -14,7 +14,7 @@ use Rattle.ffs_volume.specs.declared.Step.TheVariants.{Run, Tail, Gap}
 use Rattle.ffs_volume.specs.Blocks.Inodes.{inode_of, class_of, is_unknown}
 use Rattle.ffs_volume.specs.Blocks.Steps.{steps_of}
 use Rattle.ffs_volume.specs.Blocks.Owners.{owner_of, owners_of, step_fragments}
-use Rattle.ffs_volume.specs.Blocks.Claims.{Claims, no_claims, reserved_map, next_inode, is_open, after_step}
+use Rattle.ffs_volume.specs.Blocks.Claims.{Claims, no_claims, reserved_map, at_next_inode, is_open, after_step}
 use Rattle.ffs_volume.specs.Blocks.Claims.{after_owner, after_owners}
 use Rattle.ffs_volume.specs.Blocks.BlockCheck.{blames, is_marked, phase1_lines, phase1b_lines}
 use Rattle.ffs_volume.specs.Consistent.BlocksRight.{is_right_class, BlocksRight}
@@ -47,7 +47,7 @@ steps_kept_quiet v s (step ∷ steps) c e =
 
 kept_at : (v : Layout) (image : List ℕ) (s : Claims) (a k d x : ℕ) → a + d ≡ x → d < k →
     owners_quiet v s.used (map (owner_of v image) (range_with_len a k)) ≡ true →
-    kept_steps v (next_inode (after_owners v s (map (owner_of v image) (range_with_len a d))))
+    kept_steps v (at_next_inode (after_owners v s (map (owner_of v image) (range_with_len a d))))
     (steps_of v (inode_of v image x) image) ≡ steps_of v (inode_of v image x) image
 unfolding owner_of
 kept_at v image s a zero d x e lt q = absurd (omega arith)
@@ -55,9 +55,9 @@ kept_at v image s a (suc k) zero x e lt q =
     let parts = and_parts (owner_quiet v s.used (owner_of v image a)) _ q in
     let whole = and_parts (is_right_class (class_of v (inode_of v image a))) _ parts.0 in
     let same : a ≡ x = omega arith in
-    subst (λ y. kept_steps v (next_inode s) (steps_of v (inode_of v image y) image) ≡ steps_of v (inode_of v image y)
+    subst (λ y. kept_steps v (at_next_inode s) (steps_of v (inode_of v image y) image) ≡ steps_of v (inode_of v image y)
     image) same
-    (steps_kept_quiet v (next_inode s) (steps_of v (inode_of v image a) image) (start_calm s)
+    (steps_kept_quiet v (at_next_inode s) (steps_of v (inode_of v image a) image) (start_calm s)
     (and_parts (steps_quiet v s.used (steps_of v (inode_of v image a) image)) _ whole.1).0)
 kept_at v image s a (suc k) (suc d) x e lt q =
     let parts = and_parts (owner_quiet v s.used (owner_of v image a)) _ q in

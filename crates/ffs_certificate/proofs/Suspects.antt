@@ -11,11 +11,11 @@ use Rattle.ffs_volume.specs.Directories.Roles.{Volume, is_dir, is_inode, is_allo
 use Rattle.ffs_volume.proofs.SearchLaws.{some_below-gives, first_below-is}
 use Rattle.ffs_volume.specs.Directories.Climb.{is_value}
 use Rattle.ffs_volume.proofs.ClimbLaws.{is_value-from}
-use Rattle.ffs_volume.specs.Directories.Graph.{entry_names, dir_names, is_named, first_index, test_at}
+use Rattle.ffs_volume.specs.Directories.Graph.{is_naming_entry, is_naming_dir, is_named, first_index, test_at}
 use Rattle.ffs_volume.proofs.Graphs.{IsSane, NoneDead}
 use Rattle.ffs_certificate.proofs.Links.{place_of}
-use Rattle.ffs_volume.specs.Directories.Parents.{graph_of, nth_roled, first_naming_dir, is_first_name}
-use Rattle.ffs_volume.specs.Directories.PathnameCheck.{is_first_name_of_suspect}
+use Rattle.ffs_volume.specs.Directories.Parents.{graph_of, nth_roled, first_naming_dir, is_first_naming_entry}
+use Rattle.ffs_volume.specs.Directories.PathnameCheck.{is_first_entry_of_suspect}
 use Rattle.ffs_volume.specs.Directories.Connectivity.{is_dead}
 use Rattle.ffs_certificate.specs.Premises.{IsVolume, IsUnmarked}
 use Rattle.ffs_certificate.proofs.Silence.{and_false-from}
@@ -45,18 +45,20 @@ dir-allocated v d h =
 
 -- what some plain entry names, a first one names
 first_name : (v : Volume) (x : ℕ) → is_named (graph_of v) x ≡ true → (s : ℕ) × (j : ℕ)
-    × (is_first_name (graph_of v) s j x ≡ true) × IsNamer v s j x
+    × (is_first_naming_entry (graph_of v) s j x ≡ true) × IsNamer v s j x
 first_name v x h =
     let g = graph_of v in
-    let w = some_below-gives (λ s. dir_names g s x) v.count h in
-    let p = and_parts (is_dir v w.0) (list_any (entry_names x) (roled_entries v w.0)) w.1.passes in
-    let q = place_of (entry_names x) (roled_entries v w.0) p.1 in (
+    let w = some_below-gives (λ s. is_naming_dir g s x) v.count h in
+    let p = and_parts (is_dir v w.0) (list_any (is_naming_entry x) (roled_entries v w.0)) w.1.passes in
+    let q = place_of (is_naming_entry x) (roled_entries v w.0) p.1 in (
       w.0,
       q.0,
-      and_from (is_value (first_naming_dir g x) w.0) (is_value (first_index (entry_names x) (roled_entries v w.0)) q.0)
-          (is_value-from (first_naming_dir g x) w.0 (first_below-is (λ s. dir_names g s x) v.count w.0 w.1))
-          (is_value-from (first_index (entry_names x) (roled_entries v w.0)) q.0 q.1),
-      names_at-gives v w.0 q.0 x (and_from (is_dir v w.0) (test_at (entry_names x) q.0 (roled_entries v w.0)) p.0 q.2),
+      and_from (is_value (first_naming_dir g x) w.0) (is_value (first_index (is_naming_entry x) (roled_entries v w.0))
+          q.0)
+          (is_value-from (first_naming_dir g x) w.0 (first_below-is (λ s. is_naming_dir g s x) v.count w.0 w.1))
+          (is_value-from (first_index (is_naming_entry x) (roled_entries v w.0)) q.0 q.1),
+      names_at-gives v w.0 q.0 x (and_from (is_dir v w.0) (test_at (is_naming_entry x) q.0 (roled_entries v w.0)) p.0
+          q.2),
     )
 
 pub zero-suspect : (v : Volume) (d : ℕ) → is_dir v d ≡ true → (v.inode d).size ≡ 0 → is_suspect v d ≡ true
@@ -75,11 +77,11 @@ named_reported v vol p d n h z t =
     let two = dir-from_two v d h in
     let number = m.number in
     let not_one : (m.entry.entry.number == 1) ≡ false = ne_eqb m.entry.entry.number 1 (omega arith) in
-    let tells : is_first_name_of_suspect v f.0 f.1 d ≡ true =
-    and_from (is_suspect v d) (not (d == 2) && is_first_name (graph_of v) f.0 f.1 d) (zero-suspect v d h z)
-    (and_from (not (d == 2)) (is_first_name (graph_of v) f.0 f.1 d) (not_from_false _ (ne_eqb d 2 n)) f.2) in
-    both_ways (is_first_name_of_suspect v f.0 f.1 d)
-    (subst (λ x. is_first_name_of_suspect v f.0 f.1 x ≡ false) number (quiet.named not_one).suspect) tells
+    let tells : is_first_entry_of_suspect v f.0 f.1 d ≡ true =
+    and_from (is_suspect v d) (not (d == 2) && is_first_naming_entry (graph_of v) f.0 f.1 d) (zero-suspect v d h z)
+    (and_from (not (d == 2)) (is_first_naming_entry (graph_of v) f.0 f.1 d) (not_from_false _ (ne_eqb d 2 n)) f.2) in
+    both_ways (is_first_entry_of_suspect v f.0 f.1 d)
+    (subst (λ x. is_first_entry_of_suspect v f.0 f.1 x ≡ false) number (quiet.named not_one).suspect) tells
 
 -- no directory has size 0
 pub none_empty : (v : Volume) → IsVolume v → IsPathnameQuiet v →

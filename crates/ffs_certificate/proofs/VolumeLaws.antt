@@ -11,16 +11,16 @@ use Rattle.ffs_volume.specs.declared.Class.TheVariants.{Free, Unknown}
 use Rattle.ffs_volume.specs.declared.Step.{Step}
 use Rattle.ffs_volume.specs.declared.Inode.{Inode}
 use Rattle.ffs_volume.specs.Disk.Areas.{is_run_in_range}
-use Rattle.ffs_volume.specs.Disk.Geometry.{IsValidLayout}
-use Rattle.ffs_volume.specs.Blocks.Inodes.{inode_of, class_of, type_of, is_known_type, is_too_large, is_any_set}
-use Rattle.ffs_volume.specs.Blocks.Inodes.{inode_addresses_used, is_directory, is_allocated}
+use Rattle.ffs_volume.specs.Disk.Geometry.{IsAcceptedLayout}
+use Rattle.ffs_volume.specs.Blocks.Inodes.{inode_of, class_of, type_of, is_known_type, is_too_large, any_nonzero}
+use Rattle.ffs_volume.specs.Blocks.Inodes.{addresses_allowed, is_directory, is_allocated}
 use Rattle.ffs_volume.specs.Blocks.Steps.{steps_of}
 use Rattle.ffs_volume.specs.Blocks.Owners.{owner_of, owners_of}
 use Rattle.ffs_volume.specs.Blocks.BlockCheck.{is_marked}
 use Rattle.ffs_volume.specs.Consistent.BlocksRight.{is_right_class, BlocksRight}
 use Rattle.ffs_volume.proofs.Sizes.{some_inodes, no_steps}
 use Rattle.ffs_certificate.proofs.GroupLaws.{all_at}
-use Rattle.ffs_volume.specs.Blocks.Claims.{next_inode}
+use Rattle.ffs_volume.specs.Blocks.Claims.{at_next_inode}
 use Rattle.ffs_volume.specs.Blocks.KeptSteps.{kept_steps, kept_steps_of, claims_before}
 use Rattle.ffs_certificate.proofs.SilentLaws.{all_kept, none_marked}
 use Rattle.ffs_volume.specs.Directories.Entries.{chunks_of}
@@ -36,8 +36,8 @@ unfolding class_of
 kind_known v i known e =
     let some : (type_of i.mode == 0) ≡ false = ap (λ k. k == 0) e in
     let other : (not (is_known_type (type_of i.mode))
-    || (is_too_large v i || is_any_set (drop (inode_addresses_used v i) i.addresses))) ≡ true =
-    ap (λ k. not (is_known_type k) || (is_too_large v i || is_any_set (drop (inode_addresses_used v i) i.addresses)))
+    || (is_too_large v i || any_nonzero (drop (addresses_allowed v i) i.addresses))) ≡ true =
+    ap (λ k. not (is_known_type k) || (is_too_large v i || any_nonzero (drop (addresses_allowed v i) i.addresses)))
     e in
     known (rw (some, other) refl)
 
@@ -46,7 +46,7 @@ class_number : (v : Layout) (image : List ℕ) (x : ℕ) → is_inode_number v x
 class_number v image x h = ap (λ b. if b then class_of v (inode_of v image x) else Free) h
 
 -- each volume of an image is one of those that the laws on directories speak of
-volume_is : (v : Layout) (image : List ℕ) (steps : ℕ → List Step) (marked : ℕ → Bool) → IsValidLayout v →
+volume_is : (v : Layout) (image : List ℕ) (steps : ℕ → List Step) (marked : ℕ → Bool) → IsAcceptedLayout v →
     ((d : ℕ) → is_inode_number v d ≡ true → (inode_of v image d).size ≡ 0 → steps d ≡ []) →
     IsVolume (volume_with v image steps marked)
 unfolding volume_with roled_entries
@@ -60,11 +60,11 @@ volume_is v image steps marked g none = record {
       kind_known v (inode_of v image x) (λ e. known (class_number v image x number ∙ e));
 }
 
-steps_none : (v : Layout) (image : List ℕ) → IsValidLayout v → (d : ℕ) → is_inode_number v d ≡ true →
+steps_none : (v : Layout) (image : List ℕ) → IsAcceptedLayout v → (d : ℕ) → is_inode_number v d ≡ true →
     (inode_of v image d).size ≡ 0 → steps_of v (inode_of v image d) image ≡ []
 steps_none v image g d number z = let low = g.sizes.bsize_low in no_steps v image (inode_of v image d) (omega arith) z
 
-pub whole_is_volume : (v : Layout) (image : List ℕ) → IsValidLayout v → IsVolume (whole_volume v image)
+pub whole_is_volume : (v : Layout) (image : List ℕ) → IsAcceptedLayout v → IsVolume (whole_volume v image)
 unfolding whole_volume
 whole_is_volume v image g =
     volume_is v image (steps_of_inode v image) (λ x. false) g

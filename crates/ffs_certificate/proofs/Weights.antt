@@ -4,7 +4,7 @@ use Rattle.std.specs.Prelude.{map}
 use Rattle.std.proofs.lemmas.List.FromFn.{length-range_with_len}
 use Rattle.std.proofs.lemmas.List.Sums.{count_by-le-length}
 use Rattle.ffs_volume.specs.declared.Layout.{Layout}
-use Rattle.ffs_volume.specs.Disk.Geometry.{IsValidLayout}
+use Rattle.ffs_volume.specs.Disk.Geometry.{IsAcceptedLayout}
 use Rattle.ffs_volume.specs.Blocks.Owners.{owner_of, owners_of, inode_numbers}
 use Rattle.ffs_volume.specs.Blocks.Claims.{Claims, no_claims, after_owner, after_owners}
 use Rattle.ffs_volume.specs.Blocks.ClaimBounds.{used_bits}
@@ -14,7 +14,7 @@ use Rattle.ffs_certificate.specs.Bounded.{ClaimsAreBounded}
 use Rattle.ffs_certificate.proofs.BlocksSilent.{reserved_length}
 
 -- over inodes, what is beside a first claim is at most 22 for each
-inodes_move : (v : Layout) (image : List ℕ) (s : Claims) (xs : List ℕ) → IsValidLayout v → length s.used ≡ v.size →
+inodes_move : (v : Layout) (image : List ℕ) (s : Claims) (xs : List ℕ) → IsAcceptedLayout v → length s.used ≡ v.size →
     ((after_owners v s (map (owner_of v image) xs)).runs + used_bits s ≤ s.runs + used_bits
     (after_owners v s (map (owner_of v image) xs)) + 22 * length xs)
     × (length (after_owners v s (map (owner_of v image) xs)).used ≡ v.size)

@@ -18,10 +18,10 @@ use Rattle.ffs_volume.specs.Directories.Roles.{roled_entries, dot, dotdot, refer
 use Rattle.ffs_volume.specs.Directories.Graph.{parent}
 use Rattle.ffs_volume.specs.Directories.Parents.{graph_of, nth_roled}
 use Rattle.ffs_volume.specs.Report.Opening.{setting_lines}
-use Rattle.ffs_volume.specs.Directories.PathnameCheck.{continues_after_root, is_short, is_not_multiple, are_sound}
+use Rattle.ffs_volume.specs.Directories.PathnameCheck.{continues_after_root, is_short, has_partial_chunk, are_sound}
 use Rattle.ffs_volume.specs.Directories.PathnameCheck.{is_wrong_parent}
 use Rattle.ffs_volume.specs.Directories.PathnameCheck.{is_bad_whiteout, is_extraneous, has_wrong_type}
-use Rattle.ffs_volume.specs.Directories.Connectivity.{is_unref_dir_of}
+use Rattle.ffs_volume.specs.Directories.Connectivity.{is_unref_dir}
 use Rattle.ffs_volume.specs.Disk.Numbers.{equals_natural}
 use Rattle.ffs_volume.specs.Consistent.DirectoriesRight.{AreDirsRight, AreLinksRight, AreCountsRight}
 use Rattle.ffs_volume.specs.Directories.Volumes.{class_at, volume_of, whole_volume}
@@ -51,7 +51,7 @@ pub record IsPlainUnreported (v : Volume) (e : Entry) : Type 0 where
 pub record IsDirUnreported (v : Volume) (d : ℕ) : Type 0 where
   pub some : (v.inode d).size ≢ 0
   pub short : is_short v d ≡ false
-  pub broken : is_not_multiple v d ≡ false
+  pub broken : has_partial_chunk v d ≡ false
   pub gap : v.gap d ≡ false
   pub sound : are_sound (v.chunks d) ≡ true
   pub dot_there : IsSomeAnd (dot v d) (λ e. (e.number ≡ d) × (e.kind ≡ 4))
@@ -71,7 +71,7 @@ pub record AreLinksUnreported (v : Volume) : Type 0 where
       → IsSomeAnd (dotdot v d) (λ e. is_wrong_parent (parent (graph_of v) d) e.number ≡ false)
   pub links : (s j : ℕ) (e : RoledEntry) → is_dir v s ≡ true → nth_roled (roled_entries v s) j ≡ Some e → e.role ≡ Plain
       → is_extraneous v s j e.entry.number ≡ false
-  pub lost : (d : ℕ) → is_unref_dir_of v d ≡ false
+  pub lost : (d : ℕ) → is_unref_dir v d ≡ false
 
 -- of condition 6: no UNREF and no LINK COUNT
 pub record IsCountUnreported (v : Volume) (i : ℕ) : Type 0 where

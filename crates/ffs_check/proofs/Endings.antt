@@ -7,7 +7,7 @@ use Rattle.ffs_volume.specs.declared.End.{End}
 use Rattle.ffs_volume.specs.declared.End.TheVariants.{WriteFault}
 use Rattle.ffs_volume.specs.Disk.Superblock.{Superblock}
 use Rattle.ffs_volume.specs.Messages.Kinds.{Message, cannot_read, minfree, mounted, optimization, has_defect, is_defect}
-use Rattle.ffs_volume.specs.Report.Opening.{before_nul, is_minfree, is_optimization, setting_lines, super_lines}
+use Rattle.ffs_volume.specs.Report.Opening.{before_nul, has_valid_minfree, has_valid_optim, setting_lines, super_lines}
 use Rattle.ffs_volume.specs.Report.Opening.{message_unless}
 use Rattle.ffs_volume.specs.Report.Whole.{end_by}
 use Rattle.std.specs.Borrow.{GName}
@@ -234,7 +234,7 @@ settings_defect true true x y dx dy xs e = sym e
 settings_defect true false x y dx dy xs e = sym (ap (λ d. d || has_defect xs) dy)
 settings_defect false b x y dx dy xs e = sym (ap (λ d. d || has_defect (message_unless b y ++ xs)) dx)
 
-pub opening_defect : (s : Superblock) → not (is_optimization s && is_minfree s) ≡ has_defect (super_lines s)
+pub opening_defect : (s : Superblock) → not (has_valid_optim s && has_valid_minfree s) ≡ has_defect (super_lines s)
 unfolding setting_lines
-opening_defect s = settings_defect (is_optimization s) (is_minfree s) optimization (minfree s.minfree) refl refl
+opening_defect s = settings_defect (has_valid_optim s) (has_valid_minfree s) optimization (minfree s.minfree) refl refl
     (mounted (before_nul s.mount) ∷ []) refl

@@ -6,7 +6,8 @@ use Rattle.ffs_volume.specs.declared.Class.TheVariants.{Free, Partial, Unknown, 
 use Rattle.ffs_volume.specs.Blocks.Inodes.{is_directory}
 use Rattle.ffs_volume.specs.Messages.Kinds.{Message, TreeMessage, lines_below, of_tree, root_none, root_not_dir}
 use Rattle.ffs_volume.specs.Directories.Roles.{Volume}
-use Rattle.ffs_volume.specs.Directories.PathnameCheck.{continues_after_root, lines_of, pathname_lines, root_lines}
+use Rattle.ffs_volume.specs.Directories.PathnameCheck.{continues_after_root, directory_lines, pathname_lines}
+use Rattle.ffs_volume.specs.Directories.PathnameCheck.{root_lines}
 use Rattle.ffs_volume.specs.Directories.PathnameCheck.{root_lines_of}
 use Rattle.ffs_report.specs.Progress.{Progress, Said}
 use Rattle.ffs_phase.specs.Known.{ForBytes}
@@ -31,7 +32,8 @@ some_root v Dir lines rest h = more_after _ (rest true) h
 pub root_or_more : (v : Volume) (rest : Bool → List Message) → 0 < length (rest true)
     → 0 < length (map of_tree (pathname_lines v) ++ rest (continues_after_root v))
 unfolding pathname_lines root_lines
-root_or_more v rest h = some_root v (v.class 2) (λ on. if on then lines_below (lines_of v) v.count else []) rest h
+root_or_more v rest h = some_root v (v.class 2) (λ on. if on then lines_below (directory_lines v) v.count else [])
+    rest h
 
 -- phase 2 answered a fault: its heading alone was said, or the run continues after the root
 pub falls_root : (T E : Type 0) (first known : List ℕ → Type 0) (goes : List ℕ → Bool)

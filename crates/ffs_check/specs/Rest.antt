@@ -43,12 +43,12 @@ abbrev pub ended_lines : List ℕ → Superblock → List Message
 ended_lines image s = groups_part image s ++ summary_part image s
 
 -- phases 4 and 5 and the summary
-abbrev pub counted_lines : List ℕ → Superblock → List Message
-counted_lines image s = counts_part image s ++ ended_lines image s
+abbrev pub reference_lines_at : List ℕ → Superblock → List Message
+reference_lines_at image s = counts_part image s ++ ended_lines image s
 
 -- phases 3 to 5 and the summary
 abbrev pub linked_lines : List ℕ → Superblock → List Message
-linked_lines image s = links_part image s ++ counted_lines image s
+linked_lines image s = links_part image s ++ reference_lines_at image s
 
 -- the same, where the run continues after the root
 abbrev pub followed_lines : Bool → List ℕ → Superblock → List Message

@@ -4,12 +4,12 @@ use Rattle.std.proofs.Math.Nat.{mul-div-le}
 use Rattle.std.proofs.lemmas.Bool.Decides.{nat_tests}
 use Rattle.ffs_volume.specs.declared.Layout.{Layout}
 use Rattle.ffs_volume.specs.Disk.Areas.{cgbase, cgstart, cgsblock, cgdmin, is_run_in_range}
-use Rattle.ffs_volume.specs.Disk.Geometry.{IsValidLayout}
+use Rattle.ffs_volume.specs.Disk.Geometry.{IsAcceptedLayout}
 use Rattle.ffs_volume.proofs.AreaLaws.{group_is}
 use Rattle.ffs_volume.proofs.RunLaws.{in_range_is, is_apart}
 
 -- a Run before the metadata of a group
-pub before_metadata : (v : Layout) (c start len : ℕ) → IsValidLayout v → c < v.ncg → cgbase v c ≤ start →
+pub before_metadata : (v : Layout) (c start len : ℕ) → IsAcceptedLayout v → c < v.ncg → cgbase v c ≤ start →
     start + len ≤ cgsblock v c → 0 < len →
     is_run_in_range v start len ≡ true
 before_metadata v c start len g h low high some =
@@ -22,7 +22,7 @@ before_metadata v c start len g h low high some =
     in_range_is v g start len some ∙ apart
 
 -- a Run after the metadata of a group
-pub after_metadata : (v : Layout) (c start len : ℕ) → IsValidLayout v → c < v.ncg → cgdmin v c ≤ start →
+pub after_metadata : (v : Layout) (c start len : ℕ) → IsAcceptedLayout v → c < v.ncg → cgdmin v c ≤ start →
     start + len ≤ cgbase v (c + 1) → start + len ≤ v.size → 0 < len →
     is_run_in_range v start len ≡ true
 unfolding cgstart
@@ -48,7 +48,7 @@ base_below : (v : Layout) (start : ℕ) → cgbase v (start / v.fpg) ≤ start
 unfolding cgbase
 base_below v start = mul-div-le start v.fpg
 
-pub lies : (v : Layout) (start len : ℕ) → IsValidLayout v → 0 < len → is_run_in_range v start len ≡ true
+pub lies : (v : Layout) (start len : ℕ) → IsAcceptedLayout v → 0 < len → is_run_in_range v start len ≡ true
     → Lies v start len
 lies v start len g some fits =
     let apart : is_apart v start len ≡ true = sym (in_range_is v g start len some) ∙ fits in

@@ -18,7 +18,7 @@ use Rattle.ffs_volume.specs.declared.BlockMessage.TheVariants.{Bad, Dup, ManyBad
 use Rattle.ffs_volume.specs.Disk.Areas.{is_fragment_in_range, is_run_in_range}
 use Rattle.ffs_volume.specs.Blocks.Inodes.{is_file_or_dir}
 use Rattle.ffs_volume.specs.Blocks.Owners.{Owner, owners_of}
-use Rattle.ffs_volume.specs.Blocks.Claims.{Claims, no_claims, next_inode, is_open, is_set, after_offer, after_offers}
+use Rattle.ffs_volume.specs.Blocks.Claims.{Claims, no_claims, at_next_inode, is_open, is_set, after_offer, after_offers}
 use Rattle.ffs_volume.specs.Blocks.Claims.{after_run, after_step, after_steps, after_owner, after_owners, offer_lines}
 use Rattle.ffs_volume.specs.Blocks.Claims.{lines_of_offers, run_lines, step_lines, lines_of_steps}
 use Rattle.ffs_volume.proofs.Weights.{cond_holds, ok_below, count_set}
@@ -166,11 +166,11 @@ owner_doubles : (v : Layout) (s : Claims) (o : Owner) → length s.dup ≡ v.siz
     Doubles s (owner_lines v s o) (after_owner v s o)
 owner_doubles v s o h =
     doubles_then s s (after_owner v s o) (class_lines o.number o.class)
-    (lines_of_steps v o.number (next_inode s) o.steps ++ count_lines v o (after_owner v s o))
+    (lines_of_steps v o.number (at_next_inode s) o.steps ++ count_lines v o (after_owner v s o))
     (ap (λ (b : Bool). b || any_set s.dup) (class_none o.number o.class), refl)
-    (doubles_then s (after_owner v s o) (after_owner v s o) (lines_of_steps v o.number (next_inode s) o.steps)
+    (doubles_then s (after_owner v s o) (after_owner v s o) (lines_of_steps v o.number (at_next_inode s) o.steps)
     (count_lines v o (after_owner v s o))
-    (steps_double v o.number (next_inode s) o.steps h)
+    (steps_double v o.number (at_next_inode s) o.steps h)
     (ap (λ (b : Bool). b || any_set (after_owner v s o).dup) (count_none v o (after_owner v s o)), refl))
 
 owners_double : (v : Layout) (s : Claims) (os : List Owner) → length s.dup ≡ v.size →

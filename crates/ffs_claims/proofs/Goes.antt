@@ -8,7 +8,7 @@ use Rattle.ffs_volume.specs.declared.Step.{Step}
 use Rattle.ffs_volume.specs.declared.Step.TheVariants.{Run, Tail, Gap}
 use Rattle.ffs_volume.specs.declared.BlockMessage.{BlockMessage}
 use Rattle.ffs_volume.specs.declared.Inode.{Inode}
-use Rattle.ffs_volume.specs.Blocks.Steps.{steps_of, walks}
+use Rattle.ffs_volume.specs.Blocks.Steps.{steps_of, is_walked}
 use Rattle.ffs_volume.specs.Disk.Areas.{is_fragment_in_range, is_run_in_range}
 use Rattle.ffs_volume.specs.Blocks.Claims.{Claims, is_open, is_set, after_offer, after_offers, after_step, after_steps}
 use Rattle.ffs_volume.specs.Blocks.Claims.{offer_lines, lines_of_offers, step_lines, lines_of_steps, run_lines}
@@ -198,6 +198,6 @@ gaps_silent v inode s zero steps = refl
 gaps_silent v inode s (suc n) steps = gaps_silent v inode s n steps
 
 -- an inode that no walk goes over has no steps
-pub no_steps : (v : Layout) (i : Inode) (bytes : List ℕ) → walks v i ≡ false → steps_of v i bytes ≡ []
+pub no_steps : (v : Layout) (i : Inode) (bytes : List ℕ) → is_walked v i ≡ false → steps_of v i bytes ≡ []
 unfolding steps_of
 no_steps v i bytes h = rw h refl

@@ -8,7 +8,7 @@ use Rattle.ffs_volume.specs.declared.Inode.{Inode}
 use Rattle.ffs_volume.specs.Blocks.Inodes.{class_of, inode_of}
 use Rattle.ffs_volume.specs.Blocks.Steps.{steps_of}
 use Rattle.ffs_volume.specs.Blocks.Owners.{owner_of}
-use Rattle.ffs_volume.specs.Blocks.Claims.{Claims, next_inode, after_steps, after_owner, lines_of_steps}
+use Rattle.ffs_volume.specs.Blocks.Claims.{Claims, at_next_inode, after_steps, after_owner, lines_of_steps}
 use Rattle.ffs_volume.specs.Blocks.BlockCheck.{class_lines, count_lines, owner_lines}
 use Rattle.ffs_volume.specs.Messages.Kinds.{Message}
 use Rattle.ffs_report.specs.Progress.{Progress, Said, Stopped}
@@ -26,21 +26,21 @@ rest_lines v number i class s1 bytes =
 
 parts : (v : Layout) (number : ℕ) (i : Inode) (s : Claims) (bytes : List ℕ) →
     of_lines (owner_lines v s (owner_with v bytes number i)) ≡ of_lines (class_lines number (class_of v i))
-    ++ rest_lines v number i (class_of v i) (next_inode s) bytes
+    ++ rest_lines v number i (class_of v i) (at_next_inode s) bytes
 parts v number i s bytes =
     lines_append (class_lines number (class_of v i)) _
     ∙ ap (λ (xs : List Message). of_lines (class_lines number (class_of v i)) ++ xs)
-    (lines_append (lines_of_steps v number (next_inode s) (steps_of v i bytes))
+    (lines_append (lines_of_steps v number (at_next_inode s) (steps_of v i bytes))
     (count_lines v (owner_with v bytes number i) (after_owner v s (owner_with v bytes number i))))
 
 pub class_said : (knows : List ℕ → Type 0) (v : Layout) (number : ℕ) (i : Inode) (s s1 : Claims) (class : Class)
     (a b : Progress) →
-    s1 ≡ next_inode s → class ≡ class_of v i → Said a b (of_lines (class_lines number class)) →
+    s1 ≡ at_next_inode s → class ≡ class_of v i → Said a b (of_lines (class_lines number class)) →
     SaidOf knows (rest_lines v number i class s1) (λ bytes. of_lines (owner_lines v s (owner_with v bytes number i))) a
     b
 class_said knows v number i s s1 class a b e k q =
     rw (e, k) (of_says knows (λ bytes. of_lines (owner_lines v s (owner_with v bytes number i)))
-    (rest_lines v number i (class_of v i) (next_inode s))
+    (rest_lines v number i (class_of v i) (at_next_inode s))
     (λ bytes. of_lines (owner_lines v s (owner_with v bytes number i)))
     (of_lines (class_lines number (class_of v i))) a a b
     (of_begins knows (λ bytes. of_lines (owner_lines v s (owner_with v bytes number i))) a)
@@ -52,7 +52,7 @@ pub class_stopped : (knows : List ℕ → Type 0) (v : Layout) (number : ℕ) (i
     StoppedOf knows (λ bytes. of_lines (owner_lines v s (owner_with v bytes number i))) a b
 class_stopped knows v number i s class a b k q =
     of_stops knows (λ bytes. of_lines (owner_lines v s (owner_with v bytes number i)))
-    (rest_lines v number i (class_of v i) (next_inode s))
+    (rest_lines v number i (class_of v i) (at_next_inode s))
     (λ bytes. of_lines (owner_lines v s (owner_with v bytes number i)))
     (of_lines (class_lines number (class_of v i))) a a b
     (of_begins knows (λ bytes. of_lines (owner_lines v s (owner_with v bytes number i))) a)
@@ -88,8 +88,8 @@ free_steps v i bytes h = no_steps v i bytes (rw h refl)
 
 -- it claims nothing, and nothing is reported of it
 pub free_claims : (v : Layout) (number : ℕ) (i : Inode) (s : Claims) (bytes : List ℕ) → class_of v i ≡ Free →
-    after_owner v s (owner_with v bytes number i) ≡ next_inode s
-free_claims v number i s bytes h = ap (after_steps v (next_inode s)) (free_steps v i bytes h)
+    after_owner v s (owner_with v bytes number i) ≡ at_next_inode s
+free_claims v number i s bytes h = ap (after_steps v (at_next_inode s)) (free_steps v i bytes h)
 
 pub free_silent : (v : Layout) (number : ℕ) (i : Inode) (s : Claims) (bytes : List ℕ) → class_of v i ≡ Free →
     owner_lines v s (owner_with v bytes number i) ≡ []

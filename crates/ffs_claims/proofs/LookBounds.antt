@@ -9,9 +9,9 @@ use Rattle.ffs_volume.specs.declared.Layout.{Layout}
 use Rattle.ffs_volume.specs.declared.Step.{Step}
 use Rattle.ffs_volume.specs.declared.Step.TheVariants.{Run, Tail, Gap}
 use Rattle.ffs_volume.specs.Disk.Areas.{is_run_in_range, is_reserved}
-use Rattle.ffs_volume.specs.Disk.Geometry.{IsValidLayout}
+use Rattle.ffs_volume.specs.Disk.Geometry.{IsAcceptedLayout}
 use Rattle.ffs_volume.specs.Blocks.Owners.{Owner, owner_of, owners_of, inode_numbers}
-use Rattle.ffs_volume.specs.Blocks.Claims.{Claims, no_claims, reserved_map, next_inode, is_open, after_step}
+use Rattle.ffs_volume.specs.Blocks.Claims.{Claims, no_claims, reserved_map, at_next_inode, is_open, after_step}
 use Rattle.ffs_volume.specs.Blocks.Claims.{after_steps, after_owner, after_owners}
 use Rattle.ffs_volume.specs.Blocks.ClaimBounds.{used_bits}
 use Rattle.ffs_volume.specs.Blocks.BlockCheck.{Offer}
@@ -55,13 +55,13 @@ owners_seen : (v : Layout) (s : Claims) (os : List Owner) → s.runs + length (o
 unfolding owners_runs
 owners_seen v s [] = omega arith
 owners_seen v s (o ∷ os) =
-    let one = steps_seen v o.number (next_inode s) o.steps in
+    let one = steps_seen v o.number (at_next_inode s) o.steps in
     let more = owners_seen v (after_owner v s o) os in
     omega (
       arith,
       one,
       more,
-      length-append (steps_runs v o.number (next_inode s) o.steps)
+      length-append (steps_runs v o.number (at_next_inode s) o.steps)
           (owners_runs v (after_owner v s o) os),
     )
 
@@ -84,7 +84,7 @@ look_most v bytes =
     )
 
 -- and each Run that is seen uses up a fragment, a bad Run or a dup offer
-inodes_move : (v : Layout) (image : List ℕ) (s : Claims) (xs : List ℕ) → IsValidLayout v → length s.used ≡ v.size →
+inodes_move : (v : Layout) (image : List ℕ) (s : Claims) (xs : List ℕ) → IsAcceptedLayout v → length s.used ≡ v.size →
     ((after_owners v s (map (owner_of v image) xs)).runs + used_bits s ≤ s.runs
     + used_bits (after_owners v s (map (owner_of v image) xs)) + 22 * length xs)
     × (length (after_owners v s (map (owner_of v image) xs)).used ≡ v.size)
@@ -96,7 +96,7 @@ inodes_move v image s (x ∷ xs) g h =
     let few_dups = one.dups_cap (omega arith) in
     (omega (arith, one.weighs, more.0, few, few_dups), more.1)
 
-pub look_fits : (v : Layout) (bytes : List ℕ) → IsValidLayout v → second_look v bytes < 2 ^ 64
+pub look_fits : (v : Layout) (bytes : List ℕ) → IsAcceptedLayout v → second_look v bytes < 2 ^ 64
 unfolding run_count owners_of no_claims reserved_map
 look_fits v bytes g =
     let all = inodes_move v bytes (no_claims v) (inode_numbers v) g

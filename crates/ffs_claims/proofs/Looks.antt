@@ -6,7 +6,7 @@ use Rattle.std.specs.List.{range_with_len}
 use Rattle.ffs_volume.specs.declared.Layout.{Layout}
 use Rattle.ffs_volume.specs.declared.Step.{Step}
 use Rattle.ffs_volume.specs.declared.Step.TheVariants.{Run, Tail, Gap}
-use Rattle.ffs_volume.specs.Blocks.BlockCheck.{Offer, offer_at}
+use Rattle.ffs_volume.specs.Blocks.BlockCheck.{Offer, offer_of}
 use Rattle.ffs_workspace.specs.Lengths.{set_count}
 use Rattle.ffs_claims.specs.declared.rescan.Rescan.{Rescan}
 use Rattle.ffs_claims.specs.Rescan.{is_going, run_taken, again, step_offers_again, offers_again, run_seen}
@@ -74,22 +74,22 @@ runs_leave v i r dup (Run start len block ∷ steps) =
         after_runs dup (steps_runs_again v i r (Run start len block ∷ steps))
         ≡ after_first dup (offers_again v i r (Run start len block ∷ steps))
     one true q more =
-        ap (λ (b : Bool). after_runs dup ((if b then map (offer_at i)
+        ap (λ (b : Bool). after_runs dup ((if b then map (offer_of i)
         (range_with_len start (run_taken v r start len)) ∷ [] else [])
         ++ steps_runs_again v i (again v r (Run start len block)) steps)) q
-        ∙ more (after_first dup (map (offer_at i) (range_with_len start (run_taken v r start len))))
-        ∙ sym (after_append dup (map (offer_at i) (range_with_len start (run_taken v r start len)))
+        ∙ more (after_first dup (map (offer_of i) (range_with_len start (run_taken v r start len))))
+        ∙ sym (after_append dup (map (offer_of i) (range_with_len start (run_taken v r start len)))
         (offers_again v i (again v r (Run start len block)) steps))
         ∙ sym (ap (λ (b : Bool). after_first dup
-        ((if b then map (offer_at i) (range_with_len start (run_taken v r start len)) else [])
+        ((if b then map (offer_of i) (range_with_len start (run_taken v r start len)) else [])
         ++ offers_again v i (again v r (Run start len block)) steps)) q)
     one false q more =
-        ap (λ (b : Bool). after_runs dup ((if b then map (offer_at i)
+        ap (λ (b : Bool). after_runs dup ((if b then map (offer_of i)
         (range_with_len start (run_taken v r start len)) ∷ [] else [])
         ++ steps_runs_again v i (again v r (Run start len block)) steps)) q
         ∙ more dup
         ∙ sym (ap (λ (b : Bool). after_first dup
-        ((if b then map (offer_at i) (range_with_len start (run_taken v r start len)) else [])
+        ((if b then map (offer_of i) (range_with_len start (run_taken v r start len)) else [])
         ++ offers_again v i (again v r (Run start len block)) steps)) q)
 
 -- a step more, while something is left to report

@@ -15,7 +15,7 @@ use Rattle.ffs_volume.specs.declared.BlockMessage.TheVariants.{Bad, Dup, ManyBad
 use Rattle.ffs_volume.specs.Disk.Areas.{is_fragment_in_range, is_run_in_range}
 use Rattle.ffs_volume.specs.Blocks.Inodes.{is_file_or_dir, inode_of, class_of, is_unknown}
 use Rattle.ffs_volume.specs.Blocks.Owners.{Owner, owner_of, owners_of}
-use Rattle.ffs_volume.specs.Blocks.Claims.{Claims, next_inode, is_open, is_set, after_offer, after_offers, after_run}
+use Rattle.ffs_volume.specs.Blocks.Claims.{Claims, at_next_inode, is_open, is_set, after_offer, after_offers, after_run}
 use Rattle.ffs_volume.specs.Blocks.Claims.{after_step, after_steps, after_owner, offer_lines, lines_of_offers}
 use Rattle.ffs_volume.specs.Blocks.Claims.{run_lines, step_lines, lines_of_steps}
 use Rattle.ffs_volume.specs.Blocks.BlockCheck.{blames, class_lines, count_lines, owner_lines, lines_of_owners}
@@ -200,14 +200,14 @@ owner_blames : (v : Layout) (x : ℕ) (s : Claims) (o : Owner) → list_any (bla
     ≡ ((o.number == x) && has_blame (after_owner v s o))
 owner_blames v x s o =
     any_append (blames x) (class_lines o.number o.class)
-    (lines_of_steps v o.number (next_inode s) o.steps ++ count_lines v o (after_owner v s o))
+    (lines_of_steps v o.number (at_next_inode s) o.steps ++ count_lines v o (after_owner v s o))
     ∙ ap (λ (b : Bool). b || list_any (blames x)
-    (lines_of_steps v o.number (next_inode s) o.steps ++ count_lines v o (after_owner v s o)))
+    (lines_of_steps v o.number (at_next_inode s) o.steps ++ count_lines v o (after_owner v s o)))
     (class_silent x o.number o.class)
-    ∙ any_append (blames x) (lines_of_steps v o.number (next_inode s) o.steps) (count_lines v o (after_owner v s o))
-    ∙ ap (λ (b : Bool). list_any (blames x) (lines_of_steps v o.number (next_inode s) o.steps) || b)
+    ∙ any_append (blames x) (lines_of_steps v o.number (at_next_inode s) o.steps) (count_lines v o (after_owner v s o))
+    ∙ ap (λ (b : Bool). list_any (blames x) (lines_of_steps v o.number (at_next_inode s) o.steps) || b)
     (count_silent v x o (after_owner v s o) ∙ sym (and_none (o.number == x)))
-    ∙ steps_blame v x o.number (next_inode s) o.steps
+    ∙ steps_blame v x o.number (at_next_inode s) o.steps
 
 -- of the inodes one after another
 owners_blame : (v : Layout) (bytes : List ℕ) (x n k : ℕ) → 2 ≤ n →

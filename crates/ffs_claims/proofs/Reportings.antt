@@ -5,7 +5,7 @@ use Rattle.std.specs.List.{range_with_len, list_any, slice_index_or}
 use Rattle.ffs_volume.specs.declared.BlockMessage.{BlockMessage}
 use Rattle.ffs_volume.specs.declared.BlockMessage.TheVariants.{Dup}
 use Rattle.ffs_volume.specs.Blocks.Claims.{is_set}
-use Rattle.ffs_volume.specs.Blocks.BlockCheck.{Offer, blames, first_offer_lines, offer_at}
+use Rattle.ffs_volume.specs.Blocks.BlockCheck.{Offer, blames, first_offer_lines, offer_of}
 use Rattle.ffs_maps.specs.Bits.{bits_of}
 use Rattle.ffs_workspace.specs.declared.workspace.Workspace.{Workspace}
 use Rattle.ffs_workspace.specs.Holds.{bool_at}
@@ -69,7 +69,7 @@ reported_then u v w xs ys a b = record {
 
 -- an offer that isn't reported, and one that is
 pub reported_out : (old new : Workspace) (i f : ℕ) → slice_index_or (bits_of old.duplicates) f false ≡ false →
-    new.duplicates ≡ old.duplicates → new.marked ≡ old.marked → OffersReported (offer_at i f ∷ []) old new
+    new.duplicates ≡ old.duplicates → new.marked ≡ old.marked → OffersReported (offer_of i f ∷ []) old new
 reported_out old new i f e d m = record {
   dup = ap bits_of d ∙ sym (rw e refl);
   marked = λ x. ap (λ z. bool_at z.items x) m ∙ none (bool_at old.marked.items x)
@@ -82,13 +82,13 @@ reported_out old new i f e d m = record {
     none false = refl
 
     lines_out : (w : Workspace) (i f : ℕ) → slice_index_or (bits_of w.duplicates) f false ≡ false →
-        first_offer_lines (bits_of w.duplicates) (offer_at i f ∷ []) ≡ []
+        first_offer_lines (bits_of w.duplicates) (offer_of i f ∷ []) ≡ []
     lines_out w i f e = rw e refl
 
 -- the next offer of a Run
 pub run_next : (i start len place f : ℕ) → place < len → f ≡ start + place →
-    map (offer_at i) (range_with_len (start + place) (len - place)) ≡ offer_at i f
-    ∷ map (offer_at i) (range_with_len (start + (place + 1)) (len - (place + 1)))
+    map (offer_of i) (range_with_len (start + place) (len - place)) ≡ offer_of i f
+    ∷ map (offer_of i) (range_with_len (start + (place + 1)) (len - (place + 1)))
 run_next i start len place f h is_place =
     let k : start + (place + 1) ≡ start + place + 1 = omega arith in
     rw (range_more (start + place) (len - place) (len - (place + 1)) (omega arith), k, is_place) refl
@@ -130,15 +130,15 @@ lines_more dup dup' o os e =
     ∙ lines_append (first_offer_lines dup (o ∷ [])) (first_offer_lines (after_first dup (o ∷ [])) os)
     ∙ ap (λ (d : List Bool). of_lines (first_offer_lines dup (o ∷ [])) ++ of_lines (first_offer_lines d os)) (sym e)
 
-pub run_over : (i start len place : ℕ) → len ≤ place → map (offer_at i) (range_with_len (start + place) (len - place))
+pub run_over : (i start len place : ℕ) → len ≤ place → map (offer_of i) (range_with_len (start + place) (len - place))
     ≡ []
 run_over i start len place h =
     let none : len - place ≡ 0 = omega arith in
-    ap (λ (n : ℕ). map (offer_at i) (range_with_len (start + place) n)) none
+    ap (λ (n : ℕ). map (offer_of i) (range_with_len (start + place) n)) none
 
 -- an offer that isn't reported
 pub said_out : (dup : List Bool) (i f : ℕ) (a : Progress) → slice_index_or dup f false ≡ false →
-    Said a a (of_lines (first_offer_lines dup (offer_at i f ∷ [])))
+    Said a a (of_lines (first_offer_lines dup (offer_of i f ∷ [])))
 said_out dup i f a e = rw e (said_none a)
 
 pub past_end : (bits : List Bool) (f : ℕ) → length bits ≤ f → slice_index_or bits f false ≡ false

@@ -11,11 +11,11 @@ use Rattle.ffs_volume.specs.declared.Step.{Step}
 use Rattle.ffs_volume.specs.declared.Step.TheVariants.{Run, Tail, Gap}
 use Rattle.ffs_volume.specs.declared.BlockMessage.{BlockMessage}
 use Rattle.ffs_volume.specs.Disk.Areas.{is_run_in_range}
-use Rattle.ffs_volume.specs.Disk.Geometry.{IsValidLayout}
+use Rattle.ffs_volume.specs.Disk.Geometry.{IsAcceptedLayout}
 use Rattle.ffs_volume.specs.Blocks.Inodes.{inode_of}
 use Rattle.ffs_volume.specs.Blocks.Steps.{steps_of}
 use Rattle.ffs_volume.specs.Blocks.Owners.{owner_of, owners_of}
-use Rattle.ffs_volume.specs.Blocks.Claims.{Claims, no_claims, next_inode, is_open, is_set, after_offer, after_step}
+use Rattle.ffs_volume.specs.Blocks.Claims.{Claims, no_claims, at_next_inode, is_open, is_set, after_offer, after_step}
 use Rattle.ffs_volume.specs.Blocks.Claims.{after_steps, after_owner, after_owners}
 use Rattle.ffs_volume.specs.Blocks.BlockCheck.{Offer, blames, kept_in_offers, kept_in_step, kept_in_steps}
 use Rattle.ffs_volume.specs.Blocks.BlockCheck.{kept_in_owners, first_offer_lines, phase1b_lines}
@@ -39,7 +39,7 @@ use Rattle.ffs_claims.proofs.Rescans.{inode_replayed}
 use Rattle.ffs_claims.proofs.Reportings.{Reporting, first_append}
 
 -- the offers of the next inode, replayed by its cut, and those of the inodes after it
-pub kept_next : (v : Layout) (bytes : List ℕ) (cuts : List ℕ) (n : ℕ) → IsValidLayout v → 2 ≤ n → n < inodes_of v →
+pub kept_next : (v : Layout) (bytes : List ℕ) (cuts : List ℕ) (n : ℕ) → IsAcceptedLayout v → 2 ≤ n → n < inodes_of v →
     is_inode_number v n ≡ true → slice_index cuts n ≡ cut_at v bytes n →
     kept_in_owners v (claims_before v bytes n) (owners_from v bytes n)
     ≡ offers_again v n (rescan (slice_index cuts n)) (steps_of v (inode_of v bytes n) bytes)
@@ -47,7 +47,7 @@ pub kept_next : (v : Layout) (bytes : List ℕ) (cuts : List ℕ) (n : ℕ) → 
 unfolding owner_of
 kept_next v bytes cuts n g low high inside e =
     let s = claims_before v bytes n in
-    let cut : cut_of (after_steps v (next_inode (claims_before v bytes n)) (steps_of v (inode_of v bytes n) bytes))
+    let cut : cut_of (after_steps v (at_next_inode (claims_before v bytes n)) (steps_of v (inode_of v bytes n) bytes))
     ≡ slice_index cuts n = sym (e ∙ cut_is v bytes n g inside) in
     let again = (inode_replayed v n (claims_before v bytes n) (steps_of v (inode_of v bytes n) bytes)).offers in
     ap (λ (xs : List ℕ). kept_in_owners v (claims_before v bytes n) (map (owner_of v bytes) xs))
@@ -64,13 +64,13 @@ kept_end v bytes s n past =
     let none : inodes_of v - n ≡ 0 = omega arith in
     ap (λ (k : ℕ). kept_in_owners v s (map (owner_of v bytes) (range_with_len n k))) none
 
-pub runs_on : (v : Layout) (bytes : List ℕ) (cuts : List ℕ) (n : ℕ) → IsValidLayout v → 2 ≤ n →
+pub runs_on : (v : Layout) (bytes : List ℕ) (cuts : List ℕ) (n : ℕ) → IsAcceptedLayout v → 2 ≤ n →
     is_inode_number v n ≡ true → slice_index cuts n ≡ cut_at v bytes n →
     (claims_before v bytes (n + 1)).runs ≡ (claims_before v bytes n).runs + runs_again v (rescan (slice_index cuts n))
     (steps_of v (inode_of v bytes n) bytes)
 unfolding owner_of
 runs_on v bytes cuts n g low inside e =
-    let cut : cut_of (after_steps v (next_inode (claims_before v bytes n)) (steps_of v (inode_of v bytes n) bytes))
+    let cut : cut_of (after_steps v (at_next_inode (claims_before v bytes n)) (steps_of v (inode_of v bytes n) bytes))
     ≡ slice_index cuts n = sym (e ∙ cut_is v bytes n g inside) in
     ap (λ (t : Claims). t.runs) (before_next v bytes n low)
     ∙ (inode_replayed v n (claims_before v bytes n) (steps_of v (inode_of v bytes n) bytes)).runs
@@ -88,7 +88,7 @@ runs_rise v bytes n (suc k) low =
     (steps_of v (inode_of v bytes (n + k)) bytes)).runs in
     let next : n + suc k ≡ n + k + 1 = omega arith in
     let is : (claims_before v bytes (n + k + 1)).runs ≡ (claims_before v bytes (n + k)).runs + runs_again v
-    (rescan (cut_of (after_steps v (next_inode (claims_before v bytes (n + k)))
+    (rescan (cut_of (after_steps v (at_next_inode (claims_before v bytes (n + k)))
     (steps_of v (inode_of v bytes (n + k)) bytes)))) (steps_of v (inode_of v bytes (n + k)) bytes) =
     ap (λ (t : Claims). t.runs) (before_next v bytes (n + k) (omega arith)) ∙ again in
     rw next (omega (arith, more, is))
@@ -151,9 +151,9 @@ owners_none_of : (v : Layout) (bytes : List ℕ) (x : ℕ) (s : Claims) (n k : �
 unfolding owner_of
 owners_none_of v bytes x s n zero h = refl
 owners_none_of v bytes x s n (suc k) h =
-    both_none x (kept_in_steps v n (next_inode s) (steps_of v (inode_of v bytes n) bytes))
+    both_none x (kept_in_steps v n (at_next_inode s) (steps_of v (inode_of v bytes n) bytes))
     (kept_in_owners v (after_owner v s (owner_of v bytes n)) (map (owner_of v bytes) (range_with_len (n + 1) k)))
-    (steps_none_of v x n (next_inode s) (steps_of v (inode_of v bytes n) bytes) (apart h))
+    (steps_none_of v x n (at_next_inode s) (steps_of v (inode_of v bytes n) bytes) (apart h))
     (owners_none_of v bytes x (after_owner v s (owner_of v bytes n)) (n + 1) k
     (elim h [ inl a ↦ inl (omega arith) | inr b ↦ inr (omega arith) ]))
   where

@@ -9,11 +9,11 @@ use Rattle.ffs_volume.specs.declared.Layout.{Layout}
 use Rattle.ffs_volume.specs.declared.Step.{Step}
 use Rattle.ffs_volume.specs.declared.Step.TheVariants.{Run, Tail, Gap}
 use Rattle.ffs_volume.specs.Disk.Areas.{is_fragment_in_range, is_run_in_range}
-use Rattle.ffs_volume.specs.Blocks.Claims.{Claims, next_inode, is_open, is_set, after_offer, after_offers, after_run}
+use Rattle.ffs_volume.specs.Blocks.Claims.{Claims, at_next_inode, is_open, is_set, after_offer, after_offers, after_run}
 use Rattle.ffs_volume.specs.Blocks.Claims.{after_step, after_steps}
 use Rattle.ffs_volume.proofs.Weights.{cond_holds}
 use Rattle.ffs_volume.specs.Blocks.BlockCheck.{Offer, kept_in_offers, kept_in_run, kept_in_step, kept_in_steps}
-use Rattle.ffs_volume.specs.Blocks.BlockCheck.{offer_at}
+use Rattle.ffs_volume.specs.Blocks.BlockCheck.{offer_of}
 use Rattle.ffs_volume.specs.Encodings.Replay.{cut_of}
 use Rattle.ffs_claims.specs.declared.rescan.Rescan.{Rescan}
 use Rattle.ffs_claims.specs.SecondLook.{step_runs, steps_runs, step_runs_again, steps_runs_again}
@@ -127,7 +127,7 @@ offers_take v s start (suc len) = one (nat_lt s.dups 11) refl (offers_take v (af
 -- they are the first ones
 offers_firsts : (v : Layout) (i : ℕ) (s : Claims) (start len k : ℕ) → (after_offers v s (range_with_len start len)).kept
     ≡ s.kept + k →
-    kept_in_offers v i s (range_with_len start len) ≡ map (offer_at i) (range_with_len start k)
+    kept_in_offers v i s (range_with_len start len) ≡ map (offer_of i) (range_with_len start k)
 offers_firsts v i s start zero zero e = refl
 offers_firsts v i s start zero (suc k) e = absurd (omega arith)
 offers_firsts v i s start (suc len) k e = one (nat_lt s.dups 11) refl k e
@@ -139,16 +139,16 @@ offers_firsts v i s start (suc len) k e = one (nat_lt s.dups 11) refl k e
         ((m : ℕ) → (after_offers v (after_offer v s start) (range_with_len (start + 1) len)).kept
         ≡ (after_offer v s start).kept + m →
         kept_in_offers v i (after_offer v s start) (range_with_len (start + 1) len)
-        ≡ map (offer_at i) (range_with_len (start + 1) m)) →
+        ≡ map (offer_of i) (range_with_len (start + 1) m)) →
         Grows (after_offer v s start) (after_offers v (after_offer v s start) (range_with_len (start + 1) len)) →
-        kept_in_offers v i s (range_with_len start (suc len)) ≡ map (offer_at i) (range_with_len start n)
+        kept_in_offers v i s (range_with_len start (suc len)) ≡ map (offer_of i) (range_with_len start n)
     one true q zero h more grow = absurd (omega (arith, offer_kept v s start q, grow.kept_low))
     one true q (suc n) h more grow =
         let rest : kept_in_offers v i (after_offer v s start) (range_with_len (start + 1) len)
-        ≡ map (offer_at i) (range_with_len (start + 1) n) = more n (omega (arith, offer_kept v s start q)) in
-        ap (λ x. (if x then offer_at i start ∷ [] else []) ++ kept_in_offers v i (after_offer v s start)
+        ≡ map (offer_of i) (range_with_len (start + 1) n) = more n (omega (arith, offer_kept v s start q)) in
+        ap (λ x. (if x then offer_of i start ∷ [] else []) ++ kept_in_offers v i (after_offer v s start)
         (range_with_len (start + 1) len)) q
-        ∙ ap (λ z. offer_at i start ∷ z) rest
+        ∙ ap (λ z. offer_of i start ∷ z) rest
     one false q n h more grow =
         let same : after_offer v s start ≡ s = offer_shut v s start q in
         let kept : (after_offer v s start).kept ≡ s.kept = ap (λ (x : Claims). x.kept) same in
@@ -157,9 +157,9 @@ offers_firsts v i s start (suc len) k e = one (nat_lt s.dups 11) refl k e
         let still : (after_offers v (after_offer v s start) (range_with_len (start + 1) len)).kept
         ≡ (after_offer v s start).kept = grow.shut (omega arith) in
         let none : n ≡ 0 = omega (arith, still, kept, h) in
-        ap (λ x. (if x then offer_at i start ∷ [] else []) ++ kept_in_offers v i (after_offer v s start)
+        ap (λ x. (if x then offer_of i start ∷ [] else []) ++ kept_in_offers v i (after_offer v s start)
         (range_with_len (start + 1) len)) q
-        ∙ (more 0 (omega (arith, still)) ∙ ap (λ z. map (offer_at i) (range_with_len start z)) (sym none))
+        ∙ (more 0 (omega (arith, still)) ∙ ap (λ z. map (offer_of i) (range_with_len start z)) (sym none))
 
 -- ---- the number of offers that an inode still keeps
 abbrev pub left_of : Claims → Claims → Option ℕ
@@ -290,7 +290,7 @@ run_replayed v i s end r start len block after cap t going =
         let open_again : is_going r ≡ true = going ∙ q in
         record {
           offers = offers ∙ offers_firsts v i mid start len (run_taken v r start len) (sym sum)
-              ∙ sym (ap (λ (x : Bool). if x then map (offer_at i) (range_with_len start (run_taken v r start len))
+              ∙ sym (ap (λ (x : Bool). if x then map (offer_of i) (range_with_len start (run_taken v r start len))
               else []) open_again);
           runs = ap (λ (x : Claims). x.runs) now ∙ runs.0 ∙ u
               ∙ sym (ap (λ (x : Bool). s.runs + (if x then 1 else 0)) open_again);
@@ -310,7 +310,7 @@ run_replayed v i s end r start len block after cap t going =
         let next : again v r (Run start len block) ≡ r = rw shut refl in
         record {
           offers = ap (λ (x : Bool). if x then kept_in_run v i s start len else []) q
-              ∙ sym (ap (λ (x : Bool). if x then map (offer_at i) (range_with_len start (run_taken v r start len))
+              ∙ sym (ap (λ (x : Bool). if x then map (offer_of i) (range_with_len start (run_taken v r start len))
               else []) shut);
           runs = ap (λ (x : Claims). x.runs) now
               ∙ sym (ap (λ (x : Bool). s.runs + (if x then 1 else 0)) shut ∙ omega arith);
@@ -335,9 +335,9 @@ run_replayed v i s end r start len block after cap t going =
         let nothing : kept_in_step v i s (Run start len block) ≡ [] = rw (q, qf, qz) refl in
         record {
           offers = nothing
-              ∙ sym (ap (λ (x : Bool). if x then map (offer_at i) (range_with_len start (run_taken v r start len))
+              ∙ sym (ap (λ (x : Bool). if x then map (offer_of i) (range_with_len start (run_taken v r start len))
               else []) open_again
-              ∙ ap (λ (n : ℕ). map (offer_at i) (range_with_len start n)) none);
+              ∙ ap (λ (n : ℕ). map (offer_of i) (range_with_len start n)) none);
           runs = ap (λ (x : Claims). x.runs) now ∙ sym (ap (λ (x : Bool). s.runs + (if x then 1 else 0)) open_again);
           tied = record {
             bad = ap (λ (x : Rescan). x.bad) next ∙ sym (ap (λ (x : Claims). x.bad) now ∙ (omega arith));
@@ -403,7 +403,7 @@ step_looked v i s end r (Run start len block) after cap t = one (is_open s) refl
         ≡ step_runs_again v i r (Run start len block)
     one true q =
         let again_open : is_going r ≡ true = going ∙ q in
-        let kept : kept_in_run v i s start len ≡ map (offer_at i) (range_with_len start (run_taken v r start len)) =
+        let kept : kept_in_run v i s start len ≡ map (offer_of i) (range_with_len start (run_taken v r start len)) =
         rw (q, again_open) at same in
         rw (q, again_open, kept) refl
     one false q = let shut : is_going r ≡ false = going ∙ q in rw (q, shut) refl
@@ -435,16 +435,16 @@ steps_replayed v i s r (step ∷ steps) cap t =
 
 -- an inode, from its begin on
 pub inode_replayed : (v : Layout) (i : ℕ) (s : Claims) (steps : List Step) →
-    AllReplayed v i (next_inode s) (rescan (cut_of (after_steps v (next_inode s) steps))) steps
+    AllReplayed v i (at_next_inode s) (rescan (cut_of (after_steps v (at_next_inode s) steps))) steps
 inode_replayed v i s steps =
-    let grow = steps_grow v (next_inode s) steps in
-    let cap : (after_steps v (next_inode s) steps).dups ≤ 11 = grow.cap (omega arith) in
-    steps_replayed v i (next_inode s) (rescan (cut_of (after_steps v (next_inode s) steps))) steps cap
-    (record { bad = refl; left = begins (after_steps v (next_inode s) steps) grow cap })
+    let grow = steps_grow v (at_next_inode s) steps in
+    let cap : (after_steps v (at_next_inode s) steps).dups ≤ 11 = grow.cap (omega arith) in
+    steps_replayed v i (at_next_inode s) (rescan (cut_of (after_steps v (at_next_inode s) steps))) steps cap
+    (record { bad = refl; left = begins (after_steps v (at_next_inode s) steps) grow cap })
   where
-    begins : (end : Claims) → Grows (next_inode s) end → end.dups ≤ 11 →
+    begins : (end : Claims) → Grows (at_next_inode s) end → end.dups ≤ 11 →
         (if (if nat_lt end.dups 11 then 0 else end.kept) == 0 then None
-        else Some (if nat_lt end.dups 11 then 0 else end.kept)) ≡ left_of (next_inode s) end
+        else Some (if nat_lt end.dups 11 then 0 else end.kept)) ≡ left_of (at_next_inode s) end
     begins end g cap = one (end.dups == 11) refl
       where
         one : (b : Bool) → (end.dups == 11) ≡ b →

@@ -10,7 +10,7 @@ use Rattle.ffs_volume.specs.declared.Layout.{Layout}
 use Rattle.ffs_volume.specs.Disk.Search.{first_below, some_below}
 use Rattle.ffs_volume.proofs.SearchLaws.{some_below-suc}
 use Rattle.ffs_volume.specs.Disk.Areas.{cgsblock, cgdmin, is_group_metadata, is_reserved}
-use Rattle.ffs_volume.specs.Blocks.Claims.{Claims, reserved_map, no_claims, next_inode}
+use Rattle.ffs_volume.specs.Blocks.Claims.{Claims, reserved_map, no_claims, at_next_inode}
 use Rattle.ffs_maps.specs.Bits.{set_run}
 use Rattle.ffs_maps.proofs.Masks.{run_inside, run_outside}
 
@@ -131,11 +131,11 @@ group_run v b b' group len all ends now before =
     λ f low. ap (λ (xs : List Bool). get_or xs f false) now ∙ more f low ∙ one_below v group f
 
 -- the claims before the first inode
-pub reserved_claims : (v : Layout) (s s1 : Claims) (used : List Bool) → s1 ≡ next_inode s →
+pub reserved_claims : (v : Layout) (s s1 : Claims) (used : List Bool) → s1 ≡ at_next_inode s →
     s.dup ≡ replicate v.size false → used ≡ reserved_map v →
     record s1 { used = used; runs = 0 } ≡ no_claims v
 unfolding no_claims
 reserved_claims v s s1 used e d u =
     ap (λ (t : Claims). record t { used = used; runs = 0 }) e
-    ∙ ap (λ (xs : List Bool). record (next_inode s) { used = xs; runs = 0 }) u
-    ∙ ap (λ (xs : List Bool). record (next_inode s) { used = reserved_map v; runs = 0; dup = xs }) d
+    ∙ ap (λ (xs : List Bool). record (at_next_inode s) { used = xs; runs = 0 }) u
+    ∙ ap (λ (xs : List Bool). record (at_next_inode s) { used = reserved_map v; runs = 0; dup = xs }) d

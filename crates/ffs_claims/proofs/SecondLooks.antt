@@ -2,11 +2,11 @@
 use Rattle.std.proofs.Common.{◌≡◌, ℕ, ◌+◌, ◌-◌, ◌<◌, ◌≤◌, true, List, ◌++◌, map, slice_index, arith, ap, ◌∙◌, sym, Bool}
 use Rattle.std.specs.List.{range_with_len}
 use Rattle.ffs_volume.specs.declared.Layout.{Layout}
-use Rattle.ffs_volume.specs.Disk.Geometry.{IsValidLayout}
+use Rattle.ffs_volume.specs.Disk.Geometry.{IsAcceptedLayout}
 use Rattle.ffs_volume.specs.Blocks.Inodes.{inode_of}
 use Rattle.ffs_volume.specs.Blocks.Steps.{steps_of}
 use Rattle.ffs_volume.specs.Blocks.Owners.{owner_of, owners_of}
-use Rattle.ffs_volume.specs.Blocks.Claims.{Claims, no_claims, next_inode, after_steps, after_owner}
+use Rattle.ffs_volume.specs.Blocks.Claims.{Claims, no_claims, at_next_inode, after_steps, after_owner}
 use Rattle.ffs_volume.specs.Blocks.BlockCheck.{Offer}
 use Rattle.ffs_volume.specs.Blocks.KeptSteps.{claims_before}
 use Rattle.ffs_volume.specs.Encodings.Replay.{cut_of, cut_at}
@@ -24,14 +24,14 @@ use Rattle.ffs_claims.proofs.Looks.{looked_both, runs_leave}
 use Rattle.ffs_claims.proofs.Rescans.{inode_replayed}
 
 -- the Runs of the next inode, replayed by its cut, and those of the inodes after it
-runs_next_inode : (v : Layout) (bytes : List ℕ) (cuts : List ℕ) (n : ℕ) → IsValidLayout v → 2 ≤ n → n < inodes_of v →
+runs_next_inode : (v : Layout) (bytes : List ℕ) (cuts : List ℕ) (n : ℕ) → IsAcceptedLayout v → 2 ≤ n → n < inodes_of v →
     is_inode_number v n ≡ true → slice_index cuts n ≡ cut_at v bytes n →
     owners_runs v (claims_before v bytes n) (owners_from v bytes n)
     ≡ steps_runs_again v n (rescan (slice_index cuts n)) (steps_of v (inode_of v bytes n) bytes)
     ++ owners_runs v (claims_before v bytes (n + 1)) (owners_from v bytes (n + 1))
 unfolding owner_of owners_runs
 runs_next_inode v bytes cuts n g low high inside e =
-    let cut : cut_of (after_steps v (next_inode (claims_before v bytes n)) (steps_of v (inode_of v bytes n) bytes))
+    let cut : cut_of (after_steps v (at_next_inode (claims_before v bytes n)) (steps_of v (inode_of v bytes n) bytes))
     ≡ slice_index cuts n = sym (e ∙ cut_is v bytes n g inside) in
     let again = (inode_replayed v n (claims_before v bytes n) (steps_of v (inode_of v bytes n) bytes)).looks in
     ap (λ (xs : List ℕ). owners_runs v (claims_before v bytes n) (map (owner_of v bytes) xs))
@@ -42,7 +42,8 @@ runs_next_inode v bytes cuts n g low high inside e =
     ∙ ap (λ (t : Claims). steps_runs_again v n (rescan (slice_index cuts n)) (steps_of v (inode_of v bytes n) bytes)
     ++ owners_runs v t (owners_from v bytes (n + 1))) (sym (before_next v bytes n low))
 
-pub looked_on : (v : Layout) (bytes : List ℕ) (cuts : List ℕ) (n : ℕ) (dup dup' : List Bool) → IsValidLayout v → 2 ≤ n →
+pub looked_on : (v : Layout) (bytes : List ℕ) (cuts : List ℕ) (n : ℕ) (dup dup' : List Bool) → IsAcceptedLayout v → 2 ≤
+    n →
     n < inodes_of v → is_inode_number v n ≡ true → slice_index cuts n ≡ cut_at v bytes n →
     dup' ≡ after_first dup (offers_again v n (rescan (slice_index cuts n)) (steps_of v (inode_of v bytes n) bytes)) →
     looked_at dup (owners_runs v (claims_before v bytes n) (owners_from v bytes n))

@@ -7,7 +7,7 @@ use Rattle.ffs_volume.specs.declared.Step.{Step}
 use Rattle.ffs_volume.specs.declared.Step.TheVariants.{Run, Tail, Gap}
 use Rattle.ffs_volume.specs.Disk.Areas.{is_run_in_range}
 use Rattle.ffs_claims.specs.declared.rescan.Rescan.{Rescan}
-use Rattle.ffs_volume.specs.Blocks.BlockCheck.{Offer, offer_at}
+use Rattle.ffs_volume.specs.Blocks.BlockCheck.{Offer, offer_of}
 
 -- an inode begins
 abbrev pub rescan : ℕ → Rescan
@@ -50,7 +50,7 @@ again v r Gap = r
 -- the offers that are kept, of a step and of steps
 abbrev pub step_offers_again : Layout → ℕ → Rescan → Step → List Offer
 step_offers_again v inode r (Run start len block) = if is_going r
-    then map (offer_at inode) (range_with_len start (run_taken v r start len)) else []
+    then map (offer_of inode) (range_with_len start (run_taken v r start len)) else []
 step_offers_again v inode r Tail = []
 step_offers_again v inode r Gap = []
 

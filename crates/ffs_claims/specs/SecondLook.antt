@@ -6,9 +6,9 @@ use Rattle.ffs_volume.specs.declared.Layout.{Layout}
 use Rattle.ffs_volume.specs.declared.Step.{Step}
 use Rattle.ffs_volume.specs.declared.Step.TheVariants.{Run, Tail, Gap}
 use Rattle.ffs_volume.specs.Blocks.Owners.{Owner, owners_of}
-use Rattle.ffs_volume.specs.Blocks.Claims.{Claims, no_claims, next_inode, is_open}
+use Rattle.ffs_volume.specs.Blocks.Claims.{Claims, no_claims, at_next_inode, is_open}
 use Rattle.ffs_volume.specs.Blocks.Claims.{after_step, after_owner, after_owners}
-use Rattle.ffs_volume.specs.Blocks.BlockCheck.{Offer, kept_in_run, offer_at}
+use Rattle.ffs_volume.specs.Blocks.BlockCheck.{Offer, kept_in_run, offer_of}
 use Rattle.ffs_maps.specs.Bits.{bits_of}
 use Rattle.ffs_workspace.specs.declared.workspace.Workspace.{Workspace}
 use Rattle.ffs_workspace.specs.Lengths.{set_count}
@@ -30,7 +30,7 @@ steps_runs v inode s (step ∷ steps) =
 unfoldable pub owners_runs : Layout → Claims → List Owner → List (List Offer)
 owners_runs v s [] = []
 owners_runs v s (o ∷ os) =
-    steps_runs v o.number (next_inode s) o.steps ++ owners_runs v (after_owner v s o) os
+    steps_runs v o.number (at_next_inode s) o.steps ++ owners_runs v (after_owner v s o) os
 
 -- how many of some Runs are looked at, by their kept offers: all up to the one that reports the last of the marked
 -- fragments
@@ -47,7 +47,7 @@ second_look v image =
 -- the kept offers of each Run that is seen, replayed
 abbrev pub step_runs_again : Layout → ℕ → Rescan → Step → List (List Offer)
 step_runs_again v inode r (Run start len block) =
-    if is_going r then map (offer_at inode) (range_with_len start (run_taken v r start len)) ∷ [] else []
+    if is_going r then map (offer_of inode) (range_with_len start (run_taken v r start len)) ∷ [] else []
 step_runs_again v inode r Tail = []
 step_runs_again v inode r Gap = []
 

@@ -2,7 +2,7 @@
 
 ghost use Rattle.std.specs.Prelude.{[], ◌∷◌, OnOk, map};
 ghost use Rattle.std.specs.List.{range_with_len};
-ghost use Rattle.ffs_volume.specs.Blocks.BlockCheck.{first_offer_lines, offer_at};
+ghost use Rattle.ffs_volume.specs.Blocks.BlockCheck.{first_offer_lines, offer_of};
 ghost use Rattle.ffs_report.specs.Progress.{progress, Says};
 ghost use Rattle.ffs_maps.specs.Bits.{bits_of};
 ghost use Rattle.ffs_claims.specs.Lines.{of_lines};
@@ -24,9 +24,9 @@ fn report_claim<W: Output>(
     requires can { CanReport geometry.now.layout workspace.old number }
     ensures said { Says (progress W.sink report.old) (progress W.sink report.new)
         (of_lines (first_offer_lines (bits_of workspace.old.duplicates)
-        (offer_at number fragment ∷ [])))
+        (offer_of number fragment ∷ [])))
         result }
-    ensures reported { OffersReported (offer_at number fragment ∷ []) workspace.old workspace.new }
+    ensures reported { OffersReported (offer_of number fragment ∷ []) workspace.old workspace.new }
     ensures only { OffersReportedOnly geometry.now.layout workspace.old workspace.new }
 {
     if fragment >= u64::from(geometry.layout.size) {
@@ -57,9 +57,9 @@ pub fn report_run<W: Output>(
     requires can { CanReport geometry.now.layout workspace.old number }
     ensures said { Says (progress W.sink report.old) (progress W.sink report.new)
         (of_lines (first_offer_lines (bits_of workspace.old.duplicates)
-        (map (offer_at number) (range_with_len start len)))) result }
+        (map (offer_of number) (range_with_len start len)))) result }
     ensures reported { OnOk result (OffersReported
-        (map (offer_at number) (range_with_len start len))
+        (map (offer_of number) (range_with_len start len))
         workspace.old workspace.new) }
     ensures only { OffersReportedOnly geometry.now.layout workspace.old workspace.new }
 {

@@ -4,7 +4,7 @@ use Rattle.std.proofs.Common.{map, refl, ap, ◌∙◌, arith}
 use Rattle.ffs_volume.specs.declared.Layout.{Layout}
 use Rattle.ffs_volume.specs.Directories.Connectivity.{connectivity_lines}
 use Rattle.ffs_volume.specs.Directories.Graph.{reached, none_or_dead, parent}
-use Rattle.ffs_volume.specs.Directories.Climb.{leads_cycle}
+use Rattle.ffs_volume.specs.Directories.Climb.{is_leader_within}
 use Rattle.ffs_volume.specs.Directories.Parents.{graph_of}
 use Rattle.ffs_volume.specs.Directories.PathnameCheck.{attributes}
 use Rattle.ffs_volume.specs.Directories.Roles.{is_suspect, is_dir}
@@ -39,7 +39,7 @@ no_line v b w kinds reaches d ek er e h s =
     let free : (is_dir vol d && not (reached g d)) ≡ false = rw (dir, mark) at e in
     ap (λ t. reported t (unref_dir (attributes vol d)))
     (not_lost (is_dir vol d) _ (reached g d) _ (none_or_dead g (is_suspect vol) (parent g d)
-    || leads_cycle (parent g) g.count d) free)
+    || is_leader_within (parent g) g.count d) free)
 
 -- the lines from a number on are those from a later one on, where those between have none
 pub lines_later : (lines : ℕ → List TreeMessage) (k d e n : ℕ) → d + k ≡ e → e ≤ n →

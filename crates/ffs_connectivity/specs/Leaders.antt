@@ -1,10 +1,10 @@
 -- The directories that represent their cycle of parents: the least of each.
 use Rattle.std.specs.Prelude.{◌≡◌, ℕ, length}
-use Rattle.ffs_volume.specs.Directories.Climb.{leads_cycle}
+use Rattle.ffs_volume.specs.Directories.Climb.{is_leader_within}
 use Rattle.ffs_survey.specs.Cycles.{up_of}
 use Rattle.ffs_workspace.specs.declared.workspace.Workspace.{Workspace}
 use Rattle.ffs_workspace.specs.Holds.{bool_at}
 
 -- the leaders are those of the cycles of its parents
 pub record HasLeaders (w : Workspace) : Type 0 where
-  pub cycles : (x : ℕ) → bool_at w.leaders.items x ≡ leads_cycle (up_of w.parents.items) (length w.parents.items) x
+  pub cycles : (x : ℕ) → bool_at w.leaders.items x ≡ is_leader_within (up_of w.parents.items) (length w.parents.items) x

@@ -12,7 +12,7 @@ use Rattle.ffs_volume.specs.Directories.Volumes.{class_at}
 use Rattle.ffs_volume.specs.Blocks.Owners.{owners_of}
 use Rattle.ffs_volume.specs.Blocks.Claims.{no_claims, after_owners}
 use Rattle.ffs_volume.specs.Groups.Records.{GroupCounts, right_group_counts, right_total, has_right_totals, has_totals}
-use Rattle.ffs_volume.specs.Groups.GroupCheck.{ReportedOnce, group_lines, reported_once, unreported, unless}
+use Rattle.ffs_volume.specs.Groups.GroupCheck.{AlreadyReported, group_lines, reported_once, unreported, unless}
 use Rattle.ffs_volume.specs.Groups.GroupCheck.{phase5_lines, is_free_of_kept}
 use Rattle.ffs_groups.specs.declared.counts.SummaryCounts.{SummaryCounts}
 use Rattle.ffs_groups.specs.Check.{counted}
@@ -29,20 +29,20 @@ use Rattle.ffs_counts.proofs.Sifting.{sifted_append}
 use Rattle.ffs_counts.proofs.Classes.{by_kinds}
 
 -- the lines of n groups from c on, and of the totals, where some were reported before
-abbrev pub rest_lines : Layout → List ℕ → List ℤ → (ℕ → Bool) → (ℕ → Class) → ReportedOnce → ℕ → ℕ → List Message
+abbrev pub rest_lines : Layout → List ℕ → List ℤ → (ℕ → Bool) → (ℕ → Class) → AlreadyReported → ℕ → ℕ → List Message
 rest_lines v image totals free class t c n =
     map of_blocks (reported_once t
     (flat_map (group_lines v image free class) (range_with_len c n) ++ unless (has_right_totals v free class totals)
     FreeCounts))
 
 pub groups_begin : (v : Layout) (image : List ℕ) (totals : List ℤ) (free : ℕ → Bool) (class : ℕ → Class)
-    (t : ReportedOnce) (n : ℕ) → t ≡ unreported → n ≡ v.ncg →
+    (t : AlreadyReported) (n : ℕ) → t ≡ unreported → n ≡ v.ncg →
     map of_blocks (phase5_lines v image totals free class) ≡ rest_lines v image totals free class t 0 n
 unfolding phase5_lines
 groups_begin v image totals free class t n e f = rw (e, f) refl
 
 pub groups_go_on : (v : Layout) (image : List ℕ) (totals : List ℤ) (free : ℕ → Bool) (class : ℕ → Class)
-    (t t' : ReportedOnce) (lines : List BlockMessage) (c n m : ℕ) →
+    (t t' : AlreadyReported) (lines : List BlockMessage) (c n m : ℕ) →
     n ≡ m + 1 → lines ≡ group_lines v image free class c → t' ≡ reported_after t lines →
     rest_lines v image totals free class t c n ≡ map of_blocks (reported_once t lines) ++ rest_lines v image totals free
     class t' (c + 1) m
@@ -57,7 +57,7 @@ groups_go_on v image totals free class t t' lines c n m e is f =
     ∙ sifted_append t t' lines (rest ++ end) f
 
 pub groups_end : (v : Layout) (image : List ℕ) (totals : List ℤ) (free : ℕ → Bool) (class : ℕ → Class)
-    (t : ReportedOnce) (c n : ℕ) (right : Bool) → n ≡ 0 → right ≡ has_right_totals v free class totals →
+    (t : AlreadyReported) (c n : ℕ) (right : Bool) → n ≡ 0 → right ≡ has_right_totals v free class totals →
     rest_lines v image totals free class t c n ≡ map of_blocks (reported_once t (unless right FreeCounts)) ++ []
 groups_end v image totals free class t c n right e f =
     rw (e, f) (sym (append-nil (map of_blocks

@@ -18,7 +18,7 @@ use Rattle.ffs_volume.specs.Blocks.Inodes.{inode_of, is_allocated}
 use Rattle.ffs_volume.specs.Directories.Roles.{is_allocated_inode, is_inode, is_suspect, references}
 use Rattle.ffs_volume.specs.Directories.PathnameCheck.{label_of, attributes, attributes_of}
 use Rattle.ffs_volume.specs.Directories.Volumes.{class_at, marked_at, volume_of, volume_with}
-use Rattle.ffs_volume.specs.Directories.ReferenceCheck.{inode_lines, counted_lines, reference_lines}
+use Rattle.ffs_volume.specs.Directories.ReferenceCheck.{inode_lines, reference_lines_at, reference_lines}
 use Rattle.ffs_volume.specs.Directories.Connectivity.{is_dead}
 use Rattle.ffs_workspace.specs.declared.workspace.Workspace.{Workspace}
 use Rattle.ffs_workspace.specs.Holds.{HoldsClaims, HoldsFindings, bool_at}
@@ -57,12 +57,12 @@ allocated_is v b w i h =
     some_is v b i ∙ ap is_allocated_kind (sym (h.kinds i)) ∙ sym (kind_tests (k == 0) (k == 15) (is_dir_kind k))
 
 pub no_lines : (v : Layout) (b : List ℕ) (w : Workspace) (i : ℕ) → HoldsClaims v b w →
-    is_allocated (class_of_kind (slice_index w.kinds.items i)) ≡ false → counted_lines (volume_of v b) i ≡ []
+    is_allocated (class_of_kind (slice_index w.kinds.items i)) ≡ false → reference_lines_at (volume_of v b) i ≡ []
 no_lines v b w i h e = ap (λ t. if t then inode_lines (volume_of v b) i else []) (allocated_is v b w i h ∙ e)
 
 pub some_lines : (v : Layout) (b : List ℕ) (w : Workspace) (i : ℕ) → HoldsClaims v b w →
     is_allocated (class_of_kind (slice_index w.kinds.items i)) ≡ true →
-    inode_lines (volume_of v b) i ≡ counted_lines (volume_of v b) i
+    inode_lines (volume_of v b) i ≡ reference_lines_at (volume_of v b) i
 some_lines v b w i h e = ap (λ t. if t then inode_lines (volume_of v b) i else []) (sym (allocated_is v b w i h ∙ e))
 
 -- where the count of an allocated inode starts
@@ -128,13 +128,13 @@ skip_none lines (suc k) d n none =
 pub free_lines : (v : Layout) (b : List ℕ) (w : Workspace) (kinds : List ℕ) (d k n : ℕ) → HoldsClaims v b w →
     kinds ≡ w.kinds.items →
     ((j : ℕ) → j < k → is_allocated (class_of_kind (slice_index kinds (d + j))) ≡ false) → d + k ≤ n →
-    map of_tree (lines_from (counted_lines (volume_of v b)) d (n - d))
-    ≡ map of_tree (lines_from (counted_lines (volume_of v b)) (d + k) (n - (d + k)))
+    map of_tree (lines_from (reference_lines_at (volume_of v b)) d (n - d))
+    ≡ map of_tree (lines_from (reference_lines_at (volume_of v b)) (d + k) (n - (d + k)))
 free_lines v b w kinds d k n h e none low =
     let q : n - d ≡ k + (n - (d + k)) = omega (arith, low) in
-    ap (λ (m : ℕ). map of_tree (lines_from (counted_lines (volume_of v b)) d m)) q
+    ap (λ (m : ℕ). map of_tree (lines_from (reference_lines_at (volume_of v b)) d m)) q
     ∙ ap (λ (xs : List TreeMessage). map of_tree xs)
-    (skip_none (counted_lines (volume_of v b)) k d (n - (d + k))
+    (skip_none (reference_lines_at (volume_of v b)) k d (n - (d + k))
     (λ j l. no_lines v b w (d + j) h
     (ap (λ (ks : List ℕ). is_allocated (class_of_kind (slice_index ks (d + j)))) (sym e) ∙ none j l)))
 
@@ -144,15 +144,15 @@ pub same_reported : (dead m m' : Bool) (k k' : ℕ) (attr : Attr) (nlink : ℤ) 
 same_reported dead m m' k k' attr nlink r r' e f g = rw (e, f, g) refl
 
 pub lines_begin : (v : Layout) (b : List ℕ) → map of_tree (reference_lines (volume_of v b))
-    ≡ map of_tree (lines_from (counted_lines (volume_of v b)) 0 (inodes_of v - 0))
+    ≡ map of_tree (lines_from (reference_lines_at (volume_of v b)) 0 (inodes_of v - 0))
 unfolding reference_lines volume_of volume_with
 lines_begin v b = ap (λ (ls : List TreeMessage). map of_tree ls)
-    (all_from (counted_lines (volume_of v b)) (inodes_of v))
+    (all_from (reference_lines_at (volume_of v b)) (inodes_of v))
 
 -- where each link has its reference, nothing is reported
 pub met_lines : (v : Layout) (b : List ℕ) (w : Workspace) (i : ℕ) → i < inodes_of v → HoldsFindings v b w →
     is_allocated (class_of_kind (slice_index w.kinds.items i)) ≡ true → is_met w i ≡ true →
-    counted_lines (volume_of v b) i ≡ []
+    reference_lines_at (volume_of v b) i ≡ []
 met_lines v b w i low f used met =
     let parts = and_parts (slice_index w.references.items i == LINKS_MET) (not (is_dead_by w i)) met in
     let full = eqb-true (slice_index w.references.items i) LINKS_MET parts.0 in

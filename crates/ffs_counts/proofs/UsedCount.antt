@@ -10,7 +10,7 @@ use Rattle.ffs_volume.specs.declared.Layout.{Layout}
 use Rattle.ffs_volume.specs.Disk.Areas.{cgbase, cgstart, cgsblock, cgdmin, is_group_metadata, is_reserved}
 use Rattle.ffs_volume.proofs.AreaLaws.{in_kept, is_kept_group, group_is}
 use Rattle.ffs_volume.specs.Blocks.Claims.{is_set}
-use Rattle.ffs_volume.specs.Disk.Geometry.{IsValidLayout}
+use Rattle.ffs_volume.specs.Disk.Geometry.{IsAcceptedLayout}
 use Rattle.ffs_volume.specs.Groups.Records.{group_size}
 use Rattle.ffs_maps.proofs.Counting.{count_join_at}
 use Rattle.ffs_groups.proofs.Sums.{sum_same}
@@ -39,10 +39,10 @@ any_of false true k h = refl
 any_of false false k (inl e) = absurd (true≢false (sym e))
 any_of false false k (inr e) = absurd (true≢false (sym e))
 
-last_of : (a b : Bool) → ((a || b) || true) ≡ true
-last_of true b = refl
-last_of false true = refl
-last_of false false = refl
+last_length_of : (a b : Bool) → ((a || b) || true) ≡ true
+last_length_of true b = refl
+last_length_of false true = refl
+last_length_of false false = refl
 
 none_of : (a b k : Bool) → a ≡ false → b ≡ false → k ≡ false → ((a || b) || k) ≡ false
 none_of a b k e f g = rw (e, f, g) refl
@@ -58,7 +58,7 @@ first_not : (a b : Bool) → a ≡ false → (a && b) ≡ false
 first_not a b e = rw e refl
 
 -- in group 0, all up to the end of the summary area
-first_reserved : (v : Layout) (f : ℕ) → IsValidLayout v → f < v.csaddr + div_ceil v.cssize v.fsize → is_reserved v f
+first_reserved : (v : Layout) (f : ℕ) → IsAcceptedLayout v → f < v.csaddr + div_ceil v.cssize v.fsize → is_reserved v f
     ≡ true
 unfolding is_reserved
 first_reserved v f g h = elim (cases_lt f v.csaddr) [
@@ -66,7 +66,7 @@ first_reserved v f g h = elim (cases_lt f v.csaddr) [
   | inr past ↦ any_of _ _ (is_group_metadata v f) (inr (both_are _ _ (from_ v.csaddr f past) (before f _ h)))
 ]
 
-kept_in : (v : Layout) (c f : ℕ) → IsValidLayout v → cgbase v c ≤ f → f < cgbase v (c + 1) →
+kept_in : (v : Layout) (c f : ℕ) → IsAcceptedLayout v → cgbase v c ≤ f → f < cgbase v (c + 1) →
     is_group_metadata v f ≡ (nat_lt c v.ncg && in_kept v c f)
 kept_in v c f g low high = is_kept_group v f g ∙ ap (λ j. nat_lt j v.ncg && in_kept v j f) (group_is v c f low high)
 
@@ -74,7 +74,8 @@ pub base_zero : (v : Layout) → cgbase v 0 ≡ 0
 unfolding cgbase
 base_zero v = omega arith
 
-first_free : (v : Layout) (f : ℕ) → IsValidLayout v → v.csaddr + div_ceil v.cssize v.fsize ≤ f → f < cgbase v (0 + 1) →
+first_free : (v : Layout) (f : ℕ) → IsAcceptedLayout v → v.csaddr + div_ceil v.cssize v.fsize ≤ f → f < cgbase v (0 + 1)
+    →
     is_reserved v f ≡ false
 unfolding is_reserved
 first_free v f g low high =
@@ -93,7 +94,7 @@ unfolding cgstart
 parts_up v c = omega arith
 
 -- in any other group, the part that it keeps
-group_reserved : (v : Layout) (c f : ℕ) → IsValidLayout v → c < v.ncg → cgsblock v c ≤ f → f < cgdmin v c →
+group_reserved : (v : Layout) (c f : ℕ) → IsAcceptedLayout v → c < v.ncg → cgsblock v c ≤ f → f < cgdmin v c →
     is_reserved v f ≡ true
 unfolding is_reserved
 group_reserved v c f g h low high =
@@ -105,9 +106,9 @@ group_reserved v c f g h low high =
     (before f (cgdmin v c) high)) in
     ap (λ k. (nat_lt f (cgdmin v 0) || (nat_le v.csaddr f && nat_lt f (v.csaddr + div_ceil v.cssize v.fsize))) || k)
     kept
-    ∙ last_of (nat_lt f (cgdmin v 0)) (nat_le v.csaddr f && nat_lt f (v.csaddr + div_ceil v.cssize v.fsize))
+    ∙ last_length_of (nat_lt f (cgdmin v 0)) (nat_le v.csaddr f && nat_lt f (v.csaddr + div_ceil v.cssize v.fsize))
 
-group_free : (v : Layout) (c f : ℕ) → IsValidLayout v → 1 ≤ c → cgbase v c ≤ f → f < cgbase v (c + 1) →
+group_free : (v : Layout) (c f : ℕ) → IsAcceptedLayout v → 1 ≤ c → cgbase v c ≤ f → f < cgbase v (c + 1) →
     (f < cgsblock v c) ⊎ (cgdmin v c ≤ f) → is_reserved v f ≡ false
 unfolding is_reserved
 group_free v c f g some low high apart =
@@ -149,7 +150,7 @@ none_reserved v used a n all =
     omega (arith, none)
 
 -- ---- a group
-pub used_first : (v : Layout) (used : List Bool) (start end n : ℕ) → IsValidLayout v →
+pub used_first : (v : Layout) (used : List Bool) (start end n : ℕ) → IsAcceptedLayout v →
     start ≡ v.csaddr + div_ceil v.cssize v.fsize → end ≤ cgbase v (0 + 1) → start ≤ end →
     n ≡ count_by (λ f. is_set used f) (range_with_len start (end - start)) →
     n ≡ count_by (is_used v used) (range_with_len 0 (end - 0))
@@ -163,7 +164,7 @@ used_first v used start end n g is within order counted =
     count_join_at (is_used v used) 0 start end (end - start) 0 n (omega arith) (omega (arith, order)) before_ rest in
     omega (arith, whole)
 
-pub used_other : (v : Layout) (used : List Bool) (c end x y : ℕ) → IsValidLayout v → c < v.ncg → 1 ≤ c →
+pub used_other : (v : Layout) (used : List Bool) (c end x y : ℕ) → IsAcceptedLayout v → c < v.ncg → 1 ≤ c →
     end ≤ cgbase v (c + 1) → cgdmin v c ≤ end →
     x ≡ count_by (λ f. is_set used f) (range_with_len (cgbase v c) (cgsblock v c - cgbase v c)) →
     y ≡ count_by (λ f. is_set used f) (range_with_len (cgdmin v c) (end - cgdmin v c)) →
@@ -192,7 +193,7 @@ used_other v used c end x y g h some within order counted counted' =
     omega (arith, whole)
 
 -- ---- the groups one after the other
-pub base_within : (v : Layout) (c : ℕ) → IsValidLayout v → c < v.ncg → min (cgbase v c) v.size ≡ cgbase v c
+pub base_within : (v : Layout) (c : ℕ) → IsAcceptedLayout v → c < v.ncg → min (cgbase v c) v.size ≡ cgbase v c
 unfolding cgbase
 base_within v c g h = omega (
   arith,
@@ -204,7 +205,7 @@ base_within v c g h = omega (
 pub groups_begin : (v : Layout) → min (cgbase v 0) v.size ≡ 0
 groups_begin v = omega (arith, base_zero v)
 
-pub groups_end : (v : Layout) → IsValidLayout v → min (cgbase v v.ncg) v.size ≡ v.size
+pub groups_end : (v : Layout) → IsAcceptedLayout v → min (cgbase v v.ncg) v.size ≡ v.size
 unfolding cgbase
 groups_end v g = omega (arith, g.numbers.size_within, mul_comm v.ncg v.fpg)
 
@@ -212,7 +213,7 @@ base_order : (v : Layout) (c : ℕ) → cgbase v c ≤ cgbase v (c + 1)
 unfolding cgbase
 base_order v c = omega (arith, mul-le v.fpg c v.fpg (c + 1) (omega arith) (omega arith))
 
-pub group_more : (v : Layout) (used : List Bool) (c x y : ℕ) → IsValidLayout v → c < v.ncg →
+pub group_more : (v : Layout) (used : List Bool) (c x y : ℕ) → IsAcceptedLayout v → c < v.ncg →
     x ≡ count_by (is_used v used) (range_with_len 0 (min (cgbase v c) v.size)) →
     y ≡ count_by (is_used v used) (range_with_len (cgbase v c) (group_size v c)) →
     x + y ≡ count_by (is_used v used) (range_with_len 0 (min (cgbase v (c + 1)) v.size))
@@ -226,12 +227,13 @@ group_more v used c x y g h counted counted' =
     ∙ ap (λ j. count_by (is_used v used) (range_with_len 0 j)) end
 
 -- the parts of a group, in their order
-pub parts_order : (v : Layout) (c : ℕ) → IsValidLayout v → c < v.ncg → (cgbase v c ≤ cgsblock v c)
+pub parts_order : (v : Layout) (c : ℕ) → IsAcceptedLayout v → c < v.ncg → (cgbase v c ≤ cgsblock v c)
     × (cgsblock v c ≤ cgdmin v c)
 parts_order v c g h = (parts_up v c, omega (arith, g.parts.super_fits, g.parts.block_fits, g.parts.inodes_fit))
 
 -- where a group ends
-pub group_ends : (v : Layout) (c base n end : ℕ) → IsValidLayout v → c < v.ncg → base ≡ cgbase v c → n ≡ group_size v c
+pub group_ends : (v : Layout) (c base n end : ℕ) → IsAcceptedLayout v → c < v.ncg → base ≡ cgbase v c → n ≡ group_size v
+    c
     → end ≡ base + n → end ≡ min (cgbase v (c + 1)) v.size
 group_ends v c base n end g h e f k = omega (arith, e, f, k, base_within v c g h, base_order v c)
 
@@ -241,7 +243,7 @@ counted_at v used n a b x y e f g = e ∙ ap (λ j. count_by (is_used v used) (r
     ∙ ap (λ j. count_by (is_used v used) (range_with_len x j)) g
 
 -- what the code counts, in group 0 and in another
-pub first_group : (v : Layout) (used : List Bool) (c base m start n : ℕ) → IsValidLayout v → c < v.ncg → c ≡ 0 →
+pub first_group : (v : Layout) (used : List Bool) (c base m start n : ℕ) → IsAcceptedLayout v → c < v.ncg → c ≡ 0 →
     base ≡ cgbase v c → m ≡ group_size v c →
     start ≡ v.csaddr + div_ceil v.cssize v.fsize →
     n ≡ count_by (λ f. is_set used f) (range_with_len start (base + m - start)) →
@@ -255,7 +257,7 @@ first_group v used c base m start n g h z e f is counted =
     (omega (arith, end, next, is, g.summary.summary_in_group, g.summary.summary_in_size)) counted)
     (sym zero_) (omega (arith, e, f, zero_))
 
-pub other_group : (v : Layout) (used : List Bool) (c base m first past x y : ℕ) → IsValidLayout v → c < v.ncg →
+pub other_group : (v : Layout) (used : List Bool) (c base m first past x y : ℕ) → IsAcceptedLayout v → c < v.ncg →
     (c ≡ 0 → ⊥) → base ≡ cgbase v c → m ≡ group_size v c →
     first ≡ cgsblock v c → past ≡ cgdmin v c → x ≡ count_by (λ f. is_set used f) (range_with_len base (first - base)) →
     y ≡ count_by (λ f. is_set used f) (range_with_len past (base + m - past)) →

@@ -2,7 +2,7 @@
 
 ghost use Rattle.std.specs.Prelude.{◌≡◌, ◌<◌, ◌∷◌, map, slice_index, length, true};
 ghost use Rattle.ffs_volume.specs.Messages.Kinds.{of_tree, phase4 as phase4_heading};
-ghost use Rattle.ffs_volume.specs.Directories.ReferenceCheck.{counted_lines, reference_lines};
+ghost use Rattle.ffs_volume.specs.Directories.ReferenceCheck.{reference_lines_at, reference_lines};
 ghost use Rattle.ffs_volume.specs.Directories.Volumes.{volume_of};
 ghost use Rattle.ffs_report.specs.Progress.{progress};
 ghost use Rattle.ffs_phase.specs.Known.{IsContents};
@@ -80,7 +80,7 @@ fn check_inode<I: Image, W: Output>(
         ≡ true }
     ensures runs { PhaseRuns (λ bytes. IsContents (I.device image.old).contents bytes
         × HoldsFindings geometry.now.layout bytes workspace.old)
-        (λ bytes. map of_tree (counted_lines (volume_of geometry.now.layout bytes) number))
+        (λ bytes. map of_tree (reference_lines_at (volume_of geometry.now.layout bytes) number))
         (I.device image.old) (I.device image.new) (progress W.sink report.old)
         (progress W.sink report.new) result }
     ensures stays { StaysReady geometry.now.layout (I.device image.new) workspace.old

@@ -6,7 +6,7 @@ use Rattle.ffs_volume.specs.declared.Layout.{Layout}
 use Rattle.ffs_volume.specs.declared.Order.{Order}
 use Rattle.ffs_volume.specs.declared.SuperFault.{SuperFault}
 use Rattle.ffs_volume.specs.declared.SuperFault.TheVariants.{CannotRead}
-use Rattle.ffs_volume.specs.Disk.Geometry.{IsValidLayout}
+use Rattle.ffs_volume.specs.Disk.Geometry.{IsAcceptedLayout}
 use Rattle.ffs_volume.specs.Disk.Outcome.{copy_place}
 use Rattle.ffs_volume.specs.Disk.Superblock.{layout_of, superblock_of}
 use Rattle.ffs_volume.proofs.AreaLaws.{copy_inside}
@@ -24,7 +24,7 @@ faulted_there old new sector f = record { contents = f.contents; size = f.size; 
 
 -- a copy that isn't read is one whose read fails, since an accepted volume holds its copies
 pub copy_fault : (v : Layout) (old new : Device) (sector : Option ℕ) (order : Order) (bytes : List ℕ)
-    (answer : SuperFault) (at : ℕ) → IsValidLayout v →
+    (answer : SuperFault) (at : ℕ) → IsAcceptedLayout v →
     v ≡ layout_of order bytes → v.size * v.fsize ≤ old.size → is_some sector ≡ false → at ≡ copy_place v →
     IsUnreadCopy old new at answer →
     IsCopyFault old new sector order bytes answer

@@ -2,7 +2,7 @@
 
 ghost use Rattle.std.specs.Prelude.{IsTrue, ◌≡◌, ◌+◌, ◌≤◌, ◌==◌, ◌||◌, slice_index};
 ghost use Rattle.std.specs.List.{list_any};
-ghost use Rattle.ffs_volume.specs.Directories.Entries.{has_valid_content as held, is_valid_record_length as fits, is_valid_name as named};
+ghost use Rattle.ffs_volume.specs.Directories.Entries.{has_valid_type_and_name as held, is_valid_record_length as fits, has_valid_name as named};
 ghost use Rattle.ffs_layout.specs.Entry.{IsEntryAt, has_mark};
 
 use crate::entry::Entry;
@@ -58,7 +58,7 @@ fn has_nul_or_slash(bytes: &[u8]) -> bool
 }
 
 // Whether the record at the place has a name.
-fn is_valid_name(chunk: &[u8; DIRBLKSIZ], place: usize) -> bool
+fn has_valid_name(chunk: &[u8; DIRBLKSIZ], place: usize) -> bool
     requires { place + (8 + slice_index chunk.now (place + 7)) + 1 ≤ 512 }
     ensures { result ≡ named chunk.now place }
 {
@@ -68,13 +68,13 @@ fn is_valid_name(chunk: &[u8; DIRBLKSIZ], place: usize) -> bool
 }
 
 // Whether the record at the place holds its name, and has a type.
-fn has_valid_content(chunk: &[u8; DIRBLKSIZ], place: usize, len: u16) -> bool
+fn has_valid_type_and_name(chunk: &[u8; DIRBLKSIZ], place: usize, len: u16) -> bool
     requires { IsTrue (fits place len) }
     ensures { result ≡ held chunk.now place len }
 {
     DIRENT_HEADER + (usize::from(chunk[place + 7]) + 4) / 4 * 4 <= usize::from(len)
         && chunk[place + 6] <= 15
-        && is_valid_name(chunk, place)
+        && has_valid_name(chunk, place)
 }
 
 /// The well formed entry at a place of a chunk, and None where none is there (dir(5)).
@@ -103,7 +103,7 @@ pub fn entry_at(order: Order, chunk: &[u8; DIRBLKSIZ], place: usize) -> Option<E
             name: &[],
         });
     }
-    if !has_valid_content(chunk, place, length) {
+    if !has_valid_type_and_name(chunk, place, length) {
         return None;
     }
     let name = &chunk[place + DIRENT_HEADER..][..usize::from(chunk[place + 7])];

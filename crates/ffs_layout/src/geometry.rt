@@ -3,7 +3,7 @@
 ghost use Rattle.std.specs.Prelude.{MatchResult, ◌≡◌, ◌<◌, ◌≤◌, ◌*◌, ◌+◌};
 ghost use Rattle.ffs_volume.specs.Disk.Outcome.{layout_fault};
 ghost use Rattle.ffs_volume.specs.Disk.Areas.{cgbase, cgdmin, cgsblock, cgstart, group_place, inode_place, is_run_in_range, is_group_metadata, is_fragment_in_range, is_reserved, summary_place};
-ghost use Rattle.ffs_volume.specs.Disk.Geometry.{IsValidLayout};
+ghost use Rattle.ffs_volume.specs.Disk.Geometry.{IsAcceptedLayout};
 ghost use Rattle.ffs_layout.specs.Accepted.{IsAccepted};
 
 use crate::groups::shift_of;
@@ -17,7 +17,7 @@ use ffs_volume::{Layout, Order, SuperFault};
 #[derive(Clone, Copy, Debug)]
 pub struct Geometry {
     pub layout: Layout,
-    pub ghost sound: { IsValidLayout layout },
+    pub ghost sound: { IsAcceptedLayout layout },
 }
 
 impl Geometry {

@@ -103,25 +103,26 @@ pub struct Super {
 
 impl Super {
     ghost use Rattle.std.specs.Prelude.{◌&&◌, not};
-    ghost use Rattle.ffs_volume.specs.Report.Opening.{is_minfree, is_optimization};
+    ghost use Rattle.ffs_volume.specs.Report.Opening.{has_valid_minfree, has_valid_optim};
 
     /// Whether `optim` is 0 (time) or 1 (space).
     pub fn has_optimization(&self) -> bool
-        ensures { result ≡ is_optimization (seen self.now) }
+        ensures { result ≡ has_valid_optim (seen self.now) }
     {
         0 <= self.optim && self.optim <= 1
     }
 
     /// Whether `minfree` is a percentage from 0 to 99.
     pub fn has_minfree(&self) -> bool
-        ensures { result ≡ is_minfree (seen self.now) }
+        ensures { result ≡ has_valid_minfree (seen self.now) }
     {
         0 <= self.minfree && self.minfree <= 99
     }
 
     /// Whether a setting is not one that it may be, which the opening reports as a defect.
     pub fn opening_defects(&self) -> bool
-        ensures { result ≡ not (is_optimization (seen self.now) && is_minfree (seen self.now)) }
+        ensures { result
+            ≡ not (has_valid_optim (seen self.now) && has_valid_minfree (seen self.now)) }
     {
         !(self.has_optimization() && self.has_minfree())
     }

@@ -8,12 +8,12 @@ use Rattle.ffs_volume.specs.declared.Inode.{Inode}
 use Rattle.ffs_volume.specs.declared.Step.{Step}
 use Rattle.ffs_volume.specs.declared.Step.TheVariants.{Run, Tail, Gap}
 use Rattle.ffs_volume.specs.Disk.Areas.{is_run_in_range}
-use Rattle.ffs_volume.specs.Disk.Geometry.{IsValidLayout}
+use Rattle.ffs_volume.specs.Disk.Geometry.{IsAcceptedLayout}
 use Rattle.ffs_volume.specs.Blocks.Steps.{steps_of}
 use Rattle.ffs_volume.proofs.StepLaws.{Within, within_lower, steps_within}
 use Rattle.ffs_volume.proofs.ChunkLaws.{chunks_few}
 use Rattle.ffs_volume.specs.Directories.Entries.{Chunk, chunks_of, has_gap, bytes_read}
-use Rattle.ffs_volume.specs.Encodings.Replay.{Replay, fresh_replay, is_replayed, replay_step, replayed_steps}
+use Rattle.ffs_volume.specs.Encodings.Replay.{Replay, fresh_replay, is_replayed, replay_after_step, replayed_steps}
 use Rattle.ffs_volume.specs.Encodings.ReplayCounts.{replayed_runs}
 use Rattle.ffs_names.specs.RunCursors.{reading_by}
 
@@ -23,23 +23,24 @@ within_replayed : (v : Layout) (cut : ℕ) (r : Replay) (frag low high : ℕ) (s
 within_replayed v cut r frag low high [] w = w
 within_replayed v cut r frag low high (Run start len (Some block) ∷ steps) w =
     one (is_replayed v cut r (Run start len (Some block)))
-    (within_replayed v cut (replay_step v cut r (Run start len (Some block))) frag (block + 1) high steps w.2)
+    (within_replayed v cut (replay_after_step v cut r (Run start len (Some block))) frag (block + 1) high steps w.2)
   where
     one : (b : Bool) → Within frag (block + 1) high
-        (replayed_steps v cut (replay_step v cut r (Run start len (Some block))) steps)
+        (replayed_steps v cut (replay_after_step v cut r (Run start len (Some block))) steps)
         → Within frag low high ((if b then Run start len (Some block) ∷ [] else [])
-        ++ replayed_steps v cut (replay_step v cut r (Run start len (Some block))) steps)
+        ++ replayed_steps v cut (replay_after_step v cut r (Run start len (Some block))) steps)
     one true h = (w.0, w.1, h)
     one false h = let l = w.0 in
         within_lower frag low (block + 1) high
-        (replayed_steps v cut (replay_step v cut r (Run start len (Some block))) steps) (omega arith) h
+        (replayed_steps v cut (replay_after_step v cut r (Run start len (Some block))) steps) (omega arith) h
 within_replayed v cut r frag low high (Run start len None ∷ steps) w =
     one (is_replayed v cut r (Run start len None))
-    (within_replayed v cut (replay_step v cut r (Run start len None)) frag low high steps w.1)
+    (within_replayed v cut (replay_after_step v cut r (Run start len None)) frag low high steps w.1)
   where
-    one : (b : Bool) → Within frag low high (replayed_steps v cut (replay_step v cut r (Run start len None)) steps)
+    one : (b : Bool) → Within frag low high (replayed_steps v cut (replay_after_step v cut r (Run start len None))
+        steps)
         → Within frag low high ((if b then Run start len None ∷ [] else [])
-        ++ replayed_steps v cut (replay_step v cut r (Run start len None)) steps)
+        ++ replayed_steps v cut (replay_after_step v cut r (Run start len None)) steps)
     one true h = (w.0, h)
     one false h = h
 within_replayed v cut r frag low high (Tail ∷ steps) w =
@@ -64,7 +65,7 @@ all_taken (suc n) [] h = refl
 all_taken (suc n) (x ∷ xs) h = ap (λ ys. x ∷ ys) (all_taken n xs (omega arith))
 
 pub begun : (v v' : Layout) (i : Inode) (b : List ℕ) (cut cut' : ℕ) (r : Replay) (taken : ℕ) (run_cursor : List Chunk)
-    (steps : List Step) → IsValidLayout v
+    (steps : List Step) → IsAcceptedLayout v
     → v' ≡ v → cut' ≡ cut → r ≡ fresh_replay → taken ≡ bytes_read i.size → run_cursor ≡ [] → steps ≡ steps_of v i b
     → take (taken / 512) (run_cursor ++ chunks_of (reading_by v' b taken) (is_run_in_range v')
     (replayed_steps v' cut' r steps))

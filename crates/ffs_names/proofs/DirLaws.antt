@@ -9,9 +9,9 @@ use Rattle.ffs_volume.specs.declared.Inode.{Inode}
 use Rattle.ffs_volume.specs.declared.Class.{Class}
 use Rattle.ffs_volume.specs.declared.Class.TheVariants.{Free, Partial, Unknown, File, Dir}
 use Rattle.ffs_volume.specs.Disk.Areas.{is_run_in_range}
-use Rattle.ffs_volume.specs.Disk.Geometry.{IsValidLayout}
-use Rattle.ffs_volume.specs.Blocks.Inodes.{inode_of, class_of, type_of, is_known_type, is_any_set, is_too_large}
-use Rattle.ffs_volume.specs.Blocks.Inodes.{inode_addresses_used, is_directory}
+use Rattle.ffs_volume.specs.Disk.Geometry.{IsAcceptedLayout}
+use Rattle.ffs_volume.specs.Blocks.Inodes.{inode_of, class_of, type_of, is_known_type, any_nonzero, is_too_large}
+use Rattle.ffs_volume.specs.Blocks.Inodes.{addresses_allowed, is_directory}
 use Rattle.ffs_volume.specs.Blocks.Steps.{steps_of}
 use Rattle.ffs_volume.specs.Directories.Entries.{chunks_of, has_gap, bytes_read}
 use Rattle.ffs_volume.specs.Directories.Roles.{is_dir, roled_chunk, roled_entries}
@@ -46,13 +46,13 @@ below false size e h = absurd (cc)
 pub dir_size : (v : Layout) (i : Inode) → class_of v i ≡ Dir → i.size < 2 ^ 31
 unfolding class_of class_by
 dir_size v i h =
-    let d = dir_by (type_of i.mode == 0) (i.mode == 0 && (i.size == 0 && not (is_any_set i.addresses)))
-    (not (is_known_type (type_of i.mode)) || (is_too_large v i || is_any_set
-    (drop (inode_addresses_used v i) i.addresses)))
+    let d = dir_by (type_of i.mode == 0) (i.mode == 0 && (i.size == 0 && not (any_nonzero i.addresses)))
+    (not (is_known_type (type_of i.mode)) || (is_too_large v i || any_nonzero
+    (drop (addresses_allowed v i) i.addresses)))
     (type_of i.mode == 4) h in
     let a = or_parts (not (is_known_type (type_of i.mode)))
-    (is_too_large v i || is_any_set (drop (inode_addresses_used v i) i.addresses)) d.0 in
-    let e = or_parts (is_too_large v i) (is_any_set (drop (inode_addresses_used v i) i.addresses)) a.1 in
+    (is_too_large v i || any_nonzero (drop (addresses_allowed v i) i.addresses)) d.0 in
+    let e = or_parts (is_too_large v i) (any_nonzero (drop (addresses_allowed v i) i.addresses)) a.1 in
     let f = or_parts (nat_lt ((12 + v.nindir + v.nindir * v.nindir + v.nindir * v.nindir * v.nindir) * v.bsize) i.size)
     (type_of i.mode == 4 && nat_lt 2147483647 i.size) e.0 in
     below (type_of i.mode == 4) i.size d.1 f.1
@@ -71,7 +71,8 @@ unfolding volume_of volume_with
 dir_is v b d h = dir_number (is_inode_number v d) (class_of v (inode_of v b d)) h
 
 -- the entries of a directory
-pub dir_seen : (v : Layout) (b : List ℕ) (d : ℕ) (i : Inode) (cut : ℕ) → IsValidLayout v → is_inode_number v d ≡ true →
+pub dir_seen : (v : Layout) (b : List ℕ) (d : ℕ) (i : Inode) (cut : ℕ) → IsAcceptedLayout v → is_inode_number v d ≡ true
+    →
     i ≡ inode_of v b d → cut ≡ cut_at v b d
     → flat_map roled_chunk (chunks_of (reading_by v b (bytes_read i.size)) (is_run_in_range v)
     (replayed_steps v cut fresh_replay (steps_of v i b))) ≡ roled_entries (volume_of v b) d
@@ -93,7 +94,8 @@ unfolding kind_at
 kind_dirs v b kinds x h = dirs_of_kinds v b kinds x h
 
 -- the shape of a directory
-pub shape_seen : (v : Layout) (b : List ℕ) (d : ℕ) (i : Inode) (cut : ℕ) → IsValidLayout v → is_inode_number v d ≡ true
+pub shape_seen : (v : Layout) (b : List ℕ) (d : ℕ) (i : Inode) (cut : ℕ) → IsAcceptedLayout v → is_inode_number v d ≡
+    true
     → i ≡ inode_of v b d → cut ≡ cut_at v b d
     → (is_right_size i.size &&
     (are_sound (chunks_of (reading_by v b (bytes_read i.size)) (is_run_in_range v)

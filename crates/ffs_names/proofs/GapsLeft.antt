@@ -5,7 +5,7 @@ use Rattle.ffs_volume.specs.declared.Layout.{Layout}
 use Rattle.ffs_volume.specs.declared.Step.{Step}
 use Rattle.ffs_volume.specs.declared.Step.TheVariants.{Run, Tail, Gap}
 use Rattle.ffs_volume.specs.Directories.Entries.{has_gap}
-use Rattle.ffs_volume.specs.Encodings.Replay.{Replay, is_replay_open, is_replayed, replay_step, replayed_steps}
+use Rattle.ffs_volume.specs.Encodings.Replay.{Replay, is_replay_open, is_replayed, replay_after_step, replayed_steps}
 use Rattle.ffs_volume.specs.Encodings.ReplayCounts.{replay_step_by_cut}
 use Rattle.ffs_volume.proofs.ReplayLaws.{counted_same}
 use Rattle.ffs_walk.specs.declared.walk.Walk.{Walk}
@@ -34,8 +34,8 @@ gap_run v cut r start len block steps =
   where
     one : (x : Bool) → has_gap
         ((if x then Run start len block ∷ [] else [])
-        ++ replayed_steps v cut (replay_step v cut r (Run start len block)) steps)
-        ≡ has_gap (replayed_steps v cut (replay_step v cut r (Run start len block)) steps)
+        ++ replayed_steps v cut (replay_after_step v cut r (Run start len block)) steps)
+        ≡ has_gap (replayed_steps v cut (replay_after_step v cut r (Run start len block)) steps)
     one true = refl
     one false = refl
 

@@ -9,7 +9,7 @@ use Rattle.ffs_volume.specs.declared.Step.TheVariants.{Run}
 use Rattle.ffs_volume.specs.Disk.Numbers.{piece}
 use Rattle.ffs_volume.specs.Disk.Areas.{is_run_in_range}
 use Rattle.ffs_volume.specs.Directories.Entries.{Chunk, chunk_of, run_chunks, step_chunks, chunks_of}
-use Rattle.ffs_volume.specs.Encodings.Replay.{Replay, is_replay_open, is_replayed, replay_step, replayed_steps}
+use Rattle.ffs_volume.specs.Encodings.Replay.{Replay, is_replay_open, is_replayed, replay_after_step, replayed_steps}
 use Rattle.ffs_volume.specs.Encodings.ReplayCounts.{replay_step_by_cut, replayed_runs, seen_run}
 use Rattle.ffs_volume.proofs.ReplayLaws.{counted_same}
 use Rattle.ffs_names.specs.declared.run_cursor.RunCursor.{RunCursor}
@@ -36,7 +36,8 @@ run_seen v b taken cut cut' r q steps start len block kept found k n c f =
     ∙ (ap (λ x. part kept ++ chunks (replayed_steps v cut x steps)) n
     ∙ (ap (λ xs. part kept ++ chunks xs) (sym (counted_same v 0 cut r (Run start len block) steps).steps_are)
     ∙ (parted kept ∙ ap (λ x. chunks
-    ((if x then Run start len block ∷ [] else []) ++ replayed_steps v cut (replay_step v cut r (Run start len block))
+    ((if x then Run start len block ∷ [] else []) ++ replayed_steps v cut (replay_after_step v cut r (Run start len
+    block))
     steps)) k))))
   where
     chunks : List Step → List Chunk
@@ -45,9 +46,10 @@ run_seen v b taken cut cut' r q steps start len block kept found k n c f =
     part : Bool → List Chunk
     part x = if x then step_chunks (reading_by v b taken) (is_run_in_range v) (Run start len block) else []
 
-    parted : (x : Bool) → part x ++ chunks (replayed_steps v cut (replay_step v cut r (Run start len block)) steps)
+    parted : (x : Bool) → part x ++ chunks (replayed_steps v cut (replay_after_step v cut r (Run start len block))
+        steps)
         ≡ chunks ((if x then Run start len block ∷ [] else [])
-        ++ replayed_steps v cut (replay_step v cut r (Run start len block)) steps)
+        ++ replayed_steps v cut (replay_after_step v cut r (Run start len block)) steps)
     parted true = refl
     parted false = refl
 
@@ -58,7 +60,8 @@ pub runs_seen : (v : Layout) (cut cut' : ℕ) (r q : Replay) (steps : List Step)
     → CountsOn (runs + replayed_runs v cut r (Run start len block ∷ steps)) (runs' + replayed_runs v cut' q steps)
 runs_seen v cut cut' r q steps start len block runs runs' s n c l =
     let one : seen_run cut r (Run start len block) ≡ 1 = ap (λ x. if x then 1 else 0) s in
-    let same : replayed_runs v cut' q steps ≡ replayed_runs v cut (replay_step v cut r (Run start len block)) steps =
+    let same : replayed_runs v cut' q steps ≡ replayed_runs v cut (replay_after_step v cut r (Run start len block))
+    steps =
     ap (λ x. replayed_runs v x q steps) c
     ∙ (ap (λ x. replayed_runs v cut x steps) n ∙ sym (counted_same v 0 cut r (Run start len block) steps).runs_are) in
     record {

@@ -5,7 +5,7 @@ use Rattle.std.specs.List.{range_with_len}
 use Rattle.std.proofs.Math.Nat.{mul-le-mul_right, mul-le-mul_left}
 use Rattle.ffs_volume.specs.declared.Layout.{Layout}
 use Rattle.ffs_volume.specs.Disk.Areas.{is_run_in_range}
-use Rattle.ffs_volume.specs.Disk.Geometry.{IsValidLayout}
+use Rattle.ffs_volume.specs.Disk.Geometry.{IsAcceptedLayout}
 use Rattle.ffs_volume.specs.Disk.Numbers.{piece}
 use Rattle.ffs_volume.specs.Directories.Entries.{ChunkSource, chunk_of, run_chunks}
 use Rattle.ffs_walk.proofs.Areas.{in_range-below}
@@ -23,20 +23,20 @@ far_behind block bsize taken b s t =
     let p : block * 1 ≤ block * bsize = mul-le-mul_left block s in
     omega arith
 
-pub none_far : (v : Layout) (r : ChunkSource) (start len block : ℕ) → IsValidLayout v → 2147483648 ≤ block →
+pub none_far : (v : Layout) (r : ChunkSource) (start len block : ℕ) → IsAcceptedLayout v → 2147483648 ≤ block →
     r.taken ≤ 2147483648 → run_chunks r start len (block * v.bsize) ≡ []
 none_far v r start len block g b t =
     no_chunks r start len (block * v.bsize) (far_behind block v.bsize r.taken b (omega (arith, g.sizes.bsize_low)) t)
 
 -- a Run in range lies in the volume, and has a block's bytes at most
-pub run_in_volume : (v : Layout) (start len : ℕ) → IsValidLayout v → 0 < len → IsTrue (is_run_in_range v start len) →
+pub run_in_volume : (v : Layout) (start len : ℕ) → IsAcceptedLayout v → 0 < len → IsTrue (is_run_in_range v start len) →
     start * v.fsize + len * v.fsize ≤ v.size * v.fsize
 run_in_volume v start len g some h =
     let below : start + len ≤ v.size = in_range-below v start len g some h in
     let scaled : (start + len) * v.fsize ≤ v.size * v.fsize = mul-le-mul_right v.fsize below in
     omega arith
 
-pub run_in_block : (v : Layout) (len : ℕ) → IsValidLayout v → len ≤ v.frag → len * v.fsize ≤ v.bsize
+pub run_in_block : (v : Layout) (len : ℕ) → IsAcceptedLayout v → len ≤ v.frag → len * v.fsize ≤ v.bsize
 run_in_block v len g short =
     let scaled : len * v.fsize ≤ v.frag * v.fsize = mul-le-mul_right v.fsize short in
     omega (arith, g.sizes.block)

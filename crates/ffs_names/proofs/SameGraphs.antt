@@ -6,18 +6,28 @@ use mathlib.Core.Path.{fun_ext}
 use Rattle.ffs_volume.specs.Directories.Roles.{RoledEntry, refers}
 use Rattle.ffs_volume.specs.Disk.Search.{first_below, some_below}
 use Rattle.ffs_volume.specs.Directories.Climb.{is_value}
-use Rattle.ffs_volume.specs.Directories.Graph.{Graph, entry_names, dir_names, edge, within, level, parent, parent_by}
+use Rattle.ffs_volume.specs.Directories.Graph.{
+  Graph,
+  is_naming_entry,
+  is_naming_dir,
+  edge,
+  within,
+  level,
+  parent,
+  parent_by,
+}
 use Rattle.ffs_survey.specs.Survey.{counted_in, references_below, start_in, IsSurvey}
 
 abbrev graph : ℕ → (ℕ → Bool) → (ℕ → List RoledEntry) → Graph
 graph n d e = record { count = n; is_dir = d; entries = e }
 
 names_same : (n : ℕ) (d : ℕ → Bool) (e f : ℕ → List RoledEntry) → ((s : ℕ) → d s ≡ true → e s ≡ f s) → (s x : ℕ) →
-    dir_names (graph n d e) s x ≡ dir_names (graph n d f) s x
+    is_naming_dir (graph n d e) s x ≡ is_naming_dir (graph n d f) s x
 names_same n d e f h s x = one (d s) refl
   where
-    one : (b : Bool) → d s ≡ b → (d s && list_any (entry_names x) (e s)) ≡ (d s && list_any (entry_names x) (f s))
-    one true b = ap (λ es. d s && list_any (entry_names x) es) (h s b)
+    one : (b : Bool) → d s ≡ b → (d s && list_any (is_naming_entry x) (e s)) ≡ (d s && list_any (is_naming_entry x) (f
+        s))
+    one true b = ap (λ es. d s && list_any (is_naming_entry x) es) (h s b)
     one false b = rw b refl
 
 edge_same : (n : ℕ) (d : ℕ → Bool) (e f : ℕ → List RoledEntry) → ((s : ℕ) → d s ≡ true → e s ≡ f s) → (s x : ℕ) →

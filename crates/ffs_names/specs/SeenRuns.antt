@@ -1,7 +1,7 @@
 -- The Runs that a reading of a directory may look at are those that the block check sees in it.
 use Rattle.std.specs.Prelude.{◌≡◌, ℕ, ◌+◌, true, List}
 use Rattle.ffs_volume.specs.declared.Layout.{Layout}
-use Rattle.ffs_volume.specs.Disk.Geometry.{IsValidLayout}
+use Rattle.ffs_volume.specs.Disk.Geometry.{IsAcceptedLayout}
 use Rattle.ffs_volume.specs.Blocks.Inodes.{inode_of}
 use Rattle.ffs_volume.specs.Blocks.Steps.{steps_of}
 use Rattle.ffs_volume.specs.Blocks.Owners.{owner_of}
@@ -13,7 +13,7 @@ use Rattle.ffs_volume.specs.Encodings.ReplayCounts.{replayed_runs}
 
 -- how many Runs the block check sees in an inode is how many its replay sees
 abbrev pub RunsAreSeen : Type 0
-RunsAreSeen = (v : Layout) (image : List ℕ) (x : ℕ) → IsValidLayout v → is_inode_number v x ≡ true →
+RunsAreSeen = (v : Layout) (image : List ℕ) (x : ℕ) → IsAcceptedLayout v → is_inode_number v x ≡ true →
     (after_owner v (claims_before v image x) (owner_of v image x)).runs
     ≡ (claims_before v image x).runs + replayed_runs v (cut_at v image x) fresh_replay
     (steps_of v (inode_of v image x) image)

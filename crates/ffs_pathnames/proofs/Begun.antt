@@ -10,7 +10,7 @@ use Rattle.ffs_volume.specs.Directories.Graph.{parent}
 use Rattle.ffs_volume.specs.Blocks.Inodes.{inode_of, is_directory}
 use Rattle.ffs_volume.specs.Messages.Kinds.{Message, TreeMessage, of_tree}
 use Rattle.ffs_volume.specs.Directories.Parents.{graph_of}
-use Rattle.ffs_volume.specs.Directories.PathnameCheck.{attributes, are_sound, dir_lines, lines_of_entries}
+use Rattle.ffs_volume.specs.Directories.PathnameCheck.{attributes, are_sound, sized_dir_lines, lines_of_entries}
 use Rattle.ffs_volume.specs.Directories.Paths.{dir_path}
 use Rattle.ffs_volume.specs.Directories.Roles.{Volume, nth_entry, is_dir, is_inode, roled_entries, start_entry}
 use Rattle.ffs_volume.specs.Directories.Volumes.{volume_of, volume_with}
@@ -108,7 +108,7 @@ directory_is v d two h =
 
 -- its lines: first those before its entries, then those of its entries
 pub lines_parts : (v : Volume) (d : ℕ) (ms : List TreeMessage) → lines_of_entries v d 0 (roled_entries v d) ≡ ms →
-    map of_tree (dir_lines v d) ≡ map of_tree (dir_starts v d) ++ map of_tree ms
+    map of_tree (sized_dir_lines v d) ≡ map of_tree (dir_starts v d) ++ map of_tree ms
 unfolding dir_starts
 lines_parts v d ms e =
     ap (map of_tree) (dir_parts v d
@@ -130,12 +130,12 @@ reported_lines v d m dir r = right_reported v d [] (roled_entries v d) (looked v
 
 pub quiet_parts : (v : Volume) (d : ℕ) (m : Marks) → IsDirectory v d → AreRightBefore v d m →
     are_quiet v d m.stamps (roled_entries v d) ≡ true →
-    map of_tree (dir_starts v d) ≡ map of_tree (dir_lines v d)
+    map of_tree (dir_starts v d) ≡ map of_tree (sized_dir_lines v d)
 quiet_parts v d m dir r h =
     sym (lines_parts v d [] (quiet_lines v d m dir r h) ∙ append-nil (map of_tree (dir_starts v d)))
 
 pub reported_parts : (v : Volume) (d : ℕ) (m m' : Marks) → IsDirectory v d → AreRightBefore v d m → m' ≡ looked v d m →
-    map of_tree (dir_lines v d) ≡ map of_tree (dir_starts v d)
+    map of_tree (sized_dir_lines v d) ≡ map of_tree (dir_starts v d)
     ++ map of_tree (entries_reported v d m' (roled_entries v d))
 reported_parts v d m m' dir r e = lines_parts v d (entries_reported v d m' (roled_entries v d))
     (reported_lines v d m dir r ∙ sym (ap (λ k. entries_reported v d k (roled_entries v d)) e))

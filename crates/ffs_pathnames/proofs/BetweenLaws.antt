@@ -10,7 +10,7 @@ use Rattle.ffs_volume.specs.Disk.Search.{some_below}
 use Rattle.ffs_volume.proofs.SearchLaws.{some_below-suc, first_below-some}
 use Rattle.ffs_volume.specs.Directories.Climb.{is_value}
 use Rattle.ffs_volume.proofs.ClimbLaws.{is_value-true}
-use Rattle.ffs_volume.specs.Directories.Graph.{Graph, entry_names, dir_names, edge, level, level_edge, parent}
+use Rattle.ffs_volume.specs.Directories.Graph.{Graph, is_naming_entry, is_naming_dir, edge, level, level_edge, parent}
 use Rattle.ffs_volume.specs.Directories.Graph.{parent_by}
 use Rattle.ffs_volume.specs.Directories.Parents.{graph_of}
 use Rattle.ffs_pathnames.specs.Marks.{Marks, after_roled, after_name, after_entries, belongs, after_look, after_looks}
@@ -21,24 +21,24 @@ use Rattle.ffs_pathnames.proofs.MarkLaws.{IsDirectory, or_false, and_false, righ
 use Rattle.ffs_pathnames.proofs.LookLaws.{AreStamped, stamped_all, looks_all_long, suspects_unnamed}
 
 -- the parent of a directory names it
-parent_names : (g : Graph) (x s : ℕ) → x ≢ 2 → parent g x ≡ Some s → dir_names g s x ≡ true
+parent_names : (g : Graph) (x s : ℕ) → x ≢ 2 → parent g x ≡ Some s → is_naming_dir g s x ≡ true
 unfolding parent
 parent_names g x s n e = go (level g x) (sym (cond-false (x == 2) (Some 2) (parent_by g x (level g x)) (ne_eqb x 2 n))
     ∙ e)
   where
-    go : (o : Option ℕ) → parent_by g x o ≡ Some s → dir_names g s x ≡ true
-    go None h = (and_parts (g.is_dir x) (dir_names g s x) (first_below-some (λ s. edge g s x) g.count s h).passes).1
+    go : (o : Option ℕ) → parent_by g x o ≡ Some s → is_naming_dir g s x ≡ true
+    go None h = (and_parts (g.is_dir x) (is_naming_dir g s x) (first_below-some (λ s. edge g s x) g.count s h).passes).1
     go (Some zero) h = absurd (cc)
     go (Some (suc k)) h =
-        (and_parts (g.is_dir x) (dir_names g s x)
+        (and_parts (g.is_dir x) (is_naming_dir g s x)
         (and_parts (is_value (level g s) k) (edge g s x)
         (first_below-some (level_edge g k x) g.count s h).passes).1).1
 
-belongs_named : (v : Volume) (s x : ℕ) → belongs v s x ≡ true → list_any (entry_names x) (roled_entries v s) ≡ true
+belongs_named : (v : Volume) (s x : ℕ) → belongs v s x ≡ true → list_any (is_naming_entry x) (roled_entries v s) ≡ true
 belongs_named v s x h =
     let a = and_parts (is_dir v x) (not (x == 2) && is_value (parent (graph_of v) x) s) h in
     let b = and_parts (not (x == 2)) (is_value (parent (graph_of v) x) s) a.1 in
-    (and_parts (is_dir v s) (list_any (entry_names x) (roled_entries v s))
+    (and_parts (is_dir v s) (list_any (is_naming_entry x) (roled_entries v s))
     (parent_names (graph_of v) x s (λ z. other x z b.0) (is_value-true (parent (graph_of v) x) s b.1))).1
   where
     other : (x : ℕ) → x ≡ 2 → not (x == 2) ≡ true → ⊥
@@ -53,18 +53,18 @@ unstamped v s m r x h =
 abbrev pub looked : Volume → ℕ → Marks → Marks
 looked v s m = record { passed = m.passed; stamps = after_looks v s m.stamps (roled_entries v s) }
 
-due_is : (v : Volume) (s x : ℕ) → (belongs v s x && list_any (entry_names x) (roled_entries v s))
+due_is : (v : Volume) (s x : ℕ) → (belongs v s x && list_any (is_naming_entry x) (roled_entries v s))
     ≡ (belongs v s x && true)
 due_is v s x = one (belongs v s x) refl
   where
-    one : (b : Bool) → belongs v s x ≡ b → (b && list_any (entry_names x) (roled_entries v s)) ≡ (b && true)
+    one : (b : Bool) → belongs v s x ≡ b → (b && list_any (is_naming_entry x) (roled_entries v s)) ≡ (b && true)
     one true h = belongs_named v s x h
     one false h = refl
 
 -- once s is looked at, the marks are right before its first entry
 pub looked_right : (v : Volume) (s : ℕ) (m : Marks) → AreRightBefore v s m → AreRight v s [] (looked v s m)
 looked_right v s m r = record {
-  passed = λ x h q n o. r.passed x h q n o ∙ sym (or_false (some_below (λ t. dir_names (graph_of v) t x) s));
+  passed = λ x h q n o. r.passed x h q n o ∙ sym (or_false (some_below (λ t. is_naming_dir (graph_of v) t x) s));
   due = λ x h. stamped_all v s [] (roled_entries v s) m.stamps r.stamps_length (unstamped v s m r) x h ∙ due_is v s x;
   passed_length = r.passed_length;
   stamps_length = looks_all_long v s (roled_entries v s) m.stamps ∙ r.stamps_length;
@@ -162,9 +162,9 @@ reported_next v s m d r =
     let whole = right_end v s [] (roled_entries v s) (looked v s m) d.from_two (looked_right v s m r) in
     record {
       passed = λ x h q n o. whole.passed x h q n o
-          ∙ sym (some_below-suc (λ t. dir_names (graph_of v) t x) s
-          ∙ ap (λ b. some_below (λ t. dir_names (graph_of v) t x) s ||
-          (b && list_any (entry_names x) (roled_entries v s)))
+          ∙ sym (some_below-suc (λ t. is_naming_dir (graph_of v) t x) s
+          ∙ ap (λ b. some_below (λ t. is_naming_dir (graph_of v) t x) s ||
+          (b && list_any (is_naming_entry x) (roled_entries v s)))
           d.dir);
       stamps = λ x h. small_next s _
           (entries_small v s (roled_entries v s) (looked v s m) x
@@ -183,11 +183,11 @@ pub quiet_next : (v : Volume) (s : ℕ) (m : Marks) → IsDirectory v s → AreR
     are_quiet v s m.stamps (roled_entries v s) ≡ true → AreRightBefore v (suc s) (looked v s m)
 quiet_next v s m d r h = record {
   passed = λ x l q n o. r.passed x l q n o
-      ∙ sym (some_below-suc (λ t. dir_names (graph_of v) t x) s
-      ∙ (ap (λ b. some_below (λ t. dir_names (graph_of v) t x) s || (is_dir v s && b))
+      ∙ sym (some_below-suc (λ t. is_naming_dir (graph_of v) t x) s
+      ∙ (ap (λ b. some_below (λ t. is_naming_dir (graph_of v) t x) s || (is_dir v s && b))
       (suspects_unnamed v s (roled_entries v s) m.stamps x h q n)
-      ∙ (ap (λ b. some_below (λ t. dir_names (graph_of v) t x) s || b) (and_false (is_dir v s))
-      ∙ or_false (some_below (λ t. dir_names (graph_of v) t x) s))));
+      ∙ (ap (λ b. some_below (λ t. is_naming_dir (graph_of v) t x) s || b) (and_false (is_dir v s))
+      ∙ or_false (some_below (λ t. is_naming_dir (graph_of v) t x) s))));
   stamps = λ x l. small_next s _ (looks_small v s (roled_entries v s) m.stamps x (small x (r.stamps x l)));
   passed_length = r.passed_length;
   stamps_length = looks_all_long v s (roled_entries v s) m.stamps ∙ r.stamps_length;
@@ -199,13 +199,13 @@ quiet_next v s m d r h = record {
 
 -- after an inode that names no suspect, and isn't looked at
 pub other_next : (v : Volume) (s : ℕ) (m : Marks) →
-    ((x : ℕ) → is_suspect v x ≡ true → x ≢ 1 → dir_names (graph_of v) s x ≡ false) → AreRightBefore v s m →
+    ((x : ℕ) → is_suspect v x ≡ true → x ≢ 1 → is_naming_dir (graph_of v) s x ≡ false) → AreRightBefore v s m →
     AreRightBefore v (suc s) m
 other_next v s m none r = record {
   passed = λ x h q n o. r.passed x h q n o
-      ∙ sym (some_below-suc (λ t. dir_names (graph_of v) t x) s
-      ∙ (ap (λ b. some_below (λ t. dir_names (graph_of v) t x) s || b) (none x q n)
-      ∙ or_false (some_below (λ t. dir_names (graph_of v) t x) s)));
+      ∙ sym (some_below-suc (λ t. is_naming_dir (graph_of v) t x) s
+      ∙ (ap (λ b. some_below (λ t. is_naming_dir (graph_of v) t x) s || b) (none x q n)
+      ∙ or_false (some_below (λ t. is_naming_dir (graph_of v) t x) s)));
   stamps = λ x h. small_next s _ (small x (r.stamps x h));
   passed_length = r.passed_length;
   stamps_length = r.stamps_length;

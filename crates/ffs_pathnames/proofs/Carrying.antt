@@ -6,12 +6,13 @@ use Rattle.std.specs.List.{list_any}
 use Rattle.ffs_volume.specs.declared.Layout.{Layout}
 use Rattle.ffs_volume.specs.declared.Class.{Class}
 use Rattle.ffs_volume.specs.declared.Class.TheVariants.{Free, Partial, Unknown, File, Dir}
-use Rattle.ffs_volume.specs.Disk.Geometry.{IsValidLayout}
-use Rattle.ffs_volume.specs.Directories.Graph.{entry_names, dir_names}
+use Rattle.ffs_volume.specs.Disk.Geometry.{IsAcceptedLayout}
+use Rattle.ffs_volume.specs.Directories.Graph.{is_naming_entry, is_naming_dir}
 use Rattle.ffs_volume.specs.Messages.Kinds.{TreeMessage, of_tree, lines_below, reported, root_none, root_not_dir}
 use Rattle.ffs_volume.specs.Messages.Kinds.{root_suspect, lines_from}
 use Rattle.ffs_volume.specs.Directories.Parents.{graph_of}
-use Rattle.ffs_volume.specs.Directories.PathnameCheck.{dir_lines, continues_after_root, lines_of, pathname_lines}
+use Rattle.ffs_volume.specs.Directories.PathnameCheck.{sized_dir_lines, continues_after_root, directory_lines}
+use Rattle.ffs_volume.specs.Directories.PathnameCheck.{pathname_lines}
 use Rattle.ffs_volume.specs.Directories.PathnameCheck.{root_lines, root_lines_of}
 use Rattle.ffs_volume.specs.Blocks.Inodes.{is_directory, is_allocated}
 use Rattle.ffs_volume.specs.Directories.Roles.{Volume, is_dir, is_suspect, roled_entries}
@@ -94,8 +95,9 @@ clear_right : (v : Layout) (b : List ℕ) (old w : Workspace) → IsFor v w → 
     AreRightBefore (volume_of v b) 2 (marks_of w)
 unfolding volume_of volume_with
 clear_right v b old w m c silent = record {
-  passed = λ x h q n o. c.passed x ∙ sym (some_below-none (λ t. dir_names (graph_of (volume_of v b)) t x) 2
-      (λ t l. ap (λ d. d && list_any (entry_names x) (roled_entries (volume_of v b) t)) (low_dir (volume_of v b) t l)));
+  passed = λ x h q n o. c.passed x ∙ sym (some_below-none (λ t. is_naming_dir (graph_of (volume_of v b)) t x) 2
+      (λ t l. ap (λ d. d && list_any (is_naming_entry x) (roled_entries (volume_of v b) t)) (low_dir (volume_of v b) t
+      l)));
   stamps = λ x h. flag_small (bool_at old.leaders.items x) _ (c.stamps x);
   passed_length = sym w.leaders.ok.0 ∙ m.leaders;
   stamps_length = sym w.queue.ok.0 ∙ m.queue;
@@ -124,15 +126,16 @@ directory_context v contents w d b e k = record {
 
 pub lines_looked : (v : Layout) (contents : Option (List ℕ)) (w : Workspace) (d : ℕ) (b : List ℕ) →
     (slice_index w.kinds.items d == 4) ≡ true → IsBefore v contents w d b →
-    lines_of (volume_of v b) d ≡ dir_lines (volume_of v b) d
+    directory_lines (volume_of v b) d ≡ sized_dir_lines (volume_of v b) d
 lines_looked v contents w d b e k =
-    ap (λ l. if l then dir_lines (volume_of v b) d else []) (looked_is v b d ∙ kind_known v b w d true k.claims e)
+    ap (λ l. if l then sized_dir_lines (volume_of v b) d else []) (looked_is v b d ∙ kind_known v b w d true k.claims e)
 
 pub lines_other : (v : Layout) (contents : Option (List ℕ)) (w : Workspace) (d : ℕ) (b : List ℕ) →
     (slice_index w.kinds.items d == 4) ≡ false → IsBefore v contents w d b →
-    lines_of (volume_of v b) d ≡ []
+    directory_lines (volume_of v b) d ≡ []
 lines_other v contents w d b e k =
-    ap (λ l. if l then dir_lines (volume_of v b) d else []) (looked_is v b d ∙ kind_known v b w d false k.claims e)
+    ap (λ l. if l then sized_dir_lines (volume_of v b) d else [])
+    (looked_is v b d ∙ kind_known v b w d false k.claims e)
 
 -- the next inode
 pub before_next : (v : Layout) (contents : Option (List ℕ)) (old new : Workspace) (d : ℕ) (b : List ℕ) →
@@ -145,7 +148,7 @@ before_next v contents old new d b s r k = record {
   marks = r;
 }
 
-pub before_other : (v : Layout) (contents : Option (List ℕ)) (w : Workspace) (d : ℕ) (b : List ℕ) → IsValidLayout v →
+pub before_other : (v : Layout) (contents : Option (List ℕ)) (w : Workspace) (d : ℕ) (b : List ℕ) → IsAcceptedLayout v →
     (slice_index w.kinds.items d == 4) ≡ false → IsBefore v contents w d b →
     IsBefore v contents w (suc d) b
 before_other v contents w d b g e k = record {
@@ -159,7 +162,7 @@ before_other v contents w d b g e k = record {
 -- a directory that is left out
 pub lines_left_out : (v : Layout) (contents : Option (List ℕ)) (w : Workspace) (d : ℕ) (b : List ℕ) → 2 ≤ d →
     (slice_index w.kinds.items d == 4) ≡ true → slice_index w.queue.items d ≡ 1 → IsBefore v contents w d b →
-    map of_tree (lines_of (volume_of v b) d) ≡ []
+    map of_tree (directory_lines (volume_of v b) d) ≡ []
 lines_left_out v contents w d b two e stamp k =
     let silent = k.marks.calm d stamp in
     let dir = directory_is (volume_of v b) d two (directory_context v contents w d b e k).dir in
@@ -175,13 +178,14 @@ left_out false b h e = absurd (cc)
 -- an inode that isn't looked at, or is left out
 pub lines_skipped : (v : Layout) (contents : Option (List ℕ)) (w : Workspace) (d : ℕ) (b : List ℕ) → 2 ≤ d →
     ((slice_index w.kinds.items d == 4) && not (slice_index w.queue.items d == 1)) ≡ false → IsBefore v contents w d b →
-    map of_tree (lines_of (volume_of v b) d) ≡ []
+    map of_tree (directory_lines (volume_of v b) d) ≡ []
 lines_skipped v contents w d b two h k = elim (cases_Bool (slice_index w.kinds.items d == 4)) [
   | inl e ↦ lines_left_out v contents w d b two e (eqb-true (slice_index w.queue.items d) 1 (left_out _ _ h e)) k
   | inr e ↦ ap (map of_tree) (lines_other v contents w d b e k)
 ]
 
-pub before_skipped : (v : Layout) (contents : Option (List ℕ)) (w : Workspace) (d : ℕ) (b : List ℕ) → IsValidLayout v →
+pub before_skipped : (v : Layout) (contents : Option (List ℕ)) (w : Workspace) (d : ℕ) (b : List ℕ) → IsAcceptedLayout v
+    →
     ((slice_index w.kinds.items d == 4) && not (slice_index w.queue.items d == 1)) ≡ false → IsBefore v contents w d b →
     IsBefore v contents w (suc d) b
 before_skipped v contents w d b g h k = elim (cases_Bool (slice_index w.kinds.items d == 4)) [
@@ -239,12 +243,13 @@ root_is v b w k m e f h =
     ∙ root_by (volume_of v b) (class_at v b 2) (kind_at v b 2) (marked_at v b 2) t.dir t.allocated (suspect_is v b 2))
 
 -- the kind and the mark of the root, as they are read
-pub root_kind_is : (v : Layout) (w : Workspace) (k : ℕ) → IsValidLayout v → IsFor v w → k ≡ get_or w.kinds.items 2 k →
+pub root_kind_is : (v : Layout) (w : Workspace) (k : ℕ) → IsAcceptedLayout v → IsFor v w → k ≡ get_or w.kinds.items 2 k
+    →
     k ≡ slice_index w.kinds.items 2
 root_kind_is v w k g made e =
     let some = some_inodes v g in e ∙ get_or_default w.kinds.items 2 k 0 (omega (arith, made.kinds, w.kinds.ok.0))
 
-pub root_marked_is : (v : Layout) (w : Workspace) (m : Bool) → IsValidLayout v → IsFor v w →
+pub root_marked_is : (v : Layout) (w : Workspace) (m : Bool) → IsAcceptedLayout v → IsFor v w →
     m ≡ get_or w.marked.items 2 m → m ≡ bool_at w.marked.items 2
 root_marked_is v w m g made e =
     let some = some_inodes v g in e ∙ get_or_default w.marked.items 2 m false
@@ -257,19 +262,19 @@ goes_is v b w k e h = ap is_dir_kind (e ∙ h.kinds 2) ∙ sym (reports_at v b 2
 
 -- all that is reported
 abbrev pub tree_lines : Layout → List ℕ → Bool → List TreeMessage
-tree_lines v b goes = if goes then lines_from (lines_of (volume_of v b)) 2 (inodes_of v - 2) else []
+tree_lines v b goes = if goes then lines_from (directory_lines (volume_of v b)) 2 (inodes_of v - 2) else []
 
-lines_begin : (v : Layout) (b : List ℕ) → lines_below (lines_of (volume_of v b)) (volume_of v b).count
-    ≡ lines_from (lines_of (volume_of v b)) 2 (inodes_of v - 2)
+lines_begin : (v : Layout) (b : List ℕ) → lines_below (directory_lines (volume_of v b)) (volume_of v b).count
+    ≡ lines_from (directory_lines (volume_of v b)) 2 (inodes_of v - 2)
 unfolding volume_of volume_with
-lines_begin v b = all_from_root (lines_of (volume_of v b)) (inodes_of v) refl refl
+lines_begin v b = all_from_root (directory_lines (volume_of v b)) (inodes_of v) refl refl
 
 pub tree_is : (v : Layout) (b : List ℕ) (w : Workspace) (k : ℕ) (m goes : Bool) → k ≡ slice_index w.kinds.items 2 →
     m ≡ bool_at w.marked.items 2 → HoldsClaims v b w → goes ≡ is_dir_kind k →
     map of_tree (pathname_lines (volume_of v b)) ≡ map of_tree (root_said k m) ++ map of_tree (tree_lines v b goes)
 unfolding pathname_lines
 tree_is v b w k m goes e f h q =
-    let lines = lines_of (volume_of v b) in
+    let lines = directory_lines (volume_of v b) in
     ap (λ r. map of_tree (r ++ (if continues_after_root (volume_of v b) then lines_below lines (volume_of v b).count
     else []))) (sym (root_is v b w k m e f h))
     ∙ (ap (λ g. map of_tree (root_said k m ++ (if g then lines_below lines (volume_of v b).count else [])))

@@ -3,7 +3,7 @@ use Rattle.std.proofs.Common.{◌≡◌, ap, ◌∙◌, ℕ, true, List}
 use Rattle.std.specs.List.{flat_map}
 use Rattle.ffs_volume.specs.declared.Layout.{Layout}
 use Rattle.ffs_volume.specs.declared.Inode.{Inode}
-use Rattle.ffs_volume.specs.Disk.Geometry.{IsValidLayout}
+use Rattle.ffs_volume.specs.Disk.Geometry.{IsAcceptedLayout}
 use Rattle.ffs_volume.specs.Disk.Areas.{is_run_in_range}
 use Rattle.ffs_volume.specs.Blocks.Inodes.{inode_of}
 use Rattle.ffs_volume.specs.Blocks.Steps.{steps_of}
@@ -15,7 +15,8 @@ use Rattle.ffs_volume.specs.Directories.Volumes.{is_inode_number, volume_of, vol
 use Rattle.ffs_names.specs.RunCursors.{reading_by}
 use Rattle.ffs_pathnames.specs.Reads.{chunks_read}
 
-pub chunks_are : (v : Layout) (b : List ℕ) (d : ℕ) (i : Inode) (cut : ℕ) → IsValidLayout v → is_inode_number v d ≡ true
+pub chunks_are : (v : Layout) (b : List ℕ) (d : ℕ) (i : Inode) (cut : ℕ) → IsAcceptedLayout v → is_inode_number v d ≡
+    true
     → i ≡ inode_of v b d → cut ≡ cut_at v b d →
     chunks_read v i cut b ≡ (volume_of v b).chunks d
 unfolding chunks_read volume_of volume_with chunk_source_of
@@ -26,7 +27,7 @@ chunks_are v b d i cut g n e c =
     (replayed_steps v x fresh_replay (steps_of v (inode_of v b d) b))) c
     ∙ ap (chunks_of (reading_by v b (bytes_read (inode_of v b d).size)) (is_run_in_range v)) (replay_at v b d g n))
 
-pub gap_is : (v : Layout) (b : List ℕ) (d : ℕ) (i : Inode) (cut : ℕ) → IsValidLayout v → is_inode_number v d ≡ true →
+pub gap_is : (v : Layout) (b : List ℕ) (d : ℕ) (i : Inode) (cut : ℕ) → IsAcceptedLayout v → is_inode_number v d ≡ true →
     i ≡ inode_of v b d → cut ≡ cut_at v b d →
     has_gap (replayed_steps v cut fresh_replay (steps_of v i b)) ≡ (volume_of v b).gap d
 unfolding volume_of volume_with

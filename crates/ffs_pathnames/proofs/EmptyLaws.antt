@@ -6,13 +6,13 @@ use Rattle.std.proofs.lemmas.Bool.{eqb-true}
 use Rattle.std.proofs.lemmas.Bool.Decides.{nat_tests}
 use Rattle.ffs_volume.specs.declared.Layout.{Layout}
 use Rattle.ffs_volume.specs.Disk.Areas.{is_run_in_range}
-use Rattle.ffs_volume.specs.Disk.Geometry.{IsValidLayout}
+use Rattle.ffs_volume.specs.Disk.Geometry.{IsAcceptedLayout}
 use Rattle.ffs_volume.specs.Blocks.Inodes.{inode_of}
-use Rattle.ffs_volume.specs.Blocks.Claims.{next_inode}
+use Rattle.ffs_volume.specs.Blocks.Claims.{at_next_inode}
 use Rattle.ffs_volume.specs.Blocks.KeptSteps.{kept_steps, kept_steps_of, claims_before}
 use Rattle.ffs_volume.specs.Directories.Entries.{chunks_of}
 use Rattle.ffs_volume.specs.Directories.Roles.{is_dir, roled_chunk, roled_entries}
-use Rattle.ffs_volume.specs.Directories.Graph.{entry_names, dir_names}
+use Rattle.ffs_volume.specs.Directories.Graph.{is_naming_entry, is_naming_dir}
 use Rattle.ffs_volume.specs.Directories.Parents.{graph_of}
 use Rattle.ffs_volume.specs.Directories.PathnameCheck.{is_looked_at}
 use Rattle.ffs_volume.specs.Directories.Volumes.{is_inode_number, kept_steps_of_inode, chunk_source_of, volume_with}
@@ -26,11 +26,11 @@ unfolding kept_steps_of
 none_kept v b d h z = one (is_inode_number v d)
   where
     one : (n : Bool) → (if n then kept_steps_of v b d else []) ≡ []
-    one true = ap (kept_steps v (next_inode (claims_before v b d))) (no_steps v b (inode_of v b d) h z)
+    one true = ap (kept_steps v (at_next_inode (claims_before v b d))) (no_steps v b (inode_of v b d) h z)
     one false = refl
 
 -- no entries where the size is 0
-none_seen : (v : Layout) (b : List ℕ) (d : ℕ) → IsValidLayout v → ((volume_of v b).inode d).size ≡ 0 →
+none_seen : (v : Layout) (b : List ℕ) (d : ℕ) → IsAcceptedLayout v → ((volume_of v b).inode d).size ≡ 0 →
     roled_entries (volume_of v b) d ≡ []
 unfolding volume_of volume_with roled_entries
 none_seen v b d g z =
@@ -59,13 +59,13 @@ pub looked_dir : (v : Layout) (b : List ℕ) (d : ℕ) → (kind_at v b d == 4) 
 looked_dir v b d h = looked_parts (is_dir (volume_of v b) d) (((volume_of v b).inode d).size == 0) (looked_is v b d ∙ h)
 
 -- an inode that isn't looked at names nothing
-pub names_none : (v : Layout) (b : List ℕ) (d : ℕ) → IsValidLayout v → (kind_at v b d == 4) ≡ false → (x : ℕ) →
-    dir_names (graph_of (volume_of v b)) d x ≡ false
+pub names_none : (v : Layout) (b : List ℕ) (d : ℕ) → IsAcceptedLayout v → (kind_at v b d == 4) ≡ false → (x : ℕ) →
+    is_naming_dir (graph_of (volume_of v b)) d x ≡ false
 names_none v b d g h x =
     go (is_dir (volume_of v b) d) (((volume_of v b).inode d).size == 0) refl (looked_is v b d ∙ h)
   where
     go : (dir empty : Bool) → (((volume_of v b).inode d).size == 0) ≡ empty → (dir && not empty) ≡ false →
-        (dir && list_any (entry_names x) (roled_entries (volume_of v b) d)) ≡ false
+        (dir && list_any (is_naming_entry x) (roled_entries (volume_of v b) d)) ≡ false
     go false empty e f = refl
-    go true true e f = ap (list_any (entry_names x)) (none_seen v b d g (eqb-true _ 0 e))
+    go true true e f = ap (list_any (is_naming_entry x)) (none_seen v b d g (eqb-true _ 0 e))
     go true false e f = let no_way : true ≡ false = f in absurd (cc)

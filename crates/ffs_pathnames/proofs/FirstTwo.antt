@@ -8,7 +8,7 @@ use Rattle.std.proofs.lemmas.Bool.{cases_eq, ne_eqb, eq-eqb, and_parts, both_way
 use Rattle.ffs_volume.specs.declared.Order.{Order}
 use Rattle.ffs_volume.specs.Directories.Climb.{is_value}
 use Rattle.ffs_volume.specs.Directories.Entries.{Entry, entry_at, entries_of, entries_from}
-use Rattle.ffs_volume.specs.Directories.Graph.{Graph, dir_names, edge, level, level_edge, parent, parent_by}
+use Rattle.ffs_volume.specs.Directories.Graph.{Graph, is_naming_dir, edge, level, level_edge, parent, parent_by}
 use Rattle.ffs_volume.specs.Directories.Parents.{graph_of}
 use Rattle.ffs_volume.specs.Directories.Roles.{Volume, nth_entry}
 use Rattle.ffs_volume.proofs.SearchLaws.{first_below-some}
@@ -45,7 +45,7 @@ parent_dir g x s n e = go (level g x) (sym (cond-false (x == 2) (Some 2) (parent
     ∙ e)
   where
     inside : edge g s x ≡ true → g.is_dir s ≡ true
-    inside h = (and_parts (g.is_dir s) _ (and_parts (g.is_dir x) (dir_names g s x) h).1).0
+    inside h = (and_parts (g.is_dir s) _ (and_parts (g.is_dir x) (is_naming_dir g s x) h).1).0
 
     go : (o : Option ℕ) → parent_by g x o ≡ Some s → g.is_dir s ≡ true
     go None h = inside (first_below-some (λ s. edge g s x) g.count s h).passes

@@ -6,9 +6,9 @@ use Rattle.ffs_volume.specs.Directories.Graph.{parent}
 use Rattle.ffs_volume.specs.Directories.Parents.{graph_of}
 use Rattle.ffs_volume.specs.Directories.Paths.{dir_path}
 use Rattle.ffs_volume.specs.Messages.Kinds.{reported, dir_short, dir_length}
-use Rattle.ffs_volume.specs.Directories.PathnameCheck.{attributes, is_short, is_not_multiple, are_sound, shape_lines}
+use Rattle.ffs_volume.specs.Directories.PathnameCheck.{attributes, is_short, has_partial_chunk, are_sound, shape_lines}
 use Rattle.ffs_volume.specs.Directories.PathnameCheck.{dot_lines, dotdot_lines, dot_lines_of, dotdot_lines_of}
-use Rattle.ffs_volume.specs.Directories.PathnameCheck.{lines_of_entries, dir_lines}
+use Rattle.ffs_volume.specs.Directories.PathnameCheck.{lines_of_entries, sized_dir_lines}
 use Rattle.ffs_pathnames.specs.Header.{chunks_reported, shape_reported, dot_in, dotdot_in, dot_said, dotdot_said}
 use Rattle.ffs_pathnames.specs.Header.{dots_reported, header_reported}
 
@@ -17,7 +17,7 @@ shape_is : (v : Volume) (d : ℕ) → shape_lines v d ≡ shape_reported (attrib
 unfolding shape_lines attributes
 shape_is v d = sym (append_assoc
     (reported (is_short v d) (dir_short (attributes v d) (dir_path (graph_of v) d)))
-    (reported (is_not_multiple v d) (dir_length (dir_path (graph_of v) d) (v.inode d).size))
+    (reported (has_partial_chunk v d) (dir_length (dir_path (graph_of v) d) (v.inode d).size))
     (chunks_reported (attributes v d) (dir_path (graph_of v) d) (v.gap d) (are_sound (v.chunks d))))
 
 dot_is : (v : Volume) (d : ℕ) → dot_lines v d ≡ dot_said (attributes v d) (dir_path (graph_of v) d) d
@@ -42,10 +42,10 @@ dotdot_is v d = one (dotdot_in (start_entry v d 1))
 
 -- first what is reported before the entries, then what is reported of them
 pub dir_parts : (v : Volume) (d : ℕ) →
-    dir_lines v d ≡ header_reported (attributes v d) (dir_path (graph_of v) d) d (parent (graph_of v) d) (v.gap d)
+    sized_dir_lines v d ≡ header_reported (attributes v d) (dir_path (graph_of v) d) d (parent (graph_of v) d) (v.gap d)
     (are_sound (v.chunks d)) (start_entry v d 0) (start_entry v d 1)
     ++ lines_of_entries v d 0 (roled_entries v d)
-unfolding dir_lines header_reported
+unfolding sized_dir_lines header_reported
 dir_parts v d =
     ap (λ l. l ++ (dot_lines v d ++ (dotdot_lines v d ++ lines_of_entries v d 0 (roled_entries v d)))) (shape_is v d)
     ∙ (ap (λ l. shape_reported (attributes v d) (dir_path (graph_of v) d) (v.gap d) (are_sound (v.chunks d))

@@ -13,16 +13,16 @@ use Rattle.ffs_volume.specs.Directories.Entries.{Entry}
 use Rattle.ffs_volume.specs.Blocks.Inodes.{is_allocated}
 use Rattle.ffs_volume.specs.Directories.Roles.{Volume, RoledEntry, is_dir, is_suspect, is_plain, roled_entries}
 use Rattle.ffs_volume.specs.Directories.Climb.{is_value}
-use Rattle.ffs_volume.specs.Directories.Graph.{entry_names, parent}
-use Rattle.ffs_volume.specs.Directories.Parents.{graph_of, is_parent_entry, is_first_name}
+use Rattle.ffs_volume.specs.Directories.Graph.{is_naming_entry, parent}
+use Rattle.ffs_volume.specs.Directories.Parents.{graph_of, is_parent_entry, is_first_naming_entry}
 use Rattle.ffs_volume.specs.Directories.Paths.{dir_path, entry_path}
 use Rattle.ffs_volume.specs.Messages.Kinds.{TreeMessage, reported, out_of_range, whiteout, unallocated, extraneous}
 use Rattle.ffs_volume.specs.Messages.Kinds.{kind_entry}
 use Rattle.ffs_volume.specs.Directories.PathnameCheck.{attributes, label_of, is_bad_whiteout, message_on_suspect}
-use Rattle.ffs_volume.specs.Directories.PathnameCheck.{has_wrong_type, is_first_name_of_suspect, is_extraneous}
+use Rattle.ffs_volume.specs.Directories.PathnameCheck.{has_wrong_type, is_first_entry_of_suspect, is_extraneous}
 use Rattle.ffs_volume.specs.Directories.PathnameCheck.{named_lines}
-use Rattle.ffs_volume.specs.Directories.PathnameCheck.{plain_lines, roled_lines, lines_of_entries}
-use Rattle.ffs_volume.specs.Directories.PathnameCheck.{entry_role_lines as lines_by_role}
+use Rattle.ffs_volume.specs.Directories.PathnameCheck.{plain_lines, entry_lines, lines_of_entries}
+use Rattle.ffs_volume.specs.Directories.PathnameCheck.{entry_lines_of as lines_by_role}
 use Rattle.ffs_pathnames.specs.Marks.{belongs, after_look, after_looks, is_plain_quiet, is_role_quiet, is_quiet}
 use Rattle.ffs_pathnames.specs.Marks.{are_quiet}
 use Rattle.ffs_pathnames.proofs.Places.{size_of, size_more}
@@ -32,7 +32,7 @@ use Rattle.ffs_pathnames.proofs.MarkLaws.{other_number}
 -- the inodes that belong to s and are named by the entries of `done` are stamped
 abbrev pub AreStamped : Volume → ℕ → List RoledEntry → List ℕ → Type 0
 AreStamped v s done stamps = (x : ℕ) → x < v.count →
-    (slice_index stamps x == s) ≡ (belongs v s x && list_any (entry_names x) done)
+    (slice_index stamps x == s) ≡ (belongs v s x && list_any (is_naming_entry x) done)
 
 stamped_after : (v : Volume) (s : ℕ) (done : List RoledEntry) (e : RoledEntry) (stamps : List ℕ) →
     length stamps ≡ v.count → AreStamped v s done stamps →
@@ -43,34 +43,34 @@ stamped_after v s done e stamps long r x h =
     one : (b : Bool) → (is_plain e.role && belongs v s e.entry.number) ≡ b → (x ≡ e.entry.number) ⊎ (x ≢ e.entry.number)
         →
         (slice_index (if b then slice_set stamps e.entry.number s else stamps) x == s)
-        ≡ (belongs v s x && list_any (entry_names x) (done ++ e ∷ []))
+        ≡ (belongs v s x && list_any (is_naming_entry x) (done ++ e ∷ []))
     one true t (inl z) =
         let q = and_parts (is_plain e.role) (belongs v s e.entry.number) t in
         let inside : e.entry.number < length stamps =
         subst (λ k. e.entry.number < k) (sym long) (subst (λ k. k < v.count) z h) in
-        let named : entry_names x e ≡ true =
+        let named : is_naming_entry x e ≡ true =
         and_from (is_plain e.role) (e.entry.number == x) q.0 (eq-eqb e.entry.number x (sym z)) in
         ap (λ k. slice_index (slice_set stamps e.entry.number s) k == s) z
         ∙ (ap (λ k. k == s) (get_or-set_same stamps e.entry.number s 0 inside) ∙ (eq-eqb s s refl
         ∙ sym (ap (λ b. belongs v s x && b)
-        (any_more (entry_names x) done e
-        ∙ (ap (λ b. list_any (entry_names x) done || b) named ∙ or_true (list_any (entry_names x) done)))
+        (any_more (is_naming_entry x) done e
+        ∙ (ap (λ b. list_any (is_naming_entry x) done || b) named ∙ or_true (list_any (is_naming_entry x) done)))
         ∙ (ap (λ k. belongs v s k && true) z ∙ ap (λ b. b && true) q.1))))
     one true t (inr o) =
         ap (λ k. k == s) (get_or-set_other stamps e.entry.number x s 0 o)
         ∙ (r x h ∙ sym (ap (λ b. belongs v s x && b)
-        (any_more (entry_names x) done e
-        ∙ (ap (λ b. list_any (entry_names x) done || b) (other_number x e o) ∙ or_false
-        (list_any (entry_names x) done)))))
+        (any_more (is_naming_entry x) done e
+        ∙ (ap (λ b. list_any (is_naming_entry x) done || b) (other_number x e o) ∙ or_false
+        (list_any (is_naming_entry x) done)))))
     one false t (inr o) =
         r x h ∙ sym (ap (λ b. belongs v s x && b)
-        (any_more (entry_names x) done e
-        ∙ (ap (λ b. list_any (entry_names x) done || b) (other_number x e o) ∙ or_false
-        (list_any (entry_names x) done))))
+        (any_more (is_naming_entry x) done e
+        ∙ (ap (λ b. list_any (is_naming_entry x) done || b) (other_number x e o) ∙ or_false
+        (list_any (is_naming_entry x) done))))
     one false t (inl z) =
         r x h ∙ two (is_plain e.role) (belongs v s x) (ap (λ k. is_plain e.role && belongs v s k) z ∙ t)
-        (e.entry.number == x) (list_any (entry_names x) done)
-        ∙ sym (ap (λ b. belongs v s x && b) (any_more (entry_names x) done e))
+        (e.entry.number == x) (list_any (is_naming_entry x) done)
+        ∙ sym (ap (λ b. belongs v s x && b) (any_more (is_naming_entry x) done e))
       where
         two : (plain b : Bool) → (plain && b) ≡ false → (same any : Bool) → (b && any) ≡ (b && (any || (plain && same)))
         two plain false k same any = refl
@@ -143,8 +143,8 @@ quiet_parts v s stamps e h =
 reported_nothing : (b : Bool) (m : TreeMessage) → b ≡ false → reported b m ≡ []
 reported_nothing b m h = ap (λ b. reported b m) h
 
-suspect_quiet : (v : Volume) (s j x : ℕ) → is_suspect v x ≡ false → is_first_name_of_suspect v s j x ≡ false
-suspect_quiet v s j x h = ap (λ b. b && (not (x == 2) && is_first_name (graph_of v) s j x)) h
+suspect_quiet : (v : Volume) (s j x : ℕ) → is_suspect v x ≡ false → is_first_entry_of_suspect v s j x ≡ false
+suspect_quiet v s j x h = ap (λ b. b && (not (x == 2) && is_first_naming_entry (graph_of v) s j x)) h
 
 link_quiet : (v : Volume) (s : ℕ) (done es : List RoledEntry) (e : RoledEntry) (stamps : List ℕ) → IsEntry v s done e es
     → e.role ≡ Plain → e.entry.number < v.count → AreStamped v s done stamps →
@@ -165,14 +165,14 @@ link_quiet v s done es e stamps i p h r q = one (is_dir v e.entry.number) refl
         sym (ap (λ b. not b || (belongs v s e.entry.number && not (slice_index stamps e.entry.number == s))) d) ∙ q in
         let parts = and_parts (belongs v s e.entry.number) (not (slice_index stamps e.entry.number == s)) due in
         let unstamped = not-true (slice_index stamps e.entry.number == s) parts.1 in
-        let first : list_any (entry_names e.entry.number) done ≡ false =
-        none (belongs v s e.entry.number) (list_any (entry_names e.entry.number) done)
+        let first : list_any (is_naming_entry e.entry.number) done ≡ false =
+        none (belongs v s e.entry.number) (list_any (is_naming_entry e.entry.number) done)
         (sym (r e.entry.number h) ∙ unstamped)
         parts.0 in
         let mine = (and_parts (is_dir v e.entry.number)
         (not (e.entry.number == 2) && is_value (parent (graph_of v) e.entry.number) s) parts.0).1 in
         ap not (from_parent_is v s done es e i p
-        ∙ (ap (λ b. b && not (list_any (entry_names e.entry.number) done)) mine ∙ ap not first))
+        ∙ (ap (λ b. b && not (list_any (is_naming_entry e.entry.number) done)) mine ∙ ap not first))
 
 named_quiet : (v : Volume) (s : ℕ) (done es : List RoledEntry) (e : RoledEntry) (stamps : List ℕ) →
     IsEntry v s done e es → e.role ≡ Plain → e.entry.number < v.count → AreStamped v s done stamps →
@@ -236,8 +236,8 @@ plain_quiet v s done es e stamps i p r h =
 
 seen_quiet : (v : Volume) (s : ℕ) (done es : List RoledEntry) (e : RoledEntry) (stamps : List ℕ) → IsEntry v s done e es
     → AreStamped v s done stamps →
-    is_quiet v s stamps e ≡ true → roled_lines v s (size_of done) e ≡ []
-unfolding roled_lines is_quiet
+    is_quiet v s stamps e ≡ true → entry_lines v s (size_of done) e ≡ []
+unfolding entry_lines is_quiet
 seen_quiet v s done es e stamps i r h = one e.role refl h
   where
     one : (role : Role) → e.role ≡ role → is_role_quiet v s stamps role e.entry ≡ true →
@@ -266,7 +266,7 @@ quiet_silent v s done (e ∷ es) stamps d whole long r h =
 
 -- and no suspect is named
 suspect_unnamed : (v : Volume) (s : ℕ) (stamps : List ℕ) (e : RoledEntry) (x : ℕ) → is_quiet v s stamps e ≡ true →
-    is_suspect v x ≡ true → x ≢ 1 → entry_names x e ≡ false
+    is_suspect v x ≡ true → x ≢ 1 → is_naming_entry x e ≡ false
 unfolding is_quiet
 suspect_unnamed v s stamps e x h q n = one e.role h
   where
@@ -288,9 +288,9 @@ suspect_unnamed v s stamps e x h q n = one e.role h
     ]
 
 pub suspects_unnamed : (v : Volume) (s : ℕ) (es : List RoledEntry) (stamps : List ℕ) (x : ℕ) →
-    are_quiet v s stamps es ≡ true → is_suspect v x ≡ true → x ≢ 1 → list_any (entry_names x) es ≡ false
+    are_quiet v s stamps es ≡ true → is_suspect v x ≡ true → x ≢ 1 → list_any (is_naming_entry x) es ≡ false
 suspects_unnamed v s [] stamps x h q n = refl
 suspects_unnamed v s (e ∷ es) stamps x h q n =
     let p = and_parts (is_quiet v s stamps e) (are_quiet v s (after_look v s stamps e) es) h in
-    ap (λ b. b || list_any (entry_names x) es) (suspect_unnamed v s stamps e x p.0 q n)
+    ap (λ b. b || list_any (is_naming_entry x) es) (suspect_unnamed v s stamps e x p.0 q n)
     ∙ suspects_unnamed v s es (after_look v s stamps e) x p.1 q n

@@ -16,17 +16,17 @@ use Rattle.ffs_volume.specs.Disk.Search.{some_below, first_below}
 use Rattle.ffs_volume.proofs.SearchLaws.{first_below-is, some_below-false, first_below-some}
 use Rattle.ffs_volume.specs.Directories.Climb.{is_value}
 use Rattle.ffs_volume.proofs.ClimbLaws.{is_value-true, is_value-from}
-use Rattle.ffs_volume.specs.Directories.Graph.{entry_names, dir_names, parent, index_in_parent, first_index}
-use Rattle.ffs_volume.specs.Directories.Parents.{graph_of, first_naming_dir, is_first_name, is_parent_entry}
+use Rattle.ffs_volume.specs.Directories.Graph.{is_naming_entry, is_naming_dir, parent, index_in_parent, first_index}
+use Rattle.ffs_volume.specs.Directories.Parents.{graph_of, first_naming_dir, is_first_naming_entry, is_parent_entry}
 use Rattle.ffs_volume.specs.Directories.Paths.{dir_path, entry_path}
 use Rattle.ffs_volume.specs.Messages.Kinds.{reported, out_of_range, whiteout, unallocated, extraneous, kind_entry}
 use Rattle.ffs_volume.specs.Directories.PathnameCheck.{attributes, label_of, is_bad_whiteout, message_on_suspect}
-use Rattle.ffs_volume.specs.Directories.PathnameCheck.{has_wrong_type, entry_role_lines as lines_by_role}
-use Rattle.ffs_volume.specs.Directories.PathnameCheck.{is_first_name_of_suspect}
-use Rattle.ffs_volume.specs.Directories.PathnameCheck.{is_extraneous, named_lines, plain_lines, roled_lines}
+use Rattle.ffs_volume.specs.Directories.PathnameCheck.{has_wrong_type, entry_lines_of as lines_by_role}
+use Rattle.ffs_volume.specs.Directories.PathnameCheck.{is_first_entry_of_suspect}
+use Rattle.ffs_volume.specs.Directories.PathnameCheck.{is_extraneous, named_lines, plain_lines, entry_lines}
 use Rattle.ffs_volume.specs.Directories.PathnameCheck.{lines_of_entries}
 use Rattle.ffs_pathnames.specs.Marks.{Marks, is_passed, is_due, after_name, after_roled, named_reported, plain_reported}
-use Rattle.ffs_pathnames.specs.Marks.{role_reported, entry_role_lines, entries_reported, belongs}
+use Rattle.ffs_pathnames.specs.Marks.{role_reported, entry_lines_of, entries_reported, belongs}
 use Rattle.ffs_pathnames.specs.MarksRight.{AreRight}
 use Rattle.ffs_pathnames.proofs.Places.{size_of, size_more, first_here}
 
@@ -64,51 +64,53 @@ pub record IsEntry (v : Volume) (s : ℕ) (done : List RoledEntry) (e : RoledEnt
   pub from_two : 2 ≤ s
   pub whole : roled_entries v s ≡ done ++ e ∷ es
 
-names_it : (e : RoledEntry) → e.role ≡ Plain → entry_names e.entry.number e ≡ true
+names_it : (e : RoledEntry) → e.role ≡ Plain → is_naming_entry e.entry.number e ≡ true
 names_it e p = and_from (is_plain e.role) (e.entry.number == e.entry.number) (ap is_plain p)
     (eq-eqb e.entry.number e.entry.number refl)
 
 names_in_it : (v : Volume) (s : ℕ) (done es : List RoledEntry) (e : RoledEntry) → IsEntry v s done e es → e.role ≡ Plain
-    → dir_names (graph_of v) s e.entry.number ≡ true
+    → is_naming_dir (graph_of v) s e.entry.number ≡ true
 names_in_it v s done es e i p =
     let x = e.entry.number in
-    let here : (list_any (entry_names x) done || (entry_names x e || list_any (entry_names x) es)) ≡ true =
-    ap (λ b. list_any (entry_names x) done || (b || list_any (entry_names x) es)) (names_it e p)
-    ∙ or_here (list_any (entry_names x) done) (list_any (entry_names x) es) in
-    and_from (is_dir v s) (list_any (entry_names x) (roled_entries v s)) i.dir
-    (ap (list_any (entry_names x)) i.whole ∙ (list_any-append (entry_names x) done (e ∷ es) ∙ here))
+    let here : (list_any (is_naming_entry x) done || (is_naming_entry x e || list_any (is_naming_entry x) es)) ≡ true =
+    ap (λ b. list_any (is_naming_entry x) done || (b || list_any (is_naming_entry x) es)) (names_it e p)
+    ∙ or_here (list_any (is_naming_entry x) done) (list_any (is_naming_entry x) es) in
+    and_from (is_dir v s) (list_any (is_naming_entry x) (roled_entries v s)) i.dir
+    (ap (list_any (is_naming_entry x)) i.whole ∙ (list_any-append (is_naming_entry x) done (e ∷ es) ∙ here))
 
 place_is : (v : Volume) (s : ℕ) (done es : List RoledEntry) (e : RoledEntry) → IsEntry v s done e es → e.role ≡ Plain →
-    is_value (first_index (entry_names e.entry.number) (roled_entries v s)) (size_of done)
-    ≡ not (list_any (entry_names e.entry.number) done)
+    is_value (first_index (is_naming_entry e.entry.number) (roled_entries v s)) (size_of done)
+    ≡ not (list_any (is_naming_entry e.entry.number) done)
 place_is v s done es e i p =
-    ap (λ l. is_value (first_index (entry_names e.entry.number) l) (size_of done)) i.whole
-    ∙ first_here (entry_names e.entry.number) done e es (names_it e p)
+    ap (λ l. is_value (first_index (is_naming_entry e.entry.number) l) (size_of done)) i.whole
+    ∙ first_here (is_naming_entry e.entry.number) done e es (names_it e p)
 
 first_name_is : (v : Volume) (s : ℕ) (done es : List RoledEntry) (e : RoledEntry) → IsEntry v s done e es →
     e.role ≡ Plain →
-    is_first_name (graph_of v) s (size_of done) e.entry.number
-    ≡ not (some_below (λ t. dir_names (graph_of v) t e.entry.number) s || list_any (entry_names e.entry.number) done)
+    is_first_naming_entry (graph_of v) s (size_of done) e.entry.number
+    ≡ not (some_below (λ t. is_naming_dir (graph_of v) t e.entry.number) s || list_any (is_naming_entry e.entry.number)
+    done)
 first_name_is v s done es e i p =
     let x = e.entry.number in
-    let first : is_value (first_naming_dir (graph_of v) x) s ≡ not (some_below (λ t. dir_names (graph_of v) t x) s) =
-    first_in (λ t. dir_names (graph_of v) t x) v.count s i.below (names_in_it v s done es e i p) in
-    ap (λ b. b && is_value (first_index (entry_names x) (roled_entries v s)) (size_of done)) first
-    ∙ (ap (λ b. not (some_below (λ t. dir_names (graph_of v) t x) s) && b) (place_is v s done es e i p)
-    ∙ not_or (some_below (λ t. dir_names (graph_of v) t x) s) (list_any (entry_names x) done))
+    let first : is_value (first_naming_dir (graph_of v) x) s ≡ not (some_below (λ t. is_naming_dir (graph_of v) t x) s)
+    =
+    first_in (λ t. is_naming_dir (graph_of v) t x) v.count s i.below (names_in_it v s done es e i p) in
+    ap (λ b. b && is_value (first_index (is_naming_entry x) (roled_entries v s)) (size_of done)) first
+    ∙ (ap (λ b. not (some_below (λ t. is_naming_dir (graph_of v) t x) s) && b) (place_is v s done es e i p)
+    ∙ not_or (some_below (λ t. is_naming_dir (graph_of v) t x) s) (list_any (is_naming_entry x) done))
 
 pub from_parent_is : (v : Volume) (s : ℕ) (done es : List RoledEntry) (e : RoledEntry) → IsEntry v s done e es →
     e.role ≡ Plain →
     is_parent_entry (graph_of v) s (size_of done) e.entry.number
     ≡ ((not (e.entry.number == 2) && is_value (parent (graph_of v) e.entry.number) s)
-    && not (list_any (entry_names e.entry.number) done))
+    && not (list_any (is_naming_entry e.entry.number) done))
 from_parent_is v s done es e i p = one (e.entry.number == 2) refl (is_value (parent (graph_of v) e.entry.number) s) refl
   where
     one : (two : Bool) → (e.entry.number == 2) ≡ two → (b : Bool) → is_value (parent (graph_of v) e.entry.number) s ≡ b
         →
         (b && is_value (if two then None
         else index_in_parent (graph_of v) e.entry.number (parent (graph_of v) e.entry.number)) (size_of done))
-        ≡ ((not two && b) && not (list_any (entry_names e.entry.number) done))
+        ≡ ((not two && b) && not (list_any (is_naming_entry e.entry.number) done))
     one true q true r = refl
     one true q false r = refl
     one false q true r =
@@ -119,17 +121,17 @@ from_parent_is v s done es e i p = one (e.entry.number == 2) refl (is_value (par
 
 suspect_same : (v : Volume) (s : ℕ) (done es : List RoledEntry) (e : RoledEntry) (m : Marks) → IsEntry v s done e es →
     e.role ≡ Plain → e.entry.number < v.count → e.entry.number ≢ 1 → AreRight v s done m →
-    is_first_name_of_suspect v s (size_of done) e.entry.number
+    is_first_entry_of_suspect v s (size_of done) e.entry.number
     ≡ (is_suspect v e.entry.number && (not (e.entry.number == 2) && not (is_passed m e.entry.number)))
 suspect_same v s done es e m i p h other r = one (is_suspect v e.entry.number) refl (cases_eq e.entry.number 2)
   where
     one : (b : Bool) → is_suspect v e.entry.number ≡ b → (e.entry.number ≡ 2) ⊎ (e.entry.number ≢ 2) →
-        (b && (not (e.entry.number == 2) && is_first_name (graph_of v) s (size_of done) e.entry.number))
+        (b && (not (e.entry.number == 2) && is_first_naming_entry (graph_of v) s (size_of done) e.entry.number))
         ≡ (b && (not (e.entry.number == 2) && not (is_passed m e.entry.number)))
     one false q c = refl
     one true q (inl z) =
         let two : (e.entry.number == 2) ≡ true = eq-eqb e.entry.number 2 z in
-        ap (λ b. not b && is_first_name (graph_of v) s (size_of done) e.entry.number) two
+        ap (λ b. not b && is_first_naming_entry (graph_of v) s (size_of done) e.entry.number) two
         ∙ sym (ap (λ b. not b && not (is_passed m e.entry.number)) two)
     one true q (inr n) =
         ap (λ b. not (e.entry.number == 2) && b)
@@ -147,7 +149,7 @@ extraneous_same v s done es e m i p h r = one (is_dir v e.entry.number) refl
     one true q = ap not (from_parent_is v s done es e i p
         ∙ sym (r.due e.entry.number h
         ∙ ap (λ d. (d && (not (e.entry.number == 2) && is_value (parent (graph_of v) e.entry.number) s))
-        && not (list_any (entry_names e.entry.number) done)) q))
+        && not (list_any (is_naming_entry e.entry.number) done)) q))
 
 named_same : (v : Volume) (s : ℕ) (done es : List RoledEntry) (e : RoledEntry) (m : Marks) → IsEntry v s done e es →
     e.role ≡ Plain → e.entry.number < v.count → e.entry.number ≢ 1 → AreRight v s done m →
@@ -215,8 +217,8 @@ plain_same v s done es e m i p r = one (nat_lt e.entry.number v.count) refl
 
 seen_same : (v : Volume) (s : ℕ) (done es : List RoledEntry) (e : RoledEntry) (m : Marks) → IsEntry v s done e es →
     AreRight v s done m →
-    roled_lines v s (size_of done) e ≡ entry_role_lines v s m e
-unfolding roled_lines entry_role_lines
+    entry_lines v s (size_of done) e ≡ entry_lines_of v s m e
+unfolding entry_lines entry_lines_of
 seen_same v s done es e m i r = one e.role refl
   where
     one : (role : Role) → e.role ≡ role → lines_by_role v s (size_of done) role e.entry
@@ -257,12 +259,12 @@ is_named : (p : RoledEntry → Bool) (done : List RoledEntry) (e : RoledEntry) �
     list_any p (done ++ e ∷ []) ≡ true
 is_named p done e h = any_more p done e ∙ (ap (λ b. list_any p done || b) h ∙ or_true (list_any p done))
 
-pub other_number : (x : ℕ) (e : RoledEntry) → x ≢ e.entry.number → entry_names x e ≡ false
+pub other_number : (x : ℕ) (e : RoledEntry) → x ≢ e.entry.number → is_naming_entry x e ≡ false
 other_number x e n = ap (λ b. is_plain e.role && b) (ne_eqb e.entry.number x (λ z. n (sym z)))
     ∙ and_false (is_plain e.role)
 
 not_counted : (v : Volume) (e : RoledEntry) (x : ℕ) → (is_plain e.role && nat_lt e.entry.number v.count) ≡ false →
-    x < v.count → entry_names x e ≡ false
+    x < v.count → is_naming_entry x e ≡ false
 not_counted v e x t h = elim (cases_eq x e.entry.number) [
   | inl z ↦
       let low : nat_lt e.entry.number v.count ≡ true = lt-ltb e.entry.number v.count (subst (λ k. k < v.count) z h) in
@@ -273,10 +275,10 @@ not_counted v e x t h = elim (cases_eq x e.entry.number) [
 skips : (v : Volume) (s : ℕ) (done : List RoledEntry) (e : RoledEntry) (m : Marks) →
     (is_plain e.role && nat_lt e.entry.number v.count) ≡ false → AreRight v s done m → AreRight v s (done ++ e ∷ []) m
 skips v s done e m t r = record {
-  passed = λ x h q o n. r.passed x h q o n ∙ ap (λ b. some_below (λ t. dir_names (graph_of v) t x) s || b)
-      (sym (not_named (entry_names x) done e (not_counted v e x t h)));
+  passed = λ x h q o n. r.passed x h q o n ∙ ap (λ b. some_below (λ t. is_naming_dir (graph_of v) t x) s || b)
+      (sym (not_named (is_naming_entry x) done e (not_counted v e x t h)));
   due = λ x h. r.due x h ∙ ap (λ b. belongs v s x && not b)
-      (sym (not_named (entry_names x) done e (not_counted v e x t h)));
+      (sym (not_named (is_naming_entry x) done e (not_counted v e x t h)));
   passed_length = r.passed_length;
   stamps_length = r.stamps_length;
 }
@@ -285,20 +287,21 @@ name_passed : (v : Volume) (s : ℕ) (done : List RoledEntry) (e : RoledEntry) (
     e.entry.number < v.count → AreRight v s done m →
     (x : ℕ) → x < v.count → is_suspect v x ≡ true → x ≢ 1 → x ≢ 2 →
     is_passed (after_name s m e.entry.number) x
-    ≡ (some_below (λ t. dir_names (graph_of v) t x) s || list_any (entry_names x) (done ++ e ∷ []))
+    ≡ (some_below (λ t. is_naming_dir (graph_of v) t x) s || list_any (is_naming_entry x) (done ++ e ∷ []))
 name_passed v s done e m p low r x h q u n = elim (cases_eq x e.entry.number) [
   | inl z ↦
       let inside : e.entry.number < length m.passed = subst (λ k. e.entry.number < k) (sym r.passed_length) low in
-      let named : entry_names x e ≡ true = and_from (is_plain e.role) (e.entry.number == x) (ap is_plain p)
+      let named : is_naming_entry x e ≡ true = and_from (is_plain e.role) (e.entry.number == x) (ap is_plain p)
       (eq-eqb e.entry.number x (sym z)) in
       ap (λ k. slice_index_or (slice_set m.passed e.entry.number true) k false) z
       ∙ (get_or-set_same m.passed e.entry.number true false inside
-      ∙ sym (ap (λ b. some_below (λ t. dir_names (graph_of v) t x) s || b) (is_named (entry_names x) done e named)
-      ∙ or_true (some_below (λ t. dir_names (graph_of v) t x) s)))
+      ∙ sym (ap (λ b. some_below (λ t. is_naming_dir (graph_of v) t x) s || b) (is_named (is_naming_entry x) done e
+      named)
+      ∙ or_true (some_below (λ t. is_naming_dir (graph_of v) t x) s)))
   | inr o ↦
       get_or-set_other m.passed e.entry.number x true false o
-      ∙ (r.passed x h q u n ∙ ap (λ b. some_below (λ t. dir_names (graph_of v) t x) s || b)
-      (sym (not_named (entry_names x) done e (other_number x e o))))
+      ∙ (r.passed x h q u n ∙ ap (λ b. some_below (λ t. is_naming_dir (graph_of v) t x) s || b)
+      (sym (not_named (is_naming_entry x) done e (other_number x e o))))
 ]
 
 cleared : (s n : ℕ) (stamps : List ℕ) → 2 ≤ s → n < length stamps →
@@ -321,18 +324,18 @@ stays s n x stamps o = one (slice_index stamps n == s)
 name_due : (v : Volume) (s : ℕ) (done : List RoledEntry) (e : RoledEntry) (m : Marks) → 2 ≤ s → e.role ≡ Plain →
     e.entry.number < v.count → AreRight v s done m →
     (x : ℕ) → x < v.count → is_due s (after_name s m e.entry.number) x
-    ≡ (belongs v s x && not (list_any (entry_names x) (done ++ e ∷ [])))
+    ≡ (belongs v s x && not (list_any (is_naming_entry x) (done ++ e ∷ [])))
 name_due v s done e m two p low r x h = elim (cases_eq x e.entry.number) [
   | inl z ↦
       let inside : e.entry.number < length m.stamps = subst (λ k. e.entry.number < k) (sym r.stamps_length) low in
-      let named : entry_names x e ≡ true = and_from (is_plain e.role) (e.entry.number == x) (ap is_plain p)
+      let named : is_naming_entry x e ≡ true = and_from (is_plain e.role) (e.entry.number == x) (ap is_plain p)
       (eq-eqb e.entry.number x (sym z)) in
       ap (λ k. slice_index (after_name s m e.entry.number).stamps k == s) z
       ∙ (cleared s e.entry.number m.stamps two inside
-      ∙ sym (ap (λ b. belongs v s x && not b) (is_named (entry_names x) done e named) ∙ and_false (belongs v s x)))
+      ∙ sym (ap (λ b. belongs v s x && not b) (is_named (is_naming_entry x) done e named) ∙ and_false (belongs v s x)))
   | inr o ↦
       ap (λ k. k == s) (stays s e.entry.number x m.stamps o)
-      ∙ (r.due x h ∙ ap (λ b. belongs v s x && not b) (sym (not_named (entry_names x) done e (other_number x e o))))
+      ∙ (r.due x h ∙ ap (λ b. belongs v s x && not b) (sym (not_named (is_naming_entry x) done e (other_number x e o))))
 ]
 
 stamps_long : (s n : ℕ) (stamps : List ℕ) → length (if slice_index stamps n == s then slice_set stamps n 0 else stamps)
@@ -385,4 +388,4 @@ right_reported v s done (e ∷ es) m d whole r =
     let rest = right_reported v s (done ++ e ∷ []) es (after_roled v s m e) d
     (whole ∙ sym (append_assoc done (e ∷ []) es)) (right_after v s done e m d.from_two r) in
     ap (λ ls. ls ++ lines_of_entries v s (suc (size_of done)) es) here
-    ∙ ap (λ ls. entry_role_lines v s m e ++ ls) (ap (λ j. lines_of_entries v s j es) (sym (size_more done e)) ∙ rest)
+    ∙ ap (λ ls. entry_lines_of v s m e ++ ls) (ap (λ j. lines_of_entries v s j es) (sym (size_more done e)) ∙ rest)

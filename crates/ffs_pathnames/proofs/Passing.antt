@@ -9,7 +9,7 @@ use Rattle.ffs_volume.specs.Disk.Numbers.{u32_at, piece}
 use Rattle.ffs_volume.specs.declared.Layout.{Layout}
 use Rattle.ffs_volume.specs.declared.Inode.{Inode}
 use Rattle.ffs_volume.specs.Disk.Areas.{is_run_in_range}
-use Rattle.ffs_volume.specs.Disk.Geometry.{IsValidLayout}
+use Rattle.ffs_volume.specs.Disk.Geometry.{IsAcceptedLayout}
 use Rattle.ffs_volume.specs.Blocks.Inodes.{inode_of}
 use Rattle.ffs_volume.specs.Blocks.Steps.{steps_of}
 use Rattle.ffs_volume.specs.Directories.Entries.{Chunk, Entry, entry_at, entry_read, is_well_formed, name_at, chunks_of}
@@ -24,7 +24,7 @@ use Rattle.ffs_volume.specs.Directories.Roles.{Volume, RoledEntry, roled_chunk, 
 use Rattle.ffs_workspace.specs.Leaves.{LeavesSurvey}
 use Rattle.ffs_pathnames.specs.Gathers.{marks_of}
 use Rattle.ffs_pathnames.specs.DirectoryContext.{DirectoryContext}
-use Rattle.ffs_pathnames.specs.Marks.{Marks, after_roled, after_entries, entry_role_lines, entries_reported}
+use Rattle.ffs_pathnames.specs.Marks.{Marks, after_roled, after_entries, entry_lines_of, entries_reported}
 use Rattle.ffs_workspace.proofs.Leaving.{claims_left, survey_left}
 use Rattle.ffs_pathnames.proofs.Looking.{roled_at_place}
 use Rattle.ffs_workspace.specs.declared.workspace.Workspace.{Workspace}
@@ -40,19 +40,19 @@ pub reported_more : (v : Volume) (s : ℕ) (m : Marks) (xs ys : List RoledEntry)
     entries_reported v s m (xs ++ ys) ≡ entries_reported v s m xs ++ entries_reported v s (after_entries v s m xs) ys
 reported_more v s m [] ys = refl
 reported_more v s m (x ∷ xs) ys =
-    ap (λ (ms : List TreeMessage). entry_role_lines v s m x ++ ms) (reported_more v s (after_roled v s m x) xs ys)
-    ∙ sym (append_assoc (entry_role_lines v s m x) (entries_reported v s (after_roled v s m x) xs)
+    ap (λ (ms : List TreeMessage). entry_lines_of v s m x ++ ms) (reported_more v s (after_roled v s m x) xs ys)
+    ∙ sym (append_assoc (entry_lines_of v s m x) (entries_reported v s (after_roled v s m x) xs)
     (entries_reported v s (after_entries v s (after_roled v s m x) xs) ys))
 
 -- an entry is reported, and the others are to come
 pub entry_reported : (v : Volume) (s : ℕ) (m m' : Marks) (e : RoledEntry) (es es' : List RoledEntry) → es ≡ e ∷ es' →
     after_roled v s m e ≡ m' →
-    map of_tree (entries_reported v s m es) ≡ map of_tree (entry_role_lines v s m e)
+    map of_tree (entries_reported v s m es) ≡ map of_tree (entry_lines_of v s m e)
     ++ map of_tree (entries_reported v s m' es')
 entry_reported v s m m' e es es' is after =
     ap (λ l. map of_tree (entries_reported v s m l)) is
-    ∙ (map-append of_tree (entry_role_lines v s m e) (entries_reported v s (after_roled v s m e) es')
-    ∙ ap (λ k. map of_tree (entry_role_lines v s m e) ++ map of_tree (entries_reported v s k es')) after)
+    ∙ (map-append of_tree (entry_lines_of v s m e) (entries_reported v s (after_roled v s m e) es')
+    ∙ ap (λ k. map of_tree (entry_lines_of v s m e) ++ map of_tree (entries_reported v s k es')) after)
 
 -- an entry is passed
 pub entry_passed : (v : Volume) (s : ℕ) (all m m' : Marks) (e : RoledEntry) (es es' : List RoledEntry) → es ≡ e ∷ es' →
@@ -102,7 +102,7 @@ knows_on v contents contents' old new d b e s k = record {
 }
 
 -- the entries of all chunks that a reading of a directory gives
-pub all_read : (v : Layout) (b : List ℕ) (d : ℕ) (i : Inode) (cut : ℕ) (cs : List Chunk) → IsValidLayout v →
+pub all_read : (v : Layout) (b : List ℕ) (d : ℕ) (i : Inode) (cut : ℕ) (cs : List Chunk) → IsAcceptedLayout v →
     is_dir (volume_of v b) d ≡ true → i ≡ inode_of v b d → cut ≡ cut_at v b d →
     (i.size < 2 ^ 31 → cs ≡ chunks_of (reading_by v b (bytes_read i.size)) (is_run_in_range v)
     (replayed_steps v cut fresh_replay (steps_of v i b))) → flat_map roled_chunk cs ≡ roled_entries (volume_of v b) d

@@ -15,7 +15,7 @@ use Rattle.ffs_volume.specs.declared.Step.{Step}
 use Rattle.ffs_volume.specs.declared.Step.TheVariants.{Run, Tail, Gap}
 use Rattle.ffs_volume.specs.declared.Role.{Role}
 use Rattle.ffs_volume.specs.declared.Role.TheVariants.{Empty, Dot, Dotdot, Extra, Plain}
-use Rattle.ffs_volume.specs.Disk.Geometry.{IsValidLayout}
+use Rattle.ffs_volume.specs.Disk.Geometry.{IsAcceptedLayout}
 use Rattle.ffs_volume.specs.Disk.Areas.{is_run_in_range}
 use Rattle.ffs_volume.specs.Blocks.Steps.{steps_of}
 use Rattle.ffs_names.specs.RunCursors.{reading_by}
@@ -25,7 +25,7 @@ use Rattle.ffs_volume.specs.declared.Class.TheVariants.{Free, Partial, Unknown, 
 use Rattle.ffs_volume.specs.Directories.Climb.{is_value}
 use Rattle.ffs_volume.specs.Directories.Entries.{Entry, Chunk, ChunkSource, chunk_of, chunks_of, run_chunks}
 use Rattle.ffs_volume.specs.Directories.Entries.{step_chunks, entries_of, is_sound, is_live, bytes_read}
-use Rattle.ffs_volume.specs.Directories.Graph.{entry_names, parent}
+use Rattle.ffs_volume.specs.Directories.Graph.{is_naming_entry, parent}
 use Rattle.ffs_volume.specs.Directories.Parents.{graph_of}
 use Rattle.ffs_volume.specs.Directories.Paths.{dir_path}
 use Rattle.ffs_volume.specs.Directories.PathnameCheck.{attributes, are_sound, is_bad_whiteout, has_wrong_type}
@@ -161,7 +161,7 @@ plain_quiet v s parents stamps reached e sh c mine new =
 calm_quiet : (v : Volume) (s : Sight) (parents : List ℕ) (es : List RoledEntry) (reached : ℕ → Bool) (i : ℕ)
     (stamps : List ℕ) → Shown v s.kinds s.marked parents
     → are_calm s reached i es ≡ true
-    → ((x : ℕ) → is_dir v x ≡ true → list_any (entry_names x) es ≡ true → belongs v s.dir x ≡ true)
+    → ((x : ℕ) → is_dir v x ≡ true → list_any (is_naming_entry x) es ≡ true → belongs v s.dir x ≡ true)
     → ((x : ℕ) → x < v.count → (slice_index stamps x == s.dir) ≡ true → reached x ≡ true)
     → are_quiet v s.dir stamps es ≡ true
 unfolding is_quiet
@@ -170,7 +170,7 @@ calm_quiet v s parents (e ∷ es) reached i stamps sh c mine seen =
     let p = and_parts (is_calm_entry s reached i e) _ c in
     and_from (is_quiet v s.dir stamps e) _ (here e.role refl p.0)
     (calm_quiet v s parents es (reached_after s.kinds reached e) (suc i) (after_look v s.dir stamps e) sh p.1
-    (λ x d n. mine x d (or_right (entry_names x e) _ n))
+    (λ x d n. mine x d (or_right (is_naming_entry x e) _ n))
     (λ x l t. after x l (is_plain e.role && belongs v s.dir e.entry.number) refl t))
   where
     low : (x : ℕ) → is_dir v x ≡ true → x < v.count
@@ -185,9 +185,10 @@ calm_quiet v s parents (e ∷ es) reached i stamps sh c mine seen =
     here Extra q h = absurd (cc)
     here Plain q h =
         let x = e.entry.number in
-        let named : entry_names x e ≡ true = and_from (is_plain e.role) (x == x) (ap is_plain q) (eq-eqb x x refl) in
+        let named : is_naming_entry x e ≡ true = and_from (is_plain e.role) (x == x) (ap is_plain q) (eq-eqb x x refl)
+        in
         plain_quiet v s parents stamps reached e.entry sh (and_parts (nat_le 2 i) _ h).1
-        (λ d. mine x d (or_left (entry_names x e) _ named))
+        (λ d. mine x d (or_left (is_naming_entry x e) _ named))
         (λ d. false_from_ne_true (slice_index stamps x == s.dir)
         (λ t. both_ways (reached x)
         (calm_names_new s reached i x Plain x e.entry.kind h (sh.dirs x ∙ d) (eq-eqb x x refl)) (seen x (low x d) t)))
@@ -200,7 +201,7 @@ calm_quiet v s parents (e ∷ es) reached i stamps sh c mine seen =
       | inl z ↦
           let p = and_parts (is_plain e.role) (belongs v s.dir e.entry.number) q in
           let d : is_dir v x ≡ true = ap (is_dir v) z ∙ (and_parts (is_dir v e.entry.number) _ p.1).0 in
-          or_right (reached x) _ (and_from (dir_at s.kinds x) (entry_names x e) (sh.dirs x ∙ d)
+          or_right (reached x) _ (and_from (dir_at s.kinds x) (is_naming_entry x e) (sh.dirs x ∙ d)
           (and_from (is_plain e.role) (e.entry.number == x) p.0 (eq-eqb e.entry.number x (sym z))))
       | inr o ↦ or_left (reached x) _
           (seen x l (sym (ap (λ k. k == s.dir) (get_or-set_other stamps e.entry.number x s.dir 0 o)) ∙ t))
@@ -242,7 +243,7 @@ solid_all r passes [] = tt
 solid_all r passes (x ∷ xs) = solid_append (step_chunks r passes x) (chunks_of r passes xs) (solid_step r passes x)
     (solid_all r passes xs)
 
-solid_dir : (v : Layout) (b : List ℕ) (d : ℕ) → IsValidLayout v → is_dir (volume_of v b) d ≡ true →
+solid_dir : (v : Layout) (b : List ℕ) (d : ℕ) → IsAcceptedLayout v → is_dir (volume_of v b) d ≡ true →
     Solid ((volume_of v b).chunks d)
 unfolding chunks_read
 solid_dir v b d g h =
@@ -412,7 +413,7 @@ value_of (Some t) s two h = eq-eqb t s h
 
 calm_belongs : (v : Volume) (kinds : List ℕ) (marked reached : List Bool) (parents : List ℕ) (sound : Bool) (d x : ℕ) →
     2 ≤ d → Shown v kinds marked parents → IsCalm kinds marked reached parents (roled_entries v d) sound d
-    → is_dir v x ≡ true → list_any (entry_names x) (roled_entries v d) ≡ true → belongs v d x ≡ true
+    → is_dir v x ≡ true → list_any (is_naming_entry x) (roled_entries v d) ≡ true → belongs v d x ≡ true
 calm_belongs v kinds marked reached parents sound d x two sh c dir named =
     let at = sh.dirs x ∙ dir in
     let up : number_at parents x ≡ d = (c.below x at named).1 in
@@ -432,7 +433,7 @@ by_chunks : (v : Volume) (d : ℕ) (s : Sight) (r : ℕ → Bool) → are_calm s
 unfolding roled_entries
 by_chunks v d s r h = h
 
-pub calm_silent : (v : Layout) (b : List ℕ) (w : Workspace) → IsValidLayout v → IsFor v w → HoldsClaims v b w →
+pub calm_silent : (v : Layout) (b : List ℕ) (w : Workspace) → IsAcceptedLayout v → IsFor v w → HoldsClaims v b w →
     HoldsSurvey v b w → FlagsCalm v b w → (d : ℕ) → bool_at w.leaders.items d ≡ true → IsSilent (volume_of v b) d
 calm_silent v b w g m h r f d set =
     let sh = shown v b w m h r in

@@ -63,8 +63,8 @@ role_reported v s m Dotdot e = []
 role_reported v s m Extra e = extra_lines (attributes v s) (dir_path (graph_of v) s) e
 role_reported v s m Plain e = plain_reported v s m e
 
-unfoldable pub entry_role_lines : Volume → ℕ → Marks → RoledEntry → List TreeMessage
-entry_role_lines v s m e = role_reported v s m e.role e.entry
+unfoldable pub entry_lines_of : Volume → ℕ → Marks → RoledEntry → List TreeMessage
+entry_lines_of v s m e = role_reported v s m e.role e.entry
 
 -- some entries of s, one after another
 abbrev pub after_entries : Volume → ℕ → Marks → List RoledEntry → Marks
@@ -73,7 +73,7 @@ after_entries v s m (e ∷ es) = after_entries v s (after_roled v s m e) es
 
 abbrev pub entries_reported : Volume → ℕ → Marks → List RoledEntry → List TreeMessage
 entries_reported v s m [] = []
-entries_reported v s m (e ∷ es) = entry_role_lines v s m e ++ entries_reported v s (after_roled v s m e) es
+entries_reported v s m (e ∷ es) = entry_lines_of v s m e ++ entries_reported v s (after_roled v s m e) es
 
 -- x is a directory other than the root, with the parent s
 abbrev pub belongs : Volume → ℕ → ℕ → Bool

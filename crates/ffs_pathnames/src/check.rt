@@ -1,7 +1,7 @@
 // The pathname check of one directory.
 ghost use Rattle.std.specs.Prelude.{suc, ◌≡◌, ◌<◌, ◌≤◌, ℕ, List, OnOk, IfOk, map, option_map, vec_len};
 ghost use Rattle.ffs_volume.specs.Messages.Kinds.{of_tree};
-ghost use Rattle.ffs_volume.specs.Directories.PathnameCheck.{dir_lines};
+ghost use Rattle.ffs_volume.specs.Directories.PathnameCheck.{sized_dir_lines};
 ghost use Rattle.ffs_volume.specs.Directories.Volumes.{volume_of};
 ghost use Rattle.ffs_phase.specs.Known.{ForBytes};
 ghost use Rattle.ffs_phase.specs.Runs.{PhaseReports};
@@ -163,7 +163,7 @@ pub fn check_directory<I: Image, W: Output>(
     ensures text { PhaseReports (λ b. DirectoryContext geometry.now.layout
         (I.device image.old).contents workspace.old dir b
         × AreRightBefore (volume_of geometry.now.layout b) dir (marks_of workspace.old))
-        (λ b. map of_tree (dir_lines (volume_of geometry.now.layout b) dir))
+        (λ b. map of_tree (sized_dir_lines (volume_of geometry.now.layout b) dir))
         (progress W.sink report.old) (progress W.sink report.new) result }
     ensures marks { OnOk result (ForBytes
         (λ b. DirectoryContext geometry.now.layout (I.device image.old).contents workspace.old dir b

@@ -43,7 +43,7 @@ fn say_entry<I: Image, W: Output>(
         siblings.old dir }
     ensures text { PhaseReports (KnowsPath geometry.now.layout (I.device image.old).contents
         workspace.old dir path.now)
-        (λ b. map of_tree (marks.entry_role_lines (volume_of geometry.now.layout b) dir
+        (λ b. map of_tree (marks.entry_lines_of (volume_of geometry.now.layout b) dir
         (marks_of workspace.old) (record { role = role; entry = entry_value entry.now })))
         (progress W.sink report.old) (progress W.sink report.new) result }
     ensures leaves { LinesLeave geometry.now.layout (I.device image.old) (I.device image.new)
@@ -76,7 +76,7 @@ pub fn report_entry<I: Image, W: Output>(
         siblings.old dir }
     ensures text { PhaseReports (KnowsPath geometry.now.layout (I.device image.old).contents
         workspace.old dir path.now)
-        (λ b. map of_tree (marks.entry_role_lines (volume_of geometry.now.layout b) dir
+        (λ b. map of_tree (marks.entry_lines_of (volume_of geometry.now.layout b) dir
         (marks_of workspace.old) (record { role = role; entry = entry_value entry.now })))
         (progress W.sink report.old) (progress W.sink report.new) result }
     ensures marks { OnOk result (ForBytes

@@ -25,7 +25,7 @@ pub struct DirectoryHeader<'a> {
 }
 
 /// Whether a size is no multiple of a chunk, and not too short.
-fn is_not_multiple(size: u64) -> bool
+fn has_partial_chunk(size: u64) -> bool
     ensures { result ≡ (not (nat_lt size 24) && not (size % 512 == 0)) }
 {
     size >= MINDIRSIZE && size % DIRBLKSIZ as u64 != 0
@@ -41,7 +41,7 @@ fn say_size<W: Output>(report: &mut Report<'_, W>, attr: Attr, path: &[u8]) -> R
         line: NameLine::Directory(DirectoryLine::DirShort { attr, path }),
     };
     let broken = Check {
-        holds: is_not_multiple(attr.size),
+        holds: has_partial_chunk(attr.size),
         line: NameLine::Directory(DirectoryLine::DirLength {
             path,
             size: attr.size,

@@ -4,7 +4,7 @@ ghost use Rattle.ffs_phase.specs.Known.{ForBytes};
 ghost use Rattle.ffs_phase.specs.Runs.{PhaseReports};
 ghost use Rattle.ffs_report.specs.Progress.{progress};
 ghost use Rattle.ffs_volume.specs.Messages.Kinds.{of_tree, lines_from};
-ghost use Rattle.ffs_volume.specs.Directories.PathnameCheck.{continues_after_root, lines_of, pathname_lines};
+ghost use Rattle.ffs_volume.specs.Directories.PathnameCheck.{continues_after_root, directory_lines, pathname_lines};
 ghost use Rattle.ffs_volume.specs.Directories.Volumes.{volume_of};
 ghost use Rattle.ffs_workspace.specs.Lengths.{inodes_of};
 ghost use Rattle.ffs_pathnames.specs.Before.{IsBefore};
@@ -48,7 +48,7 @@ fn check_inode<I: Image, W: Output>(
     requires low { 2 ≤ number }
     ensures text { PhaseReports (λ b. IsBefore geometry.now.layout (I.device image.old).contents
         workspace.old number b)
-        (λ b. map of_tree (lines_of (volume_of geometry.now.layout b) number))
+        (λ b. map of_tree (directory_lines (volume_of geometry.now.layout b) number))
         (progress W.sink report.old) (progress W.sink report.new) result }
     ensures before { OnOk result (ForBytes
         (λ b. IsBefore geometry.now.layout (I.device image.old).contents workspace.old number b)
@@ -73,7 +73,7 @@ fn check_inodes<I: Image, W: Output>(
     requires { IsReady geometry.now.layout (I.device image.old) workspace.old }
     ensures text { PhaseReports (λ b. IsBefore geometry.now.layout (I.device image.old).contents
         workspace.old 2 b)
-        (λ b. map of_tree (lines_from (lines_of (volume_of geometry.now.layout b)) 2
+        (λ b. map of_tree (lines_from (directory_lines (volume_of geometry.now.layout b)) 2
         (inodes_of geometry.now.layout - 2)))
         (progress W.sink report.old) (progress W.sink report.new) result }
     ensures leaves { TreeLeaves geometry.now.layout (I.device image.old) (I.device image.new)

@@ -5,7 +5,7 @@ use Rattle.std.specs.Prelude.{option_map}
 use Rattle.std.specs.Option.{unwrap_or}
 use Rattle.std.specs.List.{list_any}
 use Rattle.std.proofs.lemmas.Bool.{and_parts}
-use Rattle.ffs_volume.specs.Directories.Graph.{Graph, level, reached, entry_names, dir_names, parent}
+use Rattle.ffs_volume.specs.Directories.Graph.{Graph, level, reached, is_naming_entry, is_naming_dir, parent}
 use Rattle.ffs_volume.specs.Directories.Paths.{names_down}
 use Rattle.ffs_volume.specs.declared.Layout.{Layout}
 use Rattle.ffs_volume.specs.Directories.Parents.{graph_of}
@@ -40,8 +40,8 @@ child_is v b d s h n e = let l = level_of g d h in go l.0 l.1
     go (suc k) l =
         let a = parent_above g k d l in
         let is : s ≡ a.0 = e ∙ ap (λ o. unwrap_or o 0) a.1.is in
-        let linked = and_parts (g.is_dir d) (dir_names g a.0 d) a.1.linked in
-        let dir = and_parts (g.is_dir a.0) (list_any (entry_names d) (g.entries a.0)) linked.1 in
+        let linked = and_parts (g.is_dir d) (is_naming_dir g a.0 d) a.1.linked in
+        let dir = and_parts (g.is_dir a.0) (list_any (is_naming_entry d) (g.entries a.0)) linked.1 in
         let down = down_is g k d a.0 n a.1.is in
         subst (IsChild v b d) (sym is) (record {
           dir = dir.0;

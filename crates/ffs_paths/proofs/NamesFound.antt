@@ -14,7 +14,7 @@ use Rattle.ffs_volume.specs.Disk.Numbers.{piece}
 use Rattle.ffs_volume.specs.Directories.Roles.{RoledEntry, Volume, is_dir, is_plain, roled_entries}
 use Rattle.ffs_volume.specs.Directories.Parents.{graph_of}
 use Rattle.ffs_volume.specs.Directories.Volumes.{volume_of}
-use Rattle.ffs_volume.specs.Directories.Graph.{entry_names}
+use Rattle.ffs_volume.specs.Directories.Graph.{is_naming_entry}
 use Rattle.ffs_walk.specs.declared.window.Window.{Window}
 use Rattle.ffs_walk.specs.declared.blocks.Blocks.{Blocks}
 use Rattle.ffs_walk.specs.Windows.{BlocksHold, WindowHolds}
@@ -77,14 +77,15 @@ covers_on x k s = let f = k.first in let low = s.0 in let high = s.1 in (omega a
 -- the place of x after the entry: the old one, or that of the entry where there was none
 pub kept_cases : {e : RoledEntry} {q : NamePlace} {old new : ChildNames} (P : NamePlace → Type 0) (x : ℕ) →
     KeepsEntry e q old new → Covers new x → (p : NamePlace) → place_at new x ≡ Some p
-    → ((r : NamePlace) → place_at old x ≡ Some r → P r) → (entry_names x e ≡ true → place_at old x ≡ None → P q) → P p
-kept_cases {e = e} {q = q} {old = old} {new = new} P x k s p is was now = go (entry_names x e) refl (place_at old x)
+    → ((r : NamePlace) → place_at old x ≡ Some r → P r) → (is_naming_entry x e ≡ true → place_at old x ≡ None → P q) → P
+    p
+kept_cases {e = e} {q = q} {old = old} {new = new} P x k s p is was now = go (is_naming_entry x e) refl (place_at old x)
     refl
   where
     c : Covers old x
     c = covers_on x k s
 
-    go : (b : Bool) → entry_names x e ≡ b → (o : Option NamePlace) → place_at old x ≡ o → P p
+    go : (b : Bool) → is_naming_entry x e ≡ b → (o : Option NamePlace) → place_at old x ≡ o → P p
     go false n o h = was p (sym (k.others x c.0 n) ∙ is)
     go true n None h = subst P (some_is q p (sym (k.this x c n ∙ ap (λ y. Some (unwrap_or y q)) h) ∙ is)) (now n h)
     go true n (Some r) h = subst P (some_is r p (sym (k.this x c n ∙ ap (λ y. Some (unwrap_or y q)) h) ∙ is)) (was r h)
@@ -105,9 +106,10 @@ names_on b all es rest e q old new k l name unseen a = record {
 
 pub unseen_on : (all es rest : List RoledEntry) (e : RoledEntry) (q : NamePlace) (old new : ChildNames) →
     KeepsEntry e q old new → es ≡ e ∷ rest → IsUnseen all es old → IsUnseen all rest new
-unseen_on all es rest e q old new k l unseen = record { still = λ x s none. go x s none (entry_names x e) refl }
+unseen_on all es rest e q old new k l unseen = record { still = λ x s none. go x s none (is_naming_entry x e) refl }
   where
-    go : (x : ℕ) → Covers new x → place_at new x ≡ None → (b : Bool) → entry_names x e ≡ b → name_in x all ≡ name_in x
+    go : (x : ℕ) → Covers new x → place_at new x ≡ None → (b : Bool) → is_naming_entry x e ≡ b → name_in x all ≡ name_in
+        x
         rest
     go x s none true n = absurd (none_some _ (sym none ∙ k.this x (covers_on x k s) n))
     go x s none false n =

@@ -9,13 +9,13 @@ use Rattle.ffs_volume.specs.declared.Step.{Step}
 use Rattle.ffs_volume.specs.declared.Step.TheVariants.{Run, Tail, Gap}
 use Rattle.ffs_volume.specs.Disk.Areas.{is_run_in_range}
 use Rattle.ffs_volume.specs.Directories.Entries.{Chunk, Entry, ChunkSource, chunk_of, chunks_of, entries_from}
-use Rattle.ffs_volume.specs.Directories.Entries.{entries_with, entry_at, entry_read, has_valid_content}
+use Rattle.ffs_volume.specs.Directories.Entries.{entries_with, entry_at, entry_read, has_valid_type_and_name}
 use Rattle.ffs_volume.specs.Directories.Entries.{is_valid_record_length, is_well_formed}
 use Rattle.ffs_volume.specs.Directories.Entries.{name_at, run_chunks, step_chunks}
 use Rattle.ffs_volume.specs.Directories.Graph.{parent, parent_entry_index}
 use Rattle.ffs_volume.specs.Disk.Numbers.{u16_at, u32_at, piece}
 use Rattle.ffs_volume.specs.Directories.Parents.{graph_of, nth_roled}
-use Rattle.ffs_volume.specs.Directories.Paths.{names_down, names_above, name_of}
+use Rattle.ffs_volume.specs.Directories.Paths.{names_down, names_by_parent, name_of}
 use Rattle.ffs_volume.specs.Directories.Roles.{RoledEntry, roled_chunk, roled_from, roled_entries}
 use Rattle.ffs_volume.specs.Directories.Volumes.{volume_of, volume_with, chunk_source_of, kept_steps_of_inode}
 use Rattle.ffs_paths.specs.Slashes.{AreSingle, has_slash}
@@ -25,10 +25,10 @@ first_of_two : (a b : Bool) → (a && b) ≡ true → b ≡ true
 first_of_two true b h = h
 first_of_two false b h = absurd (cc)
 
-last_of : (a b c : Bool) → (a && b && c) ≡ true → c ≡ true
-last_of true true c h = h
-last_of true false c h = absurd (cc)
-last_of false b c h = absurd (cc)
+last_length_of : (a b c : Bool) → (a && b && c) ≡ true → c ≡ true
+last_length_of true true c h = h
+last_length_of true false c h = absurd (cc)
+last_length_of false b c h = absurd (cc)
 
 middle_of : (a b c : Bool) → (a && b && c) ≡ true → b ≡ true
 middle_of true true c h = refl
@@ -40,11 +40,11 @@ neither true b h = absurd (cc)
 neither false true h = absurd (cc)
 neither false false h = refl
 
-held_single : (chunk : List ℕ) (place length : ℕ) → has_valid_content chunk place length ≡ true → has_slash
+held_single : (chunk : List ℕ) (place length : ℕ) → has_valid_type_and_name chunk place length ≡ true → has_slash
     (name_at chunk place)
     ≡ false
 held_single chunk place length h =
-    let name = last_of (nat_le (8 + (slice_index chunk (place + 7) + 4) / 4 * 4) length)
+    let name = last_length_of (nat_le (8 + (slice_index chunk (place + 7) + 4) / 4 * 4) length)
     (nat_le (slice_index chunk (place + 6)) 15) _ h in
     neither (list_any (λ b. b == 0) (name_at chunk place)) (list_any (λ b. b == 47) (name_at chunk place))
     (middle_of (not (slice_index chunk (place + 7) == 0)) _
@@ -57,7 +57,7 @@ there_single order chunk place h =
     go (u32_at order place chunk == 0) (first_of_two (is_valid_record_length place (u16_at order (place + 4) chunk)) _
     h)
   where
-    go : (none : Bool) → (none || has_valid_content chunk place (u16_at order (place + 4) chunk)) ≡ true →
+    go : (none : Bool) → (none || has_valid_type_and_name chunk place (u16_at order (place + 4) chunk)) ≡ true →
         has_slash (if none then [] else name_at chunk place) ≡ false
     go true e = refl
     go false e = held_single chunk place (u16_at order (place + 4) chunk) e
@@ -175,7 +175,7 @@ down_single v b zero d = tt
 down_single v b (suc k) d = go (λ s. down_single v b k s) (parent (graph_of (volume_of v b)) d)
   where
     go : ((s : ℕ) → AreSingle (names_down (graph_of (volume_of v b)) k s)) → (o : Option ℕ) →
-        AreSingle (names_above (graph_of (volume_of v b)) (names_down (graph_of (volume_of v b)) k) d o)
+        AreSingle (names_by_parent (graph_of (volume_of v b)) (names_down (graph_of (volume_of v b)) k) d o)
     go above None = tt
     go above (Some s) =
         names_append (names_down (graph_of (volume_of v b)) k s) _ (above s)

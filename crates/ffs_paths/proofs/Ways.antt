@@ -8,12 +8,12 @@ use Rattle.std.proofs.lemmas.Bool.{both_ways, and_parts, ne_eqb, cond-false, eq-
 use Rattle.ffs_volume.specs.declared.Layout.{Layout}
 use Rattle.ffs_volume.specs.Directories.Roles.{RoledEntry}
 use Rattle.ffs_volume.specs.Directories.Volumes.{volume_of, volume_with}
-use Rattle.ffs_volume.specs.Directories.Graph.{Graph, level, reached, entry_names, dir_names, parent}
+use Rattle.ffs_volume.specs.Directories.Graph.{Graph, level, reached, is_naming_entry, is_naming_dir, parent}
 use Rattle.ffs_volume.specs.Directories.Graph.{parent_entry_index}
 use Rattle.ffs_volume.specs.Directories.Graph.{index_in_parent, first_index}
 use Rattle.ffs_volume.proofs.LevelLaws.{level-some, within-zero}
 use Rattle.ffs_volume.specs.Directories.Parents.{nth_roled, graph_of}
-use Rattle.ffs_volume.specs.Directories.Paths.{joined, names_down, names_above, name_of, path_names, dir_path}
+use Rattle.ffs_volume.specs.Directories.Paths.{joined, names_down, names_by_parent, name_of, path_names, dir_path}
 use Rattle.ffs_volume.specs.Directories.Paths.{entry_path, dir_path_of_names, entry_path_of_names, path_bytes}
 use Rattle.ffs_survey.specs.ParentLaws.{parent_above, root_level}
 use Rattle.ffs_paths.specs.declared.buffer.PathBuffer.{PathBuffer}
@@ -27,22 +27,23 @@ use Rattle.ffs_paths.proofs.Ends.{cut-more, end-none}
 use Rattle.ffs_paths.proofs.Rooms.{fits, fits_not}
 
 -- the first name, by the first entry
-pub name_in-here : (d : ℕ) (e : RoledEntry) (es : List RoledEntry) → entry_names d e ≡ true →
+pub name_in-here : (d : ℕ) (e : RoledEntry) (es : List RoledEntry) → is_naming_entry d e ≡ true →
     name_in d (e ∷ es) ≡ e.entry.name
 name_in-here d e es h = ap
     (λ b. name_of (option_and_then (nth_roled (e ∷ es))
-    (cond b (Some 0) (option_map suc (first_index (entry_names d) es))))) h
+    (cond b (Some 0) (option_map suc (first_index (is_naming_entry d) es))))) h
 
 past : (e : RoledEntry) (es : List RoledEntry) (o : Option ℕ) →
     name_of (option_and_then (nth_roled (e ∷ es)) (option_map suc o)) ≡ name_of (option_and_then (nth_roled es) o)
 past e es None = refl
 past e es (Some i) = refl
 
-pub name_in-past : (d : ℕ) (e : RoledEntry) (es : List RoledEntry) → entry_names d e ≡ false →
+pub name_in-past : (d : ℕ) (e : RoledEntry) (es : List RoledEntry) → is_naming_entry d e ≡ false →
     name_in d (e ∷ es) ≡ name_in d es
 name_in-past d e es h =
     ap (λ b. name_of (option_and_then (nth_roled (e ∷ es))
-    (cond b (Some 0) (option_map suc (first_index (entry_names d) es))))) h ∙ past e es (first_index (entry_names d) es)
+    (cond b (Some 0) (option_map suc (first_index (is_naming_entry d) es))))) h ∙ past e es (first_index
+    (is_naming_entry d) es)
 
 -- the climb from d, of level k, has reached a directory, with the names below it
 pub record IsOnWay (g : Graph) (k d at step : ℕ) (p : PathBuffer) : Type 0 where
@@ -117,9 +118,9 @@ pub down_is : (g : Graph) (j at s : ℕ) → at ≢ 2 → parent g at ≡ Some s
     ++ name_in at (g.entries s) ∷ []
 unfolding names_down
 down_is g j at s n e =
-    let place : parent_entry_index g at ≡ first_index (entry_names at) (g.entries s) =
+    let place : parent_entry_index g at ≡ first_index (is_naming_entry at) (g.entries s) =
     cond-false (at == 2) None (index_in_parent g at (parent g at)) (ne_eqb at 2 n) ∙ ap (index_in_parent g at) e in
-    ap (names_above g (names_down g j) at) e
+    ap (names_by_parent g (names_down g j) at) e
     ∙ ap (λ o. names_down g j s ++ name_of (option_and_then (nth_roled (g.entries s)) o) ∷ []) place
 
 pub way_up : (g : Graph) (k d at step : ℕ) (p : PathBuffer) → IsOnWay g k d at step p → at ≢ 2 →
@@ -132,8 +133,8 @@ way_up g k d at step p w n = go w.left w.level w.steps w.whole
     go (suc j) l e h =
         let a = parent_above g j at l in
         let s = a.0 in
-        let linked = and_parts (g.is_dir at) (dir_names g s at) a.1.linked in
-        let dir = and_parts (g.is_dir s) (list_any (entry_names at) (g.entries s)) linked.1 in
+        let linked = and_parts (g.is_dir at) (is_naming_dir g s at) a.1.linked in
+        let dir = and_parts (g.is_dir s) (list_any (is_naming_entry at) (g.entries s)) linked.1 in
         let name = name_in at (g.entries s) in
         let down = down_is g j at s n a.1.is in (
           s,

@@ -5,7 +5,7 @@ use Rattle.std.specs.Option.{unwrap_or}
 use Rattle.ffs_image.specs.Device.{ForContents}
 use Rattle.ffs_volume.specs.declared.Layout.{Layout}
 use Rattle.ffs_volume.specs.Disk.Numbers.{piece}
-use Rattle.ffs_volume.specs.Directories.Graph.{entry_names}
+use Rattle.ffs_volume.specs.Directories.Graph.{is_naming_entry}
 use Rattle.ffs_volume.specs.Directories.Roles.{RoledEntry, is_dir, roled_entries}
 use Rattle.ffs_volume.specs.Directories.Volumes.{volume_of}
 use Rattle.ffs_volume.specs.Encodings.Replay.{cut_at}
@@ -42,8 +42,8 @@ pub record KeepsPlace (x : ℕ) (p : NamePlace) (old new : ChildNames) : Type 0 
 pub record KeepsEntry (e : RoledEntry) (p : NamePlace) (old new : ChildNames) : Type 0 where
   pub parent : new.parent ≡ old.parent
   pub first : new.first ≡ old.first
-  pub this : (x : ℕ) → Covers old x → entry_names x e ≡ true → place_at new x ≡ Some (unwrap_or (place_at old x) p)
-  pub others : (x : ℕ) → old.first ≤ x → entry_names x e ≡ false → place_at new x ≡ place_at old x
+  pub this : (x : ℕ) → Covers old x → is_naming_entry x e ≡ true → place_at new x ≡ Some (unwrap_or (place_at old x) p)
+  pub others : (x : ℕ) → old.first ≤ x → is_naming_entry x e ≡ false → place_at new x ≡ place_at old x
 
 -- an image of these bytes has at each place the name of the first plain entry that names the inode
 pub record AreNamesOf (b : List ℕ) (es : List RoledEntry) (c : ChildNames) : Type 0 where

@@ -5,7 +5,7 @@ use Rattle.ffs_image.specs.Device.{Device}
 use Rattle.ffs_image.specs.Reads.{ReadAfter}
 use Rattle.ffs_image.specs.declared.image.ImageFault.{ImageFault}
 use Rattle.ffs_volume.specs.declared.Layout.{Layout}
-use Rattle.ffs_volume.specs.Directories.Graph.{Graph, entry_names, first_index}
+use Rattle.ffs_volume.specs.Directories.Graph.{Graph, is_naming_entry, first_index}
 use Rattle.ffs_volume.specs.Directories.Parents.{nth_roled}
 use Rattle.ffs_volume.specs.Directories.Paths.{name_of, dir_path, entry_path}
 use Rattle.ffs_volume.specs.Directories.Roles.{RoledEntry}
@@ -17,7 +17,7 @@ use Rattle.ffs_workspace.specs.Tables.{IsTableOf}
 
 -- the name of the first plain entry that names an inode, empty if there is none
 abbrev pub name_in : ℕ → List RoledEntry → List ℕ
-name_in d es = name_of (option_and_then (nth_roled es) (first_index (entry_names d) es))
+name_in d es = name_of (option_and_then (nth_roled es) (first_index (is_naming_entry d) es))
 
 -- the windows are a block's, and hold what the image gives, which has all of the volume
 pub record AreOpen (v : Layout) (d : Device) (w : Windows) : Type 0 where

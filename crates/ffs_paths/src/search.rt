@@ -2,7 +2,7 @@
 
 ghost use Rattle.std.specs.Prelude.{◌≡◌, ◌*◌, ◌<◌, ◌≤◌, ℕ, List, [], false, if◌then◌else◌, length, IfOk};
 ghost use Rattle.ffs_image.specs.Device.{ForContents};
-ghost use Rattle.ffs_volume.specs.Directories.Graph.{entry_names};
+ghost use Rattle.ffs_volume.specs.Directories.Graph.{is_naming_entry};
 ghost use Rattle.ffs_survey.specs.Reading.{roled_of};
 ghost use Rattle.ffs_names.specs.Entering.{to_come, last_name};
 ghost use Rattle.ffs_paths.specs.Climbing.{AreOpen, ReadsOpen};
@@ -15,7 +15,7 @@ use ffs_workspace::Windows;
 
 /// Whether an entry names an inode in the directory tree.
 fn names(entry: Named, number: u32) -> bool
-    ensures { result ≡ entry_names number (roled_of entry []) }
+    ensures { result ≡ is_naming_entry number (roled_of entry []) }
 {
     is_plain(entry.role) && entry.number == number
 }
@@ -23,7 +23,7 @@ fn names(entry: Named, number: u32) -> bool
 /// The number that bounds those of the entries that are passed, after one more.
 fn highest_with(highest: u32, entry: Named) -> u32
     ensures grows { highest ≤ result }
-    ensures passed { (n : ℕ) → result < n → entry_names n (roled_of entry []) ≡ false }
+    ensures passed { (n : ℕ) → result < n → is_naming_entry n (roled_of entry []) ≡ false }
 {
     if is_plain(entry.role) {
         return highest.max(entry.number);

@@ -3,7 +3,7 @@ use Rattle.ffs_volume.specs.Messages.Kinds.{Message, location, opening, bad_supe
 use Rattle.ffs_volume.specs.Messages.Kinds.{optimization, minfree, mounted, phase1, phase1b, phase2, phase3}
 use Rattle.ffs_volume.specs.Messages.Kinds.{phase4, phase5, of_blocks, of_tree, summary, TreeMessage}
 use Rattle.ffs_volume.specs.Messages.Kinds.{root_none, root_not_dir, root_suspect, dir_short, dir_length}
-use Rattle.ffs_volume.specs.Messages.Kinds.{dir_empty, dir_corrupt, missing_dot, missing_dot_first}
+use Rattle.ffs_volume.specs.Messages.Kinds.{dir_gap, dir_corrupt, missing_dot, missing_dot_first}
 use Rattle.ffs_volume.specs.Messages.Kinds.{number_dot, kind_dot, missing_dotdot, missing_dotdot_second}
 use Rattle.ffs_volume.specs.Messages.Kinds.{number_dotdot, kind_dotdot, extra_dot, extra_dotdot, out_of_range}
 use Rattle.ffs_volume.specs.Messages.Kinds.{whiteout, unallocated, dup_bad, zero_dir, extraneous, kind_entry}
@@ -42,7 +42,7 @@ directory_message RootNotDir = root_not_dir
 directory_message RootSuspect = root_suspect
 directory_message (DirShort attr path) = dir_short attr path.now
 directory_message (DirLength path size) = dir_length path.now size
-directory_message (DirEmpty path) = dir_empty path.now
+directory_message (DirEmpty path) = dir_gap path.now
 directory_message (DirCorrupt attr path) = dir_corrupt attr path.now
 
 abbrev pub dot_message : DotLine → TreeMessage

@@ -4,7 +4,7 @@ ghost use Rattle.ffs_report.specs.Sink.{Prints};
 ghost use Rattle.ffs_report.specs.Piece.{pieces_text};
 ghost use Rattle.ffs_report.specs.Lines.{directory_message, dot_message, entry_message, reference_message};
 ghost use Rattle.ffs_volume.specs.declared.Label.TheVariants.{Dir};
-ghost use Rattle.ffs_volume.specs.Messages.Texts.{path_label, file_label, attr_text, inode_text, labelled_text, path_text, name_in_the_way, length_text, entry_text, extraneous_text, links_text, name_message_text};
+ghost use Rattle.ffs_volume.specs.Messages.Texts.{path_label, file_label, attr_text, inode_text, labelled_text, path_text, name_in_the_way_text, length_text, entry_text, extraneous_text, links_text, tree_message_text};
 
 use crate::line::{DirectoryLine, DotLine, EntryLine, ReferenceLine};
 use crate::output::{OutFault, Output};
@@ -113,7 +113,7 @@ fn print_in_the_way<'x, W: Output>(
     name: &'x [u8],
 ) -> Result<(), OutFault>
     ensures { Prints (W.sink out.old) (W.sink out.new)
-        (name_in_the_way head.now attr.now path.now why.now name.now) result }
+        (name_in_the_way_text head.now attr.now path.now why.now name.now) result }
 {
     print_inode(
         out,
@@ -221,7 +221,7 @@ fn print_dir<'x, W: Output>(
 
 /// What is wrong with a directory as a whole.
 pub fn print_directory<W: Output>(out: &mut W, line: &DirectoryLine<'_>) -> Result<(), OutFault>
-    ensures { Prints (W.sink out.old) (W.sink out.new) (name_message_text
+    ensures { Prints (W.sink out.old) (W.sink out.new) (tree_message_text
         (directory_message line.now)) result }
 {
     match *line {
@@ -250,7 +250,7 @@ pub fn print_directory<W: Output>(out: &mut W, line: &DirectoryLine<'_>) -> Resu
 
 /// What is wrong with the entries `.` and `..` of a directory.
 pub fn print_dot<W: Output>(out: &mut W, line: &DotLine<'_>) -> Result<(), OutFault>
-    ensures { Prints (W.sink out.old) (W.sink out.new) (name_message_text
+    ensures { Prints (W.sink out.old) (W.sink out.new) (tree_message_text
         (dot_message line.now)) result }
 {
     match *line {
@@ -283,7 +283,7 @@ pub fn print_dot<W: Output>(out: &mut W, line: &DotLine<'_>) -> Result<(), OutFa
 
 /// What is wrong with a further entry of a directory.
 pub fn print_entry<W: Output>(out: &mut W, line: &EntryLine<'_>) -> Result<(), OutFault>
-    ensures { Prints (W.sink out.old) (W.sink out.new) (name_message_text
+    ensures { Prints (W.sink out.old) (W.sink out.new) (tree_message_text
         (entry_message line.now)) result }
 {
     match *line {
@@ -316,7 +316,7 @@ pub fn print_entry<W: Output>(out: &mut W, line: &EntryLine<'_>) -> Result<(), O
 
 /// What is wrong with an inode by the entries that name it.
 pub fn print_reference<W: Output>(out: &mut W, line: &ReferenceLine) -> Result<(), OutFault>
-    ensures { Prints (W.sink out.old) (W.sink out.new) (name_message_text
+    ensures { Prints (W.sink out.old) (W.sink out.new) (tree_message_text
         (reference_message line.now)) result }
 {
     match *line {

@@ -8,7 +8,7 @@ use mathlib.Core.Path.{fun_ext}
 use Rattle.ffs_volume.specs.declared.Role.{Role}
 use Rattle.ffs_volume.specs.declared.Role.TheVariants.{Empty, Dot, Dotdot, Extra, Plain}
 use Rattle.ffs_volume.specs.Directories.Roles.{RoledEntry, is_plain}
-use Rattle.ffs_volume.specs.Directories.Graph.{Graph, entry_names, dir_names}
+use Rattle.ffs_volume.specs.Directories.Graph.{Graph, is_naming_entry, is_naming_dir}
 use Rattle.ffs_volume.proofs.SearchLaws.{first_below-is_none}
 use Rattle.std.proofs.lemmas.List.{get_or_past}
 use Rattle.ffs_survey.specs.Survey.{bool_at, number_at, dir_at, is_dir_kind}
@@ -56,11 +56,11 @@ calm_names_new s reached i x Plain number kind c d n =
 
 -- directories that calm entries name weren't reached before them
 pub calm_new : (s : Sight) (reached : ℕ → Bool) (i x : ℕ) (es : List RoledEntry) → are_calm s reached i es ≡ true →
-    dir_at s.kinds x ≡ true → list_any (entry_names x) es ≡ true → reached x ≡ false
+    dir_at s.kinds x ≡ true → list_any (is_naming_entry x) es ≡ true → reached x ≡ false
 calm_new s reached i x [] c d n = absurd (cc)
 calm_new s reached i x (e ∷ es) c d n =
     let p = and_parts (is_calm_entry s reached i e) _ c in
-    elim (or_cases (entry_names x e) (list_any (entry_names x) es) n) [
+    elim (or_cases (is_naming_entry x e) (list_any (is_naming_entry x) es) n) [
       | inl here ↦ calm_names_new s reached i x e.role e.entry.number e.entry.kind p.0 d here
       | inr later ↦ (or_parts (reached x) _ (calm_new s (reached_after s.kinds reached e) (suc i) x es p.1 d later)).0
     ]
@@ -136,13 +136,14 @@ calm_found kinds m r r' p p' q q' es sound d c h calm right =
       below = λ x dir n.
           let new = calm_new (record { kinds = kinds; marked = m; dir = d; above = number_at p d }) (bool_at r) 0 x es
           calm dir n in
-          let t : bool_at r' x ≡ true = found_reached (bool_at r' x) d (dir_at kinds x) (list_any (entry_names x) es)
+          let t : bool_at r' x ≡ true = found_reached (bool_at r' x) d (dir_at kinds x) (list_any (is_naming_entry x)
+          es)
           dir n
           (subst (λ z. (bool_at r' x || is_some (nothing x)) ≡ (z || is_some (from_entries kinds d es x))) new
           (c.reached x)) in (
             t,
             found_parent (bool_at r' x) d (number_at p x) (number_at p' x) (dir_at kinds x)
-                (list_any (entry_names x) es) t
+                (list_any (is_naming_entry x) es) t
                 dir n
                 (subst (λ z. cond (bool_at r' x) (number_at p' x) (unwrap_or (nothing x) (number_at p' x))
                 ≡ cond z (number_at p x) (unwrap_or (from_entries kinds d es x) (number_at p x))) new (c.parent x)),
@@ -234,8 +235,9 @@ pub calm_step : (s : Sight) (r r' : List Bool) (p p' q q' : List ℕ) (i : ℕ) 
     → (quiet' && are_calm s (bool_at r') (i + 1) es) ≡ total
 calm_step s r r' p p' q q' i e es quiet quiet' total c step old =
     let same : bool_at r' ≡ reached_after s.kinds (bool_at r) e =
-    fun_ext (λ x. reached_by_entry (bool_at r x) (bool_at r' x) (dir_at s.kinds x) (entry_names x e)
-    (c.reached x ∙ ap (λ z. bool_at r x || z) (some_any (dir_at s.kinds x && (entry_names x e || false)) s.dir 0))) in
+    fun_ext (λ x. reached_by_entry (bool_at r x) (bool_at r' x) (dir_at s.kinds x) (is_naming_entry x e)
+    (c.reached x ∙ ap (λ z. bool_at r x || z) (some_any (dir_at s.kinds x && (is_naming_entry x e || false)) s.dir 0)))
+    in
     let next : i + 1 ≡ suc i = omega arith in
     ap (λ n. quiet' && are_calm s (bool_at r') n es) next
     ∙ (ap (λ z. quiet' && are_calm s z (suc i) es) same
@@ -276,7 +278,7 @@ read_stays g kinds r n f f' m m' p p' long read x h =
     read.parents x (subst (λ z. x < z) long (reached_below r x h))
     ∙ ap (λ o. unwrap_or o (number_at p x))
     (first_below-is_none (is_free_edge g kinds r x) n
-    (λ s l. taken (dir_at kinds x) (bool_at r x) (not (bool_at r s) && dir_names g s x) h))
+    (λ s l. taken (dir_at kinds x) (bool_at r x) (not (bool_at r s) && is_naming_dir g s x) h))
   where
     taken : (d b e : Bool) → b ≡ true → ((d && not b) && e) ≡ false
     taken true true e h = refl

@@ -12,7 +12,7 @@ use Rattle.std.proofs.lemmas.List.Sums.{sum_by-set, sum_by_push}
 use Rattle.ffs_survey.specs.Survey.{bool_at, number_at, dir_at, is_dir_kind, graph_with}
 use Rattle.ffs_survey.specs.Discover.{bit, times, unset, from_entries, from_dirs, nothing, Comes, is_free}
 use Rattle.ffs_volume.specs.Directories.Roles.{RoledEntry, is_plain}
-use Rattle.ffs_volume.specs.Directories.Graph.{Graph, entry_names, edge}
+use Rattle.ffs_volume.specs.Directories.Graph.{Graph, is_naming_entry, edge}
 
 pub comes-refl : (g : ℕ → Option ℕ) (r : List Bool) (p q : List ℕ) → Comes g r p q g r p q
 comes-refl g r p q = record { reached = λ x. refl; parent = λ x. refl; queue = λ x. refl }
@@ -75,7 +75,7 @@ comes-then g a b r r' p p' q q' e c = record {
 -- one entry and then the others
 pub from_entries-cons : (kinds : List ℕ) (s : ℕ) (e : RoledEntry) (rest : List RoledEntry) (x : ℕ) →
     from_entries kinds s (e ∷ rest) x ≡ option_or (from_entries kinds s (e ∷ []) x) (from_entries kinds s rest x)
-from_entries-cons kinds s e rest x = go (dir_at kinds x) (entry_names x e) (list_any (entry_names x) rest)
+from_entries-cons kinds s e rest x = go (dir_at kinds x) (is_naming_entry x e) (list_any (is_naming_entry x) rest)
   where
     go : (a b c : Bool) → cond (a && (b || c)) (Some s) None ≡ option_or (cond (a && (b || false)) (Some s) None)
         (cond (a && c) (Some s) None)
@@ -116,17 +116,17 @@ miss_at r p t (Some u) r' p' t' e1 e3 e4 e5 = absurd (cc)
 from_entry-hit : (kinds : List ℕ) (s : ℕ) (e : RoledEntry) (x : ℕ) → dir_at kinds x ≡ true → is_plain e.role ≡ true →
     x ≡ e.entry.number → from_entries kinds s (e ∷ []) x ≡ Some s
 from_entry-hit kinds s e x d p h =
-    cond-true (dir_at kinds x && (entry_names x e || false)) (Some s) None
-    (and_from (dir_at kinds x) (entry_names x e || false) d
-    (or_left (entry_names x e) false
+    cond-true (dir_at kinds x && (is_naming_entry x e || false)) (Some s) None
+    (and_from (dir_at kinds x) (is_naming_entry x e || false) d
+    (or_left (is_naming_entry x e) false
     (and_from (is_plain e.role) (e.entry.number == x) p (eq-eqb e.entry.number x (sym h)))))
 
 from_entry-miss : (kinds : List ℕ) (s : ℕ) (e : RoledEntry) (x : ℕ) → (x ≡ e.entry.number → ⊥) →
     from_entries kinds s (e ∷ []) x ≡ None
 from_entry-miss kinds s e x h =
-    cond-false (dir_at kinds x && (entry_names x e || false)) (Some s) None
-    (and_right (dir_at kinds x) (entry_names x e || false)
-    (or_from (entry_names x e) false
+    cond-false (dir_at kinds x && (is_naming_entry x e || false)) (Some s) None
+    (and_right (dir_at kinds x) (is_naming_entry x e || false)
+    (or_from (is_naming_entry x e) false
     (and_right (is_plain e.role) (e.entry.number == x) (ne_eqb e.entry.number x (λ q. h (sym q)))) refl))
 
 pub unset-set : (r : List Bool) (m : ℕ) → m < length r → bool_at r m ≡ false → unset (set r m true) + 1 ≡ unset r
@@ -249,7 +249,7 @@ entry_step g kinds s e rest r r' r'' p p' p'' q q' q'' a b =
 pub from_entries-edges : (kinds : List ℕ) (entries : ℕ → List RoledEntry) (s x : ℕ) → dir_at kinds s ≡ true
     → from_entries kinds s (entries s) x ≡ cond (edge (graph_with kinds entries) s x) (Some s) None
 from_entries-edges kinds entries s x h =
-    ap (λ b. cond (dir_at kinds x && (b && list_any (entry_names x) (entries s))) (Some s) None) (sym h)
+    ap (λ b. cond (dir_at kinds x && (b && list_any (is_naming_entry x) (entries s))) (Some s) None) (sym h)
 
 -- the step of the loop over a level
 pub level_step : (g : ℕ → Option ℕ) (kinds : List ℕ) (entries : ℕ → List RoledEntry) (frontier : List ℕ) (i : ℕ)

@@ -8,7 +8,16 @@ use Rattle.std.proofs.lemmas.Bool.{cond-false, false_from_ne_true, and_left, and
 use Rattle.std.proofs.lemmas.List.Sums.{sum_by-cons}
 use Rattle.ffs_volume.specs.Directories.Climb.{is_value}
 use Rattle.ffs_volume.proofs.ClimbLaws.{is_value-true, is_value-from}
-use Rattle.ffs_volume.specs.Directories.Graph.{Graph, entry_names, dir_names, edge, within, level, parent, reached}
+use Rattle.ffs_volume.specs.Directories.Graph.{
+  Graph,
+  is_naming_entry,
+  is_naming_dir,
+  edge,
+  within,
+  level,
+  parent,
+  reached,
+}
 use Rattle.ffs_volume.proofs.Graphs.{IsSane}
 use Rattle.ffs_volume.proofs.LevelLaws.{within-zero, within-grows, level-is, level-some, level-each, reached-from}
 use Rattle.ffs_volume.proofs.LevelLaws.{reached-level}
@@ -114,7 +123,8 @@ pub root_alone : (v : Graph) (r : List Bool) (p q : List ℕ) → IsSane v → v
 root_alone v r p q sane dry f n =
     let g = from_dirs v (2 ∷ []) in
     let none = λ (x : ℕ). cond-false (edge v 2 x) (Some 2) None
-    (and_right (v.is_dir x) (dir_names v 2 x) (and_left (v.is_dir 2) (list_any (entry_names x) (v.entries 2)) dry)) in
+    (and_right (v.is_dir x) (is_naming_dir v 2 x) (and_left (v.is_dir 2) (list_any (is_naming_entry x) (v.entries 2))
+    dry)) in
     let c : Comes g r p [] nothing r p [] = comes-to g g nothing r r p p [] [] none (comes-refl g r p []) in
     let k : IsNext v 1 r p [] = next_level v 0 (2 ∷ []) r r p p q [] sane f n c in
     (record { reached = k.reached; parent = k.parent; queue = n.queue }, record { members = k.members; rising = tt })

@@ -11,7 +11,7 @@ use Rattle.std.proofs.lemmas.Bool.{cond-false, and_left}
 use Rattle.std.proofs.lemmas.Grind.{common_steps}
 use Rattle.std.proofs.Math.Bool.{or-false}
 use Rattle.ffs_volume.specs.Directories.Roles.{RoledEntry, refers}
-use Rattle.ffs_volume.specs.Directories.Graph.{Graph, dir_names}
+use Rattle.ffs_volume.specs.Directories.Graph.{Graph, is_naming_dir}
 use Rattle.ffs_volume.proofs.Graphs.{IsSane}
 use Rattle.ffs_survey.specs.Survey.{bool_at, number_at, graph_with, dir_at, counted_in}
 use Rattle.ffs_survey.specs.Discover.{bit, times, from_dirs, nothing, Comes, IsFrontier, LevelsKnown, IsCount, Counts}
@@ -128,7 +128,7 @@ alone_part kinds entries starts f m r p e sane dry n zf zm =
           ∙ ap (λ c. number_at starts x + c) (sym
           (sum_by-cons (λ s. counted_in g s x) 2 []
           ∙ (add-zero (counted_in g 2 x) ∙ cond-false (dir_at kinds 2) (count_by (refers x) (entries 2)) 0 dry)));
-      named = λ x b. zm x ∙ sym (or-false (dir_names g 2 x) ∙ and_left (dir_at kinds 2) _ dry);
+      named = λ x b. zm x ∙ sym (or-false (is_naming_dir g 2 x) ∙ and_left (dir_at kinds 2) _ dry);
     })
 
 -- no entry is counted before the first directory

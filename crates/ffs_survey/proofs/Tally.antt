@@ -6,7 +6,7 @@ use Rattle.std.proofs.lemmas.Bool.{ne_eqb, cond-true, cond-false}
 use Rattle.std.proofs.lemmas.List.Sums.{sum_by-cons}
 use Rattle.std.proofs.Math.Bool.{or-false}
 use Rattle.ffs_volume.specs.Directories.Roles.{RoledEntry, refers}
-use Rattle.ffs_volume.specs.Directories.Graph.{entry_names, dir_names}
+use Rattle.ffs_volume.specs.Directories.Graph.{is_naming_entry, is_naming_dir}
 use Rattle.ffs_survey.specs.Survey.{number_at, bool_at, counted_in, graph_with, dir_at}
 use Rattle.ffs_survey.specs.Discover.{bit, Counts, count_in, any_in, count_of, any_of, none, never}
 
@@ -35,12 +35,12 @@ pub entry_counted : (n : ℕ) (c : ℕ → ℕ) (a : ℕ → Bool) (e : RoledEnt
     (m m' m'' : List Bool)
     → Counts n c a f m (count_in (e ∷ rest)) (any_in (e ∷ rest)) f' m'
     → ((x : ℕ) → x < n → number_at f'' x ≡ number_at f' x + bit (refers x e))
-    → ((x : ℕ) → x < n → bool_at m'' x ≡ (bool_at m' x || entry_names x e))
+    → ((x : ℕ) → x < n → bool_at m'' x ≡ (bool_at m' x || is_naming_entry x e))
     → Counts n c a f m (count_in rest) (any_in rest) f'' m''
 entry_counted n c a e rest f f' f'' m m' m'' h u w = record {
   references = λ x l. count_step (number_at f' x) (number_at f'' x) (bit (refers x e)) (count_in rest x) _ (u x l)
       (ap (λ k. number_at f' x + k) (sym (count_by-step (refers x) e rest)) ∙ h.references x l);
-  named = λ x l. any_step (bool_at m' x) (bool_at m'' x) (entry_names x e) (any_in rest x) _ (w x l) (h.named x l);
+  named = λ x l. any_step (bool_at m' x) (bool_at m'' x) (is_naming_entry x e) (any_in rest x) _ (w x l) (h.named x l);
 }
 
 -- the step of the loop over a level
@@ -67,7 +67,7 @@ dir_counted n c a kinds entries frontier i f f' f'' m m' m'' l d h k =
           let four = k.references x b in
           omega (arith, one, two, three, four);
       named = λ x b.
-          let two : (dir_names g s x || any_of g rest x) ≡ (any_in (entries s) x || any_of g rest x) =
+          let two : (is_naming_dir g s x || any_of g rest x) ≡ (any_in (entries s) x || any_of g rest x) =
           ap (λ y. (y && any_in (entries s) x) || any_of g rest x) d in
           any_step (bool_at m' x) (bool_at m'' x) (any_in (entries s) x) (any_of g rest x) _
           (sym (or-false (bool_at m'' x)) ∙ k.named x b)

@@ -8,7 +8,7 @@ use Rattle.std.proofs.lemmas.Bool.{and_parts, and_from, or_left, or_right, or_ca
 use Rattle.std.proofs.lemmas.List.Sums.{sum_by-cons}
 use Rattle.ffs_volume.specs.Disk.Search.{some_below, first_below}
 use Rattle.ffs_volume.proofs.SearchLaws.{some_below-suc, some_below-from, some_below-none}
-use Rattle.ffs_volume.specs.Directories.Graph.{Graph, dir_names}
+use Rattle.ffs_volume.specs.Directories.Graph.{Graph, is_naming_dir}
 use Rattle.ffs_survey.specs.Survey.{counted_in, references_below}
 use Rattle.ffs_survey.specs.Discover.{bit, times, count_of, any_of, counted_by}
 use Rattle.ffs_survey.proofs.Frontiers.{times-cases, times-cons}
@@ -161,19 +161,20 @@ passes true n e h = refl
 passes false n e h = absurd (omega arith)
 
 pub any_all : (g : Graph) (r : ℕ → Bool) (q : List ℕ) (n x : ℕ) → ((s : ℕ) → times s q ≡ bit (r s)) →
-    ((s : ℕ) → n ≤ s → r s ≡ false) → any_of g q x ≡ some_below (λ s. r s && dir_names g s x) n
+    ((s : ℕ) → n ≤ s → r s ≡ false) → any_of g q x ≡ some_below (λ s. r s && is_naming_dir g s x) n
 any_all g r q n x h past =
     elim (cases_Bool (any_of g q x)) [
       | inl y ↦
-          let w = any-gives (λ s. dir_names g s x) q y in
+          let w = any-gives (λ s. is_naming_dir g s x) q y in
           let m = passes (r w.0) _ (h w.0) w.1 in
           let l : w.0 < n = (elim (cases_lt w.0 n) [ inl l ↦ l | inr b ↦ absurd (both_ways (r w.0) (past w.0 b) m) ]) in
-          y ∙ sym (some_below-from (λ s. r s && dir_names g s x) n w.0 l (and_from (r w.0) (dir_names g w.0 x) m w.2))
-      | inr off ↦ off ∙ sym (some_below-none (λ s. r s && dir_names g s x) n
-          (λ s l. false_from_ne_true (r s && dir_names g s x) (λ t.
-          let p = and_parts (r s) (dir_names g s x) t in
+          y ∙ sym (some_below-from (λ s. r s && is_naming_dir g s x) n w.0 l (and_from (r w.0) (is_naming_dir g w.0 x) m
+          w.2))
+      | inr off ↦ off ∙ sym (some_below-none (λ s. r s && is_naming_dir g s x) n
+          (λ s l. false_from_ne_true (r s && is_naming_dir g s x) (λ t.
+          let p = and_parts (r s) (is_naming_dir g s x) t in
           let o : times s q ≡ 1 = h s ∙ ap bit p.0 in
-          both_ways (any_of g q x) off (any-from (λ s. dir_names g s x) q s (omega arith) p.1))))
+          both_ways (any_of g q x) off (any-from (λ s. is_naming_dir g s x) q s (omega arith) p.1))))
     ]
 
 -- the two parts of a whole
@@ -211,8 +212,8 @@ some_both r p (suc n) =
 
 pub any_of-append : (g : Graph) (ss ts : List ℕ) (x : ℕ) → any_of g (ss ++ ts) x ≡ (any_of g ss x || any_of g ts x)
 any_of-append g [] ts x = refl
-any_of-append g (s ∷ ss) ts x = ap (λ b. dir_names g s x || b) (any_of-append g ss ts x)
-    ∙ go (dir_names g s x) (any_of g ss x) (any_of g ts x)
+any_of-append g (s ∷ ss) ts x = ap (λ b. is_naming_dir g s x || b) (any_of-append g ss ts x)
+    ∙ go (is_naming_dir g s x) (any_of g ss x) (any_of g ts x)
   where
     go : (a b c : Bool) → (a || (b || c)) ≡ ((a || b) || c)
     go true b c = refl

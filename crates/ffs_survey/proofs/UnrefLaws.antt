@@ -5,9 +5,9 @@ use Rattle.std.proofs.Common.{arith, sym, ◌∙◌, ap, subst, inl, inr}
 use Rattle.std.proofs.lemmas.Bool.{cases_eq, and_parts, both_ways, cond-true, cond-false, eq-eqb, ne_eqb}
 use mathlib.Core.Path.{fun_ext}
 use Rattle.ffs_volume.proofs.SearchLaws.{first_below-some}
-use Rattle.ffs_volume.specs.Directories.Climb.{leads_cycle, is_value}
+use Rattle.ffs_volume.specs.Directories.Climb.{is_leader_within, is_value}
 use Rattle.ffs_volume.specs.Directories.Graph.{Graph, edge, parent, parent_by, level, is_dead_in, none_or_dead}
-use Rattle.ffs_volume.specs.Directories.Graph.{is_unref_dir}
+use Rattle.ffs_volume.specs.Directories.Graph.{is_unref_dir_in}
 use Rattle.ffs_volume.proofs.Graphs.{IsSane}
 use Rattle.ffs_survey.specs.Survey.{number_at, IsTree}
 use Rattle.ffs_survey.specs.Cycles.{up_of}
@@ -62,8 +62,9 @@ up_is_parent v p x sane z l h = go (parent v x) refl
         up_of-some p x (λ y. n (sym q ∙ y)) (omega arith) ∙ (ap Some q ∙ sym e)
 
 pub leads_is : (v : Graph) (p : List ℕ) (n d : ℕ) → IsSane v → v.is_dir 0 ≡ false → length p ≡ v.count →
-    ((x : ℕ) → number_at p x ≡ unwrap_or (parent v x) 0) → leads_cycle (up_of p) n d ≡ leads_cycle (parent v) n d
-leads_is v p n d sane z l h = ap (λ f. leads_cycle f n d) (fun_ext (λ x. up_is_parent v p x sane z l (h x)))
+    ((x : ℕ) → number_at p x ≡ unwrap_or (parent v x) 0) → is_leader_within (up_of p) n d ≡ is_leader_within (parent v)
+    n d
+leads_is v p n d sane z l h = ap (λ f. is_leader_within f n d) (fun_ext (λ x. up_is_parent v p x sane z l (h x)))
 
 -- the test on the parent, as the code makes it
 pub none_or_dead_is : (v : Graph) (suspect : ℕ → Bool) (p : List ℕ) (d : ℕ) → IsSane v → v.is_dir 0 ≡ false →
@@ -105,15 +106,16 @@ parent-below v kinds r p d t = go (parent v d) refl
 
 pub unref_is : (v : Graph) (suspect : ℕ → Bool) (kinds : List ℕ) (r : List Bool) (p : List ℕ) (d : ℕ) →
     length p ≡ length kinds → IsTree v kinds r p → IsLost v suspect d
-    → is_unref_dir v suspect d
-    ≡ (cond (number_at p d == 0) true (is_dead_in v suspect (number_at p d)) || leads_cycle (up_of p) (length p) d)
+    → is_unref_dir_in v suspect d
+    ≡ (cond (number_at p d == 0) true (is_dead_in v suspect (number_at p d)) || is_leader_within (up_of p) (length p) d)
 unref_is v suspect kinds r p d lp t l =
     let sane = tree-sane v kinds r p t in
     let z = tree-zero v kinds r p t in
     let full : length p ≡ v.count = lp ∙ sym t.count in
-    ap (λ b. b && (none_or_dead v suspect (parent v d) || leads_cycle (parent v) v.count d)) (lost-from v suspect d l)
-    ∙ (ap (λ b. b || leads_cycle (parent v) v.count d) (none_or_dead_is v suspect p d sane z (t.ups d))
+    ap (λ b. b && (none_or_dead v suspect (parent v d) || is_leader_within (parent v) v.count d)) (lost-from v suspect d
+    l)
+    ∙ (ap (λ b. b || is_leader_within (parent v) v.count d) (none_or_dead_is v suspect p d sane z (t.ups d))
     ∙ (ap (λ b. cond (number_at p d == 0) true (is_dead_in v suspect (number_at p d)) || b)
     (sym (leads_is v p v.count d sane z full t.ups))
-    ∙ ap (λ n. cond (number_at p d == 0) true (is_dead_in v suspect (number_at p d)) || leads_cycle (up_of p) n d)
+    ∙ ap (λ n. cond (number_at p d == 0) true (is_dead_in v suspect (number_at p d)) || is_leader_within (up_of p) n d)
     (sym full)))

@@ -7,9 +7,15 @@ use Rattle.std.proofs.lemmas.Bool.{or_left, or_right, or_from, le-leb, leb-true,
 use Rattle.std.proofs.lemmas.Bool.{cond-true, cond-false, false_from_ne_true}
 use Rattle.std.proofs.lemmas.List.{get_or_past}
 use Rattle.std.proofs.lemmas.List.Sums.{sum_by-set, sum_by-cons}
-use Rattle.ffs_volume.specs.Directories.Climb.{climb, OnCycle, leads_cycle}
+use Rattle.ffs_volume.specs.Directories.Climb.{climb, OnCycle, is_leader_within}
 use Rattle.ffs_volume.proofs.ClimbLaws.{climb-zero, climb-one, climb-suc, climb-add, climb-last, cycle-along}
-use Rattle.ffs_volume.proofs.ClimbLaws.{cycle-next, cycle-goes, cycle-within, leads_cycle-from, leads_cycle-true}
+use Rattle.ffs_volume.proofs.ClimbLaws.{
+  cycle-next,
+  cycle-goes,
+  cycle-within,
+  is_leader_within-from,
+  is_leader_within-true,
+}
 use Rattle.ffs_survey.specs.Survey.{number_at, bool_at}
 use Rattle.ffs_survey.specs.Discover.{bit}
 use Rattle.ffs_survey.specs.Cycles.{up_of, zeros, IsClosed, IsNew, Walked, FindsCycle, IsLeastOn, Marks}
@@ -328,8 +334,8 @@ marks_none f n start mark old new leader w none m = record {
   known = λ x s. elim (cases_eq (number_at old x) 0) [
     | inr o ↦ m.known x o
     | inl z ↦ m.blank x z ∙ sym
-        (false_from_ne_true (leads_cycle f n x)
-        (λ t. none x (record { was = z; is = s }) (leads_cycle-true f n x t).cycle))
+        (false_from_ne_true (is_leader_within f n x)
+        (λ t. none x (record { was = z; is = s }) (is_leader_within-true f n x t).cycle))
   ];
   blank = λ x z. m.blank x (unstamped f start mark old new x w z);
 }
@@ -342,11 +348,11 @@ marks_found f n start mark found e old new leader l c w g i m = record {
   long = length-set leader e true ∙ m.long;
   known = λ x s. elim (cases_eq x e) [
     | inl y ↦ (ap (bool_at (set leader e true)) y ∙ get_or-set_same leader e true false l)
-        ∙ sym (ap (leads_cycle f n) y ∙ leads_cycle-from f n e i.leader i.short)
+        ∙ sym (ap (is_leader_within f n) y ∙ is_leader_within-from f n e i.leader i.short)
     | inr ne ↦ get_or-set_other leader e x true false ne ∙ elim (cases_eq (number_at old x) 0) [
       | inr o ↦ m.known x o
-      | inl z ↦ m.blank x z ∙ sym (false_from_ne_true (leads_cycle f n x) (λ t.
-          let lx = leads_cycle-true f n x t in
+      | inl z ↦ m.blank x z ∙ sym (false_from_ne_true (is_leader_within f n x) (λ t.
+          let lx = is_leader_within-true f n x t in
           let k = g.only x (record { was = z; is = s }) lx.cycle in
           let back = cycle-back f i.on.0 found e g.cycle i.on.1 in
           let down : climb f (k.0 + back.0) e ≡ Some x = climb-add f k.0 back.0 e found back.1 ∙ k.1 in
@@ -378,9 +384,9 @@ up_cycle parents x c =
     ]
 
 -- a number past the list leads no cycle
-pub past_leader : (parents : List ℕ) (n x : ℕ) → length parents ≤ x → leads_cycle (up_of parents) n x ≡ false
-past_leader parents n x b = false_from_ne_true (leads_cycle (up_of parents) n x) (λ t.
-    let i = leads_cycle-true (up_of parents) n x t in
+pub past_leader : (parents : List ℕ) (n x : ℕ) → length parents ≤ x → is_leader_within (up_of parents) n x ≡ false
+past_leader parents n x b = false_from_ne_true (is_leader_within (up_of parents) n x) (λ t.
+    let i = is_leader_within-true (up_of parents) n x t in
     let e = cycle-next (up_of parents) x i.cycle in
     let q : None ≡ Some e.0 = sym (up_of-none parents x (inl (get_or_past parents x 0 b))) ∙ e.1 in
     cc)

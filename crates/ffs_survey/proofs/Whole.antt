@@ -10,7 +10,7 @@ use Rattle.std.proofs.Math.Bool.{or-false}
 use Rattle.ffs_volume.specs.Directories.Roles.{RoledEntry}
 use Rattle.ffs_volume.specs.Disk.Search.{first_below, earliest, some_below}
 use Rattle.ffs_volume.proofs.SearchLaws.{some_below-suc, first_below-some, first_below-is_none}
-use Rattle.ffs_volume.specs.Directories.Graph.{Graph, entry_names, dir_names, edge, level, reached, parent}
+use Rattle.ffs_volume.specs.Directories.Graph.{Graph, is_naming_entry, is_naming_dir, edge, level, reached, parent}
 use Rattle.ffs_volume.proofs.Graphs.{IsSane}
 use Rattle.ffs_volume.proofs.LevelLaws.{reached-edge, reached-root}
 use Rattle.ffs_survey.specs.Survey.{bool_at, number_at, dir_at, is_dir_kind, graph_with, counted_in, start_in}
@@ -56,8 +56,8 @@ first_step p s o q q' a z k e h w = go (first_below p s) (p s) refl e h
 zero-edge : (kinds : List ℕ) (entries : ℕ → List RoledEntry) (r : List Bool) (x : ℕ) →
     is_free_edge (graph_with kinds entries) kinds r x 0 ≡ false
 zero-edge kinds entries r x =
-    and_right (is_free kinds r x) _ (and_right (not (bool_at r 0)) (dir_names (graph_with kinds entries) 0 x)
-    (and_left (dir_at kinds 0) (list_any (entry_names x) (entries 0))
+    and_right (is_free kinds r x) _ (and_right (not (bool_at r 0)) (is_naming_dir (graph_with kinds entries) 0 x)
+    (and_left (dir_at kinds 0) (list_any (is_naming_entry x) (entries 0))
     (and_left (nat_le 2 0) (is_dir_kind (number_at kinds 0)) refl)))
 
 -- a directory without a mark is read
@@ -81,10 +81,10 @@ read_on kinds entries r s f f' f'' m m' m'' p p' p'' free blank i c u =
           omega (arith, a, b, d, e);
       named = λ x l.
           sym (or-false (bool_at m'' x)) ∙ (c.named x l ∙ (ap (λ y. y || any_in (entries s) x) (i.named x l)
-          ∙ (ap (λ y. (bool_at m x || some_below (λ t. not (bool_at r t) && dir_names g t x) s) || y) (share x)
-          ∙ (assoc (bool_at m x) (some_below (λ t. not (bool_at r t) && dir_names g t x) s)
-          (not (bool_at r s) && dir_names g s x)
-          ∙ ap (λ y. bool_at m x || y) (sym (some_below-suc (λ t. not (bool_at r t) && dir_names g t x) s))))));
+          ∙ (ap (λ y. (bool_at m x || some_below (λ t. not (bool_at r t) && is_naming_dir g t x) s) || y) (share x)
+          ∙ (assoc (bool_at m x) (some_below (λ t. not (bool_at r t) && is_naming_dir g t x) s)
+          (not (bool_at r s) && is_naming_dir g s x)
+          ∙ ap (λ y. bool_at m x || y) (sym (some_below-suc (λ t. not (bool_at r t) && is_naming_dir g t x) s))))));
       parents = λ x l.
           first_step (is_free_edge g kinds r x) s (number_at p x) (number_at p' x) (number_at p'' x)
           (is_free kinds r x && any_in (entries s) x) (zero-edge kinds entries r x)
@@ -108,7 +108,7 @@ read_on kinds entries r s f f' f'' m m' m'' p p' p'' free blank i c u =
     assoc true b d = refl
     assoc false b d = refl
 
-    share : (x : ℕ) → any_in (entries s) x ≡ (not (bool_at r s) && dir_names g s x)
+    share : (x : ℕ) → any_in (entries s) x ≡ (not (bool_at r s) && is_naming_dir g s x)
     share x = go (not (bool_at r s)) (dir_at kinds s) (any_in (entries s) x) unmarked dir
       where
         go : (a b d : Bool) → a ≡ true → b ≡ true → d ≡ (a && (b && d))
@@ -127,7 +127,7 @@ read_skip kinds entries r s f f' m m' p p' taken i = subst (λ n. IsRead g kinds
       zero_share (dir_at kinds s) (bool_at r s) (count_in (entries s) x) taken in omega (arith, a, b);
   named = λ x l. i.named x l
       ∙ ap (λ y. bool_at m x || y)
-      (sym (some_below-suc (λ t. not (bool_at r t) && dir_names g t x) s ∙ or_skip _ _ (no_share x)));
+      (sym (some_below-suc (λ t. not (bool_at r t) && is_naming_dir g t x) s ∙ or_skip _ _ (no_share x)));
   parents = λ x l. i.parents x l
       ∙ ap (λ o. unwrap_or o (number_at p x))
       (same_first (first_below (is_free_edge g kinds r x) s) _ (and_right (is_free kinds r x) _ (no_share x)));
@@ -155,7 +155,7 @@ read_skip kinds entries r s f f' m m' p p' taken i = subst (λ n. IsRead g kinds
     none_named false true a h = refl
     none_named false false a h = refl
 
-    no_share : (x : ℕ) → (not (bool_at r s) && dir_names g s x) ≡ false
+    no_share : (x : ℕ) → (not (bool_at r s) && is_naming_dir g s x) ≡ false
     no_share x = none_named (dir_at kinds s) (bool_at r s) (any_in (entries s) x) taken
 
     same_first : (o : Option ℕ) (b : Bool) → b ≡ false → o ≡ earliest o b s
@@ -181,8 +181,8 @@ free_edges kinds entries r x s ls lx h off =
       | inl y ↦
           let none : edge g s x ≡ false = false_from_ne_true (edge g s x)
           (λ t. both_ways (reached g x) (sym (h x) ∙ off) (reached-edge g s x ls lx (sym (h s) ∙ y) t)) in
-          and_right (is_free kinds r x) _ (and_left (not (bool_at r s)) (dir_names g s x) (ap not y)) ∙ sym none
-      | inr z ↦ go (dir_at kinds x) (bool_at r x) (bool_at r s) (dir_names g s x) off z
+          and_right (is_free kinds r x) _ (and_left (not (bool_at r s)) (is_naming_dir g s x) (ap not y)) ∙ sym none
+      | inr z ↦ go (dir_at kinds x) (bool_at r x) (bool_at r s) (is_naming_dir g s x) off z
     ]
   where
     g : Graph
@@ -210,8 +210,8 @@ survey_whole kinds entries given starts f f' m m' r p p' sane lr lp begins i k =
       let d = begins x in
       omega (arith, a, b, c, d);
   names = λ x l. k.named x l
-      ∙ (ap (λ b. b || some_below (λ s. not (bool_at r s) && dir_names g s x) (length kinds)) (i.named x l)
-      ∙ some_both (bool_at r) (λ s. dir_names g s x) (length kinds));
+      ∙ (ap (λ b. b || some_below (λ s. not (bool_at r s) && is_naming_dir g s x) (length kinds)) (i.named x l)
+      ∙ some_both (bool_at r) (λ s. is_naming_dir g s x) (length kinds));
   reaches = i.reached;
   ups = λ x. elim (cases_lt x (length kinds)) [ inl l ↦ below x l | inr b ↦ past x b ];
 }
@@ -232,7 +232,7 @@ survey_whole kinds entries given starts f f' m m' r p p' sane lr lp begins i k =
         get_or_past p' x 0 (omega arith)
         ∙ sym (ap (λ o. unwrap_or o 0)
         (unreached_first x off ∙ first_below-is_none (λ s. edge g s x) (length kinds)
-        (λ s l. and_left (dir_at kinds x) (dir_names g s x) dry)))
+        (λ s l. and_left (dir_at kinds x) (is_naming_dir g s x) dry)))
 
     below : (x : ℕ) → x < length kinds → number_at p' x ≡ unwrap_or (parent g x) 0
     below x l = elim (cases_Bool (bool_at r x)) [

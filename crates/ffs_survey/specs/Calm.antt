@@ -5,7 +5,7 @@ use Rattle.std.specs.List.{list_any}
 use Rattle.ffs_volume.specs.declared.Role.{Role}
 use Rattle.ffs_volume.specs.declared.Role.TheVariants.{Empty, Dot, Dotdot, Extra, Plain}
 use Rattle.ffs_volume.specs.Directories.Roles.{RoledEntry}
-use Rattle.ffs_volume.specs.Directories.Graph.{entry_names}
+use Rattle.ffs_volume.specs.Directories.Graph.{is_naming_entry}
 use Rattle.ffs_survey.specs.Survey.{bool_at, number_at, dir_at}
 
 -- the kinds of inodes and which are marked, a directory and its parent
@@ -39,7 +39,7 @@ is_calm_entry s reached i e = is_calm_role s reached i e.role e.entry.number e.e
 
 -- what is reached after an entry: a directory that it names, too
 abbrev pub reached_after : List ℕ → (ℕ → Bool) → RoledEntry → ℕ → Bool
-reached_after kinds reached e x = reached x || (dir_at kinds x && entry_names x e)
+reached_after kinds reached e x = reached x || (dir_at kinds x && is_naming_entry x e)
 
 -- all entries from an index on, where this is reached before them; the first two aren't missing
 abbrev pub are_calm : Sight → (ℕ → Bool) → ℕ → List RoledEntry → Bool
@@ -56,7 +56,7 @@ pub record IsCalm (kinds : List ℕ) (marked reached : List Bool) (parents : Lis
       before 0 entries ≡ true
   pub shape_right : sound ≡ true
   pub is_reached : bool_at reached d ≡ true
-  pub below : (x : ℕ) → dir_at kinds x ≡ true → list_any (entry_names x) entries ≡ true
+  pub below : (x : ℕ) → dir_at kinds x ≡ true → list_any (is_naming_entry x) entries ≡ true
       → (bool_at reached x ≡ true) × (number_at parents x ≡ d)
 
 -- all directories with a flag are calm

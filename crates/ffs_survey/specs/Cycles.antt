@@ -2,7 +2,7 @@
 use Rattle.std.specs.Prelude.{◌≡◌, ◌≢◌, ℕ, ◌<◌, ◌≤◌, ◌^◌, ◌==◌, ◌||◌, nat_le, Bool, false, cond}
 use Rattle.std.specs.Prelude.{List, length, All, Option, None, Some}
 use Rattle.std.specs.List.{sum_by}
-use Rattle.ffs_volume.specs.Directories.Climb.{climb, OnCycle, IsLeader, leads_cycle}
+use Rattle.ffs_volume.specs.Directories.Climb.{climb, OnCycle, IsLeader, is_leader_within}
 use Rattle.ffs_survey.specs.Survey.{number_at, bool_at}
 use Rattle.ffs_survey.specs.Discover.{bit}
 
@@ -71,5 +71,5 @@ pub record CanMark (parents stamp : List ℕ) (leaders : List Bool) : Type 0 whe
 -- the marks of leaders, where all that is stamped is known
 pub record Marks (f : ℕ → Option ℕ) (n : ℕ) (stamp : List ℕ) (leader : List Bool) : Type 0 where
   pub long : length leader ≡ n
-  pub known : (x : ℕ) → number_at stamp x ≢ 0 → bool_at leader x ≡ leads_cycle f n x
+  pub known : (x : ℕ) → number_at stamp x ≢ 0 → bool_at leader x ≡ is_leader_within f n x
   pub blank : (x : ℕ) → number_at stamp x ≡ 0 → bool_at leader x ≡ false

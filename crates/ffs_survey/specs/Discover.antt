@@ -6,7 +6,7 @@ use Rattle.std.specs.List.{list_any, sum_by}
 use Rattle.ffs_volume.specs.Directories.Roles.{RoledEntry, refers}
 use Rattle.ffs_volume.specs.Disk.Search.{first_below}
 use Rattle.ffs_volume.specs.Directories.Climb.{is_value}
-use Rattle.ffs_volume.specs.Directories.Graph.{Graph, entry_names, dir_names, edge, within, level, parent}
+use Rattle.ffs_volume.specs.Directories.Graph.{Graph, is_naming_entry, is_naming_dir, edge, within, level, parent}
 use Rattle.ffs_survey.specs.Survey.{bool_at, number_at, dir_at, counted_in, most_start}
 
 -- what a survey has found so far: references, named and reached inodes, parents, calm directories, and the queue
@@ -36,7 +36,7 @@ unset flags = sum_by (λ b. bit (not b)) flags
 
 -- the parent that x gets from the directory s with these entries to go
 abbrev pub from_entries : List ℕ → ℕ → List RoledEntry → ℕ → Option ℕ
-from_entries kinds s rest x = cond (dir_at kinds x && list_any (entry_names x) rest) (Some s) None
+from_entries kinds s rest x = cond (dir_at kinds x && list_any (is_naming_entry x) rest) (Some s) None
 
 -- the parent that x gets from these directories, one after another
 abbrev pub from_dirs : Graph → List ℕ → ℕ → Option ℕ
@@ -60,20 +60,20 @@ abbrev pub count_in : List RoledEntry → ℕ → ℕ
 count_in rest x = count_by (refers x) rest
 
 abbrev pub any_in : List RoledEntry → ℕ → Bool
-any_in rest x = list_any (entry_names x) rest
+any_in rest x = list_any (is_naming_entry x) rest
 
 -- the same of the entries of these directories
 abbrev pub count_of : Graph → List ℕ → ℕ → ℕ
 count_of g ss x = sum_by (λ s. counted_in g s x) ss
 
 abbrev pub any_of : Graph → List ℕ → ℕ → Bool
-any_of g ss x = list_any (λ s. dir_names g s x) ss
+any_of g ss x = list_any (λ s. is_naming_dir g s x) ss
 
 -- the counts f and the flags m of the numbers below n become f' and m' with this entry
 pub record IsCounted (n : ℕ) (e : RoledEntry) (f : List ℕ) (m : List Bool) (f' : List ℕ) (m' : List Bool)
     : Type 0 where
   pub references : (x : ℕ) → x < n → number_at f' x ≡ number_at f x + bit (refers x e)
-  pub named : (x : ℕ) → x < n → bool_at m' x ≡ (bool_at m x || entry_names x e)
+  pub named : (x : ℕ) → x < n → bool_at m' x ≡ (bool_at m x || is_naming_entry x e)
 
 -- none is to go
 abbrev pub none : ℕ → ℕ
@@ -122,7 +122,8 @@ counted_by r g x (suc s) = counted_by r g x s + (if r s then counted_in g s x el
 -- what is known when all reached directories are read: counts on from these starts, flags, marks and parents
 pub record IsReachedPart (g : Graph) (starts f : List ℕ) (m r : List Bool) (p : List ℕ) : Type 0 where
   pub references : (x : ℕ) → x < g.count → number_at f x ≡ number_at starts x + counted_by (bool_at r) g x g.count
-  pub named : (x : ℕ) → x < g.count → bool_at m x ≡ is_some (first_below (λ s. bool_at r s && dir_names g s x) g.count)
+  pub named : (x : ℕ) → x < g.count → bool_at m x ≡ is_some (first_below (λ s. bool_at r s && is_naming_dir g s x)
+      g.count)
   pub reached : (x : ℕ) → bool_at r x ≡ is_some (level g x)
   pub parent : (x : ℕ) → number_at p x ≡ unwrap_or (cond (is_some (level g x)) (parent g x) None) 0
 
@@ -132,7 +133,7 @@ is_free kinds r x = dir_at kinds x && not (bool_at r x)
 
 -- the directory s, which has no mark, names x, which has none
 abbrev pub is_free_edge : Graph → List ℕ → List Bool → ℕ → ℕ → Bool
-is_free_edge g kinds r x s = is_free kinds r x && (not (bool_at r s) && dir_names g s x)
+is_free_edge g kinds r x s = is_free kinds r x && (not (bool_at r s) && is_naming_dir g s x)
 
 -- no directory without a mark has a parent
 abbrev pub IsBlank : List ℕ → List Bool → List ℕ → Type 0
@@ -143,7 +144,7 @@ pub record IsRead (g : Graph) (kinds : List ℕ) (r : List Bool) (n : ℕ) (f : 
     (m' : List Bool) (p' : List ℕ) : Type 0 where
   pub references : (x : ℕ) → x < g.count → number_at f' x ≡ number_at f x + counted_by (λ s. not (bool_at r s)) g x n
   pub named : (x : ℕ) → x < g.count → bool_at m' x ≡ (bool_at m x
-      || is_some (first_below (λ s. not (bool_at r s) && dir_names g s x) n))
+      || is_some (first_below (λ s. not (bool_at r s) && is_naming_dir g s x) n))
   pub parents : (x : ℕ) → x < g.count
       → number_at p' x ≡ unwrap_or (first_below (is_free_edge g kinds r x) n) (number_at p x)
 

@@ -1,6 +1,6 @@
 -- The lists of a survey: each has a place for every inode.
 use Rattle.std.specs.Prelude.{◌≡◌, ℕ, ◌+◌, ◌<◌, ◌≤◌, ◌^◌, Bool, List, length}
-use Rattle.ffs_volume.specs.Directories.Climb.{leads_cycle}
+use Rattle.ffs_volume.specs.Directories.Climb.{is_leader_within}
 use Rattle.ffs_survey.specs.Survey.{bool_at, number_at}
 use Rattle.ffs_survey.specs.Cycles.{up_of}
 use Rattle.ffs_survey.specs.Discover.{unset}
@@ -68,7 +68,7 @@ pub record FoundLists (kinds : List ℕ) (m n r : List Bool) (p : List ℕ) (lea
   pub reached : length r ≡ length kinds
   pub parents : length p ≡ length kinds
   pub leaders_long : length leaders ≡ length kinds
-  pub cycles : (x : ℕ) → bool_at leaders x ≡ leads_cycle (up_of p) (length p) x
+  pub cycles : (x : ℕ) → bool_at leaders x ≡ is_leader_within (up_of p) (length p) x
 
 -- no reference count below n grew by more than `most`
 abbrev pub GrowsBy : ℕ → ℕ → List ℕ → List ℕ → Type 0

@@ -8,7 +8,7 @@ use Rattle.ffs_volume.specs.declared.Layout.{Layout}
 use Rattle.ffs_volume.specs.declared.Inode.{Inode}
 use Rattle.ffs_volume.specs.declared.Class.{Class}
 use Rattle.ffs_volume.specs.declared.Class.TheVariants.{Free, Partial, Unknown, File, Dir}
-use Rattle.ffs_volume.specs.Blocks.Inodes.{inode_of, class_of, type_of, is_known_type, is_any_set, is_directory}
+use Rattle.ffs_volume.specs.Blocks.Inodes.{inode_of, class_of, type_of, is_known_type, any_nonzero, is_directory}
 use Rattle.ffs_volume.specs.Directories.Roles.{Volume, RoledEntry, roled_entries, is_dir, is_suspect, refers}
 use Rattle.ffs_volume.specs.Directories.Roles.{references, references_below as volume_references_below}
 use Rattle.ffs_volume.specs.Directories.Volumes.{class_at, marked_at, volume_of, volume_with}
@@ -73,7 +73,7 @@ five_no_file kind free bad e h = let q : Unknown ≡ File = subst (λ k. class_b
 file_kind : (v : Layout) (i : Inode) → class_of v i ≡ File → is_dir_kind (type_of i.mode) ≡ false
 unfolding class_of class_by
 file_kind v i h =
-    let free = i.mode == 0 && (i.size == 0 && not (is_any_set i.addresses)) in
+    let free = i.mode == 0 && (i.size == 0 && not (any_nonzero i.addresses)) in
     false_from_ne_true (is_dir_kind (type_of i.mode))
     (λ t. elim (or_cases (type_of i.mode == 4) (type_of i.mode == 5) t) [
       | inl four ↦ four_no_file (type_of i.mode) _ _ (eqb-true (type_of i.mode) 4 four) h

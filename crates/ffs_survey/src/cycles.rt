@@ -1,6 +1,6 @@
 //! Cycles of parents.
 ghost use Rattle.std.specs.Prelude.{◌≡◌, ◌<◌, ◌+◌, ℕ, length, MatchOption, false};
-ghost use Rattle.ffs_volume.specs.Directories.Climb.{OnCycle, leads_cycle};
+ghost use Rattle.ffs_volume.specs.Directories.Climb.{OnCycle, is_leader_within};
 ghost use Rattle.ffs_survey.specs.Survey.{bool_at};
 ghost use Rattle.ffs_survey.specs.Cycles.{up_of, CanFollow, ComesBack, IsNew, CanMark, Walked, FindsCycle, IsLeastOn, Marks};
 
@@ -73,7 +73,7 @@ fn mark_from(start: u32, parents: &[u32], stamp: &mut [u32], leaders: &mut [bool
 pub fn mark_leaders(parents: &[u32], stamp: &mut [u32], leaders: &mut [bool])
     requires { CanMark parents.now stamp.old leaders.old }
     ensures { (x : ℕ) → bool_at leaders.new x
-        ≡ leads_cycle (up_of parents.now) (length parents.now) x }
+        ≡ is_leader_within (up_of parents.now) (length parents.now) x }
 {
     stamp.fill(0);
     leaders.fill(false);

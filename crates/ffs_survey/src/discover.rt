@@ -1,7 +1,7 @@
 //! What one directory, and one level of directories, names.
 ghost use Rattle.std.specs.Prelude.{◌≡◌, ◌==◌, ◌*◌, ◌+◌, ℕ, ◌<◌, ◌≤◌, ◌^◌, ◌&&◌, ◌||◌, nat_le, cond, List, [], ◌∷◌, length, take, All, true, false, IfOk, OnOk};
 ghost use Rattle.ffs_volume.specs.Directories.Roles.{is_plain as is_plain_role};
-ghost use Rattle.ffs_volume.specs.Directories.Graph.{entry_names};
+ghost use Rattle.ffs_volume.specs.Directories.Graph.{is_naming_entry};
 ghost use Rattle.ffs_survey.specs.Reading.{roled_of, ForKnown, LeavesReader};
 ghost use Rattle.ffs_survey.specs.Lists.{MarkLists, TreeLists, QueueLists, CountLists, EntryLists, LevelLists, GrowsBy};
 ghost use Rattle.ffs_survey.specs.Levels.{ReadsReached, ReadsDirs, ReadsUnreached};
@@ -259,7 +259,7 @@ fn adopt(entry: Named, from: u32, kinds: &[u8], reached: &[bool], parents: &mut 
     requires { TreeLists kinds.now reached.now parents.old }
     ensures { (x : ℕ) → x < length kinds.now → number_at parents.new x
         ≡ cond ((number_at parents.old x == 0)
-        && (is_free_at kinds.now reached.now x && entry_names x (roled_of entry []))) from
+        && (is_free_at kinds.now reached.now x && is_naming_entry x (roled_of entry []))) from
         (number_at parents.old x) }
 {
     if !is_new(entry, kinds, reached) {

@@ -1,6 +1,6 @@
 //! Directories that hang below nothing.
 ghost use Rattle.std.specs.Prelude.{◌≡◌, ◌<◌, length};
-ghost use Rattle.ffs_volume.specs.Directories.Graph.{Graph, is_dead_in, is_unref_dir};
+ghost use Rattle.ffs_volume.specs.Directories.Graph.{Graph, is_dead_in, is_unref_dir_in};
 ghost use Rattle.ffs_survey.specs.Survey.{suspect_at, IsTree, AreNamed};
 ghost use Rattle.ffs_survey.specs.Lists.{DeadLists, FoundLists};
 
@@ -42,7 +42,7 @@ pub fn is_unref(
         leaders.now }
     ensures { (graph : Graph) → AreNamed graph kinds.now named.now
         → IsTree graph kinds.now reached.now parents.now → result
-        ≡ is_unref_dir graph (suspect_at kinds.now marked.now) dir }
+        ≡ is_unref_dir_in graph (suspect_at kinds.now marked.now) dir }
 {
     if !is_dir(kinds, dir as usize) {
         return false;

@@ -9,7 +9,7 @@ use Rattle.ffs_volume.specs.Disk.Superblock.{Superblock, layout_of, superblock_o
 use Rattle.ffs_volume.specs.Disk.Outcome.{super_sector, super_bytes, layout_fault, copy_agrees, super_verdict}
 use Rattle.ffs_volume.specs.Disk.Outcome.{outcome_in, outcome_of, outcome}
 use Rattle.ffs_volume.proofs.GeometryLaws.{geometry_holds}
-use Rattle.ffs_volume.specs.Laws.Accepted.{FitsImage, AcceptedAreSound}
+use Rattle.ffs_volume.specs.Laws.Accepted.{FitsImage, AcceptedFit}
 
 judged_ok : (fault : Option SuperFault) (agrees : Bool) (super s : Superblock) → super_verdict fault agrees super ≡ Ok s
     → (fault ≡ None) × (super ≡ s)
@@ -33,7 +33,7 @@ in_image : (b : Bool) (fault : SuperFault) (r : Result Superblock SuperFault) (s
 in_image true fault r s e = absurd (cc)
 in_image false fault r s e = e
 
-pub accepted_sound : AcceptedAreSound
+pub accepted_sound : AcceptedFit
 unfolding outcome
 accepted_sound image sector s e =
     super_layout image sector (super_bytes image sector) (order_of (super_bytes image sector)) s

@@ -12,7 +12,7 @@ use Rattle.ffs_volume.specs.declared.Layout.{Layout}
 use Rattle.ffs_volume.specs.Disk.Search.{first_below, some_below}
 use Rattle.ffs_volume.proofs.SearchLaws.{some_below-suc}
 use Rattle.ffs_volume.specs.Disk.Areas.{cgbase, cgstart, cgsblock, cgdmin, is_group_metadata}
-use Rattle.ffs_volume.specs.Disk.Geometry.{IsValidLayout}
+use Rattle.ffs_volume.specs.Disk.Geometry.{IsAcceptedLayout}
 
 -- a test that at most one number passes
 some_below-only : (n i : ℕ) (test : ℕ → Bool) → ((c : ℕ) → c < n → test c ≡ true → c ≡ i) →
@@ -42,7 +42,7 @@ abbrev pub in_kept : Layout → ℕ → ℕ → Bool
 in_kept v c f = nat_le (cgsblock v c) f && nat_lt f (cgdmin v c)
 
 -- only a fragment's own group can keep it
-pub is_kept_group : (v : Layout) (f : ℕ) → IsValidLayout v →
+pub is_kept_group : (v : Layout) (f : ℕ) → IsAcceptedLayout v →
     is_group_metadata v f ≡ (nat_lt (f / v.fpg) v.ncg && in_kept v (f / v.fpg) f)
 unfolding is_group_metadata cgstart
 is_kept_group v f g = some_below-only v.ncg (f / v.fpg) (λ c. in_kept v c f) only
@@ -55,10 +55,10 @@ is_kept_group v f g = some_below-only v.ncg (f / v.fpg) (λ c. in_kept v c f) on
         sym (group_is v c f (omega arith) (omega arith))
 
 -- a fragment below size is of a group
-pub group_below : (v : Layout) (f : ℕ) → IsValidLayout v → f < v.size → f / v.fpg < v.ncg
+pub group_below : (v : Layout) (f : ℕ) → IsAcceptedLayout v → f < v.size → f / v.fpg < v.ncg
 group_below v f g h = div_below f v.fpg v.ncg (omega arith) (omega arith)
 
-pub inode_group : (v : Layout) (x : ℕ) → IsValidLayout v → x < v.ncg * v.ipg → x / v.ipg < v.ncg
+pub inode_group : (v : Layout) (x : ℕ) → IsAcceptedLayout v → x < v.ncg * v.ipg → x / v.ipg < v.ncg
 inode_group v x g h = div_below x v.ipg v.ncg (omega arith) h
 
 -- whole units cover what they are counted from
@@ -66,7 +66,7 @@ div_ceil_covers : (a b : ℕ) → 0 < b → a ≤ div_ceil a b * b
 div_ceil_covers a b h = grind (arith, div-add-mod' a b, mod-lt a h)
 
 -- the last copy of the superblock is in the volume
-pub copy_inside : (v : Layout) → IsValidLayout v → copy_place v + 1376 ≤ v.size * v.fsize
+pub copy_inside : (v : Layout) → IsAcceptedLayout v → copy_place v + 1376 ≤ v.size * v.fsize
 copy_inside v g =
     let group = g.groups (v.ncg - 1) (omega arith) in
     let units = div_ceil v.sbsize v.fsize in
@@ -77,7 +77,7 @@ copy_inside v g =
     omega arith
 
 -- no fragment from size on is kept
-pub kept_below : (v : Layout) (f : ℕ) → IsValidLayout v → v.size ≤ f → is_group_metadata v f ≡ false
+pub kept_below : (v : Layout) (f : ℕ) → IsAcceptedLayout v → v.size ≤ f → is_group_metadata v f ≡ false
 kept_below v f g h = rw (is_kept_group v f g) (away (nat_lt (f / v.fpg) v.ncg) refl)
   where
     away : (b : Bool) → nat_lt (f / v.fpg) v.ncg ≡ b → (b && in_kept v (f / v.fpg) f) ≡ false

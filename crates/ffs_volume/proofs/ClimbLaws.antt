@@ -7,7 +7,7 @@ use Rattle.std.proofs.lemmas.Bool.{not-true, not-false, not_from_true, not_from_
 use Rattle.ffs_volume.specs.Disk.Search.{some_below}
 use Rattle.ffs_volume.proofs.SearchLaws.{some_below-gives, some_below-from, some_below-false, some_below-none}
 use Rattle.ffs_volume.proofs.Pigeon.{pigeon}
-use Rattle.ffs_volume.specs.Directories.Climb.{climb, is_value, none_or_at_least, leads_cycle, OnCycle, IsLeader}
+use Rattle.ffs_volume.specs.Directories.Climb.{climb, is_value, none_or_at_least, is_leader_within, OnCycle, IsLeader}
 
 -- where the test holds, the number is below n and f leads to a number where it holds
 pub record StaysBelow (f : ℕ → Option ℕ) (p : ℕ → Bool) (n : ℕ) : Type 0 where
@@ -107,15 +107,16 @@ at_least-true : (o : Option ℕ) (d s : ℕ) → none_or_at_least o d ≡ true �
 at_least-true o d s h e = leb-true d s (subst (λ x. none_or_at_least x d ≡ true) e h)
 
 -- the test for what it says
-pub leads_cycle-from : (f : ℕ → Option ℕ) (n d : ℕ) (i : IsLeader f d) → i.cycle.length < n → leads_cycle f n d ≡ true
-leads_cycle-from f n d i b =
+pub is_leader_within-from : (f : ℕ → Option ℕ) (n d : ℕ) (i : IsLeader f d) → i.cycle.length < n → is_leader_within f n
+    d ≡ true
+is_leader_within-from f n d i b =
     and_from _ _ (some_below-from (λ k. is_value (climb f (suc k) d) d) n i.cycle.length b
     (is_value-from _ d i.cycle.returns))
     (not_from_false _ (some_below-none (λ k. not (none_or_at_least (climb f k d) d)) n
     (λ k l. not_from_true _ (at_least-from (climb f k d) d (i.least k)))))
 
-pub leads_cycle-true : (f : ℕ → Option ℕ) (n d : ℕ) → leads_cycle f n d ≡ true → IsLeader f d
-leads_cycle-true f n d h =
+pub is_leader_within-true : (f : ℕ → Option ℕ) (n d : ℕ) → is_leader_within f n d ≡ true → IsLeader f d
+is_leader_within-true f n d h =
     let p = and_parts (some_below (λ k. is_value (climb f (suc k) d) d) n)
     (not (some_below (λ k. not (none_or_at_least (climb f k d) d)) n)) h in
     let w = some_below-gives (λ k. is_value (climb f (suc k) d) d) n p.0 in
@@ -164,7 +165,7 @@ cycle_above f p n d g h =
 
 -- the least number on a cycle
 pub leader_on : (f : ℕ → Option ℕ) (p : ℕ → Bool) (n x : ℕ) → StaysBelow f p n → p x ≡ true → (c : OnCycle f x) →
-    c.length < n → (e : ℕ) × (p e ≡ true) × (leads_cycle f n e ≡ true)
+    c.length < n → (e : ℕ) × (p e ≡ true) × (is_leader_within f n e ≡ true)
 unfolding cycle-along
 leader_on f p n x g h c l =
     let t = λ (e : ℕ). some_below (λ k. is_value (climb f k x) e) n in
@@ -192,10 +193,10 @@ leader_on f p n x g h c l =
                 (some_below-from (λ k. is_value (climb f k x) s) n near.0 lt (is_value-from _ s near.2)))
           ];
     } in
-    (w.0, subst (λ y. p y ≡ true) eq a.2, leads_cycle-from f n w.0 i l)
+    (w.0, subst (λ y. p y ≡ true) eq a.2, is_leader_within-from f n w.0 i l)
 
 pub some_leader : (f : ℕ → Option ℕ) (p : ℕ → Bool) (n d : ℕ) → StaysBelow f p n → p d ≡ true → (e : ℕ) × (p e ≡ true)
-    × (leads_cycle f n e ≡ true)
+    × (is_leader_within f n e ≡ true)
 some_leader f p n d g h =
     let a = cycle_above f p n d g h in
     leader_on f p n a.0 g a.1 a.2.0 a.2.1

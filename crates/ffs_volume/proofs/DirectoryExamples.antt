@@ -10,19 +10,27 @@ use Rattle.ffs_volume.specs.Directories.Graph.{within, level, parent}
 use Rattle.ffs_volume.specs.Directories.Paths.{longest_end, path_bytes, names_down, dir_path, entry_path}
 use Rattle.ffs_volume.specs.Messages.Kinds.{lines_below}
 use Rattle.ffs_volume.specs.Directories.PathnameCheck.{attributes, root_lines, shape_lines, dot_lines, dotdot_lines}
-use Rattle.ffs_volume.specs.Directories.PathnameCheck.{named_lines, plain_lines, roled_lines, lines_of_entries}
-use Rattle.ffs_volume.specs.Directories.PathnameCheck.{dir_lines, pathname_lines}
+use Rattle.ffs_volume.specs.Directories.PathnameCheck.{named_lines, plain_lines, entry_lines, lines_of_entries}
+use Rattle.ffs_volume.specs.Directories.PathnameCheck.{sized_dir_lines, pathname_lines}
 use Rattle.ffs_volume.specs.Directories.Connectivity.{connectivity_lines}
 use Rattle.ffs_volume.specs.Directories.ReferenceCheck.{inode_lines, reference_lines}
 use Rattle.ffs_volume.specs.Examples.Images.{bytes_in, word, zeros, root_chunk}
-use Rattle.ffs_volume.specs.Examples.DirectoryExamples.{entry_bytes, with_second, entry, two_chunks, dots, whole_chunk}
+use Rattle.ffs_volume.specs.Examples.DirectoryExamples.{
+  entry_bytes,
+  with_second_entry,
+  entry,
+  two_chunks,
+  dots,
+  whole_chunk,
+}
 use Rattle.ffs_volume.specs.Examples.DirectoryExamples.{class_in, small, about, alone, lost_entries, below_entries}
 use Rattle.ffs_volume.specs.Examples.DirectoryExamples.{lost_cycle, twice_entries, twice, sub_entries, sub, empty_dir}
 use Rattle.ffs_volume.specs.Examples.DirectoryExamples.{dead_entries, dead_parent, sized, long_name, EntryExamples}
 use Rattle.ffs_volume.specs.Examples.DirectoryExamples.{PathnameExamples, ReferenceExamples}
 
 pub entry_examples : EntryExamples
-unfolding bytes_in word zeros root_chunk entry_bytes with_second entry two_chunks number u16_at u32_at is_well_formed
+unfolding bytes_in word zeros root_chunk entry_bytes with_second_entry entry two_chunks number u16_at u32_at
+    is_well_formed
     entry_read entry_at entries_from role_of
 entry_examples = record {
   root = refl;
@@ -58,8 +66,8 @@ pub pathname_examples : PathnameExamples
 unfolding entry dots whole_chunk class_in small about alone lost_entries below_entries lost_cycle twice_entries twice
     sub_entries sub empty_dir dead_entries dead_parent sized long_name role_of roled_from roled_entries start_entry dot
     dotdot first_below earliest climb within level parent longest_end path_bytes names_down dir_path entry_path
-    lines_below attributes root_lines shape_lines dot_lines dotdot_lines named_lines plain_lines roled_lines
-    lines_of_entries dir_lines pathname_lines
+    lines_below attributes root_lines shape_lines dot_lines dotdot_lines named_lines plain_lines entry_lines
+    lines_of_entries sized_dir_lines pathname_lines
 pathname_examples = record {
   base = refl;
   cycle = refl;

@@ -10,12 +10,12 @@ use Rattle.ffs_volume.specs.declared.Step.TheVariants.{Run, Tail, Gap}
 use Rattle.ffs_volume.specs.Disk.Areas.{is_run_in_range}
 use Rattle.ffs_volume.specs.Blocks.Owners.{fragments_of, step_fragments}
 use Rattle.ffs_volume.specs.Blocks.Claims.{Claims, is_open, after_offer, after_offers, after_step, after_steps}
-use Rattle.ffs_volume.specs.Blocks.BlockCheck.{Offer, kept_in_offers, kept_in_step, kept_in_steps, offer_at}
+use Rattle.ffs_volume.specs.Blocks.BlockCheck.{Offer, kept_in_offers, kept_in_step, kept_in_steps, offer_of}
 use Rattle.ffs_volume.specs.Laws.Meanings.{KeptPrefix}
 
-map_append : (i : ℕ) (fs gs : List ℕ) → map (offer_at i) (fs ++ gs) ≡ map (offer_at i) fs ++ map (offer_at i) gs
+map_append : (i : ℕ) (fs gs : List ℕ) → map (offer_of i) (fs ++ gs) ≡ map (offer_of i) fs ++ map (offer_of i) gs
 map_append i [] gs = refl
-map_append i (f ∷ fs) gs = ap (λ z. offer_at i f ∷ z) (map_append i fs gs)
+map_append i (f ∷ fs) gs = ap (λ z. offer_of i f ∷ z) (map_append i fs gs)
 
 full_offers : (v : Layout) (i : ℕ) (s : Claims) (fs : List ℕ) → nat_lt s.dups 11 ≡ false →
     (kept_in_offers v i s fs ≡ []) × (after_offers v s fs ≡ s)
@@ -23,7 +23,7 @@ full_offers v i s [] q = (refl, refl)
 full_offers v i s (f ∷ fs) q =
     let stay : after_offer v s f ≡ s = rw q refl in
     let rest = full_offers v i s fs q in (
-      ap (λ x. (if x then offer_at i f ∷ [] else []) ++ kept_in_offers v i (after_offer v s f) fs) q
+      ap (λ x. (if x then offer_of i f ∷ [] else []) ++ kept_in_offers v i (after_offer v s f) fs) q
           ∙ (ap (λ x. kept_in_offers v i x fs) stay ∙ rest.0),
       ap (λ x. after_offers v x fs) stay ∙ rest.1,
     )
@@ -40,14 +40,14 @@ offers_first v i s (f ∷ fs) = one (nat_lt s.dups 11) refl (offers_first v i (a
     one false q r =
         let full = full_offers v i s (f ∷ fs) q in
         record {
-          rest = map (offer_at i) (f ∷ fs);
-          parts = ap (λ z. z ++ map (offer_at i) (f ∷ fs)) full.0;
+          rest = map (offer_of i) (f ∷ fs);
+          parts = ap (λ z. z ++ map (offer_of i) (f ∷ fs)) full.0;
           end = inr (ap (λ x. not (nat_lt x.dups 11)) full.1 ∙ ap not q);
         }
     one true q r = record {
       rest = r.rest;
-      parts = ap (λ x. ((if x then offer_at i f ∷ [] else []) ++ kept_in_offers v i (after_offer v s f) fs) ++ r.rest) q
-          ∙ ap (λ z. offer_at i f ∷ z) r.parts;
+      parts = ap (λ x. ((if x then offer_of i f ∷ [] else []) ++ kept_in_offers v i (after_offer v s f) fs) ++ r.rest) q
+          ∙ ap (λ z. offer_of i f ∷ z) r.parts;
       end = r.end;
     }
 
@@ -83,8 +83,8 @@ step_first v i s (Run start len block) = one (is_open s) refl (is_run_in_range v
         let next : after_step v s (Run start len block) ≡ s = rw q refl in
         let none : kept_in_step v i s (Run start len block) ≡ [] = rw q refl in
         record {
-          rest = map (offer_at i) (range_with_len start len);
-          parts = ap (λ x. x ++ map (offer_at i) (range_with_len start len)) none;
+          rest = map (offer_of i) (range_with_len start len);
+          parts = ap (λ x. x ++ map (offer_of i) (range_with_len start len)) none;
           end =
               inr (ap (λ x. not (is_open x)) next ∙ ap not q);
         }
@@ -99,8 +99,8 @@ step_first v i s (Run start len block) = one (is_open s) refl (is_run_in_range v
         let none : kept_in_step v i s (Run start len block) ≡ [] = rw (q, qr, qz) refl in
         let full : is_open (record s { runs = s.runs + 1; bad = s.bad + 1 }) ≡ false = ten s.bad s.dups qz in
         record {
-          rest = map (offer_at i) (range_with_len start len);
-          parts = ap (λ x. x ++ map (offer_at i) (range_with_len start len)) none;
+          rest = map (offer_of i) (range_with_len start len);
+          parts = ap (λ x. x ++ map (offer_of i) (range_with_len start len)) none;
           end = inr (ap (λ x. not (is_open x)) next ∙ ap not full);
         }
       where
@@ -146,7 +146,7 @@ steps_first v i s (step ∷ steps) = one (step_first v i s step) (steps_first v 
         parts =
             append_assoc (kept_in_step v i s step) (kept_in_steps v i (after_step v s step) steps) g.rest
             ∙ (ap (λ z. kept_in_step v i s step ++ z) g.parts
-            ∙ (ap (λ z. z ++ map (offer_at i) (fragments_of steps))
+            ∙ (ap (λ z. z ++ map (offer_of i) (fragments_of steps))
             (sym (append-nil (kept_in_step v i s step))
             ∙ (ap (λ z. kept_in_step v i s step ++ z) (sym none) ∙ f.parts))
             ∙ sym (map_append i (step_fragments step) (fragments_of steps))));
@@ -156,13 +156,13 @@ steps_first v i s (step ∷ steps) = one (step_first v i s step) (steps_first v 
           let shut : is_open (after_step v s step) ≡ false = one_not (is_open (after_step v s step)) over in
           let rest = shut_steps v i (after_step v s step) steps shut in
           record {
-            rest = f.rest ++ map (offer_at i) (fragments_of steps);
+            rest = f.rest ++ map (offer_of i) (fragments_of steps);
             parts =
-                ap (λ z. (kept_in_step v i s step ++ z) ++ (f.rest ++ map (offer_at i) (fragments_of steps))) rest.0
-                ∙ (ap (λ z. z ++ (f.rest ++ map (offer_at i) (fragments_of steps)))
+                ap (λ z. (kept_in_step v i s step ++ z) ++ (f.rest ++ map (offer_of i) (fragments_of steps))) rest.0
+                ∙ (ap (λ z. z ++ (f.rest ++ map (offer_of i) (fragments_of steps)))
                 (append-nil (kept_in_step v i s step))
-                ∙ (sym (append_assoc (kept_in_step v i s step) f.rest (map (offer_at i) (fragments_of steps)))
-                ∙ (ap (λ z. z ++ map (offer_at i) (fragments_of steps)) f.parts
+                ∙ (sym (append_assoc (kept_in_step v i s step) f.rest (map (offer_of i) (fragments_of steps)))
+                ∙ (ap (λ z. z ++ map (offer_of i) (fragments_of steps)) f.parts
                 ∙ sym (map_append i (step_fragments step) (fragments_of steps)))));
             end = inr (ap (λ x. not (is_open x)) rest.1 ∙ over);
           }

@@ -8,13 +8,21 @@ use Rattle.ffs_volume.specs.declared.Layout.{Layout}
 use Rattle.ffs_volume.specs.declared.Step.{Step}
 use Rattle.ffs_volume.specs.declared.Step.TheVariants.{Run, Tail, Gap}
 use Rattle.ffs_volume.specs.Disk.Areas.{is_fragment_in_range, is_run_in_range}
-use Rattle.ffs_volume.specs.Blocks.Claims.{Claims, next_inode, is_open, is_set, after_offer, after_offers, after_step}
+use Rattle.ffs_volume.specs.Blocks.Claims.{
+  Claims,
+  at_next_inode,
+  is_open,
+  is_set,
+  after_offer,
+  after_offers,
+  after_step,
+}
 use Rattle.ffs_volume.specs.Blocks.Claims.{after_steps}
-use Rattle.ffs_volume.specs.Blocks.BlockCheck.{Offer, kept_in_offers, kept_in_step, kept_in_steps, offer_at}
+use Rattle.ffs_volume.specs.Blocks.BlockCheck.{Offer, kept_in_offers, kept_in_step, kept_in_steps, offer_of}
 use Rattle.ffs_volume.proofs.PrefixLaws.{shut_steps}
 use Rattle.ffs_volume.specs.Blocks.KeptSteps.{is_kept_step, kept_steps}
-use Rattle.ffs_volume.specs.Encodings.Replay.{Replay, fresh_replay, cut_of, is_replay_open, taken_of, replay_run}
-use Rattle.ffs_volume.specs.Encodings.Replay.{replay_step, is_replayed, replayed_steps}
+use Rattle.ffs_volume.specs.Encodings.Replay.{Replay, fresh_replay, cut_of, is_replay_open, taken_of, replay_after_run}
+use Rattle.ffs_volume.specs.Encodings.Replay.{replay_after_step, is_replayed, replayed_steps}
 
 -- the replay of a fold
 abbrev pub replay_of : Claims → Replay
@@ -23,14 +31,14 @@ replay_of s = record { bad = s.bad; kept = s.kept }
 -- the offers of a step that are kept: the first of its fragments
 abbrev pub replayed_step_offers : Layout → ℕ → ℕ → Replay → Step → List Offer
 replayed_step_offers v inode cut r (Run start len block) =
-    map (offer_at inode) (range_with_len start ((replay_step v cut r (Run start len block)).kept - r.kept))
+    map (offer_of inode) (range_with_len start ((replay_after_step v cut r (Run start len block)).kept - r.kept))
 replayed_step_offers v inode cut r Tail = []
 replayed_step_offers v inode cut r Gap = []
 
 abbrev pub replayed_offers : Layout → ℕ → ℕ → Replay → List Step → List Offer
 replayed_offers v inode cut r [] = []
 replayed_offers v inode cut r (step ∷ steps) =
-    replayed_step_offers v inode cut r step ++ replayed_offers v inode cut (replay_step v cut r step) steps
+    replayed_step_offers v inode cut r step ++ replayed_offers v inode cut (replay_after_step v cut r step) steps
 
 -- how the counts of an inode move over `n` offers
 record ClaimBound (s s' : Claims) (n : ℕ) : Type 0 where
@@ -245,7 +253,7 @@ seen_replays v s steps few =
 
 -- a step does in the replay what it did
 pub step_replays : (v : Layout) (s : Claims) (step : Step) (steps : List Step) → s.dups ≤ s.kept
-    → replay_step v (cut_of (after_steps v s (step ∷ steps))) (replay_of s) step ≡ replay_of (after_step v s step)
+    → replay_after_step v (cut_of (after_steps v s (step ∷ steps))) (replay_of s) step ≡ replay_of (after_step v s step)
 step_replays v s Gap steps few = refl
 step_replays v s Tail steps few = one (is_open s) refl
   where
@@ -258,19 +266,22 @@ step_replays v s (Run start len block) steps few =
   where
     from : (s' : Claims) (o : Bool) → after_step v s (Run start len block) ≡ s' →
         is_replay_open (cut_of (after_steps v s (Run start len block ∷ steps))) (replay_of s) ≡ o
-        → (if o then replay_run v (cut_of (after_steps v s' steps)) (replay_of s) start len else replay_of s)
+        → (if o then replay_after_run v (cut_of (after_steps v s' steps)) (replay_of s) start len else replay_of s)
         ≡ replay_of s'
-        → replay_step v (cut_of (after_steps v s (Run start len block ∷ steps))) (replay_of s) (Run start len block)
+        → replay_after_step v (cut_of (after_steps v s (Run start len block ∷ steps))) (replay_of s) (Run start len
+        block)
         ≡ replay_of (after_step v s (Run start len block))
     from s' o e q g =
-        ap (λ x. if x then replay_run v (cut_of (after_steps v (after_step v s (Run start len block)) steps))
+        ap (λ x. if x then replay_after_run v (cut_of (after_steps v (after_step v s (Run start len block)) steps))
         (replay_of s) start len else replay_of s) q
-        ∙ (ap (λ x. if o then replay_run v (cut_of (after_steps v x steps)) (replay_of s) start len else replay_of s) e
+        ∙ (ap (λ x. if o then replay_after_run v (cut_of (after_steps v x steps)) (replay_of s) start len else replay_of
+        s) e
         ∙ (g ∙ ap replay_of (sym e)))
 
     one : (o : Bool) → is_open s ≡ o → (r : Bool) → is_run_in_range v start len ≡ r → (z : Bool) → (s.bad == 10) ≡ z →
         is_replay_open (cut_of (after_steps v s (Run start len block ∷ steps))) (replay_of s) ≡ is_open s
-        → replay_step v (cut_of (after_steps v s (Run start len block ∷ steps))) (replay_of s) (Run start len block)
+        → replay_after_step v (cut_of (after_steps v s (Run start len block ∷ steps))) (replay_of s) (Run start len
+        block)
         ≡ replay_of (after_step v s (Run start len block))
     one false o r rq z zq q = from s false (rw o refl) (q ∙ o) refl
     one true o true r z zq q =
@@ -303,7 +314,7 @@ kept_replays v s Gap steps few = seen_replays v s (Gap ∷ steps) few
 kept_replays v s Tail steps few = seen_replays v s (Tail ∷ steps) few
 kept_replays v s (Run start len block) steps few =
     let cut = cut_of (after_steps v s (Run start len block ∷ steps)) in
-    ap (λ b. b && (replay_step v cut (replay_of s) (Run start len block)).kept == s.kept + len)
+    ap (λ b. b && (replay_after_step v cut (replay_of s) (Run start len block)).kept == s.kept + len)
     (seen_replays v s (Run start len block ∷ steps) few)
     ∙ ap (λ r. is_open s && r.kept == s.kept + len) (step_replays v s (Run start len block) steps few)
 
@@ -312,7 +323,7 @@ steps_replay : (v : Layout) (s : Claims) (steps : List Step) → s.dups ≤ s.ke
 steps_replay v s [] few = refl
 steps_replay v s (step ∷ steps) few =
     let cut = cut_of (after_steps v s (step ∷ steps)) in
-    ap (λ b. (if b then step ∷ [] else []) ++ replayed_steps v cut (replay_step v cut (replay_of s) step) steps)
+    ap (λ b. (if b then step ∷ [] else []) ++ replayed_steps v cut (replay_after_step v cut (replay_of s) step) steps)
     (kept_replays v s step steps few)
     ∙ (ap (λ r. (if is_kept_step v s step then step ∷ [] else []) ++ replayed_steps v cut r steps)
     (step_replays v s step steps few)
@@ -321,6 +332,6 @@ steps_replay v s (step ∷ steps) few =
 
 -- the kept steps of an inode are those of the replay, with the cut that its end reports
 pub replay_is_keeping : (v : Layout) (s : Claims) (steps : List Step)
-    → replayed_steps v (cut_of (after_steps v (next_inode s) steps)) fresh_replay steps
-    ≡ kept_steps v (next_inode s) steps
-replay_is_keeping v s steps = steps_replay v (next_inode s) steps (omega arith)
+    → replayed_steps v (cut_of (after_steps v (at_next_inode s) steps)) fresh_replay steps
+    ≡ kept_steps v (at_next_inode s) steps
+replay_is_keeping v s steps = steps_replay v (at_next_inode s) steps (omega arith)

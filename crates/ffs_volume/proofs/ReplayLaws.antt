@@ -8,10 +8,17 @@ use Rattle.ffs_volume.specs.declared.Layout.{Layout}
 use Rattle.ffs_volume.specs.declared.Step.{Step}
 use Rattle.ffs_volume.specs.declared.Step.TheVariants.{Run, Tail, Gap}
 use Rattle.ffs_volume.specs.Disk.Areas.{is_fragment_in_range, is_run_in_range}
-use Rattle.ffs_volume.specs.Blocks.Claims.{Claims, next_inode, is_open, is_set, after_offer, after_offers, after_run}
+use Rattle.ffs_volume.specs.Blocks.Claims.{Claims, at_next_inode, is_open, is_set, after_offer, after_offers, after_run}
 use Rattle.ffs_volume.specs.Blocks.Claims.{after_step, after_steps}
-use Rattle.ffs_volume.specs.Blocks.BlockCheck.{offer_at}
-use Rattle.ffs_volume.specs.Encodings.Replay.{Replay, fresh_replay, cut_of, replay_step, is_replayed, replayed_steps}
+use Rattle.ffs_volume.specs.Blocks.BlockCheck.{offer_of}
+use Rattle.ffs_volume.specs.Encodings.Replay.{
+  Replay,
+  fresh_replay,
+  cut_of,
+  replay_after_step,
+  is_replayed,
+  replayed_steps,
+}
 use Rattle.ffs_volume.proofs.ReplayIsKeeping.{replay_of, replayed_step_offers, replayed_offers, seen_replays}
 use Rattle.ffs_volume.proofs.ReplayIsKeeping.{step_replays, step_few}
 use Rattle.ffs_volume.specs.Encodings.ReplayCounts.{seen_run, replayed_runs, replay_step_by_cut}
@@ -67,16 +74,17 @@ steps_runs v s (step ∷ steps) few =
     let cut = cut_of (after_steps v s (step ∷ steps)) in
     let one = step_runs v s step steps few in
     let more = steps_runs v (after_step v s step) steps (step_few v s step few) in
-    let same : replayed_runs v cut (replay_step v cut (replay_of s) step) steps
+    let same : replayed_runs v cut (replay_after_step v cut (replay_of s) step) steps
     ≡ replayed_runs v cut (replay_of (after_step v s step)) steps =
     ap (λ r. replayed_runs v cut r steps) (step_replays v s step steps few) in
     omega arith
 
 -- an inode's Runs that are seen are those of the replay
 pub replay_is_runs : (v : Layout) (s : Claims) (steps : List Step)
-    → (after_steps v (next_inode s) steps).runs ≡ s.runs + replayed_runs v (cut_of (after_steps v (next_inode s) steps))
+    → (after_steps v (at_next_inode s) steps).runs ≡ s.runs + replayed_runs v (cut_of (after_steps v (at_next_inode s)
+    steps))
     fresh_replay steps
-replay_is_runs v s steps = steps_runs v (next_inode s) steps (omega arith)
+replay_is_runs v s steps = steps_runs v (at_next_inode s) steps (omega arith)
 
 abbrev run_by : Bool → Bool → Bool → ℕ → ℕ → ℕ → Replay
 run_by o i t bad kept len =
@@ -89,7 +97,7 @@ record Alike (r q : Replay) : Type 0 where
   bad : r.bad ≡ q.bad
 
 alike_next : (v : Layout) (r q : Replay) (step : Step) → Alike r q →
-    Alike (replay_step v 0 r step) (replay_step v 0 q step)
+    Alike (replay_after_step v 0 r step) (replay_after_step v 0 q step)
 alike_next v r q Gap a = a
 alike_next v r q Tail a = a
 alike_next v r q (Run start len block) a =
@@ -131,7 +139,7 @@ alike_offers : (v : Layout) (i : ℕ) (r q : Replay) (step : Step) → Alike r q
     ≡ replayed_step_offers v i 0 q step
 alike_offers v i r q Gap a = refl
 alike_offers v i r q Tail a = refl
-alike_offers v i r q (Run start len block) a = ap (λ n. map (offer_at i) (range_with_len start n))
+alike_offers v i r q (Run start len block) a = ap (λ n. map (offer_of i) (range_with_len start n))
     (rw a.bad (one (nat_lt q.bad 11 && true) (is_run_in_range v start len) (q.bad == 10)))
   where
     more : (k n : ℕ) → (k + n) - k ≡ n
@@ -156,19 +164,22 @@ alike_runs v r q (Run start len block) a = ap (λ n. if nat_lt n 11 && true then
 alike_same : (v : Layout) (i : ℕ) (r q : Replay) (steps : List Step) → Alike r q → SameReplay v i 0 r q steps
 alike_same v i r q [] a = record { steps_are = refl; offers_are = refl; runs_are = refl }
 alike_same v i r q (step ∷ steps) a =
-    let more = alike_same v i (replay_step v 0 r step) (replay_step v 0 q step) steps (alike_next v r q step a) in
+    let more = alike_same v i (replay_after_step v 0 r step) (replay_after_step v 0 q step) steps (alike_next v r q step
+    a) in
     let runs = more.runs_are in
     let run = alike_runs v r q step a in
     record {
-      steps_are = ap (λ b. (if b then step ∷ [] else []) ++ replayed_steps v 0 (replay_step v 0 r step) steps)
+      steps_are = ap (λ b. (if b then step ∷ [] else []) ++ replayed_steps v 0 (replay_after_step v 0 r step) steps)
           (alike_replayed v r q step a)
           ∙ ap (λ xs. (if is_replayed v 0 q step then step ∷ [] else []) ++ xs) more.steps_are;
-      offers_are = ap (λ xs. xs ++ replayed_offers v i 0 (replay_step v 0 r step) steps) (alike_offers v i r q step a)
+      offers_are = ap (λ xs. xs ++ replayed_offers v i 0 (replay_after_step v 0 r step) steps) (alike_offers v i r q
+          step a)
           ∙ ap (λ xs. replayed_step_offers v i 0 q step ++ xs) more.offers_are;
       runs_are = omega arith;
     }
 
-counted_alike : (v : Layout) (r : Replay) (step : Step) → Alike (replay_step v 0 r step) (replay_step_by_cut v 0 r step)
+counted_alike : (v : Layout) (r : Replay) (step : Step) → Alike (replay_after_step v 0 r step) (replay_step_by_cut v 0 r
+    step)
 counted_alike v r Gap = record { bad = refl }
 counted_alike v r Tail = record { bad = refl }
 counted_alike v r (Run start len block) = one (nat_lt r.bad 11 && true) (is_run_in_range v start len) (r.bad == 10)
@@ -187,13 +198,13 @@ counted_alike v r (Run start len block) = one (nat_lt r.bad 11 && true) (is_run_
 
 -- a replay continues in the same way from the kept offers that are counted only where there is a cut
 pub counted_same : (v : Layout) (i cut : ℕ) (r : Replay) (step : Step) (steps : List Step) →
-    SameReplay v i cut (replay_step v cut r step) (replay_step_by_cut v cut r step) steps
-counted_same v i zero r step steps = alike_same v i (replay_step v 0 r step) (replay_step_by_cut v 0 r step) steps
+    SameReplay v i cut (replay_after_step v cut r step) (replay_step_by_cut v cut r step) steps
+counted_same v i zero r step steps = alike_same v i (replay_after_step v 0 r step) (replay_step_by_cut v 0 r step) steps
     (counted_alike v r step)
 counted_same v i (suc cut) r step steps = from (replay_step_by_cut v (suc cut) r step) (equal step)
   where
-    from : (q : Replay) → replay_step v (suc cut) r step ≡ q →
-        SameReplay v i (suc cut) (replay_step v (suc cut) r step) q steps
+    from : (q : Replay) → replay_after_step v (suc cut) r step ≡ q →
+        SameReplay v i (suc cut) (replay_after_step v (suc cut) r step) q steps
     from q e = record {
       steps_are = ap (λ x. replayed_steps v (suc cut) x steps) e;
       offers_are = ap (λ x. replayed_offers v i (suc cut) x steps) e;
@@ -203,7 +214,7 @@ counted_same v i (suc cut) r step steps = from (replay_step_by_cut v (suc cut) r
     some : (suc cut == 0) ≡ false
     some = grind (arith, nat_tests)
 
-    equal : (step : Step) → replay_step v (suc cut) r step ≡ replay_step_by_cut v (suc cut) r step
+    equal : (step : Step) → replay_after_step v (suc cut) r step ≡ replay_step_by_cut v (suc cut) r step
     equal Gap = refl
     equal Tail = refl
     equal (Run start len block) = rw some refl

@@ -9,7 +9,7 @@ use Rattle.ffs_volume.specs.declared.Layout.{Layout}
 use Rattle.ffs_volume.specs.Disk.Numbers.{all_below}
 use Rattle.ffs_volume.specs.Disk.Areas.{cgbase, cgsblock, cgdmin, is_group_metadata, is_fragment_in_range}
 use Rattle.ffs_volume.specs.Disk.Areas.{is_run_in_range}
-use Rattle.ffs_volume.specs.Disk.Geometry.{IsValidLayout}
+use Rattle.ffs_volume.specs.Disk.Geometry.{IsAcceptedLayout}
 use Rattle.ffs_volume.proofs.GeometryLaws.{all_below-at}
 use Rattle.ffs_volume.proofs.AreaLaws.{in_kept, is_kept_group, group_below, group_is}
 
@@ -29,7 +29,7 @@ all_below-from (suc n) test h =
 abbrev fits : Layout → ℕ → ℕ → Bool
 fits v start k = is_fragment_in_range v (start + k) && ((start + k) / v.fpg == start / v.fpg)
 
-module _ (v : Layout) (g : IsValidLayout v) (start len : ℕ) where
+module _ (v : Layout) (g : IsAcceptedLayout v) (start len : ℕ) where
   base_low : cgbase v (start / v.fpg) ≤ start
   unfolding cgbase
   base_low = mul-div-le start v.fpg

@@ -6,12 +6,12 @@ use Rattle.std.proofs.Math.Nat.{mod-eq_of_lt, zero-div, zero-mod, mul-le-mul_rig
 use Rattle.std.proofs.lemmas.Bool.{cases_lt}
 use Rattle.ffs_volume.specs.declared.Layout.{Layout}
 use Rattle.ffs_volume.specs.declared.Inode.{Inode}
-use Rattle.ffs_volume.specs.Disk.Geometry.{IsValidLayout}
+use Rattle.ffs_volume.specs.Disk.Geometry.{IsAcceptedLayout}
 use Rattle.ffs_volume.specs.Blocks.Inodes.{logical_blocks_of, addresses_needed}
-use Rattle.ffs_volume.specs.Blocks.Steps.{steps_of, steps_of_addresses, walks, last_of}
+use Rattle.ffs_volume.specs.Blocks.Steps.{steps_of, steps_of_addresses, is_walked, last_length_of}
 
 -- there is an inode 2
-pub some_inodes : (v : Layout) → IsValidLayout v → 2 < v.ncg * v.ipg
+pub some_inodes : (v : Layout) → IsAcceptedLayout v → 2 < v.ncg * v.ipg
 some_inodes v g =
     let low = g.sizes.bsize_low in
     let per = g.sizes.inopb in
@@ -31,8 +31,9 @@ no_blocks n b h e = ap (λ k. div_ceil k b) e ∙ ap (λ q. q + min 1 (0 % b)) (
 pub no_steps : (v : Layout) (image : List ℕ) (i : Inode) → 0 < v.bsize → i.size ≡ 0 → steps_of v i image ≡ []
 unfolding steps_of
 no_steps v image i h e =
-    ap (λ b. steps_of_addresses (record { layout = v; blocks = b; last = last_of v i }) image i.addresses 0
-    (addresses_needed v.nindir b)) (one (walks v i))
+    ap (λ b. steps_of_addresses (record { layout = v; blocks = b; last_length = last_length_of v i }) image
+    i.addresses 0
+    (addresses_needed v.nindir b)) (one (is_walked v i))
   where
     one : (w : Bool) → (if w then logical_blocks_of v i else 0) ≡ 0
     one true = no_blocks i.size v.bsize h e

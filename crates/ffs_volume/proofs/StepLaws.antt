@@ -15,13 +15,13 @@ use Rattle.ffs_volume.specs.declared.Step.{Step}
 use Rattle.ffs_volume.specs.declared.Step.TheVariants.{Run, Tail, Gap}
 use Rattle.ffs_volume.specs.declared.Inode.{Inode}
 use Rattle.ffs_volume.specs.Disk.Areas.{is_run_in_range}
-use Rattle.ffs_volume.specs.Disk.Geometry.{IsValidLayout}
+use Rattle.ffs_volume.specs.Disk.Geometry.{IsAcceptedLayout}
 use Rattle.ffs_volume.specs.Blocks.Inodes.{logical_blocks_of, addresses_needed}
 use Rattle.ffs_volume.specs.Blocks.Lengths.{HasLength}
-use Rattle.ffs_volume.specs.Blocks.Steps.{FileBlocks, block_bytes, address_at, block_addresses_used, tail_of}
-use Rattle.ffs_volume.specs.Blocks.Steps.{any_address_from, steps_under, data_length, span_of, data_step}
+use Rattle.ffs_volume.specs.Blocks.Steps.{FileBlocks, block_bytes, address_at, indirect_addresses_needed, tail_of}
+use Rattle.ffs_volume.specs.Blocks.Steps.{any_nonzero_from, steps_under, data_length, span_of, data_step}
 use Rattle.ffs_volume.specs.Blocks.Steps.{indirect_steps, steps_at, indirection_of, first_block, steps_of_addresses}
-use Rattle.ffs_volume.specs.Blocks.Steps.{last_of, walks, steps_of}
+use Rattle.ffs_volume.specs.Blocks.Steps.{last_length_of, is_walked, steps_of}
 
 -- the blocks of the data are from `low` on, ascending, and below `high`; each Run has a fragment at least, and `frag`
 -- at most
@@ -72,14 +72,14 @@ one_more a b = grind arith
 
 -- the last block has a fragment at least, and a block's fragments at most
 abbrev IsFit : FileBlocks → Type 0
-IsFit t = (0 < t.last) × (t.last ≤ t.layout.frag)
+IsFit t = (0 < t.last_length) × (t.last_length ≤ t.layout.frag)
 
 data_long : (t : FileBlocks) (address block : ℕ) → IsFit t →
     HasLength t.layout.frag (Run address (data_length t block) (Some block))
 data_long t address block l = one (nat_lt block 12 && nat_eq (block + 1) t.blocks)
   where
-    one : (b : Bool) → (0 < (if b then t.last else t.layout.frag))
-        × ((if b then t.last else t.layout.frag) ≤ t.layout.frag)
+    one : (b : Bool) → (0 < (if b then t.last_length else t.layout.frag))
+        × ((if b then t.last_length else t.layout.frag) ≤ t.layout.frag)
     one true = l
     one false = (omega (arith, l.0, l.1), omega arith)
 
@@ -119,10 +119,10 @@ indirect_within t bytes child span address first l h =
     one (nat_eq address 0) (is_run_in_range t.layout address t.layout.frag)
   where
     used : ℕ
-    used = block_addresses_used t.layout.nindir t.blocks first span
+    used = indirect_addresses_needed t.layout.nindir t.blocks first span
 
     inner : Within t.layout.frag first (first + t.layout.nindir * span)
-        (tail_of (any_address_from t.layout (block_bytes t.layout bytes address) used)
+        (tail_of (any_nonzero_from t.layout (block_bytes t.layout bytes address) used)
         ++ steps_under t.layout bytes child span address first 0 used)
     inner =
         let few : used ≤ t.layout.nindir = omega arith in
@@ -131,15 +131,15 @@ indirect_within t bytes child span address first l h =
         let z : first + 0 * span ≡ first = omega arith in
         let y : (0 + used) ≡ used = omega arith in
         within_append t.layout.frag first first (first + t.layout.nindir * span)
-        (tail_of (any_address_from t.layout (block_bytes t.layout bytes address) used))
+        (tail_of (any_nonzero_from t.layout (block_bytes t.layout bytes address) used))
         (steps_under t.layout bytes child span address first 0 used)
-        (tail_within t.layout.frag first (any_address_from t.layout (block_bytes t.layout bytes address) used))
+        (tail_within t.layout.frag first (any_nonzero_from t.layout (block_bytes t.layout bytes address) used))
         (within_higher t.layout.frag first (first + used * span) (first + t.layout.nindir * span)
         (steps_under t.layout bytes child span address first 0 used) (omega arith) (rw (z, y) at u))
 
     one : (a b : Bool) → Within t.layout.frag first (first + t.layout.nindir * span)
         (if a then Gap ∷ [] else Run address t.layout.frag None ∷
-        (if b then tail_of (any_address_from t.layout (block_bytes t.layout bytes address) used)
+        (if b then tail_of (any_nonzero_from t.layout (block_bytes t.layout bytes address) used)
         ++ steps_under t.layout bytes child span address first 0 used else []))
     one true b = omega arith
     one false true = ((omega (arith, l.0, l.1), omega arith), inner)
@@ -214,7 +214,7 @@ addresses_within t bytes addresses next (suc count) l h =
     (steps_of_addresses t bytes addresses (next + 1) (suc count))
     (rw (next_first t.layout.nindir next (omega arith)) at w) rest)
 
-last_fits : (v : Layout) (i : Inode) → IsValidLayout v → (0 < last_of v i) × (last_of v i ≤ v.frag)
+last_fits : (v : Layout) (i : Inode) → IsAcceptedLayout v → (0 < last_length_of v i) × (last_length_of v i ≤ v.frag)
 last_fits v i g = one (nat_eq (i.size % v.bsize) 0) refl
   where
     some : (k n : ℕ) → n ≤ k * v.fsize → (n ≡ 0 → ⊥) → 0 < k
@@ -245,20 +245,24 @@ pub used_most : (words blocks : ℕ) → addresses_needed words blocks ≤ 15
 used_most words blocks = grind (arith, nat_tests)
 
 -- the steps of an inode
-pub steps_within : (v : Layout) (i : Inode) (bytes : List ℕ) → IsValidLayout v → (high : ℕ)
+pub steps_within : (v : Layout) (i : Inode) (bytes : List ℕ) → IsAcceptedLayout v → (high : ℕ)
     × Within v.frag 0 high (steps_of v i bytes)
 unfolding steps_of
-steps_within v i bytes g = one (addresses_needed v.nindir (if walks v i then logical_blocks_of v i else 0))
-    (used_most v.nindir (if walks v i then logical_blocks_of v i else 0))
+steps_within v i bytes g = one (addresses_needed v.nindir (if is_walked v i then logical_blocks_of v i else 0))
+    (used_most v.nindir (if is_walked v i then logical_blocks_of v i else 0))
   where
     t : FileBlocks
-    t = record { layout = v; blocks = if walks v i then logical_blocks_of v i else 0; last = last_of v i }
+    t = record {
+      layout = v;
+      blocks = if is_walked v i then logical_blocks_of v i else 0;
+      last_length = last_length_of v i;
+    }
 
     one : (n : ℕ) → n ≤ 15 → (high : ℕ) × Within v.frag 0 high (steps_of_addresses t bytes i.addresses 0 n)
     one zero h = (0, omega arith)
     one (suc n) h = (top_of v.nindir (0 + n), addresses_within t bytes i.addresses 0 n (last_fits v i g) (omega arith))
 
 -- each of them has a length
-pub steps_long : (v : Layout) (i : Inode) (bytes : List ℕ) → IsValidLayout v
+pub steps_long : (v : Layout) (i : Inode) (bytes : List ℕ) → IsAcceptedLayout v
     → All (HasLength v.frag) (steps_of v i bytes)
 steps_long v i bytes g = let w = steps_within v i bytes g in within_long v.frag 0 w.0 (steps_of v i bytes) w.1

@@ -4,11 +4,11 @@ use Rattle.std.proofs.Common.{◌∙◌, ap}
 use Rattle.std.proofs.lemmas.Bool.{and_parts, and_from, ne_eqb, not_from_false, not-true, eqb-false, cond-false}
 use Rattle.ffs_volume.specs.Disk.Search.{first_below}
 use Rattle.ffs_volume.specs.Directories.Graph.{Graph, level, edge, reached, parent, parent_by, is_lost, is_dead_in}
-use Rattle.ffs_volume.specs.Directories.Graph.{dir_names}
+use Rattle.ffs_volume.specs.Directories.Graph.{is_naming_dir}
 
 pub edge-parts : (v : Graph) (s d : ℕ) → edge v s d ≡ true → (v.is_dir d ≡ true) × (v.is_dir s ≡ true)
 edge-parts v s d h =
-    let p = and_parts (v.is_dir d) (dir_names v s d) h in
+    let p = and_parts (v.is_dir d) (is_naming_dir v s d) h in
     (p.0, (and_parts (v.is_dir s) _ p.1).0)
 
 -- what makes a directory lost

@@ -10,14 +10,14 @@ use Rattle.ffs_volume.specs.declared.Layout.{Layout}
 use Rattle.ffs_volume.specs.declared.Step.{Step}
 use Rattle.ffs_volume.specs.declared.Step.TheVariants.{Run, Tail, Gap}
 use Rattle.ffs_volume.specs.Disk.Areas.{is_fragment_in_range, is_run_in_range}
-use Rattle.ffs_volume.specs.Disk.Geometry.{IsValidLayout}
+use Rattle.ffs_volume.specs.Disk.Geometry.{IsAcceptedLayout}
 use Rattle.ffs_volume.proofs.GeometryLaws.{all_below-at}
 use Rattle.ffs_volume.specs.Blocks.Inodes.{inode_of}
 use Rattle.ffs_volume.specs.Blocks.Lengths.{HasLength}
 use Rattle.ffs_volume.specs.Blocks.Steps.{steps_of}
 use Rattle.ffs_volume.proofs.StepLaws.{steps_long}
 use Rattle.ffs_volume.specs.Blocks.Owners.{owner_of}
-use Rattle.ffs_volume.specs.Blocks.Claims.{Claims, next_inode, is_set, is_open, after_offer, after_offers, after_run}
+use Rattle.ffs_volume.specs.Blocks.Claims.{Claims, at_next_inode, is_set, is_open, after_offer, after_offers, after_run}
 use Rattle.ffs_volume.specs.Blocks.Claims.{after_step, after_steps, after_owner}
 use Rattle.ffs_volume.specs.Blocks.ClaimBounds.{potential, offers_potential, ClaimBound}
 
@@ -260,10 +260,10 @@ steps_move v s (step ∷ steps) h small long =
     (steps_move v (after_step v s step) steps (one.used_length ∙ h) small (All-tail (HasLength v.frag) step steps long))
 
 -- the steps of an inode
-pub owner_moves : (v : Layout) (image : List ℕ) (s : Claims) (x : ℕ) → IsValidLayout v → length s.used ≡ v.size →
-    ClaimBound (next_inode s) (after_owner v s (owner_of v image x))
+pub owner_moves : (v : Layout) (image : List ℕ) (s : Claims) (x : ℕ) → IsAcceptedLayout v → length s.used ≡ v.size →
+    ClaimBound (at_next_inode s) (after_owner v s (owner_of v image x))
 unfolding owner_of
-owner_moves v image s x g h = steps_move v (next_inode s) (steps_of v (inode_of v image x) image) h g.sizes.frag_high
+owner_moves v image s x g h = steps_move v (at_next_inode s) (steps_of v (inode_of v image x) image) h g.sizes.frag_high
     (steps_long v (inode_of v image x) image g)
 
 -- how many offers an inode keeps

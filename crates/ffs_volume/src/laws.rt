@@ -1,6 +1,6 @@
 //! Laws and worked examples of the definitions. Nothing runs here: each function states its contract.
 
-ghost use Rattle.ffs_volume.specs.Laws.Accepted.{AcceptedAreSound};
+ghost use Rattle.ffs_volume.specs.Laws.Accepted.{AcceptedFit};
 ghost use Rattle.ffs_volume.specs.Examples.BlockExamples.{ClassExamples, ClaimExamples, GroupExamples, StepExamples};
 ghost use Rattle.ffs_volume.specs.Examples.DirectoryExamples.{EntryExamples, PathnameExamples, ReferenceExamples};
 ghost use Rattle.ffs_volume.specs.Laws.Meanings.{AllPathsFit, KeptAreFirst, LevelsAreLeast, SumsAreWhole};
@@ -8,7 +8,7 @@ ghost use Rattle.ffs_volume.specs.Examples.OpeningExamples.{AreaExamples, Openin
 
 /// An accepted superblock's layout has every condition of a sound one, and its fragments lie in the image.
 pub fn accepted_are_sound()
-    ensures { AcceptedAreSound }
+    ensures { AcceptedFit }
 {}
 
 /// The fragments that an inode keeps are the first of those that its addresses offer, and all of them unless it is cut.

@@ -3,18 +3,19 @@ use Rattle.std.proofs.Math.Nat.{mul-le-mul_right}
 use Rattle.std.proofs.lemmas.Bool.Decides.{nat_tests}
 use Rattle.ffs_volume.specs.Disk.Areas.{is_run_in_range}
 use Rattle.ffs_volume.proofs.RunLaws.{is_apart, in_range_is}
-use Rattle.ffs_volume.specs.Disk.Geometry.{IsValidLayout}
+use Rattle.ffs_volume.specs.Disk.Geometry.{IsAcceptedLayout}
 use Rattle.ffs_volume.specs.declared.Layout.{Layout}
 
 -- a run in range lies below the size
-pub in_range-below : (v : Layout) (start len : ℕ) → IsValidLayout v → 0 < len → IsTrue (is_run_in_range v start len) →
+pub in_range-below : (v : Layout) (start len : ℕ) → IsAcceptedLayout v → 0 < len → IsTrue (is_run_in_range v start len)
+    →
     start + len ≤ v.size
 in_range-below v start len sound some h =
     let apart : is_apart v start len ≡ true = rw (in_range_is v sound start len some) at h in
     grind (arith, nat_tests)
 
 -- a block in range lies in the volume
-pub block_fits : (v : Layout) (address : ℕ) → IsValidLayout v → IsTrue (is_run_in_range v address v.frag) →
+pub block_fits : (v : Layout) (address : ℕ) → IsAcceptedLayout v → IsTrue (is_run_in_range v address v.frag) →
     address * v.fsize + v.bsize ≤ v.size * v.fsize
 block_fits v address sound h =
     let below : address + v.frag ≤ v.size = in_range-below v address v.frag sound sound.sizes.frag_low h in

@@ -7,12 +7,12 @@ use Rattle.ffs_volume.specs.Blocks.Steps.{block_bytes}
 use Rattle.ffs_image.specs.Device.{ForContents}
 use Rattle.ffs_walk.specs.Frames.{frame_rest, frame_left, item_left}
 use Rattle.ffs_volume.specs.Blocks.Steps.{address_in}
-use Rattle.ffs_volume.specs.Blocks.Steps.{tail_of, any_address_from, steps_under, address_at}
+use Rattle.ffs_volume.specs.Blocks.Steps.{tail_of, any_nonzero_from, steps_under, address_at}
 use Rattle.ffs_walk.specs.declared.frame.Item.{Item}
 use Rattle.ffs_walk.specs.declared.frame.Item.TheVariants.{Missing, Word}
 use Rattle.ffs_walk.specs.Fits.{FrameFits, IsBelow, IsSpent}
 use Rattle.ffs_walk.specs.Frames.{IsFrom, IsSameBlock}
-use Rattle.ffs_volume.specs.Blocks.Steps.{block_addresses_used}
+use Rattle.ffs_volume.specs.Blocks.Steps.{indirect_addresses_needed}
 use Rattle.std.specs.Int.{div_ceil}
 use Rattle.std.proofs.lemmas.Grind.{div_ceil_times}
 use Rattle.std.proofs.Math.Nat.{mul-le-mul_right}
@@ -37,14 +37,14 @@ no_tail false found xs h = refl
 pub word_taken : (g : Layout) (contents : Option (List ℕ)) (span : ℕ) (f : Frame) (block : List ℕ) (address : ℕ) →
     f.next < f.used →
     ForContents contents (λ bytes. block ≡ block_bytes g bytes f.address) →
-    (f.fresh ≡ true → any_address_from g block f.used ≡ false) →
+    (f.fresh ≡ true → any_nonzero_from g block f.used ≡ false) →
     address ≡ address_in g block f.next →
     ForContents contents (λ bytes. (child : ℕ → ℕ → List Step) →
     frame_rest g bytes child span f
     ≡ child address (f.first + f.next * span) ++ steps_under g bytes child span f.address f.first (f.next + 1)
     (f.used - (f.next + 1)))
 word_taken g contents span f block address h held none is = λ bytes e child.
-    no_tail f.fresh (any_address_from g (block_bytes g bytes f.address) f.used) _ (rw (held bytes e) at none)
+    no_tail f.fresh (any_nonzero_from g (block_bytes g bytes f.address) f.used) _ (rw (held bytes e) at none)
     ∙ next_word g bytes child span f.address f.first f.next f.used h
     ∙ rw (is, held bytes e) refl
 
@@ -56,7 +56,8 @@ less_left most f h =
     rw e (omega arith)
 
 -- a used word has logical blocks of the inode under it
-pub word_below : (words blocks first span used j : ℕ) → 0 < span → used ≤ block_addresses_used words blocks first span →
+pub word_below : (words blocks first span used j : ℕ) → 0 < span →
+    used ≤ indirect_addresses_needed words blocks first span →
     j < used → first + j * span < blocks
 word_below words blocks first span used j some fits h =
     let n = blocks - first in

@@ -4,7 +4,7 @@ use Rattle.std.proofs.Common.{replicate, append_assoc, arith, refl, ap, ◌∙�
 use Rattle.ffs_volume.specs.declared.Layout.{Layout}
 use Rattle.ffs_volume.specs.declared.Step.{Step}
 use Rattle.ffs_volume.specs.declared.Step.TheVariants.{Gap}
-use Rattle.ffs_volume.specs.Blocks.Steps.{FileBlocks, block_bytes, address_in, address_at, tail_of, any_address_from}
+use Rattle.ffs_volume.specs.Blocks.Steps.{FileBlocks, block_bytes, address_in, address_at, tail_of, any_nonzero_from}
 use Rattle.ffs_volume.specs.Blocks.Steps.{steps_under, steps_at}
 use Rattle.ffs_walk.specs.declared.frame.Frame.{Frame}
 use Rattle.ffs_walk.specs.Frames.{frame_rest}
@@ -39,7 +39,7 @@ pub gaps_passed : (g : Layout) (bytes : List ℕ) (child : ℕ → ℕ → List 
     f.fresh ≡ false → next ≡ f.next + n → next ≤ f.used → block ≡ block_bytes g bytes f.address →
     ((k : ℕ) → f.next ≤ k → k < next → address_in g block k ≡ 0) →
     frame_rest g bytes child span f
-    ≡ replicate n Gap ++ ((if f.fresh then tail_of (any_address_from g (block_bytes g bytes f.address) f.used) else [])
+    ≡ replicate n Gap ++ ((if f.fresh then tail_of (any_nonzero_from g (block_bytes g bytes f.address) f.used) else [])
     ++ steps_under g bytes child span f.address f.first next (f.used - next))
 gaps_passed g bytes child span n next f block gap fresh moved h is zeros =
     not_fresh g bytes child span f fresh
@@ -47,7 +47,7 @@ gaps_passed g bytes child span n next f block gap fresh moved h is zeros =
     (λ k l m. ap (λ b. address_in g b k) (sym is) ∙ zeros k l (omega (arith, m, moved)))
     ∙ ap (λ j. replicate n Gap ++ steps_under g bytes child span f.address f.first j (f.used - j)) (sym moved)
     ∙ ap (λ b. replicate n Gap
-    ++ ((if b then tail_of (any_address_from g (block_bytes g bytes f.address) f.used) else [])
+    ++ ((if b then tail_of (any_nonzero_from g (block_bytes g bytes f.address) f.used) else [])
     ++ steps_under g bytes child span f.address f.first next (f.used - next))) (sym fresh)
 
 -- ---- in a walk, the frames before are spent

@@ -3,7 +3,7 @@ use Rattle.std.proofs.Common.{Some, None, arith, refl, ◌∙◌}
 use Rattle.std.specs.Prelude.{◌↔◌}
 use Rattle.ffs_volume.specs.declared.Layout.{Layout}
 use Rattle.ffs_image.specs.Device.{ForContents}
-use Rattle.ffs_volume.specs.Disk.Geometry.{IsValidLayout}
+use Rattle.ffs_volume.specs.Disk.Geometry.{IsAcceptedLayout}
 use Rattle.ffs_volume.specs.declared.Step.{Step}
 use Rattle.ffs_walk.specs.declared.frame.Frame.{Frame}
 use Rattle.ffs_walk.specs.declared.walk.Walk.{Walk}
@@ -289,7 +289,7 @@ square_some n h =
     omega (arith, scaled)
 
 -- a block has words
-pub some_words : (v : Layout) → IsValidLayout v → 0 < v.nindir
+pub some_words : (v : Layout) → IsAcceptedLayout v → 0 < v.nindir
 some_words v sound = omega (arith, sound.sizes.nindir, sound.sizes.bsize_low)
 
 -- nothing is left at the end

@@ -2,14 +2,14 @@
 use Rattle.std.specs.Prelude.{ℕ, ◌+◌, ◌*◌, ◌^◌, ◌<◌, ◌≤◌, ◌≡◌, false, IsTrue}
 use Rattle.ffs_volume.specs.declared.Layout.{Layout}
 use Rattle.ffs_volume.specs.Disk.Areas.{is_run_in_range}
-use Rattle.ffs_volume.specs.Blocks.Steps.{block_addresses_used}
+use Rattle.ffs_volume.specs.Blocks.Steps.{indirect_addresses_needed}
 use Rattle.ffs_walk.specs.declared.frame.Frame.{Frame}
 use Rattle.ffs_walk.specs.declared.frame.Item.{Item}
 use Rattle.ffs_walk.specs.declared.frame.Item.TheVariants.{Missing, Word}
 
 -- the frame is in a block in range, counts only words that are used, and has no direct block under it
 pub record FrameFits (g : Layout) (blocks span : ℕ) (f : Frame) : Type 0 where
-  pub words : f.used ≤ block_addresses_used g.nindir blocks f.first span
+  pub words : f.used ≤ indirect_addresses_needed g.nindir blocks f.first span
   pub in_range_there : f.next < f.used → IsTrue (is_run_in_range g f.address g.frag)
   pub indirect : f.next < f.used → 12 ≤ f.first
 

@@ -3,7 +3,7 @@ use Rattle.std.specs.Prelude.{ℕ, true, ◌+◌, ◌-◌, ◌*◌, ◌<◌, ◌
 use Rattle.ffs_volume.specs.declared.Layout.{Layout}
 use Rattle.ffs_volume.specs.declared.Step.{Step}
 use Rattle.ffs_volume.specs.declared.Step.TheVariants.{Tail}
-use Rattle.ffs_volume.specs.Blocks.Steps.{block_bytes, tail_of, any_address_from, steps_under}
+use Rattle.ffs_volume.specs.Blocks.Steps.{block_bytes, tail_of, any_nonzero_from, steps_under}
 use Rattle.ffs_walk.specs.declared.frame.Frame.{Frame}
 use Rattle.ffs_walk.specs.declared.frame.Item.{Item}
 use Rattle.ffs_walk.specs.declared.frame.Item.TheVariants.{Missing, Word}
@@ -11,7 +11,7 @@ use Rattle.ffs_walk.specs.declared.frame.Item.TheVariants.{Missing, Word}
 -- the steps that a frame has left, where `child` has the steps at an address
 abbrev pub frame_rest : Layout → List ℕ → (ℕ → ℕ → List Step) → ℕ → Frame → List Step
 frame_rest g bytes child span f =
-    (if f.fresh then tail_of (any_address_from g (block_bytes g bytes f.address) f.used) else [])
+    (if f.fresh then tail_of (any_nonzero_from g (block_bytes g bytes f.address) f.used) else [])
     ++ steps_under g bytes child span f.address f.first f.next (f.used - f.next)
 
 -- the steps that an item of a frame means

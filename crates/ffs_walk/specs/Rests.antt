@@ -4,7 +4,7 @@ use Rattle.ffs_volume.specs.declared.Step.{Step}
 use Rattle.ffs_volume.specs.declared.Inode.{Inode}
 use Rattle.ffs_volume.specs.Blocks.Inodes.{logical_blocks_of}
 use Rattle.ffs_volume.specs.Blocks.Steps.{FileBlocks, data_step, indirect_steps, steps_at, steps_of, steps_of_addresses}
-use Rattle.ffs_volume.specs.Blocks.Steps.{walks}
+use Rattle.ffs_volume.specs.Blocks.Steps.{is_walked}
 use Rattle.ffs_layout.specs.declared.geometry.Geometry.{Geometry}
 use Rattle.ffs_walk.specs.declared.walk.Walk.{Walk}
 use Rattle.ffs_walk.specs.declared.frame.Frame.{Frame}
@@ -14,7 +14,7 @@ use Rattle.ffs_walk.specs.Fits.{FrameFits, IsSpent}
 use Rattle.ffs_walk.specs.Lengths.{IsStepOf}
 
 abbrev pub extent_of : Walk → FileBlocks
-extent_of w = record { layout = w.geometry.layout; blocks = w.blocks; last = w.last }
+extent_of w = record { layout = w.geometry.layout; blocks = w.blocks; last_length = w.last }
 
 -- the steps that the frames of a walk have left
 abbrev pub single_rest : List ℕ → Walk → List Step
@@ -70,7 +70,7 @@ pub record SameExtent (old new : Walk) : Type 0 where
 pub record IsWalkOf (g : Geometry) (inode : Inode) (w : Walk) : Type 0 where
   pub steps : (bytes : List ℕ) → rest bytes w ≡ steps_of g.layout inode bytes
   pub geometry : w.geometry ≡ g
-  pub blocks : w.blocks ≡ (if walks g.layout inode then logical_blocks_of g.layout inode else 0)
+  pub blocks : w.blocks ≡ (if is_walked g.layout inode then logical_blocks_of g.layout inode else 0)
 
 -- the step is that at the address of a data block
 pub record IsDataStep (w : Walk) (address block : ℕ) (made : Step) : Type 0 where

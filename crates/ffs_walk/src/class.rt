@@ -29,7 +29,7 @@ pub fn addresses_needed(words: u64, blocks: u64) -> u32
 
 /// How many fragments the last logical block has, where it is direct.
 pub fn last_length(geometry: &Geometry, inode: &Inode) -> u32
-    ensures value { result ≡ steps.last_of geometry.now.layout inode.now }
+    ensures value { result ≡ steps.last_length_of geometry.now.layout inode.now }
     ensures within { (0 < result) × (result ≤ geometry.now.layout.frag) }
 {
     let over = inode.size % u64::from(geometry.layout.bsize);
@@ -54,8 +54,8 @@ fn is_short_symlink(geometry: &Geometry, inode: &Inode) -> bool
 
 // Whether an address from an index on isn't zero. All fifteen are looked at, with no test of each that ends the loop: it is fast.
 #[inline(always)]
-fn is_any_set(addresses: &[u32; 15], from: usize) -> bool
-    ensures { result ≡ inodes.is_any_set (drop from addresses.now) }
+fn any_nonzero(addresses: &[u32; 15], from: usize) -> bool
+    ensures { result ≡ inodes.any_nonzero (drop from addresses.now) }
 {
     let mut bits = 0;
     for index in 0..15 {
@@ -69,7 +69,7 @@ fn is_any_set(addresses: &[u32; 15], from: usize) -> bool
 /// Whether an inode of the class has steps.
 pub fn has_steps(geometry: &Geometry, inode: &Inode, class: Class) -> bool
     requires { class ≡ inodes.class_of geometry.now.layout inode.now }
-    ensures { result ≡ steps.walks geometry.now.layout inode.now }
+    ensures { result ≡ steps.is_walked geometry.now.layout inode.now }
 {
     let walks = match class {
         Class::File | Class::Dir => true,
@@ -103,7 +103,7 @@ fn logical_blocks_of(geometry: &Geometry, inode: &Inode) -> u64
 /// How many logical blocks of an inode of the class a walk goes over.
 pub fn walked_blocks(geometry: &Geometry, inode: &Inode, class: Class) -> u64
     requires { class ≡ inodes.class_of geometry.now.layout inode.now }
-    ensures value { result ≡ (if steps.walks geometry.now.layout inode.now
+    ensures value { result ≡ (if steps.is_walked geometry.now.layout inode.now
         then inodes.logical_blocks_of geometry.now.layout inode.now else 0) }
     ensures small { result < 2 ^ 53 }
 {
@@ -115,8 +115,8 @@ pub fn walked_blocks(geometry: &Geometry, inode: &Inode, class: Class) -> u64
 }
 
 /// How many of its fifteen addresses an inode may use.
-fn inode_addresses_used(geometry: &Geometry, inode: &Inode) -> usize
-    ensures value { result ≡ inodes.inode_addresses_used geometry.now.layout inode.now }
+fn addresses_allowed(geometry: &Geometry, inode: &Inode) -> usize
+    ensures value { result ≡ inodes.addresses_allowed geometry.now.layout inode.now }
     ensures bound { result ≤ 15 }
 {
     if is_short_symlink(geometry, inode) {
@@ -150,7 +150,7 @@ pub fn class_of(geometry: &Geometry, inode: &Inode) -> Class
 {
     let kind = inode.mode / 4096;
     if kind == 0 {
-        return if inode.mode == 0 && inode.size == 0 && !is_any_set(&inode.addresses, 0) {
+        return if inode.mode == 0 && inode.size == 0 && !any_nonzero(&inode.addresses, 0) {
             Class::Free
         } else {
             Class::Partial
@@ -164,8 +164,8 @@ pub fn class_of(geometry: &Geometry, inode: &Inode) -> Class
     {
         return Class::Unknown;
     }
-    let used = inode_addresses_used(geometry, inode);
-    if is_any_set(&inode.addresses, used) {
+    let used = addresses_allowed(geometry, inode);
+    if any_nonzero(&inode.addresses, used) {
         return Class::Unknown;
     }
     if kind == u16::from(DT_DIR) {

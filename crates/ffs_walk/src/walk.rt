@@ -43,7 +43,7 @@ pub struct Walk {
 impl Walk {
     ghost use Rattle.ffs_image.specs.Device.{ForContents};
     ghost use Rattle.ffs_image.specs.Reads.{ReadAfter};
-    ghost use Rattle.ffs_volume.specs.Blocks.Steps.{data_step, indirect_steps, steps_at, steps_of, walks};
+    ghost use Rattle.ffs_volume.specs.Blocks.Steps.{data_step, indirect_steps, steps_at, steps_of, is_walked};
     ghost use Rattle.ffs_volume.specs.Blocks.Inodes as inodes;
     ghost use Rattle.ffs_volume.specs.Blocks.Inodes.{logical_blocks_of};
     ghost use Rattle.ffs_volume.specs.declared.Step.{Step};

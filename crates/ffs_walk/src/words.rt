@@ -1,7 +1,7 @@
 //! The words of an indirect block.
 
 ghost use Rattle.std.specs.Prelude.{ℕ, ◌≡◌, ◌*◌, ◌+◌, ◌<◌, ◌≤◌, length};
-ghost use Rattle.ffs_volume.specs.Blocks.Steps.{any_address_from, address_in};
+ghost use Rattle.ffs_volume.specs.Blocks.Steps.{any_nonzero_from, address_in};
 
 use byteorder::{BigEndian, ByteOrder, LittleEndian};
 use ffs_layout::Geometry;
@@ -24,7 +24,7 @@ pub fn word(geometry: &Geometry, block: &[u8], index: u32) -> u32
 #[inline(never)]
 pub fn any_from(geometry: &Geometry, block: &[u8], used: u32) -> bool
     requires { length block.now ≡ geometry.now.layout.bsize }
-    ensures { result ≡ any_address_from geometry.now.layout block.now used }
+    ensures { result ≡ any_nonzero_from geometry.now.layout block.now used }
 {
     let words = geometry.layout.nindir;
     for j in used..words {

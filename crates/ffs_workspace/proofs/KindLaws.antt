@@ -7,7 +7,7 @@ use Rattle.ffs_volume.specs.declared.Inode.{Inode}
 use Rattle.ffs_volume.specs.declared.Class.{Class}
 use Rattle.ffs_volume.specs.declared.Class.TheVariants.{Free, Partial, Unknown, File, Dir}
 use Rattle.ffs_volume.specs.Blocks.Inodes.{inode_of, type_of, class_of, is_file_or_dir, is_known_type, is_too_large}
-use Rattle.ffs_volume.specs.Blocks.Inodes.{is_any_set, inode_addresses_used, is_directory, is_allocated, is_unknown}
+use Rattle.ffs_volume.specs.Blocks.Inodes.{any_nonzero, addresses_allowed, is_directory, is_allocated, is_unknown}
 use Rattle.ffs_volume.specs.Directories.Roles.{is_dir, is_allocated_inode, is_suspect}
 use Rattle.ffs_volume.specs.Directories.Volumes.{class_at, is_inode_number, volume_of, volume_with, marked_at}
 use Rattle.ffs_volume.specs.Encodings.Kinds.{kind_of, kind_at, is_dir_kind, is_empty_dir_kind, is_allocated_kind}
@@ -41,13 +41,13 @@ class_type v i = one (type_of i.mode == 0) refl
     free false = tt
 
     one : (z : Bool) → (type_of i.mode == 0) ≡ z →
-        type_facts (if z then (if i.mode == 0 && (i.size == 0 && not (is_any_set i.addresses)) then Free else Partial)
+        type_facts (if z then (if i.mode == 0 && (i.size == 0 && not (any_nonzero i.addresses)) then Free else Partial)
         else (if not (is_known_type (type_of i.mode))
-        || (is_too_large v i || is_any_set (drop (inode_addresses_used v i) i.addresses))
+        || (is_too_large v i || any_nonzero (drop (addresses_allowed v i) i.addresses))
         then Unknown else (if type_of i.mode == 4 then Dir else File))) (type_of i.mode)
-    one true q = free (i.mode == 0 && (i.size == 0 && not (is_any_set i.addresses)))
+    one true q = free (i.mode == 0 && (i.size == 0 && not (any_nonzero i.addresses)))
     one false q = two (is_known_type (type_of i.mode)) refl
-        (is_too_large v i || is_any_set (drop (inode_addresses_used v i) i.addresses))
+        (is_too_large v i || any_nonzero (drop (addresses_allowed v i) i.addresses))
 
 -- the same of a number
 facts_at : (v : Layout) (image : List ℕ) (x : ℕ) → type_facts (class_at v image x) (type_of (inode_of v image x).mode)

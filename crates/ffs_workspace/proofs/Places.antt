@@ -13,7 +13,7 @@ use Rattle.ffs_volume.specs.Blocks.Inodes.{inode_from_bytes, inode_of}
 use Rattle.ffs_volume.specs.Disk.Numbers.{piece}
 use Rattle.ffs_volume.specs.Disk.Areas.{cgstart, cgdmin, inode_place}
 use Rattle.ffs_volume.specs.Disk.Outcome.{is_block_size, has_valid_sizes, is_valid_layout}
-use Rattle.ffs_volume.specs.Disk.Geometry.{IsValidLayout}
+use Rattle.ffs_volume.specs.Disk.Geometry.{IsAcceptedLayout}
 use Rattle.ffs_walk.specs.Windows.{WindowHolds}
 use Rattle.ffs_workspace.specs.declared.table.Table.{Table}
 use Rattle.ffs_workspace.specs.Tables.{table_block_place, table_part_place, HasInode, IsInPlace, IsTableOf, IsHeldAt}
@@ -31,7 +31,7 @@ block_is : (v : Layout) → has_valid_sizes v ≡ true → is_block_size v.bsize
 unfolding has_valid_sizes
 block_is v h = grind (arith, nat_tests)
 
-pub inodes_whole : (v : Layout) → IsValidLayout v → 128 * v.inopb ≡ v.bsize
+pub inodes_whole : (v : Layout) → IsAcceptedLayout v → 128 * v.inopb ≡ v.bsize
 inodes_whole v g =
     let size : is_block_size v.bsize ≡ true = block_is v (sizes_are v g.shaped) in
     let same : v.inopb ≡ v.bsize / 128 = g.sizes.inopb in
@@ -51,7 +51,7 @@ block_ends i ipg n b some below e same =
     grind arith
 
 -- and the table ends before the data of its group
-table_fits : (v : Layout) → IsValidLayout v → v.iblkno * v.fsize + v.ipg / v.inopb * v.bsize ≤ v.dblkno * v.fsize
+table_fits : (v : Layout) → IsAcceptedLayout v → v.iblkno * v.fsize + v.ipg / v.inopb * v.bsize ≤ v.dblkno * v.fsize
 table_fits v g =
     let all : v.inopb * (v.ipg / v.inopb) ≡ v.ipg = whole_blocks v.ipg v.inopb g.sizes.inode_blocks in
     let same : 128 * v.inopb ≡ v.bsize = inodes_whole v g in
@@ -69,7 +69,7 @@ table_fits v g =
         grind (arith, spread, scaled)
 
 -- the block of an inode ends in the volume
-pub block_inside : (v : Layout) (x : ℕ) → IsValidLayout v → x / v.ipg < v.ncg →
+pub block_inside : (v : Layout) (x : ℕ) → IsAcceptedLayout v → x / v.ipg < v.ncg →
     (cgstart v (x / v.ipg) + v.iblkno) * v.fsize + x % v.ipg / v.inopb * v.bsize + v.bsize ≤ v.size * v.fsize
 block_inside v x g group =
     let parts = g.groups (x / v.ipg) group in
@@ -88,14 +88,14 @@ unfolding is_block_size
 block_parts n h = grind (arith, nat_tests)
 
 -- how many parts a block has
-pub parts_whole : (v : Layout) → IsValidLayout v → 32 * (v.bsize / 4096) ≡ v.inopb
+pub parts_whole : (v : Layout) → IsAcceptedLayout v → 32 * (v.bsize / 4096) ≡ v.inopb
 parts_whole v g =
     let whole = block_parts v.bsize (block_is v (sizes_are v g.shaped)) in
     let same = inodes_whole v g in
     omega (arith, whole, same)
 
 -- a table has a whole number of parts
-pub table_parts : (v : Layout) → IsValidLayout v → v.ipg % 32 ≡ 0
+pub table_parts : (v : Layout) → IsAcceptedLayout v → v.ipg % 32 ≡ 0
 table_parts v g =
     let all : v.inopb * (v.ipg / v.inopb) ≡ v.ipg = whole_blocks v.ipg v.inopb g.sizes.inode_blocks in
     let k = v.bsize / 4096 in
@@ -114,7 +114,7 @@ part_ends i k some =
     grind (arith, less)
 
 -- the part of an inode ends in the volume
-pub part_inside : (v : Layout) (x : ℕ) → IsValidLayout v → x / v.ipg < v.ncg →
+pub part_inside : (v : Layout) (x : ℕ) → IsAcceptedLayout v → x / v.ipg < v.ncg →
     (cgstart v (x / v.ipg) + v.iblkno) * v.fsize + x % v.ipg / 32 * 4096 + 4096 ≤ v.size * v.fsize
 part_inside v x g group =
     let k = v.bsize / 4096 in
@@ -145,7 +145,7 @@ in_block x y ipg n some filled whole low high =
     )
 
 -- the block of x has each of its inodes in its place
-pub inodes_there : (v : Layout) (x : ℕ) (t : Table) → IsValidLayout v → t.first ≡ x - x % v.ipg % v.inopb →
+pub inodes_there : (v : Layout) (x : ℕ) (t : Table) → IsAcceptedLayout v → t.first ≡ x - x % v.ipg % v.inopb →
     t.count ≡ v.inopb → t.window.place ≡ table_block_place v x → t.window.length ≡ v.bsize →
     (y : ℕ) → HasInode t y → IsInPlace v t y
 inodes_there v x t g first count place length y has =
@@ -158,7 +158,7 @@ inodes_there v x t g first count place length y has =
     record { place = rw (it.0, it.1) (omega arith); inside = omega arith }
 
 -- the part of x has each of its inodes in its place
-pub part_there : (v : Layout) (x : ℕ) (t : Table) → IsValidLayout v → t.first ≡ x - x % v.ipg % 32 →
+pub part_there : (v : Layout) (x : ℕ) (t : Table) → IsAcceptedLayout v → t.first ≡ x - x % v.ipg % 32 →
     t.count ≡ 32 → t.window.place ≡ table_part_place v x → t.window.length ≡ 4096 →
     (y : ℕ) → HasInode t y → IsInPlace v t y
 part_there v x t g first count place length y has =

@@ -13,7 +13,7 @@ use Rattle.ffs_volume.specs.declared.BlockMessage.TheVariants.{PartAlloc, Unknow
 use Rattle.ffs_volume.specs.Disk.Areas.{is_run_in_range}
 use Rattle.ffs_volume.specs.Blocks.Inodes.{is_file_or_dir, inode_of, class_of, is_unknown}
 use Rattle.ffs_volume.specs.Blocks.Owners.{Owner, owners_of}
-use Rattle.ffs_volume.specs.Blocks.Claims.{Claims, no_claims, next_inode, is_open, is_set}
+use Rattle.ffs_volume.specs.Blocks.Claims.{Claims, no_claims, at_next_inode, is_open, is_set}
 use Rattle.ffs_volume.specs.Blocks.Claims.{after_offer, after_step, after_owner, after_owners, lines_of_steps}
 
 -- the line of an inode's class
@@ -39,7 +39,7 @@ count_lines v o end =
 abbrev pub owner_lines : Layout → Claims → Owner → List BlockMessage
 owner_lines v s o =
     class_lines o.number o.class
-    ++ (lines_of_steps v o.number (next_inode s) o.steps ++ count_lines v o (after_owner v s o))
+    ++ (lines_of_steps v o.number (at_next_inode s) o.steps ++ count_lines v o (after_owner v s o))
 
 -- the lines of inodes, one after the other
 abbrev pub lines_of_owners : Layout → Claims → List Owner → List BlockMessage
@@ -52,8 +52,8 @@ pub record Offer : Type 0 where
   pub fragment : ℕ
 
 -- the offer with these two numbers
-abbrev pub offer_at : (inode fragment : ℕ) → Offer
-offer_at i f = record { inode = i; fragment = f }
+abbrev pub offer_of : (inode fragment : ℕ) → Offer
+offer_of i f = record { inode = i; fragment = f }
 
 -- The five definitions below are the kept offers, walking as `Claims` does from a state s: of some fragments, of a Run,
 -- of a step, of steps, and of inodes. Offers are kept, in range or not, until their inode is cut, at its eleventh bad
@@ -61,7 +61,7 @@ offer_at i f = record { inode = i; fragment = f }
 abbrev pub kept_in_offers : (v : Layout) (inode : ℕ) (s : Claims) (fs : List ℕ) → List Offer
 kept_in_offers v inode s [] = []
 kept_in_offers v inode s (f ∷ fs) =
-    (if nat_lt s.dups (MAXDUP + 1) then offer_at inode f ∷ [] else [])
+    (if nat_lt s.dups (MAXDUP + 1) then offer_of inode f ∷ [] else [])
     ++ kept_in_offers v inode (after_offer v s f) fs
 
 abbrev pub kept_in_run : (v : Layout) (inode : ℕ) (s : Claims) (start len : ℕ) → List Offer
@@ -83,7 +83,8 @@ kept_in_steps v inode s (step ∷ steps) =
 
 abbrev pub kept_in_owners : Layout → Claims → List Owner → List Offer
 kept_in_owners v s [] = []
-kept_in_owners v s (o ∷ os) = kept_in_steps v o.number (next_inode s) o.steps ++ kept_in_owners v (after_owner v s o) os
+kept_in_owners v s (o ∷ os) = kept_in_steps v o.number (at_next_inode s) o.steps ++ kept_in_owners v (after_owner v s o)
+    os
 
 -- a DUP for the first kept offer of each fragment that has a DUP in phase 1. Where the fragment is reserved, phase 1
 -- has reported that same offer already

@@ -42,8 +42,8 @@ no_claims v = record {
 }
 
 -- the next inode begins
-abbrev pub next_inode : Claims → Claims
-next_inode s = record s { bad = 0; dups = 0; kept = 0; tail = false }
+abbrev pub at_next_inode : Claims → Claims
+at_next_inode s = record s { bad = 0; dups = 0; kept = 0; tail = false }
 
 -- the flag at an index f is set; past the end of the list none is
 abbrev pub is_set : (bits : List Bool) (f : ℕ) → Bool
@@ -125,7 +125,7 @@ lines_of_steps v inode s (step ∷ steps) =
 
 -- the state after an inode
 abbrev pub after_owner : Layout → Claims → Owner → Claims
-after_owner v s o = after_steps v (next_inode s) o.steps
+after_owner v s o = after_steps v (at_next_inode s) o.steps
 
 -- the state after inodes, one after the other
 abbrev pub after_owners : Layout → Claims → List Owner → Claims

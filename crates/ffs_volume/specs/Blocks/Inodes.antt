@@ -63,15 +63,15 @@ addresses_needed words blocks =
 -- how many of the first of its fifteen addresses an inode may set: one that is set after them makes it Unknown. A short
 -- symlink has its text in place of addresses, 4 bytes in each. A device stores its device number in the first address,
 -- so one logical block more is counted
-abbrev pub inode_addresses_used : Layout → Inode → ℕ
-inode_addresses_used v i =
+abbrev pub addresses_allowed : Layout → Inode → ℕ
+addresses_allowed v i =
     if is_short_symlink v i then div_ceil i.size 4
     else addresses_needed v.nindir
     (if is_device (type_of i.mode) then logical_blocks_of v i + 1 else logical_blocks_of v i)
 
 -- some address isn't zero
-abbrev pub is_any_set : List ℕ → Bool
-is_any_set addresses = list_any (λ a. not (a == 0)) addresses
+abbrev pub any_nonzero : List ℕ → Bool
+any_nonzero addresses = list_any (λ a. not (a == 0)) addresses
 
 -- the size is more than fifteen addresses reach, or a directory's is 2^31 or more
 abbrev pub is_too_large : Layout → Inode → Bool
@@ -83,9 +83,9 @@ is_too_large v i =
 unfoldable pub class_of : Layout → Inode → Class
 class_of v i =
     if type_of i.mode == 0
-    then (if i.mode == 0 && (i.size == 0 && not (is_any_set i.addresses)) then Free else Partial)
+    then (if i.mode == 0 && (i.size == 0 && not (any_nonzero i.addresses)) then Free else Partial)
     else (if not (is_known_type (type_of i.mode))
-    || (is_too_large v i || is_any_set (drop (inode_addresses_used v i) i.addresses))
+    || (is_too_large v i || any_nonzero (drop (addresses_allowed v i) i.addresses))
     then Unknown
     else (if type_of i.mode == DT_DIR then Dir else File))
 

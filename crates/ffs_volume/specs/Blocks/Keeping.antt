@@ -76,12 +76,12 @@ verdicts v earlier [] = earlier
 verdicts v earlier (p ∷ ps) = verdicts v (offer_verdict v earlier p ∷ earlier) ps
 
 -- the offer alone
-abbrev pub offer_of : CountedOffer → Offer
-offer_of p = record { inode = p.inode; fragment = p.fragment }
+abbrev pub uncounted : CountedOffer → Offer
+uncounted p = record { inode = p.inode; fragment = p.fragment }
 
 -- those of some offers that the rule keeps, in order
 abbrev pub kept_by_rule : Layout → List OfferVerdict → List CountedOffer → List Offer
 kept_by_rule v earlier [] = []
 kept_by_rule v earlier (p ∷ ps) =
-    (if (offer_verdict v earlier p).kept then offer_of p ∷ [] else [])
+    (if (offer_verdict v earlier p).kept then uncounted p ∷ [] else [])
     ++ kept_by_rule v (offer_verdict v earlier p ∷ earlier) ps

@@ -8,7 +8,7 @@ use Rattle.ffs_volume.specs.declared.Step.TheVariants.{Run, Tail, Gap}
 use Rattle.ffs_volume.specs.Blocks.Inodes.{inode_of}
 use Rattle.ffs_volume.specs.Blocks.Steps.{steps_of}
 use Rattle.ffs_volume.specs.Blocks.Owners.{owner_of}
-use Rattle.ffs_volume.specs.Blocks.Claims.{Claims, no_claims, next_inode, is_open, after_step, after_owners}
+use Rattle.ffs_volume.specs.Blocks.Claims.{Claims, no_claims, at_next_inode, is_open, after_step, after_owners}
 
 -- a Gap or Tail is kept where it is seen, and a Run where all its offers are: the count of kept offers rises by its
 -- length
@@ -29,4 +29,4 @@ claims_before v image x = after_owners v (no_claims v) (map (owner_of v image) (
 
 -- the kept steps of the inode x
 unfoldable pub kept_steps_of : (v : Layout) (image : List ℕ) (x : ℕ) → List Step
-kept_steps_of v image x = kept_steps v (next_inode (claims_before v image x)) (steps_of v (inode_of v image x) image)
+kept_steps_of v image x = kept_steps v (at_next_inode (claims_before v image x)) (steps_of v (inode_of v image x) image)

@@ -33,20 +33,20 @@ address_at v image address j = address_in v (block_bytes v image address) j
 pub record FileBlocks : Type 0 where
   pub layout : Layout
   pub blocks : ℕ
-  pub last : ℕ  -- a length in fragments
+  pub last_length : ℕ  -- a length in fragments
 
 -- how many addresses of one indirect block lie before the end of the file, holes among them, of the `words` that it
 -- has: it covers the logical blocks from `first` on, and `span` of them lie under each address (`-` stops at 0)
-abbrev pub block_addresses_used : (words blocks first span : ℕ) → ℕ
-block_addresses_used words blocks first span = min words (div_ceil (blocks - first) span)
+abbrev pub indirect_addresses_needed : (words blocks first span : ℕ) → ℕ
+indirect_addresses_needed words blocks first span = min words (div_ceil (blocks - first) span)
 
 -- a Tail, where an address past the used ones was found
 abbrev pub tail_of : Bool → List Step
 tail_of found = if found then Tail ∷ [] else []
 
 -- an address of an indirect block from index `used` on isn't zero
-abbrev pub any_address_from : (v : Layout) (block : List ℕ) (used : ℕ) → Bool
-any_address_from v block used = list_any (λ j. not (address_in v block j == 0)) (range_with_len used (v.nindir - used))
+abbrev pub any_nonzero_from : (v : Layout) (block : List ℕ) (used : ℕ) → Bool
+any_nonzero_from v block used = list_any (λ j. not (address_in v block j == 0)) (range_with_len used (v.nindir - used))
 
 -- the steps under `count` addresses of an indirect block, from index `next` on; `child` gives those under one, by the
 -- address and the first logical block under it
@@ -57,7 +57,7 @@ steps_under v image child span address first next count =
 
 -- how many fragments a block of data has
 abbrev pub data_length : FileBlocks → ℕ → ℕ
-data_length t block = if nat_lt block NDADDR && block + 1 == t.blocks then t.last else t.layout.frag
+data_length t block = if nat_lt block NDADDR && block + 1 == t.blocks then t.last_length else t.layout.frag
 
 -- how many logical blocks lie under an address of a level of indirection: `words` to the power of the level
 abbrev pub span_of : (words level : ℕ) → ℕ
@@ -78,9 +78,10 @@ indirect_steps t image child span address first =
     then Gap ∷ []
     else Run address t.layout.frag None ∷
     (if is_run_in_range t.layout address t.layout.frag
-    then tail_of (any_address_from t.layout (block_bytes t.layout image address)
-    (block_addresses_used t.layout.nindir t.blocks first span))
-    ++ steps_under t.layout image child span address first 0 (block_addresses_used t.layout.nindir t.blocks first span)
+    then tail_of (any_nonzero_from t.layout (block_bytes t.layout image address)
+    (indirect_addresses_needed t.layout.nindir t.blocks first span))
+    ++ steps_under t.layout image child span address first 0
+    (indirect_addresses_needed t.layout.nindir t.blocks first span)
     else [])
 
 -- the steps at an address of a level of indirection, `first` being the first logical block under it
@@ -107,16 +108,16 @@ steps_of_addresses t image addresses next count =
 
 -- the addresses of the inode are walked: it is a file or directory, but no device, and no symlink with its text in
 -- place of the addresses
-abbrev pub walks : Layout → Inode → Bool
-walks v i = is_file_or_dir (class_of v i) && not (is_device (type_of i.mode) || is_short_symlink v i)
+abbrev pub is_walked : Layout → Inode → Bool
+is_walked v i = is_file_or_dir (class_of v i) && not (is_device (type_of i.mode) || is_short_symlink v i)
 
 -- how many fragments the last logical block has, where it is direct
-abbrev pub last_of : Layout → Inode → ℕ
-last_of v i = if i.size % v.bsize == 0 then v.frag else div_ceil (i.size % v.bsize) v.fsize
+abbrev pub last_length_of : Layout → Inode → ℕ
+last_length_of v i = if i.size % v.bsize == 0 then v.frag else div_ceil (i.size % v.bsize) v.fsize
 
 -- the steps of an inode
 unfoldable pub steps_of : Layout → Inode → List ℕ → List Step
 steps_of v i image =
-    let blocks = if walks v i then logical_blocks_of v i else 0 in
-    steps_of_addresses (record { layout = v; blocks = blocks; last = last_of v i }) image i.addresses 0
+    let blocks = if is_walked v i then logical_blocks_of v i else 0 in
+    steps_of_addresses (record { layout = v; blocks = blocks; last_length = last_length_of v i }) image i.addresses 0
     (addresses_needed v.nindir blocks)

@@ -8,7 +8,7 @@ use Rattle.ffs_volume.specs.Blocks.Inodes.{type_of}
 use Rattle.ffs_volume.specs.Directories.Entries.{Entry}
 use Rattle.ffs_volume.specs.Directories.Roles.{Volume, RoledEntry, is_dir, is_allocated_inode}
 use Rattle.ffs_volume.specs.Directories.Roles.{roled_entries, dot, dotdot, references}
-use Rattle.ffs_volume.specs.Directories.Graph.{reached, dir_names_at, NamedOnce}
+use Rattle.ffs_volume.specs.Directories.Graph.{reached, is_naming_entry_at, NamedOnce}
 use Rattle.ffs_volume.specs.Directories.Parents.{graph_of, nth_roled}
 use Rattle.ffs_volume.specs.Directories.PathnameCheck.{are_sound}
 
@@ -52,7 +52,7 @@ pub record IsLinked (vol : Volume) (d : ℕ) : Type 0 where
 -- each directory but 2 is linked so; no plain entry names 2, and the `..` of 2 is 2
 pub record AreLinksRight (vol : Volume) : Type 0 where
   pub each : (d : ℕ) → is_dir vol d ≡ true → d ≢ ROOTINO → IsLinked vol d
-  pub root : (s j : ℕ) → dir_names_at (graph_of vol) s j ROOTINO ≡ false
+  pub root : (s j : ℕ) → is_naming_entry_at (graph_of vol) s j ROOTINO ≡ false
   pub root_dotdot : IsSomeAnd (dotdot vol ROOTINO) (λ e. e.number ≡ ROOTINO)
 
 -- the count of links of an inode is that of its references, and at least 1

@@ -8,12 +8,12 @@ use Rattle.ffs_volume.specs.Groups.Records.{GroupsRight}
 use Rattle.ffs_volume.specs.Groups.GroupCheck.{is_free_of_runs}
 use Rattle.ffs_volume.specs.Consistent.DirectoriesRight.{AreDirsRight, AreLinksRight, AreCountsRight}
 use Rattle.ffs_volume.specs.Directories.Volumes.{class_at, whole_volume}
-use Rattle.ffs_volume.specs.Report.Opening.{is_optimization, is_minfree}
+use Rattle.ffs_volume.specs.Report.Opening.{has_valid_optim, has_valid_minfree}
 
 -- the settings are possible ones
 pub record AreSettingsRight (s : Superblock) : Type 0 where
-  pub optimization : is_optimization s ≡ true
-  pub minfree : is_minfree s ≡ true
+  pub optimization : has_valid_optim s ≡ true
+  pub minfree : has_valid_minfree s ≡ true
 
 -- the seven conditions of a consistent volume
 pub record IsConsistent (image : List ℕ) (s : Superblock) : Type 0 where

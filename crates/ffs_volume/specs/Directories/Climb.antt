@@ -21,8 +21,8 @@ none_or_at_least (Some s) d = nat_le d s
 
 -- d is the least number on a cycle of at most n numbers: following f leads back to d, and before to none that is less.
 -- `IsLeader` below says the same of cycles of any length
-abbrev pub leads_cycle : (f : ℕ → Option ℕ) (n d : ℕ) → Bool
-leads_cycle f n d =
+abbrev pub is_leader_within : (f : ℕ → Option ℕ) (n d : ℕ) → Bool
+is_leader_within f n d =
     some_below (λ k. is_value (climb f (suc k) d) d) n
     && not (some_below (λ k. not (none_or_at_least (climb f k d) d)) n)
 

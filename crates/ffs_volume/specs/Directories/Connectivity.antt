@@ -1,7 +1,7 @@
 -- What the check of connectivity reports.
 use Rattle.std.specs.Prelude.{ℕ, Bool, List}
 use Rattle.ffs_volume.specs.Directories.Roles.{Volume, is_suspect}
-use Rattle.ffs_volume.specs.Directories.Graph.{is_unref_dir, is_dead_in}
+use Rattle.ffs_volume.specs.Directories.Graph.{is_unref_dir_in, is_dead_in}
 use Rattle.ffs_volume.specs.Directories.Parents.{graph_of}
 use Rattle.ffs_volume.specs.Messages.Kinds.{TreeMessage, reported, lines_below, unref_dir}
 use Rattle.ffs_volume.specs.Directories.PathnameCheck.{attributes}
@@ -11,9 +11,9 @@ abbrev pub is_dead : Volume → ℕ → Bool
 is_dead vol x = is_dead_in (graph_of vol) (is_suspect vol) x
 
 -- UNREF DIR is reported of d
-abbrev pub is_unref_dir_of : Volume → ℕ → Bool
-is_unref_dir_of vol d = is_unref_dir (graph_of vol) (is_suspect vol) d
+abbrev pub is_unref_dir : Volume → ℕ → Bool
+is_unref_dir vol d = is_unref_dir_in (graph_of vol) (is_suspect vol) d
 
 -- the lines of phase 3
 unfoldable pub connectivity_lines : Volume → List TreeMessage
-connectivity_lines vol = lines_below (λ d. reported (is_unref_dir_of vol d) (unref_dir (attributes vol d))) vol.count
+connectivity_lines vol = lines_below (λ d. reported (is_unref_dir vol d) (unref_dir (attributes vol d))) vol.count

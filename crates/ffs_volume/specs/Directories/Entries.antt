@@ -28,8 +28,8 @@ name_at chunk place = piece (place + 8) (slice_index chunk (place + 7)) chunk
 
 -- the entry at a place has a valid name: at least one byte, none of them NUL or `/` (47), and a NUL after it. Its
 -- length is stored in one byte, so it is at most 255
-abbrev pub is_valid_name : (chunk : List ℕ) (place : ℕ) → Bool
-is_valid_name chunk place =
+abbrev pub has_valid_name : (chunk : List ℕ) (place : ℕ) → Bool
+has_valid_name chunk place =
     not (slice_index chunk (place + 7) == 0)
     && not (list_any (λ b. b == 0) (name_at chunk place) || list_any (λ b. b == 47) (name_at chunk place))
     && (slice_index chunk (place + 8 + slice_index chunk (place + 7)) == 0)
@@ -40,17 +40,17 @@ is_valid_record_length place length = (length % 4 == 0) && nat_le 8 length && na
 
 -- what the record of a live entry must hold: room for its name and the NUL, rounded up to 4 bytes, a type of at most
 -- 15, and a valid name
-abbrev pub has_valid_content : (chunk : List ℕ) (place length : ℕ) → Bool
-has_valid_content chunk place length =
+abbrev pub has_valid_type_and_name : (chunk : List ℕ) (place length : ℕ) → Bool
+has_valid_type_and_name chunk place length =
     nat_le (8 + (slice_index chunk (place + 7) + 4) / 4 * 4) length
     && nat_le (slice_index chunk (place + 6)) 15
-    && is_valid_name chunk place
+    && has_valid_name chunk place
 
 -- an entry's record length is valid, and so is its content where its number isn't 0
 unfoldable pub is_well_formed : (order : Order) (chunk : List ℕ) (place : ℕ) → Bool
 is_well_formed order chunk place =
     is_valid_record_length place (u16_at order (place + 4) chunk)
-    && ((u32_at order place chunk == 0) || has_valid_content chunk place (u16_at order (place + 4) chunk))
+    && ((u32_at order place chunk == 0) || has_valid_type_and_name chunk place (u16_at order (place + 4) chunk))
 
 -- the entry that the bytes at a place say, well formed or not; with the number 0 its name is empty
 unfoldable pub entry_read : (order : Order) (chunk : List ℕ) (place : ℕ) → Entry

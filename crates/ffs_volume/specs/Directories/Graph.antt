@@ -1,13 +1,13 @@
 -- Levels, parents and lost directories of a volume, read as a graph. Only plain entries count: an entry names a number
--- (`entry_names`), so does a directory with such an entry (`dir_names`), or its entry at an index (`dir_names_at`). A
--- number is `is_named` where some directory names it.
+-- (`is_naming_entry`), so does a directory with such an entry (`is_naming_dir`), or its entry at an index
+-- (`is_naming_entry_at`). A number is `is_named` where some directory names it.
 use Rattle.std.specs.Prelude.{◌≡◌, ℕ, zero, suc, ◌==◌, Bool, true, false, not, ◌&&◌, ◌||◌, List}
 use Rattle.std.specs.Prelude.{Option, None, Some, is_some, cond, [], ◌∷◌, option_map, if◌then◌else◌}
 use Rattle.std.specs.List.{list_any}
 use Rattle.ffs_volume.specs.declared.constants.TheConstants.{ROOTINO}
 use Rattle.ffs_volume.specs.Directories.Roles.{RoledEntry, is_plain}
 use Rattle.ffs_volume.specs.Disk.Search.{first_below, some_below}
-use Rattle.ffs_volume.specs.Directories.Climb.{is_value, leads_cycle}
+use Rattle.ffs_volume.specs.Directories.Climb.{is_value, is_leader_within}
 
 -- what levels and parents depend on: the number of inodes, which are directories, and the entries of each in order
 pub record Graph : Type 0 where
@@ -16,16 +16,16 @@ pub record Graph : Type 0 where
   pub entries : ℕ → List RoledEntry
 
 -- the entry is a plain one, and names d
-abbrev pub entry_names : ℕ → RoledEntry → Bool
-entry_names d e = is_plain e.role && (e.entry.number == d)
+abbrev pub is_naming_entry : ℕ → RoledEntry → Bool
+is_naming_entry d e = is_plain e.role && (e.entry.number == d)
 
 -- the directory s has a plain entry that names x
-abbrev pub dir_names : (g : Graph) (s x : ℕ) → Bool
-dir_names g s x = g.is_dir s && list_any (entry_names x) (g.entries s)
+abbrev pub is_naming_dir : (g : Graph) (s x : ℕ) → Bool
+is_naming_dir g s x = g.is_dir s && list_any (is_naming_entry x) (g.entries s)
 
 -- an edge from s to d: a plain entry of s that names a directory d
 abbrev pub edge : (g : Graph) (s d : ℕ) → Bool
-edge g s d = g.is_dir d && dir_names g s d
+edge g s d = g.is_dir d && is_naming_dir g s d
 
 -- d is at most k edges from inode 2
 unfoldable pub within : (g : Graph) (k d : ℕ) → Bool
@@ -64,7 +64,7 @@ first_index p (e ∷ es) = cond (p e) (Some 0) (option_map suc (first_index p es
 -- the index, in a directory, of the first plain entry that names d
 abbrev pub index_in_parent : (g : Graph) (d : ℕ) → Option ℕ → Option ℕ
 index_in_parent g d None = None
-index_in_parent g d (Some s) = first_index (entry_names d) (g.entries s)
+index_in_parent g d (Some s) = first_index (is_naming_entry d) (g.entries s)
 
 -- the index, in the parent of d, of the first plain entry that names d: its parent entry. 2 has none
 abbrev pub parent_entry_index : Graph → ℕ → Option ℕ
@@ -72,7 +72,7 @@ parent_entry_index g d = if d == ROOTINO then None else index_in_parent g d (par
 
 -- some plain entry names x
 abbrev pub is_named : Graph → ℕ → Bool
-is_named g x = some_below (λ s. dir_names g s x) g.count
+is_named g x = some_below (λ s. is_naming_dir g s x) g.count
 
 -- x is suspect, isn't 2, and no plain entry names it
 abbrev pub is_dead_in : Graph → (ℕ → Bool) → ℕ → Bool
@@ -89,9 +89,9 @@ none_or_dead g suspect (Some s) = is_dead_in g suspect s
 
 -- d is reported as UNREF DIR, as one of each lost tree or cycle: it is lost, and has no parent, or a dead one, or is
 -- the least on its cycle of parents
-abbrev pub is_unref_dir : Graph → (ℕ → Bool) → ℕ → Bool
-is_unref_dir g suspect d =
-    is_lost g suspect d && (none_or_dead g suspect (parent g d) || leads_cycle (parent g) g.count d)
+abbrev pub is_unref_dir_in : Graph → (ℕ → Bool) → ℕ → Bool
+is_unref_dir_in g suspect d =
+    is_lost g suspect d && (none_or_dead g suspect (parent g d) || is_leader_within (parent g) g.count d)
 
 -- there is an entry at index j, and it passes
 abbrev pub test_at : (RoledEntry → Bool) → ℕ → List RoledEntry → Bool
@@ -100,12 +100,12 @@ test_at p zero (e ∷ es) = p e
 test_at p (suc j) (e ∷ es) = test_at p j es
 
 -- the entry at index j of the directory s is a plain one that names x
-abbrev pub dir_names_at : (g : Graph) (s j x : ℕ) → Bool
-dir_names_at g s j x = g.is_dir s && test_at (entry_names x) j (g.entries s)
+abbrev pub is_naming_entry_at : (g : Graph) (s j x : ℕ) → Bool
+is_naming_entry_at g s j x = g.is_dir s && test_at (is_naming_entry x) j (g.entries s)
 
 -- exactly one plain entry names d: the one at this index of `in_dir`
 pub record NamedOnce (g : Graph) (d : ℕ) : Type 0 where
   pub in_dir : ℕ
   pub index : ℕ
-  pub there : dir_names_at g in_dir index d ≡ true
-  pub only : (s j : ℕ) → dir_names_at g s j d ≡ true → (s ≡ in_dir) × (j ≡ index)
+  pub there : is_naming_entry_at g in_dir index d ≡ true
+  pub only : (s j : ℕ) → is_naming_entry_at g s j d ≡ true → (s ≡ in_dir) × (j ≡ index)

@@ -3,7 +3,14 @@ use Rattle.std.specs.Prelude.{ℕ, zero, suc, Bool, ◌&&◌, List, [], ◌∷�
 use Rattle.ffs_volume.specs.Directories.Roles.{Volume, RoledEntry, is_dir, roled_entries}
 use Rattle.ffs_volume.specs.Disk.Search.{first_below}
 use Rattle.ffs_volume.specs.Directories.Climb.{is_value}
-use Rattle.ffs_volume.specs.Directories.Graph.{Graph, entry_names, dir_names, parent, parent_entry_index, first_index}
+use Rattle.ffs_volume.specs.Directories.Graph.{
+  Graph,
+  is_naming_entry,
+  is_naming_dir,
+  parent,
+  parent_entry_index,
+  first_index,
+}
 
 -- the directories of a volume as a graph
 abbrev pub graph_of : Volume → Graph
@@ -17,11 +24,12 @@ nth_roled (e ∷ es) (suc j) = nth_roled es j
 
 -- the directory with the first of all plain entries that name x
 abbrev pub first_naming_dir : Graph → ℕ → Option ℕ
-first_naming_dir g x = first_below (λ s. dir_names g s x) g.count
+first_naming_dir g x = first_below (λ s. is_naming_dir g s x) g.count
 
 -- the entry at index j of s is the first of all plain entries that name x
-abbrev pub is_first_name : (g : Graph) (s j x : ℕ) → Bool
-is_first_name g s j x = is_value (first_naming_dir g x) s && is_value (first_index (entry_names x) (g.entries s)) j
+abbrev pub is_first_naming_entry : (g : Graph) (s j x : ℕ) → Bool
+is_first_naming_entry g s j x = is_value (first_naming_dir g x) s && is_value (first_index (is_naming_entry x)
+    (g.entries s)) j
 
 -- the entry at index j of s is the parent entry of x
 abbrev pub is_parent_entry : (g : Graph) (s j x : ℕ) → Bool

@@ -17,10 +17,10 @@ use Rattle.ffs_volume.specs.Blocks.Inodes.{is_directory, is_allocated, is_unknow
 use Rattle.ffs_volume.specs.Directories.Roles.{Volume, RoledEntry, is_dir, is_suspect, is_one_dot}
 use Rattle.ffs_volume.specs.Directories.Roles.{is_two_dots, start_entry, dot, dotdot, roled_entries}
 use Rattle.ffs_volume.specs.Directories.Graph.{parent}
-use Rattle.ffs_volume.specs.Directories.Parents.{graph_of, is_first_name, is_parent_entry}
+use Rattle.ffs_volume.specs.Directories.Parents.{graph_of, is_first_naming_entry, is_parent_entry}
 use Rattle.ffs_volume.specs.Directories.Paths.{dir_path, entry_path}
 use Rattle.ffs_volume.specs.Messages.Kinds.{TreeMessage, reported, lines_below, root_none, root_not_dir}
-use Rattle.ffs_volume.specs.Messages.Kinds.{root_suspect, dir_short, dir_length, dir_empty, dir_corrupt}
+use Rattle.ffs_volume.specs.Messages.Kinds.{root_suspect, dir_short, dir_length, dir_gap, dir_corrupt}
 use Rattle.ffs_volume.specs.Messages.Kinds.{missing_dot, missing_dot_first, number_dot, kind_dot}
 use Rattle.ffs_volume.specs.Messages.Kinds.{missing_dotdot, missing_dotdot_second, number_dotdot}
 use Rattle.ffs_volume.specs.Messages.Kinds.{kind_dotdot, extra_dot, extra_dotdot, out_of_range, whiteout}
@@ -68,8 +68,8 @@ abbrev pub is_short : Volume → ℕ → Bool
 is_short vol d = nat_lt (vol.inode d).size MINDIRSIZE
 
 -- the size of a directory that isn't short is no multiple of 512
-abbrev pub is_not_multiple : Volume → ℕ → Bool
-is_not_multiple vol d = not (is_short vol d) && not ((vol.inode d).size % DIRBLKSIZ == 0)
+abbrev pub has_partial_chunk : Volume → ℕ → Bool
+has_partial_chunk vol d = not (is_short vol d) && not ((vol.inode d).size % DIRBLKSIZ == 0)
 
 -- each chunk is sound
 abbrev pub are_sound : List Chunk → Bool
@@ -79,8 +79,8 @@ are_sound chunks = list_all (λ c. c.sound) chunks
 unfoldable pub shape_lines : Volume → ℕ → List TreeMessage
 shape_lines vol d =
     reported (is_short vol d) (dir_short (attributes vol d) (dir_path (graph_of vol) d))
-    ++ (reported (is_not_multiple vol d) (dir_length (dir_path (graph_of vol) d) (vol.inode d).size)
-    ++ (reported (vol.gap d) (dir_empty (dir_path (graph_of vol) d))
+    ++ (reported (has_partial_chunk vol d) (dir_length (dir_path (graph_of vol) d) (vol.inode d).size)
+    ++ (reported (vol.gap d) (dir_gap (dir_path (graph_of vol) d))
     ++ reported (not (are_sound (vol.chunks d))) (dir_corrupt (attributes vol d) (dir_path (graph_of vol) d))))
 
 -- the message where there is no `.`, by the entry that is first
@@ -138,8 +138,9 @@ is_bad_whiteout e =
 
 -- entry j of the directory s is the first plain entry that names x, a suspect (an inode that is marked, or a directory
 -- of size 0) other than the root
-abbrev pub is_first_name_of_suspect : (vol : Volume) (s j x : ℕ) → Bool
-is_first_name_of_suspect vol s j x = is_suspect vol x && (not (x == ROOTINO) && is_first_name (graph_of vol) s j x)
+abbrev pub is_first_entry_of_suspect : (vol : Volume) (s j x : ℕ) → Bool
+is_first_entry_of_suspect vol s j x = is_suspect vol x && (not (x == ROOTINO) && is_first_naming_entry (graph_of vol) s
+    j x)
 
 -- the message on a suspect that an entry names: DUP/BAD where x is marked, else ZERO LENGTH DIRECTORY
 abbrev pub message_on_suspect : (vol : Volume) (x : ℕ) (path : List ℕ) → TreeMessage
@@ -157,7 +158,7 @@ has_wrong_type vol e = not (is_unknown (vol.class e.number)) && not (e.kind == t
 -- the messages on a plain entry at index j of the directory s, which names an allocated inode
 unfoldable pub named_lines : (vol : Volume) (s j : ℕ) (e : Entry) → List TreeMessage
 named_lines vol s j e =
-    reported (is_first_name_of_suspect vol s j e.number)
+    reported (is_first_entry_of_suspect vol s j e.number)
     (message_on_suspect vol e.number (entry_path (graph_of vol) s e.name))
     ++ (reported (is_extraneous vol s j e.number)
     (extraneous (entry_path (graph_of vol) s e.name) (dir_path (graph_of vol) e.number))
@@ -175,25 +176,25 @@ plain_lines vol s j e =
     else named_lines vol s j e)))
 
 -- the messages on an entry at index j of the directory s, by its role
-abbrev pub entry_role_lines : (vol : Volume) (s j : ℕ) → Role → (e : Entry) → List TreeMessage
-entry_role_lines vol s j Empty e = []
-entry_role_lines vol s j Dot e = []
-entry_role_lines vol s j Dotdot e = []
-entry_role_lines vol s j Extra e = extra_lines (attributes vol s) (dir_path (graph_of vol) s) e
-entry_role_lines vol s j Plain e = plain_lines vol s j e
+abbrev pub entry_lines_of : (vol : Volume) (s j : ℕ) → Role → (e : Entry) → List TreeMessage
+entry_lines_of vol s j Empty e = []
+entry_lines_of vol s j Dot e = []
+entry_lines_of vol s j Dotdot e = []
+entry_lines_of vol s j Extra e = extra_lines (attributes vol s) (dir_path (graph_of vol) s) e
+entry_lines_of vol s j Plain e = plain_lines vol s j e
 
 -- the messages on an entry at index j of the directory s
-unfoldable pub roled_lines : (vol : Volume) (s j : ℕ) (e : RoledEntry) → List TreeMessage
-roled_lines vol s j e = entry_role_lines vol s j e.role e.entry
+unfoldable pub entry_lines : (vol : Volume) (s j : ℕ) (e : RoledEntry) → List TreeMessage
+entry_lines vol s j e = entry_lines_of vol s j e.role e.entry
 
 -- the messages on the entries of s from index j on
 unfoldable pub lines_of_entries : (vol : Volume) (s j : ℕ) (es : List RoledEntry) → List TreeMessage
 lines_of_entries vol s j [] = []
-lines_of_entries vol s j (e ∷ es) = roled_lines vol s j e ++ lines_of_entries vol s (suc j) es
+lines_of_entries vol s j (e ∷ es) = entry_lines vol s j e ++ lines_of_entries vol s (suc j) es
 
 -- the messages on a directory whose size isn't 0
-unfoldable pub dir_lines : Volume → ℕ → List TreeMessage
-dir_lines vol d =
+unfoldable pub sized_dir_lines : Volume → ℕ → List TreeMessage
+sized_dir_lines vol d =
     shape_lines vol d ++ (dot_lines vol d ++ (dotdot_lines vol d ++ lines_of_entries vol d 0 (roled_entries vol d)))
 
 -- d is a directory whose size isn't 0
@@ -201,9 +202,10 @@ abbrev pub is_looked_at : Volume → ℕ → Bool
 is_looked_at vol d = is_dir vol d && not ((vol.inode d).size == 0)
 
 -- the messages on d: none where d is no directory, or has the size 0
-abbrev pub lines_of : Volume → ℕ → List TreeMessage
-lines_of vol d = if is_looked_at vol d then dir_lines vol d else []
+abbrev pub directory_lines : Volume → ℕ → List TreeMessage
+directory_lines vol d = if is_looked_at vol d then sized_dir_lines vol d else []
 
 -- the whole pathname check: the root, and then each directory
 unfoldable pub pathname_lines : Volume → List TreeMessage
-pathname_lines vol = root_lines vol ++ (if continues_after_root vol then lines_below (lines_of vol) vol.count else [])
+pathname_lines vol =
+    root_lines vol ++ (if continues_after_root vol then lines_below (directory_lines vol) vol.count else [])

@@ -29,15 +29,15 @@ name_of None = []
 name_of (Some s) = s.entry.name
 
 -- the names down to a directory by its parent: those of the parent, which `above` gives, and that of the parent entry
-abbrev pub names_above : (g : Graph) (above : ℕ → List (List ℕ)) (d : ℕ) → Option ℕ → List (List ℕ)
-names_above g above d None = []
-names_above g above d (Some s) =
+abbrev pub names_by_parent : (g : Graph) (above : ℕ → List (List ℕ)) (d : ℕ) → Option ℕ → List (List ℕ)
+names_by_parent g above d None = []
+names_by_parent g above d (Some s) =
     above s ++ name_of (option_and_then (nth_roled (g.entries s)) (parent_entry_index g d)) ∷ []
 
 -- the names from 2 down to a directory that is k edges below
 unfoldable pub names_down : (g : Graph) (k d : ℕ) → List (List ℕ)
 names_down g zero d = []
-names_down g (suc k) d = names_above g (names_down g k) d (parent g d)
+names_down g (suc k) d = names_by_parent g (names_down g k) d (parent g d)
 
 -- the names from 2 down, if the directory is reached
 abbrev pub path_names : Graph → ℕ → Option (List (List ℕ))

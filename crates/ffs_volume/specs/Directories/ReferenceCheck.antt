@@ -28,9 +28,9 @@ inode_lines vol i =
     (link_count (label_of (vol.class i)) (attributes vol i) (vol.inode i).nlink (references vol i)))
 
 -- the message on the number i: none where it isn't that of an allocated inode
-abbrev pub counted_lines : Volume → ℕ → List TreeMessage
-counted_lines vol i = if is_allocated_inode vol i then inode_lines vol i else []
+abbrev pub reference_lines_at : Volume → ℕ → List TreeMessage
+reference_lines_at vol i = if is_allocated_inode vol i then inode_lines vol i else []
 
 -- the lines of phase 4 on inodes
 unfoldable pub reference_lines : Volume → List TreeMessage
-reference_lines vol = lines_below (counted_lines vol) vol.count
+reference_lines vol = lines_below (reference_lines_at vol) vol.count

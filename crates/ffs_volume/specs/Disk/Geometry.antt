@@ -59,7 +59,7 @@ pub record HasSummaryArea (v : Layout) : Type 0 where
   pub summary_in_size : v.csaddr + div_ceil v.cssize v.fsize ≤ v.size
 
 -- the layout of an accepted superblock: the conditions themselves (`shaped`), and what they give
-pub record IsValidLayout (v : Layout) : Type 0 where
+pub record IsAcceptedLayout (v : Layout) : Type 0 where
   pub shaped : is_valid_layout v ≡ true
   pub some_groups : 0 < v.ncg
   pub some_cylinders : 0 < v.cpg

@@ -34,8 +34,8 @@ abbrev pub taken_of : (cut kept len : ℕ) → ℕ
 taken_of cut kept len = if cut == 0 then len else min len (cut - kept)
 
 -- the state after a Run is seen; the eleventh bad Run offers nothing
-abbrev pub replay_run : (v : Layout) (cut : ℕ) (r : Replay) (start len : ℕ) → Replay
-replay_run v cut r start len =
+abbrev pub replay_after_run : (v : Layout) (cut : ℕ) (r : Replay) (start len : ℕ) → Replay
+replay_after_run v cut r start len =
     if is_run_in_range v start len
     then record { bad = r.bad; kept = r.kept + taken_of cut r.kept len }
     else (if r.bad == MAXBAD
@@ -43,15 +43,15 @@ replay_run v cut r start len =
     else record { bad = r.bad + 1; kept = r.kept + taken_of cut r.kept len })
 
 -- the state after a step
-abbrev pub replay_step : Layout → ℕ → Replay → Step → Replay
-replay_step v cut r (Run start len block) = if is_replay_open cut r then replay_run v cut r start len else r
-replay_step v cut r Tail = r
-replay_step v cut r Gap = r
+abbrev pub replay_after_step : Layout → ℕ → Replay → Step → Replay
+replay_after_step v cut r (Run start len block) = if is_replay_open cut r then replay_after_run v cut r start len else r
+replay_after_step v cut r Tail = r
+replay_after_step v cut r Gap = r
 
 -- the step is kept: a Run where all its offers are, a Tail or Gap where it is seen
 abbrev pub is_replayed : Layout → ℕ → Replay → Step → Bool
 is_replayed v cut r (Run start len block) =
-    is_replay_open cut r && (replay_step v cut r (Run start len block)).kept == r.kept + len
+    is_replay_open cut r && (replay_after_step v cut r (Run start len block)).kept == r.kept + len
 is_replayed v cut r Tail = is_replay_open cut r
 is_replayed v cut r Gap = is_replay_open cut r
 
@@ -60,7 +60,7 @@ abbrev pub replayed_steps : Layout → ℕ → Replay → List Step → List Ste
 replayed_steps v cut r [] = []
 replayed_steps v cut r (step ∷ steps) =
     (if is_replayed v cut r step then step ∷ [] else [])
-    ++ replayed_steps v cut (replay_step v cut r step) steps
+    ++ replayed_steps v cut (replay_after_step v cut r step) steps
 
 -- the cut of the inode x, at most 2^32 - 1
 abbrev pub cut_at : (v : Layout) (image : List ℕ) (x : ℕ) → ℕ

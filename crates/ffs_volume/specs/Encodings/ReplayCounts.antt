@@ -6,7 +6,7 @@ use Rattle.ffs_volume.specs.declared.Layout.{Layout}
 use Rattle.ffs_volume.specs.declared.Step.{Step}
 use Rattle.ffs_volume.specs.declared.Step.TheVariants.{Run, Tail, Gap}
 use Rattle.ffs_volume.specs.Disk.Areas.{is_run_in_range}
-use Rattle.ffs_volume.specs.Encodings.Replay.{Replay, is_replay_open, replay_step}
+use Rattle.ffs_volume.specs.Encodings.Replay.{Replay, is_replay_open, replay_after_step}
 
 -- 1 for a Run that is seen, else 0
 abbrev pub seen_run : ℕ → Replay → Step → ℕ
@@ -17,15 +17,15 @@ seen_run cut r Gap = 0
 -- how many Runs of some steps are seen
 abbrev pub replayed_runs : Layout → ℕ → Replay → List Step → ℕ
 replayed_runs v cut r [] = 0
-replayed_runs v cut r (step ∷ steps) = seen_run cut r step + replayed_runs v cut (replay_step v cut r step) steps
+replayed_runs v cut r (step ∷ steps) = seen_run cut r step + replayed_runs v cut (replay_after_step v cut r step) steps
 
 -- the kept offers after a Run, as the program counts them: up to the cut; with the cut 0 the number stays, and nothing
--- needs it. `is_replay_open` doesn't look at it then, and `is_replayed` asks whether its own `replay_step` would raise
--- it by the whole Run, so both answer as they do in a state of `replay_step`
+-- needs it. `is_replay_open` doesn't look at it then, and `is_replayed` asks whether its own `replay_after_step` would
+-- raise it by the whole Run, so both answer as they do in a state of `replay_after_step`
 abbrev pub kept_by_cut : (cut kept len : ℕ) → ℕ
 kept_by_cut cut kept len = if cut == 0 then kept else kept + min len (cut - kept)
 
--- `replay_run` with kept offers as `kept_by_cut` counts them
+-- `replay_after_run` with kept offers as `kept_by_cut` counts them
 abbrev pub replay_run_by_cut : (v : Layout) (cut : ℕ) (r : Replay) (start len : ℕ) → Replay
 replay_run_by_cut v cut r start len =
     if is_run_in_range v start len
@@ -34,7 +34,7 @@ replay_run_by_cut v cut r start len =
     then record { bad = r.bad + 1; kept = r.kept }
     else record { bad = r.bad + 1; kept = kept_by_cut cut r.kept len })
 
--- `replay_step` in the same way: the state that the program has after a step
+-- `replay_after_step` in the same way: the state that the program has after a step
 abbrev pub replay_step_by_cut : Layout → ℕ → Replay → Step → Replay
 replay_step_by_cut v cut r (Run start len block) =
     if is_replay_open cut r then replay_run_by_cut v cut r start len else r

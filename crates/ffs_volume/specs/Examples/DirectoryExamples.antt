@@ -15,7 +15,7 @@ use Rattle.ffs_volume.specs.Directories.Roles.{Volume, role_of, references}
 use Rattle.ffs_volume.specs.Directories.Graph.{level, parent}
 use Rattle.ffs_volume.specs.Directories.Parents.{graph_of}
 use Rattle.ffs_volume.specs.Directories.Paths.{path_bytes, dir_path, entry_path}
-use Rattle.ffs_volume.specs.Messages.Kinds.{root_none, root_not_dir, root_suspect, dir_short, dir_length, dir_empty}
+use Rattle.ffs_volume.specs.Messages.Kinds.{root_none, root_not_dir, root_suspect, dir_short, dir_length, dir_gap}
 use Rattle.ffs_volume.specs.Messages.Kinds.{missing_dot, missing_dot_first, number_dot, kind_dot, missing_dotdot}
 use Rattle.ffs_volume.specs.Messages.Kinds.{missing_dotdot_second, number_dotdot, kind_dotdot, extra_dot}
 use Rattle.ffs_volume.specs.Messages.Kinds.{extra_dotdot, out_of_range, whiteout, zero_dir, extraneous, kind_entry}
@@ -31,8 +31,8 @@ entry_bytes o x n kind name = word o x ++ (bytes_in o 2 n ++
     (kind ∷ length name ∷ (name ++ zeros (n - 8 - length name))))
 
 -- the root's chunk with other bytes after its first entry
-unfoldable pub with_second : Order → List ℕ → List ℕ
-with_second o bytes = take 12 (root_chunk o) ++ (bytes ++ drop (12 + length bytes) (root_chunk o))
+unfoldable pub with_second_entry : Order → List ℕ → List ℕ
+with_second_entry o bytes = take 12 (root_chunk o) ++ (bytes ++ drop (12 + length bytes) (root_chunk o))
 
 -- `.` and `..`
 abbrev pub one_dot : List ℕ
@@ -66,24 +66,26 @@ pub record EntryExamples : Type 0 where
   pub inside : entry_at Little (root_chunk Little) 4 ≡ None
   pub behind : entry_at Little (root_chunk Little) 512 ≡ None
   -- an entry that passes the chunk's end, has a `/`, has no NUL after its name, no name, or a type above 15
-  pub too_long : entry_at Little (with_second Little (word Little 2 ++ bytes_in Little 2 504)) 12 ≡ None
-  pub slash : entry_at Little (with_second Little (entry_bytes Little 2 12 4 (97 ∷ 47 ∷ 98 ∷ []))) 12 ≡ None
-  pub no_nul : entry_at Big (with_second Big (word Big 2 ++ (bytes_in Big 2 12 ++ (4 ∷ 3 ∷ 97 ∷ 98 ∷ 99 ∷ 1 ∷ [])))) 12
+  pub too_long : entry_at Little (with_second_entry Little (word Little 2 ++ bytes_in Little 2 504)) 12 ≡ None
+  pub slash : entry_at Little (with_second_entry Little (entry_bytes Little 2 12 4 (97 ∷ 47 ∷ 98 ∷ []))) 12 ≡ None
+  pub no_nul : entry_at Big (with_second_entry Big (word Big 2 ++ (bytes_in Big 2 12 ++ (4 ∷ 3 ∷ 97 ∷ 98 ∷ 99 ∷ 1 ∷
+      [])))) 12
       ≡ None
-  pub no_name : entry_at Little (with_second Little (entry_bytes Little 2 12 4 [])) 12 ≡ None
-  pub type_16 : entry_at Little (with_second Little (entry_bytes Little 2 12 16 (97 ∷ []))) 12 ≡ None
-  pub type_15 : entry_at Little (with_second Little (entry_bytes Little 2 12 15 (97 ∷ []))) 12
+  pub no_name : entry_at Little (with_second_entry Little (entry_bytes Little 2 12 4 [])) 12 ≡ None
+  pub type_16 : entry_at Little (with_second_entry Little (entry_bytes Little 2 12 16 (97 ∷ []))) 12 ≡ None
+  pub type_15 : entry_at Little (with_second_entry Little (entry_bytes Little 2 12 15 (97 ∷ []))) 12
       ≡ Some (entry 2 15 (97 ∷ []))
   -- a name of three bytes fits in 12, one of four doesn't; with the number 0 only the length is looked at
-  pub three_bytes : entry_at Little (with_second Little (entry_bytes Little 5 12 8 (97 ∷ 98 ∷ 99 ∷ []))) 12
+  pub three_bytes : entry_at Little (with_second_entry Little (entry_bytes Little 5 12 8 (97 ∷ 98 ∷ 99 ∷ []))) 12
       ≡ Some (entry 5 8 (97 ∷ 98 ∷ 99 ∷ []))
-  pub four_bytes : entry_at Little (with_second Little (word Little 5
+  pub four_bytes : entry_at Little (with_second_entry Little (word Little 5
       ++ (bytes_in Little 2 12 ++ (8 ∷ 4 ∷ 97 ∷ 98 ∷ 99 ∷ 100 ∷ [])))) 12 ≡ None
-  pub unused : entry_at Little (with_second Little (word Little 0 ++ (bytes_in Little 2 12 ++ (99 ∷ 200 ∷ [])))) 12
+  pub unused : entry_at Little (with_second_entry Little (word Little 0 ++ (bytes_in Little 2 12 ++ (99 ∷ 200 ∷ []))))
+      12
       ≡ Some (record { number = 0; length = 12; kind = 99; name = [] })
   -- the second entry has record length 0: the first alone is left, and the chunk isn't sound
-  pub cut : entries_of Little (with_second Little (word Little 2 ++ (0 ∷ 0 ∷ []))) ≡ entry 2 4 one_dot ∷ []
-  pub cut_unsound : is_sound Little (with_second Little (word Little 2 ++ (0 ∷ 0 ∷ []))) ≡ false
+  pub cut : entries_of Little (with_second_entry Little (word Little 2 ++ (0 ∷ 0 ∷ []))) ≡ entry 2 4 one_dot ∷ []
+  pub cut_unsound : is_sound Little (with_second_entry Little (word Little 2 ++ (0 ∷ 0 ∷ []))) ≡ false
   -- the chunks of a Run of 1,024 bytes, read whole and in part
   pub whole : map (λ c. c.offset) (chunks_of (two_chunks 1024) (λ start len. true) (Gap ∷ Run 2 2 (Some 0) ∷ Tail ∷ []))
       ≡ 0 ∷ 512 ∷ []
@@ -253,7 +255,7 @@ pub record PathnameExamples : Type 0 where
   -- a size that is too short alone, one that is no multiple of 512, and a hole
   pub too_short : pathname_lines (sized 23) ≡ dir_short (record (about 3) { size = 23 }) (47 ∷ 97 ∷ []) ∷ []
   pub no_multiple : pathname_lines (sized 600) ≡ dir_length (47 ∷ 97 ∷ []) 600 ∷ []
-  pub hole : pathname_lines (record (sub (dots 3 2 [])) { gap = λ i. i == 3 }) ≡ dir_empty (47 ∷ 97 ∷ []) ∷ []
+  pub hole : pathname_lines (record (sub (dots 3 2 [])) { gap = λ i. i == 3 }) ≡ dir_gap (47 ∷ 97 ∷ []) ∷ []
   -- a marked root that is entered is extraneous there, and no more; the type of an unknown inode isn't compared
   pub marked_root_entered : pathname_lines (record (alone (dots 2 2 (entry 2 4 (97 ∷ []) ∷ []))) { marked = λ i. true })
       ≡ root_suspect ∷ extraneous (47 ∷ 97 ∷ []) (47 ∷ []) ∷ []

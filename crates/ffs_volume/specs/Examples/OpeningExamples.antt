@@ -22,8 +22,8 @@ abbrev pub fault_at : ℕ → ℕ → Option SuperFault
 fault_at place number = fault_with (changed Little place number (base_super Little)) (base_super Little)
 
 -- the base superblock with a second group of 122 fragments, whose parts begin this much above its base
-abbrev pub with_second : ℕ → List ℕ
-with_second above =
+abbrev pub with_second_group : ℕ → List ℕ
+with_second_group above =
     changed Little 24 above (changed Little 28 0 (changed Little 36 250
     (changed Little 44 2 (changed Little 176 2 (base_super Little)))))
 
@@ -56,7 +56,7 @@ pub record SuperblockExamples : Type 0 where
   pub disagree : fault_with (base_super Little) (changed Little 40 94 (base_super Little)) ≡ Some Disagree
   pub other_order : fault_with (base_super Little) (base_super Big) ≡ Some Disagree
   -- a copy is compared only where none is asked for, and not in what is no part of the layout
-  pub not_asked : fault_of (image_of (base_super Little) (changed Little 40 94 (base_super Little))) (Some 16) ≡ None
+  pub not_compared : fault_of (image_of (base_super Little) (changed Little 40 94 (base_super Little))) (Some 16) ≡ None
   pub free_part : fault_with (base_super Little) (changed Little 60 99 (base_super Little)) ≡ None
   -- each number in which the copy must agree, by its place: it differs in the copy alone
   pub compared : map (λ place. fault_with (base_super Little) (changed Little place 77 (base_super Little)))
@@ -72,11 +72,11 @@ pub record SuperblockExamples : Type 0 where
   pub summaries : fault_at 152 33 ∷ fault_at 156 15 ∷ [] ≡ replicate 2 (Some Shape)
   -- a second group is in order, though the image is too short for it; not where it begins before its base or ends past
   -- the volume
-  pub second : fault_twice (with_second 4) ≡ Some Short
-  pub second_early : fault_twice (with_second 4294967295) ≡ Some Shape
-  pub second_late : fault_twice (with_second 91) ≡ Some Shape
+  pub second : fault_twice (with_second_group 4) ≡ Some Short
+  pub second_early : fault_twice (with_second_group 4294967295) ≡ Some Shape
+  pub second_late : fault_twice (with_second_group 91) ≡ Some Shape
   -- the summary area ends in the second group, or past the volume
-  pub summaries_on : fault_twice (changed Little 156 99328 (with_second 4)) ≡ Some Shape
+  pub summaries_on : fault_twice (changed Little 156 99328 (with_second_group 4)) ≡ Some Shape
   pub summaries_out : fault_twice (changed Little 156 99328 (changed Little 188 256 (base_super Little))) ≡ Some Shape
   -- blocks of 2,048 bytes, and of sixteen fragments
   pub small_blocks : fault_twice (changed Little 48 2048 (changed Little 52 512

@@ -36,32 +36,32 @@ all_group_lines v image totals free class =
     ++ unless (has_right_totals v free class totals) FreeCounts
 
 -- which of the messages that a report has only once were reported
-pub record ReportedOnce : Type 0 where
+pub record AlreadyReported : Type 0 where
   pub counts : Bool
   pub maps : Bool
   pub sums : Bool
 
 -- the message was reported
-abbrev pub is_reported : ReportedOnce → BlockMessage → Bool
+abbrev pub is_reported : AlreadyReported → BlockMessage → Bool
 is_reported t FreeCounts = t.counts
 is_reported t MapsWrong = t.maps
 is_reported t GroupSums = t.sums
 is_reported t _ = false
 
 -- the message is noted as reported
-abbrev pub note_reported : ReportedOnce → BlockMessage → ReportedOnce
+abbrev pub note_reported : AlreadyReported → BlockMessage → AlreadyReported
 note_reported t FreeCounts = record t { counts = true }
 note_reported t MapsWrong = record t { maps = true }
 note_reported t GroupSums = record t { sums = true }
 note_reported t _ = t
 
 -- the messages without those that were reported
-abbrev pub reported_once : ReportedOnce → List BlockMessage → List BlockMessage
+abbrev pub reported_once : AlreadyReported → List BlockMessage → List BlockMessage
 reported_once t [] = []
 reported_once t (m ∷ ms) = if is_reported t m then reported_once t ms else m ∷ reported_once (note_reported t m) ms
 
 -- none was reported
-abbrev pub unreported : ReportedOnce
+abbrev pub unreported : AlreadyReported
 unreported = record { counts = false; maps = false; sums = false }
 
 -- the lines of phase 5

@@ -3,14 +3,14 @@ use Rattle.std.proofs.Common.{◌≡◌, ℕ, ◌*◌, ◌≤◌, List, length, 
 use Rattle.ffs_volume.specs.declared.Layout.{Layout}
 use Rattle.ffs_volume.specs.Disk.Superblock.{Superblock}
 use Rattle.ffs_volume.specs.Disk.Outcome.{outcome}
-use Rattle.ffs_volume.specs.Disk.Geometry.{IsValidLayout}
+use Rattle.ffs_volume.specs.Disk.Geometry.{IsAcceptedLayout}
 
 -- a valid layout, of a volume that lies in an image of this size
 pub record FitsImage (v : Layout) (size : ℕ) : Type 0 where
-  pub geometry : IsValidLayout v
+  pub geometry : IsAcceptedLayout v
   pub inside : v.size * v.fsize ≤ size
 
 -- the layout of each accepted superblock is so
-abbrev pub AcceptedAreSound : Type 0
-AcceptedAreSound = (image : List ℕ) (sector : Option ℕ) (s : Superblock) → outcome image sector ≡ Ok s
+abbrev pub AcceptedFit : Type 0
+AcceptedFit = (image : List ℕ) (sector : Option ℕ) (s : Superblock) → outcome image sector ≡ Ok s
     → FitsImage s.layout (length image)

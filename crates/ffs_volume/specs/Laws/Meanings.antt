@@ -10,7 +10,7 @@ use Rattle.ffs_volume.specs.declared.Step.{Step}
 use Rattle.ffs_volume.specs.Disk.Areas.{cgbase}
 use Rattle.ffs_volume.specs.Blocks.Owners.{fragments_of}
 use Rattle.ffs_volume.specs.Blocks.Claims.{Claims, is_open, after_steps}
-use Rattle.ffs_volume.specs.Blocks.BlockCheck.{Offer, kept_in_steps, offer_at}
+use Rattle.ffs_volume.specs.Blocks.BlockCheck.{Offer, kept_in_steps, offer_of}
 use Rattle.ffs_volume.specs.Groups.Records.{right_group_counts}
 use Rattle.ffs_volume.specs.Directories.Entries.{Entry, entry_at, entries_of}
 use Rattle.ffs_volume.specs.Directories.Graph.{Graph, level}
@@ -21,7 +21,7 @@ use Rattle.ffs_volume.specs.Directories.Paths.{dir_path, entry_path}
 -- they are all of them, and `rest` is empty unless the inode is cut (`over`)
 pub record KeptPrefix (i : ℕ) (kept : List Offer) (fs : List ℕ) (over : Bool) : Type 0 where
   pub rest : List Offer
-  pub parts : kept ++ rest ≡ map (offer_at i) fs
+  pub parts : kept ++ rest ≡ map (offer_of i) fs
   pub end : (rest ≡ []) ⊎ (over ≡ true)
 
 -- the kept offers of an inode are the first of its offers, and all of them where it isn't cut

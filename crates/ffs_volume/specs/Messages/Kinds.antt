@@ -15,7 +15,7 @@ pub data TreeMessage : Type 0 where
   root_suspect : TreeMessage  -- DUPS/BAD IN ROOT INODE
   dir_short : (about : Attr) (path : List ℕ) → TreeMessage  -- DIRECTORY TOO SHORT
   dir_length : (path : List ℕ) (size : ℕ) → TreeMessage  -- LENGTH %d NOT MULTIPLE OF 512
-  dir_empty : (path : List ℕ) → TreeMessage  -- CONTAINS EMPTY BLOCKS: it has a Gap
+  dir_gap : (path : List ℕ) → TreeMessage  -- CONTAINS EMPTY BLOCKS: it has a Gap
   dir_corrupt : (about : Attr) (path : List ℕ) → TreeMessage  -- DIRECTORY CORRUPTED
   missing_dot : (about : Attr) (path : List ℕ) → TreeMessage
   missing_dot_first : (about : Attr) (path name : List ℕ) → TreeMessage  -- MISSING '.', another entry is first

@@ -17,7 +17,7 @@ use Rattle.ffs_volume.specs.Messages.Kinds.{Message, location, opening, bad_supe
 use Rattle.ffs_volume.specs.Messages.Kinds.{optimization, minfree, mounted, phase1, phase1b, phase2, phase3}
 use Rattle.ffs_volume.specs.Messages.Kinds.{phase4, phase5, of_blocks, of_tree, summary, TreeMessage}
 use Rattle.ffs_volume.specs.Messages.Kinds.{root_none, root_not_dir, root_suspect, dir_short, dir_length}
-use Rattle.ffs_volume.specs.Messages.Kinds.{dir_empty, dir_corrupt, missing_dot, missing_dot_first}
+use Rattle.ffs_volume.specs.Messages.Kinds.{dir_gap, dir_corrupt, missing_dot, missing_dot_first}
 use Rattle.ffs_volume.specs.Messages.Kinds.{number_dot, kind_dot, missing_dotdot, missing_dotdot_second}
 use Rattle.ffs_volume.specs.Messages.Kinds.{number_dotdot, kind_dotdot, extra_dot, extra_dotdot, out_of_range}
 use Rattle.ffs_volume.specs.Messages.Kinds.{whiteout, unallocated, dup_bad, zero_dir, extraneous, kind_entry}
@@ -55,8 +55,8 @@ abbrev pub path_text : (head : List ℕ) (about : Attr) (label : Label) (path ta
 path_text head about label path tail = inode_text head about (concat (path_label label ∷ map shown path ∷ tail ∷ []))
 
 -- `head`, the attributes of a directory, its path, and the name of the entry in the place of `.` or `..`, after `why`
-abbrev pub name_in_the_way : (head : List ℕ) (about : Attr) (path why name : List ℕ) → List ℕ
-name_in_the_way head about path why name =
+abbrev pub name_in_the_way_text : (head : List ℕ) (about : Attr) (path why name : List ℕ) → List ℕ
+name_in_the_way_text head about path why name =
     inode_text head about (concat (
     texts.PATH_OF_DIR.now ∷ map shown path ∷ why ∷ map shown name ∷ texts.LINE_END.now ∷ []))
 
@@ -133,40 +133,40 @@ abbrev pub links_text : Label → Attr → ℤ → ℕ → List ℕ
 links_text label about nlink references = labelled_text texts.LINK_COUNT.now label about (counts_text nlink references)
 
 -- a message on directories, their entries or references
-abbrev pub name_message_text : TreeMessage → List ℕ
-name_message_text root_none = texts.ROOT_NONE.now
-name_message_text root_not_dir = texts.ROOT_NOT_DIR.now
-name_message_text root_suspect = texts.ROOT_SUSPECT.now
-name_message_text (dir_short about path) = path_text texts.DIR_SHORT.now about Dir path texts.FIX.now
-name_message_text (dir_length path size) = length_text path size
-name_message_text (dir_empty path) = gap_text path
-name_message_text (dir_corrupt about path) = path_text texts.DIR_CORRUPT.now about Dir path texts.SALVAGE.now
-name_message_text (missing_dot about path) = path_text texts.MISSING_DOT.now about Dir path texts.FIX.now
-name_message_text (missing_dot_first about path name) =
-    name_in_the_way texts.MISSING_DOT.now about path texts.FIRST_ENTRY.now name
-name_message_text (number_dot about path) = path_text texts.NUMBER_DOT.now about Dir path texts.FIX.now
-name_message_text (kind_dot about path) = path_text texts.KIND_DOT.now about Dir path texts.FIX.now
-name_message_text (missing_dotdot about path) = path_text texts.MISSING_DOTDOT.now about Dir path texts.FIX.now
-name_message_text (missing_dotdot_second about path name) =
-    name_in_the_way texts.MISSING_DOTDOT.now about path texts.SECOND_ENTRY.now name
-name_message_text (number_dotdot about path) =
+abbrev pub tree_message_text : TreeMessage → List ℕ
+tree_message_text root_none = texts.ROOT_NONE.now
+tree_message_text root_not_dir = texts.ROOT_NOT_DIR.now
+tree_message_text root_suspect = texts.ROOT_SUSPECT.now
+tree_message_text (dir_short about path) = path_text texts.DIR_SHORT.now about Dir path texts.FIX.now
+tree_message_text (dir_length path size) = length_text path size
+tree_message_text (dir_gap path) = gap_text path
+tree_message_text (dir_corrupt about path) = path_text texts.DIR_CORRUPT.now about Dir path texts.SALVAGE.now
+tree_message_text (missing_dot about path) = path_text texts.MISSING_DOT.now about Dir path texts.FIX.now
+tree_message_text (missing_dot_first about path name) =
+    name_in_the_way_text texts.MISSING_DOT.now about path texts.FIRST_ENTRY.now name
+tree_message_text (number_dot about path) = path_text texts.NUMBER_DOT.now about Dir path texts.FIX.now
+tree_message_text (kind_dot about path) = path_text texts.KIND_DOT.now about Dir path texts.FIX.now
+tree_message_text (missing_dotdot about path) = path_text texts.MISSING_DOTDOT.now about Dir path texts.FIX.now
+tree_message_text (missing_dotdot_second about path name) =
+    name_in_the_way_text texts.MISSING_DOTDOT.now about path texts.SECOND_ENTRY.now name
+tree_message_text (number_dotdot about path) =
     path_text texts.NUMBER_DOTDOT.now about Dir path texts.FIX.now
-name_message_text (kind_dotdot about path) = path_text texts.KIND_DOTDOT.now about Dir path texts.FIX.now
-name_message_text (extra_dot about path) = path_text texts.EXTRA_DOT.now about Dir path texts.FIX.now
-name_message_text (extra_dotdot about path) = path_text texts.EXTRA_DOTDOT.now about Dir path texts.FIX.now
-name_message_text (out_of_range number path) = entry_text texts.OUT_OF_RANGE.now number path texts.REMOVE.now
-name_message_text (whiteout number path) = entry_text texts.WHITEOUT.now number path texts.FIX.now
-name_message_text (unallocated about path) = path_text texts.UNALLOCATED.now about Name path texts.REMOVE.now
-name_message_text (dup_bad about label path) = path_text texts.DUP_BAD.now about label path texts.REMOVE.now
-name_message_text (zero_dir about path) = path_text texts.ZERO_DIR.now about Dir path texts.REMOVE.now
-name_message_text (extraneous path directory) = extraneous_text path directory
-name_message_text (kind_entry about label path) = path_text texts.KIND_ENTRY.now about label path texts.FIX.now
-name_message_text (unref_dir about) = inode_text texts.UNREF_DIR.now about texts.RECONNECT.now
-name_message_text (dead_marked label about) = labelled_text texts.DEAD_MARKED.now label about texts.CLEAR.now
-name_message_text (dead_zero about) = inode_text texts.DEAD_ZERO.now about texts.CLEAR.now
-name_message_text (unref label about) = labelled_text texts.UNREF.now label about texts.RECONNECT_OR_CLEAR.now
-name_message_text (unref_unlinked label about) = labelled_text texts.UNREF.now label about texts.CLEAR.now
-name_message_text (link_count label about nlink references) = links_text label about nlink references
+tree_message_text (kind_dotdot about path) = path_text texts.KIND_DOTDOT.now about Dir path texts.FIX.now
+tree_message_text (extra_dot about path) = path_text texts.EXTRA_DOT.now about Dir path texts.FIX.now
+tree_message_text (extra_dotdot about path) = path_text texts.EXTRA_DOTDOT.now about Dir path texts.FIX.now
+tree_message_text (out_of_range number path) = entry_text texts.OUT_OF_RANGE.now number path texts.REMOVE.now
+tree_message_text (whiteout number path) = entry_text texts.WHITEOUT.now number path texts.FIX.now
+tree_message_text (unallocated about path) = path_text texts.UNALLOCATED.now about Name path texts.REMOVE.now
+tree_message_text (dup_bad about label path) = path_text texts.DUP_BAD.now about label path texts.REMOVE.now
+tree_message_text (zero_dir about path) = path_text texts.ZERO_DIR.now about Dir path texts.REMOVE.now
+tree_message_text (extraneous path directory) = extraneous_text path directory
+tree_message_text (kind_entry about label path) = path_text texts.KIND_ENTRY.now about label path texts.FIX.now
+tree_message_text (unref_dir about) = inode_text texts.UNREF_DIR.now about texts.RECONNECT.now
+tree_message_text (dead_marked label about) = labelled_text texts.DEAD_MARKED.now label about texts.CLEAR.now
+tree_message_text (dead_zero about) = inode_text texts.DEAD_ZERO.now about texts.CLEAR.now
+tree_message_text (unref label about) = labelled_text texts.UNREF.now label about texts.RECONNECT_OR_CLEAR.now
+tree_message_text (unref_unlinked label about) = labelled_text texts.UNREF.now label about texts.CLEAR.now
+tree_message_text (link_count label about nlink references) = links_text label about nlink references
 
 -- each number with what is after it; the fragmentation in tenths of a percent, its sign first
 abbrev pub summary_text : (files used : ℕ) (free frags blocks tenths : ℤ) → List ℕ
@@ -206,7 +206,7 @@ text_of phase3 = texts.PHASE3.now
 text_of phase4 = texts.PHASE4.now
 text_of phase5 = texts.PHASE5.now
 text_of (of_blocks message) = block_message_text message
-text_of (of_tree message) = name_message_text message
+text_of (of_tree message) = tree_message_text message
 text_of (summary files used free frags blocks tenths) = summary_text files used free frags blocks tenths
 
 -- the bytes of messages, one after another; those of a report are what is printed where no read, no

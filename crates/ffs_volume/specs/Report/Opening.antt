@@ -20,17 +20,17 @@ is_up_to most (pos n) = nat_le n most
 is_up_to most (negsuc n) = false
 
 -- optim is 0 (time) or 1 (space)
-abbrev pub is_optimization : Superblock → Bool
-is_optimization s = is_up_to 1 s.optim
+abbrev pub has_valid_optim : Superblock → Bool
+has_valid_optim s = is_up_to 1 s.optim
 
 -- minfree is a percentage of 0 to 99
-abbrev pub is_minfree : Superblock → Bool
-is_minfree s = is_up_to 99 s.minfree
+abbrev pub has_valid_minfree : Superblock → Bool
+has_valid_minfree s = is_up_to 99 s.minfree
 
 -- the defects of the settings
 unfoldable pub setting_lines : Superblock → List Message
 setting_lines s =
-    unless (is_optimization s) optimization ++ unless (is_minfree s) (minfree s.minfree)
+    unless (has_valid_optim s) optimization ++ unless (has_valid_minfree s) (minfree s.minfree)
 
 -- what is reported of an accepted superblock
 abbrev pub super_lines : Superblock → List Message

@@ -4,7 +4,7 @@ use Rattle.ffs_walk.specs.Rests.{rest}
 use Rattle.ffs_maps.proofs.Bits.{length_bits}
 use Rattle.ffs_volume.specs.declared.Step.{Step}
 use Rattle.ffs_volume.specs.declared.Step.TheVariants.{Gap}
-use Rattle.ffs_volume.specs.Blocks.Steps.{steps_of, walks}
+use Rattle.ffs_volume.specs.Blocks.Steps.{steps_of, is_walked}
 use Rattle.ffs_volume.specs.Blocks.Claims.{after_steps, after_step, lines_of_steps, step_lines, is_open}
 use Rattle.ffs_volume.proofs.Weights.{stays, kept_bound}
 use Rattle.ffs_phase.specs.Known.{ForBytes, IsContents}
@@ -22,7 +22,7 @@ pub returns-then-not-has_steps : goal.returns-then-not-has_steps
 returns-then-not-has_steps g c =
     let v = c.args.geometry.now.layout in
     let s = claims_of c.args.workspace.now in
-    let none : walks v c.args.inode.now ≡ false = sym c.has_steps.ensures ∙ c.if-not-has_steps.true in
+    let none : is_walked v c.args.inode.now ≡ false = sym c.has_steps.ensures ∙ c.if-not-has_steps.true in
     record {
       text = of_same _ _ _ _ _ _
           (of_begins _ (λ bytes. of_lines (lines_of_steps v c.args.number s (steps_of v c.args.inode.now bytes))) _)

@@ -1,7 +1,7 @@
 use Rattle.std.proofs.Common.{◌+◌, ◌-◌, ◌∷◌, [], arith, refl, ap, ◌∙◌, map, List, ℕ}
 use Rattle.std.specs.List.{range_with_len}
 use Rattle.std.proofs.lemmas.Result.{err_from_is_err_and}
-use Rattle.ffs_volume.specs.Blocks.BlockCheck.{Offer, first_offer_lines, offer_at}
+use Rattle.ffs_volume.specs.Blocks.BlockCheck.{Offer, first_offer_lines, offer_of}
 use Rattle.ffs_maps.specs.Bits.{bits_of}
 use Rattle.ffs_phase.proofs.Reporting.{to_begins, to_says, to_stops, to_ends}
 use Rattle.ffs_claims.specs.Lines.{of_lines}
@@ -19,12 +19,12 @@ loop-place-init g c =
     record {
       only = offers_reported_none c.args.geometry.now.layout w c.requires.can.made;
       reported = reporting_same _ _ _ _ _
-          (reporting_begins (map (offer_at n) (range_with_len c.args.start c.args.len)) w)
-          (ap (map (offer_at n)) (from_start c.args.start c.args.len));
+          (reporting_begins (map (offer_of n) (range_with_len c.args.start c.args.len)) w)
+          (ap (map (offer_of n)) (from_start c.args.start c.args.len));
       said = to_same _ _ _ _ _ (to_begins
           (of_lines (first_offer_lines (bits_of w.duplicates)
-          (map (offer_at n) (range_with_len c.args.start c.args.len)))) _)
-          (ap (λ (fs : List ℕ). of_lines (first_offer_lines (bits_of w.duplicates) (map (offer_at n) fs)))
+          (map (offer_of n) (range_with_len c.args.start c.args.len)))) _)
+          (ap (λ (fs : List ℕ). of_lines (first_offer_lines (bits_of w.duplicates) (map (offer_of n) fs)))
           (from_start c.args.start c.args.len));
     }
 
@@ -34,13 +34,13 @@ returns-in_err-report_claim-clause-said g c =
     let n = c.args.number in
     let f = c.from.result + c.from-in-loop-place.result in
     let d = bits_of c.loop-place.workspace.duplicates in
-    let rest = map (offer_at n)
+    let rest = map (offer_of n)
     (range_with_len (c.args.start + (c.loop-place.place + 1)) (c.args.len - (c.loop-place.place + 1))) in
-    rw (p.1) (to_stops _ (of_lines (first_offer_lines (after_first d (offer_at n f ∷ [])) rest)) _
-    (of_lines (first_offer_lines d (offer_at n f ∷ []))) _ _ _ c.loop-place.invariant.said
+    rw (p.1) (to_stops _ (of_lines (first_offer_lines (after_first d (offer_of n f ∷ [])) rest)) _
+    (of_lines (first_offer_lines d (offer_of n f ∷ []))) _ _ _ c.loop-place.invariant.said
     (ap (λ (os : List Offer). of_lines (first_offer_lines d os))
     (run_next n c.args.start c.args.len c.loop-place.place f c.loop-place-test.true (omega arith))
-    ∙ lines_more d (after_first d (offer_at n f ∷ [])) (offer_at n f) rest refl)
+    ∙ lines_more d (after_first d (offer_of n f ∷ [])) (offer_of n f) rest refl)
     c.in_err-report_claim.ensures.said)
 
 pub returns-in_err-report_claim-clause-only : goal.returns-in_err-report_claim-clause-only
@@ -55,16 +55,16 @@ loop-place-preserved g c =
     let f = c.from.result + c.from-in-loop-place.result in
     let d = bits_of c.loop-place.workspace.duplicates in
     let d' = bits_of c.report_claim.new.workspace.duplicates in
-    let rest = map (offer_at n)
+    let rest = map (offer_of n)
     (range_with_len (c.args.start + (c.loop-place.place + 1)) (c.args.len - (c.loop-place.place + 1))) in
     let next = run_next n c.args.start c.args.len c.loop-place.place f c.loop-place-test.true (omega arith) in
     record {
       only = offers_reported_then c.args.geometry.now.layout _ _ _ inv.only c.report_claim.ensures.only;
-      reported = reporting_more _ (offer_at n f ∷ []) rest _ _ _ _ inv.reported next c.report_claim.ensures.reported;
-      said = to_says _ (of_lines (first_offer_lines d' rest)) _ (of_lines (first_offer_lines d (offer_at n f ∷ []))) _ _
+      reported = reporting_more _ (offer_of n f ∷ []) rest _ _ _ _ inv.reported next c.report_claim.ensures.reported;
+      said = to_says _ (of_lines (first_offer_lines d' rest)) _ (of_lines (first_offer_lines d (offer_of n f ∷ []))) _ _
           _ inv.said
           (ap (λ (os : List Offer). of_lines (first_offer_lines d os)) next
-          ∙ lines_more d d' (offer_at n f) rest c.report_claim.ensures.reported.dup)
+          ∙ lines_more d d' (offer_of n f) rest c.report_claim.ensures.reported.dup)
           c.in_ok-report_claim.ensures.said;
     }
 

@@ -1,6 +1,6 @@
 use Rattle.std.proofs.Common.{◌+◌, ◌-◌, map}
 use Rattle.std.specs.List.{range_with_len}
-use Rattle.ffs_volume.specs.Blocks.BlockCheck.{first_offer_lines, offer_at}
+use Rattle.ffs_volume.specs.Blocks.BlockCheck.{first_offer_lines, offer_of}
 use Rattle.ffs_report.specs.Progress.{progress}
 use Rattle.ffs_phase.specs.Runs.{SaidTo}
 use Rattle.ffs_maps.specs.Bits.{bits_of}
@@ -12,11 +12,11 @@ use Rattle.ffs_claims.proofs.report_claim.report_run.Given as goal
 abbrev pub invariant-loop-place : goal.invariant-loop-place
 invariant-loop-place g l = record {
   only : OffersReportedOnly l.geometry.layout l.initial.workspace l.workspace;
-  reported : Reporting (map (offer_at l.number) (range_with_len (l.start + l.place) (l.len - l.place)))
-      (map (offer_at l.number) (range_with_len l.start l.len)) l.initial.workspace l.workspace;
+  reported : Reporting (map (offer_of l.number) (range_with_len (l.start + l.place) (l.len - l.place)))
+      (map (offer_of l.number) (range_with_len l.start l.len)) l.initial.workspace l.workspace;
   said : SaidTo (of_lines (first_offer_lines (bits_of l.workspace.duplicates)
-      (map (offer_at l.number) (range_with_len (l.start + l.place) (l.len - l.place)))))
+      (map (offer_of l.number) (range_with_len (l.start + l.place) (l.len - l.place)))))
       (of_lines (first_offer_lines (bits_of l.initial.workspace.duplicates)
-      (map (offer_at l.number) (range_with_len l.start l.len))))
+      (map (offer_of l.number) (range_with_len l.start l.len))))
       (progress g.W.Output.sink l.initial.report) (progress g.W.Output.sink l.report);
 }

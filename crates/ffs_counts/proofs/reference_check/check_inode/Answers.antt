@@ -2,7 +2,7 @@ use Rattle.std.proofs.Common.{false, ap, refl, rules, sym, ◌∙◌, ◌≡◌,
 use Rattle.std.proofs.lemmas.Result.{err_from_is_err_and}
 use Rattle.ffs_volume.specs.Encodings.Links.{links_start}
 use Rattle.ffs_volume.specs.Messages.Kinds.{TreeMessage, Message, of_tree}
-use Rattle.ffs_volume.specs.Directories.ReferenceCheck.{counted_lines}
+use Rattle.ffs_volume.specs.Directories.ReferenceCheck.{reference_lines_at}
 use Rattle.ffs_volume.specs.Directories.Volumes.{volume_of}
 use Rattle.ffs_phase.proofs.Reporting.{of_begins, of_same, of_says, of_stops, of_reads}
 use Rattle.ffs_workspace.specs.Holds.{bool_at}
@@ -18,8 +18,8 @@ returns-then-is_right-clause-runs g c =
     let n = c.args.number in
     record {
       image = search rules;
-      text = of_same _ (λ bytes. map of_tree (counted_lines (volume_of v bytes) n)) (λ bytes. []) _ _ _
-          (of_begins _ (λ bytes. map of_tree (counted_lines (volume_of v bytes) n)) _)
+      text = of_same _ (λ bytes. map of_tree (reference_lines_at (volume_of v bytes) n)) (λ bytes. []) _ _ _
+          (of_begins _ (λ bytes. map of_tree (reference_lines_at (volume_of v bytes) n)) _)
           (λ bytes k. ap (λ (ls : List TreeMessage). map of_tree ls)
           (met_lines v bytes c.args.workspace.now n c.requires.number k.1 c.requires.used
           (sym c.is_right.ensures ∙ c.if-is_right.true)));
@@ -29,7 +29,7 @@ pub returns-in_err-inode-clause-runs : goal.returns-in_err-inode-clause-runs
 returns-in_err-inode-clause-runs g c =
     let p = err_from_is_err_and c.from_residual.result c.from_residual.ensures.1 in
     let lines : List _ → List Message =
-    λ bytes. map of_tree (counted_lines (volume_of c.args.geometry.now.layout bytes) c.args.number) in
+    λ bytes. map of_tree (reference_lines_at (volume_of c.args.geometry.now.layout bytes) c.args.number) in
     rw (p.1, p.2) (record { image = search rules; text = of_reads _ lines _ _ _ (of_begins _ lines _) })
 
 pub returns-in_err-say_line-clause-runs : goal.returns-in_err-say_line-clause-runs
@@ -51,9 +51,9 @@ returns-in_err-say_line-clause-runs g c =
     c.references_by-references.ensures ∙ ap (λ (x : ℕ). x - links_start inode.nlink) count in
     rw (p.1, p.2) (record {
       image = search rules;
-      text = of_stops _ (λ bytes. map of_tree (counted_lines (volume_of v bytes) n)) (λ bytes. []) _
+      text = of_stops _ (λ bytes. map of_tree (reference_lines_at (volume_of v bytes) n)) (λ bytes. []) _
           (map of_tree (lines_as c.line_for-line.result)) _ _ _
-          (of_begins _ (λ bytes. map of_tree (counted_lines (volume_of v bytes) n)) _)
+          (of_begins _ (λ bytes. map of_tree (reference_lines_at (volume_of v bytes) n)) _)
           (λ bytes k. ap (λ (ls : List TreeMessage). map of_tree ls)
           (sym (some_lines v bytes w n k.1.claims c.requires.used)
           ∙ inode_lines_are v bytes w n inode c.is_dead-dead.result _ c.requires.number k.1 c.requires.used
@@ -83,9 +83,9 @@ returns-clause-runs g c =
     c.references_by-references.ensures ∙ ap (λ (x : ℕ). x - links_start inode.nlink) count in
     record {
       image = search rules;
-      text = of_says _ (λ bytes. map of_tree (counted_lines (volume_of v bytes) n)) (λ bytes. []) _
+      text = of_says _ (λ bytes. map of_tree (reference_lines_at (volume_of v bytes) n)) (λ bytes. []) _
           (map of_tree (lines_as c.line_for-line.result)) _ _ _
-          (of_begins _ (λ bytes. map of_tree (counted_lines (volume_of v bytes) n)) _)
+          (of_begins _ (λ bytes. map of_tree (reference_lines_at (volume_of v bytes) n)) _)
           (λ bytes k. ap (λ (ls : List TreeMessage). map of_tree ls)
           (sym (some_lines v bytes w n k.1.claims c.requires.used)
           ∙ inode_lines_are v bytes w n inode c.is_dead-dead.result _ c.requires.number k.1 c.requires.used

@@ -1,7 +1,7 @@
 use Rattle.std.proofs.Common.{arith, rules, refl, ap, ◌∙◌, ◌∷◌, [], List, ◌+◌, ◌-◌, map, Err}
 use Rattle.std.proofs.lemmas.Result.{err_from_is_err_and}
 use Rattle.ffs_volume.specs.Messages.Kinds.{Message, of_tree, phase4, lines_from}
-use Rattle.ffs_volume.specs.Directories.ReferenceCheck.{counted_lines, reference_lines}
+use Rattle.ffs_volume.specs.Directories.ReferenceCheck.{reference_lines_at, reference_lines}
 use Rattle.ffs_volume.specs.Directories.Volumes.{volume_of}
 use Rattle.ffs_phase.proofs.Reporting.{of_begins, of_says, of_stops, of_same, of_part, of_fault, said_knows}
 use Rattle.ffs_phase.proofs.Reporting.{reports_knowing}
@@ -33,7 +33,8 @@ loop-number-init g c =
       device = refl;
       held = refl;
       said = of_says _ (λ bytes. phase4 ∷ map of_tree (reference_lines (volume_of v bytes)))
-          (λ bytes. map of_tree (lines_from (counted_lines (volume_of v bytes)) 0 (inodes_of v - 0))) _ (phase4 ∷ []) _
+          (λ bytes. map of_tree (lines_from (reference_lines_at (volume_of v bytes)) 0 (inodes_of v - 0))) _ (phase4 ∷
+          []) _
           _ _
           (of_begins _ (λ bytes. phase4 ∷ map of_tree (reference_lines (volume_of v bytes))) _)
           (λ bytes k. ap (λ (xs : List Message). phase4 ∷ xs) (lines_begin v bytes))
@@ -50,12 +51,13 @@ returns-in_err-check_inode-clause-runs g c =
     rw (p.1, p.2) (record {
       image = search rules;
       text = of_fault (Unit {0}) (Unit {0}) _
-          (λ bytes. map of_tree (lines_from (counted_lines (volume_of v bytes)) n (inodes_of v - n)))
-          (λ bytes. map of_tree (counted_lines (volume_of v bytes) n))
-          (λ bytes. map of_tree (lines_from (counted_lines (volume_of v bytes)) (n + 1) (inodes_of v - (n + 1)))) _ _
+          (λ bytes. map of_tree (lines_from (reference_lines_at (volume_of v bytes)) n (inodes_of v - n)))
+          (λ bytes. map of_tree (reference_lines_at (volume_of v bytes) n))
+          (λ bytes. map of_tree (lines_from (reference_lines_at (volume_of v bytes)) (n + 1) (inodes_of v - (n + 1)))) _
+          _
           _ _
           c.in_err-check_inode.field-0.0
-          inv.said (λ bytes k. from_next (counted_lines (volume_of v bytes)) n (inodes_of v)
+          inv.said (λ bytes k. from_next (reference_lines_at (volume_of v bytes)) n (inodes_of v)
           (omega (arith, c.loop-number-test.true)))
           (reports_knowing (Unit {0}) _ _ _ _ _ (Err c.in_err-check_inode.field-0.0)
           (λ bytes k. (
@@ -75,11 +77,12 @@ loop-number-preserved-then-free-eq0 g c =
       ready = ok.stays.ready;
       device = ok.runs.image ∙ inv.device;
       held = held_on c.args.workspace.now c.loop-number.workspace c.check_inode.new.workspace inv.held ok.stays.held;
-      said = of_part _ (λ bytes. map of_tree (lines_from (counted_lines (volume_of v bytes)) n (inodes_of v - n)))
-          (λ bytes. map of_tree (counted_lines (volume_of v bytes) n))
-          (λ bytes. map of_tree (lines_from (counted_lines (volume_of v bytes)) (n + 1) (inodes_of v - (n + 1)))) _ _ _
+      said = of_part _ (λ bytes. map of_tree (lines_from (reference_lines_at (volume_of v bytes)) n (inodes_of v - n)))
+          (λ bytes. map of_tree (reference_lines_at (volume_of v bytes) n))
+          (λ bytes. map of_tree (lines_from (reference_lines_at (volume_of v bytes)) (n + 1) (inodes_of v - (n + 1)))) _
+          _ _
           _ inv.said
-          (λ bytes k. from_next (counted_lines (volume_of v bytes)) n (inodes_of v)
+          (λ bytes k. from_next (reference_lines_at (volume_of v bytes)) n (inodes_of v)
           (omega (arith, c.loop-number-test.true)))
           (said_knows _ _ _ _ _ _ (λ bytes k. (
             ap (λ d. d.contents) inv.device ∙ k.0,
@@ -98,8 +101,9 @@ loop-number-preserved g c =
       ready = inv.ready;
       device = inv.device;
       held = inv.held;
-      said = of_same _ (λ bytes. map of_tree (lines_from (counted_lines (volume_of v bytes)) n (inodes_of v - n)))
-          (λ bytes. map of_tree (lines_from (counted_lines (volume_of v bytes)) (n + free) (inodes_of v - (n + free))))
+      said = of_same _ (λ bytes. map of_tree (lines_from (reference_lines_at (volume_of v bytes)) n (inodes_of v - n)))
+          (λ bytes. map of_tree (lines_from (reference_lines_at (volume_of v bytes)) (n + free) (inodes_of v - (n +
+          free))))
           _ _ _ inv.said
           (λ bytes k. free_lines v bytes c.args.workspace.now c.deref.result.now n free (inodes_of v) k.1.claims
           (c.deref.ensures.value ∙ ap (λ (w : Workspace). w.kinds.items) inv.held) c.free_run-free.ensures.free
@@ -113,9 +117,9 @@ returns-clause-runs g c =
     let n = c.loop-number.number in
     record {
       image = search rules;
-      text = of_same _ (λ bytes. map of_tree (lines_from (counted_lines (volume_of v bytes)) n (inodes_of v - n)))
+      text = of_same _ (λ bytes. map of_tree (lines_from (reference_lines_at (volume_of v bytes)) n (inodes_of v - n)))
           (λ bytes. [])
           _ _ _ inv.said
-          (λ bytes k. from_end (counted_lines (volume_of v bytes)) n (inodes_of v)
+          (λ bytes k. from_end (reference_lines_at (volume_of v bytes)) n (inodes_of v)
           (omega (arith, c.loop-number-test.false)));
     }

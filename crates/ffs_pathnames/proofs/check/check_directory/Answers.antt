@@ -1,7 +1,7 @@
 use Rattle.std.proofs.Common.{refl, sym, ap, ◌∙◌, ℕ, List, map, Err}
 use Rattle.std.proofs.lemmas.Result.{err_from_is_err_and}
 use Rattle.ffs_volume.specs.Messages.Kinds.{of_tree}
-use Rattle.ffs_volume.specs.Directories.PathnameCheck.{dir_lines, lines_of_entries}
+use Rattle.ffs_volume.specs.Directories.PathnameCheck.{sized_dir_lines, lines_of_entries}
 use Rattle.ffs_volume.specs.Directories.Roles.{roled_entries}
 use Rattle.ffs_volume.specs.Directories.Volumes.{volume_of}
 use Rattle.ffs_phase.proofs.Reporting.{of_begins, of_part, of_fault, of_last, said_knows, reports_knowing}
@@ -18,7 +18,7 @@ pub returns-in_err-examined-clause-text : goal.returns-in_err-examined-clause-te
 returns-in_err-examined-clause-text g c =
     let p = err_from_is_err_and c.from_residual.result c.from_residual.ensures.1 in
     let v = c.args.geometry.now.layout in
-    let all = λ (b : List ℕ). map of_tree (dir_lines (volume_of v b) c.args.dir) in
+    let all = λ (b : List ℕ). map of_tree (sized_dir_lines (volume_of v b) c.args.dir) in
     rw (p.1, p.2) (of_fault DirectorySummary (Unit {0}) _ all
     (λ b. map of_tree (dir_starts (volume_of v b) c.args.dir))
     (λ b. map of_tree (lines_of_entries (volume_of v b) c.args.dir 0 (roled_entries (volume_of v b) c.args.dir))) all _
@@ -47,7 +47,7 @@ returns-then-examined-clause-marks g c = λ b k.
 pub returns-clause-text : goal.returns-clause-text
 returns-clause-text g c =
     let v = c.args.geometry.now.layout in
-    let all = λ (b : List ℕ). map of_tree (dir_lines (volume_of v b) c.args.dir) in
+    let all = λ (b : List ℕ). map of_tree (sized_dir_lines (volume_of v b) c.args.dir) in
     let rest = λ (b : List ℕ). map of_tree
     (entries_reported (volume_of v b) c.args.dir (marks_of c.begin_directory.new.workspace)
     (roled_entries (volume_of v b) c.args.dir)) in

@@ -8,7 +8,7 @@ use Rattle.ffs_layout.specs.Entry.{entry_value}
 use Rattle.ffs_phase.proofs.Reporting.{of_begins, of_same, of_part, of_fault, said_knows, reports_knowing}
 use Rattle.ffs_pathnames.specs.Gathers.{marks_of}
 use Rattle.ffs_pathnames.specs.DirectoryContext.{DirectoryContext}
-use Rattle.ffs_pathnames.specs.Marks.{after_roled, after_entries, entry_role_lines, entries_reported}
+use Rattle.ffs_pathnames.specs.Marks.{after_roled, after_entries, entry_lines_of, entries_reported}
 use Rattle.ffs_pathnames.proofs.Looking.{roled_at_place, seen_next, none}
 use Rattle.ffs_workspace.proofs.Leaving.{leaves_all, leaves_more}
 use Rattle.ffs_pathnames.proofs.Passing.{entry_reported, entry_passed, none_left, knows_on}
@@ -44,7 +44,7 @@ returns-in_err-report_entry-clause-text g c =
     let p = err_from_is_err_and c.from_residual.result c.from_residual.ensures.1 in
     rw (p.1, p.2) (of_fault (Unit {0}) (Unit {0}) _
     (λ (b : List ℕ). map of_tree (entries_reported (volume_of v b) c.args.dir m here))
-    (λ (b : List ℕ). map of_tree (entry_role_lines (volume_of v b) c.args.dir m seen))
+    (λ (b : List ℕ). map of_tree (entry_lines_of (volume_of v b) c.args.dir m seen))
     (λ (b : List ℕ). map of_tree
     (entries_reported (volume_of v b) c.args.dir (after_roled (volume_of v b) c.args.dir m seen) there)) _ _ _ _
     c.in_err-report_entry.field-0.0
@@ -86,7 +86,7 @@ entries-preserved g c =
       marks = λ b k. entry_passed (volume_of v b) c.args.dir _ m m' seen here there next (ok.marks b (know b k))
           (inv.marks b k);
       said = of_part _ (λ (b : List ℕ). map of_tree (entries_reported (volume_of v b) c.args.dir m here))
-          (λ (b : List ℕ). map of_tree (entry_role_lines (volume_of v b) c.args.dir m seen))
+          (λ (b : List ℕ). map of_tree (entry_lines_of (volume_of v b) c.args.dir m seen))
           (λ (b : List ℕ). map of_tree (entries_reported (volume_of v b) c.args.dir m' there)) _ _ _ _ inv.said
           (λ b k. entry_reported (volume_of v b) c.args.dir m m' seen here there next (ok.marks b (know b k.knows)))
           (said_knows _ _ _ _ _ _ (λ b k. record { knows = know b k.knows; path = k.path }) ok.text);

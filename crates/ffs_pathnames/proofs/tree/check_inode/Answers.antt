@@ -3,7 +3,7 @@ use Rattle.std.proofs.lemmas.Bool.{and_parts}
 use Rattle.ffs_names.proofs.SurveyHolds.{on_ok}
 use Rattle.ffs_phase.proofs.Reporting.{of_begins, of_same, reports_same, reports_knowing}
 use Rattle.ffs_volume.specs.Messages.Kinds.{of_tree}
-use Rattle.ffs_volume.specs.Directories.PathnameCheck.{dir_lines, lines_of}
+use Rattle.ffs_volume.specs.Directories.PathnameCheck.{sized_dir_lines, directory_lines}
 use Rattle.ffs_volume.specs.Directories.Volumes.{volume_of}
 use Rattle.ffs_pathnames.proofs.Carrying.{directory_context, lines_looked, lines_skipped, before_next, before_skipped}
 use Rattle.ffs_pathnames.proofs.tree.check_inode.Goals as goal
@@ -12,8 +12,8 @@ pub returns-then-is_looked_at-clause-text : goal.returns-then-is_looked_at-claus
 returns-then-is_looked_at-clause-text g c =
     let v = c.args.geometry.now.layout in
     let looked = (and_parts _ _ (sym c.is_looked_at.ensures ∙ c.if-is_looked_at.true)).0 in
-    reports_same (Unit {0}) _ (λ b. map of_tree (dir_lines (volume_of v b) c.args.number))
-    (λ b. map of_tree (lines_of (volume_of v b) c.args.number)) _ _ c.check_directory.result
+    reports_same (Unit {0}) _ (λ b. map of_tree (sized_dir_lines (volume_of v b) c.args.number))
+    (λ b. map of_tree (directory_lines (volume_of v b) c.args.number)) _ _ c.check_directory.result
     (λ b k. sym (ap (map of_tree) (lines_looked v _ _ c.args.number b looked k)))
     (reports_knowing (Unit {0}) _ _ _ _ _ c.check_directory.result
     (λ b k. (directory_context v _ _ c.args.number b looked k, k.marks)) c.check_directory.ensures.text)
@@ -31,8 +31,8 @@ pub returns-clause-text : goal.returns-clause-text
 returns-clause-text g c =
     let v = c.args.geometry.now.layout in
     let other = sym c.is_looked_at.ensures ∙ c.if-is_looked_at.false in
-    of_same _ (λ b. map of_tree (lines_of (volume_of v b) c.args.number)) (λ b. []) _ _ _
-    (of_begins _ (λ b. map of_tree (lines_of (volume_of v b) c.args.number)) _)
+    of_same _ (λ b. map of_tree (directory_lines (volume_of v b) c.args.number)) (λ b. []) _ _ _
+    (of_begins _ (λ b. map of_tree (directory_lines (volume_of v b) c.args.number)) _)
     (λ b k. lines_skipped v _ _ c.args.number b c.requires.low other k)
 
 pub returns-clause-before : goal.returns-clause-before

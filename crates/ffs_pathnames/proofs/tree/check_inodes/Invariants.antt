@@ -3,7 +3,7 @@ use Rattle.ffs_phase.specs.Known.{ForBytes}
 use Rattle.ffs_phase.specs.Runs.{SaidOf}
 use Rattle.ffs_report.specs.Progress.{progress}
 use Rattle.ffs_volume.specs.Messages.Kinds.{of_tree, lines_from}
-use Rattle.ffs_volume.specs.Directories.PathnameCheck.{lines_of}
+use Rattle.ffs_volume.specs.Directories.PathnameCheck.{directory_lines}
 use Rattle.ffs_volume.specs.Directories.Volumes.{volume_of}
 use Rattle.ffs_workspace.specs.Lengths.{inodes_of}
 use Rattle.ffs_pathnames.specs.Ready.{ReadyWith}
@@ -20,8 +20,9 @@ invariant-loop-number g l = record {
   before : ForBytes (λ b. IsBefore l.geometry.layout (g.I.Image.device l.fn.image).contents l.fn.workspace 2 b)
       (λ b. IsBefore l.geometry.layout (g.I.Image.device l.fn.image).contents l.workspace l.number b);
   said : SaidOf (λ b. IsBefore l.geometry.layout (g.I.Image.device l.fn.image).contents l.fn.workspace 2 b)
-      (λ b. map of_tree (lines_from (lines_of (volume_of l.geometry.layout b)) l.number
+      (λ b. map of_tree (lines_from (directory_lines (volume_of l.geometry.layout b)) l.number
       (inodes_of l.geometry.layout - l.number)))
-      (λ b. map of_tree (lines_from (lines_of (volume_of l.geometry.layout b)) 2 (inodes_of l.geometry.layout - 2)))
+      (λ b. map of_tree
+      (lines_from (directory_lines (volume_of l.geometry.layout b)) 2 (inodes_of l.geometry.layout - 2)))
       (progress g.W.Output.sink l.fn.report) (progress g.W.Output.sink l.report);
 }

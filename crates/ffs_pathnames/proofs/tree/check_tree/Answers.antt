@@ -4,7 +4,7 @@ use Rattle.std.proofs.lemmas.Result.{err_from_is_err_and}
 use Rattle.ffs_volume.proofs.Sizes.{some_inodes}
 use Rattle.ffs_phase.proofs.Reporting.{of_begins, of_says, of_stops, of_part, of_fault}
 use Rattle.ffs_volume.specs.Messages.Kinds.{of_tree, lines_from}
-use Rattle.ffs_volume.specs.Directories.PathnameCheck.{lines_of, pathname_lines}
+use Rattle.ffs_volume.specs.Directories.PathnameCheck.{directory_lines, pathname_lines}
 use Rattle.ffs_volume.specs.Directories.Volumes.{volume_of}
 use Rattle.ffs_volume.specs.Encodings.Kinds.{is_dir_kind}
 use Rattle.ffs_workspace.specs.Lengths.{inodes_of}
@@ -63,7 +63,7 @@ returns-in_err-check_inodes-in-Go-clause-text g c =
     let v = c.args.geometry.now.layout in
     let w = c.args.workspace.now in
     let all = λ (b : List ℕ). map of_tree (pathname_lines (volume_of v b)) in
-    let part = λ (b : List ℕ). map of_tree (lines_from (lines_of (volume_of v b)) 2 (inodes_of v - 2)) in
+    let part = λ (b : List ℕ). map of_tree (lines_from (directory_lines (volume_of v b)) 2 (inodes_of v - 2)) in
     rw (p.1, p.2) (of_fault (Unit {0}) (Unit {0}) _ part part (λ b. []) _ _ _ _ c.in_err-check_inodes-in-Go.field-0.0
     (of_says _ all part _ (map of_tree (root_said c.index-kind.result.now c.index-marked.result.now)) _ _ _
     (of_begins _ all _)
@@ -88,7 +88,7 @@ returns-in_ok-check_inodes-in-Go-clause-text g c =
     let v = c.args.geometry.now.layout in
     let w = c.args.workspace.now in
     let all = λ (b : List ℕ). map of_tree (pathname_lines (volume_of v b)) in
-    let part = λ (b : List ℕ). map of_tree (lines_from (lines_of (volume_of v b)) 2 (inodes_of v - 2)) in
+    let part = λ (b : List ℕ). map of_tree (lines_from (directory_lines (volume_of v b)) 2 (inodes_of v - 2)) in
     of_part _ part part (λ b. []) _ _ _ _
     (of_says _ all part _ (map of_tree (root_said c.index-kind.result.now c.index-marked.result.now)) _ _ _
     (of_begins _ all _)

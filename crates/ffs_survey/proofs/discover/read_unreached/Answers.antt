@@ -1,6 +1,6 @@
 use Rattle.std.proofs.Common.{arith, rules, ◌≡◌, ◌∷◌, ◌<◌, List, ℕ, length}
 use Rattle.ffs_volume.specs.Directories.Roles.{RoledEntry, refers}
-use Rattle.ffs_volume.specs.Directories.Graph.{entry_names}
+use Rattle.ffs_volume.specs.Directories.Graph.{is_naming_entry}
 use Rattle.ffs_survey.specs.Reading.{roled_of}
 use Rattle.ffs_survey.specs.Survey.{number_at}
 use Rattle.ffs_survey.specs.Discover.{any_in, is_free}
@@ -32,7 +32,7 @@ loop-entry-preserved g c =
           c.loop-entry.references _ c.args.named.now c.loop-entry.named _
           (rw (cut b k) at (inv.counts b k)) c.count_entry.ensures.references c.count_entry.ensures.named;
       parents = λ b k x l.
-          parent_step (is_free c.args.kinds.now c.args.reached.now x) (entry_names x e)
+          parent_step (is_free c.args.kinds.now c.args.reached.now x) (is_naming_entry x e)
           (any_in (g.D.Directories.rest c.next.new.self b) x) c.args.from (number_at c.loop-entry.parents x) _ _
           c.requires.from (c.adopt.ensures x l) (rw (cut b k) at (inv.parents b k x l));
     }

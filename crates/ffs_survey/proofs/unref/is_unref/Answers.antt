@@ -1,6 +1,6 @@
 use Rattle.std.proofs.Common.{arith, ◌∙◌, sym, ap, true, ◌||◌, length}
 use Rattle.std.proofs.lemmas.Bool.{cond-true, cond-false, eq-eqb, ne_eqb}
-use Rattle.ffs_volume.specs.Directories.Climb.{leads_cycle}
+use Rattle.ffs_volume.specs.Directories.Climb.{is_leader_within}
 use Rattle.ffs_survey.specs.Cycles.{up_of}
 use Rattle.ffs_survey.specs.Survey.{suspect_at}
 use Rattle.ffs_volume.proofs.Unreached.{IsLost}
@@ -19,7 +19,7 @@ returns-then-above-eq0 c = λ v n t.
     } in
     sym (unref_is v suspect c.args.kinds.now c.args.reached.now c.args.parents.now c.args.dir c.requires.lists.parents t
     l
-    ∙ ap (λ b. b || leads_cycle (up_of c.args.parents.now) (length c.args.parents.now) c.args.dir)
+    ∙ ap (λ b. b || is_leader_within (up_of c.args.parents.now) (length c.args.parents.now) c.args.dir)
     (cond-true _ true _ (eq-eqb _ 0 c.if-above-eq0.true)))
 
 pub returns-then-above-kinds : goal.returns-then-above-kinds
@@ -40,5 +40,5 @@ returns c = λ v n t.
     c.requires.lists.cycles c.args.dir
     ∙ sym (unref_is v suspect c.args.kinds.now c.args.reached.now c.args.parents.now c.args.dir c.requires.lists.parents
     t l
-    ∙ ap (λ b. b || leads_cycle (up_of c.args.parents.now) (length c.args.parents.now) c.args.dir)
+    ∙ ap (λ b. b || is_leader_within (up_of c.args.parents.now) (length c.args.parents.now) c.args.dir)
     (cond-false _ true _ (ne_eqb _ 0 c.if-above-eq0.false) ∙ (sym (c.is_dead-2.ensures v n) ∙ c.if-is_dead-2.false)))

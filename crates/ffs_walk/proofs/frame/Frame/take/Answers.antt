@@ -1,12 +1,12 @@
 use Rattle.std.proofs.Common.{◌≡◌, ◌∙◌, sym, ap, true, false}
-use Rattle.ffs_volume.specs.Blocks.Steps.{any_address_from}
+use Rattle.ffs_volume.specs.Blocks.Steps.{any_nonzero_from}
 use Rattle.ffs_walk.proofs.FrameSteps.{word_taken, less_left}
 use Rattle.ffs_walk.proofs.frame.Frame.take.Goals as goal
 use Rattle.ffs_walk.proofs.frame.Frame.take.Goals.{then-self+else-any_from, else-self}
 
 pub returns-clause-steps : goal.returns-clause-steps
 returns-clause-steps g c =
-    let no : c.args.self.now.fresh ≡ true → any_address_from c.args.geometry.now.layout c.bytes-block.result.now
+    let no : c.args.self.now.fresh ≡ true → any_nonzero_from c.args.geometry.now.layout c.bytes-block.result.now
     c.args.self.now.used ≡ false =
     elim c.if-self.branch [
       | then-self+else-any_from w ↦ (λ h. sym w.any_from.ensures ∙ w.if-any_from.false)
