@@ -13,7 +13,11 @@
 -- A then B", and `(x : A) → P` says that P holds of each x. A record of `Type 0` is a statement, and asks all its
 -- fields; a field that is a number or a list says that there is one. `[]` is an empty list, `x ∷ xs` has x before a
 -- list, and `++` joins two. `zero` is 0 and `suc n` is n + 1. Of an integer `pos n` is n, and `negsuc n` is -(n + 1).
--- The root is inode 2.
+-- The root is inode 2. An `Option` is `Some x`, or `None` without a value. A `Result` is `Ok x`, or `Err fault`.
+-- `option_map f o` and `option_and_then f o` apply f to the value of o, if any; in the second f gives an `Option`.
+-- `f x y` is the function f of x and y, and `f : A → B → C` says that f takes an A and a B, and gives a C. Of the
+-- equations of a definition the first that fits is used, and `_` fits anything. A line is a message of the report
+-- (folder Messages): a definition with `lines` in its name gives a list of messages.
 pub mod Disk
 pub mod Blocks
 pub mod Messages

@@ -1,8 +1,8 @@
 -- Which fragments inodes get. A Run offers its fragments to its inode, in order. An offer is dup where its fragment is
 -- in range and used already, by an earlier kept offer or as a reserved one. At its eleventh bad Run or eleventh dup
 -- offer an inode is cut: its further steps aren't seen. It keeps each offer that comes before its eleventh bad Run, and
--- no later than its eleventh dup offer. The eleventh dup offer itself is kept, so phase 1b looks for the first one of
--- its fragment.
+-- no later than its eleventh dup offer. The eleventh dup offer itself is kept, so phase 1b looks for the first offer of
+-- its fragment, too.
 use Rattle.std.specs.Prelude.{ℕ, Bool, true, false, ◌+◌, ◌&&◌, not, List, [], ◌∷◌, ◌++◌}
 use Rattle.std.specs.Prelude.{◌==◌, nat_lt, slice_set, if◌then◌else◌, map, replicate}
 use Rattle.std.specs.List.{range_with_len, slice_index_or}
@@ -65,7 +65,7 @@ after_offer v s f =
     else record s { kept = s.kept + 1 })
     else s
 
--- the lines of one offer
+-- the lines of one offer: a DUP where it is dup and kept, with EXCESSIVE DUP BLKS after the eleventh
 abbrev pub offer_lines : (v : Layout) (inode : ℕ) (s : Claims) (f : ℕ) → List BlockMessage
 offer_lines v inode s f =
     if nat_lt s.dups (MAXDUP + 1) && (is_fragment_in_range v f && is_set s.used f)

@@ -47,7 +47,7 @@ is_device kind = kind == DT_CHR || kind == DT_BLK
 abbrev pub is_short_symlink : Layout → Inode → Bool
 is_short_symlink v i = type_of i.mode == DT_LNK && nat_lt i.size v.maxsymlinklen
 
--- how many logical blocks an inode of its size has
+-- how many logical blocks the size of an inode needs
 abbrev pub logical_blocks_of : Layout → Inode → ℕ
 logical_blocks_of v i = div_ceil i.size v.bsize
 
@@ -60,7 +60,7 @@ addresses_needed words blocks =
     then (if nat_lt (NDADDR + words + words * words) blocks then 15 else 14)
     else 13)
 
--- how many of the first of its fifteen addresses an inode may set: one that is set after them makes it Unknown. A short
+-- how many of its fifteen addresses, from the first on, an inode may set: one set after them makes it Unknown. A short
 -- symlink has its text in place of addresses, 4 bytes in each. A device stores its device number in the first address,
 -- so one logical block more is counted
 abbrev pub addresses_allowed : Layout → Inode → ℕ
@@ -105,7 +105,7 @@ abbrev pub is_unknown : Class → Bool
 is_unknown Unknown = true
 is_unknown _ = false
 
--- the inode is in use: what its group's map of inodes should say
+-- the class is File, Dir or Unknown: the map of inodes in its group should have such an inode as used
 abbrev pub is_allocated : Class → Bool
 is_allocated File = true
 is_allocated Dir = true

@@ -1,6 +1,6 @@
--- The kept offers of `BlockCheck` once more, by a rule on each offer (`offer_verdict`); `keeping_is_by_rule` says that
--- both are the same. p is an offer with the number of bad Runs up to its own (`CountedOffer`), and j an offer with what
--- the rule says of it (`OfferVerdict`).
+-- The kept offers of `BlockCheck` once more, by a rule on each offer (`offer_verdict`). The law `keeping_is_by_rule`
+-- of the crate ffs_certificate says that both are the same. p is an offer with the number of bad Runs up to its own
+-- (`CountedOffer`), and j an offer with what the rule says of it (`OfferVerdict`).
 use Rattle.std.specs.Prelude.{ℕ, Bool, ◌+◌, ◌&&◌, ◌||◌, List, [], ◌∷◌, ◌++◌, ◌==◌, nat_le, if◌then◌else◌, map, count_by}
 use Rattle.std.specs.List.{list_any, flat_map, range_with_len}
 use Rattle.ffs_volume.specs.declared.constants.TheConstants.{MAXBAD, MAXDUP}
@@ -17,7 +17,7 @@ pub record CountedOffer : Type 0 where
   pub fragment : ℕ
   pub bad_runs : ℕ
 
--- how many bad Runs an inode has after a step
+-- how many bad Runs an inode has after a step, by how many it had before
 abbrev pub bad_runs_after : Layout → ℕ → Step → ℕ
 bad_runs_after v bad_runs (Run start len block) = if is_run_in_range v start len then bad_runs else bad_runs + 1
 bad_runs_after v bad_runs Tail = bad_runs
@@ -55,7 +55,7 @@ pub record OfferVerdict : Type 0 where
 abbrev pub is_claimed_before : List OfferVerdict → ℕ → Bool
 is_claimed_before earlier f = list_any (λ j. j.kept && j.fragment == f) earlier
 
--- how many dup offers of the inode there were
+-- how many of the earlier offers are dup offers of the inode i
 abbrev pub dups_of : List OfferVerdict → ℕ → ℕ
 dups_of earlier i = count_by (λ j. j.dup && j.inode == i) earlier
 
@@ -70,7 +70,7 @@ offer_verdict v earlier p = record {
   kept = nat_le p.bad_runs MAXBAD && nat_le (dups_of earlier p.inode) MAXDUP;
 }
 
--- the verdicts on all offers so far, the newest first, after some more offers
+-- the verdicts on the earlier offers and on some more, the newest first
 abbrev pub verdicts : Layout → List OfferVerdict → List CountedOffer → List OfferVerdict
 verdicts v earlier [] = earlier
 verdicts v earlier (p ∷ ps) = verdicts v (offer_verdict v earlier p ∷ earlier) ps
@@ -79,7 +79,7 @@ verdicts v earlier (p ∷ ps) = verdicts v (offer_verdict v earlier p ∷ earlie
 abbrev pub uncounted : CountedOffer → Offer
 uncounted p = record { inode = p.inode; fragment = p.fragment }
 
--- those of some offers that the rule keeps, in order
+-- the offers of a list that the rule keeps, in order
 abbrev pub kept_by_rule : Layout → List OfferVerdict → List CountedOffer → List Offer
 kept_by_rule v earlier [] = []
 kept_by_rule v earlier (p ∷ ps) =

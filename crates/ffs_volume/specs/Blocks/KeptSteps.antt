@@ -17,7 +17,7 @@ is_kept_step v s (Run start len block) = is_open s && (after_step v s (Run start
 is_kept_step v s Tail = is_open s
 is_kept_step v s Gap = is_open s
 
--- those of some steps that are kept
+-- the steps of a list that are kept, in order
 abbrev pub kept_steps : Layout → Claims → List Step → List Step
 kept_steps v s [] = []
 kept_steps v s (step ∷ steps) =

@@ -15,7 +15,7 @@ pub record Owner : Type 0 where
   pub steps : List Step
   pub blocks : ℕ
 
--- the inode x of an image
+-- the inode x of an image, as phase 1 sees it
 unfoldable pub owner_of : (v : Layout) (image : List ℕ) (x : ℕ) → Owner
 owner_of v image x = record {
   number = x;
@@ -28,7 +28,7 @@ owner_of v image x = record {
 abbrev pub inode_numbers : Layout → List ℕ
 inode_numbers v = range_with_len 2 (v.ncg * v.ipg - 2)
 
--- all inodes from 2 on, ascending
+-- all inodes from 2 on as phase 1 sees them, ascending
 unfoldable pub owners_of : Layout → List ℕ → List Owner
 owners_of v image = map (owner_of v image) (inode_numbers v)
 

@@ -28,8 +28,8 @@ address_in v block j = u32_at v.order (4 * j) block
 abbrev pub address_at : (v : Layout) (image : List ℕ) (address j : ℕ) → ℕ
 address_at v image address j = address_in v (block_bytes v image address) j
 
--- how far a file reaches: its layout, the number of its logical blocks, and how many fragments the last of
--- them has where its address is direct
+-- how far a file reaches: the layout of its volume, the number of its logical blocks, and how many fragments the last
+-- of them has where its address is direct
 pub record FileBlocks : Type 0 where
   pub layout : Layout
   pub blocks : ℕ
@@ -40,7 +40,7 @@ pub record FileBlocks : Type 0 where
 abbrev pub indirect_addresses_needed : (words blocks first span : ℕ) → ℕ
 indirect_addresses_needed words blocks first span = min words (div_ceil (blocks - first) span)
 
--- a Tail, where an address past the used ones was found
+-- a Tail, where an address that isn't zero was found past the end of the file
 abbrev pub tail_of : Bool → List Step
 tail_of found = if found then Tail ∷ [] else []
 
@@ -55,7 +55,7 @@ abbrev pub steps_under : (v : Layout) (image : List ℕ) (child : ℕ → ℕ �
 steps_under v image child span address first next count =
     flat_map (λ j. child (address_at v image address j) (first + j * span)) (range_with_len next count)
 
--- how many fragments a block of data has
+-- how many fragments a logical block of data has: `last_length` where it is the last and direct, else those of a block
 abbrev pub data_length : FileBlocks → ℕ → ℕ
 data_length t block = if nat_lt block NDADDR && block + 1 == t.blocks then t.last_length else t.layout.frag
 
@@ -70,7 +70,7 @@ abbrev pub data_step : (t : FileBlocks) (address block : ℕ) → Step
 data_step t address block = if address == 0 then Gap else Run address (data_length t block) (Some block)
 
 -- the steps at the address of an indirect block: a Gap, or its Run and, where that is in range, a Tail if there is one,
--- and then the steps under its used addresses in order; `child` is as above
+-- and then the steps under its addresses before the end of the file, in order; `child` is as in `steps_under`
 abbrev pub indirect_steps : (t : FileBlocks) (image : List ℕ) (child : ℕ → ℕ → List Step) (span address first : ℕ) →
     List Step
 indirect_steps t image child span address first =

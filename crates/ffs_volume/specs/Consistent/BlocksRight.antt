@@ -17,7 +17,7 @@ is_right_class Partial = false
 is_right_class Unknown = false
 is_right_class _ = true
 
--- a Run is in range
+-- the step is in range, if it is a Run
 abbrev pub is_step_in_range : Layout → Step → Bool
 is_step_in_range v (Run start len block) = is_run_in_range v start len
 is_step_in_range v Tail = true

@@ -24,9 +24,9 @@ IsPlainRight vol e =
     ((e.number ≡ WINO) × (e.kind ≡ DT_WHT))
     ⊎ ((is_allocated_inode vol e.number ≡ true) × (e.kind ≡ type_of (vol.inode e.number).mode))
 
--- what is asked of one directory, whatever entries others have: a size, no hole, well formed entries that fill each
--- chunk, `.` first with the directory's own number, `..` second, no other of the two, and plain entries that are right.
--- The number of `..` is asked in `IsLinked`
+-- what is asked of one directory, whatever entries others have: a valid size, no hole, well formed entries that fill
+-- each chunk, `.` first with the directory's own number, `..` second, both of type DT_DIR, no other of the two, and
+-- plain entries that are right. The number of `..` is asked in `IsLinked`, and for the root in `AreLinksRight`
 pub record IsDirRight (vol : Volume) (d : ℕ) : Type 0 where
   pub size : IsDirSize (vol.inode d).size
   pub gap : vol.gap d ≡ false

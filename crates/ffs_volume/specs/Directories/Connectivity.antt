@@ -1,4 +1,4 @@
--- What the check of connectivity reports.
+-- What the check of connectivity, phase 3, reports.
 use Rattle.std.specs.Prelude.{ℕ, Bool, List}
 use Rattle.ffs_volume.specs.Directories.Roles.{Volume, is_suspect}
 use Rattle.ffs_volume.specs.Directories.Graph.{is_unref_dir_in, is_dead_in}

@@ -77,7 +77,7 @@ entries_from order chunk zero place = []
 entries_from order chunk (suc most) place =
     entries_with order chunk place (entries_from order chunk most) (entry_at order chunk place)
 
--- the entries of a chunk. Each has 8 bytes or more, so there are at most 64 in 512 bytes (law `entries_are_longest`)
+-- the entries of a chunk. Each has 8 bytes or more, so there are at most 64 in 512 bytes (see `AreLongest` of Laws)
 abbrev pub entries_of : Order → List ℕ → List Entry
 entries_of order chunk = entries_from order chunk 64 0
 
@@ -107,7 +107,7 @@ pub record ChunkSource : Type 0 where
   pub fsize : ℕ
   pub taken : ℕ  -- how many bytes of the directory are read
 
--- the chunks of `len` fragments from `start` on, that are at `offset` of the file
+-- the chunks of `len` fragments from `start` on, that are at `offset` of the file, as far as the directory is read
 abbrev pub run_chunks : (r : ChunkSource) (start len offset : ℕ) → List Chunk
 run_chunks r start len offset =
     map (λ k. chunk_of r.order (offset + DIRBLKSIZ * k) (piece (start * r.fsize + DIRBLKSIZ * k) DIRBLKSIZ r.image))

@@ -1,4 +1,4 @@
--- What the level of a directory is, once more: the least number of edges from inode 2 (law `levels_are_least`).
+-- What the level of a directory is, once more: the least number of edges from inode 2 (see `LevelsAreLeast` of Laws).
 use Rattle.std.specs.Prelude.{◌≡◌, ℕ, ◌<◌, true, false}
 use Rattle.ffs_volume.specs.Directories.Graph.{Graph, within}
 

@@ -1,4 +1,4 @@
--- What the check of reference counts reports.
+-- What the check of reference counts, phase 4, reports.
 use Rattle.std.specs.Prelude.{ℕ, ◌==◌, not, List, [], ◌∷◌, if◌then◌else◌}
 use Rattle.ffs_volume.specs.Disk.Numbers.{equals_natural}
 use Rattle.ffs_volume.specs.Directories.Roles.{Volume, is_allocated_inode, references}
@@ -31,6 +31,6 @@ inode_lines vol i =
 abbrev pub reference_lines_at : Volume → ℕ → List TreeMessage
 reference_lines_at vol i = if is_allocated_inode vol i then inode_lines vol i else []
 
--- the lines of phase 4 on inodes
+-- the lines of phase 4
 unfoldable pub reference_lines : Volume → List TreeMessage
 reference_lines vol = lines_below (reference_lines_at vol) vol.count

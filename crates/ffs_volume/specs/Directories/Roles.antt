@@ -77,7 +77,7 @@ pub record RoledEntry : Type 0 where
   pub role : Role
   pub entry : Entry
 
--- the entries from an index of a chunk on, with their roles
+-- the entries from an index of a chunk on, and all entries of a chunk, with their roles
 unfoldable pub roled_from : (first : Bool) (index : ℕ) (es : List Entry) → List RoledEntry
 roled_from first index [] = []
 roled_from first index (e ∷ es) = record { role = role_of first index e; entry = e } ∷ roled_from first (suc index) es
@@ -116,7 +116,7 @@ dotdot vol d = entry_if (λ e. is_live e && is_two_dots e.name) (start_entry vol
 abbrev pub refers : ℕ → RoledEntry → Bool
 refers x s = is_counted s.role && (s.entry.number == x)
 
--- how many such entries the directories below a number have
+-- how many such entries there are in the directories whose numbers are below s
 unfoldable pub references_below : (vol : Volume) (x s : ℕ) → ℕ
 references_below vol x zero = 0
 references_below vol x (suc s) =

@@ -12,7 +12,7 @@ use Rattle.ffs_volume.specs.Blocks.KeptSteps.{kept_steps_of}
 use Rattle.ffs_volume.specs.Directories.Entries.{ChunkSource, chunks_of, has_gap, bytes_read}
 use Rattle.ffs_volume.specs.Directories.Roles.{Volume}
 
--- the number of an inode: one from 2 on
+-- the number of an inode: one from 2 on that some group has
 abbrev pub is_inode_number : Layout → ℕ → Bool
 is_inode_number v x = nat_le 2 x && nat_lt x (v.ncg * v.ipg)
 

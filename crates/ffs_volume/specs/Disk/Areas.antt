@@ -25,11 +25,11 @@ abbrev pub cgsblock : Layout → ℕ → ℕ
 cgsblock v c = cgstart v c + v.sblkno
 
 -- the first fragment for data after the inodes of group c. The fragments from the group's base to `cgsblock` hold data
--- too, but in group 0, where they are the boot area: the boot block and the primary superblock are there
+-- too, except in group 0: there they are the boot area, with the boot block and the primary superblock
 abbrev pub cgdmin : Layout → ℕ → ℕ
 cgdmin v c = cgstart v c + v.dblkno
 
--- the byte where the group block of c begins
+-- the byte where the group block (`struct cg`) of group c begins
 abbrev pub group_place : Layout → ℕ → ℕ
 group_place v c = (cgstart v c + v.cblkno) * v.fsize
 

@@ -54,7 +54,7 @@ has_valid_numbers v =
     && (nat_lt ((v.ncg - 1) * v.fpg) v.size && nat_le v.size (v.ncg * v.fpg))
     && (nat_lt v.size (2 ^ 31) && nat_lt (v.ncg * v.ipg) (2 ^ 31))
 
--- the parts of a group are one after the other, and a group block has room for the bytes before its maps
+-- the parts of a group are one after the other; a group block has room for the bytes before its maps, and fits a block
 unfoldable pub has_valid_parts : Layout → Bool
 has_valid_parts v =
     nat_lt 0 v.sblkno
@@ -112,7 +112,7 @@ copy_place v = cgsblock v (v.ncg - 1) * v.fsize
 abbrev pub super_bytes : (image : List ℕ) (sector : Option ℕ) → List ℕ
 super_bytes image sector = piece (super_sector sector * DEV_BSIZE) SUPERBLOCK_BYTES image
 
--- with no sector asked for, the last copy is compared
+-- with no sector asked for, the last copy must agree; with one, no copy is compared
 unfoldable pub copy_agrees : (image : List ℕ) → Option ℕ → (order : Order) (bytes : List ℕ) → Bool
 copy_agrees image None order bytes =
     agree order bytes (piece (copy_place (layout_of order bytes)) SUPERBLOCK_BYTES image)

@@ -1,7 +1,7 @@
 -- The least number below a bound that passes a test.
 use Rattle.std.specs.Prelude.{ℕ, zero, suc, Bool, cond, Option, None, Some, is_some}
 
--- the number that was found before, if any; else n, if it passes, which b says; else none
+-- the number that was found already, if any; else n, where b says that it passes; else none
 unfoldable pub earliest : Option ℕ → (b : Bool) (n : ℕ) → Option ℕ
 earliest (Some s) b n = Some s
 earliest None b n = cond b (Some n) None

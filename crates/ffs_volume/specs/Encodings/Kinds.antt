@@ -1,4 +1,5 @@
--- A number for the class of an inode, with the type of a file, its *kind*: it fits four bits.
+-- A number for the class of an inode and the type of a file, the *kind* of the inode: it fits four bits. The `kind` of
+-- an entry is its type alone.
 use Rattle.std.specs.Prelude.{ℕ, Bool, not, ◌||◌, ◌==◌, if◌then◌else◌, List}
 use Rattle.ffs_volume.specs.declared.constants.TheConstants.{DT_DIR, EMPTY_DIR, UNKNOWN_TYPE}
 use Rattle.ffs_volume.specs.declared.Layout.{Layout}
@@ -45,6 +46,6 @@ class_of_kind k =
     else (if is_dir_kind k then Dir
     else File))
 
--- the type bits of the mode of a file or directory
+-- the type of a file or directory, by its kind
 abbrev pub type_of_kind : ℕ → ℕ
 type_of_kind k = if is_dir_kind k then DT_DIR else k

@@ -10,8 +10,8 @@ use Rattle.ffs_volume.specs.declared.Class.{Class}
 use Rattle.ffs_volume.specs.Blocks.Inodes.{inode_of, is_allocated}
 use Rattle.ffs_volume.specs.Directories.Volumes.{class_at}
 
--- the start, by the count of links. A valid one is 1 to 32,768; that of an inode is 32,767 at most, and the bound is
--- there since the definition takes any number
+-- the start, by the count of links. A count from 1 to 32,768 is valid. That of an inode is 32,767 at most, but the
+-- definition takes any number
 abbrev pub links_start : ℤ → ℕ
 links_start (pos n) = if nat_lt 0 n && nat_le n LINKS_MET then LINKS_MET - n else NO_LINKS
 links_start (negsuc n) = NO_LINKS

@@ -12,7 +12,7 @@ use Rattle.ffs_volume.specs.Blocks.Claims.{Claims, after_owner}
 use Rattle.ffs_volume.specs.Blocks.KeptSteps.{claims_before}
 use Rattle.ffs_volume.specs.Directories.Volumes.{is_inode_number}
 
--- the bad Runs of an inode and its kept offers so far
+-- the bad Runs of an inode and its kept offers so far; both are 0 at first (`fresh_replay`)
 pub record Replay : Type 0 where
   pub bad : ℕ
   pub kept : ℕ
@@ -21,7 +21,7 @@ abbrev pub fresh_replay : Replay
 fresh_replay = record { bad = 0; kept = 0 }
 
 -- the cut of an inode that ends in this state: the number of its kept offers where its eleventh dup offer cut it, else
--- 0, which is free to say so, since a cut is 11 at least
+-- 0. No cut is 0, since it is 11 at least
 abbrev pub cut_of : Claims → ℕ
 cut_of end = if nat_lt end.dups (MAXDUP + 1) then 0 else end.kept
 

@@ -55,11 +55,11 @@ pub record ClassExamples : Type 0 where
   pub types : map (λ kind. class_of (base_layout Little) (inode kind 0 []))
       (4096 ∷ 8192 ∷ 16384 ∷ 24576 ∷ 32768 ∷ 40960 ∷ 49152 ∷ 12288 ∷ [])
       ≡ File ∷ File ∷ Dir ∷ File ∷ File ∷ File ∷ File ∷ Unknown ∷ []
-  -- an address that isn't used: beyond the size, and not beyond it
+  -- an address that the size doesn't use, and one that it uses, each direct and indirect
   pub unused : map (class_of (base_layout Little)) (file_inode 4096 (36 ∷ 40 ∷ []) ∷ file_inode 4097 (36 ∷ 40 ∷ [])
       ∷ file_inode 49152 (replicate 12 36 ++ 40 ∷ []) ∷ file_inode 49153 (replicate 12 36 ++ 40 ∷ []) ∷ [])
       ≡ Unknown ∷ File ∷ Unknown ∷ File ∷ []
-  -- a device has one more; a short symlink's words are its text
+  -- a device may set one address more; a short symlink has its text in place of addresses
   pub device : map (class_of (base_layout Little)) (inode 8612 0 (5 ∷ []) ∷ inode 8612 0 (5 ∷ 6 ∷ [])
       ∷ inode 25012 0 (5 ∷ []) ∷ []) ≡ File ∷ Unknown ∷ File ∷ []
   pub symlink : map (class_of (base_layout Little)) (inode 41471 5 (1 ∷ 2 ∷ []) ∷ inode 41471 5 (1 ∷ 2 ∷ 3 ∷ [])
@@ -82,7 +82,7 @@ pub record StepExamples : Type 0 where
   -- a device and a short symlink have none
   pub device : steps_of (base_layout Little) (inode 8612 0 (5 ∷ [])) [] ≡ []
   pub symlink : steps_of (base_layout Little) (inode 41471 5 (1 ∷ 2 ∷ [])) [] ≡ []
-  -- two blocks under an indirect one, the last of them whole; a word that isn't used
+  -- two blocks under an indirect one, the last of them whole; an address past the end of the file
   pub single : steps_of (base_layout Little) (file_inode 53300 (replicate 12 0 ++ 40 ∷ []))
       (words_at Little (word Little 44 ++ word Little 48) [])
       ≡ replicate 12 Gap ++ (Run 40 4 None ∷ Run 44 4 (Some 12) ∷ Run 48 4 (Some 13) ∷ [])
@@ -146,14 +146,14 @@ pub record ClaimExamples : Type 0 where
       ≡ Dup 40 3 ∷ Dup 41 3 ∷ Dup 42 3 ∷ Dup 43 3 ∷ []
   pub itself_again : second_reported (file 3 (Run 40 4 None ∷ Run 40 4 (Some 12) ∷ []) 16 ∷ [])
       ≡ Dup 40 3 ∷ Dup 41 3 ∷ Dup 42 3 ∷ Dup 43 3 ∷ []
-  -- a word that isn't used, and the classes that are reported
+  -- two Tails of one inode, reported once; the classes that are reported
   pub truncated : first_reported (file 3 (Run 40 4 None ∷ Tail ∷ Run 44 4 (Some 12) ∷ Tail ∷ []) 16 ∷ [])
       ≡ PartTrunc 3 ∷ []
   pub classes : first_reported (record { number = 3; class = Partial; steps = []; blocks = 1 }
       ∷ record { number = 4; class = Unknown; steps = []; blocks = 1 }
       ∷ record { number = 5; class = Free; steps = []; blocks = 1 } ∷ [])
       ≡ PartAlloc 3 ∷ UnknownType 4 ∷ []
-  -- by the rule of keeping, the offers that the fold keeps
+  -- the rule of `Keeping` keeps the same offers as `BlockCheck`
   pub by_rule : kept_in_owners (base_layout Little) (no_claims (base_layout Little))
       (root ∷ file 3 (blocks_at 5 3) 7 ∷ [])
       ≡ kept_by_rule (base_layout Little) [] (all_offers (base_layout Little) (root ∷ file 3 (blocks_at 5 3) 7 ∷ []))

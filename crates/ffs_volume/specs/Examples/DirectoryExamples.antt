@@ -34,7 +34,7 @@ entry_bytes o x n kind name = word o x ++ (bytes_in o 2 n ++
 unfoldable pub with_second_entry : Order → List ℕ → List ℕ
 with_second_entry o bytes = take 12 (root_chunk o) ++ (bytes ++ drop (12 + length bytes) (root_chunk o))
 
--- `.` and `..`
+-- `.` and `..`; an entry of 12 bytes, and one of 500 bytes that is the last of its chunk
 abbrev pub one_dot : List ℕ
 one_dot = 46 ∷ []
 
@@ -47,7 +47,7 @@ entry x kind name = record { number = x; length = 12; kind = kind; name = name }
 abbrev pub last_entry : ℕ → ℕ → List ℕ → Entry
 last_entry x kind name = record { number = x; length = 500; kind = kind; name = name }
 
--- two chunks at fragment 2, read as far as this
+-- a directory of two chunks at fragment 2, of which `taken` bytes are read
 unfoldable pub two_chunks : ℕ → ChunkSource
 two_chunks taken = record {
   order = Little;
@@ -230,7 +230,7 @@ pub record PathnameExamples : Type 0 where
   pub second_link : pathname_lines twice ≡ extraneous (47 ∷ 98 ∷ []) (47 ∷ 97 ∷ []) ∷ []
   pub no_inode : pathname_lines (sub (dots 3 2 (entry 99 8 (113 ∷ []) ∷ [])))
       ≡ out_of_range 99 (47 ∷ 97 ∷ 47 ∷ 113 ∷ []) ∷ []
-  -- `.` and `..` that are missing, that can't be set, and that are wrong
+  -- `.` and `..` that are missing, that have other entries in their places, that are swapped, and that are wrong
   pub no_dots : pathname_lines (alone []) ≡ missing_dot (about 2) (47 ∷ []) ∷ missing_dotdot (about 2) (47 ∷ []) ∷ []
   pub others_first : pathname_lines (alone (entry 1 14 (97 ∷ []) ∷ entry 1 14 (98 ∷ []) ∷ []))
       ≡ missing_dot_first (about 2) (47 ∷ []) (97 ∷ []) ∷ missing_dotdot_second (about 2) (47 ∷ []) (98 ∷ []) ∷ []
@@ -252,7 +252,7 @@ pub record PathnameExamples : Type 0 where
   pub no_root : pathname_lines (record (alone []) { class = λ i. Free }) ≡ root_none ∷ []
   pub root_file : pathname_lines (record (alone []) { class = λ i. File }) ≡ root_not_dir ∷ []
   pub root_marked : pathname_lines (record (alone (dots 2 2 [])) { marked = λ i. true }) ≡ root_suspect ∷ []
-  -- a size that is too short alone, one that is no multiple of 512, and a hole
+  -- a size below 24, which is reported alone, one that is no multiple of 512, and a hole
   pub too_short : pathname_lines (sized 23) ≡ dir_short (record (about 3) { size = 23 }) (47 ∷ 97 ∷ []) ∷ []
   pub no_multiple : pathname_lines (sized 600) ≡ dir_length (47 ∷ 97 ∷ []) 600 ∷ []
   pub hole : pathname_lines (record (sub (dots 3 2 [])) { gap = λ i. i == 3 }) ≡ dir_gap (47 ∷ 97 ∷ []) ∷ []

@@ -9,7 +9,7 @@ use Rattle.ffs_volume.specs.declared.SuperFault.{SuperFault}
 use Rattle.ffs_volume.specs.Disk.Superblock.{Superblock}
 use Rattle.ffs_volume.specs.Disk.Outcome.{outcome}
 
--- n bytes of a number, and n bytes of zero
+-- a number in n bytes, a number in four bytes, and n bytes of zero
 unfoldable pub bytes_in : Order → ℕ → ℕ → List ℕ
 bytes_in Little n number = little_bytes n number
 bytes_in Big n number = big_bytes n number
@@ -136,7 +136,7 @@ root_chunk o =
     word o 2 ++ (bytes_in o 2 12 ++ ((4 ∷ 1 ∷ 46 ∷ 0 ∷ 0 ∷ 0 ∷ [])
     ++ (word o 2 ++ (bytes_in o 2 500 ++ ((4 ∷ 2 ∷ 46 ∷ 46 ∷ []) ++ zeros 490)))))
 
--- its group's block and summary record
+-- the summary record of the base volume's group, and its group block
 unfoldable pub base_summary : Order → List ℕ
 base_summary o = word o 1 ++ (word o 22 ++ (word o 29 ++ word o 6))
 

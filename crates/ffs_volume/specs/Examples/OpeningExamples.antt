@@ -112,7 +112,7 @@ pub record OpeningExamples : Type 0 where
   pub unreadable : opening_lines (116 ∷ []) (Some 1) (outcome [] (Some 1))
       ≡ location 1 ∷ opening (116 ∷ []) ∷ cannot_read 1 ∷ []
   pub refused : opening_lines (116 ∷ []) None (outcome (zeros 9568) None) ≡ opening (116 ∷ []) ∷ bad_super Magic ∷ []
-  -- settings that can't be
+  -- settings that aren't valid, and the last that are
   pub settings : setting_lines
       (record { layout = base_layout Little; optim = pos 2; minfree = pos 100; cstotal = []; mount = [] })
       ≡ optimization ∷ minfree (pos 100) ∷ []
@@ -122,7 +122,7 @@ pub record OpeningExamples : Type 0 where
   pub last_settings : setting_lines
       (record { layout = base_layout Little; optim = pos 1; minfree = pos 99; cstotal = []; mount = [] })
       ≡ []
-  -- the summary: 6 loose fragments of 95 are 6.3 percent; -1 of 95 is -1.0 and -1 of 201 is -0.4, rounded toward zero
+  -- the summary: 6 free fragments of 95 are 6.3 percent; -1 of 95 is -1.0 and -1 of 201 is -0.4, rounded toward zero
   pub summary_base : summary_of (base_superblock Little) 1 1 ≡ summary 1 1 (pos 94) (pos 6) (pos 22) (pos 63)
   pub summary_minus : summary_of (record {
     layout = base_layout Little;

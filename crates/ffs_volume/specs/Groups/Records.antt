@@ -24,11 +24,11 @@ is_dir_inode class x = nat_le 2 x && is_directory (class x)
 abbrev pub group_size : Layout → ℕ → ℕ
 group_size v c = min (cgbase v (c + 1)) v.size - cgbase v c
 
--- the numbers of the blocks of a group
+-- the numbers of the blocks of a group, counted from its base
 abbrev pub block_numbers : Layout → List ℕ
 block_numbers v = range_with_len 0 (v.fpg / v.frag)
 
--- which fragments of a block are free
+-- which fragments of block b of group c are free
 abbrev pub block_bits : (v : Layout) (free : ℕ → Bool) (c b : ℕ) → List Bool
 block_bits v free c b = map free (range_with_len (cgbase v c + b * v.frag) v.frag)
 
@@ -36,12 +36,12 @@ block_bits v free c b = map free (range_with_len (cgbase v c + b * v.frag) v.fra
 abbrev pub is_free_block : List Bool → Bool
 is_free_block bits = list_all (λ b. b) bits
 
--- the stretch of n free fragments, if there are any
+-- the length of a stretch of n free fragments; none where n is 0
 abbrev pub stretch_of : ℕ → List ℕ
 stretch_of n = if n == 0 then [] else n ∷ []
 
--- the lengths of the stretches of free fragments, each as long as it can be, in order, where n free ones come just
--- before
+-- the lengths of the stretches of free fragments in order, each as long as it can be; just before the first fragment
+-- there are n free ones
 abbrev pub free_stretches : (n : ℕ) (bits : List Bool) → List ℕ
 free_stretches n [] = stretch_of n
 free_stretches n (true ∷ bits) = free_stretches (n + 1) bits

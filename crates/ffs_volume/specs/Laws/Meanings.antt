@@ -53,7 +53,7 @@ pub record LevelMeaning (g : Graph) (k d : ℕ) : Type 0 where
 abbrev pub LevelsAreLeast : Type 0
 LevelsAreLeast = (g : Graph) (k d : ℕ) → LevelMeaning g k d
 
--- a path has at most 1,024 bytes
+-- the path of a directory has at most 1,024 bytes, and so has that of an entry whose name has at most 255
 pub record PathsFit (g : Graph) (d : ℕ) : Type 0 where
   pub of_dir : length (dir_path g d) ≤ MAXPATHLEN
   pub of_entry : (name : List ℕ) → length name ≤ 255 → length (entry_path g d name) ≤ MAXPATHLEN
@@ -61,7 +61,7 @@ pub record PathsFit (g : Graph) (d : ℕ) : Type 0 where
 abbrev pub AllPathsFit : Type 0
 AllPathsFit = (g : Graph) (d : ℕ) → PathsFit g d
 
--- the free blocks and loose fragments of a group are all its free fragments
+-- the fragments of the free blocks of a group and the free fragments of its other blocks are all its free fragments
 abbrev pub SumsAreWhole : Type 0
 SumsAreWhole = (v : Layout) (free : ℕ → Bool) (class : ℕ → Class) (c : ℕ) → 0 < v.frag → v.fpg % v.frag ≡ 0 →
     v.frag * (right_group_counts v free class c).blocks + (right_group_counts v free class c).fragments

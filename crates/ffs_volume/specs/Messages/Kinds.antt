@@ -6,9 +6,8 @@ use Rattle.ffs_volume.specs.declared.BlockMessage.{BlockMessage}
 use Rattle.ffs_volume.specs.declared.Label.{Label}
 use Rattle.ffs_volume.specs.declared.SuperFault.{SuperFault}
 
--- a message on directories, their entries or references; the rules that report them, and their words, are in the folder
--- Directories. Paths and names have the bytes of the image; the text of a message has `?` in place of control bytes.
--- `Texts` has all words of each message
+-- a message on directories, their entries or references. The rules that report them are in the folder Directories, and
+-- the text of each is in `Texts`. Paths and names have the bytes of the image; a text has `?` in place of control bytes
 pub data TreeMessage : Type 0 where
   root_none : TreeMessage  -- ROOT INODE UNALLOCATED
   root_not_dir : TreeMessage
@@ -60,7 +59,7 @@ pub data Message : Type 0 where
   phase5 : Message
   of_blocks : (message : BlockMessage) → Message
   of_tree : (message : TreeMessage) → Message
-  summary : (files used : ℕ) (free frags blocks tenths : ℤ) → Message  -- the last: tenths of a percent
+  summary : (files used : ℕ) (free frags blocks tenths : ℤ) → Message  -- `tenths` are tenths of a percent
 
 -- the message reports an inconsistency; a refused superblock or a failed read ends the run instead
 abbrev pub is_defect : Message → Bool

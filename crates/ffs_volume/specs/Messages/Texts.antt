@@ -123,7 +123,7 @@ extraneous_text path directory =
     concat (map shown path ∷ texts.EXTRANEOUS.now ∷ map shown directory
     ∷ texts.REMOVE.now ∷ [])
 
--- the count of links and the count of references
+-- the count of links and the count of references: the end of the LINK COUNT message, and that whole message
 abbrev pub counts_text : ℤ → ℕ → List ℕ
 counts_text nlink references = concat (
     texts.COUNT.now ∷ signed_decimal nlink ∷ texts.SHOULD_BE.now ∷ decimal references
@@ -184,7 +184,7 @@ opening_text name = concat (texts.OPENING.now ∷ name ∷ texts.NO_WRITE.now �
 abbrev pub mounted_text : List ℕ → List ℕ
 mounted_text mount = concat (texts.MOUNTED.now ∷ map shown mount ∷ texts.LINE_END.now ∷ [])
 
--- a minfree that is no percentage
+-- the message on a minfree that isn't 0 to 99
 abbrev pub minfree_text : ℤ → List ℕ
 minfree_text value = concat (
     texts.MINFREE.now ∷ signed_decimal value ∷ texts.SET_MINFREE.now ∷ [])

@@ -67,6 +67,6 @@ found_lines (Err fault) = fault_line fault ∷ []
 abbrev pub opening_lines : (name : List ℕ) (sector : Option ℕ) (found : Result Superblock SuperFault) → List Message
 opening_lines name sector found = head_lines name sector ++ found_lines found
 
--- the opening of an image
+-- the opening of an image: the first messages of its report
 abbrev pub opening_of : (image name : List ℕ) (sector : Option ℕ) → List Message
 opening_of image name sector = opening_lines name sector (outcome image sector)

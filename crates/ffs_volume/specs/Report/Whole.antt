@@ -31,7 +31,7 @@ file_count v image = count_by (λ x. is_file_or_dir (class_at v image x)) (inode
 unfoldable pub run_count : Layout → List ℕ → ℕ
 run_count v image = (after_owners v (no_claims v) (owners_of v image)).runs
 
--- how many fragments are claimed beside the reserved ones
+-- how many fragments are claimed; reserved ones don't count
 unfoldable pub used_count : Layout → List ℕ → ℕ
 used_count v image =
     count_by (λ f. is_set (after_owners v (no_claims v) (owners_of v image)).used f && not (is_reserved v f))
@@ -57,7 +57,7 @@ abbrev pub rescan_lines : Layout → List ℕ → List Message
 rescan_lines v image =
     if has_rescan v (owners_of v image) then phase1b ∷ map of_blocks (phase1b_lines v (owners_of v image)) else []
 
--- the group check, of the fragments that no kept offer claims
+-- the messages of the group check: a fragment is free where it is neither reserved nor claimed by a kept offer
 abbrev pub group_check_lines : List ℕ → Superblock → List Message
 group_check_lines image s =
     map of_blocks (phase5_lines s.layout image s.cstotal (is_free_of_kept s.layout (owners_of s.layout image))
@@ -79,7 +79,7 @@ phase_lines image s =
     ++ (phase2 ∷ (map of_tree (pathname_lines (volume_of s.layout image))
     ++ (if continues_after_root (volume_of s.layout image) then later_phase_lines image s else [])))))
 
--- the report on an accepted superblock, after `head_lines`
+-- the report of an image with this accepted superblock, after `head_lines`
 unfoldable pub report_lines : List ℕ → Superblock → List Message
 report_lines image s = super_lines s ++ phase_lines image s
 
