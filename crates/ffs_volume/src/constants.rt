@@ -30,7 +30,7 @@ pub const CSUM_SIZE: u64 = 16;
 /// The bytes of the mount point in a superblock (fs(5)).
 pub const MAXMNTLEN: usize = 512;
 
-/// The inode that whiteouts name (dir(5)).
+/// The inode number of a whiteout, an entry that names no inode (dir(5)).
 pub const WINO: u32 = 1;
 
 /// The inode of the root directory (fs(5)).
@@ -42,10 +42,10 @@ pub const DINODE_SIZE: usize = 128;
 /// How many of the fifteen addresses of an inode are direct (inode(5)).
 pub const NDADDR: u64 = 12;
 
-/// How many bad Runs an inode may have before the rest of it is passed over (fsck(8)).
+/// How many bad Runs an inode may have: at the next one it is cut, and the rest of it isn't seen (fsck(8)).
 pub const MAXBAD: u32 = 10;
 
-/// How many duplicates an inode may have before the rest of it is passed over (fsck(8)).
+/// How many dup offers an inode may have: at the next one it is cut, and the rest of it isn't seen (fsck(8)).
 pub const MAXDUP: u32 = 10;
 
 /// The bytes of a directory's chunk, in which no entry crosses the end (dir(5)).
@@ -90,8 +90,8 @@ pub const EMPTY_DIR: u8 = 5;
 /// What a workspace keeps as the type of an inode whose type is unknown.
 pub const UNKNOWN_TYPE: u8 = 15;
 
-/// Where the count of an inode's references ends that has one for each of its links: the count starts below it by
-/// the links.
+/// Where the count of an inode's references ends if there is one for each of its links: it starts at this number
+/// less the links.
 pub const LINKS_MET: u64 = 32768;
 
 /// Where the count of the references of an inode without links starts.

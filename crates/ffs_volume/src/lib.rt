@@ -36,7 +36,12 @@ pub enum SuperFault {
     Disagree,
 }
 
-/// The numbers of a superblock that say where a volume's parts lie, and those that must be right for it, under their names of fs(5).
+/// The numbers of a superblock that say where a volume's parts lie, and those that must be right for it, under their
+/// names of fs(5). `sblkno`, `cblkno`, `iblkno` and `dblkno` are where the copy of the superblock, the group block, the
+/// inodes and the data of a group begin, in fragments. `size` and `dsize` count all fragments and those for data. There
+/// are `ncg` groups and `ncyl` cylinders. A group has `cpg` cylinders, `ipg` inodes and `fpg` fragments. A block has
+/// `nindir` addresses or `inopb` inodes. The summary area begins at the fragment `csaddr` and has `cssize` bytes. A
+/// group block has `cgsize` bytes.
 #[derive(Clone, Copy, Debug, PartialEq, Eq)]
 pub struct Layout {
     pub order: Order,
@@ -77,7 +82,7 @@ pub const LAYOUT_PLACES: [u16; 25] = [
 /// One step of a walk over the addresses of an inode.
 #[derive(Clone, Copy, Debug, PartialEq, Eq)]
 pub enum Step {
-    /// Consecutive fragments at one address; `block` is None for an indirect block.
+    /// Consecutive fragments at one address; `block` is their logical block, or None for an indirect block.
     Run {
         start: u32,
         len: u32,

@@ -26,9 +26,8 @@ class_lines inode _ = []
 abbrev pub sectors : Layout → ℕ → ℕ
 sectors v fragments = fragments * (v.fsize / DEV_BSIZE)
 
--- the line of a file or directory that wasn't cut, and whose blocks field isn't that of its kept offers; `end` is the
--- state after the inode. An inode is cut where it has too many bad Runs or dup offers: its right number isn't known
--- then, so it has no such line
+-- the line of a file or directory whose blocks field isn't the number of sectors of its kept offers; `end` is the state
+-- after the inode. An inode that was cut has no such line, since its right number isn't known
 abbrev pub count_lines : Layout → Owner → Claims → List BlockMessage
 count_lines v o end =
     if is_file_or_dir o.class && (is_open end && not (o.blocks == sectors v end.kept))
@@ -55,9 +54,9 @@ pub record Offer : Type 0 where
 abbrev pub offer_of : (inode fragment : ℕ) → Offer
 offer_of i f = record { inode = i; fragment = f }
 
--- The five definitions below are the kept offers, walking as `Claims` does from a state s: of some fragments, of a Run,
--- of a step, of steps, and of inodes. Offers are kept, in range or not, until their inode is cut, at its eleventh bad
--- Run or dup offer. `Keeping` says by one rule which they are: read it for the meaning
+-- The five definitions below give the kept offers of some fragments, of a Run, of a step, of steps, and of inodes. They
+-- walk from a state s, as the definitions of `Claims` do. Offers are kept, in range or not, until their inode is cut,
+-- at its eleventh bad Run or dup offer. `Keeping` says by one rule which they are: read it for the meaning
 abbrev pub kept_in_offers : (v : Layout) (inode : ℕ) (s : Claims) (fs : List ℕ) → List Offer
 kept_in_offers v inode s [] = []
 kept_in_offers v inode s (f ∷ fs) =

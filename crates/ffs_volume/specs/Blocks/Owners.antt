@@ -32,7 +32,7 @@ inode_numbers v = range_with_len 2 (v.ncg * v.ipg - 2)
 unfoldable pub owners_of : Layout → List ℕ → List Owner
 owners_of v image = map (owner_of v image) (inode_numbers v)
 
--- the fragments of a Run
+-- the fragments of a step: only a Run has any
 abbrev pub step_fragments : Step → List ℕ
 step_fragments (Run start len block) = range_with_len start len
 step_fragments Tail = []

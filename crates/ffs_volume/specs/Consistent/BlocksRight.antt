@@ -23,7 +23,7 @@ is_step_in_range v (Run start len block) = is_run_in_range v start len
 is_step_in_range v Tail = true
 is_step_in_range v Gap = true
 
--- a step is no Tail
+-- the step is no Tail
 abbrev pub is_no_tail : Step → Bool
 is_no_tail Tail = false
 is_no_tail _ = true
@@ -32,7 +32,7 @@ is_no_tail _ = true
 abbrev pub times : (f : ℕ) (fs : List ℕ) → ℕ
 times f fs = count_by (λ g. g == f) fs
 
--- the blocks field of a file or directory is that of all its fragments
+-- the blocks field of a file or directory is the number of sectors of all its fragments
 abbrev pub is_field_right : Layout → Owner → Bool
 is_field_right v o = not (is_file_or_dir o.class) || o.blocks == sectors v (length (fragments_of o.steps))
 

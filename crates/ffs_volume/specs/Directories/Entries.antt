@@ -52,7 +52,7 @@ is_well_formed order chunk place =
     is_valid_record_length place (u16_at order (place + 4) chunk)
     && ((u32_at order place chunk == 0) || has_valid_type_and_name chunk place (u16_at order (place + 4) chunk))
 
--- the entry that the bytes at a place say, well formed or not; with the number 0 its name is empty
+-- the entry in the bytes at a place, well formed or not; its name is empty where its number is 0
 unfoldable pub entry_read : (order : Order) (chunk : List ℕ) (place : ℕ) → Entry
 entry_read order chunk place = record {
   number = u32_at order place chunk;
@@ -71,7 +71,7 @@ abbrev pub entries_with : (order : Order) (chunk : List ℕ) (place : ℕ) (next
 entries_with order chunk place next None = []
 entries_with order chunk place next (Some e) = e ∷ next (place + e.length)
 
--- the longest list of well formed entries, one after the other from a place on, of at most `most` of them
+-- the longest list of well formed entries, one after the other from a place on, but at most `most`
 unfoldable pub entries_from : (order : Order) (chunk : List ℕ) (most place : ℕ) → List Entry
 entries_from order chunk zero place = []
 entries_from order chunk (suc most) place =
@@ -91,6 +91,7 @@ pub record Chunk : Type 0 where
   pub entries : List Entry
   pub sound : Bool
 
+-- the chunk with these bytes, at this offset in the file
 abbrev pub chunk_of : (order : Order) (offset : ℕ) (bytes : List ℕ) → Chunk
 chunk_of order offset bytes = record { offset = offset; entries = entries_of order bytes; sound = is_sound order bytes }
 
@@ -113,8 +114,8 @@ run_chunks r start len offset =
     map (λ k. chunk_of r.order (offset + DIRBLKSIZ * k) (piece (start * r.fsize + DIRBLKSIZ * k) DIRBLKSIZ r.image))
     (range_with_len 0 (min (len * r.fsize / DIRBLKSIZ) ((r.taken - offset) / DIRBLKSIZ)))
 
--- the chunks of a step: those of a Run of data that passes a test. The test is always `is_run_in_range`: it is a
--- parameter so that these definitions need no layout
+-- the chunks of a step: those of a Run of data that passes a test. In a check the test is `is_run_in_range`. It is a
+-- parameter, so that these definitions need no layout
 abbrev pub step_chunks : ChunkSource → (ℕ → ℕ → Bool) → Step → List Chunk
 step_chunks r passes (Run start len (Some block)) =
     if passes start len then run_chunks r start len (block * r.bsize) else []

@@ -9,7 +9,8 @@ use Rattle.ffs_volume.specs.Directories.Roles.{RoledEntry, is_plain}
 use Rattle.ffs_volume.specs.Disk.Search.{first_below, some_below}
 use Rattle.ffs_volume.specs.Directories.Climb.{is_value, is_leader_within}
 
--- what levels and parents depend on: the number of inodes, which are directories, and the entries of each in order
+-- what levels and parents depend on: the number of inodes, which of them are directories, and the entries of each
+-- directory in order
 pub record Graph : Type 0 where
   pub count : ℕ
   pub is_dir : ℕ → Bool

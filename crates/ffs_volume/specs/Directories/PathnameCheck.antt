@@ -67,7 +67,7 @@ continues_after_root vol = is_directory (vol.class ROOTINO)
 abbrev pub is_short : Volume → ℕ → Bool
 is_short vol d = nat_lt (vol.inode d).size MINDIRSIZE
 
--- the size of a directory that isn't short is no multiple of 512
+-- the directory isn't short, and its size is no multiple of 512
 abbrev pub has_partial_chunk : Volume → ℕ → Bool
 has_partial_chunk vol d = not (is_short vol d) && not ((vol.inode d).size % DIRBLKSIZ == 0)
 
@@ -83,7 +83,7 @@ shape_lines vol d =
     ++ (reported (vol.gap d) (dir_gap (dir_path (graph_of vol) d))
     ++ reported (not (are_sound (vol.chunks d))) (dir_corrupt (attributes vol d) (dir_path (graph_of vol) d))))
 
--- the message where there is no `.`, by the entry that is first
+-- the message where there is no `.`, by the entry that is first; it shows the name of a live entry other than `..`
 abbrev pub missing_dot_lines : Attr → List ℕ → Option Entry → List TreeMessage
 missing_dot_lines about path None = missing_dot about path ∷ []
 missing_dot_lines about path (Some e) =
@@ -101,7 +101,7 @@ dot_lines_of vol d (Some e) =
 unfoldable pub dot_lines : Volume → ℕ → List TreeMessage
 dot_lines vol d = dot_lines_of vol d (dot vol d)
 
--- the message where there is no `..`, by the entry that is second
+-- the message where there is no `..`, by the entry that is second; it shows the name of a live entry other than `.`
 abbrev pub missing_dotdot_lines : Attr → List ℕ → Option Entry → List TreeMessage
 missing_dotdot_lines about path None = missing_dotdot about path ∷ []
 missing_dotdot_lines about path (Some e) =
@@ -131,7 +131,8 @@ abbrev pub extra_lines : Attr → List ℕ → Entry → List TreeMessage
 extra_lines about path e =
     if is_one_dot e.name then extra_dot about path ∷ [] else extra_dotdot about path ∷ []
 
--- the entry has the number of a whiteout without its type, or the type without the number
+-- the entry has the number of a whiteout, WINO, without its type, DT_WHT, or the type without the number. A whiteout
+-- hides a name of the file system below in a union mount, and names no inode
 abbrev pub is_bad_whiteout : Entry → Bool
 is_bad_whiteout e =
     ((e.number == WINO) && not (e.kind == DT_WHT)) || ((e.kind == DT_WHT) && not (e.number == WINO))

@@ -82,10 +82,11 @@ unfoldable pub roled_from : (first : Bool) (index : ℕ) (es : List Entry) → L
 roled_from first index [] = []
 roled_from first index (e ∷ es) = record { role = role_of first index e; entry = e } ∷ roled_from first (suc index) es
 
+-- the entries of a chunk, with their roles
 abbrev pub roled_chunk : Chunk → List RoledEntry
 roled_chunk c = roled_from (c.offset == 0) 0 c.entries
 
--- all entries of a directory in order, those that aren't live included
+-- all entries of a directory in order, with their roles, those that aren't live included
 unfoldable pub roled_entries : Volume → ℕ → List RoledEntry
 roled_entries vol d = flat_map roled_chunk (vol.chunks d)
 

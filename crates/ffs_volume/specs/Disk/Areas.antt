@@ -15,8 +15,8 @@ cgoffset_of v c = v.cgoffset *ℤ pos (bit_and c (4294967295 - v.cgmask))
 unfoldable pub cgbase : Layout → ℕ → ℕ
 cgbase v c = v.fpg * c
 
--- the fragment from which the parts of group c are counted; a negative shift, which `has_valid_group` refuses, counts
--- as 0
+-- the fragment from which the parts of group c are counted. A negative shift counts as 0, and `has_valid_group`, in
+-- `Outcome`, refuses it
 unfoldable pub cgstart : Layout → ℕ → ℕ
 cgstart v c = cgbase v c + zero_if_negative (cgoffset_of v c)
 
@@ -33,7 +33,7 @@ cgdmin v c = cgstart v c + v.dblkno
 abbrev pub group_place : Layout → ℕ → ℕ
 group_place v c = (cgstart v c + v.cblkno) * v.fsize
 
--- the byte of the summary area where the record of group c begins
+-- the byte where the record of group c begins in the summary area, which has a copy of the counts of each group
 abbrev pub summary_place : Layout → ℕ → ℕ
 summary_place v c = v.csaddr * v.fsize + CSUM_SIZE * c
 

@@ -26,7 +26,7 @@ i16_at order place bytes = cast_signed w16 (u16_at order place bytes)
 unfoldable pub i32_at : (order : Order) (place : ℕ) (bytes : List ℕ) → ℤ
 i32_at order place bytes = cast_signed w32 (u32_at order place bytes)
 
--- n bytes of an image, a block or a chunk, from a place on; or as many as there are
+-- n bytes from a place on; fewer where the list ends before
 abbrev pub piece : (place n : ℕ) (bytes : List ℕ) → List ℕ
 piece place n bytes = take n (drop place bytes)
 

@@ -7,8 +7,9 @@ use Rattle.ffs_volume.specs.declared.Order.TheVariants.{Little, Big}
 use Rattle.ffs_volume.specs.declared.Layout.{Layout}
 use Rattle.ffs_volume.specs.Disk.Numbers.{u32_at, i32_at, count_at, piece}
 
--- a superblock. cstotal has its four totals, in the order of a `struct csum`: directories, free blocks, free inodes,
--- and free fragments of blocks that aren't all free
+-- a superblock. optim says whether files are laid out for time (0) or for space (1), minfree is the percentage that is
+-- kept free, and mount is the last mount point. cstotal has the four totals of the volume, in the order of a `struct
+-- csum`: directories, free blocks, free inodes, and free fragments of blocks that aren't all free
 pub record Superblock : Type 0 where
   pub layout : Layout
   pub optim : ℤ
@@ -51,6 +52,7 @@ layout_of order bytes = record {
   postblformat = count_at order 1356 bytes;
 }
 
+-- the superblock in these bytes, whose numbers are in this order of bytes
 unfoldable pub superblock_of : Order → List ℕ → Superblock
 superblock_of order bytes = record {
   layout = layout_of order bytes;

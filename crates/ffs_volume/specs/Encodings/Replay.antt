@@ -17,6 +17,7 @@ pub record Replay : Type 0 where
   pub bad : ℕ
   pub kept : ℕ
 
+-- the state before the first step of an inode
 abbrev pub fresh_replay : Replay
 fresh_replay = record { bad = 0; kept = 0 }
 
@@ -29,7 +30,7 @@ cut_of end = if nat_lt end.dups (MAXDUP + 1) then 0 else end.kept
 abbrev pub is_replay_open : ℕ → Replay → Bool
 is_replay_open cut r = nat_lt r.bad (MAXBAD + 1) && ((cut == 0) || nat_lt r.kept cut)
 
--- how many of the next `len` offers are kept, after `kept` of them
+-- how many of the next `len` offers are kept, where `kept` offers were kept before them
 abbrev pub taken_of : (cut kept len : ℕ) → ℕ
 taken_of cut kept len = if cut == 0 then len else min len (cut - kept)
 
@@ -62,7 +63,7 @@ replayed_steps v cut r (step ∷ steps) =
     (if is_replayed v cut r step then step ∷ [] else [])
     ++ replayed_steps v cut (replay_after_step v cut r step) steps
 
--- the cut of the inode x, at most 2^32 - 1
+-- the cut of the inode x, at most 2^32 - 1; 0 where x is no inode's number
 abbrev pub cut_at : (v : Layout) (image : List ℕ) (x : ℕ) → ℕ
 cut_at v image x =
     if is_inode_number v x

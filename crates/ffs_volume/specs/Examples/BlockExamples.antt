@@ -35,13 +35,14 @@ inode mode size addresses = record {
   uid = 0;
 }
 
--- a regular file's, and an image with words at fragments 40 and 44
+-- an inode of a regular file, and an image with these bytes at fragments 40 and 44
 unfoldable pub file_inode : ℕ → List ℕ → Inode
 file_inode size addresses = inode 33188 size addresses
 
 unfoldable pub words_at : Order → List ℕ → List ℕ → List ℕ
 words_at order first second = zeros 40960 ++ (first ++ (zeros (4096 - length first) ++ second))
 
+-- the classes of inodes
 pub record ClassExamples : Type 0 where
   -- of the base image's inodes in both orders
   pub base : map (λ x. class_of (base_layout Little) (inode_of (base_layout Little) (base_image Little) x))
@@ -51,7 +52,7 @@ pub record ClassExamples : Type 0 where
   -- no type: nothing set, or something
   pub none : map (class_of (base_layout Little)) (inode 0 0 [] ∷ inode 420 0 [] ∷ inode 0 1 [] ∷ inode 0 0 (1 ∷ [])
       ∷ []) ≡ Free ∷ Partial ∷ Partial ∷ Partial ∷ []
-  -- the seven types, with nothing else, and the first that isn't one
+  -- the seven types, with nothing else, and 3, which is no type
   pub types : map (λ kind. class_of (base_layout Little) (inode kind 0 []))
       (4096 ∷ 8192 ∷ 16384 ∷ 24576 ∷ 32768 ∷ 40960 ∷ 49152 ∷ 12288 ∷ [])
       ≡ File ∷ File ∷ Dir ∷ File ∷ File ∷ File ∷ File ∷ Unknown ∷ []
@@ -68,6 +69,7 @@ pub record ClassExamples : Type 0 where
   pub large : map (class_of (base_layout Little)) (inode 16877 2147483647 [] ∷ inode 16877 2147483648 []
       ∷ file_inode 4402345721856 [] ∷ file_inode 4402345721857 [] ∷ []) ≡ Dir ∷ Unknown ∷ File ∷ Unknown ∷ []
 
+-- the steps of inodes
 pub record StepExamples : Type 0 where
   -- the base image's root
   pub base : steps_of (base_layout Little) (inode_of (base_layout Little) (base_image Little) 2) (base_image Little)
@@ -104,17 +106,18 @@ root = record { number = 2; class = Dir; steps = Run 36 1 (Some 0) ∷ []; block
 unfoldable pub file : ℕ → List Step → ℕ → Owner
 file n steps blocks = record { number = n; class = File; steps = steps; blocks = blocks }
 
--- Runs of four fragments at this place, as the logical blocks of a file
+-- n Runs, all of the same four fragments from `start` on, as the logical blocks of a file
 unfoldable pub blocks_at : ℕ → ℕ → List Step
 blocks_at start n = map (λ b. Run start 4 (Some b)) (range_with_len 0 n)
 
--- what phase 1 and 1b report of the base volume with one or two files
+-- what phase 1 reports of the base volume with these files, and what phase 1b reports
 unfoldable pub first_reported : List Owner → List BlockMessage
 first_reported files = phase1_lines (base_layout Little) (root ∷ files)
 
 unfoldable pub second_reported : List Owner → List BlockMessage
 second_reported files = phase1b_lines (base_layout Little) (root ∷ files)
 
+-- what phases 1 and 1b report
 pub record ClaimExamples : Type 0 where
   -- the base image in both orders
   pub base : phase1_lines (base_layout Little) (owners_of (base_layout Little) (base_image Little)) ≡ []
@@ -158,7 +161,7 @@ pub record ClaimExamples : Type 0 where
       (root ∷ file 3 (blocks_at 5 3) 7 ∷ [])
       ≡ kept_by_rule (base_layout Little) [] (all_offers (base_layout Little) (root ∷ file 3 (blocks_at 5 3) 7 ∷ []))
 
--- the free fragments and the classes of the base volume, and of that of two groups
+-- the free fragments of the base volume and of `two_groups`, and the classes of both
 unfoldable pub base_free : ℕ → Bool
 base_free f = is_free_of_runs (base_layout Little) (root ∷ []) f
 
@@ -168,12 +171,13 @@ two_free f = is_free_of_runs (two_groups Little) (root ∷ []) f
 unfoldable pub base_class : ℕ → Class
 base_class x = if x == 2 then Dir else Free
 
--- what the check of groups reports of the base image, where these fragments are free and the superblock's last total
+-- what phase 5 reports of the base image, where these fragments are free and the superblock's total of loose fragments
 -- is this
 unfoldable pub groups_reported : Order → (ℕ → Bool) → ℕ → List BlockMessage
 groups_reported order free loose = phase5_lines (base_layout order) (base_image order)
     (pos 1 ∷ pos 22 ∷ pos 29 ∷ pos loose ∷ []) free base_class
 
+-- the right counts of groups, and what phase 5 reports
 pub record GroupExamples : Type 0 where
   pub base_sums : right_group_counts (base_layout Little) base_free base_class 0
       ≡ record { dirs = 1; blocks = 22; inodes = 29; fragments = 6 }

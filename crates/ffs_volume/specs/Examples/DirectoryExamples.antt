@@ -41,6 +41,7 @@ one_dot = 46 ∷ []
 abbrev pub two_dots : List ℕ
 two_dots = 46 ∷ 46 ∷ []
 
+-- an entry with a record of 12 bytes, and one of 500, which fills the chunk after it
 unfoldable pub entry : ℕ → ℕ → List ℕ → Entry
 entry x kind name = record { number = x; length = 12; kind = kind; name = name }
 
@@ -57,6 +58,7 @@ two_chunks taken = record {
   taken = taken;
 }
 
+-- entries, chunks and roles
 pub record EntryExamples : Type 0 where
   -- the root's chunk in both orders
   pub root : entries_of Little (root_chunk Little) ≡ entry 2 4 one_dot ∷ last_entry 2 4 two_dots ∷ []
@@ -134,7 +136,7 @@ small n links es = record {
   marked = λ i. false;
 }
 
--- what is shown of a directory of them
+-- what messages show of a directory of `small`
 unfoldable pub about : ℕ → Attr
 about d = record { number = d; uid = 0; mode = 16877; size = 512; mtime = pos 0 }
 
@@ -142,7 +144,7 @@ about d = record { number = d; uid = 0; mode = 16877; size = 512; mtime = pos 0 
 unfoldable pub alone : List Entry → Volume
 alone es = small 3 (λ i. 2) (λ i. es)
 
--- two lost directories that name each other; one more below them
+-- the entries of two lost directories that name each other, those with one more below them, and the volume of the first
 unfoldable pub lost_entries : ℕ → List Entry
 lost_entries i = if i == 3 then dots 3 4 (entry 4 4 (120 ∷ []) ∷ [])
     else (if i == 4 then dots 4 3 (entry 3 4 (121 ∷ []) ∷ []) else dots 2 2 [])
@@ -187,6 +189,7 @@ empty_dir es = record {
   marked = λ i. false;
 }
 
+-- what messages show of that directory
 abbrev pub about_empty : Attr
 about_empty = record { number = 3; uid = 0; mode = 16877; size = 0; mtime = pos 0 }
 
@@ -222,6 +225,7 @@ sized size = record (sub (dots 3 2 [])) {
 unfoldable pub long_name : List ℕ
 long_name = replicate 255 97
 
+-- what phase 2 reports, and paths
 pub record PathnameExamples : Type 0 where
   -- the root alone, and a cycle: nothing to report
   pub base : pathname_lines (alone (dots 2 2 [])) ≡ []
@@ -270,6 +274,7 @@ pub record PathnameExamples : Type 0 where
       × (dir_path (graph_of lost_cycle) 3 ≡ 63 ∷ [])
       × (entry_path (graph_of lost_cycle) 3 (120 ∷ []) ≡ 63 ∷ 47 ∷ 120 ∷ [])
 
+-- levels and parents, and what phases 3 and 4 report
 pub record ReferenceExamples : Type 0 where
   -- levels and parents
   pub levels : (level (graph_of twice) 2 ≡ Some 0) × (level (graph_of twice) 3 ≡ Some 1)

@@ -1,4 +1,4 @@
--- The images that worked examples speak of, in both orders.
+-- The images of the worked examples, in both orders of bytes.
 use Rattle.std.specs.Prelude.{ℕ, ◌+◌, List, [], ◌∷◌, ◌++◌, pos, Option, None, take, drop, replicate}
 use Rattle.std.specs.Result.{result_err}
 use Rattle.byteorder.specs.Endian.{little_bytes, big_bytes}
@@ -20,7 +20,7 @@ word order number = bytes_in order 4 number
 unfoldable pub zeros : ℕ → List ℕ
 zeros n = replicate n 0
 
--- /mnt
+-- the bytes of `/mnt`
 abbrev pub mount_bytes : List ℕ
 mount_bytes = 47 ∷ 109 ∷ 110 ∷ 116 ∷ []
 
@@ -77,7 +77,7 @@ base_super o =
     (zeros 4 ++ ((mount_bytes ++ zeros 508) ++ (zeros 596 ++ (word o 60 ++ (word o 2 ++ (zeros 28
     ++ (word o 1 ++ (zeros 12 ++ word o 72020))))))))))))))))))))))))))))))))))))))))))
 
--- bytes with another number at a place
+-- the bytes, with another number of four bytes at a place
 unfoldable pub changed : Order → ℕ → ℕ → List ℕ → List ℕ
 changed order place number bytes = take place bytes ++ (word order number ++ drop (place + 4) bytes)
 
@@ -125,7 +125,7 @@ two_groups order = record {
   postblformat = 1;
 }
 
--- the root, whose directory is at fragment 36, and its 512 bytes
+-- the bytes of inode 2, whose directory is at fragment 36, and the 512 bytes of that directory
 unfoldable pub root_inode : Order → List ℕ
 root_inode o =
     bytes_in o 2 16877 ++ (bytes_in o 2 2 ++ (zeros 4 ++ (bytes_in o 8 512
@@ -147,7 +147,7 @@ base_group o =
     ++ (word o 2 ++ (zeros 16 ++ (zeros 8 ++ (word o 168 ++ (word o 172 ++ (zeros 68
     ++ ((7 ∷ 0 ∷ 0 ∷ 0 ∷ 0 ∷ 0 ∷ 0 ∷ 0 ∷ 238 ∷ []) ++ replicate 11 255)))))))))))))))))
 
--- the whole image: 131,072 bytes
+-- the whole image of `base_layout`: 131,072 bytes
 unfoldable pub base_image : Order → List ℕ
 base_image o =
     zeros 8192 ++ (base_super o ++ (zeros 6816 ++ (base_super o

@@ -31,6 +31,7 @@ with_second_group above =
 abbrev pub fault_twice : List ℕ → Option SuperFault
 fault_twice super = fault_with super super
 
+-- which superblocks are accepted, and the first fault of others
 pub record SuperblockExamples : Type 0 where
   -- the base image in both orders, and its copy where the primary is no superblock
   pub accepted : outcome (base_image Little) None ≡ Ok (base_superblock Little)
@@ -55,7 +56,7 @@ pub record SuperblockExamples : Type 0 where
   pub short : fault_of (take 131071 (base_image Little)) None ≡ Some Short
   pub disagree : fault_with (base_super Little) (changed Little 40 94 (base_super Little)) ≡ Some Disagree
   pub other_order : fault_with (base_super Little) (base_super Big) ≡ Some Disagree
-  -- a copy is compared only where none is asked for, and not in what is no part of the layout
+  -- the copy is compared only where no sector is asked for, and only in numbers of the layout
   pub not_compared : fault_of (image_of (base_super Little) (changed Little 40 94 (base_super Little))) (Some 16) ≡ None
   pub free_part : fault_with (base_super Little) (changed Little 60 99 (base_super Little)) ≡ None
   -- each number in which the copy must agree, by its place: it differs in the copy alone
@@ -70,8 +71,8 @@ pub record SuperblockExamples : Type 0 where
   pub parts : fault_at 8 0 ∷ fault_at 8 23 ∷ fault_at 12 28 ∷ fault_at 16 29 ∷ fault_at 160 167 ∷ []
       ≡ replicate 5 (Some Shape)
   pub summaries : fault_at 152 33 ∷ fault_at 156 15 ∷ [] ≡ replicate 2 (Some Shape)
-  -- a second group is in order, though the image is too short for it; not where it begins before its base or ends past
-  -- the volume
+  -- a second group is valid, but the image is too short for it; it isn't valid where its parts begin before its base or
+  -- end past the volume
   pub second : fault_twice (with_second_group 4) ≡ Some Short
   pub second_early : fault_twice (with_second_group 4294967295) ≡ Some Shape
   pub second_late : fault_twice (with_second_group 91) ≡ Some Shape
@@ -87,6 +88,7 @@ pub record SuperblockExamples : Type 0 where
       (changed Little 120 64 (changed Little 184 64 (changed Little 20 44
       (changed Little 152 44 (base_super Little))))))))) ≡ Some Shape
 
+-- which fragments are in range or reserved, and where parts of groups lie
 pub record AreaExamples : Type 0 where
   -- which fragments are in range: 0 to 15 are, as the boot area, but they are reserved
   pub ok : map (is_fragment_in_range (base_layout Little)) (0 ∷ 15 ∷ 16 ∷ 31 ∷ 32 ∷ 127 ∷ 128 ∷ [])
@@ -105,6 +107,7 @@ pub record AreaExamples : Type 0 where
       × (is_run_in_range (two_groups Little) 126 4 ≡ false)
   pub base_inode : inode_place (base_layout Little) 2 ≡ 28928
 
+-- what is reported of superblocks, and how numbers and bytes are shown
 pub record OpeningExamples : Type 0 where
   -- what is reported of the base image, of one at a sector, and of one that is refused. The image is called `t`
   pub reported : opening_lines (116 ∷ []) None (outcome (base_image Little) None)

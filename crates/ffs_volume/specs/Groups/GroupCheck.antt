@@ -55,12 +55,12 @@ note_reported t MapsWrong = record t { maps = true }
 note_reported t GroupSums = record t { sums = true }
 note_reported t _ = t
 
--- the messages without those that were reported
+-- the messages, where each of the three that a report has once is left out if it was reported before
 abbrev pub reported_once : AlreadyReported → List BlockMessage → List BlockMessage
 reported_once t [] = []
 reported_once t (m ∷ ms) = if is_reported t m then reported_once t ms else m ∷ reported_once (note_reported t m) ms
 
--- none was reported
+-- none of the three was reported
 abbrev pub unreported : AlreadyReported
 unreported = record { counts = false; maps = false; sums = false }
 

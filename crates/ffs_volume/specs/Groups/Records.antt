@@ -47,8 +47,8 @@ free_stretches n [] = stretch_of n
 free_stretches n (true ∷ bits) = free_stretches (n + 1) bits
 free_stretches n (false ∷ bits) = stretch_of n ++ free_stretches 0 bits
 
--- the counts of a group (struct csum): directories, free blocks, free inodes, free fragments of blocks that aren't all
--- free
+-- the counts of a group (struct csum): directories, free blocks, free inodes, and loose fragments, which are the free
+-- ones of blocks that aren't all free
 pub record GroupCounts : Type 0 where
   pub dirs : ℕ
   pub blocks : ℕ
@@ -142,8 +142,8 @@ has_right_maps v free class c block =
     has_bits block (inode_map_place v block) v.ipg (λ k. is_used_inode class (c * v.ipg + k))
     && has_bits block (fragment_map_place v block) (group_size v c) (λ k. free (cgbase v c + k))
 
--- the group's number, its number of fragments, its summary and its frsum are right (cgx, ndblk, cs, frsum); no other
--- field of the header is compared
+-- the group's number, its number of fragments, its four counts and its frsum are right (cgx, ndblk, cs, frsum). No
+-- other field of the header is compared
 unfoldable pub has_right_sums : (v : Layout) (free : ℕ → Bool) (class : ℕ → Class) (c : ℕ) (block : List ℕ) → Bool
 has_right_sums v free class c block =
     u32_at v.order 12 block == c && (u32_at v.order 20 block == group_size v c

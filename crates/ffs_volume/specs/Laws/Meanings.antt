@@ -17,8 +17,8 @@ use Rattle.ffs_volume.specs.Directories.Graph.{Graph, level}
 use Rattle.ffs_volume.specs.Directories.Levels.{IsLevel}
 use Rattle.ffs_volume.specs.Directories.Paths.{dir_path, entry_path}
 
--- the kept offers are the first of the offers of the fragments fs to inode i, in order: with some `rest` after them
--- they are all of them, and `rest` is empty unless the inode is cut (`over`)
+-- `kept` is the first part of the offers of the fragments fs to inode i, in order, and `rest` is the other part. `rest`
+-- is empty unless the inode is cut (`over`)
 pub record KeptPrefix (i : ℕ) (kept : List Offer) (fs : List ℕ) (over : Bool) : Type 0 where
   pub rest : List Offer
   pub parts : kept ++ rest ≡ map (offer_of i) fs
@@ -50,6 +50,7 @@ pub record LevelMeaning (g : Graph) (k d : ℕ) : Type 0 where
   pub is_least : level g d ≡ Some k → IsLevel g k d × (k < g.count)
   pub is_found : d < g.count → IsLevel g k d → level g d ≡ Some k
 
+-- the same for each graph, number and directory
 abbrev pub LevelsAreLeast : Type 0
 LevelsAreLeast = (g : Graph) (k d : ℕ) → LevelMeaning g k d
 
@@ -58,6 +59,7 @@ pub record PathsFit (g : Graph) (d : ℕ) : Type 0 where
   pub of_dir : length (dir_path g d) ≤ MAXPATHLEN
   pub of_entry : (name : List ℕ) → length name ≤ 255 → length (entry_path g d name) ≤ MAXPATHLEN
 
+-- the same for each graph and each directory
 abbrev pub AllPathsFit : Type 0
 AllPathsFit = (g : Graph) (d : ℕ) → PathsFit g d
 

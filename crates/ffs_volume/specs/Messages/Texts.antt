@@ -129,6 +129,7 @@ counts_text nlink references = concat (
     texts.COUNT.now ∷ signed_decimal nlink ∷ texts.SHOULD_BE.now ∷ decimal references
     ∷ texts.ADJUST.now ∷ [])
 
+-- an inode with a wrong count of links, and both counts
 abbrev pub links_text : Label → Attr → ℤ → ℕ → List ℕ
 links_text label about nlink references = labelled_text texts.LINK_COUNT.now label about (counts_text nlink references)
 

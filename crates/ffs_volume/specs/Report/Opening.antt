@@ -10,7 +10,7 @@ pub use Rattle.ffs_volume.specs.Messages.Kinds.{unless as message_unless}
 use Rattle.ffs_volume.specs.Disk.Superblock.{Superblock}
 use Rattle.ffs_volume.specs.Disk.Outcome.{outcome}
 
--- the mount point is the bytes up to the first NUL, or all of them
+-- the bytes up to the first NUL, or all of them: the mount point
 abbrev pub before_nul : List ℕ → List ℕ
 before_nul bytes = take_while (λ byte. nat_lt 0 byte) bytes
 

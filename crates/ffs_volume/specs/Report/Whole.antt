@@ -37,7 +37,7 @@ used_count v image =
     count_by (λ f. is_set (after_owners v (no_claims v) (owners_of v image)).used f && not (is_reserved v f))
     (range_with_len 0 v.size)
 
--- the superblock's own count of free fragments of blocks that aren't all free
+-- the superblock's own count of loose fragments
 abbrev pub free_frags : Superblock → ℤ
 free_frags s = slice_index_or s.cstotal 3 (pos 0)
 
@@ -45,8 +45,9 @@ free_frags s = slice_index_or s.cstotal 3 (pos 0)
 abbrev pub free_blocks : Superblock → ℤ
 free_blocks s = slice_index_or s.cstotal 1 (pos 0)
 
--- the summary, the last message of a report: the free fragments in all; and those of them that are in blocks that
--- aren't all free, as a share of the volume's data fragments (dsize), in tenths of a percent, rounded toward zero
+-- the summary, the last message of a report, with the superblock's own counts: all free fragments, loose fragments and
+-- free blocks. Its last number is the fragmentation: the loose fragments as a share of the volume's data fragments
+-- (dsize), in tenths of a percent, rounded toward zero
 abbrev pub summary_of : (s : Superblock) (files used : ℕ) → Message
 summary_of s files used =
     summary files used (free_frags s +ℤ pos s.layout.frag *ℤ free_blocks s) (free_frags s) (free_blocks s)
