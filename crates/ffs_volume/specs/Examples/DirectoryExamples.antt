@@ -66,7 +66,7 @@ pub record EntryExamples : Type 0 where
   pub sound : is_sound Little (root_chunk Little) ≡ true
   -- no entry is inside of another one, or after the chunk
   pub inside : entry_at Little (root_chunk Little) 4 ≡ None
-  pub behind : entry_at Little (root_chunk Little) 512 ≡ None
+  pub past_chunk : entry_at Little (root_chunk Little) 512 ≡ None
   -- an entry that passes the chunk's end, has a `/`, has no NUL after its name, no name, or a type above 15
   pub too_long : entry_at Little (with_second_entry Little (word Little 2 ++ bytes_in Little 2 504)) 12 ≡ None
   pub slash : entry_at Little (with_second_entry Little (entry_bytes Little 2 12 4 (97 ∷ 47 ∷ 98 ∷ []))) 12 ≡ None
