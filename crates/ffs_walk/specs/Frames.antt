@@ -1,5 +1,6 @@
 -- What is left in an indirect block that a walk is in.
-use Rattle.std.specs.Prelude.{ℕ, true, ◌+◌, ◌-◌, ◌*◌, ◌<◌, ◌≡◌, List, [], ◌∷◌, ◌++◌, if◌then◌else◌}
+use Rattle.std.specs.Prelude.{ℕ, true, ◌+◌, ◌-◌, ◌*◌, ◌<◌, ◌≤◌, ◌≡◌, List, [], ◌∷◌, ◌++◌, Option, if◌then◌else◌}
+use Rattle.ffs_image.specs.Device.{ForContents}
 use Rattle.ffs_volume.specs.declared.Layout.{Layout}
 use Rattle.ffs_volume.specs.declared.Step.{Step}
 use Rattle.ffs_volume.specs.declared.Step.TheVariants.{Tail}
@@ -32,6 +33,14 @@ item_left most (Word address block) = most
 abbrev pub IsFrom : Frame → ℕ → Item → Type 0
 IsFrom f span Missing = f.fresh ≡ true
 IsFrom f span (Word address block) = (f.next < f.used) × (block ≡ f.first + f.next * span)
+
+-- the item is the frame's next one in an image of these contents, and the frame has the others left
+pub record IsNextItem (g : Layout) (contents : Option (List ℕ)) (span : ℕ) (old new : Frame) (given : Item) :
+    Type 0 where
+  pub item : IsFrom old span given
+  pub steps : ForContents contents (λ bytes. (child : ℕ → ℕ → List Step) →
+      frame_rest g bytes child span old ≡ item_steps child given ++ frame_rest g bytes child span new)
+  pub falls : (most : ℕ) → item_left most given + frame_left most new ≤ frame_left most old
 
 -- the frames are in the same block, with as many used words
 pub record IsSameBlock (old new : Frame) : Type 0 where

@@ -1,5 +1,7 @@
 -- What is left of a walk.
-use Rattle.std.specs.Prelude.{◌≡◌, ℕ, zero, suc, ◌+◌, ◌-◌, ◌*◌, ◌≤◌, List, ◌∷◌, ◌++◌, if◌then◌else◌}
+use Rattle.std.specs.Prelude.{◌≡◌, ℕ, zero, suc, ◌+◌, ◌-◌, ◌*◌, ◌<◌, ◌≤◌, List, [], ◌∷◌, ◌++◌, if◌then◌else◌}
+use Rattle.std.specs.Prelude.{Option, None, IfSome, MatchOption}
+use Rattle.ffs_image.specs.Device.{ForContents}
 use Rattle.ffs_volume.specs.declared.Step.{Step}
 use Rattle.ffs_volume.specs.declared.Inode.{Inode}
 use Rattle.ffs_volume.specs.Blocks.Inodes.{logical_blocks_of}
@@ -60,6 +62,14 @@ pub record IsAtTop (w : Walk) : Type 0 where
   pub single : IsSpent w.single
   pub double : IsSpent w.double
   pub triple : IsSpent w.triple
+
+-- the next step of a walk in an image of these contents is taken, and the walk has the others left: None is after the last
+pub record IsNextStep (contents : Option (List ℕ)) (old new : Walk) (answer : Option Step) : Type 0 where
+  pub steps : ForContents contents (λ bytes. MatchOption answer (rest bytes old ≡ [])
+      (λ step. rest bytes old ≡ step ∷ rest bytes new))
+  pub fits : IfSome answer (IsStepOf old.geometry.layout.frag old.blocks)
+  pub falls : IfSome answer (λ _. left new < left old)
+  pub over : answer ≡ None → IsOver new
 
 -- the walks are over as many logical blocks of the same volume
 pub record SameExtent (old new : Walk) : Type 0 where

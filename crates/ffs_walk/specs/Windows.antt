@@ -1,9 +1,11 @@
 -- What is kept of an image between reads.
-use Rattle.std.specs.Prelude.{◌≡◌, ◌*◌, ◌<◌, ◌≤◌, ℕ, List, take, Option, Some, None, vec_len, get_or}
+use Rattle.std.specs.Prelude.{◌≡◌, ◌*◌, ◌<◌, ◌≤◌, ℕ, List, take, Option, Some, None, Result, OnOk, OnErr, vec_len, get_or}
 use Rattle.ffs_image.specs.Device.{Device, ForContents}
+use Rattle.ffs_image.specs.Reads.{ReadAfter}
+use Rattle.ffs_image.specs.declared.image.ImageFault.{ImageFault}
 use Rattle.ffs_volume.specs.declared.Layout.{Layout}
 use Rattle.ffs_volume.specs.Disk.Numbers.{piece}
-use Rattle.ffs_volume.specs.Blocks.Steps.{block_bytes}
+use Rattle.ffs_volume.specs.Blocks.Steps.{address_in, block_bytes}
 use Rattle.ffs_memory.specs.declared.fixed_list.FixedList.{FixedList}
 use Rattle.ffs_walk.specs.declared.window.Window.{Window}
 use Rattle.ffs_walk.specs.declared.blocks.Blocks.{Blocks}
@@ -45,6 +47,27 @@ pub record KeepsBlocks (v : Layout) (contents : Option (List ℕ)) (before after
   pub size : vec_len after.buffer ≡ vec_len before.buffer
   pub holds : BlocksHold v contents after
 
+-- what a call leaves that may read an indirect block: the image as after a read, and blocks that hold what it gives
+pub record BlocksAfter {T : Type 0} (v : Layout) (d d' : Device) (before after : Blocks)
+    (result : Result T ImageFault) : Type 0 where
+  pub kept : KeepsBlocks v d'.contents before after
+  pub read : ReadAfter d d' result
+
+-- the block at an address is held for a level, with the image's bytes, where the image gives them
+pub record HoldsBlockAt (v : Layout) (contents : Option (List ℕ)) (level at : ℕ) (blocks : Blocks) : Type 0 where
+  pub address : held_address level blocks ≡ Some at
+  pub bytes : ForContents contents (λ b. level_bytes v level blocks ≡ block_bytes v b at)
+
+-- a window with the room that it had holds so many bytes of a place, or after a failed read none
+pub record FillsWindow {T : Type 0} (d d' : Device) (at size : ℕ) (before after : Window)
+    (result : Result T ImageFault) : Type 0 where
+  pub bytes : OnOk result (ForContents d.contents (λ b. held_bytes after ≡ piece at size b))
+  pub place : OnOk result ((after.place ≡ at) × (after.length ≡ size))
+  pub empty : OnErr result (after.length ≡ 0)
+  pub room : vec_len after.buffer ≡ vec_len before.buffer
+  pub holds : WindowHolds d'.contents after
+  pub read : ReadAfter d d' result
+
 -- a window over a list that holds nothing, and so what any image gives
 pub record IsEmptyWindow (list : FixedList ℕ) (w : Window) : Type 0 where
   pub buffer : w.buffer ≡ list
@@ -55,3 +78,9 @@ pub record IsEmptyWindow (list : FixedList ℕ) (w : Window) : Type 0 where
 pub record AreEmptyBlocks (list : FixedList ℕ) (blocks : Blocks) : Type 0 where
   pub buffer : blocks.buffer ≡ list
   pub holds : (v : Layout) (contents : Option (List ℕ)) → BlocksHold v contents blocks
+
+-- the words of a block from an index on are zero below another, at which one that isn't zero stands or the words end
+pub record EndsZeros (v : Layout) (block : List ℕ) (next used end : ℕ) : Type 0 where
+  pub within : (next ≤ end) × (end ≤ used)
+  pub zeros : (k : ℕ) → next ≤ k → k < end → address_in v block k ≡ 0
+  pub stops : end < used → 0 < address_in v block end

@@ -1,11 +1,7 @@
 //! The indirect blocks that a walk is in.
 
-ghost use Rattle.std.specs.Prelude.{Some, ◌≡◌, ◌-◌, ◌*◌, ◌+◌, ◌<◌, ◌≤◌, ℕ, List, Option, length, vec_len, OnOk, IfErr, IsTrue};
-ghost use Rattle.ffs_image.specs.Device.{ForContents};
-ghost use Rattle.ffs_image.specs.Reads.{ReadAfter};
+ghost use Rattle.std.specs.Prelude.{◌≡◌, ◌<◌, length, OnOk, IsTrue};
 ghost use Rattle.ffs_volume.specs.Disk.Areas.{is_run_in_range};
-ghost use Rattle.ffs_volume.specs.Blocks.Steps.{block_bytes};
-ghost use Rattle.ffs_volume.specs.declared.Layout.{Layout};
 
 use ffs_image::{Image, ImageFault};
 use ffs_layout::Geometry;
@@ -20,7 +16,7 @@ pub struct Blocks {
 }
 
 impl Blocks {
-    ghost use Rattle.ffs_walk.specs.Windows.{AreEmptyBlocks, CanWalk, HasRoom, KeepsBlocks, held_address, level_bytes};
+    ghost use Rattle.ffs_walk.specs.Windows.{AreEmptyBlocks, BlocksAfter, CanWalk, HasRoom, HoldsBlockAt, level_bytes};
 
     /// Blocks that hold nothing, over a buffer of at least three blocks' bytes. It takes no memory.
     pub fn over(buffer: FixedList<u8>) -> Blocks
@@ -47,13 +43,10 @@ impl Blocks {
         requires in_range { IsTrue (is_run_in_range geometry.now.layout address
             geometry.now.layout.frag) }
         requires ready { CanWalk geometry.now.layout (I.device image.old) self.old }
-        ensures bytes { OnOk result (ForContents (I.device image.old).contents
-            (λ b. level_bytes geometry.now.layout level self.new
-            ≡ block_bytes geometry.now.layout b address)) }
-        ensures held { OnOk result (held_address level self.new ≡ Some address) }
-        ensures kept { KeepsBlocks geometry.now.layout (I.device image.new).contents self.old
-            self.new }
-        ensures read { ReadAfter (I.device image.old) (I.device image.new) result }
+        ensures held { OnOk result (HoldsBlockAt geometry.now.layout (I.device image.old).contents level
+            address self.new) }
+        ensures leaves { BlocksAfter geometry.now.layout (I.device image.old) (I.device image.new)
+            self.old self.new result }
     {
         if self.held[level] == Some(address) {
             return Ok(());

@@ -40,9 +40,9 @@ impl Frame {
     ghost use Rattle.ffs_volume.specs.declared.Step.{Step};
     ghost use Rattle.ffs_walk.specs.Fits.{HasItem, IsSpent};
     ghost use Rattle.ffs_walk.specs.Skips.{HasNoGapNext};
-    ghost use Rattle.ffs_walk.specs.Windows.{BlocksHold, CanWalk, HasRoom, KeepsBlocks};
+    ghost use Rattle.ffs_walk.specs.Windows.{BlocksAfter, BlocksHold, CanWalk, HasRoom};
     ghost use Rattle.ffs_walk.specs.declared.frame.Item.TheVariants.{Missing, Word};
-    ghost use Rattle.ffs_walk.specs.Frames.{frame_rest, frame_left, item_steps, item_left, IsFrom, IsSameBlock};
+    ghost use Rattle.ffs_walk.specs.Frames.{frame_rest, frame_left, IsNextItem, IsSameBlock};
 
     /// A frame of no words.
     pub fn spent() -> Frame
@@ -79,17 +79,11 @@ impl Frame {
         requires item { HasItem geometry.now.layout span self.old }
         requires level { level < 3 }
         requires ready { CanWalk geometry.now.layout (I.device image.old) blocks.old }
-        ensures item { IfOk result (λ item. IsFrom self.old span item) }
-        ensures steps { IfOk result (λ item. ForContents (I.device image.old).contents
-            (λ bytes. (child : ℕ → ℕ → List Step) →
-            frame_rest geometry.now.layout bytes child span self.old ≡ item_steps child item
-            ++ frame_rest geometry.now.layout bytes child span self.new)) }
-        ensures falls { IfOk result (λ item. (most : ℕ)
-            → item_left most item + frame_left most self.new ≤ frame_left most self.old) }
+        ensures item { IfOk result (IsNextItem geometry.now.layout (I.device image.old).contents span
+            self.old self.new) }
         ensures same { IsSameBlock self.old self.new }
-        ensures kept { KeepsBlocks geometry.now.layout (I.device image.new).contents blocks.old
-            blocks.new }
-        ensures read { ReadAfter (I.device image.old) (I.device image.new) result }
+        ensures leaves { BlocksAfter geometry.now.layout (I.device image.old) (I.device image.new)
+            blocks.old blocks.new result }
     {
         blocks.fill(geometry, level, self.address, image)?;
         let block = blocks.bytes(geometry, level);

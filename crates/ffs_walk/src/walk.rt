@@ -53,8 +53,8 @@ impl Walk {
     ghost use Rattle.ffs_walk.specs.Lengths.{IsStepOf};
     ghost use Rattle.ffs_walk.specs.Skips.{HasPassedGaps};
     ghost use Rattle.ffs_walk.specs.Frames.{frame_rest, frame_left, item_steps, item_left};
-    ghost use Rattle.ffs_walk.specs.Rests.{rest, left, extent_of, Enters, IsAtTop, IsDataStep, IsFirstOf, IsOver, IsWalkOf, SameExtent};
-    ghost use Rattle.ffs_walk.specs.Windows.{BlocksHold, CanWalk, HasRoom, KeepsBlocks};
+    ghost use Rattle.ffs_walk.specs.Rests.{rest, left, extent_of, Enters, IsAtTop, IsDataStep, IsFirstOf, IsNextStep, IsOver, IsWalkOf, SameExtent};
+    ghost use Rattle.ffs_walk.specs.Windows.{BlocksAfter, BlocksHold, CanWalk, HasRoom};
 
     /// The step at the address of a data block.
     fn data(&self, address: u32, block: u64) -> Step
@@ -223,18 +223,11 @@ impl Walk {
         blocks: &mut Blocks,
     ) -> Result<Option<Step>, ImageFault>
         requires { CanWalk self.old.geometry.layout (I.device image.old) blocks.old }
-        ensures steps { IfOk result (λ o. ForContents (I.device image.old).contents (λ bytes.
-            MatchOption o (rest bytes self.old ≡ [])
-            (λ step. rest bytes self.old ≡ step ∷ rest bytes self.new))) }
-        ensures fits { IfOk result (λ o. IfSome o
-            (IsStepOf self.old.geometry.layout.frag self.old.blocks)) }
-        ensures left { IfOk result (λ o. IfSome o (λ _. left self.new < left self.old)) }
-        ensures none { result ≡ Ok None → IsOver self.new }
+        ensures step { IfOk result (IsNextStep (I.device image.old).contents self.old self.new) }
         ensures over { IsOver self.old → (result ≡ Ok None) × (self.new ≡ self.old) }
         ensures same { SameExtent self.old self.new }
-        ensures kept { KeepsBlocks self.old.geometry.layout (I.device image.new).contents blocks.old
-            blocks.new }
-        ensures read { ReadAfter (I.device image.old) (I.device image.new) result }
+        ensures leaves { BlocksAfter self.old.geometry.layout (I.device image.old) (I.device image.new)
+            blocks.old blocks.new result }
     {
         let words = u64::from(self.geometry.layout.nindir);
         if self.single.is_left() {
@@ -275,19 +268,12 @@ impl Walk {
         blocks: &mut Blocks,
     ) -> Result<Option<Step>, ImageFault>
         requires { CanWalk self.old.geometry.layout (I.device image.old) blocks.old }
-        ensures steps { IfOk result (λ o. ForContents (I.device image.old).contents (λ bytes.
-            MatchOption o (rest bytes self.old ≡ [])
-            (λ step. rest bytes self.old ≡ step ∷ rest bytes self.new))) }
-        ensures fits { IfOk result (λ o. IfSome o
-            (IsStepOf self.old.geometry.layout.frag self.old.blocks)) }
-        ensures falls { IfOk result (λ o. IfSome o (λ _. left self.new < left self.old)) }
-        ensures none { result ≡ Ok None → IsOver self.new }
+        ensures step { IfOk result (IsNextStep (I.device image.old).contents self.old self.new) }
         ensures over { IsOver self.old → result ≡ Ok None }
         ensures fault { OnErr result (IsOver self.new) }
         ensures same { SameExtent self.old self.new }
-        ensures kept { KeepsBlocks self.old.geometry.layout (I.device image.new).contents blocks.old
-            blocks.new }
-        ensures read { ReadAfter (I.device image.old) (I.device image.new) result }
+        ensures leaves { BlocksAfter self.old.geometry.layout (I.device image.old) (I.device image.new)
+            blocks.old blocks.new result }
     {
         match self.advance(image, blocks) {
             Ok(step) => Ok(step),

@@ -1,9 +1,6 @@
 //! A window on an image.
 
-ghost use Rattle.std.specs.Prelude.{◌≡◌, ◌+◌, ◌≤◌, ℕ, true, List, Option, length, vec_len, OnOk, OnErr, IfErr};
-ghost use Rattle.ffs_image.specs.Device.{ForContents};
-ghost use Rattle.ffs_image.specs.Reads.{ReadAfter};
-ghost use Rattle.ffs_volume.specs.Disk.Numbers.{piece};
+ghost use Rattle.std.specs.Prelude.{◌≡◌, ◌+◌, ◌≤◌, true, vec_len};
 
 use ffs_image::{Image, ImageFault};
 use ffs_memory::FixedList;
@@ -19,7 +16,7 @@ pub struct Window {
 }
 
 impl Window {
-    ghost use Rattle.ffs_walk.specs.Windows.{held_bytes, IsEmptyWindow, WindowHolds};
+    ghost use Rattle.ffs_walk.specs.Windows.{FillsWindow, IsEmptyWindow, WindowHolds, held_bytes};
 
     /// A window that holds nothing. It takes no memory.
     pub fn over(buffer: FixedList<u8>) -> Window
@@ -51,13 +48,8 @@ impl Window {
         requires room { length ≤ vec_len self.old.buffer }
         requires inside { place + length ≤ (I.device image.old).size }
         requires holds { WindowHolds (I.device image.old).contents self.old }
-        ensures bytes { OnOk result (ForContents (I.device image.old).contents
-            (λ b. held_bytes self.new ≡ piece place length b)) }
-        ensures place { OnOk result ((self.new.place ≡ place) × (self.new.length ≡ length)) }
-        ensures empty { OnErr result (self.new.length ≡ 0) }
-        ensures room { vec_len self.new.buffer ≡ vec_len self.old.buffer }
-        ensures holds { WindowHolds (I.device image.new).contents self.new }
-        ensures read { ReadAfter (I.device image.old) (I.device image.new) result }
+        ensures { FillsWindow (I.device image.old) (I.device image.new) place length self.old self.new
+            result }
     {
         if self.is_at(place, length) {
             return Ok(());

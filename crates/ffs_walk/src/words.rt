@@ -1,7 +1,8 @@
 //! The words of an indirect block.
 
-ghost use Rattle.std.specs.Prelude.{ℕ, ◌≡◌, ◌*◌, ◌+◌, ◌<◌, ◌≤◌, length};
+ghost use Rattle.std.specs.Prelude.{◌≡◌, ◌*◌, ◌+◌, ◌≤◌, length};
 ghost use Rattle.ffs_volume.specs.Blocks.Steps.{any_nonzero_from, address_in};
+ghost use Rattle.ffs_walk.specs.Windows.{EndsZeros};
 
 use byteorder::{BigEndian, ByteOrder, LittleEndian};
 use ffs_layout::Geometry;
@@ -39,10 +40,7 @@ pub fn any_from(geometry: &Geometry, block: &[u8], used: u32) -> bool
 pub fn zeros_end(geometry: &Geometry, block: &[u8], next: u32, used: u32) -> u32
     requires block { length block.now ≡ geometry.now.layout.bsize }
     requires words { (next ≤ used) × (used ≤ geometry.now.layout.nindir) }
-    ensures within { (next ≤ result) × (result ≤ used) }
-    ensures zeros { (k : ℕ) → next ≤ k → k < result
-        → address_in geometry.now.layout block.now k ≡ 0 }
-    ensures stops { result < used → 0 < address_in geometry.now.layout block.now result }
+    ensures { EndsZeros geometry.now.layout block.now next used result }
 {
     for j in next..used {
         if word(geometry, block, j) != 0 {

@@ -1,6 +1,9 @@
-use Rattle.std.proofs.Common.{arith, ◌*◌, ◌+◌, ◌-◌, Ok, ap, refl}
-use Rattle.ffs_walk.specs.Frames.{frame_left, item_left}
-use Rattle.ffs_walk.specs.Rests.{rest, left, most_at}
+use Rattle.std.proofs.Common.{arith, rules, ◌*◌, ◌+◌, ◌-◌, ◌∷◌, ◌++◌, [], ◌∙◌, List, Ok, ap, refl}
+use Rattle.ffs_volume.specs.declared.Step.{Step}
+use Rattle.ffs_volume.specs.Blocks.Steps.{steps_at}
+use Rattle.ffs_walk.specs.Frames.{frame_rest, frame_left, item_left}
+use Rattle.ffs_walk.specs.Rests.{rest, left, most_at, extent_of}
+use Rattle.ffs_walk.proofs.GapSteps.{in_first}
 use Rattle.ffs_walk.proofs.FrameSteps.{item_below, word_fits, kept_fits, words_fit, some_left, item_one, falls_by}
 use Rattle.ffs_walk.proofs.FrameSteps.{falls_in_double, falls_in_triple}
 use Rattle.ffs_walk.proofs.WalkSteps.{double_reported, triple_reported, one_some, square_some, some_words}
@@ -11,15 +14,7 @@ step_in_double-requires-clause-below g c =
     let w = c.args.self.now in
     item_below w.geometry.layout w.blocks w.geometry.layout.nindir w.double c.in_ok-item-2.item
     (some_words w.geometry.layout w.geometry.sound) w.double_fits
-    (rw c.from-words.ensures at c.in_ok-item-2.ensures.item)
-
-pub returns-then-is_left-2-clause-steps : goal.returns-then-is_left-2-clause-steps
-returns-then-is_left-2-clause-steps g c =
-    double_reported _ c.args.self.now c.from-words.result c.take-then-is_left-2.new.self c.in_ok-item-2.item
-    c.step_in_double.result
-    (λ bytes. rest bytes c.step_in_double.new.self)
-    c.from-words.ensures (c.is_left.ensures.spent c.if-is_left.false) c.in_ok-item-2.ensures.steps
-    c.step_in_double.ensures.steps
+    (rw c.from-words.ensures at c.in_ok-item-2.ensures.item.item)
 
 pub step_in_triple-requires-clause-below : goal.step_in_triple-requires-clause-below
 step_in_triple-requires-clause-below g c =
@@ -27,33 +22,13 @@ step_in_triple-requires-clause-below g c =
     item_below w.geometry.layout w.blocks (w.geometry.layout.nindir * w.geometry.layout.nindir) w.triple
     c.in_ok-item-3.item
     (square_some w.geometry.layout.nindir (some_words w.geometry.layout w.geometry.sound)) w.triple_fits
-    (rw c.from-words.ensures at c.in_ok-item-3.ensures.item)
-
-pub returns-then-is_left-3-clause-steps : goal.returns-then-is_left-3-clause-steps
-returns-then-is_left-3-clause-steps g c =
-    triple_reported _ c.args.self.now c.from-words.result c.take-then-is_left-3.new.self c.in_ok-item-3.item
-    c.step_in_triple.result
-    (λ bytes. rest bytes c.step_in_triple.new.self)
-    c.from-words.ensures (c.is_left.ensures.spent c.if-is_left.false) (c.is_left-2.ensures.spent c.if-is_left-2.false)
-    c.in_ok-item-3.ensures.steps c.step_in_triple.ensures.steps
-
-pub returns-then-is_left-clause-left : goal.returns-then-is_left-clause-left
-returns-then-is_left-clause-left g c =
-    let w = c.args.self.now in
-    let words = w.geometry.layout.nindir in
-    falls_by (item_left 1 c.in_ok-item.item) (frame_left 1 c.take.new.self) (frame_left 1 w.single)
-    (frame_left (most_at words 1) w.double
-    + (frame_left (most_at words 2) w.triple + (w.used - w.next) * most_at words 3))
-    (c.in_ok-item.ensures.falls 1) (item_one c.in_ok-item.item)
-
-pub returns-clause-steps : goal.returns-clause-steps
-returns-clause-steps g c = λ bytes tells. c.step_at_top.ensures.steps bytes
+    (rw c.from-words.ensures at c.in_ok-item-3.ensures.item.item)
 
 pub step_in_single-requires : goal.step_in_single-requires
 step_in_single-requires g c =
     let w = c.args.self.now in
     item_below w.geometry.layout w.blocks 1 w.single c.in_ok-item.item (omega arith) w.single_fits
-    c.in_ok-item.ensures.item
+    c.in_ok-item.ensures.item.item
 
 pub invariant_of-self : goal.invariant_of-self
 invariant_of-self g c =
@@ -134,26 +109,6 @@ returns-clause-over g c = λ o.
     let none = c.step_at_top.ensures.over.0 o.top in
     (ap (λ x. Ok x) none, c.step_at_top.ensures.none none)
 
-pub returns-then-is_left-2-clause-left : goal.returns-then-is_left-2-clause-left
-returns-then-is_left-2-clause-left g c =
-    let w = c.args.self.now in
-    let words = w.geometry.layout.nindir in
-    falls_in_double (item_left (most_at words 1) c.in_ok-item-2.item)
-    (frame_left (most_at words 1) c.take-then-is_left-2.new.self)
-    (frame_left (most_at words 0) w.single) (frame_left (most_at words 1) w.double)
-    (frame_left (most_at words 2) w.triple) ((w.used - w.next) * most_at words 3) (left c.step_in_double.new.self)
-    c.step_in_double.ensures.left (c.in_ok-item-2.ensures.falls (most_at words 1))
-
-pub returns-then-is_left-3-clause-left : goal.returns-then-is_left-3-clause-left
-returns-then-is_left-3-clause-left g c =
-    let w = c.args.self.now in
-    let words = w.geometry.layout.nindir in
-    falls_in_triple (item_left (most_at words 2) c.in_ok-item-3.item)
-    (frame_left (most_at words 2) c.take-then-is_left-3.new.self)
-    (frame_left (most_at words 0) w.single) (frame_left (most_at words 1) w.double)
-    (frame_left (most_at words 2) w.triple) ((w.used - w.next) * most_at words 3) (left c.step_in_triple.new.self)
-    c.step_in_triple.ensures.left (c.in_ok-item-3.ensures.falls (most_at words 2))
-
 pub take-requires-clause-ready : goal.take-requires-clause-ready
 take-requires-clause-ready g c = c.requires
 
@@ -214,3 +169,71 @@ take-requires-clause-item g c =
       small = word_fits w.geometry.layout w.blocks 1 w.single one_some w.single_fits w.blocks_small
           (c.if-is_left.ensures.left.0 refl);
     }
+
+pub returns-then-is_left-clause-step : goal.returns-then-is_left-clause-step
+returns-then-is_left-clause-step g c =
+    let w = c.args.self.now in
+    let words = w.geometry.layout.nindir in
+    record {
+      steps = λ bytes t. in_first _ _ _ (c.step_in_single.result ∷ [])
+          (c.in_ok-item.ensures.item.steps bytes t (steps_at (extent_of w) bytes 0)
+          ∙ ap (λ (xs : List Step). xs ++ frame_rest w.geometry.layout bytes (steps_at (extent_of w) bytes 0) 1
+          c.take.new.self) (c.step_in_single.ensures.steps bytes));
+      fits = search rules;
+      falls = falls_by (item_left 1 c.in_ok-item.item) (frame_left 1 c.take.new.self) (frame_left 1 w.single)
+          (frame_left (most_at words 1) w.double
+          + (frame_left (most_at words 2) w.triple + (w.used - w.next) * most_at words 3))
+          (c.in_ok-item.ensures.item.falls 1) (item_one c.in_ok-item.item);
+      over = search rules;
+    }
+
+pub returns-then-is_left-2-clause-step : goal.returns-then-is_left-2-clause-step
+returns-then-is_left-2-clause-step g c =
+    let w = c.args.self.now in
+    let words = w.geometry.layout.nindir in
+    record {
+      steps = double_reported _ c.args.self.now c.from-words.result c.take-then-is_left-2.new.self c.in_ok-item-2.item
+          c.step_in_double.result
+          (λ bytes. rest bytes c.step_in_double.new.self)
+          c.from-words.ensures (c.is_left.ensures.spent c.if-is_left.false) c.in_ok-item-2.ensures.item.steps
+          c.step_in_double.ensures.steps;
+      fits = search rules;
+      falls = falls_in_double (item_left (most_at words 1) c.in_ok-item-2.item)
+          (frame_left (most_at words 1) c.take-then-is_left-2.new.self)
+          (frame_left (most_at words 0) w.single) (frame_left (most_at words 1) w.double)
+          (frame_left (most_at words 2) w.triple) ((w.used - w.next) * most_at words 3) (left c.step_in_double.new.self)
+          c.step_in_double.ensures.left (c.in_ok-item-2.ensures.item.falls (most_at words 1));
+      over = search rules;
+    }
+
+pub returns-then-is_left-3-clause-step : goal.returns-then-is_left-3-clause-step
+returns-then-is_left-3-clause-step g c =
+    let w = c.args.self.now in
+    let words = w.geometry.layout.nindir in
+    record {
+      steps = triple_reported _ c.args.self.now c.from-words.result c.take-then-is_left-3.new.self c.in_ok-item-3.item
+          c.step_in_triple.result
+          (λ bytes. rest bytes c.step_in_triple.new.self)
+          c.from-words.ensures (c.is_left.ensures.spent c.if-is_left.false) (c.is_left-2.ensures.spent c.if-is_left-2.false)
+          c.in_ok-item-3.ensures.item.steps c.step_in_triple.ensures.steps;
+      fits = search rules;
+      falls = falls_in_triple (item_left (most_at words 2) c.in_ok-item-3.item)
+          (frame_left (most_at words 2) c.take-then-is_left-3.new.self)
+          (frame_left (most_at words 0) w.single) (frame_left (most_at words 1) w.double)
+          (frame_left (most_at words 2) w.triple) ((w.used - w.next) * most_at words 3) (left c.step_in_triple.new.self)
+          c.step_in_triple.ensures.left (c.in_ok-item-3.ensures.item.falls (most_at words 2));
+      over = search rules;
+    }
+
+pub returns-clause-step : goal.returns-clause-step
+returns-clause-step g c = record {
+  steps = λ bytes tells. c.step_at_top.ensures.steps bytes;
+  fits = c.step_at_top.ensures.fits;
+  falls = search rules;
+  over = λ e. rw (c.step_at_top.ensures.none e) (record {
+    single = c.is_left.ensures.spent c.if-is_left.false;
+    double = c.is_left-2.ensures.spent c.if-is_left-2.false;
+    triple = c.is_left-3.ensures.spent c.if-is_left-3.false;
+    top = c.step_at_top.ensures.over.1 e;
+  });
+}

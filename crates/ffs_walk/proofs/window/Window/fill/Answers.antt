@@ -2,19 +2,22 @@ use Rattle.std.proofs.Common.{rules, arith, ◌≡◌, ◌∙◌, ◌-◌, refl,
 use Rattle.ffs_walk.proofs.Splices.{window_with}
 use Rattle.ffs_walk.proofs.window.Window.fill.Goals as goal
 
-pub returns-clause-bytes : goal.returns-clause-bytes
-returns-clause-bytes g c = λ b tells.
+pub returns : goal.returns
+returns g c =
     let size : length c.read_at.new.buf ≡ c.args.length = search rules in
-    window_with b c.args.self.now c.args.place c.args.length (c.args.length - 0) c.deref_mut.result.now
-    c.read_at.new.buf (search rules) (omega arith) (search rules) c.requires.room
-    (c.in_ok-read_at.ensures.bytes b tells ∙ rw size refl)
-
-pub returns-clause-holds : goal.returns-clause-holds
-returns-clause-holds g c = record {
-  fits = c.requires.room;
-  bytes = λ b tells.
-      let size : length c.read_at.new.buf ≡ c.args.length = search rules in
-      window_with b c.args.self.now c.args.place c.args.length (c.args.length - 0) c.deref_mut.result.now
-      c.read_at.new.buf (search rules) (omega arith) (search rules) c.requires.room
-      (c.in_ok-read_at.ensures.bytes b (rw c.in_ok-read_at.ensures.ok at tells) ∙ rw size refl);
-}
+    record {
+      bytes = λ b tells. window_with b c.args.self.now c.args.place c.args.length (c.args.length - 0)
+          c.deref_mut.result.now c.read_at.new.buf (search rules) (omega arith) (search rules) c.requires.room
+          (c.in_ok-read_at.ensures.bytes b tells ∙ rw size refl);
+      place = search rules;
+      empty = search rules;
+      room = search rules;
+      holds = record {
+        fits = c.requires.room;
+        bytes = λ b tells.
+            window_with b c.args.self.now c.args.place c.args.length (c.args.length - 0) c.deref_mut.result.now
+            c.read_at.new.buf (search rules) (omega arith) (search rules) c.requires.room
+            (c.in_ok-read_at.ensures.bytes b (rw c.in_ok-read_at.ensures.ok at tells) ∙ rw size refl);
+      };
+      read = search rules;
+    }
