@@ -4,7 +4,8 @@ use Rattle.ffs_volume.specs.Directories.Roles.{RoledEntry}
 use Rattle.ffs_survey.specs.Survey.{bool_at, number_at, graph_with}
 use Rattle.ffs_survey.specs.Calm.{are_calm, AreCalm, IsFlagged}
 use Rattle.ffs_survey.specs.Discover.{Found, Comes, Counts, AtLevel, IsReachedPart, from_entries, from_dirs, nothing}
-use Rattle.ffs_survey.specs.Discover.{count_in, any_in, count_of, any_of, none, never, is_free}
+use Rattle.ffs_survey.specs.Discover.{count_in, any_in, count_of, any_of, none, never, is_free, unset, HasRoomForLevel}
+use Rattle.ffs_survey.specs.Lists.{GrowsBy}
 
 -- the reached directory d with these entries is read
 pub record ReadsReached (kinds : List ℕ) (marked : List Bool) (d : ℕ) (entries : List RoledEntry) (sound : Bool)
@@ -15,6 +16,20 @@ pub record ReadsReached (kinds : List ℕ) (marked : List Bool) (d : ℕ) (entri
       new.references new.named
   pub calm : IsFlagged d (are_calm (record { kinds = kinds; marked = marked; dir = d; above = number_at old.parents d })
       (bool_at old.reached) 0 entries) sound old.calm new.calm
+
+-- reached directories are read, which makes so much of what was found: no count below n grows by more than `most`, and
+-- the queue, which ended at `top`, ends at `end`, with all that is newly reached
+pub record Discovers (n most top end : ℕ) (reads : Found → Found → Type 0) (old new : Found) : Type 0 where
+  pub grown : GrowsBy n most old.references new.references
+  pub ends : end + unset new.reached ≡ top + unset old.reached
+  pub read : reads old new
+
+-- a level is read, which makes so much of what was found, and the queue has the next one from `high` to `end`, after
+-- what it had
+pub record FollowsLevel (high end : ℕ) (reads : Found → Found → Type 0) (old new : Found) : Type 0 where
+  pub room : HasRoomForLevel high end new.references new.reached new.queue
+  pub kept : take high new.queue ≡ take high old.queue
+  pub read : reads old new
 
 -- what stays calm when more is read
 abbrev pub StayCalm : List ℕ → List Bool → (ℕ → List RoledEntry) → (ℕ → Bool) → Found → Found → Type 0

@@ -4,7 +4,7 @@ ghost use Rattle.ffs_volume.specs.Directories.Roles.{is_plain as is_plain_role};
 ghost use Rattle.ffs_volume.specs.Directories.Graph.{is_naming_entry};
 ghost use Rattle.ffs_survey.specs.Reading.{roled_of, ForKnown, LeavesReader};
 ghost use Rattle.ffs_survey.specs.Lists.{MarkLists, TreeLists, QueueLists, CountLists, EntryLists, LevelLists, GrowsBy};
-ghost use Rattle.ffs_survey.specs.Levels.{ReadsReached, ReadsDirs, ReadsUnreached};
+ghost use Rattle.ffs_survey.specs.Levels.{Discovers, ReadsReached, ReadsDirs, ReadsUnreached};
 ghost use Rattle.ffs_survey.specs.Survey.{bool_at, number_at};
 ghost use Rattle.ffs_survey.specs.Calm.{is_calm_kind, is_calm_plain, is_calm_entry, IsFlagged};
 ghost use Rattle.ffs_survey.specs.Discover.{unset, found_of, IsCounted, Comes, from_entries, nothing, none, Counts, IsReachedDir, is_free as is_free_at};
@@ -178,14 +178,11 @@ fn read_reached<D: Directories>(
     requires lists { LevelLists (2 ^ 60) kinds.now marked.now references.old named.old reached.old
         parents.old }
     requires room { top + unset reached.old ≤ length queue.old }
-    ensures grown { OnOk result
-        (GrowsBy (length kinds.now) (2 ^ 28) references.old references.new) }
-    ensures top { IfOk result (λ n. n + unset reached.new ≡ top + unset reached.old) }
-    ensures read { IfOk result (λ n. ForKnown D.knows D.entries D.sound (D.base directories.old)
-        (λ entries sound. ReadsReached kinds.now marked.now from (entries from) (sound from)
+    ensures found { IfOk result (λ n. Discovers (length kinds.now) (2 ^ 28) top n
+        (λ old new. ForKnown D.knows D.entries D.sound (D.base directories.old) (λ entries sound.
+        ReadsReached kinds.now marked.now from (entries from) (sound from) old new))
         (found_of references.old named.old reached.old parents.old calm.old (take top queue.old))
-        (found_of references.new named.new reached.new parents.new calm.new
-        (take n queue.new)))) }
+        (found_of references.new named.new reached.new parents.new calm.new (take n queue.new))) }
     ensures reader { LeavesReader (D.ready directories.new) (D.base directories.old)
         (D.base directories.new) (D.device directories.old) (D.device directories.new) result }
 {
@@ -224,14 +221,12 @@ pub fn read_level<D: Directories>(
     requires room { unset reached.old ≤ length queue.old }
     requires frontier { ForKnown D.knows D.entries D.sound (D.base directories.old)
         (λ entries sound. All (IsReachedDir kinds.now reached.old) frontier.now) }
-    ensures grown { OnOk result (GrowsBy (length kinds.now) (length frontier.now * 2 ^ 28)
-        references.old references.new) }
-    ensures top { IfOk result (λ n. n + unset reached.new ≡ unset reached.old) }
-    ensures read { IfOk result (λ n. ForKnown D.knows D.entries D.sound (D.base directories.old)
-        (λ entries sound. ReadsDirs kinds.now marked.now frontier.now entries sound
+    ensures found { IfOk result (λ n.
+        Discovers (length kinds.now) (length frontier.now * 2 ^ 28) 0 n
+        (λ old new. ForKnown D.knows D.entries D.sound (D.base directories.old) (λ entries sound.
+        ReadsDirs kinds.now marked.now frontier.now entries sound old new))
         (found_of references.old named.old reached.old parents.old calm.old [])
-        (found_of references.new named.new reached.new parents.new calm.new
-        (take n queue.new)))) }
+        (found_of references.new named.new reached.new parents.new calm.new (take n queue.new))) }
     ensures reader { LeavesReader (D.ready directories.new) (D.base directories.old)
         (D.base directories.new) (D.device directories.old) (D.device directories.new) result }
 {

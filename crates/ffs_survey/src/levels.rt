@@ -5,7 +5,7 @@ ghost use Rattle.ffs_survey.specs.Calm.{AreCalm};
 ghost use Rattle.ffs_survey.specs.Reading.{ForKnown, LeavesReader};
 ghost use Rattle.ffs_survey.specs.Lists.{EntryLists, SurveyLists};
 ghost use Rattle.ffs_survey.specs.Discover.{found_of, HasRoomForLevel, AtSomeLevel, NothingFound, IsBlank, IsRead};
-ghost use Rattle.ffs_survey.specs.Levels.{ReadsLevel, ReadsAllReached};
+ghost use Rattle.ffs_survey.specs.Levels.{FollowsLevel, ReadsLevel, ReadsAllReached};
 
 use crate::directories::Directories;
 use crate::discover::{is_free, read_level, read_unreached};
@@ -35,12 +35,11 @@ fn next_level<D: Directories>(
     requires levels { ForKnown D.knows D.entries D.sound (D.base directories.old)
         (λ entries sound. AtSomeLevel (graph_with kinds.now entries) low high reached.old
         parents.old queue.old) }
-    ensures room { IfOk result (λ n. HasRoomForLevel high n references.new reached.new queue.new) }
-    ensures kept { OnOk result (take high queue.new ≡ take high queue.old) }
-    ensures read { IfOk result (λ n. ForKnown D.knows D.entries D.sound (D.base directories.old)
-        (λ entries sound. ReadsLevel kinds.now marked.now low high n entries sound
+    ensures level { IfOk result (λ n. FollowsLevel high n
+        (λ old new. ForKnown D.knows D.entries D.sound (D.base directories.old) (λ entries sound.
+        ReadsLevel kinds.now marked.now low high n entries sound old new))
         (found_of references.old named.old reached.old parents.old calm.old queue.old)
-        (found_of references.new named.new reached.new parents.new calm.new queue.new))) }
+        (found_of references.new named.new reached.new parents.new calm.new queue.new)) }
     ensures reader { LeavesReader (D.ready directories.new) (D.base directories.old)
         (D.base directories.new) (D.device directories.old) (D.device directories.new) result }
 {

@@ -8,13 +8,13 @@ pub loop-s-preserved : goal.loop-s-preserved
 loop-s-preserved g c =
     let inv = c.loop-s.invariant in
     let done = c.in_ok-top.ensures in
-    let read = rw inv.base at done.read in
+    let read = rw inv.base at done.found.read in
     record {
       ready = search rules;
       base = search rules;
       device = search rules;
-      grown = λ x l. let old = inv.grown x l in let new = done.grown x l in omega (arith, old, new);
-      top = let t = done.top in let i = inv.top in omega (arith, t, i);
+      grown = λ x l. let old = inv.grown x l in let new = done.found.grown x l in omega (arith, old, new);
+      top = let t = done.found.ends in let i = inv.top in omega (arith, t, i);
       comes = λ b k.
           level_step _ c.args.kinds.now (g.D.Directories.entries (g.D.Directories.base c.args.directories.now) b)
           c.args.frontier.now c.loop-s.s-index _ _ _ _ _ _ _ _ _

@@ -52,27 +52,31 @@ loop-entry-preserved g c =
       sound = let s = rw inv.base at c.in_ok-entry.ensures.sound in λ b k. s b k ∙ inv.sound b k;
     }
 
-pub returns-clause-read : goal.returns-clause-read
-returns-clause-read g c = λ b k.
-    let inv = c.loop-entry.invariant in
-    let reported = rw inv.base at c.in_ok-entry.ensures.rest in
-    let ended = rw inv.base at c.in_ok-entry.ensures.ended in
-    let right = rw inv.base at c.in_ok-entry.ensures.sound in
-    let flags = rw (c.in_ok-entry.ensures.reader.same, inv.base) at c.in_ok-flag_calm.ensures.flags in
-    let entries = g.D.Directories.entries (g.D.Directories.base c.args.directories.now) b in
-    let none : g.D.Directories.rest c.loop-entry.directories b ≡ [] = rw c.in_default.is at (reported b k) in
-    let end : g.D.Directories.ended c.next.new.self b = rw c.in_default.is at ended b k in
-    let w = read_whole c.args.kinds.now c.args.marked.now c.args.reached.now c.loop-entry.reached c.args.parents.now
-    c.loop-entry.parents (take c.args.top c.args.queue.now) (take c.loop-entry.high c.loop-entry.queue)
-    (entries c.args.from) (g.D.Directories.rest c.loop-entry.directories b) c.args.from c.parent_of-above.result
-    c.loop-entry.count c.loop-entry.quiet
-    c.parent_of-above.ensures none (inv.comes b k) (inv.quiet b k) in
-    record {
-      comes = w.comes;
-      counts = rw none at (inv.counts b k);
-      calm = subst (λ z. IsFlagged c.args.from z
-          (g.D.Directories.sound (g.D.Directories.base c.args.directories.now) b c.args.from) c.args.calm.now
-          c.flag_calm.new.calm) w.quiet_is
-          (subst (λ z. IsFlagged c.args.from (c.loop-entry.quiet && nat_le 2 c.loop-entry.count) z c.args.calm.now
-          c.flag_calm.new.calm) (right b k ∙ inv.sound b k) (flags b k end));
-    }
+pub returns-clause-found : goal.returns-clause-found
+returns-clause-found g c = record {
+  grown = search rules;
+  ends = search rules;
+  read = λ b k.
+      let inv = c.loop-entry.invariant in
+      let reported = rw inv.base at c.in_ok-entry.ensures.rest in
+      let ended = rw inv.base at c.in_ok-entry.ensures.ended in
+      let right = rw inv.base at c.in_ok-entry.ensures.sound in
+      let flags = rw (c.in_ok-entry.ensures.reader.same, inv.base) at c.in_ok-flag_calm.ensures.flags in
+      let entries = g.D.Directories.entries (g.D.Directories.base c.args.directories.now) b in
+      let none : g.D.Directories.rest c.loop-entry.directories b ≡ [] = rw c.in_default.is at (reported b k) in
+      let end : g.D.Directories.ended c.next.new.self b = rw c.in_default.is at ended b k in
+      let w = read_whole c.args.kinds.now c.args.marked.now c.args.reached.now c.loop-entry.reached c.args.parents.now
+      c.loop-entry.parents (take c.args.top c.args.queue.now) (take c.loop-entry.high c.loop-entry.queue)
+      (entries c.args.from) (g.D.Directories.rest c.loop-entry.directories b) c.args.from c.parent_of-above.result
+      c.loop-entry.count c.loop-entry.quiet
+      c.parent_of-above.ensures none (inv.comes b k) (inv.quiet b k) in
+      record {
+        comes = w.comes;
+        counts = rw none at (inv.counts b k);
+        calm = subst (λ z. IsFlagged c.args.from z
+            (g.D.Directories.sound (g.D.Directories.base c.args.directories.now) b c.args.from) c.args.calm.now
+            c.flag_calm.new.calm) w.quiet_is
+            (subst (λ z. IsFlagged c.args.from (c.loop-entry.quiet && nat_le 2 c.loop-entry.count) z c.args.calm.now
+            c.flag_calm.new.calm) (right b k ∙ inv.sound b k) (flags b k end));
+      };
+}

@@ -1,5 +1,6 @@
-use Rattle.std.proofs.Common.{◌≡◌, ℕ, ◌+◌, List, [], ◌++◌, take, drop, arith, sym, ◌∙◌, ap, subst, All, length}
+use Rattle.std.proofs.Common.{rules, ◌≡◌, ℕ, ◌+◌, List, [], ◌++◌, take, drop, arith, sym, ◌∙◌, ap, subst, All, length}
 use Rattle.std.proofs.Common.{length-take}
+use Rattle.std.proofs.lemmas.Grind.{common_steps}
 use Rattle.std.proofs.lemmas.List.Sorted.{IsNonDecreasingBy-from_sort}
 use Rattle.ffs_survey.specs.Survey.{graph_with}
 use Rattle.ffs_survey.specs.Levels.{CountsDirs}
@@ -24,50 +25,54 @@ read_level-requires-clause-frontier g c = λ b k.
       marked = front_reached _ _ _ _ _ _ at.frontier at.levels i d l;
     })
 
-pub returns-clause-read : goal.returns-clause-read
-returns-clause-read g c = λ b k.
-    let v = graph_with c.args.kinds.now (g.D.Directories.entries (g.D.Directories.base c.args.directories.now) b) in
-    let xs = drop c.args.low (take c.args.high c.args.queue.now) in
-    let e = frontier_is c.args.low c.args.high c.args.queue.now c.split_at_mut-left.result.0.now
-    c.split_at_mut-left.ensures.front in
-    let t = c.in_ok-found.ensures.top in
-    let room = c.requires.room.room in
-    let left = c.split_at_mut-left.result.0.now in
-    let front : length left ≡ c.args.high = omega (arith, c.split_at_mut-left.ensures.front_len, room) in
-    let back : length c.sort_unstable.new.self ≡ c.in_ok-found.found =
-    omega (
-      arith,
-      c.sort_unstable.ensures.len,
-      length-take c.in_ok-found.found c.read_level.new.queue,
-      t,
-      room,
-      c.split_at_mut-left.ensures.back_len,
-    ) in
-    let rest = drop c.in_ok-found.found c.read_level.new.queue in
-    record {
-      level = λ depth at.
-          let P : List ℕ → Type 0 = λ xs. Comes (from_dirs v xs) c.args.reached.now c.args.parents.now [] nothing
-          c.read_level.new.reached c.read_level.new.parents (take c.in_ok-found.found c.read_level.new.queue) in
-          let n : IsNextLevel v (depth + 1) c.read_level.new.reached c.read_level.new.parents
-          (take c.args.high c.args.queue.now) c.sort_unstable.new.self =
-          level_after v depth xs c.args.reached.now c.read_level.new.reached c.args.parents.now
-          c.read_level.new.parents (take c.args.high c.args.queue.now) (take c.in_ok-found.found c.read_level.new.queue)
-          c.sort_unstable.new.self
-          (sane_of c.args.kinds.now _ c.requires.lists.some) at.frontier at.levels
-          (subst P e (c.in_ok-found.ensures.read b k).comes) c.sort_unstable.ensures.permutation
-          (IsNonDecreasingBy-from_sort (λ x. x) _ c.sort_unstable.ensures.sorted) in
-          record {
-            frontier = subst (λ ys. IsFrontier v (depth + 1) ys)
-                (sym (new_front c.args.high c.in_ok-found.found left c.sort_unstable.new.self rest front back))
-                n.frontier;
-            levels = subst (λ q. LevelsKnown v (depth + 1) c.read_level.new.reached c.read_level.new.parents q)
-                (sym (whole_queue c.args.high c.in_ok-found.found left c.sort_unstable.new.self rest front back
-                ∙ ap (λ z. z ++ c.sort_unstable.new.self) c.split_at_mut-left.ensures.front)) n.knows;
-          };
-      counts = subst (λ ys. CountsDirs c.args.kinds.now
-          (g.D.Directories.entries (g.D.Directories.base c.args.directories.now) b) ys
-          (found_of c.args.references.now c.args.named.now c.args.reached.now c.args.parents.now c.args.calm.now [])
-          (found_of c.read_level.new.references c.read_level.new.named c.read_level.new.reached c.read_level.new.parents
-          c.read_level.new.calm [])) e (c.in_ok-found.ensures.read b k).counts;
-      calm = (c.in_ok-found.ensures.read b k).calm;
-    }
+pub returns-clause-level : goal.returns-clause-level
+returns-clause-level g c = record {
+  room = search rules;
+  kept = grind (arith, common_steps);
+  read = λ b k.
+      let v = graph_with c.args.kinds.now (g.D.Directories.entries (g.D.Directories.base c.args.directories.now) b) in
+      let xs = drop c.args.low (take c.args.high c.args.queue.now) in
+      let e = frontier_is c.args.low c.args.high c.args.queue.now c.split_at_mut-left.result.0.now
+      c.split_at_mut-left.ensures.front in
+      let t = c.in_ok-found.ensures.found.ends in
+      let room = c.requires.room.room in
+      let left = c.split_at_mut-left.result.0.now in
+      let front : length left ≡ c.args.high = omega (arith, c.split_at_mut-left.ensures.front_len, room) in
+      let back : length c.sort_unstable.new.self ≡ c.in_ok-found.found =
+      omega (
+        arith,
+        c.sort_unstable.ensures.len,
+        length-take c.in_ok-found.found c.read_level.new.queue,
+        t,
+        room,
+        c.split_at_mut-left.ensures.back_len,
+      ) in
+      let rest = drop c.in_ok-found.found c.read_level.new.queue in
+      record {
+        level = λ depth at.
+            let P : List ℕ → Type 0 = λ xs. Comes (from_dirs v xs) c.args.reached.now c.args.parents.now [] nothing
+            c.read_level.new.reached c.read_level.new.parents (take c.in_ok-found.found c.read_level.new.queue) in
+            let n : IsNextLevel v (depth + 1) c.read_level.new.reached c.read_level.new.parents
+            (take c.args.high c.args.queue.now) c.sort_unstable.new.self =
+            level_after v depth xs c.args.reached.now c.read_level.new.reached c.args.parents.now
+            c.read_level.new.parents (take c.args.high c.args.queue.now) (take c.in_ok-found.found c.read_level.new.queue)
+            c.sort_unstable.new.self
+            (sane_of c.args.kinds.now _ c.requires.lists.some) at.frontier at.levels
+            (subst P e (c.in_ok-found.ensures.found.read b k).comes) c.sort_unstable.ensures.permutation
+            (IsNonDecreasingBy-from_sort (λ x. x) _ c.sort_unstable.ensures.sorted) in
+            record {
+              frontier = subst (λ ys. IsFrontier v (depth + 1) ys)
+                  (sym (new_front c.args.high c.in_ok-found.found left c.sort_unstable.new.self rest front back))
+                  n.frontier;
+              levels = subst (λ q. LevelsKnown v (depth + 1) c.read_level.new.reached c.read_level.new.parents q)
+                  (sym (whole_queue c.args.high c.in_ok-found.found left c.sort_unstable.new.self rest front back
+                  ∙ ap (λ z. z ++ c.sort_unstable.new.self) c.split_at_mut-left.ensures.front)) n.knows;
+            };
+        counts = subst (λ ys. CountsDirs c.args.kinds.now
+            (g.D.Directories.entries (g.D.Directories.base c.args.directories.now) b) ys
+            (found_of c.args.references.now c.args.named.now c.args.reached.now c.args.parents.now c.args.calm.now [])
+            (found_of c.read_level.new.references c.read_level.new.named c.read_level.new.reached c.read_level.new.parents
+            c.read_level.new.calm [])) e (c.in_ok-found.ensures.found.read b k).counts;
+        calm = (c.in_ok-found.ensures.found.read b k).calm;
+      };
+}

@@ -47,20 +47,20 @@ pub loop-low-preserved : goal.loop-low-preserved
 loop-low-preserved g c =
     let inv = c.loop-low.invariant in
     let done = c.in_ok-end.ensures in
-    let read = rw inv.base at done.read in
+    let read = rw inv.base at done.level.read in
     record {
       ready = search rules;
       base = search rules;
       device = search rules;
       lengths = let l = inv.lengths in omega (arith, l);
-      room = done.room;
+      room = done.level.room;
       levels = λ b k. let before = inv.levels b k in
           record { depth = before.depth + 1; at = (read b k).level before.depth before.at };
       counts = λ b k.
           counted_on (graph_with c.args.kinds.now
           (g.D.Directories.entries (g.D.Directories.base c.args.directories.now) b)) c.loop-low.low c.loop-low.high
           c.loop-low.queue _ c.args.references.now c.loop-low.references _ c.loop-low.named _
-          inv.room.ordered done.kept (inv.counts b k) (read b k).counts;
+          inv.room.ordered done.level.kept (inv.counts b k) (read b k).counts;
       calm = λ b k. (read b k).calm (inv.calm b k);
     }
 
