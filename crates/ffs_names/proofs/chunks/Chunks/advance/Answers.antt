@@ -39,7 +39,7 @@ steps-preserved-in-Some-Tail g c =
     let r = replay_in s.keeping in
     let same = ap (λ x. x.layout) c.next.ensures.same.geometry in
     let steps = λ (b : List ℕ) (t : (g.I.Image.device c.args.image.now).contents ≡ Some b).
-    (rw c.in-Some-Tail.field-0-is at (rw c.in-Some-Tail.is at c.in_ok-next.ensures.steps)) b
+    (rw c.in-Some-Tail.field-0-is at (rw c.in-Some-Tail.is at c.in_ok-next.ensures.step.steps)) b
     (ap (λ d. d.contents) i.device ∙ t) in
     record {
       continues = λ b t. continues_more b _ s _ _ (steps_left b s.walk) _ (i.continues b t) (record {
@@ -57,9 +57,9 @@ steps-preserved-in-Some-Tail g c =
         budget = i.same.budget;
         runs = i.same.runs;
       };
-      ready = walk_on _ _ _ _ _ _ i.ready i.same.geometry (ap (λ d. d.size) c.in_ok-next.ensures.read)
-          c.next.ensures.kept.size c.next.ensures.kept.holds;
-      device = c.in_ok-next.ensures.read ∙ i.device;
+      ready = walk_on _ _ _ _ _ _ i.ready i.same.geometry (ap (λ d. d.size) c.in_ok-next.ensures.leaves.read)
+          c.next.ensures.leaves.kept.size c.next.ensures.leaves.kept.holds;
+      device = c.in_ok-next.ensures.leaves.read ∙ i.device;
     }
 
 pub steps-preserved : goal.steps-preserved
@@ -71,7 +71,7 @@ steps-preserved g c =
     let r = replay_in s.keeping in
     let same = ap (λ x. x.layout) c.next.ensures.same.geometry in
     let steps = λ (b : List ℕ) (t : (g.I.Image.device c.args.image.now).contents ≡ Some b).
-    (rw c.in-Some-Gap.field-0-is at (rw c.in-Some-Gap.is at c.in_ok-next.ensures.steps)) b
+    (rw c.in-Some-Gap.field-0-is at (rw c.in-Some-Gap.is at c.in_ok-next.ensures.step.steps)) b
     (ap (λ d. d.contents) i.device ∙ t) in
     record {
       continues = λ b t. continues_more b _ s _ _ (steps_left b s.walk) _ (i.continues b t) (record {
@@ -89,9 +89,9 @@ steps-preserved g c =
         budget = i.same.budget;
         runs = i.same.runs;
       };
-      ready = walk_on _ _ _ _ _ _ i.ready i.same.geometry (ap (λ d. d.size) c.in_ok-next.ensures.read)
-          c.next.ensures.kept.size c.next.ensures.kept.holds;
-      device = c.in_ok-next.ensures.read ∙ i.device;
+      ready = walk_on _ _ _ _ _ _ i.ready i.same.geometry (ap (λ d. d.size) c.in_ok-next.ensures.leaves.read)
+          c.next.ensures.leaves.kept.size c.next.ensures.leaves.kept.holds;
+      device = c.in_ok-next.ensures.leaves.read ∙ i.device;
     }
 
 pub steps-preserved-in-Some-Run : goal.steps-preserved-in-Some-Run
@@ -104,7 +104,7 @@ steps-preserved-in-Some-Run g c =
     let r = replay_in s.keeping in
     let same = ap (λ x. x.layout) c.next.ensures.same.geometry in
     let steps = λ (b : List ℕ) (t : (g.I.Image.device c.args.image.now).contents ≡ Some b).
-    (rw x.field-0-is at (rw x.is at c.in_ok-next.ensures.steps)) b (ap (λ d. d.contents) i.device ∙ t) in
+    (rw x.field-0-is at (rw x.is at c.in_ok-next.ensures.step.steps)) b (ap (λ d. d.contents) i.device ∙ t) in
     record {
       continues = λ b t.
           let run = Run x.start x.len x.block ∷ steps_left b w in
@@ -129,9 +129,9 @@ steps-preserved-in-Some-Run g c =
         budget = c.see.ensures.same.budget ∙ i.same.budget;
         runs = let one = i.same.runs in let two = c.see.ensures.same.runs in omega arith;
       };
-      ready = walk_on _ _ _ _ _ _ i.ready i.same.geometry (ap (λ d. d.size) c.in_ok-next.ensures.read)
-          c.next.ensures.kept.size c.next.ensures.kept.holds;
-      device = c.in_ok-next.ensures.read ∙ i.device;
+      ready = walk_on _ _ _ _ _ _ i.ready i.same.geometry (ap (λ d. d.size) c.in_ok-next.ensures.leaves.read)
+          c.next.ensures.leaves.kept.size c.next.ensures.leaves.kept.holds;
+      device = c.in_ok-next.ensures.leaves.read ∙ i.device;
     }
 
 pub returns-then-not-is_replay_open-clause-found : goal.returns-then-not-is_replay_open-clause-found
@@ -160,8 +160,8 @@ returns-in-None-clause-continues g c = λ b t.
     let v = s.walk.geometry.layout in
     let r = replay_in s.keeping in
     let same = ap (λ x. x.layout) c.next.ensures.same.geometry in
-    let none = c.next.ensures.none (c.in_ok-next.was ∙ ap (λ x. Ok x) c.in-None.is) in
-    let steps = (rw c.in-None.is at c.in_ok-next.ensures.steps) b (ap (λ d. d.contents) i.device ∙ t) ∙ sym
+    let none = c.in_ok-next.ensures.step.over c.in-None.is in
+    let steps = (rw c.in-None.is at c.in_ok-next.ensures.step.steps) b (ap (λ d. d.contents) i.device ∙ t) ∙ sym
     (over_rest b w none) in
     continues_more b _ s _ _ (steps_left b s.walk) _ (i.continues b t) (record {
       chunks = steps_on v w.geometry.layout b s.run_cursor s.taken s.keeping.cut r (steps_left b s.walk)
@@ -174,6 +174,6 @@ returns-in-None-clause-continues g c = λ b t.
 pub returns-in-None-clause-found : goal.returns-in-None-clause-found
 returns-in-None-clause-found g c = λ b t.
     let s = c.steps.self in
-    let none = c.next.ensures.none (c.in_ok-next.was ∙ ap (λ x. Ok x) c.in-None.is) in
+    let none = c.in_ok-next.ensures.step.over c.in-None.is in
     end_none c.next.new.self.geometry.layout b s.run_cursor s.taken s.keeping.cut (replay_in s.keeping)
     (steps_left b c.next.new.self) (omega (arith, c.steps-test.true)) (over_rest b c.next.new.self none)
