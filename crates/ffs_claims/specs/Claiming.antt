@@ -1,10 +1,17 @@
 -- What inodes ask for before they claim, and what they leave.
-use Rattle.std.specs.Prelude.{◌≡◌, ℕ, ◌+◌, ◌<◌, ◌≤◌, ◌^◌, true, Result, OnOk}
+use Rattle.std.specs.Prelude.{◌≡◌, ℕ, ◌+◌, ◌<◌, ◌≤◌, ◌^◌, Bool, true, List, Result, OnOk, IfOk}
 use Rattle.ffs_image.specs.Device.{Device}
 use Rattle.ffs_volume.specs.declared.Layout.{Layout}
-use Rattle.ffs_volume.specs.Blocks.Claims.{is_open}
+use Rattle.ffs_volume.specs.declared.Inode.{Inode}
+use Rattle.ffs_volume.specs.declared.BlockMessage.{BlockMessage}
+use Rattle.ffs_volume.specs.Blocks.Steps.{steps_of}
+use Rattle.ffs_volume.specs.Blocks.Owners.{Owner}
+use Rattle.ffs_volume.specs.Blocks.Claims.{Claims, after_owner, after_steps, is_open, lines_of_steps}
+use Rattle.ffs_volume.specs.Blocks.BlockCheck.{owner_lines}
 use Rattle.ffs_volume.specs.Blocks.ClaimBounds.{used_bits, ClaimBound}
-use Rattle.ffs_phase.specs.Runs.{ImageAfter}
+use Rattle.ffs_report.specs.Progress.{Progress, Says}
+use Rattle.ffs_phase.specs.Known.{ForBytes, IsContents}
+use Rattle.ffs_phase.specs.Runs.{ImageAfter, PhaseReports}
 use Rattle.ffs_phase.specs.declared.fault.RunFault.{RunFault}
 use Rattle.ffs_workspace.specs.declared.workspace.Workspace.{Workspace}
 use Rattle.ffs_workspace.specs.Holds.{claims_of}
@@ -12,7 +19,8 @@ use Rattle.ffs_workspace.specs.Lengths.{IsFor, inodes_of}
 use Rattle.ffs_workspace.specs.Ready.{IsReady}
 use Rattle.ffs_claims.specs.declared.area.DataArea.{DataArea}
 use Rattle.ffs_claims.specs.Area.{IsDataArea}
-use Rattle.ffs_claims.specs.Leaves.{ClaimsOnly, SameFound}
+use Rattle.ffs_claims.specs.Leaves.{AreClaims, ClaimsOnly, SameFound}
+use Rattle.ffs_claims.specs.Lines.{of_lines}
 
 -- inodes can claim: the workspace is ready, and each Run that lies in the area is in range
 pub record CanClaim (v : Layout) (d : Device) (w : Workspace) (area : DataArea) : Type 0 where
@@ -61,3 +69,28 @@ pub record InodeLeaves {T : Type 0} (v : Layout) (d d' : Device) (old new : Work
   pub moves : OnOk result (new.runs_seen + used_bits (claims_of old)
       ≤ old.runs_seen + used_bits (claims_of new) + 22)
   pub again : new.runs_again ≡ old.runs_again
+
+-- a step of an inode claims what it offers: these lines are said, these are the claims then, and nothing else changes
+pub record ClaimsStep {E : Type 0} (v : Layout) (lines : List BlockMessage) (after : Claims) (progress progress' : Progress)
+    (old new : Workspace) (area : DataArea) (result : Result Bool E) : Type 0 where
+  pub said : Says progress progress' (of_lines lines) result
+  pub claims : IfOk result (AreClaims new after)
+  pub left : ClaimsInArea v old new area
+
+-- the steps of an inode claim what they offer: their lines are reported, and the claims are those after them
+pub record ClaimsSteps {T : Type 0} (v : Layout) (number : ℕ) (inode : Inode) (d d' : Device)
+    (progress progress' : Progress) (old new : Workspace) (area : DataArea) (result : Result T RunFault) : Type 0 where
+  pub text : PhaseReports (IsContents d.contents)
+      (λ bytes. of_lines (lines_of_steps v number (claims_of old) (steps_of v inode bytes))) progress progress' result
+  pub claims : OnOk result (ForBytes (IsContents d.contents) (λ bytes.
+      claims_of new ≡ after_steps v (claims_of old) (steps_of v inode bytes)))
+  pub left : StepsLeave v d d' old new area result
+
+-- an inode claims as an owner of fragments: its lines are reported, and the claims are those after it
+pub record ClaimsOwner {T : Type 0} (v : Layout) (owner : List ℕ → Owner) (d d' : Device)
+    (progress progress' : Progress) (old new : Workspace) (area : DataArea) (result : Result T RunFault) : Type 0 where
+  pub text : PhaseReports (IsContents d.contents) (λ bytes. of_lines (owner_lines v (claims_of old) (owner bytes)))
+      progress progress' result
+  pub claims : OnOk result (ForBytes (IsContents d.contents) (λ bytes.
+      claims_of new ≡ after_owner v (claims_of old) (owner bytes)))
+  pub left : InodeLeaves v d d' old new area result

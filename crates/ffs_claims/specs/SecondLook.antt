@@ -1,6 +1,7 @@
 -- How many Runs phase 1b looks at: those that are seen, in order, until each fragment with a Dup line has its first
 -- claim reported.
 use Rattle.std.specs.Prelude.{◌≡◌, ◌<◌, ◌≤◌, ℕ, ◌+◌, ◌^◌, Bool, List, [], ◌∷◌, ◌++◌, ◌==◌, if◌then◌else◌, map}
+use Rattle.std.specs.Prelude.{Result, OnOk}
 use Rattle.std.specs.List.{range_with_len}
 use Rattle.ffs_volume.specs.declared.Layout.{Layout}
 use Rattle.ffs_volume.specs.declared.Step.{Step}
@@ -8,13 +9,21 @@ use Rattle.ffs_volume.specs.declared.Step.TheVariants.{Run, Tail, Gap}
 use Rattle.ffs_volume.specs.Blocks.Owners.{Owner, owners_of}
 use Rattle.ffs_volume.specs.Blocks.Claims.{Claims, no_claims, at_next_inode, is_open}
 use Rattle.ffs_volume.specs.Blocks.Claims.{after_step, after_owner, after_owners}
-use Rattle.ffs_volume.specs.Blocks.BlockCheck.{Offer, kept_in_run, offer_of}
+use Rattle.ffs_volume.specs.declared.Inode.{Inode}
+use Rattle.ffs_volume.specs.Blocks.Steps.{steps_of}
+use Rattle.ffs_volume.specs.Blocks.BlockCheck.{Offer, first_offer_lines, kept_in_run, offer_of}
+use Rattle.ffs_image.specs.Device.{Device}
+use Rattle.ffs_report.specs.Progress.{Progress}
+use Rattle.ffs_phase.specs.Known.{ForBytes, IsContents}
+use Rattle.ffs_phase.specs.Runs.{PhaseReports}
+use Rattle.ffs_phase.specs.declared.fault.RunFault.{RunFault}
 use Rattle.ffs_maps.specs.Bits.{bits_of}
 use Rattle.ffs_workspace.specs.declared.workspace.Workspace.{Workspace}
 use Rattle.ffs_workspace.specs.Lengths.{set_count}
 use Rattle.ffs_claims.specs.declared.rescan.Rescan.{Rescan}
-use Rattle.ffs_claims.specs.Rescan.{rescan, is_going, run_taken, again, offers_again, step_offers_again}
-use Rattle.ffs_claims.specs.Reporting.{after_first, OffersReported}
+use Rattle.ffs_claims.specs.Rescan.{rescan, is_going, run_taken, again, offers_again, step_offers_again, runs_again}
+use Rattle.ffs_claims.specs.Lines.{of_lines}
+use Rattle.ffs_claims.specs.Reporting.{after_first, OffersReported, RewalkLeaves}
 
 -- the kept offers of each Run that is seen: of a step, of steps, and of inodes
 abbrev pub step_runs : Layout → ℕ → Claims → Step → List (List Offer)
@@ -76,3 +85,15 @@ pub record Rewalked (v : Layout) (inode cut : ℕ) (steps : List Step) (old new 
   pub reported : OffersReported (offers_again v inode (rescan cut) steps) old new
   pub count : RoseBy old.runs_again new.runs_again (looked_at (bits_of old.duplicates)
       (steps_runs_again v inode (rescan cut) steps))
+
+-- an inode that keeps so many fragments, or all for 0, is walked over again: the first claims among its offers are
+-- reported, and its Runs are counted
+pub record Rewalks {T : Type 0} (v : Layout) (number cut : ℕ) (inode : List ℕ → Inode) (d d' : Device)
+    (progress progress' : Progress) (old new : Workspace) (result : Result T RunFault) : Type 0 where
+  pub text : PhaseReports (IsContents d.contents) (λ bytes. of_lines (first_offer_lines (bits_of old.duplicates)
+      (offers_again v number (rescan cut) (steps_of v (inode bytes) bytes)))) progress progress' result
+  pub rewalked : OnOk result (ForBytes (IsContents d.contents) (λ bytes.
+      Rewalked v number cut (steps_of v (inode bytes) bytes) old new))
+  pub runs : ForBytes (IsContents d.contents) (λ bytes.
+      new.runs_again ≤ old.runs_again + runs_again v (rescan cut) (steps_of v (inode bytes) bytes))
+  pub left : RewalkLeaves v d d' old new result

@@ -3,17 +3,12 @@
 ghost use Rattle.std.specs.Prelude.{◌≡◌, OnOk};
 ghost use Rattle.ffs_report.specs.Progress.{progress};
 ghost use Rattle.ffs_phase.specs.Known.{ForBytes, IsContents};
-ghost use Rattle.ffs_phase.specs.Runs.{PhaseReports};
 ghost use Rattle.ffs_volume.specs.Blocks.Inodes as inodes;
 ghost use Rattle.ffs_volume.specs.Blocks.Inodes.{inode_of};
-ghost use Rattle.ffs_volume.specs.Blocks.Steps.{steps_of};
 ghost use Rattle.ffs_volume.specs.Blocks.Owners.{owner_of};
-ghost use Rattle.ffs_volume.specs.Blocks.Claims.{after_owner, after_steps, lines_of_steps};
-ghost use Rattle.ffs_volume.specs.Blocks.BlockCheck.{owner_lines};
-ghost use Rattle.ffs_workspace.specs.Holds.{claims_of};
-ghost use Rattle.ffs_claims.specs.Claiming.{CanClaim, CanClaimInode, InodeLeaves, StepsLeave};
+ghost use Rattle.ffs_claims.specs.Claiming.{CanClaim, CanClaimInode, ClaimsOwner, ClaimsSteps};
 ghost use Rattle.ffs_claims.specs.Leaves.{HasBegun, Stored};
-ghost use Rattle.ffs_claims.specs.Lines.{of_lines, owner_with};
+ghost use Rattle.ffs_claims.specs.Lines.{owner_with};
 
 use crate::area::DataArea;
 use crate::offer::step;
@@ -41,14 +36,8 @@ fn claim<I: Image, W: Output>(
     requires class { class ≡ inodes.class_of geometry.now.layout inode.now }
     requires ready { CanClaim geometry.now.layout (I.device image.old) workspace.old area.old }
     requires begun { HasBegun workspace.old }
-    ensures text { PhaseReports (IsContents (I.device image.old).contents)
-        (λ bytes. of_lines (lines_of_steps geometry.now.layout number (claims_of workspace.old)
-        (steps_of geometry.now.layout inode.now bytes)))
-        (progress W.sink report.old) (progress W.sink report.new) result }
-    ensures claims { OnOk result (ForBytes (IsContents (I.device image.old).contents) (λ bytes.
-        claims_of workspace.new ≡ after_steps geometry.now.layout (claims_of workspace.old)
-        (steps_of geometry.now.layout inode.now bytes))) }
-    ensures left { StepsLeave geometry.now.layout (I.device image.old) (I.device image.new)
+    ensures { ClaimsSteps geometry.now.layout number inode.now (I.device image.old)
+        (I.device image.new) (progress W.sink report.old) (progress W.sink report.new)
         workspace.old workspace.new area.new result }
 {
     if !has_steps(geometry, inode, class) {
@@ -85,17 +74,12 @@ fn claim_read_inode<I: Image, W: Output>(
 ) -> Result<(), RunFault>
     requires ready { CanClaimInode geometry.now.layout (I.device image.old) workspace.old area.old
         number }
-    ensures text { PhaseReports (IsContents (I.device image.old).contents)
-        (λ bytes. of_lines (owner_lines geometry.now.layout (claims_of workspace.old)
-        (owner_with geometry.now.layout bytes number inode.now)))
-        (progress W.sink report.old) (progress W.sink report.new) result }
-    ensures claims { OnOk result (ForBytes (IsContents (I.device image.old).contents) (λ bytes.
-        claims_of workspace.new ≡ after_owner geometry.now.layout (claims_of workspace.old)
-        (owner_with geometry.now.layout bytes number inode.now))) }
+    ensures claiming { ClaimsOwner geometry.now.layout
+        (λ bytes. owner_with geometry.now.layout bytes number inode.now) (I.device image.old)
+        (I.device image.new) (progress W.sink report.old) (progress W.sink report.new)
+        workspace.old workspace.new area.new result }
     ensures stored { OnOk result (Stored number (inodes.class_of geometry.now.layout inode.now)
         inode.now workspace.old workspace.new) }
-    ensures left { InodeLeaves geometry.now.layout (I.device image.old) (I.device image.new)
-        workspace.old workspace.new area.new result }
 {
     let class = class_of(geometry, inode);
     begin(workspace);
@@ -123,19 +107,14 @@ pub fn claim_inode<I: Image, W: Output>(
 ) -> Result<(), RunFault>
     requires ready { CanClaimInode geometry.now.layout (I.device image.old) workspace.old area.old
         number }
-    ensures text { PhaseReports (IsContents (I.device image.old).contents)
-        (λ bytes. of_lines (owner_lines geometry.now.layout (claims_of workspace.old)
-        (owner_of geometry.now.layout bytes number)))
-        (progress W.sink report.old) (progress W.sink report.new) result }
-    ensures claims { OnOk result (ForBytes (IsContents (I.device image.old).contents) (λ bytes.
-        claims_of workspace.new ≡ after_owner geometry.now.layout (claims_of workspace.old)
-        (owner_of geometry.now.layout bytes number))) }
+    ensures claiming { ClaimsOwner geometry.now.layout
+        (λ bytes. owner_of geometry.now.layout bytes number) (I.device image.old)
+        (I.device image.new) (progress W.sink report.old) (progress W.sink report.new)
+        workspace.old workspace.new area.new result }
     ensures stored { OnOk result (ForBytes (IsContents (I.device image.old).contents) (λ bytes.
         Stored number (inodes.class_of geometry.now.layout
         (inode_of geometry.now.layout bytes number)) (inode_of geometry.now.layout bytes number)
         workspace.old workspace.new)) }
-    ensures left { InodeLeaves geometry.now.layout (I.device image.old) (I.device image.new)
-        workspace.old workspace.new area.new result }
 {
     let inode = workspace.windows.table.inode(geometry, number, image)?;
     claim_read_inode(workspace, geometry, area, number, &inode, image, report)

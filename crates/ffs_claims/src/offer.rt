@@ -10,7 +10,7 @@ ghost use Rattle.ffs_report.specs.Progress.{progress, Says};
 ghost use Rattle.ffs_workspace.specs.Holds.{claims_of};
 ghost use Rattle.ffs_claims.specs.Leaves.{AreClaims, HasRoomForOffers, OffersOnly};
 ghost use Rattle.ffs_claims.specs.Lines.{of_lines, is_dup, dup_lines, bad_lines};
-ghost use Rattle.ffs_claims.specs.Claiming.{ClaimsInArea, SeesNext};
+ghost use Rattle.ffs_claims.specs.Claiming.{ClaimsStep, SeesNext};
 
 use crate::area::DataArea;
 use ffs_layout::Geometry;
@@ -181,13 +181,12 @@ fn run<W: Output>(
 ) -> Result<bool, OutFault>
     requires next { SeesNext geometry.now.layout workspace.old area.old }
     requires some { 0 < len }
-    ensures said { Says (progress W.sink report.old) (progress W.sink report.new)
-        (of_lines (run_lines geometry.now.layout number (claims_of workspace.old) start len))
-        result }
-    ensures claims { IfOk result (AreClaims workspace.new
-        (after_run geometry.now.layout (claims_of workspace.old) start len)) }
+    ensures claiming { ClaimsStep geometry.now.layout
+        (run_lines geometry.now.layout number (claims_of workspace.old) start len)
+        (after_run geometry.now.layout (claims_of workspace.old) start len)
+        (progress W.sink report.old) (progress W.sink report.new) workspace.old workspace.new
+        area.new result }
     ensures runs { workspace.new.runs_seen ≡ workspace.old.runs_seen + 1 }
-    ensures left { ClaimsInArea geometry.now.layout workspace.old workspace.new area.new }
 {
     workspace.runs_seen += 1;
     if area.in_range(geometry, start, len) {
@@ -214,12 +213,12 @@ pub fn step<W: Output>(
 ) -> Result<bool, OutFault>
     requires next { SeesNext geometry.now.layout workspace.old area.old }
     requires length { HasLength geometry.now.layout.frag step }
-    ensures said { Says (progress W.sink report.old) (progress W.sink report.new)
-        (of_lines (step_lines geometry.now.layout number (claims_of workspace.old) step)) result }
-    ensures claims { IfOk result (AreClaims workspace.new
-        (after_step geometry.now.layout (claims_of workspace.old) step)) }
+    ensures claiming { ClaimsStep geometry.now.layout
+        (step_lines geometry.now.layout number (claims_of workspace.old) step)
+        (after_step geometry.now.layout (claims_of workspace.old) step)
+        (progress W.sink report.old) (progress W.sink report.new) workspace.old workspace.new
+        area.new result }
     ensures runs { workspace.new.runs_seen ≤ workspace.old.runs_seen + 1 }
-    ensures left { ClaimsInArea geometry.now.layout workspace.old workspace.new area.new }
 {
     match step {
         Step::Run { start, len, .. } => {

@@ -3,22 +3,21 @@
 ghost use Rattle.std.specs.Prelude.{◌≡◌, ◌+◌, ◌≤◌, ◌∷◌, OnOk, true, slice_index};
 ghost use Rattle.ffs_report.specs.Progress.{progress, Says};
 ghost use Rattle.ffs_phase.specs.Known.{ForBytes, IsContents};
-ghost use Rattle.ffs_phase.specs.Runs.{PhaseReports, PhaseRuns};
+ghost use Rattle.ffs_phase.specs.Runs.{PhaseRuns};
 ghost use Rattle.ffs_volume.specs.Blocks.BlockCheck.{first_offer_lines, phase1b_lines};
 ghost use Rattle.ffs_volume.specs.Messages.Kinds as messages;
 ghost use Rattle.ffs_volume.specs.Blocks.Owners.{owners_of};
 ghost use Rattle.ffs_volume.specs.Report.Whole.{run_count};
 ghost use Rattle.ffs_volume.specs.Blocks.Inodes.{inode_of};
 ghost use Rattle.ffs_volume.specs.Blocks.Lengths.{HasLength};
-ghost use Rattle.ffs_volume.specs.Blocks.Steps.{steps_of};
 ghost use Rattle.ffs_maps.specs.Bits.{bits_of};
 ghost use Rattle.ffs_workspace.specs.Holds.{HoldsPhase1, HoldsClaims, HoldsStarts};
 ghost use Rattle.ffs_workspace.specs.Ready.{IsReady};
 ghost use Rattle.ffs_claims.specs.Lines.{of_lines};
 ghost use Rattle.ffs_claims.specs.Rescan as rescans;
-ghost use Rattle.ffs_claims.specs.Rescan.{offers_again, step_offers_again, run_seen, runs_again};
-ghost use Rattle.ffs_claims.specs.Reporting.{CanReport, CanRewalk, ReportsOnly, RewalkLeaves};
-ghost use Rattle.ffs_claims.specs.SecondLook.{Counted, Rewalked, StepReported, second_look};
+ghost use Rattle.ffs_claims.specs.Rescan.{step_offers_again, run_seen};
+ghost use Rattle.ffs_claims.specs.Reporting.{CanReport, CanRewalk, ReportsOnly};
+ghost use Rattle.ffs_claims.specs.SecondLook.{Counted, Rewalks, StepReported, second_look};
 
 use crate::report_claim::report_run;
 use crate::rescan::Rescan;
@@ -72,18 +71,8 @@ fn rewalk<I: Image, W: Output>(
     report: &mut Report<'_, W>,
 ) -> Result<(), RunFault>
     requires can { CanRewalk geometry.now.layout (I.device image.old) workspace.old number }
-    ensures text { PhaseReports (IsContents (I.device image.old).contents)
-        (λ bytes. of_lines (first_offer_lines (bits_of workspace.old.duplicates)
-        (offers_again geometry.now.layout number (rescans.rescan cut)
-        (steps_of geometry.now.layout inode.now bytes))))
-        (progress W.sink report.old) (progress W.sink report.new) result }
-    ensures rewalked { OnOk result (ForBytes (IsContents (I.device image.old).contents) (λ bytes.
-        Rewalked geometry.now.layout number cut (steps_of geometry.now.layout inode.now bytes)
-        workspace.old workspace.new)) }
-    ensures runs { ForBytes (IsContents (I.device image.old).contents) (λ bytes.
-        workspace.new.runs_again ≤ workspace.old.runs_again + runs_again geometry.now.layout
-        (rescans.rescan cut) (steps_of geometry.now.layout inode.now bytes)) }
-    ensures left { RewalkLeaves geometry.now.layout (I.device image.old) (I.device image.new)
+    ensures { Rewalks geometry.now.layout number cut (λ _. inode.now) (I.device image.old)
+        (I.device image.new) (progress W.sink report.old) (progress W.sink report.new)
         workspace.old workspace.new result }
 {
     let mut rescan = Rescan::start(cut);
@@ -112,21 +101,9 @@ fn renumbered<I: Image, W: Output>(
     report: &mut Report<'_, W>,
 ) -> Result<(), RunFault>
     requires can { CanRewalk geometry.now.layout (I.device image.old) workspace.old number }
-    ensures text { PhaseReports (IsContents (I.device image.old).contents)
-        (λ bytes. of_lines (first_offer_lines (bits_of workspace.old.duplicates)
-        (offers_again geometry.now.layout number
-        (rescans.rescan (slice_index workspace.old.cut.items number))
-        (steps_of geometry.now.layout (inode_of geometry.now.layout bytes number) bytes))))
-        (progress W.sink report.old) (progress W.sink report.new) result }
-    ensures rewalked { OnOk result (ForBytes (IsContents (I.device image.old).contents) (λ bytes.
-        Rewalked geometry.now.layout number (slice_index workspace.old.cut.items number)
-        (steps_of geometry.now.layout (inode_of geometry.now.layout bytes number) bytes)
-        workspace.old workspace.new)) }
-    ensures runs { ForBytes (IsContents (I.device image.old).contents) (λ bytes.
-        workspace.new.runs_again ≤ workspace.old.runs_again + runs_again geometry.now.layout
-        (rescans.rescan (slice_index workspace.old.cut.items number))
-        (steps_of geometry.now.layout (inode_of geometry.now.layout bytes number) bytes)) }
-    ensures left { RewalkLeaves geometry.now.layout (I.device image.old) (I.device image.new)
+    ensures { Rewalks geometry.now.layout number (slice_index workspace.old.cut.items number)
+        (λ bytes. inode_of geometry.now.layout bytes number) (I.device image.old)
+        (I.device image.new) (progress W.sink report.old) (progress W.sink report.new)
         workspace.old workspace.new result }
 {
     let inode = workspace.windows.table.inode(geometry, number, image)?;

@@ -73,10 +73,10 @@ returns-in_err-next g c =
     let v = c.args.geometry.now.layout in
     let p = err_from_is_err_and c.from_residual.result c.from_residual.ensures.1 in
     let inv = c.loop-next.invariant in
-    let err = c.in_err-next.ensures.read in
+    let err = c.in_err-next.ensures.leaves.read in
     let read = ready_read v (g.I.Image.device c.loop-next.image) (g.I.Image.device c.next.new.image)
     c.loop-next.workspace c.next.new.blocks
-    err.contents err.size c.next.ensures.kept.size (rw inv.geometry at c.next.ensures.kept.holds) inv.ready in
+    err.contents err.size c.next.ensures.leaves.kept.size (rw inv.geometry at c.next.ensures.leaves.kept.holds) inv.ready in
     rw (p.1, p.2) (record {
       text = of_reads _ _ _ _ _ inv.said;
       claims = tt;
@@ -97,13 +97,13 @@ pub step-requires : goal.step-requires
 step-requires g c =
     let v = c.args.geometry.now.layout in
     let inv = c.loop-next.invariant in
-    let ok = c.in_ok-next.ensures.read in
+    let ok = c.in_ok-next.ensures.leaves.read in
     let sized = length_bits c.loop-next.workspace.claimed.words.items c.loop-next.workspace.claimed.size
     ∙ inv.ready.made.claimed in
     let read = ready_walked c.args.geometry.now _ _ _ c.loop-next.workspace c.next.new.blocks inv.geometry ok
-    c.next.ensures.kept.size c.next.ensures.kept.holds inv.ready in
+    c.next.ensures.leaves.kept.size c.next.ensures.leaves.kept.holds inv.ready in
     record {
-      length = (rw (inv.geometry, c.in-Some.is) at c.in_ok-next.ensures.fits).length;
+      length = (rw (inv.geometry, c.in-Some.is) at c.in_ok-next.ensures.step.fits).length;
       next = record {
         made = read.made;
         only_data = inv.area;
@@ -129,17 +129,17 @@ returns-in_err-seen g c =
     let p = err_from_is_err_and c.from_residual-in_err-seen.result c.from_residual-in_err-seen.ensures.1 in
     let inv = c.loop-next.invariant in
     let v = c.args.geometry.now.layout in
-    let ok = c.in_ok-next.ensures.read in
-    let next = rw (inv.device, c.in-Some.is) at c.in_ok-next.ensures.steps in
+    let ok = c.in_ok-next.ensures.leaves.read in
+    let next = rw (inv.device, c.in-Some.is) at c.in_ok-next.ensures.step.steps in
     let read = ready_walked c.args.geometry.now _ _ _ c.loop-next.workspace c.next.new.blocks inv.geometry ok
-    c.next.ensures.kept.size c.next.ensures.kept.holds inv.ready in
+    c.next.ensures.leaves.kept.size c.next.ensures.leaves.kept.holds inv.ready in
     rw (p.1, p.2) (record {
       text = of_stops _ _ _ _ (of_lines (step_lines v c.args.number (claims_of c.loop-next.workspace) c.in-Some.next))
           _ _ _ inv.said
           (lines_on _ v c.args.number (claims_of c.loop-next.workspace)
           (after_step v (claims_of c.loop-next.workspace) c.in-Some.next)
           (λ bytes. rest bytes c.loop-next.walk) (λ bytes. rest bytes c.next.new.self) c.in-Some.next next refl)
-          c.in_err-seen.ensures.said;
+          c.in_err-seen.ensures.claiming.said;
       claims = tt;
       left = record {
         image = ok ∙ inv.device;
@@ -151,10 +151,10 @@ returns-in_err-seen g c =
               inv.open_still inv.moves,
         );
         claim = record {
-          ready = ready_still v _ _ _ c.step.ensures.left.only.made c.step.ensures.left.only.windows read;
-          only_data = c.step.ensures.left.only_data;
+          ready = ready_still v _ _ _ c.step.ensures.claiming.left.only.made c.step.ensures.claiming.left.only.windows read;
+          only_data = c.step.ensures.claiming.left.only_data;
         };
-        found = found_then _ _ _ (found_still _ _ _ inv.found) c.step.ensures.left.only.found;
+        found = found_then _ _ _ (found_still _ _ _ inv.found) c.step.ensures.claiming.left.only.found;
       };
     })
 
@@ -163,21 +163,21 @@ pub skip_gaps-requires : goal.skip_gaps-requires
 skip_gaps-requires g c =
     let inv = c.loop-next.invariant in
     let same = c.in_ok-next.ensures.same.geometry ∙ inv.geometry in
-    record { room = record { blocks_fit = rw (same, c.next.ensures.kept.size, inv.ready.made.blocks) (omega arith) } }
+    record { room = record { blocks_fit = rw (same, c.next.ensures.leaves.kept.size, inv.ready.made.blocks) (omega arith) } }
 
 pub loop-next-preserved-then-after_gap : goal.loop-next-preserved-then-after_gap
 loop-next-preserved-then-after_gap g c =
     let inv = c.loop-next.invariant in
     let v = c.args.geometry.now.layout in
     let s = claims_of c.loop-next.workspace in
-    let ok = c.in_ok-next.ensures.read in
+    let ok = c.in_ok-next.ensures.leaves.read in
     let is_gap : c.in-Some.next ≡ Gap = elim c.match-matches.branch [
       | in-Gap w ↦ w.in-Gap.is
       | in_default-matches w ↦ cc
     ] in
-    let next = rw (inv.device, c.in-Some.is, is_gap) at c.in_ok-next.ensures.steps in
+    let next = rw (inv.device, c.in-Some.is, is_gap) at c.in_ok-next.ensures.step.steps in
     let ready = ready_walked c.args.geometry.now _ _ _ c.loop-next.workspace c.next.new.blocks inv.geometry ok
-    c.next.ensures.kept.size c.next.ensures.kept.holds inv.ready in
+    c.next.ensures.leaves.kept.size c.next.ensures.leaves.kept.holds inv.ready in
     let gaps : ForBytes (IsContents (g.I.Image.device c.args.image.now).contents)
     (λ bytes. rest bytes c.next.new.self ≡ replicate c.skip_gaps.result Gap ++ rest bytes c.skip_gaps.new.self) =
     λ bytes t. c.skip_gaps.ensures.steps (g.I.Image.device c.next.new.image).contents
@@ -204,15 +204,15 @@ loop-next-preserved-else-after_gap g c =
     let inv = c.loop-next.invariant in
     let v = c.args.geometry.now.layout in
     let s = claims_of c.loop-next.workspace in
-    let ok = c.in_ok-next.ensures.read in
+    let ok = c.in_ok-next.ensures.leaves.read in
     let is_gap : c.in-Some.next ≡ Gap = elim c.match-matches.branch [
       | in-Gap w ↦ w.in-Gap.is
       | in_default-matches w ↦ cc
     ] in
-    let next = rw (inv.device, c.in-Some.is, is_gap) at c.in_ok-next.ensures.steps in
+    let next = rw (inv.device, c.in-Some.is, is_gap) at c.in_ok-next.ensures.step.steps in
     record {
       ready = ready_walked c.args.geometry.now _ _ _ c.loop-next.workspace c.next.new.blocks inv.geometry ok
-          c.next.ensures.kept.size c.next.ensures.kept.holds inv.ready;
+          c.next.ensures.leaves.kept.size c.next.ensures.leaves.kept.holds inv.ready;
       area = inv.area;
       open_still = inv.open_still;
       geometry = c.in_ok-next.ensures.same.geometry ∙ inv.geometry;
@@ -229,29 +229,29 @@ loop-next-preserved g c =
     let inv = c.loop-next.invariant in
     let v = c.args.geometry.now.layout in
     let s = claims_of c.step.new.workspace in
-    let ok = c.in_ok-next.ensures.read in
-    let next = rw (inv.device, c.in-Some.is) at c.in_ok-next.ensures.steps in
+    let ok = c.in_ok-next.ensures.leaves.read in
+    let next = rw (inv.device, c.in-Some.is) at c.in_ok-next.ensures.step.steps in
     let read = ready_walked c.args.geometry.now _ _ _ c.loop-next.workspace c.next.new.blocks inv.geometry ok
-    c.next.ensures.kept.size c.next.ensures.kept.holds inv.ready in
+    c.next.ensures.leaves.kept.size c.next.ensures.leaves.kept.holds inv.ready in
     record {
-      ready = ready_still v _ _ _ c.step.ensures.left.only.made c.step.ensures.left.only.windows read;
-      area = c.step.ensures.left.only_data;
-      open_still = sym c.in_ok-seen.ensures.claims.uncut ∙ c.if-not-seen.false;
+      ready = ready_still v _ _ _ c.step.ensures.claiming.left.only.made c.step.ensures.claiming.left.only.windows read;
+      area = c.step.ensures.claiming.left.only_data;
+      open_still = sym c.in_ok-seen.ensures.claiming.claims.uncut ∙ c.if-not-seen.false;
       geometry = c.in_ok-next.ensures.same.geometry ∙ inv.geometry;
       device = ok ∙ inv.device;
-      found = found_then _ _ _ (found_still _ _ _ inv.found) c.step.ensures.left.only.found;
+      found = found_then _ _ _ (found_still _ _ _ inv.found) c.step.ensures.claiming.left.only.found;
       moves = moves_on v (claims_of c.args.workspace.now) (claims_of c.loop-next.workspace)
           (claims_of c.step.new.workspace) c.in-Some.next
           (length_bits _ _ ∙ inv.ready.made.claimed) c.args.geometry.now.sound.sizes.frag_high
-          (rw (inv.geometry, c.in-Some.is) at c.in_ok-next.ensures.fits).length
-          c.in_ok-seen.ensures.claims.claims_are inv.moves;
+          (rw (inv.geometry, c.in-Some.is) at c.in_ok-next.ensures.step.fits).length
+          c.in_ok-seen.ensures.claiming.claims.claims_are inv.moves;
       claims = claims_on _ v (claims_of c.loop-next.workspace) s (λ bytes. rest bytes c.loop-next.walk)
           (λ bytes. rest bytes c.next.new.self) _ _ c.in-Some.next
-          next c.in_ok-seen.ensures.claims.claims_are inv.claims (λ bytes t. refl);
+          next c.in_ok-seen.ensures.claiming.claims.claims_are inv.claims (λ bytes t. refl);
       said = steps_said _ v c.args.number (claims_of c.loop-next.workspace) s (λ bytes. rest bytes c.loop-next.walk)
           (λ bytes. rest bytes c.next.new.self) _ _ c.in-Some.next _ _ _
-          inv.said next c.in_ok-seen.ensures.claims.claims_are (λ bytes t. refl)
-          c.in_ok-seen.ensures.said;
+          inv.said next c.in_ok-seen.ensures.claiming.claims.claims_are (λ bytes t. refl)
+          c.in_ok-seen.ensures.claiming.said;
     }
 
 pub returns-then-not-seen : goal.returns-then-not-seen
@@ -259,28 +259,28 @@ returns-then-not-seen g c =
     let inv = c.loop-next.invariant in
     let v = c.args.geometry.now.layout in
     let s = claims_of c.step.new.workspace in
-    let ok = c.in_ok-next.ensures.read in
-    let cut : is_open (claims_of c.step.new.workspace) ≡ false = sym c.in_ok-seen.ensures.claims.uncut
+    let ok = c.in_ok-next.ensures.leaves.read in
+    let cut : is_open (claims_of c.step.new.workspace) ≡ false = sym c.in_ok-seen.ensures.claiming.claims.uncut
     ∙ c.if-not-seen.true in
-    let next = rw (inv.device, c.in-Some.is) at c.in_ok-next.ensures.steps in
+    let next = rw (inv.device, c.in-Some.is) at c.in_ok-next.ensures.step.steps in
     let read = ready_walked c.args.geometry.now _ _ _ c.loop-next.workspace c.next.new.blocks inv.geometry ok
-    c.next.ensures.kept.size c.next.ensures.kept.holds inv.ready in
+    c.next.ensures.leaves.kept.size c.next.ensures.leaves.kept.holds inv.ready in
     record {
       text = steps_said _ v c.args.number (claims_of c.loop-next.workspace) s (λ bytes. rest bytes c.loop-next.walk)
           (λ bytes. rest bytes c.next.new.self) _ _ c.in-Some.next _ _ _
-          inv.said next c.in_ok-seen.ensures.claims.claims_are (λ bytes t. cut_silent v c.args.number
-          (claims_of c.step.new.workspace) (rest bytes c.next.new.self) cut) c.in_ok-seen.ensures.said;
+          inv.said next c.in_ok-seen.ensures.claiming.claims.claims_are (λ bytes t. cut_silent v c.args.number
+          (claims_of c.step.new.workspace) (rest bytes c.next.new.self) cut) c.in_ok-seen.ensures.claiming.said;
       claims = claims_on _ v (claims_of c.loop-next.workspace) s (λ bytes. rest bytes c.loop-next.walk)
           (λ bytes. rest bytes c.next.new.self) _ _ c.in-Some.next
-          next c.in_ok-seen.ensures.claims.claims_are inv.claims
+          next c.in_ok-seen.ensures.claiming.claims.claims_are inv.claims
           (λ bytes t. cut_stays v s (rest bytes c.next.new.self) cut);
       left = record {
         image = ok ∙ inv.device;
         moves = moves_on v (claims_of c.args.workspace.now) (claims_of c.loop-next.workspace)
             (claims_of c.step.new.workspace) c.in-Some.next
             (length_bits _ _ ∙ inv.ready.made.claimed) c.args.geometry.now.sound.sizes.frag_high
-            (rw (inv.geometry, c.in-Some.is) at c.in_ok-next.ensures.fits).length
-            c.in_ok-seen.ensures.claims.claims_are inv.moves;
+            (rw (inv.geometry, c.in-Some.is) at c.in_ok-next.ensures.step.fits).length
+            c.in_ok-seen.ensures.claiming.claims.claims_are inv.moves;
         bound = omega (
           arith,
           c.step.ensures.runs,
@@ -288,10 +288,10 @@ returns-then-not-seen g c =
               inv.open_still inv.moves,
         );
         claim = record {
-          ready = ready_still v _ _ _ c.step.ensures.left.only.made c.step.ensures.left.only.windows read;
-          only_data = c.step.ensures.left.only_data;
+          ready = ready_still v _ _ _ c.step.ensures.claiming.left.only.made c.step.ensures.claiming.left.only.windows read;
+          only_data = c.step.ensures.claiming.left.only_data;
         };
-        found = found_then _ _ _ (found_still _ _ _ inv.found) c.step.ensures.left.only.found;
+        found = found_then _ _ _ (found_still _ _ _ inv.found) c.step.ensures.claiming.left.only.found;
       };
     }
 
@@ -300,8 +300,8 @@ returns-in_default g c =
     let inv = c.loop-next.invariant in
     let v = c.args.geometry.now.layout in
     let s = claims_of c.loop-next.workspace in
-    let ok = c.in_ok-next.ensures.read in
-    let over = rw (inv.device, c.in_default.is) at c.in_ok-next.ensures.steps in
+    let ok = c.in_ok-next.ensures.leaves.read in
+    let over = rw (inv.device, c.in_default.is) at c.in_ok-next.ensures.step.steps in
     record {
       text = of_same _ _ _ _ _ _ inv.said
           (λ bytes t. ap (λ (xs : List Step). of_lines (lines_of_steps v c.args.number s xs)) (over bytes t));
@@ -316,7 +316,7 @@ returns-in_default g c =
         );
         claim = record {
           ready = ready_walked c.args.geometry.now _ _ _ c.loop-next.workspace c.next.new.blocks inv.geometry ok
-              c.next.ensures.kept.size c.next.ensures.kept.holds inv.ready;
+              c.next.ensures.leaves.kept.size c.next.ensures.leaves.kept.holds inv.ready;
           only_data = inv.area;
         };
         found = found_still _ _ _ inv.found;

@@ -1,4 +1,4 @@
-use Rattle.std.proofs.Common.{◌≡◌, arith, ap, ◌∙◌, refl}
+use Rattle.std.proofs.Common.{rules, ◌≡◌, arith, ap, ◌∙◌, refl}
 use Rattle.std.proofs.lemmas.Result.{err_from_is_err_and}
 use Rattle.ffs_volume.specs.Blocks.Owners.{Owner, owner_of}
 use Rattle.ffs_volume.specs.Blocks.BlockCheck.{owner_lines}
@@ -11,38 +11,6 @@ use Rattle.ffs_claims.proofs.Weights.{used_below}
 use Rattle.ffs_workspace.proofs.Readiness.{ready_table}
 use Rattle.ffs_claims.proofs.claim.claim_inode.Goals as goal
 
-pub returns-in_err-inode-clause-text : goal.returns-in_err-inode-clause-text
-returns-in_err-inode-clause-text g c =
-    let p = err_from_is_err_and c.from_residual.result c.from_residual.ensures.1 in
-    rw (p.1, p.2) (of_reads _ _ _ _ _
-    (of_begins _ (λ bytes. of_lines
-    (owner_lines c.args.geometry.now.layout (claims_of c.args.workspace.now)
-    (owner_of c.args.geometry.now.layout bytes c.args.number))) _))
-
-pub returns-clause-text : goal.returns-clause-text
-returns-clause-text g c =
-    let v = c.args.geometry.now.layout in
-    let s = claims_of c.args.workspace.now in
-    reports_same (Unit {0}) _
-    (λ bytes. of_lines (owner_lines v s (owner_with v bytes c.args.number c.in_ok-inode.inode)))
-    (λ bytes. of_lines (owner_lines v s (owner_of v bytes c.args.number))) _ _ c.claim_read_inode.result
-    (λ bytes t. ap (λ (o : Owner). of_lines (owner_lines v s o))
-    (owner_is v bytes c.args.number c.in_ok-inode.inode (c.in_ok-inode.ensures.inode bytes t)))
-    (reports_knowing (Unit {0}) _ _ _ _ _ c.claim_read_inode.result
-    (λ bytes t. ap (λ d. d.contents) c.in_ok-inode.ensures.read ∙ t) c.claim_read_inode.ensures.text)
-
-pub returns-clause-claims : goal.returns-clause-claims
-returns-clause-claims g c =
-    let v = c.args.geometry.now.layout in
-    let s = claims_of c.args.workspace.now in
-    ok_where c.claim_read_inode.result _ _
-    (λ bytes. claims_of c.claim_read_inode.new.workspace
-    ≡ after_owner v s (owner_with v bytes c.args.number c.in_ok-inode.inode)) _
-    (ap (λ d. d.contents) c.in_ok-inode.ensures.read)
-    (λ bytes t h. h ∙ ap (λ (o : Owner). after_owner v s o)
-    (owner_is v bytes c.args.number c.in_ok-inode.inode (c.in_ok-inode.ensures.inode bytes t)))
-    c.claim_read_inode.ensures.claims
-
 pub inode-requires : goal.inode-requires
 inode-requires g c =
     let ready = c.requires.ready.claim.ready in
@@ -50,26 +18,6 @@ inode-requires g c =
       number = c.requires.ready.number_fits;
       ready = record { volume = ready.volume; made = ready.made.table; holds = ready.windows.table };
     }
-
-pub returns-in_err-inode-clause-left : goal.returns-in_err-inode-clause-left
-returns-in_err-inode-clause-left g c =
-    let err = c.in_err-inode.ensures.read in
-    let p = err_from_is_err_and c.from_residual.result c.from_residual.ensures.1 in
-    rw (p.1, p.2) (record {
-      image = err;
-      moves = tt;
-      bound = omega (
-        arith,
-        used_below c.args.geometry.now.layout c.args.workspace.now
-            c.requires.ready.claim.ready.made,
-      );
-      again = refl;
-      claim = record {
-        ready = ready_table c.args.geometry.now.layout (g.I.Image.device c.args.image.now) _ c.args.workspace.now
-            c.inode.new.self err.contents err.size c.inode.ensures.kept c.requires.ready.claim.ready;
-        only_data = c.requires.ready.claim.only_data;
-      };
-    })
 
 pub claim_read_inode-requires : goal.claim_read_inode-requires
 claim_read_inode-requires g c =
@@ -87,13 +35,59 @@ claim_read_inode-requires g c =
       };
     }
 
-pub returns-clause-left : goal.returns-clause-left
-returns-clause-left g c =
-    let left = c.claim_read_inode.ensures.left in
-    record {
-      image = rw (c.in_ok-inode.ensures.read) at left.image;
-      claim = left.claim;
-      bound = left.bound;
-      moves = left.moves;
-      again = left.again;
-    }
+pub returns-in_err-inode-clause-claiming : goal.returns-in_err-inode-clause-claiming
+returns-in_err-inode-clause-claiming g c = record {
+  text = let p = err_from_is_err_and c.from_residual.result c.from_residual.ensures.1 in
+      rw (p.1, p.2) (of_reads _ _ _ _ _
+      (of_begins _ (λ bytes. of_lines
+      (owner_lines c.args.geometry.now.layout (claims_of c.args.workspace.now)
+      (owner_of c.args.geometry.now.layout bytes c.args.number))) _));
+  claims = search rules;
+  left = let err = c.in_err-inode.ensures.read in
+      let p = err_from_is_err_and c.from_residual.result c.from_residual.ensures.1 in
+      rw (p.1, p.2) (record {
+        image = err;
+        moves = tt;
+        bound = omega (
+          arith,
+          used_below c.args.geometry.now.layout c.args.workspace.now
+              c.requires.ready.claim.ready.made,
+        );
+        again = refl;
+        claim = record {
+          ready = ready_table c.args.geometry.now.layout (g.I.Image.device c.args.image.now) _ c.args.workspace.now
+              c.inode.new.self err.contents err.size c.inode.ensures.kept c.requires.ready.claim.ready;
+          only_data = c.requires.ready.claim.only_data;
+        };
+      });
+}
+
+pub returns-clause-claiming : goal.returns-clause-claiming
+returns-clause-claiming g c = record {
+  text = let v = c.args.geometry.now.layout in
+      let s = claims_of c.args.workspace.now in
+      reports_same (Unit {0}) _
+      (λ bytes. of_lines (owner_lines v s (owner_with v bytes c.args.number c.in_ok-inode.inode)))
+      (λ bytes. of_lines (owner_lines v s (owner_of v bytes c.args.number))) _ _ c.claim_read_inode.result
+      (λ bytes t. ap (λ (o : Owner). of_lines (owner_lines v s o))
+      (owner_is v bytes c.args.number c.in_ok-inode.inode (c.in_ok-inode.ensures.inode bytes t)))
+      (reports_knowing (Unit {0}) _ _ _ _ _ c.claim_read_inode.result
+      (λ bytes t. ap (λ d. d.contents) c.in_ok-inode.ensures.read ∙ t) c.claim_read_inode.ensures.claiming.text);
+  claims = let v = c.args.geometry.now.layout in
+      let s = claims_of c.args.workspace.now in
+      ok_where c.claim_read_inode.result _ _
+      (λ bytes. claims_of c.claim_read_inode.new.workspace
+      ≡ after_owner v s (owner_with v bytes c.args.number c.in_ok-inode.inode)) _
+      (ap (λ d. d.contents) c.in_ok-inode.ensures.read)
+      (λ bytes t h. h ∙ ap (λ (o : Owner). after_owner v s o)
+      (owner_is v bytes c.args.number c.in_ok-inode.inode (c.in_ok-inode.ensures.inode bytes t)))
+      c.claim_read_inode.ensures.claiming.claims;
+  left = let left = c.claim_read_inode.ensures.claiming.left in
+      record {
+        image = rw (c.in_ok-inode.ensures.read) at left.image;
+        claim = left.claim;
+        bound = left.bound;
+        moves = left.moves;
+        again = left.again;
+      };
+}

@@ -1,4 +1,4 @@
-use Rattle.std.proofs.Common.{arith, refl, [], length, ap, ◌∙◌, ◌≡◌, sym}
+use Rattle.std.proofs.Common.{rules, arith, refl, [], length, ap, ◌∙◌, ◌≡◌, sym}
 use Rattle.std.specs.Prelude.{vec_len}
 use Rattle.ffs_volume.specs.declared.Class.TheVariants.{Free}
 use Rattle.std.proofs.lemmas.Result.{err_from_is_err_and}
@@ -16,62 +16,6 @@ use Rattle.ffs_claims.proofs.Weights.{used_below}
 use Rattle.ffs_claims.proofs.Frames.{ready_begun, ready_stored}
 use Rattle.ffs_claims.proofs.claim.claim_read_inode.Goals.{in-Free, in_default}
 use Rattle.ffs_claims.proofs.claim.claim_read_inode.Goals as goal
-
-pub returns-in_err-say_class-clause-text : goal.returns-in_err-say_class-clause-text
-returns-in_err-say_class-clause-text g c =
-    let p = err_from_is_err_and c.from_residual.result c.from_residual.ensures.1 in
-    rw (p.1, p.2) (class_stopped _ c.args.geometry.now.layout c.args.number c.args.inode.now
-    (claims_of c.args.workspace.now) c.class_of-class.result _ _
-    c.class_of-class.ensures c.in_err-say_class.ensures)
-
-pub returns-in_err-claim-clause-text : goal.returns-in_err-claim-clause-text
-returns-in_err-claim-clause-text g c =
-    let p = err_from_is_err_and c.from_residual-in_err-claim.result c.from_residual-in_err-claim.ensures.1 in
-    let v = c.args.geometry.now.layout in
-    let s1 = claims_of c.begin.new.workspace in
-    rw (p.1, p.2) (of_fault (Unit {0}) (Unit {0}) _ _
-    (λ bytes. of_lines (lines_of_steps v c.args.number s1 (steps_of v c.args.inode.now bytes)))
-    (λ bytes. of_lines (count_lines v (counted_owner c.args.number c.class_of-class.result c.args.inode.now.blocks)
-    (after_steps v s1 (steps_of v c.args.inode.now bytes))))
-    _ _ _ _ _
-    (class_said _ v c.args.number c.args.inode.now (claims_of c.args.workspace.now) s1 c.class_of-class.result _ _
-    (ap claims_of c.begin.ensures) c.class_of-class.ensures c.in_ok-say_class.ensures)
-    (λ bytes t. refl) c.in_err-claim.ensures.text)
-
-pub returns-in_err-say_count-clause-text : goal.returns-in_err-say_count-clause-text
-returns-in_err-say_count-clause-text g c =
-    let p = err_from_is_err_and c.from_residual-in_err-say_count.result c.from_residual-in_err-say_count.ensures.1 in
-    let v = c.args.geometry.now.layout in
-    let s1 = claims_of c.begin.new.workspace in
-    rw (p.1, p.2) (of_stops _ _ (λ bytes. []) _
-    (of_lines (count_lines v (counted_owner c.args.number c.class_of-class.result c.args.inode.now.blocks)
-    (claims_of c.claim.new.workspace))) _ _ _
-    (of_part _ _ (λ bytes. of_lines (lines_of_steps v c.args.number s1 (steps_of v c.args.inode.now bytes)))
-    (λ bytes. of_lines (count_lines v (counted_owner c.args.number c.class_of-class.result c.args.inode.now.blocks)
-    (after_steps v s1 (steps_of v c.args.inode.now bytes)))) _ _ _ _
-    (class_said _ v c.args.number c.args.inode.now (claims_of c.args.workspace.now) s1 c.class_of-class.result _ _
-    (ap claims_of c.begin.ensures) c.class_of-class.ensures c.in_ok-say_class.ensures)
-    (λ bytes t. refl) c.in_ok-claim.ensures.text)
-    (count_right _ v c.args.number c.args.inode.now s1 (claims_of c.claim.new.workspace) c.class_of-class.result
-    c.in_ok-claim.ensures.claims)
-    c.in_err-say_count.ensures)
-
-pub returns-clause-text : goal.returns-clause-text
-returns-clause-text g c =
-    let v = c.args.geometry.now.layout in
-    let s1 = claims_of c.begin.new.workspace in
-    of_says _ _ (λ bytes. []) _
-    (of_lines (count_lines v (counted_owner c.args.number c.class_of-class.result c.args.inode.now.blocks)
-    (claims_of c.claim.new.workspace))) _ _ _
-    (of_part _ _ (λ bytes. of_lines (lines_of_steps v c.args.number s1 (steps_of v c.args.inode.now bytes)))
-    (λ bytes. of_lines (count_lines v (counted_owner c.args.number c.class_of-class.result c.args.inode.now.blocks)
-    (after_steps v s1 (steps_of v c.args.inode.now bytes)))) _ _ _ _
-    (class_said _ v c.args.number c.args.inode.now (claims_of c.args.workspace.now) s1 c.class_of-class.result _ _
-    (ap claims_of c.begin.ensures) c.class_of-class.ensures c.in_ok-say_class.ensures)
-    (λ bytes t. refl) c.in_ok-claim.ensures.text)
-    (count_right _ v c.args.number c.args.inode.now s1 (claims_of c.claim.new.workspace) c.class_of-class.result
-    c.in_ok-claim.ensures.claims)
-    c.in_ok-say_count.ensures
 
 pub say_count-requires : goal.say_count-requires
 say_count-requires g c =
@@ -116,82 +60,6 @@ store-requires-2 g c =
       };
     }
 
-pub returns-in_err-say_class-clause-left : goal.returns-in_err-say_class-clause-left
-returns-in_err-say_class-clause-left g c =
-    let same = ap (λ w. w.runs_seen) c.begin.ensures in
-    let p = err_from_is_err_and c.from_residual.result c.from_residual.ensures.1 in
-    rw (p.1, p.2) (record {
-      image = refl;
-      moves = tt;
-      bound = omega (
-        arith,
-        same,
-        used_below c.args.geometry.now.layout c.args.workspace.now
-            c.requires.ready.claim.ready.made,
-      );
-      again = ap (λ w. w.runs_again) c.begin.ensures;
-      claim = record {
-        ready = ready_begun c.args.geometry.now.layout (g.I.Image.device c.args.image.now)
-            c.args.workspace.now c.begin.new.workspace c.begin.ensures c.requires.ready.claim.ready;
-        only_data = c.requires.ready.claim.only_data;
-      };
-    })
-
-pub returns-clause-claims : goal.returns-clause-claims
-returns-clause-claims g c = λ bytes t.
-    ap claims_of c.store-2.ensures.rest ∙ c.in_ok-claim.ensures.claims bytes t
-    ∙ ap (λ (s : Claims). after_steps c.args.geometry.now.layout s
-    (steps_of c.args.geometry.now.layout c.args.inode.now bytes)) (ap claims_of c.begin.ensures)
-
-pub returns-in_err-claim-clause-left : goal.returns-in_err-claim-clause-left
-returns-in_err-claim-clause-left g c =
-    let begun = ap (λ w. w.runs_seen) c.begin.ensures in
-    let claims = ap (λ w. used_bits (claims_of w)) c.begin.ensures in
-    let p = err_from_is_err_and c.from_residual-in_err-claim.result c.from_residual-in_err-claim.ensures.1 in
-    rw (p.1, p.2) (record {
-      image = c.in_err-claim.ensures.left.image;
-      moves = tt;
-      bound = omega (arith, begun, claims, c.claim.ensures.left.bound);
-      again = c.claim.ensures.left.found.again ∙ ap (λ w. w.runs_again) c.begin.ensures;
-      claim = c.claim.ensures.left.claim;
-    })
-
-pub returns-in_err-say_count-clause-left : goal.returns-in_err-say_count-clause-left
-returns-in_err-say_count-clause-left g c =
-    let begun = ap (λ w. w.runs_seen) c.begin.ensures in
-    let claims = ap (λ w. used_bits (claims_of w)) c.begin.ensures in
-    let p = err_from_is_err_and c.from_residual-in_err-say_count.result c.from_residual-in_err-say_count.ensures.1 in
-    rw (p.1, p.2) (record {
-      image = c.in_ok-claim.ensures.left.image;
-      moves = tt;
-      bound = omega (arith, begun, claims, c.claim.ensures.left.bound);
-      again = c.claim.ensures.left.found.again ∙ ap (λ w. w.runs_again) c.begin.ensures;
-      claim = c.claim.ensures.left.claim;
-    })
-
-pub returns-clause-left : goal.returns-clause-left
-returns-clause-left g c =
-    let begun = ap (λ w. w.runs_seen) c.begin.ensures in
-    let claims = ap (λ w. used_bits (claims_of w)) c.begin.ensures in
-    let stored = ap (λ w. w.runs_seen) c.store-2.ensures.rest in
-    let bad = ap (λ w. w.bad) c.begin.ensures in
-    let dups = ap (λ w. w.dups) c.begin.ensures in
-    let m = c.in_ok-claim.ensures.left.moves in
-    let used = ap (λ w. used_bits (claims_of w)) c.store-2.ensures.rest in
-    record {
-      image = c.in_ok-claim.ensures.left.image;
-      moves = omega (arith, begun, claims, stored, used, m.weighs, m.bad_cap, m.dups_cap, bad, dups);
-      bound = omega (arith, begun, claims, stored, c.claim.ensures.left.bound);
-      again = ap (λ w. w.runs_again) c.store-2.ensures.rest ∙ c.claim.ensures.left.found.again
-          ∙ ap (λ w. w.runs_again) c.begin.ensures;
-      claim = record {
-        ready = ready_stored c.args.geometry.now.layout (g.I.Image.device c.claim.new.image) c.args.number _ _
-            c.claim.new.workspace c.store-2.new.workspace c.store-2.ensures.stored c.store-2.ensures.rest
-            c.claim.ensures.left.claim.ready;
-        only_data = c.claim.ensures.left.claim.only_data;
-      };
-    }
-
 pub store-requires : goal.store-requires
 store-requires g c =
     let made = c.requires.ready.claim.ready.made in
@@ -208,53 +76,173 @@ store-requires g c =
       };
     }
 
-pub returns-then-matches-clause-text : goal.returns-then-matches-clause-text
-returns-then-matches-clause-text g c =
-    let v = c.args.geometry.now.layout in
-    let is_free : c.class_of-class.result ≡ Free = elim c.match-matches.branch [
-      | in-Free w ↦ w.in-Free.is
-      | in_default w ↦ cc
-    ] in
-    of_same _ _ _ _ _ _
-    (of_begins _ (λ bytes. of_lines (owner_lines v (claims_of c.args.workspace.now)
-    (owner_with v bytes c.args.number c.args.inode.now))) _)
-    (λ bytes t. ap of_lines (free_silent v c.args.number c.args.inode.now (claims_of c.args.workspace.now) bytes
-    (sym c.class_of-class.ensures ∙ is_free)))
+pub returns-in_err-say_class-clause-claiming : goal.returns-in_err-say_class-clause-claiming
+returns-in_err-say_class-clause-claiming g c = record {
+  text = let p = err_from_is_err_and c.from_residual.result c.from_residual.ensures.1 in
+      rw (p.1, p.2) (class_stopped _ c.args.geometry.now.layout c.args.number c.args.inode.now
+      (claims_of c.args.workspace.now) c.class_of-class.result _ _
+      c.class_of-class.ensures c.in_err-say_class.ensures);
+  claims = search rules;
+  left = let same = ap (λ w. w.runs_seen) c.begin.ensures in
+      let p = err_from_is_err_and c.from_residual.result c.from_residual.ensures.1 in
+      rw (p.1, p.2) (record {
+        image = refl;
+        moves = tt;
+        bound = omega (
+          arith,
+          same,
+          used_below c.args.geometry.now.layout c.args.workspace.now
+              c.requires.ready.claim.ready.made,
+        );
+        again = ap (λ w. w.runs_again) c.begin.ensures;
+        claim = record {
+          ready = ready_begun c.args.geometry.now.layout (g.I.Image.device c.args.image.now)
+              c.args.workspace.now c.begin.new.workspace c.begin.ensures c.requires.ready.claim.ready;
+          only_data = c.requires.ready.claim.only_data;
+        };
+      });
+}
 
-pub returns-then-matches-clause-claims : goal.returns-then-matches-clause-claims
-returns-then-matches-clause-claims g c =
-    let v = c.args.geometry.now.layout in
-    let is_free : c.class_of-class.result ≡ Free = elim c.match-matches.branch [
-      | in-Free w ↦ w.in-Free.is
-      | in_default w ↦ cc
-    ] in
-    λ bytes t. ap claims_of c.store.ensures.rest ∙ ap claims_of c.begin.ensures
-    ∙ sym (free_claims v c.args.number c.args.inode.now (claims_of c.args.workspace.now) bytes
-    (sym c.class_of-class.ensures ∙ is_free))
+pub returns-in_err-claim-clause-claiming : goal.returns-in_err-claim-clause-claiming
+returns-in_err-claim-clause-claiming g c = record {
+  text = let p = err_from_is_err_and c.from_residual-in_err-claim.result c.from_residual-in_err-claim.ensures.1 in
+      let v = c.args.geometry.now.layout in
+      let s1 = claims_of c.begin.new.workspace in
+      rw (p.1, p.2) (of_fault (Unit {0}) (Unit {0}) _ _
+      (λ bytes. of_lines (lines_of_steps v c.args.number s1 (steps_of v c.args.inode.now bytes)))
+      (λ bytes. of_lines (count_lines v (counted_owner c.args.number c.class_of-class.result c.args.inode.now.blocks)
+      (after_steps v s1 (steps_of v c.args.inode.now bytes))))
+      _ _ _ _ _
+      (class_said _ v c.args.number c.args.inode.now (claims_of c.args.workspace.now) s1 c.class_of-class.result _ _
+      (ap claims_of c.begin.ensures) c.class_of-class.ensures c.in_ok-say_class.ensures)
+      (λ bytes t. refl) c.in_err-claim.ensures.text);
+  claims = search rules;
+  left = let begun = ap (λ w. w.runs_seen) c.begin.ensures in
+      let claims = ap (λ w. used_bits (claims_of w)) c.begin.ensures in
+      let p = err_from_is_err_and c.from_residual-in_err-claim.result c.from_residual-in_err-claim.ensures.1 in
+      rw (p.1, p.2) (record {
+        image = c.in_err-claim.ensures.left.image;
+        moves = tt;
+        bound = omega (arith, begun, claims, c.claim.ensures.left.bound);
+        again = c.claim.ensures.left.found.again ∙ ap (λ w. w.runs_again) c.begin.ensures;
+        claim = c.claim.ensures.left.claim;
+      });
+}
 
-pub returns-then-matches-clause-left : goal.returns-then-matches-clause-left
-returns-then-matches-clause-left g c =
-    let begun = ap (λ w. w.runs_seen) c.begin.ensures in
-    let same = ap (λ w. w.runs_seen) c.store.ensures.rest in
-    let claims = ap (λ w. used_bits (claims_of w)) c.begin.ensures in
-    let used = ap (λ w. used_bits (claims_of w)) c.store.ensures.rest in
-    record {
-      image = refl;
-      moves = omega (arith, begun, same, claims, used);
-      bound = omega (
-        arith,
-        begun,
-        same,
-        used_below c.args.geometry.now.layout c.args.workspace.now
-            c.requires.ready.claim.ready.made,
-      );
-      again = ap (λ w. w.runs_again) c.store.ensures.rest ∙ ap (λ w. w.runs_again) c.begin.ensures;
-      claim = record {
-        ready = ready_stored c.args.geometry.now.layout (g.I.Image.device c.args.image.now) c.args.number _ _
-            c.begin.new.workspace c.store.new.workspace c.store.ensures.stored
-            c.store.ensures.rest
-            (ready_begun c.args.geometry.now.layout (g.I.Image.device c.args.image.now)
-            c.args.workspace.now c.begin.new.workspace c.begin.ensures c.requires.ready.claim.ready);
-        only_data = c.requires.ready.claim.only_data;
+pub returns-in_err-say_count-clause-claiming : goal.returns-in_err-say_count-clause-claiming
+returns-in_err-say_count-clause-claiming g c = record {
+  text = let p = err_from_is_err_and c.from_residual-in_err-say_count.result c.from_residual-in_err-say_count.ensures.1 in
+      let v = c.args.geometry.now.layout in
+      let s1 = claims_of c.begin.new.workspace in
+      rw (p.1, p.2) (of_stops _ _ (λ bytes. []) _
+      (of_lines (count_lines v (counted_owner c.args.number c.class_of-class.result c.args.inode.now.blocks)
+      (claims_of c.claim.new.workspace))) _ _ _
+      (of_part _ _ (λ bytes. of_lines (lines_of_steps v c.args.number s1 (steps_of v c.args.inode.now bytes)))
+      (λ bytes. of_lines (count_lines v (counted_owner c.args.number c.class_of-class.result c.args.inode.now.blocks)
+      (after_steps v s1 (steps_of v c.args.inode.now bytes)))) _ _ _ _
+      (class_said _ v c.args.number c.args.inode.now (claims_of c.args.workspace.now) s1 c.class_of-class.result _ _
+      (ap claims_of c.begin.ensures) c.class_of-class.ensures c.in_ok-say_class.ensures)
+      (λ bytes t. refl) c.in_ok-claim.ensures.text)
+      (count_right _ v c.args.number c.args.inode.now s1 (claims_of c.claim.new.workspace) c.class_of-class.result
+      c.in_ok-claim.ensures.claims)
+      c.in_err-say_count.ensures);
+  claims = search rules;
+  left = let begun = ap (λ w. w.runs_seen) c.begin.ensures in
+      let claims = ap (λ w. used_bits (claims_of w)) c.begin.ensures in
+      let p = err_from_is_err_and c.from_residual-in_err-say_count.result c.from_residual-in_err-say_count.ensures.1 in
+      rw (p.1, p.2) (record {
+        image = c.in_ok-claim.ensures.left.image;
+        moves = tt;
+        bound = omega (arith, begun, claims, c.claim.ensures.left.bound);
+        again = c.claim.ensures.left.found.again ∙ ap (λ w. w.runs_again) c.begin.ensures;
+        claim = c.claim.ensures.left.claim;
+      });
+}
+
+pub returns-clause-claiming : goal.returns-clause-claiming
+returns-clause-claiming g c = record {
+  text = let v = c.args.geometry.now.layout in
+      let s1 = claims_of c.begin.new.workspace in
+      of_says _ _ (λ bytes. []) _
+      (of_lines (count_lines v (counted_owner c.args.number c.class_of-class.result c.args.inode.now.blocks)
+      (claims_of c.claim.new.workspace))) _ _ _
+      (of_part _ _ (λ bytes. of_lines (lines_of_steps v c.args.number s1 (steps_of v c.args.inode.now bytes)))
+      (λ bytes. of_lines (count_lines v (counted_owner c.args.number c.class_of-class.result c.args.inode.now.blocks)
+      (after_steps v s1 (steps_of v c.args.inode.now bytes)))) _ _ _ _
+      (class_said _ v c.args.number c.args.inode.now (claims_of c.args.workspace.now) s1 c.class_of-class.result _ _
+      (ap claims_of c.begin.ensures) c.class_of-class.ensures c.in_ok-say_class.ensures)
+      (λ bytes t. refl) c.in_ok-claim.ensures.text)
+      (count_right _ v c.args.number c.args.inode.now s1 (claims_of c.claim.new.workspace) c.class_of-class.result
+      c.in_ok-claim.ensures.claims)
+      c.in_ok-say_count.ensures;
+  claims = λ bytes t.
+      ap claims_of c.store-2.ensures.rest ∙ c.in_ok-claim.ensures.claims bytes t
+      ∙ ap (λ (s : Claims). after_steps c.args.geometry.now.layout s
+      (steps_of c.args.geometry.now.layout c.args.inode.now bytes)) (ap claims_of c.begin.ensures);
+  left = let begun = ap (λ w. w.runs_seen) c.begin.ensures in
+      let claims = ap (λ w. used_bits (claims_of w)) c.begin.ensures in
+      let stored = ap (λ w. w.runs_seen) c.store-2.ensures.rest in
+      let bad = ap (λ w. w.bad) c.begin.ensures in
+      let dups = ap (λ w. w.dups) c.begin.ensures in
+      let m = c.in_ok-claim.ensures.left.moves in
+      let used = ap (λ w. used_bits (claims_of w)) c.store-2.ensures.rest in
+      record {
+        image = c.in_ok-claim.ensures.left.image;
+        moves = omega (arith, begun, claims, stored, used, m.weighs, m.bad_cap, m.dups_cap, bad, dups);
+        bound = omega (arith, begun, claims, stored, c.claim.ensures.left.bound);
+        again = ap (λ w. w.runs_again) c.store-2.ensures.rest ∙ c.claim.ensures.left.found.again
+            ∙ ap (λ w. w.runs_again) c.begin.ensures;
+        claim = record {
+          ready = ready_stored c.args.geometry.now.layout (g.I.Image.device c.claim.new.image) c.args.number _ _
+              c.claim.new.workspace c.store-2.new.workspace c.store-2.ensures.stored c.store-2.ensures.rest
+              c.claim.ensures.left.claim.ready;
+          only_data = c.claim.ensures.left.claim.only_data;
+        };
       };
-    }
+}
+
+pub returns-then-matches-clause-claiming : goal.returns-then-matches-clause-claiming
+returns-then-matches-clause-claiming g c = record {
+  text = let v = c.args.geometry.now.layout in
+      let is_free : c.class_of-class.result ≡ Free = elim c.match-matches.branch [
+        | in-Free w ↦ w.in-Free.is
+        | in_default w ↦ cc
+      ] in
+      of_same _ _ _ _ _ _
+      (of_begins _ (λ bytes. of_lines (owner_lines v (claims_of c.args.workspace.now)
+      (owner_with v bytes c.args.number c.args.inode.now))) _)
+      (λ bytes t. ap of_lines (free_silent v c.args.number c.args.inode.now (claims_of c.args.workspace.now) bytes
+      (sym c.class_of-class.ensures ∙ is_free)));
+  claims = let v = c.args.geometry.now.layout in
+      let is_free : c.class_of-class.result ≡ Free = elim c.match-matches.branch [
+        | in-Free w ↦ w.in-Free.is
+        | in_default w ↦ cc
+      ] in
+      λ bytes t. ap claims_of c.store.ensures.rest ∙ ap claims_of c.begin.ensures
+      ∙ sym (free_claims v c.args.number c.args.inode.now (claims_of c.args.workspace.now) bytes
+      (sym c.class_of-class.ensures ∙ is_free));
+  left = let begun = ap (λ w. w.runs_seen) c.begin.ensures in
+      let same = ap (λ w. w.runs_seen) c.store.ensures.rest in
+      let claims = ap (λ w. used_bits (claims_of w)) c.begin.ensures in
+      let used = ap (λ w. used_bits (claims_of w)) c.store.ensures.rest in
+      record {
+        image = refl;
+        moves = omega (arith, begun, same, claims, used);
+        bound = omega (
+          arith,
+          begun,
+          same,
+          used_below c.args.geometry.now.layout c.args.workspace.now
+              c.requires.ready.claim.ready.made,
+        );
+        again = ap (λ w. w.runs_again) c.store.ensures.rest ∙ ap (λ w. w.runs_again) c.begin.ensures;
+        claim = record {
+          ready = ready_stored c.args.geometry.now.layout (g.I.Image.device c.args.image.now) c.args.number _ _
+              c.begin.new.workspace c.store.new.workspace c.store.ensures.stored
+              c.store.ensures.rest
+              (ready_begun c.args.geometry.now.layout (g.I.Image.device c.args.image.now)
+              c.args.workspace.now c.begin.new.workspace c.begin.ensures c.requires.ready.claim.ready);
+          only_data = c.requires.ready.claim.only_data;
+        };
+      };
+}

@@ -96,20 +96,20 @@ returns-in_err-claim_inode-clause-prints g c =
     let n = c.loop-number.number in
     rw (p.1, p.2) (record {
       image = image_from {T = Unit {0}} _ _ (g.I.Image.device c.claim_inode.new.image)
-          (Err c.in_err-claim_inode.field-0.0) inv.device c.in_err-claim_inode.ensures.left.image;
+          (Err c.in_err-claim_inode.field-0.0) inv.device c.in_err-claim_inode.ensures.claiming.left.image;
       text = of_fault (Unit {0}) (Unit {0}) _ (λ bytes. of_lines (lines_of_owners v s (owners_from v bytes n)))
           (λ bytes. of_lines (owner_lines v s (owner_of v bytes n)))
           (λ bytes. of_lines (lines_of_owners v (after_owner v s (owner_of v bytes n)) (owners_from v bytes (n + 1))))
           _ _ _ _ c.in_err-claim_inode.field-0.0
           inv.said (λ bytes t. lines_next v bytes s (after_owner v s (owner_of v bytes n)) n (omega arith) refl)
           (reports_knowing (Unit {0}) _ _ _ _ _ (Err c.in_err-claim_inode.field-0.0)
-          (λ bytes k. ap (λ d. d.contents) inv.device ∙ k.0) c.in_err-claim_inode.ensures.text);
+          (λ bytes k. ap (λ d. d.contents) inv.device ∙ k.0) c.in_err-claim_inode.ensures.claiming.text);
     })
 
 pub returns-in_err-claim_inode-clause-runs : goal.returns-in_err-claim_inode-clause-runs
 returns-in_err-claim_inode-clause-runs g c =
     let inv = c.loop-number.invariant in
-    omega (arith, inv.runs, inv.low, c.claim_inode.ensures.left.bound, c.loop-number-test.true)
+    omega (arith, inv.runs, inv.low, c.claim_inode.ensures.claiming.left.bound, c.loop-number-test.true)
 
 pub loop-number-preserved : goal.loop-number-preserved
 loop-number-preserved g c =
@@ -121,15 +121,15 @@ loop-number-preserved g c =
     let contents = ap (λ d. d.contents) inv.device in
     let lt : n < inodes_of v = omega arith in
     let inside = is_inside v n inv.low lt in
-    let now = c.in_ok-claim_inode.ensures.claims in
+    let now = c.in_ok-claim_inode.ensures.claiming.claims in
     let stored = c.in_ok-claim_inode.ensures.stored in
     record {
-      ready = c.claim_inode.ensures.left.claim;
-      device = c.in_ok-claim_inode.ensures.left.image ∙ inv.device;
+      ready = c.claim_inode.ensures.claiming.left.claim;
+      device = c.in_ok-claim_inode.ensures.claiming.left.image ∙ inv.device;
       low = omega arith;
       high = λ h. omega arith;
-      runs = omega (arith, inv.runs, inv.low, c.in_ok-claim_inode.ensures.left.moves);
-      again = c.claim_inode.ensures.left.again ∙ inv.again;
+      runs = omega (arith, inv.runs, inv.low, c.in_ok-claim_inode.ensures.claiming.left.moves);
+      again = c.claim_inode.ensures.claiming.left.again ∙ inv.again;
       claims = λ bytes k. now bytes (contents ∙ k.0)
           ∙ ap (λ (t : Claims). after_owner v t (owner_of v bytes n)) (inv.claims bytes k)
           ∙ sym (before_next v bytes n inv.low);
@@ -157,7 +157,7 @@ loop-number-preserved g c =
           (λ bytes. of_lines (lines_of_owners v (after_owner v s (owner_of v bytes n)) (owners_from v bytes (n + 1)))) _
           _ _ _ inv.said
           (λ bytes k. lines_next v bytes s (after_owner v s (owner_of v bytes n)) n lt refl)
-          (said_knows _ _ _ _ _ _ (λ bytes k. contents ∙ k.0) c.in_ok-claim_inode.ensures.text))
+          (said_knows _ _ _ _ _ _ (λ bytes k. contents ∙ k.0) c.in_ok-claim_inode.ensures.claiming.text))
           (λ bytes k. ap (λ (t : Claims). of_lines (lines_of_owners v t (owners_from v bytes (n + 1))))
           (sym (now bytes (contents ∙ k.0))));
     }

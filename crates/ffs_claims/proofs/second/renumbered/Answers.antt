@@ -1,4 +1,4 @@
-use Rattle.std.proofs.Common.{◌≡◌, arith, ap, ◌∙◌, List, ℕ}
+use Rattle.std.proofs.Common.{rules, ◌≡◌, arith, ap, ◌∙◌, List, ℕ}
 use Rattle.std.specs.Prelude.{slice_index}
 use Rattle.std.proofs.lemmas.Result.{err_from_is_err_and}
 use Rattle.ffs_volume.specs.declared.Inode.{Inode}
@@ -16,97 +16,12 @@ use Rattle.ffs_claims.proofs.Rewalks.{rewalked_from}
 use Rattle.ffs_claims.specs.SecondLook.{Rewalked}
 use Rattle.ffs_claims.proofs.second.renumbered.Goals as goal
 
-pub returns-in_err-inode-clause-text : goal.returns-in_err-inode-clause-text
-returns-in_err-inode-clause-text g c =
-    let p = err_from_is_err_and c.from_residual.result c.from_residual.ensures.1 in
-    rw (p.1, p.2) (of_reads _ _ _ _ _
-    (of_begins _ (λ bytes. of_lines
-    (first_offer_lines (bits_of c.args.workspace.now.duplicates)
-    (offers_again c.args.geometry.now.layout c.args.number
-    (rescan (slice_index c.args.workspace.now.cut.items c.args.number))
-    (steps_of c.args.geometry.now.layout (inode_of c.args.geometry.now.layout bytes c.args.number) bytes)))) _))
-
-pub returns-in_err-inode-clause-runs : goal.returns-in_err-inode-clause-runs
-returns-in_err-inode-clause-runs g c = λ bytes t. omega arith
-
-pub returns-clause-text : goal.returns-clause-text
-returns-clause-text g c =
-    let v = c.args.geometry.now.layout in
-    let n = c.args.number in
-    let d = bits_of c.args.workspace.now.duplicates in
-    reports_same (Unit {0}) _
-    (λ bytes. of_lines (first_offer_lines d
-    (offers_again v n (rescan (slice_index c.as_slice.result.now c.args.number))
-    (steps_of v c.in_ok-inode.inode bytes))))
-    (λ bytes. of_lines (first_offer_lines d
-    (offers_again v n (rescan (slice_index c.args.workspace.now.cut.items n))
-    (steps_of v (inode_of v bytes n) bytes)))) _ _ c.rewalk.result
-    (λ bytes t. ap (λ (k : ℕ). of_lines
-    (first_offer_lines d (offers_again v n (rescan k) (steps_of v c.in_ok-inode.inode bytes))))
-    (ap (λ (cuts : List ℕ). slice_index cuts c.args.number) c.as_slice.ensures.value)
-    ∙ ap (λ (i : Inode). of_lines
-    (first_offer_lines d (offers_again v n (rescan (slice_index c.args.workspace.now.cut.items n))
-    (steps_of v i bytes)))) (c.in_ok-inode.ensures.inode bytes t))
-    (reports_knowing (Unit {0}) _ _ _ _ _ c.rewalk.result
-    (λ bytes t. ap (λ d. d.contents) c.in_ok-inode.ensures.read ∙ t)
-    c.rewalk.ensures.text)
-
-pub returns-clause-rewalked : goal.returns-clause-rewalked
-returns-clause-rewalked g c =
-    let v = c.args.geometry.now.layout in
-    let n = c.args.number in
-    let w = c.args.workspace.now in
-    let i = c.in_ok-inode.inode in
-    let cut : slice_index c.as_slice.result.now c.args.number ≡ slice_index c.args.workspace.now.cut.items
-    c.args.number = ap (λ (cuts : List ℕ). slice_index cuts c.args.number) c.as_slice.ensures.value in
-    ok_where c.rewalk.result _ _
-    (λ bytes. Rewalked v n (slice_index c.as_slice.result.now n) (steps_of v c.in_ok-inode.inode bytes)
-    (record c.args.workspace.now { windows = record c.args.workspace.now.windows { table = c.inode.new.self } })
-    c.rewalk.new.workspace)
-    (λ bytes. Rewalked v n (slice_index c.args.workspace.now.cut.items n) (steps_of v (inode_of v bytes n) bytes)
-    c.args.workspace.now c.rewalk.new.workspace)
-    (ap (λ d. d.contents) c.in_ok-inode.ensures.read)
-    (λ bytes t h. rewalked_from _ _ _ _ c.args.workspace.now _ _ (rw (cut, c.in_ok-inode.ensures.inode bytes t) at h))
-    c.rewalk.ensures.rewalked
-
-pub returns-clause-runs : goal.returns-clause-runs
-returns-clause-runs g c = λ bytes t.
-    let v = c.args.geometry.now.layout in
-    let n = c.args.number in
-    let same : runs_again v (rescan (slice_index c.as_slice.result.now c.args.number))
-    (steps_of v c.in_ok-inode.inode bytes) ≡ runs_again v (rescan (slice_index c.args.workspace.now.cut.items n))
-    (steps_of v (inode_of v bytes n) bytes) =
-    ap (λ (k : ℕ). runs_again v (rescan k) (steps_of v c.in_ok-inode.inode bytes))
-    (ap (λ (cuts : List ℕ). slice_index cuts c.args.number) c.as_slice.ensures.value)
-    ∙ ap (λ (i : Inode). runs_again v (rescan (slice_index c.args.workspace.now.cut.items n)) (steps_of v i bytes))
-    (c.in_ok-inode.ensures.inode bytes t) in
-    omega (arith, c.rewalk.ensures.runs bytes (ap (λ d. d.contents) c.in_ok-inode.ensures.read ∙ t), same)
-
 pub inode-requires : goal.inode-requires
 inode-requires g c =
     let ready = c.requires.can.ready in
     record {
       number = c.requires.can.number_fits;
       ready = record { volume = ready.volume; made = ready.made.table; holds = ready.windows.table };
-    }
-
-pub returns-in_err-inode-clause-left : goal.returns-in_err-inode-clause-left
-returns-in_err-inode-clause-left g c =
-    let err = c.in_err-inode.ensures.read in
-    let p = err_from_is_err_and c.from_residual.result c.from_residual.ensures.1 in
-    rw (p.1, p.2) (record {
-      image = err;
-      ready = ready_table c.args.geometry.now.layout (g.I.Image.device c.args.image.now) _ c.args.workspace.now
-          c.inode.new.self err.contents err.size c.inode.ensures.kept c.requires.can.ready;
-      claims = claims_still _ _ _ (claims_none c.args.workspace.now);
-    })
-
-pub returns-clause-left : goal.returns-clause-left
-returns-clause-left g c =
-    record {
-      image = rw (c.in_ok-inode.ensures.read) at c.rewalk.ensures.left.image;
-      ready = c.rewalk.ensures.left.ready;
-      claims = claims_then _ _ _ (claims_still _ _ _ (claims_none c.args.workspace.now)) c.rewalk.ensures.left.claims;
     }
 
 pub rewalk-requires : goal.rewalk-requires
@@ -121,3 +36,78 @@ rewalk-requires g c =
         pending = c.requires.can.pending;
       };
     }
+
+pub returns-in_err-inode : goal.returns-in_err-inode
+returns-in_err-inode g c = record {
+  text = let p = err_from_is_err_and c.from_residual.result c.from_residual.ensures.1 in
+      rw (p.1, p.2) (of_reads _ _ _ _ _
+      (of_begins _ (λ bytes. of_lines
+      (first_offer_lines (bits_of c.args.workspace.now.duplicates)
+      (offers_again c.args.geometry.now.layout c.args.number
+      (rescan (slice_index c.args.workspace.now.cut.items c.args.number))
+      (steps_of c.args.geometry.now.layout (inode_of c.args.geometry.now.layout bytes c.args.number) bytes)))) _));
+  rewalked = search rules;
+  runs = λ bytes t. omega arith;
+  left = let err = c.in_err-inode.ensures.read in
+      let p = err_from_is_err_and c.from_residual.result c.from_residual.ensures.1 in
+      rw (p.1, p.2) (record {
+        image = err;
+        ready = ready_table c.args.geometry.now.layout (g.I.Image.device c.args.image.now) _ c.args.workspace.now
+            c.inode.new.self err.contents err.size c.inode.ensures.kept c.requires.can.ready;
+        claims = claims_still _ _ _ (claims_none c.args.workspace.now);
+      });
+}
+
+pub returns : goal.returns
+returns g c = record {
+  text = let v = c.args.geometry.now.layout in
+      let n = c.args.number in
+      let d = bits_of c.args.workspace.now.duplicates in
+      reports_same (Unit {0}) _
+      (λ bytes. of_lines (first_offer_lines d
+      (offers_again v n (rescan (slice_index c.as_slice.result.now c.args.number))
+      (steps_of v c.in_ok-inode.inode bytes))))
+      (λ bytes. of_lines (first_offer_lines d
+      (offers_again v n (rescan (slice_index c.args.workspace.now.cut.items n))
+      (steps_of v (inode_of v bytes n) bytes)))) _ _ c.rewalk.result
+      (λ bytes t. ap (λ (k : ℕ). of_lines
+      (first_offer_lines d (offers_again v n (rescan k) (steps_of v c.in_ok-inode.inode bytes))))
+      (ap (λ (cuts : List ℕ). slice_index cuts c.args.number) c.as_slice.ensures.value)
+      ∙ ap (λ (i : Inode). of_lines
+      (first_offer_lines d (offers_again v n (rescan (slice_index c.args.workspace.now.cut.items n))
+      (steps_of v i bytes)))) (c.in_ok-inode.ensures.inode bytes t))
+      (reports_knowing (Unit {0}) _ _ _ _ _ c.rewalk.result
+      (λ bytes t. ap (λ d. d.contents) c.in_ok-inode.ensures.read ∙ t)
+      c.rewalk.ensures.text);
+  rewalked = let v = c.args.geometry.now.layout in
+      let n = c.args.number in
+      let w = c.args.workspace.now in
+      let i = c.in_ok-inode.inode in
+      let cut : slice_index c.as_slice.result.now c.args.number ≡ slice_index c.args.workspace.now.cut.items
+      c.args.number = ap (λ (cuts : List ℕ). slice_index cuts c.args.number) c.as_slice.ensures.value in
+      ok_where c.rewalk.result _ _
+      (λ bytes. Rewalked v n (slice_index c.as_slice.result.now n) (steps_of v c.in_ok-inode.inode bytes)
+      (record c.args.workspace.now { windows = record c.args.workspace.now.windows { table = c.inode.new.self } })
+      c.rewalk.new.workspace)
+      (λ bytes. Rewalked v n (slice_index c.args.workspace.now.cut.items n) (steps_of v (inode_of v bytes n) bytes)
+      c.args.workspace.now c.rewalk.new.workspace)
+      (ap (λ d. d.contents) c.in_ok-inode.ensures.read)
+      (λ bytes t h. rewalked_from _ _ _ _ c.args.workspace.now _ _ (rw (cut, c.in_ok-inode.ensures.inode bytes t) at h))
+      c.rewalk.ensures.rewalked;
+  runs = λ bytes t.
+      let v = c.args.geometry.now.layout in
+      let n = c.args.number in
+      let same : runs_again v (rescan (slice_index c.as_slice.result.now c.args.number))
+      (steps_of v c.in_ok-inode.inode bytes) ≡ runs_again v (rescan (slice_index c.args.workspace.now.cut.items n))
+      (steps_of v (inode_of v bytes n) bytes) =
+      ap (λ (k : ℕ). runs_again v (rescan k) (steps_of v c.in_ok-inode.inode bytes))
+      (ap (λ (cuts : List ℕ). slice_index cuts c.args.number) c.as_slice.ensures.value)
+      ∙ ap (λ (i : Inode). runs_again v (rescan (slice_index c.args.workspace.now.cut.items n)) (steps_of v i bytes))
+      (c.in_ok-inode.ensures.inode bytes t) in
+      omega (arith, c.rewalk.ensures.runs bytes (ap (λ d. d.contents) c.in_ok-inode.ensures.read ∙ t), same);
+  left = record {
+    image = rw (c.in_ok-inode.ensures.read) at c.rewalk.ensures.left.image;
+    ready = c.rewalk.ensures.left.ready;
+    claims = claims_then _ _ _ (claims_still _ _ _ (claims_none c.args.workspace.now)) c.rewalk.ensures.left.claims;
+  };
+}

@@ -57,7 +57,7 @@ pub returns-in_err-next : goal.returns-in_err-next
 returns-in_err-next g c =
     let p = err_from_is_err_and c.from_residual.result c.from_residual.ensures.1 in
     let inv = c.loop-next.invariant in
-    let err = c.in_err-next.ensures.read in
+    let err = c.in_err-next.ensures.leaves.read in
     rw (p.1, p.2) (record {
       text = of_reads _ _ _ _ _ inv.said;
       rewalked = tt;
@@ -66,7 +66,7 @@ returns-in_err-next g c =
         image = rw inv.device at err;
         ready = ready_read c.args.geometry.now.layout _ (g.I.Image.device c.next.new.image)
             c.loop-next.workspace c.next.new.blocks
-            err.contents err.size c.next.ensures.kept.size (rw inv.geometry at c.next.ensures.kept.holds) inv.ready;
+            err.contents err.size c.next.ensures.leaves.kept.size (rw inv.geometry at c.next.ensures.leaves.kept.holds) inv.ready;
         claims = claims_still _ _ _ inv.claims;
       };
     })
@@ -75,7 +75,7 @@ pub report_again-requires-clause-can : goal.report_again-requires-clause-can
 report_again-requires-clause-can g c =
     let inv = c.loop-next.invariant in
     let read = ready_walked c.args.geometry.now _ _ _ c.loop-next.workspace c.next.new.blocks inv.geometry
-    c.in_ok-next.ensures.read c.next.ensures.kept.size c.next.ensures.kept.holds inv.ready in
+    c.in_ok-next.ensures.leaves.read c.next.ensures.leaves.kept.size c.next.ensures.leaves.kept.holds inv.ready in
     record { made = read.made; number_fits = c.requires.can.number_fits }
 
 pub returns-in_err-report_again : goal.returns-in_err-report_again
@@ -88,10 +88,10 @@ returns-in_err-report_again g c =
     let d = bits_of c.loop-next.workspace.duplicates in
     let r = c.loop-next.rescan in
     let step = c.in-Some.next in
-    let ok = c.in_ok-next.ensures.read in
-    let next = rw (inv.device, c.in-Some.is) at c.in_ok-next.ensures.steps in
+    let ok = c.in_ok-next.ensures.leaves.read in
+    let next = rw (inv.device, c.in-Some.is) at c.in_ok-next.ensures.step.steps in
     let read = ready_walked c.args.geometry.now _ _ _ c.loop-next.workspace c.next.new.blocks inv.geometry ok
-    c.next.ensures.kept.size c.next.ensures.kept.holds inv.ready in
+    c.next.ensures.leaves.kept.size c.next.ensures.leaves.kept.holds inv.ready in
     let only = c.report_again.ensures.only in
     rw (p.1, p.2) (record {
       text = of_stops _ _ (λ bytes. of_lines (first_offer_lines (after_first d (step_offers_again v n r step))
@@ -129,12 +129,12 @@ loop-next-preserved-then-matches g c =
     let d = bits_of c.loop-next.workspace.duplicates in
     let d' = bits_of c.report_again.new.workspace.duplicates in
     let r' = c.report_again.new.rescan in
-    let ok = c.in_ok-next.ensures.read in
+    let ok = c.in_ok-next.ensures.leaves.read in
     let now = c.in_ok-report_again.ensures.reported.next in
     let only = c.report_again.ensures.only in
-    let next = rw (inv.device, c.in-Some.is) at c.in_ok-next.ensures.steps in
+    let next = rw (inv.device, c.in-Some.is) at c.in_ok-next.ensures.step.steps in
     let read = ready_walked c.args.geometry.now _ _ _ c.loop-next.workspace c.next.new.blocks inv.geometry ok
-    c.next.ensures.kept.size c.next.ensures.kept.holds inv.ready in
+    c.next.ensures.leaves.kept.size c.next.ensures.leaves.kept.holds inv.ready in
     let ready = ready_still v _ _ _ only.made only.windows read in
     let gaps : ForBytes (IsContents (g.I.Image.device c.args.image.now).contents)
     (λ bytes. rest bytes c.next.new.self ≡ replicate c.skip_gaps.result Gap ++ rest bytes c.skip_gaps.new.self) =
@@ -172,12 +172,12 @@ loop-next-preserved g c =
     let d = bits_of c.loop-next.workspace.duplicates in
     let d' = bits_of c.report_again.new.workspace.duplicates in
     let r' = c.report_again.new.rescan in
-    let ok = c.in_ok-next.ensures.read in
+    let ok = c.in_ok-next.ensures.leaves.read in
     let now = c.in_ok-report_again.ensures.reported.next in
     let only = c.report_again.ensures.only in
-    let next = rw (inv.device, c.in-Some.is) at c.in_ok-next.ensures.steps in
+    let next = rw (inv.device, c.in-Some.is) at c.in_ok-next.ensures.step.steps in
     let read = ready_walked c.args.geometry.now _ _ _ c.loop-next.workspace c.next.new.blocks inv.geometry ok
-    c.next.ensures.kept.size c.next.ensures.kept.holds inv.ready in
+    c.next.ensures.leaves.kept.size c.next.ensures.leaves.kept.holds inv.ready in
     let ready = ready_still v _ _ _ only.made only.windows read in
     record {
       ready = ready;
@@ -207,13 +207,13 @@ returns-then-not-is_going g c =
     let d = bits_of c.loop-next.workspace.duplicates in
     let d' = bits_of c.report_again.new.workspace.duplicates in
     let r' = c.report_again.new.rescan in
-    let ok = c.in_ok-next.ensures.read in
+    let ok = c.in_ok-next.ensures.leaves.read in
     let now = c.in_ok-report_again.ensures.reported.next in
     let only = c.report_again.ensures.only in
     let cut = sym c.is_going.ensures ∙ c.if-not-is_going.true in
-    let next = rw (inv.device, c.in-Some.is) at c.in_ok-next.ensures.steps in
+    let next = rw (inv.device, c.in-Some.is) at c.in_ok-next.ensures.step.steps in
     let read = ready_walked c.args.geometry.now _ _ _ c.loop-next.workspace c.next.new.blocks inv.geometry ok
-    c.next.ensures.kept.size c.next.ensures.kept.holds inv.ready in
+    c.next.ensures.leaves.kept.size c.next.ensures.leaves.kept.holds inv.ready in
     let walk : ForBytes (IsContents (g.I.Image.device c.args.image.now).contents) (λ bytes.
     Rewalking v n c.args.cut (steps_of v c.args.inode.now bytes) c.report_again.new.rescan (rest bytes c.next.new.self)
     c.args.workspace.now c.report_again.new.workspace) =
@@ -248,14 +248,14 @@ returns-then-workspace-eq0 g c =
     let d = bits_of c.loop-next.workspace.duplicates in
     let d' = bits_of c.report_again.new.workspace.duplicates in
     let r' = c.report_again.new.rescan in
-    let ok = c.in_ok-next.ensures.read in
+    let ok = c.in_ok-next.ensures.leaves.read in
     let now = c.in_ok-report_again.ensures.reported.next in
     let only = c.report_again.ensures.only in
     let none : set_count (bits_of c.report_again.new.workspace.duplicates) ≡ 0 = sym only.made.unreported
     ∙ c.if-workspace-eq0.true in
-    let next = rw (inv.device, c.in-Some.is) at c.in_ok-next.ensures.steps in
+    let next = rw (inv.device, c.in-Some.is) at c.in_ok-next.ensures.step.steps in
     let read = ready_walked c.args.geometry.now _ _ _ c.loop-next.workspace c.next.new.blocks inv.geometry ok
-    c.next.ensures.kept.size c.next.ensures.kept.holds inv.ready in
+    c.next.ensures.leaves.kept.size c.next.ensures.leaves.kept.holds inv.ready in
     let walk : ForBytes (IsContents (g.I.Image.device c.args.image.now).contents) (λ bytes.
     Rewalking v n c.args.cut (steps_of v c.args.inode.now bytes) c.report_again.new.rescan (rest bytes c.next.new.self)
     c.args.workspace.now c.report_again.new.workspace) =
@@ -287,8 +287,8 @@ returns-in_default g c =
     let n = c.args.number in
     let d = bits_of c.loop-next.workspace.duplicates in
     let r = c.loop-next.rescan in
-    let ok = c.in_ok-next.ensures.read in
-    let over = rw (inv.device, c.in_default.is) at c.in_ok-next.ensures.steps in
+    let ok = c.in_ok-next.ensures.leaves.read in
+    let over = rw (inv.device, c.in_default.is) at c.in_ok-next.ensures.step.steps in
     let none : ForBytes (IsContents (g.I.Image.device c.args.image.now).contents)
     (λ bytes. offers_again v n c.loop-next.rescan (rest bytes c.loop-next.walk) ≡ []) =
     λ bytes t. offers_none v n r (rest bytes c.loop-next.walk) (over bytes t) in
@@ -302,7 +302,7 @@ returns-in_default g c =
       left = record {
         image = ok ∙ inv.device;
         ready = ready_walked c.args.geometry.now _ _ _ c.loop-next.workspace c.next.new.blocks inv.geometry ok
-            c.next.ensures.kept.size c.next.ensures.kept.holds inv.ready;
+            c.next.ensures.leaves.kept.size c.next.ensures.leaves.kept.holds inv.ready;
         claims = claims_still _ _ _ inv.claims;
       };
     }
