@@ -1,12 +1,17 @@
 -- What a walk leaves that has passed over gaps.
-use Rattle.std.specs.Prelude.{◌≡◌, ◌<◌, ℕ, Some, false}
+use Rattle.std.specs.Prelude.{◌≡◌, ◌+◌, ◌<◌, ◌≤◌, ◌++◌, ◌∷◌, [], ℕ, List, Option, Some, false, replicate}
+use Rattle.ffs_image.specs.Device.{ForContents}
 use Rattle.ffs_volume.specs.declared.Layout.{Layout}
+use Rattle.ffs_volume.specs.declared.Step.{Step}
+use Rattle.ffs_volume.specs.declared.Step.TheVariants.{Gap}
 use Rattle.ffs_volume.specs.Blocks.Steps.{address_in}
 use Rattle.ffs_walk.specs.declared.blocks.Blocks.{Blocks}
 use Rattle.ffs_walk.specs.declared.frame.Frame.{Frame}
 use Rattle.ffs_walk.specs.declared.walk.Walk.{Walk}
 use Rattle.ffs_walk.specs.Fits.{IsSpent}
-use Rattle.ffs_walk.specs.Windows.{held_address, level_bytes}
+use Rattle.ffs_walk.specs.Windows.{BlocksHold, held_address, level_bytes}
+use Rattle.ffs_walk.specs.Frames.{IsSameBlock, frame_left, frame_rest}
+use Rattle.ffs_walk.specs.Rests.{SameExtent, left, rest}
 
 -- the next word in the block of a frame isn't zero, where the block is held for the level and was read before
 abbrev pub HasNoGapNext : Layout → ℕ → Blocks → Frame → Type 0
@@ -19,3 +24,21 @@ pub record HasPassedGaps (old new : Walk) (blocks : Blocks) : Type 0 where
   pub double : IsSpent old.single → old.double.next < old.double.used
       → HasNoGapNext old.geometry.layout 1 blocks new.double
   pub triple : IsSpent old.single → IsSpent old.double → HasNoGapNext old.geometry.layout 2 blocks new.triple
+
+-- a frame passes over so many words of zero, which mean as many gaps at every level, and none follows that is known
+pub record PassesZeros (v : Layout) (level : ℕ) (blocks : Blocks) (old new : Frame) (gaps : ℕ) : Type 0 where
+  pub steps : (contents : Option (List ℕ)) → BlocksHold v contents blocks → ForContents contents (λ bytes.
+      (child : ℕ → ℕ → List Step) (span : ℕ) → ((block : ℕ) → child 0 block ≡ Gap ∷ []) →
+      frame_rest v bytes child span old ≡ replicate gaps Gap ++ frame_rest v bytes child span new)
+  pub falls : (most : ℕ) → frame_left most new ≤ frame_left most old
+  pub next : new.next ≡ old.next + gaps
+  pub passed : HasNoGapNext v level blocks new
+  pub same : IsSameBlock old new × (new.fresh ≡ old.fresh)
+
+-- a walk passes over so many gaps, over all that come next in the innermost block that it was in
+pub record PassesGaps (blocks : Blocks) (old new : Walk) (gaps : ℕ) : Type 0 where
+  pub steps : (contents : Option (List ℕ)) → BlocksHold old.geometry.layout contents blocks →
+      ForContents contents (λ bytes. rest bytes old ≡ replicate gaps Gap ++ rest bytes new)
+  pub falls : left new ≤ left old
+  pub passed : HasPassedGaps old new blocks
+  pub same : SameExtent old new

@@ -1,5 +1,6 @@
 -- What is kept of an image between reads.
-use Rattle.std.specs.Prelude.{◌≡◌, ◌*◌, ◌<◌, ◌≤◌, ℕ, List, take, Option, Some, None, Result, OnOk, OnErr, vec_len, get_or}
+use Rattle.std.specs.Prelude.{◌≡◌, ◌*◌, ◌<◌, ◌≤◌, ℕ, List, take, Option, Some, None, vec_len, get_or}
+use Rattle.std.specs.Prelude.{Result, OnOk, OnErr}
 use Rattle.ffs_image.specs.Device.{Device, ForContents}
 use Rattle.ffs_image.specs.Reads.{ReadAfter}
 use Rattle.ffs_image.specs.declared.image.ImageFault.{ImageFault}

@@ -43,10 +43,10 @@ impl Blocks {
         requires in_range { IsTrue (is_run_in_range geometry.now.layout address
             geometry.now.layout.frag) }
         requires ready { CanWalk geometry.now.layout (I.device image.old) self.old }
-        ensures held { OnOk result (HoldsBlockAt geometry.now.layout (I.device image.old).contents level
-            address self.new) }
-        ensures leaves { BlocksAfter geometry.now.layout (I.device image.old) (I.device image.new)
-            self.old self.new result }
+        ensures held { OnOk result (HoldsBlockAt geometry.now.layout
+            (I.device image.old).contents level address self.new) }
+        ensures leaves { BlocksAfter geometry.now.layout (I.device image.old)
+            (I.device image.new) self.old self.new result }
     {
         if self.held[level] == Some(address) {
             return Ok(());

@@ -33,16 +33,11 @@ pub enum Item {
 }
 
 impl Frame {
-    ghost use Rattle.std.specs.Prelude.{MatchResult, Option, replicate};
-    ghost use Rattle.ffs_volume.specs.declared.Step.TheVariants.{Gap};
-    ghost use Rattle.ffs_image.specs.Device.{ForContents};
-    ghost use Rattle.ffs_image.specs.Reads.{ReadAfter};
-    ghost use Rattle.ffs_volume.specs.declared.Step.{Step};
     ghost use Rattle.ffs_walk.specs.Fits.{HasItem, IsSpent};
-    ghost use Rattle.ffs_walk.specs.Skips.{HasNoGapNext};
-    ghost use Rattle.ffs_walk.specs.Windows.{BlocksAfter, BlocksHold, CanWalk, HasRoom};
+    ghost use Rattle.ffs_walk.specs.Skips.{PassesZeros};
+    ghost use Rattle.ffs_walk.specs.Windows.{BlocksAfter, CanWalk, HasRoom};
     ghost use Rattle.ffs_walk.specs.declared.frame.Item.TheVariants.{Missing, Word};
-    ghost use Rattle.ffs_walk.specs.Frames.{frame_rest, frame_left, IsNextItem, IsSameBlock};
+    ghost use Rattle.ffs_walk.specs.Frames.{IsNextItem, IsSameBlock};
 
     /// A frame of no words.
     pub fn spent() -> Frame
@@ -79,11 +74,11 @@ impl Frame {
         requires item { HasItem geometry.now.layout span self.old }
         requires level { level < 3 }
         requires ready { CanWalk geometry.now.layout (I.device image.old) blocks.old }
-        ensures item { IfOk result (IsNextItem geometry.now.layout (I.device image.old).contents span
-            self.old self.new) }
+        ensures item { IfOk result (IsNextItem geometry.now.layout (I.device image.old).contents
+            span self.old self.new) }
         ensures same { IsSameBlock self.old self.new }
-        ensures leaves { BlocksAfter geometry.now.layout (I.device image.old) (I.device image.new)
-            blocks.old blocks.new result }
+        ensures leaves { BlocksAfter geometry.now.layout (I.device image.old)
+            (I.device image.new) blocks.old blocks.new result }
     {
         blocks.fill(geometry, level, self.address, image)?;
         let block = blocks.bytes(geometry, level);
@@ -106,15 +101,7 @@ impl Frame {
         requires words { self.old.used ≤ geometry.now.layout.nindir }
         requires level { level < 3 }
         requires room { HasRoom geometry.now.layout blocks.now }
-        ensures steps { (contents : Option (List ℕ))
-            → BlocksHold geometry.now.layout contents blocks.now → ForContents contents (λ bytes.
-            (child : ℕ → ℕ → List Step) (span : ℕ) → ((block : ℕ) → child 0 block ≡ Gap ∷ []) →
-            frame_rest geometry.now.layout bytes child span self.old ≡ replicate result Gap
-            ++ frame_rest geometry.now.layout bytes child span self.new) }
-        ensures falls { (most : ℕ) → frame_left most self.new ≤ frame_left most self.old }
-        ensures next { self.new.next ≡ self.old.next + result }
-        ensures passed { HasNoGapNext geometry.now.layout level blocks.now self.new }
-        ensures same { IsSameBlock self.old self.new × (self.new.fresh ≡ self.old.fresh) }
+        ensures { PassesZeros geometry.now.layout level blocks.now self.old self.new result }
     {
         if self.fresh || blocks.held[level] != Some(self.address) {
             return 0;

@@ -51,7 +51,7 @@ impl Walk {
     ghost use Rattle.ffs_volume.specs.declared.Step.TheVariants.{Gap};
     ghost use Rattle.ffs_walk.specs.Fits.{IsSpent, IsBelow, IsIndirect};
     ghost use Rattle.ffs_walk.specs.Lengths.{IsStepOf};
-    ghost use Rattle.ffs_walk.specs.Skips.{HasPassedGaps};
+    ghost use Rattle.ffs_walk.specs.Skips.{PassesGaps};
     ghost use Rattle.ffs_walk.specs.Frames.{frame_rest, frame_left, item_steps, item_left};
     ghost use Rattle.ffs_walk.specs.Rests.{rest, left, extent_of, Enters, IsAtTop, IsDataStep, IsFirstOf, IsNextStep, IsOver, IsWalkOf, SameExtent};
     ghost use Rattle.ffs_walk.specs.Windows.{BlocksAfter, BlocksHold, CanWalk, HasRoom};
@@ -226,8 +226,8 @@ impl Walk {
         ensures step { IfOk result (IsNextStep (I.device image.old).contents self.old self.new) }
         ensures over { IsOver self.old → (result ≡ Ok None) × (self.new ≡ self.old) }
         ensures same { SameExtent self.old self.new }
-        ensures leaves { BlocksAfter self.old.geometry.layout (I.device image.old) (I.device image.new)
-            blocks.old blocks.new result }
+        ensures leaves { BlocksAfter self.old.geometry.layout (I.device image.old)
+            (I.device image.new) blocks.old blocks.new result }
     {
         let words = u64::from(self.geometry.layout.nindir);
         if self.single.is_left() {
@@ -272,8 +272,8 @@ impl Walk {
         ensures over { IsOver self.old → result ≡ Ok None }
         ensures fault { OnErr result (IsOver self.new) }
         ensures same { SameExtent self.old self.new }
-        ensures leaves { BlocksAfter self.old.geometry.layout (I.device image.old) (I.device image.new)
-            blocks.old blocks.new result }
+        ensures leaves { BlocksAfter self.old.geometry.layout (I.device image.old)
+            (I.device image.new) blocks.old blocks.new result }
     {
         match self.advance(image, blocks) {
             Ok(step) => Ok(step),
@@ -288,13 +288,7 @@ impl Walk {
     #[inline(always)]
     pub fn skip_gaps(&mut self, blocks: &Blocks) -> u32
         requires room { HasRoom self.old.geometry.layout blocks.now }
-        ensures steps { (contents : Option (List ℕ))
-            → BlocksHold self.old.geometry.layout contents blocks.now
-            → ForContents contents (λ bytes.
-            rest bytes self.old ≡ replicate result Gap ++ rest bytes self.new) }
-        ensures falls { left self.new ≤ left self.old }
-        ensures passed { HasPassedGaps self.old self.new blocks.now }
-        ensures same { SameExtent self.old self.new }
+        ensures { PassesGaps blocks.now self.old self.new result }
     {
         if self.single.is_left() {
             return self.single.skip_gaps(&self.geometry, 0, blocks);

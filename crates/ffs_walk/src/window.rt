@@ -48,8 +48,8 @@ impl Window {
         requires room { length ≤ vec_len self.old.buffer }
         requires inside { place + length ≤ (I.device image.old).size }
         requires holds { WindowHolds (I.device image.old).contents self.old }
-        ensures { FillsWindow (I.device image.old) (I.device image.new) place length self.old self.new
-            result }
+        ensures { FillsWindow (I.device image.old) (I.device image.new) place length self.old
+            self.new result }
     {
         if self.is_at(place, length) {
             return Ok(());

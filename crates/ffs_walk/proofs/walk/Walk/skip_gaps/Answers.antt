@@ -1,4 +1,5 @@
-use Rattle.std.proofs.Common.{◌*◌, replicate}
+use Rattle.std.proofs.Common.{rules, arith, ◌*◌, replicate}
+use Rattle.std.proofs.lemmas.Grind.{common_steps}
 use Rattle.ffs_volume.specs.declared.Step.TheVariants.{Gap}
 use Rattle.ffs_volume.specs.Blocks.Steps.{steps_at}
 use Rattle.ffs_walk.specs.Rests.{extent_of}
@@ -6,29 +7,44 @@ use Rattle.ffs_walk.proofs.GapSteps.{in_first, in_second, in_third, zero_gap}
 use Rattle.ffs_walk.proofs.WalkSteps.{spent_rest}
 use Rattle.ffs_walk.proofs.walk.Walk.skip_gaps.Goals as goal
 
-pub returns-then-is_left-clause-steps : goal.returns-then-is_left-clause-steps
-returns-then-is_left-clause-steps c = λ reported holds bytes e.
-    let w = c.args.self.now in
-    in_first _ _ _ (replicate c.skip_gaps.result Gap)
-    (c.skip_gaps.ensures.steps reported holds bytes e (steps_at (extent_of w) bytes 0) 1
-    (zero_gap (extent_of w) bytes 0))
+pub returns-then-is_left : goal.returns-then-is_left
+returns-then-is_left c = record {
+  steps = λ reported holds bytes e.
+      let w = c.args.self.now in
+      in_first _ _ _ (replicate c.skip_gaps.result Gap)
+      (c.skip_gaps.ensures.steps reported holds bytes e (steps_at (extent_of w) bytes 0) 1
+      (zero_gap (extent_of w) bytes 0));
+  falls = grind (arith, common_steps);
+  passed = grind (arith, common_steps);
+  same = search rules;
+}
 
-pub returns-then-is_left-2-clause-steps : goal.returns-then-is_left-2-clause-steps
-returns-then-is_left-2-clause-steps c = λ reported holds bytes e.
-    let w = c.args.self.now in
-    let g = w.geometry.layout in
-    in_second _ _ _ _ (replicate c.skip_gaps-then-is_left-2.result Gap)
-    (spent_rest g bytes (steps_at (extent_of w) bytes 0) 1 w.single (c.is_left.ensures.spent c.if-is_left.false))
-    (c.skip_gaps-then-is_left-2.ensures.steps reported holds bytes e (steps_at (extent_of w) bytes 1) g.nindir
-    (zero_gap (extent_of w) bytes 1))
+pub returns-then-is_left-2 : goal.returns-then-is_left-2
+returns-then-is_left-2 c = record {
+  steps = λ reported holds bytes e.
+      let w = c.args.self.now in
+      let g = w.geometry.layout in
+      in_second _ _ _ _ (replicate c.skip_gaps-then-is_left-2.result Gap)
+      (spent_rest g bytes (steps_at (extent_of w) bytes 0) 1 w.single (c.is_left.ensures.spent c.if-is_left.false))
+      (c.skip_gaps-then-is_left-2.ensures.steps reported holds bytes e (steps_at (extent_of w) bytes 1) g.nindir
+      (zero_gap (extent_of w) bytes 1));
+  falls = grind (arith, common_steps);
+  passed = grind (arith, common_steps);
+  same = search rules;
+}
 
-pub returns-clause-steps : goal.returns-clause-steps
-returns-clause-steps c = λ reported holds bytes e.
-    let w = c.args.self.now in
-    let g = w.geometry.layout in
-    in_third _ _ _ _ _ (replicate c.skip_gaps-2.result Gap)
-    (spent_rest g bytes (steps_at (extent_of w) bytes 0) 1 w.single (c.is_left.ensures.spent c.if-is_left.false))
-    (spent_rest g bytes (steps_at (extent_of w) bytes 1) g.nindir w.double
-    (c.is_left-2.ensures.spent c.if-is_left-2.false))
-    (c.skip_gaps-2.ensures.steps reported holds bytes e (steps_at (extent_of w) bytes 2) (g.nindir * g.nindir)
-    (zero_gap (extent_of w) bytes 2))
+pub returns : goal.returns
+returns c = record {
+  steps = λ reported holds bytes e.
+      let w = c.args.self.now in
+      let g = w.geometry.layout in
+      in_third _ _ _ _ _ (replicate c.skip_gaps-2.result Gap)
+      (spent_rest g bytes (steps_at (extent_of w) bytes 0) 1 w.single (c.is_left.ensures.spent c.if-is_left.false))
+      (spent_rest g bytes (steps_at (extent_of w) bytes 1) g.nindir w.double
+      (c.is_left-2.ensures.spent c.if-is_left-2.false))
+      (c.skip_gaps-2.ensures.steps reported holds bytes e (steps_at (extent_of w) bytes 2) (g.nindir * g.nindir)
+      (zero_gap (extent_of w) bytes 2));
+  falls = grind (arith, common_steps);
+  passed = grind (arith, common_steps);
+  same = search rules;
+}
