@@ -71,7 +71,8 @@ pub record InodeLeaves {T : Type 0} (v : Layout) (d d' : Device) (old new : Work
   pub again : new.runs_again ≡ old.runs_again
 
 -- a step of an inode claims what it offers: these lines are said, these are the claims then, and nothing else changes
-pub record ClaimsStep {E : Type 0} (v : Layout) (lines : List BlockMessage) (after : Claims) (progress progress' : Progress)
+pub record ClaimsStep {E : Type 0} (v : Layout) (lines : List BlockMessage) (after : Claims)
+    (progress progress' : Progress)
     (old new : Workspace) (area : DataArea) (result : Result Bool E) : Type 0 where
   pub said : Says progress progress' (of_lines lines) result
   pub claims : IfOk result (AreClaims new after)

@@ -1,5 +1,5 @@
 //! The survey: level after level from inode 2, and then the directories that are not reached.
-ghost use Rattle.std.specs.Prelude.{◌≡◌, ◌<◌, ◌+◌, ℕ, ◌≤◌, ◌^◌, not, length, take, true, false, IfOk, OnOk};
+ghost use Rattle.std.specs.Prelude.{◌≡◌, ◌<◌, ◌+◌, ℕ, ◌≤◌, ◌^◌, not, length, true, false, IfOk, OnOk};
 ghost use Rattle.ffs_survey.specs.Survey.{number_at, dir_at, graph_with, start_in, IsSurvey};
 ghost use Rattle.ffs_survey.specs.Calm.{AreCalm};
 ghost use Rattle.ffs_survey.specs.Reading.{ForKnown, LeavesReader};

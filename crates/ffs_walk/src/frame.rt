@@ -1,6 +1,6 @@
 //! The position of a walk in an indirect block.
 
-ghost use Rattle.std.specs.Prelude.{◌≡◌, ◌-◌, ◌*◌, ◌+◌, ◌<◌, ◌≤◌, ◌^◌, ◌++◌, ◌∷◌, ℕ, List, [], length, vec_len, Ok, None, OnOk, IfOk, IfErr, IfSome, MatchOption, IsTrue, false, not, ◌||◌, nat_lt, ◌↔◌};
+ghost use Rattle.std.specs.Prelude.{◌≡◌, ◌-◌, ◌*◌, ◌<◌, ◌≤◌, ◌^◌, length, vec_len, Ok, None, OnOk, IfOk, IfErr, IfSome, MatchOption, IsTrue, false, not, ◌||◌, nat_lt, ◌↔◌};
 
 use crate::blocks::Blocks;
 use crate::words::{any_from, word, zeros_end};

@@ -1,6 +1,6 @@
 //! The walk over the blocks of an inode.
 
-ghost use Rattle.std.specs.Prelude.{◌≡◌, ◌-◌, ◌*◌, ◌+◌, ◌<◌, ◌≤◌, ◌^◌, ◌++◌, ◌∷◌, [], ℕ, List, length, vec_len, Ok, Err, None, OnOk, OnErr, IfOk, IfErr, IfSome, MatchOption, OnSome, IsTrue, false, ◌↔◌, if◌then◌else◌};
+ghost use Rattle.std.specs.Prelude.{◌≡◌, ◌-◌, ◌*◌, ◌<◌, ◌≤◌, ◌^◌, ◌∷◌, [], ℕ, List, length, vec_len, Ok, Err, None, OnOk, OnErr, IfOk, IfErr, IfSome, MatchOption, OnSome, IsTrue, false, ◌↔◌, if◌then◌else◌};
 ghost use Rattle.ffs_volume.specs.Blocks.Inodes.{addresses_needed};
 ghost use Rattle.ffs_walk.specs.Fits.{FrameFits};
 
@@ -41,20 +41,16 @@ pub struct Walk {
 }
 
 impl Walk {
-    ghost use Rattle.ffs_image.specs.Device.{ForContents};
-    ghost use Rattle.ffs_image.specs.Reads.{ReadAfter};
     ghost use Rattle.ffs_volume.specs.Blocks.Steps.{data_step, indirect_steps, steps_at, steps_of, is_walked};
     ghost use Rattle.ffs_volume.specs.Blocks.Inodes as inodes;
     ghost use Rattle.ffs_volume.specs.Blocks.Inodes.{logical_blocks_of};
     ghost use Rattle.ffs_volume.specs.declared.Step.{Step};
-    ghost use Rattle.std.specs.Prelude.{Option, replicate};
-    ghost use Rattle.ffs_volume.specs.declared.Step.TheVariants.{Gap};
     ghost use Rattle.ffs_walk.specs.Fits.{IsSpent, IsBelow, IsIndirect};
     ghost use Rattle.ffs_walk.specs.Lengths.{IsStepOf};
     ghost use Rattle.ffs_walk.specs.Skips.{PassesGaps};
     ghost use Rattle.ffs_walk.specs.Frames.{frame_rest, frame_left, item_steps, item_left};
     ghost use Rattle.ffs_walk.specs.Rests.{rest, left, extent_of, Enters, IsAtTop, IsDataStep, IsFirstOf, IsNextStep, IsOver, IsWalkOf, SameExtent};
-    ghost use Rattle.ffs_walk.specs.Windows.{BlocksAfter, BlocksHold, CanWalk, HasRoom};
+    ghost use Rattle.ffs_walk.specs.Windows.{BlocksAfter, CanWalk, HasRoom};
 
     /// The step at the address of a data block.
     fn data(&self, address: u32, block: u64) -> Step

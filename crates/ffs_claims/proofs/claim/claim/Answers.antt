@@ -76,7 +76,8 @@ returns-in_err-next g c =
     let err = c.in_err-next.ensures.leaves.read in
     let read = ready_read v (g.I.Image.device c.loop-next.image) (g.I.Image.device c.next.new.image)
     c.loop-next.workspace c.next.new.blocks
-    err.contents err.size c.next.ensures.leaves.kept.size (rw inv.geometry at c.next.ensures.leaves.kept.holds) inv.ready in
+    err.contents err.size c.next.ensures.leaves.kept.size (rw inv.geometry at c.next.ensures.leaves.kept.holds)
+    inv.ready in
     rw (p.1, p.2) (record {
       text = of_reads _ _ _ _ _ inv.said;
       claims = tt;
@@ -151,7 +152,8 @@ returns-in_err-seen g c =
               inv.open_still inv.moves,
         );
         claim = record {
-          ready = ready_still v _ _ _ c.step.ensures.claiming.left.only.made c.step.ensures.claiming.left.only.windows read;
+          ready = ready_still v _ _ _ c.step.ensures.claiming.left.only.made c.step.ensures.claiming.left.only.windows
+              read;
           only_data = c.step.ensures.claiming.left.only_data;
         };
         found = found_then _ _ _ (found_still _ _ _ inv.found) c.step.ensures.claiming.left.only.found;
@@ -163,7 +165,12 @@ pub skip_gaps-requires : goal.skip_gaps-requires
 skip_gaps-requires g c =
     let inv = c.loop-next.invariant in
     let same = c.in_ok-next.ensures.same.geometry ∙ inv.geometry in
-    record { room = record { blocks_fit = rw (same, c.next.ensures.leaves.kept.size, inv.ready.made.blocks) (omega arith) } }
+    record {
+      room = record {
+        blocks_fit = rw (same, c.next.ensures.leaves.kept.size, inv.ready.made.blocks)
+            (omega arith);
+      };
+    }
 
 pub loop-next-preserved-then-after_gap : goal.loop-next-preserved-then-after_gap
 loop-next-preserved-then-after_gap g c =
@@ -288,7 +295,8 @@ returns-then-not-seen g c =
               inv.open_still inv.moves,
         );
         claim = record {
-          ready = ready_still v _ _ _ c.step.ensures.claiming.left.only.made c.step.ensures.claiming.left.only.windows read;
+          ready = ready_still v _ _ _ c.step.ensures.claiming.left.only.made c.step.ensures.claiming.left.only.windows
+              read;
           only_data = c.step.ensures.claiming.left.only_data;
         };
         found = found_then _ _ _ (found_still _ _ _ inv.found) c.step.ensures.claiming.left.only.found;

@@ -131,7 +131,8 @@ returns-in_err-claim-clause-claiming g c = record {
 
 pub returns-in_err-say_count-clause-claiming : goal.returns-in_err-say_count-clause-claiming
 returns-in_err-say_count-clause-claiming g c = record {
-  text = let p = err_from_is_err_and c.from_residual-in_err-say_count.result c.from_residual-in_err-say_count.ensures.1 in
+  text = let p = err_from_is_err_and c.from_residual-in_err-say_count.result
+      c.from_residual-in_err-say_count.ensures.1 in
       let v = c.args.geometry.now.layout in
       let s1 = claims_of c.begin.new.workspace in
       rw (p.1, p.2) (of_stops _ _ (λ bytes. []) _

@@ -28,7 +28,8 @@ returns-in_err-offers-clause-claiming g c = record {
 
 pub returns-clause-claiming : goal.returns-clause-claiming
 returns-clause-claiming g c = record {
-  said = run_said c.args.geometry.now.layout c.args.number (claims_of c.args.workspace.now) c.args.start c.args.len _ _ _
+  said = run_said c.args.geometry.now.layout c.args.number (claims_of c.args.workspace.now) c.args.start c.args.len _
+      _ _
       (sym c.in_range.ensures.value ∙ c.if-in_range.false) (grind (arith, nat_tests)) c.in_ok-say_bad.ensures
       c.in_ok-offers.ensures.said;
   claims = search rules;

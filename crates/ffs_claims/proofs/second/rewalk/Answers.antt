@@ -66,7 +66,8 @@ returns-in_err-next g c =
         image = rw inv.device at err;
         ready = ready_read c.args.geometry.now.layout _ (g.I.Image.device c.next.new.image)
             c.loop-next.workspace c.next.new.blocks
-            err.contents err.size c.next.ensures.leaves.kept.size (rw inv.geometry at c.next.ensures.leaves.kept.holds) inv.ready;
+            err.contents err.size c.next.ensures.leaves.kept.size
+            (rw inv.geometry at c.next.ensures.leaves.kept.holds) inv.ready;
         claims = claims_still _ _ _ inv.claims;
       };
     })

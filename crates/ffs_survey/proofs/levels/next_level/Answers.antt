@@ -55,7 +55,8 @@ returns-clause-level g c = record {
             let n : IsNextLevel v (depth + 1) c.read_level.new.reached c.read_level.new.parents
             (take c.args.high c.args.queue.now) c.sort_unstable.new.self =
             level_after v depth xs c.args.reached.now c.read_level.new.reached c.args.parents.now
-            c.read_level.new.parents (take c.args.high c.args.queue.now) (take c.in_ok-found.found c.read_level.new.queue)
+            c.read_level.new.parents (take c.args.high c.args.queue.now)
+            (take c.in_ok-found.found c.read_level.new.queue)
             c.sort_unstable.new.self
             (sane_of c.args.kinds.now _ c.requires.lists.some) at.frontier at.levels
             (subst P e (c.in_ok-found.ensures.found.read b k).comes) c.sort_unstable.ensures.permutation
@@ -71,7 +72,8 @@ returns-clause-level g c = record {
         counts = subst (λ ys. CountsDirs c.args.kinds.now
             (g.D.Directories.entries (g.D.Directories.base c.args.directories.now) b) ys
             (found_of c.args.references.now c.args.named.now c.args.reached.now c.args.parents.now c.args.calm.now [])
-            (found_of c.read_level.new.references c.read_level.new.named c.read_level.new.reached c.read_level.new.parents
+            (found_of c.read_level.new.references c.read_level.new.named c.read_level.new.reached
+            c.read_level.new.parents
             c.read_level.new.calm [])) e (c.in_ok-found.ensures.found.read b k).counts;
         calm = (c.in_ok-found.ensures.found.read b k).calm;
       };

@@ -16,7 +16,8 @@ returns c = record {
   falls = λ most.
       let fewer : c.args.self.now.used - c.zeros_end-next.result ≤ c.args.self.now.used - c.args.self.now.next =
       omega (arith, c.zeros_end-next.ensures.within.0) in
-      let scaled : (c.args.self.now.used - c.zeros_end-next.result) * most ≤ (c.args.self.now.used - c.args.self.now.next)
+      let scaled : (c.args.self.now.used - c.zeros_end-next.result) * most ≤
+      (c.args.self.now.used - c.args.self.now.next)
       * most = mul-le-mul_right most fewer in
       omega (arith, scaled);
   next = search rules;

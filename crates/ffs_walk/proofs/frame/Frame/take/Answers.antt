@@ -19,7 +19,8 @@ returns-clause-item g c =
     record {
       item = search rules;
       steps = rw (c.from.ensures, known)
-          (word_taken c.args.geometry.now.layout _ c.args.span c.args.self.now c.bytes-block.result.now c.word-address.result
+          (word_taken c.args.geometry.now.layout _ c.args.span c.args.self.now c.bytes-block.result.now
+          c.word-address.result
           c.requires.item.left (λ b tells. c.bytes-block.ensures.bytes ∙ c.in_ok-fill.ensures.held.bytes b tells) no
           c.word-address.ensures);
       falls = rw known (λ most. less_left most c.args.self.now c.requires.item.left);

@@ -214,7 +214,8 @@ returns-then-is_left-3-clause-step g c =
       steps = triple_reported _ c.args.self.now c.from-words.result c.take-then-is_left-3.new.self c.in_ok-item-3.item
           c.step_in_triple.result
           (λ bytes. rest bytes c.step_in_triple.new.self)
-          c.from-words.ensures (c.is_left.ensures.spent c.if-is_left.false) (c.is_left-2.ensures.spent c.if-is_left-2.false)
+          c.from-words.ensures (c.is_left.ensures.spent c.if-is_left.false)
+          (c.is_left-2.ensures.spent c.if-is_left-2.false)
           c.in_ok-item-3.ensures.item.steps c.step_in_triple.ensures.steps;
       fits = search rules;
       falls = falls_in_triple (item_left (most_at words 2) c.in_ok-item-3.item)
