@@ -1,10 +1,14 @@
 -- What the window on the inode table holds.
-use Rattle.std.specs.Prelude.{◌≡◌, ◌*◌, ◌+◌, ◌-◌, ◌/◌, ◌%◌, ◌<◌, ◌≤◌, ℕ, List, Option, vec_len}
+use Rattle.std.specs.Prelude.{◌≡◌, ◌*◌, ◌+◌, ◌-◌, ◌/◌, ◌%◌, ◌<◌, ◌≤◌, ℕ, List, Option, Result, IfOk, vec_len}
 use Rattle.std.specs.List.{slice_range}
 use Rattle.ffs_image.specs.Device.{Device, ForContents}
+use Rattle.ffs_image.specs.Reads.{ReadAfter}
+use Rattle.ffs_image.specs.declared.image.ImageFault.{ImageFault}
 use Rattle.ffs_memory.specs.declared.fixed_list.FixedList.{FixedList}
 use Rattle.ffs_volume.specs.declared.constants.TheConstants.{DINODE_SIZE}
+use Rattle.ffs_volume.specs.declared.Inode.{Inode}
 use Rattle.ffs_volume.specs.declared.Layout.{Layout}
+use Rattle.ffs_volume.specs.Blocks.Inodes.{inode_of}
 use Rattle.ffs_volume.specs.Disk.Areas.{cgstart, inode_place}
 use Rattle.ffs_volume.specs.Disk.Numbers.{piece}
 use Rattle.ffs_walk.specs.Windows.{WindowHolds, held_bytes}
@@ -43,6 +47,18 @@ pub record CanReadInodes (v : Layout) (d : Device) (t : Table) : Type 0 where
 pub record KeepsTable (v : Layout) (contents : Option (List ℕ)) (t : Table) : Type 0 where
   pub made : IsTableOf v t
   pub holds : WindowHolds contents t.window
+
+-- what a call leaves that may read from the table: the image as after a read, and what is left of the table
+pub record TableAfter {T : Type 0} (v : Layout) (d d' : Device) (t : Table) (result : Result T ImageFault) : Type 0
+  where
+    pub kept : KeepsTable v d'.contents t
+    pub read : ReadAfter d d' result
+
+-- the inode x is read: it is the image's, where the image gives its bytes
+pub record ReadsInode (v : Layout) (d d' : Device) (x : ℕ) (t : Table) (result : Result Inode ImageFault) : Type 0 where
+  pub inode : IfOk result (λ i. ForContents d.contents (λ bytes. i ≡ inode_of v bytes x))
+  pub kept : KeepsTable v d'.contents t
+  pub read : ReadAfter d d' result
 
 -- the bytes of the inode x are in the window, from this place on
 pub record IsHeldAt (v : Layout) (contents : Option (List ℕ)) (t : Table) (x at : ℕ) : Type 0 where

@@ -1,9 +1,6 @@
 //! Inodes, read by blocks of their table.
 
 ghost use Rattle.std.specs.Prelude.{◌≡◌, ◌*◌, ◌+◌, ◌<◌, ◌≤◌, IfOk, OnOk, IsTrue};
-ghost use Rattle.ffs_image.specs.Device.{ForContents};
-ghost use Rattle.ffs_image.specs.Reads.{ReadAfter};
-ghost use Rattle.ffs_volume.specs.Blocks.Inodes.{inode_of};
 ghost use Rattle.ffs_workspace.specs.Tables.{table_block_place, table_part_place};
 
 use ffs_image::{Image, ImageFault};
@@ -56,7 +53,7 @@ pub struct Table {
 }
 
 impl Table {
-    ghost use Rattle.ffs_workspace.specs.Tables.{CanReadInodes, HasInode, IsEmptyTable, IsHeldAt, KeepsTable};
+    ghost use Rattle.ffs_workspace.specs.Tables.{CanReadInodes, HasInode, IsEmptyTable, IsHeldAt, ReadsInode, TableAfter};
 
     /// A table that holds no inode. It takes no memory.
     pub fn over(buffer: FixedList<u8>) -> Table
@@ -94,8 +91,8 @@ impl Table {
         requires number { number < geometry.now.layout.ncg * geometry.now.layout.ipg }
         requires ready { CanReadInodes geometry.now.layout (I.device image.old) self.old }
         ensures has { OnOk result (HasInode self.new number) }
-        ensures kept { KeepsTable geometry.now.layout (I.device image.new).contents self.new }
-        ensures read { ReadAfter (I.device image.old) (I.device image.new) result }
+        ensures leaves { TableAfter geometry.now.layout (I.device image.old) (I.device image.new)
+            self.new result }
     {
         let place = block_place(geometry, number);
         self.forget();
@@ -115,8 +112,8 @@ impl Table {
     ) -> Result<(), ImageFault>
         requires number { number < geometry.now.layout.ncg * geometry.now.layout.ipg }
         requires ready { CanReadInodes geometry.now.layout (I.device image.old) self.old }
-        ensures kept { KeepsTable geometry.now.layout (I.device image.new).contents self.new }
-        ensures read { ReadAfter (I.device image.old) (I.device image.new) result }
+        ensures { TableAfter geometry.now.layout (I.device image.old) (I.device image.new) self.new
+            result }
     {
         let place = part_place(geometry, number);
         self.forget();
@@ -139,8 +136,8 @@ impl Table {
         requires ready { CanReadInodes geometry.now.layout (I.device image.old) self.old }
         ensures there { IfOk result (IsHeldAt geometry.now.layout (I.device image.old).contents
             self.new number) }
-        ensures kept { KeepsTable geometry.now.layout (I.device image.new).contents self.new }
-        ensures read { ReadAfter (I.device image.old) (I.device image.new) result }
+        ensures leaves { TableAfter geometry.now.layout (I.device image.old) (I.device image.new)
+            self.new result }
     {
         if !self.has(number) {
             self.read_block(geometry, number, image)?;
@@ -158,10 +155,8 @@ impl Table {
     ) -> Result<Inode, ImageFault>
         requires number { number < geometry.now.layout.ncg * geometry.now.layout.ipg }
         requires ready { CanReadInodes geometry.now.layout (I.device image.old) self.old }
-        ensures inode { IfOk result (λ inode. ForContents (I.device image.old).contents
-            (λ bytes. inode ≡ inode_of geometry.now.layout bytes number)) }
-        ensures kept { KeepsTable geometry.now.layout (I.device image.new).contents self.new }
-        ensures read { ReadAfter (I.device image.old) (I.device image.new) result }
+        ensures { ReadsInode geometry.now.layout (I.device image.old) (I.device image.new) number
+            self.new result }
     {
         let at = self.load(geometry, number, image)?;
         let bytes = self.window.bytes();
@@ -179,10 +174,8 @@ impl Table {
     ) -> Result<Inode, ImageFault>
         requires number { number < geometry.now.layout.ncg * geometry.now.layout.ipg }
         requires ready { CanReadInodes geometry.now.layout (I.device image.old) self.old }
-        ensures inode { IfOk result (λ inode. ForContents (I.device image.old).contents
-            (λ bytes. inode ≡ inode_of geometry.now.layout bytes number)) }
-        ensures kept { KeepsTable geometry.now.layout (I.device image.new).contents self.new }
-        ensures read { ReadAfter (I.device image.old) (I.device image.new) result }
+        ensures { ReadsInode geometry.now.layout (I.device image.old) (I.device image.new) number
+            self.new result }
     {
         if !self.has(number) {
             self.read_part(geometry, number, image)?;

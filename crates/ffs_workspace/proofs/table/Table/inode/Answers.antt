@@ -1,10 +1,15 @@
+use Rattle.std.proofs.Common.{rules}
 use Rattle.ffs_volume.specs.declared.Inode.{Inode}
 use Rattle.ffs_walk.specs.Windows.{held_bytes}
 use Rattle.ffs_workspace.proofs.Places.{inode_there}
 use Rattle.ffs_workspace.proofs.table.Table.inode.Goals as goal
 
-pub returns-clause-inode : goal.returns-clause-inode
-returns-clause-inode g c = λ bytes t.
-    inode_there (λ (i : Inode). i) c.args.geometry.now.layout c.args.number c.in_ok-at.at bytes
-    (held_bytes c.load.new.self.window) c.bytes-bytes.result.now c.decode_inode.result
-    c.bytes-bytes.ensures (c.in_ok-at.ensures.there.bytes bytes t) c.decode_inode.ensures
+pub returns : goal.returns
+returns g c = record {
+  inode = λ bytes t.
+      inode_there (λ (i : Inode). i) c.args.geometry.now.layout c.args.number c.in_ok-at.at bytes
+      (held_bytes c.load.new.self.window) c.bytes-bytes.result.now c.decode_inode.result
+      c.bytes-bytes.ensures (c.in_ok-at.ensures.there.bytes bytes t) c.decode_inode.ensures;
+  kept = search rules;
+  read = search rules;
+}

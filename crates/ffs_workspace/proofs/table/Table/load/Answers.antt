@@ -10,7 +10,7 @@ returns-clause-there g c =
     elim c.if-not-has.branch [
       | then-not-has+in_ok-read_block w ↦
           held_there v (g.I.Image.device c.args.image.now).contents c.args.number c.if-not-has.self
-          (rw w.self-is w.in_ok-read_block.ensures.kept.made)
+          (rw w.self-is w.in_ok-read_block.ensures.leaves.kept.made)
           (search rules) (rw w.self-is w.in_ok-read_block.ensures.has)
       | else-not-has w ↦
           held_there v (g.I.Image.device c.args.image.now).contents c.args.number c.if-not-has.self
