@@ -1,6 +1,6 @@
 //! Phase 3: connectivity (fsck(8)).
 
-ghost use Rattle.std.specs.Prelude.{◌≡◌, ◌<◌, ◌≤◌, ◌^◌, ◌∷◌, ℕ, List, length, map, false, true};
+ghost use Rattle.std.specs.Prelude.{◌≡◌, ◌<◌, ◌^◌, ◌∷◌, length, map};
 ghost use Rattle.ffs_report.specs.Progress.{progress};
 ghost use Rattle.ffs_phase.specs.Known.{IsContents};
 ghost use Rattle.ffs_phase.specs.Runs.{PhaseRuns};
@@ -8,7 +8,7 @@ ghost use Rattle.ffs_volume.specs.Directories.Connectivity.{connectivity_lines};
 ghost use Rattle.ffs_volume.specs.Messages.Kinds as messages;
 ghost use Rattle.ffs_volume.specs.Messages.Kinds.{of_tree};
 ghost use Rattle.ffs_volume.specs.Directories.Volumes.{volume_of};
-ghost use Rattle.ffs_survey.specs.Discover.{is_free};
+ghost use Rattle.ffs_connectivity.specs.Unreached.{IsFirstUnreached};
 ghost use Rattle.ffs_workspace.specs.Holds.{HoldsClaims, HoldsSurvey};
 ghost use Rattle.ffs_workspace.specs.Leaves.{LeavesSurvey};
 ghost use Rattle.ffs_workspace.specs.Ready.{IsReady};
@@ -24,10 +24,7 @@ use ffs_workspace::Workspace;
 /// The least number of a directory that isn't reached, or how many inodes there are where each one is.
 fn first_unreached(kinds: &[u8], reached: &[bool]) -> u32
     requires lists { (length reached.now ≡ length kinds.now) × (length kinds.now < 2 ^ 31) }
-    ensures low { result < length kinds.now → 2 ≤ result }
-    ensures within { result ≤ length kinds.now }
-    ensures before { (x : ℕ) → x < result → is_free kinds.now reached.now x ≡ false }
-    ensures found { result < length kinds.now → is_free kinds.now reached.now result ≡ true }
+    ensures { IsFirstUnreached kinds.now reached.now result }
 {
     for number in 0..kinds.len() {
         if is_dir(kinds, number) && !reached[number] {
