@@ -1,20 +1,23 @@
 -- The names down to a directory are those down to its parent, and that of its parent entry.
-use Rattle.std.proofs.Common.{◌≡◌, ◌≢◌, ℕ, zero, suc, ◌<◌, Bool, true, false, if◌then◌else◌, List, [], Some, sym, ap}
-use Rattle.std.proofs.Common.{subst, ◌∙◌, arith}
+use Rattle.std.proofs.Common.{◌≡◌, ◌≢◌, ℕ, zero, suc, ◌<◌, Bool, true, false, if◌then◌else◌, List, [], ◌∷◌, ◌++◌, Some}
+use Rattle.std.proofs.Common.{refl, sym, ap, subst, ◌∙◌, arith}
 use Rattle.std.specs.Prelude.{option_map}
 use Rattle.std.specs.Option.{unwrap_or}
 use Rattle.std.specs.List.{list_any}
 use Rattle.std.proofs.lemmas.Bool.{and_parts}
 use Rattle.ffs_volume.specs.Directories.Graph.{Graph, level, reached, is_naming_entry, is_naming_dir, parent}
-use Rattle.ffs_volume.specs.Directories.Paths.{names_down}
+use Rattle.ffs_volume.specs.Directories.Paths.{names_down, path_bytes, dir_path, dir_path_of_names}
+use Rattle.ffs_volume.specs.Directories.Paths.{entry_path, entry_path_of_names}
+use Rattle.ffs_volume.proofs.PathBound.{path_text-fits}
 use Rattle.ffs_volume.specs.declared.Layout.{Layout}
 use Rattle.ffs_volume.specs.Directories.Parents.{graph_of}
 use Rattle.ffs_volume.specs.Directories.Roles.{Volume, is_dir, roled_entries}
 use Rattle.ffs_volume.specs.Directories.Volumes.{volume_of}
 use Rattle.ffs_survey.specs.ParentLaws.{parent_above, root_level}
-use Rattle.ffs_paths.specs.Climbing.{name_in}
+use Rattle.ffs_paths.specs.Climbing.{name_in, in_room}
 use Rattle.ffs_paths.specs.Siblings.{LeadsTo}
 use Rattle.ffs_paths.specs.Slashes.{AreSingle}
+use Rattle.ffs_paths.proofs.Rooms.{fits}
 use Rattle.ffs_paths.proofs.Single.{down_single}
 use Rattle.ffs_paths.proofs.Ways.{down_is, level_of}
 
@@ -58,3 +61,19 @@ pub found_child : (P : ℕ → List ℕ → Type 0) (found : Bool) (child d : �
     child ≡ (if found then d else 0) → name ≡ (if found then last else []) → 0 < child → P d name → P child last
 found_child P true child d name last e f some h = subst (λ c. P c last) (sym e) (subst (P d) f h)
 found_child P false child d name last e f some h = absurd (omega arith)
+
+-- the path of some names and one more
+longer_path : (names : List (List ℕ)) (name : List ℕ) →
+    dir_path_of_names (Some (names ++ name ∷ [])) ≡ path_bytes (names ++ name ∷ [])
+longer_path [] name = refl
+longer_path (first ∷ names) name = refl
+
+-- the path of an entry that leads to a directory is that of the directory
+pub child_text : (g : Graph) (s d : ℕ) (name : List ℕ) → LeadsTo g s d name →
+    in_room (entry_path g s name) ≡ dir_path g d
+unfolding dir_path entry_path
+child_text g s d name l =
+    let names = l.names ++ name ∷ [] in
+    ap (λ o. in_room (entry_path_of_names name o)) l.above
+    ∙ (sym (fits (path_bytes names) (path_text-fits names))
+    ∙ (sym (longer_path l.names name) ∙ sym (ap dir_path_of_names l.below)))

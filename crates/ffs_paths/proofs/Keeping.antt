@@ -65,6 +65,14 @@ pub leaves_same : {T : Type 0} {v : Layout} {d d' : Device} {w w' : Workspace} (
 leaves_same s (Ok x) k r = leaves_with s r k
 leaves_same s (Err e) k r = record { reads = r; siblings = tt }
 
+-- the same of another answer that is no fault
+pub leaves_as : {S T : Type 0} {v : Layout} {d d' : Device} {w w' : Workspace} {s : Siblings} {x : S} {y : T} →
+    PathLeaves v d d' w w' s (Ok x) → PathLeaves v d d' w w' s (Ok y)
+leaves_as l = record {
+  reads = record { lists = l.reads.lists; ready = l.reads.ready; read = l.reads.read };
+  siblings = l.siblings;
+}
+
 -- nothing was read yet
 pub no_reads : {T : Type 0} {v : Layout} {d : Device} {w : Workspace} {x : T} → IsReady v d w →
     OnlyReads v d d w w (Ok x)

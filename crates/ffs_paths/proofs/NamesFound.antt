@@ -1,6 +1,7 @@
 -- A reading of a directory that finds where it names its children.
 use Rattle.std.proofs.Common.{◌≡◌, ◌≢◌, ℕ, zero, suc, ◌-◌, ◌*◌, ◌≤◌, ◌==◌, ◌&&◌, Bool, true, false, List, [], ◌∷◌, ◌++◌}
-use Rattle.std.proofs.Common.{length, take, Option, Some, None, refl, sym, ap, subst, ◌∙◌, arith, replicate, get_or}
+use Rattle.std.proofs.Common.{length, take, drop, Option, Some, None, refl, sym, ap, subst, ◌∙◌, arith, replicate}
+use Rattle.std.proofs.Common.{get_or}
 use Rattle.std.specs.Prelude.{vec_len, Result, Ok}
 use Rattle.std.proofs.lemmas.List.{length-take}
 use Rattle.std.specs.Option.{unwrap_or}
@@ -14,7 +15,7 @@ use Rattle.ffs_volume.specs.Disk.Numbers.{piece}
 use Rattle.ffs_volume.specs.Directories.Roles.{RoledEntry, Volume, is_dir, is_plain, roled_entries}
 use Rattle.ffs_volume.specs.Directories.Parents.{graph_of}
 use Rattle.ffs_volume.specs.Directories.Volumes.{volume_of}
-use Rattle.ffs_volume.specs.Directories.Graph.{is_naming_entry}
+use Rattle.ffs_volume.specs.Directories.Graph.{Graph, is_naming_entry}
 use Rattle.ffs_walk.specs.declared.window.Window.{Window}
 use Rattle.ffs_walk.specs.declared.blocks.Blocks.{Blocks}
 use Rattle.ffs_walk.specs.Windows.{BlocksHold, WindowHolds}
@@ -32,7 +33,7 @@ use Rattle.ffs_paths.specs.declared.child_names.ChildNames.{ChildNames}
 use Rattle.ffs_paths.specs.ChildNames.{place_at, Covers, AreNamesOf, AreAllNamesOf, IsInside, AreInside, IsEmpty}
 use Rattle.ffs_paths.specs.ChildNames.{KeepsPlace, KeepsEntry}
 use Rattle.ffs_paths.specs.Climbing.{name_in, AreOpen, IsParentOf}
-use Rattle.ffs_paths.specs.Siblings.{KeepSiblings}
+use Rattle.ffs_paths.specs.Siblings.{KeepSiblings, LeadsTo, IsNamed}
 use Rattle.ffs_paths.specs.declared.siblings.Siblings.{Siblings}
 use Rattle.ffs_paths.specs.DirectoryPaths.{HoldsPath, IsPathOf}
 use Rattle.ffs_paths.specs.Reads.{OnlyReads}
@@ -173,16 +174,28 @@ place_inside r h = let fits = r.name_in_chunk in record { volume = omega arith; 
 pub no_directory : (v : Volume) (n : ℕ) → n ≡ 0 → is_dir v n ≡ true → ⊥
 no_directory v n e h = let some = dir_some v n h in omega arith
 
--- a directory is the child with the name that was found
-pub named_child : (v : Layout) (b : List ℕ) (s d : ℕ) (name : List ℕ) (above made : DirectoryPath) → IsChild v b d s →
-    name ≡ name_in d (roled_entries (volume_of v b) s) → IsPathOf (graph_of (volume_of v b)) s above
-    → ((names : List (List ℕ)) → HoldsPath above (Some names) → AreSingle (names ++ name ∷ []) →
-    HoldsPath made (Some (names ++ name ∷ []))) → IsPathOf (graph_of (volume_of v b)) d made
-named_child v b s d name above made child is path makes =
-    let leads = child.leads in
-    let longer = makes leads.names (subst (HoldsPath above) leads.above path)
-    (subst (λ n. AreSingle (leads.names ++ n ∷ [])) (sym is) leads.single) in
-    subst (HoldsPath made) (sym leads.below) (subst (λ n. HoldsPath made (Some (leads.names ++ n ∷ []))) is longer)
+-- a directory has the name that was found in its parent
+pub named_by : (v : Layout) (b : List ℕ) (s : Siblings) (d : ℕ) (name : List ℕ) → IsChild v b d s.parent →
+    name ≡ name_in d (roled_entries (volume_of v b) s.parent) → IsPathOf (graph_of (volume_of v b)) s.parent s.path
+    → IsNamed (graph_of (volume_of v b)) s d name
+named_by v b s d name child is path =
+    record { path = path; leads = subst (LeadsTo (graph_of (volume_of v b)) s.parent d) (sym is) child.leads }
+
+-- the path that is made of it
+pub child_made : (g : Graph) (s : Siblings) (d : ℕ) (name : List ℕ) (made : DirectoryPath) → IsNamed g s d name →
+    ((names : List (List ℕ)) → HoldsPath s.path (Some names) → AreSingle (names ++ name ∷ []) →
+    HoldsPath made (Some (names ++ name ∷ []))) → IsPathOf g d made
+child_made g s d name made named makes =
+    let leads = named.leads in
+    subst (HoldsPath made) (sym leads.below)
+    (makes leads.names (subst (HoldsPath s.path) leads.above named.path) leads.single)
+
+-- the name of the last entry has room in a chunk
+pub last_short : (r : Entries) → length (last_name r) ≤ 512
+last_short r =
+    let fits = r.name_in_chunk in
+    let l = length-take r.name_len (drop r.name_place r.chunk) in
+    omega arith
 
 -- a name was read into the window of chunks
 pub name_read : {T : Type 0} (v : Layout) (d d' : Device) (w : Workspace) (chunk : Window)

@@ -1,5 +1,5 @@
 -- What is kept from the path of one directory to that of the next.
-use Rattle.std.specs.Prelude.{◌≡◌, ◌*◌, ◌<◌, ℕ, true, List, [], ◌∷◌, ◌++◌, Option, Some, Result, OnOk}
+use Rattle.std.specs.Prelude.{◌≡◌, ◌*◌, ◌<◌, ◌≤◌, ℕ, true, List, [], ◌∷◌, ◌++◌, length, Option, Some, Result, OnOk}
 use Rattle.ffs_image.specs.Device.{Device}
 use Rattle.ffs_image.specs.declared.image.ImageFault.{ImageFault}
 use Rattle.ffs_volume.specs.declared.Layout.{Layout}
@@ -9,15 +9,19 @@ use Rattle.ffs_volume.specs.Directories.Paths.{path_names}
 use Rattle.ffs_volume.specs.Directories.Roles.{is_dir, roled_entries}
 use Rattle.ffs_volume.specs.Directories.Volumes.{volume_of}
 use Rattle.ffs_names.specs.Entering.{to_come, last_name}
+use Rattle.ffs_walk.specs.Windows.{held_bytes}
+use Rattle.ffs_walk.specs.declared.window.Window.{Window}
 use Rattle.ffs_workspace.specs.declared.workspace.Workspace.{Workspace}
 use Rattle.ffs_workspace.specs.Holds.{HoldsClaims, HoldsSurvey}
 use Rattle.ffs_workspace.specs.Ready.{IsReady}
 use Rattle.ffs_paths.specs.ChildNames.{AreAllNamesOf, AreInside, Covers}
 use Rattle.ffs_paths.specs.declared.child_names.ChildNames.{ChildNames}
-use Rattle.ffs_paths.specs.Climbing.{name_in}
+use Rattle.ffs_paths.specs.Climbing.{name_in, IsParentOf}
 use Rattle.ffs_paths.specs.DirectoryPaths.{IsPathOf}
-use Rattle.ffs_paths.specs.Reads.{OnlyReads}
+use Rattle.ffs_paths.specs.Reads.{ForTree, OnlyReads}
 use Rattle.ffs_paths.specs.Slashes.{AreSingle}
+use Rattle.ffs_paths.specs.declared.siblings.FoundName.{FoundName}
+use Rattle.ffs_paths.specs.declared.siblings.FoundName.TheVariants.{InReading, InWindow, Missing}
 use Rattle.ffs_paths.specs.declared.siblings.Siblings.{Siblings}
 
 -- the names down to d are those down to s, and one more
@@ -51,6 +55,23 @@ pub record KeepSiblings (v : Layout) (contents : Option (List ℕ)) (w : Workspa
       → AreSiblings v b s
   pub names : HoldNames v contents w s.names
 
+-- the directory d has this name in its parent, whose path is kept
+pub record IsNamed (g : Graph) (s : Siblings) (d : ℕ) (name : List ℕ) : Type 0 where
+  pub path : IsPathOf g s.parent s.path
+  pub leads : LeadsTo g s.parent d name
+
+-- the name of the directory d was found
+pub record FindsName (v : Layout) (device : Device) (w : Workspace) (s : Siblings) (d : ℕ) (name : List ℕ) :
+    Type 0 where
+  pub short : length name ≤ 512
+  pub named : ForTree v device w (λ g. IsNamed g s d name)
+
+-- the name that was found: that of the last entry of the reading, that which a window holds, or none
+abbrev pub name_at : Siblings → Window → FoundName → List ℕ
+name_at s w InReading = last_name s.search.entries
+name_at s w InWindow = held_bytes w
+name_at s w Missing = []
+
 -- paths can be made: the workspace is ready, and what is kept of a directory and its children is right
 pub record ReadyWith (v : Layout) (d : Device) (w : Workspace) (s : Siblings) : Type 0 where
   pub ready : IsReady v d w
@@ -61,6 +82,12 @@ pub record ReadyToPath (v : Layout) (d : Device) (w : Workspace) (s : Siblings) 
   pub ready : IsReady v d w
   pub siblings : KeepSiblings v d.contents w s
   pub number : x < v.ncg * v.ipg
+
+-- a path of the directory x can be made from that of its parent
+pub record ReadyForChild (v : Layout) (d : Device) (w : Workspace) (s : Siblings) (x parent : ℕ) : Type 0 where
+  pub ready : IsReady v d w
+  pub siblings : KeepSiblings v d.contents w s
+  pub parent_is : IsParentOf w x parent
 
 -- what a call leaves that makes a path; where it failed, nothing of a directory and its children may be right
 pub record PathLeaves {T : Type 0} (v : Layout) (d d' : Device) (w w' : Workspace) (s : Siblings)

@@ -1,6 +1,6 @@
 //! The paths of directories, where one after another has the same parent.
 
-ghost use Rattle.std.specs.Prelude.{◌≡◌, ◌<◌, true, ℕ, List, Option, Some, IfOk, OnOk, IfSome, vec_len};
+ghost use Rattle.std.specs.Prelude.{◌≡◌, ◌<◌, ◌≤◌, true, ℕ, List, Option, Some, IfOk, OnOk, IfSome, vec_len};
 ghost use Rattle.ffs_volume.specs.Directories.Paths.{dir_path};
 ghost use Rattle.ffs_workspace.specs.declared.workspace.Workspace.{Workspace as WorkspaceIn};
 ghost use Rattle.ffs_paths.specs.Climbing.{IsParentOf};
@@ -10,11 +10,12 @@ ghost use Rattle.ffs_paths.specs.Reads.{ForTree, OnlyReads};
 use crate::buffer::{PathBuffer, PathText};
 use crate::child_names::ChildNames;
 use crate::kept::DirectoryPath;
-use crate::path::directory_path;
+use crate::path::{directory_path, path_of};
 use crate::search::Search;
 use ffs_image::{Image, ImageFault};
 use ffs_layout::Geometry;
 use ffs_volume::constants::ROOTINO;
+use ffs_walk::Window;
 use ffs_workspace::Workspace;
 
 /// The parent of a directory that is reached and isn't the root.
@@ -31,6 +32,17 @@ fn parent_above(workspace: &Workspace, dir: u32) -> Option<u32>
         return None;
     }
     Some(parent)
+}
+
+/// Where the name of a directory in its parent was found.
+#[derive(Clone, Copy, Debug)]
+pub enum FoundName {
+    /// In the last entry of the reading of the parent.
+    InReading,
+    /// In a window on the image.
+    InWindow,
+    /// Nowhere.
+    Missing,
 }
 
 /// A directory with the children whose paths are made: its own path, and a reading of its entries that continues from
@@ -52,7 +64,7 @@ pub struct Siblings {
 }
 
 impl Siblings {
-    ghost use Rattle.ffs_paths.specs.Siblings.{KeepSiblings, ReadyWith, ReadyToPath, PathLeaves, IsBegunFor, IsFoundFor};
+    ghost use Rattle.ffs_paths.specs.Siblings.{KeepSiblings, ReadyToPath, ReadyForChild, PathLeaves, IsBegunFor, IsFoundFor, FindsName, name_at};
 
     /// Of no directory.
     pub fn none(geometry: &Geometry) -> Siblings
@@ -159,56 +171,73 @@ impl Siblings {
         Ok(())
     }
 
-    /// The path of a directory, by the first entry of its parent that names it.
-    fn path_by_search<I: Image>(
+    /// Finds the name of a directory in its parent, by the first entry to come that names it.
+    fn search_name<I: Image>(
         &mut self,
         geometry: &Geometry,
         image: &mut I,
         workspace: &mut Workspace,
         parent: u32,
         dir: u32,
-    ) -> Result<DirectoryPath, ImageFault>
-        requires ready { ReadyWith geometry.now.layout (I.device image.old) workspace.old self.old }
-        requires parent { IsParentOf workspace.old dir parent }
-        ensures path { IfOk result (λ path.
-            ForTree geometry.now.layout (I.device image.old) workspace.old
-            (λ g. IsPathOf g dir path)) }
+    ) -> Result<FoundName, ImageFault>
+        requires { ReadyForChild geometry.now.layout (I.device image.old) workspace.old self.old
+            dir parent }
+        ensures name { IfOk result (λ found.
+            FindsName geometry.now.layout (I.device image.old) workspace.old self.new dir
+            (name_at self.new workspace.new.windows.chunk found)) }
         ensures leaves { PathLeaves geometry.now.layout (I.device image.old) (I.device image.new)
             workspace.old workspace.new self.new result }
     {
         self.continue_or_begin(geometry, image, workspace, parent, dir)?;
         let found = self.search.find(image, &mut workspace.windows, dir)?;
-        self.child = if found { dir } else { 0 };
-        Ok(self.path.child(self.search.found_name(found)))
+        let (child, name) = if found {
+            (dir, FoundName::InReading)
+        } else {
+            (0, FoundName::Missing)
+        };
+        self.child = child;
+        Ok(name)
     }
 
-    /// The path of a directory, by its name in its parent.
-    fn child_path<I: Image>(
+    /// Finds the name of a directory in its parent, whose path is kept then.
+    fn find_name<I: Image>(
         &mut self,
         geometry: &Geometry,
         image: &mut I,
         workspace: &mut Workspace,
         parent: u32,
         dir: u32,
-    ) -> Result<DirectoryPath, ImageFault>
-        requires ready { ReadyWith geometry.now.layout (I.device image.old) workspace.old self.old }
-        requires parent { IsParentOf workspace.old dir parent }
-        ensures path { IfOk result (λ path.
-            ForTree geometry.now.layout (I.device image.old) workspace.old
-            (λ g. IsPathOf g dir path)) }
+    ) -> Result<FoundName, ImageFault>
+        requires { ReadyForChild geometry.now.layout (I.device image.old) workspace.old self.old
+            dir parent }
+        ensures name { IfOk result (λ found.
+            FindsName geometry.now.layout (I.device image.old) workspace.old self.new dir
+            (name_at self.new workspace.new.windows.chunk found)) }
         ensures leaves { PathLeaves geometry.now.layout (I.device image.old) (I.device image.new)
             workspace.old workspace.new self.new result }
     {
         if !self.has_passed(parent, dir) {
-            return self.path_by_search(geometry, image, workspace, parent, dir);
+            return self.search_name(geometry, image, workspace, parent, dir);
         }
         self.find_names(geometry, image, workspace, parent, dir)?;
         let Some(place) = self.names.place_of(dir) else {
-            return Ok(self.path.child(&[]));
+            return Ok(FoundName::Missing);
         };
         let window = &mut workspace.windows.chunk;
         window.fill(image, place.place, place.length)?;
-        Ok(self.path.child(window.bytes()))
+        Ok(FoundName::InWindow)
+    }
+
+    /// The name that was found, which is empty where none was.
+    fn name_at<'a>(&'a self, window: &'a Window, found: FoundName) -> &'a [u8]
+        requires { window.now.length ≤ vec_len window.now.buffer }
+        ensures { result.now ≡ name_at self.now window.now found }
+    {
+        match found {
+            FoundName::InReading => self.search.found_name(true),
+            FoundName::InWindow => window.bytes(),
+            FoundName::Missing => &[],
+        }
     }
 
     /// The path of a directory, for all lines on it and on its entries.
@@ -230,10 +259,12 @@ impl Siblings {
         ensures leaves { PathLeaves geometry.now.layout (I.device image.old) (I.device image.new)
             workspace.old workspace.new self.new result }
     {
-        match parent_above(workspace, dir) {
-            None => directory_path(geometry, image, workspace, dir),
-            Some(parent) => self.child_path(geometry, image, workspace, parent, dir),
-        }
+        let Some(parent) = parent_above(workspace, dir) else {
+            return directory_path(geometry, image, workspace, dir);
+        };
+        let found = self.find_name(geometry, image, workspace, parent, dir)?;
+        let name = self.name_at(&workspace.windows.chunk, found);
+        Ok(self.path.child(name))
     }
 
     /// Writes the path of a directory.
@@ -255,8 +286,12 @@ impl Siblings {
         ensures leaves { PathLeaves geometry.now.layout (I.device image.old) (I.device image.new)
             workspace.old workspace.new self.new result }
     {
-        let path = self.path_to(geometry, image, workspace, dir)?;
-        path.put(text);
+        let Some(parent) = parent_above(workspace, dir) else {
+            return path_of(geometry, image, workspace, dir, None, text);
+        };
+        let found = self.find_name(geometry, image, workspace, parent, dir)?;
+        let name = self.name_at(&workspace.windows.chunk, found);
+        self.path.put_entry(name, text);
         Ok(())
     }
 }

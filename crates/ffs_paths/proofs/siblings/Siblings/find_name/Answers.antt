@@ -3,8 +3,8 @@ use Rattle.std.proofs.lemmas.Result.{err_from_is_err_and}
 use Rattle.ffs_paths.specs.Climbing.{IsParentOf}
 use Rattle.ffs_paths.specs.declared.siblings.Siblings.{Siblings}
 use Rattle.ffs_paths.proofs.Keeping.{kept_back, kept_on, reads_then}
-use Rattle.ffs_paths.proofs.NamesFound.{names_of_parent, named_child, name_read, take_whole}
-use Rattle.ffs_paths.proofs.siblings.Siblings.child_path.Goals as goal
+use Rattle.ffs_paths.proofs.NamesFound.{names_of_parent, named_by, name_read, take_whole}
+use Rattle.ffs_paths.proofs.siblings.Siblings.find_name.Goals as goal
 
 pub fill-requires-clause-room : goal.fill-requires-clause-room
 fill-requires-clause-room g c =
@@ -25,40 +25,41 @@ fill-requires-clause-inside g c =
     let size = found.leaves.reads.ready.volume in
     omega arith
 
-pub child-requires-2 : goal.child-requires-2
-child-requires-2 g c =
+pub returns-clause-name : goal.returns-clause-name
+returns-clause-name g c =
     let found = c.in_ok-find_names.ensures in
-    let inside = found.leaves.siblings.names.inside.each c.args.dir found.found.covers c.in-Some.place
-    (sym c.place_of.ensures ∙ c.in-Some.is) in
-    rw c.bytes.ensures (take_whole c.fill.new.self.length c.in-Some.place.length c.fill.new.self.buffer.items
-    c.in_ok-fill.ensures.place.1 inside.short)
-
-pub returns-clause-path : goal.returns-clause-path
-returns-clause-path g c = λ b t claims survey.
-    let v = c.args.geometry.now.layout in
-    let found = c.in_ok-find_names.ensures in
-    let s = c.find_names.new.self in
-    let same = ap (λ (x : Siblings). x.parent) found.same ∙ c.has_passed.ensures c.if-not-has_passed.false in
-    let of = names_of_parent v b (g.I.Image.device c.args.image.now) c.args.workspace.now s c.args.dir t claims survey
-    (subst (IsParentOf c.args.workspace.now c.args.dir) (sym same) c.requires.parent)
-    (kept_back s found.leaves.reads found.leaves.siblings) (found.found.parent_is ∙ sym same) in
     let at = sym c.place_of.ensures ∙ c.in-Some.is in
-    let name = c.bytes.ensures ∙ (c.in_ok-fill.ensures.bytes b (ap (λ d. d.contents) found.leaves.reads.read ∙ t)
-    ∙ of.names.names.found c.args.dir found.found.covers c.in-Some.place at) in
-    named_child v b _ c.args.dir c.bytes.result.now s.path c.child-2.result of.child name of.path c.child-2.ensures
+    let inside = found.leaves.siblings.names.inside.each c.args.dir found.found.covers c.in-Some.place at in
+    record {
+      short = take_whole c.fill.new.self.length c.in-Some.place.length c.fill.new.self.buffer.items
+          c.in_ok-fill.ensures.place.1 inside.short;
+      named = λ b t claims survey.
+          let v = c.args.geometry.now.layout in
+          let s = c.find_names.new.self in
+          let same = ap (λ (x : Siblings). x.parent) found.same ∙ c.has_passed.ensures c.if-not-has_passed.false in
+          let of = names_of_parent v b (g.I.Image.device c.args.image.now) c.args.workspace.now s c.args.dir t claims
+          survey (subst (IsParentOf c.args.workspace.now c.args.dir) (sym same) c.requires.parent_is)
+          (kept_back s found.leaves.reads found.leaves.siblings) (found.found.parent_is ∙ sym same) in
+          let name = c.in_ok-fill.ensures.bytes b (ap (λ d. d.contents) found.leaves.reads.read ∙ t)
+          ∙ of.names.names.found c.args.dir found.found.covers c.in-Some.place at in
+          named_by v b s c.args.dir _ of.child name of.path;
+    }
 
-pub returns-in_default-clause-path : goal.returns-in_default-clause-path
-returns-in_default-clause-path g c = λ b t claims survey.
-    let v = c.args.geometry.now.layout in
+pub returns-in_default-clause-name : goal.returns-in_default-clause-name
+returns-in_default-clause-name g c =
     let found = c.in_ok-find_names.ensures in
-    let s = c.find_names.new.self in
-    let same = ap (λ (x : Siblings). x.parent) found.same ∙ c.has_passed.ensures c.if-not-has_passed.false in
-    let of = names_of_parent v b (g.I.Image.device c.args.image.now) c.args.workspace.now s c.args.dir t claims survey
-    (subst (IsParentOf c.args.workspace.now c.args.dir) (sym same) c.requires.parent)
-    (kept_back s found.leaves.reads found.leaves.siblings) (found.found.parent_is ∙ sym same) in
-    named_child v b _ c.args.dir _ s.path c.child.result of.child
-    (sym (of.names.none c.args.dir found.found.covers (sym c.place_of.ensures ∙ c.in_default.is))) of.path
-    c.child.ensures
+    record {
+      short = omega arith;
+      named = λ b t claims survey.
+          let v = c.args.geometry.now.layout in
+          let s = c.find_names.new.self in
+          let same = ap (λ (x : Siblings). x.parent) found.same ∙ c.has_passed.ensures c.if-not-has_passed.false in
+          let of = names_of_parent v b (g.I.Image.device c.args.image.now) c.args.workspace.now s c.args.dir t claims
+          survey (subst (IsParentOf c.args.workspace.now c.args.dir) (sym same) c.requires.parent_is)
+          (kept_back s found.leaves.reads found.leaves.siblings) (found.found.parent_is ∙ sym same) in
+          named_by v b s c.args.dir _ of.child
+          (sym (of.names.none c.args.dir found.found.covers (sym c.place_of.ensures ∙ c.in_default.is))) of.path;
+    }
 
 pub returns-clause-leaves : goal.returns-clause-leaves
 returns-clause-leaves g c =

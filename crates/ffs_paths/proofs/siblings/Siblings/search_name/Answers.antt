@@ -1,37 +1,57 @@
-use Rattle.std.proofs.Common.{◌≡◌, if◌then◌else◌, ◌∙◌, ◌++◌, ◌∷◌, [], Some, ap, sym, subst, arith}
+use Rattle.std.proofs.Common.{◌≡◌, ℕ, Bool, true, false, if◌then◌else◌, [], ◌∙◌, ap, sym, subst, arith}
 use Rattle.std.proofs.lemmas.Result.{err_from_is_err_and}
+use Rattle.ffs_image.specs.Device.{Device}
+use Rattle.ffs_volume.specs.declared.Layout.{Layout}
 use Rattle.ffs_volume.specs.Directories.Parents.{graph_of}
 use Rattle.ffs_volume.specs.Directories.Volumes.{volume_of}
+use Rattle.ffs_walk.specs.declared.window.Window.{Window}
+use Rattle.ffs_names.specs.Entering.{last_name}
 use Rattle.ffs_paths.specs.Climbing.{AreOpen}
-use Rattle.ffs_paths.specs.DirectoryPaths.{HoldsPath}
-use Rattle.ffs_paths.specs.Slashes.{AreSingle}
-use Rattle.ffs_paths.specs.Siblings.{LeadsTo}
+use Rattle.ffs_workspace.specs.declared.workspace.Workspace.{Workspace}
+use Rattle.ffs_paths.specs.Reads.{ForTree}
+use Rattle.ffs_paths.specs.Siblings.{LeadsTo, IsNamed, FindsName, name_at}
+use Rattle.ffs_paths.specs.declared.siblings.FoundName.{FoundName}
+use Rattle.ffs_paths.specs.declared.siblings.FoundName.TheVariants.{InReading, Missing}
+use Rattle.ffs_paths.specs.declared.siblings.Siblings.{Siblings}
 use Rattle.ffs_paths.proofs.Children.{IsChild, child_is, dir_some, found_child}
 use Rattle.ffs_paths.proofs.Keeping.{kept_back, leaves_with, then_reads}
-use Rattle.ffs_paths.proofs.siblings.Siblings.path_by_search.Goals as goal
-use Rattle.ffs_paths.proofs.siblings.Siblings.path_by_search.Goals.{then-found, else-found}
+use Rattle.ffs_paths.proofs.NamesFound.{named_by, last_short}
+use Rattle.ffs_paths.proofs.siblings.Siblings.search_name.Goals as goal
+use Rattle.ffs_paths.proofs.siblings.Siblings.search_name.Goals.{then-found, else-found}
 
-pub returns-clause-path : goal.returns-clause-path
-returns-clause-path g c = λ b t claims survey.
+finds : (v : Layout) (device : Device) (held : Workspace) (s : Siblings) (w : Window) (d : ℕ) (found : Bool)
+    (n : FoundName) → n ≡ (if found then InReading else Missing) →
+    ForTree v device held (λ g. IsNamed g s d (if found then last_name s.search.entries else [])) →
+    FindsName v device held s d (name_at s w n)
+finds v device held s w d true n e named = subst (λ m. FindsName v device held s d (name_at s w m)) (sym e) (record {
+  short = last_short s.search.entries;
+  named = named;
+})
+finds v device held s w d false n e named = subst (λ m. FindsName v device held s d (name_at s w m)) (sym e) (record {
+  short = omega arith;
+  named = named;
+})
+
+pub returns-clause-name : goal.returns-clause-name
+returns-clause-name g c =
+    let is : c.if-found.child.1 ≡ (if c.in_ok-found.found then InReading else Missing) = elim c.if-found.branch [
+      | then-found w ↦ rw w.if-found.true (ap (λ p. p.1) w.child-is)
+      | else-found w ↦ rw w.if-found.false (ap (λ p. p.1) w.child-is)
+    ] in
+    finds _ _ _ _ c.find.new.windows.chunk _ c.in_ok-found.found _ is (λ b t claims survey.
     let v = c.args.geometry.now.layout in
     let begun = c.in_ok-continue_or_begin.ensures in
     let reads = begun.leaves.reads in
-    let of = c.requires.parent in
+    let of = c.requires.parent_is in
     let some = of.below in
-    let s = c.continue_or_begin.new.self.parent in
     let child = subst (IsChild v b c.args.dir) (sym begun.begun.parent_is)
     (child_is v b c.args.dir c.args.parent (sym (survey.reached c.args.dir) ∙ of.reached) (omega arith)
     (of.is ∙ survey.parents c.args.dir)) in
     let kept = (kept_back _ reads begun.leaves.siblings).right b t claims survey
-    (dir_some (volume_of v b) s child.dir) in
-    let name = c.found_name.ensures.value
-    ∙ (sym (c.in_ok-found.ensures.found b (ap (λ d. d.contents) reads.read ∙ t)).name
-    ∙ kept.above child.dir c.args.dir begun.begun.highest) in
-    let leads = child.leads in
-    let path = c.child.ensures leads.names (subst (HoldsPath c.continue_or_begin.new.self.path) leads.above kept.path)
-    (subst (λ n. AreSingle (leads.names ++ n ∷ [])) (sym name) leads.single) in
-    subst (HoldsPath c.child.result) (sym leads.below)
-    (subst (λ n. HoldsPath c.child.result (Some (leads.names ++ n ∷ []))) name path)
+    (dir_some (volume_of v b) c.continue_or_begin.new.self.parent child.dir) in
+    let first = c.in_ok-found.ensures.found b (ap (λ d. d.contents) reads.read ∙ t) in
+    named_by v b _ c.args.dir _ child (sym first.name ∙ kept.above child.dir c.args.dir begun.begun.highest)
+    kept.path)
 
 pub returns-clause-leaves : goal.returns-clause-leaves
 returns-clause-leaves g c =
@@ -41,7 +61,7 @@ returns-clause-leaves g c =
     let found = c.in_ok-found.ensures in
     let grows = found.on.grows in
     let v = c.args.geometry.now.layout in
-    let of = c.requires.parent in
+    let of = c.requires.parent_is in
     let some = of.below in
     let opened = subst (λ v. AreOpen v (g.I.Image.device c.find.new.image) c.find.new.windows) siblings.layout
     found.leaves.windows in
@@ -56,9 +76,9 @@ returns-clause-leaves g c =
           (of.is ∙ survey.parents c.args.dir)) in
           let first = found.found b (ap (λ d. d.contents) reads.read ∙ t) in
           let name = sym (kept.above child.dir c.args.dir begun.begun.highest) ∙ first.name in
-          let is : c.if-found.self ≡ (if c.in_ok-found.found then c.args.dir else 0) = elim c.if-found.branch [
-            | then-found w ↦ rw w.if-found.true w.self-is
-            | else-found w ↦ rw w.if-found.false w.self-is
+          let is : c.if-found.child.0 ≡ (if c.in_ok-found.found then c.args.dir else 0) = elim c.if-found.branch [
+            | then-found w ↦ rw w.if-found.true (ap (λ p. p.0) w.child-is)
+            | else-found w ↦ rw w.if-found.false (ap (λ p. p.0) w.child-is)
           ] in
           record {
             path = kept.path;
