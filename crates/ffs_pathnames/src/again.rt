@@ -13,10 +13,11 @@ ghost use Rattle.ffs_pathnames.specs.Marks as marks;
 ghost use Rattle.ffs_pathnames.specs.Ready.{ReadyToPath, PhaseLeaves};
 
 use crate::entries::report_chunk;
+use crate::tell::EntryTexts;
 use ffs_image::Image;
 use ffs_layout::Geometry;
 use ffs_names::Chunks;
-use ffs_paths::Siblings;
+use ffs_paths::{PathText, Siblings};
 use ffs_phase::RunFault;
 use ffs_report::{Output, Report};
 use ffs_volume::Inode;
@@ -52,6 +53,10 @@ pub fn report_directory<I: Image, W: Output>(
     let cut = workspace.cut[dir as usize];
     let mut chunks = Chunks::start(geometry, inode, cut);
     let mut chunk = [0u8; DIRBLKSIZ];
+    let mut texts = EntryTexts {
+        text: PathText::new(),
+        directory: PathText::new(),
+    };
     'chunks: while let Some(offset) = chunks.next(
         image,
         &mut workspace.windows.blocks,
@@ -60,7 +65,7 @@ pub fn report_directory<I: Image, W: Output>(
     )? {
         let first = offset == 0;
         report_chunk(
-            geometry, image, workspace, siblings, report, dir, &path, first, &chunk,
+            geometry, image, workspace, siblings, report, dir, &path, first, &chunk, &mut texts,
         )?;
     }
     Ok(())

@@ -15,7 +15,7 @@ ghost use Rattle.ffs_pathnames.specs.Marks as marks;
 ghost use Rattle.ffs_pathnames.specs.Ready.{ReadyToPath, PhaseLeaves, LinesLeave};
 
 use crate::inodes::Inodes;
-use crate::tell::{report_extra, report_plain};
+use crate::tell::{EntryTexts, report_extra, report_plain};
 use crate::verdict::pass;
 use ffs_image::Image;
 use ffs_layout::{Entry, Geometry, entry_at};
@@ -38,6 +38,7 @@ fn say_entry<I: Image, W: Output>(
     path: &DirectoryPath,
     role: Role,
     entry: &Entry<'_>,
+    texts: &mut EntryTexts,
 ) -> Result<(), RunFault>
     requires ready { ReadyToPath geometry.now.layout (I.device image.old) workspace.old
         siblings.old dir }
@@ -53,9 +54,9 @@ fn say_entry<I: Image, W: Output>(
         Role::Empty => Ok(()),
         Role::Dot => Ok(()),
         Role::Dotdot => Ok(()),
-        Role::Extra => report_extra(geometry, image, workspace, report, dir, path, entry),
+        Role::Extra => report_extra(geometry, image, workspace, report, dir, path, entry, texts),
         Role::Plain => report_plain(
-            geometry, image, workspace, siblings, report, dir, path, entry,
+            geometry, image, workspace, siblings, report, dir, path, entry, texts,
         ),
     }
 }
@@ -71,6 +72,7 @@ pub fn report_entry<I: Image, W: Output>(
     path: &DirectoryPath,
     role: Role,
     entry: &Entry<'_>,
+    texts: &mut EntryTexts,
 ) -> Result<(), RunFault>
     requires ready { ReadyToPath geometry.now.layout (I.device image.old) workspace.old
         siblings.old dir }
@@ -87,7 +89,7 @@ pub fn report_entry<I: Image, W: Output>(
         workspace.old workspace.new siblings.new result }
 {
     say_entry(
-        geometry, image, workspace, siblings, report, dir, path, role, entry,
+        geometry, image, workspace, siblings, report, dir, path, role, entry, texts,
     )?;
     let inodes = Inodes {
         kinds: workspace.kinds.as_slice(),
@@ -117,6 +119,7 @@ pub fn report_chunk<I: Image, W: Output>(
     path: &DirectoryPath,
     first: bool,
     chunk: &[u8; DIRBLKSIZ],
+    texts: &mut EntryTexts,
 ) -> Result<(), RunFault>
     requires { ReadyToPath geometry.now.layout (I.device image.old) workspace.old siblings.old dir }
     ensures text { PhaseReports (KnowsPath geometry.now.layout (I.device image.old).contents
@@ -139,7 +142,7 @@ pub fn report_chunk<I: Image, W: Output>(
     'entries: while let Some(entry) = entry_at(order, chunk, place) {
         let role = role_of(first, index, &entry);
         report_entry(
-            geometry, image, workspace, siblings, report, dir, path, role, &entry,
+            geometry, image, workspace, siblings, report, dir, path, role, &entry, texts,
         )?;
         place += usize::from(entry.length);
         index += 1;

@@ -32,6 +32,15 @@ use ffs_report::{DotLine, Line, OutFault, Output, Report};
 use ffs_volume::Attr;
 use ffs_workspace::Workspace;
 
+/// The texts of the lines of an entry, which the next entry's are written over.
+#[derive(Drop)]
+pub struct EntryTexts {
+    /// The path of the entry.
+    pub text: PathText,
+    /// The path of the directory that it names.
+    pub directory: PathText,
+}
+
 /// What messages show of the inode of a number.
 #[tactic(auto, unfolding(ffs_volume::specs::Directories::PathnameCheck::attributes, ffs_volume::specs::Directories::Volumes::volume_of, ffs_volume::specs::Directories::Volumes::volume_with))]
 pub fn read_attr<I: Image>(
@@ -84,8 +93,8 @@ fn gather_path<I: Image>(
     siblings.put_path(geometry, image, workspace, dir, text)
 }
 
-/// Gathers what the messages on an entry show: the entry's path into `text`, the path of the directory that it names
-/// into `directory`, and the attributes of the inode that it names.
+/// Gathers what the messages on an entry show: the two paths into `texts`, and the attributes of the inode that it
+/// names.
 fn gather<I: Image>(
     geometry: &Geometry,
     image: &mut I,
@@ -94,8 +103,7 @@ fn gather<I: Image>(
     path: &DirectoryPath,
     entry: &Entry<'_>,
     verdict: &Verdict,
-    text: &mut PathText,
-    directory: &mut PathText,
+    texts: &mut EntryTexts,
 ) -> Result<Attr, ImageFault>
     requires ready { ReadyWith geometry.now.layout (I.device image.old) workspace.old siblings.old }
     requires number { IsTrue (asks_attr verdict.now) → entry.now.number
@@ -105,12 +113,12 @@ fn gather<I: Image>(
         → HoldsSurvey geometry.now.layout b workspace.old →
         IsPathOf (graph_of (volume_of geometry.now.layout b)) dir path.now →
         IsEnough (volume_of geometry.now.layout b) verdict.now dir entry.now.number
-        entry.now.name.now a text.new.items directory.new.items) }
+        entry.now.name.now a texts.new.text.items texts.new.directory.items) }
     ensures leaves { PathLeaves geometry.now.layout (I.device image.old) (I.device image.new)
         workspace.old workspace.new siblings.new result }
 {
     let (wants_attr, wants_path) = asks(verdict);
-    path.put_entry(entry.name, text);
+    path.put_entry(entry.name, &mut texts.text);
     if !wants_attr {
         return Ok(Attr {
             number: entry.number,
@@ -127,7 +135,7 @@ fn gather<I: Image>(
         siblings,
         wants_path,
         entry.number,
-        directory,
+        &mut texts.directory,
     )?;
     let attr = read_attr(geometry, image, workspace, entry.number)?;
     Ok(attr)
@@ -176,6 +184,7 @@ pub fn report_plain<I: Image, W: Output>(
     dir: u32,
     path: &DirectoryPath,
     entry: &Entry<'_>,
+    texts: &mut EntryTexts,
 ) -> Result<(), RunFault>
     requires ready { ReadyToPath geometry.now.layout (I.device image.old) workspace.old
         siblings.old dir }
@@ -191,26 +200,16 @@ pub fn report_plain<I: Image, W: Output>(
     if is_silent(&verdict) {
         return Ok(());
     }
-    let mut text = PathText::new();
-    let mut directory = PathText::new();
     let attr = gather(
-        geometry,
-        image,
-        workspace,
-        siblings,
-        path,
-        entry,
-        &verdict,
-        &mut text,
-        &mut directory,
+        geometry, image, workspace, siblings, path, entry, &verdict, texts,
     )?;
     say_verdict(
         report,
         &verdict,
         entry.number,
         attr,
-        text.as_slice(),
-        directory.as_slice(),
+        texts.text.as_slice(),
+        texts.directory.as_slice(),
     )?;
     Ok(())
 }
@@ -224,6 +223,7 @@ pub fn report_extra<I: Image, W: Output>(
     dir: u32,
     path: &DirectoryPath,
     entry: &Entry<'_>,
+    texts: &mut EntryTexts,
 ) -> Result<(), RunFault>
     requires { IsReadyFor geometry.now.layout (I.device image.old) workspace.old dir }
     ensures text { PhaseReports (KnowsPath geometry.now.layout (I.device image.old).contents
@@ -234,10 +234,9 @@ pub fn report_extra<I: Image, W: Output>(
     ensures leaves { LineLeaves geometry.now.layout (I.device image.old) (I.device image.new)
         workspace.old workspace.new result }
 {
-    let mut text = PathText::new();
-    path.put(&mut text);
+    path.put(&mut texts.text);
     let attr = read_attr(geometry, image, workspace, dir)?;
-    say_extra(report, attr, text.as_slice(), entry)?;
+    say_extra(report, attr, texts.text.as_slice(), entry)?;
     Ok(())
 }
 

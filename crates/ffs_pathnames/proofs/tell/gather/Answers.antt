@@ -34,7 +34,7 @@ returns-then-not-wants_attr-clause-enough g c = λ b dir t h r p.
     let v = c.args.geometry.now.layout in
     let silent = sym c.asks-wants_attr.ensures.attr ∙ c.if-not-wants_attr.true in
     enough (volume_of v b) c.args.verdict.now dir c.args.entry.now.number c.args.entry.now.name.now
-    _ c.put_entry.new.text.items c.args.directory.now.items
+    _ c.put_entry.new.text.items c.args.texts.now.directory.items
     (λ q. absurd (both_ways _ silent q))
     (c.put_entry.ensures (graph_of (volume_of v b)) dir p
     ∙ entry_in_room (graph_of (volume_of v b)) dir c.args.entry.now.name.now c.args.entry.now.short)

@@ -48,7 +48,7 @@ returns-in_err-say_verdict-clause-text g c =
     ((c.verdict_of-verdict.ensures.verdict v b c.requires.ready.ready.made k.knows.claims k.knows.survey).reported
     ∙ (sym (c.in_ok-attr.ensures.enough b c.args.dir k.knows.reported_is k.knows.claims k.knows.survey k.path)
     ∙ (ap (λ q. verdict_reported c.verdict_of-verdict.result c.args.entry.now.number c.in_ok-attr.attr q
-    c.gather.new.directory.items) (sym c.as_slice.ensures.value)
+    c.gather.new.texts.directory.items) (sym c.as_slice.ensures.value)
     ∙ ap (λ q. verdict_reported c.verdict_of-verdict.result c.args.entry.now.number c.in_ok-attr.attr
     c.as_slice.result.now q) (sym c.as_slice-2.ensures.value))))
     ∙ sym (append-nil (map of_tree ms)))
@@ -66,7 +66,7 @@ returns-clause-text g c =
     ((c.verdict_of-verdict.ensures.verdict v b c.requires.ready.ready.made k.knows.claims k.knows.survey).reported
     ∙ (sym (c.in_ok-attr.ensures.enough b c.args.dir k.knows.reported_is k.knows.claims k.knows.survey k.path)
     ∙ (ap (λ q. verdict_reported c.verdict_of-verdict.result c.args.entry.now.number c.in_ok-attr.attr q
-    c.gather.new.directory.items) (sym c.as_slice.ensures.value)
+    c.gather.new.texts.directory.items) (sym c.as_slice.ensures.value)
     ∙ ap (λ q. verdict_reported c.verdict_of-verdict.result c.args.entry.now.number c.in_ok-attr.attr
     c.as_slice.result.now q) (sym c.as_slice-2.ensures.value))))
     ∙ sym (append-nil (map of_tree ms)))
