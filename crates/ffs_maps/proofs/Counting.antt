@@ -1,6 +1,6 @@
 -- How many bits of a run are set.
-use Rattle.std.proofs.Common.{◌≡◌, inl, inr, ℕ, zero, suc, ◌+◌, ◌-◌, ◌*◌, ◌/◌, ◌%◌, ◌^◌, ◌<◌, ◌≤◌, Bool, false, cond}
-use Rattle.std.proofs.Common.{List, length, map, get_or, nat_eq, bit_and, count_ones, count_by, arith, refl, ap, ◌∙◌}
+use Rattle.std.proofs.Common.{◌≡◌, inl, inr, ℕ, zero, suc, ◌+◌, ◌-◌, ◌/◌, ◌%◌, ◌^◌, ◌<◌, ◌≤◌, Bool, false, cond}
+use Rattle.std.proofs.Common.{List, map, get_or, nat_eq, bit_and, count_ones, count_by, arith, refl, ap, ◌∙◌}
 use Rattle.std.proofs.Common.{sym, min}
 use Rattle.std.specs.List.{range_with_len, sum_by, slice_index_or}
 use Rattle.std.specs.Int.{bit_at}

@@ -16,16 +16,16 @@ ghost use Rattle.std.specs.List.{slice_index_or, range_with_len};
 ghost use Rattle.std.specs.Int.{div_ceil, bit_at};
 ghost use Rattle.ffs_memory.specs.Account.{Asks};
 
-use ffs_memory::{FixedList, Memory, SystemMemory};
+use ffs_memory::{Memory, SystemMemory, ZeroedWords};
 use std::alloc::{AllocError, Global};
 
 /// A bit for each fragment, in words of 64.
 #[derive(Drop)]
 pub struct FragmentMap {
-    words: FixedList<u64>,
+    words: ZeroedWords,
     /// How many fragments.
     pub size: u32,
-    ghost enough: { vec_len words ≡ div_ceil size 64 },
+    ghost enough: { words.count ≡ div_ceil size 64 },
 }
 
 impl FragmentMap {
@@ -44,7 +44,7 @@ impl FragmentMap {
         ensures asks { Asks (M.account memory.old) (M.account memory.new) (8 * div_ceil size 64)
             result }
     {
-        let words = memory.long_words(size.div_ceil(64) as usize)?;
+        let words = memory.zeroed_words(size.div_ceil(64) as usize)?;
         Ok(FragmentMap { words, size })
     }
 
@@ -60,8 +60,7 @@ impl FragmentMap {
         requires { fragment < self.now.size }
         ensures { result ≡ slice_index_or (bits_of self.now) fragment false }
     {
-        let words = self.words.as_slice();
-        let word = words[fragment as usize / 64];
+        let word = self.words.get(fragment as usize / 64);
         word >> (fragment % 64) & 1 == 1
     }
 
@@ -84,15 +83,14 @@ impl FragmentMap {
         ensures { (k : ℕ) → k < 64 → nat_eq (bit_at result k) 1
             ≡ is_clear (bits_of self.now) self.now.size (64 * index + k) }
     {
-        let words = self.words.as_slice();
         let whole = self.size as usize / 64;
         if index < whole {
-            return !words[index];
+            return !self.words.get(index);
         }
-        if index >= words.len() {
+        if index >= self.words.len() {
             return 0;
         }
-        let word = words[index];
+        let word = self.words.get(index);
         let clear = !word;
         let left = self.size as usize - 64 * index;
         clear & ((1 << left) - 1)
@@ -104,8 +102,7 @@ impl FragmentMap {
         ensures { result ≡ count_by (λ f. slice_index_or (bits_of self.now) f false)
             (range_with_len start len) }
     {
-        let words = self.words.as_slice();
-        let word = words[start as usize / 64];
+        let word = self.words.get(start as usize / 64);
         let bits = word >> (start % 64) & (u64::MAX >> (64 - len));
         bits.count_ones()
     }
@@ -144,8 +141,8 @@ impl FragmentMap {
         ensures { HasBits self.new self.old.size (slice_set (bits_of self.old) fragment true) }
     {
         let index = fragment as usize / 64;
-        let word = self.words[index];
-        self.words[index] = word | 1 << (fragment % 64);
+        let word = self.words.get(index);
+        self.words.set(index, word | 1 << (fragment % 64));
     }
 
     /// Clears the bit of a fragment.
@@ -154,8 +151,8 @@ impl FragmentMap {
         ensures { HasBits self.new self.old.size (slice_set (bits_of self.old) fragment false) }
     {
         let index = fragment as usize / 64;
-        let word = self.words[index];
-        self.words[index] = word & !(1 << (fragment % 64));
+        let word = self.words.get(index);
+        self.words.set(index, word & !(1 << (fragment % 64)));
     }
 
     /// Sets the bits of a run.
@@ -180,11 +177,11 @@ impl FragmentMap {
         }
         let index = start as usize / 64;
         let mask = (u64::MAX >> (64 - len)) << low;
-        let word = self.words[index];
+        let word = self.words.get(index);
         if word & mask != 0 {
             return false;
         }
-        self.words[index] = word | mask;
+        self.words.set(index, word | mask);
         true
     }
 }

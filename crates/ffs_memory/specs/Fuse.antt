@@ -1,9 +1,10 @@
 -- Which request a fuse refuses.
-use Rattle.std.specs.Prelude.{◌≡◌, ℕ, ◌-◌, ◌==◌, Bool, Result, IsErr}
+use Rattle.std.specs.Prelude.{◌≡◌, ℕ, ◌-◌, ◌*◌, ◌==◌, Bool, Result, IsErr}
 use Rattle.std.specs.Bool.{OnTrue, OnFalse}
-use Rattle.ffs_memory.specs.Account.{Account, Asks, Gives}
+use Rattle.ffs_memory.specs.Account.{Account, Asks, Gives, GivesWords}
 use Rattle.ffs_memory.specs.declared.fixed_list.FixedList.{FixedList}
 use Rattle.ffs_memory.specs.declared.fuse.FuseMemory.{FuseMemory}
+use Rattle.ffs_memory.specs.declared.zeroed_words.ZeroedWords.{ZeroedWords}
 
 -- the request after which none is left
 abbrev pub is_blown : ℕ → Bool
@@ -25,6 +26,12 @@ pub record Serves {M A E : Type 0} (account_below : M → Account) (account_of :
     (old new : FuseMemory M) (n bytes : ℕ) (x : A) (result : Result (FixedList A) E) : Type 0 where
   pub given : Gives (account_of old) (account_of new) n bytes x result
   pub fuse : Burns account_below old new bytes result
+
+-- a memory with a fuse serves a request for words that are 0 until they are set
+pub record ServesWords {M E : Type 0} (account_below : M → Account) (account_of : FuseMemory M → Account)
+    (old new : FuseMemory M) (n : ℕ) (result : Result ZeroedWords E) : Type 0 where
+  pub given : GivesWords (account_of old) (account_of new) n result
+  pub fuse : Burns account_below old new (8 * n) result
 
 -- a memory with a fuse is made of one below, whose account it shows, and the fuse has refused no request yet
 pub record IsFused {M : Type 0} (account_below : M → Account) (account_of : FuseMemory M → Account) (below : M)

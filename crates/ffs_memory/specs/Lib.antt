@@ -1,3 +1,4 @@
 pub mod Account
 pub mod Fuse
 pub mod Lending
+pub mod Words

@@ -1,9 +1,10 @@
 // A memory that refuses a request where it is reported to.
 ghost use Rattle.std.specs.Prelude.{◌≡◌, ◌+◌, ◌-◌, ◌*◌, ◌^◌, min, if◌then◌else◌, false};
-ghost use Rattle.ffs_memory.specs.Fuse.{Serves, IsFused, is_blown, left_after};
+ghost use Rattle.ffs_memory.specs.Fuse.{Serves, ServesWords, IsFused, is_blown, left_after};
 
 use crate::fixed_list::FixedList;
 use crate::memory::Memory;
+use crate::zeroed_words::ZeroedWords;
 use std::alloc::AllocError;
 
 /// A memory that passes requests on to another one, and refuses one of them: for tests of what a refusal leaves.
@@ -97,5 +98,15 @@ impl<M: Memory> Memory for FuseMemory<M> {
             return Err(AllocError);
         }
         self.inner.long_words(n)
+    }
+
+    fn zeroed_words(&mut self, n: usize) -> Result<ZeroedWords, AllocError>
+        ensures { ServesWords M.account ⟦<FuseMemory<M> as Memory>⟧.account self.old self.new n
+            result }
+    {
+        if self.blows() {
+            return Err(AllocError);
+        }
+        self.inner.zeroed_words(n)
     }
 }

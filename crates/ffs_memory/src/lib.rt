@@ -5,8 +5,10 @@ mod fixed_list;
 mod fuse;
 mod memory;
 mod system;
+mod zeroed_words;
 
 pub use fixed_list::FixedList;
 pub use fuse::FuseMemory;
 pub use memory::Memory;
 pub use system::SystemMemory;
+pub use zeroed_words::ZeroedWords;

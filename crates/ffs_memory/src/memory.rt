@@ -1,8 +1,9 @@
 // What grants memory, by what it answers.
 ghost use Rattle.std.specs.Prelude.{◌≡◌, ◌*◌, false};
-ghost use Rattle.ffs_memory.specs.Account.{Account, Gives};
+ghost use Rattle.ffs_memory.specs.Account.{Account, Gives, GivesWords};
 
 use crate::fixed_list::FixedList;
+use crate::zeroed_words::ZeroedWords;
 use std::alloc::AllocError;
 
 /// What grants the memory of a check, and counts what it granted and how often it refused. A refusal grants nothing.
@@ -32,4 +33,8 @@ pub trait Memory {
     /// So many words of 64 bits, each 0.
     fn long_words(&mut self, n: usize) -> Result<FixedList<u64>, AllocError>
         ensures { Gives (account self.old) (account self.new) n (8 * n) 0 result };
+
+    /// So many words of 64 bits that are 0 until they are set: no page of them is touched before.
+    fn zeroed_words(&mut self, n: usize) -> Result<ZeroedWords, AllocError>
+        ensures { GivesWords (account self.old) (account self.new) n result };
 }

@@ -3,6 +3,7 @@ ghost use Rattle.std.specs.Prelude.{◌≡◌, ◌+◌, ◌-◌, ◌^◌, min};
 
 use crate::fixed_list::FixedList;
 use crate::memory::Memory;
+use crate::zeroed_words::ZeroedWords;
 use std::alloc::{AllocError, Global};
 
 /// The memory of an allocator.
@@ -93,6 +94,16 @@ impl Memory for SystemMemory {
             Ok(items) => {
                 self.grant(8u64.saturating_mul(n as u64));
                 Ok(FixedList::new(items))
+            }
+            Err(fault) => Err(self.refuse(fault)),
+        }
+    }
+
+    fn zeroed_words(&mut self, n: usize) -> Result<ZeroedWords, AllocError> {
+        match ZeroedWords::new(self.alloc, n) {
+            Ok(words) => {
+                self.grant(8u64.saturating_mul(n as u64));
+                Ok(words)
             }
             Err(fault) => Err(self.refuse(fault)),
         }

@@ -1,17 +1,16 @@
-use Rattle.std.proofs.Common.{arith, refl, ◌/◌, ◌<◌, length}
-use Rattle.std.proofs.lemmas.List.{get_or_read}
+use Rattle.std.proofs.Common.{arith, refl, ap, ◌∙◌}
+use Rattle.ffs_memory.specs.Words.{words_of}
+use Rattle.ffs_memory.proofs.Words.{words_count}
+use Rattle.ffs_maps.specs.Bits.{bits_of_words}
 use Rattle.ffs_maps.proofs.Bits.{clear_bits}
 use Rattle.ffs_maps.proofs.FragmentMap.clear.Goals as goal
 
 pub returns : goal.returns
 returns c =
-    let inside : c.args.fragment / 64 < length c.args.self.now.words.items = omega arith in
+    let m = c.args.self.now in
     record {
       size = refl;
-      bits = clear_bits c.args.self.now.words.items c.args.self.now.size c.args.fragment c.index-word.result.now
-          c.requires
-          inside
-          (get_or_read c.args.self.now.words.items (c.args.fragment / 64) c.index-word.result.now inside
-          c.index-word.ensures
-          0);
+      bits = ap (λ ws. bits_of_words ws m.size) c.set.ensures.words
+          ∙ clear_bits (words_of m.words) m.size c.args.fragment c.get-word.result c.requires
+          (omega (arith, words_count m.words, m.enough)) c.get-word.ensures;
     }

@@ -6,5 +6,5 @@ use Rattle.ffs_maps.proofs.FragmentMap.in_memory.Goals as goal
 pub returns-clause-made : goal.returns-clause-made
 returns-clause-made g c = record {
   size = refl;
-  bits = ap (λ xs. bits_of_words xs c.args.size) c.in_ok-words.ensures.filled.items ∙ zero_bits _ c.args.size;
+  bits = ap (λ xs. bits_of_words xs c.args.size) c.in_ok-words.ensures.zeros ∙ zero_bits _ c.args.size;
 }
