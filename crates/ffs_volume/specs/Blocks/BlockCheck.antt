@@ -82,8 +82,8 @@ kept_in_steps v inode s (step ∷ steps) =
 
 abbrev pub kept_in_owners : Layout → Claims → List Owner → List Offer
 kept_in_owners v s [] = []
-kept_in_owners v s (o ∷ os) = kept_in_steps v o.number (at_next_inode s) o.steps ++ kept_in_owners v (after_owner v s o)
-    os
+kept_in_owners v s (o ∷ os) = kept_in_steps v o.number (at_next_inode s) o.steps
+    ++ kept_in_owners v (after_owner v s o) os
 
 -- a DUP for the first kept offer of each fragment that has a DUP in phase 1. Where the fragment is reserved, phase 1
 -- has reported that same offer already

@@ -28,8 +28,8 @@ first_naming_dir g x = first_below (λ s. is_naming_dir g s x) g.count
 
 -- the entry at index j of s is the first of all plain entries that name x
 abbrev pub is_first_naming_entry : (g : Graph) (s j x : ℕ) → Bool
-is_first_naming_entry g s j x = is_value (first_naming_dir g x) s && is_value (first_index (is_naming_entry x)
-    (g.entries s)) j
+is_first_naming_entry g s j x = is_value (first_naming_dir g x) s
+    && is_value (first_index (is_naming_entry x) (g.entries s)) j
 
 -- the entry at index j of s is the parent entry of x
 abbrev pub is_parent_entry : (g : Graph) (s j x : ℕ) → Bool

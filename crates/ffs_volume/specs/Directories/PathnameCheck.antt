@@ -140,8 +140,8 @@ is_bad_whiteout e =
 -- entry j of the directory s is the first plain entry that names x, a suspect (an inode that is marked, or a directory
 -- of size 0) other than the root
 abbrev pub is_first_entry_of_suspect : (vol : Volume) (s j x : ℕ) → Bool
-is_first_entry_of_suspect vol s j x = is_suspect vol x && (not (x == ROOTINO) && is_first_naming_entry (graph_of vol) s
-    j x)
+is_first_entry_of_suspect vol s j x =
+    is_suspect vol x && (not (x == ROOTINO) && is_first_naming_entry (graph_of vol) s j x)
 
 -- the message on a suspect that an entry names: DUP/BAD where x is marked, else ZERO LENGTH DIRECTORY
 abbrev pub message_on_suspect : (vol : Volume) (x : ℕ) (path : List ℕ) → TreeMessage

@@ -70,9 +70,8 @@ pub record EntryExamples : Type 0 where
   -- an entry that passes the chunk's end, has a `/`, has no NUL after its name, no name, or a type above 15
   pub too_long : entry_at Little (with_second_entry Little (word Little 2 ++ bytes_in Little 2 504)) 12 ≡ None
   pub slash : entry_at Little (with_second_entry Little (entry_bytes Little 2 12 4 (97 ∷ 47 ∷ 98 ∷ []))) 12 ≡ None
-  pub no_nul : entry_at Big (with_second_entry Big (word Big 2 ++ (bytes_in Big 2 12 ++ (4 ∷ 3 ∷ 97 ∷ 98 ∷ 99 ∷ 1 ∷
-      [])))) 12
-      ≡ None
+  pub no_nul : entry_at Big (with_second_entry Big (word Big 2
+      ++ (bytes_in Big 2 12 ++ (4 ∷ 3 ∷ 97 ∷ 98 ∷ 99 ∷ 1 ∷ [])))) 12 ≡ None
   pub no_name : entry_at Little (with_second_entry Little (entry_bytes Little 2 12 4 [])) 12 ≡ None
   pub type_16 : entry_at Little (with_second_entry Little (entry_bytes Little 2 12 16 (97 ∷ []))) 12 ≡ None
   pub type_15 : entry_at Little (with_second_entry Little (entry_bytes Little 2 12 15 (97 ∷ []))) 12
