@@ -99,7 +99,7 @@ step-requires g c =
     let v = c.args.geometry.now.layout in
     let inv = c.loop-next.invariant in
     let ok = c.in_ok-next.ensures.leaves.read in
-    let sized = length_bits c.loop-next.workspace.claimed.words.items c.loop-next.workspace.claimed.size
+    let sized = length_bits _ c.loop-next.workspace.claimed.size
     ∙ inv.ready.made.claimed in
     let read = ready_walked c.args.geometry.now _ _ _ c.loop-next.workspace c.next.new.blocks inv.geometry ok
     c.next.ensures.leaves.kept.size c.next.ensures.leaves.kept.holds inv.ready in

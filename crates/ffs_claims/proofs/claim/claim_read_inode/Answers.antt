@@ -21,7 +21,7 @@ pub say_count-requires : goal.say_count-requires
 say_count-requires g c =
     let m = c.in_ok-claim.ensures.left.moves in
     let used : length (claims_of c.claim.new.workspace).used ≡ c.args.geometry.now.layout.size =
-    length_bits c.claim.new.workspace.claimed.words.items c.claim.new.workspace.claimed.size
+    length_bits _ c.claim.new.workspace.claimed.size
     ∙ c.claim.ensures.left.claim.ready.made.claimed in
     let bad = ap (λ w. w.bad) c.begin.ensures in
     let dups = ap (λ w. w.dups) c.begin.ensures in

@@ -13,7 +13,7 @@ overflow_add-workspace-3 c =
     omega (
       arith,
       made.unreported,
-      length_bits old.words.items old.size ∙ made.duplicates,
+      length_bits _ old.size ∙ made.duplicates,
       count_by-le-length (λ b. b)
           (bits_of old),
       c.args.geometry.now.sound.numbers.size_below,
@@ -24,7 +24,7 @@ returns-clause-only c =
     let old = c.args.workspace.now.duplicates in
     let m = c.requires.room.made in
     let size : length (bits_of c.args.workspace.now.duplicates) ≡ c.args.geometry.now.layout.size =
-    length_bits c.args.workspace.now.duplicates.words.items c.args.workspace.now.duplicates.size ∙ m.duplicates in
+    length_bits _ c.args.workspace.now.duplicates.size ∙ m.duplicates in
     let low : c.args.fragment < c.args.geometry.now.layout.size = ok_below c.args.geometry.now.layout c.args.fragment
     (sym c.ok.ensures ∙ c.if-not-ok.false) in
     let count : c.args.workspace.now.unreported + 1 ≡ set_count (bits_of c.set-2.new.self) =

@@ -9,14 +9,14 @@ use Rattle.ffs_claims.proofs.report_claim.report_claim.Goals as goal
 pub returns-then-fragment-from-clause-said : goal.returns-then-fragment-from-clause-said
 returns-then-fragment-from-clause-said g c =
     let d = bits_of c.args.workspace.now.duplicates in
-    let size = length_bits c.args.workspace.now.duplicates.words.items c.args.workspace.now.duplicates.size
+    let size = length_bits _ c.args.workspace.now.duplicates.size
     ∙ c.requires.can.made.duplicates in
     said_out (bits_of c.args.workspace.now.duplicates) c.args.number c.args.fragment _
     (past_end (bits_of c.args.workspace.now.duplicates) c.args.fragment (omega (arith, size)))
 
 pub returns-then-fragment-from-clause-reported : goal.returns-then-fragment-from-clause-reported
 returns-then-fragment-from-clause-reported g c =
-    let size = length_bits c.args.workspace.now.duplicates.words.items c.args.workspace.now.duplicates.size
+    let size = length_bits _ c.args.workspace.now.duplicates.size
     ∙ c.requires.can.made.duplicates in
     reported_out c.args.workspace.now c.args.workspace.now c.args.number c.args.fragment
     (past_end (bits_of c.args.workspace.now.duplicates) c.args.fragment (omega (arith, size))) refl refl
@@ -34,7 +34,7 @@ returns-then-not-get-clause-reported g c =
 pub overflow_sub-workspace : goal.overflow_sub-workspace
 overflow_sub-workspace g c =
     let old = c.args.workspace.now.duplicates in
-    let size = length_bits c.args.workspace.now.duplicates.words.items c.args.workspace.now.duplicates.size
+    let size = length_bits _ c.args.workspace.now.duplicates.size
     ∙ c.requires.can.made.duplicates in
     omega (
       arith,
@@ -46,7 +46,7 @@ overflow_sub-workspace g c =
 pub returns-clause-only : goal.returns-clause-only
 returns-clause-only g c =
     let m = c.requires.can.made in
-    let size = length_bits c.args.workspace.now.duplicates.words.items c.args.workspace.now.duplicates.size
+    let size = length_bits _ c.args.workspace.now.duplicates.size
     ∙ m.duplicates in
     let one = count_clear (bits_of c.args.workspace.now.duplicates) c.args.fragment (omega (arith, size))
     (sym c.get.ensures ∙ c.if-not-get.false) in
