@@ -1,4 +1,4 @@
-//! Each request of a run for memory refused in turn.
+//! Each request of a run for memory refused in turn, and words that are 0 until they are set.
 
 use super::layout::base;
 use ffs_check::args::Args;
@@ -41,6 +41,24 @@ fn each_request_refused(rt: HostRuntime) -> Result<(), Fail> {
         assert_eq!(rt; memory.refused(), 1);
         assert!(rt; memory.granted() < HELD);
     }
+    Ok(())
+}
+
+// Words are 0 until they are set, and the others stay.
+#[test]
+fn words_set_and_unset(rt: HostRuntime) -> Result<(), Fail> {
+    let mut memory = SystemMemory::new(rt.alloc());
+    let mut words = memory.zeroed_words(1000)?;
+    assert_eq!(rt; memory.granted(), 8000);
+    assert_eq!(rt; words.len(), 1000);
+    assert_eq!(rt; words.get(999), 0);
+    words.set(700, 7);
+    assert_eq!(rt; words.get(699), 0);
+    assert_eq!(rt; words.get(700), 7);
+    assert_eq!(rt; words.get(701), 0);
+    words.set(3, 9);
+    assert_eq!(rt; words.get(3), 9);
+    assert_eq!(rt; words.get(700), 7);
     Ok(())
 }
 
