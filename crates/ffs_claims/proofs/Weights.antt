@@ -8,7 +8,7 @@ use Rattle.ffs_volume.specs.Blocks.Lengths.{HasLength}
 use Rattle.ffs_volume.specs.Blocks.Claims.{Claims, is_open, after_step}
 use Rattle.ffs_volume.specs.Blocks.ClaimBounds.{used_bits, ClaimBound}
 use Rattle.ffs_volume.proofs.Weights.{step_moves, moves_then}
-use Rattle.ffs_maps.proofs.Bits.{length_bits}
+use Rattle.ffs_maps.proofs.Bits.{bits_long}
 use Rattle.ffs_workspace.specs.declared.workspace.Workspace.{Workspace}
 use Rattle.ffs_workspace.specs.Holds.{claims_of}
 use Rattle.ffs_workspace.specs.Lengths.{IsFor}
@@ -32,11 +32,11 @@ bound_open s0 s size h free m =
 -- at most the volume's fragments are used
 pub used_below : (v : Layout) (w : Workspace) → IsFor v w → used_bits (claims_of w) ≤ v.size
 used_below v w made =
-    let size = length_bits _ w.claimed.size ∙ made.claimed in
+    let size = bits_long w.claimed ∙ made.claimed in
     omega (arith, count_by-le-length (λ b. b) (claims_of w).used, size)
 
 pub seen_bound : (v : Layout) (u w : Workspace) → IsFor v w → is_open (claims_of w) ≡ true →
     ClaimBound (claims_of u) (claims_of w) →
     w.runs_seen + used_bits (claims_of u) + 2 ≤ u.runs_seen + v.size + 22
 seen_bound v u w made free m = bound_open (claims_of u) (claims_of w) v.size
-    (length_bits _ w.claimed.size ∙ made.claimed) free m
+    (bits_long w.claimed ∙ made.claimed) free m

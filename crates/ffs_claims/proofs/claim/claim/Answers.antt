@@ -1,7 +1,7 @@
 use Rattle.std.proofs.Common.{arith, refl, ◌≡◌, ◌∙◌, ap, sym, List, ◌++◌, ◌∷◌, true, false, replicate}
 use Rattle.std.proofs.lemmas.Result.{err_from_is_err_and}
 use Rattle.ffs_walk.specs.Rests.{rest}
-use Rattle.ffs_maps.proofs.Bits.{length_bits}
+use Rattle.ffs_maps.proofs.Bits.{length_bits, bits_long}
 use Rattle.ffs_volume.specs.declared.Step.{Step}
 use Rattle.ffs_volume.specs.declared.Step.TheVariants.{Gap}
 use Rattle.ffs_volume.specs.Blocks.Steps.{steps_of, is_walked}
@@ -99,7 +99,7 @@ step-requires g c =
     let v = c.args.geometry.now.layout in
     let inv = c.loop-next.invariant in
     let ok = c.in_ok-next.ensures.leaves.read in
-    let sized = length_bits _ c.loop-next.workspace.claimed.size
+    let sized = bits_long c.loop-next.workspace.claimed
     ∙ inv.ready.made.claimed in
     let read = ready_walked c.args.geometry.now _ _ _ c.loop-next.workspace c.next.new.blocks inv.geometry ok
     c.next.ensures.leaves.kept.size c.next.ensures.leaves.kept.holds inv.ready in

@@ -2,7 +2,7 @@ use Rattle.std.proofs.Common.{rules, arith, refl, [], length, ap, ◌∙◌, ◌
 use Rattle.std.specs.Prelude.{vec_len}
 use Rattle.ffs_volume.specs.declared.Class.TheVariants.{Free}
 use Rattle.std.proofs.lemmas.Result.{err_from_is_err_and}
-use Rattle.ffs_maps.proofs.Bits.{length_bits}
+use Rattle.ffs_maps.proofs.Bits.{bits_long}
 use Rattle.ffs_volume.specs.Blocks.Steps.{steps_of}
 use Rattle.ffs_volume.specs.Blocks.BlockCheck.{count_lines, owner_lines}
 use Rattle.ffs_volume.specs.Blocks.Claims.{Claims, lines_of_steps, after_steps}
@@ -21,7 +21,7 @@ pub say_count-requires : goal.say_count-requires
 say_count-requires g c =
     let m = c.in_ok-claim.ensures.left.moves in
     let used : length (claims_of c.claim.new.workspace).used ≡ c.args.geometry.now.layout.size =
-    length_bits _ c.claim.new.workspace.claimed.size
+    bits_long c.claim.new.workspace.claimed
     ∙ c.claim.ensures.left.claim.ready.made.claimed in
     let bad = ap (λ w. w.bad) c.begin.ensures in
     let dups = ap (λ w. w.dups) c.begin.ensures in
@@ -147,7 +147,9 @@ returns-in_err-say_count-clause-claiming g c = record {
       (count_right _ v c.args.number c.args.inode.now s1 (claims_of c.claim.new.workspace) c.class_of-class.result
       c.in_ok-claim.ensures.claims)
       c.in_err-say_count.ensures);
-  claims = search rules;
+  claims = let p = err_from_is_err_and c.from_residual-in_err-say_count.result
+      c.from_residual-in_err-say_count.ensures.1 in
+      rw p.1 tt;
   left = let begun = ap (λ w. w.runs_seen) c.begin.ensures in
       let claims = ap (λ w. used_bits (claims_of w)) c.begin.ensures in
       let p = err_from_is_err_and c.from_residual-in_err-say_count.result c.from_residual-in_err-say_count.ensures.1 in

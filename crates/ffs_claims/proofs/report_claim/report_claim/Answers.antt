@@ -2,21 +2,21 @@ use Rattle.std.proofs.Common.{◌≡◌, ◌-◌, arith, rules, refl, sym, ap, �
 use Rattle.ffs_workspace.specs.Lengths.{set_count}
 use Rattle.ffs_claims.proofs.Doubles.{count_clear}
 use Rattle.ffs_maps.specs.Bits.{bits_of}
-use Rattle.ffs_maps.proofs.Bits.{length_bits}
+use Rattle.ffs_maps.proofs.Bits.{bits_long}
 use Rattle.ffs_claims.proofs.Reportings.{reported_out, said_out, past_end}
 use Rattle.ffs_claims.proofs.report_claim.report_claim.Goals as goal
 
 pub returns-then-fragment-from-clause-said : goal.returns-then-fragment-from-clause-said
 returns-then-fragment-from-clause-said g c =
     let d = bits_of c.args.workspace.now.duplicates in
-    let size = length_bits _ c.args.workspace.now.duplicates.size
+    let size = bits_long c.args.workspace.now.duplicates
     ∙ c.requires.can.made.duplicates in
     said_out (bits_of c.args.workspace.now.duplicates) c.args.number c.args.fragment _
     (past_end (bits_of c.args.workspace.now.duplicates) c.args.fragment (omega (arith, size)))
 
 pub returns-then-fragment-from-clause-reported : goal.returns-then-fragment-from-clause-reported
 returns-then-fragment-from-clause-reported g c =
-    let size = length_bits _ c.args.workspace.now.duplicates.size
+    let size = bits_long c.args.workspace.now.duplicates
     ∙ c.requires.can.made.duplicates in
     reported_out c.args.workspace.now c.args.workspace.now c.args.number c.args.fragment
     (past_end (bits_of c.args.workspace.now.duplicates) c.args.fragment (omega (arith, size))) refl refl
@@ -34,7 +34,7 @@ returns-then-not-get-clause-reported g c =
 pub overflow_sub-workspace : goal.overflow_sub-workspace
 overflow_sub-workspace g c =
     let old = c.args.workspace.now.duplicates in
-    let size = length_bits _ c.args.workspace.now.duplicates.size
+    let size = bits_long c.args.workspace.now.duplicates
     ∙ c.requires.can.made.duplicates in
     omega (
       arith,
@@ -46,7 +46,7 @@ overflow_sub-workspace g c =
 pub returns-clause-only : goal.returns-clause-only
 returns-clause-only g c =
     let m = c.requires.can.made in
-    let size = length_bits _ c.args.workspace.now.duplicates.size
+    let size = bits_long c.args.workspace.now.duplicates
     ∙ m.duplicates in
     let one = count_clear (bits_of c.args.workspace.now.duplicates) c.args.fragment (omega (arith, size))
     (sym c.get.ensures ∙ c.if-not-get.false) in
