@@ -70,10 +70,10 @@ pub record InodeLeaves {T : Type 0} (v : Layout) (d d' : Device) (old new : Work
       ≤ old.runs_seen + used_bits (claims_of new) + 22)
   pub again : new.runs_again ≡ old.runs_again
 
--- a step of an inode claims what it offers: these lines are said, these are the claims then, and nothing else changes
+-- a step of an inode claims what it offers: these lines are said, the claims are these then, and the rest is as
+-- claiming leaves it
 pub record ClaimsStep {E : Type 0} (v : Layout) (lines : List BlockMessage) (after : Claims)
-    (progress progress' : Progress)
-    (old new : Workspace) (area : DataArea) (result : Result Bool E) : Type 0 where
+    (progress progress' : Progress) (old new : Workspace) (area : DataArea) (result : Result Bool E) : Type 0 where
   pub said : Says progress progress' (of_lines lines) result
   pub claims : IfOk result (AreClaims new after)
   pub left : ClaimsInArea v old new area

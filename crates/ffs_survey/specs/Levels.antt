@@ -17,15 +17,15 @@ pub record ReadsReached (kinds : List ℕ) (marked : List Bool) (d : ℕ) (entri
   pub calm : IsFlagged d (are_calm (record { kinds = kinds; marked = marked; dir = d; above = number_at old.parents d })
       (bool_at old.reached) 0 entries) sound old.calm new.calm
 
--- reached directories are read, which makes so much of what was found: no count below n grows by more than `most`, and
--- the queue, which ended at `top`, ends at `end`, with all that is newly reached
+-- what the reading of reached directories makes of what was found, as `reads` says it: no count below n grows by more
+-- than `most`, and the queue, which ended at `top`, ends at `end`, with all that is newly reached
 pub record Discovers (n most top end : ℕ) (reads : Found → Found → Type 0) (old new : Found) : Type 0 where
   pub grown : GrowsBy n most old.references new.references
   pub ends : end + unset new.reached ≡ top + unset old.reached
   pub read : reads old new
 
--- a level is read, which makes so much of what was found, and the queue has the next one from `high` to `end`, after
--- what it had
+-- what the reading of a level makes of what was found, as `reads` says it: the queue keeps what it had up to `high`,
+-- and has the next level from there to `end`
 pub record FollowsLevel (high end : ℕ) (reads : Found → Found → Type 0) (old new : Found) : Type 0 where
   pub room : HasRoomForLevel high end new.references new.reached new.queue
   pub kept : take high new.queue ≡ take high old.queue

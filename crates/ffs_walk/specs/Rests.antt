@@ -63,7 +63,8 @@ pub record IsAtTop (w : Walk) : Type 0 where
   pub double : IsSpent w.double
   pub triple : IsSpent w.triple
 
--- the next step of a walk in an image of these contents is taken, and the walk has the others left; None is after all
+-- the next step of a walk in an image of these contents is taken, and the walk has the others left; None comes after
+-- the last
 pub record IsNextStep (contents : Option (List ℕ)) (old new : Walk) (answer : Option Step) : Type 0 where
   pub steps : ForContents contents (λ bytes. MatchOption answer (rest bytes old ≡ [])
       (λ step. rest bytes old ≡ step ∷ rest bytes new))
