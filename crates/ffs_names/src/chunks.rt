@@ -2,6 +2,7 @@
 
 ghost use Rattle.std.specs.Prelude.{◌≡◌, ◌+◌, ◌*◌, ◌≤◌, ◌<◌, ◌^◌, ◌∷◌, ℕ, List, [], true, Ok, None, OnOk, IfOk, IfSome, OnErr, MatchBool, MatchOption, MatchResult};
 ghost use Rattle.ffs_image.specs.Device.{ForContents};
+ghost use Rattle.ffs_volume.specs.Blocks.Inodes as inodes;
 ghost use Rattle.ffs_volume.specs.Disk.Numbers.{piece};
 ghost use Rattle.ffs_volume.specs.Directories.Entries.{bytes_read};
 ghost use Rattle.ffs_volume.specs.declared.Step.{Step as StepIn};
@@ -15,7 +16,7 @@ use crate::run_cursor::RunCursor;
 use ffs_image::{Image, ImageFault};
 use ffs_layout::Geometry;
 use ffs_volume::constants::{DIRBLKSIZ, MINDIRSIZE};
-use ffs_volume::{Inode, Step};
+use ffs_volume::{Class, Inode, Step};
 use ffs_walk::{Blocks, Walk, Window, class_of};
 
 /// A reading of the chunks of a directory (dir(5)), in the order of the file: those of its Runs of data that are kept.
@@ -128,9 +129,19 @@ impl Chunks {
         ensures begins { BeginsAt geometry.now.layout inode.now cut result }
         ensures geometry { result.walk.geometry ≡ geometry.now }
     {
+        Chunks::of_class(geometry, inode, class_of(geometry, inode), cut)
+    }
+
+    /// A reading as `start` begins it, if this is the inode's class.
+    #[inline(always)]
+    pub fn of_class(geometry: &Geometry, inode: &Inode, class: Class, cut: u32) -> Chunks
+        ensures begins { class ≡ inodes.class_of geometry.now.layout inode.now
+            → BeginsAt geometry.now.layout inode.now cut result }
+        ensures geometry { result.walk.geometry ≡ geometry.now }
+    {
         let taken = taken_of(inode.size);
         Chunks {
-            walk: Walk::of_class(geometry, inode, class_of(geometry, inode)),
+            walk: Walk::of_class(geometry, inode, class),
             keeping: Keeping::start(cut),
             taken,
             budget: (taken / DIRBLKSIZ as u64) as u32,

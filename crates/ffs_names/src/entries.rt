@@ -2,6 +2,7 @@
 
 ghost use Rattle.std.specs.Prelude.{◌≡◌, ◌+◌, ◌-◌, ◌*◌, ◌/◌, ◌<◌, ◌≤◌, ◌^◌, ◌∷◌, ℕ, List, [], false, IfOk, IfSome, is_some, MatchOption};
 ghost use Rattle.ffs_image.specs.Device.{ForContents};
+ghost use Rattle.ffs_volume.specs.Blocks.Inodes as inodes;
 ghost use Rattle.ffs_volume.specs.Directories.Entries.{entry_at as entry_in};
 ghost use Rattle.ffs_names.specs.RightShapes.{is_right_size};
 ghost use Rattle.ffs_names.specs.Windows.{CanWalkDir, CanReadChunks};
@@ -13,7 +14,7 @@ use ffs_image::{Image, ImageFault};
 use ffs_layout::{Geometry, entry_at};
 use ffs_survey::Named;
 use ffs_volume::constants::{DIRBLKSIZ, MINDIRSIZE};
-use ffs_volume::{Inode, Order};
+use ffs_volume::{Class, Inode, Order};
 use ffs_walk::{Blocks, Window};
 
 /// A reading of the entries of a directory (dir(5)), chunk after chunk.
@@ -92,17 +93,17 @@ impl Entries {
         entries
     }
 
-    /// Begins a reading of another directory of the same volume, as `start` does, in place.
+    /// Begins a reading of another directory of the same volume, as `start` does, in place, if this is its class.
     #[inline(always)]
-    pub fn restart(&mut self, inode: &Inode, cut: u32)
-        ensures begins { BeginsDirectory self.old.chunks.walk.geometry.layout inode.now cut
-            self.new }
+    pub fn restart(&mut self, inode: &Inode, class: Class, cut: u32)
+        ensures begins { class ≡ inodes.class_of self.old.chunks.walk.geometry.layout inode.now
+            → BeginsDirectory self.old.chunks.walk.geometry.layout inode.now cut self.new }
         ensures geometry { self.new.chunks.walk.geometry ≡ self.old.chunks.walk.geometry }
     {
         let geometry = self.chunks.walk.geometry;
         self.place = DIRBLKSIZ;
         self.index = 0;
-        self.chunks = Chunks::start(&geometry, inode, cut);
+        self.chunks = Chunks::of_class(&geometry, inode, class, cut);
         self.first = false;
         self.sound = has_right_size(inode);
     }

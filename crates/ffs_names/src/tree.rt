@@ -6,6 +6,7 @@ use crate::entries::Entries;
 use ffs_image::{Image, ImageFault};
 use ffs_layout::Geometry;
 use ffs_survey::{Directories, Named, is_dir};
+use ffs_volume::Class;
 use ffs_workspace::Windows;
 
 /// The directories of a volume: those that the kinds of inodes name, with what is kept of them.
@@ -61,7 +62,7 @@ impl<I: Image> Directories for Tree<'_, I> {
             .windows
             .table
             .inode_by_part(&self.geometry, dir, self.image)?;
-        self.entries.restart(&inode, cut);
+        self.entries.restart(&inode, Class::Dir, cut);
         Ok(())
     }
 

@@ -68,8 +68,8 @@ fn any_nonzero(addresses: &[u32; 15], from: usize) -> bool
 
 /// Whether an inode of the class has steps.
 pub fn has_steps(geometry: &Geometry, inode: &Inode, class: Class) -> bool
-    requires { class ≡ inodes.class_of geometry.now.layout inode.now }
-    ensures { result ≡ steps.is_walked geometry.now.layout inode.now }
+    ensures { class ≡ inodes.class_of geometry.now.layout inode.now
+        → result ≡ steps.is_walked geometry.now.layout inode.now }
 {
     let walks = match class {
         Class::File | Class::Dir => true,
@@ -102,8 +102,8 @@ fn logical_blocks_of(geometry: &Geometry, inode: &Inode) -> u64
 
 /// How many logical blocks of an inode of the class a walk goes over.
 pub fn walked_blocks(geometry: &Geometry, inode: &Inode, class: Class) -> u64
-    requires { class ≡ inodes.class_of geometry.now.layout inode.now }
-    ensures value { result ≡ (if steps.is_walked geometry.now.layout inode.now
+    ensures value { class ≡ inodes.class_of geometry.now.layout inode.now
+        → result ≡ (if steps.is_walked geometry.now.layout inode.now
         then inodes.logical_blocks_of geometry.now.layout inode.now else 0) }
     ensures small { result < 2 ^ 53 }
 {

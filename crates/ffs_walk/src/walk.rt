@@ -302,12 +302,13 @@ impl Walk {
         Walk::of_class(geometry, inode, class_of(geometry, inode))
     }
 
-    /// A walk over the blocks of an inode whose class is known.
+    /// A walk over the blocks of an inode, if this is its class.
     #[inline(always)]
     #[tactic(auto, unfolding(ffs_volume::specs::Blocks::Steps::steps_of))]
     pub fn of_class(geometry: &Geometry, inode: &Inode, class: Class) -> Walk
-        requires { class ≡ inodes.class_of geometry.now.layout inode.now }
-        ensures { IsWalkOf geometry.now inode.now result }
+        ensures walk { class ≡ inodes.class_of geometry.now.layout inode.now
+            → IsWalkOf geometry.now inode.now result }
+        ensures geometry { result.geometry ≡ geometry.now }
     {
         let blocks = walked_blocks(geometry, inode, class);
         Walk {

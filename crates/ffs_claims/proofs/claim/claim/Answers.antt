@@ -22,7 +22,8 @@ pub returns-then-not-has_steps : goal.returns-then-not-has_steps
 returns-then-not-has_steps g c =
     let v = c.args.geometry.now.layout in
     let s = claims_of c.args.workspace.now in
-    let none : is_walked v c.args.inode.now ≡ false = sym c.has_steps.ensures ∙ c.if-not-has_steps.true in
+    let none : is_walked v c.args.inode.now ≡ false = sym (c.has_steps.ensures c.requires.class)
+    ∙ c.if-not-has_steps.true in
     record {
       text = of_same _ _ _ _ _ _
           (of_begins _ (λ bytes. of_lines (lines_of_steps v c.args.number s (steps_of v c.args.inode.now bytes))) _)
@@ -52,11 +53,11 @@ loop-next-init g c =
       device = refl;
       found = found_none c.args.workspace.now;
       moves = stays s;
-      claims = λ bytes t. ap (after_steps v s) (c.of_class-walk.ensures.steps bytes);
+      claims = λ bytes t. ap (after_steps v s) ((c.of_class-walk.ensures.walk c.requires.class).steps bytes);
       said = of_same _ _ _ _ _ _
           (of_begins _ (λ bytes. of_lines (lines_of_steps v c.args.number s (steps_of v c.args.inode.now bytes))) _)
           (λ bytes t. ap (λ (xs : List Step). of_lines (lines_of_steps v c.args.number s xs))
-          (sym (c.of_class-walk.ensures.steps bytes)));
+          (sym ((c.of_class-walk.ensures.walk c.requires.class).steps bytes)));
     }
 
 pub next-requires : goal.next-requires

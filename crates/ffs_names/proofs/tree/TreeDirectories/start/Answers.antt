@@ -1,7 +1,7 @@
 use Rattle.std.proofs.Common.{rules, ◌∙◌, ◌<◌, ap, sym, subst, []}
 use Rattle.std.specs.Prelude.{if◌then◌else◌, ◌&&◌, slice_index}
 use Rattle.ffs_volume.specs.declared.Inode.{Inode}
-use Rattle.ffs_volume.specs.Blocks.Inodes.{inode_of}
+use Rattle.ffs_volume.specs.Blocks.Inodes.{inode_of, class_of}
 use Rattle.ffs_volume.specs.Directories.Roles.{roled_entries}
 use Rattle.ffs_volume.specs.Directories.Volumes.{volume_of}
 use Rattle.ffs_names.specs.RightShapes.{is_right_shape}
@@ -46,8 +46,10 @@ returns-clause-rest g c = λ b k.
     ∙ (sym c.is_dir.ensures ∙ c.if-not-is_dir.false) in
     let is = dir_is v b c.args.dir dir in
     let inode = c.in_ok-inode.ensures.inode b k.bytes in
-    let entries = rw c.requires.ready.1 at (c.restart.ensures.begins.entries b) in
-    entries (subst (λ (x : Inode). x.size < 2147483648) (sym inode) (dir_size v (inode_of v b c.args.dir) is.1))
+    let begins = rw c.requires.ready.1 at c.restart.ensures.begins in
+    let known = sym (ap (class_of v) inode ∙ is.1) in
+    (begins known).entries b
+    (subst (λ (x : Inode). x.size < 2147483648) (sym inode) (dir_size v (inode_of v b c.args.dir) is.1))
     ∙ (dir_seen v b c.args.dir c.in_ok-inode.inode (slice_index t.cut.now c.args.dir) t.geometry.sound is.0 inode
     (k.cut c.args.dir) ∙ sym (ap (λ x. if x then roled_entries (volume_of v b) c.args.dir else []) dir))
 
@@ -66,7 +68,9 @@ returns-clause-sound g c = λ b k.
     ∙ (sym c.is_dir.ensures ∙ c.if-not-is_dir.false) in
     let is = dir_is v b c.args.dir dir in
     let inode = c.in_ok-inode.ensures.inode b k.bytes in
-    let shape = rw c.requires.ready.1 at (c.restart.ensures.begins.shape b) in
-    shape (subst (λ (x : Inode). x.size < 2147483648) (sym inode) (dir_size v (inode_of v b c.args.dir) is.1))
+    let begins = rw c.requires.ready.1 at c.restart.ensures.begins in
+    let known = sym (ap (class_of v) inode ∙ is.1) in
+    (begins known).shape b
+    (subst (λ (x : Inode). x.size < 2147483648) (sym inode) (dir_size v (inode_of v b c.args.dir) is.1))
     ∙ (shape_seen v b c.args.dir c.in_ok-inode.inode (slice_index t.cut.now c.args.dir) t.geometry.sound is.0 inode
     (k.cut c.args.dir) ∙ sym (ap (λ x. x && is_right_shape (volume_of v b) c.args.dir) dir))

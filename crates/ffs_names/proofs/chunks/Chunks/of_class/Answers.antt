@@ -4,7 +4,7 @@ use Rattle.ffs_walk.specs.Rests.{rest as steps_left}
 use Rattle.ffs_names.specs.Keepings.{replay_in}
 use Rattle.ffs_names.specs.RunCursors.{hand_chunks}
 use Rattle.ffs_names.proofs.Begins.{begun, runs_begun, gap_begun}
-use Rattle.ffs_names.proofs.chunks.Chunks.start.Goals as goal
+use Rattle.ffs_names.proofs.chunks.Chunks.of_class.Goals as goal
 
 pub invariant_of-result : goal.invariant_of-result
 invariant_of-result c = record {
@@ -15,7 +15,8 @@ invariant_of-result c = record {
 }
 
 pub returns-clause-begins : goal.returns-clause-begins
-returns-clause-begins c =
+returns-clause-begins c = λ known.
+    let walk = c.of_class.ensures.walk known in
     let v = c.args.geometry.now.layout in
     let v' = c.of_class.result.geometry.layout in
     let same = ap (λ x. x.layout) c.of_class.ensures.geometry in
@@ -25,13 +26,13 @@ returns-clause-begins c =
           begun v v' c.args.inode.now b c.args.cut c.start.result.cut (replay_in c.start.result)
           c.taken_of-taken.result (hand_chunks v' b c.empty.result) (steps_left b c.of_class.result)
           c.args.geometry.now.sound same c.start.ensures.cut c.start.ensures.fresh
-          (c.taken_of-taken.ensures.taken size) (c.empty.ensures.none v' b) (c.of_class.ensures.steps b);
+          (c.taken_of-taken.ensures.taken size) (c.empty.ensures.none v' b) (walk.steps b);
       runs = refl;
       runs_left = λ b. runs_begun v v' c.args.cut c.start.result.cut (replay_in c.start.result)
           (steps_left b c.of_class.result) (all b) same c.start.ensures.cut c.start.ensures.fresh
-          (c.of_class.ensures.steps b);
+          (walk.steps b);
       gap = refl;
       gap_left = λ b. gap_begun v v' c.args.cut c.start.result.cut (replay_in c.start.result)
           (steps_left b c.of_class.result) (all b) same c.start.ensures.cut c.start.ensures.fresh
-          (c.of_class.ensures.steps b);
+          (walk.steps b);
     }
