@@ -1,5 +1,6 @@
 -- How a reading of chunks goes from step to step.
-use Rattle.std.proofs.Common.{◌≡◌, ℕ, ◌+◌, ◌-◌, ◌*◌, Bool, true, false, List, [], ◌∷◌, ◌++◌, arith, refl, sym, ap, ◌∙◌}
+use Rattle.std.proofs.Common.{◌≡◌, ℕ, zero, suc, ◌+◌, ◌-◌, ◌*◌, Bool, true, false, List, [], ◌∷◌, ◌++◌, replicate}
+use Rattle.std.proofs.Common.{arith, refl, sym, ap, ◌∙◌}
 use Rattle.std.specs.Prelude.{if◌then◌else◌}
 use Rattle.ffs_volume.specs.declared.Layout.{Layout}
 use Rattle.ffs_volume.specs.declared.Step.{Step}
@@ -79,10 +80,20 @@ pub tail_on : (v v' : Layout) (b : List ℕ) (h : RunCursor) (taken cut : ℕ) (
 tail_on v v' b h taken cut r old new e o =
     still_on v v' b h taken cut r Tail old new e o (tail_behind v b taken cut r new)
 
-pub gap_on : (v v' : Layout) (b : List ℕ) (h : RunCursor) (taken cut : ℕ) (r : Replay) (old new : List Step) → v' ≡ v →
-    old ≡ Gap ∷ new
+-- over Gaps, a first one and more
+gaps_behind : (v : Layout) (b : List ℕ) (taken cut : ℕ) (r : Replay) (n : ℕ) (steps : List Step) →
+    following v b taken cut r (replicate n Gap ++ steps) ≡ following v b taken cut r steps
+gaps_behind v b taken cut r zero steps = refl
+gaps_behind v b taken cut r (suc n) steps =
+    gap_behind v b taken cut r (replicate n Gap ++ steps) ∙ gaps_behind v b taken cut r n steps
+
+pub gaps_on : (v v' : Layout) (b : List ℕ) (h : RunCursor) (taken cut : ℕ) (r : Replay) (n : ℕ) (old new : List Step)
+    → v' ≡ v → old ≡ Gap ∷ (replicate n Gap ++ new)
     → hand_chunks v' b h ++ following v' b taken cut r new ≡ hand_chunks v b h ++ following v b taken cut r old
-gap_on v v' b h taken cut r old new e o = still_on v v' b h taken cut r Gap old new e o (gap_behind v b taken cut r new)
+gaps_on v v' b h taken cut r n old new e o =
+    ap (λ x. hand_chunks x b h ++ following x b taken cut r new) e
+    ∙ ap (λ x. hand_chunks v b h ++ x)
+    (sym (gaps_behind v b taken cut r (suc n) new) ∙ ap (following v b taken cut r) (sym o))
 
 -- where the steps are the same
 pub steps_on : (v v' : Layout) (b : List ℕ) (h : RunCursor) (taken cut : ℕ) (r : Replay) (old new : List Step)
@@ -123,10 +134,16 @@ runs_tail v v' cut r old new e o = ap (λ x. replayed_runs x cut r new) e
     zero_more : (n : ℕ) → n ≡ 0 + n
     zero_more n = omega arith
 
-pub runs_gap : (v v' : Layout) (cut : ℕ) (r : Replay) (old new : List Step) → v' ≡ v → old ≡ Gap ∷ new →
-    replayed_runs v' cut r new ≡ replayed_runs v cut r old
-runs_gap v v' cut r old new e o = ap (λ x. replayed_runs x cut r new) e
-    ∙ (zero_more (replayed_runs v cut r new) ∙ ap (replayed_runs v cut r) (sym o))
+runs_behind : (v : Layout) (cut : ℕ) (r : Replay) (n : ℕ) (steps : List Step) →
+    replayed_runs v cut r (replicate n Gap ++ steps) ≡ replayed_runs v cut r steps
+runs_behind v cut r zero steps = refl
+runs_behind v cut r (suc n) steps = none_more (replayed_runs v cut r (replicate n Gap ++ steps))
+    ∙ runs_behind v cut r n steps
   where
-    zero_more : (n : ℕ) → n ≡ 0 + n
-    zero_more n = omega arith
+    none_more : (m : ℕ) → 0 + m ≡ m
+    none_more m = omega arith
+
+pub runs_gaps : (v v' : Layout) (cut : ℕ) (r : Replay) (n : ℕ) (old new : List Step) → v' ≡ v →
+    old ≡ Gap ∷ (replicate n Gap ++ new) → replayed_runs v' cut r new ≡ replayed_runs v cut r old
+runs_gaps v v' cut r n old new e o = ap (λ x. replayed_runs x cut r new) e
+    ∙ (sym (runs_behind v cut r (suc n) new) ∙ ap (replayed_runs v cut r) (sym o))

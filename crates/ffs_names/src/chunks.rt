@@ -85,7 +85,10 @@ impl Chunks {
                 None => return Ok(false),
                 Some(Step::Run { start, len, block }) => self.see(start, len, block),
                 Some(Step::Tail) => {}
-                Some(Step::Gap) => self.gap = true,
+                Some(Step::Gap) => {
+                    self.gap = true;
+                    self.walk.skip_gaps(blocks);
+                }
             }
         }
         Ok(true)

@@ -1,10 +1,12 @@
-use Rattle.std.proofs.Common.{◌≡◌, ◌∙◌, ◌∷◌, ℕ, List, ap, sym, refl, arith, Some, Ok}
+use Rattle.std.proofs.Common.{◌≡◌, ◌∙◌, ◌∷◌, ◌++◌, ℕ, List, ap, sym, refl, arith, Some, Ok, replicate}
 use Rattle.std.proofs.lemmas.Result.{err_from_is_err_and}
-use Rattle.ffs_volume.specs.declared.Step.TheVariants.{Run}
+use Rattle.ffs_volume.specs.declared.Step.{Step}
+use Rattle.ffs_volume.specs.declared.Step.TheVariants.{Run, Gap}
 use Rattle.ffs_walk.specs.Rests.{rest as steps_left}
+use Rattle.ffs_names.specs.Windows.{CanWalkDir}
 use Rattle.ffs_names.specs.Keepings.{replay_in}
-use Rattle.ffs_names.proofs.Advances.{over_rest, unseen_none, steps_on, end_none, tail_on, gap_on, runs_on, runs_tail}
-use Rattle.ffs_names.proofs.Advances.{runs_gap, walked, walked_runs}
+use Rattle.ffs_names.proofs.Advances.{over_rest, unseen_none, steps_on, end_none, tail_on, gaps_on, runs_on, runs_tail}
+use Rattle.ffs_names.proofs.Advances.{runs_gaps, walked, walked_runs}
 use Rattle.ffs_names.proofs.GapsLeft.{gap_same, gap_over_tail, gap_seen, walked_gap}
 use Rattle.ffs_names.proofs.Pieces.{no_more}
 use Rattle.ffs_names.proofs.Continuing.{continues_here, continues_more, counts_same, counts_more, replayed_over}
@@ -62,36 +64,61 @@ steps-preserved-in-Some-Tail g c =
       device = c.in_ok-next.ensures.leaves.read ∙ i.device;
     }
 
+pub skip_gaps-requires : goal.skip_gaps-requires
+skip_gaps-requires g c =
+    let i = c.steps.invariant in
+    let first = c.args.self.now.walk.geometry in
+    let ready : CanWalkDir first.layout (g.I.Image.device c.next.new.image) c.next.new.blocks =
+        walk_on _ _ _ _ _ _ i.ready i.same.geometry (ap (λ d. d.size) c.in_ok-next.ensures.leaves.read)
+        c.next.ensures.leaves.kept.size c.next.ensures.leaves.kept.holds in
+    record { room = walk_room first c.next.new.self.geometry _ _ ready
+        (c.next.ensures.same.geometry ∙ i.same.geometry) }
+
+-- the gaps behind a gap are passed too
 pub steps-preserved : goal.steps-preserved
 steps-preserved g c =
     let i = c.steps.invariant in
     let s = c.steps.self in
+    let first = c.args.self.now.walk.geometry in
     let w = c.next.new.self in
+    let w' = c.skip_gaps.new.self in
     let v = s.walk.geometry.layout in
+    let v' = w'.geometry.layout in
+    let n = c.skip_gaps.result in
     let r = replay_in s.keeping in
-    let same = ap (λ x. x.layout) c.next.ensures.same.geometry in
-    let steps = λ (b : List ℕ) (t : (g.I.Image.device c.args.image.now).contents ≡ Some b).
+    let same = ap (λ x. x.layout) (c.skip_gaps.ensures.same.geometry ∙ c.next.ensures.same.geometry) in
+    let ready : CanWalkDir first.layout (g.I.Image.device c.next.new.image) c.next.new.blocks =
+        walk_on _ _ _ _ _ _ i.ready i.same.geometry (ap (λ d. d.size) c.in_ok-next.ensures.leaves.read)
+        c.next.ensures.leaves.kept.size c.next.ensures.leaves.kept.holds in
+    let device = c.in_ok-next.ensures.leaves.read ∙ i.device in
+    let holds = walk_holds first w.geometry _ _ ready (c.next.ensures.same.geometry ∙ i.same.geometry) in
+    let gap = λ (b : List ℕ) (t : (g.I.Image.device c.args.image.now).contents ≡ Some b).
     (rw c.in-Some-Gap.field-0-is at (rw c.in-Some-Gap.is at c.in_ok-next.ensures.step.steps)) b
     (ap (λ d. d.contents) i.device ∙ t) in
+    let gaps : (b : List ℕ) → (g.I.Image.device c.args.image.now).contents ≡ Some b
+    → steps_left b w ≡ replicate n Gap ++ steps_left b w' = λ b t.
+    c.skip_gaps.ensures.steps (g.I.Image.device c.next.new.image).contents holds b (ap (λ d. d.contents) device ∙ t) in
+    let steps : (b : List ℕ) → (g.I.Image.device c.args.image.now).contents ≡ Some b
+    → steps_left b s.walk ≡ Gap ∷ (replicate n Gap ++ steps_left b w') = λ b t.
+    gap b t ∙ ap (λ (xs : List Step). Gap ∷ xs) (gaps b t) in
     record {
       continues = λ b t. continues_more b _ s _ _ (steps_left b s.walk) _ (i.continues b t) (record {
-        chunks = gap_on v w.geometry.layout b s.run_cursor s.taken s.keeping.cut r (steps_left b s.walk)
-            (steps_left b w) same (steps b t);
-        runs = let e = runs_gap v w.geometry.layout s.keeping.cut r (steps_left b s.walk) (steps_left b w) same
-            (steps b t) in counts_same _ _ (omega arith);
+        chunks = gaps_on v v' b s.run_cursor s.taken s.keeping.cut r n (steps_left b s.walk) (steps_left b w') same
+            (steps b t);
+        runs = let e = runs_gaps v v' s.keeping.cut r n (steps_left b s.walk) (steps_left b w') same (steps b t) in
+            counts_same _ _ (omega arith);
         gap = gap_seen v w.geometry.layout s.keeping.cut r s.gap (steps_left b s.walk) (steps_left b w)
-            (sym c.is_replay_open.ensures ∙ c.if-not-is_replay_open.false) (steps b t);
+            (sym c.is_replay_open.ensures ∙ c.if-not-is_replay_open.false) (gap b t);
       });
       same = record {
-        geometry = c.next.ensures.same.geometry ∙ i.same.geometry;
+        geometry = c.skip_gaps.ensures.same.geometry ∙ c.next.ensures.same.geometry ∙ i.same.geometry;
         cut = i.same.cut;
         taken = i.same.taken;
         budget = i.same.budget;
         runs = i.same.runs;
       };
-      ready = walk_on _ _ _ _ _ _ i.ready i.same.geometry (ap (λ d. d.size) c.in_ok-next.ensures.leaves.read)
-          c.next.ensures.leaves.kept.size c.next.ensures.leaves.kept.holds;
-      device = c.in_ok-next.ensures.leaves.read ∙ i.device;
+      ready = ready;
+      device = device;
     }
 
 pub steps-preserved-in-Some-Run : goal.steps-preserved-in-Some-Run
