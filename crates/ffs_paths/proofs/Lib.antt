@@ -3,6 +3,7 @@ pub mod Ends
 pub mod Keeping
 pub mod Longer
 pub mod NamesFound
+pub mod Parts
 pub mod Rooms
 pub mod Single
 pub mod Tails

@@ -69,12 +69,14 @@ skip_gaps-requires g c =
     let i = c.steps.invariant in
     let first = c.args.self.now.walk.geometry in
     let ready : CanWalkDir first.layout (g.I.Image.device c.next.new.image) c.next.new.blocks =
-        walk_on _ _ _ _ _ _ i.ready i.same.geometry (ap (λ d. d.size) c.in_ok-next.ensures.leaves.read)
-        c.next.ensures.leaves.kept.size c.next.ensures.leaves.kept.holds in
-    record { room = walk_room first c.next.new.self.geometry _ _ ready
-        (c.next.ensures.same.geometry ∙ i.same.geometry) }
+    walk_on _ _ _ _ _ _ i.ready i.same.geometry (ap (λ d. d.size) c.in_ok-next.ensures.leaves.read)
+    c.next.ensures.leaves.kept.size c.next.ensures.leaves.kept.holds in
+    record {
+      room = walk_room first c.next.new.self.geometry _ _ ready
+          (c.next.ensures.same.geometry ∙ i.same.geometry);
+    }
 
--- the gaps behind a gap are passed too
+-- the gaps that follow a gap are passed too
 pub steps-preserved : goal.steps-preserved
 steps-preserved g c =
     let i = c.steps.invariant in
@@ -88,8 +90,8 @@ steps-preserved g c =
     let r = replay_in s.keeping in
     let same = ap (λ x. x.layout) (c.skip_gaps.ensures.same.geometry ∙ c.next.ensures.same.geometry) in
     let ready : CanWalkDir first.layout (g.I.Image.device c.next.new.image) c.next.new.blocks =
-        walk_on _ _ _ _ _ _ i.ready i.same.geometry (ap (λ d. d.size) c.in_ok-next.ensures.leaves.read)
-        c.next.ensures.leaves.kept.size c.next.ensures.leaves.kept.holds in
+    walk_on _ _ _ _ _ _ i.ready i.same.geometry (ap (λ d. d.size) c.in_ok-next.ensures.leaves.read)
+    c.next.ensures.leaves.kept.size c.next.ensures.leaves.kept.holds in
     let device = c.in_ok-next.ensures.leaves.read ∙ i.device in
     let holds = walk_holds first w.geometry _ _ ready (c.next.ensures.same.geometry ∙ i.same.geometry) in
     let gap = λ (b : List ℕ) (t : (g.I.Image.device c.args.image.now).contents ≡ Some b).

@@ -4,6 +4,7 @@ use Rattle.std.proofs.lemmas.Result.{err_from_is_err_and}
 use Rattle.ffs_volume.specs.Directories.Roles.{is_dir, roled_entries}
 use Rattle.ffs_volume.specs.Directories.Volumes.{volume_of}
 use Rattle.ffs_paths.specs.ChildNames.{AreAllNamesOf}
+use Rattle.ffs_paths.proofs.Parts.{same_but_names}
 use Rattle.ffs_paths.proofs.Keeping.{no_reads, then_reads, leaves_with}
 use Rattle.ffs_paths.proofs.siblings.Siblings.find_names.Goals as goal
 
@@ -38,3 +39,6 @@ returns-in_err-names-clause-leaves g c =
       reads = then_reads (no_reads {x = tt {0}} c.requires.ready) leaves.windows leaves.read;
       siblings = tt;
     })
+
+pub returns-clause-same : goal.returns-clause-same
+returns-clause-same g c = same_but_names c.args.self.now _ _
