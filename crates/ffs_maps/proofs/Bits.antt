@@ -7,7 +7,6 @@ use Rattle.std.proofs.lemmas.List.FromFn.{length-map-range_with_len, get_or-map-
 use Rattle.std.proofs.lemmas.Bool.{cases_eq}
 use Rattle.std.proofs.lemmas.Nat.Bits.{bit_at_set_same, bit_at_set_other, bit_at_clear_same, bit_at_clear_other}
 use Rattle.std.proofs.lemmas.Nat.Bits.{bit_at-zero}
-use Rattle.ffs_memory.specs.Words.{words_of}
 use Rattle.ffs_maps.specs.Bits.{is_bit, bits_of, bits_of_words, set_run}
 use Rattle.ffs_maps.specs.declared.FragmentMap.{FragmentMap}
 
@@ -17,7 +16,7 @@ length_bits words size = length-map-range_with_len (is_bit words) 0 size
 
 -- a map has a bit for each fragment
 pub bits_long : (m : FragmentMap) → length (bits_of m) ≡ m.size
-bits_long m = length_bits (words_of m.words) m.size
+bits_long m = length_bits m.words.list m.size
 
 pub get_bits : (words : List ℕ) (size f : ℕ) (d : Bool) → f < size → get_or (bits_of_words words size) f d
     ≡ is_bit words f

@@ -2,7 +2,6 @@ use Rattle.std.specs.Prelude.{◌≡◌, ℕ, zero, suc, ◌+◌, ◌/◌, ◌%�
 use Rattle.std.specs.Prelude.{not, ◌&&◌, List, map, nat_eq, nat_lt, slice_index, slice_set}
 use Rattle.std.specs.List.{range_with_len, slice_index_or}
 use Rattle.std.specs.Int.{bit_at}
-use Rattle.ffs_memory.specs.Words.{words_of}
 use Rattle.ffs_maps.specs.declared.FragmentMap.{FragmentMap}
 
 -- the bit of a fragment, in words of 64 bits
@@ -15,7 +14,7 @@ bits_of_words words size = map (is_bit words) (range_with_len 0 size)
 
 -- a map's bits, one for each fragment
 abbrev pub bits_of : FragmentMap → List Bool
-bits_of m = bits_of_words (words_of m.words) m.size
+bits_of m = bits_of_words m.words.list m.size
 
 -- a map of so many fragments has these bits
 pub record HasBits (m : FragmentMap) (n : ℕ) (set : List Bool) : Type 0 where

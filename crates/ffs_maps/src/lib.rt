@@ -25,7 +25,7 @@ pub struct FragmentMap {
     words: ZeroedWords,
     /// How many fragments.
     pub size: u32,
-    ghost enough: { words.count ≡ div_ceil size 64 },
+    ghost enough: { length words.list ≡ div_ceil size 64 },
 }
 
 impl FragmentMap {

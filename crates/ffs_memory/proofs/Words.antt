@@ -1,13 +1,11 @@
--- How many words there are.
-use Rattle.std.proofs.Common.{◌≡◌, ◌+◌, ◌-◌, length, replicate, vec_len}
-use Rattle.std.proofs.Common.{arith, ap, ◌∙◌, length-append}
-use Rattle.std.proofs.lemmas.List.{length-replicate}
-use Rattle.ffs_memory.specs.Words.{words_of}
-use Rattle.ffs_memory.specs.declared.zeroed_words.ZeroedWords.{ZeroedWords}
+-- Words are the same where their parts are.
+use Rattle.std.proofs.Common.{◌≡◌, ℕ, List, ap, ◌∙◌}
+use Rattle.std.specs.Ptr.{Ptr}
+use Rattle.ffs_memory.specs.Words.{Words}
 
--- there are as many as are counted
-pub words_count : (w : ZeroedWords) → length (words_of w) ≡ w.count
-words_count w =
-    length-append w.touched.items (replicate (w.count - vec_len w.touched) 0)
-    ∙ ap (λ n. length w.touched.items + n) (length-replicate (w.count - vec_len w.touched) 0)
-    ∙ omega (arith, w.within, w.touched.ok.0)
+abbrev pub words : List ℕ → Ptr → ℕ → Words
+words list place room = record { list = list; place = place; room = room }
+
+pub same_words : (a b : List ℕ) (p q : Ptr) (m n : ℕ) → a ≡ b → p ≡ q → m ≡ n → words a p m ≡ words b q n
+same_words a b p q m n list place room =
+    ap (λ x. words x p m) list ∙ ap (λ x. words b x m) place ∙ ap (λ x. words b q x) room

@@ -1,8 +1,7 @@
 -- What a memory granted, and how often it refused.
 use Rattle.std.specs.Prelude.{◌≡◌, ◌+◌, ◌-◌, ◌*◌, ◌^◌, ◌<◌, ◌≤◌, ℕ, min, replicate, vec_len, Result, MatchResult}
-use Rattle.ffs_memory.specs.Words.{words_of}
+use Rattle.ffs_memory.specs.Words.{Words}
 use Rattle.ffs_memory.specs.declared.fixed_list.FixedList.{FixedList}
-use Rattle.ffs_memory.specs.declared.zeroed_words.ZeroedWords.{ZeroedWords}
 
 -- the bytes that it granted so far, and how many requests it refused
 pub record Account : Type 0 where
@@ -44,13 +43,12 @@ abbrev pub Gives : {A E : Type 0} → Account → Account → ℕ → ℕ → A 
 Gives old new n bytes x result = MatchResult result (Given old new n bytes x) (λ _. Refused old new)
 
 -- n words that are 0 until they are set were granted
-pub record GivenWords (old new : Account) (n : ℕ) (words : ZeroedWords) : Type 0 where
-  pub count : words.count ≡ n
-  pub zeros : words_of words ≡ replicate n 0
+pub record GivenWords (old new : Account) (n : ℕ) (words : Words) : Type 0 where
+  pub zeros : words.list ≡ replicate n 0
   pub granted : Granted old new (8 * n)
 
 -- the outcome of one request for such words
-abbrev pub GivesWords : {E : Type 0} → Account → Account → ℕ → Result ZeroedWords E → Type 0
+abbrev pub GivesWords : {E : Type 0} → Account → Account → ℕ → Result Words E → Type 0
 GivesWords old new n result = MatchResult result (GivenWords old new n) (λ _. Refused old new)
 
 -- the outcome of asking for these bytes, in one request or in several

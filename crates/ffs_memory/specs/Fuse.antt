@@ -4,7 +4,7 @@ use Rattle.std.specs.Bool.{OnTrue, OnFalse}
 use Rattle.ffs_memory.specs.Account.{Account, Asks, Gives, GivesWords}
 use Rattle.ffs_memory.specs.declared.fixed_list.FixedList.{FixedList}
 use Rattle.ffs_memory.specs.declared.fuse.FuseMemory.{FuseMemory}
-use Rattle.ffs_memory.specs.declared.zeroed_words.ZeroedWords.{ZeroedWords}
+use Rattle.ffs_memory.specs.Words.{Words}
 
 -- the request after which none is left
 abbrev pub is_blown : ℕ → Bool
@@ -29,7 +29,7 @@ pub record Serves {M A E : Type 0} (account_below : M → Account) (account_of :
 
 -- a memory with a fuse serves a request for words that are 0 until they are set
 pub record ServesWords {M E : Type 0} (account_below : M → Account) (account_of : FuseMemory M → Account)
-    (old new : FuseMemory M) (n : ℕ) (result : Result ZeroedWords E) : Type 0 where
+    (old new : FuseMemory M) (n : ℕ) (result : Result Words E) : Type 0 where
   pub given : GivesWords (account_of old) (account_of new) n result
   pub fuse : Burns account_below old new (8 * n) result
 

@@ -1,8 +1,9 @@
 // Words that are 0 until they are set.
-ghost use Rattle.std.specs.Prelude.{◌≡◌, ◌<◌, ◌≤◌, IfOk, replicate, vec_capacity, vec_len};
+ghost use Rattle.std.specs.Prelude.{◌≡◌, ◌<◌, IfOk, length, replicate, slice_set};
 ghost use Rattle.std.specs.List.{slice_index_or};
 
 use std::alloc::{AllocError, Global};
+use std::marker::Model;
 
 /// Words of 64 bits that are 0 until they are set. Their memory is taken when they are made; what lies after the last word
 /// that was set isn't touched, and so takes no page of the machine's.
@@ -12,16 +13,29 @@ pub struct ZeroedWords {
     touched: Vec<u64>,
     /// How many words there are in all.
     count: usize,
-    ghost within: { vec_len touched ≤ count },
-    ghost taken: { count ≤ vec_capacity touched },
+}
+
+/// They are seen as all words, and the memory that they are in.
+impl Model for ZeroedWords {
+    ghost use Rattle.ffs_memory.specs.Words.{Words};
+    ghost use Rattle.std.specs.Prelude.{◌≤◌, ◌-◌, ◌++◌, replicate, vec_capacity, vec_len};
+    ghost use Rattle.std.specs.Vec.{vec_ptr};
+
+    ghost Value = { Words };
+
+    ghost view = { λ w. record {
+      list = w.touched.items ++ replicate (w.count - vec_len w.touched) 0;
+      place = vec_ptr w.touched;
+      room = vec_capacity w.touched;
+    } };
+
+    ghost invariant = { λ w. (vec_len w.touched ≤ w.count) × (w.count ≤ vec_capacity w.touched) };
 }
 
 impl ZeroedWords {
-    ghost use Rattle.ffs_memory.specs.Words.{words_of, Touches, SetsWord};
-
     /// So many words, each 0.
     pub(crate) fn new(alloc: Global, count: usize) -> Result<ZeroedWords, AllocError>
-        ensures { IfOk result (λ made. (made.count ≡ count) × (words_of made ≡ replicate count 0)) }
+        ensures { IfOk result (λ made. made.list ≡ replicate count 0) }
     {
         let touched = Vec::with_capacity(alloc, count)?;
         Ok(ZeroedWords { touched, count })
@@ -30,7 +44,7 @@ impl ZeroedWords {
     /// How many words there are.
     #[inline(always)]
     pub fn len(&self) -> usize
-        ensures { result ≡ self.now.count }
+        ensures { result ≡ length self.now.list }
     {
         self.count
     }
@@ -38,8 +52,8 @@ impl ZeroedWords {
     /// The word at an index.
     #[inline(always)]
     pub fn get(&self, index: usize) -> u64
-        requires { index < self.now.count }
-        ensures { result ≡ slice_index_or (words_of self.now) index 0 }
+        requires { index < length self.now.list }
+        ensures { result ≡ slice_index_or self.now.list index 0 }
     {
         if index >= self.touched.len() {
             return 0;
@@ -47,24 +61,14 @@ impl ZeroedWords {
         self.touched[index]
     }
 
-    /// Touches the words up to the one with an index, in the memory that was taken.
-    fn touch(&mut self, index: usize)
-        requires { index < self.old.count }
-        ensures { Touches self.old self.new index }
+    /// Sets the word at an index. The words up to it are touched, in the memory that was taken.
+    #[inline(always)]
+    pub fn set(&mut self, index: usize, word: u64)
+        requires { index < length self.old.list }
+        ensures { self.new ≡ record self.old { list = slice_set self.old.list index word } }
     {
         while self.touched.len() <= index {
             self.touched.push_reserved(0);
-        }
-    }
-
-    /// Sets the word at an index. No memory is taken.
-    #[inline(always)]
-    pub fn set(&mut self, index: usize, word: u64)
-        requires { index < self.old.count }
-        ensures { SetsWord self.old self.new index word }
-    {
-        if index >= self.touched.len() {
-            self.touch(index);
         }
         self.touched[index] = word;
     }

@@ -1,11 +1,10 @@
 use Rattle.std.proofs.Common.{arith, rules}
-use Rattle.ffs_memory.specs.Words.{words_of}
 use Rattle.ffs_maps.proofs.Words.{clear_is, clear_in_last}
 use Rattle.ffs_maps.proofs.FragmentMap.clear_word.Goals as goal
 
 pub returns-then-index-whole : goal.returns-then-index-whole
 returns-then-index-whole c = λ k h.
-    clear_is (words_of c.args.self.now.words) c.args.self.now.size c.args.index k
+    clear_is c.args.self.now.words.list c.args.self.now.size c.args.index k
     _ h
     (search (rules, arith))
     c.get.ensures
@@ -13,7 +12,7 @@ returns-then-index-whole c = λ k h.
 
 pub returns : goal.returns
 returns c = λ k h.
-    clear_in_last (words_of c.args.self.now.words) c.args.self.now.size c.args.index k
+    clear_in_last c.args.self.now.words.list c.args.self.now.size c.args.index k
     _ h
     (search (rules, arith))
     c.get-word.ensures

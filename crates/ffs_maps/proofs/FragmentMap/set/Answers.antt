@@ -1,6 +1,4 @@
 use Rattle.std.proofs.Common.{arith, refl, ap, ◌∙◌}
-use Rattle.ffs_memory.specs.Words.{words_of}
-use Rattle.ffs_memory.proofs.Words.{words_count}
 use Rattle.ffs_maps.specs.Bits.{bits_of_words}
 use Rattle.ffs_maps.proofs.Bits.{set_bits}
 use Rattle.ffs_maps.proofs.FragmentMap.set.Goals as goal
@@ -10,7 +8,7 @@ returns c =
     let m = c.args.self.now in
     record {
       size = refl;
-      bits = ap (λ ws. bits_of_words ws m.size) c.set.ensures.words
-          ∙ set_bits (words_of m.words) m.size c.args.fragment c.get-word.result c.requires
-          (omega (arith, words_count m.words, m.enough)) c.get-word.ensures;
+      bits = ap (λ ws. bits_of_words ws m.size) (ap (λ ws. ws.list) c.set.ensures)
+          ∙ set_bits m.words.list m.size c.args.fragment c.get-word.result c.requires
+          (omega (arith, m.enough)) c.get-word.ensures;
     }
