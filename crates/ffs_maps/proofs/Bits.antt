@@ -1,12 +1,15 @@
 use Rattle.std.proofs.Common.{◌≡◌, ◌≢◌, inl, inr, ℕ, zero, suc, ◌+◌, ◌-◌, ◌*◌, ◌/◌, ◌%◌, ◌^◌, ◌<◌, Bool, true, false}
 use Rattle.std.proofs.Common.{List, length, get_or, nat_eq, slice_set, replicate, bit_or, bit_and, arith, rules, refl}
 use Rattle.std.proofs.Common.{ap, ◌∙◌, sym, length-set}
-use Rattle.std.specs.Int.{bit_at, w64, bit_not}
+use Rattle.std.proofs.Math.Nat.{ℕ_set}
+use Rattle.std.proofs.Math.Path.{subst⁻¹}
+use Rattle.std.specs.Int.{bit_at, w64, bit_not, div_ceil}
 use Rattle.std.proofs.lemmas.List.{same_lists, get_or-set_other, get_or-set_same, get_or-replicate, length-replicate}
 use Rattle.std.proofs.lemmas.List.FromFn.{length-map-range_with_len, get_or-map-range_with_len}
 use Rattle.std.proofs.lemmas.Bool.{cases_eq}
 use Rattle.std.proofs.lemmas.Nat.Bits.{bit_at_set_same, bit_at_set_other, bit_at_clear_same, bit_at_clear_other}
 use Rattle.std.proofs.lemmas.Nat.Bits.{bit_at-zero}
+use Rattle.ffs_memory.specs.Words.{Words}
 use Rattle.ffs_maps.specs.Bits.{is_bit, bits_of, bits_of_words, set_run}
 use Rattle.ffs_maps.specs.declared.FragmentMap.{FragmentMap}
 
@@ -22,6 +25,13 @@ pub get_bits : (words : List ℕ) (size f : ℕ) (d : Bool) → f < size → get
     ≡ is_bit words f
 unfolding bits_of_words
 get_bits words size f d h = get_or-map-range_with_len (is_bit words) 0 size f f d h (omega arith)
+
+-- a map with the same words is the same
+pub same_map : (m : FragmentMap) (words : Words) (enough : length words.list ≡ div_ceil m.size 64) → words ≡ m.words →
+    record m { words = words; enough = enough } ≡ m
+same_map m words enough same =
+    subst⁻¹ (λ w. (e : length w.list ≡ div_ceil m.size 64) → record m { words = w; enough = e } ≡ m) same
+    (λ e. ap (λ x. record m { enough = x }) (ℕ_set _ _ e m.enough)) enough
 
 -- the word of a fragment is replaced, by one that differs in the fragment's bit alone
 pub put_bits : (words : List ℕ) (size k v : ℕ) (b : Bool) → k < size → k / 64 < length words →

@@ -177,11 +177,6 @@ impl FragmentMap {
         }
         let index = start as usize / 64;
         let mask = (u64::MAX >> (64 - len)) << low;
-        let word = self.words.get(index);
-        if word & mask != 0 {
-            return false;
-        }
-        self.words.set(index, word | mask);
-        true
+        self.words.claim(index, mask)
     }
 }

@@ -1,9 +1,34 @@
 -- Words that are 0 until they are set.
-use Rattle.std.specs.Prelude.{ℕ, List}
+use Rattle.std.specs.Prelude.{◌≡◌, ◌↔◌, ◌++◌, ◌+◌, ◌-◌, ℕ, List, Bool, false, IsTrue, max, bit_and, bit_or, replicate}
+use Rattle.std.specs.Prelude.{slice_set, vec_capacity, vec_len}
+use Rattle.std.specs.List.{slice_index_or}
 use Rattle.std.specs.Ptr.{Ptr}
+use Rattle.std.specs.Vec.{vec_ptr}
+use Rattle.std.specs.declared.vec.Vec.{Vec}
+use Rattle.std.specs.declared.alloc.Global.{Global}
 
 -- the words, where their memory is, and for how many it is
 pub record Words : Type 0 where
   pub list : List ℕ
   pub place : Ptr
   pub room : ℕ
+
+-- the words with the bits of a mask set in the one at an index
+abbrev pub with_bits : Words → ℕ → ℕ → Words
+with_bits words index mask = record words {
+  list = slice_set words.list index (bit_or (slice_index_or words.list index 0) mask);
+}
+
+-- the bits of a mask are claimed in the word at an index just where none of them was set, and they are set then: else
+-- nothing is changed
+pub record ClaimsBits (old new : Words) (index mask : ℕ) (claimed_now : Bool) : Type 0 where
+  pub clear : IsTrue claimed_now ↔ (bit_and (slice_index_or old.list index 0) mask ≡ 0)
+  pub claimed : IsTrue claimed_now → new ≡ with_bits old index mask
+  pub kept : claimed_now ≡ false → new ≡ old
+
+-- the words up to an index are touched: each that wasn't before is 0, and the memory is the same
+pub record Touches (old new : Vec ℕ Global) (index : ℕ) : Type 0 where
+  pub len : vec_len new ≡ max (vec_len old) (index + 1)
+  pub zeros : new.items ≡ old.items ++ replicate (index + 1 - vec_len old) 0
+  pub place : vec_ptr new ≡ vec_ptr old
+  pub room : vec_capacity new ≡ vec_capacity old

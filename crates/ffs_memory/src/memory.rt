@@ -34,7 +34,7 @@ pub trait Memory {
     fn long_words(&mut self, n: usize) -> Result<FixedList<u64>, AllocError>
         ensures { Gives (account self.old) (account self.new) n (8 * n) 0 result };
 
-    /// So many words of 64 bits that are 0 until they are set: no page of them is touched before.
+    /// So many words of 64 bits, each 0: their memory is taken at once, and none of it is written yet.
     fn zeroed_words(&mut self, n: usize) -> Result<ZeroedWords, AllocError>
         ensures { GivesWords (account self.old) (account self.new) n result };
 }

@@ -1,12 +1,13 @@
 // Words that are 0 until they are set.
-ghost use Rattle.std.specs.Prelude.{◌≡◌, ◌<◌, IfOk, length, replicate, slice_set};
+ghost use Rattle.std.specs.Prelude.{◌≡◌, ◌<◌, IfOk, length, replicate, slice_set, vec_capacity};
 ghost use Rattle.std.specs.List.{slice_index_or};
+ghost use Rattle.ffs_memory.specs.Words.{ClaimsBits, Touches};
 
 use std::alloc::{AllocError, Global};
 use std::marker::Model;
 
 /// Words of 64 bits that are 0 until they are set. Their memory is taken when they are made; what lies after the last word
-/// that was set isn't touched, and so takes no page of the machine's.
+/// that was set or claimed isn't written.
 #[derive(Drop)]
 pub struct ZeroedWords {
     /// The words that are touched. All after them are 0.
@@ -67,9 +68,44 @@ impl ZeroedWords {
         requires { index < length self.old.list }
         ensures { self.new ≡ record self.old { list = slice_set self.old.list index word } }
     {
-        while self.touched.len() <= index {
-            self.touched.push_reserved(0);
-        }
+        touch(&mut self.touched, index);
         self.touched[index] = word;
+    }
+
+    /// Sets the bits of a mask in the word at an index, where none of them is set there. The answer says whether it did.
+    #[inline(always)]
+    pub fn claim(&mut self, index: usize, mask: u64) -> bool
+        requires { index < length self.old.list }
+        ensures { ClaimsBits self.old self.new index mask result }
+    {
+        touch(&mut self.touched, index);
+        let word = self.touched[index];
+        if word & mask != 0 {
+            return false;
+        }
+        self.touched[index] = word | mask;
+        true
+    }
+}
+
+// Touches the words up to an index: each that wasn't touched is 0, in the memory that was taken.
+#[inline(always)]
+fn touch(touched: &mut Vec<u64>, index: usize)
+    requires { index < vec_capacity touched.old }
+    ensures { Touches touched.old touched.new index }
+{
+    if touched.len() <= index {
+        touch_more(touched, index);
+    }
+}
+
+// The same. It isn't inlined, since nearly every word that is asked for is touched already.
+#[inline(never)]
+fn touch_more(touched: &mut Vec<u64>, index: usize)
+    requires { index < vec_capacity touched.old }
+    ensures { Touches touched.old touched.new index }
+{
+    while touched.len() <= index {
+        touched.push_reserved(0);
     }
 }

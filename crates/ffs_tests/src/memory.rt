@@ -62,6 +62,22 @@ fn words_set_and_unset(rt: HostRuntime) -> Result<(), Fail> {
     Ok(())
 }
 
+// The bits of a mask are claimed where none of them is set: beside bits that are, but not over one.
+#[test]
+fn bits_claimed_once(rt: HostRuntime) -> Result<(), Fail> {
+    let mut memory = SystemMemory::new(rt.alloc());
+    let mut words = memory.zeroed_words(1000)?;
+    words.set(3, 9);
+    assert!(rt; words.claim(3, 6));
+    assert_eq!(rt; words.get(3), 15);
+    assert!(rt; !words.claim(3, 24));
+    assert_eq!(rt; words.get(3), 15);
+    assert!(rt; words.claim(700, 24));
+    assert_eq!(rt; words.get(699), 0);
+    assert_eq!(rt; words.get(700), 24);
+    Ok(())
+}
+
 #[test]
 fn no_request_refused(rt: HostRuntime) -> Result<(), Fail> {
     let (end, text, memory) = refused(REQUESTS + 1, rt.alloc())?;
