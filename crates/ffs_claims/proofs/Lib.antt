@@ -2,6 +2,7 @@ pub mod Frames
 pub mod Weights
 pub mod Rescans
 pub mod Goes
+pub mod OneBit
 pub mod Inodes
 pub mod Reserved
 pub mod Numbers

@@ -1,5 +1,5 @@
 -- What calls leave of a workspace as it was.
-use Rattle.std.specs.Prelude.{◌≡◌, ◌+◌, ◌<◌, ◌≤◌, ◌^◌, ◌||◌, ℕ, Bool, min, slice_set, vec_len}
+use Rattle.std.specs.Prelude.{◌≡◌, ◌+◌, ◌<◌, ◌≤◌, ◌^◌, ◌||◌, ℕ, Bool, IsTrue, true, min, slice_set, vec_len}
 use Rattle.ffs_volume.specs.declared.Layout.{Layout}
 use Rattle.ffs_volume.specs.declared.Class.{Class}
 use Rattle.ffs_volume.specs.declared.Inode.{Inode}
@@ -23,6 +23,11 @@ pub record HasBegun (w : Workspace) : Type 0 where
 pub record HasRoomForOffers (v : Layout) (w : Workspace) (more : ℕ) : Type 0 where
   pub made : IsFor v w
   pub room : w.kept + more ≤ 2 ^ 63
+
+-- the current inode can keep so many offers more, and these are in range if they are said to be
+pub record CanOffer (v : Layout) (w : Workspace) (more : ℕ) (in_range fit : Bool) : Type 0 where
+  pub room : HasRoomForOffers v w more
+  pub known : IsTrue in_range → fit ≡ true
 
 -- the claims are these, and the answer is whether the inode's next step is seen
 pub record AreClaims (w : Workspace) (claims : Claims) (seen : Bool) : Type 0 where

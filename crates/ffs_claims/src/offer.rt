@@ -1,14 +1,14 @@
 //! The offers of Runs, and what is reported of them.
 
-ghost use Rattle.std.specs.Prelude.{◌≡◌, ◌+◌, ◌<◌, ◌≤◌, OnOk, IfOk, true};
+ghost use Rattle.std.specs.Prelude.{◌≡◌, ◌+◌, ◌<◌, ◌≤◌, OnOk, IfOk, IsTrue, true};
 ghost use Rattle.std.specs.List.{range_with_len};
-ghost use Rattle.ffs_volume.specs.Disk.Areas.{is_run_in_range};
+ghost use Rattle.ffs_volume.specs.Disk.Areas.{is_fragment_in_range, is_run_in_range};
 ghost use Rattle.ffs_volume.specs.Blocks.Lengths.{HasLength};
 ghost use Rattle.ffs_volume.specs.Blocks.Claims as claims;
 ghost use Rattle.ffs_volume.specs.Blocks.Claims.{after_offer, after_offers, after_run, after_step, offer_lines, lines_of_offers, run_lines, step_lines};
 ghost use Rattle.ffs_report.specs.Progress.{progress, Says};
 ghost use Rattle.ffs_workspace.specs.Holds.{claims_of};
-ghost use Rattle.ffs_claims.specs.Leaves.{AreClaims, HasRoomForOffers, OffersOnly};
+ghost use Rattle.ffs_claims.specs.Leaves.{AreClaims, CanOffer, OffersOnly};
 ghost use Rattle.ffs_claims.specs.Lines.{of_lines, is_dup, dup_lines, bad_lines};
 ghost use Rattle.ffs_claims.specs.Claiming.{ClaimsStep, SeesNext};
 
@@ -58,10 +58,22 @@ fn say_bad<W: Output>(
     Ok(())
 }
 
-/// Takes an offer, and says whether it is dup.
+/// Whether the fragment of an offer is in range. Where `in_range` says that its Run is, the fragment isn't looked at.
+#[inline(always)]
+fn fragment_in_range(geometry: &Geometry, fragment: u64, in_range: bool) -> bool
+    requires known { IsTrue in_range
+        → is_fragment_in_range geometry.now.layout fragment ≡ true }
+    ensures { result ≡ is_fragment_in_range geometry.now.layout fragment }
+{
+    in_range || geometry.ok(fragment)
+}
+
+/// Takes an offer, and says whether it is dup. `in_range` says that its Run is in range.
+#[inline(always)]
 #[tactic(auto, using(ffs_volume::proofs::Weights::ok_below))]
-fn take(workspace: &mut Workspace, geometry: &Geometry, fragment: u64) -> bool
-    requires room { HasRoomForOffers geometry.now.layout workspace.old 1 }
+fn take(workspace: &mut Workspace, geometry: &Geometry, fragment: u64, in_range: bool) -> bool
+    requires { CanOffer geometry.now.layout workspace.old 1 in_range
+        (is_fragment_in_range geometry.now.layout fragment) }
     ensures claims { claims_of workspace.new
         ≡ after_offer geometry.now.layout (claims_of workspace.old) fragment }
     ensures dup { result ≡ is_dup geometry.now.layout (claims_of workspace.old) fragment }
@@ -71,20 +83,17 @@ fn take(workspace: &mut Workspace, geometry: &Geometry, fragment: u64) -> bool
         return false;
     }
     workspace.kept += 1;
-    if !geometry.ok(fragment) {
+    if !fragment_in_range(geometry, fragment, in_range) {
         return false;
     }
     let index = fragment as u32;
-    if !workspace.claimed.get(index) {
-        workspace.claimed.set(index);
+    if workspace.claimed.claim(index, 1) {
         return false;
     }
     workspace.dups += 1;
-    if workspace.duplicates.get(index) {
-        return true;
+    if workspace.duplicates.claim(index, 1) {
+        workspace.unreported += 1;
     }
-    workspace.duplicates.set(index);
-    workspace.unreported += 1;
     true
 }
 
@@ -94,9 +103,11 @@ fn offer<W: Output>(
     geometry: &Geometry,
     number: u32,
     fragment: u64,
+    in_range: bool,
     report: &mut Report<'_, W>,
 ) -> Result<(), OutFault>
-    requires room { HasRoomForOffers geometry.now.layout workspace.old 1 }
+    requires { CanOffer geometry.now.layout workspace.old 1 in_range
+        (is_fragment_in_range geometry.now.layout fragment) }
     ensures said { Says (progress W.sink report.old) (progress W.sink report.new)
         (of_lines (offer_lines geometry.now.layout number (claims_of workspace.old) fragment))
         result }
@@ -105,22 +116,24 @@ fn offer<W: Output>(
     ensures only { OffersOnly geometry.now.layout workspace.old workspace.new }
 {
     let many = workspace.dups == MAXDUP;
-    if !take(workspace, geometry, fragment) {
+    if !take(workspace, geometry, fragment, in_range) {
         return Ok(());
     }
     say_dup(report, number, fragment as u32, many)
 }
 
-/// The offers of a Run one after the other, and what is reported of them.
+/// The offers of a Run one after the other, and what is reported of them. `in_range` says that the Run is in range.
 fn offers<W: Output>(
     workspace: &mut Workspace,
     geometry: &Geometry,
     number: u32,
     start: u32,
     len: u32,
+    in_range: bool,
     report: &mut Report<'_, W>,
 ) -> Result<(), OutFault>
-    requires room { HasRoomForOffers geometry.now.layout workspace.old len }
+    requires { CanOffer geometry.now.layout workspace.old len in_range
+        (is_run_in_range geometry.now.layout start len) }
     ensures said { Says (progress W.sink report.old) (progress W.sink report.new)
         (of_lines (lines_of_offers geometry.now.layout number (claims_of workspace.old)
         (range_with_len start len))) result }
@@ -134,6 +147,7 @@ fn offers<W: Output>(
             geometry,
             number,
             u64::from(start) + u64::from(place),
+            in_range,
             report,
         )?;
     }
@@ -150,9 +164,9 @@ fn run_in_range<W: Output>(
     len: u32,
     report: &mut Report<'_, W>,
 ) -> Result<bool, OutFault>
-    requires room { HasRoomForOffers geometry.now.layout workspace.old len }
+    requires can { CanOffer geometry.now.layout workspace.old len true
+        (is_run_in_range geometry.now.layout start len) }
     requires some { 0 < len }
-    requires in_range { is_run_in_range geometry.now.layout start len ≡ true }
     requires open { claims.is_open (claims_of workspace.old) ≡ true }
     ensures said { Says (progress W.sink report.old) (progress W.sink report.new)
         (of_lines (lines_of_offers geometry.now.layout number (claims_of workspace.old)
@@ -165,7 +179,7 @@ fn run_in_range<W: Output>(
         workspace.kept += u64::from(len);
         return Ok(true);
     }
-    offers(workspace, geometry, number, start, len, report)?;
+    offers(workspace, geometry, number, start, len, true, report)?;
     Ok(is_open(workspace))
 }
 
@@ -198,7 +212,7 @@ fn run<W: Output>(
     if many {
         return Ok(false);
     }
-    offers(workspace, geometry, number, start, len, report)?;
+    offers(workspace, geometry, number, start, len, false, report)?;
     Ok(is_open(workspace))
 }
 

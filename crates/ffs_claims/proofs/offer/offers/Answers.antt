@@ -1,7 +1,9 @@
 use Rattle.std.proofs.Common.{arith, ap, ◌+◌, ◌∙◌, List, ℕ}
 use Rattle.std.specs.List.{range_with_len}
 use Rattle.std.proofs.lemmas.Result.{err_from_is_err_and}
+use Rattle.ffs_volume.specs.Disk.Areas.{is_fragment_in_range}
 use Rattle.ffs_volume.specs.Blocks.Claims.{offer_lines, lines_of_offers, after_offers}
+use Rattle.ffs_volume.proofs.Weights.{each_ok}
 use Rattle.ffs_workspace.specs.Holds.{claims_of}
 use Rattle.ffs_phase.proofs.Reporting.{to_begins, to_says, to_stops}
 use Rattle.ffs_claims.specs.Lines.{of_lines}
@@ -70,4 +72,7 @@ offer-requires g c =
         made = inv.only.claiming.made;
         room = omega (arith, inv.kept, c.requires.room.room, c.loop-place-test.true);
       };
+      known = λ fits. ap (is_fragment_in_range c.args.geometry.now.layout) (omega arith)
+          ∙ each_ok c.args.geometry.now.layout c.args.start c.args.len c.loop-place.place (c.requires.known fits)
+          c.loop-place-test.true;
     }

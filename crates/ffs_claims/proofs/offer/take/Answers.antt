@@ -1,13 +1,32 @@
-use Rattle.std.proofs.Common.{◌≡◌, ◌+◌, ◌<◌, arith, rules, sym, ap, ◌∙◌, length}
+use Rattle.std.proofs.Common.{◌≡◌, ◌+◌, ◌<◌, nat_lt, true, false, arith, rules, refl, sym, ap, ◌∙◌, length}
+use Rattle.std.proofs.lemmas.Bool.Decides.{nat_tests}
 use Rattle.std.proofs.lemmas.List.Sums.{count_by-le-length}
+use Rattle.ffs_volume.specs.Blocks.Claims.{is_set}
 use Rattle.ffs_volume.proofs.Weights.{count_set, ok_below}
 use Rattle.ffs_maps.specs.Bits.{bits_of}
 use Rattle.ffs_maps.proofs.Bits.{bits_long}
 use Rattle.ffs_workspace.specs.Lengths.{set_count}
+use Rattle.ffs_claims.proofs.OneBit.{was_set, is_set_now}
 use Rattle.ffs_claims.proofs.offer.take.Goals as goal
 
-pub overflow_add-workspace-3 : goal.overflow_add-workspace-3
-overflow_add-workspace-3 c =
+pub returns-then-claim-clause-claims : goal.returns-then-claim-clause-claims
+returns-then-claim-clause-claims c =
+    let few : nat_lt c.args.workspace.now.dups 11 ≡ true = grind (arith, nat_tests) in
+    let ok = sym c.fragment_in_range.ensures ∙ c.if-not-fragment_in_range.false in
+    let unset : is_set (bits_of c.args.workspace.now.claimed) c.args.fragment ≡ false =
+    rw c.if-claim.true at (was_set _ _ _ _ c.claim.ensures) in
+    rw (few, ok, unset, is_set_now _ _ _ _ c.claim.ensures) refl
+
+pub returns-then-claim-clause-dup : goal.returns-then-claim-clause-dup
+returns-then-claim-clause-dup c =
+    let few : nat_lt c.args.workspace.now.dups 11 ≡ true = grind (arith, nat_tests) in
+    let ok = sym c.fragment_in_range.ensures ∙ c.if-not-fragment_in_range.false in
+    let unset : is_set (bits_of c.args.workspace.now.claimed) c.args.fragment ≡ false =
+    rw c.if-claim.true at (was_set _ _ _ _ c.claim.ensures) in
+    rw (few, ok, unset) refl
+
+pub overflow_add-workspace-then-claim-2 : goal.overflow_add-workspace-then-claim-2
+overflow_add-workspace-then-claim-2 c =
     let old = c.args.workspace.now.duplicates in
     let made = c.requires.room.made in
     omega (
@@ -19,21 +38,29 @@ overflow_add-workspace-3 c =
       c.args.geometry.now.sound.numbers.size_below,
     )
 
-pub returns-clause-only : goal.returns-clause-only
-returns-clause-only c =
-    let old = c.args.workspace.now.duplicates in
+pub returns-then-claim-2-clause-only : goal.returns-then-claim-2-clause-only
+returns-then-claim-2-clause-only c =
     let m = c.requires.room.made in
     let size : length (bits_of c.args.workspace.now.duplicates) ≡ c.args.geometry.now.layout.size =
     bits_long c.args.workspace.now.duplicates ∙ m.duplicates in
     let low : c.args.fragment < c.args.geometry.now.layout.size = ok_below c.args.geometry.now.layout c.args.fragment
-    (sym c.ok.ensures ∙ c.if-not-ok.false) in
-    let count : c.args.workspace.now.unreported + 1 ≡ set_count (bits_of c.set-2.new.self) =
+    (sym c.fragment_in_range.ensures ∙ c.if-not-fragment_in_range.false) in
+    let unset : is_set (bits_of c.args.workspace.now.duplicates) c.args.fragment ≡ false =
+    rw c.if-claim-2.true at (was_set _ _ _ _ c.claim-2.ensures) in
+    let count : c.args.workspace.now.unreported + 1 ≡ set_count (bits_of c.claim-2.new.self) =
     omega (
       arith,
       m.unreported,
-      ap set_count c.set-2.ensures.bits,
-      count_set (bits_of c.args.workspace.now.duplicates)
-          c.args.fragment (omega (arith, size, low)) (sym c.get-2.ensures ∙ c.if-get.false),
+      ap set_count (is_set_now _ _ _ _ c.claim-2.ensures),
+      count_set (bits_of c.args.workspace.now.duplicates) c.args.fragment (omega (arith, size, low)) unset,
     ) in
-    let kept = c.set-2.ensures.size ∙ m.duplicates in
+    let kept = c.claim-2.ensures.size ∙ m.duplicates in
     search rules
+
+pub returns-else-claim-2-clause-claims : goal.returns-else-claim-2-clause-claims
+returns-else-claim-2-clause-claims c =
+    let few : nat_lt c.args.workspace.now.dups 11 ≡ true = grind (arith, nat_tests) in
+    let ok = sym c.fragment_in_range.ensures ∙ c.if-not-fragment_in_range.false in
+    let set : is_set (bits_of c.args.workspace.now.claimed) c.args.fragment ≡ true =
+    rw c.if-claim.false at (was_set _ _ _ _ c.claim.ensures) in
+    rw (few, ok, set, c.claim.ensures.kept c.if-claim.false, is_set_now _ _ _ _ c.claim-2.ensures) refl
