@@ -1,7 +1,6 @@
 // Prints what is wrong with directories, their entries and the references to inodes.
 ghost use Rattle.std.specs.Prelude.{◌≡◌};
 ghost use Rattle.ffs_report.specs.Sink.{Prints};
-ghost use Rattle.ffs_report.specs.Piece.{pieces_text};
 ghost use Rattle.ffs_report.specs.Lines.{directory_message, dot_message, entry_message, reference_message};
 ghost use Rattle.ffs_volume.specs.declared.Label.TheVariants.{Dir};
 ghost use Rattle.ffs_volume.specs.Messages.Texts.{path_label, file_label, attr_text, inode_text, labelled_text, path_text, name_in_the_way_text, length_text, entry_text, extraneous_text, links_text, tree_message_text};
@@ -9,7 +8,9 @@ ghost use Rattle.ffs_volume.specs.Messages.Texts.{path_label, file_label, attr_t
 use crate::line::{DirectoryLine, DotLine, EntryLine, ReferenceLine};
 use crate::output::{OutFault, Output};
 use crate::piece::Piece;
-use crate::print::{print, print_pieces};
+use crate::print::{
+    print, print_count, print_number, print_octal, print_pieces, print_shown, print_total,
+};
 use ffs_volume::texts::*;
 use ffs_volume::{Attr, Label};
 
@@ -35,18 +36,11 @@ fn path_label(label: Label) -> &'static [u8]
 fn print_attr<W: Output>(out: &mut W, attr: &Attr) -> Result<(), OutFault>
     ensures { Prints (W.sink out.old) (W.sink out.new) (attr_text attr.now) result }
 {
-    print_pieces(
-        out,
-        &[
-            Piece::Text(INODE),
-            Piece::Count(attr.number as u64, OWNER),
-            Piece::Count(attr.uid as u64, MODE),
-            Piece::Octal(attr.mode),
-            Piece::Text(SIZE),
-            Piece::Count(attr.size, MTIME),
-            Piece::Total(attr.mtime as i64, b""),
-        ],
-    )
+    print_number(out, INODE, attr.number as u64, OWNER)?;
+    print_count(out, attr.uid as u64, MODE)?;
+    print_octal(out, attr.mode)?;
+    print_number(out, SIZE, attr.size, MTIME)?;
+    print_total(out, attr.mtime as i64, b"")
 }
 
 /// What a line says before an inode's attributes, these, and what it says after them.
@@ -54,14 +48,14 @@ fn print_inode<W: Output>(
     out: &mut W,
     head: &[u8],
     attr: &Attr,
-    tail: &[Piece<'_>],
+    tail: &[u8],
 ) -> Result<(), OutFault>
     ensures { Prints (W.sink out.old) (W.sink out.new)
-        (inode_text head.now attr.now (pieces_text tail.now)) result }
+        (inode_text head.now attr.now tail.now) result }
 {
     print(out, head)?;
     print_attr(out, attr)?;
-    print_pieces(out, tail)
+    print(out, tail)
 }
 
 /// The same, of an inode that is called a directory or a file.
@@ -70,37 +64,30 @@ fn print_kind<W: Output>(
     head: &[u8],
     label: Label,
     attr: &Attr,
-    tail: &[Piece<'_>],
+    tail: &[u8],
 ) -> Result<(), OutFault>
     ensures { Prints (W.sink out.old) (W.sink out.new)
-        (labelled_text head.now label attr.now (pieces_text tail.now)) result }
+        (labelled_text head.now label attr.now tail.now) result }
 {
     print(out, head)?;
     print_inode(out, file_label(label), attr, tail)
 }
 
 /// An inode with its attributes and its path.
-fn print_path<'x, W: Output>(
+fn print_path<W: Output>(
     out: &mut W,
-    head: &'x [u8],
+    head: &[u8],
     attr: &Attr,
     label: Label,
-    path: &'x [u8],
-    tail: &'x [u8],
+    path: &[u8],
+    tail: &[u8],
 ) -> Result<(), OutFault>
     ensures { Prints (W.sink out.old) (W.sink out.new)
         (path_text head.now attr.now label path.now tail.now) result }
 {
-    print_inode(
-        out,
-        head,
-        attr,
-        &[
-            Piece::Text(path_label(label)),
-            Piece::Shown(path),
-            Piece::Text(tail),
-        ],
-    )
+    print_inode(out, head, attr, path_label(label))?;
+    print_shown(out, path)?;
+    print(out, tail)
 }
 
 /// A directory, and the entry in the place of `.` or `..`.
@@ -115,12 +102,10 @@ fn print_in_the_way<'x, W: Output>(
     ensures { Prints (W.sink out.old) (W.sink out.new)
         (name_in_the_way_text head.now attr.now path.now why.now name.now) result }
 {
-    print_inode(
+    print_inode(out, head, attr, PATH_OF_DIR)?;
+    print_pieces(
         out,
-        head,
-        attr,
         &[
-            Piece::Text(PATH_OF_DIR),
             Piece::Shown(path),
             Piece::Text(why),
             Piece::Shown(name),
@@ -143,43 +128,28 @@ fn print_length<W: Output>(out: &mut W, path: &[u8], size: u64) -> Result<(), Ou
     )
 }
 
-fn print_numbered<'x, W: Output>(
+fn print_numbered<W: Output>(
     out: &mut W,
-    head: &'x [u8],
+    head: &[u8],
     number: u32,
-    path: &'x [u8],
-    tail: &'x [u8],
+    path: &[u8],
+    tail: &[u8],
 ) -> Result<(), OutFault>
     ensures { Prints (W.sink out.old) (W.sink out.new)
         (entry_text head.now number path.now tail.now) result }
 {
-    print_pieces(
-        out,
-        &[
-            Piece::Text(head),
-            Piece::Count(number as u64, PATH_OF_NAME),
-            Piece::Shown(path),
-            Piece::Text(tail),
-        ],
-    )
+    print_number(out, head, number as u64, PATH_OF_NAME)?;
+    print_shown(out, path)?;
+    print(out, tail)
 }
 
-fn print_extraneous<'x, W: Output>(
-    out: &mut W,
-    path: &'x [u8],
-    dir: &'x [u8],
-) -> Result<(), OutFault>
+fn print_extraneous<W: Output>(out: &mut W, path: &[u8], dir: &[u8]) -> Result<(), OutFault>
     ensures { Prints (W.sink out.old) (W.sink out.new) (extraneous_text path.now dir.now) result }
 {
-    print_pieces(
-        out,
-        &[
-            Piece::Shown(path),
-            Piece::Text(EXTRANEOUS),
-            Piece::Shown(dir),
-            Piece::Text(REMOVE),
-        ],
-    )
+    print_shown(out, path)?;
+    print(out, EXTRANEOUS)?;
+    print_shown(out, dir)?;
+    print(out, REMOVE)
 }
 
 fn print_links<W: Output>(
@@ -192,26 +162,18 @@ fn print_links<W: Output>(
     ensures { Prints (W.sink out.old) (W.sink out.new) (links_text label attr.now count right)
         result }
 {
-    print_kind(
-        out,
-        LINK_COUNT,
-        label,
-        attr,
-        &[
-            Piece::Text(COUNT),
-            Piece::Total(count as i64, SHOULD_BE),
-            Piece::Count(right, ADJUST),
-        ],
-    )
+    print_kind(out, LINK_COUNT, label, attr, COUNT)?;
+    print_total(out, count as i64, SHOULD_BE)?;
+    print_count(out, right, ADJUST)
 }
 
 /// A directory with its attributes and its path.
-fn print_dir<'x, W: Output>(
+fn print_dir<W: Output>(
     out: &mut W,
-    head: &'x [u8],
+    head: &[u8],
     attr: &Attr,
-    path: &'x [u8],
-    tail: &'x [u8],
+    path: &[u8],
+    tail: &[u8],
 ) -> Result<(), OutFault>
     ensures { Prints (W.sink out.old) (W.sink out.new)
         (path_text head.now attr.now Dir path.now tail.now) result }
@@ -320,39 +282,23 @@ pub fn print_reference<W: Output>(out: &mut W, line: &ReferenceLine) -> Result<(
         (reference_message line.now)) result }
 {
     match *line {
-        ReferenceLine::UnrefDir { attr } => print_inode(
-            out,
-            UNREF_DIR,
-            &attr,
-            &[Piece::Text(RECONNECT)],
-        ),
+        ReferenceLine::UnrefDir { attr } => print_inode(out, UNREF_DIR, &attr, RECONNECT),
         ReferenceLine::DeadMarked { label, attr } => print_kind(
             out,
             DEAD_MARKED,
             label,
             &attr,
-            &[Piece::Text(CLEAR)],
+            CLEAR,
         ),
-        ReferenceLine::DeadZero { attr } => print_inode(
-            out,
-            DEAD_ZERO,
-            &attr,
-            &[Piece::Text(CLEAR)],
-        ),
+        ReferenceLine::DeadZero { attr } => print_inode(out, DEAD_ZERO, &attr, CLEAR),
         ReferenceLine::Unref { label, attr } => print_kind(
             out,
             UNREF,
             label,
             &attr,
-            &[Piece::Text(RECONNECT_OR_CLEAR)],
+            RECONNECT_OR_CLEAR,
         ),
-        ReferenceLine::UnrefZero { label, attr } => print_kind(
-            out,
-            UNREF,
-            label,
-            &attr,
-            &[Piece::Text(CLEAR)],
-        ),
+        ReferenceLine::UnrefZero { label, attr } => print_kind(out, UNREF, label, &attr, CLEAR),
         ReferenceLine::LinkCount {
             label,
             attr,

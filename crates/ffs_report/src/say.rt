@@ -2,14 +2,14 @@
 ghost use Rattle.std.specs.Prelude.{◌≡◌};
 ghost use Rattle.ffs_report.specs.Sink.{Prints};
 ghost use Rattle.ffs_report.specs.Lines.{message_of};
-ghost use Rattle.ffs_volume.specs.Messages.Texts.{text_of, number_text, fault_text, opening_text, mounted_text, minfree_text, offer_text, block_count_text, block_message_text, summary_text};
+ghost use Rattle.ffs_volume.specs.Messages.Texts.{text_of, fault_text, opening_text, mounted_text, minfree_text, offer_text, block_count_text, block_message_text, summary_text};
 
 use crate::line::{Heading, Line};
 use crate::line_buffer::LineBuffer;
 use crate::names::{print_directory, print_dot, print_entry, print_reference};
 use crate::output::{OutFault, Output};
 use crate::piece::Piece;
-use crate::print::{print, print_count, print_pieces};
+use crate::print::{print, print_count, print_number, print_pieces};
 use ffs_volume::texts::*;
 use ffs_volume::{BlockMessage, SuperFault};
 
@@ -61,19 +61,6 @@ fn print_line<W: Output>(out: &mut W, line: &Line<'_>) -> Result<(), OutFault>
             tenths,
         } => print_summary(out, files, used, free, frags, blocks, tenths),
     }
-}
-
-/// A number between two texts.
-fn print_number<'x, W: Output>(
-    out: &mut W,
-    head: &'x [u8],
-    number: u64,
-    tail: &'x [u8],
-) -> Result<(), OutFault>
-    ensures { Prints (W.sink out.old) (W.sink out.new) (number_text head.now number tail.now)
-        result }
-{
-    print_pieces(out, &[Piece::Text(head), Piece::Count(number, tail)])
 }
 
 fn print_opening<W: Output>(out: &mut W, name: &[u8]) -> Result<(), OutFault>
@@ -152,15 +139,9 @@ fn print_block_count<W: Output>(
 ) -> Result<(), OutFault>
     ensures { Prints (W.sink out.old) (W.sink out.new) (block_count_text inode found right) result }
 {
-    print_pieces(
-        out,
-        &[
-            Piece::Text(BLOCK_COUNT),
-            Piece::Count(inode as u64, FOUND),
-            Piece::Count(found as u64, RIGHT),
-            Piece::Count(right, CORRECT),
-        ],
-    )
+    print_number(out, BLOCK_COUNT, inode as u64, FOUND)?;
+    print_count(out, found as u64, RIGHT)?;
+    print_count(out, right, CORRECT)
 }
 
 fn print_block<W: Output>(out: &mut W, message: BlockMessage) -> Result<(), OutFault>

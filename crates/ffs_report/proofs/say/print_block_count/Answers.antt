@@ -1,20 +1,30 @@
-use Rattle.std.proofs.Common.{◌≡◌, ◌++◌, ◌∙◌, List, [], ◌∷◌, ℕ, ap, subst, append_assoc}
+use Rattle.std.proofs.Common.{[], ◌∷◌}
 use Rattle.std.specs.Prelude.{decimal}
 use Rattle.std.specs.List.{concat}
 use Rattle.ffs_volume.specs.declared.texts.TheConstants as texts
-use Rattle.ffs_report.specs.Sink.{Prints}
+use Rattle.ffs_report.proofs.Sinks.{prints_pair_then, prints_parts_then, prints_pair_broken, prints_parts_broken}
+use Rattle.ffs_report.proofs.Sinks.{prints_pair_end}
 use Rattle.ffs_report.proofs.say.print_block_count.Goals as goal
 
--- a text, and three numbers, each with the text after it
-text_and_counts : (a b c d e f g : List ℕ) → a ++ ((b ++ c) ++ ((d ++ e) ++ ((f ++ g) ++ [])))
-    ≡ concat (a ∷ b ∷ c ∷ d ∷ e ∷ f ∷ g ∷ [])
-text_and_counts a b c d e f g = ap (λ (x : List ℕ). a ++ x)
-    (append_assoc b c ((d ++ e) ++ ((f ++ g) ++ [])) ∙ ap (λ (x : List ℕ). b ++ (c ++ x))
-    (append_assoc d e ((f ++ g) ++ []) ∙ ap (λ (x : List ℕ). d ++ (e ++ x)) (append_assoc f g [])))
+pub returns-in_err-print_number : goal.returns-in_err-print_number
+returns-in_err-print_number g c =
+    let inode = texts.BLOCK_COUNT.now ∷ decimal c.args.inode ∷ texts.FOUND.now ∷ [] in
+    let right = decimal c.args.right ∷ texts.CORRECT.now ∷ [] in
+    prints_parts_broken _ _ inode (decimal c.args.found ∷ texts.RIGHT.now ∷ right) _ c.from_residual.ensures.0
+    c.in_err-print_number.ensures
+
+pub returns-in_err-print_count : goal.returns-in_err-print_count
+returns-in_err-print_count g c =
+    let inode = texts.BLOCK_COUNT.now ∷ decimal c.args.inode ∷ texts.FOUND.now ∷ [] in
+    let right = decimal c.args.right ∷ texts.CORRECT.now ∷ [] in
+    prints_parts_then _ _ _ inode (decimal c.args.found ∷ texts.RIGHT.now ∷ right) _ c.in_ok-print_number.ensures
+    (prints_pair_broken _ _ (decimal c.args.found) texts.RIGHT.now (concat right) _
+    c.from_residual-in_err-print_count.ensures.0 c.in_err-print_count.ensures)
 
 pub returns : goal.returns
 returns g c =
-    subst (λ (xs : List ℕ). Prints (g.W.Output.sink c.args.out.now) (g.W.Output.sink c.print_pieces.new.out) xs
-    c.print_pieces.result)
-    (text_and_counts texts.BLOCK_COUNT.now (decimal c.args.inode) texts.FOUND.now (decimal c.args.found) texts.RIGHT.now
-    (decimal c.args.right) texts.CORRECT.now) c.print_pieces.ensures
+    let inode = texts.BLOCK_COUNT.now ∷ decimal c.args.inode ∷ texts.FOUND.now ∷ [] in
+    let right = decimal c.args.right ∷ texts.CORRECT.now ∷ [] in
+    prints_parts_then _ _ _ inode (decimal c.args.found ∷ texts.RIGHT.now ∷ right) _ c.in_ok-print_number.ensures
+    (prints_pair_then _ _ _ (decimal c.args.found) texts.RIGHT.now (concat right) _ c.in_ok-print_count.ensures
+    (prints_pair_end _ _ (decimal c.args.right) texts.CORRECT.now _ c.print_count-2.ensures))
