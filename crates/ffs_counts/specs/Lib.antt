@@ -1,4 +1,5 @@
 pub mod Once
 pub mod Ready
+pub mod Records
 pub mod References
 pub mod Totals

@@ -9,11 +9,41 @@ ghost use Rattle.ffs_groups.specs.Check.{AreCounts, lines_of};
 ghost use Rattle.ffs_groups.specs.Free.{free_in};
 ghost use Rattle.ffs_groups.specs.Inodes.{class_in};
 ghost use Rattle.ffs_workspace.specs.Ready.{IsReady, StaysReady};
+ghost use Rattle.ffs_counts.specs.Records.{CanReadRecord, ReadsRecord};
 
 use ffs_groups::{Counts, Findings, compare_group};
 use ffs_image::{Image, ImageFault};
 use ffs_layout::Geometry;
-use ffs_workspace::Workspace;
+use ffs_volume::constants::CSUM_SIZE;
+use ffs_workspace::{Table, Workspace};
+
+/// How many summary records are read at a time: as many as the smallest block holds.
+const RECORDS_AT_ONCE: u32 = 256;
+
+/// The bytes of one of them.
+const RECORD_SIZE: usize = CSUM_SIZE as usize;
+
+// Reads the summary record of a group with those round it, unless the window holds them: 256 records, or those that are
+// left. Its answer is where the group's record is in the window.
+fn read_summaries<I: Image>(
+    geometry: &Geometry,
+    image: &mut I,
+    table: &mut Table,
+    group: u32,
+) -> Result<usize, ImageFault>
+    requires { CanReadRecord geometry.now.layout (I.device image.old) group table.old }
+    ensures { ReadsRecord geometry.now.layout (I.device image.old) (I.device image.new) group
+        table.new result }
+{
+    let first = group - group % RECORDS_AT_ONCE;
+    let count = RECORDS_AT_ONCE.min(geometry.layout.ncg - first);
+    let place = geometry.summary_place(first);
+    table.forget();
+    table
+        .window
+        .fill(image, place, RECORD_SIZE * count as usize)?;
+    Ok(RECORD_SIZE * (group - first) as usize)
+}
 
 /// Reads the records of a group, and compares them with what they should be.
 pub fn read_group<I: Image>(
@@ -37,20 +67,19 @@ pub fn read_group<I: Image>(
         workspace.new }
 {
     let windows = &mut workspace.windows;
-    let place = geometry.summary_place(group);
-    windows.table.forget();
-    windows.table.window.fill(image, place, 16)?;
+    let at = read_summaries(geometry, image, &mut windows.table, group)?;
     let place = geometry.group_place(group);
     windows
         .chunk
         .fill(image, place, geometry.layout.cgsize as usize)?;
+    let records = windows.table.window.bytes();
     Ok(compare_group(
         geometry,
         &workspace.claimed,
         &workspace.kinds,
         counts,
         group,
-        workspace.windows.table.window.bytes(),
-        workspace.windows.chunk.bytes(),
+        &records[at..at + RECORD_SIZE],
+        windows.chunk.bytes(),
     ))
 }

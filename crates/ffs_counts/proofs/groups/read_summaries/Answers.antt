@@ -1,0 +1,24 @@
+use Rattle.std.proofs.Common.{arith, ap, rules, ◌∙◌, ◌*◌}
+use Rattle.ffs_counts.specs.Records.{first_read, records_read}
+use Rattle.ffs_counts.proofs.Places.{record_there, records_inside}
+use Rattle.ffs_counts.proofs.groups.read_summaries.Goals as goal
+
+pub fill-requires-clause-inside : goal.fill-requires-clause-inside
+fill-requires-clause-inside g c =
+    let v = c.args.geometry.now.layout in
+    let first = first_read c.args.group in
+    omega (
+      arith,
+      c.summary_place-place.ensures,
+      c.min-count.ensures,
+      records_inside v first (records_read v first) c.args.geometry.now.sound (omega (arith, c.requires.group)),
+      c.requires.ready.volume,
+    )
+
+pub returns : goal.returns
+returns g c = record {
+  there = record_there c.args.geometry.now.layout (g.I.Image.device c.args.image.now).contents c.fill.new.self
+      c.args.group c.requires.group (c.in_ok-fill.ensures.place.0 ∙ c.summary_place-place.ensures)
+      (c.in_ok-fill.ensures.place.1 ∙ ap (λ n. 16 * n) c.min-count.ensures) (search rules);
+  leaves = search rules;
+}

@@ -1,0 +1,39 @@
+-- The summary records that are read at a time.
+use Rattle.std.specs.Prelude.{ℕ, ◌≡◌, ◌+◌, ◌-◌, ◌*◌, ◌%◌, ◌<◌, ◌≤◌, List, Option, Result, IfOk, min}
+use Rattle.std.specs.List.{slice_range}
+use Rattle.ffs_image.specs.Device.{Device, ForContents}
+use Rattle.ffs_image.specs.declared.ImageFault.{ImageFault}
+use Rattle.ffs_volume.specs.declared.constants.TheConstants.{CSUM_SIZE}
+use Rattle.ffs_volume.specs.declared.Layout.{Layout}
+use Rattle.ffs_volume.specs.Disk.Areas.{summary_place}
+use Rattle.ffs_volume.specs.Groups.Records.{summary_record}
+use Rattle.ffs_walk.specs.Windows.{held_bytes}
+use Rattle.ffs_walk.specs.declared.window.Window.{Window}
+use Rattle.ffs_workspace.specs.Tables.{CanReadInodes, TableAfter}
+use Rattle.ffs_workspace.specs.declared.table.Table.{Table}
+
+-- the first of the 256 groups whose records are read with that of group c
+abbrev pub first_read : ℕ → ℕ
+first_read c = c - c % 256
+
+-- how many records are read from group n on: those of 256 groups, or of all that are left
+abbrev pub records_read : Layout → ℕ → ℕ
+records_read v n = min 256 (v.ncg - n)
+
+-- a window holds the records that are read with that of group c, which is at this place, and nothing else
+pub record HoldsRecord (v : Layout) (contents : Option (List ℕ)) (w : Window) (c at : ℕ) : Type 0 where
+  pub starts : w.place ≡ summary_place v (first_read c)
+  pub length : w.length ≡ CSUM_SIZE * records_read v (first_read c)
+  pub inside : at + CSUM_SIZE ≤ w.length
+  pub bytes : ForContents contents
+      (λ b. slice_range (held_bytes w) at (at + CSUM_SIZE) ≡ summary_record v b c)
+
+-- the volume has a group c, and the table can be read into
+pub record CanReadRecord (v : Layout) (d : Device) (c : ℕ) (t : Table) : Type 0 where
+  pub group : c < v.ncg
+  pub ready : CanReadInodes v d t
+
+-- the record of group c is read with those round it, and the answer is where it is in the window of the table
+pub record ReadsRecord (v : Layout) (d d' : Device) (c : ℕ) (t : Table) (result : Result ℕ ImageFault) : Type 0 where
+  pub there : IfOk result (HoldsRecord v d.contents t.window c)
+  pub leaves : TableAfter v d d' t result
