@@ -5,7 +5,7 @@ _fsck_ffs() {
     if [[ $before == -b ]]; then
         mapfile -t COMPREPLY < <(compgen -W '16 32 64 128' -- "$current")
     elif [[ $current == -* ]]; then
-        mapfile -t COMPREPLY < <(compgen -W '-n -N -b -h --help --version' -- "$current")
+        mapfile -t COMPREPLY < <(compgen -W '-n -N -b -h --help -V --version' -- "$current")
     else
         compopt -o filenames 2>/dev/null
         mapfile -t COMPREPLY < <(compgen -f -- "$current")
