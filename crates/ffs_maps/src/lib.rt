@@ -155,13 +155,28 @@ impl FragmentMap {
         self.words.set(index, word & !(1 << (fragment % 64)));
     }
 
+    // Sets the bits of a run in one word.
+    fn set_in_word(&mut self, start: u32, len: u32)
+        requires { IsInWord start len self.old.size }
+        ensures { HasBits self.new self.old.size (set_run (bits_of self.old) start len) }
+    {
+        let index = start as usize / 64;
+        let bits = (u64::MAX >> (64 - len)) << (start % 64);
+        let word = self.words.get(index);
+        self.words.set(index, word | bits);
+    }
+
     /// Sets the bits of a run.
     pub fn set_run(&mut self, start: u32, len: u32)
         requires { start + len ≤ self.old.size }
         ensures { HasBits self.new self.old.size (set_run (bits_of self.old) start len) }
     {
-        for place in 0..len {
-            self.set(start + place);
+        let end = start + len;
+        let mut place = start;
+        while place < end {
+            let some = (64 - place % 64).min(end - place);
+            self.set_in_word(place, some);
+            place += some;
         }
     }
 
