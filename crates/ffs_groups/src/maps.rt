@@ -128,19 +128,18 @@ pub fn group_fragments(geometry: &Geometry, group: u32) -> u32
         .min(geometry.layout.size - geometry.cgbase(group))
 }
 
-// Whether whole words of a map have one bit for each fragment.
+// Whether whole words of a map have one bit for each fragment. No word ends the loop, so that some are compared at a time.
 fn are_filled(block: &[u8], place: usize, words: u32, bit: bool) -> bool
     requires { place + 8 * words ≤ length block.now }
     ensures { result ≡ has_bits block.now place (64 * words) (λ _. bit) }
 {
     let right = filled(bit);
+    let mut same = true;
     for index in 0..words {
         let found = word_at(block, place + 8 * index as usize, 8);
-        if !same_bits(found, right, 64) {
-            return false;
-        }
+        same &= same_bits(found, right, 64);
     }
-    true
+    same
 }
 
 // Whether whole words of a map have the bits of the fragments from one on that are free.
