@@ -46,8 +46,8 @@ few_counts-few-requires c =
 pub overflow_add-counts : goal.overflow_add-counts
 overflow_add-counts c =
     let start = max (c.args.group * c.args.geometry.now.layout.ipg) 2 in
-    let all = counted_join (class_in c.args.kinds.now) start c.loop-inode.inode c.min-next.result _ _ _ _ c.from.result _
-    c.loop-inode.invariant.counted c.few_counts-few.ensures c.loop-inode.invariant.above
+    let all = counted_join (class_in c.args.kinds.now) start c.loop-inode.inode c.min-next.result _ _ _ _
+    c.from.result _ c.loop-inode.invariant.counted c.few_counts-few.ensures c.loop-inode.invariant.above
     (omega (arith, c.min-next.ensures, c.loop-inode-test.true)) c.from.ensures refl in
     omega (arith, (counted_fit _ start c.min-next.result _ _ (2 ^ 32) all (omega (arith, c.min-next.ensures))).0)
 

@@ -19,7 +19,8 @@ loop-index-preserved c =
     ∙ same_below 64
     (λ k. same_bit (nat_eq (bit_at c.word_at-found.result k) 1) (nat_eq (bit_at c.filled-right.result k) 1))
     (λ k. same_bit (map_bit block at k) bit)
-    (λ k h. ap (λ b. same_bit b (nat_eq (bit_at c.filled-right.result k) 1)) (c.word_at-found.ensures k (omega (arith, h)))
+    (λ k h. ap (λ b. same_bit b (nat_eq (bit_at c.filled-right.result k) 1))
+    (c.word_at-found.ensures k (omega (arith, h)))
     ∙ ap (λ b. same_bit (map_bit block at k) b) (c.filled-right.ensures k h)) in
     ap (λ b. b && c.same_bits-same.result) c.loop-index.invariant
     ∙ ap (λ b. has_bits block c.args.place (64 * index) (λ _. bit) && b) word

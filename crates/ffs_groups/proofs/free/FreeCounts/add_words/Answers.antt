@@ -43,5 +43,6 @@ loop-block-preserved c =
 
 pub returns : goal.returns
 returns c =
-    let end : c.loop-block.block ≡ c.args.blocks = omega (arith, c.loop-block.invariant.within, c.loop-block-test.false) in
+    let end : c.loop-block.block ≡ c.args.blocks =
+    omega (arith, c.loop-block.invariant.within, c.loop-block-test.false) in
     rw end at c.loop-block.invariant.added
