@@ -9,3 +9,4 @@ pub mod Words
 pub mod Bytes
 pub mod Skipping
 pub mod Single
+pub mod Stretches

@@ -225,6 +225,16 @@ pub map_begins : (n : ℕ) (test : ℕ → Bool) → all_below (min 0 n) test �
 unfolding all_below
 map_begins n test = let e : min 0 n ≡ 0 = omega arith in ap (λ j. all_below j test) e
 
+pub none_below : (test : ℕ → Bool) → all_below 0 test ≡ true
+unfolding all_below
+none_below test = refl
+
+-- a test that fails below a number fails below each greater one
+pub all_fails : (n m : ℕ) (test : ℕ → Bool) → m ≤ n → all_below m test ≡ false → all_below n test ≡ false
+all_fails n m test h now =
+    let parts : n ≡ m + (n - m) = omega arith in
+    all_join m (n - m) n test parts ∙ ap (λ b. b && all_below (n - m) (λ k. test (m + k))) now
+
 pub moved_in : (bits : ℕ → Bool) (first word k : ℕ) → bits (first + 64 * word + k) ≡ bits (first + (64 * word + k))
 moved_in bits first word k = let e : first + 64 * word + k ≡ first + (64 * word + k) = omega arith in ap bits e
 

@@ -16,6 +16,10 @@ free_in used size f = nat_lt f size && not (is_set used f)
 abbrev pub word_bits : ℕ → ℕ → ℕ → List Bool
 word_bits word place n = map (λ k. nat_eq (bit_at word k) 1) (range_with_len place n)
 
+-- which fragments are free of block b of those that begin at a fragment
+abbrev pub bits_from : (free : ℕ → Bool) (start frag b : ℕ) → List Bool
+bits_from free start frag b = map free (range_with_len (start + b * frag) frag)
+
 -- what a block adds to the free blocks, to the free fragments of other blocks, and to their runs of length k
 abbrev pub whole_in : List Bool → ℕ
 whole_in bits = if is_free_block bits then 1 else 0
@@ -43,6 +47,13 @@ pub record HasRoomToCount (blocks frag limit : ℕ) (counts : FreeCounts) : Type
   pub some : 0 < frag
   pub few : frag ≤ 8
   pub room : blocks * frag ≤ 64
+  pub below : AreBelow limit counts
+
+-- blocks of a volume begin at a fragment, and the counts have room for them
+pub record HasBlocks (start frag limit : ℕ) (counts : FreeCounts) : Type 0 where
+  pub some : 0 < frag
+  pub few : frag ≤ 8
+  pub near : start < 2 ^ 62
   pub below : AreBelow limit counts
 
 -- n blocks from one on are added

@@ -1,5 +1,6 @@
 -- The classes of inodes, as a list of their kinds has them.
-use Rattle.std.specs.Prelude.{ℕ, ◌≡◌, List, slice_index, count_by, not}
+use Rattle.std.specs.Prelude.{ℕ, ◌≡◌, ◌-◌, ◌<◌, ◌≤◌, List, length, slice_index, count_by, not}
+use Rattle.std.specs.List.{range_with_len}
 use Rattle.ffs_volume.specs.declared.Layout.{Layout}
 use Rattle.ffs_volume.specs.Groups.Records.{is_used_inode, is_dir_inode, group_inodes}
 use Rattle.ffs_groups.specs.declared.inodes.InodeCounts.{InodeCounts}
@@ -9,6 +10,18 @@ use Rattle.ffs_volume.specs.Encodings.Kinds.{class_of_kind}
 -- the class of inode x
 abbrev pub class_in : List ℕ → ℕ → Class
 class_in kinds x = class_of_kind (slice_index kinds x)
+
+-- inodes from one on and below another, past the first two, so few that a byte counts them
+pub record AreFew (listed : List ℕ) (first end : ℕ) : Type 0 where
+  pub past_two : 2 ≤ first
+  pub order : first ≤ end
+  pub few : end - first < 256
+  pub within : end ≤ length listed
+
+-- the directories and the free ones of the inodes from one on and below another
+pub record AreCounted (class : ℕ → Class) (first end d f : ℕ) : Type 0 where
+  pub dirs : d ≡ count_by (is_dir_inode class) (range_with_len first (end - first))
+  pub free : f ≡ count_by (λ x. not (is_used_inode class x)) (range_with_len first (end - first))
 
 -- the directories and the free inodes of group c
 pub record AreInodes (v : Layout) (class : ℕ → Class) (c : ℕ) (counts : InodeCounts) : Type 0 where

@@ -1,14 +1,35 @@
 //! The free blocks and fragments of a cylinder group.
 
-ghost use Rattle.std.specs.Prelude.{◌-◌, ◌*◌, ◌/◌, ◌^◌, ◌≤◌, count_by, ◌==◌};
+ghost use Rattle.std.specs.Prelude.{◌≡◌, ◌+◌, ◌-◌, ◌*◌, ◌/◌, ◌^◌, ◌<◌, ◌≤◌, count_by, ◌==◌, IfSome, ℕ};
 ghost use Rattle.ffs_volume.specs.Groups.Records.{free_stretches, stretch_of};
 ghost use Rattle.ffs_maps.specs.Bits.{bits_of};
-ghost use Rattle.ffs_groups.specs.Free.{word_bits, whole_in, loose_in, runs_in, AreBelow, HasRoomToCount, Grown, Added, AreFree, free_in};
+ghost use Rattle.ffs_groups.specs.Free.{word_bits, whole_in, loose_in, runs_in, AreBelow, HasBlocks, HasRoomToCount, Grown, Added, AreFree, bits_from, free_in};
 ghost use Rattle.ffs_groups.specs.Inputs.{HasFragments};
 
 use crate::maps::group_fragments;
 use ffs_layout::Geometry;
 use ffs_maps::FragmentMap;
+
+/// How many fragments are looked at together, since mostly all of them are free, or all are used.
+pub const FRAGMENTS_AT_ONCE: u32 = 2048;
+
+/// Whether the fragments from `start` on and below `end` are all free, or none is.
+pub fn are_free(used: &FragmentMap, start: u32, end: u32) -> Option<bool>
+    requires order { start ≤ end }
+    requires below { end ≤ used.now.size }
+    ensures { IfSome result (λ free. (k : ℕ) → k < end - start
+        → free_in (bits_of used.now) used.now.size (start + k) ≡ free) }
+{
+    let count = used.count(start, end);
+    if count == 0 {
+        return Some(true);
+    }
+    if count == end - start {
+        Some(false)
+    } else {
+        None
+    }
+}
 
 /// What is free in a group, in blocks and in the fragments of other blocks.
 #[derive(Clone, Copy, Debug)]
@@ -89,6 +110,43 @@ impl FreeCounts {
             self.add_block(word >> (block * frag), frag);
         }
     }
+
+    // Counts some blocks from a fragment on, by words.
+    fn add_words(&mut self, used: &FragmentMap, start: u64, blocks: u32, frag: u32)
+        requires { HasBlocks start frag (2 ^ 61) self.old }
+        ensures { Added (bits_from (free_in (bits_of used.now) used.now.size) start frag) 0 blocks
+            self.old self.new }
+    {
+        let each = 64 / frag;
+        let mut block = 0;
+        while block < blocks {
+            let word = used.clear_bits(start + u64::from(block) * u64::from(frag));
+            let some = each.min(blocks - block);
+            self.add_word(word, some, frag);
+            block += some;
+        }
+    }
+
+    // Counts some blocks from a fragment on.
+    fn add_blocks(&mut self, used: &FragmentMap, start: u64, blocks: u32, frag: u32)
+        requires { HasBlocks start frag (2 ^ 61) self.old }
+        ensures { Added (bits_from (free_in (bits_of used.now) used.now.size) start frag) 0 blocks
+            self.old self.new }
+    {
+        let size = used.size;
+        let end = start + u64::from(blocks) * u64::from(frag);
+        if end <= u64::from(size) {
+            match are_free(used, start as u32, end as u32) {
+                Some(true) => {
+                    self.blocks += u64::from(blocks);
+                    return;
+                }
+                Some(false) => return,
+                None => (),
+            }
+        }
+        self.add_words(used, start, blocks, frag);
+    }
 }
 
 /// What is free in a group: the fragments below the volume's size that are not used. Only the group's blocks that the volume
@@ -106,13 +164,12 @@ pub fn free_counts(geometry: &Geometry, used: &FragmentMap, group: u32) -> FreeC
         fragments: 0,
         runs: [0; 9],
     };
-    let each = 64 / frag;
+    let most = FRAGMENTS_AT_ONCE / frag;
     let mut block = 0;
     while block < blocks {
-        let word = used.clear_bits(base + u64::from(block) * u64::from(frag));
-        let some = each.min(blocks - block);
-        counts.add_word(word, some, frag);
-        block += some;
+        let many = most.min(blocks - block);
+        counts.add_blocks(used, base + u64::from(block) * u64::from(frag), many, frag);
+        block += many;
     }
     counts
 }

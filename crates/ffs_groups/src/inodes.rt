@@ -4,7 +4,7 @@ ghost use Rattle.std.specs.Prelude.{ℕ, ◌≡◌, ◌<◌, length, slice_index
 ghost use Rattle.ffs_volume.specs.Blocks.Inodes.{is_directory, is_allocated};
 ghost use Rattle.ffs_volume.specs.Groups.Records.{is_used_inode};
 ghost use Rattle.ffs_volume.specs.Encodings.Kinds.{class_of_kind};
-ghost use Rattle.ffs_groups.specs.Inodes.{AreInodes, class_in};
+ghost use Rattle.ffs_groups.specs.Inodes.{AreCounted, AreFew, AreInodes, class_in};
 ghost use Rattle.ffs_groups.specs.Inputs.{HasInodes};
 
 use ffs_layout::Geometry;
@@ -54,6 +54,29 @@ pub fn are_used(kinds: &[u8]) -> Option<bool>
     if least > 0 { Some(true) } else { None }
 }
 
+/// How many inodes are counted in bytes, before the counts are added up: fewer than 256.
+const INODES_AT_ONCE: usize = 192;
+
+// How many of a few inodes are directories, and how many are free. A byte holds each, so that the compiler counts many at once.
+#[derive(Clone, Copy)]
+struct FewCounts {
+    dirs: u8,
+    free: u8,
+}
+
+// The directories and the free ones of a few inodes from one on.
+fn few_counts(kinds: &[u8], first: usize, end: usize) -> FewCounts
+    requires { AreFew kinds.now first end }
+    ensures { AreCounted (class_in kinds.now) first end result.dirs result.free }
+{
+    let mut counts = FewCounts { dirs: 0, free: 0 };
+    for inode in first..end {
+        counts.dirs += u8::from(is_dir_kind(kinds[inode]));
+        counts.free += u8::from(!is_used_kind(kinds[inode]));
+    }
+    counts
+}
+
 /// The directories and the free inodes of a group. Inodes 0 and 1 are neither.
 pub fn inode_counts(geometry: &Geometry, kinds: &[u8], group: u32) -> InodeCounts
     requires { HasInodes geometry.now.layout kinds.now group }
@@ -62,9 +85,13 @@ pub fn inode_counts(geometry: &Geometry, kinds: &[u8], group: u32) -> InodeCount
     let first = group as usize * geometry.layout.ipg as usize;
     let end = first + geometry.layout.ipg as usize;
     let mut counts = InodeCounts { dirs: 0, free: 0 };
-    for inode in first.max(2)..end {
-        counts.dirs += u32::from(is_dir_kind(kinds[inode]));
-        counts.free += u32::from(!is_used_kind(kinds[inode]));
+    let mut inode = first.max(2);
+    while inode < end {
+        let next = end.min(inode + INODES_AT_ONCE);
+        let few = few_counts(kinds, inode, next);
+        counts.dirs += u32::from(few.dirs);
+        counts.free += u32::from(few.free);
+        inode = next;
     }
     counts
 }

@@ -2,7 +2,7 @@
 //!
 //! A map's first bit is the lowest of its first byte, in both orders of bytes.
 
-ghost use Rattle.std.specs.Prelude.{ℕ, ◌≡◌, ◌≢◌, ◌+◌, ◌*◌, ◌<◌, ◌≤◌, length, nat_eq};
+ghost use Rattle.std.specs.Prelude.{ℕ, ◌≡◌, ◌≢◌, ◌+◌, ◌*◌, ◌^◌, ◌<◌, ◌≤◌, length, nat_eq};
 ghost use Rattle.std.specs.Int.{bit_at, div_ceil};
 ghost use Rattle.ffs_volume.specs.Disk.Numbers.{all_below};
 ghost use Rattle.ffs_volume.specs.Disk.Areas.{cgbase};
@@ -12,10 +12,14 @@ ghost use Rattle.ffs_groups.specs.Free.{free_in};
 ghost use Rattle.ffs_groups.specs.Inodes.{class_in};
 ghost use Rattle.ffs_groups.specs.Inputs.{HasFragments, HasInodes};
 
+use crate::free::{FRAGMENTS_AT_ONCE, are_free};
 use crate::inodes::{are_used, is_used_at};
 use byteorder::{ByteOrder, LittleEndian};
 use ffs_layout::Geometry;
 use ffs_maps::FragmentMap;
+
+/// How many words are looked at together.
+const WORDS_AT_ONCE: u32 = FRAGMENTS_AT_ONCE / 64;
 
 // The bits in some bytes of a map, the first one lowest. Most words are whole, and are read at once.
 fn word_at(map: &[u8], place: usize, bytes: usize) -> u64
@@ -124,7 +128,21 @@ pub fn group_fragments(geometry: &Geometry, group: u32) -> u32
         .min(geometry.layout.size - geometry.cgbase(group))
 }
 
-// Whether the whole words of a map have the bits of the fragments from one on that are free.
+// Whether whole words of a map have one bit for each fragment. No word ends the loop, so that some are compared at a time.
+fn are_filled(block: &[u8], place: usize, words: u32, bit: bool) -> bool
+    requires { place + 8 * words ≤ length block.now }
+    ensures { result ≡ has_bits block.now place (64 * words) (λ _. bit) }
+{
+    let right = filled(bit);
+    let mut same = true;
+    for index in 0..words {
+        let found = word_at(block, place + 8 * index as usize, 8);
+        same &= same_bits(found, right, 64);
+    }
+    same
+}
+
+// Whether whole words of a map have the bits of the fragments from one on that are free.
 fn same_words(used: &FragmentMap, base: u32, block: &[u8], place: usize, words: u32) -> bool
     requires { place + 8 * words ≤ length block.now }
     ensures { result ≡ has_bits block.now place (64 * words)
@@ -136,6 +154,45 @@ fn same_words(used: &FragmentMap, base: u32, block: &[u8], place: usize, words: 
         if !same_bits(found, right, 64) {
             return false;
         }
+    }
+    true
+}
+
+// The same. Of most words all fragments are free, or none is.
+fn same_stretch(used: &FragmentMap, base: u32, block: &[u8], place: usize, words: u32) -> bool
+    requires inside { place + 8 * words ≤ length block.now }
+    requires below { base + 64 * words ≤ used.now.size }
+    requires fits { base + 64 * words < 2 ^ 32 }
+    ensures { result ≡ has_bits block.now place (64 * words)
+        (λ k. free_in (bits_of used.now) used.now.size (base + k)) }
+{
+    match are_free(used, base, base + 64 * words) {
+        Some(free) => are_filled(block, place, words, free),
+        None => same_words(used, base, block, place, words),
+    }
+}
+
+// The same, some words at a time.
+fn same_stretches(used: &FragmentMap, base: u32, block: &[u8], place: usize, words: u32) -> bool
+    requires inside { place + 8 * words ≤ length block.now }
+    requires below { base + 64 * words ≤ used.now.size }
+    requires fits { base + 64 * words < 2 ^ 32 }
+    ensures { result ≡ has_bits block.now place (64 * words)
+        (λ k. free_in (bits_of used.now) used.now.size (base + k)) }
+{
+    let mut word = 0;
+    while word < words {
+        let some = WORDS_AT_ONCE.min(words - word);
+        if !same_stretch(
+            used,
+            base + 64 * word,
+            block,
+            place + 8 * word as usize,
+            some,
+        ) {
+            return false;
+        }
+        word += some;
     }
     true
 }
@@ -157,7 +214,7 @@ pub fn same_fragment_map(
     let fragments = group_fragments(geometry, group);
     let base = geometry.cgbase(group);
     let words = fragments / 64;
-    if !same_words(used, base, block, place as usize, words) {
+    if !same_stretches(used, base, block, place as usize, words) {
         return false;
     }
     let left = fragments % 64;

@@ -1,5 +1,5 @@
-use Rattle.std.proofs.Common.{◌≡◌, ◌≢◌, inl, inr, ℕ, zero, suc, ◌+◌, ◌-◌, ◌*◌, ◌/◌, ◌%◌, ◌^◌, ◌<◌, Bool, true, false}
-use Rattle.std.proofs.Common.{List, length, get_or, nat_eq, slice_set, replicate, bit_or, bit_and, arith, rules, refl}
+use Rattle.std.proofs.Common.{◌≡◌, ◌≢◌, inl, inr, ℕ, zero, suc, ◌+◌, ◌*◌, ◌/◌, ◌%◌, ◌^◌, ◌<◌, Bool, true, false}
+use Rattle.std.proofs.Common.{List, length, get_or, nat_eq, slice_set, replicate, bit_or, bit_and, arith, refl}
 use Rattle.std.proofs.Common.{ap, ◌∙◌, sym, length-set}
 use Rattle.std.proofs.Math.Nat.{ℕ_set}
 use Rattle.std.proofs.Math.Path.{subst⁻¹}
@@ -95,14 +95,15 @@ zero_bits n size =
     ∙ ap (λ w. nat_eq (bit_at w (f % 64)) 1) (zeros_at n (f / 64)) ∙ ap (λ x. nat_eq x 1) (bit_at-zero (f % 64))
     ∙ sym (get_or-replicate size f false d low))
 
-pub run_more : (bits : List Bool) (start n m : ℕ) → n ≡ m + 1 →
-    set_run bits start n ≡ set_run (slice_set bits start true) (start + 1) m
-run_more bits start n m e = rw e (search rules)
-
--- the next bit of a run is set
-pub run_goes_on : (bits bits' : List Bool) (start len place : ℕ) → place < len →
-    bits' ≡ slice_set bits (start + place) true →
-    set_run bits (start + place) (len - place) ≡ set_run bits' (start + (place + 1)) (len - (place + 1))
-run_goes_on bits bits' start len place h now =
-    let k : start + (place + 1) ≡ start + place + 1 = omega arith in
-    rw (run_more bits (start + place) (len - place) (len - (place + 1)) (omega arith), k, now) refl
+-- a run is set in two parts
+pub run_join : (bits : List Bool) (start n m t : ℕ) → t ≡ n + m →
+    set_run bits start t ≡ set_run (set_run bits start n) (start + n) m
+run_join bits start zero m t e =
+    let at : start + 0 ≡ start = omega arith in
+    let same : t ≡ m = omega (arith, e) in
+    rw (at, same) refl
+run_join bits start (suc n) m zero e = absurd (omega arith)
+run_join bits start (suc n) m (suc t) e =
+    let k : start + 1 + n ≡ start + suc n = omega arith in
+    run_join (slice_set bits start true) (start + 1) n m t (omega (arith, e))
+    ∙ ap (λ j. set_run (set_run (slice_set bits start true) (start + 1) n) j m) k

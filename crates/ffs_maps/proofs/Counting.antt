@@ -1,5 +1,5 @@
 -- How many bits of a run are set.
-use Rattle.std.proofs.Common.{◌≡◌, inl, inr, ℕ, zero, suc, ◌+◌, ◌-◌, ◌/◌, ◌%◌, ◌^◌, ◌<◌, ◌≤◌, Bool, false, cond}
+use Rattle.std.proofs.Common.{◌≡◌, ◌⊎◌, inl, inr, length, ℕ, zero, suc, ◌+◌, ◌-◌, ◌*◌, ◌/◌, ◌%◌, ◌^◌, ◌<◌, ◌≤◌, Bool, false, cond}
 use Rattle.std.proofs.Common.{List, map, get_or, nat_eq, bit_and, count_ones, count_by, arith, refl, ap, ◌∙◌}
 use Rattle.std.proofs.Common.{sym, min}
 use Rattle.std.specs.List.{range_with_len, sum_by, slice_index_or}
@@ -10,7 +10,7 @@ use Rattle.std.proofs.lemmas.List.Sums.{sum_by-cons, count_by-le-length}
 use Rattle.std.proofs.lemmas.List.FromFn.{length-range_with_len, length-map-range_with_len, get_or-map-range_with_len}
 use lib.Lanes.{mask_l}
 use Rattle.std.proofs.lemmas.Simd.{bit_mask_l, ones-mask_l}
-use Rattle.std.proofs.lemmas.Nat.Bits.{bit_at_and, bit_at-lt, bit_at_ones, bit_at_ones_above, same_from_bits, ones_shr}
+use Rattle.std.proofs.lemmas.Nat.Bits.{bit_at_and, bit_at-lt, bit_at-zero, bit_at_above, bit_at_ones, bit_at_ones_above, same_from_bits, ones_shr}
 use Rattle.ffs_maps.specs.Bits.{bits_of_words}
 use Rattle.ffs_maps.proofs.Bits.{get_bits}
 use Rattle.ffs_maps.proofs.Words.{bit_shr}
@@ -105,3 +105,69 @@ ones_in_word words size start len w h below is =
     high : (i : ℕ) → len ≤ i → bit_at (bit_and (w / 2 ^ (start % 64)) (2 ^ len - 1)) i ≡ 0
     high i l = bit_at_and (w / 2 ^ (start % 64)) (2 ^ len - 1) i
         ∙ min_zero (bit_at (w / 2 ^ (start % 64)) i) _ (bit_at_ones_above len i l)
+
+-- the bits of a whole word
+pub ones_of_word : (words : List ℕ) (size index w : ℕ) → w < 2 ^ 64 → w ≡ get_or words index 0 → 64 * index + 64 ≤ size →
+    count_ones w
+    ≡ count_by (λ f. slice_index_or (bits_of_words words size) f false) (range_with_len (64 * index) 64)
+ones_of_word words size index w fits is below =
+    ones_by (λ f. slice_index_or (bits_of_words words size) f false) w (64 * index) 64 low
+    (λ i l. bit_at_above w 64 i fits l)
+  where
+    low : (i : ℕ) → i < 64 → bit_at w i ≡ cond (slice_index_or (bits_of_words words size) (64 * index + i) false) 1 0
+    low i l =
+        let place : (64 * index + i) / 64 ≡ index = omega arith in
+        let bit : (64 * index + i) % 64 ≡ i = omega arith in
+        let here : slice_index_or (bits_of_words words size) (64 * index + i) false ≡ nat_eq (bit_at w i) 1 =
+        get_bits words size (64 * index + i) false (omega arith)
+        ∙ ap (λ j. nat_eq (bit_at (get_or words j 0) ((64 * index + i) % 64)) 1) place
+        ∙ ap (λ j. nat_eq (bit_at (get_or words index 0) j) 1) bit
+        ∙ ap (λ x. nat_eq (bit_at x i) 1) (sym is) in
+        one_bit (bit_at w i) (bit_at-lt w i) ∙ ap (λ b. cond b 1 0) (sym here)
+
+zero_if : (b : Bool) (n : ℕ) → b ≡ false → n ≡ 0 → n ≡ cond b 1 0
+zero_if b n e is = is ∙ ap (λ x. cond x 1 0) (sym e)
+
+none_counted : (p : ℕ → Bool) (a n : ℕ) → ((k : ℕ) → k < n → p (a + k) ≡ false) → count_by p (range_with_len a n) ≡ 0
+none_counted p a zero none = refl
+none_counted p a (suc n) none =
+    let at : a ≡ a + 0 = omega arith in
+    let first : p a ≡ false = ap p at ∙ none 0 (omega arith) in
+    let rest : count_by p (range_with_len (a + 1) n) ≡ 0 =
+    none_counted p (a + 1) n
+    (λ k h. let l : a + 1 + k ≡ a + (k + 1) = omega arith in ap p l ∙ none (k + 1) (omega arith)) in
+    omega (arith, rest, zero_if (p a) 0 first refl, sum_by-cons (λ j. cond (p j) 1 0) a (range_with_len (a + 1) n))
+
+-- words that are 0 have no set bit
+pub none_in_zeros : (words : List ℕ) (size a n : ℕ) → a + n ≤ size →
+    ((k : ℕ) → k < n → get_or words ((a + k) / 64) 0 ≡ 0) →
+    count_by (λ f. slice_index_or (bits_of_words words size) f false) (range_with_len a n) ≡ 0
+none_in_zeros words size a n below zeros =
+    none_counted (λ f. slice_index_or (bits_of_words words size) f false) a n
+    (λ k h. get_bits words size (a + k) false (omega arith)
+    ∙ ap (λ w. nat_eq (bit_at w ((a + k) % 64)) 1) (zeros k h)
+    ∙ ap (λ x. nat_eq x 1) (bit_at-zero ((a + k) % 64)))
+
+-- the words from one on that are counted, where all after them are 0
+pub count_ends : (words touched : List ℕ) (size first index last count : ℕ) → first ≤ index → 64 * last ≤ size →
+    ((k : ℕ) → get_or words k 0 ≡ get_or touched k 0) →
+    ((last ≤ index) × (index ≤ last)) ⊎ ((length touched ≤ index) × (index ≤ last)) →
+    count ≡ count_by (λ f. slice_index_or (bits_of_words words size) f false)
+    (range_with_len (64 * first) (64 * index - 64 * first)) →
+    count ≡ count_by (λ f. slice_index_or (bits_of_words words size) f false)
+    (range_with_len (64 * first) (64 * last - 64 * first))
+count_ends words touched size first index last count from_ below same ends is = elim ends [
+  | inl e ↦
+      let at : index ≡ last = omega (arith, e.0, e.1) in
+      is ∙ ap (λ j. count_by (λ f. slice_index_or (bits_of_words words size) f false)
+      (range_with_len (64 * first) (64 * j - 64 * first))) at
+  | inr e ↦
+      let more : count + 0 ≡ count_by (λ f. slice_index_or (bits_of_words words size) f false)
+      (range_with_len (64 * first) (64 * last - 64 * first)) =
+      count_join_at (λ f. slice_index_or (bits_of_words words size) f false) (64 * first) (64 * index) (64 * last)
+      (64 * last - 64 * index) count 0 (omega (arith, from_)) (omega (arith, e.1)) is
+      (sym (none_in_zeros words size (64 * index) (64 * last - 64 * index) (omega (arith, below, e.1))
+      (λ k h. same ((64 * index + k) / 64)
+      ∙ get_or_past touched ((64 * index + k) / 64) 0 (omega (arith, e.0))))) in
+      omega (arith, more)
+]

@@ -98,13 +98,33 @@ impl FragmentMap {
 
     // How many bits of a run in one word are set.
     fn count_in_word(&self, start: u32, len: u32) -> u32
-        requires { IsInWord start len self.now.size }
+        requires one_word { start % 64 + len ≤ 64 }
+        requires below { start + len ≤ self.now.size }
         ensures { result ≡ count_by (λ f. slice_index_or (bits_of self.now) f false)
             (range_with_len start len) }
     {
+        if len == 0 {
+            return 0;
+        }
         let word = self.words.get(start as usize / 64);
         let bits = word >> (start % 64) & (u64::MAX >> (64 - len));
         bits.count_ones()
+    }
+
+    // How many bits are set in the words from one on and below another.
+    fn count_in_words(&self, first: u32, last: u32) -> u32
+        requires order { first ≤ last }
+        requires below { 64 * last ≤ self.now.size }
+        ensures { result ≡ count_by (λ f. slice_index_or (bits_of self.now) f false)
+            (range_with_len (64 * first) (64 * last - 64 * first)) }
+    {
+        let words = self.words.touched();
+        let end = words.len().min(last as usize);
+        let mut count = 0;
+        for index in first as usize..end {
+            count += words[index].count_ones();
+        }
+        count
     }
 
     /// How many bits are set of the fragments from `start` on and below `end`.
@@ -116,23 +136,12 @@ impl FragmentMap {
     {
         let first = start.div_ceil(64);
         let last = end / 64;
-        if start == end {
-            return 0;
-        }
         if last < first {
             return self.count_in_word(start, end - start);
         }
-        let mut count = 0;
-        if start < 64 * first {
-            count = self.count_in_word(start, 64 * first - start);
-        }
-        for word in first..last {
-            count += self.count_in_word(64 * word, 64);
-        }
-        if 64 * last < end {
-            count += self.count_in_word(64 * last, end - 64 * last);
-        }
-        count
+        let before = self.count_in_word(start, 64 * first - start);
+        let words = self.count_in_words(first, last);
+        before + words + self.count_in_word(64 * last, end - 64 * last)
     }
 
     /// Sets the bit of a fragment.
@@ -155,13 +164,28 @@ impl FragmentMap {
         self.words.set(index, word & !(1 << (fragment % 64)));
     }
 
+    // Sets the bits of a run in one word.
+    fn set_in_word(&mut self, start: u32, len: u32)
+        requires { IsInWord start len self.old.size }
+        ensures { HasBits self.new self.old.size (set_run (bits_of self.old) start len) }
+    {
+        let index = start as usize / 64;
+        let bits = (u64::MAX >> (64 - len)) << (start % 64);
+        let word = self.words.get(index);
+        self.words.set(index, word | bits);
+    }
+
     /// Sets the bits of a run.
     pub fn set_run(&mut self, start: u32, len: u32)
         requires { start + len ≤ self.old.size }
         ensures { HasBits self.new self.old.size (set_run (bits_of self.old) start len) }
     {
-        for place in 0..len {
-            self.set(start + place);
+        let end = start + len;
+        let mut place = start;
+        while place < end {
+            let some = (64 - place % 64).min(end - place);
+            self.set_in_word(place, some);
+            place += some;
         }
     }
 

@@ -1,5 +1,5 @@
 // Words that are 0 until they are set.
-ghost use Rattle.std.specs.Prelude.{◌≡◌, ◌<◌, IfOk, length, replicate, slice_set, vec_capacity};
+ghost use Rattle.std.specs.Prelude.{ℕ, ◌≡◌, ◌<◌, ◌≤◌, IfOk, length, replicate, slice_set, vec_capacity};
 ghost use Rattle.std.specs.List.{slice_index_or};
 ghost use Rattle.ffs_memory.specs.Words.{ClaimsBits, Touches};
 
@@ -48,6 +48,16 @@ impl ZeroedWords {
         ensures { result ≡ length self.now.list }
     {
         self.count
+    }
+
+    /// The words up to the last one that was set or claimed. All after them are 0.
+    #[inline(always)]
+    pub fn touched(&self) -> &[u64]
+        ensures len { length result.now ≤ length self.now.list }
+        ensures words { (k : ℕ)
+            → slice_index_or self.now.list k 0 ≡ slice_index_or result.now k 0 }
+    {
+        self.touched.as_slice()
     }
 
     /// The word at an index.

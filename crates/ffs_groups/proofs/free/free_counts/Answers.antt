@@ -1,54 +1,55 @@
-use Rattle.std.proofs.Common.{arith, refl, ◌∙◌, ◌≡◌, ◌≤◌, ◌+◌, ◌*◌, ◌/◌, ◌^◌}
+use Rattle.std.proofs.Common.{arith, refl, ◌∙◌, ◌≡◌, ◌+◌, ◌*◌, ◌^◌}
+use Rattle.std.proofs.lemmas.Nat.{mul-le}
 use Rattle.std.proofs.lemmas.List.FromFn.{length-map-range_with_len}
 use Rattle.ffs_volume.specs.Disk.Areas.{cgbase}
 use Rattle.ffs_volume.specs.Groups.Records.{block_bits}
 use Rattle.ffs_maps.specs.Bits.{bits_of}
-use Rattle.ffs_groups.specs.Free.{word_bits, free_in, whole_in, loose_in, runs_in}
+use Rattle.ffs_groups.specs.Free.{bits_from, free_in, whole_in, loose_in, runs_in}
 use Rattle.ffs_groups.proofs.Words.{free_there, fits_blocks, fits_fragments}
-use Rattle.ffs_groups.proofs.Adding.{whole_fits, loose_fits, added_join, added_below, word_block, no_runs, count_start}
-use Rattle.ffs_groups.proofs.Adding.{clear_as_free, place_is, word_fits}
+use Rattle.ffs_groups.proofs.Adding.{whole_fits, loose_fits, added_join, added_below, no_runs, count_start}
+use Rattle.ffs_groups.proofs.Stretches.{block_from}
 use Rattle.ffs_groups.proofs.free.free_counts.Goals as goal
 
-pub add_word-requires : goal.add_word-requires
-add_word-requires c = record {
-  some = omega (arith, c.args.geometry.now.sound.sizes.frag_low);
-  few = c.args.geometry.now.sound.sizes.frag_high;
-  room = word_fits c.min-some.result c.args.geometry.now.layout.frag (omega (arith, c.min-some.ensures));
-  below = added_below (block_bits c.args.geometry.now.layout
-      (free_in (bits_of c.args.used.now) c.args.geometry.now.layout.size) c.args.group) c.loop-block.block 1
-      (2 ^ 62) _ c.loop-block.counts c.loop-block.invariant.added
-      (λ b. omega (
+pub add_blocks-requires : goal.add_blocks-requires
+add_blocks-requires c =
+    let frag = c.args.geometry.now.layout.frag in
+    let free = free_in (bits_of c.args.used.now) c.args.geometry.now.layout.size in
+    record {
+      some = omega (arith, c.args.geometry.now.sound.sizes.frag_low);
+      few = c.args.geometry.now.sound.sizes.frag_high;
+      near = omega (
         arith,
-        length-map-range_with_len (free_in (bits_of c.args.used.now) c.args.geometry.now.layout.size)
-            (cgbase c.args.geometry.now.layout c.args.group + b * c.args.geometry.now.layout.frag)
-            c.args.geometry.now.layout.frag,
-        c.args.geometry.now.sound.sizes.frag_high,
-      ))
-      (record { blocks = omega arith; fragments = omega arith; runs = λ k. omega (arith, no_runs k) })
-      (omega (arith, c.loop-block.auto.block-fits));
-}
+        c.from-base.ensures,
+        mul-le c.from.result c.from-in-loop-block.result (2 ^ 32) 8
+            (omega (arith, c.from.ensures, c.loop-block.auto.block-fits))
+            (omega (arith, c.from-in-loop-block.ensures, c.args.geometry.now.sound.sizes.frag_high)),
+      );
+      below = added_below (block_bits c.args.geometry.now.layout free c.args.group) c.loop-block.block 1 (2 ^ 61)
+          _ c.loop-block.counts c.loop-block.invariant.added
+          (λ b. omega (
+            arith,
+            length-map-range_with_len free (cgbase c.args.geometry.now.layout c.args.group + b * frag) frag,
+            c.args.geometry.now.sound.sizes.frag_high,
+          ))
+          (record { blocks = omega arith; fragments = omega arith; runs = λ k. omega (arith, no_runs k) })
+          (omega (arith, c.loop-block.auto.block-fits));
+    }
 
 pub loop-block-preserved : goal.loop-block-preserved
 loop-block-preserved c =
-    let some : c.min-some.result ≤ 64 / c.args.geometry.now.layout.frag = omega (arith, c.min-some.ensures) in
+    let frag = c.args.geometry.now.layout.frag in
+    let used = bits_of c.args.used.now in
+    let size = c.args.geometry.now.layout.size in
     record {
-      added = added_join (block_bits c.args.geometry.now.layout
-          (free_in (bits_of c.args.used.now) c.args.geometry.now.layout.size) c.args.group)
-          (λ b. word_bits (c.clear_bits-word.result / 2 ^ (b * c.args.geometry.now.layout.frag)) 0
-          c.args.geometry.now.layout.frag)
-          c.loop-block.block c.min-some.result _ c.loop-block.counts c.add_word.new.self
-          c.loop-block.invariant.added c.add_word.ensures
-          (λ k h. word_block (free_in (bits_of c.args.used.now) c.args.geometry.now.layout.size)
-          c.clear_bits-word.result (cgbase c.args.geometry.now.layout c.args.group) c.args.geometry.now.layout.frag
-          c.loop-block.block k c.min-some.result
-          (λ j low. c.clear_bits-word.ensures j low
-          ∙ clear_as_free (bits_of c.args.used.now) c.args.used.now.size c.args.geometry.now.layout.size _ _
-          c.requires.size
-          (place_is c.from-base.result c.from.result c.from-in-loop-block.result
-          (cgbase c.args.geometry.now.layout c.args.group) c.loop-block.block c.args.geometry.now.layout.frag j
-          (c.from-base.ensures ∙ c.cgbase.ensures.value) c.from.ensures c.from-in-loop-block.ensures))
-          h (word_fits c.min-some.result c.args.geometry.now.layout.frag some));
-      within = omega (arith, c.min-some.ensures);
+      added = added_join (block_bits c.args.geometry.now.layout (free_in used size) c.args.group)
+          (bits_from (free_in used c.args.used.now.size)
+          (c.from-base.result + c.from.result * c.from-in-loop-block.result) frag)
+          c.loop-block.block c.min-many.result _ c.loop-block.counts c.add_blocks.new.self
+          c.loop-block.invariant.added c.add_blocks.ensures
+          (λ k h. block_from used c.args.used.now.size size c.from-base.result c.from.result
+          c.from-in-loop-block.result (cgbase c.args.geometry.now.layout c.args.group) c.loop-block.block frag k
+          c.requires.size (c.from-base.ensures ∙ c.cgbase.ensures.value) c.from.ensures c.from-in-loop-block.ensures);
+      within = omega (arith, c.min-many.ensures);
     }
 
 pub returns : goal.returns

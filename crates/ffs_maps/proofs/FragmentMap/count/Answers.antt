@@ -1,49 +1,46 @@
-use Rattle.std.proofs.Common.{arith, ◌≡◌, ◌+◌, ◌-◌, ◌*◌, ◌/◌, ◌∙◌, ap, false, count_by}
-use Rattle.std.specs.List.{slice_index_or, range_with_len}
+use Rattle.std.proofs.Common.{arith, ℕ, ◌-◌, ◌*◌, ◌/◌, false}
+use Rattle.std.specs.List.{slice_index_or}
 use Rattle.ffs_maps.specs.Bits.{bits_of}
 use Rattle.ffs_maps.proofs.Counting.{count_join_at, count_few}
 use Rattle.ffs_maps.proofs.FragmentMap.count.Goals as goal
 
-pub overflow_add-count : goal.overflow_add-count
-overflow_add-count c =
+pub overflow_add-result : goal.overflow_add-result
+overflow_add-result c =
+    let is_set = λ (f : ℕ). slice_index_or (bits_of c.args.self.now) f false in
+    let first = c.div_ceil-first.result in
     omega (
       arith,
-      c.loop-word.invariant.count,
-      c.count_in_word-count-in-loop-word.ensures,
-      count_few (λ f. slice_index_or (bits_of c.args.self.now) f false) c.args.start
-          (64 * c.loop-word.word - c.args.start),
-      count_few (λ f. slice_index_or (bits_of c.args.self.now) f false) (64 * c.loop-word.word) 64,
+      c.count_in_word-before.ensures,
+      c.count_in_words-words.ensures,
+      c.div_ceil-first.ensures,
+      count_few is_set c.args.start (64 * first - c.args.start),
+      count_few is_set (64 * first) (64 * (c.args.end / 64) - 64 * first),
     )
 
-pub loop-word-preserved : goal.loop-word-preserved
-loop-word-preserved c = record {
-  count = count_join_at (λ f. slice_index_or (bits_of c.args.self.now) f false) c.args.start (64 * c.loop-word.word)
-      (64 * (c.loop-word.word + 1)) 64 _ _ c.loop-word.invariant.above (omega arith)
-      c.loop-word.invariant.count c.count_in_word-count-in-loop-word.ensures;
-  above = omega (arith, c.loop-word.invariant.above);
-}
-
-pub overflow_add-count-then-last-end : goal.overflow_add-count-then-last-end
-overflow_add-count-then-last-end c =
-    let last : c.loop-word.word ≡ c.args.end / 64 = omega arith in
+pub overflow_add-result-2 : goal.overflow_add-result-2
+overflow_add-result-2 c =
+    let is_set = λ (f : ℕ). slice_index_or (bits_of c.args.self.now) f false in
+    let first = c.div_ceil-first.result in
+    let last = c.args.end / 64 in
     omega (
       arith,
-      c.loop-word.invariant.count,
-      c.count_in_word-count-then-last-end.ensures,
-      last,
-      count_few (λ f. slice_index_or (bits_of c.args.self.now) f false) c.args.start
-          (64 * c.loop-word.word - c.args.start),
-      count_few (λ f. slice_index_or (bits_of c.args.self.now) f false) (64 * (c.args.end / 64))
-          (c.args.end - 64 * (c.args.end / 64)),
+      c.count_in_word-before.ensures,
+      c.count_in_words-words.ensures,
+      c.count_in_word-2.ensures,
+      c.div_ceil-first.ensures,
+      count_few is_set c.args.start (64 * first - c.args.start),
+      count_few is_set (64 * first) (64 * last - 64 * first),
+      count_few is_set (64 * last) (c.args.end - 64 * last),
     )
 
-pub returns-then-last-end : goal.returns-then-last-end
-returns-then-last-end c =
-    let last : 64 * c.loop-word.word ≡ 64 * (c.args.end / 64) = omega arith in
-    count_join_at (λ f. slice_index_or (bits_of c.args.self.now) f false) c.args.start (64 * (c.args.end / 64))
-    c.args.end (c.args.end - 64 * (c.args.end / 64)) _ _ (omega (arith, c.loop-word.invariant.above, last))
-    (omega arith)
-    (c.loop-word.invariant.count
-    ∙ ap (λ j. count_by (λ f. slice_index_or (bits_of c.args.self.now) f false)
-    (range_with_len c.args.start (j - c.args.start))) last)
-    c.count_in_word-count-then-last-end.ensures
+pub returns : goal.returns
+returns c =
+    let is_set = λ (f : ℕ). slice_index_or (bits_of c.args.self.now) f false in
+    let first = c.div_ceil-first.result in
+    let last = c.args.end / 64 in
+    count_join_at is_set c.args.start (64 * last) c.args.end (c.args.end - 64 * last) _ _
+    (omega (arith, c.div_ceil-first.ensures)) (omega arith)
+    (count_join_at is_set c.args.start (64 * first) (64 * last) (64 * last - 64 * first) _ _
+    (omega (arith, c.div_ceil-first.ensures)) (omega arith)
+    c.count_in_word-before.ensures c.count_in_words-words.ensures)
+    c.count_in_word-2.ensures
