@@ -18,9 +18,9 @@ fn is_valid_record_length(place: usize, len: u16) -> bool
     len % 4 == 0 && 8 <= len && place + usize::from(len) <= DIRBLKSIZ
 }
 
-// Whether one of eight bytes is NUL or `/`. All are looked at, with no test that ends the loop: the machine takes them at once.
-#[inline]
-fn has_mark_of_eight(part: &[u8; 8]) -> bool
+// Whether one of a few bytes is NUL or `/`. All are looked at, with no test that ends the loop: the machine takes them at once.
+#[inline(always)]
+fn has_mark_at_once<const N: usize>(part: &[u8; N]) -> bool
     ensures { result ≡ has_mark part.now }
 {
     let mut has_mark = false;
@@ -30,9 +30,9 @@ fn has_mark_of_eight(part: &[u8; 8]) -> bool
     has_mark
 }
 
-// Whether one of a few bytes is NUL or `/`.
-#[inline]
-fn has_mark_of_few(bytes: &[u8]) -> bool
+// Whether one of at most three bytes is NUL or `/`.
+#[inline(always)]
+fn has_mark_of_three(bytes: &[u8]) -> bool
     ensures { result ≡ has_mark bytes.now }
 {
     for &byte in bytes {
@@ -43,18 +43,32 @@ fn has_mark_of_few(bytes: &[u8]) -> bool
     false
 }
 
+// Whether one of at most seven bytes is NUL or `/`.
+#[inline(always)]
+fn has_mark_of_seven(bytes: &[u8]) -> bool
+    ensures { result ≡ has_mark bytes.now }
+{
+    let (parts, rest) = bytes.as_chunks::<4>();
+    for part in parts {
+        if has_mark_at_once(part) {
+            return true;
+        }
+    }
+    has_mark_of_three(rest)
+}
+
 // Whether a byte is NUL or `/`, as none of a name is.
-#[inline]
+#[inline(always)]
 fn has_nul_or_slash(bytes: &[u8]) -> bool
     ensures { result ≡ (list_any (λ b. b == 0) bytes.now || list_any (λ b. b == 47) bytes.now) }
 {
     let (parts, rest) = bytes.as_chunks::<8>();
     for part in parts {
-        if has_mark_of_eight(part) {
+        if has_mark_at_once(part) {
             return true;
         }
     }
-    has_mark_of_few(rest)
+    has_mark_of_seven(rest)
 }
 
 // Whether the record at the place has a name.
@@ -81,6 +95,7 @@ fn has_valid_type_and_name(chunk: &[u8; DIRBLKSIZ], place: usize, len: u16) -> b
 ///
 /// At byte 0 is the number (u32), at 4 the record's length (u16), at 6 the type (u8), at 7 the name's
 /// length (u8), from 8 on the name and a NUL. The name of an entry with the number 0 is empty.
+#[inline(always)]
 #[tactic(auto, unfolding(ffs_volume::specs::Directories::Entries::entry_at, ffs_volume::specs::Directories::Entries::is_well_formed, ffs_volume::specs::Directories::Entries::entry_read))]
 pub fn entry_at(order: Order, chunk: &[u8; DIRBLKSIZ], place: usize) -> Option<Entry<'_>>
     requires { place ≤ 512 }

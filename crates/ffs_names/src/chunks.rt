@@ -95,6 +95,7 @@ impl Chunks {
     }
 
     /// Reads the next chunk, whatever the number of chunks that may still come.
+    #[inline(never)]
     fn read<I: Image>(
         &mut self,
         image: &mut I,
@@ -154,11 +155,29 @@ impl Chunks {
         }
     }
 
+    /// Begins a reading of another directory of the same volume, as `of_class` does, in place, if this is its class.
+    #[inline(always)]
+    pub fn restart(&mut self, inode: &Inode, class: Class, cut: u32)
+        ensures begins { class ≡ inodes.class_of self.old.walk.geometry.layout inode.now
+            → BeginsAt self.old.walk.geometry.layout inode.now cut self.new }
+        ensures geometry { self.new.walk.geometry ≡ self.old.walk.geometry }
+    {
+        let taken = taken_of(inode.size);
+        self.run_cursor = RunCursor::empty();
+        self.walk.restart(inode, class);
+        self.keeping = Keeping::start(cut);
+        self.taken = taken;
+        self.budget = (taken / DIRBLKSIZ as u64) as u32;
+        self.runs = 0;
+        self.gap = false;
+    }
+
     /// Reads the next chunk into `chunk`; the answer is its place in the file, in bytes, and None where no chunk is left.
     /// The data block that it lies in is read once for all its chunks.
     ///
     /// # Errors
     /// A read of the image that failed. Then no chunk comes any more.
+    #[inline(always)]
     pub fn next<I: Image>(
         &mut self,
         image: &mut I,

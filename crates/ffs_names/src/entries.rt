@@ -100,10 +100,9 @@ impl Entries {
             → BeginsDirectory self.old.chunks.walk.geometry.layout inode.now cut self.new }
         ensures geometry { self.new.chunks.walk.geometry ≡ self.old.chunks.walk.geometry }
     {
-        let geometry = self.chunks.walk.geometry;
         self.place = DIRBLKSIZ;
         self.index = 0;
-        self.chunks = Chunks::of_class(&geometry, inode, class, cut);
+        self.chunks.restart(inode, class, cut);
         self.first = false;
         self.sound = has_right_size(inode);
     }
@@ -120,6 +119,7 @@ impl Entries {
     }
 
     /// Takes the entry at `place`, if one is there.
+    #[inline(always)]
     fn take(&mut self) -> Option<Named>
         ensures entries { MatchOption result
             ((b : List ℕ) → to_come b self.new ≡ to_come b self.old)
@@ -153,6 +153,7 @@ impl Entries {
     ///
     /// # Errors
     /// A read of the image that failed.
+    #[inline(always)]
     pub fn next<I: Image>(
         &mut self,
         image: &mut I,

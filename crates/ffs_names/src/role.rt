@@ -23,6 +23,7 @@ fn is_two_dots(name: &[u8]) -> bool
 ///
 /// `.` is right as the first entry of the first chunk alone, and `..` as its second; elsewhere they are extra. An entry
 /// with the number 0 is empty.
+#[inline(always)]
 #[tactic(auto, unfolding(ffs_volume::specs::Directories::Roles::role_of))]
 pub fn role_of(first: bool, index: usize, entry: &Entry<'_>) -> Role
     ensures { result ≡ role_in first index (entry_value entry.now) }

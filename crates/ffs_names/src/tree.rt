@@ -52,6 +52,7 @@ impl<I: Image> Directories for Tree<'_, I> {
 
     ghost ended = { λ t b. HasEnded b t.entries };
 
+    #[inline(always)]
     fn start(&mut self, dir: u32) -> Result<(), ImageFault> {
         if !is_dir(self.kinds, dir as usize) {
             self.entries.stop();
@@ -66,6 +67,7 @@ impl<I: Image> Directories for Tree<'_, I> {
         Ok(())
     }
 
+    #[inline(always)]
     fn next(&mut self) -> Result<Option<Named>, ImageFault> {
         let windows = &mut *self.windows;
         self.entries

@@ -57,6 +57,13 @@ pub record IsOver (w : Walk) : Type 0 where
   pub triple : IsSpent w.triple
   pub top : w.next ≡ w.used
 
+-- no word of an indirect block, and no address of the inode, is used
+pub record UsesNothing (w : Walk) : Type 0 where
+  pub single : w.single.used ≡ 0
+  pub double : w.double.used ≡ 0
+  pub triple : w.triple.used ≡ 0
+  pub top : w.used ≡ 0
+
 -- none of its indirect blocks has an item left: the next step is at one of the inode's own addresses
 pub record IsAtTop (w : Walk) : Type 0 where
   pub single : IsSpent w.single

@@ -49,7 +49,7 @@ impl Walk {
     ghost use Rattle.ffs_walk.specs.Lengths.{IsStepOf};
     ghost use Rattle.ffs_walk.specs.Skips.{PassesGaps};
     ghost use Rattle.ffs_walk.specs.Frames.{frame_rest, frame_left, item_steps, item_left};
-    ghost use Rattle.ffs_walk.specs.Rests.{rest, left, extent_of, Enters, IsAtTop, IsDataStep, IsFirstOf, IsNextStep, IsOver, IsWalkOf, SameExtent};
+    ghost use Rattle.ffs_walk.specs.Rests.{rest, left, extent_of, Enters, IsAtTop, IsDataStep, IsFirstOf, IsNextStep, IsOver, IsWalkOf, SameExtent, UsesNothing};
     ghost use Rattle.ffs_walk.specs.Windows.{BlocksAfter, CanWalk, HasRoom};
 
     /// The step at the address of a data block.
@@ -243,15 +243,18 @@ impl Walk {
         Ok(self.step_at_top())
     }
 
-    /// Ends the walk.
+    /// Ends the walk: no address is used.
+    #[inline(always)]
     fn stop(&mut self)
         ensures over { IsOver self.new }
         ensures same { SameExtent self.old self.new }
+        ensures unused { UsesNothing self.new }
     {
         self.single = Frame::spent();
         self.double = Frame::spent();
         self.triple = Frame::spent();
-        self.next = self.used;
+        self.next = 0;
+        self.used = 0;
     }
 
     /// The next step, and `None` after the last one. An indirect block is read whole, once, when its first word is reached.
@@ -322,5 +325,20 @@ impl Walk {
             double: Frame::spent(),
             triple: Frame::spent(),
         }
+    }
+
+    /// Begins a walk over the blocks of another inode of the same volume, as `of_class` does, in place, if this is its class.
+    #[inline(always)]
+    #[tactic(auto, unfolding(ffs_volume::specs::Blocks::Steps::steps_of))]
+    pub fn restart(&mut self, inode: &Inode, class: Class)
+        ensures walk { class ≡ inodes.class_of self.old.geometry.layout inode.now
+            → IsWalkOf self.old.geometry inode.now self.new }
+        ensures geometry { self.new.geometry ≡ self.old.geometry }
+    {
+        self.stop();
+        self.blocks = walked_blocks(&self.geometry, inode, class);
+        self.last = last_length(&self.geometry, inode);
+        self.addresses = inode.addresses;
+        self.used = addresses_needed(u64::from(self.geometry.layout.nindir), self.blocks);
     }
 }

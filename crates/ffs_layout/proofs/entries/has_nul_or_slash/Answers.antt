@@ -5,13 +5,13 @@ use Rattle.ffs_layout.proofs.entries.has_nul_or_slash.Goals as goal
 pub loop-part-preserved : goal.loop-part-preserved
 loop-part-preserved c =
     c.loop-part.invariant
-    ∙ mark_none (length c.args.bytes.now / 8) c.args.bytes.now c.as_chunks.result.0.now c.loop-part.part-index _
+    ∙ mark_none 8 (length c.args.bytes.now / 8) c.args.bytes.now c.as_chunks.result.0.now c.loop-part.part-index _
     c.as_chunks.ensures.front (omega (arith, c.loop-part-test.true, c.as_chunks.ensures.front_len))
-    (sym c.has_mark_of_eight.ensures ∙ c.if-has_mark_of_eight.false)
+    (sym c.has_mark_at_once.ensures ∙ c.if-has_mark_at_once.false)
 
-pub returns-then-has_mark_of_eight : goal.returns-then-has_mark_of_eight
-returns-then-has_mark_of_eight c =
+pub returns-then-has_mark_at_once : goal.returns-then-has_mark_at_once
+returns-then-has_mark_at_once c =
     sym (c.loop-part.invariant
-    ∙ mark_some (length c.args.bytes.now / 8) c.args.bytes.now c.as_chunks.result.0.now c.loop-part.part-index _
+    ∙ mark_some 8 (length c.args.bytes.now / 8) c.args.bytes.now c.as_chunks.result.0.now c.loop-part.part-index _
     c.as_chunks.ensures.front (omega (arith, c.loop-part-test.true, c.as_chunks.ensures.front_len))
-    (sym c.has_mark_of_eight.ensures ∙ c.if-has_mark_of_eight.true))
+    (sym c.has_mark_at_once.ensures ∙ c.if-has_mark_at_once.true))

@@ -6,7 +6,7 @@ use Rattle.ffs_names.proofs.Shaped.{shape_begun}
 use Rattle.ffs_names.proofs.entries.Entries.restart.Goals as goal
 
 pub returns-clause-begins : goal.returns-clause-begins
-returns-clause-begins c = λ known. let begins = c.of_class-self.ensures.begins known in record {
+returns-clause-begins c = λ known. let begins = c.restart.ensures.begins known in record {
   entries = λ b size. end_seen _ _ _ _ _ ∙ ap (flat_map roled_chunk) (begins.chunks b size);
   shape = λ b size. shape_begun _ _ _ _ _ _ _ _ _ c.has_right_size-self.ensures (begins.chunks b size) begins.gap
       (begins.gap_left b);

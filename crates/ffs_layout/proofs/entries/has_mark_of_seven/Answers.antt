@@ -1,0 +1,17 @@
+use Rattle.std.proofs.Common.{◌∙◌, ◌/◌, sym, length, arith}
+use Rattle.ffs_layout.proofs.Parts.{mark_none, mark_some}
+use Rattle.ffs_layout.proofs.entries.has_mark_of_seven.Goals as goal
+
+pub loop-part-preserved : goal.loop-part-preserved
+loop-part-preserved c =
+    c.loop-part.invariant
+    ∙ mark_none 4 (length c.args.bytes.now / 4) c.args.bytes.now c.as_chunks.result.0.now c.loop-part.part-index _
+    c.as_chunks.ensures.front (omega (arith, c.loop-part-test.true, c.as_chunks.ensures.front_len))
+    (sym c.has_mark_at_once.ensures ∙ c.if-has_mark_at_once.false)
+
+pub returns-then-has_mark_at_once : goal.returns-then-has_mark_at_once
+returns-then-has_mark_at_once c =
+    sym (c.loop-part.invariant
+    ∙ mark_some 4 (length c.args.bytes.now / 4) c.args.bytes.now c.as_chunks.result.0.now c.loop-part.part-index _
+    c.as_chunks.ensures.front (omega (arith, c.loop-part-test.true, c.as_chunks.ensures.front_len))
+    (sym c.has_mark_at_once.ensures ∙ c.if-has_mark_at_once.true))
