@@ -1,4 +1,5 @@
 pub mod AnySet
+pub mod WordBytes
 pub mod Areas
 pub mod FrameSteps
 pub mod Ranges

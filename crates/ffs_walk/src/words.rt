@@ -1,12 +1,19 @@
 //! The words of an indirect block.
 
 ghost use Rattle.std.specs.Prelude.{◌≡◌, ◌*◌, ◌+◌, ◌≤◌, length};
+ghost use Rattle.ffs_volume.specs.Blocks.Inodes.{any_nonzero};
 ghost use Rattle.ffs_volume.specs.Blocks.Steps.{any_nonzero_from, address_in};
 ghost use Rattle.ffs_walk.specs.Windows.{EndsZeros};
 
 use byteorder::{BigEndian, ByteOrder, LittleEndian};
 use ffs_layout::Geometry;
 use ffs_volume::Order;
+
+/// How many bytes a word has.
+const WORD_BYTES: usize = 4;
+
+/// How many words are looked at together for one that isn't zero.
+const WORDS_TOGETHER: u32 = 16;
 
 /// The word at an index of a block.
 #[tactic(auto, unfolding(ffs_volume::specs::Disk::Numbers::number, ffs_volume::specs::Disk::Numbers::u32_at))]
@@ -21,28 +28,48 @@ pub fn word(geometry: &Geometry, block: &[u8], index: u32) -> u32
     }
 }
 
-/// Whether a word of a block from an index on isn't zero.
-#[inline(never)]
-pub fn any_from(geometry: &Geometry, block: &[u8], used: u32) -> bool
-    requires { length block.now ≡ geometry.now.layout.bsize }
-    ensures { result ≡ any_nonzero_from geometry.now.layout block.now used }
+/// Whether a byte isn't zero. All are looked at, with no test of each that ends the loop: the compiler takes many at once.
+#[inline(always)]
+fn any_set(bytes: &[u8]) -> bool
+    ensures { result ≡ any_nonzero bytes.now }
 {
-    let words = geometry.layout.nindir;
-    for j in used..words {
-        if word(geometry, block, j) != 0 {
-            return true;
-        }
+    let mut bits = 0;
+    for byte in bytes {
+        bits |= *byte;
     }
-    false
+    bits != 0
 }
 
-/// The first index from `next` on whose word isn't zero, and `used` where there is none below it.
+/// Whether a word of a block from an index on isn't zero. So it is in either byte order where one of its bytes isn't.
+#[inline(never)]
+#[tactic(auto, using(crate::proofs::WordBytes::any_byte_from))]
+pub fn any_from(geometry: &Geometry, block: &[u8], used: u32) -> bool
+    requires block { length block.now ≡ geometry.now.layout.bsize }
+    requires words { used ≤ geometry.now.layout.nindir }
+    ensures { result ≡ any_nonzero_from geometry.now.layout block.now used }
+{
+    let first = WORD_BYTES * used as usize;
+    let end = WORD_BYTES * geometry.layout.nindir as usize;
+    any_set(&block[first..end])
+}
+
+/// The first index from `next` on whose word isn't zero, and `used` where there is none below it. Where many words are zero,
+/// many are looked at together.
 pub fn zeros_end(geometry: &Geometry, block: &[u8], next: u32, used: u32) -> u32
     requires block { length block.now ≡ geometry.now.layout.bsize }
     requires words { (next ≤ used) × (used ≤ geometry.now.layout.nindir) }
     ensures { EndsZeros geometry.now.layout block.now next used result }
 {
-    for j in next..used {
+    let mut place = next;
+    while used - place >= WORDS_TOGETHER {
+        let first = WORD_BYTES * place as usize;
+        let end = WORD_BYTES * (place + WORDS_TOGETHER) as usize;
+        if any_set(&block[first..end]) {
+            break;
+        }
+        place += WORDS_TOGETHER;
+    }
+    for j in place..used {
         if word(geometry, block, j) != 0 {
             return j;
         }

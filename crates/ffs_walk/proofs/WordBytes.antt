@@ -1,0 +1,113 @@
+-- A word isn't zero where one of its bytes isn't, in either byte order.
+use Rattle.std.proofs.Common.{◌≡◌, ℕ, zero, suc, ◌==◌, ◌+◌, ◌-◌, ◌*◌, ◌<◌, ◌≤◌, Bool, true, false, not, ◌||◌, List, [], ◌∷◌}
+use Rattle.std.proofs.Common.{inl, inr, length, take, drop, arith, refl, ap, sym, ◌∙◌, length-drop, ◌^◌, lit<}
+use Rattle.std.proofs.Math.Nat.{mul-le-mul_right}
+use Rattle.std.proofs.Math.Seq.{take-add}
+use Rattle.std.proofs.lemmas.Bool.Decides.{nat_tests}
+use Rattle.std.proofs.lemmas.Bool.{cases_lt}
+use Rattle.std.proofs.lemmas.List.{drop-drop}
+use Rattle.std.proofs.lemmas.List.Folds.{list_any-append}
+use Rattle.std.specs.List.{list_any, range_with_len, slice_range}
+use Rattle.ffs_volume.specs.declared.Layout.{Layout}
+use Rattle.ffs_volume.specs.declared.Order.{Order}
+use Rattle.ffs_volume.specs.declared.Order.TheVariants.{Little, Big}
+use Rattle.ffs_volume.specs.Disk.Numbers.{number, u32_at}
+use Rattle.ffs_volume.specs.Blocks.Inodes.{any_nonzero}
+use Rattle.ffs_volume.specs.Blocks.Steps.{address_in, any_nonzero_from}
+
+-- a sum isn't zero where one of its parts isn't
+low_set : (a m : ℕ) → not (a + 256 * m == 0) ≡ (not (a == 0) || not (m == 0))
+low_set a m = grind (arith, nat_tests)
+
+many_set : (a k m : ℕ) → 0 < k → not (suc a * k + m == 0) ≡ (not (suc a == 0) || not (m == 0))
+many_set a k m some =
+    let scaled : 1 * k ≤ suc a * k = mul-le-mul_right k (omega arith) in
+    grind (arith, nat_tests, scaled)
+
+high_set : (a k m : ℕ) → 0 < k → not (a * k + m == 0) ≡ (not (a == 0) || not (m == 0))
+high_set zero k m some = ap (λ n. not (n == 0)) (omega arith)
+high_set (suc a) k m some = many_set a k m some
+
+-- the number of four bytes
+four_set : (order : Order) (a b c d : ℕ) (xs : List ℕ) →
+    any_nonzero (a ∷ b ∷ c ∷ d ∷ []) ≡ not (number order 4 (a ∷ b ∷ c ∷ d ∷ xs) == 0)
+unfolding number
+four_set Little a b c d xs =
+    sym (low_set a _ ∙ ap (λ x. not (a == 0) || x) (low_set b _ ∙ ap (λ x. not (b == 0) || x)
+    (low_set c _ ∙ ap (λ x. not (c == 0) || x) (low_set d 0))))
+four_set Big a b c d xs =
+    sym (high_set a (256 ^ 3) _ (lit< tt) ∙ ap (λ x. not (a == 0) || x) (high_set b (256 ^ 2) _ (lit< tt)
+    ∙ ap (λ x. not (b == 0) || x)
+    (high_set c (256 ^ 1) _ (lit< tt) ∙ ap (λ x. not (c == 0) || x) (high_set d (256 ^ 0) 0 (lit< tt)))))
+
+word_set : (order : Order) (xs : List ℕ) → 4 ≤ length xs → any_nonzero (take 4 xs) ≡ not (number order 4 xs == 0)
+word_set order [] h = absurd (omega (arith, h))
+word_set order (a ∷ []) h = absurd (omega (arith, h))
+word_set order (a ∷ b ∷ []) h = absurd (omega (arith, h))
+word_set order (a ∷ b ∷ c ∷ []) h = absurd (omega (arith, h))
+word_set order (a ∷ b ∷ c ∷ d ∷ xs) h = four_set order a b c d xs
+
+-- the bytes of some words
+words_set : (v : Layout) (block : List ℕ) (n first : ℕ) → 4 * (first + n) ≤ length block →
+    any_nonzero (take (4 * n) (drop (4 * first) block))
+    ≡ list_any (λ j. not (address_in v block j == 0)) (range_with_len first n)
+unfolding u32_at
+words_set v block zero first h = refl
+words_set v block (suc n) first h =
+    let set : ℕ → Bool = λ a. not (a == 0) in
+    let xs = drop (4 * first) block in
+    let e : 4 * suc n ≡ 4 + 4 * n = omega arith in
+    let f : 4 * first + 4 ≡ 4 * (first + 1) = omega arith in
+    ap (λ k. any_nonzero (take k xs)) e
+    ∙ ap any_nonzero (take-add 4 (4 * n) xs)
+    ∙ list_any-append set (take 4 xs) (take (4 * n) (drop 4 xs))
+    ∙ ap (λ b. b || any_nonzero (take (4 * n) (drop 4 xs)))
+    (word_set v.order xs (omega (arith, h, length-drop (4 * first) block)))
+    ∙ ap (λ ys. not (address_in v block first == 0) || any_nonzero (take (4 * n) ys))
+    (drop-drop 4 (4 * first) block ∙ ap (λ k. drop k block) f)
+    ∙ ap (λ b. not (address_in v block first == 0) || b) (words_set v block n (first + 1) (omega (arith, h)))
+
+-- the bytes of the words from an index on
+pub any_byte_from : (v : Layout) (block : List ℕ) (used : ℕ) → used ≤ v.nindir → 4 * v.nindir ≤ length block →
+    any_nonzero (slice_range block (4 * used) (4 * v.nindir)) ≡ any_nonzero_from v block used
+any_byte_from v block used h fits =
+    let e : 4 * v.nindir - 4 * used ≡ 4 * (v.nindir - used) = omega (arith, h) in
+    ap (λ k. any_nonzero (take k (drop (4 * used) block))) e
+    ∙ words_set v block (v.nindir - used) used (omega (arith, h, fits))
+
+or_false : (a b : Bool) → (a || b) ≡ false → (a ≡ false) × (b ≡ false)
+or_false true b e = cc
+or_false false b e = (refl, e)
+
+is_zero : (w : ℕ) → not (w == 0) ≡ false → w ≡ 0
+is_zero w e = grind (arith, nat_tests)
+
+none_set : (word : ℕ → ℕ) (n first i : ℕ) → list_any (λ j. not (word j == 0)) (range_with_len first n) ≡ false → i < n →
+    word (first + i) ≡ 0
+none_set word zero first i e h = absurd (omega (arith, h))
+none_set word (suc n) first zero e h =
+    let f : first + zero ≡ first = omega arith in
+    ap word f ∙ is_zero (word first) (or_false (not (word first == 0)) _ e).0
+none_set word (suc n) first (suc i) e h =
+    let f : first + suc i ≡ first + 1 + i = omega arith in
+    ap word f ∙ none_set word n (first + 1) i (or_false (not (word first == 0)) _ e).1 (omega (arith, h))
+
+-- some words are all zero where no byte of them is set
+pub no_byte : (v : Layout) (block : List ℕ) (first n k : ℕ) → 4 * (first + n) ≤ length block →
+    any_nonzero (slice_range block (4 * first) (4 * (first + n))) ≡ false → first ≤ k → k < first + n →
+    address_in v block k ≡ 0
+no_byte v block first n k fits none low high =
+    let e : 4 * (first + n) - 4 * first ≡ 4 * n = omega arith in
+    let f : first + (k - first) ≡ k = omega (arith, low) in
+    ap (λ j. address_in v block j) (sym f)
+    ∙ none_set (λ j. address_in v block j) n first (k - first)
+    (sym (words_set v block n first fits) ∙ ap (λ m. any_nonzero (take m (drop (4 * first) block))) (sym e) ∙ none)
+    (omega (arith, low, high))
+
+-- so the words before them and these are zero
+pub more_zeros : (v : Layout) (block : List ℕ) (next first n : ℕ) → 4 * (first + n) ≤ length block →
+    any_nonzero (slice_range block (4 * first) (4 * (first + n))) ≡ false →
+    ((k : ℕ) → next ≤ k → k < first → address_in v block k ≡ 0) →
+    (k : ℕ) → next ≤ k → k < first + n → address_in v block k ≡ 0
+more_zeros v block next first n fits none zeros k low high =
+    elim (cases_lt k first) [ inl l ↦ zeros k low l | inr m ↦ no_byte v block first n k fits none m high ]
