@@ -7,6 +7,9 @@ use crate::output::{OutFault, Output};
 /// longer.
 const LINE_ROOM: usize = 2048;
 
+/// A text of at most so many bytes is written byte by byte: where its length is known that is a move or two.
+const SHORT_TEXT: usize = 8;
+
 /// An output in memory that has room for one line. A piece for which no room is left is refused.
 #[derive(Drop)]
 pub struct LineBuffer {
@@ -45,6 +48,20 @@ impl LineBuffer {
     }
 }
 
+#[inline(always)]
+fn copy_bytes(to: &mut [u8], from: &[u8])
+    requires { length to.old ≡ length from.now }
+    ensures { to.new ≡ from.now }
+{
+    if from.len() > SHORT_TEXT {
+        to.copy_from_slice(from);
+        return;
+    }
+    for at in 0..from.len() {
+        to[at] = from[at];
+    }
+}
+
 impl Output for LineBuffer {
     ghost use Rattle.std.specs.Prelude.{Some, None};
 
@@ -54,13 +71,14 @@ impl Output for LineBuffer {
         self.failures
     }
 
+    #[inline(always)]
     fn put(&mut self, piece: &[u8]) -> Result<usize, OutFault> {
         if piece.len() > LINE_ROOM - self.used {
             self.failures = self.failures.saturating_add(1);
             return Err(OutFault);
         }
         let end = self.used + piece.len();
-        self.room[self.used..end].copy_from_slice(piece);
+        copy_bytes(&mut self.room[self.used..end], piece);
         self.used = end;
         Ok(piece.len())
     }

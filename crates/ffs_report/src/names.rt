@@ -33,6 +33,7 @@ fn path_label(label: Label) -> &'static [u8]
     }
 }
 
+#[inline(never)]
 fn print_attr<W: Output>(out: &mut W, attr: &Attr) -> Result<(), OutFault>
     ensures { Prints (W.sink out.old) (W.sink out.new) (attr_text attr.now) result }
 {
@@ -44,6 +45,7 @@ fn print_attr<W: Output>(out: &mut W, attr: &Attr) -> Result<(), OutFault>
 }
 
 /// What a line says before an inode's attributes, these, and what it says after them.
+#[inline(always)]
 fn print_inode<W: Output>(
     out: &mut W,
     head: &[u8],
@@ -59,6 +61,7 @@ fn print_inode<W: Output>(
 }
 
 /// The same, of an inode that is called a directory or a file.
+#[inline(always)]
 fn print_kind<W: Output>(
     out: &mut W,
     head: &[u8],
@@ -74,6 +77,7 @@ fn print_kind<W: Output>(
 }
 
 /// An inode with its attributes and its path.
+#[inline(always)]
 fn print_path<W: Output>(
     out: &mut W,
     head: &[u8],
@@ -128,6 +132,7 @@ fn print_length<W: Output>(out: &mut W, path: &[u8], size: u64) -> Result<(), Ou
     )
 }
 
+#[inline(always)]
 fn print_numbered<W: Output>(
     out: &mut W,
     head: &[u8],
@@ -168,6 +173,7 @@ fn print_links<W: Output>(
 }
 
 /// A directory with its attributes and its path.
+#[inline(always)]
 fn print_dir<W: Output>(
     out: &mut W,
     head: &[u8],
