@@ -159,5 +159,9 @@ pub fn store(workspace: &mut Workspace, number: u32, class: Class, inode: &Inode
     workspace.kinds[number as usize] = kind;
     workspace.marked[number as usize] = marked;
     store_cut(&mut workspace.cut, number as usize, cut);
-    store_start(&mut workspace.references, number as usize, start_of(class, inode));
+    store_start(
+        &mut workspace.references,
+        number as usize,
+        start_of(class, inode),
+    );
 }

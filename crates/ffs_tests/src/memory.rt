@@ -91,7 +91,10 @@ fn numbers_set_and_filled(rt: HostRuntime) -> Result<(), Fail> {
     list.set(3, 9);
     assert_eq!(rt; (list[3], list[700]), (9, 7));
     list.fill(5);
-    assert_eq!(rt; (list.len(), list[3], list[700], list[999]), (1000, 5, 5, 5));
+    assert_eq!(rt;
+        (list.len(), list[3], list[700], list[999]),
+        (1000, 5, 5, 5)
+    );
     list.set(1, 2);
     assert_eq!(rt; (list[0], list[1], list[2]), (5, 2, 5));
     Ok(())

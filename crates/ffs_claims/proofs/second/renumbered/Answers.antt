@@ -80,7 +80,8 @@ returns g c = record {
       (steps_of v (inode_of v bytes n) bytes)))) _ _ c.rewalk.result
       (λ bytes t. ap (λ (k : ℕ). of_lines
       (first_offer_lines d (offers_again v n (rescan k) (steps_of v c.in_ok-inode.inode bytes))))
-      (get_at c.args.workspace.now.cut c.args.number (c.index-cut.result.now) c.index-cut.ensures (omega (arith, c.requires.can.ready.made.cut, c.requires.can.number_fits)))
+      (get_at c.args.workspace.now.cut c.args.number c.index-cut.result.now c.index-cut.ensures
+      (omega (arith, c.requires.can.ready.made.cut, c.requires.can.number_fits)))
       ∙ ap (λ (i : Inode). of_lines
       (first_offer_lines d (offers_again v n (rescan (slice_index c.args.workspace.now.cut.items n))
       (steps_of v i bytes)))) (c.in_ok-inode.ensures.inode bytes t))
@@ -91,7 +92,9 @@ returns g c = record {
       let n = c.args.number in
       let w = c.args.workspace.now in
       let i = c.in_ok-inode.inode in
-      let cut : c.index-cut.result.now ≡ slice_index c.args.workspace.now.cut.items c.args.number = get_at c.args.workspace.now.cut c.args.number (c.index-cut.result.now) c.index-cut.ensures (omega (arith, c.requires.can.ready.made.cut, c.requires.can.number_fits)) in
+      let cut : c.index-cut.result.now ≡ slice_index c.args.workspace.now.cut.items c.args.number =
+      get_at c.args.workspace.now.cut c.args.number c.index-cut.result.now c.index-cut.ensures
+      (omega (arith, c.requires.can.ready.made.cut, c.requires.can.number_fits)) in
       ok_where c.rewalk.result _ _
       (λ bytes. Rewalked v n c.index-cut.result.now (steps_of v c.in_ok-inode.inode bytes)
       (record c.args.workspace.now { windows = record c.args.workspace.now.windows { table = c.inode.new.self } })
@@ -108,7 +111,8 @@ returns g c = record {
       (steps_of v c.in_ok-inode.inode bytes) ≡ runs_again v (rescan (slice_index c.args.workspace.now.cut.items n))
       (steps_of v (inode_of v bytes n) bytes) =
       ap (λ (k : ℕ). runs_again v (rescan k) (steps_of v c.in_ok-inode.inode bytes))
-      (get_at c.args.workspace.now.cut c.args.number (c.index-cut.result.now) c.index-cut.ensures (omega (arith, c.requires.can.ready.made.cut, c.requires.can.number_fits)))
+      (get_at c.args.workspace.now.cut c.args.number c.index-cut.result.now c.index-cut.ensures
+      (omega (arith, c.requires.can.ready.made.cut, c.requires.can.number_fits)))
       ∙ ap (λ (i : Inode). runs_again v (rescan (slice_index c.args.workspace.now.cut.items n)) (steps_of v i bytes))
       (c.in_ok-inode.ensures.inode bytes t) in
       omega (arith, c.rewalk.ensures.runs bytes (ap (λ d. d.contents) c.in_ok-inode.ensures.read ∙ t), same);
