@@ -107,7 +107,7 @@ fn renumbered<I: Image, W: Output>(
         workspace.old workspace.new result }
 {
     let inode = workspace.windows.table.inode(geometry, number, image)?;
-    let cut = workspace.cut.as_slice()[number as usize];
+    let cut = workspace.cut[number as usize];
     rewalk(workspace, geometry, number, cut, &inode, image, report)
 }
 

@@ -1,6 +1,6 @@
 //! What is kept of each inode.
 
-ghost use Rattle.std.specs.Prelude.{◌≡◌, ◌<◌, ◌^◌, ◌||◌, false, min};
+ghost use Rattle.std.specs.Prelude.{◌≡◌, ◌<◌, ◌^◌, ◌||◌, false, min, slice_set, vec_len};
 ghost use Rattle.ffs_volume.specs.Blocks.BlockCheck.{class_lines, count_lines};
 ghost use Rattle.ffs_volume.specs.Blocks.Inodes.{is_file_or_dir, is_unknown};
 ghost use Rattle.ffs_volume.specs.Encodings.Replay.{cut_of};
@@ -13,6 +13,7 @@ ghost use Rattle.ffs_claims.specs.Lines.{of_lines, counted_owner};
 
 use crate::offer::is_open;
 use ffs_layout::Geometry;
+use ffs_memory::FilledList;
 use ffs_report::{Line, OutFault, Output, Report};
 use ffs_volume::constants::{DEV_BSIZE, DT_DIR, EMPTY_DIR, MAXDUP, UNKNOWN_TYPE};
 use ffs_volume::{BlockMessage, Class, Inode};
@@ -118,6 +119,29 @@ fn start_of(class: Class, inode: &Inode) -> u64
     }
 }
 
+// Sets where an inode is cut, if that isn't what the list holds already: so its memory is touched only for inodes that are
+// cut.
+fn store_cut(list: &mut FilledList<u32>, number: usize, cut: u32)
+    requires { number < vec_len list.old }
+    ensures items { list.new.items ≡ slice_set list.old.items number cut }
+    ensures len { vec_len list.new ≡ vec_len list.old }
+{
+    if list[number] != cut {
+        list.set(number, cut);
+    }
+}
+
+// The same for where the count of an inode's references starts: memory is touched only for inodes that are in use.
+fn store_start(list: &mut FilledList<u64>, number: usize, start: u64)
+    requires { number < vec_len list.old }
+    ensures items { list.new.items ≡ slice_set list.old.items number start }
+    ensures len { vec_len list.new ≡ vec_len list.old }
+{
+    if list[number] != start {
+        list.set(number, start);
+    }
+}
+
 /// Keeps what later phases want of the current inode.
 pub fn store(workspace: &mut Workspace, number: u32, class: Class, inode: &Inode)
     requires number { HasInode number workspace.old }
@@ -134,6 +158,10 @@ pub fn store(workspace: &mut Workspace, number: u32, class: Class, inode: &Inode
     let cut = cut_of(workspace);
     workspace.kinds[number as usize] = kind;
     workspace.marked[number as usize] = marked;
-    workspace.cut[number as usize] = cut;
-    workspace.references[number as usize] = start_of(class, inode);
+    store_cut(&mut workspace.cut, number as usize, cut);
+    store_start(
+        &mut workspace.references,
+        number as usize,
+        start_of(class, inode),
+    );
 }

@@ -1,14 +1,14 @@
 -- Words are the same where their parts are, and touching some of them changes none.
 use Rattle.std.proofs.Common.{◌≡◌, ◌<◌, ◌≤◌, ◌+◌, ◌-◌, ◌++◌, ℕ, List, arith, ap, sym, ◌∙◌, get_or, length, replicate}
 use Rattle.std.proofs.Common.{slice_set, vec_len}
-use Rattle.std.proofs.lemmas.List.{append_assoc, get_or_append_left, length-append, length-replicate, set-append_left}
-use Rattle.std.proofs.lemmas.List.{replicate-append-replicate}
+use Rattle.std.proofs.lemmas.List.{get_or_append_left, length-append, length-replicate, set-append_left}
 use Rattle.std.proofs.lemmas.Grind.{get_or_default_zero}
 use Rattle.std.specs.Prelude.{vec_capacity}
 use Rattle.std.specs.Ptr.{Ptr}
 use Rattle.std.specs.Vec.{vec_ptr, with_item}
 use Rattle.std.specs.declared.vec.Vec.{Vec}
 use Rattle.std.specs.declared.alloc.Global.{Global}
+use Rattle.ffs_memory.proofs.Touched.{run_on}
 use Rattle.ffs_memory.specs.Words.{Words, Touches}
 
 abbrev words : List ℕ → Ptr → ℕ → Words
@@ -28,21 +28,14 @@ length_seen touched count within =
     length-append touched.items (replicate (count - vec_len touched) 0)
     ∙ omega (arith, touched.ok.0, within, length-replicate {A = ℕ} (count - vec_len touched) 0)
 
--- zeros after zeros
-pub zeros_meet : (list : List ℕ) (m n k : ℕ) → m + n ≡ k →
-    list ++ replicate m 0 ++ replicate n 0 ≡ list ++ replicate k 0
-zeros_meet list m n k sum =
-    append_assoc list (replicate m 0) (replicate n 0)
-    ∙ ap (λ zeros. list ++ zeros) (replicate-append-replicate m n 0 ∙ ap (λ j. replicate j 0) sum)
-
 -- more of the words are touched, and they are the same
 pub same_seen : (old new : Vec ℕ Global) (index count : ℕ) (w : Words) → seen old count ≡ w → vec_len old ≤ count →
-    index < length w.list → Touches old new index → seen new count ≡ w
+    index < length w.list → Touches old new index 0 → seen new count ≡ w
 same_seen old new index count w is within inside touches =
     let below : index < count = omega (arith, inside, ap (λ x. length x.list) is, length_seen old count within) in
     same_words _ _ _ _ _ _
-    (ap (λ items. items ++ replicate (count - vec_len new) 0) touches.zeros
-    ∙ zeros_meet old.items (index + 1 - vec_len old) (count - vec_len new) (count - vec_len old)
+    (ap (λ items. items ++ replicate (count - vec_len new) 0) touches.items
+    ∙ run_on old.items 0 (index + 1 - vec_len old) (count - vec_len new) (count - vec_len old)
     (omega (arith, touches.len, below, within)))
     touches.place touches.room
     ∙ is

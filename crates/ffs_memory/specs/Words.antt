@@ -26,9 +26,9 @@ pub record ClaimsBits (old new : Words) (index mask : ℕ) (claimed_now : Bool) 
   pub claimed : IsTrue claimed_now → new ≡ with_bits old index mask
   pub kept : claimed_now ≡ false → new ≡ old
 
--- the words up to an index are touched: each that wasn't before is 0, and the memory is the same
-pub record Touches (old new : Vec ℕ Global) (index : ℕ) : Type 0 where
+-- the elements up to an index are touched: each that wasn't before is x, and the memory is the same
+pub record Touches {A : Type 0} (old new : Vec A Global) (index : ℕ) (x : A) : Type 0 where
   pub len : vec_len new ≡ max (vec_len old) (index + 1)
-  pub zeros : new.items ≡ old.items ++ replicate (index + 1 - vec_len old) 0
+  pub items : new.items ≡ old.items ++ replicate (index + 1 - vec_len old) x
   pub place : vec_ptr new ≡ vec_ptr old
   pub room : vec_capacity new ≡ vec_capacity old

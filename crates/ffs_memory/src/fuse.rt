@@ -2,6 +2,7 @@
 ghost use Rattle.std.specs.Prelude.{◌≡◌, ◌+◌, ◌-◌, ◌*◌, ◌^◌, min, if◌then◌else◌, false};
 ghost use Rattle.ffs_memory.specs.Fuse.{Serves, ServesWords, IsFused, is_blown, left_after};
 
+use crate::filled_list::FilledList;
 use crate::fixed_list::FixedList;
 use crate::memory::Memory;
 use crate::zeroed_words::ZeroedWords;
@@ -90,14 +91,24 @@ impl<M: Memory> Memory for FuseMemory<M> {
         self.inner.words(n)
     }
 
-    fn long_words(&mut self, n: usize) -> Result<FixedList<u64>, AllocError>
+    fn numbers(&mut self, n: usize) -> Result<FilledList<u32>, AllocError>
+        ensures { Serves M.account ⟦<FuseMemory<M> as Memory>⟧.account self.old self.new n (4 * n) 0
+            result }
+    {
+        if self.blows() {
+            return Err(AllocError);
+        }
+        self.inner.numbers(n)
+    }
+
+    fn long_numbers(&mut self, n: usize) -> Result<FilledList<u64>, AllocError>
         ensures { Serves M.account ⟦<FuseMemory<M> as Memory>⟧.account self.old self.new n (8 * n) 0
             result }
     {
         if self.blows() {
             return Err(AllocError);
         }
-        self.inner.long_words(n)
+        self.inner.long_numbers(n)
     }
 
     fn zeroed_words(&mut self, n: usize) -> Result<ZeroedWords, AllocError>

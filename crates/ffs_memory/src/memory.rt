@@ -2,6 +2,7 @@
 ghost use Rattle.std.specs.Prelude.{◌≡◌, ◌*◌, false};
 ghost use Rattle.ffs_memory.specs.Account.{Account, Gives, GivesWords};
 
+use crate::filled_list::FilledList;
 use crate::fixed_list::FixedList;
 use crate::zeroed_words::ZeroedWords;
 use std::alloc::AllocError;
@@ -30,8 +31,12 @@ pub trait Memory {
     fn words(&mut self, n: usize) -> Result<FixedList<u32>, AllocError>
         ensures { Gives (account self.old) (account self.new) n (4 * n) 0 result };
 
-    /// So many words of 64 bits, each 0.
-    fn long_words(&mut self, n: usize) -> Result<FixedList<u64>, AllocError>
+    /// So many numbers of 32 bits, each 0: their memory is taken at once, and none of it is written yet.
+    fn numbers(&mut self, n: usize) -> Result<FilledList<u32>, AllocError>
+        ensures { Gives (account self.old) (account self.new) n (4 * n) 0 result };
+
+    /// So many numbers of 64 bits, each 0: their memory is taken at once, and none of it is written yet.
+    fn long_numbers(&mut self, n: usize) -> Result<FilledList<u64>, AllocError>
         ensures { Gives (account self.old) (account self.new) n (8 * n) 0 result };
 
     /// So many words of 64 bits, each 0: their memory is taken at once, and none of it is written yet.

@@ -1,6 +1,7 @@
 // The memory of the system.
-ghost use Rattle.std.specs.Prelude.{◌≡◌, ◌+◌, ◌-◌, ◌^◌, min};
+ghost use Rattle.std.specs.Prelude.{◌≡◌, ◌+◌, ◌-◌, ◌*◌, ◌^◌, min};
 
+use crate::filled_list::FilledList;
 use crate::fixed_list::FixedList;
 use crate::memory::Memory;
 use crate::zeroed_words::ZeroedWords;
@@ -15,6 +16,9 @@ pub struct SystemMemory {
 }
 
 impl SystemMemory {
+    ghost use Rattle.ffs_memory.specs.Account.{Gives};
+    ghost use Rattle.ffs_memory.specs.System.{account_of};
+
     /// The memory of this allocator, of which nothing was granted or refused yet.
     pub fn new(alloc: Global) -> SystemMemory
         ensures { result ≡ record { alloc = alloc; granted = 0; refused = 0 } }
@@ -42,10 +46,30 @@ impl SystemMemory {
         self.refused = self.refused.saturating_add(1);
         fault
     }
+
+    // So many elements of so many bytes, each the same.
+    fn filled<T: Copy>(
+        &mut self,
+        n: usize,
+        size: u64,
+        value: T,
+    ) -> Result<FilledList<T>, AllocError>
+        ensures { Gives (account_of self.old) (account_of self.new) n (size * n) value result }
+    {
+        match FilledList::new(self.alloc, n, value) {
+            Ok(list) => {
+                self.grant(size.saturating_mul(n as u64));
+                Ok(list)
+            }
+            Err(fault) => Err(self.refuse(fault)),
+        }
+    }
 }
 
 impl Memory for SystemMemory {
-    ghost account = { λ m. record { granted = m.granted; refused = m.refused } };
+    ghost use Rattle.ffs_memory.specs.System.{account_of};
+
+    ghost account = { account_of };
 
     fn granted(&self) -> u64 {
         self.granted
@@ -88,15 +112,12 @@ impl Memory for SystemMemory {
         }
     }
 
-    fn long_words(&mut self, n: usize) -> Result<FixedList<u64>, AllocError> {
-        let made: Result<Vec<u64>, AllocError> = vec![in self.alloc; 0u64; n];
-        match made {
-            Ok(items) => {
-                self.grant(8u64.saturating_mul(n as u64));
-                Ok(FixedList::new(items))
-            }
-            Err(fault) => Err(self.refuse(fault)),
-        }
+    fn numbers(&mut self, n: usize) -> Result<FilledList<u32>, AllocError> {
+        self.filled(n, 4, 0)
+    }
+
+    fn long_numbers(&mut self, n: usize) -> Result<FilledList<u64>, AllocError> {
+        self.filled(n, 8, 0)
     }
 
     fn zeroed_words(&mut self, n: usize) -> Result<ZeroedWords, AllocError> {

@@ -1,8 +1,9 @@
 // Words that are 0 until they are set.
-ghost use Rattle.std.specs.Prelude.{ℕ, ◌≡◌, ◌<◌, ◌≤◌, IfOk, length, replicate, slice_set, vec_capacity};
+ghost use Rattle.std.specs.Prelude.{ℕ, ◌≡◌, ◌<◌, ◌≤◌, IfOk, length, replicate, slice_set};
 ghost use Rattle.std.specs.List.{slice_index_or};
-ghost use Rattle.ffs_memory.specs.Words.{ClaimsBits, Touches};
+ghost use Rattle.ffs_memory.specs.Words.{ClaimsBits};
 
+use crate::touching::touch;
 use std::alloc::{AllocError, Global};
 use std::marker::Model;
 
@@ -78,7 +79,7 @@ impl ZeroedWords {
         requires { index < length self.old.list }
         ensures { self.new ≡ record self.old { list = slice_set self.old.list index word } }
     {
-        touch(&mut self.touched, index);
+        touch(&mut self.touched, index, 0);
         self.touched[index] = word;
     }
 
@@ -88,34 +89,12 @@ impl ZeroedWords {
         requires { index < length self.old.list }
         ensures { ClaimsBits self.old self.new index mask result }
     {
-        touch(&mut self.touched, index);
+        touch(&mut self.touched, index, 0);
         let word = self.touched[index];
         if word & mask != 0 {
             return false;
         }
         self.touched[index] = word | mask;
         true
-    }
-}
-
-// Touches the words up to an index: each that wasn't touched is 0, in the memory that was taken.
-#[inline(always)]
-fn touch(touched: &mut Vec<u64>, index: usize)
-    requires { index < vec_capacity touched.old }
-    ensures { Touches touched.old touched.new index }
-{
-    if touched.len() <= index {
-        touch_more(touched, index);
-    }
-}
-
-// The same. It isn't inlined, since nearly every word that is asked for is touched already.
-#[inline(never)]
-fn touch_more(touched: &mut Vec<u64>, index: usize)
-    requires { index < vec_capacity touched.old }
-    ensures { Touches touched.old touched.new index }
-{
-    while touched.len() <= index {
-        touched.push_reserved(0);
     }
 }

@@ -5,6 +5,7 @@ ghost use Rattle.std.specs.Prelude.{◌≡◌};
 use crate::entries::Entries;
 use ffs_image::{Image, ImageFault};
 use ffs_layout::Geometry;
+use ffs_memory::FilledList;
 use ffs_survey::{Directories, Named, is_dir};
 use ffs_volume::Class;
 use ffs_workspace::Windows;
@@ -18,7 +19,7 @@ pub struct Tree<'a, I> {
     /// What each inode is.
     pub kinds: &'a [u8],
     /// How many offers each inode keeps where dup offers cut it.
-    pub cut: &'a [u32],
+    pub cut: &'a FilledList<u32>,
     /// The current directory.
     pub entries: Entries,
 }
@@ -30,7 +31,7 @@ impl<I: Image> Directories for Tree<'_, I> {
 
     ghost Base = { TreeBase };
 
-    ghost base = { λ t. record { layout = t.geometry.layout; contents = (I.device t.image.now).contents; kinds = t.kinds.now; cut = t.cut.now; image_lent = t.image.ghost_name; windows_lent = t.windows.ghost_name } };
+    ghost base = { λ t. record { layout = t.geometry.layout; contents = (I.device t.image.now).contents; kinds = t.kinds.now; cut = t.cut.now.items; image_lent = t.image.ghost_name; windows_lent = t.windows.ghost_name } };
 
     ghost knows = { KnowsTree };
 
@@ -40,7 +41,7 @@ impl<I: Image> Directories for Tree<'_, I> {
 
     ghost device = { λ t. I.device t.image.now };
 
-    ghost ready = { λ t. IsReady t.geometry.layout (I.device t.image.now) t.windows.now t.kinds.now t.cut.now × (t.entries.chunks.walk.geometry ≡ t.geometry) };
+    ghost ready = { λ t. IsReady t.geometry.layout (I.device t.image.now) t.windows.now t.kinds.now t.cut.now.items × (t.entries.chunks.walk.geometry ≡ t.geometry) };
 
     ghost rest = { λ t b. to_come b t.entries };
 

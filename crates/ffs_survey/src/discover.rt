@@ -1,5 +1,5 @@
 //! What one directory, and one level of directories, names.
-ghost use Rattle.std.specs.Prelude.{◌≡◌, ◌==◌, ◌*◌, ◌+◌, ℕ, ◌<◌, ◌≤◌, ◌^◌, ◌&&◌, ◌||◌, nat_le, cond, List, [], ◌∷◌, length, take, All, true, false, IfOk, OnOk};
+ghost use Rattle.std.specs.Prelude.{◌≡◌, ◌==◌, ◌*◌, ◌+◌, ℕ, ◌<◌, ◌≤◌, ◌^◌, ◌&&◌, ◌||◌, nat_le, cond, List, [], ◌∷◌, length, take, All, true, false, IfOk, OnOk, slice_set, vec_len};
 ghost use Rattle.ffs_volume.specs.Directories.Roles.{is_plain as is_plain_role};
 ghost use Rattle.ffs_volume.specs.Directories.Graph.{is_naming_entry};
 ghost use Rattle.ffs_survey.specs.Reading.{roled_of, ForKnown, LeavesReader};
@@ -12,20 +12,34 @@ ghost use Rattle.ffs_survey.specs.Discover.{unset, found_of, IsCounted, Comes, f
 use crate::directories::Directories;
 use crate::named::{Named, is_counted, is_dir, is_plain};
 use ffs_image::ImageFault;
+use ffs_memory::FilledList;
 use ffs_volume::Role;
 use ffs_volume::constants::{DT_DIR, DT_WHT, EMPTY_DIR, ROOTINO, UNKNOWN_TYPE};
 
+/// Counts one more reference of an inode.
+fn add_one(references: &mut FilledList<u64>, number: usize)
+    requires number { number < vec_len references.old }
+    requires room { number_at references.old.items number + 1 < 2 ^ 64 }
+    ensures items { references.new.items
+        ≡ slice_set references.old.items number (number_at references.old.items number + 1) }
+    ensures len { vec_len references.new ≡ vec_len references.old }
+{
+    let count = references[number];
+    references.set(number, count + 1);
+}
+
 /// Counts an entry for the inode that it names, and marks that inode where the entry is plain.
-fn count_entry(entry: Named, kinds: &[u8], references: &mut [u64], named: &mut [bool])
-    requires { CountLists kinds.now references.old named.old entry.number }
-    ensures { IsCounted (length kinds.now) (roled_of entry []) references.old named.old
-        references.new named.new }
+fn count_entry(entry: Named, kinds: &[u8], references: &mut FilledList<u64>, named: &mut [bool])
+    requires { CountLists kinds.now references.old.items named.old entry.number }
+    ensures counted { IsCounted (length kinds.now) (roled_of entry []) references.old.items named.old
+        references.new.items named.new }
+    ensures same_length { vec_len references.new ≡ vec_len references.old }
 {
     let number = entry.number as usize;
     if !is_counted(entry.role) || number >= kinds.len() {
         return;
     }
-    references[number] += 1;
+    add_one(references, number);
     if is_plain(entry.role) {
         named[number] = true;
     }
@@ -166,7 +180,7 @@ fn read_reached<D: Directories>(
     from: u32,
     kinds: &[u8],
     marked: &[bool],
-    references: &mut [u64],
+    references: &mut FilledList<u64>,
     named: &mut [bool],
     reached: &mut [bool],
     parents: &mut [u32],
@@ -175,14 +189,15 @@ fn read_reached<D: Directories>(
     top: usize,
 ) -> Result<usize, ImageFault>
     requires ready { D.ready directories.old }
-    requires lists { LevelLists (2 ^ 60) kinds.now marked.now references.old named.old reached.old
+    requires lists { LevelLists (2 ^ 60) kinds.now marked.now references.old.items named.old reached.old
         parents.old }
     requires room { top + unset reached.old ≤ length queue.old }
     ensures found { IfOk result (λ n. Discovers (length kinds.now) (2 ^ 28) top n
         (λ old new. ForKnown D.knows D.entries D.sound (D.base directories.old) (λ entries sound.
         ReadsReached kinds.now marked.now from (entries from) (sound from) old new))
-        (found_of references.old named.old reached.old parents.old calm.old (take top queue.old))
-        (found_of references.new named.new reached.new parents.new calm.new (take n queue.new))) }
+        (found_of references.old.items named.old reached.old parents.old calm.old (take top queue.old))
+        (found_of references.new.items named.new reached.new parents.new calm.new (take n queue.new))) }
+    ensures same_length { vec_len references.new ≡ vec_len references.old }
     ensures reader { LeavesReader (D.ready directories.new) (D.base directories.old)
         (D.base directories.new) (D.device directories.old) (D.device directories.new) result }
 {
@@ -207,7 +222,7 @@ pub fn read_level<D: Directories>(
     frontier: &[u32],
     kinds: &[u8],
     marked: &[bool],
-    references: &mut [u64],
+    references: &mut FilledList<u64>,
     named: &mut [bool],
     reached: &mut [bool],
     parents: &mut [u32],
@@ -215,7 +230,7 @@ pub fn read_level<D: Directories>(
     queue: &mut [u32],
 ) -> Result<usize, ImageFault>
     requires ready { D.ready directories.old }
-    requires lists { LevelLists (2 ^ 59) kinds.now marked.now references.old named.old reached.old
+    requires lists { LevelLists (2 ^ 59) kinds.now marked.now references.old.items named.old reached.old
         parents.old }
     requires few { length frontier.now < 2 ^ 31 }
     requires room { unset reached.old ≤ length queue.old }
@@ -225,8 +240,9 @@ pub fn read_level<D: Directories>(
         Discovers (length kinds.now) (length frontier.now * 2 ^ 28) 0 n
         (λ old new. ForKnown D.knows D.entries D.sound (D.base directories.old) (λ entries sound.
         ReadsDirs kinds.now marked.now frontier.now entries sound old new))
-        (found_of references.old named.old reached.old parents.old calm.old [])
-        (found_of references.new named.new reached.new parents.new calm.new (take n queue.new))) }
+        (found_of references.old.items named.old reached.old parents.old calm.old [])
+        (found_of references.new.items named.new reached.new parents.new calm.new (take n queue.new))) }
+    ensures same_length { vec_len references.new ≡ vec_len references.old }
     ensures reader { LeavesReader (D.ready directories.new) (D.base directories.old)
         (D.base directories.new) (D.device directories.old) (D.device directories.new) result }
 {
@@ -272,20 +288,21 @@ pub fn read_unreached<D: Directories>(
     directories: &mut D,
     from: u32,
     kinds: &[u8],
-    references: &mut [u64],
+    references: &mut FilledList<u64>,
     named: &mut [bool],
     reached: &[bool],
     parents: &mut [u32],
 ) -> Result<(), ImageFault>
     requires ready { D.ready directories.old }
-    requires lists { EntryLists (2 ^ 60) kinds.now references.old named.old reached.now
+    requires lists { EntryLists (2 ^ 60) kinds.now references.old.items named.old reached.now
         parents.old }
     requires from { 0 < from }
     ensures grown { OnOk result
-        (GrowsBy (length kinds.now) (2 ^ 28) references.old references.new) }
+        (GrowsBy (length kinds.now) (2 ^ 28) references.old.items references.new.items) }
     ensures read { OnOk result (ForKnown D.knows D.entries D.sound (D.base directories.old)
-        (λ entries sound. ReadsUnreached kinds.now reached.now from (entries from) references.old
-        named.old parents.old references.new named.new parents.new)) }
+        (λ entries sound. ReadsUnreached kinds.now reached.now from (entries from) references.old.items
+        named.old parents.old references.new.items named.new parents.new)) }
+    ensures same_length { vec_len references.new ≡ vec_len references.old }
     ensures reader { LeavesReader (D.ready directories.new) (D.base directories.old)
         (D.base directories.new) (D.device directories.old) (D.device directories.new) result }
 {

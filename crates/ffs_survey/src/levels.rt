@@ -1,5 +1,5 @@
 //! The survey: level after level from inode 2, and then the directories that are not reached.
-ghost use Rattle.std.specs.Prelude.{◌≡◌, ◌<◌, ◌+◌, ℕ, ◌≤◌, ◌^◌, not, length, true, false, IfOk, OnOk};
+ghost use Rattle.std.specs.Prelude.{◌≡◌, ◌<◌, ◌+◌, ℕ, ◌≤◌, ◌^◌, not, length, true, false, IfOk, OnOk, vec_len};
 ghost use Rattle.ffs_survey.specs.Survey.{number_at, dir_at, graph_with, start_in, IsSurvey};
 ghost use Rattle.ffs_survey.specs.Calm.{AreCalm};
 ghost use Rattle.ffs_survey.specs.Reading.{ForKnown, LeavesReader};
@@ -11,6 +11,7 @@ use crate::directories::Directories;
 use crate::discover::{is_free, read_level, read_unreached};
 use crate::named::is_dir;
 use ffs_image::ImageFault;
+use ffs_memory::FilledList;
 use ffs_volume::constants::{NO_LINKS, ROOTINO};
 
 /// Reads the level that is in `queue[low..high]`, puts the next one after it, ascending, and answers where that ends.
@@ -18,7 +19,7 @@ fn next_level<D: Directories>(
     directories: &mut D,
     kinds: &[u8],
     marked: &[bool],
-    references: &mut [u64],
+    references: &mut FilledList<u64>,
     named: &mut [bool],
     reached: &mut [bool],
     parents: &mut [u32],
@@ -28,18 +29,19 @@ fn next_level<D: Directories>(
     high: usize,
 ) -> Result<usize, ImageFault>
     requires ready { D.ready directories.old }
-    requires lists { SurveyLists kinds.now marked.now references.old named.old reached.old
+    requires lists { SurveyLists kinds.now marked.now references.old.items named.old reached.old
         parents.old queue.old }
     requires root { dir_at kinds.now 2 ≡ true }
-    requires room { HasRoomForLevel low high references.old reached.old queue.old }
+    requires room { HasRoomForLevel low high references.old.items reached.old queue.old }
     requires levels { ForKnown D.knows D.entries D.sound (D.base directories.old)
         (λ entries sound. AtSomeLevel (graph_with kinds.now entries) low high reached.old
         parents.old queue.old) }
     ensures level { IfOk result (λ n. FollowsLevel high n
         (λ old new. ForKnown D.knows D.entries D.sound (D.base directories.old) (λ entries sound.
         ReadsLevel kinds.now marked.now low high n entries sound old new))
-        (found_of references.old named.old reached.old parents.old calm.old queue.old)
-        (found_of references.new named.new reached.new parents.new calm.new queue.new)) }
+        (found_of references.old.items named.old reached.old parents.old calm.old queue.old)
+        (found_of references.new.items named.new reached.new parents.new calm.new queue.new)) }
+    ensures same_length { vec_len references.new ≡ vec_len references.old }
     ensures reader { LeavesReader (D.ready directories.new) (D.base directories.old)
         (D.base directories.new) (D.device directories.old) (D.device directories.new) result }
 {
@@ -65,7 +67,7 @@ fn survey_reached<D: Directories>(
     directories: &mut D,
     kinds: &[u8],
     marked: &[bool],
-    references: &mut [u64],
+    references: &mut FilledList<u64>,
     named: &mut [bool],
     reached: &mut [bool],
     parents: &mut [u32],
@@ -73,14 +75,15 @@ fn survey_reached<D: Directories>(
     queue: &mut [u32],
 ) -> Result<(), ImageFault>
     requires ready { D.ready directories.old }
-    requires lists { SurveyLists kinds.now marked.now references.old named.old reached.old
+    requires lists { SurveyLists kinds.now marked.now references.old.items named.old reached.old
         parents.old queue.old }
-    requires begins { NothingFound references.old named.old reached.old parents.old calm.old }
-    ensures counted { OnOk result ((x : ℕ) → x < length kinds.now → number_at references.new x
+    requires begins { NothingFound references.old.items named.old reached.old parents.old calm.old }
+    ensures counted { OnOk result ((x : ℕ) → x < length kinds.now → number_at references.new.items x
         ≤ 2 ^ 59) }
     ensures read { OnOk result (ForKnown D.knows D.entries D.sound (D.base directories.old)
-        (λ entries sound. ReadsAllReached kinds.now marked.now entries sound references.old
-        (found_of references.new named.new reached.new parents.new calm.new queue.new))) }
+        (λ entries sound. ReadsAllReached kinds.now marked.now entries sound references.old.items
+        (found_of references.new.items named.new reached.new parents.new calm.new queue.new))) }
+    ensures same_length { vec_len references.new ≡ vec_len references.old }
     ensures reader { LeavesReader (D.ready directories.new) (D.base directories.old)
         (D.base directories.new) (D.device directories.old) (D.device directories.new) result }
 {
@@ -116,19 +119,20 @@ fn survey_reached<D: Directories>(
 fn survey_unreached<D: Directories>(
     directories: &mut D,
     kinds: &[u8],
-    references: &mut [u64],
+    references: &mut FilledList<u64>,
     named: &mut [bool],
     reached: &[bool],
     parents: &mut [u32],
 ) -> Result<(), ImageFault>
     requires ready { D.ready directories.old }
     requires few { length kinds.now < 2 ^ 31 }
-    requires lists { EntryLists (2 ^ 59) kinds.now references.old named.old reached.now
+    requires lists { EntryLists (2 ^ 59) kinds.now references.old.items named.old reached.now
         parents.old }
     ensures read { OnOk result (ForKnown D.knows D.entries D.sound (D.base directories.old)
         (λ entries sound. IsBlank kinds.now reached.now parents.old
         → IsRead (graph_with kinds.now entries) kinds.now reached.now (length kinds.now)
-        references.old named.old parents.old references.new named.new parents.new)) }
+        references.old.items named.old parents.old references.new.items named.new parents.new)) }
+    ensures same_length { vec_len references.new ≡ vec_len references.old }
     ensures reader { LeavesReader (D.ready directories.new) (D.base directories.old)
         (D.base directories.new) (D.device directories.old) (D.device directories.new) result }
 {
@@ -150,13 +154,13 @@ fn survey_unreached<D: Directories>(
 }
 
 // Brings each count of references that is past the greatest start back to it.
-fn limit_starts(references: &mut [u64])
-    ensures length { length references.new ≡ length references.old }
-    ensures starts { (x : ℕ) → number_at references.new x ≡ start_in references.old x }
+fn limit_starts(references: &mut FilledList<u64>)
+    ensures same_length { vec_len references.new ≡ vec_len references.old }
+    ensures starts { (x : ℕ) → number_at references.new.items x ≡ start_in references.old.items x }
 {
     for index in 0..references.len() {
         if references[index] > NO_LINKS {
-            references[index] = NO_LINKS;
+            references.set(index, NO_LINKS);
         }
     }
 }
@@ -173,7 +177,7 @@ pub fn survey<D: Directories>(
     directories: &mut D,
     kinds: &[u8],
     marked: &[bool],
-    references: &mut [u64],
+    references: &mut FilledList<u64>,
     named: &mut [bool],
     reached: &mut [bool],
     parents: &mut [u32],
@@ -181,14 +185,15 @@ pub fn survey<D: Directories>(
     queue: &mut [u32],
 ) -> Result<(), ImageFault>
     requires ready { D.ready directories.old }
-    requires lists { SurveyLists kinds.now marked.now references.old named.old reached.old
+    requires lists { SurveyLists kinds.now marked.now references.old.items named.old reached.old
         parents.old queue.old }
     ensures survey { OnOk result (ForKnown D.knows D.entries D.sound (D.base directories.old)
-        (λ entries sound. IsSurvey (graph_with kinds.now entries) references.old references.new
+        (λ entries sound. IsSurvey (graph_with kinds.now entries) references.old.items references.new.items
         named.new reached.new parents.new)) }
     ensures calm { OnOk result (ForKnown D.knows D.entries D.sound (D.base directories.old)
         (λ entries sound.
         AreCalm kinds.now marked.now reached.new parents.new entries sound calm.new)) }
+    ensures same_length { vec_len references.new ≡ vec_len references.old }
     ensures reader { LeavesReader (D.ready directories.new) (D.base directories.old)
         (D.base directories.new) (D.device directories.old) (D.device directories.new) result }
 {

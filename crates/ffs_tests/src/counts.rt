@@ -23,15 +23,15 @@ fn referred(alloc: Global, geometry: &Geometry) -> Result<Workspace, AllocError>
 {
     let mut workspace = Workspace::new(alloc, geometry)?;
     workspace.kinds[2] = 4;
-    workspace.references[2] = 32766 + 2;
-    workspace.references[3] = 32767;
-    workspace.references[4] = 32769;
+    workspace.references.set(2, 32766 + 2);
+    workspace.references.set(3, 32767);
+    workspace.references.set(4, 32769);
     workspace.kinds[3] = 8;
     workspace.kinds[4] = 8;
     workspace.kinds[5] = 8;
-    workspace.references[5] = 32767 + 2;
-    workspace.references[6] = 32769;
-    workspace.references[7] = 32767;
+    workspace.references.set(5, 32767 + 2);
+    workspace.references.set(6, 32769);
+    workspace.references.set(7, 32767);
     workspace.kinds[6] = 5;
     workspace.kinds[7] = 8;
     workspace.marked[7] = true;

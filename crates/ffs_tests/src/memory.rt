@@ -1,4 +1,4 @@
-//! Each request of a run for memory refused in turn, and words that are 0 until they are set.
+//! Each request of a run for memory refused in turn, and lists that are touched as far as they are set.
 
 use super::layout::base;
 use ffs_check::args::Args;
@@ -75,6 +75,28 @@ fn bits_claimed_once(rt: HostRuntime) -> Result<(), Fail> {
     assert!(rt; words.claim(700, 24));
     assert_eq!(rt; words.get(699), 0);
     assert_eq!(rt; words.get(700), 24);
+    Ok(())
+}
+
+// Numbers are 0 until one is set, and again once the list is filled.
+#[test]
+fn numbers_set_and_filled(rt: HostRuntime) -> Result<(), Fail> {
+    let mut memory = SystemMemory::new(rt.alloc());
+    let mut list = memory.numbers(1000)?;
+    assert_eq!(rt; memory.granted(), 4000);
+    assert_eq!(rt; list.len(), 1000);
+    assert_eq!(rt; list[999], 0);
+    list.set(700, 7);
+    assert_eq!(rt; (list[699], list[700], list[701]), (0, 7, 0));
+    list.set(3, 9);
+    assert_eq!(rt; (list[3], list[700]), (9, 7));
+    list.fill(5);
+    assert_eq!(rt;
+        (list.len(), list[3], list[700], list[999]),
+        (1000, 5, 5, 5)
+    );
+    list.set(1, 2);
+    assert_eq!(rt; (list[0], list[1], list[2]), (5, 2, 5));
     Ok(())
 }
 

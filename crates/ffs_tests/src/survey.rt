@@ -1,7 +1,12 @@
 //! A small volume: directory 3 below the root, with the file 4, and directories 5 and 6 that name each other.
+ghost use Rattle.std.specs.Prelude.{◌≡◌, IfOk, vec_len};
+
 use ffs_image::ImageFault;
+use ffs_memory::{FilledList, Memory, SystemMemory};
 use ffs_survey::{Directories, Named, is_dead, is_dir, is_suspect, is_unref, mark_leaders, survey};
 use ffs_volume::Role;
+use std::alloc::{AllocError, Global};
+use std::test::Fail;
 
 /// Four entries for each of eight inodes. It reports nothing of an image.
 #[derive(Drop)]
@@ -108,10 +113,24 @@ const NAMED: [bool; 8] = [false, false, false, true, true, true, true, false];
 
 const REACHED: [bool; 8] = [false, false, true, true, false, false, false, false];
 
+// Where counts start that continue from what the list holds, at most 32769.
+fn starts(alloc: Global) -> Result<FilledList<u64>, AllocError>
+    ensures { IfOk result (λ list. vec_len list ≡ 8) }
+{
+    let mut list = SystemMemory::new(alloc).long_numbers(8)?;
+    list.set(0, 7);
+    list.set(2, 32766);
+    list.set(3, 40000);
+    list.set(4, 1);
+    list.set(5, 2);
+    list.set(6, 3);
+    list.set(7, 4);
+    Ok(list)
+}
+
 #[test]
-fn surveys_a_tree_and_a_cycle(rt: HostRuntime) {
-    // Counts continue from what the list holds, at most 32769.
-    let mut references = [7, 0, 32766, 40000, 1, 2, 3, 4];
+fn surveys_a_tree_and_a_cycle(rt: HostRuntime) -> Result<(), Fail> {
+    let mut references = starts(rt.alloc())?;
     let mut named = [true; 8];
     let mut reached = [true; 8];
     let mut parents = [7; 8];
@@ -129,13 +148,16 @@ fn surveys_a_tree_and_a_cycle(rt: HostRuntime) {
         &mut queue,
     );
     assert!(rt; answer.is_ok());
-    assert_eq!(rt; references, [7, 0, 32769, 32771, 2, 5, 6, 4]);
+    for (number, count) in [7, 0, 32769, 32771, 2, 5, 6, 4].into_iter().enumerate() {
+        assert_eq!(rt; references[number], count);
+    }
     assert_eq!(rt; parents, PARENTS);
     assert_eq!(rt; (named, reached), (NAMED, REACHED));
     assert_eq!(rt;
         calm,
         [false, false, true, false, false, false, false, false]
     );
+    Ok(())
 }
 
 // The least number of each cycle leads it: the root's own, and that of 5 and 6.

@@ -9,7 +9,7 @@ ghost use Rattle.ffs_volume.specs.Report.Memory.{held_limit};
 use crate::table::Table;
 use ffs_layout::Geometry;
 use ffs_maps::FragmentMap;
-use ffs_memory::{FixedList, Memory, SystemMemory};
+use ffs_memory::{FilledList, FixedList, Memory, SystemMemory};
 use ffs_walk::{Blocks, Window};
 use std::alloc::{AllocError, Global};
 
@@ -44,9 +44,9 @@ pub struct Workspace {
     /// The directories that represent their cycle of parents: the least of each.
     pub leaders: FixedList<bool>,
     /// How many entries refer to each inode, counted on from `links_start`.
-    pub references: FixedList<u64>,
+    pub references: FilledList<u64>,
     /// How many fragments an inode keeps whose eleventh duplicate cut it, else 0.
-    pub cut: FixedList<u32>,
+    pub cut: FilledList<u32>,
     /// The parent of each directory, or 0.
     pub parents: FixedList<u32>,
     /// The directories of one level below the root, and of the next.
@@ -90,7 +90,7 @@ impl Workspace {
         let duplicates = FragmentMap::in_memory(memory, geometry.layout.size)?;
         let kinds = memory.bytes(inodes)?;
         let (marked, named, reached, leaders) = four_flags(memory, inodes)?;
-        let references = memory.long_words(inodes)?;
+        let references = memory.long_numbers(inodes)?;
         let (cut, parents, queue) = three_words(memory, inodes)?;
         let windows = Windows::in_memory(memory, geometry)?;
         Ok(Workspace {
@@ -192,13 +192,13 @@ fn four_flags<M: Memory>(memory: &mut M, n: usize) -> Result<Flags, AllocError>
 }
 
 // Three lists with a word for each inode.
-type Words = (FixedList<u32>, FixedList<u32>, FixedList<u32>);
+type Words = (FilledList<u32>, FixedList<u32>, FixedList<u32>);
 
 fn three_words<M: Memory>(memory: &mut M, n: usize) -> Result<Words, AllocError>
     ensures lists { IfOk result (λ p. IsFilled n 0 p.0 × IsFilled n 0 p.1 × IsFilled n 0 p.2) }
     ensures asks { Asks (M.account memory.old) (M.account memory.new) (12 * n) result }
 {
-    let first = memory.words(n)?;
+    let first = memory.numbers(n)?;
     let second = memory.words(n)?;
     let third = memory.words(n)?;
     Ok((first, second, third))

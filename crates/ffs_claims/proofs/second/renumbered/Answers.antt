@@ -1,5 +1,8 @@
 use Rattle.std.proofs.Common.{rules, ◌≡◌, arith, ap, ◌∙◌, List, ℕ}
-use Rattle.std.specs.Prelude.{slice_index}
+use Rattle.std.specs.Prelude.{◌<◌, slice_index, slice_index_or, vec_len}
+use Rattle.std.specs.declared.vec.Vec.{Vec}
+use Rattle.std.specs.declared.alloc.Global.{Global}
+use Rattle.std.proofs.lemmas.Grind.{get_or_default_zero}
 use Rattle.std.proofs.lemmas.Result.{err_from_is_err_and}
 use Rattle.ffs_volume.specs.declared.Inode.{Inode}
 use Rattle.ffs_volume.specs.Blocks.BlockCheck.{first_offer_lines}
@@ -15,6 +18,11 @@ use Rattle.ffs_workspace.proofs.Readiness.{ready_table}
 use Rattle.ffs_claims.proofs.Rewalks.{rewalked_from}
 use Rattle.ffs_claims.specs.SecondLook.{Rewalked}
 use Rattle.ffs_claims.proofs.second.renumbered.Goals as goal
+
+-- a number of a list, where the list has it
+get_at : (list : Vec ℕ Global) (i x : ℕ) → x ≡ slice_index_or list.items i x → i < vec_len list →
+    x ≡ slice_index list.items i
+get_at list i x e inside = e ∙ get_or_default_zero list.items i x (omega (arith, inside, list.ok.0))
 
 pub inode-requires : goal.inode-requires
 inode-requires g c =
@@ -65,14 +73,15 @@ returns g c = record {
       let d = bits_of c.args.workspace.now.duplicates in
       reports_same (Unit {0}) _
       (λ bytes. of_lines (first_offer_lines d
-      (offers_again v n (rescan (slice_index c.as_slice.result.now c.args.number))
+      (offers_again v n (rescan c.index-cut.result.now)
       (steps_of v c.in_ok-inode.inode bytes))))
       (λ bytes. of_lines (first_offer_lines d
       (offers_again v n (rescan (slice_index c.args.workspace.now.cut.items n))
       (steps_of v (inode_of v bytes n) bytes)))) _ _ c.rewalk.result
       (λ bytes t. ap (λ (k : ℕ). of_lines
       (first_offer_lines d (offers_again v n (rescan k) (steps_of v c.in_ok-inode.inode bytes))))
-      (ap (λ (cuts : List ℕ). slice_index cuts c.args.number) c.as_slice.ensures.value)
+      (get_at c.args.workspace.now.cut c.args.number c.index-cut.result.now c.index-cut.ensures
+      (omega (arith, c.requires.can.ready.made.cut, c.requires.can.number_fits)))
       ∙ ap (λ (i : Inode). of_lines
       (first_offer_lines d (offers_again v n (rescan (slice_index c.args.workspace.now.cut.items n))
       (steps_of v i bytes)))) (c.in_ok-inode.ensures.inode bytes t))
@@ -83,10 +92,11 @@ returns g c = record {
       let n = c.args.number in
       let w = c.args.workspace.now in
       let i = c.in_ok-inode.inode in
-      let cut : slice_index c.as_slice.result.now c.args.number ≡ slice_index c.args.workspace.now.cut.items
-      c.args.number = ap (λ (cuts : List ℕ). slice_index cuts c.args.number) c.as_slice.ensures.value in
+      let cut : c.index-cut.result.now ≡ slice_index c.args.workspace.now.cut.items c.args.number =
+      get_at c.args.workspace.now.cut c.args.number c.index-cut.result.now c.index-cut.ensures
+      (omega (arith, c.requires.can.ready.made.cut, c.requires.can.number_fits)) in
       ok_where c.rewalk.result _ _
-      (λ bytes. Rewalked v n (slice_index c.as_slice.result.now n) (steps_of v c.in_ok-inode.inode bytes)
+      (λ bytes. Rewalked v n c.index-cut.result.now (steps_of v c.in_ok-inode.inode bytes)
       (record c.args.workspace.now { windows = record c.args.workspace.now.windows { table = c.inode.new.self } })
       c.rewalk.new.workspace)
       (λ bytes. Rewalked v n (slice_index c.args.workspace.now.cut.items n) (steps_of v (inode_of v bytes n) bytes)
@@ -97,11 +107,12 @@ returns g c = record {
   runs = λ bytes t.
       let v = c.args.geometry.now.layout in
       let n = c.args.number in
-      let same : runs_again v (rescan (slice_index c.as_slice.result.now c.args.number))
+      let same : runs_again v (rescan c.index-cut.result.now)
       (steps_of v c.in_ok-inode.inode bytes) ≡ runs_again v (rescan (slice_index c.args.workspace.now.cut.items n))
       (steps_of v (inode_of v bytes n) bytes) =
       ap (λ (k : ℕ). runs_again v (rescan k) (steps_of v c.in_ok-inode.inode bytes))
-      (ap (λ (cuts : List ℕ). slice_index cuts c.args.number) c.as_slice.ensures.value)
+      (get_at c.args.workspace.now.cut c.args.number c.index-cut.result.now c.index-cut.ensures
+      (omega (arith, c.requires.can.ready.made.cut, c.requires.can.number_fits)))
       ∙ ap (λ (i : Inode). runs_again v (rescan (slice_index c.args.workspace.now.cut.items n)) (steps_of v i bytes))
       (c.in_ok-inode.ensures.inode bytes t) in
       omega (arith, c.rewalk.ensures.runs bytes (ap (λ d. d.contents) c.in_ok-inode.ensures.read ∙ t), same);

@@ -1,4 +1,4 @@
-use Rattle.std.proofs.Common.{◌∙◌, ap, subst, sym, rules, arith}
+use Rattle.std.proofs.Common.{◌∙◌, ap, refl, subst, sym, rules, arith}
 use Rattle.std.specs.Prelude.{slice_index}
 use Rattle.std.proofs.lemmas.List.{with_items_is}
 use Rattle.ffs_volume.proofs.Sizes.{some_inodes}
@@ -37,18 +37,18 @@ returns-clause-survey g c = on_ok c.survey.result _ _ (λ s b t h.
     let found = s b (record {
       bytes = t;
       kinds = λ x. ap (λ ks. slice_index ks x) c.deref.ensures.value ∙ h.kinds x;
-      cut = λ x. ap (λ ks. slice_index ks x) c.deref-2.ensures.value ∙ h.cut x;
+      cut = h.cut;
     }) in
     let survey = volume_survey (record {
       layout = c.args.geometry.now.layout;
       contents = (g.I.Image.device c.args.image.now).contents;
       kinds = c.deref.result.now;
-      cut = c.deref-2.result.now;
+      cut = w.cut.items;
       image_lent = c.tree-2-1.given;
       windows_lent = c.tree-3-1.given.0;
-    }) b c.deref-3.result.now _ n.references n.named n.reached n.parents (search rules)
-    (λ x. ap (λ ks. slice_index ks x) c.deref-3.ensures.value ∙ h.kinds x) found in
-    holds_survey c.args.geometry.now.layout b _ _ n.references n.named n.reached n.parents
+    }) b c.deref-2.result.now _ n.references.items n.named n.reached n.parents (search rules)
+    (λ x. ap (λ ks. slice_index ks x) c.deref-2.ensures.value ∙ h.kinds x) found in
+    holds_survey c.args.geometry.now.layout b _ _ n.references.items n.named n.reached n.parents
     (with_items_is w.named n.named (search rules))
     (with_items_is w.reached n.reached (search rules)) (with_items_is w.parents n.parents (search rules)) survey)
     c.survey.ensures.survey
@@ -60,19 +60,19 @@ returns-clause-references g c = on_ok c.survey.result _ _ (λ s b t h starts.
     let found = s b (record {
       bytes = t;
       kinds = λ x. ap (λ ks. slice_index ks x) c.deref.ensures.value ∙ h.kinds x;
-      cut = λ x. ap (λ ks. slice_index ks x) c.deref-2.ensures.value ∙ h.cut x;
+      cut = h.cut;
     }) in
     let survey = volume_survey (record {
       layout = c.args.geometry.now.layout;
       contents = (g.I.Image.device c.args.image.now).contents;
       kinds = c.deref.result.now;
-      cut = c.deref-2.result.now;
+      cut = w.cut.items;
       image_lent = c.tree-2-1.given;
       windows_lent = c.tree-3-1.given.0;
-    }) b c.deref-3.result.now _ n.references n.named n.reached n.parents (search rules)
-    (λ x. ap (λ ks. slice_index ks x) c.deref-3.ensures.value ∙ h.kinds x) found in
-    holds_references c.args.geometry.now.layout b w _ _ n.references n.named n.reached n.parents
-    (search rules) (with_items_is w.references n.references (search rules)) starts survey)
+    }) b c.deref-2.result.now _ n.references.items n.named n.reached n.parents (search rules)
+    (λ x. ap (λ ks. slice_index ks x) c.deref-2.ensures.value ∙ h.kinds x) found in
+    holds_references c.args.geometry.now.layout b w _ _ n.references.items n.named n.reached n.parents
+    (search rules) refl starts survey)
     c.survey.ensures.survey
 
 pub returns-clause-calm : goal.returns-clause-calm
@@ -82,18 +82,18 @@ returns-clause-calm g c = on_ok c.survey.result _ _ (λ s b t h.
     let found = s b (record {
       bytes = t;
       kinds = λ x. ap (λ ks. slice_index ks x) c.deref.ensures.value ∙ h.kinds x;
-      cut = λ x. ap (λ ks. slice_index ks x) c.deref-2.ensures.value ∙ h.cut x;
+      cut = h.cut;
     }) in
     let calm = volume_calm (record {
       layout = c.args.geometry.now.layout;
       contents = (g.I.Image.device c.args.image.now).contents;
       kinds = c.deref.result.now;
-      cut = c.deref-2.result.now;
+      cut = w.cut.items;
       image_lent = c.tree-2-1.given;
       windows_lent = c.tree-3-1.given.0;
-    }) b c.deref-3.result.now c.deref-4.result.now n.reached n.parents n.calm found in
-    holds_calm c.args.geometry.now.layout b _ c.deref-3.result.now c.deref-4.result.now n.reached n.parents n.calm
-    (sym c.deref-3.ensures.value) (sym c.deref-4.ensures.value)
+    }) b c.deref-2.result.now c.deref-3.result.now n.reached n.parents n.calm found in
+    holds_calm c.args.geometry.now.layout b _ c.deref-2.result.now c.deref-3.result.now n.reached n.parents n.calm
+    (sym c.deref-2.ensures.value) (sym c.deref-3.ensures.value)
     (with_items_is w.reached n.reached (search rules)) (with_items_is w.parents n.parents (search rules))
     (with_items_is w.leaders n.calm (search rules)) calm)
     c.survey.ensures.calm
@@ -101,7 +101,7 @@ returns-clause-calm g c = on_ok c.survey.result _ _ (λ s b t h.
 pub survey-requires-clause-lists : goal.survey-requires-clause-lists
 survey-requires-clause-lists g c = record {
   some = let k = some_inodes c.args.geometry.now.layout c.args.geometry.now.sound in
-      omega (arith, c.deref-3.ensures.len, c.requires.made.kinds, k);
+      omega (arith, c.deref-2.ensures.len, c.requires.made.kinds, k);
   few = search (rules, arith);
   marked = search (rules, arith);
   references = search (rules, arith);

@@ -1,4 +1,4 @@
-use Rattle.std.proofs.Common.{arith, rules, length}
+use Rattle.std.proofs.Common.{arith, rules, length, ◌∙◌}
 use Rattle.ffs_survey.proofs.Discovered.{level_step}
 use Rattle.ffs_survey.proofs.CalmLaws.{calm_read, comes_stays}
 use Rattle.ffs_survey.proofs.Tally.{dir_counted}
@@ -13,6 +13,7 @@ loop-s-preserved g c =
       ready = search rules;
       base = search rules;
       device = search rules;
+      same_length = done.same_length ∙ inv.same_length;
       grown = λ x l. let old = inv.grown x l in let new = done.found.grown x l in omega (arith, old, new);
       top = let t = done.found.ends in let i = inv.top in omega (arith, t, i);
       comes = λ b k.

@@ -1,4 +1,4 @@
-use Rattle.std.proofs.Common.{◌≡◌, ℕ, ◌+◌, ◌*◌, ◌<◌, ◌≤◌, ◌^◌, List, length, take, drop, [], All}
+use Rattle.std.proofs.Common.{◌≡◌, ℕ, ◌+◌, ◌*◌, ◌<◌, ◌≤◌, ◌^◌, List, length, vec_len, take, drop, [], All}
 use Rattle.ffs_survey.specs.Survey.{number_at, graph_with}
 use Rattle.ffs_survey.specs.Discover.{Comes, IsReachedDir, Counts, from_dirs, unset, count_of, any_of}
 use Rattle.ffs_survey.specs.Calm.{AreCalm}
@@ -9,7 +9,8 @@ invariant-loop-s g l = record {
   ready : g.D.Directories.ready l.directories;
   base : g.D.Directories.base l.directories ≡ g.D.Directories.base l.fn.directories;
   device : g.D.Directories.device l.directories ≡ g.D.Directories.device l.fn.directories;
-  grown : (x : ℕ) → x < length l.kinds → number_at l.references x ≤ number_at l.fn.references x + l.s-index * 2 ^ 28;
+  same_length : vec_len l.references ≡ vec_len l.fn.references;
+  grown : (x : ℕ) → x < length l.kinds → number_at l.references.items x ≤ number_at l.fn.references.items x + l.s-index * 2 ^ 28;
   top : l.top + unset l.reached ≡ unset l.fn.reached;
   comes : (b : List ℕ) → g.D.Directories.knows (g.D.Directories.base l.fn.directories) b →
       Comes (from_dirs (graph_with l.kinds (g.D.Directories.entries (g.D.Directories.base l.fn.directories) b))
@@ -20,11 +21,11 @@ invariant-loop-s g l = record {
       Counts (length l.kinds) (count_of
       (graph_with l.kinds (g.D.Directories.entries (g.D.Directories.base l.fn.directories) b)) l.frontier)
       (any_of (graph_with l.kinds (g.D.Directories.entries (g.D.Directories.base l.fn.directories) b)) l.frontier)
-      l.fn.references l.fn.named
+      l.fn.references.items l.fn.named
       (count_of (graph_with l.kinds (g.D.Directories.entries (g.D.Directories.base l.fn.directories) b))
       (drop l.s-index l.frontier))
       (any_of (graph_with l.kinds (g.D.Directories.entries (g.D.Directories.base l.fn.directories) b))
-      (drop l.s-index l.frontier)) l.references l.named;
+      (drop l.s-index l.frontier)) l.references.items l.named;
   still : (b : List ℕ) → g.D.Directories.knows (g.D.Directories.base l.fn.directories) b →
       All (IsReachedDir l.kinds l.reached) l.frontier;
   calm : (b : List ℕ) → g.D.Directories.knows (g.D.Directories.base l.fn.directories) b →

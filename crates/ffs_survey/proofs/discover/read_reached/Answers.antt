@@ -21,10 +21,11 @@ loop-entry-preserved g c =
       ready = search rules;
       base = search rules;
       device = search rules;
+      same_length = c.count_entry.ensures.same_length ∙ inv.same_length;
       left = let l = inv.left in omega (arith, l, fell);
       grown = λ x l.
           let old = inv.grown x l in
-          let new = c.count_entry.ensures.references x l in
+          let new = c.count_entry.ensures.counted.references x l in
           let one = bit-le (refers x e) in
           omega (arith, old, new, one, fell);
       counted = let n = inv.counted in omega (arith, n, fell);
@@ -35,9 +36,9 @@ loop-entry-preserved g c =
           (take c.loop-entry.high c.loop-entry.queue) _
           (rw (cut b k) at (inv.comes b k)) c.visit-high.ensures.comes;
       counts = λ b k.
-          entry_counted (length c.args.kinds.now) _ _ e (g.D.Directories.rest c.next.new.self b) c.args.references.now
-          c.loop-entry.references _ c.args.named.now c.loop-entry.named _
-          (rw (cut b k) at (inv.counts b k)) c.count_entry.ensures.references c.count_entry.ensures.named;
+          entry_counted (length c.args.kinds.now) _ _ e (g.D.Directories.rest c.next.new.self b) c.args.references.now.items
+          c.loop-entry.references.items _ c.args.named.now c.loop-entry.named _
+          (rw (cut b k) at (inv.counts b k)) c.count_entry.ensures.counted.references c.count_entry.ensures.counted.named;
       quiet = λ b k.
           calm_step (record {
             kinds = c.args.kinds.now;

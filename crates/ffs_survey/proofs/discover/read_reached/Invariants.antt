@@ -1,4 +1,4 @@
-use Rattle.std.proofs.Common.{◌≡◌, ℕ, ◌+◌, ◌<◌, ◌≤◌, ◌^◌, List, length, take, ◌&&◌}
+use Rattle.std.proofs.Common.{◌≡◌, ℕ, ◌+◌, ◌<◌, ◌≤◌, ◌^◌, List, length, vec_len, take, ◌&&◌}
 use Rattle.ffs_survey.specs.Survey.{number_at, bool_at}
 use Rattle.ffs_survey.specs.Discover.{Comes, Counts, from_entries, unset, count_in, any_in}
 use Rattle.ffs_survey.specs.Calm.{are_calm}
@@ -9,9 +9,10 @@ invariant-loop-entry g l = record {
   ready : g.D.Directories.ready l.directories;
   base : g.D.Directories.base l.directories ≡ g.D.Directories.base l.fn.directories;
   device : g.D.Directories.device l.directories ≡ g.D.Directories.device l.fn.directories;
+  same_length : vec_len l.references ≡ vec_len l.fn.references;
   left : g.D.Directories.left l.directories ≤ 2 ^ 28;
-  grown : (x : ℕ) → x < length l.kinds → number_at l.references x + g.D.Directories.left l.directories ≤ number_at
-      l.fn.references x + 2 ^ 28;
+  grown : (x : ℕ) → x < length l.kinds → number_at l.references.items x + g.D.Directories.left l.directories ≤ number_at
+      l.fn.references.items x + 2 ^ 28;
   counted : l.count + g.D.Directories.left l.directories ≤ 2 ^ 28;
   high : l.high + unset l.reached ≡ l.top + unset l.fn.reached;
   comes : (b : List ℕ) → g.D.Directories.knows (g.D.Directories.base l.fn.directories) b →
@@ -20,8 +21,8 @@ invariant-loop-entry g l = record {
       (from_entries l.kinds l.from (g.D.Directories.rest l.directories b)) l.reached l.parents (take l.high l.queue);
   counts : (b : List ℕ) → g.D.Directories.knows (g.D.Directories.base l.fn.directories) b →
       Counts (length l.kinds) (count_in (g.D.Directories.entries (g.D.Directories.base l.fn.directories) b l.from))
-      (any_in (g.D.Directories.entries (g.D.Directories.base l.fn.directories) b l.from)) l.fn.references l.fn.named
-      (count_in (g.D.Directories.rest l.directories b)) (any_in (g.D.Directories.rest l.directories b)) l.references
+      (any_in (g.D.Directories.entries (g.D.Directories.base l.fn.directories) b l.from)) l.fn.references.items l.fn.named
+      (count_in (g.D.Directories.rest l.directories b)) (any_in (g.D.Directories.rest l.directories b)) l.references.items
       l.named;
   quiet : (b : List ℕ) → g.D.Directories.knows (g.D.Directories.base l.fn.directories) b →
       (l.quiet && are_calm (record { kinds = l.kinds; marked = l.marked; dir = l.from; above = l.above })

@@ -1,4 +1,4 @@
-use Rattle.std.proofs.Common.{arith, rules, ◌≡◌, ◌∷◌, ◌<◌, List, ℕ, length}
+use Rattle.std.proofs.Common.{arith, ◌∙◌, rules, ◌≡◌, ◌∷◌, ◌<◌, List, ℕ, length}
 use Rattle.ffs_volume.specs.Directories.Roles.{RoledEntry, refers}
 use Rattle.ffs_volume.specs.Directories.Graph.{is_naming_entry}
 use Rattle.ffs_survey.specs.Reading.{roled_of}
@@ -21,16 +21,17 @@ loop-entry-preserved g c =
       ready = search rules;
       base = search rules;
       device = search rules;
+      same_length = c.count_entry.ensures.same_length ∙ inv.same_length;
       left = let l = inv.left in omega (arith, l, fell);
       grown = λ x l.
           let old = inv.grown x l in
-          let new = c.count_entry.ensures.references x l in
+          let new = c.count_entry.ensures.counted.references x l in
           let one = bit-le (refers x e) in
           omega (arith, old, new, one, fell);
       counts = λ b k.
-          entry_counted (length c.args.kinds.now) _ _ e (g.D.Directories.rest c.next.new.self b) c.args.references.now
-          c.loop-entry.references _ c.args.named.now c.loop-entry.named _
-          (rw (cut b k) at (inv.counts b k)) c.count_entry.ensures.references c.count_entry.ensures.named;
+          entry_counted (length c.args.kinds.now) _ _ e (g.D.Directories.rest c.next.new.self b) c.args.references.now.items
+          c.loop-entry.references.items _ c.args.named.now c.loop-entry.named _
+          (rw (cut b k) at (inv.counts b k)) c.count_entry.ensures.counted.references c.count_entry.ensures.counted.named;
       parents = λ b k x l.
           parent_step (is_free c.args.kinds.now c.args.reached.now x) (is_naming_entry x e)
           (any_in (g.D.Directories.rest c.next.new.self b) x) c.args.from (number_at c.loop-entry.parents x) _ _

@@ -13,6 +13,7 @@ loop-low-init g c = record {
   ready = search rules;
   base = search rules;
   device = search rules;
+  same_length = refl;
   lengths = omega (arith, length-set c.args.reached.now 2 true);
   room = record {
     ordered = omega arith;
@@ -39,7 +40,7 @@ loop-low-init g c = record {
       record { depth = 0; at = start };
   counts = λ b k. none_counted
       (graph_with c.args.kinds.now (g.D.Directories.entries (g.D.Directories.base c.args.directories.now) b))
-      c.args.references.now c.args.named.now c.requires.begins.named;
+      c.args.references.now.items c.args.named.now c.requires.begins.named;
   calm = λ b k. calm_none c.args.kinds.now c.args.marked.now _ _ _ _ c.args.calm.now c.requires.begins.calm;
 }
 
@@ -52,6 +53,7 @@ loop-low-preserved g c =
       ready = search rules;
       base = search rules;
       device = search rules;
+      same_length = done.same_length ∙ inv.same_length;
       lengths = let l = inv.lengths in omega (arith, l);
       room = done.level.room;
       levels = λ b k. let before = inv.levels b k in
@@ -59,7 +61,7 @@ loop-low-preserved g c =
       counts = λ b k.
           counted_on (graph_with c.args.kinds.now
           (g.D.Directories.entries (g.D.Directories.base c.args.directories.now) b)) c.loop-low.low c.loop-low.high
-          c.loop-low.queue _ c.args.references.now c.loop-low.references _ c.loop-low.named _
+          c.loop-low.queue _ c.args.references.now.items c.loop-low.references.items _ c.loop-low.named _
           inv.room.ordered done.level.kept (inv.counts b k) (read b k).counts;
       calm = λ b k. (read b k).calm (inv.calm b k);
     }
@@ -74,12 +76,12 @@ returns-clause-read g c = λ b k.
     let at = inv.levels b k in
     let F : List ℕ → Type 0 = λ xs. IsFrontier v at.depth xs in
     record {
-      part = reached_part c.args.kinds.now es at.depth c.args.references.now c.loop-low.references
+      part = reached_part c.args.kinds.now es at.depth c.args.references.now.items c.loop-low.references.items
           c.loop-low.named c.loop-low.reached c.loop-low.parents (take c.loop-low.high c.loop-low.queue) inv.lengths
           (sane_of c.args.kinds.now es c.requires.lists.some)
           (subst F (no_front c.loop-low.low c.loop-low.high c.loop-low.queue c.loop-low-test.false)
           at.at.frontier) at.at.levels
-          (subst (λ n. IsCount v (take n c.loop-low.queue) c.args.references.now c.loop-low.references
+          (subst (λ n. IsCount v (take n c.loop-low.queue) c.args.references.now.items c.loop-low.references.items
           c.loop-low.named) same (inv.counts b k));
       calm = inv.calm b k;
     }
@@ -88,7 +90,7 @@ pub returns-then-not-is_dir-clause-read : goal.returns-then-not-is_dir-clause-re
 returns-then-not-is_dir-clause-read g c = λ b k.
     let es = g.D.Directories.entries (g.D.Directories.base c.args.directories.now) b in
     record {
-      part = alone_part c.args.kinds.now es c.args.references.now c.args.references.now c.args.named.now
+      part = alone_part c.args.kinds.now es c.args.references.now.items c.args.references.now.items c.args.named.now
           (set c.args.reached.now 2 true) (set c.args.parents.now 2 2)
           (omega (arith, length-set c.args.reached.now 2 true))
           (sane_of c.args.kinds.now es c.requires.lists.some) (sym c.is_dir.ensures ∙ c.if-not-is_dir.true)

@@ -1,4 +1,4 @@
-use Rattle.std.proofs.Common.{◌≡◌, ℕ, ◌-◌, List, length, take}
+use Rattle.std.proofs.Common.{◌≡◌, ℕ, ◌-◌, List, length, take, vec_len}
 use Rattle.ffs_survey.specs.Survey.{graph_with}
 use Rattle.ffs_survey.specs.Discover.{HasRoomForLevel, AtSomeLevel, IsCount}
 use Rattle.ffs_survey.specs.Calm.{AreCalm}
@@ -9,14 +9,15 @@ invariant-loop-low g l = record {
   ready : g.D.Directories.ready l.directories;
   base : g.D.Directories.base l.directories ≡ g.D.Directories.base l.fn.directories;
   device : g.D.Directories.device l.directories ≡ g.D.Directories.device l.fn.directories;
+  same_length : vec_len l.references ≡ vec_len l.fn.references;
   lengths : length l.reached ≡ length l.kinds;
-  room : HasRoomForLevel l.low l.high l.references l.reached l.queue;
+  room : HasRoomForLevel l.low l.high l.references.items l.reached l.queue;
   levels : (b : List ℕ) → g.D.Directories.knows (g.D.Directories.base l.fn.directories) b →
       AtSomeLevel (graph_with l.kinds (g.D.Directories.entries (g.D.Directories.base l.fn.directories) b)) l.low
       l.high l.reached l.parents l.queue;
   counts : (b : List ℕ) → g.D.Directories.knows (g.D.Directories.base l.fn.directories) b →
       IsCount (graph_with l.kinds (g.D.Directories.entries (g.D.Directories.base l.fn.directories) b))
-      (take l.low l.queue) l.fn.references l.references l.named;
+      (take l.low l.queue) l.fn.references.items l.references.items l.named;
   calm : (b : List ℕ) → g.D.Directories.knows (g.D.Directories.base l.fn.directories) b →
       AreCalm l.kinds l.marked l.reached l.parents (g.D.Directories.entries (g.D.Directories.base l.fn.directories) b)
       (g.D.Directories.sound (g.D.Directories.base l.fn.directories) b) l.calm;

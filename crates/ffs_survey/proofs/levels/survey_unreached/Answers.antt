@@ -1,4 +1,4 @@
-use Rattle.std.proofs.Common.{rules, arith, sym, ◌∙◌}
+use Rattle.std.proofs.Common.{rules, arith, refl, sym, ◌∙◌}
 use Rattle.ffs_survey.specs.Survey.{graph_with}
 use Rattle.ffs_survey.proofs.Whole.{read_start, read_on, read_skip}
 use Rattle.ffs_survey.proofs.levels.survey_unreached.Goals as goal
@@ -8,10 +8,11 @@ loop-s-init g c = record {
   ready = search rules;
   base = search rules;
   device = search rules;
+  same_length = refl;
   grown = λ x l. omega arith;
   read = λ b k z. read_start
       (graph_with c.args.kinds.now (g.D.Directories.entries (g.D.Directories.base c.args.directories.now) b))
-      c.args.kinds.now c.args.reached.now c.args.references.now c.args.named.now c.args.parents.now;
+      c.args.kinds.now c.args.reached.now c.args.references.now.items c.args.named.now c.args.parents.now;
 }
 
 pub loop-s-preserved-then-not-is_free : goal.loop-s-preserved-then-not-is_free
@@ -21,6 +22,7 @@ loop-s-preserved-then-not-is_free g c =
       ready = search rules;
       base = inv.base;
       device = inv.device;
+      same_length = inv.same_length;
       grown = λ x l. let o = inv.grown x l in omega (arith, o);
       read = λ b k z. read_skip c.args.kinds.now
           (g.D.Directories.entries (g.D.Directories.base c.args.directories.now) b) c.args.reached.now c.loop-s.s _ _ _
@@ -36,6 +38,7 @@ loop-s-preserved g c =
       ready = search rules;
       base = search rules;
       device = search rules;
+      same_length = done.same_length ∙ inv.same_length;
       grown = λ x l. let o = inv.grown x l in let n = done.grown x l in omega (arith, o, n);
       read = λ b k z.
           read_on c.args.kinds.now (g.D.Directories.entries (g.D.Directories.base c.args.directories.now) b)

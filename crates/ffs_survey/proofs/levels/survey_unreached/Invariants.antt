@@ -1,4 +1,4 @@
-use Rattle.std.proofs.Common.{◌≡◌, ℕ, ◌+◌, ◌*◌, ◌<◌, ◌≤◌, ◌^◌, List, length}
+use Rattle.std.proofs.Common.{◌≡◌, ℕ, ◌+◌, ◌*◌, ◌<◌, ◌≤◌, ◌^◌, List, length, vec_len}
 use Rattle.ffs_survey.specs.Survey.{number_at, graph_with}
 use Rattle.ffs_survey.specs.Discover.{IsBlank, IsRead}
 use Rattle.ffs_survey.proofs.levels.survey_unreached.Given as goal
@@ -8,9 +8,10 @@ invariant-loop-s g l = record {
   ready : g.D.Directories.ready l.directories;
   base : g.D.Directories.base l.directories ≡ g.D.Directories.base l.fn.directories;
   device : g.D.Directories.device l.directories ≡ g.D.Directories.device l.fn.directories;
-  grown : (x : ℕ) → x < length l.kinds → number_at l.references x ≤ number_at l.fn.references x + l.s * 2 ^ 28;
+  same_length : vec_len l.references ≡ vec_len l.fn.references;
+  grown : (x : ℕ) → x < length l.kinds → number_at l.references.items x ≤ number_at l.fn.references.items x + l.s * 2 ^ 28;
   read : (b : List ℕ) → g.D.Directories.knows (g.D.Directories.base l.fn.directories) b →
       IsBlank l.kinds l.reached l.fn.parents →
       IsRead (graph_with l.kinds (g.D.Directories.entries (g.D.Directories.base l.fn.directories) b)) l.kinds l.reached
-      l.s l.fn.references l.fn.named l.fn.parents l.references l.named l.parents;
+      l.s l.fn.references.items l.fn.named l.fn.parents l.references.items l.named l.parents;
 }

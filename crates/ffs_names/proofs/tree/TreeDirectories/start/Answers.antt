@@ -1,5 +1,6 @@
-use Rattle.std.proofs.Common.{rules, ◌∙◌, ◌<◌, ap, sym, subst, []}
+use Rattle.std.proofs.Common.{rules, ◌∙◌, ◌≡◌, ◌<◌, ap, arith, length, sym, subst, []}
 use Rattle.std.specs.Prelude.{if◌then◌else◌, ◌&&◌, slice_index}
+use Rattle.std.proofs.lemmas.Grind.{common_steps, get_or_default_zero}
 use Rattle.ffs_volume.specs.declared.Inode.{Inode}
 use Rattle.ffs_volume.specs.Blocks.Inodes.{inode_of, class_of}
 use Rattle.ffs_volume.specs.Directories.Roles.{roled_entries}
@@ -46,12 +47,15 @@ returns-clause-rest g c = λ b k.
     ∙ (sym c.is_dir.ensures ∙ c.if-not-is_dir.false) in
     let is = dir_is v b c.args.dir dir in
     let inode = c.in_ok-inode.ensures.inode b k.bytes in
+    let inside : c.args.dir < length t.cut.now.items = grind (arith, common_steps) in
+    let cut_is : c.index-cut.result.now ≡ slice_index t.cut.now.items c.args.dir =
+    c.index-cut.ensures ∙ get_or_default_zero t.cut.now.items c.args.dir c.index-cut.result.now inside in
     let begins = rw c.requires.ready.1 at c.restart.ensures.begins in
     let known = sym (ap (class_of v) inode ∙ is.1) in
     (begins known).entries b
     (subst (λ (x : Inode). x.size < 2147483648) (sym inode) (dir_size v (inode_of v b c.args.dir) is.1))
-    ∙ (dir_seen v b c.args.dir c.in_ok-inode.inode (slice_index t.cut.now c.args.dir) t.geometry.sound is.0 inode
-    (k.cut c.args.dir) ∙ sym (ap (λ x. if x then roled_entries (volume_of v b) c.args.dir else []) dir))
+    ∙ (dir_seen v b c.args.dir c.in_ok-inode.inode c.index-cut.result.now t.geometry.sound is.0 inode
+    (cut_is ∙ k.cut c.args.dir) ∙ sym (ap (λ x. if x then roled_entries (volume_of v b) c.args.dir else []) dir))
 
 pub returns-then-not-is_dir-clause-sound : goal.returns-then-not-is_dir-clause-sound
 returns-then-not-is_dir-clause-sound g c = λ b k.
@@ -68,9 +72,12 @@ returns-clause-sound g c = λ b k.
     ∙ (sym c.is_dir.ensures ∙ c.if-not-is_dir.false) in
     let is = dir_is v b c.args.dir dir in
     let inode = c.in_ok-inode.ensures.inode b k.bytes in
+    let inside : c.args.dir < length t.cut.now.items = grind (arith, common_steps) in
+    let cut_is : c.index-cut.result.now ≡ slice_index t.cut.now.items c.args.dir =
+    c.index-cut.ensures ∙ get_or_default_zero t.cut.now.items c.args.dir c.index-cut.result.now inside in
     let begins = rw c.requires.ready.1 at c.restart.ensures.begins in
     let known = sym (ap (class_of v) inode ∙ is.1) in
     (begins known).shape b
     (subst (λ (x : Inode). x.size < 2147483648) (sym inode) (dir_size v (inode_of v b c.args.dir) is.1))
-    ∙ (shape_seen v b c.args.dir c.in_ok-inode.inode (slice_index t.cut.now c.args.dir) t.geometry.sound is.0 inode
-    (k.cut c.args.dir) ∙ sym (ap (λ x. x && is_right_shape (volume_of v b) c.args.dir) dir))
+    ∙ (shape_seen v b c.args.dir c.in_ok-inode.inode c.index-cut.result.now t.geometry.sound is.0 inode
+    (cut_is ∙ k.cut c.args.dir) ∙ sym (ap (λ x. x && is_right_shape (volume_of v b) c.args.dir) dir))

@@ -1,0 +1,18 @@
+use Rattle.std.proofs.Common.{rules, arith, ap, ◌∙◌, ◌∷◌, [], ◌++◌, ◌-◌, vec_len}
+use Rattle.ffs_memory.proofs.Touched.{run_on}
+use Rattle.ffs_memory.proofs.touching.touch_more.Goals as goal
+
+pub loop-rest-preserved : goal.loop-rest-preserved
+loop-rest-preserved g c =
+    let old = c.args.touched.now in
+    let inv = c.loop-rest.invariant in
+    let len = c.push_reserved.ensures.len in
+    record {
+      within = omega (arith, inv.within, len);
+      past = omega (arith, len, c.len.ensures, c.loop-rest-test.true);
+      items = c.push_reserved.ensures.items ∙ ap (λ items. items ++ c.args.rest ∷ []) inv.items
+          ∙ run_on old.items c.args.rest (vec_len c.loop-rest.touched - vec_len old) 1
+          (vec_len c.push_reserved.new.self - vec_len old) (omega (arith, inv.within, len));
+      place = search rules;
+      room = search rules;
+    }

@@ -1,0 +1,43 @@
+-- Lists that hold one value until another is set.
+use Rattle.std.specs.Prelude.{◌≡◌, ◌+◌, ◌++◌, ◌-◌, ℕ, length, replicate, slice_set, vec_capacity, vec_len}
+use Rattle.std.proofs.Common.{ap, sym, ◌∙◌, length-append}
+use Rattle.std.proofs.Math.Nat.{add-sub_of_le, le_refl}
+use Rattle.std.proofs.lemmas.List.{length-replicate}
+use Rattle.std.specs.Vec.{vec_ptr}
+use Rattle.std.specs.declared.vec.Vec.{Vec}
+use Rattle.std.specs.declared.alloc.Global.{Global}
+
+module _ {A : Type 0} where
+  pub length_filled : (touched : Vec A Global) (x : A) →
+      vec_capacity touched ≡ length (touched.items ++ replicate (vec_capacity touched - vec_len touched) x)
+  length_filled touched x =
+      let spare = vec_capacity touched - vec_len touched in
+      sym (length-append touched.items (replicate spare x)
+      ∙ ap (λ n. length touched.items + n) (length-replicate spare x)
+      ∙ ap (λ n. n + spare) (sym touched.ok.0)
+      ∙ add-sub_of_le touched.ok.1)
+
+  -- the elements that are touched, and x in the rest of their memory
+  abbrev pub filled : Vec A Global → A → Vec A Global
+  filled touched x = record {
+    ptr = touched.ptr;
+    len = touched.cap;
+    cap = touched.cap;
+    alloc = touched.alloc;
+    items = touched.items ++ replicate (vec_capacity touched - vec_len touched) x;
+    ok = (length_filled touched x, le_refl touched.cap);
+    small = touched.small;
+  }
+
+  -- the element at an index is set, in the same memory
+  pub record Sets (old new : Vec A Global) (index : ℕ) (x : A) : Type 0 where
+    pub items : new.items ≡ slice_set old.items index x
+    pub len : vec_len new ≡ vec_len old
+    pub place : vec_ptr new ≡ vec_ptr old
+    pub room : vec_capacity new ≡ vec_capacity old
+
+  -- each element is x, and there is as much memory as before
+  pub record Fills (old new : Vec A Global) (x : A) : Type 0 where
+    pub items : new.items ≡ replicate (vec_len old) x
+    pub len : vec_len new ≡ vec_len old
+    pub room : vec_capacity new ≡ vec_capacity old

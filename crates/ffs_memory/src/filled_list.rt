@@ -1,0 +1,89 @@
+// Lists that hold one value until another is set.
+ghost use Rattle.std.specs.Prelude.{◌≡◌, ◌<◌, IfOk, slice_index_or, vec_len};
+ghost use Rattle.ffs_memory.specs.Account.{IsFilled};
+ghost use Rattle.ffs_memory.specs.Filled.{Sets, Fills};
+
+use crate::touching::touch;
+use std::alloc::{AllocError, Global};
+use std::marker::Model;
+use std::ops::Index;
+
+/// A list each of whose elements is one value until another is set. Its memory is taken when it is made, and stays as it
+/// was; what lies after the last element that was set isn't written.
+#[derive(Drop)]
+pub struct FilledList<T> {
+    /// The elements that are touched. They are in memory for all.
+    touched: Vec<T>,
+    /// What each later element is.
+    rest: T,
+}
+
+/// It is seen as a `Vec` of all its elements.
+impl<T> Model for FilledList<T> {
+    ghost use Rattle.std.specs.declared.vec.Vec.{Vec};
+    ghost use Rattle.std.specs.declared.alloc.Global.{Global};
+    ghost use Rattle.ffs_memory.specs.Filled.{filled};
+
+    ghost Value = { Vec T Global };
+
+    ghost view = { λ list. filled list.touched list.rest };
+}
+
+impl<T: Copy> FilledList<T> {
+    /// So many elements, each the same.
+    pub(crate) fn new(alloc: Global, count: usize, value: T) -> Result<FilledList<T>, AllocError>
+        ensures { IfOk result (IsFilled count value) }
+    {
+        let touched = Vec::with_capacity(alloc, count)?;
+        Ok(FilledList {
+            touched,
+            rest: value,
+        })
+    }
+
+    /// How many elements it has.
+    #[inline(always)]
+    pub fn len(&self) -> usize
+        ensures { result ≡ vec_len self.now }
+    {
+        self.touched.capacity()
+    }
+
+    /// Sets the element at an index. The elements up to it are touched, in the memory that was taken.
+    #[inline(always)]
+    pub fn set(&mut self, index: usize, value: T)
+        requires { index < vec_len self.old }
+        ensures { Sets self.old self.new index value }
+    {
+        touch(&mut self.touched, index, self.rest);
+        self.touched[index] = value;
+    }
+
+    /// Sets all elements to one value. None is touched then, and the memory is kept.
+    pub fn fill(&mut self, value: T)
+        ensures { Fills self.old self.new value }
+    {
+        self.touched.clear();
+        self.rest = value;
+    }
+}
+
+impl<T: Copy> Index<usize> for FilledList<T> {
+    type Output = T;
+
+    ghost can_index = { λ list i. i < vec_len list };
+
+    ghost index_gives = { λ list i x. x ≡ slice_index_or list.items i x };
+
+    #[inline(always)]
+    fn index(&self, index: usize) -> &T
+        requires { index < vec_len self.now }
+        ensures { result.now ≡ slice_index_or self.now.items index result.now }
+    {
+        if index < self.touched.len() {
+            &self.touched[index]
+        } else {
+            &self.rest
+        }
+    }
+}

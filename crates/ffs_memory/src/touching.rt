@@ -1,0 +1,25 @@
+// The elements of a list that are written.
+ghost use Rattle.std.specs.Prelude.{◌<◌, vec_capacity};
+ghost use Rattle.ffs_memory.specs.Words.{Touches};
+
+// Touches the elements up to an index: each that wasn't touched is `rest`, in the memory that was taken.
+#[inline(always)]
+pub(crate) fn touch<T: Copy>(touched: &mut Vec<T>, index: usize, rest: T)
+    requires { index < vec_capacity touched.old }
+    ensures { Touches touched.old touched.new index rest }
+{
+    if touched.len() <= index {
+        touch_more(touched, index, rest);
+    }
+}
+
+// The same. It isn't inlined, since nearly every element that is asked for is touched already.
+#[inline(never)]
+fn touch_more<T: Copy>(touched: &mut Vec<T>, index: usize, rest: T)
+    requires { index < vec_capacity touched.old }
+    ensures { Touches touched.old touched.new index rest }
+{
+    while touched.len() <= index {
+        touched.push_reserved(rest);
+    }
+}
