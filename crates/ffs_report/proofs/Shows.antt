@@ -1,9 +1,11 @@
 -- How bytes are shown run by run: `from` is where the run begins that has not gone out yet.
-use Rattle.std.proofs.Common.{◌≡◌, ◌∙◌, ◌+◌, ◌-◌, ◌<◌, ℕ, List, [], ◌∷◌, ◌++◌, length, take, drop, get_or, map, refl}
+use Rattle.std.proofs.Common.{◌≡◌, ◌∙◌, ◌+◌, ◌-◌, ◌<◌, ◌≤◌, ◌||◌, ℕ, List, [], ◌∷◌, ◌++◌, length, take, drop, get_or, map, refl}
 use Rattle.std.proofs.Common.{sym, ap, subst, arith, append_assoc, true, false, Bool, if◌then◌else◌, Result}
 use Rattle.std.specs.List.{list_any}
 use Rattle.std.proofs.lemmas.Bool.{or_parts}
-use Rattle.std.proofs.lemmas.List.{take-append-drop, take_all, map-append, map_more}
+use Rattle.std.proofs.lemmas.List.{take-append-drop, take_all, length-drop, map-append, map_more}
+use Rattle.std.proofs.lemmas.List.Folds.{list_any-append}
+use Rattle.std.proofs.Math.Seq.{take-add}
 use Rattle.ffs_volume.specs.Messages.Shown.{is_control, shown}
 use Rattle.ffs_report.specs.Sink.{Sink, Took, BrokeOff, Prints}
 use Rattle.ffs_report.proofs.Sinks.{broke_off_after, broke_off_more, prints_then}
@@ -58,3 +60,26 @@ pub shown_all : {T E : Type 0} (a b c : Sink) (bytes : List ℕ) (from : ℕ) (r
 shown_all a b c bytes from r e p q =
     subst (λ (xs : List ℕ). Prints a c xs r) (sym e ∙ ap (map shown) (take_all (length bytes) bytes (omega arith)))
     (prints_then a b c (map shown (take from bytes)) (run bytes from (length bytes)) r p q)
+
+or_overlap : (a b c : Bool) → ((a || b) || (b || c)) ≡ (a || (b || c))
+or_overlap true b c = refl
+or_overlap false true c = refl
+or_overlap false false c = refl
+
+-- a test of two parts that overlap is a test of all
+pub any_overlap : (p : ℕ → Bool) (xs : List ℕ) (m k : ℕ) → k ≤ m → m ≤ length xs →
+    (list_any p (take m xs) || list_any p (take (length xs - k) (drop k xs))) ≡ list_any p xs
+any_overlap p xs m k le within =
+    let middle = take (m - k) (drop k xs) in
+    let rest = drop (m - k) (drop k xs) in
+    let e : k + (m - k) ≡ m = omega arith in
+    let rest_all : take (length xs - k) (drop k xs) ≡ drop k xs =
+    take_all (length xs - k) (drop k xs) (omega (arith, length-drop k xs)) in
+    let front : list_any p (take m xs) ≡ (list_any p (take k xs) || list_any p middle) =
+    ap (list_any p) (subst (λ (n : ℕ). take n xs ≡ take k xs ++ middle) e (take-add k (m - k) xs))
+    ∙ list_any-append p (take k xs) middle in
+    let back : list_any p (drop k xs) ≡ (list_any p middle || list_any p rest) =
+    ap (list_any p) (sym (take-append-drop (m - k) (drop k xs))) ∙ list_any-append p middle rest in
+    let all : list_any p xs ≡ (list_any p (take k xs) || list_any p (drop k xs)) =
+    ap (list_any p) (sym (take-append-drop k xs)) ∙ list_any-append p (take k xs) (drop k xs) in
+    rw (rest_all, front, back, all, back) (or_overlap (list_any p (take k xs)) (list_any p middle) (list_any p rest))

@@ -192,12 +192,12 @@ pub fn print_directory<W: Output>(out: &mut W, line: &DirectoryLine<'_>) -> Resu
     ensures { Prints (W.sink out.old) (W.sink out.new) (tree_message_text
         (directory_message line.now)) result }
 {
-    match *line {
+    match line {
         DirectoryLine::RootNone => print(out, ROOT_NONE),
         DirectoryLine::RootNotDir => print(out, ROOT_NOT_DIR),
         DirectoryLine::RootSuspect => print(out, ROOT_SUSPECT),
-        DirectoryLine::DirShort { attr, path } => print_dir(out, DIR_SHORT, &attr, path, FIX),
-        DirectoryLine::DirLength { path, size } => print_length(out, path, size),
+        DirectoryLine::DirShort { attr, path } => print_dir(out, DIR_SHORT, attr, path, FIX),
+        DirectoryLine::DirLength { path, size } => print_length(out, path, *size),
         DirectoryLine::DirEmpty { path } => print_pieces(
             out,
             &[
@@ -209,7 +209,7 @@ pub fn print_directory<W: Output>(out: &mut W, line: &DirectoryLine<'_>) -> Resu
         DirectoryLine::DirCorrupt { attr, path } => print_dir(
             out,
             DIR_CORRUPT,
-            &attr,
+            attr,
             path,
             SALVAGE,
         ),
@@ -221,31 +221,31 @@ pub fn print_dot<W: Output>(out: &mut W, line: &DotLine<'_>) -> Result<(), OutFa
     ensures { Prints (W.sink out.old) (W.sink out.new) (tree_message_text
         (dot_message line.now)) result }
 {
-    match *line {
-        DotLine::MissingDot { attr, path } => print_dir(out, MISSING_DOT, &attr, path, FIX),
+    match line {
+        DotLine::MissingDot { attr, path } => print_dir(out, MISSING_DOT, attr, path, FIX),
         DotLine::MissingDotFirst { attr, path, name } => print_in_the_way(
             out,
             MISSING_DOT,
-            &attr,
+            attr,
             path,
             FIRST_ENTRY,
             name,
         ),
-        DotLine::NumberDot { attr, path } => print_dir(out, NUMBER_DOT, &attr, path, FIX),
-        DotLine::KindDot { attr, path } => print_dir(out, KIND_DOT, &attr, path, FIX),
-        DotLine::MissingDotdot { attr, path } => print_dir(out, MISSING_DOTDOT, &attr, path, FIX),
+        DotLine::NumberDot { attr, path } => print_dir(out, NUMBER_DOT, attr, path, FIX),
+        DotLine::KindDot { attr, path } => print_dir(out, KIND_DOT, attr, path, FIX),
+        DotLine::MissingDotdot { attr, path } => print_dir(out, MISSING_DOTDOT, attr, path, FIX),
         DotLine::MissingDotdotSecond { attr, path, name } => print_in_the_way(
             out,
             MISSING_DOTDOT,
-            &attr,
+            attr,
             path,
             SECOND_ENTRY,
             name,
         ),
-        DotLine::NumberDotdot { attr, path } => print_dir(out, NUMBER_DOTDOT, &attr, path, FIX),
-        DotLine::KindDotdot { attr, path } => print_dir(out, KIND_DOTDOT, &attr, path, FIX),
-        DotLine::ExtraDot { attr, path } => print_dir(out, EXTRA_DOT, &attr, path, FIX),
-        DotLine::ExtraDotdot { attr, path } => print_dir(out, EXTRA_DOTDOT, &attr, path, FIX),
+        DotLine::NumberDotdot { attr, path } => print_dir(out, NUMBER_DOTDOT, attr, path, FIX),
+        DotLine::KindDotdot { attr, path } => print_dir(out, KIND_DOTDOT, attr, path, FIX),
+        DotLine::ExtraDot { attr, path } => print_dir(out, EXTRA_DOT, attr, path, FIX),
+        DotLine::ExtraDotdot { attr, path } => print_dir(out, EXTRA_DOTDOT, attr, path, FIX),
     }
 }
 
@@ -254,30 +254,30 @@ pub fn print_entry<W: Output>(out: &mut W, line: &EntryLine<'_>) -> Result<(), O
     ensures { Prints (W.sink out.old) (W.sink out.new) (tree_message_text
         (entry_message line.now)) result }
 {
-    match *line {
+    match line {
         EntryLine::OutOfRange { number, path } => print_numbered(
             out,
             OUT_OF_RANGE,
-            number,
+            *number,
             path,
             REMOVE,
         ),
-        EntryLine::Whiteout { number, path } => print_numbered(out, WHITEOUT, number, path, FIX),
+        EntryLine::Whiteout { number, path } => print_numbered(out, WHITEOUT, *number, path, FIX),
         EntryLine::Unallocated { attr, path } => print_path(
             out,
             UNALLOCATED,
-            &attr,
+            attr,
             Label::Name,
             path,
             REMOVE,
         ),
         EntryLine::DupBad { label, attr, path } => print_path(
-            out, DUP_BAD, &attr, label, path, REMOVE,
+            out, DUP_BAD, attr, *label, path, REMOVE,
         ),
-        EntryLine::ZeroDir { attr, path } => print_dir(out, ZERO_DIR, &attr, path, REMOVE),
+        EntryLine::ZeroDir { attr, path } => print_dir(out, ZERO_DIR, attr, path, REMOVE),
         EntryLine::Extraneous { path, dir } => print_extraneous(out, path, dir),
         EntryLine::KindEntry { label, attr, path } => print_path(
-            out, KIND_ENTRY, &attr, label, path, FIX,
+            out, KIND_ENTRY, attr, *label, path, FIX,
         ),
     }
 }
@@ -287,29 +287,29 @@ pub fn print_reference<W: Output>(out: &mut W, line: &ReferenceLine) -> Result<(
     ensures { Prints (W.sink out.old) (W.sink out.new) (tree_message_text
         (reference_message line.now)) result }
 {
-    match *line {
-        ReferenceLine::UnrefDir { attr } => print_inode(out, UNREF_DIR, &attr, RECONNECT),
+    match line {
+        ReferenceLine::UnrefDir { attr } => print_inode(out, UNREF_DIR, attr, RECONNECT),
         ReferenceLine::DeadMarked { label, attr } => print_kind(
             out,
             DEAD_MARKED,
-            label,
-            &attr,
+            *label,
+            attr,
             CLEAR,
         ),
-        ReferenceLine::DeadZero { attr } => print_inode(out, DEAD_ZERO, &attr, CLEAR),
+        ReferenceLine::DeadZero { attr } => print_inode(out, DEAD_ZERO, attr, CLEAR),
         ReferenceLine::Unref { label, attr } => print_kind(
             out,
             UNREF,
-            label,
-            &attr,
+            *label,
+            attr,
             RECONNECT_OR_CLEAR,
         ),
-        ReferenceLine::UnrefZero { label, attr } => print_kind(out, UNREF, label, &attr, CLEAR),
+        ReferenceLine::UnrefZero { label, attr } => print_kind(out, UNREF, *label, attr, CLEAR),
         ReferenceLine::LinkCount {
             label,
             attr,
             count,
             right,
-        } => print_links(out, label, &attr, count, right),
+        } => print_links(out, *label, attr, *count, *right),
     }
 }

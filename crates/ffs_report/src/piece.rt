@@ -13,5 +13,4 @@ pub enum Piece<'a> {
     Total(i64, &'a [u8]),
     /// The minus of a number below zero.
     Sign(i64),
-    Octal(u16),
 }

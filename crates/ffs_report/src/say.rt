@@ -32,14 +32,14 @@ pub fn print_gathered<W: Output>(
 fn print_line<W: Output>(out: &mut W, line: &Line<'_>) -> Result<(), OutFault>
     ensures { Prints (W.sink out.old) (W.sink out.new) (text_of (message_of line.now)) result }
 {
-    match *line {
-        Line::Location { sector } => print_number(out, LOCATION, sector as u64, LINE_END),
+    match line {
+        Line::Location { sector } => print_number(out, LOCATION, *sector as u64, LINE_END),
         Line::Opening { name } => print_opening(out, name.as_bytes()),
-        Line::BadSuper(fault) => print_fault(out, fault),
-        Line::CannotRead { sector } => print_number(out, CANNOT_READ, sector, LINE_END),
+        Line::BadSuper(fault) => print_fault(out, *fault),
+        Line::CannotRead { sector } => print_number(out, CANNOT_READ, *sector, LINE_END),
         Line::CannotAlloc => print(out, CANNOT_ALLOC),
         Line::Optimization => print(out, OPTIMIZATION),
-        Line::Minfree { value } => print_minfree(out, value),
+        Line::Minfree { value } => print_minfree(out, *value),
         Line::Mounted { mount } => print_mounted(out, mount),
         Line::Heading(Heading::Phase1) => print(out, PHASE1),
         Line::Heading(Heading::Phase1b) => print(out, PHASE1B),
@@ -47,11 +47,11 @@ fn print_line<W: Output>(out: &mut W, line: &Line<'_>) -> Result<(), OutFault>
         Line::Heading(Heading::Phase3) => print(out, PHASE3),
         Line::Heading(Heading::Phase4) => print(out, PHASE4),
         Line::Heading(Heading::Phase5) => print(out, PHASE5),
-        Line::Block(message) => print_block(out, message),
-        Line::Directory(line) => print_directory(out, &line),
-        Line::Dot(line) => print_dot(out, &line),
-        Line::Entry(line) => print_entry(out, &line),
-        Line::Reference(line) => print_reference(out, &line),
+        Line::Block(message) => print_block(out, *message),
+        Line::Directory(line) => print_directory(out, line),
+        Line::Dot(line) => print_dot(out, line),
+        Line::Entry(line) => print_entry(out, line),
+        Line::Reference(line) => print_reference(out, line),
         Line::Summary {
             files,
             used,
@@ -59,7 +59,7 @@ fn print_line<W: Output>(out: &mut W, line: &Line<'_>) -> Result<(), OutFault>
             frags,
             blocks,
             tenths,
-        } => print_summary(out, files, used, free, frags, blocks, tenths),
+        } => print_summary(out, *files, *used, *free, *frags, *blocks, *tenths),
     }
 }
 
