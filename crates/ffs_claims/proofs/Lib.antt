@@ -16,3 +16,4 @@ pub mod Looks
 pub mod LookBounds
 pub mod SecondLooks
 pub mod DataAreas
+pub mod WordClaims

@@ -1,6 +1,6 @@
 //! The data fragments round the last Run in range.
 
-ghost use Rattle.std.specs.Prelude.{◌≡◌, ◌<◌, IsTrue, true, ℕ};
+ghost use Rattle.std.specs.Prelude.{◌≡◌, ◌<◌, ◌↔◌, IsTrue, true, ℕ};
 ghost use Rattle.ffs_volume.specs.declared.Layout.{Layout};
 ghost use Rattle.ffs_volume.specs.Disk.Areas.{is_run_in_range};
 
@@ -47,6 +47,14 @@ impl DataArea {
         }
     }
 
+    /// Whether a Run lies in the area.
+    #[inline(always)]
+    pub fn contains(&self, start: u32, len: u32) -> bool
+        ensures { IsTrue result ↔ HasRun self.now start len }
+    {
+        self.start <= start && u64::from(start) + u64::from(len) <= u64::from(self.end)
+    }
+
     /// Whether a Run is in range. If so, it lies in the area from then on.
     #[inline(always)]
     #[tactic(auto, using(crate::proofs::Whole::run_below))]
@@ -57,7 +65,7 @@ impl DataArea {
         ensures area { IsDataArea geometry.now.layout self.new }
         ensures run { IsTrue result → HasRun self.new start len }
     {
-        if self.start <= start && u64::from(start) + u64::from(len) <= u64::from(self.end) {
+        if self.contains(start, len) {
             return true;
         }
         if !geometry.in_range(start, len) {

@@ -13,6 +13,7 @@ ghost use Rattle.ffs_claims.specs.Lines.{owner_with};
 use crate::area::DataArea;
 use crate::offer::step;
 use crate::store::{begin, say_class, say_count, store};
+use crate::words::claim_words;
 use ffs_image::Image;
 use ffs_layout::Geometry;
 use ffs_phase::RunFault;
@@ -44,20 +45,16 @@ fn claim<I: Image, W: Output>(
         return Ok(());
     }
     let mut walk = Walk::of_class(geometry, inode, class);
-    let mut after_gap = false;
     while let Some(next) = walk.next(image, &mut workspace.windows.blocks)? {
         if matches!(next, Step::Gap) {
-            if after_gap {
-                walk.skip_gaps(&workspace.windows.blocks);
-            }
-            after_gap = true;
+            walk.skip_gaps(&workspace.windows.blocks);
             continue;
         }
-        after_gap = false;
         let seen = step(workspace, geometry, area, number, next, report)?;
         if !seen {
             break;
         }
+        claim_words(workspace, geometry, area, &mut walk);
     }
     Ok(())
 }

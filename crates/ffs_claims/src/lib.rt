@@ -21,6 +21,7 @@ mod rescan;
 mod reserve;
 mod second;
 mod store;
+mod words;
 
 pub use first::phase1;
 pub use second::phase1b;

@@ -30,7 +30,7 @@ gaps_under g bytes child span address first used (suc n) next gap h zeros =
     ∙ ap (λ j. replicate n Gap ++ steps_under g bytes child span address first j (used - j)) at)
 
 -- what is left in a frame whose block is read before
-not_fresh : (g : Layout) (bytes : List ℕ) (child : ℕ → ℕ → List Step) (span : ℕ) (f : Frame) → f.fresh ≡ false →
+pub not_fresh : (g : Layout) (bytes : List ℕ) (child : ℕ → ℕ → List Step) (span : ℕ) (f : Frame) → f.fresh ≡ false →
     frame_rest g bytes child span f ≡ steps_under g bytes child span f.address f.first f.next (f.used - f.next)
 not_fresh g bytes child span f e = rw e refl
 

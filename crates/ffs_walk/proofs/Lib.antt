@@ -7,3 +7,4 @@ pub mod WalkSteps
 pub mod Sizes
 pub mod Splices
 pub mod GapSteps
+pub mod WordSteps

@@ -4,3 +4,4 @@ pub mod Fits
 pub mod Lengths
 pub mod Rests
 pub mod Skips
+pub mod Words

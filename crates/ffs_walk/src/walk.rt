@@ -7,6 +7,7 @@ ghost use Rattle.ffs_walk.specs.Fits.{FrameFits};
 use crate::blocks::Blocks;
 use crate::class::{addresses_needed, class_of, last_length, walked_blocks};
 use crate::frame::{Frame, Item};
+use crate::words::word;
 use ffs_image::{Image, ImageFault};
 use ffs_layout::Geometry;
 use ffs_volume::constants::NDADDR;
@@ -51,6 +52,8 @@ impl Walk {
     ghost use Rattle.ffs_walk.specs.Frames.{frame_rest, frame_left, item_steps, item_left};
     ghost use Rattle.ffs_walk.specs.Rests.{rest, left, extent_of, Enters, IsAtTop, IsDataStep, IsFirstOf, IsNextStep, IsOver, IsWalkOf, SameExtent, UsesNothing};
     ghost use Rattle.ffs_walk.specs.Windows.{BlocksAfter, CanWalk, HasRoom};
+    ghost use Rattle.ffs_walk.specs.Words.{IsInHeldBlock, PassesWord, next_address};
+    ghost use Rattle.ffs_walk.specs.declared.blocks.Blocks.{Blocks};
 
     /// The step at the address of a data block.
     fn data(&self, address: u32, block: u64) -> Step
@@ -296,6 +299,46 @@ impl Walk {
             return self.double.skip_gaps(&self.geometry, 1, blocks);
         }
         self.triple.skip_gaps(&self.geometry, 2, blocks)
+    }
+
+    /// Whether the single indirect block that the walk is in is held and was read before.
+    #[inline(always)]
+    pub fn is_in_held_block(&self, blocks: &Blocks) -> bool
+        ensures { IsTrue result → IsInHeldBlock blocks.now self.now }
+    {
+        !self.single.fresh && blocks.held[0] == Some(self.single.address)
+    }
+
+    /// Whether a used word is left of the single indirect block that the walk is in.
+    #[inline(always)]
+    pub fn has_word(&self) -> bool
+        ensures { IsTrue result ↔ (self.now.single.next < self.now.single.used) }
+    {
+        self.single.is_left()
+    }
+
+    /// The address at the next word of the single indirect block that the walk is in.
+    #[inline(always)]
+    pub fn next_address(&self, blocks: &Blocks) -> u32
+        requires room { HasRoom self.now.geometry.layout blocks.now }
+        requires left { self.now.single.next < self.now.single.used }
+        ensures { result ≡ next_address blocks.now self.now }
+    {
+        let block = blocks.bytes(&self.geometry, 0);
+        word(&self.geometry, block, self.single.next)
+    }
+
+    /// Passes over the next word of the single indirect block that the walk is in, where the block was read before.
+    #[inline(always)]
+    pub fn pass_word(&mut self)
+        requires read { self.old.single.fresh ≡ false }
+        requires left { self.old.single.next < self.old.single.used }
+        ensures word { (blocks : Blocks) → IsInHeldBlock blocks self.old
+            → PassesWord blocks self.old self.new }
+        ensures falls { left self.new < left self.old }
+        ensures same { SameExtent self.old self.new }
+    {
+        self.single.next += 1;
     }
 
     /// A walk over the blocks of an inode. Only a file or a directory has steps, and no device or short symlink.

@@ -6,10 +6,11 @@ use Rattle.ffs_volume.specs.declared.Step.{Step}
 use Rattle.ffs_volume.specs.declared.Step.TheVariants.{Gap}
 use Rattle.ffs_volume.specs.Blocks.Steps.{steps_of, is_walked}
 use Rattle.ffs_volume.specs.Blocks.Claims.{after_steps, after_step, lines_of_steps, step_lines, is_open}
-use Rattle.ffs_volume.proofs.Weights.{stays, kept_bound}
+use Rattle.ffs_volume.proofs.Weights.{stays, kept_bound, moves_then}
 use Rattle.ffs_phase.specs.Known.{ForBytes, IsContents}
 use Rattle.ffs_phase.proofs.Reporting.{of_begins, of_stops, of_reads, of_same}
 use Rattle.ffs_workspace.specs.Holds.{claims_of}
+use Rattle.ffs_workspace.specs.Ready.{IsReady}
 use Rattle.ffs_claims.specs.Lines.{of_lines}
 use Rattle.ffs_claims.proofs.Weights.{moves_on, seen_bound, used_below}
 use Rattle.ffs_claims.proofs.Goes.{claims_on, lines_on, steps_said, cut_stays, cut_silent, gaps_stay, gaps_silent}
@@ -173,8 +174,8 @@ skip_gaps-requires g c =
       };
     }
 
-pub loop-next-preserved-then-after_gap : goal.loop-next-preserved-then-after_gap
-loop-next-preserved-then-after_gap g c =
+pub loop-next-preserved-then-matches : goal.loop-next-preserved-then-matches
+loop-next-preserved-then-matches g c =
     let inv = c.loop-next.invariant in
     let v = c.args.geometry.now.layout in
     let s = claims_of c.loop-next.workspace in
@@ -207,29 +208,37 @@ loop-next-preserved-then-after_gap g c =
           ∙ ap of_lines (gaps_silent v c.args.number s c.skip_gaps.result (rest bytes c.skip_gaps.new.self)));
     }
 
-pub loop-next-preserved-else-after_gap : goal.loop-next-preserved-else-after_gap
-loop-next-preserved-else-after_gap g c =
+pub claim_words-requires-clause-geometry : goal.claim_words-requires-clause-geometry
+claim_words-requires-clause-geometry g c = c.in_ok-next.ensures.same.geometry ∙ c.loop-next.invariant.geometry
+
+pub claim_words-requires-clause-next : goal.claim_words-requires-clause-next
+claim_words-requires-clause-next g c =
     let inv = c.loop-next.invariant in
     let v = c.args.geometry.now.layout in
-    let s = claims_of c.loop-next.workspace in
-    let ok = c.in_ok-next.ensures.leaves.read in
-    let is_gap : c.in-Some.next ≡ Gap = elim c.match-matches.branch [
-      | in-Gap w ↦ w.in-Gap.is
-      | in_default-matches w ↦ cc
-    ] in
-    let next = rw (inv.device, c.in-Some.is, is_gap) at c.in_ok-next.ensures.step.steps in
+    let left = c.step.ensures.claiming.left in
+    let uncut : is_open (claims_of c.step.new.workspace) ≡ true = sym c.in_ok-seen.ensures.claiming.claims.uncut
+    ∙ c.if-not-seen.false in
+    let moves = moves_on v (claims_of c.args.workspace.now) (claims_of c.loop-next.workspace)
+    (claims_of c.step.new.workspace) c.in-Some.next
+    (length_bits _ _ ∙ inv.ready.made.claimed) c.args.geometry.now.sound.sizes.frag_high
+    (rw (inv.geometry, c.in-Some.is) at c.in_ok-next.ensures.step.fits).length
+    c.in_ok-seen.ensures.claiming.claims.claims_are inv.moves in
     record {
-      ready = ready_walked c.args.geometry.now _ _ _ c.loop-next.workspace c.next.new.blocks inv.geometry ok
-          c.next.ensures.leaves.kept.size c.next.ensures.leaves.kept.holds inv.ready;
-      area = inv.area;
-      open_still = inv.open_still;
-      geometry = c.in_ok-next.ensures.same.geometry ∙ inv.geometry;
-      device = ok ∙ inv.device;
-      found = found_still _ _ _ inv.found;
-      moves = inv.moves;
-      claims = λ bytes t. sym (ap (after_steps v s) (next bytes t)) ∙ inv.claims bytes t;
-      said = of_same _ _ _ _ _ _ inv.said (λ bytes t. ap (λ (xs : List Step).
-          of_lines (lines_of_steps v c.args.number s xs)) (next bytes t));
+      made = left.only.made;
+      only_data = left.only_data;
+      uncut = uncut;
+      room = omega (
+        arith,
+        c.args.geometry.now.sound.numbers.size_below,
+        kept_bound (claims_of c.args.workspace.now) (claims_of c.step.new.workspace) v.size
+            (bits_long c.step.new.workspace.claimed ∙ left.only.made.claimed) (omega (arith, c.requires.begun.bad))
+            (omega (arith, c.requires.begun.dups)) c.requires.begun.kept moves,
+      );
+      runs = omega (
+        arith,
+        c.args.geometry.now.sound.numbers.size_below,
+        seen_bound v c.args.workspace.now c.step.new.workspace left.only.made uncut moves,
+      );
     }
 
 pub loop-next-preserved : goal.loop-next-preserved
@@ -239,27 +248,38 @@ loop-next-preserved g c =
     let s = claims_of c.step.new.workspace in
     let ok = c.in_ok-next.ensures.leaves.read in
     let next = rw (inv.device, c.in-Some.is) at c.in_ok-next.ensures.step.steps in
+    let words = c.claim_words.ensures in
     let read = ready_walked c.args.geometry.now _ _ _ c.loop-next.workspace c.next.new.blocks inv.geometry ok
     c.next.ensures.leaves.kept.size c.next.ensures.leaves.kept.holds inv.ready in
+    let claimed : IsReady v (g.I.Image.device c.next.new.image) c.step.new.workspace =
+    ready_still v _ _ _ c.step.ensures.claiming.left.only.made c.step.ensures.claiming.left.only.windows read in
+    let image = (g.I.Image.device c.next.new.image).contents in
+    let before = claims_on _ v (claims_of c.loop-next.workspace) s (λ bytes. rest bytes c.loop-next.walk)
+    (λ bytes. rest bytes c.next.new.self) _ (λ bytes. after_steps v (claims_of c.args.workspace.now)
+    (steps_of v c.args.inode.now bytes)) c.in-Some.next
+    next c.in_ok-seen.ensures.claiming.claims.claims_are inv.claims (λ bytes t. refl) in
     record {
-      ready = ready_still v _ _ _ c.step.ensures.claiming.left.only.made c.step.ensures.claiming.left.only.windows read;
+      ready = ready_still v _ _ _ words.only.made words.only.windows claimed;
       area = c.step.ensures.claiming.left.only_data;
-      open_still = sym c.in_ok-seen.ensures.claiming.claims.uncut ∙ c.if-not-seen.false;
-      geometry = c.in_ok-next.ensures.same.geometry ∙ inv.geometry;
+      open_still = words.uncut;
+      geometry = words.same.geometry ∙ c.in_ok-next.ensures.same.geometry ∙ inv.geometry;
       device = ok ∙ inv.device;
-      found = found_then _ _ _ (found_still _ _ _ inv.found) c.step.ensures.claiming.left.only.found;
-      moves = moves_on v (claims_of c.args.workspace.now) (claims_of c.loop-next.workspace)
-          (claims_of c.step.new.workspace) c.in-Some.next
+      found = found_then _ _ _ (found_then _ _ _ (found_still _ _ _ inv.found)
+          c.step.ensures.claiming.left.only.found) words.only.found;
+      moves = moves_then (claims_of c.args.workspace.now) s (claims_of c.claim_words.new.workspace)
+          (moves_on v (claims_of c.args.workspace.now) (claims_of c.loop-next.workspace) s c.in-Some.next
           (length_bits _ _ ∙ inv.ready.made.claimed) c.args.geometry.now.sound.sizes.frag_high
           (rw (inv.geometry, c.in-Some.is) at c.in_ok-next.ensures.step.fits).length
-          c.in_ok-seen.ensures.claiming.claims.claims_are inv.moves;
-      claims = claims_on _ v (claims_of c.loop-next.workspace) s (λ bytes. rest bytes c.loop-next.walk)
-          (λ bytes. rest bytes c.next.new.self) _ _ c.in-Some.next
-          next c.in_ok-seen.ensures.claiming.claims.claims_are inv.claims (λ bytes t. refl);
-      said = steps_said _ v c.args.number (claims_of c.loop-next.workspace) s (λ bytes. rest bytes c.loop-next.walk)
+          c.in_ok-seen.ensures.claiming.claims.claims_are inv.moves) words.moves;
+      claims = λ bytes t. words.claims image claimed.windows.blocks bytes (ap (λ d. d.contents) (ok ∙ inv.device) ∙ t)
+          ∙ before bytes t;
+      said = of_same _ _ _ _ _ _
+          (steps_said _ v c.args.number (claims_of c.loop-next.workspace) s (λ bytes. rest bytes c.loop-next.walk)
           (λ bytes. rest bytes c.next.new.self) _ _ c.in-Some.next _ _ _
           inv.said next c.in_ok-seen.ensures.claiming.claims.claims_are (λ bytes t. refl)
-          c.in_ok-seen.ensures.claiming.said;
+          c.in_ok-seen.ensures.claiming.said)
+          (λ bytes t. ap of_lines (sym (words.lines image claimed.windows.blocks bytes
+          (ap (λ d. d.contents) (ok ∙ inv.device) ∙ t) c.args.number)));
     }
 
 pub returns-then-not-seen : goal.returns-then-not-seen

@@ -1,0 +1,72 @@
+use Rattle.std.proofs.Common.{◌∙◌, ap, arith}
+use Rattle.ffs_claims.proofs.Weights.{seen_bound}
+use Rattle.ffs_claims.proofs.WordClaims.{kept_room, words_none, words_once, words_then}
+use Rattle.ffs_claims.proofs.words.claim_words.Goals as goal
+
+pub loop-walk-init : goal.loop-walk-init
+loop-walk-init c = record {
+  words = words_none c.args.geometry.now.layout c.args.workspace.now c.args.walk.now c.requires.next.made
+      c.requires.next.uncut;
+  held = c.is_in_held_block.ensures c.if-not-is_in_held_block.false;
+}
+
+pub next_address-address-requires : goal.next_address-address-requires
+next_address-address-requires c =
+    let inv = c.loop-walk.invariant in
+    record {
+      room = record {
+        blocks_fit = rw (inv.words.same.geometry ∙ c.requires.geometry, inv.words.only.made.blocks) (omega arith);
+      };
+      left = c.has_word.ensures.0 c.loop-walk-test.true;
+    }
+
+-- a word that isn't claimed changes nothing
+pub returns-then-not-claim_address : goal.returns-then-not-claim_address
+returns-then-not-claim_address c =
+    rw (c.claim_address.ensures.kept c.if-not-claim_address.true) c.loop-walk.invariant.words
+
+pub pass_word-requires-clause-left : goal.pass_word-requires-clause-left
+pass_word-requires-clause-left c = c.has_word.ensures.0 c.loop-walk-test.true
+
+pub claim_address-requires : goal.claim_address-requires
+claim_address-requires c =
+    let inv = c.loop-walk.invariant in
+    let v = c.args.geometry.now.layout in
+    let u = c.args.workspace.now in
+    let w = c.loop-walk.workspace in
+    record {
+      made = inv.words.only.made;
+      only_data = c.requires.next.only_data;
+      uncut = inv.words.uncut;
+      room = omega (
+        arith,
+        c.args.geometry.now.sound.numbers.size_below,
+        kept_room v u w inv.words.only.made inv.words.uncut inv.words.moves,
+        c.requires.next.room,
+      );
+      runs = omega (
+        arith,
+        c.args.geometry.now.sound.numbers.size_below,
+        seen_bound v u w inv.words.only.made inv.words.uncut inv.words.moves,
+        c.requires.next.runs,
+      );
+    }
+
+pub loop-walk-preserved : goal.loop-walk-preserved
+loop-walk-preserved c =
+    let inv = c.loop-walk.invariant in
+    let v = c.args.geometry.now.layout in
+    let a = c.loop-walk.workspace in
+    let b = c.claim_address.new.workspace in
+    let x = c.loop-walk.walk in
+    let y = c.pass_word.new.self in
+    let sizes = c.args.geometry.now.sound.sizes in
+    let passes = c.pass_word.ensures.word a.windows.blocks inv.held in
+    record {
+      words = words_then v c.args.workspace.now a b c.args.walk.now x y inv.words
+          (words_once v a b x y c.next_address-address.result sizes.frag_low sizes.frag_high inv.words.only.made
+          (ap (λ k. k.layout) (inv.words.same.geometry ∙ c.requires.geometry)) c.next_address-address.ensures passes
+          (c.claim_address.ensures.claims c.if-not-claim_address.false) c.claim_address.ensures.uncut
+          c.claim_address.ensures.only c.pass_word.ensures.falls c.pass_word.ensures.same);
+      held = rw c.claim_address.ensures.only.windows passes.held;
+    }

@@ -1,0 +1,44 @@
+-- What the words of an indirect block claim with nothing to report.
+use Rattle.std.specs.Prelude.{◌≡◌, ℕ, ◌<◌, ◌≤◌, ◌^◌, true, List, [], Option}
+use Rattle.ffs_image.specs.Device.{ForContents}
+use Rattle.ffs_volume.specs.declared.Layout.{Layout}
+use Rattle.ffs_volume.specs.declared.Step.{Step}
+use Rattle.ffs_volume.specs.Blocks.Claims.{after_step, after_steps, is_open, lines_of_steps, step_lines}
+use Rattle.ffs_volume.specs.Blocks.ClaimBounds.{ClaimBound}
+use Rattle.ffs_walk.specs.declared.walk.Walk.{Walk}
+use Rattle.ffs_walk.specs.Rests.{SameExtent, left, rest}
+use Rattle.ffs_walk.specs.Windows.{BlocksHold}
+use Rattle.ffs_workspace.specs.declared.workspace.Workspace.{Workspace}
+use Rattle.ffs_workspace.specs.Holds.{claims_of}
+use Rattle.ffs_workspace.specs.Lengths.{IsFor}
+use Rattle.ffs_claims.specs.declared.area.DataArea.{DataArea}
+use Rattle.ffs_claims.specs.Area.{IsDataArea}
+use Rattle.ffs_claims.specs.Leaves.{ClaimsOnly}
+
+-- a word of an inode can be seen: the inode isn't cut, and there is room to count its fragments and Runs
+pub record SeesWord (v : Layout) (w : Workspace) (area : DataArea) : Type 0 where
+  pub made : IsFor v w
+  pub only_data : IsDataArea v area
+  pub uncut : is_open (claims_of w) ≡ true
+  pub room : w.kept < 2 ^ 63
+  pub runs : w.runs_seen < 2 ^ 63
+
+-- a step claims what it offers, and nothing is reported of it
+pub record ClaimsSilently (v : Layout) (step : Step) (old new : Workspace) : Type 0 where
+  pub claims : claims_of new ≡ after_step v (claims_of old) step
+  pub silent : (number : ℕ) → step_lines v number (claims_of old) step ≡ []
+
+-- a walk passes over steps that claim what they offer: what it has left means the same claims and lines as before
+pub record ClaimsWords (v : Layout) (old new : Workspace) (walk walk' : Walk) : Type 0 where
+  pub claims : (contents : Option (List ℕ)) → BlocksHold v contents old.windows.blocks →
+      ForContents contents (λ bytes.
+      after_steps v (claims_of new) (rest bytes walk') ≡ after_steps v (claims_of old) (rest bytes walk))
+  pub lines : (contents : Option (List ℕ)) → BlocksHold v contents old.windows.blocks →
+      ForContents contents (λ bytes. (number : ℕ) →
+      lines_of_steps v number (claims_of new) (rest bytes walk')
+      ≡ lines_of_steps v number (claims_of old) (rest bytes walk))
+  pub uncut : is_open (claims_of new) ≡ true
+  pub moves : ClaimBound (claims_of old) (claims_of new)
+  pub only : ClaimsOnly v old new
+  pub falls : left walk' ≤ left walk
+  pub same : SameExtent walk walk'

@@ -1,0 +1,65 @@
+//! The words of an indirect block that are claimed with nothing to report.
+
+ghost use Rattle.std.specs.Prelude.{◌≡◌, false, true, IsTrue, ℕ};
+ghost use Rattle.ffs_volume.specs.Blocks.Claims.{is_open};
+ghost use Rattle.ffs_walk.specs.Words.{word_step};
+ghost use Rattle.ffs_workspace.specs.Holds.{claims_of};
+ghost use Rattle.ffs_claims.specs.Claiming.{SeesNext};
+ghost use Rattle.ffs_claims.specs.Leaves.{ClaimsOnly};
+ghost use Rattle.ffs_claims.specs.Words.{ClaimsSilently, ClaimsWords, SeesWord};
+
+use crate::area::DataArea;
+use ffs_layout::Geometry;
+use ffs_walk::Walk;
+use ffs_workspace::Workspace;
+
+/// Claims what an address of an indirect block of data offers: nothing where it is a gap, else its Run, where that lies in
+/// the area, and its fragments are all unclaimed and lie in one word of the map. The answer is whether it was so: if not,
+/// nothing has changed.
+#[inline(always)]
+fn claim_address(
+    workspace: &mut Workspace,
+    geometry: &Geometry,
+    area: &DataArea,
+    address: u32,
+) -> bool
+    requires { SeesWord geometry.now.layout workspace.old area.now }
+    ensures claims { IsTrue result → (block : ℕ) → ClaimsSilently geometry.now.layout
+        (word_step geometry.now.layout.frag address block) workspace.old workspace.new }
+    ensures kept { result ≡ false → workspace.new ≡ workspace.old }
+    ensures uncut { is_open (claims_of workspace.new) ≡ true }
+    ensures only { ClaimsOnly geometry.now.layout workspace.old workspace.new }
+{
+    if address == 0 {
+        return true;
+    }
+    let len = geometry.layout.frag;
+    if !area.contains(address, len) {
+        return false;
+    }
+    if !workspace.claimed.claim(address, len) {
+        return false;
+    }
+    workspace.runs_seen += 1;
+    workspace.kept += u64::from(len);
+    true
+}
+
+/// Claims what the words offer that come next in the single indirect block that the walk is in, as long as there is nothing
+/// to report of them, and each Run is claimed at once. It leaves the claims that the steps would leave that it passes over.
+pub fn claim_words(workspace: &mut Workspace, geometry: &Geometry, area: &DataArea, walk: &mut Walk)
+    requires next { SeesNext geometry.now.layout workspace.old area.now }
+    requires geometry { walk.old.geometry ≡ geometry.now }
+    ensures { ClaimsWords geometry.now.layout workspace.old workspace.new walk.old walk.new }
+{
+    if !walk.is_in_held_block(&workspace.windows.blocks) {
+        return;
+    }
+    while walk.has_word() {
+        let address = walk.next_address(&workspace.windows.blocks);
+        if !claim_address(workspace, geometry, area, address) {
+            return;
+        }
+        walk.pass_word();
+    }
+}

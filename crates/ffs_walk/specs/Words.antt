@@ -1,0 +1,31 @@
+-- The words of the single indirect block that a walk is in, one by one.
+use Rattle.std.specs.Prelude.{◌≡◌, ◌==◌, ◌+◌, ℕ, List, ◌∷◌, Option, Some, false, if◌then◌else◌}
+use Rattle.ffs_image.specs.Device.{ForContents}
+use Rattle.ffs_volume.specs.declared.Step.{Step}
+use Rattle.ffs_volume.specs.declared.Step.TheVariants.{Run, Gap}
+use Rattle.ffs_volume.specs.Blocks.Steps.{address_in}
+use Rattle.ffs_walk.specs.declared.blocks.Blocks.{Blocks}
+use Rattle.ffs_walk.specs.declared.walk.Walk.{Walk}
+use Rattle.ffs_walk.specs.Windows.{BlocksHold, held_address, level_bytes}
+use Rattle.ffs_walk.specs.Rests.{rest}
+
+-- the single indirect block that a walk is in is held, and was read before
+pub record IsInHeldBlock (blocks : Blocks) (w : Walk) : Type 0 where
+  pub read : w.single.fresh ≡ false
+  pub held : held_address 0 blocks ≡ Some w.single.address
+
+-- the address at the next word of the single indirect block that a walk is in
+abbrev pub next_address : Blocks → Walk → ℕ
+next_address blocks w = address_in w.geometry.layout (level_bytes w.geometry.layout 0 blocks) w.single.next
+
+-- the step at a word of an indirect block of data, where a block has so many fragments
+abbrev pub word_step : (frag address block : ℕ) → Step
+word_step frag address block = if address == 0 then Gap else Run address frag (Some block)
+
+-- a walk passes over the next word of the single indirect block that it is in: the step at it is passed over
+pub record PassesWord (blocks : Blocks) (old new : Walk) : Type 0 where
+  pub steps : (contents : Option (List ℕ)) → BlocksHold old.geometry.layout contents blocks →
+      ForContents contents (λ bytes. rest bytes old
+      ≡ word_step old.geometry.layout.frag (next_address blocks old) (old.single.first + old.single.next)
+      ∷ rest bytes new)
+  pub held : IsInHeldBlock blocks new
