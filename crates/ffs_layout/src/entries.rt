@@ -19,7 +19,7 @@ fn is_valid_record_length(place: usize, len: u16) -> bool
 }
 
 // Whether one of a few bytes is NUL or `/`. All are looked at, with no test that ends the loop: the machine takes them at once.
-#[inline(always)]
+#[inline]
 fn has_mark_at_once<const N: usize>(part: &[u8; N]) -> bool
     ensures { result ≡ has_mark part.now }
 {
@@ -31,7 +31,7 @@ fn has_mark_at_once<const N: usize>(part: &[u8; N]) -> bool
 }
 
 // Whether one of at most three bytes is NUL or `/`.
-#[inline(always)]
+#[inline]
 fn has_mark_of_three(bytes: &[u8]) -> bool
     ensures { result ≡ has_mark bytes.now }
 {
@@ -44,7 +44,7 @@ fn has_mark_of_three(bytes: &[u8]) -> bool
 }
 
 // Whether one of at most seven bytes is NUL or `/`.
-#[inline(always)]
+#[inline]
 fn has_mark_of_seven(bytes: &[u8]) -> bool
     ensures { result ≡ has_mark bytes.now }
 {
@@ -58,7 +58,7 @@ fn has_mark_of_seven(bytes: &[u8]) -> bool
 }
 
 // Whether a byte is NUL or `/`, as none of a name is.
-#[inline(always)]
+#[inline]
 fn has_nul_or_slash(bytes: &[u8]) -> bool
     ensures { result ≡ (list_any (λ b. b == 0) bytes.now || list_any (λ b. b == 47) bytes.now) }
 {

@@ -379,8 +379,8 @@ impl Walk {
         ensures geometry { self.new.geometry ≡ self.old.geometry }
     {
         self.stop();
-        self.blocks = walked_blocks(&self.geometry, inode, class);
         self.last = last_length(&self.geometry, inode);
+        self.blocks = walked_blocks(&self.geometry, inode, class);
         self.addresses = inode.addresses;
         self.used = addresses_needed(u64::from(self.geometry.layout.nindir), self.blocks);
     }
