@@ -1,7 +1,7 @@
 -- Sums over numbers in a row.
 use mir.Val.{bool_byte}
 use Rattle.std.proofs.Common.{◌≡◌, ℕ, zero, suc, ◌+◌, ◌*◌, ◌<◌, ◌≤◌, Bool, true, false, [], ◌∷◌, map, cond, arith, refl}
-use Rattle.std.proofs.Common.{ap, ◌∙◌, count_by}
+use Rattle.std.proofs.Common.{ap, ◌∙◌, count_by, ◌^◌}
 use Rattle.std.specs.List.{range_with_len, sum_by}
 use Rattle.std.proofs.lemmas.List.Sums.{sum_by-cons, count_by-le-length}
 use Rattle.std.proofs.lemmas.List.FromFn.{length-range_with_len}
@@ -66,10 +66,14 @@ count_more p a n count r b e f g =
     let one : r ≡ cond (p (a + n)) 1 0 = f ∙ ap (λ x. cond x 1 0) g in
     omega (arith, e, one, sum_more (λ x. cond (p x) 1 0) a n)
 
-pub count_fits : (p : ℕ → Bool) (a n limit count r : ℕ) (b : Bool) → count ≡ count_by p (range_with_len a n) →
+pub count_below : (p : ℕ → Bool) (a n limit count r : ℕ) (b : Bool) → count ≡ count_by p (range_with_len a n) →
     r ≡ cond b 1 0 → b ≡ p (a + n) → n + 1 < limit → count + r < limit
-count_fits p a n limit count r b e f g h =
+count_below p a n limit count r b e f g h =
     omega (arith, count_more p a n count r b e f g, count_within p a (n + 1), h)
+
+pub count_fits : (p : ℕ → Bool) (a n m count r : ℕ) (b : Bool) → count ≡ count_by p (range_with_len a n) →
+    r ≡ cond b 1 0 → b ≡ p (a + n) → n < m → m < 2 ^ 32 → count + r < 2 ^ 32
+count_fits p a n m count r b e f g h fits = omega (arith, count_more p a n count r b e f g, count_within p a (n + 1))
 
 -- what a test is as a number
 pub one_if : (b : Bool) (n : ℕ) → n ≡ bool_byte b → n ≡ cond b 1 0

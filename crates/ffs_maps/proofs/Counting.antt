@@ -1,6 +1,6 @@
 -- How many bits of a run are set.
-use Rattle.std.proofs.Common.{◌≡◌, ◌⊎◌, inl, inr, length, ℕ, zero, suc, ◌+◌, ◌-◌, ◌*◌, ◌/◌, ◌%◌, ◌^◌, ◌<◌, ◌≤◌, Bool, false, cond}
-use Rattle.std.proofs.Common.{List, map, get_or, nat_eq, bit_and, count_ones, count_by, arith, refl, ap, ◌∙◌}
+use Rattle.std.proofs.Common.{◌≡◌, ◌⊎◌, inl, inr, ℕ, zero, suc, ◌+◌, ◌-◌, ◌*◌, ◌/◌, ◌%◌, ◌^◌, ◌<◌, ◌≤◌, Bool, false}
+use Rattle.std.proofs.Common.{List, length, cond, map, get_or, nat_eq, bit_and, count_ones, count_by, arith, refl, ap, ◌∙◌}
 use Rattle.std.proofs.Common.{sym, min}
 use Rattle.std.specs.List.{range_with_len, sum_by, slice_index_or}
 use Rattle.std.specs.Int.{bit_at}
@@ -10,7 +10,8 @@ use Rattle.std.proofs.lemmas.List.Sums.{sum_by-cons, count_by-le-length}
 use Rattle.std.proofs.lemmas.List.FromFn.{length-range_with_len, length-map-range_with_len, get_or-map-range_with_len}
 use lib.Lanes.{mask_l}
 use Rattle.std.proofs.lemmas.Simd.{bit_mask_l, ones-mask_l}
-use Rattle.std.proofs.lemmas.Nat.Bits.{bit_at_and, bit_at-lt, bit_at-zero, bit_at_above, bit_at_ones, bit_at_ones_above, same_from_bits, ones_shr}
+use Rattle.std.proofs.lemmas.Nat.Bits.{bit_at_and, bit_at-lt, bit_at-zero, bit_at_above, bit_at_ones}
+use Rattle.std.proofs.lemmas.Nat.Bits.{bit_at_ones_above, same_from_bits, ones_shr}
 use Rattle.ffs_maps.specs.Bits.{bits_of_words}
 use Rattle.ffs_maps.proofs.Bits.{get_bits}
 use Rattle.ffs_maps.proofs.Words.{bit_shr}
@@ -107,8 +108,8 @@ ones_in_word words size start len w h below is =
         ∙ min_zero (bit_at (w / 2 ^ (start % 64)) i) _ (bit_at_ones_above len i l)
 
 -- the bits of a whole word
-pub ones_of_word : (words : List ℕ) (size index w : ℕ) → w < 2 ^ 64 → w ≡ get_or words index 0 → 64 * index + 64 ≤ size →
-    count_ones w
+pub ones_of_word : (words : List ℕ) (size index w : ℕ) → w < 2 ^ 64 → w ≡ get_or words index 0 →
+    64 * index + 64 ≤ size → count_ones w
     ≡ count_by (λ f. slice_index_or (bits_of_words words size) f false) (range_with_len (64 * index) 64)
 ones_of_word words size index w fits is below =
     ones_by (λ f. slice_index_or (bits_of_words words size) f false) w (64 * index) 64 low

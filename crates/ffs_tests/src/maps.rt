@@ -39,6 +39,28 @@ fn run_in_two_words(rt: HostRuntime) -> Result<(), Fail> {
     Ok(())
 }
 
+// Runs of more than a word, 60 to 199 and 300 to 319, and how many of their bits are in others.
+#[test]
+fn longer_runs(rt: HostRuntime) -> Result<(), Fail> {
+    let mut map = FragmentMap::new(rt.alloc(), 500)?;
+    map.set_run(60, 140);
+    map.set_run(300, 20);
+    let set = set_bits(&map, rt.alloc())?;
+    assert_eq!(rt;
+        [set.first(), set.get(139), set.get(140), set.last()],
+        [Some(&60), Some(&199), Some(&300), Some(&319)]
+    );
+    assert_eq!(rt;
+        [map.count(0, 500), map.count(0, 60), map.count(59, 61), map.count(64, 192)],
+        [160, 0, 1, 128]
+    );
+    assert_eq!(rt;
+        [map.count(130, 130), map.count(199, 301), map.count(320, 500), map.count(61, 63)],
+        [0, 2, 0, 2]
+    );
+    Ok(())
+}
+
 #[test]
 fn claims(rt: HostRuntime) -> Result<(), Fail> {
     let mut map = FragmentMap::new(rt.alloc(), 130)?;

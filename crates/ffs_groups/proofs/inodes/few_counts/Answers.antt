@@ -3,7 +3,7 @@ use Rattle.std.specs.Prelude.{not}
 use Rattle.std.specs.List.{range_with_len}
 use Rattle.ffs_volume.specs.Groups.Records.{is_dir_inode, is_used_inode}
 use Rattle.ffs_groups.specs.Inodes.{class_in}
-use Rattle.ffs_groups.proofs.Sums.{one_if, count_more, count_fits}
+use Rattle.ffs_groups.proofs.Sums.{one_if, count_more, count_below}
 use Rattle.ffs_groups.proofs.Skipping.{dir_by_kind, used_by_kind}
 use Rattle.ffs_groups.proofs.inodes.few_counts.Goals as goal
 
@@ -15,7 +15,7 @@ overflow_add-counts c =
     let at : inode ≡ first + (inode - first) = omega arith in
     omega (
       arith,
-      count_fits (is_dir_inode class) first (inode - first) 256 c.loop-inode.counts.dirs c.from.result
+      count_below (is_dir_inode class) first (inode - first) 256 c.loop-inode.counts.dirs c.from.result
           c.is_dir_kind.result c.loop-inode.invariant.counted.dirs (one_if _ _ c.from.ensures)
           (c.is_dir_kind.ensures ∙ sym (dir_by_kind c.args.kinds.now inode (omega (arith, c.requires.past_two)))
           ∙ ap (is_dir_inode class) at)
@@ -30,7 +30,7 @@ overflow_add-counts-in-loop-inode c =
     let at : inode ≡ first + (inode - first) = omega arith in
     omega (
       arith,
-      count_fits (λ x. not (is_used_inode class x)) first (inode - first) 256 c.loop-inode.counts.free
+      count_below (λ x. not (is_used_inode class x)) first (inode - first) 256 c.loop-inode.counts.free
           c.from-in-loop-inode.result (not c.is_used_kind.result)
           c.loop-inode.invariant.counted.free (one_if _ _ c.from-in-loop-inode.ensures)
           (ap not (c.is_used_kind.ensures
