@@ -1,8 +1,7 @@
 -- Lists of which some elements are touched, and one value is in the rest of their memory.
-use Rattle.std.proofs.Common.{◌≡◌, ◌<◌, ◌≤◌, ◌+◌, ◌-◌, ◌++◌, ℕ, List, arith, ap, sym, ◌∙◌, get_or, replicate}
+use Rattle.std.proofs.Common.{◌≡◌, ◌<◌, ◌+◌, ◌-◌, ◌++◌, ℕ, List, arith, ap, sym, ◌∙◌, replicate}
 use Rattle.std.proofs.Common.{slice_set, vec_len}
-use Rattle.std.proofs.lemmas.List.{append_assoc, get_or_append_left, get_or-append_right, get_or-replicate}
-use Rattle.std.proofs.lemmas.List.{replicate-append-replicate, set-append_left}
+use Rattle.std.proofs.lemmas.List.{append_assoc, replicate-append-replicate, set-append_left}
 use Rattle.std.specs.Prelude.{vec_capacity}
 use Rattle.std.specs.declared.vec.Vec.{Vec}
 use Rattle.std.specs.declared.alloc.Global.{Global}
@@ -30,18 +29,3 @@ module _ {A : Type 0} where
       slice_set touched.items index y ++ replicate n x ≡ slice_set (touched.items ++ replicate n x) index y
   set_filled touched index n x y inside =
       sym (set-append_left touched.items (replicate n x) index y (omega (arith, inside, touched.ok.0)))
-
-  -- the element at a touched index
-  pub get_touched : (touched : Vec A Global) (index n : ℕ) (x y : A) → index < vec_len touched →
-      y ≡ get_or touched.items index y → y ≡ get_or (touched.items ++ replicate n x) index y
-  get_touched touched index n x y inside read =
-      read ∙ sym (get_or_append_left touched.items (replicate n x) y index (omega (arith, inside, touched.ok.0)))
-
-  -- the element at another index
-  pub get_rest : (touched : Vec A Global) (index : ℕ) (x : A) → vec_len touched ≤ index → index < vec_capacity touched →
-      x ≡ get_or (filled touched x).items index x
-  get_rest touched index x past inside =
-      sym (get_or-append_right touched.items (replicate (vec_capacity touched - vec_len touched) x) (vec_len touched)
-      index x (sym touched.ok.0) past
-      ∙ get_or-replicate (vec_capacity touched - vec_len touched) (index - vec_len touched) x x
-      (omega (arith, past, inside)))

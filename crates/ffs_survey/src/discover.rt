@@ -31,8 +31,8 @@ fn add_one(references: &mut FilledList<u64>, number: usize)
 /// Counts an entry for the inode that it names, and marks that inode where the entry is plain.
 fn count_entry(entry: Named, kinds: &[u8], references: &mut FilledList<u64>, named: &mut [bool])
     requires { CountLists kinds.now references.old.items named.old entry.number }
-    ensures counted { IsCounted (length kinds.now) (roled_of entry []) references.old.items named.old
-        references.new.items named.new }
+    ensures counted { IsCounted (length kinds.now) (roled_of entry []) references.old.items
+        named.old references.new.items named.new }
     ensures same_length { vec_len references.new ≡ vec_len references.old }
 {
     let number = entry.number as usize;
@@ -189,14 +189,16 @@ fn read_reached<D: Directories>(
     top: usize,
 ) -> Result<usize, ImageFault>
     requires ready { D.ready directories.old }
-    requires lists { LevelLists (2 ^ 60) kinds.now marked.now references.old.items named.old reached.old
-        parents.old }
+    requires lists { LevelLists (2 ^ 60) kinds.now marked.now references.old.items named.old
+        reached.old parents.old }
     requires room { top + unset reached.old ≤ length queue.old }
     ensures found { IfOk result (λ n. Discovers (length kinds.now) (2 ^ 28) top n
         (λ old new. ForKnown D.knows D.entries D.sound (D.base directories.old) (λ entries sound.
         ReadsReached kinds.now marked.now from (entries from) (sound from) old new))
-        (found_of references.old.items named.old reached.old parents.old calm.old (take top queue.old))
-        (found_of references.new.items named.new reached.new parents.new calm.new (take n queue.new))) }
+        (found_of references.old.items named.old reached.old parents.old calm.old
+        (take top queue.old))
+        (found_of references.new.items named.new reached.new parents.new calm.new
+        (take n queue.new))) }
     ensures same_length { vec_len references.new ≡ vec_len references.old }
     ensures reader { LeavesReader (D.ready directories.new) (D.base directories.old)
         (D.base directories.new) (D.device directories.old) (D.device directories.new) result }
@@ -230,8 +232,8 @@ pub fn read_level<D: Directories>(
     queue: &mut [u32],
 ) -> Result<usize, ImageFault>
     requires ready { D.ready directories.old }
-    requires lists { LevelLists (2 ^ 59) kinds.now marked.now references.old.items named.old reached.old
-        parents.old }
+    requires lists { LevelLists (2 ^ 59) kinds.now marked.now references.old.items named.old
+        reached.old parents.old }
     requires few { length frontier.now < 2 ^ 31 }
     requires room { unset reached.old ≤ length queue.old }
     requires frontier { ForKnown D.knows D.entries D.sound (D.base directories.old)
@@ -241,7 +243,8 @@ pub fn read_level<D: Directories>(
         (λ old new. ForKnown D.knows D.entries D.sound (D.base directories.old) (λ entries sound.
         ReadsDirs kinds.now marked.now frontier.now entries sound old new))
         (found_of references.old.items named.old reached.old parents.old calm.old [])
-        (found_of references.new.items named.new reached.new parents.new calm.new (take n queue.new))) }
+        (found_of references.new.items named.new reached.new parents.new calm.new
+        (take n queue.new))) }
     ensures same_length { vec_len references.new ≡ vec_len references.old }
     ensures reader { LeavesReader (D.ready directories.new) (D.base directories.old)
         (D.base directories.new) (D.device directories.old) (D.device directories.new) result }
@@ -300,8 +303,8 @@ pub fn read_unreached<D: Directories>(
     ensures grown { OnOk result
         (GrowsBy (length kinds.now) (2 ^ 28) references.old.items references.new.items) }
     ensures read { OnOk result (ForKnown D.knows D.entries D.sound (D.base directories.old)
-        (λ entries sound. ReadsUnreached kinds.now reached.now from (entries from) references.old.items
-        named.old parents.old references.new.items named.new parents.new)) }
+        (λ entries sound. ReadsUnreached kinds.now reached.now from (entries from)
+        references.old.items named.old parents.old references.new.items named.new parents.new)) }
     ensures same_length { vec_len references.new ≡ vec_len references.old }
     ensures reader { LeavesReader (D.ready directories.new) (D.base directories.old)
         (D.base directories.new) (D.device directories.old) (D.device directories.new) result }

@@ -188,8 +188,8 @@ pub fn survey<D: Directories>(
     requires lists { SurveyLists kinds.now marked.now references.old.items named.old reached.old
         parents.old queue.old }
     ensures survey { OnOk result (ForKnown D.knows D.entries D.sound (D.base directories.old)
-        (λ entries sound. IsSurvey (graph_with kinds.now entries) references.old.items references.new.items
-        named.new reached.new parents.new)) }
+        (λ entries sound. IsSurvey (graph_with kinds.now entries) references.old.items
+        references.new.items named.new reached.new parents.new)) }
     ensures calm { OnOk result (ForKnown D.knows D.entries D.sound (D.base directories.old)
         (λ entries sound.
         AreCalm kinds.now marked.now reached.new parents.new entries sound calm.new)) }

@@ -10,7 +10,8 @@ invariant-loop-s g l = record {
   base : g.D.Directories.base l.directories ≡ g.D.Directories.base l.fn.directories;
   device : g.D.Directories.device l.directories ≡ g.D.Directories.device l.fn.directories;
   same_length : vec_len l.references ≡ vec_len l.fn.references;
-  grown : (x : ℕ) → x < length l.kinds → number_at l.references.items x ≤ number_at l.fn.references.items x + l.s-index * 2 ^ 28;
+  grown : (x : ℕ) → x < length l.kinds → number_at l.references.items x ≤ number_at l.fn.references.items x + l.s-index
+      * 2 ^ 28;
   top : l.top + unset l.reached ≡ unset l.fn.reached;
   comes : (b : List ℕ) → g.D.Directories.knows (g.D.Directories.base l.fn.directories) b →
       Comes (from_dirs (graph_with l.kinds (g.D.Directories.entries (g.D.Directories.base l.fn.directories) b))

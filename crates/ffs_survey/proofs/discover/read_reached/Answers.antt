@@ -36,9 +36,11 @@ loop-entry-preserved g c =
           (take c.loop-entry.high c.loop-entry.queue) _
           (rw (cut b k) at (inv.comes b k)) c.visit-high.ensures.comes;
       counts = λ b k.
-          entry_counted (length c.args.kinds.now) _ _ e (g.D.Directories.rest c.next.new.self b) c.args.references.now.items
+          entry_counted (length c.args.kinds.now) _ _ e (g.D.Directories.rest c.next.new.self b)
+          c.args.references.now.items
           c.loop-entry.references.items _ c.args.named.now c.loop-entry.named _
-          (rw (cut b k) at (inv.counts b k)) c.count_entry.ensures.counted.references c.count_entry.ensures.counted.named;
+          (rw (cut b k) at (inv.counts b k)) c.count_entry.ensures.counted.references
+          c.count_entry.ensures.counted.named;
       quiet = λ b k.
           calm_step (record {
             kinds = c.args.kinds.now;

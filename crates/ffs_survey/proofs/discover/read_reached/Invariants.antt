@@ -21,8 +21,10 @@ invariant-loop-entry g l = record {
       (from_entries l.kinds l.from (g.D.Directories.rest l.directories b)) l.reached l.parents (take l.high l.queue);
   counts : (b : List ℕ) → g.D.Directories.knows (g.D.Directories.base l.fn.directories) b →
       Counts (length l.kinds) (count_in (g.D.Directories.entries (g.D.Directories.base l.fn.directories) b l.from))
-      (any_in (g.D.Directories.entries (g.D.Directories.base l.fn.directories) b l.from)) l.fn.references.items l.fn.named
-      (count_in (g.D.Directories.rest l.directories b)) (any_in (g.D.Directories.rest l.directories b)) l.references.items
+      (any_in (g.D.Directories.entries (g.D.Directories.base l.fn.directories) b l.from)) l.fn.references.items
+      l.fn.named
+      (count_in (g.D.Directories.rest l.directories b)) (any_in (g.D.Directories.rest l.directories b))
+      l.references.items
       l.named;
   quiet : (b : List ℕ) → g.D.Directories.knows (g.D.Directories.base l.fn.directories) b →
       (l.quiet && are_calm (record { kinds = l.kinds; marked = l.marked; dir = l.from; above = l.above })

@@ -29,9 +29,11 @@ loop-entry-preserved g c =
           let one = bit-le (refers x e) in
           omega (arith, old, new, one, fell);
       counts = λ b k.
-          entry_counted (length c.args.kinds.now) _ _ e (g.D.Directories.rest c.next.new.self b) c.args.references.now.items
+          entry_counted (length c.args.kinds.now) _ _ e (g.D.Directories.rest c.next.new.self b)
+          c.args.references.now.items
           c.loop-entry.references.items _ c.args.named.now c.loop-entry.named _
-          (rw (cut b k) at (inv.counts b k)) c.count_entry.ensures.counted.references c.count_entry.ensures.counted.named;
+          (rw (cut b k) at (inv.counts b k)) c.count_entry.ensures.counted.references
+          c.count_entry.ensures.counted.named;
       parents = λ b k x l.
           parent_step (is_free c.args.kinds.now c.args.reached.now x) (is_naming_entry x e)
           (any_in (g.D.Directories.rest c.next.new.self b) x) c.args.from (number_at c.loop-entry.parents x) _ _

@@ -14,8 +14,10 @@ invariant-loop-entry g l = record {
       l.fn.references.items x + 2 ^ 28;
   counts : (b : List ℕ) → g.D.Directories.knows (g.D.Directories.base l.fn.directories) b →
       Counts (length l.kinds) (count_in (g.D.Directories.entries (g.D.Directories.base l.fn.directories) b l.from))
-      (any_in (g.D.Directories.entries (g.D.Directories.base l.fn.directories) b l.from)) l.fn.references.items l.fn.named
-      (count_in (g.D.Directories.rest l.directories b)) (any_in (g.D.Directories.rest l.directories b)) l.references.items
+      (any_in (g.D.Directories.entries (g.D.Directories.base l.fn.directories) b l.from)) l.fn.references.items
+      l.fn.named
+      (count_in (g.D.Directories.rest l.directories b)) (any_in (g.D.Directories.rest l.directories b))
+      l.references.items
       l.named;
   parents : (b : List ℕ) → g.D.Directories.knows (g.D.Directories.base l.fn.directories) b → (x : ℕ) →
       x < length l.kinds → cond

@@ -71,7 +71,8 @@ returns-clause-level g c = record {
             };
         counts = subst (λ ys. CountsDirs c.args.kinds.now
             (g.D.Directories.entries (g.D.Directories.base c.args.directories.now) b) ys
-            (found_of c.args.references.now.items c.args.named.now c.args.reached.now c.args.parents.now c.args.calm.now [])
+            (found_of c.args.references.now.items c.args.named.now c.args.reached.now c.args.parents.now
+            c.args.calm.now [])
             (found_of c.read_level.new.references.items c.read_level.new.named c.read_level.new.reached
             c.read_level.new.parents
             c.read_level.new.calm [])) e (c.in_ok-found.ensures.found.read b k).counts;

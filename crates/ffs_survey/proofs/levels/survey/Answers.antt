@@ -10,7 +10,8 @@ returns-clause-survey g c = λ b k.
     let es = g.D.Directories.entries (g.D.Directories.base c.args.directories.now) b in
     let read = rw c.in_ok-survey_reached.ensures.reader.same at c.in_ok-survey_unreached.ensures.read in
     let first = (c.in_ok-survey_reached.ensures.read b k).part in
-    let second = read b k (free_blank c.args.kinds.now es _ c.survey_reached.new.references.items c.survey_reached.new.named
+    let second = read b k (free_blank c.args.kinds.now es _ c.survey_reached.new.references.items
+    c.survey_reached.new.named
     c.survey_reached.new.reached c.survey_reached.new.parents first) in
     survey_whole c.args.kinds.now es c.args.references.now.items c.limit_starts.new.references.items
     c.survey_reached.new.references.items c.survey_unreached.new.references.items
@@ -24,7 +25,8 @@ returns-clause-calm g c = λ b k.
     let es = g.D.Directories.entries (g.D.Directories.base c.args.directories.now) b in
     let read = rw c.in_ok-survey_reached.ensures.reader.same at c.in_ok-survey_unreached.ensures.read in
     let first = (c.in_ok-survey_reached.ensures.read b k).part in
-    let second = read b k (free_blank c.args.kinds.now es _ c.survey_reached.new.references.items c.survey_reached.new.named
+    let second = read b k (free_blank c.args.kinds.now es _ c.survey_reached.new.references.items
+    c.survey_reached.new.named
     c.survey_reached.new.reached c.survey_reached.new.parents first) in
     let calm = (c.in_ok-survey_reached.ensures.read b k).calm in
     calm_unreached c.args.kinds.now c.args.marked.now c.survey_reached.new.reached c.survey_reached.new.parents

@@ -9,7 +9,8 @@ invariant-loop-s g l = record {
   base : g.D.Directories.base l.directories ≡ g.D.Directories.base l.fn.directories;
   device : g.D.Directories.device l.directories ≡ g.D.Directories.device l.fn.directories;
   same_length : vec_len l.references ≡ vec_len l.fn.references;
-  grown : (x : ℕ) → x < length l.kinds → number_at l.references.items x ≤ number_at l.fn.references.items x + l.s * 2 ^ 28;
+  grown : (x : ℕ) → x < length l.kinds → number_at l.references.items x ≤ number_at l.fn.references.items x + l.s * 2 ^
+      28;
   read : (b : List ℕ) → g.D.Directories.knows (g.D.Directories.base l.fn.directories) b →
       IsBlank l.kinds l.reached l.fn.parents →
       IsRead (graph_with l.kinds (g.D.Directories.entries (g.D.Directories.base l.fn.directories) b)) l.kinds l.reached
