@@ -17,7 +17,7 @@ use crate::tell::EntryTexts;
 use ffs_image::Image;
 use ffs_layout::Geometry;
 use ffs_names::Chunks;
-use ffs_paths::{PathText, Siblings};
+use ffs_paths::{EntryPaths, PathText, Siblings};
 use ffs_phase::RunFault;
 use ffs_report::{Output, Report};
 use ffs_volume::Inode;
@@ -54,7 +54,7 @@ pub fn report_directory<I: Image, W: Output>(
     let mut chunks = Chunks::start(geometry, inode, cut);
     let mut chunk = [0u8; DIRBLKSIZ];
     let mut texts = EntryTexts {
-        text: PathText::new(),
+        paths: EntryPaths::of(path),
         directory: PathText::new(),
     };
     'chunks: while let Some(offset) = chunks.next(
@@ -65,7 +65,7 @@ pub fn report_directory<I: Image, W: Output>(
     )? {
         let first = offset == 0;
         report_chunk(
-            geometry, image, workspace, siblings, report, dir, &path, first, &chunk, &mut texts,
+            geometry, image, workspace, siblings, report, dir, first, &chunk, &mut texts,
         )?;
     }
     Ok(())

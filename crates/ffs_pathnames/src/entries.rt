@@ -20,7 +20,7 @@ use crate::verdict::pass;
 use ffs_image::Image;
 use ffs_layout::{Entry, Geometry, entry_at};
 use ffs_names::role_of;
-use ffs_paths::{DirectoryPath, Siblings};
+use ffs_paths::Siblings;
 use ffs_phase::RunFault;
 use ffs_report::{Output, Report};
 use ffs_volume::Role;
@@ -35,7 +35,6 @@ fn say_entry<I: Image, W: Output>(
     siblings: &mut Siblings,
     report: &mut Report<'_, W>,
     dir: u32,
-    path: &DirectoryPath,
     role: Role,
     entry: &Entry<'_>,
     texts: &mut EntryTexts,
@@ -43,10 +42,11 @@ fn say_entry<I: Image, W: Output>(
     requires ready { ReadyToPath geometry.now.layout (I.device image.old) workspace.old
         siblings.old dir }
     ensures text { PhaseReports (KnowsPath geometry.now.layout (I.device image.old).contents
-        workspace.old dir path.now)
+        workspace.old dir texts.old.paths.directory)
         (λ b. map of_tree (marks.entry_lines_of (volume_of geometry.now.layout b) dir
         (marks_of workspace.old) (record { role = role; entry = entry_value entry.now })))
         (progress W.sink report.old) (progress W.sink report.new) result }
+    ensures same { texts.new.paths.directory ≡ texts.old.paths.directory }
     ensures leaves { LinesLeave geometry.now.layout (I.device image.old) (I.device image.new)
         workspace.old workspace.new siblings.new result }
 {
@@ -54,9 +54,9 @@ fn say_entry<I: Image, W: Output>(
         Role::Empty => Ok(()),
         Role::Dot => Ok(()),
         Role::Dotdot => Ok(()),
-        Role::Extra => report_extra(geometry, image, workspace, report, dir, path, entry, texts),
+        Role::Extra => report_extra(geometry, image, workspace, report, dir, entry, texts),
         Role::Plain => report_plain(
-            geometry, image, workspace, siblings, report, dir, path, entry, texts,
+            geometry, image, workspace, siblings, report, dir, entry, texts,
         ),
     }
 }
@@ -69,7 +69,6 @@ pub fn report_entry<I: Image, W: Output>(
     siblings: &mut Siblings,
     report: &mut Report<'_, W>,
     dir: u32,
-    path: &DirectoryPath,
     role: Role,
     entry: &Entry<'_>,
     texts: &mut EntryTexts,
@@ -77,10 +76,11 @@ pub fn report_entry<I: Image, W: Output>(
     requires ready { ReadyToPath geometry.now.layout (I.device image.old) workspace.old
         siblings.old dir }
     ensures text { PhaseReports (KnowsPath geometry.now.layout (I.device image.old).contents
-        workspace.old dir path.now)
+        workspace.old dir texts.old.paths.directory)
         (λ b. map of_tree (marks.entry_lines_of (volume_of geometry.now.layout b) dir
         (marks_of workspace.old) (record { role = role; entry = entry_value entry.now })))
         (progress W.sink report.old) (progress W.sink report.new) result }
+    ensures same { texts.new.paths.directory ≡ texts.old.paths.directory }
     ensures marks { OnOk result (ForBytes
         (DirectoryContext geometry.now.layout (I.device image.old).contents workspace.old dir) (λ b.
         marks.after_roled (volume_of geometry.now.layout b) dir (marks_of workspace.old)
@@ -89,7 +89,7 @@ pub fn report_entry<I: Image, W: Output>(
         workspace.old workspace.new siblings.new result }
 {
     say_entry(
-        geometry, image, workspace, siblings, report, dir, path, role, entry, texts,
+        geometry, image, workspace, siblings, report, dir, role, entry, texts,
     )?;
     let inodes = Inodes {
         kinds: workspace.kinds.as_slice(),
@@ -116,18 +116,18 @@ pub fn report_chunk<I: Image, W: Output>(
     siblings: &mut Siblings,
     report: &mut Report<'_, W>,
     dir: u32,
-    path: &DirectoryPath,
     first: bool,
     chunk: &[u8; DIRBLKSIZ],
     texts: &mut EntryTexts,
 ) -> Result<(), RunFault>
     requires { ReadyToPath geometry.now.layout (I.device image.old) workspace.old siblings.old dir }
     ensures text { PhaseReports (KnowsPath geometry.now.layout (I.device image.old).contents
-        workspace.old dir path.now)
+        workspace.old dir texts.old.paths.directory)
         (λ b. map of_tree (marks.entries_reported (volume_of geometry.now.layout b) dir
         (marks_of workspace.old) (roled_from first 0
         (entries_of geometry.now.layout.order chunk.now))))
         (progress W.sink report.old) (progress W.sink report.new) result }
+    ensures same { texts.new.paths.directory ≡ texts.old.paths.directory }
     ensures marks { OnOk result (ForBytes
         (DirectoryContext geometry.now.layout (I.device image.old).contents workspace.old dir) (λ b.
         marks.after_entries (volume_of geometry.now.layout b) dir (marks_of workspace.old)
@@ -142,7 +142,7 @@ pub fn report_chunk<I: Image, W: Output>(
     'entries: while let Some(entry) = entry_at(order, chunk, place) {
         let role = role_of(first, index, &entry);
         report_entry(
-            geometry, image, workspace, siblings, report, dir, path, role, &entry, texts,
+            geometry, image, workspace, siblings, report, dir, role, &entry, texts,
         )?;
         place += usize::from(entry.length);
         index += 1;

@@ -16,6 +16,7 @@ ghost use Rattle.ffs_workspace.specs.Holds.{HoldsClaims, HoldsSurvey};
 ghost use Rattle.ffs_pathnames.specs.Gathers.{IsEnough, IsVerdict, AreAsLong, marks_of, asks_attr, asks_path, is_silent};
 ghost use Rattle.ffs_pathnames.specs.DirectoryContext.{DirectoryContext, KnowsPath};
 ghost use Rattle.ffs_paths.specs.DirectoryPaths.{IsPathOf};
+ghost use Rattle.ffs_paths.specs.LastPaths.{last_path};
 ghost use Rattle.ffs_paths.specs.Reads.{ForTree, IsReadyFor, OnlyReads};
 ghost use Rattle.ffs_pathnames.specs.Marks.{plain_reported};
 ghost use Rattle.ffs_pathnames.specs.Ready.{ReadyWith, ReadyToPath, PathLeaves, LinesLeave, LineLeaves};
@@ -26,7 +27,7 @@ use crate::lines::say_verdict;
 use crate::verdict::{Verdict, entry_verdict};
 use ffs_image::{Image, ImageFault};
 use ffs_layout::{Entry, Geometry};
-use ffs_paths::{DirectoryPath, PathText, Siblings};
+use ffs_paths::{EntryPaths, PathText, Siblings};
 use ffs_phase::RunFault;
 use ffs_report::{DotLine, Line, OutFault, Output, Report};
 use ffs_volume::Attr;
@@ -36,8 +37,8 @@ use ffs_workspace::Workspace;
 #[derive(Drop)]
 pub struct EntryTexts {
     /// The path of the entry.
-    pub text: PathText,
-    /// The path of the directory that it names.
+    pub paths: EntryPaths,
+    /// The path of a directory, as that which the entry names.
     pub directory: PathText,
 }
 
@@ -95,12 +96,12 @@ fn gather_path<I: Image>(
 
 /// Gathers what the messages on an entry show: the two paths into `texts`, and the attributes of the inode that it
 /// names.
+#[inline(always)]
 fn gather<I: Image>(
     geometry: &Geometry,
     image: &mut I,
     workspace: &mut Workspace,
     siblings: &mut Siblings,
-    path: &DirectoryPath,
     entry: &Entry<'_>,
     verdict: &Verdict,
     texts: &mut EntryTexts,
@@ -111,14 +112,15 @@ fn gather<I: Image>(
     ensures enough { IfOk result (λ a. (b : List ℕ) (dir : ℕ) → (I.device image.old).contents
         ≡ Some b → HoldsClaims geometry.now.layout b workspace.old
         → HoldsSurvey geometry.now.layout b workspace.old →
-        IsPathOf (graph_of (volume_of geometry.now.layout b)) dir path.now →
+        IsPathOf (graph_of (volume_of geometry.now.layout b)) dir texts.old.paths.directory →
         IsEnough (volume_of geometry.now.layout b) verdict.now dir entry.now.number
-        entry.now.name.now a texts.new.text.items texts.new.directory.items) }
+        entry.now.name.now a (last_path texts.new.paths) texts.new.directory.items) }
+    ensures same { texts.new.paths.directory ≡ texts.old.paths.directory }
     ensures leaves { PathLeaves geometry.now.layout (I.device image.old) (I.device image.new)
         workspace.old workspace.new siblings.new result }
 {
     let (wants_attr, wants_path) = asks(verdict);
-    path.put_entry(entry.name, &mut texts.text);
+    texts.paths.put(entry.name);
     if !wants_attr {
         return Ok(Attr {
             number: entry.number,
@@ -182,17 +184,17 @@ pub fn report_plain<I: Image, W: Output>(
     siblings: &mut Siblings,
     report: &mut Report<'_, W>,
     dir: u32,
-    path: &DirectoryPath,
     entry: &Entry<'_>,
     texts: &mut EntryTexts,
 ) -> Result<(), RunFault>
     requires ready { ReadyToPath geometry.now.layout (I.device image.old) workspace.old
         siblings.old dir }
     ensures text { PhaseReports (KnowsPath geometry.now.layout (I.device image.old).contents
-        workspace.old dir path.now)
+        workspace.old dir texts.old.paths.directory)
         (λ b. map of_tree (plain_reported (volume_of geometry.now.layout b) dir
         (marks_of workspace.old) (entry_value entry.now)))
         (progress W.sink report.old) (progress W.sink report.new) result }
+    ensures same { texts.new.paths.directory ≡ texts.old.paths.directory }
     ensures leaves { LinesLeave geometry.now.layout (I.device image.old) (I.device image.new)
         workspace.old workspace.new siblings.new result }
 {
@@ -200,15 +202,13 @@ pub fn report_plain<I: Image, W: Output>(
     if is_silent(&verdict) {
         return Ok(());
     }
-    let attr = gather(
-        geometry, image, workspace, siblings, path, entry, &verdict, texts,
-    )?;
+    let attr = gather(geometry, image, workspace, siblings, entry, &verdict, texts)?;
     say_verdict(
         report,
         &verdict,
         entry.number,
         attr,
-        texts.text.as_slice(),
+        texts.paths.last(),
         texts.directory.as_slice(),
     )?;
     Ok(())
@@ -221,22 +221,23 @@ pub fn report_extra<I: Image, W: Output>(
     workspace: &mut Workspace,
     report: &mut Report<'_, W>,
     dir: u32,
-    path: &DirectoryPath,
     entry: &Entry<'_>,
     texts: &mut EntryTexts,
 ) -> Result<(), RunFault>
     requires { IsReadyFor geometry.now.layout (I.device image.old) workspace.old dir }
     ensures text { PhaseReports (KnowsPath geometry.now.layout (I.device image.old).contents
-        workspace.old dir path.now)
+        workspace.old dir texts.old.paths.directory)
         (λ b. map of_tree (extra_lines (attributes (volume_of geometry.now.layout b) dir)
         (dir_path (graph_of (volume_of geometry.now.layout b)) dir) (entry_value entry.now)))
         (progress W.sink report.old) (progress W.sink report.new) result }
+    ensures same { texts.new.paths.directory ≡ texts.old.paths.directory }
     ensures leaves { LineLeaves geometry.now.layout (I.device image.old) (I.device image.new)
         workspace.old workspace.new result }
 {
-    path.put(&mut texts.text);
+    let paths = &texts.paths;
+    paths.directory.put(&mut texts.directory);
     let attr = read_attr(geometry, image, workspace, dir)?;
-    say_extra(report, attr, texts.text.as_slice(), entry)?;
+    say_extra(report, attr, texts.directory.as_slice(), entry)?;
     Ok(())
 }
 

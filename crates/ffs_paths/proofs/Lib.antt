@@ -4,6 +4,7 @@ pub mod Keeping
 pub mod Longer
 pub mod NamesFound
 pub mod Parts
+pub mod Prefixes
 pub mod Rooms
 pub mod Single
 pub mod Tails

@@ -10,12 +10,14 @@
 mod buffer;
 mod child_names;
 mod climb;
+mod entry_paths;
 mod kept;
 mod path;
 mod search;
 mod siblings;
 
 pub use buffer::{PathBuffer, PathText};
+pub use entry_paths::EntryPaths;
 pub use kept::DirectoryPath;
 pub use path::{directory_path, path_of};
 pub use siblings::Siblings;

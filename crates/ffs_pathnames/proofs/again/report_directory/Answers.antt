@@ -6,6 +6,7 @@ use Rattle.ffs_image.specs.Device.{Faulted}
 use Rattle.ffs_volume.specs.Directories.Entries.{Chunk, chunk_of}
 use Rattle.ffs_volume.specs.Blocks.Inodes.{inode_of}
 use Rattle.ffs_volume.specs.Messages.Kinds.{of_tree}
+use Rattle.ffs_volume.specs.Directories.Parents.{graph_of}
 use Rattle.ffs_volume.specs.Directories.Roles.{roled_chunk, roled_entries}
 use Rattle.ffs_volume.specs.Directories.Volumes.{volume_of}
 use Rattle.ffs_names.specs.Readings.{rest}
@@ -13,6 +14,7 @@ use Rattle.ffs_phase.specs.Runs.{ImageAfter}
 use Rattle.ffs_phase.proofs.Reporting.{of_begins, of_reads, of_same, of_part, of_fault, said_knows, reports_knowing}
 use Rattle.ffs_workspace.specs.Leaves.{LeavesSurvey}
 use Rattle.ffs_workspace.proofs.Leaving.{claims_left, leaves_more, windows_leave}
+use Rattle.ffs_paths.specs.DirectoryPaths.{IsPathOf}
 use Rattle.ffs_pathnames.specs.Gathers.{marks_of}
 use Rattle.ffs_pathnames.specs.DirectoryContext.{DirectoryContext}
 use Rattle.ffs_pathnames.specs.Marks.{after_entries, entries_reported}
@@ -48,6 +50,8 @@ chunks-init g c =
       device = ok.read;
       geometry = c.start-chunks.ensures.geometry;
       survey = windows_leave _ _ ok.lists;
+      path = λ b k. subst (IsPathOf (graph_of (volume_of v b)) c.args.dir) (sym c.of.ensures)
+          (c.in_ok-path.ensures.path b k.reported_is k.claims k.survey);
       marks = λ b k. ap (λ q. after_entries (volume_of v b) c.args.dir q (roled_entries (volume_of v b) c.args.dir))
           same ∙ ap (after_entries (volume_of v b) c.args.dir (marks_of here)) (sym (seen b k));
       said = of_same _ all (λ (b : List ℕ). map of_tree
@@ -129,6 +133,7 @@ chunks-preserved g c =
       device = same;
       geometry = read.leaves.geometry ∙ inv.geometry;
       survey = leaves_more _ _ _ kept ok.leaves.survey;
+      path = λ b k. subst (IsPathOf (graph_of (volume_of v b)) c.args.dir) (sym ok.same) (inv.path b k);
       marks = λ b k. chunk_passed (volume_of v b) c.args.dir _ m m' here (rest b c.chunks.chunks)
           (rest b c.next.new.self) (next b k) (ok.marks b (know b k)) (inv.marks b k);
       said = of_part _ (λ (b : List ℕ). map of_tree
@@ -140,7 +145,7 @@ chunks-preserved g c =
           (λ b k. chunk_reported (volume_of v b) c.args.dir m m' here (rest b c.chunks.chunks) (rest b c.next.new.self)
           (next b k) (ok.marks b (know b k)))
           (said_knows _ _ _ _ _ _ (λ b k. record
-          { knows = know b k; path = c.in_ok-path.ensures.path b k.0.reported_is k.0.claims k.0.survey }) ok.text);
+          { knows = know b k; path = inv.path b k.0 }) ok.text);
     }
 
 pub returns-in_err-report_chunk-clause-text : goal.returns-in_err-report_chunk-clause-text
@@ -177,7 +182,7 @@ returns-in_err-report_chunk-clause-text g c =
     (λ b k. chunk_reported (volume_of v b) c.args.dir m (after_entries (volume_of v b) c.args.dir m (roled_chunk here))
     here (rest b c.chunks.chunks) (rest b c.next.new.self) (next b k) refl)
     (reports_knowing (Unit {0}) _ _ _ _ _ (Err c.in_err-report_chunk.field-0.0)
-    (λ b k. record { knows = know b k; path = c.in_ok-path.ensures.path b k.0.reported_is k.0.claims k.0.survey })
+    (λ b k. record { knows = know b k; path = inv.path b k.0 })
     c.in_err-report_chunk.ensures.text))
 
 pub returns-in_err-report_chunk-clause-leaves : goal.returns-in_err-report_chunk-clause-leaves

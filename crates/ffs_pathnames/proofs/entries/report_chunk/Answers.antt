@@ -1,11 +1,13 @@
-use Rattle.std.proofs.Common.{◌+◌, refl, ap, ◌∙◌, arith, ℕ, List, [], map, Err}
+use Rattle.std.proofs.Common.{◌+◌, refl, ap, sym, subst, ◌∙◌, arith, ℕ, List, [], map, Err}
 use Rattle.std.proofs.lemmas.Result.{err_from_is_err_and}
 use Rattle.ffs_volume.specs.Directories.Entries.{entries_of}
 use Rattle.ffs_volume.specs.Messages.Kinds.{of_tree}
+use Rattle.ffs_volume.specs.Directories.Parents.{graph_of}
 use Rattle.ffs_volume.specs.Directories.Roles.{RoledEntry, roled_from}
 use Rattle.ffs_volume.specs.Directories.Volumes.{volume_of}
 use Rattle.ffs_layout.specs.Entry.{entry_value}
 use Rattle.ffs_phase.proofs.Reporting.{of_begins, of_same, of_part, of_fault, said_knows, reports_knowing}
+use Rattle.ffs_paths.specs.DirectoryPaths.{IsPathOf}
 use Rattle.ffs_pathnames.specs.Gathers.{marks_of}
 use Rattle.ffs_pathnames.specs.DirectoryContext.{DirectoryContext}
 use Rattle.ffs_pathnames.specs.Marks.{after_roled, after_entries, entry_lines_of, entries_reported}
@@ -23,6 +25,7 @@ entries-init g c =
       ready = record { ready = c.requires.ready; siblings = c.requires.siblings };
       device = refl;
       survey = leaves_all _;
+      path = refl;
       marks = λ b k. refl;
       said = of_begins _ (λ (b : List ℕ). map of_tree
           (entries_reported (volume_of v b) c.args.dir (marks_of c.args.workspace.now)
@@ -54,7 +57,7 @@ returns-in_err-report_entry-clause-text g c =
     (λ b k. record {
       knows = knows_on v _ _ c.args.workspace.now c.entries.workspace c.args.dir b
           (ap (λ d. d.contents) inv.device) inv.survey k.knows;
-      path = k.path;
+      path = subst (IsPathOf (graph_of (volume_of v b)) c.args.dir) (sym inv.path) k.path;
     }) c.in_err-report_entry.ensures.text))
 
 pub entries-preserved : goal.entries-preserved
@@ -83,13 +86,17 @@ entries-preserved g c =
       ready = ok.leaves.ready;
       device = ok.leaves.image ∙ inv.device;
       survey = leaves_more _ _ _ inv.survey ok.leaves.survey;
+      path = ok.same ∙ inv.path;
       marks = λ b k. entry_passed (volume_of v b) c.args.dir _ m m' seen here there next (ok.marks b (know b k))
           (inv.marks b k);
       said = of_part _ (λ (b : List ℕ). map of_tree (entries_reported (volume_of v b) c.args.dir m here))
           (λ (b : List ℕ). map of_tree (entry_lines_of (volume_of v b) c.args.dir m seen))
           (λ (b : List ℕ). map of_tree (entries_reported (volume_of v b) c.args.dir m' there)) _ _ _ _ inv.said
           (λ b k. entry_reported (volume_of v b) c.args.dir m m' seen here there next (ok.marks b (know b k.knows)))
-          (said_knows _ _ _ _ _ _ (λ b k. record { knows = know b k.knows; path = k.path }) ok.text);
+          (said_knows _ _ _ _ _ _ (λ b k. record {
+            knows = know b k.knows;
+            path = subst (IsPathOf (graph_of (volume_of v b)) c.args.dir) (sym inv.path) k.path;
+          }) ok.text);
     })
 
 pub returns-clause-text : goal.returns-clause-text

@@ -21,11 +21,13 @@ invariant-entries g l = let reported_by = g.I.Image.device in let v = l.geometry
   ready : ReadyWith v (reported_by l.image) l.workspace l.siblings;
   device : reported_by l.image ≡ reported_by l.fn.image;
   survey : LeavesSurvey l.fn.workspace l.workspace;
+  path : l.texts.paths.directory ≡ l.fn.texts.paths.directory;
   marks : ForBytes (DirectoryContext v (reported_by l.fn.image).contents l.fn.workspace l.dir) (λ b.
       after_entries (volume_of v b) l.dir (marks_of l.fn.workspace) (roled_from l.first 0 (entries_of v.order l.chunk))
       ≡ after_entries (volume_of v b) l.dir (marks_of l.workspace)
       (roled_at_place v.order l.chunk l.first l.index l.place));
-  said : SaidOf (KnowsPath v (reported_by l.fn.image).contents l.fn.workspace l.dir l.path)
+  said : SaidOf (KnowsPath v (reported_by l.fn.image).contents l.fn.workspace l.dir
+      l.fn.texts.paths.directory)
       (λ b. map of_tree (entries_reported (volume_of v b) l.dir (marks_of l.workspace)
       (roled_at_place v.order l.chunk l.first l.index l.place)))
       (λ b. map of_tree (entries_reported (volume_of v b) l.dir (marks_of l.fn.workspace)

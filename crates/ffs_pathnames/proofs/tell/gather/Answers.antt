@@ -1,7 +1,9 @@
 use Rattle.std.proofs.Common.{ap, sym, ◌∙◌}
 use Rattle.std.proofs.lemmas.Bool.{both_ways}
+use Rattle.std.proofs.lemmas.Result.{err_from_is_err_and}
 use Rattle.ffs_volume.specs.Directories.Parents.{graph_of}
 use Rattle.ffs_volume.specs.Directories.Volumes.{volume_of}
+use Rattle.ffs_paths.specs.LastPaths.{last_path}
 use Rattle.ffs_paths.proofs.Keeping.{siblings_on}
 use Rattle.ffs_paths.proofs.Rooms.{entry_in_room}
 use Rattle.ffs_pathnames.proofs.Enough.{enough, path_asks_attr}
@@ -14,9 +16,9 @@ returns-clause-enough g c = λ b dir t h r p.
     let v = c.args.geometry.now.layout in
     let t1 = ap (λ x. x.contents) c.in_ok-gather_path.ensures.leaves.reads.read ∙ t in
     enough (volume_of v b) c.args.verdict.now dir c.args.entry.now.number c.args.entry.now.name.now c.in_ok-attr.attr
-    c.put_entry.new.text.items c.gather_path.new.text.items
+    (last_path c.put.new.self) c.gather_path.new.text.items
     (λ q. c.in_ok-attr.ensures.attr b t1)
-    (c.put_entry.ensures (graph_of (volume_of v b)) dir p
+    (c.put.ensures.path (graph_of (volume_of v b)) dir p
     ∙ entry_in_room (graph_of (volume_of v b)) dir c.args.entry.now.name.now c.args.entry.now.short)
     (λ q. c.in_ok-gather_path.ensures.path b t h r (c.asks-wants_attr.ensures.directory ∙ q))
 
@@ -34,8 +36,34 @@ returns-then-not-wants_attr-clause-enough g c = λ b dir t h r p.
     let v = c.args.geometry.now.layout in
     let silent = sym c.asks-wants_attr.ensures.attr ∙ c.if-not-wants_attr.true in
     enough (volume_of v b) c.args.verdict.now dir c.args.entry.now.number c.args.entry.now.name.now
-    _ c.put_entry.new.text.items c.args.texts.now.directory.items
+    _ (last_path c.put.new.self) c.args.texts.now.directory.items
     (λ q. absurd (both_ways _ silent q))
-    (c.put_entry.ensures (graph_of (volume_of v b)) dir p
+    (c.put.ensures.path (graph_of (volume_of v b)) dir p
     ∙ entry_in_room (graph_of (volume_of v b)) dir c.args.entry.now.name.now c.args.entry.now.short)
     (λ q. absurd (both_ways _ silent (path_asks_attr c.args.verdict.now q)))
+
+pub returns-in_err-gather_path-clause-leaves : goal.returns-in_err-gather_path-clause-leaves
+returns-in_err-gather_path-clause-leaves g c =
+    let left = c.in_err-gather_path.ensures.leaves.reads in
+    let p = err_from_is_err_and c.from_residual.result c.from_residual.ensures.1 in
+    rw (p.1, p.2) (record {
+      reads = record { lists = left.lists; ready = left.ready; read = left.read };
+      siblings = tt;
+    })
+
+pub read_attr-requires : goal.read_attr-requires
+read_attr-requires g c = record {
+  ready = c.in_ok-gather_path.ensures.leaves.reads.ready;
+  number = c.requires.number (sym c.asks-wants_attr.ensures.attr ∙ c.if-not-wants_attr.false);
+}
+
+pub returns-in_err-attr-clause-leaves : goal.returns-in_err-attr-clause-leaves
+returns-in_err-attr-clause-leaves g c =
+    let path = c.in_ok-gather_path.ensures.leaves in
+    let left = c.in_err-attr.ensures.reads in
+    let p = err_from_is_err_and c.from_residual-in_err-attr.result c.from_residual-in_err-attr.ensures.1 in
+    rw (p.1, p.2) (record {
+      reads = reads_more _ _ _ _ _ _ _ _ path.reads.read path.reads.lists
+          (record { lists = left.lists; ready = left.ready; read = left.read });
+      siblings = tt;
+    })

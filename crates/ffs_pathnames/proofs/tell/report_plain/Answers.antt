@@ -40,7 +40,7 @@ returns-in_err-say_verdict-clause-text g c =
     let all = λ (b : List ℕ). map of_tree
     (plain_reported (volume_of v b) c.args.dir (marks_of c.args.workspace.now) (entry_value c.args.entry.now)) in
     let ms : List TreeMessage = verdict_reported c.verdict_of-verdict.result c.args.entry.now.number c.in_ok-attr.attr
-    c.as_slice.result.now c.as_slice-2.result.now in
+    c.last.result.now c.as_slice.result.now in
     let p = err_from_is_err_and c.from_residual-in_err-say_verdict.result
     c.from_residual-in_err-say_verdict.ensures.1 in
     rw (p.1, p.2) (of_stops _ all (λ b. []) _ (map of_tree ms) _ _ _ (of_begins _ all _)
@@ -48,9 +48,9 @@ returns-in_err-say_verdict-clause-text g c =
     ((c.verdict_of-verdict.ensures.verdict v b c.requires.ready.ready.made k.knows.claims k.knows.survey).reported
     ∙ (sym (c.in_ok-attr.ensures.enough b c.args.dir k.knows.reported_is k.knows.claims k.knows.survey k.path)
     ∙ (ap (λ q. verdict_reported c.verdict_of-verdict.result c.args.entry.now.number c.in_ok-attr.attr q
-    c.gather.new.texts.directory.items) (sym c.as_slice.ensures.value)
+    c.gather.new.texts.directory.items) (sym c.last.ensures)
     ∙ ap (λ q. verdict_reported c.verdict_of-verdict.result c.args.entry.now.number c.in_ok-attr.attr
-    c.as_slice.result.now q) (sym c.as_slice-2.ensures.value))))
+    c.last.result.now q) (sym c.as_slice.ensures.value))))
     ∙ sym (append-nil (map of_tree ms)))
     c.in_err-say_verdict.ensures)
 
@@ -60,14 +60,14 @@ returns-clause-text g c =
     let all = λ (b : List ℕ). map of_tree
     (plain_reported (volume_of v b) c.args.dir (marks_of c.args.workspace.now) (entry_value c.args.entry.now)) in
     let ms : List TreeMessage = verdict_reported c.verdict_of-verdict.result c.args.entry.now.number c.in_ok-attr.attr
-    c.as_slice.result.now c.as_slice-2.result.now in
+    c.last.result.now c.as_slice.result.now in
     of_says _ all (λ b. []) _ (map of_tree ms) _ _ _ (of_begins _ all _)
     (λ b k. ap (map of_tree)
     ((c.verdict_of-verdict.ensures.verdict v b c.requires.ready.ready.made k.knows.claims k.knows.survey).reported
     ∙ (sym (c.in_ok-attr.ensures.enough b c.args.dir k.knows.reported_is k.knows.claims k.knows.survey k.path)
     ∙ (ap (λ q. verdict_reported c.verdict_of-verdict.result c.args.entry.now.number c.in_ok-attr.attr q
-    c.gather.new.texts.directory.items) (sym c.as_slice.ensures.value)
+    c.gather.new.texts.directory.items) (sym c.last.ensures)
     ∙ ap (λ q. verdict_reported c.verdict_of-verdict.result c.args.entry.now.number c.in_ok-attr.attr
-    c.as_slice.result.now q) (sym c.as_slice-2.ensures.value))))
+    c.last.result.now q) (sym c.as_slice.ensures.value))))
     ∙ sym (append-nil (map of_tree ms)))
     c.in_ok-say_verdict.ensures

@@ -1,0 +1,53 @@
+-- What the paths of all entries of a directory begin with, and a name after it.
+use Rattle.std.proofs.Common.{◌≡◌, ℕ, ◌+◌, ◌<◌, ◌≤◌, List, [], ◌∷◌, ◌++◌, length, take, set, ap, sym, ◌∙◌, arith}
+use Rattle.std.proofs.Common.{append_assoc, ◌==◌}
+use Rattle.std.specs.Prelude.{if◌then◌else◌}
+use Rattle.std.proofs.lemmas.Slice.{take-put_mid, take-put_mid_below}
+use Rattle.std.proofs.lemmas.Bool.{ne_eqb}
+use Rattle.std.proofs.lemmas.List.{take_more_set}
+use borrow.Rule.Slice.PartMut.{put_mid}
+use Rattle.ffs_volume.specs.Directories.Graph.{Graph}
+use Rattle.ffs_volume.specs.Directories.Paths.{entry_path}
+use Rattle.ffs_paths.specs.Climbing.{in_room}
+use Rattle.ffs_paths.specs.DirectoryPaths.{IsPathOf}
+use Rattle.ffs_paths.specs.EntryPaths.{BeginsWith}
+use Rattle.ffs_paths.specs.declared.kept.DirectoryPath.{DirectoryPath}
+use Rattle.ffs_paths.proofs.Tails.{entry-whole}
+use Rattle.ffs_paths.proofs.Ways.{entry_is}
+
+-- a name is written after it
+pub named : (p : DirectoryPath) (begins k end : ℕ) (bytes name : List ℕ) → length bytes ≡ 1024
+    → BeginsWith p begins bytes → end ≡ begins + length name → end ≤ 1024
+    → (g : Graph) (d : ℕ) → IsPathOf g d p → take end (put_mid begins k bytes name) ≡ in_room (entry_path g d name)
+named p begins k end bytes name size b is fits g d h =
+    let room = b.room in
+    let low = p.names.in_buffer in
+    let ordered = p.names.ordered in
+    entry_is g d name p _ h b.reached (λ names held single.
+    take-put_mid begins k bytes name end is (omega arith)
+    ∙ (ap (λ xs. xs ++ name) b.first
+    ∙ (append_assoc _ (47 ∷ []) name
+    ∙ sym (entry-whole names name p.names.start p.names.bytes (omega arith) p.names.long (held.whole b.whole)
+    (omega arith)))))
+
+-- and it stays
+pub begins_still : (p : DirectoryPath) (begins k : ℕ) (bytes name : List ℕ) → begins ≤ length bytes
+    → BeginsWith p begins bytes → BeginsWith p begins (put_mid begins k bytes name)
+begins_still p begins k bytes name within b = record {
+  reached = b.reached;
+  whole = b.whole;
+  room = b.room;
+  inside = b.inside;
+  first = take-put_mid_below begins k bytes name begins (omega arith) within ∙ b.first;
+}
+
+-- a directory's path and a `/` are written
+pub first_is : (k end : ℕ) (bytes path : List ℕ) → length path ≡ end → end < length (put_mid 0 k bytes path)
+    → take (end + 1) (set (put_mid 0 k bytes path) end 47) ≡ path ++ 47 ∷ []
+first_is k end bytes path is within =
+    take_more_set (put_mid 0 k bytes path) end 47 within
+    ∙ ap (λ xs. xs ++ 47 ∷ []) (take-put_mid 0 k bytes path end (omega arith) (omega arith))
+
+-- a path that is not empty is in the bytes
+pub in_bytes : (n : ℕ) (text bytes : List ℕ) → 0 < n → (if n == 0 then text else take n bytes) ≡ take n bytes
+in_bytes n text bytes h = ap (λ b. if b then text else take n bytes) (ne_eqb n 0 (λ e. omega arith))

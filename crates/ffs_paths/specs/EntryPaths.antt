@@ -1,0 +1,11 @@
+-- What the paths of all entries of a directory begin with.
+use Rattle.std.specs.Prelude.{◌≡◌, ℕ, ◌+◌, ◌≤◌, true, false, List, [], ◌∷◌, ◌++◌, take, drop}
+use Rattle.ffs_paths.specs.declared.kept.DirectoryPath.{DirectoryPath}
+
+-- the directory is reached by names that all have room, and they and a `/` are the first bytes
+pub record BeginsWith (p : DirectoryPath) (begins : ℕ) (bytes : List ℕ) : Type 0 where
+  pub reached : p.reached ≡ true
+  pub whole : p.names.cut ≡ false
+  pub room : begins + p.names.start ≡ 1025
+  pub inside : begins ≤ 1024
+  pub first : take begins bytes ≡ drop p.names.start p.names.bytes ++ 47 ∷ []

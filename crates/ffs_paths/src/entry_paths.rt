@@ -1,0 +1,93 @@
+//! The paths of the entries of a directory, one after another.
+
+ghost use Rattle.std.specs.Prelude.{◌≡◌, ◌<◌, ◌≤◌, ℕ, length as length_of};
+ghost use Rattle.ffs_paths.specs.EntryPaths.{BeginsWith};
+
+use crate::buffer::PathText;
+use crate::kept::DirectoryPath;
+use ffs_volume::constants::MAXPATHLEN;
+
+/// The path of a directory, and the path of the entry of it that was asked for last.
+///
+/// What the paths of all entries begin with is written once: only the name changes from one entry to the next.
+#[derive(Drop)]
+pub struct EntryPaths {
+    pub directory: DirectoryPath,
+    /// The directory's path, `/` and a name.
+    pub bytes: [u8; MAXPATHLEN],
+    /// How many bytes come before the name, or 0 where no name has room.
+    pub begins: usize,
+    /// How many bytes are the path of the last entry, or 0 where that is `text`.
+    pub length: usize,
+    /// The path of the last entry, where that leaves names out.
+    pub text: PathText,
+    ghost long: { length_of bytes ≡ 1024 },
+    ghost in_bytes: { length ≤ 1024 },
+    ghost prefix: { 0 < begins → BeginsWith directory begins bytes },
+}
+
+/// Writes what the paths of all entries begin with. The answer is how long that is, or 0 where no name has room.
+fn put_prefix(directory: &DirectoryPath, bytes: &mut [u8; MAXPATHLEN]) -> usize
+    ensures { 0 < result → BeginsWith directory.now result bytes.new }
+{
+    let names = &directory.names;
+    if !directory.reached || names.cut || names.start == 0 {
+        return 0;
+    }
+    let end = MAXPATHLEN - names.start;
+    bytes[..end].copy_from_slice(&names.bytes[names.start..]);
+    bytes[end] = b'/';
+    end + 1
+}
+
+impl EntryPaths {
+    ghost use Rattle.ffs_paths.specs.Climbing.{in_room};
+    ghost use Rattle.ffs_paths.specs.DirectoryPaths.{IsPathOf};
+    ghost use Rattle.ffs_paths.specs.LastPaths.{last_path};
+    ghost use Rattle.ffs_volume.specs.Directories.Graph.{Graph};
+    ghost use Rattle.ffs_volume.specs.Directories.Paths.{entry_path};
+
+    /// The paths of the entries of a directory with this path.
+    pub fn of(directory: DirectoryPath) -> EntryPaths
+        ensures { result.directory ≡ directory }
+    {
+        let mut bytes = [0u8; MAXPATHLEN];
+        let begins = put_prefix(&directory, &mut bytes);
+        EntryPaths {
+            directory,
+            bytes,
+            begins,
+            length: 0,
+            text: PathText::new(),
+        }
+    }
+
+    /// Writes the path of an entry of this name in place of the last one.
+    #[inline]
+    pub fn put(&mut self, name: &[u8])
+        ensures path { (g : Graph) (dir : ℕ) → IsPathOf g dir self.old.directory
+            → last_path self.new ≡ in_room (entry_path g dir name.now) }
+        ensures same { self.new.directory ≡ self.old.directory }
+    {
+        let begins = self.begins;
+        if begins == 0 || name.len() > MAXPATHLEN - begins {
+            self.length = 0;
+            self.directory.put_entry(name, &mut self.text);
+            return;
+        }
+        let end = begins + name.len();
+        self.bytes[begins..end].copy_from_slice(name);
+        self.length = end;
+    }
+
+    /// The path of the entry that was asked for last.
+    #[inline]
+    pub fn last(&self) -> &[u8]
+        ensures { result.now ≡ last_path self.now }
+    {
+        if self.length == 0 {
+            return self.text.as_slice();
+        }
+        &self.bytes[..self.length]
+    }
+}
