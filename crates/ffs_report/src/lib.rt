@@ -15,7 +15,6 @@
 #![tactic(auto)]
 
 mod counted;
-mod digits;
 mod fuse;
 mod line;
 mod line_buffer;
