@@ -51,11 +51,21 @@ fn longer_runs(rt: HostRuntime) -> Result<(), Fail> {
         [Some(&60), Some(&199), Some(&300), Some(&319)]
     );
     assert_eq!(rt;
-        [map.count(0, 500), map.count(0, 60), map.count(59, 61), map.count(64, 192)],
+        [
+            map.count(0, 500),
+            map.count(0, 60),
+            map.count(59, 61),
+            map.count(64, 192)
+        ],
         [160, 0, 1, 128]
     );
     assert_eq!(rt;
-        [map.count(130, 130), map.count(199, 301), map.count(320, 500), map.count(61, 63)],
+        [
+            map.count(130, 130),
+            map.count(199, 301),
+            map.count(320, 500),
+            map.count(61, 63)
+        ],
         [0, 2, 0, 2]
     );
     Ok(())
