@@ -81,7 +81,8 @@ words_once v a b x y address some small made layout is passes claims uncut only 
     ∙ ap (λ k. word_step v.frag k block ∷ rest bytes y) (sym is) in
     record {
       claims = λ contents holds bytes e.
-          claims_same v (claims_of a) (claims_of b) step (rest bytes x) (rest bytes y) (next contents holds bytes e) now;
+          claims_same v (claims_of a) (claims_of b) step (rest bytes x) (rest bytes y)
+          (next contents holds bytes e) now;
       lines = λ contents holds bytes e number.
           lines_same v number (claims_of a) (claims_of b) step (rest bytes x) (rest bytes y)
           (next contents holds bytes e) now ((claims block).silent number);
