@@ -2,7 +2,7 @@
 use Rattle.std.proofs.Common.{◌≡◌, ℕ, ◌+◌, ◌<◌, ◌≤◌, List, [], ◌∷◌, ◌++◌, length, take, set, ap, sym, ◌∙◌, arith}
 use Rattle.std.proofs.Common.{append_assoc, ◌==◌}
 use Rattle.std.specs.Prelude.{if◌then◌else◌}
-use Rattle.std.proofs.lemmas.Slice.{take-put_mid, take-put_mid_below}
+use Rattle.std.proofs.lemmas.Slice.{take-put_mid}
 use Rattle.std.proofs.lemmas.Bool.{ne_eqb}
 use Rattle.std.proofs.lemmas.List.{take_more_set}
 use borrow.Rule.Slice.PartMut.{put_mid}
@@ -29,17 +29,6 @@ named p begins k end bytes name size b is fits g d h =
     ∙ (append_assoc _ (47 ∷ []) name
     ∙ sym (entry-whole names name p.names.start p.names.bytes (omega arith) p.names.long (held.whole b.whole)
     (omega arith)))))
-
--- and it stays
-pub begins_still : (p : DirectoryPath) (begins k : ℕ) (bytes name : List ℕ) → begins ≤ length bytes
-    → BeginsWith p begins bytes → BeginsWith p begins (put_mid begins k bytes name)
-begins_still p begins k bytes name within b = record {
-  reached = b.reached;
-  whole = b.whole;
-  room = b.room;
-  inside = b.inside;
-  first = take-put_mid_below begins k bytes name begins (omega arith) within ∙ b.first;
-}
 
 -- a directory's path and a `/` are written
 pub first_is : (k end : ℕ) (bytes path : List ℕ) → length path ≡ end → end < length (put_mid 0 k bytes path)
