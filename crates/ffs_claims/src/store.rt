@@ -79,6 +79,7 @@ pub fn say_count<W: Output>(
     Ok(())
 }
 
+#[inline(always)]
 fn kind_of(class: Class, inode: &Inode) -> u8
     ensures { result ≡ kind_of class inode.now }
 {
@@ -90,6 +91,7 @@ fn kind_of(class: Class, inode: &Inode) -> u8
     }
 }
 
+#[inline(always)]
 fn is_marked(workspace: &Workspace, class: Class) -> bool
     ensures { result ≡ (is_unknown class || has_blame (claims_of workspace.now)) }
 {
@@ -100,6 +102,7 @@ fn is_marked(workspace: &Workspace, class: Class) -> bool
     }
 }
 
+#[inline(always)]
 fn cut_of(workspace: &Workspace) -> u32
     ensures { result ≡ min (cut_of (claims_of workspace.now)) 4294967295 }
 {
@@ -110,6 +113,7 @@ fn cut_of(workspace: &Workspace) -> u32
 }
 
 // Where the count of an inode's references starts.
+#[inline(always)]
 fn start_of(class: Class, inode: &Inode) -> u64
     ensures { result ≡ start_of class inode.now }
 {
@@ -121,6 +125,7 @@ fn start_of(class: Class, inode: &Inode) -> u64
 
 // Sets where an inode is cut, if that isn't what the list holds already: so its memory is touched only for inodes that are
 // cut.
+#[inline(always)]
 fn store_cut(list: &mut FilledList<u32>, number: usize, cut: u32)
     requires { number < vec_len list.old }
     ensures items { list.new.items ≡ slice_set list.old.items number cut }
@@ -132,6 +137,7 @@ fn store_cut(list: &mut FilledList<u32>, number: usize, cut: u32)
 }
 
 // The same for where the count of an inode's references starts: memory is touched only for inodes that are in use.
+#[inline(always)]
 fn store_start(list: &mut FilledList<u64>, number: usize, start: u64)
     requires { number < vec_len list.old }
     ensures items { list.new.items ≡ slice_set list.old.items number start }
@@ -143,6 +149,7 @@ fn store_start(list: &mut FilledList<u64>, number: usize, start: u64)
 }
 
 /// Keeps what later phases want of the current inode.
+#[inline(always)]
 pub fn store(workspace: &mut Workspace, number: u32, class: Class, inode: &Inode)
     requires number { HasInode number workspace.old }
     ensures stored { Stored number class inode.now workspace.old workspace.new }
