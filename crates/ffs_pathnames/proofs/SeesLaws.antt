@@ -40,7 +40,7 @@ parent_number (Some p) s h = refl
 pub record Shows (v : Layout) (w : Workspace) (i : Inodes) : Type 0 where
   pub kinds : i.kinds.now ≡ w.kinds.items
   pub marked : i.marked.now ≡ w.marked.items
-  pub parents : i.parents.now ≡ w.parents.items
+  pub parents : i.parents.now ≡ w.parents
   pub count : length i.kinds.now ≡ inodes_of v
 
 pub sees : (v : Layout) (b : List ℕ) (w : Workspace) (i : Inodes) → Shows v w i → HoldsClaims v b w → HoldsSurvey v b w
@@ -61,5 +61,5 @@ sees v b w i s h r =
       kind = λ x a u. ap type_of_kind (kind x) ∙ type_is v b x (settled (class_at v b x) a u);
       class = λ x a. sym (ap class_of_kind (kind x) ∙ class_is v b x (whole (class_at v b x) a));
       parent_is = λ x p two. parent_number (parent (graph_of (volume_of v b)) x) p two
-          ∙ ap (λ n. n == p) (sym (ap (λ ps. slice_index ps x) s.parents ∙ r.parents x));
+          ∙ ap (λ n. n == p) (sym (ap (λ ps. slice_index ps.items x) s.parents ∙ r.parents x));
     }

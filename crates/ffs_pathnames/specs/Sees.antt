@@ -21,7 +21,7 @@ pub record Sees (v : Volume) (i : Inodes) : Type 0 where
   pub kind : (x : ℕ) → is_allocated (v.class x) ≡ true → is_unknown (v.class x) ≡ false
       → type_of_kind (slice_index i.kinds.now x) ≡ (v.inode x).mode / 4096
   pub class : (x : ℕ) → is_allocated (v.class x) ≡ true → v.class x ≡ class_of_kind (slice_index i.kinds.now x)
-  pub parent_is : (x s : ℕ) → 2 ≤ s → is_value (parent (graph_of v) x) s ≡ (slice_index i.parents.now x == s)
+  pub parent_is : (x s : ℕ) → 2 ≤ s → is_value (parent (graph_of v) x) s ≡ (slice_index i.parents.now.items x == s)
 
 -- each inode has a mark of whether it is passed, and a stamp
 pub record CanMark (i : Inodes) (passed : List Bool) (stamps : List ℕ) : Type 0 where

@@ -94,7 +94,7 @@ pub fn report_entry<I: Image, W: Output>(
     let inodes = Inodes {
         kinds: workspace.kinds.as_slice(),
         marked: workspace.marked.as_slice(),
-        parents: workspace.parents.as_slice(),
+        parents: &workspace.parents,
     };
     pass(
         &inodes,

@@ -41,7 +41,7 @@ pub fn examine<I: Image>(
     let inodes = Inodes {
         kinds: workspace.kinds.as_slice(),
         marked: workspace.marked.as_slice(),
-        parents: workspace.parents.as_slice(),
+        parents: &workspace.parents,
     };
     let found = look_directory(
         geometry,

@@ -1,6 +1,7 @@
 // What is known of the inodes that entries name.
-ghost use Rattle.std.specs.Prelude.{◌≡◌, ◌<◌, length, slice_index, ◌==◌, ◌||◌, ◌&&◌, not};
+ghost use Rattle.std.specs.Prelude.{◌≡◌, ◌<◌, length, slice_index, vec_len, ◌==◌, ◌||◌, ◌&&◌, not};
 
+use ffs_memory::FilledList;
 use ffs_volume::constants::ROOTINO;
 use ffs_volume::kinds::Kind;
 
@@ -9,9 +10,9 @@ use ffs_volume::kinds::Kind;
 pub struct Inodes<'a> {
     pub kinds: &'a [u8],
     pub marked: &'a [bool],
-    pub parents: &'a [u32],
+    pub parents: &'a FilledList<u32>,
     ghost marked_long: { length marked.now ≡ length kinds.now },
-    ghost parents_long: { length parents.now ≡ length kinds.now },
+    ghost parents_long: { vec_len parents.now ≡ length kinds.now },
     ghost few: { length kinds.now < 2147483648 },
 }
 
@@ -75,7 +76,7 @@ impl<'a> Inodes<'a> {
     pub fn belongs(&self, inode: u32, parent: u32) -> bool
         requires { inode < length self.now.kinds.now }
         ensures { result ≡ (is_dir_kind (slice_index self.now.kinds.now inode)
-            && (not (inode == 2) && slice_index self.now.parents.now inode == parent)) }
+            && (not (inode == 2) && slice_index self.now.parents.now.items inode == parent)) }
     {
         self.is_dir(inode) && inode != ROOTINO && self.parents[inode as usize] == parent
     }

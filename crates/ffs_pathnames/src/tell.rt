@@ -154,7 +154,7 @@ fn verdict_of(workspace: &Workspace, dir: u32, entry: &Entry<'_>) -> Verdict
     let inodes = Inodes {
         kinds: workspace.kinds.as_slice(),
         marked: workspace.marked.as_slice(),
-        parents: workspace.parents.as_slice(),
+        parents: &workspace.parents,
     };
     entry_verdict(
         &inodes,

@@ -4,20 +4,24 @@ ghost use Rattle.ffs_volume.specs.Directories.Climb.{OnCycle, is_leader_within};
 ghost use Rattle.ffs_survey.specs.Survey.{bool_at};
 ghost use Rattle.ffs_survey.specs.Cycles.{up_of, CanFollow, ComesBack, IsNew, CanMark, Walked, FindsCycle, IsLeastOn, Marks};
 
+use crate::parents::parent_of;
+use ffs_memory::FilledList;
+
 /// Walks up from `start` and stamps what it passes, until there is nothing above or a stamp. Answers a number on the
 /// cycle that it closed, if it closed one.
-fn walk(start: u32, parents: &[u32], stamp: &mut [u32]) -> Option<u32>
-    requires { CanFollow parents.now stamp.old start }
-    ensures walked { Walked (up_of parents.now) start (start + 1) stamp.old stamp.new }
+fn walk(start: u32, parents: &FilledList<u32>, stamp: &mut [u32]) -> Option<u32>
+    requires { CanFollow parents.now.items stamp.old start }
+    ensures walked { Walked (up_of parents.now.items) start (start + 1) stamp.old stamp.new }
     ensures cycle { MatchOption result
-        ((x : ℕ) → IsNew stamp.old stamp.new x → OnCycle (up_of parents.now) x → ⊥)
-        (λ found. FindsCycle (up_of parents.now) (length parents.now) stamp.old stamp.new found) }
+        ((x : ℕ) → IsNew stamp.old stamp.new x → OnCycle (up_of parents.now.items) x → ⊥)
+        (λ found. FindsCycle (up_of parents.now.items) (length parents.now.items) stamp.old
+        stamp.new found) }
 {
     let mut place = start;
     let mut steps = 0u32;
     'up: loop {
         stamp[place as usize] = start + 1;
-        let next = parents[place as usize];
+        let next = parent_of(parents, place);
         if next == 0 {
             return None;
         }
@@ -37,29 +41,31 @@ fn walk(start: u32, parents: &[u32], stamp: &mut [u32]) -> Option<u32>
 }
 
 /// The least number on the cycle of `found`.
-fn least_on(found: u32, parents: &[u32]) -> u32
-    requires { ComesBack parents.now found }
-    ensures { IsLeastOn (up_of parents.now) (length parents.now) found result }
+fn least_on(found: u32, parents: &FilledList<u32>) -> u32
+    requires { ComesBack parents.now.items found }
+    ensures { IsLeastOn (up_of parents.now.items) (length parents.now.items) found result }
 {
     let mut least = found;
-    let mut place = parents[found as usize];
+    let mut place = parent_of(parents, found);
     let mut steps = 1u32;
     'round: while place != found {
         if place < least {
             least = place;
         }
-        place = parents[place as usize];
+        place = parent_of(parents, place);
         steps += 1;
     }
     least
 }
 
 /// Walks up from `start`, and marks the least number of the cycle that the walk closes, if it closes one.
-fn mark_from(start: u32, parents: &[u32], stamp: &mut [u32], leaders: &mut [bool])
-    requires walk { CanFollow parents.now stamp.old start }
-    requires marks { Marks (up_of parents.now) (length parents.now) stamp.old leaders.old }
-    ensures walked { Walked (up_of parents.now) start (start + 1) stamp.old stamp.new }
-    ensures marks { Marks (up_of parents.now) (length parents.now) stamp.new leaders.new }
+fn mark_from(start: u32, parents: &FilledList<u32>, stamp: &mut [u32], leaders: &mut [bool])
+    requires walk { CanFollow parents.now.items stamp.old start }
+    requires marks { Marks (up_of parents.now.items) (length parents.now.items) stamp.old
+        leaders.old }
+    ensures walked { Walked (up_of parents.now.items) start (start + 1) stamp.old stamp.new }
+    ensures marks { Marks (up_of parents.now.items) (length parents.now.items) stamp.new
+        leaders.new }
 {
     let Some(found) = walk(start, parents, stamp) else {
         return;
@@ -70,10 +76,10 @@ fn mark_from(start: u32, parents: &[u32], stamp: &mut [u32], leaders: &mut [bool
 
 /// Marks each number that is the least on a cycle of parents, in time linear in their number. A parent of 0, or past
 /// the list, is none. What `stamp` and `leaders` held before is forgotten.
-pub fn mark_leaders(parents: &[u32], stamp: &mut [u32], leaders: &mut [bool])
-    requires { CanMark parents.now stamp.old leaders.old }
+pub fn mark_leaders(parents: &FilledList<u32>, stamp: &mut [u32], leaders: &mut [bool])
+    requires { CanMark parents.now.items stamp.old leaders.old }
     ensures { (x : ℕ) → bool_at leaders.new x
-        ≡ is_leader_within (up_of parents.now) (length parents.now) x }
+        ≡ is_leader_within (up_of parents.now.items) (length parents.now.items) x }
 {
     stamp.fill(0);
     leaders.fill(false);

@@ -11,6 +11,7 @@ ghost use Rattle.ffs_survey.specs.Discover.{unset, found_of, IsCounted, Comes, f
 
 use crate::directories::Directories;
 use crate::named::{Named, is_counted, is_dir, is_plain};
+use crate::parents::parent_of;
 use ffs_image::ImageFault;
 use ffs_memory::FilledList;
 use ffs_volume::Role;
@@ -67,21 +68,23 @@ fn visit(
     from: u32,
     kinds: &[u8],
     reached: &mut [bool],
-    parents: &mut [u32],
+    parents: &mut FilledList<u32>,
     queue: &mut [u32],
     top: usize,
 ) -> usize
-    requires { QueueLists kinds.now reached.old parents.old top queue.old }
+    requires { QueueLists kinds.now reached.old parents.old.items top queue.old }
     ensures top { result + unset reached.new ≡ top + unset reached.old }
     ensures comes { Comes (from_entries kinds.now from (roled_of entry [] ∷ [])) reached.old
-        parents.old (take top queue.old) nothing reached.new parents.new (take result queue.new) }
+        parents.old.items (take top queue.old) nothing reached.new parents.new.items
+        (take result queue.new) }
+    ensures parents_long { vec_len parents.new ≡ vec_len parents.old }
 {
     if !is_new(entry, kinds, reached) {
         return top;
     }
     let number = entry.number as usize;
     reached[number] = true;
-    parents[number] = from;
+    parents.set(number, from);
     queue[top] = entry.number;
     top + 1
 }
@@ -138,16 +141,6 @@ fn is_calm(
     }
 }
 
-/// The parent of a directory, 0 for none.
-fn parent_of(parents: &[u32], dir: u32) -> u32
-    ensures { result ≡ number_at parents.now dir }
-{
-    if dir as usize >= parents.len() {
-        return 0;
-    }
-    parents[dir as usize]
-}
-
 /// Flags the directory `from`, all of whose `count` entries are read, if these are calm and its shape is right.
 fn flag_calm<D: Directories>(
     directories: &mut D,
@@ -183,23 +176,24 @@ fn read_reached<D: Directories>(
     references: &mut FilledList<u64>,
     named: &mut [bool],
     reached: &mut [bool],
-    parents: &mut [u32],
+    parents: &mut FilledList<u32>,
     calm: &mut [bool],
     queue: &mut [u32],
     top: usize,
 ) -> Result<usize, ImageFault>
     requires ready { D.ready directories.old }
     requires lists { LevelLists (2 ^ 60) kinds.now marked.now references.old.items named.old
-        reached.old parents.old }
+        reached.old parents.old.items }
     requires room { top + unset reached.old ≤ length queue.old }
     ensures found { IfOk result (λ n. Discovers (length kinds.now) (2 ^ 28) top n
         (λ old new. ForKnown D.knows D.entries D.sound (D.base directories.old) (λ entries sound.
         ReadsReached kinds.now marked.now from (entries from) (sound from) old new))
-        (found_of references.old.items named.old reached.old parents.old calm.old
+        (found_of references.old.items named.old reached.old parents.old.items calm.old
         (take top queue.old))
-        (found_of references.new.items named.new reached.new parents.new calm.new
+        (found_of references.new.items named.new reached.new parents.new.items calm.new
         (take n queue.new))) }
     ensures same_length { vec_len references.new ≡ vec_len references.old }
+    ensures parents_long { vec_len parents.new ≡ vec_len parents.old }
     ensures reader { LeavesReader (D.ready directories.new) (D.base directories.old)
         (D.base directories.new) (D.device directories.old) (D.device directories.new) result }
 {
@@ -227,13 +221,13 @@ pub fn read_level<D: Directories>(
     references: &mut FilledList<u64>,
     named: &mut [bool],
     reached: &mut [bool],
-    parents: &mut [u32],
+    parents: &mut FilledList<u32>,
     calm: &mut [bool],
     queue: &mut [u32],
 ) -> Result<usize, ImageFault>
     requires ready { D.ready directories.old }
     requires lists { LevelLists (2 ^ 59) kinds.now marked.now references.old.items named.old
-        reached.old parents.old }
+        reached.old parents.old.items }
     requires few { length frontier.now < 2 ^ 31 }
     requires room { unset reached.old ≤ length queue.old }
     requires frontier { ForKnown D.knows D.entries D.sound (D.base directories.old)
@@ -242,10 +236,11 @@ pub fn read_level<D: Directories>(
         Discovers (length kinds.now) (length frontier.now * 2 ^ 28) 0 n
         (λ old new. ForKnown D.knows D.entries D.sound (D.base directories.old) (λ entries sound.
         ReadsDirs kinds.now marked.now frontier.now entries sound old new))
-        (found_of references.old.items named.old reached.old parents.old calm.old [])
-        (found_of references.new.items named.new reached.new parents.new calm.new
+        (found_of references.old.items named.old reached.old parents.old.items calm.old [])
+        (found_of references.new.items named.new reached.new parents.new.items calm.new
         (take n queue.new))) }
     ensures same_length { vec_len references.new ≡ vec_len references.old }
+    ensures parents_long { vec_len parents.new ≡ vec_len parents.old }
     ensures reader { LeavesReader (D.ready directories.new) (D.base directories.old)
         (D.base directories.new) (D.device directories.old) (D.device directories.new) result }
 {
@@ -269,12 +264,13 @@ pub fn read_level<D: Directories>(
 }
 
 /// Gives what an entry of the directory `from` names its parent: a directory without a mark that has none yet.
-fn adopt(entry: Named, from: u32, kinds: &[u8], reached: &[bool], parents: &mut [u32])
-    requires { TreeLists kinds.now reached.now parents.old }
-    ensures { (x : ℕ) → x < length kinds.now → number_at parents.new x
-        ≡ cond ((number_at parents.old x == 0)
+fn adopt(entry: Named, from: u32, kinds: &[u8], reached: &[bool], parents: &mut FilledList<u32>)
+    requires { TreeLists kinds.now reached.now parents.old.items }
+    ensures parent { (x : ℕ) → x < length kinds.now → number_at parents.new.items x
+        ≡ cond ((number_at parents.old.items x == 0)
         && (is_free_at kinds.now reached.now x && is_naming_entry x (roled_of entry []))) from
-        (number_at parents.old x) }
+        (number_at parents.old.items x) }
+    ensures parents_long { vec_len parents.new ≡ vec_len parents.old }
 {
     if !is_new(entry, kinds, reached) {
         return;
@@ -283,7 +279,7 @@ fn adopt(entry: Named, from: u32, kinds: &[u8], reached: &[bool], parents: &mut 
     if parents[number] != 0 {
         return;
     }
-    parents[number] = from;
+    parents.set(number, from);
 }
 
 /// Reads the directory `from`, which has no mark: counts its entries, and gives a parent to what they name.
@@ -294,18 +290,20 @@ pub fn read_unreached<D: Directories>(
     references: &mut FilledList<u64>,
     named: &mut [bool],
     reached: &[bool],
-    parents: &mut [u32],
+    parents: &mut FilledList<u32>,
 ) -> Result<(), ImageFault>
     requires ready { D.ready directories.old }
     requires lists { EntryLists (2 ^ 60) kinds.now references.old.items named.old reached.now
-        parents.old }
+        parents.old.items }
     requires from { 0 < from }
     ensures grown { OnOk result
         (GrowsBy (length kinds.now) (2 ^ 28) references.old.items references.new.items) }
     ensures read { OnOk result (ForKnown D.knows D.entries D.sound (D.base directories.old)
         (λ entries sound. ReadsUnreached kinds.now reached.now from (entries from)
-        references.old.items named.old parents.old references.new.items named.new parents.new)) }
+        references.old.items named.old parents.old.items references.new.items named.new
+        parents.new.items)) }
     ensures same_length { vec_len references.new ≡ vec_len references.old }
+    ensures parents_long { vec_len parents.new ≡ vec_len parents.old }
     ensures reader { LeavesReader (D.ready directories.new) (D.base directories.old)
         (D.base directories.new) (D.device directories.old) (D.device directories.new) result }
 {

@@ -22,7 +22,7 @@ fn next_level<D: Directories>(
     references: &mut FilledList<u64>,
     named: &mut [bool],
     reached: &mut [bool],
-    parents: &mut [u32],
+    parents: &mut FilledList<u32>,
     calm: &mut [bool],
     queue: &mut [u32],
     low: usize,
@@ -30,18 +30,20 @@ fn next_level<D: Directories>(
 ) -> Result<usize, ImageFault>
     requires ready { D.ready directories.old }
     requires lists { SurveyLists kinds.now marked.now references.old.items named.old reached.old
-        parents.old queue.old }
+        parents.old.items queue.old }
     requires root { dir_at kinds.now 2 ≡ true }
     requires room { HasRoomForLevel low high references.old.items reached.old queue.old }
     requires levels { ForKnown D.knows D.entries D.sound (D.base directories.old)
         (λ entries sound. AtSomeLevel (graph_with kinds.now entries) low high reached.old
-        parents.old queue.old) }
+        parents.old.items queue.old) }
     ensures level { IfOk result (λ n. FollowsLevel high n
         (λ old new. ForKnown D.knows D.entries D.sound (D.base directories.old) (λ entries sound.
         ReadsLevel kinds.now marked.now low high n entries sound old new))
-        (found_of references.old.items named.old reached.old parents.old calm.old queue.old)
-        (found_of references.new.items named.new reached.new parents.new calm.new queue.new)) }
+        (found_of references.old.items named.old reached.old parents.old.items calm.old queue.old)
+        (found_of references.new.items named.new reached.new parents.new.items calm.new
+        queue.new)) }
     ensures same_length { vec_len references.new ≡ vec_len references.old }
+    ensures parents_long { vec_len parents.new ≡ vec_len parents.old }
     ensures reader { LeavesReader (D.ready directories.new) (D.base directories.old)
         (D.base directories.new) (D.device directories.old) (D.device directories.new) result }
 {
@@ -70,25 +72,28 @@ fn survey_reached<D: Directories>(
     references: &mut FilledList<u64>,
     named: &mut [bool],
     reached: &mut [bool],
-    parents: &mut [u32],
+    parents: &mut FilledList<u32>,
     calm: &mut [bool],
     queue: &mut [u32],
 ) -> Result<(), ImageFault>
     requires ready { D.ready directories.old }
     requires lists { SurveyLists kinds.now marked.now references.old.items named.old reached.old
-        parents.old queue.old }
-    requires begins { NothingFound references.old.items named.old reached.old parents.old calm.old }
+        parents.old.items queue.old }
+    requires begins { NothingFound references.old.items named.old reached.old parents.old.items
+        calm.old }
     ensures counted { OnOk result ((x : ℕ) → x < length kinds.now → number_at references.new.items x
         ≤ 2 ^ 59) }
     ensures read { OnOk result (ForKnown D.knows D.entries D.sound (D.base directories.old)
         (λ entries sound. ReadsAllReached kinds.now marked.now entries sound references.old.items
-        (found_of references.new.items named.new reached.new parents.new calm.new queue.new))) }
+        (found_of references.new.items named.new reached.new parents.new.items calm.new
+        queue.new))) }
     ensures same_length { vec_len references.new ≡ vec_len references.old }
+    ensures parents_long { vec_len parents.new ≡ vec_len parents.old }
     ensures reader { LeavesReader (D.ready directories.new) (D.base directories.old)
         (D.base directories.new) (D.device directories.old) (D.device directories.new) result }
 {
     reached[2] = true;
-    parents[ROOTINO as usize] = ROOTINO;
+    parents.set(ROOTINO as usize, ROOTINO);
     queue[0] = ROOTINO;
     if !is_dir(kinds, ROOTINO as usize) {
         return Ok(());
@@ -122,17 +127,19 @@ fn survey_unreached<D: Directories>(
     references: &mut FilledList<u64>,
     named: &mut [bool],
     reached: &[bool],
-    parents: &mut [u32],
+    parents: &mut FilledList<u32>,
 ) -> Result<(), ImageFault>
     requires ready { D.ready directories.old }
     requires few { length kinds.now < 2 ^ 31 }
     requires lists { EntryLists (2 ^ 59) kinds.now references.old.items named.old reached.now
-        parents.old }
+        parents.old.items }
     ensures read { OnOk result (ForKnown D.knows D.entries D.sound (D.base directories.old)
-        (λ entries sound. IsBlank kinds.now reached.now parents.old
+        (λ entries sound. IsBlank kinds.now reached.now parents.old.items
         → IsRead (graph_with kinds.now entries) kinds.now reached.now (length kinds.now)
-        references.old.items named.old parents.old references.new.items named.new parents.new)) }
+        references.old.items named.old parents.old.items references.new.items named.new
+        parents.new.items)) }
     ensures same_length { vec_len references.new ≡ vec_len references.old }
+    ensures parents_long { vec_len parents.new ≡ vec_len parents.old }
     ensures reader { LeavesReader (D.ready directories.new) (D.base directories.old)
         (D.base directories.new) (D.device directories.old) (D.device directories.new) result }
 {
@@ -180,20 +187,21 @@ pub fn survey<D: Directories>(
     references: &mut FilledList<u64>,
     named: &mut [bool],
     reached: &mut [bool],
-    parents: &mut [u32],
+    parents: &mut FilledList<u32>,
     calm: &mut [bool],
     queue: &mut [u32],
 ) -> Result<(), ImageFault>
     requires ready { D.ready directories.old }
     requires lists { SurveyLists kinds.now marked.now references.old.items named.old reached.old
-        parents.old queue.old }
+        parents.old.items queue.old }
     ensures survey { OnOk result (ForKnown D.knows D.entries D.sound (D.base directories.old)
         (λ entries sound. IsSurvey (graph_with kinds.now entries) references.old.items
-        references.new.items named.new reached.new parents.new)) }
+        references.new.items named.new reached.new parents.new.items)) }
     ensures calm { OnOk result (ForKnown D.knows D.entries D.sound (D.base directories.old)
         (λ entries sound.
-        AreCalm kinds.now marked.now reached.new parents.new entries sound calm.new)) }
+        AreCalm kinds.now marked.now reached.new parents.new.items entries sound calm.new)) }
     ensures same_length { vec_len references.new ≡ vec_len references.old }
+    ensures parents_long { vec_len parents.new ≡ vec_len parents.old }
     ensures reader { LeavesReader (D.ready directories.new) (D.base directories.old)
         (D.base directories.new) (D.device directories.old) (D.device directories.new) result }
 {

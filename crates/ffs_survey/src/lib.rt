@@ -13,6 +13,7 @@ mod directories;
 mod discover;
 mod levels;
 mod named;
+mod parents;
 mod unref;
 
 pub use cycles::mark_leaders;

@@ -5,6 +5,8 @@ ghost use Rattle.ffs_survey.specs.Survey.{suspect_at, IsTree, AreNamed};
 ghost use Rattle.ffs_survey.specs.Lists.{DeadLists, FoundLists};
 
 use crate::named::is_dir;
+use crate::parents::parent_of;
+use ffs_memory::FilledList;
 use ffs_volume::constants::{EMPTY_DIR, ROOTINO};
 
 /// Whether an inode is suspect: marked, or a directory of size 0.
@@ -34,14 +36,14 @@ pub fn is_unref(
     marked: &[bool],
     named: &[bool],
     reached: &[bool],
-    parents: &[u32],
+    parents: &FilledList<u32>,
     leaders: &[bool],
 ) -> bool
     requires dir { dir < length kinds.now }
-    requires lists { FoundLists kinds.now marked.now named.now reached.now parents.now
+    requires lists { FoundLists kinds.now marked.now named.now reached.now parents.now.items
         leaders.now }
     ensures { (graph : Graph) → AreNamed graph kinds.now named.now
-        → IsTree graph kinds.now reached.now parents.now → result
+        → IsTree graph kinds.now reached.now parents.now.items → result
         ≡ is_unref_dir_in graph (suspect_at kinds.now marked.now) dir }
 {
     if !is_dir(kinds, dir as usize) {
@@ -56,7 +58,7 @@ pub fn is_unref(
     if is_dead(dir, kinds, marked, named) {
         return false;
     }
-    let above = parents[dir as usize];
+    let above = parent_of(parents, dir);
     if above == 0 {
         return true;
     }

@@ -28,10 +28,10 @@ fn surveyed(alloc: Global, geometry: &Geometry) -> Result<Workspace, AllocError>
     workspace.kinds[7] = 4;
     workspace.kinds[8] = 4;
     workspace.reached[2] = true;
-    workspace.parents[5] = 6;
-    workspace.parents[6] = 5;
-    workspace.parents[7] = 4;
-    workspace.parents[8] = 3;
+    workspace.parents.set(5, 6);
+    workspace.parents.set(6, 5);
+    workspace.parents.set(7, 4);
+    workspace.parents.set(8, 3);
     Ok(workspace)
 }
 

@@ -1,5 +1,6 @@
 //! The verdict on a plain entry, as a reader would work it out by hand.
 
+use super::memory::numbers;
 use ffs_layout::Entry;
 use ffs_pathnames::inodes::Inodes;
 use ffs_pathnames::verdict::{Faults, Verdict, entry_verdict, pass};
@@ -35,10 +36,11 @@ fn named(label: Label, suspect: bool, extraneous: bool, kind: bool) -> Verdict {
 
 #[test]
 fn entries_of_the_root(rt: HostRuntime) -> Result<(), Fail> {
+    let parents = numbers(&PARENTS, rt.alloc())?;
     let inodes = Inodes {
         kinds: &KINDS,
         marked: &MARKED,
-        parents: &PARENTS,
+        parents: &parents,
     };
     let passed = [false; 9];
     let stamps = [0, 0, 0, 0, 2, 0, 2, 0, 0];
@@ -67,10 +69,11 @@ fn entries_of_the_root(rt: HostRuntime) -> Result<(), Fail> {
 // The second entry of the root that names a directory is one too many; a marked file is reported at the first alone.
 #[test]
 fn second_names(rt: HostRuntime) -> Result<(), Fail> {
+    let parents = numbers(&PARENTS, rt.alloc())?;
     let inodes = Inodes {
         kinds: &KINDS,
         marked: &MARKED,
-        parents: &PARENTS,
+        parents: &parents,
     };
     let mut passed = [false; 9];
     let mut stamps = [0, 0, 0, 0, 2, 0, 2, 0, 0];

@@ -1,6 +1,7 @@
 //! A small volume: directory 3 below the root, with the file 4, and directories 5 and 6 that name each other.
 ghost use Rattle.std.specs.Prelude.{◌≡◌, IfOk, vec_len};
 
+use super::memory::numbers;
 use ffs_image::ImageFault;
 use ffs_memory::{FilledList, Memory, SystemMemory};
 use ffs_survey::{Directories, Named, is_dead, is_dir, is_suspect, is_unref, mark_leaders, survey};
@@ -133,7 +134,7 @@ fn surveys_a_tree_and_a_cycle(rt: HostRuntime) -> Result<(), Fail> {
     let mut references = starts(rt.alloc())?;
     let mut named = [true; 8];
     let mut reached = [true; 8];
-    let mut parents = [7; 8];
+    let mut parents = numbers(&[7; 8], rt.alloc())?;
     let mut calm = [true; 8];
     let mut queue = [7; 8];
     let answer = survey(
@@ -151,7 +152,9 @@ fn surveys_a_tree_and_a_cycle(rt: HostRuntime) -> Result<(), Fail> {
     for (number, count) in [7, 0, 32769, 32771, 2, 5, 6, 4].into_iter().enumerate() {
         assert_eq!(rt; references[number], count);
     }
-    assert_eq!(rt; parents, PARENTS);
+    for (number, parent) in PARENTS.into_iter().enumerate() {
+        assert_eq!(rt; parents[number], parent);
+    }
     assert_eq!(rt; (named, reached), (NAMED, REACHED));
     assert_eq!(rt;
         calm,
@@ -162,10 +165,11 @@ fn surveys_a_tree_and_a_cycle(rt: HostRuntime) -> Result<(), Fail> {
 
 // The least number of each cycle leads it: the root's own, and that of 5 and 6.
 #[test]
-fn leads_a_cycle_by_its_least_number(rt: HostRuntime) {
+fn leads_a_cycle_by_its_least_number(rt: HostRuntime) -> Result<(), Fail> {
+    let parents = numbers(&PARENTS, rt.alloc())?;
     let mut queue = [7; 8];
     let mut leaders = [true; 8];
-    mark_leaders(&PARENTS, &mut queue, &mut leaders);
+    mark_leaders(&parents, &mut queue, &mut leaders);
     assert_eq!(rt;
         leaders,
         [false, false, true, false, false, true, false, false]
@@ -178,12 +182,13 @@ fn leads_a_cycle_by_its_least_number(rt: HostRuntime) {
                 &[false; 8],
                 &NAMED,
                 &REACHED,
-                &PARENTS,
+                &parents,
                 &leaders
             ),
             want
         );
     }
+    Ok(())
 }
 
 #[test]

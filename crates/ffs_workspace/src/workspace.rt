@@ -48,7 +48,7 @@ pub struct Workspace {
     /// How many fragments an inode keeps whose eleventh duplicate cut it, else 0.
     pub cut: FilledList<u32>,
     /// The parent of each directory, or 0.
-    pub parents: FixedList<u32>,
+    pub parents: FilledList<u32>,
     /// The directories of one level below the root, and of the next.
     pub queue: FixedList<u32>,
     /// How many Runs phase 1 has looked at.
@@ -192,14 +192,14 @@ fn four_flags<M: Memory>(memory: &mut M, n: usize) -> Result<Flags, AllocError>
 }
 
 // Three lists with a word for each inode.
-type Words = (FilledList<u32>, FixedList<u32>, FixedList<u32>);
+type Words = (FilledList<u32>, FilledList<u32>, FixedList<u32>);
 
 fn three_words<M: Memory>(memory: &mut M, n: usize) -> Result<Words, AllocError>
     ensures lists { IfOk result (λ p. IsFilled n 0 p.0 × IsFilled n 0 p.1 × IsFilled n 0 p.2) }
     ensures asks { Asks (M.account memory.old) (M.account memory.new) (12 * n) result }
 {
     let first = memory.numbers(n)?;
-    let second = memory.words(n)?;
+    let second = memory.numbers(n)?;
     let third = memory.words(n)?;
     Ok((first, second, third))
 }

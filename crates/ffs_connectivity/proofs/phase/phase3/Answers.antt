@@ -1,11 +1,9 @@
 use Rattle.std.proofs.Common.{ℕ, Bool, length, ◌+◌, ◌-◌, ◌∷◌, [], List, map, refl, ap, ◌∙◌, arith, rules, Err}
 use Rattle.std.proofs.lemmas.List.{with_items_is}
 use Rattle.std.proofs.lemmas.Result.{err_from_is_err_and}
-use Rattle.ffs_volume.specs.Directories.Climb.{is_leader_within}
 use Rattle.ffs_volume.specs.Directories.Connectivity.{connectivity_lines}
 use Rattle.ffs_volume.specs.Messages.Kinds.{Message, of_tree, phase3, lines_from}
 use Rattle.ffs_volume.specs.Directories.Volumes.{volume_of}
-use Rattle.ffs_survey.specs.Cycles.{up_of}
 use Rattle.ffs_phase.proofs.Reporting.{of_begins, of_says, of_stops, of_same, of_part, of_fault, said_knows}
 use Rattle.ffs_phase.proofs.Reporting.{reports_knowing}
 use Rattle.ffs_workspace.specs.Holds.{bool_at}
@@ -55,8 +53,7 @@ loop-number-init g c =
       leaders = record {
         cycles = λ x. ap (λ (ls : List Bool). bool_at ls x)
             (with_items_is c.args.workspace.now.leaders c.mark_leaders.new.leaders (search rules))
-            ∙ c.mark_leaders.ensures x
-            ∙ ap (λ (ps : List ℕ). is_leader_within (up_of ps) (length ps) x) c.deref-3.ensures.value;
+            ∙ c.mark_leaders.ensures x;
       };
       said = of_says _ (λ bytes. phase3 ∷ map of_tree (connectivity_lines (volume_of v bytes)))
           (λ bytes. map of_tree (lines_from (cut_off_lines (volume_of v bytes)) c.first_unreached-first.result

@@ -18,7 +18,7 @@ returns-then-not-cut_off-clause-runs g c =
           (λ bytes k. silent _ _ (sym
           (cut_off_is v bytes c.args.workspace.now _ _ _ _ _ c.args.number _ c.requires.number.0 c.requires.number.1
           (omega arith) c.deref.ensures.value c.deref-2.ensures.value c.deref-3.ensures.value c.deref-4.ensures.value
-          c.deref-5.ensures.value c.is_unref-cut_off.ensures k.1 k.2) ∙ c.if-not-cut_off.true));
+          refl c.is_unref-cut_off.ensures k.1 k.2) ∙ c.if-not-cut_off.true));
     }
 
 pub returns-in_err-inode-clause-runs : goal.returns-in_err-inode-clause-runs
@@ -43,7 +43,7 @@ returns-in_err-say-clause-runs g c =
           (λ bytes k. heard _ _ (sym
           (cut_off_is v bytes c.args.workspace.now _ _ _ _ _ c.args.number _ c.requires.number.0 c.requires.number.1
           (omega arith) c.deref.ensures.value c.deref-2.ensures.value c.deref-3.ensures.value c.deref-4.ensures.value
-          c.deref-5.ensures.value c.is_unref-cut_off.ensures k.1 k.2) ∙ c.if-not-cut_off.false)
+          refl c.is_unref-cut_off.ensures k.1 k.2) ∙ c.if-not-cut_off.false)
           ∙ ap (λ (a : Attr). of_tree (unref_dir a) ∷ [])
           (attributes_are v bytes c.args.number c.in_ok-inode.inode c.attr_of.result
           (c.in_ok-inode.ensures.inode bytes k.0) c.attr_of.ensures))
@@ -61,7 +61,7 @@ returns-clause-runs g c =
           (λ bytes k. heard _ _ (sym
           (cut_off_is v bytes c.args.workspace.now _ _ _ _ _ c.args.number _ c.requires.number.0 c.requires.number.1
           (omega arith) c.deref.ensures.value c.deref-2.ensures.value c.deref-3.ensures.value c.deref-4.ensures.value
-          c.deref-5.ensures.value c.is_unref-cut_off.ensures k.1 k.2) ∙ c.if-not-cut_off.false)
+          refl c.is_unref-cut_off.ensures k.1 k.2) ∙ c.if-not-cut_off.false)
           ∙ ap (λ (a : Attr). of_tree (unref_dir a) ∷ [])
           (attributes_are v bytes c.args.number c.in_ok-inode.inode c.attr_of.result
           (c.in_ok-inode.ensures.inode bytes k.0) c.attr_of.ensures))

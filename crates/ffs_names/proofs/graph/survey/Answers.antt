@@ -46,11 +46,11 @@ returns-clause-survey g c = on_ok c.survey.result _ _ (λ s b t h.
       cut = w.cut.items;
       image_lent = c.tree-2-1.given;
       windows_lent = c.tree-3-1.given.0;
-    }) b c.deref-2.result.now _ n.references.items n.named n.reached n.parents (search rules)
+    }) b c.deref-2.result.now _ n.references.items n.named n.reached n.parents.items (search rules)
     (λ x. ap (λ ks. slice_index ks x) c.deref-2.ensures.value ∙ h.kinds x) found in
-    holds_survey c.args.geometry.now.layout b _ _ n.references.items n.named n.reached n.parents
+    holds_survey c.args.geometry.now.layout b _ _ n.references.items n.named n.reached n.parents.items
     (with_items_is w.named n.named (search rules))
-    (with_items_is w.reached n.reached (search rules)) (with_items_is w.parents n.parents (search rules)) survey)
+    (with_items_is w.reached n.reached (search rules)) refl survey)
     c.survey.ensures.survey
 
 pub returns-clause-references : goal.returns-clause-references
@@ -69,9 +69,9 @@ returns-clause-references g c = on_ok c.survey.result _ _ (λ s b t h starts.
       cut = w.cut.items;
       image_lent = c.tree-2-1.given;
       windows_lent = c.tree-3-1.given.0;
-    }) b c.deref-2.result.now _ n.references.items n.named n.reached n.parents (search rules)
+    }) b c.deref-2.result.now _ n.references.items n.named n.reached n.parents.items (search rules)
     (λ x. ap (λ ks. slice_index ks x) c.deref-2.ensures.value ∙ h.kinds x) found in
-    holds_references c.args.geometry.now.layout b w _ _ n.references.items n.named n.reached n.parents
+    holds_references c.args.geometry.now.layout b w _ _ n.references.items n.named n.reached n.parents.items
     (search rules) refl starts survey)
     c.survey.ensures.survey
 
@@ -91,10 +91,10 @@ returns-clause-calm g c = on_ok c.survey.result _ _ (λ s b t h.
       cut = w.cut.items;
       image_lent = c.tree-2-1.given;
       windows_lent = c.tree-3-1.given.0;
-    }) b c.deref-2.result.now c.deref-3.result.now n.reached n.parents n.calm found in
-    holds_calm c.args.geometry.now.layout b _ c.deref-2.result.now c.deref-3.result.now n.reached n.parents n.calm
+    }) b c.deref-2.result.now c.deref-3.result.now n.reached n.parents.items n.calm found in
+    holds_calm c.args.geometry.now.layout b _ c.deref-2.result.now c.deref-3.result.now n.reached n.parents.items n.calm
     (sym c.deref-2.ensures.value) (sym c.deref-3.ensures.value)
-    (with_items_is w.reached n.reached (search rules)) (with_items_is w.parents n.parents (search rules))
+    (with_items_is w.reached n.reached (search rules)) refl
     (with_items_is w.leaders n.calm (search rules)) calm)
     c.survey.ensures.calm
 

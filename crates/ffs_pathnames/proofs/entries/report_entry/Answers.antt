@@ -67,7 +67,7 @@ returns-clause-marks g c = λ b k.
     let shows = sees v b here _ (record {
       kinds = c.as_slice.ensures.value;
       marked = c.as_slice-2.ensures.value;
-      parents = c.as_slice-3.ensures.value;
+      parents = refl;
       count = c.as_slice.ensures.len ∙ c.in_ok-say_entry.ensures.leaves.ready.ready.made.kinds;
     }) (claims_left v b before here kept k.claims) (survey_left v b before here kept k.survey) in
     passes (volume_of v b) c.args.dir (record { role = c.args.role; entry = entry_value c.args.entry.now })

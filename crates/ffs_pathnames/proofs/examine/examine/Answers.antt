@@ -1,4 +1,4 @@
-use Rattle.std.proofs.Common.{◌<◌, ◌^◌, sym, ap, subst, ◌∙◌, ◌==◌}
+use Rattle.std.proofs.Common.{◌<◌, ◌^◌, refl, sym, ap, subst, ◌∙◌, ◌==◌}
 use Rattle.std.proofs.lemmas.List.{get_or_read_under, with_items_is}
 use Rattle.std.specs.List.{flat_map, find}
 use Rattle.ffs_volume.specs.Directories.Roles.{roled_chunk}
@@ -32,7 +32,7 @@ returns-clause-found g c = λ b k.
     let shows = sees v b c.args.workspace.now _ (record {
       kinds = c.as_slice.ensures.value;
       marked = c.as_slice-2.ensures.value;
-      parents = c.as_slice-3.ensures.value;
+      parents = refl;
       count = c.as_slice.ensures.len ∙ c.requires.ready.ready.made.kinds;
     }) h r in
     let long = c.look_directory.auto.stamps ∙ c.as_mut_slice.ensures.len in

@@ -1,4 +1,4 @@
-use Rattle.std.proofs.Common.{sym, ap, ◌∙◌}
+use Rattle.std.proofs.Common.{refl, sym, ap, ◌∙◌}
 use Rattle.ffs_volume.specs.Directories.Volumes.{volume_of}
 use Rattle.ffs_layout.specs.Entry.{entry_value}
 use Rattle.ffs_pathnames.specs.Marks.{plain_reported}
@@ -11,15 +11,15 @@ returns-clause-verdict c = λ v b made h r.
     let shows = sees v b w _ (record {
       kinds = c.as_slice.ensures.value;
       marked = c.as_slice-2.ensures.value;
-      parents = c.as_slice-3.ensures.value;
+      parents = refl;
       count = c.as_slice.ensures.len ∙ made.kinds;
     }) h r in
     let e = entry_value c.args.entry.now in
     record {
       linked = c.entry_verdict.ensures.linked (volume_of v b) shows;
       reported = sym (ap (λ ms. plain_reported (volume_of v b) c.args.dir
-          (record { passed = ms; stamps = w.queue.items }) e) c.as_slice-4.ensures.value)
+          (record { passed = ms; stamps = w.queue.items }) e) c.as_slice-3.ensures.value)
           ∙ (sym (ap (λ ms. plain_reported (volume_of v b) c.args.dir
-          (record { passed = c.as_slice-4.result.now; stamps = ms }) e) c.as_slice-5.ensures.value)
+          (record { passed = c.as_slice-3.result.now; stamps = ms }) e) c.as_slice-4.ensures.value)
           ∙ c.entry_verdict.ensures.reported (volume_of v b) shows);
     }

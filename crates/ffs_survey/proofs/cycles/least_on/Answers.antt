@@ -1,6 +1,5 @@
-use Rattle.std.proofs.Common.{◌≡◌, ◌⊎◌, inl, inr, suc, ◌+◌, ◌<◌, ◌≤◌, length, arith, subst}
+use Rattle.std.proofs.Common.{◌≡◌, ◌⊎◌, inl, inr, suc, ◌+◌, ◌<◌, ◌≤◌, length, arith, subst, ap, sym, ◌∙◌, Some}
 use Rattle.ffs_volume.proofs.ClimbLaws.{cycle-along}
-use Rattle.ffs_survey.specs.Survey.{number_at}
 use Rattle.ffs_survey.specs.Cycles.{up_of}
 use Rattle.ffs_survey.proofs.Walks.{up_cycle, Rounding, round_start, round_step, round_end, round_short}
 use Rattle.ffs_survey.proofs.cycles.least_on.Goals as goal
@@ -8,20 +7,21 @@ use Rattle.ffs_survey.proofs.cycles.least_on.Goals.{then-place-least, else-place
 
 pub round-init : goal.round-init
 round-init c = record {
-  bound = (up_cycle c.args.parents.now c.args.found c.requires.cycle).1;
+  bound = omega (arith, c.parent_of-place.ensures, (up_cycle c.args.parents.now.items c.args.found c.requires.cycle).1);
   low = c.requires.low;
-  rounding = round_start (up_of c.args.parents.now) c.args.found _
-      (up_cycle c.args.parents.now c.args.found c.requires.cycle).0;
+  rounding = round_start (up_of c.args.parents.now.items) c.args.found _
+      ((up_cycle c.args.parents.now.items c.args.found c.requires.cycle).0
+      ∙ ap Some (sym c.parent_of-place.ensures));
 }
 
 pub round-preserved : goal.round-preserved
 round-preserved c =
-    let f = up_of c.args.parents.now in
+    let f = up_of c.args.parents.now.items in
     let r = c.round.invariant.rounding in
     let cy = cycle-along f c.round.steps c.args.found c.round.place c.requires.cycle r.place_is in
     let low = c.round.invariant.low in
     let bound = c.round.invariant.bound in
-    let facts : (c.if-place-least.least < length c.args.parents.now) × (c.if-place-least.least ≤ c.round.least)
+    let facts : (c.if-place-least.least < length c.args.parents.now.items) × (c.if-place-least.least ≤ c.round.least)
     × (c.if-place-least.least ≤ c.round.place)
     × ((c.if-place-least.least ≡ c.round.least) ⊎ (c.if-place-least.least ≡ c.round.place)) =
     elim c.if-place-least.branch [
@@ -29,30 +29,31 @@ round-preserved c =
       | else-place-least w ↦ (omega arith, omega arith, omega arith, inl w.least-is)
     ] in
     let one : suc c.round.steps ≡ c.round.steps + 1 = omega arith in
+    let at = c.parent_of-place-in-round.ensures in
     record {
-      bound = (up_cycle c.args.parents.now c.round.place cy).1;
+      bound = omega (arith, at, (up_cycle c.args.parents.now.items c.round.place cy).1);
       low = facts.0;
-      rounding = subst (λ k. Rounding f c.args.found k (number_at c.args.parents.now c.round.place)
+      rounding = subst (λ k. Rounding f c.args.found k c.parent_of-place-in-round.result
           c.if-place-least.least) one
           (round_step f c.args.found c.round.steps c.round.place c.round.least _ c.if-place-least.least r
-          c.round-test.true (up_cycle c.args.parents.now c.round.place cy).0 facts.1 facts.2 facts.3);
+          c.round-test.true ((up_cycle c.args.parents.now.items c.round.place cy).0 ∙ ap Some (sym at)) facts.1 facts.2 facts.3);
     }
 
 pub returns : goal.returns
 returns c =
-    round_end (up_of c.args.parents.now) c.args.found c.round.steps c.round.place c.round.least
-    (length c.args.parents.now) c.requires.cycle c.requires.short c.round.invariant.rounding c.round-test.false
+    round_end (up_of c.args.parents.now.items) c.args.found c.round.steps c.round.place c.round.least
+    (length c.args.parents.now.items) c.requires.cycle c.requires.short c.round.invariant.rounding c.round-test.false
     c.round.invariant.low
 
 pub round-smaller : goal.round-smaller
 round-smaller c =
-    let s = round_short (up_of c.args.parents.now) c.args.found c.round.steps c.round.place c.round.least
-    (length c.args.parents.now) c.requires.cycle c.requires.short c.round.invariant.rounding c.round-test.true in
+    let s = round_short (up_of c.args.parents.now.items) c.args.found c.round.steps c.round.place c.round.least
+    (length c.args.parents.now.items) c.requires.cycle c.requires.short c.round.invariant.rounding c.round-test.true in
     omega arith
 
 pub overflow_add-steps : goal.overflow_add-steps
 overflow_add-steps c =
-    let s = round_short (up_of c.args.parents.now) c.args.found c.round.steps c.round.place c.round.least
-    (length c.args.parents.now) c.requires.cycle c.requires.short c.round.invariant.rounding c.round-test.true in
+    let s = round_short (up_of c.args.parents.now.items) c.args.found c.round.steps c.round.place c.round.least
+    (length c.args.parents.now.items) c.requires.cycle c.requires.short c.round.invariant.rounding c.round-test.true in
     let few = c.requires.few in
     omega arith

@@ -5,10 +5,10 @@ use Rattle.ffs_survey.proofs.cycles.least_on.Given as goal
 
 abbrev pub invariant-round : goal.invariant-round
 invariant-round l = record {
-  bound : l.place < length l.parents;
-  low : l.least < length l.parents;
-  rounding : Rounding (up_of l.parents) l.found l.steps l.place l.least;
+  bound : l.place < length l.parents.items;
+  low : l.least < length l.parents.items;
+  rounding : Rounding (up_of l.parents.items) l.found l.steps l.place l.least;
 }
 
 abbrev pub decreases-round : goal.decreases-round
-decreases-round l = length l.parents - l.steps
+decreases-round l = length l.parents.items - l.steps

@@ -7,8 +7,8 @@ use Rattle.ffs_survey.proofs.cycles.mark_leaders.Goals as goal
 pub returns : goal.returns
 returns c = λ x.
     let inv = c.loop-start.invariant in
-    elim (cases_lt x (length c.args.parents.now)) [
+    elim (cases_lt x (length c.args.parents.now.items)) [
       | inl l ↦ inv.marks.known x (inv.begun x (omega arith))
       | inr b ↦ get_or_past c.loop-start.leaders x _ (omega arith)
-          ∙ sym (past_leader c.args.parents.now (length c.args.parents.now) x b)
+          ∙ sym (past_leader c.args.parents.now.items (length c.args.parents.now.items) x b)
     ]

@@ -5,8 +5,8 @@ use Rattle.ffs_survey.proofs.cycles.mark_leaders.Given as goal
 
 abbrev pub invariant-loop-start : goal.invariant-loop-start
 invariant-loop-start l = record {
-  closed : IsClosed (up_of l.parents) l.stamp;
+  closed : IsClosed (up_of l.parents.items) l.stamp;
   older : All (λ s. s ≤ l.start) l.stamp;
   begun : (x : ℕ) → x < l.start → number_at l.stamp x ≢ 0;
-  marks : Marks (up_of l.parents) (length l.parents) l.stamp l.leaders;
+  marks : Marks (up_of l.parents.items) (length l.parents.items) l.stamp l.leaders;
 }

@@ -1,4 +1,4 @@
-use Rattle.std.proofs.Common.{◌≡◌, ◌≢◌, ℕ, ◌+◌, ◌<◌, ◌≤◌, List, length, arith, sym, ◌∙◌, subst, set, None, Some, ◌⊎◌}
+use Rattle.std.proofs.Common.{◌≡◌, ◌≢◌, ℕ, ◌+◌, ◌<◌, ◌≤◌, List, length, arith, sym, ◌∙◌, subst, set, None, Some, ◌⊎◌, ap}
 use Rattle.std.proofs.Common.{inl, inr}
 use Rattle.ffs_volume.specs.Directories.Climb.{OnCycle}
 use Rattle.std.specs.Prelude.{suc}
@@ -35,73 +35,77 @@ walked_none parent start steps place old new h z =
       λ x i c. no_cycle_end (up_of parent) start (start + 1) steps place x old _ h.state e i c,
     )
 
-pub walked_some : (parent : List ℕ) (start steps place : ℕ) (old new : List ℕ) → Here parent start steps place old new →
-    number_at parent place ≢ 0 → number_at parent place < length parent →
-    number_at (set new place (start + 1)) (number_at parent place) ≢ 0
-    → Walked (up_of parent) start (start + 1) old (set new place (start + 1))
-walked_some parent start steps place old new h n b s =
-    let e = up_of-some parent place n b in
+pub up_next : (parent : List ℕ) (place next : ℕ) → next ≡ number_at parent place → next ≢ 0 → next < length parent →
+    up_of parent place ≡ Some next
+up_next parent place next is n b =
+    up_of-some parent place (λ z. n (is ∙ z)) (omega (arith, is, b)) ∙ ap Some (sym is)
+
+pub walked_some : (parent : List ℕ) (start steps place next : ℕ) (old new : List ℕ) →
+    Here parent start steps place old new → next ≡ number_at parent place → next ≢ 0 → next < length parent →
+    number_at (set new place (start + 1)) next ≢ 0 → Walked (up_of parent) start (start + 1) old (set new place (start + 1))
+walked_some parent start steps place next old new h is n b s =
+    let e = up_next parent place next is n b in
     walked (up_of parent) start (start + 1) steps place old _ (mark_some start) h.closed h.state
-    (λ y u. let q : Some (number_at parent place) ≡ Some y = sym e ∙ u in let p : number_at parent place ≡ y = cc in
+    (λ y u. let q : Some next ≡ Some y = sym e ∙ u in let p : next ≡ y = cc in
     subst (λ z. number_at (set new place (start + 1)) z ≢ 0) p s)
 
 pub up-init : goal.up-init
 up-init c = record {
   bound = c.requires.low;
-  walking = walk_start (up_of c.args.parents.now) c.args.start
+  walking = walk_start (up_of c.args.parents.now.items) c.args.start
       (c.args.start + 1) c.args.stamp.now c.requires.free;
 }
 
 pub returns-then-next-eq0-clause-walked : goal.returns-then-next-eq0-clause-walked
 returns-then-next-eq0-clause-walked c =
-    let h = here c.args.parents.now c.args.start c.up.steps c.up.place c.args.stamp.now c.up.stamp c.up.invariant.bound
+    let h = here c.args.parents.now.items c.args.start c.up.steps c.up.place c.args.stamp.now c.up.stamp c.up.invariant.bound
     c.requires.stamps (omega (arith, c.requires.stamps)) c.requires.closed c.up.invariant.walking in
-    (walked_none _ _ _ _ _ _ h (inl c.if-next-eq0.true)).0
+    (walked_none _ _ _ _ _ _ h (inl (sym c.parent_of-next.ensures ∙ c.if-next-eq0.true))).0
 
 pub returns-then-next-eq0-clause-cycle : goal.returns-then-next-eq0-clause-cycle
 returns-then-next-eq0-clause-cycle c = λ x i cy.
-    let h = here c.args.parents.now c.args.start c.up.steps c.up.place c.args.stamp.now c.up.stamp c.up.invariant.bound
+    let h = here c.args.parents.now.items c.args.start c.up.steps c.up.place c.args.stamp.now c.up.stamp c.up.invariant.bound
     c.requires.stamps (omega (arith, c.requires.stamps)) c.requires.closed c.up.invariant.walking in
-    (walked_none _ _ _ _ _ _ h (inl c.if-next-eq0.true)).1 x i cy
+    (walked_none _ _ _ _ _ _ h (inl (sym c.parent_of-next.ensures ∙ c.if-next-eq0.true))).1 x i cy
 
 pub returns-then-seen-start-clause-walked : goal.returns-then-seen-start-clause-walked
 returns-then-seen-start-clause-walked c =
-    let h = here c.args.parents.now c.args.start c.up.steps c.up.place c.args.stamp.now c.up.stamp c.up.invariant.bound
+    let h = here c.args.parents.now.items c.args.start c.up.steps c.up.place c.args.stamp.now c.up.stamp c.up.invariant.bound
     c.requires.stamps (omega (arith, c.requires.stamps)) c.requires.closed c.up.invariant.walking in
-    walked_some _ _ _ _ _ _ h c.if-next-eq0.false (omega arith)
+    walked_some _ _ _ _ _ _ _ h c.parent_of-next.ensures c.if-next-eq0.false (omega arith)
     (λ z. absurd (let t = c.if-seen-start.true in omega arith))
 
 pub returns-then-seen-start-clause-cycle : goal.returns-then-seen-start-clause-cycle
 returns-then-seen-start-clause-cycle c =
-    let h = here c.args.parents.now c.args.start c.up.steps c.up.place c.args.stamp.now c.up.stamp c.up.invariant.bound
+    let h = here c.args.parents.now.items c.args.start c.up.steps c.up.place c.args.stamp.now c.up.stamp c.up.invariant.bound
     c.requires.stamps (omega (arith, c.requires.stamps)) c.requires.closed c.up.invariant.walking in
-    let p = number_at c.args.parents.now c.up.place in
-    let low : p < length c.args.parents.now = omega arith in
+    let p = c.parent_of-next.result in
+    let low : p < length c.args.parents.now.items = omega arith in
     let old = c.requires.older p 0 (omega (arith, low, c.requires.stamps)) in
     let z = stamp_new _ _ _ _ _ p _ _ h.state (omega (arith, old)) c.if-seen-start.true in
-    finds_cycle (up_of c.args.parents.now) c.args.start (c.args.start + 1) c.up.steps c.up.place p
-    (length c.args.parents.now) c.args.stamp.now _ (mark_some c.args.start) h.short h.state
-    (up_of-some c.args.parents.now c.up.place c.if-next-eq0.false low) z c.if-seen-start.true low
+    finds_cycle (up_of c.args.parents.now.items) c.args.start (c.args.start + 1) c.up.steps c.up.place p
+    (length c.args.parents.now.items) c.args.stamp.now _ (mark_some c.args.start) h.short h.state
+    (up_next c.args.parents.now.items c.up.place p c.parent_of-next.ensures c.if-next-eq0.false low) z c.if-seen-start.true low
 
 pub returns-then-seen-ne0-clause-walked : goal.returns-then-seen-ne0-clause-walked
 returns-then-seen-ne0-clause-walked c =
-    let h = here c.args.parents.now c.args.start c.up.steps c.up.place c.args.stamp.now c.up.stamp c.up.invariant.bound
+    let h = here c.args.parents.now.items c.args.start c.up.steps c.up.place c.args.stamp.now c.up.stamp c.up.invariant.bound
     c.requires.stamps (omega (arith, c.requires.stamps)) c.requires.closed c.up.invariant.walking in
-    walked_some _ _ _ _ _ _ h c.if-next-eq0.false (omega arith) c.if-seen-ne0.true
+    walked_some _ _ _ _ _ _ _ h c.parent_of-next.ensures c.if-next-eq0.false (omega arith) c.if-seen-ne0.true
 
 pub returns-then-seen-ne0-clause-cycle : goal.returns-then-seen-ne0-clause-cycle
 returns-then-seen-ne0-clause-cycle c = λ x i cy.
-    let h = here c.args.parents.now c.args.start c.up.steps c.up.place c.args.stamp.now c.up.stamp c.up.invariant.bound
+    let h = here c.args.parents.now.items c.args.start c.up.steps c.up.place c.args.stamp.now c.up.stamp c.up.invariant.bound
     c.requires.stamps (omega (arith, c.requires.stamps)) c.requires.closed c.up.invariant.walking in
-    let p = number_at c.args.parents.now c.up.place in
-    no_cycle_old (up_of c.args.parents.now) c.args.start (c.args.start + 1) c.up.steps c.up.place p x c.args.stamp.now _
+    let p = c.parent_of-next.result in
+    no_cycle_old (up_of c.args.parents.now.items) c.args.start (c.args.start + 1) c.up.steps c.up.place p x c.args.stamp.now _
     h.closed h.state
-    (up_of-some c.args.parents.now c.up.place c.if-next-eq0.false (omega arith))
+    (up_next c.args.parents.now.items c.up.place p c.parent_of-next.ensures c.if-next-eq0.false (omega arith))
     (stamp_old _ _ _ _ _ p _ _ h.state c.if-seen-ne0.true c.if-seen-start.false) i cy
 
 pub overflow_add-steps : goal.overflow_add-steps
 overflow_add-steps c =
-    let h = here c.args.parents.now c.args.start c.up.steps c.up.place c.args.stamp.now c.up.stamp c.up.invariant.bound
+    let h = here c.args.parents.now.items c.args.start c.up.steps c.up.place c.args.stamp.now c.up.stamp c.up.invariant.bound
     c.requires.stamps (omega (arith, c.requires.stamps)) c.requires.closed c.up.invariant.walking in
     let s = h.short in let f = c.requires.few in omega arith
 
@@ -113,26 +117,26 @@ up-smaller c =
 
 pub up-preserved : goal.up-preserved
 up-preserved c =
-    let h = here c.args.parents.now c.args.start c.up.steps c.up.place c.args.stamp.now c.up.stamp c.up.invariant.bound
+    let h = here c.args.parents.now.items c.args.start c.up.steps c.up.place c.args.stamp.now c.up.stamp c.up.invariant.bound
     c.requires.stamps (omega (arith, c.requires.stamps)) c.requires.closed c.up.invariant.walking in
-    let p = number_at c.args.parents.now c.up.place in
+    let p = c.parent_of-next.result in
     let one : suc c.up.steps ≡ c.up.steps + 1 = omega arith in
     record {
       bound = omega arith;
-      walking = subst (λ k. Walking (up_of c.args.parents.now) c.args.start (c.args.start + 1) k p c.args.stamp.now
+      walking = subst (λ k. Walking (up_of c.args.parents.now.items) c.args.start (c.args.start + 1) k p c.args.stamp.now
           (set c.up.stamp c.up.place (c.args.start + 1))) one
-          (walks_on (up_of c.args.parents.now) c.args.start (c.args.start + 1) c.up.steps c.up.place p c.args.stamp.now
-          _ h.state (up_of-some c.args.parents.now c.up.place c.if-next-eq0.false (omega arith)) c.if-seen-ne0.false);
+          (walks_on (up_of c.args.parents.now.items) c.args.start (c.args.start + 1) c.up.steps c.up.place p c.args.stamp.now
+          _ h.state (up_next c.args.parents.now.items c.up.place p c.parent_of-next.ensures c.if-next-eq0.false (omega arith)) c.if-seen-ne0.false);
     }
 
-pub returns-then-next-parents-clause-walked : goal.returns-then-next-parents-clause-walked
-returns-then-next-parents-clause-walked c =
-    let h = here c.args.parents.now c.args.start c.up.steps c.up.place c.args.stamp.now c.up.stamp c.up.invariant.bound
+pub returns-then-next-len-clause-walked : goal.returns-then-next-len-clause-walked
+returns-then-next-len-clause-walked c =
+    let h = here c.args.parents.now.items c.args.start c.up.steps c.up.place c.args.stamp.now c.up.stamp c.up.invariant.bound
     c.requires.stamps (omega (arith, c.requires.stamps)) c.requires.closed c.up.invariant.walking in
-    (walked_none _ _ _ _ _ _ h (inr (omega arith))).0
+    (walked_none _ _ _ _ _ _ h (inr (omega (arith, c.parent_of-next.ensures)))).0
 
-pub returns-then-next-parents-clause-cycle : goal.returns-then-next-parents-clause-cycle
-returns-then-next-parents-clause-cycle c = λ x i cy.
-    let h = here c.args.parents.now c.args.start c.up.steps c.up.place c.args.stamp.now c.up.stamp c.up.invariant.bound
+pub returns-then-next-len-clause-cycle : goal.returns-then-next-len-clause-cycle
+returns-then-next-len-clause-cycle c = λ x i cy.
+    let h = here c.args.parents.now.items c.args.start c.up.steps c.up.place c.args.stamp.now c.up.stamp c.up.invariant.bound
     c.requires.stamps (omega (arith, c.requires.stamps)) c.requires.closed c.up.invariant.walking in
-    (walked_none _ _ _ _ _ _ h (inr (omega arith))).1 x i cy
+    (walked_none _ _ _ _ _ _ h (inr (omega (arith, c.parent_of-next.ensures)))).1 x i cy

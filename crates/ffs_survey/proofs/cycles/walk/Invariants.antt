@@ -5,8 +5,8 @@ use Rattle.ffs_survey.proofs.cycles.walk.Given as goal
 
 abbrev pub invariant-up : goal.invariant-up
 invariant-up l = record {
-  bound : l.place < length l.parents;
-  walking : Walking (up_of l.parents) l.start (l.start + 1) l.steps l.place l.fn.stamp l.stamp;
+  bound : l.place < length l.parents.items;
+  walking : Walking (up_of l.parents.items) l.start (l.start + 1) l.steps l.place l.fn.stamp l.stamp;
 }
 
 abbrev pub decreases-up : goal.decreases-up

@@ -14,6 +14,7 @@ loop-s-preserved g c =
       base = search rules;
       device = search rules;
       same_length = done.same_length ∙ inv.same_length;
+      parents_long = done.parents_long ∙ inv.parents_long;
       grown = λ x l. let old = inv.grown x l in let new = done.found.grown x l in omega (arith, old, new);
       top = let t = done.found.ends in let i = inv.top in omega (arith, t, i);
       comes = λ b k.

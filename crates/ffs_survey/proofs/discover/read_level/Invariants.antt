@@ -10,14 +10,15 @@ invariant-loop-s g l = record {
   base : g.D.Directories.base l.directories ≡ g.D.Directories.base l.fn.directories;
   device : g.D.Directories.device l.directories ≡ g.D.Directories.device l.fn.directories;
   same_length : vec_len l.references ≡ vec_len l.fn.references;
+  parents_long : vec_len l.parents ≡ vec_len l.fn.parents;
   grown : (x : ℕ) → x < length l.kinds → number_at l.references.items x ≤ number_at l.fn.references.items x + l.s-index
       * 2 ^ 28;
   top : l.top + unset l.reached ≡ unset l.fn.reached;
   comes : (b : List ℕ) → g.D.Directories.knows (g.D.Directories.base l.fn.directories) b →
       Comes (from_dirs (graph_with l.kinds (g.D.Directories.entries (g.D.Directories.base l.fn.directories) b))
-      l.frontier) l.fn.reached l.fn.parents []
+      l.frontier) l.fn.reached l.fn.parents.items []
       (from_dirs (graph_with l.kinds (g.D.Directories.entries (g.D.Directories.base l.fn.directories) b))
-      (drop l.s-index l.frontier)) l.reached l.parents (take l.top l.queue);
+      (drop l.s-index l.frontier)) l.reached l.parents.items (take l.top l.queue);
   counts : (b : List ℕ) → g.D.Directories.knows (g.D.Directories.base l.fn.directories) b →
       Counts (length l.kinds) (count_of
       (graph_with l.kinds (g.D.Directories.entries (g.D.Directories.base l.fn.directories) b)) l.frontier)
@@ -30,9 +31,9 @@ invariant-loop-s g l = record {
   still : (b : List ℕ) → g.D.Directories.knows (g.D.Directories.base l.fn.directories) b →
       All (IsReachedDir l.kinds l.reached) l.frontier;
   calm : (b : List ℕ) → g.D.Directories.knows (g.D.Directories.base l.fn.directories) b →
-      AreCalm l.kinds l.marked l.fn.reached l.fn.parents
+      AreCalm l.kinds l.marked l.fn.reached l.fn.parents.items
       (g.D.Directories.entries (g.D.Directories.base l.fn.directories) b)
       (g.D.Directories.sound (g.D.Directories.base l.fn.directories) b) l.fn.calm →
-      AreCalm l.kinds l.marked l.reached l.parents (g.D.Directories.entries (g.D.Directories.base l.fn.directories) b)
+      AreCalm l.kinds l.marked l.reached l.parents.items (g.D.Directories.entries (g.D.Directories.base l.fn.directories) b)
       (g.D.Directories.sound (g.D.Directories.base l.fn.directories) b) l.calm;
 }

@@ -22,6 +22,7 @@ loop-entry-preserved g c =
       base = search rules;
       device = search rules;
       same_length = c.count_entry.ensures.same_length ∙ inv.same_length;
+      parents_long = c.visit-high.ensures.parents_long ∙ inv.parents_long;
       left = let l = inv.left in omega (arith, l, fell);
       grown = λ x l.
           let old = inv.grown x l in
@@ -32,7 +33,7 @@ loop-entry-preserved g c =
       high = let h = c.visit-high.ensures.top in let i = inv.high in omega (arith, h, i);
       comes = λ b k.
           entry_step _ c.args.kinds.now c.args.from e (g.D.Directories.rest c.next.new.self b) c.args.reached.now
-          c.loop-entry.reached _ c.args.parents.now c.loop-entry.parents _ (take c.args.top c.args.queue.now)
+          c.loop-entry.reached _ c.args.parents.now.items c.loop-entry.parents.items _ (take c.args.top c.args.queue.now)
           (take c.loop-entry.high c.loop-entry.queue) _
           (rw (cut b k) at (inv.comes b k)) c.visit-high.ensures.comes;
       counts = λ b k.
@@ -47,7 +48,7 @@ loop-entry-preserved g c =
             marked = c.args.marked.now;
             dir = c.args.from;
             above = c.parent_of-above.result;
-          }) c.loop-entry.reached _ c.loop-entry.parents _
+          }) c.loop-entry.reached _ c.loop-entry.parents.items _
           (take c.loop-entry.high c.loop-entry.queue) _ c.loop-entry.count e (g.D.Directories.rest c.next.new.self b)
           c.loop-entry.quiet _ _
           c.visit-high.ensures.comes (ap (λ z. c.loop-entry.quiet && z) c.is_calm-quiet.ensures)
@@ -68,8 +69,8 @@ returns-clause-found g c = record {
       let entries = g.D.Directories.entries (g.D.Directories.base c.args.directories.now) b in
       let none : g.D.Directories.rest c.loop-entry.directories b ≡ [] = rw c.in_default.is at (reported b k) in
       let end : g.D.Directories.ended c.next.new.self b = rw c.in_default.is at ended b k in
-      let w = read_whole c.args.kinds.now c.args.marked.now c.args.reached.now c.loop-entry.reached c.args.parents.now
-      c.loop-entry.parents (take c.args.top c.args.queue.now) (take c.loop-entry.high c.loop-entry.queue)
+      let w = read_whole c.args.kinds.now c.args.marked.now c.args.reached.now c.loop-entry.reached c.args.parents.now.items
+      c.loop-entry.parents.items (take c.args.top c.args.queue.now) (take c.loop-entry.high c.loop-entry.queue)
       (entries c.args.from) (g.D.Directories.rest c.loop-entry.directories b) c.args.from c.parent_of-above.result
       c.loop-entry.count c.loop-entry.quiet
       c.parent_of-above.ensures none (inv.comes b k) (inv.quiet b k) in

@@ -10,6 +10,7 @@ invariant-loop-entry g l = record {
   base : g.D.Directories.base l.directories ≡ g.D.Directories.base l.fn.directories;
   device : g.D.Directories.device l.directories ≡ g.D.Directories.device l.fn.directories;
   same_length : vec_len l.references ≡ vec_len l.fn.references;
+  parents_long : vec_len l.parents ≡ vec_len l.fn.parents;
   left : g.D.Directories.left l.directories ≤ 2 ^ 28;
   grown : (x : ℕ) → x < length l.kinds → number_at l.references.items x + g.D.Directories.left l.directories ≤ number_at
       l.fn.references.items x + 2 ^ 28;
@@ -17,8 +18,8 @@ invariant-loop-entry g l = record {
   high : l.high + unset l.reached ≡ l.top + unset l.fn.reached;
   comes : (b : List ℕ) → g.D.Directories.knows (g.D.Directories.base l.fn.directories) b →
       Comes (from_entries l.kinds l.from (g.D.Directories.entries (g.D.Directories.base l.fn.directories) b l.from))
-      l.fn.reached l.fn.parents (take l.top l.fn.queue)
-      (from_entries l.kinds l.from (g.D.Directories.rest l.directories b)) l.reached l.parents (take l.high l.queue);
+      l.fn.reached l.fn.parents.items (take l.top l.fn.queue)
+      (from_entries l.kinds l.from (g.D.Directories.rest l.directories b)) l.reached l.parents.items (take l.high l.queue);
   counts : (b : List ℕ) → g.D.Directories.knows (g.D.Directories.base l.fn.directories) b →
       Counts (length l.kinds) (count_in (g.D.Directories.entries (g.D.Directories.base l.fn.directories) b l.from))
       (any_in (g.D.Directories.entries (g.D.Directories.base l.fn.directories) b l.from)) l.fn.references.items

@@ -22,6 +22,7 @@ loop-entry-preserved g c =
       base = search rules;
       device = search rules;
       same_length = c.count_entry.ensures.same_length ∙ inv.same_length;
+      parents_long = c.adopt.ensures.parents_long ∙ inv.parents_long;
       left = let l = inv.left in omega (arith, l, fell);
       grown = λ x l.
           let old = inv.grown x l in
@@ -36,6 +37,6 @@ loop-entry-preserved g c =
           c.count_entry.ensures.counted.named;
       parents = λ b k x l.
           parent_step (is_free c.args.kinds.now c.args.reached.now x) (is_naming_entry x e)
-          (any_in (g.D.Directories.rest c.next.new.self b) x) c.args.from (number_at c.loop-entry.parents x) _ _
-          c.requires.from (c.adopt.ensures x l) (rw (cut b k) at (inv.parents b k x l));
+          (any_in (g.D.Directories.rest c.next.new.self b) x) c.args.from (number_at c.loop-entry.parents.items x) _ _
+          c.requires.from (c.adopt.ensures.parent x l) (rw (cut b k) at (inv.parents b k x l));
     }

@@ -9,6 +9,7 @@ invariant-loop-entry g l = record {
   base : g.D.Directories.base l.directories ≡ g.D.Directories.base l.fn.directories;
   device : g.D.Directories.device l.directories ≡ g.D.Directories.device l.fn.directories;
   same_length : vec_len l.references ≡ vec_len l.fn.references;
+  parents_long : vec_len l.parents ≡ vec_len l.fn.parents;
   left : g.D.Directories.left l.directories ≤ 2 ^ 28;
   grown : (x : ℕ) → x < length l.kinds → number_at l.references.items x + g.D.Directories.left l.directories ≤ number_at
       l.fn.references.items x + 2 ^ 28;
@@ -21,13 +22,13 @@ invariant-loop-entry g l = record {
       l.named;
   parents : (b : List ℕ) → g.D.Directories.knows (g.D.Directories.base l.fn.directories) b → (x : ℕ) →
       x < length l.kinds → cond
-      (eqb (number_at l.parents x) 0
+      (eqb (number_at l.parents.items x) 0
       && (is_free l.kinds l.reached x && any_in (g.D.Directories.rest l.directories b) x)) l.from
-      (number_at l.parents x) ≡ cond
-      (eqb (number_at l.fn.parents x) 0
+      (number_at l.parents.items x) ≡ cond
+      (eqb (number_at l.fn.parents.items x) 0
       && (is_free l.kinds l.reached x
       && any_in (g.D.Directories.entries (g.D.Directories.base l.fn.directories) b l.from) x)) l.from
-      (number_at l.fn.parents x);
+      (number_at l.fn.parents.items x);
 }
 
 abbrev pub decreases-loop-entry : goal.decreases-loop-entry

@@ -50,12 +50,12 @@ returns-clause-level g c = record {
       let rest = drop c.in_ok-found.found c.read_level.new.queue in
       record {
         level = λ depth at.
-            let P : List ℕ → Type 0 = λ xs. Comes (from_dirs v xs) c.args.reached.now c.args.parents.now [] nothing
-            c.read_level.new.reached c.read_level.new.parents (take c.in_ok-found.found c.read_level.new.queue) in
-            let n : IsNextLevel v (depth + 1) c.read_level.new.reached c.read_level.new.parents
+            let P : List ℕ → Type 0 = λ xs. Comes (from_dirs v xs) c.args.reached.now c.args.parents.now.items [] nothing
+            c.read_level.new.reached c.read_level.new.parents.items (take c.in_ok-found.found c.read_level.new.queue) in
+            let n : IsNextLevel v (depth + 1) c.read_level.new.reached c.read_level.new.parents.items
             (take c.args.high c.args.queue.now) c.sort_unstable.new.self =
-            level_after v depth xs c.args.reached.now c.read_level.new.reached c.args.parents.now
-            c.read_level.new.parents (take c.args.high c.args.queue.now)
+            level_after v depth xs c.args.reached.now c.read_level.new.reached c.args.parents.now.items
+            c.read_level.new.parents.items (take c.args.high c.args.queue.now)
             (take c.in_ok-found.found c.read_level.new.queue)
             c.sort_unstable.new.self
             (sane_of c.args.kinds.now _ c.requires.lists.some) at.frontier at.levels
@@ -65,16 +65,16 @@ returns-clause-level g c = record {
               frontier = subst (λ ys. IsFrontier v (depth + 1) ys)
                   (sym (new_front c.args.high c.in_ok-found.found left c.sort_unstable.new.self rest front back))
                   n.frontier;
-              levels = subst (λ q. LevelsKnown v (depth + 1) c.read_level.new.reached c.read_level.new.parents q)
+              levels = subst (λ q. LevelsKnown v (depth + 1) c.read_level.new.reached c.read_level.new.parents.items q)
                   (sym (whole_queue c.args.high c.in_ok-found.found left c.sort_unstable.new.self rest front back
                   ∙ ap (λ z. z ++ c.sort_unstable.new.self) c.split_at_mut-left.ensures.front)) n.knows;
             };
         counts = subst (λ ys. CountsDirs c.args.kinds.now
             (g.D.Directories.entries (g.D.Directories.base c.args.directories.now) b) ys
-            (found_of c.args.references.now.items c.args.named.now c.args.reached.now c.args.parents.now
+            (found_of c.args.references.now.items c.args.named.now c.args.reached.now c.args.parents.now.items
             c.args.calm.now [])
             (found_of c.read_level.new.references.items c.read_level.new.named c.read_level.new.reached
-            c.read_level.new.parents
+            c.read_level.new.parents.items
             c.read_level.new.calm [])) e (c.in_ok-found.ensures.found.read b k).counts;
         calm = (c.in_ok-found.ensures.found.read b k).calm;
       };

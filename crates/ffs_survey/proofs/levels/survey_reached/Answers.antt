@@ -14,6 +14,7 @@ loop-low-init g c = record {
   base = search rules;
   device = search rules;
   same_length = refl;
+  parents_long = c.set.ensures.len;
   lengths = omega (arith, length-set c.args.reached.now 2 true);
   room = record {
     ordered = omega arith;
@@ -27,15 +28,16 @@ loop-low-init g c = record {
   };
   levels = λ b k.
       let v = graph_with c.args.kinds.now (g.D.Directories.entries (g.D.Directories.base c.args.directories.now) b) in
-      let start : AtLevel v 0 0 1 (set c.args.reached.now 2 true) (set c.args.parents.now 2 2)
+      let start : AtLevel v 0 0 1 (set c.args.reached.now 2 true) c.set.new.self.items
       (set c.args.queue.now 0 2) =
       record {
         frontier = subst (λ q. IsFrontier v 0 q) (sym (queue_start c.args.queue.now (omega arith)))
             (frontier_start v (sane_of c.args.kinds.now _ c.requires.lists.some));
-        levels = subst (λ q. LevelsKnown v 0 (set c.args.reached.now 2 true) (set c.args.parents.now 2 2) q)
+        levels = subst (λ q. LevelsKnown v 0 (set c.args.reached.now 2 true) c.set.new.self.items q)
             (sym (queue_start c.args.queue.now (omega arith)))
-            (levels_start v c.args.reached.now c.args.parents.now (omega arith) (omega arith) c.requires.begins.reached
-            c.requires.begins.parents);
+            (rw c.set.ensures.items
+            (levels_start v c.args.reached.now c.args.parents.now.items (omega arith) (omega arith)
+            c.requires.begins.reached c.requires.begins.parents));
       } in
       record { depth = 0; at = start };
   counts = λ b k. none_counted
@@ -54,6 +56,7 @@ loop-low-preserved g c =
       base = search rules;
       device = search rules;
       same_length = done.same_length ∙ inv.same_length;
+      parents_long = done.parents_long ∙ inv.parents_long;
       lengths = let l = inv.lengths in omega (arith, l);
       room = done.level.room;
       levels = λ b k. let before = inv.levels b k in
@@ -77,7 +80,7 @@ returns-clause-read g c = λ b k.
     let F : List ℕ → Type 0 = λ xs. IsFrontier v at.depth xs in
     record {
       part = reached_part c.args.kinds.now es at.depth c.args.references.now.items c.loop-low.references.items
-          c.loop-low.named c.loop-low.reached c.loop-low.parents (take c.loop-low.high c.loop-low.queue) inv.lengths
+          c.loop-low.named c.loop-low.reached c.loop-low.parents.items (take c.loop-low.high c.loop-low.queue) inv.lengths
           (sane_of c.args.kinds.now es c.requires.lists.some)
           (subst F (no_front c.loop-low.low c.loop-low.high c.loop-low.queue c.loop-low-test.false)
           at.at.frontier) at.at.levels
@@ -91,11 +94,11 @@ returns-then-not-is_dir-clause-read g c = λ b k.
     let es = g.D.Directories.entries (g.D.Directories.base c.args.directories.now) b in
     record {
       part = alone_part c.args.kinds.now es c.args.references.now.items c.args.references.now.items c.args.named.now
-          (set c.args.reached.now 2 true) (set c.args.parents.now 2 2)
+          (set c.args.reached.now 2 true) c.set.new.self.items
           (omega (arith, length-set c.args.reached.now 2 true))
           (sane_of c.args.kinds.now es c.requires.lists.some) (sym c.is_dir.ensures ∙ c.if-not-is_dir.true)
-          (levels_start (graph_with c.args.kinds.now es) c.args.reached.now c.args.parents.now (omega arith)
-          (omega arith) c.requires.begins.reached c.requires.begins.parents)
+          (rw c.set.ensures.items (levels_start (graph_with c.args.kinds.now es) c.args.reached.now c.args.parents.now.items (omega arith)
+          (omega arith) c.requires.begins.reached c.requires.begins.parents))
           refl c.requires.begins.named;
       calm = calm_none c.args.kinds.now c.args.marked.now _ _ _ _ c.args.calm.now c.requires.begins.calm;
     }

@@ -9,10 +9,11 @@ loop-s-init g c = record {
   base = search rules;
   device = search rules;
   same_length = refl;
+  parents_long = refl;
   grown = λ x l. omega arith;
   read = λ b k z. read_start
       (graph_with c.args.kinds.now (g.D.Directories.entries (g.D.Directories.base c.args.directories.now) b))
-      c.args.kinds.now c.args.reached.now c.args.references.now.items c.args.named.now c.args.parents.now;
+      c.args.kinds.now c.args.reached.now c.args.references.now.items c.args.named.now c.args.parents.now.items;
 }
 
 pub loop-s-preserved-then-not-is_free : goal.loop-s-preserved-then-not-is_free
@@ -23,6 +24,7 @@ loop-s-preserved-then-not-is_free g c =
       base = inv.base;
       device = inv.device;
       same_length = inv.same_length;
+      parents_long = inv.parents_long;
       grown = λ x l. let o = inv.grown x l in omega (arith, o);
       read = λ b k z. read_skip c.args.kinds.now
           (g.D.Directories.entries (g.D.Directories.base c.args.directories.now) b) c.args.reached.now c.loop-s.s _ _ _
@@ -39,6 +41,7 @@ loop-s-preserved g c =
       base = search rules;
       device = search rules;
       same_length = done.same_length ∙ inv.same_length;
+      parents_long = done.parents_long ∙ inv.parents_long;
       grown = λ x l. let o = inv.grown x l in let n = done.grown x l in omega (arith, o, n);
       read = λ b k z.
           read_on c.args.kinds.now (g.D.Directories.entries (g.D.Directories.base c.args.directories.now) b)

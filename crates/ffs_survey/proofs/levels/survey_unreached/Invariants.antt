@@ -9,10 +9,11 @@ invariant-loop-s g l = record {
   base : g.D.Directories.base l.directories ≡ g.D.Directories.base l.fn.directories;
   device : g.D.Directories.device l.directories ≡ g.D.Directories.device l.fn.directories;
   same_length : vec_len l.references ≡ vec_len l.fn.references;
+  parents_long : vec_len l.parents ≡ vec_len l.fn.parents;
   grown : (x : ℕ) → x < length l.kinds → number_at l.references.items x ≤ number_at l.fn.references.items x + l.s * 2 ^
       28;
   read : (b : List ℕ) → g.D.Directories.knows (g.D.Directories.base l.fn.directories) b →
-      IsBlank l.kinds l.reached l.fn.parents →
+      IsBlank l.kinds l.reached l.fn.parents.items →
       IsRead (graph_with l.kinds (g.D.Directories.entries (g.D.Directories.base l.fn.directories) b)) l.kinds l.reached
-      l.s l.fn.references.items l.fn.named l.fn.parents l.references.items l.named l.parents;
+      l.s l.fn.references.items l.fn.named l.fn.parents.items l.references.items l.named l.parents.items;
 }

@@ -1,6 +1,7 @@
 use Rattle.std.proofs.Common.{arith, ◌∙◌, sym, ap, true, ◌||◌, length}
 use Rattle.std.proofs.lemmas.Bool.{cond-true, cond-false, eq-eqb, ne_eqb}
 use Rattle.ffs_volume.specs.Directories.Climb.{is_leader_within}
+use Rattle.ffs_volume.specs.Directories.Graph.{is_dead_in}
 use Rattle.ffs_survey.specs.Cycles.{up_of}
 use Rattle.ffs_survey.specs.Survey.{suspect_at}
 use Rattle.ffs_volume.proofs.Unreached.{IsLost}
@@ -17,14 +18,14 @@ returns-then-above-eq0 c = λ v n t.
       alive = sym (c.is_dead.ensures v n)
           ∙ c.if-is_dead.false;
     } in
-    sym (unref_is v suspect c.args.kinds.now c.args.reached.now c.args.parents.now c.args.dir c.requires.lists.parents t
+    sym (unref_is v suspect c.args.kinds.now c.args.reached.now c.args.parents.now.items c.args.dir c.requires.lists.parents t
     l
-    ∙ ap (λ b. b || is_leader_within (up_of c.args.parents.now) (length c.args.parents.now) c.args.dir)
-    (cond-true _ true _ (eq-eqb _ 0 c.if-above-eq0.true)))
+    ∙ ap (λ b. b || is_leader_within (up_of c.args.parents.now.items) (length c.args.parents.now.items) c.args.dir)
+    (cond-true _ true _ (eq-eqb _ 0 (sym c.parent_of-above.ensures ∙ c.if-above-eq0.true))))
 
 pub returns-then-above-kinds : goal.returns-then-above-kinds
 returns-then-above-kinds c = λ v n t.
-    let b = parent-below v c.args.kinds.now c.args.reached.now c.args.parents.now c.args.dir t in
+    let b = parent-below v c.args.kinds.now c.args.reached.now c.args.parents.now.items c.args.dir t in
     absurd (omega arith)
 
 pub returns : goal.returns
@@ -38,7 +39,8 @@ returns c = λ v n t.
           ∙ c.if-is_dead.false;
     } in
     c.requires.lists.cycles c.args.dir
-    ∙ sym (unref_is v suspect c.args.kinds.now c.args.reached.now c.args.parents.now c.args.dir c.requires.lists.parents
+    ∙ sym (unref_is v suspect c.args.kinds.now c.args.reached.now c.args.parents.now.items c.args.dir c.requires.lists.parents
     t l
-    ∙ ap (λ b. b || is_leader_within (up_of c.args.parents.now) (length c.args.parents.now) c.args.dir)
-    (cond-false _ true _ (ne_eqb _ 0 c.if-above-eq0.false) ∙ (sym (c.is_dead-2.ensures v n) ∙ c.if-is_dead-2.false)))
+    ∙ ap (λ b. b || is_leader_within (up_of c.args.parents.now.items) (length c.args.parents.now.items) c.args.dir)
+    (cond-false _ true _ (ne_eqb _ 0 (λ z. c.if-above-eq0.false (c.parent_of-above.ensures ∙ z)))
+    ∙ ap (λ a. is_dead_in v suspect a) (sym c.parent_of-above.ensures) ∙ (sym (c.is_dead-2.ensures v n) ∙ c.if-is_dead-2.false)))
