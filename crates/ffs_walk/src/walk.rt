@@ -301,7 +301,7 @@ impl Walk {
     }
 
     /// Passes over the inode's addresses of zero that come next, where the walk is in no indirect block: how many there are.
-    #[inline(always)]
+    #[inline(never)]
     fn skip_zero_addresses(&mut self, blocks: &Blocks) -> u32
         requires { IsAtTop self.old }
         ensures { PassesGaps blocks.now self.old self.new result }
@@ -369,6 +369,24 @@ impl Walk {
         ensures same { SameExtent self.old self.new }
     {
         self.single.next += 1;
+    }
+
+    /// A walk that has ended, to be begun for an inode of the volume.
+    pub fn ended(geometry: &Geometry) -> Walk
+        ensures over { IsOver result }
+        ensures geometry { result.geometry ≡ geometry.now }
+    {
+        Walk {
+            geometry: *geometry,
+            blocks: 0,
+            last: geometry.layout.frag,
+            next: 0,
+            used: 0,
+            addresses: [0; 15],
+            single: Frame::spent(),
+            double: Frame::spent(),
+            triple: Frame::spent(),
+        }
     }
 
     /// A walk over the blocks of an inode. Only a file or a directory has steps, and no device or short symlink.
